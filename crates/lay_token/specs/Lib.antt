@@ -1,0 +1,3 @@
+pub mod Document
+pub mod Machine
+pub mod Word

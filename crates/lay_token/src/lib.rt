@@ -1,0 +1,19 @@
+//! What the other crates speak of: texts and lists, the words of the language, the refusals, and the
+//! tokens of a layout.
+//!
+//! The crate promises that a [`Text`] is a list of bytes and a [`List`] a list of items, that
+//! defines documents, their flattening to tokens, and the text that Oppen's algorithm gives to them
+//! ("Prettyprinting", TOPLAS 2(4), 1980). [`layout_law`] says that laying out token by token and laying
+//! out a nested document are one. Every printer is proved against these definitions.
+#![tactic(auto)]
+
+pub mod layout;
+pub mod list;
+pub mod refusal;
+pub mod text;
+pub mod word;
+
+pub use layout::{Break, Frame, Mark, Tok, layout_law};
+pub use list::List;
+pub use refusal::{FormatError, NoMemory, Refusal};
+pub use text::Text;

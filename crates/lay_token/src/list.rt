@@ -1,0 +1,103 @@
+//! Lists of items.
+ghost use Rattle.std.specs.Prelude.{◌≡◌, ◌++◌, ◌∷◌, [], OnOk, OnErr, IfErr};
+
+use std::alloc::Global;
+use std::marker::Model;
+
+/// A list of items, on std's vector. Contracts see the list alone, and neither room nor place, so two lists
+/// with the same items are equal.
+#[derive(Debug, Drop)]
+pub struct List<T> {
+    items: Vec<T>,
+}
+
+impl<T> Model for List<T> {
+    ghost use Rattle.std.specs.Prelude.{List as Items};
+    ghost use Rattle.std.specs.Coded.{coded_list};
+
+    ghost Value = { Items T };
+
+    ghost coded = { coded_list T.code };
+
+    ghost view = { λ list. list.items.items };
+}
+
+impl<T> List<T> {
+    /// The empty list.
+    pub fn new(alloc: Global) -> List<T>
+        ensures { result ≡ [] }
+    {
+        List {
+            items: Vec::new(alloc),
+        }
+    }
+
+    /// Adds an item at the end. `Err` hands the item back for want of memory.
+    pub fn push(&mut self, item: T) -> Result<(), T>
+        ensures ok { OnOk result (self.new ≡ self.old ++ item ∷ []) }
+        ensures err { OnErr result (self.new ≡ self.old) }
+        ensures back { IfErr result (λ given. given ≡ item) }
+    {
+        match self.items.push(item) {
+            Ok(()) => Ok(()),
+            Err(refused) => Err(refused.value),
+        }
+    }
+
+    /// All the items.
+    pub fn as_slice(&self) -> &[T]
+        ensures { result.now ≡ self.now }
+    {
+        self.items.as_slice()
+    }
+
+    /// The list of a vector's items.
+    pub fn from_vec(items: Vec<T>) -> List<T>
+        ensures { result ≡ items.items }
+    {
+        List { items }
+    }
+
+    /// The vector of the list's items.
+    pub fn into_vec(self) -> Vec<T>
+        ensures { result.items ≡ self }
+    {
+        let List { items } = self;
+        items
+    }
+}
+
+#[cfg(test)]
+mod tests {
+    use super::*;
+    use crate::text::Text;
+    use std::test::Fail;
+
+    // Each call that may answer NoMemory, with ample memory: texts that stay in the value and that leave it.
+    #[test]
+    fn with_memory(rt: HostRuntime) -> Result<(), Fail> {
+        let alloc = rt.alloc();
+        let long = b"a text of more than twenty-two bytes".as_slice();
+        let mut text = Text::from_bytes(alloc, long)?;
+        text.push(b'!')?;
+        text.push_bytes(b"?!")?;
+        assert_eq!(rt;
+            text.as_bytes(),
+            b"a text of more than twenty-two bytes!?!".as_slice()
+        );
+        let mut grown = Text::new(alloc);
+        for byte in long {
+            grown.push(*byte)?;
+        }
+        assert_eq!(rt; grown.as_bytes(), long);
+        let mut list = List::new(alloc);
+        assert!(rt; list.push(3u8).is_ok());
+        assert!(rt; list.push(4u8).is_ok());
+        assert_eq!(rt; list.as_slice(), [3, 4].as_slice());
+        assert_eq!(rt;
+            List::from_vec(list.into_vec()).as_slice(),
+            [3, 4].as_slice()
+        );
+        Ok(())
+    }
+}

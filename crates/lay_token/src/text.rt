@@ -1,0 +1,75 @@
+//! Texts: lists of bytes.
+ghost use Rattle.std.specs.Prelude.{◌≡◌, ◌<◌, ◌≤◌, ◌++◌, ◌∷◌, [], length, IsOk, IfOk, OnOk, OnErr};
+
+use crate::refusal::NoMemory;
+use smallvec::SmallVec;
+use std::alloc::Global;
+use std::marker::Model;
+
+/// A list of bytes. Up to 22 of them are kept in the value itself, where no memory is taken.
+#[derive(Debug, Drop)]
+pub struct Text {
+    bytes: SmallVec<u8, 22>,
+}
+
+impl Model for Text {
+    ghost use Rattle.std.specs.Prelude.{List, ℕ, ◌≤◌};
+
+    ghost Value = { List ℕ };
+
+    ghost view = { λ text. text.bytes.items };
+
+    ghost invariant = { λ text. 22 ≤ text.bytes.capacity };
+}
+
+impl Text {
+    /// The empty text.
+    pub fn new(alloc: Global) -> Text
+        ensures { result ≡ [] }
+    {
+        Text {
+            bytes: SmallVec::new(alloc),
+        }
+    }
+
+    /// A copy of the bytes. At most 22 bytes take no memory.
+    pub fn from_bytes(alloc: Global, bytes: &[u8]) -> Result<Text, NoMemory>
+        ensures ok { IfOk result (λ text. text ≡ bytes.now) }
+        ensures short { length bytes.now ≤ 22 → IsOk result }
+    {
+        match SmallVec::from_slice(alloc, bytes) {
+            Ok(bytes) => Ok(Text { bytes }),
+            Err(_) => Err(NoMemory),
+        }
+    }
+
+    /// Adds a byte at the end. A text of fewer than 22 bytes takes no memory for it.
+    pub fn push(&mut self, byte: u8) -> Result<(), NoMemory>
+        ensures ok { OnOk result (self.new ≡ self.old ++ byte ∷ []) }
+        ensures err { OnErr result (self.new ≡ self.old) }
+        ensures short { length self.old < 22 → IsOk result }
+    {
+        match self.bytes.push(byte) {
+            Ok(()) => Ok(()),
+            Err(_) => Err(NoMemory),
+        }
+    }
+
+    /// Adds bytes at the end.
+    pub fn push_bytes(&mut self, bytes: &[u8]) -> Result<(), NoMemory>
+        ensures ok { OnOk result (self.new ≡ self.old ++ bytes.now) }
+        ensures err { OnErr result (self.new ≡ self.old) }
+    {
+        match self.bytes.extend_from_slice(bytes) {
+            Ok(()) => Ok(()),
+            Err(_) => Err(NoMemory),
+        }
+    }
+
+    /// All the bytes.
+    pub fn as_bytes(&self) -> &[u8]
+        ensures { result.now ≡ self.now }
+    {
+        self.bytes.as_slice()
+    }
+}

@@ -1,0 +1,148 @@
+//! The words of the language.
+ghost use Rattle.std.specs.Prelude.{◌≡◌, ℕ, List};
+ghost use Rattle.std.specs.List.{list_any};
+ghost use Rattle.std.specs.Str.{bytes_eq};
+ghost use Rattle.std.specs.Borrow.{Bor};
+ghost use Rattle.lay_token.specs.Word.{class_of, is_among, path_words, strict_words, reserved_words};
+
+/// What a word is in Rust's edition 2021 (Rust Reference, "Keywords").
+#[derive(Clone, Copy, Debug, PartialEq, Eq)]
+pub enum Class {
+    /// No keyword: a word that may be a name.
+    Plain,
+    /// `crate`, `self`, `super` or `Self`, which may stand in a path.
+    PathWord,
+    /// Any other strict keyword, as `fn`.
+    Strict,
+    /// A reserved keyword, as `yield`.
+    Reserved,
+}
+
+fn is_one_of(words: &[&[u8]], word: &[u8]) -> bool
+    ensures { result ≡ list_any (λ (other : Bor (List ℕ)). bytes_eq other.now word.now) words.now }
+{
+    words.iter().any(|other| *other == word)
+}
+
+fn is_path_word(word: &[u8]) -> bool
+    ensures { result ≡ is_among path_words word.now }
+{
+    is_one_of(&[b"crate", b"self", b"super", b"Self"], word)
+}
+
+fn is_strict(word: &[u8]) -> bool
+    ensures { result ≡ is_among strict_words word.now }
+{
+    is_one_of(
+        &[
+            b"as",
+            b"async",
+            b"await",
+            b"break",
+            b"const",
+            b"continue",
+            b"dyn",
+            b"else",
+            b"enum",
+            b"extern",
+            b"false",
+            b"fn",
+            b"for",
+            b"if",
+            b"impl",
+            b"in",
+            b"let",
+            b"loop",
+            b"match",
+            b"mod",
+            b"move",
+            b"mut",
+            b"pub",
+            b"ref",
+            b"return",
+            b"static",
+            b"struct",
+            b"trait",
+            b"true",
+            b"type",
+            b"unsafe",
+            b"use",
+            b"where",
+            b"while",
+        ],
+        word,
+    )
+}
+
+fn is_reserved(word: &[u8]) -> bool
+    ensures { result ≡ is_among reserved_words word.now }
+{
+    is_one_of(
+        &[
+            b"abstract",
+            b"become",
+            b"box",
+            b"do",
+            b"final",
+            b"macro",
+            b"override",
+            b"priv",
+            b"try",
+            b"typeof",
+            b"unsized",
+            b"virtual",
+            b"yield",
+        ],
+        word,
+    )
+}
+
+/// The class of a word: of an identifier that isn't raw.
+pub fn word_class(word: &[u8]) -> Class
+    ensures { result ≡ class_of word.now }
+{
+    if is_path_word(word) {
+        Class::PathWord
+    } else if is_strict(word) {
+        Class::Strict
+    } else if is_reserved(word) {
+        Class::Reserved
+    } else {
+        Class::Plain
+    }
+}
+
+#[cfg(test)]
+mod tests {
+    use super::*;
+
+    #[test]
+    fn classes(rt: HostRuntime) {
+        let rows = [
+            ("crate self super Self", Class::PathWord),
+            (
+                "as async await break const continue dyn else enum extern false fn for if impl in let",
+                Class::Strict,
+            ),
+            (
+                "loop match mod move mut pub ref return static struct trait true type unsafe use",
+                Class::Strict,
+            ),
+            ("where while", Class::Strict),
+            (
+                "abstract become box do final macro override priv try typeof unsized virtual yield",
+                Class::Reserved,
+            ),
+            (
+                "_ a union macro_rules raw safe auto default gen dyn_ fns Struct selfish sel SELF r",
+                Class::Plain,
+            ),
+        ];
+        for (words, class) in rows {
+            for word in words.split(' ') {
+                assert_eq!(rt; word_class(word.as_bytes()), class, "{word}");
+            }
+        }
+        assert_eq!(rt; word_class(b""), Class::Plain);
+    }
+}
