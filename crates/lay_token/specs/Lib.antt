@@ -1,3 +1,4 @@
 pub mod Document
 pub mod Machine
 pub mod Word
+pub mod formers

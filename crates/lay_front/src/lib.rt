@@ -1,0 +1,6 @@
+//! The top call: bytes in, laid-out bytes out.
+#![tactic(auto)]
+
+pub mod tree;
+
+pub use tree::{Item, UseTree};
