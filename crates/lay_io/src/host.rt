@@ -1,0 +1,155 @@
+//! The trusted edge: the system's streams. These objects tell nothing of content.
+ghost use Rattle.std.specs.Prelude.{◌≡◌, None};
+ghost use Rattle.std.specs.Io.{ReadsAtMost};
+
+use crate::outside::{Failed, Inputs, Sink, Which};
+use std::io::Read;
+use std::str;
+
+/// The system's inputs. So far only standard input can be read: a named file fails at each read, counted.
+#[derive(Drop)]
+pub struct HostInputs<R: Input> {
+    stdin: R::Reader,
+    chosen: Option<Which>,
+    faults: u64,
+}
+
+impl<R: Input> HostInputs<R> {
+    /// Inputs of which none is chosen.
+    pub fn new(runtime: &R) -> HostInputs<R>
+        ensures chosen { ⟦<HostInputs<R> as Inputs>⟧.chosen result ≡ None }
+        ensures faults { ⟦<HostInputs<R> as Inputs>⟧.faults result ≡ 0 }
+    {
+        HostInputs {
+            stdin: runtime.reader(),
+            chosen: None,
+            faults: 0,
+        }
+    }
+
+    /// Reads the chosen input once.
+    fn read_once(&mut self, buf: &mut [u8]) -> Result<usize, Failed>
+        ensures bound { ReadsAtMost result buf.new }
+        ensures chosen { self.new.chosen ≡ self.old.chosen }
+        ensures faults { self.new.faults ≡ self.old.faults }
+    {
+        match &self.chosen {
+            Some(Which::File(_)) => Err(Failed),
+            _ => self.stdin.read(buf).map_err(|_| Failed),
+        }
+    }
+}
+
+impl<R: Input> Inputs for HostInputs<R> {
+    ghost left = { λ _ _. None };
+
+    ghost chosen = { λ s. s.chosen };
+
+    ghost faults = { λ s. s.faults };
+
+    fn choose(&mut self, which: Which) {
+        self.chosen = Some(which);
+    }
+
+    fn read(&mut self, buf: &mut [u8]) -> Result<usize, Failed> {
+        match self.read_once(buf) {
+            Ok(count) => Ok(count),
+            Err(Failed) => {
+                self.faults = self.faults.saturating_add(1);
+                Err(Failed)
+            }
+        }
+    }
+}
+
+/// Which of the system's streams takes the bytes.
+#[derive(Clone, Copy, Debug)]
+enum Stream {
+    Stdout,
+    Stderr,
+}
+
+/// Standard output or standard error.
+#[derive(Drop)]
+pub struct HostSink<'a, R: Print + Eprint> {
+    runtime: &'a R,
+    stream: Stream,
+    faults: u64,
+}
+
+impl<'a, R: Print + Eprint> HostSink<'a, R> {
+    /// Standard output.
+    pub fn stdout(runtime: &'a R) -> HostSink<'a, R>
+        ensures { ⟦<HostSink<'a, R> as Sink>⟧.faults result ≡ 0 }
+    {
+        HostSink {
+            runtime,
+            stream: Stream::Stdout,
+            faults: 0,
+        }
+    }
+
+    /// Standard error. It takes text: a piece that isn't UTF-8 fails.
+    pub fn stderr(runtime: &'a R) -> HostSink<'a, R>
+        ensures { ⟦<HostSink<'a, R> as Sink>⟧.faults result ≡ 0 }
+    {
+        HostSink {
+            runtime,
+            stream: Stream::Stderr,
+            faults: 0,
+        }
+    }
+
+    /// Writes the piece once.
+    fn write_once(&self, piece: &[u8]) -> Result<(), Failed> {
+        match self.stream {
+            Stream::Stdout => self.runtime.write_all(piece).map_err(|_| Failed),
+            Stream::Stderr => {
+                let text = str::from_utf8(piece).map_err(|_| Failed)?;
+                self.runtime.eprint(text).map_err(|_| Failed)
+            }
+        }
+    }
+}
+
+impl<'a, R: Print + Eprint> Sink for HostSink<'a, R> {
+    ghost written = { λ _. None };
+
+    ghost faults = { λ s. s.faults };
+
+    fn write(&mut self, piece: &[u8]) -> Result<(), Failed> {
+        match self.write_once(piece) {
+            Ok(()) => Ok(()),
+            Err(Failed) => {
+                self.faults = self.faults.saturating_add(1);
+                Err(Failed)
+            }
+        }
+    }
+}
+
+#[cfg(test)]
+mod tests {
+    use super::*;
+    use lay_token::Text;
+
+    #[test]
+    fn a_named_file_fails(rt: HostRuntime) {
+        let mut inputs = HostInputs::new(&rt);
+        inputs.choose(Which::File(Text::new(rt.alloc())));
+        let mut buf = [0u8; 4];
+        assert_eq!(rt; inputs.read(&mut buf), Err(Failed));
+        assert_eq!(rt; inputs.faults, 1);
+    }
+
+    #[test]
+    fn bytes_that_are_no_text_fail_on_standard_error(rt: HostRuntime) {
+        let mut out = HostSink::stdout(&rt);
+        assert_eq!(rt; out.write(b""), Ok(()));
+        assert_eq!(rt; out.faults, 0);
+        let mut err = HostSink::stderr(&rt);
+        assert_eq!(rt; err.write(b"\xff"), Err(Failed));
+        assert_eq!(rt; err.write(b""), Ok(()));
+        assert_eq!(rt; err.faults, 1);
+    }
+}
