@@ -1,3 +1,5 @@
 pub mod Pieces
 pub mod Grammar
 pub mod Reading
+pub mod Notation
+pub mod Layout

@@ -1,0 +1,4 @@
+pub mod Fed
+pub mod Listed
+pub mod Indents
+pub mod Pages

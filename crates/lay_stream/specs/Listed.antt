@@ -1,0 +1,16 @@
+-- A list of tokens as an Emit.
+use Rattle.std.specs.Prelude.{◌≡◌, List}
+use Rattle.lay_token.specs.declared.layout.Tok.{Tok}
+use Rattle.lay_token.specs.Machine.{opened}
+use Rattle.lay_stream.specs.Fed.{Meanings}
+
+-- A list was fed just itself. Of its failures nothing is said.
+abbrev pub list_meanings : (F : Type 0) → Meanings (List Tok) F
+list_meanings F = record {
+  fed = λ list start s. list ≡ s;
+  groups = λ list. opened list 0;
+  faults = λ list. 0;
+  failed = λ list. Unit {0};
+  cause = λ old fault new. Unit {0};
+  loan = λ list. 0;
+}

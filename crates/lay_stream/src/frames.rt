@@ -1,0 +1,95 @@
+//! The frames of the groups that are open.
+ghost use Rattle.std.specs.Prelude.{◌≡◌, [], ◌∷◌, OnOk};
+ghost use Rattle.lay_token.specs.Document.{enter};
+ghost use Rattle.lay_token.specs.Machine.{top, below};
+ghost use Rattle.lay_stream.specs.Indents.{IsKept};
+
+use crate::page::shifted;
+use lay_token::{Frame, NoMemory};
+use std::alloc::Global;
+use std::marker::Model;
+
+/// The frames of the groups that are open, seen with the innermost first.
+#[derive(Drop)]
+pub struct Frames {
+    items: Vec<Frame>,
+}
+
+impl Model for Frames {
+    ghost use Rattle.std.specs.Prelude.{List, reverse};
+    ghost use Rattle.lay_token.specs.declared.layout.Frame.{Frame};
+    ghost use Rattle.lay_stream.specs.Indents.{AreKept};
+
+    ghost Value = { List Frame };
+
+    ghost view = { λ frames. reverse frames.items.items };
+
+    ghost invariant = { λ frames. AreKept (reverse frames.items.items) };
+}
+
+impl Frames {
+    /// No group is open.
+    pub fn new(alloc: Global) -> Frames
+        ensures { result ≡ [] }
+    {
+        Frames {
+            items: Vec::new(alloc),
+        }
+    }
+
+    /// A group is begun.
+    pub fn push(&mut self, frame: Frame) -> Result<(), NoMemory>
+        requires { IsKept frame }
+        ensures { OnOk result (self.new ≡ frame ∷ self.old) }
+    {
+        match self.items.push(frame) {
+            Ok(()) => Ok(()),
+            Err(_) => Err(NoMemory),
+        }
+    }
+
+    /// The group that was begun last is ended.
+    pub fn pop(&mut self)
+        ensures { self.new ≡ below self.old }
+    {
+        let _ = self.items.pop();
+    }
+
+    /// The frame that counts: outside all groups it is broken, inconsistent, with indent 0.
+    pub fn top(&self) -> Frame
+        ensures value { result ≡ top self.now }
+        ensures kept { IsKept result }
+    {
+        match self.items.last() {
+            Some(frame) => *frame,
+            None => Frame::Broken {
+                consistent: false,
+                indent: 0,
+            },
+        }
+    }
+}
+
+/// The frame of a group in a frame; `big` says that its measure is greater than the space.
+pub fn entered(frame: Frame, consistent: bool, offset: i8, big: bool) -> Frame
+    requires { IsKept frame }
+    ensures value { result ≡ enter frame consistent offset big }
+    ensures kept { IsKept result }
+{
+    match frame {
+        Frame::Flat => Frame::Flat,
+        Frame::Broken {
+            consistent: _,
+            indent,
+        } => {
+            if big {
+                Frame::Broken {
+                    consistent,
+                    indent: shifted(indent, offset).min(240),
+                }
+            } else {
+                Frame::Flat
+            }
+        }
+    }
+}

@@ -1,0 +1,129 @@
+//! The text so far, the blanks that wait and the space that is left.
+ghost use Rattle.std.specs.Prelude.{◌≡◌, ◌<◌, ◌≤◌, min, ◌+◌, ◌++◌, replicate, OnOk};
+ghost use Rattle.lay_token.specs.Document.{State, shift, write as written, put_mark as marked, line as on_line, newline as on_newline, skip as skipped, break_in};
+ghost use Rattle.lay_stream.specs.Pages.{Is};
+ghost use Rattle.lay_stream.specs.Indents.{IsKept};
+
+use lay_token::{Break, Frame, Mark, NoMemory, Text};
+
+/// The greatest count of what was used of a line. No comparison sees more than this, since the room is at
+/// most 89.
+const CAP: u64 = 0x4000_0000_0000_0000;
+
+/// The text so far, the blanks that are to be written before what comes next, the room of this line and what
+/// was used of it.
+#[derive(Drop)]
+pub struct Page {
+    pub text: Text,
+    pub pending: u64,
+    pub room: u64,
+    pub used: u64,
+}
+
+impl Page {
+    /// A break in a frame; `big` says that its measure is greater than the space.
+    pub fn put_break(&mut self, frame: Frame, brk: Break, big: bool) -> Result<(), NoMemory>
+        requires { IsKept frame }
+        ensures { OnOk result ((s : State) → Is self.old s → Is self.new (break_in frame brk big s)) }
+    {
+        if brk.never {
+            return self.skip(brk);
+        }
+        match frame {
+            Frame::Broken { consistent, indent } => {
+                if consistent || big {
+                    self.newline(brk, indent)
+                } else {
+                    self.skip(brk)
+                }
+            }
+            Frame::Flat => self.skip(brk),
+        }
+    }
+
+    /// A break that is a newline.
+    fn newline(&mut self, brk: Break, indent: u64) -> Result<(), NoMemory>
+        requires { indent ≤ 240 }
+        ensures { OnOk result ((s : State) → Is self.old s → Is self.new (on_newline brk indent s)) }
+    {
+        self.put_mark(brk.before)?;
+        self.start_line(shifted(indent, brk.offset))?;
+        self.put_mark(brk.after)
+    }
+
+    /// A line that begins with so many blanks.
+    fn start_line(&mut self, blanks: u64) -> Result<(), NoMemory>
+        ensures { OnOk result ((s : State) → Is self.old s → Is self.new (on_line blanks s)) }
+    {
+        self.text.push(b'\n')?;
+        self.pending = blanks;
+        self.room = 89u64.saturating_sub(blanks).max(60);
+        self.used = 0;
+        Ok(())
+    }
+
+    /// A break that is no newline.
+    fn skip(&mut self, brk: Break) -> Result<(), NoMemory>
+        ensures { OnOk result ((s : State) → Is self.old s → Is self.new (skipped brk s)) }
+    {
+        self.add_blanks(brk.blank);
+        self.put_mark(brk.instead)
+    }
+
+    /// Blanks that wait, of which there are never more than 1,000,000.
+    fn add_blanks(&mut self, blank: u16)
+        ensures pending { self.new.pending ≡ min (self.old.pending + blank) 1000000 }
+        ensures used { self.new.used ≡ min (self.old.used + blank) CAP }
+        ensures room { self.new.room ≡ self.old.room }
+        ensures text { self.new.text ≡ self.old.text }
+    {
+        self.pending = self.pending.saturating_add(blank as u64).min(1_000_000);
+        self.used = self.used.saturating_add(blank as u64).min(CAP);
+    }
+
+    /// A mark, if there is one.
+    fn put_mark(&mut self, mark: Mark) -> Result<(), NoMemory>
+        ensures { OnOk result ((s : State) → Is self.old s → Is self.new (marked mark s)) }
+    {
+        match mark {
+            Mark::Absent => Ok(()),
+            Mark::Comma => self.write(b","),
+            Mark::OpenBrace => self.write(b"{"),
+            Mark::CloseBrace => self.write(b"}"),
+        }
+    }
+
+    /// The blanks that wait, and then the bytes.
+    pub fn write(&mut self, bytes: &[u8]) -> Result<(), NoMemory>
+        ensures { OnOk result ((s : State) → Is self.old s → Is self.new (written bytes.now s)) }
+    {
+        self.write_blanks()?;
+        self.text.push_bytes(bytes)?;
+        self.used = self.used.saturating_add(bytes.len() as u64).min(CAP);
+        Ok(())
+    }
+
+    /// The blanks that wait.
+    fn write_blanks(&mut self) -> Result<(), NoMemory>
+        ensures text { OnOk result (self.new.text ≡ self.old.text ++ replicate self.old.pending 32) }
+        ensures pending { OnOk result (self.new.pending ≡ 0) }
+        ensures room { self.new.room ≡ self.old.room }
+        ensures used { self.new.used ≡ self.old.used }
+    {
+        while self.pending > 0 {
+            self.text.push(b' ')?;
+            self.pending -= 1;
+        }
+        Ok(())
+    }
+}
+
+/// What an indent and an offset make, or 0 where that is below 0.
+pub fn shifted(indent: u64, offset: i8) -> u64
+    requires { indent ≤ 240 }
+    ensures value { result ≡ shift indent offset }
+    ensures small { result < 368 }
+{
+    let sum = indent as i64 + offset as i64;
+    if sum < 0 { 0 } else { sum as u64 }
+}
