@@ -1,11 +1,11 @@
 -- Growth of a sink over several writes.
-use Rattle.std.proofs.Common.{◌≡◌, ℕ, ◌+◌, ◌≤◌, List, [], ◌++◌, length, take, Option, Some, None, refl, ap, sym, ◌∙◌, arith, append_assoc}
+use Rattle.std.proofs.Common.{◌≡◌, ℕ, ◌+◌, ◌≤◌, List, [], ◌++◌, length, take, Option, Some, None, arith, append_assoc}
 use Rattle.std.proofs.lemmas.Grind.{common_steps}
 use Rattle.std.proofs.Common.{min, Result, Ok, Err}
 use Rattle.lay_io.specs.Calls.{Puts}
 use Rattle.std.proofs.Math.Seq.{take-append-add, take-length}
 use Rattle.std.proofs.lemmas.List.{take-append-le}
-use Rattle.lay_io.specs.Told.{put_behind, GrewBy, GrewByPrefix}
+use Rattle.lay_io.specs.Told.{GrewBy, GrewByPrefix}
 
 pub grew_by-nothing : (before : Option (List ℕ)) → GrewBy before before []
 grew_by-nothing None = tt

@@ -3,7 +3,7 @@ use Rattle.std.specs.Prelude.{ℕ, ◌⊎◌, List, Option, None, Some, Contains
 use Rattle.lay_io.specs.Kept.{Kept}
 use Rattle.lay_io.specs.Stored.{content_of}
 use Rattle.lay_io.specs.declared.outside.Which.{Which}
-use Rattle.lay_io.specs.declared.memory.MemoryInputs.{MemoryInputs}
+use Rattle.lay_io.specs.declared.inputs.MemoryInputs.{MemoryInputs}
 
 -- A sink: what it keeps, the numbers of the writes that fail and how much these keep, the writes and the faults so far.
 pub record Device : Type 0 where

@@ -1,5 +1,5 @@
 -- The bytes that an object in memory holds for each input.
-use Rattle.std.specs.Prelude.{ℕ, ◌≡◌, Bool, true, false, List, drop, Option, None, Some, option_map, find, if◌then◌else◌}
+use Rattle.std.specs.Prelude.{ℕ, Bool, true, false, List, drop, Option, None, Some, option_map, find, if◌then◌else◌}
 use Rattle.std.specs.Str.{bytes_eq}
 use Rattle.lay_io.specs.declared.outside.Which.{Which}
 use Rattle.lay_io.specs.declared.outside.Which.TheVariants.{Stdin, File}

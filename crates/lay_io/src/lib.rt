@@ -6,16 +6,16 @@
 #![tactic(auto)]
 
 pub mod host;
-pub mod memory;
+pub mod inputs;
 pub mod outside;
-pub mod quiet;
 pub mod read;
 mod room;
+pub mod sinks;
 mod stored;
 
 pub use host::{HostInputs, HostSink};
-pub use memory::{MemoryInputs, MemorySink};
+pub use inputs::{MemoryInputs, QuietInputs};
 pub use outside::{Failed, Inputs, Sink, Which};
-pub use quiet::{QuietInputs, QuietSink};
 pub use read::{ReadError, read_all};
+pub use sinks::{MemorySink, QuietSink};
 pub use stored::NamedFile;

@@ -1,5 +1,5 @@
 -- The file that was found is the one of this name.
-use Rattle.std.proofs.Common.{◌≡◌, ℕ, List, Some, find, option_map, ap, sym, ◌∙◌, subst}
+use Rattle.std.proofs.Common.{◌≡◌, ℕ, List, Some, find}
 use Rattle.std.specs.Str.{bytes_eq}
 use Rattle.lay_io.specs.Stored.{content_of}
 use Rattle.lay_io.specs.declared.stored.NamedFile.{NamedFile}

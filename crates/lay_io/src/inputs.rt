@@ -1,18 +1,61 @@
-//! Objects in memory of which named calls fail.
-ghost use Rattle.std.specs.Prelude.{◌≡◌, ◌≢◌, ◌+◌, ◌-◌, ◌^◌, ◌≤◌, [], None, Some, length, take, min, Contains, IfOk, IfSome, IsErr, IsSome, OnErr, OnOk, ◌↔◌};
+//! Inputs in memory.
+ghost use Rattle.std.specs.Prelude.{◌≡◌, ◌≢◌, ◌+◌, ◌-◌, ◌^◌, [], None, Some, min, unwrap_or, IsErr, IsSome, OnOk, ◌↔◌};
 ghost use Rattle.std.specs.Io.{ReadsAtMost};
 ghost use Rattle.lay_io.specs.declared.outside.Which.{Which};
 ghost use Rattle.lay_io.specs.Stored.{content_of, left_after};
-ghost use Rattle.lay_io.specs.Told.{GrewBy};
-ghost use Rattle.lay_io.specs.Calls.{Puts, Takes, left_of};
-ghost use Rattle.lay_io.specs.Faults.{HasCause, SameLoan};
+ghost use Rattle.lay_io.specs.Calls.{Takes, left_of};
+ghost use Rattle.lay_io.specs.Faults.{HasCause};
 
-use crate::outside::{Failed, Inputs, Sink, Which};
-use crate::room::Room;
-use crate::stored::{NamedFile, content, take_next};
-use lay_token::{List, NoMemory};
-use std::alloc::Global;
-use std::marker::Model;
+use crate::outside::{Failed, Inputs, Which};
+use crate::stored::{NamedFile, content, content_or_empty, take_next};
+use lay_token::List;
+
+/// Inputs that never fail. A file that isn't in the list is empty.
+#[derive(Debug, Drop)]
+pub struct QuietInputs {
+    stdin: List<u8>,
+    files: List<NamedFile>,
+    chosen: Option<Which>,
+    taken: usize,
+    ghost fresh: { chosen ≡ None → taken ≡ 0 },
+}
+
+impl QuietInputs {
+    /// Inputs of which none is chosen, with these bytes to come.
+    pub fn new(stdin: List<u8>, files: List<NamedFile>) -> QuietInputs
+        ensures chosen { ⟦<QuietInputs as Inputs>⟧.chosen result ≡ None }
+        ensures left { (which : Which) → ⟦<QuietInputs as Inputs>⟧.left result which ≡ Some (unwrap_or (content_of stdin files which) []) }
+    {
+        QuietInputs {
+            stdin,
+            files,
+            chosen: None,
+            taken: 0,
+        }
+    }
+}
+
+impl Inputs for QuietInputs {
+    ghost left = { λ s w. left_after s.chosen s.taken (Some (unwrap_or (content_of s.stdin s.files w) [])) w };
+
+    ghost chosen = { λ s. s.chosen };
+
+    ghost faults = { λ _. 0 };
+
+    fn choose(&mut self, which: Which) {
+        self.chosen = Some(which);
+    }
+
+    fn read(&mut self, buf: &mut [u8]) -> Result<usize, Failed> {
+        match &self.chosen {
+            None => unreachable!(),
+            Some(which) => {
+                let all = content_or_empty(&self.stdin, &self.files, which);
+                Ok(take_next(all, &mut self.taken, buf))
+            }
+        }
+    }
+}
 
 /// Inputs of which the reads with these numbers fail, counted from 0. A file that isn't in the list of files
 /// fails at each read. Each failure is counted.
@@ -103,94 +146,26 @@ impl Inputs for MemoryInputs {
     }
 }
 
-/// A sink of which the writes with these numbers fail, counted from 0. A failing write keeps at most `keep`
-/// bytes of its piece, and is counted. Bytes are kept in room that was taken first.
-#[derive(Debug, Drop)]
-pub struct MemorySink {
-    room: Room,
-    fail: List<u64>,
-    keep: usize,
-    writes: u64,
-    faults: u64,
-}
-
-impl Model for MemorySink {
-    ghost use Rattle.lay_io.specs.Devices.{Device};
-    ghost use Rattle.lay_io.specs.Kept.{kept_in};
-
-    ghost Value = { Device };
-
-    ghost view = { λ sink. record { kept = kept_in sink.room; fail = sink.fail; keep = sink.keep; writes = sink.writes; faults = sink.faults } };
-}
-
-impl MemorySink {
-    /// A sink with room for so many bytes.
-    pub fn new(
-        alloc: Global,
-        room: usize,
-        fail: List<u64>,
-        keep: usize,
-    ) -> Result<MemorySink, NoMemory>
-        ensures { IfOk result (λ sink. sink ≡ record { kept = record { bytes = Some []; spare = room }; fail = fail; keep = keep; writes = 0; faults = 0 }) }
-    {
-        match Room::with_room(alloc, room) {
-            Ok(room) => Ok(MemorySink {
-                room,
-                fail,
-                keep,
-                writes: 0,
-                faults: 0,
-            }),
-            Err(NoMemory) => Err(NoMemory),
-        }
-    }
-
-    /// What the sink keeps: what was written, where it still tells that.
-    pub fn bytes(&self) -> &[u8]
-        ensures { IfSome self.now.kept.bytes (λ bytes. result.now ≡ bytes) }
-    {
-        self.room.bytes.as_slice()
-    }
-}
-
-impl Sink for MemorySink {
-    ghost written = { λ s. s.kept.bytes };
-
-    ghost faults = { λ s. s.faults };
-
-    fn write(&mut self, piece: &[u8]) -> Result<(), Failed>
-        ensures bytes { Puts self.old.kept.bytes self.new.kept.bytes result piece.now }
-        ensures cause { HasCause self.old.faults self.new.faults result }
-        ensures loan { SameLoan 0 0 }
-        ensures failed { IsErr result ↔ Contains self.old.fail self.old.writes }
-        ensures uncounted { OnOk result (self.new.faults ≡ self.old.faults) }
-        ensures keeps { OnErr result (GrewBy self.old.kept.bytes self.new.kept.bytes (take (min self.old.keep self.old.kept.spare) piece.now)) }
-        ensures counted { self.new.writes ≡ min (self.old.writes + 1) (2 ^ 64 - 1) }
-        ensures same { (self.new.fail ≡ self.old.fail) × (self.new.keep ≡ self.old.keep) }
-    {
-        let number = self.writes;
-        self.writes = self.writes.saturating_add(1);
-        if !self.fail.as_slice().contains(&number) {
-            self.room.put(piece);
-            return Ok(());
-        }
-        let count = self.keep.min(piece.len()).min(self.room.left());
-        self.room.put(&piece[..count]);
-        self.faults = self.faults.saturating_add(1);
-        Err(Failed)
-    }
-}
-
 #[cfg(test)]
 mod tests {
     use super::*;
+    use crate::read::{ReadError, read_all};
     use lay_token::Text;
     use std::test::Fail;
 
-    fn list<T: Drop>(alloc: Global, item: T) -> Result<List<T>, Fail> {
-        let mut items = Vec::new(alloc);
-        items.push(item)?;
-        Ok(List::from_vec(items))
+    #[test]
+    fn all_of_an_input_up_to_a_limit(rt: HostRuntime) -> Result<(), Fail> {
+        let alloc = rt.alloc();
+        for (limit, answer) in [(4, Err(ReadError::TooLong)), (5, Ok(5)), (6, Ok(5))] {
+            let mut inputs = QuietInputs::new(
+                List::from_vec(b"abcde".to_vec(alloc)?),
+                List::new(alloc),
+            );
+            inputs.choose(Which::Stdin);
+            let read = read_all(alloc, &mut inputs, limit);
+            assert_eq!(rt; read.map(|bytes| bytes.as_slice().len()), answer, "{limit}");
+        }
+        Ok(())
     }
 
     // The reads of a file of 5 bytes by a buffer of 2, of which the one numbered 1 fails.
@@ -203,8 +178,8 @@ mod tests {
         };
         let mut inputs = MemoryInputs::new(
             List::new(alloc),
-            list(alloc, file)?,
-            list(alloc, 1u64)?,
+            List::from_vec(vec![in alloc; file]?),
+            List::from_vec(vec![in alloc; 1u64]?),
         );
         inputs.choose(Which::File(Text::from_bytes(alloc, b"q")?));
         let mut buf = [0u8; 2];
@@ -221,24 +196,6 @@ mod tests {
         let mut missing = MemoryInputs::new(List::new(alloc), List::new(alloc), List::new(alloc));
         missing.choose(Which::File(Text::new(alloc)));
         assert_eq!(rt; missing.read(&mut buf), Err(Failed));
-        Ok(())
-    }
-
-    // Writes into a room of 6 bytes, of which the one numbered 1 fails and keeps 2 bytes.
-    #[test]
-    fn writes(rt: HostRuntime) -> Result<(), Fail> {
-        let alloc = rt.alloc();
-        let mut sink = MemorySink::new(alloc, 6, list(alloc, 1u64)?, 2)?;
-        let rows = [
-            (b"ab".as_slice(), Ok(()), b"ab".as_slice()),
-            (b"cde".as_slice(), Err(Failed), b"abcd".as_slice()),
-            (b"fg".as_slice(), Ok(()), b"abcdfg".as_slice()),
-        ];
-        for (piece, answer, kept) in rows {
-            assert_eq!(rt; sink.write(piece), answer);
-            assert_eq!(rt; sink.bytes(), kept);
-        }
-        assert_eq!(rt; sink.write(b"h"), Ok(()));
         Ok(())
     }
 }

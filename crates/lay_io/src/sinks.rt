@@ -1,0 +1,190 @@
+//! Sinks in memory. What they keep stands in room that was taken first.
+ghost use Rattle.std.specs.Prelude.{◌≡◌, ◌+◌, ◌-◌, ◌^◌, ◌≤◌, [], Some, length, take, min, Contains, IfOk, IfSome, IsErr, IsOk, OnErr, OnOk, ◌↔◌};
+ghost use Rattle.lay_io.specs.Told.{GrewBy, put_behind};
+ghost use Rattle.lay_io.specs.Calls.{Puts};
+ghost use Rattle.lay_io.specs.Faults.{HasCause, SameLoan};
+
+use crate::outside::{Failed, Sink};
+use crate::room::Room;
+use lay_token::{List, NoMemory};
+use std::alloc::Global;
+use std::marker::Model;
+
+/// A sink that never fails, and keeps bytes in room that was taken first. Contracts see what was written,
+/// unless a piece didn't fit, and how many more bytes fit.
+#[derive(Debug, Drop)]
+pub struct QuietSink {
+    room: Room,
+}
+
+impl Model for QuietSink {
+    ghost use Rattle.lay_io.specs.Kept.{Kept, kept_in};
+
+    ghost Value = { Kept };
+
+    ghost view = { λ sink. kept_in sink.room };
+}
+
+impl QuietSink {
+    /// A sink without room. It takes no memory.
+    pub fn new(alloc: Global) -> QuietSink
+        ensures { result.bytes ≡ Some [] }
+    {
+        QuietSink {
+            room: Room::new(alloc),
+        }
+    }
+
+    /// A sink with room for `n` bytes.
+    pub fn with_room(alloc: Global, n: usize) -> Result<QuietSink, NoMemory>
+        ensures { IfOk result (λ sink. sink ≡ record { bytes = Some []; spare = n }) }
+    {
+        match Room::with_room(alloc, n) {
+            Ok(room) => Ok(QuietSink { room }),
+            Err(NoMemory) => Err(NoMemory),
+        }
+    }
+
+    /// What the sink keeps: what was written, where it still tells that.
+    pub fn bytes(&self) -> &[u8]
+        ensures { IfSome self.now.bytes (λ bytes. result.now ≡ bytes) }
+    {
+        self.room.bytes.as_slice()
+    }
+}
+
+impl Sink for QuietSink {
+    ghost written = { λ s. s.bytes };
+
+    ghost faults = { λ _. 0 };
+
+    fn write(&mut self, piece: &[u8]) -> Result<(), Failed>
+        ensures bytes { Puts self.old.bytes self.new.bytes result piece.now }
+        ensures cause { HasCause 0 0 result }
+        ensures loan { SameLoan 0 0 }
+        ensures never { IsOk result }
+        ensures fits { length piece.now ≤ self.old.spare → self.new.bytes ≡ put_behind self.old.bytes piece.now }
+        ensures spare { self.old.spare ≤ self.new.spare + length piece.now }
+    {
+        self.room.put(piece);
+        Ok(())
+    }
+}
+
+/// A sink of which the writes with these numbers fail, counted from 0. A failing write keeps at most `keep`
+/// bytes of its piece, and is counted. Bytes are kept in room that was taken first.
+#[derive(Debug, Drop)]
+pub struct MemorySink {
+    room: Room,
+    fail: List<u64>,
+    keep: usize,
+    writes: u64,
+    faults: u64,
+}
+
+impl Model for MemorySink {
+    ghost use Rattle.lay_io.specs.Devices.{Device};
+    ghost use Rattle.lay_io.specs.Kept.{kept_in};
+
+    ghost Value = { Device };
+
+    ghost view = { λ sink. record { kept = kept_in sink.room; fail = sink.fail; keep = sink.keep; writes = sink.writes; faults = sink.faults } };
+}
+
+impl MemorySink {
+    /// A sink with room for so many bytes.
+    pub fn new(
+        alloc: Global,
+        room: usize,
+        fail: List<u64>,
+        keep: usize,
+    ) -> Result<MemorySink, NoMemory>
+        ensures { IfOk result (λ sink. sink ≡ record { kept = record { bytes = Some []; spare = room }; fail = fail; keep = keep; writes = 0; faults = 0 }) }
+    {
+        match Room::with_room(alloc, room) {
+            Ok(room) => Ok(MemorySink {
+                room,
+                fail,
+                keep,
+                writes: 0,
+                faults: 0,
+            }),
+            Err(NoMemory) => Err(NoMemory),
+        }
+    }
+
+    /// What the sink keeps: what was written, where it still tells that.
+    pub fn bytes(&self) -> &[u8]
+        ensures { IfSome self.now.kept.bytes (λ bytes. result.now ≡ bytes) }
+    {
+        self.room.bytes.as_slice()
+    }
+}
+
+impl Sink for MemorySink {
+    ghost written = { λ s. s.kept.bytes };
+
+    ghost faults = { λ s. s.faults };
+
+    fn write(&mut self, piece: &[u8]) -> Result<(), Failed>
+        ensures bytes { Puts self.old.kept.bytes self.new.kept.bytes result piece.now }
+        ensures cause { HasCause self.old.faults self.new.faults result }
+        ensures loan { SameLoan 0 0 }
+        ensures failed { IsErr result ↔ Contains self.old.fail self.old.writes }
+        ensures uncounted { OnOk result (self.new.faults ≡ self.old.faults) }
+        ensures keeps { OnErr result (GrewBy self.old.kept.bytes self.new.kept.bytes (take (min self.old.keep self.old.kept.spare) piece.now)) }
+        ensures counted { self.new.writes ≡ min (self.old.writes + 1) (2 ^ 64 - 1) }
+        ensures same { (self.new.fail ≡ self.old.fail) × (self.new.keep ≡ self.old.keep) }
+    {
+        let number = self.writes;
+        self.writes = self.writes.saturating_add(1);
+        if !self.fail.as_slice().contains(&number) {
+            self.room.put(piece);
+            return Ok(());
+        }
+        let count = self.keep.min(piece.len()).min(self.room.left());
+        self.room.put(&piece[..count]);
+        self.faults = self.faults.saturating_add(1);
+        Err(Failed)
+    }
+}
+
+#[cfg(test)]
+mod tests {
+    use super::*;
+    use std::test::Fail;
+
+    #[test]
+    fn what_fits_is_kept(rt: HostRuntime) -> Result<(), Fail> {
+        let alloc = rt.alloc();
+        let mut sink = QuietSink::with_room(alloc, 3)?;
+        for (piece, kept) in [
+            (b"ab".as_slice(), b"ab".as_slice()),
+            (b"c".as_slice(), b"abc".as_slice()),
+        ] {
+            assert_eq!(rt; sink.write(piece), Ok(()));
+            assert_eq!(rt; sink.bytes(), kept);
+        }
+        assert_eq!(rt; sink.write(b"d"), Ok(()));
+        assert_eq!(rt; QuietSink::new(alloc).bytes().len(), 0);
+        Ok(())
+    }
+
+    // Writes into a room of 6 bytes, of which the one numbered 1 fails and keeps 2 bytes.
+    #[test]
+    fn writes(rt: HostRuntime) -> Result<(), Fail> {
+        let alloc = rt.alloc();
+        let mut sink = MemorySink::new(alloc, 6, List::from_vec(vec![in alloc; 1u64]?), 2)?;
+        let rows = [
+            (b"ab".as_slice(), Ok(()), b"ab".as_slice()),
+            (b"cde".as_slice(), Err(Failed), b"abcd".as_slice()),
+            (b"fg".as_slice(), Ok(()), b"abcdfg".as_slice()),
+        ];
+        for (piece, answer, kept) in rows {
+            assert_eq!(rt; sink.write(piece), answer);
+            assert_eq!(rt; sink.bytes(), kept);
+        }
+        assert_eq!(rt; sink.write(b"h"), Ok(()));
+        Ok(())
+    }
+}
