@@ -1,6 +1,12 @@
-//! The top call: bytes in, laid-out bytes out.
+//! x
 #![tactic(auto)]
 
+pub mod command;
+pub mod format;
+pub mod layout;
+pub mod reader;
 pub mod tree;
 
+pub use command::{LIMIT, Status, run};
+pub use format::{IntoError, format_into};
 pub use tree::{Item, UseTree};

@@ -1,0 +1,57 @@
+-- How a run comes out.
+use Rattle.std.specs.Prelude.{ℕ, ◌≡◌, ◌<◌, ◌≤◌, ◌⊎◌, List, [], length, Option, IfSome, Result, Ok, Err}
+use Rattle.lay_io.specs.Told.{TellsAs, GrewBy, GrewByPrefix}
+use Rattle.lay_io.specs.Faults.{Rose}
+use Rattle.lay_io.specs.declared.outside.Which.{Which}
+use Rattle.lay_token.specs.declared.refusal.Refusal.TheVariants.{NoItem}
+use Rattle.lay_front.specs.Reading.{HasNoReading, ReadsOnlyTo}
+use Rattle.lay_front.specs.Layout.{out}
+use Rattle.lay_front.specs.declared.tree.Item.{Item}
+use Rattle.lay_front.specs.declared.format.IntoError.{IntoError}
+use Rattle.lay_front.specs.declared.format.IntoError.TheVariants as into
+use Rattle.lay_front.specs.declared.command.Status.{Status}
+use Rattle.lay_front.specs.declared.command.Status.TheVariants.{Done, Differs, Usage, ReadFailed, Refused, WriteFailed, TooLong, NoMemory}
+
+-- The bytes read to one file, and its whole text was written.
+pub record Wrote (bytes : List ℕ) (before now : Option (List ℕ)) : Type 0 where
+  pub file : List Item
+  pub reads : ReadsOnlyTo bytes file
+  pub grew : GrewBy before now (out file)
+
+-- The bytes read to one file, and a prefix of its text was written.
+pub record WrotePart (bytes : List ℕ) (before now : Option (List ℕ)) : Type 0 where
+  pub file : List Item
+  pub reads : ReadsOnlyTo bytes file
+  pub grew : GrewByPrefix before now (out file)
+
+-- An input was read to its end. These are all its bytes, 16 MiB at the most, and P holds of them.
+pub record WasRead (before now : Option (List ℕ)) (P : List ℕ → Type 0) : Type 0 where
+  pub bytes : List ℕ
+  pub all : TellsAs before bytes
+  pub at_end : TellsAs now []
+  pub within : length bytes ≤ 16777216
+  pub holds : P bytes
+
+-- Nothing was written, or a prefix of what is to be written.
+abbrev pub WroteNoMore : {K : Type 0} → K → K → Type 0 → Type 0
+WroteNoMore before now Part = (now ≡ before) ⊎ Part
+
+module _ {K : Type 0} (written : K → Option (List ℕ)) (writes : K → ℕ) where
+  -- A call that formats the bytes into a sink, from the sink before to the sink now.
+  abbrev pub Formats : {T : Type 0} → List ℕ → K → K → Result T IntoError → Type 0
+  Formats bytes before now (Ok done) = Wrote bytes (written before) (written now)
+  Formats bytes before now (Err (into.Refused refusal)) = (refusal ≡ NoItem 0) × HasNoReading bytes × (now ≡ before)
+  Formats bytes before now (Err into.WriteFailed) = Rose (writes before) (writes now) × WrotePart bytes (written before) (written now)
+  Formats bytes before now (Err into.NoMemory) = WroteNoMore before now (WrotePart bytes (written before) (written now))
+
+  module _ {I : Type 0} (left : I → Which → Option (List ℕ)) (reads : I → ℕ) where
+    -- A run that formats an input: a case for each status. The inputs go from i to j, the sink from k to l.
+    abbrev pub FormatRun : Which → I → I → K → K → Status → Type 0
+    FormatRun which i j k l Done = WasRead (left i which) (left j which) (λ bytes. Wrote bytes (written k) (written l))
+    FormatRun which i j k l Differs = ⊥
+    FormatRun which i j k l Usage = ⊥
+    FormatRun which i j k l ReadFailed = Rose (reads i) (reads j) × (l ≡ k)
+    FormatRun which i j k l TooLong = IfSome (left i which) (λ all. 16777216 < length all) × (l ≡ k)
+    FormatRun which i j k l (Refused refusal) = (refusal ≡ NoItem 0) × WasRead (left i which) (left j which) HasNoReading × (l ≡ k)
+    FormatRun which i j k l WriteFailed = Rose (writes k) (writes l) × WasRead (left i which) (left j which) (λ bytes. WrotePart bytes (written k) (written l))
+    FormatRun which i j k l NoMemory = WroteNoMore k l (WasRead (left i which) (left j which) (λ bytes. WrotePart bytes (written k) (written l)))

@@ -1,0 +1,116 @@
+//! From bytes to laid-out bytes in a sink.
+ghost use Rattle.std.specs.Prelude.{◌≡◌, ◌≤◌, [], ◌++◌, OnOk, OnErr, IsErrOf};
+ghost use Rattle.lay_io.specs.Faults.{HasCause, Rose};
+ghost use Rattle.lay_io.specs.Told.{GrewBy, GrewByPrefix};
+ghost use Rattle.lay_io.specs.Calls.{Puts};
+ghost use Rattle.lay_front.specs.Layout.{out as text_of_file};
+ghost use Rattle.lay_front.specs.Outcome.{Formats};
+ghost use Rattle.lay_front.specs.Waiting.{Passed};
+
+use crate::layout::item_text;
+use crate::reader::read_file;
+use crate::tree::Item;
+use lay_io::{Failed, Sink};
+use lay_token::{NoMemory, Refusal};
+use std::alloc::Global;
+
+/// Why a text wasn't written whole.
+#[derive(Clone, Copy, Debug, PartialEq, Eq)]
+pub enum IntoError {
+    /// The bytes have no reading. Nothing was written.
+    Refused(Refusal),
+    /// A write failed. A prefix of the text was written.
+    WriteFailed,
+    /// Memory was not found. A prefix of the text was written.
+    NoMemory,
+}
+
+/// Why the text of items wasn't written whole.
+#[derive(Clone, Copy, Debug, PartialEq, Eq)]
+enum WriteError {
+    WriteFailed,
+    NoMemory,
+}
+
+/// How many bytes are kept before they are written, so that no system call is made for a token alone.
+const PIECE: usize = 65_536;
+
+/// Writes the text of the file that the bytes read to. `Refused` comes exactly where they read to none.
+pub fn format_into<K: Sink>(alloc: Global, bytes: &[u8], out: &mut K) -> Result<(), IntoError>
+    ensures later { K.faults out.old ≤ K.faults out.new }
+    ensures formats { Formats K.written K.faults bytes.now out.old out.new result }
+{
+    match read_file(alloc, bytes) {
+        Ok(Some(file)) => match write_items(alloc, file.as_slice(), out) {
+            Ok(()) => Ok(()),
+            Err(WriteError::WriteFailed) => Err(IntoError::WriteFailed),
+            Err(WriteError::NoMemory) => Err(IntoError::NoMemory),
+        },
+        Ok(None) => Err(IntoError::Refused(Refusal::NoItem { at: 0 })),
+        Err(NoMemory) => Err(IntoError::NoMemory),
+    }
+}
+
+/// Writes the text of the items, in pieces.
+fn write_items<K: Sink>(alloc: Global, items: &[Item], out: &mut K) -> Result<(), WriteError>
+    ensures later { K.faults out.old ≤ K.faults out.new }
+    ensures whole { OnOk result (GrewBy (K.written out.old) (K.written out.new) (text_of_file items.now)) }
+    ensures part { OnErr result (GrewByPrefix (K.written out.old) (K.written out.new) (text_of_file items.now)) }
+    ensures cause { IsErrOf result WriteError.WriteFailed → Rose (K.faults out.old) (K.faults out.new) }
+{
+    let mut waiting = Vec::new(alloc);
+    for item in items {
+        let text = match item_text(alloc, item) {
+            Ok(text) => text,
+            Err(NoMemory) => return Err(WriteError::NoMemory),
+        };
+        if let Err(error) = write_behind(&mut waiting, text.as_bytes(), out) {
+            return Err(error);
+        }
+    }
+    match write_waiting(&mut waiting, out) {
+        Ok(()) => Ok(()),
+        Err(Failed) => Err(WriteError::WriteFailed),
+    }
+}
+
+/// Lets bytes wait behind those that wait already, and writes them all once there are enough for a piece.
+fn write_behind<K: Sink>(
+    waiting: &mut Vec<u8>,
+    bytes: &[u8],
+    out: &mut K,
+) -> Result<(), WriteError>
+    ensures later { K.faults out.old ≤ K.faults out.new }
+    ensures passed { OnOk result (Passed (K.written out.old) (K.written out.new) (waiting.old.items ++ bytes.now) waiting.new.items) }
+    ensures part { OnErr result (GrewByPrefix (K.written out.old) (K.written out.new) (waiting.old.items ++ bytes.now)) }
+    ensures cause { IsErrOf result WriteError.WriteFailed → Rose (K.faults out.old) (K.faults out.new) }
+{
+    if waiting.extend_from_slice(bytes).is_err() {
+        return Err(WriteError::NoMemory);
+    }
+    if waiting.len() < PIECE {
+        return Ok(());
+    }
+    match write_waiting(waiting, out) {
+        Ok(()) => Ok(()),
+        Err(Failed) => Err(WriteError::WriteFailed),
+    }
+}
+
+/// Writes the bytes that wait, if there are any.
+fn write_waiting<K: Sink>(waiting: &mut Vec<u8>, out: &mut K) -> Result<(), Failed>
+    ensures bytes { Puts (K.written out.old) (K.written out.new) result waiting.old.items }
+    ensures none_waits { OnOk result (waiting.new.items ≡ []) }
+    ensures cause { HasCause (K.faults out.old) (K.faults out.new) result }
+{
+    if waiting.is_empty() {
+        return Ok(());
+    }
+    match out.write(waiting.as_slice()) {
+        Ok(()) => {
+            waiting.clear();
+            Ok(())
+        }
+        Err(Failed) => Err(Failed),
+    }
+}
