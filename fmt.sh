@@ -1,0 +1,9 @@
+#!/bin/sh
+# Formats: takes the command's words and standard input, builds the command where it isn't built yet, and runs it.
+# What the build says goes to standard error, so that standard output holds the command's own text alone.
+top=$(cd "$(dirname "$0")" && pwd) || exit 1
+command="$top/crates/lay_fmt/out/lay_fmt"
+if [ ! -x "$command" ]; then
+    (cd "$top/crates/lay_fmt" && rt check) </dev/null >&2 || exit 1
+fi
+exec "$command" "$@"
