@@ -1,0 +1,29 @@
+#!/usr/bin/env python3
+"""Measures commands on one file: seconds and peak memory, the best of several runs.
+
+usage: measure.py FILE COMMAND..    each COMMAND is one word, split at blanks; it reads FILE on standard input
+"""
+import os, shlex, subprocess, sys, time
+
+RUNS = 5
+
+
+def measure(words, path):
+    with open(path, "rb") as given, open(os.devnull, "wb") as taken:
+        start = time.perf_counter()
+        process = subprocess.Popen(words, stdin=given, stdout=taken)
+        _, status, usage = os.wait4(process.pid, 0)
+        return time.perf_counter() - start, usage.ru_maxrss / 1024, os.waitstatus_to_exitcode(status)
+
+
+def main():
+    path, commands = sys.argv[1], sys.argv[2:]
+    size = os.path.getsize(path) / 1e6
+    print(f"{path}: {size:.2f} MB, best of {RUNS} runs")
+    for command in commands:
+        runs = [measure(shlex.split(command), path) for _ in range(RUNS)]
+        seconds, memory, status = min(runs)
+        print(f"{command}: {seconds:.3f} s, {size / seconds:.1f} MB/s, {memory:.1f} MiB, {memory * 1.048576 / size:.1f} times the input, status {status}")
+
+
+main()
