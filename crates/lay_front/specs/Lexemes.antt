@@ -1,5 +1,5 @@
 -- The pieces that bytes consist of, and how to take one after the other off them.
-use Rattle.std.specs.Prelude.{ℕ, ◌≡◌, ◌==◌, Bool, List, [], ◌∷◌, Option, None, Some, if◌then◌else◌, take, drop}
+use Rattle.std.specs.Prelude.{ℕ, ◌≡◌, ◌==◌, List, [], ◌∷◌, Option, None, Some, if◌then◌else◌, take, drop}
 use Rattle.std.specs.List.{prefix_len}
 use Rattle.lay_front.specs.Pieces.{Piece, Word, Semicolon, Comma, OpenBrace, CloseBrace, Separator, is_blank, is_word_start, is_word_byte, ConsistsOf}
 use Rattle.lay_front.specs.declared.lexeme.Lexeme.{Lexeme}
