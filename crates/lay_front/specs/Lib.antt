@@ -2,3 +2,4 @@ pub mod Pieces
 pub mod Grammar
 pub mod Reading
 pub mod Lexemes
+pub mod ReadingFunction

@@ -2,6 +2,7 @@
 #![tactic(auto)]
 
 pub mod lexeme;
+pub mod reader;
 pub mod tree;
 
 pub use tree::{Item, UseTree};
