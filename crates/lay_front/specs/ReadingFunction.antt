@@ -146,8 +146,8 @@ use_at (suc depth) ts = use_by (use_at depth) ts
 
 -- ---- items, behind the word that each begins with
 
-unfoldable pub struct : Pieces → Got Item
-struct ts = do n ← name ts; rest ← passed is_semicolon n.1; Some (item.Struct n.0, rest)
+unfoldable pub struct_item : Pieces → Got Item
+struct_item ts = do n ← name ts; rest ← passed is_semicolon n.1; Some (item.Struct n.0, rest)
 
 unfoldable pub module_by : (Pieces → Got Item) → Pieces → Got Item
 module_by within ts = do
@@ -162,7 +162,7 @@ import_by tree ts = do t ← tree ts; rest ← passed is_semicolon t.1; Some (it
 
 abbrev pub behind_word : (Pieces → Got Item) → (Pieces → Got UseTree) → List ℕ → Pieces → Got Item
 behind_word within tree w ts =
-    if bytes_eq w (codes "struct") then struct ts
+    if bytes_eq w (codes "struct") then struct_item ts
     else (if bytes_eq w (codes "mod") then module_by within ts
     else (if bytes_eq w (codes "use") then import_by tree ts else None))
 

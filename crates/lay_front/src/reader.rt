@@ -25,6 +25,7 @@ pub fn read_file(alloc: Global, bytes: &[u8]) -> Result<Option<List<Item>>, NoMe
     }
 }
 
+#[tactic(auto, unfolding(crate::specs::ReadingFunction::file))]
 fn read_lexemes(alloc: Global, lexemes: &[Lexeme<'_>]) -> Result<Option<List<Item>>, NoMemory>
     ensures { IfOk result (λ answer. answer ≡ spec.file (map seen lexemes.now)) }
 {
@@ -56,6 +57,7 @@ fn read_items(alloc: Global, at: &mut Cursor<'_>, depth: u32) -> Result<List<Ite
 }
 
 #[cycle(items)]
+#[tactic(auto, unfolding(crate::specs::ReadingFunction::item_at))]
 fn read_item(alloc: Global, at: &mut Cursor<'_>, depth: u32) -> Result<Item, Stop>
     ensures { IsGot (spec.item_at depth (ahead at.old)) result (ahead at.new) }
 {
@@ -76,8 +78,9 @@ fn read_item(alloc: Global, at: &mut Cursor<'_>, depth: u32) -> Result<Item, Sto
     }
 }
 
+#[tactic(auto, unfolding(crate::specs::ReadingFunction::struct_item))]
 fn read_struct(alloc: Global, at: &mut Cursor<'_>) -> Result<Item, Stop>
-    ensures { IsGot (spec.struct (ahead at.old)) result (ahead at.new) }
+    ensures { IsGot (spec.struct_item (ahead at.old)) result (ahead at.new) }
 {
     let name = read_name(alloc, at)?;
     if at.takes_semicolon() {
@@ -89,6 +92,7 @@ fn read_struct(alloc: Global, at: &mut Cursor<'_>) -> Result<Item, Stop>
 
 // The items of the module stand at the depth.
 #[cycle(items)]
+#[tactic(auto, unfolding(crate::specs::ReadingFunction::module_by))]
 fn read_module(alloc: Global, at: &mut Cursor<'_>, depth: u32) -> Result<Item, Stop>
     ensures { IsGot (spec.module_by (spec.item_at depth) (ahead at.old)) result (ahead at.new) }
 {
@@ -104,6 +108,7 @@ fn read_module(alloc: Global, at: &mut Cursor<'_>, depth: u32) -> Result<Item, S
     }
 }
 
+#[tactic(auto, unfolding(crate::specs::ReadingFunction::import_by))]
 fn read_import(alloc: Global, at: &mut Cursor<'_>, depth: u32) -> Result<Item, Stop>
     ensures { IsGot (spec.import_by (spec.use_at depth) (ahead at.old)) result (ahead at.new) }
 {
@@ -116,6 +121,7 @@ fn read_import(alloc: Global, at: &mut Cursor<'_>, depth: u32) -> Result<Item, S
 }
 
 #[cycle(use_trees)]
+#[tactic(auto, unfolding(crate::specs::ReadingFunction::use_at))]
 fn read_use_tree(alloc: Global, at: &mut Cursor<'_>, depth: u32) -> Result<UseTree, Stop>
     ensures { IsGot (spec.use_at depth (ahead at.old)) result (ahead at.new) }
 {
@@ -160,6 +166,7 @@ fn read_path(alloc: Global, at: &mut Cursor<'_>) -> Result<List<Text>, Stop>
     Ok(path)
 }
 
+#[tactic(auto, unfolding(crate::specs::ReadingFunction::name))]
 fn read_name(alloc: Global, at: &mut Cursor<'_>) -> Result<Text, Stop>
     ensures { IsGot (spec.name (ahead at.old)) result (ahead at.new) }
 {
