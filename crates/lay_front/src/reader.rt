@@ -1,5 +1,5 @@
 //! From bytes to a tree.
-ghost use Rattle.std.specs.Prelude.{◌≡◌, ◌∷◌, [], ◌++◌, if◌then◌else◌, map, option_map, IfOk, OnOk, IfNone, IfErr};
+ghost use Rattle.std.specs.Prelude.{◌≡◌, ◌∷◌, [], ◌++◌, if◌then◌else◌, map, option_map, Some, None, IfOk, OnOk, IfNone, IfErr};
 ghost use Rattle.lay_front.specs.Grammar as grammar;
 ghost use Rattle.lay_front.specs.Lexemes.{seen};
 ghost use Rattle.lay_front.specs.Reading.{IsReading};
@@ -147,7 +147,7 @@ fn read_group(alloc: Global, at: &mut Cursor<'_>, depth: u32) -> Result<List<Use
     while !at.takes_close_brace() {
         let tree = read_use_tree(alloc, at, depth)?;
         keep(&mut trees, tree)?;
-        if !at.takes_comma() && !at.is_at_close_brace() {
+        if !at.takes_element_end() {
             return Err(Stop::NoReading);
         }
     }
@@ -314,6 +314,13 @@ impl<'a> Cursor<'a> {
             [Lexeme::CloseBrace, ..] => true,
             _ => false,
         }
+    }
+
+    // Behind an element of a list a `,` is passed, and where there is none a `}` stands.
+    fn takes_element_end(&mut self) -> bool
+        ensures { (if result then Some (ahead self.new) else None) ≡ spec.element_end (ahead self.old) }
+    {
+        self.takes_comma() || self.is_at_close_brace()
     }
 
     // Whether no lexeme is left.
