@@ -69,18 +69,19 @@ module _ {A : Type 0} (element : Pieces → Got A) (S : A → Pieces → Pieces 
       let less = shorter x ts s.0 s.1 in
       let start = not_closed ts (opened x ts s.0 s.1) in
       elim (more_cases S xs s.0 (CloseBrace ∷ rest) s.2) [
-        inl m ↦
-          let follow : MayFollow s.0 = rw m.1 refl in
-          let fewer : length s.0 < n = omega arith in
-          let ended : element_end s.0 ≡ Some s.0 = rw m.1 refl in
-          let r : group_from element n (found ++ x ∷ []) s.0 ≡ Some ((found ++ x ∷ []) ++ [], rest) = group_from_complete n [] (found ++ x ∷ []) s.0 rest fewer m.1 in
-          rw (start, reads x ts s.0 s.1 follow, ended, r, append-nil (found ++ x ∷ []), m.0) refl
-      | inr m ↦
-          let follow : MayFollow s.0 = rw m.1 refl in
-          let fewer : length m.0 < n = omega (arith, ap length m.1) in
-          let ended : element_end s.0 ≡ Some m.0 = rw m.1 refl in
-          let r : group_from element n (found ++ x ∷ []) m.0 ≡ Some ((found ++ x ∷ []) ++ xs, rest) = group_from_complete n xs (found ++ x ∷ []) m.0 rest fewer m.2 in
-          rw (start, reads x ts s.0 s.1 follow, ended, r, append_assoc found (x ∷ []) xs) refl ]
+        | inl m ↦
+            let follow : MayFollow s.0 = rw m.1 refl in
+            let fewer : length s.0 < n = omega arith in
+            let ended : element_end s.0 ≡ Some s.0 = rw m.1 refl in
+            let r : group_from element n (found ++ x ∷ []) s.0 ≡ Some ((found ++ x ∷ []) ++ [], rest) = group_from_complete n [] (found ++ x ∷ []) s.0 rest fewer m.1 in
+            rw (start, reads x ts s.0 s.1 follow, ended, r, append-nil (found ++ x ∷ []), m.0) refl
+        | inr m ↦
+            let follow : MayFollow s.0 = rw m.1 refl in
+            let fewer : length m.0 < n = omega (arith, ap length m.1) in
+            let ended : element_end s.0 ≡ Some m.0 = rw m.1 refl in
+            let r : group_from element n (found ++ x ∷ []) m.0 ≡ Some ((found ++ x ∷ []) ++ xs, rest) = group_from_complete n xs (found ++ x ∷ []) m.0 rest fewer m.2 in
+            rw (start, reads x ts s.0 s.1 follow, ended, r, append_assoc found (x ∷ []) xs) refl
+      ]
 
   pub group_complete : (xs : List A) (ts rest : Pieces) → SpellsList S xs ts (CloseBrace ∷ rest) → group element ts ≡ Some (xs, rest)
   unfolding group

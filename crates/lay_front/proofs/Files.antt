@@ -21,12 +21,13 @@ file_sound ts items h =
     let b = bind_some (all (item_at 256) ts) (λ found. if at_end found.1 then Some found.0 else None) items h in
     let s = all_sound (item_at 256) (SpellsItem 256) (item_sound 256) ts b.0.0 b.0.1 b.1 in
     elim (chosen (at_end b.0.1) (Some b.0.0) None (Some items) b.2) [
-      inl g ↦
-        let e : b.0.0 ≡ items = cc g.1 in
-        let P : List Item → Type 0 = λ xs. SpellsAll (SpellsItem 256) xs ts [] in
-        let R : Pieces → Type 0 = λ us. SpellsAll (SpellsItem 256) b.0.0 ts us in
-        subst P e (subst R (at_end_is b.0.1 g.0) s)
-    | inr g ↦ absurd (cc) ]
+      | inl g ↦
+          let e : b.0.0 ≡ items = cc g.1 in
+          let P : List Item → Type 0 = λ xs. SpellsAll (SpellsItem 256) xs ts [] in
+          let R : Pieces → Type 0 = λ us. SpellsAll (SpellsItem 256) b.0.0 ts us in
+          subst P e (subst R (at_end_is b.0.1 g.0) s)
+      | inr g ↦ absurd (cc)
+    ]
 
 file_complete : (items : List Item) (ts : Pieces) → SpellsFile items ts → file ts ≡ Some items
 unfolding file

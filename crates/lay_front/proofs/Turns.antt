@@ -102,7 +102,7 @@ module _ {A : Type 0} (element : Pieces → Got A) where
       → first is_close_brace ts ≡ false → element ts ≡ Some (x, mid) → element_end mid ≡ None → whole ≡ None
   group-open whole found ts x mid t c h g = group_open t.turns whole found ts x mid t.enough t.same c h g
 
--- ---- items
+  -- ---- items
 
   pub record AllTurn (whole : Got (List A)) (found : List A) (ts : Pieces) : Type 0 where
     pub turns : ℕ

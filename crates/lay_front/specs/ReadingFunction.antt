@@ -137,8 +137,8 @@ abbrev pub use_by : (Pieces → Got UseTree) → Pieces → Got UseTree
 use_by within ts = do
   p ← path ts
   if first is_open_brace p.1
-    then (do trees ← group within (tail p.1); Some (use_tree.Group p.0 trees.0, trees.1))
-    else (do last ← name p.1; Some (use_tree.Name p.0 last.0, last.1))
+      then (do trees ← group within (tail p.1); Some (use_tree.Group p.0 trees.0, trees.1))
+      else (do last ← name p.1; Some (use_tree.Name p.0 last.0, last.1))
 
 unfoldable pub use_at : ℕ → Pieces → Got UseTree
 use_at zero ts = None

@@ -377,6 +377,78 @@ mod tests {
         Ok(bytes)
     }
 
+    // Whether these are the items of the sample, from the outside in.
+    fn is_sample(items: &[Item]) -> bool {
+        match items {
+            [
+                Item::Module {
+                    name,
+                    items: inside,
+                },
+                Item::Import {
+                    tree: UseTree::Group { path, trees },
+                },
+            ] => {
+                name.as_bytes() == b"a".as_slice()
+                    && holds_module(inside.as_slice())
+                    && is_path(path.as_slice(), b"d", b"e")
+                    && are_trees(trees.as_slice())
+            }
+            _ => false,
+        }
+    }
+
+    fn holds_module(items: &[Item]) -> bool {
+        match items {
+            [
+                Item::Struct { name },
+                Item::Module {
+                    name: module,
+                    items: inside,
+                },
+            ] => {
+                name.as_bytes() == b"B".as_slice()
+                    && module.as_bytes() == b"c".as_slice()
+                    && inside.as_slice().is_empty()
+            }
+            _ => false,
+        }
+    }
+
+    fn is_path(path: &[Text], first: &[u8], second: &[u8]) -> bool {
+        match path {
+            [one, other] => one.as_bytes() == first && other.as_bytes() == second,
+            _ => false,
+        }
+    }
+
+    fn are_trees(trees: &[UseTree]) -> bool {
+        match trees {
+            [
+                UseTree::Name { path, name },
+                UseTree::Group {
+                    path: group_path,
+                    trees: inside,
+                },
+            ] => {
+                path.as_slice().is_empty()
+                    && name.as_bytes() == b"f".as_slice()
+                    && group_path.as_slice().len() == 1
+                    && is_last(inside.as_slice())
+            }
+            _ => false,
+        }
+    }
+
+    fn is_last(trees: &[UseTree]) -> bool {
+        match trees {
+            [UseTree::Name { path, name }] => {
+                path.as_slice().is_empty() && name.as_bytes() == b"h".as_slice()
+            }
+            _ => false,
+        }
+    }
+
     #[test]
     fn files(rt: HostRuntime) -> Result<(), Fail> {
         let alloc = rt.alloc();
@@ -402,7 +474,10 @@ mod tests {
             (b"use a: :b;".as_slice(), None),
             (b"use a::{b::{c,d::e},};".as_slice(), Some(1)),
             (b"use a".as_slice(), None),
-            (b"\x09struct\x0aA\x0b;\x0cmod\x0db {\x09}\x20".as_slice(), Some(2)),
+            (
+                b"\x09struct\x0aA\x0b;\x0cmod\x0db {\x09}\x20".as_slice(),
+                Some(2),
+            ),
             (b"struct A;\xff".as_slice(), None),
         ];
         for (bytes, items) in rows {
@@ -426,16 +501,11 @@ mod tests {
             let bytes = nested(alloc, levels, parts)?;
             assert_eq!(rt; count(alloc, bytes.as_slice())?, items);
         }
-        Ok(())
-    }
-
-    #[test]
-    fn trees(rt: HostRuntime) -> Result<(), Fail> {
-        let alloc = rt.alloc();
-        let file = read_file(alloc, b"mod a{struct B;}use c::{d,e::f,};")?;
-        let Some(items) = file else {
-            return Err(Fail::from(NoMemory));
-        };
+        let sample = read_file(
+            alloc,
+            b"mod a { struct B; mod c {} } use d::e::{f, g::{h,},};",
+        )?;
+        assert!(rt; sample.is_some_and(|items| is_sample(items.as_slice())));
         Ok(())
     }
 }

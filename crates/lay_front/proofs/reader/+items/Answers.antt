@@ -13,7 +13,7 @@ read_item-returns-then-eq t c =
     let w = c.in-Some.word.now in
     let is : bytes_eq w (codes "struct") ≡ true = ap (bytes_eq w) (sym c.as_slice.ensures) ∙ sym c.if-eq.ensures in
     got_by (item_at c.args.depth (ahead c.args.at.now)) (struct_item (ahead c.take_word.new.self)) c.read_struct.result (ahead c.read_struct.new.at)
-      (item-struct c.args.depth (ahead c.args.at.now) w (ahead c.take_word.new.self) some (sym c.in-Some.ensures) is) c.read_struct.ensures
+    (item-struct c.args.depth (ahead c.args.at.now) w (ahead c.take_word.new.self) some (sym c.in-Some.ensures) is) c.read_struct.ensures
 
 pub read_item-returns-then-eq-2 : goal.read_item-returns-then-eq-2
 read_item-returns-then-eq-2 t c =
@@ -22,7 +22,7 @@ read_item-returns-then-eq-2 t c =
     let not_struct : bytes_eq w (codes "struct") ≡ false = ap (bytes_eq w) (sym c.as_slice.ensures) ∙ sym c.if-eq.ensures in
     let is : bytes_eq w (codes "mod") ≡ true = ap (bytes_eq w) (sym c.as_slice-else-eq.ensures) ∙ sym c.if-eq-2.ensures in
     got_by (item_at c.args.depth (ahead c.args.at.now)) (module_by (item_at (c.args.depth - 1)) (ahead c.take_word.new.self)) c.read_module.result (ahead c.read_module.new.at)
-      (item-module c.args.depth (ahead c.args.at.now) w (ahead c.take_word.new.self) some (sym c.in-Some.ensures) not_struct is) c.read_module.ensures
+    (item-module c.args.depth (ahead c.args.at.now) w (ahead c.take_word.new.self) some (sym c.in-Some.ensures) not_struct is) c.read_module.ensures
 
 pub read_item-returns-then-eq-3 : goal.read_item-returns-then-eq-3
 read_item-returns-then-eq-3 t c =
@@ -32,7 +32,7 @@ read_item-returns-then-eq-3 t c =
     let not_mod : bytes_eq w (codes "mod") ≡ false = ap (bytes_eq w) (sym c.as_slice-else-eq.ensures) ∙ sym c.if-eq-2.ensures in
     let is : bytes_eq w (codes "use") ≡ true = ap (bytes_eq w) (sym c.as_slice-else-eq-2.ensures) ∙ sym c.if-eq-3.ensures in
     got_by (item_at c.args.depth (ahead c.args.at.now)) (import_by (use_at (c.args.depth - 1)) (ahead c.take_word.new.self)) c.read_import.result (ahead c.read_import.new.at)
-      (item-import c.args.depth (ahead c.args.at.now) w (ahead c.take_word.new.self) some (sym c.in-Some.ensures) not_struct not_mod is) c.read_import.ensures
+    (item-import c.args.depth (ahead c.args.at.now) w (ahead c.take_word.new.self) some (sym c.in-Some.ensures) not_struct not_mod is) c.read_import.ensures
 
 pub read_items-loop-alloc-init : goal.read_items-loop-alloc-init
 read_items-loop-alloc-init t c = rw c.new-items.ensures (all-start (item_at c.args.depth) (ahead c.args.at.now))
@@ -43,7 +43,7 @@ read_items-returns-in_err-item t c =
     let whole = all within (ahead c.args.at.now) in
     let p = err_from_is_err_and c.from_residual.result c.from_residual.ensures.1 in
     rw (p.1, p.2) (lost (within (ahead c.loop-alloc.at)) whole c.in_err-item.field-0.0 (ahead c.read_item.new.at) (ahead c.read_item.new.at) c.in_err-item.ensures
-      (all-none within whole c.loop-alloc.items (ahead c.loop-alloc.at) c.loop-alloc.invariant (sym c.loop-alloc-test.ensures)))
+    (all-none within whole c.loop-alloc.items (ahead c.loop-alloc.at) c.loop-alloc.invariant (sym c.loop-alloc-test.ensures)))
 
 pub read_items-loop-alloc-smaller : goal.read_items-loop-alloc-smaller
 read_items-loop-alloc-smaller t c = item_shorter c.args.depth (ahead c.loop-alloc.at) c.in_ok-item.item (ahead c.read_item.new.at) c.in_ok-item.ensures
@@ -53,7 +53,7 @@ read_items-loop-alloc-preserved t c =
     let within = item_at c.args.depth in
     let less = item_shorter c.args.depth (ahead c.loop-alloc.at) c.in_ok-item.item (ahead c.read_item.new.at) c.in_ok-item.ensures in
     rw c.in_ok-keep.ensures.ok (all-step within (all within (ahead c.args.at.now)) c.loop-alloc.items (ahead c.loop-alloc.at) c.in_ok-item.item (ahead c.read_item.new.at)
-      c.loop-alloc.invariant (sym c.loop-alloc-test.ensures) c.in_ok-item.ensures less)
+    c.loop-alloc.invariant (sym c.loop-alloc-test.ensures) c.in_ok-item.ensures less)
 
 pub read_items-returns : goal.read_items-returns
 read_items-returns t c =

@@ -13,4 +13,4 @@ returns-in-Some c =
     let only : ConsistsOnlyOf c.args.bytes.now pieces = rw c.in-Some.is at c.in_ok-found.ensures in
     let same = ap (λ lexemes. file (map seen lexemes)) c.as_slice.ensures.value in
     IfOk-weaker c.read_lexemes.result (λ answer. answer ≡ file (map seen c.as_slice.result.now)) (λ answer. IsReading c.args.bytes.now answer)
-      (λ (answer : Option (List Item)) e. is_reading c.args.bytes.now pieces answer only (e ∙ same)) c.read_lexemes.ensures
+    (λ (answer : Option (List Item)) e. is_reading c.args.bytes.now pieces answer only (e ∙ same)) c.read_lexemes.ensures

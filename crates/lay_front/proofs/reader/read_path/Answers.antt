@@ -13,7 +13,7 @@ returns-in_err-name c =
     let found : path_word (ahead c.loop-word.at) ≡ Some (c.in-Some.word.now, ahead c.take_path_word.new.self) = sym c.in-Some.ensures.some in
     let p = err_from_is_err_and c.from_residual.result c.from_residual.ensures.1 in
     rw (p.1, p.2) (lost_name c.in-Some.word.now (path (ahead c.args.at.now)) c.in_err-name.field-0.0 (ahead c.take_path_word.new.self) c.in_err-name.ensures
-      (path-none (path (ahead c.args.at.now)) c.loop-word.path (ahead c.loop-word.at) c.in-Some.word.now (ahead c.take_path_word.new.self) c.loop-word.invariant found))
+    (path-none (path (ahead c.args.at.now)) c.loop-word.path (ahead c.loop-word.at) c.in-Some.word.now (ahead c.take_path_word.new.self) c.loop-word.invariant found))
 
 pub loop-word-preserved : goal.loop-word-preserved
 loop-word-preserved c =
