@@ -1,9 +1,8 @@
 -- What is spelled is read.
-use Rattle.std.proofs.Common.{◌≡◌, ℕ, zero, suc, ◌+◌, ◌<◌, ◌≤◌, Bool, true, false, not, ◌&&◌, List, [], ◌∷◌, ◌++◌, length, codes, ◌⊎◌, inl, inr, Option, Some, None, refl, sym, ◌∙◌, ap, subst, append_assoc, append-nil, arith, cond, if◌then◌else◌}
-use Rattle.std.specs.Str.{bytes_eq}
+use Rattle.std.proofs.Common.{◌≡◌, ℕ, zero, suc, ◌<◌, Bool, true, false, List, [], ◌∷◌, ◌++◌, length, ◌⊎◌, inl, inr, Some, None, refl, ◌∙◌, ap, append_assoc, append-nil, arith}
 use Rattle.lay_front.specs.Pieces.{Piece, Word, Semicolon, Comma, OpenBrace, CloseBrace, Separator}
-use Rattle.lay_front.specs.Grammar.{is_name, SpellsName, SpellsPath, SpellsAll, SpellsMore, SpellsList, SpellsUseBy, SpellsUse, SpellsItemBy, SpellsItem}
-use Rattle.lay_front.specs.ReadingFunction.{Pieces, Got, ◌>>=◌, either, first, tail, passed, is_semicolon, is_comma, is_open_brace, is_close_brace, word, path_word, named, name, path_from, path, element_end, group_from, group, ends_items, all_from, all, use_by, use_at, struct_item, module_by, import_by, behind_word, item_at}
+use Rattle.lay_front.specs.Grammar.{SpellsName, SpellsPath, SpellsAll, SpellsMore, SpellsList, SpellsUseBy, SpellsUse, SpellsItemBy, SpellsItem}
+use Rattle.lay_front.specs.ReadingFunction.{Pieces, Got, ◌>>=◌, first, is_open_brace, is_close_brace, word, path_word, name, path_from, path, element_end, group_from, group, ends_items, all_from, all, use_by, use_at, struct_item, module_by, import_by, behind_word, item_at}
 use Rattle.lay_front.specs.declared.tree.Item.{Item, out-Item}
 use Rattle.lay_front.specs.declared.tree.Item.TheOpen as item
 use Rattle.lay_front.specs.declared.tree.Item.TheViews.{roll-Item, roll-out-Item, rolls-Struct, rolls-Module, rolls-Import}

@@ -1,12 +1,12 @@
 -- The reader's answer at a file is its one reading.
-use Rattle.std.proofs.Common.{◌≡◌, ℕ, Bool, true, false, List, [], ◌∷◌, Option, Some, None, refl, sym, ◌∙◌, ap, subst, if◌then◌else◌, inl, inr}
+use Rattle.std.proofs.Common.{◌≡◌, ℕ, true, List, [], ◌∷◌, Option, Some, None, refl, sym, ◌∙◌, ap, subst, if◌then◌else◌, inl, inr}
 use Rattle.lay_front.specs.Pieces.{Piece, ConsistsOf}
-use Rattle.lay_front.specs.Lexemes.{ConsistsOnlyOf, ArePieces}
+use Rattle.lay_front.specs.Lexemes.{ConsistsOnlyOf}
 use Rattle.lay_front.specs.Grammar.{SpellsItem, SpellsAll, SpellsFile}
-use Rattle.lay_front.specs.Reading.{Reads, HasNoReading, ReadsOnlyTo, IsReading}
-use Rattle.lay_front.specs.ReadingFunction.{Pieces, Got, ◌>>=◌, all, item_at, at_end, file}
+use Rattle.lay_front.specs.Reading.{Reads, HasNoReading, IsReading}
+use Rattle.lay_front.specs.ReadingFunction.{Pieces, all, item_at, at_end, file}
 use Rattle.lay_front.specs.declared.tree.Item.{Item}
-use Rattle.lay_front.proofs.Options.{got_same, chosen, bind_some}
+use Rattle.lay_front.proofs.Options.{chosen, bind_some}
 use Rattle.lay_front.proofs.Lengths.{item_shorter}
 use Rattle.lay_front.proofs.Sound.{all_sound, item_sound}
 use Rattle.lay_front.proofs.Complete.{all_complete, item_complete, item_opened}

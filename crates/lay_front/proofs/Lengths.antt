@@ -1,7 +1,7 @@
 -- What is spelled leaves fewer pieces.
-use Rattle.std.proofs.Common.{◌≡◌, ℕ, zero, suc, ◌+◌, ◌<◌, ◌≤◌, List, [], ◌∷◌, length, ◌⊎◌, inl, inr, refl, ap, arith}
-use Rattle.lay_front.specs.Pieces.{Piece, Word, Semicolon, Comma, OpenBrace, CloseBrace, Separator}
-use Rattle.lay_front.specs.Grammar.{SpellsName, SpellsPath, SpellsAll, SpellsMore, SpellsList, SpellsUseBy, SpellsUse, SpellsItemBy, SpellsItem}
+use Rattle.std.proofs.Common.{ℕ, zero, suc, ◌<◌, ◌≤◌, List, [], ◌∷◌, length, inl, inr, ap, arith}
+use Rattle.lay_front.specs.Pieces.{Piece, Semicolon, OpenBrace, CloseBrace}
+use Rattle.lay_front.specs.Grammar.{SpellsPath, SpellsAll, SpellsMore, SpellsList, SpellsUseBy, SpellsUse, SpellsItemBy, SpellsItem}
 use Rattle.lay_front.specs.declared.tree.Item.{Item, out-Item}
 use Rattle.lay_front.specs.declared.tree.Item.TheOpen as item
 use Rattle.lay_front.specs.declared.tree.UseTree.{UseTree, out-UseTree}

@@ -1,5 +1,5 @@
 -- What is read is spelled so.
-use Rattle.std.proofs.Common.{◌≡◌, ℕ, zero, suc, Bool, true, false, not, ◌&&◌, List, [], ◌∷◌, ◌++◌, length, codes, ◌⊎◌, inl, inr, Option, Some, None, refl, sym, ◌∙◌, ap, subst, append_assoc, append-nil, cond, if◌then◌else◌}
+use Rattle.std.proofs.Common.{◌≡◌, ℕ, zero, suc, Bool, true, List, [], ◌∷◌, ◌++◌, length, codes, ◌⊎◌, inl, inr, Option, Some, None, refl, sym, ◌∙◌, ap, subst, append_assoc, append-nil, if◌then◌else◌}
 use Rattle.std.specs.Str.{bytes_eq}
 use Rattle.std.proofs.lemmas.Slice.Eq.{bytes_eq-Decides}
 use Rattle.lay_front.specs.Pieces.{Piece, Word, Semicolon, Comma, OpenBrace, CloseBrace, Separator}
@@ -11,7 +11,7 @@ use Rattle.lay_front.specs.declared.tree.Item.TheViews.{outs-Struct, outs-Module
 use Rattle.lay_front.specs.declared.tree.UseTree.{UseTree, out-UseTree}
 use Rattle.lay_front.specs.declared.tree.UseTree.TheVariants as use_tree
 use Rattle.lay_front.specs.declared.tree.UseTree.TheViews.{outs-Name, outs-Group}
-use Rattle.lay_front.proofs.Options.{both_true, got_same, chosen, bind_some}
+use Rattle.lay_front.proofs.Options.{got_same, chosen, bind_some}
 
 -- ---- marks and words
 
@@ -252,7 +252,7 @@ module _ (Within : Item → Pieces → Pieces → Type 0) (Use : UseTree → Pie
       let i = all_sound within Within sound c.0 d.0.0 d.0.1 d.1 in
       let m = passed_is is_close_brace CloseBrace close_brace_is d.0.1 e.0 rest e.1 q.1 in
       let R : Pieces → Type 0 = λ us. SpellsAll Within d.0.0 c.0 us in
-      subst (Itemed (Word (codes "mod") ∷ ts) rest) q.0
+      subst (Itemed (Word (codes "mod") ∷ ts) rest) {x = item.Module b.0.0 d.0.0} q.0
       (rw (outs-Module b.0.0 d.0.0) (ts, c.0, refl, subst P (passed_is is_open_brace OpenBrace open_brace_is b.0.1 c.0 c.0 c.1 refl) n, subst R m i))
 
   item_by_sound : (within : Pieces → Got Item) (tree : Pieces → Got UseTree) → ((ts : Pieces) (x : Item) (rest : Pieces) → within ts ≡ Some (x, rest) → Within x ts rest)

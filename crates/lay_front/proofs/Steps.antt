@@ -1,7 +1,6 @@
 -- One step of a reader, from what the readers within it give.
-use Rattle.std.proofs.Common.{◌≡◌, ℕ, zero, suc, ◌+◌, ◌-◌, ◌<◌, ◌≤◌, Bool, true, false, List, [], ◌∷◌, length, ◌⊎◌, inl, inr, Option, Some, None, Result, Ok, Err, refl, sym, ◌∙◌, ap, arith, codes}
-use Rattle.lay_front.specs.Pieces.{Piece}
-use Rattle.lay_front.specs.ReadingFunction.{Pieces, Got, first, tail, is_open_brace, is_close_brace, path, element_end, group, use_at, word, struct_item, module_by, import_by, behind_word, item_at, IsGot}
+use Rattle.std.proofs.Common.{◌≡◌, ℕ, suc, ◌-◌, ◌<◌, ◌≤◌, true, false, List, length, inl, inr, Some, None, Result, refl, ◌∙◌, ap, arith, codes}
+use Rattle.lay_front.specs.ReadingFunction.{Pieces, Got, first, tail, is_open_brace, path, element_end, group, use_at, word, struct_item, module_by, import_by, behind_word, item_at, IsGot}
 use Rattle.lay_front.specs.declared.tree.Item.{Item}
 use Rattle.lay_front.specs.declared.tree.UseTree.{UseTree}
 use Rattle.lay_front.specs.declared.tree.UseTree.TheVariants as use_tree

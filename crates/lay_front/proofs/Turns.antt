@@ -1,10 +1,10 @@
 -- The loops of the reader, turn by turn: what reading gives is what the turns that are left make of what is found.
-use Rattle.std.proofs.Common.{◌≡◌, ℕ, zero, suc, ◌+◌, ◌-◌, ◌<◌, ◌≤◌, Bool, true, false, List, [], ◌∷◌, ◌++◌, length, Option, Some, None, Result, Ok, Err, refl, sym, ◌∙◌, ap, arith, if◌then◌else◌}
-use Rattle.lay_front.specs.Pieces.{Piece, Word, Semicolon, Comma, OpenBrace, CloseBrace, Separator}
-use Rattle.lay_front.specs.ReadingFunction.{Pieces, Got, IsGot, IsNamed, ◌>>=◌, either, first, tail, is_comma, is_close_brace, path_word, named, path_from, path, element_end, group_from, group, ends_items, all_from, all}
+use Rattle.std.proofs.Common.{◌≡◌, ℕ, zero, suc, ◌-◌, ◌<◌, true, false, List, [], ◌∷◌, ◌++◌, length, Some, None, Err, refl, ◌∙◌, ap, arith}
+use Rattle.lay_front.specs.Pieces.{Word, Separator}
+use Rattle.lay_front.specs.ReadingFunction.{Pieces, Got, IsGot, IsNamed, first, tail, is_close_brace, path_word, named, path_from, path, element_end, group_from, group, ends_items, all_from, all}
 use Rattle.lay_front.specs.declared.reader.Stop.{Stop}
 use Rattle.lay_front.specs.declared.reader.Stop.TheVariants.{NoReading, NoMemory}
-use Rattle.lay_front.proofs.Options.{got_same, chosen}
+use Rattle.lay_front.proofs.Options.{got_same}
 
 -- ---- paths
 

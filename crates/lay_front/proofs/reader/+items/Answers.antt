@@ -1,9 +1,8 @@
-use Rattle.std.proofs.Common.{◌≡◌, ℕ, suc, ◌-◌, ◌<◌, true, false, List, Some, None, Ok, Err, codes, sym, ap, ◌∙◌, rules, arith}
+use Rattle.std.proofs.Common.{◌≡◌, ◌-◌, ◌<◌, true, false, codes, sym, ap, ◌∙◌, arith}
 use Rattle.std.specs.Str.{bytes_eq}
-use Rattle.std.proofs.lemmas.Grind.{common_steps}
 use Rattle.std.proofs.lemmas.Result.{err_from_is_err_and}
-use Rattle.lay_front.specs.ReadingFunction.{ahead, ends_items, all, use_at, word, struct_item, module_by, import_by, item_at}
-use Rattle.lay_front.proofs.Turns.{AllTurn, all-start, all-step, all-end, all-none, lost}
+use Rattle.lay_front.specs.ReadingFunction.{ahead, all, use_at, struct_item, module_by, import_by, item_at}
+use Rattle.lay_front.proofs.Turns.{all-start, all-step, all-end, all-none, lost}
 use Rattle.lay_front.proofs.Steps.{item_shorter, item-struct, item-module, item-import, got_by}
 use Rattle.lay_front.proofs.reader.+items.Goals as goal
 

@@ -1,8 +1,7 @@
-use Rattle.std.proofs.Common.{◌≡◌, ℕ, suc, ◌-◌, ◌<◌, true, false, List, Some, None, Ok, Err, sym, ap, ◌∙◌, rules, arith}
-use Rattle.std.proofs.lemmas.Grind.{common_steps}
+use Rattle.std.proofs.Common.{◌≡◌, ◌-◌, ◌<◌, Some, sym, ap, ◌∙◌, arith}
 use Rattle.std.proofs.lemmas.Result.{err_from_is_err_and}
-use Rattle.lay_front.specs.ReadingFunction.{ahead, first, tail, is_close_brace, is_open_brace, element_end, path, group, use_at}
-use Rattle.lay_front.proofs.Turns.{GroupTurn, group-start, group-step, group-close, group-none, group-open, lost, deeper}
+use Rattle.lay_front.specs.ReadingFunction.{ahead, element_end, group, use_at}
+use Rattle.lay_front.proofs.Turns.{group-start, group-step, group-close, group-none, group-open, lost, deeper}
 use Rattle.lay_front.proofs.Steps.{element_shorter, use_group-none, use_group-some}
 use Rattle.lay_front.proofs.reader.+use_trees.Goals as goal
 

@@ -1,8 +1,7 @@
-use Rattle.std.proofs.Common.{◌≡◌, List, ℕ, Some, None, Ok, Err, sym, ap, rules}
-use Rattle.std.proofs.lemmas.Grind.{common_steps}
-use Rattle.lay_front.specs.ReadingFunction.{ahead, path, path_word, named, IsGot, IsNamed}
+use Rattle.std.proofs.Common.{◌≡◌, Some, sym}
+use Rattle.lay_front.specs.ReadingFunction.{ahead, path, path_word}
 use Rattle.std.proofs.lemmas.Result.{err_from_is_err_and}
-use Rattle.lay_front.proofs.Turns.{PathTurn, path-start, path-step, path-end, path-none, lost_name}
+use Rattle.lay_front.proofs.Turns.{path-start, path-step, path-end, path-none, lost_name}
 use Rattle.lay_front.proofs.reader.read_path.Goals as goal
 
 pub loop-word-init : goal.loop-word-init
