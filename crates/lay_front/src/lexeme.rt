@@ -81,17 +81,17 @@ fn word_length(bytes: &[u8]) -> usize
 fn is_blank(byte: u8) -> bool
     ensures { result ≡ is_blank byte }
 {
-    (9 <= byte && byte <= 13) || byte == b' '
+    matches!(byte, 9..=13 | b' ')
 }
 
 fn is_word_start(byte: u8) -> bool
     ensures { result ≡ is_word_start byte }
 {
-    (b'A' <= byte && byte <= b'Z') || ((b'a' <= byte && byte <= b'z') || byte == b'_')
+    matches!(byte, b'A'..=b'Z' | b'a'..=b'z' | b'_')
 }
 
 fn is_word_byte(byte: u8) -> bool
     ensures { result ≡ is_word_byte byte }
 {
-    is_word_start(byte) || (b'0' <= byte && byte <= b'9')
+    is_word_start(byte) || matches!(byte, b'0'..=b'9')
 }
