@@ -192,16 +192,7 @@ fn name_of(alloc: Global, word: &[u8]) -> Result<Text, Stop>
 fn is_name(word: &[u8]) -> bool
     ensures { result ≡ grammar.is_name word.now }
 {
-    word != b"_".as_slice() && is_plain(word_class(word))
-}
-
-fn is_plain(class: Class) -> bool
-    ensures { result ≡ grammar.is_plain class }
-{
-    match class {
-        Class::Plain => true,
-        _ => false,
-    }
+    word != b"_".as_slice() && matches!(word_class(word), Class::Plain)
 }
 
 // Adds an item at the end.
@@ -310,10 +301,7 @@ impl<'a> Cursor<'a> {
     fn is_at_close_brace(&self) -> bool
         ensures { result ≡ first spec.is_close_brace (ahead self.now) }
     {
-        match self.ahead {
-            [Lexeme::CloseBrace, ..] => true,
-            _ => false,
-        }
+        matches!(self.ahead, [Lexeme::CloseBrace, ..])
     }
 
     // Behind an element of a list a `,` is passed, and where there is none a `}` stands.
@@ -327,21 +315,14 @@ impl<'a> Cursor<'a> {
     fn is_at_end(&self) -> bool
         ensures { result ≡ spec.at_end (ahead self.now) }
     {
-        match self.ahead {
-            [] => true,
-            _ => false,
-        }
+        self.ahead.is_empty()
     }
 
     // Items end where no lexeme is left, and before a `}`.
     fn ends_items(&self) -> bool
         ensures { result ≡ spec.ends_items (ahead self.now) }
     {
-        match self.ahead {
-            [] => true,
-            [Lexeme::CloseBrace, ..] => true,
-            _ => false,
-        }
+        matches!(self.ahead, [] | [Lexeme::CloseBrace, ..])
     }
 }
 
