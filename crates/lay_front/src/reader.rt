@@ -31,14 +31,8 @@ fn read_lexemes(alloc: Global, lexemes: &[Lexeme<'_>]) -> Result<Option<List<Ite
 {
     let mut at = Cursor { ahead: lexemes };
     match read_items(alloc, &mut at, DEPTH) {
-        Ok(items) => {
-            if at.is_at_end() {
-                Ok(Some(items))
-            } else {
-                Ok(None)
-            }
-        }
-        Err(Stop::NoReading) => Ok(None),
+        Ok(items) if at.is_at_end() => Ok(Some(items)),
+        Ok(_) | Err(Stop::NoReading) => Ok(None),
         Err(Stop::NoMemory) => Err(NoMemory),
     }
 }
