@@ -1,8 +1,8 @@
 -- What is spelled is read.
-use Rattle.std.proofs.Common.{◌≡◌, ℕ, zero, suc, ◌<◌, Bool, true, false, List, [], ◌∷◌, ◌++◌, length, ◌⊎◌, inl, inr, Some, None, refl, ◌∙◌, ap, append_assoc, append-nil, arith}
-use Rattle.lay_front.specs.Pieces.{Piece, Word, Semicolon, Comma, OpenBrace, CloseBrace, Separator}
+use Rattle.std.proofs.Common.{◌≡◌, ℕ, zero, suc, ◌<◌, true, false, List, [], ◌∷◌, ◌++◌, length, ◌⊎◌, inl, inr, Some, None, refl, ◌∙◌, ap, append_assoc, append-nil, arith}
+use Rattle.lay_front.specs.Pieces.{Word, Semicolon, Comma, OpenBrace, CloseBrace, Separator}
 use Rattle.lay_front.specs.Grammar.{SpellsName, SpellsPath, SpellsAll, SpellsMore, SpellsList, SpellsUseBy, SpellsUse, SpellsItemBy, SpellsItem}
-use Rattle.lay_front.specs.ReadingFunction.{Pieces, Got, ◌>>=◌, first, is_open_brace, is_close_brace, word, path_word, name, path_from, path, element_end, group_from, group, ends_items, all_from, all, use_by, use_at, struct_item, module_by, import_by, behind_word, item_at}
+use Rattle.lay_front.specs.ReadingFunction.{Pieces, Got, ◌>>=◌, first, is_open_brace, is_close_brace, is_separator, word, path_word, name, path_from, path, element_end, group_from, group, ends_items, all_from, all, use_by, use_at, struct_item, module_by, import_by, behind_word, item_at}
 use Rattle.lay_front.specs.declared.tree.Item.{Item, out-Item}
 use Rattle.lay_front.specs.declared.tree.Item.TheOpen as item
 use Rattle.lay_front.specs.declared.tree.Item.TheViews.{roll-Item, roll-out-Item, rolls-Struct, rolls-Module, rolls-Import}
@@ -10,10 +10,6 @@ use Rattle.lay_front.specs.declared.tree.UseTree.{UseTree, out-UseTree}
 use Rattle.lay_front.specs.declared.tree.UseTree.TheOpen as use_tree
 use Rattle.lay_front.specs.declared.tree.UseTree.TheViews.{roll-UseTree, roll-out-UseTree, rolls-Name, rolls-Group}
 use Rattle.lay_front.proofs.Lengths.{use_shorter, item_shorter}
-
-abbrev is_separator : Piece → Bool
-is_separator Separator = true
-is_separator _ = false
 
 -- no `::` follows
 abbrev pub MayFollow : Pieces → Type 0

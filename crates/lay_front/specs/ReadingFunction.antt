@@ -50,6 +50,19 @@ abbrev pub is_close_brace : Piece → Bool
 is_close_brace CloseBrace = true
 is_close_brace _ = false
 
+abbrev pub is_separator : Piece → Bool
+is_separator Separator = true
+is_separator _ = false
+
+-- the second piece is the mark that the first is; a word is no mark
+abbrev pub is_mark : Piece → Piece → Bool
+is_mark (Word w) t = false
+is_mark Semicolon t = is_semicolon t
+is_mark Comma t = is_comma t
+is_mark OpenBrace t = is_open_brace t
+is_mark CloseBrace t = is_close_brace t
+is_mark Separator t = is_separator t
+
 abbrev pub first : (Piece → Bool) → Pieces → Bool
 first p [] = false
 first p (t ∷ ts) = p t

@@ -77,7 +77,7 @@ fn read_struct(alloc: Global, at: &mut Cursor<'_>) -> Result<Item, Stop>
     ensures { IsGot (spec.struct_item (ahead at.old)) result (ahead at.new) }
 {
     let name = read_name(alloc, at)?;
-    if at.takes_semicolon() {
+    if at.takes(Lexeme::Semicolon) {
         Ok(Item::Struct { name })
     } else {
         Err(Stop::NoReading)
@@ -91,11 +91,11 @@ fn read_module(alloc: Global, at: &mut Cursor<'_>, depth: u32) -> Result<Item, S
     ensures { IsGot (spec.module_by (spec.item_at depth) (ahead at.old)) result (ahead at.new) }
 {
     let name = read_name(alloc, at)?;
-    if !at.takes_open_brace() {
+    if !at.takes(Lexeme::OpenBrace) {
         return Err(Stop::NoReading);
     }
     let items = read_items(alloc, at, depth)?;
-    if at.takes_close_brace() {
+    if at.takes(Lexeme::CloseBrace) {
         Ok(Item::Module { name, items })
     } else {
         Err(Stop::NoReading)
@@ -107,7 +107,7 @@ fn read_import(alloc: Global, at: &mut Cursor<'_>, depth: u32) -> Result<Item, S
     ensures { IsGot (spec.import_by (spec.use_at depth) (ahead at.old)) result (ahead at.new) }
 {
     let tree = read_use_tree(alloc, at, depth)?;
-    if at.takes_semicolon() {
+    if at.takes(Lexeme::Semicolon) {
         Ok(Item::Import { tree })
     } else {
         Err(Stop::NoReading)
@@ -123,7 +123,7 @@ fn read_use_tree(alloc: Global, at: &mut Cursor<'_>, depth: u32) -> Result<UseTr
         return Err(Stop::NoReading);
     }
     let path = read_path(alloc, at)?;
-    if at.takes_open_brace() {
+    if at.takes(Lexeme::OpenBrace) {
         let trees = read_group(alloc, at, depth - 1)?;
         Ok(UseTree::Group { path, trees })
     } else {
@@ -138,7 +138,7 @@ fn read_group(alloc: Global, at: &mut Cursor<'_>, depth: u32) -> Result<List<Use
     ensures { IsGot (spec.group (spec.use_at depth) (ahead at.old)) result (ahead at.new) }
 {
     let mut trees = List::new(alloc);
-    while !at.takes_close_brace() {
+    while !at.takes(Lexeme::CloseBrace) {
         let tree = read_use_tree(alloc, at, depth)?;
         keep(&mut trees, tree)?;
         if !at.takes_element_end() {
@@ -203,8 +203,24 @@ fn keep<T: Drop>(list: &mut List<T>, item: T) -> Result<(), Stop>
 // Why nothing was read.
 #[derive(Clone, Copy, Debug)]
 enum Stop {
+    // The lexemes ahead spell nothing of the kind.
     NoReading,
+    // Memory was not found, which says nothing of the lexemes.
     NoMemory,
+}
+
+// Whether the lexeme is this mark. A word is no mark.
+fn is_mark(mark: Lexeme<'_>, lexeme: Lexeme<'_>) -> bool
+    ensures { result ≡ spec.is_mark (seen mark.entry) (seen lexeme.entry) }
+{
+    matches!(
+        (mark, lexeme),
+        (Lexeme::Semicolon, Lexeme::Semicolon)
+            | (Lexeme::Comma, Lexeme::Comma)
+            | (Lexeme::OpenBrace, Lexeme::OpenBrace)
+            | (Lexeme::CloseBrace, Lexeme::CloseBrace)
+            | (Lexeme::Separator, Lexeme::Separator)
+    )
 }
 
 // A place in a text: the lexemes ahead.
@@ -214,6 +230,7 @@ struct Cursor<'a> {
 }
 
 impl<'a> Cursor<'a> {
+    // The word at the front, with it passed.
     fn take_word(&mut self) -> Option<&'a [u8]>
         ensures { option_map (λ word. (word.now, ahead self.new)) result ≡ spec.word (ahead self.old) }
     {
@@ -240,51 +257,13 @@ impl<'a> Cursor<'a> {
         }
     }
 
-    fn takes_semicolon(&mut self) -> bool
-        ensures found { result ≡ first spec.is_semicolon (ahead self.old) }
+    // Passes the mark, if it stands at the front.
+    fn takes(&mut self, mark: Lexeme<'_>) -> bool
+        ensures found { result ≡ first (spec.is_mark (seen mark.entry)) (ahead self.old) }
         ensures passed { ahead self.new ≡ (if result then tail (ahead self.old) else ahead self.old) }
     {
         match self.ahead {
-            [Lexeme::Semicolon, rest @ ..] => {
-                self.ahead = rest;
-                true
-            }
-            _ => false,
-        }
-    }
-
-    fn takes_comma(&mut self) -> bool
-        ensures found { result ≡ first spec.is_comma (ahead self.old) }
-        ensures passed { ahead self.new ≡ (if result then tail (ahead self.old) else ahead self.old) }
-    {
-        match self.ahead {
-            [Lexeme::Comma, rest @ ..] => {
-                self.ahead = rest;
-                true
-            }
-            _ => false,
-        }
-    }
-
-    fn takes_open_brace(&mut self) -> bool
-        ensures found { result ≡ first spec.is_open_brace (ahead self.old) }
-        ensures passed { ahead self.new ≡ (if result then tail (ahead self.old) else ahead self.old) }
-    {
-        match self.ahead {
-            [Lexeme::OpenBrace, rest @ ..] => {
-                self.ahead = rest;
-                true
-            }
-            _ => false,
-        }
-    }
-
-    fn takes_close_brace(&mut self) -> bool
-        ensures found { result ≡ first spec.is_close_brace (ahead self.old) }
-        ensures passed { ahead self.new ≡ (if result then tail (ahead self.old) else ahead self.old) }
-    {
-        match self.ahead {
-            [Lexeme::CloseBrace, rest @ ..] => {
+            [front, rest @ ..] if is_mark(mark, *front) => {
                 self.ahead = rest;
                 true
             }
@@ -302,7 +281,7 @@ impl<'a> Cursor<'a> {
     fn takes_element_end(&mut self) -> bool
         ensures { (if result then Some (ahead self.new) else None) ≡ spec.element_end (ahead self.old) }
     {
-        self.takes_comma() || self.is_at_close_brace()
+        self.takes(Lexeme::Comma) || self.is_at_close_brace()
     }
 
     // Whether no lexeme is left.
@@ -365,15 +344,15 @@ mod tests {
                 },
             ] => {
                 name.as_bytes() == b"a".as_slice()
-                    && holds_module(inside.as_slice())
+                    && is_module_inside(inside.as_slice())
                     && is_path(path.as_slice(), b"d", b"e")
-                    && are_trees(trees.as_slice())
+                    && is_group_inside(trees.as_slice())
             }
             _ => false,
         }
     }
 
-    fn holds_module(items: &[Item]) -> bool {
+    fn is_module_inside(items: &[Item]) -> bool {
         match items {
             [
                 Item::Struct { name },
@@ -397,7 +376,7 @@ mod tests {
         }
     }
 
-    fn are_trees(trees: &[UseTree]) -> bool {
+    fn is_group_inside(trees: &[UseTree]) -> bool {
         match trees {
             [
                 UseTree::Name { path, name },
@@ -409,13 +388,13 @@ mod tests {
                 path.as_slice().is_empty()
                     && name.as_bytes() == b"f".as_slice()
                     && group_path.as_slice().len() == 1
-                    && is_last(inside.as_slice())
+                    && is_inner_group(inside.as_slice())
             }
             _ => false,
         }
     }
 
-    fn is_last(trees: &[UseTree]) -> bool {
+    fn is_inner_group(trees: &[UseTree]) -> bool {
         match trees {
             [UseTree::Name { path, name }] => {
                 path.as_slice().is_empty() && name.as_bytes() == b"h".as_slice()

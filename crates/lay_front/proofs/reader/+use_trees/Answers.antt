@@ -14,7 +14,7 @@ read_group-returns-in_err-tree t c =
     let whole = group within (ahead c.args.at.now) in
     let here = ap within (sym c.loop-alloc-test.ensures.passed) in
     let p = err_from_is_err_and c.from_residual.result c.from_residual.ensures.1 in
-    rw (p.1, p.2) (lost (within (ahead c.takes_close_brace.new.self)) whole c.in_err-tree.field-0.0 (ahead c.read_use_tree.new.at) (ahead c.read_use_tree.new.at) c.in_err-tree.ensures
+    rw (p.1, p.2) (lost (within (ahead c.takes.new.self)) whole c.in_err-tree.field-0.0 (ahead c.read_use_tree.new.at) (ahead c.read_use_tree.new.at) c.in_err-tree.ensures
     (λ none. group-none within whole c.loop-alloc.trees (ahead c.loop-alloc.at) c.loop-alloc.invariant (sym c.loop-alloc-test.ensures.found) (here ∙ none)))
 
 pub read_group-returns-then-not-takes_element_end : goal.read_group-returns-then-not-takes_element_end
@@ -48,16 +48,16 @@ pub read_use_tree-returns-in_err-trees : goal.read_use_tree-returns-in_err-trees
 read_use_tree-returns-in_err-trees t c =
     let within = use_at (c.args.depth - 1) in
     let some : 0 < c.args.depth = omega arith in
-    let at = ap (group within) (sym c.if-takes_open_brace.ensures.passed) in
+    let at = ap (group within) (sym c.if-takes.ensures.passed) in
     let p = err_from_is_err_and c.from_residual-in_err-trees.result c.from_residual-in_err-trees.ensures.1 in
     rw (p.1, p.2)
-    (lost (group within (ahead c.takes_open_brace.new.self)) (use_at c.args.depth (ahead c.args.at.now)) c.in_err-trees.field-0.0 (ahead c.read_group.new.at) (ahead c.read_group.new.at) c.in_err-trees.ensures
-    (λ none. deeper (λ n. use_at n (ahead c.args.at.now)) c.args.depth some ∙ use_group-none (c.args.depth - 1) (ahead c.args.at.now) c.in_ok-path.path (ahead c.read_path.new.at) c.in_ok-path.ensures (sym c.if-takes_open_brace.ensures.found) (at ∙ none)))
+    (lost (group within (ahead c.takes.new.self)) (use_at c.args.depth (ahead c.args.at.now)) c.in_err-trees.field-0.0 (ahead c.read_group.new.at) (ahead c.read_group.new.at) c.in_err-trees.ensures
+    (λ none. deeper (λ n. use_at n (ahead c.args.at.now)) c.args.depth some ∙ use_group-none (c.args.depth - 1) (ahead c.args.at.now) c.in_ok-path.path (ahead c.read_path.new.at) c.in_ok-path.ensures (sym c.if-takes.ensures.found) (at ∙ none)))
 
 pub read_use_tree-returns-in_ok-trees : goal.read_use_tree-returns-in_ok-trees
 read_use_tree-returns-in_ok-trees t c =
     let within = use_at (c.args.depth - 1) in
     let some : 0 < c.args.depth = omega arith in
-    let at = ap (group within) (sym c.if-takes_open_brace.ensures.passed) in
+    let at = ap (group within) (sym c.if-takes.ensures.passed) in
     rw (deeper (λ n. use_at n (ahead c.args.at.now)) c.args.depth some)
-    (use_group-some (c.args.depth - 1) (ahead c.args.at.now) c.in_ok-path.path (ahead c.read_path.new.at) c.in_ok-trees.trees (ahead c.read_group.new.at) c.in_ok-path.ensures (sym c.if-takes_open_brace.ensures.found) (at ∙ c.in_ok-trees.ensures))
+    (use_group-some (c.args.depth - 1) (ahead c.args.at.now) c.in_ok-path.path (ahead c.read_path.new.at) c.in_ok-trees.trees (ahead c.read_group.new.at) c.in_ok-path.ensures (sym c.if-takes.ensures.found) (at ∙ c.in_ok-trees.ensures))
