@@ -5,3 +5,5 @@ pub mod Notation
 pub mod Layout
 pub mod Outcome
 pub mod Waiting
+pub mod Lexemes
+pub mod ReadingFunction

@@ -1,0 +1,122 @@
+-- The loops of the reader, turn by turn: what reading gives is what the turns that are left make of what is found.
+use Rattle.std.proofs.Common.{◌≡◌, ℕ, zero, suc, ◌-◌, ◌<◌, ◌≤◌, true, false, List, [], ◌∷◌, ◌++◌, length, Some, None, Err, refl, ◌∙◌, ap, arith}
+use Rattle.lay_front.specs.Pieces.{Word, Separator}
+use Rattle.lay_front.specs.ReadingFunction.{Pieces, Got, IsGot, IsNamed, first, tail, is_close_brace, path_word, named, path_from, path, element_end, group_from, group, ends_items, all_from, all}
+use Rattle.lay_front.specs.declared.reader.Stop.{Stop}
+use Rattle.lay_front.specs.declared.reader.Stop.TheVariants.{NoReading, NoMemory}
+use Rattle.lay_front.proofs.Options.{got_same}
+
+-- ---- paths
+
+-- So many turns after this one suffice.
+pub record PathTurn (whole : Got (List (List ℕ))) (found : List (List ℕ)) (ts : Pieces) : Type 0 where
+  pub turns : ℕ
+  pub enough : length ts ≤ turns
+  pub same : whole ≡ path_from (suc turns) found ts
+
+pub path-start : (ts : Pieces) → PathTurn (path ts) [] ts
+unfolding path
+path-start ts = record { turns = length ts; enough = omega arith; same = refl }
+
+path_turn : (n : ℕ) (whole : Got (List (List ℕ))) (found : List (List ℕ)) (ts : Pieces) → length ts < n → whole ≡ path_from n found ts → PathTurn whole found ts
+path_turn zero whole found ts lt e = absurd (omega arith)
+path_turn (suc n) whole found ts lt e = record { turns = n; enough = omega arith; same = e }
+
+path_word_shorter : (ts : Pieces) (w : List ℕ) (rest : Pieces) → path_word ts ≡ Some (w, rest) → length rest < length ts
+path_word_shorter (Word v ∷ Separator ∷ ts) w rest h = let e = (got_same v w ts rest h).1 in omega (arith, ap length e)
+path_word_shorter _ w rest h = absurd (cc)
+
+pub path-step : (whole : Got (List (List ℕ))) (found : List (List ℕ)) (ts : Pieces) (w one : List ℕ) (rest : Pieces) → PathTurn whole found ts
+    → path_word ts ≡ Some (w, rest) → named w ≡ Some one → PathTurn whole (found ++ one ∷ []) rest
+unfolding path_from
+path-step whole found ts w one rest t h g =
+    let less : length rest < t.turns = omega (arith, path_word_shorter ts w rest h) in
+    path_turn t.turns whole (found ++ one ∷ []) rest less (t.same ∙ rw (h, g) refl)
+
+pub path-end : (whole : Got (List (List ℕ))) (found : List (List ℕ)) (ts : Pieces) → PathTurn whole found ts → path_word ts ≡ None → whole ≡ Some (found, ts)
+unfolding path_from
+path-end whole found ts t h = t.same ∙ rw h refl
+
+pub path-none : (whole : Got (List (List ℕ))) (found : List (List ℕ)) (ts : Pieces) (w : List ℕ) (rest : Pieces) → PathTurn whole found ts
+    → path_word ts ≡ Some (w, rest) → named w ≡ None → whole ≡ None
+unfolding path_from
+path-none whole found ts w rest t h g = t.same ∙ rw (h, g) refl
+
+module _ {A : Type 0} (element : Pieces → Got A) where
+  -- ---- groups
+
+  pub record GroupTurn (whole : Got (List A)) (found : List A) (ts : Pieces) : Type 0 where
+    pub turns : ℕ
+    pub enough : length ts ≤ turns
+    pub same : whole ≡ group_from element (suc turns) found ts
+
+  pub group-start : (ts : Pieces) → GroupTurn (group element ts) [] ts
+  unfolding group
+  group-start ts = record { turns = length ts; enough = omega arith; same = refl }
+
+  group_turn : (n : ℕ) (whole : Got (List A)) (found : List A) (ts : Pieces) → length ts < n → whole ≡ group_from element n found ts → GroupTurn whole found ts
+  group_turn zero whole found ts lt e = absurd (omega arith)
+  group_turn (suc n) whole found ts lt e = record { turns = n; enough = omega arith; same = e }
+
+  pub group-step : (whole : Got (List A)) (found : List A) (ts : Pieces) (x : A) (mid behind : Pieces) → GroupTurn whole found ts → first is_close_brace ts ≡ false
+      → element ts ≡ Some (x, mid) → element_end mid ≡ Some behind → length behind < length ts → GroupTurn whole (found ++ x ∷ []) behind
+  unfolding group_from
+  group-step whole found ts x mid behind t c h g less =
+      let fewer : length behind < t.turns = omega arith in group_turn t.turns whole (found ++ x ∷ []) behind fewer (t.same ∙ rw (c, h, g) refl)
+
+  pub group-close : (whole : Got (List A)) (found : List A) (ts : Pieces) → GroupTurn whole found ts → first is_close_brace ts ≡ true → whole ≡ Some (found, tail ts)
+  unfolding group_from
+  group-close whole found ts t c = t.same ∙ rw c refl
+
+  pub group-none : (whole : Got (List A)) (found : List A) (ts : Pieces) → GroupTurn whole found ts → first is_close_brace ts ≡ false → element ts ≡ None → whole ≡ None
+  unfolding group_from
+  group-none whole found ts t c h = t.same ∙ rw (c, h) refl
+
+  pub group-open : (whole : Got (List A)) (found : List A) (ts : Pieces) (x : A) (mid : Pieces) → GroupTurn whole found ts → first is_close_brace ts ≡ false
+      → element ts ≡ Some (x, mid) → element_end mid ≡ None → whole ≡ None
+  unfolding group_from
+  group-open whole found ts x mid t c h g = t.same ∙ rw (c, h, g) refl
+
+  -- ---- elements up to where items end
+
+  pub record AllTurn (whole : Got (List A)) (found : List A) (ts : Pieces) : Type 0 where
+    pub turns : ℕ
+    pub enough : length ts ≤ turns
+    pub same : whole ≡ all_from element (suc turns) found ts
+
+  pub all-start : (ts : Pieces) → AllTurn (all element ts) [] ts
+  unfolding all
+  all-start ts = record { turns = length ts; enough = omega arith; same = refl }
+
+  all_turn : (n : ℕ) (whole : Got (List A)) (found : List A) (ts : Pieces) → length ts < n → whole ≡ all_from element n found ts → AllTurn whole found ts
+  all_turn zero whole found ts lt e = absurd (omega arith)
+  all_turn (suc n) whole found ts lt e = record { turns = n; enough = omega arith; same = e }
+
+  pub all-step : (whole : Got (List A)) (found : List A) (ts : Pieces) (x : A) (behind : Pieces) → AllTurn whole found ts → ends_items ts ≡ false
+      → element ts ≡ Some (x, behind) → length behind < length ts → AllTurn whole (found ++ x ∷ []) behind
+  unfolding all_from
+  all-step whole found ts x behind t c h less =
+      let fewer : length behind < t.turns = omega arith in all_turn t.turns whole (found ++ x ∷ []) behind fewer (t.same ∙ rw (c, h) refl)
+
+  pub all-end : (whole : Got (List A)) (found : List A) (ts : Pieces) → AllTurn whole found ts → ends_items ts ≡ true → whole ≡ Some (found, ts)
+  unfolding all_from
+  all-end whole found ts t c = t.same ∙ rw c refl
+
+  pub all-none : (whole : Got (List A)) (found : List A) (ts : Pieces) → AllTurn whole found ts → ends_items ts ≡ false → element ts ≡ None → whole ≡ None
+  unfolding all_from
+  all-none whole found ts t c h = t.same ∙ rw (c, h) refl
+
+-- ---- depths
+
+pub deeper : {X : Type 0} (f : ℕ → X) (n : ℕ) → 0 < n → f n ≡ f (suc (n - 1))
+deeper f n some = let e : n ≡ suc (n - 1) = omega arith in ap f e
+
+-- ---- what stops a reader
+
+pub lost : {A B : Type 0} (inner : Got A) (outer : Got B) (stop : Stop) (left after : Pieces) → IsGot inner (Err stop) left → (inner ≡ None → outer ≡ None) → IsGot outer (Err stop) after
+lost inner outer NoReading left after h f = f h
+lost inner outer NoMemory left after h f = tt
+
+pub lost_name : {B : Type 0} (w : List ℕ) (outer : Got B) (stop : Stop) (after : Pieces) → IsNamed w (Err stop) → (named w ≡ None → outer ≡ None) → IsGot outer (Err stop) after
+lost_name w outer NoReading after h f = f h
+lost_name w outer NoMemory after h f = tt
