@@ -1,6 +1,7 @@
 //! The top call: bytes in, laid-out bytes out.
 #![tactic(auto)]
 
+pub mod layout;
 pub mod tree;
 
 pub use tree::{Item, UseTree};

@@ -1,0 +1,306 @@
+//! How trees are laid out, fed to an [`Emit`] token by token.
+ghost use Rattle.std.specs.Prelude.{◌≡◌, [], map, codes, IfOk};
+ghost use Rattle.lay_token.specs.Document.{stream, Empty, text_of};
+ghost use Rattle.lay_stream.specs.Fed.{Did};
+ghost use Rattle.lay_front.specs.Notation.{further, list_layout, part_lines, body_layout};
+ghost use Rattle.lay_front.specs.Layout.{path_layout, use_layout, item_layout, item_line};
+
+use crate::tree::{Item, UseTree};
+use lay_stream::{Emit, Stream, plain};
+use lay_token::{Break, Mark, NoMemory, Text};
+use std::alloc::Global;
+
+/// A break of no blanks.
+const SOFT_BREAK: Break = Break {
+    offset: 0,
+    blank: 0,
+    before: Mark::Absent,
+    after: Mark::Absent,
+    instead: Mark::Absent,
+    never: false,
+};
+
+/// A break of one blank.
+const SPACE_BREAK: Break = Break {
+    offset: 0,
+    blank: 1,
+    before: Mark::Absent,
+    after: Mark::Absent,
+    instead: Mark::Absent,
+    never: false,
+};
+
+/// A break that is always a newline, since no space is as great as its blanks are many.
+const HARD_BREAK: Break = Break {
+    offset: 0,
+    blank: 65535,
+    before: Mark::Absent,
+    after: Mark::Absent,
+    instead: Mark::Absent,
+    never: false,
+};
+
+/// A break that is never a newline, and at which a measure ends.
+const NEVER_BREAK: Break = Break {
+    offset: 0,
+    blank: 0,
+    before: Mark::Absent,
+    after: Mark::Absent,
+    instead: Mark::Absent,
+    never: true,
+};
+
+/// The newline before the brace that closes a body: one step back.
+const CLOSING_HARD_BREAK: Break = Break {
+    offset: -4,
+    blank: 65535,
+    before: Mark::Absent,
+    after: Mark::Absent,
+    instead: Mark::Absent,
+    never: false,
+};
+
+/// The break before what closes a list: one step back, with a `,` before the newline.
+const COMMA_CLOSING_BREAK: Break = Break {
+    offset: -4,
+    blank: 0,
+    before: Mark::Comma,
+    after: Mark::Absent,
+    instead: Mark::Absent,
+    never: false,
+};
+
+/// The text of an item that stands on a line of its own.
+pub fn item_text(alloc: Global, item: &Item) -> Result<Text, NoMemory>
+    ensures { IfOk result (λ t. t ≡ text_of (item_line item.now)) }
+{
+    let mut stream = Stream::new(alloc);
+    put_item(&mut stream, item)?;
+    stream.brk(HARD_BREAK)?;
+    plain(alloc, &stream)
+}
+
+/// Feeds the layout of an item.
+#[cycle(put_item)]
+pub fn put_item<E: Emit>(out: &mut E, item: &Item) -> Result<(), E::Fault>
+    ensures { Did E.meanings out.old (stream (item_layout item.now)) result out.new }
+{
+    out.begin(false, 0)?;
+    match item {
+        Item::Struct { name } => {
+            out.text(b"struct ")?;
+            out.text(name.as_bytes())?;
+            out.end()?;
+            out.text(b";")
+        }
+        Item::Module { name, items } => {
+            out.text(b"mod ")?;
+            out.text(name.as_bytes())?;
+            out.end()?;
+            put_body(out, items.as_slice())
+        }
+        Item::Import { tree } => {
+            out.text(b"use ")?;
+            put_use(out, tree)?;
+            out.end()?;
+            out.text(b";")
+        }
+    }
+}
+
+/// Items in braces, each on a line of its own.
+#[cycle(put_item)]
+fn put_body<E: Emit>(out: &mut E, items: &[Item]) -> Result<(), E::Fault>
+    ensures { Did E.meanings out.old (stream (body_layout (map item_layout items.now))) result out.new }
+{
+    if items.is_empty() {
+        return out.text(b" {}");
+    }
+    out.text(b" {")?;
+    out.brk(NEVER_BREAK)?;
+    out.begin(true, 4)?;
+    put_lines(out, items)?;
+    out.brk(CLOSING_HARD_BREAK)?;
+    out.end()?;
+    out.text(b"}")
+}
+
+/// Items, each behind a newline.
+#[cycle(put_item)]
+fn put_lines<E: Emit>(out: &mut E, items: &[Item]) -> Result<(), E::Fault>
+    ensures { Did E.meanings out.old (stream (part_lines (map item_layout items.now) Empty)) result out.new }
+{
+    for item in items {
+        out.brk(HARD_BREAK)?;
+        put_item(out, item)?;
+    }
+    Ok(())
+}
+
+/// Feeds the layout of a use tree.
+#[cycle(put_use)]
+pub fn put_use<E: Emit>(out: &mut E, tree: &UseTree) -> Result<(), E::Fault>
+    ensures { Did E.meanings out.old (stream (use_layout tree.now)) result out.new }
+{
+    match tree {
+        UseTree::Name { path, name } => {
+            put_path(out, path.as_slice())?;
+            out.text(name.as_bytes())
+        }
+        UseTree::Group { path, trees } => {
+            put_path(out, path.as_slice())?;
+            put_use_list(out, trees.as_slice())
+        }
+    }
+}
+
+/// Use trees in braces: on one line, or each on its own with a `,` behind the last of them.
+#[cycle(put_use)]
+fn put_use_list<E: Emit>(out: &mut E, trees: &[UseTree]) -> Result<(), E::Fault>
+    ensures { Did E.meanings out.old (stream (list_layout (codes "{") (codes "}") (map use_layout trees.now))) result out.new }
+{
+    match trees {
+        [] => out.text(b"{}"),
+        [first, rest @ ..] => {
+            out.begin(true, 4)?;
+            out.text(b"{")?;
+            out.brk(SOFT_BREAK)?;
+            put_use(out, first)?;
+            put_further(out, rest)?;
+            out.brk(COMMA_CLOSING_BREAK)?;
+            out.text(b"}")?;
+            out.end()
+        }
+    }
+}
+
+/// The use trees of a list behind its first one.
+#[cycle(put_use)]
+fn put_further<E: Emit>(out: &mut E, trees: &[UseTree]) -> Result<(), E::Fault>
+    ensures { Did E.meanings out.old (stream (further (map use_layout trees.now) Empty)) result out.new }
+{
+    for tree in trees {
+        out.text(b",")?;
+        out.brk(SPACE_BREAK)?;
+        put_use(out, tree)?;
+    }
+    Ok(())
+}
+
+/// Names, each with a `::` behind it.
+fn put_path<E: Emit>(out: &mut E, names: &[Text]) -> Result<(), E::Fault>
+    ensures { Did E.meanings out.old (stream (path_layout names.now Empty)) result out.new }
+{
+    for name in names {
+        out.text(name.as_bytes())?;
+        out.text(b"::")?;
+    }
+    Ok(())
+}
+
+#[cfg(test)]
+mod tests {
+    use super::*;
+    use lay_token::List;
+    use std::test::Fail;
+
+    fn structure(alloc: Global, name: &[u8]) -> Result<Item, NoMemory> {
+        let name = Text::from_bytes(alloc, name)?;
+        Ok(Item::Struct { name })
+    }
+
+    fn module(alloc: Global, name: &[u8], items: List<Item>) -> Result<Item, NoMemory> {
+        let name = Text::from_bytes(alloc, name)?;
+        Ok(Item::Module { name, items })
+    }
+
+    fn named(alloc: Global, name: &[u8]) -> Result<UseTree, NoMemory> {
+        let name = Text::from_bytes(alloc, name)?;
+        Ok(UseTree::Name {
+            path: List::new(alloc),
+            name,
+        })
+    }
+
+    fn grouped(alloc: Global, name: &[u8], trees: List<UseTree>) -> Result<UseTree, NoMemory> {
+        let name = Text::from_bytes(alloc, name)?;
+        let path = with(List::new(alloc), name)?;
+        Ok(UseTree::Group { path, trees })
+    }
+
+    fn with<T: Drop>(list: List<T>, item: T) -> Result<List<T>, NoMemory> {
+        let mut list = list;
+        match list.push(item) {
+            Ok(()) => Ok(list),
+            Err(_) => Err(NoMemory),
+        }
+    }
+
+    fn names(alloc: Global, names: &[&[u8]]) -> Result<List<UseTree>, NoMemory> {
+        let mut list = List::new(alloc);
+        for name in names {
+            list = with(list, named(alloc, name)?)?;
+        }
+        Ok(list)
+    }
+
+    fn import(alloc: Global, trees: List<UseTree>) -> Result<Text, NoMemory> {
+        let tree = grouped(alloc, b"a", trees)?;
+        item_text(alloc, &Item::Import { tree })
+    }
+
+    fn module_of(alloc: Global, items: List<Item>) -> Result<Text, NoMemory> {
+        let item = module(alloc, b"a", items)?;
+        item_text(alloc, &item)
+    }
+
+    // Modules, lists of 89 and of 90 columns, and lists in lists.
+    #[test]
+    fn texts(rt: HostRuntime) -> Result<(), Fail> {
+        let alloc = rt.alloc();
+        let text = item_text(alloc, &structure(alloc, b"A")?)?;
+        assert_eq!(rt; text.as_bytes(), b"struct A;\n".as_slice());
+
+        let text = module_of(alloc, List::new(alloc))?;
+        assert_eq!(rt; text.as_bytes(), b"mod a {}\n".as_slice());
+
+        let items = with(List::new(alloc), structure(alloc, b"B")?)?;
+        let items = with(items, module(alloc, b"c", List::new(alloc))?)?;
+        let text = module_of(alloc, items)?;
+        let expected = b"mod a {\n    struct B;\n    mod c {}\n}\n".as_slice();
+        assert_eq!(rt; text.as_bytes(), expected);
+
+        let items = with(List::new(alloc), structure(alloc, b"C")?)?;
+        let items = with(List::new(alloc), module(alloc, b"b", items)?)?;
+        let text = module_of(alloc, items)?;
+        let expected = b"mod a {\n    mod b {\n        struct C;\n    }\n}\n".as_slice();
+        assert_eq!(rt; text.as_bytes(), expected);
+
+        let fits: &[u8] = b"cccccccccccccccccccccccccccccccccccccccccccccccccccccccccccccccccccccccccccc";
+        let wide: &[u8] = b"ccccccccccccccccccccccccccccccccccccccccccccccccccccccccccccccccccccccccccccc";
+        let b: &[u8] = b"b";
+        let c: &[u8] = b"c";
+        let rows: [(&[&[u8]], &[u8]); 4] = [
+            (&[], b"use a::{};\n"),
+            (&[b, c], b"use a::{b, c};\n"),
+            (&[b, fits], b"use a::{b, cccccccccccccccccccccccccccccccccccccccccccccccccccccccccccccccccccccccccccc};\n"),
+            (&[b, wide], b"use a::{\n    b,\n    ccccccccccccccccccccccccccccccccccccccccccccccccccccccccccccccccccccccccccccc,\n};\n"),
+        ];
+        for (row, expected) in rows {
+            let text = import(alloc, names(alloc, row)?)?;
+            assert_eq!(rt; text.as_bytes(), expected);
+        }
+
+        let inner = grouped(alloc, b"b", names(alloc, &[c, b])?)?;
+        let trees = with(List::new(alloc), inner)?;
+        let text = import(alloc, with(trees, named(alloc, b"d")?)?)?;
+        assert_eq!(rt; text.as_bytes(), b"use a::{b::{c, b}, d};\n".as_slice());
+
+        let inner = grouped(alloc, b"b", names(alloc, &[c, b])?)?;
+        let trees = with(List::new(alloc), inner)?;
+        let text = import(alloc, with(trees, named(alloc, wide)?)?)?;
+        let expected = b"use a::{\n    b::{c, b},\n    ccccccccccccccccccccccccccccccccccccccccccccccccccccccccccccccccccccccccccccc,\n};\n".as_slice();
+        assert_eq!(rt; text.as_bytes(), expected);
+        Ok(())
+    }
+}
