@@ -1,6 +1,8 @@
 -- The streams of layouts node by node, and the text of a file line by line.
-use Rattle.std.proofs.Common.{◌≡◌, ℕ, ◌≤◌, ◌<◌, Bool, true, false, List, [], ◌∷◌, ◌++◌, map, ℤ, pos, codes, refl, sym, ap, ◌∙◌, append_assoc, arith}
+use Rattle.std.proofs.Common.{◌≡◌, ℕ, ◌≤◌, ◌<◌, Bool, true, false, List, [], ◌∷◌, ◌++◌, map, ℤ, pos, codes, sym, ap, ◌∙◌, append_assoc, arith, length, drop, get_or, drop-cons, add-one, suc, ◌+◌, ◌-◌, take, refl}
 use Rattle.std.specs.List.{flat_map}
+use Rattle.std.proofs.Math.Seq.{take-length}
+use Rattle.std.proofs.Math.ListN.{drop_of_length-le}
 use Rattle.lay_token.specs.declared.layout.Tok.{Tok}
 use Rattle.lay_token.specs.declared.layout.Tok.TheVariants as tok
 use Rattle.lay_token.specs.Document.{Document, Empty, AddText, AddBreak, AddGroup, joined, stream, text_of}
@@ -70,3 +72,86 @@ item_module name items = ap item_layout (sym (item_views.rolls-Module name items
 pub item_import : (tree : UseTree) → item_layout (item.Import tree) ≡ item_layout_by (item_open.Item-F.Import tree)
 unfolding item_layout
 item_import tree = ap item_layout (sym (item_views.rolls-Import tree)) ∙ fold-roll-Item Document item_layout_by (item_open.Item-F.Import tree)
+
+-- the element at an index, and what is behind it
+rest_first : {A : Type 0} (xs : List A) (i : ℕ) (x : A) → i < length xs → x ≡ get_or xs i x → drop i xs ≡ x ∷ drop (i + 1) xs
+rest_first xs i x lt is = rw add-one (drop-cons xs i x lt ∙ ap (λ (y : _). y ∷ drop (suc i) xs) (sym is))
+
+pub path_step : (names : List (List ℕ)) (i : ℕ) (name bytes : List ℕ) → i < length names → name ≡ get_or names i name → bytes ≡ name →
+    tok.Text bytes ∷ tok.Text (codes "::") ∷ stream (path_layout (drop (i + 1) names) Empty) ≡ stream (path_layout (drop i names) Empty)
+path_step names i name bytes lt is same =
+    ap (λ (t : List ℕ). tok.Text t ∷ tok.Text (codes "::") ∷ stream (path_layout (drop (i + 1) names) Empty)) same
+    ∙ ap (λ (ns : List (List ℕ)). stream (path_layout ns Empty)) (sym (rest_first names i name lt is))
+
+pub path_done : (names : List (List ℕ)) (i : ℕ) → length names ≤ i → [] ≡ stream (path_layout (drop i names) Empty)
+path_done names i h = ap (λ (ns : List (List ℕ)). stream (path_layout ns Empty)) (sym (drop_of_length-le names h))
+
+pub further_step : (trees : List UseTree) (i : ℕ) (tree : UseTree) → i < length trees → tree ≡ get_or trees i tree →
+    tok.Text (codes ",") ∷ tok.Break (soft_break 1) ∷ (stream (use_layout tree) ++ stream (further (map use_layout (drop (i + 1) trees)) Empty))
+    ≡ stream (further (map use_layout (drop i trees)) Empty)
+further_step trees i tree lt is =
+    ap (λ (s : List Tok). tok.Text (codes ",") ∷ tok.Break (soft_break 1) ∷ s) (sym (stream_joined (use_layout tree) (further (map use_layout (drop (i + 1) trees)) Empty)))
+    ∙ ap (λ (ts : List UseTree). stream (further (map use_layout ts) Empty)) (sym (rest_first trees i tree lt is))
+
+pub further_done : (trees : List UseTree) (i : ℕ) → length trees ≤ i → [] ≡ stream (further (map use_layout (drop i trees)) Empty)
+further_done trees i h = ap (λ (ts : List UseTree). stream (further (map use_layout ts) Empty)) (sym (drop_of_length-le trees h))
+
+pub line_step : (items : List Item) (i : ℕ) (one : Item) → i < length items → one ≡ get_or items i one →
+    tok.Break hard_break ∷ (stream (item_layout one) ++ stream (part_lines (map item_layout (drop (i + 1) items)) Empty))
+    ≡ stream (part_lines (map item_layout (drop i items)) Empty)
+line_step items i one lt is =
+    ap (λ (s : List Tok). tok.Break hard_break ∷ s) (sym (stream_joined (item_layout one) (part_lines (map item_layout (drop (i + 1) items)) Empty)))
+    ∙ ap (λ (ts : List Item). stream (part_lines (map item_layout ts) Empty)) (sym (rest_first items i one lt is))
+
+pub line_done : (items : List Item) (i : ℕ) → length items ≤ i → [] ≡ stream (part_lines (map item_layout (drop i items)) Empty)
+line_done items i h = ap (λ (ts : List Item). stream (part_lines (map item_layout ts) Empty)) (sym (drop_of_length-le items h))
+
+-- what opens a list, and what closes it
+abbrev pub list_opened : List ℕ → List Tok
+list_opened opener = tok.Begin true (pos 4) ∷ tok.Text opener ∷ tok.Break (soft_break 0) ∷ []
+
+abbrev pub list_closed : List ℕ → List Tok
+list_closed closer = tok.Break (comma_closing (soft_break 0)) ∷ tok.Text closer ∷ tok.End ∷ []
+
+pub stream_list : (opener closer : List ℕ) (d : Document) (ds : List Document) →
+    list_opened opener ++ (stream d ++ (stream (further ds Empty) ++ list_closed closer)) ≡ stream (list_layout opener closer (d ∷ ds))
+stream_list opener closer d ds =
+    let close = AddBreak (comma_closing (soft_break 0)) (AddText closer Empty) in
+    let end : List Tok = tok.End ∷ [] in
+    ap (λ (s : List Tok). list_opened opener ++ s) (sym (
+      ap (λ (s : List Tok). s ++ end) (stream_joined d (further ds close) ∙ ap (λ (s : List Tok). stream d ++ s) (stream_further ds close))
+      ∙ append_assoc (stream d) (stream (further ds Empty) ++ stream close) end
+      ∙ ap (λ (s : List Tok). stream d ++ s) (append_assoc (stream (further ds Empty)) (stream close) end)))
+
+pub stream_use_name : (tree : UseTree) (path path' : List (List ℕ)) (name name' : List ℕ) → tree ≡ use_tree.Name path name → path' ≡ path → name' ≡ name →
+    stream (path_layout path' Empty) ++ (tok.Text name' ∷ []) ≡ stream (use_layout tree)
+stream_use_name tree path path' name name' is same same' =
+    ap (λ (p : List (List ℕ)). stream (path_layout p Empty) ++ (tok.Text name' ∷ [])) same
+    ∙ ap (λ (n : List ℕ). stream (path_layout path Empty) ++ (tok.Text n ∷ [])) same'
+    ∙ sym (ap (λ (t : UseTree). stream (use_layout t)) is ∙ ap stream (use_name path name) ∙ stream_path path (AddText name Empty))
+
+pub stream_use_group : (tree : UseTree) (path path' : List (List ℕ)) (trees : List UseTree) (list : List Tok) → tree ≡ use_tree.Group path trees → path' ≡ path →
+    list ≡ stream (list_layout (codes "{") (codes "}") (map use_layout trees)) → stream (path_layout path' Empty) ++ list ≡ stream (use_layout tree)
+stream_use_group tree path path' trees list is same e =
+    ap (λ (p : List (List ℕ)). stream (path_layout p Empty) ++ list) same
+    ∙ ap (λ (s : List Tok). stream (path_layout path Empty) ++ s) e
+    ∙ sym (ap (λ (t : UseTree). stream (use_layout t)) is ∙ ap stream (use_group path trees) ∙ stream_path path (list_layout (codes "{") (codes "}") (map use_layout trees)))
+
+pub empty_list : (xs trees : List UseTree) → xs ≡ trees → length xs < 1 →
+    tok.Text (codes "{}") ∷ [] ≡ stream (list_layout (codes "{") (codes "}") (map use_layout trees))
+empty_list [] trees e h = ap (λ (ts : List UseTree). stream (list_layout (codes "{") (codes "}") (map use_layout ts))) e
+empty_list (x ∷ xs) trees e h = absurd (omega arith)
+
+take_all : {A : Type 0} (xs : List A) → take (suc (length xs) - 1) xs ≡ xs
+take_all xs = let e : suc (length xs) - 1 ≡ length xs = omega arith in rw e (take-length xs)
+
+first_and_rest : {A : Type 0} (xs : List A) (first : A) → 1 ≤ length xs → first ≡ get_or xs 0 first → first ∷ take (length xs - 1) (drop 1 xs) ≡ xs
+first_and_rest [] first h e = absurd (omega arith)
+first_and_rest (x ∷ xs) first h e = ap (λ (z : _). z ∷ take (suc (length xs) - 1) xs) e ∙ ap (λ (z : _). x ∷ z) (take_all xs)
+
+pub full_list : (xs trees : List UseTree) (first : UseTree) → xs ≡ trees → 1 ≤ length xs → first ≡ get_or xs 0 first →
+    list_opened (codes "{") ++ (stream (use_layout first) ++ (stream (further (map use_layout (take (length xs - 1) (drop 1 xs))) Empty) ++ list_closed (codes "}")))
+    ≡ stream (list_layout (codes "{") (codes "}") (map use_layout trees))
+full_list xs trees first e h is =
+    stream_list (codes "{") (codes "}") (use_layout first) (map use_layout (take (length xs - 1) (drop 1 xs)))
+    ∙ ap (λ (ts : List UseTree). stream (list_layout (codes "{") (codes "}") (map use_layout ts))) (first_and_rest xs first h is ∙ e)

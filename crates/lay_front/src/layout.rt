@@ -1,8 +1,9 @@
 //! How trees are laid out, fed to an [`Emit`] token by token.
-ghost use Rattle.std.specs.Prelude.{◌≡◌, [], map, codes, IfOk};
+ghost use Rattle.std.specs.Prelude.{◌≡◌, ◌<◌, [], ◌∷◌, map, pos, true, IfOk};
+ghost use Rattle.lay_token.specs.declared.layout.Tok.TheVariants as tok;
 ghost use Rattle.lay_token.specs.Document.{stream, Empty, text_of};
 ghost use Rattle.lay_stream.specs.Fed.{Did};
-ghost use Rattle.lay_front.specs.Notation.{further, list_layout, part_lines, body_layout};
+ghost use Rattle.lay_front.specs.Notation.{soft_break, comma_closing, further, part_lines, body_layout};
 ghost use Rattle.lay_front.specs.Layout.{path_layout, use_layout, item_layout, item_line};
 
 use crate::tree::{Item, UseTree};
@@ -149,27 +150,15 @@ pub fn put_use<E: Emit>(out: &mut E, tree: &UseTree) -> Result<(), E::Fault>
         }
         UseTree::Group { path, trees } => {
             put_path(out, path.as_slice())?;
-            put_use_list(out, trees.as_slice())
-        }
-    }
-}
-
-/// Use trees in braces: on one line, or each on its own with a `,` behind the last of them.
-#[cycle(put_use)]
-fn put_use_list<E: Emit>(out: &mut E, trees: &[UseTree]) -> Result<(), E::Fault>
-    ensures { Did E.meanings out.old (stream (list_layout (codes "{") (codes "}") (map use_layout trees.now))) result out.new }
-{
-    match trees {
-        [] => out.text(b"{}"),
-        [first, rest @ ..] => {
-            out.begin(true, 4)?;
-            out.text(b"{")?;
-            out.brk(SOFT_BREAK)?;
-            put_use(out, first)?;
-            put_further(out, rest)?;
-            out.brk(COMMA_CLOSING_BREAK)?;
-            out.text(b"}")?;
-            out.end()
+            match trees.as_slice() {
+                [] => out.text(b"{}"),
+                [first, rest @ ..] => {
+                    open_list(out, b"{")?;
+                    put_use(out, first)?;
+                    put_further(out, rest)?;
+                    close_list(out, b"}")
+                }
+            }
         }
     }
 }
@@ -185,6 +174,25 @@ fn put_further<E: Emit>(out: &mut E, trees: &[UseTree]) -> Result<(), E::Fault>
         put_use(out, tree)?;
     }
     Ok(())
+}
+
+/// Opens a list: its elements stand on one line, or each on its own, one step further in.
+fn open_list<E: Emit>(out: &mut E, opener: &[u8]) -> Result<(), E::Fault>
+    ensures { Did E.meanings out.old (tok.Begin true (pos 4) ∷ tok.Text opener.now ∷ tok.Break (soft_break 0) ∷ []) result out.new }
+{
+    out.begin(true, 4)?;
+    out.text(opener)?;
+    out.brk(SOFT_BREAK)
+}
+
+/// Closes a list, with a `,` behind its last element where each stands on its own line.
+fn close_list<E: Emit>(out: &mut E, closer: &[u8]) -> Result<(), E::Fault>
+    requires { 0 < E.meanings.groups out.old }
+    ensures { Did E.meanings out.old (tok.Break (comma_closing (soft_break 0)) ∷ tok.Text closer.now ∷ tok.End ∷ []) result out.new }
+{
+    out.brk(COMMA_CLOSING_BREAK)?;
+    out.text(closer)?;
+    out.end()
 }
 
 /// Names, each with a `::` behind it.
