@@ -1,12 +1,14 @@
 -- The streams of layouts node by node, and the text of a file line by line.
-use Rattle.std.proofs.Common.{◌≡◌, ℕ, ◌≤◌, ◌<◌, Bool, true, false, List, [], ◌∷◌, ◌++◌, map, ℤ, pos, codes, sym, ap, ◌∙◌, append_assoc, arith, length, drop, get_or, drop-cons, add-one, suc, ◌+◌, ◌-◌, take, refl}
+use Rattle.std.proofs.Common.{◌≡◌, ℕ, ◌≤◌, ◌<◌, Bool, true, false, List, [], ◌∷◌, ◌++◌, map, ℤ, pos, codes, sym, ap, ◌∙◌, append_assoc, arith, length, drop, get_or, drop-cons, add-one, suc, ◌+◌, ◌-◌, take, refl, Ok, ◌≢◌}
 use Rattle.std.specs.List.{flat_map}
 use Rattle.std.proofs.Math.Seq.{take-length}
 use Rattle.std.proofs.Math.ListN.{drop_of_length-le}
 use Rattle.lay_token.specs.declared.layout.Tok.{Tok}
 use Rattle.lay_token.specs.declared.layout.Tok.TheVariants as tok
 use Rattle.lay_token.specs.Document.{Document, Empty, AddText, AddBreak, AddGroup, joined, stream, text_of}
-use Rattle.lay_token.proofs.Lines.{stream_joined, EndsLine, text_joined}
+use Rattle.lay_stream.specs.Fed.{Meanings, Did}
+use Rattle.lay_stream.proofs.Calls.{level_of}
+use Rattle.lay_token.proofs.Lines.{opened_document, stream_joined, EndsLine, text_joined}
 use Rattle.lay_front.specs.Notation.{soft_break, hard_break, never_break, closing, comma_closing, further, list_layout, part_lines, body_layout}
 use Rattle.lay_front.specs.Layout.{path_layout, use_layout_by, use_layout, item_layout_by, item_layout, item_line, file_layout, out}
 use Rattle.lay_front.specs.declared.tree.Item.{Item}
@@ -155,3 +157,49 @@ pub full_list : (xs trees : List UseTree) (first : UseTree) → xs ≡ trees →
 full_list xs trees first e h is =
     stream_list (codes "{") (codes "}") (use_layout first) (map use_layout (take (length xs - 1) (drop 1 xs)))
     ∙ ap (λ (ts : List UseTree). stream (list_layout (codes "{") (codes "}") (map use_layout ts))) (first_and_rest xs first h is ∙ e)
+
+-- a layout leaves as many groups open as were open before
+pub level_stays : {S F T : Type 0} {m : Meanings S F} {a b : S} {x : T} (d : Document) → Did m a (stream d) (Ok x) b → m.groups b ≡ m.groups a
+level_stays {m} {a} d h = level_of h ∙ opened_document d (m.groups a)
+
+abbrev pub head_of : List ℕ → List ℕ → List Tok
+head_of keyword name = tok.Begin false (pos 0) ∷ tok.Text keyword ∷ tok.Text name ∷ tok.End ∷ []
+
+pub stream_struct : (one : Item) (name name' : List ℕ) → one ≡ item.Struct name → name' ≡ name →
+    head_of (codes "struct ") name' ++ (tok.Text (codes ";") ∷ []) ≡ stream (item_layout one)
+stream_struct one name name' is same =
+    ap (λ (n : List ℕ). head_of (codes "struct ") n ++ (tok.Text (codes ";") ∷ [])) same
+    ∙ sym (ap (λ (x : Item). stream (item_layout x)) is ∙ ap stream (item_struct name))
+
+pub stream_module : (one : Item) (name name' : List ℕ) (items : List Item) (body : List Tok) → one ≡ item.Module name items → name' ≡ name →
+    body ≡ stream (body_layout (map item_layout items)) → head_of (codes "mod ") name' ++ body ≡ stream (item_layout one)
+stream_module one name name' items body is same e =
+    ap (λ (n : List ℕ). head_of (codes "mod ") n ++ body) same
+    ∙ ap (λ (s : List Tok). head_of (codes "mod ") name ++ s) e
+    ∙ sym (ap (λ (x : Item). stream (item_layout x)) is ∙ ap stream (item_module name items))
+
+pub stream_import : (one : Item) (tree : UseTree) → one ≡ item.Import tree →
+    tok.Begin false (pos 0) ∷ tok.Text (codes "use ") ∷ (stream (use_layout tree) ++ (tok.End ∷ tok.Text (codes ";") ∷ [])) ≡ stream (item_layout one)
+stream_import one tree is = sym (ap (λ (x : Item). stream (item_layout x)) is ∙ ap stream (item_import tree))
+
+pub empty_body : (items : List Item) → length items ≡ 0 → tok.Text (codes " {}") ∷ [] ≡ stream (body_layout (map item_layout items))
+empty_body [] h = refl
+empty_body (one ∷ items) h = absurd (omega arith)
+
+-- what opens a body, and what closes it
+abbrev pub body_opened : List Tok
+body_opened = tok.Text (codes " {") ∷ tok.Break never_break ∷ tok.Begin true (pos 4) ∷ []
+
+abbrev pub body_closed : List Tok
+body_closed = tok.Break (closing hard_break) ∷ tok.End ∷ tok.Text (codes "}") ∷ []
+
+pub full_body : (items : List Item) → length items ≢ 0 →
+    body_opened ++ (stream (part_lines (map item_layout items) Empty) ++ body_closed) ≡ stream (body_layout (map item_layout items))
+full_body [] h = absurd (h refl)
+full_body (one ∷ items) h =
+    let ds = map item_layout (one ∷ items) in
+    let end : List Tok = tok.End ∷ tok.Text (codes "}") ∷ [] in
+    let close = AddBreak (closing hard_break) Empty in
+    ap (λ (s : List Tok). body_opened ++ s) (sym (
+      ap (λ (s : List Tok). s ++ end) (stream_lines ds close)
+      ∙ append_assoc (stream (part_lines ds Empty)) (stream close) end))

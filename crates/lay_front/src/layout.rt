@@ -1,9 +1,9 @@
 //! How trees are laid out, fed to an [`Emit`] token by token.
-ghost use Rattle.std.specs.Prelude.{◌≡◌, ◌<◌, [], ◌∷◌, map, pos, true, IfOk};
+ghost use Rattle.std.specs.Prelude.{◌≡◌, ◌<◌, [], ◌∷◌, map, pos, true, false, codes, IfOk};
 ghost use Rattle.lay_token.specs.declared.layout.Tok.TheVariants as tok;
 ghost use Rattle.lay_token.specs.Document.{stream, Empty, text_of};
 ghost use Rattle.lay_stream.specs.Fed.{Did};
-ghost use Rattle.lay_front.specs.Notation.{soft_break, comma_closing, further, part_lines, body_layout};
+ghost use Rattle.lay_front.specs.Notation.{soft_break, hard_break, never_break, closing, comma_closing, further, part_lines, body_layout};
 ghost use Rattle.lay_front.specs.Layout.{path_layout, use_layout, item_layout, item_line};
 
 use crate::tree::{Item, UseTree};
@@ -86,21 +86,17 @@ pub fn item_text(alloc: Global, item: &Item) -> Result<Text, NoMemory>
 pub fn put_item<E: Emit>(out: &mut E, item: &Item) -> Result<(), E::Fault>
     ensures { Did E.meanings out.old (stream (item_layout item.now)) result out.new }
 {
-    out.begin(false, 0)?;
     match item {
         Item::Struct { name } => {
-            out.text(b"struct ")?;
-            out.text(name.as_bytes())?;
-            out.end()?;
+            put_head(out, b"struct ", name.as_bytes())?;
             out.text(b";")
         }
         Item::Module { name, items } => {
-            out.text(b"mod ")?;
-            out.text(name.as_bytes())?;
-            out.end()?;
+            put_head(out, b"mod ", name.as_bytes())?;
             put_body(out, items.as_slice())
         }
         Item::Import { tree } => {
+            out.begin(false, 0)?;
             out.text(b"use ")?;
             put_use(out, tree)?;
             out.end()?;
@@ -117,13 +113,9 @@ fn put_body<E: Emit>(out: &mut E, items: &[Item]) -> Result<(), E::Fault>
     if items.is_empty() {
         return out.text(b" {}");
     }
-    out.text(b" {")?;
-    out.brk(NEVER_BREAK)?;
-    out.begin(true, 4)?;
+    open_body(out)?;
     put_lines(out, items)?;
-    out.brk(CLOSING_HARD_BREAK)?;
-    out.end()?;
-    out.text(b"}")
+    close_body(out)
 }
 
 /// Items, each behind a newline.
@@ -136,6 +128,35 @@ fn put_lines<E: Emit>(out: &mut E, items: &[Item]) -> Result<(), E::Fault>
         put_item(out, item)?;
     }
     Ok(())
+}
+
+/// The head of an item that is a keyword, with a blank behind it, and a name.
+fn put_head<E: Emit>(out: &mut E, keyword: &[u8], name: &[u8]) -> Result<(), E::Fault>
+    ensures { Did E.meanings out.old (tok.Begin false (pos 0) ∷ tok.Text keyword.now ∷ tok.Text name.now ∷ tok.End ∷ []) result out.new }
+{
+    out.begin(false, 0)?;
+    out.text(keyword)?;
+    out.text(name)?;
+    out.end()
+}
+
+/// Opens a body. What stands before its brace is measured up to the brace.
+fn open_body<E: Emit>(out: &mut E) -> Result<(), E::Fault>
+    ensures { Did E.meanings out.old (tok.Text (codes " {") ∷ tok.Break never_break ∷ tok.Begin true (pos 4) ∷ []) result out.new }
+{
+    out.text(b" {")?;
+    out.brk(NEVER_BREAK)?;
+    out.begin(true, 4)
+}
+
+/// Closes a body, on a line of its own.
+fn close_body<E: Emit>(out: &mut E) -> Result<(), E::Fault>
+    requires { 0 < E.meanings.groups out.old }
+    ensures { Did E.meanings out.old (tok.Break (closing hard_break) ∷ tok.End ∷ tok.Text (codes "}") ∷ []) result out.new }
+{
+    out.brk(CLOSING_HARD_BREAK)?;
+    out.end()?;
+    out.text(b"}")
 }
 
 /// Feeds the layout of a use tree.

@@ -9,6 +9,8 @@ use Rattle.lay_token.specs.declared.layout.Frame.TheVariants.{Flat, Broken}
 use Rattle.lay_token.specs.declared.layout.Tok.{Tok}
 use Rattle.lay_token.specs.declared.layout.Tok.TheVariants as tok
 use Rattle.lay_token.specs.Document.{Document, Empty, AddText, AddBreak, AddGroup, joined, State, flat, stream, ahead, render, width_of_break, over, write, put_mark, line, newline, skip, shift, enter, break_by, break_in, outside, start, text_of}
+use Rattle.lay_token.specs.Machine.{opened}
+use Rattle.lay_token.proofs.Whole.{opened_stream}
 
 pub stream_joined : (d e : Document) → stream (joined d e) ≡ stream d ++ stream e
 stream_joined Empty e = refl
@@ -17,6 +19,10 @@ stream_joined (AddBreak b rest) e = ap (λ (s : List Tok). tok.Break b ∷ s) (s
 stream_joined (AddGroup c o inner rest) e =
     ap (λ (s : List Tok). tok.Begin c o ∷ (stream inner ++ tok.End ∷ s)) (stream_joined rest e)
     ∙ ap (λ (s : List Tok). tok.Begin c o ∷ s) (sym (append_assoc (stream inner) (tok.End ∷ stream rest) (stream e)))
+
+-- A document leaves as many groups open as were open before.
+pub opened_document : (d : Document) (n : ℕ) → opened (stream d) n ≡ n
+opened_document d n = rw append-nil at (opened_stream d n [])
 
 pub ahead_joined : (d e : Document) (follow : ℕ) → ahead (joined d e) follow ≡ ahead d (ahead e follow)
 ahead_joined Empty e follow = refl
