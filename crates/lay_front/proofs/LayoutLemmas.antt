@@ -3,10 +3,12 @@ use Rattle.std.proofs.Common.{◌≡◌, ℕ, ◌≤◌, ◌<◌, Bool, true, fa
 use Rattle.std.specs.List.{flat_map}
 use Rattle.std.proofs.Math.Seq.{take-length}
 use Rattle.std.proofs.Math.ListN.{drop_of_length-le}
+use Rattle.lay_token.specs.declared.layout.Break.{Break}
 use Rattle.lay_token.specs.declared.layout.Tok.{Tok}
 use Rattle.lay_token.specs.declared.layout.Tok.TheVariants as tok
 use Rattle.lay_token.specs.Document.{Document, Empty, AddText, AddBreak, AddGroup, joined, stream, text_of}
-use Rattle.lay_stream.specs.Fed.{Meanings, Did}
+use Rattle.lay_stream.specs.Fed.{Start, Meanings, Did}
+use Rattle.lay_stream.specs.Listed.{list_meanings}
 use Rattle.lay_stream.proofs.Calls.{level_of}
 use Rattle.lay_token.proofs.Lines.{opened_document, stream_joined, EndsLine, text_joined}
 use Rattle.lay_front.specs.Notation.{soft_break, hard_break, never_break, closing, comma_closing, further, list_layout, part_lines, body_layout}
@@ -203,3 +205,10 @@ full_body (one ∷ items) h =
     ap (λ (s : List Tok). body_opened ++ s) (sym (
       ap (λ (s : List Tok). s ++ end) (stream_lines ds close)
       ∙ append_assoc (stream (part_lines ds Empty)) (stream close) end))
+
+-- a new list of tokens, to which a layout and a break were put
+pub line_listed : (F : Type 0) (d : Document) (b : Break) (a s t : List Tok) (x y : Unit {0}) → a ≡ [] →
+    Did (list_meanings F) a (stream d) (Ok x) s → Did (list_meanings F) s (tok.Break b ∷ []) (Ok y) t → stream (joined d (AddBreak b Empty)) ≡ t
+line_listed F d b a s t x y e h k =
+    let start : Start = record { content = []; faults = 0 } in
+    stream_joined d (AddBreak b Empty) ∙ sym ((k.puts _ refl).appends start (stream d) ((h.puts _ refl).appends start [] e))
