@@ -42,19 +42,19 @@ pub stream_further : (ds : List Document) (close : Document) → stream (further
 stream_further [] close = refl
 stream_further (d ∷ ds) close =
     ap (λ (s : List Tok). tok.Text (codes ",") ∷ tok.Break (soft_break 1) ∷ s) (
-      stream_joined d (further ds close)
-      ∙ ap (λ (s : List Tok). stream d ++ s) (stream_further ds close)
-      ∙ sym (append_assoc (stream d) (stream (further ds Empty)) (stream close))
-      ∙ ap (λ (s : List Tok). s ++ stream close) (sym (stream_joined d (further ds Empty))))
+    stream_joined d (further ds close)
+    ∙ ap (λ (s : List Tok). stream d ++ s) (stream_further ds close)
+    ∙ sym (append_assoc (stream d) (stream (further ds Empty)) (stream close))
+    ∙ ap (λ (s : List Tok). s ++ stream close) (sym (stream_joined d (further ds Empty))))
 
 pub stream_lines : (ds : List Document) (close : Document) → stream (part_lines ds close) ≡ stream (part_lines ds Empty) ++ stream close
 stream_lines [] close = refl
 stream_lines (d ∷ ds) close =
     ap (λ (s : List Tok). tok.Break hard_break ∷ s) (
-      stream_joined d (part_lines ds close)
-      ∙ ap (λ (s : List Tok). stream d ++ s) (stream_lines ds close)
-      ∙ sym (append_assoc (stream d) (stream (part_lines ds Empty)) (stream close))
-      ∙ ap (λ (s : List Tok). s ++ stream close) (sym (stream_joined d (part_lines ds Empty))))
+    stream_joined d (part_lines ds close)
+    ∙ ap (λ (s : List Tok). stream d ++ s) (stream_lines ds close)
+    ∙ sym (append_assoc (stream d) (stream (part_lines ds Empty)) (stream close))
+    ∙ ap (λ (s : List Tok). s ++ stream close) (sym (stream_joined d (part_lines ds Empty))))
 
 pub use_name : (path : List (List ℕ)) (name : List ℕ) → use_layout (use_tree.Name path name) ≡ path_layout path (AddText name Empty)
 unfolding use_layout
@@ -123,9 +123,9 @@ stream_list opener closer d ds =
     let close = AddBreak (comma_closing (soft_break 0)) (AddText closer Empty) in
     let end : List Tok = tok.End ∷ [] in
     ap (λ (s : List Tok). list_opened opener ++ s) (sym (
-      ap (λ (s : List Tok). s ++ end) (stream_joined d (further ds close) ∙ ap (λ (s : List Tok). stream d ++ s) (stream_further ds close))
-      ∙ append_assoc (stream d) (stream (further ds Empty) ++ stream close) end
-      ∙ ap (λ (s : List Tok). stream d ++ s) (append_assoc (stream (further ds Empty)) (stream close) end)))
+    ap (λ (s : List Tok). s ++ end) (stream_joined d (further ds close) ∙ ap (λ (s : List Tok). stream d ++ s) (stream_further ds close))
+    ∙ append_assoc (stream d) (stream (further ds Empty) ++ stream close) end
+    ∙ ap (λ (s : List Tok). stream d ++ s) (append_assoc (stream (further ds Empty)) (stream close) end)))
 
 pub stream_use_name : (tree : UseTree) (path path' : List (List ℕ)) (name name' : List ℕ) → tree ≡ use_tree.Name path name → path' ≡ path → name' ≡ name →
     stream (path_layout path' Empty) ++ (tok.Text name' ∷ []) ≡ stream (use_layout tree)
@@ -203,8 +203,8 @@ full_body (one ∷ items) h =
     let end : List Tok = tok.End ∷ tok.Text (codes "}") ∷ [] in
     let close = AddBreak (closing hard_break) Empty in
     ap (λ (s : List Tok). body_opened ++ s) (sym (
-      ap (λ (s : List Tok). s ++ end) (stream_lines ds close)
-      ∙ append_assoc (stream (part_lines ds Empty)) (stream close) end))
+    ap (λ (s : List Tok). s ++ end) (stream_lines ds close)
+    ∙ append_assoc (stream (part_lines ds Empty)) (stream close) end))
 
 -- a new list of tokens, to which a layout and a break were put
 pub line_listed : (F : Type 0) (d : Document) (b : Break) (a s t : List Tok) (x y : Unit {0}) → a ≡ [] →

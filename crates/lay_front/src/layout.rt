@@ -305,15 +305,23 @@ mod tests {
         let expected = b"mod a {\n    mod b {\n        struct C;\n    }\n}\n".as_slice();
         assert_eq!(rt; text.as_bytes(), expected);
 
-        let fits: &[u8] = b"cccccccccccccccccccccccccccccccccccccccccccccccccccccccccccccccccccccccccccc";
-        let wide: &[u8] = b"ccccccccccccccccccccccccccccccccccccccccccccccccccccccccccccccccccccccccccccc";
+        let fits: &[u8] =
+            b"cccccccccccccccccccccccccccccccccccccccccccccccccccccccccccccccccccccccccccc";
+        let wide: &[u8] =
+            b"ccccccccccccccccccccccccccccccccccccccccccccccccccccccccccccccccccccccccccccc";
         let b: &[u8] = b"b";
         let c: &[u8] = b"c";
         let rows: [(&[&[u8]], &[u8]); 4] = [
             (&[], b"use a::{};\n"),
             (&[b, c], b"use a::{b, c};\n"),
-            (&[b, fits], b"use a::{b, cccccccccccccccccccccccccccccccccccccccccccccccccccccccccccccccccccccccccccc};\n"),
-            (&[b, wide], b"use a::{\n    b,\n    ccccccccccccccccccccccccccccccccccccccccccccccccccccccccccccccccccccccccccccc,\n};\n"),
+            (
+                &[b, fits],
+                b"use a::{b, cccccccccccccccccccccccccccccccccccccccccccccccccccccccccccccccccccccccccccc};\n",
+            ),
+            (
+                &[b, wide],
+                b"use a::{\n    b,\n    ccccccccccccccccccccccccccccccccccccccccccccccccccccccccccccccccccccccccccccc,\n};\n",
+            ),
         ];
         for (row, expected) in rows {
             let text = import(alloc, names(alloc, row)?)?;
@@ -328,7 +336,8 @@ mod tests {
         let inner = grouped(alloc, b"b", names(alloc, &[c, b])?)?;
         let trees = with(List::new(alloc), inner)?;
         let text = import(alloc, with(trees, named(alloc, wide)?)?)?;
-        let expected = b"use a::{\n    b::{c, b},\n    ccccccccccccccccccccccccccccccccccccccccccccccccccccccccccccccccccccccccccccc,\n};\n".as_slice();
+        let expected =
+            b"use a::{\n    b::{c, b},\n    ccccccccccccccccccccccccccccccccccccccccccccccccccccccccccccccccccccccccccccc,\n};\n".as_slice();
         assert_eq!(rt; text.as_bytes(), expected);
         Ok(())
     }

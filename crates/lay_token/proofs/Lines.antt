@@ -158,6 +158,6 @@ text_joined d e hard h =
     let head = joined d (AddBreak hard Empty) in
     let t = text_of head in
     ap (λ (s : State). s.text) (
-      render_joined head e outside start 0
-      ∙ ap (λ (s : State). render e outside s 0) (ends_line d hard (ahead e 0) h)
-      ∙ render_before e outside t start 0)
+    render_joined head e outside start 0
+    ∙ ap (λ (s : State). render e outside s 0) (ends_line d hard (ahead e 0) h)
+    ∙ render_before e outside t start 0)

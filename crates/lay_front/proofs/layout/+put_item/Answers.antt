@@ -35,12 +35,12 @@ put_body-returns-then-is_empty g t c =
 pub put_body-returns-in_err-open_body : goal.put_body-returns-in_err-open_body
 put_body-returns-in_err-open_body g t c =
     let e : length c.args.items.now ≢ 0 = search rules in
-    last (stream_leave _ c.in_err-open_body.ensures c.from_residual.ensures.1) (full_body c.args.items.now e)
+    last {r = c.from_residual.result} (stream_leave _ c.in_err-open_body.ensures c.from_residual.ensures.1) (full_body c.args.items.now e)
 
 pub put_body-returns-in_err-put_lines : goal.put_body-returns-in_err-put_lines
 put_body-returns-in_err-put_lines g t c =
     let e : length c.args.items.now ≢ 0 = search rules in
-    last (stream_on c.in_ok-open_body.ensures (stream_leave _ c.in_err-put_lines.ensures c.from_residual-in_err-put_lines.ensures.1)) (full_body c.args.items.now e)
+    last {r = c.from_residual-in_err-put_lines.result} (stream_on c.in_ok-open_body.ensures (stream_leave _ c.in_err-put_lines.ensures c.from_residual-in_err-put_lines.ensures.1)) (full_body c.args.items.now e)
 
 pub put_body-close_body-requires : goal.put_body-close_body-requires
 put_body-close_body-requires g t c =
