@@ -233,6 +233,19 @@ mod tests {
     use lay_token::List;
     use std::test::Fail;
 
+    /// An item that is laid out.
+    #[derive(Clone, Copy)]
+    enum Sample<'a> {
+        Structure,
+        EmptyModule,
+        ModuleOfTwo,
+        ModuleInModule,
+        /// These names.
+        UseList(&'a [&'a [u8]]),
+        /// A list, and behind it this name.
+        ListInList(&'a [u8]),
+    }
+
     fn structure(alloc: Global, name: &[u8]) -> Result<Item, NoMemory> {
         let name = Text::from_bytes(alloc, name)?;
         Ok(Item::Struct { name })
@@ -241,6 +254,18 @@ mod tests {
     fn module(alloc: Global, name: &[u8], items: List<Item>) -> Result<Item, NoMemory> {
         let name = Text::from_bytes(alloc, name)?;
         Ok(Item::Module { name, items })
+    }
+
+    fn two(alloc: Global) -> Result<Item, NoMemory> {
+        let items = with(List::new(alloc), structure(alloc, b"B")?)?;
+        let items = with(items, module(alloc, b"c", List::new(alloc))?)?;
+        module(alloc, b"a", items)
+    }
+
+    fn inner(alloc: Global) -> Result<Item, NoMemory> {
+        let items = with(List::new(alloc), structure(alloc, b"C")?)?;
+        let items = with(List::new(alloc), module(alloc, b"b", items)?)?;
+        module(alloc, b"a", items)
     }
 
     fn named(alloc: Global, name: &[u8]) -> Result<UseTree, NoMemory> {
@@ -257,6 +282,25 @@ mod tests {
         Ok(UseTree::Group { path, trees })
     }
 
+    fn import(alloc: Global, trees: List<UseTree>) -> Result<Item, NoMemory> {
+        let tree = grouped(alloc, b"a", trees)?;
+        Ok(Item::Import { tree })
+    }
+
+    fn list(alloc: Global, names: &[&[u8]]) -> Result<List<UseTree>, NoMemory> {
+        let mut trees = List::new(alloc);
+        for name in names {
+            trees = with(trees, named(alloc, name)?)?;
+        }
+        Ok(trees)
+    }
+
+    fn list_in_list(alloc: Global, last: &[u8]) -> Result<List<UseTree>, NoMemory> {
+        let names: [&[u8]; 2] = [b"c", b"d"];
+        let tree = grouped(alloc, b"b", list(alloc, &names)?)?;
+        with(with(List::new(alloc), tree)?, named(alloc, last)?)
+    }
+
     fn with<T: Drop>(list: List<T>, item: T) -> Result<List<T>, NoMemory> {
         let mut list = list;
         match list.push(item) {
@@ -265,80 +309,58 @@ mod tests {
         }
     }
 
-    fn names(alloc: Global, names: &[&[u8]]) -> Result<List<UseTree>, NoMemory> {
-        let mut list = List::new(alloc);
-        for name in names {
-            list = with(list, named(alloc, name)?)?;
+    fn item(alloc: Global, sample: Sample) -> Result<Item, NoMemory> {
+        match sample {
+            Sample::Structure => structure(alloc, b"A"),
+            Sample::EmptyModule => module(alloc, b"a", List::new(alloc)),
+            Sample::ModuleOfTwo => two(alloc),
+            Sample::ModuleInModule => inner(alloc),
+            Sample::UseList(names) => import(alloc, list(alloc, names)?),
+            Sample::ListInList(last) => import(alloc, list_in_list(alloc, last)?),
         }
-        Ok(list)
     }
 
-    fn import(alloc: Global, trees: List<UseTree>) -> Result<Text, NoMemory> {
-        let tree = grouped(alloc, b"a", trees)?;
-        item_text(alloc, &Item::Import { tree })
-    }
-
-    fn module_of(alloc: Global, items: List<Item>) -> Result<Text, NoMemory> {
-        let item = module(alloc, b"a", items)?;
-        item_text(alloc, &item)
-    }
-
-    // Modules, lists of 89 and of 90 columns, and lists in lists.
+    // A list fits in 89 columns, and in 90 it doesn't.
     #[test]
     fn texts(rt: HostRuntime) -> Result<(), Fail> {
         let alloc = rt.alloc();
-        let text = item_text(alloc, &structure(alloc, b"A")?)?;
-        assert_eq!(rt; text.as_bytes(), b"struct A;\n".as_slice());
-
-        let text = module_of(alloc, List::new(alloc))?;
-        assert_eq!(rt; text.as_bytes(), b"mod a {}\n".as_slice());
-
-        let items = with(List::new(alloc), structure(alloc, b"B")?)?;
-        let items = with(items, module(alloc, b"c", List::new(alloc))?)?;
-        let text = module_of(alloc, items)?;
-        let expected = b"mod a {\n    struct B;\n    mod c {}\n}\n".as_slice();
-        assert_eq!(rt; text.as_bytes(), expected);
-
-        let items = with(List::new(alloc), structure(alloc, b"C")?)?;
-        let items = with(List::new(alloc), module(alloc, b"b", items)?)?;
-        let text = module_of(alloc, items)?;
-        let expected = b"mod a {\n    mod b {\n        struct C;\n    }\n}\n".as_slice();
-        assert_eq!(rt; text.as_bytes(), expected);
-
+        let b: &[u8] = b"b";
+        let c: &[u8] = b"c";
         let fits: &[u8] =
             b"cccccccccccccccccccccccccccccccccccccccccccccccccccccccccccccccccccccccccccc";
         let wide: &[u8] =
             b"ccccccccccccccccccccccccccccccccccccccccccccccccccccccccccccccccccccccccccccc";
-        let b: &[u8] = b"b";
-        let c: &[u8] = b"c";
-        let rows: [(&[&[u8]], &[u8]); 4] = [
-            (&[], b"use a::{};\n"),
-            (&[b, c], b"use a::{b, c};\n"),
+        let rows: [(Sample, &[u8]); 10] = [
+            (Sample::Structure, b"struct A;\n"),
+            (Sample::EmptyModule, b"mod a {}\n"),
             (
-                &[b, fits],
+                Sample::ModuleOfTwo,
+                b"mod a {\n    struct B;\n    mod c {}\n}\n",
+            ),
+            (
+                Sample::ModuleInModule,
+                b"mod a {\n    mod b {\n        struct C;\n    }\n}\n",
+            ),
+            (Sample::UseList(&[]), b"use a::{};\n"),
+            (Sample::UseList(&[b, c]), b"use a::{b, c};\n"),
+            (
+                Sample::UseList(&[b, fits]),
                 b"use a::{b, cccccccccccccccccccccccccccccccccccccccccccccccccccccccccccccccccccccccccccc};\n",
             ),
             (
-                &[b, wide],
+                Sample::UseList(&[b, wide]),
                 b"use a::{\n    b,\n    ccccccccccccccccccccccccccccccccccccccccccccccccccccccccccccccccccccccccccccc,\n};\n",
             ),
+            (Sample::ListInList(b), b"use a::{b::{c, d}, b};\n"),
+            (
+                Sample::ListInList(wide),
+                b"use a::{\n    b::{c, d},\n    ccccccccccccccccccccccccccccccccccccccccccccccccccccccccccccccccccccccccccccc,\n};\n",
+            ),
         ];
-        for (row, expected) in rows {
-            let text = import(alloc, names(alloc, row)?)?;
+        for (sample, expected) in rows {
+            let text = item_text(alloc, &item(alloc, sample)?)?;
             assert_eq!(rt; text.as_bytes(), expected);
         }
-
-        let inner = grouped(alloc, b"b", names(alloc, &[c, b])?)?;
-        let trees = with(List::new(alloc), inner)?;
-        let text = import(alloc, with(trees, named(alloc, b"d")?)?)?;
-        assert_eq!(rt; text.as_bytes(), b"use a::{b::{c, b}, d};\n".as_slice());
-
-        let inner = grouped(alloc, b"b", names(alloc, &[c, b])?)?;
-        let trees = with(List::new(alloc), inner)?;
-        let text = import(alloc, with(trees, named(alloc, wide)?)?)?;
-        let expected =
-            b"use a::{\n    b::{c, b},\n    ccccccccccccccccccccccccccccccccccccccccccccccccccccccccccccccccccccccccccccc,\n};\n".as_slice();
-        assert_eq!(rt; text.as_bytes(), expected);
         Ok(())
     }
 }
