@@ -23,52 +23,33 @@ const SOFT_BREAK: Break = Break {
 
 /// A break of one blank.
 const SPACE_BREAK: Break = Break {
-    offset: 0,
     blank: 1,
-    before: Mark::Absent,
-    after: Mark::Absent,
-    instead: Mark::Absent,
-    never: false,
+    ..SOFT_BREAK
 };
 
 /// A break that is always a newline, since no space is as great as its blanks are many.
 const HARD_BREAK: Break = Break {
-    offset: 0,
     blank: 65535,
-    before: Mark::Absent,
-    after: Mark::Absent,
-    instead: Mark::Absent,
-    never: false,
+    ..SOFT_BREAK
 };
 
 /// A break that is never a newline, and at which a measure ends.
 const NEVER_BREAK: Break = Break {
-    offset: 0,
-    blank: 0,
-    before: Mark::Absent,
-    after: Mark::Absent,
-    instead: Mark::Absent,
     never: true,
+    ..SOFT_BREAK
 };
 
 /// The newline before the brace that closes a body: one step back.
 const CLOSING_HARD_BREAK: Break = Break {
     offset: -4,
-    blank: 65535,
-    before: Mark::Absent,
-    after: Mark::Absent,
-    instead: Mark::Absent,
-    never: false,
+    ..HARD_BREAK
 };
 
 /// The break before what closes a list: one step back, with a `,` before the newline.
 const COMMA_CLOSING_BREAK: Break = Break {
     offset: -4,
-    blank: 0,
     before: Mark::Comma,
-    after: Mark::Absent,
-    instead: Mark::Absent,
-    never: false,
+    ..SOFT_BREAK
 };
 
 /// The text of an item that stands on a line of its own.
