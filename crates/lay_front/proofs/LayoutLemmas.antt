@@ -1,12 +1,12 @@
 -- The streams of layouts node by node, and the text of a file line by line.
-use Rattle.std.proofs.Common.{◌≡◌, ℕ, ◌≤◌, ◌<◌, Bool, true, false, List, [], ◌∷◌, ◌++◌, map, ℤ, pos, codes, sym, ap, ◌∙◌, append_assoc, arith, length, drop, get_or, drop-cons, add-one, suc, ◌+◌, ◌-◌, take, refl, Ok, ◌≢◌}
+use Rattle.std.proofs.Common.{◌≡◌, ℕ, ◌≤◌, ◌<◌, true, false, List, [], ◌∷◌, ◌++◌, map, pos, codes, sym, ap, ◌∙◌, append_assoc, arith, length, drop, get_or, drop-cons, add-one, suc, ◌+◌, ◌-◌, take, refl, Ok, ◌≢◌}
 use Rattle.std.specs.List.{flat_map}
 use Rattle.std.proofs.Math.Seq.{take-length}
 use Rattle.std.proofs.Math.ListN.{drop_of_length-le}
 use Rattle.lay_token.specs.declared.layout.Break.{Break}
 use Rattle.lay_token.specs.declared.layout.Tok.{Tok}
 use Rattle.lay_token.specs.declared.layout.Tok.TheVariants as tok
-use Rattle.lay_token.specs.Document.{Document, Empty, AddText, AddBreak, AddGroup, joined, stream, text_of}
+use Rattle.lay_token.specs.Document.{Document, Empty, AddText, AddBreak, joined, stream, text_of}
 use Rattle.lay_stream.specs.Fed.{Start, Meanings, Did}
 use Rattle.lay_stream.specs.Listed.{list_meanings}
 use Rattle.lay_stream.proofs.Calls.{level_of}

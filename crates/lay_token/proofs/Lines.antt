@@ -1,5 +1,5 @@
 -- Documents one behind another: their tokens, their texts, and where a line ends outside all groups.
-use Rattle.std.proofs.Common.{◌≡◌, ℕ, ◌+◌, ◌-◌, ◌≤◌, ◌<◌, max, Bool, true, false, List, [], ◌∷◌, ◌++◌, replicate, length, nat_lt, ℤ, pos, refl, sym, ap, ◌∙◌, subst, append_assoc, append-nil, arith}
+use Rattle.std.proofs.Common.{◌≡◌, ℕ, ◌+◌, ◌-◌, ◌≤◌, max, Bool, true, false, List, [], ◌∷◌, ◌++◌, replicate, length, ℤ, pos, refl, sym, ap, ◌∙◌, subst, append_assoc, append-nil, arith}
 use Rattle.std.proofs.lemmas.Bool.{lt-ltb}
 use Rattle.lay_token.specs.declared.layout.Break.{Break}
 use Rattle.lay_token.specs.declared.layout.Mark.{Mark}

@@ -1,7 +1,6 @@
-use Rattle.std.proofs.Common.{◌≡◌, List, ◌∙◌, sym, ap}
+use Rattle.std.proofs.Common.{List, ◌∙◌, sym, ap}
 use Rattle.std.proofs.lemmas.Result.{IfOk-weaker}
 use Rattle.lay_token.specs.declared.layout.Tok.{Tok}
-use Rattle.lay_token.specs.Document.{stream}
 use Rattle.lay_token.specs.Machine.{opened}
 use Rattle.lay_token.proofs.Lines.{opened_document}
 use Rattle.lay_front.specs.Layout.{item_layout, item_line}
