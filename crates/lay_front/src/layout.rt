@@ -1,0 +1,347 @@
+//! How trees are laid out, fed to an [`Emit`] token by token.
+ghost use Rattle.std.specs.Prelude.{◌≡◌, ◌<◌, [], ◌∷◌, map, pos, true, false, codes, IfOk};
+ghost use Rattle.lay_token.specs.declared.layout.Tok.TheVariants as tok;
+ghost use Rattle.lay_token.specs.Document.{stream, Empty, text_of};
+ghost use Rattle.lay_stream.specs.Fed.{Did};
+ghost use Rattle.lay_front.specs.Notation.{soft_break, hard_break, never_break, closing, comma_closing, further, part_lines, body_layout};
+ghost use Rattle.lay_front.specs.Layout.{path_layout, use_layout, item_layout, item_line};
+
+use crate::tree::{Item, UseTree};
+use lay_stream::{Emit, Stream, plain};
+use lay_token::{Break, Mark, NoMemory, Text};
+use std::alloc::Global;
+
+/// A break of no blanks.
+const SOFT_BREAK: Break = Break {
+    offset: 0,
+    blank: 0,
+    before: Mark::Absent,
+    after: Mark::Absent,
+    instead: Mark::Absent,
+    never: false,
+};
+
+/// A break of one blank.
+const SPACE_BREAK: Break = Break {
+    blank: 1,
+    ..SOFT_BREAK
+};
+
+/// A break that is always a newline, since no space is as great as its blanks are many.
+const HARD_BREAK: Break = Break {
+    blank: 65535,
+    ..SOFT_BREAK
+};
+
+/// A break that is never a newline, and at which a measure ends.
+const NEVER_BREAK: Break = Break {
+    never: true,
+    ..SOFT_BREAK
+};
+
+/// The newline before the brace that closes a body: one step back.
+const CLOSING_HARD_BREAK: Break = Break {
+    offset: -4,
+    ..HARD_BREAK
+};
+
+/// The break before what closes a list: one step back, with a `,` before the newline.
+const COMMA_CLOSING_BREAK: Break = Break {
+    offset: -4,
+    before: Mark::Comma,
+    ..SOFT_BREAK
+};
+
+/// The text of an item that stands on a line of its own.
+pub fn item_text(alloc: Global, item: &Item) -> Result<Text, NoMemory>
+    ensures { IfOk result (λ t. t ≡ text_of (item_line item.now)) }
+{
+    let mut stream = Stream::new(alloc);
+    put_item(&mut stream, item)?;
+    stream.brk(HARD_BREAK)?;
+    plain(alloc, &stream)
+}
+
+/// Feeds the layout of an item.
+#[cycle(put_item)]
+pub fn put_item<E: Emit>(out: &mut E, item: &Item) -> Result<(), E::Fault>
+    ensures { Did E.meanings out.old (stream (item_layout item.now)) result out.new }
+{
+    match item {
+        Item::Struct { name } => {
+            put_head(out, b"struct ", name.as_bytes())?;
+            out.text(b";")
+        }
+        Item::Module { name, items } => {
+            put_head(out, b"mod ", name.as_bytes())?;
+            put_body(out, items.as_slice())
+        }
+        Item::Import { tree } => {
+            out.begin(false, 0)?;
+            out.text(b"use ")?;
+            put_use(out, tree)?;
+            out.end()?;
+            out.text(b";")
+        }
+    }
+}
+
+/// Items in braces, each on a line of its own.
+#[cycle(put_item)]
+fn put_body<E: Emit>(out: &mut E, items: &[Item]) -> Result<(), E::Fault>
+    ensures { Did E.meanings out.old (stream (body_layout (map item_layout items.now))) result out.new }
+{
+    if items.is_empty() {
+        return out.text(b" {}");
+    }
+    open_body(out)?;
+    put_lines(out, items)?;
+    close_body(out)
+}
+
+/// Items, each behind a newline.
+#[cycle(put_item)]
+fn put_lines<E: Emit>(out: &mut E, items: &[Item]) -> Result<(), E::Fault>
+    ensures { Did E.meanings out.old (stream (part_lines (map item_layout items.now) Empty)) result out.new }
+{
+    for item in items {
+        out.brk(HARD_BREAK)?;
+        put_item(out, item)?;
+    }
+    Ok(())
+}
+
+/// The head of an item that is a keyword, with a blank behind it, and a name.
+fn put_head<E: Emit>(out: &mut E, keyword: &[u8], name: &[u8]) -> Result<(), E::Fault>
+    ensures { Did E.meanings out.old (tok.Begin false (pos 0) ∷ tok.Text keyword.now ∷ tok.Text name.now ∷ tok.End ∷ []) result out.new }
+{
+    out.begin(false, 0)?;
+    out.text(keyword)?;
+    out.text(name)?;
+    out.end()
+}
+
+/// Opens a body. What stands before its brace is measured up to the brace.
+fn open_body<E: Emit>(out: &mut E) -> Result<(), E::Fault>
+    ensures { Did E.meanings out.old (tok.Text (codes " {") ∷ tok.Break never_break ∷ tok.Begin true (pos 4) ∷ []) result out.new }
+{
+    out.text(b" {")?;
+    out.brk(NEVER_BREAK)?;
+    out.begin(true, 4)
+}
+
+/// Closes a body, on a line of its own.
+fn close_body<E: Emit>(out: &mut E) -> Result<(), E::Fault>
+    requires { 0 < E.meanings.groups out.old }
+    ensures { Did E.meanings out.old (tok.Break (closing hard_break) ∷ tok.End ∷ tok.Text (codes "}") ∷ []) result out.new }
+{
+    out.brk(CLOSING_HARD_BREAK)?;
+    out.end()?;
+    out.text(b"}")
+}
+
+/// Feeds the layout of a use tree.
+#[cycle(put_use)]
+pub fn put_use<E: Emit>(out: &mut E, tree: &UseTree) -> Result<(), E::Fault>
+    ensures { Did E.meanings out.old (stream (use_layout tree.now)) result out.new }
+{
+    match tree {
+        UseTree::Name { path, name } => {
+            put_path(out, path.as_slice())?;
+            out.text(name.as_bytes())
+        }
+        UseTree::Group { path, trees } => {
+            put_path(out, path.as_slice())?;
+            match trees.as_slice() {
+                [] => out.text(b"{}"),
+                [first, rest @ ..] => {
+                    open_list(out, b"{")?;
+                    put_use(out, first)?;
+                    put_further(out, rest)?;
+                    close_list(out, b"}")
+                }
+            }
+        }
+    }
+}
+
+/// The use trees of a list behind its first one.
+#[cycle(put_use)]
+fn put_further<E: Emit>(out: &mut E, trees: &[UseTree]) -> Result<(), E::Fault>
+    ensures { Did E.meanings out.old (stream (further (map use_layout trees.now) Empty)) result out.new }
+{
+    for tree in trees {
+        out.text(b",")?;
+        out.brk(SPACE_BREAK)?;
+        put_use(out, tree)?;
+    }
+    Ok(())
+}
+
+/// Opens a list: its elements stand on one line, or each on its own, one step further in.
+fn open_list<E: Emit>(out: &mut E, opener: &[u8]) -> Result<(), E::Fault>
+    ensures { Did E.meanings out.old (tok.Begin true (pos 4) ∷ tok.Text opener.now ∷ tok.Break (soft_break 0) ∷ []) result out.new }
+{
+    out.begin(true, 4)?;
+    out.text(opener)?;
+    out.brk(SOFT_BREAK)
+}
+
+/// Closes a list, with a `,` behind its last element where each stands on its own line.
+fn close_list<E: Emit>(out: &mut E, closer: &[u8]) -> Result<(), E::Fault>
+    requires { 0 < E.meanings.groups out.old }
+    ensures { Did E.meanings out.old (tok.Break (comma_closing (soft_break 0)) ∷ tok.Text closer.now ∷ tok.End ∷ []) result out.new }
+{
+    out.brk(COMMA_CLOSING_BREAK)?;
+    out.text(closer)?;
+    out.end()
+}
+
+/// Names, each with a `::` behind it.
+fn put_path<E: Emit>(out: &mut E, names: &[Text]) -> Result<(), E::Fault>
+    ensures { Did E.meanings out.old (stream (path_layout names.now Empty)) result out.new }
+{
+    for name in names {
+        out.text(name.as_bytes())?;
+        out.text(b"::")?;
+    }
+    Ok(())
+}
+
+#[cfg(test)]
+mod tests {
+    use super::*;
+    use lay_token::List;
+    use std::test::Fail;
+
+    /// An item that is laid out.
+    #[derive(Clone, Copy)]
+    enum Sample<'a> {
+        Structure,
+        EmptyModule,
+        ModuleOfTwo,
+        ModuleInModule,
+        /// These names.
+        UseList(&'a [&'a [u8]]),
+        /// A list, and behind it this name.
+        ListInList(&'a [u8]),
+    }
+
+    fn structure(alloc: Global, name: &[u8]) -> Result<Item, NoMemory> {
+        let name = Text::from_bytes(alloc, name)?;
+        Ok(Item::Struct { name })
+    }
+
+    fn module(alloc: Global, name: &[u8], items: List<Item>) -> Result<Item, NoMemory> {
+        let name = Text::from_bytes(alloc, name)?;
+        Ok(Item::Module { name, items })
+    }
+
+    fn two(alloc: Global) -> Result<Item, NoMemory> {
+        let items = with(List::new(alloc), structure(alloc, b"B")?)?;
+        let items = with(items, module(alloc, b"c", List::new(alloc))?)?;
+        module(alloc, b"a", items)
+    }
+
+    fn inner(alloc: Global) -> Result<Item, NoMemory> {
+        let items = with(List::new(alloc), structure(alloc, b"C")?)?;
+        let items = with(List::new(alloc), module(alloc, b"b", items)?)?;
+        module(alloc, b"a", items)
+    }
+
+    fn named(alloc: Global, name: &[u8]) -> Result<UseTree, NoMemory> {
+        let name = Text::from_bytes(alloc, name)?;
+        Ok(UseTree::Name {
+            path: List::new(alloc),
+            name,
+        })
+    }
+
+    fn grouped(alloc: Global, name: &[u8], trees: List<UseTree>) -> Result<UseTree, NoMemory> {
+        let name = Text::from_bytes(alloc, name)?;
+        let path = with(List::new(alloc), name)?;
+        Ok(UseTree::Group { path, trees })
+    }
+
+    fn import(alloc: Global, trees: List<UseTree>) -> Result<Item, NoMemory> {
+        let tree = grouped(alloc, b"a", trees)?;
+        Ok(Item::Import { tree })
+    }
+
+    fn list(alloc: Global, names: &[&[u8]]) -> Result<List<UseTree>, NoMemory> {
+        let mut trees = List::new(alloc);
+        for name in names {
+            trees = with(trees, named(alloc, name)?)?;
+        }
+        Ok(trees)
+    }
+
+    fn list_in_list(alloc: Global, last: &[u8]) -> Result<List<UseTree>, NoMemory> {
+        let names: [&[u8]; 2] = [b"c", b"d"];
+        let tree = grouped(alloc, b"b", list(alloc, &names)?)?;
+        with(with(List::new(alloc), tree)?, named(alloc, last)?)
+    }
+
+    fn with<T: Drop>(list: List<T>, item: T) -> Result<List<T>, NoMemory> {
+        let mut list = list;
+        match list.push(item) {
+            Ok(()) => Ok(list),
+            Err(_) => Err(NoMemory),
+        }
+    }
+
+    fn item(alloc: Global, sample: Sample) -> Result<Item, NoMemory> {
+        match sample {
+            Sample::Structure => structure(alloc, b"A"),
+            Sample::EmptyModule => module(alloc, b"a", List::new(alloc)),
+            Sample::ModuleOfTwo => two(alloc),
+            Sample::ModuleInModule => inner(alloc),
+            Sample::UseList(names) => import(alloc, list(alloc, names)?),
+            Sample::ListInList(last) => import(alloc, list_in_list(alloc, last)?),
+        }
+    }
+
+    // A list fits in 89 columns, and in 90 it doesn't.
+    #[test]
+    fn texts(rt: HostRuntime) -> Result<(), Fail> {
+        let alloc = rt.alloc();
+        let b: &[u8] = b"b";
+        let c: &[u8] = b"c";
+        let fits: &[u8] =
+            b"cccccccccccccccccccccccccccccccccccccccccccccccccccccccccccccccccccccccccccc";
+        let wide: &[u8] =
+            b"ccccccccccccccccccccccccccccccccccccccccccccccccccccccccccccccccccccccccccccc";
+        let rows: [(Sample, &[u8]); 10] = [
+            (Sample::Structure, b"struct A;\n"),
+            (Sample::EmptyModule, b"mod a {}\n"),
+            (
+                Sample::ModuleOfTwo,
+                b"mod a {\n    struct B;\n    mod c {}\n}\n",
+            ),
+            (
+                Sample::ModuleInModule,
+                b"mod a {\n    mod b {\n        struct C;\n    }\n}\n",
+            ),
+            (Sample::UseList(&[]), b"use a::{};\n"),
+            (Sample::UseList(&[b, c]), b"use a::{b, c};\n"),
+            (
+                Sample::UseList(&[b, fits]),
+                b"use a::{b, cccccccccccccccccccccccccccccccccccccccccccccccccccccccccccccccccccccccccccc};\n",
+            ),
+            (
+                Sample::UseList(&[b, wide]),
+                b"use a::{\n    b,\n    ccccccccccccccccccccccccccccccccccccccccccccccccccccccccccccccccccccccccccccc,\n};\n",
+            ),
+            (Sample::ListInList(b), b"use a::{b::{c, d}, b};\n"),
+            (
+                Sample::ListInList(wide),
+                b"use a::{\n    b::{c, d},\n    ccccccccccccccccccccccccccccccccccccccccccccccccccccccccccccccccccccccccccccc,\n};\n",
+            ),
+        ];
+        for (sample, expected) in rows {
+            let text = item_text(alloc, &item(alloc, sample)?)?;
+            assert_eq!(rt; text.as_bytes(), expected);
+        }
+        Ok(())
+    }
+}
