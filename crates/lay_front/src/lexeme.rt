@@ -40,7 +40,7 @@ pub fn lexemes(alloc: Global, bytes: &[u8]) -> Result<Option<Vec<Lexeme<'_>>>, N
     Ok(Some(found))
 }
 
-// The lexeme at the front, which no blank stands before, and the bytes behind it.
+/// The lexeme at the front, which no blank stands before, and the bytes behind it.
 fn next_lexeme(bytes: &[u8]) -> Option<(Lexeme<'_>, &[u8])>
     ensures { option_map (λ found. (seen found.0, found.1.now)) result ≡ first_piece bytes.now }
 {

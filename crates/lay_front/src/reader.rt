@@ -12,7 +12,7 @@ use lay_token::word::{Class, word_class};
 use lay_token::{List, NoMemory, Text};
 use std::alloc::Global;
 
-// The items of a file stand at this depth, and those within another item one lower. At 0 nothing is read.
+/// The items of a file stand at this depth, and those within another item one lower. At 0 nothing is read.
 const DEPTH: u32 = 256;
 
 /// The tree of the bytes, or `None` where they have none.
@@ -37,7 +37,7 @@ fn read_lexemes(alloc: Global, lexemes: &[Lexeme<'_>]) -> Result<Option<List<Ite
     }
 }
 
-// Items up to where they end.
+/// Items up to where they end.
 #[cycle(items)]
 fn read_items(alloc: Global, at: &mut Cursor<'_>, depth: u32) -> Result<List<Item>, Stop>
     ensures { IsGot (spec.all (spec.item_at depth) (ahead at.old)) result (ahead at.new) }
@@ -84,7 +84,7 @@ fn read_struct(alloc: Global, at: &mut Cursor<'_>) -> Result<Item, Stop>
     }
 }
 
-// The items of the module stand at the depth.
+/// The items of the module stand at the depth.
 #[cycle(items)]
 #[tactic(auto, unfolding(crate::specs::ReadingFunction::module_by))]
 fn read_module(alloc: Global, at: &mut Cursor<'_>, depth: u32) -> Result<Item, Stop>
@@ -132,7 +132,7 @@ fn read_use_tree(alloc: Global, at: &mut Cursor<'_>, depth: u32) -> Result<UseTr
     }
 }
 
-// The use trees of a group, which stand at the depth, and the `}` behind them.
+/// The use trees of a group, which stand at the depth, and the `}` behind them.
 #[cycle(use_trees)]
 fn read_group(alloc: Global, at: &mut Cursor<'_>, depth: u32) -> Result<List<UseTree>, Stop>
     ensures { IsGot (spec.group (spec.use_at depth) (ahead at.old)) result (ahead at.new) }
@@ -148,7 +148,7 @@ fn read_group(alloc: Global, at: &mut Cursor<'_>, depth: u32) -> Result<List<Use
     Ok(trees)
 }
 
-// Names, each with a `::` behind it.
+/// Names, each with a `::` behind it.
 fn read_path(alloc: Global, at: &mut Cursor<'_>) -> Result<List<Text>, Stop>
     ensures { IsGot (spec.path (ahead at.old)) result (ahead at.new) }
 {
@@ -170,7 +170,7 @@ fn read_name(alloc: Global, at: &mut Cursor<'_>) -> Result<Text, Stop>
     }
 }
 
-// The word as a name, if it may be one.
+/// The word as a name, if it may be one.
 fn name_of(alloc: Global, word: &[u8]) -> Result<Text, Stop>
     ensures { IsNamed word.now result }
 {
@@ -189,7 +189,7 @@ fn is_name(word: &[u8]) -> bool
     word != b"_".as_slice() && matches!(word_class(word), Class::Plain)
 }
 
-// Adds an item at the end.
+/// Adds an item at the end.
 fn keep<T: Drop>(list: &mut List<T>, item: T) -> Result<(), Stop>
     ensures ok { OnOk result (list.new ≡ list.old ++ item ∷ []) }
     ensures err { IfErr result (λ stop. stop ≡ Stop.NoMemory) }
@@ -200,16 +200,16 @@ fn keep<T: Drop>(list: &mut List<T>, item: T) -> Result<(), Stop>
     }
 }
 
-// Why nothing was read.
+/// Why nothing was read.
 #[derive(Clone, Copy, Debug)]
 enum Stop {
-    // The lexemes ahead spell nothing of the kind.
+    /// The lexemes ahead spell nothing of the kind.
     NoReading,
-    // Memory was not found, which says nothing of the lexemes.
+    /// Memory was not found, which says nothing of the lexemes.
     NoMemory,
 }
 
-// Whether the lexeme is this mark. A word is no mark.
+/// Whether the lexeme is this mark. A word is no mark.
 fn is_mark(mark: Lexeme<'_>, lexeme: Lexeme<'_>) -> bool
     ensures { result ≡ spec.is_mark (seen mark.entry) (seen lexeme.entry) }
 {
@@ -223,14 +223,14 @@ fn is_mark(mark: Lexeme<'_>, lexeme: Lexeme<'_>) -> bool
     )
 }
 
-// A place in a text: the lexemes ahead.
+/// A place in a text: the lexemes ahead.
 #[derive(Clone, Copy)]
 struct Cursor<'a> {
     ahead: &'a [Lexeme<'a>],
 }
 
 impl<'a> Cursor<'a> {
-    // The word at the front, with it passed.
+    /// The word at the front, with it passed.
     fn take_word(&mut self) -> Option<&'a [u8]>
         ensures { option_map (λ word. (word.now, ahead self.new)) result ≡ spec.word (ahead self.old) }
     {
@@ -243,7 +243,7 @@ impl<'a> Cursor<'a> {
         }
     }
 
-    // The word at the front, where a `::` stands behind it, with both passed.
+    /// The word at the front, where a `::` stands behind it, with both passed.
     fn take_path_word(&mut self) -> Option<&'a [u8]>
         ensures some { option_map (λ word. (word.now, ahead self.new)) result ≡ spec.path_word (ahead self.old) }
         ensures none { IfNone result (self.new ≡ self.old) }
@@ -257,7 +257,7 @@ impl<'a> Cursor<'a> {
         }
     }
 
-    // Passes the mark, if it stands at the front.
+    /// Passes the mark, if it stands at the front.
     fn takes(&mut self, mark: Lexeme<'_>) -> bool
         ensures found { result ≡ first (spec.is_mark (seen mark.entry)) (ahead self.old) }
         ensures passed { ahead self.new ≡ (if result then tail (ahead self.old) else ahead self.old) }
@@ -277,21 +277,21 @@ impl<'a> Cursor<'a> {
         matches!(self.ahead, [Lexeme::CloseBrace, ..])
     }
 
-    // Behind an element of a list a `,` is passed, and where there is none a `}` stands.
+    /// Behind an element of a list a `,` is passed, and where there is none a `}` stands.
     fn takes_element_end(&mut self) -> bool
         ensures { (if result then Some (ahead self.new) else None) ≡ spec.element_end (ahead self.old) }
     {
         self.takes(Lexeme::Comma) || self.is_at_close_brace()
     }
 
-    // Whether no lexeme is left.
+    /// Whether no lexeme is left.
     fn is_at_end(&self) -> bool
         ensures { result ≡ spec.at_end (ahead self.now) }
     {
         self.ahead.is_empty()
     }
 
-    // Items end where no lexeme is left, and before a `}`.
+    /// Items end where no lexeme is left, and before a `}`.
     fn ends_items(&self) -> bool
         ensures { result ≡ spec.ends_items (ahead self.now) }
     {
@@ -304,7 +304,7 @@ mod tests {
     use super::*;
     use std::test::Fail;
 
-    // The number of items, if the bytes have a tree.
+    /// The number of items, if the bytes have a tree.
     fn count(alloc: Global, bytes: &[u8]) -> Result<Option<usize>, NoMemory> {
         match read_file(alloc, bytes)? {
             Some(items) => Ok(Some(items.as_slice().len())),
@@ -312,7 +312,7 @@ mod tests {
         }
     }
 
-    // So many copies of `open` behind the start, the middle, and so many of `close` before the end.
+    /// So many copies of `open` behind the start, the middle, and so many of `close` before the end.
     fn nested(
         alloc: Global,
         levels: usize,
@@ -331,7 +331,7 @@ mod tests {
         Ok(bytes)
     }
 
-    // Whether these are the items of the sample, from the outside in.
+    /// Whether these are the items of the sample, from the outside in.
     fn is_sample(items: &[Item]) -> bool {
         match items {
             [
