@@ -34,6 +34,7 @@ out_lines (one ∷ items) =
     text_joined (item_layout one) (file_layout items) hard_break hard_ends_line
     ∙ ap (λ (t : List ℕ). text_of (item_line one) ++ t) (out_lines items)
 
+-- what stands behind a layout that takes its rest
 pub stream_path : (names : List (List ℕ)) (rest : Document) → stream (path_layout names rest) ≡ stream (path_layout names Empty) ++ stream rest
 stream_path [] rest = refl
 stream_path (name ∷ names) rest = ap (λ (s : List Tok). tok.Text name ∷ tok.Text (codes "::") ∷ s) (stream_path names rest)
@@ -56,6 +57,7 @@ stream_lines (d ∷ ds) close =
     ∙ sym (append_assoc (stream d) (stream (part_lines ds Empty)) (stream close))
     ∙ ap (λ (s : List Tok). s ++ stream close) (sym (stream_joined d (part_lines ds Empty))))
 
+-- the layout of each node, one level of it
 pub use_name : (path : List (List ℕ)) (name : List ℕ) → use_layout (use_tree.Name path name) ≡ path_layout path (AddText name Empty)
 unfolding use_layout
 use_name path name = ap use_layout (sym (use_views.rolls-Name path name)) ∙ fold-roll-UseTree Document use_layout_by (use_open.UseTree-F.Name path name)
@@ -81,6 +83,7 @@ item_import tree = ap item_layout (sym (item_views.rolls-Import tree)) ∙ fold-
 rest_first : {A : Type 0} (xs : List A) (i : ℕ) (x : A) → i < length xs → x ≡ get_or xs i x → drop i xs ≡ x ∷ drop (i + 1) xs
 rest_first xs i x lt is = rw add-one (drop-cons xs i x lt ∙ ap (λ (y : _). y ∷ drop (suc i) xs) (sym is))
 
+-- What one turn of a loop puts and what is left are what was left before it, and at its end nothing is left.
 pub path_step : (names : List (List ℕ)) (i : ℕ) (name bytes : List ℕ) → i < length names → name ≡ get_or names i name → bytes ≡ name →
     tok.Text bytes ∷ tok.Text (codes "::") ∷ stream (path_layout (drop (i + 1) names) Empty) ≡ stream (path_layout (drop i names) Empty)
 path_step names i name bytes lt is same =
@@ -127,6 +130,7 @@ stream_list opener closer d ds =
     ∙ append_assoc (stream d) (stream (further ds Empty) ++ stream close) end
     ∙ ap (λ (s : List Tok). stream d ++ s) (append_assoc (stream (further ds Empty)) (stream close) end)))
 
+-- The stream of a use tree, from the parts that calls gave.
 pub stream_use_name : (tree : UseTree) (path path' : List (List ℕ)) (name name' : List ℕ) → tree ≡ use_tree.Name path name → path' ≡ path → name' ≡ name →
     stream (path_layout path' Empty) ++ (tok.Text name' ∷ []) ≡ stream (use_layout tree)
 stream_use_name tree path path' name name' is same same' =
@@ -141,6 +145,7 @@ stream_use_group tree path path' trees list is same e =
     ∙ ap (λ (s : List Tok). stream (path_layout path Empty) ++ s) e
     ∙ sym (ap (λ (t : UseTree). stream (use_layout t)) is ∙ ap stream (use_group path trees) ∙ stream_path path (list_layout (codes "{") (codes "}") (map use_layout trees)))
 
+-- an empty list, and one with a first element
 pub empty_list : (xs trees : List UseTree) → xs ≡ trees → length xs < 1 →
     tok.Text (codes "{}") ∷ [] ≡ stream (list_layout (codes "{") (codes "}") (map use_layout trees))
 empty_list [] trees e h = ap (λ (ts : List UseTree). stream (list_layout (codes "{") (codes "}") (map use_layout ts))) e
@@ -164,9 +169,11 @@ full_list xs trees first e h is =
 pub level_stays : {S F T : Type 0} {m : Meanings S F} {a b : S} {x : T} (d : Document) → Did m a (stream d) (Ok x) b → m.groups b ≡ m.groups a
 level_stays {m} {a} d h = level_of h ∙ opened_document d (m.groups a)
 
+-- a head of a keyword and a name
 abbrev pub head_of : List ℕ → List ℕ → List Tok
 head_of keyword name = tok.Begin false (pos 0) ∷ tok.Text keyword ∷ tok.Text name ∷ tok.End ∷ []
 
+-- The stream of an item, from the parts that calls gave.
 pub stream_struct : (one : Item) (name name' : List ℕ) → one ≡ item.Struct name → name' ≡ name →
     head_of (codes "struct ") name' ++ (tok.Text (codes ";") ∷ []) ≡ stream (item_layout one)
 stream_struct one name name' is same =

@@ -43,51 +43,51 @@ render_joined (AddGroup c o inner rest) e f s follow =
     ∙ render_joined rest e f (render inner (enter f c o (over (flat inner + ahead rest (ahead e follow)) s)) s (ahead rest (ahead e follow))) follow
 
 -- a state with a text before its own
-abbrev pub before : List ℕ → State → State
-before t s = record { text = t ++ s.text; pending = s.pending; room = s.room; used = s.used }
+abbrev pub prefixed : List ℕ → State → State
+prefixed t s = record { text = t ++ s.text; pending = s.pending; room = s.room; used = s.used }
 
-write_before : (bytes t : List ℕ) (s : State) → write bytes (before t s) ≡ before t (write bytes s)
-write_before bytes t s = ap (λ (x : List ℕ). record { text = x; pending = 0; room = s.room; used = s.used + length bytes }) (append_assoc t s.text (replicate s.pending 32 ++ bytes))
+write_prefixed : (bytes t : List ℕ) (s : State) → write bytes (prefixed t s) ≡ prefixed t (write bytes s)
+write_prefixed bytes t s = ap (λ (x : List ℕ). record { text = x; pending = 0; room = s.room; used = s.used + length bytes }) (append_assoc t s.text (replicate s.pending 32 ++ bytes))
 
-mark_before : (m : Mark) (t : List ℕ) (s : State) → put_mark m (before t s) ≡ before t (put_mark m s)
-mark_before Absent t s = refl
-mark_before Comma t s = write_before _ t s
-mark_before OpenBrace t s = write_before _ t s
-mark_before CloseBrace t s = write_before _ t s
+mark_prefixed : (m : Mark) (t : List ℕ) (s : State) → put_mark m (prefixed t s) ≡ prefixed t (put_mark m s)
+mark_prefixed Absent t s = refl
+mark_prefixed Comma t s = write_prefixed _ t s
+mark_prefixed OpenBrace t s = write_prefixed _ t s
+mark_prefixed CloseBrace t s = write_prefixed _ t s
 
-line_before : (k : ℕ) (t : List ℕ) (s : State) → line k (before t s) ≡ before t (line k s)
-line_before k t s = ap (λ (x : List ℕ). record { text = x; pending = k; room = max (89 - k) 60; used = 0 }) (append_assoc t s.text (10 ∷ []))
+line_prefixed : (k : ℕ) (t : List ℕ) (s : State) → line k (prefixed t s) ≡ prefixed t (line k s)
+line_prefixed k t s = ap (λ (x : List ℕ). record { text = x; pending = k; room = max (89 - k) 60; used = 0 }) (append_assoc t s.text (10 ∷ []))
 
-newline_before : (b : Break) (i : ℕ) (t : List ℕ) (s : State) → newline b i (before t s) ≡ before t (newline b i s)
-newline_before b i t s =
-    ap (λ (x : State). put_mark b.after (line (shift i b.offset) x)) (mark_before b.before t s)
-    ∙ ap (λ (x : State). put_mark b.after x) (line_before (shift i b.offset) t (put_mark b.before s))
-    ∙ mark_before b.after t (line (shift i b.offset) (put_mark b.before s))
+newline_prefixed : (b : Break) (i : ℕ) (t : List ℕ) (s : State) → newline b i (prefixed t s) ≡ prefixed t (newline b i s)
+newline_prefixed b i t s =
+    ap (λ (x : State). put_mark b.after (line (shift i b.offset) x)) (mark_prefixed b.before t s)
+    ∙ ap (λ (x : State). put_mark b.after x) (line_prefixed (shift i b.offset) t (put_mark b.before s))
+    ∙ mark_prefixed b.after t (line (shift i b.offset) (put_mark b.before s))
 
-skip_before : (b : Break) (t : List ℕ) (s : State) → skip b (before t s) ≡ before t (skip b s)
-skip_before b t s = mark_before b.instead t _
+skip_prefixed : (b : Break) (t : List ℕ) (s : State) → skip b (prefixed t s) ≡ prefixed t (skip b s)
+skip_prefixed b t s = mark_prefixed b.instead t _
 
-break_before : (never : Bool) (f : Frame) (b : Break) (big : Bool) (t : List ℕ) (s : State) →
-    break_by never f b big (before t s) ≡ before t (break_by never f b big s)
-break_before true f b big t s = skip_before b t s
-break_before false Flat b big t s = skip_before b t s
-break_before false (Broken true i) b big t s = newline_before b i t s
-break_before false (Broken false i) b true t s = newline_before b i t s
-break_before false (Broken false i) b false t s = skip_before b t s
+break_prefixed : (never : Bool) (f : Frame) (b : Break) (big : Bool) (t : List ℕ) (s : State) →
+    break_by never f b big (prefixed t s) ≡ prefixed t (break_by never f b big s)
+break_prefixed true f b big t s = skip_prefixed b t s
+break_prefixed false Flat b big t s = skip_prefixed b t s
+break_prefixed false (Broken true i) b big t s = newline_prefixed b i t s
+break_prefixed false (Broken false i) b true t s = newline_prefixed b i t s
+break_prefixed false (Broken false i) b false t s = skip_prefixed b t s
 
 -- What was written before stays in front, and changes nothing else.
-pub render_before : (d : Document) (f : Frame) (t : List ℕ) (s : State) (follow : ℕ) →
-    render d f (before t s) follow ≡ before t (render d f s follow)
-render_before Empty f t s follow = refl
-render_before (AddText u rest) f t s follow =
-    ap (λ (x : State). render rest f x follow) (write_before u t s) ∙ render_before rest f t (write u s) follow
-render_before (AddBreak b rest) f t s follow =
+pub render_prefixed : (d : Document) (f : Frame) (t : List ℕ) (s : State) (follow : ℕ) →
+    render d f (prefixed t s) follow ≡ prefixed t (render d f s follow)
+render_prefixed Empty f t s follow = refl
+render_prefixed (AddText u rest) f t s follow =
+    ap (λ (x : State). render rest f x follow) (write_prefixed u t s) ∙ render_prefixed rest f t (write u s) follow
+render_prefixed (AddBreak b rest) f t s follow =
     let big = over (width_of_break b + ahead rest follow) s in
-    ap (λ (x : State). render rest f x follow) (break_before b.never f b big t s) ∙ render_before rest f t (break_in f b big s) follow
-render_before (AddGroup c o inner rest) f t s follow =
+    ap (λ (x : State). render rest f x follow) (break_prefixed b.never f b big t s) ∙ render_prefixed rest f t (break_in f b big s) follow
+render_prefixed (AddGroup c o inner rest) f t s follow =
     let g = enter f c o (over (flat inner + ahead rest follow) s) in
-    ap (λ (x : State). render rest f x follow) (render_before inner g t s (ahead rest follow))
-    ∙ render_before rest f t (render inner g s (ahead rest follow)) follow
+    ap (λ (x : State). render rest f x follow) (render_prefixed inner g t s (ahead rest follow))
+    ∙ render_prefixed rest f t (render inner g s (ahead rest follow)) follow
 
 mark_room : (m : Mark) (s : State) → s.room ≤ 89 → (put_mark m s).room ≤ 89
 mark_room Absent s h = h
@@ -127,9 +127,9 @@ over_wide : (b : Break) (n : ℕ) (s : State) → 90 ≤ b.blank → s.room ≤ 
 over_wide b n s h k = lt-ltb s.room (s.used + (width_of_break b + n)) (omega arith)
 
 -- the same state, for an offset and a mark that are known
-begun_anew : (o : ℤ) (m : Mark) (s : State) → o ≡ pos 0 → m ≡ Absent → put_mark m (line (shift 0 o) s) ≡ before (put_mark m (line (shift 0 o) s)).text start
+begun_anew : (o : ℤ) (m : Mark) (s : State) → o ≡ pos 0 → m ≡ Absent → put_mark m (line (shift 0 o) s) ≡ prefixed (put_mark m (line (shift 0 o) s)).text start
 begun_anew o m s e h =
-    let P : ℤ → Mark → Type 0 = λ (p : ℤ) (n : Mark). put_mark n (line (shift 0 p) s) ≡ before (put_mark n (line (shift 0 p) s)).text start in
+    let P : ℤ → Mark → Type 0 = λ (p : ℤ) (n : Mark). put_mark n (line (shift 0 p) s) ≡ prefixed (put_mark n (line (shift 0 p) s)).text start in
     let q : P (pos 0) Absent = ap (λ (t : List ℕ). record { text = t; pending = 0; room = 89; used = 0 }) (sym (append-nil (s.text ++ 10 ∷ []))) in
     subst (λ (p : ℤ). P p m) (sym e) (subst (P (pos 0)) (sym h) q)
 
@@ -141,7 +141,7 @@ hard_newline b follow s h k =
 
 -- Where such a break ends a document, all begins anew behind its text.
 pub ends_line : (d : Document) (hard : Break) (follow : ℕ) → EndsLine hard →
-    render (joined d (AddBreak hard Empty)) outside start follow ≡ before (text_of (joined d (AddBreak hard Empty))) start
+    render (joined d (AddBreak hard Empty)) outside start follow ≡ prefixed (text_of (joined d (AddBreak hard Empty))) start
 ends_line d hard follow h =
     let s = render d outside start 0 in
     let k : s.room ≤ 89 = render_room d outside start 0 (omega arith) in
@@ -149,7 +149,7 @@ ends_line d hard follow h =
     λ n. render_joined d (AddBreak hard Empty) outside start n ∙ hard_newline hard n s h k in
     e follow
     ∙ begun_anew hard.offset hard.after (put_mark hard.before s) h.stays h.no_mark
-    ∙ ap (λ (x : State). before x.text start) (sym (e 0))
+    ∙ ap (λ (x : State). prefixed x.text start) (sym (e 0))
 
 -- The text of lines is the texts of the lines.
 pub text_joined : (d e : Document) (hard : Break) → EndsLine hard →
@@ -160,4 +160,4 @@ text_joined d e hard h =
     ap (λ (s : State). s.text) (
     render_joined head e outside start 0
     ∙ ap (λ (s : State). render e outside s 0) (ends_line d hard (ahead e 0) h)
-    ∙ render_before e outside t start 0)
+    ∙ render_prefixed e outside t start 0)
