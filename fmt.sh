@@ -4,6 +4,7 @@
 top=$(cd "$(dirname "$0")" && pwd) || exit 1
 command="$top/crates/lay_fmt/out/lay_fmt"
 if [ ! -x "$command" ]; then
-    (cd "$top/crates/lay_fmt" && rt check) </dev/null >&2 || exit 1
+    # rt run proves, builds and then runs the command once, here on no input.
+    (cd "$top/crates/lay_fmt" && rt run </dev/null) >&2 || exit 1
 fi
 exec "$command" "$@"

@@ -5,10 +5,9 @@ use lay_front::{Status, run};
 use lay_io::{HostInputs, HostSink};
 use lay_token::{NoMemory, Text};
 use std::alloc::Global;
-use std::env;
-use std::io;
 use std::process::ExitCode;
 use std::rt::Env;
+use std::{env, io};
 
 /// Why the words aren't at hand.
 enum NoWords {

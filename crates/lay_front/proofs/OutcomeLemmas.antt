@@ -6,7 +6,7 @@ use Rattle.lay_io.specs.declared.outside.Which.{Which}
 use Rattle.lay_token.specs.declared.refusal.Refusal.TheVariants.{NoItem}
 use Rattle.lay_front.specs.Reading.{Reads, HasNoReading}
 use Rattle.lay_front.specs.Layout.{out}
-use Rattle.lay_front.specs.Outcome.{FormatRun, WasRead}
+use Rattle.lay_front.specs.Outcome.{FormatRun}
 use Rattle.lay_front.specs.declared.tree.Item.{Item}
 use Rattle.lay_front.specs.declared.command.Status.{Status}
 use Rattle.lay_front.specs.declared.command.Status.TheVariants.{Done, Differs, Usage, ReadFailed, Refused, WriteFailed, TooLong, NoMemory}

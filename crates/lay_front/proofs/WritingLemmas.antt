@@ -1,12 +1,11 @@
 -- What was written so far and what waits are the text of the items so far.
-use Rattle.std.proofs.Common.{◌≡◌, ◌<◌, ◌≤◌, ◌+◌, ℕ, suc, List, [], ◌∷◌, ◌++◌, length, take, drop, get_or, refl, sym, ◌∙◌, ap, Option, Some, None, drop-cons, append_assoc, append-nil, Result, Ok, Err, arith, le_trans}
+use Rattle.std.proofs.Common.{◌≡◌, ◌<◌, ◌+◌, ℕ, List, [], ◌∷◌, ◌++◌, length, take, drop, get_or, refl, sym, ◌∙◌, ap, Option, append_assoc, append-nil}
 use Rattle.std.specs.List.{flat_map}
-use Rattle.std.proofs.Math.Seq.{take-length, take-append-add}
+use Rattle.std.proofs.Math.Seq.{take-length}
 use Rattle.std.proofs.lemmas.List.{take-append-drop, take_more}
 use Rattle.std.proofs.lemmas.Grind.{flat_map-append}
 use Rattle.lay_io.specs.Told.{GrewBy, GrewByPrefix}
-use Rattle.lay_io.specs.Calls.{Puts}
-use Rattle.lay_io.proofs.Growth.{grew_by-nothing, grew_by-more, grew_by_prefix-longer, grew_by_prefix-more, grew_by_prefix-nothing}
+use Rattle.lay_io.proofs.Growth.{grew_by-nothing, grew_by-more, grew_by_prefix-longer, grew_by_prefix-more}
 use Rattle.lay_token.specs.Document.{text_of}
 use Rattle.lay_front.specs.Layout.{out, item_line}
 use Rattle.lay_front.specs.Waiting.{Passed}
@@ -27,9 +26,9 @@ writing-start before items = record { front = []; grew = grew_by-nothing before;
 pub writing-more : (before middle now : Option (List ℕ)) (items : List Item) (i : ℕ) (waiting waiting' text : List ℕ) (one : Item) → IsWriting before middle items i waiting
     → i < length items → one ≡ get_or items i one → text ≡ line one → Passed middle now (waiting ++ text) waiting' → IsWriting before now items (i + 1) waiting'
 writing-more before middle now items i waiting waiting' text one w within is same p = record {
-    front = w.front ++ p.front;
-    grew = grew_by-more before middle now w.front p.front w.grew p.grew;
-    both =
+  front = w.front ++ p.front;
+  grew = grew_by-more before middle now w.front p.front w.grew p.grew;
+  both =
       ap (flat_map line) (take_more items i one within ∙ ap (λ (x : Item). take i items ++ x ∷ []) (sym is))
       ∙ flat_map-append line (take i items) (one ∷ [])
       ∙ ap (λ (t : List ℕ). t ++ (line one ++ [])) w.both
@@ -37,7 +36,7 @@ writing-more before middle now items i waiting waiting' text one w within is sam
       ∙ append_assoc w.front waiting text
       ∙ ap (λ (t : List ℕ). w.front ++ t) p.both
       ∙ sym (append_assoc w.front p.front waiting');
-  }
+}
 
 -- the text of the first items begins the text of all
 begins_all : (items : List Item) (i : ℕ) (part : List ℕ) → flat_map line (take i items) ≡ part → out items ≡ part ++ flat_map line (drop i items)

@@ -4,7 +4,7 @@ use Rattle.std.specs.Str.{bytes_eq}
 use Rattle.lay_token.specs.declared.word.Class.{Class}
 use Rattle.lay_token.specs.declared.word.Class.TheVariants.{Plain}
 use Rattle.lay_token.specs.Word.{class_of}
-use Rattle.lay_front.specs.Pieces.{Piece, Word, Semicolon, Comma, OpenBrace, CloseBrace, Separator, ConsistsOf}
+use Rattle.lay_front.specs.Pieces.{Piece, Word, Semicolon, Comma, OpenBrace, CloseBrace, Separator}
 use Rattle.lay_front.specs.declared.tree.Item.{Item, out-Item}
 use Rattle.lay_front.specs.declared.tree.Item.TheOpen as item
 use Rattle.lay_front.specs.declared.tree.UseTree.{UseTree, out-UseTree}

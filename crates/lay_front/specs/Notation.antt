@@ -1,5 +1,5 @@
 -- The signs that layouts are written in: breaks, lists and bodies.
-use Rattle.std.specs.Prelude.{ℕ, true, false, List, [], ◌∷◌, ◌++◌, ℤ, pos, negsuc, codes}
+use Rattle.std.specs.Prelude.{ℕ, true, false, List, [], ◌∷◌, ◌++◌, pos, negsuc, codes}
 use Rattle.lay_token.specs.declared.layout.Break.{Break}
 use Rattle.lay_token.specs.declared.layout.Mark.TheVariants.{Absent, Comma}
 use Rattle.lay_token.specs.Document.{Document, Empty, AddText, AddBreak, AddGroup, joined}
@@ -34,7 +34,7 @@ abbrev pub list_layout : List ℕ → List ℕ → List Document → Document
 list_layout opener closer [] = AddText (opener ++ closer) Empty
 list_layout opener closer (d ∷ ds) =
     AddGroup true (pos 4) (AddText opener (AddBreak (soft_break 0)
-      (joined d (further ds (AddBreak (comma_closing (soft_break 0)) (AddText closer Empty)))))) Empty
+    (joined d (further ds (AddBreak (comma_closing (soft_break 0)) (AddText closer Empty)))))) Empty
 
 -- parts, each on a line of its own, and what closes them
 abbrev pub part_lines : List Document → Document → Document
@@ -46,7 +46,7 @@ abbrev pub body_layout : List Document → Document
 body_layout [] = AddText (codes " {}") Empty
 body_layout (d ∷ ds) =
     AddText (codes " {") (AddBreak never_break
-      (AddGroup true (pos 4) (part_lines (d ∷ ds) (AddBreak (closing hard_break) Empty)) (AddText (codes "}") Empty)))
+    (AddGroup true (pos 4) (part_lines (d ∷ ds) (AddBreak (closing hard_break) Empty)) (AddText (codes "}") Empty)))
 
 -- the head of an item
 abbrev pub head_layout : Document → Document → Document

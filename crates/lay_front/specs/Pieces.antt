@@ -1,6 +1,6 @@
 -- Pieces of a text, and which bytes consist of which pieces (Rust Reference, "Tokens" and "Whitespace", cut to ASCII words
 -- and five marks).
-use Rattle.std.specs.Prelude.{ℕ, ◌≡◌, ◌==◌, ◌&&◌, ◌||◌, Bool, true, false, nat_le, List, [], ◌∷◌, ◌++◌, IsTrue, codes}
+use Rattle.std.specs.Prelude.{ℕ, ◌≡◌, ◌==◌, ◌&&◌, ◌||◌, Bool, false, nat_le, List, [], ◌∷◌, ◌++◌, IsTrue, codes}
 use Rattle.std.specs.List.{list_all}
 
 -- A word, or `;`, `,`, `{`, `}` or `::`.

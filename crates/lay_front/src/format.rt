@@ -75,11 +75,7 @@ fn write_items<K: Sink>(alloc: Global, items: &[Item], out: &mut K) -> Result<()
 }
 
 /// Lets bytes wait behind those that wait already, and writes them all once there are enough for a piece.
-fn write_behind<K: Sink>(
-    waiting: &mut Vec<u8>,
-    bytes: &[u8],
-    out: &mut K,
-) -> Result<(), WriteError>
+fn write_behind<K: Sink>(waiting: &mut Vec<u8>, bytes: &[u8], out: &mut K) -> Result<(), WriteError>
     ensures later { K.faults out.old ≤ K.faults out.new }
     ensures passed { OnOk result (Passed (K.written out.old) (K.written out.new) (waiting.old.items ++ bytes.now) waiting.new.items) }
     ensures part { OnErr result (GrewByPrefix (K.written out.old) (K.written out.new) (waiting.old.items ++ bytes.now)) }

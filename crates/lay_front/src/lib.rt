@@ -16,3 +16,6 @@ pub mod tree;
 pub use command::{LIMIT, Status, run};
 pub use format::{IntoError, format_into};
 pub use tree::{Item, UseTree};
+
+#[cfg(test)]
+mod tests;

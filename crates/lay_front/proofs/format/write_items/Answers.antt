@@ -5,9 +5,9 @@ use Rattle.lay_front.proofs.format.write_items.Goals as goal
 
 pub loop-item-preserved : goal.loop-item-preserved
 loop-item-preserved g c = record {
-    writing = writing-more _ _ _ _ _ _ _ _ c.item-item.result c.loop-item.invariant.writing c.loop-item-test.true c.item-item.is (c.as_bytes.ensures ∙ c.in-Ok.ensures) c.in_default.ensures.passed;
-    later = omega arith;
-  }
+  writing = writing-more _ _ _ _ _ _ _ _ c.item-item.result c.loop-item.invariant.writing c.loop-item-test.true c.item-item.is (c.as_bytes.ensures ∙ c.in-Ok.ensures) c.in_default.ensures.passed;
+  later = omega arith;
+}
 
 pub returns-in-Err-clause-part : goal.returns-in-Err-clause-part
 returns-in-Err-clause-part g c = writing-stopped _ _ _ _ _ _ c.loop-item.invariant.writing (grew_by_prefix-nothing _ _)

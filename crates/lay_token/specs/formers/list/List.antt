@@ -46,7 +46,7 @@ module _ (R S : RattleType) (h : R.Denot → S.Denot) where
   pub the_places : Alike R S h → Alike (whole.the_row R) (whole.the_row S) ((the_former this).map R.Denot S.Denot h)
   the_places alike =
       let inside = struct_places (fields.the_type R) (fields.the_type S) (vectors.mapped h, tt) _ (λ f. refl) refl
-                   (laid _ _ _ (vectors.the_places global.the_row ghosts R S h alike), tt) in
+      (laid _ _ _ (vectors.the_places global.the_row ghosts R S h alike), tt) in
       view_places stored (list this) view (λ X Y k u. refl) (λ X u. refl) R.Denot S.Denot h (whole.the_row R).coded (whole.the_row S).coded
       (invariant R.Denot) (invariant S.Denot) (λ u p q. refl) (λ u p q. refl) (λ u e. tt) (λ u e. tt)
       (over (fields.the_row R)) (over (fields.the_row S)) inside

@@ -1,0 +1,129 @@
+//! Runs of the command over objects in memory.
+use crate::{LIMIT, Status, run};
+use lay_io::{MemoryInputs, MemorySink, QuietInputs, QuietSink};
+use lay_token::{List, NoMemory, Refusal, Text};
+use std::alloc::Global;
+use std::test::Fail;
+
+fn list(alloc: Global, bytes: &[u8]) -> Result<List<u8>, NoMemory> {
+    Ok(List::from_vec(bytes.to_vec(alloc)?))
+}
+
+/// So many copies of the bytes.
+fn repeated(alloc: Global, bytes: &[u8], count: usize) -> Result<Vec<u8>, NoMemory> {
+    let mut all = Vec::new(alloc);
+    for _ in 0..count {
+        all.extend_from_slice(bytes)?;
+    }
+    Ok(all)
+}
+
+/// The status and the text of a run that can't fail.
+fn quiet(alloc: Global, words: &[Text], given: List<u8>) -> Result<(Status, Text), NoMemory> {
+    let mut inputs = QuietInputs::new(given, List::new(alloc));
+    let mut out = QuietSink::with_room(alloc, 1000)?;
+    let mut err = QuietSink::new(alloc);
+    let status = run(alloc, words, &mut inputs, &mut out, &mut err);
+    Ok((status, Text::from_bytes(alloc, out.bytes())?))
+}
+
+#[test]
+fn files(rt: HostRuntime) -> Result<(), Fail> {
+    let alloc = rt.alloc();
+    let refused = Status::Refused(Refusal::NoItem { at: 0 });
+    let rows = [
+        ("", Status::Done, ""),
+        ("struct A;struct B;", Status::Done, "struct A;\nstruct B;\n"),
+        (
+            "struct A;\nstruct B;\n",
+            Status::Done,
+            "struct A;\nstruct B;\n",
+        ),
+        (
+            "mod a{struct B;mod c{}}",
+            Status::Done,
+            "mod a {\n    struct B;\n    mod c {}\n}\n",
+        ),
+        ("use a::{b,c,};", Status::Done, "use a::{b, c};\n"),
+        ("struct A", refused, ""),
+        ("struct A;struct B", refused, ""),
+        ("pub struct A;", refused, ""),
+    ];
+    for (given, status, text) in rows {
+        let (answer, written) = quiet(alloc, &[], list(alloc, given.as_bytes())?)?;
+        assert_eq!(rt; answer, status, "{given}");
+        assert_eq!(rt; written.as_bytes(), text.as_bytes(), "{given}");
+    }
+    let word = [Text::new(alloc)];
+    let (answer, written) = quiet(alloc, &word, list(alloc, b"struct A;")?)?;
+    assert_eq!(rt; (answer, written.as_bytes().len()), (Status::Usage, 0));
+    Ok(())
+}
+
+/// An input of 16 MiB is read, and one that holds a byte more is not.
+#[test]
+fn greatest_input(rt: HostRuntime) -> Result<(), Fail> {
+    let alloc = rt.alloc();
+    for (length, status) in [(LIMIT, Status::Done), (LIMIT + 1, Status::TooLong)] {
+        let blanks = List::from_vec(repeated(alloc, b" ", length)?);
+        let (answer, written) = quiet(alloc, &[], blanks)?;
+        assert_eq!(rt; (answer, written.as_bytes().len()), (status, 0));
+    }
+    Ok(())
+}
+
+/// The status and the text of a run over so many `struct A;`, of which one read and one write fail; the write
+/// keeps so many bytes.
+fn failing(
+    alloc: Global,
+    count: usize,
+    read: Option<u64>,
+    write: Option<u64>,
+    keep: usize,
+) -> Result<(Status, Text), NoMemory> {
+    let given = List::from_vec(repeated(alloc, b"struct A;", count)?);
+    let mut inputs = MemoryInputs::new(given, List::new(alloc), numbers(alloc, read)?);
+    let mut out = MemorySink::new(alloc, 100_000, numbers(alloc, write)?, keep)?;
+    let mut err = QuietSink::new(alloc);
+    let status = run(alloc, &[], &mut inputs, &mut out, &mut err);
+    Ok((status, Text::from_bytes(alloc, out.bytes())?))
+}
+
+fn numbers(alloc: Global, number: Option<u64>) -> Result<List<u64>, NoMemory> {
+    let mut all = Vec::new(alloc);
+    if let Some(number) = number {
+        all.push(number)?;
+    }
+    Ok(List::from_vec(all))
+}
+
+/// 8,000 items take five reads of at most 16 KiB and one that finds the end, and a write of the first items
+/// that take 64 KiB and one of the others.
+#[test]
+fn failures(rt: HostRuntime) -> Result<(), Fail> {
+    let alloc = rt.alloc();
+    let whole = repeated(alloc, b"struct A;\n", 8000)?;
+    for number in 0..8 {
+        let (status, written) = failing(alloc, 8000, Some(number), None, 2)?;
+        if number < 6 {
+            assert_eq!(rt; (status, written.as_bytes().len()), (Status::ReadFailed, 0));
+        } else {
+            assert_eq!(rt; status, Status::Done);
+            assert_eq!(rt; written.as_bytes(), whole.as_slice());
+        }
+    }
+    let rows = [
+        (2, Some(0), Status::WriteFailed, 2),
+        (2, Some(1), Status::Done, 20),
+        (8000, Some(0), Status::WriteFailed, 2),
+        (8000, Some(1), Status::WriteFailed, 65_542),
+        (8000, Some(2), Status::Done, 80_000),
+        (8000, None, Status::Done, 80_000),
+    ];
+    for (count, number, answer, length) in rows {
+        let (status, written) = failing(alloc, count, None, number, 2)?;
+        assert_eq!(rt; (status, written.as_bytes().len()), (answer, length));
+        assert!(rt; whole.starts_with(written.as_bytes()));
+    }
+    Ok(())
+}
