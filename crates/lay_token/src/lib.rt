@@ -9,11 +9,14 @@
 
 pub mod layout;
 pub mod list;
+pub mod piece;
 pub mod refusal;
 pub mod text;
+pub mod token;
 pub mod word;
 
 pub use layout::{Break, Frame, Mark, Tok, layout_law};
 pub use list::List;
 pub use refusal::{FormatError, NoMemory, Refusal};
 pub use text::Text;
+pub use token::{Delim, Kind, Token};
