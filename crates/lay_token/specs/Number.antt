@@ -94,9 +94,9 @@ is_decimal _ = false
 abbrev pub is_float : List ℕ → Bool
 is_float cs = begins is_ascii_digit cs && is_decimal (base_of cs) && is_float_tail (after in_digits cs)
 
+-- Nothing follows the point of a Float.
 abbrev pub ends_in_point : List ℕ → Bool
-ends_in_point [] = false
-ends_in_point (c ∷ cs) = cond (is_nil cs) (c == 46) (ends_in_point cs)
+ends_in_point cs = behind false (46 ∷ []) is_nil (after in_digits cs)
 
 -- The integer has no suffix.
 abbrev pub is_bare_int : List ℕ → Bool

@@ -1,21 +1,48 @@
 //! The piece at the front of a text.
-ghost use Rattle.std.specs.Prelude.{◌≡◌};
+ghost use Rattle.std.specs.Prelude.{◌≡◌, ℕ, List, ◌++◌, length, IfSome, IsSomeAnd, IsUtf8, encode_utf8_all};
 ghost use Rattle.std.specs.Str.{chars};
-ghost use Rattle.lay_token.specs.Forms.{is_punct_char};
+ghost use Rattle.lay_token.specs.Forms.{Had, is_punct_char};
 ghost use Rattle.lay_token.specs.Found.{Finds, front_of, other, single};
 
 pub mod chars;
 mod comments;
 pub mod numbers;
 pub mod quoted;
+#[cfg(test)]
+mod tests;
 mod words;
 
 use crate::token::{Delim, Kind};
 use chars::{CharSet, first};
 
+/// The kind of a piece and its length in bytes.
+#[derive(Clone, Copy, Debug, PartialEq, Eq)]
+pub struct Piece {
+    pub kind: Kind,
+    pub len: usize,
+}
+
+/// The piece that stands at the front of a text, if one does (Rust Reference, "Tokens").
+///
+/// `index` says that the text follows the `.` of a field, where digits may be the index of a tuple's field.
+pub fn piece_at(rest: &[u8], index: bool) -> Option<Piece>
+    requires { IsUtf8 rest.now }
+    ensures found { IfSome result (λ p. (piece more : List ℕ) × (chars rest.now ≡ piece ++ more)
+        × Had p.kind piece more index × (p.len ≡ length (encode_utf8_all piece))) }
+    ensures only { (kind : Kind) (piece more : List ℕ) → chars rest.now ≡ piece ++ more → Had kind piece more index
+        → IsSomeAnd result (λ p. (p.kind ≡ kind) × (p.len ≡ length (encode_utf8_all piece))) }
+{
+    let text = unsafe { std::str::from_utf8_unchecked(rest) };
+    let (kind, tail) = front(index, text)?;
+    Some(Piece {
+        kind,
+        len: rest.len() - tail.len(),
+    })
+}
+
 /// The kind of the piece at the front, and what follows it.
 #[tactic(auto, unfolding(crate::specs::Found::front_of))]
-pub fn front(index: bool, s: &str) -> Option<(Kind, &str)>
+fn front(index: bool, s: &str) -> Option<(Kind, &str)>
     ensures { Finds (front_of index (chars s.now)) result }
 {
     let (c, tail) = first(s)?;
