@@ -239,7 +239,7 @@ some_after p q (c ∷ x) r h = elim (cases_Bool (p c)) [
 ]
 
 pub fronts_is : (p r : List ℕ) → begins is_ascii_digit r ≡ false
-    → begins in_word (cond (list_all is_ascii_digit p) r (after is_ascii_digit p)) ≡ begins in_word (after is_ascii_digit (p ++ r))
+    → cond (list_all is_ascii_digit p) (begins in_word r) (begins in_word (after is_ascii_digit p)) ≡ begins in_word (after is_ascii_digit (p ++ r))
 fronts_is p r h = elim (cases_Bool (list_all is_ascii_digit p)) [
   | inl e ↦ rw (e, after-more is_ascii_digit p r h, all_after is_ascii_digit p e) refl
   | inr e ↦ rw (e, after-more is_ascii_digit p r h) (sym (some_after is_ascii_digit in_word p r e))

@@ -115,4 +115,4 @@ is_index cs = begins is_ascii_digit cs && list_all is_ascii_digit cs
 -- alone and the rest begins with one more, no number ends there, be it an index or not.
 abbrev pub fronts_index : List ℕ → List ℕ → Bool
 fronts_index piece rest = begins is_ascii_digit piece
-    && not (begins in_word (cond (list_all is_ascii_digit piece) rest (after is_ascii_digit piece)))
+    && not (cond (list_all is_ascii_digit piece) (begins in_word rest) (begins in_word (after is_ascii_digit piece)))

@@ -17,7 +17,7 @@ pub mod word;
 
 pub use layout::{Break, Frame, Mark, Tok, layout_law};
 pub use list::List;
-pub use piece::{Piece, piece_at};
+pub use piece::{Piece, piece_at, piece_law};
 pub use refusal::{FormatError, NoMemory, Refusal};
 pub use text::Text;
-pub use token::{Delim, Kind, Token};
+pub use token::{Delim, Kind, Token, tokens_law};

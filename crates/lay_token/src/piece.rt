@@ -1,8 +1,11 @@
 //! The piece at the front of a text.
-ghost use Rattle.std.specs.Prelude.{◌≡◌, ℕ, List, ◌++◌, length, IfSome, IsSomeAnd, IsUtf8, encode_utf8_all};
+ghost use Rattle.std.specs.Prelude.{◌≡◌, ◌≢◌, ℕ, Bool, List, [], ◌∷◌, ◌++◌, length, IsTrue, IfSome, IsSomeAnd, IsUtf8, encode_utf8_all};
 ghost use Rattle.std.specs.Str.{chars};
-ghost use Rattle.lay_token.specs.Forms.{Had, is_punct_char};
+ghost use Rattle.lay_token.specs.Forms.{Had, had, is_punct_char};
 ghost use Rattle.lay_token.specs.Found.{Finds, front_of, other, single};
+ghost use Rattle.lay_token.specs.Gap.{is_gap};
+ghost use Rattle.lay_token.specs.Lexes.{BeginsNoGap, BeginsNoPiece};
+ghost use Rattle.lay_token.specs.declared.token.Kind.{Kind};
 
 pub mod chars;
 mod comments;
@@ -39,6 +42,19 @@ pub fn piece_at(rest: &[u8], index: bool) -> Option<Piece>
         len: rest.len() - tail.len(),
     })
 }
+
+/// The laws of pieces and gaps, for every text.
+///
+/// No gap begins with a piece, and no piece with a gap. What follows a piece matters to it by two characters
+/// at most. At most one kind and length fit at a place.
+pub fn piece_law()
+    ensures no_gap { (kind : Kind) (piece rest : List ℕ) (index : Bool) → Had kind piece rest index → BeginsNoGap (piece ++ rest) }
+    ensures no_piece { (gap rest : List ℕ) (index : Bool) → IsTrue (is_gap gap) → gap ≢ [] → BeginsNoPiece (gap ++ rest) index }
+    ensures two_characters { (kind : Kind) (piece rest more : List ℕ) (c d : ℕ) (index : Bool)
+        → had kind piece (c ∷ d ∷ rest) index ≡ had kind piece (c ∷ d ∷ more) index }
+    ensures one_piece { (kind other : Kind) (piece longer rest more : List ℕ) (index : Bool) → piece ++ rest ≡ longer ++ more
+        → Had kind piece rest index → Had other longer more index → (kind ≡ other) × (piece ≡ longer) }
+{}
 
 /// The kind of the piece at the front, and what follows it.
 #[tactic(auto, unfolding(crate::specs::Found::front_of))]

@@ -1,4 +1,8 @@
 //! Tokens: their kinds, and the pieces of a text that they stand for.
+ghost use Rattle.std.specs.Prelude.{◌≡◌, ℕ, List};
+ghost use Rattle.lay_token.specs.Lexes.{Lexes};
+ghost use Rattle.lay_token.specs.declared.token.Token.{Token};
+
 use crate::text::Text;
 
 /// What a delimiter is made of.
@@ -68,3 +72,9 @@ pub struct Token {
     /// The bytes of the piece.
     pub len: usize,
 }
+
+/// A text lexes to at most one list of tokens.
+pub fn tokens_law()
+    ensures { (bytes : List ℕ) (start : ℕ) (tokens others : List Token)
+        → Lexes bytes start tokens → Lexes bytes start others → tokens ≡ others }
+{}
