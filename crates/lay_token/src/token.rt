@@ -1,6 +1,6 @@
 //! Tokens: their kinds, and the pieces of a text that they stand for.
 ghost use Rattle.std.specs.Prelude.{◌≡◌, ℕ, List};
-ghost use Rattle.lay_token.specs.Lexes.{Lexes};
+ghost use Rattle.lay_token.specs.Lexes.{Lexes, NoTokenAt};
 ghost use Rattle.lay_token.specs.declared.token.Token.{Token};
 
 use crate::text::Text;
@@ -73,8 +73,11 @@ pub struct Token {
     pub len: usize,
 }
 
-/// A text lexes to at most one list of tokens.
+/// A text lexes to at most one list of tokens, or there is no token at one place at most, and never both.
 pub fn tokens_law()
-    ensures { (bytes : List ℕ) (start : ℕ) (tokens others : List Token)
+    ensures one_list { (bytes : List ℕ) (start : ℕ) (tokens others : List Token)
         → Lexes bytes start tokens → Lexes bytes start others → tokens ≡ others }
+    ensures one_place { (bytes : List ℕ) (start at other : ℕ) → NoTokenAt bytes start at → NoTokenAt bytes start other → at ≡ other }
+    ensures never_both { (bytes : List ℕ) (start at : ℕ) (tokens : List Token)
+        → NoTokenAt bytes start at → Lexes bytes start tokens → ⊥ }
 {}
