@@ -1,23 +1,23 @@
 -- What is had the scan finds: words, literals, documentation and single characters.
-use Rattle.std.proofs.Common.{◌≡◌, ◌≢◌, ◌⊎◌, inl, inr, ℕ, List, [], ◌∷◌, ◌++◌, Bool, true, false, cond, not, ◌&&◌, ◌||◌, Option, Some, None, sym, refl, ap, ◌∙◌, subst}
-use Rattle.std.specs.Prelude.{◌==◌, codes, IsTrue, encode_utf8_all, nat_lt}
+use Rattle.std.proofs.Common.{◌≡◌, inl, inr, ℕ, List, [], ◌∷◌, ◌++◌, Bool, true, false, cond, not, ◌&&◌, ◌||◌, Option, Some, None, sym, refl, ap, ◌∙◌, subst}
+use Rattle.std.specs.Prelude.{◌==◌, codes, encode_utf8_all}
 use Rattle.std.specs.List.{list_all, list_any}
 use Rattle.std.specs.Char.{is_ascii_digit}
-use Rattle.std.proofs.lemmas.Bool.{cases_Bool, and_parts, and_from, or_cases, eqb-true, eq-eqb, ne_eqb, not-true}
+use Rattle.std.proofs.lemmas.Bool.{and_parts, or_cases, eqb-true, ne_eqb, not-true}
 use Rattle.unicode_ident.proofs.Computing.{unicode_ident}
-use Rattle.lay_token.specs.Chars.{begins, front, after, behind, is_nil, is_word, is_suffix, is_lone_underscore, begins_suffix, starts_word, in_word}
+use Rattle.lay_token.specs.Chars.{begins, after, behind, is_nil, is_word, is_suffix, starts_word, in_word}
 use Rattle.lay_token.specs.Scan.{Go, Bad, run}
 use Rattle.lay_token.specs.Quoted.{Deep, doc_step, Hashes, Inside, raw_step, First, Last, char_step, is_lone}
 use Rattle.lay_token.specs.Word.{is_path_word}
-use Rattle.lay_token.specs.Forms.{had, Had, has_form, may_follow, after_literal, after_raw, after_char, after_string, is_punct_char, is_whole, is_one, opening, closing}
-use Rattle.lay_token.specs.Found.{Front, found, or_else, literal, raw_name, raw_word, word, lifetime, quote, line_doc, block_doc, line_comment, block_comment, slash, single, other, is_mark, is_tick, in_doc_line, is_star_or_slash, after_suffix, front_of}
+use Rattle.lay_token.specs.Forms.{had, Had, has_form, may_follow, after_literal, after_raw, after_char, after_string, is_punct_char, is_whole, is_one}
+use Rattle.lay_token.specs.Found.{found, raw_name, line_doc, block_doc, line_comment, block_comment, slash, is_mark, is_tick, in_doc_line, is_star_or_slash, after_suffix, front_of}
 use Rattle.lay_token.specs.declared.piece.quoted.Contents.{Contents}
 use Rattle.lay_token.specs.declared.piece.quoted.Contents.TheVariants as of
 use Rattle.lay_token.specs.declared.token.Delim.{Delim}
 use Rattle.lay_token.specs.declared.token.Delim.TheVariants.{Paren, Bracket, Brace}
 use Rattle.lay_token.specs.declared.token.Kind.{Kind}
-use Rattle.lay_token.specs.declared.token.Kind.TheVariants.{Ident, RawIdent, Underscore, Lifetime, Char, Str, RawStr, Byte, ByteStr, RawByteStr, CStr, RawCStr, Int, Float, Punct, Opener, Closer, Doc}
-use Rattle.lay_token.proofs.Fronts.{front-after, each-front, after-stops, after-append, front-append, begins-append, after-more}
+use Rattle.lay_token.specs.declared.token.Kind.TheVariants.{Ident, RawIdent, Underscore, Lifetime, Char, Str, RawStr, Byte, ByteStr, RawByteStr, CStr, RawCStr, Punct, Opener, Closer, Doc}
+use Rattle.lay_token.proofs.Fronts.{after-append, front-append, begins-append}
 use Rattle.lay_token.proofs.Literals.{is_literal, literal_found, behind_parts, starts_in, not_not, run-append}
 use Rattle.lay_token.proofs.Runs.{next, run-nil, run-cons, run-step}
 

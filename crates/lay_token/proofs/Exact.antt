@@ -1,11 +1,10 @@
 -- The scan finds what is had, and nothing else.
-use Rattle.std.proofs.Common.{◌≡◌, ℕ, List, [], ◌∷◌, ◌++◌, Bool, true, false, cond, Option, Some, None, sym, refl, ap, ◌∙◌, subst}
+use Rattle.std.proofs.Common.{◌≡◌, ℕ, List, [], ◌∷◌, ◌++◌, Bool, Some, None, refl, ap, subst}
 use Rattle.std.specs.Prelude.{◌==◌}
 use Rattle.std.specs.Char.{is_ascii_digit}
 use Rattle.lay_token.specs.Chars.{starts_word}
-use Rattle.lay_token.specs.Forms.{had, Had, after_literal, after_string}
+use Rattle.lay_token.specs.Forms.{Had, after_literal}
 use Rattle.lay_token.specs.Found.{Front, found, front_of, other}
-use Rattle.lay_token.specs.declared.piece.quoted.Contents.TheVariants as of
 use Rattle.lay_token.specs.declared.token.Kind.{Kind}
 use Rattle.lay_token.specs.declared.token.Kind.TheVariants.{Ident, RawIdent, Underscore, Lifetime, Char, Str, RawStr, Byte, ByteStr, RawByteStr, CStr, RawCStr, Int, Float, Punct, Opener, Closer, Doc}
 use Rattle.lay_token.proofs.Sound.{Stands, Sound, sound_cond, sound_at, literal_sound, word_sound, quote_sound, slash_sound, single_sound}

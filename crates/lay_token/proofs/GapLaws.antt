@@ -1,12 +1,12 @@
 -- No gap begins with a piece, and no piece with a gap. So a text has one gap at its front.
-use Rattle.std.proofs.Common.{◌≡◌, ◌≢◌, ◌⊎◌, inl, inr, ℕ, zero, suc, ◌<◌, ◌≤◌, List, [], ◌∷◌, ◌++◌, Bool, true, false, cond, not, ◌&&◌, ◌||◌, Some, None, sym, refl, ap, ◌∙◌, subst, arith}
+use Rattle.std.proofs.Common.{◌≡◌, ◌≢◌, inl, inr, ℕ, ◌≤◌, List, [], ◌∷◌, ◌++◌, Bool, true, false, cond, not, ◌&&◌, ◌||◌, Some, None, sym, refl, ap, ◌∙◌, subst, arith}
 use Rattle.std.specs.Prelude.{IsTrue, ◌==◌, nat_le}
 use Rattle.std.specs.Char.{is_ascii_digit}
 use Rattle.std.proofs.lemmas.Bool.{cases_Bool, and_parts, or_cases, eqb-true, eqb-false, leb-true, not-true}
 use Rattle.unicode_ident.proofs.Computing.{unicode_ident}
 use Rattle.lay_token.specs.Chars.{begins, is_white, is_between, starts_word}
 use Rattle.lay_token.specs.Forms.{Had, is_punct_char}
-use Rattle.lay_token.specs.Found.{Front, found, front_of, line_comment, block_comment, slash, is_star_or_slash}
+use Rattle.lay_token.specs.Found.{found, front_of, line_comment, block_comment, slash, is_star_or_slash}
 use Rattle.lay_token.specs.Gap.{InGap, Outside, Opening, Two, Three, Line, Block, BlockStar, Within, Spoilt, gap_step, gap_end, is_closed, is_closed_or_line, is_gap, is_last_gap}
 use Rattle.lay_token.specs.Quoted.{Star}
 use Rattle.lay_token.specs.Lexes.{BeginsNoGap, BeginsNoPiece}

@@ -1,19 +1,18 @@
 -- Literals other than numbers: what follows one doesn't matter to it, and its suffix is determined.
-use Rattle.std.proofs.Common.{◌≡◌, ◌⊎◌, inl, inr, ℕ, List, [], ◌∷◌, ◌++◌, Bool, true, false, cond, not, ◌&&◌, ◌||◌, Option, Some, None, sym, refl, ap, ◌∙◌, subst, append_assoc}
+use Rattle.std.proofs.Common.{◌≡◌, inl, inr, ℕ, List, [], ◌∷◌, ◌++◌, Bool, true, false, cond, not, ◌&&◌, ◌||◌, Option, Some, None, sym, refl, ap, ◌∙◌, subst, append_assoc}
 use Rattle.std.specs.Prelude.{◌==◌, codes}
 use Rattle.std.specs.List.{list_all}
-use Rattle.std.proofs.lemmas.Bool.{cases_Bool, and_parts, and_from, or_cases, eqb-true, not-true}
-use Rattle.std.proofs.lemmas.List.{append-nil}
+use Rattle.std.proofs.lemmas.Bool.{and_parts, and_from, or_cases, eqb-true, not-true}
 use Rattle.unicode_ident.proofs.Computing.{unicode_ident}
 use Rattle.unicode_ident.proofs.IdentLemmas.{is_xid_start-is_xid_continue}
-use Rattle.lay_token.specs.Chars.{begins, front, after, behind, is_nil, is_word, is_suffix, is_lone_underscore, begins_suffix, starts_word, in_word}
+use Rattle.lay_token.specs.Chars.{begins, front, behind, is_nil, is_suffix, begins_suffix, starts_word, in_word}
 use Rattle.lay_token.specs.Scan.{Next, Go, End, Bad, run}
 use Rattle.lay_token.specs.Quoted.{string_step, Plain, char_step, First, raw_step, Hashes}
 use Rattle.lay_token.specs.Forms.{had, Had, has_form, may_follow, after_literal, is_literal_end, is_whole, literal_may_stop}
 use Rattle.lay_token.specs.Found.{after_suffix}
 use Rattle.lay_token.specs.declared.piece.quoted.Contents.TheVariants as of
 use Rattle.lay_token.specs.declared.token.Kind.{Kind}
-use Rattle.lay_token.specs.declared.token.Kind.TheVariants.{Ident, RawIdent, Underscore, Lifetime, Char, Str, RawStr, Byte, ByteStr, RawByteStr, CStr, RawCStr, Int, Float, Punct, Opener, Closer, Doc}
+use Rattle.lay_token.specs.declared.token.Kind.TheVariants.{Char, Str, RawStr, Byte, ByteStr, RawByteStr, CStr, RawCStr}
 use Rattle.lay_token.proofs.Runs.{next, run-nil, run-cons}
 use Rattle.lay_token.proofs.Fronts.{front-after, each-front, after-stops, after-append, begins-append, nil_front}
 

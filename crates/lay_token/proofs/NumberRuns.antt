@@ -1,8 +1,8 @@
 -- Runs of digits: what the scan takes is a run of the base.
-use Rattle.std.proofs.Common.{◌≡◌, ◌⊎◌, inl, inr, ℕ, List, [], ◌∷◌, ◌++◌, Bool, true, false, cond, not, ◌&&◌, ◌||◌, Option, Some, None, sym, refl, ap, ◌∙◌, subst}
+use Rattle.std.proofs.Common.{◌≡◌, inl, inr, ℕ, List, [], ◌∷◌, Bool, true, false, cond, not, ◌&&◌, ◌||◌, Some, None, sym, refl, ap, ◌∙◌}
 use Rattle.std.specs.Prelude.{◌==◌}
 use Rattle.std.specs.List.{list_all, list_any}
-use Rattle.std.proofs.lemmas.Bool.{cases_Bool, and_parts, or_cases, and_right, not-true, not-false}
+use Rattle.std.proofs.lemmas.Bool.{cases_Bool, and_parts, or_cases, and_right, not-false}
 use Rattle.lay_token.specs.Chars.{begins, front, after}
 use Rattle.lay_token.specs.Number.{in_base, in_run, is_run_in}
 use Rattle.lay_token.specs.Found.{after_run, is_underscore}

@@ -1,6 +1,6 @@
 -- The definitions at texts that are written out, each worked out by hand.
 use Rattle.std.proofs.Common.{refl}
-use Rattle.std.specs.Prelude.{◌≡◌, ℕ, Bool, true, false, List, [], ◌∷◌, ◌++◌, codes, Some, None, Ok, Err}
+use Rattle.std.specs.Prelude.{◌≡◌, true, false, [], ◌∷◌, codes, Some, None, Ok, Err}
 use lib.Utf8.{encode}
 use Rattle.std.specs.Str.{chars, is_utf8}
 use Rattle.std.specs.Str.Lossy.{utf8_valid_len}
@@ -10,7 +10,7 @@ use Rattle.lay_token.specs.Scan.{run}
 use Rattle.lay_token.specs.Quoted.{string_step, char_step, raw_step, block_step, doc_step, escape_step}
 use Rattle.lay_token.specs.Gap.{gap_step, is_gap, is_last_gap}
 use Rattle.lay_token.specs.Forms.{had, has_form, may_follow, after_literal}
-use Rattle.lay_token.specs.Source.{Source, source, source_of, folded}
+use Rattle.lay_token.specs.Source.{source, source_of, folded}
 use Rattle.lay_token.specs.Value.{adds, string_value, value_of}
 use Rattle.lay_token.specs.declared.token.Kind.TheVariants.{Ident, RawIdent, Lifetime, Char, Str, RawStr, CStr, Int, Float, Doc}
 use Rattle.lay_token.specs.declared.refusal.Refusal.TheVariants.{NotUtf8}

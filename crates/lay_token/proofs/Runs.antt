@@ -1,10 +1,10 @@
 -- Forms that tell their own end, step by step and part by part.
-use Rattle.std.proofs.Common.{◌≡◌, ◌⊎◌, inl, inr, ℕ, zero, suc, ◌+◌, ◌-◌, ◌<◌, List, [], ◌∷◌, Bool, true, false, cond, ◌&&◌, Option, Some, None, sym, refl, ap, ◌∙◌, subst, arith, add-zero}
+use Rattle.std.proofs.Common.{◌≡◌, inl, inr, ℕ, zero, suc, ◌+◌, List, [], ◌∷◌, Bool, true, false, cond, ◌&&◌, Option, Some, None, sym, refl, ap, ◌∙◌, arith, add-zero}
 use Rattle.std.specs.Prelude.{◌==◌, nat_lt, option_and_then}
 use Rattle.std.proofs.lemmas.Bool.{cases_Bool, eqb-true, eqb-false, ne_eqb, eq-eqb, lt-ltb, le-ltb, and_left, and_right}
 use Rattle.lay_token.specs.Chars.{begins, after}
 use Rattle.lay_token.specs.Scan.{Next, Go, End, Bad, run}
-use Rattle.lay_token.specs.Quoted.{InEscape, escape_step, InString, Plain, Escape, Skip, string_step, plain_step, in_string, is_skipped, InChar, CharEscape, Last, char_step, in_char, InRaw, Hashes, Inside, Closing, raw_step, inside_step, InBlock, Deep, Star, Slash, block_step, deep_step, doc_step}
+use Rattle.lay_token.specs.Quoted.{InEscape, escape_step, Plain, Escape, Skip, string_step, plain_step, in_string, is_skipped, CharEscape, Last, char_step, in_char, Hashes, Inside, Closing, raw_step, inside_step, InBlock, Deep, Star, Slash, block_step, doc_step}
 use Rattle.lay_token.specs.Found.{hashes, behind_hashes}
 use Rattle.lay_token.specs.declared.piece.quoted.Contents.{Contents}
 

@@ -1,18 +1,17 @@
 -- What the scan finds is had.
-use Rattle.std.proofs.Common.{◌≡◌, ◌⊎◌, inl, inr, ℕ, List, [], ◌∷◌, ◌++◌, Bool, true, false, cond, not, ◌&&◌, ◌||◌, Option, Some, None, sym, refl, ap, ◌∙◌, subst}
-use Rattle.std.specs.Prelude.{◌==◌, codes, IsTrue, option_and_then, encode_utf8_all}
-use Rattle.std.specs.List.{list_all, list_any}
-use Rattle.std.specs.Char.{is_ascii_digit}
-use Rattle.std.proofs.lemmas.Bool.{cases_Bool, and_parts, and_from, or_cases, eqb-true, eq-eqb, not-true}
-use Rattle.lay_token.specs.Chars.{begins, front, after, behind, is_nil, is_word, is_suffix, begins_suffix, starts_word, in_word}
+use Rattle.std.proofs.Common.{◌≡◌, inl, inr, ℕ, List, [], ◌∷◌, ◌++◌, Bool, true, false, cond, not, ◌&&◌, ◌||◌, Option, Some, None, sym, refl, ap, ◌∙◌, subst}
+use Rattle.std.specs.Prelude.{◌==◌, codes, option_and_then, encode_utf8_all}
+use Rattle.std.specs.List.{list_any}
+use Rattle.std.proofs.lemmas.Bool.{cases_Bool, and_parts, and_from, eqb-true, eq-eqb, not-true}
+use Rattle.lay_token.specs.Chars.{begins, front, after, behind, begins_suffix, starts_word, in_word}
 use Rattle.lay_token.specs.Scan.{run}
 use Rattle.lay_token.specs.Quoted.{Deep, doc_step}
 use Rattle.lay_token.specs.Word.{is_path_word}
 use Rattle.lay_token.specs.Forms.{had, Had, has_form, may_follow, after_literal, is_punct_char, is_whole}
-use Rattle.lay_token.specs.Found.{Front, found, or_else, literal, raw_name, raw_word, byte_word, c_word, prefixed, word, lifetime, quote, line_doc, block_doc, line_comment, block_comment, slash, single, is_mark, is_tick, in_doc_line, is_star_or_slash, after_suffix}
+use Rattle.lay_token.specs.Found.{Front, found, or_else, literal, raw_name, raw_word, byte_word, c_word, prefixed, word, lifetime, quote, line_doc, line_comment, block_comment, slash, single, is_mark, is_tick, in_doc_line, is_star_or_slash}
 use Rattle.lay_token.specs.declared.token.Delim.TheVariants.{Paren, Bracket, Brace}
 use Rattle.lay_token.specs.declared.token.Kind.{Kind}
-use Rattle.lay_token.specs.declared.token.Kind.TheVariants.{Ident, RawIdent, Underscore, Lifetime, Char, Str, RawStr, Byte, ByteStr, RawByteStr, CStr, RawCStr, Int, Float, Punct, Opener, Closer, Doc}
+use Rattle.lay_token.specs.declared.token.Kind.TheVariants.{Ident, RawIdent, Underscore, Lifetime, Char, RawStr, Byte, ByteStr, RawByteStr, CStr, RawCStr, Punct, Opener, Closer, Doc}
 use Rattle.lay_token.proofs.Fronts.{front-after, each-front, after-stops, nil_front}
 use Rattle.lay_token.proofs.Literals.{is_literal, literal_had, suffix_front, run-split}
 

@@ -1,10 +1,10 @@
 -- At most one piece stands at a place, and a text is at most one list of parts.
-use Rattle.std.proofs.Common.{◌≡◌, ◌≢◌, ℕ, ◌+◌, List, [], ◌∷◌, ◌++◌, Bool, true, false, cond, sym, refl, ap, ◌∙◌, subst, arith, length, length-append}
+use Rattle.std.proofs.Common.{◌≡◌, ℕ, ◌+◌, List, [], ◌∷◌, ◌++◌, Bool, sym, refl, ap, ◌∙◌, subst, arith, length, length-append}
 use Rattle.std.specs.Prelude.{IsTrue}
 use Rattle.lay_token.specs.Forms.{had, Had, may_follow}
 use Rattle.lay_token.specs.Found.{found, front_of}
 use Rattle.lay_token.specs.Gap.{is_gap, is_last_gap}
-use Rattle.lay_token.specs.Lexes.{Part, spell, Before, Other, is_index_place, step, steps, Fit, Reads, Lexes, Stops, NoTokenAt, tokens_from, size, BeginsNoGap, BeginsNoPiece}
+use Rattle.lay_token.specs.Lexes.{Part, spell, Before, Other, is_index_place, step, steps, Fit, Lexes, NoTokenAt, tokens_from, size, BeginsNoGap, BeginsNoPiece}
 use Rattle.lay_token.specs.declared.token.Kind.{Kind}
 use Rattle.lay_token.specs.declared.token.Kind.TheVariants.{Ident, RawIdent, Underscore, Lifetime, Char, Str, RawStr, Byte, ByteStr, RawByteStr, CStr, RawCStr, Int, Float, Punct, Opener, Closer, Doc}
 use Rattle.lay_token.specs.declared.token.Token.{Token}

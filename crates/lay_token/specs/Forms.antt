@@ -1,5 +1,5 @@
 -- What a piece of each kind looks like, and what may follow it (Rust Reference, "Tokens").
-use Rattle.std.specs.Prelude.{ℕ, ◌≡◌, Bool, true, false, cond, ◌&&◌, ◌||◌, ◌==◌, not, List, [], ◌∷◌, codes, encode_utf8_all, IsTrue, Option, Some, None}
+use Rattle.std.specs.Prelude.{ℕ, Bool, true, false, cond, ◌&&◌, ◌||◌, ◌==◌, not, List, [], ◌∷◌, codes, encode_utf8_all, IsTrue, Option, Some, None}
 use Rattle.std.specs.List.{list_any}
 use Rattle.std.specs.Char.{is_ascii_digit}
 use Rattle.lay_token.specs.Chars.{begins, behind, is_nil, is_word, is_suffix, is_lone_underscore, begins_suffix, starts_word, in_word}

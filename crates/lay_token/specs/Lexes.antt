@@ -2,7 +2,7 @@
 use Rattle.std.specs.Prelude.{◌≡◌, ℕ, ◌+◌, ◌-◌, Bool, true, false, cond, ◌&&◌, ◌||◌, ◌==◌, not, List, [], ◌∷◌, ◌++◌, IsTrue, IsFalse, codes, length, take, drop, encode_utf8_all}
 use Rattle.std.specs.List.{list_any}
 use Rattle.std.specs.Str.{chars, bytes_eq}
-use Rattle.lay_token.specs.Chars.{begins, is_nil}
+use Rattle.lay_token.specs.Chars.{is_nil}
 use Rattle.lay_token.specs.Forms.{Had}
 use Rattle.lay_token.specs.Gap.{is_gap, is_last_gap}
 use Rattle.lay_token.specs.declared.token.Kind.{Kind}

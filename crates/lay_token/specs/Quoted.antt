@@ -1,5 +1,5 @@
 -- The forms that tell their own end: strings, characters, raw strings and block comments.
-use Rattle.std.specs.Prelude.{ℕ, zero, suc, ◌+◌, ◌*◌, Bool, true, false, cond, ◌&&◌, ◌||◌, ◌==◌, not, nat_lt, nat_le}
+use Rattle.std.specs.Prelude.{ℕ, zero, suc, ◌+◌, ◌*◌, Bool, true, false, cond, ◌&&◌, ◌||◌, ◌==◌, not, nat_lt}
 use Rattle.std.specs.Char.{is_ascii_hexdigit}
 use Rattle.lay_token.specs.Chars.{is_between, hex_value}
 use Rattle.lay_token.specs.Scan.{Next, Go, End, Bad}

@@ -1,8 +1,8 @@
 -- The value of a string without suffix: its text with the escapes resolved (Rust Reference, "String literals",
 -- "Raw string literals").
-use Rattle.std.specs.Prelude.{ℕ, ◌+◌, ◌*◌, ◌-◌, Bool, true, false, cond, ◌==◌, List, [], ◌∷◌, ◌++◌, codes, length, take, drop, Option, Some, None}
-use Rattle.lay_token.specs.Chars.{behind, front, after, hex_value}
-use Rattle.lay_token.specs.Scan.{Next, Go, End, Bad}
+use Rattle.std.specs.Prelude.{ℕ, ◌+◌, ◌*◌, ◌-◌, Bool, cond, ◌==◌, List, [], ◌∷◌, ◌++◌, length, take, drop, Option, Some, None}
+use Rattle.lay_token.specs.Chars.{front, hex_value}
+use Rattle.lay_token.specs.Scan.{Go, End, Bad}
 use Rattle.lay_token.specs.Quoted.{Backslash, Hex, HexTwo, Open, Digits, InString, Plain, Turned, Escape, Skip, string_step, is_skipped}
 use Rattle.lay_token.specs.Forms.{after_literal, is_whole}
 use Rattle.lay_token.specs.declared.piece.quoted.Contents.TheVariants as of

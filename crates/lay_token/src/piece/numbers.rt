@@ -152,7 +152,7 @@ fn fraction(s: &str) -> Option<(Kind, &str)>
     ensures { Finds (fraction (chars s.now)) result }
 {
     match first(s) {
-        None => Some((Kind::Float, s)),
+        None => suffixed(Kind::Float, s),
         Some((c, tail)) => if CharSet::ExponentLetter.contains(c) {
             exponent(tail)
         } else {

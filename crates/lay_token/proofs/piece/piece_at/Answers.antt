@@ -1,10 +1,9 @@
-use Rattle.std.proofs.Common.{rules, arith, ◌≡◌, ◌≤◌, ◌<◌, length, ℕ, List, ◌++◌, ◌-◌, ◌+◌, Bool, IsUtf8, sym, refl, ap, ◌∙◌, subst, Some, None}
-use Rattle.std.specs.Str.{chars, encode_utf8_all}
+use Rattle.std.proofs.Common.{rules, arith, ◌≡◌, ℕ, List, ◌++◌, Bool, IsUtf8, sym, ap, ◌∙◌, subst, None}
+use Rattle.std.specs.Str.{chars}
 use Rattle.lay_token.specs.Forms.{Had}
 use Rattle.lay_token.specs.Found.{Front, found, front_of}
 use Rattle.lay_token.specs.declared.token.Kind.{Kind}
 use Rattle.lay_token.proofs.Texts.{length_parts}
-use Rattle.lay_token.proofs.Sound.{Stands}
 use Rattle.lay_token.proofs.Exact.{stands_at, front_complete, found_kind, found_rest}
 use Rattle.lay_token.proofs.piece.piece_at.Goals as goal
 

@@ -1,11 +1,7 @@
-use Rattle.std.proofs.Common.{◌≡◌, ℕ, List, ◌∷◌, Bool, true, false, sym, refl, ap, ◌∙◌, subst}
-use Rattle.std.specs.Borrow.{Bor}
-use Rattle.std.specs.Str.{chars}
-use Rattle.std.proofs.Common.{Option}
+use Rattle.std.proofs.Common.{◌≡◌, ℕ, List, ◌∷◌, true, false, refl, subst}
 use Rattle.lay_token.specs.Number.{begins_point, is_exponent_letter, is_decimal}
 use Rattle.lay_token.specs.Found.{Front, Finds, whole, exponent}
 use Rattle.lay_token.specs.declared.piece.numbers.Base.{Base}
-use Rattle.lay_token.specs.declared.token.Kind.{Kind}
 use Rattle.lay_token.proofs.piece.numbers.whole.Goals as goal
 
 -- the letter of an exponent behind the digits of a decimal number

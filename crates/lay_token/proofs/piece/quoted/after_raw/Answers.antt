@@ -1,4 +1,4 @@
-use Rattle.std.proofs.Common.{rules, arith, ◌≡◌, ℕ, ◌+◌, List, [], ◌∷◌, Bool, true, false, cond, Option, Some, None, sym, refl, ap, ◌∙◌, subst, zero-add}
+use Rattle.std.proofs.Common.{rules, ◌≡◌, ℕ, List, [], ◌∷◌, Bool, true, false, cond, Some, None, sym, refl, ap, ◌∙◌, zero-add}
 use Rattle.std.specs.Prelude.{◌==◌}
 use Rattle.std.proofs.lemmas.Bool.{eq-eqb, ne_eqb}
 use Rattle.std.specs.Str.{chars}
@@ -8,7 +8,7 @@ use Rattle.lay_token.specs.Quoted.{Inside, raw_step, is_plain}
 use Rattle.lay_token.specs.Forms.{after_raw}
 use Rattle.lay_token.specs.Found.{hashes, behind_hashes}
 use Rattle.lay_token.specs.declared.piece.quoted.Contents.{Contents}
-use Rattle.lay_token.proofs.Runs.{run-nil, run-step, opened, closed, raw-hashes, raw-quote}
+use Rattle.lay_token.proofs.Runs.{run-nil, run-step, opened, raw-hashes, raw-quote}
 use Rattle.lay_token.proofs.piece.quoted.after_raw.Goals as goal
 
 -- behind the hashes that open it

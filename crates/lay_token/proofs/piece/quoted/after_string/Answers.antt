@@ -1,4 +1,4 @@
-use Rattle.std.proofs.Common.{◌≡◌, ◌∷◌, sym, refl, ap, ◌∙◌}
+use Rattle.std.proofs.Common.{◌∷◌, sym, refl, ap, ◌∙◌}
 use Rattle.std.specs.Str.{chars}
 use Rattle.lay_token.specs.Scan.{End}
 use Rattle.lay_token.specs.Quoted.{Plain, string_step}

@@ -1,4 +1,4 @@
-use Rattle.std.proofs.Common.{◌≡◌, ℕ, List, ◌∷◌, sym, refl, ap, ◌∙◌, subst}
+use Rattle.std.proofs.Common.{◌≡◌, ℕ, List, ◌∷◌, sym, refl, ap, ◌∙◌}
 use Rattle.std.specs.Str.{chars}
 use Rattle.lay_token.specs.Scan.{Go, run}
 use Rattle.lay_token.specs.Quoted.{Plain, Turned, Skip, string_step}

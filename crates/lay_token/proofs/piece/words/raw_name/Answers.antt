@@ -1,8 +1,8 @@
-use Rattle.std.proofs.Common.{◌≡◌, ℕ, List, ◌++◌, Bool, true, false, cond, not, ◌&&◌, sym, refl, ap, ◌∙◌, ◌-◌, length, take, IsUtf8, rules}
+use Rattle.std.proofs.Common.{◌≡◌, ℕ, List, ◌++◌, Bool, true, false, cond, not, sym, refl, ap, ◌∙◌, ◌-◌, length, take, IsUtf8, rules}
 use Rattle.std.specs.Str.{chars, encode_utf8_all}
 use Rattle.lay_token.specs.Chars.{after, front, in_word, begins_suffix}
 use Rattle.lay_token.specs.Word.{is_path_word}
-use Rattle.lay_token.specs.Found.{Front, found, raw_name}
+use Rattle.lay_token.specs.Found.{found, raw_name}
 use Rattle.lay_token.specs.declared.token.Kind.TheVariants.{RawIdent}
 use Rattle.std.proofs.Common.{None}
 use Rattle.lay_token.proofs.Fronts.{front-after}
