@@ -22,7 +22,8 @@ below (suc n) p c h l = elim (cases_Bool (c == n)) [
 ]
 
 -- one set lies in another
-in_both : (p q : ℕ → Bool) → all_below 128 (λ c. not (p c) || q c) ≡ true → ((c : ℕ) → p c ≡ true → c < 128) → (c : ℕ) → p c ≡ true → q c ≡ true
+in_both : (p q : ℕ → Bool) → all_below 128 (λ c. not (p c) || q c) ≡ true → ((c : ℕ) → p c ≡ true → c < 128)
+    → (c : ℕ) → p c ≡ true → q c ≡ true
 in_both p q h b c e = by_case (p c) (q c) e (below 128 (λ c. not (p c) || q c) c h (b c e))
   where
     by_case : (a d : Bool) → a ≡ true → not a || d ≡ true → d ≡ true
@@ -46,7 +47,8 @@ hex_small c h = elim (or_cases _ (c == 95) h) [
   | inr e ↦ is_one c 95 e (omega arith)
   | inl e ↦ elim (or_cases _ (nat_le 97 c && nat_le c 102) e) [
     | inr f ↦ in_range 97 102 c f (omega arith)
-    | inl f ↦ elim (or_cases (nat_le 48 c && nat_le c 57) _ f) [ inl g ↦ in_range 48 57 c g (omega arith) | inr g ↦ in_range 65 70 c g (omega arith) ]
+    | inl f ↦ elim (or_cases (nat_le 48 c && nat_le c 57) _ f) [ inl g ↦ in_range 48 57 c g
+        (omega arith) | inr g ↦ in_range 65 70 c g (omega arith) ]
   ]
 ]
 
@@ -62,7 +64,8 @@ base_small Octal c h = in_range 48 55 c h (omega arith)
 base_small Decimal c h = digit_small c h
 base_small Hexadecimal c h = elim (or_cases _ (nat_le 97 c && nat_le c 102) h) [
   | inr f ↦ in_range 97 102 c f (omega arith)
-  | inl f ↦ elim (or_cases (nat_le 48 c && nat_le c 57) _ f) [ inl g ↦ in_range 48 57 c g (omega arith) | inr g ↦ in_range 65 70 c g (omega arith) ]
+  | inl f ↦ elim (or_cases (nat_le 48 c && nat_le c 57) _ f) [ inl g ↦ in_range 48 57 c g
+      (omega arith) | inr g ↦ in_range 65 70 c g (omega arith) ]
 ]
 
 base_table : (b : Base) → all_below 128 (λ c. not (in_base b c) || in_run b c) ≡ true
@@ -102,28 +105,40 @@ underscore_no_digit b c h = let P : ℕ → Type 0 = λ v. in_base b v ≡ false
     at Decimal = refl
     at Hexadecimal = refl
 
-digit_table : all_below 128 (λ c. not (is_ascii_digit c) || (not (starts_word c) && not (c == 46) && in_digits c && not (is_sign c) && not (is_exponent_letter c))) ≡ true
+digit_table : all_below 128
+    (λ c. not (is_ascii_digit c)
+        || (not (starts_word c) && not (c == 46) && in_digits c && not (is_sign c)
+            && not (is_exponent_letter c))) ≡ true
 unfolding unicode_ident starts_word
 digit_table = refl
 
-digit_alone : (c : ℕ) → is_ascii_digit c ≡ true → not (starts_word c) && not (c == 46) && in_digits c && not (is_sign c) && not (is_exponent_letter c) ≡ true
-digit_alone = in_both is_ascii_digit (λ c. not (starts_word c) && not (c == 46) && in_digits c && not (is_sign c) && not (is_exponent_letter c)) digit_table digit_small
+digit_alone : (c : ℕ) → is_ascii_digit c ≡ true
+    → not (starts_word c) && not (c == 46) && in_digits c && not (is_sign c) && not (is_exponent_letter c) ≡ true
+digit_alone = in_both is_ascii_digit
+    (λ c. not (starts_word c) && not (c == 46) && in_digits c && not (is_sign c)
+        && not (is_exponent_letter c)) digit_table digit_small
 
 letter_small : (c : ℕ) → is_exponent_letter c ≡ true → c < 128
-letter_small c h = elim (or_cases (c == 101) (c == 69) h) [ inl e ↦ is_one c 101 e (omega arith) | inr e ↦ is_one c 69 e (omega arith) ]
+letter_small c h = elim
+    (or_cases (c == 101) (c == 69) h) [ inl e ↦ is_one c 101 e (omega arith) | inr e ↦ is_one c 69 e (omega arith) ]
 
-letter_table : all_below 128 (λ c. not (is_exponent_letter c) || (starts_word c && in_word c && in_hex c && not (c == 46))) ≡ true
+letter_table : all_below 128
+    (λ c. not (is_exponent_letter c) || (starts_word c && in_word c && in_hex c && not (c == 46))) ≡ true
 unfolding unicode_ident starts_word in_word
 letter_table = refl
 
 letter_in : (c : ℕ) → is_exponent_letter c ≡ true → starts_word c && in_word c && in_hex c && not (c == 46) ≡ true
-letter_in = in_both is_exponent_letter (λ c. starts_word c && in_word c && in_hex c && not (c == 46)) letter_table letter_small
+letter_in = in_both is_exponent_letter
+    (λ c. starts_word c && in_word c && in_hex c && not (c == 46)) letter_table letter_small
 
 -- A digit begins no word, and is no point, sign or letter.
-pub digit_parts : (c : ℕ) → is_ascii_digit c ≡ true → (starts_word c ≡ false) × (c == 46 ≡ false) × (in_digits c ≡ true) × (is_sign c ≡ false) × (is_exponent_letter c ≡ false)
+pub digit_parts : (c : ℕ) → is_ascii_digit c ≡ true
+    → (starts_word c ≡ false) × (c == 46 ≡ false) × (in_digits c ≡ true) × (is_sign c ≡ false)
+        × (is_exponent_letter c ≡ false)
 digit_parts c h = five (starts_word c) (c == 46) (in_digits c) (is_sign c) (is_exponent_letter c) (digit_alone c h)
   where
-    five : (a b d e f : Bool) → not a && not b && d && not e && not f ≡ true → (a ≡ false) × (b ≡ false) × (d ≡ true) × (e ≡ false) × (f ≡ false)
+    five : (a b d e f : Bool) → not a && not b && d && not e && not f ≡ true
+        → (a ≡ false) × (b ≡ false) × (d ≡ true) × (e ≡ false) × (f ≡ false)
     five true b d e f h = cc
     five false true d e f h = cc
     five false false false e f h = cc
@@ -132,7 +147,8 @@ digit_parts c h = five (starts_word c) (c == 46) (in_digits c) (is_sign c) (is_e
     five false false true false false h = (refl, refl, refl, refl, refl)
 
 -- The letter of an exponent may begin a word, and is a digit of base 16.
-pub letter_parts : (c : ℕ) → is_exponent_letter c ≡ true → (starts_word c ≡ true) × (in_word c ≡ true) × (in_hex c ≡ true) × (c == 46 ≡ false)
+pub letter_parts : (c : ℕ) → is_exponent_letter c ≡ true
+    → (starts_word c ≡ true) × (in_word c ≡ true) × (in_hex c ≡ true) × (c == 46 ≡ false)
 letter_parts c h = four (starts_word c) (in_word c) (in_hex c) (c == 46) (letter_in c h)
   where
     four : (a b d e : Bool) → a && b && d && not e ≡ true → (a ≡ true) × (b ≡ true) × (d ≡ true) × (e ≡ false)
@@ -143,7 +159,8 @@ letter_parts c h = four (starts_word c) (in_word c) (in_hex c) (c == 46) (letter
     four true true true false h = (refl, refl, refl, refl)
 
 -- of what begins a text
-pub begins_in : (p q : ℕ → Bool) (cs : List ℕ) → ((c : ℕ) → p c ≡ true → q c ≡ true) → begins q cs ≡ false → begins p cs ≡ false
+pub begins_in : (p q : ℕ → Bool) (cs : List ℕ) → ((c : ℕ) → p c ≡ true → q c ≡ true) → begins q cs ≡ false
+    → begins p cs ≡ false
 begins_in p q [] h e = refl
 begins_in p q (c ∷ cs) h e = elim (cases_Bool (p c)) [ inl f ↦ let g = h c f in cc | inr f ↦ f ]
 

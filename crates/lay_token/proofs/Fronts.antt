@@ -25,17 +25,21 @@ after-stops p (c ∷ cs) = elim (cases_Bool (p c)) [
   | inr e ↦ rw e e
 ]
 
-pub after-append : (p : ℕ → Bool) (ds r : List ℕ) → list_all p ds ≡ true → begins p r ≡ false → after p (ds ++ r) ≡ r
+pub after-append : (p : ℕ → Bool) (ds r : List ℕ) → list_all p ds ≡ true → begins p r ≡ false
+    → after p (ds ++ r) ≡ r
 after-append p [] [] h g = refl
 after-append p [] (c ∷ r) h g = rw g refl
 after-append p (d ∷ ds) r h g = let a = and_parts (p d) (list_all p ds) h in rw a.0 (after-append p ds r a.1 g)
 
-pub front-append : (p : ℕ → Bool) (ds r : List ℕ) → list_all p ds ≡ true → begins p r ≡ false → front p (ds ++ r) ≡ ds
+pub front-append : (p : ℕ → Bool) (ds r : List ℕ) → list_all p ds ≡ true → begins p r ≡ false
+    → front p (ds ++ r) ≡ ds
 front-append p [] [] h g = refl
 front-append p [] (c ∷ r) h g = rw g refl
-front-append p (d ∷ ds) r h g = let a = and_parts (p d) (list_all p ds) h in rw a.0 (ap (λ l. d ∷ l) (front-append p ds r a.1 g))
+front-append p (d ∷ ds) r h g =
+    let a = and_parts (p d) (list_all p ds) h in rw a.0 (ap (λ l. d ∷ l) (front-append p ds r a.1 g))
 
-pub begins-append : (p : ℕ → Bool) (ds r : List ℕ) → list_all p ds ≡ true → begins p r ≡ false → begins p (ds ++ r) ≡ not (is_nil ds)
+pub begins-append : (p : ℕ → Bool) (ds r : List ℕ) → list_all p ds ≡ true → begins p r ≡ false
+    → begins p (ds ++ r) ≡ not (is_nil ds)
 begins-append p [] r h g = g
 begins-append p (d ∷ ds) r h g = (and_parts (p d) (list_all p ds) h).0
 
@@ -49,7 +53,8 @@ after-more p [] [] h = refl
 after-more p [] (c ∷ r) h = rw h refl
 after-more p (c ∷ x) r h = by_case (p c) (after-more p x r h)
   where
-    by_case : (b : Bool) → after p (x ++ r) ≡ after p x ++ r → cond b (after p (x ++ r)) (c ∷ (x ++ r)) ≡ cond b (after p x) (c ∷ x) ++ r
+    by_case : (b : Bool) → after p (x ++ r) ≡ after p x ++ r
+        → cond b (after p (x ++ r)) (c ∷ (x ++ r)) ≡ cond b (after p x) (c ∷ x) ++ r
     by_case true e = e
     by_case false e = refl
 
@@ -58,14 +63,20 @@ front-more p [] [] h = refl
 front-more p [] (c ∷ r) h = rw h refl
 front-more p (c ∷ x) r h = by_case (p c) (front-more p x r h)
   where
-    by_case : (b : Bool) → front p (x ++ r) ≡ front p x → cond b (c ∷ front p (x ++ r)) [] ≡ cond b (c ∷ front p x) []
+    by_case : (b : Bool) → front p (x ++ r) ≡ front p x
+        → cond b (c ∷ front p (x ++ r)) [] ≡ cond b (c ∷ front p x) []
     by_case true e = ap (λ l. c ∷ l) e
     by_case false e = refl
 
 -- a run of fewer characters, and then one of more
-pub after-within : (p q : ℕ → Bool) (cs : List ℕ) → ((c : ℕ) → p c ≡ true → q c ≡ true) → after q (after p cs) ≡ after q cs
+pub after-within : (p q : ℕ → Bool) (cs : List ℕ) → ((c : ℕ) → p c ≡ true → q c ≡ true)
+    → after q (after p cs) ≡ after q cs
 after-within p q [] h = refl
 after-within p q (c ∷ cs) h = elim (cases_Bool (p c)) [
   | inl e ↦ let f = h c e in rw (e, f) (after-within p q cs h)
   | inr e ↦ rw e refl
 ]
+
+pub begins_left : (p : ℕ → Bool) (x y : List ℕ) → begins p (x ++ y) ≡ false → begins p x ≡ false
+begins_left p [] y h = refl
+begins_left p (c ∷ x) y h = h

@@ -69,7 +69,8 @@ no_int_before_point : had Int (codes "1") (codes ".") false ≡ false
 unfolding opened
 no_int_before_point = refl
 
-exponents : (had Float (codes "1e5f") [] false ≡ true) × (had Float (codes "1e5e3") [] false ≡ true) × (had Float (codes "1_e5") [] false ≡ true)
+exponents : (had Float (codes "1e5f") [] false ≡ true) × (had Float (codes "1e5e3") [] false ≡ true)
+    × (had Float (codes "1_e5") [] false ≡ true)
 unfolding opened
 exponents = (refl, refl, refl)
 
@@ -133,7 +134,8 @@ marked : folded (codes "a\r\n\r\r\n\r") ≡ codes "a\n\r\n\r"
 unfolding encode
 marked = refl
 
-shebang : source_of (codes "#!/bin/sh\r\nx") ≡ record { text = codes "#!/bin/sh\r\nx"; shebang = Some (codes "#!/bin/sh"); start = 11 }
+shebang : source_of (codes "#!/bin/sh\r\nx") ≡ record { text = codes "#!/bin/sh\r\nx"; shebang =
+    Some (codes "#!/bin/sh"); start = 11 }
 unfolding encode
 shebang = refl
 

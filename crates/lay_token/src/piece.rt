@@ -7,10 +7,10 @@ ghost use Rattle.lay_token.specs.Gap.{is_gap};
 ghost use Rattle.lay_token.specs.Lexes.{BeginsNoGap, BeginsNoPiece};
 ghost use Rattle.lay_token.specs.declared.token.Kind.{Kind};
 
-pub mod chars;
+mod chars;
 mod comments;
-pub mod numbers;
-pub mod quoted;
+mod numbers;
+mod quoted;
 #[cfg(test)]
 mod tests;
 mod words;

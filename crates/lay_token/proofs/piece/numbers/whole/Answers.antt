@@ -5,7 +5,8 @@ use Rattle.lay_token.specs.declared.piece.numbers.Base.{Base}
 use Rattle.lay_token.proofs.piece.numbers.whole.Goals as goal
 
 -- the letter of an exponent behind the digits of a decimal number
-exponent_at : (base : Base) (cs tail : List ℕ) (c : ℕ) → cs ≡ c ∷ tail → false ≡ begins_point (c ∷ tail) → true ≡ is_exponent_letter c → true ≡ is_decimal base
+exponent_at : (base : Base) (cs tail : List ℕ) (c : ℕ) → cs ≡ c ∷ tail → false ≡ begins_point (c ∷ tail)
+    → true ≡ is_exponent_letter c → true ≡ is_decimal base
     → exponent tail ≡ whole base cs
 exponent_at base cs tail c e f g h = rw (e, ← f, ← g, ← h) refl
 

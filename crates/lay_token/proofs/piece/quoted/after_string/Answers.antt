@@ -9,8 +9,11 @@ use Rattle.lay_token.proofs.piece.quoted.after_string.Goals as goal
 pub returns-then-c-eq34 : goal.returns-then-c-eq34
 unfolding string_step
 returns-then-c-eq34 c =
-    sym c.loop-c.invariant.same ∙ ap (after_string c.args.of) (c.in-Some.ensures.parts ∙ ap (λ v. v ∷ chars c.in-Some.tail.now) c.if-c-eq34.true)
+    sym c.loop-c.invariant.same
+        ∙ ap (after_string c.args.of) (c.in-Some.ensures.parts
+            ∙ ap (λ v. v ∷ chars c.in-Some.tail.now) c.if-c-eq34.true)
     ∙ run-step (string_step c.args.of) Plain 34 (chars c.in-Some.tail.now) End refl
 
 pub returns : goal.returns
-returns c = sym c.loop-c.invariant.same ∙ ap (after_string c.args.of) c.in_default.ensures.parts ∙ run-nil (string_step c.args.of) Plain
+returns c = sym c.loop-c.invariant.same ∙ ap (after_string c.args.of) c.in_default.ensures.parts
+    ∙ run-nil (string_step c.args.of) Plain

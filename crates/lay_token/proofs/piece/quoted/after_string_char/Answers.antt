@@ -9,7 +9,8 @@ use Rattle.lay_token.proofs.piece.quoted.after_string_char.Goals as goal
 -- a backslash before an LF
 skips : (y : Contents) (cs : List ℕ) → run (string_step y) Plain (92 ∷ 10 ∷ cs) ≡ run (string_step y) Skip cs
 unfolding string_step
-skips y cs = run-step (string_step y) Plain 92 (10 ∷ cs) (Go Turned) refl ∙ run-step (string_step y) Turned 10 cs (Go Skip) refl
+skips y cs = run-step (string_step y) Plain 92 (10 ∷ cs) (Go Turned) refl
+    ∙ run-step (string_step y) Turned 10 cs (Go Skip) refl
 
 pub returns-in-Some-clause-rest : goal.returns-in-Some-clause-rest
 returns-in-Some-clause-rest c =
