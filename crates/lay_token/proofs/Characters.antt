@@ -47,8 +47,11 @@ hex_small c h = elim (or_cases _ (c == 95) h) [
   | inr e ↦ is_one c 95 e (omega arith)
   | inl e ↦ elim (or_cases _ (nat_le 97 c && nat_le c 102) e) [
     | inr f ↦ in_range 97 102 c f (omega arith)
-    | inl f ↦ elim (or_cases (nat_le 48 c && nat_le c 57) _ f) [ inl g ↦ in_range 48 57 c g
-        (omega arith) | inr g ↦ in_range 65 70 c g (omega arith) ]
+    | inl f ↦ elim (or_cases (nat_le 48 c && nat_le c 57) _ f) [
+      | inl g ↦ in_range 48 57 c g
+          (omega arith)
+      | inr g ↦ in_range 65 70 c g (omega arith)
+    ]
   ]
 ]
 
@@ -64,8 +67,11 @@ base_small Octal c h = in_range 48 55 c h (omega arith)
 base_small Decimal c h = digit_small c h
 base_small Hexadecimal c h = elim (or_cases _ (nat_le 97 c && nat_le c 102) h) [
   | inr f ↦ in_range 97 102 c f (omega arith)
-  | inl f ↦ elim (or_cases (nat_le 48 c && nat_le c 57) _ f) [ inl g ↦ in_range 48 57 c g
-      (omega arith) | inr g ↦ in_range 65 70 c g (omega arith) ]
+  | inl f ↦ elim (or_cases (nat_le 48 c && nat_le c 57) _ f) [
+    | inl g ↦ in_range 48 57 c g
+        (omega arith)
+    | inr g ↦ in_range 65 70 c g (omega arith)
+  ]
 ]
 
 base_table : (b : Base) → all_below 128 (λ c. not (in_base b c) || in_run b c) ≡ true
@@ -107,8 +113,8 @@ underscore_no_digit b c h = let P : ℕ → Type 0 = λ v. in_base b v ≡ false
 
 digit_table : all_below 128
     (λ c. not (is_ascii_digit c)
-        || (not (starts_word c) && not (c == 46) && in_digits c && not (is_sign c)
-            && not (is_exponent_letter c))) ≡ true
+    || (not (starts_word c) && not (c == 46) && in_digits c && not (is_sign c)
+    && not (is_exponent_letter c))) ≡ true
 unfolding unicode_ident starts_word
 digit_table = refl
 
@@ -116,7 +122,7 @@ digit_alone : (c : ℕ) → is_ascii_digit c ≡ true
     → not (starts_word c) && not (c == 46) && in_digits c && not (is_sign c) && not (is_exponent_letter c) ≡ true
 digit_alone = in_both is_ascii_digit
     (λ c. not (starts_word c) && not (c == 46) && in_digits c && not (is_sign c)
-        && not (is_exponent_letter c)) digit_table digit_small
+    && not (is_exponent_letter c)) digit_table digit_small
 
 letter_small : (c : ℕ) → is_exponent_letter c ≡ true → c < 128
 letter_small c h = elim
@@ -134,7 +140,7 @@ letter_in = in_both is_exponent_letter
 -- A digit begins no word, and is no point, sign or letter.
 pub digit_parts : (c : ℕ) → is_ascii_digit c ≡ true
     → (starts_word c ≡ false) × (c == 46 ≡ false) × (in_digits c ≡ true) × (is_sign c ≡ false)
-        × (is_exponent_letter c ≡ false)
+    × (is_exponent_letter c ≡ false)
 digit_parts c h = five (starts_word c) (c == 46) (in_digits c) (is_sign c) (is_exponent_letter c) (digit_alone c h)
   where
     five : (a b d e f : Bool) → not a && not b && d && not e && not f ≡ true

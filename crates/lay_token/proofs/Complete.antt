@@ -58,7 +58,7 @@ underscore_found (c ∷ []) r i h =
     let same = and_parts (c == 95) true parts.0 in
     let rest = rest_parts r parts.1 in
     let starts : starts_word c ≡ true =
-        let P : ℕ → Type 0 = λ v. starts_word v ≡ true in subst P (sym (eqb-true c 95 same.0)) underscore_starts in
+    let P : ℕ → Type 0 = λ v. starts_word v ≡ true in subst P (sym (eqb-true c 95 same.0)) underscore_starts in
     let tail = after-append in_word [] r refl rest.0 in
     rw (starts, tail, rest.1, same.0, rest.0) refl
 
@@ -79,7 +79,7 @@ raw_begin y c cs z h = by_case (c == 35) (c == 34) (sym (run-cons (raw_step y) (
   where
     by_case : (a b : Bool)
         → next (raw_step y) cs (cond (a && true) (Go (Hashes 1)) (cond b (Go (Inside 0)) Bad)) ≡ Some z
-            → b || a ≡ true
+        → b || a ≡ true
     by_case true true h = refl
     by_case true false h = refl
     by_case false true h = refl
@@ -156,7 +156,7 @@ prefixed_at Byte i cs y l h =
     let p = behind_parts (codes "b'") (after_char of.Bytes) cs y h in ap (front_of i) p.1 ∙ byte_at i p.0 y p.2
 prefixed_at ByteStr i cs y l h =
     let p = behind_parts (codes "b\"") (after_string of.Bytes) cs y h in ap (front_of i) p.1
-        ∙ byte_str_at i p.0 y p.2
+    ∙ byte_str_at i p.0 y p.2
 prefixed_at RawByteStr i cs y l h =
     let p = behind_parts (codes "br") (after_raw of.Bytes) cs y h in ap (front_of i) p.1 ∙ raw_byte_at i p.0 y p.2
 prefixed_at CStr i cs y l h =
@@ -184,7 +184,7 @@ unfolding raw_step
 no_raw c cs h =
     run-step (raw_step of.Chars) (Hashes 0) 35 (c ∷ cs) (Go (Hashes 1)) refl
     ∙ run-step (raw_step of.Chars) (Hashes 1) c cs Bad
-        (rw (starts_apart 35 c no_starts.0 h, starts_apart 34 c no_starts.1 h) refl)
+    (rw (starts_apart 35 c no_starts.0 h, starts_apart 34 c no_starts.1 h) refl)
 
 name_at : (c : ℕ) (ds r : List ℕ) → is_suffix (c ∷ ds) && not (is_path_word (encode_utf8_all (c ∷ ds))) ≡ true
     → begins in_word r ≡ false
@@ -239,7 +239,7 @@ no_char : (c : ℕ) (x : List ℕ) → starts_word c ≡ true → begins (λ c. 
 unfolding char_step
 no_char c x h t =
     run-step (char_step of.Chars) First c x (cond (is_lone of.Chars c) (Go Last) Bad)
-        (rw (starts_apart 92 c no_starts.3 h) refl) ∙ by_case (is_lone of.Chars c)
+    (rw (starts_apart 92 c no_starts.3 h) refl) ∙ by_case (is_lone of.Chars c)
   where
     by_case : (b : Bool) → next (char_step of.Chars) x (cond b (Go Last) Bad) ≡ None
     by_case true = no_tick x t
@@ -354,7 +354,7 @@ doc_found false false p r i h =
     let form = and_parts _ _ b.2 in
     let rest = line_end r parts.1 in
     ap (λ x. front_of i (x ++ r)) b.1
-        ∙ outer_line_front i (b.0 ++ r) (no_slash (λ c. c == 47) b.0 r (not-true _ form.0) rest.2)
+    ∙ outer_line_front i (b.0 ++ r) (no_slash (λ c. c == 47) b.0 r (not-true _ form.0) rest.2)
     ∙ line_at false b.0 r form.1 parts.1
 doc_found true true p r i h =
     let parts = and_parts _ _ h in
@@ -365,7 +365,7 @@ doc_found false true p r i h =
     let b = behind_true (codes "/**") _ p parts.0 in
     let form = and_parts _ _ b.2 in
     ap (λ x. front_of i (x ++ r)) b.1
-        ∙ outer_block_front i (b.0 ++ r) (some_block is_star_or_slash b.0 r form.1 (not-true _ form.0))
+    ∙ outer_block_front i (b.0 ++ r) (some_block is_star_or_slash b.0 r form.1 (not-true _ form.0))
     ∙ block_at false b.0 r form.1
 
 -- single characters
@@ -373,8 +373,11 @@ one_of : (cs : List ℕ) (p : ℕ → Bool) (c : ℕ) → list_any (λ d. d == c
 one_of [] p c h a = cc
 one_of (d ∷ cs) p c h a =
     let all = and_parts (p d) (list_all p cs) a in
-    elim (or_cases _ _ h) [ inl e ↦ let P : ℕ → Type 0 = λ v. p v ≡ true in
-        subst P (eqb-true d c e) all.0 | inr f ↦ one_of cs p c f all.1 ]
+    elim (or_cases _ _ h) [
+      | inl e ↦ let P : ℕ → Type 0 = λ v. p v ≡ true in
+          subst P (eqb-true d c e) all.0
+      | inr f ↦ one_of cs p c f all.1
+    ]
 
 -- not the first character of any other kind of token
 abbrev is_alone : ℕ → Bool
@@ -421,7 +424,7 @@ punct_found (c ∷ d ∷ ds) r i h =
     let parts = and_parts _ _ h in let none = and_parts (is_punct_char c) false parts.0 in cc
 punct_found (c ∷ []) r i h =
     let parts =
-        and_parts _ _ h in let one = and_parts (is_punct_char c) true parts.0 in punct_front i c r one.0 parts.1
+    and_parts _ _ h in let one = and_parts (is_punct_char c) true parts.0 in punct_front i c r one.0 parts.1
 
 at_one : (i : Bool) (n : ℕ) (k : Kind) (p r : List ℕ) → is_one (λ c. c == n) p ≡ true
     → front_of i (n ∷ r) ≡ found k r → front_of i (p ++ r) ≡ found k r
@@ -429,14 +432,14 @@ at_one i n k [] r h e = cc
 at_one i n k (c ∷ d ∷ ds) r h e = let none = and_parts (c == n) false h in cc
 at_one i n k (c ∷ []) r h e =
     let one =
-        and_parts (c == n) true h in let P : ℕ → Type 0 = λ v. front_of i (v ∷ r) ≡ found k r in
-            subst P (sym (eqb-true c n one.0)) e
+    and_parts (c == n) true h in let P : ℕ → Type 0 = λ v. front_of i (v ∷ r) ≡ found k r in
+    subst P (sym (eqb-true c n one.0)) e
 
 brackets : (i : Bool) (r : List ℕ)
     → (front_of i (40 ∷ r) ≡ found (Opener Paren) r) × (front_of i (91 ∷ r) ≡ found (Opener Bracket) r)
-        × (front_of i (123 ∷ r) ≡ found (Opener Brace) r)
+    × (front_of i (123 ∷ r) ≡ found (Opener Brace) r)
     × (front_of i (41 ∷ r) ≡ found (Closer Paren) r) × (front_of i (93 ∷ r) ≡ found (Closer Bracket) r)
-        × (front_of i (125 ∷ r) ≡ found (Closer Brace) r)
+    × (front_of i (125 ∷ r) ≡ found (Closer Brace) r)
 unfolding front_of unicode_ident starts_word
 brackets i r = (refl, refl, refl, refl, refl, refl)
 

@@ -28,7 +28,7 @@ at_number c n e h = let P : ℕ → Type 0 = λ m. is_silent m ≡ true in subst
 whites : (is_silent 9 ≡ true) × (is_silent 10 ≡ true) × (is_silent 11 ≡ true) × (is_silent 12 ≡ true)
     × (is_silent 13 ≡ true) × (is_silent 32 ≡ true)
     × (is_silent 133 ≡ true) × (is_silent 8206 ≡ true) × (is_silent 8207 ≡ true) × (is_silent 8232 ≡ true)
-        × (is_silent 8233 ≡ true)
+    × (is_silent 8233 ≡ true)
 unfolding unicode_ident starts_word
 whites = (refl, refl, refl, refl, refl, refl, refl, refl, refl, refl, refl)
 
@@ -50,11 +50,11 @@ within c low high =
                               | inl e ↦ at_number c 13 e whites.4
                               | inr e13 ↦
                                   let n9 : c ≢ 9 =
-                                      eqb-false c 9 e9 in let n10 : c ≢ 10 = eqb-false c 10 e10 in let n11 : c ≢ 11 =
-                                          eqb-false c 11 e11 in
+                                  eqb-false c 9 e9 in let n10 : c ≢ 10 = eqb-false c 10 e10 in let n11 : c ≢ 11 =
+                                  eqb-false c 11 e11 in
                                   let n12 : c ≢ 12 =
-                                      eqb-false c 12 e12 in let n13 : c ≢ 13 = eqb-false c 13 e13 in
-                                          absurd (omega arith)
+                                  eqb-false c 12 e12 in let n13 : c ≢ 13 = eqb-false c 13 e13 in
+                                  absurd (omega arith)
                             ]
                       ]
                 ]
@@ -132,7 +132,7 @@ dead_step s t c cs n e d = record {
         let heads : x ≡ c = let f : c ≡ x = cc in sym f in
         let tails : cs ≡ h ++ y = cc in
         ap (λ v. is_closed (gap_end (gap_step s v) h)) heads ∙ ap (λ v. is_closed (gap_end v h)) e
-            ∙ d.closed h y tails
+        ∙ d.closed h y tails
 
 dead_nil : (s : InGap) → is_closed s ≡ false → is_closed_or_line s ≡ false → IsDead s []
 dead_nil s n m = record { closed = λ h y w. go h y w; ended = m }
@@ -212,12 +212,12 @@ dead_opening (c ∷ cs) f h = by_case (c == 47) (c == 42) refl refl (sym (slash_
   where
     slash_is : (c : ℕ) (cs : List ℕ)
         → slash (c ∷ cs) ≡ cond (c == 47) (line_comment cs)
-            (cond (c == 42) (block_comment cs) (found Punct (c ∷ cs)))
+        (cond (c == 42) (block_comment cs) (found Punct (c ∷ cs)))
     slash_is c cs = refl
 
     by_case : (a b : Bool) → c == 47 ≡ a → c == 42 ≡ b
         → cond a (line_comment cs) (cond b (block_comment cs) (found Punct (c ∷ cs))) ≡ Some f
-            → IsDead Opening (c ∷ cs)
+        → IsDead Opening (c ∷ cs)
     by_case true b e g h = dead_step Opening Two c cs refl (opening_step c true b e g) (dead_two cs f h)
     by_case false true e g h = dead_step Opening Block c cs refl (opening_step c false true e g) (dead_block cs f h)
     by_case false false e g h = dead_step Opening Spoilt c cs refl (opening_step c false false e g) (dead_spoilt cs)
@@ -242,7 +242,7 @@ behind_first i c cs f h = by_case (is_white c) (c == 47) refl refl
     by_case true b e g = let n = white_none i c cs e in cc
     by_case false true e g =
         subst (λ (s : InGap). IsDead s cs) (sym (outside_step c false true e g))
-            (dead_opening cs f (sym (slash_front i c cs g) ∙ h))
+        (dead_opening cs f (sym (slash_front i c cs g) ∙ h))
     by_case false false e g =
         subst (λ (s : InGap). IsDead s cs) (sym (outside_step c false false e g)) (dead_spoilt cs)
 
@@ -260,7 +260,7 @@ found_no_gap i (c ∷ cs) f h = record { none = λ g y w d. go g y w d; unended 
         let heads : x ≡ c = let e : c ≡ x = cc in sym e in
         let tails : cs ≡ g ++ y = cc in
         let n : is_closed (gap_end (gap_step Outside x) g) ≡ false =
-            ap (λ v. is_closed (gap_end (gap_step Outside v) g)) heads ∙ dead.closed g y tails in
+        ap (λ v. is_closed (gap_end (gap_step Outside v) g)) heads ∙ dead.closed g y tails in
         cc
 
 pub piece_no_gap : (k : Kind) (p r : List ℕ) (i : Bool) → Had k p r i → BeginsNoGap (p ++ r)
@@ -297,7 +297,7 @@ more_gap : (s : InGap) (g x x2 : List ℕ) (c : ℕ) → IsTrue (is_closed s) �
     → x ≡ c ∷ g ++ x2 → NoGap x → c ∷ g ≡ []
 more_gap s g x x2 c h e f n =
     n (c ∷ g) x2 f (let P : InGap → Type 0 = λ t. IsTrue (is_closed (gap_end t (c ∷ g))) in
-        subst P (closed_is_outside s h) e)
+    subst P (closed_is_outside s h) e)
 
 gaps_same : (s : InGap) (g g2 x x2 : List ℕ) → g ++ x ≡ g2 ++ x2 → IsTrue (is_closed (gap_end s g))
     → IsTrue (is_closed (gap_end s g2)) → NoGap x → NoGap x2 → g ≡ g2
@@ -309,7 +309,7 @@ gaps_same s (c ∷ g) (d ∷ g2) x x2 e h h2 n n2 =
     let tails : g ++ x ≡ g2 ++ x2 = cc in
     let P : ℕ → Type 0 = λ m. IsTrue (is_closed (gap_end (gap_step s m) g2)) in
     ap (λ v. v ∷ g) heads
-        ∙ ap (λ v. d ∷ v) (gaps_same (gap_step s c) g g2 x x2 tails h (subst P (sym heads) h2) n n2)
+    ∙ ap (λ v. d ∷ v) (gaps_same (gap_step s c) g g2 x x2 tails h (subst P (sym heads) h2) n n2)
 
 pub gap_unique : (g g2 x x2 : List ℕ) → g ++ x ≡ g2 ++ x2 → IsTrue (is_gap g) → IsTrue (is_gap g2) → BeginsNoGap x
     → BeginsNoGap x2 → g ≡ g2

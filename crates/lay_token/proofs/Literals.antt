@@ -42,7 +42,7 @@ pub run-append : {S : Type 0} (step : S → ℕ → Next S) (s : S) (x y z : Lis
 run-append step s [] y z h = let e = run-nil step s in cc
 run-append step s (c ∷ x) y z h =
     run-cons step s c (x ++ z)
-        ∙ by_append step x y z (step s c) (λ t e. run-append step t x y z e) (sym (run-cons step s c x) ∙ h)
+    ∙ by_append step x y z (step s c) (λ t e. run-append step t x y z e) (sym (run-cons step s c x) ∙ h)
 
 -- the form that a text begins with, alone
 abbrev pub Alone : (List ℕ → Option (List ℕ)) → List ℕ → List ℕ → Type 0
@@ -50,7 +50,7 @@ Alone f cs y = (p : List ℕ) × (cs ≡ p ++ y) × (f p ≡ Some [])
 
 by_split : {S : Type 0} (step : S → ℕ → Next S) (c : ℕ) (cs y : List ℕ) (n : Next S)
     → ((t : S) → run step t cs ≡ Some y → Alone (run step t) cs y) → next step cs n ≡ Some y
-        → Alone (λ p. next step p n) cs y
+    → Alone (λ p. next step p n) cs y
 by_split step c cs y (Go t) more h = more t h
 by_split step c cs y End more h = let e : cs ≡ y = cc in ([], e, refl)
 by_split step c cs y Bad more h = cc
@@ -148,7 +148,7 @@ suffix_stops (c ∷ y) r h m =
     let stop : begins in_word r ≡ false = not-true (begins in_word r) m in
     let goes = begins-append in_word y r word.1 stop in
     rw (word.0, goes, not_not (is_nil y), not-true (c == 95 && is_nil y) parts.1, starts_in c word.0)
-        (after-append in_word y r word.1 stop)
+    (after-append in_word y r word.1 stop)
 
 -- a suffix at the front of a text
 pub suffix_front : (y : List ℕ) → begins_suffix y ≡ true → is_suffix (front in_word y) ≡ true
@@ -195,7 +195,7 @@ is_literal _ = false
 
 pub had-literal : (k : Kind) (piece rest : List ℕ) (i : Bool) → is_literal k ≡ true
     → had k piece rest i ≡
-        (is_literal_end (after_literal k piece) && literal_may_stop (is_whole (after_literal k piece)) rest)
+    (is_literal_end (after_literal k piece) && literal_may_stop (is_whole (after_literal k piece)) rest)
 unfolding had has_form may_follow
 had-literal Char piece rest i h = refl
 had-literal Str piece rest i h = refl
@@ -215,7 +215,7 @@ literal_had k cs y i l h =
     let x = suffix_of y in
     let piece = s.0 ++ x.text in
     let whole : cs ≡ piece ++ after_suffix y = s.1 ∙ ap (λ v. s.0 ++ v) x.whole
-        ∙ sym (append_assoc s.0 x.text (after_suffix y)) in
+    ∙ sym (append_assoc s.0 x.text (after_suffix y)) in
     let alone : after_literal k piece ≡ Some x.text = literal-append k s.0 [] x.text s.2 in
     (piece, whole, had-literal k piece (after_suffix y) i l ∙ (rw alone (and_from _ _ x.form x.stops)))
 

@@ -54,7 +54,7 @@ exponent_run_found : (x r : List ℕ) → is_exponent_run x ≡ true → begins 
 exponent_run_found x r h m =
     let parts = and_parts (is_run_in Decimal (front in_digits x)) _ h in
     ap (option_and_then (suffixed Float)) (run_found Decimal x r parts.0 (no_run Decimal r m))
-        ∙ suffix_found Float (after in_digits x) r parts.1 m
+    ∙ suffix_found Float (after in_digits x) r parts.1 m
 
 signed_found : (x r : List ℕ) → is_signed_run x ≡ true → begins in_word r ≡ false
     → exponent (x ++ r) ≡ found Float r
@@ -69,8 +69,11 @@ signed_found (c ∷ x) r h m = by_case (is_sign c) h
 fraction_found : (g r : List ℕ) → is_plain_suffix g || is_exponent g ≡ true → begins in_word r ≡ false
     → fraction (g ++ r) ≡ found Float r
 fraction_found g r h m =
-    elim (or_cases _ _ h) [ inl e ↦
-        (rw (plain_no_letter g r e m) (suffix_found Float g r (any_from g e) m)) | inr e ↦ by_letter g e ]
+    elim (or_cases _ _ h) [
+      | inl e ↦
+          (rw (plain_no_letter g r e m) (suffix_found Float g r (any_from g e) m))
+      | inr e ↦ by_letter g e
+    ]
   where
     by_letter : (g : List ℕ) → is_exponent g ≡ true → fraction (g ++ r) ≡ found Float r
     by_letter [] e = cc
@@ -80,7 +83,7 @@ fraction_found g r h m =
 -- a point
 point_parts : (r : List ℕ) → not (begins (λ c. is_ascii_digit c || c == 46 || starts_word c) r) ≡ true
     → (begins is_ascii_digit r ≡ false) × (begins (λ d. d == 46 || starts_word d) r ≡ false)
-        × (begins starts_word r ≡ false)
+    × (begins starts_word r ≡ false)
 point_parts [] h = (refl, refl, refl)
 point_parts (c ∷ r) h = by_case (is_ascii_digit c) (c == 46) (starts_word c) h
   where
@@ -105,9 +108,9 @@ point_fraction b c d f r dec e h m =
     let parts = and_parts (is_ascii_digit d) _ h in
     let alone = digit_parts d parts.0 in
     let more : after in_digits (d ∷ f ++ r) ≡ after in_digits (d ∷ f) ++ r =
-        after-more in_digits (d ∷ f) r (no_run Decimal r m) in
+    after-more in_digits (d ∷ f) r (no_run Decimal r m) in
     let to : whole b (c ∷ d ∷ f ++ r) ≡ fraction (after in_digits (d ∷ f ++ r)) =
-        rw (e, alone.1, alone.0, dec, parts.0) refl in
+    rw (e, alone.1, alone.0, dec, parts.0) refl in
     to ∙ ap fraction more ∙ fraction_found (after in_digits (d ∷ f)) r parts.1 m
 
 letter_tail : (b : Base) (c : ℕ) (q r : List ℕ) → is_decimal b ≡ true → is_exponent (c ∷ q) ≡ true
@@ -123,20 +126,19 @@ float_tail_found b [] r d h m = cc
 float_tail_found b (c ∷ q) r d h m = elim (cases_Bool (c == 46)) [
   | inl e ↦ with_point q e (sym (ap (λ v. cond v (is_nil q || is_fraction q) (is_exponent (c ∷ q))) e) ∙ h)
       (sym (ap (λ v. cond (cond v (is_nil q) false)
-          (not (begins (λ c. is_ascii_digit c || c == 46 || starts_word c) r)) (not (begins in_word r)))
-              (equal_both c 46 e)) ∙ m)
+      (not (begins (λ c. is_ascii_digit c || c == 46 || starts_word c) r)) (not (begins in_word r)))
+      (equal_both c 46 e)) ∙ m)
   | inr e ↦
       let other : 46 == c ≡ false = apart_both c 46 e in
       letter_tail b c q r d (sym (ap (λ v. cond v (is_nil q || is_fraction q) (is_exponent (c ∷ q))) e) ∙ h)
       (not-true _ (sym (ap (λ v. cond (cond v (is_nil q) false)
-          (not (begins (λ c. is_ascii_digit c || c == 46 || starts_word c) r)) (not (begins in_word r))) other)
-              ∙ m))
+      (not (begins (λ c. is_ascii_digit c || c == 46 || starts_word c) r)) (not (begins in_word r))) other)
+      ∙ m))
 ]
   where
-
     with_point : (q : List ℕ) → c == 46 ≡ true → is_nil q || is_fraction q ≡ true
         → cond (is_nil q) (not (begins (λ c. is_ascii_digit c || c == 46 || starts_word c) r))
-            (not (begins in_word r)) ≡ true → whole b (c ∷ q ++ r) ≡ found Float r
+        (not (begins in_word r)) ≡ true → whole b (c ∷ q ++ r) ≡ found Float r
     with_point [] e h m = lone_point b c r d e m
     with_point (x ∷ q) e h m = point_fraction b c x q r d e h (not-true _ m)
 
@@ -193,16 +195,16 @@ digits_append : (b : Base) (p r : List ℕ) → base_of p ≡ b → digits_of b 
 digits_append Decimal p r e = refl
 digits_append Binary p r e =
     let t =
-        two_first Binary p e refl in let P : List ℕ → Type 0 = λ v. drop 2 (v ++ r) ≡ drop 2 v ++ r in
-            subst P (sym t.3) refl
+    two_first Binary p e refl in let P : List ℕ → Type 0 = λ v. drop 2 (v ++ r) ≡ drop 2 v ++ r in
+    subst P (sym t.3) refl
 digits_append Octal p r e =
     let t =
-        two_first Octal p e refl in let P : List ℕ → Type 0 = λ v. drop 2 (v ++ r) ≡ drop 2 v ++ r in
-            subst P (sym t.3) refl
+    two_first Octal p e refl in let P : List ℕ → Type 0 = λ v. drop 2 (v ++ r) ≡ drop 2 v ++ r in
+    subst P (sym t.3) refl
 digits_append Hexadecimal p r e =
     let t =
-        two_first Hexadecimal p e refl in let P : List ℕ → Type 0 = λ v. drop 2 (v ++ r) ≡ drop 2 v ++ r in
-            subst P (sym t.3) refl
+    two_first Hexadecimal p e refl in let P : List ℕ → Type 0 = λ v. drop 2 (v ++ r) ≡ drop 2 v ++ r in
+    subst P (sym t.3) refl
 
 plain_at : (b : Base) (c : ℕ) (p r : List ℕ) → base_of (c ∷ p) ≡ b → begins starts_word r ≡ false
     → is_run_in b (front (in_run b) (digits_of b (c ∷ p))) ≡ true → begins (in_run b) r ≡ false
@@ -217,18 +219,18 @@ plain_int : (b : Base) (c : ℕ) (p r : List ℕ) → base_of (c ∷ p) ≡ b �
     → plain_number (c ∷ p ++ r) ≡ found Int r
 plain_int b c p r e h m pt =
     let at : (is_ascii_digit c && is_run_in b (front (in_run b) (digits_of b (c ∷ p)))
-        && is_int_suffix b (after (in_run b) (digits_of b (c ∷ p)))) ≡ true =
+    && is_int_suffix b (after (in_run b) (digits_of b (c ∷ p)))) ≡ true =
     sym (ap (λ v. is_ascii_digit c && is_run_in v (front (in_run v) (digits_of v (c ∷ p)))
-        && is_int_suffix v (after (in_run v) (digits_of v (c ∷ p)))) e) ∙ h in
+    && is_int_suffix v (after (in_run v) (digits_of v (c ∷ p)))) e) ∙ h in
     let parts = and_parts (is_ascii_digit c && is_run_in b (front (in_run b) (digits_of b (c ∷ p)))) _ at in
     let runs = and_parts (is_ascii_digit c) _ parts.0 in
     let bare : is_nil (after (in_run b) (digits_of b (c ∷ p))) && begins_point r ≡ false =
     sym (ap (λ v. is_nil (after (in_run v) (digits_of v (c ∷ p))) && begins_point r) e) ∙ pt in
     let ends : begins (in_run b) (after (in_run b) (digits_of b (c ∷ p)) ++ r) ≡ false =
     ap (begins (in_run b)) (sym (after-more (in_run b) (digits_of b (c ∷ p)) r (no_run b r m)))
-        ∙ after-stops (in_run b) (digits_of b (c ∷ p) ++ r) in
+    ∙ after-stops (in_run b) (digits_of b (c ∷ p) ++ r) in
     plain_at b c p r e (no_word r m) runs.1 (no_run b r m)
-        ∙ int_tail_found b (after (in_run b) (digits_of b (c ∷ p))) r parts.1 ends m bare
+    ∙ int_tail_found b (after (in_run b) (digits_of b (c ∷ p))) r parts.1 ends m bare
 
 -- floats
 pub decimal_is : (b : Base) → is_decimal b ≡ true → b ≡ Decimal
@@ -284,7 +286,7 @@ some_after p q (c ∷ x) r h = elim (cases_Bool (p c)) [
 
 pub fronts_is : (p r : List ℕ) → begins is_ascii_digit r ≡ false
     → cond (list_all is_ascii_digit p) (begins in_word r)
-        (begins in_word (after is_ascii_digit p)) ≡ begins in_word (after is_ascii_digit (p ++ r))
+    (begins in_word (after is_ascii_digit p)) ≡ begins in_word (after is_ascii_digit (p ++ r))
 fronts_is p r h = elim (cases_Bool (list_all is_ascii_digit p)) [
   | inl e ↦ rw (e, after-more is_ascii_digit p r h, all_after is_ascii_digit p e) refl
   | inr e ↦ rw (e, after-more is_ascii_digit p r h) (sym (some_after is_ascii_digit in_word p r e))
@@ -297,7 +299,7 @@ same_test n d x y i e f g = rw (e, f, g) refl
 pub had-number : (k : Kind) (p r : List ℕ) (i : Bool) → is_number_kind k ≡ true → begins is_ascii_digit p ≡ true
     → begins is_ascii_digit r ≡ false
     → had k p r i ≡ cond (i && not (begins in_word (after is_ascii_digit (p ++ r))))
-        (is_int_kind k && is_index p && not (begins in_word r)) (has_form k p && may_follow k p r)
+    (is_int_kind k && is_index p && not (begins in_word r)) (has_form k p && may_follow k p r)
 unfolding had
 had-number k p r i n d h =
     ap (λ v. cond v (is_int_kind k && is_index p && not (begins in_word r)) (has_form k p && may_follow k p r))
@@ -319,7 +321,7 @@ digit_first Int p r i n h = by_case (true && i && fronts_index p r) h
         let parts = and_parts (is_int p) _ h in (
           (and_parts (begins is_ascii_digit p) _
               (and_parts (begins is_ascii_digit p
-                  && is_run_in (base_of p) (front (in_run (base_of p)) (digits_of (base_of p) p))) _ parts.0).0).0,
+              && is_run_in (base_of p) (front (in_run (base_of p)) (digits_of (base_of p) p))) _ parts.0).0).0,
           no_digit r (not-true (begins in_word r) (and_parts (not (begins in_word r)) _ parts.1).0),
         )
 digit_first Float p r i n h = by_case (true && i && fronts_index p r) h
@@ -331,7 +333,7 @@ digit_first Float p r i n h = by_case (true && i && fronts_index p r) h
     by_case false h =
         let parts = and_parts (is_float p) _ h in
         let first = and_parts (begins is_ascii_digit p) _
-            (and_parts (begins is_ascii_digit p && is_decimal (base_of p)) _ parts.0).0 in
+        (and_parts (begins is_ascii_digit p && is_decimal (base_of p)) _ parts.0).0 in
         (first.0, (float_rest (ends_in_point p) r parts.1).2)
 digit_first _ p r i n h = cc
 
@@ -351,11 +353,11 @@ plain_had _ c p r n h = cc
 
 index_had : (k : Kind) (p r : List ℕ) → is_number_kind k ≡ true
     → is_int_kind k && is_index p && not (begins in_word r) ≡ true
-        → found Int (after is_ascii_digit (p ++ r)) ≡ found k r
+    → found Int (after is_ascii_digit (p ++ r)) ≡ found k r
 index_had Int p r n h =
     let parts = and_parts (is_index p) _ h in
     ap (found Int) (after-append is_ascii_digit p r (and_parts (begins is_ascii_digit p) _ parts.0).1
-        (no_digit r (not-true (begins in_word r) parts.1)))
+    (no_digit r (not-true (begins in_word r) parts.1)))
 index_had _ p r n h = cc
 
 pub number_found : (k : Kind) (p r : List ℕ) (i : Bool) → is_number_kind k ≡ true → Had k p r i
@@ -364,8 +366,8 @@ number_found k [] r i n h = let d = digit_first k [] r i n h in let e : false �
 number_found k (c ∷ p) r i n h =
     let d = digit_first k (c ∷ p) r i n h in
     number_front i c (p ++ r) d.0
-        ∙ by_case (i && not (begins in_word (after is_ascii_digit (c ∷ p ++ r))))
-            (sym (had-number k (c ∷ p) r i n d.0 d.1) ∙ h)
+    ∙ by_case (i && not (begins in_word (after is_ascii_digit (c ∷ p ++ r))))
+    (sym (had-number k (c ∷ p) r i n d.0 d.1) ∙ h)
   where
     by_case : (t : Bool) → cond t (is_int_kind k && is_index (c ∷ p) && not (begins in_word r))
         (has_form k (c ∷ p) && may_follow k (c ∷ p) r) ≡ true

@@ -34,7 +34,7 @@ after_is b (c ∷ cs) h = elim (cases_Bool (in_run b c)) [
   | inr e ↦ let f : ok b c ≡ false = outside b (ok b) c (ok_in_run b c) e in rw (e, f) refl
   | inl e ↦
       let parts = and_parts (ok b c) (list_all (ok b) (front (in_run b) cs))
-          (sym (ap (λ v. list_all (ok b) (cond v (c ∷ front (in_run b) cs) [])) e) ∙ h) in
+      (sym (ap (λ v. list_all (ok b) (cond v (c ∷ front (in_run b) cs) [])) e) ∙ h) in
       rw (e, parts.0) (after_is b cs parts.1)
 ]
 
@@ -48,7 +48,7 @@ any_is b (c ∷ cs) h = elim (cases_Bool (in_run b c)) [
       rw (e, g, f) refl
   | inl e ↦
       let parts = and_parts (ok b c) (list_all (ok b) (front (in_run b) cs))
-          (sym (ap (λ v. list_all (ok b) (cond v (c ∷ front (in_run b) cs) [])) e) ∙ h) in
+      (sym (ap (λ v. list_all (ok b) (cond v (c ∷ front (in_run b) cs) [])) e) ∙ h) in
       elim (cases_Bool (c == 95)) [
         | inl g ↦ let f = underscore_no_digit b c g in rw (e, g, f) (any_is b cs parts.1)
         | inr g ↦ let f : in_base b c ≡ true = left (in_base b c) (c == 95) parts.0 g in rw (e, g, f) refl
@@ -66,7 +66,7 @@ run_is b cs = elim (cases_Bool (list_all (ok b) (front (in_run b) cs))) [
   | inr e ↦
       let more : begins (in_run b) (after (ok b) cs) ≡ true = not-false _ (sym (all_is b cs) ∙ e) in
       let no : begins (in_base b) (after is_underscore cs) && not (begins (in_run b) (after (ok b) cs)) ≡ false =
-          and_right _ _ (ap not more) in
+      and_right _ _ (ap not more) in
       let none : is_run_in b (front (in_run b) cs) ≡ false = and_right _ _ e in
       rw (no, none) refl
 ]

@@ -53,10 +53,18 @@ suffix_start (c ∷ cs) h s = rw (h, s) refl
 
 suffixed_ends : (k : Kind) (cs : List ℕ) → begins (λ c. c == 95) cs ≡ false → Ends (IsSuffixed k) cs (suffixed k cs)
 suffixed_ends k cs h = ends_cond _ cs (begins starts_word cs) _ _
-    (λ s. (front in_word cs, front-after in_word cs, record { kind = refl; form =
-        or_right _ _ (suffix_front cs (suffix_start cs h s)); stops = after-stops in_word cs }))
+    (λ s. (
+      front in_word cs,
+      front-after in_word cs,
+      record {
+        kind = refl;
+        form =
+            or_right _ _ (suffix_front cs (suffix_start cs h s));
+        stops = after-stops in_word cs;
+      },
+    ))
     (λ s. ends_cond _ cs (begins in_word cs) _ _ (λ w. tt)
-        (λ w. ([], refl, record { kind = refl; form = refl; stops = w })))
+    (λ w. ([], refl, record { kind = refl; form = refl; stops = w })))
 
 -- exponents
 record IsFloatPart (test : List ℕ → Bool) (k : Kind) (q r : List ℕ) : Type 0 where
@@ -85,12 +93,15 @@ exponent_run_ends cs = ends_then _ cs (suffixed Float) (after_run Decimal cs)
         → IsSuffixed Float k q r → IsFloatPart is_exponent_run k (front in_digits cs ++ q) r
     tail k q r run w s =
         let n : begins in_digits q ≡ false =
-            begins_left in_digits q r (ap (begins in_digits) (sym w) ∙ after-stops in_digits cs) in
+        begins_left in_digits q r (ap (begins in_digits) (sym w) ∙ after-stops in_digits cs) in
         record {
           kind = s.kind;
-          form = rw (front-append in_digits (front in_digits cs) q
-              (each-front in_digits cs) n, after-append in_digits (front in_digits cs) q
-                  (each-front in_digits cs) n) (and_from _ _ run s.form);
+          form = rw (
+            front-append in_digits (front in_digits cs) q
+                (each-front in_digits cs) n,
+            after-append in_digits (front in_digits cs) q
+                (each-front in_digits cs) n,
+          ) (and_from _ _ run s.form);
           stops = s.stops;
         }
 
@@ -101,7 +112,7 @@ exponent_run_ends cs = ends_then _ cs (suffixed Float) (after_run Decimal cs)
         let Q : List ℕ → Type 0 = λ v. Ends (IsFloatPart is_exponent_run) v (suffixed Float (after in_digits cs)) in
         subst P (sym e) (subst Q (sym (front-after in_digits cs))
         (ends_map (IsSuffixed Float) (IsFloatPart is_exponent_run) (front in_digits cs) (after in_digits cs)
-            (suffixed Float (after in_digits cs))
+        (suffixed Float (after in_digits cs))
         (λ k q r w s. tail k q r run w s) (suffixed_ends Float (after in_digits cs) (no_underscore Decimal cs))))
 
 -- a sign may stand before it
@@ -115,16 +126,16 @@ exponent_ends : (cs : List ℕ) → Ends (IsFloatPart is_signed_run) cs (exponen
 exponent_ends [] = tt
 exponent_ends (c ∷ cs) = ends_cond _ (c ∷ cs) (is_sign c) _ _
     (λ s. ends_map (IsFloatPart is_exponent_run) (IsFloatPart is_signed_run) (c ∷ []) cs _
-        (λ k q r w p. record { kind = p.kind; form = rw s p.form; stops = p.stops }) (exponent_run_ends cs))
+    (λ k q r w p. record { kind = p.kind; form = rw s p.form; stops = p.stops }) (exponent_run_ends cs))
     (λ s. ends_map (IsFloatPart is_exponent_run) (IsFloatPart is_signed_run) [] (c ∷ cs) _
-        (λ k q r w p. record { kind = p.kind; form = unsigned c cs q r s w p.form; stops = p.stops })
-            (exponent_run_ends (c ∷ cs)))
+    (λ k q r w p. record { kind = p.kind; form = unsigned c cs q r s w p.form; stops = p.stops })
+    (exponent_run_ends (c ∷ cs)))
 
 letter_ends : (c : ℕ) (cs : List ℕ) → is_exponent_letter c ≡ true
     → Ends (IsFloatPart is_exponent) (c ∷ cs) (exponent cs)
 letter_ends c cs l =
     ends_map (IsFloatPart is_signed_run) (IsFloatPart is_exponent) (c ∷ []) cs _
-        (λ k q r w p. record { kind = p.kind; form = and_from _ _ l p.form; stops = p.stops }) (exponent_ends cs)
+    (λ k q r w p. record { kind = p.kind; form = and_from _ _ l p.form; stops = p.stops }) (exponent_ends cs)
 
 plain_from : (q r : List ℕ) → begins is_exponent_letter (q ++ r) ≡ false → is_any_suffix q ≡ true
     → is_plain_suffix q ≡ true
@@ -192,10 +203,10 @@ point_ends c cs e h = ends_cond _ (c ∷ cs) (begins is_ascii_digit cs) _ _ (λ 
         → IsFloatPart is_fraction_end k q r → IsFloatTail k (c ∷ (front in_digits cs ++ q)) r
     part k q r d w p =
         let n : begins in_digits q ≡ false =
-            begins_left in_digits q r (ap (begins in_digits) (sym w) ∙ after-stops in_digits cs) in
+        begins_left in_digits q r (ap (begins in_digits) (sym w) ∙ after-stops in_digits cs) in
         let first : begins is_ascii_digit (front in_digits cs ++ q) ≡ true = starts_digit cs q d in
         let tail : after in_digits (front in_digits cs ++ q) ≡ q =
-            after-append in_digits (front in_digits cs) q (each-front in_digits cs) n in
+        after-append in_digits (front in_digits cs) q (each-front in_digits cs) n in
         let frac : is_fraction (front in_digits cs ++ q) ≡ true = and_from _ _ first (rw tail p.form) in
         record {
           kind = p.kind;
@@ -208,7 +219,7 @@ point_ends c cs e h = ends_cond _ (c ∷ cs) (begins is_ascii_digit cs) _ _ (λ 
         let P : List ℕ → Type 0 = λ v. Ends IsFloatTail (c ∷ v) (fraction (after in_digits cs)) in
         subst P (sym (front-after in_digits cs))
         (ends_map (IsFloatPart is_fraction_end) IsFloatTail (c ∷ front in_digits cs) (after in_digits cs)
-            (fraction (after in_digits cs))
+        (fraction (after in_digits cs))
         (λ k q r w p. part k q r d w p) (fraction_ends (after in_digits cs) (no_underscore Decimal cs)))
 
 -- what stands behind the digits of a number
@@ -246,7 +257,7 @@ whole_ends : (b : Base) (cs : List ℕ) → begins (λ c. c == 95) cs ≡ false 
 whole_ends b cs h = ends_cond _ cs (begins_point cs) _ _
     (λ p. ends_cond _ cs (is_decimal b) _ _ (λ d. by_point cs d p) (λ d. tt))
     (λ p. ends_cond _ cs (begins is_exponent_letter cs) _ _
-        (λ l. ends_cond _ cs (is_decimal b) _ _ (λ d. by_letter cs d l) (λ d. tt))
+    (λ l. ends_cond _ cs (is_decimal b) _ _ (λ d. by_letter cs d l) (λ d. tt))
     (λ n. ends_map (IsSuffixed Int) (IsNumberTail b) [] cs _ (λ k q r w s. inl (record {
       kind = s.kind;
       form = int_suffix_from b q r (ap (begins is_exponent_letter) (sym w) ∙ n) s.form;
@@ -260,14 +271,14 @@ whole_ends b cs h = ends_cond _ cs (begins_point cs) _ _
     by_point (c ∷ cs) d p =
         let parts = and_parts (c == 46) _ p in
         ends_map IsFloatTail (IsNumberTail b) [] (c ∷ cs) _ (λ k q r w t. inr (d, t))
-            (point_ends c cs parts.0 (not-true _ parts.1))
+        (point_ends c cs parts.0 (not-true _ parts.1))
 
     by_letter : (cs : List ℕ) → is_decimal b ≡ true → begins is_exponent_letter cs ≡ true
         → Ends (IsNumberTail b) cs (exponent (drop 1 cs))
     by_letter [] d l = cc
     by_letter (c ∷ cs) d l =
         ends_map (IsFloatPart is_exponent) (IsNumberTail b) [] (c ∷ cs) _
-            (λ k q r w t. inr (d, exponent_tail k q r t)) (letter_ends c cs l)
+        (λ k q r w t. inr (d, exponent_tail k q r t)) (letter_ends c cs l)
 
 -- the piece: what names the base, the digits, and what stands behind them
 record Numeral (b : Base) (cs q r : List ℕ) : Type 0 where
@@ -291,9 +302,9 @@ decimal_numeral : (cs q r : List ℕ) → base_of cs ≡ Decimal → begins is_a
     → after in_digits cs ≡ q ++ r → Numeral Decimal cs q r
 decimal_numeral cs q r e d w =
     let n : begins in_digits q ≡ false =
-        begins_left in_digits q r (ap (begins in_digits) (sym w) ∙ after-stops in_digits cs) in
+    begins_left in_digits q r (ap (begins in_digits) (sym w) ∙ after-stops in_digits cs) in
     let whole : cs ≡ (front in_digits cs ++ q) ++ r = front-after in_digits cs
-        ∙ ap (λ v. front in_digits cs ++ v) w ∙ sym (append_assoc (front in_digits cs) q r) in
+    ∙ ap (λ v. front in_digits cs ++ v) w ∙ sym (append_assoc (front in_digits cs) q r) in
     record {
       piece = front in_digits cs ++ q;
       whole = whole;
@@ -307,9 +318,9 @@ based_numeral : (b : Base) (c d : ℕ) (ds q r : List ℕ) → ((x : List ℕ) �
     → base_of (c ∷ d ∷ ds) ≡ b → is_ascii_digit c ≡ true → after (in_run b) ds ≡ q ++ r → Numeral b (c ∷ d ∷ ds) q r
 based_numeral b c d ds q r digits e h w =
     let n : begins (in_run b) q ≡ false =
-        begins_left (in_run b) q r (ap (begins (in_run b)) (sym w) ∙ after-stops (in_run b) ds) in
+    begins_left (in_run b) q r (ap (begins (in_run b)) (sym w) ∙ after-stops (in_run b) ds) in
     let whole : ds ≡ (front (in_run b) ds ++ q) ++ r = front-after (in_run b) ds
-        ∙ ap (λ v. front (in_run b) ds ++ v) w ∙ sym (append_assoc (front (in_run b) ds) q r) in
+    ∙ ap (λ v. front (in_run b) ds ++ v) w ∙ sym (append_assoc (front (in_run b) ds) q r) in
     record {
       piece = c ∷ d ∷ (front (in_run b) ds ++ q);
       whole = ap (λ v. c ∷ d ∷ v) whole;
@@ -317,19 +328,19 @@ based_numeral b c d ds q r digits e h w =
       first = h;
       run = ap (front (in_run b)) (digits (front (in_run b) ds ++ q))
           ∙ front-append (in_run b) (front (in_run b) ds) q (each-front (in_run b) ds) n
-              ∙ ap (front (in_run b)) (sym (digits ds));
+          ∙ ap (front (in_run b)) (sym (digits ds));
       tail = ap (after (in_run b)) (digits (front (in_run b) ds ++ q))
           ∙ after-append (in_run b) (front (in_run b) ds) q (each-front (in_run b) ds) n;
     }
 
 other_numeral : (b : Base) (cs q r : List ℕ) → is_decimal b ≡ false → ((x : List ℕ) → digits_of b x ≡ drop 2 x)
     → base_of cs ≡ b → begins is_ascii_digit cs ≡ true → after (in_run b) (digits_of b cs) ≡ q ++ r
-        → Numeral b cs q r
+    → Numeral b cs q r
 other_numeral b cs q r n digits e d w =
     let t = two_first b cs e n in
     let P : List ℕ → Type 0 = λ v. Numeral b v q r in
     subst P (sym t.3) (based_numeral b t.0 t.1 t.2 q r (λ x. digits (t.0 ∷ t.1 ∷ x)) (ap base_of (sym t.3)
-        ∙ e) (ap (begins is_ascii_digit) (sym t.3) ∙ d)
+    ∙ e) (ap (begins is_ascii_digit) (sym t.3) ∙ d)
     (ap (after (in_run b)) (sym (ap (digits_of b) t.3 ∙ digits (t.0 ∷ t.1 ∷ t.2))) ∙ w))
 
 numeral : (b : Base) (cs q r : List ℕ) → base_of cs ≡ b → begins is_ascii_digit cs ≡ true
@@ -344,7 +355,7 @@ int_form : (b : Base) (cs q r : List ℕ) (n : Numeral b cs q r)
     → is_run_in b (front (in_run b) (digits_of b cs)) ≡ true → is_int_suffix b q ≡ true → is_int n.piece ≡ true
 int_form b cs q r n run h =
     ap (λ v. begins is_ascii_digit n.piece && is_run_in v (front (in_run v) (digits_of v n.piece))
-        && is_int_suffix v (after (in_run v) (digits_of v n.piece))) n.base
+    && is_int_suffix v (after (in_run v) (digits_of v n.piece))) n.base
     ∙ (and_from _ _ (and_from _ _ n.first (ap (is_run_in b) n.run ∙ run)) (ap (is_int_suffix b) n.tail ∙ h))
 
 bare_form : (b : Base) (cs q r : List ℕ) (n : Numeral b cs q r) → is_bare_int n.piece ≡ is_nil q
@@ -355,7 +366,7 @@ float_form cs q r n h = and_from _ _ (and_from _ _ n.first (ap is_decimal n.base
 
 no_digit_behind : (t : Bool) (r : List ℕ)
     → cond t (not (begins (λ c. is_ascii_digit c || c == 46 || starts_word c) r)) (not (begins in_word r)) ≡ true
-        → begins is_ascii_digit r ≡ false
+    → begins is_ascii_digit r ≡ false
 no_digit_behind false r h = no_digit r (not-true _ h)
 no_digit_behind true [] h = refl
 no_digit_behind true (c ∷ r) h = by_case (is_ascii_digit c) (c == 46) (starts_word c) h
@@ -374,9 +385,9 @@ unfolding has_form may_follow
 int_stands i b cs q r ni n run t =
     let form : has_form Int n.piece ≡ true = int_form b cs q r n run t.form in
     let follow : may_follow Int n.piece r ≡ true =
-        and_from _ _ (ap not t.stops) (ap not (ap (λ v. v && begins_point r) (bare_form b cs q r n) ∙ t.point)) in
+    and_from _ _ (ap not t.stops) (ap not (ap (λ v. v && begins_point r) (bare_form b cs q r n) ∙ t.point)) in
     let ni2 : i && not (begins in_word (after is_ascii_digit (n.piece ++ r))) ≡ false =
-        ap (λ v. i && not (begins in_word (after is_ascii_digit v))) (sym n.whole) ∙ ni in
+    ap (λ v. i && not (begins in_word (after is_ascii_digit v))) (sym n.whole) ∙ ni in
     record {
       piece = n.piece;
       whole = n.whole;
@@ -390,10 +401,10 @@ float_stands i cs q r ni n t =
     let form : has_form Float n.piece ≡ true = float_form cs q r n t.form in
     let follow : may_follow Float n.piece r ≡ true =
     ap (λ v. cond (behind false (46 ∷ []) is_nil v)
-        (not (begins (λ c. is_ascii_digit c || c == 46 || starts_word c) r)) (not (begins in_word r))) n.tail
-            ∙ t.stops in
+    (not (begins (λ c. is_ascii_digit c || c == 46 || starts_word c) r)) (not (begins in_word r))) n.tail
+    ∙ t.stops in
     let ni2 : i && not (begins in_word (after is_ascii_digit (n.piece ++ r))) ≡ false =
-        ap (λ v. i && not (begins in_word (after is_ascii_digit v))) (sym n.whole) ∙ ni in
+    ap (λ v. i && not (begins in_word (after is_ascii_digit v))) (sym n.whole) ∙ ni in
     record {
       piece = n.piece;
       whole = n.whole;
@@ -412,14 +423,14 @@ stands_by : (i : Bool) (b : Base) (cs q r : List ℕ) (k : Kind) → NoIndex i c
     → after (in_run b) (digits_of b cs) ≡ q ++ r → IsNumberTail b k q r → Stands i cs k r
 stands_by i b cs q r k ni e d run w (inl t) =
     as_int i cs r k t.kind
-        (int_stands i b cs q r ni (numeral b cs q r e d w) run
-            (record { kind = refl; form = t.form; stops = t.stops; point = t.point }))
+    (int_stands i b cs q r ni (numeral b cs q r e d w) run
+    (record { kind = refl; form = t.form; stops = t.stops; point = t.point }))
 stands_by i b cs q r k ni e d run w (inr t) =
     let dec : b ≡ Decimal = decimal_is b t.0 in
     let v : after in_digits cs ≡ q ++ r = sym (ap (λ x. after (in_run x) (digits_of x cs)) dec) ∙ w in
     as_float i cs r k t.1.kind
-        (float_stands i cs q r ni (decimal_numeral cs q r (e ∙ dec) d v)
-            (record { kind = refl; form = t.1.form; stops = t.1.stops }))
+    (float_stands i cs q r ni (decimal_numeral cs q r (e ∙ dec) d v)
+    (record { kind = refl; form = t.1.form; stops = t.1.stops }))
 
 from_ends : (i : Bool) (b : Base) (cs t : List ℕ) (x : Front) → NoIndex i cs → base_of cs ≡ b
     → begins is_ascii_digit cs ≡ true → is_run_in b (front (in_run b) (digits_of b cs)) ≡ true
@@ -438,7 +449,7 @@ plain_sound i cs ni d = go (after_run (base_of cs) (digits_of (base_of cs) cs)) 
         let p = run_parts (base_of cs) (digits_of (base_of cs) cs) r e in
         from_ends i (base_of cs) cs r (whole (base_of cs) r) ni refl d p.0 p.1
         (whole_ends (base_of cs) r (ap (begins (λ c. c == 95)) p.1
-            ∙ no_underscore (base_of cs) (digits_of (base_of cs) cs)))
+        ∙ no_underscore (base_of cs) (digits_of (base_of cs) cs)))
 
 index_stands : (cs : List ℕ) → begins is_ascii_digit cs ≡ true
     → not (begins in_word (after is_ascii_digit cs)) ≡ true → Stands true cs Int (after is_ascii_digit cs)
@@ -446,7 +457,7 @@ index_stands cs d h =
     let whole : cs ≡ front is_ascii_digit cs ++ after is_ascii_digit cs = front-after is_ascii_digit cs in
     let first : begins is_ascii_digit (front is_ascii_digit cs) ≡ true = some_front cs d in
     let t : true && not (begins in_word
-        (after is_ascii_digit (front is_ascii_digit cs ++ after is_ascii_digit cs))) ≡ true =
+    (after is_ascii_digit (front is_ascii_digit cs ++ after is_ascii_digit cs))) ≡ true =
     ap (λ v. not (begins in_word (after is_ascii_digit v))) (sym whole) ∙ h in
     record {
       piece = front is_ascii_digit cs;
@@ -465,4 +476,4 @@ pub number_sound : (i : Bool) (cs : List ℕ) → begins is_ascii_digit cs ≡ t
 number_sound false cs d = plain_sound false cs refl d
 number_sound true cs d =
     sound_cond true cs (not (begins in_word (after is_ascii_digit cs))) _ _ (λ h. index_stands cs d h)
-        (λ h. plain_sound true cs h d)
+    (λ h. plain_sound true cs h d)

@@ -134,8 +134,12 @@ marked : folded (codes "a\r\n\r\r\n\r") ≡ codes "a\n\r\n\r"
 unfolding encode
 marked = refl
 
-shebang : source_of (codes "#!/bin/sh\r\nx") ≡ record { text = codes "#!/bin/sh\r\nx"; shebang =
-    Some (codes "#!/bin/sh"); start = 11 }
+shebang : source_of (codes "#!/bin/sh\r\nx") ≡ record {
+  text = codes "#!/bin/sh\r\nx";
+  shebang =
+      Some (codes "#!/bin/sh");
+  start = 11;
+}
 unfolding encode
 shebang = refl
 

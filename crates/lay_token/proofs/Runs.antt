@@ -46,10 +46,10 @@ string_escape y (c ∷ cs) e = by_step (escape_step y e c) (λ t. string_escape 
   where
     by_step : (n : Next InEscape)
         → ((t : InEscape) → run (string_step y) (Escape t) cs ≡ option_and_then (run (string_step y) Plain)
-            (run (escape_step y) t cs))
+        (run (escape_step y) t cs))
         → elim (in_string n) [ Go t ↦ run (string_step y) t cs | End ↦ Some cs | Bad ↦ None ]
         ≡ option_and_then (run (string_step y) Plain)
-            (elim n [ Go t ↦ run (escape_step y) t cs | End ↦ Some cs | Bad ↦ None ])
+        (elim n [ Go t ↦ run (escape_step y) t cs | End ↦ Some cs | Bad ↦ None ])
     by_step (Go t) h = h t
     by_step End h = refl
     by_step Bad h = refl
@@ -63,10 +63,10 @@ char_escape y (c ∷ cs) e = by_step (escape_step y e c) (λ t. char_escape y cs
   where
     by_step : (n : Next InEscape)
         → ((t : InEscape) → run (char_step y) (CharEscape t) cs ≡ option_and_then (run (char_step y) Last)
-            (run (escape_step y) t cs))
+        (run (escape_step y) t cs))
         → elim (in_char n) [ Go t ↦ run (char_step y) t cs | End ↦ Some cs | Bad ↦ None ]
         ≡ option_and_then (run (char_step y) Last)
-            (elim n [ Go t ↦ run (escape_step y) t cs | End ↦ Some cs | Bad ↦ None ])
+        (elim n [ Go t ↦ run (escape_step y) t cs | End ↦ Some cs | Bad ↦ None ])
     by_step (Go t) h = h t
     by_step End h = refl
     by_step Bad h = refl
@@ -108,7 +108,7 @@ open_quote : (y : Contents) (n c : ℕ) (cs : List ℕ) → c == 35 && nat_lt n 
     → run (raw_step y) (Hashes n) (c ∷ cs) ≡ opened y n (c ∷ cs)
 open_quote y n c cs e =
     run-step (raw_step y) (Hashes n) c cs (cond (c == 34) (Go (Inside n)) Bad) (quote_step y n c e)
-        ∙ by_case (c == 34)
+    ∙ by_case (c == 34)
   where
     by_case : (b : Bool) → next (raw_step y) cs (cond b (Go (Inside n)) Bad) ≡ cond b
         (run (raw_step y) (Inside n) cs) None
@@ -120,20 +120,20 @@ pub raw-hashes : (y : Contents) (m n : ℕ) (cs : List ℕ) → n + m ≡ 255
 raw-hashes y zero n [] e = run-nil (raw_step y) (Hashes n)
 raw-hashes y zero n (c ∷ cs) e =
     open_quote y n c cs (and_right (c == 35) (nat_lt n 255) (le-ltb n 255 (omega arith)))
-        ∙ ap (λ v. opened y v (c ∷ cs)) (sym (add-zero n))
+    ∙ ap (λ v. opened y v (c ∷ cs)) (sym (add-zero n))
 raw-hashes y (suc m) n [] e = run-nil (raw_step y) (Hashes n)
 raw-hashes y (suc m) n (c ∷ cs) e = elim (cases_Bool (c == 35)) [
   | inl h ↦
       let count : n + 1 + hashes m cs ≡ n + suc (hashes m cs) = omega arith in
       let to : opened y (n + hashes (suc m) (c ∷ cs)) (behind_hashes (suc m) (c ∷ cs)) ≡ opened y
-          (n + suc (hashes m cs)) (behind_hashes m cs) = rw h refl in
+      (n + suc (hashes m cs)) (behind_hashes m cs) = rw h refl in
       run-step (raw_step y) (Hashes n) c cs (Go (Hashes (n + 1))) (hash_step y n c h (lt-ltb n 255 (omega arith)))
       ∙ raw-hashes y m (n + 1) cs (omega arith) ∙ ap (λ v. opened y v (behind_hashes m cs)) count ∙ sym to
   | inr h ↦
       let to : opened y (n + hashes (suc m) (c ∷ cs)) (behind_hashes (suc m) (c ∷ cs)) ≡ opened y (n + 0) (c ∷ cs) =
-          rw h refl in
+      rw h refl in
       open_quote y n c cs (and_left (c == 35) (nat_lt n 255) h) ∙ ap (λ v. opened y v (c ∷ cs)) (sym (add-zero n))
-          ∙ sym to
+      ∙ sym to
 ]
 
 -- the hashes that close a raw string, where so many are still to come
@@ -168,12 +168,12 @@ raw-closing y m n k (c ∷ cs) e = elim (cases_Bool (c == 35)) [
   | inr h ↦
       let to : closed y n (suc m) (c ∷ cs) ≡ run (raw_step y) (Inside n) (c ∷ cs) = rw (h, not_none m) refl in
       run-same (raw_step y) (Closing n k) (Inside n) c cs (closing_step y n k c false h ∙ sym (inside_is y n c))
-          ∙ sym to
+      ∙ sym to
 ]
   where
     hash : (m : ℕ) → k + suc m ≡ n
         → ((p : ℕ) → k + 1 + suc p ≡ n → run (raw_step y) (Closing n (k + 1)) cs ≡ closed y n (suc p) cs)
-            → c == 35 ≡ true
+        → c == 35 ≡ true
         → run (raw_step y) (Closing n k) (c ∷ cs) ≡ closed y n (suc m) (c ∷ cs)
     hash zero e more h =
         let last : (k + 1 == n) ≡ true = eq-eqb (k + 1) n (omega arith) in
@@ -182,9 +182,9 @@ raw-closing y m n k (c ∷ cs) e = elim (cases_Bool (c == 35)) [
     hash (suc p) e more h =
         let open_yet : (k + 1 == n) ≡ false = ne_eqb (k + 1) n (λ l. absurd (omega arith)) in
         let to : closed y n (suc (suc p)) (c ∷ cs) ≡ closed y n (suc p) cs =
-            rw (h, suc_same (hashes (suc p) cs) (suc p)) refl in
+        rw (h, suc_same (hashes (suc p) cs) (suc p)) refl in
         run-step (raw_step y) (Closing n k) c cs (Go (Closing n (k + 1))) (closing_step y n k c true h
-            ∙ (rw open_yet refl)) ∙ more p (omega arith) ∙ sym to
+        ∙ (rw open_yet refl)) ∙ more p (omega arith) ∙ sym to
 
 -- a quote in a raw string
 quote_within : (y : Contents) (n c : ℕ) → c == 34 ≡ true
@@ -198,7 +198,7 @@ raw-quote y zero c cs e = run-step (raw_step y) (Inside 0) c cs End (quote_withi
 raw-quote y (suc m) c cs e =
     let some : (suc m == 0) ≡ false = ne_eqb (suc m) 0 (λ l. absurd (omega arith)) in
     run-step (raw_step y) (Inside (suc m)) c cs (Go (Closing (suc m) 0)) (quote_within y (suc m) c e
-        ∙ (rw some refl)) ∙ raw-closing y m (suc m) 0 cs (omega arith)
+    ∙ (rw some refl)) ∙ raw-closing y m (suc m) 0 cs (omega arith)
 
 -- a star or a slash in a block that goes with nothing
 doc_same : (s t : InBlock) (c : ℕ) → block_step s c ≡ block_step t c → doc_step s c ≡ doc_step t c

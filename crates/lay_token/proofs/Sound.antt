@@ -58,16 +58,16 @@ stops_both (c ∷ r) h g = rw h (ap not g)
 word_had : (i : Bool) (c : ℕ) (cs : List ℕ) (lone : Bool) → starts_word c ≡ true
     → begins is_mark (after in_word cs) ≡ false
     → c == 95 && not (begins in_word cs) ≡ lone
-        → Had (cond lone Underscore Ident) (c ∷ front in_word cs) (after in_word cs) i
+    → Had (cond lone Underscore Ident) (c ∷ front in_word cs) (after in_word cs) i
 unfolding had has_form may_follow
 word_had i c cs true h m e = rw (nil_front in_word cs, e) (stops_both (after in_word cs) (after-stops in_word cs) m)
 word_had i c cs false h m e =
     rw (h, each-front in_word cs, nil_front in_word cs, e)
-        (stops_both (after in_word cs) (after-stops in_word cs) m)
+    (stops_both (after in_word cs) (after-stops in_word cs) m)
 
 raw_name_had : (i : Bool) (ds : List ℕ)
     → begins_suffix ds && not (is_path_word (encode_utf8_all (front in_word ds))) ≡ true
-        → Had RawIdent (114 ∷ 35 ∷ front in_word ds) (after in_word ds) i
+    → Had RawIdent (114 ∷ 35 ∷ front in_word ds) (after in_word ds) i
 unfolding had has_form may_follow
 raw_name_had i ds h =
     let parts = and_parts (begins_suffix ds) _ h in
@@ -76,8 +76,12 @@ raw_name_had i ds h =
 raw_name_sound : (i : Bool) (ds : List ℕ) → Sound i (114 ∷ 35 ∷ ds) (raw_name ds)
 raw_name_sound i ds = sound_cond i _
     (begins_suffix ds && not (is_path_word (encode_utf8_all (front in_word ds)))) _ _
-    (λ h. record { piece = 114 ∷ 35 ∷ front in_word ds; whole =
-        ap (λ l. 114 ∷ 35 ∷ l) (front-after in_word ds); is_had = raw_name_had i ds h })
+    (λ h. record {
+      piece = 114 ∷ 35 ∷ front in_word ds;
+      whole =
+          ap (λ l. 114 ∷ 35 ∷ l) (front-after in_word ds);
+      is_had = raw_name_had i ds h;
+    })
     (λ h. tt)
 
 raw_word_sound : (i : Bool) (cs : List ℕ) → Sound i (114 ∷ cs) (raw_word cs)
@@ -94,21 +98,21 @@ unfolding after_literal
 byte_word_sound i [] = tt
 byte_word_sound i (c ∷ cs) =
     sound_cond i _ (c == 39) _ _
-        (λ e. sound_at i c 39 (98 ∷ []) cs _ e (literal_sound Byte i (98 ∷ 39 ∷ cs) _ refl refl)) (λ n.
+    (λ e. sound_at i c 39 (98 ∷ []) cs _ e (literal_sound Byte i (98 ∷ 39 ∷ cs) _ refl refl)) (λ n.
     sound_cond i _ (c == 34) _ _
-        (λ e. sound_at i c 34 (98 ∷ []) cs _ e (literal_sound ByteStr i (98 ∷ 34 ∷ cs) _ refl refl)) (λ n.
+    (λ e. sound_at i c 34 (98 ∷ []) cs _ e (literal_sound ByteStr i (98 ∷ 34 ∷ cs) _ refl refl)) (λ n.
     sound_cond i _ (c == 114) _ _
-        (λ e. sound_at i c 114 (98 ∷ []) cs _ e (literal_sound RawByteStr i (98 ∷ 114 ∷ cs) _ refl refl))
-            (λ n. tt)))
+    (λ e. sound_at i c 114 (98 ∷ []) cs _ e (literal_sound RawByteStr i (98 ∷ 114 ∷ cs) _ refl refl))
+    (λ n. tt)))
 
 c_word_sound : (i : Bool) (cs : List ℕ) → Sound i (99 ∷ cs) (c_word cs)
 unfolding after_literal
 c_word_sound i [] = tt
 c_word_sound i (c ∷ cs) =
     sound_cond i _ (c == 34) _ _
-        (λ e. sound_at i c 34 (99 ∷ []) cs _ e (literal_sound CStr i (99 ∷ 34 ∷ cs) _ refl refl)) (λ n.
+    (λ e. sound_at i c 34 (99 ∷ []) cs _ e (literal_sound CStr i (99 ∷ 34 ∷ cs) _ refl refl)) (λ n.
     sound_cond i _ (c == 114) _ _
-        (λ e. sound_at i c 114 (99 ∷ []) cs _ e (literal_sound RawCStr i (99 ∷ 114 ∷ cs) _ refl refl)) (λ n. tt))
+    (λ e. sound_at i c 114 (99 ∷ []) cs _ e (literal_sound RawCStr i (99 ∷ 114 ∷ cs) _ refl refl)) (λ n. tt))
 
 prefixed_sound : (i : Bool) (c : ℕ) (cs : List ℕ) → Sound i (c ∷ cs) (prefixed c cs)
 prefixed_sound i c cs =
@@ -119,10 +123,10 @@ prefixed_sound i c cs =
 pub word_sound : (i : Bool) (c : ℕ) (cs : List ℕ) → starts_word c ≡ true → Sound i (c ∷ cs) (word c cs)
 word_sound i c cs h = sound_cond i _ (begins is_mark (after in_word cs)) _ _ (λ m. prefixed_sound i c cs)
     (λ m. record {
-  piece = c ∷ front in_word cs;
-  whole = ap (λ l. c ∷ l) (front-after in_word cs);
-  is_had = word_had i c cs (c == 95 && not (begins in_word cs)) h m refl;
-})
+      piece = c ∷ front in_word cs;
+      whole = ap (λ l. c ∷ l) (front-after in_word cs);
+      is_had = word_had i c cs (c == 95 && not (begins in_word cs)) h m refl;
+    })
 
 -- lifetimes and characters
 tick_stops : (r : List ℕ) → begins in_word r ≡ false → begins is_tick r ≡ false
@@ -136,13 +140,17 @@ unfolding had has_form may_follow
 lifetime_had i c cs h =
     let parts = and_parts (starts_word c) _ h in
     and_from _ _ (and_from _ _ parts.0 (each-front in_word cs))
-        (tick_stops (after in_word cs) (after-stops in_word cs) (not-true _ parts.1))
+    (tick_stops (after in_word cs) (after-stops in_word cs) (not-true _ parts.1))
 
 lifetime_sound : (i : Bool) (cs : List ℕ) → Sound i (39 ∷ cs) (lifetime cs)
 lifetime_sound i [] = tt
 lifetime_sound i (c ∷ cs) = sound_cond i _ (starts_word c && not (begins is_tick (after in_word cs))) _ _
-    (λ h. record { piece = 39 ∷ c ∷ front in_word cs; whole = ap (λ l. 39 ∷ c ∷ l) (front-after in_word cs); is_had =
-        lifetime_had i c cs h })
+    (λ h. record {
+      piece = 39 ∷ c ∷ front in_word cs;
+      whole = ap (λ l. 39 ∷ c ∷ l) (front-after in_word cs);
+      is_had =
+          lifetime_had i c cs h;
+    })
     (λ h. tt)
 
 pub quote_sound : (i : Bool) (cs : List ℕ) → Sound i (39 ∷ cs) (quote cs)
@@ -179,28 +187,28 @@ outer_line_had : (i : Bool) (cs : List ℕ) → begins (λ c. c == 47) cs ≡ fa
 unfolding had has_form may_follow
 outer_line_had i cs h g =
     and_from _ _ (and_from _ _ (ap not (begins_front (λ c. c == 47) in_doc_line cs h)) (ap not (no_ends cs)))
-        (line_stops (after in_doc_line cs) (after-stops in_doc_line cs) g)
+    (line_stops (after in_doc_line cs) (after-stops in_doc_line cs) g)
 
 line_sound : (i : Bool) (inner : Bool) (d : ℕ) (cs : List ℕ)
     → (begins (λ c. c == 13) (after in_doc_line cs) ≡ false
-        → Had (Doc inner false) (47 ∷ 47 ∷ d ∷ front in_doc_line cs) (after in_doc_line cs) i)
+    → Had (Doc inner false) (47 ∷ 47 ∷ d ∷ front in_doc_line cs) (after in_doc_line cs) i)
     → Sound i (47 ∷ 47 ∷ d ∷ cs) (line_doc inner cs)
 line_sound i inner d cs h =
     sound_cond i _ (begins (λ c. c == 13) (after in_doc_line cs)) _ _ (λ g. tt) (λ g. record {
-  piece = 47 ∷ 47 ∷ d ∷ front in_doc_line cs;
-  whole = ap (λ l. 47 ∷ 47 ∷ d ∷ l) (front-after in_doc_line cs);
-  is_had = h g;
-})
+      piece = 47 ∷ 47 ∷ d ∷ front in_doc_line cs;
+      whole = ap (λ l. 47 ∷ 47 ∷ d ∷ l) (front-after in_doc_line cs);
+      is_had = h g;
+    })
 
 line_comment_sound : (i : Bool) (cs : List ℕ) → Sound i (47 ∷ 47 ∷ cs) (line_comment cs)
 line_comment_sound i [] = tt
 line_comment_sound i (c ∷ cs) =
     sound_cond i _ (c == 33) _ _
-        (λ e. sound_at i c 33 (47 ∷ 47 ∷ []) cs _ e (line_sound i true 33 cs (inner_line_had i cs))) (λ n.
+    (λ e. sound_at i c 33 (47 ∷ 47 ∷ []) cs _ e (line_sound i true 33 cs (inner_line_had i cs))) (λ n.
     sound_cond i _ (c == 47 && not (begins (λ d. d == 47) cs)) _ _ (λ e.
     let parts = and_parts (c == 47) _ e in
     sound_at i c 47 (47 ∷ 47 ∷ []) cs _ parts.0
-        (line_sound i false 47 cs (outer_line_had i cs (not-true _ parts.1)))) (λ n. tt))
+    (line_sound i false 47 cs (outer_line_had i cs (not-true _ parts.1)))) (λ n. tt))
 
 inner_block_had : (i : Bool) (p r : List ℕ) → run doc_step (Deep 0) p ≡ Some []
     → Had (Doc true true) (47 ∷ 42 ∷ 33 ∷ p) r i
@@ -214,7 +222,7 @@ outer_block_had i p r g h = and_from _ _ (and_from _ _ (ap not g) (ap is_whole h
 
 block_sound : (i : Bool) (inner : Bool) (d : ℕ) (cs : List ℕ) (o : Option (List ℕ)) → run doc_step (Deep 0) cs ≡ o
     → ((p r : List ℕ) → cs ≡ p ++ r → run doc_step (Deep 0) p ≡ Some []
-        → Had (Doc inner true) (47 ∷ 42 ∷ d ∷ p) r i)
+    → Had (Doc inner true) (47 ∷ 42 ∷ d ∷ p) r i)
     → Sound i (47 ∷ 42 ∷ d ∷ cs) (option_and_then (λ rest. found (Doc inner true) rest) o)
 block_sound i inner d cs None e h = tt
 block_sound i inner d cs (Some r) e h =
@@ -225,14 +233,14 @@ block_comment_sound : (i : Bool) (cs : List ℕ) → Sound i (47 ∷ 42 ∷ cs) 
 block_comment_sound i [] = tt
 block_comment_sound i (c ∷ cs) =
     sound_cond i _ (c == 33) _ _
-        (λ e. sound_at i c 33 (47 ∷ 42 ∷ []) cs _ e
-            (block_sound i true 33 cs _ refl (λ p r w h. inner_block_had i p r h))) (λ n.
+    (λ e. sound_at i c 33 (47 ∷ 42 ∷ []) cs _ e
+    (block_sound i true 33 cs _ refl (λ p r w h. inner_block_had i p r h))) (λ n.
     sound_cond i _ (c == 42 && not (begins is_star_or_slash cs)) _ _ (λ e.
     let parts = and_parts (c == 42) _ e in
     sound_at i c 42 (47 ∷ 42 ∷ []) cs _ parts.0 (block_sound i false 42 cs _ refl
     (λ p r w h. outer_block_had i p r
-        (begins_left is_star_or_slash p r (ap (begins is_star_or_slash) (sym w) ∙ not-true _ parts.1)) h)))
-            (λ n. tt))
+    (begins_left is_star_or_slash p r (ap (begins is_star_or_slash) (sym w) ∙ not-true _ parts.1)) h)))
+    (λ n. tt))
 
 -- single characters
 slash_had : (i : Bool) (cs : List ℕ) → begins (λ c. c == 47 || c == 42) cs ≡ false → Had Punct (47 ∷ []) cs i
@@ -273,4 +281,4 @@ single_sound i c cs n =
     sound_cond i _ (c == 123) _ _ (one_sound i c 123 (Opener Brace) cs (opener_had i cs).2) (λ e.
     sound_cond i _ (c == 125) _ _ (one_sound i c 125 (Closer Brace) cs (closer_had i cs).2) (λ e.
     sound_cond i _ (is_punct_char c) _ _
-        (λ h. record { piece = c ∷ []; whole = refl; is_had = punct_had i c cs h n }) (λ e. tt)))))))
+    (λ h. record { piece = c ∷ []; whole = refl; is_had = punct_had i c cs h n }) (λ e. tt)))))))

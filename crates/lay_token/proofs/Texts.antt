@@ -9,7 +9,7 @@ pub text_parts : (s r : List ℕ) (ds : List ℕ) → IsUtf8 s → IsUtf8 r → 
     → s ≡ encode_utf8_all ds ++ r
 text_parts s r ds us ur e =
     sym (encodes-chars s us) ∙ ap encode_utf8_all e ∙ encodes-append ds (chars r)
-        ∙ ap (λ b. encode_utf8_all ds ++ b) (encodes-chars r ur)
+    ∙ ap (λ b. encode_utf8_all ds ++ b) (encodes-chars r ur)
 
 pub length_parts : (s r : List ℕ) (ds : List ℕ) → IsUtf8 s → IsUtf8 r → chars s ≡ ds ++ chars r
     → length s ≡ length (encode_utf8_all ds) + length r
@@ -20,4 +20,4 @@ pub bytes_before : (s r : List ℕ) (ds : List ℕ) → IsUtf8 s → IsUtf8 r �
 bytes_before s r ds us ur e =
     let n : length s - length r ≡ length (encode_utf8_all ds) = omega (arith, length_parts s r ds us ur e) in
     ap (λ k. take k s) n ∙ ap (take (length (encode_utf8_all ds))) (text_parts s r ds us ur e)
-        ∙ take-append_seam (encode_utf8_all ds) r
+    ∙ take-append_seam (encode_utf8_all ds) r

@@ -89,7 +89,8 @@ has_form Float cs = is_float cs
 has_form Punct cs = is_one is_punct_char cs
 has_form (Opener d) cs = is_one (λ c. c == opening d) cs
 has_form (Closer d) cs = is_one (λ c. c == closing d) cs
-has_form (Doc inner block) cs = behind false (doc_opening inner block) (cond block (is_block_doc inner) (is_line_doc inner)) cs
+has_form (Doc inner block) cs =
+    behind false (doc_opening inner block) (cond block (is_block_doc inner) (is_line_doc inner)) cs
 has_form k cs = is_literal_end (after_literal k cs)
 
 -- A literal without a suffix isn't followed by one, and one with a suffix isn't followed by XID_Continue.
@@ -104,7 +105,8 @@ may_follow Underscore piece rest = not (begins (λ c. in_word c || c == 34 || c 
 may_follow Lifetime piece rest = not (begins (λ c. in_word c || c == 39 || c == 35) rest)
 may_follow Int piece rest = not (begins in_word rest) && not (is_bare_int piece && begins_point rest)
 may_follow Float piece rest =
-    cond (ends_in_point piece) (not (begins (λ c. is_ascii_digit c || c == 46 || starts_word c) rest)) (not (begins in_word rest))
+    cond (ends_in_point piece) (not (begins (λ c. is_ascii_digit c || c == 46 || starts_word c) rest))
+    (not (begins in_word rest))
 may_follow Punct piece rest = not (begins (λ c. c == 47) piece && begins (λ c. c == 47 || c == 42) rest)
 may_follow (Opener d) piece rest = true
 may_follow (Closer d) piece rest = true

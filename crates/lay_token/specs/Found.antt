@@ -1,4 +1,5 @@
--- What stands at the front of a text: the kind of the piece, and what follows it.
+-- What stands at the front of a text: the kind of the piece, and what follows it. These are the words of the
+-- contracts within the crate; its laws say that what is found is what `Had` has there.
 use Rattle.std.specs.Prelude.{ℕ, zero, suc, ◌≡◌, Bool, true, false, cond, ◌&&◌, ◌||◌, ◌==◌, not, List, [], ◌∷◌, codes, drop, encode_utf8_all, Option, Some, None, MatchOption, option_and_then}
 use Rattle.std.specs.Borrow.{Bor}
 use Rattle.std.specs.Str.{chars}
@@ -93,20 +94,25 @@ literal k (Some cs) = found k (after_suffix cs)
 
 -- a raw identifier behind its r#
 abbrev pub raw_name : List ℕ → Front
-raw_name cs = cond (begins_suffix cs && not (is_path_word (encode_utf8_all (front in_word cs)))) (found RawIdent (after in_word cs)) None
+raw_name cs =
+    cond (begins_suffix cs && not (is_path_word (encode_utf8_all (front in_word cs))))
+    (found RawIdent (after in_word cs)) None
 
 abbrev pub raw_word : List ℕ → Front
 raw_word cs = or_else (literal RawStr (after_raw of.Chars cs)) (behind None (codes "#") raw_name cs)
 
 abbrev pub byte_word : List ℕ → Front
 byte_word [] = None
-byte_word (c ∷ cs) = cond (c == 39) (literal Byte (after_char of.Bytes cs))
-    (cond (c == 34) (literal ByteStr (after_string of.Bytes cs)) (cond (c == 114) (literal RawByteStr (after_raw of.Bytes cs)) None))
+byte_word (c ∷ cs) =
+    cond (c == 39) (literal Byte (after_char of.Bytes cs))
+    (cond (c == 34) (literal ByteStr (after_string of.Bytes cs))
+    (cond (c == 114) (literal RawByteStr (after_raw of.Bytes cs)) None))
 
 abbrev pub c_word : List ℕ → Front
 c_word [] = None
 c_word (c ∷ cs) =
-    cond (c == 34) (literal CStr (after_string of.CChars cs)) (cond (c == 114) (literal RawCStr (after_raw of.CChars cs)) None)
+    cond (c == 34) (literal CStr (after_string of.CChars cs))
+    (cond (c == 114) (literal RawCStr (after_raw of.CChars cs)) None)
 
 abbrev pub prefixed : ℕ → List ℕ → Front
 prefixed c cs = cond (c == 114) (raw_word cs) (cond (c == 98) (byte_word cs) (cond (c == 99) (c_word cs) None))
@@ -126,7 +132,8 @@ quote cs = or_else (literal Char (after_char of.Chars cs)) (lifetime cs)
 -- documentation, and the slash
 
 abbrev pub line_doc : Bool → List ℕ → Front
-line_doc inner cs = cond (begins (λ c. c == 13) (after in_doc_line cs)) None (found (Doc inner false) (after in_doc_line cs))
+line_doc inner cs =
+    cond (begins (λ c. c == 13) (after in_doc_line cs)) None (found (Doc inner false) (after in_doc_line cs))
 
 abbrev pub block_doc : Bool → List ℕ → Front
 block_doc inner cs = option_and_then (λ rest. found (Doc inner true) rest) (run doc_step (Deep 0) cs)
@@ -141,7 +148,8 @@ line_comment (c ∷ cs) =
 abbrev pub block_comment : List ℕ → Front
 block_comment [] = None
 block_comment (c ∷ cs) =
-    cond (c == 33) (block_doc true cs) (cond (c == 42 && not (begins is_star_or_slash cs)) (block_doc false cs) None)
+    cond (c == 33) (block_doc true cs)
+    (cond (c == 42 && not (begins is_star_or_slash cs)) (block_doc false cs) None)
 
 abbrev pub slash : List ℕ → Front
 slash [] = found Punct []
@@ -167,7 +175,8 @@ after_run base cs =
     cond (begins (in_base base) (after is_underscore cs) && not (begins (in_run base) rest)) (Some rest) None
 
 abbrev pub suffixed : Kind → List ℕ → Front
-suffixed k cs = cond (begins starts_word cs) (found k (after in_word cs)) (cond (begins in_word cs) None (found k cs))
+suffixed k cs =
+    cond (begins starts_word cs) (found k (after in_word cs)) (cond (begins in_word cs) None (found k cs))
 
 abbrev pub exponent_run : List ℕ → Front
 exponent_run cs = option_and_then (suffixed Float) (after_run Decimal cs)
@@ -195,13 +204,18 @@ abbrev pub plain_number : List ℕ → Front
 plain_number cs = option_and_then (whole (base_of cs)) (after_run (base_of cs) (digits_of (base_of cs) cs))
 
 abbrev pub number : Bool → List ℕ → Front
-number index cs = cond (index && not (begins in_word (after is_ascii_digit cs))) (found Int (after is_ascii_digit cs)) (plain_number cs)
+number index cs =
+    cond (index && not (begins in_word (after is_ascii_digit cs))) (found Int (after is_ascii_digit cs))
+    (plain_number cs)
 
 -- anything
 
 abbrev pub other : ℕ → List ℕ → Front
-other c cs = cond (c == 34) (literal Str (after_string of.Chars cs)) (cond (c == 39) (quote cs) (cond (c == 47) (slash cs) (single c cs)))
+other c cs =
+    cond (c == 34) (literal Str (after_string of.Chars cs))
+    (cond (c == 39) (quote cs) (cond (c == 47) (slash cs) (single c cs)))
 
 unfoldable pub front_of : Bool → List ℕ → Front
 front_of index [] = None
-front_of index (c ∷ cs) = cond (starts_word c) (word c cs) (cond (is_ascii_digit c) (number index (c ∷ cs)) (other c cs))
+front_of index (c ∷ cs) =
+    cond (starts_word c) (word c cs) (cond (is_ascii_digit c) (number index (c ∷ cs)) (other c cs))

@@ -40,7 +40,8 @@ is_point Other = false
 is_point _ = true
 
 unfoldable pub step : Before → Part → Before
-step b p = cond (is_punct p.kind && bytes_eq p.piece (codes ".")) (cond (is_point b && is_nil p.gap) Points Point) Other
+step b p =
+    cond (is_punct p.kind && bytes_eq p.piece (codes ".")) (cond (is_point b && is_nil p.gap) Points Point) Other
 
 abbrev pub steps : Before → List Part → Before
 steps b [] = b
@@ -49,7 +50,8 @@ steps b (p ∷ ps) = steps (step b p) ps
 -- Each part is a gap and a piece that is had, where rest follows the parts.
 abbrev pub Fit : Before → List Part → List ℕ → Type 0
 Fit b [] rest = Unit {0}
-Fit b (p ∷ ps) rest = IsTrue (is_gap p.gap) × Had p.kind p.piece (spell ps rest) (is_index_place b) × Fit (step b p) ps rest
+Fit b (p ∷ ps) rest =
+    IsTrue (is_gap p.gap) × Had p.kind p.piece (spell ps rest) (is_index_place b) × Fit (step b p) ps rest
 
 -- how many bytes the characters take
 abbrev pub size : List ℕ → ℕ
@@ -78,14 +80,20 @@ is_separator cs = bytes_eq cs (codes ",") || bytes_eq cs (codes ";")
 -- The token of the part is joint before these parts.
 abbrev pub is_joint : Part → List Part → Bool
 is_joint p [] = false
-is_joint p (q ∷ qs) = is_punct p.kind && is_punct q.kind && is_nil q.gap && not (is_separator p.piece) && not (is_separator q.piece)
+is_joint p (q ∷ qs) =
+    is_punct p.kind && is_punct q.kind && is_nil q.gap && not (is_separator p.piece) && not (is_separator q.piece)
 
 -- the tokens of the parts, of which the first begins at a place
 abbrev pub tokens_from : ℕ → List Part → List Token
 tokens_from at [] = []
 tokens_from at (p ∷ ps) = let place = at + size p.gap in
-    record { kind = p.kind; text = encode_utf8_all (text_of_piece p.kind p.piece); joint = is_joint p ps; at = place; len = size p.piece }
-    ∷ tokens_from (place + size p.piece) ps
+    record {
+      kind = p.kind;
+      text = encode_utf8_all (text_of_piece p.kind p.piece);
+      joint = is_joint p ps;
+      at = place;
+      len = size p.piece;
+    } ∷ tokens_from (place + size p.piece) ps
 
 -- The characters are these parts and a last gap.
 pub record Reads (text : List ℕ) (parts : List Part) (last : List ℕ) : Type 0 where
@@ -106,7 +114,8 @@ pub record BeginsNoGap (text : List ℕ) : Type 0 where
 
 -- No piece stands at the front.
 abbrev pub BeginsNoPiece : List ℕ → Bool → Type 0
-BeginsNoPiece text index = (k : Kind) (piece rest : List ℕ) → text ≡ piece ++ rest → Had k piece rest index → ⊥
+BeginsNoPiece text index =
+    (k : Kind) (piece rest : List ℕ) → text ≡ piece ++ rest → Had k piece rest index → ⊥
 
 -- The text is parts, a gap as long as it can be, and a rest that begins with no piece.
 pub record Stops (text : List ℕ) (parts : List Part) (gap rest : List ℕ) : Type 0 where

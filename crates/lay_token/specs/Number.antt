@@ -61,7 +61,8 @@ behind_digits cs = after (in_run (base_of cs)) (digits_of (base_of cs) cs)
 -- an integer (Rust Reference, "Integer literals")
 abbrev pub is_int : List ℕ → Bool
 is_int cs = let base = base_of cs in
-    begins is_ascii_digit cs && is_run_in base (front (in_run base) (digits_of base cs)) && is_int_suffix base (behind_digits cs)
+    begins is_ascii_digit cs && is_run_in base (front (in_run base) (digits_of base cs))
+    && is_int_suffix base (behind_digits cs)
 
 -- the digits of an exponent, and any suffix
 abbrev pub is_exponent_run : List ℕ → Bool
@@ -79,7 +80,8 @@ is_exponent (c ∷ cs) = is_exponent_letter c && is_signed_run cs
 
 -- a fraction, which begins with a digit, and then a suffix or an exponent
 abbrev pub is_fraction : List ℕ → Bool
-is_fraction cs = begins is_ascii_digit cs && (is_plain_suffix (after in_digits cs) || is_exponent (after in_digits cs))
+is_fraction cs =
+    begins is_ascii_digit cs && (is_plain_suffix (after in_digits cs) || is_exponent (after in_digits cs))
 
 -- what stands behind the whole part: a point alone, a point and a fraction, or an exponent
 abbrev pub is_float_tail : List ℕ → Bool

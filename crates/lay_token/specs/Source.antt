@@ -1,4 +1,5 @@
--- What is lexed of an input (Rust Reference, "Input format": byte order mark removal, CRLF normalisation, shebang removal).
+-- What is lexed of an input (Rust Reference, "Input format": byte order mark removal, CRLF normalization and
+-- shebang removal; what a shebang line is, is told here from the first line alone).
 use Rattle.std.specs.Prelude.{ℕ, ◌+◌, Bool, true, false, cond, ◌&&◌, ◌||◌, ◌==◌, not, List, [], ◌∷◌, Option, Some, None, Result, Ok, Err, codes, encode_utf8_all}
 use Rattle.std.specs.Str.{chars, is_utf8}
 use Rattle.std.specs.Str.Lossy.{utf8_valid_len}
@@ -27,7 +28,8 @@ without_returns (c ∷ cs) = elim (without_returns cs) [ [] ↦ cond (c == 13) [
 
 -- Past white space the line goes on with nothing, or with what begins an attribute or a comment.
 abbrev pub is_no_command : List ℕ → Bool
-is_no_command cs = is_nil cs || behind false (codes "[") (λ ds. true) cs || behind false (codes "//") (λ ds. true) cs
+is_no_command cs =
+    is_nil cs || behind false (codes "[") (λ ds. true) cs || behind false (codes "//") (λ ds. true) cs
     || behind false (codes "/*") (λ ds. true) cs
 
 -- a first line that begins with #! is a shebang line, unless its rest reads as the start of an attribute
@@ -53,4 +55,5 @@ source_of text = let line = front is_in_line text in record {
 
 -- An input that is no UTF-8 is refused at the end of its longest front that is.
 abbrev pub source : List ℕ → Result Source Refusal
-source bytes = cond (is_utf8 bytes) (Ok (source_of (folded (without_mark (chars bytes))))) (Err (NotUtf8 (utf8_valid_len bytes)))
+source bytes =
+    cond (is_utf8 bytes) (Ok (source_of (folded (without_mark (chars bytes))))) (Err (NotUtf8 (utf8_valid_len bytes)))

@@ -32,7 +32,8 @@ adds Skip c = cond (is_skipped c) [] (plain_adds c)
 -- the value of a string, behind its opening quote
 unfoldable pub string_value : InString → List ℕ → List ℕ
 string_value s [] = []
-string_value s (c ∷ cs) = elim (string_step of.Chars s c) [ Go t ↦ adds s c ++ string_value t cs | End ↦ [] | Bad ↦ [] ]
+string_value s (c ∷ cs) =
+    elim (string_step of.Chars s c) [ Go t ↦ adds s c ++ string_value t cs | End ↦ [] | Bad ↦ [] ]
 
 abbrev pub is_hash : ℕ → Bool
 is_hash c = c == 35

@@ -32,7 +32,8 @@ pub fn piece_at(rest: &[u8], index: bool) -> Option<Piece>
     requires { IsUtf8 rest.now }
     ensures found { IfSome result (λ p. (piece more : List ℕ) × (chars rest.now ≡ piece ++ more)
         × Had p.kind piece more index × (p.len ≡ length (encode_utf8_all piece))) }
-    ensures only { (kind : Kind) (piece more : List ℕ) → chars rest.now ≡ piece ++ more → Had kind piece more index
+    ensures only { (kind : Kind) (piece more : List ℕ)
+        → chars rest.now ≡ piece ++ more → Had kind piece more index
         → IsSomeAnd result (λ p. (p.kind ≡ kind) × (p.len ≡ length (encode_utf8_all piece))) }
 {
     let text = unsafe { std::str::from_utf8_unchecked(rest) };
@@ -48,12 +49,15 @@ pub fn piece_at(rest: &[u8], index: bool) -> Option<Piece>
 /// No gap begins with a piece, and no piece with a gap. What follows a piece matters to it by two characters
 /// at most. At most one kind and length fit at a place.
 pub fn piece_law()
-    ensures no_gap { (kind : Kind) (piece rest : List ℕ) (index : Bool) → Had kind piece rest index → BeginsNoGap (piece ++ rest) }
-    ensures no_piece { (gap rest : List ℕ) (index : Bool) → IsTrue (is_gap gap) → gap ≢ [] → BeginsNoPiece (gap ++ rest) index }
+    ensures no_gap { (kind : Kind) (piece rest : List ℕ) (index : Bool)
+        → Had kind piece rest index → BeginsNoGap (piece ++ rest) }
+    ensures no_piece { (gap rest : List ℕ) (index : Bool)
+        → IsTrue (is_gap gap) → gap ≢ [] → BeginsNoPiece (gap ++ rest) index }
     ensures two_characters { (kind : Kind) (piece rest more : List ℕ) (c d : ℕ) (index : Bool)
         → had kind piece (c ∷ d ∷ rest) index ≡ had kind piece (c ∷ d ∷ more) index }
-    ensures one_piece { (kind other : Kind) (piece longer rest more : List ℕ) (index : Bool) → piece ++ rest ≡ longer ++ more
-        → Had kind piece rest index → Had other longer more index → (kind ≡ other) × (piece ≡ longer) }
+    ensures one_piece { (kind other : Kind) (piece longer rest more : List ℕ) (index : Bool)
+        → piece ++ rest ≡ longer ++ more → Had kind piece rest index → Had other longer more index
+        → (kind ≡ other) × (piece ≡ longer) }
 {}
 
 /// The kind of the piece at the front, and what follows it.

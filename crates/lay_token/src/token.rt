@@ -77,7 +77,8 @@ pub struct Token {
 pub fn tokens_law()
     ensures one_list { (bytes : List ℕ) (start : ℕ) (tokens others : List Token)
         → Lexes bytes start tokens → Lexes bytes start others → tokens ≡ others }
-    ensures one_place { (bytes : List ℕ) (start at other : ℕ) → NoTokenAt bytes start at → NoTokenAt bytes start other → at ≡ other }
+    ensures one_place { (bytes : List ℕ) (start at other : ℕ)
+        → NoTokenAt bytes start at → NoTokenAt bytes start other → at ≡ other }
     ensures never_both { (bytes : List ℕ) (start at : ℕ) (tokens : List Token)
         → NoTokenAt bytes start at → Lexes bytes start tokens → ⊥ }
 {}

@@ -111,7 +111,8 @@ pub fn first(s: &str) -> Option<(char, &str)>
 
 /// What follows this character, if the text begins with it.
 pub fn behind(c: char, s: &str) -> Option<&str>
-    ensures rest { MatchOption result (IsFalse (begins (λ d. d == c) (chars s.now))) (λ r. chars s.now ≡ c ∷ chars r.now) }
+    ensures rest { MatchOption result (IsFalse (begins (λ d. d == c) (chars s.now)))
+        (λ r. chars s.now ≡ c ∷ chars r.now) }
     ensures shorter { IfSome result (λ r. length r.now < length s.now) }
 {
     match first(s) {

@@ -29,8 +29,8 @@ overflow_sub-result c =
     let ut : IsUtf8 c.in_ok-kind.tail.now = search rules in
     let f = stands_at c.args.index (chars c.args.rest.now) c.in_ok-kind.kind (chars c.in_ok-kind.tail.now)
     (at_bytes c.args.index c.args.rest.now c.from_utf8_unchecked-text.result.now
-        (found c.in_ok-kind.kind
-            (chars c.in_ok-kind.tail.now)) c.from_utf8_unchecked-text.ensures c.in_ok-kind.ensures) in
+    (found c.in_ok-kind.kind
+    (chars c.in_ok-kind.tail.now)) c.from_utf8_unchecked-text.ensures c.in_ok-kind.ensures) in
     let sum = length_parts c.args.rest.now c.in_ok-kind.tail.now f.piece c.requires ut f.whole in
     omega (arith, sum)
 
@@ -39,8 +39,8 @@ returns-clause-found c =
     let ut : IsUtf8 c.in_ok-kind.tail.now = search rules in
     let f = stands_at c.args.index (chars c.args.rest.now) c.in_ok-kind.kind (chars c.in_ok-kind.tail.now)
     (at_bytes c.args.index c.args.rest.now c.from_utf8_unchecked-text.result.now
-        (found c.in_ok-kind.kind
-            (chars c.in_ok-kind.tail.now)) c.from_utf8_unchecked-text.ensures c.in_ok-kind.ensures) in
+    (found c.in_ok-kind.kind
+    (chars c.in_ok-kind.tail.now)) c.from_utf8_unchecked-text.ensures c.in_ok-kind.ensures) in
     let sum = length_parts c.args.rest.now c.in_ok-kind.tail.now f.piece c.requires ut f.whole in
     (f.piece, chars c.in_ok-kind.tail.now, f.whole, f.is_had, omega (arith, sum))
 
@@ -49,12 +49,12 @@ returns-clause-only c kind piece more w h =
     let ut : IsUtf8 c.in_ok-kind.tail.now = search rules in
     let same : found c.in_ok-kind.kind (chars c.in_ok-kind.tail.now) ≡ found kind more =
     sym (at_bytes c.args.index c.args.rest.now c.from_utf8_unchecked-text.result.now
-        (found c.in_ok-kind.kind
-            (chars c.in_ok-kind.tail.now)) c.from_utf8_unchecked-text.ensures c.in_ok-kind.ensures)
+    (found c.in_ok-kind.kind
+    (chars c.in_ok-kind.tail.now)) c.from_utf8_unchecked-text.ensures c.in_ok-kind.ensures)
     ∙ ap (front_of c.args.index) w ∙ front_complete kind piece more c.args.index h in
     let rests : chars c.in_ok-kind.tail.now ≡ more =
-        found_rest c.in_ok-kind.kind kind (chars c.in_ok-kind.tail.now) more same in
+    found_rest c.in_ok-kind.kind kind (chars c.in_ok-kind.tail.now) more same in
     let whole : chars c.args.rest.now ≡ piece ++ chars c.in_ok-kind.tail.now = w
-        ∙ ap (λ v. piece ++ v) (sym rests) in
+    ∙ ap (λ v. piece ++ v) (sym rests) in
     let sum = length_parts c.args.rest.now c.in_ok-kind.tail.now piece c.requires ut whole in
     (found_kind c.in_ok-kind.kind kind (chars c.in_ok-kind.tail.now) more same, omega (arith, sum))

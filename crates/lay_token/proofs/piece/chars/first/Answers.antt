@@ -8,5 +8,5 @@ pub returns-clause-parts : goal.returns-clause-parts
 returns-clause-parts c =
     let cut : c.args.s.now ≡ encode c.in_ok-c.c ++ c.as_str.result.now =
     sym c.chars-rest.ensures.rest ∙ c.in_ok-c.ensures.steps.0
-        ∙ ap (λ r. encode c.in_ok-c.c ++ r) (sym c.as_str.ensures) in
+    ∙ ap (λ r. encode c.in_ok-c.c ++ r) (sym c.as_str.ensures) in
     chars_past_char c.args.s.now c.as_str.result.now c.in_ok-c.c c.utf8.s cut

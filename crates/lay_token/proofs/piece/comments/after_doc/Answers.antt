@@ -18,7 +18,7 @@ close (suc n) cs h = doc-close n cs ∙ ap (λ m. run doc_step (Deep m) cs) (ome
 pub returns-then-c-eq13 : goal.returns-then-c-eq13
 returns-then-c-eq13 c =
     sym c.loop-c.invariant.same ∙ at c.loop-c.inner _ _ c.in-Some.c 13 c.in-Some.ensures.parts c.if-c-eq13.true
-        ∙ doc-cr c.loop-c.inner _
+    ∙ doc-cr c.loop-c.inner _
 
 pub returns-then-inner-eq0 : goal.returns-then-inner-eq0
 returns-then-inner-eq0 c =
@@ -34,7 +34,7 @@ loop-c-preserved-in-Some-behind c =
       same = sym (at c.loop-c.inner _ _ c.in-Some.c 42 c.in-Some.ensures.parts c.if-c-eq42.true
           ∙ doc-star_first c.loop-c.inner _
           ∙ ap (run doc_step (Star c.loop-c.inner)) c.in-Some-behind.ensures.rest ∙ close c.loop-c.inner _ some)
-              ∙ c.loop-c.invariant.same;
+          ∙ c.loop-c.invariant.same;
       room = omega (arith, c.in-Some.ensures.shorter, c.in-Some-behind.ensures.shorter, c.loop-c.invariant.room);
     }
 
@@ -53,7 +53,7 @@ loop-c-preserved-in-Some-behind-2 c = record {
   same = sym (at c.loop-c.inner _ _ c.in-Some.c 47 c.in-Some.ensures.parts c.if-c-eq47.true
       ∙ doc-slash_first c.loop-c.inner _
       ∙ ap (run doc_step _) c.in-Some-behind-2.ensures.rest ∙ doc-open c.loop-c.inner _
-          ∙ ap (λ m. run doc_step (Deep m) (chars c.in-Some-behind-2.opened.now)) (omega arith))
+      ∙ ap (λ m. run doc_step (Deep m) (chars c.in-Some-behind-2.opened.now)) (omega arith))
       ∙ c.loop-c.invariant.same;
   room = omega (arith, c.in-Some.ensures.shorter, c.in-Some-behind-2.ensures.shorter, c.loop-c.invariant.room);
 }
@@ -72,7 +72,7 @@ loop-c-preserved c = record {
   text = search rules;
   same = sym (ap (run doc_step (Deep c.loop-c.inner)) c.in-Some.ensures.parts
       ∙ doc-other c.loop-c.inner c.in-Some.c _ (ne_eqb c.in-Some.c 13 c.if-c-eq13.false)
-          (ne_eqb c.in-Some.c 42 c.if-c-eq42.false) (ne_eqb c.in-Some.c 47 c.if-c-eq47.false))
+      (ne_eqb c.in-Some.c 42 c.if-c-eq42.false) (ne_eqb c.in-Some.c 47 c.if-c-eq47.false))
       ∙ c.loop-c.invariant.same;
   room = omega (arith, c.in-Some.ensures.shorter, c.loop-c.invariant.room);
 }

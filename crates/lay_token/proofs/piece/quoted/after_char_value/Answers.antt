@@ -51,7 +51,7 @@ few_digits n v h l e =
 pub returns-then-count-eq6-clause-rest : goal.returns-then-count-eq6-clause-rest
 returns-then-count-eq6-clause-rest c =
     sym c.loop-c.invariant.same
-        ∙ at c.args.of c.loop-c.count c.loop-c.value c.in-Some.c _ _ Bad c.in-Some.ensures.parts
+    ∙ at c.args.of c.loop-c.count c.loop-c.value c.in-Some.c _ _ Bad c.in-Some.ensures.parts
     (seventh_step c.args.of c.loop-c.count c.loop-c.value c.in-Some.c c.in-Some-hex_value.ensures.0 c.if-count-eq6.true)
 
 pub overflow_mul-value : goal.overflow_mul-value
@@ -66,37 +66,37 @@ overflow_add-value c =
 pub loop-c-preserved-in-Some-hex_value : goal.loop-c-preserved-in-Some-hex_value
 loop-c-preserved-in-Some-hex_value c =
     let less : c.loop-c.count < 6 = omega (arith, c.loop-c.invariant.few, c.if-count-eq6.false) in record {
-  text = search rules;
-  same = sym (at c.args.of c.loop-c.count c.loop-c.value c.in-Some.c _ _
-      (Go (Digits (c.loop-c.count + 1) (16 * c.loop-c.value + c.in-Some-hex_value.digit))) c.in-Some.ensures.parts
-      (digit_step c.args.of c.loop-c.count c.loop-c.value c.in-Some.c _ c.in-Some-hex_value.ensures.0 c.in-Some-hex_value.ensures.1 less)) ∙ c.loop-c.invariant.same;
-  few = omega (arith, less);
-  small = more_digits c.loop-c.count c.loop-c.value c.in-Some-hex_value.digit c.loop-c.invariant.small c.in-Some-hex_value.ensures.2;
-  shorter = omega (arith, c.in-Some.ensures.shorter, c.loop-c.invariant.shorter);
-}
+      text = search rules;
+      same = sym (at c.args.of c.loop-c.count c.loop-c.value c.in-Some.c _ _
+          (Go (Digits (c.loop-c.count + 1) (16 * c.loop-c.value + c.in-Some-hex_value.digit))) c.in-Some.ensures.parts
+          (digit_step c.args.of c.loop-c.count c.loop-c.value c.in-Some.c _ c.in-Some-hex_value.ensures.0 c.in-Some-hex_value.ensures.1 less)) ∙ c.loop-c.invariant.same;
+      few = omega (arith, less);
+      small = more_digits c.loop-c.count c.loop-c.value c.in-Some-hex_value.digit c.loop-c.invariant.small c.in-Some-hex_value.ensures.2;
+      shorter = omega (arith, c.in-Some.ensures.shorter, c.loop-c.invariant.shorter);
+    }
 
 pub returns-then-count-eq0-clause-rest : goal.returns-then-count-eq0-clause-rest
 returns-then-count-eq0-clause-rest c =
     sym c.loop-c.invariant.same
-        ∙ at c.args.of c.loop-c.count c.loop-c.value c.in-Some.c _ _ Bad c.in-Some.ensures.parts
+    ∙ at c.args.of c.loop-c.count c.loop-c.value c.in-Some.c _ _ Bad c.in-Some.ensures.parts
     (no_digit_step c.args.of c.loop-c.count c.loop-c.value c.in-Some.c c.in-None.ensures c.if-count-eq0.true)
 
 pub returns-then-is_char_value-clause-rest : goal.returns-then-is_char_value-clause-rest
 returns-then-is_char_value-clause-rest c =
     sym c.loop-c.invariant.same
-        ∙ at c.args.of c.loop-c.count c.loop-c.value c.in-Some.c _ _ End c.in-Some.ensures.parts
+    ∙ at c.args.of c.loop-c.count c.loop-c.value c.in-Some.c _ _ End c.in-Some.ensures.parts
     (brace_step c.args.of c.loop-c.count c.loop-c.value c.in-Some.c true c.in-None.ensures c.if-count-eq0.false c.if-c-eq125.true c.if-is_char_value.ensures)
 
 pub returns-else-is_char_value-clause-rest : goal.returns-else-is_char_value-clause-rest
 returns-else-is_char_value-clause-rest c =
     sym c.loop-c.invariant.same
-        ∙ at c.args.of c.loop-c.count c.loop-c.value c.in-Some.c _ _ Bad c.in-Some.ensures.parts
+    ∙ at c.args.of c.loop-c.count c.loop-c.value c.in-Some.c _ _ Bad c.in-Some.ensures.parts
     (brace_step c.args.of c.loop-c.count c.loop-c.value c.in-Some.c false c.in-None.ensures c.if-count-eq0.false c.if-c-eq125.true c.if-is_char_value.ensures)
 
 pub returns-then-c-ne95-clause-rest : goal.returns-then-c-ne95-clause-rest
 returns-then-c-ne95-clause-rest c =
     sym c.loop-c.invariant.same
-        ∙ at c.args.of c.loop-c.count c.loop-c.value c.in-Some.c _ _ Bad c.in-Some.ensures.parts
+    ∙ at c.args.of c.loop-c.count c.loop-c.value c.in-Some.c _ _ Bad c.in-Some.ensures.parts
     (other_step c.args.of c.loop-c.count c.loop-c.value c.in-Some.c c.in-None.ensures c.if-count-eq0.false c.if-c-eq125.false c.if-c-ne95.true)
 
 pub loop-c-preserved : goal.loop-c-preserved
@@ -113,5 +113,5 @@ loop-c-preserved c = record {
 pub returns-clause-rest : goal.returns-clause-rest
 returns-clause-rest c =
     sym c.loop-c.invariant.same
-        ∙ ap (run (escape_step c.args.of) (Digits c.loop-c.count c.loop-c.value)) c.in_default.ensures.parts
-            ∙ run-nil (escape_step c.args.of) _
+    ∙ ap (run (escape_step c.args.of) (Digits c.loop-c.count c.loop-c.value)) c.in_default.ensures.parts
+    ∙ run-nil (escape_step c.args.of) _

@@ -16,7 +16,7 @@ open_at : (y : Contents) (cs rest : List ℕ) (n : ℕ) → n ≡ hashes 255 cs 
     → after_raw y cs ≡ opened y n rest
 open_at y cs rest n e f =
     raw-hashes y 255 0 cs refl ∙ ap (λ v. opened y v (behind_hashes 255 cs)) (zero-add (hashes 255 cs) ∙ sym e)
-        ∙ ap (opened y n) (sym f)
+    ∙ ap (opened y n) (sym f)
 
 no_quote : (y : Contents) (n : ℕ) (rest : List ℕ) → begins (λ d. d == 34) rest ≡ false → opened y n rest ≡ None
 no_quote y n [] h = refl
@@ -36,7 +36,7 @@ plain_at : (y : Contents) (n c : ℕ) (text cs : List ℕ) (b : Bool) → text �
 unfolding raw_step
 plain_at y n c text cs true e q p =
     ap (run (raw_step y) (Inside n)) e
-        ∙ run-step (raw_step y) (Inside n) c cs (Go (Inside n)) (rw (ne_eqb c 34 q, ← p) refl)
+    ∙ run-step (raw_step y) (Inside n) c cs (Go (Inside n)) (rw (ne_eqb c 34 q, ← p) refl)
 plain_at y n c text cs false e q p =
     ap (run (raw_step y) (Inside n)) e ∙ run-step (raw_step y) (Inside n) c cs Bad (rw (ne_eqb c 34 q, ← p) refl)
 
@@ -49,8 +49,8 @@ refuse b x y z e h = e ∙ (rw h refl)
 pub returns-in_err-rest : goal.returns-in_err-rest
 returns-in_err-rest c = rw c.from_residual.ensures
     (open_at c.args.of _ _ _ c.hashes-hashes.ensures.count c.hashes-hashes.ensures.rest
-        ∙ no_quote c.args.of c.hashes-hashes.result.0
-            (chars c.hashes-hashes.result.1.now) c.in_err-rest.ensures.rest)
+    ∙ no_quote c.args.of c.hashes-hashes.result.0
+    (chars c.hashes-hashes.result.1.now) c.in_err-rest.ensures.rest)
 
 pub loop-c-init : goal.loop-c-init
 loop-c-init c = record {
@@ -76,7 +76,7 @@ loop-c-preserved-then-c-eq34 c = record {
 pub returns-then-not-is_plain : goal.returns-then-not-is_plain
 returns-then-not-is_plain c =
     sym c.loop-c.invariant.same
-        ∙ plain_at c.args.of _ c.in-Some.c _ _ false c.in-Some.ensures.parts c.if-c-eq34.false c.if-not-is_plain.ensures
+    ∙ plain_at c.args.of _ c.in-Some.c _ _ false c.in-Some.ensures.parts c.if-c-eq34.false c.if-not-is_plain.ensures
 
 pub loop-c-preserved : goal.loop-c-preserved
 loop-c-preserved c = record {
@@ -87,4 +87,4 @@ loop-c-preserved c = record {
 pub returns : goal.returns
 returns c = sym c.loop-c.invariant.same
     ∙ ap (run (raw_step c.args.of) (Inside c.hashes-hashes.result.0)) c.in_default.ensures.parts
-        ∙ run-nil (raw_step c.args.of) _
+    ∙ run-nil (raw_step c.args.of) _

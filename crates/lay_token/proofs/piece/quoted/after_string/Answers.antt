@@ -10,8 +10,8 @@ pub returns-then-c-eq34 : goal.returns-then-c-eq34
 unfolding string_step
 returns-then-c-eq34 c =
     sym c.loop-c.invariant.same
-        ∙ ap (after_string c.args.of) (c.in-Some.ensures.parts
-            ∙ ap (λ v. v ∷ chars c.in-Some.tail.now) c.if-c-eq34.true)
+    ∙ ap (after_string c.args.of) (c.in-Some.ensures.parts
+    ∙ ap (λ v. v ∷ chars c.in-Some.tail.now) c.if-c-eq34.true)
     ∙ run-step (string_step c.args.of) Plain 34 (chars c.in-Some.tail.now) End refl
 
 pub returns : goal.returns

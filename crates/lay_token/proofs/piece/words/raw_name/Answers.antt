@@ -16,21 +16,21 @@ name_at : (s r bytes : List ℕ) (path : Bool) → IsUtf8 s → IsUtf8 r → beg
     → raw_name (chars s) ≡ cond (not path) (found RawIdent (chars r)) None
 name_at s r bytes path us ur b e f p =
     let parts : chars s ≡ front in_word (chars s) ++ chars r = front-after in_word (chars s)
-        ∙ ap (λ x. front in_word (chars s) ++ x) (sym e) in
+    ∙ ap (λ x. front in_word (chars s) ++ x) (sym e) in
     let word : bytes ≡ encode_utf8_all (front in_word (chars s)) = f
-        ∙ bytes_before s r (front in_word (chars s)) us ur parts in
+    ∙ bytes_before s r (front in_word (chars s)) us ur parts in
     rw (b, e, p, word) refl
 
 pub returns-then-is_path_word : goal.returns-then-is_path_word
 returns-then-is_path_word c =
     let ur : IsUtf8 c.after-rest.result.now = search rules in
     name_at c.args.s.now c.after-rest.result.now c.before-2.result.now true c.utf8.s ur
-        (sym c.if-not-begins_suffix.ensures) c.after-rest.ensures.run
+    (sym c.if-not-begins_suffix.ensures) c.after-rest.ensures.run
     c.before-2.ensures c.if-is_path_word.ensures
 
 pub returns : goal.returns
 returns c =
     let ur : IsUtf8 c.after-rest.result.now = search rules in
     name_at c.args.s.now c.after-rest.result.now c.before-2.result.now false c.utf8.s ur
-        (sym c.if-not-begins_suffix.ensures) c.after-rest.ensures.run
+    (sym c.if-not-begins_suffix.ensures) c.after-rest.ensures.run
     c.before-2.ensures c.if-is_path_word.ensures
