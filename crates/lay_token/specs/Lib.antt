@@ -1,4 +1,14 @@
+pub mod Chars
 pub mod Document
+pub mod Forms
+pub mod Found
+pub mod Gap
+pub mod Lexes
 pub mod Machine
+pub mod Number
+pub mod Quoted
+pub mod Scan
+pub mod Source
+pub mod Value
 pub mod Word
 pub mod formers

@@ -67,8 +67,12 @@ reserved_words = codes "abstract"
 abbrev pub is_among : List (List ℕ) → List ℕ → Bool
 is_among words word = list_any (λ other. bytes_eq other word) words
 
+-- The word is crate, self, super or Self.
+abbrev pub is_path_word : List ℕ → Bool
+is_path_word word = is_among path_words word
+
 -- the class of a word
 abbrev pub class_of : List ℕ → Class
 class_of word =
-    if is_among path_words word then PathWord
+    if is_path_word word then PathWord
     else (if is_among strict_words word then Strict else (if is_among reserved_words word then Reserved else Plain))

@@ -3,7 +3,7 @@ ghost use Rattle.std.specs.Prelude.{◌≡◌, ℕ, List};
 ghost use Rattle.std.specs.List.{list_any};
 ghost use Rattle.std.specs.Str.{bytes_eq};
 ghost use Rattle.std.specs.Borrow.{Bor};
-ghost use Rattle.lay_token.specs.Word.{class_of, is_among, path_words, strict_words, reserved_words};
+ghost use Rattle.lay_token.specs.Word.{class_of, is_among, is_path_word, strict_words, reserved_words};
 
 /// What a word is in Rust's edition 2021 (Rust Reference, "Keywords").
 #[derive(Clone, Copy, Debug, PartialEq, Eq)]
@@ -24,8 +24,9 @@ fn is_one_of(words: &[&[u8]], word: &[u8]) -> bool
     words.iter().any(|other| *other == word)
 }
 
-fn is_path_word(word: &[u8]) -> bool
-    ensures { result ≡ is_among path_words word.now }
+/// Whether a word is `crate`, `self`, `super` or `Self`.
+pub fn is_path_word(word: &[u8]) -> bool
+    ensures { result ≡ is_path_word word.now }
 {
     is_one_of(&[b"crate", b"self", b"super", b"Self"], word)
 }

@@ -1,0 +1,131 @@
+-- A text is gap, piece, gap, and so on, and ends in a gap (Rust Reference, "Lexical structure").
+use Rattle.std.specs.Prelude.{◌≡◌, ℕ, ◌+◌, ◌-◌, Bool, true, false, cond, ◌&&◌, ◌||◌, ◌==◌, not, List, [], ◌∷◌, ◌++◌, IsTrue, IsFalse, codes, length, take, drop, encode_utf8_all}
+use Rattle.std.specs.List.{list_any}
+use Rattle.std.specs.Str.{chars, bytes_eq}
+use Rattle.lay_token.specs.Chars.{is_nil}
+use Rattle.lay_token.specs.Forms.{Had}
+use Rattle.lay_token.specs.Gap.{is_gap, is_last_gap}
+use Rattle.lay_token.specs.declared.token.Kind.{Kind}
+use Rattle.lay_token.specs.declared.token.Kind.TheVariants.{RawIdent, Punct, Doc}
+use Rattle.lay_token.specs.declared.token.Token.{Token}
+
+-- a gap and the piece behind it
+pub record Part : Type 0 where
+  pub gap : List ℕ
+  pub kind : Kind
+  pub piece : List ℕ
+
+-- the parts and the last gap, as one text
+abbrev pub spell : List Part → List ℕ → List ℕ
+spell [] last = last
+spell (p ∷ ps) last = p.gap ++ (p.piece ++ spell ps last)
+
+-- what stands before a place: a point, a point behind a joint point, or anything else
+pub data Before : Type 0 where
+  Other : Before
+  Point : Before
+  Points : Before
+
+-- A number behind a point may be an index, but not behind `..`.
+abbrev pub is_index_place : Before → Bool
+is_index_place Point = true
+is_index_place _ = false
+
+abbrev pub is_punct : Kind → Bool
+is_punct Punct = true
+is_punct _ = false
+
+abbrev pub is_point : Before → Bool
+is_point Other = false
+is_point _ = true
+
+unfoldable pub step : Before → Part → Before
+step b p =
+    cond (is_punct p.kind && bytes_eq p.piece (codes ".")) (cond (is_point b && is_nil p.gap) Points Point) Other
+
+abbrev pub steps : Before → List Part → Before
+steps b [] = b
+steps b (p ∷ ps) = steps (step b p) ps
+
+-- Each part is a gap and a piece that is had, where rest follows the parts.
+abbrev pub Fit : Before → List Part → List ℕ → Type 0
+Fit b [] rest = Unit {0}
+Fit b (p ∷ ps) rest =
+    IsTrue (is_gap p.gap) × Had p.kind p.piece (spell ps rest) (is_index_place b) × Fit (step b p) ps rest
+
+-- how many bytes the characters take
+abbrev pub size : List ℕ → ℕ
+size cs = length (encode_utf8_all cs)
+
+-- the text without the blanks at its end
+abbrev pub trimmed : List ℕ → List ℕ
+trimmed [] = []
+trimmed (c ∷ cs) = elim (trimmed cs) [ [] ↦ cond (c == 32) [] (c ∷ []) | d ∷ ds ↦ c ∷ d ∷ ds ]
+
+-- what documentation says: without its opening and a block's end, and where it is one line without the blanks there
+abbrev pub doc_text : Bool → List ℕ → List ℕ
+doc_text block cs =
+    let text = cond block (take (length cs - 5) (drop 3 cs)) (drop 3 cs) in
+    cond (list_any (λ c. c == 10) text) text (trimmed text)
+
+-- the text of a token of this piece
+abbrev pub text_of_piece : Kind → List ℕ → List ℕ
+text_of_piece RawIdent cs = drop 2 cs
+text_of_piece (Doc inner block) cs = doc_text block cs
+text_of_piece _ cs = cs
+
+abbrev pub is_separator : List ℕ → Bool
+is_separator cs = bytes_eq cs (codes ",") || bytes_eq cs (codes ";")
+
+-- The token of the part is joint before these parts.
+abbrev pub is_joint : Part → List Part → Bool
+is_joint p [] = false
+is_joint p (q ∷ qs) =
+    is_punct p.kind && is_punct q.kind && is_nil q.gap && not (is_separator p.piece) && not (is_separator q.piece)
+
+-- the tokens of the parts, of which the first begins at a place
+abbrev pub tokens_from : ℕ → List Part → List Token
+tokens_from at [] = []
+tokens_from at (p ∷ ps) = let place = at + size p.gap in
+    record {
+      kind = p.kind;
+      text = encode_utf8_all (text_of_piece p.kind p.piece);
+      joint = is_joint p ps;
+      at = place;
+      len = size p.piece;
+    } ∷ tokens_from (place + size p.piece) ps
+
+-- The characters are these parts and a last gap.
+pub record Reads (text : List ℕ) (parts : List Part) (last : List ℕ) : Type 0 where
+  pub whole : text ≡ spell parts last
+  pub fit : Fit Other parts last
+  pub end : IsTrue (is_last_gap last)
+
+-- From the place on, the text lexes to the tokens. That each gap is as long as it can be follows, since no piece
+-- begins a gap.
+abbrev pub Lexes : List ℕ → ℕ → List Token → Type 0
+Lexes bytes start tokens = (parts : List Part) × (last : List ℕ)
+    × Reads (chars (drop start bytes)) parts last × (tokens ≡ tokens_from start parts)
+
+-- No gap stands at the front, and the text isn't one that ends the whole.
+pub record BeginsNoGap (text : List ℕ) : Type 0 where
+  pub none : (gap rest : List ℕ) → text ≡ gap ++ rest → IsTrue (is_gap gap) → gap ≡ []
+  pub unended : IsFalse (is_last_gap text)
+
+-- No piece stands at the front.
+abbrev pub BeginsNoPiece : List ℕ → Bool → Type 0
+BeginsNoPiece text index =
+    (k : Kind) (piece rest : List ℕ) → text ≡ piece ++ rest → Had k piece rest index → ⊥
+
+-- The text is parts, a gap as long as it can be, and a rest that begins with no piece.
+pub record Stops (text : List ℕ) (parts : List Part) (gap rest : List ℕ) : Type 0 where
+  pub whole : text ≡ spell parts (gap ++ rest)
+  pub fit : Fit Other parts (gap ++ rest)
+  pub closed : IsTrue (is_gap gap)
+  pub no_gap : BeginsNoGap rest
+  pub no_piece : BeginsNoPiece rest (is_index_place (steps Other parts))
+
+-- Lexing from the start stops at the place, the first past gaps where no token is had.
+abbrev pub NoTokenAt : List ℕ → ℕ → ℕ → Type 0
+NoTokenAt bytes start at = (parts : List Part) × (gap rest : List ℕ)
+    × Stops (chars (drop start bytes)) parts gap rest × (at ≡ start + size (spell parts gap))

@@ -1,0 +1,59 @@
+-- What is lexed of an input (Rust Reference, "Input format": byte order mark removal, CRLF normalization and
+-- shebang removal; what a shebang line is, is told here from the first line alone).
+use Rattle.std.specs.Prelude.{ℕ, ◌+◌, Bool, true, false, cond, ◌&&◌, ◌||◌, ◌==◌, not, List, [], ◌∷◌, Option, Some, None, Result, Ok, Err, codes, encode_utf8_all}
+use Rattle.std.specs.Str.{chars, is_utf8}
+use Rattle.std.specs.Str.Lossy.{utf8_valid_len}
+use Rattle.lay_token.specs.Chars.{is_white, begins, behind, front, after, is_nil}
+use Rattle.lay_token.specs.Lexes.{size}
+use Rattle.lay_token.specs.declared.refusal.Refusal.{Refusal}
+use Rattle.lay_token.specs.declared.refusal.Refusal.TheVariants.{NotUtf8}
+
+-- each CR LF as one LF
+abbrev pub folded : List ℕ → List ℕ
+folded [] = []
+folded (c ∷ cs) = cond (c == 13 && begins (λ d. d == 10) cs) (folded cs) (c ∷ folded cs)
+
+-- without a byte order mark at the start
+abbrev pub without_mark : List ℕ → List ℕ
+without_mark [] = []
+without_mark (c ∷ cs) = cond (c == 65279) cs (c ∷ cs)
+
+abbrev pub is_in_line : ℕ → Bool
+is_in_line c = not (c == 10)
+
+-- the line without the CRs at its end
+abbrev pub without_returns : List ℕ → List ℕ
+without_returns [] = []
+without_returns (c ∷ cs) = elim (without_returns cs) [ [] ↦ cond (c == 13) [] (c ∷ []) | d ∷ ds ↦ c ∷ d ∷ ds ]
+
+-- Past white space the line goes on with nothing, or with what begins an attribute or a comment.
+abbrev pub is_no_command : List ℕ → Bool
+is_no_command cs =
+    is_nil cs || behind false (codes "[") (λ ds. true) cs || behind false (codes "//") (λ ds. true) cs
+    || behind false (codes "/*") (λ ds. true) cs
+
+-- a first line that begins with #! is a shebang line, unless its rest reads as the start of an attribute
+abbrev pub is_shebang : List ℕ → Bool
+is_shebang line = behind false (codes "#!") (λ cs. not (is_no_command (after is_white cs))) line
+
+-- What stands in the text, its shebang, and the place where lexing begins, in bytes.
+pub record Source : Type 0 where
+  pub text : List ℕ
+  pub shebang : Option (List ℕ)
+  pub start : ℕ
+
+-- the bytes of a line with the LF that ends it, if one does
+abbrev pub line_size : List ℕ → ℕ
+line_size text = size (front is_in_line text) + cond (is_nil (after is_in_line text)) 0 1
+
+abbrev pub source_of : List ℕ → Source
+source_of text = let line = front is_in_line text in record {
+  text = encode_utf8_all text;
+  shebang = cond (is_shebang line) (Some (encode_utf8_all (without_returns line))) None;
+  start = cond (is_shebang line) (line_size text) 0;
+}
+
+-- An input that is no UTF-8 is refused at the end of its longest front that is.
+abbrev pub source : List ℕ → Result Source Refusal
+source bytes =
+    cond (is_utf8 bytes) (Ok (source_of (folded (without_mark (chars bytes))))) (Err (NotUtf8 (utf8_valid_len bytes)))

@@ -1,0 +1,84 @@
+//! Tokens: their kinds, and the pieces of a text that they stand for.
+ghost use Rattle.std.specs.Prelude.{◌≡◌, ℕ, List};
+ghost use Rattle.lay_token.specs.Lexes.{Lexes, NoTokenAt};
+ghost use Rattle.lay_token.specs.declared.token.Token.{Token};
+
+use crate::text::Text;
+
+/// What a delimiter is made of.
+#[derive(Clone, Copy, Debug, PartialEq, Eq)]
+pub enum Delim {
+    /// `(` and `)`
+    Paren,
+    /// `[` and `]`
+    Bracket,
+    /// `{` and `}`
+    Brace,
+}
+
+/// The kind of a token (Rust Reference, "Tokens"). A kind's example is a whole piece of it.
+#[derive(Clone, Copy, Debug, PartialEq, Eq)]
+pub enum Kind {
+    /// `name`, a keyword too
+    Ident,
+    /// `r#type`
+    RawIdent,
+    /// `_`
+    Underscore,
+    /// `'a`
+    Lifetime,
+    /// `'x'`
+    Char,
+    /// `"x\n"`
+    Str,
+    /// `r#"x"#`
+    RawStr,
+    /// `b'x'`
+    Byte,
+    /// `b"x\xff"`
+    ByteStr,
+    /// `br#"x"#`
+    RawByteStr,
+    /// `c"x"`
+    CStr,
+    /// `cr#"x"#`
+    RawCStr,
+    /// `0xff_u8`
+    Int,
+    /// `1.5e-3f64`
+    Float,
+    /// `+`, one character
+    Punct,
+    /// `(`
+    Opener(Delim),
+    /// `)`
+    Closer(Delim),
+    /// `/// text`, `//! text`, `/** text */` or `/*! text */`: documentation of what follows, or with `inner`
+    /// of what it stands in, as a line or as a block.
+    Doc { inner: bool, block: bool },
+}
+
+/// One token of a text.
+#[derive(Debug, Drop)]
+pub struct Token {
+    pub kind: Kind,
+    /// The piece; of a raw identifier without `r#`, and of documentation without its marks and the blanks at
+    /// the end of one line.
+    pub text: Text,
+    /// It and the next are punctuation with no gap between them, and neither is `,` or `;`.
+    pub joint: bool,
+    /// Where the piece begins, in bytes of the text.
+    pub at: usize,
+    /// The bytes of the piece.
+    pub len: usize,
+}
+
+/// A text lexes to at most one list of tokens, or there is no token at one place at most, and never both.
+pub fn tokens_law()
+    ensures one_list { (bytes : List ℕ) (start : ℕ) (tokens others : List Token)
+        → Lexes bytes start tokens → Lexes bytes start others → tokens ≡ others }
+    ensures one_place { (bytes : List ℕ) (start at other : ℕ)
+        → NoTokenAt bytes start at → NoTokenAt bytes start other → at ≡ other }
+    ensures never_both { (bytes : List ℕ) (start at : ℕ) (tokens : List Token)
+        → NoTokenAt bytes start at → Lexes bytes start tokens → ⊥ }
+{}
