@@ -1,9 +1,5 @@
-pub mod Pieces
 pub mod Grammar
 pub mod Reading
 pub mod Notation
 pub mod Layout
-pub mod Outcome
-pub mod Waiting
-pub mod Lexemes
 pub mod ReadingFunction
