@@ -2,4 +2,3 @@ pub mod Grammar
 pub mod Reading
 pub mod Notation
 pub mod Layout
-pub mod ReadingFunction

@@ -1,5 +1,5 @@
 //! The top call: bytes in, laid-out bytes out.
 #![tactic(auto)]
 
-pub mod reader;
+pub mod layout;
 pub mod tree;

@@ -53,19 +53,19 @@ put_body-returns g t c =
 
 pub put_item-returns-in_err-put_head-in-Struct : goal.put_item-returns-in_err-put_head-in-Struct
 put_item-returns-in_err-put_head-in-Struct g t c =
-    last (stream_leave _ c.in_err-put_head-in-Struct.ensures c.from_residual.ensures.1) (stream_struct _ c.in-Struct.name _ c.in-Struct.is c.as_bytes.ensures)
+    last (stream_leave _ c.in_err-put_head-in-Struct.ensures c.from_residual.ensures.1) (stream_struct _ c.in-Struct.name c.in-Struct.is)
 
 pub put_item-returns-in_ok-put_head-in-Struct : goal.put_item-returns-in_ok-put_head-in-Struct
 put_item-returns-in_ok-put_head-in-Struct g t c =
-    last (stream_on c.in_ok-put_head-in-Struct.ensures c.text.ensures) (stream_struct _ c.in-Struct.name _ c.in-Struct.is c.as_bytes.ensures)
+    last (stream_on c.in_ok-put_head-in-Struct.ensures c.text.ensures) (stream_struct _ c.in-Struct.name c.in-Struct.is)
 
 pub put_item-returns-in_err-put_head-in-Module : goal.put_item-returns-in_err-put_head-in-Module
 put_item-returns-in_err-put_head-in-Module g t c =
-    last (stream_leave _ c.in_err-put_head-in-Module.ensures c.from_residual-in_err-put_head-in-Module.ensures.1) (stream_module _ c.in-Module.name _ c.in-Module.items _ c.in-Module.is c.as_bytes-in-Module.ensures refl)
+    last (stream_leave _ c.in_err-put_head-in-Module.ensures c.from_residual-in_err-put_head-in-Module.ensures.1) (stream_module _ c.in-Module.name c.in-Module.items _ c.in-Module.is refl)
 
 pub put_item-returns-in_ok-put_head-in-Module : goal.put_item-returns-in_ok-put_head-in-Module
 put_item-returns-in_ok-put_head-in-Module g t c =
-    last (stream_on c.in_ok-put_head-in-Module.ensures c.put_body.ensures) (stream_module _ c.in-Module.name _ c.in-Module.items _ c.in-Module.is c.as_bytes-in-Module.ensures (ap (λ (items : List Item). stream (body_layout (map item_layout items))) c.as_slice.ensures))
+    last (stream_on c.in_ok-put_head-in-Module.ensures c.put_body.ensures) (stream_module _ c.in-Module.name c.in-Module.items _ c.in-Module.is (ap (λ (items : List Item). stream (body_layout (map item_layout items))) c.as_slice.ensures))
 
 pub put_item-returns-in_err-begin-in-Import : goal.put_item-returns-in_err-begin-in-Import
 put_item-returns-in_err-begin-in-Import g t c =

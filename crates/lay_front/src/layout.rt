@@ -1,12 +1,12 @@
 //! How trees are laid out, fed to an [`Emit`] token by token.
-ghost use Rattle.std.specs.Prelude.{◌≡◌, ◌<◌, [], ◌∷◌, map, pos, true, false, codes, IfOk};
+ghost use Rattle.std.specs.Prelude.{◌≡◌, ◌<◌, [], ◌∷◌, ◌++◌, map, pos, true, false, codes, IfOk};
 ghost use Rattle.lay_token.specs.declared.layout.Tok.TheVariants as tok;
 ghost use Rattle.lay_token.specs.Document.{stream, Empty, text_of};
 ghost use Rattle.lay_stream.specs.Fed.{Did};
 ghost use Rattle.lay_front.specs.Notation.{soft_break, hard_break, never_break, closing, comma_closing, further, part_lines, body_layout};
-ghost use Rattle.lay_front.specs.Layout.{path_layout, use_layout, item_layout, item_line};
+ghost use Rattle.lay_front.specs.Layout.{name_layout, path_layout, use_layout, item_layout, item_line};
 
-use crate::tree::{Item, UseTree};
+use crate::tree::{Item, Name, UseTree};
 use lay_stream::{Emit, Stream, plain};
 use lay_token::{Break, Mark, NoMemory, Text};
 use std::alloc::Global;
@@ -69,11 +69,11 @@ pub fn put_item<E: Emit>(out: &mut E, item: &Item) -> Result<(), E::Fault>
 {
     match item {
         Item::Struct { name } => {
-            put_head(out, b"struct ", name.as_bytes())?;
+            put_head(out, b"struct ", name)?;
             out.text(b";")
         }
         Item::Module { name, items } => {
-            put_head(out, b"mod ", name.as_bytes())?;
+            put_head(out, b"mod ", name)?;
             put_body(out, items.as_slice())
         }
         Item::Import { tree } => {
@@ -112,12 +112,12 @@ fn put_lines<E: Emit>(out: &mut E, items: &[Item]) -> Result<(), E::Fault>
 }
 
 /// The head of an item that is a keyword, with a blank behind it, and a name.
-fn put_head<E: Emit>(out: &mut E, keyword: &[u8], name: &[u8]) -> Result<(), E::Fault>
-    ensures { Did E.meanings out.old (tok.Begin false (pos 0) ∷ tok.Text keyword.now ∷ tok.Text name.now ∷ tok.End ∷ []) result out.new }
+fn put_head<E: Emit>(out: &mut E, keyword: &[u8], name: &Name) -> Result<(), E::Fault>
+    ensures { Did E.meanings out.old (tok.Begin false (pos 0) ∷ tok.Text keyword.now ∷ (stream (name_layout name.now Empty) ++ tok.End ∷ [])) result out.new }
 {
     out.begin(false, 0)?;
     out.text(keyword)?;
-    out.text(name)?;
+    put_name(out, name)?;
     out.end()
 }
 
@@ -148,7 +148,7 @@ pub fn put_use<E: Emit>(out: &mut E, tree: &UseTree) -> Result<(), E::Fault>
     match tree {
         UseTree::Name { path, name } => {
             put_path(out, path.as_slice())?;
-            out.text(name.as_bytes())
+            put_name(out, name)
         }
         UseTree::Group { path, trees } => {
             put_path(out, path.as_slice())?;
@@ -198,14 +198,25 @@ fn close_list<E: Emit>(out: &mut E, closer: &[u8]) -> Result<(), E::Fault>
 }
 
 /// Names, each with a `::` behind it.
-fn put_path<E: Emit>(out: &mut E, names: &[Text]) -> Result<(), E::Fault>
+fn put_path<E: Emit>(out: &mut E, names: &[Name]) -> Result<(), E::Fault>
     ensures { Did E.meanings out.old (stream (path_layout names.now Empty)) result out.new }
 {
     for name in names {
-        out.text(name.as_bytes())?;
+        put_name(out, name)?;
         out.text(b"::")?;
     }
     Ok(())
+}
+
+/// A name, behind the `r#` of a raw one.
+fn put_name<E: Emit>(out: &mut E, name: &Name) -> Result<(), E::Fault>
+    ensures { Did E.meanings out.old (stream (name_layout name.now Empty)) result out.new }
+{
+    if !name.raw {
+        return out.text(name.text.as_bytes());
+    }
+    out.text(b"r#")?;
+    out.text(name.text.as_bytes())
 }
 
 #[cfg(test)]
@@ -227,13 +238,18 @@ mod tests {
         ListInList(&'a [u8]),
     }
 
+    fn named(alloc: Global, text: &[u8]) -> Result<Name, NoMemory> {
+        let text = Text::from_bytes(alloc, text)?;
+        Ok(Name { raw: false, text })
+    }
+
     fn structure(alloc: Global, name: &[u8]) -> Result<Item, NoMemory> {
-        let name = Text::from_bytes(alloc, name)?;
+        let name = named(alloc, name)?;
         Ok(Item::Struct { name })
     }
 
     fn module(alloc: Global, name: &[u8], items: List<Item>) -> Result<Item, NoMemory> {
-        let name = Text::from_bytes(alloc, name)?;
+        let name = named(alloc, name)?;
         Ok(Item::Module { name, items })
     }
 
@@ -250,7 +266,7 @@ mod tests {
     }
 
     fn named(alloc: Global, name: &[u8]) -> Result<UseTree, NoMemory> {
-        let name = Text::from_bytes(alloc, name)?;
+        let name = named(alloc, name)?;
         Ok(UseTree::Name {
             path: List::new(alloc),
             name,
@@ -258,7 +274,7 @@ mod tests {
     }
 
     fn grouped(alloc: Global, name: &[u8], trees: List<UseTree>) -> Result<UseTree, NoMemory> {
-        let name = Text::from_bytes(alloc, name)?;
+        let name = named(alloc, name)?;
         let path = with(List::new(alloc), name)?;
         Ok(UseTree::Group { path, trees })
     }

@@ -30,11 +30,11 @@ put_further-returns g t c =
 
 pub put_use-returns-in_err-put_path-in-Name : goal.put_use-returns-in_err-put_path-in-Name
 put_use-returns-in_err-put_path-in-Name g t c =
-    last (stream_leave _ c.in_err-put_path-in-Name.ensures c.from_residual.ensures.1) (stream_use_name _ c.in-Name.path _ c.in-Name.name _ c.in-Name.is c.as_slice.ensures refl)
+    last (stream_leave _ c.in_err-put_path-in-Name.ensures c.from_residual.ensures.1) (stream_use_name _ c.in-Name.path _ c.in-Name.name c.in-Name.is c.as_slice.ensures)
 
 pub put_use-returns-in_ok-put_path-in-Name : goal.put_use-returns-in_ok-put_path-in-Name
 put_use-returns-in_ok-put_path-in-Name g t c =
-    last (stream_on c.in_ok-put_path-in-Name.ensures c.text.ensures) (stream_use_name _ c.in-Name.path _ c.in-Name.name _ c.in-Name.is c.as_slice.ensures c.as_bytes.ensures)
+    last (stream_on c.in_ok-put_path-in-Name.ensures c.put_name.ensures) (stream_use_name _ c.in-Name.path _ c.in-Name.name c.in-Name.is c.as_slice.ensures)
 
 pub put_use-returns-in_err-put_path-in-Group : goal.put_use-returns-in_err-put_path-in-Group
 put_use-returns-in_err-put_path-in-Group g t c =
@@ -42,7 +42,7 @@ put_use-returns-in_err-put_path-in-Group g t c =
 
 pub put_use-returns-in-empty : goal.put_use-returns-in-empty
 put_use-returns-in-empty g t c =
-    last (stream_on c.in_ok-put_path-in-Group.ensures c.text-in-empty.ensures) (stream_use_group _ c.in-Group.path _ c.in-Group.trees _ c.in-Group.is c.as_slice-in-Group.ensures (empty_list _ c.in-Group.trees c.as_slice-in-Group-2.ensures c.in-empty.len_below))
+    last (stream_on c.in_ok-put_path-in-Group.ensures c.text.ensures) (stream_use_group _ c.in-Group.path _ c.in-Group.trees _ c.in-Group.is c.as_slice-in-Group.ensures (empty_list _ c.in-Group.trees c.as_slice-in-Group-2.ensures c.in-empty.len_below))
 
 pub put_use-returns-in_err-open_list-in-len1-up : goal.put_use-returns-in_err-open_list-in-len1-up
 put_use-returns-in_err-open_list-in-len1-up g t c =

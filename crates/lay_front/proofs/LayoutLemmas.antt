@@ -1,5 +1,5 @@
 -- The streams of layouts node by node, and the text of a file line by line.
-use Rattle.std.proofs.Common.{◌≡◌, ℕ, ◌≤◌, ◌<◌, true, false, List, [], ◌∷◌, ◌++◌, map, pos, codes, sym, ap, ◌∙◌, append_assoc, arith, length, drop, get_or, drop-cons, add-one, suc, ◌+◌, ◌-◌, take, refl, Ok, ◌≢◌}
+use Rattle.std.proofs.Common.{◌≡◌, ℕ, ◌≤◌, ◌<◌, Bool, Option, Some, None, true, false, List, [], ◌∷◌, ◌++◌, map, pos, codes, sym, ap, ◌∙◌, append_assoc, arith, length, drop, get_or, drop-cons, add-one, suc, ◌+◌, ◌-◌, take, refl, Ok, ◌≢◌}
 use Rattle.std.specs.List.{flat_map}
 use Rattle.std.proofs.Math.Seq.{take-length}
 use Rattle.std.proofs.Math.ListN.{drop_of_length-le}
@@ -12,7 +12,9 @@ use Rattle.lay_stream.specs.Listed.{list_meanings}
 use Rattle.lay_stream.proofs.Calls.{level_of}
 use Rattle.lay_token.proofs.Lines.{opened_document, stream_joined, EndsLine, text_joined}
 use Rattle.lay_front.specs.Notation.{soft_break, hard_break, never_break, closing, comma_closing, further, list_layout, part_lines, body_layout}
-use Rattle.lay_front.specs.Layout.{path_layout, use_layout_by, use_layout, item_layout_by, item_layout, item_line, file_layout, out}
+use Rattle.lay_front.specs.Layout.{raw_layout, name_layout, path_layout, shebang_layout, items_layout, use_layout_by, use_layout, item_layout_by, item_layout, item_line, out}
+use Rattle.lay_front.specs.declared.tree.File.{File}
+use Rattle.lay_front.specs.declared.tree.Name.{Name}
 use Rattle.lay_front.specs.declared.tree.Item.{Item}
 use Rattle.lay_front.specs.declared.tree.Item.TheVariants as item
 use Rattle.lay_front.specs.declared.tree.Item.TheOpen as item_open
@@ -27,17 +29,47 @@ use Rattle.lay_front.specs.declared.tree.UseTree.TheFolds.{fold-roll-UseTree}
 hard_ends_line : EndsLine hard_break
 hard_ends_line = record { is_newline = refl; stays = refl; no_mark = refl; is_wide = omega arith }
 
--- The text of a file is the texts of its items, one behind the other.
-pub out_lines : (items : List Item) → out items ≡ flat_map (λ (one : Item). text_of (item_line one)) items
-out_lines [] = refl
-out_lines (one ∷ items) =
-    text_joined (item_layout one) (file_layout items) hard_break hard_ends_line
-    ∙ ap (λ (t : List ℕ). text_of (item_line one) ++ t) (out_lines items)
+-- The text of items is their texts, one behind the other.
+pub items_lines : (items : List Item) → text_of (items_layout items) ≡ flat_map (λ (one : Item). text_of (item_line one)) items
+items_lines [] = refl
+items_lines (one ∷ items) =
+    text_joined (item_layout one) (items_layout items) hard_break hard_ends_line
+    ∙ ap (λ (t : List ℕ). text_of (item_line one) ++ t) (items_lines items)
+
+-- the first line of a file, if it is a shebang
+abbrev pub shebang_line : Option (List ℕ) → List ℕ
+shebang_line None = []
+shebang_line (Some line) = text_of (AddText line (AddBreak hard_break Empty))
+
+shebang_lines : (shebang : Option (List ℕ)) (rest : Document) → text_of (shebang_layout shebang rest) ≡ shebang_line shebang ++ text_of rest
+shebang_lines None rest = refl
+shebang_lines (Some line) rest = text_joined (AddText line Empty) rest hard_break hard_ends_line
+
+-- The text of a file is its shebang line and the texts of its items.
+pub out_lines : (file : File) → out file ≡ shebang_line file.shebang ++ flat_map (λ (one : Item). text_of (item_line one)) file.items
+out_lines file = shebang_lines file.shebang (items_layout file.items) ∙ ap (λ (t : List ℕ). shebang_line file.shebang ++ t) (items_lines file.items)
 
 -- what stands behind a layout that takes its rest
-pub stream_path : (names : List (List ℕ)) (rest : Document) → stream (path_layout names rest) ≡ stream (path_layout names Empty) ++ stream rest
+by_raw : (raw : Bool) (text : List ℕ) (rest : Document) → stream (raw_layout raw (AddText text rest)) ≡ stream (raw_layout raw (AddText text Empty)) ++ stream rest
+by_raw true text rest = refl
+by_raw false text rest = refl
+
+pub plain_name : (name : Name) (text : List ℕ) → name.raw ≡ false → text ≡ name.text → tok.Text text ∷ [] ≡ stream (name_layout name Empty)
+plain_name name text raw same = rw (raw, same) refl
+
+pub raw_name : (name : Name) (text : List ℕ) → name.raw ≡ true → text ≡ name.text → tok.Text (codes "r#") ∷ tok.Text text ∷ [] ≡ stream (name_layout name Empty)
+raw_name name text raw same = rw (raw, same) refl
+
+pub stream_name : (name : Name) (rest : Document) → stream (name_layout name rest) ≡ stream (name_layout name Empty) ++ stream rest
+stream_name name rest = by_raw name.raw name.text rest
+
+pub stream_path : (names : List Name) (rest : Document) → stream (path_layout names rest) ≡ stream (path_layout names Empty) ++ stream rest
 stream_path [] rest = refl
-stream_path (name ∷ names) rest = ap (λ (s : List Tok). tok.Text name ∷ tok.Text (codes "::") ∷ s) (stream_path names rest)
+stream_path (name ∷ names) rest =
+    stream_name name (AddText (codes "::") (path_layout names rest))
+    ∙ ap (λ (s : List Tok). stream (name_layout name Empty) ++ tok.Text (codes "::") ∷ s) (stream_path names rest)
+    ∙ sym (append_assoc (stream (name_layout name Empty)) (tok.Text (codes "::") ∷ stream (path_layout names Empty)) (stream rest))
+    ∙ ap (λ (s : List Tok). s ++ stream rest) (sym (stream_name name (AddText (codes "::") (path_layout names Empty))))
 
 pub stream_further : (ds : List Document) (close : Document) → stream (further ds close) ≡ stream (further ds Empty) ++ stream close
 stream_further [] close = refl
@@ -58,20 +90,20 @@ stream_lines (d ∷ ds) close =
     ∙ ap (λ (s : List Tok). s ++ stream close) (sym (stream_joined d (part_lines ds Empty))))
 
 -- the layout of each node, one level of it
-pub use_name : (path : List (List ℕ)) (name : List ℕ) → use_layout (use_tree.Name path name) ≡ path_layout path (AddText name Empty)
+pub use_name : (path : List Name) (name : Name) → use_layout (use_tree.Name path name) ≡ path_layout path (name_layout name Empty)
 unfolding use_layout
 use_name path name = ap use_layout (sym (use_views.rolls-Name path name)) ∙ fold-roll-UseTree Document use_layout_by (use_open.UseTree-F.Name path name)
 
-pub use_group : (path : List (List ℕ)) (trees : List UseTree) →
+pub use_group : (path : List Name) (trees : List UseTree) →
     use_layout (use_tree.Group path trees) ≡ path_layout path (list_layout (codes "{") (codes "}") (map use_layout trees))
 unfolding use_layout
 use_group path trees = ap use_layout (sym (use_views.rolls-Group path trees)) ∙ fold-roll-UseTree Document use_layout_by (use_open.UseTree-F.Group path trees)
 
-pub item_struct : (name : List ℕ) → item_layout (item.Struct name) ≡ item_layout_by (item_open.Item-F.Struct name)
+pub item_struct : (name : Name) → item_layout (item.Struct name) ≡ item_layout_by (item_open.Item-F.Struct name)
 unfolding item_layout
 item_struct name = ap item_layout (sym (item_views.rolls-Struct name)) ∙ fold-roll-Item Document item_layout_by (item_open.Item-F.Struct name)
 
-pub item_module : (name : List ℕ) (items : List Item) → item_layout (item.Module name items) ≡ item_layout_by (item_open.Item-F.Module name (map item_layout items))
+pub item_module : (name : Name) (items : List Item) → item_layout (item.Module name items) ≡ item_layout_by (item_open.Item-F.Module name (map item_layout items))
 unfolding item_layout
 item_module name items = ap item_layout (sym (item_views.rolls-Module name items)) ∙ fold-roll-Item Document item_layout_by (item_open.Item-F.Module name items)
 
@@ -84,14 +116,14 @@ rest_first : {A : Type 0} (xs : List A) (i : ℕ) (x : A) → i < length xs → 
 rest_first xs i x lt is = rw add-one (drop-cons xs i x lt ∙ ap (λ (y : _). y ∷ drop (suc i) xs) (sym is))
 
 -- What one turn of a loop puts and what is left are what was left before it, and at its end nothing is left.
-pub path_step : (names : List (List ℕ)) (i : ℕ) (name bytes : List ℕ) → i < length names → name ≡ get_or names i name → bytes ≡ name →
-    tok.Text bytes ∷ tok.Text (codes "::") ∷ stream (path_layout (drop (i + 1) names) Empty) ≡ stream (path_layout (drop i names) Empty)
-path_step names i name bytes lt is same =
-    ap (λ (t : List ℕ). tok.Text t ∷ tok.Text (codes "::") ∷ stream (path_layout (drop (i + 1) names) Empty)) same
-    ∙ ap (λ (ns : List (List ℕ)). stream (path_layout ns Empty)) (sym (rest_first names i name lt is))
+pub path_step : (names : List Name) (i : ℕ) (name : Name) → i < length names → name ≡ get_or names i name →
+    stream (name_layout name Empty) ++ (tok.Text (codes "::") ∷ stream (path_layout (drop (i + 1) names) Empty)) ≡ stream (path_layout (drop i names) Empty)
+path_step names i name lt is =
+    sym (stream_name name (AddText (codes "::") (path_layout (drop (i + 1) names) Empty)))
+    ∙ ap (λ (ns : List Name). stream (path_layout ns Empty)) (sym (rest_first names i name lt is))
 
-pub path_done : (names : List (List ℕ)) (i : ℕ) → length names ≤ i → [] ≡ stream (path_layout (drop i names) Empty)
-path_done names i h = ap (λ (ns : List (List ℕ)). stream (path_layout ns Empty)) (sym (drop_of_length-le names h))
+pub path_done : (names : List Name) (i : ℕ) → length names ≤ i → [] ≡ stream (path_layout (drop i names) Empty)
+path_done names i h = ap (λ (ns : List Name). stream (path_layout ns Empty)) (sym (drop_of_length-le names h))
 
 pub further_step : (trees : List UseTree) (i : ℕ) (tree : UseTree) → i < length trees → tree ≡ get_or trees i tree →
     tok.Text (codes ",") ∷ tok.Break (soft_break 1) ∷ (stream (use_layout tree) ++ stream (further (map use_layout (drop (i + 1) trees)) Empty))
@@ -131,17 +163,16 @@ stream_list opener closer d ds =
     ∙ ap (λ (s : List Tok). stream d ++ s) (append_assoc (stream (further ds Empty)) (stream close) end)))
 
 -- The stream of a use tree, from the parts that calls gave.
-pub stream_use_name : (tree : UseTree) (path path' : List (List ℕ)) (name name' : List ℕ) → tree ≡ use_tree.Name path name → path' ≡ path → name' ≡ name →
-    stream (path_layout path' Empty) ++ (tok.Text name' ∷ []) ≡ stream (use_layout tree)
-stream_use_name tree path path' name name' is same same' =
-    ap (λ (p : List (List ℕ)). stream (path_layout p Empty) ++ (tok.Text name' ∷ [])) same
-    ∙ ap (λ (n : List ℕ). stream (path_layout path Empty) ++ (tok.Text n ∷ [])) same'
-    ∙ sym (ap (λ (t : UseTree). stream (use_layout t)) is ∙ ap stream (use_name path name) ∙ stream_path path (AddText name Empty))
+pub stream_use_name : (tree : UseTree) (path path' : List Name) (name : Name) → tree ≡ use_tree.Name path name → path' ≡ path →
+    stream (path_layout path' Empty) ++ stream (name_layout name Empty) ≡ stream (use_layout tree)
+stream_use_name tree path path' name is same =
+    ap (λ (p : List Name). stream (path_layout p Empty) ++ stream (name_layout name Empty)) same
+    ∙ sym (ap (λ (t : UseTree). stream (use_layout t)) is ∙ ap stream (use_name path name) ∙ stream_path path (name_layout name Empty))
 
-pub stream_use_group : (tree : UseTree) (path path' : List (List ℕ)) (trees : List UseTree) (list : List Tok) → tree ≡ use_tree.Group path trees → path' ≡ path →
+pub stream_use_group : (tree : UseTree) (path path' : List Name) (trees : List UseTree) (list : List Tok) → tree ≡ use_tree.Group path trees → path' ≡ path →
     list ≡ stream (list_layout (codes "{") (codes "}") (map use_layout trees)) → stream (path_layout path' Empty) ++ list ≡ stream (use_layout tree)
 stream_use_group tree path path' trees list is same e =
-    ap (λ (p : List (List ℕ)). stream (path_layout p Empty) ++ list) same
+    ap (λ (p : List Name). stream (path_layout p Empty) ++ list) same
     ∙ ap (λ (s : List Tok). stream (path_layout path Empty) ++ s) e
     ∙ sym (ap (λ (t : UseTree). stream (use_layout t)) is ∙ ap stream (use_group path trees) ∙ stream_path path (list_layout (codes "{") (codes "}") (map use_layout trees)))
 
@@ -170,21 +201,26 @@ pub level_stays : {S F T : Type 0} {m : Meanings S F} {a b : S} {x : T} (d : Doc
 level_stays {m} {a} d h = level_of h ∙ opened_document d (m.groups a)
 
 -- a head of a keyword and a name
-abbrev pub head_of : List ℕ → List ℕ → List Tok
-head_of keyword name = tok.Begin false (pos 0) ∷ tok.Text keyword ∷ tok.Text name ∷ tok.End ∷ []
+abbrev pub head_of : List ℕ → Name → List Tok
+head_of keyword name = tok.Begin false (pos 0) ∷ tok.Text keyword ∷ (stream (name_layout name Empty) ++ tok.End ∷ [])
+
+-- what stands behind a head
+behind_head : (keyword : List ℕ) (name : Name) (rest : List Tok) →
+    head_of keyword name ++ rest ≡ tok.Begin false (pos 0) ∷ tok.Text keyword ∷ (stream (name_layout name Empty) ++ tok.End ∷ rest)
+behind_head keyword name rest = ap (λ (s : List Tok). tok.Begin false (pos 0) ∷ tok.Text keyword ∷ s) (append_assoc (stream (name_layout name Empty)) (tok.End ∷ []) rest)
 
 -- The stream of an item, from the parts that calls gave.
-pub stream_struct : (one : Item) (name name' : List ℕ) → one ≡ item.Struct name → name' ≡ name →
-    head_of (codes "struct ") name' ++ (tok.Text (codes ";") ∷ []) ≡ stream (item_layout one)
-stream_struct one name name' is same =
-    ap (λ (n : List ℕ). head_of (codes "struct ") n ++ (tok.Text (codes ";") ∷ [])) same
+pub stream_struct : (one : Item) (name : Name) → one ≡ item.Struct name →
+    head_of (codes "struct ") name ++ (tok.Text (codes ";") ∷ []) ≡ stream (item_layout one)
+stream_struct one name is =
+    behind_head (codes "struct ") name (tok.Text (codes ";") ∷ [])
     ∙ sym (ap (λ (x : Item). stream (item_layout x)) is ∙ ap stream (item_struct name))
 
-pub stream_module : (one : Item) (name name' : List ℕ) (items : List Item) (body : List Tok) → one ≡ item.Module name items → name' ≡ name →
-    body ≡ stream (body_layout (map item_layout items)) → head_of (codes "mod ") name' ++ body ≡ stream (item_layout one)
-stream_module one name name' items body is same e =
-    ap (λ (n : List ℕ). head_of (codes "mod ") n ++ body) same
-    ∙ ap (λ (s : List Tok). head_of (codes "mod ") name ++ s) e
+pub stream_module : (one : Item) (name : Name) (items : List Item) (body : List Tok) → one ≡ item.Module name items →
+    body ≡ stream (body_layout (map item_layout items)) → head_of (codes "mod ") name ++ body ≡ stream (item_layout one)
+stream_module one name items body is e =
+    behind_head (codes "mod ") name body
+    ∙ ap (λ (s : List Tok). tok.Begin false (pos 0) ∷ tok.Text (codes "mod ") ∷ (stream (name_layout name Empty) ++ tok.End ∷ s)) e
     ∙ sym (ap (λ (x : Item). stream (item_layout x)) is ∙ ap stream (item_module name items))
 
 pub stream_import : (one : Item) (tree : UseTree) → one ≡ item.Import tree →
