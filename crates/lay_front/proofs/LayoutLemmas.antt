@@ -12,7 +12,7 @@ use Rattle.lay_stream.specs.Listed.{list_meanings}
 use Rattle.lay_stream.proofs.Calls.{level_of}
 use Rattle.lay_token.proofs.Lines.{opened_document, stream_joined, EndsLine, text_joined}
 use Rattle.lay_front.specs.Notation.{soft_break, hard_break, never_break, closing, comma_closing, further, list_layout, part_lines, body_layout}
-use Rattle.lay_front.specs.Layout.{raw_layout, name_layout, path_layout, shebang_layout, items_layout, use_layout_by, use_layout, item_layout_by, item_layout, item_line, out}
+use Rattle.lay_front.specs.Layout.{raw_layout, name_layout, path_layout, shebang_layout, shebang_line, items_layout, use_layout_by, use_layout, item_layout_by, item_layout, item_line, out}
 use Rattle.lay_front.specs.declared.tree.File.{File}
 use Rattle.lay_front.specs.declared.tree.Name.{Name}
 use Rattle.lay_front.specs.declared.tree.Item.{Item}
@@ -35,11 +35,6 @@ items_lines [] = refl
 items_lines (one ∷ items) =
     text_joined (item_layout one) (items_layout items) hard_break hard_ends_line
     ∙ ap (λ (t : List ℕ). text_of (item_line one) ++ t) (items_lines items)
-
--- the first line of a file, if it is a shebang
-abbrev pub shebang_line : Option (List ℕ) → List ℕ
-shebang_line None = []
-shebang_line (Some line) = text_of (AddText line (AddBreak hard_break Empty))
 
 shebang_lines : (shebang : Option (List ℕ)) (rest : Document) → text_of (shebang_layout shebang rest) ≡ shebang_line shebang ++ text_of rest
 shebang_lines None rest = refl

@@ -1,5 +1,5 @@
 -- The layout of each node, as a document, and the text of a file.
-use Rattle.std.specs.Prelude.{ℕ, Bool, true, false, List, [], ◌∷◌, codes, Option, Some, None}
+use Rattle.std.specs.Prelude.{ℕ, Bool, true, false, List, [], ◌∷◌, ◌++◌, codes, Option, Some, None}
 use Rattle.lay_token.specs.Document.{Document, Empty, AddText, AddBreak, joined, text_of}
 use Rattle.lay_front.specs.Notation.{hard_break, list_layout, body_layout, head_layout}
 use Rattle.lay_front.specs.declared.tree.File.{File}
@@ -54,6 +54,11 @@ items_layout (one ∷ items) = joined (item_line one) (items_layout items)
 abbrev pub shebang_layout : Option (List ℕ) → Document → Document
 shebang_layout None rest = rest
 shebang_layout (Some line) rest = AddText line (AddBreak hard_break rest)
+
+-- that line's text
+abbrev pub shebang_line : Option (List ℕ) → List ℕ
+shebang_line None = []
+shebang_line (Some line) = line ++ codes "\n"
 
 -- the layout of a file: its shebang and its items, each on a line of its own
 abbrev pub file_layout : File → Document

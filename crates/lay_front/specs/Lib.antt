@@ -2,3 +2,5 @@ pub mod Grammar
 pub mod Reading
 pub mod Notation
 pub mod Layout
+pub mod Outcome
+pub mod Waiting

@@ -3,6 +3,8 @@ use Rattle.std.specs.Prelude.{ℕ, ◌≡◌, List, Option, None, Some, Result, 
 use Rattle.lay_token.specs.declared.token.Token.{Token}
 use Rattle.lay_token.specs.declared.refusal.Refusal.{Refusal}
 use Rattle.lay_token.specs.declared.refusal.Refusal.TheVariants.{NotUtf8, NoToken, Unbalanced, NoItem}
+use Rattle.lay_token.specs.declared.refusal.FormatError.{FormatError}
+use Rattle.lay_token.specs.declared.refusal.FormatError.TheVariants.{Refused, NoMemory}
 use Rattle.lay_token.specs.Source.{Source, source}
 use Rattle.lay_token.specs.Lexes.{Lexes, NoTokenAt}
 use Rattle.lay_front.specs.Grammar.{SpellsItems}
@@ -40,3 +42,9 @@ IsRefused bytes (NoToken at) = (from : Source) × (source bytes ≡ Ok from) × 
 IsRefused bytes (Unbalanced at) = ⊥
 IsRefused bytes (NoItem at) = (at ≡ 0) × (from : Source) × (tokens : List Token)
     × (source bytes ≡ Ok from) × Lexes from.text from.start tokens × SpellNoItems tokens
+
+-- what a reader of files answers; memory may always be wanting
+abbrev pub ReadAs : List ℕ → Result File FormatError → Type 0
+ReadAs bytes (Ok file) = ReadsOnlyTo bytes file
+ReadAs bytes (Err (Refused refusal)) = IsRefused bytes refusal
+ReadAs bytes (Err NoMemory) = Unit {0}

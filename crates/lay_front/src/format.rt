@@ -1,23 +1,23 @@
 //! From bytes to laid-out bytes in a sink.
-ghost use Rattle.std.specs.Prelude.{◌≡◌, ◌≤◌, [], ◌++◌, OnOk, OnErr, IsErrOf};
+ghost use Rattle.std.specs.Prelude.{◌≡◌, ◌≤◌, [], ◌++◌, IfOk, OnOk, OnErr, IsErrOf};
 ghost use Rattle.lay_io.specs.Faults.{HasCause, Rose};
 ghost use Rattle.lay_io.specs.Told.{GrewBy, GrewByPrefix};
 ghost use Rattle.lay_io.specs.Calls.{Puts};
-ghost use Rattle.lay_front.specs.Layout.{out as text_of_file};
+ghost use Rattle.lay_front.specs.Layout.{out as text_of_file, shebang_line};
 ghost use Rattle.lay_front.specs.Outcome.{Formats};
 ghost use Rattle.lay_front.specs.Waiting.{Passed};
 
 use crate::layout::item_text;
-use crate::reader::read_file;
-use crate::tree::Item;
+use crate::file::read_file;
+use crate::tree::File;
 use lay_io::{Failed, Sink};
-use lay_token::{NoMemory, Refusal};
+use lay_token::{FormatError, NoMemory, Refusal};
 use std::alloc::Global;
 
 /// Why a text wasn't written whole.
 #[derive(Clone, Copy, Debug, PartialEq, Eq)]
 pub enum IntoError {
-    /// The bytes have no reading. Nothing was written.
+    /// The bytes read to no file. Nothing was written.
     Refused(Refusal),
     /// A write failed. A prefix of the text was written.
     WriteFailed,
@@ -35,31 +35,36 @@ enum WriteError {
 /// How many bytes are kept before they are written, so that no system call is made for a token alone.
 const PIECE: usize = 65_536;
 
-/// Writes the text of the file that the bytes read to. `Refused` comes exactly where they read to none.
+/// Writes the text of the file that the bytes read to. Refused comes exactly where they are
+/// refused.
 pub fn format_into<K: Sink>(alloc: Global, bytes: &[u8], out: &mut K) -> Result<(), IntoError>
     ensures later { K.faults out.old ≤ K.faults out.new }
     ensures formats { Formats K.written K.faults bytes.now out.old out.new result }
 {
-    match read_file(alloc, bytes) {
-        Ok(Some(file)) => match write_items(alloc, file.as_slice(), out) {
-            Ok(()) => Ok(()),
-            Err(WriteError::WriteFailed) => Err(IntoError::WriteFailed),
-            Err(WriteError::NoMemory) => Err(IntoError::NoMemory),
-        },
-        Ok(None) => Err(IntoError::Refused(Refusal::NoItem { at: 0 })),
-        Err(NoMemory) => Err(IntoError::NoMemory),
+    let file = match read_file(alloc, bytes) {
+        Ok(file) => file,
+        Err(FormatError::Refused(refusal)) => return Err(IntoError::Refused(refusal)),
+        Err(FormatError::NoMemory) => return Err(IntoError::NoMemory),
+    };
+    match write_file(alloc, &file, out) {
+        Ok(()) => Ok(()),
+        Err(WriteError::WriteFailed) => Err(IntoError::WriteFailed),
+        Err(WriteError::NoMemory) => Err(IntoError::NoMemory),
     }
 }
 
-/// Writes the text of the items, in pieces.
-fn write_items<K: Sink>(alloc: Global, items: &[Item], out: &mut K) -> Result<(), WriteError>
+/// Writes the text of a file, in pieces.
+fn write_file<K: Sink>(alloc: Global, file: &File, out: &mut K) -> Result<(), WriteError>
     ensures later { K.faults out.old ≤ K.faults out.new }
-    ensures whole { OnOk result (GrewBy (K.written out.old) (K.written out.new) (text_of_file items.now)) }
-    ensures part { OnErr result (GrewByPrefix (K.written out.old) (K.written out.new) (text_of_file items.now)) }
+    ensures whole { OnOk result (GrewBy (K.written out.old) (K.written out.new) (text_of_file file.now)) }
+    ensures part { OnErr result (GrewByPrefix (K.written out.old) (K.written out.new) (text_of_file file.now)) }
     ensures cause { IsErrOf result WriteError.WriteFailed → Rose (K.faults out.old) (K.faults out.new) }
 {
-    let mut waiting = Vec::new(alloc);
-    for item in items {
+    let mut waiting = match first_line(alloc, file) {
+        Ok(line) => line,
+        Err(NoMemory) => return Err(WriteError::NoMemory),
+    };
+    for item in file.items.as_slice() {
         let text = match item_text(alloc, item) {
             Ok(text) => text,
             Err(NoMemory) => return Err(WriteError::NoMemory),
@@ -72,6 +77,18 @@ fn write_items<K: Sink>(alloc: Global, items: &[Item], out: &mut K) -> Result<()
         Ok(()) => Ok(()),
         Err(Failed) => Err(WriteError::WriteFailed),
     }
+}
+
+/// The first line of a file, if it is a shebang.
+fn first_line(alloc: Global, file: &File) -> Result<Vec<u8>, NoMemory>
+    ensures { IfOk result (λ line. line.items ≡ shebang_line file.now.shebang) }
+{
+    let mut line = Vec::new(alloc);
+    if let Some(shebang) = &file.shebang {
+        line.extend_from_slice(shebang.as_bytes())?;
+        line.push(b'\n')?;
+    }
+    Ok(line)
 }
 
 /// Lets bytes wait behind those that wait already, and writes them all once there are enough for a piece.

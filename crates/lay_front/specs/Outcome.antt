@@ -3,10 +3,9 @@ use Rattle.std.specs.Prelude.{ℕ, ◌≡◌, ◌<◌, ◌≤◌, ◌⊎◌, Lis
 use Rattle.lay_io.specs.Told.{TellsAs, GrewBy, GrewByPrefix}
 use Rattle.lay_io.specs.Faults.{Rose}
 use Rattle.lay_io.specs.declared.outside.Which.{Which}
-use Rattle.lay_token.specs.declared.refusal.Refusal.TheVariants.{NoItem}
-use Rattle.lay_front.specs.Reading.{HasNoReading, ReadsOnlyTo}
+use Rattle.lay_front.specs.Reading.{IsRefused, ReadsOnlyTo}
 use Rattle.lay_front.specs.Layout.{out}
-use Rattle.lay_front.specs.declared.tree.Item.{Item}
+use Rattle.lay_front.specs.declared.tree.File.{File}
 use Rattle.lay_front.specs.declared.format.IntoError.{IntoError}
 use Rattle.lay_front.specs.declared.format.IntoError.TheVariants as into
 use Rattle.lay_front.specs.declared.command.Status.{Status}
@@ -14,13 +13,13 @@ use Rattle.lay_front.specs.declared.command.Status.TheVariants.{Done, Differs, U
 
 -- The bytes read to one file, and its whole text was written.
 pub record Wrote (bytes : List ℕ) (before now : Option (List ℕ)) : Type 0 where
-  pub file : List Item
+  pub file : File
   pub reads : ReadsOnlyTo bytes file
   pub grew : GrewBy before now (out file)
 
 -- The bytes read to one file, and a prefix of its text was written.
 pub record WrotePart (bytes : List ℕ) (before now : Option (List ℕ)) : Type 0 where
-  pub file : List Item
+  pub file : File
   pub reads : ReadsOnlyTo bytes file
   pub grew : GrewByPrefix before now (out file)
 
@@ -40,7 +39,7 @@ module _ {K : Type 0} (written : K → Option (List ℕ)) (writes : K → ℕ) w
   -- A call that formats the bytes into a sink, from the sink before to the sink now.
   abbrev pub Formats : {T : Type 0} → List ℕ → K → K → Result T IntoError → Type 0
   Formats bytes before now (Ok done) = Wrote bytes (written before) (written now)
-  Formats bytes before now (Err (into.Refused refusal)) = (refusal ≡ NoItem 0) × HasNoReading bytes × (now ≡ before)
+  Formats bytes before now (Err (into.Refused refusal)) = IsRefused bytes refusal × (now ≡ before)
   Formats bytes before now (Err into.WriteFailed) = Rose (writes before) (writes now) × WrotePart bytes (written before) (written now)
   Formats bytes before now (Err into.NoMemory) = WroteNoMore before now (WrotePart bytes (written before) (written now))
 
@@ -52,6 +51,6 @@ module _ {K : Type 0} (written : K → Option (List ℕ)) (writes : K → ℕ) w
     FormatRun which i j k l Usage = ⊥
     FormatRun which i j k l ReadFailed = Rose (reads i) (reads j) × (l ≡ k)
     FormatRun which i j k l TooLong = IfSome (left i which) (λ all. 16777216 < length all) × (l ≡ k)
-    FormatRun which i j k l (Refused refusal) = (refusal ≡ NoItem 0) × WasRead (left i which) (left j which) HasNoReading × (l ≡ k)
+    FormatRun which i j k l (Refused refusal) = WasRead (left i which) (left j which) (λ bytes. IsRefused bytes refusal) × (l ≡ k)
     FormatRun which i j k l WriteFailed = Rose (writes k) (writes l) × WasRead (left i which) (left j which) (λ bytes. WrotePart bytes (written k) (written l))
     FormatRun which i j k l NoMemory = WroteNoMore k l (WasRead (left i which) (left j which) (λ bytes. WrotePart bytes (written k) (written l)))

@@ -8,6 +8,6 @@ returns-clause-complete g c = λ bytes file none no_read no_write e within r.
     bytes _ file c.format_input.ensures.run no_read no_write e within r
 
 pub returns-clause-complete_refused : goal.returns-clause-complete_refused
-returns-clause-complete_refused g c = λ bytes none no_read e within no_reading.
+returns-clause-complete_refused g c = λ bytes refusal none no_read e within refused.
     complete_refused g.K.Sink.written g.K.Sink.faults g.I.Inputs.left g.I.Inputs.faults Stdin c.args.inputs.now c.format_input.new.inputs c.args.out.now c.format_input.new.out
-    bytes _ c.format_input.ensures.run no_read e within no_reading
+    bytes _ refusal c.format_input.ensures.run no_read e within refused

@@ -4,11 +4,11 @@ ghost use Rattle.lay_io.specs.Faults.{Rose};
 ghost use Rattle.lay_io.specs.Told.{GrewBy};
 ghost use Rattle.lay_io.specs.declared.outside.Which.{Which};
 ghost use Rattle.lay_io.specs.declared.outside.Which.TheVariants.{Stdin};
-ghost use Rattle.lay_token.specs.declared.refusal.Refusal.TheVariants.{NoItem};
-ghost use Rattle.lay_front.specs.Reading.{HasNoReading, Reads};
+ghost use Rattle.lay_token.specs.declared.refusal.Refusal.{Refusal};
+ghost use Rattle.lay_front.specs.Reading.{IsRefused, Reads};
 ghost use Rattle.lay_front.specs.Layout.{out as text_of_file};
 ghost use Rattle.lay_front.specs.Outcome.{FormatRun};
-ghost use Rattle.lay_front.specs.declared.tree.Item.{Item};
+ghost use Rattle.lay_front.specs.declared.tree.File.{File};
 
 use crate::format::{IntoError, format_into};
 use lay_io::{Inputs, ReadError, Sink, Which, read_all};
@@ -26,7 +26,7 @@ pub enum Status {
     Usage,
     /// A read failed. Nothing was written.
     ReadFailed,
-    /// The input has no reading. Nothing was written.
+    /// The input reads to no file. Nothing was written.
     Refused(Refusal),
     /// A write failed. A prefix of the text was written.
     WriteFailed,
@@ -59,14 +59,14 @@ pub fn run<I: Inputs, K: Sink, E: Sink>(
     ensures format { words.now ≡ [] → FormatRun K.written K.faults I.left I.faults Stdin inputs.old inputs.new out.old out.new result }
 
     // With no fault the answer is the one that the input's bytes have.
-    ensures complete { (bytes : Items ℕ) (file : Items Item) → words.now ≡ []
+    ensures complete { (bytes : Items ℕ) (file : File) → words.now ≡ []
         → ¬ (Rose (I.faults inputs.old) (I.faults inputs.new)) → ¬ (Rose (K.faults out.old) (K.faults out.new))
         → I.left inputs.old Stdin ≡ Some bytes → length bytes ≤ 16777216 → Reads bytes file
         → ((result ≡ Status.Done) × GrewBy (K.written out.old) (K.written out.new) (text_of_file file)) ⊎ (result ≡ Status.NoMemory) }
-    ensures complete_refused { (bytes : Items ℕ) → words.now ≡ []
+    ensures complete_refused { (bytes : Items ℕ) (refusal : Refusal) → words.now ≡ []
         → ¬ (Rose (I.faults inputs.old) (I.faults inputs.new))
-        → I.left inputs.old Stdin ≡ Some bytes → length bytes ≤ 16777216 → HasNoReading bytes
-        → (result ≡ Status.Refused (NoItem 0)) ⊎ (result ≡ Status.NoMemory) }
+        → I.left inputs.old Stdin ≡ Some bytes → length bytes ≤ 16777216 → IsRefused bytes refusal
+        → (result ≡ Status.Refused refusal) ⊎ (result ≡ Status.NoMemory) }
     ensures complete_too_long { (bytes : Items ℕ) → words.now ≡ []
         → ¬ (Rose (I.faults inputs.old) (I.faults inputs.new))
         → I.left inputs.old Stdin ≡ Some bytes → 16777216 < length bytes
