@@ -143,9 +143,9 @@ shebang : source_of (codes "#!/bin/sh\r\nx") ≡ record {
 unfolding encode
 shebang = refl
 
-no_shebang : (source_of (codes "#! [a]\nx")).start ≡ 0
+no_shebang : ((source_of (codes "#! [a]\nx")).start ≡ 0) × ((source_of (codes "#!\t\nx")).start ≡ 0) × ((source_of (codes "#!//x")).start ≡ 0)
 unfolding encode
-no_shebang = refl
+no_shebang = (refl, refl, refl)
 
 last_shebang : (source_of (codes "#!x")).start ≡ 3
 unfolding encode

@@ -285,6 +285,7 @@ fn at_an_index(rt: HostRuntime) {
         (Kind::Int, 1, "1."),
         (Kind::Int, 1, "1..2"),
         (Kind::Int, 2, "00.a"),
+        (Kind::Int, 2, "0a"),
         (Kind::Int, 3, "0u8"),
         (Kind::Int, 3, "0x1"),
         (Kind::Int, 3, "1_0"),
@@ -431,6 +432,9 @@ fn no_piece(rt: HostRuntime) {
             "c\"a\\",
             "c\"\r\"",
             "cr\"\0\"",
+            "b'\r'",
+            "br\"\r\"",
+            "cr\"\r\"",
         ],
         // Numbers.
         &[
