@@ -7,7 +7,7 @@ ghost use Rattle.lay_token.specs.Gap.{is_gap};
 ghost use Rattle.lay_token.specs.Lexes.{BeginsNoGap, BeginsNoPiece};
 ghost use Rattle.lay_token.specs.declared.token.Kind.{Kind};
 
-mod chars;
+pub mod chars;
 mod comments;
 mod numbers;
 mod quoted;

@@ -1,0 +1,117 @@
+-- What the scanner of gaps finds.
+use Rattle.std.proofs.Common.{◌≡◌, ◌⊎◌, inl, inr, ℕ, List, [], ◌∷◌, ◌++◌, Bool, true, false, cond, Some, None, sym, refl, ap, ◌∙◌, subst}
+use Rattle.std.specs.Prelude.{IsTrue, IsFalse}
+use Rattle.std.proofs.lemmas.Bool.{cases_Bool}
+use Rattle.lay_token.specs.Gap.{InGap, Outside, Spoilt, gap_step, gap_end, is_closed, is_closed_or_line, is_gap, is_last_gap}
+use Rattle.lay_token.specs.Lexes.{BeginsNoGap}
+use Rattle.lay_token.proofs.GapLaws.{closed_is_outside}
+use Rattle.lay_lex.specs.Gap.{rest_of}
+
+pub rest_of-spoilt : (closed cs : List ℕ) → rest_of Spoilt closed cs ≡ Some closed
+unfolding gap_step
+rest_of-spoilt closed [] = refl
+rest_of-spoilt closed (c ∷ cs) = rest_of-spoilt closed cs
+
+-- a character of the gap
+pub rest_of-step : (s t : InGap) (closed text cs : List ℕ) (c : ℕ) (b : Bool) → text ≡ c ∷ cs → t ≡ gap_step s c → is_closed t ≡ b
+    → rest_of t (cond b cs closed) cs ≡ rest_of s closed text
+rest_of-step s t closed text cs c b w e h = sym (
+    ap (rest_of s closed) w
+    ∙ ap (λ u. rest_of u (cond (is_closed u) cs closed) cs) (sym e)
+    ∙ ap (λ v. rest_of t (cond v cs closed) cs) h)
+
+-- no front of the text closes the gap, and the text may not end in it
+pub record Held (s : InGap) (cs : List ℕ) : Type 0 where
+  pub none : (gap rest : List ℕ) → cs ≡ gap ++ rest → IsTrue (is_closed (gap_end s gap)) → gap ≡ []
+  pub unended : IsFalse (is_closed_or_line (gap_end s cs))
+
+-- a front of the text closes the gap, and no longer one does
+pub record Passed (s : InGap) (cs r : List ℕ) : Type 0 where
+  pub gap : List ℕ
+  pub whole : cs ≡ gap ++ r
+  pub ended : gap_end s gap ≡ Outside
+  pub held : Held Outside r
+
+held_nil : (s : InGap) → is_closed_or_line s ≡ false → Held s []
+held_nil s h = record {
+  none = λ gap rest e g. empty gap rest e;
+  unended = h;
+}
+  where
+    empty : (gap rest : List ℕ) → [] ≡ gap ++ rest → gap ≡ []
+    empty [] rest e = refl
+    empty (c ∷ gap) rest e = cc
+
+held_cons : (s : InGap) (c : ℕ) (cs : List ℕ) → is_closed (gap_step s c) ≡ false → Held (gap_step s c) cs → Held s (c ∷ cs)
+held_cons s c cs h g = record { none = none; unended = g.unended }
+  where
+    none : (gap rest : List ℕ) → c ∷ cs ≡ gap ++ rest → IsTrue (is_closed (gap_end s gap)) → gap ≡ []
+    none [] rest e k = refl
+    none (d ∷ gap) rest e k =
+        let head : d ≡ c = cc in
+        let tail : cs ≡ gap ++ rest = cc in
+        let P : ℕ → Type 0 = λ x. IsTrue (is_closed (gap_end (gap_step s x) gap)) in
+        let nil = g.none gap rest tail (subst P head k) in
+        let Q : List ℕ → Type 0 = λ x. IsTrue (is_closed (gap_end (gap_step s c) x)) in
+        let closed : is_closed (gap_step s c) ≡ true = subst Q nil (subst P head k) in
+        cc
+
+longer : (s : InGap) (c : ℕ) (cs r : List ℕ) → Passed (gap_step s c) cs r → Passed s (c ∷ cs) r
+longer s c cs r p = record { gap = c ∷ p.gap; whole = ap (λ l. c ∷ l) p.whole; ended = p.ended; held = p.held }
+
+abbrev Finds : InGap → List ℕ → List ℕ → List ℕ → Type 0
+Finds s closed cs r = ((closed ≡ r) × Held s cs) ⊎ Passed s cs r
+
+finds : (s : InGap) (closed cs r : List ℕ) → rest_of s closed cs ≡ Some r → Finds s closed cs r
+finds s closed [] r h = elim (cases_Bool (is_closed_or_line s)) [
+  | inl e ↦ absurd (let f : None ≡ Some r = sym (ap (λ b. cond b None (Some closed)) e) ∙ h in cc)
+  | inr e ↦ (let f : Some closed ≡ Some r = sym (ap (λ b. cond b None (Some closed)) e) ∙ h in inl (cc, held_nil s e))
+]
+finds s closed (c ∷ cs) r h = elim (cases_Bool (is_closed (gap_step s c))) [
+  | inl e ↦
+      let out : gap_step s c ≡ Outside = closed_is_outside (gap_step s c) e in
+      let next : rest_of (gap_step s c) cs cs ≡ Some r = sym (ap (λ b. rest_of (gap_step s c) (cond b cs closed) cs) e) ∙ h in
+      at_close out (finds (gap_step s c) cs cs r next)
+  | inr e ↦
+      let next : rest_of (gap_step s c) closed cs ≡ Some r = sym (ap (λ b. rest_of (gap_step s c) (cond b cs closed) cs) e) ∙ h in
+      further e (finds (gap_step s c) closed cs r next)
+]
+  where
+    at_close : gap_step s c ≡ Outside → Finds (gap_step s c) cs cs r → Finds s closed (c ∷ cs) r
+    at_close out (inl p) =
+        let P : InGap → Type 0 = λ t. Held t cs in
+        let Q : List ℕ → Type 0 = λ l. Held Outside l in
+        inr (record { gap = c ∷ []; whole = ap (λ l. c ∷ l) p.0; ended = out; held = subst Q p.0 (subst P out p.1) })
+    at_close out (inr p) = inr (longer s c cs r p)
+
+    further : is_closed (gap_step s c) ≡ false → Finds (gap_step s c) closed cs r → Finds s closed (c ∷ cs) r
+    further e (inl p) = inl (p.0, held_cons s c cs e p.1)
+    further e (inr p) = inr (longer s c cs r p)
+
+none_left : (s : InGap) (closed cs : List ℕ) → rest_of s closed cs ≡ None → is_closed_or_line (gap_end s cs) ≡ true
+none_left s closed [] h = elim (cases_Bool (is_closed_or_line s)) [
+  | inl e ↦ e
+  | inr e ↦ absurd (let f : Some closed ≡ None = sym (ap (λ b. cond b None (Some closed)) e) ∙ h in cc)
+]
+none_left s closed (c ∷ cs) h = none_left (gap_step s c) (cond (is_closed (gap_step s c)) cs closed) cs h
+
+-- where nothing is left, the gap ends the whole text
+pub last_gap : (text : List ℕ) → rest_of Outside text text ≡ None → IsTrue (is_last_gap text)
+last_gap text h = none_left Outside text text h
+
+-- the longest gap at the front
+pub record Longest (text rest : List ℕ) : Type 0 where
+  pub gap : List ℕ
+  pub whole : text ≡ gap ++ rest
+  pub closed : IsTrue (is_gap gap)
+  pub no_more : BeginsNoGap rest
+
+no_gap : (r : List ℕ) → Held Outside r → BeginsNoGap r
+no_gap r h = record { none = h.none; unended = h.unended }
+
+pub longest : (text rest : List ℕ) → rest_of Outside text text ≡ Some rest → Longest text rest
+longest text rest h = from (finds Outside text text rest h)
+  where
+    from : Finds Outside text text rest → Longest text rest
+    from (inl p) = record { gap = []; whole = p.0; closed = refl; no_more = no_gap rest (let P : List ℕ → Type 0 = λ l. Held Outside l in subst P p.0 p.1) }
+    from (inr p) = record { gap = p.gap; whole = p.whole; closed = ap is_closed p.ended; no_more = no_gap rest p.held }

@@ -1,0 +1,33 @@
+-- What follows a gap, as the scanner finds it.
+use Rattle.std.specs.Prelude.{ℕ, cond, List, [], ◌∷◌, Option, Some, None}
+use Rattle.lay_token.specs.Quoted as block
+use Rattle.lay_token.specs.Gap.{InGap, Outside, Opening, Two, Three, Line, Block, BlockStar, Within, Spoilt, gap_step, is_closed, is_closed_or_line}
+use Rattle.lay_lex.specs.declared.gap.State.{State}
+use Rattle.lay_lex.specs.declared.gap.State.TheVariants as state
+
+-- the state of the definition
+abbrev pub in_gap : State → InGap
+in_gap state.Outside = Outside
+in_gap state.Opening = Opening
+in_gap state.Two = Two
+in_gap state.Three = Three
+in_gap state.Line = Line
+in_gap state.Block = Block
+in_gap state.BlockStar = BlockStar
+in_gap (state.Deep n) = Within (block.Deep n)
+in_gap (state.Star n) = Within (block.Star n)
+in_gap (state.Slash n) = Within (block.Slash n)
+in_gap state.Spoilt = Spoilt
+
+-- how many comments are open around the innermost
+abbrev pub depth : State → ℕ
+depth (state.Deep n) = n
+depth (state.Star n) = n
+depth (state.Slash n) = n
+depth _ = 0
+
+-- What follows the last place where the gap is closed, of which `closed` is the rest so far; nothing where the
+-- text may end within the gap.
+abbrev pub rest_of : InGap → List ℕ → List ℕ → Option (List ℕ)
+rest_of s closed [] = cond (is_closed_or_line s) None (Some closed)
+rest_of s closed (c ∷ cs) = let t = gap_step s c in rest_of t (cond (is_closed t) cs closed) cs

@@ -1,0 +1,5 @@
+pub mod Ends
+pub mod Gap
+pub mod Lexer
+pub mod Source
+pub mod Tokens

@@ -1,0 +1,17 @@
+//! From bytes to tokens.
+//!
+//! [`normalise`] gives what is lexed of an input: without a byte order mark, with each CR LF as one LF, and
+//! without a shebang line. [`lex`] gives its tokens. Both are proved equal to the definitions that
+//! `lay_token` states, in both directions.
+#![tactic(auto)]
+
+mod ends;
+mod gap;
+mod lexer;
+mod source;
+#[cfg(test)]
+mod tests;
+mod tokens;
+
+pub use lexer::lex;
+pub use source::{Source, normalise};

@@ -1,0 +1,189 @@
+//! The tokens of pieces.
+ghost use Rattle.std.specs.Prelude.{◌≡◌, ◌&&◌, IfOk, OnOk, encode_utf8_all};
+ghost use Rattle.std.specs.Str.{chars};
+ghost use Rattle.lay_token.specs.Lexes.{doc_text, is_index_place, is_separator, text_of_piece};
+ghost use Rattle.lay_lex.specs.Tokens.{Adds, IsBegun, before, behind, is_mark, is_point_token, joined, so_far, token_of, within};
+
+use crate::ends::{before_last, behind_first, has_line_feed, without_end};
+use lay_token::{Kind, List, NoMemory, Text, Token};
+use std::alloc::Global;
+
+/// What stands before a place.
+#[derive(Clone, Copy, Debug, PartialEq, Eq)]
+enum Before {
+    /// Anything but a point, or nothing.
+    Other,
+    /// A point.
+    Point,
+    /// A point behind a joint point.
+    Points,
+}
+
+impl Before {
+    /// What stands behind a token; `touches` says that no gap stands before it.
+    fn behind(self, token: &Token, touches: bool) -> Before
+        ensures { before result ≡ behind (before self) touches token.now }
+    {
+        if !is_point(token) {
+            Before::Other
+        } else if touches && self != Before::Other {
+            Before::Points
+        } else {
+            Before::Point
+        }
+    }
+}
+
+fn is_point(token: &Token) -> bool
+    ensures { result ≡ is_point_token token.now }
+{
+    match token.kind {
+        Kind::Punct => token.text.as_bytes() == b".".as_slice(),
+        _ => false,
+    }
+}
+
+/// Whether the token may be joint, or stand behind one that is.
+fn is_mark(token: &Token) -> bool
+    ensures { result ≡ is_mark token.now }
+{
+    match token.kind {
+        Kind::Punct => !is_separator(token.text.as_bytes()),
+        _ => false,
+    }
+}
+
+fn is_separator(bytes: &[u8]) -> bool
+    ensures { result ≡ is_separator bytes.now }
+{
+    bytes == b",".as_slice() || bytes == b";".as_slice()
+}
+
+/// The token of a piece, which is not joint.
+fn token_of(alloc: Global, kind: Kind, piece: &str, at: usize) -> Result<Token, NoMemory>
+    ensures { IfOk result (λ token. token ≡ token_of at kind (chars piece.now)) }
+{
+    let text = Text::from_bytes(alloc, text_of_piece(kind, piece))?;
+    Ok(Token {
+        kind,
+        text,
+        joint: false,
+        at,
+        len: piece.len(),
+    })
+}
+
+/// The text of a token of this piece.
+fn text_of_piece(kind: Kind, piece: &str) -> &[u8]
+    ensures { result.now ≡ encode_utf8_all (text_of_piece kind (chars piece.now)) }
+{
+    match kind {
+        Kind::RawIdent => behind_first(behind_first(piece)).as_bytes(),
+        Kind::Doc { block, .. } => doc_text(block, piece),
+        _ => piece.as_bytes(),
+    }
+}
+
+/// What documentation says.
+fn doc_text(block: bool, piece: &str) -> &[u8]
+    ensures { result.now ≡ encode_utf8_all (doc_text block (chars piece.now)) }
+{
+    let text = within(block, piece);
+    if has_line_feed(text) {
+        text.as_bytes()
+    } else {
+        without_end(b' ', text)
+    }
+}
+
+/// What stands within the marks of documentation.
+fn within(block: bool, piece: &str) -> &str
+    ensures { chars result.now ≡ within block (chars piece.now) }
+{
+    let behind = behind_first(behind_first(behind_first(piece)));
+    if block {
+        before_last(before_last(behind))
+    } else {
+        behind
+    }
+}
+
+/// The token before the next, by which it is joint or not.
+fn joined(last: Token, next: &Token, touches: bool) -> Token
+    ensures { result ≡ joined touches next.now last }
+{
+    let joint = is_joint(&last, next, touches);
+    Token { joint, ..last }
+}
+
+fn is_joint(last: &Token, next: &Token, touches: bool) -> bool
+    ensures { result ≡ (touches && is_mark next.now && is_mark last.now) }
+{
+    touches && is_mark(next) && is_mark(last)
+}
+
+/// The tokens read so far. The last waits for the next, by which it is joint or not.
+#[derive(Debug, Drop)]
+pub struct Tokens {
+    done: Vec<Token>,
+    last: Option<Token>,
+    before: Before,
+}
+
+impl Tokens {
+    pub fn new(alloc: Global) -> Tokens
+        ensures { IsBegun result }
+    {
+        Tokens {
+            done: Vec::new(alloc),
+            last: None,
+            before: Before::Other,
+        }
+    }
+
+    /// Whether a number behind the tokens may be an index.
+    pub fn is_index_place(&self) -> bool
+        ensures { result ≡ is_index_place (before self.now.before) }
+    {
+        self.before == Before::Point
+    }
+
+    /// Adds the token of a piece; `touches` says that no gap stands before it.
+    pub fn add(
+        &mut self,
+        alloc: Global,
+        kind: Kind,
+        piece: &str,
+        at: usize,
+        touches: bool,
+    ) -> Result<(), NoMemory>
+        ensures { OnOk result (Adds touches (token_of at kind (chars piece.now)) self.old self.new) }
+    {
+        let token = token_of(alloc, kind, piece, at)?;
+        self.push(token, touches)
+    }
+
+    /// Adds a token that is not joint.
+    fn push(&mut self, token: Token, touches: bool) -> Result<(), NoMemory>
+        ensures { OnOk result (Adds touches token self.old self.new) }
+    {
+        let before = self.before.behind(&token, touches);
+        if let Some(last) = self.last.take() {
+            self.done.push(joined(last, &token, touches))?;
+        }
+        self.last = Some(token);
+        self.before = before;
+        Ok(())
+    }
+
+    /// All the tokens.
+    pub fn finish(self) -> Result<List<Token>, NoMemory>
+        ensures { IfOk result (λ tokens. tokens ≡ so_far self) }
+    {
+        let Tokens { mut done, last, .. } = self;
+        if let Some(last) = last {
+            done.push(last)?;
+        }
+        Ok(List::from_vec(done))
+    }
+}
