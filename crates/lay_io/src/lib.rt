@@ -2,11 +2,13 @@
 //!
 //! [`Inputs`] and [`Sink`] are all that the other crates know of it. Each object counts its faults, and
 //! tells its content where it can: the objects in memory do, and [`HostInputs`] and [`HostSink`], which reach
-//! the system's streams, tell nothing. [`read_all`] reads an input to its end. The crate stands on lay_token.
+//! the system's streams, tell nothing. [`Lent`] is a sink that was handed in by reference. [`read_all`] reads
+//! an input to its end. The crate stands on lay_token.
 #![tactic(auto)]
 
 pub mod host;
 pub mod inputs;
+pub mod lent;
 pub mod outside;
 pub mod read;
 mod room;
@@ -15,6 +17,7 @@ mod stored;
 
 pub use host::{HostInputs, HostSink};
 pub use inputs::{MemoryInputs, QuietInputs};
+pub use lent::Lent;
 pub use outside::{Failed, Inputs, Sink, Which};
 pub use read::{ReadError, read_all};
 pub use sinks::{MemorySink, QuietSink};

@@ -1,5 +1,5 @@
 -- Characters and bytes at the ends of texts.
-use Rattle.std.proofs.Common.{◌≡◌, ◌⊎◌, inl, inr, ℕ, zero, suc, ◌+◌, ◌-◌, ◌<◌, ◌≤◌, List, [], ◌∷◌, ◌++◌, Bool, true, false, ◌||◌, sym, refl, ap, ◌∙◌, subst, arith, length, take, drop, get_or, IsUtf8, length-append}
+use Rattle.std.proofs.Common.{◌≡◌, inl, inr, ℕ, zero, suc, ◌-◌, ◌≤◌, List, [], ◌∷◌, ◌++◌, Bool, true, false, ◌||◌, sym, refl, ap, ◌∙◌, subst, arith, length, take, drop, IsUtf8, length-append}
 use Rattle.std.specs.Prelude.{◌==◌}
 use Rattle.std.specs.List.{list_any}
 use Rattle.std.specs.Str.{chars, encode_utf8_all, IsCharBoundary}
@@ -68,7 +68,7 @@ pub any-chars : (s : List ℕ) → IsUtf8 s → list_any (λ d. d == 10) s ≡ l
 any-chars s u = ap (list_any (λ d. d == 10)) (sym (encodes-chars s u)) ∙ any-encodes (chars s)
 
 -- a text cut where some of its characters end
-scalars_parts : (x y : List ℕ) → scalars (x ++ y) ≡ true → (scalars x ≡ true) × (scalars y ≡ true)
+pub scalars_parts : (x y : List ℕ) → scalars (x ++ y) ≡ true → (scalars x ≡ true) × (scalars y ≡ true)
 scalars_parts [] y h = (refl, h)
 scalars_parts (c ∷ x) y h =
     let p = and_parts (scalar c) (scalars (x ++ y)) h in
@@ -99,6 +99,7 @@ cut_border s piece more n u e h =
 pub cut_parts : (s piece more x y : List ℕ) (n : ℕ) → IsUtf8 s → chars s ≡ piece ++ more → n ≡ size piece → x ≡ take n s → y ≡ drop n s
     → (chars x ≡ piece) × (chars y ≡ more)
 cut_parts s piece more x y n u e h f g =
-    let c = cut_at s piece more u e in
-    (ap chars (f ∙ ap (λ k. take k s) h ∙ ap (take (size piece)) c.bytes ∙ take-append_seam (encode_utf8_all piece) (encode_utf8_all more)) ∙ c.front,
-        ap chars (g ∙ ap (λ k. drop k s) h ∙ ap (drop (size piece)) c.bytes ∙ drop-append_seam (encode_utf8_all piece) (encode_utf8_all more)) ∙ c.back)
+    let c = cut_at s piece more u e in (
+      ap chars (f ∙ ap (λ k. take k s) h ∙ ap (take (size piece)) c.bytes ∙ take-append_seam (encode_utf8_all piece) (encode_utf8_all more)) ∙ c.front,
+      ap chars (g ∙ ap (λ k. drop k s) h ∙ ap (drop (size piece)) c.bytes ∙ drop-append_seam (encode_utf8_all piece) (encode_utf8_all more)) ∙ c.back,
+    )

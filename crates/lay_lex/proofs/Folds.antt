@@ -1,8 +1,8 @@
 -- Folding line ends in the bytes of a text folds them in its characters.
-use Rattle.std.proofs.Common.{◌≡◌, ◌⊎◌, inl, inr, ℕ, zero, suc, ◌+◌, ◌<◌, ◌≤◌, List, [], ◌∷◌, ◌++◌, Bool, true, false, cond, ◌&&◌, sym, refl, ap, ◌∙◌, subst, arith, length, get_or, append-nil, IsUtf8}
+use Rattle.std.proofs.Common.{◌≡◌, inl, inr, ℕ, suc, ◌<◌, ◌≤◌, List, [], ◌∷◌, ◌++◌, Bool, true, false, cond, ◌&&◌, sym, refl, ap, ◌∙◌, arith, length, get_or, append-nil, IsUtf8}
 use Rattle.std.specs.Prelude.{◌==◌}
 use Rattle.std.specs.Str.{chars, encode_utf8_all}
-use Rattle.std.proofs.lemmas.Bool.{cases_Bool, cases_lt, ne_eqb, and_parts, and_from}
+use Rattle.std.proofs.lemmas.Bool.{cases_lt, ne_eqb, and_parts, and_from}
 use Rattle.std.proofs.lemmas.Str.{encode_ascii, length-encode, len_utf8_bounds, inside_one, encodes-chars, scalars-chars, chars-encodes}
 use lib.Utf8.{encode, scalar, scalars}
 use Rattle.lay_token.specs.Chars.{begins}

@@ -1,25 +1,11 @@
 -- What the scanner of gaps finds.
-use Rattle.std.proofs.Common.{◌≡◌, ◌⊎◌, inl, inr, ℕ, List, [], ◌∷◌, ◌++◌, Bool, true, false, cond, Option, Some, None, sym, refl, ap, ◌∙◌, subst}
+use Rattle.std.proofs.Common.{◌≡◌, ◌⊎◌, inl, inr, ℕ, List, [], ◌∷◌, ◌++◌, Bool, true, false, cond, Some, None, sym, refl, ap, ◌∙◌, subst}
 use Rattle.std.specs.Prelude.{IsTrue, IsFalse}
 use Rattle.std.proofs.lemmas.Bool.{cases_Bool}
-use Rattle.lay_token.specs.Gap.{InGap, Outside, Opening, Two, Three, Line, Block, BlockStar, Within, Spoilt, gap_step, gap_end, is_closed, is_closed_or_line, is_gap, is_last_gap}
+use Rattle.lay_token.specs.Gap.{InGap, Outside, Spoilt, gap_step, gap_end, is_closed, is_closed_or_line, is_gap, is_last_gap}
 use Rattle.lay_token.specs.Lexes.{BeginsNoGap}
+use Rattle.lay_token.proofs.GapLaws.{closed_is_outside}
 use Rattle.lay_lex.specs.Gap.{rest_of}
-
-pub closed_is_outside : (s : InGap) → is_closed s ≡ true → s ≡ Outside
-closed_is_outside Outside h = refl
-closed_is_outside Opening h = cc
-closed_is_outside Two h = cc
-closed_is_outside Three h = cc
-closed_is_outside Line h = cc
-closed_is_outside Block h = cc
-closed_is_outside BlockStar h = cc
-closed_is_outside (Within b) h = cc
-closed_is_outside Spoilt h = cc
-
-pub gap_end-append : (s : InGap) (x y : List ℕ) → gap_end s (x ++ y) ≡ gap_end (gap_end s x) y
-gap_end-append s [] y = refl
-gap_end-append s (c ∷ x) y = gap_end-append (gap_step s c) x y
 
 pub rest_of-spoilt : (closed cs : List ℕ) → rest_of Spoilt closed cs ≡ Some closed
 unfolding gap_step
@@ -97,6 +83,7 @@ finds s closed (c ∷ cs) r h = elim (cases_Bool (is_closed (gap_step s c))) [
         let Q : List ℕ → Type 0 = λ l. Held Outside l in
         inr (record { gap = c ∷ []; whole = ap (λ l. c ∷ l) p.0; ended = out; held = subst Q p.0 (subst P out p.1) })
     at_close out (inr p) = inr (longer s c cs r p)
+
     further : is_closed (gap_step s c) ≡ false → Finds (gap_step s c) closed cs r → Finds s closed (c ∷ cs) r
     further e (inl p) = inl (p.0, held_cons s c cs e p.1)
     further e (inr p) = inr (longer s c cs r p)

@@ -1,5 +1,5 @@
 -- What a token's text tells of its piece: whether it is a point, and whether it may be joint.
-use Rattle.std.proofs.Common.{◌≡◌, ◌⊎◌, inl, inr, ℕ, ◌+◌, ◌<◌, List, [], ◌∷◌, ◌++◌, Bool, true, false, cond, not, ◌&&◌, ◌||◌, sym, refl, ap, ◌∙◌, subst, arith, append_assoc}
+use Rattle.std.proofs.Common.{◌≡◌, ℕ, ◌<◌, List, [], ◌∷◌, Bool, true, false, cond, not, ◌&&◌, ◌||◌, sym, refl, ap, ◌∙◌, arith}
 use Rattle.std.specs.Prelude.{codes}
 use Rattle.std.specs.Str.{bytes_eq, encode_utf8_all}
 use Rattle.std.proofs.lemmas.Bool.Decides.{same_from_decides, Decides-like}
@@ -10,7 +10,7 @@ use Rattle.lay_token.specs.Chars.{is_nil}
 use Rattle.lay_token.specs.Lexes.{Part, Before, Other, Point, Points, is_punct, is_point, is_separator, is_joint, step, text_of_piece}
 use Rattle.lay_token.specs.declared.token.Kind.{Kind}
 use Rattle.lay_token.specs.declared.token.Kind.TheVariants.{Punct}
-use Rattle.lay_lex.specs.Tokens.{behind, is_mark, is_point_token, token_of}
+use Rattle.lay_lex.specs.Tokens.{behind, is_mark, token_of}
 
 one_byte : (d : ℕ) → d < 128 → encode_utf8_all (d ∷ []) ≡ d ∷ []
 one_byte d h = append-nil _ ∙ encode_ascii d h

@@ -1,19 +1,18 @@
 -- One turn of the lexer.
-use Rattle.std.proofs.Common.{◌≡◌, ◌⊎◌, inl, inr, ℕ, ◌+◌, ◌-◌, ◌<◌, ◌≤◌, List, [], ◌∷◌, ◌++◌, Bool, true, false, cond, not, ◌&&◌, Option, Some, None, Ok, Err, sym, refl, ap, ◌∙◌, subst, arith, length, drop, IsUtf8, append_assoc, length-append, length-drop}
-use Rattle.std.specs.Prelude.{IsTrue, ◌==◌, Result, option_to_list}
-use Rattle.std.specs.Str.{chars, encode_utf8_all}
-use Rattle.std.proofs.lemmas.Bool.{cases_eq, eq-eqb, ne_eqb}
-use Rattle.std.proofs.lemmas.List.{append-nil}
-use Rattle.std.proofs.lemmas.Str.{encodes-append, length-le-encodes}
+use Rattle.std.proofs.Common.{◌≡◌, ℕ, ◌+◌, ◌≤◌, List, [], ◌∷◌, ◌++◌, Bool, true, false, Option, Some, None, sym, refl, ap, ◌∙◌, subst, arith, length, drop, IsUtf8, append_assoc, length-drop}
+use Rattle.std.specs.Prelude.{IsTrue, ◌==◌, option_to_list}
+use Rattle.std.specs.Str.{chars}
+use Rattle.std.proofs.lemmas.Bool.{eq-eqb, ne_eqb}
+use Rattle.std.proofs.lemmas.Str.{length-le-encodes}
 use Rattle.lay_token.specs.Chars.{is_nil}
 use Rattle.lay_token.specs.Forms.{Had, had, has_form, after_literal}
 use Rattle.lay_token.specs.Gap.{is_gap, is_last_gap}
-use Rattle.lay_token.specs.Lexes.{Part, spell, Before, Other, is_index_place, step, steps, Fit, Reads, size, tokens_from, is_joint, Lexes, NoTokenAt, Stops, BeginsNoPiece}
+use Rattle.lay_token.specs.Lexes.{Part, spell, Before, Other, is_index_place, step, steps, Fit, size, tokens_from, is_joint, Lexes, NoTokenAt, BeginsNoPiece}
 use Rattle.lay_token.specs.declared.token.Kind.{Kind}
 use Rattle.lay_token.specs.declared.token.Kind.TheVariants.{Ident, RawIdent, Underscore, Lifetime, Char, Str, RawStr, Byte, ByteStr, RawByteStr, CStr, RawCStr, Int, Float, Punct, Opener, Closer, Doc}
 use Rattle.lay_token.specs.declared.token.Token.{Token}
 use Rattle.lay_token.proofs.Texts.{length_parts}
-use Rattle.lay_lex.specs.Tokens.{Adds, added, before as seen, behind, is_mark, joined, released, so_far, token_of}
+use Rattle.lay_lex.specs.Tokens.{Adds, added, before as seen, behind, joined, released, so_far, token_of}
 use Rattle.lay_lex.specs.declared.tokens.Tokens.{Tokens}
 use Rattle.lay_lex.proofs.Gaps.{Longest}
 use Rattle.lay_lex.proofs.Lines.{size-append}
@@ -99,14 +98,19 @@ ended start bytes ahead tokens before s l = (s.parts, ahead, record { whole = s.
 pub stopped : (start at : ℕ) (bytes ahead rest : List ℕ) (tokens : List Token) (before : Before) (s : SoFar start (chars (drop start bytes)) ahead tokens before)
     (l : Longest ahead rest) → at ≡ start + size (spell s.parts l.gap) → BeginsNoPiece rest (is_index_place before) → NoTokenAt bytes start at
 stopped start at bytes ahead rest tokens before s l place none =
-    let P : Before → Type 0 = λ b. BeginsNoPiece rest (is_index_place b) in
-    (s.parts, l.gap, rest, record {
-      whole = s.whole ∙ ap (spell s.parts) l.whole;
-      fit = subst (Fit Other s.parts) l.whole s.fit;
-      closed = l.closed;
-      no_gap = l.no_more;
-      no_piece = subst P s.before_is none;
-    }, place)
+    let P : Before → Type 0 = λ b. BeginsNoPiece rest (is_index_place b) in (
+      s.parts,
+      l.gap,
+      rest,
+      record {
+        whole = s.whole ∙ ap (spell s.parts) l.whole;
+        fit = subst (Fit Other s.parts) l.whole s.fit;
+        closed = l.closed;
+        no_gap = l.no_more;
+        no_piece = subst P s.before_is none;
+      },
+      place,
+    )
 
 -- where a rest begins, in bytes
 pub place_of : (start : ℕ) (bytes ahead rest : List ℕ) (tokens : List Token) (before : Before) (s : SoFar start (chars (drop start bytes)) (chars ahead) tokens before)
@@ -193,5 +197,5 @@ pub code_turn : (start at : ℕ) (text ahead rest piece more front back : List �
 code_turn start at text ahead rest piece more front back old new k touches s l place cut had f g t a w =
     moved start text more back _ (so_far new) _ (seen new.before) (turn start at text ahead rest piece more (so_far old) (seen old.before) k s l place cut had) g
     (so_far-adds touches (token_of at k front) old new a w ∙ ap (λ v. added v (token_of at k front) (so_far old)) t
-        ∙ ap (λ v. added (is_nil l.gap) (token_of at k v) (so_far old)) f)
+    ∙ ap (λ v. added (is_nil l.gap) (token_of at k v) (so_far old)) f)
     (a.before ∙ ap (λ v. behind (seen old.before) v (token_of at k front)) t ∙ ap (λ v. behind (seen old.before) (is_nil l.gap) (token_of at k v)) f)

@@ -1,5 +1,5 @@
 -- Texts without what stands at their ends.
-use Rattle.std.proofs.Common.{◌≡◌, ◌⊎◌, inl, inr, ℕ, ◌+◌, ◌<◌, ◌≤◌, List, [], ◌∷◌, ◌++◌, Bool, true, false, cond, sym, refl, ap, ◌∙◌, subst, arith, length, take, get_or, IsUtf8, append_assoc, length-append}
+use Rattle.std.proofs.Common.{◌≡◌, ◌⊎◌, inl, inr, ℕ, ◌<◌, List, [], ◌∷◌, ◌++◌, true, cond, sym, refl, ap, ◌∙◌, subst, arith, length, take, get_or, IsUtf8, length-append}
 use Rattle.std.specs.Prelude.{◌==◌}
 use Rattle.std.specs.Str.{chars, encode_utf8_all}
 use Rattle.std.proofs.Math.Seq.{take-append_seam, get_or-append_seam}
@@ -62,7 +62,7 @@ without_end-other bytes front c d h u e ne = elim (ends_in d (chars bytes)) [
   | inl s ↦ sym (encodes-chars bytes u) ∙ ap encode_utf8_all (sym s)
   | inr p ↦
       let ends : bytes ≡ encode_utf8_all p.0 ++ d ∷ [] =
-          sym (encodes-chars bytes u) ∙ ap encode_utf8_all p.1 ∙ encodes-append p.0 (d ∷ []) ∙ ap (λ l. encode_utf8_all p.0 ++ l) (ascii d h) in
+      sym (encodes-chars bytes u) ∙ ap encode_utf8_all p.1 ∙ encodes-append p.0 (d ∷ []) ∙ ap (λ l. encode_utf8_all p.0 ++ l) (ascii d h) in
       absurd (ne (same_last front (encode_utf8_all p.0) c d (sym e ∙ ends)))
 ]
 

@@ -1,5 +1,5 @@
 -- The tokens so far, and what the next does to them.
-use Rattle.std.specs.Prelude.{◌≡◌, ℕ, ◌-◌, Bool, true, false, cond, ◌&&◌, not, List, [], ◌∷◌, ◌++◌, codes, length, take, drop, encode_utf8_all, Option, Some, None, option_to_list}
+use Rattle.std.specs.Prelude.{◌≡◌, ℕ, ◌-◌, Bool, false, cond, ◌&&◌, not, List, [], ◌∷◌, ◌++◌, codes, length, take, drop, encode_utf8_all, Option, Some, None, option_to_list}
 use Rattle.std.specs.Str.{bytes_eq}
 use Rattle.lay_token.specs.Lexes as lexes
 use Rattle.lay_token.specs.Lexes.{is_punct, is_point, is_separator, size, text_of_piece}

@@ -77,7 +77,11 @@ impl State {
                 _ => State::Line,
             },
             State::Three => if c == '/' { State::Line } else { State::Spoilt },
-            State::Line => if c == '\n' { State::Outside } else { State::Line },
+            State::Line => if c == '\n' {
+                State::Outside
+            } else {
+                State::Line
+            },
             State::Block => match c {
                 '!' => State::Spoilt,
                 '*' => State::BlockStar,

@@ -9,6 +9,8 @@ mod ends;
 mod gap;
 mod lexer;
 mod source;
+#[cfg(test)]
+mod tests;
 mod tokens;
 
 pub use lexer::lex;

@@ -1,6 +1,6 @@
 //! What is lexed of an input.
 ghost use Rattle.std.specs.Prelude.{◌≡◌, ◌==◌, IfOk, IsUtf8, encode_utf8_all};
-ghost use Rattle.std.specs.Str.{chars};
+ghost use Rattle.std.specs.Str.{chars, IsCharBoundary};
 ghost use Rattle.lay_token.specs.Chars.{after, begins, front, is_white};
 ghost use Rattle.lay_token.specs.Source.{folded, is_in_line, is_no_command, is_shebang, source, source_of, without_mark};
 ghost use Rattle.lay_lex.specs.Source.{Answers, seen};
@@ -24,7 +24,9 @@ pub struct Source {
 
 /// What is lexed of an input (Rust Reference, "Input format"). Bytes that are no UTF-8 are refused.
 pub fn normalise(alloc: Global, bytes: &[u8]) -> Result<Source, FormatError>
-    ensures { Answers (source bytes.now) result }
+    ensures answer { Answers (source bytes.now) result }
+    // The text can be lexed from its start on.
+    ensures ready { IfOk result (λ given. IsUtf8 given.text × IsCharBoundary given.text given.start) }
 {
     let text = match std::str::from_utf8(bytes) {
         Ok(text) => text,
@@ -88,9 +90,7 @@ fn begins_line_feed(bytes: &[u8]) -> bool
 
 /// The shebang of a text, and where lexing begins.
 fn shebang(alloc: Global, text: &str) -> Result<(Option<Text>, usize), NoMemory>
-    ensures {
-        IfOk result (λ given. (given.0 ≡ (source_of (chars text.now)).shebang) × (given.1 ≡ (source_of (chars text.now)).start))
-    }
+    ensures { IfOk result (λ given. (given.0 ≡ (source_of (chars text.now)).shebang) × (given.1 ≡ (source_of (chars text.now)).start)) }
 {
     let line = first_line(text);
     if !is_shebang(line) {

@@ -149,7 +149,14 @@ impl Tokens {
     }
 
     /// Adds the token of a piece; `touches` says that no gap stands before it.
-    pub fn add(&mut self, alloc: Global, kind: Kind, piece: &str, at: usize, touches: bool) -> Result<(), NoMemory>
+    pub fn add(
+        &mut self,
+        alloc: Global,
+        kind: Kind,
+        piece: &str,
+        at: usize,
+        touches: bool,
+    ) -> Result<(), NoMemory>
         ensures { OnOk result (Adds touches (token_of at kind (chars piece.now)) self.old self.new) }
     {
         let token = token_of(alloc, kind, piece, at)?;

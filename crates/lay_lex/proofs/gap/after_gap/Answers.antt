@@ -1,4 +1,4 @@
-use Rattle.std.proofs.Common.{rules, arith, ◌≡◌, false, refl, sym, ap, ◌∙◌}
+use Rattle.std.proofs.Common.{rules, arith, ◌≡◌, false, refl, sym, ◌∙◌}
 use Rattle.std.specs.Str.{chars}
 use Rattle.lay_token.specs.Gap.{Spoilt, is_closed}
 use Rattle.lay_lex.specs.Gap.{in_gap}
@@ -24,7 +24,7 @@ pub returns-in-Spoilt : goal.returns-in-Spoilt
 returns-in-Spoilt c =
     sym c.loop-c.invariant.same
     ∙ sym (rest_of-step (in_gap c.loop-c.state) Spoilt (chars c.loop-c.closed.now) (chars c.loop-c.rest.now) (chars c.in-Some.tail.now) c.in-Some.c false
-        c.in-Some.ensures.parts c.in-Spoilt.ensures.moved refl)
+    c.in-Some.ensures.parts c.in-Spoilt.ensures.moved refl)
     ∙ rest_of-spoilt (chars c.loop-c.closed.now) (chars c.in-Some.tail.now)
 
 pub loop-c-preserved : goal.loop-c-preserved

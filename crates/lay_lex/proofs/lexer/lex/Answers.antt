@@ -1,5 +1,5 @@
 -- What lexes in one way alone is what was read.
-use Rattle.std.proofs.Common.{◌≡◌, ◌⊎◌, inl, inr, ℕ, List, Result, Ok, Err, refl, sym, ap, ◌∙◌, subst}
+use Rattle.std.proofs.Common.{◌≡◌, ◌⊎◌, inl, inr, ℕ, List, Result, Ok, Err, refl, ap, ◌∙◌, subst}
 use Rattle.lay_token.specs.Lexes.{Lexes, NoTokenAt}
 use Rattle.lay_token.specs.declared.token.Token.{Token}
 use Rattle.lay_token.specs.declared.refusal.FormatError.{FormatError}
@@ -31,10 +31,10 @@ pub returns-clause-tokens : goal.returns-clause-tokens
 returns-clause-tokens c ts l =
     let P : List ℕ → Type 0 = λ b. LexedAs b c.args.source.now.start c.tokens.result in
     back_tokens c.args.source.now.text c.args.source.now.start c.tokens.result ts
-        (subst P (c.from_utf8_unchecked-text.ensures ∙ c.as_slice.ensures) c.tokens.ensures) l
+    (subst P (c.from_utf8_unchecked-text.ensures ∙ c.as_slice.ensures) c.tokens.ensures) l
 
 pub returns-clause-no_token : goal.returns-clause-no_token
 returns-clause-no_token c at l =
     let P : List ℕ → Type 0 = λ b. LexedAs b c.args.source.now.start c.tokens.result in
     back_no_token c.args.source.now.text c.args.source.now.start c.tokens.result at
-        (subst P (c.from_utf8_unchecked-text.ensures ∙ c.as_slice.ensures) c.tokens.ensures) l
+    (subst P (c.from_utf8_unchecked-text.ensures ∙ c.as_slice.ensures) c.tokens.ensures) l

@@ -1,4 +1,4 @@
-use Rattle.std.proofs.Common.{rules, arith, ◌≡◌, ◌++◌, ◌+◌, ◌-◌, ◌≤◌, ℕ, List, length, drop, IsUtf8, sym, ap, ◌∙◌, subst}
+use Rattle.std.proofs.Common.{rules, arith, ◌≡◌, ◌++◌, ◌+◌, ◌-◌, List, length, drop, IsUtf8, sym, ap, ◌∙◌, subst}
 use Rattle.std.specs.Str.{chars}
 use Rattle.std.proofs.lemmas.Str.{IsUtf8-drop}
 use Rattle.std.specs.Prelude.{◌==◌}
@@ -17,7 +17,7 @@ overflow_sub-at c =
     let s = c.loop-rest.invariant.read in
     let l = longest (chars c.loop-rest.ahead.now) (chars c.in-Some.rest.now) c.in-Some.ensures in
     let sum = place_of c.args.start c.args.text.now c.loop-rest.ahead.now c.in-Some.rest.now (so_far c.loop-rest.tokens) (before c.loop-rest.tokens.before) s l
-        (IsUtf8-drop c.args.text.now c.args.start c.utf8.text c.requires) ur c.requires.0 in
+    (IsUtf8-drop c.args.text.now c.args.start c.utf8.text c.requires) ur c.requires.0 in
     omega (arith, sum)
 
 pub returns-in-None : goal.returns-in-None
@@ -26,12 +26,12 @@ returns-in-None c =
     let s = c.loop-rest.invariant.read in
     let l = longest (chars c.loop-rest.ahead.now) (chars c.in-Some.rest.now) c.in-Some.ensures in
     let sum = place_of c.args.start c.args.text.now c.loop-rest.ahead.now c.in-Some.rest.now (so_far c.loop-rest.tokens) (before c.loop-rest.tokens.before) s l
-        (IsUtf8-drop c.args.text.now c.args.start c.utf8.text c.requires) ur c.requires.0 in
+    (IsUtf8-drop c.args.text.now c.args.start c.utf8.text c.requires) ur c.requires.0 in
     let at : length c.args.text.now - length c.in-Some.rest.now ≡ c.args.start + size (spell s.parts l.gap) = omega (arith, sum) in
     let none : BeginsNoPiece (chars c.in-Some.rest.now) (is_index_place (before c.loop-rest.tokens.before)) = λ k piece more e h.
-        c.in-None.ensures.only k piece more (ap chars c.as_bytes.ensures.value ∙ e) (subst (λ i. Had k piece more i) (sym c.is_index_place.ensures) h) in
+    c.in-None.ensures.only k piece more (ap chars c.as_bytes.ensures.value ∙ e) (subst (λ i. Had k piece more i) (sym c.is_index_place.ensures) h) in
     stopped c.args.start (length c.args.text.now - length c.in-Some.rest.now) c.args.text.now (chars c.loop-rest.ahead.now) (chars c.in-Some.rest.now)
-        (so_far c.loop-rest.tokens) (before c.loop-rest.tokens.before) s l at none
+    (so_far c.loop-rest.tokens) (before c.loop-rest.tokens.before) s l at none
 
 pub loop-rest-smaller : goal.loop-rest-smaller
 loop-rest-smaller c =
@@ -52,7 +52,7 @@ loop-rest-preserved c =
     let s = c.loop-rest.invariant.read in
     let l = longest (chars c.loop-rest.ahead.now) (chars c.in-Some.rest.now) c.in-Some.ensures in
     let sum = place_of c.args.start c.args.text.now c.loop-rest.ahead.now c.in-Some.rest.now (so_far c.loop-rest.tokens) (before c.loop-rest.tokens.before) s l
-        (IsUtf8-drop c.args.text.now c.args.start c.utf8.text c.requires) ur c.requires.0 in
+    (IsUtf8-drop c.args.text.now c.args.start c.utf8.text c.requires) ur c.requires.0 in
     let at : length c.args.text.now - length c.in-Some.rest.now ≡ c.args.start + size (spell s.parts l.gap) = omega (arith, sum) in
     let f = c.in-Some-piece_at.ensures.found in
     let whole : chars c.in-Some.rest.now ≡ f.0 ++ f.1 = ap chars (sym c.as_bytes.ensures.value) ∙ f.2 in
@@ -71,4 +71,4 @@ pub returns-in-Ok-finish : goal.returns-in-Ok-finish
 returns-in-Ok-finish c =
     let P : List Token → Type 0 = λ ts. Lexes c.args.text.now c.args.start ts in
     subst P (sym c.in-Ok-finish.ensures) (ended c.args.start c.args.text.now (chars c.loop-rest.ahead.now) (so_far c.loop-rest.tokens) (before c.loop-rest.tokens.before)
-        c.loop-rest.invariant.read (last_gap (chars c.loop-rest.ahead.now) c.in_default.ensures))
+    c.loop-rest.invariant.read (last_gap (chars c.loop-rest.ahead.now) c.in_default.ensures))

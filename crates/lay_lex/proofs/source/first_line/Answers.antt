@@ -1,4 +1,4 @@
-use Rattle.std.proofs.Common.{◌≡◌, sym, ap, ◌∙◌, arith, take, drop, length, ◌-◌}
+use Rattle.std.proofs.Common.{◌≡◌, sym, ap, ◌∙◌, arith, take, length, ◌-◌}
 use Rattle.std.specs.Str.{chars, encode_utf8_all}
 use Rattle.std.proofs.lemmas.Str.{chars_from_encodes}
 use Rattle.lay_token.specs.Chars.{front}
@@ -10,7 +10,7 @@ use Rattle.lay_lex.proofs.source.first_line.Goals as goal
 pub overflow_sub-s : goal.overflow_sub-s
 overflow_sub-s c =
     let sum = length_parts c.args.s.now c.after_line.result.now (front is_in_line (chars c.args.s.now)) c.utf8.s c.after_line.utf8
-        (line_parts c.args.s.now c.after_line.result.now c.after_line.ensures) in
+    (line_parts c.args.s.now c.after_line.result.now c.after_line.ensures) in
     omega (arith, sum)
 
 pub range-requires-clause-end_boundary : goal.range-requires-clause-end_boundary
@@ -21,5 +21,5 @@ returns c =
     let ds = front is_in_line (chars c.args.s.now) in
     let same : (length c.args.s.now - length c.after_line.result.now) - 0 ≡ length c.args.s.now - length c.after_line.result.now = omega arith in
     let bytes : c.range.result.now ≡ encode_utf8_all ds = c.range.ensures.value ∙ ap (λ n. take n c.args.s.now) same ∙ bytes_before c.args.s.now c.after_line.result.now ds c.utf8.s c.after_line.utf8
-        (line_parts c.args.s.now c.after_line.result.now c.after_line.ensures) in
+    (line_parts c.args.s.now c.after_line.result.now c.after_line.ensures) in
     sym (chars_from_encodes ds c.range.result.now c.range.utf8 (sym bytes))

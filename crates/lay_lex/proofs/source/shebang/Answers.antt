@@ -1,4 +1,4 @@
-use Rattle.std.proofs.Common.{rules, ◌≡◌, true, Some, None, sym, ap, ◌∙◌, ℕ}
+use Rattle.std.proofs.Common.{rules, ◌≡◌, true, Some, None, sym, ap, ◌∙◌}
 use Rattle.std.specs.Str.{chars, encode_utf8_all}
 use Rattle.std.proofs.lemmas.Bool.{cond-true}
 use Rattle.lay_token.specs.Chars.{front}
@@ -19,7 +19,8 @@ returns c =
       | else-line-text w ↦ w.start-is ∙ sym (sizes.1 w.if-line-text.false)
     ] in
     let text : c.in_ok-shebang.shebang ≡ encode_utf8_all (without_returns line) =
-        c.in_ok-shebang.ensures.ok ∙ c.without_end.ensures ∙ ap (λ l. encode_utf8_all (without_end 13 l)) c.first_line-line.ensures
-        ∙ ap encode_utf8_all (sym (without_returns_is line)) in
-    (ap (λ l. Some l) text ∙ sym (cond-true (is_shebang line) (Some (encode_utf8_all (without_returns line))) None is),
-        start ∙ sym (cond-true (is_shebang line) (line_size (chars c.args.text.now)) 0 is))
+    c.in_ok-shebang.ensures.ok ∙ c.without_end.ensures ∙ ap (λ l. encode_utf8_all (without_end 13 l)) c.first_line-line.ensures
+    ∙ ap encode_utf8_all (sym (without_returns_is line)) in (
+      ap (λ l. Some l) text ∙ sym (cond-true (is_shebang line) (Some (encode_utf8_all (without_returns line))) None is),
+      start ∙ sym (cond-true (is_shebang line) (line_size (chars c.args.text.now)) 0 is),
+    )

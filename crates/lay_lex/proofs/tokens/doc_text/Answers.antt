@@ -23,10 +23,10 @@ pub returns-then-has_line_feed : goal.returns-then-has_line_feed
 returns-then-has_line_feed c =
     c.as_bytes.ensures.value ∙ sym (encodes-chars c.within-text.result.now c.within-text.utf8)
     ∙ ap encode_utf8_all (sym (doc_lines c.args.block (chars c.args.piece.now) (chars c.within-text.result.now) c.within-text.ensures
-        (sym c.has_line_feed.ensures ∙ c.if-has_line_feed.true)))
+    (sym c.has_line_feed.ensures ∙ c.if-has_line_feed.true)))
 
 pub returns-else-has_line_feed : goal.returns-else-has_line_feed
 returns-else-has_line_feed c =
     c.without_end.ensures
     ∙ ap encode_utf8_all (sym (doc_line c.args.block (chars c.args.piece.now) (chars c.within-text.result.now) c.within-text.ensures
-        (sym c.has_line_feed.ensures ∙ c.if-has_line_feed.false)))
+    (sym c.has_line_feed.ensures ∙ c.if-has_line_feed.false)))

@@ -20,7 +20,7 @@ pub returns-in-RawIdent : goal.returns-in-RawIdent
 returns-in-RawIdent c =
     let cs = chars c.args.piece.now in
     let text : chars c.behind_first-in-RawIdent.result.now ≡ drop 2 cs =
-        c.behind_first-in-RawIdent.ensures ∙ ap (drop 1) c.behind_first.ensures ∙ two_less cs in
+    c.behind_first-in-RawIdent.ensures ∙ ap (drop 1) c.behind_first.ensures ∙ two_less cs in
     c.as_bytes.ensures.value ∙ sym (encodes-chars c.behind_first-in-RawIdent.result.now c.behind_first-in-RawIdent.utf8)
     ∙ ap encode_utf8_all text ∙ ap (λ k. encode_utf8_all (text_of_piece k cs)) (sym c.in-RawIdent.is)
 

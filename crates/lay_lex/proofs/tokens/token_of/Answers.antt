@@ -14,4 +14,4 @@ token_is at len kind piece text e h = rw (e, h) refl
 pub returns : goal.returns
 returns c =
     token_is c.args.at (length c.args.piece.now) c.args.kind (chars c.args.piece.now) c.in_ok-text.text
-        (c.in_ok-text.ensures.ok ∙ c.text_of_piece.ensures) (ap length (sym (encodes-chars c.args.piece.now c.utf8.piece)))
+    (c.in_ok-text.ensures.ok ∙ c.text_of_piece.ensures) (ap length (sym (encodes-chars c.args.piece.now c.utf8.piece)))
