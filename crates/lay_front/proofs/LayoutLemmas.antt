@@ -2,11 +2,12 @@
 use Rattle.std.proofs.Common.{◌≡◌, ℕ, ◌≤◌, ◌<◌, Bool, Option, Some, None, true, false, List, [], ◌∷◌, ◌++◌, map, pos, codes, sym, ap, ◌∙◌, append_assoc, arith, length, drop, get_or, drop-cons, add-one, suc, ◌+◌, ◌-◌, take, refl, Ok, ◌≢◌}
 use Rattle.std.specs.List.{flat_map}
 use Rattle.std.proofs.Math.Seq.{take-length}
+use Rattle.std.proofs.lemmas.Bool.{lt-ltb}
 use Rattle.std.proofs.Math.ListN.{drop_of_length-le}
 use Rattle.lay_token.specs.declared.layout.Break.{Break}
 use Rattle.lay_token.specs.declared.layout.Tok.{Tok}
 use Rattle.lay_token.specs.declared.layout.Tok.TheVariants as tok
-use Rattle.lay_token.specs.Document.{Document, Empty, AddText, AddBreak, joined, stream, text_of}
+use Rattle.lay_token.specs.Document.{Document, Empty, AddText, AddBreak, joined, stream, outside, start, text_of, break_by, over, width_of_break, write}
 use Rattle.lay_stream.specs.Fed.{Start, Meanings, Did}
 use Rattle.lay_stream.specs.Listed.{list_meanings}
 use Rattle.lay_stream.proofs.Calls.{level_of}
@@ -36,9 +37,18 @@ items_lines (one ∷ items) =
     text_joined (item_layout one) (items_layout items) hard_break hard_ends_line
     ∙ ap (λ (t : List ℕ). text_of (item_line one) ++ t) (items_lines items)
 
+-- A text and the end of its line.
+line_alone : (line : List ℕ) → text_of (AddText line (AddBreak hard_break Empty)) ≡ line ++ codes "\n"
+line_alone line =
+    let s = write line start in
+    let wide : over (width_of_break hard_break + 0) s ≡ true = lt-ltb s.room (s.used + (width_of_break hard_break + 0)) (omega arith) in
+    ap (λ (big : Bool). (break_by false outside hard_break big s).text) wide
+
 shebang_lines : (shebang : Option (List ℕ)) (rest : Document) → text_of (shebang_layout shebang rest) ≡ shebang_line shebang ++ text_of rest
 shebang_lines None rest = refl
-shebang_lines (Some line) rest = text_joined (AddText line Empty) rest hard_break hard_ends_line
+shebang_lines (Some line) rest =
+    text_joined (AddText line Empty) rest hard_break hard_ends_line
+    ∙ ap (λ (t : List ℕ). t ++ text_of rest) (line_alone line)
 
 -- The text of a file is its shebang line and the texts of its items.
 pub out_lines : (file : File) → out file ≡ shebang_line file.shebang ++ flat_map (λ (one : Item). text_of (item_line one)) file.items
