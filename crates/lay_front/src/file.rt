@@ -1,7 +1,7 @@
 //! From bytes to the tree of a file.
 ghost use Rattle.lay_front.specs.Reading.{ReadAs};
 
-use crate::reader::read_items_of;
+use crate::reader::items_of;
 use crate::tree::File;
 use lay_lex::{lex, normalise};
 use lay_token::{FormatError, NoMemory, Refusal};
@@ -20,7 +20,7 @@ pub fn read_file(alloc: Global, bytes: &[u8]) -> Result<File, FormatError>
         Ok(tokens) => tokens,
         Err(error) => return Err(error),
     };
-    match read_items_of(alloc, tokens.as_slice()) {
+    match items_of(alloc, tokens.as_slice()) {
         Ok(Some(items)) => Ok(File {
             shebang: source.shebang,
             items,

@@ -24,9 +24,15 @@ pub enum Item {
 #[derive(Debug, Drop)]
 pub enum UseTree {
     /// `a::b`
-    Name { path: List<Name>, name: Name },
+    Name {
+        path: List<Name>,
+        name: Name,
+    },
     /// `a::{b, c}`, whose optional last comma isn't in the tree
-    Group { path: List<Name>, trees: List<UseTree> },
+    Group {
+        path: List<Name>,
+        trees: List<UseTree>,
+    },
 }
 
 /// A name: an identifier that is no keyword, or a raw identifier, whose text is without `r#`.

@@ -27,36 +27,103 @@ fn quiet(alloc: Global, words: &[Text], given: List<u8>) -> Result<(Status, Text
     Ok((status, Text::from_bytes(alloc, out.bytes())?))
 }
 
+/// Bytes that read to a file, and its text.
 #[test]
 fn files(rt: HostRuntime) -> Result<(), Fail> {
     let alloc = rt.alloc();
-    let refused = Status::Refused(Refusal::NoItem { at: 0 });
     let rows = [
-        ("", Status::Done, ""),
-        ("struct A;struct B;", Status::Done, "struct A;\nstruct B;\n"),
-        (
-            "struct A;\nstruct B;\n",
-            Status::Done,
-            "struct A;\nstruct B;\n",
-        ),
+        ("", ""),
+        (" \t\r\n", ""),
+        ("struct A;struct B;", "struct A;\nstruct B;\n"),
+        ("struct A;\nstruct B;\n", "struct A;\nstruct B;\n"),
         (
             "mod a{struct B;mod c{}}",
-            Status::Done,
             "mod a {\n    struct B;\n    mod c {}\n}\n",
         ),
-        ("use a::{b,c,};", Status::Done, "use a::{b, c};\n"),
-        ("struct A", refused, ""),
-        ("struct A;struct B", refused, ""),
-        ("pub struct A;", refused, ""),
+        ("use a::{b,c,};", "use a::{b, c};\n"),
+        ("use {};", "use {};\n"),
+        ("use a:: b ;", "use a::b;\n"),
+        ("////x\n/***/struct A;", "struct A;\n"),
+        (
+            "\u{feff}#!/bin/x\r\nstruct A;\r\n",
+            "#!/bin/x\nstruct A;\n",
+        ),
+        ("#!/bin/x", "#!/bin/x\n"),
+        ("struct r#type;", "struct r#type;\n"),
+        ("use r#type::{r#fn};", "use r#type::{r#fn};\n"),
+        ("struct \u{fc}ber;", "struct \u{fc}ber;\n"),
     ];
-    for (given, status, text) in rows {
+    for (given, text) in rows {
         let (answer, written) = quiet(alloc, &[], list(alloc, given.as_bytes())?)?;
-        assert_eq!(rt; answer, status, "{given}");
+        assert_eq!(rt; answer, Status::Done, "{given}");
         assert_eq!(rt; written.as_bytes(), text.as_bytes(), "{given}");
+    }
+    Ok(())
+}
+
+/// Bytes that are refused, and why. Nothing is written.
+#[test]
+fn refusals(rt: HostRuntime) -> Result<(), Fail> {
+    let alloc = rt.alloc();
+    let no_item = Refusal::NoItem { at: 0 };
+    let rows = [
+        (b"struct A".as_slice(), no_item),
+        (b"struct A;struct B".as_slice(), no_item),
+        (b"pub struct A;".as_slice(), no_item),
+        (b"structA;".as_slice(), no_item),
+        (b"struct _;".as_slice(), no_item),
+        (b"struct fn;".as_slice(), no_item),
+        (b"struct A;;".as_slice(), no_item),
+        (b"/// x\nstruct A;".as_slice(), no_item),
+        (b"mod a{".as_slice(), no_item),
+        (b"mod a}".as_slice(), no_item),
+        (b"use a::{,};".as_slice(), no_item),
+        (b"use a::{b,,c};".as_slice(), no_item),
+        (b"use a::;".as_slice(), no_item),
+        (b"use a: :b;".as_slice(), no_item),
+        (b"use a:::b;".as_slice(), no_item),
+        (b"use fn::a;".as_slice(), no_item),
+        (b"struct r#self;".as_slice(), Refusal::NoToken { at: 7 }),
+        (
+            b"////x\n/***/struct A;/*/*x*/".as_slice(),
+            Refusal::NoToken { at: 20 },
+        ),
+        (b"struct A;\xff".as_slice(), Refusal::NotUtf8 { at: 9 }),
+    ];
+    for (given, refusal) in rows {
+        let (answer, written) = quiet(alloc, &[], list(alloc, given)?)?;
+        assert_eq!(rt; (answer, written.as_bytes().len()), (Status::Refused(refusal), 0));
     }
     let word = [Text::new(alloc)];
     let (answer, written) = quiet(alloc, &word, list(alloc, b"struct A;")?)?;
     assert_eq!(rt; (answer, written.as_bytes().len()), (Status::Usage, 0));
+    Ok(())
+}
+
+/// So many modules, each within the one before.
+fn nested(alloc: Global, levels: usize) -> Result<Vec<u8>, NoMemory> {
+    let mut all = repeated(alloc, b"mod a{", levels)?;
+    all.extend_from_slice(repeated(alloc, b"}", levels)?.as_slice())?;
+    Ok(all)
+}
+
+/// An item stands in 255 others at most.
+#[test]
+fn depths(rt: HostRuntime) -> Result<(), Fail> {
+    let alloc = rt.alloc();
+    let refused = Status::Refused(Refusal::NoItem { at: 0 });
+    let rows = [
+        (nested(alloc, 256)?, Status::Done),
+        (nested(alloc, 257)?, refused),
+        (nested(alloc, 100_000)?, refused),
+        (repeated(alloc, b"{", 1_000_000)?, refused),
+    ];
+    for (given, status) in rows {
+        let mut inputs = QuietInputs::new(List::from_vec(given), List::new(alloc));
+        let mut out = QuietSink::with_room(alloc, 1_000_000)?;
+        let mut err = QuietSink::new(alloc);
+        assert_eq!(rt; run(alloc, &[], &mut inputs, &mut out, &mut err), status);
+    }
     Ok(())
 }
 
