@@ -1,5 +1,5 @@
 -- Bytes have one answer at most, and with no fault the status is the one that the input's bytes have.
-use Rattle.std.proofs.Common.{◌≡◌, ◌<◌, ◌≤◌, ◌⊎◌, inl, inr, ℕ, List, length, Option, Some, Result, Ok, Err, refl, sym, ap, ap₂, ◌∙◌, subst, IfSome, arith}
+use Rattle.std.proofs.Common.{◌≡◌, ◌<◌, ◌≤◌, ◌⊎◌, inl, inr, ℕ, List, length, Option, Some, Ok, Err, refl, sym, ap, ap₂, ◌∙◌, subst, IfSome, arith}
 use Rattle.lay_io.specs.Told.{TellsAs, GrewBy}
 use Rattle.lay_io.specs.Faults.{Rose}
 use Rattle.lay_io.specs.declared.outside.Which.{Which}
@@ -10,7 +10,7 @@ use Rattle.lay_token.specs.declared.refusal.Refusal.{Refusal}
 use Rattle.lay_token.specs.declared.refusal.Refusal.TheVariants.{NotUtf8, NoToken, Unbalanced, NoItem}
 use Rattle.lay_token.proofs.Unique as unique
 use Rattle.lay_front.specs.Grammar.{SpellsItems}
-use Rattle.lay_front.specs.Reading.{Reads, IsRefused, SpellNoItems, SpellOnly, ReadsOnlyTo}
+use Rattle.lay_front.specs.Reading.{Reads, IsRefused, SpellOnly, ReadsOnlyTo}
 use Rattle.lay_front.specs.Layout.{out}
 use Rattle.lay_front.specs.Outcome.{FormatRun}
 use Rattle.lay_front.specs.declared.tree.File.{File}
@@ -42,13 +42,13 @@ file_by file other e h =
 pub read_only : (bytes : List ℕ) (from : Source) (tokens : List Token) (file : File) → source bytes ≡ Ok from → from.shebang ≡ file.shebang
     → Lexes from.text from.start tokens → SpellOnly tokens file.items → ReadsOnlyTo bytes file
 read_only bytes from tokens file e shebang lexes spells = record {
-    reads = (from, tokens, e, shebang, lexes, spells.spells);
-    only = λ other r.
+  reads = (from, tokens, e, shebang, lexes, spells.spells);
+  only = λ other r.
       let same : r.0 ≡ from = same_source bytes r.0 from r.2 e in
       let lines : other.shebang ≡ file.shebang = sym r.3 ∙ ap (λ (s : Source). s.shebang) same ∙ shebang in
       let one : r.1 ≡ tokens = same_tokens bytes r.0 from r.1 tokens r.2 e r.4 lexes in
       file_by file other lines (spells.only other.items (subst (λ (ts : List Token). SpellsItems other.items ts) one r.5));
-  }
+}
 
 -- no bytes are read and refused
 pub read_or_refused : (bytes : List ℕ) (file : File) (refusal : Refusal) → Reads bytes file → IsRefused bytes refusal → ⊥

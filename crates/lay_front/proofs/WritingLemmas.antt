@@ -77,5 +77,5 @@ pub writing-whole : (before middle now : Option (List ℕ)) (file : File) (i : �
     → i ≡ length file.items → GrewBy middle now waiting → GrewBy before now (out file)
 writing-whole before middle now file i waiting w end grew =
     let all : out file ≡ w.front ++ waiting =
-        out_lines file ∙ ap (λ (xs : List Item). shebang_line file.shebang ++ flat_map line xs) (sym (take-length file.items) ∙ ap (λ (n : ℕ). take n file.items) (sym end)) ∙ w.both in
+    out_lines file ∙ ap (λ (xs : List Item). shebang_line file.shebang ++ flat_map line xs) (sym (take-length file.items) ∙ ap (λ (n : ℕ). take n file.items) (sym end)) ∙ w.both in
     rw all (grew_by-more before middle now w.front waiting w.grew grew)

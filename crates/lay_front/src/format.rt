@@ -7,8 +7,8 @@ ghost use Rattle.lay_front.specs.Layout.{out as text_of_file, shebang_line};
 ghost use Rattle.lay_front.specs.Outcome.{Formats};
 ghost use Rattle.lay_front.specs.Waiting.{Passed};
 
-use crate::layout::item_text;
 use crate::file::read_file;
+use crate::layout::item_text;
 use crate::tree::File;
 use lay_io::{Failed, Sink};
 use lay_token::{FormatError, NoMemory, Refusal};

@@ -40,14 +40,29 @@ fn files(rt: HostRuntime) -> Result<(), Fail> {
             "mod a{struct B;mod c{}}",
             "mod a {\n    struct B;\n    mod c {}\n}\n",
         ),
-        ("use a::{b,c,};", "use a::{b, c};\n"),
+        (
+            "mod a{mod b{struct C;}}",
+            "mod a {\n    mod b {\n        struct C;\n    }\n}\n",
+        ),
         ("use {};", "use {};\n"),
+        ("use a::{b,c,};", "use a::{b, c};\n"),
+        ("use a::{b::{c,d},b};", "use a::{b::{c, d}, b};\n"),
+        // A line of 89 columns, and one of 90 that is broken.
+        (
+            "use a::{b,cccccccccccccccccccccccccccccccccccccccccccccccccccccccccccccccccccccccccccc};",
+            "use a::{b, cccccccccccccccccccccccccccccccccccccccccccccccccccccccccccccccccccccccccccc};\n",
+        ),
+        (
+            "use a::{b,ccccccccccccccccccccccccccccccccccccccccccccccccccccccccccccccccccccccccccccc};",
+            "use a::{\n    b,\n    ccccccccccccccccccccccccccccccccccccccccccccccccccccccccccccccccccccccccccccc,\n};\n",
+        ),
+        (
+            "use a::{b::{c,d},ccccccccccccccccccccccccccccccccccccccccccccccccccccccccccccccccccccccccccccc};",
+            "use a::{\n    b::{c, d},\n    ccccccccccccccccccccccccccccccccccccccccccccccccccccccccccccccccccccccccccccc,\n};\n",
+        ),
         ("use a:: b ;", "use a::b;\n"),
         ("////x\n/***/struct A;", "struct A;\n"),
-        (
-            "\u{feff}#!/bin/x\r\nstruct A;\r\n",
-            "#!/bin/x\nstruct A;\n",
-        ),
+        ("\u{feff}#!/bin/x\r\nstruct A;\r\n", "#!/bin/x\nstruct A;\n"),
         ("#!/bin/x", "#!/bin/x\n"),
         ("struct r#type;", "struct r#type;\n"),
         ("use r#type::{r#fn};", "use r#type::{r#fn};\n"),
@@ -92,7 +107,10 @@ fn refusals(rt: HostRuntime) -> Result<(), Fail> {
     ];
     for (given, refusal) in rows {
         let (answer, written) = quiet(alloc, &[], list(alloc, given)?)?;
-        assert_eq!(rt; (answer, written.as_bytes().len()), (Status::Refused(refusal), 0));
+        assert_eq!(rt;
+            (answer, written.as_bytes().len()),
+            (Status::Refused(refusal), 0)
+        );
     }
     let word = [Text::new(alloc)];
     let (answer, written) = quiet(alloc, &word, list(alloc, b"struct A;")?)?;
@@ -115,8 +133,8 @@ fn depths(rt: HostRuntime) -> Result<(), Fail> {
     let rows = [
         (nested(alloc, 256)?, Status::Done),
         (nested(alloc, 257)?, refused),
-        (nested(alloc, 100_000)?, refused),
-        (repeated(alloc, b"{", 1_000_000)?, refused),
+        (nested(alloc, 10_000)?, refused),
+        (repeated(alloc, b"{", 100_000)?, refused),
     ];
     for (given, status) in rows {
         let mut inputs = QuietInputs::new(List::from_vec(given), List::new(alloc));
@@ -127,13 +145,16 @@ fn depths(rt: HostRuntime) -> Result<(), Fail> {
     Ok(())
 }
 
-/// An input of 16 MiB is read, and one that holds a byte more is not.
+/// An input of 16 MiB is read, and one that holds a byte more is not. It is no UTF-8, so it is refused before it
+/// is taken apart.
 #[test]
 fn greatest_input(rt: HostRuntime) -> Result<(), Fail> {
     let alloc = rt.alloc();
-    for (length, status) in [(LIMIT, Status::Done), (LIMIT + 1, Status::TooLong)] {
-        let blanks = List::from_vec(repeated(alloc, b" ", length)?);
-        let (answer, written) = quiet(alloc, &[], blanks)?;
+    let refused = Status::Refused(Refusal::NotUtf8 { at: 0 });
+    for (more, status) in [(0, refused), (1, Status::TooLong)] {
+        let mut given = repeated(alloc, &[0xff; 1024], LIMIT / 1024)?;
+        given.extend_from_slice(repeated(alloc, b"\xff", more)?.as_slice())?;
+        let (answer, written) = quiet(alloc, &[], List::from_vec(given))?;
         assert_eq!(rt; (answer, written.as_bytes().len()), (status, 0));
     }
     Ok(())

@@ -1,4 +1,4 @@
-use Rattle.std.proofs.Common.{◌≡◌, ◌≤◌}
+use Rattle.std.proofs.Common.{◌≤◌}
 use Rattle.lay_front.proofs.WritingLemmas.{IsWriting}
 use Rattle.lay_front.proofs.format.write_file.Given as goal
 
