@@ -18,7 +18,8 @@ snoc s t c us ut e = encodes_same (chars s) (chars t ++ c ∷ []) (
     encodes-chars s us ∙ e ∙ ap (λ l. l ++ encode c) (sym (encodes-chars t ut))
     ∙ sym (encodes-append (chars t) (c ∷ []) ∙ ap (λ l. encode_utf8_all (chars t) ++ l) (append-nil (encode c))))
 
-pub without_last : (s t : List ℕ) (c : ℕ) → IsUtf8 s → IsUtf8 t → s ≡ t ++ encode c → chars t ≡ take (length (chars s) - 1) (chars s)
+pub without_last : (s t : List ℕ) (c : ℕ) → IsUtf8 s → IsUtf8 t → s ≡ t ++ encode c
+    → chars t ≡ take (length (chars s) - 1) (chars s)
 without_last s t c us ut e =
     let cut = snoc s t c us ut e in
     let n : length (chars t) ≡ length (chars s) - 1 = omega (arith, ap length cut, length-append (chars t) (c ∷ [])) in
@@ -96,10 +97,13 @@ cut_border s piece more n u e h =
     let c = cut_at s piece more u e in
     subst (IsCharBoundary s) (sym h) (IsCharBoundary-at_seam s (encode_utf8_all piece) (encode_utf8_all more) c.bytes c.text)
 
-pub cut_parts : (s piece more x y : List ℕ) (n : ℕ) → IsUtf8 s → chars s ≡ piece ++ more → n ≡ size piece → x ≡ take n s → y ≡ drop n s
+pub cut_parts : (s piece more x y : List ℕ) (n : ℕ) → IsUtf8 s → chars s ≡ piece ++ more → n ≡ size piece
+    → x ≡ take n s → y ≡ drop n s
     → (chars x ≡ piece) × (chars y ≡ more)
 cut_parts s piece more x y n u e h f g =
     let c = cut_at s piece more u e in (
-      ap chars (f ∙ ap (λ k. take k s) h ∙ ap (take (size piece)) c.bytes ∙ take-append_seam (encode_utf8_all piece) (encode_utf8_all more)) ∙ c.front,
-      ap chars (g ∙ ap (λ k. drop k s) h ∙ ap (drop (size piece)) c.bytes ∙ drop-append_seam (encode_utf8_all piece) (encode_utf8_all more)) ∙ c.back,
+      ap chars (f ∙ ap (λ k. take k s) h ∙ ap (take (size piece)) c.bytes
+          ∙ take-append_seam (encode_utf8_all piece) (encode_utf8_all more)) ∙ c.front,
+      ap chars (g ∙ ap (λ k. drop k s) h ∙ ap (drop (size piece)) c.bytes
+          ∙ drop-append_seam (encode_utf8_all piece) (encode_utf8_all more)) ∙ c.back,
     )

@@ -29,7 +29,8 @@ pub begins-encodes : (n : ℕ) → n < 128 → (cs : List ℕ) → begins (λ d.
 begins-encodes n l [] = refl
 begins-encodes n l (c ∷ cs) = elim (cases_lt c 128) [
   | inl s ↦ ap (λ xs. begins (λ d. d == n) (xs ++ encode_utf8_all cs)) (encode_ascii c s)
-  | inr g ↦ begins-high n (encode c) (encode_utf8_all cs) l (not_empty c) (high c g) ∙ sym (ne_eqb c n (λ e. absurd (omega arith)))
+  | inr g ↦ begins-high n (encode c) (encode_utf8_all cs) l (not_empty c) (high c g)
+      ∙ sym (ne_eqb c n (λ e. absurd (omega arith)))
 ]
 
 folded-high : (xs ys : List ℕ) → IsHigh xs → folded (xs ++ ys) ≡ xs ++ folded ys
@@ -39,7 +40,8 @@ folded-high (x ∷ xs) ys h =
     let no : x == 13 ≡ false = ne_eqb x 13 (λ e. absurd (omega arith)) in
     rw no (ap (λ l. x ∷ l) (folded-high xs ys (λ k l. h (suc k) (omega arith))))
 
-cond_encoded : (b : Bool) (c : ℕ) (cs : List ℕ) → encode c ≡ c ∷ [] → cond b (encode_utf8_all cs) (c ∷ encode_utf8_all cs) ≡ encode_utf8_all (cond b cs (c ∷ cs))
+cond_encoded : (b : Bool) (c : ℕ) (cs : List ℕ) → encode c ≡ c ∷ []
+    → cond b (encode_utf8_all cs) (c ∷ encode_utf8_all cs) ≡ encode_utf8_all (cond b cs (c ∷ cs))
 cond_encoded true c cs e = refl
 cond_encoded false c cs e = sym (ap (λ l. l ++ encode_utf8_all cs) e)
 
@@ -72,6 +74,7 @@ scalars-folded (c ∷ cs) h =
 pub folded_text : (bytes text : List ℕ) → IsUtf8 bytes → text ≡ folded bytes
     → (text ≡ encode_utf8_all (folded (chars bytes))) × (chars text ≡ folded (chars bytes)) × IsUtf8 text
 folded_text bytes text u e =
-    let all : text ≡ encode_utf8_all (folded (chars bytes)) = e ∙ ap folded (sym (encodes-chars bytes u)) ∙ folded-encodes (chars bytes) in
+    let all : text ≡ encode_utf8_all (folded (chars bytes)) = e ∙ ap folded (sym (encodes-chars bytes u))
+    ∙ folded-encodes (chars bytes) in
     let fine = scalars-folded (chars bytes) (scalars-chars bytes u) in
     (all, ap chars all ∙ chars-encodes (folded (chars bytes)) fine, (folded (chars bytes), (fine, sym all)))

@@ -13,7 +13,8 @@ rest_of-spoilt closed [] = refl
 rest_of-spoilt closed (c ∷ cs) = rest_of-spoilt closed cs
 
 -- a character of the gap
-pub rest_of-step : (s t : InGap) (closed text cs : List ℕ) (c : ℕ) (b : Bool) → text ≡ c ∷ cs → t ≡ gap_step s c → is_closed t ≡ b
+pub rest_of-step : (s t : InGap) (closed text cs : List ℕ) (c : ℕ) (b : Bool) → text ≡ c ∷ cs → t ≡ gap_step s c
+    → is_closed t ≡ b
     → rest_of t (cond b cs closed) cs ≡ rest_of s closed text
 rest_of-step s t closed text cs c b w e h = sym (
     ap (rest_of s closed) w
@@ -113,5 +114,7 @@ pub longest : (text rest : List ℕ) → rest_of Outside text text ≡ Some rest
 longest text rest h = from (finds Outside text text rest h)
   where
     from : Finds Outside text text rest → Longest text rest
-    from (inl p) = record { gap = []; whole = p.0; closed = refl; no_more = no_gap rest (let P : List ℕ → Type 0 = λ l. Held Outside l in subst P p.0 p.1) }
+    from (inl p) =
+        let P : List ℕ → Type 0 = λ l. Held Outside l in
+        record { gap = []; whole = p.0; closed = refl; no_more = no_gap rest (subst P p.0 p.1) }
     from (inr p) = record { gap = p.gap; whole = p.whole; closed = ap is_closed p.ended; no_more = no_gap rest p.held }

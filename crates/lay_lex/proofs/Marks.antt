@@ -19,17 +19,21 @@ one_byte d h = append-nil _ ∙ encode_ascii d h
 same_test : (d : ℕ) (cs : List ℕ) → d < 128 → bytes_eq (encode_utf8_all cs) (d ∷ []) ≡ bytes_eq cs (d ∷ [])
 same_test d cs h =
     same_from_decides {P = encode_utf8_all cs ≡ d ∷ []} _ _ (bytes_eq-Decides (encode_utf8_all cs) (d ∷ []))
-    (Decides-like (bytes_eq cs (d ∷ [])) (λ e. ap encode_utf8_all e ∙ one_byte d h) (λ e. encodes_same cs (d ∷ []) (e ∙ sym (one_byte d h))) (bytes_eq-Decides cs (d ∷ [])))
+    (Decides-like (bytes_eq cs (d ∷ [])) (λ e. ap encode_utf8_all e ∙ one_byte d h)
+    (λ e. encodes_same cs (d ∷ []) (e ∙ sym (one_byte d h))) (bytes_eq-Decides cs (d ∷ [])))
 
 separator_bytes : (cs : List ℕ) → is_separator (encode_utf8_all cs) ≡ is_separator cs
 separator_bytes cs =
-    ap (λ b. b || bytes_eq (encode_utf8_all cs) (codes ";")) (same_test 44 cs (omega arith)) ∙ ap (λ b. bytes_eq cs (codes ",") || b) (same_test 59 cs (omega arith))
+    ap (λ b. b || bytes_eq (encode_utf8_all cs) (codes ";")) (same_test 44 cs (omega arith))
+    ∙ ap (λ b. bytes_eq cs (codes ",") || b) (same_test 59 cs (omega arith))
 
-mark_text : (k : Kind) (cs : List ℕ) → is_punct k && not (is_separator (encode_utf8_all (text_of_piece k cs))) ≡ is_punct k && not (is_separator cs)
+mark_text : (k : Kind) (cs : List ℕ)
+    → is_punct k && not (is_separator (encode_utf8_all (text_of_piece k cs))) ≡ is_punct k && not (is_separator cs)
 mark_text Punct cs = ap not (separator_bytes cs)
 mark_text _ cs = refl
 
-point_text : (k : Kind) (cs : List ℕ) → is_punct k && bytes_eq (encode_utf8_all (text_of_piece k cs)) (codes ".") ≡ is_punct k && bytes_eq cs (codes ".")
+point_text : (k : Kind) (cs : List ℕ)
+    → is_punct k && bytes_eq (encode_utf8_all (text_of_piece k cs)) (codes ".") ≡ is_punct k && bytes_eq cs (codes ".")
 point_text Punct cs = same_test 46 cs (omega arith)
 point_text _ cs = refl
 

@@ -30,7 +30,8 @@ pub same_last : (x y : List ℕ) (c d : ℕ) → x ++ c ∷ [] ≡ y ++ d ∷ []
 same_last x y c d e =
     let sizes = ap length e in
     let n : length x ≡ length y = omega (arith, length-append x (c ∷ []), length-append y (d ∷ []), sizes) in
-    sym (get_or-append_seam x c [] 0) ∙ ap (λ k. get_or (x ++ c ∷ []) k 0) n ∙ ap (λ l. get_or l (length y) 0) e ∙ get_or-append_seam y d [] 0
+    sym (get_or-append_seam x c [] 0) ∙ ap (λ k. get_or (x ++ c ∷ []) k 0) n ∙ ap (λ l. get_or l (length y) 0) e
+    ∙ get_or-append_seam y d [] 0
 
 ascii : (d : ℕ) → d < 128 → encode_utf8_all (d ∷ []) ≡ d ∷ []
 ascii d h = ap (λ l. l ++ []) (encode_ascii d h)
@@ -42,7 +43,8 @@ pub front_text : (bytes front : List ℕ) (d : ℕ) → d < 128 → IsUtf8 bytes
 front_text bytes front d h u e =
     let sizes = ap length e in
     let lt : length front < length bytes = omega (arith, sizes, length-append front (d ∷ [])) in
-    let here : get_or bytes (length front) 0 ≡ d = ap (λ l. get_or l (length front) 0) e ∙ get_or-append_seam front d [] 0 in
+    let here : get_or bytes (length front) 0 ≡ d = ap (λ l. get_or l (length front) 0) e
+    ∙ get_or-append_seam front d [] 0 in
     let cut = IsUtf8-take bytes (length front) u (IsCharBoundary-before_ascii bytes (length front) lt (omega (arith, here))) in
     subst IsUtf8 (ap (take (length front)) e ∙ take-append_seam front (d ∷ [])) cut
 
@@ -52,7 +54,8 @@ pub without_end-step : (bytes front : List ℕ) (d : ℕ) → d < 128 → IsUtf8
 without_end-step bytes front d h u e =
     let uf = front_text bytes front d h u e in
     let one : chars (d ∷ []) ≡ d ∷ [] = ap chars (sym (ascii d h)) ∙ chars-encodes (d ∷ []) (lone d h) in
-    let whole : chars bytes ≡ chars front ++ d ∷ [] = ap chars e ∙ chars-append front (d ∷ []) uf ∙ ap (λ l. chars front ++ l) one in
+    let whole : chars bytes ≡ chars front ++ d ∷ [] = ap chars e ∙ chars-append front (d ∷ []) uf
+    ∙ ap (λ l. chars front ++ l) one in
     sym (without_end-snoc d (chars front)) ∙ ap (without_end d) (sym whole)
 
 -- a text whose last byte is another
@@ -62,7 +65,8 @@ without_end-other bytes front c d h u e ne = elim (ends_in d (chars bytes)) [
   | inl s ↦ sym (encodes-chars bytes u) ∙ ap encode_utf8_all (sym s)
   | inr p ↦
       let ends : bytes ≡ encode_utf8_all p.0 ++ d ∷ [] =
-      sym (encodes-chars bytes u) ∙ ap encode_utf8_all p.1 ∙ encodes-append p.0 (d ∷ []) ∙ ap (λ l. encode_utf8_all p.0 ++ l) (ascii d h) in
+      sym (encodes-chars bytes u) ∙ ap encode_utf8_all p.1 ∙ encodes-append p.0 (d ∷ [])
+      ∙ ap (λ l. encode_utf8_all p.0 ++ l) (ascii d h) in
       absurd (ne (same_last front (encode_utf8_all p.0) c d (sym e ∙ ends)))
 ]
 

@@ -2,10 +2,17 @@
 use Rattle.std.specs.Prelude.{ℕ, cond, List, [], ◌∷◌, Option, Some, None}
 use Rattle.lay_token.specs.Quoted as block
 use Rattle.lay_token.specs.Gap.{InGap, Outside, Opening, Two, Three, Line, Block, BlockStar, Within, Spoilt, gap_step, is_closed, is_closed_or_line}
+use Rattle.lay_lex.specs.declared.gap.InBlock.{InBlock}
+use Rattle.lay_lex.specs.declared.gap.InBlock.TheVariants as comment
 use Rattle.lay_lex.specs.declared.gap.State.{State}
 use Rattle.lay_lex.specs.declared.gap.State.TheVariants as state
 
--- the state of the definition
+-- the states of the definitions
+abbrev pub in_comment : InBlock → block.InBlock
+in_comment (comment.Deep n) = block.Deep n
+in_comment (comment.Star n) = block.Star n
+in_comment (comment.Slash n) = block.Slash n
+
 abbrev pub in_gap : State → InGap
 in_gap state.Outside = Outside
 in_gap state.Opening = Opening
@@ -14,16 +21,17 @@ in_gap state.Three = Three
 in_gap state.Line = Line
 in_gap state.Block = Block
 in_gap state.BlockStar = BlockStar
-in_gap (state.Deep n) = Within (block.Deep n)
-in_gap (state.Star n) = Within (block.Star n)
-in_gap (state.Slash n) = Within (block.Slash n)
+in_gap (state.Within b) = Within (in_comment b)
 in_gap state.Spoilt = Spoilt
 
 -- how many comments are open around the innermost
+abbrev pub open_around : InBlock → ℕ
+open_around (comment.Deep n) = n
+open_around (comment.Star n) = n
+open_around (comment.Slash n) = n
+
 abbrev pub depth : State → ℕ
-depth (state.Deep n) = n
-depth (state.Star n) = n
-depth (state.Slash n) = n
+depth (state.Within b) = open_around b
 depth _ = 0
 
 -- What follows the last place where the gap is closed, of which `closed` is the rest so far; nothing where the

@@ -28,7 +28,13 @@ is_mark t = is_punct t.kind && not (is_separator t.text)
 
 -- the token of a piece, which is not joint
 abbrev pub token_of : ℕ → Kind → List ℕ → Token
-token_of at kind piece = record { kind = kind; text = encode_utf8_all (text_of_piece kind piece); joint = false; at = at; len = size piece }
+token_of at kind piece = record {
+  kind = kind;
+  text = encode_utf8_all (text_of_piece kind piece);
+  joint = false;
+  at = at;
+  len = size piece;
+}
 
 abbrev pub joined : Bool → Token → Token → Token
 joined touches next t = record t { joint = touches && is_mark next && is_mark t }

@@ -1,5 +1,5 @@
-//! Texts without what stands at their ends.
-ghost use Rattle.std.specs.Prelude.{◌≡◌, ◌<◌, ◌-◌, ◌==◌, length, take, drop, encode_utf8_all};
+//! The ends of texts, and texts without them.
+ghost use Rattle.std.specs.Prelude.{◌≡◌, ◌<◌, ◌-◌, ◌==◌, ◌∷◌, [], length, take, drop, encode_utf8_all, MatchOption, IfSome};
 ghost use Rattle.std.specs.List.{list_any};
 ghost use Rattle.std.specs.Str.{chars};
 ghost use Rattle.lay_lex.specs.Ends.{without_end};

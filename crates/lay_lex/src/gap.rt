@@ -1,13 +1,15 @@
 //! Gaps: white space and plain comments.
-ghost use Rattle.std.specs.Prelude.{◌≡◌, ◌<◌, ◌≤◌, ◌+◌, ◌^◌, Some, None, MatchOption};
+ghost use Rattle.std.specs.Prelude.{◌≡◌, ◌<◌, ◌≤◌, ◌+◌, ◌^◌};
 ghost use Rattle.std.specs.Str.{chars};
 ghost use Rattle.lay_token.specs.Chars.{is_white};
-ghost use Rattle.lay_token.specs.Quoted.{deep_step};
+ghost use Rattle.lay_token.specs.Quoted.{block_step, deep_step};
+ghost use Rattle.lay_token.specs.Found.{Leaves};
 ghost use Rattle.lay_token.specs.Gap.{Outside, gap_step, in_block, is_closed_or_line};
-ghost use Rattle.lay_lex.specs.Gap.{depth, in_gap, rest_of};
+ghost use Rattle.lay_lex.specs.Gap.{depth, in_comment, in_gap, open_around, rest_of};
 
 use lay_token::piece::chars::first;
 
+/// White space (Rust Reference, "Whitespace").
 pub fn is_white(c: char) -> bool
     ensures { result ≡ is_white c }
 {
@@ -40,17 +42,24 @@ enum State {
     Block,
     /// Behind `/**`.
     BlockStar,
-    /// In a plain block comment, within so many more.
-    Deep(usize),
-    /// There behind a star.
-    Star(usize),
-    /// There behind a slash.
-    Slash(usize),
+    /// In a plain block comment.
+    Within(InBlock),
     /// In what is no gap.
     Spoilt,
 }
 
+/// How far a block comment is read, within so many more.
+#[derive(Clone, Copy, Debug, PartialEq, Eq)]
+enum InBlock {
+    Deep(usize),
+    /// Behind a star.
+    Star(usize),
+    /// Behind a slash.
+    Slash(usize),
+}
+
 impl State {
+    /// Behind one more character.
     #[tactic(auto, unfolding(lay_token::specs::Gap::gap_step, lay_token::specs::Quoted::block_step))]
     fn step(self, c: char) -> State
         requires { depth self < 2 ^ 63 }
@@ -85,39 +94,15 @@ impl State {
             State::Block => match c {
                 '!' => State::Spoilt,
                 '*' => State::BlockStar,
-                _ => State::within(0, c),
+                _ => InBlock::Deep(0).step(c),
             },
             State::BlockStar => match c {
-                '*' => State::Star(0),
+                '*' => State::Within(InBlock::Star(0)),
                 '/' => State::Outside,
                 _ => State::Spoilt,
             },
-            State::Deep(inner) => State::within(inner, c),
-            State::Star(inner) => if c != '/' {
-                State::within(inner, c)
-            } else if inner == 0 {
-                State::Outside
-            } else {
-                State::Deep(inner - 1)
-            },
-            State::Slash(inner) => if c == '*' {
-                State::Deep(inner + 1)
-            } else {
-                State::within(inner, c)
-            },
+            State::Within(block) => block.step(c),
             State::Spoilt => State::Spoilt,
-        }
-    }
-
-    /// Behind a character of a block comment that goes with none before it.
-    fn within(inner: usize, c: char) -> State
-        ensures moved { in_gap result ≡ in_block (deep_step inner c) }
-        ensures same_depth { depth result ≡ inner }
-    {
-        match c {
-            '*' => State::Star(inner),
-            '/' => State::Slash(inner),
-            _ => State::Deep(inner),
         }
     }
 
@@ -134,9 +119,47 @@ impl State {
     }
 }
 
+impl InBlock {
+    /// Behind one more character.
+    #[tactic(auto, unfolding(lay_token::specs::Quoted::block_step))]
+    fn step(self, c: char) -> State
+        requires { open_around self < 2 ^ 63 }
+        ensures moved { in_gap result ≡ in_block (block_step (in_comment self) c) }
+        ensures deeper { depth result ≤ open_around self + 1 }
+    {
+        match self {
+            InBlock::Deep(more) => InBlock::lone(more, c),
+            InBlock::Star(more) => if c != '/' {
+                InBlock::lone(more, c)
+            } else if more == 0 {
+                State::Outside
+            } else {
+                State::Within(InBlock::Deep(more - 1))
+            },
+            InBlock::Slash(more) => if c == '*' {
+                State::Within(InBlock::Deep(more + 1))
+            } else {
+                InBlock::lone(more, c)
+            },
+        }
+    }
+
+    /// Behind a character that goes with none before it.
+    fn lone(more: usize, c: char) -> State
+        ensures moved { in_gap result ≡ in_block (deep_step more c) }
+        ensures same_depth { depth result ≡ more }
+    {
+        match c {
+            '*' => State::Within(InBlock::Star(more)),
+            '/' => State::Within(InBlock::Slash(more)),
+            _ => State::Within(InBlock::Deep(more)),
+        }
+    }
+}
+
 /// What follows the longest gap at the front; nothing where a gap ends the whole text.
 pub fn after_gap(s: &str) -> Option<&str>
-    ensures { MatchOption result (rest_of Outside (chars s.now) (chars s.now) ≡ None) (λ rest. rest_of Outside (chars s.now) (chars s.now) ≡ Some (chars rest.now)) }
+    ensures { Leaves (rest_of Outside (chars s.now) (chars s.now)) result }
 {
     let mut state = State::Outside;
     let mut closed = s;

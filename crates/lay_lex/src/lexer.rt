@@ -24,10 +24,11 @@ pub fn lex(alloc: Global, source: &Source) -> Result<List<Token>, FormatError>
         → (result ≡ Err (FormatError.Refused (Refusal.NoToken at))) ⊎ (result ≡ Err FormatError.NoMemory) }
 {
     let text = unsafe { std::str::from_utf8_unchecked(source.text.as_slice()) };
-    tokens(alloc, text, source.start)
+    tokens_of(alloc, text, source.start)
 }
 
-fn tokens(alloc: Global, text: &str, start: usize) -> Result<List<Token>, FormatError>
+/// The tokens of a text from this place on.
+fn tokens_of(alloc: Global, text: &str, start: usize) -> Result<List<Token>, FormatError>
     requires { IsCharBoundary text.now start }
     ensures { LexedAs text.now start result }
 {
@@ -56,7 +57,8 @@ fn tokens(alloc: Global, text: &str, start: usize) -> Result<List<Token>, Format
 /// The characters that take so many bytes, and what follows them.
 fn cut(s: &str, len: usize) -> (&str, &str)
     requires { (piece : Items ℕ) × (more : Items ℕ) × (chars s.now ≡ piece ++ more) × (len ≡ size piece) }
-    ensures { (piece more : Items ℕ) → chars s.now ≡ piece ++ more → len ≡ size piece → (chars result.0.now ≡ piece) × (chars result.1.now ≡ more) }
+    ensures { (piece more : Items ℕ) → chars s.now ≡ piece ++ more → len ≡ size piece
+        → (chars result.0.now ≡ piece) × (chars result.1.now ≡ more) }
 {
     s.split_at(len)
 }

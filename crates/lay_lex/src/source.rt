@@ -41,6 +41,7 @@ pub fn normalise(alloc: Global, bytes: &[u8]) -> Result<Source, FormatError>
     }
 }
 
+/// What is lexed of a text.
 fn source_of(alloc: Global, s: &str) -> Result<Source, NoMemory>
     ensures { IfOk result (λ given. seen given ≡ source_of (folded (without_mark (chars s.now)))) }
 {
@@ -66,7 +67,8 @@ fn without_mark(s: &str) -> &str
 
 /// The text with each CR LF as one LF.
 fn folded(alloc: Global, s: &str) -> Result<Vec<u8>, NoMemory>
-    ensures { IfOk result (λ text. (text.items ≡ encode_utf8_all (folded (chars s.now))) × (chars text.items ≡ folded (chars s.now)) × IsUtf8 text.items) }
+    ensures { IfOk result (λ text. (text.items ≡ encode_utf8_all (folded (chars s.now)))
+        × (chars text.items ≡ folded (chars s.now)) × IsUtf8 text.items) }
 {
     let mut text = Vec::with_capacity(alloc, s.len())?;
     let mut rest = s.as_bytes();
@@ -79,6 +81,7 @@ fn folded(alloc: Global, s: &str) -> Result<Vec<u8>, NoMemory>
     Ok(text)
 }
 
+/// Whether the bytes begin with an LF.
 fn begins_line_feed(bytes: &[u8]) -> bool
     ensures { result ≡ begins (λ c. c == 10) bytes.now }
 {
@@ -90,7 +93,8 @@ fn begins_line_feed(bytes: &[u8]) -> bool
 
 /// The shebang of a text, and where lexing begins.
 fn shebang(alloc: Global, text: &str) -> Result<(Option<Text>, usize), NoMemory>
-    ensures { IfOk result (λ given. (given.0 ≡ (source_of (chars text.now)).shebang) × (given.1 ≡ (source_of (chars text.now)).start)) }
+    ensures { IfOk result (λ given. (given.0 ≡ (source_of (chars text.now)).shebang)
+        × (given.1 ≡ (source_of (chars text.now)).start)) }
 {
     let line = first_line(text);
     if !is_shebang(line) {

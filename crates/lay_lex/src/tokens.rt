@@ -34,6 +34,7 @@ impl Before {
     }
 }
 
+/// Whether the token is a point.
 fn is_point(token: &Token) -> bool
     ensures { result ≡ is_point_token token.now }
 {
@@ -53,6 +54,7 @@ fn is_mark(token: &Token) -> bool
     }
 }
 
+/// Whether the bytes are a comma or a semicolon.
 fn is_separator(bytes: &[u8]) -> bool
     ensures { result ≡ is_separator bytes.now }
 {
@@ -116,6 +118,7 @@ fn joined(last: Token, next: &Token, touches: bool) -> Token
     Token { joint, ..last }
 }
 
+/// Whether the token before the next is joint.
 fn is_joint(last: &Token, next: &Token, touches: bool) -> bool
     ensures { result ≡ (touches && is_mark next.now && is_mark last.now) }
 {
@@ -131,6 +134,7 @@ pub struct Tokens {
 }
 
 impl Tokens {
+    /// No tokens, before the first place.
     pub fn new(alloc: Global) -> Tokens
         ensures { IsBegun result }
     {

@@ -9,7 +9,8 @@ loop-last-preserved c =
     c.in-Some.ensures.cases.0 ∙ ap (λ d. c.in-Some.front.now ++ d ∷ []) c.if-last-byte.false in
     record {
       text = front_text c.loop-last.bytes.now c.in-Some.front.now c.args.byte c.requires c.loop-last.invariant.text cut;
-      same = without_end-step c.loop-last.bytes.now c.in-Some.front.now c.args.byte c.requires c.loop-last.invariant.text cut ∙ c.loop-last.invariant.same;
+      same = without_end-step c.loop-last.bytes.now c.in-Some.front.now c.args.byte c.requires c.loop-last.invariant.text cut
+          ∙ c.loop-last.invariant.same;
     }
 
 pub returns-then-last-byte : goal.returns-then-last-byte
@@ -20,4 +21,5 @@ returns-then-last-byte c =
 
 pub returns-in_default : goal.returns-in_default
 returns-in_default c =
-    without_end-none c.loop-last.bytes.now c.args.byte c.in_default.ensures.cases ∙ ap encode_utf8_all c.loop-last.invariant.same
+    without_end-none c.loop-last.bytes.now c.args.byte c.in_default.ensures.cases
+    ∙ ap encode_utf8_all c.loop-last.invariant.same

@@ -15,15 +15,14 @@ not_closed state.Three n = refl
 not_closed state.Line n = refl
 not_closed state.Block n = refl
 not_closed state.BlockStar n = refl
-not_closed (state.Deep inner) n = refl
-not_closed (state.Star inner) n = refl
-not_closed (state.Slash inner) n = refl
+not_closed (state.Within b) n = refl
 not_closed state.Spoilt n = refl
 
 pub returns-in-Spoilt : goal.returns-in-Spoilt
 returns-in-Spoilt c =
     sym c.loop-c.invariant.same
-    ∙ sym (rest_of-step (in_gap c.loop-c.state) Spoilt (chars c.loop-c.closed.now) (chars c.loop-c.rest.now) (chars c.in-Some.tail.now) c.in-Some.c false
+    ∙ sym (rest_of-step (in_gap c.loop-c.state) Spoilt (chars c.loop-c.closed.now) (chars c.loop-c.rest.now)
+    (chars c.in-Some.tail.now) c.in-Some.c false
     c.in-Some.ensures.parts c.in-Spoilt.ensures.moved refl)
     ∙ rest_of-spoilt (chars c.loop-c.closed.now) (chars c.in-Some.tail.now)
 
@@ -31,8 +30,9 @@ pub loop-c-preserved : goal.loop-c-preserved
 loop-c-preserved c = record {
   text = search rules;
   closed_text = c.loop-c.invariant.closed_text;
-  same = rest_of-step (in_gap c.loop-c.state) (in_gap c.step-state.result) (chars c.loop-c.closed.now) (chars c.loop-c.rest.now) (chars c.in-Some.tail.now)
-      c.in-Some.c false c.in-Some.ensures.parts c.step-state.ensures.moved (not_closed c.step-state.result c.in_default-state.not-Outside)
+  same = rest_of-step (in_gap c.loop-c.state) (in_gap c.step-state.result) (chars c.loop-c.closed.now) (chars c.loop-c.rest.now)
+      (chars c.in-Some.tail.now) c.in-Some.c false c.in-Some.ensures.parts c.step-state.ensures.moved
+      (not_closed c.step-state.result c.in_default-state.not-Outside)
       ∙ c.loop-c.invariant.same;
   room = omega (arith, c.step-state.ensures.deeper, c.in-Some.ensures.shorter, c.loop-c.invariant.room);
 }

@@ -6,4 +6,5 @@ split_at-requires c = cut_border c.args.s.now c.requires.0 c.requires.1 c.args.l
 
 pub returns : goal.returns
 returns c piece more e h =
-    cut_parts c.args.s.now piece more c.split_at.result.0.now c.split_at.result.1.now c.args.len c.utf8.s e h c.split_at.ensures.front c.split_at.ensures.back
+    cut_parts c.args.s.now piece more c.split_at.result.0.now c.split_at.result.1.now c.args.len c.utf8.s e h
+    c.split_at.ensures.front c.split_at.ensures.back

@@ -9,7 +9,8 @@ use Rattle.lay_token.proofs.Unique.{lexes_once, no_token_once, no_token_or_token
 use Rattle.lay_lex.specs.Lexer.{LexedAs}
 use Rattle.lay_lex.proofs.lexer.lex.Goals as goal
 
-back_tokens : (bytes : List ℕ) (start : ℕ) (r : Result (List Token) FormatError) (ts : List Token) → LexedAs bytes start r → Lexes bytes start ts
+back_tokens : (bytes : List ℕ) (start : ℕ) (r : Result (List Token) FormatError) (ts : List Token)
+    → LexedAs bytes start r → Lexes bytes start ts
     → (r ≡ Ok ts) ⊎ (r ≡ Err NoMemory)
 back_tokens bytes start (Ok us) ts h l = inl (ap (λ v. Ok v) (lexes_once bytes start us ts h l))
 back_tokens bytes start (Err (Refused (NoToken at))) ts h l = absurd (no_token_or_tokens bytes start at ts h l)
@@ -18,10 +19,12 @@ back_tokens bytes start (Err (Refused (Unbalanced at))) ts h l = absurd h
 back_tokens bytes start (Err (Refused (NoItem at))) ts h l = absurd h
 back_tokens bytes start (Err NoMemory) ts h l = inr refl
 
-back_no_token : (bytes : List ℕ) (start : ℕ) (r : Result (List Token) FormatError) (at : ℕ) → LexedAs bytes start r → NoTokenAt bytes start at
+back_no_token : (bytes : List ℕ) (start : ℕ) (r : Result (List Token) FormatError) (at : ℕ) → LexedAs bytes start r
+    → NoTokenAt bytes start at
     → (r ≡ Err (Refused (NoToken at))) ⊎ (r ≡ Err NoMemory)
 back_no_token bytes start (Ok us) at h l = absurd (no_token_or_tokens bytes start at us l h)
-back_no_token bytes start (Err (Refused (NoToken other))) at h l = inl (ap (λ v. Err (Refused (NoToken v))) (no_token_once bytes start other at h l))
+back_no_token bytes start (Err (Refused (NoToken other))) at h l =
+    inl (ap (λ v. Err (Refused (NoToken v))) (no_token_once bytes start other at h l))
 back_no_token bytes start (Err (Refused (NotUtf8 other))) at h l = absurd h
 back_no_token bytes start (Err (Refused (Unbalanced other))) at h l = absurd h
 back_no_token bytes start (Err (Refused (NoItem other))) at h l = absurd h
@@ -29,12 +32,12 @@ back_no_token bytes start (Err NoMemory) at h l = inr refl
 
 pub returns-clause-tokens : goal.returns-clause-tokens
 returns-clause-tokens c ts l =
-    let P : List ℕ → Type 0 = λ b. LexedAs b c.args.source.now.start c.tokens.result in
-    back_tokens c.args.source.now.text c.args.source.now.start c.tokens.result ts
-    (subst P (c.from_utf8_unchecked-text.ensures ∙ c.as_slice.ensures) c.tokens.ensures) l
+    let P : List ℕ → Type 0 = λ b. LexedAs b c.args.source.now.start c.tokens_of.result in
+    back_tokens c.args.source.now.text c.args.source.now.start c.tokens_of.result ts
+    (subst P (c.from_utf8_unchecked-text.ensures ∙ c.as_slice.ensures) c.tokens_of.ensures) l
 
 pub returns-clause-no_token : goal.returns-clause-no_token
 returns-clause-no_token c at l =
-    let P : List ℕ → Type 0 = λ b. LexedAs b c.args.source.now.start c.tokens.result in
-    back_no_token c.args.source.now.text c.args.source.now.start c.tokens.result at
-    (subst P (c.from_utf8_unchecked-text.ensures ∙ c.as_slice.ensures) c.tokens.ensures) l
+    let P : List ℕ → Type 0 = λ b. LexedAs b c.args.source.now.start c.tokens_of.result in
+    back_no_token c.args.source.now.text c.args.source.now.start c.tokens_of.result at
+    (subst P (c.from_utf8_unchecked-text.ensures ∙ c.as_slice.ensures) c.tokens_of.ensures) l

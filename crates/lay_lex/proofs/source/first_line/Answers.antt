@@ -19,7 +19,9 @@ range-requires-clause-end_boundary c = line_end c.args.s.now c.after_line.result
 pub returns : goal.returns
 returns c =
     let ds = front is_in_line (chars c.args.s.now) in
-    let same : (length c.args.s.now - length c.after_line.result.now) - 0 ≡ length c.args.s.now - length c.after_line.result.now = omega arith in
-    let bytes : c.range.result.now ≡ encode_utf8_all ds = c.range.ensures.value ∙ ap (λ n. take n c.args.s.now) same ∙ bytes_before c.args.s.now c.after_line.result.now ds c.utf8.s c.after_line.utf8
+    let n = length c.args.s.now - length c.after_line.result.now in
+    let same : n - 0 ≡ n = omega arith in
+    let bytes : c.range.result.now ≡ encode_utf8_all ds = c.range.ensures.value ∙ ap (λ k. take k c.args.s.now) same
+    ∙ bytes_before c.args.s.now c.after_line.result.now ds c.utf8.s c.after_line.utf8
     (line_parts c.args.s.now c.after_line.result.now c.after_line.ensures) in
     sym (chars_from_encodes ds c.range.result.now c.range.utf8 (sym bytes))

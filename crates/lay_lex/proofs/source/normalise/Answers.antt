@@ -6,7 +6,8 @@ use Rattle.lay_lex.proofs.source.normalise.Goals as goal
 
 pub returns-in-Err-clause-answer : goal.returns-in-Err-clause-answer
 returns-in-Err-clause-answer c =
-    source-no_text c.args.bytes.now c.valid_up_to-at.result c.in-Err.ensures.cases.0 (c.valid_up_to-at.ensures ∙ c.in-Err.ensures.valid_len)
+    source-no_text c.args.bytes.now c.valid_up_to-at.result c.in-Err.ensures.cases.0
+    (c.valid_up_to-at.ensures ∙ c.in-Err.ensures.valid_len)
 
 pub returns-in-Ok-source_of-clause-answer : goal.returns-in-Ok-source_of-clause-answer
 returns-in-Ok-source_of-clause-answer c =

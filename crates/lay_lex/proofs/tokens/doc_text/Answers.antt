@@ -11,10 +11,14 @@ use Rattle.lay_lex.proofs.Trims.{trimmed_is}
 use Rattle.lay_lex.proofs.tokens.doc_text.Goals as goal
 
 -- what documentation says, of which this stands within its marks
-doc_lines : (block : Bool) (cs text : List ℕ) → text ≡ within block cs → list_any (λ c. c == 10) text ≡ true → doc_text block cs ≡ text
-doc_lines block cs text e h = let g = subst (λ (l : List ℕ). list_any (λ c. c == 10) l ≡ true) e h in cond-true _ (within block cs) (trimmed (within block cs)) g ∙ sym e
+doc_lines : (block : Bool) (cs text : List ℕ) → text ≡ within block cs → list_any (λ c. c == 10) text ≡ true
+    → doc_text block cs ≡ text
+doc_lines block cs text e h =
+    let g = subst (λ (l : List ℕ). list_any (λ c. c == 10) l ≡ true) e h in
+    cond-true _ (within block cs) (trimmed (within block cs)) g ∙ sym e
 
-doc_line : (block : Bool) (cs text : List ℕ) → text ≡ within block cs → list_any (λ c. c == 10) text ≡ false → doc_text block cs ≡ without_end 32 text
+doc_line : (block : Bool) (cs text : List ℕ) → text ≡ within block cs → list_any (λ c. c == 10) text ≡ false
+    → doc_text block cs ≡ without_end 32 text
 doc_line block cs text e h =
     let g = subst (λ (l : List ℕ). list_any (λ c. c == 10) l ≡ false) e h in
     cond-false _ (within block cs) (trimmed (within block cs)) g ∙ ap trimmed (sym e) ∙ trimmed_is text

@@ -11,7 +11,8 @@ two_less [] = refl
 two_less (c ∷ []) = refl
 two_less (c ∷ d ∷ cs) = refl
 
-whole_piece : (k : Kind) (cs : List ℕ) → (k ≡ RawIdent → ⊥) → ((inner block : _) → k ≡ Doc inner block → ⊥) → text_of_piece k cs ≡ cs
+whole_piece : (k : Kind) (cs : List ℕ) → (k ≡ RawIdent → ⊥) → ((inner block : _) → k ≡ Doc inner block → ⊥)
+    → text_of_piece k cs ≡ cs
 whole_piece RawIdent cs r d = absurd (r refl)
 whole_piece (Doc inner block) cs r d = absurd (d inner block refl)
 whole_piece _ cs r d = refl

@@ -7,7 +7,8 @@ use Rattle.lay_token.specs.declared.token.Kind.{Kind}
 use Rattle.lay_lex.specs.Tokens.{token_of}
 use Rattle.lay_lex.proofs.tokens.token_of.Goals as goal
 
-token_is : (at len : ℕ) (kind : Kind) (piece text : List ℕ) → text ≡ encode_utf8_all (text_of_piece kind piece) → len ≡ size piece
+token_is : (at len : ℕ) (kind : Kind) (piece text : List ℕ) → text ≡ encode_utf8_all (text_of_piece kind piece)
+    → len ≡ size piece
     → ◌≡◌ {A = Token} (record { kind = kind; text = text; joint = false; at = at; len = len }) (token_of at kind piece)
 token_is at len kind piece text e h = rw (e, h) refl
 

@@ -1,15 +1,14 @@
-use Rattle.std.proofs.Common.{◌≡◌, [], None, length, drop}
+use Rattle.std.proofs.Common.{◌≡◌, [], None, length}
 use denote.Text.{Utf8}
 use denote.Shadow.{shadow}
-use Rattle.std.specs.Str.{chars}
 use Rattle.lay_lex.specs.Tokens.{before, so_far}
 use Rattle.lay_lex.proofs.Parts.{SoFar}
-use Rattle.lay_lex.proofs.lexer.tokens.Given as goal
+use Rattle.lay_lex.proofs.lexer.tokens_of.Given as goal
 
 abbrev pub invariant-loop-rest : goal.invariant-loop-rest
 invariant-loop-rest l = record {
   text : shadow (Utf8 l.ahead);
-  read : SoFar l.start (chars (drop l.start l.text)) (chars l.ahead) (so_far l.tokens) (before l.tokens.before);
+  read : SoFar l.start l.text l.ahead (so_far l.tokens) (before l.tokens.before);
   waits : l.tokens.last ≡ None → l.tokens.done.items ≡ [];
 }
 
