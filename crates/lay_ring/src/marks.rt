@@ -82,6 +82,10 @@ impl<T: Copy> Marks<T> {
         ensures spare { self.old.spare ≤ self.new.spare }
         ensures ok { OnOk result (n ≤ self.new.spare) }
         ensures err { OnErr result (self.new ≡ self.old) }
+
+        // Where there is room already, nothing changes and it is not refused.
+        ensures sure { n ≤ self.old.spare → IsOk result }
+        ensures as_it_was { n ≤ self.old.spare → self.new ≡ self.old }
     {
         room::reserve(&mut self.buffer, n)
     }

@@ -104,7 +104,8 @@ impl Ring {
 
     /// How many entries there are.
     pub fn len(&self) -> usize
-        ensures { result ≡ length self.now.entries }
+        ensures value { result ≡ length self.now.entries }
+        ensures small { result < 2 ^ 63 }
     {
         self.buffer.len()
     }
@@ -116,6 +117,10 @@ impl Ring {
         ensures spare { self.old.spare ≤ self.new.spare }
         ensures ok { OnOk result (n ≤ self.new.spare) }
         ensures err { OnErr result (self.new ≡ self.old) }
+
+        // Where there is room already, nothing changes and it is not refused.
+        ensures sure { n ≤ self.old.spare → IsOk result }
+        ensures as_it_was { n ≤ self.old.spare → self.new ≡ self.old }
     {
         room::reserve(&mut self.buffer, n)
     }

@@ -1,5 +1,5 @@
 //! Room in a circular buffer.
-ghost use Rattle.std.specs.Prelude.{◌≡◌, ◌+◌, ◌≤◌, length, IsOk, OnOk, OnErr};
+ghost use Rattle.std.specs.Prelude.{◌≡◌, ◌+◌, ◌-◌, ◌≤◌, length, IsOk, OnOk, OnErr};
 
 use circular_buffer::HeapCircularBuffer;
 use lay_token::NoMemory;
@@ -18,8 +18,8 @@ pub fn reserve<T>(buffer: &mut HeapCircularBuffer<T>, more: usize) -> Result<(),
     ensures never_less { buffer.old.capacity ≤ buffer.new.capacity }
     ensures ok { OnOk result (length buffer.old.items + more ≤ buffer.new.capacity) }
     ensures err { OnErr result (buffer.new ≡ buffer.old) }
-    ensures sure { length buffer.old.items + more ≤ buffer.old.capacity → IsOk result }
-    ensures as_it_was { length buffer.old.items + more ≤ buffer.old.capacity → buffer.new ≡ buffer.old }
+    ensures sure { more ≤ buffer.old.capacity - length buffer.old.items → IsOk result }
+    ensures as_it_was { more ≤ buffer.old.capacity - length buffer.old.items → buffer.new ≡ buffer.old }
 {
     if more <= spare(buffer) {
         return Ok(());

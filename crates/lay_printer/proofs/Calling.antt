@@ -1,0 +1,215 @@
+-- Calls of a printer.
+use Rattle.std.proofs.Common.{pos, negsuc, ◌≡◌, ◌≢◌, ℕ, ◌+◌, ◌-◌, ◌<◌, ◌≤◌, inl, inr, false, List, [], ◌∷◌, ◌++◌, Option, Some, None, Result, Ok, Err, refl, sym, ap, ◌∙◌, subst, append-nil, le_trans, le_refl, ◌%◌, ◌^◌, length, length-append, arith}
+use Rattle.lay_token.specs.declared.layout.Frame.{Frame}
+use Rattle.lay_token.specs.declared.layout.Tok.{Tok}
+use Rattle.lay_token.specs.Machine.{begun, opened, text}
+use Rattle.lay_io.specs.Faults.{Rose, HasCause}
+use Rattle.lay_io.specs.declared.outside.Failed.{Failed}
+use Rattle.lay_ring.specs.declared.entry.Entry.{Entry}
+use Rattle.lay_ring.specs.declared.entry.Size.{Size}
+use Rattle.lay_ring.specs.declared.entry.Size.TheVariants.{Unknown, Known, Forced}
+use Rattle.lay_stream.specs.Fed.{Start, Puts, Stops, FedFront, Did}
+use Rattle.lay_printer.specs.declared.page.Page.{Page}
+use Rattle.lay_printer.specs.declared.print.PrintError.{PrintError}
+use Rattle.lay_printer.specs.declared.print.PrintError.TheVariants.{WriteFailed, NoMemory}
+use Rattle.lay_printer.specs.declared.printer.Core.{Core}
+use Rattle.lay_printer.specs.Scan.{Holds, waiting}
+use Rattle.lay_printer.specs.Pages.{Wrote, Cut}
+use Rattle.lay_printer.specs.Errors.{Blame, Blames}
+use Rattle.lay_printer.specs.Queued.{Running, Broken, Feeds, Ends, Says, Decided, next_of}
+use Rattle.lay_printer.specs.Same.{IsSame}
+use Rattle.lay_printer.specs.Printers.{Runs, FedBy, CauseOf, LostBy, Went, Lost, Calls, Finishes, printer_meanings}
+use Rattle.lay_printer.specs.Steps.{at}
+use Rattle.lay_printer.proofs.Running.{running_broken}
+use Rattle.lay_printer.proofs.Lockstep.{held_le}
+
+pub runs_new : (c : Core) (w : Option (List ℕ)) (content : List ℕ) → c.queue.ring.entries ≡ [] → c.queue.ring.first ≡ 0 → c.page.pending ≡ 0 → c.page.room ≡ 89 → c.page.used ≡ 0 → c.frames.frames ≡ [] →
+    Wrote w content [] → Runs c w content []
+runs_new c w content e z a b d f h = record {
+  running = record {
+    layout = begun;
+    holds = subst (λ (x : List Entry). Holds [] x begun) (sym e) (record { printed = []; waits = []; all = refl; are_sized = refl; small = omega arith; shown = λ r. refl });
+    at = record { frames_are = f; is = record { pending = a; room = b; small = omega arith; used = d } };
+    wrote = h;
+  };
+  counted = z ∙ ap (λ (x : List Entry). at [] x % 2 ^ 64) (sym e);
+}
+
+counted_next : (n l first first' k k' : ℕ) → l ≡ n + 1 → k ≤ n → k' ≤ l → first' < 2 ^ 64 → first ≡ (n - k) % 2 ^ 64 → (first' + k') % 2 ^ 64 ≡ ((first + k) % 2 ^ 64 + 1) % 2 ^ 64 → first' ≡ (l - k') % 2 ^ 64
+counted_next n l first first' k k' e a b f g h = omega arith
+
+pub calls_ok : {T : Type 0} (c c' : Core) (b n : Option (List ℕ)) (f f' : ℕ) (v : T) (t : Tok) →
+    c.failed ≡ None → c'.failed ≡ None → Feeds {E = PrintError} c.queue.ring.entries c.page c.frames.frames b (Ok v) c'.queue.ring.entries c'.page c'.frames.frames n t → Blames {T = T} f f' (Ok v) →
+    c'.queue.groups ≡ opened (t ∷ []) c.queue.groups → next_of c'.queue.ring ≡ (next_of c.queue.ring + 1) % 2 ^ 64 → Calls {T = T} c b f (Ok v) c' n f' t
+calls_ok c c' b n f f' v t u w k h g m = record {
+  later = h.later;
+  ok = record {
+    hadnt_failed = u;
+    hasnt_failed = w;
+    runs = λ content s r.
+        let q = k.ok content s r.running in
+        record {
+          running = q;
+          counted = counted_next (length s) (length (s ++ t ∷ [])) c.queue.ring.first c'.queue.ring.first (length c.queue.ring.entries) (length c'.queue.ring.entries)
+              (length-append s (t ∷ [])) (held_le s c.queue.ring.entries r.running.layout r.running.holds) (held_le (s ++ t ∷ []) c'.queue.ring.entries q.layout q.holds) c'.queue.number r.counted m;
+        };
+    level = g;
+  };
+  err = tt;
+}
+
+cause_now : (e : PrintError) (f f' : ℕ) (x : Option PrintError) → Blame e f f' → CauseOf e f f' x
+cause_now WriteFailed f f' x h = inl h
+cause_now NoMemory f f' x h = tt
+
+cause_before : (e : PrintError) (f : ℕ) (x : Option PrintError) → x ≡ Some e → CauseOf e f f x
+cause_before WriteFailed f x h = inr h
+cause_before NoMemory f x h = tt
+
+pub calls_err : {T : Type 0} (c c' : Core) (b n : Option (List ℕ)) (f f' : ℕ) (e : PrintError) (es' : List Entry) (p' : Page) (fs' : List Frame) (t : Tok) →
+    c.failed ≡ None → c'.failed ≡ Some e → Feeds {T = T} c.queue.ring.entries c.page c.frames.frames b (Err e) es' p' fs' n t → Blames {T = T} f f' (Err e) → Calls {T = T} c b f (Err e) c' n f' t
+calls_err c c' b n f f' e es' p' fs' t u v k h = record {
+  later = h.later;
+  ok = tt;
+  err = record {
+    has_failed = v;
+    writes = subst (λ (x : Option PrintError). LostBy x c b n t) (sym u) (λ content s r. k.err content s r.running);
+    because = cause_now e f f' c.failed h.failed;
+  };
+}
+
+pub calls_no_memory : {T : Type 0} (c c' : Core) (b : Option (List ℕ)) (f : ℕ) (t : Tok) → c.failed ≡ None → c'.failed ≡ Some NoMemory → Calls {T = T} c b f (Err NoMemory) c' b f t
+calls_no_memory c c' b f t u v = record {
+  later = le_refl f;
+  ok = tt;
+  err = record {
+    has_failed = v;
+    writes = subst (λ (x : Option PrintError). LostBy x c b b t) (sym u) (λ content s r. running_broken c.queue.ring.entries c.page c.frames.frames b content s (t ∷ []) r.running);
+    because = tt;
+  };
+}
+
+pub finish_failed : {T : Type 0} (c : Core) (b : Option (List ℕ)) (f : ℕ) (e : PrintError) → c.failed ≡ Some e → Finishes {T = T} c b f (Err e) c b f
+finish_failed c b f e u = record {
+  later = le_refl f;
+  ok = tt;
+  err = (
+    u,
+    cause_before e f c.failed u,
+    λ content s h.
+        let k : Broken false b content s = subst (λ (x : Option PrintError). FedBy x c b content s) u h in
+        subst (λ (x : List Tok). Cut b content (text x)) (append-nil s) (k [] tt),
+  );
+}
+
+pub finish_ok : {T : Type 0} (c c' : Core) (b n : Option (List ℕ)) (f f' : ℕ) (v : T) → c.failed ≡ None → f ≤ f' → Ends {E = Failed} c.queue.ring.entries c.page c.frames.frames b (Ok v) n → Finishes {T = T} c b f (Ok v) c' n f'
+finish_ok c c' b n f f' v u l k = record {
+  later = l;
+  ok = (
+    u,
+    λ content s h.
+        let r : Runs c b content s = subst (λ (x : Option PrintError). FedBy x c b content s) u h in
+        k.ok content s r.running,
+  );
+  err = tt;
+}
+
+pub finish_err : {T U : Type 0} (c c' : Core) (b n : Option (List ℕ)) (f f' : ℕ) (g : Failed) → c.failed ≡ None → c'.failed ≡ Some WriteFailed → HasCause {T = U} f f' (Err g) → Ends {T = U} c.queue.ring.entries c.page c.frames.frames b (Err g) n →
+    Finishes {T = T} c b f (Err WriteFailed) c' n f'
+finish_err c c' b n f f' g u w l k = record {
+  later = l.later;
+  ok = tt;
+  err = (
+    w,
+    inl l.failed,
+    λ content s h.
+        let r : Runs c b content s = subst (λ (x : Option PrintError). FedBy x c b content s) u h in
+        k.err content s r.running,
+  );
+}
+
+rose_more : (a b c : ℕ) → a ≤ b → Rose b c → Rose a c
+rose_more a b c l h = omega arith
+
+cause_passes : (e : PrintError) (a b c : ℕ) (x y : Option PrintError) → a ≤ b → y ≡ None → CauseOf e b c y → CauseOf e a c x
+cause_passes WriteFailed a b c x y l u (inl h) = inl (rose_more a b c l h)
+cause_passes WriteFailed a b c x y l u (inr h) = cc
+cause_passes NoMemory a b c x y l u h = tt
+
+went_puts : {S : Type 0} (core : S → Core) (written : S → Option (List ℕ)) (faults loan : S → ℕ) (x y : S) (t : Tok) →
+    Went (core x) (written x) (core y) (written y) t → faults x ≤ faults y → loan y ≡ loan x → Puts (printer_meanings core written faults loan) x (t ∷ []) y
+went_puts core written faults loan x y t w l o = record {
+  appends = λ start s h.
+      let r : Runs (core x) (written x) start.content s = subst (λ (z : Option PrintError). FedBy z (core x) (written x) start.content s) w.hadnt_failed h.0 in
+      (subst (λ (z : Option PrintError). FedBy z (core y) (written y) start.content (s ++ t ∷ [])) (sym w.hasnt_failed) (w.runs start.content s r), le_trans h.1 l);
+  level = w.level;
+  later = l;
+  passes = λ e c k. cause_passes e (faults x) (faults y) (faults c) (core x).failed (core y).failed l w.hasnt_failed k;
+  failed_before = λ h. absurd (h w.hasnt_failed);
+  failed_after = λ h. absurd (h w.hadnt_failed);
+  same_loan = o;
+}
+
+lost_front : {S : Type 0} (core : S → Core) (written : S → Option (List ℕ)) (faults loan : S → ℕ) (x y : S) (t : Tok) (e : PrintError) (z : Option PrintError) →
+    (core y).failed ≡ Some e → LostBy z (core x) (written x) (written y) t → faults x ≤ faults y → (start : Start) (s : List Tok) → FedBy z (core x) (written x) start.content s → start.faults ≤ faults x →
+    FedFront (printer_meanings core written faults loan) y start s (t ∷ [])
+lost_front core written faults loan x y t e None v k l start s h m = record {
+  front = t ∷ [];
+  back = [];
+  both = refl;
+  is_fed = (subst (λ (q : Option PrintError). FedBy q (core y) (written y) start.content (s ++ t ∷ [])) (sym v) (k start.content s h), le_trans m l);
+}
+lost_front core written faults loan x y t e (Some d) v k l start s h m =
+    let b : Broken false (written y) start.content (s ++ []) = subst (λ (q : List Tok). Broken false (written y) start.content q) (sym (append-nil s)) (subst (λ (q : Option (List ℕ)). Broken false q start.content s) (sym k) h) in
+    record {
+      front = [];
+      back = t ∷ [];
+      both = refl;
+      is_fed = (subst (λ (q : Option PrintError). FedBy q (core y) (written y) start.content (s ++ [])) (sym v) b, le_trans m l);
+    }
+
+some_is : (z : Option PrintError) (e : PrintError) → z ≡ Some e → z ≢ None
+some_is z e h k = cc
+
+lost_stops : {S : Type 0} (core : S → Core) (written : S → Option (List ℕ)) (faults loan : S → ℕ) (x y : S) (t : Tok) (e : PrintError) →
+    Lost (core x) (written x) (faults x) (core y) (written y) (faults y) t e → faults x ≤ faults y → loan y ≡ loan x → Stops (printer_meanings core written faults loan) x (t ∷ []) e y
+lost_stops core written faults loan x y t e w l o = record {
+  appends = λ start s h. lost_front core written faults loan x y t e (core x).failed w.has_failed w.writes l start s h.0 h.1;
+  later = l;
+  because = w.because;
+  has_failed = some_is (core y).failed e w.has_failed;
+  same_loan = o;
+}
+
+err_is : {T F : Type 0} (r : Result T F) (f g : F) → r ≡ Err f → r ≡ Err g → f ≡ g
+err_is r f g e h = cc
+
+pub did_calls : {S T : Type 0} (core : S → Core) (written : S → Option (List ℕ)) (faults loan : S → ℕ) (x y : S) (t : Tok) (r : Result T PrintError) →
+    Calls (core x) (written x) (faults x) r (core y) (written y) (faults y) t → loan y ≡ loan x → Did (printer_meanings core written faults loan) x (t ∷ []) r y
+did_calls core written faults loan x y t (Ok v) k o = record {
+  puts = λ u e. went_puts core written faults loan x y t k.ok k.later o;
+  stops = λ f e. cc;
+}
+did_calls core written faults loan x y t (Err v) k o = record {
+  puts = λ u e. cc;
+  stops = λ f e. subst (λ (z : PrintError). Stops (printer_meanings core written faults loan) x (t ∷ []) z y) (err_is _ v f refl e) (lost_stops core written faults loan x y t v k.err k.later o);
+}
+
+lag_at : (z : Size) (wait : ℕ) (p : Page) → Says z wait p None → wait ≤ p.room - p.used
+lag_at Unknown wait p h = omega arith
+lag_at (Known (pos k)) wait p h = cc
+lag_at (Known (negsuc k)) wait p h = cc
+lag_at Forced wait p h = cc
+
+-- nothing more is decided: no more text waits than fits
+pub lag_of : (es : List Entry) (wait : ℕ) (p : Page) → wait ≡ waiting es → Decided es wait p None → wait ≤ p.room - p.used
+lag_of [] wait p w d = omega arith
+lag_of (e ∷ es) wait p w d = lag_at e.size wait p d
+
+pub runs_same : (c c' : Core) → IsSame c c' → (written : Option (List ℕ)) (content : List ℕ) (s : List Tok) → Runs c written content s → Runs c' written content s
+runs_same c c' h written content s r = record {
+  running = subst (λ (x : List Entry). Running false x c'.page c'.frames.frames written content s) (sym h.entries)
+      (subst (λ (x : Page). Running false c.queue.ring.entries x c'.frames.frames written content s) (sym h.page)
+      (subst (λ (x : List Frame). Running false c.queue.ring.entries c.page x written content s) (sym h.frames) r.running));
+  counted = h.first ∙ r.counted ∙ ap (λ (x : List Entry). at s x % 2 ^ 64) (sym h.entries);
+}

@@ -1,0 +1,46 @@
+-- How many groups are open.
+use Rattle.std.proofs.Common.{◌≡◌, ℕ, zero, suc, ◌+◌, ◌≤◌, List, [], ◌∷◌, ◌++◌, length, Result, Ok, Err, OnOk, refl, sym, ap, ◌∙◌, arith}
+use Rattle.lay_token.specs.declared.layout.Frame.{Frame}
+use Rattle.lay_token.specs.declared.layout.Tok.{Tok}
+use Rattle.lay_token.specs.declared.layout.Tok.TheVariants as tok
+use Rattle.lay_token.specs.Machine.{opened, outer, below}
+use Rattle.lay_stream.proofs.Calls.{opened_append}
+use Rattle.lay_ring.specs.declared.entry.Entry.{Entry}
+use Rattle.lay_printer.specs.Closed.{toks_of}
+use Rattle.lay_printer.specs.Depth.{open_in}
+
+pub length_below : (fs : List Frame) → length (below fs) ≡ outer (length fs)
+length_below [] = refl
+length_below (f ∷ fs) = refl
+
+outer_le : (n : ℕ) → outer n ≤ n
+outer_le zero = omega arith
+outer_le (suc n) = omega arith
+
+pub opened_le : (ts : List Tok) (n : ℕ) → opened ts n ≤ n + length ts
+opened_le [] n = omega arith
+opened_le (tok.Text t ∷ ts) n = omega (arith, opened_le ts n)
+opened_le (tok.Break b ∷ ts) n = omega (arith, opened_le ts n)
+opened_le (tok.Begin c o ∷ ts) n = omega (arith, opened_le ts (suc n))
+opened_le (tok.End ∷ ts) n = omega (arith, opened_le ts (outer n), outer_le n)
+
+length_toks : (es : List Entry) → length (toks_of es) ≡ length es
+length_toks [] = refl
+length_toks (e ∷ es) = ap suc (length_toks es)
+
+pub open_le : (es : List Entry) (fs : List Frame) → open_in es fs ≤ length fs + length es
+open_le es fs = omega (arith, opened_le (toks_of es) (length fs), length_toks es)
+
+-- the first entry was printed
+pub open_printed : (es es' : List Entry) (e : Entry) (fs fs' : List Frame) → es ≡ e ∷ es' → length fs' ≡ opened (e.tok ∷ []) (length fs) → open_in es' fs' ≡ open_in es fs
+open_printed es es' e fs fs' a d = ap (opened (toks_of es')) d ∙ sym (opened_append (e.tok ∷ []) (toks_of es') (length fs)) ∙ ap (λ (x : List Entry). opened (toks_of x) (length fs)) (sym a)
+
+pub open_printed_on : {T E : Type 0} (r : Result T E) (es es' : List Entry) (e : Entry) (fs fs' : List Frame) → es ≡ e ∷ es' → OnOk r (length fs' ≡ opened (e.tok ∷ []) (length fs)) → OnOk r (open_in es' fs' ≡ open_in es fs)
+open_printed_on (Ok x) es es' e fs fs' a d = open_printed es es' e fs fs' a d
+open_printed_on (Err x) es es' e fs fs' a d = tt
+
+-- a token was fed, and then entries were printed
+pub open_fed : (es mid es' : List Entry) (fs mfs fs' : List Frame) (t : Tok) (g g' : ℕ) → g ≡ open_in es fs → mfs ≡ fs → toks_of mid ≡ toks_of es ++ t ∷ [] → open_in es' fs' ≡ open_in mid mfs →
+    g' ≡ opened (t ∷ []) g → g' ≡ open_in es' fs'
+open_fed es mid es' fs mfs fs' t g g' a f e d h =
+    h ∙ ap (opened (t ∷ [])) a ∙ sym (opened_append (toks_of es) (t ∷ []) (length fs)) ∙ ap (λ (x : List Tok). opened x (length fs)) (sym e) ∙ ap (λ (x : List Frame). opened (toks_of mid) (length x)) (sym f) ∙ sym d

@@ -1,0 +1,14 @@
+pub mod Steps
+pub mod WriteBack
+pub mod Feeding
+pub mod Closing
+pub mod Blanks
+pub mod Paging
+pub mod Splitting
+pub mod Queueing
+pub mod Running
+pub mod Calling
+pub mod Through
+pub mod Lockstep
+pub mod Measures
+pub mod Depths

@@ -1,0 +1,279 @@
+-- Each step of the printer keeps Holds.
+use Rattle.std.proofs.Common.{pos, ◌≡◌, ℕ, zero, suc, ◌+◌, ◌<◌, ◌≤◌, min, Bool, true, false, List, [], ◌∷◌, ◌++◌, length, refl, sym, ap, ◌∙◌, append_assoc, append-nil, arith, lt-ltb}
+use Rattle.std.proofs.lemmas.Bool.Decides.{nat_tests}
+use Rattle.lay_token.specs.declared.layout.Mark.{Mark}
+use Rattle.lay_token.specs.declared.layout.Mark.TheVariants.{Absent, Comma, OpenBrace, CloseBrace}
+use Rattle.lay_token.specs.declared.layout.Break.{Break}
+use Rattle.lay_token.specs.declared.layout.Frame.{Frame}
+use Rattle.lay_token.specs.declared.layout.Frame.TheVariants.{Flat, Broken}
+use Rattle.lay_token.specs.declared.layout.Tok.{Tok}
+use Rattle.lay_token.specs.declared.layout.Tok.TheVariants as tok
+use Rattle.lay_token.specs.Document.{State, width_of_break, over, put_mark, skip, newline, line, shift, break_by}
+use Rattle.lay_token.specs.Machine.{outer, reach, measure, play, step, act, Layout, begun, text, top}
+use Rattle.lay_ring.specs.declared.entry.Size.TheVariants.{Unknown, Known}
+use Rattle.lay_ring.specs.declared.entry.Entry.{Entry}
+use Rattle.lay_printer.specs.Scan.{Scan, Stopped, Going, widen, scan, with_rest, cap, size_of_scan, scan_of, size_of, sized, waiting, Holds, ended, HoldsAtEnd}
+
+with_rest_widen : (w : ℕ) (c : Scan) (r : List Tok) → with_rest (widen w c) r ≡ w + with_rest c r
+with_rest_widen w (Stopped n) r = refl
+with_rest_widen w (Going n d) r = omega arith
+
+-- the measure is what the scan says, whatever follows
+pub reach_scan : (ts : List Tok) (d : ℕ) (r : List Tok) → reach d (ts ++ r) ≡ with_rest (scan d ts) r
+reach_scan [] d r = omega arith
+reach_scan (tok.Text t ∷ ts) d r = omega (arith, reach_scan ts d r, with_rest_widen (length t) (scan d ts) r)
+reach_scan (tok.Break b ∷ ts) zero r = refl
+reach_scan (tok.Break b ∷ ts) (suc d) r = omega (arith, reach_scan ts (suc d) r, with_rest_widen (width_of_break b) (scan (suc d) ts) r)
+reach_scan (tok.Begin c o ∷ ts) d r = reach_scan ts (suc d) r
+reach_scan (tok.End ∷ ts) d r = reach_scan ts (outer d) r
+
+-- printing one more token
+pub play_more : (p : List Tok) (t : Tok) (rest : List Tok) (m : Layout) → play (p ++ t ∷ []) rest m ≡ step t rest (play p (t ∷ rest) m)
+play_more [] t rest m = refl
+play_more (x ∷ p) t rest m =
+    let e = append_assoc p (t ∷ []) rest in
+    ap (λ (ts : List Tok). play (p ++ t ∷ []) rest (step x ts m)) e ∙ play_more p t rest (step x (p ++ t ∷ rest) m)
+
+pub measure_scan : (t : Tok) (ts r : List Tok) → measure t (ts ++ r) ≡ with_rest (scan_of t ts) r
+measure_scan (tok.Text t) ts r = refl
+measure_scan (tok.Break b) ts r = omega (arith, reach_scan ts 0 r, with_rest_widen (width_of_break b) (scan 0 ts) r)
+measure_scan (tok.Begin c o) ts r = reach_scan ts 1 r
+measure_scan tok.End ts r = refl
+
+pub over_capped : (n : ℕ) (s : State) → s.room ≤ 89 → over (min n cap) s ≡ over n s
+over_capped n s h = grind (arith, nat_tests)
+
+-- the space at the start of a line is at most 89
+room_mark : (k : Mark) (s : State) → (put_mark k s).room ≡ s.room
+room_mark Absent s = refl
+room_mark Comma s = refl
+room_mark OpenBrace s = refl
+room_mark CloseBrace s = refl
+
+room_skip : (b : Break) (s : State) → (skip b s).room ≡ s.room
+room_skip b s = room_mark b.instead _
+
+room_newline : (b : Break) (i : ℕ) (s : State) → (newline b i s).room ≤ 89
+room_newline b i s = omega (arith, room_mark b.after (line (shift i b.offset) (put_mark b.before s)))
+
+room_brk : (v : Bool) (f : Frame) (b : Break) (big : Bool) (s : State) → s.room ≤ 89 → (break_by v f b big s).room ≤ 89
+room_brk true f b big s h = omega (arith, room_skip b s)
+room_brk false Flat b big s h = omega (arith, room_skip b s)
+room_brk false (Broken true i) b big s h = room_newline b i s
+room_brk false (Broken false i) b true s h = room_newline b i s
+room_brk false (Broken false i) b false s h = omega (arith, room_skip b s)
+
+pub room_act : (t : Tok) (big : Bool) (m : Layout) → m.state.room ≤ 89 → (act t big m).state.room ≤ 89
+room_act (tok.Text t) big m h = h
+room_act (tok.Break b) big m h = room_brk b.never (top m.frames) b big m.state h
+room_act (tok.Begin c o) big m h = h
+room_act tok.End big m h = h
+
+-- printing the first token that waits, where its decision is the same whatever follows
+print_shown : (p : List Tok) (t : Tok) (ts : List Tok) (m : Layout) (big : Bool) →
+    ((r : List Tok) → play p ((t ∷ ts) ++ r) begun ≡ m) →
+    ((r : List Tok) → over (with_rest (scan_of t ts) r) m.state ≡ big) →
+    (r : List Tok) → play (p ++ t ∷ []) (ts ++ r) begun ≡ act t big m
+print_shown p t ts m big h d r =
+    play_more p t (ts ++ r) begun
+    ∙ ap (λ (l : Layout). step t (ts ++ r) l) (h r)
+    ∙ ap (λ (n : ℕ). act t (over n m.state) m) (measure_scan t ts r)
+    ∙ ap (λ (b : Bool). act t b m) (d r)
+
+-- a known size decides
+known_decides : (c : Scan) (k : ℕ) (s : State) → s.room ≤ 89 → Known (pos k) ≡ size_of_scan c → (r : List Tok) → over (with_rest c r) s ≡ over k s
+known_decides (Stopped n) k s h e r =
+    let q : k ≡ min n cap = cc in
+    sym (ap (λ (x : ℕ). over x s) q ∙ over_capped n s h)
+known_decides (Going n d) k s h e r = cc
+
+print_known_at : (s : List Tok) (t : Tok) (k : ℕ) (es : List Entry) (m : Layout) (p w : List Tok) →
+    p ++ w ≡ s → record { tok = t; size = Known (pos k) } ∷ es ≡ sized w → m.state.room ≤ 89 →
+    ((r : List Tok) → play p (w ++ r) begun ≡ m) → Holds s es (act t (over k m.state) m)
+print_known_at s t k es m p [] a e q h = cc
+print_known_at s t k es m p (x ∷ ts) a e q h =
+    let e0 : record { tok = t; size = Known (pos k) } ≡ record { tok = x; size = size_of x ts } = cc in
+    let ex = ap (λ (y : Entry). y.tok) e0 in
+    let ek = ap (λ (y : Entry). y.size) e0 in
+    let ee : es ≡ sized ts = cc in
+    record {
+      printed = p ++ x ∷ [];
+      waits = ts;
+      all = append_assoc p (x ∷ []) ts ∙ a;
+      are_sized = ee;
+      small = room_act t (over k m.state) m q;
+      shown = λ r. print_shown p x ts m (over k m.state) h (known_decides (scan_of x ts) k m.state q ek) r
+          ∙ ap (λ (y : Tok). act y (over k m.state) m) (sym ex);
+    }
+
+-- the first entry has a known size: it is printed
+pub print_known : (s : List Tok) (t : Tok) (k : ℕ) (es : List Entry) (m : Layout) →
+    Holds s (record { tok = t; size = Known (pos k) } ∷ es) m → Holds s es (act t (over k m.state) m)
+print_known s t k es m h = print_known_at s t k es m h.printed h.waits h.all h.are_sized h.small h.shown
+
+-- a measure that goes on is at least k already
+abbrev AtLeast : Scan → ℕ → Type 0
+AtLeast (Stopped n) k = Unit {0}
+AtLeast (Going n d) k = k ≤ n
+
+at_least_widen : (w : ℕ) (c : Scan) (k j : ℕ) → AtLeast c k → j ≤ w + k → AtLeast (widen w c) j
+at_least_widen w (Stopped n) k j h l = tt
+at_least_widen w (Going n d) k j h l = omega arith
+
+at_least_le : (c : Scan) (k j : ℕ) → AtLeast c k → j ≤ k → AtLeast c j
+at_least_le (Stopped n) k j h l = tt
+at_least_le (Going n d) k j h l = omega arith
+
+-- the texts of tokens that wait are part of a measure that goes on
+texts_going : (ts : List Tok) (d : ℕ) → AtLeast (scan d ts) (waiting (sized ts))
+texts_going [] d = omega arith
+texts_going (tok.Text t ∷ ts) d = at_least_widen (length t) (scan d ts) (waiting (sized ts)) (waiting (sized (tok.Text t ∷ ts))) (texts_going ts d) (omega arith)
+texts_going (tok.Break b ∷ ts) zero = tt
+texts_going (tok.Break b ∷ ts) (suc d) = at_least_widen (width_of_break b) (scan (suc d) ts) (waiting (sized ts)) (waiting (sized (tok.Break b ∷ ts))) (texts_going ts (suc d)) (omega arith)
+texts_going (tok.Begin c o ∷ ts) d = at_least_le (scan (suc d) ts) (waiting (sized ts)) _ (texts_going ts (suc d)) (omega arith)
+texts_going (tok.End ∷ ts) d = at_least_le (scan (outer d) ts) (waiting (sized ts)) _ (texts_going ts (outer d)) (omega arith)
+
+-- so are those of an entry whose size isn't known and of what waits behind it
+texts_unknown : (t : Tok) (ts : List Tok) → AtLeast (scan_of t ts) (waiting (sized (t ∷ ts)))
+texts_unknown (tok.Text t) ts = tt
+texts_unknown (tok.Break b) ts = at_least_widen (width_of_break b) (scan 0 ts) (waiting (sized ts)) _ (texts_going ts 0) (omega arith)
+texts_unknown (tok.Begin c o) ts = at_least_le (scan 1 ts) (waiting (sized ts)) _ (texts_going ts 1) (omega arith)
+texts_unknown tok.End ts = tt
+
+forced_decides : (c : Scan) (k : ℕ) (s : State) → AtLeast c k → Unknown ≡ size_of_scan c → s.room < s.used + k → (r : List Tok) → over (with_rest c r) s ≡ true
+forced_decides (Stopped n) k s h e l r = cc
+forced_decides (Going n d) k s h e l r = lt-ltb s.room (s.used + (n + reach d r)) (omega arith)
+
+print_forced_at : (s : List Tok) (t : Tok) (es : List Entry) (m : Layout) (p w : List Tok) →
+    p ++ w ≡ s → record { tok = t; size = Unknown } ∷ es ≡ sized w → m.state.room ≤ 89 →
+    ((r : List Tok) → play p (w ++ r) begun ≡ m) → m.state.room < m.state.used + waiting (record { tok = t; size = Unknown } ∷ es) → Holds s es (act t true m)
+print_forced_at s t es m p [] a e q h l = cc
+print_forced_at s t es m p (x ∷ ts) a e q h l =
+    let e0 : record { tok = t; size = Unknown } ≡ record { tok = x; size = size_of x ts } = cc in
+    let ex = ap (λ (y : Entry). y.tok) e0 in
+    let ek = ap (λ (y : Entry). y.size) e0 in
+    let ee : es ≡ sized ts = cc in
+    let ew = ap waiting e in
+    record {
+      printed = p ++ x ∷ [];
+      waits = ts;
+      all = append_assoc p (x ∷ []) ts ∙ a;
+      are_sized = ee;
+      small = room_act t true m q;
+      shown = λ r. print_shown p x ts m true h (forced_decides (scan_of x ts) (waiting (sized (x ∷ ts))) m.state (texts_unknown x ts) ek (omega (arith, ew))) r
+          ∙ ap (λ (y : Tok). act y true m) (sym ex);
+    }
+
+-- the first entry has no size yet, and the text that waits is greater than the space: it is printed as one that doesn't fit
+pub print_forced : (s : List Tok) (t : Tok) (es : List Entry) (m : Layout) →
+    Holds s (record { tok = t; size = Unknown } ∷ es) m → m.state.room < m.state.used + waiting (record { tok = t; size = Unknown } ∷ es) →
+    Holds s es (act t true m)
+print_forced s t es m h l = print_forced_at s t es m h.printed h.waits h.all h.are_sized h.small h.shown l
+
+-- a token is fed
+pub fed_one : (s : List Tok) (t : Tok) (es : List Entry) (m : Layout) (h : Holds s es m) → Holds (s ++ t ∷ []) (sized (h.waits ++ t ∷ [])) m
+fed_one s t es m h = record {
+  printed = h.printed;
+  waits = h.waits ++ t ∷ [];
+  all = sym (append_assoc h.printed h.waits (t ∷ [])) ∙ ap (λ (x : List Tok). x ++ t ∷ []) h.all;
+  are_sized = refl;
+  small = h.small;
+  shown = λ r. ap (λ (x : List Tok). play h.printed x begun) (append_assoc h.waits (t ∷ []) r) ∙ h.shown (t ∷ r);
+}
+
+text_at_end_of : (s : List Tok) (m : Layout) (p w : List Tok) → p ++ w ≡ s → [] ≡ sized w → ((r : List Tok) → play p (w ++ r) begun ≡ m) → text s ≡ m.state.text
+text_at_end_of s m p [] a e h = ap (λ (x : List Tok). text x) (sym a ∙ append-nil p) ∙ ap (λ (l : Layout). l.state.text) (h [])
+text_at_end_of s m p (x ∷ w) a e h = cc
+
+-- at the end nothing waits: the text is that of the stream
+pub text_at_end : (s : List Tok) (m : Layout) → Holds s [] m → text s ≡ m.state.text
+text_at_end s m h = text_at_end_of s m h.printed h.waits h.all h.are_sized h.shown
+
+-- no more tokens come: the sizes that weren't known are
+pub to_end : (s : List Tok) (es : List Entry) (m : Layout) (h : Holds s es m) → HoldsAtEnd s (ended h.waits) m
+to_end s es m h = record {
+  printed = h.printed;
+  waits = h.waits;
+  all = h.all;
+  are_sized = refl;
+  small = h.small;
+  shown = ap (λ (x : List Tok). play h.printed x begun) (sym (append-nil h.waits)) ∙ h.shown [];
+}
+
+print_ended_at : (s : List Tok) (t : Tok) (k : ℕ) (es : List Entry) (m : Layout) (p w : List Tok) →
+    p ++ w ≡ s → record { tok = t; size = Known (pos k) } ∷ es ≡ ended w → m.state.room ≤ 89 → play p w begun ≡ m → HoldsAtEnd s es (act t (over k m.state) m)
+print_ended_at s t k es m p [] a e q h = cc
+print_ended_at s t k es m p (x ∷ ts) a e q h =
+    let n = with_rest (scan_of x ts) [] in
+    let e0 : record { tok = t; size = Known (pos k) } ≡ record { tok = x; size = Known (pos (min n cap)) } = cc in
+    let ex = ap (λ (y : Entry). y.tok) e0 in
+    let ek : Known (pos k) ≡ Known (pos (min n cap)) = ap (λ (y : Entry). y.size) e0 in
+    let ej : k ≡ min n cap = cc in
+    let ee : es ≡ ended ts = cc in
+    let em : measure x ts ≡ n = ap (measure x) (sym (append-nil ts)) ∙ measure_scan x ts [] in
+    record {
+      printed = p ++ x ∷ [];
+      waits = ts;
+      all = append_assoc p (x ∷ []) ts ∙ a;
+      are_sized = ee;
+      small = room_act t (over k m.state) m q;
+      shown = play_more p x ts begun
+          ∙ ap (λ (l : Layout). step x ts l) h
+          ∙ ap (λ (j : ℕ). act x (over j m.state) m) em
+          ∙ ap (λ (b : Bool). act x b m) (sym (over_capped n m.state q) ∙ ap (λ (j : ℕ). over j m.state) (sym ej))
+          ∙ ap (λ (y : Tok). act y (over k m.state) m) (sym ex);
+    }
+
+pub print_ended : (s : List Tok) (t : Tok) (k : ℕ) (es : List Entry) (m : Layout) →
+    HoldsAtEnd s (record { tok = t; size = Known (pos k) } ∷ es) m → HoldsAtEnd s es (act t (over k m.state) m)
+print_ended s t k es m h = print_ended_at s t k es m h.printed h.waits h.all h.are_sized h.small h.shown
+
+text_ended_of : (s : List Tok) (m : Layout) (p w : List Tok) → p ++ w ≡ s → [] ≡ ended w → play p w begun ≡ m → text s ≡ m.state.text
+text_ended_of s m p [] a e h = ap (λ (x : List Tok). text x) (sym a ∙ append-nil p) ∙ ap (λ (l : Layout). l.state.text) h
+text_ended_of s m p (x ∷ w) a e h = cc
+
+pub text_ended : (s : List Tok) (m : Layout) → HoldsAtEnd s [] m → text s ≡ m.state.text
+text_ended s m h = text_ended_of s m h.printed h.waits h.all h.are_sized h.shown
+
+-- what was printed is a front of what will be
+abbrev pub Grows : List ℕ → List ℕ → Type 0
+Grows a b = (u : List ℕ) × (b ≡ a ++ u)
+
+pub grows_same : (a : List ℕ) → Grows a a
+grows_same a = ([], sym (append-nil a))
+
+pub grows_on : (a b c : List ℕ) → Grows a b → Grows b c → Grows a c
+grows_on a b c g h = (g.0 ++ h.0, h.1 ∙ ap (λ (x : List ℕ). x ++ h.0) g.1 ∙ append_assoc a g.0 h.0)
+
+pub grows_mark : (k : Mark) (s : State) → Grows s.text (put_mark k s).text
+grows_mark Absent s = grows_same s.text
+grows_mark Comma s = (_, refl)
+grows_mark OpenBrace s = (_, refl)
+grows_mark CloseBrace s = (_, refl)
+
+pub grows_skip : (b : Break) (s : State) → Grows s.text (skip b s).text
+grows_skip b s = grows_mark b.instead _
+
+pub grows_newline : (b : Break) (i : ℕ) (s : State) → Grows s.text (newline b i s).text
+grows_newline b i s =
+    let t = put_mark b.before s in
+    let l = line (shift i b.offset) t in
+    grows_on s.text t.text (newline b i s).text (grows_mark b.before s) (grows_on t.text l.text _ (10 ∷ [], refl) (grows_mark b.after l))
+
+pub grows_brk : (v : Bool) (f : Frame) (b : Break) (big : Bool) (s : State) → Grows s.text (break_by v f b big s).text
+grows_brk true f b big s = grows_skip b s
+grows_brk false Flat b big s = grows_skip b s
+grows_brk false (Broken true i) b big s = grows_newline b i s
+grows_brk false (Broken false i) b true s = grows_newline b i s
+grows_brk false (Broken false i) b false s = grows_skip b s
+
+pub grows_act : (t : Tok) (big : Bool) (m : Layout) → Grows m.state.text (act t big m).state.text
+grows_act (tok.Text t) big m = (_, refl)
+grows_act (tok.Break b) big m = grows_brk b.never (top m.frames) b big m.state
+grows_act (tok.Begin c o) big m = grows_same m.state.text
+grows_act tok.End big m = grows_same m.state.text
+
+pub grows_play : (ts rest : List Tok) (m : Layout) → Grows m.state.text (play ts rest m).state.text
+grows_play [] rest m = grows_same m.state.text
+grows_play (t ∷ ts) rest m =
+    grows_on m.state.text (step t (ts ++ rest) m).state.text _ (grows_act t (over (measure t (ts ++ rest)) m.state) m) (grows_play ts rest (step t (ts ++ rest) m))

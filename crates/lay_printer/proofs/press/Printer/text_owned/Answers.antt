@@ -1,0 +1,6 @@
+use Rattle.lay_printer.proofs.Calling.{did_calls}
+use Rattle.lay_printer.proofs.press.Printer.text_owned.Goals as goal
+
+pub returns-clause-did : goal.returns-clause-did
+returns-clause-did g c =
+    did_calls (λ p. p.core) (λ p. g.K.Sink.written p.sink) (λ p. g.K.Sink.faults p.sink) (λ p. g.K.Sink.loan p.sink) c.args.self.now _ _ _ c.text_owned.ensures.calls c.text_owned.ensures.loan

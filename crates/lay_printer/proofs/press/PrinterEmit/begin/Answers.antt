@@ -1,0 +1,10 @@
+use Rattle.std.proofs.Common.{rules}
+use Rattle.lay_token.specs.declared.layout.Tok.TheVariants as tok
+use Rattle.lay_printer.specs.Printers.{Calls}
+use Rattle.lay_printer.proofs.Calling.{did_calls}
+use Rattle.lay_printer.proofs.press.PrinterEmit.begin.Goals as goal
+
+pub returns-clause-did : goal.returns-clause-did
+returns-clause-did g c =
+    let k : Calls c.args.self.now.core (g.K.Sink.written c.args.self.now.sink) (g.K.Sink.faults c.args.self.now.sink) c.begin.result c.begin.new.self (g.K.Sink.written c.begin.new.sink) (g.K.Sink.faults c.begin.new.sink) (tok.Begin c.args.consistent c.args.offset) = search rules in
+    did_calls (λ p. p.core) (λ p. g.K.Sink.written p.sink) (λ p. g.K.Sink.faults p.sink) (λ p. g.K.Sink.loan p.sink) c.args.self.now _ _ _ k c.begin.ensures.loan

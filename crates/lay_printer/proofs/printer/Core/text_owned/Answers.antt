@@ -1,0 +1,13 @@
+use Rattle.std.proofs.Common.{rules, ◌≡◌, None, arith}
+use Rattle.lay_printer.proofs.Calling.{calls_ok, lag_of}
+use Rattle.lay_printer.proofs.printer.Core.text_owned.Goals as goal
+
+pub invariant_of-self : goal.invariant_of-self
+invariant_of-self g c =
+    let q = c.feed_text.new.queue in
+    record { live = λ _. c.feed_text.ensures.ended; room = c.feed_text.ensures.room; kept = omega (arith, c.room-self.ensures); level = λ _. c.in-Ok.ensures.level; lag = λ _. lag_of q.ring.entries q.waiting c.feed_text.new.page q.wait_is c.in-Ok.ensures.stops }
+
+pub returns-in-Ok-clause-calls : goal.returns-in-Ok-clause-calls
+returns-in-Ok-clause-calls g c =
+    let e : c.args.self.now.failed ≡ None = search rules in
+    calls_ok _ _ _ _ _ _ _ _ e e c.in-Ok.ensures.feeds c.in-Ok.ensures.cause c.feed_text.ensures.groups c.in-Ok.ensures.number

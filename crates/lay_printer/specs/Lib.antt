@@ -1,0 +1,14 @@
+pub mod Scan
+pub mod Notes
+pub mod Closed
+pub mod Pages
+pub mod Queued
+pub mod Errors
+pub mod Printers
+pub mod Steps
+pub mod Framed
+pub mod Spares
+pub mod Depth
+pub mod Same
+pub mod Sizes
+pub mod Texts

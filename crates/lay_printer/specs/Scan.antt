@@ -1,0 +1,97 @@
+-- Tokens that wait, with the sizes that are known of them before the rest is fed.
+use Rattle.std.specs.Prelude.{◌≡◌, ℕ, zero, suc, ◌+◌, ◌≤◌, min, Bool, true, false, pos, negsuc, List, [], ◌∷◌, ◌++◌, length}
+use Rattle.lay_token.specs.declared.layout.Tok.{Tok}
+use Rattle.lay_token.specs.declared.layout.Tok.TheVariants as tok
+use Rattle.lay_ring.specs.declared.entry.Size.{Size}
+use Rattle.lay_ring.specs.declared.entry.Size.TheVariants.{Unknown, Known, Forced}
+use Rattle.lay_ring.specs.declared.entry.Entry.{Entry}
+use Rattle.lay_token.specs.Document.{State, width_of_break, over}
+use Rattle.lay_token.specs.Machine.{outer, reach, play, Layout, begun}
+
+-- How far a measure has come in the tokens that were fed: it has ended, or it goes on at a depth.
+pub data Scan : Type 0 where
+  Stopped : (n : ℕ) → Scan
+  Going : (n depth : ℕ) → Scan
+
+abbrev pub widen : ℕ → Scan → Scan
+widen w (Stopped n) = Stopped (w + n)
+widen w (Going n d) = Going (w + n) d
+
+abbrev pub scan_break : ℕ → ℕ → Scan → Scan
+scan_break zero w rest = Stopped 0
+scan_break (suc d) w rest = widen w rest
+
+abbrev pub scan : ℕ → List Tok → Scan
+scan d [] = Going 0 d
+scan d (tok.Text t ∷ ts) = widen (length t) (scan d ts)
+scan d (tok.Break b ∷ ts) = scan_break d (width_of_break b) (scan d ts)
+scan d (tok.Begin c o ∷ ts) = scan (suc d) ts
+scan d (tok.End ∷ ts) = scan (outer d) ts
+
+-- the measure, where r follows
+abbrev pub with_rest : Scan → List Tok → ℕ
+with_rest (Stopped n) r = n
+with_rest (Going n d) r = n + reach d r
+
+-- the greatest size that is kept
+abbrev pub cap : ℕ
+cap = 0x4000_0000_0000_0000
+
+abbrev pub size_of_scan : Scan → Size
+size_of_scan (Stopped n) = Known (pos (min n cap))
+size_of_scan (Going n d) = Unknown
+
+abbrev pub scan_of : Tok → List Tok → Scan
+scan_of (tok.Text t) ts = Stopped (length t)
+scan_of (tok.Break b) ts = widen (width_of_break b) (scan 0 ts)
+scan_of (tok.Begin c o) ts = scan 1 ts
+scan_of tok.End ts = Stopped 0
+
+abbrev pub size_of : Tok → List Tok → Size
+size_of t ts = size_of_scan (scan_of t ts)
+
+-- the entries of tokens that wait
+abbrev pub sized : List Tok → List Entry
+sized [] = []
+sized (t ∷ ts) = record { tok = t; size = size_of t ts } ∷ sized ts
+
+-- the length of the texts
+abbrev pub text_length : Tok → ℕ
+text_length (tok.Text t) = length t
+text_length (tok.Break b) = 0
+text_length (tok.Begin c o) = 0
+text_length tok.End = 0
+
+abbrev pub waiting : List Entry → ℕ
+waiting [] = 0
+waiting (e ∷ es) = text_length e.tok + waiting es
+
+-- is an entry of this size one that doesn't fit?
+abbrev pub is_big : Size → State → Bool
+is_big Unknown s = false
+is_big (Known (pos n)) s = over n s
+is_big (Known (negsuc n)) s = false
+is_big Forced s = true
+
+-- The printer after the tokens s: the first ones are printed, whatever follows s, and the others wait.
+pub record Holds (s : List Tok) (entries : List Entry) (layout : Layout) : Type 0 where
+  pub printed : List Tok
+  pub waits : List Tok
+  pub all : printed ++ waits ≡ s
+  pub are_sized : entries ≡ sized waits
+  pub small : layout.state.room ≤ 89
+  pub shown : (r : List Tok) → play printed (waits ++ r) begun ≡ layout
+
+-- the entries of tokens that wait when no more come
+abbrev pub ended : List Tok → List Entry
+ended [] = []
+ended (t ∷ ts) = record { tok = t; size = Known (pos (min (with_rest (scan_of t ts) []) cap)) } ∷ ended ts
+
+-- the same at the end, when no more tokens come
+pub record HoldsAtEnd (s : List Tok) (entries : List Entry) (layout : Layout) : Type 0 where
+  pub printed : List Tok
+  pub waits : List Tok
+  pub all : printed ++ waits ≡ s
+  pub are_sized : entries ≡ ended waits
+  pub small : layout.state.room ≤ 89
+  pub shown : play printed waits begun ≡ layout

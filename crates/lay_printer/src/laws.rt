@@ -1,0 +1,26 @@
+//! What holds of a printer at every moment.
+ghost use Rattle.std.specs.Prelude.{◌≡◌, ℕ, ◌≤◌, ◌-◌, ◌%◌, ◌^◌, ◌++◌, List, Option, true, false, length, take};
+ghost use Rattle.lay_token.specs.declared.layout.Tok.{Tok};
+ghost use Rattle.lay_token.specs.Machine.{shown};
+ghost use Rattle.lay_printer.specs.declared.printer.Core.{Core};
+ghost use Rattle.lay_printer.specs.Printers.{Runs};
+ghost use Rattle.lay_printer.specs.Sizes.{AreMeasured};
+ghost use Rattle.lay_printer.specs.Steps.{InStep, at};
+ghost use Rattle.lay_printer.specs.Texts.{AreFull, ends_in_blank, last_blank};
+
+/// A printer that was fed the tokens s and hasn't failed, over a sink that had the content.
+///
+/// It has printed the tokens of s but for those in its ring, j of them. For whatever tokens r that follow, the
+/// sink has grown by what is shown at token j, and the ring holds the tokens from there on, in order. Known
+/// sizes are measures. The number of the ring's first entry is j modulo 2^64.
+pub fn fed_law()
+    ensures lockstep { (c : Core) (written : Option (List ℕ)) (content : List ℕ) (s r : List Tok) → Runs c written content s → InStep c.queue.ring.entries c.page written content s r }
+    ensures sizes { (c : Core) (written : Option (List ℕ)) (content : List ℕ) (s : List Tok) → Runs c written content s → AreMeasured c.queue.ring.entries }
+    ensures work { (c : Core) (written : Option (List ℕ)) (content : List ℕ) (s : List Tok) → Runs c written content s → c.queue.ring.first ≡ at s c.queue.ring.entries % 2 ^ 64 }
+{}
+
+/// Where no text is empty, what is shown ends in a blank only where the last text before does. So a newline
+/// stands directly after a blank only where the blank is a text's own.
+pub fn blanks_law()
+    ensures { (s r : List Tok) (j : ℕ) → AreFull s → j ≤ length s → ends_in_blank (shown (s ++ r) j) ≡ true → last_blank (take j s) false ≡ true }
+{}

@@ -1,0 +1,285 @@
+//! Tokens that wait, with the sizes that are known of them.
+ghost use Rattle.std.specs.Prelude.{◌≡◌, ℕ, ◌+◌, ◌-◌, ◌%◌, ◌^◌, ◌<◌, ◌≤◌, [], ◌∷◌, ◌++◌, length, drop, slice_get, OnOk, OnErr, IfOk, IsOk, map, true, false};
+ghost use Rattle.lay_token.specs.declared.layout.Tok.TheVariants as tok;
+ghost use Rattle.lay_token.specs.Document.{bytes_of_mark};
+ghost use Rattle.lay_printer.specs.Closed.{toks_of, sizes_of};
+ghost use Rattle.lay_printer.specs.Scan.{text_length, size_of_scan, waiting as sum_waiting, cap};
+ghost use Rattle.lay_printer.specs.Notes.{Fits, Fits-prop, scans};
+ghost use Rattle.lay_printer.specs.Queued.{at_end, notes_after, next_of};
+
+use crate::close::{CAP, Note, close};
+use lay_ring::{Entry, Marks, Ring, Size};
+use lay_token::{Break, Mark, NoMemory, Text, Tok};
+use std::alloc::Global;
+
+/// Tokens that wait, oldest first, and what is kept of those whose size isn't known.
+#[derive(Drop)]
+pub struct Queue {
+    pub ring: Ring,
+    pub notes: Marks<Note>,
+    /// The width from the newest note on, or the cap where that is less.
+    pub acc: u64,
+    /// How many groups are open after all tokens.
+    pub groups: u64,
+    /// How many bytes of text wait.
+    pub waiting: u64,
+    /// No more tokens come.
+    pub ended: bool,
+    ghost sizes: { sizes_of ring.entries ≡ map size_of_scan (map (at_end ended) (scans (toks_of ring.entries))) },
+    ghost fits: { Fits ring.first acc groups groups (map (at_end ended) (scans (toks_of ring.entries))) notes.items } by { Fits-prop ring.first acc groups groups (map (at_end ended) (scans (toks_of ring.entries))) notes.items },
+    ghost acc_small: { acc ≤ cap },
+    ghost wait_is: { waiting ≡ sum_waiting ring.entries },
+    ghost number: { ring.first < 2 ^ 64 },
+    ghost held: { length ring.entries ≤ 2 ^ 63 },
+}
+
+/// A mark's length.
+fn mark_len(mark: Mark) -> u64
+    ensures value { result ≡ length (bytes_of_mark mark) }
+    ensures small { result ≤ 1 }
+{
+    match mark {
+        Mark::Absent => 0,
+        Mark::Comma | Mark::OpenBrace | Mark::CloseBrace => 1,
+    }
+}
+
+/// A text's length, or 0.
+fn text_len(tok: &Tok) -> u64
+    ensures { result ≡ text_length tok.now }
+{
+    match tok {
+        Tok::Text(text) => text.as_bytes().len() as u64,
+        _ => 0,
+    }
+}
+
+/// Takes the oldest note, where it is that of an entry with this size.
+fn drop_note(notes: &mut Marks<Note>, size: Size)
+    ensures items { notes.new.items ≡ notes_after size notes.old.items }
+    ensures spare { notes.old.spare ≤ notes.new.spare }
+{
+    if let Size::Unknown = size {
+        let _ = notes.pop_oldest();
+    }
+}
+
+impl Queue {
+    /// Nothing waits.
+    pub fn new(alloc: Global) -> Result<Queue, NoMemory>
+        ensures entries { IfOk result (λ q. q.ring.entries ≡ []) }
+        ensures first { IfOk result (λ q. q.ring.first ≡ 0) }
+        ensures groups { IfOk result (λ q. q.groups ≡ 0) }
+        ensures ended { IfOk result (λ q. q.ended ≡ false) }
+    {
+        let ring = Ring::new(alloc, 0)?;
+        let notes = Marks::new(alloc, 0)?;
+        Ok(Queue {
+            ring,
+            notes,
+            acc: 0,
+            groups: 0,
+            waiting: 0,
+            ended: false,
+        })
+    }
+
+    /// Makes room for one more entry and its note.
+    fn make_room(&mut self) -> Result<(), NoMemory>
+        ensures entries { self.new.ring.entries ≡ self.old.ring.entries }
+        ensures groups { self.new.groups ≡ self.old.groups }
+        ensures ended { self.new.ended ≡ self.old.ended }
+        ensures ring { OnOk result (0 < self.new.ring.spare) }
+        ensures notes { OnOk result (0 < self.new.notes.spare) }
+        ensures room { OnOk result (length self.new.ring.entries < 2 ^ 63) }
+        ensures waiting { self.new.waiting ≡ self.old.waiting }
+        ensures sure { 0 < self.old.ring.spare → 0 < self.old.notes.spare → IsOk result }
+        ensures ring_kept { self.old.ring.spare ≤ self.new.ring.spare }
+        ensures notes_kept { self.old.notes.spare ≤ self.new.notes.spare }
+        ensures first { self.new.ring.first ≡ self.old.ring.first }
+    {
+        let held = self.ring.len();
+        prove!(held < 0x8000_0000_0000_0000);
+        self.ring.reserve(1)?;
+        self.notes.reserve(1)
+    }
+
+    /// A text comes. It has its size at once.
+    pub fn add_text(&mut self, text: Text) -> Result<(), NoMemory>
+        requires ended { self.old.ended ≡ false }
+        requires few { self.old.waiting ≤ 89 }
+        ensures toks { OnOk result (toks_of self.new.ring.entries ≡ toks_of self.old.ring.entries ++ tok.Text text ∷ []) }
+        ensures groups { self.new.groups ≡ self.old.groups }
+        ensures length { length self.new.ring.entries ≤ length self.old.ring.entries + 1 }
+        ensures sure { 0 < self.old.ring.spare → 0 < self.old.notes.spare → IsOk result }
+        ensures ring_spare { self.old.ring.spare ≤ self.new.ring.spare + 1 }
+        ensures notes_spare { self.old.notes.spare ≤ self.new.notes.spare + 1 }
+        ensures number { OnOk result (next_of self.new.ring ≡ (next_of self.old.ring + 1) % 2 ^ 64) }
+        ensures ended { self.new.ended ≡ false }
+    {
+        self.make_room()?;
+        let len = text.as_bytes().len() as u64;
+        let entry = Entry {
+            tok: Tok::Text(text),
+            size: Size::Known(len.min(CAP) as i64),
+        };
+        match self.ring.push(entry) {
+            Ok(_) => {
+                self.acc = self.acc.saturating_add(len).min(CAP);
+                self.waiting += len;
+                Ok(())
+            }
+            Err(_) => unreachable!(),
+        }
+    }
+
+    /// A break comes. It ends the measures of what was noted with no fewer groups open.
+    pub fn add_break(&mut self, brk: Break) -> Result<(), NoMemory>
+        requires { self.old.ended ≡ false }
+        ensures toks { OnOk result (toks_of self.new.ring.entries ≡ toks_of self.old.ring.entries ++ tok.Break brk ∷ []) }
+        ensures groups { self.new.groups ≡ self.old.groups }
+        ensures length { length self.new.ring.entries ≤ length self.old.ring.entries + 1 }
+        ensures sure { 0 < self.old.ring.spare → 0 < self.old.notes.spare → IsOk result }
+        ensures ring_spare { self.old.ring.spare ≤ self.new.ring.spare + 1 }
+        ensures notes_spare { self.old.notes.spare ≤ self.new.notes.spare + 1 }
+        ensures number { OnOk result (next_of self.new.ring ≡ (next_of self.old.ring + 1) % 2 ^ 64) }
+        ensures ended { self.new.ended ≡ false }
+    {
+        self.make_room()?;
+        let width = brk.blank as u64 + mark_len(brk.instead);
+        let delta = close(&mut self.ring, &mut self.notes, self.acc, self.groups);
+        let entry = Entry {
+            tok: Tok::Break(brk),
+            size: Size::Unknown,
+        };
+        match self.ring.push(entry) {
+            Ok(number) => {
+                let note = Note {
+                    number,
+                    level: self.groups,
+                    delta,
+                };
+                match self.notes.push(note) {
+                    Ok(()) => {
+                        self.acc = width;
+                        Ok(())
+                    }
+                    Err(_) => unreachable!(),
+                }
+            }
+            Err(_) => unreachable!(),
+        }
+    }
+
+    /// A group begins.
+    pub fn add_begin(&mut self, consistent: bool, offset: i8) -> Result<(), NoMemory>
+        requires ended { self.old.ended ≡ false }
+        requires few { self.old.groups + 1 < 2 ^ 64 }
+        ensures toks { OnOk result (toks_of self.new.ring.entries ≡ toks_of self.old.ring.entries ++ tok.Begin consistent offset ∷ []) }
+        ensures groups { OnOk result (self.new.groups ≡ self.old.groups + 1) }
+        ensures length { length self.new.ring.entries ≤ length self.old.ring.entries + 1 }
+        ensures sure { 0 < self.old.ring.spare → 0 < self.old.notes.spare → IsOk result }
+        ensures ring_spare { self.old.ring.spare ≤ self.new.ring.spare + 1 }
+        ensures notes_spare { self.old.notes.spare ≤ self.new.notes.spare + 1 }
+        ensures number { OnOk result (next_of self.new.ring ≡ (next_of self.old.ring + 1) % 2 ^ 64) }
+        ensures ended { self.new.ended ≡ false }
+    {
+        self.make_room()?;
+        let entry = Entry {
+            tok: Tok::Begin { consistent, offset },
+            size: Size::Unknown,
+        };
+        match self.ring.push(entry) {
+            Ok(number) => {
+                let note = Note {
+                    number,
+                    level: self.groups,
+                    delta: self.acc,
+                };
+                match self.notes.push(note) {
+                    Ok(()) => {
+                        self.acc = 0;
+                        self.groups += 1;
+                        Ok(())
+                    }
+                    Err(_) => unreachable!(),
+                }
+            }
+            Err(_) => unreachable!(),
+        }
+    }
+
+    /// The group that was begun last ends. Measures go on past it.
+    pub fn add_end(&mut self) -> Result<(), NoMemory>
+        requires ended { self.old.ended ≡ false }
+        requires groups { 0 < self.old.groups }
+        ensures toks { OnOk result (toks_of self.new.ring.entries ≡ toks_of self.old.ring.entries ++ tok.End ∷ []) }
+        ensures groups { OnOk result (self.new.groups ≡ self.old.groups - 1) }
+        ensures length { length self.new.ring.entries ≤ length self.old.ring.entries + 1 }
+        ensures sure { 0 < self.old.ring.spare → 0 < self.old.notes.spare → IsOk result }
+        ensures ring_spare { self.old.ring.spare ≤ self.new.ring.spare + 1 }
+        ensures notes_spare { self.old.notes.spare ≤ self.new.notes.spare + 1 }
+        ensures number { OnOk result (next_of self.new.ring ≡ (next_of self.old.ring + 1) % 2 ^ 64) }
+        ensures ended { self.new.ended ≡ false }
+    {
+        self.make_room()?;
+        let entry = Entry {
+            tok: Tok::End,
+            size: Size::Known(0),
+        };
+        match self.ring.push(entry) {
+            Ok(_) => {
+                self.groups -= 1;
+                Ok(())
+            }
+            Err(_) => unreachable!(),
+        }
+    }
+
+    /// No more tokens come: every measure ends.
+    pub fn end_all(&mut self)
+        requires ended { self.old.ended ≡ false }
+        requires groups { self.old.groups ≡ 0 }
+        ensures toks { toks_of self.new.ring.entries ≡ toks_of self.old.ring.entries }
+        ensures length { length self.new.ring.entries ≤ length self.old.ring.entries }
+        ensures groups { self.new.groups ≡ self.old.groups }
+        ensures ring_spare { self.old.ring.spare ≤ self.new.ring.spare }
+        ensures notes_spare { self.old.notes.spare ≤ self.new.notes.spare }
+        ensures ended { self.new.ended ≡ true }
+    {
+        self.acc = close(&mut self.ring, &mut self.notes, self.acc, 0);
+        self.ended = true;
+    }
+
+    /// Takes the oldest entry.
+    pub fn pop(&mut self) -> Option<Entry>
+        ensures value { result ≡ slice_get self.old.ring.entries 0 }
+        ensures entries { self.new.ring.entries ≡ drop 1 self.old.ring.entries }
+        ensures groups { self.new.groups ≡ self.old.groups }
+        ensures ring_spare { self.old.ring.spare ≤ self.new.ring.spare }
+        ensures notes_spare { self.old.notes.spare ≤ self.new.notes.spare }
+        ensures number { next_of self.new.ring ≡ next_of self.old.ring }
+        ensures ended { self.new.ended ≡ self.old.ended }
+    {
+        match self.ring.pop_front() {
+            Some(entry) => {
+                drop_note(&mut self.notes, entry.size);
+                self.waiting -= text_len(&entry.tok);
+                Some(entry)
+            }
+            None => None,
+        }
+    }
+
+    /// Nothing waits: tokens may come again.
+    pub fn restart(&mut self)
+        ensures ring { self.new.ring ≡ self.old.ring }
+        ensures notes { self.new.notes.spare ≡ self.old.notes.spare }
+        ensures groups { self.new.groups ≡ self.old.groups }
+        ensures ended { self.old.ring.entries ≡ [] → self.new.ended ≡ false }
+    {
+        if self.ring.len() == 0 {
+            self.ended = false;
+        }
+    }
+}

@@ -1,0 +1,111 @@
+//! Random streams, printed as they come and by the slow printer.
+ghost use Rattle.std.specs.Prelude.{◌≡◌, ◌+◌, ◌^◌, ◌<◌, ◌≤◌, IfOk};
+ghost use Rattle.lay_token.specs.Machine.{opened};
+
+use super::{In, hard, press_one, soft, token};
+use crate::press::Press;
+use crate::printer::Core;
+use lay_io::QuietSink;
+use lay_stream::{Emit, Stream, plain};
+use lay_token::{NoMemory, Tok};
+use std::alloc::Global;
+use std::test::Fail;
+
+/// The state after one more, of a linear congruential generator modulo 2^64.
+fn next(state: u64) -> u64 {
+    state
+        .wrapping_mul(6364136223846793005)
+        .wrapping_add(1442695040888963407)
+}
+
+/// The token that a state stands for.
+fn pick(state: u64) -> In {
+    let size = (state >> 40) % 24;
+    match (state >> 33) % 12 {
+        0..=3 => In::Letters(size as usize + 1),
+        4..=6 => In::B(soft(size as u16)),
+        7 => In::B(hard(0)),
+        8 => In::C(4),
+        9 => In::I(2),
+        _ => In::E,
+    }
+}
+
+/// Adds a token to a stream in which so many groups are open, and answers how many are then. An end where none
+/// is open is passed over.
+fn add(stream: &mut Stream, groups: u64, tok: &Tok) -> Result<u64, NoMemory>
+    requires level { opened stream.old 0 ≡ groups }
+    requires few { groups < 2 ^ 32 }
+    ensures level { IfOk result (λ n. opened stream.new 0 ≡ n) }
+    ensures few { IfOk result (λ n. n ≤ groups + 1) }
+{
+    match tok {
+        Tok::Text(text) => {
+            stream.text(text.as_bytes())?;
+            Ok(groups)
+        }
+        Tok::Break(brk) => {
+            stream.brk(*brk)?;
+            Ok(groups)
+        }
+        Tok::Begin { consistent, offset } => {
+            stream.begin(*consistent, *offset)?;
+            Ok(groups + 1)
+        }
+        Tok::End => {
+            if groups == 0 {
+                return Ok(0);
+            }
+            stream.end()?;
+            Ok(groups - 1)
+        }
+    }
+}
+
+/// 80 tokens, and an end for each group that is open then.
+fn random_stream(alloc: Global, seed: u64) -> Result<Stream, NoMemory>
+    ensures { IfOk result (λ s. opened s 0 ≡ 0) }
+{
+    let mut stream = Stream::new(alloc);
+    let mut groups = 0;
+    let mut state = next(seed);
+    for step in 0..80u64 {
+        let tok = token(alloc, pick(state))?;
+        groups = add(&mut stream, groups, &tok)?;
+        state = next(state);
+    }
+    for last in 0..80u64 {
+        if groups > 0 {
+            groups = add(&mut stream, groups, &Tok::End)?;
+        }
+    }
+    if groups > 0 {
+        return Err(NoMemory);
+    }
+    Ok(stream)
+}
+
+/// Feeds the stream to a printer. False where a call failed.
+fn printed(core: &mut Core, sink: &mut QuietSink, stream: &Stream) -> bool {
+    let mut press = Press::new(core, sink);
+    for tok in stream.toks() {
+        if press_one(&mut press, tok).is_err() {
+            return false;
+        }
+    }
+    press.core.queue.groups == 0 && press.finish().is_ok()
+}
+
+#[test]
+fn as_the_slow_printer(rt: HostRuntime) -> Result<(), Fail> {
+    let alloc = rt.alloc();
+    for seed in 0..200u64 {
+        let stream = random_stream(alloc, seed)?;
+        let wanted = plain(alloc, &stream)?;
+        let mut core = Core::new(alloc)?;
+        let mut sink = QuietSink::with_room(alloc, 20_000)?;
+        assert!(rt; printed(&mut core, &mut sink, &stream));
+        assert_eq!(rt; sink.bytes(), wanted.as_bytes(), "seed {seed}");
+    }
+    Ok(())
+}
