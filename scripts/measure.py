@@ -1,5 +1,5 @@
 #!/usr/bin/env python3
-"""Measures commands on one file: seconds and peak memory, the best of several runs.
+"""Measures commands on one file: seconds, those of them on a core, and peak memory, the best of several runs.
 
 usage: measure.py FILE COMMAND..    each COMMAND is one word, split at blanks; it reads FILE on standard input
 """
@@ -13,7 +13,8 @@ def measure(words, path):
         start = time.perf_counter()
         process = subprocess.Popen(words, stdin=given, stdout=taken)
         _, status, usage = os.wait4(process.pid, 0)
-        return time.perf_counter() - start, usage.ru_maxrss / 1024, os.waitstatus_to_exitcode(status)
+        seconds = time.perf_counter() - start
+        return seconds, usage.ru_utime + usage.ru_stime, usage.ru_maxrss / 1024, os.waitstatus_to_exitcode(status)
 
 
 def main():
@@ -22,8 +23,8 @@ def main():
     print(f"{path}: {size:.2f} MB, best of {RUNS} runs")
     for command in commands:
         runs = [measure(shlex.split(command), path) for _ in range(RUNS)]
-        seconds, memory, status = min(runs)
-        print(f"{command}: {seconds:.3f} s, {size / seconds:.1f} MB/s, {memory:.1f} MiB, {memory * 1.048576 / size:.1f} times the input, status {status}")
+        seconds, core, memory, status = min(runs)
+        print(f"{command}: {seconds:.3f} s, {core:.3f} s on a core, {size / seconds:.1f} MB/s, {memory:.1f} MiB, {memory * 1.048576 / size:.1f} times the input, status {status}")
 
 
 main()

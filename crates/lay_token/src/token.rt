@@ -62,11 +62,11 @@ pub enum Kind {
 #[derive(Debug, Drop)]
 pub struct Token {
     pub kind: Kind,
+    /// It and the next are punctuation with no gap between them, and neither is `,` or `;`.
+    pub joint: bool,
     /// The piece; of a raw identifier without `r#`, and of documentation without its marks and the blanks at
     /// the end of one line.
     pub text: Text,
-    /// It and the next are punctuation with no gap between them, and neither is `,` or `;`.
-    pub joint: bool,
     /// Where the piece begins, in bytes of the text.
     pub at: usize,
     /// The bytes of the piece.
