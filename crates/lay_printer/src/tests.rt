@@ -10,13 +10,15 @@ use crate::press::{Press, Printer};
 use crate::print::PrintError;
 use crate::printer::Core;
 use lay_io::{Lent, MemorySink, QuietSink, Sink};
-use lay_stream::Emit;
+use lay_stream::{Emit, plain};
 use lay_token::{Break, List, Mark, NoMemory, Text, Tok};
 use std::alloc::Global;
 use std::process::Abort;
 use std::test::Fail;
 
 mod random;
+
+use random::stream_of;
 
 /// A token: a text, so many letters, a break, a group that is consistent or not and its end.
 #[derive(Clone, Copy)]
@@ -154,18 +156,18 @@ fn pressed(
     Ok(press.finish().is_ok())
 }
 
-/// Compares what both printers write of these tokens with a text before so many letters and one after them.
-fn compare(
-    rt: &impl Abort,
-    alloc: Global,
-    given: &[In],
-    before: &str,
-    count: usize,
-    after: &str,
-) -> Result<(), NoMemory> {
-    let mut wanted = Text::from_bytes(alloc, before.as_bytes())?;
-    wanted.push_bytes(letters(alloc, count)?.as_bytes())?;
-    wanted.push_bytes(after.as_bytes())?;
+/// So many letters with a text before them and one behind them.
+fn around(alloc: Global, before: &[u8], count: usize, after: &[u8]) -> Result<Text, NoMemory> {
+    let mut text = Text::from_bytes(alloc, before)?;
+    text.push_bytes(letters(alloc, count)?.as_bytes())?;
+    text.push_bytes(after)?;
+    Ok(text)
+}
+
+/// Compares what each printer makes of these tokens with a text.
+fn compare(rt: &impl Abort, alloc: Global, given: &[In], wanted: &Text) -> Result<(), NoMemory> {
+    let slow = plain(alloc, &stream_of(alloc, given)?)?;
+    assert_eq!(rt; slow.as_bytes(), wanted.as_bytes());
     let sink = printed(alloc, given)?;
     assert_eq!(rt; sink.bytes(), wanted.as_bytes());
     let mut core = Core::new(alloc)?;
@@ -175,45 +177,99 @@ fn compare(
     Ok(())
 }
 
-// An import of two names: 89 bytes fit on its line, and 90 don't.
-#[test]
-fn lists(rt: HostRuntime) -> Result<(), Fail> {
-    use In::{B, C, E, Letters, T};
+/// An import of a list: 89 bytes fit on its line, and 90 don't.
+fn lists(rt: &impl Abort, alloc: Global) -> Result<(), NoMemory> {
     let rows = [
-        (76, "use a::{b, ", "};\n"),
-        (77, "use a::{\n    b,\n    ", ",\n};\n"),
+        (76, b"use a::{b, ".as_slice(), b"};\n".as_slice()),
+        (
+            77,
+            b"use a::{\n    b,\n    ".as_slice(),
+            b",\n};\n".as_slice(),
+        ),
     ];
     for (count, before, after) in rows {
-        let given = [
-            T("use a::"),
-            C(4),
-            T("{"),
-            B(soft(0)),
-            T("b"),
-            T(","),
-            B(soft(1)),
-            Letters(count),
-            B(CLOSE),
-            T("}"),
-            E,
-            T(";"),
-            B(hard(0)),
-        ];
-        compare(&rt, rt.alloc(), &given, before, count, after)?;
+        let mut given = Vec::new(alloc);
+        given.extend_from_slice(&import(count))?;
+        given.push(In::B(hard(0)))?;
+        compare(
+            rt,
+            alloc,
+            given.as_slice(),
+            &around(alloc, before, count, after)?,
+        )?;
     }
     Ok(())
 }
 
-// A call in a body: what follows the group up to the next break counts.
-#[test]
-fn calls(rt: HostRuntime) -> Result<(), Fail> {
+/// The tokens of an import of `b` and a name of so many letters.
+fn import(count: usize) -> [In; 11] {
+    use In::{B, C, E, Letters, T};
+    [
+        T("use a::"),
+        C(4),
+        T("{"),
+        B(soft(0)),
+        T("b,"),
+        B(soft(1)),
+        Letters(count),
+        B(CLOSE),
+        T("}"),
+        E,
+        T(";"),
+    ]
+}
+
+/// Such an import in nine modules: behind 36 blanks the space is 60 and not 53.
+fn deep(rt: &impl Abort, alloc: Global) -> Result<(), NoMemory> {
+    use In::{B, C, E, T};
+    let rows = [
+        (47, b"use a::{b, ".as_slice(), b"};\n".as_slice()),
+        (
+            48,
+            b"use a::{\n                                        b,\n                                        ".as_slice(),
+            b",\n                                    };\n".as_slice(),
+        ),
+    ];
+    for (count, before, after) in rows {
+        let mut given = Vec::new(alloc);
+        let mut front = Text::new(alloc);
+        let mut end = Text::from_bytes(alloc, after)?;
+        for level in 0..9 {
+            given.extend_from_slice(&[T("mod a "), C(4), T("{"), B(hard(0))])?;
+            blanks(&mut front, 4 * level)?;
+            front.push_bytes(b"mod a {\n")?;
+        }
+        blanks(&mut front, 36)?;
+        front.push_bytes(before)?;
+        given.extend_from_slice(&import(count))?;
+        for level in 0..9 {
+            given.extend_from_slice(&[B(hard(-4)), T("}"), E])?;
+            blanks(&mut end, 32 - 4 * level)?;
+            end.push_bytes(b"}\n")?;
+        }
+        given.push(B(hard(0)))?;
+        let wanted = around(alloc, front.as_bytes(), count, end.as_bytes())?;
+        compare(rt, alloc, given.as_slice(), &wanted)?;
+    }
+    Ok(())
+}
+
+fn blanks(text: &mut Text, count: usize) -> Result<(), NoMemory> {
+    for _ in 0..count {
+        text.push(b' ')?;
+    }
+    Ok(())
+}
+
+/// A call in a body: what follows the group up to the next break counts.
+fn calls(rt: &impl Abort, alloc: Global) -> Result<(), NoMemory> {
     use In::{B, C, E, Letters, T};
     let rows = [
-        (78, "fn f() {\n    g(b, ", ");\n}\n"),
+        (78, b"fn f() {\n    g(b, ".as_slice(), b");\n}\n".as_slice()),
         (
             79,
-            "fn f() {\n    g(\n        b,\n        ",
-            ",\n    );\n}\n",
+            b"fn f() {\n    g(\n        b,\n        ".as_slice(),
+            b",\n    );\n}\n".as_slice(),
         ),
     ];
     for (count, before, after) in rows {
@@ -238,14 +294,13 @@ fn calls(rt: HostRuntime) -> Result<(), Fail> {
             E,
             B(hard(0)),
         ];
-        compare(&rt, rt.alloc(), &given, before, count, after)?;
+        compare(rt, alloc, &given, &around(alloc, before, count, after)?)?;
     }
     Ok(())
 }
 
-// An arm, whose braces and comma are marks of breaks.
-#[test]
-fn arms(rt: HostRuntime) -> Result<(), Fail> {
+/// An arm, whose braces and comma are marks of breaks.
+fn arms(rt: &impl Abort, alloc: Global) -> Result<(), NoMemory> {
     use In::{B, C, E, Letters, T};
     let opening = Break {
         before: Mark::OpenBrace,
@@ -258,12 +313,25 @@ fn arms(rt: HostRuntime) -> Result<(), Fail> {
         ..soft(0)
     };
     let rows = [
-        (72, "{\n        A => g(", "),\n}"),
-        (73, "{\n        A => {\n            g(", ")\n        }\n}"),
+        (
+            72,
+            b"fn f() {\n    match x {\n        A => g(".as_slice(),
+            b"),\n    }\n}\n".as_slice(),
+        ),
+        (
+            73,
+            b"fn f() {\n    match x {\n        A => {\n            g(".as_slice(),
+            b")\n        }\n    }\n}\n".as_slice(),
+        ),
     ];
     for (count, before, after) in rows {
         let given = [
-            C(8),
+            T("fn f() "),
+            C(4),
+            T("{"),
+            B(hard(0)),
+            T("match x "),
+            C(4),
             T("{"),
             B(hard(0)),
             T("A => "),
@@ -278,59 +346,24 @@ fn arms(rt: HostRuntime) -> Result<(), Fail> {
             E,
             B(closing),
             E,
-            B(hard(-8)),
+            B(hard(-4)),
             T("}"),
             E,
-        ];
-        compare(&rt, rt.alloc(), &given, before, count, after)?;
-    }
-    Ok(())
-}
-
-// Behind 36 blanks the space is 60 and not 53.
-#[test]
-fn deep(rt: HostRuntime) -> Result<(), Fail> {
-    use In::{B, C, E, Letters, T};
-    let rows = [
-        (
-            47,
-            "{\n                                    use a::{b, ",
-            "};\n}",
-        ),
-        (
-            48,
-            "{\n                                    use a::{\n                                        b,\n                                        ",
-            ",\n                                    };\n}",
-        ),
-    ];
-    for (count, before, after) in rows {
-        let given = [
-            C(36),
-            T("{"),
+            B(hard(-4)),
+            T("}"),
+            E,
             B(hard(0)),
-            T("use a::{"),
-            C(4),
-            B(soft(0)),
-            T("b,"),
-            B(soft(1)),
-            Letters(count),
-            B(CLOSE),
-            E,
-            T("};"),
-            B(hard(-36)),
-            T("}"),
-            E,
         ];
-        compare(&rt, rt.alloc(), &given, before, count, after)?;
+        compare(rt, alloc, &given, &around(alloc, before, count, after)?)?;
     }
     Ok(())
 }
 
-// A sum: only the break after which too little fits is a newline.
-#[test]
-fn sums(rt: HostRuntime) -> Result<(), Fail> {
+/// A sum: of two breaks only the one after which too little fits is a newline.
+fn sums(rt: &impl Abort, alloc: Global) -> Result<(), NoMemory> {
     use In::{B, C, E, I, Letters, T};
     let given = [
+        T("fn f() "),
         C(4),
         T("{"),
         B(hard(0)),
@@ -347,9 +380,27 @@ fn sums(rt: HostRuntime) -> Result<(), Fail> {
         B(hard(-4)),
         T("}"),
         E,
+        B(hard(0)),
     ];
-    let before = "{\n    let z = 0123456789012345678901234567890123456789\n        + ";
-    compare(&rt, rt.alloc(), &given, before, 40, " + d;\n}")?;
+    let before =
+        b"fn f() {\n    let z = 0123456789012345678901234567890123456789\n        + ".as_slice();
+    compare(
+        rt,
+        alloc,
+        &given,
+        &around(alloc, before, 40, b" + d;\n}\n")?,
+    )
+}
+
+// Streams whose texts were worked out by hand.
+#[test]
+fn rows(rt: HostRuntime) -> Result<(), Fail> {
+    let alloc = rt.alloc();
+    lists(&rt, alloc)?;
+    deep(&rt, alloc)?;
+    calls(&rt, alloc)?;
+    arms(&rt, alloc)?;
+    sums(&rt, alloc)?;
     Ok(())
 }
 

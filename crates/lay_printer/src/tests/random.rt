@@ -34,10 +34,8 @@ fn pick(state: u64) -> In {
 /// Adds a token to a stream in which so many groups are open, and answers how many are then. An end where none
 /// is open is passed over.
 fn add(stream: &mut Stream, groups: u64, tok: &Tok) -> Result<u64, NoMemory>
-    requires level { opened stream.old 0 ≡ groups }
-    requires few { groups < 2 ^ 32 }
-    ensures level { IfOk result (λ n. opened stream.new 0 ≡ n) }
-    ensures few { IfOk result (λ n. n ≤ groups + 1) }
+    requires { opened stream.old 0 ≡ groups }
+    ensures { IfOk result (λ n. opened stream.new 0 ≡ n) }
 {
     match tok {
         Tok::Text(text) => {
@@ -50,7 +48,10 @@ fn add(stream: &mut Stream, groups: u64, tok: &Tok) -> Result<u64, NoMemory>
         }
         Tok::Begin { consistent, offset } => {
             stream.begin(*consistent, *offset)?;
-            Ok(groups + 1)
+            match groups.checked_add(1) {
+                Some(more) => Ok(more),
+                None => Err(NoMemory),
+            }
         }
         Tok::End => {
             if groups == 0 {
@@ -62,17 +63,15 @@ fn add(stream: &mut Stream, groups: u64, tok: &Tok) -> Result<u64, NoMemory>
     }
 }
 
-/// 80 tokens, and an end for each group that is open then.
-fn random_stream(alloc: Global, seed: u64) -> Result<Stream, NoMemory>
+/// The tokens, and an end for each group that is open then.
+pub fn stream_of(alloc: Global, given: &[In]) -> Result<Stream, NoMemory>
     ensures { IfOk result (λ s. opened s 0 ≡ 0) }
 {
     let mut stream = Stream::new(alloc);
     let mut groups = 0;
-    let mut state = next(seed);
-    for step in 0..80u64 {
-        let tok = token(alloc, pick(state))?;
+    for one in given {
+        let tok = token(alloc, *one)?;
         groups = add(&mut stream, groups, &tok)?;
-        state = next(state);
     }
     for last in 0..80u64 {
         if groups > 0 {
@@ -83,6 +82,17 @@ fn random_stream(alloc: Global, seed: u64) -> Result<Stream, NoMemory>
         return Err(NoMemory);
     }
     Ok(stream)
+}
+
+/// 80 tokens, by a generator that begins with the seed.
+fn random_tokens(seed: u64) -> [In; 80] {
+    let mut tokens = [In::E; 80];
+    let mut state = next(seed);
+    for tok in &mut tokens {
+        *tok = pick(state);
+        state = next(state);
+    }
+    tokens
 }
 
 /// Feeds the stream to a printer. False where a call failed.
@@ -100,7 +110,7 @@ fn printed(core: &mut Core, sink: &mut QuietSink, stream: &Stream) -> bool {
 fn as_the_slow_printer(rt: HostRuntime) -> Result<(), Fail> {
     let alloc = rt.alloc();
     for seed in 0..200u64 {
-        let stream = random_stream(alloc, seed)?;
+        let stream = stream_of(alloc, &random_tokens(seed))?;
         let wanted = plain(alloc, &stream)?;
         let mut core = Core::new(alloc)?;
         let mut sink = QuietSink::with_room(alloc, 20_000)?;
