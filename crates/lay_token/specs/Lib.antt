@@ -1,4 +1,6 @@
 pub mod Chars
+pub mod Delimiters
+pub mod Docs
 pub mod Document
 pub mod Forms
 pub mod Found
@@ -6,6 +8,7 @@ pub mod Gap
 pub mod Lexes
 pub mod Machine
 pub mod Number
+pub mod Operators
 pub mod Quoted
 pub mod Scan
 pub mod Source

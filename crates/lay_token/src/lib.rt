@@ -9,6 +9,7 @@
 //! laying out a nested document are one. Every printer is proved against these definitions.
 #![tactic(auto)]
 
+pub mod doc;
 pub mod layout;
 pub mod list;
 pub mod piece;
@@ -17,6 +18,7 @@ pub mod text;
 pub mod token;
 pub mod word;
 
+pub use doc::{DocForm, doc_form};
 pub use layout::{Break, Frame, Mark, Tok, layout_law};
 pub use list::List;
 pub use piece::{Piece, piece_at, piece_law};

@@ -1,0 +1,76 @@
+-- Delimiters in a list of tokens (Rust Reference, "Macros": token trees; "Delimiters").
+use Rattle.std.specs.Prelude.{ℕ, ◌≡◌, ◌⊎◌, ◌&&◌, Bool, true, false, not, List, [], ◌∷◌, ◌++◌, IsTrue, IsFalse}
+use Rattle.lay_token.specs.declared.token.Delim.TheVariants.{Paren, Bracket, Brace}
+use Rattle.lay_token.specs.declared.token.Kind.{Kind}
+use Rattle.lay_token.specs.declared.token.Kind.TheVariants.{Opener, Closer}
+use Rattle.lay_token.specs.declared.token.Token.{Token}
+
+abbrev pub is_opener : Kind → Bool
+is_opener (Opener d) = true
+is_opener _ = false
+
+abbrev pub is_closer : Kind → Bool
+is_closer (Closer d) = true
+is_closer _ = false
+
+-- an opener and the closer of its own delimiter
+abbrev pub is_pair : Kind → Kind → Bool
+is_pair (Opener Paren) (Closer Paren) = true
+is_pair (Opener Bracket) (Closer Bracket) = true
+is_pair (Opener Brace) (Closer Brace) = true
+is_pair _ _ = false
+
+-- token trees: tokens that are no delimiters, and groups, each with its two delimiters and the trees between them
+pub data Trees : Type 0 where
+  None : Trees
+  Plain : Token → Trees → Trees
+  Group : Token → Trees → Token → Trees → Trees
+
+-- the tokens of the trees, in order
+abbrev pub tokens_of : Trees → List Token
+tokens_of None = []
+tokens_of (Plain t more) = t ∷ tokens_of more
+tokens_of (Group opener inside closer more) = opener ∷ (tokens_of inside ++ closer ∷ tokens_of more)
+
+-- Each group stands between an opener and its partner, and no other token is a delimiter.
+abbrev pub Paired : Trees → Type 0
+Paired None = Unit {0}
+Paired (Plain t more) = IsFalse (is_opener t.kind) × IsFalse (is_closer t.kind) × Paired more
+Paired (Group opener inside closer more) = IsTrue (is_pair opener.kind closer.kind) × Paired inside × Paired more
+
+-- The tokens are those of token trees, so every opener has its partner, and every closer is one.
+abbrev pub Balanced : List Token → Type 0
+Balanced tokens = (trees : Trees) × Paired trees × (tokens ≡ tokens_of trees)
+
+-- The tokens are balanced but for these openers, which are left open, the last one first.
+abbrev pub LeaveOpen : List Token → List Token → Type 0
+LeaveOpen [] tokens = Balanced tokens
+LeaveOpen (opener ∷ others) tokens = (before inside : List Token) × (tokens ≡ before ++ opener ∷ inside)
+    × IsTrue (is_opener opener.kind) × LeaveOpen others before × Balanced inside
+
+-- Behind these open ones a token of this kind is a closer, and not the partner of the last.
+abbrev pub is_stray : List Token → Kind → Bool
+is_stray [] kind = is_closer kind
+is_stray (opener ∷ others) kind = is_closer kind && not (is_pair opener.kind kind)
+
+-- The first closer that isn't the partner of the last opener still open stands at this place of the text.
+pub record Stray (tokens : List Token) (at : ℕ) : Type 0 where
+  pub before : List Token
+  pub closer : Token
+  pub after : List Token
+  pub open_ones : List Token
+  pub whole : tokens ≡ before ++ closer ∷ after
+  pub left : LeaveOpen open_ones before
+  pub stray : IsTrue (is_stray open_ones closer.kind)
+  pub place : at ≡ closer.at
+
+-- Each closer is a partner, and the last opener left open stands at this place of the text.
+pub record Unclosed (tokens : List Token) (at : ℕ) : Type 0 where
+  pub last : Token
+  pub others : List Token
+  pub left : LeaveOpen (last ∷ others) tokens
+  pub place : at ≡ last.at
+
+-- where tokens are unbalanced
+abbrev pub UnbalancedAt : List Token → ℕ → Type 0
+UnbalancedAt tokens at = Stray tokens at ⊎ Unclosed tokens at
