@@ -6,9 +6,7 @@ use Rattle.std.proofs.Math.Seq.{take-append_seam, get_or-append_seam}
 use Rattle.std.proofs.lemmas.Bool.{cases_Bool, eqb-true, eq-eqb, and_from}
 use Rattle.std.proofs.lemmas.Str.{encodes-append, encodes-chars, encode_ascii, chars-append, chars-encodes, chars-nil, IsUtf8-take, IsCharBoundary-before_ascii}
 use lib.Utf8.{scalar, scalars, low_scalar}
-use Rattle.lay_token.specs.Lexes.{trimmed}
-use Rattle.lay_token.specs.Source.{without_returns}
-use Rattle.lay_lex.specs.Ends.{kept, without_end}
+use Rattle.lay_token.specs.Chars.{kept, without_end}
 
 pub without_end-snoc : (d : ℕ) (cs : List ℕ) → without_end d (cs ++ d ∷ []) ≡ without_end d cs
 without_end-snoc d [] = let e : d == d ≡ true = eq-eqb d d refl in rw e refl
@@ -73,20 +71,3 @@ without_end-other bytes front c d h u e ne = elim (ends_in d (chars bytes)) [
 pub without_end-none : (bytes : List ℕ) (d : ℕ) → length bytes ≡ 0 → bytes ≡ encode_utf8_all (without_end d (chars bytes))
 without_end-none [] d h = sym (ap (λ l. encode_utf8_all (without_end d l)) chars-nil)
 without_end-none (b ∷ bytes) d h = absurd (omega arith)
-
--- the definitions' words
-put_return : (c : ℕ) (cs : List ℕ) → elim cs [ [] ↦ cond (c == 13) [] (c ∷ []) | d ∷ ds ↦ c ∷ d ∷ ds ] ≡ kept 13 c cs
-put_return c [] = refl
-put_return c (d ∷ ds) = refl
-
-pub without_returns_is : (cs : List ℕ) → without_returns cs ≡ without_end 13 cs
-without_returns_is [] = refl
-without_returns_is (c ∷ cs) = put_return c (without_returns cs) ∙ ap (kept 13 c) (without_returns_is cs)
-
-put_blank : (c : ℕ) (cs : List ℕ) → elim cs [ [] ↦ cond (c == 32) [] (c ∷ []) | d ∷ ds ↦ c ∷ d ∷ ds ] ≡ kept 32 c cs
-put_blank c [] = refl
-put_blank c (d ∷ ds) = refl
-
-pub trimmed_is : (cs : List ℕ) → trimmed cs ≡ without_end 32 cs
-trimmed_is [] = refl
-trimmed_is (c ∷ cs) = put_blank c (trimmed cs) ∙ ap (kept 32 c) (trimmed_is cs)

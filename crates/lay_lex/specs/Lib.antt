@@ -1,4 +1,3 @@
-pub mod Ends
 pub mod Gap
 pub mod Lexer
 pub mod Source

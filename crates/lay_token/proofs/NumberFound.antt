@@ -3,7 +3,7 @@ use Rattle.std.proofs.Common.{◌≡◌, inl, inr, ℕ, List, [], ◌∷◌, ◌
 use Rattle.std.specs.Prelude.{◌==◌, option_and_then}
 use Rattle.std.specs.List.{list_all}
 use Rattle.std.specs.Char.{is_ascii_digit}
-use Rattle.std.proofs.lemmas.Bool.{cases_Bool, and_parts, and_from, or_cases, eqb-false, ne_eqb, not-true}
+use Rattle.std.proofs.lemmas.Bool.{cases_Bool, and_parts, and_from, or_cases, ne_eqb, not-true}
 use Rattle.unicode_ident.proofs.Computing.{unicode_ident}
 use Rattle.lay_token.specs.Chars.{begins, front, after, behind, is_nil, is_suffix, starts_word, in_word, in_digits, in_hex}
 use Rattle.lay_token.specs.Number.{base_of, digits_of, in_run, is_run_in, is_exponent_letter, is_sign, is_any_suffix, is_plain_suffix, is_int_suffix, is_int, is_exponent_run, is_signed_run, is_exponent, is_fraction, is_float_tail, is_decimal, is_float, ends_in_point, is_bare_int, begins_point, is_index, fronts_index}

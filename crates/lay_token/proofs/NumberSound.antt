@@ -2,7 +2,7 @@
 use Rattle.std.proofs.Common.{◌≡◌, ◌⊎◌, inl, inr, ℕ, List, [], ◌∷◌, ◌++◌, Bool, true, false, cond, not, ◌&&◌, ◌||◌, Option, Some, None, sym, refl, ap, ◌∙◌, subst, drop, append_assoc}
 use Rattle.std.specs.Prelude.{◌==◌, option_and_then}
 use Rattle.std.specs.Char.{is_ascii_digit}
-use Rattle.std.proofs.lemmas.Bool.{cases_Bool, and_parts, and_from, not-true}
+use Rattle.std.proofs.lemmas.Bool.{and_parts, and_from, not-true}
 use Rattle.lay_token.specs.Chars.{begins, front, after, behind, is_nil, begins_suffix, starts_word, in_word, in_digits}
 use Rattle.lay_token.specs.Number.{base_of, digits_of, in_run, is_run_in, is_exponent_letter, is_sign, is_any_suffix, is_plain_suffix, is_int_suffix, is_int, is_exponent_run, is_signed_run, is_exponent, is_fraction, is_float_tail, is_decimal, is_float, is_bare_int, begins_point}
 use Rattle.lay_token.specs.Forms.{has_form, may_follow}
@@ -12,8 +12,8 @@ use Rattle.lay_token.specs.declared.piece.numbers.Base.TheVariants.{Binary, Octa
 use Rattle.lay_token.specs.declared.token.Kind.{Kind}
 use Rattle.lay_token.specs.declared.token.Kind.TheVariants.{Int, Float}
 use Rattle.lay_token.proofs.Fronts.{begins_left, front-after, each-front, after-stops, after-append, front-append}
-use Rattle.lay_token.proofs.Literals.{starts_in, suffix_front}
-use Rattle.lay_token.proofs.Characters.{run_in_word, underscore_in_run, digit_parts, letter_parts, begins_in}
+use Rattle.lay_token.proofs.Literals.{suffix_front}
+use Rattle.lay_token.proofs.Characters.{underscore_in_run, digit_parts, letter_parts, begins_in}
 use Rattle.lay_token.proofs.NumberRuns.{run_is}
 use Rattle.lay_token.proofs.NumberFound.{float_may_stop, two_first, had-number, no_digit, decimal_is}
 use Rattle.lay_token.proofs.Sound.{Stands, Sound, sound_cond}

@@ -1,10 +1,14 @@
 -- How a text of documentation may be written: on a line, or as a block (Rust Reference, "Doc comments").
-use Rattle.std.specs.Prelude.{ℕ, Bool, true, false, cond, ◌&&◌, ◌||◌, ◌==◌, not, List, [], ◌∷◌, ◌++◌, codes}
+use Rattle.std.specs.Prelude.{ℕ, Option, Some, None, Bool, false, cond, ◌&&◌, ◌==◌, not, List, [], ◌∷◌, ◌++◌, codes}
 use Rattle.std.specs.List.{list_any}
-use Rattle.lay_token.specs.Chars.{begins, is_nil}
+use Rattle.lay_token.specs.Chars.{is_nil}
 use Rattle.lay_token.specs.Forms.{is_line_doc, is_block_doc}
+use Rattle.lay_token.specs.Quoted as block
+use Rattle.lay_token.specs.Scan.{Next, Go, End, Bad}
 use Rattle.lay_token.specs.declared.doc.DocForm.{DocForm}
 use Rattle.lay_token.specs.declared.doc.DocForm.TheVariants.{Line, Block, Neither}
+use Rattle.lay_token.specs.declared.doc.InComment.{InComment}
+use Rattle.lay_token.specs.declared.doc.InComment.TheVariants as comment
 
 abbrev pub ends_in_blank : List ℕ → Bool
 ends_in_blank [] = false
@@ -21,3 +25,21 @@ is_block_text inner text = list_any (λ c. c == 10) text && is_block_doc inner (
 -- the form of a text of documentation, for what it stands in or for what follows it
 unfoldable pub doc_form : Bool → List ℕ → DocForm
 doc_form inner text = cond (is_line_text inner text) Line (cond (is_block_text inner text) Block Neither)
+
+-- how far the scan of a comment is, in the words of the definitions
+abbrev pub in_block : InComment → block.InBlock
+in_block (comment.Deep n) = block.Deep n
+in_block (comment.Star n) = block.Star n
+in_block (comment.Slash n) = block.Slash n
+
+-- how many comments are open around the innermost
+abbrev pub depth : InComment → ℕ
+depth (comment.Deep n) = n
+depth (comment.Star n) = n
+depth (comment.Slash n) = n
+
+-- the state with which a form goes on
+abbrev pub goes : {S : Type 0} → Next S → Option S
+goes (Go s) = Some s
+goes End = None
+goes Bad = None

@@ -2,7 +2,7 @@
 use Rattle.std.specs.Prelude.{◌≡◌, ℕ, ◌+◌, ◌-◌, Bool, true, false, cond, ◌&&◌, ◌||◌, ◌==◌, not, List, [], ◌∷◌, ◌++◌, IsTrue, IsFalse, codes, length, take, drop, encode_utf8_all}
 use Rattle.std.specs.List.{list_any}
 use Rattle.std.specs.Str.{chars, bytes_eq}
-use Rattle.lay_token.specs.Chars.{is_nil}
+use Rattle.lay_token.specs.Chars.{is_nil, without_end}
 use Rattle.lay_token.specs.Forms.{Had}
 use Rattle.lay_token.specs.Gap.{is_gap, is_last_gap}
 use Rattle.lay_token.specs.declared.token.Kind.{Kind}
@@ -57,16 +57,11 @@ Fit b (p ∷ ps) rest =
 abbrev pub size : List ℕ → ℕ
 size cs = length (encode_utf8_all cs)
 
--- the text without the blanks at its end
-abbrev pub trimmed : List ℕ → List ℕ
-trimmed [] = []
-trimmed (c ∷ cs) = elim (trimmed cs) [ [] ↦ cond (c == 32) [] (c ∷ []) | d ∷ ds ↦ c ∷ d ∷ ds ]
-
 -- what documentation says: without its opening and a block's end, and where it is one line without the blanks there
 abbrev pub doc_text : Bool → List ℕ → List ℕ
 doc_text block cs =
     let text = cond block (take (length cs - 5) (drop 3 cs)) (drop 3 cs) in
-    cond (list_any (λ c. c == 10) text) text (trimmed text)
+    cond (list_any (λ c. c == 10) text) text (without_end 32 text)
 
 -- the text of a token of this piece
 abbrev pub text_of_piece : Kind → List ℕ → List ℕ

@@ -3,7 +3,7 @@
 use Rattle.std.specs.Prelude.{ℕ, ◌+◌, Bool, true, false, cond, ◌&&◌, ◌||◌, ◌==◌, not, List, [], ◌∷◌, Option, Some, None, Result, Ok, Err, codes, encode_utf8_all}
 use Rattle.std.specs.Str.{chars, is_utf8}
 use Rattle.std.specs.Str.Lossy.{utf8_valid_len}
-use Rattle.lay_token.specs.Chars.{is_white, begins, behind, front, after, is_nil}
+use Rattle.lay_token.specs.Chars.{is_white, begins, behind, front, after, is_nil, without_end}
 use Rattle.lay_token.specs.Lexes.{size}
 use Rattle.lay_token.specs.declared.refusal.Refusal.{Refusal}
 use Rattle.lay_token.specs.declared.refusal.Refusal.TheVariants.{NotUtf8}
@@ -21,11 +21,6 @@ without_mark (c ∷ cs) = cond (c == 65279) cs (c ∷ cs)
 abbrev pub is_in_line : ℕ → Bool
 is_in_line c = not (c == 10)
 
--- the line without the CRs at its end
-abbrev pub without_returns : List ℕ → List ℕ
-without_returns [] = []
-without_returns (c ∷ cs) = elim (without_returns cs) [ [] ↦ cond (c == 13) [] (c ∷ []) | d ∷ ds ↦ c ∷ d ∷ ds ]
-
 -- Past white space the line goes on with nothing, or with what begins an attribute or a comment.
 abbrev pub is_no_command : List ℕ → Bool
 is_no_command cs =
@@ -36,7 +31,8 @@ is_no_command cs =
 abbrev pub is_shebang : List ℕ → Bool
 is_shebang line = behind false (codes "#!") (λ cs. not (is_no_command (after is_white cs))) line
 
--- What stands in the text, its shebang, and the place where lexing begins, in bytes.
+-- What stands in the text, its shebang, and the place where lexing begins, in bytes. The shebang is the line
+-- without the CRs at its end.
 pub record Source : Type 0 where
   pub text : List ℕ
   pub shebang : Option (List ℕ)
@@ -49,7 +45,7 @@ line_size text = size (front is_in_line text) + cond (is_nil (after is_in_line t
 abbrev pub source_of : List ℕ → Source
 source_of text = let line = front is_in_line text in record {
   text = encode_utf8_all text;
-  shebang = cond (is_shebang line) (Some (encode_utf8_all (without_returns line))) None;
+  shebang = cond (is_shebang line) (Some (encode_utf8_all (without_end 13 line))) None;
   start = cond (is_shebang line) (line_size text) 0;
 }
 

@@ -1,11 +1,9 @@
 use Rattle.std.proofs.Common.{rules, ◌≡◌, true, Some, None, sym, ap, ◌∙◌}
 use Rattle.std.specs.Str.{chars, encode_utf8_all}
 use Rattle.std.proofs.lemmas.Bool.{cond-true}
-use Rattle.lay_token.specs.Chars.{front}
-use Rattle.lay_token.specs.Source.{is_in_line, is_shebang, line_size, without_returns}
-use Rattle.lay_lex.specs.Ends.{without_end}
+use Rattle.lay_token.specs.Chars.{front, without_end}
+use Rattle.lay_token.specs.Source.{is_in_line, is_shebang, line_size}
 use Rattle.lay_lex.proofs.Lines.{line_sizes}
-use Rattle.lay_lex.proofs.Trims.{without_returns_is}
 use Rattle.lay_lex.proofs.source.shebang.Goals as goal
 use Rattle.lay_lex.proofs.source.shebang.Goals.{then-line-text, else-line-text}
 
@@ -19,10 +17,9 @@ returns c =
       | then-line-text w ↦ w.start-is ∙ sym (sizes.0 w.if-line-text.true)
       | else-line-text w ↦ w.start-is ∙ sym (sizes.1 w.if-line-text.false)
     ] in
-    let text : c.in_ok-shebang.shebang ≡ encode_utf8_all (without_returns line) =
+    let text : c.in_ok-shebang.shebang ≡ encode_utf8_all (without_end 13 line) =
     c.in_ok-shebang.ensures.ok ∙ c.without_end.ensures
-    ∙ ap (λ l. encode_utf8_all (without_end 13 l)) c.first_line-line.ensures
-    ∙ ap encode_utf8_all (sym (without_returns_is line)) in (
-      ap (λ l. Some l) text ∙ sym (cond-true (is_shebang line) (Some (encode_utf8_all (without_returns line))) None is),
+    ∙ ap (λ l. encode_utf8_all (without_end 13 l)) c.first_line-line.ensures in (
+      ap (λ l. Some l) text ∙ sym (cond-true (is_shebang line) (Some (encode_utf8_all (without_end 13 line))) None is),
       start ∙ sym (cond-true (is_shebang line) (line_size (chars c.args.text.now)) 0 is),
     )

@@ -4,10 +4,9 @@ use Rattle.std.specs.List.{list_any}
 use Rattle.std.specs.Str.{chars, encode_utf8_all}
 use Rattle.std.proofs.lemmas.Bool.{cond-true, cond-false}
 use Rattle.std.proofs.lemmas.Str.{encodes-chars}
-use Rattle.lay_token.specs.Lexes.{doc_text, trimmed}
-use Rattle.lay_lex.specs.Ends.{without_end}
+use Rattle.lay_token.specs.Lexes.{doc_text}
+use Rattle.lay_token.specs.Chars.{without_end}
 use Rattle.lay_lex.specs.Tokens.{within}
-use Rattle.lay_lex.proofs.Trims.{trimmed_is}
 use Rattle.lay_lex.proofs.tokens.doc_text.Goals as goal
 
 -- what documentation says, of which this stands within its marks
@@ -15,13 +14,13 @@ doc_lines : (block : Bool) (cs text : List ℕ) → text ≡ within block cs →
     → doc_text block cs ≡ text
 doc_lines block cs text e h =
     let g = subst (λ (l : List ℕ). list_any (λ c. c == 10) l ≡ true) e h in
-    cond-true _ (within block cs) (trimmed (within block cs)) g ∙ sym e
+    cond-true _ (within block cs) (without_end 32 (within block cs)) g ∙ sym e
 
 doc_line : (block : Bool) (cs text : List ℕ) → text ≡ within block cs → list_any (λ c. c == 10) text ≡ false
     → doc_text block cs ≡ without_end 32 text
 doc_line block cs text e h =
     let g = subst (λ (l : List ℕ). list_any (λ c. c == 10) l ≡ false) e h in
-    cond-false _ (within block cs) (trimmed (within block cs)) g ∙ ap trimmed (sym e) ∙ trimmed_is text
+    cond-false _ (within block cs) (without_end 32 (within block cs)) g ∙ ap (without_end 32) (sym e)
 
 pub returns-then-has_line_feed : goal.returns-then-has_line_feed
 returns-then-has_line_feed c =
