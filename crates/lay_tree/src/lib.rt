@@ -1,0 +1,14 @@
+//! Trees of Rust files, and the definitions that say which tokens spell a tree and how it is laid out.
+//!
+//! `specs/` holds the notation in which the grammar is written: a `Form` lists the parts of a node in order,
+//! and from it follow which tokens spell the node (`Spelled`), its document (`Layout`), and the stream that a
+//! printer is fed (`Stream`). `Nodes` gives each node its form, `Written` says which trees are files that can
+//! be written, and `Reading` which bytes read to which file.
+#![tactic(auto)]
+
+pub mod tree;
+
+pub use tree::{
+    Attr, File, Item, ItemKind, Literal, MetaInput, MetaPath, Name, Path, Rename, Segment, UseEnd,
+    UseTree, Word,
+};
