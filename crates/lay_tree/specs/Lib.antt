@@ -2,6 +2,7 @@ pub mod Form
 pub mod Layout
 pub mod Nodes
 pub mod Notation
+pub mod Reader
 pub mod Reading
 pub mod Spelled
 pub mod Stream

@@ -1,8 +1,10 @@
 -- The form of each node (Rust Reference, "Items", "Attributes"; the layouts are this format's).
-use Rattle.std.specs.Prelude.{ℕ, Bool, true, false, not, List, [], ◌∷◌, ◌++◌, map, codes, Option, Some, None}
+use Rattle.std.specs.Prelude.{ℕ, Bool, true, false, not, ◌&&◌, List, [], ◌∷◌, ◌++◌, map, codes, Option, Some, None}
+use Rattle.std.specs.Str.{bytes_eq}
 use Rattle.lay_token.specs.Document.{Document, AddText, AddBreak, Empty, text_of}
 use Rattle.lay_token.specs.Operators.{is_op}
 use Rattle.lay_token.specs.declared.token.Delim.TheVariants.{Bracket, Brace}
+use Rattle.lay_token.specs.declared.token.Kind.{Kind}
 use Rattle.lay_token.specs.declared.token.Kind.TheVariants.{Ident, RawIdent, Underscore}
 use Rattle.lay_token.specs.declared.token.Token.{Token}
 use Rattle.lay_tree.specs.Form as form
@@ -30,6 +32,10 @@ use Rattle.lay_tree.specs.declared.tree.Item.{Item}
 use Rattle.lay_tree.specs.declared.tree.ItemKind.TheOpen.{Item-F, ItemKind-F}
 use Rattle.lay_tree.specs.declared.tree.ItemKind.TheFolds.{fold-Item}
 use Rattle.lay_tree.specs.declared.tree.File.{File}
+
+abbrev pub is_ident : Kind → Bool
+is_ident Ident = true
+is_ident _ = false
 
 abbrev pub leaf_of : Bool → List ℕ → Form → Form
 leaf_of true text f = Leaf RawIdent text f
@@ -78,8 +84,13 @@ abbrev pub words_form : List Word → Form → Form
 words_form [] f = f
 words_form (w ∷ ws) f = leaf_of w.raw w.text (Piece colons (words_form ws f))
 
+-- No `as` follows.
+abbrev pub no_rename : List Token → Bool
+no_rename [] = true
+no_rename (t ∷ ts) = not (is_ident t.kind && bytes_eq t.text (codes "as"))
+
 abbrev pub rename_form : Option Rename → Form
-rename_form None = Done
+rename_form None = Node no_rename Done Done
 rename_form (Some (rename.Name name)) = Piece (Blank ∷ keyword (codes "as") ∷ Blank ∷ []) (leaf_of name.raw name.text Done)
 rename_form (Some rename.Underscore) = Piece (Blank ∷ keyword (codes "as") ∷ Blank ∷ []) (Leaf Underscore (codes "_") Done)
 
@@ -90,7 +101,7 @@ use_end_form UseEnd-F.Glob = text (Operator (codes "*") ∷ [])
 use_end_form (UseEnd-F.Group trees) = listed (opener Brace) (closer Brace) trees
 
 abbrev pub use_tree_form : UseTree-F Form Form → Form
-use_tree_form tree = Deeper (when tree.global colons (words_form tree.path (part tree.end Done))) Done
+use_tree_form tree = Node ends_path (Deeper (when tree.global colons (words_form tree.path (part tree.end Done))) Done) Done
 
 unfoldable pub form_of_use : UseTree → Form
 form_of_use = fold-UseTree Form Form use_end_form use_tree_form

@@ -29,19 +29,19 @@ pub record Reads (bytes : List ℕ) (file : File) : Type 0 where
   pub balanced : Balanced tokens
   pub spells : SpellsFile file tokens
 
--- what has no UTF-8, no token or no partner at a place, and text whose tokens spell no file
-pub record SpellsNone (bytes : List ℕ) : Type 0 where
+-- The bytes are a text that lexes to balanced tokens.
+pub record IsBalanced (bytes : List ℕ) : Type 0 where
   pub from : Source
   pub tokens : List Token
   pub text : source bytes ≡ Ok from
   pub lexes : Lexes from.text from.start tokens
   pub balanced : Balanced tokens
-  pub none : (file : File) → from.shebang ≡ file.shebang → SpellsFile file tokens → ⊥
 
--- why the bytes are refused, and where
+-- Why the bytes are refused: they are no UTF-8; or at a place there is no token; or the delimiters are unbalanced at a
+-- place; or the tokens spell no file.
 abbrev pub IsRefused : List ℕ → Refusal → Type 0
 IsRefused bytes (NotUtf8 at) = source bytes ≡ Err (NotUtf8 at)
 IsRefused bytes (NoToken at) = (from : Source) × (source bytes ≡ Ok from) × NoTokenAt from.text from.start at
 IsRefused bytes (Unbalanced at) = (from : Source) × (tokens : List Token)
     × (source bytes ≡ Ok from) × Lexes from.text from.start tokens × UnbalancedAt tokens at
-IsRefused bytes (NoItem at) = (at ≡ 0) × SpellsNone bytes
+IsRefused bytes (NoItem at) = (at ≡ 0) × IsBalanced bytes × ((file : File) → Reads bytes file → ⊥)

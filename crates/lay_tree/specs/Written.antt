@@ -1,5 +1,5 @@
--- Which trees are files that can be written: each name, word and literal is a piece of its kind, documentation has a
--- text that can be documentation, and each node meets the conditions of its form.
+-- Which trees are files that can be written: they are normal, each node meets the conditions of its form, and each
+-- name, word and literal is a piece of its kind.
 use Rattle.std.specs.Prelude.{ℕ, Bool, true, false, ◌&&◌, ◌||◌, not, List, [], ◌∷◌, ◌++◌, codes, cond, Option, Some, None, IsTrue, encode_utf8_all}
 use Rattle.std.specs.List.{list_all, list_any}
 use Rattle.std.specs.Str.{chars, is_utf8, bytes_eq}
@@ -15,6 +15,9 @@ use Rattle.lay_token.specs.declared.token.Kind.{Kind}
 use Rattle.lay_token.specs.declared.token.Kind.TheVariants.{Ident, RawIdent, Underscore, Lifetime, Punct, Opener, Closer, Doc}
 use Rattle.lay_token.specs.declared.word.Class.{Class}
 use Rattle.lay_token.specs.declared.word.Class.TheVariants.{Plain, PathWord}
+use Rattle.lay_tree.specs.Form as form
+use Rattle.lay_tree.specs.Form.{Form, Done, Piece, Leaf, Listed, Gap, LastComma, Group, Node, Deeper, Optional, Dropped, Body}
+use Rattle.lay_tree.specs.Nodes.{form_of_file}
 use Rattle.lay_tree.specs.declared.tree.Name.{Name}
 use Rattle.lay_tree.specs.declared.tree.Word.{Word}
 use Rattle.lay_tree.specs.declared.tree.Segment.{Segment}
@@ -36,14 +39,29 @@ use Rattle.lay_tree.specs.declared.tree.ItemKind.TheOpen.{Item-F, ItemKind-F}
 use Rattle.lay_tree.specs.declared.tree.ItemKind.TheFolds.{fold-Item}
 use Rattle.lay_tree.specs.declared.tree.File.{File}
 
--- the whole piece of a token with this text
-abbrev pub piece_of : Kind → List ℕ → List ℕ
-piece_of RawIdent cs = codes "r#" ++ cs
-piece_of kind cs = cs
+-- ---- pieces
 
--- A piece of the kind has this text.
-abbrev pub is_text_of : Kind → List ℕ → Bool
-is_text_of kind text = is_utf8 text && has_form kind (piece_of kind (chars text))
+-- A piece of the kind has this text; the text of documentation is UTF-8.
+unfoldable pub is_text_of : Kind → List ℕ → Bool
+is_text_of RawIdent text = is_utf8 text && has_form RawIdent (codes "r#" ++ chars text)
+is_text_of (Doc inner block) text = is_utf8 text
+is_text_of kind text = is_utf8 text && has_form kind (chars text)
+
+-- Each token of the tree is a piece of its kind.
+abbrev pub are_pieces : Form → Bool
+are_pieces Done = true
+are_pieces (Piece bits f) = are_pieces f
+are_pieces (Leaf kind text f) = is_text_of kind text && are_pieces f
+are_pieces (Listed token f) = is_text_of token.kind token.text && are_pieces f
+are_pieces (Gap space f) = are_pieces f
+are_pieces (LastComma blanks f) = are_pieces f
+are_pieces (Group consistent offset i f) = are_pieces i && are_pieces f
+are_pieces (Node may_follow i f) = are_pieces i && are_pieces f
+are_pieces (Deeper i f) = are_pieces i && are_pieces f
+are_pieces (Optional laid bits f) = are_pieces f
+are_pieces (Dropped f) = are_pieces f
+are_pieces (form.Doc inner text f) = is_utf8 text && are_pieces f
+are_pieces (Body kind last i f) = are_pieces i && are_pieces f
 
 -- ---- words
 
@@ -58,13 +76,11 @@ is_path_class _ = false
 
 -- A name is an identifier that is no keyword, or a raw identifier (Rust Reference, "Identifiers").
 abbrev pub is_name : Bool → List ℕ → Bool
-is_name true text = is_text_of RawIdent text
-is_name false text = is_text_of Ident text && is_plain (class_of text)
+is_name raw text = raw || is_plain (class_of text)
 
 -- A word of a path may be crate, self, super or Self too.
 abbrev pub is_word : Bool → List ℕ → Bool
-is_word true text = is_text_of RawIdent text
-is_word false text = is_text_of Ident text && is_path_class (class_of text)
+is_word raw text = raw || is_path_class (class_of text)
 
 -- ---- attributes
 
@@ -78,9 +94,6 @@ is_literal_kind (Opener d) = false
 is_literal_kind (Closer d) = false
 is_literal_kind (Doc inner block) = false
 is_literal_kind kind = true
-
-abbrev pub is_literal : Literal → Bool
-is_literal literal = is_literal_kind literal.kind && is_text_of literal.kind literal.text
 
 abbrev pub has_form_of_doc : DocForm → Bool
 has_form_of_doc doc.Neither = false
@@ -124,7 +137,7 @@ is_meta_path meta_path.Unsafe = true
 
 abbrev pub is_input : MetaInput → Bool
 is_input input.Bare = true
-is_input (input.Value literal) = is_literal literal
+is_input (input.Value literal) = is_literal_kind literal.kind
 
 abbrev pub same_flag : Bool → Bool → Bool
 same_flag true other = other
@@ -133,7 +146,7 @@ same_flag false other = not other
 -- It is inner where it says something of what it stands in, and else outer. Documentation that can be written as a
 -- comment is Doc, and every other attribute is Meta.
 abbrev pub is_attr : Bool → Attr → Bool
-is_attr inner (attr.Doc flag text) = same_flag inner flag && is_utf8 text && is_doc_text inner text
+is_attr inner (attr.Doc flag text) = same_flag inner flag && is_doc_text inner text
 is_attr inner (attr.Meta flag path given) =
     same_flag inner flag && is_meta_path path && is_input given && not (is_doc_path path && is_doc_input inner given)
 
@@ -181,9 +194,12 @@ is_good_shebang (Some line) =
     is_utf8 line && list_all is_in_line (chars line) && is_shebang (chars line)
     && bytes_eq (encode_utf8_all (without_end 13 (chars line))) line
 
-abbrev pub is_file : File → Bool
-is_file file = is_good_shebang file.shebang && are_attrs true file.attrs && list_all is_item file.items
+-- The tree is normal, and each node meets the conditions of its form.
+abbrev pub is_normal : File → Bool
+is_normal file = are_attrs true file.attrs && list_all is_item file.items
 
 -- The file can be written.
-abbrev pub Written : File → Type 0
-Written file = IsTrue (is_file file)
+pub record Written (file : File) : Type 0 where
+  pub shebang : IsTrue (is_good_shebang file.shebang)
+  pub normal : IsTrue (is_normal file)
+  pub pieces : IsTrue (are_pieces (form_of_file file))
