@@ -1,9 +1,8 @@
 -- A form lists the parts of a node in order. From it follow the tokens that spell the node, and its layout.
 use Rattle.std.specs.Prelude.{ℕ, Bool, List, [], ◌∷◌}
-use Rattle.lay_token.specs.Forms.{opening, closing}
 use Rattle.lay_token.specs.declared.token.Delim.{Delim}
 use Rattle.lay_token.specs.declared.token.Kind.{Kind}
-use Rattle.lay_token.specs.declared.token.Kind.TheVariants.{Ident, Punct, Opener, Closer}
+use Rattle.lay_token.specs.declared.token.Kind.TheVariants.{Ident, Punct}
 use Rattle.lay_token.specs.declared.token.Token.{Token}
 
 -- what a piece is made of
@@ -12,6 +11,9 @@ pub data Bit : Type 0 where
   Blank : Bit
   -- a fixed token; punctuation is one character, whatever follows it
   Fixed : Kind → List ℕ → Bit
+  -- a delimiter
+  Opening : Delim → Bit
+  Closing : Delim → Bit
   -- an operator: all its characters but the last are joint, and no longer operator stands there
   Operator : List ℕ → Bit
   -- any number of `;`, which aren't laid out
@@ -65,12 +67,6 @@ punct c = Fixed Punct (c ∷ [])
 
 abbrev pub keyword : List ℕ → Bit
 keyword word = Fixed Ident word
-
-abbrev pub opener : Delim → Bit
-opener d = Fixed (Opener d) (opening d ∷ [])
-
-abbrev pub closer : Delim → Bit
-closer d = Fixed (Closer d) (closing d ∷ [])
 
 abbrev pub comma : List Bit
 comma = punct 44 ∷ []

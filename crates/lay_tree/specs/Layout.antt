@@ -4,7 +4,7 @@ use Rattle.std.specs.Str.{chars, bytes_eq}
 use Rattle.lay_token.specs.Chars.{begins}
 use Rattle.lay_token.specs.Docs.{doc_form}
 use Rattle.lay_token.specs.Document.{Document, Empty, AddText, AddBreak, AddGroup}
-use Rattle.lay_token.specs.Forms.{doc_opening}
+use Rattle.lay_token.specs.Forms.{doc_opening, opening, closing}
 use Rattle.lay_token.specs.Number.{ends_in_point}
 use Rattle.lay_token.specs.declared.doc.DocForm.{DocForm}
 use Rattle.lay_token.specs.declared.doc.DocForm.TheVariants as doc
@@ -13,11 +13,13 @@ use Rattle.lay_token.specs.declared.layout.Mark.TheVariants.{Absent, Comma, Open
 use Rattle.lay_token.specs.declared.token.Kind.{Kind}
 use Rattle.lay_token.specs.declared.token.Kind.TheVariants.{RawIdent, Float, Doc}
 use Rattle.lay_tree.specs.Form as form
-use Rattle.lay_tree.specs.Form.{Bit, Blank, Fixed, Operator, Semicolons, Space, Soft, Hard, Never, BlockBody, CallBody, OtherBody, Form, Done, Piece, Leaf, Listed, Gap, LastComma, Group, Node, Deeper, Optional, Dropped, Body}
+use Rattle.lay_tree.specs.Form.{Bit, Blank, Fixed, Opening, Closing, Operator, Semicolons, Space, Soft, Hard, Never, BlockBody, CallBody, OtherBody, Form, Done, Piece, Leaf, Listed, Gap, LastComma, Group, Node, Deeper, Optional, Dropped, Body}
 
 abbrev pub text_of_bit : Bit → List ℕ
 text_of_bit Blank = codes " "
 text_of_bit (Fixed kind text) = text
+text_of_bit (Opening d) = opening d ∷ []
+text_of_bit (Closing d) = closing d ∷ []
 text_of_bit (Operator op) = op
 text_of_bit Semicolons = []
 
@@ -55,6 +57,8 @@ abbrev pub bits_end_in_point : Bool → List Bit → Bool
 bits_end_in_point point [] = point
 bits_end_in_point point (Blank ∷ bs) = bits_end_in_point false bs
 bits_end_in_point point (Fixed kind text ∷ bs) = bits_end_in_point false bs
+bits_end_in_point point (Opening d ∷ bs) = bits_end_in_point false bs
+bits_end_in_point point (Closing d ∷ bs) = bits_end_in_point false bs
 bits_end_in_point point (Operator op ∷ bs) = bits_end_in_point (bytes_eq op (codes "..")) bs
 bits_end_in_point point (Semicolons ∷ bs) = bits_end_in_point point bs
 

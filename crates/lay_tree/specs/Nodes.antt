@@ -8,15 +8,13 @@ use Rattle.lay_token.specs.declared.token.Kind.{Kind}
 use Rattle.lay_token.specs.declared.token.Kind.TheVariants.{Ident, RawIdent, Underscore}
 use Rattle.lay_token.specs.declared.token.Token.{Token}
 use Rattle.lay_tree.specs.Form as form
-use Rattle.lay_tree.specs.Form.{Bit, Blank, Operator, Hard, Form, Done, Piece, Leaf, Node, Deeper, punct, keyword, opener, closer}
+use Rattle.lay_tree.specs.Form.{Bit, Blank, Opening, Closing, Operator, Hard, Form, Done, Piece, Leaf, Node, Deeper, punct, keyword}
 use Rattle.lay_tree.specs.Spelled.{attr_opening}
 use Rattle.lay_tree.specs.Layout.{laid_out, break_of}
 use Rattle.lay_tree.specs.Notation.{H, I4, I0, part, text, listed, body, behind_attrs, when}
-use Rattle.lay_tree.specs.declared.tree.Name.{Name}
 use Rattle.lay_tree.specs.declared.tree.Word.{Word}
 use Rattle.lay_tree.specs.declared.tree.Segment.{Segment}
 use Rattle.lay_tree.specs.declared.tree.Path.{Path}
-use Rattle.lay_tree.specs.declared.tree.Literal.{Literal}
 use Rattle.lay_tree.specs.declared.tree.MetaPath.{MetaPath}
 use Rattle.lay_tree.specs.declared.tree.MetaPath.TheVariants as meta_path
 use Rattle.lay_tree.specs.declared.tree.MetaInput.{MetaInput}
@@ -75,7 +73,7 @@ input_form (input.Value literal) f = Piece (Blank ∷ Operator (codes "=") ∷ B
 abbrev pub attr_form : Attr → Form
 attr_form (attr.Doc inner text) = form.Doc inner text Done
 attr_form (attr.Meta inner path input) =
-    Piece (attr_opening inner) (part (meta_path_form path) (input_form input (text (closer Bracket ∷ []))))
+    Piece (attr_opening inner) (part (meta_path_form path) (input_form input (text (Closing Bracket ∷ []))))
 
 -- ---- use trees
 
@@ -98,7 +96,7 @@ rename_form (Some rename.Underscore) = Piece (Blank ∷ keyword (codes "as") ∷
 abbrev pub use_end_form : UseEnd-F Form Form → Form
 use_end_form (UseEnd-F.Word word renamed) = leaf_of word.raw word.text (rename_form renamed)
 use_end_form UseEnd-F.Glob = text (Operator (codes "*") ∷ [])
-use_end_form (UseEnd-F.Group trees) = listed (opener Brace) (closer Brace) trees
+use_end_form (UseEnd-F.Group trees) = listed (Opening Brace) (Closing Brace) trees
 
 abbrev pub use_tree_form : UseTree-F Form Form → Form
 use_tree_form tree = Node ends_path (Deeper (when tree.global colons (words_form tree.path (part tree.end Done))) Done) Done

@@ -1,8 +1,7 @@
 -- The notation of the grammar: breaks and groups, and lists, bodies, fields and braces of parts.
-use Rattle.std.specs.Prelude.{ℕ, Bool, true, false, List, [], ◌∷◌, ◌++◌, codes}
+use Rattle.std.specs.Prelude.{Bool, true, false, List, [], ◌∷◌, ◌++◌, codes}
 use Rattle.lay_token.specs.declared.token.Delim.TheVariants.{Brace}
-use Rattle.lay_token.specs.declared.token.Token.{Token}
-use Rattle.lay_tree.specs.Form.{Bit, Blank, Semicolons, Soft, Hard, Never, Form, Done, Piece, Gap, LastComma, Group, Node, Optional, punct, keyword, opener, closer, comma}
+use Rattle.lay_tree.specs.Form.{Bit, Blank, Opening, Closing, Semicolons, Soft, Hard, Never, Form, Done, Piece, Gap, LastComma, Group, Node, Optional, keyword, comma}
 
 -- breaks of no blank, of one blank, hard ones and those that are never a newline; `-` is one step back
 abbrev pub Z : Form → Form
@@ -62,9 +61,9 @@ listed opening closing (e ∷ es) =
 -- BODY: parts in braces, each on a line of its own. `before` is its leading blank, if it has one, and `skipped`
 -- what may stand behind the opening brace without being laid out.
 abbrev pub body : List Bit → List Bit → List Form → Form
-body before skipped [] = text (before ++ (opener Brace ∷ (skipped ++ closer Brace ∷ [])))
+body before skipped [] = text (before ++ (Opening Brace ∷ (skipped ++ Closing Brace ∷ [])))
 body before skipped (e ∷ es) =
-    Piece (before ++ (opener Brace ∷ skipped)) (N (C4 (part (each H (e ∷ es)) (H- Done)) (text (closer Brace ∷ []))))
+    Piece (before ++ (Opening Brace ∷ skipped)) (N (C4 (part (each H (e ∷ es)) (H- Done)) (text (Closing Brace ∷ []))))
 
 -- parts with a `,` behind each; the last one's may be left out
 abbrev pub with_commas : List Form → List Form
@@ -83,13 +82,13 @@ braces_end true = B- Done
 
 -- BRACES: parts in braces on one line, or each on its own; the flag says that the last one is a rest or a base.
 abbrev pub braces : List Form → Bool → Form
-braces [] rest = text (Blank ∷ opener Brace ∷ closer Brace ∷ [])
+braces [] rest = text (Blank ∷ Opening Brace ∷ Closing Brace ∷ [])
 braces (e ∷ es) rest =
-    Piece (Blank ∷ opener Brace ∷ []) (C4 (B (part e (part (each comma_gap es) (braces_end rest)))) (text (closer Brace ∷ [])))
+    Piece (Blank ∷ Opening Brace ∷ []) (C4 (B (part e (part (each comma_gap es) (braces_end rest)))) (text (Closing Brace ∷ [])))
 
 -- SOFT: a block of one expression. Other blocks are bodies.
 abbrev pub soft : Form → Form
-soft e = Piece (Blank ∷ opener Brace ∷ Semicolons ∷ []) (N (C4 (B (part e (B- Done))) (text (closer Brace ∷ []))))
+soft e = Piece (Blank ∷ Opening Brace ∷ Semicolons ∷ []) (N (C4 (B (part e (B- Done))) (text (Closing Brace ∷ []))))
 
 abbrev pub where_word : List Bit
 where_word = keyword (codes "where") ∷ []

@@ -1,6 +1,6 @@
 -- Reading as a function of the tokens ahead: what is read and what is left, or none. These are the words of readers'
 -- contracts; that what is read is what the tokens spell, and the only thing, is proved of them.
-use Rattle.std.specs.Prelude.{ℕ, zero, suc, ◌≡◌, ◌&&◌, ◌||◌, Bool, true, false, if◌then◌else◌, List, [], ◌∷◌, ◌++◌, length, drop, codes, encode_utf8_all, Option, Some, None, option_and_then}
+use Rattle.std.specs.Prelude.{ℕ, zero, suc, ◌&&◌, ◌||◌, Bool, true, false, if◌then◌else◌, List, [], ◌∷◌, ◌++◌, length, drop, codes, encode_utf8_all, Option, Some, None, option_and_then}
 use Rattle.std.specs.Str.{chars, bytes_eq}
 use Rattle.lay_token.specs.Lexes.{is_punct}
 use Rattle.lay_token.specs.Operators.{is_op}

@@ -5,10 +5,10 @@ use Rattle.lay_token.specs.Operators.{is_op}
 use Rattle.lay_token.specs.Value.{value_of}
 use Rattle.lay_token.specs.declared.token.Delim.TheVariants.{Bracket, Brace}
 use Rattle.lay_token.specs.declared.token.Kind.{Kind}
-use Rattle.lay_token.specs.declared.token.Kind.TheVariants.{Punct, Doc}
+use Rattle.lay_token.specs.declared.token.Kind.TheVariants.{Punct, Opener, Closer, Doc}
 use Rattle.lay_token.specs.declared.token.Token.{Token}
 use Rattle.lay_tree.specs.Form as form
-use Rattle.lay_tree.specs.Form.{Bit, Blank, Fixed, Operator, Semicolons, BodyKind, BlockBody, CallBody, OtherBody, Form, Done, Piece, Leaf, Listed, Gap, LastComma, Group, Node, Deeper, Optional, Dropped, Body, punct, keyword, opener, closer, comma}
+use Rattle.lay_tree.specs.Form.{Bit, Blank, Fixed, Opening, Closing, Operator, Semicolons, BodyKind, BlockBody, CallBody, OtherBody, Form, Done, Piece, Leaf, Listed, Gap, LastComma, Group, Node, Deeper, Optional, Dropped, Body, punct, keyword, comma}
 
 -- one relation and then another
 abbrev pub Then : (List Token → List Token → Type 0) → (List Token → List Token → Type 0) → List Token → List Token → Type 0
@@ -18,6 +18,11 @@ Then R S ts rest = (mid : List Token) × R ts mid × S mid rest
 abbrev pub IsOne : Kind → List ℕ → List Token → List Token → Type 0
 IsOne kind text [] rest = ⊥
 IsOne kind text (t ∷ ts) rest = (t.kind ≡ kind) × (t.text ≡ text) × (ts ≡ rest)
+
+-- one token of this kind
+abbrev pub IsKind : Kind → List Token → List Token → Type 0
+IsKind kind [] rest = ⊥
+IsKind kind (t ∷ ts) rest = (t.kind ≡ kind) × (ts ≡ rest)
 
 -- An operator of the table is spelled by its characters, and no longer one stands at its place.
 abbrev pub IsOperator : List ℕ → List Token → List Token → Type 0
@@ -33,6 +38,8 @@ AnySemicolons ts rest = (n : ℕ) × AreSemicolons n ts rest
 abbrev pub IsBit : Bit → List Token → List Token → Type 0
 IsBit Blank ts rest = ts ≡ rest
 IsBit (Fixed kind text) ts rest = IsOne kind text ts rest
+IsBit (Opening d) ts rest = IsKind (Opener d) ts rest
+IsBit (Closing d) ts rest = IsKind (Closer d) ts rest
 IsBit (Operator op) ts rest = IsOperator op ts rest
 IsBit Semicolons ts rest = AnySemicolons ts rest
 
@@ -68,14 +75,14 @@ IsString text (t ∷ ts) rest = IsStringOf text t × (ts ≡ rest)
 
 -- `#[` or `#![`
 abbrev pub attr_opening : Bool → List Bit
-attr_opening false = punct 35 ∷ opener Bracket ∷ []
-attr_opening true = punct 35 ∷ punct 33 ∷ opener Bracket ∷ []
+attr_opening false = punct 35 ∷ Opening Bracket ∷ []
+attr_opening true = punct 35 ∷ punct 33 ∷ Opening Bracket ∷ []
 
 -- documentation, spelled as an attribute: `#[doc = "text"]`
 abbrev pub IsDocAttr : Bool → List ℕ → List Token → List Token → Type 0
 IsDocAttr inner text =
     Then (AreBits (attr_opening inner ++ keyword (codes "doc") ∷ Operator (codes "=") ∷ []))
-    (Then (IsString text) (AreBits (closer Bracket ∷ [])))
+    (Then (IsString text) (AreBits (Closing Bracket ∷ [])))
 
 abbrev pub IsDoc : Bool → List ℕ → List Token → List Token → Type 0
 IsDoc inner text ts rest = IsComment inner text ts rest ⊎ IsDocAttr inner text ts rest
@@ -83,11 +90,11 @@ IsDoc inner text ts rest = IsComment inner text ts rest ⊎ IsDocAttr inner text
 -- opening braces that aren't in the tree, each with any number of `;` behind it, and the closing ones
 abbrev pub Opens : ℕ → List Token → List Token → Type 0
 Opens zero ts rest = ts ≡ rest
-Opens (suc n) ts rest = Then (AreBits (opener Brace ∷ Semicolons ∷ [])) (Opens n) ts rest
+Opens (suc n) ts rest = Then (AreBits (Opening Brace ∷ Semicolons ∷ [])) (Opens n) ts rest
 
 abbrev pub Closes : ℕ → List Token → List Token → Type 0
 Closes zero ts rest = ts ≡ rest
-Closes (suc n) ts rest = Then (AreBits (closer Brace ∷ [])) (Closes n) ts rest
+Closes (suc n) ts rest = Then (AreBits (Closing Brace ∷ [])) (Closes n) ts rest
 
 -- what a body within so many braces costs of the depth
 abbrev pub cost : ℕ → ℕ

@@ -1,5 +1,5 @@
 -- The stream of a form: what a printer is fed.
-use Rattle.std.specs.Prelude.{ℕ, Bool, true, false, cond, List, [], ◌∷◌, ◌++◌, codes, pos}
+use Rattle.std.specs.Prelude.{ℕ, Bool, true, false, cond, List, [], ◌∷◌, codes, pos}
 use Rattle.lay_token.specs.Docs.{doc_form}
 use Rattle.lay_token.specs.Forms.{doc_opening}
 use Rattle.lay_token.specs.declared.layout.Tok.{Tok}

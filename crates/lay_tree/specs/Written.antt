@@ -1,7 +1,7 @@
 -- Which trees are files that can be written: they are normal, each node meets the conditions of its form, and each
 -- name, word and literal is a piece of its kind.
-use Rattle.std.specs.Prelude.{ℕ, Bool, true, false, ◌&&◌, ◌||◌, not, List, [], ◌∷◌, ◌++◌, codes, cond, Option, Some, None, IsTrue, encode_utf8_all}
-use Rattle.std.specs.List.{list_all, list_any}
+use Rattle.std.specs.Prelude.{ℕ, Bool, true, false, ◌&&◌, ◌||◌, not, List, [], ◌∷◌, ◌++◌, codes, Option, Some, None, IsTrue, encode_utf8_all}
+use Rattle.std.specs.List.{list_all}
 use Rattle.std.specs.Str.{chars, is_utf8, bytes_eq}
 use Rattle.lay_token.specs.Docs.{doc_form}
 use Rattle.lay_token.specs.Forms.{has_form}
@@ -18,10 +18,8 @@ use Rattle.lay_token.specs.declared.word.Class.TheVariants.{Plain, PathWord}
 use Rattle.lay_tree.specs.Form as form
 use Rattle.lay_tree.specs.Form.{Form, Done, Piece, Leaf, Listed, Gap, LastComma, Group, Node, Deeper, Optional, Dropped, Body}
 use Rattle.lay_tree.specs.Nodes.{form_of_file}
-use Rattle.lay_tree.specs.declared.tree.Name.{Name}
 use Rattle.lay_tree.specs.declared.tree.Word.{Word}
 use Rattle.lay_tree.specs.declared.tree.Segment.{Segment}
-use Rattle.lay_tree.specs.declared.tree.Path.{Path}
 use Rattle.lay_tree.specs.declared.tree.Literal.{Literal}
 use Rattle.lay_tree.specs.declared.tree.MetaPath.{MetaPath}
 use Rattle.lay_tree.specs.declared.tree.MetaPath.TheVariants as meta_path
