@@ -1,8 +1,13 @@
 -- What is read is spelled so, and is normal.
-use Rattle.std.proofs.Common.{◌≡◌, ℕ, zero, suc, Bool, true, false, ◌&&◌, not, List, [], ◌∷◌, ◌++◌, map, length, drop, codes, ◌⊎◌, inl, inr, Option, Some, None, refl, sym, ◌∙◌, ap, subst, if◌then◌else◌}
-use Rattle.std.specs.Prelude.{encode_utf8_all}
+use Rattle.std.proofs.Common.{◌≡◌, ℕ, zero, suc, Bool, true, false, ◌&&◌, not, List, [], ◌∷◌, ◌++◌, map, length, drop, codes, ◌⊎◌, inl, inr, Option, Some, None, refl, sym, ◌∙◌, ap, subst, if◌then◌else◌, arith}
+use Rattle.std.specs.Prelude.{◌+◌, ◌==◌, encode_utf8_all}
 use Rattle.std.specs.List.{list_all}
 use Rattle.std.specs.Str.{chars, bytes_eq}
+use Rattle.std.proofs.lemmas.Bool.{eqb-true}
+use Rattle.std.proofs.lemmas.Str.{encode_ascii}
+use Rattle.lay_token.specs.Chars.{is_lone_underscore}
+use Rattle.lay_token.specs.Forms.{had, has_form, may_follow, Had}
+use Rattle.lay_token.specs.Lexes.{Part, spell, Before, Other, is_index_place, step, Fit, size, text_of_piece, tokens_from, Lexes}
 use Rattle.lay_token.specs.Operators.{is_op}
 use Rattle.lay_token.specs.Value.{value_of}
 use Rattle.lay_token.specs.Word.{class_of}
@@ -37,7 +42,7 @@ use Rattle.lay_tree.specs.declared.tree.ItemKind.{ItemKind}
 use Rattle.lay_tree.specs.declared.tree.ItemKind.TheVariants as item
 use Rattle.lay_tree.specs.declared.tree.Item.{Item}
 use Rattle.lay_tree.specs.declared.tree.File.{File}
-use Rattle.lay_tree.proofs.SoundTokens.{and_true, got_same, chosen, bind_some, either_some, one_more, no_more, same_as_itself, doc_kind, bytes_same, keyword_one, mark_one, opens_brace_one, closes_brace_one, opens_bracket_one, closes_bracket_one, passed_is}
+use Rattle.lay_tree.proofs.SoundTokens.{both_true, and_true, got_same, chosen, bind_some, either_some, one_more, no_more, same_as_itself, doc_kind, bytes_same, keyword_one, mark_one, opens_brace_one, closes_brace_one, opens_bracket_one, closes_bracket_one, passed_is}
 use Rattle.lay_tree.proofs.SoundParts.{form_of_end, is_end, use_form, use_normal, word_form, glob_form, group_form, word_normal, glob_normal, group_normal, form_of_kind, is_kind, one_form, one_normal, struct_form, module_form, import_form, struct_normal, module_normal, import_normal, SpelledAll, Leads, all_joined, bits_joined, lines_spelled, behind_attrs_spelled, body_spelled, kept_one, kept_kind, kept, all_kept, Elements, comma_element, last_element, listed_spelled, word_kind, leaf_leads, more_segments_form, segments_are}
 
 -- ---- names and words
@@ -785,3 +790,27 @@ pub whole_sound : (ts : Tokens) (attrs : List Attr) (items : List Item) → Unde
     → (file : File) → file.attrs ≡ attrs → file.items ≡ items → Spells (form_of_file file) top ts [] × (is_normal file ≡ true)
 unfolding whole
 whole_sound ts attrs items p h file a i = rw (a, i) (whole_parts top ts attrs items p h)
+
+-- ---- what a text lexes to
+
+lone_text : (piece : List ℕ) → is_lone_underscore piece ≡ true → encode_utf8_all piece ≡ codes "_"
+lone_text [] h = absurd (cc)
+lone_text (c ∷ []) h = let e = eqb-true c 95 (both_true (c == 95) true h).0 in rw (e, encode_ascii 95 (omega arith)) refl
+lone_text (c ∷ d ∷ cs) h = let e = (both_true (c == 95) false h).1 in absurd (cc)
+
+underscore_text : (piece rest : List ℕ) (index : Bool) → Had Underscore piece rest index → encode_utf8_all piece ≡ codes "_"
+unfolding had has_form
+underscore_text piece rest index h = lone_text piece (both_true (is_lone_underscore piece) (may_follow Underscore piece rest) h).0
+
+had_text : (k : Kind) (piece rest : List ℕ) (index : Bool) → Had k piece rest index → k ≡ Underscore → encode_utf8_all (text_of_piece k piece) ≡ codes "_"
+had_text k piece rest index h e =
+    let P : Kind → Type 0 = λ j. Had j piece rest index → encode_utf8_all (text_of_piece j piece) ≡ codes "_" in
+    subst P (sym e) (underscore_text piece rest index) h
+
+parts_texts : (b : Before) (ps : List Part) (rest : List ℕ) (at : ℕ) → Fit b ps rest → UnderscoreTexts (tokens_from at ps)
+parts_texts b [] rest at f = tt
+parts_texts b (p ∷ ps) rest at f =
+    (had_text p.kind p.piece (spell ps rest) (is_index_place b) f.1, parts_texts (step b p) ps rest ((at + size p.gap) + size p.piece) f.2)
+
+pub lexed_texts : (bytes : List ℕ) (start : ℕ) (tokens : Tokens) → Lexes bytes start tokens → UnderscoreTexts tokens
+lexed_texts bytes start tokens l = let reads = l.2 in rw l.3 (parts_texts Other l.0 l.1 start reads.fit)
