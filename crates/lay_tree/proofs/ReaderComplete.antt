@@ -1,0 +1,348 @@
+-- What is spelled is read.
+use Rattle.std.proofs.Common.{◌≡◌, ℕ, zero, suc, ◌<◌, ◌≤◌, ◌∙◌, Bool, true, false, not, ◌&&◌, List, [], ◌∷◌, ◌++◌, length, drop, map, codes, Option, Some, None, if◌then◌else◌, refl, sym, ap, subst, ◌⊎◌, inl, inr, append_assoc, append-nil, arith}
+use Rattle.std.specs.Prelude.{encode_utf8_all}
+use Rattle.std.specs.List.{list_all}
+use Rattle.std.specs.Str.{chars, bytes_eq}
+use Rattle.std.proofs.lemmas.Bool.{cases_Bool, and_parts, false_from_ne_true, not-true}
+use Rattle.std.proofs.lemmas.Slice.Eq.{bytes_eq-Decides}
+use Rattle.lay_token.specs.Lexes.{is_punct}
+use Rattle.lay_token.specs.Operators.{is_op}
+use Rattle.lay_token.specs.Value.{value_of}
+use Rattle.lay_token.specs.Word.{class_of}
+use Rattle.lay_token.specs.declared.token.Delim.TheVariants.{Bracket, Brace}
+use Rattle.lay_token.specs.declared.token.Kind.{Kind}
+use Rattle.lay_token.specs.declared.token.Kind.TheVariants.{Ident, RawIdent, Underscore, Str, RawStr, Punct, Opener, Closer, Doc}
+use Rattle.lay_token.specs.declared.token.Token.{Token}
+use Rattle.lay_tree.specs.Form.{Blank, Fixed, Opening, Closing, Operator, Form, Done, Piece, keyword, punct}
+use Rattle.lay_tree.specs.Spelled.{IsOne, IsKind, IsOperator, AreBits, IsComment, IsStringOf, IsString, attr_opening, IsDocAttr, IsDoc, Spells}
+use Rattle.lay_tree.specs.Notation.{part, text, when}
+use Rattle.lay_tree.specs.Nodes.{is_ident, leaf_of, colons, ends_path, segments_form, path_form, meta_path_form, input_form, attr_form}
+use Rattle.lay_tree.specs.Written.{is_path_class, is_word, is_literal_kind, is_doc_text, is_doc_value, is_doc_path, is_doc_input, is_segments, is_meta_path, is_input, same_flag, is_attr, are_attrs}
+use Rattle.lay_tree.specs.Reader.{Tokens, Got, first, tail, is_keyword, closes_bracket, passed, ends_items, global, word, segments_from, simple_path, meta_name, literal, meta_input, doc_or, made, behind_opening, meta_attr, is_doc_kind, is_doc, doc_attr, attribute, begins_attr, attrs_from, attributes}
+use Rattle.lay_tree.specs.declared.tree.Segment.{Segment}
+use Rattle.lay_tree.specs.declared.tree.Path.{Path}
+use Rattle.lay_tree.specs.declared.tree.Literal.{Literal}
+use Rattle.lay_tree.specs.declared.tree.MetaPath.{MetaPath}
+use Rattle.lay_tree.specs.declared.tree.MetaPath.TheVariants as meta_path
+use Rattle.lay_tree.specs.declared.tree.MetaInput.{MetaInput}
+use Rattle.lay_tree.specs.declared.tree.MetaInput.TheVariants as input
+use Rattle.lay_tree.specs.declared.tree.Attr.{Attr}
+use Rattle.lay_tree.specs.declared.tree.Attr.TheVariants as attr
+use Rattle.lay_tree.proofs.CompleteTokens.{one_front, kind_front, op_front, other_op, kind_no_op, one_no_op, comma_no_colons, semicolon_no_colons, one_test, kind_test, op_test, one_goes_on, word_kind, word_kinds, leaf_parts, word_no_op, word_complete, name_complete, one_shorter, op_shorter, bits_shorter, spelled_shorter}
+use Rattle.lay_tree.proofs.CompleteParts.{SpelledAll, all_parts, bits_parts, bit_alone, behind_blank, before_blank, text_alone, part_alone, lines_all, behind_all, body_parts, brace_passed, list_complete, all_complete}
+
+-- ---- paths
+
+-- whether a `::` leads
+global_parts : (leads : Bool) (f : Form) (depth : ℕ) (ts rest : Tokens) → Spells (when leads colons f) depth ts rest
+    → ((us : Tokens) → Spells f depth us rest → is_op (codes "::") us ≡ false) → (mid : Tokens) × (global ts ≡ (leads, mid)) × Spells f depth mid rest
+global_parts true f depth ts rest s none =
+    let o : IsOperator (codes "::") ts s.0 = bit_alone (Operator (codes "::")) ts s.0 s.1 in
+    (s.0, rw (o.0, o.1) refl, s.2)
+global_parts false f depth ts rest s none = (ts, rw (none ts s) refl, s)
+
+-- what stands behind the first segment
+abbrev behind_segment : List Segment → Form
+behind_segment [] = Done
+behind_segment (t ∷ more) = Piece colons (segments_form (t ∷ more) Done)
+
+segment_parts : (one : Segment) (more : List Segment) (depth : ℕ) (ts rest : Tokens) → Spells (segments_form (one ∷ more) Done) depth ts rest
+    → (mid : Tokens) × IsOne (word_kind one.word.raw) one.word.text ts mid × Spells (behind_segment more) depth mid rest
+segment_parts one [] depth ts rest s = leaf_parts one.word.raw one.word.text Done depth ts rest s
+segment_parts one (t ∷ more) depth ts rest s = leaf_parts one.word.raw one.word.text (behind_segment (t ∷ more)) depth ts rest s
+
+abbrev good_segment : Segment → Bool
+good_segment s = is_word s.word.raw s.word.text
+
+segments_from_complete : (more : List Segment) (n : ℕ) (found : List Segment) (depth : ℕ) (ts rest : Tokens) → length ts < n → list_all good_segment more ≡ true
+    → Spells (behind_segment more) depth ts rest → is_op (codes "::") rest ≡ false → segments_from n found ts ≡ Some (found ++ more, rest)
+unfolding segments_from
+segments_from_complete more zero found depth ts rest lt g s h = absurd (omega arith)
+segments_from_complete [] (suc n) found depth ts rest lt g s h = rw (s, h, append-nil found) refl
+segments_from_complete (t ∷ more) (suc n) found depth ts rest lt g s h =
+    let o : IsOperator (codes "::") ts s.0 = bit_alone (Operator (codes "::")) ts s.0 s.1 in
+    let goods = and_parts (good_segment t) (list_all good_segment more) g in
+    let w = segment_parts t more depth s.0 rest s.2 in
+    let less : length w.0 < n = omega (arith, bits_shorter colons ts s.0 s.1, one_shorter (word_kind t.word.raw) t.word.text s.0 w.0 w.1) in
+    let r : segments_from n (found ++ t ∷ []) w.0 ≡ Some ((found ++ t ∷ []) ++ more, rest) = segments_from_complete more n (found ++ t ∷ []) depth w.0 rest less goods.1 w.2 h in
+    rw (o.0, o.1, word_complete t.word s.0 w.0 goods.0 w.1, r, append_assoc found (t ∷ []) more) refl
+
+path_complete : (path : Path) (depth : ℕ) (ts rest : Tokens) → Spells (path_form path) depth ts rest → is_segments path.segments ≡ true → is_op (codes "::") rest ≡ false
+    → simple_path ts ≡ Some (path, rest)
+unfolding simple_path
+path_complete path depth ts rest s g h = at path.global path.segments g (subst (λ us. Spells (when path.global colons (segments_form path.segments Done)) depth ts us) s.3 s.1)
+  where
+    at : (leads : Bool) (segments : List Segment) → is_segments segments ≡ true → Spells (when leads colons (segments_form segments Done)) depth ts rest
+        → simple_path ts ≡ Some (record { global = leads; segments = segments }, rest)
+    at leads [] g s = absurd (cc)
+    at leads (one ∷ more) g s =
+        let goods = and_parts (good_segment one) (list_all good_segment more) g in
+        let lead = global_parts leads (segments_form (one ∷ more) Done) depth ts rest s (λ us x.
+          let w = segment_parts one more depth us rest x in word_no_op (codes "::") one.word.raw one.word.text us w.0 w.1) in
+        let w = segment_parts one more depth lead.0 rest lead.2 in
+        let lt : length w.0 < suc (length w.0) = omega arith in
+        rw (lead.1, word_complete one.word lead.0 w.0 goods.0 w.1, segments_from_complete more (suc (length w.0)) (one ∷ []) depth w.0 rest lt goods.1 w.2 h) refl
+
+-- ---- attributes
+
+-- a word of a path isn't `unsafe`
+word_not_unsafe : (raw : Bool) (word : List ℕ) (ts rest : Tokens) → is_word raw word ≡ true → IsOne (word_kind raw) word ts rest → first (is_keyword (codes "unsafe")) ts ≡ false
+word_not_unsafe true word ts rest g o = rw (one_front RawIdent word ts rest o).1 refl
+word_not_unsafe false word ts rest g o =
+    let differs : bytes_eq word (codes "unsafe") ≡ false = false_from_ne_true (bytes_eq word (codes "unsafe")) (λ e.
+      let same : word ≡ codes "unsafe" = (bytes_eq-Decides word (codes "unsafe")).0 e in
+      let path_word : is_path_class (class_of (codes "unsafe")) ≡ true = subst (λ w. is_path_class (class_of w) ≡ true) same g in
+      absurd (cc)) in
+    rw ((one_front Ident word ts rest o).1, differs) refl
+
+path_not_unsafe : (leads : Bool) (segments : List Segment) (depth : ℕ) (ts rest : Tokens) → is_segments segments ≡ true
+    → Spells (when leads colons (segments_form segments Done)) depth ts rest → first (is_keyword (codes "unsafe")) ts ≡ false
+path_not_unsafe leads [] depth ts rest g s = absurd (cc)
+path_not_unsafe true (one ∷ more) depth ts rest g s =
+    let o : IsOperator (codes "::") ts s.0 = bit_alone (Operator (codes "::")) ts s.0 s.1 in
+    rw (op_front (codes "::") ts o.0).2 refl
+path_not_unsafe false (one ∷ more) depth ts rest g s =
+    let w = segment_parts one more depth ts rest s in
+    word_not_unsafe one.word.raw one.word.text ts w.0 (and_parts (good_segment one) (list_all good_segment more) g).0 w.1
+
+meta_name_complete : (path : MetaPath) (depth : ℕ) (ts rest : Tokens) → Spells (meta_path_form path) depth ts rest → is_meta_path path ≡ true → is_op (codes "::") rest ≡ false
+    → meta_name ts ≡ Some (path, rest)
+unfolding meta_name
+meta_name_complete (meta_path.Path path) depth ts rest s g h =
+    let inside = subst (λ us. Spells (when path.global colons (segments_form path.segments Done)) depth ts us) s.3 s.1 in
+    rw (path_not_unsafe path.global path.segments depth ts rest g inside, path_complete path depth ts rest s g h) refl
+meta_name_complete meta_path.Unsafe depth ts rest s g h =
+    rw (one_front Ident (codes "unsafe") ts rest (text_alone (keyword (codes "unsafe")) depth ts rest s)).1 refl
+
+literal_complete : (l : Literal) (ts rest : Tokens) → is_literal_kind l.kind ≡ true → IsOne l.kind l.text ts rest → literal ts ≡ Some (l, rest)
+unfolding literal
+literal_complete l ts rest g o = rw ((one_front l.kind l.text ts rest o).1, g) refl
+
+value_complete : (l : Literal) (ts mid rest : Tokens) → is_literal_kind l.kind ≡ true → IsOperator (codes "=") ts mid → IsOne l.kind l.text mid rest
+    → meta_input ts ≡ Some (input.Value l, rest)
+unfolding meta_input
+value_complete l ts mid rest g o one = rw (o.0, o.1, literal_complete l mid rest g one) refl
+
+meta_input_complete : (given : MetaInput) (depth : ℕ) (ts rest : Tokens) → Spells (input_form given (text (Closing Bracket ∷ []))) depth ts rest → is_input given ≡ true
+    → (mid : Tokens) × (meta_input ts ≡ Some (given, mid)) × IsKind (Closer Bracket) mid rest × (is_op (codes "::") ts ≡ false)
+unfolding meta_input
+meta_input_complete input.Bare depth ts rest s g =
+    let closing : IsKind (Closer Bracket) ts rest = text_alone (Closing Bracket) depth ts rest s in
+    (ts, rw (kind_no_op (codes "=") (Closer Bracket) ts rest refl closing) refl, closing, kind_no_op (codes "::") (Closer Bracket) ts rest refl closing)
+meta_input_complete (input.Value l) depth ts rest s g =
+    let o : IsOperator (codes "=") ts s.0 = before_blank (Operator (codes "=")) ts s.0 (behind_blank (Operator (codes "=") ∷ Blank ∷ []) ts s.0 s.1) in
+    let inside = s.2 in
+    let one : IsOne l.kind l.text s.0 inside.0 = subst (λ us. IsOne l.kind l.text s.0 us) inside.1.2 inside.1.1 in
+    (inside.0, value_complete l ts s.0 inside.0 g o one, text_alone (Closing Bracket) depth inside.0 rest inside.2, other_op (codes "=") (codes "::") refl ts o.0)
+
+-- ---- what `made` gives
+
+doc_or_other : (inner : Bool) (value : Option (List ℕ)) (other : Attr) → is_doc_value inner value ≡ false → doc_or inner value other ≡ other
+doc_or_other inner None other h = refl
+doc_or_other inner (Some value) other h = rw h refl
+
+chosen_other : (is_doc_name : Bool) (inner : Bool) (value : Option (List ℕ)) (other : Attr) → not (is_doc_name && is_doc_value inner value) ≡ true
+    → (if is_doc_name then doc_or inner value other else other) ≡ other
+chosen_other true inner value other h = doc_or_other inner value other (not-true (is_doc_value inner value) h)
+chosen_other false inner value other h = refl
+
+made_meta : (inner : Bool) (path : MetaPath) (given : MetaInput) → not (is_doc_path path && is_doc_input inner given) ≡ true → made inner path given ≡ attr.Meta inner path given
+made_meta inner path input.Bare h = refl
+made_meta inner path (input.Value l) h = chosen_other (is_doc_path path) inner (value_of l.kind (chars l.text)) (attr.Meta inner path (input.Value l)) h
+
+-- ---- one attribute
+
+opening_read : (inner : Bool) (ts rest : Tokens) → AreBits (attr_opening inner) ts rest → behind_opening inner ts ≡ Some rest
+opening_read false ts rest s = rw ((one_front Punct (codes "#") ts s.0 s.1).1, (kind_front (Opener Bracket) s.0 rest (bit_alone (Opening Bracket) s.0 rest s.2)).1) refl
+opening_read true ts rest s =
+    let bang = s.2 in
+    rw (
+      (one_front Punct (codes "#") ts s.0 s.1).1,
+      (one_front Punct (codes "!") s.0 bang.0 bang.1).1,
+      (kind_front (Opener Bracket) bang.0 rest (bit_alone (Opening Bracket) bang.0 rest bang.2)).1,
+    ) refl
+
+opening_hash : (inner : Bool) (ts rest : Tokens) → AreBits (attr_opening inner) ts rest → (mid : Tokens) × IsOne Punct (codes "#") ts mid
+opening_hash false ts rest s = (s.0, s.1)
+opening_hash true ts rest s = (s.0, s.1)
+
+opening_begins : (inner : Bool) (ts rest : Tokens) → AreBits (attr_opening inner) ts rest → begins_attr inner ts ≡ true
+opening_begins false ts rest s = rw (one_front Punct (codes "#") ts s.0 s.1).1 refl
+opening_begins true ts rest s = rw ((one_front Punct (codes "#") ts s.0 s.1).1, (one_front Punct (codes "!") s.0 s.2.0 s.2.1).1) refl
+
+-- An outer attribute begins no inner one.
+opening_no_inner : (ts rest : Tokens) → AreBits (attr_opening false) ts rest → begins_attr true ts ≡ false
+opening_no_inner ts rest s =
+    rw ((one_front Punct (codes "#") ts s.0 s.1).1, (kind_front (Opener Bracket) s.0 rest (bit_alone (Opening Bracket) s.0 rest s.2)).1) refl
+
+bracket_passed : (ts rest : Tokens) → IsKind (Closer Bracket) ts rest → passed closes_bracket ts ≡ Some rest
+bracket_passed ts rest o = rw (kind_front (Closer Bracket) ts rest o).1 refl
+
+-- what stands in the brackets of an attribute makes it
+meta_attr_made : (inner : Bool) (path : MetaPath) (given : MetaInput) (ts inside behind closing rest : Tokens) → AreBits (attr_opening inner) ts inside
+    → meta_name inside ≡ Some (path, behind) → meta_input behind ≡ Some (given, closing) → IsKind (Closer Bracket) closing rest
+    → meta_attr inner ts ≡ Some (made inner path given, rest)
+unfolding meta_attr
+meta_attr_made inner path given ts inside behind closing rest o n i c = rw (opening_read inner ts inside o, n, i, bracket_passed closing rest c) refl
+
+meta_complete : (inner : Bool) (path : MetaPath) (given : MetaInput) (depth : ℕ) (ts rest : Tokens) → Spells (attr_form (attr.Meta inner path given)) depth ts rest
+    → is_meta_path path ≡ true → is_input given ≡ true → not (is_doc_path path && is_doc_input inner given) ≡ true → meta_attr inner ts ≡ Some (attr.Meta inner path given, rest)
+meta_complete inner path given depth ts rest s p g h =
+    let name = s.2 in
+    let i = meta_input_complete given depth name.0 rest name.3 g in
+    rw (← made_meta inner path given h) (meta_attr_made inner path given ts s.0 name.0 i.0 rest s.1 (meta_name_complete path depth s.0 name.0 name.1 p i.3) i.1 i.2)
+
+flag_is : (inner flag : Bool) → same_flag inner flag ≡ true → flag ≡ inner
+flag_is true flag h = h
+flag_is false flag h = not-true flag h
+
+flag_same : (inner : Bool) → same_flag inner inner ≡ true
+flag_same true = refl
+flag_same false = refl
+
+comment_front : (inner : Bool) (value : List ℕ) (ts rest : Tokens) → IsComment inner value ts rest
+    → (t : Token) × (block : Bool) × (ts ≡ record t { kind = Doc inner block; text = value } ∷ rest)
+comment_front inner value [] rest c = absurd c
+comment_front inner value (t ∷ ts) rest c =
+    let f = one_front (Doc inner c.0) value (t ∷ ts) rest (c.1, c.2, c.3) in (f.0, c.0, f.1)
+
+comment_complete : (inner : Bool) (value : List ℕ) (ts rest : Tokens) → IsComment inner value ts rest → is_doc_text inner value ≡ true
+    → attribute inner ts ≡ Some (attr.Doc inner value, rest)
+unfolding attribute doc_attr
+comment_complete inner value ts rest c g = rw ((comment_front inner value ts rest c).2, flag_same inner, g) refl
+
+-- A literal that has a value is a string.
+value_is_literal : (kind : Kind) (piece value : List ℕ) → value_of kind piece ≡ Some value → is_literal_kind kind ≡ true
+value_is_literal Str piece value h = refl
+value_is_literal RawStr piece value h = refl
+value_is_literal _ piece value h = absurd (cc)
+
+string_literal : (value : List ℕ) (ts rest : Tokens) → IsString value ts rest
+    → (l : Literal) × (held : List ℕ) × IsOne l.kind l.text ts rest × (is_literal_kind l.kind ≡ true) × (value_of l.kind (chars l.text) ≡ Some held) × (value ≡ encode_utf8_all held)
+string_literal value [] rest s = absurd s
+string_literal value (t ∷ ts) rest s =
+    let l : Literal = record { kind = t.kind; text = t.text } in
+    let of = s.0 in
+    (l, of.0, (refl, refl, s.1), value_is_literal t.kind (chars t.text) of.0 of.1, of.1, of.2)
+
+-- the name `doc`
+abbrev doc_name : MetaPath
+doc_name = meta_path.Path (record { global = false; segments = record { word = record { raw = false; text = codes "doc" } } ∷ [] })
+
+doc_name_complete : (ts rest : Tokens) → IsOne Ident (codes "doc") ts rest → is_op (codes "::") rest ≡ false → meta_name ts ≡ Some (doc_name, rest)
+doc_name_complete ts rest o h =
+    let one : Spells (path_form (record { global = false; segments = record { word = record { raw = false; text = codes "doc" } } ∷ [] })) 0 ts rest =
+      (rest, (rest, o, refl), (λ x. absurd x), refl) in
+    meta_name_complete doc_name 0 ts rest one refl h
+
+doc_or_doc : (inner : Bool) (value : List ℕ) (held : List ℕ) (other : Attr) → value ≡ encode_utf8_all held → is_doc_text inner value ≡ true
+    → doc_or inner (Some held) other ≡ attr.Doc inner value
+doc_or_doc inner value held other e g =
+    let here : is_doc_text inner (encode_utf8_all held) ≡ true = subst (λ w. is_doc_text inner w ≡ true) e g in
+    rw (here, e) refl
+
+made_doc : (inner : Bool) (value held : List ℕ) (l : Literal) → value_of l.kind (chars l.text) ≡ Some held → value ≡ encode_utf8_all held → is_doc_text inner value ≡ true
+    → made inner doc_name (input.Value l) ≡ attr.Doc inner value
+made_doc inner value held l v e g =
+    let other = attr.Meta inner doc_name (input.Value l) in
+    ap (λ (o : Option (List ℕ)). doc_or inner o other) v ∙ doc_or_doc inner value held other e g
+
+doc_attr_complete : (inner : Bool) (value : List ℕ) (ts rest : Tokens) → IsDocAttr inner value ts rest → is_doc_text inner value ≡ true
+    → meta_attr inner ts ≡ Some (attr.Doc inner value, rest)
+doc_attr_complete inner value ts rest d g =
+    let opening = bits_parts (attr_opening inner) (keyword (codes "doc") ∷ Operator (codes "=") ∷ []) ts d.0 d.1 in
+    let name = opening.2 in
+    let o : IsOperator (codes "=") name.0 d.0 = bit_alone (Operator (codes "=")) name.0 d.0 name.2 in
+    let behind = d.2 in
+    let l = string_literal value d.0 behind.0 behind.1 in
+    let n = doc_name_complete opening.0 name.0 name.1 (other_op (codes "=") (codes "::") refl name.0 o.0) in
+    let i = value_complete l.0 name.0 d.0 behind.0 l.3 o l.2 in
+    rw (← made_doc inner value l.1 l.0 l.4 l.5 g)
+      (meta_attr_made inner doc_name (input.Value l.0) ts opening.0 name.0 behind.0 rest opening.1 n i (bit_alone (Closing Bracket) behind.0 rest behind.2))
+
+opening_complete : (inner : Bool) (a : Attr) (ts mid rest : Tokens) → AreBits (attr_opening inner) ts mid → meta_attr inner ts ≡ Some (a, rest) → attribute inner ts ≡ Some (a, rest)
+unfolding attribute
+opening_complete inner a ts mid rest o h = let hash = opening_hash inner ts mid o in rw (one_test (is_doc_kind inner) Punct (codes "#") ts hash.0 hash.1, h) refl
+
+doc_opening : (inner : Bool) (value : List ℕ) (ts rest : Tokens) → IsDocAttr inner value ts rest → (mid : Tokens) × AreBits (attr_opening inner) ts mid
+doc_opening inner value ts rest d = let o = bits_parts (attr_opening inner) (keyword (codes "doc") ∷ Operator (codes "=") ∷ []) ts d.0 d.1 in (o.0, o.1)
+
+doc_complete : (inner : Bool) (value : List ℕ) (ts rest : Tokens) → IsDoc inner value ts rest → is_doc_text inner value ≡ true → attribute inner ts ≡ Some (attr.Doc inner value, rest)
+doc_complete inner value ts rest s g = elim s [
+  | inl c ↦ comment_complete inner value ts rest c g
+  | inr d ↦ let o = doc_opening inner value ts rest d in opening_complete inner (attr.Doc inner value) ts o.0 rest o.1 (doc_attr_complete inner value ts rest d g)
+]
+
+all_four : (a b c d : Bool) → (a && b && c && d) ≡ true → (a ≡ true) × (b ≡ true) × (c ≡ true) × (d ≡ true)
+all_four true true true true h = (refl, refl, refl, refl)
+all_four _ _ _ _ h = absurd (cc)
+
+-- what an attribute's front is: documentation in a comment, or `#[` or `#![`
+attr_front : (inner : Bool) (a : Attr) (depth : ℕ) (ts rest : Tokens) → Spells (attr_form a) depth ts rest → is_attr inner a ≡ true
+    → ((value : List ℕ) × (mid : Tokens) × IsComment inner value ts mid) ⊎ ((mid : Tokens) × AreBits (attr_opening inner) ts mid)
+attr_front inner (attr.Doc flag value) depth ts rest s g =
+    let e = flag_is inner flag (and_parts (same_flag inner flag) (is_doc_text inner value) g).0 in
+    let d : IsDoc inner value ts s.0 = subst (λ b. IsDoc b value ts s.0) e s.1 in
+    elim d [ inl c ↦ inl (value, s.0, c) | inr d ↦ inr (doc_opening inner value ts s.0 d) ]
+attr_front inner (attr.Meta flag path given) depth ts rest s g =
+    let e = flag_is inner flag (all_four (same_flag inner flag) (is_meta_path path) (is_input given) (not (is_doc_path path && is_doc_input inner given)) g).0 in
+    inr (s.0, subst (λ b. AreBits (attr_opening b) ts s.0) e s.1)
+
+pub attribute_complete : (inner : Bool) (a : Attr) (depth : ℕ) (ts rest : Tokens) → Spells (attr_form a) depth ts rest → is_attr inner a ≡ true → attribute inner ts ≡ Some (a, rest)
+attribute_complete inner (attr.Doc flag value) depth ts rest s g =
+    let goods = and_parts (same_flag inner flag) (is_doc_text inner value) g in
+    let e = flag_is inner flag goods.0 in
+    let d : IsDoc inner value ts rest = subst (λ b. IsDoc b value ts rest) e (subst (λ us. IsDoc flag value ts us) s.2 s.1) in
+    rw e (doc_complete inner value ts rest d goods.1)
+attribute_complete inner (attr.Meta flag path given) depth ts rest s g =
+    let goods = all_four (same_flag inner flag) (is_meta_path path) (is_input given) (not (is_doc_path path && is_doc_input inner given)) g in
+    let e = flag_is inner flag goods.0 in
+    let here : Spells (attr_form (attr.Meta inner path given)) depth ts rest = subst (λ b. Spells (attr_form (attr.Meta b path given)) depth ts rest) e s in
+    rw e (opening_complete inner (attr.Meta inner path given) ts here.0 rest here.1 (meta_complete inner path given depth ts rest here goods.1 goods.2 goods.3))
+
+-- ---- attributes
+
+comment_begins : (inner : Bool) (value : List ℕ) (ts rest : Tokens) → IsComment inner value ts rest → begins_attr inner ts ≡ true
+comment_begins false value ts rest c = rw (comment_front false value ts rest c).2 refl
+comment_begins true value ts rest c = rw (comment_front true value ts rest c).2 refl
+
+attr_begins : (inner : Bool) (a : Attr) (depth : ℕ) (ts rest : Tokens) → Spells (attr_form a) depth ts rest → is_attr inner a ≡ true → begins_attr inner ts ≡ true
+attr_begins inner a depth ts rest s g = elim (attr_front inner a depth ts rest s g) [
+  | inl c ↦ comment_begins inner c.0 ts c.1 c.2
+  | inr o ↦ opening_begins inner ts o.0 o.1
+]
+
+-- At a front of an item items go on, and no inner attribute begins.
+abbrev BeginsItem : Tokens → Type 0
+BeginsItem ts = (ends_items ts ≡ false) × (begins_attr true ts ≡ false)
+
+outer_begins_item : (a : Attr) (depth : ℕ) (ts rest : Tokens) → Spells (attr_form a) depth ts rest → is_attr false a ≡ true → BeginsItem ts
+outer_begins_item a depth ts rest s g = elim (attr_front false a depth ts rest s g) [
+  | inl c ↦ (rw (comment_front false c.0 ts c.1 c.2).2 refl, rw (comment_front false c.0 ts c.1 c.2).2 refl)
+  | inr o ↦ (let hash = opening_hash false ts o.0 o.1 in one_goes_on Punct (codes "#") ts hash.0 hash.1, opening_no_inner ts o.0 o.1)
+]
+
+attr_shorter : (a : Attr) (depth : ℕ) (ts rest : Tokens) → Spells (attr_form a) depth ts rest → length rest < length ts
+attr_shorter (attr.Doc flag value) depth ts rest s = omega (arith, spelled_shorter (attr_form (attr.Doc flag value)) depth ts rest s)
+attr_shorter (attr.Meta flag path given) depth ts rest s = at flag s
+  where
+    at : (flag : Bool) → Spells (attr_form (attr.Meta flag path given)) depth ts rest → length rest < length ts
+    at true s = omega (arith, spelled_shorter (attr_form (attr.Meta true path given)) depth ts rest s)
+    at false s = omega (arith, spelled_shorter (attr_form (attr.Meta false path given)) depth ts rest s)
+
+attrs_from_complete : (inner : Bool) (attrs : List Attr) (n : ℕ) (found : List Attr) (depth : ℕ) (ts rest : Tokens) → length ts < n → SpelledAll depth (map attr_form attrs) ts rest
+    → are_attrs inner attrs ≡ true → begins_attr inner rest ≡ false → attrs_from inner n found ts ≡ Some (found ++ attrs, rest)
+unfolding attrs_from
+attrs_from_complete inner attrs zero found depth ts rest lt s g h = absurd (omega arith)
+attrs_from_complete inner [] (suc n) found depth ts rest lt s g h = rw (s, h, append-nil found) refl
+attrs_from_complete inner (a ∷ attrs) (suc n) found depth ts rest lt s g h =
+    let goods = and_parts (is_attr inner a) (are_attrs inner attrs) g in
+    let less : length s.0 < n = omega (arith, attr_shorter a depth ts s.0 s.1) in
+    let more : attrs_from inner n (found ++ a ∷ []) s.0 ≡ Some ((found ++ a ∷ []) ++ attrs, rest) = attrs_from_complete inner attrs n (found ++ a ∷ []) depth s.0 rest less s.2 goods.1 h in
+    rw (attr_begins inner a depth ts s.0 s.1 goods.0, attribute_complete inner a depth ts s.0 s.1 goods.0, more, append_assoc found (a ∷ []) attrs) refl
+
+pub attributes_complete : (inner : Bool) (attrs : List Attr) (depth : ℕ) (ts rest : Tokens) → SpelledAll depth (map attr_form attrs) ts rest → are_attrs inner attrs ≡ true
+    → begins_attr inner rest ≡ false → attributes inner ts ≡ Some (attrs, rest)
+unfolding attributes
+attributes_complete inner attrs depth ts rest s g h =
+    let lt : length ts < suc (length ts) = omega arith in attrs_from_complete inner attrs (suc (length ts)) [] depth ts rest lt s g h
