@@ -17,9 +17,10 @@ use Rattle.lay_token.specs.declared.token.Token.{Token}
 use Rattle.lay_tree.specs.Form.{Blank, Fixed, Opening, Closing, Operator, Form, Done, Piece, keyword, punct}
 use Rattle.lay_tree.specs.Spelled.{IsOne, IsKind, IsOperator, AreBits, IsComment, IsStringOf, IsString, attr_opening, IsDocAttr, IsDoc, Spells}
 use Rattle.lay_tree.specs.Notation.{part, text, listed, when}
-use Rattle.lay_tree.specs.Nodes.{is_ident, leaf_of, colons, ends_path, segments_form, path_form, meta_path_form, input_form, attr_form, words_form, no_rename, rename_form, use_end_form, use_tree_form, form_of_use}
-use Rattle.lay_tree.specs.Written.{is_path_class, is_word, is_literal_kind, is_doc_text, is_doc_value, is_doc_path, is_doc_input, is_segments, is_meta_path, is_input, same_flag, is_attr, are_attrs, is_name, is_rename, all_true, is_use_end, is_use_tree, is_use}
-use Rattle.lay_tree.specs.Reader.{Tokens, Got, first, tail, is_keyword, closes_bracket, passed, ends_items, global, word, segments_from, simple_path, meta_name, literal, meta_input, doc_or, made, behind_opening, meta_attr, is_doc_kind, is_doc, doc_attr, attribute, begins_attr, attrs_from, attributes, word_by, path_word, words_from, words, other_name, renamed, is_brace_opener, is_brace_closer, opens_brace, closes_brace, group, use_word, use_end_by, use_by, use_at}
+use Rattle.lay_tree.specs.Nodes.{is_ident, leaf_of, colons, ends_path, segments_form, path_form, meta_path_form, input_form, attr_form, words_form, no_rename, rename_form, use_end_form, use_tree_form, form_of_use, item_kind_form, item_form, form_of_item, form_of_file}
+use Rattle.lay_tree.specs.Written.{is_path_class, is_word, is_literal_kind, is_doc_text, is_doc_value, is_doc_path, is_doc_input, is_segments, is_meta_path, is_input, same_flag, is_attr, are_attrs, is_name, is_rename, all_true, is_use_end, is_use_tree, is_use, is_item_kind, is_item_by, is_item, is_normal}
+use Rattle.lay_tree.specs.Reading.{top}
+use Rattle.lay_tree.specs.Reader.{Tokens, Got, first, tail, is_keyword, closes_bracket, passed, ends_items, global, word, segments_from, simple_path, meta_name, literal, meta_input, doc_or, made, behind_opening, meta_attr, is_doc_kind, is_doc, doc_attr, attribute, begins_attr, attrs_from, attributes, word_by, path_word, words_from, words, other_name, renamed, is_brace_opener, is_brace_closer, opens_brace, closes_brace, group, use_word, use_end_by, use_by, use_at, is_mark, name, all, struct_item, module_by, import_by, kind_by, item_by, item_at, whole}
 use Rattle.lay_tree.specs.declared.tree.Segment.{Segment}
 use Rattle.lay_tree.specs.declared.tree.Path.{Path}
 use Rattle.lay_tree.specs.declared.tree.Literal.{Literal}
@@ -40,6 +41,14 @@ use Rattle.lay_tree.specs.declared.tree.UseEnd.TheOpen.{UseEnd-F, UseTree-F}
 use Rattle.lay_tree.specs.declared.tree.UseEnd.TheViews.{out-UseEnd, roll-UseEnd, roll-out-UseEnd, rolls-Word, rolls-Glob, rolls-Group, out-UseTree, outs-struct-UseTree}
 use Rattle.lay_tree.specs.declared.tree.UseEnd.TheFolds.{fold-UseEnd, fold_out-UseEnd, map-UseEnd, fold-UseTree, fold_out-UseTree, map-UseTree}
 use Rattle.lay_tree.specs.declared.tree.UseTree.{UseTree}
+use Rattle.lay_tree.specs.declared.tree.ItemKind.{ItemKind}
+use Rattle.lay_tree.specs.declared.tree.ItemKind.TheVariants as item
+use Rattle.lay_tree.specs.declared.tree.ItemKind.TheOpen as kind_open
+use Rattle.lay_tree.specs.declared.tree.ItemKind.TheOpen.{ItemKind-F, Item-F}
+use Rattle.lay_tree.specs.declared.tree.ItemKind.TheViews.{out-ItemKind, roll-ItemKind, roll-out-ItemKind, rolls-Struct, rolls-Module, rolls-Import, outs-struct-Item}
+use Rattle.lay_tree.specs.declared.tree.ItemKind.TheFolds.{fold-ItemKind, fold_out-ItemKind, map-ItemKind, fold-Item, fold_out-Item, map-Item}
+use Rattle.lay_tree.specs.declared.tree.Item.{Item}
+use Rattle.lay_tree.specs.declared.tree.File.{File}
 use Rattle.lay_tree.proofs.CompleteTokens.{one_front, kind_front, op_front, other_op, kind_no_op, one_no_op, comma_no_colons, semicolon_no_colons, one_test, kind_test, op_test, one_goes_on, word_kind, word_kinds, leaf_parts, word_no_op, word_complete, name_complete, one_shorter, op_shorter, bits_shorter, spelled_shorter}
 use Rattle.lay_tree.proofs.CompleteParts.{SpelledAll, all_parts, bits_parts, bit_alone, behind_blank, before_blank, text_alone, part_alone, lines_all, behind_all, body_parts, brace_passed, list_complete, all_complete}
 
@@ -585,3 +594,210 @@ use_complete zero tree ts rest s g h = absurd (use_none tree ts rest s)
 use_complete (suc depth) tree ts rest s g h =
     let goods = and_parts (list_all good_word tree.path) (good_end tree.end) (sym (use_good_is tree) ∙ g) in
     use_by_complete depth (use_at depth) (use_complete depth) (use_opened depth) tree ts rest (use_parts tree depth ts rest s) goods.0 goods.1 h
+
+-- ---- items, a level at a time
+
+abbrev kind_form : ItemKind → Form
+kind_form = fold-ItemKind Form Form item_kind_form item_form
+
+abbrev good_kind : ItemKind → Bool
+good_kind = fold-ItemKind Bool Bool is_item_kind is_item_by
+
+item_form_is : (one : Item) → form_of_item one ≡ item_form (record { attrs = one.attrs; kind = kind_form one.kind })
+unfolding form_of_item
+item_form_is one =
+    fold_out-Item Form Form item_kind_form item_form one
+    ∙ ap (λ (l : Item-F ItemKind Item). item_form (map-Item ItemKind Item Form Form kind_form form_of_item l)) (outs-struct-Item one)
+
+kind_form_is : (kind : ItemKind) → kind_form kind ≡ item_kind_form (map-ItemKind ItemKind Item Form Form kind_form form_of_item (out-ItemKind kind))
+unfolding form_of_item
+kind_form_is kind = fold_out-ItemKind Form Form item_kind_form item_form kind
+
+item_good_is : (one : Item) → is_item one ≡ (are_attrs false one.attrs && good_kind one.kind)
+unfolding is_item
+item_good_is one =
+    fold_out-Item Bool Bool is_item_kind is_item_by one
+    ∙ ap (λ (l : Item-F ItemKind Item). is_item_by (map-Item ItemKind Item Bool Bool good_kind is_item l)) (outs-struct-Item one)
+
+kind_good_is : (kind : ItemKind) → good_kind kind ≡ is_item_kind (map-ItemKind ItemKind Item Bool Bool good_kind is_item (out-ItemKind kind))
+unfolding is_item
+kind_good_is kind = fold_out-ItemKind Bool Bool is_item_kind is_item_by kind
+
+item_is : (one : Item) → ◌≡◌ {A = Item} (record { attrs = one.attrs; kind = roll-ItemKind (out-ItemKind one.kind) }) one
+item_is one = ap (λ (k : ItemKind). record one { kind = k }) (roll-out-ItemKind one.kind)
+
+abbrev kind_layer : ItemKind-F ItemKind Item → Form
+kind_layer layer = item_kind_form (map-ItemKind ItemKind Item Form Form kind_form form_of_item layer)
+
+abbrev good_kind_layer : ItemKind-F ItemKind Item → Bool
+good_kind_layer layer = is_item_kind (map-ItemKind ItemKind Item Bool Bool good_kind is_item layer)
+
+-- the keyword of an item
+layer_keyword : (layer : ItemKind-F ItemKind Item) (depth : ℕ) (ts rest : Tokens) → Spells (kind_layer layer) depth ts rest
+    → (word : List ℕ) × (mid : Tokens) × IsOne Ident word ts mid
+layer_keyword (kind_open.Struct n) depth ts rest s = (codes "struct", s.1.0, before_blank (keyword (codes "struct")) ts s.1.0 s.1.1)
+layer_keyword (kind_open.Module n attrs items) depth ts rest s = (codes "mod", s.1.0, before_blank (keyword (codes "mod")) ts s.1.0 s.1.1)
+layer_keyword (kind_open.Import tree) depth ts rest s = (codes "use", s.1.0, before_blank (keyword (codes "use")) ts s.1.0 s.1.1)
+
+kind_spelled : (kind : ItemKind) (depth : ℕ) (ts rest : Tokens) → Spells (part (kind_form kind) Done) depth ts rest → Spells (kind_layer (out-ItemKind kind)) depth ts rest
+kind_spelled kind depth ts rest s = subst (λ f. Spells f depth ts rest) (kind_form_is kind) (part_alone (kind_form kind) depth ts rest s)
+
+-- A keyword begins an item, and no attribute.
+keyword_begins : (word : List ℕ) (ts rest : Tokens) → IsOne Ident word ts rest → BeginsItem ts × (begins_attr false ts ≡ false)
+keyword_begins word ts rest o = let f = one_front Ident word ts rest o in ((rw f.1 refl, rw f.1 refl), rw f.1 refl)
+
+kind_begins : (kind : ItemKind) (depth : ℕ) (ts rest : Tokens) → Spells (part (kind_form kind) Done) depth ts rest → BeginsItem ts × (begins_attr false ts ≡ false)
+kind_begins kind depth ts rest s =
+    let k = layer_keyword (out-ItemKind kind) depth ts rest (kind_spelled kind depth ts rest s) in keyword_begins k.0 ts k.1 k.2
+
+layer_shorter : (layer : ItemKind-F ItemKind Item) (depth : ℕ) (ts rest : Tokens) → Spells (kind_layer layer) depth ts rest → length rest < length ts
+layer_shorter (kind_open.Struct n) depth ts rest s = omega (arith, spelled_shorter (kind_layer (kind_open.Struct n)) depth ts rest s)
+layer_shorter (kind_open.Module n attrs items) depth ts rest s = omega (arith, spelled_shorter (kind_layer (kind_open.Module n attrs items)) depth ts rest s)
+layer_shorter (kind_open.Import tree) depth ts rest s = omega (arith, spelled_shorter (kind_layer (kind_open.Import tree)) depth ts rest s)
+
+attrs_shorter : (attrs : List Attr) (depth : ℕ) (ts rest : Tokens) → SpelledAll depth (map attr_form attrs) ts rest → length rest ≤ length ts
+attrs_shorter [] depth ts rest s = omega (arith, ap length s)
+attrs_shorter (a ∷ attrs) depth ts rest s = omega (arith, attr_shorter a depth ts s.0 s.1, attrs_shorter attrs depth s.0 rest s.2)
+
+-- what is spelled of an item, but for its depth
+item_parts : (one : Item) (depth : ℕ) (ts rest : Tokens) → Spells (form_of_item one) (suc depth) ts rest
+    → (mid : Tokens) × SpelledAll depth (map attr_form one.attrs) ts mid × Spells (part (kind_form one.kind) Done) depth mid rest
+item_parts one depth ts rest s =
+    let inside = subst (λ f. Spells f (suc depth) ts rest) (item_form_is one) s in
+    let b = behind_all depth (map attr_form one.attrs) (part (kind_form one.kind) Done) ts inside.0 inside.1 in
+    (b.0, b.1, subst (λ us. Spells (part (kind_form one.kind) Done) depth b.0 us) inside.2 b.2)
+
+item_none : (one : Item) (ts rest : Tokens) → Spells (form_of_item one) zero ts rest → ⊥
+item_none one ts rest s = subst (λ f. Spells f zero ts rest) (item_form_is one) s
+
+item_shorter : (depth : ℕ) (one : Item) (ts rest : Tokens) → Spells (form_of_item one) depth ts rest → length rest < length ts
+item_shorter zero one ts rest s = absurd (item_none one ts rest s)
+item_shorter (suc depth) one ts rest s =
+    let p = item_parts one depth ts rest s in
+    omega (arith, attrs_shorter one.attrs depth ts p.0 p.1, layer_shorter (out-ItemKind one.kind) depth p.0 rest (kind_spelled one.kind depth p.0 rest p.2))
+
+behind_attrs_begins : (attrs : List Attr) (depth : ℕ) (ts rest : Tokens) → SpelledAll depth (map attr_form attrs) ts rest → are_attrs false attrs ≡ true → BeginsItem rest → BeginsItem ts
+behind_attrs_begins [] depth ts rest s g h = (rw s h.0, rw s h.1)
+behind_attrs_begins (a ∷ attrs) depth ts rest s g h = outer_begins_item a depth ts s.0 s.1 (and_parts (is_attr false a) (are_attrs false attrs) g).0
+
+item_begins : (depth : ℕ) (one : Item) (ts rest : Tokens) → Spells (form_of_item one) depth ts rest → is_item one ≡ true → BeginsItem ts
+item_begins zero one ts rest s g = absurd (item_none one ts rest s)
+item_begins (suc depth) one ts rest s g =
+    let p = item_parts one depth ts rest s in
+    behind_attrs_begins one.attrs depth ts p.0 p.1 (and_parts (are_attrs false one.attrs) (good_kind one.kind) (sym (item_good_is one) ∙ g)).0
+      (kind_begins one.kind depth p.0 rest p.2).0
+
+-- Items begin no inner attribute, where what stands behind them doesn't.
+items_begin : (items : List Item) (depth : ℕ) (ts rest : Tokens) → SpelledAll depth (map form_of_item items) ts rest → list_all is_item items ≡ true → begins_attr true rest ≡ false
+    → begins_attr true ts ≡ false
+items_begin [] depth ts rest s g h = rw s h
+items_begin (one ∷ items) depth ts rest s g h = (item_begins depth one ts s.0 s.1 (and_parts (is_item one) (list_all is_item items) g).0).1
+
+semicolon_passed : (ts rest : Tokens) → IsOne Punct (codes ";") ts rest → passed (is_mark (codes ";")) ts ≡ Some rest
+semicolon_passed ts rest o = rw (one_front Punct (codes ";") ts rest o).1 refl
+
+opening_passed : (ts rest : Tokens) → IsKind (Opener Brace) ts rest → passed opens_brace ts ≡ Some rest
+opening_passed ts rest o = rw (kind_front (Opener Brace) ts rest o).1 refl
+
+brace_ends_items : (ts rest : Tokens) → IsKind (Closer Brace) ts rest → (ends_items ts ≡ true) × (begins_attr true ts ≡ false)
+brace_ends_items ts rest o = let f = kind_front (Closer Brace) ts rest o in (rw f.1 refl, rw f.1 refl)
+
+all_three : (a b c : Bool) → (a && b && c) ≡ true → (a ≡ true) × (b ≡ true) × (c ≡ true)
+all_three true true true h = (refl, refl, refl)
+all_three _ _ _ h = absurd (cc)
+
+head_name : (n : Name) (depth : ℕ) (ts rest : Tokens) → Spells (leaf_of n.raw n.text Done) depth ts rest → is_name n.raw n.text ≡ true → name ts ≡ Some (n, rest)
+head_name n depth ts rest s g =
+    let l = leaf_parts n.raw n.text Done depth ts rest s in
+    name_complete n ts rest g (subst (λ us. IsOne (word_kind n.raw) n.text ts us) l.2 l.1)
+
+module _ (depth : ℕ) (within : Tokens → Got Item) (tree : Tokens → Got UseTree)
+    (reads : (one : Item) (ts rest : Tokens) → Spells (form_of_item one) depth ts rest → is_item one ≡ true → within ts ≡ Some (one, rest))
+    (use_reads : (t : UseTree) (ts rest : Tokens) → Spells (form_of_use t) depth ts rest → is_use t ≡ true → Follows rest → tree ts ≡ Some (t, rest)) where
+  items_complete : (items : List Item) (ts rest : Tokens) → list_all is_item items ≡ true → SpelledAll depth (map form_of_item items) ts rest → ends_items rest ≡ true
+      → all within ts ≡ Some (items, rest)
+  items_complete items ts rest g s h =
+      all_complete within form_of_item is_item depth reads (λ one us vs x y. (item_begins depth one us vs x y).0) (item_shorter depth) items ts rest g s h
+
+  layer_complete : (layer : ItemKind-F ItemKind Item) (ts rest : Tokens) → Spells (kind_layer layer) depth ts rest → good_kind_layer layer ≡ true
+      → kind_by within tree ts ≡ Some (roll-ItemKind layer, rest)
+  unfolding kind_by struct_item module_by import_by
+  layer_complete (kind_open.Struct n) ts rest s g =
+      let head = s.1 in
+      let k : IsOne Ident (codes "struct") ts head.0 = before_blank (keyword (codes "struct")) ts head.0 head.1 in
+      let e : IsOne Punct (codes ";") s.0 rest = text_alone (punct 59) depth s.0 rest s.2 in
+      rw ((one_front Ident (codes "struct") ts head.0 k).1, head_name n depth head.0 s.0 head.2 g, semicolon_passed s.0 rest e, rolls-Struct n) refl
+  layer_complete (kind_open.Module n attrs items) ts rest s g =
+      let goods = all_three (is_name n.raw n.text) (are_attrs true attrs) (all_true (map is_item items)) g in
+      let good_items : list_all is_item items ≡ true = sym (list_all-map (λ (b : Bool). b) is_item items) ∙ goods.2 in
+      let head = s.1 in
+      let k : IsOne Ident (codes "mod") ts head.0 = before_blank (keyword (codes "mod")) ts head.0 head.1 in
+      let b = body_parts depth (map attr_form attrs ++ map form_of_item items) s.0 rest s.2 in
+      let a = all_parts depth (map attr_form attrs) (map form_of_item items) b.0 b.1 b.3 in
+      let end = brace_ends_items b.1 rest b.4 in
+      let no_attr = items_begin items depth a.0 b.1 a.2 good_items end.1 in
+      rw (
+        (one_front Ident (codes "mod") ts head.0 k).1,
+        head_name n depth head.0 s.0 head.2 goods.0,
+        opening_passed s.0 b.0 b.2,
+        attributes_complete true attrs depth b.0 a.0 a.1 goods.1 no_attr,
+        items_complete items a.0 b.1 good_items a.2 end.0,
+        brace_passed b.1 rest b.4,
+        rolls-Module n attrs items,
+      ) refl
+  layer_complete (kind_open.Import t) ts rest s g =
+      let head = s.1 in
+      let k : IsOne Ident (codes "use") ts head.0 = before_blank (keyword (codes "use")) ts head.0 head.1 in
+      let e : IsOne Punct (codes ";") s.0 rest = text_alone (punct 59) depth s.0 rest s.2 in
+      let inside = part_alone (form_of_use t) depth head.0 s.0 head.2 in
+      rw (
+        (one_front Ident (codes "use") ts head.0 k).1,
+        use_reads t head.0 s.0 inside g (semicolon_follows s.0 rest e),
+        semicolon_passed s.0 rest e,
+        rolls-Import t,
+      ) refl
+
+  item_by_complete : (one : Item) (ts mid rest : Tokens) → SpelledAll depth (map attr_form one.attrs) ts mid → Spells (part (kind_form one.kind) Done) depth mid rest
+      → are_attrs false one.attrs ≡ true → good_kind one.kind ≡ true → item_by within tree ts ≡ Some (one, rest)
+  item_by_complete one ts mid rest a k g h =
+      let no_attr = (kind_begins one.kind depth mid rest k).1 in
+      let kind = layer_complete (out-ItemKind one.kind) mid rest (kind_spelled one.kind depth mid rest k) (sym (kind_good_is one.kind) ∙ h) in
+      rw (attributes_complete false one.attrs depth ts mid a g no_attr, kind) (ap (λ (x : Item). let found : Got Item = Some (x, rest) in found) (item_is one))
+
+pub item_complete : (depth : ℕ) (one : Item) (ts rest : Tokens) → Spells (form_of_item one) depth ts rest → is_item one ≡ true → item_at depth ts ≡ Some (one, rest)
+unfolding item_at
+item_complete zero one ts rest s g = absurd (item_none one ts rest s)
+item_complete (suc depth) one ts rest s g =
+    let goods = and_parts (are_attrs false one.attrs) (good_kind one.kind) (sym (item_good_is one) ∙ g) in
+    let p = item_parts one depth ts rest s in
+    item_by_complete depth (item_at depth) (use_at depth) (item_complete depth) (use_complete depth) one ts p.0 rest p.1 p.2 goods.0 goods.1
+
+-- ---- files
+
+pub whole_complete : (file : File) (ts : Tokens) → Spells (form_of_file file) top ts [] → is_normal file ≡ true → whole ts ≡ Some (file.attrs, file.items)
+unfolding whole
+whole_complete file ts s g =
+    let goods = and_parts (are_attrs true file.attrs) (list_all is_item file.items) g in
+    let a = all_parts top (map attr_form file.attrs) (map form_of_item file.items) ts []
+      (lines_all top (map attr_form file.attrs ++ map form_of_item file.items) ts [] s) in
+    rw (
+      attributes_complete true file.attrs top ts a.0 a.1 goods.0 (items_begin file.items top a.0 [] a.2 goods.1 refl),
+      items_complete top (item_at top) (use_at top) (item_complete top) (use_complete top) file.items a.0 [] goods.1 a.2 refl,
+    ) refl
+
+abbrev or_else : {A : Type 0} → A → Option A → A
+or_else d None = d
+or_else d (Some x) = x
+
+got_same : {A B : Type 0} (a c : A) (b d : B) → ◌≡◌ {A = Option (A × B)} (Some (a, b)) (Some (c, d)) → (a ≡ c) × (b ≡ d)
+got_same {A} {B} a c b d h =
+    let e : ◌≡◌ {A = A × B} (a, b) (c, d) = ap (or_else (a, b)) h in (ap (λ (p : A × B). p.0) e, ap (λ (p : A × B). p.1) e)
+
+-- Tokens spell one file at most.
+pub file_unique : (file other : File) (ts : Tokens) → Spells (form_of_file file) top ts [] → is_normal file ≡ true → Spells (form_of_file other) top ts [] → is_normal other ≡ true
+    → file.shebang ≡ other.shebang → file ≡ other
+file_unique file other ts s g t h e =
+    let both = got_same file.attrs other.attrs file.items other.items (sym (whole_complete file ts s g) ∙ whole_complete other ts t h) in
+    ap (λ (line : Option (List ℕ)). record file { shebang = line }) e
+    ∙ ap (λ (attrs : List Attr). record other { attrs = attrs; items = file.items }) both.0
+    ∙ ap (λ (items : List Item). record other { items = items }) both.1
