@@ -1,16 +1,15 @@
 -- Parts that stand one after the other: what is spelled of them, and that the reader's loops read it.
-use Rattle.std.proofs.Common.{◌≡◌, ℕ, zero, suc, ◌<◌, ◌≤◌, Bool, true, false, ◌&&◌, List, [], ◌∷◌, ◌++◌, length, map, codes, Some, refl, sym, subst, inl, inr, append_assoc, append-nil, arith}
+use Rattle.std.proofs.Common.{◌≡◌, ℕ, zero, suc, ◌<◌, ◌≤◌, Bool, true, false, List, [], ◌∷◌, ◌++◌, length, map, codes, Some, refl, sym, subst, inl, inr, append_assoc, append-nil, arith}
 use Rattle.std.specs.List.{list_all}
 use Rattle.std.proofs.lemmas.Bool.{and_parts}
 use Rattle.lay_token.specs.declared.token.Delim.TheVariants.{Brace}
-use Rattle.lay_token.specs.declared.token.Kind.{Kind}
 use Rattle.lay_token.specs.declared.token.Kind.TheVariants.{Punct, Opener, Closer}
 use Rattle.lay_tree.specs.Form.{Bit, Blank, Fixed, Opening, Closing, Form, Done, LastComma}
 use Rattle.lay_tree.specs.Spelled.{Then, IsOne, IsKind, IsBit, AreBits, Spells}
 use Rattle.lay_tree.specs.Notation.{H, part, text, each, comma_gap, listed, body, behind_attrs}
 use Rattle.lay_tree.specs.Nodes.{lines}
-use Rattle.lay_tree.specs.Reader.{Tokens, Got, first, tail, opens_brace, closes_brace, passed, element_end, group_from, group, ends_items, all_from, all}
-use Rattle.lay_tree.proofs.CompleteTokens.{one_front, kind_front, one_shorter, least, spelled_shorter}
+use Rattle.lay_tree.specs.Reader.{Tokens, Got, first, closes_brace, passed, element_end, group_from, group, ends_items, all_from, all}
+use Rattle.lay_tree.proofs.CompleteTokens.{one_front, kind_front, one_shorter, spelled_shorter}
 
 -- forms spelled one after the other
 abbrev pub SpelledAll : ℕ → List Form → Tokens → Tokens → Type 0
@@ -121,9 +120,12 @@ module _ {A : Type 0} (element : Tokens → Got A) (spelling : A → Form) (good
       let goods = and_parts (good x) (list_all good xs) g in
       let one = s.2 in
       let less : length one.0 ≤ n = omega (arith, one_shorter Punct (codes ",") ts s.0 here, spelled_shorter (spelling x) depth s.0 one.0 one.1) in
-      let more = more_complete xs n (found ++ x ∷ []) one.0 end rest less goods.1 one.3 c in
-      (s.0, comma_follows ts s.0 here, comma_ends ts s.0 here,
-        rw (opened x s.0 one.0 one.1, reads x s.0 one.0 one.1 goods.0 more.1, more.2, more.3, append_assoc found (x ∷ []) xs) refl)
+      let more = more_complete xs n (found ++ x ∷ []) one.0 end rest less goods.1 one.3 c in (
+        s.0,
+        comma_follows ts s.0 here,
+        comma_ends ts s.0 here,
+        rw (opened x s.0 one.0 one.1, reads x s.0 one.0 one.1 goods.0 more.1, more.2, more.3, append_assoc found (x ∷ []) xs) refl,
+      )
 
   pub list_complete : (xs : List A) (ts rest : Tokens) → list_all good xs ≡ true → Spells (listed (Opening Brace) (Closing Brace) (map spelling xs)) depth ts rest
       → (inside : Tokens) × IsKind (Opener Brace) ts inside × (group element inside ≡ Some (xs, rest))

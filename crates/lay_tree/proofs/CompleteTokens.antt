@@ -1,5 +1,5 @@
 -- What stands at the front of tokens that spell a part of a form, and how many tokens a form takes.
-use Rattle.std.proofs.Common.{◌≡◌, ℕ, zero, suc, ◌+◌, ◌-◌, ◌≤◌, ◌∙◌, Bool, true, false, ◌&&◌, List, [], ◌∷◌, ◌++◌, length, drop, codes, Option, Some, None, refl, sym, ap, inl, inr, arith, length-drop}
+use Rattle.std.proofs.Common.{◌≡◌, ℕ, zero, suc, ◌+◌, ◌-◌, ◌≤◌, ◌∙◌, Bool, true, false, List, [], ◌∷◌, ◌++◌, length, drop, codes, Option, Some, None, refl, sym, ap, inl, inr, arith, length-drop}
 use Rattle.std.specs.Str.{bytes_eq}
 use Rattle.std.proofs.lemmas.Bool.{cases_Bool, false_from_ne_true}
 use Rattle.std.proofs.lemmas.Slice.Eq.{bytes_eq-Decides}
@@ -13,7 +13,7 @@ use Rattle.lay_tree.specs.Form as form
 use Rattle.lay_tree.specs.Form.{Bit, Blank, Fixed, Opening, Closing, Operator, Semicolons, Form, Done, Piece, Leaf, Listed, Gap, LastComma, Group, Node, Deeper, Optional, Dropped, Body, keyword, comma}
 use Rattle.lay_tree.specs.Spelled.{IsOne, IsKind, AreSemicolons, IsBit, AreBits, MayBe, IsListed, IsComment, IsString, attr_opening, IsDoc, Opens, Closes, cost, comma_is_free, IsComma, Spells}
 use Rattle.lay_tree.specs.Nodes.{leaf_of}
-use Rattle.lay_tree.specs.Written.{is_plain, is_word, is_name}
+use Rattle.lay_tree.specs.Written.{is_word, is_name}
 use Rattle.lay_tree.specs.Reader.{Tokens, first, ends_items, is_brace_closer, name, word}
 use Rattle.lay_tree.specs.declared.tree.Name.{Name}
 use Rattle.lay_tree.specs.declared.tree.Word.{Word}
@@ -24,9 +24,11 @@ use Rattle.lay_tree.specs.declared.tree.Word.{Word}
 pub one_front : (kind : Kind) (text : List ℕ) (ts rest : Tokens) → IsOne kind text ts rest
     → (t : Token) × (ts ≡ record t { kind = kind; text = text } ∷ rest)
 one_front kind text [] rest h = absurd h
-one_front kind text (t ∷ ts) rest h =
-    (t, ap (λ (us : Tokens). t ∷ us) h.2 ∙ ap (λ (k : Kind). record t { kind = k } ∷ rest) h.0
-    ∙ ap (λ (w : List ℕ). record t { kind = kind; text = w } ∷ rest) h.1)
+one_front kind text (t ∷ ts) rest h = (
+  t,
+  ap (λ (us : Tokens). t ∷ us) h.2 ∙ ap (λ (k : Kind). record t { kind = k } ∷ rest) h.0
+      ∙ ap (λ (w : List ℕ). record t { kind = kind; text = w } ∷ rest) h.1,
+)
 
 pub kind_front : (kind : Kind) (ts rest : Tokens) → IsKind kind ts rest → (t : Token) × (ts ≡ record t { kind = kind } ∷ rest)
 kind_front kind [] rest h = absurd h
@@ -205,8 +207,12 @@ may_be_shorter bs ts rest h = elim h [ inl e ↦ omega (arith, ap length e) | in
 doc_shorter : (inner : Bool) (text : List ℕ) (ts rest : Tokens) → IsDoc inner text ts rest → 1 + length rest ≤ length ts
 doc_shorter inner text ts rest h = elim h [
   | inl c ↦ comment_shorter inner text ts rest c
-  | inr d ↦ omega (arith, bits_shorter (attr_opening inner ++ keyword (codes "doc") ∷ Operator (codes "=") ∷ []) ts d.0 d.1,
-    string_shorter text d.0 d.2.0 d.2.1, bits_shorter (Closing Bracket ∷ []) d.2.0 rest d.2.2)
+  | inr d ↦ omega (
+    arith,
+    bits_shorter (attr_opening inner ++ keyword (codes "doc") ∷ Operator (codes "=") ∷ []) ts d.0 d.1,
+    string_shorter text d.0 d.2.0 d.2.1,
+    bits_shorter (Closing Bracket ∷ []) d.2.0 rest d.2.2,
+  )
 ]
 
 opens_shorter : (n : ℕ) (ts rest : Tokens) → Opens n ts rest → length rest ≤ length ts

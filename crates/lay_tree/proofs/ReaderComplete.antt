@@ -1,12 +1,11 @@
 -- What is spelled is read.
-use Rattle.std.proofs.Common.{◌≡◌, ℕ, zero, suc, ◌<◌, ◌≤◌, ◌∙◌, Bool, true, false, not, ◌&&◌, List, [], ◌∷◌, ◌++◌, length, drop, map, codes, Option, Some, None, if◌then◌else◌, refl, sym, ap, subst, ◌⊎◌, inl, inr, append_assoc, append-nil, arith}
+use Rattle.std.proofs.Common.{◌≡◌, ℕ, zero, suc, ◌<◌, ◌≤◌, ◌∙◌, Bool, true, false, not, ◌&&◌, List, [], ◌∷◌, ◌++◌, length, map, codes, Option, Some, None, if◌then◌else◌, refl, sym, ap, subst, ◌⊎◌, inl, inr, append_assoc, append-nil, arith}
 use Rattle.std.specs.Prelude.{encode_utf8_all}
 use Rattle.std.specs.List.{list_all}
 use Rattle.std.specs.Str.{chars, bytes_eq}
-use Rattle.std.proofs.lemmas.Bool.{cases_Bool, and_parts, false_from_ne_true, not-true}
+use Rattle.std.proofs.lemmas.Bool.{and_parts, false_from_ne_true, not-true}
 use Rattle.std.proofs.lemmas.List.Folds.{list_all-map}
 use Rattle.std.proofs.lemmas.Slice.Eq.{bytes_eq-Decides}
-use Rattle.lay_token.specs.Lexes.{is_punct}
 use Rattle.lay_token.specs.Operators.{is_op}
 use Rattle.lay_token.specs.Value.{value_of}
 use Rattle.lay_token.specs.Word.{class_of}
@@ -14,13 +13,13 @@ use Rattle.lay_token.specs.declared.token.Delim.TheVariants.{Bracket, Brace}
 use Rattle.lay_token.specs.declared.token.Kind.{Kind}
 use Rattle.lay_token.specs.declared.token.Kind.TheVariants.{Ident, RawIdent, Underscore, Str, RawStr, Punct, Opener, Closer, Doc}
 use Rattle.lay_token.specs.declared.token.Token.{Token}
-use Rattle.lay_tree.specs.Form.{Blank, Fixed, Opening, Closing, Operator, Form, Done, Piece, keyword, punct}
-use Rattle.lay_tree.specs.Spelled.{IsOne, IsKind, IsOperator, AreBits, IsComment, IsStringOf, IsString, attr_opening, IsDocAttr, IsDoc, Spells}
+use Rattle.lay_tree.specs.Form.{Blank, Opening, Closing, Operator, Form, Done, Piece, keyword, punct}
+use Rattle.lay_tree.specs.Spelled.{IsOne, IsKind, IsOperator, AreBits, IsComment, IsString, attr_opening, IsDocAttr, IsDoc, Spells}
 use Rattle.lay_tree.specs.Notation.{part, text, listed, when}
-use Rattle.lay_tree.specs.Nodes.{is_ident, leaf_of, colons, ends_path, segments_form, path_form, meta_path_form, input_form, attr_form, words_form, no_rename, rename_form, use_end_form, use_tree_form, form_of_use, item_kind_form, item_form, form_of_item, form_of_file}
+use Rattle.lay_tree.specs.Nodes.{leaf_of, colons, ends_path, segments_form, path_form, meta_path_form, input_form, attr_form, words_form, no_rename, rename_form, use_end_form, use_tree_form, form_of_use, item_kind_form, item_form, form_of_item, form_of_file}
 use Rattle.lay_tree.specs.Written.{is_path_class, is_word, is_literal_kind, is_doc_text, is_doc_value, is_doc_path, is_doc_input, is_segments, is_meta_path, is_input, same_flag, is_attr, are_attrs, is_name, is_rename, all_true, is_use_end, is_use_tree, is_use, is_item_kind, is_item_by, is_item, is_normal}
 use Rattle.lay_tree.specs.Reading.{top}
-use Rattle.lay_tree.specs.Reader.{Tokens, Got, first, tail, is_keyword, closes_bracket, passed, ends_items, global, word, segments_from, simple_path, meta_name, literal, meta_input, doc_or, made, behind_opening, meta_attr, is_doc_kind, is_doc, doc_attr, attribute, begins_attr, attrs_from, attributes, word_by, path_word, words_from, words, other_name, renamed, is_brace_opener, is_brace_closer, opens_brace, closes_brace, group, use_word, use_end_by, use_by, use_at, is_mark, name, all, struct_item, module_by, import_by, kind_by, item_by, item_at, whole}
+use Rattle.lay_tree.specs.Reader.{Tokens, Got, first, is_keyword, closes_bracket, passed, ends_items, global, word, segments_from, simple_path, meta_name, literal, meta_input, doc_or, made, behind_opening, meta_attr, is_doc_kind, doc_attr, attribute, begins_attr, attrs_from, attributes, word_by, path_word, words_from, words, other_name, renamed, is_brace_opener, is_brace_closer, opens_brace, closes_brace, use_end_by, use_by, use_at, is_mark, name, all, struct_item, module_by, import_by, kind_by, item_by, item_at, whole}
 use Rattle.lay_tree.specs.declared.tree.Segment.{Segment}
 use Rattle.lay_tree.specs.declared.tree.Path.{Path}
 use Rattle.lay_tree.specs.declared.tree.Literal.{Literal}
@@ -35,21 +34,19 @@ use Rattle.lay_tree.specs.declared.tree.Word.{Word}
 use Rattle.lay_tree.specs.declared.tree.Rename.{Rename}
 use Rattle.lay_tree.specs.declared.tree.Rename.TheVariants as rename
 use Rattle.lay_tree.specs.declared.tree.UseEnd.{UseEnd}
-use Rattle.lay_tree.specs.declared.tree.UseEnd.TheVariants as use_end
 use Rattle.lay_tree.specs.declared.tree.UseEnd.TheOpen as end_open
 use Rattle.lay_tree.specs.declared.tree.UseEnd.TheOpen.{UseEnd-F, UseTree-F}
-use Rattle.lay_tree.specs.declared.tree.UseEnd.TheViews.{out-UseEnd, roll-UseEnd, roll-out-UseEnd, rolls-Word, rolls-Glob, rolls-Group, out-UseTree, outs-struct-UseTree}
-use Rattle.lay_tree.specs.declared.tree.UseEnd.TheFolds.{fold-UseEnd, fold_out-UseEnd, map-UseEnd, fold-UseTree, fold_out-UseTree, map-UseTree}
+use Rattle.lay_tree.specs.declared.tree.UseEnd.TheViews.{out-UseEnd, roll-UseEnd, roll-out-UseEnd, rolls-Word, rolls-Glob, rolls-Group, outs-struct-UseTree}
+use Rattle.lay_tree.specs.declared.tree.UseEnd.TheFolds.{fold-UseEnd, fold_out-UseEnd, map-UseEnd, fold_out-UseTree, map-UseTree}
 use Rattle.lay_tree.specs.declared.tree.UseTree.{UseTree}
 use Rattle.lay_tree.specs.declared.tree.ItemKind.{ItemKind}
-use Rattle.lay_tree.specs.declared.tree.ItemKind.TheVariants as item
 use Rattle.lay_tree.specs.declared.tree.ItemKind.TheOpen as kind_open
 use Rattle.lay_tree.specs.declared.tree.ItemKind.TheOpen.{ItemKind-F, Item-F}
 use Rattle.lay_tree.specs.declared.tree.ItemKind.TheViews.{out-ItemKind, roll-ItemKind, roll-out-ItemKind, rolls-Struct, rolls-Module, rolls-Import, outs-struct-Item}
-use Rattle.lay_tree.specs.declared.tree.ItemKind.TheFolds.{fold-ItemKind, fold_out-ItemKind, map-ItemKind, fold-Item, fold_out-Item, map-Item}
+use Rattle.lay_tree.specs.declared.tree.ItemKind.TheFolds.{fold-ItemKind, fold_out-ItemKind, map-ItemKind, fold_out-Item, map-Item}
 use Rattle.lay_tree.specs.declared.tree.Item.{Item}
 use Rattle.lay_tree.specs.declared.tree.File.{File}
-use Rattle.lay_tree.proofs.CompleteTokens.{one_front, kind_front, op_front, other_op, kind_no_op, one_no_op, comma_no_colons, semicolon_no_colons, one_test, kind_test, op_test, one_goes_on, word_kind, word_kinds, leaf_parts, word_no_op, word_complete, name_complete, one_shorter, op_shorter, bits_shorter, spelled_shorter}
+use Rattle.lay_tree.proofs.CompleteTokens.{one_front, kind_front, op_front, other_op, kind_no_op, one_no_op, comma_no_colons, semicolon_no_colons, one_test, kind_test, op_test, one_goes_on, word_kind, word_kinds, leaf_parts, word_no_op, word_complete, name_complete, one_shorter, bits_shorter, spelled_shorter}
 use Rattle.lay_tree.proofs.CompleteParts.{SpelledAll, all_parts, bits_parts, bit_alone, behind_blank, before_blank, text_alone, part_alone, lines_all, behind_all, body_parts, brace_passed, list_complete, all_complete}
 
 -- ---- paths
@@ -99,7 +96,7 @@ path_complete path depth ts rest s g h = at path.global path.segments g (subst (
     at leads (one ∷ more) g s =
         let goods = and_parts (good_segment one) (list_all good_segment more) g in
         let lead = global_parts leads (segments_form (one ∷ more) Done) depth ts rest s (λ us x.
-          let w = segment_parts one more depth us rest x in word_no_op (codes "::") one.word.raw one.word.text us w.0 w.1) in
+        let w = segment_parts one more depth us rest x in word_no_op (codes "::") one.word.raw one.word.text us w.0 w.1) in
         let w = segment_parts one more depth lead.0 rest lead.2 in
         let lt : length w.0 < suc (length w.0) = omega arith in
         rw (lead.1, word_complete one.word lead.0 w.0 goods.0 w.1, segments_from_complete more (suc (length w.0)) (one ∷ []) depth w.0 rest lt goods.1 w.2 h) refl
@@ -111,9 +108,9 @@ word_not_unsafe : (raw : Bool) (word : List ℕ) (ts rest : Tokens) → is_word 
 word_not_unsafe true word ts rest g o = rw (one_front RawIdent word ts rest o).1 refl
 word_not_unsafe false word ts rest g o =
     let differs : bytes_eq word (codes "unsafe") ≡ false = false_from_ne_true (bytes_eq word (codes "unsafe")) (λ e.
-      let same : word ≡ codes "unsafe" = (bytes_eq-Decides word (codes "unsafe")).0 e in
-      let path_word : is_path_class (class_of (codes "unsafe")) ≡ true = subst (λ w. is_path_class (class_of w) ≡ true) same g in
-      absurd (cc)) in
+    let same : word ≡ codes "unsafe" = (bytes_eq-Decides word (codes "unsafe")).0 e in
+    let path_word : is_path_class (class_of (codes "unsafe")) ≡ true = subst (λ w. is_path_class (class_of w) ≡ true) same g in
+    absurd (cc)) in
     rw ((one_front Ident word ts rest o).1, differs) refl
 
 path_not_unsafe : (leads : Bool) (segments : List Segment) (depth : ℕ) (ts rest : Tokens) → is_segments segments ≡ true
@@ -253,7 +250,7 @@ doc_name = meta_path.Path (record { global = false; segments = record { word = r
 doc_name_complete : (ts rest : Tokens) → IsOne Ident (codes "doc") ts rest → is_op (codes "::") rest ≡ false → meta_name ts ≡ Some (doc_name, rest)
 doc_name_complete ts rest o h =
     let one : Spells (path_form (record { global = false; segments = record { word = record { raw = false; text = codes "doc" } } ∷ [] })) 0 ts rest =
-      (rest, (rest, o, refl), (λ x. absurd x), refl) in
+    (rest, (rest, o, refl), (λ x. absurd x), refl) in
     meta_name_complete doc_name 0 ts rest one refl h
 
 doc_or_doc : (inner : Bool) (value : List ℕ) (held : List ℕ) (other : Attr) → value ≡ encode_utf8_all held → is_doc_text inner value ≡ true
@@ -279,7 +276,7 @@ doc_attr_complete inner value ts rest d g =
     let n = doc_name_complete opening.0 name.0 name.1 (other_op (codes "=") (codes "::") refl name.0 o.0) in
     let i = value_complete l.0 name.0 d.0 behind.0 l.3 o l.2 in
     rw (← made_doc inner value l.1 l.0 l.4 l.5 g)
-      (meta_attr_made inner doc_name (input.Value l.0) ts opening.0 name.0 behind.0 rest opening.1 n i (bit_alone (Closing Bracket) behind.0 rest behind.2))
+    (meta_attr_made inner doc_name (input.Value l.0) ts opening.0 name.0 behind.0 rest opening.1 n i (bit_alone (Closing Bracket) behind.0 rest behind.2))
 
 opening_complete : (inner : Bool) (a : Attr) (ts mid rest : Tokens) → AreBits (attr_opening inner) ts mid → meta_attr inner ts ≡ Some (a, rest) → attribute inner ts ≡ Some (a, rest)
 unfolding attribute
@@ -540,9 +537,10 @@ module _ (depth : ℕ) (within : Tokens → Got UseTree)
       let l = leaf_parts w.raw w.text (rename_form r) depth ts rest s in
       let goods = and_parts (good_word w) (is_rename r) g in
       let behind = rename_complete r depth l.0 rest l.2 goods.1 h in
-      let not_open : first opens_brace ts ≡ false = one_test is_brace_opener (word_kind w.raw) w.text ts l.0 l.1 ∙ word_kinds is_brace_opener refl refl w.raw in
-      (rw (not_open, word_no_op (codes "*") w.raw w.text ts l.0 l.1, word_complete w ts l.0 goods.0 l.1, behind.0, rolls-Word w r) refl,
-        last_word w ts l.0 goods.0 l.1 behind.1)
+      let not_open : first opens_brace ts ≡ false = one_test is_brace_opener (word_kind w.raw) w.text ts l.0 l.1 ∙ word_kinds is_brace_opener refl refl w.raw in (
+        rw (not_open, word_no_op (codes "*") w.raw w.text ts l.0 l.1, word_complete w ts l.0 goods.0 l.1, behind.0, rolls-Word w r) refl,
+        last_word w ts l.0 goods.0 l.1 behind.1,
+      )
   end_layer_complete end_open.Glob ts rest s g h =
       let o : IsOperator (codes "*") ts rest = text_alone (Operator (codes "*")) depth ts rest s in
       let front = op_front (codes "*") ts o.0 in
@@ -685,7 +683,7 @@ item_begins zero one ts rest s g = absurd (item_none one ts rest s)
 item_begins (suc depth) one ts rest s g =
     let p = item_parts one depth ts rest s in
     behind_attrs_begins one.attrs depth ts p.0 p.1 (and_parts (are_attrs false one.attrs) (good_kind one.kind) (sym (item_good_is one) ∙ g)).0
-      (kind_begins one.kind depth p.0 rest p.2).0
+    (kind_begins one.kind depth p.0 rest p.2).0
 
 -- Items begin no inner attribute, where what stands behind them doesn't.
 items_begin : (items : List Item) (depth : ℕ) (ts rest : Tokens) → SpelledAll depth (map form_of_item items) ts rest → list_all is_item items ≡ true → begins_attr true rest ≡ false
@@ -779,7 +777,7 @@ unfolding whole
 whole_complete file ts s g =
     let goods = and_parts (are_attrs true file.attrs) (list_all is_item file.items) g in
     let a = all_parts top (map attr_form file.attrs) (map form_of_item file.items) ts []
-      (lines_all top (map attr_form file.attrs ++ map form_of_item file.items) ts [] s) in
+    (lines_all top (map attr_form file.attrs ++ map form_of_item file.items) ts [] s) in
     rw (
       attributes_complete true file.attrs top ts a.0 a.1 goods.0 (items_begin file.items top a.0 [] a.2 goods.1 refl),
       items_complete top (item_at top) (use_at top) (item_complete top) (use_complete top) file.items a.0 [] goods.1 a.2 refl,
