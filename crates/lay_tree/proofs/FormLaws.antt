@@ -124,7 +124,7 @@ both_ends {x} {y} {z} a b = record {
 behind_one : (t : Token) (ts rest : List Token) → ts ≡ rest → IsEnd rest (t ∷ ts)
 behind_one t ts rest e = record { before = t ∷ []; whole = ap (λ l. t ∷ l) e }
 
-one_end : (kind : Kind) (text : List ℕ) (ts rest : List Token) → IsOne kind text ts rest → IsEnd rest ts
+pub one_end : (kind : Kind) (text : List ℕ) (ts rest : List Token) → IsOne kind text ts rest → IsEnd rest ts
 one_end kind text [] rest s = absurd s
 one_end kind text (t ∷ ts) rest s = behind_one t ts rest s.2
 
@@ -132,7 +132,7 @@ kind_end : (kind : Kind) (ts rest : List Token) → IsKind kind ts rest → IsEn
 kind_end kind [] rest s = absurd s
 kind_end kind (t ∷ ts) rest s = behind_one t ts rest s.1
 
-semicolons_end : (n : ℕ) (ts rest : List Token) → AreSemicolons n ts rest → IsEnd rest ts
+pub semicolons_end : (n : ℕ) (ts rest : List Token) → AreSemicolons n ts rest → IsEnd rest ts
 semicolons_end zero ts rest s = same_end ts rest s
 semicolons_end (suc n) ts rest s = both_ends (one_end _ _ _ _ s.1) (semicolons_end n _ rest s.2)
 
@@ -151,7 +151,7 @@ pub bits_end : (bits : List Bit) (ts rest : List Token) → AreBits bits ts rest
 bits_end [] ts rest s = same_end ts rest s
 bits_end (b ∷ bits) ts rest s = both_ends (bit_end b _ _ s.1) (bits_end bits _ rest s.2)
 
-may_be_end : (bits : List Bit) (ts rest : List Token) → MayBe bits ts rest → IsEnd rest ts
+pub may_be_end : (bits : List Bit) (ts rest : List Token) → MayBe bits ts rest → IsEnd rest ts
 may_be_end bits ts rest (inl e) = same_end ts rest e
 may_be_end bits ts rest (inr s) = bits_end bits ts rest s
 
@@ -167,21 +167,24 @@ pub string_end : (text : List ℕ) (ts rest : List Token) → IsString text ts r
 string_end text [] rest s = absurd s
 string_end text (t ∷ ts) rest s = behind_one t ts rest s.1
 
-doc_end : (inner : Bool) (text : List ℕ) (ts rest : List Token) → IsDoc inner text ts rest → IsEnd rest ts
+pub doc_opening_end : (inner : Bool) (ts rest : List Token)
+    → AreBits (attr_opening inner ++ keyword (codes "doc") ∷ Operator (codes "=") ∷ []) ts rest → IsEnd rest ts
+doc_opening_end inner ts rest s = bits_end (attr_opening inner ++ keyword (codes "doc") ∷ Operator (codes "=") ∷ []) ts rest s
+
+pub doc_end : (inner : Bool) (text : List ℕ) (ts rest : List Token) → IsDoc inner text ts rest → IsEnd rest ts
 doc_end inner text ts rest (inl s) = comment_end inner text ts rest s
 doc_end inner text ts rest (inr s) =
-    both_ends (bits_end (attr_opening inner ++ keyword (codes "doc") ∷ Operator (codes "=") ∷ []) _ _ s.1)
-    (both_ends (string_end text _ _ s.2.1) (bits_end (Closing Bracket ∷ []) _ rest s.2.2))
+    both_ends (doc_opening_end inner _ _ s.1) (both_ends (string_end text _ _ s.2.1) (bits_end (Closing Bracket ∷ []) _ rest s.2.2))
 
-opens_end : (n : ℕ) (ts rest : List Token) → Opens n ts rest → IsEnd rest ts
+pub opens_end : (n : ℕ) (ts rest : List Token) → Opens n ts rest → IsEnd rest ts
 opens_end zero ts rest s = same_end ts rest s
 opens_end (suc n) ts rest s = both_ends (bits_end (Opening Brace ∷ Semicolons ∷ []) _ _ s.1) (opens_end n _ rest s.2)
 
-closes_end : (n : ℕ) (ts rest : List Token) → Closes n ts rest → IsEnd rest ts
+pub closes_end : (n : ℕ) (ts rest : List Token) → Closes n ts rest → IsEnd rest ts
 closes_end zero ts rest s = same_end ts rest s
 closes_end (suc n) ts rest s = both_ends (bits_end (Closing Brace ∷ []) _ _ s.1) (closes_end n _ rest s.2)
 
-comma_end : (free : Bool) (ts rest : List Token) → IsComma free ts rest → IsEnd rest ts
+pub comma_end : (free : Bool) (ts rest : List Token) → IsComma free ts rest → IsEnd rest ts
 comma_end free ts rest (inl s) = same_end ts rest s.1
 comma_end free ts rest (inr s) = bits_end comma ts rest s
 
