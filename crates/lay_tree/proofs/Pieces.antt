@@ -1,16 +1,16 @@
 -- Tokens that are pieces of their kinds: a form that they spell is made of pieces.
-use Rattle.std.proofs.Common.{◌≡◌, ◌⊎◌, inl, inr, ℕ, zero, suc, ◌-◌, List, [], ◌∷◌, ◌++◌, Bool, true, false, ◌&&◌, Some, refl, sym, ap, ◌∙◌, subst}
+use Rattle.std.proofs.Common.{◌≡◌, inl, inr, ℕ, zero, suc, ◌-◌, List, [], ◌∷◌, Bool, true, refl, sym, ap, ◌∙◌}
 use Rattle.std.specs.List.{list_all}
-use Rattle.std.specs.Str.{chars, encode_utf8_all, is_utf8}
+use Rattle.std.specs.Str.{chars, is_utf8}
 use Rattle.std.proofs.lemmas.Bool.{and_parts, and_from}
 use Rattle.std.proofs.lemmas.List.Folds.{list_all-append}
 use Rattle.std.proofs.lemmas.Str.{IsUtf8-from_is_utf8, scalars-chars}
 use Rattle.lay_token.specs.declared.token.Kind.{Kind}
-use Rattle.lay_token.specs.declared.token.Kind.TheVariants.{Ident, RawIdent, Underscore, Lifetime, Char, Str, RawStr, Byte, ByteStr, RawByteStr, CStr, RawCStr, Int, Float, Punct, Opener, Closer, Doc}
+use Rattle.lay_token.specs.declared.token.Kind.TheVariants.{Ident, Doc}
 use Rattle.lay_token.specs.declared.token.Token.{Token}
 use Rattle.lay_tree.specs.Form as form
 use Rattle.lay_tree.specs.Form.{Form, Done, Piece, Leaf, Listed, Gap, LastComma, Group, Node, Deeper, Optional, Dropped, Body, keyword, comma}
-use Rattle.lay_tree.specs.Spelled.{SameKind, IsOne, IsListed, IsComment, IsStringOf, IsString, IsDoc, cost, Spelled, Spells}
+use Rattle.lay_tree.specs.Spelled.{SameKind, IsOne, IsListed, IsComment, IsString, IsDoc, cost, Spelled, Spells}
 use Rattle.lay_tree.specs.Written.{is_text_of, are_pieces}
 use Rattle.lay_tree.proofs.FormLaws.{IsEnd, bits_end, doc_opening_end, may_be_end, one_end, listed_end, semicolons_end, doc_end, opens_end, closes_end, comma_end, is_end}
 use Rattle.lay_tree.proofs.Scalars.{text_utf8, value_scalars}

@@ -1,19 +1,19 @@
 -- The value of a string that is text is text: each of its characters is a Unicode scalar.
-use Rattle.std.proofs.Common.{◌≡◌, ◌⊎◌, inl, inr, ℕ, zero, suc, ◌+◌, ◌-◌, ◌*◌, ◌<◌, ◌≤◌, List, [], ◌∷◌, ◌++◌, Bool, true, false, cond, not, ◌&&◌, ◌||◌, Option, Some, None, length, take, drop, refl, sym, ap, ◌∙◌, subst, arith, IsUtf8}
+use Rattle.std.proofs.Common.{◌≡◌, inl, inr, ℕ, zero, suc, ◌+◌, ◌-◌, ◌*◌, ◌<◌, ◌≤◌, List, [], ◌∷◌, ◌++◌, Bool, true, false, cond, not, ◌&&◌, Some, None, length, take, drop, refl, ap, ◌∙◌, subst, arith}
 use Rattle.std.specs.Prelude.{◌==◌, nat_lt, nat_le}
 use Rattle.std.specs.Char.{is_ascii_hexdigit}
 use Rattle.std.specs.Str.{encode_utf8_all, is_utf8}
-use Rattle.std.proofs.lemmas.Bool.{cases_Bool, and_parts, and_from, eqb-true, not-true, lt-ltb, le-ltb, le-leb, leb-false, ltb-true, ltb-false, both_ways}
+use Rattle.std.proofs.lemmas.Bool.{cases_Bool, and_parts, and_from, eqb-true, not-true, le-leb, leb-false, ltb-true, ltb-false, both_ways}
 use Rattle.std.proofs.lemmas.Str.{is_utf8-from_IsUtf8}
 use lib.Utf8.{scalar, scalars, low_scalar}
 use Rattle.lay_token.specs.Chars.{front, hex_value, is_between, kept, without_end}
 use Rattle.lay_token.specs.Scan.{Next, Go, End, Bad}
-use Rattle.lay_token.specs.Quoted.{InEscape, Backslash, Hex, HexTwo, Open, Digits, InString, Plain, Turned, Escape, Skip, string_step, escape_step, digits_step, in_string, is_skipped, is_byte_value, is_char_value}
+use Rattle.lay_token.specs.Quoted.{Backslash, Hex, HexTwo, Open, Digits, InString, Plain, Turned, Escape, Skip, string_step, escape_step, digits_step, in_string, is_skipped, is_char_value}
 use Rattle.lay_token.specs.Forms.{after_literal, is_whole}
 use Rattle.lay_token.specs.Value.{short_escape, plain_adds, adds, string_value, is_hash, raw_value, value_of}
 use Rattle.lay_token.specs.declared.piece.quoted.Contents.TheVariants as of
 use Rattle.lay_token.specs.declared.token.Kind.{Kind}
-use Rattle.lay_token.specs.declared.token.Kind.TheVariants.{Ident, RawIdent, Underscore, Lifetime, Char, Str, RawStr, Byte, ByteStr, RawByteStr, CStr, RawCStr, Int, Float, Punct, Opener, Closer, Doc}
+use Rattle.lay_token.specs.declared.token.Kind.TheVariants.{Str, RawStr}
 
 -- ---- lists of scalars
 
