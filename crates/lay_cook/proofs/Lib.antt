@@ -1,0 +1,5 @@
+pub mod CookLemmas
+pub mod DigitLemmas
+pub mod EndLemmas
+pub mod RawLemmas
+pub mod StepLemmas
