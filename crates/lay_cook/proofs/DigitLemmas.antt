@@ -1,12 +1,12 @@
 -- Escapes by digits.
-use Rattle.std.proofs.Common.{◌≡◌, ◌≢◌, inl, inr, ℕ, suc, ◌+◌, ◌*◌, ◌^◌, ◌<◌, ◌≤◌, List, [], ◌∷◌, ◌++◌, Bool, true, false, cond, not, ◌&&◌, ◌||◌, Some, None, sym, refl, ap, ◌∙◌, subst, arith, lit<, add-one}
+use Rattle.std.proofs.Common.{◌≡◌, ◌≢◌, inl, inr, ℕ, suc, ◌+◌, ◌*◌, ◌^◌, ◌<◌, ◌≤◌, List, [], ◌∷◌, Bool, true, false, cond, ◌&&◌, sym, refl, ap, ◌∙◌, subst, arith, lit<, add-one}
 use Rattle.std.specs.Prelude.{◌==◌, nat_lt, nat_le}
 use Rattle.std.specs.Char.{is_ascii_hexdigit, InScalarRange}
 use Rattle.std.proofs.Math.Nat.{pow-suc, pow-le-pow_right}
-use Rattle.std.proofs.lemmas.Bool.{cases_Bool, and_parts, and_cases, not-true, ltb-true, leb-false, lt-ltb, le-ltb, eq-eqb, eqb-true, eqb-false, ne_eqb}
+use Rattle.std.proofs.lemmas.Bool.{cases_Bool, and_parts, and_cases, not-true, ltb-true, leb-false, ne_eqb}
 use Rattle.lay_token.specs.Chars.{hex_value, is_between}
 use Rattle.lay_token.specs.Scan.{Next, Go, End, Bad}
-use Rattle.lay_token.specs.Quoted.{InEscape, InString, Plain, Escape, Hex, HexTwo, Open, Digits, string_step, escape_step, digits_step, in_string, is_char_value}
+use Rattle.lay_token.specs.Quoted.{InEscape, Plain, Escape, Hex, HexTwo, Open, Digits, string_step, escape_step, digits_step, in_string, is_char_value}
 use Rattle.lay_token.specs.Value.{adds, string_value}
 use Rattle.lay_token.specs.declared.piece.quoted.Contents.TheVariants as of
 use Rattle.lay_cook.specs.Steps.{Closes, Reads}
@@ -151,6 +151,7 @@ digit v c text cs whole d e l r = elim (cases_Bool (is_ascii_hexdigit c)) [
   where
     n : ℕ
     n = d.count
+
     here : Closes (Escape (Digits n v)) (c ∷ cs)
     here = subst (Closes (Escape (Digits n v))) e d.closes
 
@@ -189,11 +190,13 @@ brace v text cs whole d e = elim (cases_Bool (d.count == 0)) [
   | inr some ↦ elim (cases_Bool (is_char_value of.Chars v)) [
     | inr bad ↦ absurd (stays _ 125 cs (step_is d.count v 125 Bad (brace_step d.count v false some bad)) here)
     | inl good ↦
-        let g = goes (Escape (Digits d.count v)) Plain 125 cs (v ∷ []) (step_is d.count v 125 End (brace_step d.count v true some good)) (brace_addition d.count v) here in
-        (in_scalars v good, record {
-          value = sym d.value ∙ ap (string_value (Escape (Digits d.count v))) e ∙ g.value;
-          closes = g.closes;
-        })
+        let g = goes (Escape (Digits d.count v)) Plain 125 cs (v ∷ []) (step_is d.count v 125 End (brace_step d.count v true some good)) (brace_addition d.count v) here in (
+          in_scalars v good,
+          record {
+            value = sym d.value ∙ ap (string_value (Escape (Digits d.count v))) e ∙ g.value;
+            closes = g.closes;
+          },
+        )
   ]
 ]
   where

@@ -1,12 +1,12 @@
 -- What a literal ends in.
-use Rattle.std.proofs.Common.{◌≡◌, ◌≢◌, inl, inr, ℕ, suc, ◌+◌, ◌<◌, ◌≤◌, List, [], ◌∷◌, ◌++◌, length, take, get_or, Bool, true, false, cond, not, ◌&&◌, ◌||◌, Option, Some, None, sym, refl, ap, ◌∙◌, subst, arith, IsUtf8, length-append}
+use Rattle.std.proofs.Common.{◌≡◌, inl, inr, ℕ, ◌+◌, ◌<◌, List, [], ◌∷◌, ◌++◌, length, take, get_or, Bool, true, false, cond, ◌&&◌, ◌||◌, Option, Some, None, sym, refl, ap, ◌∙◌, subst, arith, IsUtf8, length-append}
 use Rattle.std.specs.Prelude.{◌==◌, nat_lt}
 use Rattle.std.specs.List.{list_all}
 use Rattle.std.specs.Str.{chars, encode_utf8_all}
 use Rattle.std.proofs.Math.Seq.{get_or-append_seam, take-append_seam}
 use Rattle.std.proofs.lemmas.List.{append-nil}
 use Rattle.std.proofs.lemmas.Bool.{cases_Bool, and_parts, eqb-true, eq-eqb, ne_eqb, or_from, or_right}
-use Rattle.std.proofs.lemmas.Str.{IsUtf8-take, IsCharBoundary-before_ascii, chars-append, chars-encodes, encodes-append, encodes-chars, encode_ascii, encodes_same}
+use Rattle.std.proofs.lemmas.Str.{IsUtf8-take, IsCharBoundary-before_ascii, encodes-append, encodes-chars, encode_ascii, encodes_same}
 use lib.Utf8.{encode}
 use Rattle.lay_token.specs.Scan.{Next, Go, End, Bad, run}
 use Rattle.lay_token.specs.Quoted.{InEscape, Backslash, InString, Plain, Turned, Escape, Skip, string_step, plain_step, in_string, escape_step, is_skipped, is_plain, InRaw, Hashes, Inside, Closing, raw_step, inside_step}
@@ -64,8 +64,8 @@ pub last_char : (bs xs : List ℕ) (c : ℕ) → c < 128 → IsUtf8 bs → bs �
 last_char bs xs c l u e =
     let ux = front_utf8 bs xs c l u e in
     encodes_same (chars bs) (chars xs ++ c ∷ []) (encodes-chars bs u ∙ e ∙ sym (
-        encodes-append (chars xs) (c ∷ []) ∙ ap (λ b. b ++ encode_utf8_all (c ∷ [])) (encodes-chars xs ux)
-        ∙ ap (λ b. xs ++ b) (one c l)))
+    encodes-append (chars xs) (c ∷ []) ∙ ap (λ b. b ++ encode_utf8_all (c ∷ [])) (encodes-chars xs ux)
+    ∙ ap (λ b. xs ++ b) (one c l)))
   where
     one : (c : ℕ) → c < 128 → encode_utf8_all (c ∷ []) ≡ c ∷ []
     one c l = append-nil (encode c) ∙ encode_ascii c l

@@ -1,11 +1,11 @@
 -- The parts of a raw string.
-use Rattle.std.proofs.Common.{◌≡◌, inl, inr, ℕ, zero, suc, ◌+◌, ◌-◌, ◌*◌, ◌≤◌, List, [], ◌∷◌, ◌++◌, length, take, drop, Bool, true, false, cond, ◌&&◌, Option, Some, None, sym, refl, ap, ◌∙◌, subst, arith, add-one, add-zero, zero-add, append_assoc, length-append, IsUtf8}
+use Rattle.std.proofs.Common.{◌≡◌, ℕ, zero, suc, ◌+◌, ◌-◌, ◌*◌, ◌≤◌, List, [], ◌∷◌, ◌++◌, length, take, drop, Bool, true, false, cond, ◌&&◌, Option, Some, None, sym, refl, ap, ◌∙◌, arith, add-one, add-zero, zero-add, append_assoc, length-append, IsUtf8}
 use Rattle.std.specs.Prelude.{◌==◌, nat_lt}
 use Rattle.std.specs.List.{list_all}
 use Rattle.std.specs.Str.{chars, encode_utf8_all}
 use Rattle.std.proofs.Math.Seq.{take-append_seam, drop-append_seam}
 use Rattle.std.proofs.lemmas.List.{append-nil}
-use Rattle.std.proofs.lemmas.Bool.{cases_Bool, eqb-true, and_parts}
+use Rattle.std.proofs.lemmas.Bool.{eqb-true, and_parts}
 use Rattle.std.proofs.lemmas.Str.{encodes-append, encodes-chars}
 use lib.Utf8.{encode}
 use Rattle.lay_token.specs.Chars.{front, after}
@@ -98,13 +98,17 @@ parts (c ∷ cs) n (Some k) h =
         → EndsIn n (34 ∷ (hashes k ++ c ∷ cs))
     go true true e f h more other =
         let none : cs ≡ [] = cc in
-        let count : suc k ≡ n = sym (add-one k) ∙ eqb-true (k + 1) n f in
-        ([], ap (λ l. 34 ∷ l) (ap (λ l. hashes k ++ c ∷ l) none ∙ ap (λ v. hashes k ++ v ∷ []) (eqb-true c 35 e)
-        ∙ hashes-more k [] ∙ append-nil (hashes (suc k)) ∙ ap hashes count))
+        let count : suc k ≡ n = sym (add-one k) ∙ eqb-true (k + 1) n f in (
+          [],
+          ap (λ l. 34 ∷ l) (ap (λ l. hashes k ++ c ∷ l) none ∙ ap (λ v. hashes k ++ v ∷ []) (eqb-true c 35 e)
+              ∙ hashes-more k [] ∙ append-nil (hashes (suc k)) ∙ ap hashes count),
+        )
     go true false e f h more other =
-        let r = more h in
-        (r.0, ap (λ l. 34 ∷ l) (ap (λ v. hashes k ++ v ∷ cs) (eqb-true c 35 e) ∙ hashes-more k cs
-        ∙ ap (λ m. hashes m ++ cs) (sym (add-one k))) ∙ r.1)
+        let r = more h in (
+          r.0,
+          ap (λ l. 34 ∷ l) (ap (λ v. hashes k ++ v ∷ cs) (eqb-true c 35 e) ∙ hashes-more k cs
+              ∙ ap (λ m. hashes m ++ cs) (sym (add-one k))) ∙ r.1,
+        )
     go false b e f h more other =
         let r = other h in
         let closing : List ℕ = 34 ∷ hashes k in
@@ -131,13 +135,19 @@ opened_parts (c ∷ cs) n h =
         → Opened n (c ∷ cs)
     go true b e f h more =
         let r = more h in
-        let count : n + 1 + r.0 ≡ n + suc r.0 = omega arith in
-        (suc r.0, r.1, ap (λ v. v ∷ cs) (eqb-true c 35 (and_parts _ _ e).0) ∙ ap (λ l. 35 ∷ l) r.2
-        ∙ ap (λ k. 35 ∷ (hashes r.0 ++ 34 ∷ (r.1 ++ 34 ∷ hashes k))) count)
+        let count : n + 1 + r.0 ≡ n + suc r.0 = omega arith in (
+          suc r.0,
+          r.1,
+          ap (λ v. v ∷ cs) (eqb-true c 35 (and_parts _ _ e).0) ∙ ap (λ l. 35 ∷ l) r.2
+              ∙ ap (λ k. 35 ∷ (hashes r.0 ++ 34 ∷ (r.1 ++ 34 ∷ hashes k))) count,
+        )
     go false true e f h more =
-        let r = parts cs n None h in
-        (0, r.0, ap (λ v. v ∷ cs) (eqb-true c 34 f) ∙ ap (λ l. 34 ∷ l) r.1
-        ∙ ap (λ k. 34 ∷ (r.0 ++ 34 ∷ hashes k)) (sym (add-zero n)))
+        let r = parts cs n None h in (
+          0,
+          r.0,
+          ap (λ v. v ∷ cs) (eqb-true c 34 f) ∙ ap (λ l. 34 ∷ l) r.1
+              ∙ ap (λ k. 34 ∷ (r.0 ++ 34 ∷ hashes k)) (sym (add-zero n)),
+        )
     go false false e f h more = cc
 
 -- hashes and a quote, the value, and as much again
@@ -159,9 +169,11 @@ middle : (k : ℕ) (cs front body back : List ℕ) → cs ≡ front ++ (body ++ 
     → (length cs ≡ k + length body + k) × (take (length body) (drop k cs) ≡ body)
 middle k cs front body back e f b =
     let size : length cs ≡ k + length body + k =
-    omega (arith, ap length e, length-append front (body ++ back), length-append body back, f, b) in
-    (size, ap (λ n. take (length body) (drop n cs)) (sym f) ∙ ap (λ l. take (length body) (drop (length front) l)) e
-    ∙ ap (take (length body)) (drop-append_seam front (body ++ back)) ∙ take-append_seam body back)
+    omega (arith, ap length e, length-append front (body ++ back), length-append body back, f, b) in (
+      size,
+      ap (λ n. take (length body) (drop n cs)) (sym f) ∙ ap (λ l. take (length body) (drop (length front) l)) e
+          ∙ ap (take (length body)) (drop-append_seam front (body ++ back)) ∙ take-append_seam body back,
+    )
 
 -- a quote on either side of the value belongs to what is around it
 around : (m : ℕ) (cs body : List ℕ) → cs ≡ hashes m ++ 34 ∷ (body ++ 34 ∷ hashes m)

@@ -1,16 +1,15 @@
 -- Strings, character by character.
-use Rattle.std.proofs.Common.{◌≡◌, ◌≢◌, inl, inr, ℕ, ◌+◌, ◌*◌, ◌<◌, List, [], ◌∷◌, ◌++◌, Bool, true, false, cond, not, ◌&&◌, ◌||◌, Some, None, sym, refl, ap, ◌∙◌, subst, append_assoc, IsTrue}
-use Rattle.std.specs.Prelude.{◌==◌, nat_lt}
-use Rattle.std.specs.Char.{is_ascii_hexdigit}
+use Rattle.std.proofs.Common.{◌≡◌, ◌≢◌, inl, inr, ℕ, List, [], ◌∷◌, ◌++◌, Bool, true, false, cond, Some, None, sym, refl, ap, ◌∙◌, subst, append_assoc}
+use Rattle.std.specs.Prelude.{◌==◌}
 use Rattle.std.specs.Str.{encode_utf8_all}
 use Rattle.std.proofs.lemmas.Str.{encodes-append}
-use Rattle.std.proofs.lemmas.Bool.{cases_Bool, and_parts, or_parts, not-true, not-false, ltb-true, eq-eqb, eqb-true, ne_eqb}
-use Rattle.lay_token.specs.Chars.{begins, after, front, hex_value}
+use Rattle.std.proofs.lemmas.Bool.{cases_Bool, or_parts, not-true, eqb-true, ne_eqb}
+use Rattle.lay_token.specs.Chars.{begins, after, front}
 use Rattle.lay_token.specs.Scan.{Next, Go, End, Bad, run}
-use Rattle.lay_token.specs.Quoted.{InString, Plain, Turned, Escape, Skip, Hex, HexTwo, Open, Digits, string_step, escape_step, is_plain, is_short_escape, is_skipped}
+use Rattle.lay_token.specs.Quoted.{InString, Plain, Turned, Escape, Skip, Hex, Open, string_step, escape_step, is_plain, is_short_escape, is_skipped}
 use Rattle.lay_token.specs.Value.{adds, short_escape, string_value}
 use Rattle.lay_token.specs.declared.piece.quoted.Contents.TheVariants as of
-use Rattle.lay_token.proofs.Runs.{next, run-nil, run-step, string_skip}
+use Rattle.lay_token.proofs.Runs.{run-nil, run-step, string_skip}
 use Rattle.lay_token.proofs.Fronts.{after-stops}
 use Rattle.lay_cook.specs.Steps.{Closes, Reads, is_unmarked}
 

@@ -39,19 +39,28 @@ fn values(rt: HostRuntime) -> Result<(), Fail> {
         (r#""a\nb\\n'c""#, "a\nb\\n'c"),
         (r#""\x41\x7F\x7e\x00""#, "A\x7f~\0"),
         (r#""\u{e9}\u{41}\u{0}""#, "\u{e9}A\0"),
-        (r#""\u{1_F6_00}\u{10FFFF}\u{00004_1_}""#, "\u{1f600}\u{10ffff}A"),
+        (
+            r#""\u{1_F6_00}\u{10FFFF}\u{00004_1_}""#,
+            "\u{1f600}\u{10ffff}A",
+        ),
         ("\"a\\\n \t\n  b c\"", "ab c"),
         ("\"a\\\n\"", "a"),
         ("\"\\\n  \\\n  \\n  \\\\\\\n\\x41\"", "\n  \\A"),
         ("\"a\n b\"", "a\n b"),
-        ("\"twenty-three characters, and more\\n\"", "twenty-three characters, and more\n"),
+        (
+            "\"twenty-three characters, and more\\n\"",
+            "twenty-three characters, and more\n",
+        ),
         ("r\"\"", ""),
         (r##"r"a\n\" b"##, "a\\n\\"),
         (r###"r#"a"b\n"# "###, "a\"b\\n"),
         (r####"r##"x"#"##"####, "x\"#"),
         ("r\"\u{e9}\\\n  \"", "\u{e9}\\\n  "),
         ("r##\"#\"##", "#"),
-        ("r#\"twenty-three characters, and more\"#", "twenty-three characters, and more"),
+        (
+            "r#\"twenty-three characters, and more\"#",
+            "twenty-three characters, and more",
+        ),
     ];
     for (text, wanted) in rows {
         assert!(rt; says(rt.alloc(), text, wanted)?, "{text}");

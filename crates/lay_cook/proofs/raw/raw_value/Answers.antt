@@ -1,4 +1,4 @@
-use Rattle.std.proofs.Common.{rules, ◌+◌, ◌-◌, ◌≤◌, length, take, drop, ap, ◌∙◌, arith}
+use Rattle.std.proofs.Common.{◌+◌, ◌-◌, length, take, drop, ap, ◌∙◌, arith}
 use Rattle.lay_cook.proofs.RawLemmas.{raw_bytes}
 use Rattle.lay_cook.proofs.raw.raw_value.Goals as goal
 

@@ -1,4 +1,4 @@
-use Rattle.std.proofs.Common.{◌≡◌, ◌+◌, ◌*◌, ◌∷◌, [], List, ℕ, sym, ap, ◌∙◌, subst, arith}
+use Rattle.std.proofs.Common.{◌≡◌, ◌+◌, ◌*◌, ◌∷◌, [], subst, arith}
 use Rattle.std.specs.Str.{chars}
 use Rattle.lay_token.specs.Chars.{hex_value}
 use Rattle.lay_token.specs.Quoted.{Escape, Hex, HexTwo}

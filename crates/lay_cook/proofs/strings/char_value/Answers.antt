@@ -1,10 +1,10 @@
-use Rattle.std.proofs.Common.{rules, ◌≡◌, ◌≢◌, ◌+◌, ◌*◌, ◌<◌, ◌∷◌, [], List, ℕ, sym, ap, ◌∙◌, subst, arith, Some}
+use Rattle.std.proofs.Common.{rules, ◌≡◌, ◌+◌, ◌*◌, ◌<◌, ◌∷◌, [], sym, ap, ◌∙◌, subst, arith, Some}
 use Rattle.std.specs.Str.{chars}
 use Rattle.std.specs.Char.{IsScalar}
 use Rattle.std.specs.Option.{SomeIff}
 use Rattle.lay_token.specs.Chars.{hex_value}
 use Rattle.lay_token.specs.Quoted.{Digits, Escape, Open}
-use Rattle.lay_cook.specs.Steps.{Closes, Reads}
+use Rattle.lay_cook.specs.Steps.{Reads}
 use Rattle.lay_cook.proofs.StepLemmas.{not_empty}
 use Rattle.lay_cook.proofs.DigitLemmas.{InDigits, opened, brace, digit, underscore}
 use Rattle.lay_cook.proofs.strings.char_value.Goals as goal

@@ -1,4 +1,4 @@
-use Rattle.std.proofs.Common.{rules, ◌≡◌, ◌∷◌, ◌++◌, [], List, ℕ, refl, sym, ap, ◌∙◌, subst, option_to_list}
+use Rattle.std.proofs.Common.{rules, ◌≡◌, ◌++◌, [], List, ℕ, refl, sym, ap, ◌∙◌, subst, option_to_list}
 use Rattle.std.specs.Str.{chars, encode_utf8_all}
 use Rattle.std.proofs.lemmas.List.{append-nil}
 use Rattle.lay_token.specs.Chars.{after, front}
