@@ -41,6 +41,7 @@ fn piece_of(text: &Text) -> &str
     unsafe { std::str::from_utf8_unchecked(text.as_bytes()) }
 }
 
+/// The value of a string, unless it has a suffix.
 fn cook_string(alloc: Global, piece: &str) -> Result<Cooked, NoMemory>
     requires { IsLiteral kind.Str (chars piece.now) }
     ensures { IfOk result (CookedAs (value_of kind.Str (chars piece.now))) }
@@ -54,6 +55,7 @@ fn cook_string(alloc: Global, piece: &str) -> Result<Cooked, NoMemory>
     Ok(Cooked::Str(value))
 }
 
+/// The value of a raw string, unless it has a suffix.
 fn cook_raw(alloc: Global, piece: &str) -> Result<Cooked, NoMemory>
     requires { IsLiteral kind.RawStr (chars piece.now) }
     ensures { IfOk result (CookedAs (value_of kind.RawStr (chars piece.now))) }

@@ -48,8 +48,8 @@ fn values(rt: HostRuntime) -> Result<(), Fail> {
         ("\"\\\n  \\\n  \\n  \\\\\\\n\\x41\"", "\n  \\A"),
         ("\"a\n b\"", "a\n b"),
         (
-            "\"twenty-three characters, and more\\n\"",
-            "twenty-three characters, and more\n",
+            "\"more than twenty-two bytes\\n\"",
+            "more than twenty-two bytes\n",
         ),
         ("r\"\"", ""),
         (r##"r"a\n\" b"##, "a\\n\\"),
@@ -58,8 +58,8 @@ fn values(rt: HostRuntime) -> Result<(), Fail> {
         ("r\"\u{e9}\\\n  \"", "\u{e9}\\\n  "),
         ("r##\"#\"##", "#"),
         (
-            "r#\"twenty-three characters, and more\"#",
-            "twenty-three characters, and more",
+            "r#\"more than twenty-two bytes\"#",
+            "more than twenty-two bytes",
         ),
     ];
     for (text, wanted) in rows {
