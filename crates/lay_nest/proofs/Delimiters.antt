@@ -1,5 +1,5 @@
 -- Which kinds are openers, closers and partners.
-use Rattle.std.proofs.Common.{◌≡◌, Bool, true, false, ◌&&◌, not, List, [], ◌∷◌, IsTrue, IsFalse, refl, ap}
+use Rattle.std.proofs.Common.{◌≡◌, true, false, not, List, [], ◌∷◌, refl}
 use Rattle.std.proofs.lemmas.Bool.{false≢true, and_parts}
 use Rattle.lay_token.specs.Delimiters.{is_opener, is_closer, is_pair, is_stray}
 use Rattle.lay_token.specs.declared.token.Delim.{Delim}

@@ -3,8 +3,6 @@ use Rattle.std.proofs.Common.{◌≡◌, inl, inr, ℕ, Bool, true, false, cond,
 use Rattle.std.proofs.lemmas.Bool.{false≢true}
 use Rattle.lay_token.specs.Delimiters as delimiters
 use Rattle.lay_token.specs.Delimiters.{Trees, Paired, Balanced, LeaveOpen, Stray, Unclosed, UnbalancedAt, tokens_of, is_opener, is_closer, is_pair, is_stray}
-use Rattle.lay_token.specs.declared.token.Kind.{Kind}
-use Rattle.lay_token.specs.declared.token.Kind.TheVariants.{Opener, Closer}
 use Rattle.lay_token.specs.declared.token.Token.{Token}
 use Rattle.lay_nest.proofs.Delimiters.{closer_not_opener, pair_opener, pair_closer, pair_not_stray, plain_not_stray, stray_closer}
 

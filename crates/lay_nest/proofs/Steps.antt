@@ -1,5 +1,6 @@
 -- What is ahead behind a token, and behind a group.
-use Rattle.std.proofs.Common.{◌≡◌, ℕ, ◌<◌, true, List, [], ◌∷◌, ◌++◌, length, drop, get_or, IsTrue, refl, sym, ap, ◌∙◌, subst, arith, append_assoc, length-append}
+use Rattle.std.proofs.Common.{◌≡◌, ℕ, ◌<◌, true, List, [], ◌∷◌, ◌++◌, length, drop, get_or, IsTrue, Some, refl, sym, ap, ◌∙◌, subst, arith, append_assoc, length-append}
+use Rattle.std.specs.List.{slice_get}
 use Rattle.std.proofs.lemmas.Bool.{false≢true}
 use Rattle.lay_token.specs.Delimiters as delimiters
 use Rattle.lay_token.specs.Delimiters.{Trees, Paired, Balanced, tokens_of, is_opener, is_closer, is_pair}
@@ -74,6 +75,14 @@ stepped {tokens} {spans} s h =
     let Q : List ℕ → Type 0 = λ ns. SpannedAhead (drop 1 tokens) (drop 1 ns) in
     let g : 0 < length (tokens_ahead s.ahead) = omega (arith, ap length s.tokens_are) in
     subst Q (sym s.spans_are) (subst P (sym s.tokens_are) (step_ahead s.ahead s.paired g))
+
+-- An opener that a caller has seen at the front begins a group.
+pub begins_group_opener : (tokens : List Token) (opener : Token) → slice_get tokens 0 ≡ Some opener
+    → is_opener opener.kind ≡ true
+    → begins_group tokens ≡ true
+begins_group_opener [] opener e h = cc
+begins_group_opener (t ∷ ts) opener e h =
+    let same : t ≡ opener = cc in ap (λ (o : Token). is_opener o.kind) same ∙ h
 
 -- The group at the front, and what is ahead behind it.
 pub record Opened (tokens : List Token) (spans : List ℕ) : Type 0 where

@@ -1,5 +1,5 @@
 -- The tokens ahead of a cursor, which may have stepped over an opener.
-use Rattle.std.specs.Prelude.{ℕ, ◌≡◌, List, [], ◌∷◌, ◌++◌, IsTrue}
+use Rattle.std.specs.Prelude.{ℕ, ◌≡◌, List, ◌∷◌, ◌++◌, IsTrue}
 use Rattle.lay_token.specs.Delimiters.{Trees, Paired, tokens_of, is_closer}
 use Rattle.lay_token.specs.declared.token.Token.{Token}
 use Rattle.lay_nest.specs.Spans.{spans_of}

@@ -56,20 +56,20 @@ fn unbalanced(alloc: Global, text: &[u8]) -> Result<Option<usize>, FormatError> 
 #[test]
 fn places(rt: HostRuntime) -> Result<(), Fail> {
     let alloc = rt.alloc();
-    let rows = [
-        (b"".as_slice(), None),
-        (b"()".as_slice(), None),
-        (b"([{}])(a)".as_slice(), None),
-        (b"fn f( { }".as_slice(), Some(4)),
-        (b"fn f( { )".as_slice(), Some(8)),
-        (b"(".as_slice(), Some(0)),
-        (b"}".as_slice(), Some(0)),
-        (b"a ) (".as_slice(), Some(2)),
-        (b"{ ( [ ] ) a".as_slice(), Some(0)),
-        (b"[ { ( ) ]".as_slice(), Some(8)),
+    let rows: [(&str, Option<usize>); 10] = [
+        ("", None),
+        ("()", None),
+        ("([{}])(a)", None),
+        ("fn f( { }", Some(4)),
+        ("fn f( { )", Some(8)),
+        ("(", Some(0)),
+        ("}", Some(0)),
+        ("a ) (", Some(2)),
+        ("{ ( [ ] ) a", Some(0)),
+        ("[ { ( ) ]", Some(8)),
     ];
     for (text, wanted) in rows {
-        assert_eq!(rt; unbalanced(alloc, text)?, wanted);
+        assert_eq!(rt; unbalanced(alloc, text.as_bytes())?, wanted, "{text}");
     }
     let many = 100_000;
     assert_eq!(rt;
@@ -101,61 +101,83 @@ fn is_ahead(cursor: &Cursor<'_>, text: &[u8]) -> bool {
     cursor.peek(text.len()).is_none() && cursor.is_end() == text.is_empty()
 }
 
+/// Moves past one token, if one is ahead.
+fn stepped(cursor: &mut Cursor<'_>) -> bool {
+    let may = !cursor.is_end();
+    if may {
+        cursor.step();
+    }
+    may
+}
+
+/// Moves past a group, if one is ahead, and gives what is inside.
+#[tactic(auto, using(crate::proofs::Steps::begins_group_opener))]
+fn entered<'a>(cursor: &mut Cursor<'a>) -> Option<Cursor<'a>> {
+    match cursor.peek(0) {
+        Some(front) => match front.kind {
+            Kind::Opener(_) => Some(cursor.group()),
+            _ => None,
+        },
+        None => None,
+    }
+}
+
 #[test]
 fn walk(rt: HostRuntime) -> Result<(), Fail> {
     let alloc = rt.alloc();
     let nested = nest(alloc, tokens_of(alloc, b"a(b[c]d)e")?)?;
     let mut cursor = nested.cursor();
     assert!(rt; is_ahead(&cursor, b"a(b[c]d)e"));
-    cursor.step();
-    let mut stepped = cursor.fork();
-    let mut inside = cursor.group();
-    assert!(rt; is_ahead(&cursor, b"e"));
-    assert!(rt; is_ahead(&inside, b"b[c]d"));
-    inside.step();
-    let innermost = inside.group();
-    assert!(rt; is_ahead(&innermost, b"c"));
-    assert!(rt; is_ahead(&inside, b"d"));
-    inside.step();
-    assert!(rt; inside.is_end());
-    // Past an opener alone.
-    stepped.step();
-    stepped.step();
-    assert!(rt; is_ahead(&stepped, b"[c]d)e"));
-    assert!(rt; is_ahead(&stepped.group(), b"c"));
-    assert!(rt; is_ahead(&stepped, b"d)e"));
-    cursor.step();
-    assert!(rt; is_ahead(&cursor, b""));
+    assert!(rt; entered(&mut cursor).is_none() && stepped(&mut cursor));
+    let mut alone = cursor.fork();
+    match entered(&mut cursor) {
+        Some(mut inside) => {
+            assert!(rt; is_ahead(&inside, b"b[c]d") && stepped(&mut inside));
+            match entered(&mut inside) {
+                Some(innermost) => assert!(rt; is_ahead(&innermost, b"c")),
+                None => assert!(rt; false),
+            }
+            assert!(rt; is_ahead(&inside, b"d") && stepped(&mut inside));
+            assert!(rt; is_ahead(&inside, b"") && !stepped(&mut inside));
+        }
+        None => assert!(rt; false),
+    }
+    assert!(rt; is_ahead(&cursor, b"e") && stepped(&mut cursor) && is_ahead(&cursor, b""));
+    // Past an opener alone, and later past its closer.
+    assert!(rt; stepped(&mut alone) && stepped(&mut alone) && is_ahead(&alone, b"[c]d)e"));
+    assert!(rt; entered(&mut alone).is_some() && is_ahead(&alone, b"d)e"));
+    assert!(rt; stepped(&mut alone) && entered(&mut alone).is_none() && is_ahead(&alone, b")e"));
+    assert!(rt; stepped(&mut alone) && is_ahead(&alone, b"e"));
     Ok(())
 }
 
 #[test]
 fn operators(rt: HostRuntime) -> Result<(), Fail> {
     let alloc = rt.alloc();
-    let rows = [
-        (b"<<=".as_slice(), b"<<=".as_slice(), true),
-        (b"<<=".as_slice(), b"<<".as_slice(), false),
-        (b"<<=".as_slice(), b"<".as_slice(), false),
-        (b"..=a".as_slice(), b"..=".as_slice(), true),
-        (b"..=a".as_slice(), b"..".as_slice(), false),
-        (b"< <".as_slice(), b"<".as_slice(), true),
-        (b"< <".as_slice(), b"<<".as_slice(), false),
-        (b"::a".as_slice(), b"::".as_slice(), true),
-        (b": :".as_slice(), b":".as_slice(), true),
-        (b": :".as_slice(), b"::".as_slice(), false),
-        (b"- >".as_slice(), b"->".as_slice(), false),
-        (b"- >".as_slice(), b"-".as_slice(), true),
-        (b"....".as_slice(), b"...".as_slice(), true),
-        (b"....".as_slice(), b"..".as_slice(), false),
-        (b"=!a".as_slice(), b"=".as_slice(), true),
-        (b"=!a".as_slice(), b"=!".as_slice(), false),
-        (b"a".as_slice(), b"a".as_slice(), false),
-        (b"".as_slice(), b"+".as_slice(), false),
-        (b"".as_slice(), b"".as_slice(), false),
+    let rows: [(&str, &str, bool); 19] = [
+        ("<<=", "<<=", true),
+        ("<<=", "<<", false),
+        ("<<=", "<", false),
+        ("..=a", "..=", true),
+        ("..=a", "..", false),
+        ("< <", "<", true),
+        ("< <", "<<", false),
+        ("::a", "::", true),
+        (": :", ":", true),
+        (": :", "::", false),
+        ("- >", "->", false),
+        ("- >", "-", true),
+        ("....", "...", true),
+        ("....", "..", false),
+        ("=!a", "=", true),
+        ("=!a", "=!", false),
+        ("a", "a", false),
+        ("", "+", false),
+        ("", "", false),
     ];
     for (text, op, wanted) in rows {
-        let nested = nest(alloc, tokens_of(alloc, text)?)?;
-        assert_eq!(rt; nested.cursor().op_is(op), wanted);
+        let nested = nest(alloc, tokens_of(alloc, text.as_bytes())?)?;
+        assert_eq!(rt; nested.cursor().op_is(op.as_bytes()), wanted, "{text} {op}");
     }
     Ok(())
 }

@@ -1,5 +1,5 @@
 use Rattle.std.proofs.Common.{◌≡◌, [], Some, None, sym, ap, ◌∙◌}
-use Rattle.lay_nest.proofs.Machine.{Open, run, place, place-unbalanced, run-balanced, one_stop, stops, goes_on}
+use Rattle.lay_nest.proofs.Machine.{Open, place, place-unbalanced, run-balanced, one_stop, stops, goes_on}
 use Rattle.lay_nest.proofs.law.nesting_law.Goals as goal
 
 pub returns-clause-one_place : goal.returns-clause-one_place

@@ -1,4 +1,4 @@
-use Rattle.std.proofs.Common.{◌≡◌, sym, ap, ◌∙◌}
+use Rattle.std.proofs.Common.{sym, ap, ◌∙◌}
 use Rattle.std.specs.Option.{option_copied}
 use Rattle.lay_token.specs.Operators.{is_op, op_at}
 use Rattle.lay_nest.proofs.Fronts.{no_op, nothing}

@@ -1,4 +1,4 @@
-use Rattle.std.proofs.Common.{◌≡◌, sym, ap, ◌∙◌}
+use Rattle.std.proofs.Common.{sym, ap, ◌∙◌}
 use Rattle.std.specs.List.{slice_get}
 use Rattle.lay_nest.proofs.Fronts.{front_is, punct_is, same_first}
 use Rattle.lay_nest.proofs.operator.may_begin.Goals as goal

@@ -1,6 +1,5 @@
-use Rattle.std.proofs.Common.{◌≡◌, ◌∷◌, [], length, Some, List, sym, ap, ◌∙◌, arith, refl}
+use Rattle.std.proofs.Common.{◌≡◌, [], length, Some, sym, ap, ◌∙◌, arith, refl}
 use Rattle.std.proofs.lemmas.Option.{slice_get_read}
-use Rattle.lay_token.specs.declared.token.Token.{Token}
 use Rattle.lay_nest.proofs.Places.{last_open, below_tokens, opener_at, none_read, unclosed, all_closed, nil_by_length}
 use Rattle.lay_nest.proofs.partners.spans_of.Goals as goal
 

@@ -1,4 +1,4 @@
-use Rattle.std.proofs.Common.{◌≡◌, length, ap, sym, ◌∙◌, arith}
+use Rattle.std.proofs.Common.{length, ap, sym, ◌∙◌, arith}
 use Rattle.lay_token.specs.Delimiters.{tokens_of}
 use Rattle.lay_nest.specs.Ahead.{Last, tokens_ahead, spans_ahead}
 use Rattle.lay_nest.specs.Groups.{begins_group}

@@ -1,4 +1,4 @@
-use Rattle.std.proofs.Common.{◌≡◌, ◌<◌, length, ap, arith}
+use Rattle.std.proofs.Common.{◌<◌, length, ap, arith}
 use Rattle.lay_nest.proofs.Steps.{same_length, stepped}
 use Rattle.lay_nest.proofs.cursor.Cursor.step.Goals as goal
 

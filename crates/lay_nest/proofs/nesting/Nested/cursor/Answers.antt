@@ -1,4 +1,3 @@
-use Rattle.std.proofs.Common.{◌≡◌, ap, subst}
 use Rattle.lay_nest.proofs.Steps.{all_ahead}
 use Rattle.lay_nest.proofs.nesting.Nested.cursor.Goals as goal
 

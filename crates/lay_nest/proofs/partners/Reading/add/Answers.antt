@@ -1,4 +1,4 @@
-use Rattle.std.proofs.Common.{◌≡◌, ℕ, ◌+◌, ◌-◌, ◌++◌, ◌∷◌, [], length, true, false, List, Result, Ok, Some, None, ap, sym, ◌∙◌, subst, arith, refl, set, length-append}
+use Rattle.std.proofs.Common.{◌≡◌, ℕ, ◌+◌, ◌-◌, ◌++◌, ◌∷◌, [], length, true, false, List, Result, Ok, Some, ap, sym, ◌∙◌, subst, set}
 use Rattle.std.specs.Prelude.{OnOk}
 use Rattle.std.proofs.lemmas.List.{length_push, length-set}
 use Rattle.lay_token.specs.Delimiters.{is_opener, is_closer, is_pair}
