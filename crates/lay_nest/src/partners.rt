@@ -81,12 +81,11 @@ impl Reading {
         requires next { slice_get tokens.now (length self.old.spans.items) ≡ Some token.now }
         ensures { AddedAs tokens.now (length self.old.spans.items) self.new result }
     {
-        let added = match token.kind {
+        let kind = token.kind;
+        let added = match kind {
             Kind::Opener(_) => self.open(),
             Kind::Closer(_) => match self.places.pop() {
-                Some(place) if is_pair(token_at(tokens, place).kind, token.kind) => self.close(
-                    place,
-                ),
+                Some(place) if is_pair(token_at(tokens, place).kind, kind) => self.close(place),
                 _ => return Err(unbalanced(token)),
             },
             _ => self.pass(),

@@ -50,7 +50,7 @@ returns-in-Ok c =
     let spans = c.args.self.now.spans.items in
     let places = c.args.self.now.places.items in
     let t = c.args.token.now in
-    elim c.match-token.branch [
+    elim c.match-kind.branch [
       | in-Opener w ↦
           let ok = sym w.added-is ∙ c.in-Ok.is in
           rw w.self-is
