@@ -1,5 +1,5 @@
 -- Bytes have one answer at most, and with no fault the status is the one that the input's bytes have.
-use Rattle.std.proofs.Common.{◌≡◌, ◌<◌, ◌≤◌, ◌⊎◌, inl, inr, ℕ, List, length, Option, Some, Ok, Err, refl, sym, ap, ap₂, ◌∙◌, subst, IfSome, arith}
+use Rattle.std.proofs.Common.{◌≡◌, ◌<◌, ◌≤◌, ◌⊎◌, inl, inr, ℕ, List, [], length, Option, Some, None, Ok, Err, refl, sym, ap, ap₂, ◌∙◌, subst, IfSome, arith}
 use Rattle.lay_io.specs.Told.{TellsAs, GrewBy}
 use Rattle.lay_io.specs.Faults.{Rose}
 use Rattle.lay_io.specs.declared.outside.Which.{Which}
@@ -8,13 +8,15 @@ use Rattle.lay_token.specs.Lexes.{Lexes, NoTokenAt}
 use Rattle.lay_token.specs.declared.token.Token.{Token}
 use Rattle.lay_token.specs.declared.refusal.Refusal.{Refusal}
 use Rattle.lay_token.specs.declared.refusal.Refusal.TheVariants.{NotUtf8, NoToken, Unbalanced, NoItem}
+use Rattle.lay_token.specs.Delimiters.{Balanced, UnbalancedAt}
 use Rattle.lay_token.proofs.Unique as unique
-use Rattle.lay_front.specs.Grammar.{SpellsItems}
-use Rattle.lay_front.specs.Reading.{Reads, IsRefused, SpellOnly, ReadsOnlyTo}
-use Rattle.lay_front.specs.Layout.{out}
+use Rattle.lay_nest.proofs.Machine.{place, place-unbalanced, run-balanced}
+use Rattle.lay_tree.specs.Nodes.{out}
+use Rattle.lay_tree.specs.Reading.{Reads, IsRefused, IsBalanced, SpellsFile}
+use Rattle.lay_tree.specs.declared.tree.File.{File}
+use Rattle.lay_tree.proofs.ReaderComplete.{file_unique}
+use Rattle.lay_front.specs.Readings.{ReadsOnlyTo}
 use Rattle.lay_front.specs.Outcome.{FormatRun}
-use Rattle.lay_front.specs.declared.tree.File.{File}
-use Rattle.lay_front.specs.declared.tree.Item.{Item}
 use Rattle.lay_front.specs.declared.command.Status.{Status}
 use Rattle.lay_front.specs.declared.command.Status.TheVariants.{Done, Differs, Usage, ReadFailed, Refused, WriteFailed, TooLong, NoMemory}
 
@@ -34,45 +36,67 @@ same_tokens bytes a b ts us e h l m = unique.lexes_once b.text b.start ts us (le
 token_missing : (bytes : List ℕ) (a b : Source) (ts : List Token) (at : ℕ) → source bytes ≡ Ok a → source bytes ≡ Ok b → Lexes a.text a.start ts → NoTokenAt b.text b.start at → ⊥
 token_missing bytes a b ts at e h l m = unique.no_token_or_tokens b.text b.start at ts m (lexes_of bytes a b ts e h l)
 
--- the one file of bytes whose tokens spell these items and no others
-file_by : (file other : File) → other.shebang ≡ file.shebang → other.items ≡ file.items → other ≡ file
-file_by file other e h =
-    ap₂ (λ (s : Option (List ℕ)) (xs : List Item). let made : File = record { shebang = s; items = xs } in made) e h
+unbalanced_once : (ts : List Token) (at other : ℕ) → UnbalancedAt ts at → UnbalancedAt ts other → at ≡ other
+unbalanced_once ts at other u v =
+    let same : Some at ≡ Some other = sym (place-unbalanced ts at u) ∙ place-unbalanced ts other v in cc
 
-pub read_only : (bytes : List ℕ) (from : Source) (tokens : List Token) (file : File) → source bytes ≡ Ok from → from.shebang ≡ file.shebang
-    → Lexes from.text from.start tokens → SpellOnly tokens file.items → ReadsOnlyTo bytes file
-read_only bytes from tokens file e shebang lexes spells = record {
-  reads = (from, tokens, e, shebang, lexes, spells.spells);
+unbalanced_or_balanced : (ts : List Token) (at : ℕ) → UnbalancedAt ts at → Balanced ts → ⊥
+unbalanced_or_balanced ts at u b =
+    let both : Some at ≡ None = sym (place-unbalanced ts at u) ∙ ap place (run-balanced [] ts b) in cc
+
+-- Bytes whose tokens spell a file read to it, and to no other.
+pub read_only : (bytes : List ℕ) (from : Source) (tokens : List Token) (file : File) → source bytes ≡ Ok from → Lexes from.text from.start tokens
+    → Balanced tokens → file.shebang ≡ from.shebang → SpellsFile file tokens → ReadsOnlyTo bytes file
+read_only bytes from tokens file e lexes balanced shebang spells = record {
+  reads = record { from = from; tokens = tokens; text = e; shebang = sym shebang; lexes = lexes; balanced = balanced; spells = spells };
   only = λ other r.
-      let same : r.0 ≡ from = same_source bytes r.0 from r.2 e in
-      let lines : other.shebang ≡ file.shebang = sym r.3 ∙ ap (λ (s : Source). s.shebang) same ∙ shebang in
-      let one : r.1 ≡ tokens = same_tokens bytes r.0 from r.1 tokens r.2 e r.4 lexes in
-      file_by file other lines (spells.only other.items (subst (λ (ts : List Token). SpellsItems other.items ts) one r.5));
+      let line : other.shebang ≡ file.shebang = sym r.shebang ∙ ap (λ (s : Source). s.shebang) (same_source bytes r.from from r.text e) ∙ sym shebang in
+      let one : r.tokens ≡ tokens = same_tokens bytes r.from from r.tokens tokens r.text e r.lexes lexes in
+      let spelled : SpellsFile other tokens = subst (SpellsFile other) one r.spells in
+      file_unique other file tokens spelled.1 spelled.0.normal spells.1 spells.0.normal line;
 }
+
+-- Bytes whose tokens spell no file read to none.
+pub read_none : (bytes : List ℕ) (from : Source) (tokens : List Token) → source bytes ≡ Ok from → Lexes from.text from.start tokens
+    → ((file : File) → file.shebang ≡ from.shebang → SpellsFile file tokens → ⊥) → (file : File) → Reads bytes file → ⊥
+read_none bytes from tokens e lexes none file r =
+    none file (sym r.shebang ∙ ap (λ (s : Source). s.shebang) (same_source bytes r.from from r.text e))
+    (subst (SpellsFile file) (same_tokens bytes r.from from r.tokens tokens r.text e r.lexes lexes) r.spells)
+
+-- no bytes are balanced and unbalanced
+balanced_or_not : (bytes : List ℕ) (from other : Source) (ts us : List Token) (at : ℕ) → source bytes ≡ Ok from → source bytes ≡ Ok other
+    → Lexes from.text from.start ts → Lexes other.text other.start us → Balanced ts → UnbalancedAt us at → ⊥
+balanced_or_not bytes from other ts us at e h l m b u =
+    unbalanced_or_balanced us at u (subst Balanced (same_tokens bytes from other ts us e h l m) b)
 
 -- no bytes are read and refused
 pub read_or_refused : (bytes : List ℕ) (file : File) (refusal : Refusal) → Reads bytes file → IsRefused bytes refusal → ⊥
-read_or_refused bytes file (NotUtf8 at) r h = no_source bytes r.0 (NotUtf8 at) r.2 h
-read_or_refused bytes file (NoToken at) r h = token_missing bytes r.0 h.0 r.1 at r.2 h.1 r.4 h.2
-read_or_refused bytes file (Unbalanced at) r h = h
-read_or_refused bytes file (NoItem at) r h =
-    h.5 file.items (subst (λ (ts : List Token). SpellsItems file.items ts) (same_tokens bytes r.0 h.1 r.1 h.2 r.2 h.3 r.4 h.4) r.5)
+read_or_refused bytes file (NotUtf8 at) r h = no_source bytes r.from (NotUtf8 at) r.text h
+read_or_refused bytes file (NoToken at) r h = token_missing bytes r.from h.0 r.tokens at r.text h.1 r.lexes h.2
+read_or_refused bytes file (Unbalanced at) r h = balanced_or_not bytes r.from h.0 r.tokens h.1 at r.text h.2 r.lexes h.3 r.balanced h.4
+read_or_refused bytes file (NoItem at) r h = h.2 file r
 
 -- no bytes are refused twice
 pub refused_once : (bytes : List ℕ) (r s : Refusal) → IsRefused bytes r → IsRefused bytes s → r ≡ s
 refused_once bytes (NotUtf8 a) (NotUtf8 b) h k = cc
 refused_once bytes (NotUtf8 a) (NoToken b) h k = no_source bytes k.0 (NotUtf8 a) k.1 h
-refused_once bytes (NotUtf8 a) (Unbalanced b) h k = absurd k
-refused_once bytes (NotUtf8 a) (NoItem b) h k = no_source bytes k.1 (NotUtf8 a) k.3 h
+refused_once bytes (NotUtf8 a) (Unbalanced b) h k = no_source bytes k.0 (NotUtf8 a) k.2 h
+refused_once bytes (NotUtf8 a) (NoItem b) h k = no_source bytes k.1.from (NotUtf8 a) k.1.text h
 refused_once bytes (NoToken a) (NotUtf8 b) h k = no_source bytes h.0 (NotUtf8 b) h.1 k
 refused_once bytes (NoToken a) (NoToken b) h k =
     ap NoToken (unique.no_token_once k.0.text k.0.start a b (subst (λ (s : Source). NoTokenAt s.text s.start a) (same_source bytes h.0 k.0 h.1 k.1) h.2) k.2)
-refused_once bytes (NoToken a) (Unbalanced b) h k = absurd k
-refused_once bytes (NoToken a) (NoItem b) h k = absurd (token_missing bytes k.1 h.0 k.2 a k.3 h.1 k.4 h.2)
-refused_once bytes (Unbalanced a) s h k = absurd h
-refused_once bytes (NoItem a) (NotUtf8 b) h k = no_source bytes h.1 (NotUtf8 b) h.3 k
-refused_once bytes (NoItem a) (NoToken b) h k = absurd (token_missing bytes h.1 k.0 h.2 b h.3 k.1 h.4 k.2)
-refused_once bytes (NoItem a) (Unbalanced b) h k = absurd k
+refused_once bytes (NoToken a) (Unbalanced b) h k = absurd (token_missing bytes k.0 h.0 k.1 a k.2 h.1 k.3 h.2)
+refused_once bytes (NoToken a) (NoItem b) h k = absurd (token_missing bytes k.1.from h.0 k.1.tokens a k.1.text h.1 k.1.lexes h.2)
+refused_once bytes (Unbalanced a) (NotUtf8 b) h k = no_source bytes h.0 (NotUtf8 b) h.2 k
+refused_once bytes (Unbalanced a) (NoToken b) h k = absurd (token_missing bytes h.0 k.0 h.1 b h.2 k.1 h.3 k.2)
+refused_once bytes (Unbalanced a) (Unbalanced b) h k =
+    ap Unbalanced (unbalanced_once k.1 a b (subst (λ (ts : List Token). UnbalancedAt ts a) (same_tokens bytes h.0 k.0 h.1 k.1 h.2 k.2 h.3 k.3) h.4) k.4)
+refused_once bytes (Unbalanced a) (NoItem b) h k =
+    absurd (balanced_or_not bytes k.1.from h.0 k.1.tokens h.1 a k.1.text h.2 k.1.lexes h.3 k.1.balanced h.4)
+refused_once bytes (NoItem a) (NotUtf8 b) h k = no_source bytes h.1.from (NotUtf8 b) h.1.text k
+refused_once bytes (NoItem a) (NoToken b) h k = absurd (token_missing bytes h.1.from k.0 h.1.tokens b h.1.text k.1 h.1.lexes k.2)
+refused_once bytes (NoItem a) (Unbalanced b) h k =
+    absurd (balanced_or_not bytes h.1.from k.0 h.1.tokens k.1 b h.1.text k.2 h.1.lexes k.3 h.1.balanced k.4)
 refused_once bytes (NoItem a) (NoItem b) h k = ap NoItem (h.0 ∙ sym k.0)
 
 told_as : (told : Option (List ℕ)) (bytes all : List ℕ) → told ≡ Some bytes → TellsAs told all → bytes ≡ all

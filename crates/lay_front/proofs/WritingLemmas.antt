@@ -1,81 +1,103 @@
--- What was written so far and what waits are the first lines of a file.
-use Rattle.std.proofs.Common.{◌≡◌, ◌<◌, ◌+◌, ℕ, List, [], ◌∷◌, ◌++◌, length, take, drop, get_or, refl, sym, ◌∙◌, ap, Option, append_assoc, append-nil}
+-- What was written so far and what waits are the first lines of some parts, behind what waited at first.
+use Rattle.std.proofs.Common.{◌≡◌, ◌<◌, ◌+◌, ℕ, List, [], ◌∷◌, ◌++◌, map, length, take, drop, get_or, refl, sym, ◌∙◌, ap, Option, append_assoc, append-nil}
 use Rattle.std.specs.List.{flat_map}
 use Rattle.std.proofs.Math.Seq.{take-length}
 use Rattle.std.proofs.lemmas.List.{take-append-drop, take_more}
 use Rattle.std.proofs.lemmas.Grind.{flat_map-append}
 use Rattle.lay_io.specs.Told.{GrewBy, GrewByPrefix}
 use Rattle.lay_io.proofs.Growth.{grew_by-nothing, grew_by-more, grew_by_prefix-longer, grew_by_prefix-more}
-use Rattle.lay_token.specs.Document.{text_of}
-use Rattle.lay_front.specs.Layout.{out, item_line, shebang_line}
+use Rattle.lay_tree.specs.Form.{Form}
+use Rattle.lay_front.specs.Lines.{line, all_lines}
 use Rattle.lay_front.specs.Waiting.{Passed}
-use Rattle.lay_front.specs.declared.tree.File.{File}
-use Rattle.lay_front.specs.declared.tree.Item.{Item}
-use Rattle.lay_front.proofs.LayoutLemmas.{out_lines}
 
-abbrev pub line : Item → List ℕ
-line one = text_of (item_line one)
-
--- the first line and the lines of the first items
-abbrev pub lines_before : File → ℕ → List ℕ
-lines_before file i = shebang_line file.shebang ++ flat_map line (take i file.items)
-
-lines_more : (file : File) (i : ℕ) (one : Item) → i < length file.items → one ≡ get_or file.items i one → lines_before file (i + 1) ≡ lines_before file i ++ line one
-lines_more file i one within is =
-    ap (λ (xs : List Item). shebang_line file.shebang ++ flat_map line xs) (take_more file.items i one within ∙ ap (λ (x : Item). take i file.items ++ x ∷ []) (sym is))
-    ∙ ap (λ (t : List ℕ). shebang_line file.shebang ++ t) (flat_map-append line (take i file.items) (one ∷ []) ∙ ap (λ (t : List ℕ). flat_map line (take i file.items) ++ t) (append-nil (line one)))
-    ∙ sym (append_assoc (shebang_line file.shebang) (flat_map line (take i file.items)) (line one))
-
--- they begin the text of the file
-lines_begin : (file : File) (i : ℕ) (part : List ℕ) → lines_before file i ≡ part → out file ≡ part ++ flat_map line (drop i file.items)
-lines_begin file i part e =
-    out_lines file
-    ∙ ap (λ (t : List ℕ). shebang_line file.shebang ++ t) (ap (flat_map line) (sym (take-append-drop i file.items)) ∙ flat_map-append line (take i file.items) (drop i file.items))
-    ∙ sym (append_assoc (shebang_line file.shebang) (flat_map line (take i file.items)) (flat_map line (drop i file.items)))
-    ∙ ap (λ (t : List ℕ). t ++ flat_map line (drop i file.items)) e
-
--- Between the sink at first and the sink now, of the lines before item i a front was written, and the rest waits.
-abbrev pub IsWriting : Option (List ℕ) → Option (List ℕ) → File → ℕ → List ℕ → Type 0
-IsWriting before now file i waiting = Passed before now (lines_before file i) waiting
-
-pub writing-start : (before : Option (List ℕ)) (file : File) (waiting : List ℕ) → waiting ≡ shebang_line file.shebang → IsWriting before before file 0 waiting
-writing-start before file waiting e = record { front = []; grew = grew_by-nothing before; both = append-nil (shebang_line file.shebang) ∙ sym e }
-
--- one more item
-pub writing-more : (before middle now : Option (List ℕ)) (file : File) (i : ℕ) (waiting waiting' text : List ℕ) (one : Item) → IsWriting before middle file i waiting
-    → i < length file.items → one ≡ get_or file.items i one → text ≡ line one → Passed middle now (waiting ++ text) waiting' → IsWriting before now file (i + 1) waiting'
-writing-more before middle now file i waiting waiting' text one w within is same p = record {
+-- bytes that were passed, and then more behind what waits
+pub passed-more : (before middle now : Option (List ℕ)) (bytes more waiting waiting' : List ℕ) → Passed before middle bytes waiting
+    → Passed middle now (waiting ++ more) waiting' → Passed before now (bytes ++ more) waiting'
+passed-more before middle now bytes more waiting waiting' w p = record {
   front = w.front ++ p.front;
   grew = grew_by-more before middle now w.front p.front w.grew p.grew;
   both =
-      lines_more file i one within is
-      ∙ ap (λ (t : List ℕ). t ++ line one) w.both
-      ∙ ap (λ (t : List ℕ). (w.front ++ waiting) ++ t) (sym same)
-      ∙ append_assoc w.front waiting text
+      ap (λ (t : List ℕ). t ++ more) w.both
+      ∙ append_assoc w.front waiting more
       ∙ ap (λ (t : List ℕ). w.front ++ t) p.both
       ∙ sym (append_assoc w.front p.front waiting');
 }
 
--- where a prefix of what waits is written, a prefix of the whole is
-pub writing-stopped : (before middle now : Option (List ℕ)) (file : File) (i : ℕ) (waiting : List ℕ) → IsWriting before middle file i waiting
-    → GrewByPrefix middle now waiting → GrewByPrefix before now (out file)
-writing-stopped before middle now file i waiting w grew =
-    rw (lines_begin file i (w.front ++ waiting) w.both)
-    (grew_by_prefix-longer before now (w.front ++ waiting) (flat_map line (drop i file.items))
-    (grew_by_prefix-more before middle now w.front waiting w.grew grew))
+-- where a prefix of what waits is written, a prefix of the whole is, whatever follows
+pub passed-stopped : (before middle now : Option (List ℕ)) (bytes waiting more : List ℕ) → Passed before middle bytes waiting
+    → GrewByPrefix middle now waiting → GrewByPrefix before now (bytes ++ more)
+passed-stopped before middle now bytes waiting more w grew =
+    grew_by_prefix-longer before now bytes more
+    (rw w.both (grew_by_prefix-more before middle now w.front waiting w.grew grew))
 
--- so it is where an item more waits
-pub writing-failed : (before middle now : Option (List ℕ)) (file : File) (i : ℕ) (waiting text : List ℕ) (one : Item) → IsWriting before middle file i waiting
-    → i < length file.items → one ≡ get_or file.items i one → text ≡ line one → GrewByPrefix middle now (waiting ++ text) → GrewByPrefix before now (out file)
-writing-failed before middle now file i waiting text one w within is same grew =
-    let waits : Passed middle middle (waiting ++ text) (waiting ++ text) = record { front = []; grew = grew_by-nothing middle; both = refl } in
-    writing-stopped before middle now file (i + 1) (waiting ++ text)
-    (writing-more before middle middle file i waiting (waiting ++ text) text one w within is same waits) grew
+-- where all that waits is written, the whole is
+pub passed-whole : (before middle now : Option (List ℕ)) (bytes waiting : List ℕ) → Passed before middle bytes waiting
+    → GrewBy middle now waiting → GrewBy before now bytes
+passed-whole before middle now bytes waiting w grew = rw w.both (grew_by-more before middle now w.front waiting w.grew grew)
 
--- where all that waits behind the last item is written, the whole is
-pub writing-whole : (before middle now : Option (List ℕ)) (file : File) (i : ℕ) (waiting : List ℕ) → IsWriting before middle file i waiting
-    → i ≡ length file.items → GrewBy middle now waiting → GrewBy before now (out file)
-writing-whole before middle now file i waiting w end grew =
-    let all : out file ≡ w.front ++ waiting =
-    out_lines file ∙ ap (λ (xs : List Item). shebang_line file.shebang ++ flat_map line xs) (sym (take-length file.items) ∙ ap (λ (n : ℕ). take n file.items) (sym end)) ∙ w.both in
-    rw all (grew_by-more before middle now w.front waiting w.grew grew)
+-- nothing is written yet
+pub passed-nothing : (before : Option (List ℕ)) (bytes : List ℕ) → Passed before before bytes bytes
+passed-nothing before bytes = record { front = []; grew = grew_by-nothing before; both = refl }
+
+module _ {A : Type 0} (form : A → Form) where
+  -- the lines of the first parts
+  abbrev pub lines_to : List A → ℕ → List ℕ
+  lines_to xs i = all_lines (map form (take i xs))
+
+  map-append : (xs ys : List A) → map form (xs ++ ys) ≡ map form xs ++ map form ys
+  map-append [] ys = refl
+  map-append (x ∷ xs) ys = ap (λ (fs : List Form). form x ∷ fs) (map-append xs ys)
+
+  pub lines_to-more : (xs : List A) (i : ℕ) (x : A) → i < length xs → x ≡ get_or xs i x → lines_to xs (i + 1) ≡ lines_to xs i ++ line (form x)
+  lines_to-more xs i x within is =
+      ap (λ (ys : List A). all_lines (map form ys)) (take_more xs i x within ∙ ap (λ (y : A). take i xs ++ y ∷ []) (sym is))
+      ∙ ap all_lines (map-append (take i xs) (x ∷ []))
+      ∙ flat_map-append line (map form (take i xs)) (form x ∷ [])
+      ∙ ap (λ (t : List ℕ). lines_to xs i ++ t) (append-nil (line (form x)))
+
+  -- they begin the lines of all parts
+  pub lines_to-rest : (xs : List A) (i : ℕ) → lines_to xs i ++ all_lines (map form (drop i xs)) ≡ all_lines (map form xs)
+  lines_to-rest xs i =
+      sym (flat_map-append line (map form (take i xs)) (map form (drop i xs)))
+      ∙ ap all_lines (sym (map-append (take i xs) (drop i xs)) ∙ ap (map form) (take-append-drop i xs))
+
+  pub lines_to-all : (xs : List A) (i : ℕ) → i ≡ length xs → lines_to xs i ≡ all_lines (map form xs)
+  lines_to-all xs i e = ap (λ (n : ℕ). lines_to xs n) e ∙ ap (λ (ys : List A). all_lines (map form ys)) (take-length xs)
+
+  -- Of the bytes that waited at first and the lines before part i, a front was written, and the rest waits.
+  abbrev pub Turn : Option (List ℕ) → Option (List ℕ) → List ℕ → List A → ℕ → List ℕ → Type 0
+  Turn before now first xs i waiting = Passed before now (first ++ lines_to xs i) waiting
+
+  pub turn-start : (before : Option (List ℕ)) (first : List ℕ) (xs : List A) → Turn before before first xs 0 first
+  turn-start before first xs = record { front = []; grew = grew_by-nothing before; both = append-nil first }
+
+  pub turn-more : (before middle now : Option (List ℕ)) (first waiting waiting' text : List ℕ) (xs : List A) (i : ℕ) (x : A)
+      → Turn before middle first xs i waiting → i < length xs → x ≡ get_or xs i x → text ≡ line (form x)
+      → Passed middle now (waiting ++ text) waiting' → Turn before now first xs (i + 1) waiting'
+  turn-more before middle now first waiting waiting' text xs i x w within is same p =
+      let next : first ++ lines_to xs (i + 1) ≡ (first ++ lines_to xs i) ++ text =
+      ap (λ (t : List ℕ). first ++ t) (lines_to-more xs i x within is ∙ ap (λ (t : List ℕ). lines_to xs i ++ t) (sym same))
+      ∙ sym (append_assoc first (lines_to xs i) text) in
+      rw next (passed-more before middle now (first ++ lines_to xs i) text waiting waiting' w p)
+
+  whole_is : (first : List ℕ) (xs : List A) (i : ℕ) → (first ++ lines_to xs i) ++ all_lines (map form (drop i xs)) ≡ first ++ all_lines (map form xs)
+  whole_is first xs i = append_assoc first (lines_to xs i) (all_lines (map form (drop i xs))) ∙ ap (λ (t : List ℕ). first ++ t) (lines_to-rest xs i)
+
+  -- where a prefix of what waits is written, a prefix of the whole is
+  pub turn-stopped : (before middle now : Option (List ℕ)) (first waiting : List ℕ) (xs : List A) (i : ℕ)
+      → Turn before middle first xs i waiting → GrewByPrefix middle now waiting → GrewByPrefix before now (first ++ all_lines (map form xs))
+  turn-stopped before middle now first waiting xs i w grew =
+      rw (sym (whole_is first xs i)) (passed-stopped before middle now (first ++ lines_to xs i) waiting (all_lines (map form (drop i xs))) w grew)
+
+  -- so it is where a line more waits
+  pub turn-failed : (before middle now : Option (List ℕ)) (first waiting text : List ℕ) (xs : List A) (i : ℕ) (x : A)
+      → Turn before middle first xs i waiting → i < length xs → x ≡ get_or xs i x → text ≡ line (form x)
+      → GrewByPrefix middle now (waiting ++ text) → GrewByPrefix before now (first ++ all_lines (map form xs))
+  turn-failed before middle now first waiting text xs i x w within is same grew =
+      turn-stopped before middle now first (waiting ++ text) xs (i + 1)
+      (turn-more before middle middle first waiting (waiting ++ text) text xs i x w within is same (passed-nothing middle (waiting ++ text))) grew
+
+  pub turn-end : (before now : Option (List ℕ)) (first waiting : List ℕ) (xs : List A) (i : ℕ)
+      → Turn before now first xs i waiting → i ≡ length xs → Passed before now (first ++ all_lines (map form xs)) waiting
+  turn-end before now first waiting xs i w e =
+      rw (ap (λ (t : List ℕ). first ++ t) (sym (lines_to-all xs i e))) w

@@ -1,7 +1,4 @@
-pub mod Grammar
-pub mod Reading
-pub mod Notation
-pub mod Layout
-pub mod ReadingFunction
+pub mod Lines
 pub mod Outcome
+pub mod Readings
 pub mod Waiting

@@ -3,9 +3,10 @@ use Rattle.std.specs.Prelude.{ℕ, ◌≡◌, ◌<◌, ◌≤◌, ◌⊎◌, Lis
 use Rattle.lay_io.specs.Told.{TellsAs, GrewBy, GrewByPrefix}
 use Rattle.lay_io.specs.Faults.{Rose}
 use Rattle.lay_io.specs.declared.outside.Which.{Which}
-use Rattle.lay_front.specs.Reading.{IsRefused, ReadsOnlyTo}
-use Rattle.lay_front.specs.Layout.{out}
-use Rattle.lay_front.specs.declared.tree.File.{File}
+use Rattle.lay_tree.specs.Reading.{IsRefused}
+use Rattle.lay_front.specs.Readings.{ReadsOnlyTo}
+use Rattle.lay_tree.specs.Nodes.{out}
+use Rattle.lay_tree.specs.declared.tree.File.{File}
 use Rattle.lay_front.specs.declared.format.IntoError.{IntoError}
 use Rattle.lay_front.specs.declared.format.IntoError.TheVariants as into
 use Rattle.lay_front.specs.declared.command.Status.{Status}

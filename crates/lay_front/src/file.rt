@@ -1,15 +1,15 @@
 //! From bytes to the tree of a file.
-ghost use Rattle.lay_front.specs.Reading.{ReadAs};
+ghost use Rattle.lay_front.specs.Readings.{ReadAs};
 
-use crate::reader::items_of;
-use crate::tree::File;
 use lay_lex::{lex, normalise};
-use lay_token::{FormatError, NoMemory, Refusal};
+use lay_nest::nest;
+use lay_token::FormatError;
+use lay_tree::File;
 use std::alloc::Global;
 
 /// The one file that the bytes read to, or their refusal: bytes that are no UTF-8, a place where there is no
-/// token, or tokens that spell no items.
-pub fn read_file(alloc: Global, bytes: &[u8]) -> Result<File, FormatError>
+/// token, a delimiter without a partner, or tokens that spell no file.
+pub fn read_bytes(alloc: Global, bytes: &[u8]) -> Result<File, FormatError>
     ensures { ReadAs bytes.now result }
 {
     let source = match normalise(alloc, bytes) {
@@ -20,12 +20,9 @@ pub fn read_file(alloc: Global, bytes: &[u8]) -> Result<File, FormatError>
         Ok(tokens) => tokens,
         Err(error) => return Err(error),
     };
-    match items_of(alloc, tokens.as_slice()) {
-        Ok(Some(items)) => Ok(File {
-            shebang: source.shebang,
-            items,
-        }),
-        Ok(None) => Err(FormatError::Refused(Refusal::NoItem { at: 0 })),
-        Err(NoMemory) => Err(FormatError::NoMemory),
-    }
+    let nested = match nest(alloc, tokens) {
+        Ok(nested) => nested,
+        Err(error) => return Err(error),
+    };
+    lay_read_code::read_file(alloc, &nested, source.shebang)
 }

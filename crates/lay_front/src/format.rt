@@ -1,17 +1,19 @@
 //! From bytes to laid-out bytes in a sink.
-ghost use Rattle.std.specs.Prelude.{◌≡◌, ◌≤◌, [], ◌++◌, IfOk, OnOk, OnErr, IsErrOf};
+ghost use Rattle.std.specs.Prelude.{◌≡◌, ◌≤◌, [], ◌++◌, map, IfOk, OnOk, OnErr, IsErrOf};
 ghost use Rattle.lay_io.specs.Faults.{HasCause, Rose};
 ghost use Rattle.lay_io.specs.Told.{GrewBy, GrewByPrefix};
 ghost use Rattle.lay_io.specs.Calls.{Puts};
-ghost use Rattle.lay_front.specs.Layout.{out as text_of_file, shebang_line};
+ghost use Rattle.lay_tree.specs.Nodes.{attr_form, form_of_item, out as text_of_file};
+ghost use Rattle.lay_front.specs.Lines.{all_lines, line, shebang_line};
 ghost use Rattle.lay_front.specs.Outcome.{Formats};
 ghost use Rattle.lay_front.specs.Waiting.{Passed};
 
-use crate::file::read_file;
-use crate::layout::item_text;
-use crate::tree::File;
+use crate::file::read_bytes;
 use lay_io::{Failed, Sink};
-use lay_token::{FormatError, NoMemory, Refusal};
+use lay_out_code::{HARD_BREAK, put_attr, put_item};
+use lay_stream::{Emit, Stream, plain};
+use lay_token::{FormatError, NoMemory, Refusal, Text};
+use lay_tree::{Attr, File, Item};
 use std::alloc::Global;
 
 /// Why a text wasn't written whole.
@@ -41,7 +43,7 @@ pub fn format_into<K: Sink>(alloc: Global, bytes: &[u8], out: &mut K) -> Result<
     ensures later { K.faults out.old ≤ K.faults out.new }
     ensures formats { Formats K.written K.faults bytes.now out.old out.new result }
 {
-    let file = match read_file(alloc, bytes) {
+    let file = match read_bytes(alloc, bytes) {
         Ok(file) => file,
         Err(FormatError::Refused(refusal)) => return Err(IntoError::Refused(refusal)),
         Err(FormatError::NoMemory) => return Err(IntoError::NoMemory),
@@ -64,19 +66,84 @@ fn write_file<K: Sink>(alloc: Global, file: &File, out: &mut K) -> Result<(), Wr
         Ok(line) => line,
         Err(NoMemory) => return Err(WriteError::NoMemory),
     };
-    for item in file.items.as_slice() {
-        let text = match item_text(alloc, item) {
-            Ok(text) => text,
-            Err(NoMemory) => return Err(WriteError::NoMemory),
-        };
-        if let Err(error) = write_behind(&mut waiting, text.as_bytes(), out) {
-            return Err(error);
-        }
+    if let Err(error) = write_attrs(alloc, &mut waiting, file.attrs.as_slice(), out) {
+        return Err(error);
+    }
+    if let Err(error) = write_items(alloc, &mut waiting, file.items.as_slice(), out) {
+        return Err(error);
     }
     match write_waiting(&mut waiting, out) {
         Ok(()) => Ok(()),
         Err(Failed) => Err(WriteError::WriteFailed),
     }
+}
+
+/// Lets the lines of attributes wait behind what waits, and writes what is enough for a piece.
+fn write_attrs<K: Sink>(
+    alloc: Global,
+    waiting: &mut Vec<u8>,
+    attrs: &[Attr],
+    out: &mut K,
+) -> Result<(), WriteError>
+    ensures later { K.faults out.old ≤ K.faults out.new }
+    ensures passed { OnOk result (Passed (K.written out.old) (K.written out.new) (waiting.old.items ++ all_lines (map attr_form attrs.now)) waiting.new.items) }
+    ensures part { OnErr result (GrewByPrefix (K.written out.old) (K.written out.new) (waiting.old.items ++ all_lines (map attr_form attrs.now))) }
+    ensures cause { IsErrOf result WriteError.WriteFailed → Rose (K.faults out.old) (K.faults out.new) }
+{
+    for attr in attrs {
+        let text = match attr_text(alloc, attr) {
+            Ok(text) => text,
+            Err(NoMemory) => return Err(WriteError::NoMemory),
+        };
+        if let Err(error) = write_behind(waiting, text.as_bytes(), out) {
+            return Err(error);
+        }
+    }
+    Ok(())
+}
+
+/// Lets the lines of items wait behind what waits, and writes what is enough for a piece.
+fn write_items<K: Sink>(
+    alloc: Global,
+    waiting: &mut Vec<u8>,
+    items: &[Item],
+    out: &mut K,
+) -> Result<(), WriteError>
+    ensures later { K.faults out.old ≤ K.faults out.new }
+    ensures passed { OnOk result (Passed (K.written out.old) (K.written out.new) (waiting.old.items ++ all_lines (map form_of_item items.now)) waiting.new.items) }
+    ensures part { OnErr result (GrewByPrefix (K.written out.old) (K.written out.new) (waiting.old.items ++ all_lines (map form_of_item items.now))) }
+    ensures cause { IsErrOf result WriteError.WriteFailed → Rose (K.faults out.old) (K.faults out.new) }
+{
+    for item in items {
+        let text = match item_text(alloc, item) {
+            Ok(text) => text,
+            Err(NoMemory) => return Err(WriteError::NoMemory),
+        };
+        if let Err(error) = write_behind(waiting, text.as_bytes(), out) {
+            return Err(error);
+        }
+    }
+    Ok(())
+}
+
+/// The text of an attribute that stands on a line of its own.
+fn attr_text(alloc: Global, attr: &Attr) -> Result<Text, NoMemory>
+    ensures { IfOk result (λ text. text ≡ line (attr_form attr.now)) }
+{
+    let mut stream = Stream::new(alloc);
+    put_attr(&mut stream, attr)?;
+    stream.brk(HARD_BREAK)?;
+    plain(alloc, &stream)
+}
+
+/// The text of an item that stands on lines of its own.
+fn item_text(alloc: Global, item: &Item) -> Result<Text, NoMemory>
+    ensures { IfOk result (λ text. text ≡ line (form_of_item item.now)) }
+{
+    let mut stream = Stream::new(alloc);
+    put_item(&mut stream, item)?;
+    stream.brk(HARD_BREAK)?;
+    plain(alloc, &stream)
 }
 
 /// The first line of a file, if it is a shebang.

@@ -44,7 +44,45 @@ fn files(rt: HostRuntime) -> Result<(), Fail> {
             "mod a{mod b{struct C;}}",
             "mod a {\n    mod b {\n        struct C;\n    }\n}\n",
         ),
+        ("mod a{#![x]//!y\n}", "mod a {\n    #![x]\n    //!y\n}\n"),
+        (
+            "#[x]mod a{//!y\n#[z]struct B;}",
+            "#[x]\nmod a {\n    //!y\n    #[z]\n    struct B;\n}\n",
+        ),
         ("use {};", "use {};\n"),
+        ("use*;", "use *;\n"),
+        (
+            "use a as b;use a as _;use::a::*;",
+            "use a as b;\nuse a as _;\nuse ::a::*;\n",
+        ),
+        (
+            "use crate::{self as a,r#fn,super::*,};",
+            "use crate::{self as a, r#fn, super::*};\n",
+        ),
+        // Documentation has many spellings, of which its text has one.
+        ("/** one */struct A;", "/// one\nstruct A;\n"),
+        ("#[doc=\" one\"]struct A;", "/// one\nstruct A;\n"),
+        ("#[doc=r#\" one\"#]struct A;", "/// one\nstruct A;\n"),
+        ("/// one\nstruct A;", "/// one\nstruct A;\n"),
+        ("#[doc=\"/x\"]struct A;", "#[doc = \"/x\"]\nstruct A;\n"),
+        ("#![doc=\"/x\"]", "//!/x\n"),
+        ("//!a\n#[x]struct A;", "//!a\n#[x]\nstruct A;\n"),
+        ("/** a\nb */struct A;", "/** a\nb */\nstruct A;\n"),
+        (
+            "/** a\nb */mod c{/*! d\ne*/}",
+            "/** a\nb */\nmod c {\n    /*! d\ne*/\n}\n",
+        ),
+        ("#[doc=\"a\\r\"]struct A;", "#[doc = \"a\\r\"]\nstruct A;\n"),
+        ("#[doc=\"a\"b]struct A;", "#[doc = \"a\"b]\nstruct A;\n"),
+        ("#[doc=b\"a\"]struct A;", "#[doc = b\"a\"]\nstruct A;\n"),
+        (
+            "#[doc]#[r#doc=\"a\"]#[::doc=\"a\"]struct A;",
+            "#[doc]\n#[r#doc = \"a\"]\n#[::doc = \"a\"]\nstruct A;\n",
+        ),
+        (
+            "# ! [a::b = 1.] # [unsafe] use c;",
+            "#![a::b = 1.]\n#[unsafe]\nuse c;\n",
+        ),
         ("use a::{b,c,};", "use a::{b, c};\n"),
         ("use a::{b::{c,d},b};", "use a::{b::{c, d}, b};\n"),
         // A line of 89 columns, and one of 90 that is broken.
@@ -69,9 +107,12 @@ fn files(rt: HostRuntime) -> Result<(), Fail> {
         ("struct \u{fc}ber;", "struct \u{fc}ber;\n"),
     ];
     for (given, text) in rows {
-        let (answer, written) = quiet(alloc, &[], list(alloc, given.as_bytes())?)?;
-        assert_eq!(rt; answer, Status::Done, "{given}");
-        assert_eq!(rt; written.as_bytes(), text.as_bytes(), "{given}");
+        // The text is its own text.
+        for bytes in [given, text] {
+            let (answer, written) = quiet(alloc, &[], list(alloc, bytes.as_bytes())?)?;
+            assert_eq!(rt; answer, Status::Done, "{given}");
+            assert_eq!(rt; written.as_bytes(), text.as_bytes(), "{given}");
+        }
     }
     Ok(())
 }
@@ -89,9 +130,33 @@ fn refusals(rt: HostRuntime) -> Result<(), Fail> {
         (b"struct _;".as_slice(), no_item),
         (b"struct fn;".as_slice(), no_item),
         (b"struct A;;".as_slice(), no_item),
-        (b"/// x\nstruct A;".as_slice(), no_item),
-        (b"mod a{".as_slice(), no_item),
-        (b"mod a}".as_slice(), no_item),
+        (b"/// x".as_slice(), no_item),
+        (b"#[x]".as_slice(), no_item),
+        (b"#[x]mod a{#[y]}".as_slice(), no_item),
+        (b"struct A;//! x".as_slice(), no_item),
+        (b"struct A;#![x]".as_slice(), no_item),
+        (b"/// x\n//! y\nstruct A;".as_slice(), no_item),
+        (b"#[]struct A;".as_slice(), no_item),
+        (b"#[x=]struct A;".as_slice(), no_item),
+        (b"#[x==1]struct A;".as_slice(), no_item),
+        (b"#[x 1]struct A;".as_slice(), no_item),
+        (b"#[x=y]struct A;".as_slice(), no_item),
+        (b"#[fn]struct A;".as_slice(), no_item),
+        (b"#[a::]struct A;".as_slice(), no_item),
+        (b"#(x)struct A;".as_slice(), no_item),
+        (b"use a as;".as_slice(), no_item),
+        (b"use a as crate;".as_slice(), no_item),
+        (b"use a as b::c;".as_slice(), no_item),
+        (b"use *::a;".as_slice(), no_item),
+        (b"use {a}::b;".as_slice(), no_item),
+        (b"mod a{".as_slice(), Refusal::Unbalanced { at: 5 }),
+        (b"mod a}".as_slice(), Refusal::Unbalanced { at: 5 }),
+        (b"fn f( { }".as_slice(), Refusal::Unbalanced { at: 4 }),
+        (b"fn f( { )".as_slice(), Refusal::Unbalanced { at: 8 }),
+        (b"}".as_slice(), Refusal::Unbalanced { at: 0 }),
+        (b"(".as_slice(), Refusal::Unbalanced { at: 0 }),
+        (b"[{}](])".as_slice(), Refusal::Unbalanced { at: 5 }),
+        (b"// x\r\n(((]]\"".as_slice(), Refusal::NoToken { at: 10 }),
         (b"use a::{,};".as_slice(), no_item),
         (b"use a::{b,,c};".as_slice(), no_item),
         (b"use a::;".as_slice(), no_item),
@@ -134,7 +199,14 @@ fn depths(rt: HostRuntime) -> Result<(), Fail> {
         (nested(alloc, 256)?, Status::Done),
         (nested(alloc, 257)?, refused),
         (nested(alloc, 10_000)?, refused),
-        (repeated(alloc, b"{", 100_000)?, refused),
+        (
+            repeated(alloc, b"{", 100_000)?,
+            Status::Refused(Refusal::Unbalanced { at: 99_999 }),
+        ),
+        (
+            repeated(alloc, b"}", 100_000)?,
+            Status::Refused(Refusal::Unbalanced { at: 0 }),
+        ),
     ];
     for (given, status) in rows {
         let mut inputs = QuietInputs::new(List::from_vec(given), List::new(alloc));
