@@ -102,7 +102,7 @@ global_left ts = by_test (is_op (codes "::") ts) refl
 
 -- ---- names and words
 
-name_left : (ts : Tokens) → Leaves 1 ts (name ts)
+pub name_left : (ts : Tokens) → Leaves 1 ts (name ts)
 unfolding name
 name_left [] = tt
 name_left (t ∷ ts) = by_name (name_by t.kind t.text)

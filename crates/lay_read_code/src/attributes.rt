@@ -5,7 +5,7 @@ ghost use Rattle.lay_tree.specs.declared.tree.MetaInput.TheVariants as input;
 ghost use Rattle.lay_tree.specs.Reader as reader;
 ghost use Rattle.lay_tree.specs.Reader.{first};
 ghost use Rattle.lay_tree.specs.Written.{is_doc_path, is_doc_text, is_literal_kind};
-ghost use Rattle.lay_read_code.specs.Answers.{IsGot, IsMade, Strings, meta_rest};
+ghost use Rattle.lay_read_code.specs.Answers.{IsGot, IsMade, Strings, meta_rest, bare_rest, value_rest};
 
 use crate::front::{
     is_at_mark, pass, takes_close_bracket, takes_colons, takes_keyword, takes_mark, takes_op,
@@ -180,29 +180,48 @@ fn read_meta_input(
     requires { Strings at.old }
     ensures { IsGot (meta_rest inner path at.old) result at.new }
 {
-    if !takes_op(at, b"=") {
-        return if takes_close_bracket(at) {
-            Ok(Attr::Meta {
-                inner,
-                path,
-                input: MetaInput::Bare,
-            })
-        } else {
-            Err(Stop::NoReading)
-        };
+    if takes_op(at, b"=") {
+        read_value(alloc, at, inner, path)
+    } else {
+        read_bare(at, inner, path)
     }
+}
+
+/// The closing bracket of an attribute that is given nothing.
+fn read_bare(at: &mut Cursor<'_>, inner: bool, path: MetaPath) -> Result<Attr, Stop>
+    ensures { IsGot (bare_rest inner path at.old) result at.new }
+{
+    if takes_close_bracket(at) {
+        Ok(Attr::Meta {
+            inner,
+            path,
+            input: MetaInput::Bare,
+        })
+    } else {
+        Err(Stop::NoReading)
+    }
+}
+
+/// The literal that an attribute is given, and its closing bracket.
+fn read_value(
+    alloc: Global,
+    at: &mut Cursor<'_>,
+    inner: bool,
+    path: MetaPath,
+) -> Result<Attr, Stop>
+    requires { Strings at.old }
+    ensures { IsGot (value_rest inner path at.old) result at.new }
+{
     let token = match at.peek(0) {
-        Some(token) => token,
-        None => return Err(Stop::NoReading),
+        Some(token) if is_literal(token) => token,
+        _ => return Err(Stop::NoReading),
     };
-    if !is_literal(token) {
-        return Err(Stop::NoReading);
-    }
     pass(at);
-    if !takes_close_bracket(at) {
-        return Err(Stop::NoReading);
+    if takes_close_bracket(at) {
+        made(alloc, inner, path, token)
+    } else {
+        Err(Stop::NoReading)
     }
-    made(alloc, inner, path, token)
 }
 
 /// Whether the token is a literal.

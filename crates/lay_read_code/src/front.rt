@@ -3,6 +3,7 @@ ghost use Rattle.std.specs.Prelude.{◌≡◌, ◌&&◌, if◌then◌else◌, dr
 ghost use Rattle.lay_token.specs.Operators.{is_op};
 ghost use Rattle.lay_tree.specs.Reader as reader;
 ghost use Rattle.lay_tree.specs.Reader.{first, tail};
+ghost use Rattle.lay_read_code.specs.Answers.{is_underscore};
 
 use lay_nest::Cursor;
 use lay_token::{Delim, Kind, Token};
@@ -140,6 +141,21 @@ pub fn takes_close_bracket(at: &mut Cursor<'_>) -> bool
 {
     let found = match at.peek(0) {
         Some(token) => matches!(token.kind, Kind::Closer(Delim::Bracket)),
+        None => false,
+    };
+    if found {
+        pass(at);
+    }
+    found
+}
+
+/// Passes a `_`, if it stands at the front.
+pub fn takes_underscore(at: &mut Cursor<'_>) -> bool
+    ensures found { result ≡ first is_underscore at.old }
+    ensures passed { at.new ≡ (if result then tail at.old else at.old) }
+{
+    let found = match at.peek(0) {
+        Some(token) => matches!(token.kind, Kind::Underscore),
         None => false,
     };
     if found {

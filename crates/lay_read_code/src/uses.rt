@@ -5,12 +5,12 @@ ghost use Rattle.lay_read_code.specs.Answers.{IsGot};
 
 use crate::front::{
     takes_close_brace, takes_colons, takes_element_end, takes_keyword, takes_op, takes_open_brace,
+    takes_underscore,
 };
-use crate::front::pass;
 use crate::names::{read_name, read_word, read_words};
 use crate::stop::{Stop, keep};
 use lay_nest::Cursor;
-use lay_token::{Kind, List};
+use lay_token::List;
 use lay_tree::{Rename, UseEnd, UseTree};
 use std::alloc::Global;
 
@@ -82,16 +82,10 @@ fn read_rename(alloc: Global, at: &mut Cursor<'_>) -> Result<Option<Rename>, Sto
 }
 
 /// A name, or `_`.
-#[tactic(auto, unfolding(lay_tree::specs::Reader::other_name, lay_tree::specs::Reader::name))]
 fn read_other_name(alloc: Global, at: &mut Cursor<'_>) -> Result<Rename, Stop>
     ensures { IsGot (reader.other_name at.old) result at.new }
 {
-    let token = match at.peek(0) {
-        Some(token) => token,
-        None => return Err(Stop::NoReading),
-    };
-    if matches!(token.kind, Kind::Underscore) {
-        pass(at);
+    if takes_underscore(at) {
         return Ok(Rename::Underscore);
     }
     let name = read_name(alloc, at)?;
