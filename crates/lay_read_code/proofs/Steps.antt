@@ -66,6 +66,25 @@ pub rest_bare : (inner : Bool) (path : MetaPath) (ts : Tokens) → is_op (codes 
 unfolding meta_input
 rest_bare inner path ts h = rw h refl
 
+module _ (inner : Bool) (path : MetaPath) where
+  pub value_none : (ts : Tokens) → None ≡ slice_get ts 0 → value_rest inner path ts ≡ None
+  unfolding literal
+  value_none [] h = refl
+  value_none (t ∷ ts) h = absurd (cc)
+
+  pub value_other : (ts : Tokens) (t : Token) → Some t ≡ slice_get ts 0 → is_literal_kind t.kind ≡ false → value_rest inner path ts ≡ None
+  unfolding literal
+  value_other ts t h k = rw (front_is ts t h, k) refl
+
+  pub value_open : (ts : Tokens) (t : Token) → Some t ≡ slice_get ts 0 → is_literal_kind t.kind ≡ true → first closes_bracket (tail ts) ≡ false → value_rest inner path ts ≡ None
+  unfolding literal
+  value_open ts t h k e = rw (front_is ts t h, k, e) refl
+
+  pub value_some : (ts : Tokens) (t : Token) → Some t ≡ slice_get ts 0 → is_literal_kind t.kind ≡ true → first closes_bracket (tail ts) ≡ true
+      → value_rest inner path ts ≡ Some (made inner path (input.Value (record { kind = t.kind; text = t.text })), tail (tail ts))
+  unfolding literal
+  value_some ts t h k e = rw (front_is ts t h, k, e) refl
+
 -- ---- use trees
 
 name_both : (o : Option Name) (ts : Tokens)
@@ -88,10 +107,16 @@ pub other_underscore : (ts : Tokens) → first is_underscore ts ≡ true → oth
 other_underscore [] h = absurd (cc)
 other_underscore (t ∷ ts) h = underscore_kind t.kind t ts h
 
-pub other_is_name : (ts : Tokens) → first is_underscore ts ≡ false → other_name ts ≡ (name ts >>= (λ n. Some (rename.Name n.0, n.1)))
+other_is_name : (ts : Tokens) → first is_underscore ts ≡ false → other_name ts ≡ (name ts >>= (λ n. Some (rename.Name n.0, n.1)))
 unfolding other_name name
 other_is_name [] h = refl
 other_is_name (t ∷ ts) h = other_kind t.kind t ts h
+
+pub other_none : (ts : Tokens) → first is_underscore ts ≡ false → name ts ≡ None → other_name ts ≡ None
+other_none ts h n = other_is_name ts h ∙ rw n refl
+
+pub other_some : (ts : Tokens) (one : Name) (rest : Tokens) → first is_underscore ts ≡ false → name ts ≡ Some (one, rest) → other_name ts ≡ Some (rename.Name one, rest)
+other_some ts one rest h n = other_is_name ts h ∙ rw n refl
 
 -- ---- depths
 

@@ -6,7 +6,7 @@ use Rattle.lay_tree.specs.Reader.{Tokens, Got, ◌>>=◌, closes_brace, first, t
 use Rattle.lay_tree.specs.declared.tree.Attr.{Attr}
 use Rattle.lay_tree.specs.declared.tree.Segment.{Segment}
 use Rattle.lay_tree.specs.declared.tree.Word.{Word}
-use Rattle.lay_read_code.specs.Answers.{IsGot}
+use Rattle.lay_read_code.specs.Answers.{IsGot, IsMade}
 use Rattle.lay_read_code.specs.declared.stop.Stop.{Stop}
 use Rattle.lay_read_code.specs.declared.stop.Stop.TheVariants.{NoReading, NoMemory}
 use Rattle.lay_read_code.proofs.Left.{Leaves, shorter, op_read, word_left, path_word_left, attribute_left}
@@ -176,3 +176,8 @@ lost inner outer NoMemory left after h f = tt
 
 pub got_by : {A : Type 0} (a b : Got A) (r : Result A Stop) (left : Tokens) → a ≡ b → IsGot b r left → IsGot a r left
 got_by a b r left e h = rw e h
+
+pub got_made : {A : Type 0} (got : Got A) (value : A) (answer : Result A Stop) (left : Tokens) → got ≡ Some (value, left) → IsMade value answer → IsGot got answer left
+got_made got value (Ok a) left e h = rw h e
+got_made got value (Err NoReading) left e h = absurd h
+got_made got value (Err NoMemory) left e h = tt

@@ -213,9 +213,12 @@ fn read_value(
     ensures { IsGot (value_rest inner path at.old) result at.new }
 {
     let token = match at.peek(0) {
-        Some(token) if is_literal(token) => token,
-        _ => return Err(Stop::NoReading),
+        Some(token) => token,
+        None => return Err(Stop::NoReading),
     };
+    if !is_literal(token) {
+        return Err(Stop::NoReading);
+    }
     pass(at);
     if takes_close_bracket(at) {
         made(alloc, inner, path, token)

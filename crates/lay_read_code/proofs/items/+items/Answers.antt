@@ -1,6 +1,7 @@
-use Rattle.std.proofs.Common.{◌≡◌, ◌-◌, ◌<◌, Some, sym, ap, ◌∙◌, arith}
+use Rattle.std.proofs.Common.{◌≡◌, ◌-◌, ◌<◌, true, false, Some, sym, ap, ◌∙◌, arith, rules}
 use Rattle.std.proofs.lemmas.Result.{err_from_is_err_and}
 use Rattle.lay_tree.specs.Reader.{name, opens_brace, attributes, all, use_at, kind_by, item_by, item_at}
+use Rattle.lay_read_code.specs.Answers.{Strings}
 use Rattle.lay_read_code.proofs.Left.{attributes_left, item_left, shorter, name_left}
 use Rattle.lay_read_code.proofs.Steps.{item_step, item_none, item_some}
 use Rattle.lay_read_code.proofs.Strings.{strings_behind, strings_tail}
@@ -8,7 +9,9 @@ use Rattle.lay_read_code.proofs.Turns.{all-start, all-step, all-end, all-none, l
 use Rattle.lay_read_code.proofs.items.+items.Goals as goal
 
 pub read_item-read_kind-requires : goal.read_item-read_kind-requires
-read_item-read_kind-requires t c = ?
+read_item-read_kind-requires t c =
+    let ts = c.args.at.now in
+    (search rules, strings_behind 0 ts (attributes false ts) c.in_ok-attrs.attrs c.read_attrs.new.at (attributes_left false ts) c.in_ok-attrs.ensures c.requires)
 
 pub read_item-returns-in_err-kind : goal.read_item-returns-in_err-kind
 read_item-returns-in_err-kind t c =
@@ -28,7 +31,7 @@ read_item-returns t c =
     ∙ item_some within tree c.args.at.now c.in_ok-attrs.attrs c.read_attrs.new.at c.in_ok-kind.kind c.read_kind.new.at c.in_ok-attrs.ensures c.in_ok-kind.ensures
 
 pub read_items-loop-alloc-init : goal.read_items-loop-alloc-init
-read_items-loop-alloc-init t c = record { turn = rw c.new-items.ensures (all-start (item_at c.args.depth) c.args.at.now); strings = ? }
+read_items-loop-alloc-init t c = record { turn = rw c.new-items.ensures (all-start (item_at c.args.depth) c.args.at.now); strings = c.requires }
 
 pub read_items-returns-in_err-item : goal.read_items-returns-in_err-item
 read_items-returns-in_err-item t c =
@@ -60,7 +63,15 @@ read_items-returns t c =
     all-end within (all within c.args.at.now) c.loop-alloc.items c.loop-alloc.at c.loop-alloc.invariant.turn (sym c.loop-alloc-test.ensures)
 
 pub read_module-read_attrs-requires : goal.read_module-read_attrs-requires
-read_module-read_attrs-requires t c = ?
+read_module-read_attrs-requires t c =
+    let ts = c.args.at.now in
+    let mid = c.read_name.new.at in
+    rw c.if-not-takes_open_brace.ensures.passed (strings_tail mid (strings_behind 1 ts (name ts) c.in_ok-name.name mid (name_left ts) c.in_ok-name.ensures c.requires))
 
 pub read_module-read_items-requires : goal.read_module-read_items-requires
-read_module-read_items-requires t c = ?
+read_module-read_items-requires t c =
+    let ts = c.args.at.now in
+    let mid = c.read_name.new.at in
+    let inside = c.takes_open_brace.new.at in
+    let before : Strings inside = rw c.if-not-takes_open_brace.ensures.passed (strings_tail mid (strings_behind 1 ts (name ts) c.in_ok-name.name mid (name_left ts) c.in_ok-name.ensures c.requires)) in
+    (search rules, strings_behind 0 inside (attributes true inside) c.in_ok-attrs.attrs c.read_attrs.new.at (attributes_left true inside) c.in_ok-attrs.ensures before)

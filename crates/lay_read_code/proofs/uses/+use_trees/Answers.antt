@@ -48,14 +48,14 @@ pub read_use-returns-in_err-end : goal.read_use-returns-in_err-end
 read_use-returns-in_err-end t c =
     let some : 0 < c.args.depth = omega arith in
     let within = use_at (c.args.depth - 1) in
-    let step = use_step c.args.depth c.args.at.now c.takes_colons.result c.takes_colons.new.at some c.takes_colons.ensures.found c.takes_colons.ensures.passed in
+    let step = use_step c.args.depth c.args.at.now c.takes_colons-global.result c.takes_colons-global.new.at some c.takes_colons-global.ensures.found c.takes_colons-global.ensures.passed in
     let p = err_from_is_err_and c.from_residual-in_err-end.result c.from_residual-in_err-end.ensures.1 in
     rw (p.1, p.2) (lost (use_end_by within c.read_words.new.at) (use_at c.args.depth c.args.at.now) c.in_err-end.field-0.0 c.read_use_end.new.at c.read_use_end.new.at c.in_err-end.ensures
-    (λ none. step ∙ use_none within c.takes_colons.result c.takes_colons.new.at c.in_ok-path.path c.read_words.new.at c.in_ok-path.ensures none))
+    (λ none. step ∙ use_none within c.takes_colons-global.result c.takes_colons-global.new.at c.in_ok-path.path c.read_words.new.at c.in_ok-path.ensures none))
 
 pub read_use-returns : goal.read_use-returns
 read_use-returns t c =
     let some : 0 < c.args.depth = omega arith in
     let within = use_at (c.args.depth - 1) in
-    use_step c.args.depth c.args.at.now c.takes_colons.result c.takes_colons.new.at some c.takes_colons.ensures.found c.takes_colons.ensures.passed
-    ∙ use_some within c.takes_colons.result c.takes_colons.new.at c.in_ok-path.path c.read_words.new.at c.in_ok-end.end c.read_use_end.new.at c.in_ok-path.ensures c.in_ok-end.ensures
+    use_step c.args.depth c.args.at.now c.takes_colons-global.result c.takes_colons-global.new.at some c.takes_colons-global.ensures.found c.takes_colons-global.ensures.passed
+    ∙ use_some within c.takes_colons-global.result c.takes_colons-global.new.at c.in_ok-path.path c.read_words.new.at c.in_ok-end.end c.read_use_end.new.at c.in_ok-path.ensures c.in_ok-end.ensures
