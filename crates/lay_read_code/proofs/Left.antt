@@ -1,0 +1,333 @@
+-- What reading leaves: the tokens behind those that are read.
+use Rattle.std.proofs.Common.{◌≡◌, ℕ, zero, suc, ◌+◌, ◌<◌, ◌≤◌, Bool, true, false, List, [], ◌∷◌, ◌++◌, length, drop, codes, Option, Some, None, refl, sym, ap, ◌∙◌, if◌then◌else◌, arith}
+use Rattle.std.proofs.lemmas.List.{drop-drop, length-drop}
+use Rattle.lay_token.specs.Operators.{op_at, is_op}
+use Rattle.lay_token.specs.declared.token.Kind.{Kind}
+use Rattle.lay_token.specs.declared.token.Kind.TheVariants.{Underscore}
+use Rattle.lay_token.specs.declared.token.Token.{Token}
+use Rattle.lay_tree.specs.Reader.{Tokens, Got, ◌>>=◌, is_keyword, closes_brace, opens_brace, opens_bracket, closes_bracket, first, tail, passed, either, global, name_by, name, word_by, word, path_word, words_from, words, segments_from, simple_path, meta_name, literal, meta_input, behind_opening, meta_attr, doc_attr, is_doc, attribute, begins_attr, attrs_from, attributes, is_mark, element_end, group_from, group, ends_items, all_from, all, other_name, renamed, use_word, use_end_by, use_by, use_at, struct_item, module_by, import_by, kind_by, item_by, item_at}
+use Rattle.lay_tree.specs.Written.{is_literal_kind, is_doc_text}
+use Rattle.lay_tree.specs.declared.tree.Name.{Name}
+use Rattle.lay_tree.specs.declared.tree.Word.{Word}
+use Rattle.lay_tree.specs.declared.tree.Segment.{Segment}
+use Rattle.lay_tree.specs.declared.tree.Attr.{Attr}
+use Rattle.lay_tree.specs.declared.tree.Rename.TheVariants as rename
+use Rattle.lay_tree.specs.declared.tree.UseTree.{UseTree}
+use Rattle.lay_tree.specs.declared.tree.Item.{Item}
+
+-- The rest stands behind at least n tokens.
+pub record Left (n : ℕ) (ts rest : Tokens) : Type 0 where
+  pub count : ℕ
+  pub dropped : rest ≡ drop count ts
+  pub fewer : n + length rest ≤ length ts
+
+-- What reading leaves, if it gives anything, stands behind at least n tokens.
+abbrev pub Leaves : {A : Type 0} → ℕ → Tokens → Got A → Type 0
+Leaves n ts None = Unit {0}
+Leaves n ts (Some got) = Left n ts got.1
+
+-- the same of what leaves tokens and gives nothing else
+abbrev pub Passes : ℕ → Tokens → Option Tokens → Type 0
+Passes n ts None = Unit {0}
+Passes n ts (Some rest) = Left n ts rest
+
+pub unread : (ts : Tokens) → Left 0 ts ts
+unread ts = record { count = 0; dropped = refl; fewer = omega arith }
+
+one_read : (t : Token) (ts : Tokens) → Left 1 (t ∷ ts) ts
+one_read t ts = record { count = 1; dropped = refl; fewer = omega arith }
+
+joined : (k m n : ℕ) (ts mid rest : Tokens) → k ≤ m + n → Left m ts mid → Left n mid rest → Left k ts rest
+joined k m n ts mid rest e a b = record {
+  count = a.count + b.count;
+  dropped = b.dropped ∙ ap (drop b.count) a.dropped ∙ drop-drop b.count a.count ts;
+  fewer = omega (arith, a.fewer, b.fewer);
+}
+
+-- ---- steps
+
+further : {A : Type 0} (k m n : ℕ) (ts mid : Tokens) (o : Got A) → k ≤ m + n → Left m ts mid → Leaves n mid o → Leaves k ts o
+further k m n ts mid None e a b = tt
+further k m n ts mid (Some got) e a b = joined k m n ts mid got.1 e a b
+
+passes_further : (k m n : ℕ) (ts mid : Tokens) (o : Option Tokens) → k ≤ m + n → Left m ts mid → Passes n mid o → Passes k ts o
+passes_further k m n ts mid None e a b = tt
+passes_further k m n ts mid (Some rest) e a b = joined k m n ts mid rest e a b
+
+chain : {A B : Type 0} (k m n : ℕ) (ts : Tokens) (o : Got A) (f : A × Tokens → Got B) → k ≤ m + n → Leaves m ts o
+    → ((got : A × Tokens) → Leaves n got.1 (f got)) → Leaves k ts (o >>= f)
+chain k m n ts None f e a b = tt
+chain k m n ts (Some got) f e a b = further k m n ts got.1 (f got) e a (b got)
+
+chain_passed : {B : Type 0} (k m n : ℕ) (ts : Tokens) (o : Option Tokens) (f : Tokens → Got B) → k ≤ m + n → Passes m ts o
+    → ((rest : Tokens) → Leaves n rest (f rest)) → Leaves k ts (o >>= f)
+chain_passed k m n ts None f e a b = tt
+chain_passed k m n ts (Some rest) f e a b = further k m n ts rest (f rest) e a (b rest)
+
+passed_twice : (k m n : ℕ) (ts : Tokens) (o : Option Tokens) (f : Tokens → Option Tokens) → k ≤ m + n → Passes m ts o
+    → ((rest : Tokens) → Passes n rest (f rest)) → Passes k ts (o >>= f)
+passed_twice k m n ts None f e a b = tt
+passed_twice k m n ts (Some rest) f e a b = passes_further k m n ts rest (f rest) e a (b rest)
+
+choice : {A : Type 0} (n : ℕ) (ts : Tokens) (b : Bool) (x y : Got A) → (b ≡ true → Leaves n ts x) → Leaves n ts y
+    → Leaves n ts (if b then x else y)
+choice n ts true x y p q = p refl
+choice n ts false x y p q = q
+
+-- ---- the front
+
+first_read : (p : Token → Bool) (ts : Tokens) → first p ts ≡ true → Left 1 ts (tail ts)
+first_read p [] h = absurd (cc)
+first_read p (t ∷ ts) h = one_read t ts
+
+pub passed_left : (p : Token → Bool) (ts : Tokens) → Passes 1 ts (passed p ts)
+passed_left p [] = tt
+passed_left p (t ∷ ts) = by_test (p t)
+  where
+    by_test : (b : Bool) → Passes 1 (t ∷ ts) (if b then Some ts else None)
+    by_test true = one_read t ts
+    by_test false = tt
+
+pub op_read : (op : List ℕ) (n : ℕ) (ts : Tokens) → is_op op ts ≡ true → Left 1 ts (drop (suc n) ts)
+unfolding op_at
+op_read op n [] h = absurd (cc)
+op_read op n (t ∷ ts) h = record { count = suc n; dropped = refl; fewer = omega (arith, length-drop n ts) }
+
+global_left : (ts : Tokens) → Left 0 ts (global ts).1
+global_left ts = by_test (is_op (codes "::") ts) refl
+  where
+    by_test : (b : Bool) → is_op (codes "::") ts ≡ b → (let pair : Bool × Tokens = if b then (true, drop 2 ts) else (false, ts) in Left 0 ts pair.1)
+    by_test true h = joined 0 1 0 ts (drop 2 ts) (drop 2 ts) (omega arith) (op_read (codes "::") 1 ts h) (unread (drop 2 ts))
+    by_test false h = unread ts
+
+-- ---- names and words
+
+pub name_left : (ts : Tokens) → Leaves 1 ts (name ts)
+unfolding name
+name_left [] = tt
+name_left (t ∷ ts) = by_name (name_by t.kind t.text)
+  where
+    by_name : (o : Option Name) → Leaves 1 (t ∷ ts) (o >>= (λ n. Some (n, ts)))
+    by_name None = tt
+    by_name (Some n) = one_read t ts
+
+pub word_left : (ts : Tokens) → Leaves 1 ts (word ts)
+unfolding word
+word_left [] = tt
+word_left (t ∷ ts) = by_word (word_by t.kind t.text)
+  where
+    by_word : (o : Option Word) → Leaves 1 (t ∷ ts) (o >>= (λ w. Some (w, ts)))
+    by_word None = tt
+    by_word (Some w) = one_read t ts
+
+pub path_word_left : (ts : Tokens) → Leaves 1 ts (path_word ts)
+unfolding path_word
+path_word_left ts = chain 1 1 0 ts (word ts) _ (omega arith) (word_left ts) (λ w. ended w.0 w.1)
+  where
+    ended : (w : Word) (mid : Tokens) → Leaves 0 mid (if is_op (codes "::") mid then Some (w, drop 2 mid) else None)
+    ended w mid = choice 0 mid (is_op (codes "::") mid) (Some (w, drop 2 mid)) None
+        (λ h. further 0 1 0 mid (drop 2 mid) (Some (w, drop 2 mid)) (omega arith) (op_read (codes "::") 1 mid h) (unread (drop 2 mid))) tt
+
+words_step : (found : List Word) (ts : Tokens) (o : Got Word) (more : Word × Tokens → Got (List Word)) → Leaves 1 ts o
+    → ((one : Word × Tokens) → Leaves 0 one.1 (more one)) → Leaves 0 ts (either o (Some (found, ts)) more)
+words_step found ts None more a b = unread ts
+words_step found ts (Some one) more a b = further 0 1 0 ts one.1 (more one) (omega arith) a (b one)
+
+words_from_left : (n : ℕ) (found : List Word) (ts : Tokens) → Leaves 0 ts (words_from n found ts)
+unfolding words_from
+words_from_left zero found ts = tt
+words_from_left (suc n) found ts = words_step found ts (path_word ts) _ (path_word_left ts) (λ one. words_from_left n _ one.1)
+
+words_left : (ts : Tokens) → Leaves 0 ts (words ts)
+unfolding words
+words_left ts = words_from_left (suc (length ts)) [] ts
+
+-- ---- attributes
+
+segments_from_left : (n : ℕ) (found : List Segment) (ts : Tokens) → Leaves 0 ts (segments_from n found ts)
+unfolding segments_from
+segments_from_left zero found ts = tt
+segments_from_left (suc n) found ts = choice 0 ts (is_op (codes "::") ts) _ _
+    (λ h. further 0 1 0 ts (drop 2 ts) _ (omega arith) (op_read (codes "::") 1 ts h)
+        (chain 0 1 0 (drop 2 ts) (word (drop 2 ts)) _ (omega arith) (word_left (drop 2 ts)) (λ w. segments_from_left n _ w.1)))
+    (unread ts)
+
+simple_path_left : (ts : Tokens) → Leaves 1 ts (simple_path ts)
+unfolding simple_path
+simple_path_left ts = further 1 0 1 ts (global ts).1 _ (omega arith) (global_left ts)
+    (chain 1 1 0 (global ts).1 (word (global ts).1) _ (omega arith) (word_left (global ts).1)
+        (λ w. chain 0 0 0 w.1 (segments_from (suc (length w.1)) (record { word = w.0 } ∷ []) w.1) _ (omega arith) (segments_from_left _ _ w.1) (λ s. unread s.1)))
+
+pub meta_name_left : (ts : Tokens) → Leaves 1 ts (meta_name ts)
+unfolding meta_name
+meta_name_left ts = choice 1 ts (first (is_keyword (codes "unsafe")) ts) _ _ (λ h. first_read (is_keyword (codes "unsafe")) ts h)
+    (chain 1 1 0 ts (simple_path ts) _ (omega arith) (simple_path_left ts) (λ path. unread path.1))
+
+literal_left : (ts : Tokens) → Leaves 1 ts (literal ts)
+unfolding literal
+literal_left [] = tt
+literal_left (t ∷ ts) = choice 1 (t ∷ ts) (is_literal_kind t.kind) _ None (λ h. one_read t ts) tt
+
+meta_input_left : (ts : Tokens) → Leaves 0 ts (meta_input ts)
+unfolding meta_input
+meta_input_left ts = choice 0 ts (is_op (codes "=") ts) _ _
+    (λ h. further 0 1 0 ts (drop 1 ts) _ (omega arith) (op_read (codes "=") 0 ts h)
+        (chain 0 1 0 (drop 1 ts) (literal (drop 1 ts)) _ (omega arith) (literal_left (drop 1 ts)) (λ l. unread l.1)))
+    (unread ts)
+
+pub opening_left : (inner : Bool) (ts : Tokens) → Passes 1 ts (behind_opening inner ts)
+opening_left false ts = passed_twice 1 1 1 ts (passed (is_mark (codes "#")) ts) _ (omega arith) (passed_left (is_mark (codes "#")) ts) (λ mark. passed_left opens_bracket mark)
+opening_left true ts = passed_twice 1 1 1 ts (passed (is_mark (codes "#")) ts) _ (omega arith) (passed_left (is_mark (codes "#")) ts)
+    (λ mark. passed_twice 1 1 1 mark (passed (is_mark (codes "!")) mark) _ (omega arith) (passed_left (is_mark (codes "!")) mark) (λ bang. passed_left opens_bracket bang))
+
+meta_attr_left : (inner : Bool) (ts : Tokens) → Leaves 1 ts (meta_attr inner ts)
+unfolding meta_attr
+meta_attr_left inner ts = chain_passed 1 1 1 ts (behind_opening inner ts) _ (omega arith) (opening_left inner ts)
+    (λ inside. chain 1 1 0 inside (meta_name inside) _ (omega arith) (meta_name_left inside)
+        (λ path. chain 0 0 0 path.1 (meta_input path.1) _ (omega arith) (meta_input_left path.1)
+            (λ given. chain_passed 0 1 0 given.1 (passed closes_bracket given.1) _ (omega arith) (passed_left closes_bracket given.1) unread)))
+
+doc_attr_left : (inner : Bool) (ts : Tokens) → Leaves 1 ts (doc_attr inner ts)
+unfolding doc_attr
+doc_attr_left inner [] = tt
+doc_attr_left inner (t ∷ ts) = choice 1 (t ∷ ts) (is_doc_text inner t.text) _ None (λ h. one_read t ts) tt
+
+pub attribute_left : (inner : Bool) (ts : Tokens) → Leaves 1 ts (attribute inner ts)
+unfolding attribute
+attribute_left inner ts = choice 1 ts (first (is_doc inner) ts) _ _ (λ h. doc_attr_left inner ts) (meta_attr_left inner ts)
+
+attrs_from_left : (inner : Bool) (n : ℕ) (found : List Attr) (ts : Tokens) → Leaves 0 ts (attrs_from inner n found ts)
+unfolding attrs_from
+attrs_from_left inner zero found ts = tt
+attrs_from_left inner (suc n) found ts = choice 0 ts (begins_attr inner ts) _ _
+    (λ h. chain 0 1 0 ts (attribute inner ts) _ (omega arith) (attribute_left inner ts) (λ a. attrs_from_left inner n _ a.1))
+    (unread ts)
+
+pub attributes_left : (inner : Bool) (ts : Tokens) → Leaves 0 ts (attributes inner ts)
+unfolding attributes
+attributes_left inner ts = attrs_from_left inner (suc (length ts)) [] ts
+
+-- ---- lists
+
+pub element_end_left : (ts : Tokens) → Passes 0 ts (element_end ts)
+element_end_left [] = tt
+element_end_left (t ∷ ts) = by_test (is_mark (codes ",") t) (closes_brace t)
+  where
+    by_test : (comma close : Bool) → Passes 0 (t ∷ ts) (if comma then Some ts else (if close then Some (t ∷ ts) else None))
+    by_test true close = record { count = 1; dropped = refl; fewer = omega arith }
+    by_test false true = unread (t ∷ ts)
+    by_test false false = tt
+
+module _ {A : Type 0} (element : Tokens → Got A) (element_left : (ts : Tokens) → Leaves 1 ts (element ts)) where
+  group_from_left : (n : ℕ) (found : List A) (ts : Tokens) → Leaves 1 ts (group_from element n found ts)
+  unfolding group_from
+  group_from_left zero found ts = tt
+  group_from_left (suc n) found ts = choice 1 ts (first closes_brace ts) _ _ (λ h. first_read closes_brace ts h)
+      (chain 1 1 0 ts (element ts) _ (omega arith) (element_left ts)
+          (λ x. chain_passed 0 0 1 x.1 (element_end x.1) _ (omega arith) (element_end_left x.1) (λ behind. group_from_left n _ behind)))
+
+  group_left : (ts : Tokens) → Leaves 1 ts (group element ts)
+  unfolding group
+  group_left ts = group_from_left (suc (length ts)) [] ts
+
+  all_from_left : (n : ℕ) (found : List A) (ts : Tokens) → Leaves 0 ts (all_from element n found ts)
+  unfolding all_from
+  all_from_left zero found ts = tt
+  all_from_left (suc n) found ts = choice 0 ts (ends_items ts) _ _ (λ h. unread ts)
+      (chain 0 1 0 ts (element ts) _ (omega arith) (element_left ts) (λ x. all_from_left n _ x.1))
+
+  all_left : (ts : Tokens) → Leaves 0 ts (all element ts)
+  unfolding all
+  all_left ts = all_from_left (suc (length ts)) [] ts
+
+-- ---- use trees
+
+other_kind_left : (kind : Kind) (t : Token) (ts : Tokens) → Leaves 1 (record t { kind = kind } ∷ ts) (other_name (record t { kind = kind } ∷ ts))
+unfolding other_name
+other_kind_left Underscore t ts = one_read (record t { kind = Underscore }) ts
+other_kind_left kind t ts = by_name (name_by kind t.text)
+  where
+    by_name : (o : Option Name) → Leaves 1 (record t { kind = kind } ∷ ts) (o >>= (λ n. Some (rename.Name n, ts)))
+    by_name None = tt
+    by_name (Some n) = one_read (record t { kind = kind }) ts
+
+other_name_left : (ts : Tokens) → Leaves 1 ts (other_name ts)
+unfolding other_name
+other_name_left [] = tt
+other_name_left (t ∷ ts) = other_kind_left t.kind t ts
+
+renamed_left : (ts : Tokens) → Leaves 0 ts (renamed ts)
+unfolding renamed
+renamed_left ts = choice 0 ts (first (is_keyword (codes "as")) ts) _ _
+    (λ h. further 0 1 1 ts (tail ts) _ (omega arith) (first_read (is_keyword (codes "as")) ts h)
+        (chain 1 1 0 (tail ts) (other_name (tail ts)) _ (omega arith) (other_name_left (tail ts)) (λ r. unread r.1)))
+    (unread ts)
+
+use_word_left : (ts : Tokens) → Leaves 1 ts (use_word ts)
+use_word_left ts = chain 1 1 0 ts (word ts) _ (omega arith) (word_left ts) (λ w. chain 0 0 0 w.1 (renamed w.1) _ (omega arith) (renamed_left w.1) (λ r. unread r.1))
+
+module _ (within : Tokens → Got UseTree) (within_left : (ts : Tokens) → Leaves 1 ts (within ts)) where
+  use_end_left : (ts : Tokens) → Leaves 1 ts (use_end_by within ts)
+  use_end_left ts = choice 1 ts (first opens_brace ts) _ _
+      (λ h. further 1 1 1 ts (tail ts) _ (omega arith) (first_read opens_brace ts h)
+          (chain 1 1 0 (tail ts) (group within (tail ts)) _ (omega arith) (group_left within within_left (tail ts)) (λ trees. unread trees.1)))
+      (choice 1 ts (is_op (codes "*") ts) _ _ (λ h. op_read (codes "*") 0 ts h) (use_word_left ts))
+
+  use_by_left : (ts : Tokens) → Leaves 1 ts (use_by within ts)
+  use_by_left ts = further 1 0 1 ts (global ts).1 _ (omega arith) (global_left ts)
+      (chain 1 0 1 (global ts).1 (words (global ts).1) _ (omega arith) (words_left (global ts).1)
+          (λ path. chain 1 1 0 path.1 (use_end_by within path.1) _ (omega arith) (use_end_left path.1) (λ end. unread end.1)))
+
+pub use_left : (depth : ℕ) (ts : Tokens) → Leaves 1 ts (use_at depth ts)
+unfolding use_at
+use_left zero ts = tt
+use_left (suc depth) ts = use_by_left (use_at depth) (use_left depth) ts
+
+-- ---- items
+
+struct_left : (ts : Tokens) → Leaves 1 ts (struct_item ts)
+unfolding struct_item
+struct_left ts = chain 1 1 1 ts (name ts) _ (omega arith) (name_left ts)
+    (λ n. chain_passed 1 1 0 n.1 (passed (is_mark (codes ";")) n.1) _ (omega arith) (passed_left (is_mark (codes ";")) n.1) unread)
+
+import_left : (tree : Tokens → Got UseTree) → ((ts : Tokens) → Leaves 1 ts (tree ts)) → (ts : Tokens) → Leaves 1 ts (import_by tree ts)
+unfolding import_by
+import_left tree tree_left ts = chain 1 1 1 ts (tree ts) _ (omega arith) (tree_left ts)
+    (λ t. chain_passed 1 1 0 t.1 (passed (is_mark (codes ";")) t.1) _ (omega arith) (passed_left (is_mark (codes ";")) t.1) unread)
+
+module _ (within : Tokens → Got Item) (within_left : (ts : Tokens) → Leaves 1 ts (within ts)) where
+  module_left : (ts : Tokens) → Leaves 1 ts (module_by within ts)
+  unfolding module_by
+  module_left ts = chain 1 1 1 ts (name ts) _ (omega arith) (name_left ts)
+      (λ n. chain_passed 1 1 0 n.1 (passed opens_brace n.1) _ (omega arith) (passed_left opens_brace n.1)
+          (λ inside. chain 0 0 0 inside (attributes true inside) _ (omega arith) (attributes_left true inside)
+              (λ attrs. chain 0 0 0 attrs.1 (all within attrs.1) _ (omega arith) (all_left within within_left attrs.1)
+                  (λ items. chain_passed 0 1 0 items.1 (passed closes_brace items.1) _ (omega arith) (passed_left closes_brace items.1) unread))))
+
+  module _ (tree : Tokens → Got UseTree) (tree_left : (ts : Tokens) → Leaves 1 ts (tree ts)) where
+    kind_left : (ts : Tokens) → Leaves 1 ts (kind_by within tree ts)
+    unfolding kind_by
+    kind_left ts = choice 1 ts (first (is_keyword (codes "struct")) ts) _ _
+        (λ h. further 1 1 1 ts (tail ts) _ (omega arith) (first_read (is_keyword (codes "struct")) ts h) (struct_left (tail ts)))
+        (choice 1 ts (first (is_keyword (codes "mod")) ts) _ _
+            (λ h. further 1 1 1 ts (tail ts) _ (omega arith) (first_read (is_keyword (codes "mod")) ts h) (module_left (tail ts)))
+            (choice 1 ts (first (is_keyword (codes "use")) ts) _ None
+                (λ h. further 1 1 1 ts (tail ts) _ (omega arith) (first_read (is_keyword (codes "use")) ts h) (import_left tree tree_left (tail ts)))
+                tt))
+
+    item_by_left : (ts : Tokens) → Leaves 1 ts (item_by within tree ts)
+    item_by_left ts = chain 1 0 1 ts (attributes false ts) _ (omega arith) (attributes_left false ts)
+        (λ attrs. chain 1 1 0 attrs.1 (kind_by within tree attrs.1) _ (omega arith) (kind_left attrs.1) (λ kind. unread kind.1))
+
+pub item_left : (depth : ℕ) (ts : Tokens) → Leaves 1 ts (item_at depth ts)
+unfolding item_at
+item_left zero ts = tt
+item_left (suc depth) ts = item_by_left (item_at depth) (item_left depth) (use_at depth) (use_left depth) ts
+
+-- ---- what is left, where something is read
+
+pub left_by : {A : Type 0} (n : ℕ) (ts : Tokens) (got : Got A) (x : A) (rest : Tokens) → Leaves n ts got → got ≡ Some (x, rest) → Left n ts rest
+left_by n ts got x rest a e = rw e at a
+
+pub shorter : {A : Type 0} (ts : Tokens) (got : Got A) (x : A) (rest : Tokens) → Leaves 1 ts got → got ≡ Some (x, rest) → length rest < length ts
+shorter ts got x rest a e = omega (arith, (left_by 1 ts got x rest a e).fewer)

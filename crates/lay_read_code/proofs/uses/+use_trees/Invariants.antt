@@ -1,0 +1,19 @@
+use Rattle.std.proofs.Common.{◌+◌, ◌*◌, length}
+use Rattle.lay_tree.specs.Reader.{group, use_at}
+use Rattle.lay_read_code.proofs.Turns.{GroupTurn}
+use Rattle.lay_read_code.proofs.uses.+use_trees.Given as goal
+
+abbrev pub decreases-read_group : goal.decreases-read_group
+decreases-read_group l = 3 * l.depth + 1
+
+abbrev pub decreases-read_use : goal.decreases-read_use
+decreases-read_use l = 3 * l.depth
+
+abbrev pub decreases-read_use_end : goal.decreases-read_use_end
+decreases-read_use_end l = 3 * l.depth + 2
+
+abbrev pub invariant-read_group-loop-alloc : goal.invariant-read_group-loop-alloc
+invariant-read_group-loop-alloc l = GroupTurn (use_at l.depth) (group (use_at l.depth) l.fn.at) l.trees l.at
+
+abbrev pub decreases-read_group-loop-alloc : goal.decreases-read_group-loop-alloc
+decreases-read_group-loop-alloc l = length l.at

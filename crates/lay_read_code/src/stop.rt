@@ -1,0 +1,36 @@
+//! Why a reader stops.
+ghost use Rattle.std.specs.Prelude.{◌≡◌, ◌++◌, ◌∷◌, [], OnOk, IfErr};
+ghost use Rattle.lay_read_code.specs.Answers.{IsCopy};
+
+use lay_token::{List, NoMemory, Text};
+use std::alloc::Global;
+
+/// Why nothing was read.
+#[derive(Clone, Copy, Debug)]
+pub enum Stop {
+    /// The tokens ahead spell nothing of the kind.
+    NoReading,
+    /// Memory was not found, which says nothing of the tokens.
+    NoMemory,
+}
+
+/// Adds an item at the end.
+pub fn keep<T: Drop>(list: &mut List<T>, item: T) -> Result<(), Stop>
+    ensures ok { OnOk result (list.new ≡ list.old ++ item ∷ []) }
+    ensures err { IfErr result (λ stop. stop ≡ Stop.NoMemory) }
+{
+    match list.push(item) {
+        Ok(()) => Ok(()),
+        Err(_) => Err(Stop::NoMemory),
+    }
+}
+
+/// The text once more, on its own.
+pub fn copy_of(alloc: Global, text: &Text) -> Result<Text, Stop>
+    ensures { IsCopy text.now result }
+{
+    match Text::from_bytes(alloc, text.as_bytes()) {
+        Ok(copy) => Ok(copy),
+        Err(NoMemory) => Err(Stop::NoMemory),
+    }
+}
