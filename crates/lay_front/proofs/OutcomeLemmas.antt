@@ -1,5 +1,5 @@
 -- Bytes have one answer at most, and with no fault the status is the one that the input's bytes have.
-use Rattle.std.proofs.Common.{◌≡◌, ◌<◌, ◌≤◌, ◌⊎◌, inl, inr, ℕ, List, [], length, Option, Some, None, Ok, Err, refl, sym, ap, ap₂, ◌∙◌, subst, IfSome, arith}
+use Rattle.std.proofs.Common.{◌≡◌, ◌<◌, ◌≤◌, ◌⊎◌, inl, inr, ℕ, List, [], length, Option, Some, None, Result, Ok, Err, refl, sym, ap, ap₂, ◌∙◌, subst, IfSome, arith}
 use Rattle.lay_io.specs.Told.{TellsAs, GrewBy}
 use Rattle.lay_io.specs.Faults.{Rose}
 use Rattle.lay_io.specs.declared.outside.Which.{Which}
@@ -15,7 +15,10 @@ use Rattle.lay_tree.specs.Nodes.{out}
 use Rattle.lay_tree.specs.Reading.{Reads, IsRefused, IsBalanced, SpellsFile}
 use Rattle.lay_tree.specs.declared.tree.File.{File}
 use Rattle.lay_tree.proofs.ReaderComplete.{file_unique}
-use Rattle.lay_front.specs.Readings.{ReadsOnlyTo}
+use Rattle.lay_token.specs.declared.refusal.FormatError.{FormatError}
+use Rattle.lay_token.specs.declared.refusal.FormatError.TheVariants as error
+use Rattle.lay_read_code.specs.Answers.{FileAs}
+use Rattle.lay_front.specs.Readings.{ReadsOnlyTo, ReadAs}
 use Rattle.lay_front.specs.Outcome.{FormatRun}
 use Rattle.lay_front.specs.declared.command.Status.{Status}
 use Rattle.lay_front.specs.declared.command.Status.TheVariants.{Done, Differs, Usage, ReadFailed, Refused, WriteFailed, TooLong, NoMemory}
@@ -62,6 +65,21 @@ pub read_none : (bytes : List ℕ) (from : Source) (tokens : List Token) → sou
 read_none bytes from tokens e lexes none file r =
     none file (sym r.shebang ∙ ap (λ (s : Source). s.shebang) (same_source bytes r.from from r.text e))
     (subst (SpellsFile file) (same_tokens bytes r.from from r.tokens tokens r.text e r.lexes lexes) r.spells)
+
+-- what a reader of nested tokens answers is what a reader of their bytes does
+pub read_as : (bytes : List ℕ) (from : Source) (tokens nested : List Token) (answer : Result File FormatError) → source bytes ≡ Ok from
+    → Lexes from.text from.start tokens → nested ≡ tokens → Balanced tokens → FileAs nested from.shebang answer → ReadAs bytes answer
+read_as bytes from tokens nested (Ok file) e lexes same balanced h =
+    read_only bytes from tokens file e lexes balanced h.0 (subst (SpellsFile file) same h.1)
+read_as bytes from tokens nested (Err (error.Refused (NotUtf8 at))) e lexes same balanced h = absurd h
+read_as bytes from tokens nested (Err (error.Refused (NoToken at))) e lexes same balanced h = absurd h
+read_as bytes from tokens nested (Err (error.Refused (Unbalanced at))) e lexes same balanced h = absurd h
+read_as bytes from tokens nested (Err (error.Refused (NoItem at))) e lexes same balanced h = (
+  h.0,
+  record { from = from; tokens = tokens; text = e; lexes = lexes; balanced = balanced },
+  read_none bytes from tokens e lexes (λ file line s. h.1 file line (subst (SpellsFile file) (sym same) s)),
+)
+read_as bytes from tokens nested (Err error.NoMemory) e lexes same balanced h = tt
 
 -- no bytes are balanced and unbalanced
 balanced_or_not : (bytes : List ℕ) (from other : Source) (ts us : List Token) (at : ℕ) → source bytes ≡ Ok from → source bytes ≡ Ok other
