@@ -6,8 +6,10 @@
 //! be written, and `Reading` which bytes read to which file.
 #![tactic(auto)]
 
+mod laws;
 pub mod tree;
 
+pub use laws::form_law;
 pub use tree::{
     Attr, File, Item, ItemKind, Literal, MetaInput, MetaPath, Name, Path, Rename, Segment, UseEnd,
     UseTree, Word,

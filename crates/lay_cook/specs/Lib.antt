@@ -1,0 +1,2 @@
+pub mod Cooking
+pub mod Steps

@@ -1,0 +1,14 @@
+//! From string literals to the texts that they stand for.
+//!
+//! [`cook`] gives the value of a string without suffix: its text with the escapes resolved, or what stands
+//! between the quotes of a raw string (Rust Reference, "String literals", "Raw string literals"). It is proved
+//! equal to the definition that `lay_token` states.
+#![tactic(auto)]
+
+mod cooking;
+mod raw;
+mod strings;
+#[cfg(test)]
+mod tests;
+
+pub use cooking::{Cooked, cook};

@@ -1,0 +1,5 @@
+pub mod Delimiters
+pub mod Machine
+pub mod Steps
+pub mod Places
+pub mod Fronts

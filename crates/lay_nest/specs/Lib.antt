@@ -1,0 +1,5 @@
+pub mod Ahead
+pub mod Groups
+pub mod Nested
+pub mod Partial
+pub mod Spans

@@ -1,0 +1,120 @@
+//! A walk over nested tokens.
+ghost use Rattle.std.specs.Prelude.{◌≡◌, ◌↔◌, ◌<◌, ◌≤◌, ◌++◌, ◌∷◌, List, IsTrue, length, drop, slice_get, option_copied, MatchOption};
+ghost use Rattle.lay_token.specs.Operators.{is_op};
+ghost use Rattle.lay_nest.specs.Ahead.{SpannedAhead};
+ghost use Rattle.lay_nest.specs.Groups.{Grouped, begins_group};
+
+use crate::operator::is_op;
+use lay_token::Token;
+use std::marker::Model;
+
+/// A place in the tokens, seen as the list of the tokens ahead. It takes no memory.
+#[derive(Debug, Drop)]
+pub struct Cursor<'a> {
+    tokens: &'a [Token],
+    /// Of each token ahead, if it is an opener, how many tokens stand between it and its partner, and else 0.
+    spans: &'a [usize],
+}
+
+impl<'a> Model for Cursor<'a> {
+    ghost use Rattle.std.specs.Prelude.{List as Items};
+    ghost use Rattle.lay_token.specs.declared.token.Token.{Token as TokenValue};
+    ghost use Rattle.lay_nest.specs.Ahead.{SpannedAhead};
+
+    ghost Value = { Items TokenValue };
+
+    ghost view = { λ cursor. cursor.tokens.now };
+
+    ghost invariant = { λ cursor. SpannedAhead cursor.tokens.now cursor.spans.now };
+}
+
+impl<'a> Cursor<'a> {
+    /// A cursor before the first of these tokens, which have these spans.
+    pub(crate) fn new(tokens: &'a [Token], spans: &'a [usize]) -> Cursor<'a>
+        requires { SpannedAhead tokens.now spans.now }
+        ensures { result ≡ tokens.now }
+    {
+        Cursor { tokens, spans }
+    }
+
+    /// A second cursor at the same place.
+    pub fn fork(&self) -> Cursor<'a>
+        ensures { result ≡ self.now }
+    {
+        Cursor {
+            tokens: self.tokens,
+            spans: self.spans,
+        }
+    }
+
+    /// The token behind this many others, or `None` where no more than so many are ahead.
+    pub fn peek(&self, ahead: usize) -> Option<&'a Token>
+        ensures token { option_copied result ≡ slice_get self.now ahead }
+        ensures within { MatchOption result (length self.now ≤ ahead) (λ _. ahead < length self.now) }
+    {
+        self.tokens.get(ahead)
+    }
+
+    /// Whether no token is ahead.
+    pub fn is_end(&self) -> bool
+        ensures { IsTrue result ↔ length self.now ≡ 0 }
+    {
+        self.tokens.is_empty()
+    }
+
+    /// Whether the operator at the front is this one (Rust Reference, "Punctuation").
+    pub fn op_is(&self, op: &[u8]) -> bool
+        ensures { result ≡ is_op op.now self.now }
+    {
+        is_op(self.tokens, op)
+    }
+
+    /// Moves past one token, past an opener alone too. The closer of that is then ahead as any other token.
+    pub fn step(&mut self)
+        requires { 0 < length self.old }
+        ensures { self.new ≡ drop 1 self.old }
+    {
+        self.tokens = behind_first(self.tokens);
+        self.spans = behind_first(self.spans);
+    }
+
+    /// Moves past the group at the front, and gives what is inside its delimiters.
+    pub fn group(&mut self) -> Cursor<'a>
+        requires { IsTrue (begins_group self.old) }
+        ensures { Grouped self.old result self.new }
+    {
+        let span = self.spans[0];
+        let (tokens, tokens_behind) = split_group(self.tokens, span);
+        let (spans, spans_behind) = split_group(self.spans, span);
+        self.tokens = tokens_behind;
+        self.spans = spans_behind;
+        Cursor { tokens, spans }
+    }
+
+    /// The tokens ahead.
+    pub fn as_slice(&self) -> &'a [Token]
+        ensures { result.now ≡ self.now }
+    {
+        self.tokens
+    }
+}
+
+/// What is behind the first item.
+fn behind_first<T>(items: &[T]) -> &[T]
+    requires { 0 < length items.now }
+    ensures { result.now ≡ drop 1 items.now }
+{
+    &items[1..]
+}
+
+/// What stands between the delimiters of the group at the front, which has this span, and what is behind it.
+fn split_group<T>(items: &[T], span: usize) -> (&[T], &[T])
+    requires { (opener closer : T) × (inside : List T) × (behind : List T)
+        × (items.now ≡ opener ∷ (inside ++ closer ∷ behind)) × (span ≡ length inside) }
+    ensures { (opener closer : T) (inside behind : List T)
+        → items.now ≡ opener ∷ (inside ++ closer ∷ behind) → span ≡ length inside
+        → (result.0.now ≡ inside) × (result.1.now ≡ behind) }
+{
+    let (inside, behind) = behind_first(items).split_at(span);
+    (inside, behind_first(behind))
+}

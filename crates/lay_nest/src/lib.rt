@@ -1,0 +1,19 @@
+//! From tokens to a cursor over them.
+//!
+//! [`nest`] accepts the tokens whose delimiters are balanced, and finds each delimiter's partner once, in one
+//! pass with no limit to nesting. A [`Cursor`] then walks over them and steps past a whole group at once, takes no
+//! memory, and is seen in contracts as the list of the tokens ahead. [`nesting_law`] says that what is refused,
+//! and where, and what a group holds, is one.
+#![tactic(auto)]
+
+mod cursor;
+mod law;
+mod nesting;
+mod operator;
+mod partners;
+#[cfg(test)]
+mod tests;
+
+pub use cursor::Cursor;
+pub use law::nesting_law;
+pub use nesting::{Nested, nest};

@@ -1,0 +1,53 @@
+//! Balanced tokens, and the partner of each delimiter.
+ghost use Rattle.std.specs.Prelude.{◌≡◌};
+ghost use Rattle.lay_token.specs.Delimiters.{Balanced};
+ghost use Rattle.lay_nest.specs.Nested.{NestedAs};
+
+use crate::cursor::Cursor;
+use crate::partners::spans_of;
+use lay_token::{FormatError, List, Token};
+use std::alloc::Global;
+use std::marker::Model;
+
+/// Tokens whose delimiters are balanced, and each delimiter's partner. Contracts see the tokens alone.
+#[derive(Debug, Drop)]
+pub struct Nested {
+    tokens: List<Token>,
+    /// Of each token, if it is an opener, how many tokens stand between it and its partner, and else 0.
+    spans: List<usize>,
+}
+
+impl Model for Nested {
+    ghost use Rattle.std.specs.Prelude.{List as Items};
+    ghost use Rattle.lay_token.specs.declared.token.Token.{Token as TokenValue};
+    ghost use Rattle.lay_nest.specs.Spans.{Spanned};
+
+    ghost Value = { Items TokenValue };
+
+    ghost view = { λ nested. nested.tokens };
+
+    ghost invariant = { λ nested. Spanned nested.tokens nested.spans };
+}
+
+impl Nested {
+    /// A cursor before the first token.
+    pub fn cursor(&self) -> Cursor<'_>
+        ensures tokens { result ≡ self.now }
+        ensures balanced { Balanced self.now }
+    {
+        Cursor::new(self.tokens.as_slice(), self.spans.as_slice())
+    }
+}
+
+/// The tokens with each delimiter's partner (Rust Reference, "Macros": token trees).
+///
+/// It refuses the place of the first closer that isn't the partner of the last opener still open; with no such
+/// closer, that of the last opener left open.
+pub fn nest(alloc: Global, tokens: List<Token>) -> Result<Nested, FormatError>
+    ensures { NestedAs tokens result }
+{
+    match spans_of(alloc, tokens.as_slice()) {
+        Ok(spans) => Ok(Nested { tokens, spans }),
+        Err(error) => Err(error),
+    }
+}
