@@ -1,0 +1,12 @@
+use Rattle.std.proofs.Common.{map, drop, Result}
+use Rattle.lay_stream.specs.Fed.{Did}
+use Rattle.lay_tree.specs.Notation.{H, each}
+use Rattle.lay_tree.specs.Stream.{stream_of}
+use Rattle.lay_tree.specs.Nodes.{attr_form}
+use Rattle.lay_out_code.proofs.items.put_inner_attrs.Given as goal
+
+-- calls that put the rest, put all
+abbrev pub invariant-loop-attr : goal.invariant-loop-attr
+invariant-loop-attr g l = (r : Result (Unit {0}) _) (end : _) →
+    Did g.E.Emit.meanings l.out (stream_of (each H (map attr_form (drop l.attr-index l.attrs)))) r end →
+    Did g.E.Emit.meanings l.fn.out (stream_of (each H (map attr_form l.attrs))) r end

@@ -1,0 +1,132 @@
+//! Items.
+ghost use Rattle.std.specs.Prelude.{◌≡◌, [], ◌∷◌, ◌++◌, map, pos, false};
+ghost use Rattle.lay_token.specs.declared.layout.Tok.TheVariants as tok;
+ghost use Rattle.lay_stream.specs.Fed.{Did};
+ghost use Rattle.lay_tree.specs.Form.{Blank, Done};
+ghost use Rattle.lay_tree.specs.Nodes.{attr_form, form_of_item, leaf_of};
+ghost use Rattle.lay_tree.specs.Notation.{H, behind_attrs, body, each};
+ghost use Rattle.lay_tree.specs.Stream.{stream_of};
+ghost use Rattle.lay_out_code.specs.Parts.{import_part, kind_form, module_part, no_forms, struct_part};
+
+use crate::attributes::{put_attr, put_word};
+use crate::notation::{HARD_BREAK, close_body, open_body};
+use crate::uses::put_use;
+use lay_stream::Emit;
+use lay_tree::{Attr, Item, ItemKind, Name, UseTree};
+
+/// Feeds the layout of an item, with its attributes, each on a line of its own.
+#[cycle(put_item)]
+pub fn put_item<E: Emit>(out: &mut E, item: &Item) -> Result<(), E::Fault>
+    ensures { Did E.meanings out.old (stream_of (form_of_item item.now)) result out.new }
+{
+    put_outer_attrs(out, item.attrs.as_slice())?;
+    put_kind(out, &item.kind)
+}
+
+/// An item without its attributes.
+#[cycle(put_item)]
+fn put_kind<E: Emit>(out: &mut E, kind: &ItemKind) -> Result<(), E::Fault>
+    ensures { Did E.meanings out.old (stream_of (kind_form kind.now)) result out.new }
+{
+    match kind {
+        ItemKind::Struct { name } => put_struct(out, name),
+        ItemKind::Module { name, attrs, items } => put_module(out, name, attrs.as_slice(), items.as_slice()),
+        ItemKind::Import { tree } => put_import(out, tree),
+    }
+}
+
+/// A module.
+#[cycle(put_item)]
+fn put_module<E: Emit>(out: &mut E, name: &Name, attrs: &[Attr], items: &[Item]) -> Result<(), E::Fault>
+    ensures { Did E.meanings out.old (stream_of (module_part name.now attrs.now items.now)) result out.new }
+{
+    put_head(out, b"mod ", name)?;
+    put_body(out, attrs, items)
+}
+
+/// Inner attributes and items in braces, each on a line of its own.
+#[cycle(put_item)]
+fn put_body<E: Emit>(out: &mut E, attrs: &[Attr], items: &[Item]) -> Result<(), E::Fault>
+    ensures { Did E.meanings out.old (stream_of (body (Blank ∷ []) [] (map attr_form attrs.now ++ map form_of_item items.now))) result out.new }
+{
+    if is_bare(attrs, items) {
+        return out.text(b" {}");
+    }
+    open_body(out)?;
+    put_inner_attrs(out, attrs)?;
+    put_lines(out, items)?;
+    close_body(out)
+}
+
+/// Items, each behind a newline.
+#[cycle(put_item)]
+fn put_lines<E: Emit>(out: &mut E, items: &[Item]) -> Result<(), E::Fault>
+    ensures { Did E.meanings out.old (stream_of (each H (map form_of_item items.now))) result out.new }
+{
+    for item in items {
+        out.brk(HARD_BREAK)?;
+        put_item(out, item)?;
+    }
+    Ok(())
+}
+
+/// Whether nothing stands in a body.
+fn is_bare(attrs: &[Attr], items: &[Item]) -> bool
+    ensures { result ≡ no_forms (map attr_form attrs.now ++ map form_of_item items.now) }
+{
+    if !attrs.is_empty() {
+        return false;
+    }
+    items.is_empty()
+}
+
+/// A struct.
+fn put_struct<E: Emit>(out: &mut E, name: &Name) -> Result<(), E::Fault>
+    ensures { Did E.meanings out.old (stream_of (struct_part name.now)) result out.new }
+{
+    put_head(out, b"struct ", name)?;
+    out.text(b";")
+}
+
+/// An import.
+fn put_import<E: Emit>(out: &mut E, tree: &UseTree) -> Result<(), E::Fault>
+    ensures { Did E.meanings out.old (stream_of (import_part tree.now)) result out.new }
+{
+    out.begin(false, 0)?;
+    out.text(b"use ")?;
+    put_use(out, tree)?;
+    out.end()?;
+    out.text(b";")
+}
+
+/// Attributes, each behind a newline.
+fn put_inner_attrs<E: Emit>(out: &mut E, attrs: &[Attr]) -> Result<(), E::Fault>
+    ensures { Did E.meanings out.old (stream_of (each H (map attr_form attrs.now))) result out.new }
+{
+    for attr in attrs {
+        out.brk(HARD_BREAK)?;
+        put_attr(out, attr)?;
+    }
+    Ok(())
+}
+
+/// Attributes, each with a newline behind it.
+fn put_outer_attrs<E: Emit>(out: &mut E, attrs: &[Attr]) -> Result<(), E::Fault>
+    ensures { Did E.meanings out.old (stream_of (behind_attrs (map attr_form attrs.now) Done)) result out.new }
+{
+    for attr in attrs {
+        put_attr(out, attr)?;
+        out.brk(HARD_BREAK)?;
+    }
+    Ok(())
+}
+
+/// The head of an item that is a keyword, with a blank behind it, and a name.
+fn put_head<E: Emit>(out: &mut E, keyword: &[u8], name: &Name) -> Result<(), E::Fault>
+    ensures { Did E.meanings out.old (tok.Begin false (pos 0) ∷ tok.Text keyword.now ∷ (stream_of (leaf_of name.now.raw name.now.text Done) ++ tok.End ∷ [])) result out.new }
+{
+    out.begin(false, 0)?;
+    out.text(keyword)?;
+    put_word(out, name.raw, &name.text)?;
+    out.end()
+}
