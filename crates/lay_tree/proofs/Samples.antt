@@ -1,23 +1,18 @@
--- Samples of forms: how small trees are laid out, and how they are spelled.
-use Rattle.std.proofs.Common.{◌≡◌, ℕ, Bool, true, false, List, [], ◌∷◌, ◌++◌, Option, Some, None, inl, inr, refl, ap, ◌∙◌, sym, subst, map}
+-- Samples of forms: how small trees are laid out.
+use Rattle.std.proofs.Common.{◌≡◌, ℕ, Bool, true, false, List, [], ◌∷◌, ◌++◌, Option, Some, None, refl, ap, ◌∙◌, map}
 use Rattle.std.specs.Prelude.{codes, replicate}
-use Rattle.std.specs.Str.{chars}
 use Rattle.lay_token.specs.Docs.{doc_form}
 use Rattle.lay_token.specs.Document.{text_of}
 use Rattle.lay_token.specs.Quoted.{block_step, doc_step}
 use Rattle.lay_token.specs.Scan.{run}
-use Rattle.lay_token.specs.declared.token.Kind.{Kind}
-use Rattle.lay_token.specs.declared.token.Kind.TheVariants.{Ident, RawIdent, Underscore, Str, Punct, Opener, Closer, Doc}
-use Rattle.lay_token.specs.declared.token.Delim.TheVariants.{Bracket, Brace}
-use Rattle.lay_token.specs.declared.token.Token.{Token}
+use Rattle.lay_token.specs.declared.token.Kind.TheVariants.{Str}
+use Rattle.lay_token.specs.declared.token.Delim.TheVariants.{Brace}
 use Rattle.lay_tree.specs.Form.{Form, Opening, Closing}
 use Rattle.lay_tree.specs.Layout.{document}
-use Rattle.lay_tree.specs.Nodes.{attr_form, use_end_form, use_tree_form, form_of_use, item_form, item_kind_form, form_of_item, out}
+use Rattle.lay_tree.specs.Nodes.{use_end_form, use_tree_form, form_of_use, item_form, item_kind_form, form_of_item, out}
 use Rattle.lay_tree.specs.Notation.{listed}
-use Rattle.lay_tree.specs.Spelled.{Spells}
 use Rattle.lay_tree.specs.declared.tree.Attr.{Attr}
 use Rattle.lay_tree.specs.declared.tree.Attr.TheVariants as attr
-use Rattle.lay_tree.specs.declared.tree.File.{File}
 use Rattle.lay_tree.specs.declared.tree.MetaInput.{MetaInput}
 use Rattle.lay_tree.specs.declared.tree.MetaInput.TheVariants as input
 use Rattle.lay_tree.specs.declared.tree.MetaPath.{MetaPath}
@@ -25,89 +20,88 @@ use Rattle.lay_tree.specs.declared.tree.MetaPath.TheVariants as meta_path
 use Rattle.lay_tree.specs.declared.tree.Name.{Name}
 use Rattle.lay_tree.specs.declared.tree.Rename.{Rename}
 use Rattle.lay_tree.specs.declared.tree.Rename.TheVariants as rename
-use Rattle.lay_tree.specs.declared.tree.Segment.{Segment}
 use Rattle.lay_tree.specs.declared.tree.Word.{Word}
 use Rattle.lay_tree.specs.declared.tree.UseTree.{UseTree}
 use Rattle.lay_tree.specs.declared.tree.UseEnd.{UseEnd}
-use Rattle.lay_tree.specs.declared.tree.UseEnd.TheOpen.{UseTree-F, UseEnd-F}
+use Rattle.lay_tree.specs.declared.tree.UseEnd.TheOpen.{UseEnd-F}
 use Rattle.lay_tree.specs.declared.tree.UseEnd.TheVariants as end
 use Rattle.lay_tree.specs.declared.tree.Item.{Item}
 use Rattle.lay_tree.specs.declared.tree.ItemKind.{ItemKind}
-use Rattle.lay_tree.specs.declared.tree.ItemKind.TheOpen.{Item-F, ItemKind-F}
+use Rattle.lay_tree.specs.declared.tree.ItemKind.TheOpen.{ItemKind-F}
 use Rattle.lay_tree.specs.declared.tree.ItemKind.TheVariants as item
 use Rattle.lay_tree.proofs.SoundParts.{form_of_end, form_of_kind, one_form, struct_form, module_form, import_form, use_form, word_form, glob_form, group_form}
 
 -- ---- trees
 
-abbrev named : List ℕ → Name
+abbrev pub named : List ℕ → Name
 named text = record { raw = false; text = text }
 
-abbrev plain : List ℕ → Word
+abbrev pub plain : List ℕ → Word
 plain text = record { raw = false; text = text }
 
-abbrev A : Name
+abbrev pub A : Name
 A = named (codes "A")
 
-abbrev a : List ℕ
+abbrev pub a : List ℕ
 a = codes "a"
 
-abbrev b : List ℕ
+abbrev pub b : List ℕ
 b = codes "b"
 
-abbrev c : List ℕ
+abbrev pub c : List ℕ
 c = codes "c"
 
-abbrev x_doc : Attr
+abbrev pub x_doc : Attr
 x_doc = attr.Doc true (codes " x")
 
-abbrev slash : MetaInput
+abbrev pub slash : MetaInput
 slash = input.Value (record { kind = Str; text = codes "\"/x\"" })
 
-abbrev structure : List Attr → Name → Item
+abbrev pub structure : List Attr → Name → Item
 structure attrs name = record { attrs = attrs; kind = item.Struct name }
 
-abbrev module_of : List Attr → List Item → Item
+abbrev pub module_of : List Attr → List Item → Item
 module_of attrs items = record { attrs = []; kind = item.Module (named a) attrs items }
 
-abbrev import_of : UseTree → Item
+abbrev pub import_of : UseTree → Item
 import_of tree = record { attrs = []; kind = item.Import tree }
 
-abbrev tree_of : Bool → List Word → UseEnd → UseTree
+abbrev pub tree_of : Bool → List Word → UseEnd → UseTree
 tree_of global path end = record { global = global; path = path; end = end }
 
-abbrev word_of : List ℕ → Option Rename → UseTree
+abbrev pub word_of : List ℕ → Option Rename → UseTree
 word_of text renamed = tree_of false [] (end.Word (plain text) renamed)
 
-abbrev meta : Bool → List (List ℕ) → MetaPath
+abbrev pub meta : Bool → List (List ℕ) → MetaPath
 meta global words = meta_path.Path (record { global = global; segments = map (λ text. record { word = plain text }) words })
 
-abbrev a_group : List ℕ → List ℕ → UseTree
+abbrev pub a_group : List ℕ → List ℕ → UseTree
 a_group one two = tree_of false (plain a ∷ []) (end.Group (word_of one None ∷ word_of two None ∷ []))
 
 -- ---- their forms, one level of each
 
-kind_is : (attrs : List Attr) (kind : ItemKind) (f : Form) → form_of_kind kind ≡ f
+pub kind_is : (attrs : List Attr) (kind : ItemKind) (f : Form) → form_of_kind kind ≡ f
     → form_of_item (record { attrs = attrs; kind = kind }) ≡ item_form (record { attrs = attrs; kind = f })
 kind_is attrs kind f e =
     one_form (record { attrs = attrs; kind = kind }) ∙ ap (λ g. item_form (record { attrs = attrs; kind = g })) e
 
-struct_is : (attrs : List Attr) (name : Name)
+pub struct_is : (attrs : List Attr) (name : Name)
     → form_of_item (structure attrs name) ≡ item_form (record { attrs = attrs; kind = item_kind_form (ItemKind-F.Struct name) })
 struct_is attrs name = kind_is attrs _ _ (struct_form name)
 
-end_is : (global : Bool) (path : List Word) (end : UseEnd) (f : Form) → form_of_end end ≡ f
+pub end_is : (global : Bool) (path : List Word) (end : UseEnd) (f : Form) → form_of_end end ≡ f
     → form_of_use (tree_of global path end) ≡ use_tree_form (record { global = global; path = path; end = f })
 end_is global path end f e =
     use_form (tree_of global path end) ∙ ap (λ g. use_tree_form (record { global = global; path = path; end = g })) e
 
-word_is : (text : List ℕ) (renamed : Option Rename)
+pub word_is : (text : List ℕ) (renamed : Option Rename)
     → form_of_use (word_of text renamed) ≡ use_tree_form (record { global = false; path = []; end = use_end_form (UseEnd-F.Word (plain text) renamed) })
 word_is text renamed = end_is false [] _ _ (word_form (plain text) renamed)
 
-abbrev use_word : List ℕ → Form
+abbrev pub use_word : List ℕ → Form
 use_word text = use_tree_form (record { global = false; path = []; end = use_end_form (UseEnd-F.Word (plain text) None) })
 
-a_group_is : (one two : List ℕ) → form_of_use (a_group one two)
+pub a_group_is : (one two : List ℕ) → form_of_use (a_group one two)
     ≡ use_tree_form (record { global = false; path = plain a ∷ []; end = use_end_form (UseEnd-F.Group (use_word one ∷ use_word two ∷ [])) })
 a_group_is one two = end_is false (plain a ∷ []) _ _ (group_form (word_of one None ∷ word_of two None ∷ []) ∙ both)
   where
