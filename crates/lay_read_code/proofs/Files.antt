@@ -1,5 +1,5 @@
 -- Files: what is read is spelled, and what is spelled is read.
-use Rattle.std.proofs.Common.{◌≡◌, Bool, true, ℕ, List, [], Option, Some, None, refl, IsTrue}
+use Rattle.std.proofs.Common.{◌≡◌, ℕ, List, [], Option, Some, None, refl, IsTrue}
 use Rattle.lay_token.specs.declared.token.Token.{Token}
 use Rattle.lay_tree.specs.Nodes.{form_of_file}
 use Rattle.lay_tree.specs.Reader.{whole}

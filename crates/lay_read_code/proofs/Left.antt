@@ -1,5 +1,5 @@
 -- What reading leaves: the tokens behind those that are read.
-use Rattle.std.proofs.Common.{◌≡◌, ℕ, zero, suc, ◌+◌, ◌<◌, ◌≤◌, Bool, true, false, List, [], ◌∷◌, ◌++◌, length, drop, codes, Option, Some, None, refl, sym, ap, ◌∙◌, if◌then◌else◌, arith}
+use Rattle.std.proofs.Common.{◌≡◌, ℕ, zero, suc, ◌+◌, ◌<◌, ◌≤◌, Bool, true, false, List, [], ◌∷◌, length, drop, codes, Option, Some, None, refl, ap, ◌∙◌, if◌then◌else◌, arith}
 use Rattle.std.proofs.lemmas.List.{drop-drop, length-drop}
 use Rattle.lay_token.specs.Operators.{op_at, is_op}
 use Rattle.lay_token.specs.declared.token.Kind.{Kind}
@@ -31,7 +31,7 @@ abbrev pub Passes : ℕ → Tokens → Option Tokens → Type 0
 Passes n ts None = Unit {0}
 Passes n ts (Some rest) = Left n ts rest
 
-pub unread : (ts : Tokens) → Left 0 ts ts
+unread : (ts : Tokens) → Left 0 ts ts
 unread ts = record { count = 0; dropped = refl; fewer = omega arith }
 
 one_read : (t : Token) (ts : Tokens) → Left 1 (t ∷ ts) ts
@@ -80,7 +80,7 @@ first_read : (p : Token → Bool) (ts : Tokens) → first p ts ≡ true → Left
 first_read p [] h = absurd (cc)
 first_read p (t ∷ ts) h = one_read t ts
 
-pub passed_left : (p : Token → Bool) (ts : Tokens) → Passes 1 ts (passed p ts)
+passed_left : (p : Token → Bool) (ts : Tokens) → Passes 1 ts (passed p ts)
 passed_left p [] = tt
 passed_left p (t ∷ ts) = by_test (p t)
   where
@@ -149,14 +149,14 @@ unfolding segments_from
 segments_from_left zero found ts = tt
 segments_from_left (suc n) found ts = choice 0 ts (is_op (codes "::") ts) _ _
     (λ h. further 0 1 0 ts (drop 2 ts) _ (omega arith) (op_read (codes "::") 1 ts h)
-        (chain 0 1 0 (drop 2 ts) (word (drop 2 ts)) _ (omega arith) (word_left (drop 2 ts)) (λ w. segments_from_left n _ w.1)))
+    (chain 0 1 0 (drop 2 ts) (word (drop 2 ts)) _ (omega arith) (word_left (drop 2 ts)) (λ w. segments_from_left n _ w.1)))
     (unread ts)
 
 simple_path_left : (ts : Tokens) → Leaves 1 ts (simple_path ts)
 unfolding simple_path
 simple_path_left ts = further 1 0 1 ts (global ts).1 _ (omega arith) (global_left ts)
     (chain 1 1 0 (global ts).1 (word (global ts).1) _ (omega arith) (word_left (global ts).1)
-        (λ w. chain 0 0 0 w.1 (segments_from (suc (length w.1)) (record { word = w.0 } ∷ []) w.1) _ (omega arith) (segments_from_left _ _ w.1) (λ s. unread s.1)))
+    (λ w. chain 0 0 0 w.1 (segments_from (suc (length w.1)) (record { word = w.0 } ∷ []) w.1) _ (omega arith) (segments_from_left _ _ w.1) (λ s. unread s.1)))
 
 pub meta_name_left : (ts : Tokens) → Leaves 1 ts (meta_name ts)
 unfolding meta_name
@@ -172,7 +172,7 @@ meta_input_left : (ts : Tokens) → Leaves 0 ts (meta_input ts)
 unfolding meta_input
 meta_input_left ts = choice 0 ts (is_op (codes "=") ts) _ _
     (λ h. further 0 1 0 ts (drop 1 ts) _ (omega arith) (op_read (codes "=") 0 ts h)
-        (chain 0 1 0 (drop 1 ts) (literal (drop 1 ts)) _ (omega arith) (literal_left (drop 1 ts)) (λ l. unread l.1)))
+    (chain 0 1 0 (drop 1 ts) (literal (drop 1 ts)) _ (omega arith) (literal_left (drop 1 ts)) (λ l. unread l.1)))
     (unread ts)
 
 pub opening_left : (inner : Bool) (ts : Tokens) → Passes 1 ts (behind_opening inner ts)
@@ -184,8 +184,8 @@ meta_attr_left : (inner : Bool) (ts : Tokens) → Leaves 1 ts (meta_attr inner t
 unfolding meta_attr
 meta_attr_left inner ts = chain_passed 1 1 1 ts (behind_opening inner ts) _ (omega arith) (opening_left inner ts)
     (λ inside. chain 1 1 0 inside (meta_name inside) _ (omega arith) (meta_name_left inside)
-        (λ path. chain 0 0 0 path.1 (meta_input path.1) _ (omega arith) (meta_input_left path.1)
-            (λ given. chain_passed 0 1 0 given.1 (passed closes_bracket given.1) _ (omega arith) (passed_left closes_bracket given.1) unread)))
+    (λ path. chain 0 0 0 path.1 (meta_input path.1) _ (omega arith) (meta_input_left path.1)
+    (λ given. chain_passed 0 1 0 given.1 (passed closes_bracket given.1) _ (omega arith) (passed_left closes_bracket given.1) unread)))
 
 doc_attr_left : (inner : Bool) (ts : Tokens) → Leaves 1 ts (doc_attr inner ts)
 unfolding doc_attr
@@ -224,7 +224,7 @@ module _ {A : Type 0} (element : Tokens → Got A) (element_left : (ts : Tokens)
   group_from_left zero found ts = tt
   group_from_left (suc n) found ts = choice 1 ts (first closes_brace ts) _ _ (λ h. first_read closes_brace ts h)
       (chain 1 1 0 ts (element ts) _ (omega arith) (element_left ts)
-          (λ x. chain_passed 0 0 1 x.1 (element_end x.1) _ (omega arith) (element_end_left x.1) (λ behind. group_from_left n _ behind)))
+      (λ x. chain_passed 0 0 1 x.1 (element_end x.1) _ (omega arith) (element_end_left x.1) (λ behind. group_from_left n _ behind)))
 
   group_left : (ts : Tokens) → Leaves 1 ts (group element ts)
   unfolding group
@@ -260,7 +260,7 @@ renamed_left : (ts : Tokens) → Leaves 0 ts (renamed ts)
 unfolding renamed
 renamed_left ts = choice 0 ts (first (is_keyword (codes "as")) ts) _ _
     (λ h. further 0 1 1 ts (tail ts) _ (omega arith) (first_read (is_keyword (codes "as")) ts h)
-        (chain 1 1 0 (tail ts) (other_name (tail ts)) _ (omega arith) (other_name_left (tail ts)) (λ r. unread r.1)))
+    (chain 1 1 0 (tail ts) (other_name (tail ts)) _ (omega arith) (other_name_left (tail ts)) (λ r. unread r.1)))
     (unread ts)
 
 use_word_left : (ts : Tokens) → Leaves 1 ts (use_word ts)
@@ -270,13 +270,13 @@ module _ (within : Tokens → Got UseTree) (within_left : (ts : Tokens) → Leav
   use_end_left : (ts : Tokens) → Leaves 1 ts (use_end_by within ts)
   use_end_left ts = choice 1 ts (first opens_brace ts) _ _
       (λ h. further 1 1 1 ts (tail ts) _ (omega arith) (first_read opens_brace ts h)
-          (chain 1 1 0 (tail ts) (group within (tail ts)) _ (omega arith) (group_left within within_left (tail ts)) (λ trees. unread trees.1)))
+      (chain 1 1 0 (tail ts) (group within (tail ts)) _ (omega arith) (group_left within within_left (tail ts)) (λ trees. unread trees.1)))
       (choice 1 ts (is_op (codes "*") ts) _ _ (λ h. op_read (codes "*") 0 ts h) (use_word_left ts))
 
   use_by_left : (ts : Tokens) → Leaves 1 ts (use_by within ts)
   use_by_left ts = further 1 0 1 ts (global ts).1 _ (omega arith) (global_left ts)
       (chain 1 0 1 (global ts).1 (words (global ts).1) _ (omega arith) (words_left (global ts).1)
-          (λ path. chain 1 1 0 path.1 (use_end_by within path.1) _ (omega arith) (use_end_left path.1) (λ end. unread end.1)))
+      (λ path. chain 1 1 0 path.1 (use_end_by within path.1) _ (omega arith) (use_end_left path.1) (λ end. unread end.1)))
 
 pub use_left : (depth : ℕ) (ts : Tokens) → Leaves 1 ts (use_at depth ts)
 unfolding use_at
@@ -300,9 +300,9 @@ module _ (within : Tokens → Got Item) (within_left : (ts : Tokens) → Leaves 
   unfolding module_by
   module_left ts = chain 1 1 1 ts (name ts) _ (omega arith) (name_left ts)
       (λ n. chain_passed 1 1 0 n.1 (passed opens_brace n.1) _ (omega arith) (passed_left opens_brace n.1)
-          (λ inside. chain 0 0 0 inside (attributes true inside) _ (omega arith) (attributes_left true inside)
-              (λ attrs. chain 0 0 0 attrs.1 (all within attrs.1) _ (omega arith) (all_left within within_left attrs.1)
-                  (λ items. chain_passed 0 1 0 items.1 (passed closes_brace items.1) _ (omega arith) (passed_left closes_brace items.1) unread))))
+      (λ inside. chain 0 0 0 inside (attributes true inside) _ (omega arith) (attributes_left true inside)
+      (λ attrs. chain 0 0 0 attrs.1 (all within attrs.1) _ (omega arith) (all_left within within_left attrs.1)
+      (λ items. chain_passed 0 1 0 items.1 (passed closes_brace items.1) _ (omega arith) (passed_left closes_brace items.1) unread))))
 
   module _ (tree : Tokens → Got UseTree) (tree_left : (ts : Tokens) → Leaves 1 ts (tree ts)) where
     kind_left : (ts : Tokens) → Leaves 1 ts (kind_by within tree ts)
@@ -310,10 +310,10 @@ module _ (within : Tokens → Got Item) (within_left : (ts : Tokens) → Leaves 
     kind_left ts = choice 1 ts (first (is_keyword (codes "struct")) ts) _ _
         (λ h. further 1 1 1 ts (tail ts) _ (omega arith) (first_read (is_keyword (codes "struct")) ts h) (struct_left (tail ts)))
         (choice 1 ts (first (is_keyword (codes "mod")) ts) _ _
-            (λ h. further 1 1 1 ts (tail ts) _ (omega arith) (first_read (is_keyword (codes "mod")) ts h) (module_left (tail ts)))
-            (choice 1 ts (first (is_keyword (codes "use")) ts) _ None
-                (λ h. further 1 1 1 ts (tail ts) _ (omega arith) (first_read (is_keyword (codes "use")) ts h) (import_left tree tree_left (tail ts)))
-                tt))
+        (λ h. further 1 1 1 ts (tail ts) _ (omega arith) (first_read (is_keyword (codes "mod")) ts h) (module_left (tail ts)))
+        (choice 1 ts (first (is_keyword (codes "use")) ts) _ None
+        (λ h. further 1 1 1 ts (tail ts) _ (omega arith) (first_read (is_keyword (codes "use")) ts h) (import_left tree tree_left (tail ts)))
+        tt))
 
     item_by_left : (ts : Tokens) → Leaves 1 ts (item_by within tree ts)
     item_by_left ts = chain 1 0 1 ts (attributes false ts) _ (omega arith) (attributes_left false ts)

@@ -1,12 +1,11 @@
 -- One step of a reader, from what the readers within it give.
-use Rattle.std.proofs.Common.{◌≡◌, ℕ, suc, ◌-◌, ◌<◌, ◌≤◌, Bool, true, false, List, [], ◌∷◌, length, drop, codes, Option, Some, None, slice_get, refl, sym, ◌∙◌, ap, if◌then◌else◌, arith}
+use Rattle.std.proofs.Common.{◌≡◌, ℕ, suc, ◌-◌, ◌<◌, ◌≤◌, Bool, true, false, List, [], ◌∷◌, length, drop, codes, Option, Some, None, slice_get, refl, ◌∙◌, ap, if◌then◌else◌, arith}
 use Rattle.std.specs.Option.{is_some}
 use Rattle.lay_token.specs.Operators.{is_op}
 use Rattle.lay_token.specs.declared.token.Kind.{Kind}
 use Rattle.lay_token.specs.declared.token.Kind.TheVariants.{Underscore}
 use Rattle.lay_token.specs.declared.token.Token.{Token}
-use Rattle.lay_cook.specs.Cooking.{IsString}
-use Rattle.lay_tree.specs.Reader.{Tokens, Got, ◌>>=◌, first, tail, passed, global, name_by, name, word, path_word, words, literal, meta_input, made, closes_bracket, attributes, element_end, other_name, use_end_by, use_at, kind_by, item_by, item_at}
+use Rattle.lay_tree.specs.Reader.{Tokens, Got, ◌>>=◌, first, tail, passed, name_by, name, word, path_word, words, literal, meta_input, made, closes_bracket, attributes, element_end, other_name, use_end_by, use_at, kind_by, item_by, item_at}
 use Rattle.lay_tree.specs.Written.{is_literal_kind}
 use Rattle.lay_tree.specs.declared.tree.Attr.{Attr}
 use Rattle.lay_tree.specs.declared.tree.Item.{Item}
@@ -19,8 +18,8 @@ use Rattle.lay_tree.specs.declared.tree.Rename.TheVariants as rename
 use Rattle.lay_tree.specs.declared.tree.UseEnd.{UseEnd}
 use Rattle.lay_tree.specs.declared.tree.UseTree.{UseTree}
 use Rattle.lay_tree.specs.declared.tree.Word.{Word}
-use Rattle.lay_read_code.specs.Answers.{Strings, meta_rest, bare_rest, value_rest, is_underscore_kind, is_underscore}
-use Rattle.lay_read_code.proofs.Left.{Passes, Left, element_end_left, use_left, shorter}
+use Rattle.lay_read_code.specs.Answers.{meta_rest, bare_rest, value_rest, is_underscore_kind, is_underscore}
+use Rattle.lay_read_code.proofs.Left.{Passes, element_end_left, use_left, shorter}
 
 -- ---- the front
 

@@ -1,15 +1,14 @@
 -- The loops of the readers, turn by turn: what reading gives is what the turns that are left make of what is found.
-use Rattle.std.proofs.Common.{◌≡◌, ℕ, zero, suc, ◌-◌, ◌<◌, ◌≤◌, Bool, true, false, List, [], ◌∷◌, ◌++◌, length, drop, codes, Some, None, Result, Ok, Err, refl, sym, ◌∙◌, ap, arith}
-use Rattle.std.specs.Option.{is_some}
+use Rattle.std.proofs.Common.{◌≡◌, ℕ, zero, suc, ◌<◌, ◌≤◌, Bool, true, false, List, [], ◌∷◌, ◌++◌, length, drop, codes, Some, None, Result, Ok, Err, refl, ◌∙◌, arith}
 use Rattle.lay_token.specs.Operators.{is_op}
-use Rattle.lay_tree.specs.Reader.{Tokens, Got, ◌>>=◌, closes_brace, first, tail, word, path_word, words_from, words, segments_from, begins_attr, attribute, attrs_from, attributes, element_end, group_from, group, ends_items, all_from, all}
+use Rattle.lay_tree.specs.Reader.{Tokens, Got, closes_brace, first, tail, word, path_word, words_from, words, segments_from, begins_attr, attribute, attrs_from, attributes, element_end, group_from, group, ends_items, all_from, all}
 use Rattle.lay_tree.specs.declared.tree.Attr.{Attr}
 use Rattle.lay_tree.specs.declared.tree.Segment.{Segment}
 use Rattle.lay_tree.specs.declared.tree.Word.{Word}
 use Rattle.lay_read_code.specs.Answers.{IsGot, IsMade}
 use Rattle.lay_read_code.specs.declared.stop.Stop.{Stop}
 use Rattle.lay_read_code.specs.declared.stop.Stop.TheVariants.{NoReading, NoMemory}
-use Rattle.lay_read_code.proofs.Left.{Leaves, shorter, op_read, word_left, path_word_left, attribute_left}
+use Rattle.lay_read_code.proofs.Left.{shorter, op_read, word_left, path_word_left, attribute_left}
 
 -- ---- the words of a path
 

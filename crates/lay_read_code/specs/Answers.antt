@@ -3,7 +3,6 @@ use Rattle.std.specs.Prelude.{ℕ, ◌≡◌, Bool, true, false, List, [], ◌�
 use Rattle.lay_token.specs.Lexes.{Lexes}
 use Rattle.lay_token.specs.declared.refusal.FormatError.{FormatError}
 use Rattle.lay_token.specs.declared.refusal.FormatError.TheVariants as format
-use Rattle.lay_token.specs.declared.refusal.Refusal.{Refusal}
 use Rattle.lay_token.specs.declared.refusal.Refusal.TheVariants.{NoItem}
 use Rattle.lay_token.specs.declared.token.Kind.{Kind}
 use Rattle.lay_token.specs.declared.token.Kind.TheVariants.{Underscore}

@@ -154,11 +154,7 @@ fn read_simple_path(alloc: Global, at: &mut Cursor<'_>) -> Result<Path, Stop>
 }
 
 /// The segments of a path behind its first, each with a `::` before it.
-fn read_segments(
-    alloc: Global,
-    at: &mut Cursor<'_>,
-    first: Segment,
-) -> Result<List<Segment>, Stop>
+fn read_segments(alloc: Global, at: &mut Cursor<'_>, first: Segment) -> Result<List<Segment>, Stop>
     ensures { IsGot (reader.segments_from (suc (length at.old)) (first ∷ []) at.old) result at.new }
 {
     let mut segments = List::new(alloc);
@@ -203,12 +199,7 @@ fn read_bare(at: &mut Cursor<'_>, inner: bool, path: MetaPath) -> Result<Attr, S
 }
 
 /// The literal that an attribute is given, and its closing bracket.
-fn read_value(
-    alloc: Global,
-    at: &mut Cursor<'_>,
-    inner: bool,
-    path: MetaPath,
-) -> Result<Attr, Stop>
+fn read_value(alloc: Global, at: &mut Cursor<'_>, inner: bool, path: MetaPath) -> Result<Attr, Stop>
     requires { Strings at.old }
     ensures { IsGot (value_rest inner path at.old) result at.new }
 {
@@ -276,7 +267,9 @@ fn is_doc_path(path: &MetaPath) -> bool
     match path {
         MetaPath::Path(path) => match path.segments.as_slice() {
             [segment] => {
-                !path.global && !segment.word.raw && segment.word.text.as_bytes() == b"doc".as_slice()
+                !path.global
+                    && !segment.word.raw
+                    && segment.word.text.as_bytes() == b"doc".as_slice()
             }
             _ => false,
         },

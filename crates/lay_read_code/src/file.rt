@@ -19,11 +19,7 @@ const DEPTH: u32 = 256;
 ///
 /// The tokens are those that some text lexes to, and the shebang, if there is one, is given back whole where it
 /// stands alone as the first line.
-pub fn read_file(
-    alloc: Global,
-    nested: &Nested,
-    shebang: Option<Text>,
-) -> Result<File, FormatError>
+pub fn read_file(alloc: Global, nested: &Nested, shebang: Option<Text>) -> Result<File, FormatError>
     requires lexed { AreLexed nested.now }
     requires good { IsTrue (is_good_shebang shebang) }
     ensures { FileAs nested.now shebang result }

@@ -4,9 +4,7 @@ ghost use Rattle.lay_tree.specs.Reader as reader;
 ghost use Rattle.lay_read_code.specs.Answers.{IsGot, Strings};
 
 use crate::attributes::read_attrs;
-use crate::front::{
-    ends_items, takes_close_brace, takes_keyword, takes_mark, takes_open_brace,
-};
+use crate::front::{ends_items, takes_close_brace, takes_keyword, takes_mark, takes_open_brace};
 use crate::names::read_name;
 use crate::stop::{Stop, keep};
 use crate::uses::read_use;

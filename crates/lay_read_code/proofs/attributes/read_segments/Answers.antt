@@ -1,4 +1,4 @@
-use Rattle.std.proofs.Common.{◌≡◌, suc, length, [], ◌∷◌, codes, drop, sym, ap, ◌∙◌}
+use Rattle.std.proofs.Common.{suc, length, [], ◌∷◌, sym, ap, ◌∙◌}
 use Rattle.std.proofs.lemmas.Result.{err_from_is_err_and}
 use Rattle.lay_tree.specs.Reader.{word, segments_from}
 use Rattle.lay_read_code.proofs.Turns.{segment_shorter, segments-step, segments-none, segments-end, lost}

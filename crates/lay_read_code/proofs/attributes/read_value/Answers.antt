@@ -1,4 +1,4 @@
-use Rattle.std.proofs.Common.{◌≡◌, true, false, Some, sym, ap, ◌∙◌}
+use Rattle.std.proofs.Common.{◌≡◌, true, false, sym, ap, ◌∙◌}
 use Rattle.lay_tree.specs.Reader.{first, tail, closes_bracket, made}
 use Rattle.lay_tree.specs.declared.tree.MetaInput.TheVariants as input
 use Rattle.lay_read_code.specs.Answers.{value_rest}

@@ -1,6 +1,6 @@
-use Rattle.std.proofs.Common.{◌≡◌, ◌-◌, ◌<◌, true, false, Some, sym, ap, ◌∙◌, arith, rules}
+use Rattle.std.proofs.Common.{◌-◌, ◌<◌, true, false, sym, ◌∙◌, arith, rules}
 use Rattle.std.proofs.lemmas.Result.{err_from_is_err_and}
-use Rattle.lay_tree.specs.Reader.{name, opens_brace, attributes, all, use_at, kind_by, item_by, item_at}
+use Rattle.lay_tree.specs.Reader.{name, attributes, all, use_at, kind_by, item_at}
 use Rattle.lay_read_code.specs.Answers.{Strings}
 use Rattle.lay_read_code.proofs.Left.{attributes_left, item_left, shorter, name_left}
 use Rattle.lay_read_code.proofs.Steps.{item_step, item_none, item_some}
@@ -53,7 +53,7 @@ read_items-loop-alloc-preserved t c =
     let less = shorter ts (within ts) c.in_ok-item.item c.read_item.new.at (item_left c.args.depth ts) c.in_ok-item.ensures in
     record {
       turn = rw c.in_ok-keep.ensures.ok (all-step within (all within c.args.at.now) c.loop-alloc.items ts c.in_ok-item.item c.read_item.new.at
-      c.loop-alloc.invariant.turn (sym c.loop-alloc-test.ensures) c.in_ok-item.ensures less);
+          c.loop-alloc.invariant.turn (sym c.loop-alloc-test.ensures) c.in_ok-item.ensures less);
       strings = strings_behind 1 ts (within ts) c.in_ok-item.item c.read_item.new.at (item_left c.args.depth ts) c.in_ok-item.ensures c.loop-alloc.invariant.strings;
     }
 

@@ -1,7 +1,6 @@
-use Rattle.std.proofs.Common.{◌≡◌, true, false, codes, drop, Some, sym, ap, ◌∙◌, if◌then◌else◌}
+use Rattle.std.proofs.Common.{◌≡◌, true, drop, sym, ap, ◌∙◌, if◌then◌else◌}
 use Rattle.std.specs.Option.{is_some}
 use Rattle.std.proofs.lemmas.Result.{err_from_is_err_and}
-use Rattle.lay_token.specs.Operators.{is_op}
 use Rattle.lay_tree.specs.Reader.{word, words, path_word}
 use Rattle.lay_read_code.proofs.Left.{shorter, path_word_left}
 use Rattle.lay_read_code.proofs.Steps.{none_of, word_colons, path_word_is, word_stands}
@@ -22,7 +21,7 @@ loop-alloc-smaller c =
     let stands : is_some (path_word c.loop-alloc.at) ≡ true = sym c.loop-alloc-test.ensures in
     let colons = word_colons c.loop-alloc.at c.in_ok-word.word c.read_word.new.at stands c.in_ok-word.ensures in
     let passed : c.takes_colons.new.at ≡ drop 2 c.read_word.new.at =
-        c.takes_colons.ensures.passed ∙ ap (λ b. if b then drop 2 c.read_word.new.at else c.read_word.new.at) (c.takes_colons.ensures.found ∙ colons) in
+    c.takes_colons.ensures.passed ∙ ap (λ b. if b then drop 2 c.read_word.new.at else c.read_word.new.at) (c.takes_colons.ensures.found ∙ colons) in
     rw passed (shorter c.loop-alloc.at (path_word c.loop-alloc.at) c.in_ok-word.word (drop 2 c.read_word.new.at) (path_word_left c.loop-alloc.at)
     (path_word_is c.loop-alloc.at c.in_ok-word.word c.read_word.new.at stands c.in_ok-word.ensures))
 
@@ -31,7 +30,7 @@ loop-alloc-preserved c =
     let stands : is_some (path_word c.loop-alloc.at) ≡ true = sym c.loop-alloc-test.ensures in
     let colons = word_colons c.loop-alloc.at c.in_ok-word.word c.read_word.new.at stands c.in_ok-word.ensures in
     let passed : c.takes_colons.new.at ≡ drop 2 c.read_word.new.at =
-        c.takes_colons.ensures.passed ∙ ap (λ b. if b then drop 2 c.read_word.new.at else c.read_word.new.at) (c.takes_colons.ensures.found ∙ colons) in
+    c.takes_colons.ensures.passed ∙ ap (λ b. if b then drop 2 c.read_word.new.at else c.read_word.new.at) (c.takes_colons.ensures.found ∙ colons) in
     rw (c.in_ok-keep.ensures.ok, passed) (words-step (words c.args.at.now) c.loop-alloc.words c.loop-alloc.at c.in_ok-word.word (drop 2 c.read_word.new.at) c.loop-alloc.invariant
     (path_word_is c.loop-alloc.at c.in_ok-word.word c.read_word.new.at stands c.in_ok-word.ensures))
 
