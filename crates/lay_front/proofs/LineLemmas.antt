@@ -62,10 +62,14 @@ out_lines file =
     ∙ ap (λ (t : List ℕ). shebang_line file.shebang ++ t) (parts_lines (attrs ++ items) ∙ flat_map-append line attrs items)
     ∙ sym (append_assoc (shebang_line file.shebang) (all_lines attrs) (all_lines items))
 
+-- the document of a part that stands on lines of its own
+abbrev pub line_document : Form → Document
+line_document part = joined (document part) (AddBreak hard Empty)
+
 -- a new list of tokens, to which a form and the end of a line were put
 pub line_listed : (F : Type 0) (f : Form) (a s t : List Tok) (x y : Unit {0}) → a ≡ [] →
     Did (list_meanings F) a (stream_of f) (Ok x) s → Did (list_meanings F) s (tok.Break hard ∷ []) (Ok y) t
-    → stream (joined (document f) (AddBreak hard Empty)) ≡ t
+    → stream (line_document f) ≡ t
 line_listed F f a s t x y e h k =
     let start : Start = record { content = []; faults = 0 } in
     stream_joined (document f) (AddBreak hard Empty)

@@ -7,7 +7,12 @@ use Rattle.std.proofs.lemmas.Grind.{flat_map-append}
 use Rattle.lay_io.specs.Told.{GrewBy, GrewByPrefix}
 use Rattle.lay_io.proofs.Growth.{grew_by-nothing, grew_by-more, grew_by_prefix-longer, grew_by_prefix-more}
 use Rattle.lay_tree.specs.Form.{Form}
-use Rattle.lay_front.specs.Lines.{line, all_lines}
+use Rattle.lay_tree.specs.Nodes.{attr_form, form_of_item, out}
+use Rattle.lay_tree.specs.declared.tree.Attr.{Attr}
+use Rattle.lay_tree.specs.declared.tree.Item.{Item}
+use Rattle.lay_tree.specs.declared.tree.File.{File}
+use Rattle.lay_front.specs.Lines.{line, all_lines, shebang_line}
+use Rattle.lay_front.proofs.LineLemmas.{out_lines}
 use Rattle.lay_front.specs.Waiting.{Passed}
 
 -- bytes that were passed, and then more behind what waits
@@ -23,12 +28,16 @@ passed-more before middle now bytes more waiting waiting' w p = record {
       ∙ sym (append_assoc w.front p.front waiting');
 }
 
--- where a prefix of what waits is written, a prefix of the whole is, whatever follows
-pub passed-stopped : (before middle now : Option (List ℕ)) (bytes waiting more : List ℕ) → Passed before middle bytes waiting
+-- where a prefix of what waits is written, a prefix of the whole is
+pub passed-part : (before middle now : Option (List ℕ)) (bytes waiting : List ℕ) → Passed before middle bytes waiting
+    → GrewByPrefix middle now waiting → GrewByPrefix before now bytes
+passed-part before middle now bytes waiting w grew = rw w.both (grew_by_prefix-more before middle now w.front waiting w.grew grew)
+
+-- so it is whatever follows
+passed-stopped : (before middle now : Option (List ℕ)) (bytes waiting more : List ℕ) → Passed before middle bytes waiting
     → GrewByPrefix middle now waiting → GrewByPrefix before now (bytes ++ more)
 passed-stopped before middle now bytes waiting more w grew =
-    grew_by_prefix-longer before now bytes more
-    (rw w.both (grew_by_prefix-more before middle now w.front waiting w.grew grew))
+    grew_by_prefix-longer before now bytes more (passed-part before middle now bytes waiting w grew)
 
 -- where all that waits is written, the whole is
 pub passed-whole : (before middle now : Option (List ℕ)) (bytes waiting : List ℕ) → Passed before middle bytes waiting
@@ -101,3 +110,30 @@ module _ {A : Type 0} (form : A → Form) where
       → Turn before now first xs i waiting → i ≡ length xs → Passed before now (first ++ all_lines (map form xs)) waiting
   turn-end before now first waiting xs i w e =
       rw (ap (λ (t : List ℕ). first ++ t) (sym (lines_to-all xs i e))) w
+
+-- ---- the text of a file
+
+-- The attributes' lines stand behind the first line, and the items' behind them.
+pub file_part : (before now : Option (List ℕ)) (file : File) (first : List ℕ) (attrs : List Attr) → first ≡ shebang_line file.shebang → attrs ≡ file.attrs
+    → GrewByPrefix before now (first ++ all_lines (map attr_form attrs)) → GrewByPrefix before now (out file)
+file_part before now file first attrs e f grew =
+    rw (out_lines file)
+    (grew_by_prefix-longer before now (shebang_line file.shebang ++ all_lines (map attr_form file.attrs)) (all_lines (map form_of_item file.items))
+    (rw (sym e, sym f) grew))
+
+pub file_passed : (before middle now : Option (List ℕ)) (file : File) (first waiting waiting' : List ℕ) (attrs : List Attr) (items : List Item)
+    → first ≡ shebang_line file.shebang → attrs ≡ file.attrs → items ≡ file.items
+    → Passed before middle (first ++ all_lines (map attr_form attrs)) waiting
+    → Passed middle now (waiting ++ all_lines (map form_of_item items)) waiting' → Passed before now (out file) waiting'
+file_passed before middle now file first waiting waiting' attrs items e f g p q =
+    rw (out_lines file, sym e, sym f, sym g)
+    (passed-more before middle now (first ++ all_lines (map attr_form attrs)) (all_lines (map form_of_item items)) waiting waiting' p q)
+
+pub file_stopped : (before middle now : Option (List ℕ)) (file : File) (first waiting : List ℕ) (attrs : List Attr) (items : List Item)
+    → first ≡ shebang_line file.shebang → attrs ≡ file.attrs → items ≡ file.items
+    → Passed before middle (first ++ all_lines (map attr_form attrs)) waiting
+    → GrewByPrefix middle now (waiting ++ all_lines (map form_of_item items)) → GrewByPrefix before now (out file)
+file_stopped before middle now file first waiting attrs items e f g p grew =
+    let rest = waiting ++ all_lines (map form_of_item items) in
+    passed-part before middle now (out file) rest
+    (file_passed before middle middle file first waiting rest attrs items e f g p (passed-nothing middle rest)) grew
