@@ -1,5 +1,5 @@
 -- The streams of forms, part by part.
-use Rattle.std.proofs.Common.{◌≡◌, ◌≢◌, ℕ, suc, ◌+◌, ◌-◌, ◌≤◌, ◌<◌, Bool, true, false, cond, List, [], ◌∷◌, ◌++◌, map, length, take, drop, get_or, drop-cons, add-one, pos, codes, Option, Some, None, Ok, refl, sym, ap, ◌∙◌, append_assoc, append-nil, arith}
+use Rattle.std.proofs.Common.{◌≡◌, ◌≢◌, ℕ, suc, ◌+◌, ◌-◌, ◌≤◌, ◌<◌, Bool, true, false, cond, List, [], ◌∷◌, ◌++◌, map, length, take, drop, get_or, drop-cons, add-one, pos, codes, Option, Ok, refl, sym, ap, ◌∙◌, append_assoc, append-nil, arith}
 use Rattle.std.proofs.Math.Seq.{take-length}
 use Rattle.std.proofs.Math.ListN.{drop_of_length-le}
 use Rattle.lay_token.proofs.Lines.{opened_document}
@@ -16,10 +16,10 @@ use Rattle.lay_token.specs.declared.token.Kind.TheVariants as kind
 use Rattle.lay_stream.specs.Fed.{Meanings, Did}
 use Rattle.lay_stream.proofs.Calls.{level_of}
 use Rattle.lay_tree.specs.Form.{Form, Blank, Opening, Closing, Soft, Hard, Never, Done, Piece, Leaf, LastComma, punct}
-use Rattle.lay_tree.specs.Layout.{laid_out, document, is_block, ends_behind_point, break_of, comma_break, token_ends_in_point}
-use Rattle.lay_tree.specs.Notation.{H, H-, comma_gap, each, part, text, listed, body, behind_attrs, when}
+use Rattle.lay_tree.specs.Layout.{document, is_block, ends_behind_point, break_of, comma_break, token_ends_in_point}
+use Rattle.lay_tree.specs.Notation.{H, comma_gap, each, part, text, listed, body, behind_attrs, when}
 use Rattle.lay_tree.specs.Nodes.{attr_form, colons, form_of_item, form_of_use, input_form, leaf_of, meta_path_form, path_form, rename_form, segment_form, segments_form, words_form}
-use Rattle.lay_tree.specs.Stream.{fed, feed_doc, feed_text, feed_token, stream_of}
+use Rattle.lay_tree.specs.Stream.{fed, feed_doc, feed_text, stream_of}
 use Rattle.lay_tree.specs.declared.tree.Attr.{Attr}
 use Rattle.lay_tree.specs.declared.tree.Attr.TheVariants as attr
 use Rattle.lay_tree.specs.declared.tree.Item.{Item}
@@ -281,9 +281,9 @@ list_parts e es =
     let end : List Tok = tok.End ∷ [] in
     ap (λ (s : List Tok). list_opened (codes "{") ++ s)
     (ap (λ (s : List Tok). stream_of e ++ s)
-        (ap (λ (s : List Tok). stream_of commas ++ s) (ap (λ (s : List Tok). tok.Break (comma_break 0) ∷ s) (brace (ends_behind_point point commas) end))
-        ∙ sym (fed_more false commas (fed (ends_behind_point point commas) last end))
-        ∙ sym (any_commas point es (fed (ends_behind_point point commas) last end)))
+    (ap (λ (s : List Tok). stream_of commas ++ s) (ap (λ (s : List Tok). tok.Break (comma_break 0) ∷ s) (brace (ends_behind_point point commas) end))
+    ∙ sym (fed_more false commas (fed (ends_behind_point point commas) last end))
+    ∙ sym (any_commas point es (fed (ends_behind_point point commas) last end)))
     ∙ sym (fed_more false e (fed point (part commas last) end)))
 
 pub no_trees : (trees : List UseTree) → length trees < 1 → tok.Text (codes "{}") ∷ [] ≡ stream_of (listed (Opening Brace) (Closing Brace) (map form_of_use trees))
@@ -314,7 +314,7 @@ lines_joined [] fs = refl
 lines_joined (e ∷ es) fs =
     sym (next_line e (es ++ fs))
     ∙ ap (λ (s : List Tok). tok.Break (break_of (Hard false)) ∷ s)
-        (ap (λ (s : List Tok). stream_of e ++ s) (lines_joined es fs) ∙ sym (append_assoc (stream_of e) (stream_of (each H es)) (stream_of (each H fs))))
+    (ap (λ (s : List Tok). stream_of e ++ s) (lines_joined es fs) ∙ sym (append_assoc (stream_of e) (stream_of (each H es)) (stream_of (each H fs))))
     ∙ ap (λ (s : List Tok). s ++ stream_of (each H fs)) (next_line e es)
 
 pub next_attr : (e : Form) (es : List Form)
@@ -336,7 +336,7 @@ item_parts one put same =
     ap (λ (es : List Attr). stream_of (behind_attrs (map attr_form es) Done) ++ stream_of (kind_form one.kind)) same
     ∙ ap (λ (f : Form). stream_of (behind_attrs attrs Done) ++ stream_of f) (kind_is one.kind)
     ∙ sym (ap stream_of (one_form one) ∙ attrs_on attrs (part (form_of_kind one.kind) Done) []
-        ∙ fed_more false (behind_attrs attrs Done) (stream_of (form_of_kind one.kind)))
+    ∙ fed_more false (behind_attrs attrs Done) (stream_of (form_of_kind one.kind)))
 
 pub struct_kind : (k : ItemKind) (name : Name) → k ≡ item.Struct name → stream_of (struct_part name) ≡ stream_of (kind_form k)
 struct_kind k name is = sym (ap (λ (x : ItemKind). stream_of (kind_form x)) is ∙ ap stream_of (kind_is _ ∙ struct_form name))

@@ -1,4 +1,3 @@
-
 use Rattle.lay_out_code.proofs.attributes.put_either.Goals as goal
 
 pub returns-then-inner : goal.returns-then-inner
