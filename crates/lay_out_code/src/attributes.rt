@@ -1,5 +1,5 @@
 //! Attributes.
-ghost use Rattle.std.specs.Prelude.{[], ◌∷◌, cond, map, codes, true, false};
+ghost use Rattle.std.specs.Prelude.{◌≡◌, [], ◌∷◌, cond, map, codes, true, false};
 ghost use Rattle.lay_token.specs.Docs.{doc_form};
 ghost use Rattle.lay_token.specs.declared.layout.Tok.TheVariants as tok;
 ghost use Rattle.lay_stream.specs.Fed.{Did};
@@ -57,9 +57,19 @@ fn put_meta<E: Emit>(
 fn put_doc<E: Emit>(out: &mut E, inner: bool, text: &[u8]) -> Result<(), E::Fault>
     ensures { Did E.meanings out.old (feed_doc inner (is_block (doc_form inner text.now)) text.now []) result out.new }
 {
+    if is_block(inner, text) {
+        return put_block(out, inner, text);
+    }
+    put_line(out, inner, text)
+}
+
+/// Whether documentation of this text stands in a block.
+fn is_block(inner: bool, text: &[u8]) -> bool
+    ensures { result ≡ is_block (doc_form inner text.now) }
+{
     match doc_form(text, inner) {
-        DocForm::Block => put_block(out, inner, text),
-        _ => put_line(out, inner, text),
+        DocForm::Block => true,
+        _ => false,
     }
 }
 
