@@ -1,25 +1,20 @@
 -- The streams of forms, part by part.
-use Rattle.std.proofs.Common.{◌≡◌, ◌≢◌, ℕ, suc, ◌+◌, ◌-◌, ◌≤◌, ◌<◌, Bool, true, false, cond, List, [], ◌∷◌, ◌++◌, map, length, take, drop, get_or, drop-cons, add-one, pos, codes, Option, Some, None, Ok, refl, sym, ap, ◌∙◌, append_assoc, append-nil, arith}
+use Rattle.std.proofs.Common.{◌≡◌, ◌≢◌, ℕ, suc, ◌+◌, ◌-◌, ◌≤◌, ◌<◌, Bool, true, false, cond, List, [], ◌∷◌, ◌++◌, map, length, take, drop, get_or, drop-cons, add-one, pos, codes, Option, Ok, refl, sym, ap, ◌∙◌, append_assoc, append-nil, arith}
 use Rattle.std.proofs.Math.Seq.{take-length}
 use Rattle.std.proofs.Math.ListN.{drop_of_length-le}
 use Rattle.lay_token.proofs.Lines.{opened_document}
-use Rattle.lay_token.specs.Docs.{doc_form}
 use Rattle.lay_token.specs.Document.{Empty}
 use Rattle.lay_token.specs.Machine.{opened}
-use Rattle.lay_token.specs.declared.doc.DocForm.{DocForm}
-use Rattle.lay_token.specs.declared.doc.DocForm.TheVariants as doc
 use Rattle.lay_token.specs.declared.layout.Tok.{Tok}
 use Rattle.lay_token.specs.declared.layout.Tok.TheVariants as tok
 use Rattle.lay_token.specs.declared.token.Delim.TheVariants.{Bracket, Brace}
-use Rattle.lay_token.specs.declared.token.Kind.{Kind}
-use Rattle.lay_token.specs.declared.token.Kind.TheVariants as kind
 use Rattle.lay_stream.specs.Fed.{Meanings, Did}
 use Rattle.lay_stream.proofs.Calls.{level_of}
 use Rattle.lay_tree.specs.Form.{Form, Blank, Opening, Closing, Soft, Hard, Never, Done, Piece, Leaf, LastComma, punct}
-use Rattle.lay_tree.specs.Layout.{laid_out, document, is_block, ends_behind_point, break_of, comma_break, token_ends_in_point}
-use Rattle.lay_tree.specs.Notation.{H, H-, comma_gap, each, part, text, listed, body, behind_attrs, when}
+use Rattle.lay_tree.specs.Layout.{document, ends_behind_point, break_of, comma_break, token_ends_in_point}
+use Rattle.lay_tree.specs.Notation.{H, comma_gap, each, part, text, listed, body, behind_attrs, when}
 use Rattle.lay_tree.specs.Nodes.{attr_form, colons, form_of_item, form_of_use, input_form, leaf_of, meta_path_form, path_form, rename_form, segment_form, segments_form, words_form}
-use Rattle.lay_tree.specs.Stream.{fed, feed_doc, feed_text, feed_token, stream_of}
+use Rattle.lay_tree.specs.Stream.{fed, feed_doc, feed_text, stream_of}
 use Rattle.lay_tree.specs.declared.tree.Attr.{Attr}
 use Rattle.lay_tree.specs.declared.tree.Attr.TheVariants as attr
 use Rattle.lay_tree.specs.declared.tree.Item.{Item}
@@ -73,7 +68,7 @@ loop_step s xs i x put lt is e = e ∙ ap s (sym (rest_first xs i x lt is))
 pub loop_done : {A : Type 0} (s : List A → List Tok) (xs : List A) (i : ℕ) → length xs ≤ i → s [] ≡ s (drop i xs)
 loop_done s xs i h = ap s (sym (drop_of_length-le xs h))
 
--- ---- words, tokens and documentation
+-- ---- words and documentation
 
 leaf_on : (raw : Bool) (word : List ℕ) (f : Form) (more : List Tok) → fed false (leaf_of raw word f) more ≡ fed false (leaf_of raw word Done) (fed false f more)
 leaf_on true word f more = refl
@@ -81,37 +76,6 @@ leaf_on false word f more = refl
 
 pub leaf_more : (raw : Bool) (word : List ℕ) (f : Form) → stream_of (leaf_of raw word Done) ++ stream_of f ≡ stream_of (leaf_of raw word f)
 leaf_more raw word f = sym (leaf_on raw word f [] ∙ fed_more false (leaf_of raw word Done) (stream_of f))
-
-pub plain_word : (raw : Bool) (word put : List ℕ) → raw ≡ false → put ≡ word → tok.Text put ∷ [] ≡ stream_of (leaf_of raw word Done)
-plain_word raw word put is same = rw (is, same) refl
-
-pub raw_word : (raw : Bool) (word put : List ℕ) → raw ≡ true → put ≡ word → tok.Text (codes "r#") ∷ tok.Text put ∷ [] ≡ stream_of (leaf_of raw word Done)
-raw_word raw word put is same = rw (is, same) refl
-
-pub raw_token : (k : Kind) (word : List ℕ) → k ≡ kind.RawIdent → tok.Text (codes "r#") ∷ tok.Text word ∷ [] ≡ stream_of (Leaf k word Done)
-raw_token k word is = rw is refl
-
-pub doc_token : (k : Kind) (inner block : Bool) (word : List ℕ) → k ≡ kind.Doc inner block
-    → feed_doc inner (is_block (doc_form inner word)) word [] ≡ stream_of (Leaf k word Done)
-doc_token k inner block word is = ap (λ (x : Kind). stream_of (Leaf x word Done)) (sym is)
-
-pub other_token : (k : Kind) (word : List ℕ) → k ≢ kind.RawIdent → ((inner block : Bool) → k ≢ kind.Doc inner block)
-    → tok.Text word ∷ [] ≡ stream_of (Leaf k word Done)
-other_token kind.RawIdent word h i = absurd (h refl)
-other_token (kind.Doc inner block) word h i = absurd (i inner block refl)
-other_token _ word h i = refl
-
-pub block_doc : (inner : Bool) (word : List ℕ) (x : DocForm) → x ≡ doc_form inner word → x ≡ doc.Block
-    → feed_doc inner true word [] ≡ feed_doc inner (is_block (doc_form inner word)) word []
-block_doc inner word x e is = ap (λ (y : DocForm). feed_doc inner (is_block y) word []) (sym is ∙ e)
-
-is_no_block : (x : DocForm) → x ≢ doc.Block → false ≡ is_block x
-is_no_block doc.Block h = absurd (h refl)
-is_no_block _ h = refl
-
-pub line_doc : (inner : Bool) (word : List ℕ) (x : DocForm) → x ≡ doc_form inner word → x ≢ doc.Block
-    → feed_doc inner false word [] ≡ feed_doc inner (is_block (doc_form inner word)) word []
-line_doc inner word x e h = ap (λ (b : Bool). feed_doc inner b word []) (is_no_block x h ∙ ap is_block e)
 
 text_more : (word : List ℕ) (more : List Tok) → feed_text word [] ++ more ≡ feed_text word more
 text_more [] more = refl
@@ -125,14 +89,6 @@ block_parts false word = ap (λ (s : List Tok). tok.Text (codes "/**") ∷ s) (t
 pub line_parts : (inner : Bool) (word : List ℕ) → tok.Text (cond inner (codes "//!") (codes "///")) ∷ feed_text word [] ≡ feed_doc inner false word []
 line_parts true word = refl
 line_parts false word = refl
-
-pub empty_text : (word : List ℕ) → length word ≡ 0 → [] ≡ feed_text word []
-empty_text [] h = refl
-empty_text (c ∷ cs) h = absurd (omega arith)
-
-pub full_text : (word : List ℕ) → length word ≢ 0 → tok.Text word ∷ [] ≡ feed_text word []
-full_text [] h = absurd (h refl)
-full_text (c ∷ cs) h = refl
 
 -- ---- paths and attributes
 
@@ -180,15 +136,6 @@ pub value_parts : (l : Literal) (put : List ℕ) → put ≡ l.text
 value_parts l put same =
     ap (λ (s : List Tok). tok.Text (codes " = ") ∷ tok.Begin false (pos 4) ∷ s)
     (ap (λ (word : List ℕ). stream_of (Leaf l.kind word Done) ++ tok.End ∷ []) same ∙ sym (fed_more false (Leaf l.kind l.text Done) (tok.End ∷ [])))
-
-pub doc_attr : (a : Attr) (inner : Bool) (word put : List ℕ) → a ≡ attr.Doc inner word → put ≡ word
-    → feed_doc inner (is_block (doc_form inner put)) put [] ≡ stream_of (attr_form a)
-doc_attr a inner word put is same =
-    ap (λ (w : List ℕ). feed_doc inner (is_block (doc_form inner w)) w []) same ∙ ap (λ (x : Attr). stream_of (attr_form x)) (sym is)
-
-pub meta_attr : (a : Attr) (inner : Bool) (path : MetaPath) (i : MetaInput) → a ≡ attr.Meta inner path i
-    → stream_of (attr_form (attr.Meta inner path i)) ≡ stream_of (attr_form a)
-meta_attr a inner path i is = ap (λ (x : Attr). stream_of (attr_form x)) (sym is)
 
 behind_opening : (path : MetaPath) (i : MetaInput)
     → stream_of (meta_path_form path) ++ (stream_of (input_form i Done) ++ (tok.Text (codes "]") ∷ []))
@@ -281,9 +228,9 @@ list_parts e es =
     let end : List Tok = tok.End ∷ [] in
     ap (λ (s : List Tok). list_opened (codes "{") ++ s)
     (ap (λ (s : List Tok). stream_of e ++ s)
-        (ap (λ (s : List Tok). stream_of commas ++ s) (ap (λ (s : List Tok). tok.Break (comma_break 0) ∷ s) (brace (ends_behind_point point commas) end))
-        ∙ sym (fed_more false commas (fed (ends_behind_point point commas) last end))
-        ∙ sym (any_commas point es (fed (ends_behind_point point commas) last end)))
+    (ap (λ (s : List Tok). stream_of commas ++ s) (ap (λ (s : List Tok). tok.Break (comma_break 0) ∷ s) (brace (ends_behind_point point commas) end))
+    ∙ sym (fed_more false commas (fed (ends_behind_point point commas) last end))
+    ∙ sym (any_commas point es (fed (ends_behind_point point commas) last end)))
     ∙ sym (fed_more false e (fed point (part commas last) end)))
 
 pub no_trees : (trees : List UseTree) → length trees < 1 → tok.Text (codes "{}") ∷ [] ≡ stream_of (listed (Opening Brace) (Closing Brace) (map form_of_use trees))
@@ -314,7 +261,7 @@ lines_joined [] fs = refl
 lines_joined (e ∷ es) fs =
     sym (next_line e (es ++ fs))
     ∙ ap (λ (s : List Tok). tok.Break (break_of (Hard false)) ∷ s)
-        (ap (λ (s : List Tok). stream_of e ++ s) (lines_joined es fs) ∙ sym (append_assoc (stream_of e) (stream_of (each H es)) (stream_of (each H fs))))
+    (ap (λ (s : List Tok). stream_of e ++ s) (lines_joined es fs) ∙ sym (append_assoc (stream_of e) (stream_of (each H es)) (stream_of (each H fs))))
     ∙ ap (λ (s : List Tok). s ++ stream_of (each H fs)) (next_line e es)
 
 pub next_attr : (e : Form) (es : List Form)
@@ -336,7 +283,7 @@ item_parts one put same =
     ap (λ (es : List Attr). stream_of (behind_attrs (map attr_form es) Done) ++ stream_of (kind_form one.kind)) same
     ∙ ap (λ (f : Form). stream_of (behind_attrs attrs Done) ++ stream_of f) (kind_is one.kind)
     ∙ sym (ap stream_of (one_form one) ∙ attrs_on attrs (part (form_of_kind one.kind) Done) []
-        ∙ fed_more false (behind_attrs attrs Done) (stream_of (form_of_kind one.kind)))
+    ∙ fed_more false (behind_attrs attrs Done) (stream_of (form_of_kind one.kind)))
 
 pub struct_kind : (k : ItemKind) (name : Name) → k ≡ item.Struct name → stream_of (struct_part name) ≡ stream_of (kind_form k)
 struct_kind k name is = sym (ap (λ (x : ItemKind). stream_of (kind_form x)) is ∙ ap stream_of (kind_is _ ∙ struct_form name))

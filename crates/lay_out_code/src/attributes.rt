@@ -1,17 +1,18 @@
 //! Attributes.
-ghost use Rattle.std.specs.Prelude.{[], ◌∷◌, cond, codes, true, false};
+ghost use Rattle.std.specs.Prelude.{◌≡◌, [], ◌∷◌, cond, map, codes, true, false};
 ghost use Rattle.lay_token.specs.Docs.{doc_form};
 ghost use Rattle.lay_token.specs.declared.layout.Tok.TheVariants as tok;
 ghost use Rattle.lay_stream.specs.Fed.{Did};
 ghost use Rattle.lay_tree.specs.Form.{Done, Leaf};
 ghost use Rattle.lay_tree.specs.Layout.{is_block};
 ghost use Rattle.lay_tree.specs.Nodes.{attr_form, colons, input_form, leaf_of, meta_path_form, path_form, segment_form, segments_form};
-ghost use Rattle.lay_tree.specs.Notation.{when};
+ghost use Rattle.lay_tree.specs.Notation.{behind_attrs, when};
 ghost use Rattle.lay_tree.specs.Stream.{feed_doc, feed_text, stream_of};
 ghost use Rattle.lay_tree.specs.declared.tree.Attr.TheVariants as attr;
 ghost use Rattle.lay_tree.specs.declared.tree.MetaInput.TheVariants as input;
 ghost use Rattle.lay_out_code.specs.Parts.{further_segments};
 
+use crate::notation::HARD_BREAK;
 use lay_stream::Emit;
 use lay_token::{DocForm, Kind, Text, doc_form};
 use lay_tree::{Attr, Literal, MetaInput, MetaPath, Path, Segment};
@@ -26,8 +27,24 @@ pub fn put_attr<E: Emit>(out: &mut E, attr: &Attr) -> Result<(), E::Fault>
     }
 }
 
+/// Attributes, each with a newline behind it.
+pub fn put_outer_attrs<E: Emit>(out: &mut E, attrs: &[Attr]) -> Result<(), E::Fault>
+    ensures { Did E.meanings out.old (stream_of (behind_attrs (map attr_form attrs.now) Done)) result out.new }
+{
+    for attr in attrs {
+        put_attr(out, attr)?;
+        out.brk(HARD_BREAK)?;
+    }
+    Ok(())
+}
+
 /// An attribute that isn't documentation.
-fn put_meta<E: Emit>(out: &mut E, inner: bool, path: &MetaPath, input: &MetaInput) -> Result<(), E::Fault>
+fn put_meta<E: Emit>(
+    out: &mut E,
+    inner: bool,
+    path: &MetaPath,
+    input: &MetaInput,
+) -> Result<(), E::Fault>
     ensures { Did E.meanings out.old (stream_of (attr_form (attr.Meta inner path.now input.now))) result out.new }
 {
     put_either(out, inner, b"#![", b"#[")?;
@@ -40,9 +57,19 @@ fn put_meta<E: Emit>(out: &mut E, inner: bool, path: &MetaPath, input: &MetaInpu
 fn put_doc<E: Emit>(out: &mut E, inner: bool, text: &[u8]) -> Result<(), E::Fault>
     ensures { Did E.meanings out.old (feed_doc inner (is_block (doc_form inner text.now)) text.now []) result out.new }
 {
+    if is_block(inner, text) {
+        return put_block(out, inner, text);
+    }
+    put_line(out, inner, text)
+}
+
+/// Whether documentation of this text stands in a block.
+fn is_block(inner: bool, text: &[u8]) -> bool
+    ensures { result ≡ is_block (doc_form inner text.now) }
+{
     match doc_form(text, inner) {
-        DocForm::Block => put_block(out, inner, text),
-        _ => put_line(out, inner, text),
+        DocForm::Block => true,
+        _ => false,
     }
 }
 
@@ -64,7 +91,12 @@ fn put_line<E: Emit>(out: &mut E, inner: bool, text: &[u8]) -> Result<(), E::Fau
 }
 
 /// What begins an inner attribute, or an outer one.
-fn put_either<E: Emit>(out: &mut E, inner: bool, if_inner: &[u8], if_outer: &[u8]) -> Result<(), E::Fault>
+fn put_either<E: Emit>(
+    out: &mut E,
+    inner: bool,
+    if_inner: &[u8],
+    if_outer: &[u8],
+) -> Result<(), E::Fault>
     ensures { Did E.meanings out.old (tok.Text (cond inner if_inner.now if_outer.now) ∷ []) result out.new }
 {
     if inner {

@@ -4,11 +4,11 @@ ghost use Rattle.lay_token.specs.declared.layout.Tok.TheVariants as tok;
 ghost use Rattle.lay_stream.specs.Fed.{Did};
 ghost use Rattle.lay_tree.specs.Form.{Blank, Done};
 ghost use Rattle.lay_tree.specs.Nodes.{attr_form, form_of_item, leaf_of};
-ghost use Rattle.lay_tree.specs.Notation.{H, behind_attrs, body, each};
+ghost use Rattle.lay_tree.specs.Notation.{H, body, each};
 ghost use Rattle.lay_tree.specs.Stream.{stream_of};
 ghost use Rattle.lay_out_code.specs.Parts.{import_part, kind_form, module_part, no_forms, struct_part};
 
-use crate::attributes::{put_attr, put_word};
+use crate::attributes::{put_attr, put_outer_attrs, put_word};
 use crate::notation::{HARD_BREAK, close_body, open_body};
 use crate::uses::put_use;
 use lay_stream::Emit;
@@ -30,14 +30,24 @@ fn put_kind<E: Emit>(out: &mut E, kind: &ItemKind) -> Result<(), E::Fault>
 {
     match kind {
         ItemKind::Struct { name } => put_struct(out, name),
-        ItemKind::Module { name, attrs, items } => put_module(out, name, attrs.as_slice(), items.as_slice()),
+        ItemKind::Module { name, attrs, items } => put_module(
+            out,
+            name,
+            attrs.as_slice(),
+            items.as_slice(),
+        ),
         ItemKind::Import { tree } => put_import(out, tree),
     }
 }
 
 /// A module.
 #[cycle(put_item)]
-fn put_module<E: Emit>(out: &mut E, name: &Name, attrs: &[Attr], items: &[Item]) -> Result<(), E::Fault>
+fn put_module<E: Emit>(
+    out: &mut E,
+    name: &Name,
+    attrs: &[Attr],
+    items: &[Item],
+) -> Result<(), E::Fault>
     ensures { Did E.meanings out.old (stream_of (module_part name.now attrs.now items.now)) result out.new }
 {
     put_head(out, b"mod ", name)?;
@@ -106,17 +116,6 @@ fn put_inner_attrs<E: Emit>(out: &mut E, attrs: &[Attr]) -> Result<(), E::Fault>
     for attr in attrs {
         out.brk(HARD_BREAK)?;
         put_attr(out, attr)?;
-    }
-    Ok(())
-}
-
-/// Attributes, each with a newline behind it.
-fn put_outer_attrs<E: Emit>(out: &mut E, attrs: &[Attr]) -> Result<(), E::Fault>
-    ensures { Did E.meanings out.old (stream_of (behind_attrs (map attr_form attrs.now) Done)) result out.new }
-{
-    for attr in attrs {
-        put_attr(out, attr)?;
-        out.brk(HARD_BREAK)?;
     }
     Ok(())
 }

@@ -6,7 +6,7 @@ use Rattle.lay_tree.specs.Stream.{stream_of}
 use Rattle.lay_tree.specs.Nodes.{attr_form}
 use Rattle.lay_tree.specs.declared.tree.Attr.{Attr}
 use Rattle.lay_out_code.proofs.OutLemmas.{loop_step, loop_done, next_attr}
-use Rattle.lay_out_code.proofs.items.put_outer_attrs.Goals as goal
+use Rattle.lay_out_code.proofs.attributes.put_outer_attrs.Goals as goal
 
 pub returns-in_err-put_attr : goal.returns-in_err-put_attr
 returns-in_err-put_attr g c =
