@@ -5,7 +5,7 @@ use Rattle.lay_front.proofs.WritingLemmas.{turn-more, turn-stopped, turn-failed}
 use Rattle.lay_front.proofs.format.write_attrs.Goals as goal
 
 pub returns-in-Err-clause-part : goal.returns-in-Err-clause-part
-returns-in-Err-clause-part g c = turn-stopped attr_form _ _ _ _ _ _ _ c.loop-attr.invariant.turn (grew_by_prefix-nothing _ _)
+returns-in-Err-clause-part g c = turn-stopped attr_form _ _ _ c.args.waiting.now.items _ c.args.attrs.now c.loop-attr.attr-index c.loop-attr.invariant.turn (grew_by_prefix-nothing _ _)
 
 pub returns-in-Err-write_behind-clause-part : goal.returns-in-Err-write_behind-clause-part
 returns-in-Err-write_behind-clause-part g c =

@@ -5,7 +5,7 @@ use Rattle.lay_front.proofs.WritingLemmas.{turn-more, turn-stopped, turn-failed}
 use Rattle.lay_front.proofs.format.write_items.Goals as goal
 
 pub returns-in-Err-clause-part : goal.returns-in-Err-clause-part
-returns-in-Err-clause-part g c = turn-stopped form_of_item _ _ _ _ _ _ _ c.loop-item.invariant.turn (grew_by_prefix-nothing _ _)
+returns-in-Err-clause-part g c = turn-stopped form_of_item _ _ _ c.args.waiting.now.items _ c.args.items.now c.loop-item.item-index c.loop-item.invariant.turn (grew_by_prefix-nothing _ _)
 
 pub returns-in-Err-write_behind-clause-part : goal.returns-in-Err-write_behind-clause-part
 returns-in-Err-write_behind-clause-part g c =
