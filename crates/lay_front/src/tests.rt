@@ -200,11 +200,11 @@ fn depths(rt: HostRuntime) -> Result<(), Fail> {
         (nested(alloc, 257)?, refused),
         (nested(alloc, 10_000)?, refused),
         (
-            repeated(alloc, b"{", 100_000)?,
-            Status::Refused(Refusal::Unbalanced { at: 99_999 }),
+            repeated(alloc, b"(", 1_000_000)?,
+            Status::Refused(Refusal::Unbalanced { at: 999_999 }),
         ),
         (
-            repeated(alloc, b"}", 100_000)?,
+            repeated(alloc, b"}", 1_000_000)?,
             Status::Refused(Refusal::Unbalanced { at: 0 }),
         ),
     ];

@@ -11,9 +11,12 @@ pub read_file-requires-clause-lexed : goal.read_file-requires-clause-lexed
 read_file-requires-clause-lexed c =
     let nested = c.in-Ok-nest.ensures.0 in
     let text = c.in-Ok.source.text in
-    let start = c.in-Ok.source.start in
-    (text, start, IsUtf8-drop text start c.in-Ok.ensures.ready.0 c.in-Ok.ensures.ready.1,
-    subst (λ (ts : List Token). Lexes text start ts) (sym nested) c.in-Ok-lex.ensures.answer)
+    let start = c.in-Ok.source.start in (
+      text,
+      start,
+      IsUtf8-drop text start c.in-Ok.ensures.ready.0 c.in-Ok.ensures.ready.1,
+      subst (λ (ts : List Token). Lexes text start ts) (sym nested) c.in-Ok-lex.ensures.answer,
+    )
 
 pub read_file-requires-clause-good : goal.read_file-requires-clause-good
 read_file-requires-clause-good c = source_good c.args.bytes.now (seen c.in-Ok.source) c.in-Ok.ensures.answer
