@@ -145,12 +145,10 @@ words_from_sound (suc n) found ts ws rest h =
           ([], no_more found _ e.0, (λ f depth end s. rw e.1 s), refl)
       | inr g ↦
           let w = path_word_sound ts g.0.0 g.0.1 g.1 in
-          let r = words_from_sound n (found ++ g.0.0 ∷ []) g.0.1 ws rest g.2 in (
-            g.0.0 ∷ r.0,
-            one_more found g.0.0 r.0 _ r.1,
-            (λ f depth end s. w.0 (words_form r.0 f) depth end (r.2 f depth end s)),
-            and_true (is_word g.0.0.raw g.0.0.text) (are_words r.0) w.1 r.3,
-          )
+          let r = words_from_sound n (found ++ g.0.0 ∷ []) g.0.1 ws rest g.2 in
+          (g.0.0 ∷ r.0, one_more found g.0.0 r.0 _ r.1,
+          (λ f depth end s. w.0 (words_form r.0 f) depth end (r.2 f depth end s)),
+          and_true (is_word g.0.0.raw g.0.0.text) (are_words r.0) w.1 r.3)
     ]
 
 words_sound : (ts : Tokens) (ws : List Word) (rest : Tokens) → words ts ≡ Some (ws, rest) → Leads (words_form ws) ts rest × (are_words ws ≡ true)
@@ -175,12 +173,10 @@ segments_from_sound (suc n) found ts segments rest h =
       | inl g ↦
           let b = bind_some (word (drop 2 ts)) go_on (segments, rest) g.1 in
           let w = word_sound (drop 2 ts) b.0.0 b.0.1 b.1 in
-          let r = segments_from_sound n (found ++ segment_of b.0.0 ∷ []) b.0.1 segments rest b.2 in (
-            segment_of b.0.0 ∷ r.0,
-            one_more found (segment_of b.0.0) r.0 _ r.1,
-            (λ f depth end s. (drop 2 ts, colons_bits ts g.0, leaf_leads b.0.0.raw b.0.0.text (drop 2 ts) b.0.1 w.0 (more_segments_form r.0 f) depth end (r.2 f depth end s))),
-            and_true (is_word b.0.0.raw b.0.0.text) (are_segments r.0) w.1 r.3,
-          )
+          let r = segments_from_sound n (found ++ segment_of b.0.0 ∷ []) b.0.1 segments rest b.2 in
+          (segment_of b.0.0 ∷ r.0, one_more found (segment_of b.0.0) r.0 _ r.1,
+          (λ f depth end s. (drop 2 ts, colons_bits ts g.0, leaf_leads b.0.0.raw b.0.0.text (drop 2 ts) b.0.1 w.0 (more_segments_form r.0 f) depth end (r.2 f depth end s))),
+          and_true (is_word b.0.0.raw b.0.0.text) (are_segments r.0) w.1 r.3)
       | inr g ↦
           let e = got_same found segments ts rest g.1 in
           ([], no_more found _ e.0, (λ f depth end s. rw e.1 s), refl)
@@ -201,7 +197,7 @@ path_parts starts w more segments path depth ts inside named left rest lead one 
     let S : Form → Type 0 = λ f. Spells f depth inside rest in
     let joined = subst S (sym (segments_are (segment_of w) more Done)) inner in
     let good : GoodPath depth ts rest (path_of starts (segment_of w ∷ more)) =
-    ((rest, lead (segments_form (segment_of w ∷ more) Done) depth rest joined, (λ x. absurd x), refl), and_true (is_word w.raw w.text) (are_segments more) ok oks) in
+        ((rest, lead (segments_form (segment_of w ∷ more) Done) depth rest joined, (λ x. absurd x), refl), and_true (is_word w.raw w.text) (are_segments more) ok oks) in
     subst (GoodPath depth ts rest) (ap (path_of starts) (sym is) ∙ whole_path) good
 
 simple_path_sound : (depth : ℕ) (ts : Tokens) (path : Path) (rest : Tokens) → simple_path ts ≡ Some (path, rest) → GoodPath depth ts rest path
@@ -323,10 +319,9 @@ module _ (inner : Bool) (depth : ℕ) (ts rest : Tokens) where
         let behind = input_leads given mid closing i (text (Closing Bracket ∷ [])) depth rest closed in
         let normal : not (is_doc_path path && is_doc_input inner given) ≡ true = rw plain refl in
         let named = and_true (same_flag inner inner) (is_meta_path path) (same_as_itself inner) p in
-        let filled = and_true (same_flag inner inner && is_meta_path path) (is_input given) named (input_normal given mid closing i) in (
-          (inside, o, (mid, s, (λ x. absurd x), behind)),
-          and_true (same_flag inner inner && is_meta_path path && is_input given) (not (is_doc_path path && is_doc_input inner given)) filled normal,
-        )
+        let filled = and_true (same_flag inner inner && is_meta_path path) (is_input given) named (input_normal given mid closing i) in
+        ((inside, o, (mid, s, (λ x. absurd x), behind)),
+        and_true (same_flag inner inner && is_meta_path path && is_input given) (not (is_doc_path path && is_doc_input inner given)) filled normal)
 
     module _ (l : Literal) (i : InputIs (input.Value l) mid closing) where
       abbrev other : Attr
@@ -338,10 +333,9 @@ module _ (inner : Bool) (depth : ℕ) (ts rest : Tokens) where
       text_sound value d v true w =
           let docs : AreBits (keyword (codes "doc") ∷ Operator (codes "=") ∷ []) inside (drop 1 mid) = (mid, doc_name path depth inside mid d s, (drop 1 mid, (i.0, refl), refl)) in
           let opened = bits_joined (attr_opening inner) (keyword (codes "doc") ∷ Operator (codes "=") ∷ []) ts inside (drop 1 mid) o docs in
-          let string = string_one l.kind l.text value (drop 1 mid) closing i.1 v in (
-            (rest, inr (drop 1 mid, opened, (closing, string, (rest, c, refl))), refl),
-            and_true (same_flag inner inner) (is_doc_text inner (encode_utf8_all value)) (same_as_itself inner) w,
-          )
+          let string = string_one l.kind l.text value (drop 1 mid) closing i.1 v in
+          ((rest, inr (drop 1 mid, opened, (closing, string, (rest, c, refl))), refl),
+          and_true (same_flag inner inner) (is_doc_text inner (encode_utf8_all value)) (same_as_itself inner) w)
       text_sound value d v false w = plain_sound (input.Value l) i (rw (d, v) w)
 
       value_sound : is_doc_path path ≡ true → (v : Option (List ℕ)) → value_of l.kind (chars l.text) ≡ v → GoodAttr (doc_or inner v other)
@@ -480,12 +474,9 @@ module _ {A : Type 0} (element : Tokens → Got A) (form : A → Form) (ok : A �
             elim (element_end_is b.0.1 c.0 c.1) [
               | inl m ↦
                   let left = kept_one P behind Punct (codes ",") b.0.1 c.0 m (kept P behind (form b.0.0) depth ts b.0.1 x.0 p) in
-                  let r = group_from_sound n (found ++ b.0.0 ∷ []) c.0 xs rest left c.2 in (
-                    b.0.0 ∷ r.0,
-                    one_more found b.0.0 r.0 _ r.1,
-                    comma_element (form b.0.0) (map form r.0) depth ts b.0.1 c.0 rest x.0 m r.2,
-                    and_true (ok b.0.0) (list_all ok r.0) x.1 r.3,
-                  )
+                  let r = group_from_sound n (found ++ b.0.0 ∷ []) c.0 xs rest left c.2 in
+                  (b.0.0 ∷ r.0, one_more found b.0.0 r.0 _ r.1, comma_element (form b.0.0) (map form r.0) depth ts b.0.1 c.0 rest x.0 m r.2,
+                  and_true (ok b.0.0) (list_all ok r.0) x.1 r.3)
               | inr m ↦
                   let e = group_closed element n (found ++ b.0.0 ∷ []) c.0 xs rest m.0 c.2 in
                   let C : Tokens → Type 0 = λ us. IsKind (Closer Brace) us rest in
@@ -633,12 +624,12 @@ module _ (within : Tokens → Got UseTree) (depth : ℕ)
       let q = got_same (tree_of b.0.0 c.0.0) tree c.0.1 rest c.2 in
       let w = words_sound (global ts).1 b.0.0 b.0.1 b.1 in
       let lead : (f : Form) (end : Tokens) → Spells f depth b.0.1 end → Spells (when (global ts).0 colons (words_form b.0.0 f)) depth ts end =
-      λ f end s. global_leads ts (words_form b.0.0 f) depth end (w.0 f depth end s) in
+          λ f end s. global_leads ts (words_form b.0.0 f) depth end (w.0 f depth end s) in
       let left = kept UnderscoreTexts behind_first (when (global ts).0 colons (words_form b.0.0 Done)) depth ts b.0.1 (lead Done b.0.1 refl) p in
       let e = use_end_sound b.0.1 c.0.0 c.0.1 left c.1 in
       let inner : Spells (part (form_of_end c.0.0) Done) depth b.0.1 rest = (c.0.1, e.0, (λ x. absurd x), q.1) in
       let spelled : Spells (form_of_use (tree_of b.0.0 c.0.0)) (suc depth) ts rest =
-      rw (use_form (tree_of b.0.0 c.0.0)) (rest, (rest, lead (part (form_of_end c.0.0) Done) rest inner, refl), (λ x. absurd x), refl) in
+          rw (use_form (tree_of b.0.0 c.0.0)) (rest, (rest, lead (part (form_of_end c.0.0) Done) rest inner, refl), (λ x. absurd x), refl) in
       let normal : is_use (tree_of b.0.0 c.0.0) ≡ true = rw (use_normal (tree_of b.0.0 c.0.0)) (and_true (are_words b.0.0) (is_end c.0.0) w.1 e.1) in
       subst (GoodUse ts rest) {x = tree_of b.0.0 c.0.0} q.0 (spelled, normal)
 
@@ -685,7 +676,7 @@ import_sound tree depth sound ts named kind rest k p h =
     let q = got_same (item.Import b.0.0) kind c.0 rest c.2 in
     let t = sound named b.0.0 b.0.1 p b.1 in
     let before : Spells (Piece (keyword (codes "use") ∷ Blank ∷ []) (part (form_of_use b.0.0) Done)) depth ts b.0.1 =
-    (named, (named, k, (named, refl, refl)), (b.0.1, t.0, (λ x. absurd x), refl)) in
+        (named, (named, k, (named, refl, refl)), (b.0.1, t.0, (λ x. absurd x), refl)) in
     let ended = semicolon_text depth b.0.1 c.0 rest c.1 q.1 in
     subst (GoodKind depth ts rest) {x = item.Import b.0.0} q.0 (rw (import_form b.0.0) (b.0.1, before, ended), rw (import_normal b.0.0) t.1)
 
@@ -729,7 +720,7 @@ module _ (within : Tokens → Got Item) (tree : Tokens → Got UseTree) (depth :
       let behind = tail ts in
       let is : List ℕ → Bool = λ keyword_text. first (is_keyword keyword_text) ts in
       let left : (keyword_text : List ℕ) → IsOne Ident keyword_text ts behind → UnderscoreTexts behind =
-      λ keyword_text k. kept_one UnderscoreTexts behind_first Ident keyword_text ts behind k p in
+          λ keyword_text k. kept_one UnderscoreTexts behind_first Ident keyword_text ts behind k p in
       let imported : Got ItemKind = if is (codes "use") then import_by tree behind else None in
       elim (chosen (is (codes "struct")) (struct_item behind) (if is (codes "mod") then module_by within behind else imported) (Some (kind, rest)) h) [
         | inl g ↦ struct_sound depth ts behind kind rest (keyword_one (codes "struct") ts g.0) g.1
@@ -757,7 +748,7 @@ module _ (within : Tokens → Got Item) (tree : Tokens → Got UseTree) (depth :
       let kind = kind_sound b.0.1 c.0.0 c.0.1 left c.1 in
       let inner : Spells (part (form_of_kind c.0.0) Done) depth b.0.1 rest = (c.0.1, kind.0, (λ x. absurd x), q.1) in
       let spelled : Spells (form_of_item (item_of b.0.0 c.0.0)) (suc depth) ts rest =
-      rw (one_form (item_of b.0.0 c.0.0)) (rest, behind_attrs_spelled (map attr_form b.0.0) (part (form_of_kind c.0.0) Done) depth ts b.0.1 rest attrs.0 inner, refl) in
+          rw (one_form (item_of b.0.0 c.0.0)) (rest, behind_attrs_spelled (map attr_form b.0.0) (part (form_of_kind c.0.0) Done) depth ts b.0.1 rest attrs.0 inner, refl) in
       let normal : is_item (item_of b.0.0 c.0.0) ≡ true = rw (one_normal (item_of b.0.0 c.0.0)) (and_true (are_attrs false b.0.0) (is_kind c.0.0) attrs.1 kind.1) in
       subst (GoodItem ts rest) {x = item_of b.0.0 c.0.0} q.0 (spelled, normal)
 

@@ -163,11 +163,9 @@ body_spelled before skipped [] depth ts opening inside first closing rest b o s 
     let opened : AreBits (Opening Brace ∷ (skipped ++ Closing Brace ∷ [])) opening rest = (inside, o, bits_joined skipped (Closing Brace ∷ []) inside first rest s closed) in
     (rest, bits_joined before (Opening Brace ∷ (skipped ++ Closing Brace ∷ [])) ts opening rest b opened, refl)
 body_spelled before skipped (e ∷ es) depth ts opening inside first closing rest b o s i c =
-    let opened : AreBits (Opening Brace ∷ skipped) opening first = (inside, o, s) in (
-      first,
-      bits_joined before (Opening Brace ∷ skipped) ts opening first b opened,
-      (closing, (closing, each_line_spelled (e ∷ es) depth first closing i, (λ x. absurd x), refl), (rest, (rest, c, refl), refl)),
-    )
+    let opened : AreBits (Opening Brace ∷ skipped) opening first = (inside, o, s) in
+    (first, bits_joined before (Opening Brace ∷ skipped) ts opening first b opened,
+    (closing, (closing, each_line_spelled (e ∷ es) depth first closing i, (λ x. absurd x), refl), (rest, (rest, c, refl), refl)))
 
 -- ---- lists
 

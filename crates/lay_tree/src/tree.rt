@@ -24,9 +24,7 @@ pub struct Item {
 #[derive(Debug, Drop)]
 pub enum ItemKind {
     /// `struct A;`
-    Struct {
-        name: Name,
-    },
+    Struct { name: Name },
     /// `mod a { struct B; }`, with its inner attributes and its items
     Module {
         name: Name,
@@ -34,9 +32,7 @@ pub enum ItemKind {
         items: List<Item>,
     },
     /// `use a::{b, c};`
-    Import {
-        tree: UseTree,
-    },
+    Import { tree: UseTree },
 }
 
 /// What an import names (Rust Reference, "Use declarations"). One in a group stands one level deeper.
@@ -74,10 +70,7 @@ pub enum Rename {
 #[derive(Debug, Drop)]
 pub enum Attr {
     /// Documentation. It may be spelled as a comment or as `#[doc = "text"]`.
-    Doc {
-        inner: bool,
-        text: Text,
-    },
+    Doc { inner: bool, text: Text },
     /// `#[path]` or `#[path = literal]`
     Meta {
         inner: bool,
