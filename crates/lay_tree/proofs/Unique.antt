@@ -13,7 +13,7 @@ use Rattle.lay_tree.specs.Notation.{part, text, listed, when}
 use Rattle.lay_tree.specs.Nodes.{leaf_of, colons, ends_path, attr_form, words_form, no_rename, rename_form, use_end_form, use_tree_form, form_of_use, form_of_item}
 use Rattle.lay_tree.specs.Written.{is_word, is_attr, is_name, is_rename, is_use_end, is_use_tree, is_use, is_item}
 use Rattle.lay_tree.specs.Reading.{SpellsFile}
-use Rattle.lay_tree.specs.Reader.{Tokens, Got, first, is_keyword, global, word, word_by, path_word, words_from, words, other_name, renamed, is_brace_opener, is_brace_closer, opens_brace, closes_brace, use_end_by, use_by, use_at, name, whole}
+use Rattle.lay_tree.specs.Reader.{Tokens, Got, first, is_keyword, global, word, word_by, path_word, words_from, words, other_name, renamed, is_brace_opener, is_brace_closer, opens_brace, closes_brace, use_end_by, use_by, use_at}
 use Rattle.lay_tree.specs.declared.tree.Attr.{Attr}
 use Rattle.lay_tree.specs.declared.tree.Name.{Name}
 use Rattle.lay_tree.specs.declared.tree.Word.{Word}
@@ -62,7 +62,7 @@ one_item item other ts n m depth g h s t =
 pub one_file : (file other : File) (ts : Tokens) → file.shebang ≡ other.shebang → SpellsFile file ts → SpellsFile other ts → file ≡ other
 one_file file other ts e s t = file_unique file other ts s.1 s.0.normal t.1 t.0.normal e
 
--- ---- what a use tree is made of, and what is read of its parts
+-- ---- what a use tree is made of, and what is read of its parts (as in ReaderComplete, where these are private)
 
 global_parts : (leads : Bool) (f : Form) (depth : ℕ) (ts rest : Tokens) → Spells (when leads colons f) depth ts rest
     → ((us : Tokens) → Spells f depth us rest → is_op (codes "::") us ≡ false) → (mid : Tokens) × (global ts ≡ (leads, mid)) × Spells f depth mid rest
