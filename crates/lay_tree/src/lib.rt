@@ -9,7 +9,7 @@
 mod laws;
 pub mod tree;
 
-pub use laws::form_law;
+pub use laws::{form_law, node_law};
 pub use tree::{
     Attr, File, Item, ItemKind, Literal, MetaInput, MetaPath, Name, Path, Rename, Segment, UseEnd,
     UseTree, Word,
