@@ -6,9 +6,11 @@
 //! be written, and `Reading` which bytes read to which file.
 #![tactic(auto)]
 
+pub mod boxed;
 mod laws;
 pub mod tree;
 
+pub use boxed::Boxed;
 pub use laws::form_law;
 pub use tree::{
     Attr, File, Item, ItemKind, Literal, MetaInput, MetaPath, Name, Path, Rename, Segment, UseEnd,
