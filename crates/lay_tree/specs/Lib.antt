@@ -7,3 +7,4 @@ pub mod Reading
 pub mod Spelled
 pub mod Stream
 pub mod Written
+pub mod formers
