@@ -3,11 +3,11 @@
 
 usage: refuse_memory.py CRATE [WORD]    of the tests of crates/CRATE, those whose names have WORD
 
-`rt test` proves and builds the tests first. `cc` compiles what stands before the system's allocator: it counts the
-calls, of which a test makes the same each time, and refuses one. A run in which one was refused must end with an error
-that says so, NoMemory or, of a list that the test itself makes, std's own: so a failed comparison, a panic or an answer
-in place of the error is seen. The sweep over a test ends with the first run in which nothing was refused, which must
-pass.
+`rt test` proves and builds the tests first. `cc` compiles what stands before the allocator of the GNU C library: it
+counts the calls, of which a test makes the same each time, and refuses one. A run in which one was refused must end
+with an error that says so, NoMemory or, of a list that the test itself makes, std's own: so a failed comparison, a
+panic or an answer in place of the error is seen. The sweep over a test ends with the first run in which nothing was
+refused, which must pass.
 """
 import os, subprocess, sys, tempfile
 
