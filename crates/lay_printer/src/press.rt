@@ -41,6 +41,8 @@ impl<'p, K: Sink> Press<'p, K> {
     pub fn finish(&mut self) -> Result<(), PrintError>
         requires { self.old.core.now.failed ≡ None → open_groups_of self.old.core.now ≡ 0 }
         ensures finishes { Finishes self.old.core.now (K.written self.old.sink.now) (K.faults self.old.sink.now) result self.new.core.now (K.written self.new.sink.now) (K.faults self.new.sink.now) }
+        ensures stays { OnOk result (self.new.core.now.failed ≡ None) }
+        ensures empty { OnOk result (entries_of self.new.core.now ≡ []) }
         ensures no_memory { self.old.core.now.failed ≡ None → IfErr result (λ e. e ≡ WriteFailed) }
         ensures same { (e : PrintError) → self.old.core.now.failed ≡ Some e → result ≡ Err e }
         ensures loan { SameLoan self.old.sink.ghost_name self.new.sink.ghost_name }

@@ -219,6 +219,8 @@ impl Core {
     pub fn finish<K: Sink>(&mut self, sink: &mut K) -> Result<(), PrintError>
         requires { self.old.failed ≡ None → open_groups_of self.old ≡ 0 }
         ensures finishes { Finishes self.old (K.written sink.old) (K.faults sink.old) result self.new (K.written sink.new) (K.faults sink.new) }
+        ensures stays { OnOk result (self.new.failed ≡ None) }
+        ensures empty { OnOk result (entries_of self.new ≡ []) }
         ensures no_memory { self.old.failed ≡ None → IfErr result (λ e. e ≡ WriteFailed) }
         ensures same { (e : PrintError) → self.old.failed ≡ Some e → result ≡ Err e }
         ensures loan { SameLoan (K.loan sink.old) (K.loan sink.new) }
