@@ -35,18 +35,5 @@ pub grew_by_prefix-longer : (before now : Option (List ℕ)) (x y : List ℕ) �
 grew_by_prefix-longer before now x y h =
     (min h.0 (length x), rw take-short h.1)
 
--- a write after what was written so far
-pub puts-more : {T E : Type 0} (before middle now : Option (List ℕ)) (result : Result T E) (x y : List ℕ) → GrewBy before middle x → Puts middle now result y → Puts before now result (x ++ y)
-puts-more before middle now (Ok done) x y first second = grew_by-more before middle now x y first second
-puts-more before middle now (Err fault) x y first second = grew_by_prefix-more before middle now x y first second
-
-pub grew_by_prefix-whole : (before now : Option (List ℕ)) (x : List ℕ) → GrewBy before now x → GrewByPrefix before now x
-grew_by_prefix-whole before now x h = (length x, rw take-length h)
-
 pub grew_by_prefix-nothing : (before : Option (List ℕ)) (x : List ℕ) → GrewByPrefix before before x
 grew_by_prefix-nothing before x = (0, grew_by-nothing before)
-
--- whatever the answer, a prefix was put
-pub puts-part : {T E : Type 0} (before now : Option (List ℕ)) (result : Result T E) (x : List ℕ) → Puts before now result x → GrewByPrefix before now x
-puts-part before now (Ok done) x h = grew_by_prefix-whole before now x h
-puts-part before now (Err fault) x h = h

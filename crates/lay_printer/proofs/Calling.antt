@@ -3,8 +3,7 @@ use Rattle.std.proofs.Common.{pos, negsuc, ◌≡◌, ◌≢◌, ℕ, ◌+◌, �
 use Rattle.lay_token.specs.declared.layout.Frame.{Frame}
 use Rattle.lay_token.specs.declared.layout.Tok.{Tok}
 use Rattle.lay_token.specs.Machine.{begun, opened, text}
-use Rattle.lay_io.specs.Faults.{Rose, HasCause}
-use Rattle.lay_io.specs.declared.outside.Failed.{Failed}
+use Rattle.lay_io.specs.Faults.{Rose}
 use Rattle.lay_ring.specs.declared.entry.Entry.{Entry}
 use Rattle.lay_ring.specs.declared.entry.Size.{Size}
 use Rattle.lay_ring.specs.declared.entry.Size.TheVariants.{Unknown, Known, Forced}
@@ -16,8 +15,7 @@ use Rattle.lay_printer.specs.declared.printer.Core.{Core}
 use Rattle.lay_printer.specs.Scan.{Holds, waiting}
 use Rattle.lay_printer.specs.Pages.{Wrote, Cut}
 use Rattle.lay_printer.specs.Errors.{Blame, Blames}
-use Rattle.lay_printer.specs.Queued.{Running, Broken, Feeds, Ends, Says, Decided, next_of}
-use Rattle.lay_printer.specs.Same.{IsSame}
+use Rattle.lay_printer.specs.Queued.{Broken, Feeds, Says, Decided, next_of}
 use Rattle.lay_printer.specs.Printers.{Runs, FedBy, CauseOf, LostBy, Went, Lost, Calls, Finishes, printer_meanings}
 use Rattle.lay_printer.specs.Steps.{at}
 use Rattle.lay_printer.proofs.Running.{running_broken}
@@ -102,32 +100,6 @@ finish_failed c b f e u = record {
   );
 }
 
-pub finish_ok : {T : Type 0} (c c' : Core) (b n : Option (List ℕ)) (f f' : ℕ) (v : T) → c.failed ≡ None → f ≤ f' → Ends {E = Failed} c.queue.ring.entries c.page c.frames.frames b (Ok v) n → Finishes {T = T} c b f (Ok v) c' n f'
-finish_ok c c' b n f f' v u l k = record {
-  later = l;
-  ok = (
-    u,
-    λ content s h.
-        let r : Runs c b content s = subst (λ (x : Option PrintError). FedBy x c b content s) u h in
-        k.ok content s r.running,
-  );
-  err = tt;
-}
-
-pub finish_err : {T U : Type 0} (c c' : Core) (b n : Option (List ℕ)) (f f' : ℕ) (g : Failed) → c.failed ≡ None → c'.failed ≡ Some WriteFailed → HasCause {T = U} f f' (Err g) → Ends {T = U} c.queue.ring.entries c.page c.frames.frames b (Err g) n →
-    Finishes {T = T} c b f (Err WriteFailed) c' n f'
-finish_err c c' b n f f' g u w l k = record {
-  later = l.later;
-  ok = tt;
-  err = (
-    w,
-    inl l.failed,
-    λ content s h.
-        let r : Runs c b content s = subst (λ (x : Option PrintError). FedBy x c b content s) u h in
-        k.err content s r.running,
-  );
-}
-
 rose_more : (a b c : ℕ) → a ≤ b → Rose b c → Rose a c
 rose_more a b c l h = omega arith
 
@@ -205,11 +177,3 @@ lag_at Forced wait p h = cc
 pub lag_of : (es : List Entry) (wait : ℕ) (p : Page) → wait ≡ waiting es → Decided es wait p None → wait ≤ p.room - p.used
 lag_of [] wait p w d = omega arith
 lag_of (e ∷ es) wait p w d = lag_at e.size wait p d
-
-pub runs_same : (c c' : Core) → IsSame c c' → (written : Option (List ℕ)) (content : List ℕ) (s : List Tok) → Runs c written content s → Runs c' written content s
-runs_same c c' h written content s r = record {
-  running = subst (λ (x : List Entry). Running false x c'.page c'.frames.frames written content s) (sym h.entries)
-      (subst (λ (x : Page). Running false c.queue.ring.entries x c'.frames.frames written content s) (sym h.page)
-      (subst (λ (x : List Frame). Running false c.queue.ring.entries c.page x written content s) (sym h.frames) r.running));
-  counted = h.first ∙ r.counted ∙ ap (λ (x : List Entry). at s x % 2 ^ 64) (sym h.entries);
-}

@@ -3,15 +3,11 @@ use Rattle.std.proofs.Common.{◌≡◌, ℕ, zero, suc, ◌+◌, ◌≤◌, Lis
 use Rattle.lay_token.specs.declared.layout.Frame.{Frame}
 use Rattle.lay_token.specs.declared.layout.Tok.{Tok}
 use Rattle.lay_token.specs.declared.layout.Tok.TheVariants as tok
-use Rattle.lay_token.specs.Machine.{opened, outer, below}
+use Rattle.lay_token.specs.Machine.{opened, outer}
 use Rattle.lay_stream.proofs.Calls.{opened_append}
 use Rattle.lay_ring.specs.declared.entry.Entry.{Entry}
 use Rattle.lay_printer.specs.Closed.{toks_of}
 use Rattle.lay_printer.specs.Depth.{open_in}
-
-pub length_below : (fs : List Frame) → length (below fs) ≡ outer (length fs)
-length_below [] = refl
-length_below (f ∷ fs) = refl
 
 outer_le : (n : ℕ) → outer n ≤ n
 outer_le zero = omega arith

@@ -3,16 +3,15 @@ use Rattle.std.proofs.Common.{pos, ◌≡◌, ℕ, suc, ◌≤◌, min, false, L
 use Rattle.std.proofs.Math.Seq.{take-append_seam, drop-append_seam}
 use Rattle.lay_token.specs.declared.layout.Frame.{Frame}
 use Rattle.lay_token.specs.declared.layout.Tok.{Tok}
-use Rattle.lay_token.specs.Machine.{Layout, play, after, measure, begun}
+use Rattle.lay_token.specs.Machine.{Layout, play, after, begun}
 use Rattle.lay_ring.specs.declared.entry.Size.TheVariants.{Known}
 use Rattle.lay_ring.specs.declared.entry.Entry.{Entry}
 use Rattle.lay_printer.specs.declared.page.Page.{Page}
-use Rattle.lay_printer.specs.Scan.{Scan, Stopped, Going, scan_of, size_of_scan, size_of, sized, with_rest, cap, Holds}
+use Rattle.lay_printer.specs.Scan.{Scan, Stopped, Going, size_of_scan, sized, with_rest, cap, Holds}
 use Rattle.lay_printer.specs.Pages.{Is, Wrote}
 use Rattle.lay_printer.specs.Closed.{toks_of}
 use Rattle.lay_printer.specs.Queued.{Running}
 use Rattle.lay_printer.specs.Steps.{at, InStep}
-use Rattle.lay_printer.proofs.Steps.{measure_scan}
 
 length_sized : (w : List Tok) → length (sized w) ≡ length w
 length_sized [] = refl
@@ -47,7 +46,3 @@ in_step es p fs w content s h r =
 known_scan : (c : Scan) (k : ℕ) → Known (pos k) ≡ size_of_scan c → (r : List Tok) → k ≡ min (with_rest c r) cap
 known_scan (Stopped n) k h r = cc
 known_scan (Going n d) k h r = cc
-
--- Sizes: a known size is the measure, whatever follows, up to the cap.
-pub known_is : (t : Tok) (ts : List Tok) (k : ℕ) → Known (pos k) ≡ size_of t ts → (r : List Tok) → k ≡ min (measure t (ts ++ r)) cap
-known_is t ts k h r = known_scan (scan_of t ts) k h r ∙ ap (λ (n : ℕ). min n cap) (sym (measure_scan t ts r))

@@ -53,12 +53,6 @@ pub moves_then : {T U E F : Type 0} (p q r : Page) (b m n : Option (List ℕ)) (
 moves_then p q r b m n x (Ok y) f g h k = record { ok = λ c s i w. let a = h.ok c s i w in k.ok c (f s) a.0 a.1; err = tt }
 moves_then p q r b m n x (Err y) f g h k = record { ok = tt; err = λ c s i w. let a = h.ok c s i w in k.err c (f s) a.0 a.1 }
 
--- one that failed is part of more
-pub moves_cut : {T U E : Type 0} (p q : Page) (b n : Option (List ℕ)) (e : E) (res : Result U E) (f g : State → State) →
-    Moves {T = T} p b (Err e) q n f → IsErrAnd res (λ y. y ≡ e) → ((s : State) → Grows (f s).text (g s).text) → Moves p b res q n g
-moves_cut p q b n e (Ok y) f g h i k = absurd i
-moves_cut p q b n e (Err y) f g h i k = record { ok = tt; err = λ c s j w. cut_more n c (f s).text (g s).text (h.err c s j w) (k s) }
-
 -- the same move by another name
 pub moves_as : {T E : Type 0} (p q : Page) (b n : Option (List ℕ)) (res : Result T E) (f g : State → State) → ((s : State) → f s ≡ g s) →
     Moves p b res q n f → Moves p b res q n g

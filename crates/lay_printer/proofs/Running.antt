@@ -165,19 +165,6 @@ prints_front x es es' e p p' fs fs' b n wait big res a w d k =
     prints_by x es es' e.tok p p' fs fs' b n big res
     (λ s m i h. step_at x s e.tok e.size es' m p wait big i w' d' (subst (λ (y : List Entry). HoldsBy x s y m) a h)) k
 
--- a token was fed, and entries are printed
-pub feeds_on : {T E : Type 0} (es mid es' : List Entry) (z : Bool) (p p' : Page) (fs fs' : List Frame) (b n : Option (List ℕ)) (t : Tok) (res : Result T E) →
-    toks_of mid ≡ toks_of es ++ t ∷ [] → z ≡ false → sizes_of mid ≡ map size_of_scan (map (at_end z) (scans (toks_of mid))) → Prints_on z mid p fs b res es' p' fs' n → Feeds es p fs b res es' p' fs' n t
-feeds_on es mid es' true p p' fs fs' b n t res e y q k = cc
-feeds_on es mid es' false p p' fs fs' b n t (Ok x) e y q k = record {
-  ok = λ content s r. k.ok content (s ++ t ∷ []) (running_fed es mid p fs b content s t e (sized_so false mid y q) r);
-  err = tt;
-}
-feeds_on es mid es' false p p' fs fs' b n t (Err x) e y q k = record {
-  ok = tt;
-  err = λ content s r. k.err content (s ++ t ∷ []) (running_fed es mid p fs b content s t e (sized_so false mid y q) r);
-}
-
 -- a token wasn't fed
 pub feeds_not : {T E : Type 0} (es es' : List Entry) (p p' : Page) (fs fs' : List Frame) (b : Option (List ℕ)) (t : Tok) (f : E) → Feeds {T = T} es p fs b (Err f) es' p' fs' b t
 feeds_not es es' p p' fs fs' b t f = record { ok = tt; err = λ content s r. running_broken es p fs b content s (t ∷ []) r }

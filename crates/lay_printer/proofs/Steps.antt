@@ -181,14 +181,6 @@ fed_one s t es m h = record {
   shown = λ r. ap (λ (x : List Tok). play h.printed x begun) (append_assoc h.waits (t ∷ []) r) ∙ h.shown (t ∷ r);
 }
 
-text_at_end_of : (s : List Tok) (m : Layout) (p w : List Tok) → p ++ w ≡ s → [] ≡ sized w → ((r : List Tok) → play p (w ++ r) begun ≡ m) → text s ≡ m.state.text
-text_at_end_of s m p [] a e h = ap (λ (x : List Tok). text x) (sym a ∙ append-nil p) ∙ ap (λ (l : Layout). l.state.text) (h [])
-text_at_end_of s m p (x ∷ w) a e h = cc
-
--- at the end nothing waits: the text is that of the stream
-pub text_at_end : (s : List Tok) (m : Layout) → Holds s [] m → text s ≡ m.state.text
-text_at_end s m h = text_at_end_of s m h.printed h.waits h.all h.are_sized h.shown
-
 -- no more tokens come: the sizes that weren't known are
 pub to_end : (s : List Tok) (es : List Entry) (m : Layout) (h : Holds s es m) → HoldsAtEnd s (ended h.waits) m
 to_end s es m h = record {

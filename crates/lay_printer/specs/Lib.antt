@@ -12,3 +12,5 @@ pub mod Depth
 pub mod Same
 pub mod Sizes
 pub mod Texts
+pub mod Views
+pub mod Promises

@@ -1,11 +1,11 @@
 -- Tokens that wait, with the sizes that are known of them before the rest is fed.
-use Rattle.std.specs.Prelude.{◌≡◌, ℕ, zero, suc, ◌+◌, ◌≤◌, min, Bool, true, false, pos, negsuc, List, [], ◌∷◌, ◌++◌, length}
+use Rattle.std.specs.Prelude.{◌≡◌, ℕ, zero, suc, ◌+◌, ◌≤◌, min, pos, List, [], ◌∷◌, ◌++◌, length}
 use Rattle.lay_token.specs.declared.layout.Tok.{Tok}
 use Rattle.lay_token.specs.declared.layout.Tok.TheVariants as tok
 use Rattle.lay_ring.specs.declared.entry.Size.{Size}
-use Rattle.lay_ring.specs.declared.entry.Size.TheVariants.{Unknown, Known, Forced}
+use Rattle.lay_ring.specs.declared.entry.Size.TheVariants.{Unknown, Known}
 use Rattle.lay_ring.specs.declared.entry.Entry.{Entry}
-use Rattle.lay_token.specs.Document.{State, width_of_break, over}
+use Rattle.lay_token.specs.Document.{width_of_break}
 use Rattle.lay_token.specs.Machine.{outer, reach, play, Layout, begun}
 
 -- How far a measure has come in the tokens that were fed: it has ended, or it goes on at a depth.
@@ -65,13 +65,6 @@ text_length tok.End = 0
 abbrev pub waiting : List Entry → ℕ
 waiting [] = 0
 waiting (e ∷ es) = text_length e.tok + waiting es
-
--- is an entry of this size one that doesn't fit?
-abbrev pub is_big : Size → State → Bool
-is_big Unknown s = false
-is_big (Known (pos n)) s = over n s
-is_big (Known (negsuc n)) s = false
-is_big Forced s = true
 
 -- The printer after the tokens s: the first ones are printed, whatever follows s, and the others wait.
 pub record Holds (s : List Tok) (entries : List Entry) (layout : Layout) : Type 0 where

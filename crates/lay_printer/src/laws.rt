@@ -6,6 +6,7 @@ ghost use Rattle.lay_printer.specs.declared.printer.Core.{Core};
 ghost use Rattle.lay_printer.specs.Printers.{Runs};
 ghost use Rattle.lay_printer.specs.Sizes.{AreMeasured};
 ghost use Rattle.lay_printer.specs.Steps.{InStep, at};
+ghost use Rattle.lay_printer.specs.Views.{entries_of, first_of};
 ghost use Rattle.lay_printer.specs.Texts.{AreFull, ends_in_blank, last_blank};
 
 /// A printer that was fed the tokens s and hasn't failed, over a sink that had the content.
@@ -14,9 +15,9 @@ ghost use Rattle.lay_printer.specs.Texts.{AreFull, ends_in_blank, last_blank};
 /// sink has grown by what is shown at token j, and the ring holds the tokens from there on, in order. Known
 /// sizes are measures. The number of the ring's first entry is j modulo 2^64.
 pub fn fed_law()
-    ensures lockstep { (c : Core) (written : Option (List ℕ)) (content : List ℕ) (s r : List Tok) → Runs c written content s → InStep c.queue.ring.entries c.page written content s r }
-    ensures sizes { (c : Core) (written : Option (List ℕ)) (content : List ℕ) (s : List Tok) → Runs c written content s → AreMeasured c.queue.ring.entries }
-    ensures work { (c : Core) (written : Option (List ℕ)) (content : List ℕ) (s : List Tok) → Runs c written content s → c.queue.ring.first ≡ at s c.queue.ring.entries % 2 ^ 64 }
+    ensures lockstep { (c : Core) (written : Option (List ℕ)) (content : List ℕ) (s r : List Tok) → Runs c written content s → InStep (entries_of c) c.page written content s r }
+    ensures sizes { (c : Core) (written : Option (List ℕ)) (content : List ℕ) (s : List Tok) → Runs c written content s → AreMeasured (entries_of c) }
+    ensures work { (c : Core) (written : Option (List ℕ)) (content : List ℕ) (s : List Tok) → Runs c written content s → first_of c ≡ at s (entries_of c) % 2 ^ 64 }
 {}
 
 /// Where no text is empty, what is shown ends in a blank only where the last text before does. So a newline

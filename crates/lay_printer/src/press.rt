@@ -1,13 +1,14 @@
 //! Printers: one that is lent its sink, and one that owns it.
 ghost use Rattle.std.specs.Prelude.{◌≡◌, ◌+◌, ◌<◌, ◌≤◌, [], ◌++◌, OnOk, OnErr, IfOk, IfErr, Err, Some, None, MatchResult};
 ghost use Rattle.lay_token.specs.declared.layout.Tok.TheVariants as tok;
-ghost use Rattle.lay_token.specs.Machine.{after, text};
+ghost use Rattle.lay_token.specs.Machine.{text};
 ghost use Rattle.lay_io.specs.Faults.{SameLoan};
 ghost use Rattle.lay_printer.specs.Pages.{Wrote, Cut};
-ghost use Rattle.lay_printer.specs.Printers.{CauseOf, DidPrint, FedBy, Finishes, Runs, printer_meanings};
+ghost use Rattle.lay_printer.specs.Printers.{CauseOf, DidPrint, FedBy, Finishes, printer_meanings};
+ghost use Rattle.lay_printer.specs.Promises.{FitSpace, IsSpace, RunsAs, RunsFresh};
 ghost use Rattle.lay_printer.specs.Same.{IsSame};
 ghost use Rattle.lay_printer.specs.Scan.{waiting as sum_waiting};
-ghost use Rattle.lay_printer.specs.Steps.{at, least_space, space_left};
+ghost use Rattle.lay_printer.specs.Views.{entries_of, open_groups_of};
 ghost use Rattle.lay_printer.specs.declared.print.PrintError.{PrintError};
 ghost use Rattle.lay_printer.specs.declared.print.PrintError.TheVariants.{WriteFailed};
 
@@ -38,8 +39,10 @@ impl<'p, K: Sink> Press<'p, K> {
 
     /// Prints the rest: no more tokens come. Every group must have ended, unless a call has failed.
     pub fn finish(&mut self) -> Result<(), PrintError>
-        requires { self.old.core.now.failed ≡ None → self.old.core.now.queue.groups ≡ 0 }
+        requires { self.old.core.now.failed ≡ None → open_groups_of self.old.core.now ≡ 0 }
         ensures finishes { Finishes self.old.core.now (K.written self.old.sink.now) (K.faults self.old.sink.now) result self.new.core.now (K.written self.new.sink.now) (K.faults self.new.sink.now) }
+        ensures stays { OnOk result (self.new.core.now.failed ≡ None) }
+        ensures empty { OnOk result (entries_of self.new.core.now ≡ []) }
         ensures no_memory { self.old.core.now.failed ≡ None → IfErr result (λ e. e ≡ WriteFailed) }
         ensures same { (e : PrintError) → self.old.core.now.failed ≡ Some e → result ≡ Err e }
         ensures loan { SameLoan self.old.sink.ghost_name self.new.sink.ghost_name }
@@ -57,17 +60,24 @@ impl<'p, K: Sink> Press<'p, K> {
         self.core.text_owned(self.sink, text)
     }
 
+    /// How many groups are open: `end` asks for one, and `finish` for none.
+    pub fn open_groups(&self) -> u64
+        ensures { result ≡ open_groups_of self.now.core.now }
+    {
+        self.core.open_groups()
+    }
+
     /// How many bytes of text were fed and aren't in the sink: no more than the space.
     pub fn waiting(&self) -> u64
-        ensures value { result ≡ sum_waiting self.now.core.now.queue.ring.entries }
-        ensures lag { self.now.core.now.failed ≡ None → (written : _) (content : _) (s : _) → Runs self.now.core.now written content s → (r : _) → result ≤ space_left (after (s ++ r) (at s self.now.core.now.queue.ring.entries)).state }
+        ensures value { result ≡ sum_waiting (entries_of self.now.core.now) }
+        ensures lag { self.now.core.now.failed ≡ None → FitSpace self.now.core.now result }
     {
         self.core.waiting()
     }
 
     /// The space of the line, or -2^62 where it is less.
     pub fn space(&self) -> i64
-        ensures { (written : _) (content : _) (s : _) → Runs self.now.core.now written content s → (r : _) → result ≡ least_space (after (s ++ r) (at s self.now.core.now.queue.ring.entries)).state }
+        ensures { IsSpace self.now.core.now result }
     {
         self.core.space()
     }
@@ -85,7 +95,7 @@ impl<'p, K: Sink> Press<'p, K> {
         ensures never_less { self.old.core.now.spare ≤ self.new.core.now.spare }
         ensures err { OnErr result (self.new.core.now.spare ≡ self.old.core.now.spare) }
         ensures same { IsSame self.old.core.now self.new.core.now }
-        ensures runs { (written : _) (content : _) (s : _) → Runs self.old.core.now written content s → Runs self.new.core.now written content s }
+        ensures runs { RunsAs self.old.core.now self.new.core.now }
         ensures sink { self.new.sink.now ≡ self.old.sink.now }
     {
         self.core.reserve(n)
@@ -123,7 +133,7 @@ impl<'p, K: Sink> Emit for Press<'p, K> {
     }
 
     fn end(&mut self) -> Result<(), PrintError>
-        requires { 0 < self.old.core.now.queue.groups }
+        requires { 0 < open_groups_of self.old.core.now }
         ensures did { DidPrint self.old (λ p. p.core.now) (λ p. K.written p.sink.now) (λ p. K.faults p.sink.now) (λ p. p.sink.ghost_name) (tok.End) result self.new }
         ensures sure { self.old.core.now.failed ≡ None → 0 < self.old.core.now.spare → IfErr result (λ e. e ≡ WriteFailed) }
         ensures lowers { self.old.core.now.spare ≤ self.new.core.now.spare + 1 }
@@ -152,8 +162,8 @@ impl<K: Sink> Printer<K> {
     pub fn new(alloc: Global, sink: K) -> Result<Printer<K>, K>
         ensures sink { MatchResult result (λ p. p.sink ≡ sink) (λ k. k ≡ sink) }
         ensures failed { IfOk result (λ p. p.core.failed ≡ None) }
-        ensures groups { IfOk result (λ p. p.core.queue.groups ≡ 0) }
-        ensures runs { IfOk result (λ p. (content : _) → Wrote (K.written sink) content [] → Runs p.core (K.written p.sink) content []) }
+        ensures groups { IfOk result (λ p. open_groups_of p.core ≡ 0) }
+        ensures runs { IfOk result (λ p. RunsFresh p.core (K.written p.sink)) }
     {
         match Core::new(alloc) {
             Ok(core) => Ok(Printer { core, sink }),
@@ -164,7 +174,7 @@ impl<K: Sink> Printer<K> {
     /// Prints the rest, since no more tokens come, and hands the sink back. Every group must have ended, unless
     /// a call has failed.
     pub fn finish(self) -> Result<K, PrintFault<K>>
-        requires { self.core.failed ≡ None → self.core.queue.groups ≡ 0 }
+        requires { self.core.failed ≡ None → open_groups_of self.core ≡ 0 }
         ensures text { (content : _) (s : _) → FedBy self.core.failed self.core (K.written self.sink) content s → MatchResult result (λ k. Wrote (K.written k) content (text s)) (λ f. Cut (K.written f.sink) content (text s)) }
         ensures cause { MatchResult result (λ k. K.faults self.sink ≤ K.faults k) (λ f. (K.faults self.sink ≤ K.faults f.sink) × CauseOf f.error (K.faults self.sink) (K.faults f.sink) self.core.failed) }
         ensures no_memory { self.core.failed ≡ None → IfErr result (λ f. f.error ≡ WriteFailed) }
@@ -187,17 +197,24 @@ impl<K: Sink> Printer<K> {
         self.core.text_owned(&mut self.sink, text)
     }
 
+    /// How many groups are open: `end` asks for one, and `finish` for none.
+    pub fn open_groups(&self) -> u64
+        ensures { result ≡ open_groups_of self.now.core }
+    {
+        self.core.open_groups()
+    }
+
     /// How many bytes of text were fed and aren't in the sink: no more than the space.
     pub fn waiting(&self) -> u64
-        ensures value { result ≡ sum_waiting self.now.core.queue.ring.entries }
-        ensures lag { self.now.core.failed ≡ None → (written : _) (content : _) (s : _) → Runs self.now.core written content s → (r : _) → result ≤ space_left (after (s ++ r) (at s self.now.core.queue.ring.entries)).state }
+        ensures value { result ≡ sum_waiting (entries_of self.now.core) }
+        ensures lag { self.now.core.failed ≡ None → FitSpace self.now.core result }
     {
         self.core.waiting()
     }
 
     /// The space of the line, or -2^62 where it is less.
     pub fn space(&self) -> i64
-        ensures { (written : _) (content : _) (s : _) → Runs self.now.core written content s → (r : _) → result ≡ least_space (after (s ++ r) (at s self.now.core.queue.ring.entries)).state }
+        ensures { IsSpace self.now.core result }
     {
         self.core.space()
     }
@@ -215,7 +232,7 @@ impl<K: Sink> Printer<K> {
         ensures never_less { self.old.core.spare ≤ self.new.core.spare }
         ensures err { OnErr result (self.new.core.spare ≡ self.old.core.spare) }
         ensures same { IsSame self.old.core self.new.core }
-        ensures runs { (written : _) (content : _) (s : _) → Runs self.old.core written content s → Runs self.new.core written content s }
+        ensures runs { RunsAs self.old.core self.new.core }
         ensures sink { self.new.sink ≡ self.old.sink }
     {
         self.core.reserve(n)
@@ -253,7 +270,7 @@ impl<K: Sink> Emit for Printer<K> {
     }
 
     fn end(&mut self) -> Result<(), PrintError>
-        requires { 0 < self.old.core.queue.groups }
+        requires { 0 < open_groups_of self.old.core }
         ensures did { DidPrint self.old (λ p. p.core) (λ p. K.written p.sink) (λ p. K.faults p.sink) (λ p. K.loan p.sink) (tok.End) result self.new }
         ensures sure { self.old.core.failed ≡ None → 0 < self.old.core.spare → IfErr result (λ e. e ≡ WriteFailed) }
         ensures lowers { self.old.core.spare ≤ self.new.core.spare + 1 }

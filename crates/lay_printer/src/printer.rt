@@ -49,10 +49,9 @@ fn room(queue: &Queue, frames: &Frames) -> usize
 }
 
 impl Core {
-    ghost use Rattle.lay_printer.specs.Printers.{Calls, Finishes, Runs};
-    ghost use Rattle.lay_printer.specs.Pages.{Wrote};
-    ghost use Rattle.lay_printer.specs.Steps.{InStep, at, least_space, space_left};
-    ghost use Rattle.lay_token.specs.Machine.{after};
+    ghost use Rattle.lay_printer.specs.Printers.{Calls, Finishes};
+    ghost use Rattle.lay_printer.specs.Promises.{FitSpace, IsSpace, KeepsStep, RunsAs, RunsFresh};
+    ghost use Rattle.lay_printer.specs.Views.{entries_of, open_groups_of};
     ghost use Rattle.lay_printer.specs.Same.{IsSame};
     ghost use Rattle.lay_printer.specs.Queued.{next_of};
     ghost use Rattle.lay_printer.specs.declared.print.PrintError.{PrintError};
@@ -61,8 +60,8 @@ impl Core {
     /// A printer that was fed nothing.
     pub fn new(alloc: Global) -> Result<Core, NoMemory>
         ensures failed { IfOk result (λ c. c.failed ≡ None) }
-        ensures groups { IfOk result (λ c. c.queue.groups ≡ 0) }
-        ensures runs { IfOk result (λ c. (written : _) (content : _) → Wrote written content [] → Runs c written content []) }
+        ensures groups { IfOk result (λ c. open_groups_of c ≡ 0) }
+        ensures runs { IfOk result (λ c. (written : _) → RunsFresh c written) }
     {
         let queue = Queue::new(alloc)?;
         Ok(Core {
@@ -192,7 +191,7 @@ impl Core {
 
     /// Ends the group that was begun last.
     pub fn end<K: Sink>(&mut self, sink: &mut K) -> Result<(), PrintError>
-        requires { 0 < self.old.queue.groups }
+        requires { 0 < open_groups_of self.old }
         ensures calls { Calls self.old (K.written sink.old) (K.faults sink.old) result self.new (K.written sink.new) (K.faults sink.new) (tok.End) }
         ensures sure { self.old.failed ≡ None → 0 < self.old.spare → IfErr result (λ e. e ≡ WriteFailed) }
         ensures lowers { self.old.spare ≤ self.new.spare + 1 }
@@ -218,8 +217,10 @@ impl Core {
 
     /// Prints the rest, since no more tokens come. Every group must have ended, unless a call failed.
     pub fn finish<K: Sink>(&mut self, sink: &mut K) -> Result<(), PrintError>
-        requires { self.old.failed ≡ None → self.old.queue.groups ≡ 0 }
+        requires { self.old.failed ≡ None → open_groups_of self.old ≡ 0 }
         ensures finishes { Finishes self.old (K.written sink.old) (K.faults sink.old) result self.new (K.written sink.new) (K.faults sink.new) }
+        ensures stays { OnOk result (self.new.failed ≡ None) }
+        ensures empty { OnOk result (entries_of self.new ≡ []) }
         ensures no_memory { self.old.failed ≡ None → IfErr result (λ e. e ≡ WriteFailed) }
         ensures same { (e : PrintError) → self.old.failed ≡ Some e → result ≡ Err e }
         ensures loan { SameLoan (K.loan sink.old) (K.loan sink.new) }
@@ -241,18 +242,25 @@ impl Core {
         }
     }
 
+    /// How many groups are open: `end` asks for one, and `finish` for none.
+    pub fn open_groups(&self) -> u64
+        ensures { result ≡ open_groups_of self.now }
+    {
+        self.queue.groups
+    }
+
     /// How many bytes of text were fed and aren't in the sink: no more than the space.
     pub fn waiting(&self) -> u64
-        ensures value { result ≡ sum_waiting self.now.queue.ring.entries }
-        ensures lag { self.now.failed ≡ None → (written : _) (content : _) (s : _) → Runs self.now written content s → (r : _) → result ≤ space_left (after (s ++ r) (at s self.now.queue.ring.entries)).state }
+        ensures value { result ≡ sum_waiting (entries_of self.now) }
+        ensures lag { self.now.failed ≡ None → FitSpace self.now result }
     {
         self.queue.waiting
     }
 
     /// How many tokens wait.
     pub fn len(&self) -> usize
-        ensures value { result ≡ length self.now.queue.ring.entries }
-        ensures lockstep { (written : _) (content : _) (s : _) → Runs self.now written content s → (r : _) → InStep self.now.queue.ring.entries self.now.page written content s r }
+        ensures value { result ≡ length (entries_of self.now) }
+        ensures lockstep { KeepsStep self.now }
     {
         self.queue.ring.len()
     }
@@ -270,7 +278,7 @@ impl Core {
         ensures never_less { self.old.spare ≤ self.new.spare }
         ensures err { OnErr result (self.new.spare ≡ self.old.spare) }
         ensures same { IsSame self.old self.new }
-        ensures runs { (written : _) (content : _) (s : _) → Runs self.old written content s → Runs self.new written content s }
+        ensures runs { RunsAs self.old self.new }
     {
         let Some(frames) = self.queue.ring.len().checked_add(n) else {
             return Err(NoMemory);
@@ -284,7 +292,7 @@ impl Core {
 
     /// The space, at the least -2^62.
     pub fn space(&self) -> i64
-        ensures { (written : _) (content : _) (s : _) → Runs self.now written content s → (r : _) → result ≡ least_space (after (s ++ r) (at s self.now.queue.ring.entries)).state }
+        ensures { IsSpace self.now result }
     {
         let room = self.page.room.min(89);
         let used = self.page.used.min(room + 0x4000_0000_0000_0000);

@@ -92,7 +92,7 @@ fn feed(printer: &mut Printer<QuietSink>, tok: Tok) -> Result<(), PrintError> {
         Tok::Break(brk) => printer.brk(brk),
         Tok::Begin { consistent, offset } => printer.begin(consistent, offset),
         Tok::End => {
-            if printer.core.queue.groups > 0 {
+            if printer.open_groups() > 0 {
                 printer.end()?;
             }
             Ok(())
@@ -107,7 +107,7 @@ fn press_one(press: &mut Press<QuietSink>, tok: &Tok) -> Result<(), PrintError> 
         Tok::Break(brk) => press.brk(*brk),
         Tok::Begin { consistent, offset } => press.begin(*consistent, *offset),
         Tok::End => {
-            if press.core.queue.groups > 0 {
+            if press.open_groups() > 0 {
                 press.end()?;
             }
             Ok(())
@@ -116,44 +116,36 @@ fn press_one(press: &mut Press<QuietSink>, tok: &Tok) -> Result<(), PrintError> 
 }
 
 /// What a printer that owns its sink writes of these tokens.
-fn printed(alloc: Global, given: &[In]) -> Result<QuietSink, NoMemory> {
+fn printed(alloc: Global, given: &[In]) -> Result<QuietSink, Fail> {
     let sink = QuietSink::with_room(alloc, 1000)?;
     let Ok(mut printer) = Printer::new(alloc, sink) else {
-        return Err(NoMemory);
+        return Err(NoMemory.into());
     };
     for one in given {
         let tok = token(alloc, *one)?;
-        if feed(&mut printer, tok).is_err() {
-            return Err(NoMemory);
-        }
+        feed(&mut printer, tok)?;
     }
-    if printer.core.queue.groups > 0 {
-        return Err(NoMemory);
+    if printer.open_groups() > 0 {
+        return Err(Fail::new("a group is open"));
     }
     match printer.finish() {
         Ok(sink) => Ok(sink),
-        Err(_) => Err(NoMemory),
+        Err(fault) => Err(fault.error.into()),
     }
 }
 
-/// Feeds these tokens to a printer that is lent its sink. False where a call failed.
-fn pressed(
-    alloc: Global,
-    core: &mut Core,
-    sink: &mut QuietSink,
-    given: &[In],
-) -> Result<bool, NoMemory> {
+/// Feeds these tokens to a printer that is lent its sink.
+fn pressed(alloc: Global, core: &mut Core, sink: &mut QuietSink, given: &[In]) -> Result<(), Fail> {
     let mut press = Press::new(core, sink);
     for one in given {
         let tok = token(alloc, *one)?;
-        if press_one(&mut press, &tok).is_err() {
-            return Ok(false);
-        }
+        press_one(&mut press, &tok)?;
     }
-    if press.core.queue.groups > 0 {
-        return Ok(false);
+    if press.open_groups() > 0 {
+        return Err(Fail::new("a group is open"));
     }
-    Ok(press.finish().is_ok())
+    press.finish()?;
+    Ok(())
 }
 
 /// So many letters with a text before them and one behind them.
@@ -165,20 +157,20 @@ fn around(alloc: Global, before: &[u8], count: usize, after: &[u8]) -> Result<Te
 }
 
 /// Compares what each printer makes of these tokens with a text.
-fn compare(rt: &impl Abort, alloc: Global, given: &[In], wanted: &Text) -> Result<(), NoMemory> {
+fn compare(rt: &impl Abort, alloc: Global, given: &[In], wanted: &Text) -> Result<(), Fail> {
     let slow = plain(alloc, &stream_of(alloc, given)?)?;
     assert_eq!(rt; slow.as_bytes(), wanted.as_bytes());
     let sink = printed(alloc, given)?;
     assert_eq!(rt; sink.bytes(), wanted.as_bytes());
     let mut core = Core::new(alloc)?;
     let mut lent = QuietSink::with_room(alloc, 1000)?;
-    assert!(rt; pressed(alloc, &mut core, &mut lent, given)?);
+    pressed(alloc, &mut core, &mut lent, given)?;
     assert_eq!(rt; lent.bytes(), wanted.as_bytes());
     Ok(())
 }
 
 /// An import of a list: 89 bytes fit on its line, and 90 don't.
-fn lists(rt: &impl Abort, alloc: Global) -> Result<(), NoMemory> {
+fn lists(rt: &impl Abort, alloc: Global) -> Result<(), Fail> {
     let rows = [
         (76, b"use a::{b, ".as_slice(), b"};\n".as_slice()),
         (
@@ -220,7 +212,7 @@ fn import(count: usize) -> [In; 11] {
 }
 
 /// Such an import in nine modules: behind 36 blanks the space is 60 and not 53.
-fn deep(rt: &impl Abort, alloc: Global) -> Result<(), NoMemory> {
+fn deep(rt: &impl Abort, alloc: Global) -> Result<(), Fail> {
     use In::{B, C, E, T};
     let rows = [
         (47, b"use a::{b, ".as_slice(), b"};\n".as_slice()),
@@ -262,7 +254,7 @@ fn blanks(text: &mut Text, count: usize) -> Result<(), NoMemory> {
 }
 
 /// A call in a body: what follows the group up to the next break counts.
-fn calls(rt: &impl Abort, alloc: Global) -> Result<(), NoMemory> {
+fn calls(rt: &impl Abort, alloc: Global) -> Result<(), Fail> {
     use In::{B, C, E, Letters, T};
     let rows = [
         (78, b"fn f() {\n    g(b, ".as_slice(), b");\n}\n".as_slice()),
@@ -300,7 +292,7 @@ fn calls(rt: &impl Abort, alloc: Global) -> Result<(), NoMemory> {
 }
 
 /// An arm, whose braces and comma are marks of breaks.
-fn arms(rt: &impl Abort, alloc: Global) -> Result<(), NoMemory> {
+fn arms(rt: &impl Abort, alloc: Global) -> Result<(), Fail> {
     use In::{B, C, E, Letters, T};
     let opening = Break {
         before: Mark::OpenBrace,
@@ -360,7 +352,7 @@ fn arms(rt: &impl Abort, alloc: Global) -> Result<(), NoMemory> {
 }
 
 /// A sum: of two breaks only the one after which too little fits is a newline.
-fn sums(rt: &impl Abort, alloc: Global) -> Result<(), NoMemory> {
+fn sums(rt: &impl Abort, alloc: Global) -> Result<(), Fail> {
     use In::{B, C, E, I, Letters, T};
     let given = [
         T("fn f() "),
@@ -441,11 +433,8 @@ fn print_pair<K: Sink>(
 fn into_a_sink(rt: HostRuntime) -> Result<(), Fail> {
     let alloc = rt.alloc();
     let mut sink = QuietSink::with_room(alloc, 100)?;
-    assert_eq!(rt; print_pair(alloc, &mut sink, b"a", soft(1), b"b"), Ok(()));
-    assert_eq!(rt;
-        print_pair(alloc, &mut Lent::new(&mut sink), b"c", hard(0), b"d"),
-        Ok(())
-    );
+    print_pair(alloc, &mut sink, b"a", soft(1), b"b")?;
+    print_pair(alloc, &mut Lent::new(&mut sink), b"c", hard(0), b"d")?;
     assert_eq!(rt; sink.bytes(), b"a bc\n    d".as_slice());
     Ok(())
 }
@@ -469,7 +458,7 @@ fn lag(rt: HostRuntime) -> Result<(), Fail> {
     let mut press = Press::new(&mut core, &mut sink);
     press.reserve(8)?;
     assert!(rt; press.spare() >= 8);
-    assert!(rt; long_group(&mut press).is_ok());
+    long_group(&mut press)?;
     let written = sink
         .bytes()
         .iter()
@@ -487,16 +476,19 @@ fn a_write_fails(rt: HostRuntime) -> Result<(), Fail> {
     let Ok(mut printer) = Printer::new(alloc, MemorySink::new(alloc, 1000, fail, 0)?) else {
         return Err(NoMemory.into());
     };
-    let failed = Err(PrintError::WriteFailed);
-    assert_eq!(rt; printer.text(b"a"), failed);
-    assert_eq!(rt; printer.text(b"b"), failed);
-    assert_eq!(rt; printer.brk(soft(1)), failed);
-    if printer.core.queue.groups > 0 {
-        return Err(NoMemory.into());
+    let first = printer.text(b"a");
+    assert_ne!(rt; first, Ok(()));
+    assert_eq!(rt; printer.text(b"b"), first);
+    assert_eq!(rt; printer.brk(soft(1)), first);
+    if printer.open_groups() > 0 {
+        return Err(Fail::new("a group is open"));
     }
     match printer.finish() {
         Ok(_) => assert!(rt; false),
-        Err(fault) => assert_eq!(rt; fault.error, PrintError::WriteFailed),
+        Err(fault) => assert_eq!(rt; Err(fault.error), first),
+    }
+    if first == Err(PrintError::NoMemory) {
+        return Err(NoMemory.into());
     }
     Ok(())
 }

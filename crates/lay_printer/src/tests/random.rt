@@ -95,15 +95,17 @@ fn random_tokens(seed: u64) -> [In; 80] {
     tokens
 }
 
-/// Feeds the stream to a printer. False where a call failed.
-fn printed(core: &mut Core, sink: &mut QuietSink, stream: &Stream) -> bool {
+/// Feeds the stream to a printer.
+fn printed(core: &mut Core, sink: &mut QuietSink, stream: &Stream) -> Result<(), Fail> {
     let mut press = Press::new(core, sink);
     for tok in stream.toks() {
-        if press_one(&mut press, tok).is_err() {
-            return false;
-        }
+        press_one(&mut press, tok)?;
     }
-    press.core.queue.groups == 0 && press.finish().is_ok()
+    if press.open_groups() > 0 {
+        return Err(Fail::new("a group is open"));
+    }
+    press.finish()?;
+    Ok(())
 }
 
 #[test]
@@ -114,7 +116,7 @@ fn as_the_slow_printer(rt: HostRuntime) -> Result<(), Fail> {
         let wanted = plain(alloc, &stream)?;
         let mut core = Core::new(alloc)?;
         let mut sink = QuietSink::with_room(alloc, 20_000)?;
-        assert!(rt; printed(&mut core, &mut sink, &stream));
+        printed(&mut core, &mut sink, &stream)?;
         assert_eq!(rt; sink.bytes(), wanted.as_bytes(), "seed {seed}");
     }
     Ok(())
