@@ -1,5 +1,5 @@
 -- Bytes have one answer at most, and with no fault the status is the one that the input's bytes have.
-use Rattle.std.proofs.Common.{◌≡◌, ◌<◌, ◌≤◌, ◌⊎◌, inl, inr, ℕ, List, [], length, Option, Some, None, Result, Ok, Err, refl, sym, ap, ap₂, ◌∙◌, subst, IfSome, arith}
+use Rattle.std.proofs.Common.{◌≡◌, ◌<◌, ◌≤◌, ◌⊎◌, inl, inr, ℕ, List, [], length, Option, Some, None, Result, Ok, Err, refl, sym, ap, ◌∙◌, subst, IfSome, arith}
 use Rattle.lay_io.specs.Told.{TellsAs, GrewBy}
 use Rattle.lay_io.specs.Faults.{Rose}
 use Rattle.lay_io.specs.declared.outside.Which.{Which}
@@ -12,7 +12,7 @@ use Rattle.lay_token.specs.Delimiters.{Balanced, UnbalancedAt}
 use Rattle.lay_token.proofs.Unique as unique
 use Rattle.lay_nest.proofs.Machine.{place, place-unbalanced, run-balanced}
 use Rattle.lay_tree.specs.Nodes.{out}
-use Rattle.lay_tree.specs.Reading.{Reads, IsRefused, IsBalanced, SpellsFile}
+use Rattle.lay_tree.specs.Reading.{Reads, IsRefused, SpellsFile}
 use Rattle.lay_tree.specs.declared.tree.File.{File}
 use Rattle.lay_tree.proofs.ReaderComplete.{file_unique}
 use Rattle.lay_token.specs.declared.refusal.FormatError.{FormatError}

@@ -1,7 +1,5 @@
 -- What was written so far and what waits are the first lines of some parts, behind what waited at first.
 use Rattle.std.proofs.Common.{◌≡◌, ◌<◌, ◌+◌, ℕ, List, [], ◌∷◌, ◌++◌, map, length, take, drop, get_or, refl, sym, ◌∙◌, ap, Option, append_assoc, append-nil}
-use Rattle.std.specs.List.{flat_map}
-use Rattle.std.proofs.Math.Seq.{take-length}
 use Rattle.std.proofs.lemmas.List.{take-append-drop, take_more}
 use Rattle.std.proofs.lemmas.Grind.{flat_map-append}
 use Rattle.lay_io.specs.Told.{GrewBy, GrewByPrefix}
@@ -70,15 +68,9 @@ module _ {A : Type 0} (form : A → Form) where
       sym (flat_map-append line (map form (take i xs)) (map form (drop i xs)))
       ∙ ap all_lines (sym (map-append (take i xs) (drop i xs)) ∙ ap (map form) (take-append-drop i xs))
 
-  pub lines_to-all : (xs : List A) (i : ℕ) → i ≡ length xs → lines_to xs i ≡ all_lines (map form xs)
-  lines_to-all xs i e = ap (λ (n : ℕ). lines_to xs n) e ∙ ap (λ (ys : List A). all_lines (map form ys)) (take-length xs)
-
   -- Of the bytes that waited at first and the lines before part i, a front was written, and the rest waits.
   abbrev pub Turn : Option (List ℕ) → Option (List ℕ) → List ℕ → List A → ℕ → List ℕ → Type 0
   Turn before now first xs i waiting = Passed before now (first ++ lines_to xs i) waiting
-
-  pub turn-start : (before : Option (List ℕ)) (first : List ℕ) (xs : List A) → Turn before before first xs 0 first
-  turn-start before first xs = record { front = []; grew = grew_by-nothing before; both = append-nil first }
 
   pub turn-more : (before middle now : Option (List ℕ)) (first waiting waiting' text : List ℕ) (xs : List A) (i : ℕ) (x : A)
       → Turn before middle first xs i waiting → i < length xs → x ≡ get_or xs i x → text ≡ line (form x)
@@ -105,11 +97,6 @@ module _ {A : Type 0} (form : A → Form) where
   turn-failed before middle now first waiting text xs i x w within is same grew =
       turn-stopped before middle now first (waiting ++ text) xs (i + 1)
       (turn-more before middle middle first waiting (waiting ++ text) text xs i x w within is same (passed-nothing middle (waiting ++ text))) grew
-
-  pub turn-end : (before now : Option (List ℕ)) (first waiting : List ℕ) (xs : List A) (i : ℕ)
-      → Turn before now first xs i waiting → i ≡ length xs → Passed before now (first ++ all_lines (map form xs)) waiting
-  turn-end before now first waiting xs i w e =
-      rw (ap (λ (t : List ℕ). first ++ t) (sym (lines_to-all xs i e))) w
 
 -- ---- the text of a file
 

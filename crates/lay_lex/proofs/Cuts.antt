@@ -5,7 +5,7 @@ use Rattle.std.specs.List.{list_any}
 use Rattle.std.specs.Str.{chars, encode_utf8_all, IsCharBoundary}
 use Rattle.std.proofs.Math.Seq.{take-append_seam, drop-append_seam}
 use Rattle.std.proofs.lemmas.Bool.{cases_lt, ne_eqb, and_parts}
-use Rattle.std.proofs.lemmas.List.{append-nil, take-take, length-take}
+use Rattle.std.proofs.lemmas.List.{append-nil}
 use Rattle.std.proofs.lemmas.List.Folds.{list_any-append}
 use Rattle.std.proofs.lemmas.Str.{encodes-append, encodes-chars, encodes_same, encode_ascii, scalars-chars, chars-encodes, chars-nil, IsCharBoundary-at_seam}
 use lib.Utf8.{encode, scalar, scalars}
@@ -32,14 +32,6 @@ take_nil (suc n) = refl
 pub without_none : (s : List ℕ) (n : ℕ) → length s ≡ 0 → chars s ≡ take (length (chars s) - n) (chars s)
 without_none [] n h = rw chars-nil (take_nil (0 - n))
 without_none (c ∷ s) n h = absurd (omega arith)
-
--- a text without its last two
-pub without_two : (xs : List ℕ) → let ys = take (length xs - 1) xs in take (length ys - 1) ys ≡ take (length xs - 2) xs
-without_two xs =
-    let sizes = length-take (length xs - 1) xs in
-    let shorter : length (take (length xs - 1) xs) - 1 ≤ length xs - 1 = omega (arith, sizes) in
-    let two : length (take (length xs - 1) xs) - 1 ≡ length xs - 2 = omega (arith, sizes) in
-    take-take (length (take (length xs - 1) xs) - 1) (length xs - 1) xs shorter ∙ ap (λ n. take n xs) two
 
 -- an LF among the bytes
 high_any : (xs : List ℕ) → IsHigh xs → list_any (λ c. c == 10) xs ≡ false

@@ -1,5 +1,5 @@
 -- Texts without what stands at their ends.
-use Rattle.std.proofs.Common.{◌≡◌, ◌⊎◌, inl, inr, ℕ, ◌<◌, List, [], ◌∷◌, ◌++◌, true, cond, sym, refl, ap, ◌∙◌, subst, arith, length, take, get_or, IsUtf8, length-append}
+use Rattle.std.proofs.Common.{◌≡◌, ◌⊎◌, inl, inr, ℕ, ◌<◌, List, [], ◌∷◌, ◌++◌, true, sym, refl, ap, ◌∙◌, subst, arith, length, take, get_or, IsUtf8, length-append}
 use Rattle.std.specs.Prelude.{◌==◌}
 use Rattle.std.specs.Str.{chars, encode_utf8_all}
 use Rattle.std.proofs.Math.Seq.{take-append_seam, get_or-append_seam}

@@ -5,19 +5,15 @@ use Rattle.std.proofs.lemmas.Bool.{and_parts}
 use Rattle.lay_token.specs.declared.token.Delim.TheVariants.{Brace}
 use Rattle.lay_token.specs.declared.token.Kind.TheVariants.{Punct, Opener, Closer}
 use Rattle.lay_tree.specs.Form.{Bit, Blank, Fixed, Opening, Closing, Form, Done, LastComma}
-use Rattle.lay_tree.specs.Spelled.{Then, IsOne, IsKind, IsBit, AreBits, Spells}
+use Rattle.lay_tree.specs.Spelled.{IsOne, IsKind, IsBit, AreBits, Spells}
 use Rattle.lay_tree.specs.Notation.{H, part, text, each, comma_gap, listed, body, behind_attrs}
 use Rattle.lay_tree.specs.Nodes.{lines}
 use Rattle.lay_tree.specs.Reader.{Tokens, Got, first, closes_brace, passed, element_end, group_from, group, ends_items, all_from, all}
 use Rattle.lay_tree.proofs.CompleteTokens.{one_front, kind_front, one_shorter, spelled_shorter}
+use Rattle.lay_tree.proofs.SoundParts.{SpelledAll}
 
--- forms spelled one after the other
-abbrev pub SpelledAll : ℕ → List Form → Tokens → Tokens → Type 0
-SpelledAll depth [] ts rest = ts ≡ rest
-SpelledAll depth (f ∷ fs) ts rest = Then (Spells f depth) (SpelledAll depth fs) ts rest
-
-pub all_parts : (depth : ℕ) (fs gs : List Form) (ts rest : Tokens) → SpelledAll depth (fs ++ gs) ts rest
-    → (mid : Tokens) × SpelledAll depth fs ts mid × SpelledAll depth gs mid rest
+pub all_parts : (depth : ℕ) (fs gs : List Form) (ts rest : Tokens) → SpelledAll (fs ++ gs) depth ts rest
+    → (mid : Tokens) × SpelledAll fs depth ts mid × SpelledAll gs depth mid rest
 all_parts depth [] gs ts rest s = (ts, refl, s)
 all_parts depth (f ∷ fs) gs ts rest s = let r = all_parts depth fs gs s.0 rest s.2 in (r.0, (s.0, s.1, r.1), r.2)
 
@@ -44,22 +40,22 @@ part_alone f depth ts rest s = subst (λ us. Spells f depth ts us) s.3 s.1
 
 -- ---- rows of parts
 
-each_all : (depth : ℕ) (fs : List Form) (ts rest : Tokens) → Spells (each H fs) depth ts rest → SpelledAll depth fs ts rest
+each_all : (depth : ℕ) (fs : List Form) (ts rest : Tokens) → Spells (each H fs) depth ts rest → SpelledAll fs depth ts rest
 each_all depth [] ts rest s = s
 each_all depth (f ∷ fs) ts rest s = (s.0, s.1, each_all depth fs s.0 rest s.3)
 
-pub lines_all : (depth : ℕ) (fs : List Form) (ts rest : Tokens) → Spells (lines fs) depth ts rest → SpelledAll depth fs ts rest
+pub lines_all : (depth : ℕ) (fs : List Form) (ts rest : Tokens) → Spells (lines fs) depth ts rest → SpelledAll fs depth ts rest
 lines_all depth [] ts rest s = s
 lines_all depth (f ∷ fs) ts rest s = (s.0, s.1, lines_all depth fs s.0 rest s.3)
 
 pub behind_all : (depth : ℕ) (fs : List Form) (f : Form) (ts rest : Tokens) → Spells (behind_attrs fs f) depth ts rest
-    → (mid : Tokens) × SpelledAll depth fs ts mid × Spells f depth mid rest
+    → (mid : Tokens) × SpelledAll fs depth ts mid × Spells f depth mid rest
 behind_all depth [] f ts rest s = (ts, refl, s)
 behind_all depth (a ∷ fs) f ts rest s = let r = behind_all depth fs f s.0 rest s.3 in (r.0, (s.0, s.1, r.1), r.2)
 
 -- BODY
 pub body_parts : (depth : ℕ) (fs : List Form) (ts rest : Tokens) → Spells (body (Blank ∷ []) [] fs) depth ts rest
-    → (inside end : Tokens) × IsKind (Opener Brace) ts inside × SpelledAll depth fs inside end × IsKind (Closer Brace) end rest
+    → (inside end : Tokens) × IsKind (Opener Brace) ts inside × SpelledAll fs depth inside end × IsKind (Closer Brace) end rest
 body_parts depth [] ts rest s =
     let bits = behind_blank (Opening Brace ∷ Closing Brace ∷ []) ts s.0 s.1 in
     let closing : IsKind (Closer Brace) bits.0 s.0 = bit_alone (Closing Brace) bits.0 s.0 bits.2 in
@@ -150,7 +146,7 @@ module _ {A : Type 0} (element : Tokens → Got A) (spelling : A → Form) (good
     (reads : (x : A) (ts rest : Tokens) → Spells (spelling x) depth ts rest → good x ≡ true → element ts ≡ Some (x, rest))
     (opened : (x : A) (ts rest : Tokens) → Spells (spelling x) depth ts rest → good x ≡ true → ends_items ts ≡ false)
     (shorter : (x : A) (ts rest : Tokens) → Spells (spelling x) depth ts rest → length rest < length ts) where
-  all_from_complete : (xs : List A) (n : ℕ) (found : List A) (ts rest : Tokens) → length ts < n → list_all good xs ≡ true → SpelledAll depth (map spelling xs) ts rest
+  all_from_complete : (xs : List A) (n : ℕ) (found : List A) (ts rest : Tokens) → length ts < n → list_all good xs ≡ true → SpelledAll (map spelling xs) depth ts rest
       → ends_items rest ≡ true → all_from element n found ts ≡ Some (found ++ xs, rest)
   unfolding all_from
   all_from_complete xs zero found ts rest lt g s h = absurd (omega arith)
@@ -161,7 +157,7 @@ module _ {A : Type 0} (element : Tokens → Got A) (spelling : A → Form) (good
       let more : all_from element n (found ++ x ∷ []) s.0 ≡ Some ((found ++ x ∷ []) ++ xs, rest) = all_from_complete xs n (found ++ x ∷ []) s.0 rest less goods.1 s.2 h in
       rw (opened x ts s.0 s.1 goods.0, reads x ts s.0 s.1 goods.0, more, append_assoc found (x ∷ []) xs) refl
 
-  pub all_complete : (xs : List A) (ts rest : Tokens) → list_all good xs ≡ true → SpelledAll depth (map spelling xs) ts rest → ends_items rest ≡ true
+  pub all_complete : (xs : List A) (ts rest : Tokens) → list_all good xs ≡ true → SpelledAll (map spelling xs) depth ts rest → ends_items rest ≡ true
       → all element ts ≡ Some (xs, rest)
   unfolding all
   all_complete xs ts rest g s h = let lt : length ts < suc (length ts) = omega arith in all_from_complete xs (suc (length ts)) [] ts rest lt g s h

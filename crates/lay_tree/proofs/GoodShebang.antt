@@ -56,17 +56,17 @@ scalars_front p (c ∷ cs) h =
     let b = and_parts (scalar c) (scalars cs) h in
     scalars_cond (p c) (c ∷ front p cs) [] (and_from (scalar c) (scalars (front p cs)) b.0 (scalars_front p cs b.1)) refl
 
-scalars_folded : (cs : List ℕ) → scalars cs ≡ true → scalars (folded cs) ≡ true
-scalars_folded [] h = refl
-scalars_folded (c ∷ cs) h =
-    let b = and_parts (scalar c) (scalars cs) h in
-    let f = scalars_folded cs b.1 in
-    scalars_cond (c == 13 && begins (λ d. d == 10) cs) (folded cs) (c ∷ folded cs) f
-    (and_from (scalar c) (scalars (folded cs)) b.0 f)
+folded_scalars : (cs : List ℕ) → scalars cs ≡ true → scalars (folded cs) ≡ true
+folded_scalars [] h = refl
+folded_scalars (c ∷ cs) h =
+    let p = and_parts (scalar c) (scalars cs) h in
+    let more = folded_scalars cs p.1 in
+    scalars_cond (c == 13 && begins (λ d. d == 10) cs) (folded cs) (c ∷ folded cs) more
+    (and_from (scalar c) (scalars (folded cs)) p.0 more)
 
-scalars_without_mark : (cs : List ℕ) → scalars cs ≡ true → scalars (without_mark cs) ≡ true
-scalars_without_mark [] h = refl
-scalars_without_mark (c ∷ cs) h = scalars_cond (c == 65279) cs (c ∷ cs) (and_parts (scalar c) (scalars cs) h).1 h
+unmarked_scalars : (cs : List ℕ) → scalars cs ≡ true → scalars (without_mark cs) ≡ true
+unmarked_scalars [] h = refl
+unmarked_scalars (c ∷ cs) h = scalars_cond (c == 65279) cs (c ∷ cs) (and_parts (scalar c) (scalars cs) h).1 h
 
 -- ---- the line without the CRs at its end
 
@@ -155,7 +155,7 @@ source_good bytes from e = elim (cases_Bool (is_utf8 bytes)) [
       let is : source bytes ≡ Ok (source_of text) = rw h refl in
       let same : source_of text ≡ from = cc in
       subst (λ (x : Source). is_good_shebang x.shebang ≡ true) same
-      (good_text text (scalars_folded (without_mark (chars bytes)) (scalars_without_mark (chars bytes) fine)))
+      (good_text text (folded_scalars (without_mark (chars bytes)) (unmarked_scalars (chars bytes) fine)))
   | inr h ↦
       let is : source bytes ≡ Err (NotUtf8 (utf8_valid_len bytes)) = rw h refl in
       absurd (cc)

@@ -1,21 +1,17 @@
 -- The tokens that a text lexes to are pieces of their kinds.
-use Rattle.std.proofs.Common.{◌≡◌, ℕ, ◌+◌, ◌-◌, List, [], ◌∷◌, ◌++◌, Bool, true, false, cond, not, ◌&&◌, ◌||◌, Ok, Err, length, take, drop, refl, sym, ap, ◌∙◌, subst, arith, IsUtf8}
-use Rattle.std.proofs.Math.Seq.{drop-append-add}
+use Rattle.std.proofs.Common.{◌≡◌, ℕ, ◌+◌, ◌-◌, List, [], ◌∷◌, ◌++◌, Bool, true, false, cond, not, ◌&&◌, ◌||◌, length, take, drop, refl, sym, ap, ◌∙◌, subst, IsUtf8}
 use Rattle.std.specs.Prelude.{◌==◌, codes}
 use Rattle.std.specs.List.{list_all, list_any}
 use Rattle.std.specs.Char.{is_ascii_digit}
-use Rattle.std.specs.Str.{chars, encode_utf8_all, is_utf8}
-use Rattle.std.proofs.lemmas.Bool.{and_parts, and_from, eqb-true, ne_eqb, both_ways, or_left}
-use Rattle.std.proofs.lemmas.Str.{chars-encodes, scalars-chars, encodes-append, encode_ascii, IsUtf8-from_is_utf8}
-use Rattle.std.specs.Str.Lossy.{utf8_valid_len}
-use lib.Utf8.{scalar, scalars}
-use Rattle.lay_token.specs.Chars.{begins, front, after, is_nil, is_suffix, in_word, in_digits, without_end}
+use Rattle.std.specs.Str.{encode_utf8_all, is_utf8}
+use Rattle.std.proofs.lemmas.Bool.{and_parts, and_from, ne_eqb, both_ways, or_left}
+use Rattle.std.proofs.lemmas.Str.{chars-encodes, scalars-chars}
+use lib.Utf8.{scalars}
+use Rattle.lay_token.specs.Chars.{begins, front, after, is_suffix, in_word, in_digits, without_end}
 use Rattle.lay_token.specs.Forms.{had, Had, has_form, may_follow, is_number_kind, is_int_kind}
 use Rattle.lay_token.specs.Lexes.{Part, Before, Other, spell, step, is_index_place, Fit, size, doc_text, text_of_piece, tokens_from, Lexes}
 use Rattle.lay_token.specs.Number.{base_of, digits_of, in_run, is_run_in, is_int, is_index, is_int_suffix, fronts_index}
-use Rattle.lay_token.specs.Source.{Source, source, source_of, folded, without_mark, is_in_line, is_shebang, line_size}
 use Rattle.lay_token.specs.Word.{is_path_word}
-use Rattle.lay_token.specs.declared.refusal.Refusal.TheVariants.{NotUtf8}
 use Rattle.lay_token.specs.declared.piece.numbers.Base.{Base}
 use Rattle.lay_token.specs.declared.piece.numbers.Base.TheVariants.{Decimal}
 use Rattle.lay_token.specs.declared.token.Kind.{Kind}
@@ -23,7 +19,6 @@ use Rattle.lay_token.specs.declared.token.Kind.TheVariants.{RawIdent, Int, Doc}
 use Rattle.lay_token.specs.declared.token.Token.{Token}
 use Rattle.lay_token.proofs.Characters.{digit_parts}
 use Rattle.lay_token.proofs.Complete.{behind_true}
-use Rattle.lay_token.proofs.Fronts.{front-after, after-stops}
 use Rattle.lay_tree.specs.Written.{is_text_of}
 use Rattle.lay_tree.proofs.Pieces.{are_texts}
 use Rattle.lay_tree.proofs.Scalars.{text_utf8, scalars_parts, scalars_drop, scalars_take, scalars_cond, scalars_without_end}
@@ -140,72 +135,3 @@ pub lexed_pieces : (bytes : List ℕ) (start : ℕ) (tokens : List Token) → Is
 lexed_pieces bytes start tokens u l =
     let fine : scalars (spell l.0 l.1) ≡ true = sym (ap scalars l.2.whole) ∙ scalars-chars (drop start bytes) u in
     ap are_texts l.3 ∙ parts_texts Other l.0 l.1 start l.2.fit fine
-
--- ---- sources
-
-folded_scalars : (cs : List ℕ) → scalars cs ≡ true → scalars (folded cs) ≡ true
-folded_scalars [] h = refl
-folded_scalars (c ∷ cs) h =
-    let p = and_parts (scalar c) (scalars cs) h in
-    let more = folded_scalars cs p.1 in
-    scalars_cond (c == 13 && begins (λ d. d == 10) cs) (folded cs) (c ∷ folded cs) more
-    (and_from (scalar c) (scalars (folded cs)) p.0 more)
-
-unmarked_scalars : (cs : List ℕ) → scalars cs ≡ true → scalars (without_mark cs) ≡ true
-unmarked_scalars [] h = refl
-unmarked_scalars (c ∷ cs) h = scalars_cond (c == 65279) cs (c ∷ cs) (and_parts (scalar c) (scalars cs) h).1 h
-
--- the bytes of text behind its first line
-behind_line : (after : List ℕ) → begins is_in_line after ≡ false → scalars after ≡ true
-    → IsUtf8 (drop (cond (is_nil after) 0 1) (encode_utf8_all after))
-behind_line [] e h = ([], (refl, refl))
-behind_line (c ∷ cs) e h =
-    let ends : c ≡ 10 = eqb-true c 10 (not_false (c == 10) e) in
-    let P : ℕ → Type 0 = λ x. IsUtf8 (drop 1 (encode_utf8_all (x ∷ cs))) in
-    let same = sym (ap (λ l. drop 1 (l ++ encode_utf8_all cs)) (encode_ascii 10 (omega arith))) in
-    let here : P 10 = (cs, ((and_parts (scalar c) (scalars cs) h).1, same)) in
-    subst P (sym ends) here
-  where
-    not_false : (b : Bool) → not b ≡ false → b ≡ true
-    not_false true e = refl
-    not_false false e = cc
-
-line_utf8 : (ds : List ℕ) → scalars ds ≡ true → IsUtf8 (drop (line_size ds) (encode_utf8_all ds))
-line_utf8 ds h =
-    let line = front is_in_line ds in
-    let more = after is_in_line ds in
-    let whole = front-after is_in_line ds in
-    let k = cond (is_nil more) 0 1 in
-    let fine = scalars_parts line more (sym (ap scalars whole) ∙ h) in
-    let cut : drop (line_size ds) (encode_utf8_all ds) ≡ drop k (encode_utf8_all more) =
-    ap (λ l. drop (line_size ds) (encode_utf8_all l)) whole
-    ∙ ap (drop (line_size ds)) (encodes-append line more)
-    ∙ drop-append-add (encode_utf8_all line) (encode_utf8_all more) k in
-    subst IsUtf8 (sym cut) (behind_line more (after-stops is_in_line ds) fine.1)
-
-source_of_utf8 : (ds : List ℕ) → scalars ds ≡ true → IsUtf8 (drop (source_of ds).start (source_of ds).text)
-source_of_utf8 ds h = by_case (is_shebang (front is_in_line ds))
-  where
-    by_case : (b : Bool) → IsUtf8 (drop (cond b (line_size ds) 0) (encode_utf8_all ds))
-    by_case true = line_utf8 ds h
-    by_case false = (ds, (h, refl))
-
-source_utf8 : (bytes : List ℕ) (from : Source) → source bytes ≡ Ok from → IsUtf8 (drop from.start from.text)
-source_utf8 bytes from e = by_case (is_utf8 bytes) refl e
-  where
-    ds : List ℕ
-    ds = folded (without_mark (chars bytes))
-
-    by_case : (b : Bool) → is_utf8 bytes ≡ b → cond b (Ok (source_of ds)) (Err (NotUtf8 (utf8_valid_len bytes))) ≡ Ok from
-        → IsUtf8 (drop from.start from.text)
-    by_case true u e =
-        let f : source_of ds ≡ from = cc in
-        let g = scalars-chars bytes (IsUtf8-from_is_utf8 bytes u) in
-        let P : Source → Type 0 = λ (s : Source). IsUtf8 (drop s.start s.text) in
-        subst P f (source_of_utf8 ds (folded_scalars (without_mark (chars bytes)) (unmarked_scalars (chars bytes) g)))
-    by_case false u e = cc
-
--- What a source lexes to are pieces.
-pub source_pieces : (bytes : List ℕ) (from : Source) (tokens : List Token) → source bytes ≡ Ok from
-    → Lexes from.text from.start tokens → are_texts tokens ≡ true
-source_pieces bytes from tokens e l = lexed_pieces from.text from.start tokens (source_utf8 bytes from e) l

@@ -47,12 +47,14 @@ use Rattle.lay_tree.specs.declared.tree.ItemKind.TheFolds.{fold-ItemKind, fold_o
 use Rattle.lay_tree.specs.declared.tree.Item.{Item}
 use Rattle.lay_tree.specs.declared.tree.File.{File}
 use Rattle.lay_tree.proofs.CompleteTokens.{one_front, kind_front, op_front, other_op, kind_no_op, one_no_op, comma_no_colons, semicolon_no_colons, one_test, kind_test, op_test, one_goes_on, word_kind, word_kinds, leaf_parts, word_no_op, word_complete, name_complete, one_shorter, bits_shorter, spelled_shorter}
-use Rattle.lay_tree.proofs.CompleteParts.{SpelledAll, all_parts, bits_parts, bit_alone, behind_blank, before_blank, text_alone, part_alone, lines_all, behind_all, body_parts, brace_passed, list_complete, all_complete}
+use Rattle.lay_tree.proofs.CompleteParts.{all_parts, bits_parts, bit_alone, behind_blank, before_blank, text_alone, part_alone, lines_all, behind_all, body_parts, brace_passed, list_complete, all_complete}
+use Rattle.lay_tree.proofs.SoundParts.{SpelledAll}
+use Rattle.lay_tree.proofs.SoundTokens.{or_else}
 
 -- ---- paths
 
 -- whether a `::` leads
-global_parts : (leads : Bool) (f : Form) (depth : ℕ) (ts rest : Tokens) → Spells (when leads colons f) depth ts rest
+pub global_parts : (leads : Bool) (f : Form) (depth : ℕ) (ts rest : Tokens) → Spells (when leads colons f) depth ts rest
     → ((us : Tokens) → Spells f depth us rest → is_op (codes "::") us ≡ false) → (mid : Tokens) × (global ts ≡ (leads, mid)) × Spells f depth mid rest
 global_parts true f depth ts rest s none =
     let o : IsOperator (codes "::") ts s.0 = bit_alone (Operator (codes "::")) ts s.0 s.1 in
@@ -348,7 +350,7 @@ attr_shorter (attr.Meta flag path given) depth ts rest s = at flag s
     at true s = omega (arith, spelled_shorter (attr_form (attr.Meta true path given)) depth ts rest s)
     at false s = omega (arith, spelled_shorter (attr_form (attr.Meta false path given)) depth ts rest s)
 
-attrs_from_complete : (inner : Bool) (attrs : List Attr) (n : ℕ) (found : List Attr) (depth : ℕ) (ts rest : Tokens) → length ts < n → SpelledAll depth (map attr_form attrs) ts rest
+attrs_from_complete : (inner : Bool) (attrs : List Attr) (n : ℕ) (found : List Attr) (depth : ℕ) (ts rest : Tokens) → length ts < n → SpelledAll (map attr_form attrs) depth ts rest
     → are_attrs inner attrs ≡ true → begins_attr inner rest ≡ false → attrs_from inner n found ts ≡ Some (found ++ attrs, rest)
 unfolding attrs_from
 attrs_from_complete inner attrs zero found depth ts rest lt s g h = absurd (omega arith)
@@ -359,7 +361,7 @@ attrs_from_complete inner (a ∷ attrs) (suc n) found depth ts rest lt s g h =
     let more : attrs_from inner n (found ++ a ∷ []) s.0 ≡ Some ((found ++ a ∷ []) ++ attrs, rest) = attrs_from_complete inner attrs n (found ++ a ∷ []) depth s.0 rest less s.2 goods.1 h in
     rw (attr_begins inner a depth ts s.0 s.1 goods.0, attribute_complete inner a depth ts s.0 s.1 goods.0, more, append_assoc found (a ∷ []) attrs) refl
 
-pub attributes_complete : (inner : Bool) (attrs : List Attr) (depth : ℕ) (ts rest : Tokens) → SpelledAll depth (map attr_form attrs) ts rest → are_attrs inner attrs ≡ true
+pub attributes_complete : (inner : Bool) (attrs : List Attr) (depth : ℕ) (ts rest : Tokens) → SpelledAll (map attr_form attrs) depth ts rest → are_attrs inner attrs ≡ true
     → begins_attr inner rest ≡ false → attributes inner ts ≡ Some (attrs, rest)
 unfolding attributes
 attributes_complete inner attrs depth ts rest s g h =
@@ -373,15 +375,15 @@ unfolding path_word
 path_word_complete w ts mid rest g one o = rw (word_complete w ts mid g one, o.0, o.1) refl
 
 -- No `::` follows the word.
-last_word : (w : Word) (ts rest : Tokens) → is_word w.raw w.text ≡ true → IsOne (word_kind w.raw) w.text ts rest → is_op (codes "::") rest ≡ false → path_word ts ≡ None
+pub last_word : (w : Word) (ts rest : Tokens) → is_word w.raw w.text ≡ true → IsOne (word_kind w.raw) w.text ts rest → is_op (codes "::") rest ≡ false → path_word ts ≡ None
 unfolding path_word
 last_word w ts rest g one h = rw (word_complete w ts rest g one, h) refl
 
-no_word : (ts rest : Tokens) (t : Token) → ts ≡ t ∷ rest → word_by t.kind t.text ≡ None → path_word ts ≡ None
+pub no_word : (ts rest : Tokens) (t : Token) → ts ≡ t ∷ rest → word_by t.kind t.text ≡ None → path_word ts ≡ None
 unfolding path_word word
 no_word ts rest t e h = rw (e, h) refl
 
-abbrev good_word : Word → Bool
+abbrev pub good_word : Word → Bool
 good_word w = is_word w.raw w.text
 
 words_from_complete : (ws : List Word) (f : Form) (n : ℕ) (found : List Word) (depth : ℕ) (ts rest : Tokens) → length ts < n → list_all good_word ws ≡ true
@@ -399,7 +401,7 @@ words_from_complete (w ∷ ws) f (suc n) found depth ts rest lt g s none =
     let more = words_from_complete ws f n (found ++ w ∷ []) depth behind.0 rest less goods.1 behind.2 none in
     (more.0, rw (path_word_complete w ts one.0 behind.0 goods.0 one.1 o, more.1, append_assoc found (w ∷ []) ws) refl, more.2)
 
-words_complete : (ws : List Word) (f : Form) (depth : ℕ) (ts rest : Tokens) → list_all good_word ws ≡ true → Spells (words_form ws f) depth ts rest
+pub words_complete : (ws : List Word) (f : Form) (depth : ℕ) (ts rest : Tokens) → list_all good_word ws ≡ true → Spells (words_form ws f) depth ts rest
     → ((us : Tokens) → Spells f depth us rest → path_word us ≡ None) → (mid : Tokens) × (words ts ≡ Some (ws, mid)) × Spells f depth mid rest
 unfolding words
 words_complete ws f depth ts rest g s none =
@@ -411,20 +413,20 @@ words_complete ws f depth ts rest g s none =
 abbrev pub Follows : Tokens → Type 0
 Follows rest = (ends_path rest ≡ true) × (no_rename rest ≡ true)
 
-comma_follows : (ts rest : Tokens) → IsOne Punct (codes ",") ts rest → Follows ts
+pub comma_follows : (ts rest : Tokens) → IsOne Punct (codes ",") ts rest → Follows ts
 comma_follows ts rest o = (ap not (comma_no_colons ts rest o), rw (one_front Punct (codes ",") ts rest o).1 refl)
 
 semicolon_follows : (ts rest : Tokens) → IsOne Punct (codes ";") ts rest → Follows ts
 semicolon_follows ts rest o = (ap not (semicolon_no_colons ts rest o), rw (one_front Punct (codes ";") ts rest o).1 refl)
 
-brace_follows : (ts rest : Tokens) → IsKind (Closer Brace) ts rest → Follows ts
+pub brace_follows : (ts rest : Tokens) → IsKind (Closer Brace) ts rest → Follows ts
 brace_follows ts rest o = (ap not (kind_no_op (codes "::") (Closer Brace) ts rest refl o), rw (kind_front (Closer Brace) ts rest o).1 refl)
 
-not_as : (ts : Tokens) → no_rename ts ≡ true → first (is_keyword (codes "as")) ts ≡ false
+pub not_as : (ts : Tokens) → no_rename ts ≡ true → first (is_keyword (codes "as")) ts ≡ false
 not_as [] h = refl
 not_as (t ∷ ts) h = not-true (is_keyword (codes "as") t) h
 
-other_name_complete : (n : Name) (ts rest : Tokens) → is_name n.raw n.text ≡ true → IsOne (word_kind n.raw) n.text ts rest → other_name ts ≡ Some (rename.Name n, rest)
+pub other_name_complete : (n : Name) (ts rest : Tokens) → is_name n.raw n.text ≡ true → IsOne (word_kind n.raw) n.text ts rest → other_name ts ≡ Some (rename.Name n, rest)
 unfolding other_name
 other_name_complete n ts rest g o = at n.raw n.text g o
   where
@@ -433,15 +435,15 @@ other_name_complete n ts rest g o = at n.raw n.text g o
     at true text g o = rw (one_front RawIdent text ts rest o).1 refl
     at false text g o = rw ((one_front Ident text ts rest o).1, g) refl
 
-lone_other_name : (ts rest : Tokens) → IsOne Underscore (codes "_") ts rest → other_name ts ≡ Some (rename.Underscore, rest)
+pub lone_other_name : (ts rest : Tokens) → IsOne Underscore (codes "_") ts rest → other_name ts ≡ Some (rename.Underscore, rest)
 unfolding other_name
 lone_other_name ts rest o = rw (one_front Underscore (codes "_") ts rest o).1 refl
 
-as_complete : (r : Rename) (ts mid rest : Tokens) → IsOne Ident (codes "as") ts mid → other_name mid ≡ Some (r, rest) → renamed ts ≡ Some (Some r, rest)
+pub as_complete : (r : Rename) (ts mid rest : Tokens) → IsOne Ident (codes "as") ts mid → other_name mid ≡ Some (r, rest) → renamed ts ≡ Some (Some r, rest)
 unfolding renamed
 as_complete r ts mid rest o h = rw ((one_front Ident (codes "as") ts mid o).1, h) refl
 
-as_word : (ts rest : Tokens) → AreBits (Blank ∷ keyword (codes "as") ∷ Blank ∷ []) ts rest → IsOne Ident (codes "as") ts rest
+pub as_word : (ts rest : Tokens) → AreBits (Blank ∷ keyword (codes "as") ∷ Blank ∷ []) ts rest → IsOne Ident (codes "as") ts rest
 as_word ts rest s = before_blank (keyword (codes "as")) ts rest (behind_blank (keyword (codes "as") ∷ Blank ∷ []) ts rest s)
 
 -- another name is read, and no `::` stands before it
@@ -462,39 +464,39 @@ rename_complete (Some rename.Underscore) depth ts rest s g h =
 
 -- ---- use trees, a level at a time
 
-abbrev end_form : UseEnd → Form
+abbrev pub end_form : UseEnd → Form
 end_form = fold-UseEnd Form Form use_end_form use_tree_form
 
-abbrev good_end : UseEnd → Bool
+abbrev pub good_end : UseEnd → Bool
 good_end = fold-UseEnd Bool Bool is_use_end is_use_tree
 
-use_form_is : (tree : UseTree) → form_of_use tree ≡ use_tree_form (record { global = tree.global; path = tree.path; end = end_form tree.end })
+pub use_form_is : (tree : UseTree) → form_of_use tree ≡ use_tree_form (record { global = tree.global; path = tree.path; end = end_form tree.end })
 unfolding form_of_use
 use_form_is tree =
     fold_out-UseTree Form Form use_end_form use_tree_form tree
     ∙ ap (λ (l : UseTree-F UseEnd UseTree). use_tree_form (map-UseTree UseEnd UseTree Form Form end_form form_of_use l)) (outs-struct-UseTree tree)
 
-end_form_is : (end : UseEnd) → end_form end ≡ use_end_form (map-UseEnd UseEnd UseTree Form Form end_form form_of_use (out-UseEnd end))
+pub end_form_is : (end : UseEnd) → end_form end ≡ use_end_form (map-UseEnd UseEnd UseTree Form Form end_form form_of_use (out-UseEnd end))
 unfolding form_of_use
 end_form_is end = fold_out-UseEnd Form Form use_end_form use_tree_form end
 
-use_good_is : (tree : UseTree) → is_use tree ≡ (list_all good_word tree.path && good_end tree.end)
+pub use_good_is : (tree : UseTree) → is_use tree ≡ (list_all good_word tree.path && good_end tree.end)
 unfolding is_use
 use_good_is tree =
     fold_out-UseTree Bool Bool is_use_end is_use_tree tree
     ∙ ap (λ (l : UseTree-F UseEnd UseTree). is_use_tree (map-UseTree UseEnd UseTree Bool Bool good_end is_use l)) (outs-struct-UseTree tree)
 
-end_good_is : (end : UseEnd) → good_end end ≡ is_use_end (map-UseEnd UseEnd UseTree Bool Bool good_end is_use (out-UseEnd end))
+pub end_good_is : (end : UseEnd) → good_end end ≡ is_use_end (map-UseEnd UseEnd UseTree Bool Bool good_end is_use (out-UseEnd end))
 unfolding is_use
 end_good_is end = fold_out-UseEnd Bool Bool is_use_end is_use_tree end
 
-tree_is : (tree : UseTree) → ◌≡◌ {A = UseTree} (record { global = tree.global; path = tree.path; end = roll-UseEnd (out-UseEnd tree.end) }) tree
+pub tree_is : (tree : UseTree) → ◌≡◌ {A = UseTree} (record { global = tree.global; path = tree.path; end = roll-UseEnd (out-UseEnd tree.end) }) tree
 tree_is tree = ap (λ (e : UseEnd). record tree { end = e }) (roll-out-UseEnd tree.end)
 
-abbrev end_layer : UseEnd-F UseEnd UseTree → Form
+abbrev pub end_layer : UseEnd-F UseEnd UseTree → Form
 end_layer layer = use_end_form (map-UseEnd UseEnd UseTree Form Form end_form form_of_use layer)
 
-abbrev good_end_layer : UseEnd-F UseEnd UseTree → Bool
+abbrev pub good_end_layer : UseEnd-F UseEnd UseTree → Bool
 good_end_layer layer = is_use_end (map-UseEnd UseEnd UseTree Bool Bool good_end is_use layer)
 
 -- An end of a use tree begins neither with `::` nor with `}`.
@@ -522,7 +524,7 @@ end_begins : (end : UseEnd) (depth : ℕ) (ts rest : Tokens) → Spells (part (e
 end_begins end depth ts rest s =
     end_layer_begins (out-UseEnd end) depth ts rest (subst (λ f. Spells f depth ts rest) (end_form_is end) (part_alone (end_form end) depth ts rest s))
 
-words_begin : (ws : List Word) (end : UseEnd) (depth : ℕ) (ts rest : Tokens) → Spells (words_form ws (part (end_form end) Done)) depth ts rest → BeginsEnd ts
+pub words_begin : (ws : List Word) (end : UseEnd) (depth : ℕ) (ts rest : Tokens) → Spells (words_form ws (part (end_form end) Done)) depth ts rest → BeginsEnd ts
 words_begin [] end depth ts rest s = end_begins end depth ts rest s
 words_begin (w ∷ ws) end depth ts rest s =
     let l = leaf_parts w.raw w.text (Piece colons (words_form ws (part (end_form end) Done))) depth ts rest s in word_begins w ts l.0 l.1
@@ -573,7 +575,7 @@ use_parts tree depth ts rest s =
     let inside = subst (λ f. Spells f (suc depth) ts rest) (use_form_is tree) s in
     subst (λ us. Spells (when tree.global colons (words_form tree.path (part (end_form tree.end) Done))) depth ts us) (inside.1.2 ∙ inside.3) inside.1.1
 
-use_none : (tree : UseTree) (ts rest : Tokens) → Spells (form_of_use tree) zero ts rest → ⊥
+pub use_none : (tree : UseTree) (ts rest : Tokens) → Spells (form_of_use tree) zero ts rest → ⊥
 use_none tree ts rest s = let inside = subst (λ f. Spells f zero ts rest) (use_form_is tree) s in inside.1
 
 lead_begins : (leads : Bool) (ws : List Word) (end : UseEnd) (depth : ℕ) (ts rest : Tokens) → Spells (when leads colons (words_form ws (part (end_form end) Done))) depth ts rest
@@ -582,7 +584,7 @@ lead_begins true ws end depth ts rest s =
     let o : IsOperator (codes "::") ts s.0 = bit_alone (Operator (codes "::")) ts s.0 s.1 in op_test is_brace_closer (codes "::") ts o.0
 lead_begins false ws end depth ts rest s = (words_begin ws end depth ts rest s).1
 
-use_opened : (depth : ℕ) (tree : UseTree) (ts rest : Tokens) → Spells (form_of_use tree) depth ts rest → first closes_brace ts ≡ false
+pub use_opened : (depth : ℕ) (tree : UseTree) (ts rest : Tokens) → Spells (form_of_use tree) depth ts rest → first closes_brace ts ≡ false
 use_opened zero tree ts rest s = absurd (use_none tree ts rest s)
 use_opened (suc depth) tree ts rest s = lead_begins tree.global tree.path tree.end depth ts rest (use_parts tree depth ts rest s)
 
@@ -653,13 +655,13 @@ layer_shorter (kind_open.Struct n) depth ts rest s = omega (arith, spelled_short
 layer_shorter (kind_open.Module n attrs items) depth ts rest s = omega (arith, spelled_shorter (kind_layer (kind_open.Module n attrs items)) depth ts rest s)
 layer_shorter (kind_open.Import tree) depth ts rest s = omega (arith, spelled_shorter (kind_layer (kind_open.Import tree)) depth ts rest s)
 
-attrs_shorter : (attrs : List Attr) (depth : ℕ) (ts rest : Tokens) → SpelledAll depth (map attr_form attrs) ts rest → length rest ≤ length ts
+attrs_shorter : (attrs : List Attr) (depth : ℕ) (ts rest : Tokens) → SpelledAll (map attr_form attrs) depth ts rest → length rest ≤ length ts
 attrs_shorter [] depth ts rest s = omega (arith, ap length s)
 attrs_shorter (a ∷ attrs) depth ts rest s = omega (arith, attr_shorter a depth ts s.0 s.1, attrs_shorter attrs depth s.0 rest s.2)
 
 -- what is spelled of an item, but for its depth
 item_parts : (one : Item) (depth : ℕ) (ts rest : Tokens) → Spells (form_of_item one) (suc depth) ts rest
-    → (mid : Tokens) × SpelledAll depth (map attr_form one.attrs) ts mid × Spells (part (kind_form one.kind) Done) depth mid rest
+    → (mid : Tokens) × SpelledAll (map attr_form one.attrs) depth ts mid × Spells (part (kind_form one.kind) Done) depth mid rest
 item_parts one depth ts rest s =
     let inside = subst (λ f. Spells f (suc depth) ts rest) (item_form_is one) s in
     let b = behind_all depth (map attr_form one.attrs) (part (kind_form one.kind) Done) ts inside.0 inside.1 in
@@ -674,7 +676,7 @@ item_shorter (suc depth) one ts rest s =
     let p = item_parts one depth ts rest s in
     omega (arith, attrs_shorter one.attrs depth ts p.0 p.1, layer_shorter (out-ItemKind one.kind) depth p.0 rest (kind_spelled one.kind depth p.0 rest p.2))
 
-behind_attrs_begins : (attrs : List Attr) (depth : ℕ) (ts rest : Tokens) → SpelledAll depth (map attr_form attrs) ts rest → are_attrs false attrs ≡ true → BeginsItem rest → BeginsItem ts
+behind_attrs_begins : (attrs : List Attr) (depth : ℕ) (ts rest : Tokens) → SpelledAll (map attr_form attrs) depth ts rest → are_attrs false attrs ≡ true → BeginsItem rest → BeginsItem ts
 behind_attrs_begins [] depth ts rest s g h = (rw s h.0, rw s h.1)
 behind_attrs_begins (a ∷ attrs) depth ts rest s g h = outer_begins_item a depth ts s.0 s.1 (and_parts (is_attr false a) (are_attrs false attrs) g).0
 
@@ -686,7 +688,7 @@ item_begins (suc depth) one ts rest s g =
     (kind_begins one.kind depth p.0 rest p.2).0
 
 -- Items begin no inner attribute, where what stands behind them doesn't.
-items_begin : (items : List Item) (depth : ℕ) (ts rest : Tokens) → SpelledAll depth (map form_of_item items) ts rest → list_all is_item items ≡ true → begins_attr true rest ≡ false
+items_begin : (items : List Item) (depth : ℕ) (ts rest : Tokens) → SpelledAll (map form_of_item items) depth ts rest → list_all is_item items ≡ true → begins_attr true rest ≡ false
     → begins_attr true ts ≡ false
 items_begin [] depth ts rest s g h = rw s h
 items_begin (one ∷ items) depth ts rest s g h = (item_begins depth one ts s.0 s.1 (and_parts (is_item one) (list_all is_item items) g).0).1
@@ -712,7 +714,7 @@ head_name n depth ts rest s g =
 module _ (depth : ℕ) (within : Tokens → Got Item) (tree : Tokens → Got UseTree)
     (reads : (one : Item) (ts rest : Tokens) → Spells (form_of_item one) depth ts rest → is_item one ≡ true → within ts ≡ Some (one, rest))
     (use_reads : (t : UseTree) (ts rest : Tokens) → Spells (form_of_use t) depth ts rest → is_use t ≡ true → Follows rest → tree ts ≡ Some (t, rest)) where
-  items_complete : (items : List Item) (ts rest : Tokens) → list_all is_item items ≡ true → SpelledAll depth (map form_of_item items) ts rest → ends_items rest ≡ true
+  items_complete : (items : List Item) (ts rest : Tokens) → list_all is_item items ≡ true → SpelledAll (map form_of_item items) depth ts rest → ends_items rest ≡ true
       → all within ts ≡ Some (items, rest)
   items_complete items ts rest g s h =
       all_complete within form_of_item is_item depth reads (λ one us vs x y. (item_begins depth one us vs x y).0) (item_shorter depth) items ts rest g s h
@@ -755,7 +757,7 @@ module _ (depth : ℕ) (within : Tokens → Got Item) (tree : Tokens → Got Use
         rolls-Import t,
       ) refl
 
-  item_by_complete : (one : Item) (ts mid rest : Tokens) → SpelledAll depth (map attr_form one.attrs) ts mid → Spells (part (kind_form one.kind) Done) depth mid rest
+  item_by_complete : (one : Item) (ts mid rest : Tokens) → SpelledAll (map attr_form one.attrs) depth ts mid → Spells (part (kind_form one.kind) Done) depth mid rest
       → are_attrs false one.attrs ≡ true → good_kind one.kind ≡ true → item_by within tree ts ≡ Some (one, rest)
   item_by_complete one ts mid rest a k g h =
       let no_attr = (kind_begins one.kind depth mid rest k).1 in
@@ -782,10 +784,6 @@ whole_complete file ts s g =
       attributes_complete true file.attrs top ts a.0 a.1 goods.0 (items_begin file.items top a.0 [] a.2 goods.1 refl),
       items_complete top (item_at top) (use_at top) (item_complete top) (use_complete top) file.items a.0 [] goods.1 a.2 refl,
     ) refl
-
-abbrev or_else : {A : Type 0} → A → Option A → A
-or_else d None = d
-or_else d (Some x) = x
 
 got_same : {A B : Type 0} (a c : A) (b d : B) → ◌≡◌ {A = Option (A × B)} (Some (a, b)) (Some (c, d)) → (a ≡ c) × (b ≡ d)
 got_same {A} {B} a c b d h =

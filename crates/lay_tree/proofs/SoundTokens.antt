@@ -23,7 +23,7 @@ pub and_true : (a b : Bool) → a ≡ true → b ≡ true → (a && b) ≡ true
 and_true true b g h = h
 and_true false b g h = absurd (cc)
 
-abbrev or_else : {A : Type 0} → A → Option A → A
+abbrev pub or_else : {A : Type 0} → A → Option A → A
 or_else d None = d
 or_else d (Some x) = x
 
