@@ -1,63 +1,41 @@
--- Bytes have one answer at most, and with no fault the status is the one that the input's bytes have.
-use Rattle.std.proofs.Common.{◌≡◌, ◌<◌, ◌≤◌, ◌⊎◌, inl, inr, ℕ, List, [], length, Option, Some, None, Result, Ok, Err, refl, sym, ap, ◌∙◌, subst, IfSome, arith}
+-- What a reader of bytes answers, and that with no fault the outcome is the one that the bytes have.
+use Rattle.std.proofs.Common.{◌≡◌, ◌<◌, ◌≤◌, ◌⊎◌, inl, inr, ℕ, List, length, Option, Some, Result, Ok, Err, refl, sym, ap, ◌∙◌, subst, IfSome, IsOk, arith}
 use Rattle.lay_io.specs.Told.{TellsAs, GrewBy}
 use Rattle.lay_io.specs.Faults.{Rose}
 use Rattle.lay_io.specs.declared.outside.Which.{Which}
 use Rattle.lay_token.specs.Source.{Source, source}
-use Rattle.lay_token.specs.Lexes.{Lexes, NoTokenAt}
+use Rattle.lay_token.specs.Delimiters.{Balanced}
+use Rattle.lay_token.specs.Lexes.{Lexes}
 use Rattle.lay_token.specs.declared.token.Token.{Token}
 use Rattle.lay_token.specs.declared.refusal.Refusal.{Refusal}
 use Rattle.lay_token.specs.declared.refusal.Refusal.TheVariants.{NotUtf8, NoToken, Unbalanced, NoItem}
-use Rattle.lay_token.specs.Delimiters.{Balanced, UnbalancedAt}
-use Rattle.lay_token.proofs.Unique as unique
-use Rattle.lay_nest.proofs.Machine.{place, place-unbalanced, run-balanced}
 use Rattle.lay_tree.specs.Nodes.{out}
 use Rattle.lay_tree.specs.Reading.{Reads, IsRefused, SpellsFile}
 use Rattle.lay_tree.specs.declared.tree.File.{File}
-use Rattle.lay_tree.proofs.ReaderComplete.{file_unique}
+use Rattle.lay_laws.proofs.OneAnswer.{same_source, same_tokens, one_file, one_refusal, never_both}
+use Rattle.lay_laws.proofs.ReparseFile.{again}
 use Rattle.lay_token.specs.declared.refusal.FormatError.{FormatError}
 use Rattle.lay_token.specs.declared.refusal.FormatError.TheVariants as error
 use Rattle.lay_read_code.specs.Answers.{FileAs}
 use Rattle.lay_front.specs.Readings.{ReadsOnlyTo, ReadAs}
-use Rattle.lay_front.specs.Outcome.{FormatRun}
+use Rattle.lay_front.specs.Outcome.{Wrote, Formats, FormatRun}
+use Rattle.lay_front.specs.declared.format.IntoError.{IntoError}
+use Rattle.lay_front.specs.declared.format.IntoError.TheVariants as into
 use Rattle.lay_front.specs.declared.command.Status.{Status}
 use Rattle.lay_front.specs.declared.command.Status.TheVariants.{Done, Differs, Usage, ReadFailed, Refused, WriteFailed, TooLong, NoMemory}
-
--- A text has one source, and its tokens are one list.
-same_source : (bytes : List ℕ) (a b : Source) → source bytes ≡ Ok a → source bytes ≡ Ok b → a ≡ b
-same_source bytes a b e h = cc
-
-no_source : {P : Type 0} (bytes : List ℕ) (a : Source) (r : Refusal) → source bytes ≡ Ok a → source bytes ≡ Err r → P
-no_source bytes a r e h = cc
-
-lexes_of : (bytes : List ℕ) (a b : Source) (ts : List Token) → source bytes ≡ Ok a → source bytes ≡ Ok b → Lexes a.text a.start ts → Lexes b.text b.start ts
-lexes_of bytes a b ts e h l = subst (λ (s : Source). Lexes s.text s.start ts) (same_source bytes a b e h) l
-
-same_tokens : (bytes : List ℕ) (a b : Source) (ts us : List Token) → source bytes ≡ Ok a → source bytes ≡ Ok b → Lexes a.text a.start ts → Lexes b.text b.start us → ts ≡ us
-same_tokens bytes a b ts us e h l m = unique.lexes_once b.text b.start ts us (lexes_of bytes a b ts e h l) m
-
-token_missing : (bytes : List ℕ) (a b : Source) (ts : List Token) (at : ℕ) → source bytes ≡ Ok a → source bytes ≡ Ok b → Lexes a.text a.start ts → NoTokenAt b.text b.start at → ⊥
-token_missing bytes a b ts at e h l m = unique.no_token_or_tokens b.text b.start at ts m (lexes_of bytes a b ts e h l)
-
-unbalanced_once : (ts : List Token) (at other : ℕ) → UnbalancedAt ts at → UnbalancedAt ts other → at ≡ other
-unbalanced_once ts at other u v =
-    let same : Some at ≡ Some other = sym (place-unbalanced ts at u) ∙ place-unbalanced ts other v in cc
-
-unbalanced_or_balanced : (ts : List Token) (at : ℕ) → UnbalancedAt ts at → Balanced ts → ⊥
-unbalanced_or_balanced ts at u b =
-    let both : Some at ≡ None = sym (place-unbalanced ts at u) ∙ ap place (run-balanced [] ts b) in cc
 
 -- Bytes whose tokens spell a file read to it, and to no other.
 pub read_only : (bytes : List ℕ) (from : Source) (tokens : List Token) (file : File) → source bytes ≡ Ok from → Lexes from.text from.start tokens
     → Balanced tokens → file.shebang ≡ from.shebang → SpellsFile file tokens → ReadsOnlyTo bytes file
-read_only bytes from tokens file e lexes balanced shebang spells = record {
-  reads = record { from = from; tokens = tokens; text = e; shebang = sym shebang; lexes = lexes; balanced = balanced; spells = spells };
-  only = λ other r.
-      let line : other.shebang ≡ file.shebang = sym r.shebang ∙ ap (λ (s : Source). s.shebang) (same_source bytes r.from from r.text e) ∙ sym shebang in
-      let one : r.tokens ≡ tokens = same_tokens bytes r.from from r.tokens tokens r.text e r.lexes lexes in
-      let spelled : SpellsFile other tokens = subst (SpellsFile other) one r.spells in
-      file_unique other file tokens spelled.1 spelled.0.normal spells.1 spells.0.normal line;
-}
+read_only bytes from tokens file e lexes balanced shebang spells =
+    let reads : Reads bytes file = record { from = from; tokens = tokens; text = e; shebang = sym shebang; lexes = lexes; balanced = balanced; spells = spells } in
+    record { reads = reads; only = λ other. one_file bytes file other reads }
+
+-- What bytes read to is laid out as a text that reads to it, and to no other file.
+pub wrote : (bytes : List ℕ) (before now : Option (List ℕ)) (file : File) → ReadsOnlyTo bytes file → GrewBy before now (out file) → Wrote bytes before now
+wrote bytes before now file reads grew =
+    let back = again bytes file reads.reads in
+    record { file = file; reads = reads; grew = grew; back = record { reads = back; only = λ other. one_file (out file) file other back } }
 
 -- Bytes whose tokens spell no file read to none.
 pub read_none : (bytes : List ℕ) (from : Source) (tokens : List Token) → source bytes ≡ Ok from → Lexes from.text from.start tokens
@@ -81,41 +59,34 @@ read_as bytes from tokens nested (Err (error.Refused (NoItem at))) e lexes same 
 )
 read_as bytes from tokens nested (Err error.NoMemory) e lexes same balanced h = tt
 
--- no bytes are balanced and unbalanced
-balanced_or_not : (bytes : List ℕ) (from other : Source) (ts us : List Token) (at : ℕ) → source bytes ≡ Ok from → source bytes ≡ Ok other
-    → Lexes from.text from.start ts → Lexes other.text other.start us → Balanced ts → UnbalancedAt us at → ⊥
-balanced_or_not bytes from other ts us at e h l m b u =
-    unbalanced_or_balanced us at u (subst Balanced (same_tokens bytes from other ts us e h l m) b)
+-- ---- a call that formats bytes
 
--- no bytes are read and refused
-pub read_or_refused : (bytes : List ℕ) (file : File) (refusal : Refusal) → Reads bytes file → IsRefused bytes refusal → ⊥
-read_or_refused bytes file (NotUtf8 at) r h = no_source bytes r.from (NotUtf8 at) r.text h
-read_or_refused bytes file (NoToken at) r h = token_missing bytes r.from h.0 r.tokens at r.text h.1 r.lexes h.2
-read_or_refused bytes file (Unbalanced at) r h = balanced_or_not bytes r.from h.0 r.tokens h.1 at r.text h.2 r.lexes h.3 r.balanced h.4
-read_or_refused bytes file (NoItem at) r h = h.2 file r
+module _ {K T : Type 0} (written : K → Option (List ℕ)) (writes : K → ℕ) (bytes : List ℕ) (k l : K) where
+  pub into_whole : (result : Result T IntoError) (file : File) → Formats written writes bytes k l result
+      → (Rose (writes k) (writes l) → ⊥) → Reads bytes file
+      → (IsOk result × GrewBy (written k) (written l) (out file)) ⊎ (result ≡ Err into.NoMemory)
+  into_whole (Ok done) file h no_write r =
+      inl (refl, subst (λ (f : File). GrewBy (written k) (written l) (out f)) (sym (h.reads.only file r)) h.grew)
+  into_whole (Err (into.Refused refusal)) file h no_write r = absurd (never_both bytes file refusal r h.0)
+  into_whole (Err into.WriteFailed) file h no_write r = absurd (no_write h.0)
+  into_whole (Err into.NoMemory) file h no_write r = inr refl
 
--- no bytes are refused twice
-pub refused_once : (bytes : List ℕ) (r s : Refusal) → IsRefused bytes r → IsRefused bytes s → r ≡ s
-refused_once bytes (NotUtf8 a) (NotUtf8 b) h k = cc
-refused_once bytes (NotUtf8 a) (NoToken b) h k = no_source bytes k.0 (NotUtf8 a) k.1 h
-refused_once bytes (NotUtf8 a) (Unbalanced b) h k = no_source bytes k.0 (NotUtf8 a) k.2 h
-refused_once bytes (NotUtf8 a) (NoItem b) h k = no_source bytes k.1.from (NotUtf8 a) k.1.text h
-refused_once bytes (NoToken a) (NotUtf8 b) h k = no_source bytes h.0 (NotUtf8 b) h.1 k
-refused_once bytes (NoToken a) (NoToken b) h k =
-    ap NoToken (unique.no_token_once k.0.text k.0.start a b (subst (λ (s : Source). NoTokenAt s.text s.start a) (same_source bytes h.0 k.0 h.1 k.1) h.2) k.2)
-refused_once bytes (NoToken a) (Unbalanced b) h k = absurd (token_missing bytes k.0 h.0 k.1 a k.2 h.1 k.3 h.2)
-refused_once bytes (NoToken a) (NoItem b) h k = absurd (token_missing bytes k.1.from h.0 k.1.tokens a k.1.text h.1 k.1.lexes h.2)
-refused_once bytes (Unbalanced a) (NotUtf8 b) h k = no_source bytes h.0 (NotUtf8 b) h.2 k
-refused_once bytes (Unbalanced a) (NoToken b) h k = absurd (token_missing bytes h.0 k.0 h.1 b h.2 k.1 h.3 k.2)
-refused_once bytes (Unbalanced a) (Unbalanced b) h k =
-    ap Unbalanced (unbalanced_once k.1 a b (subst (λ (ts : List Token). UnbalancedAt ts a) (same_tokens bytes h.0 k.0 h.1 k.1 h.2 k.2 h.3 k.3) h.4) k.4)
-refused_once bytes (Unbalanced a) (NoItem b) h k =
-    absurd (balanced_or_not bytes k.1.from h.0 k.1.tokens h.1 a k.1.text h.2 k.1.lexes h.3 k.1.balanced h.4)
-refused_once bytes (NoItem a) (NotUtf8 b) h k = no_source bytes h.1.from (NotUtf8 b) h.1.text k
-refused_once bytes (NoItem a) (NoToken b) h k = absurd (token_missing bytes h.1.from k.0 h.1.tokens b h.1.text k.1 h.1.lexes k.2)
-refused_once bytes (NoItem a) (Unbalanced b) h k =
-    absurd (balanced_or_not bytes h.1.from k.0 h.1.tokens k.1 b h.1.text k.2 h.1.lexes k.3 h.1.balanced k.4)
-refused_once bytes (NoItem a) (NoItem b) h k = ap NoItem (h.0 ∙ sym k.0)
+  pub into_again : (result : Result T IntoError) (given : List ℕ) (file : File) → Formats written writes bytes k l result
+      → Reads given file → bytes ≡ out file → (Rose (writes k) (writes l) → ⊥)
+      → (IsOk result × GrewBy (written k) (written l) bytes) ⊎ (result ≡ Err into.NoMemory)
+  into_again result given file h r e no_write =
+      subst (λ (b : List ℕ). (IsOk result × GrewBy (written k) (written l) b) ⊎ (result ≡ Err into.NoMemory)) (sym e)
+      (into_whole result file h no_write (subst (λ (b : List ℕ). Reads b file) (sym e) (again given file r)))
+
+  pub into_refused : (result : Result T IntoError) (refusal : Refusal) → Formats written writes bytes k l result → IsRefused bytes refusal
+      → (result ≡ Err (into.Refused refusal)) ⊎ (result ≡ Err into.NoMemory)
+  into_refused (Ok done) refusal h r = absurd (never_both bytes h.file refusal h.reads.reads r)
+  into_refused (Err (into.Refused other)) refusal h r =
+      inl (ap (λ (x : Refusal). Err (into.Refused x)) (one_refusal bytes other refusal h.0 r))
+  into_refused (Err into.WriteFailed) refusal h r = absurd (never_both bytes h.1.file refusal h.1.reads.reads r)
+  into_refused (Err into.NoMemory) refusal h r = inr refl
+
+-- ---- a run
 
 told_as : (told : Option (List ℕ)) (bytes all : List ℕ) → told ≡ Some bytes → TellsAs told all → bytes ≡ all
 told_as told bytes all e h = let same : TellsAs (Some bytes) all = subst (λ (t : Option (List ℕ)). TellsAs t all) e h in same
@@ -137,7 +108,7 @@ module _ {K I : Type 0} (written : K → Option (List ℕ)) (writes : K → ℕ)
   complete Usage file h no_read no_write e within r = absurd h
   complete ReadFailed file h no_read no_write e within r = absurd (no_read h.0)
   complete (Refused refusal) file h no_read no_write e within r =
-      absurd (read_or_refused h.0.bytes file refusal (subst (λ (b : List ℕ). Reads b file) (told_as _ bytes h.0.bytes e h.0.all) r) h.0.holds)
+      absurd (never_both h.0.bytes file refusal (subst (λ (b : List ℕ). Reads b file) (told_as _ bytes h.0.bytes e h.0.all) r) h.0.holds)
   complete WriteFailed file h no_read no_write e within r = absurd (no_write h.0)
   complete TooLong file h no_read no_write e within r = absurd (not_too_long e within h.0)
   complete NoMemory file h no_read no_write e within r = inr refl
@@ -149,13 +120,13 @@ module _ {K I : Type 0} (written : K → Option (List ℕ)) (writes : K → ℕ)
       → (Rose (reads i) (reads j) → ⊥) → left i which ≡ Some bytes → length bytes ≤ 16777216 → IsRefused bytes refusal
       → (status ≡ Refused refusal) ⊎ (status ≡ NoMemory)
   complete_refused Done refusal h no_read e within k =
-      absurd (read_or_refused h.bytes h.holds.file refusal h.holds.reads.reads (refused_as h.bytes refusal e h.all k))
+      absurd (never_both h.bytes h.holds.file refusal h.holds.reads.reads (refused_as h.bytes refusal e h.all k))
   complete_refused Differs refusal h no_read e within k = absurd h
   complete_refused Usage refusal h no_read e within k = absurd h
   complete_refused ReadFailed refusal h no_read e within k = absurd (no_read h.0)
   complete_refused (Refused other) refusal h no_read e within k =
-      inl (ap Refused (refused_once h.0.bytes other refusal h.0.holds (refused_as h.0.bytes refusal e h.0.all k)))
+      inl (ap Refused (one_refusal h.0.bytes other refusal h.0.holds (refused_as h.0.bytes refusal e h.0.all k)))
   complete_refused WriteFailed refusal h no_read e within k =
-      absurd (read_or_refused h.1.bytes h.1.holds.file refusal h.1.holds.reads.reads (refused_as h.1.bytes refusal e h.1.all k))
+      absurd (never_both h.1.bytes h.1.holds.file refusal h.1.holds.reads.reads (refused_as h.1.bytes refusal e h.1.all k))
   complete_refused TooLong refusal h no_read e within k = absurd (not_too_long e within h.0)
   complete_refused NoMemory refusal h no_read e within k = inr refl

@@ -12,11 +12,12 @@ use Rattle.lay_front.specs.declared.format.IntoError.TheVariants as into
 use Rattle.lay_front.specs.declared.command.Status.{Status}
 use Rattle.lay_front.specs.declared.command.Status.TheVariants.{Done, Differs, Usage, ReadFailed, Refused, WriteFailed, TooLong, NoMemory}
 
--- The bytes read to one file, and its whole text was written.
+-- The bytes read to one file, and its whole text was written, which reads to the same file.
 pub record Wrote (bytes : List ℕ) (before now : Option (List ℕ)) : Type 0 where
   pub file : File
   pub reads : ReadsOnlyTo bytes file
   pub grew : GrewBy before now (out file)
+  pub back : ReadsOnlyTo (out file) file
 
 -- The bytes read to one file, and a prefix of its text was written.
 pub record WrotePart (bytes : List ℕ) (before now : Option (List ℕ)) : Type 0 where

@@ -58,10 +58,15 @@ pub fn run<I: Inputs, K: Sink, E: Sink>(
     ensures chosen { words.now ≡ [] → I.chosen inputs.new ≡ Some Stdin }
     ensures format { words.now ≡ [] → FormatRun K.written K.faults I.left I.faults Stdin inputs.old inputs.new out.old out.new result }
 
-    // With no fault the answer is the one that the input's bytes have.
+    // With no fault the answer is the one that the input's bytes have, and what a run wrote is formatted again to the
+    // same bytes.
     ensures complete { (bytes : Items ℕ) (file : File) → words.now ≡ []
         → ¬ (Rose (I.faults inputs.old) (I.faults inputs.new)) → ¬ (Rose (K.faults out.old) (K.faults out.new))
         → I.left inputs.old Stdin ≡ Some bytes → length bytes ≤ 16777216 → Reads bytes file
+        → ((result ≡ Status.Done) × GrewBy (K.written out.old) (K.written out.new) (text_of_file file)) ⊎ (result ≡ Status.NoMemory) }
+    ensures again { (given : Items ℕ) (file : File) → words.now ≡ []
+        → ¬ (Rose (I.faults inputs.old) (I.faults inputs.new)) → ¬ (Rose (K.faults out.old) (K.faults out.new))
+        → Reads given file → I.left inputs.old Stdin ≡ Some (text_of_file file) → length (text_of_file file) ≤ 16777216
         → ((result ≡ Status.Done) × GrewBy (K.written out.old) (K.written out.new) (text_of_file file)) ⊎ (result ≡ Status.NoMemory) }
     ensures complete_refused { (bytes : Items ℕ) (refusal : Refusal) → words.now ≡ []
         → ¬ (Rose (I.faults inputs.old) (I.faults inputs.new))

@@ -1,9 +1,12 @@
 //! From bytes to laid-out bytes in a sink.
-ghost use Rattle.std.specs.Prelude.{◌≡◌, ◌≤◌, [], ◌++◌, map, IfOk, OnOk, OnErr, IsErrOf};
+ghost use Rattle.std.specs.Prelude.{◌≡◌, ◌≤◌, ◌⊎◌, ℕ, List as Items, [], ◌++◌, map, Err, IfOk, OnOk, OnErr, IsOk, IsErrOf};
 ghost use Rattle.lay_io.specs.Faults.{HasCause, Rose};
 ghost use Rattle.lay_io.specs.Told.{GrewBy, GrewByPrefix};
 ghost use Rattle.lay_io.specs.Calls.{Puts};
+ghost use Rattle.lay_token.specs.declared.refusal.Refusal.{Refusal};
 ghost use Rattle.lay_tree.specs.Nodes.{attr_form, form_of_item, out as text_of_file};
+ghost use Rattle.lay_tree.specs.Reading.{IsRefused, Reads};
+ghost use Rattle.lay_tree.specs.declared.tree.File.{File};
 ghost use Rattle.lay_front.specs.Lines.{all_lines, line, shebang_line};
 ghost use Rattle.lay_front.specs.Outcome.{Formats};
 ghost use Rattle.lay_front.specs.Waiting.{Passed};
@@ -37,9 +40,30 @@ enum WriteError {
 /// How many bytes are kept before they are written, so that no system call is made for a token alone.
 const PIECE: usize = 65_536;
 
-/// Writes the text of the file that the bytes read to. Refused comes exactly where they are
-/// refused.
+/// Writes the text of the file that the bytes read to, which reads to the same file. Refused comes exactly where
+/// they are refused.
 pub fn format_into<K: Sink>(alloc: Global, bytes: &[u8], out: &mut K) -> Result<(), IntoError>
+    ensures later { K.faults out.old ≤ K.faults out.new }
+
+    // The cause of each answer, and what it leaves.
+    ensures formats { Formats K.written K.faults bytes.now out.old out.new result }
+
+    // With no fault the answer is the one that the bytes have.
+    ensures complete { (file : File) → ¬ (Rose (K.faults out.old) (K.faults out.new)) → Reads bytes.now file
+        → (IsOk result × GrewBy (K.written out.old) (K.written out.new) (text_of_file file)) ⊎ (result ≡ Err IntoError.NoMemory) }
+    ensures complete_refused { (refusal : Refusal) → IsRefused bytes.now refusal
+        → (result ≡ Err (IntoError.Refused refusal)) ⊎ (result ≡ Err IntoError.NoMemory) }
+
+    // What was written is formatted again to the same bytes.
+    ensures again { (given : Items ℕ) (file : File) → Reads given file → bytes.now ≡ text_of_file file
+        → ¬ (Rose (K.faults out.old) (K.faults out.new))
+        → (IsOk result × GrewBy (K.written out.old) (K.written out.new) bytes.now) ⊎ (result ≡ Err IntoError.NoMemory) }
+{
+    format_bytes(alloc, bytes, out)
+}
+
+/// Reads the bytes to their file, and writes its text.
+fn format_bytes<K: Sink>(alloc: Global, bytes: &[u8], out: &mut K) -> Result<(), IntoError>
     ensures later { K.faults out.old ≤ K.faults out.new }
     ensures formats { Formats K.written K.faults bytes.now out.old out.new result }
 {
