@@ -1,0 +1,4 @@
+pub mod FormLaws
+pub mod LayoutJoins
+pub mod Samples
+pub mod StreamLaws

@@ -1,0 +1,87 @@
+-- A form lists the parts of a node in order. From it follow the tokens that spell the node, and its layout.
+use Rattle.std.specs.Prelude.{ℕ, Bool, List, [], ◌∷◌}
+use Rattle.lay_token.specs.Forms.{opening, closing}
+use Rattle.lay_token.specs.declared.token.Delim.{Delim}
+use Rattle.lay_token.specs.declared.token.Kind.{Kind}
+use Rattle.lay_token.specs.declared.token.Kind.TheVariants.{Ident, Punct, Opener, Closer}
+
+-- what a piece is made of
+pub data Bit : Type 0 where
+  -- a blank
+  Blank : Bit
+  -- a fixed token: a word, a delimiter, or one character of punctuation, whatever follows it
+  Fixed : Kind → List ℕ → Bit
+  -- an operator: all its characters but the last are joint, and no longer operator stands there
+  Operator : List ℕ → Bit
+  -- any number of `;`, which aren't in the tree and aren't laid out
+  Semicolons : Bit
+
+-- a place where a line may end; the flag takes the new line one step of four columns back
+pub data Space : Type 0 where
+  -- of so many blanks
+  Soft : Bool → ℕ → Space
+  -- always a newline
+  Hard : Bool → Space
+  -- never a newline, but measures end at it
+  Never : Space
+
+-- the braces round the body of an arm or a closure that aren't in the tree
+pub data Braces : Type 0 where
+  -- none
+  Bare : Braces
+  -- they may be spelled, and aren't laid out
+  Unseen : Braces
+  -- they may be spelled, and are laid out where the body is broken
+  Marked : Braces
+
+-- what stands behind a body
+pub data Behind : Type 0 where
+  Nothing : Behind
+  -- the comma of an arm; it may be left out behind the last arm, and behind a body that is block-like
+  ArmComma : Bool → Bool → Behind
+
+pub data Form : Type 0 where
+  -- nothing more
+  Done : Form
+  -- fixed tokens and operators, laid out as one text
+  Piece : List Bit → Form → Form
+  -- a token of the tree, of this kind and text
+  Leaf : Kind → List ℕ → Form → Form
+  -- a token of a token list, of this kind and text, whose joint mark counts
+  Listed : Kind → List ℕ → Bool → Form → Form
+  -- documentation in a token list; whether it was a block doesn't count
+  ListedDoc : Bool → List ℕ → Form → Form
+  -- a break
+  Brk : Space → Form → Form
+  -- an optional comma, laid out as the mark before the newline of a break of so many blanks
+  LastComma : ℕ → Form → Form
+  -- a group, consistent or not, with its offset
+  Group : Bool → ℕ → Form → Form → Form
+  -- a form within this one
+  Part : Form → Form → Form
+  -- a form that is spelled one level deeper
+  Deeper : Form → Form → Form
+  -- a piece that may be left out; it is laid out always, as the comma behind the last of several fields, or never
+  Optional : Bool → List Bit → Form → Form
+  -- documentation of what it stands in, or of what follows it
+  Docs : Bool → List ℕ → Form → Form
+  -- the body of an arm or a closure, and what stands behind it
+  Body : Braces → Behind → Form → Form → Form
+
+abbrev pub punct : ℕ → Bit
+punct c = Fixed Punct (c ∷ [])
+
+abbrev pub keyword : List ℕ → Bit
+keyword word = Fixed Ident word
+
+abbrev pub opener : Delim → Bit
+opener d = Fixed (Opener d) (opening d ∷ [])
+
+abbrev pub closer : Delim → Bit
+closer d = Fixed (Closer d) (closing d ∷ [])
+
+abbrev pub comma : List Bit
+comma = punct 44 ∷ []
+
+abbrev pub semicolon : List Bit
+semicolon = punct 59 ∷ []
