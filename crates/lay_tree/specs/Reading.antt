@@ -6,10 +6,10 @@ use Rattle.lay_token.specs.Source.{Source, source}
 use Rattle.lay_token.specs.declared.refusal.Refusal.{Refusal}
 use Rattle.lay_token.specs.declared.refusal.Refusal.TheVariants.{NotUtf8, NoToken, Unbalanced, NoItem}
 use Rattle.lay_token.specs.declared.token.Token.{Token}
-use Rattle.lay_tree.specs.Nodes.{form_of_file}
-use Rattle.lay_tree.specs.Spelled.{Spells}
+use Rattle.lay_tree.specs.nodes.File.{form_of_file}
+use Rattle.lay_form.specs.Spelled.{Spells}
 use Rattle.lay_tree.specs.Written.{Written}
-use Rattle.lay_tree.specs.declared.tree.File.{File}
+use Rattle.lay_tree.specs.declared.file.File.{File}
 
 -- Items of a file stand at this depth.
 abbrev pub top : ℕ

@@ -1,42 +1,41 @@
-//! What holds of every form, and of every node.
-ghost use Rattle.std.specs.Prelude.{◌≡◌, ◌≤◌, ℕ, Bool, IsTrue, List, drop};
-ghost use Rattle.lay_token.specs.Document.{stream};
+//! What holds of every node.
+ghost use Rattle.std.specs.Prelude.{◌≡◌, ℕ, Bool, List};
 ghost use Rattle.lay_token.specs.declared.token.Token.{Token};
-ghost use Rattle.lay_tree.specs.Form.{Form};
-ghost use Rattle.lay_tree.specs.Layout.{document};
-ghost use Rattle.lay_tree.specs.Nodes.{attr_form, form_of_use, form_of_item};
 ghost use Rattle.lay_tree.specs.Reading.{SpellsFile};
-ghost use Rattle.lay_tree.specs.Spelled.{Spells, Front, least_depth};
-ghost use Rattle.lay_tree.specs.Stream.{stream_of};
-ghost use Rattle.lay_tree.specs.Written.{is_attr, is_use, is_item};
-ghost use Rattle.lay_tree.specs.declared.tree.Attr.{Attr};
-ghost use Rattle.lay_tree.specs.declared.tree.File.{File};
-ghost use Rattle.lay_tree.specs.declared.tree.Item.{Item};
-ghost use Rattle.lay_tree.specs.declared.tree.UseTree.{UseTree};
+ghost use Rattle.lay_tree.specs.nodes.Attr.{about_attr};
+ghost use Rattle.lay_tree.specs.nodes.Facts.{Front};
+ghost use Rattle.lay_tree.specs.nodes.Item.{about_item};
+ghost use Rattle.lay_tree.specs.nodes.Path.{about_path};
+ghost use Rattle.lay_tree.specs.nodes.Use.{about_use};
+ghost use Rattle.lay_tree.specs.reader.Attr.{attribute};
+ghost use Rattle.lay_tree.specs.reader.Exact.{Exact, needless};
+ghost use Rattle.lay_tree.specs.reader.Item.{item_at};
+ghost use Rattle.lay_tree.specs.reader.Path.{path as path_reading};
+ghost use Rattle.lay_tree.specs.reader.Use.{use_at};
+ghost use Rattle.lay_tree.specs.declared.attr.Attr.{Attr};
+ghost use Rattle.lay_tree.specs.declared.file.File.{File};
+ghost use Rattle.lay_tree.specs.declared.item.Item.{Item};
+ghost use Rattle.lay_tree.specs.declared.path.Path.{Path};
+ghost use Rattle.lay_tree.specs.declared.use_tree.UseTree.{UseTree};
 
-/// The laws of forms. A form is spelled at no depth below its least, and what is spelled at a depth is spelled at each
-/// greater one. The stream of a form is that of its document. A front of the tokens that spells a form spells it
-/// without the tests behind its nodes too.
-pub fn form_law()
-    ensures least { (f : Form) (depth : ℕ) (ts rest : List Token)
-        → Spells f depth ts rest → least_depth f ≤ depth }
-    ensures deeper { (f : Form) (depth more : ℕ) (ts rest : List Token)
-        → depth ≤ more → Spells f depth ts rest → Spells f more ts rest }
-    ensures stream { (f : Form) → stream (document f) ≡ stream_of f }
-    ensures front { (f : Form) (ts : List Token) (n depth : ℕ) → Front f ts n depth → Spells f depth ts (drop n ts) }
+/// The functions that read nodes read exactly what stands at the front of the tokens.
+pub fn reading_law()
+    ensures paths { Exact (needless path_reading) (λ (x : Path). Front (about_path x)) }
+    ensures attrs { (inner : Bool) → Exact (needless (attribute inner)) (λ (x : Attr). Front (about_attr inner x)) }
+    ensures use_trees { Exact use_at (λ (x : UseTree). Front (about_use x)) }
+    ensures items { Exact item_at (λ (x : Item). Front (about_item x)) }
 {}
 
-/// At most one node and one count of tokens fit at a place, for each kind of node.
+/// At most one node and one count of tokens fit at a place, for each kind of node, and one file a list of tokens.
 pub fn node_law()
-    ensures one_attr { (attr other : Attr) (inner : Bool) (ts : List Token) (n m depth : ℕ)
-        → IsTrue (is_attr inner attr) → IsTrue (is_attr inner other)
-        → Front (attr_form attr) ts n depth → Front (attr_form other) ts m depth → (attr ≡ other) × (n ≡ m) }
-    ensures one_use { (tree other : UseTree) (ts : List Token) (n m depth : ℕ)
-        → IsTrue (is_use tree) → IsTrue (is_use other)
-        → Front (form_of_use tree) ts n depth → Front (form_of_use other) ts m depth → (tree ≡ other) × (n ≡ m) }
-    ensures one_item { (item other : Item) (ts : List Token) (n m depth : ℕ)
-        → IsTrue (is_item item) → IsTrue (is_item other)
-        → Front (form_of_item item) ts n depth → Front (form_of_item other) ts m depth → (item ≡ other) × (n ≡ m) }
+    ensures one_path { (node other : Path) (ts : List Token) (n m depth : ℕ)
+        → Front (about_path node) ts n depth → Front (about_path other) ts m depth → (node ≡ other) × (n ≡ m) }
+    ensures one_attr { (node other : Attr) (inner : Bool) (ts : List Token) (n m depth : ℕ)
+        → Front (about_attr inner node) ts n depth → Front (about_attr inner other) ts m depth → (node ≡ other) × (n ≡ m) }
+    ensures one_use { (node other : UseTree) (ts : List Token) (n m depth : ℕ)
+        → Front (about_use node) ts n depth → Front (about_use other) ts m depth → (node ≡ other) × (n ≡ m) }
+    ensures one_item { (node other : Item) (ts : List Token) (n m depth : ℕ)
+        → Front (about_item node) ts n depth → Front (about_item other) ts m depth → (node ≡ other) × (n ≡ m) }
     ensures one_file { (file other : File) (ts : List Token) → file.shebang ≡ other.shebang
         → SpellsFile file ts → SpellsFile other ts → file ≡ other }
 {}

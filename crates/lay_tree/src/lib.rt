@@ -1,19 +1,26 @@
 //! Trees of Rust files, and the definitions that say which tokens spell a tree and how it is laid out.
 //!
-//! `specs/` holds the notation in which the grammar is written: a `Form` lists the parts of a node in order,
-//! and from it follow which tokens spell the node (`Spelled`), its document (`Layout`), and the stream that a
-//! printer is fed (`Stream`). `Nodes` gives each node its form, `Written` says which trees are files that can
-//! be written, and `Reading` which bytes read to which file. [`form_law`] and [`node_law`] say what holds of
-//! every form and of every node.
+//! The families are the same in the sources, in `specs/` and in `proofs/`: paths, attributes, use trees, items, files.
+//! `specs/nodes/` says of each which nodes are well formed, which form they have (in the signs of `lay_form`), and what
+//! may not follow them (`Follow`). `Reading` says which bytes read to which file, and `Out` what a file's text is.
+//! `specs/reader/` holds the functions that code which reads is proved equal to. [`node_law`] and [`reading_law`] say what
+//! holds of every node.
 #![tactic(auto)]
 
+pub mod attr;
 pub mod boxed;
+pub mod file;
+pub mod item;
 mod laws;
-pub mod tree;
+pub mod path;
+pub mod token;
+pub mod use_tree;
 
+pub use attr::{Attr, MetaInput, MetaPath};
 pub use boxed::Boxed;
-pub use laws::{form_law, node_law};
-pub use tree::{
-    Attr, File, Item, ItemKind, Literal, MetaInput, MetaPath, Name, Path, Rename, Segment, UseEnd,
-    UseTree, Word,
-};
+pub use file::File;
+pub use item::{Item, ItemKind};
+pub use laws::{node_law, reading_law};
+pub use path::{Path, Segment};
+pub use token::{Listed, Literal, Name, Word};
+pub use use_tree::{Rename, UseEnd, UseTree};

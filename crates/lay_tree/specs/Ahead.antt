@@ -1,0 +1,54 @@
+-- Tests of the tokens ahead.
+use Rattle.std.specs.Prelude.{ℕ, ◌&&◌, Bool, true, false, List, [], ◌∷◌}
+use Rattle.std.specs.Str.{bytes_eq}
+use Rattle.lay_token.specs.Lexes.{is_punct}
+use Rattle.lay_token.specs.declared.token.Delim.{Delim}
+use Rattle.lay_token.specs.declared.token.Delim.TheVariants.{Paren, Bracket, Brace}
+use Rattle.lay_token.specs.declared.token.Kind.{Kind}
+use Rattle.lay_token.specs.declared.token.Kind.TheVariants.{Ident, Opener, Closer}
+use Rattle.lay_token.specs.declared.token.Token.{Token}
+
+abbrev pub Tokens : Type 0
+Tokens = List Token
+
+abbrev pub at_end : Tokens → Bool
+at_end [] = true
+at_end (t ∷ ts) = false
+
+abbrev pub first : (Token → Bool) → Tokens → Bool
+first p [] = false
+first p (t ∷ ts) = p t
+
+abbrev pub tail : Tokens → Tokens
+tail [] = []
+tail (t ∷ ts) = ts
+
+abbrev pub is_ident : Kind → Bool
+is_ident Ident = true
+is_ident _ = false
+
+abbrev pub is_keyword : List ℕ → Token → Bool
+is_keyword word t = is_ident t.kind && bytes_eq t.text word
+
+abbrev pub is_mark : List ℕ → Token → Bool
+is_mark character t = is_punct t.kind && bytes_eq t.text character
+
+abbrev pub same_delim : Delim → Delim → Bool
+same_delim Paren Paren = true
+same_delim Bracket Bracket = true
+same_delim Brace Brace = true
+same_delim _ _ = false
+
+abbrev pub is_opener : Delim → Kind → Bool
+is_opener d (Opener e) = same_delim d e
+is_opener d _ = false
+
+abbrev pub is_closer : Delim → Kind → Bool
+is_closer d (Closer e) = same_delim d e
+is_closer d _ = false
+
+abbrev pub opens : Delim → Token → Bool
+opens d t = is_opener d t.kind
+
+abbrev pub closes : Delim → Token → Bool
+closes d t = is_closer d t.kind

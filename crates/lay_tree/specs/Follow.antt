@@ -1,0 +1,21 @@
+-- What may not follow a node. A node refuses what would make it longer: what its own rule names, and what is refused by
+-- the node that ends where it ends. The rules stand here in the order of docs/GRAMMAR.md.
+use Rattle.std.specs.Prelude.{◌&&◌, not, Bool, true, List, [], ◌∷◌, codes}
+use Rattle.lay_token.specs.Operators.{is_op}
+use Rattle.lay_tree.specs.Ahead.{Tokens, first, is_keyword}
+
+pub data Begin : Type 0 where
+  -- an optional last part that is left out: another name, behind the word that an import ends in
+  OfRename : Begin
+  -- `::`, behind a path and a use tree
+  OfColons : Begin
+
+-- It stands at the front.
+abbrev pub begins_there : Begin → Tokens → Bool
+begins_there OfRename ts = first (is_keyword (codes "as")) ts
+begins_there OfColons ts = is_op (codes "::") ts
+
+-- The tokens may follow a node that refuses these.
+abbrev pub may_follow : List Begin → Tokens → Bool
+may_follow [] ts = true
+may_follow (b ∷ bs) ts = not (begins_there b ts) && may_follow bs ts

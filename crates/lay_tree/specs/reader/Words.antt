@@ -1,0 +1,49 @@
+-- Reading names, words and literals.
+use Rattle.std.specs.Prelude.{ℕ, Bool, true, false, if◌then◌else◌, List, [], ◌∷◌, drop, codes, Option, Some, None, is_some}
+use Rattle.lay_token.specs.Operators.{is_op}
+use Rattle.lay_token.specs.Word.{class_of}
+use Rattle.lay_token.specs.declared.token.Kind.{Kind}
+use Rattle.lay_token.specs.declared.token.Kind.TheVariants.{Ident, RawIdent}
+use Rattle.lay_tree.specs.Ahead.{Tokens}
+use Rattle.lay_tree.specs.Words.{is_plain, is_path_class, is_literal_kind}
+use Rattle.lay_tree.specs.reader.Loops.{Got, ◌>>=◌, repeat}
+use Rattle.lay_tree.specs.declared.token.Literal.{Literal}
+use Rattle.lay_tree.specs.declared.token.Name.{Name}
+use Rattle.lay_tree.specs.declared.token.Word.{Word}
+
+abbrev pub name_by : Kind → List ℕ → Option Name
+name_by Ident text = if is_plain (class_of text) then Some (record { raw = false; text = text }) else None
+name_by RawIdent text = Some (record { raw = true; text = text })
+name_by _ text = None
+
+unfoldable pub name : Tokens → Got Name
+name [] = None
+name (t ∷ ts) = do n ← name_by t.kind t.text; Some (n, ts)
+
+abbrev pub word_by : Kind → List ℕ → Option Word
+word_by Ident text = if is_path_class (class_of text) then Some (record { raw = false; text = text }) else None
+word_by RawIdent text = Some (record { raw = true; text = text })
+word_by _ text = None
+
+unfoldable pub word : Tokens → Got Word
+word [] = None
+word (t ∷ ts) = do w ← word_by t.kind t.text; Some (w, ts)
+
+unfoldable pub literal : Tokens → Got Literal
+literal [] = None
+literal (t ∷ ts) = if is_literal_kind t.kind then Some (record { kind = t.kind; text = t.text }, ts) else None
+
+-- whether a `::` stands at the front, left behind
+abbrev pub global : Tokens → Bool × Tokens
+global ts = if is_op (codes "::") ts then (true, drop 2 ts) else (false, ts)
+
+-- a word and the `::` behind it
+unfoldable pub path_word : Tokens → Got Word
+path_word ts = do w ← word ts; if is_op (codes "::") w.1 then Some (w.0, drop 2 w.1) else None
+
+abbrev pub begins_path_word : Tokens → Bool
+begins_path_word ts = is_some (path_word ts)
+
+-- the words of a path that have a `::` behind them
+unfoldable pub path_words : Tokens → Got (List Word)
+path_words ts = repeat begins_path_word path_word ts

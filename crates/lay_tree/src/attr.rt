@@ -1,0 +1,38 @@
+//! Attributes.
+use crate::path::Path;
+use crate::token::Literal;
+use lay_token::Text;
+
+/// An attribute (Rust Reference, "Attributes"). An inner one says something of what it stands in.
+#[derive(Debug, Drop)]
+pub enum Attr {
+    /// Documentation. It may be spelled as a comment or as `#[doc = "text"]`.
+    Doc {
+        inner: bool,
+        text: Text,
+    },
+    /// `#[path]` or `#[path = literal]`
+    Meta {
+        inner: bool,
+        path: MetaPath,
+        input: MetaInput,
+    },
+}
+
+/// What an attribute is called.
+#[derive(Debug, Drop)]
+pub enum MetaPath {
+    /// `a::b`
+    Path(Path),
+    /// `unsafe`
+    Unsafe,
+}
+
+/// What an attribute is given.
+#[derive(Debug, Drop)]
+pub enum MetaInput {
+    /// Nothing.
+    Bare,
+    /// ` = "x"`
+    Value(Literal),
+}

@@ -1,0 +1,39 @@
+//! Tokens of a tree: names, words, literals, and the tokens of token lists.
+use lay_token::{Kind, Text};
+
+/// A name: an identifier that is no keyword, or a raw identifier, whose text is without `r#`.
+#[derive(Debug, Drop)]
+pub struct Name {
+    pub raw: bool,
+    pub text: Text,
+}
+
+/// A word of a path: a name, or `crate`, `self`, `super` or `Self`.
+#[derive(Debug, Drop)]
+pub struct Word {
+    pub raw: bool,
+    pub text: Text,
+}
+
+/// A literal token.
+#[derive(Debug, Drop)]
+pub struct Literal {
+    pub kind: Kind,
+    pub text: Text,
+}
+
+/// A token of a token list. Where it stood isn't in the tree, nor whether documentation was a block.
+#[derive(Debug, Drop)]
+pub enum Listed {
+    /// Any token but documentation, with its joint mark: another punctuation token stands directly behind it.
+    Token {
+        kind: Kind,
+        text: Text,
+        joint: bool,
+    },
+    /// Documentation.
+    Doc {
+        inner: bool,
+        text: Text,
+    },
+}
