@@ -1,0 +1,4 @@
+pub mod FirstText
+pub mod Nodes
+pub mod Reparse
+pub mod Singles
