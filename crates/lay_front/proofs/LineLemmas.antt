@@ -9,13 +9,18 @@ use Rattle.lay_token.specs.Document.{Document, Empty, AddText, AddBreak, AddGrou
 use Rattle.lay_token.proofs.Lines.{stream_joined, EndsLine, text_joined}
 use Rattle.lay_stream.specs.Fed.{Start, Did}
 use Rattle.lay_stream.specs.Listed.{list_meanings}
-use Rattle.lay_tree.specs.Form.{Form, Hard}
-use Rattle.lay_tree.specs.Layout.{break_of, document, laid_out}
-use Rattle.lay_tree.specs.Nodes.{attr_form, form_of_item, behind_shebang, lines, out}
-use Rattle.lay_tree.specs.Stream.{stream_of}
-use Rattle.lay_tree.specs.declared.tree.File.{File}
-use Rattle.lay_tree.proofs.LayoutJoins.{line_first}
-use Rattle.lay_tree.proofs.StreamLaws.{stream_is}
+use Rattle.lay_form.specs.Form.{Form, Hard}
+use Rattle.lay_form.specs.Layout.{break_of, document, laid_out}
+use Rattle.lay_form.specs.Notation.{lines}
+use Rattle.lay_form.specs.Stream.{stream_of}
+use Rattle.lay_form.proofs.LayoutJoins.{line_first}
+use Rattle.lay_form.proofs.StreamLaws.{stream_is}
+use Rattle.lay_tree.specs.Out.{behind_shebang, out}
+use Rattle.lay_tree.specs.nodes.Attr.{attr_form}
+use Rattle.lay_tree.specs.nodes.Facts.{forms}
+use Rattle.lay_tree.specs.nodes.Item.{about_item, form_of_item}
+use Rattle.lay_tree.specs.declared.file.File.{File}
+use Rattle.lay_tree.specs.declared.item.Item.{Item}
 use Rattle.lay_front.specs.Lines.{line, all_lines, shebang_line}
 
 abbrev hard : Break
@@ -57,9 +62,14 @@ pub out_lines : (file : File) → out file ≡ (shebang_line file.shebang ++ all
 out_lines file =
     let attrs = map attr_form file.attrs in
     let items = map form_of_item file.items in
-    shebang_lines file.shebang (laid_out false (lines (attrs ++ items)) Empty)
+    ap (λ (fs : List Form). text_of (behind_shebang file.shebang (laid_out false (lines (attrs ++ fs)) Empty))) (item_forms file.items)
+    ∙ shebang_lines file.shebang (laid_out false (lines (attrs ++ items)) Empty)
     ∙ ap (λ (t : List ℕ). shebang_line file.shebang ++ t) (parts_lines (attrs ++ items) ∙ flat_map-append line attrs items)
     ∙ sym (append_assoc (shebang_line file.shebang) (all_lines attrs) (all_lines items))
+  where
+    item_forms : (items : List Item) → forms (map about_item items) ≡ map form_of_item items
+    item_forms [] = refl
+    item_forms (x ∷ xs) = ap (λ (fs : List Form). form_of_item x ∷ fs) (item_forms xs)
 
 -- the document of a part that stands on lines of its own
 abbrev pub line_document : Form → Document

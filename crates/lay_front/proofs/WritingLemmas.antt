@@ -4,11 +4,13 @@ use Rattle.std.proofs.lemmas.List.{take-append-drop, take_more}
 use Rattle.std.proofs.lemmas.Grind.{flat_map-append}
 use Rattle.lay_io.specs.Told.{GrewBy, GrewByPrefix}
 use Rattle.lay_io.proofs.Growth.{grew_by-nothing, grew_by-more, grew_by_prefix-longer, grew_by_prefix-more}
-use Rattle.lay_tree.specs.Form.{Form}
-use Rattle.lay_tree.specs.Nodes.{attr_form, form_of_item, out}
-use Rattle.lay_tree.specs.declared.tree.Attr.{Attr}
-use Rattle.lay_tree.specs.declared.tree.Item.{Item}
-use Rattle.lay_tree.specs.declared.tree.File.{File}
+use Rattle.lay_form.specs.Form.{Form}
+use Rattle.lay_tree.specs.Out.{out}
+use Rattle.lay_tree.specs.nodes.Attr.{attr_form}
+use Rattle.lay_tree.specs.nodes.Item.{form_of_item}
+use Rattle.lay_tree.specs.declared.attr.Attr.{Attr}
+use Rattle.lay_tree.specs.declared.item.Item.{Item}
+use Rattle.lay_tree.specs.declared.file.File.{File}
 use Rattle.lay_front.specs.Lines.{line, all_lines, shebang_line}
 use Rattle.lay_front.proofs.LineLemmas.{out_lines}
 use Rattle.lay_front.specs.Waiting.{Passed}

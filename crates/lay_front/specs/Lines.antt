@@ -2,8 +2,8 @@
 use Rattle.std.specs.Prelude.{ℕ, false, List, [], ◌++◌, codes, Option, Some, None}
 use Rattle.std.specs.List.{flat_map}
 use Rattle.lay_token.specs.Document.{Empty, AddBreak, joined, text_of}
-use Rattle.lay_tree.specs.Form.{Form, Hard}
-use Rattle.lay_tree.specs.Layout.{break_of, document}
+use Rattle.lay_form.specs.Form.{Form, Hard}
+use Rattle.lay_form.specs.Layout.{break_of, document}
 
 -- the text of a part that stands on lines of its own
 abbrev pub line : Form → List ℕ

@@ -5,8 +5,8 @@ use Rattle.lay_io.specs.Faults.{Rose}
 use Rattle.lay_io.specs.declared.outside.Which.{Which}
 use Rattle.lay_tree.specs.Reading.{IsRefused}
 use Rattle.lay_front.specs.Readings.{ReadsOnlyTo}
-use Rattle.lay_tree.specs.Nodes.{out}
-use Rattle.lay_tree.specs.declared.tree.File.{File}
+use Rattle.lay_tree.specs.Out.{out}
+use Rattle.lay_tree.specs.declared.file.File.{File}
 use Rattle.lay_front.specs.declared.format.IntoError.{IntoError}
 use Rattle.lay_front.specs.declared.format.IntoError.TheVariants as into
 use Rattle.lay_front.specs.declared.command.Status.{Status}

@@ -3,7 +3,7 @@ use Rattle.std.specs.Prelude.{ℕ, ◌≡◌, List, Result, Ok, Err}
 use Rattle.lay_token.specs.declared.refusal.FormatError.{FormatError}
 use Rattle.lay_token.specs.declared.refusal.FormatError.TheVariants.{Refused, NoMemory}
 use Rattle.lay_tree.specs.Reading.{Reads, IsRefused}
-use Rattle.lay_tree.specs.declared.tree.File.{File}
+use Rattle.lay_tree.specs.declared.file.File.{File}
 
 -- The bytes read to this file and to no other.
 pub record ReadsOnlyTo (bytes : List ℕ) (file : File) : Type 0 where

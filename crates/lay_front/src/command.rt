@@ -5,10 +5,10 @@ ghost use Rattle.lay_io.specs.Told.{GrewBy};
 ghost use Rattle.lay_io.specs.declared.outside.Which.{Which};
 ghost use Rattle.lay_io.specs.declared.outside.Which.TheVariants.{Stdin};
 ghost use Rattle.lay_token.specs.declared.refusal.Refusal.{Refusal};
+ghost use Rattle.lay_tree.specs.Out.{out as text_of_file};
 ghost use Rattle.lay_tree.specs.Reading.{IsRefused, Reads};
-ghost use Rattle.lay_tree.specs.Nodes.{out as text_of_file};
 ghost use Rattle.lay_front.specs.Outcome.{FormatRun};
-ghost use Rattle.lay_tree.specs.declared.tree.File.{File};
+ghost use Rattle.lay_tree.specs.declared.file.File.{File};
 
 use crate::format::{IntoError, format_into};
 use lay_io::{Inputs, ReadError, Sink, Which, read_all};

@@ -44,3 +44,6 @@ about_item = fold-Item Facts Facts kind_facts item_facts
 
 unfoldable pub about_kind : ItemKind → Facts
 about_kind = fold-ItemKind Facts Facts kind_facts item_facts
+
+abbrev pub form_of_item : Item → Form
+form_of_item item = (about_item item).form

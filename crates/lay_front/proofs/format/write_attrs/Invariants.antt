@@ -1,5 +1,5 @@
 use Rattle.std.proofs.Common.{◌≤◌}
-use Rattle.lay_tree.specs.Nodes.{attr_form}
+use Rattle.lay_tree.specs.nodes.Attr.{attr_form}
 use Rattle.lay_front.proofs.WritingLemmas.{Turn}
 use Rattle.lay_front.proofs.format.write_attrs.Given as goal
 

@@ -1,6 +1,6 @@
 use Rattle.std.proofs.Common.{◌∙◌, arith}
 use Rattle.lay_io.proofs.Growth.{grew_by_prefix-nothing}
-use Rattle.lay_tree.specs.Nodes.{form_of_item}
+use Rattle.lay_tree.specs.nodes.Item.{form_of_item}
 use Rattle.lay_front.proofs.WritingLemmas.{turn-more, turn-stopped, turn-failed}
 use Rattle.lay_front.proofs.format.write_items.Goals as goal
 

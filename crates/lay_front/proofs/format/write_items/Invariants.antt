@@ -1,5 +1,5 @@
 use Rattle.std.proofs.Common.{◌≤◌}
-use Rattle.lay_tree.specs.Nodes.{form_of_item}
+use Rattle.lay_tree.specs.nodes.Item.{form_of_item}
 use Rattle.lay_front.proofs.WritingLemmas.{Turn}
 use Rattle.lay_front.proofs.format.write_items.Given as goal
 
