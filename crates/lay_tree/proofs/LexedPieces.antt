@@ -19,9 +19,10 @@ use Rattle.lay_token.specs.declared.token.Kind.TheVariants.{RawIdent, Int, Doc}
 use Rattle.lay_token.specs.declared.token.Token.{Token}
 use Rattle.lay_token.proofs.Characters.{digit_parts}
 use Rattle.lay_token.proofs.Complete.{behind_true}
+use Rattle.lay_token.proofs.Encoding.{scalars_parts}
 use Rattle.lay_tree.specs.Written.{is_text_of}
 use Rattle.lay_tree.proofs.Pieces.{are_texts}
-use Rattle.lay_tree.proofs.Scalars.{text_utf8, scalars_parts, scalars_drop, scalars_take, scalars_cond, scalars_without_end}
+use Rattle.lay_tree.proofs.Scalars.{text_utf8, scalars_drop, scalars_take, scalars_cond, scalars_without_end}
 
 -- ---- an index is an integer
 

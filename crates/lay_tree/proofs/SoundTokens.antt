@@ -2,7 +2,6 @@
 use Rattle.std.proofs.Common.{◌≡◌, ℕ, Bool, true, false, ◌&&◌, List, [], ◌∷◌, ◌++◌, ◌⊎◌, inl, inr, Option, Some, None, refl, sym, ◌∙◌, ap, cond, append_assoc, append-nil}
 use Rattle.std.specs.Prelude.{option_and_then}
 use Rattle.std.specs.Str.{bytes_eq}
-use Rattle.std.proofs.lemmas.Slice.Eq.{bytes_eq-Decides}
 use Rattle.lay_token.specs.Lexes.{is_punct}
 use Rattle.lay_token.specs.declared.token.Delim.TheVariants.{Bracket, Brace}
 use Rattle.lay_token.specs.declared.token.Kind.{Kind}
