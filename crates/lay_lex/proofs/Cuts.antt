@@ -1,17 +1,14 @@
 -- Characters and bytes at the ends of texts.
-use Rattle.std.proofs.Common.{◌≡◌, inl, inr, ℕ, zero, suc, ◌-◌, ◌≤◌, List, [], ◌∷◌, ◌++◌, Bool, true, false, ◌||◌, sym, refl, ap, ◌∙◌, subst, arith, length, take, drop, IsUtf8, length-append}
+use Rattle.std.proofs.Common.{◌≡◌, ℕ, zero, suc, ◌-◌, List, [], ◌∷◌, ◌++◌, sym, refl, ap, ◌∙◌, subst, arith, length, take, drop, IsUtf8, length-append}
 use Rattle.std.specs.Prelude.{◌==◌}
 use Rattle.std.specs.List.{list_any}
 use Rattle.std.specs.Str.{chars, encode_utf8_all, IsCharBoundary}
 use Rattle.std.proofs.Math.Seq.{take-append_seam, drop-append_seam}
-use Rattle.std.proofs.lemmas.Bool.{cases_lt, ne_eqb, and_parts}
 use Rattle.std.proofs.lemmas.List.{append-nil}
-use Rattle.std.proofs.lemmas.List.Folds.{list_any-append}
-use Rattle.std.proofs.lemmas.Str.{encodes-append, encodes-chars, encodes_same, encode_ascii, scalars-chars, chars-encodes, chars-nil, IsCharBoundary-at_seam}
-use lib.Utf8.{encode, scalar, scalars}
+use Rattle.std.proofs.lemmas.Str.{encodes-append, encodes-chars, encodes_same, scalars-chars, chars-encodes, chars-nil, IsCharBoundary-at_seam}
+use lib.Utf8.{encode, scalars}
 use Rattle.lay_token.specs.Lexes.{size}
 use Rattle.lay_token.proofs.Encoding.{any_encodes, no_one, scalars_parts}
-use Rattle.lay_lex.proofs.Folds.{IsHigh, high}
 
 -- a text without its last character
 snoc : (s t : List ℕ) (c : ℕ) → IsUtf8 s → IsUtf8 t → s ≡ t ++ encode c → chars s ≡ chars t ++ c ∷ []

@@ -2,9 +2,9 @@
 use Rattle.std.proofs.Common.{◌≡◌, inl, inr, ℕ, suc, ◌<◌, ◌≤◌, List, [], ◌∷◌, ◌++◌, Bool, true, false, cond, ◌&&◌, sym, refl, ap, ◌∙◌, arith, length, get_or, append-nil, IsUtf8}
 use Rattle.std.specs.Prelude.{◌==◌}
 use Rattle.std.specs.Str.{chars, encode_utf8_all}
-use Rattle.std.proofs.lemmas.Bool.{cases_lt, ne_eqb, and_parts, and_from}
-use Rattle.std.proofs.lemmas.Str.{encode_ascii, length-encode, len_utf8_bounds, inside_one, encodes-chars, scalars-chars, chars-encodes}
-use lib.Utf8.{encode, scalar, scalars}
+use Rattle.std.proofs.lemmas.Bool.{cases_lt, ne_eqb}
+use Rattle.std.proofs.lemmas.Str.{encode_ascii, inside_one, encodes-chars, scalars-chars, chars-encodes}
+use lib.Utf8.{encode}
 use Rattle.lay_token.specs.Chars.{begins}
 use Rattle.lay_token.specs.Source.{folded}
 use Rattle.lay_token.proofs.Encoding.{begins_encodes, no_one, scalars-folded}

@@ -3,8 +3,8 @@ use Rattle.std.proofs.Common.{◌≡◌, ℕ, ◌+◌, ◌-◌, ◌<◌, ◌≤�
 use Rattle.std.specs.Str.{chars, is_utf8, encode_utf8_all, IsCharBoundary}
 use Rattle.std.specs.Str.Lossy.{utf8_valid_len}
 use Rattle.std.specs.Prelude.{◌==◌}
-use Rattle.std.proofs.lemmas.Bool.{false_from_ne_true, eqb-true, not-false, cond_both, and_parts}
-use lib.Utf8.{encode, scalar, scalars}
+use Rattle.std.proofs.lemmas.Bool.{false_from_ne_true, eqb-true, not-false, cond_both}
+use lib.Utf8.{encode, scalars}
 use Rattle.std.proofs.lemmas.Str.{encode_ascii, encodes-append, encodes-chars, IsCharBoundary-at_seam, IsCharBoundary-start, scalars-chars, IsUtf8-from_is_utf8, is_utf8-from_IsUtf8, length-le-encodes}
 use Rattle.lay_token.specs.Chars.{begins, front, after, is_nil}
 use Rattle.lay_token.specs.Lexes.{size}
