@@ -27,6 +27,8 @@ impl<'a, K: Sink> Sink for Lent<'a, K> {
 
     ghost loan = { λ s. s.sink.ghost_name };
 
+    ghost wrote = { λ s piece answer t. K.wrote s.sink.now piece answer t.sink.now };
+
     fn write(&mut self, piece: &[u8]) -> Result<(), Failed> {
         self.sink.write(piece)
     }
