@@ -1,9 +1,9 @@
 -- Objects in memory of which named calls fail, and what one call of an object in memory does.
-use Rattle.std.specs.Prelude.{ℕ, ◌≡◌, ◌<◌, ◌≤◌, ◌↔◌, List, length, take, min, Contains, Result, IsOk, IsErr, OnOk, OnErr, Option}
+use Rattle.std.specs.Prelude.{ℕ, ◌≡◌, ◌<◌, ◌≤◌, ◌↔◌, List, length, take, min, Contains, Result, IsOk, IsErr, OnOk, OnErr}
 use Rattle.lay_io.specs.Faults.{one_more, CountsOnce}
 use Rattle.lay_io.specs.Kept.{Kept, kept_behind, untold}
 use Rattle.lay_io.specs.declared.outside.Failed.{Failed}
-use Rattle.lay_io.specs.declared.outside.Which.{Which}
+use Rattle.lay_io.specs.declared.inputs.MemoryInputs.{MemoryInputs}
 
 -- A write of a sink that never fails: it keeps a piece that fits, and behind one that doesn't fit it tells nothing.
 pub record QuietWrite (before : Kept) (piece : List ℕ) (result : Result (Unit {0}) Failed) (now : Kept) : Type 0 where
@@ -23,24 +23,21 @@ pub record Device : Type 0 where
 pub record DeviceWrite (before : Device) (piece : List ℕ) (result : Result (Unit {0}) Failed) (now : Device) : Type 0 where
   -- It fails exactly where its number is among those that fail.
   pub failed : IsErr result ↔ Contains before.fail before.writes
-
   -- Otherwise it keeps a piece that fits, and behind one that doesn't fit nothing is told.
   pub fits : OnOk result (length piece ≤ before.kept.spare → now.kept ≡ kept_behind before.kept piece)
   pub too_much : OnOk result (before.kept.spare < length piece → now.kept ≡ untold before.kept)
-
   -- Where it fails it keeps the front of its piece, no more than such a write keeps and no more than fits.
   pub cut : OnErr result (now.kept ≡ kept_behind before.kept (take (min before.keep before.kept.spare) piece))
-
   -- Faults and writes are counted, and which writes fail stays as it was.
   pub once : CountsOnce before.faults now.faults result
   pub numbered : now.writes ≡ one_more before.writes
   pub same_fail : now.fail ≡ before.fail
   pub same_keep : now.keep ≡ before.keep
 
--- Inputs: what is left of each, which is chosen, the numbers of the reads that fail, the reads and the faults so far.
-pub record Supply : Type 0 where
-  pub left : Which → Option (List ℕ)
-  pub chosen : Option Which
-  pub fail : List ℕ
-  pub reads : ℕ
-  pub faults : ℕ
+-- how many reads there were of inputs in memory
+abbrev pub reads_of : MemoryInputs → ℕ
+reads_of inputs = inputs.reads
+
+-- the numbers of their reads that fail
+abbrev pub failing_reads : MemoryInputs → List ℕ
+failing_reads inputs = inputs.fail
