@@ -1,5 +1,6 @@
 //! The program: the real objects, one call, and its status as exit status.
 #![tactic(auto)]
+
 ghost use Rattle.std.specs.Prelude.{◌≡◌};
 ghost use Rattle.lay_fmt.specs.Exit.{number_of};
 
