@@ -1,7 +1,7 @@
 //! The characters at the front of a text, and runs of them.
 ghost use Rattle.std.specs.Prelude.{◌≡◌, ◌≤◌, ◌<◌, ◌∷◌, ◌==◌, [], length, MatchOption, IfSome, IsFalse};
 ghost use Rattle.std.specs.Str.{chars};
-ghost use Rattle.lay_token.specs.Chars.{after, begins};
+ghost use Rattle.lay_token.specs.Chars.{after, begins, in_word};
 ghost use Rattle.lay_token.specs.Found.{in_set};
 
 use crate::piece::numbers::Base;
@@ -60,7 +60,18 @@ impl CharSet {
     }
 
     /// What follows the longest run of its characters at the front.
+    #[inline]
     pub fn after(self, s: &str) -> &str
+        ensures run { chars result.now ≡ after (in_set self) (chars s.now) }
+        ensures shorter { length result.now ≤ length s.now }
+    {
+        match self {
+            CharSet::Word => after_word(s),
+            _ => self.after_each(s),
+        }
+    }
+
+    fn after_each(self, s: &str) -> &str
         ensures run { chars result.now ≡ after (in_set self) (chars s.now) }
         ensures shorter { length result.now ≤ length s.now }
     {
@@ -85,18 +96,45 @@ impl CharSet {
     }
 }
 
-#[tactic(auto, unfolding(crate::specs::Chars::starts_word))]
+/// Whether the character may begin a word. Most characters are ASCII, and need no table.
+#[inline]
+#[tactic(auto, unfolding(crate::specs::Chars::starts_word), using(crate::proofs::Ascii::ascii_starts))]
 fn is_word_start(c: char) -> bool
     ensures { result ≡ in_set CharSet.WordStart c }
 {
-    unicode_ident::is_xid_start(c) || c == '_'
+    if c.is_ascii() {
+        c.is_ascii_alphabetic() || c == '_'
+    } else {
+        unicode_ident::is_xid_start(c)
+    }
 }
 
-#[tactic(auto, unfolding(crate::specs::Chars::in_word))]
+/// Whether a word may go on with the character.
+#[inline]
+#[tactic(auto, unfolding(crate::specs::Chars::in_word), using(crate::proofs::Ascii::ascii_in_word))]
 fn is_in_word(c: char) -> bool
     ensures { result ≡ in_set CharSet.Word c }
 {
-    unicode_ident::is_xid_continue(c)
+    if c.is_ascii() {
+        c.is_ascii_alphanumeric() || c == '_'
+    } else {
+        unicode_ident::is_xid_continue(c)
+    }
+}
+
+/// What follows the longest run of a word's characters at the front.
+fn after_word(s: &str) -> &str
+    ensures run { chars result.now ≡ after in_word (chars s.now) }
+    ensures shorter { length result.now ≤ length s.now }
+{
+    let mut rest = s;
+    while let Some((c, tail)) = first(rest) {
+        if !is_in_word(c) {
+            break;
+        }
+        rest = tail;
+    }
+    rest
 }
 
 /// The first character, and what follows it.

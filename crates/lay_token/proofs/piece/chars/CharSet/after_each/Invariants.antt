@@ -4,7 +4,7 @@ use denote.Shadow.{shadow}
 use Rattle.std.specs.Str.{chars}
 use Rattle.lay_token.specs.Chars.{after}
 use Rattle.lay_token.specs.Found.{in_set}
-use Rattle.lay_token.proofs.piece.chars.CharSet.after.Given as goal
+use Rattle.lay_token.proofs.piece.chars.CharSet.after_each.Given as goal
 
 abbrev pub invariant-loop-c : goal.invariant-loop-c
 invariant-loop-c l = record {
