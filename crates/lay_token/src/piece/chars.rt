@@ -39,6 +39,7 @@ pub enum CharSet {
 
 impl CharSet {
     /// Whether the character is in the set.
+    #[inline(always)]
     pub fn contains(self, c: char) -> bool
         ensures { result ≡ in_set self c }
     {
@@ -60,7 +61,7 @@ impl CharSet {
     }
 
     /// What follows the longest run of its characters at the front.
-    #[inline]
+    #[inline(always)]
     pub fn after(self, s: &str) -> &str
         ensures run { chars result.now ≡ after (in_set self) (chars s.now) }
         ensures shorter { length result.now ≤ length s.now }
@@ -86,6 +87,7 @@ impl CharSet {
     }
 
     /// Whether the text begins with one of its characters.
+    #[inline(always)]
     pub fn begins(self, s: &str) -> bool
         ensures { result ≡ begins (in_set self) (chars s.now) }
     {
@@ -138,6 +140,7 @@ fn after_word(s: &str) -> &str
 }
 
 /// The first character, and what follows it.
+#[inline]
 pub fn first(s: &str) -> Option<(char, &str)>
     ensures parts { MatchOption result (chars s.now ≡ []) (λ p. chars s.now ≡ p.0 ∷ chars p.1.now) }
     ensures shorter { IfSome result (λ p. length p.1.now < length s.now) }
