@@ -124,7 +124,7 @@ stopped {start = start} {bytes = bytes} {rest = rest} r none =
     } in
     (r.parts, r.gap, chars rest, stops, r.place)
 
-
+-- a piece isn't empty
 pub piece_size : (k : Kind) (piece rest : List ℕ) (i : Bool) → Had k piece rest i → 1 ≤ size piece
 piece_size k [] rest i h = let e : had k [] rest i ≡ false = had_some k rest i in cc
 piece_size k (c ∷ cs) rest i h = omega (arith, length-le-encodes (c ∷ cs))

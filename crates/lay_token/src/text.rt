@@ -37,10 +37,9 @@ impl Text {
         ensures ok { IfOk result (λ text. text ≡ bytes.now) }
         ensures short { length bytes.now ≤ 22 → IsOk result }
     {
-        match SmallVec::from_slice(alloc, bytes) {
-            Ok(bytes) => Ok(Text { bytes }),
-            Err(_) => Err(NoMemory),
-        }
+        let mut text = Text::new(alloc);
+        text.push_bytes(bytes)?;
+        Ok(text)
     }
 
     /// Adds a byte at the end. A text of fewer than 22 bytes takes no memory for it.
