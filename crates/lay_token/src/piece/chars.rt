@@ -118,7 +118,7 @@ fn is_in_word(c: char) -> bool
     ensures { result ≡ in_set CharSet.Word c }
 {
     if c.is_ascii() {
-        c.is_ascii_alphanumeric() || c == '_'
+        c.is_ascii_alphabetic() || c.is_ascii_digit() || c == '_'
     } else {
         unicode_ident::is_xid_continue(c)
     }
