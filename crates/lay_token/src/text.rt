@@ -38,11 +38,16 @@ impl Text {
         ensures short { length bytes.now ≤ 22 → IsOk result }
     {
         let mut text = Text::new(alloc);
-        text.push_bytes(bytes)?;
+        match bytes {
+            // Every second token is a mark.
+            [byte] => text.push(*byte)?,
+            _ => text.push_bytes(bytes)?,
+        }
         Ok(text)
     }
 
     /// Adds a byte at the end. A text of fewer than 22 bytes takes no memory for it.
+    #[inline]
     pub fn push(&mut self, byte: u8) -> Result<(), NoMemory>
         ensures ok { OnOk result (self.new ≡ self.old ++ byte ∷ []) }
         ensures err { OnErr result (self.new ≡ self.old) }
