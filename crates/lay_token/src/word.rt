@@ -52,7 +52,7 @@ fn class_behind(first: u8, rest: &[u8]) -> Class
         b'o' => behind_o(rest),
         b'p' => behind_p(rest),
         b'r' => behind_r(rest),
-        b'S' => behind_great_s(rest),
+        b'S' => behind_capital_s(rest),
         b's' => behind_s(rest),
         b't' => behind_t(rest),
         b'u' => behind_u(rest),
@@ -178,7 +178,7 @@ fn behind_r(rest: &[u8]) -> Class
     }
 }
 
-fn behind_great_s(rest: &[u8]) -> Class
+fn behind_capital_s(rest: &[u8]) -> Class
     ensures { result ≡ class_of (83 ∷ rest.now) }
 {
     match rest {
