@@ -33,6 +33,7 @@ impl Text {
     }
 
     /// A copy of the bytes. At most 22 bytes take no memory.
+    #[inline(always)]
     pub fn from_bytes(alloc: Global, bytes: &[u8]) -> Result<Text, NoMemory>
         ensures ok { IfOk result (λ text. text ≡ bytes.now) }
         ensures short { length bytes.now ≤ 22 → IsOk result }
