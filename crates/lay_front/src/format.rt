@@ -145,8 +145,9 @@ fn write_items<K: Sink>(
     ensures part { OnErr result (GrewByPrefix (K.written out.old) (K.written out.new) (waiting.old.items ++ all_lines (map form_of_item items.now))) }
     ensures cause { IsErrOf result WriteError.WriteFailed → Rose (K.faults out.old) (K.faults out.new) }
 {
+    let mut stream = Stream::new(alloc);
     for item in items {
-        let text = match item_text(alloc, item) {
+        let text = match item_text(alloc, &mut stream, item) {
             Ok(text) => text,
             Err(NoMemory) => return Err(WriteError::NoMemory),
         };
@@ -167,14 +168,14 @@ fn attr_text(alloc: Global, attr: &Attr) -> Result<Text, NoMemory>
     plain(alloc, &stream)
 }
 
-/// The text of an item that stands on lines of its own.
-fn item_text(alloc: Global, item: &Item) -> Result<Text, NoMemory>
+/// The text of an item that stands on lines of its own. The stream is for its tokens alone.
+fn item_text(alloc: Global, stream: &mut Stream, item: &Item) -> Result<Text, NoMemory>
     ensures { IfOk result (λ text. text ≡ line (form_of_item item.now)) }
 {
-    let mut stream = Stream::new(alloc);
-    put_item(&mut stream, item)?;
+    stream.clear();
+    put_item(stream, item)?;
     stream.brk(HARD_BREAK)?;
-    plain(alloc, &stream)
+    plain(alloc, stream)
 }
 
 /// The first line of a file, if it is a shebang.

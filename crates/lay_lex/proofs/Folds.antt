@@ -1,8 +1,9 @@
 -- Folding line ends in the bytes of a text folds them in its characters.
 use Rattle.std.proofs.Common.{◌≡◌, inl, inr, ℕ, suc, ◌<◌, ◌≤◌, List, [], ◌∷◌, ◌++◌, Bool, true, false, cond, ◌&&◌, sym, refl, ap, ◌∙◌, arith, length, get_or, append-nil, IsUtf8}
 use Rattle.std.specs.Prelude.{◌==◌}
+use Rattle.std.specs.List.{list_any}
 use Rattle.std.specs.Str.{chars, encode_utf8_all}
-use Rattle.std.proofs.lemmas.Bool.{cases_lt, ne_eqb}
+use Rattle.std.proofs.lemmas.Bool.{cases_lt, ne_eqb, or_parts}
 use Rattle.std.proofs.lemmas.Str.{encode_ascii, inside_one, encodes-chars, scalars-chars, chars-encodes}
 use lib.Utf8.{encode}
 use Rattle.lay_token.specs.Chars.{begins}
@@ -54,3 +55,10 @@ folded_text bytes text u e =
     ∙ folded-encodes (chars bytes) in
     let fine = scalars-folded (chars bytes) (scalars-chars bytes u) in
     (all, ap chars all ∙ chars-encodes (folded (chars bytes)) fine, (folded (chars bytes), (fine, sym all)))
+
+-- without a CR nothing is folded
+pub folded-none : (bytes : List ℕ) → list_any (λ b. b == 13) bytes ≡ false → bytes ≡ folded bytes
+folded-none [] h = refl
+folded-none (b ∷ bytes) h =
+    let p = or_parts (b == 13) (list_any (λ c. c == 13) bytes) h in
+    rw p.0 (ap (λ l. b ∷ l) (folded-none bytes p.1))

@@ -1,7 +1,8 @@
 -- What the scanner of gaps finds.
-use Rattle.std.proofs.Common.{◌≡◌, ◌⊎◌, inl, inr, ℕ, List, [], ◌∷◌, ◌++◌, Bool, true, false, cond, Some, None, sym, refl, ap, ◌∙◌, subst}
+use Rattle.std.proofs.Common.{◌≡◌, ◌≢◌, ◌⊎◌, inl, inr, ℕ, List, [], ◌∷◌, ◌++◌, Bool, true, false, cond, Some, None, sym, refl, ap, ◌∙◌, subst}
 use Rattle.std.specs.Prelude.{IsTrue, IsFalse}
-use Rattle.std.proofs.lemmas.Bool.{cases_Bool}
+use Rattle.std.proofs.lemmas.Bool.{cases_Bool, ne_eqb}
+use Rattle.lay_token.specs.Chars.{is_white}
 use Rattle.lay_token.specs.Gap.{InGap, Outside, Spoilt, gap_step, gap_end, is_closed, is_closed_or_line, is_gap, is_last_gap}
 use Rattle.lay_token.specs.Lexes.{BeginsNoGap}
 use Rattle.lay_token.proofs.GapLaws.{closed_is_outside}
@@ -20,6 +21,25 @@ rest_of-step s t closed text cs c b w e h = sym (
     ap (rest_of s closed) w
     ∙ ap (λ u. rest_of u (cond (is_closed u) cs closed) cs) (sym e)
     ∙ ap (λ v. rest_of t (cond v cs closed) cs) h)
+
+white_stays : (c : ℕ) → is_white c ≡ true → Outside ≡ gap_step Outside c
+unfolding gap_step
+white_stays c h = rw h refl
+
+other_spoils : (c : ℕ) → is_white c ≡ false → c ≢ 47 → Spoilt ≡ gap_step Outside c
+unfolding gap_step
+other_spoils c h n = rw (h, ne_eqb c 47 n) refl
+
+-- white space at the front
+pub rest_of-white : (text cs : List ℕ) (c : ℕ) → text ≡ c ∷ cs → is_white c ≡ true
+    → rest_of Outside cs cs ≡ rest_of Outside text text
+rest_of-white text cs c e h = rest_of-step Outside Outside text text cs c true e (white_stays c h) refl
+
+-- a character at the front that no gap begins with
+pub rest_of-other : (text cs : List ℕ) (c : ℕ) → text ≡ c ∷ cs → is_white c ≡ false → c ≢ 47
+    → rest_of Outside text text ≡ Some text
+rest_of-other text cs c e h n =
+    sym (rest_of-step Outside Spoilt text text cs c false e (other_spoils c h n) refl) ∙ rest_of-spoilt text cs
 
 -- no front of the text closes the gap, and the text may not end in it
 pub record Held (s : InGap) (cs : List ℕ) : Type 0 where

@@ -1,6 +1,6 @@
 -- One turn of the lexer.
-use Rattle.std.proofs.Common.{◌≡◌, ℕ, ◌+◌, ◌-◌, ◌<◌, ◌≤◌, List, [], ◌∷◌, ◌++◌, Bool, false, Option, Some, None, sym, refl, ap, ◌∙◌, subst, arith, length, drop, IsUtf8, length-drop}
-use Rattle.std.specs.Prelude.{IsTrue, ◌==◌, option_to_list}
+use Rattle.std.proofs.Common.{◌≡◌, ℕ, ◌+◌, ◌-◌, ◌<◌, ◌≤◌, List, [], ◌∷◌, ◌++◌, Bool, false, Some, sym, refl, ap, ◌∙◌, subst, arith, length, drop, IsUtf8, length-drop}
+use Rattle.std.specs.Prelude.{IsTrue, ◌==◌}
 use Rattle.std.specs.Str.{chars, IsCharBoundary}
 use Rattle.std.proofs.lemmas.Bool.{eq-eqb, ne_eqb}
 use Rattle.std.proofs.lemmas.Str.{length-le-encodes, IsUtf8-drop}
@@ -13,7 +13,7 @@ use Rattle.lay_token.specs.declared.token.Token.{Token}
 use Rattle.lay_token.proofs.Texts.{length_parts}
 use Rattle.lay_token.proofs.Parts.{spell-append, spell-out, steps-append, had_some}
 use Rattle.lay_lex.specs.Gap.{rest_of}
-use Rattle.lay_lex.specs.Tokens.{Adds, added, before as seen, behind, joined, released, so_far, token_of}
+use Rattle.lay_lex.specs.Tokens.{Adds, added, before as seen, behind, joined, so_far, token_of}
 use Rattle.lay_lex.specs.declared.tokens.Tokens.{Tokens}
 use Rattle.lay_lex.proofs.Gaps.{longest}
 use Rattle.lay_lex.proofs.Lines.{size-append}
@@ -124,31 +124,7 @@ stopped {start = start} {bytes = bytes} {rest = rest} r none =
     } in
     (r.parts, r.gap, chars rest, stops, r.place)
 
--- the tokens with one that waits
-added-last : (touches : Bool) (next t : Token) (xs : List Token)
-    → added touches next (xs ++ t ∷ []) ≡ (xs ++ joined touches next t ∷ []) ++ next ∷ []
-added-last touches next t [] = refl
-added-last touches next t (x ∷ []) = refl
-added-last touches next t (x ∷ y ∷ xs) = ap (λ l. x ∷ l) (added-last touches next t (y ∷ xs))
-
-add_is : (touches : Bool) (next : Token) (done : List Token) (last : Option Token) → (last ≡ None → done ≡ [])
-    → (done ++ released touches next last) ++ next ∷ [] ≡ added touches next (done ++ option_to_list last)
-add_is touches next done (Some t) w = sym (added-last touches next t done)
-add_is touches next done None w = let e : done ≡ [] = w refl in
-    ap (λ l. (l ++ []) ++ next ∷ []) e ∙ sym (ap (λ l. added touches next (l ++ [])) e)
-
-pub so_far-adds : (touches : Bool) (next : Token) (old new : Tokens) → Adds touches next old new
-    → (old.last ≡ None → old.done.items ≡ [])
-    → so_far new ≡ added touches next (so_far old)
-so_far-adds touches next old new a w =
-    ap (λ l. l ++ option_to_list new.last) a.done
-    ∙ ap (λ l. (old.done.items ++ released touches next old.last) ++ option_to_list l) a.last
-    ∙ add_is touches next old.done.items old.last w
-
-pub waits : (touches : Bool) (next : Token) (old new : Tokens) → Adds touches next old new → new.last ≡ None
-    → new.done.items ≡ []
-waits touches next old new a e = absurd (let h : Some next ≡ None = sym a.last ∙ e in cc)
-
+-- a piece isn't empty
 pub piece_size : (k : Kind) (piece rest : List ℕ) (i : Bool) → Had k piece rest i → 1 ≤ size piece
 piece_size k [] rest i h = let e : had k [] rest i ≡ false = had_some k rest i in cc
 piece_size k (c ∷ cs) rest i h = omega (arith, length-le-encodes (c ∷ cs))
@@ -167,8 +143,8 @@ pub turn : {start : ℕ} {bytes ahead rest : List ℕ} {old new : Tokens} (k : K
     → Reached start bytes ahead rest (so_far old) (seen old.before) → chars rest ≡ piece ++ more
     → Had k piece more (is_index_place (seen old.before)) → chars front ≡ piece → chars back ≡ more
     → Adds (length rest == length ahead) (token_of (length bytes - length rest) k (chars front)) old new
-    → (old.last ≡ None → old.done.items ≡ []) → SoFar start bytes back (so_far new) (seen new.before)
-turn {start = start} {bytes = bytes} {rest = rest} {old = old} {new = new} k piece more front back r cut had f g a w =
+    → SoFar start bytes back (so_far new) (seen new.before)
+turn {start = start} {bytes = bytes} {rest = rest} {old = old} {new = new} k piece more front back r cut had f g a =
     let q : Part = record { gap = r.gap; kind = k; piece = piece } in
     let border : r.gap ++ chars rest ≡ r.gap ++ (piece ++ chars back) =
     ap (λ x. r.gap ++ x) (cut ∙ ap (λ x. piece ++ x) (sym g)) in
@@ -181,7 +157,7 @@ turn {start = start} {bytes = bytes} {rest = rest} {old = old} {new = new} k pie
       whole = r.whole ∙ ap (spell r.parts) border ∙ sym (spell-append r.parts (q ∷ []) (chars back));
       fit = Fit-append Other r.parts q (chars back) (subst (Fit Other r.parts) border r.fit) r.closed
           (subst P r.before_is (subst Q (sym g) had));
-      tokens_are = so_far-adds _ _ old new a w
+      tokens_are = a.tokens
           ∙ ap (λ b. added b (token_of (length bytes - length rest) k (chars front)) (so_far old)) r.touches
           ∙ ap (λ t. added (is_nil r.gap) t (so_far old)) next
           ∙ ap (added (is_nil r.gap) (next_token start r.parts q)) r.tokens_are

@@ -1,5 +1,5 @@
 -- The tokens so far, and what the next does to them.
-use Rattle.std.specs.Prelude.{◌≡◌, ℕ, ◌-◌, Bool, false, cond, ◌&&◌, not, List, [], ◌∷◌, ◌++◌, codes, length, take, drop, encode_utf8_all, Option, Some, None, option_to_list}
+use Rattle.std.specs.Prelude.{◌≡◌, ℕ, ◌-◌, Bool, false, cond, ◌&&◌, not, List, [], ◌∷◌, codes, length, take, drop, encode_utf8_all}
 use Rattle.std.specs.Str.{bytes_eq}
 use Rattle.lay_token.specs.Lexes as lexes
 use Rattle.lay_token.specs.Lexes.{is_punct, is_point, is_separator, size, text_of_piece}
@@ -46,22 +46,15 @@ added touches next (t ∷ []) = joined touches next t ∷ next ∷ []
 added touches next (t ∷ u ∷ us) = t ∷ added touches next (u ∷ us)
 
 abbrev pub so_far : Tokens → List Token
-so_far t = t.done.items ++ option_to_list t.last
-
--- the token that waited for the next
-abbrev pub released : Bool → Token → Option Token → List Token
-released touches next None = []
-released touches next (Some t) = joined touches next t ∷ []
+so_far t = t.read.items
 
 pub record IsBegun (tokens : Tokens) : Type 0 where
-  pub done : tokens.done.items ≡ []
-  pub last : tokens.last ≡ None
+  pub none : so_far tokens ≡ []
   pub before : before tokens.before ≡ lexes.Other
 
--- The next token waits, and the one before it is among those that are done.
+-- The next token is read.
 pub record Adds (touches : Bool) (next : Token) (old new : Tokens) : Type 0 where
-  pub done : new.done.items ≡ old.done.items ++ released touches next old.last
-  pub last : new.last ≡ Some next
+  pub tokens : so_far new ≡ added touches next (so_far old)
   pub before : before new.before ≡ behind (before old.before) touches next
 
 -- what stands within the marks of documentation

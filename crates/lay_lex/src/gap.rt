@@ -161,6 +161,23 @@ impl InBlock {
 pub fn after_gap(s: &str) -> Option<&str>
     ensures { Leaves (rest_of Outside (chars s.now) (chars s.now)) result }
 {
+    let mut rest = s;
+    while let Some((c, tail)) = first(rest) {
+        if c == '/' {
+            return after_comments(rest);
+        }
+        if !is_white(c) {
+            return Some(rest);
+        }
+        rest = tail;
+    }
+    None
+}
+
+/// What follows the longest gap at the front, which may hold comments.
+fn after_comments(s: &str) -> Option<&str>
+    ensures { Leaves (rest_of Outside (chars s.now) (chars s.now)) result }
+{
     let mut state = State::Outside;
     let mut closed = s;
     let mut rest = s;

@@ -48,10 +48,7 @@ fn tokens_of(alloc: Global, text: &str, start: usize) -> Result<List<Token>, For
             }
         }
     }
-    match tokens.finish() {
-        Ok(tokens) => Ok(tokens),
-        Err(_) => Err(FormatError::NoMemory),
-    }
+    Ok(tokens.finish())
 }
 
 /// The characters that take so many bytes, and what follows them.

@@ -1,5 +1,6 @@
 //! What is lexed of an input.
 ghost use Rattle.std.specs.Prelude.{◌≡◌, ◌==◌, IfOk, IsUtf8, encode_utf8_all};
+ghost use Rattle.std.specs.List.{list_any};
 ghost use Rattle.std.specs.Str.{chars, IsCharBoundary};
 ghost use Rattle.lay_token.specs.Chars.{after, begins, front, is_white};
 ghost use Rattle.lay_token.specs.Source.{folded, is_in_line, is_no_command, is_shebang, source, source_of, without_mark};
@@ -72,6 +73,10 @@ fn folded(alloc: Global, s: &str) -> Result<Vec<u8>, NoMemory>
 {
     let mut text = Vec::with_capacity(alloc, s.len())?;
     let mut rest = s.as_bytes();
+    if !has_return(rest) {
+        text.extend_from_slice(rest)?;
+        return Ok(text);
+    }
     while let Some((byte, tail)) = rest.split_first() {
         if !(*byte == b'\r' && begins_line_feed(tail)) {
             text.push(*byte)?;
@@ -79,6 +84,13 @@ fn folded(alloc: Global, s: &str) -> Result<Vec<u8>, NoMemory>
         rest = tail;
     }
     Ok(text)
+}
+
+/// Whether the bytes hold a CR.
+fn has_return(bytes: &[u8]) -> bool
+    ensures { result ≡ list_any (λ b. b == 13) bytes.now }
+{
+    bytes.contains(&b'\r')
 }
 
 /// Whether the bytes begin with an LF.

@@ -1,8 +1,8 @@
 //! The tokens of pieces.
-ghost use Rattle.std.specs.Prelude.{◌≡◌, ◌&&◌, IfOk, OnOk, encode_utf8_all};
+ghost use Rattle.std.specs.Prelude.{◌≡◌, ◌&&◌, ◌++◌, ◌∷◌, [], IfOk, OnOk, encode_utf8_all};
 ghost use Rattle.std.specs.Str.{chars};
 ghost use Rattle.lay_token.specs.Lexes.{doc_text, is_index_place, is_separator, text_of_piece};
-ghost use Rattle.lay_lex.specs.Tokens.{Adds, IsBegun, before, behind, is_mark, is_point_token, joined, so_far, token_of, within};
+ghost use Rattle.lay_lex.specs.Tokens.{Adds, IsBegun, added, before, behind, is_mark, is_point_token, so_far, token_of, within};
 
 use crate::ends::{before_last, behind_first, has_line_feed, without_end};
 use lay_token::{Kind, List, NoMemory, Text, Token};
@@ -39,7 +39,7 @@ fn is_point(token: &Token) -> bool
     ensures { result ≡ is_point_token token.now }
 {
     match token.kind {
-        Kind::Punct => token.text.as_bytes() == b".".as_slice(),
+        Kind::Punct => matches!(token.text.as_bytes(), b"."),
         _ => false,
     }
 }
@@ -58,7 +58,7 @@ fn is_mark(token: &Token) -> bool
 fn is_separator(bytes: &[u8]) -> bool
     ensures { result ≡ is_separator bytes.now }
 {
-    bytes == b",".as_slice() || bytes == b";".as_slice()
+    matches!(bytes, b"," | b";")
 }
 
 /// The token of a piece, which is not joint.
@@ -110,12 +110,16 @@ fn within(block: bool, piece: &str) -> &str
     }
 }
 
-/// The token before the next, by which it is joint or not.
-fn joined(last: Token, next: &Token, touches: bool) -> Token
-    ensures { result ≡ joined touches next.now last }
+/// The tokens with the next behind them: whether the last of them is joint.
+fn join_last(tokens: &mut Vec<Token>, next: &Token, touches: bool)
+    ensures { tokens.new.items ++ next.now ∷ [] ≡ added touches next.now tokens.old.items }
 {
-    let joint = is_joint(&last, next, touches);
-    Token { joint, ..last }
+    if tokens.is_empty() {
+        return;
+    }
+    let last = tokens.len() - 1;
+    let joint = is_joint(&tokens[last], next, touches);
+    tokens[last].joint = joint;
 }
 
 /// Whether the token before the next is joint.
@@ -125,11 +129,10 @@ fn is_joint(last: &Token, next: &Token, touches: bool) -> bool
     touches && is_mark(next) && is_mark(last)
 }
 
-/// The tokens read so far. The last waits for the next, by which it is joint or not.
+/// The tokens read so far. The next tells whether the last of them is joint.
 #[derive(Debug, Drop)]
 pub struct Tokens {
-    done: Vec<Token>,
-    last: Option<Token>,
+    read: Vec<Token>,
     before: Before,
 }
 
@@ -139,8 +142,7 @@ impl Tokens {
         ensures { IsBegun result }
     {
         Tokens {
-            done: Vec::new(alloc),
-            last: None,
+            read: Vec::new(alloc),
             before: Before::Other,
         }
     }
@@ -171,23 +173,17 @@ impl Tokens {
     fn push(&mut self, token: Token, touches: bool) -> Result<(), NoMemory>
         ensures { OnOk result (Adds touches token self.old self.new) }
     {
-        let before = self.before.behind(&token, touches);
-        if let Some(last) = self.last.take() {
-            self.done.push(joined(last, &token, touches))?;
-        }
-        self.last = Some(token);
-        self.before = before;
+        self.before = self.before.behind(&token, touches);
+        join_last(&mut self.read, &token, touches);
+        self.read.push(token)?;
         Ok(())
     }
 
     /// All the tokens.
-    pub fn finish(self) -> Result<List<Token>, NoMemory>
-        ensures { IfOk result (λ tokens. tokens ≡ so_far self) }
+    pub fn finish(self) -> List<Token>
+        ensures { result ≡ so_far self }
     {
-        let Tokens { mut done, last, .. } = self;
-        if let Some(last) = last {
-            done.push(last)?;
-        }
-        Ok(List::from_vec(done))
+        let Tokens { read, before: _ } = self;
+        List::from_vec(read)
     }
 }

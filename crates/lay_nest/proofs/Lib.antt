@@ -2,4 +2,4 @@ pub mod Delimiters
 pub mod Machine
 pub mod Steps
 pub mod Places
-pub mod Fronts
+pub mod OperatorLemmas

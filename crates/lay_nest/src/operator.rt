@@ -1,10 +1,10 @@
 //! The operator at the front of tokens.
-ghost use Rattle.std.specs.Prelude.{◌≡◌, ◌&&◌, ◌∷◌, [], List, ℕ, map, IsTrue, ◌||◌};
-ghost use Rattle.std.specs.Borrow.{Bor};
+ghost use Rattle.std.specs.Prelude.{◌≡◌, true, ◌&&◌, ◌∷◌, []};
 ghost use Rattle.std.specs.Str.{bytes_eq};
 ghost use Rattle.lay_token.specs.Lexes.{is_punct};
-ghost use Rattle.lay_token.specs.Operators.{begins_op, first_op, is_op, is_op_of, or_lone};
-ghost use Rattle.lay_token.specs.declared.token.Token.{Token as TokenValue};
+ghost use Rattle.lay_token.specs.Operators.{is_op};
+ghost use Rattle.lay_token.specs.Word.{is_among};
+ghost use Rattle.lay_nest.specs.Marks.{first_mark, mark, one, second_mark, threes, twos};
 
 use lay_token::{Kind, Token};
 
@@ -13,44 +13,30 @@ use lay_token::{Kind, Token};
 pub fn is_op(tokens: &[Token], op: &[u8]) -> bool
     ensures { result ≡ is_op op.now tokens.now }
 {
-    match tokens.first() {
-        Some(front) if may_begin(front, op) => is_longest(
-            &[
-                b"<<=", b">>=", b"...", b"..=", b"&&", b"||", b"==", b"!=", b"<=", b">=", b"<<",
-                b">>", b"+=", b"-=", b"*=", b"/=", b"%=", b"^=", b"&=", b"|=", b"->", b"<-", b"=>",
-                b"::", b"..",
-            ],
-            tokens,
-            op,
-        ),
-        _ => false,
-    }
-}
-
-/// Whether an operator that begins with this token may be this one.
-fn may_begin(front: &Token, op: &[u8]) -> bool
-    ensures { (behind : List TokenValue) → IsTrue (is_op op.now (front.now ∷ behind)) → IsTrue result }
-{
-    match front.kind {
-        Kind::Punct => op.first() == front.text.as_bytes().first(),
-        _ => false,
-    }
-}
-
-/// Whether this is the first of the operators that the tokens begin with, or, where they begin with none, the
-/// first token alone.
-fn is_longest(operators: &[&[u8]], tokens: &[Token], op: &[u8]) -> bool
-    ensures { result
-        ≡ is_op_of op.now (or_lone (first_op (map (λ (o : Bor (List ℕ)). o.now) operators.now) tokens.now) tokens.now) }
-{
-    for operator in operators {
-        if begins_op(operator, tokens) {
-            return op == *operator;
-        }
-    }
-    match tokens.first() {
-        Some(front) => is_alone(front, op),
+    match tokens.split_first() {
+        Some((front, behind)) => if front.joint {
+            is_longest(front, behind, op)
+        } else {
+            is_alone(front, op)
+        },
         None => false,
+    }
+}
+
+/// Whether the longest operator that begins with a joint token is this one.
+fn is_longest(front: &Token, behind: &[Token], op: &[u8]) -> bool
+    requires { front.now.joint ≡ true }
+    ensures { result ≡ is_op op.now (front.now ∷ behind.now) }
+{
+    let first = mark(front);
+    let second = first_mark(behind);
+    let third = second_mark(behind);
+    if is_three(first, second, third) {
+        op == [first, second, third].as_slice()
+    } else if is_two(first, second) {
+        op == [first, second].as_slice()
+    } else {
+        is_alone(front, op)
     }
 }
 
@@ -64,31 +50,80 @@ fn is_alone(token: &Token, op: &[u8]) -> bool
     }
 }
 
-/// Whether the tokens begin with punctuation of these characters, all but the last joint.
-fn begins_op(op: &[u8], tokens: &[Token]) -> bool
-    ensures { result ≡ begins_op op.now tokens.now }
-{
-    let mut rest = op;
-    let mut ahead = tokens;
-    while let Some((byte, more)) = rest.split_first() {
-        match ahead.split_first() {
-            Some((token, behind)) if goes_on(token, *byte, more.is_empty()) => {
-                rest = more;
-                ahead = behind;
-            }
-            _ => return false,
-        }
-    }
-    true
-}
-
-/// Whether the token is this character of an operator, joint unless it is the last.
-fn goes_on(token: &Token, byte: u8, last: bool) -> bool
-    ensures { result
-        ≡ (is_punct token.now.kind && bytes_eq token.now.text (byte ∷ []) && (last || token.now.joint)) }
+/// The character of a token that is punctuation, and else 0.
+fn mark(token: &Token) -> u8
+    ensures { result ≡ mark token.now }
 {
     match token.kind {
-        Kind::Punct => token.text.as_bytes() == [byte].as_slice() && (last || token.joint),
+        Kind::Punct => one(token.text.as_bytes()),
+        _ => 0,
+    }
+}
+
+/// The one byte of a text, or else 0.
+fn one(text: &[u8]) -> u8
+    ensures { result ≡ one text.now }
+{
+    match text {
+        [byte] => *byte,
+        _ => 0,
+    }
+}
+
+fn first_mark(tokens: &[Token]) -> u8
+    ensures { result ≡ first_mark tokens.now }
+{
+    match tokens.first() {
+        Some(token) => mark(token),
+        None => 0,
+    }
+}
+
+fn second_mark(tokens: &[Token]) -> u8
+    ensures { result ≡ second_mark tokens.now }
+{
+    match tokens.split_first() {
+        Some((token, behind)) if token.joint => first_mark(behind),
+        _ => 0,
+    }
+}
+
+/// Whether the characters are an operator.
+fn is_three(first: u8, second: u8, third: u8) -> bool
+    ensures { result ≡ is_among threes (first ∷ second ∷ third ∷ []) }
+{
+    match third {
+        b'=' => match first {
+            b'<' | b'>' | b'.' => first == second,
+            _ => false,
+        },
+        b'.' => first == b'.' && second == b'.',
+        _ => false,
+    }
+}
+
+/// Whether the characters are an operator.
+fn is_two(first: u8, second: u8) -> bool
+    ensures { result ≡ is_among twos (first ∷ second ∷ []) }
+{
+    match second {
+        b'=' => is_before_equals(first),
+        b'>' => match first {
+            b'>' | b'-' | b'=' => true,
+            _ => false,
+        },
+        b'-' => first == b'<',
+        b'&' | b'|' | b'<' | b':' | b'.' => first == second,
+        _ => false,
+    }
+}
+
+/// Whether the character and `=` are an operator.
+fn is_before_equals(first: u8) -> bool
+    ensures { result ≡ is_among twos (first ∷ 61 ∷ []) }
+{
+    match first {
+        b'=' | b'!' | b'<' | b'>' | b'+' | b'-' | b'*' | b'/' | b'%' | b'^' | b'&' | b'|' => true,
         _ => false,
     }
 }

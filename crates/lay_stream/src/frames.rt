@@ -1,11 +1,11 @@
 //! The frames of the groups that are open.
-ghost use Rattle.std.specs.Prelude.{◌≡◌, [], ◌∷◌, OnOk};
-ghost use Rattle.lay_token.specs.Document.{enter};
+ghost use Rattle.std.specs.Prelude.{◌≡◌, Bool, false, ℤ, [], ◌∷◌, OnOk, IsFalse};
+ghost use Rattle.lay_token.specs.Document.{State, break_in, enter};
 ghost use Rattle.lay_token.specs.Machine.{top, below};
 ghost use Rattle.lay_stream.specs.Indents.{IsKept};
 
 use crate::page::shifted;
-use lay_token::{Frame, NoMemory};
+use lay_token::{Break, Frame, NoMemory};
 use std::alloc::Global;
 use std::marker::Model;
 
@@ -67,6 +67,28 @@ impl Frames {
                 indent: 0,
             },
         }
+    }
+}
+
+/// Whether it counts for a break in a frame that its measure is greater than the space.
+pub fn asks_at_break(frame: Frame, brk: Break) -> bool
+    ensures { IsFalse result → (big : Bool) (s : State)
+        → break_in frame brk false s ≡ break_in frame brk big s }
+{
+    match frame {
+        Frame::Broken { consistent, .. } => !consistent && !brk.never,
+        Frame::Flat => false,
+    }
+}
+
+/// Whether it counts for a group in a frame that its measure is greater than the space.
+pub fn asks_at_begin(frame: Frame) -> bool
+    ensures { IsFalse result → (consistent : Bool) (offset : ℤ) (big : Bool)
+        → enter frame consistent offset false ≡ enter frame consistent offset big }
+{
+    match frame {
+        Frame::Broken { .. } => true,
+        Frame::Flat => false,
     }
 }
 

@@ -110,9 +110,11 @@ impl Page {
         ensures room { self.new.room ≡ self.old.room }
         ensures used { self.new.used ≡ self.old.used }
     {
+        let blanks = [b' '; 64];
         while self.pending > 0 {
-            self.text.push(b' ')?;
-            self.pending -= 1;
+            let count = self.pending.min(64);
+            self.text.push_bytes(&blanks[..count as usize])?;
+            self.pending -= count;
         }
         Ok(())
     }

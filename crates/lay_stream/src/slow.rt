@@ -1,13 +1,13 @@
 //! The slow printer: each group and each break is measured anew.
 ghost use Rattle.std.specs.Prelude.{◌≡◌, ◌≤◌, ◌+◌, length, nat_lt, OnOk, IfOk};
 ghost use Rattle.lay_token.specs.Machine.{opened, reach, Layout, step, text};
-ghost use Rattle.lay_token.specs.Document.{bytes_of_mark, Document, stream as stream_of, text_of};
+ghost use Rattle.lay_token.specs.Document.{bytes_of_mark, width_of_break, Document, stream as stream_of, text_of};
 ghost use Rattle.lay_stream.specs.Pages.{At};
 
-use crate::frames::{Frames, entered};
+use crate::frames::{Frames, asks_at_begin, asks_at_break, entered};
 use crate::page::Page;
 use crate::stream::Stream;
-use lay_token::{Mark, NoMemory, Text, Tok};
+use lay_token::{Break, Mark, NoMemory, Text, Tok};
 use std::alloc::Global;
 
 /// The text of a stream in which no group is open: that of the document which the stream is the flattening
@@ -53,14 +53,14 @@ fn lay_one(page: &mut Page, frames: &mut Frames, tok: &Tok, more: &[Tok]) -> Res
     match tok {
         Tok::Text(text) => page.write(text.as_bytes()),
         Tok::Break(brk) => {
-            let width = brk.blank as u64 + mark_len(brk.instead);
-            let big = is_over(page, width, more, 0);
-            page.put_break(frames.top(), *brk, big)
+            let frame = frames.top();
+            let big = asks_at_break(frame, *brk) && is_over(page, width_of(*brk), more, 0);
+            page.put_break(frame, *brk, big)
         }
         Tok::Begin { consistent, offset } => {
-            let big = is_over(page, 0, more, 1);
-            let frame = entered(frames.top(), *consistent, *offset, big);
-            frames.push(frame)
+            let frame = frames.top();
+            let big = asks_at_begin(frame) && is_over(page, 0, more, 1);
+            frames.push(entered(frame, *consistent, *offset, big))
         }
         Tok::End => {
             frames.pop();
@@ -101,7 +101,7 @@ fn exceeds(toks: &[Tok], depth: usize, limit: u64) -> bool
                 if depth == 0 {
                     return false;
                 }
-                width = brk.blank as u64 + mark_len(brk.instead);
+                width = width_of(*brk);
             }
             Tok::Begin { .. } => depth += 1,
             Tok::End => depth = depth.saturating_sub(1),
@@ -113,6 +113,13 @@ fn exceeds(toks: &[Tok], depth: usize, limit: u64) -> bool
         rest = more;
     }
     false
+}
+
+/// The width of a break that is no newline.
+fn width_of(brk: Break) -> u64
+    ensures { result ≡ width_of_break brk }
+{
+    brk.blank as u64 + mark_len(brk.instead)
 }
 
 /// A mark's length.

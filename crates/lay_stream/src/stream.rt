@@ -40,6 +40,13 @@ impl Stream {
         }
     }
 
+    /// Takes all tokens away, and keeps their room for others.
+    pub fn clear(&mut self)
+        ensures { self.new ≡ [] }
+    {
+        self.toks.clear();
+    }
+
     /// All the tokens.
     pub fn toks(&self) -> &[Tok]
         ensures { result.now ≡ self.now }

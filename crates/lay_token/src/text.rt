@@ -33,17 +33,22 @@ impl Text {
     }
 
     /// A copy of the bytes. At most 22 bytes take no memory.
+    #[inline(always)]
     pub fn from_bytes(alloc: Global, bytes: &[u8]) -> Result<Text, NoMemory>
         ensures ok { IfOk result (λ text. text ≡ bytes.now) }
         ensures short { length bytes.now ≤ 22 → IsOk result }
     {
-        match SmallVec::from_slice(alloc, bytes) {
-            Ok(bytes) => Ok(Text { bytes }),
-            Err(_) => Err(NoMemory),
+        let mut text = Text::new(alloc);
+        match bytes {
+            // Every second token is a mark.
+            [byte] => text.push(*byte)?,
+            _ => text.push_bytes(bytes)?,
         }
+        Ok(text)
     }
 
     /// Adds a byte at the end. A text of fewer than 22 bytes takes no memory for it.
+    #[inline]
     pub fn push(&mut self, byte: u8) -> Result<(), NoMemory>
         ensures ok { OnOk result (self.new ≡ self.old ++ byte ∷ []) }
         ensures err { OnErr result (self.new ≡ self.old) }

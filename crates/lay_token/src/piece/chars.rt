@@ -1,7 +1,7 @@
 //! The characters at the front of a text, and runs of them.
 ghost use Rattle.std.specs.Prelude.{◌≡◌, ◌≤◌, ◌<◌, ◌∷◌, ◌==◌, [], length, MatchOption, IfSome, IsFalse};
 ghost use Rattle.std.specs.Str.{chars};
-ghost use Rattle.lay_token.specs.Chars.{after, begins};
+ghost use Rattle.lay_token.specs.Chars.{after, begins, in_word};
 ghost use Rattle.lay_token.specs.Found.{in_set};
 
 use crate::piece::numbers::Base;
@@ -39,6 +39,7 @@ pub enum CharSet {
 
 impl CharSet {
     /// Whether the character is in the set.
+    #[inline(always)]
     pub fn contains(self, c: char) -> bool
         ensures { result ≡ in_set self c }
     {
@@ -60,7 +61,18 @@ impl CharSet {
     }
 
     /// What follows the longest run of its characters at the front.
+    #[inline(always)]
     pub fn after(self, s: &str) -> &str
+        ensures run { chars result.now ≡ after (in_set self) (chars s.now) }
+        ensures shorter { length result.now ≤ length s.now }
+    {
+        match self {
+            CharSet::Word => after_word(s),
+            _ => self.after_each(s),
+        }
+    }
+
+    fn after_each(self, s: &str) -> &str
         ensures run { chars result.now ≡ after (in_set self) (chars s.now) }
         ensures shorter { length result.now ≤ length s.now }
     {
@@ -75,6 +87,7 @@ impl CharSet {
     }
 
     /// Whether the text begins with one of its characters.
+    #[inline(always)]
     pub fn begins(self, s: &str) -> bool
         ensures { result ≡ begins (in_set self) (chars s.now) }
     {
@@ -85,21 +98,49 @@ impl CharSet {
     }
 }
 
-#[tactic(auto, unfolding(crate::specs::Chars::starts_word))]
+/// Whether the character may begin a word. Most characters are ASCII, and need no table.
+#[inline]
+#[tactic(auto, unfolding(crate::specs::Chars::starts_word), using(crate::proofs::Ascii::ascii_starts))]
 fn is_word_start(c: char) -> bool
     ensures { result ≡ in_set CharSet.WordStart c }
 {
-    unicode_ident::is_xid_start(c) || c == '_'
+    if c.is_ascii() {
+        c.is_ascii_alphabetic() || c == '_'
+    } else {
+        unicode_ident::is_xid_start(c)
+    }
 }
 
-#[tactic(auto, unfolding(crate::specs::Chars::in_word))]
+/// Whether a word may go on with the character.
+#[inline]
+#[tactic(auto, unfolding(crate::specs::Chars::in_word), using(crate::proofs::Ascii::ascii_in_word))]
 fn is_in_word(c: char) -> bool
     ensures { result ≡ in_set CharSet.Word c }
 {
-    unicode_ident::is_xid_continue(c)
+    if c.is_ascii() {
+        c.is_ascii_alphabetic() || c.is_ascii_digit() || c == '_'
+    } else {
+        unicode_ident::is_xid_continue(c)
+    }
+}
+
+/// What follows the longest run of a word's characters at the front.
+fn after_word(s: &str) -> &str
+    ensures run { chars result.now ≡ after in_word (chars s.now) }
+    ensures shorter { length result.now ≤ length s.now }
+{
+    let mut rest = s;
+    while let Some((c, tail)) = first(rest) {
+        if !is_in_word(c) {
+            break;
+        }
+        rest = tail;
+    }
+    rest
 }
 
 /// The first character, and what follows it.
+#[inline]
 pub fn first(s: &str) -> Option<(char, &str)>
     ensures parts { MatchOption result (chars s.now ≡ []) (λ p. chars s.now ≡ p.0 ∷ chars p.1.now) }
     ensures shorter { IfSome result (λ p. length p.1.now < length s.now) }

@@ -9,10 +9,10 @@ use Rattle.lay_front.proofs.format.item_text.Goals as goal
 
 pub plain-requires : goal.plain-requires
 plain-requires c =
-    ap (λ (s : List Tok). opened s 0) (sym (line_listed _ (form_of_item c.args.item.now) _ _ _ _ _ c.new-stream.ensures c.in_ok-put_item.ensures c.in_ok-brk.ensures.did))
+    ap (λ (s : List Tok). opened s 0) (sym (line_listed _ (form_of_item c.args.item.now) _ _ _ _ _ c.clear.ensures c.in_ok-put_item.ensures c.in_ok-brk.ensures.did))
     ∙ opened_document (line_document (form_of_item c.args.item.now)) 0
 
 pub returns : goal.returns
 returns c = IfOk-weaker c.plain.result _ _
-    (λ t h. h (line_document (form_of_item c.args.item.now)) (line_listed _ (form_of_item c.args.item.now) _ _ _ _ _ c.new-stream.ensures c.in_ok-put_item.ensures c.in_ok-brk.ensures.did))
+    (λ t h. h (line_document (form_of_item c.args.item.now)) (line_listed _ (form_of_item c.args.item.now) _ _ _ _ _ c.clear.ensures c.in_ok-put_item.ensures c.in_ok-brk.ensures.did))
     c.plain.ensures.document

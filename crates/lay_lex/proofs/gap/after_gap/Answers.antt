@@ -1,38 +1,17 @@
-use Rattle.std.proofs.Common.{rules, arith, ◌≡◌, false, refl, sym, ◌∙◌}
+use Rattle.std.proofs.Common.{rules, sym, ◌∙◌}
 use Rattle.std.specs.Str.{chars}
-use Rattle.lay_token.specs.Gap.{Spoilt, is_closed}
-use Rattle.lay_lex.specs.Gap.{in_gap}
-use Rattle.lay_lex.specs.declared.gap.State.{State}
-use Rattle.lay_lex.specs.declared.gap.State.TheVariants as state
-use Rattle.lay_lex.proofs.Gaps.{rest_of-spoilt, rest_of-step}
+use Rattle.lay_lex.proofs.Gaps.{rest_of-white, rest_of-other}
 use Rattle.lay_lex.proofs.gap.after_gap.Goals as goal
 
-not_closed : (s : State) → (s ≡ state.Outside → ⊥) → is_closed (in_gap s) ≡ false
-not_closed state.Outside n = absurd (n refl)
-not_closed state.Opening n = refl
-not_closed state.Two n = refl
-not_closed state.Three n = refl
-not_closed state.Line n = refl
-not_closed state.Block n = refl
-not_closed state.BlockStar n = refl
-not_closed (state.Within b) n = refl
-not_closed state.Spoilt n = refl
-
-pub returns-in-Spoilt : goal.returns-in-Spoilt
-returns-in-Spoilt c =
+pub returns-then-not-is_white : goal.returns-then-not-is_white
+returns-then-not-is_white c =
     sym c.loop-c.invariant.same
-    ∙ sym (rest_of-step (in_gap c.loop-c.state) Spoilt (chars c.loop-c.closed.now) (chars c.loop-c.rest.now)
-    (chars c.in-Some.tail.now) c.in-Some.c false
-    c.in-Some.ensures.parts c.in-Spoilt.ensures.moved refl)
-    ∙ rest_of-spoilt (chars c.loop-c.closed.now) (chars c.in-Some.tail.now)
+    ∙ rest_of-other (chars c.loop-c.rest.now) (chars c.in-Some.tail.now) c.in-Some.c c.in-Some.ensures.parts
+    (sym c.is_white.ensures ∙ (search rules)) c.if-c-eq47.false
 
 pub loop-c-preserved : goal.loop-c-preserved
 loop-c-preserved c = record {
   text = search rules;
-  closed_text = c.loop-c.invariant.closed_text;
-  same = rest_of-step (in_gap c.loop-c.state) (in_gap c.step-state.result) (chars c.loop-c.closed.now) (chars c.loop-c.rest.now)
-      (chars c.in-Some.tail.now) c.in-Some.c false c.in-Some.ensures.parts c.step-state.ensures.moved
-      (not_closed c.step-state.result c.in_default-state.not-Outside)
-      ∙ c.loop-c.invariant.same;
-  room = omega (arith, c.step-state.ensures.deeper, c.in-Some.ensures.shorter, c.loop-c.invariant.room);
+  same = rest_of-white (chars c.loop-c.rest.now) (chars c.in-Some.tail.now) c.in-Some.c c.in-Some.ensures.parts
+      (sym c.is_white.ensures ∙ (search rules)) ∙ c.loop-c.invariant.same;
 }

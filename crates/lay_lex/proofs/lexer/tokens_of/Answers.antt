@@ -5,7 +5,7 @@ use Rattle.lay_token.specs.Lexes.{Lexes, BeginsNoPiece, is_index_place}
 use Rattle.lay_token.specs.declared.token.Token.{Token}
 use Rattle.lay_lex.specs.Tokens.{before}
 use Rattle.lay_lex.proofs.Gaps.{last_gap}
-use Rattle.lay_lex.proofs.Parts.{reach, turn, ended, stopped, waits, shrinks}
+use Rattle.lay_lex.proofs.Parts.{reach, turn, ended, stopped, shrinks}
 use Rattle.lay_lex.proofs.lexer.tokens_of.Goals as goal
 
 pub overflow_sub-at : goal.overflow_sub-at
@@ -48,11 +48,10 @@ loop-rest-preserved c =
     record {
       text = search rules;
       read = turn c.in-Some-piece_at.found.kind f.0 f.1 c.cut.result.0.now c.cut.result.1.now r whole had
-          parts.0 parts.1 c.in-Ok.ensures c.loop-rest.invariant.waits;
-      waits = waits _ _ c.loop-rest.tokens c.add.new.self c.in-Ok.ensures;
+          parts.0 parts.1 c.in-Ok.ensures;
     }
 
-pub returns-in-Ok-finish : goal.returns-in-Ok-finish
-returns-in-Ok-finish c =
+pub returns : goal.returns
+returns c =
     let P : List Token → Type 0 = λ ts. Lexes c.args.text.now c.args.start ts in
-    subst P (sym c.in-Ok-finish.ensures) (ended c.loop-rest.invariant.read (last_gap (chars c.loop-rest.ahead.now) c.in_default.ensures))
+    subst P (sym c.finish.ensures) (ended c.loop-rest.invariant.read (last_gap (chars c.loop-rest.ahead.now) c.in_default.ensures))

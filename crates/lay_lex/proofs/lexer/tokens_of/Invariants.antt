@@ -1,4 +1,4 @@
-use Rattle.std.proofs.Common.{◌≡◌, [], None, length}
+use Rattle.std.proofs.Common.{length}
 use denote.Text.{Utf8}
 use denote.Shadow.{shadow}
 use Rattle.lay_lex.specs.Tokens.{before, so_far}
@@ -9,7 +9,6 @@ abbrev pub invariant-loop-rest : goal.invariant-loop-rest
 invariant-loop-rest l = record {
   text : shadow (Utf8 l.ahead);
   read : SoFar l.start l.text l.ahead (so_far l.tokens) (before l.tokens.before);
-  waits : l.tokens.last ≡ None → l.tokens.done.items ≡ [];
 }
 
 abbrev pub decreases-loop-rest : goal.decreases-loop-rest

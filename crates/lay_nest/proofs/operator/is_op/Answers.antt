@@ -1,14 +1,18 @@
-use Rattle.std.proofs.Common.{sym, ap, ◌∙◌}
-use Rattle.std.specs.Option.{option_copied}
-use Rattle.lay_token.specs.Operators.{is_op, op_at}
-use Rattle.lay_nest.proofs.Fronts.{no_op, nothing}
+use Rattle.std.proofs.Common.{◌≡◌, ◌∷◌, [], List, length, refl, sym, ap, ◌∙◌, arith}
+use Rattle.lay_token.specs.Operators.{is_op}
+use Rattle.lay_token.specs.declared.token.Token.{Token}
+use Rattle.lay_nest.proofs.OperatorLemmas.{no_token, not_joint}
 use Rattle.lay_nest.proofs.operator.is_op.Goals as goal
 
-pub returns-in-Some : goal.returns-in-Some
-unfolding op_at
-returns-in-Some c = c.is_longest.ensures
+pub returns-else-front : goal.returns-else-front
+returns-else-front c =
+    c.is_alone.ensures ∙ sym (not_joint c.args.op.now c.in-Some.front.now c.in-Some.behind.now c.if-front.false)
+    ∙ ap (is_op c.args.op.now) (sym c.in-Some.ensures.cases.0)
 
-pub returns-in_default-2 : goal.returns-in_default-2
-returns-in_default-2 c =
-    let empty = nothing c.args.tokens.now (sym c.first.ensures.value ∙ ap option_copied c.in_default.is) in
-    sym (ap (is_op c.args.op.now) empty ∙ no_op c.args.op.now)
+nothing : (ts : List Token) → length ts ≡ 0 → ts ≡ []
+nothing [] h = refl
+nothing (t ∷ ts) h = absurd (omega arith)
+
+pub returns-in-None : goal.returns-in-None
+returns-in-None c =
+    sym (ap (is_op c.args.op.now) (nothing c.args.tokens.now c.in-None.ensures.cases) ∙ no_token c.args.op.now)
