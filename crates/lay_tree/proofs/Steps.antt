@@ -1,5 +1,5 @@
 -- Steps that may fail, what they found, and what is found after it.
-use Rattle.std.proofs.Common.{◌≡◌, Bool, true, false, List, [], ◌∷◌, ◌++◌, ◌⊎◌, inl, inr, Option, Some, None, refl, sym, ap, subst, ◌∙◌, cond, append_assoc, append-nil}
+use Rattle.std.proofs.Common.{◌≡◌, ℕ, Bool, true, false, List, [], ◌∷◌, ◌++◌, ◌⊎◌, inl, inr, Option, Some, None, refl, sym, ap, subst, ◌∙◌, cond, append_assoc, append-nil}
 use Rattle.std.specs.Prelude.{option_and_then}
 
 abbrev pub or_else : {A : Type 0} → A → Option A → A
@@ -9,6 +9,12 @@ or_else d (Some x) = x
 pub got_same : {A B : Type 0} (a c : A) (b d : B) → ◌≡◌ {A = Option (A × B)} (Some (a, b)) (Some (c, d)) → (a ≡ c) × (b ≡ d)
 got_same {A} {B} a c b d h =
     let e : ◌≡◌ {A = A × B} (a, b) (c, d) = ap (or_else (a, b)) h in (ap (λ (p : A × B). p.0) e, ap (λ (p : A × B). p.1) e)
+
+-- a node that was read, its need, and what is left
+pub read_same : {A B : Type 0} (a c : A) (m n : ℕ) (b d : B) → ◌≡◌ {A = Option ((A × ℕ) × B)} (Some ((a, m), b)) (Some ((c, n), d))
+    → (a ≡ c) × (m ≡ n) × (b ≡ d)
+read_same {A} {B} a c m n b d h =
+    let e = got_same {A = A × ℕ} (a, m) (c, n) b d h in (ap (λ (p : A × ℕ). p.0) e.0, ap (λ (p : A × ℕ). p.1) e.0, e.1)
 
 -- what holds of what was found holds of what it is
 pub same_some : {R : Type 0} (P : R → Type 0) (a b : R) → Some a ≡ Some b → P a → P b

@@ -1,3 +1,5 @@
 -- The readers, a family a file: what is read stands at the front of the tokens, and what stands there is read.
 pub mod Exact
 pub mod Loops
+pub mod Words
+pub mod Path

@@ -6,9 +6,9 @@ use Rattle.lay_form.proofs.FormLaws.{IsEnd, is_end}
 use Rattle.lay_tree.specs.Ahead.{Tokens}
 use Rattle.lay_tree.specs.Follow.{may_follow}
 use Rattle.lay_tree.specs.nodes.Facts.{Facts, Front}
-use Rattle.lay_tree.specs.reader.Exact.{HaveTexts, Exact}
-use Rattle.lay_tree.specs.reader.Loops.{Read}
-use Rattle.lay_tree.proofs.Steps.{or_else}
+use Rattle.lay_tree.specs.reader.Exact.{HaveTexts, Exact, needless}
+use Rattle.lay_tree.specs.reader.Loops.{Got, Read}
+use Rattle.lay_tree.proofs.Steps.{or_else, bind_some, read_same}
 
 -- A node of which this is told stands in front of the rest.
 abbrev pub Stands : Facts → ℕ → Tokens → Tokens → Type 0
@@ -44,6 +44,22 @@ exact about read sound complete = record {
       let c = counted (about x) need ts rest s.1 in (c.0, c.1, s.0, c.2);
   complete = λ x ts n depth f. complete depth x ts (drop n ts) (f.1, f.2, f.3);
 }
+
+-- a reading of nodes with no nodes within them
+pub needless_sound : {A : Type 0} (about : A → Facts) (one : Tokens → Got A)
+    → ((ts : Tokens) (x : A) (rest : Tokens) → HaveTexts ts → one ts ≡ Some (x, rest) → Stands (about x) 0 ts rest)
+    → (budget : ℕ) → Sound about budget (needless one budget)
+needless_sound {A} about one sound budget ts x need rest t h =
+    let last : A × Tokens → Read A = λ y. Some ((y.0, 0), y.1) in
+    let b = bind_some (one ts) last ((x, need), rest) h in
+    let e = read_same b.0.0 x 0 need b.0.1 rest b.2 in
+    let same : one ts ≡ Some (x, rest) = b.1 ∙ ap (λ (y : A). let found : Got A = Some (y, b.0.1) in found) e.0 ∙ ap (λ (us : Tokens). let found : Got A = Some (x, us) in found) e.2 in
+    (omega (arith, e.1), subst (λ n. Stands (about x) n ts rest) e.1 (sound ts x rest t same))
+
+pub needless_complete : {A : Type 0} (about : A → Facts) (one : Tokens → Got A)
+    → ((x : A) (depth : ℕ) (ts rest : Tokens) → Stands (about x) depth ts rest → one ts ≡ Some (x, rest))
+    → (depth : ℕ) → Complete about depth (needless one depth)
+needless_complete about one complete depth x ts rest s = (0, omega arith, rw (complete x depth ts rest s) refl)
 
 -- One reading gives one node and one count of tokens.
 pub one_at_most : {A : Type 0} (about : A → Facts) (read : ℕ → Tokens → Read A) → Exact read (λ x. Front (about x))

@@ -21,6 +21,11 @@ use Rattle.lay_tree.proofs.Steps.{got_same, chosen, bind_some, one_more, no_more
 abbrev pub SoundStep : {A : Type 0} → (Tokens → Got A) → (A → Tokens → Tokens → Type 0) → Type 0
 SoundStep {A} one P = (ts : Tokens) (x : A) (rest : Tokens) → HaveTexts ts → one ts ≡ Some (x, rest) → P x ts rest × HaveTexts rest
 
+-- the same, where the loop's test holds
+abbrev pub SoundTurn : {A : Type 0} → (Tokens → Bool) → (Tokens → Got A) → (A → Tokens → Tokens → Type 0) → Type 0
+SoundTurn {A} more one P = (ts : Tokens) (x : A) (rest : Tokens) → HaveTexts ts → more ts ≡ true → one ts ≡ Some (x, rest)
+    → P x ts rest × HaveTexts rest
+
 element_end_is : (d : Delim) (ts rest : Tokens) → element_end (closes d) ts ≡ Some rest
     → IsOne Punct (codes ",") ts rest ⊎ ((first (closes d) ts ≡ true) × (ts ≡ rest))
 element_end_is d ts rest h =
@@ -43,32 +48,33 @@ behind_comma : {A : Type 0} (d : Delim) (P : A → Tokens → Tokens → Type 0)
 behind_comma d P [] ts next rest m r = (ts, refl, (next, inr (next, m, refl), r))
 behind_comma d P (x ∷ xs) ts next rest m r = let b = r.2 in (b.0, (r.0, (next, m, r.1), b.1), b.2)
 
-module _ {A : Type 0} (one : Tokens → Got A) (P : A → Tokens → Tokens → Type 0) (sound : SoundStep one P) where
-  repeat_from_sound : (more : Tokens → Bool) (n : ℕ) (found : List A) (ts : Tokens) (xs : List A) (rest : Tokens) → HaveTexts ts
+module _ {A : Type 0} (more : Tokens → Bool) (one : Tokens → Got A) (P : A → Tokens → Tokens → Type 0) (sound : SoundTurn more one P) where
+  repeat_from_sound : (n : ℕ) (found : List A) (ts : Tokens) (xs : List A) (rest : Tokens) → HaveTexts ts
       → repeat_from more one n found ts ≡ Some (xs, rest)
       → (ys : List A) × (xs ≡ found ++ ys) × Rows P ys ts rest × HaveTexts rest × (more rest ≡ false)
   unfolding repeat_from
-  repeat_from_sound more zero found ts xs rest t h = absurd (cc)
-  repeat_from_sound more (suc n) found ts xs rest t h =
+  repeat_from_sound zero found ts xs rest t h = absurd (cc)
+  repeat_from_sound (suc n) found ts xs rest t h =
       let go_on : A × Tokens → Got (List A) = λ x. repeat_from more one n (found ++ x.0 ∷ []) x.1 in
       elim (chosen (more ts) (one ts >>= go_on) (Some (found, ts)) (Some (xs, rest)) h) [
         | inl g ↦
             let b = bind_some (one ts) go_on (xs, rest) g.1 in
-            let s = sound ts b.0.0 b.0.1 t b.1 in
-            let r = repeat_from_sound more n (found ++ b.0.0 ∷ []) b.0.1 xs rest s.1 b.2 in
+            let s = sound ts b.0.0 b.0.1 t g.0 b.1 in
+            let r = repeat_from_sound n (found ++ b.0.0 ∷ []) b.0.1 xs rest s.1 b.2 in
             (b.0.0 ∷ r.0, one_more found b.0.0 r.0 xs r.1, (b.0.1, s.0, r.2), r.3, r.4)
         | inr g ↦
             let e = got_same found xs ts rest g.1 in
             ([], no_more found xs e.0, e.1, subst HaveTexts e.1 t, subst (λ us. more us ≡ false) e.1 g.0)
       ]
 
-  pub repeat_sound : (more : Tokens → Bool) (ts : Tokens) (xs : List A) (rest : Tokens) → HaveTexts ts → repeat more one ts ≡ Some (xs, rest)
+  pub repeat_sound : (ts : Tokens) (xs : List A) (rest : Tokens) → HaveTexts ts → repeat more one ts ≡ Some (xs, rest)
       → Rows P xs ts rest × HaveTexts rest × (more rest ≡ false)
   unfolding repeat
-  repeat_sound more ts xs rest t h =
-      let r = repeat_from_sound more (suc (length ts)) [] ts xs rest t h in
+  repeat_sound ts xs rest t h =
+      let r = repeat_from_sound (suc (length ts)) [] ts xs rest t h in
       (subst (λ ys. Rows P ys ts rest) (sym r.1) r.2, r.3, r.4)
 
+module _ {A : Type 0} (one : Tokens → Got A) (P : A → Tokens → Tokens → Type 0) (sound : SoundStep one P) where
   elements_from_sound : (d : Delim) (n : ℕ) (found : List A) (ts : Tokens) (xs : List A) (rest : Tokens) → HaveTexts ts
       → elements_from (closes d) one n found ts ≡ Some (xs, rest) → (ys : List A) × (xs ≡ found ++ ys) × Elements d P ys ts rest × HaveTexts rest
   unfolding elements_from
