@@ -1,5 +1,5 @@
 -- What the tests of the front of a list of tokens tell of it, and what stands there tells of the tests.
-use Rattle.std.proofs.Common.{◌≡◌, ℕ, suc, ◌+◌, ◌≤◌, ◌<◌, Bool, true, false, List, [], ◌∷◌, ◌++◌, length, drop, codes, Option, Some, None, refl, sym, ap, subst, ◌∙◌, inl, inr, arith, length-drop}
+use Rattle.std.proofs.Common.{◌≡◌, ℕ, suc, ◌+◌, ◌≤◌, ◌<◌, Bool, true, false, List, [], ◌∷◌, ◌++◌, length, drop, codes, Option, Some, None, refl, sym, ap, subst, ◌∙◌, inl, inr, arith, length-append, length-drop}
 use Rattle.std.specs.Str.{bytes_eq}
 use Rattle.std.proofs.lemmas.Bool.{and_parts, cases_Bool, false_from_ne_true}
 use Rattle.std.proofs.lemmas.Slice.Eq.{bytes_eq-Decides}
@@ -28,6 +28,9 @@ without (t ∷ before) rest h = without before rest h.1
 -- Tokens have their texts where they end ones that have.
 pub texts_behind : (ts rest : Tokens) → IsEnd rest ts → HaveTexts ts → HaveTexts rest
 texts_behind ts rest e h = without e.before rest (subst HaveTexts e.whole h)
+
+pub end_shorter : (ts rest : Tokens) → IsEnd rest ts → length rest ≤ length ts
+end_shorter ts rest e = omega (arith, ap length e.whole, length-append e.before rest)
 
 only_one : (kind other : Kind) (only text : List ℕ) → other ≡ kind → only_text kind ≡ Some only → IsText (only_text other) text → text ≡ only
 only_one kind other only text k o h = subst (λ (one : Option (List ℕ)). IsText one text) (ap only_text k ∙ o) h

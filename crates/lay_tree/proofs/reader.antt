@@ -3,3 +3,4 @@ pub mod Exact
 pub mod Loops
 pub mod Words
 pub mod Path
+pub mod Attr

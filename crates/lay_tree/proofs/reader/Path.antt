@@ -25,7 +25,7 @@ use Rattle.lay_tree.proofs.reader.Exact.{Stands, exact, needless_sound, needless
 use Rattle.lay_tree.proofs.reader.Loops.{SoundTurn, Turn, repeat_sound, repeat_complete}
 use Rattle.lay_tree.proofs.reader.Words.{word_sound, word_complete, word_no_op, LedBy, global_leads, global_texts, global_parts}
 
-abbrev IsSegment : Segment → Tokens → Tokens → Type 0
+abbrev pub IsSegment : Segment → Tokens → Tokens → Type 0
 IsSegment s = IsOne (word_kind s.word.raw) s.word.text
 
 -- a segment behind its `::`
@@ -95,7 +95,7 @@ path_sound depth ts p rest t h =
 
 -- ---- what is spelled is read
 
-segments_rows : (s : Segment) (more : List Segment) (depth : ℕ) (ts rest : Tokens) → Spells (segments_form (s ∷ more) Done) depth ts rest
+pub segments_rows : (s : Segment) (more : List Segment) (depth : ℕ) (ts rest : Tokens) → Spells (segments_form (s ∷ more) Done) depth ts rest
     → (at : Tokens) × IsSegment s ts at × Rows BehindColons more at rest
 segments_rows s [] depth ts rest r = leaf_parts s.word.raw s.word.text Done depth ts rest r
 segments_rows s (t ∷ more) depth ts rest r =
