@@ -11,11 +11,9 @@ use Rattle.lay_token.specs.declared.token.Kind.TheVariants.{Ident, RawIdent, Pun
 use Rattle.lay_form.specs.Form.{Bit, Blank, Fixed, Form, Done, Piece, Part, opener, closer, comma}
 use Rattle.lay_form.specs.Notation.{H, piece, each, comma_gap, comma_list, body, lines, behind_attrs}
 use Rattle.lay_form.specs.Spelled.{Then, IsOne, IsBit, AreBits, MayBe, Spells}
-use Rattle.lay_form.proofs.FormLaws.{deeper}
 use Rattle.lay_tree.specs.Ahead.{Tokens}
 use Rattle.lay_tree.specs.Words.{leaf_of}
 use Rattle.lay_tree.specs.nodes.Facts.{Facts, forms, all_good}
-use Rattle.lay_tree.specs.reader.Loops.{nodes, deepest}
 
 -- ---- rows
 
@@ -61,40 +59,14 @@ rows_with p P [] ts rest g r = r
 rows_with p P (x ∷ xs) ts rest g r =
     let b = and_parts (p x) (list_all p xs) g in (r.0, (r.1, b.0), rows_with p P xs r.0 rest b.1 r.2)
 
--- ---- what each part needs
-
--- A node is spelled at the depth that stands with it, and is good; and at one depth for all of them.
-abbrev pub GoodAt : {A : Type 0} → (A → Facts) → ℕ → A → Tokens → Tokens → Type 0
-GoodAt about depth x ts rest = Spells (about x).form depth ts rest × ((about x).good ≡ true)
-
-abbrev pub GoodWith : {A : Type 0} → (A → Facts) → (A × ℕ) → Tokens → Tokens → Type 0
-GoodWith about x ts rest = GoodAt about x.1 x.0 ts rest
-
-pub good_deeper : {A : Type 0} (about : A → Facts) (depth more : ℕ) (x : A) (ts rest : Tokens) → depth ≤ more
-    → GoodAt about depth x ts rest → GoodAt about more x ts rest
-good_deeper about depth more x ts rest le g = (deeper (about x).form depth more ts rest le g.0, g.1)
-
-pub rows_deepest : {A : Type 0} (about : A → Facts) (P : (A × ℕ) → Tokens → Tokens → Type 0) (Q : A → Tokens → Tokens → Type 0) (most : ℕ)
-    → ((x : A × ℕ) (ts mid : Tokens) → x.1 ≤ most → P x ts mid → Q x.0 ts mid)
-    → (xs : List (A × ℕ)) (ts rest : Tokens) → deepest xs ≤ most → Rows P xs ts rest → Rows Q (nodes xs) ts rest
-rows_deepest about P Q most to [] ts rest le r = r
-rows_deepest about P Q most to (x ∷ xs) ts rest le r =
-    (r.0, to x ts r.0 (omega (arith, le)) r.1, rows_deepest about P Q most to xs r.0 rest (omega (arith, le)) r.2)
-
--- what is read of parts, each with its need
-pub rows_read : {A : Type 0} (P : (A × ℕ) → Tokens → Tokens → Type 0) (depth : ℕ) (xs : List A) (ts rest : Tokens)
-    → Rows (λ x us mid. (n : ℕ) × (n ≤ depth) × P (x, n) us mid) xs ts rest
-    → (ys : List (A × ℕ)) × (nodes ys ≡ xs) × (deepest ys ≤ depth) × Rows P ys ts rest
-rows_read P depth [] ts rest r = ([], refl, omega arith, r)
-rows_read P depth (x ∷ xs) ts rest r =
-    let one = r.1 in
-    let s = rows_read P depth xs r.0 rest r.2 in
-    ((x, one.0) ∷ s.0, ap (λ l. x ∷ l) s.1, omega (arith, one.1, s.2), (r.0, one.2, s.3))
-
 -- ---- forms
 
 abbrev pub SpelledAt : ℕ → Form → Tokens → Tokens → Type 0
 SpelledAt depth f ts rest = Spells f depth ts rest
+
+-- A node is spelled at the depth, and is good.
+abbrev pub GoodAt : {A : Type 0} → (A → Facts) → ℕ → A → Tokens → Tokens → Type 0
+GoodAt about depth x ts rest = Spells (about x).form depth ts rest × ((about x).good ≡ true)
 
 -- Good nodes one behind the other: their forms are spelled so, and all of them are good.
 pub rows_spelled : {A : Type 0} (about : A → Facts) (depth : ℕ) (xs : List A) (ts rest : Tokens) → Rows (GoodAt about depth) xs ts rest
@@ -240,21 +212,6 @@ Behind d P xs = Then (Rows (Further P) xs) (Then (MayBe comma) (Closed d))
 abbrev pub Elements : {A : Type 0} → Delim → (A → Tokens → Tokens → Type 0) → List A → Tokens → Tokens → Type 0
 Elements d P [] = Closed d
 Elements d P (x ∷ xs) = Then (P x) (Behind d P xs)
-
-further_to : {A B : Type 0} (P : A → Tokens → Tokens → Type 0) (Q : B → Tokens → Tokens → Type 0) (x : A) (y : B)
-    → ((ts mid : Tokens) → P x ts mid → Q y ts mid) → (ts rest : Tokens) → Further P x ts rest → Further Q y ts rest
-further_to P Q x y to ts rest r = (r.0, r.1, to r.0 rest r.2)
-
--- What makes a row out of a row makes elements out of elements.
-pub elements_by : {A B : Type 0} (d : Delim) (P : A → Tokens → Tokens → Type 0) (Q : B → Tokens → Tokens → Type 0) (f : A → B)
-    → ((x : A) (ts mid : Tokens) → P x ts mid → Q (f x) ts mid) → (xs : List A) (ts rest : Tokens)
-    → Elements d P xs ts rest → Elements d Q (map f xs) ts rest
-elements_by d P Q f to [] ts rest r = r
-elements_by d P Q f to (x ∷ xs) ts rest r =
-    let behind = r.2 in
-    let rows = rows_map f (Further Q) xs r.0 behind.0
-    (rows_to (Further P) (λ y. Further Q (f y)) (λ y us mid s. further_to P Q y (f y) (to y) us mid s) xs r.0 behind.0 behind.1) in
-    (r.0, to x ts r.0 r.1, (behind.0, rows, behind.2))
 
 each_comma_spelled : (fs : List Form) (depth : ℕ) (ts rest : Tokens) → Rows (Further (SpelledAt depth)) fs ts rest → Spells (each comma_gap fs) depth ts rest
 each_comma_spelled [] depth ts rest r = r

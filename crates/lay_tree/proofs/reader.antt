@@ -4,3 +4,5 @@ pub mod Loops
 pub mod Words
 pub mod Path
 pub mod Attr
+pub mod AttrRead
+pub mod Needs

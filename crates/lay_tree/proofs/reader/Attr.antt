@@ -129,7 +129,7 @@ pub flag_same : (a b : Bool) → same_flag a b ≡ true → b ≡ a
 flag_same true b h = h
 flag_same false b h = not-true b h
 
-same_as_itself : (a : Bool) → same_flag a a ≡ true
+pub same_as_itself : (a : Bool) → same_flag a a ≡ true
 same_as_itself true = refl
 same_as_itself false = refl
 

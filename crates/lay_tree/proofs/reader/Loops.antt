@@ -1,18 +1,16 @@
 -- The two loops of the readers: what they read stands there, and what stands there is read.
 use Rattle.std.proofs.Common.{◌≡◌, ℕ, zero, suc, ◌<◌, ◌≤◌, Bool, true, false, List, [], ◌∷◌, ◌++◌, ◌⊎◌, inl, inr, length, map, codes, Option, Some, None, refl, sym, ap, subst, ◌∙◌, if◌then◌else◌, append_assoc, append-nil, arith}
-use Rattle.lay_token.specs.Forms.{opening, closing}
+use Rattle.lay_token.specs.Forms.{closing}
 use Rattle.lay_token.specs.declared.token.Delim.{Delim}
-use Rattle.lay_token.specs.declared.token.Kind.TheVariants.{Punct, Opener, Closer}
-use Rattle.lay_form.specs.Form.{Fixed, comma, opener, closer}
-use Rattle.lay_form.specs.Notation.{comma_list}
-use Rattle.lay_form.specs.Spelled.{IsOne, MayBe, Spells}
+use Rattle.lay_token.specs.declared.token.Kind.TheVariants.{Punct, Closer}
+use Rattle.lay_form.specs.Form.{Fixed}
+use Rattle.lay_form.specs.Spelled.{IsOne}
 use Rattle.lay_form.proofs.FormLaws.{one_end}
 use Rattle.lay_tree.specs.Ahead.{Tokens, first, tail, is_mark, closes}
-use Rattle.lay_tree.specs.nodes.Facts.{Facts, forms, all_good}
 use Rattle.lay_tree.specs.reader.Exact.{HaveTexts}
-use Rattle.lay_tree.specs.reader.Loops.{Got, Read, ◌>>=◌, nodes, deepest, repeat_from, repeat, element_end, elements_from, elements}
+use Rattle.lay_tree.specs.reader.Loops.{Got, ◌>>=◌, repeat_from, repeat, element_end, elements_from, elements}
 use Rattle.lay_tree.proofs.Fronts.{texts_behind, mark_one, closes_one, one_front, one_shorter, closer_first}
-use Rattle.lay_tree.proofs.Parts.{Rows, rows_to, rows_map, rows_deepest, rows_read, rows_spelled, rows_good, GoodAt, GoodWith, good_deeper, SpelledAt, bit_alone, Further, Closed, Behind, Elements, elements_by, list_spelled, list_elements}
+use Rattle.lay_tree.proofs.Parts.{Rows, bit_alone, Closed, Behind, Elements}
 use Rattle.lay_tree.proofs.Steps.{got_same, chosen, bind_some, one_more, no_more}
 
 -- ---- what is read stands there
