@@ -6,3 +6,5 @@ pub mod Path
 pub mod Attr
 pub mod AttrRead
 pub mod Needs
+pub mod Use
+pub mod Item
