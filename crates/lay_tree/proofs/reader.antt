@@ -8,3 +8,5 @@ pub mod AttrRead
 pub mod Needs
 pub mod Use
 pub mod Item
+pub mod ItemRead
+pub mod File

@@ -7,7 +7,7 @@ use Rattle.lay_token.specs.declared.token.Kind.TheVariants.{Ident, Punct, Opener
 use Rattle.lay_token.specs.declared.token.Token.{Token}
 use Rattle.lay_form.specs.Form.{Bit, Blank, Form, Done, Piece, Part, keyword, punct, opener, closer}
 use Rattle.lay_form.specs.Notation.{I0, piece, behind_attrs}
-use Rattle.lay_form.specs.Spelled.{IsOne, IsBit, Spells}
+use Rattle.lay_form.specs.Spelled.{IsOne, AreBits, Spells}
 use Rattle.lay_form.proofs.FormLaws.{deeper, one_end, is_end, shorter}
 use Rattle.lay_tree.specs.Ahead.{Tokens, first, tail, is_keyword, is_mark, opens, closes}
 use Rattle.lay_tree.specs.Follow.{may_follow}
@@ -110,8 +110,10 @@ module_sound budget within sound ts named kind need rest k t h =
     let before = attrs_spelled true most attrs c.0 a.0.1 inner.0 in
     let behind = rows_spelled about_item most items a.0.1 d.0.1 r.1 in
     let parts = rows_joined (SpelledAt most) (map attr_form attrs) (forms (map about_item items)) c.0 a.0.1 d.0.1 before.0 behind.0 in
+    let blank : AreBits (Blank ∷ []) b.0.1 b.0.1 = (b.0.1, refl, refl) in
+    let none : AreBits [] c.0 c.0 = refl in
     let within_braces = body_spelled (Blank ∷ []) [] (map attr_form attrs ++ forms (map about_item items)) most b.0.1 b.0.1 c.0 c.0 d.0.1 e.0
-    (b.0.1, refl, refl) o refl parts closed in
+    blank o none parts closed in
     let spelled : Spells (kind_form (ItemKind-F.Module n attrs (map about_item items))) most ts e.0 =
     (b.0.1, head_spelled (codes "mod") n most ts named b.0.1 k i.0, within_braces) in
     let headed = and_from (is_name n.raw n.text) (are_attrs true attrs) i.1 before.1 in
