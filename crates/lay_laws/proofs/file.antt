@@ -3,4 +3,3 @@ pub mod Nodes
 pub mod OneAnswer
 pub mod Reparse
 pub mod Singles
-pub mod Told
