@@ -9,8 +9,8 @@ use Rattle.lay_token.specs.Delimiters.{Balanced, UnbalancedAt}
 use Rattle.lay_token.proofs.Unique as unique
 use Rattle.lay_nest.proofs.Machine.{place, place-unbalanced, run-balanced}
 use Rattle.lay_tree.specs.Reading.{Reads, IsRefused, SpellsFile}
-use Rattle.lay_tree.specs.declared.tree.File.{File}
-use Rattle.lay_tree.proofs.ReaderComplete.{file_unique}
+use Rattle.lay_tree.specs.declared.file.File.{File}
+use Rattle.lay_tree.proofs.reader.File.{file_unique}
 
 -- A text has one source, and its tokens are one list.
 pub same_source : (bytes : List ℕ) (a b : Source) → source bytes ≡ Ok a → source bytes ≡ Ok b → a ≡ b
