@@ -14,7 +14,7 @@ use Rattle.lay_tree.specs.Follow.{may_follow}
 use Rattle.lay_tree.specs.Words.{is_name, leaf_of}
 use Rattle.lay_tree.specs.nodes.Attr.{are_attrs, attr_form, about_attr}
 use Rattle.lay_tree.specs.nodes.Facts.{Facts, forms, all_good, Front}
-use Rattle.lay_tree.specs.nodes.Item.{kind_form, kind_facts, item_facts, about_item, about_kind}
+use Rattle.lay_tree.specs.nodes.Item.{kind_form, kind_good, kind_facts, item_facts, about_item, about_kind}
 use Rattle.lay_tree.specs.nodes.Use.{about_use}
 use Rattle.lay_tree.specs.reader.Attr.{begins_attr, attributes}
 use Rattle.lay_tree.specs.reader.Exact.{HaveTexts, Exact}
@@ -85,6 +85,11 @@ import_sound budget tree sound ts named kind need rest k t h =
     let stands : Stands (about_kind (item.Import u)) n ts c.0 = rw (import_is u) (spelled, s.1.1, refl) in
     same_some (Handed budget ts) ((item.Import u, n), c.0) ((kind, need), rest) c.2 (s.0, stands)
 
+module_stands : (n : Name) (attrs : List Attr) (items : List Item) (depth : ℕ) (ts rest : Tokens)
+    → Spells (kind_form (ItemKind-F.Module n attrs (map about_item items))) depth ts rest
+    → kind_good (ItemKind-F.Module n attrs (map about_item items)) ≡ true → Stands (about_kind (item.Module n attrs items)) depth ts rest
+module_stands n attrs items depth ts rest s g = rw (module_is n attrs items) (s, g, refl)
+
 module_sound : (budget : ℕ) (within : Tokens → Read Item) → Sound about_item budget within → SoundBehind (codes "mod") budget (module_by within)
 unfolding module_by items_by
 module_sound budget within sound ts named kind need rest k t h =
@@ -118,7 +123,7 @@ module_sound budget within sound ts named kind need rest k t h =
     (b.0.1, head_spelled (codes "mod") n most ts named b.0.1 k i.0, within_braces) in
     let headed = and_from (is_name n.raw n.text) (are_attrs true attrs) i.1 before.1 in
     let good = and_from (is_name n.raw n.text && are_attrs true attrs) (all_good (map about_item items)) headed behind.1 in
-    let stands : Stands (about_kind (item.Module n attrs items)) most ts e.0 = rw (module_is n attrs items) (spelled, good, refl) in
+    let stands = module_stands n attrs items most ts e.0 spelled good in
     same_some (Handed budget ts) ((item.Module n attrs items, most), e.0) ((kind, need), rest) e.2 (r.0, stands)
 
 module _ (budget : ℕ) (within : Tokens → Read Item) (tree : Tokens → Read UseTree) (sound : Sound about_item budget within) (use_is : Sound about_use budget tree) where
