@@ -1,5 +1,5 @@
 -- Samples of items and of files: how they are laid out, what spells them, and what they need of the depth.
-use Rattle.std.proofs.Common.{◌≡◌, ℕ, suc, Bool, true, false, List, [], ◌∷◌, Some, None, inl, codes, refl}
+use Rattle.std.proofs.Common.{◌≡◌, ℕ, suc, true, false, List, [], ◌∷◌, Some, None, inl, codes, refl}
 use Rattle.lay_token.specs.Docs.{doc_form}
 use Rattle.lay_token.specs.declared.token.Delim.TheVariants.{Brace}
 use Rattle.lay_token.specs.declared.token.Kind.TheVariants.{RawIdent, Doc}

@@ -1,5 +1,5 @@
 -- Samples of use trees: how they are laid out, what spells them, what may follow, and what they need of the depth.
-use Rattle.std.proofs.Common.{◌≡◌, ℕ, suc, Bool, true, false, List, [], ◌∷◌, ◌++◌, Option, Some, None, inl, inr, codes, refl, ap, ◌∙◌}
+use Rattle.std.proofs.Common.{◌≡◌, ℕ, suc, Bool, true, false, List, [], ◌∷◌, ◌++◌, Some, None, inl, inr, codes, refl}
 use Rattle.std.specs.Prelude.{replicate}
 use Rattle.lay_token.specs.Operators.{op_at}
 use Rattle.lay_token.specs.declared.token.Delim.TheVariants.{Brace}
@@ -11,18 +11,17 @@ use Rattle.lay_form.specs.Notation.{Z, piece, when, each, comma_gap}
 use Rattle.lay_form.specs.Spelled.{MayBe, Spells}
 use Rattle.lay_tree.specs.Follow.{may_follow}
 use Rattle.lay_tree.specs.nodes.Facts.{Facts}
-use Rattle.lay_tree.specs.nodes.Use.{end_facts, words_form, about_use, about_use_end}
+use Rattle.lay_tree.specs.nodes.Use.{words_form, about_use, about_use_end}
 use Rattle.lay_tree.specs.reader.Loops.{repeat_from, repeat, elements_from, elements}
 use Rattle.lay_tree.specs.reader.Use.{use_at}
 use Rattle.lay_tree.specs.reader.Words.{word as word_reading, path_word, path_words}
 use Rattle.lay_tree.specs.declared.token.Word.{Word}
 use Rattle.lay_tree.specs.declared.use_tree.Rename.TheVariants as rename
 use Rattle.lay_tree.specs.declared.use_tree.UseEnd.{UseEnd}
-use Rattle.lay_tree.specs.declared.use_tree.UseEnd.TheOpen.{UseEnd-F}
 use Rattle.lay_tree.specs.declared.use_tree.UseEnd.TheVariants as use_end
 use Rattle.lay_tree.specs.declared.use_tree.UseTree.{UseTree}
 use Rattle.lay_tree.proofs.nodes.UseLaws as uses
-use Rattle.lay_tree.proofs.samples.Trees.{named, plain, a, b, c, tree_of, word_of, group_of, tree_facts_of, word_facts, group_facts, tree_is, word_is, group_is, laid, Spelt, token, word, mark, colons, opens, closes}
+use Rattle.lay_tree.proofs.samples.Trees.{named, plain, a, b, c, tree_of, word_of, group_of, word_facts, tree_is, word_is, group_is, laid, Spelt, token, word, mark, colons, opens, closes}
 
 -- ---- layouts
 
