@@ -42,7 +42,10 @@ impl Text {
         match bytes {
             // Every second token is a mark.
             [byte] => text.push(*byte)?,
-            _ => text.push_bytes(bytes)?,
+            _ => {
+                text.bytes.reserve_exact(bytes.len())?;
+                text.push_bytes(bytes)?;
+            }
         }
         Ok(text)
     }
