@@ -6,7 +6,7 @@ use Rattle.lay_token.specs.declared.layout.Tok.{Tok}
 use Rattle.lay_token.specs.Machine.{Layout, play, after, begun}
 use Rattle.lay_ring.specs.declared.entry.Size.TheVariants.{Known}
 use Rattle.lay_ring.specs.declared.entry.Entry.{Entry}
-use Rattle.lay_printer.specs.declared.page.Page.{Page}
+use Rattle.lay_printer.specs.declared.line.Line.{Line}
 use Rattle.lay_printer.specs.Scan.{Scan, Stopped, Going, size_of_scan, sized, with_rest, cap, Holds}
 use Rattle.lay_printer.specs.Pages.{Is, Wrote}
 use Rattle.lay_printer.specs.Closed.{toks_of}
@@ -32,17 +32,13 @@ after_at s es m h r =
     ∙ ap (λ (x : List Tok). play x (drop (length h.printed) (h.printed ++ (h.waits ++ r))) begun) (take-append_seam h.printed (h.waits ++ r))
     ∙ ap (λ (x : List Tok). play h.printed x begun) (drop-append_seam h.printed (h.waits ++ r)) ∙ h.shown r
 
-pub in_step : (es : List Entry) (p : Page) (fs : List Frame) (w : Option (List ℕ)) (content : List ℕ) (s : List Tok) → Running false es p fs w content s → (r : List Tok) → InStep es p w content s r
+pub in_step : (es : List Entry) (p : Line) (fs : List Frame) (w : Option (List ℕ)) (content : List ℕ) (s : List Tok) → Running false es p fs w content s → (r : List Tok) → InStep es p w content s r
 in_step es p fs w content s h r =
     let e = after_at s es h.layout h.holds r in
     let k = h.holds in
     let j : at s es ≡ length k.printed = omega (arith, ap length k.all, length-append k.printed k.waits, ap length k.are_sized, length_sized k.waits) in
     record {
       grown = subst (λ (m : Layout). Wrote w content m.state.text) (sym e) h.wrote;
-      page = subst (λ (m : Layout). Is p m.state) (sym e) h.at.is;
+      line = subst (λ (m : Layout). Is p m.state) (sym e) h.at.is;
       waits = ap toks_of k.are_sized ∙ toks_sized k.waits ∙ sym (drop-append_seam k.printed k.waits) ∙ ap (λ (x : List Tok). drop (length k.printed) x) k.all ∙ ap (λ (i : ℕ). drop i s) (sym j);
     }
-
-known_scan : (c : Scan) (k : ℕ) → Known (pos k) ≡ size_of_scan c → (r : List Tok) → k ≡ min (with_rest c r) cap
-known_scan (Stopped n) k h r = cc
-known_scan (Going n d) k h r = cc

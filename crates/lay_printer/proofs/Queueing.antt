@@ -36,7 +36,7 @@ pub length_more : (es : List Entry) (e : Entry) → length (es ++ e ∷ []) ≡ 
 length_more [] e = refl
 length_more (x ∷ es) e = omega (arith, length_more es e)
 
-length_toks : (es : List Entry) → length (toks_of es) ≡ length es
+pub length_toks : (es : List Entry) → length (toks_of es) ≡ length es
 length_toks [] = refl
 length_toks (e ∷ es) = ap suc (length_toks es)
 

@@ -8,7 +8,7 @@ use Rattle.lay_token.specs.Machine.{Layout, act, play, step, begun, text}
 use Rattle.lay_ring.specs.declared.entry.Size.{Size}
 use Rattle.lay_ring.specs.declared.entry.Size.TheVariants.{Unknown, Known, Forced}
 use Rattle.lay_ring.specs.declared.entry.Entry.{Entry}
-use Rattle.lay_printer.specs.declared.page.Page.{Page}
+use Rattle.lay_printer.specs.declared.line.Line.{Line}
 use Rattle.lay_printer.specs.Scan.{Scan, Stopped, Going, size_of_scan, size_of, scan_of, sized, ended, waiting, cap, with_rest, Holds, HoldsAtEnd}
 use Rattle.lay_printer.specs.Notes.{scans}
 use Rattle.lay_printer.specs.Closed.{toks_of, sizes_of}
@@ -47,13 +47,13 @@ grows_by false s es m h r f = grows_all s es m h r
 grows_by true s es m h r f = subst (λ (x : List Tok). Grows m.state.text (text x)) (sym (append-nil s) ∙ ap (λ (x : List Tok). s ++ x) (sym f)) (grows_end s es m h)
 
 -- a sink that isn't written to has a front of the text
-pub running_broken : (es : List Entry) (p : Page) (fs : List Frame) (w : Option (List ℕ)) (content : List ℕ) (s u : List Tok) → Running false es p fs w content s → Broken false w content (s ++ u)
+pub running_broken : (es : List Entry) (p : Line) (fs : List Frame) (w : Option (List ℕ)) (content : List ℕ) (s u : List Tok) → Running false es p fs w content s → Broken false w content (s ++ u)
 running_broken es p fs w content s u h r f =
     cut_more w content h.layout.state.text (text ((s ++ u) ++ r)) (wrote_cut w content h.layout.state.text h.wrote)
     (subst (λ (x : List Tok). Grows h.layout.state.text (text x)) (sym (append_assoc s u r)) (grows_all s es h.layout h.holds (u ++ r)))
 
 -- a token is fed
-pub running_fed : (es es' : List Entry) (p : Page) (fs : List Frame) (w : Option (List ℕ)) (content : List ℕ) (s : List Tok) (t : Tok) →
+pub running_fed : (es es' : List Entry) (p : Line) (fs : List Frame) (w : Option (List ℕ)) (content : List ℕ) (s : List Tok) (t : Tok) →
     toks_of es' ≡ toks_of es ++ t ∷ [] → es' ≡ sized (toks_of es') → Running false es p fs w content s → Running false es' p fs w content (s ++ t ∷ [])
 running_fed es es' p fs w content s t e z h =
     let k = h.holds in
@@ -75,7 +75,7 @@ pub sized_so : (e : Bool) (es : List Entry) → e ≡ false → sizes_of es ≡ 
 sized_so true es b h = cc
 sized_so false es b h = sized_from es (h ∙ ap (λ (x : List Scan). map size_of_scan x) (at_end_false (scans (toks_of es))))
 
-over_page : (p : Page) (s : State) (k : ℕ) → Is p s → nat_lt p.room (p.used + k) ≡ over k s
+over_page : (p : Line) (s : State) (k : ℕ) → Is p s → nat_lt p.room (p.used + k) ≡ over k s
 over_page p s k h =
     let a = h.room in let b = h.small in let c = h.used in
     grind (arith, nat_tests)
@@ -121,7 +121,7 @@ no_ended t z es (x ∷ w) f h =
     f (min (with_rest (scan_of x w) []) cap) (ap (λ (y : Entry). y.size) e)
 
 -- the oldest entry is printed as was decided
-step_at : (x : Bool) (s : List Tok) (t : Tok) (z : Size) (es : List Entry) (m : Layout) (p : Page) (wait : ℕ) (big : Bool) → Is p m.state →
+step_at : (x : Bool) (s : List Tok) (t : Tok) (z : Size) (es : List Entry) (m : Layout) (p : Line) (wait : ℕ) (big : Bool) → Is p m.state →
     wait ≡ waiting (record { tok = t; size = z } ∷ es) → Says z wait p (Some big) → HoldsBy x s (record { tok = t; size = z } ∷ es) m → HoldsBy x s es (act t big m)
 step_at false s t Unknown es m p wait big i w d h =
     let a = i.room in let b = i.small in let c = i.used in
@@ -142,7 +142,7 @@ pub front_is : (es : List Entry) (e : Entry) → Some e ≡ slice_get es 0 → e
 front_is [] e h = cc
 front_is (x ∷ es) e h = let k : x ≡ e = cc in ap (λ (y : Entry). y ∷ es) k
 
-prints_by : {T E : Type 0} (x : Bool) (es es' : List Entry) (t : Tok) (p p' : Page) (fs fs' : List Frame) (b n : Option (List ℕ)) (big : Bool) (res : Result T E) →
+prints_by : {T E : Type 0} (x : Bool) (es es' : List Entry) (t : Tok) (p p' : Line) (fs fs' : List Frame) (b n : Option (List ℕ)) (big : Bool) (res : Result T E) →
     ((s : List Tok) (m : Layout) → Is p m.state → HoldsBy x s es m → HoldsBy x s es' (act t big m)) → Prints p fs b res p' fs' n t big → Prints_on x es p fs b res es' p' fs' n
 prints_by x es es' t p p' fs fs' b n big (Ok y) f k = record {
   ok = λ content s r.
@@ -157,7 +157,7 @@ prints_by x es es' t p p' fs fs' b n big (Err y) f k = record {
       (grows_by x s es' (act t big r.layout) (f s r.layout r.at.is r.holds) q g);
 }
 
-pub prints_front : {T E : Type 0} (x : Bool) (es es' : List Entry) (e : Entry) (p p' : Page) (fs fs' : List Frame) (b n : Option (List ℕ)) (wait : ℕ) (big : Bool) (res : Result T E) →
+pub prints_front : {T E : Type 0} (x : Bool) (es es' : List Entry) (e : Entry) (p p' : Line) (fs fs' : List Frame) (b n : Option (List ℕ)) (wait : ℕ) (big : Bool) (res : Result T E) →
     es ≡ e ∷ es' → wait ≡ waiting es → Decided es wait p (Some big) → Prints p fs b res p' fs' n e.tok big → Prints_on x es p fs b res es' p' fs' n
 prints_front x es es' e p p' fs fs' b n wait big res a w d k =
     let d' : Says e.size wait p (Some big) = subst (λ (y : List Entry). Decided y wait p (Some big)) a d in
@@ -166,11 +166,11 @@ prints_front x es es' e p p' fs fs' b n wait big res a w d k =
     (λ s m i h. step_at x s e.tok e.size es' m p wait big i w' d' (subst (λ (y : List Entry). HoldsBy x s y m) a h)) k
 
 -- a token wasn't fed
-pub feeds_not : {T E : Type 0} (es es' : List Entry) (p p' : Page) (fs fs' : List Frame) (b : Option (List ℕ)) (t : Tok) (f : E) → Feeds {T = T} es p fs b (Err f) es' p' fs' b t
+pub feeds_not : {T E : Type 0} (es es' : List Entry) (p p' : Line) (fs fs' : List Frame) (b : Option (List ℕ)) (t : Tok) (f : E) → Feeds {T = T} es p fs b (Err f) es' p' fs' b t
 feeds_not es es' p p' fs fs' b t f = record { ok = tt; err = λ content s r. running_broken es p fs b content s (t ∷ []) r }
 
 -- no more tokens come
-running_ends_ : (es mid : List Entry) (p : Page) (fs : List Frame) (w : Option (List ℕ)) (content : List ℕ) (s : List Tok) → toks_of mid ≡ toks_of es → mid ≡ ended (toks_of mid) →
+running_ends_ : (es mid : List Entry) (p : Line) (fs : List Frame) (w : Option (List ℕ)) (content : List ℕ) (s : List Tok) → toks_of mid ≡ toks_of es → mid ≡ ended (toks_of mid) →
     Running false es p fs w content s → Running true mid p fs w content s
 running_ends_ es mid p fs w content s e q r =
     let k : Holds s es r.layout = r.holds in
@@ -178,7 +178,7 @@ running_ends_ es mid p fs w content s e q r =
     let v : ended k.waits ≡ mid = ap ended (sym y ∙ sym e) ∙ sym q in
     record { layout = r.layout; holds = subst (λ (x : List Entry). HoldsAtEnd s x r.layout) v (to_end s es r.layout k); at = r.at; wrote = r.wrote }
 
-pub ends_on : {T E : Type 0} (es mid es' : List Entry) (z : Bool) (p p' : Page) (fs fs' : List Frame) (b n : Option (List ℕ)) (res : Result T E) →
+pub ends_on : {T E : Type 0} (es mid es' : List Entry) (z : Bool) (p p' : Line) (fs fs' : List Frame) (b n : Option (List ℕ)) (res : Result T E) →
     es ≡ sized (toks_of es) → toks_of mid ≡ toks_of es → z ≡ true → mid ≡ ended (toks_of mid) → Prints_on z mid p fs b res es' p' fs' n → (OnOk res (es' ≡ [])) → Ends es p fs b res n
 ends_on es mid es' false p p' fs fs' b n res a e y q k v = cc
 ends_on es mid es' true p p' fs fs' b n (Ok x) a e y q k v = record {
@@ -194,7 +194,7 @@ ends_on es mid es' true p p' fs fs' b n (Err x) a e y q k v = record {
 }
 
 -- at the end nothing stays undecided
-pub none_left : (es : List Entry) (z : Bool) (wait : ℕ) (p : Page) → z ≡ true → sizes_of es ≡ map size_of_scan (map (at_end z) (scans (toks_of es))) → Decided es wait p None → es ≡ []
+pub none_left : (es : List Entry) (z : Bool) (wait : ℕ) (p : Line) → z ≡ true → sizes_of es ≡ map size_of_scan (map (at_end z) (scans (toks_of es))) → Decided es wait p None → es ≡ []
 none_left [] z wait p y q d = refl
 none_left (e ∷ es) false wait p y q d = cc
 none_left (e ∷ es) true wait p y q d =
@@ -204,18 +204,24 @@ none_left (e ∷ es) true wait p y q d =
     cc
 
 -- a token was fed, where the stack of frames was given room before
-pub feeds_won : {T U E F : Type 0} (es mid es' : List Entry) (z : Bool) (p p' : Page) (fs mfs fs' : List Frame) (b n : Option (List ℕ)) (t : Tok) (u : T) (v : U) →
-    mfs ≡ fs → toks_of mid ≡ toks_of es ++ t ∷ [] → z ≡ false → sizes_of mid ≡ map size_of_scan (map (at_end z) (scans (toks_of mid))) → Prints_on {E = E} z mid p mfs b (Ok u) es' p' fs' n → Feeds {E = F} es p fs b (Ok v) es' p' fs' n t
-feeds_won es mid es' true p p' fs mfs fs' b n t u v f k y q h = cc
-feeds_won es mid es' false p p' fs mfs fs' b n t u v f k y q h = record {
-  ok = λ content s r. h.ok content (s ++ t ∷ []) (running_fed es mid p mfs b content s t k (sized_so false mid y q) (subst (λ (x : List Frame). Running false es p x b content s) (sym f) r));
+fed_first : (es mid : List Entry) (p mp : Line) (fs mfs : List Frame) (w : Option (List ℕ)) (content : List ℕ) (s : List Tok) (t : Tok) → mp ≡ p → mfs ≡ fs → toks_of mid ≡ toks_of es ++ t ∷ [] →
+    sizes_of mid ≡ map size_of_scan (map (at_end false) (scans (toks_of mid))) → Running false es p fs w content s → Running false mid mp mfs w content (s ++ t ∷ [])
+fed_first es mid p mp fs mfs w content s t g f k q r =
+    running_fed es mid mp mfs w content s t k (sized_so false mid refl q)
+    (subst (λ (y : Line). Running false es y mfs w content s) (sym g) (subst (λ (x : List Frame). Running false es p x w content s) (sym f) r))
+
+pub feeds_won : {T U E F : Type 0} (es mid es' : List Entry) (z : Bool) (p mp p' : Line) (fs mfs fs' : List Frame) (b n : Option (List ℕ)) (t : Tok) (u : T) (v : U) → mp ≡ p → mfs ≡ fs → toks_of mid ≡ toks_of es ++ t ∷ [] → z ≡ false →
+    sizes_of mid ≡ map size_of_scan (map (at_end z) (scans (toks_of mid))) → Prints_on {E = E} z mid mp mfs b (Ok u) es' p' fs' n → Feeds {E = F} es p fs b (Ok v) es' p' fs' n t
+feeds_won es mid es' true p mp p' fs mfs fs' b n t u v g f k y q h = cc
+feeds_won es mid es' false p mp p' fs mfs fs' b n t u v g f k y q h = record {
+  ok = λ content s r. h.ok content (s ++ t ∷ []) (fed_first es mid p mp fs mfs b content s t g f k q r);
   err = tt;
 }
 
-pub feeds_lost : {T U E F : Type 0} (es mid es' : List Entry) (z : Bool) (p p' : Page) (fs mfs fs' : List Frame) (b n : Option (List ℕ)) (t : Tok) (e : E) (f : F) →
-    mfs ≡ fs → toks_of mid ≡ toks_of es ++ t ∷ [] → z ≡ false → sizes_of mid ≡ map size_of_scan (map (at_end z) (scans (toks_of mid))) → Prints_on {T = T} z mid p mfs b (Err e) es' p' fs' n → Feeds {T = U} es p fs b (Err f) es' p' fs' n t
-feeds_lost es mid es' true p p' fs mfs fs' b n t e f m k y q h = cc
-feeds_lost es mid es' false p p' fs mfs fs' b n t e f m k y q h = record {
+pub feeds_lost : {T U E F : Type 0} (es mid es' : List Entry) (z : Bool) (p mp p' : Line) (fs mfs fs' : List Frame) (b n : Option (List ℕ)) (t : Tok) (e : E) (f : F) → mp ≡ p → mfs ≡ fs → toks_of mid ≡ toks_of es ++ t ∷ [] → z ≡ false →
+    sizes_of mid ≡ map size_of_scan (map (at_end z) (scans (toks_of mid))) → Prints_on {T = T} z mid mp mfs b (Err e) es' p' fs' n → Feeds {T = U} es p fs b (Err f) es' p' fs' n t
+feeds_lost es mid es' true p mp p' fs mfs fs' b n t e f g m k y q h = cc
+feeds_lost es mid es' false p mp p' fs mfs fs' b n t e f g m k y q h = record {
   ok = tt;
-  err = λ content s r. h.err content (s ++ t ∷ []) (running_fed es mid p mfs b content s t k (sized_so false mid y q) (subst (λ (x : List Frame). Running false es p x b content s) (sym m) r));
+  err = λ content s r. h.err content (s ++ t ∷ []) (fed_first es mid p mp fs mfs b content s t g m k q r);
 }

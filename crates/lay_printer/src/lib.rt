@@ -24,17 +24,17 @@
 #![tactic(auto)]
 
 pub mod close;
+pub mod engine;
 pub mod frames;
 pub mod laws;
+pub mod line;
 pub mod page;
 pub mod press;
-pub mod print;
 pub mod printer;
-pub mod put;
 pub mod queue;
 
+pub use engine::PrintError;
 pub use press::{Press, PrintFault, Printer};
-pub use print::PrintError;
 pub use printer::Core;
 
 #[cfg(test)]

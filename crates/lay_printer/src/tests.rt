@@ -7,7 +7,7 @@ ghost use Rattle.lay_stream.specs.Fed.{Did};
 ghost use Rattle.lay_printer.specs.Errors.{Blames};
 
 use crate::press::{Press, Printer};
-use crate::print::PrintError;
+use crate::engine::PrintError;
 use crate::printer::Core;
 use lay_io::{Lent, MemorySink, QuietSink, Sink};
 use lay_stream::{Emit, plain};
