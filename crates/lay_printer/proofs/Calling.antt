@@ -28,7 +28,7 @@ pub runs_new : (c : Printing) (w : Option (List ℕ)) (content : List ℕ) → c
 runs_new c w content e z g a b d f h = record {
   running = record {
     layout = begun;
-    holds = subst (λ (x : List Entry). Holds [] x begun) (sym e) (record { printed = []; waits = []; all = refl; are_sized = refl; small = omega arith; shown = λ r. refl });
+    holds = subst (λ (x : List Entry). Holds false [] x begun) (sym e) (record { printed = []; waits = []; all = refl; are_sized = refl; small = omega arith; shown = λ r f. refl });
     at = record { frames_are = f; is = record { pending = a; room = b; small = omega arith; used = d } };
     wrote = h;
   };

@@ -40,11 +40,3 @@ fed_end i acc cur w ms h =
     subst (λ (x : List Scan). Fits i acc (cur - 1) (cur - 1) x ms) (sym (scans_append w tok.End))
     (fits_still i acc (cur - 1) (cur - 1) 0 (map leave (scans w)) ms
     (subst (λ (x : ℕ). Fits i acc x (cur - 1) (map leave (scans w)) ms) e (fits_leave i acc cur cur (scans w) ms h)))
-
--- entries are told by their tokens, where their sizes are those of the scans
-pub sized_from : (es : List Entry) → sizes_of es ≡ map size_of_scan (scans (toks_of es)) → es ≡ sized (toks_of es)
-sized_from [] h = refl
-sized_from (e ∷ es) h =
-    let a : e.size ≡ size_of e.tok (toks_of es) = cc in
-    let b : sizes_of es ≡ map size_of_scan (scans (toks_of es)) = cc in
-    ap (λ (z : Size). record { tok = e.tok; size = z } ∷ es) a ∙ ap (λ (x : List Entry). record { tok = e.tok; size = size_of e.tok (toks_of es) } ∷ x) (sized_from es b)

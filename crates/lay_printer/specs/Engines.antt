@@ -50,18 +50,6 @@ pub record Stays (old new : Engine) : Type 0 where
   pub number : next_of new.queue.ring.first new.queue.ring.entries ≡ next_of old.queue.ring.first old.queue.ring.entries
   pub room : room_of old ≤ room_of new
 
--- It was fed nothing.
-pub record Fresh (e : Engine) : Type 0 where
-  pub entries : e.queue.ring.entries ≡ []
-  pub first : e.queue.ring.first ≡ 0
-  pub groups : e.queue.groups ≡ 0
-  pub ended : e.queue.ended ≡ false
-  pub waiting : e.queue.waiting ≡ 0
-  pub pending : e.page.line.pending ≡ 0
-  pub space : e.page.line.room ≡ 89
-  pub used : e.page.line.used ≡ 0
-  pub frames : e.page.frames.frames ≡ []
-
 -- What holds of a printer between calls. While none has failed, tokens may come, and no more text waits than the space.
 pub record Sound (e : Engine) (failed : Option PrintError) (spare : ℕ) : Type 0 where
   pub live : failed ≡ None → e.queue.ended ≡ false

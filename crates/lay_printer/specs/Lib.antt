@@ -6,7 +6,6 @@ pub mod Queued
 pub mod Errors
 pub mod Printers
 pub mod Steps
-pub mod Framed
 pub mod Depth
 pub mod Sizes
 pub mod Texts

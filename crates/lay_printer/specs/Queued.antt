@@ -9,16 +9,10 @@ use Rattle.lay_ring.specs.declared.entry.Size.TheVariants.{Unknown, Known, Force
 use Rattle.lay_ring.specs.declared.entry.Entry.{Entry}
 use Rattle.lay_printer.specs.declared.close.Note.{Note}
 use Rattle.lay_printer.specs.declared.line.Line.{Line}
-use Rattle.lay_printer.specs.Scan.{Scan, Stopped, Going, size_of_scan, waiting, cap, Holds, HoldsAtEnd}
+use Rattle.lay_printer.specs.Scan.{at_end, size_of_scan, waiting, cap, MayFollow, Holds}
 use Rattle.lay_printer.specs.Notes.{scans, Fits}
 use Rattle.lay_printer.specs.Closed.{toks_of, sizes_of}
 use Rattle.lay_printer.specs.Pages.{Is, Wrote, Cut}
-
--- when no more tokens come, each measure has ended
-abbrev pub at_end : Bool → Scan → Scan
-at_end false c = c
-at_end true (Stopped n) = Stopped n
-at_end true (Going n d) = Stopped n
 
 -- the number that the next entry gets
 abbrev pub next_of : ℕ → List Entry → ℕ
@@ -62,19 +56,10 @@ pub record Prints {T E : Type 0} (line : Line) (frames : List Frame) (before : O
   pub ok : OnOk result ((content : List ℕ) (m : Layout) → At line frames m → Wrote before content m.state.text → At line' frames' (act tok big m) × Wrote now content (act tok big m).state.text)
   pub err : OnErr result ((content : List ℕ) (m : Layout) → At line frames m → Wrote before content m.state.text → Cut now content (act tok big m).state.text)
 
-abbrev pub HoldsBy : Bool → List Tok → List Entry → Layout → Type 0
-HoldsBy false s es m = Holds s es m
-HoldsBy true s es m = HoldsAtEnd s es m
-
--- what may follow
-abbrev pub MayFollow : Bool → List Tok → Type 0
-MayFollow false r = Unit {0}
-MayFollow true r = r ≡ []
-
 -- The printer holds the tokens s of a stream, over a sink that had the content.
 pub record Running (ended : Bool) (entries : List Entry) (line : Line) (frames : List Frame) (written : Option (List ℕ)) (content : List ℕ) (s : List Tok) : Type 0 where
   pub layout : Layout
-  pub holds : HoldsBy ended s entries layout
+  pub holds : Holds ended s entries layout
   pub at : At line frames layout
   pub wrote : Wrote written content layout.state.text
 

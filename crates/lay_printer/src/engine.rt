@@ -5,14 +5,12 @@ ghost use Rattle.lay_io.specs.Faults.{HasCause, SameLoan};
 ghost use Rattle.lay_printer.specs.Depth.{open_in};
 ghost use Rattle.lay_printer.specs.Queued.{Decided, Prints_on, Feeds, Ends, next_of};
 
-use crate::frames::Frames;
 use crate::line::Line;
 use crate::page::Page;
 use crate::queue::Queue;
 use lay_io::{Failed, Sink};
 use lay_ring::Size;
 use lay_token::{NoMemory, Tok};
-use std::alloc::Global;
 
 /// Why a call of a printer failed.
 #[derive(Clone, Copy, Debug, PartialEq, Eq)]
@@ -43,26 +41,9 @@ fn exceeds(line: &Line, size: u64) -> bool
 }
 
 impl Engine {
-    ghost use Rattle.lay_printer.specs.Engines.{Comes, Fresh, Stays, room_of};
+    ghost use Rattle.lay_printer.specs.Engines.{Comes, Stays, room_of};
     ghost use Rattle.lay_printer.specs.Errors.{Blames};
     ghost use Rattle.lay_printer.specs.declared.engine.PrintError.TheVariants.{WriteFailed};
-
-    /// Nothing waits, and nothing is printed.
-    pub fn new(alloc: Global) -> Result<Engine, NoMemory>
-        ensures { IfOk result (λ e. Fresh e) }
-    {
-        let queue = Queue::new(alloc)?;
-        let line = Line {
-            pending: 0,
-            room: 89,
-            used: 0,
-        };
-        let frames = Frames::new(alloc);
-        Ok(Engine {
-            queue,
-            page: Page { line, frames },
-        })
-    }
 
     /// A token is fed: it waits, and then what is decided is printed.
     pub fn feed<K: Sink>(&mut self, sink: &mut K, tok: Tok) -> Result<(), PrintError>

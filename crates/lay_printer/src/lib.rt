@@ -23,15 +23,15 @@
 //! the sink has grown by a front of the text.
 #![tactic(auto)]
 
-pub mod close;
-pub mod engine;
-pub mod frames;
+mod close;
+mod engine;
+mod frames;
 pub mod laws;
-pub mod line;
-pub mod page;
-pub mod press;
-pub mod printer;
-pub mod queue;
+mod line;
+mod page;
+mod press;
+mod printer;
+mod queue;
 
 pub use engine::PrintError;
 pub use press::{Press, PrintFault, Printer};

@@ -10,6 +10,10 @@ ghost use Rattle.lay_printer.specs.declared.engine.PrintError.{PrintError};
 ghost use Rattle.lay_printer.specs.declared.engine.PrintError.TheVariants.{WriteFailed};
 
 use crate::engine::{Engine, PrintError};
+use crate::frames::Frames;
+use crate::line::Line;
+use crate::page::Page;
+use crate::queue::Queue;
 use lay_io::{Failed, Sink};
 use lay_token::{Break, NoMemory, Text, Tok};
 use std::alloc::Global;
@@ -53,10 +57,17 @@ impl Core {
         ensures groups { IfOk result (λ c. c.groups ≡ 0) }
         ensures runs { IfOk result (λ c. (written : _) → RunsFresh c written) }
     {
-        let engine = Engine::new(alloc)?;
+        let queue = Queue::new(alloc)?;
+        let line = Line {
+            pending: 0,
+            room: 89,
+            used: 0,
+        };
+        let frames = Frames::new(alloc);
+        let page = Page { line, frames };
         Ok(Core {
             alloc,
-            engine,
+            engine: Engine { queue, page },
             failed: None,
             spare: 0,
         })

@@ -3,9 +3,9 @@ ghost use Rattle.std.specs.Prelude.{◌≡◌, ℕ, ◌+◌, ◌-◌, ◌%◌, �
 ghost use Rattle.lay_token.specs.declared.layout.Tok.TheVariants as tok;
 ghost use Rattle.lay_token.specs.Document.{bytes_of_mark};
 ghost use Rattle.lay_printer.specs.Closed.{toks_of, sizes_of};
-ghost use Rattle.lay_printer.specs.Scan.{text_length, size_of_scan, waiting as sum_waiting, cap};
+ghost use Rattle.lay_printer.specs.Scan.{at_end, text_length, size_of_scan, waiting as sum_waiting, cap};
 ghost use Rattle.lay_printer.specs.Notes.{Fits, Fits-prop, scans};
-ghost use Rattle.lay_printer.specs.Queued.{at_end, notes_after, next_of};
+ghost use Rattle.lay_printer.specs.Queued.{notes_after, next_of};
 ghost use Rattle.lay_token.specs.Machine.{IsNested};
 
 use crate::close::{CAP, Note, close};
