@@ -1,13 +1,10 @@
 -- A token is fed: the notes fit the scans of the tokens that wait again.
-use Rattle.std.proofs.Common.{◌≡◌, ℕ, suc, ◌+◌, ◌-◌, ◌≤◌, ◌%◌, ◌^◌, min, List, [], ◌∷◌, ◌++◌, map, length, refl, sym, ap, ◌∙◌, subst, arith}
+use Rattle.std.proofs.Common.{◌≡◌, ℕ, suc, ◌+◌, ◌-◌, ◌≤◌, ◌%◌, ◌^◌, min, List, [], ◌∷◌, ◌++◌, map, length, refl, sym, ap, subst, arith}
 use Rattle.lay_token.specs.declared.layout.Tok.{Tok}
 use Rattle.lay_token.specs.declared.layout.Tok.TheVariants as tok
-use Rattle.lay_ring.specs.declared.entry.Size.{Size}
-use Rattle.lay_ring.specs.declared.entry.Entry.{Entry}
 use Rattle.lay_printer.specs.declared.close.Note.{Note}
-use Rattle.lay_printer.specs.Scan.{Scan, size_of_scan, size_of, sized, cap}
+use Rattle.lay_printer.specs.Scan.{Scan, cap}
 use Rattle.lay_printer.specs.Notes.{scans, grow, deepen, leave, Fits}
-use Rattle.lay_printer.specs.Closed.{toks_of, sizes_of}
 use Rattle.lay_printer.proofs.WriteBack.{scans_append, fits_grow, fits_deepen, fits_leave, fits_still, fits_push}
 
 length_scans_of : (w : List Tok) → length (scans w) ≡ length w

@@ -1,13 +1,12 @@
 -- What has been written is what is shown at token j, whatever follows; and each size is a measure.
-use Rattle.std.proofs.Common.{pos, ◌≡◌, ℕ, suc, ◌≤◌, min, Bool, false, List, [], ◌∷◌, ◌++◌, length, drop, Option, refl, sym, ap, ◌∙◌, subst, append_assoc, length-append, arith}
+use Rattle.std.proofs.Common.{◌≡◌, ℕ, suc, ◌≤◌, Bool, false, List, [], ◌∷◌, ◌++◌, length, drop, Option, refl, sym, ap, ◌∙◌, subst, append_assoc, length-append, arith}
 use Rattle.std.proofs.Math.Seq.{take-append_seam, drop-append_seam}
 use Rattle.lay_token.specs.declared.layout.Frame.{Frame}
 use Rattle.lay_token.specs.declared.layout.Tok.{Tok}
 use Rattle.lay_token.specs.Machine.{Layout, play, after, begun}
-use Rattle.lay_ring.specs.declared.entry.Size.TheVariants.{Known}
 use Rattle.lay_ring.specs.declared.entry.Entry.{Entry}
 use Rattle.lay_printer.specs.declared.line.Line.{Line}
-use Rattle.lay_printer.specs.Scan.{Scan, Stopped, Going, size_of_scan, sized, with_rest, cap, Holds}
+use Rattle.lay_printer.specs.Scan.{sized, Holds}
 use Rattle.lay_printer.specs.Pages.{Is, Wrote}
 use Rattle.lay_printer.specs.Closed.{toks_of}
 use Rattle.lay_printer.specs.Queued.{Running}

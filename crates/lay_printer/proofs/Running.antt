@@ -1,5 +1,5 @@
 -- The printer holds tokens, and prints them.
-use Rattle.std.proofs.Common.{pos, negsuc, ◌≡◌, ℕ, ◌+◌, min, nat_lt, Bool, true, false, List, [], ◌∷◌, ◌++◌, map, drop, slice_get, Option, Some, None, Result, Ok, Err, OnOk, refl, sym, ap, ◌∙◌, subst, append_assoc, append-nil, arith}
+use Rattle.std.proofs.Common.{pos, negsuc, ◌≡◌, ℕ, ◌+◌, nat_lt, Bool, true, false, List, [], ◌∷◌, ◌++◌, map, drop, slice_get, Option, Some, None, Result, Ok, Err, OnOk, refl, sym, ap, ◌∙◌, subst, append_assoc, append-nil, arith}
 use Rattle.std.proofs.lemmas.Bool.Decides.{nat_tests}
 use Rattle.lay_token.specs.declared.layout.Frame.{Frame}
 use Rattle.lay_token.specs.declared.layout.Tok.{Tok}
@@ -127,8 +127,8 @@ prints_front x es es' e p p' fs fs' b n wait big res a w d k =
     let w' : wait ≡ waiting (e ∷ es') = w ∙ ap waiting a in
     prints_by x es es' e.tok p p' fs fs' b n big res
     (λ s m i h.
-        let q = subst (λ (y : List Entry). Holds x s y m) a h in
-        step_at x s e.tok e.size es' m p wait big i w' d' (front_size x e.tok e.size es' q.waits q.are_sized) q) k
+    let q = subst (λ (y : List Entry). Holds x s y m) a h in
+    step_at x s e.tok e.size es' m p wait big i w' d' (front_size x e.tok e.size es' q.waits q.are_sized) q) k
 
 -- a token wasn't fed
 pub feeds_not : {T E : Type 0} (es es' : List Entry) (p p' : Line) (fs fs' : List Frame) (b : Option (List ℕ)) (t : Tok) (f : E) → Feeds {T = T} es p fs b (Err f) es' p' fs' b t

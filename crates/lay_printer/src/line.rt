@@ -91,12 +91,7 @@ impl Line {
     }
 
     /// A break that is a newline.
-    fn newline<K: Sink>(
-        &mut self,
-        sink: &mut K,
-        brk: Break,
-        indent: u64,
-    ) -> Result<(), Failed>
+    fn newline<K: Sink>(&mut self, sink: &mut K, brk: Break, indent: u64) -> Result<(), Failed>
         requires { indent ≤ 240 }
         ensures moves { Moves self.old (K.written sink.old) result self.new (K.written sink.new) (on_newline brk indent) }
         ensures cause { HasCause (K.faults sink.old) (K.faults sink.new) result }

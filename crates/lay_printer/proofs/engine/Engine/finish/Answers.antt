@@ -1,4 +1,4 @@
-use Rattle.std.proofs.Common.{rules, ◌∙◌}
+use Rattle.std.proofs.Common.{◌∙◌}
 use Rattle.lay_printer.proofs.Running.{ends_on, none_left, sized_so}
 use Rattle.lay_printer.proofs.engine.Engine.finish.Goals as goal
 

@@ -1,6 +1,5 @@
-use Rattle.std.proofs.Common.{◌≡◌, ◌∷◌, length, sym, ap, ◌∙◌, List, arith}
+use Rattle.std.proofs.Common.{◌∷◌, sym, ap, ◌∙◌, List}
 use Rattle.lay_ring.specs.declared.entry.Entry.{Entry}
-use Rattle.lay_printer.proofs.Depths.{open_printed}
 use Rattle.lay_printer.proofs.Running.{prints_front, front_is}
 use Rattle.lay_printer.proofs.engine.Engine.print_front.Goals as goal
 

@@ -1,4 +1,4 @@
-use Rattle.std.proofs.Common.{ap, length, ◌∙◌, arith}
+use Rattle.std.proofs.Common.{ap, length, arith}
 use Rattle.lay_printer.specs.declared.queue.Queue.{Queue}
 use Rattle.lay_printer.specs.Engines.{room_in}
 use Rattle.lay_printer.proofs.Depths.{open_le}
