@@ -1,5 +1,5 @@
 -- How many groups are open.
-use Rattle.std.proofs.Common.{◌≡◌, ℕ, zero, suc, ◌+◌, ◌≤◌, List, [], ◌∷◌, ◌++◌, length, Result, Ok, Err, OnOk, refl, sym, ap, ◌∙◌, arith}
+use Rattle.std.proofs.Common.{◌≡◌, ℕ, zero, suc, ◌+◌, ◌≤◌, List, [], ◌∷◌, ◌++◌, length, refl, sym, ap, ◌∙◌, arith}
 use Rattle.lay_token.specs.declared.layout.Frame.{Frame}
 use Rattle.lay_token.specs.declared.layout.Tok.{Tok}
 use Rattle.lay_token.specs.declared.layout.Tok.TheVariants as tok
@@ -31,12 +31,10 @@ open_le es fs = omega (arith, opened_le (toks_of es) (length fs), length_toks es
 pub open_printed : (es es' : List Entry) (e : Entry) (fs fs' : List Frame) → es ≡ e ∷ es' → length fs' ≡ opened (e.tok ∷ []) (length fs) → open_in es' fs' ≡ open_in es fs
 open_printed es es' e fs fs' a d = ap (opened (toks_of es')) d ∙ sym (opened_append (e.tok ∷ []) (toks_of es') (length fs)) ∙ ap (λ (x : List Entry). opened (toks_of x) (length fs)) (sym a)
 
-pub open_printed_on : {T E : Type 0} (r : Result T E) (es es' : List Entry) (e : Entry) (fs fs' : List Frame) → es ≡ e ∷ es' → OnOk r (length fs' ≡ opened (e.tok ∷ []) (length fs)) → OnOk r (open_in es' fs' ≡ open_in es fs)
-open_printed_on (Ok x) es es' e fs fs' a d = open_printed es es' e fs fs' a d
-open_printed_on (Err x) es es' e fs fs' a d = tt
+-- a token waits
+pub open_more : (es es' : List Entry) (fs fs' : List Frame) (t : Tok) (g g' : ℕ) → g ≡ open_in es fs → fs' ≡ fs → toks_of es' ≡ toks_of es ++ t ∷ [] → g' ≡ opened (t ∷ []) g → g' ≡ open_in es' fs'
+open_more es es' fs fs' t g g' a f e h =
+    h ∙ ap (opened (t ∷ [])) a ∙ sym (opened_append (toks_of es) (t ∷ []) (length fs)) ∙ ap (λ (x : List Tok). opened x (length fs)) (sym e) ∙ ap (λ (x : List Frame). opened (toks_of es') (length x)) (sym f)
 
--- a token was fed, and then entries were printed
-pub open_fed : (es mid es' : List Entry) (fs mfs fs' : List Frame) (t : Tok) (g g' : ℕ) → g ≡ open_in es fs → mfs ≡ fs → toks_of mid ≡ toks_of es ++ t ∷ [] → open_in es' fs' ≡ open_in mid mfs →
-    g' ≡ opened (t ∷ []) g → g' ≡ open_in es' fs'
-open_fed es mid es' fs mfs fs' t g g' a f e d h =
-    h ∙ ap (opened (t ∷ [])) a ∙ sym (opened_append (toks_of es) (t ∷ []) (length fs)) ∙ ap (λ (x : List Tok). opened x (length fs)) (sym e) ∙ ap (λ (x : List Frame). opened (toks_of mid) (length x)) (sym f) ∙ sym d
+pub open_same : (es es' : List Entry) (fs : List Frame) → toks_of es' ≡ toks_of es → open_in es' fs ≡ open_in es fs
+open_same es es' fs e = ap (λ (x : List Tok). opened x (length fs)) e

@@ -1,13 +1,10 @@
 -- A token is fed: the notes fit the scans of the tokens that wait again.
-use Rattle.std.proofs.Common.{◌≡◌, ℕ, suc, ◌+◌, ◌-◌, ◌≤◌, ◌%◌, ◌^◌, min, List, [], ◌∷◌, ◌++◌, map, length, refl, sym, ap, ◌∙◌, subst, arith}
+use Rattle.std.proofs.Common.{◌≡◌, ℕ, suc, ◌+◌, ◌-◌, ◌≤◌, ◌%◌, ◌^◌, min, List, [], ◌∷◌, ◌++◌, map, length, refl, sym, ap, subst, arith}
 use Rattle.lay_token.specs.declared.layout.Tok.{Tok}
 use Rattle.lay_token.specs.declared.layout.Tok.TheVariants as tok
-use Rattle.lay_ring.specs.declared.entry.Size.{Size}
-use Rattle.lay_ring.specs.declared.entry.Entry.{Entry}
 use Rattle.lay_printer.specs.declared.close.Note.{Note}
-use Rattle.lay_printer.specs.Scan.{Scan, size_of_scan, size_of, sized, cap}
+use Rattle.lay_printer.specs.Scan.{Scan, cap}
 use Rattle.lay_printer.specs.Notes.{scans, grow, deepen, leave, Fits}
-use Rattle.lay_printer.specs.Closed.{toks_of, sizes_of}
 use Rattle.lay_printer.proofs.WriteBack.{scans_append, fits_grow, fits_deepen, fits_leave, fits_still, fits_push}
 
 length_scans_of : (w : List Tok) → length (scans w) ≡ length w
@@ -40,11 +37,3 @@ fed_end i acc cur w ms h =
     subst (λ (x : List Scan). Fits i acc (cur - 1) (cur - 1) x ms) (sym (scans_append w tok.End))
     (fits_still i acc (cur - 1) (cur - 1) 0 (map leave (scans w)) ms
     (subst (λ (x : ℕ). Fits i acc x (cur - 1) (map leave (scans w)) ms) e (fits_leave i acc cur cur (scans w) ms h)))
-
--- entries are told by their tokens, where their sizes are those of the scans
-pub sized_from : (es : List Entry) → sizes_of es ≡ map size_of_scan (scans (toks_of es)) → es ≡ sized (toks_of es)
-sized_from [] h = refl
-sized_from (e ∷ es) h =
-    let a : e.size ≡ size_of e.tok (toks_of es) = cc in
-    let b : sizes_of es ≡ map size_of_scan (scans (toks_of es)) = cc in
-    ap (λ (z : Size). record { tok = e.tok; size = z } ∷ es) a ∙ ap (λ (x : List Entry). record { tok = e.tok; size = size_of e.tok (toks_of es) } ∷ x) (sized_from es b)

@@ -12,3 +12,4 @@ pub mod Through
 pub mod Lockstep
 pub mod Measures
 pub mod Depths
+pub mod Staying

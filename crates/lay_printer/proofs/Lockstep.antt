@@ -1,48 +1,43 @@
 -- What has been written is what is shown at token j, whatever follows; and each size is a measure.
-use Rattle.std.proofs.Common.{pos, ◌≡◌, ℕ, suc, ◌≤◌, min, false, List, [], ◌∷◌, ◌++◌, length, drop, Option, refl, sym, ap, ◌∙◌, subst, append_assoc, length-append, arith}
+use Rattle.std.proofs.Common.{◌≡◌, ℕ, suc, ◌≤◌, Bool, false, List, [], ◌∷◌, ◌++◌, length, drop, Option, refl, sym, ap, ◌∙◌, subst, append_assoc, length-append, arith}
 use Rattle.std.proofs.Math.Seq.{take-append_seam, drop-append_seam}
 use Rattle.lay_token.specs.declared.layout.Frame.{Frame}
 use Rattle.lay_token.specs.declared.layout.Tok.{Tok}
 use Rattle.lay_token.specs.Machine.{Layout, play, after, begun}
-use Rattle.lay_ring.specs.declared.entry.Size.TheVariants.{Known}
 use Rattle.lay_ring.specs.declared.entry.Entry.{Entry}
-use Rattle.lay_printer.specs.declared.page.Page.{Page}
-use Rattle.lay_printer.specs.Scan.{Scan, Stopped, Going, size_of_scan, sized, with_rest, cap, Holds}
+use Rattle.lay_printer.specs.declared.line.Line.{Line}
+use Rattle.lay_printer.specs.Scan.{sized, Holds}
 use Rattle.lay_printer.specs.Pages.{Is, Wrote}
 use Rattle.lay_printer.specs.Closed.{toks_of}
 use Rattle.lay_printer.specs.Queued.{Running}
 use Rattle.lay_printer.specs.Steps.{at, InStep}
 
-length_sized : (w : List Tok) → length (sized w) ≡ length w
+length_sized : (w : List Tok) → length (sized false w) ≡ length w
 length_sized [] = refl
 length_sized (t ∷ w) = ap suc (length_sized w)
 
-pub toks_sized : (w : List Tok) → toks_of (sized w) ≡ w
-toks_sized [] = refl
-toks_sized (t ∷ w) = ap (λ (x : List Tok). t ∷ x) (toks_sized w)
+pub toks_sized : (e : Bool) (w : List Tok) → toks_of (sized e w) ≡ w
+toks_sized e [] = refl
+toks_sized e (t ∷ w) = ap (λ (x : List Tok). t ∷ x) (toks_sized e w)
 
-pub held_le : (s : List Tok) (es : List Entry) (m : Layout) → Holds s es m → length es ≤ length s
+pub held_le : (s : List Tok) (es : List Entry) (m : Layout) → Holds false s es m → length es ≤ length s
 held_le s es m h = omega (arith, ap length h.all, length-append h.printed h.waits, ap length h.are_sized, length_sized h.waits)
 
-pub after_at : (s : List Tok) (es : List Entry) (m : Layout) → Holds s es m → (r : List Tok) → after (s ++ r) (at s es) ≡ m
+pub after_at : (s : List Tok) (es : List Entry) (m : Layout) → Holds false s es m → (r : List Tok) → after (s ++ r) (at s es) ≡ m
 after_at s es m h r =
     let j : at s es ≡ length h.printed = omega (arith, ap length h.all, length-append h.printed h.waits, ap length h.are_sized, length_sized h.waits) in
     let e : s ++ r ≡ h.printed ++ (h.waits ++ r) = ap (λ (x : List Tok). x ++ r) (sym h.all) ∙ append_assoc h.printed h.waits r in
     ap (λ (k : ℕ). after (s ++ r) k) j ∙ ap (λ (x : List Tok). after x (length h.printed)) e
     ∙ ap (λ (x : List Tok). play x (drop (length h.printed) (h.printed ++ (h.waits ++ r))) begun) (take-append_seam h.printed (h.waits ++ r))
-    ∙ ap (λ (x : List Tok). play h.printed x begun) (drop-append_seam h.printed (h.waits ++ r)) ∙ h.shown r
+    ∙ ap (λ (x : List Tok). play h.printed x begun) (drop-append_seam h.printed (h.waits ++ r)) ∙ h.shown r tt
 
-pub in_step : (es : List Entry) (p : Page) (fs : List Frame) (w : Option (List ℕ)) (content : List ℕ) (s : List Tok) → Running false es p fs w content s → (r : List Tok) → InStep es p w content s r
+pub in_step : (es : List Entry) (p : Line) (fs : List Frame) (w : Option (List ℕ)) (content : List ℕ) (s : List Tok) → Running false es p fs w content s → (r : List Tok) → InStep es p w content s r
 in_step es p fs w content s h r =
     let e = after_at s es h.layout h.holds r in
     let k = h.holds in
     let j : at s es ≡ length k.printed = omega (arith, ap length k.all, length-append k.printed k.waits, ap length k.are_sized, length_sized k.waits) in
     record {
       grown = subst (λ (m : Layout). Wrote w content m.state.text) (sym e) h.wrote;
-      page = subst (λ (m : Layout). Is p m.state) (sym e) h.at.is;
-      waits = ap toks_of k.are_sized ∙ toks_sized k.waits ∙ sym (drop-append_seam k.printed k.waits) ∙ ap (λ (x : List Tok). drop (length k.printed) x) k.all ∙ ap (λ (i : ℕ). drop i s) (sym j);
+      line = subst (λ (m : Layout). Is p m.state) (sym e) h.at.is;
+      waits = ap toks_of k.are_sized ∙ toks_sized false k.waits ∙ sym (drop-append_seam k.printed k.waits) ∙ ap (λ (x : List Tok). drop (length k.printed) x) k.all ∙ ap (λ (i : ℕ). drop i s) (sym j);
     }
-
-known_scan : (c : Scan) (k : ℕ) → Known (pos k) ≡ size_of_scan c → (r : List Tok) → k ≡ min (with_rest c r) cap
-known_scan (Stopped n) k h r = cc
-known_scan (Going n d) k h r = cc

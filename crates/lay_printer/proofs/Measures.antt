@@ -31,7 +31,7 @@ unknown_going : (c : Scan) → size_of_scan c ≡ Unknown → has_stopped c ≡ 
 unknown_going (Stopped n) h = cc
 unknown_going (Going n d) h = refl
 
-unknown_open : (t : Tok) (ts : List Tok) → size_of t ts ≡ Unknown → IsOpen t ts
+unknown_open : (t : Tok) (ts : List Tok) → size_of false t ts ≡ Unknown → IsOpen t ts
 unknown_open (tok.Text t) ts h = cc
 unknown_open (tok.Break b) ts h = sym (stopped_end 0 ts) ∙ sym (stopped_widen (width_of_break b) (scan 0 ts)) ∙ unknown_going (scan_of (tok.Break b) ts) h
 unknown_open (tok.Begin c o) ts h = sym (stopped_end 1 ts) ∙ unknown_going (scan 1 ts) h
@@ -45,16 +45,16 @@ forced_scan : (c : Scan) → size_of_scan c ≢ Forced
 forced_scan (Stopped n) h = cc
 forced_scan (Going n d) h = cc
 
-measured_one : (t : Tok) (ts : List Tok) → IsMeasured (record { tok = t; size = size_of t ts }) ts
+measured_one : (t : Tok) (ts : List Tok) → IsMeasured (record { tok = t; size = size_of false t ts }) ts
 measured_one t ts = record {
   known = λ k h r. known_scan (scan_of t ts) k h r ∙ ap (λ (n : ℕ). pos (min n cap)) (sym (measure_scan t ts r));
   unknown = unknown_open t ts;
   never_forced = forced_scan (scan_of t ts);
 }
 
-measured_sized : (w : List Tok) → AreMeasured (sized w)
+measured_sized : (w : List Tok) → AreMeasured (sized false w)
 measured_sized [] = tt
-measured_sized (t ∷ w) = (subst (λ (x : List Tok). IsMeasured (record { tok = t; size = size_of t w }) x) (sym (toks_sized w)) (measured_one t w), measured_sized w)
+measured_sized (t ∷ w) = (subst (λ (x : List Tok). IsMeasured (record { tok = t; size = size_of false t w }) x) (sym (toks_sized false w)) (measured_one t w), measured_sized w)
 
-pub measured : (es : List Entry) (w : List Tok) → es ≡ sized w → AreMeasured es
+pub measured : (es : List Entry) (w : List Tok) → es ≡ sized false w → AreMeasured es
 measured es w e = subst (λ (x : List Entry). AreMeasured x) (sym e) (measured_sized w)

@@ -4,7 +4,7 @@ use Rattle.lay_token.specs.Document.{State, write, put_mark, skip}
 use Rattle.lay_token.specs.declared.layout.Break.{Break}
 use Rattle.lay_io.specs.Told.{GrewBy, GrewByPrefix}
 use Rattle.lay_io.specs.Calls.{Puts}
-use Rattle.lay_printer.specs.declared.page.Page.{Page}
+use Rattle.lay_printer.specs.declared.line.Line.{Line}
 use Rattle.lay_io.proofs.Growth.{grew_by-more, grew_by_prefix-more, grew_by_prefix-longer}
 use Rattle.lay_printer.specs.Pages.{Is, Wrote, Cut, Moves}
 use Rattle.lay_printer.proofs.Steps.{Grows}
@@ -20,7 +20,7 @@ replicate-add (suc m) n x =
     let e : suc (m + n) ≡ suc m + n = omega arith in
     ap (λ (y : List ℕ). x ∷ y) (replicate-add m n x) ∙ ap (λ (k : ℕ). replicate k x) e
 
-blanked : (p q : Page) (k : Break) (s : State) → q.pending ≡ min (p.pending + k.blank) 1000000 → q.used ≡ min (p.used + k.blank) 0x4000_0000_0000_0059 → q.room ≡ p.room → Is p s →
+blanked : (p q : Line) (k : Break) (s : State) → q.pending ≡ min (p.pending + k.blank) 1000000 → q.used ≡ min (p.used + k.blank) 0x4000_0000_0000_0059 → q.room ≡ p.room → Is p s →
     Is q (record { text = s.text; pending = min (s.pending + k.blank) 1000000; room = s.room; used = s.used + k.blank })
 blanked p q k s e f g i = record { pending = omega (arith, i.pending); room = omega (arith, i.room); small = i.small; used = omega (arith, i.used) }
 
@@ -48,19 +48,19 @@ cut_part before now content t piece w g =
     (drop g.0 piece, ap (λ (x : List ℕ). t ++ x) (sym (take-append-drop g.0 piece)) ∙ sym (append_assoc t (take g.0 piece) (drop g.0 piece)))
 
 -- one more, after one that answered Ok
-pub moves_then : {T U E F : Type 0} (p q r : Page) (b m n : Option (List ℕ)) (x : T) (res : Result U F) (f g : State → State) →
+pub moves_then : {T U E F : Type 0} (p q r : Line) (b m n : Option (List ℕ)) (x : T) (res : Result U F) (f g : State → State) →
     Moves {E = E} p b (Ok x) q m f → Moves q m res r n g → Moves p b res r n (λ s. g (f s))
 moves_then p q r b m n x (Ok y) f g h k = record { ok = λ c s i w. let a = h.ok c s i w in k.ok c (f s) a.0 a.1; err = tt }
 moves_then p q r b m n x (Err y) f g h k = record { ok = tt; err = λ c s i w. let a = h.ok c s i w in k.err c (f s) a.0 a.1 }
 
 -- the same move by another name
-pub moves_as : {T E : Type 0} (p q : Page) (b n : Option (List ℕ)) (res : Result T E) (f g : State → State) → ((s : State) → f s ≡ g s) →
+pub moves_as : {T E : Type 0} (p q : Line) (b n : Option (List ℕ)) (res : Result T E) (f g : State → State) → ((s : State) → f s ≡ g s) →
     Moves p b res q n f → Moves p b res q n g
 moves_as p q b n (Ok y) f g e h = record { ok = λ c s i w. let a = h.ok c s i w in (subst (λ (t : State). Is q t) (e s) a.0, subst (λ (t : State). Wrote n c t.text) (e s) a.1); err = tt }
 moves_as p q b n (Err y) f g e h = record { ok = tt; err = λ c s i w. subst (λ (t : State). Cut n c t.text) (e s) (h.err c s i w) }
 
 -- blanks that wait are added, and then a mark is put
-pub moves_blanks : {T E : Type 0} (p q r : Page) (b n : Option (List ℕ)) (res : Result T E) (k : Break) →
+pub moves_blanks : {T E : Type 0} (p q r : Line) (b n : Option (List ℕ)) (res : Result T E) (k : Break) →
     q.pending ≡ min (p.pending + k.blank) 1000000 → q.used ≡ min (p.used + k.blank) 0x4000_0000_0000_0059 → q.room ≡ p.room →
     Moves q b res r n (put_mark k.instead) → Moves p b res r n (skip k)
 moves_blanks p q r b n (Ok y) k e f g h = record {
@@ -73,7 +73,7 @@ moves_blanks p q r b n (Err y) k e f g h = record {
 }
 
 -- the blanks weren't all written
-pub moves_no_blanks : {U E : Type 0} (p q : Page) (b n : Option (List ℕ)) (e : E) (res : Result U E) (bytes : List ℕ) → IsErrAnd res (λ y. y ≡ e) →
+pub moves_no_blanks : {U E : Type 0} (p q : Line) (b n : Option (List ℕ)) (e : E) (res : Result U E) (bytes : List ℕ) → IsErrAnd res (λ y. y ≡ e) →
     GrewByPrefix b n (replicate p.pending 32) → Moves p b res q n (write bytes)
 moves_no_blanks p q b n e (Ok y) bytes i h = absurd i
 moves_no_blanks p q b n e (Err y) bytes i h = record {
@@ -84,7 +84,7 @@ moves_no_blanks p q b n e (Err y) bytes i h = record {
 }
 
 -- the bytes weren't all written
-pub moves_no_bytes : {U E : Type 0} (p q : Page) (b m n : Option (List ℕ)) (e : E) (res : Result U E) (bytes : List ℕ) → IsErrAnd res (λ y. y ≡ e) →
+pub moves_no_bytes : {U E : Type 0} (p q : Line) (b m n : Option (List ℕ)) (e : E) (res : Result U E) (bytes : List ℕ) → IsErrAnd res (λ y. y ≡ e) →
     GrewBy b m (replicate p.pending 32) → GrewByPrefix m n bytes → Moves p b res q n (write bytes)
 moves_no_bytes p q b m n e (Ok y) bytes i h k = absurd i
 moves_no_bytes p q b m n e (Err y) bytes i h k = record {

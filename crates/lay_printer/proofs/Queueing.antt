@@ -9,10 +9,10 @@ use Rattle.lay_ring.specs.declared.entry.Size.{Size}
 use Rattle.lay_ring.specs.declared.entry.Size.TheVariants.{Unknown, Known}
 use Rattle.lay_ring.specs.declared.entry.Entry.{Entry}
 use Rattle.lay_printer.specs.declared.close.Note.{Note}
-use Rattle.lay_printer.specs.Scan.{Scan, Stopped, Going, size_of_scan, size_of, scan_of, waiting, text_length, cap}
+use Rattle.lay_printer.specs.Scan.{Scan, Stopped, Going, at_end, size_of_scan, scan_of, waiting, text_length, cap}
 use Rattle.lay_printer.specs.Notes.{scans, advance, stop, Fits}
 use Rattle.lay_printer.specs.Closed.{Left, Closed, toks_of, sizes_of}
-use Rattle.lay_printer.specs.Queued.{at_end, notes_after, Good}
+use Rattle.lay_printer.specs.Queued.{notes_after, Good}
 use Rattle.lay_printer.proofs.WriteBack.{scans_append, fed_break}
 use Rattle.lay_printer.proofs.Feeding.{fed_text, fed_begin, fed_end}
 
@@ -36,7 +36,7 @@ pub length_more : (es : List Entry) (e : Entry) → length (es ++ e ∷ []) ≡ 
 length_more [] e = refl
 length_more (x ∷ es) e = omega (arith, length_more es e)
 
-length_toks : (es : List Entry) → length (toks_of es) ≡ length es
+pub length_toks : (es : List Entry) → length (toks_of es) ≡ length es
 length_toks [] = refl
 length_toks (e ∷ es) = ap suc (length_toks es)
 
@@ -48,9 +48,9 @@ map_append : (a b : List Scan) → map size_of_scan (a ++ b) ≡ map size_of_sca
 map_append [] b = refl
 map_append (x ∷ a) b = ap (λ (y : List Size). size_of_scan x ∷ y) (map_append a b)
 
-sizes_fed : (x : Tok) (w : List Tok) → ((c : Scan) → size_of_scan (advance x c) ≡ size_of_scan c) → map size_of_scan (scans (w ++ x ∷ [])) ≡ map size_of_scan (scans w) ++ size_of x [] ∷ []
+sizes_fed : (x : Tok) (w : List Tok) → ((c : Scan) → size_of_scan (advance x c) ≡ size_of_scan c) → map size_of_scan (scans (w ++ x ∷ [])) ≡ map size_of_scan (scans w) ++ size_of_scan (scan_of x []) ∷ []
 sizes_fed x w h = ap (λ (y : List Scan). map size_of_scan y) (scans_append w x) ∙ map_append (map (advance x) (scans w)) (scan_of x [] ∷ [])
-    ∙ ap (λ (y : List Size). y ++ size_of x [] ∷ []) (map_map (advance x) (scans w) h)
+    ∙ ap (λ (y : List Size). y ++ size_of_scan (scan_of x []) ∷ []) (map_map (advance x) (scans w) h)
 
 same_text : (t : List ℕ) (c : Scan) → size_of_scan (advance (tok.Text t) c) ≡ size_of_scan c
 same_text t (Stopped n) = refl

@@ -1,5 +1,5 @@
 -- The printer holds tokens, and prints them.
-use Rattle.std.proofs.Common.{pos, negsuc, ◌≡◌, ℕ, ◌+◌, min, nat_lt, Bool, true, false, List, [], ◌∷◌, ◌++◌, map, drop, slice_get, Option, Some, None, Result, Ok, Err, OnOk, refl, sym, ap, ◌∙◌, subst, append_assoc, append-nil, arith}
+use Rattle.std.proofs.Common.{pos, negsuc, ◌≡◌, ℕ, ◌+◌, nat_lt, Bool, true, false, List, [], ◌∷◌, ◌++◌, map, drop, slice_get, Option, Some, None, Result, Ok, Err, OnOk, refl, sym, ap, ◌∙◌, subst, append_assoc, append-nil, arith}
 use Rattle.std.proofs.lemmas.Bool.Decides.{nat_tests}
 use Rattle.lay_token.specs.declared.layout.Frame.{Frame}
 use Rattle.lay_token.specs.declared.layout.Tok.{Tok}
@@ -8,19 +8,15 @@ use Rattle.lay_token.specs.Machine.{Layout, act, play, step, begun, text}
 use Rattle.lay_ring.specs.declared.entry.Size.{Size}
 use Rattle.lay_ring.specs.declared.entry.Size.TheVariants.{Unknown, Known, Forced}
 use Rattle.lay_ring.specs.declared.entry.Entry.{Entry}
-use Rattle.lay_printer.specs.declared.page.Page.{Page}
-use Rattle.lay_printer.specs.Scan.{Scan, Stopped, Going, size_of_scan, size_of, scan_of, sized, ended, waiting, cap, with_rest, Holds, HoldsAtEnd}
+use Rattle.lay_printer.specs.declared.line.Line.{Line}
+use Rattle.lay_printer.specs.Scan.{Scan, Stopped, Going, at_end, size_of_scan, size_of, scan_of, sized, waiting, MayFollow, Holds}
 use Rattle.lay_printer.specs.Notes.{scans}
 use Rattle.lay_printer.specs.Closed.{toks_of, sizes_of}
 use Rattle.lay_printer.specs.Pages.{Is, Wrote, Cut}
-use Rattle.lay_printer.specs.Queued.{at_end, HoldsBy, MayFollow, Running, Broken, Prints, Prints_on, Feeds, Ends, Says, Decided}
-use Rattle.lay_printer.proofs.Steps.{Grows, grows_play, fed_one, print_known, print_forced, print_ended, to_end, text_ended}
+use Rattle.lay_printer.specs.Queued.{Running, Broken, Prints, Prints_on, Feeds, Ends, Says, Decided}
+use Rattle.lay_printer.proofs.Steps.{Grows, grows_play, fed_one, print_known, print_forced, to_end, text_ended}
 use Rattle.lay_printer.proofs.Paging.{cut_more, wrote_cut}
-use Rattle.lay_printer.proofs.Feeding.{sized_from}
-
-toks_sized : (w : List Tok) → toks_of (sized w) ≡ w
-toks_sized [] = refl
-toks_sized (t ∷ w) = ap (λ (x : List Tok). t ∷ x) (toks_sized w)
+use Rattle.lay_printer.proofs.Lockstep.{toks_sized}
 
 play_append : (a b rest : List Tok) (m : Layout) → play (a ++ b) rest m ≡ play b rest (play a (b ++ rest) m)
 play_append [] b rest m = refl
@@ -34,116 +30,83 @@ grows_to p w m e =
     let g = grows_play w [] m in
     (g.0, ap (λ (l : Layout). l.state.text) (play_append p w [] begun ∙ ap (λ (l : Layout). play w [] l) k) ∙ g.1)
 
-grows_all : (s : List Tok) (es : List Entry) (m : Layout) → Holds s es m → (r : List Tok) → Grows m.state.text (text (s ++ r))
-grows_all s es m h r =
+grows_by : (e : Bool) (s : List Tok) (es : List Entry) (m : Layout) → Holds e s es m → (r : List Tok) → MayFollow e r → Grows m.state.text (text (s ++ r))
+grows_by e s es m h r f =
     subst (λ (x : List Tok). Grows m.state.text (text x)) (sym (append_assoc h.printed h.waits r) ∙ ap (λ (x : List Tok). x ++ r) h.all)
-    (grows_to h.printed (h.waits ++ r) m (h.shown r))
-
-grows_end : (s : List Tok) (es : List Entry) (m : Layout) → HoldsAtEnd s es m → Grows m.state.text (text s)
-grows_end s es m h = subst (λ (x : List Tok). Grows m.state.text (text x)) h.all (grows_to h.printed h.waits m h.shown)
-
-grows_by : (e : Bool) (s : List Tok) (es : List Entry) (m : Layout) → HoldsBy e s es m → (r : List Tok) → MayFollow e r → Grows m.state.text (text (s ++ r))
-grows_by false s es m h r f = grows_all s es m h r
-grows_by true s es m h r f = subst (λ (x : List Tok). Grows m.state.text (text x)) (sym (append-nil s) ∙ ap (λ (x : List Tok). s ++ x) (sym f)) (grows_end s es m h)
+    (grows_to h.printed (h.waits ++ r) m (h.shown r f))
 
 -- a sink that isn't written to has a front of the text
-pub running_broken : (es : List Entry) (p : Page) (fs : List Frame) (w : Option (List ℕ)) (content : List ℕ) (s u : List Tok) → Running false es p fs w content s → Broken false w content (s ++ u)
+pub running_broken : (es : List Entry) (p : Line) (fs : List Frame) (w : Option (List ℕ)) (content : List ℕ) (s u : List Tok) → Running false es p fs w content s → Broken false w content (s ++ u)
 running_broken es p fs w content s u h r f =
     cut_more w content h.layout.state.text (text ((s ++ u) ++ r)) (wrote_cut w content h.layout.state.text h.wrote)
-    (subst (λ (x : List Tok). Grows h.layout.state.text (text x)) (sym (append_assoc s u r)) (grows_all s es h.layout h.holds (u ++ r)))
+    (subst (λ (x : List Tok). Grows h.layout.state.text (text x)) (sym (append_assoc s u r)) (grows_by false s es h.layout h.holds (u ++ r) tt))
 
 -- a token is fed
-pub running_fed : (es es' : List Entry) (p : Page) (fs : List Frame) (w : Option (List ℕ)) (content : List ℕ) (s : List Tok) (t : Tok) →
-    toks_of es' ≡ toks_of es ++ t ∷ [] → es' ≡ sized (toks_of es') → Running false es p fs w content s → Running false es' p fs w content (s ++ t ∷ [])
+pub running_fed : (es es' : List Entry) (p : Line) (fs : List Frame) (w : Option (List ℕ)) (content : List ℕ) (s : List Tok) (t : Tok) →
+    toks_of es' ≡ toks_of es ++ t ∷ [] → es' ≡ sized false (toks_of es') → Running false es p fs w content s → Running false es' p fs w content (s ++ t ∷ [])
 running_fed es es' p fs w content s t e z h =
     let k = h.holds in
-    let q : toks_of es ≡ k.waits = ap toks_of k.are_sized ∙ toks_sized k.waits in
-    let y : sized (k.waits ++ t ∷ []) ≡ es' = ap (λ (x : List Tok). sized (x ++ t ∷ [])) (sym q) ∙ ap sized (sym e) ∙ sym z in
+    let q : toks_of es ≡ k.waits = ap toks_of k.are_sized ∙ toks_sized false k.waits in
+    let y : sized false (k.waits ++ t ∷ []) ≡ es' = ap (λ (x : List Tok). sized false (x ++ t ∷ [])) (sym q) ∙ ap (sized false) (sym e) ∙ sym z in
     record {
       layout = h.layout;
-      holds = subst (λ (x : List Entry). Holds (s ++ t ∷ []) x h.layout) y (fed_one s t es h.layout k);
+      holds = subst (λ (x : List Entry). Holds false (s ++ t ∷ []) x h.layout) y (fed_one s t es h.layout k);
       at = h.at;
       wrote = h.wrote;
     }
 
-at_end_false : (cs : List Scan) → map (at_end false) cs ≡ cs
-at_end_false [] = refl
-at_end_false (c ∷ cs) = ap (λ (x : List Scan). c ∷ x) (at_end_false cs)
-
 -- entries are told by their tokens
-pub sized_so : (e : Bool) (es : List Entry) → e ≡ false → sizes_of es ≡ map size_of_scan (map (at_end e) (scans (toks_of es))) → es ≡ sized (toks_of es)
-sized_so true es b h = cc
-sized_so false es b h = sized_from es (h ∙ ap (λ (x : List Scan). map size_of_scan x) (at_end_false (scans (toks_of es))))
+pub sized_so : (e : Bool) (es : List Entry) → sizes_of es ≡ map size_of_scan (map (at_end e) (scans (toks_of es))) → es ≡ sized e (toks_of es)
+sized_so e [] h = refl
+sized_so e (x ∷ es) h =
+    let a : x.size ≡ size_of e x.tok (toks_of es) = cc in
+    let b : sizes_of es ≡ map size_of_scan (map (at_end e) (scans (toks_of es))) = cc in
+    ap (λ (z : Size). record { tok = x.tok; size = z } ∷ es) a ∙ ap (λ (y : List Entry). record { tok = x.tok; size = size_of e x.tok (toks_of es) } ∷ y) (sized_so e es b)
 
-over_page : (p : Page) (s : State) (k : ℕ) → Is p s → nat_lt p.room (p.used + k) ≡ over k s
+over_page : (p : Line) (s : State) (k : ℕ) → Is p s → nat_lt p.room (p.used + k) ≡ over k s
 over_page p s k h =
     let a = h.room in let b = h.small in let c = h.used in
     grind (arith, nat_tests)
 
-size_at_end : (c : Scan) → size_of_scan (at_end true c) ≡ Known (pos (min (with_rest c []) cap))
-size_at_end (Stopped n) = refl
-size_at_end (Going n d) = ap (λ (k : ℕ). Known (pos (min k cap))) (let e : n ≡ n + 0 = omega arith in e)
+-- a size is known from 0 on, or unknown while more may come
+abbrev IsSize : Bool → Size → Type 0
+IsSize e (Known (pos k)) = Unit {0}
+IsSize e (Known (negsuc k)) = ⊥
+IsSize false Unknown = Unit {0}
+IsSize true Unknown = ⊥
+IsSize e Forced = ⊥
 
--- at the end, entries are told by their tokens
-pub ended_so : (es : List Entry) → sizes_of es ≡ map size_of_scan (map (at_end true) (scans (toks_of es))) → es ≡ ended (toks_of es)
-ended_so [] h = refl
-ended_so (e ∷ es) h =
-    let a : e.size ≡ size_of_scan (at_end true (scan_of e.tok (toks_of es))) = cc in
-    let b : sizes_of es ≡ map size_of_scan (map (at_end true) (scans (toks_of es))) = cc in
-    ap (λ (z : Size). record { tok = e.tok; size = z } ∷ es) (a ∙ size_at_end (scan_of e.tok (toks_of es)))
-    ∙ ap (λ (x : List Entry). record { tok = e.tok; size = Known (pos (min (with_rest (scan_of e.tok (toks_of es)) []) cap)) } ∷ x) (ended_so es b)
+is_size : (e : Bool) (c : Scan) → IsSize e (size_of_scan (at_end e c))
+is_size false (Stopped n) = tt
+is_size false (Going n d) = tt
+is_size true (Stopped n) = tt
+is_size true (Going n d) = tt
 
-no_neg_scan : (c : Scan) (k : ℕ) → Known (negsuc k) ≡ size_of_scan c → ⊥
-no_neg_scan (Stopped n) k h = cc
-no_neg_scan (Going n d) k h = cc
-
-no_forced_scan : (c : Scan) → Forced ≡ size_of_scan c → ⊥
-no_forced_scan (Stopped n) h = cc
-no_forced_scan (Going n d) h = cc
-
-no_neg : (t : Tok) (k : ℕ) (es : List Entry) (w : List Tok) → record { tok = t; size = Known (negsuc k) } ∷ es ≡ sized w → ⊥
-no_neg t k es [] h = cc
-no_neg t k es (x ∷ w) h =
-    let e : record { tok = t; size = Known (negsuc k) } ≡ record { tok = x; size = size_of x w } = cc in
-    no_neg_scan (scan_of x w) k (ap (λ (y : Entry). y.size) e)
-
-no_forced : (t : Tok) (es : List Entry) (w : List Tok) → record { tok = t; size = Forced } ∷ es ≡ sized w → ⊥
-no_forced t es [] h = cc
-no_forced t es (x ∷ w) h =
-    let e : record { tok = t; size = Forced } ≡ record { tok = x; size = size_of x w } = cc in
-    no_forced_scan (scan_of x w) (ap (λ (y : Entry). y.size) e)
-
--- at the end each size is known
-no_ended : (t : Tok) (z : Size) (es : List Entry) (w : List Tok) → ((k : ℕ) → z ≡ Known (pos k) → ⊥) → record { tok = t; size = z } ∷ es ≡ ended w → ⊥
-no_ended t z es [] f h = cc
-no_ended t z es (x ∷ w) f h =
-    let e : record { tok = t; size = z } ≡ record { tok = x; size = Known (pos (min (with_rest (scan_of x w) []) cap)) } = cc in
-    f (min (with_rest (scan_of x w) []) cap) (ap (λ (y : Entry). y.size) e)
+front_size : (e : Bool) (t : Tok) (z : Size) (es : List Entry) (w : List Tok) → record { tok = t; size = z } ∷ es ≡ sized e w → IsSize e z
+front_size e t z es [] h = cc
+front_size e t z es (x ∷ w) h =
+    let k : record { tok = t; size = z } ≡ record { tok = x; size = size_of e x w } = cc in
+    subst (IsSize e) (sym (ap (λ (y : Entry). y.size) k)) (is_size e (scan_of x w))
 
 -- the oldest entry is printed as was decided
-step_at : (x : Bool) (s : List Tok) (t : Tok) (z : Size) (es : List Entry) (m : Layout) (p : Page) (wait : ℕ) (big : Bool) → Is p m.state →
-    wait ≡ waiting (record { tok = t; size = z } ∷ es) → Says z wait p (Some big) → HoldsBy x s (record { tok = t; size = z } ∷ es) m → HoldsBy x s es (act t big m)
-step_at false s t Unknown es m p wait big i w d h =
+step_at : (x : Bool) (s : List Tok) (t : Tok) (z : Size) (es : List Entry) (m : Layout) (p : Line) (wait : ℕ) (big : Bool) → Is p m.state →
+    wait ≡ waiting (record { tok = t; size = z } ∷ es) → Says z wait p (Some big) → IsSize x z → Holds x s (record { tok = t; size = z } ∷ es) m → Holds x s es (act t big m)
+step_at x s t (Known (pos k)) es m p wait big i w d q h =
+    let e : nat_lt p.room (p.used + k) ≡ big = cc in
+    subst (λ (y : Bool). Holds x s es (act t y m)) (sym (over_page p m.state k i) ∙ e) (print_known x s t k es m h)
+step_at x s t (Known (negsuc k)) es m p wait big i w d q h = absurd q
+step_at false s t Unknown es m p wait big i w d q h =
     let a = i.room in let b = i.small in let c = i.used in
-    subst (λ (y : Bool). Holds s es (act t y m)) (sym d.0) (print_forced s t es m h (omega (arith, d.1)))
-step_at false s t (Known (pos k)) es m p wait big i w d h =
-    let e : nat_lt p.room (p.used + k) ≡ big = cc in
-    subst (λ (y : Bool). Holds s es (act t y m)) (sym (over_page p m.state k i) ∙ e) (print_known s t k es m h)
-step_at false s t (Known (negsuc k)) es m p wait big i w d h = absurd (no_neg t k es h.waits h.are_sized)
-step_at false s t Forced es m p wait big i w d h = absurd (no_forced t es h.waits h.are_sized)
-step_at true s t Unknown es m p wait big i w d h = absurd (no_ended t Unknown es h.waits (λ k e. cc) h.are_sized)
-step_at true s t (Known (pos k)) es m p wait big i w d h =
-    let e : nat_lt p.room (p.used + k) ≡ big = cc in
-    subst (λ (y : Bool). HoldsAtEnd s es (act t y m)) (sym (over_page p m.state k i) ∙ e) (print_ended s t k es m h)
-step_at true s t (Known (negsuc k)) es m p wait big i w d h = absurd (no_ended t (Known (negsuc k)) es h.waits (λ k e. cc) h.are_sized)
-step_at true s t Forced es m p wait big i w d h = absurd (no_ended t Forced es h.waits (λ k e. cc) h.are_sized)
+    subst (λ (y : Bool). Holds false s es (act t y m)) (sym d.0) (print_forced s t es m h (omega (arith, d.1)))
+step_at true s t Unknown es m p wait big i w d q h = absurd q
+step_at x s t Forced es m p wait big i w d q h = absurd q
 
 pub front_is : (es : List Entry) (e : Entry) → Some e ≡ slice_get es 0 → es ≡ e ∷ drop 1 es
 front_is [] e h = cc
 front_is (x ∷ es) e h = let k : x ≡ e = cc in ap (λ (y : Entry). y ∷ es) k
 
-prints_by : {T E : Type 0} (x : Bool) (es es' : List Entry) (t : Tok) (p p' : Page) (fs fs' : List Frame) (b n : Option (List ℕ)) (big : Bool) (res : Result T E) →
-    ((s : List Tok) (m : Layout) → Is p m.state → HoldsBy x s es m → HoldsBy x s es' (act t big m)) → Prints p fs b res p' fs' n t big → Prints_on x es p fs b res es' p' fs' n
+prints_by : {T E : Type 0} (x : Bool) (es es' : List Entry) (t : Tok) (p p' : Line) (fs fs' : List Frame) (b n : Option (List ℕ)) (big : Bool) (res : Result T E) →
+    ((s : List Tok) (m : Layout) → Is p m.state → Holds x s es m → Holds x s es' (act t big m)) → Prints p fs b res p' fs' n t big → Prints_on x es p fs b res es' p' fs' n
 prints_by x es es' t p p' fs fs' b n big (Ok y) f k = record {
   ok = λ content s r.
       let a = k.ok content r.layout r.at r.wrote in
@@ -157,65 +120,77 @@ prints_by x es es' t p p' fs fs' b n big (Err y) f k = record {
       (grows_by x s es' (act t big r.layout) (f s r.layout r.at.is r.holds) q g);
 }
 
-pub prints_front : {T E : Type 0} (x : Bool) (es es' : List Entry) (e : Entry) (p p' : Page) (fs fs' : List Frame) (b n : Option (List ℕ)) (wait : ℕ) (big : Bool) (res : Result T E) →
+pub prints_front : {T E : Type 0} (x : Bool) (es es' : List Entry) (e : Entry) (p p' : Line) (fs fs' : List Frame) (b n : Option (List ℕ)) (wait : ℕ) (big : Bool) (res : Result T E) →
     es ≡ e ∷ es' → wait ≡ waiting es → Decided es wait p (Some big) → Prints p fs b res p' fs' n e.tok big → Prints_on x es p fs b res es' p' fs' n
 prints_front x es es' e p p' fs fs' b n wait big res a w d k =
     let d' : Says e.size wait p (Some big) = subst (λ (y : List Entry). Decided y wait p (Some big)) a d in
     let w' : wait ≡ waiting (e ∷ es') = w ∙ ap waiting a in
     prints_by x es es' e.tok p p' fs fs' b n big res
-    (λ s m i h. step_at x s e.tok e.size es' m p wait big i w' d' (subst (λ (y : List Entry). HoldsBy x s y m) a h)) k
+    (λ s m i h.
+    let q = subst (λ (y : List Entry). Holds x s y m) a h in
+    step_at x s e.tok e.size es' m p wait big i w' d' (front_size x e.tok e.size es' q.waits q.are_sized) q) k
 
 -- a token wasn't fed
-pub feeds_not : {T E : Type 0} (es es' : List Entry) (p p' : Page) (fs fs' : List Frame) (b : Option (List ℕ)) (t : Tok) (f : E) → Feeds {T = T} es p fs b (Err f) es' p' fs' b t
+pub feeds_not : {T E : Type 0} (es es' : List Entry) (p p' : Line) (fs fs' : List Frame) (b : Option (List ℕ)) (t : Tok) (f : E) → Feeds {T = T} es p fs b (Err f) es' p' fs' b t
 feeds_not es es' p p' fs fs' b t f = record { ok = tt; err = λ content s r. running_broken es p fs b content s (t ∷ []) r }
 
 -- no more tokens come
-running_ends_ : (es mid : List Entry) (p : Page) (fs : List Frame) (w : Option (List ℕ)) (content : List ℕ) (s : List Tok) → toks_of mid ≡ toks_of es → mid ≡ ended (toks_of mid) →
+running_ends_ : (es mid : List Entry) (p : Line) (fs : List Frame) (w : Option (List ℕ)) (content : List ℕ) (s : List Tok) → toks_of mid ≡ toks_of es → mid ≡ sized true (toks_of mid) →
     Running false es p fs w content s → Running true mid p fs w content s
 running_ends_ es mid p fs w content s e q r =
-    let k : Holds s es r.layout = r.holds in
-    let y : toks_of es ≡ k.waits = ap toks_of k.are_sized ∙ toks_sized k.waits in
-    let v : ended k.waits ≡ mid = ap ended (sym y ∙ sym e) ∙ sym q in
-    record { layout = r.layout; holds = subst (λ (x : List Entry). HoldsAtEnd s x r.layout) v (to_end s es r.layout k); at = r.at; wrote = r.wrote }
+    let k : Holds false s es r.layout = r.holds in
+    let y : toks_of es ≡ k.waits = ap toks_of k.are_sized ∙ toks_sized false k.waits in
+    let v : sized true k.waits ≡ mid = ap (sized true) (sym y ∙ sym e) ∙ sym q in
+    record { layout = r.layout; holds = subst (λ (x : List Entry). Holds true s x r.layout) v (to_end s es r.layout k); at = r.at; wrote = r.wrote }
 
-pub ends_on : {T E : Type 0} (es mid es' : List Entry) (z : Bool) (p p' : Page) (fs fs' : List Frame) (b n : Option (List ℕ)) (res : Result T E) →
-    es ≡ sized (toks_of es) → toks_of mid ≡ toks_of es → z ≡ true → mid ≡ ended (toks_of mid) → Prints_on z mid p fs b res es' p' fs' n → (OnOk res (es' ≡ [])) → Ends es p fs b res n
-ends_on es mid es' false p p' fs fs' b n res a e y q k v = cc
-ends_on es mid es' true p p' fs fs' b n (Ok x) a e y q k v = record {
+pub ends_on : {T E : Type 0} (es mid es' : List Entry) (z : Bool) (p p' : Line) (fs fs' : List Frame) (b n : Option (List ℕ)) (res : Result T E) →
+    toks_of mid ≡ toks_of es → z ≡ true → mid ≡ sized z (toks_of mid) → Prints_on z mid p fs b res es' p' fs' n → (OnOk res (es' ≡ [])) → Ends es p fs b res n
+ends_on es mid es' false p p' fs fs' b n res e y q k v = cc
+ends_on es mid es' true p p' fs fs' b n (Ok x) e y q k v = record {
   ok = λ content s r.
       let u = k.ok content s (running_ends_ es mid p fs b content s e q r) in
-      let h : HoldsAtEnd s [] u.layout = subst (λ (x : List Entry). HoldsAtEnd s x u.layout) v u.holds in
+      let h : Holds true s [] u.layout = subst (λ (x : List Entry). Holds true s x u.layout) v u.holds in
       subst (λ (x : List ℕ). Wrote n content x) (sym (text_ended s u.layout h)) u.wrote;
   err = tt;
 }
-ends_on es mid es' true p p' fs fs' b n (Err x) a e y q k v = record {
+ends_on es mid es' true p p' fs fs' b n (Err x) e y q k v = record {
   ok = tt;
   err = λ content s r. subst (λ (x : List Tok). Cut n content (text x)) (append-nil s) (k.err content s (running_ends_ es mid p fs b content s e q r) [] refl);
 }
 
+undecided : (z : Size) (wait : ℕ) (p : Line) → IsSize true z → Says z wait p None → ⊥
+undecided (Known (pos k)) wait p q d = cc
+undecided (Known (negsuc k)) wait p q d = q
+undecided Unknown wait p q d = q
+undecided Forced wait p q d = q
+
 -- at the end nothing stays undecided
-pub none_left : (es : List Entry) (z : Bool) (wait : ℕ) (p : Page) → z ≡ true → sizes_of es ≡ map size_of_scan (map (at_end z) (scans (toks_of es))) → Decided es wait p None → es ≡ []
+pub none_left : (es : List Entry) (z : Bool) (wait : ℕ) (p : Line) → z ≡ true → sizes_of es ≡ map size_of_scan (map (at_end z) (scans (toks_of es))) → Decided es wait p None → es ≡ []
 none_left [] z wait p y q d = refl
 none_left (e ∷ es) false wait p y q d = cc
 none_left (e ∷ es) true wait p y q d =
     let a : e.size ≡ size_of_scan (at_end true (scan_of e.tok (toks_of es))) = cc in
-    let b : e.size ≡ Known (pos (min (with_rest (scan_of e.tok (toks_of es)) []) cap)) = a ∙ size_at_end (scan_of e.tok (toks_of es)) in
-    let c : Says (Known (pos (min (with_rest (scan_of e.tok (toks_of es)) []) cap))) wait p None = subst (λ (x : Size). Says x wait p None) b d in
-    cc
+    absurd (undecided e.size wait p (subst (IsSize true) (sym a) (is_size true (scan_of e.tok (toks_of es)))) d)
 
 -- a token was fed, where the stack of frames was given room before
-pub feeds_won : {T U E F : Type 0} (es mid es' : List Entry) (z : Bool) (p p' : Page) (fs mfs fs' : List Frame) (b n : Option (List ℕ)) (t : Tok) (u : T) (v : U) →
-    mfs ≡ fs → toks_of mid ≡ toks_of es ++ t ∷ [] → z ≡ false → sizes_of mid ≡ map size_of_scan (map (at_end z) (scans (toks_of mid))) → Prints_on {E = E} z mid p mfs b (Ok u) es' p' fs' n → Feeds {E = F} es p fs b (Ok v) es' p' fs' n t
-feeds_won es mid es' true p p' fs mfs fs' b n t u v f k y q h = cc
-feeds_won es mid es' false p p' fs mfs fs' b n t u v f k y q h = record {
-  ok = λ content s r. h.ok content (s ++ t ∷ []) (running_fed es mid p mfs b content s t k (sized_so false mid y q) (subst (λ (x : List Frame). Running false es p x b content s) (sym f) r));
+fed_first : (es mid : List Entry) (p mp : Line) (fs mfs : List Frame) (w : Option (List ℕ)) (content : List ℕ) (s : List Tok) (t : Tok) → mp ≡ p → mfs ≡ fs → toks_of mid ≡ toks_of es ++ t ∷ [] →
+    sizes_of mid ≡ map size_of_scan (map (at_end false) (scans (toks_of mid))) → Running false es p fs w content s → Running false mid mp mfs w content (s ++ t ∷ [])
+fed_first es mid p mp fs mfs w content s t g f k q r =
+    running_fed es mid mp mfs w content s t k (sized_so false mid q)
+    (subst (λ (y : Line). Running false es y mfs w content s) (sym g) (subst (λ (x : List Frame). Running false es p x w content s) (sym f) r))
+
+pub feeds_won : {T U E F : Type 0} (es mid es' : List Entry) (z : Bool) (p mp p' : Line) (fs mfs fs' : List Frame) (b n : Option (List ℕ)) (t : Tok) (u : T) (v : U) → mp ≡ p → mfs ≡ fs → toks_of mid ≡ toks_of es ++ t ∷ [] → z ≡ false →
+    sizes_of mid ≡ map size_of_scan (map (at_end z) (scans (toks_of mid))) → Prints_on {E = E} z mid mp mfs b (Ok u) es' p' fs' n → Feeds {E = F} es p fs b (Ok v) es' p' fs' n t
+feeds_won es mid es' true p mp p' fs mfs fs' b n t u v g f k y q h = cc
+feeds_won es mid es' false p mp p' fs mfs fs' b n t u v g f k y q h = record {
+  ok = λ content s r. h.ok content (s ++ t ∷ []) (fed_first es mid p mp fs mfs b content s t g f k q r);
   err = tt;
 }
 
-pub feeds_lost : {T U E F : Type 0} (es mid es' : List Entry) (z : Bool) (p p' : Page) (fs mfs fs' : List Frame) (b n : Option (List ℕ)) (t : Tok) (e : E) (f : F) →
-    mfs ≡ fs → toks_of mid ≡ toks_of es ++ t ∷ [] → z ≡ false → sizes_of mid ≡ map size_of_scan (map (at_end z) (scans (toks_of mid))) → Prints_on {T = T} z mid p mfs b (Err e) es' p' fs' n → Feeds {T = U} es p fs b (Err f) es' p' fs' n t
-feeds_lost es mid es' true p p' fs mfs fs' b n t e f m k y q h = cc
-feeds_lost es mid es' false p p' fs mfs fs' b n t e f m k y q h = record {
+pub feeds_lost : {T U E F : Type 0} (es mid es' : List Entry) (z : Bool) (p mp p' : Line) (fs mfs fs' : List Frame) (b n : Option (List ℕ)) (t : Tok) (e : E) (f : F) → mp ≡ p → mfs ≡ fs → toks_of mid ≡ toks_of es ++ t ∷ [] → z ≡ false →
+    sizes_of mid ≡ map size_of_scan (map (at_end z) (scans (toks_of mid))) → Prints_on {T = T} z mid mp mfs b (Err e) es' p' fs' n → Feeds {T = U} es p fs b (Err f) es' p' fs' n t
+feeds_lost es mid es' true p mp p' fs mfs fs' b n t e f g m k y q h = cc
+feeds_lost es mid es' false p mp p' fs mfs fs' b n t e f g m k y q h = record {
   ok = tt;
-  err = λ content s r. h.err content (s ++ t ∷ []) (running_fed es mid p mfs b content s t k (sized_so false mid y q) (subst (λ (x : List Frame). Running false es p x b content s) (sym m) r));
+  err = λ content s r. h.err content (s ++ t ∷ []) (fed_first es mid p mp fs mfs b content s t g m k q r);
 }

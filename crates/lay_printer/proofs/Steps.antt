@@ -12,7 +12,7 @@ use Rattle.lay_token.specs.Document.{State, width_of_break, over, put_mark, skip
 use Rattle.lay_token.specs.Machine.{outer, reach, measure, play, step, act, Layout, begun, text, top}
 use Rattle.lay_ring.specs.declared.entry.Size.TheVariants.{Unknown, Known}
 use Rattle.lay_ring.specs.declared.entry.Entry.{Entry}
-use Rattle.lay_printer.specs.Scan.{Scan, Stopped, Going, widen, scan, with_rest, cap, size_of_scan, scan_of, size_of, sized, waiting, Holds, ended, HoldsAtEnd}
+use Rattle.lay_printer.specs.Scan.{Scan, Stopped, Going, widen, scan, with_rest, cap, size_of_scan, scan_of, size_of, sized, waiting, at_end, MayFollow, Holds}
 
 with_rest_widen : (w : ℕ) (c : Scan) (r : List Tok) → with_rest (widen w c) r ≡ w + with_rest c r
 with_rest_widen w (Stopped n) r = refl
@@ -70,46 +70,54 @@ room_act (tok.Begin c o) big m h = h
 room_act tok.End big m h = h
 
 -- printing the first token that waits, where its decision is the same whatever follows
-print_shown : (p : List Tok) (t : Tok) (ts : List Tok) (m : Layout) (big : Bool) →
-    ((r : List Tok) → play p ((t ∷ ts) ++ r) begun ≡ m) →
-    ((r : List Tok) → over (with_rest (scan_of t ts) r) m.state ≡ big) →
-    (r : List Tok) → play (p ++ t ∷ []) (ts ++ r) begun ≡ act t big m
-print_shown p t ts m big h d r =
+print_shown : (e : Bool) (p : List Tok) (t : Tok) (ts : List Tok) (m : Layout) (big : Bool) →
+    ((r : List Tok) → MayFollow e r → play p ((t ∷ ts) ++ r) begun ≡ m) →
+    ((r : List Tok) → MayFollow e r → over (with_rest (scan_of t ts) r) m.state ≡ big) →
+    (r : List Tok) → MayFollow e r → play (p ++ t ∷ []) (ts ++ r) begun ≡ act t big m
+print_shown e p t ts m big h d r f =
     play_more p t (ts ++ r) begun
-    ∙ ap (λ (l : Layout). step t (ts ++ r) l) (h r)
+    ∙ ap (λ (l : Layout). step t (ts ++ r) l) (h r f)
     ∙ ap (λ (n : ℕ). act t (over n m.state) m) (measure_scan t ts r)
-    ∙ ap (λ (b : Bool). act t b m) (d r)
+    ∙ ap (λ (b : Bool). act t b m) (d r f)
 
--- a known size decides
-known_decides : (c : Scan) (k : ℕ) (s : State) → s.room ≤ 89 → Known (pos k) ≡ size_of_scan c → (r : List Tok) → over (with_rest c r) s ≡ over k s
-known_decides (Stopped n) k s h e r =
+-- the tokens p are printed, and x with them: the others wait
+held_on : (e : Bool) (s : List Tok) (t x : Tok) (ts : List Tok) (es : List Entry) (m : Layout) (p : List Tok) (big : Bool) → p ++ x ∷ ts ≡ s → x ≡ t → es ≡ sized e ts → m.state.room ≤ 89 →
+    ((r : List Tok) → MayFollow e r → play p ((x ∷ ts) ++ r) begun ≡ m) → ((r : List Tok) → MayFollow e r → over (with_rest (scan_of x ts) r) m.state ≡ big) → Holds e s es (act t big m)
+held_on e s t x ts es m p big a k z q h d = record {
+  printed = p ++ x ∷ [];
+  waits = ts;
+  all = append_assoc p (x ∷ []) ts ∙ a;
+  are_sized = z;
+  small = room_act t big m q;
+  shown = λ r f. print_shown e p x ts m big h d r f ∙ ap (λ (y : Tok). act y big m) k;
+}
+
+capped_decides : (n k : ℕ) (s : State) → s.room ≤ 89 → Known (pos k) ≡ Known (pos (min n cap)) → over n s ≡ over k s
+capped_decides n k s h e =
     let q : k ≡ min n cap = cc in
     sym (ap (λ (x : ℕ). over x s) q ∙ over_capped n s h)
-known_decides (Going n d) k s h e r = cc
 
-print_known_at : (s : List Tok) (t : Tok) (k : ℕ) (es : List Entry) (m : Layout) (p w : List Tok) →
-    p ++ w ≡ s → record { tok = t; size = Known (pos k) } ∷ es ≡ sized w → m.state.room ≤ 89 →
-    ((r : List Tok) → play p (w ++ r) begun ≡ m) → Holds s es (act t (over k m.state) m)
-print_known_at s t k es m p [] a e q h = cc
-print_known_at s t k es m p (x ∷ ts) a e q h =
-    let e0 : record { tok = t; size = Known (pos k) } ≡ record { tok = x; size = size_of x ts } = cc in
-    let ex = ap (λ (y : Entry). y.tok) e0 in
-    let ek = ap (λ (y : Entry). y.size) e0 in
-    let ee : es ≡ sized ts = cc in
-    record {
-      printed = p ++ x ∷ [];
-      waits = ts;
-      all = append_assoc p (x ∷ []) ts ∙ a;
-      are_sized = ee;
-      small = room_act t (over k m.state) m q;
-      shown = λ r. print_shown p x ts m (over k m.state) h (known_decides (scan_of x ts) k m.state q ek) r
-          ∙ ap (λ (y : Tok). act y (over k m.state) m) (sym ex);
-    }
+-- a known size decides
+known_decides : (e : Bool) (c : Scan) (k : ℕ) (s : State) → s.room ≤ 89 → Known (pos k) ≡ size_of_scan (at_end e c) → (r : List Tok) → MayFollow e r → over (with_rest c r) s ≡ over k s
+known_decides false (Stopped n) k s h q r f = capped_decides n k s h q
+known_decides false (Going n d) k s h q r f = cc
+known_decides true (Stopped n) k s h q r f = capped_decides n k s h q
+known_decides true (Going n d) k s h q r f = ap (λ (x : List Tok). over (n + reach d x) s) f ∙ ap (λ (x : ℕ). over x s) (let z : n + 0 ≡ n = omega arith in z) ∙ capped_decides n k s h q
+
+print_known_at : (e : Bool) (s : List Tok) (t : Tok) (k : ℕ) (es : List Entry) (m : Layout) (p w : List Tok) →
+    p ++ w ≡ s → record { tok = t; size = Known (pos k) } ∷ es ≡ sized e w → m.state.room ≤ 89 →
+    ((r : List Tok) → MayFollow e r → play p (w ++ r) begun ≡ m) → Holds e s es (act t (over k m.state) m)
+print_known_at e s t k es m p [] a z q h = cc
+print_known_at e s t k es m p (x ∷ ts) a z q h =
+    let z0 : record { tok = t; size = Known (pos k) } ≡ record { tok = x; size = size_of e x ts } = cc in
+    let zk = ap (λ (y : Entry). y.size) z0 in
+    let zz : es ≡ sized e ts = cc in
+    held_on e s t x ts es m p (over k m.state) a (sym (ap (λ (y : Entry). y.tok) z0)) zz q h (known_decides e (scan_of x ts) k m.state q zk)
 
 -- the first entry has a known size: it is printed
-pub print_known : (s : List Tok) (t : Tok) (k : ℕ) (es : List Entry) (m : Layout) →
-    Holds s (record { tok = t; size = Known (pos k) } ∷ es) m → Holds s es (act t (over k m.state) m)
-print_known s t k es m h = print_known_at s t k es m h.printed h.waits h.all h.are_sized h.small h.shown
+pub print_known : (e : Bool) (s : List Tok) (t : Tok) (k : ℕ) (es : List Entry) (m : Layout) →
+    Holds e s (record { tok = t; size = Known (pos k) } ∷ es) m → Holds e s es (act t (over k m.state) m)
+print_known e s t k es m h = print_known_at e s t k es m h.printed h.waits h.all h.are_sized h.small h.shown
 
 -- a measure that goes on is at least k already
 abbrev AtLeast : Scan → ℕ → Type 0
@@ -125,19 +133,19 @@ at_least_le (Stopped n) k j h l = tt
 at_least_le (Going n d) k j h l = omega arith
 
 -- the texts of tokens that wait are part of a measure that goes on
-texts_going : (ts : List Tok) (d : ℕ) → AtLeast (scan d ts) (waiting (sized ts))
+texts_going : (ts : List Tok) (d : ℕ) → AtLeast (scan d ts) (waiting (sized false ts))
 texts_going [] d = omega arith
-texts_going (tok.Text t ∷ ts) d = at_least_widen (length t) (scan d ts) (waiting (sized ts)) (waiting (sized (tok.Text t ∷ ts))) (texts_going ts d) (omega arith)
+texts_going (tok.Text t ∷ ts) d = at_least_widen (length t) (scan d ts) (waiting (sized false ts)) (waiting (sized false (tok.Text t ∷ ts))) (texts_going ts d) (omega arith)
 texts_going (tok.Break b ∷ ts) zero = tt
-texts_going (tok.Break b ∷ ts) (suc d) = at_least_widen (width_of_break b) (scan (suc d) ts) (waiting (sized ts)) (waiting (sized (tok.Break b ∷ ts))) (texts_going ts (suc d)) (omega arith)
-texts_going (tok.Begin c o ∷ ts) d = at_least_le (scan (suc d) ts) (waiting (sized ts)) _ (texts_going ts (suc d)) (omega arith)
-texts_going (tok.End ∷ ts) d = at_least_le (scan (outer d) ts) (waiting (sized ts)) _ (texts_going ts (outer d)) (omega arith)
+texts_going (tok.Break b ∷ ts) (suc d) = at_least_widen (width_of_break b) (scan (suc d) ts) (waiting (sized false ts)) (waiting (sized false (tok.Break b ∷ ts))) (texts_going ts (suc d)) (omega arith)
+texts_going (tok.Begin c o ∷ ts) d = at_least_le (scan (suc d) ts) (waiting (sized false ts)) _ (texts_going ts (suc d)) (omega arith)
+texts_going (tok.End ∷ ts) d = at_least_le (scan (outer d) ts) (waiting (sized false ts)) _ (texts_going ts (outer d)) (omega arith)
 
 -- so are those of an entry whose size isn't known and of what waits behind it
-texts_unknown : (t : Tok) (ts : List Tok) → AtLeast (scan_of t ts) (waiting (sized (t ∷ ts)))
+texts_unknown : (t : Tok) (ts : List Tok) → AtLeast (scan_of t ts) (waiting (sized false (t ∷ ts)))
 texts_unknown (tok.Text t) ts = tt
-texts_unknown (tok.Break b) ts = at_least_widen (width_of_break b) (scan 0 ts) (waiting (sized ts)) _ (texts_going ts 0) (omega arith)
-texts_unknown (tok.Begin c o) ts = at_least_le (scan 1 ts) (waiting (sized ts)) _ (texts_going ts 1) (omega arith)
+texts_unknown (tok.Break b) ts = at_least_widen (width_of_break b) (scan 0 ts) (waiting (sized false ts)) _ (texts_going ts 0) (omega arith)
+texts_unknown (tok.Begin c o) ts = at_least_le (scan 1 ts) (waiting (sized false ts)) _ (texts_going ts 1) (omega arith)
 texts_unknown tok.End ts = tt
 
 forced_decides : (c : Scan) (k : ℕ) (s : State) → AtLeast c k → Unknown ≡ size_of_scan c → s.room < s.used + k → (r : List Tok) → over (with_rest c r) s ≡ true
@@ -145,86 +153,43 @@ forced_decides (Stopped n) k s h e l r = cc
 forced_decides (Going n d) k s h e l r = lt-ltb s.room (s.used + (n + reach d r)) (omega arith)
 
 print_forced_at : (s : List Tok) (t : Tok) (es : List Entry) (m : Layout) (p w : List Tok) →
-    p ++ w ≡ s → record { tok = t; size = Unknown } ∷ es ≡ sized w → m.state.room ≤ 89 →
-    ((r : List Tok) → play p (w ++ r) begun ≡ m) → m.state.room < m.state.used + waiting (record { tok = t; size = Unknown } ∷ es) → Holds s es (act t true m)
-print_forced_at s t es m p [] a e q h l = cc
-print_forced_at s t es m p (x ∷ ts) a e q h l =
-    let e0 : record { tok = t; size = Unknown } ≡ record { tok = x; size = size_of x ts } = cc in
-    let ex = ap (λ (y : Entry). y.tok) e0 in
-    let ek = ap (λ (y : Entry). y.size) e0 in
-    let ee : es ≡ sized ts = cc in
-    let ew = ap waiting e in
-    record {
-      printed = p ++ x ∷ [];
-      waits = ts;
-      all = append_assoc p (x ∷ []) ts ∙ a;
-      are_sized = ee;
-      small = room_act t true m q;
-      shown = λ r. print_shown p x ts m true h (forced_decides (scan_of x ts) (waiting (sized (x ∷ ts))) m.state (texts_unknown x ts) ek (omega (arith, ew))) r
-          ∙ ap (λ (y : Tok). act y true m) (sym ex);
-    }
+    p ++ w ≡ s → record { tok = t; size = Unknown } ∷ es ≡ sized false w → m.state.room ≤ 89 →
+    ((r : List Tok) → MayFollow false r → play p (w ++ r) begun ≡ m) → m.state.room < m.state.used + waiting (record { tok = t; size = Unknown } ∷ es) → Holds false s es (act t true m)
+print_forced_at s t es m p [] a z q h l = cc
+print_forced_at s t es m p (x ∷ ts) a z q h l =
+    let z0 : record { tok = t; size = Unknown } ≡ record { tok = x; size = size_of false x ts } = cc in
+    let zk = ap (λ (y : Entry). y.size) z0 in
+    let zz : es ≡ sized false ts = cc in
+    let zw = ap waiting z in
+    held_on false s t x ts es m p true a (sym (ap (λ (y : Entry). y.tok) z0)) zz q h
+    (λ r f. forced_decides (scan_of x ts) (waiting (sized false (x ∷ ts))) m.state (texts_unknown x ts) zk (omega (arith, zw)) r)
 
 -- the first entry has no size yet, and the text that waits is greater than the space: it is printed as one that doesn't fit
 pub print_forced : (s : List Tok) (t : Tok) (es : List Entry) (m : Layout) →
-    Holds s (record { tok = t; size = Unknown } ∷ es) m → m.state.room < m.state.used + waiting (record { tok = t; size = Unknown } ∷ es) →
-    Holds s es (act t true m)
+    Holds false s (record { tok = t; size = Unknown } ∷ es) m → m.state.room < m.state.used + waiting (record { tok = t; size = Unknown } ∷ es) →
+    Holds false s es (act t true m)
 print_forced s t es m h l = print_forced_at s t es m h.printed h.waits h.all h.are_sized h.small h.shown l
 
 -- a token is fed
-pub fed_one : (s : List Tok) (t : Tok) (es : List Entry) (m : Layout) (h : Holds s es m) → Holds (s ++ t ∷ []) (sized (h.waits ++ t ∷ [])) m
+pub fed_one : (s : List Tok) (t : Tok) (es : List Entry) (m : Layout) (h : Holds false s es m) → Holds false (s ++ t ∷ []) (sized false (h.waits ++ t ∷ [])) m
 fed_one s t es m h = record {
   printed = h.printed;
   waits = h.waits ++ t ∷ [];
   all = sym (append_assoc h.printed h.waits (t ∷ [])) ∙ ap (λ (x : List Tok). x ++ t ∷ []) h.all;
   are_sized = refl;
   small = h.small;
-  shown = λ r. ap (λ (x : List Tok). play h.printed x begun) (append_assoc h.waits (t ∷ []) r) ∙ h.shown (t ∷ r);
+  shown = λ r f. ap (λ (x : List Tok). play h.printed x begun) (append_assoc h.waits (t ∷ []) r) ∙ h.shown (t ∷ r) tt;
 }
 
 -- no more tokens come: the sizes that weren't known are
-pub to_end : (s : List Tok) (es : List Entry) (m : Layout) (h : Holds s es m) → HoldsAtEnd s (ended h.waits) m
-to_end s es m h = record {
-  printed = h.printed;
-  waits = h.waits;
-  all = h.all;
-  are_sized = refl;
-  small = h.small;
-  shown = ap (λ (x : List Tok). play h.printed x begun) (sym (append-nil h.waits)) ∙ h.shown [];
-}
+pub to_end : (s : List Tok) (es : List Entry) (m : Layout) (h : Holds false s es m) → Holds true s (sized true h.waits) m
+to_end s es m h = record { printed = h.printed; waits = h.waits; all = h.all; are_sized = refl; small = h.small; shown = λ r f. h.shown r tt }
 
-print_ended_at : (s : List Tok) (t : Tok) (k : ℕ) (es : List Entry) (m : Layout) (p w : List Tok) →
-    p ++ w ≡ s → record { tok = t; size = Known (pos k) } ∷ es ≡ ended w → m.state.room ≤ 89 → play p w begun ≡ m → HoldsAtEnd s es (act t (over k m.state) m)
-print_ended_at s t k es m p [] a e q h = cc
-print_ended_at s t k es m p (x ∷ ts) a e q h =
-    let n = with_rest (scan_of x ts) [] in
-    let e0 : record { tok = t; size = Known (pos k) } ≡ record { tok = x; size = Known (pos (min n cap)) } = cc in
-    let ex = ap (λ (y : Entry). y.tok) e0 in
-    let ek : Known (pos k) ≡ Known (pos (min n cap)) = ap (λ (y : Entry). y.size) e0 in
-    let ej : k ≡ min n cap = cc in
-    let ee : es ≡ ended ts = cc in
-    let em : measure x ts ≡ n = ap (measure x) (sym (append-nil ts)) ∙ measure_scan x ts [] in
-    record {
-      printed = p ++ x ∷ [];
-      waits = ts;
-      all = append_assoc p (x ∷ []) ts ∙ a;
-      are_sized = ee;
-      small = room_act t (over k m.state) m q;
-      shown = play_more p x ts begun
-          ∙ ap (λ (l : Layout). step x ts l) h
-          ∙ ap (λ (j : ℕ). act x (over j m.state) m) em
-          ∙ ap (λ (b : Bool). act x b m) (sym (over_capped n m.state q) ∙ ap (λ (j : ℕ). over j m.state) (sym ej))
-          ∙ ap (λ (y : Tok). act y (over k m.state) m) (sym ex);
-    }
-
-pub print_ended : (s : List Tok) (t : Tok) (k : ℕ) (es : List Entry) (m : Layout) →
-    HoldsAtEnd s (record { tok = t; size = Known (pos k) } ∷ es) m → HoldsAtEnd s es (act t (over k m.state) m)
-print_ended s t k es m h = print_ended_at s t k es m h.printed h.waits h.all h.are_sized h.small h.shown
-
-text_ended_of : (s : List Tok) (m : Layout) (p w : List Tok) → p ++ w ≡ s → [] ≡ ended w → play p w begun ≡ m → text s ≡ m.state.text
-text_ended_of s m p [] a e h = ap (λ (x : List Tok). text x) (sym a ∙ append-nil p) ∙ ap (λ (l : Layout). l.state.text) h
+text_ended_of : (s : List Tok) (m : Layout) (p w : List Tok) → p ++ w ≡ s → [] ≡ sized true w → ((r : List Tok) → MayFollow true r → play p (w ++ r) begun ≡ m) → text s ≡ m.state.text
+text_ended_of s m p [] a e h = ap (λ (x : List Tok). text x) (sym a ∙ append-nil p) ∙ ap (λ (l : Layout). l.state.text) (h [] refl)
 text_ended_of s m p (x ∷ w) a e h = cc
 
-pub text_ended : (s : List Tok) (m : Layout) → HoldsAtEnd s [] m → text s ≡ m.state.text
+pub text_ended : (s : List Tok) (m : Layout) → Holds true s [] m → text s ≡ m.state.text
 text_ended s m h = text_ended_of s m h.printed h.waits h.all h.are_sized h.shown
 
 -- what was printed is a front of what will be

@@ -5,9 +5,9 @@ use Rattle.lay_token.specs.declared.layout.Tok.{Tok}
 use Rattle.lay_token.specs.Machine.{opened, text}
 use Rattle.lay_io.specs.Told.{GrewBy, GrewByPrefix}
 use Rattle.lay_stream.specs.Fed.{Did}
-use Rattle.lay_printer.specs.declared.print.PrintError.{PrintError}
-use Rattle.lay_printer.specs.declared.print.PrintError.TheVariants.{WriteFailed, NoMemory}
-use Rattle.lay_printer.specs.declared.printer.Core.{Core}
+use Rattle.lay_printer.specs.declared.engine.PrintError.{PrintError}
+use Rattle.lay_printer.specs.declared.engine.PrintError.TheVariants.{WriteFailed, NoMemory}
+use Rattle.lay_printer.specs.Printing.{Printing}
 use Rattle.lay_printer.specs.Pages.{Wrote, Cut}
 use Rattle.lay_printer.specs.Errors.{Blame, Blames}
 use Rattle.lay_printer.specs.Printers.{Runs, FedBy, CauseOf, Finishes, printer_meanings}
@@ -38,20 +38,20 @@ grew_cut (Some b) (Some a) t h =
     let y : take (length x.0) t ≡ x.0 = ap (λ (z : List ℕ). take (length x.0) z) (sym x.3) ∙ take-append_seam x.0 x.1 in
     (length x.0, ap (λ (z : List ℕ). Some (b ++ z)) y ∙ ap (λ (z : List ℕ). Some z) (sym x.2))
 
-fed_cut : (z : Option PrintError) (c : Core) (w : Option (List ℕ)) (content : List ℕ) (s : List Tok) → z ≢ None → FedBy z c w content s → (r : List Tok) → Cut w content (text (s ++ r))
+fed_cut : (z : Option PrintError) (c : Printing) (w : Option (List ℕ)) (content : List ℕ) (s : List Tok) → z ≢ None → FedBy z c w content s → (r : List Tok) → Cut w content (text (s ++ r))
 fed_cut None c w content s n h r = absurd (n refl)
-fed_cut (Some e) c w content s n h r = h r tt
+fed_cut (Some e) c w content s n h r = h.cut r tt
 
 -- a printer that hasn't been fed anything
-pub record Begins (c : Core) (written : Option (List ℕ)) : Type 0 where
+pub record Begins (c : Printing) (written : Option (List ℕ)) : Type 0 where
   pub fresh : c.failed ≡ None
   pub runs : (content : List ℕ) → Wrote written content [] → Runs c written content []
 
-begins_fed : (c : Core) (w : Option (List ℕ)) → Begins c w → (content : List ℕ) → Wrote w content [] → FedBy c.failed c w content []
+begins_fed : (c : Printing) (w : Option (List ℕ)) → Begins c w → (content : List ℕ) → Wrote w content [] → FedBy c.failed c w content []
 begins_fed c w b content h = subst (λ (z : Option PrintError). FedBy z c w content []) (sym b.fresh) (b.runs content h)
 
 -- a call failed
-pub stopped : {S T : Type 0} (core : S → Core) (written : S → Option (List ℕ)) (faults loan : S → ℕ) (x y : S) (ts : List Tok) (e : PrintError) →
+pub stopped : {S T : Type 0} (core : S → Printing) (written : S → Option (List ℕ)) (faults loan : S → ℕ) (x y : S) (ts : List Tok) (e : PrintError) →
     Begins (core x) (written x) → Did {T = T} (printer_meanings core written faults loan) x ts (Err e) y → (content : List ℕ) → Wrote (written x) content [] → Cut (written y) content (text ts)
 stopped core written faults loan x y ts e b d content h =
     let s = d.stops e refl in
@@ -59,7 +59,7 @@ stopped core written faults loan x y ts e b d content h =
     subst (λ (z : List Tok). Cut (written y) content (text z)) f.both (fed_cut (core y).failed (core y) (written y) content f.front s.has_failed f.is_fed.0 f.back)
 
 -- all calls answered Ok
-pub went : {S T : Type 0} (core : S → Core) (written : S → Option (List ℕ)) (faults loan : S → ℕ) (x y : S) (ts : List Tok) (v : T) →
+pub went : {S T : Type 0} (core : S → Printing) (written : S → Option (List ℕ)) (faults loan : S → ℕ) (x y : S) (ts : List Tok) (v : T) →
     Begins (core x) (written x) → Did (printer_meanings core written faults loan) x ts (Ok v) y → (content : List ℕ) → Wrote (written x) content [] → FedBy (core y).failed (core y) (written y) content ts
 went core written faults loan x y ts v b d content h =
     ((d.puts v refl).appends (record { content = content; faults = faults x }) [] (begins_fed (core x) (written x) b content h, le_refl (faults x))).0
@@ -78,7 +78,7 @@ pub record Printed {T : Type 0} (before now : Option (List ℕ)) (faults faults'
   pub err : OnErr result (GrewByPrefix before now (text ts))
   pub cause : Blames faults faults' result
 
-pub printed_stopped : {S T U : Type 0} (core : S → Core) (written : S → Option (List ℕ)) (faults loan : S → ℕ) (x y : S) (ts : List Tok) (e : PrintError) (r : Result U PrintError) →
+pub printed_stopped : {S T U : Type 0} (core : S → Printing) (written : S → Option (List ℕ)) (faults loan : S → ℕ) (x y : S) (ts : List Tok) (e : PrintError) (r : Result U PrintError) →
     Begins (core x) (written x) → Did {T = T} (printer_meanings core written faults loan) x ts (Err e) y → IsErrAnd r (λ z. z ≡ e) → Printed (written x) (written y) (faults x) (faults y) r ts
 printed_stopped core written faults loan x y ts e (Ok v) b d i = absurd i
 printed_stopped core written faults loan x y ts e (Err v) b d i = record {
@@ -90,7 +90,7 @@ printed_stopped core written faults loan x y ts e (Err v) b d i = record {
   };
 }
 
-pub printed_finish : {S T U : Type 0} (core : S → Core) (written : S → Option (List ℕ)) (faults loan : S → ℕ) (x y z : S) (ts : List Tok) (v : T) (r : Result U PrintError) →
+pub printed_finish : {S T U : Type 0} (core : S → Printing) (written : S → Option (List ℕ)) (faults loan : S → ℕ) (x y z : S) (ts : List Tok) (v : T) (r : Result U PrintError) →
     Begins (core x) (written x) → Did (printer_meanings core written faults loan) x ts (Ok v) y → Finishes (core y) (written y) (faults y) r (core z) (written z) (faults z) →
     Printed (written x) (written z) (faults x) (faults z) r ts
 printed_finish core written faults loan x y z ts v (Ok u) b d f = record {
@@ -113,6 +113,6 @@ pub printed_along : {K T : Type 0} (written : K → Option (List ℕ)) (faults :
 printed_along written faults a a' b b' r ts e f h =
     subst (λ (z : _). Printed (written z) (written b') (faults z) (faults b') r ts) e (subst (λ (z : _). Printed (written a) (written z) (faults a) (faults z) r ts) f h)
 
-pub level_zero : {S T : Type 0} (core : S → Core) (written : S → Option (List ℕ)) (faults loan : S → ℕ) (x y : S) (ts : List Tok) (v : T) →
-    (core x).queue.groups ≡ 0 → Did (printer_meanings core written faults loan) x ts (Ok v) y → opened ts 0 ≡ 0 → (core y).queue.groups ≡ 0
+pub level_zero : {S T : Type 0} (core : S → Printing) (written : S → Option (List ℕ)) (faults loan : S → ℕ) (x y : S) (ts : List Tok) (v : T) →
+    (core x).groups ≡ 0 → Did (printer_meanings core written faults loan) x ts (Ok v) y → opened ts 0 ≡ 0 → (core y).groups ≡ 0
 level_zero core written faults loan x y ts v g d o = (d.puts v refl).level ∙ ap (opened ts) g ∙ o

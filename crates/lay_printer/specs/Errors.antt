@@ -1,8 +1,8 @@
 -- Why a call of a printer fails.
 use Rattle.std.specs.Prelude.{ℕ, ◌≤◌, IfErr, Result}
 use Rattle.lay_io.specs.Faults.{Rose}
-use Rattle.lay_printer.specs.declared.print.PrintError.{PrintError}
-use Rattle.lay_printer.specs.declared.print.PrintError.TheVariants.{WriteFailed, NoMemory}
+use Rattle.lay_printer.specs.declared.engine.PrintError.{PrintError}
+use Rattle.lay_printer.specs.declared.engine.PrintError.TheVariants.{WriteFailed, NoMemory}
 
 abbrev pub Blame : PrintError → ℕ → ℕ → Type 0
 Blame WriteFailed before now = Rose before now

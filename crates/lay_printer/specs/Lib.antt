@@ -6,11 +6,10 @@ pub mod Queued
 pub mod Errors
 pub mod Printers
 pub mod Steps
-pub mod Framed
-pub mod Spares
 pub mod Depth
-pub mod Same
 pub mod Sizes
 pub mod Texts
-pub mod Views
+pub mod Printing
+pub mod Engines
+pub mod Presses
 pub mod Promises

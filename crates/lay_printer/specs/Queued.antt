@@ -8,21 +8,15 @@ use Rattle.lay_ring.specs.declared.entry.Size.{Size}
 use Rattle.lay_ring.specs.declared.entry.Size.TheVariants.{Unknown, Known, Forced}
 use Rattle.lay_ring.specs.declared.entry.Entry.{Entry}
 use Rattle.lay_printer.specs.declared.close.Note.{Note}
-use Rattle.lay_printer.specs.declared.page.Page.{Page}
-use Rattle.lay_printer.specs.Scan.{Scan, Stopped, Going, size_of_scan, waiting, cap, Holds, HoldsAtEnd}
+use Rattle.lay_printer.specs.declared.line.Line.{Line}
+use Rattle.lay_printer.specs.Scan.{at_end, size_of_scan, waiting, cap, MayFollow, Holds}
 use Rattle.lay_printer.specs.Notes.{scans, Fits}
 use Rattle.lay_printer.specs.Closed.{toks_of, sizes_of}
 use Rattle.lay_printer.specs.Pages.{Is, Wrote, Cut}
 
--- when no more tokens come, each measure has ended
-abbrev pub at_end : Bool → Scan → Scan
-at_end false c = c
-at_end true (Stopped n) = Stopped n
-at_end true (Going n d) = Stopped n
-
 -- the number that the next entry gets
-abbrev pub next_of : Held → ℕ
-next_of ring = number_of ring.first (length ring.entries)
+abbrev pub next_of : ℕ → List Entry → ℕ
+next_of first entries = number_of first (length entries)
 
 -- What is kept fits the tokens that wait. ended: no more tokens come.
 pub record Good (ended : Bool) (ring : Held) (notes : List Note) (acc groups wait : ℕ) : Type 0 where
@@ -41,41 +35,32 @@ notes_after (Known z) ms = ms
 notes_after Forced ms = ms
 
 -- What is decided of the oldest entry: whether it doesn't fit, or nothing yet.
-abbrev pub Says : Size → ℕ → Page → Option Bool → Type 0
-Says Unknown wait page None = page.used + wait ≤ page.room
-Says Unknown wait page (Some big) = (big ≡ true) × (page.room < page.used + wait)
-Says (Known (pos k)) wait page r = r ≡ Some (nat_lt page.room (page.used + k))
-Says (Known (negsuc k)) wait page r = r ≡ Some false
-Says Forced wait page r = r ≡ Some true
+abbrev pub Says : Size → ℕ → Line → Option Bool → Type 0
+Says Unknown wait line None = line.used + wait ≤ line.room
+Says Unknown wait line (Some big) = (big ≡ true) × (line.room < line.used + wait)
+Says (Known (pos k)) wait line r = r ≡ Some (nat_lt line.room (line.used + k))
+Says (Known (negsuc k)) wait line r = r ≡ Some false
+Says Forced wait line r = r ≡ Some true
 
-abbrev pub Decided : List Entry → ℕ → Page → Option Bool → Type 0
-Decided [] wait page r = r ≡ None
-Decided (e ∷ es) wait page r = Says e.size wait page r
+abbrev pub Decided : List Entry → ℕ → Line → Option Bool → Type 0
+Decided [] wait line r = r ≡ None
+Decided (e ∷ es) wait line r = Says e.size wait line r
 
--- a page and frames are at a layout
-pub record At (page : Page) (frames : List Frame) (m : Layout) : Type 0 where
+-- a line and frames are at a layout
+pub record At (line : Line) (frames : List Frame) (m : Layout) : Type 0 where
   pub frames_are : frames ≡ m.frames
-  pub is : Is page m.state
+  pub is : Is line m.state
 
 -- A token is printed: Ok makes the layout act of it, and Err leaves a front of the text of that.
-pub record Prints {T E : Type 0} (page : Page) (frames : List Frame) (before : Option (List ℕ)) (result : Result T E) (page' : Page) (frames' : List Frame) (now : Option (List ℕ)) (tok : Tok) (big : Bool) : Type 0 where
-  pub ok : OnOk result ((content : List ℕ) (m : Layout) → At page frames m → Wrote before content m.state.text → At page' frames' (act tok big m) × Wrote now content (act tok big m).state.text)
-  pub err : OnErr result ((content : List ℕ) (m : Layout) → At page frames m → Wrote before content m.state.text → Cut now content (act tok big m).state.text)
-
-abbrev pub HoldsBy : Bool → List Tok → List Entry → Layout → Type 0
-HoldsBy false s es m = Holds s es m
-HoldsBy true s es m = HoldsAtEnd s es m
-
--- what may follow
-abbrev pub MayFollow : Bool → List Tok → Type 0
-MayFollow false r = Unit {0}
-MayFollow true r = r ≡ []
+pub record Prints {T E : Type 0} (line : Line) (frames : List Frame) (before : Option (List ℕ)) (result : Result T E) (line' : Line) (frames' : List Frame) (now : Option (List ℕ)) (tok : Tok) (big : Bool) : Type 0 where
+  pub ok : OnOk result ((content : List ℕ) (m : Layout) → At line frames m → Wrote before content m.state.text → At line' frames' (act tok big m) × Wrote now content (act tok big m).state.text)
+  pub err : OnErr result ((content : List ℕ) (m : Layout) → At line frames m → Wrote before content m.state.text → Cut now content (act tok big m).state.text)
 
 -- The printer holds the tokens s of a stream, over a sink that had the content.
-pub record Running (ended : Bool) (entries : List Entry) (page : Page) (frames : List Frame) (written : Option (List ℕ)) (content : List ℕ) (s : List Tok) : Type 0 where
+pub record Running (ended : Bool) (entries : List Entry) (line : Line) (frames : List Frame) (written : Option (List ℕ)) (content : List ℕ) (s : List Tok) : Type 0 where
   pub layout : Layout
-  pub holds : HoldsBy ended s entries layout
-  pub at : At page frames layout
+  pub holds : Holds ended s entries layout
+  pub at : At line frames layout
   pub wrote : Wrote written content layout.state.text
 
 -- What was written is a front of the text of s and any tokens that follow.
@@ -83,16 +68,16 @@ abbrev pub Broken : Bool → Option (List ℕ) → List ℕ → List Tok → Typ
 Broken ended written content s = (r : List Tok) → MayFollow ended r → Cut written content (text (s ++ r))
 
 -- Entries are printed.
-pub record Prints_on {T E : Type 0} (ended : Bool) (entries : List Entry) (page : Page) (frames : List Frame) (before : Option (List ℕ)) (result : Result T E) (entries' : List Entry) (page' : Page) (frames' : List Frame) (now : Option (List ℕ)) : Type 0 where
-  pub ok : OnOk result ((content : List ℕ) (s : List Tok) → Running ended entries page frames before content s → Running ended entries' page' frames' now content s)
-  pub err : OnErr result ((content : List ℕ) (s : List Tok) → Running ended entries page frames before content s → Broken ended now content s)
+pub record Prints_on {T E : Type 0} (ended : Bool) (entries : List Entry) (line : Line) (frames : List Frame) (before : Option (List ℕ)) (result : Result T E) (entries' : List Entry) (line' : Line) (frames' : List Frame) (now : Option (List ℕ)) : Type 0 where
+  pub ok : OnOk result ((content : List ℕ) (s : List Tok) → Running ended entries line frames before content s → Running ended entries' line' frames' now content s)
+  pub err : OnErr result ((content : List ℕ) (s : List Tok) → Running ended entries line frames before content s → Broken ended now content s)
 
 -- A token is fed.
-pub record Feeds {T E : Type 0} (entries : List Entry) (page : Page) (frames : List Frame) (before : Option (List ℕ)) (result : Result T E) (entries' : List Entry) (page' : Page) (frames' : List Frame) (now : Option (List ℕ)) (tok : Tok) : Type 0 where
-  pub ok : OnOk result ((content : List ℕ) (s : List Tok) → Running false entries page frames before content s → Running false entries' page' frames' now content (s ++ tok ∷ []))
-  pub err : OnErr result ((content : List ℕ) (s : List Tok) → Running false entries page frames before content s → Broken false now content (s ++ tok ∷ []))
+pub record Feeds {T E : Type 0} (entries : List Entry) (line : Line) (frames : List Frame) (before : Option (List ℕ)) (result : Result T E) (entries' : List Entry) (line' : Line) (frames' : List Frame) (now : Option (List ℕ)) (tok : Tok) : Type 0 where
+  pub ok : OnOk result ((content : List ℕ) (s : List Tok) → Running false entries line frames before content s → Running false entries' line' frames' now content (s ++ tok ∷ []))
+  pub err : OnErr result ((content : List ℕ) (s : List Tok) → Running false entries line frames before content s → Broken false now content (s ++ tok ∷ []))
 
 -- The rest is printed.
-pub record Ends {T E : Type 0} (entries : List Entry) (page : Page) (frames : List Frame) (before : Option (List ℕ)) (result : Result T E) (now : Option (List ℕ)) : Type 0 where
-  pub ok : OnOk result ((content : List ℕ) (s : List Tok) → Running false entries page frames before content s → Wrote now content (text s))
-  pub err : OnErr result ((content : List ℕ) (s : List Tok) → Running false entries page frames before content s → Cut now content (text s))
+pub record Ends {T E : Type 0} (entries : List Entry) (line : Line) (frames : List Frame) (before : Option (List ℕ)) (result : Result T E) (now : Option (List ℕ)) : Type 0 where
+  pub ok : OnOk result ((content : List ℕ) (s : List Tok) → Running false entries line frames before content s → Wrote now content (text s))
+  pub err : OnErr result ((content : List ℕ) (s : List Tok) → Running false entries line frames before content s → Cut now content (text s))

@@ -1,5 +1,5 @@
 -- Tokens that wait, with the sizes that are known of them before the rest is fed.
-use Rattle.std.specs.Prelude.{◌≡◌, ℕ, zero, suc, ◌+◌, ◌≤◌, min, pos, List, [], ◌∷◌, ◌++◌, length}
+use Rattle.std.specs.Prelude.{◌≡◌, ℕ, zero, suc, ◌+◌, ◌≤◌, min, pos, Bool, true, false, List, [], ◌∷◌, ◌++◌, length}
 use Rattle.lay_token.specs.declared.layout.Tok.{Tok}
 use Rattle.lay_token.specs.declared.layout.Tok.TheVariants as tok
 use Rattle.lay_ring.specs.declared.entry.Size.{Size}
@@ -47,13 +47,20 @@ scan_of (tok.Break b) ts = widen (width_of_break b) (scan 0 ts)
 scan_of (tok.Begin c o) ts = scan 1 ts
 scan_of tok.End ts = Stopped 0
 
-abbrev pub size_of : Tok → List Tok → Size
-size_of t ts = size_of_scan (scan_of t ts)
+-- when no more tokens come, each measure has ended
+abbrev pub at_end : Bool → Scan → Scan
+at_end false c = c
+at_end true (Stopped n) = Stopped n
+at_end true (Going n d) = Stopped n
+
+-- the size of a token that ts follow. ended: no more tokens come.
+abbrev pub size_of : Bool → Tok → List Tok → Size
+size_of ended t ts = size_of_scan (at_end ended (scan_of t ts))
 
 -- the entries of tokens that wait
-abbrev pub sized : List Tok → List Entry
-sized [] = []
-sized (t ∷ ts) = record { tok = t; size = size_of t ts } ∷ sized ts
+abbrev pub sized : Bool → List Tok → List Entry
+sized ended [] = []
+sized ended (t ∷ ts) = record { tok = t; size = size_of ended t ts } ∷ sized ended ts
 
 -- the length of the texts
 abbrev pub text_length : Tok → ℕ
@@ -66,25 +73,16 @@ abbrev pub waiting : List Entry → ℕ
 waiting [] = 0
 waiting (e ∷ es) = text_length e.tok + waiting es
 
+-- the tokens that may follow
+abbrev pub MayFollow : Bool → List Tok → Type 0
+MayFollow false r = Unit {0}
+MayFollow true r = r ≡ []
+
 -- The printer after the tokens s: the first ones are printed, whatever follows s, and the others wait.
-pub record Holds (s : List Tok) (entries : List Entry) (layout : Layout) : Type 0 where
+pub record Holds (ended : Bool) (s : List Tok) (entries : List Entry) (layout : Layout) : Type 0 where
   pub printed : List Tok
   pub waits : List Tok
   pub all : printed ++ waits ≡ s
-  pub are_sized : entries ≡ sized waits
+  pub are_sized : entries ≡ sized ended waits
   pub small : layout.state.room ≤ 89
-  pub shown : (r : List Tok) → play printed (waits ++ r) begun ≡ layout
-
--- the entries of tokens that wait when no more come
-abbrev pub ended : List Tok → List Entry
-ended [] = []
-ended (t ∷ ts) = record { tok = t; size = Known (pos (min (with_rest (scan_of t ts) []) cap)) } ∷ ended ts
-
--- the same at the end, when no more tokens come
-pub record HoldsAtEnd (s : List Tok) (entries : List Entry) (layout : Layout) : Type 0 where
-  pub printed : List Tok
-  pub waits : List Tok
-  pub all : printed ++ waits ≡ s
-  pub are_sized : entries ≡ ended waits
-  pub small : layout.state.room ≤ 89
-  pub shown : play printed waits begun ≡ layout
+  pub shown : (r : List Tok) → MayFollow ended r → play printed (waits ++ r) begun ≡ layout

@@ -4,7 +4,7 @@ use Rattle.lay_token.specs.declared.layout.Tok.{Tok}
 use Rattle.lay_token.specs.Machine.{after, shown}
 use Rattle.lay_token.specs.Document.{State}
 use Rattle.lay_ring.specs.declared.entry.Entry.{Entry}
-use Rattle.lay_printer.specs.declared.page.Page.{Page}
+use Rattle.lay_printer.specs.declared.line.Line.{Line}
 use Rattle.lay_printer.specs.Pages.{Is, Wrote}
 use Rattle.lay_printer.specs.Closed.{toks_of}
 
@@ -12,10 +12,10 @@ use Rattle.lay_printer.specs.Closed.{toks_of}
 abbrev pub at : List Tok → List Entry → ℕ
 at s es = length s - length es
 
--- Lockstep: the sink has grown by what is shown at j, and the page is that of the state at j.
-pub record InStep (es : List Entry) (p : Page) (w : Option (List ℕ)) (content : List ℕ) (s r : List Tok) : Type 0 where
+-- Lockstep: the sink has grown by what is shown at j, and the line is that of the state at j.
+pub record InStep (es : List Entry) (p : Line) (w : Option (List ℕ)) (content : List ℕ) (s r : List Tok) : Type 0 where
   pub grown : Wrote w content (shown (s ++ r) (at s es))
-  pub page : Is p (after (s ++ r) (at s es)).state
+  pub line : Is p (after (s ++ r) (at s es)).state
   pub waits : toks_of es ≡ drop (at s es) s
 
 -- the greater of the space and 0

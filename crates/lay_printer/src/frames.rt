@@ -17,7 +17,7 @@ impl Model for Frames {
     ghost use Rattle.std.specs.Prelude.{List, reverse, ◌-◌, vec_len, vec_capacity};
     ghost use Rattle.lay_token.specs.declared.layout.Frame.{Frame};
     ghost use Rattle.lay_stream.specs.Indents.{AreKept};
-    ghost use Rattle.lay_printer.specs.Framed.{Framed};
+    ghost use Rattle.lay_printer.specs.Depth.{Framed};
 
     ghost Value = { Framed };
 

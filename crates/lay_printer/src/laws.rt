@@ -2,11 +2,10 @@
 ghost use Rattle.std.specs.Prelude.{◌≡◌, ℕ, ◌≤◌, ◌-◌, ◌%◌, ◌^◌, ◌++◌, List, Option, true, false, length, take};
 ghost use Rattle.lay_token.specs.declared.layout.Tok.{Tok};
 ghost use Rattle.lay_token.specs.Machine.{shown};
-ghost use Rattle.lay_printer.specs.declared.printer.Core.{Core};
+ghost use Rattle.lay_printer.specs.Printing.{Printing};
 ghost use Rattle.lay_printer.specs.Printers.{Runs};
 ghost use Rattle.lay_printer.specs.Sizes.{AreMeasured};
 ghost use Rattle.lay_printer.specs.Steps.{InStep, at};
-ghost use Rattle.lay_printer.specs.Views.{entries_of, first_of};
 ghost use Rattle.lay_printer.specs.Texts.{AreFull, ends_in_blank, last_blank};
 
 /// A printer that was fed the tokens s and hasn't failed, over a sink that had the content.
@@ -15,9 +14,9 @@ ghost use Rattle.lay_printer.specs.Texts.{AreFull, ends_in_blank, last_blank};
 /// sink has grown by what is shown at token j, and the ring holds the tokens from there on, in order. Known
 /// sizes are measures. The number of the ring's first entry is j modulo 2^64.
 pub fn fed_law()
-    ensures lockstep { (c : Core) (written : Option (List ℕ)) (content : List ℕ) (s r : List Tok) → Runs c written content s → InStep (entries_of c) c.page written content s r }
-    ensures sizes { (c : Core) (written : Option (List ℕ)) (content : List ℕ) (s : List Tok) → Runs c written content s → AreMeasured (entries_of c) }
-    ensures work { (c : Core) (written : Option (List ℕ)) (content : List ℕ) (s : List Tok) → Runs c written content s → first_of c ≡ at s (entries_of c) % 2 ^ 64 }
+    ensures lockstep { (c : Printing) (written : Option (List ℕ)) (content : List ℕ) (s r : List Tok) → Runs c written content s → InStep c.entries c.line written content s r }
+    ensures sizes { (c : Printing) (written : Option (List ℕ)) (content : List ℕ) (s : List Tok) → Runs c written content s → AreMeasured c.entries }
+    ensures work { (c : Printing) (written : Option (List ℕ)) (content : List ℕ) (s : List Tok) → Runs c written content s → c.first ≡ at s c.entries % 2 ^ 64 }
 {}
 
 /// Where no text is empty, what is shown ends in a blank only where the last text before does. So a newline

@@ -6,35 +6,37 @@
 //! of the group. So a token can't be printed before enough of what follows has been seen, but the text that
 //! waits never needs to be longer than a line.
 //!
-//! Two sides work on a ring of entries, each a token with its size. The scanning side ([`queue`]) pushes the
+//! Two sides work on a ring of entries, each a token with its size. The scanning side ([`queue`]) takes the
 //! tokens that are fed. A text has its size at once. A begin and a break enter with an unknown size, and a note
 //! of each is kept. A break ends the measures of what was noted with no fewer groups open than now, so it
-//! writes their sizes back ([`close`]) before it is pushed itself. The printing side ([`print`]) takes entries
-//! from the front while their sizes are known, writes them and keeps the frames of the groups that are open.
-//! The two meet at the front of the ring: where the first entry's size is unknown, but the text that waits is
-//! longer than the space, its measure is greater than the space too, whatever comes. It is then forced: it is
-//! printed as one that doesn't fit. So no more text waits than the space, and at the end of the stream every
-//! size is known.
+//! writes their sizes back ([`close`]) before it enters itself. The printing side ([`page`]) puts tokens on the
+//! line that is being written ([`line`]) and keeps the frames of the groups that are open there ([`frames`]).
 //!
-//! [`Printer`] owns its sink. [`Press`] is lent its sink and its memory, which a [`Core`] owns, so it serves a
-//! sink that was handed in by reference. The laws in [`laws`] say what holds of both at every moment: what the
+//! The two meet at the front of the ring ([`engine`]). After each token that is fed, entries are printed while
+//! it is decided whether they fit. A known size decides by itself. While the first entry's size is unknown and
+//! the text that waits is longer than the space, its measure is greater than the space too, whatever comes: it
+//! is forced, which means that it is printed as one that doesn't fit. So no more text waits than the space, and
+//! at the end of the stream every size is known.
+//!
+//! A [`Core`] is an engine that remembers whether a call has failed: then each later one answers the same
+//! error and leaves the sink as it is. [`Press`] is lent a core and a sink, so it serves a sink that was handed
+//! in by reference. [`Printer`] owns both. The laws in [`laws`] say what holds of them at every moment: what the
 //! sink has grown by is what the tokens that were printed show, whatever follows; sizes are measures; no blank
-//! stands at a line's end but a text's own. After a call that failed each later one answers the same error, and
-//! the sink has grown by a front of the text.
+//! stands at a line's end but a text's own. After a call that failed the sink has grown by a front of the text.
 #![tactic(auto)]
 
-pub mod close;
-pub mod frames;
+mod close;
+mod engine;
+mod frames;
 pub mod laws;
-pub mod page;
-pub mod press;
-pub mod print;
-pub mod printer;
-pub mod put;
-pub mod queue;
+mod line;
+mod page;
+mod press;
+mod printer;
+mod queue;
 
+pub use engine::PrintError;
 pub use press::{Press, PrintFault, Printer};
-pub use print::PrintError;
 pub use printer::Core;
 
 #[cfg(test)]

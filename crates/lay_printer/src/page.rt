@@ -1,11 +1,69 @@
-//! The place on a line.
-ghost use Rattle.std.specs.Prelude.{◌≤◌};
+//! The printing side: tokens are printed where the layout stands.
+ghost use Rattle.std.specs.Prelude.{◌≡◌, ◌+◌, ◌<◌, ◌≤◌, [], ◌∷◌, length};
+ghost use Rattle.lay_token.specs.Document.{enter};
+ghost use Rattle.lay_token.specs.Machine.{opened};
+ghost use Rattle.lay_io.specs.Faults.{HasCause, SameLoan};
+ghost use Rattle.lay_printer.specs.Queued.{Prints};
+ghost use Rattle.lay_stream.specs.Indents.{IsKept};
 
-/// The blanks that are to be written before what comes next, the room of this line and what was used of it.
-#[derive(Clone, Copy, Debug)]
+use crate::frames::Frames;
+use crate::line::{Line, shifted};
+use lay_io::{Failed, Sink};
+use lay_token::{Frame, Tok};
+
+/// Where the layout stands: the line that is being written, and the frames of the groups that are open there.
+#[derive(Drop)]
 pub struct Page {
-    pub pending: u64,
-    pub room: u64,
-    pub used: u64,
-    ghost small: { room ≤ 89 },
+    pub line: Line,
+    pub frames: Frames,
+}
+
+impl Page {
+    /// Prints a token, of which it is known whether its measure is greater than the space.
+    pub fn print<K: Sink>(&mut self, sink: &mut K, tok: &Tok, big: bool) -> Result<(), Failed>
+        requires { 0 < self.old.frames.spare }
+        ensures prints { Prints self.old.line self.old.frames.frames (K.written sink.old) result self.new.line self.new.frames.frames (K.written sink.new) tok.now big }
+        ensures depth { length self.new.frames.frames ≡ opened (tok.now ∷ []) (length self.old.frames.frames) }
+        ensures spare { self.old.frames.spare ≤ self.new.frames.spare + 1 }
+        ensures cause { HasCause (K.faults sink.old) (K.faults sink.new) result }
+        ensures loan { SameLoan (K.loan sink.old) (K.loan sink.new) }
+    {
+        match tok {
+            Tok::Text(text) => self.line.write(sink, text.as_bytes()),
+            Tok::Break(brk) => self.line.put_break(sink, self.frames.top(), *brk, big),
+            Tok::Begin { consistent, offset } => {
+                let frame = entered(self.frames.top(), *consistent, *offset, big);
+                self.frames.push(frame);
+                Ok(())
+            }
+            Tok::End => {
+                self.frames.pop();
+                Ok(())
+            }
+        }
+    }
+}
+
+/// A group's frame in a frame.
+fn entered(frame: Frame, consistent: bool, offset: i8, big: bool) -> Frame
+    requires { IsKept frame }
+    ensures value { result ≡ enter frame consistent offset big }
+    ensures small { IsKept result }
+{
+    match frame {
+        Frame::Flat => Frame::Flat,
+        Frame::Broken {
+            consistent: _,
+            indent,
+        } => {
+            if big {
+                Frame::Broken {
+                    consistent,
+                    indent: shifted(indent, offset).min(240),
+                }
+            } else {
+                Frame::Flat
+            }
+        }
+    }
 }

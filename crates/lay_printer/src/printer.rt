@@ -1,33 +1,44 @@
 //! What a printer keeps beside its sink.
-ghost use Rattle.std.specs.Prelude.{◌≡◌, ℕ, ◌+◌, ◌-◌, ◌%◌, ◌^◌, ◌<◌, ◌≤◌, [], ◌∷◌, ◌++◌, OnOk, OnErr, IfOk, IfErr, Err, Some, None, false, length, pos, ◌-ℤ◌};
+ghost use Rattle.std.specs.Prelude.{◌≡◌, ℕ, ◌+◌, ◌<◌, ◌≤◌, [], ◌∷◌, OnOk, OnErr, IfOk, IfErr, None, Some, length, pos, ◌-ℤ◌};
 ghost use Rattle.lay_token.specs.declared.layout.Tok.TheVariants as tok;
+ghost use Rattle.lay_token.specs.Machine.{IsNested};
 ghost use Rattle.lay_io.specs.Faults.{SameLoan};
-ghost use Rattle.lay_printer.specs.Depth.{open_in};
-ghost use Rattle.lay_printer.specs.Spares.{room_for};
+ghost use Rattle.lay_printer.specs.Printers.{Calls, Finishes, IsWhole, Repeats, TakesRoom};
+ghost use Rattle.lay_printer.specs.Promises.{FitSpace, IsSame, IsSpace, KeepsStep, RunsAs, RunsFresh};
 ghost use Rattle.lay_printer.specs.Scan.{waiting as sum_waiting};
+ghost use Rattle.lay_printer.specs.declared.engine.PrintError.{PrintError};
+ghost use Rattle.lay_printer.specs.declared.engine.PrintError.TheVariants.{WriteFailed};
 
+use crate::engine::{Engine, PrintError};
 use crate::frames::Frames;
+use crate::line::Line;
 use crate::page::Page;
-use crate::print::{PrintError, feed_begin, feed_break, feed_end, feed_text, print_rest};
 use crate::queue::Queue;
 use lay_io::{Failed, Sink};
-use lay_token::{Break, NoMemory, Text};
+use lay_token::{Break, NoMemory, Text, Tok};
 use std::alloc::Global;
+use std::marker::Model;
 
-/// What a printer keeps beside its sink: it owns the memory.
+/// What a printer keeps beside its sink: it owns the memory. Contracts see the tokens that wait with their
+/// sizes and the number of the first, how many groups are open, how many tokens may come before memory is
+/// taken, why a call failed, if one did, and where the layout stands.
 #[derive(Drop)]
 pub struct Core {
     alloc: Global,
-    pub queue: Queue,
-    pub page: Page,
-    pub frames: Frames,
-    pub failed: Option<PrintError>,
-    pub spare: usize,
-    ghost live: { failed ≡ None → queue.ended ≡ false },
-    ghost room: { length queue.ring.entries ≤ frames.spare },
-    ghost kept: { spare ≤ room_for queue frames },
-    ghost level: { failed ≡ None → queue.groups ≡ open_in queue.ring.entries frames.frames },
-    ghost lag: { failed ≡ None → queue.waiting ≤ page.room - page.used },
+    engine: Engine,
+    failed: Option<PrintError>,
+    spare: usize,
+}
+
+impl Model for Core {
+    ghost use Rattle.lay_printer.specs.Printing.{Printing};
+    ghost use Rattle.lay_printer.specs.Engines.{Sound};
+
+    ghost Value = { Printing };
+
+    ghost view = { λ c. record { entries = c.engine.queue.ring.entries; first = c.engine.queue.ring.first; groups = c.engine.queue.groups; spare = c.spare; failed = c.failed; line = c.engine.page.line; frames = c.engine.page.frames.frames } };
+
+    ghost invariant = { λ c. Sound c.engine c.failed c.spare };
 }
 
 /// A number less another.
@@ -39,80 +50,33 @@ fn difference(a: u64, b: u64) -> i64
     a as i64 - b as i64
 }
 
-/// How many tokens may come before memory is taken.
-fn room(queue: &Queue, frames: &Frames) -> usize
-    requires { length queue.now.ring.entries ≤ frames.now.spare }
-    ensures { result ≡ room_for queue.now frames.now }
-{
-    let rooms = frames.spare() - queue.ring.len();
-    queue.ring.spare().min(queue.notes.spare()).min(rooms)
-}
-
 impl Core {
-    ghost use Rattle.lay_printer.specs.Printers.{Calls, Finishes};
-    ghost use Rattle.lay_printer.specs.Promises.{FitSpace, IsSpace, KeepsStep, RunsAs, RunsFresh};
-    ghost use Rattle.lay_printer.specs.Views.{entries_of, open_groups_of};
-    ghost use Rattle.lay_printer.specs.Same.{IsSame};
-    ghost use Rattle.lay_printer.specs.Queued.{next_of};
-    ghost use Rattle.lay_printer.specs.declared.print.PrintError.{PrintError};
-    ghost use Rattle.lay_printer.specs.declared.print.PrintError.TheVariants.{WriteFailed};
-
     /// A printer that was fed nothing.
     pub fn new(alloc: Global) -> Result<Core, NoMemory>
         ensures failed { IfOk result (λ c. c.failed ≡ None) }
-        ensures groups { IfOk result (λ c. open_groups_of c ≡ 0) }
+        ensures groups { IfOk result (λ c. c.groups ≡ 0) }
         ensures runs { IfOk result (λ c. (written : _) → RunsFresh c written) }
     {
         let queue = Queue::new(alloc)?;
+        let line = Line {
+            pending: 0,
+            room: 89,
+            used: 0,
+        };
+        let frames = Frames::new(alloc);
+        let page = Page { line, frames };
         Ok(Core {
             alloc,
-            queue,
-            page: Page {
-                pending: 0,
-                room: 89,
-                used: 0,
-            },
-            frames: Frames::new(alloc),
+            engine: Engine { queue, page },
             failed: None,
             spare: 0,
         })
     }
 
-    /// Feeds a text, which isn't copied.
-    pub fn text_owned<K: Sink>(&mut self, sink: &mut K, text: Text) -> Result<(), PrintError>
-        ensures calls { Calls self.old (K.written sink.old) (K.faults sink.old) result self.new (K.written sink.new) (K.faults sink.new) (tok.Text text) }
-        ensures sure { self.old.failed ≡ None → 0 < self.old.spare → IfErr result (λ e. e ≡ WriteFailed) }
-        ensures lowers { self.old.spare ≤ self.new.spare + 1 }
-        ensures number { OnOk result (next_of self.new.queue.ring ≡ (next_of self.old.queue.ring + 1) % 2 ^ 64) }
-        ensures same { (e : PrintError) → self.old.failed ≡ Some e → result ≡ Err e }
-        ensures loan { SameLoan (K.loan sink.old) (K.loan sink.new) }
-    {
-        if let Some(fault) = self.failed {
-            return Err(fault);
-        }
-        match feed_text(
-            &mut self.queue,
-            &mut self.page,
-            &mut self.frames,
-            sink,
-            text,
-        ) {
-            Ok(()) => {
-                self.spare = room(&self.queue, &self.frames);
-                Ok(())
-            }
-            Err(fault) => {
-                self.spare = room(&self.queue, &self.frames);
-                self.failed = Some(fault);
-                Err(fault)
-            }
-        }
-    }
-
     /// Feeds a text.
     pub fn text<K: Sink>(&mut self, sink: &mut K, text: &[u8]) -> Result<(), PrintError>
         ensures calls { Calls self.old (K.written sink.old) (K.faults sink.old) result self.new (K.written sink.new) (K.faults sink.new) (tok.Text text.now) }
-        ensures same { (e : PrintError) → self.old.failed ≡ Some e → result ≡ Err e }
+        ensures same { Repeats self.old result }
         ensures loan { SameLoan (K.loan sink.old) (K.loan sink.new) }
     {
         if let Some(fault) = self.failed {
@@ -127,29 +91,24 @@ impl Core {
         }
     }
 
+    /// Feeds a text, which isn't copied.
+    pub fn text_owned<K: Sink>(&mut self, sink: &mut K, text: Text) -> Result<(), PrintError>
+        ensures calls { Calls self.old (K.written sink.old) (K.faults sink.old) result self.new (K.written sink.new) (K.faults sink.new) (tok.Text text) }
+        ensures room { TakesRoom self.old result self.new }
+        ensures same { Repeats self.old result }
+        ensures loan { SameLoan (K.loan sink.old) (K.loan sink.new) }
+    {
+        self.feed(sink, Tok::Text(text))
+    }
+
     /// Feeds a break.
     pub fn brk<K: Sink>(&mut self, sink: &mut K, brk: Break) -> Result<(), PrintError>
         ensures calls { Calls self.old (K.written sink.old) (K.faults sink.old) result self.new (K.written sink.new) (K.faults sink.new) (tok.Break brk) }
-        ensures sure { self.old.failed ≡ None → 0 < self.old.spare → IfErr result (λ e. e ≡ WriteFailed) }
-        ensures lowers { self.old.spare ≤ self.new.spare + 1 }
-        ensures number { OnOk result (next_of self.new.queue.ring ≡ (next_of self.old.queue.ring + 1) % 2 ^ 64) }
-        ensures same { (e : PrintError) → self.old.failed ≡ Some e → result ≡ Err e }
+        ensures room { TakesRoom self.old result self.new }
+        ensures same { Repeats self.old result }
         ensures loan { SameLoan (K.loan sink.old) (K.loan sink.new) }
     {
-        if let Some(fault) = self.failed {
-            return Err(fault);
-        }
-        match feed_break(&mut self.queue, &mut self.page, &mut self.frames, sink, brk) {
-            Ok(()) => {
-                self.spare = room(&self.queue, &self.frames);
-                Ok(())
-            }
-            Err(fault) => {
-                self.spare = room(&self.queue, &self.frames);
-                self.failed = Some(fault);
-                Err(fault)
-            }
-        }
+        self.feed(sink, Tok::Break(brk))
     }
 
     /// Begins a group.
@@ -160,82 +119,71 @@ impl Core {
         offset: i8,
     ) -> Result<(), PrintError>
         ensures calls { Calls self.old (K.written sink.old) (K.faults sink.old) result self.new (K.written sink.new) (K.faults sink.new) (tok.Begin consistent offset) }
-        ensures sure { self.old.failed ≡ None → 0 < self.old.spare → IfErr result (λ e. e ≡ WriteFailed) }
-        ensures lowers { self.old.spare ≤ self.new.spare + 1 }
-        ensures number { OnOk result (next_of self.new.queue.ring ≡ (next_of self.old.queue.ring + 1) % 2 ^ 64) }
-        ensures same { (e : PrintError) → self.old.failed ≡ Some e → result ≡ Err e }
+        ensures room { TakesRoom self.old result self.new }
+        ensures same { Repeats self.old result }
         ensures loan { SameLoan (K.loan sink.old) (K.loan sink.new) }
     {
-        if let Some(fault) = self.failed {
-            return Err(fault);
-        }
-        match feed_begin(
-            &mut self.queue,
-            &mut self.page,
-            &mut self.frames,
-            sink,
-            consistent,
-            offset,
-        ) {
-            Ok(()) => {
-                self.spare = room(&self.queue, &self.frames);
-                Ok(())
-            }
-            Err(fault) => {
-                self.spare = room(&self.queue, &self.frames);
-                self.failed = Some(fault);
-                Err(fault)
-            }
-        }
+        self.feed(sink, Tok::Begin { consistent, offset })
     }
 
     /// Ends the group that was begun last.
     pub fn end<K: Sink>(&mut self, sink: &mut K) -> Result<(), PrintError>
-        requires { 0 < open_groups_of self.old }
+        requires { 0 < self.old.groups }
         ensures calls { Calls self.old (K.written sink.old) (K.faults sink.old) result self.new (K.written sink.new) (K.faults sink.new) (tok.End) }
-        ensures sure { self.old.failed ≡ None → 0 < self.old.spare → IfErr result (λ e. e ≡ WriteFailed) }
-        ensures lowers { self.old.spare ≤ self.new.spare + 1 }
-        ensures number { OnOk result (next_of self.new.queue.ring ≡ (next_of self.old.queue.ring + 1) % 2 ^ 64) }
-        ensures same { (e : PrintError) → self.old.failed ≡ Some e → result ≡ Err e }
+        ensures room { TakesRoom self.old result self.new }
+        ensures same { Repeats self.old result }
+        ensures loan { SameLoan (K.loan sink.old) (K.loan sink.new) }
+    {
+        self.feed(sink, Tok::End)
+    }
+
+    /// Feeds a token, unless a call has failed.
+    fn feed<K: Sink>(&mut self, sink: &mut K, tok: Tok) -> Result<(), PrintError>
+        requires { IsNested self.old.groups (tok ∷ []) }
+        ensures calls { Calls self.old (K.written sink.old) (K.faults sink.old) result self.new (K.written sink.new) (K.faults sink.new) tok }
+        ensures room { TakesRoom self.old result self.new }
+        ensures same { Repeats self.old result }
         ensures loan { SameLoan (K.loan sink.old) (K.loan sink.new) }
     {
         if let Some(fault) = self.failed {
             return Err(fault);
         }
-        match feed_end(&mut self.queue, &mut self.page, &mut self.frames, sink) {
+        match self.engine.feed(sink, tok) {
             Ok(()) => {
-                self.spare = room(&self.queue, &self.frames);
+                self.spare = self.engine.room();
                 Ok(())
             }
             Err(fault) => {
-                self.spare = room(&self.queue, &self.frames);
+                self.spare = self.engine.room();
                 self.failed = Some(fault);
                 Err(fault)
             }
         }
     }
 
-    /// Prints the rest, since no more tokens come. Every group must have ended, unless a call failed.
+    /// Prints the rest, since no more tokens come. Every group must have ended, unless a call failed. A printer
+    /// that failed leaves the sink as it is.
     pub fn finish<K: Sink>(&mut self, sink: &mut K) -> Result<(), PrintError>
-        requires { self.old.failed ≡ None → open_groups_of self.old ≡ 0 }
+        requires { self.old.failed ≡ None → self.old.groups ≡ 0 }
         ensures finishes { Finishes self.old (K.written sink.old) (K.faults sink.old) result self.new (K.written sink.new) (K.faults sink.new) }
+        ensures whole { IsWhole self.old (K.written sink.old) }
         ensures stays { OnOk result (self.new.failed ≡ None) }
-        ensures empty { OnOk result (entries_of self.new ≡ []) }
+        ensures empty { OnOk result (self.new.entries ≡ []) }
         ensures no_memory { self.old.failed ≡ None → IfErr result (λ e. e ≡ WriteFailed) }
-        ensures same { (e : PrintError) → self.old.failed ≡ Some e → result ≡ Err e }
+        ensures same { Repeats self.old result }
+        ensures alone { (e : PrintError) → self.old.failed ≡ Some e → sink.new ≡ sink.old }
         ensures loan { SameLoan (K.loan sink.old) (K.loan sink.new) }
     {
         if let Some(fault) = self.failed {
             return Err(fault);
         }
-        match print_rest(&mut self.queue, &mut self.page, &mut self.frames, sink) {
+        match self.engine.finish(sink) {
             Ok(()) => {
-                self.queue.restart();
-                self.spare = room(&self.queue, &self.frames);
+                self.spare = self.engine.room();
                 Ok(())
             }
             Err(Failed) => {
-                self.spare = room(&self.queue, &self.frames);
+                self.spare = self.engine.room();
                 self.failed = Some(PrintError::WriteFailed);
                 Err(PrintError::WriteFailed)
             }
@@ -244,25 +192,35 @@ impl Core {
 
     /// How many groups are open: `end` asks for one, and `finish` for none.
     pub fn open_groups(&self) -> u64
-        ensures { result ≡ open_groups_of self.now }
+        ensures { result ≡ self.now.groups }
     {
-        self.queue.groups
+        self.engine.queue.groups
     }
 
     /// How many bytes of text were fed and aren't in the sink: no more than the space.
-    pub fn waiting(&self) -> u64
-        ensures value { result ≡ sum_waiting (entries_of self.now) }
+    pub fn waiting(&self) -> usize
+        ensures value { result ≡ sum_waiting self.now.entries }
         ensures lag { self.now.failed ≡ None → FitSpace self.now result }
     {
-        self.queue.waiting
+        self.engine.queue.waiting as usize
     }
 
     /// How many tokens wait.
     pub fn len(&self) -> usize
-        ensures value { result ≡ length (entries_of self.now) }
+        ensures value { result ≡ length self.now.entries }
         ensures lockstep { KeepsStep self.now }
     {
-        self.queue.ring.len()
+        self.engine.queue.ring.len()
+    }
+
+    /// The space, at the least -2^62.
+    pub fn space(&self) -> i64
+        ensures { IsSpace self.now result }
+    {
+        let line = &self.engine.page.line;
+        let room = line.room.min(89);
+        let used = line.used.min(room + 0x4000_0000_0000_0000);
+        difference(room, used)
     }
 
     /// How many tokens may come before memory is taken.
@@ -280,22 +238,8 @@ impl Core {
         ensures same { IsSame self.old self.new }
         ensures runs { RunsAs self.old self.new }
     {
-        let Some(frames) = self.queue.ring.len().checked_add(n) else {
-            return Err(NoMemory);
-        };
-        self.frames.reserve(frames)?;
-        self.queue.ring.reserve(n)?;
-        self.queue.notes.reserve(n)?;
+        self.engine.reserve(n)?;
         self.spare = self.spare.max(n);
         Ok(())
-    }
-
-    /// The space, at the least -2^62.
-    pub fn space(&self) -> i64
-        ensures { IsSpace self.now result }
-    {
-        let room = self.page.room.min(89);
-        let used = self.page.used.min(room + 0x4000_0000_0000_0000);
-        difference(room, used)
     }
 }

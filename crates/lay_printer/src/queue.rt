@@ -1,11 +1,12 @@
-//! Tokens that wait, with the sizes that are known of them.
+//! The scanning side: tokens that wait, with the sizes that are known of them.
 ghost use Rattle.std.specs.Prelude.{◌≡◌, ℕ, ◌+◌, ◌-◌, ◌%◌, ◌^◌, ◌<◌, ◌≤◌, [], ◌∷◌, ◌++◌, length, drop, slice_get, OnOk, OnErr, IfOk, IsOk, map, true, false};
 ghost use Rattle.lay_token.specs.declared.layout.Tok.TheVariants as tok;
 ghost use Rattle.lay_token.specs.Document.{bytes_of_mark};
 ghost use Rattle.lay_printer.specs.Closed.{toks_of, sizes_of};
-ghost use Rattle.lay_printer.specs.Scan.{text_length, size_of_scan, waiting as sum_waiting, cap};
+ghost use Rattle.lay_printer.specs.Scan.{at_end, text_length, size_of_scan, waiting as sum_waiting, cap};
 ghost use Rattle.lay_printer.specs.Notes.{Fits, Fits-prop, scans};
-ghost use Rattle.lay_printer.specs.Queued.{at_end, notes_after, next_of};
+ghost use Rattle.lay_printer.specs.Queued.{notes_after, next_of};
+ghost use Rattle.lay_token.specs.Machine.{IsNested};
 
 use crate::close::{CAP, Note, close};
 use lay_ring::{Entry, Marks, Ring, Size};
@@ -65,6 +66,8 @@ fn drop_note(notes: &mut Marks<Note>, size: Size)
 }
 
 impl Queue {
+    ghost use Rattle.lay_printer.specs.Engines.{Comes, Ready, Roomier, room_in};
+
     /// Nothing waits.
     pub fn new(alloc: Global) -> Result<Queue, NoMemory>
         ensures entries { IfOk result (λ q. q.ring.entries ≡ []) }
@@ -84,40 +87,60 @@ impl Queue {
         })
     }
 
-    /// Makes room for one more entry and its note.
-    fn make_room(&mut self) -> Result<(), NoMemory>
-        ensures entries { self.new.ring.entries ≡ self.old.ring.entries }
-        ensures groups { self.new.groups ≡ self.old.groups }
-        ensures ended { self.new.ended ≡ self.old.ended }
-        ensures ring { OnOk result (0 < self.new.ring.spare) }
-        ensures notes { OnOk result (0 < self.new.notes.spare) }
-        ensures room { OnOk result (length self.new.ring.entries < 2 ^ 63) }
-        ensures waiting { self.new.waiting ≡ self.old.waiting }
-        ensures sure { 0 < self.old.ring.spare → 0 < self.old.notes.spare → IsOk result }
-        ensures ring_kept { self.old.ring.spare ≤ self.new.ring.spare }
-        ensures notes_kept { self.old.notes.spare ≤ self.new.notes.spare }
-        ensures first { self.new.ring.first ≡ self.old.ring.first }
+    /// How many tokens may come before memory is taken.
+    pub fn room(&self) -> usize
+        ensures { result ≡ room_in self.now }
+    {
+        self.ring.spare().min(self.notes.spare())
+    }
+
+    /// Makes room for so many more tokens, of which each may have a note.
+    pub fn reserve(&mut self, n: usize) -> Result<(), NoMemory>
+        ensures same { Roomier self.old self.new }
+        ensures ring { OnOk result (n ≤ self.new.ring.spare) }
+        ensures notes { OnOk result (n ≤ self.new.notes.spare) }
+        ensures sure { n ≤ room_in self.old → IsOk result }
+    {
+        self.ring.reserve(n)?;
+        self.notes.reserve(n)
+    }
+
+    /// A token comes.
+    pub fn add(&mut self, tok: Tok) -> Result<(), NoMemory>
+        requires ended { self.old.ended ≡ false }
+        requires few { self.old.waiting ≤ 89 }
+        requires groups { self.old.groups + 1 < 2 ^ 64 }
+        requires nested { IsNested self.old.groups (tok ∷ []) }
+        ensures comes { OnOk result (Comes self.old self.new tok) }
+        ensures same { OnErr result (Roomier self.old self.new) }
+        ensures sure { 0 < room_in self.old → IsOk result }
     {
         let held = self.ring.len();
         prove!(held < 0x8000_0000_0000_0000);
-        self.ring.reserve(1)?;
-        self.notes.reserve(1)
+        self.reserve(1)?;
+        self.scan(tok);
+        Ok(())
     }
 
-    /// A text comes. It has its size at once.
-    pub fn add_text(&mut self, text: Text) -> Result<(), NoMemory>
-        requires ended { self.old.ended ≡ false }
-        requires few { self.old.waiting ≤ 89 }
-        ensures toks { OnOk result (toks_of self.new.ring.entries ≡ toks_of self.old.ring.entries ++ tok.Text text ∷ []) }
-        ensures groups { self.new.groups ≡ self.old.groups }
-        ensures length { length self.new.ring.entries ≤ length self.old.ring.entries + 1 }
-        ensures sure { 0 < self.old.ring.spare → 0 < self.old.notes.spare → IsOk result }
-        ensures ring_spare { self.old.ring.spare ≤ self.new.ring.spare + 1 }
-        ensures notes_spare { self.old.notes.spare ≤ self.new.notes.spare + 1 }
-        ensures number { OnOk result (next_of self.new.ring ≡ (next_of self.old.ring + 1) % 2 ^ 64) }
-        ensures ended { self.new.ended ≡ false }
+    /// A token comes for which there is room.
+    fn scan(&mut self, tok: Tok)
+        requires ready { Ready self.old }
+        requires nested { IsNested self.old.groups (tok ∷ []) }
+        ensures { Comes self.old self.new tok }
     {
-        self.make_room()?;
+        match tok {
+            Tok::Text(text) => self.scan_text(text),
+            Tok::Break(brk) => self.scan_break(brk),
+            Tok::Begin { consistent, offset } => self.scan_begin(consistent, offset),
+            Tok::End => self.scan_end(),
+        }
+    }
+
+    /// A text has its size at once.
+    fn scan_text(&mut self, text: Text)
+        requires { Ready self.old }
+        ensures { Comes self.old self.new (tok.Text text) }
+    {
         let len = text.as_bytes().len() as u64;
         let entry = Entry {
             tok: Tok::Text(text),
@@ -127,25 +150,16 @@ impl Queue {
             Ok(_) => {
                 self.acc = self.acc.saturating_add(len).min(CAP);
                 self.waiting += len;
-                Ok(())
             }
             Err(_) => unreachable!(),
         }
     }
 
-    /// A break comes. It ends the measures of what was noted with no fewer groups open.
-    pub fn add_break(&mut self, brk: Break) -> Result<(), NoMemory>
-        requires { self.old.ended ≡ false }
-        ensures toks { OnOk result (toks_of self.new.ring.entries ≡ toks_of self.old.ring.entries ++ tok.Break brk ∷ []) }
-        ensures groups { self.new.groups ≡ self.old.groups }
-        ensures length { length self.new.ring.entries ≤ length self.old.ring.entries + 1 }
-        ensures sure { 0 < self.old.ring.spare → 0 < self.old.notes.spare → IsOk result }
-        ensures ring_spare { self.old.ring.spare ≤ self.new.ring.spare + 1 }
-        ensures notes_spare { self.old.notes.spare ≤ self.new.notes.spare + 1 }
-        ensures number { OnOk result (next_of self.new.ring ≡ (next_of self.old.ring + 1) % 2 ^ 64) }
-        ensures ended { self.new.ended ≡ false }
+    /// A break ends the measures of what was noted with no fewer groups open.
+    fn scan_break(&mut self, brk: Break)
+        requires { Ready self.old }
+        ensures { Comes self.old self.new (tok.Break brk) }
     {
-        self.make_room()?;
         let width = brk.blank as u64 + mark_len(brk.instead);
         let delta = close(&mut self.ring, &mut self.notes, self.acc, self.groups);
         let entry = Entry {
@@ -160,10 +174,7 @@ impl Queue {
                     delta,
                 };
                 match self.notes.push(note) {
-                    Ok(()) => {
-                        self.acc = width;
-                        Ok(())
-                    }
+                    Ok(()) => self.acc = width,
                     Err(_) => unreachable!(),
                 }
             }
@@ -172,19 +183,10 @@ impl Queue {
     }
 
     /// A group begins.
-    pub fn add_begin(&mut self, consistent: bool, offset: i8) -> Result<(), NoMemory>
-        requires ended { self.old.ended ≡ false }
-        requires few { self.old.groups + 1 < 2 ^ 64 }
-        ensures toks { OnOk result (toks_of self.new.ring.entries ≡ toks_of self.old.ring.entries ++ tok.Begin consistent offset ∷ []) }
-        ensures groups { OnOk result (self.new.groups ≡ self.old.groups + 1) }
-        ensures length { length self.new.ring.entries ≤ length self.old.ring.entries + 1 }
-        ensures sure { 0 < self.old.ring.spare → 0 < self.old.notes.spare → IsOk result }
-        ensures ring_spare { self.old.ring.spare ≤ self.new.ring.spare + 1 }
-        ensures notes_spare { self.old.notes.spare ≤ self.new.notes.spare + 1 }
-        ensures number { OnOk result (next_of self.new.ring ≡ (next_of self.old.ring + 1) % 2 ^ 64) }
-        ensures ended { self.new.ended ≡ false }
+    fn scan_begin(&mut self, consistent: bool, offset: i8)
+        requires { Ready self.old }
+        ensures { Comes self.old self.new (tok.Begin consistent offset) }
     {
-        self.make_room()?;
         let entry = Entry {
             tok: Tok::Begin { consistent, offset },
             size: Size::Unknown,
@@ -200,7 +202,6 @@ impl Queue {
                     Ok(()) => {
                         self.acc = 0;
                         self.groups += 1;
-                        Ok(())
                     }
                     Err(_) => unreachable!(),
                 }
@@ -210,28 +211,17 @@ impl Queue {
     }
 
     /// The group that was begun last ends. Measures go on past it.
-    pub fn add_end(&mut self) -> Result<(), NoMemory>
-        requires ended { self.old.ended ≡ false }
+    fn scan_end(&mut self)
+        requires ready { Ready self.old }
         requires groups { 0 < self.old.groups }
-        ensures toks { OnOk result (toks_of self.new.ring.entries ≡ toks_of self.old.ring.entries ++ tok.End ∷ []) }
-        ensures groups { OnOk result (self.new.groups ≡ self.old.groups - 1) }
-        ensures length { length self.new.ring.entries ≤ length self.old.ring.entries + 1 }
-        ensures sure { 0 < self.old.ring.spare → 0 < self.old.notes.spare → IsOk result }
-        ensures ring_spare { self.old.ring.spare ≤ self.new.ring.spare + 1 }
-        ensures notes_spare { self.old.notes.spare ≤ self.new.notes.spare + 1 }
-        ensures number { OnOk result (next_of self.new.ring ≡ (next_of self.old.ring + 1) % 2 ^ 64) }
-        ensures ended { self.new.ended ≡ false }
+        ensures { Comes self.old self.new tok.End }
     {
-        self.make_room()?;
         let entry = Entry {
             tok: Tok::End,
             size: Size::Known(0),
         };
         match self.ring.push(entry) {
-            Ok(_) => {
-                self.groups -= 1;
-                Ok(())
-            }
+            Ok(_) => self.groups -= 1,
             Err(_) => unreachable!(),
         }
     }
@@ -258,7 +248,7 @@ impl Queue {
         ensures groups { self.new.groups ≡ self.old.groups }
         ensures ring_spare { self.old.ring.spare ≤ self.new.ring.spare }
         ensures notes_spare { self.old.notes.spare ≤ self.new.notes.spare }
-        ensures number { next_of self.new.ring ≡ next_of self.old.ring }
+        ensures number { next_of self.new.ring.first self.new.ring.entries ≡ next_of self.old.ring.first self.old.ring.entries }
         ensures ended { self.new.ended ≡ self.old.ended }
     {
         match self.ring.pop_front() {

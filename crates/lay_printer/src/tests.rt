@@ -6,9 +6,7 @@ ghost use Rattle.lay_io.specs.Told.{GrewBy, GrewByPrefix};
 ghost use Rattle.lay_stream.specs.Fed.{Did};
 ghost use Rattle.lay_printer.specs.Errors.{Blames};
 
-use crate::press::{Press, Printer};
-use crate::print::PrintError;
-use crate::printer::Core;
+use crate::{Core, Press, PrintError, Printer};
 use lay_io::{Lent, MemorySink, QuietSink, Sink};
 use lay_stream::{Emit, plain};
 use lay_token::{Break, List, Mark, NoMemory, Text, Tok};

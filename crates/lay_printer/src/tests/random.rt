@@ -3,8 +3,7 @@ ghost use Rattle.std.specs.Prelude.{◌≡◌, ◌+◌, ◌^◌, ◌<◌, ◌≤
 ghost use Rattle.lay_token.specs.Machine.{opened};
 
 use super::{In, hard, press_one, soft, token};
-use crate::press::Press;
-use crate::printer::Core;
+use crate::{Core, Press};
 use lay_io::QuietSink;
 use lay_stream::{Emit, Stream, plain};
 use lay_token::{NoMemory, Tok};

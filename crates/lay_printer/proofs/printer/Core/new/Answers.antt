@@ -3,4 +3,6 @@ use Rattle.lay_printer.proofs.Calling.{runs_new}
 use Rattle.lay_printer.proofs.printer.Core.new.Goals as goal
 
 pub returns-clause-runs : goal.returns-clause-runs
-returns-clause-runs c = λ written content wrote. runs_new _ written content c.in_ok-queue.ensures.entries c.in_ok-queue.ensures.first refl refl refl c.new-2.ensures wrote
+returns-clause-runs c = λ written content wrote.
+    let q = c.in_ok-queue.ensures in
+    runs_new _ written content q.entries q.first q.groups refl refl refl c.new-frames.ensures wrote

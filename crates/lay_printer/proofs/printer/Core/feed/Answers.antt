@@ -1,0 +1,18 @@
+use Rattle.std.proofs.Common.{rules, ◌≡◌, ◌∷◌, [], None, sym, refl, subst}
+use Rattle.lay_token.specs.Machine.{IsNested}
+use Rattle.lay_printer.specs.Printing.{Printing}
+use Rattle.lay_printer.proofs.Calling.{calls_ok, calls_err}
+use Rattle.lay_printer.proofs.printer.Core.feed.Goals as goal
+
+pub returns-in-Ok-clause-calls : goal.returns-in-Ok-clause-calls
+returns-in-Ok-clause-calls g c =
+    let u : c.self.inside.failed ≡ None = search rules in
+    let o = subst (λ (v : Printing). IsNested v.groups (c.args.tok ∷ [])) (sym c.self.view_is) c.requires in
+    let k = c.in-Ok.ensures in
+    rw (← c.self.view_is) (calls_ok _ _ _ _ _ _ _ _ u u o k.feeds k.cause k.groups k.number c.feed.new.self.queue.number)
+
+pub returns-in-Err-clause-calls : goal.returns-in-Err-clause-calls
+returns-in-Err-clause-calls g c =
+    let u : c.self.inside.failed ≡ None = search rules in
+    let o = subst (λ (v : Printing). IsNested v.groups (c.args.tok ∷ [])) (sym c.self.view_is) c.requires in
+    rw (← c.self.view_is) (calls_err _ _ _ _ _ _ _ _ _ _ _ u refl o c.in-Err.ensures.feeds c.in-Err.ensures.cause)

@@ -1,0 +1,209 @@
+//! Where scanning and printing meet: the entry at the front of the ring is printed once it is decided.
+ghost use Rattle.std.specs.Prelude.{◌≡◌, ◌+◌, ◌%◌, ◌^◌, ◌<◌, ◌≤◌, [], ◌∷◌, length, nat_lt, OnOk, OnErr, IfOk, IfErr, IsOk, Some, None, false};
+ghost use Rattle.lay_token.specs.Machine.{opened, IsNested};
+ghost use Rattle.lay_io.specs.Faults.{HasCause, SameLoan};
+ghost use Rattle.lay_printer.specs.Depth.{open_in};
+ghost use Rattle.lay_printer.specs.Queued.{Decided, Prints_on, Feeds, Ends, next_of};
+
+use crate::line::Line;
+use crate::page::Page;
+use crate::queue::Queue;
+use lay_io::{Failed, Sink};
+use lay_ring::Size;
+use lay_token::{NoMemory, Tok};
+
+/// Why a call of a printer failed.
+#[derive(Clone, Copy, Debug, PartialEq, Eq)]
+pub enum PrintError {
+    /// A write of the sink failed.
+    WriteFailed,
+    /// There was no memory.
+    NoMemory,
+}
+
+/// The tokens that wait, and where the layout stands before them. There is room for a frame for each.
+#[derive(Drop)]
+pub struct Engine {
+    pub queue: Queue,
+    pub page: Page,
+    ghost room: { length queue.ring.entries ≤ page.frames.spare },
+    ghost level: { queue.groups ≡ open_in queue.ring.entries page.frames.frames },
+}
+
+/// Is a size greater than the space?
+fn exceeds(line: &Line, size: u64) -> bool
+    ensures { result ≡ nat_lt line.now.room (line.now.used + size) }
+{
+    if line.used > line.room {
+        return true;
+    }
+    line.room - line.used < size
+}
+
+impl Engine {
+    ghost use Rattle.lay_printer.specs.Engines.{Comes, Stays, room_of};
+    ghost use Rattle.lay_printer.specs.Errors.{Blames};
+    ghost use Rattle.lay_printer.specs.declared.engine.PrintError.TheVariants.{WriteFailed};
+
+    /// A token is fed: it waits, and then what is decided is printed.
+    pub fn feed<K: Sink>(&mut self, sink: &mut K, tok: Tok) -> Result<(), PrintError>
+        requires ended { self.old.queue.ended ≡ false }
+        requires few { self.old.queue.waiting ≤ 89 }
+        requires nested { IsNested self.old.queue.groups (tok ∷ []) }
+        ensures feeds { Feeds self.old.queue.ring.entries self.old.page.line self.old.page.frames.frames (K.written sink.old) result self.new.queue.ring.entries self.new.page.line self.new.page.frames.frames (K.written sink.new) tok }
+        ensures sure { 0 < room_of self.old → IfErr result (λ e. e ≡ WriteFailed) }
+        ensures stops { OnOk result (Decided self.new.queue.ring.entries self.new.queue.waiting self.new.page.line None) }
+        ensures groups { OnOk result (self.new.queue.groups ≡ opened (tok ∷ []) self.old.queue.groups) }
+        ensures ended { OnOk result (self.new.queue.ended ≡ false) }
+        ensures room { room_of self.old ≤ room_of self.new + 1 }
+        ensures number { OnOk result (next_of self.new.queue.ring.first self.new.queue.ring.entries ≡ (next_of self.old.queue.ring.first self.old.queue.ring.entries + 1) % 2 ^ 64) }
+        ensures cause { Blames (K.faults sink.old) (K.faults sink.new) result }
+        ensures loan { SameLoan (K.loan sink.old) (K.loan sink.new) }
+    {
+        match self.take(tok) {
+            Ok(()) => {}
+            Err(NoMemory) => return Err(PrintError::NoMemory),
+        }
+        match self.drain(sink) {
+            Ok(()) => Ok(()),
+            Err(Failed) => Err(PrintError::WriteFailed),
+        }
+    }
+
+    /// No more tokens come: the rest is printed. Then tokens may come again.
+    pub fn finish<K: Sink>(&mut self, sink: &mut K) -> Result<(), Failed>
+        requires ended { self.old.queue.ended ≡ false }
+        requires groups { self.old.queue.groups ≡ 0 }
+        ensures ends { Ends self.old.queue.ring.entries self.old.page.line self.old.page.frames.frames (K.written sink.old) result (K.written sink.new) }
+        ensures empty { OnOk result (self.new.queue.ring.entries ≡ []) }
+        ensures again { OnOk result (self.new.queue.ended ≡ false) }
+        ensures groups { self.new.queue.groups ≡ 0 }
+        ensures room { room_of self.old ≤ room_of self.new }
+        ensures cause { HasCause (K.faults sink.old) (K.faults sink.new) result }
+        ensures loan { SameLoan (K.loan sink.old) (K.loan sink.new) }
+    {
+        self.queue.end_all();
+        match self.drain(sink) {
+            Ok(()) => {
+                self.queue.restart();
+                Ok(())
+            }
+            Err(Failed) => Err(Failed),
+        }
+    }
+
+    /// A token comes. It waits, with room for a frame.
+    fn take(&mut self, tok: Tok) -> Result<(), NoMemory>
+        requires ended { self.old.queue.ended ≡ false }
+        requires few { self.old.queue.waiting ≤ 89 }
+        requires nested { IsNested self.old.queue.groups (tok ∷ []) }
+        ensures comes { OnOk result (Comes self.old.queue self.new.queue tok) }
+        ensures line { self.new.page.line ≡ self.old.page.line }
+        ensures frames { self.new.page.frames.frames ≡ self.old.page.frames.frames }
+        ensures sure { 0 < room_of self.old → IsOk result }
+        ensures room { room_of self.old ≤ room_of self.new + 1 }
+    {
+        self.keep_room()?;
+        self.queue.add(tok)?;
+        Ok(())
+    }
+
+    /// Makes room in the stack of frames for one entry more than wait.
+    fn keep_room(&mut self) -> Result<(), NoMemory>
+        ensures queue { self.new.queue ≡ self.old.queue }
+        ensures line { self.new.page.line ≡ self.old.page.line }
+        ensures frames { self.new.page.frames.frames ≡ self.old.page.frames.frames }
+        ensures kept { self.old.page.frames.spare ≤ self.new.page.frames.spare }
+        ensures room { OnOk result (length self.new.queue.ring.entries < self.new.page.frames.spare) }
+        ensures small { OnOk result (length self.new.page.frames.frames + length self.new.queue.ring.entries + 1 < 2 ^ 64) }
+        ensures sure { length self.old.queue.ring.entries < self.old.page.frames.spare → IsOk result }
+    {
+        let len = self.queue.ring.len();
+        if len >= self.page.frames.spare() {
+            self.page.frames.reserve(len + 8)?;
+        }
+        let room = self.page.frames.spare();
+        prove!(len < room);
+        Ok(())
+    }
+
+    /// Prints entries while they are decided.
+    fn drain<K: Sink>(&mut self, sink: &mut K) -> Result<(), Failed>
+        ensures prints { Prints_on self.old.queue.ended self.old.queue.ring.entries self.old.page.line self.old.page.frames.frames (K.written sink.old) result self.new.queue.ring.entries self.new.page.line self.new.page.frames.frames (K.written sink.new) }
+        ensures stays { Stays self.old self.new }
+        ensures stops { OnOk result (Decided self.new.queue.ring.entries self.new.queue.waiting self.new.page.line None) }
+        ensures cause { HasCause (K.faults sink.old) (K.faults sink.new) result }
+        ensures loan { SameLoan (K.loan sink.old) (K.loan sink.new) }
+    {
+        while let Some(big) = self.decide() {
+            self.print_front(sink, big)?;
+        }
+        Ok(())
+    }
+
+    /// Whether the oldest entry doesn't fit, once that is decided.
+    fn decide(&self) -> Option<bool>
+        ensures { Decided self.now.queue.ring.entries self.now.queue.waiting self.now.page.line result }
+    {
+        match self.queue.ring.front() {
+            None => None,
+            Some(entry) => match entry.size {
+                Size::Forced => Some(true),
+                Size::Known(size) => {
+                    if size < 0 {
+                        Some(false)
+                    } else {
+                        Some(exceeds(&self.page.line, size as u64))
+                    }
+                }
+                Size::Unknown => {
+                    if exceeds(&self.page.line, self.queue.waiting) {
+                        Some(true)
+                    } else {
+                        None
+                    }
+                }
+            },
+        }
+    }
+
+    /// Prints the oldest entry.
+    fn print_front<K: Sink>(&mut self, sink: &mut K, big: bool) -> Result<(), Failed>
+        requires { Decided self.old.queue.ring.entries self.old.queue.waiting self.old.page.line (Some big) }
+        ensures prints { Prints_on self.old.queue.ended self.old.queue.ring.entries self.old.page.line self.old.page.frames.frames (K.written sink.old) result self.new.queue.ring.entries self.new.page.line self.new.page.frames.frames (K.written sink.new) }
+        ensures stays { Stays self.old self.new }
+        ensures fewer { length self.new.queue.ring.entries < length self.old.queue.ring.entries }
+        ensures cause { HasCause (K.faults sink.old) (K.faults sink.new) result }
+        ensures loan { SameLoan (K.loan sink.old) (K.loan sink.new) }
+    {
+        match self.queue.pop() {
+            Some(entry) => self.page.print(sink, &entry.tok, big),
+            None => unreachable!(),
+        }
+    }
+
+    /// How many tokens may come before memory is taken.
+    pub fn room(&self) -> usize
+        ensures { result ≡ room_of self.now }
+    {
+        let rooms = self.page.frames.spare() - self.queue.ring.len();
+        self.queue.room().min(rooms)
+    }
+
+    /// Makes room for so many more tokens.
+    pub fn reserve(&mut self, n: usize) -> Result<(), NoMemory>
+        ensures stays { Stays self.old self.new }
+        ensures entries { self.new.queue.ring.entries ≡ self.old.queue.ring.entries }
+        ensures first { self.new.queue.ring.first ≡ self.old.queue.ring.first }
+        ensures waiting { self.new.queue.waiting ≡ self.old.queue.waiting }
+        ensures line { self.new.page.line ≡ self.old.page.line }
+        ensures frames { self.new.page.frames.frames ≡ self.old.page.frames.frames }
+        ensures ok { OnOk result (n ≤ room_of self.new) }
+    {
+        let Some(frames) = self.queue.ring.len().checked_add(n) else {
+            return Err(NoMemory);
+        };
+        self.page.frames.reserve(frames)?;
+        self.queue.reserve(n)
+    }
+}

@@ -1,0 +1,152 @@
+//! The line that is being written, and what is put on it.
+ghost use Rattle.std.specs.Prelude.{◌≡◌, ℕ, ◌<◌, ◌≤◌, min, max, ◌+◌, ◌∷◌, ◌++◌, [], replicate, OnOk, OnErr, IsTrue, length};
+ghost use Rattle.lay_token.specs.Document.{State, shift, write as written_on, put_mark as marked, line as on_line, newline as on_newline, skip as skipped, break_in};
+ghost use Rattle.lay_io.specs.Calls.{Puts};
+ghost use Rattle.lay_io.specs.Faults.{HasCause, SameLoan};
+ghost use Rattle.lay_stream.specs.Indents.{IsKept};
+
+use lay_io::{Failed, Sink};
+use lay_token::{Break, Frame, Mark};
+
+/// The blanks that are to be written before what comes next, the room of the line and what was used of it.
+#[derive(Clone, Copy, Debug)]
+pub struct Line {
+    pub pending: u64,
+    pub room: u64,
+    pub used: u64,
+    ghost small: { room ≤ 89 },
+}
+
+/// The greatest count of what was used of a line: the space is exact down to -2^62.
+const USED: u64 = 0x4000_0000_0000_0059;
+
+/// What an indent and an offset make, from 0 on.
+pub fn shifted(indent: u64, offset: i8) -> u64
+    requires { indent ≤ 240 }
+    ensures value { result ≡ shift indent offset }
+    ensures small { result < 368 }
+{
+    let sum = indent as i64 + offset as i64;
+    if sum < 0 { 0 } else { sum as u64 }
+}
+
+impl Line {
+    ghost use Rattle.lay_printer.specs.Pages.{Moves};
+
+    /// Writes the blanks that wait.
+    fn write_blanks<K: Sink>(&mut self, sink: &mut K) -> Result<(), Failed>
+        ensures bytes { Puts (K.written sink.old) (K.written sink.new) result (replicate self.old.pending 32) }
+        ensures pending { OnOk result (self.new.pending ≡ 0) }
+        ensures room { self.new.room ≡ self.old.room }
+        ensures used { self.new.used ≡ self.old.used }
+        ensures cause { HasCause (K.faults sink.old) (K.faults sink.new) result }
+        ensures loan { SameLoan (K.loan sink.old) (K.loan sink.new) }
+    {
+        let blanks = [b' '; 64];
+        while self.pending > 0 {
+            let count = self.pending.min(64);
+            sink.write(&blanks[..count as usize])?;
+            self.pending -= count;
+        }
+        Ok(())
+    }
+
+    /// Writes the blanks that wait, and then the bytes.
+    pub fn write<K: Sink>(&mut self, sink: &mut K, bytes: &[u8]) -> Result<(), Failed>
+        ensures moves { Moves self.old (K.written sink.old) result self.new (K.written sink.new) (written_on bytes.now) }
+        ensures cause { HasCause (K.faults sink.old) (K.faults sink.new) result }
+        ensures loan { SameLoan (K.loan sink.old) (K.loan sink.new) }
+    {
+        self.write_blanks(sink)?;
+        sink.write(bytes)?;
+        self.used = self.used.saturating_add(bytes.len() as u64).min(USED);
+        Ok(())
+    }
+
+    /// Writes a mark, if there is one.
+    fn put_mark<K: Sink>(&mut self, sink: &mut K, mark: Mark) -> Result<(), Failed>
+        ensures moves { Moves self.old (K.written sink.old) result self.new (K.written sink.new) (marked mark) }
+        ensures cause { HasCause (K.faults sink.old) (K.faults sink.new) result }
+        ensures loan { SameLoan (K.loan sink.old) (K.loan sink.new) }
+    {
+        match mark {
+            Mark::Absent => Ok(()),
+            Mark::Comma => self.write(sink, b","),
+            Mark::OpenBrace => self.write(sink, b"{"),
+            Mark::CloseBrace => self.write(sink, b"}"),
+        }
+    }
+
+    /// A line that begins with so many blanks.
+    fn start_line<K: Sink>(&mut self, sink: &mut K, blanks: u64) -> Result<(), Failed>
+        ensures moves { Moves self.old (K.written sink.old) result self.new (K.written sink.new) (on_line blanks) }
+        ensures cause { HasCause (K.faults sink.old) (K.faults sink.new) result }
+        ensures loan { SameLoan (K.loan sink.old) (K.loan sink.new) }
+    {
+        sink.write(b"\n")?;
+        self.pending = blanks;
+        self.room = 89u64.saturating_sub(blanks).max(60);
+        self.used = 0;
+        Ok(())
+    }
+
+    /// A break that is a newline.
+    fn newline<K: Sink>(&mut self, sink: &mut K, brk: Break, indent: u64) -> Result<(), Failed>
+        requires { indent ≤ 240 }
+        ensures moves { Moves self.old (K.written sink.old) result self.new (K.written sink.new) (on_newline brk indent) }
+        ensures cause { HasCause (K.faults sink.old) (K.faults sink.new) result }
+        ensures loan { SameLoan (K.loan sink.old) (K.loan sink.new) }
+    {
+        self.put_mark(sink, brk.before)?;
+        self.start_line(sink, shifted(indent, brk.offset))?;
+        self.put_mark(sink, brk.after)
+    }
+
+    /// Blanks that wait, of which there are never more than 1,000,000.
+    fn add_blanks(&mut self, blank: u16)
+        ensures pending { self.new.pending ≡ min (self.old.pending + blank) 1000000 }
+        ensures used { self.new.used ≡ min (self.old.used + blank) USED }
+        ensures room { self.new.room ≡ self.old.room }
+    {
+        self.pending = self.pending.saturating_add(blank as u64).min(1_000_000);
+        self.used = self.used.saturating_add(blank as u64).min(USED);
+    }
+
+    /// A break that is no newline.
+    fn skip<K: Sink>(&mut self, sink: &mut K, brk: Break) -> Result<(), Failed>
+        ensures moves { Moves self.old (K.written sink.old) result self.new (K.written sink.new) (skipped brk) }
+        ensures cause { HasCause (K.faults sink.old) (K.faults sink.new) result }
+        ensures loan { SameLoan (K.loan sink.old) (K.loan sink.new) }
+    {
+        self.add_blanks(brk.blank);
+        self.put_mark(sink, brk.instead)
+    }
+
+    /// A break in a frame.
+    pub fn put_break<K: Sink>(
+        &mut self,
+        sink: &mut K,
+        frame: Frame,
+        brk: Break,
+        big: bool,
+    ) -> Result<(), Failed>
+        requires { IsKept frame }
+        ensures moves { Moves self.old (K.written sink.old) result self.new (K.written sink.new) (break_in frame brk big) }
+        ensures cause { HasCause (K.faults sink.old) (K.faults sink.new) result }
+        ensures loan { SameLoan (K.loan sink.old) (K.loan sink.new) }
+    {
+        if brk.never {
+            return self.skip(sink, brk);
+        }
+        match frame {
+            Frame::Broken { consistent, indent } => {
+                if consistent || big {
+                    self.newline(sink, brk, indent)
+                } else {
+                    self.skip(sink, brk)
+                }
+            }
+            Frame::Flat => self.skip(sink, brk),
+        }
+    }
+}
