@@ -12,4 +12,6 @@
 #[cfg(test)]
 mod given;
 #[cfg(test)]
+mod outside;
+#[cfg(test)]
 mod token;
