@@ -10,6 +10,8 @@
 #![tactic(auto)]
 
 #[cfg(test)]
+mod cook;
+#[cfg(test)]
 mod given;
 #[cfg(test)]
 mod outside;

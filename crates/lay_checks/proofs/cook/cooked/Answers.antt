@@ -2,7 +2,7 @@ use Rattle.std.proofs.Common.{◌≡◌, ◌≤◌, ◌++◌, length, take, ap, 
 use Rattle.std.specs.Str.{chars}
 use Rattle.std.proofs.lemmas.List.{length-take}
 use Rattle.lay_cook.proofs.PieceLemmas.{piece_of_text, piece_fits, piece_bytes, string_of_piece}
-use Rattle.lay_cook.proofs.tests.cooked.Goals as goal
+use Rattle.lay_checks.proofs.cook.cooked.Goals as goal
 
 pub slice_bounds-from_bytes-end : goal.slice_bounds-from_bytes-end
 slice_bounds-from_bytes-end c =
