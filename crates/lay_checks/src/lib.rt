@@ -14,6 +14,8 @@ mod cook;
 #[cfg(test)]
 mod given;
 #[cfg(test)]
+mod lex;
+#[cfg(test)]
 mod outside;
 #[cfg(test)]
 mod token;
