@@ -16,6 +16,8 @@ mod given;
 #[cfg(test)]
 mod lex;
 #[cfg(test)]
+mod nest;
+#[cfg(test)]
 mod outside;
 #[cfg(test)]
 mod token;
