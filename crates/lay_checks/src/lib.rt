@@ -21,3 +21,5 @@ mod nest;
 mod outside;
 #[cfg(test)]
 mod token;
+#[cfg(test)]
+mod tree;
