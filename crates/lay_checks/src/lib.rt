@@ -20,6 +20,10 @@ mod nest;
 #[cfg(test)]
 mod outside;
 #[cfg(test)]
+mod stream;
+#[cfg(test)]
 mod token;
 #[cfg(test)]
 mod tree;
+#[cfg(test)]
+mod words;
