@@ -20,6 +20,8 @@ mod nest;
 #[cfg(test)]
 mod outside;
 #[cfg(test)]
+mod ring;
+#[cfg(test)]
 mod stream;
 #[cfg(test)]
 mod token;
