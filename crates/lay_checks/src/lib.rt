@@ -12,6 +12,8 @@
 #[cfg(test)]
 mod cook;
 #[cfg(test)]
+mod front;
+#[cfg(test)]
 mod given;
 #[cfg(test)]
 mod lex;
