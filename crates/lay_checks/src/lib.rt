@@ -22,6 +22,8 @@ mod nest;
 #[cfg(test)]
 mod outside;
 #[cfg(test)]
+mod printer;
+#[cfg(test)]
 mod ring;
 #[cfg(test)]
 mod stream;

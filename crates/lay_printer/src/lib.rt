@@ -36,6 +36,3 @@ pub mod queue;
 pub use press::{Press, PrintFault, Printer};
 pub use print::PrintError;
 pub use printer::Core;
-
-#[cfg(test)]
-mod tests;
