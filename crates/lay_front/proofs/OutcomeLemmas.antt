@@ -12,8 +12,8 @@ use Rattle.lay_token.specs.declared.refusal.Refusal.TheVariants.{NotUtf8, NoToke
 use Rattle.lay_tree.specs.Nodes.{out}
 use Rattle.lay_tree.specs.Reading.{Reads, IsRefused, SpellsFile}
 use Rattle.lay_tree.specs.declared.tree.File.{File}
-use Rattle.lay_laws.proofs.OneAnswer.{same_source, same_tokens, one_file, one_refusal, never_both}
-use Rattle.lay_laws.proofs.ReparseFile.{again}
+use Rattle.lay_laws.proofs.file.OneAnswer.{same_source, same_tokens, one_file, one_refusal, never_both}
+use Rattle.lay_laws.proofs.file.Reparse.{again}
 use Rattle.lay_token.specs.declared.refusal.FormatError.{FormatError}
 use Rattle.lay_token.specs.declared.refusal.FormatError.TheVariants as error
 use Rattle.lay_read_code.specs.Answers.{FileAs}

@@ -1,38 +1,23 @@
 -- One turn of the lexer.
-use Rattle.std.proofs.Common.{◌≡◌, ℕ, ◌+◌, ◌-◌, ◌<◌, ◌≤◌, List, [], ◌∷◌, ◌++◌, Bool, true, false, Option, Some, None, sym, refl, ap, ◌∙◌, subst, arith, length, drop, IsUtf8, append_assoc, length-drop}
+use Rattle.std.proofs.Common.{◌≡◌, ℕ, ◌+◌, ◌-◌, ◌<◌, ◌≤◌, List, [], ◌∷◌, ◌++◌, Bool, false, Option, Some, None, sym, refl, ap, ◌∙◌, subst, arith, length, drop, IsUtf8, length-drop}
 use Rattle.std.specs.Prelude.{IsTrue, ◌==◌, option_to_list}
 use Rattle.std.specs.Str.{chars, IsCharBoundary}
 use Rattle.std.proofs.lemmas.Bool.{eq-eqb, ne_eqb}
 use Rattle.std.proofs.lemmas.Str.{length-le-encodes, IsUtf8-drop}
 use Rattle.lay_token.specs.Chars.{is_nil}
-use Rattle.lay_token.specs.Forms.{Had, had, has_form, after_literal}
+use Rattle.lay_token.specs.Forms.{Had, had}
 use Rattle.lay_token.specs.Gap.{Outside, is_gap, is_last_gap}
 use Rattle.lay_token.specs.Lexes.{Part, spell, Before, Other, is_index_place, step, steps, Fit, size, tokens_from, is_joint, Lexes, NoTokenAt, Stops, BeginsNoGap, BeginsNoPiece}
 use Rattle.lay_token.specs.declared.token.Kind.{Kind}
-use Rattle.lay_token.specs.declared.token.Kind.TheVariants.{Ident, RawIdent, Underscore, Lifetime, Char, Str, RawStr, Byte, ByteStr, RawByteStr, CStr, RawCStr, Int, Float, Punct, Opener, Closer, Doc}
 use Rattle.lay_token.specs.declared.token.Token.{Token}
 use Rattle.lay_token.proofs.Texts.{length_parts}
+use Rattle.lay_token.proofs.Parts.{spell-append, spell-out, steps-append, had_some}
 use Rattle.lay_lex.specs.Gap.{rest_of}
 use Rattle.lay_lex.specs.Tokens.{Adds, added, before as seen, behind, joined, released, so_far, token_of}
 use Rattle.lay_lex.specs.declared.tokens.Tokens.{Tokens}
 use Rattle.lay_lex.proofs.Gaps.{longest}
 use Rattle.lay_lex.proofs.Lines.{size-append}
 use Rattle.lay_lex.proofs.Marks.{behind-token_of, is_joint-tokens}
-
--- parts and one more
-spell-append : (ps qs : List Part) (last : List ℕ) → spell (ps ++ qs) last ≡ spell ps (spell qs last)
-spell-append [] qs last = refl
-spell-append (p ∷ ps) qs last = ap (λ l. p.gap ++ (p.piece ++ l)) (spell-append ps qs last)
-
-spell-out : (ps : List Part) (x y : List ℕ) → spell ps (x ++ y) ≡ spell ps x ++ y
-spell-out [] x y = refl
-spell-out (p ∷ ps) x y =
-    ap (λ l. p.gap ++ (p.piece ++ l)) (spell-out ps x y) ∙ ap (λ l. p.gap ++ l) (sym (append_assoc p.piece (spell ps x) y))
-    ∙ sym (append_assoc p.gap (p.piece ++ spell ps x) y)
-
-steps-append : (b : Before) (ps : List Part) (q : Part) → steps b (ps ++ q ∷ []) ≡ step (steps b ps) q
-steps-append b [] q = refl
-steps-append b (p ∷ ps) q = steps-append (step b p) ps q
 
 Fit-append : (b : Before) (ps : List Part) (q : Part) (last : List ℕ) → Fit b ps (q.gap ++ (q.piece ++ last))
     → IsTrue (is_gap q.gap)
@@ -164,33 +149,6 @@ pub waits : (touches : Bool) (next : Token) (old new : Tokens) → Adds touches 
     → new.done.items ≡ []
 waits touches next old new a e = absurd (let h : Some next ≡ None = sym a.last ∙ e in cc)
 
--- a piece isn't empty
-had_some : (k : Kind) (rest : List ℕ) (i : Bool) → had k [] rest i ≡ false
-unfolding had has_form after_literal
-had_some Ident rest i = refl
-had_some RawIdent rest i = refl
-had_some Underscore rest i = refl
-had_some Lifetime rest i = refl
-had_some Int rest true = refl
-had_some Int rest false = refl
-had_some Float rest true = refl
-had_some Float rest false = refl
-had_some Punct rest i = refl
-had_some (Opener e) rest i = refl
-had_some (Closer e) rest i = refl
-had_some (Doc true true) rest i = refl
-had_some (Doc true false) rest i = refl
-had_some (Doc false true) rest i = refl
-had_some (Doc false false) rest i = refl
-had_some Char rest i = refl
-had_some Str rest i = refl
-had_some RawStr rest i = refl
-had_some Byte rest i = refl
-had_some ByteStr rest i = refl
-had_some RawByteStr rest i = refl
-had_some CStr rest i = refl
-had_some RawCStr rest i = refl
-
 pub piece_size : (k : Kind) (piece rest : List ℕ) (i : Bool) → Had k piece rest i → 1 ≤ size piece
 piece_size k [] rest i h = let e : had k [] rest i ≡ false = had_some k rest i in cc
 piece_size k (c ∷ cs) rest i h = omega (arith, length-le-encodes (c ∷ cs))
@@ -232,5 +190,5 @@ turn {start = start} {bytes = bytes} {rest = rest} {old = old} {new = new} k pie
           ∙ ap (λ b. behind (seen old.before) b (token_of (length bytes - length rest) k (chars front))) r.touches
           ∙ ap (behind (seen old.before) (is_nil r.gap)) next
           ∙ behind-token_of (seen old.before) q (start + size (spell r.parts r.gap))
-          ∙ ap (λ b. step b q) r.before_is ∙ sym (steps-append Other r.parts q);
+          ∙ ap (λ b. step b q) r.before_is ∙ sym (steps-append Other r.parts (q ∷ []));
     }

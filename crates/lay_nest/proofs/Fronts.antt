@@ -5,16 +5,11 @@ use Rattle.std.specs.List.{list_all, slice_get}
 use Rattle.std.specs.Option.{option_copied, option_eq}
 use Rattle.std.specs.Str.{bytes_eq}
 use Rattle.std.proofs.lemmas.Bool.{false≢true, and_parts, cases_Bool}
-use Rattle.std.proofs.lemmas.Slice.Eq.{bytes_eq-Decides}
 use Rattle.lay_token.specs.Chars.{is_nil}
 use Rattle.lay_token.specs.Lexes.{is_punct}
 use Rattle.lay_token.specs.Operators.{operators, begins_op, first_op, lone_op, or_lone, op_at, is_op_of, is_op}
-use Rattle.lay_token.specs.declared.token.Kind.{Kind}
-use Rattle.lay_token.specs.declared.token.Kind.TheVariants.{Punct}
 use Rattle.lay_token.specs.declared.token.Token.{Token}
-
-bytes_same : (xs ys : List ℕ) → bytes_eq xs ys ≡ true → xs ≡ ys
-bytes_same xs ys h = (bytes_eq-Decides xs ys).0 h
+use Rattle.lay_token.proofs.Deciding.{bytes_same}
 
 -- The token is punctuation, and begins as the operator.
 pub record Front (t : Token) (op : List ℕ) : Type 0 where
@@ -78,10 +73,6 @@ no_op op = refl
 pub nothing : (ts : List Token) → slice_get ts 0 ≡ None → ts ≡ []
 nothing [] e = refl
 nothing (t ∷ ts) e = cc
-
-pub punct_is : (k : Kind) → is_punct k ≡ true → k ≡ Punct
-punct_is Punct h = refl
-punct_is _ h = absurd (false≢true h)
 
 pub same_first : (a b : Option (Bor ℕ)) → option_copied a ≡ option_copied b
     → option_eq (λ (x : Bor ℕ) (y : Bor ℕ). eqb x.now y.now) a b ≡ true

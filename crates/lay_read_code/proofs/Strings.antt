@@ -7,9 +7,9 @@ use Rattle.lay_token.specs.Forms.{Had}
 use Rattle.lay_token.specs.Lexes.{Part, Before, Other, spell, step, is_index_place, Fit, size, text_of_piece, tokens_from}
 use Rattle.lay_token.specs.declared.token.Kind.{Kind}
 use Rattle.lay_token.specs.declared.token.Kind.TheVariants.{Str, RawStr}
+use Rattle.lay_token.proofs.Encoding.{scalars_parts}
 use Rattle.lay_cook.specs.Cooking.{IsPiece}
 use Rattle.lay_tree.specs.Reader.{Tokens, Got, tail}
-use Rattle.lay_tree.proofs.Scalars.{scalars_parts}
 use Rattle.lay_read_code.specs.Answers.{Strings, AreLexed}
 use Rattle.lay_read_code.proofs.Left.{Left, Leaves, Passes, left_by}
 

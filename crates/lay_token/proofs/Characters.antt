@@ -10,11 +10,11 @@ use Rattle.lay_token.specs.declared.piece.numbers.Base.{Base}
 use Rattle.lay_token.specs.declared.piece.numbers.Base.TheVariants.{Binary, Octal, Decimal, Hexadecimal}
 use Rattle.lay_token.proofs.Literals.{starts_in}
 
-abbrev all_below : ℕ → (ℕ → Bool) → Bool
+abbrev pub all_below : ℕ → (ℕ → Bool) → Bool
 all_below zero p = true
 all_below (suc n) p = p n && all_below n p
 
-below : (n : ℕ) (p : ℕ → Bool) (c : ℕ) → all_below n p ≡ true → c < n → p c ≡ true
+pub below : (n : ℕ) (p : ℕ → Bool) (c : ℕ) → all_below n p ≡ true → c < n → p c ≡ true
 below zero p c h l = absurd (omega arith)
 below (suc n) p c h l = elim (cases_Bool (c == n)) [
   | inl e ↦ let P : ℕ → Type 0 = λ m. p m ≡ true in subst P (sym (eqb-true c n e)) (and_parts _ _ h).0

@@ -111,7 +111,7 @@ record IsDead (s : InGap) (cs : List ℕ) : Type 0 where
   closed : (h y : List ℕ) → cs ≡ h ++ y → is_closed (gap_end s h) ≡ false
   ended : is_closed_or_line (gap_end s cs) ≡ false
 
-spoilt : (cs : List ℕ) → gap_end Spoilt cs ≡ Spoilt
+pub spoilt : (cs : List ℕ) → gap_end Spoilt cs ≡ Spoilt
 unfolding gap_step
 spoilt [] = refl
 spoilt (c ∷ cs) = spoilt cs

@@ -9,6 +9,7 @@ use Rattle.lay_token.specs.declared.token.Delim.TheVariants.{Bracket, Brace}
 use Rattle.lay_token.specs.declared.token.Kind.{Kind}
 use Rattle.lay_token.specs.declared.token.Kind.TheVariants.{Ident, RawIdent, Punct, Opener, Closer}
 use Rattle.lay_token.specs.declared.token.Token.{Token}
+use Rattle.lay_token.proofs.Deciding.{punct_is}
 use Rattle.lay_tree.specs.Form as form
 use Rattle.lay_tree.specs.Form.{Bit, Blank, Fixed, Opening, Closing, Operator, Semicolons, Form, Done, Piece, Leaf, Listed, Gap, LastComma, Group, Node, Deeper, Optional, Dropped, Body, keyword, comma}
 use Rattle.lay_tree.specs.Spelled.{IsOne, IsKind, AreSemicolons, IsBit, AreBits, MayBe, IsListed, IsComment, IsString, attr_opening, IsDoc, Opens, Closes, cost, comma_is_free, IsComma, Spells}
@@ -47,16 +48,12 @@ no_operator t ts h = at t.kind h
 no_op : (op : List ℕ) (t : Token) (ts : Tokens) → is_punct t.kind ≡ false → is_op op (t ∷ ts) ≡ false
 no_op op t ts h = ap (is_op_of op) (no_operator t ts h)
 
-is_the_punct : (k : Kind) → is_punct k ≡ true → k ≡ Punct
-is_the_punct Punct h = refl
-is_the_punct _ h = absurd (cc)
-
 -- An operator begins with punctuation.
 pub op_front : (op : List ℕ) (ts : Tokens) → is_op op ts ≡ true → (t : Token) × (us : Tokens) × (ts ≡ record t { kind = Punct } ∷ us)
 unfolding op_at
 op_front op [] h = absurd (cc)
 op_front op (t ∷ ts) h = elim (cases_Bool (is_punct t.kind)) [
-  | inl e ↦ (t, ts, ap (λ (k : Kind). record t { kind = k } ∷ ts) (is_the_punct t.kind e))
+  | inl e ↦ (t, ts, ap (λ (k : Kind). record t { kind = k } ∷ ts) (punct_is t.kind e))
   | inr e ↦ let g = no_op op t ts e in absurd (cc)
 ]
 

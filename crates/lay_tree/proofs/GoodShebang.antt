@@ -1,5 +1,5 @@
 -- The shebang of an input is a good one: it is given back whole where it stands alone as the first line.
-use Rattle.std.proofs.Common.{◌≡◌, inl, inr, ℕ, List, [], ◌∷◌, Bool, true, false, cond, not, ◌&&◌, Some, None, Ok, Err, refl, sym, ap, ◌∙◌, subst}
+use Rattle.std.proofs.Common.{◌≡◌, inl, inr, ℕ, List, [], ◌∷◌, Bool, true, false, cond, not, Some, None, Ok, Err, refl, sym, ap, ◌∙◌, subst}
 use Rattle.std.specs.Prelude.{◌==◌}
 use Rattle.std.specs.List.{list_all}
 use Rattle.std.specs.Str.{chars, encode_utf8_all, is_utf8}
@@ -8,9 +8,11 @@ use Rattle.std.proofs.lemmas.Bool.{cases_Bool, and_parts, and_from, eqb-true, bo
 use Rattle.std.proofs.lemmas.Slice.Eq.{bytes_eq-Decides}
 use Rattle.std.proofs.lemmas.Str.{chars-encodes, scalars-chars, IsUtf8-from_is_utf8}
 use lib.Utf8.{scalar, scalars}
-use Rattle.lay_token.specs.Chars.{is_white, begins, behind, front, after, kept, without_end}
+use Rattle.lay_token.specs.Chars.{is_white, behind, front, after, kept, without_end}
 use Rattle.lay_token.specs.Source.{Source, source, source_of, folded, without_mark, is_in_line, is_no_command, is_shebang}
 use Rattle.lay_token.specs.declared.refusal.Refusal.TheVariants.{NotUtf8}
+use Rattle.lay_token.proofs.Fronts.{each-front}
+use Rattle.lay_token.proofs.Encoding.{scalars-folded, scalars-without_mark}
 use Rattle.lay_tree.specs.Written.{is_good_shebang}
 use Rattle.lay_tree.proofs.Scalars.{text_utf8, scalars_cond, scalars_without_end}
 
@@ -41,13 +43,6 @@ all_without_end p d [] h = refl
 all_without_end p d (c ∷ cs) h =
     let b = and_parts (p c) (list_all p cs) h in all_kept p d c (without_end d cs) b.0 (all_without_end p d cs b.1)
 
-all_front : (p : ℕ → Bool) (cs : List ℕ) → list_all p (front p cs) ≡ true
-all_front p [] = refl
-all_front p (c ∷ cs) =
-    cond_both (p c) (c ∷ front p cs) [] (λ l. list_all p l ≡ true)
-    (λ e. and_from (p c) (list_all p (front p cs)) e (all_front p cs))
-    (λ e. refl)
-
 -- ---- scalars
 
 scalars_front : (p : ℕ → Bool) (cs : List ℕ) → scalars cs ≡ true → scalars (front p cs) ≡ true
@@ -55,18 +50,6 @@ scalars_front p [] h = refl
 scalars_front p (c ∷ cs) h =
     let b = and_parts (scalar c) (scalars cs) h in
     scalars_cond (p c) (c ∷ front p cs) [] (and_from (scalar c) (scalars (front p cs)) b.0 (scalars_front p cs b.1)) refl
-
-folded_scalars : (cs : List ℕ) → scalars cs ≡ true → scalars (folded cs) ≡ true
-folded_scalars [] h = refl
-folded_scalars (c ∷ cs) h =
-    let p = and_parts (scalar c) (scalars cs) h in
-    let more = folded_scalars cs p.1 in
-    scalars_cond (c == 13 && begins (λ d. d == 10) cs) (folded cs) (c ∷ folded cs) more
-    (and_from (scalar c) (scalars (folded cs)) p.0 more)
-
-unmarked_scalars : (cs : List ℕ) → scalars cs ≡ true → scalars (without_mark cs) ≡ true
-unmarked_scalars [] h = refl
-unmarked_scalars (c ∷ cs) h = scalars_cond (c == 65279) cs (c ∷ cs) (and_parts (scalar c) (scalars cs) h).1 h
 
 -- ---- the line without the CRs at its end
 
@@ -144,7 +127,7 @@ good_text : (text : List ℕ) → scalars text ≡ true → is_good_shebang (sou
 good_text text s =
     let line = front is_in_line text in
     cond_both (is_shebang line) (Some (encode_utf8_all (without_end 13 line))) None (λ o. is_good_shebang o ≡ true)
-    (λ e. good_line line (scalars_front is_in_line text s) (all_front is_in_line text) e)
+    (λ e. good_line line (scalars_front is_in_line text s) (each-front is_in_line text) e)
     (λ e. refl)
 
 pub source_good : (bytes : List ℕ) (from : Source) → source bytes ≡ Ok from → is_good_shebang from.shebang ≡ true
@@ -155,7 +138,7 @@ source_good bytes from e = elim (cases_Bool (is_utf8 bytes)) [
       let is : source bytes ≡ Ok (source_of text) = rw h refl in
       let same : source_of text ≡ from = cc in
       subst (λ (x : Source). is_good_shebang x.shebang ≡ true) same
-      (good_text text (folded_scalars (without_mark (chars bytes)) (unmarked_scalars (chars bytes) fine)))
+      (good_text text (scalars-folded (without_mark (chars bytes)) (scalars-without_mark (chars bytes) fine)))
   | inr h ↦
       let is : source bytes ≡ Err (NotUtf8 (utf8_valid_len bytes)) = rw h refl in
       absurd (cc)

@@ -19,9 +19,10 @@ use Rattle.lay_token.specs.declared.token.Kind.TheVariants.{RawIdent, Int, Doc}
 use Rattle.lay_token.specs.declared.token.Token.{Token}
 use Rattle.lay_token.proofs.Characters.{digit_parts}
 use Rattle.lay_token.proofs.Complete.{behind_true}
+use Rattle.lay_token.proofs.Encoding.{scalars_parts}
 use Rattle.lay_tree.specs.Written.{is_text_of}
 use Rattle.lay_tree.proofs.Pieces.{are_texts}
-use Rattle.lay_tree.proofs.Scalars.{text_utf8, scalars_parts, scalars_drop, scalars_take, scalars_cond, scalars_without_end}
+use Rattle.lay_tree.proofs.Scalars.{text_utf8, scalars_drop, scalars_take, scalars_cond, scalars_without_end}
 
 -- ---- an index is an integer
 
@@ -80,7 +81,7 @@ unfolding has_form
 int_form Int piece h = index_int piece h
 int_form _ piece h = cc
 
-had_form : (k : Kind) (piece rest : List ℕ) (index : Bool) → Had k piece rest index → has_form k piece ≡ true
+pub had_form : (k : Kind) (piece rest : List ℕ) (index : Bool) → Had k piece rest index → has_form k piece ≡ true
 unfolding had
 had_form k piece rest index h = by_case (is_number_kind k && index && fronts_index piece rest) h
   where
@@ -90,7 +91,7 @@ had_form k piece rest index h = by_case (is_number_kind k && index && fronts_ind
     by_case true h = int_form k piece (and_parts (is_int_kind k && is_index piece) _ h).0
     by_case false h = (and_parts (has_form k piece) _ h).0
 
-raw_again : (piece : List ℕ) → has_form RawIdent piece ≡ true → codes "r#" ++ drop 2 piece ≡ piece
+pub raw_again : (piece : List ℕ) → has_form RawIdent piece ≡ true → codes "r#" ++ drop 2 piece ≡ piece
 unfolding has_form
 raw_again piece h =
     let b = behind_true (codes "r#") (λ ds. is_suffix ds && not (is_path_word (encode_utf8_all ds))) piece h in

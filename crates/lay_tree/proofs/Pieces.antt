@@ -28,7 +28,7 @@ first_text : (t : Token) (ts : List Token) → are_texts (t ∷ ts) ≡ true →
 first_text t ts h = (and_parts (is_text_of t.kind t.text) (are_texts ts) h).0
 
 -- the text of a piece is UTF-8
-piece_utf8 : (kind : Kind) (text : List ℕ) → is_text_of kind text ≡ true → is_utf8 text ≡ true
+pub piece_utf8 : (kind : Kind) (text : List ℕ) → is_text_of kind text ≡ true → is_utf8 text ≡ true
 unfolding is_text_of
 piece_utf8 (Doc inner block) text h = h
 piece_utf8 _ text h = (and_parts (is_utf8 text) _ h).0
@@ -44,7 +44,7 @@ leaf_text kind text [] rest s h = absurd s
 leaf_text kind text (t ∷ ts) rest s h = same_text kind t.kind text t.text s.0 s.1 (first_text t ts h)
 
 -- whether documentation is a block doesn't count
-kind_text : (kind other : Kind) (text : List ℕ) → SameKind kind other → is_text_of other text ≡ true
+pub kind_text : (kind other : Kind) (text : List ℕ) → SameKind kind other → is_text_of other text ≡ true
     → is_text_of kind text ≡ true
 unfolding is_text_of
 kind_text (Doc inner block) other text s h = piece_utf8 other text h

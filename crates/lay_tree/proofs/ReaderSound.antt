@@ -15,6 +15,7 @@ use Rattle.lay_token.specs.declared.token.Delim.TheVariants.{Bracket, Brace}
 use Rattle.lay_token.specs.declared.token.Kind.{Kind}
 use Rattle.lay_token.specs.declared.token.Kind.TheVariants.{Ident, RawIdent, Underscore, Punct, Opener, Closer}
 use Rattle.lay_token.specs.declared.token.Token.{Token}
+use Rattle.lay_token.proofs.Deciding.{bytes_same}
 use Rattle.lay_tree.specs.Form.{Blank, Closing, Operator, Form, Done, Piece, punct, keyword}
 use Rattle.lay_tree.specs.Nodes.{leaf_of, colons, segments_form, path_form, meta_path_form, input_form, attr_form, words_form, rename_form, lines, form_of_use, form_of_item, form_of_file}
 use Rattle.lay_tree.specs.Notation.{part, text, when}
@@ -42,7 +43,7 @@ use Rattle.lay_tree.specs.declared.tree.ItemKind.{ItemKind}
 use Rattle.lay_tree.specs.declared.tree.ItemKind.TheVariants as item
 use Rattle.lay_tree.specs.declared.tree.Item.{Item}
 use Rattle.lay_tree.specs.declared.tree.File.{File}
-use Rattle.lay_tree.proofs.SoundTokens.{both_true, and_true, got_same, chosen, bind_some, either_some, one_more, no_more, same_as_itself, doc_kind, bytes_same, keyword_one, mark_one, opens_brace_one, closes_brace_one, opens_bracket_one, closes_bracket_one, passed_is}
+use Rattle.lay_tree.proofs.SoundTokens.{both_true, and_true, got_same, chosen, bind_some, either_some, one_more, no_more, same_as_itself, doc_kind, keyword_one, mark_one, opens_brace_one, closes_brace_one, opens_bracket_one, closes_bracket_one, passed_is}
 use Rattle.lay_tree.proofs.SoundParts.{form_of_end, is_end, use_form, use_normal, word_form, glob_form, group_form, word_normal, glob_normal, group_normal, form_of_kind, is_kind, one_form, one_normal, struct_form, module_form, import_form, struct_normal, module_normal, import_normal, SpelledAll, Leads, all_joined, bits_joined, lines_spelled, behind_attrs_spelled, body_spelled, kept_one, kept_kind, kept, all_kept, Elements, comma_element, last_element, listed_spelled, word_kind, leaf_leads, more_segments_form, segments_are}
 
 -- ---- names and words

@@ -20,13 +20,6 @@ use Rattle.lay_token.specs.declared.token.Kind.TheVariants.{Str, RawStr}
 pub text_utf8 : (cs : List ℕ) → scalars cs ≡ true → is_utf8 (encode_utf8_all cs) ≡ true
 text_utf8 cs h = is_utf8-from_IsUtf8 (encode_utf8_all cs) (cs, (h, refl))
 
-pub scalars_parts : (x y : List ℕ) → scalars (x ++ y) ≡ true → (scalars x ≡ true) × (scalars y ≡ true)
-scalars_parts [] y h = (refl, h)
-scalars_parts (c ∷ x) y h =
-    let p = and_parts (scalar c) (scalars (x ++ y)) h in
-    let q = scalars_parts x y p.1 in
-    (and_from (scalar c) (scalars x) p.0 q.0, q.1)
-
 pub scalars_append : (x y : List ℕ) → scalars x ≡ true → scalars y ≡ true → scalars (x ++ y) ≡ true
 scalars_append [] y h g = g
 scalars_append (c ∷ x) y h g =

@@ -2,12 +2,12 @@
 use Rattle.std.proofs.Common.{◌≡◌, ℕ, Bool, true, false, ◌&&◌, List, [], ◌∷◌, ◌++◌, ◌⊎◌, inl, inr, Option, Some, None, refl, sym, ◌∙◌, ap, cond, append_assoc, append-nil}
 use Rattle.std.specs.Prelude.{option_and_then}
 use Rattle.std.specs.Str.{bytes_eq}
-use Rattle.std.proofs.lemmas.Slice.Eq.{bytes_eq-Decides}
 use Rattle.lay_token.specs.Lexes.{is_punct}
 use Rattle.lay_token.specs.declared.token.Delim.TheVariants.{Bracket, Brace}
 use Rattle.lay_token.specs.declared.token.Kind.{Kind}
 use Rattle.lay_token.specs.declared.token.Kind.TheVariants.{Ident, Punct, Opener, Closer, Doc}
 use Rattle.lay_token.specs.declared.token.Token.{Token}
+use Rattle.lay_token.proofs.Deciding.{punct_is, bytes_same}
 use Rattle.lay_tree.specs.Nodes.{is_ident}
 use Rattle.lay_tree.specs.Reader.{Tokens, first, tail, passed, either, is_keyword, is_mark, is_brace_opener, is_brace_closer, is_bracket_opener, is_bracket_closer, opens_brace, closes_brace, opens_bracket, closes_bracket, is_doc_kind}
 use Rattle.lay_tree.specs.Spelled.{IsOne, IsKind}
@@ -58,10 +58,6 @@ ident_kind : (k : Kind) → is_ident k ≡ true → k ≡ Ident
 ident_kind Ident h = refl
 ident_kind _ h = absurd (cc)
 
-punct_kind : (k : Kind) → is_punct k ≡ true → k ≡ Punct
-punct_kind Punct h = refl
-punct_kind _ h = absurd (cc)
-
 brace_opener_kind : (k : Kind) → is_brace_opener k ≡ true → k ≡ Opener Brace
 brace_opener_kind (Opener Brace) h = refl
 brace_opener_kind _ h = absurd (cc)
@@ -94,9 +90,6 @@ doc_kind inner _ h = absurd (cc)
 
 -- ---- the front
 
-pub bytes_same : (text word : List ℕ) → bytes_eq text word ≡ true → text ≡ word
-bytes_same text word h = (bytes_eq-Decides text word).0 h
-
 pub keyword_one : (word : List ℕ) (ts : Tokens) → first (is_keyword word) ts ≡ true → IsOne Ident word ts (tail ts)
 keyword_one word [] h = absurd (cc)
 keyword_one word (t ∷ ts) h =
@@ -105,7 +98,7 @@ keyword_one word (t ∷ ts) h =
 pub mark_one : (character : List ℕ) (ts : Tokens) → first (is_mark character) ts ≡ true → IsOne Punct character ts (tail ts)
 mark_one character [] h = absurd (cc)
 mark_one character (t ∷ ts) h =
-    let b = both_true (is_punct t.kind) (bytes_eq t.text character) h in (punct_kind t.kind b.0, bytes_same t.text character b.1, refl)
+    let b = both_true (is_punct t.kind) (bytes_eq t.text character) h in (punct_is t.kind b.0, bytes_same t.text character b.1, refl)
 
 pub opens_brace_one : (ts : Tokens) → first opens_brace ts ≡ true → IsKind (Opener Brace) ts (tail ts)
 opens_brace_one [] h = absurd (cc)

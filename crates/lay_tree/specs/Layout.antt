@@ -91,7 +91,7 @@ ends_behind_point point (Body (OtherBody block_like) last i f) = ends_behind_poi
 
 -- a piece with its leading blank, if it gets one
 abbrev pub led : Bool → List Bit → List Bit
-led point bits = cond (point && begins (λ c. c == 46) (text_of_bits bits)) (Blank ∷ bits) bits
+led point bits = cond (begins (λ c. c == 46) (text_of_bits bits) && point) (Blank ∷ bits) bits
 
 abbrev pub offset_of : Bool → ℤ
 offset_of true = negsuc 3

@@ -1,4 +1,4 @@
-use Rattle.lay_laws.proofs.OneAnswer as answer
+use Rattle.lay_laws.proofs.file.OneAnswer as answer
 use Rattle.lay_laws.proofs.unique_law.Goals as goal
 
 pub returns : goal.returns

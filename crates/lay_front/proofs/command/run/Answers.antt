@@ -1,6 +1,6 @@
 use Rattle.lay_io.specs.declared.outside.Which.TheVariants.{Stdin}
 use Rattle.lay_tree.specs.Nodes.{out}
-use Rattle.lay_laws.proofs.ReparseFile.{again}
+use Rattle.lay_laws.proofs.file.Reparse.{again}
 use Rattle.lay_front.proofs.OutcomeLemmas.{complete, complete_refused}
 use Rattle.lay_front.proofs.command.run.Goals as goal
 

@@ -1,7 +1,8 @@
 use Rattle.std.proofs.Common.{sym, ap, ◌∙◌}
 use Rattle.std.specs.List.{slice_get}
-use Rattle.lay_nest.proofs.Fronts.{front_is, punct_is, same_first}
+use Rattle.lay_nest.proofs.Fronts.{front_is, same_first}
 use Rattle.lay_nest.proofs.operator.may_begin.Goals as goal
+use Rattle.lay_token.proofs.Deciding.{punct_is}
 
 pub returns-in-Punct : goal.returns-in-Punct
 returns-in-Punct c behind h =

@@ -1,0 +1,4 @@
+pub mod Border
+pub mod Move
+pub mod Need
+pub mod OperatorRuns

@@ -1,0 +1,5 @@
+pub mod FirstText
+pub mod Nodes
+pub mod OneAnswer
+pub mod Reparse
+pub mod Singles

@@ -1,0 +1,91 @@
+-- Bytes have one answer at most: they read to one file, or have one refusal, and never both.
+use Rattle.std.proofs.Common.{◌≡◌, ℕ, List, [], Some, None, Ok, Err, sym, ap, ◌∙◌, subst}
+use Rattle.lay_token.specs.Source.{Source, source}
+use Rattle.lay_token.specs.Lexes.{Lexes, NoTokenAt}
+use Rattle.lay_token.specs.declared.token.Token.{Token}
+use Rattle.lay_token.specs.declared.refusal.Refusal.{Refusal}
+use Rattle.lay_token.specs.declared.refusal.Refusal.TheVariants.{NotUtf8, NoToken, Unbalanced, NoItem}
+use Rattle.lay_token.specs.Delimiters.{Balanced, UnbalancedAt}
+use Rattle.lay_token.proofs.Unique as unique
+use Rattle.lay_nest.proofs.Machine.{place, place-unbalanced, run-balanced}
+use Rattle.lay_tree.specs.Reading.{Reads, IsRefused, SpellsFile}
+use Rattle.lay_tree.specs.declared.tree.File.{File}
+use Rattle.lay_tree.proofs.ReaderComplete.{file_unique}
+
+-- A text has one source, and its tokens are one list.
+pub same_source : (bytes : List ℕ) (a b : Source) → source bytes ≡ Ok a → source bytes ≡ Ok b → a ≡ b
+same_source bytes a b e h = cc
+
+no_source : {P : Type 0} (bytes : List ℕ) (a : Source) (r : Refusal) → source bytes ≡ Ok a → source bytes ≡ Err r → P
+no_source bytes a r e h = cc
+
+lexes_of : (bytes : List ℕ) (a b : Source) (ts : List Token) → source bytes ≡ Ok a → source bytes ≡ Ok b
+    → Lexes a.text a.start ts → Lexes b.text b.start ts
+lexes_of bytes a b ts e h l = subst (λ (s : Source). Lexes s.text s.start ts) (same_source bytes a b e h) l
+
+pub same_tokens : (bytes : List ℕ) (a b : Source) (ts us : List Token) → source bytes ≡ Ok a → source bytes ≡ Ok b
+    → Lexes a.text a.start ts → Lexes b.text b.start us → ts ≡ us
+same_tokens bytes a b ts us e h l m = unique.lexes_once b.text b.start ts us (lexes_of bytes a b ts e h l) m
+
+token_missing : (bytes : List ℕ) (a b : Source) (ts : List Token) (at : ℕ) → source bytes ≡ Ok a → source bytes ≡ Ok b
+    → Lexes a.text a.start ts → NoTokenAt b.text b.start at → ⊥
+token_missing bytes a b ts at e h l m = unique.no_token_or_tokens b.text b.start at ts m (lexes_of bytes a b ts e h l)
+
+unbalanced_once : (ts : List Token) (at other : ℕ) → UnbalancedAt ts at → UnbalancedAt ts other → at ≡ other
+unbalanced_once ts at other u v =
+    let same : Some at ≡ Some other = sym (place-unbalanced ts at u) ∙ place-unbalanced ts other v in cc
+
+unbalanced_or_balanced : (ts : List Token) (at : ℕ) → UnbalancedAt ts at → Balanced ts → ⊥
+unbalanced_or_balanced ts at u b =
+    let both : Some at ≡ None = sym (place-unbalanced ts at u) ∙ ap place (run-balanced [] ts b) in cc
+
+-- Bytes read to one file.
+pub one_file : (bytes : List ℕ) (file other : File) → Reads bytes file → Reads bytes other → other ≡ file
+one_file bytes file other r s =
+    let line : other.shebang ≡ file.shebang = sym s.shebang
+    ∙ ap (λ (f : Source). f.shebang) (same_source bytes s.from r.from s.text r.text) ∙ r.shebang in
+    let one : s.tokens ≡ r.tokens = same_tokens bytes s.from r.from s.tokens r.tokens s.text r.text s.lexes r.lexes in
+    let spelled : SpellsFile other r.tokens = subst (SpellsFile other) one s.spells in
+    file_unique other file r.tokens spelled.1 spelled.0.normal r.spells.1 r.spells.0.normal line
+
+-- no bytes are balanced and unbalanced
+balanced_or_not : (bytes : List ℕ) (from other : Source) (ts us : List Token) (at : ℕ) → source bytes ≡ Ok from
+    → source bytes ≡ Ok other
+    → Lexes from.text from.start ts → Lexes other.text other.start us → Balanced ts → UnbalancedAt us at → ⊥
+balanced_or_not bytes from other ts us at e h l m b u =
+    unbalanced_or_balanced us at u (subst Balanced (same_tokens bytes from other ts us e h l m) b)
+
+-- no bytes are read and refused
+pub never_both : (bytes : List ℕ) (file : File) (refusal : Refusal) → Reads bytes file → IsRefused bytes refusal → ⊥
+never_both bytes file (NotUtf8 at) r h = no_source bytes r.from (NotUtf8 at) r.text h
+never_both bytes file (NoToken at) r h = token_missing bytes r.from h.0 r.tokens at r.text h.1 r.lexes h.2
+never_both bytes file (Unbalanced at) r h =
+    balanced_or_not bytes r.from h.0 r.tokens h.1 at r.text h.2 r.lexes h.3 r.balanced h.4
+never_both bytes file (NoItem at) r h = h.2 file r
+
+-- no bytes are refused twice
+pub one_refusal : (bytes : List ℕ) (r s : Refusal) → IsRefused bytes r → IsRefused bytes s → r ≡ s
+one_refusal bytes (NotUtf8 a) (NotUtf8 b) h k = cc
+one_refusal bytes (NotUtf8 a) (NoToken b) h k = no_source bytes k.0 (NotUtf8 a) k.1 h
+one_refusal bytes (NotUtf8 a) (Unbalanced b) h k = no_source bytes k.0 (NotUtf8 a) k.2 h
+one_refusal bytes (NotUtf8 a) (NoItem b) h k = no_source bytes k.1.from (NotUtf8 a) k.1.text h
+one_refusal bytes (NoToken a) (NotUtf8 b) h k = no_source bytes h.0 (NotUtf8 b) h.1 k
+one_refusal bytes (NoToken a) (NoToken b) h k =
+    ap NoToken (unique.no_token_once k.0.text k.0.start a b
+    (subst (λ (s : Source). NoTokenAt s.text s.start a) (same_source bytes h.0 k.0 h.1 k.1) h.2) k.2)
+one_refusal bytes (NoToken a) (Unbalanced b) h k = absurd (token_missing bytes k.0 h.0 k.1 a k.2 h.1 k.3 h.2)
+one_refusal bytes (NoToken a) (NoItem b) h k =
+    absurd (token_missing bytes k.1.from h.0 k.1.tokens a k.1.text h.1 k.1.lexes h.2)
+one_refusal bytes (Unbalanced a) (NotUtf8 b) h k = no_source bytes h.0 (NotUtf8 b) h.2 k
+one_refusal bytes (Unbalanced a) (NoToken b) h k = absurd (token_missing bytes h.0 k.0 h.1 b h.2 k.1 h.3 k.2)
+one_refusal bytes (Unbalanced a) (Unbalanced b) h k =
+    ap Unbalanced (unbalanced_once k.1 a b
+    (subst (λ (ts : List Token). UnbalancedAt ts a) (same_tokens bytes h.0 k.0 h.1 k.1 h.2 k.2 h.3 k.3) h.4) k.4)
+one_refusal bytes (Unbalanced a) (NoItem b) h k =
+    absurd (balanced_or_not bytes k.1.from h.0 k.1.tokens h.1 a k.1.text h.2 k.1.lexes h.3 k.1.balanced h.4)
+one_refusal bytes (NoItem a) (NotUtf8 b) h k = no_source bytes h.1.from (NotUtf8 b) h.1.text k
+one_refusal bytes (NoItem a) (NoToken b) h k =
+    absurd (token_missing bytes h.1.from k.0 h.1.tokens b h.1.text k.1 h.1.lexes k.2)
+one_refusal bytes (NoItem a) (Unbalanced b) h k =
+    absurd (balanced_or_not bytes h.1.from k.0 h.1.tokens k.1 b h.1.text k.2 h.1.lexes k.3 h.1.balanced k.4)
+one_refusal bytes (NoItem a) (NoItem b) h k = ap NoItem (h.0 ∙ sym k.0)

@@ -1,0 +1,4 @@
+pub mod Characters
+pub mod CleanPieces
+pub mod DocTexts
+pub mod Laid

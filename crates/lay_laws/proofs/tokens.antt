@@ -1,0 +1,6 @@
+pub mod FromText
+pub mod Lexed
+pub mod Neighbours
+pub mod Rows
+pub mod TokenLists
+pub mod Within
