@@ -8,7 +8,5 @@
 mod cooking;
 mod raw;
 mod strings;
-#[cfg(test)]
-mod tests;
 
 pub use cooking::{Cooked, cook};

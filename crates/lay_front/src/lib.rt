@@ -11,6 +11,3 @@ pub mod format;
 
 pub use command::{LIMIT, Status, run};
 pub use format::{IntoError, format_into};
-
-#[cfg(test)]
-mod tests;

@@ -146,29 +146,3 @@ impl<'a, R: Print + Eprint> Sink for HostSink<'a, R> {
         }
     }
 }
-
-#[cfg(test)]
-mod tests {
-    use super::*;
-    use lay_token::Text;
-
-    #[test]
-    fn a_named_file_fails(rt: HostRuntime) {
-        let mut inputs = HostInputs::new(&rt);
-        inputs.choose(Which::File(Text::new(rt.alloc())));
-        let mut buf = [0u8; 4];
-        assert_eq!(rt; inputs.read(&mut buf), Err(Failed));
-        assert_eq!(rt; inputs.faults, 1);
-    }
-
-    #[test]
-    fn bytes_that_are_no_text_fail_on_standard_error(rt: HostRuntime) {
-        let mut out = HostSink::stdout(&rt);
-        assert_eq!(rt; out.write(b""), Ok(()));
-        assert_eq!(rt; out.faults, 0);
-        let mut err = HostSink::stderr(&rt);
-        assert_eq!(rt; err.write(b"\xff"), Err(Failed));
-        assert_eq!(rt; err.write(b""), Ok(()));
-        assert_eq!(rt; err.faults, 1);
-    }
-}

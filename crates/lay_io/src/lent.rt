@@ -37,23 +37,3 @@ impl<'a, K: Sink> Sink for Lent<'a, K> {
         self.sink.write(piece)
     }
 }
-
-#[cfg(test)]
-mod tests {
-    use super::*;
-    use crate::sinks::MemorySink;
-    use lay_token::List;
-    use std::test::Fail;
-
-    // Writes reach the lent sink, of which the one numbered 1 fails and keeps 2 bytes.
-    #[test]
-    fn writes(rt: HostRuntime) -> Result<(), Fail> {
-        let alloc = rt.alloc();
-        let mut sink = MemorySink::new(alloc, 6, List::from_vec(vec![in alloc; 1u64]?), 2)?;
-        let mut lent = Lent::new(&mut sink);
-        assert_eq!(rt; lent.write(b"ab"), Ok(()));
-        assert_eq!(rt; lent.write(b"cde"), Err(Failed));
-        assert_eq!(rt; sink.bytes(), b"abcd".as_slice());
-        Ok(())
-    }
-}

@@ -9,8 +9,6 @@ mod ends;
 mod gap;
 mod lexer;
 mod source;
-#[cfg(test)]
-mod tests;
 mod tokens;
 
 pub use lexer::lex;

@@ -11,8 +11,6 @@ mod law;
 mod nesting;
 mod operator;
 mod partners;
-#[cfg(test)]
-mod tests;
 
 pub use cursor::Cursor;
 pub use law::nesting_law;

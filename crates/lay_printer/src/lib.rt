@@ -38,6 +38,3 @@ mod queue;
 pub use engine::PrintError;
 pub use press::{Press, PrintFault, Printer};
 pub use printer::Core;
-
-#[cfg(test)]
-mod tests;

@@ -18,6 +18,3 @@ mod room;
 pub use entry::{Entry, Size};
 pub use marks::Marks;
 pub use ring::Ring;
-
-#[cfg(test)]
-mod tests;

@@ -131,6 +131,3 @@ fn mark_len(mark: Mark) -> u64
         Mark::Comma | Mark::OpenBrace | Mark::CloseBrace => 1,
     }
 }
-
-#[cfg(test)]
-mod tests;

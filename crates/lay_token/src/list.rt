@@ -66,38 +66,3 @@ impl<T> List<T> {
         items
     }
 }
-
-#[cfg(test)]
-mod tests {
-    use super::*;
-    use crate::text::Text;
-    use std::test::Fail;
-
-    // Each call that may answer NoMemory, with ample memory: texts that stay in the value and that leave it.
-    #[test]
-    fn with_memory(rt: HostRuntime) -> Result<(), Fail> {
-        let alloc = rt.alloc();
-        let long = b"a text of more than twenty-two bytes".as_slice();
-        let mut text = Text::from_bytes(alloc, long)?;
-        text.push(b'!')?;
-        text.push_bytes(b"?!")?;
-        assert_eq!(rt;
-            text.as_bytes(),
-            b"a text of more than twenty-two bytes!?!".as_slice()
-        );
-        let mut grown = Text::new(alloc);
-        for byte in long {
-            grown.push(*byte)?;
-        }
-        assert_eq!(rt; grown.as_bytes(), long);
-        let mut list = List::new(alloc);
-        assert!(rt; list.push(3u8).is_ok());
-        assert!(rt; list.push(4u8).is_ok());
-        assert_eq!(rt; list.as_slice(), [3, 4].as_slice());
-        assert_eq!(rt;
-            List::from_vec(list.into_vec()).as_slice(),
-            [3, 4].as_slice()
-        );
-        Ok(())
-    }
-}

@@ -11,8 +11,6 @@ pub mod chars;
 mod comments;
 mod numbers;
 mod quoted;
-#[cfg(test)]
-mod tests;
 mod words;
 
 use crate::token::{Delim, Kind};

@@ -48,30 +48,3 @@ pub enum FormatError {
     #[error("no memory")]
     NoMemory,
 }
-
-#[cfg(test)]
-mod tests {
-    use super::*;
-    use std::test::Fail;
-
-    #[test]
-    fn messages(rt: HostRuntime) -> Result<(), Fail> {
-        let alloc = rt.alloc();
-        let rows = [
-            (Refusal::NotUtf8 { at: 1 }, "not UTF-8"),
-            (Refusal::NoToken { at: 2 }, "no token"),
-            (Refusal::Unbalanced { at: 3 }, "unbalanced delimiter"),
-            (Refusal::NoItem { at: 4 }, "no item"),
-        ];
-        for (refusal, message) in rows {
-            assert_eq!(rt; refusal.to_string(alloc)?.as_str(), message);
-            let refused = FormatError::Refused(refusal);
-            assert_eq!(rt; refused.to_string(alloc)?.as_str(), message);
-        }
-        assert_eq!(rt;
-            FormatError::NoMemory.to_string(alloc)?.as_str(),
-            "no memory"
-        );
-        Ok(())
-    }
-}

@@ -243,38 +243,3 @@ fn behind_y(rest: &[u8]) -> Class
         _ => Class::Plain,
     }
 }
-
-#[cfg(test)]
-mod tests {
-    use super::*;
-
-    #[test]
-    fn classes(rt: HostRuntime) {
-        let rows = [
-            ("crate self super Self", Class::PathWord),
-            (
-                "as async await break const continue dyn else enum extern false fn for if impl in let",
-                Class::Strict,
-            ),
-            (
-                "loop match mod move mut pub ref return static struct trait true type unsafe use",
-                Class::Strict,
-            ),
-            ("where while", Class::Strict),
-            (
-                "abstract become box do final macro override priv try typeof unsized virtual yield",
-                Class::Reserved,
-            ),
-            (
-                "_ a union macro_rules raw safe auto default gen dyn_ fns Struct selfish sel SELF r",
-                Class::Plain,
-            ),
-        ];
-        for (words, class) in rows {
-            for word in words.split(' ') {
-                assert_eq!(rt; word_class(word.as_bytes()), class, "{word}");
-            }
-        }
-        assert_eq!(rt; word_class(b""), Class::Plain);
-    }
-}

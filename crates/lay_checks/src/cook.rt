@@ -1,0 +1,72 @@
+//! Strings and their values, worked out by hand from the Rust Reference's rules.
+use crate::given::{BETWEEN, parts};
+use lay_cook::{Cooked, cook};
+use lay_token::{NoMemory, Text, Token, piece_at};
+use std::alloc::Global;
+use std::process::Abort;
+
+/// What the first piece of a text says as a string.
+fn cooked(alloc: Global, text: &str) -> Result<Cooked, NoMemory> {
+    match piece_at(text.as_bytes(), false) {
+        None => Ok(Cooked::NotText),
+        Some(piece) => {
+            let token = Token {
+                kind: piece.kind,
+                joint: false,
+                text: Text::from_bytes(alloc, &text.as_bytes()[..piece.len])?,
+                at: 0,
+                len: piece.len,
+            };
+            cook(alloc, &token)
+        }
+    }
+}
+
+/// The first piece of a text says this as a string.
+fn says(rt: &impl Abort, alloc: Global, row: &str) {
+    let (text, wanted) = parts(row);
+    match cooked(alloc, text) {
+        Ok(Cooked::Str(value)) => assert_eq!(rt; value.as_bytes(), wanted.as_bytes(), "{row}"),
+        _ => assert!(rt; false, "{row}"),
+    }
+}
+
+#[test]
+fn values(rt: HostRuntime) {
+    let rows = "\"\"→§\
+        \"a\" b→a§\
+        \"\u{e9}\u{4e2d}\u{1f600}\"→\u{e9}\u{4e2d}\u{1f600}§\
+        \"\\n\\r\\t\\\\\\0\\'\\\"\"→\n\r\t\\\0'\"§\
+        \"a\\nb\\\\n'c\"→a\nb\\n'c§\
+        \"\\x41\\x7F\\x7e\\x00\"→A\x7f~\0§\
+        \"\\u{e9}\\u{41}\\u{0}\"→\u{e9}A\0§\
+        \"\\u{1_F6_00}\\u{10FFFF}\\u{00004_1_}\"→\u{1f600}\u{10ffff}A§\
+        \"a\\\n \t\n  b c\"→ab c§\
+        \"a\\\n\"→a§\
+        \"\\\n  \\\n  \\n  \\\\\\\n\\x41\"→\n  \\A§\
+        \"a\n b\"→a\n b§\
+        \"more than twenty-two bytes\\n\"→more than twenty-two bytes\n§\
+        r\"\"→§\
+        r\"a\\n\\\" b→a\\n\\§\
+        r#\"a\"b\\n\"# →a\"b\\n§\
+        r##\"x\"#\"##→x\"#§\
+        r\"\u{e9}\\\n  \"→\u{e9}\\\n  §\
+        r##\"#\"##→#§\
+        r#\"more than twenty-two bytes\"#→more than twenty-two bytes";
+    for row in rows.split(BETWEEN) {
+        says(&rt, rt.alloc(), row);
+    }
+}
+
+// Strings with a suffix, and what is no string.
+#[test]
+fn no_values(rt: HostRuntime) {
+    let rows =
+        r##""a"x§"\n"_x§""é§r"a"x§r#"a"#x1§b"a"§br"a"§c"a"§cr"a"§'a'§b'a'§1§1.5§name§r#name§'name§_§+§(§)§/// a"##;
+    for text in rows.split(BETWEEN) {
+        assert!(rt;
+            matches!(cooked(rt.alloc(), text), Ok(Cooked::NotText)),
+            "{text}"
+        );
+    }
+}

@@ -1,0 +1,339 @@
+//! Runs of the command over objects in memory.
+ghost use Rattle.std.specs.Prelude.{◌≡◌, None};
+
+use crate::given::{BETWEEN, list, parts, repeated};
+use lay_front::{LIMIT, Status, run};
+use lay_io::{Inputs, MemoryInputs, MemorySink, QuietInputs, QuietSink, Sink};
+use lay_token::{List, NoMemory, Refusal, Text};
+use std::alloc::Global;
+use std::process::Abort;
+use std::test::Fail;
+
+/// The status of a run.
+fn status<I: Inputs, K: Sink>(alloc: Global, words: &[Text], inputs: &mut I, out: &mut K) -> Status
+    requires { I.chosen inputs.old ≡ None }
+{
+    let mut err = QuietSink::new(alloc);
+    run(alloc, words, inputs, out, &mut err)
+}
+
+/// The status of a run that can't fail, and its sink.
+fn ran(alloc: Global, words: &[Text], given: List<u8>) -> Result<(Status, QuietSink), NoMemory> {
+    let mut inputs = QuietInputs::new(given, List::new(alloc));
+    let mut out = QuietSink::with_room(alloc, 1000)?;
+    let status = status(alloc, words, &mut inputs, &mut out);
+    Ok((status, out))
+}
+
+/// Whether a run answers this status and writes this text.
+fn is_run(
+    alloc: Global,
+    words: &[Text],
+    given: &[u8],
+    wanted: Status,
+    text: &[u8],
+) -> Result<bool, NoMemory> {
+    let (status, out) = ran(alloc, words, list(alloc, given)?)?;
+    Ok(status == wanted && out.bytes() == text)
+}
+
+/// A text reads to a file whose text is the other one, and so does that.
+fn lays(rt: &impl Abort, alloc: Global, row: &str) {
+    let (given, text) = parts(row);
+    for bytes in [given, text] {
+        let run = is_run(alloc, &[], bytes.as_bytes(), Status::Done, text.as_bytes());
+        assert_eq!(rt; run, Ok(true), "{bytes}");
+    }
+}
+
+#[test]
+fn files(rt: HostRuntime) {
+    let items = "→§\
+        \x20\t\r\n→§\
+        struct A;struct B;→struct A;\nstruct B;\n§\
+        struct A;\nstruct B;\n→struct A;\nstruct B;\n§\
+        mod a{struct B;mod c{}}→mod a {\n    struct B;\n    mod c {}\n}\n§\
+        mod a{mod b{struct C;}}→mod a {\n    mod b {\n        struct C;\n    }\n}\n§\
+        mod a{#![x]//!y\n}→mod a {\n    #![x]\n    //!y\n}\n§\
+        #[x]mod a{//!y\n#[z]struct B;}→#[x]\nmod a {\n    //!y\n    #[z]\n    struct B;\n}\n§\
+        use {};→use {};\n§\
+        use*;→use *;\n§\
+        use a as b;use a as _;use::a::*;→use a as b;\nuse a as _;\nuse ::a::*;\n§\
+        use crate::{self as a,r#fn,super::*,};→use crate::{self as a, r#fn, super::*};\n";
+    // Documentation has many spellings, of which its text has one.
+    let documentation = "/** one */struct A;→/// one\nstruct A;\n§\
+        #[doc=\" one\"]struct A;→/// one\nstruct A;\n§\
+        #[doc=r#\" one\"#]struct A;→/// one\nstruct A;\n§\
+        /// one\nstruct A;→/// one\nstruct A;\n§\
+        #[doc=\"/x\"]struct A;→#[doc = \"/x\"]\nstruct A;\n§\
+        #![doc=\"/x\"]→//!/x\n§\
+        //!a\n#[x]struct A;→//!a\n#[x]\nstruct A;\n§\
+        /** a\nb */struct A;→/** a\nb */\nstruct A;\n§\
+        /** a\nb */mod c{/*! d\ne*/}→/** a\nb */\nmod c {\n    /*! d\ne*/\n}\n§\
+        #[doc=\"a\\r\"]struct A;→#[doc = \"a\\r\"]\nstruct A;\n§\
+        #[doc=\"a\"b]struct A;→#[doc = \"a\"b]\nstruct A;\n§\
+        #[doc=b\"a\"]struct A;→#[doc = b\"a\"]\nstruct A;\n§\
+        #[doc]#[r#doc=\"a\"]#[::doc=\"a\"]struct A;→#[doc]\n#[r#doc = \"a\"]\n#[::doc = \"a\"]\nstruct A;\n§\
+        # ! [a::b = 1.] # [unsafe] use c;→#![a::b = 1.]\n#[unsafe]\nuse c;\n§\
+        use a::{b,c,};→use a::{b, c};\n§\
+        use a::{b::{c,d},b};→use a::{b::{c, d}, b};\n";
+    // A line of 89 columns, and one of 90 that is broken; and what gaps and names may hold.
+    let lines =
+        "use a::{b,cccccccccccccccccccccccccccccccccccccccccccccccccccccccccccccccccccccccccccc};→use a::{b, cccccccccccccccccccccccccccccccccccccccccccccccccccccccccccccccccccccccccccc};\n§\
+        use a::{b,ccccccccccccccccccccccccccccccccccccccccccccccccccccccccccccccccccccccccccccc};→use a::{\n    b,\n    ccccccccccccccccccccccccccccccccccccccccccccccccccccccccccccccccccccccccccccc,\n};\n§\
+        use a::{b::{c,d},ccccccccccccccccccccccccccccccccccccccccccccccccccccccccccccccccccccccccccccc};→use a::{\n    b::{c, d},\n    ccccccccccccccccccccccccccccccccccccccccccccccccccccccccccccccccccccccccccccc,\n};\n§\
+        use a:: b ;→use a::b;\n§\
+        ////x\n/***/struct A;→struct A;\n§\
+        \u{feff}#!/bin/x\r\nstruct A;\r\n→#!/bin/x\nstruct A;\n§\
+        #!/bin/x→#!/bin/x\n§\
+        struct r#type;→struct r#type;\n§\
+        use r#type::{r#fn};→use r#type::{r#fn};\n§\
+        struct \u{fc}ber;→struct \u{fc}ber;\n";
+    for rows in [items, documentation, lines] {
+        for row in rows.split(BETWEEN) {
+            lays(&rt, rt.alloc(), row);
+        }
+    }
+}
+
+/// The bytes are refused, and nothing is written.
+fn answers(rt: &impl Abort, alloc: Global, given: &[u8], status: Status) {
+    assert_eq!(rt;
+        is_run(alloc, &[], given, status, b""),
+        Ok(true),
+        "{status:?}"
+    );
+}
+
+/// None of these texts spells items.
+fn no_item(rt: &impl Abort, alloc: Global, texts: &str) {
+    for text in texts.split(BETWEEN) {
+        let refused = Status::Refused(Refusal::NoItem { at: 0 });
+        assert_eq!(rt;
+            is_run(alloc, &[], text.as_bytes(), refused, b""),
+            Ok(true),
+            "{text}"
+        );
+    }
+}
+
+#[test]
+fn refusals(rt: HostRuntime) {
+    let alloc = rt.alloc();
+    no_item(
+        &rt,
+        alloc,
+        "struct A§struct A;struct B§pub struct A;§structA;§struct _;§struct fn;§struct A;;§/// x§#[x]",
+    );
+    no_item(
+        &rt,
+        alloc,
+        "#[x]mod a{#[y]}§struct A;//! x§struct A;#![x]§/// x\n//! y\nstruct A;§#[]struct A;",
+    );
+    no_item(
+        &rt,
+        alloc,
+        "#[x=]struct A;§#[x==1]struct A;§#[x 1]struct A;§#[x=y]struct A;§#[fn]struct A;§#[a::]struct A;",
+    );
+    no_item(
+        &rt,
+        alloc,
+        "#(x)struct A;§use a as;§use a as crate;§use a as b::c;§use *::a;§use {a}::b;§use a::{,};",
+    );
+    no_item(
+        &rt,
+        alloc,
+        "use a::{b,,c};§use a::;§use a: :b;§use a:::b;§use fn::a;",
+    );
+    answers(
+        &rt,
+        alloc,
+        b"mod a{",
+        Status::Refused(Refusal::Unbalanced { at: 5 }),
+    );
+    answers(
+        &rt,
+        alloc,
+        b"mod a}",
+        Status::Refused(Refusal::Unbalanced { at: 5 }),
+    );
+    answers(
+        &rt,
+        alloc,
+        b"fn f( { }",
+        Status::Refused(Refusal::Unbalanced { at: 4 }),
+    );
+    answers(
+        &rt,
+        alloc,
+        b"fn f( { )",
+        Status::Refused(Refusal::Unbalanced { at: 8 }),
+    );
+    answers(
+        &rt,
+        alloc,
+        b"}",
+        Status::Refused(Refusal::Unbalanced { at: 0 }),
+    );
+    answers(
+        &rt,
+        alloc,
+        b"(",
+        Status::Refused(Refusal::Unbalanced { at: 0 }),
+    );
+    answers(
+        &rt,
+        alloc,
+        b"[{}](])",
+        Status::Refused(Refusal::Unbalanced { at: 5 }),
+    );
+    answers(
+        &rt,
+        alloc,
+        b"// x\r\n(((]]\"",
+        Status::Refused(Refusal::NoToken { at: 10 }),
+    );
+    answers(
+        &rt,
+        alloc,
+        b"struct r#self;",
+        Status::Refused(Refusal::NoToken { at: 7 }),
+    );
+    answers(
+        &rt,
+        alloc,
+        b"////x\n/***/struct A;/*/*x*/",
+        Status::Refused(Refusal::NoToken { at: 20 }),
+    );
+    answers(
+        &rt,
+        alloc,
+        b"struct A;\xff",
+        Status::Refused(Refusal::NotUtf8 { at: 9 }),
+    );
+    let word = [Text::new(alloc)];
+    assert_eq!(rt;
+        is_run(alloc, &word, b"struct A;", Status::Usage, b""),
+        Ok(true)
+    );
+}
+
+/// So many modules, each within the one before.
+fn nested(alloc: Global, levels: usize) -> Result<Vec<u8>, NoMemory> {
+    let mut all = repeated(alloc, b"mod a{", levels)?;
+    all.extend_from_slice(repeated(alloc, b"}", levels)?.as_slice())?;
+    Ok(all)
+}
+
+/// The greatest input, and more behind it.
+fn longest(alloc: Global, more: &[u8]) -> Result<Vec<u8>, NoMemory> {
+    let mut all = repeated(alloc, &[0xff; 1024], LIMIT / 1024)?;
+    all.extend_from_slice(more)?;
+    Ok(all)
+}
+
+/// The status of a run over these bytes.
+fn outcome(alloc: Global, given: Result<Vec<u8>, NoMemory>) -> Status {
+    match given {
+        Ok(given) => match ran(alloc, &[], List::from_vec(given)) {
+            Ok((status, _)) => status,
+            Err(NoMemory) => Status::NoMemory,
+        },
+        Err(NoMemory) => Status::NoMemory,
+    }
+}
+
+// An item stands in 255 others at most. An input of 16 MiB is read, and one that holds a byte more is not: it is no
+// UTF-8, so it is refused before it is taken apart.
+#[test]
+fn limits(rt: HostRuntime) {
+    let alloc = rt.alloc();
+    let refused = Status::Refused(Refusal::NoItem { at: 0 });
+    assert_eq!(rt; outcome(alloc, nested(alloc, 256)), Status::Done);
+    assert_eq!(rt; outcome(alloc, nested(alloc, 257)), refused);
+    assert_eq!(rt; outcome(alloc, nested(alloc, 10_000)), refused);
+    let unbalanced = Status::Refused(Refusal::Unbalanced { at: 999_999 });
+    assert_eq!(rt;
+        outcome(alloc, repeated(alloc, b"(", 1_000_000)),
+        unbalanced
+    );
+    let unbalanced = Status::Refused(Refusal::Unbalanced { at: 0 });
+    assert_eq!(rt;
+        outcome(alloc, repeated(alloc, b"}", 1_000_000)),
+        unbalanced
+    );
+    let refused = Status::Refused(Refusal::NotUtf8 { at: 0 });
+    assert_eq!(rt; outcome(alloc, longest(alloc, b"")), refused);
+    assert_eq!(rt; outcome(alloc, longest(alloc, b"\xff")), Status::TooLong);
+}
+
+/// The number, or none.
+fn numbers(alloc: Global, number: Option<u64>) -> Result<List<u64>, NoMemory> {
+    let mut all = Vec::new(alloc);
+    if let Some(number) = number {
+        all.push(number)?;
+    }
+    Ok(List::from_vec(all))
+}
+
+/// The status and the sink of a run over so many `struct A;`, of which one read and one write fail; the write keeps two
+/// bytes.
+fn failing(
+    alloc: Global,
+    count: usize,
+    read: Option<u64>,
+    write: Option<u64>,
+) -> Result<(Status, MemorySink), NoMemory> {
+    let given = List::from_vec(repeated(alloc, b"struct A;", count)?);
+    let mut inputs = MemoryInputs::new(given, List::new(alloc), numbers(alloc, read)?);
+    let mut out = MemorySink::new(alloc, 100_000, numbers(alloc, write)?, 2)?;
+    let status = status(alloc, &[], &mut inputs, &mut out);
+    Ok((status, out))
+}
+
+/// Such a run answers this status, and writes so many bytes of the text.
+fn fails(
+    rt: &impl Abort,
+    alloc: Global,
+    count: usize,
+    read: Option<u64>,
+    write: Option<u64>,
+    wanted: (Status, usize),
+) -> Result<(), NoMemory> {
+    let whole = repeated(alloc, b"struct A;\n", count)?;
+    let (status, out) = failing(alloc, count, read, write)?;
+    assert_eq!(rt; (status, out.bytes().len()), wanted);
+    assert!(rt; whole.starts_with(out.bytes()));
+    Ok(())
+}
+
+// 8,000 items take five reads of at most 16 KiB and one that finds the end, and a write of the first items that take
+// 64 KiB and one of the others.
+#[test]
+fn failures(rt: HostRuntime) -> Result<(), Fail> {
+    let alloc = rt.alloc();
+    for number in 0..6 {
+        fails(
+            &rt,
+            alloc,
+            8000,
+            Some(number),
+            None,
+            (Status::ReadFailed, 0),
+        )?;
+    }
+    let rows = [
+        (8000, Some(6), None, (Status::Done, 80_000)),
+        (8000, Some(7), None, (Status::Done, 80_000)),
+        (2, None, Some(0), (Status::WriteFailed, 2)),
+        (2, None, Some(1), (Status::Done, 20)),
+        (8000, None, Some(0), (Status::WriteFailed, 2)),
+        (8000, None, Some(1), (Status::WriteFailed, 65_542)),
+        (8000, None, Some(2), (Status::Done, 80_000)),
+        (8000, None, None, (Status::Done, 80_000)),
+    ];
+    for (count, read, write, wanted) in rows {
+        fails(&rt, alloc, count, read, write, wanted)?;
+    }
+    Ok(())
+}
