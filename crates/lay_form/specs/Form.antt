@@ -1,5 +1,6 @@
 -- A form lists the parts of a node in order. From it follow the tokens that spell the node, and its layout.
 use Rattle.std.specs.Prelude.{ℕ, Bool, List, [], ◌∷◌}
+use Rattle.lay_token.specs.Characters as char
 use Rattle.lay_token.specs.Forms.{opening, closing}
 use Rattle.lay_token.specs.declared.token.Delim.{Delim}
 use Rattle.lay_token.specs.declared.token.Kind.{Kind}
@@ -81,7 +82,7 @@ abbrev pub closer : Delim → Bit
 closer d = Fixed (Closer d) (closing d ∷ [])
 
 abbrev pub comma : List Bit
-comma = punct 44 ∷ []
+comma = punct char.comma ∷ []
 
 abbrev pub semicolon : List Bit
-semicolon = punct 59 ∷ []
+semicolon = punct char.semicolon ∷ []

@@ -1,6 +1,7 @@
 -- The layout of a form: its document.
 use Rattle.std.specs.Prelude.{ℕ, zero, suc, Bool, true, false, cond, ◌&&◌, ◌==◌, List, [], ◌∷◌, ◌++◌, ℤ, pos, negsuc, codes}
 use Rattle.std.specs.Str.{chars, bytes_eq}
+use Rattle.lay_token.specs.Characters as char
 use Rattle.lay_token.specs.Chars.{begins}
 use Rattle.lay_token.specs.Docs.{doc_form}
 use Rattle.lay_token.specs.Document.{Document, Empty, AddText, AddBreak, AddGroup}
@@ -94,7 +95,7 @@ ends_behind_point point (Body braces behind i f) = ends_behind_point (point_behi
 
 -- a piece with its leading blank, if it gets one
 abbrev pub led : Bool → List Bit → List Bit
-led point bits = cond (begins (λ c. c == 46) (text_of_bits bits) && point) (Blank ∷ bits) bits
+led point bits = cond (begins (λ c. c == char.point) (text_of_bits bits) && point) (Blank ∷ bits) bits
 
 abbrev pub offset_of : Bool → ℤ
 offset_of true = negsuc 3

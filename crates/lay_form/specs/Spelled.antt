@@ -1,6 +1,7 @@
 -- Which tokens spell a form at a depth. Each relation R x ts rest says that the front of ts, up to rest, spells x.
 use Rattle.std.specs.Prelude.{ℕ, zero, suc, ◌-◌, ◌≤◌, ◌≡◌, Bool, true, false, ◌||◌, List, [], ◌∷◌, ◌++◌, IsTrue, ◌⊎◌, codes, length, drop, Some, encode_utf8_all}
 use Rattle.std.specs.Str.{chars}
+use Rattle.lay_token.specs.Characters as char
 use Rattle.lay_token.specs.Operators.{is_op}
 use Rattle.lay_token.specs.Value.{value_of}
 use Rattle.lay_token.specs.declared.token.Delim.TheVariants.{Bracket, Brace}
@@ -62,8 +63,8 @@ IsString text (t ∷ ts) rest = IsStringOf text t × (ts ≡ rest)
 
 -- `#[` or `#![`
 abbrev pub attr_opening : Bool → List Bit
-attr_opening false = punct 35 ∷ opener Bracket ∷ []
-attr_opening true = punct 35 ∷ punct 33 ∷ opener Bracket ∷ []
+attr_opening false = punct char.hash ∷ opener Bracket ∷ []
+attr_opening true = punct char.hash ∷ punct char.bang ∷ opener Bracket ∷ []
 
 -- documentation, spelled as an attribute: `#[doc = "text"]`
 abbrev pub IsDocAttr : Bool → List ℕ → List Token → List Token → Type 0

@@ -2,7 +2,7 @@
 ghost use Rattle.std.specs.Prelude.{◌≡◌, ◌≤◌, ◌⊎◌, ℕ, List as Items, [], ◌++◌, map, Err, IfOk, OnOk, OnErr, IsOk, IsErrOf};
 ghost use Rattle.lay_io.specs.Faults.{HasCause, Rose, SameLoan};
 ghost use Rattle.lay_io.specs.Told.{GrewBy, GrewByPrefix};
-ghost use Rattle.lay_io.specs.Calls.{Puts};
+ghost use Rattle.lay_io.specs.Calls.{Writes};
 ghost use Rattle.lay_token.specs.declared.refusal.Refusal.{Refusal};
 ghost use Rattle.lay_tree.specs.Out.{out as text_of_file};
 ghost use Rattle.lay_tree.specs.Reading.{IsRefused, Reads};
@@ -212,7 +212,7 @@ fn write_behind<K: Sink>(waiting: &mut Vec<u8>, bytes: &[u8], out: &mut K) -> Re
 
 /// Writes the bytes that wait, if there are any.
 fn write_waiting<K: Sink>(waiting: &mut Vec<u8>, out: &mut K) -> Result<(), Failed>
-    ensures bytes { Puts (K.written out.old) (K.written out.new) result waiting.old.items }
+    ensures bytes { Writes (K.written out.old) (K.written out.new) result waiting.old.items }
     ensures none_waits { OnOk result (waiting.new.items ≡ []) }
     ensures cause { HasCause (K.faults out.old) (K.faults out.new) result }
     ensures loan { SameLoan (K.loan out.old) (K.loan out.new) }

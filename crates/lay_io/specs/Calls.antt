@@ -15,5 +15,5 @@ Takes before now result buf = MatchResult result
     (λ _. now ≡ before)
 
 -- Ok appends the piece, and Err a prefix of it.
-abbrev pub Puts : {T E : Type 0} → Option (List ℕ) → Option (List ℕ) → Result T E → List ℕ → Type 0
-Puts before now result piece = MatchResult result (λ _. GrewBy before now piece) (λ _. GrewByPrefix before now piece)
+abbrev pub Writes : {T E : Type 0} → Option (List ℕ) → Option (List ℕ) → Result T E → List ℕ → Type 0
+Writes before now result piece = MatchResult result (λ _. GrewBy before now piece) (λ _. GrewByPrefix before now piece)

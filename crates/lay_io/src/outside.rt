@@ -2,7 +2,7 @@
 ghost use Rattle.std.specs.Prelude.{◌≡◌, ◌≢◌, ℕ, List, Option, None, Some, IsSome, Result};
 ghost use Rattle.std.specs.Io.{ReadsAtMost};
 ghost use Rattle.lay_io.specs.Faults.{HasCause, SameLoan};
-ghost use Rattle.lay_io.specs.Calls.{Puts, Takes, left_of};
+ghost use Rattle.lay_io.specs.Calls.{Writes, Takes, left_of};
 ghost use Rattle.lay_io.specs.declared.outside.Failed.{Failed};
 ghost use Rattle.lay_io.specs.declared.outside.Which.{Which};
 
@@ -68,7 +68,7 @@ pub trait Sink {
 
     /// Appends the piece. `Failed` appends a prefix of it, and is counted.
     fn write(&mut self, piece: &[u8]) -> Result<(), Failed>
-        ensures bytes { Puts (written self.old) (written self.new) result piece.now }
+        ensures bytes { Writes (written self.old) (written self.new) result piece.now }
         ensures cause { HasCause (faults self.old) (faults self.new) result }
         ensures loan { SameLoan (loan self.old) (loan self.new) }
         ensures one { wrote self.old piece.now result self.new };

@@ -7,7 +7,7 @@ use Rattle.std.proofs.lemmas.Str.{length-le-encodes, IsUtf8-drop}
 use Rattle.lay_token.specs.Chars.{is_nil}
 use Rattle.lay_token.specs.Forms.{Had, had}
 use Rattle.lay_token.specs.Gap.{Outside, is_gap, is_last_gap}
-use Rattle.lay_token.specs.Lexes.{Part, spell, Before, Other, is_index_place, step, steps, Fit, size, tokens_from, is_joint, Lexes, NoTokenAt, Stops, BeginsNoGap, BeginsNoPiece}
+use Rattle.lay_token.specs.Lexes.{Part, spell, Before, Other, is_index_place, step, steps, Fit, size, tokens_from, is_joint, Lexes, NoTokenAt, PartsBefore, BeginsNoGap, BeginsNoPiece}
 use Rattle.lay_token.specs.declared.token.Kind.{Kind}
 use Rattle.lay_token.specs.declared.token.Token.{Token}
 use Rattle.lay_token.proofs.Texts.{length_parts}
@@ -115,7 +115,7 @@ pub stopped : {start : ℕ} {bytes ahead rest : List ℕ} {tokens : List Token} 
     → NoTokenAt bytes start (length bytes - length rest)
 stopped {start = start} {bytes = bytes} {rest = rest} r none =
     let P : Before → Type 0 = λ b. BeginsNoPiece (chars rest) (is_index_place b) in
-    let stops : Stops (chars (drop start bytes)) r.parts r.gap (chars rest) = record {
+    let stops : PartsBefore (chars (drop start bytes)) r.parts r.gap (chars rest) = record {
       whole = r.whole;
       fit = r.fit;
       closed = r.closed;

@@ -65,10 +65,10 @@ step-stray os t h = let n = closer_not_opener t.kind (stray_closer os t.kind h) 
 
 -- Token trees leave the stack as it was.
 pub run-trees : (os : List Token) (trees : Trees) → Paired trees → run (Open os) (tokens_of trees) ≡ Open os
-run-trees os delimiters.None p = refl
-run-trees os (delimiters.Plain t more) p =
+run-trees os delimiters.NoTree p = refl
+run-trees os (delimiters.One t more) p =
     ap (λ r. run r (tokens_of more)) (step-plain os t p.0 p.1) ∙ run-trees os more p.2
-run-trees os (delimiters.Group o inside c more) p =
+run-trees os (delimiters.Nest o inside c more) p =
     ap (λ r. run r (tokens_of inside ++ c ∷ tokens_of more)) (step-opener os o (pair_opener o.kind c.kind p.0))
     ∙ run-append (Open (o ∷ os)) (tokens_of inside) (c ∷ tokens_of more)
     ∙ ap (λ r. run r (c ∷ tokens_of more)) (run-trees (o ∷ os) inside p.1)

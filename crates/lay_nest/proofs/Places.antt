@@ -12,28 +12,28 @@ use Rattle.lay_nest.proofs.Steps.{length-spans}
 
 -- trees behind trees
 abbrev joined : Trees → Trees → Trees
-joined delimiters.None more = more
-joined (delimiters.Plain t rest) more = delimiters.Plain t (joined rest more)
-joined (delimiters.Group o inside c rest) more = delimiters.Group o inside c (joined rest more)
+joined delimiters.NoTree more = more
+joined (delimiters.One t rest) more = delimiters.One t (joined rest more)
+joined (delimiters.Nest o inside c rest) more = delimiters.Nest o inside c (joined rest more)
 
 tokens-joined : (trees more : Trees) → tokens_of (joined trees more) ≡ tokens_of trees ++ tokens_of more
-tokens-joined delimiters.None more = refl
-tokens-joined (delimiters.Plain t rest) more = ap (λ ts. t ∷ ts) (tokens-joined rest more)
-tokens-joined (delimiters.Group o inside c rest) more =
+tokens-joined delimiters.NoTree more = refl
+tokens-joined (delimiters.One t rest) more = ap (λ ts. t ∷ ts) (tokens-joined rest more)
+tokens-joined (delimiters.Nest o inside c rest) more =
     ap (λ ts. o ∷ (tokens_of inside ++ c ∷ ts)) (tokens-joined rest more)
     ∙ ap (λ ts. o ∷ ts) (sym (append_assoc (tokens_of inside) (c ∷ tokens_of rest) (tokens_of more)))
 
 spans-joined : (trees more : Trees) → spans_of (joined trees more) ≡ spans_of trees ++ spans_of more
-spans-joined delimiters.None more = refl
-spans-joined (delimiters.Plain t rest) more = ap (λ ns. 0 ∷ ns) (spans-joined rest more)
-spans-joined (delimiters.Group o inside c rest) more =
+spans-joined delimiters.NoTree more = refl
+spans-joined (delimiters.One t rest) more = ap (λ ns. 0 ∷ ns) (spans-joined rest more)
+spans-joined (delimiters.Nest o inside c rest) more =
     ap (λ ns. length (tokens_of inside) ∷ (spans_of inside ++ 0 ∷ ns)) (spans-joined rest more)
     ∙ ap (λ ns. length (tokens_of inside) ∷ ns) (sym (append_assoc (spans_of inside) (0 ∷ spans_of rest) (spans_of more)))
 
 paired-joined : (trees more : Trees) → Paired trees → Paired more → Paired (joined trees more)
-paired-joined delimiters.None more p q = q
-paired-joined (delimiters.Plain t rest) more p q = (p.0, p.1, paired-joined rest more p.2 q)
-paired-joined (delimiters.Group o inside c rest) more p q = (p.0, p.1, paired-joined rest more p.2 q)
+paired-joined delimiters.NoTree more p q = q
+paired-joined (delimiters.One t rest) more p q = (p.0, p.1, paired-joined rest more p.2 q)
+paired-joined (delimiters.Nest o inside c rest) more p q = (p.0, p.1, paired-joined rest more p.2 q)
 
 -- trees behind the last of what is read
 abbrev with_trees : Partial → Trees → Partial
@@ -108,7 +108,7 @@ pub read_plain : {tokens : List Token} {spans places : List ℕ} → SoFar token
     → SoFar tokens (spans ++ 0 ∷ []) places
 read_plain {tokens} {spans} {places} s t e o c =
     let w = whole_with s t e in
-    let tree : Trees = delimiters.Plain t delimiters.None in
+    let tree : Trees = delimiters.One t delimiters.NoTree in
     record {
       partial = with_trees s.partial tree;
       behind = w.0;
@@ -127,7 +127,7 @@ read_opener {tokens} {spans} {places} s t e o =
     let w = whole_with s t e in
     let n : length spans ≡ length (tokens_so_far s.partial) = ap length s.spans_are ∙ length-so_far s.partial in
     record {
-      partial = Within s.partial t delimiters.None;
+      partial = Within s.partial t delimiters.NoTree;
       behind = w.0;
       paired = (s.paired, o, tt);
       whole = w.1;
@@ -236,7 +236,7 @@ pub read_closer : {tokens : List Token} {spans others : List ℕ} {at : ℕ} (l 
     → SoFar tokens (set spans at (length spans - at - 1) ++ 0 ∷ []) others
 read_closer {tokens} {spans} {others} {at} l t e h =
     let w = whole_with (reopened l) t e in
-    let group : Trees = delimiters.Group l.opener l.inside t delimiters.None in
+    let group : Trees = delimiters.Nest l.opener l.inside t delimiters.NoTree in
     record {
       partial = with_trees l.before group;
       behind = w.0;
@@ -344,7 +344,7 @@ all_closed {tokens} {spans} s none n =
 -- Nothing is read.
 pub none_read : (tokens : List Token) → SoFar tokens [] []
 none_read tokens = record {
-  partial = Closed delimiters.None;
+  partial = Closed delimiters.NoTree;
   behind = tokens;
   paired = tt;
   whole = refl;

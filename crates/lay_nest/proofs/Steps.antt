@@ -11,9 +11,9 @@ use Rattle.lay_nest.specs.Spans.{Spanned, spans_of}
 use Rattle.lay_nest.proofs.Delimiters.{closer_not_opener, pair_closer}
 
 pub length-spans : (trees : Trees) → length (spans_of trees) ≡ length (tokens_of trees)
-length-spans delimiters.None = refl
-length-spans (delimiters.Plain t more) = omega (arith, length-spans more)
-length-spans (delimiters.Group o inside c more) =
+length-spans delimiters.NoTree = refl
+length-spans (delimiters.One t more) = omega (arith, length-spans more)
+length-spans (delimiters.Nest o inside c more) =
     omega (arith, length-spans inside, length-spans more, length-append (spans_of inside) (0 ∷ spans_of more), length-append (tokens_of inside) (c ∷ tokens_of more))
 
 length-ahead : (a : Ahead) → length (spans_ahead a) ≡ length (tokens_ahead a)
@@ -35,32 +35,32 @@ all_ahead s = record {
 
 step_ahead : (a : Ahead) → PairedAhead a → 0 < length (tokens_ahead a)
     → SpannedAhead (drop 1 (tokens_ahead a)) (drop 1 (spans_ahead a))
-step_ahead (Last delimiters.None) p h = absurd (omega arith)
-step_ahead (Last (delimiters.Plain t more)) p h = record {
+step_ahead (Last delimiters.NoTree) p h = absurd (omega arith)
+step_ahead (Last (delimiters.One t more)) p h = record {
   ahead = Last more;
   paired = p.2;
   tokens_are = refl;
   spans_are = refl;
 }
-step_ahead (Last (delimiters.Group o inside c more)) p h = record {
+step_ahead (Last (delimiters.Nest o inside c more)) p h = record {
   ahead = UpTo inside c (Last more);
   paired = (p.1, pair_closer o.kind c.kind p.0, p.2);
   tokens_are = refl;
   spans_are = refl;
 }
-step_ahead (UpTo delimiters.None closer more) p h = record {
+step_ahead (UpTo delimiters.NoTree closer more) p h = record {
   ahead = more;
   paired = p.2;
   tokens_are = refl;
   spans_are = refl;
 }
-step_ahead (UpTo (delimiters.Plain t trees) closer more) p h = record {
+step_ahead (UpTo (delimiters.One t trees) closer more) p h = record {
   ahead = UpTo trees closer more;
   paired = (p.0.2, p.1, p.2);
   tokens_are = refl;
   spans_are = refl;
 }
-step_ahead (UpTo (delimiters.Group o inside c trees) closer more) p h = record {
+step_ahead (UpTo (delimiters.Nest o inside c trees) closer more) p h = record {
   ahead = UpTo inside c (UpTo trees closer more);
   paired = (p.0.1, pair_closer o.kind c.kind p.0.0, (p.0.2, p.1, p.2));
   tokens_are = append_assoc (tokens_of inside) (c ∷ tokens_of trees) (closer ∷ tokens_ahead more);
@@ -102,9 +102,9 @@ span_is o = ap (λ ns. get_or ns 0 0) o.spans_are
 
 open_ahead : (a : Ahead) → PairedAhead a → IsTrue (begins_group (tokens_ahead a))
     → Opened (tokens_ahead a) (spans_ahead a)
-open_ahead (Last delimiters.None) p h = absurd (false≢true h)
-open_ahead (Last (delimiters.Plain t more)) p h = absurd (false≢true (sym p.0 ∙ h))
-open_ahead (Last (delimiters.Group o inside c more)) p h = record {
+open_ahead (Last delimiters.NoTree) p h = absurd (false≢true h)
+open_ahead (Last (delimiters.One t more)) p h = absurd (false≢true (sym p.0 ∙ h))
+open_ahead (Last (delimiters.Nest o inside c more)) p h = record {
   opener = o;
   closer = c;
   inside = inside;
@@ -115,9 +115,9 @@ open_ahead (Last (delimiters.Group o inside c more)) p h = record {
   tokens_are = refl;
   spans_are = refl;
 }
-open_ahead (UpTo delimiters.None closer more) p h = absurd (false≢true (sym (closer_not_opener closer.kind p.1) ∙ h))
-open_ahead (UpTo (delimiters.Plain t trees) closer more) p h = absurd (false≢true (sym p.0.0 ∙ h))
-open_ahead (UpTo (delimiters.Group o inside c trees) closer more) p h = record {
+open_ahead (UpTo delimiters.NoTree closer more) p h = absurd (false≢true (sym (closer_not_opener closer.kind p.1) ∙ h))
+open_ahead (UpTo (delimiters.One t trees) closer more) p h = absurd (false≢true (sym p.0.0 ∙ h))
+open_ahead (UpTo (delimiters.Nest o inside c trees) closer more) p h = record {
   opener = o;
   closer = c;
   inside = inside;

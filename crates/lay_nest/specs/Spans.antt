@@ -6,9 +6,9 @@ use Rattle.lay_token.specs.declared.token.Token.{Token}
 
 -- of each token, if it is an opener, how many tokens stand between it and its partner, and else 0
 abbrev pub spans_of : Trees → List ℕ
-spans_of delimiters.None = []
-spans_of (delimiters.Plain t more) = 0 ∷ spans_of more
-spans_of (delimiters.Group opener inside closer more) =
+spans_of delimiters.NoTree = []
+spans_of (delimiters.One t more) = 0 ∷ spans_of more
+spans_of (delimiters.Nest opener inside closer more) =
     length (tokens_of inside) ∷ (spans_of inside ++ 0 ∷ spans_of more)
 
 -- The tokens are balanced, and these are their spans.

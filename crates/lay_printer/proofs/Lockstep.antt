@@ -3,7 +3,7 @@ use Rattle.std.proofs.Common.{◌≡◌, ℕ, suc, ◌≤◌, Bool, false, List,
 use Rattle.std.proofs.Math.Seq.{take-append_seam, drop-append_seam}
 use Rattle.lay_token.specs.declared.layout.Frame.{Frame}
 use Rattle.lay_token.specs.declared.layout.Tok.{Tok}
-use Rattle.lay_token.specs.Machine.{Layout, play, after, begun}
+use Rattle.lay_token.specs.Machine.{Layout, play, layout_after, begun}
 use Rattle.lay_ring.specs.declared.entry.Entry.{Entry}
 use Rattle.lay_printer.specs.declared.line.Line.{Line}
 use Rattle.lay_printer.specs.Scan.{sized, Holds}
@@ -23,11 +23,11 @@ toks_sized e (t ∷ w) = ap (λ (x : List Tok). t ∷ x) (toks_sized e w)
 pub held_le : (s : List Tok) (es : List Entry) (m : Layout) → Holds false s es m → length es ≤ length s
 held_le s es m h = omega (arith, ap length h.all, length-append h.printed h.waits, ap length h.are_sized, length_sized h.waits)
 
-pub after_at : (s : List Tok) (es : List Entry) (m : Layout) → Holds false s es m → (r : List Tok) → after (s ++ r) (at s es) ≡ m
+pub after_at : (s : List Tok) (es : List Entry) (m : Layout) → Holds false s es m → (r : List Tok) → layout_after (s ++ r) (at s es) ≡ m
 after_at s es m h r =
     let j : at s es ≡ length h.printed = omega (arith, ap length h.all, length-append h.printed h.waits, ap length h.are_sized, length_sized h.waits) in
     let e : s ++ r ≡ h.printed ++ (h.waits ++ r) = ap (λ (x : List Tok). x ++ r) (sym h.all) ∙ append_assoc h.printed h.waits r in
-    ap (λ (k : ℕ). after (s ++ r) k) j ∙ ap (λ (x : List Tok). after x (length h.printed)) e
+    ap (λ (k : ℕ). layout_after (s ++ r) k) j ∙ ap (λ (x : List Tok). layout_after x (length h.printed)) e
     ∙ ap (λ (x : List Tok). play x (drop (length h.printed) (h.printed ++ (h.waits ++ r))) begun) (take-append_seam h.printed (h.waits ++ r))
     ∙ ap (λ (x : List Tok). play h.printed x begun) (drop-append_seam h.printed (h.waits ++ r)) ∙ h.shown r tt
 

@@ -3,7 +3,7 @@ use Rattle.std.proofs.Common.{◌≡◌, ℕ, zero, suc, ◌+◌, ◌-◌, ◌�
 use Rattle.lay_token.specs.Document.{State, write, put_mark, skip}
 use Rattle.lay_token.specs.declared.layout.Break.{Break}
 use Rattle.lay_io.specs.Told.{GrewBy, GrewByPrefix}
-use Rattle.lay_io.specs.Calls.{Puts}
+use Rattle.lay_io.specs.Calls.{Writes}
 use Rattle.lay_printer.specs.declared.line.Line.{Line}
 use Rattle.lay_io.proofs.Growth.{grew_by-more, grew_by_prefix-more, grew_by_prefix-longer}
 use Rattle.lay_printer.specs.Pages.{Is, Wrote, Cut, Moves}
@@ -103,7 +103,7 @@ blanks_more start before now all left count a b d h k =
     (grew_by-more start before now (replicate (all - left) 32) (take count (replicate 64 32)) h k)
 
 pub blanks_err : {U E : Type 0} (start before now : Option (List ℕ)) (all left : ℕ) (e : E) (res : Result U E) (count : ℕ) → IsErrAnd res (λ y. y ≡ e) → left ≤ all → count ≤ left → count ≤ 64 →
-    GrewBy start before (replicate (all - left) 32) → GrewByPrefix before now (take count (replicate 64 32)) → Puts start now res (replicate all 32)
+    GrewBy start before (replicate (all - left) 32) → GrewByPrefix before now (take count (replicate 64 32)) → Writes start now res (replicate all 32)
 blanks_err start before now all left e (Ok y) count i a b d h k = absurd i
 blanks_err start before now all left e (Err y) count i a b d h k =
     let f : replicate (all - left) 32 ++ (take count (replicate 64 32) ++ replicate (left - count) 32) ≡ replicate all 32 =

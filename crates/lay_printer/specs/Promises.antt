@@ -2,7 +2,7 @@
 use Rattle.std.specs.Prelude.{◌≡◌, ℕ, ◌≤◌, ℤ, List, [], ◌++◌, Option}
 use Rattle.lay_token.specs.declared.layout.Tok.{Tok}
 use Rattle.lay_token.specs.Document.{State}
-use Rattle.lay_token.specs.Machine.{after}
+use Rattle.lay_token.specs.Machine.{layout_after}
 use Rattle.lay_printer.specs.Printing.{Printing}
 use Rattle.lay_printer.specs.Pages.{Wrote}
 use Rattle.lay_printer.specs.Printers.{Runs}
@@ -10,7 +10,7 @@ use Rattle.lay_printer.specs.Steps.{InStep, at, least_space, space_left}
 
 -- the state at the token that was printed last
 abbrev pub state_of : Printing → (s r : List Tok) → State
-state_of c s r = (after (s ++ r) (at s c.entries)).state
+state_of c s r = (layout_after (s ++ r) (at s c.entries)).state
 
 -- so many bytes fit in the space
 abbrev pub FitSpace : Printing → ℕ → Type 0
@@ -20,7 +20,7 @@ FitSpace c bytes = (written : Option (List ℕ)) (content : List ℕ) (s : List 
 abbrev pub IsSpace : Printing → ℤ → Type 0
 IsSpace c space = (written : Option (List ℕ)) (content : List ℕ) (s : List Tok) → Runs c written content s → (r : List Tok) → space ≡ least_space (state_of c s r)
 
--- the sink has grown by what is shown at the token that was printed last, and the tokens after it wait
+-- the sink has grown by what is shown at the token that was printed last, and the tokens layout_after it wait
 abbrev pub KeepsStep : Printing → Type 0
 KeepsStep c = (written : Option (List ℕ)) (content : List ℕ) (s : List Tok) → Runs c written content s → (r : List Tok) → InStep c.entries c.line written content s r
 

@@ -1,7 +1,7 @@
 -- Lockstep: what has been written is what is shown at token j, whatever follows.
 use Rattle.std.specs.Prelude.{◌≡◌, ℕ, ◌+◌, ◌-◌, min, ℤ, pos, ◌-ℤ◌, List, ◌++◌, length, drop, Option}
 use Rattle.lay_token.specs.declared.layout.Tok.{Tok}
-use Rattle.lay_token.specs.Machine.{after, shown}
+use Rattle.lay_token.specs.Machine.{layout_after, shown}
 use Rattle.lay_token.specs.Document.{State}
 use Rattle.lay_ring.specs.declared.entry.Entry.{Entry}
 use Rattle.lay_printer.specs.declared.line.Line.{Line}
@@ -15,7 +15,7 @@ at s es = length s - length es
 -- Lockstep: the sink has grown by what is shown at j, and the line is that of the state at j.
 pub record InStep (es : List Entry) (p : Line) (w : Option (List ℕ)) (content : List ℕ) (s r : List Tok) : Type 0 where
   pub grown : Wrote w content (shown (s ++ r) (at s es))
-  pub line : Is p (after (s ++ r) (at s es)).state
+  pub line : Is p (layout_after (s ++ r) (at s es)).state
   pub waits : toks_of es ≡ drop (at s es) s
 
 -- the greater of the space and 0

@@ -1,7 +1,7 @@
 //! The line that is being written, and what is put on it.
 ghost use Rattle.std.specs.Prelude.{◌≡◌, ℕ, ◌<◌, ◌≤◌, min, max, ◌+◌, ◌∷◌, ◌++◌, [], replicate, OnOk, OnErr, IsTrue, length};
 ghost use Rattle.lay_token.specs.Document.{State, shift, write as written_on, put_mark as marked, line as on_line, newline as on_newline, skip as skipped, break_in};
-ghost use Rattle.lay_io.specs.Calls.{Puts};
+ghost use Rattle.lay_io.specs.Calls.{Writes};
 ghost use Rattle.lay_io.specs.Faults.{HasCause, SameLoan};
 ghost use Rattle.lay_stream.specs.Indents.{IsKept};
 
@@ -35,7 +35,7 @@ impl Line {
 
     /// Writes the blanks that wait.
     fn write_blanks<K: Sink>(&mut self, sink: &mut K) -> Result<(), Failed>
-        ensures bytes { Puts (K.written sink.old) (K.written sink.new) result (replicate self.old.pending 32) }
+        ensures bytes { Writes (K.written sink.old) (K.written sink.new) result (replicate self.old.pending 32) }
         ensures pending { OnOk result (self.new.pending ≡ 0) }
         ensures room { self.new.room ≡ self.old.room }
         ensures used { self.new.used ≡ self.old.used }

@@ -9,7 +9,7 @@ use Rattle.lay_token.specs.Chars.{begins, after, behind, is_nil, is_word, is_suf
 use Rattle.lay_token.specs.Scan.{Go, Bad, run}
 use Rattle.lay_token.specs.Quoted.{Deep, doc_step, Hashes, Inside, raw_step, First, Last, char_step, is_lone}
 use Rattle.lay_token.specs.Word.{is_path_word}
-use Rattle.lay_token.specs.Forms.{had, Had, has_form, may_follow, after_literal, after_raw, after_char, after_string, is_punct_char, is_whole, is_one}
+use Rattle.lay_token.specs.Forms.{had, Had, has_form, may_precede, after_literal, after_raw, after_char, after_string, is_punct_char, is_whole, is_one}
 use Rattle.lay_token.specs.Found.{found, raw_name, line_doc, block_doc, line_comment, block_comment, slash, is_mark, is_tick, in_doc_line, is_star_or_slash, after_suffix, front_of}
 use Rattle.lay_token.specs.declared.piece.quoted.Contents.{Contents}
 use Rattle.lay_token.specs.declared.piece.quoted.Contents.TheVariants as of
@@ -33,7 +33,7 @@ rest_parts [] h = (refl, refl)
 rest_parts (c ∷ r) h = three (in_word c) (c == 34) (c == 39) (c == 35) (not-true _ h)
 
 pub ident_found : (p r : List ℕ) (i : Bool) → Had Ident p r i → front_of i (p ++ r) ≡ found Ident r
-unfolding had has_form may_follow front_of
+unfolding had has_form may_precede front_of
 ident_found [] r i h = cc
 ident_found (c ∷ ds) r i h =
     let parts = and_parts (starts_word c && list_all in_word ds && not (c == 95 && is_nil ds)) _ h in
@@ -49,7 +49,7 @@ unfolding unicode_ident starts_word
 underscore_starts = refl
 
 pub underscore_found : (p r : List ℕ) (i : Bool) → Had Underscore p r i → front_of i (p ++ r) ≡ found Underscore r
-unfolding had has_form may_follow front_of
+unfolding had has_form may_precede front_of
 underscore_found [] r i h = cc
 underscore_found (c ∷ d ∷ ds) r i h =
     let parts = and_parts (c == 95 && false) _ h in let none = and_parts (c == 95) false parts.0 in cc
@@ -222,7 +222,7 @@ raw_ident_by i (c ∷ ds) r h stop =
     raw_ident_at i c (ds ++ r) (and_parts (starts_word c) (list_all in_word ds) form.0).0 ∙ name_at c ds r h stop
 
 pub raw_ident_found : (p r : List ℕ) (i : Bool) → Had RawIdent p r i → front_of i (p ++ r) ≡ found RawIdent r
-unfolding had has_form may_follow
+unfolding had has_form may_precede
 raw_ident_found p r i h =
     let parts = and_parts _ _ h in
     let b = behind_true (codes "r#") (λ ds. is_suffix ds && not (is_path_word (encode_utf8_all ds))) p parts.0 in
@@ -273,7 +273,7 @@ lifetime_by i (c ∷ ds) r h m =
     rw (no_starts.2, no_char c (ds ++ r) word.0 (ticks_no_more ds r word.1 rest.2), word.0, tail, rest.1) refl
 
 pub lifetime_found : (p r : List ℕ) (i : Bool) → Had Lifetime p r i → front_of i (p ++ r) ≡ found Lifetime r
-unfolding had has_form may_follow
+unfolding had has_form may_precede
 lifetime_found p r i h =
     let parts = and_parts _ _ h in
     let b = behind_true (codes "'") is_word p parts.0 in
@@ -343,7 +343,7 @@ some_block p (d ∷ ds) r h g = g
 
 pub doc_found : (inner block : Bool) (p r : List ℕ) (i : Bool) → Had (Doc inner block) p r i
     → front_of i (p ++ r) ≡ found (Doc inner block) r
-unfolding had has_form may_follow
+unfolding had has_form may_precede
 doc_found true false p r i h =
     let parts = and_parts _ _ h in
     let b = behind_true (codes "//!") _ p parts.0 in
@@ -418,7 +418,7 @@ punct_front i c r h m =
     by_case true (d ∷ ds) m = slash_by (d == 47) (d == 42) d ds m
 
 pub punct_found : (p r : List ℕ) (i : Bool) → Had Punct p r i → front_of i (p ++ r) ≡ found Punct r
-unfolding had has_form may_follow
+unfolding had has_form may_precede
 punct_found [] r i h = cc
 punct_found (c ∷ d ∷ ds) r i h =
     let parts = and_parts _ _ h in let none = and_parts (is_punct_char c) false parts.0 in cc
@@ -445,14 +445,14 @@ brackets i r = (refl, refl, refl, refl, refl, refl)
 
 pub opener_found : (d : Delim) (p r : List ℕ) (i : Bool) → Had (Opener d) p r i
     → front_of i (p ++ r) ≡ found (Opener d) r
-unfolding had has_form may_follow
+unfolding had has_form may_precede
 opener_found Paren p r i h = at_one i 40 (Opener Paren) p r (and_parts _ _ h).0 (brackets i r).0
 opener_found Bracket p r i h = at_one i 91 (Opener Bracket) p r (and_parts _ _ h).0 (brackets i r).1
 opener_found Brace p r i h = at_one i 123 (Opener Brace) p r (and_parts _ _ h).0 (brackets i r).2
 
 pub closer_found : (d : Delim) (p r : List ℕ) (i : Bool) → Had (Closer d) p r i
     → front_of i (p ++ r) ≡ found (Closer d) r
-unfolding had has_form may_follow
+unfolding had has_form may_precede
 closer_found Paren p r i h = at_one i 41 (Closer Paren) p r (and_parts _ _ h).0 (brackets i r).3
 closer_found Bracket p r i h = at_one i 93 (Closer Bracket) p r (and_parts _ _ h).0 (brackets i r).4
 closer_found Brace p r i h = at_one i 125 (Closer Brace) p r (and_parts _ _ h).0 (brackets i r).5

@@ -4,7 +4,7 @@ use Rattle.std.specs.Prelude.{◌==◌}
 use Rattle.std.specs.Char.{is_ascii_digit}
 use Rattle.lay_token.specs.Chars.{starts_word}
 use Rattle.lay_token.specs.Forms.{Had, after_literal}
-use Rattle.lay_token.specs.Found.{Front, found, front_of, other}
+use Rattle.lay_token.specs.Found.{FrontPiece, found, front_of, other}
 use Rattle.lay_token.specs.declared.token.Kind.{Kind}
 use Rattle.lay_token.specs.declared.token.Kind.TheVariants.{Ident, RawIdent, Underscore, Lifetime, Char, Str, RawStr, Byte, ByteStr, RawByteStr, CStr, RawCStr, Int, Float, Punct, Opener, Closer, Doc}
 use Rattle.lay_token.proofs.Sound.{Stands, Sound, sound_cond, sound_at, literal_sound, word_sound, quote_sound, slash_sound, single_sound}
@@ -48,11 +48,11 @@ front_complete (Opener d) p r i h = opener_found d p r i h
 front_complete (Closer d) p r i h = closer_found d p r i h
 front_complete (Doc inner block) p r i h = doc_found inner block p r i h
 
-abbrev kind_in : Kind → Front → Kind
+abbrev kind_in : Kind → FrontPiece → Kind
 kind_in k None = k
 kind_in k (Some f) = f.0
 
-abbrev rest_in : List ℕ → Front → List ℕ
+abbrev rest_in : List ℕ → FrontPiece → List ℕ
 rest_in r None = r
 rest_in r (Some f) = f.1
 
@@ -63,4 +63,4 @@ pub found_rest : (k l : Kind) (r t : List ℕ) → found k r ≡ found l t → r
 found_rest k l r t e = ap (rest_in r) e
 
 pub stands_at : (i : Bool) (cs : List ℕ) (k : Kind) (r : List ℕ) → front_of i cs ≡ found k r → Stands i cs k r
-stands_at i cs k r e = let P : Front → Type 0 = λ x. Sound i cs x in subst P e (front_sound i cs)
+stands_at i cs k r e = let P : FrontPiece → Type 0 = λ x. Sound i cs x in subst P e (front_sound i cs)

@@ -8,7 +8,7 @@ use Rattle.unicode_ident.proofs.IdentLemmas.{is_xid_start-is_xid_continue}
 use Rattle.lay_token.specs.Chars.{begins, front, behind, is_nil, is_suffix, begins_suffix, starts_word, in_word}
 use Rattle.lay_token.specs.Scan.{Next, Go, End, Bad, run}
 use Rattle.lay_token.specs.Quoted.{string_step, Plain, char_step, First, raw_step, Hashes}
-use Rattle.lay_token.specs.Forms.{had, Had, has_form, may_follow, after_literal, is_literal_end, is_whole, literal_may_stop}
+use Rattle.lay_token.specs.Forms.{had, Had, has_form, may_precede, after_literal, is_literal_end, is_whole, literal_may_stop}
 use Rattle.lay_token.specs.Found.{after_suffix}
 use Rattle.lay_token.specs.declared.piece.quoted.Contents.TheVariants as of
 use Rattle.lay_token.specs.declared.token.Kind.{Kind}
@@ -196,7 +196,7 @@ is_literal _ = false
 pub had-literal : (k : Kind) (piece rest : List ℕ) (i : Bool) → is_literal k ≡ true
     → had k piece rest i ≡
     (is_literal_end (after_literal k piece) && literal_may_stop (is_whole (after_literal k piece)) rest)
-unfolding had has_form may_follow
+unfolding had has_form may_precede
 had-literal Char piece rest i h = refl
 had-literal Str piece rest i h = refl
 had-literal RawStr piece rest i h = refl

@@ -7,7 +7,7 @@ use Rattle.std.proofs.lemmas.Bool.{cases_Bool, and_parts, and_from, or_cases, ne
 use Rattle.unicode_ident.proofs.Computing.{unicode_ident}
 use Rattle.lay_token.specs.Chars.{begins, front, after, behind, is_nil, is_suffix, starts_word, in_word, in_digits, in_hex}
 use Rattle.lay_token.specs.Number.{base_of, digits_of, in_run, is_run_in, is_exponent_letter, is_sign, is_any_suffix, is_plain_suffix, is_int_suffix, is_int, is_exponent_run, is_signed_run, is_exponent, is_fraction, is_float_tail, is_decimal, is_float, ends_in_point, is_bare_int, begins_point, is_index, fronts_index}
-use Rattle.lay_token.specs.Forms.{had, Had, has_form, may_follow, is_number_kind, is_int_kind}
+use Rattle.lay_token.specs.Forms.{had, Had, has_form, may_precede, is_number_kind, is_int_kind}
 use Rattle.lay_token.specs.Found.{found, after_run, suffixed, exponent_run, exponent, fraction, whole, plain_number, number, front_of}
 use Rattle.lay_token.specs.declared.piece.numbers.Base.{Base}
 use Rattle.lay_token.specs.declared.piece.numbers.Base.TheVariants.{Binary, Octal, Decimal, Hexadecimal}
@@ -258,9 +258,9 @@ float_rest true (c ∷ r) h =
     let other : c == 95 ≡ false = apart c 95 p.2 underscore_starts in
     (p.2, (rw (p.0, other) refl), p.0)
 
-plain_float : (c : ℕ) (p r : List ℕ) → is_float (c ∷ p) ≡ true → may_follow Float (c ∷ p) r ≡ true
+plain_float : (c : ℕ) (p r : List ℕ) → is_float (c ∷ p) ≡ true → may_precede Float (c ∷ p) r ≡ true
     → plain_number (c ∷ p ++ r) ≡ found Float r
-unfolding may_follow
+unfolding may_precede
 plain_float c p r h m =
     let parts = and_parts (is_ascii_digit c && is_decimal (base_of (c ∷ p))) _ h in
     let first = and_parts (is_ascii_digit c) _ parts.0 in
@@ -299,16 +299,16 @@ same_test n d x y i e f g = rw (e, f, g) refl
 pub had-number : (k : Kind) (p r : List ℕ) (i : Bool) → is_number_kind k ≡ true → begins is_ascii_digit p ≡ true
     → begins is_ascii_digit r ≡ false
     → had k p r i ≡ cond (i && not (begins in_word (after is_ascii_digit (p ++ r))))
-    (is_int_kind k && is_index p && not (begins in_word r)) (has_form k p && may_follow k p r)
+    (is_int_kind k && is_index p && not (begins in_word r)) (has_form k p && may_precede k p r)
 unfolding had
 had-number k p r i n d h =
-    ap (λ v. cond v (is_int_kind k && is_index p && not (begins in_word r)) (has_form k p && may_follow k p r))
+    ap (λ v. cond v (is_int_kind k && is_index p && not (begins in_word r)) (has_form k p && may_precede k p r))
     (same_test (is_number_kind k) (begins is_ascii_digit p) _ _ i n d (fronts_is p r h))
 
 -- what every number that is had meets
 digit_first : (k : Kind) (p r : List ℕ) (i : Bool) → is_number_kind k ≡ true → Had k p r i
     → (begins is_ascii_digit p ≡ true) × (begins is_ascii_digit r ≡ false)
-unfolding had has_form may_follow
+unfolding had has_form may_precede
 digit_first Int p r i n h = by_case (true && i && fronts_index p r) h
   where
     by_case : (t : Bool) → cond t (is_index p && not (begins in_word r))
@@ -327,7 +327,7 @@ digit_first Int p r i n h = by_case (true && i && fronts_index p r) h
 digit_first Float p r i n h = by_case (true && i && fronts_index p r) h
   where
     by_case : (t : Bool) → cond t (false && is_index p && not (begins in_word r))
-        (is_float p && may_follow Float p r) ≡ true
+        (is_float p && may_precede Float p r) ≡ true
         → (begins is_ascii_digit p ≡ true) × (begins is_ascii_digit r ≡ false)
     by_case true h = cc
     by_case false h =
@@ -342,8 +342,8 @@ unfolding front_of
 number_front i c cs h = rw ((digit_parts c h).0, h) refl
 
 plain_had : (k : Kind) (c : ℕ) (p r : List ℕ) → is_number_kind k ≡ true
-    → has_form k (c ∷ p) && may_follow k (c ∷ p) r ≡ true → plain_number (c ∷ p ++ r) ≡ found k r
-unfolding has_form may_follow
+    → has_form k (c ∷ p) && may_precede k (c ∷ p) r ≡ true → plain_number (c ∷ p ++ r) ≡ found k r
+unfolding has_form may_precede
 plain_had Int c p r n h =
     let parts = and_parts (is_int (c ∷ p)) _ h in
     let stops = and_parts (not (begins in_word r)) _ parts.1 in
@@ -370,7 +370,7 @@ number_found k (c ∷ p) r i n h =
     (sym (had-number k (c ∷ p) r i n d.0 d.1) ∙ h)
   where
     by_case : (t : Bool) → cond t (is_int_kind k && is_index (c ∷ p) && not (begins in_word r))
-        (has_form k (c ∷ p) && may_follow k (c ∷ p) r) ≡ true
+        (has_form k (c ∷ p) && may_precede k (c ∷ p) r) ≡ true
         → cond t (found Int (after is_ascii_digit (c ∷ p ++ r))) (plain_number (c ∷ p ++ r)) ≡ found k r
     by_case true h = index_had k (c ∷ p) r n h
     by_case false h = plain_had k c p r n h

@@ -5,8 +5,8 @@ use Rattle.std.specs.Char.{is_ascii_digit}
 use Rattle.std.proofs.lemmas.Bool.{and_parts, and_from, not-true}
 use Rattle.lay_token.specs.Chars.{begins, front, after, behind, is_nil, begins_suffix, starts_word, in_word, in_digits}
 use Rattle.lay_token.specs.Number.{base_of, digits_of, in_run, is_run_in, is_exponent_letter, is_sign, is_any_suffix, is_plain_suffix, is_int_suffix, is_int, is_exponent_run, is_signed_run, is_exponent, is_fraction, is_float_tail, is_decimal, is_float, is_bare_int, begins_point}
-use Rattle.lay_token.specs.Forms.{has_form, may_follow}
-use Rattle.lay_token.specs.Found.{Front, after_run, suffixed, exponent_run, exponent, fraction, point, whole, plain_number, number}
+use Rattle.lay_token.specs.Forms.{has_form, may_precede}
+use Rattle.lay_token.specs.Found.{FrontPiece, after_run, suffixed, exponent_run, exponent, fraction, point, whole, plain_number, number}
 use Rattle.lay_token.specs.declared.piece.numbers.Base.{Base}
 use Rattle.lay_token.specs.declared.piece.numbers.Base.TheVariants.{Binary, Octal, Decimal, Hexadecimal}
 use Rattle.lay_token.specs.declared.token.Kind.{Kind}
@@ -20,21 +20,21 @@ use Rattle.lay_token.proofs.Sound.{Stands, Sound, sound_cond}
 use Rattle.lay_token.proofs.Booleans.{or_left, or_right, equal_both, apart_both}
 
 -- What a part of a number leaves behind it, if it is found.
-abbrev Ends : (Kind → List ℕ → List ℕ → Type 0) → List ℕ → Front → Type 0
+abbrev Ends : (Kind → List ℕ → List ℕ → Type 0) → List ℕ → FrontPiece → Type 0
 Ends P cs None = Unit {0}
 Ends P cs (Some f) = (q : List ℕ) × (cs ≡ q ++ f.1) × P f.0 q f.1
 
-ends_cond : (P : Kind → List ℕ → List ℕ → Type 0) (cs : List ℕ) (b : Bool) (x y : Front) → (b ≡ true → Ends P cs x)
+ends_cond : (P : Kind → List ℕ → List ℕ → Type 0) (cs : List ℕ) (b : Bool) (x y : FrontPiece) → (b ≡ true → Ends P cs x)
     → (b ≡ false → Ends P cs y) → Ends P cs (cond b x y)
 ends_cond P cs true x y f g = f refl
 ends_cond P cs false x y f g = g refl
 
-ends_then : (P : Kind → List ℕ → List ℕ → Type 0) (cs : List ℕ) (f : List ℕ → Front) (o : Option (List ℕ))
+ends_then : (P : Kind → List ℕ → List ℕ → Type 0) (cs : List ℕ) (f : List ℕ → FrontPiece) (o : Option (List ℕ))
     → ((r : List ℕ) → o ≡ Some r → Ends P cs (f r)) → Ends P cs (option_and_then f o)
 ends_then P cs f None h = tt
 ends_then P cs f (Some r) h = h r refl
 
-ends_map : (P Q : Kind → List ℕ → List ℕ → Type 0) (pre cs : List ℕ) (x : Front)
+ends_map : (P Q : Kind → List ℕ → List ℕ → Type 0) (pre cs : List ℕ) (x : FrontPiece)
     → ((k : Kind) (q r : List ℕ) → cs ≡ q ++ r → P k q r → Q k (pre ++ q) r) → Ends P cs x → Ends Q (pre ++ cs) x
 ends_map P Q pre cs None h e = tt
 ends_map P Q pre cs (Some f) h e =
@@ -381,10 +381,10 @@ NoIndex i cs = i && not (begins in_word (after is_ascii_digit cs)) ≡ false
 
 int_stands : (i : Bool) (b : Base) (cs q r : List ℕ) → NoIndex i cs → Numeral b cs q r
     → is_run_in b (front (in_run b) (digits_of b cs)) ≡ true → IsIntTail b Int q r → Stands i cs Int r
-unfolding has_form may_follow
+unfolding has_form may_precede
 int_stands i b cs q r ni n run t =
     let form : has_form Int n.piece ≡ true = int_form b cs q r n run t.form in
-    let follow : may_follow Int n.piece r ≡ true =
+    let follow : may_precede Int n.piece r ≡ true =
     and_from _ _ (ap not t.stops) (ap not (ap (λ v. v && begins_point r) (bare_form b cs q r n) ∙ t.point)) in
     let ni2 : i && not (begins in_word (after is_ascii_digit (n.piece ++ r))) ≡ false =
     ap (λ v. i && not (begins in_word (after is_ascii_digit v))) (sym n.whole) ∙ ni in
@@ -396,10 +396,10 @@ int_stands i b cs q r ni n run t =
 
 float_stands : (i : Bool) (cs q r : List ℕ) → NoIndex i cs → Numeral Decimal cs q r → IsFloatTail Float q r
     → Stands i cs Float r
-unfolding has_form may_follow
+unfolding has_form may_precede
 float_stands i cs q r ni n t =
     let form : has_form Float n.piece ≡ true = float_form cs q r n t.form in
-    let follow : may_follow Float n.piece r ≡ true =
+    let follow : may_precede Float n.piece r ≡ true =
     ap (λ v. cond (behind false (46 ∷ []) is_nil v)
     (not (begins (λ c. is_ascii_digit c || c == 46 || starts_word c) r)) (not (begins in_word r))) n.tail
     ∙ t.stops in
@@ -432,7 +432,7 @@ stands_by i b cs q r k ni e d run w (inr t) =
     (float_stands i cs q r ni (decimal_numeral cs q r (e ∙ dec) d v)
     (record { kind = refl; form = t.1.form; stops = t.1.stops }))
 
-from_ends : (i : Bool) (b : Base) (cs t : List ℕ) (x : Front) → NoIndex i cs → base_of cs ≡ b
+from_ends : (i : Bool) (b : Base) (cs t : List ℕ) (x : FrontPiece) → NoIndex i cs → base_of cs ≡ b
     → begins is_ascii_digit cs ≡ true → is_run_in b (front (in_run b) (digits_of b cs)) ≡ true
     → t ≡ after (in_run b) (digits_of b cs) → Ends (IsNumberTail b) t x → Sound i cs x
 from_ends i b cs t None ni e d run w h = tt

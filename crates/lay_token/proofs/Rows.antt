@@ -9,14 +9,14 @@ use Rattle.lay_token.specs.Chars.{starts_word, in_word}
 use Rattle.lay_token.specs.Scan.{run}
 use Rattle.lay_token.specs.Quoted.{string_step, char_step, raw_step, block_step, doc_step, escape_step}
 use Rattle.lay_token.specs.Gap.{gap_step, is_gap, is_last_gap}
-use Rattle.lay_token.specs.Forms.{had, has_form, may_follow, after_literal}
+use Rattle.lay_token.specs.Forms.{had, has_form, may_precede, after_literal}
 use Rattle.lay_token.specs.Source.{source, source_of, folded}
 use Rattle.lay_token.specs.Value.{adds, string_value, value_of}
 use Rattle.lay_token.specs.declared.token.Kind.TheVariants.{Ident, RawIdent, Lifetime, Char, Str, RawStr, CStr, Int, Float, Doc}
 use Rattle.lay_token.specs.declared.refusal.Refusal.TheVariants.{NotUtf8}
 
 unfoldable opened : Unit {0}
-unfolding encode unicode_ident starts_word in_word run string_step char_step raw_step block_step doc_step escape_step gap_step had has_form may_follow after_literal adds string_value
+unfolding encode unicode_ident starts_word in_word run string_step char_step raw_step block_step doc_step escape_step gap_step had has_form may_precede after_literal adds string_value
 opened = tt
 
 -- words

@@ -7,8 +7,8 @@ use Rattle.lay_token.specs.Chars.{begins, front, after, behind, begins_suffix, s
 use Rattle.lay_token.specs.Scan.{run}
 use Rattle.lay_token.specs.Quoted.{Deep, doc_step}
 use Rattle.lay_token.specs.Word.{is_path_word}
-use Rattle.lay_token.specs.Forms.{had, Had, has_form, may_follow, after_literal, is_punct_char, is_whole}
-use Rattle.lay_token.specs.Found.{Front, found, or_else, literal, raw_name, raw_word, byte_word, c_word, prefixed, word, lifetime, quote, line_doc, line_comment, block_comment, slash, single, is_mark, is_tick, in_doc_line, is_star_or_slash}
+use Rattle.lay_token.specs.Forms.{had, Had, has_form, may_precede, after_literal, is_punct_char, is_whole}
+use Rattle.lay_token.specs.Found.{FrontPiece, found, or_else, literal, raw_name, raw_word, byte_word, c_word, prefixed, word, lifetime, quote, line_doc, line_comment, block_comment, slash, single, is_mark, is_tick, in_doc_line, is_star_or_slash}
 use Rattle.lay_token.specs.declared.token.Delim.TheVariants.{Paren, Bracket, Brace}
 use Rattle.lay_token.specs.declared.token.Kind.{Kind}
 use Rattle.lay_token.specs.declared.token.Kind.TheVariants.{Ident, RawIdent, Underscore, Lifetime, Char, RawStr, Byte, ByteStr, RawByteStr, CStr, RawCStr, Punct, Opener, Closer, Doc}
@@ -23,21 +23,21 @@ pub record Stands (i : Bool) (cs : List ℕ) (k : Kind) (r : List ℕ) : Type 0 
   pub is_had : Had k piece r i
 
 -- What is found, if anything is, stands there.
-abbrev pub Sound : Bool → List ℕ → Front → Type 0
+abbrev pub Sound : Bool → List ℕ → FrontPiece → Type 0
 Sound i cs None = Unit {0}
 Sound i cs (Some f) = Stands i cs f.0 f.1
 
-pub sound_cond : (i : Bool) (cs : List ℕ) (b : Bool) (x y : Front) → (b ≡ true → Sound i cs x)
+pub sound_cond : (i : Bool) (cs : List ℕ) (b : Bool) (x y : FrontPiece) → (b ≡ true → Sound i cs x)
     → (b ≡ false → Sound i cs y) → Sound i cs (cond b x y)
 sound_cond i cs true x y f g = f refl
 sound_cond i cs false x y f g = g refl
 
-pub sound_or : (i : Bool) (cs : List ℕ) (x y : Front) → Sound i cs x → Sound i cs y → Sound i cs (or_else x y)
+pub sound_or : (i : Bool) (cs : List ℕ) (x y : FrontPiece) → Sound i cs x → Sound i cs y → Sound i cs (or_else x y)
 sound_or i cs None y f g = g
 sound_or i cs (Some x) y f g = f
 
 -- the first character is known
-pub sound_at : (i : Bool) (c n : ℕ) (pre cs : List ℕ) (x : Front) → c == n ≡ true → Sound i (pre ++ n ∷ cs) x
+pub sound_at : (i : Bool) (c n : ℕ) (pre cs : List ℕ) (x : FrontPiece) → c == n ≡ true → Sound i (pre ++ n ∷ cs) x
     → Sound i (pre ++ c ∷ cs) x
 sound_at i c n pre cs x e s =
     let P : ℕ → Type 0 = λ v. Sound i (pre ++ v ∷ cs) x in subst P (sym (eqb-true c n e)) s
@@ -59,7 +59,7 @@ word_had : (i : Bool) (c : ℕ) (cs : List ℕ) (lone : Bool) → starts_word c 
     → begins is_mark (after in_word cs) ≡ false
     → c == 95 && not (begins in_word cs) ≡ lone
     → Had (cond lone Underscore Ident) (c ∷ front in_word cs) (after in_word cs) i
-unfolding had has_form may_follow
+unfolding had has_form may_precede
 word_had i c cs true h m e = rw (nil_front in_word cs, e) (stops_both (after in_word cs) (after-stops in_word cs) m)
 word_had i c cs false h m e =
     rw (h, each-front in_word cs, nil_front in_word cs, e)
@@ -68,7 +68,7 @@ word_had i c cs false h m e =
 raw_name_had : (i : Bool) (ds : List ℕ)
     → begins_suffix ds && not (is_path_word (encode_utf8_all (front in_word ds))) ≡ true
     → Had RawIdent (114 ∷ 35 ∷ front in_word ds) (after in_word ds) i
-unfolding had has_form may_follow
+unfolding had has_form may_precede
 raw_name_had i ds h =
     let parts = and_parts (begins_suffix ds) _ h in
     and_from _ _ (and_from _ _ (suffix_front ds parts.0) parts.1) (ap not (after-stops in_word ds))
@@ -136,7 +136,7 @@ tick_stops (c ∷ r) h g = rw h (ap not g)
 
 lifetime_had : (i : Bool) (c : ℕ) (cs : List ℕ) → starts_word c && not (begins is_tick (after in_word cs)) ≡ true
     → Had Lifetime (39 ∷ c ∷ front in_word cs) (after in_word cs) i
-unfolding had has_form may_follow
+unfolding had has_form may_precede
 lifetime_had i c cs h =
     let parts = and_parts (starts_word c) _ h in
     and_from _ _ (and_from _ _ parts.0 (each-front in_word cs))
@@ -177,14 +177,14 @@ line_stops (c ∷ r) h g = by_case (c == 10) (c == 13) h g
 
 inner_line_had : (i : Bool) (cs : List ℕ) → begins (λ c. c == 13) (after in_doc_line cs) ≡ false
     → Had (Doc true false) (47 ∷ 47 ∷ 33 ∷ front in_doc_line cs) (after in_doc_line cs) i
-unfolding had has_form may_follow
+unfolding had has_form may_precede
 inner_line_had i cs g =
     and_from _ _ (ap not (no_ends cs)) (line_stops (after in_doc_line cs) (after-stops in_doc_line cs) g)
 
 outer_line_had : (i : Bool) (cs : List ℕ) → begins (λ c. c == 47) cs ≡ false
     → begins (λ c. c == 13) (after in_doc_line cs) ≡ false
     → Had (Doc false false) (47 ∷ 47 ∷ 47 ∷ front in_doc_line cs) (after in_doc_line cs) i
-unfolding had has_form may_follow
+unfolding had has_form may_precede
 outer_line_had i cs h g =
     and_from _ _ (and_from _ _ (ap not (begins_front (λ c. c == 47) in_doc_line cs h)) (ap not (no_ends cs)))
     (line_stops (after in_doc_line cs) (after-stops in_doc_line cs) g)
@@ -212,12 +212,12 @@ line_comment_sound i (c ∷ cs) =
 
 inner_block_had : (i : Bool) (p r : List ℕ) → run doc_step (Deep 0) p ≡ Some []
     → Had (Doc true true) (47 ∷ 42 ∷ 33 ∷ p) r i
-unfolding had has_form may_follow
+unfolding had has_form may_precede
 inner_block_had i p r h = and_from _ _ (ap is_whole h) refl
 
 outer_block_had : (i : Bool) (p r : List ℕ) → begins is_star_or_slash p ≡ false → run doc_step (Deep 0) p ≡ Some []
     → Had (Doc false true) (47 ∷ 42 ∷ 42 ∷ p) r i
-unfolding had has_form may_follow
+unfolding had has_form may_precede
 outer_block_had i p r g h = and_from _ _ (and_from _ _ (ap not g) (ap is_whole h)) refl
 
 block_sound : (i : Bool) (inner : Bool) (d : ℕ) (cs : List ℕ) (o : Option (List ℕ)) → run doc_step (Deep 0) cs ≡ o
@@ -244,7 +244,7 @@ block_comment_sound i (c ∷ cs) =
 
 -- single characters
 slash_had : (i : Bool) (cs : List ℕ) → begins (λ c. c == 47 || c == 42) cs ≡ false → Had Punct (47 ∷ []) cs i
-unfolding had has_form may_follow
+unfolding had has_form may_precede
 slash_had i cs h = ap not h
 
 pub slash_sound : (i : Bool) (cs : List ℕ) → Sound i (47 ∷ cs) (slash cs)
@@ -255,17 +255,17 @@ slash_sound i (c ∷ cs) =
     record { piece = 47 ∷ []; whole = refl; is_had = slash_had i (c ∷ cs) (neither _ _ n m) }))
 
 punct_had : (i : Bool) (c : ℕ) (cs : List ℕ) → is_punct_char c ≡ true → c == 47 ≡ false → Had Punct (c ∷ []) cs i
-unfolding had has_form may_follow
+unfolding had has_form may_precede
 punct_had i c cs h n = rw (h, n) refl
 
 opener_had : (i : Bool) (cs : List ℕ)
     → Had (Opener Paren) (40 ∷ []) cs i × Had (Opener Bracket) (91 ∷ []) cs i × Had (Opener Brace) (123 ∷ []) cs i
-unfolding had has_form may_follow
+unfolding had has_form may_precede
 opener_had i cs = (refl, refl, refl)
 
 closer_had : (i : Bool) (cs : List ℕ)
     → Had (Closer Paren) (41 ∷ []) cs i × Had (Closer Bracket) (93 ∷ []) cs i × Had (Closer Brace) (125 ∷ []) cs i
-unfolding had has_form may_follow
+unfolding had has_form may_precede
 closer_had i cs = (refl, refl, refl)
 
 one_sound : (i : Bool) (c n : ℕ) (k : Kind) (cs : List ℕ) → Had k (n ∷ []) cs i → c == n ≡ true

@@ -1,7 +1,7 @@
 -- At most one piece stands at a place, and a text is at most one list of parts.
 use Rattle.std.proofs.Common.{◌≡◌, ℕ, ◌+◌, List, [], ◌∷◌, ◌++◌, Bool, sym, refl, ap, ◌∙◌, subst, arith, length, length-append}
 use Rattle.std.specs.Prelude.{IsTrue}
-use Rattle.lay_token.specs.Forms.{had, Had, may_follow}
+use Rattle.lay_token.specs.Forms.{had, Had, may_precede}
 use Rattle.lay_token.specs.Found.{found, front_of}
 use Rattle.lay_token.specs.Gap.{is_gap, is_last_gap}
 use Rattle.lay_token.specs.Lexes.{Part, spell, Before, Other, is_index_place, step, steps, Fit, Lexes, NoTokenAt, tokens_from, size, BeginsNoGap, BeginsNoPiece}
@@ -14,7 +14,7 @@ use Rattle.lay_token.proofs.GapLaws.{piece_no_gap, gap_unique, last_gap_rest}
 -- what a piece asks of its rest is told by the rest's first two characters
 pub had_two : (k : Kind) (piece x y : List ℕ) (c d : ℕ) (i : Bool)
     → had k piece (c ∷ d ∷ x) i ≡ had k piece (c ∷ d ∷ y) i
-unfolding had may_follow
+unfolding had may_precede
 had_two Ident piece x y c d i = refl
 had_two RawIdent piece x y c d i = refl
 had_two Underscore piece x y c d i = refl

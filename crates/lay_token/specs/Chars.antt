@@ -3,13 +3,14 @@ use Rattle.std.specs.Prelude.{ℕ, ◌-◌, Bool, true, false, cond, not, ◌&&�
 use Rattle.std.specs.List.{list_all}
 use Rattle.std.specs.Char.{is_ascii_digit, is_ascii_hexdigit}
 use Rattle.unicode_ident.specs.Ident.{is_xid_start, is_xid_continue}
+use Rattle.lay_token.specs.Characters as char
 
 abbrev pub is_between : ℕ → ℕ → ℕ → Bool
 is_between low high c = nat_le low c && nat_le c high
 
 -- what may begin a word: XID_Start or an underscore (Rust Reference, "Identifiers")
 unfoldable pub starts_word : ℕ → Bool
-starts_word c = is_xid_start c || c == 95
+starts_word c = is_xid_start c || c == char.underscore
 
 -- what may go on with a word: XID_Continue, to which the underscore belongs
 unfoldable pub in_word : ℕ → Bool
@@ -17,15 +18,15 @@ in_word c = is_xid_continue c
 
 -- white space (Rust Reference, "Whitespace")
 abbrev pub is_white : ℕ → Bool
-is_white c = is_between 9 13 c || c == 32 || c == 133 || c == 8206 || c == 8207 || c == 8232 || c == 8233
+is_white c = is_between 9 13 c || c == char.blank || c == 133 || c == 8206 || c == 8207 || c == 8232 || c == 8233
 
 -- a decimal digit or an underscore
 abbrev pub in_digits : ℕ → Bool
-in_digits c = is_ascii_digit c || c == 95
+in_digits c = is_ascii_digit c || c == char.underscore
 
 -- a hexadecimal digit or an underscore
 abbrev pub in_hex : ℕ → Bool
-in_hex c = is_ascii_hexdigit c || c == 95
+in_hex c = is_ascii_hexdigit c || c == char.underscore
 
 -- the value of a hexadecimal digit
 abbrev pub hex_value : ℕ → ℕ
@@ -73,7 +74,7 @@ is_word (c ∷ cs) = starts_word c && list_all in_word cs
 
 abbrev pub is_lone_underscore : List ℕ → Bool
 is_lone_underscore [] = false
-is_lone_underscore (c ∷ cs) = c == 95 && is_nil cs
+is_lone_underscore (c ∷ cs) = c == char.underscore && is_nil cs
 
 -- a suffix: an identifier other than a lone underscore (Rust Reference, "Tokens: Suffixes")
 abbrev pub is_suffix : List ℕ → Bool
@@ -82,4 +83,4 @@ is_suffix cs = is_word cs && not (is_lone_underscore cs)
 -- The text goes on with a suffix.
 abbrev pub begins_suffix : List ℕ → Bool
 begins_suffix [] = false
-begins_suffix (c ∷ cs) = starts_word c && not (c == 95 && not (begins in_word cs))
+begins_suffix (c ∷ cs) = starts_word c && not (c == char.underscore && not (begins in_word cs))

@@ -22,21 +22,21 @@ is_pair _ _ = false
 
 -- token trees: tokens that are no delimiters, and groups, each with its two delimiters and the trees between them
 pub data Trees : Type 0 where
-  None : Trees
-  Plain : Token → Trees → Trees
-  Group : Token → Trees → Token → Trees → Trees
+  NoTree : Trees
+  One : Token → Trees → Trees
+  Nest : Token → Trees → Token → Trees → Trees
 
 -- the tokens of the trees, in order
 abbrev pub tokens_of : Trees → List Token
-tokens_of None = []
-tokens_of (Plain t more) = t ∷ tokens_of more
-tokens_of (Group opener inside closer more) = opener ∷ (tokens_of inside ++ closer ∷ tokens_of more)
+tokens_of NoTree = []
+tokens_of (One t more) = t ∷ tokens_of more
+tokens_of (Nest opener inside closer more) = opener ∷ (tokens_of inside ++ closer ∷ tokens_of more)
 
 -- Each group stands between an opener and its partner, and no other token is a delimiter.
 abbrev pub Paired : Trees → Type 0
-Paired None = Unit {0}
-Paired (Plain t more) = IsFalse (is_opener t.kind) × IsFalse (is_closer t.kind) × Paired more
-Paired (Group opener inside closer more) = IsTrue (is_pair opener.kind closer.kind) × Paired inside × Paired more
+Paired NoTree = Unit {0}
+Paired (One t more) = IsFalse (is_opener t.kind) × IsFalse (is_closer t.kind) × Paired more
+Paired (Nest opener inside closer more) = IsTrue (is_pair opener.kind closer.kind) × Paired inside × Paired more
 
 -- The tokens are those of token trees, so every opener has its partner, and every closer is one.
 abbrev pub Balanced : List Token → Type 0

@@ -1,6 +1,7 @@
 -- How a text of documentation may be written: on a line, or as a block (Rust Reference, "Doc comments").
 use Rattle.std.specs.Prelude.{ℕ, Option, Some, None, Bool, false, cond, ◌&&◌, ◌==◌, not, List, [], ◌∷◌, ◌++◌, codes}
 use Rattle.std.specs.List.{list_any}
+use Rattle.lay_token.specs.Characters as char
 use Rattle.lay_token.specs.Chars.{is_nil}
 use Rattle.lay_token.specs.Forms.{is_line_doc, is_block_doc}
 use Rattle.lay_token.specs.Quoted as block
@@ -12,7 +13,7 @@ use Rattle.lay_token.specs.declared.doc.InComment.TheVariants as comment
 
 abbrev pub ends_in_blank : List ℕ → Bool
 ends_in_blank [] = false
-ends_in_blank (c ∷ cs) = cond (is_nil cs) (c == 32) (ends_in_blank cs)
+ends_in_blank (c ∷ cs) = cond (is_nil cs) (c == char.blank) (ends_in_blank cs)
 
 -- It is what a line's documentation holds, from which blanks at the end are dropped.
 abbrev pub is_line_text : Bool → List ℕ → Bool
@@ -20,7 +21,7 @@ is_line_text inner text = is_line_doc inner text && not (ends_in_blank text)
 
 -- It has several lines, and an end of a comment behind it is the first that closes the comment.
 abbrev pub is_block_text : Bool → List ℕ → Bool
-is_block_text inner text = list_any (λ c. c == 10) text && is_block_doc inner (text ++ codes "*/")
+is_block_text inner text = list_any (λ c. c == char.line_feed) text && is_block_doc inner (text ++ codes "*/")
 
 -- the form of a text of documentation, for what it stands in or for what follows it
 unfoldable pub doc_form : Bool → List ℕ → DocForm

@@ -2,6 +2,7 @@
 use Rattle.std.specs.Prelude.{ℕ, Bool, true, false, cond, ◌&&◌, ◌||◌, ◌==◌, not, List, [], ◌∷◌, codes, encode_utf8_all, IsTrue, Option, Some, None}
 use Rattle.std.specs.List.{list_any}
 use Rattle.std.specs.Char.{is_ascii_digit}
+use Rattle.lay_token.specs.Characters as char
 use Rattle.lay_token.specs.Chars.{begins, behind, is_nil, is_word, is_suffix, is_lone_underscore, begins_suffix, starts_word, in_word}
 use Rattle.lay_token.specs.Scan.{run}
 use Rattle.lay_token.specs.Quoted.{Plain, First, Hashes, Deep, string_step, char_step, raw_step, doc_step}
@@ -54,14 +55,14 @@ is_one p [] = false
 is_one p (c ∷ cs) = p c && is_nil cs
 
 abbrev pub opening : Delim → ℕ
-opening Paren = 40
-opening Bracket = 91
-opening Brace = 123
+opening Paren = char.open_paren
+opening Bracket = char.open_bracket
+opening Brace = char.open_brace
 
 abbrev pub closing : Delim → ℕ
-closing Paren = 41
-closing Bracket = 93
-closing Brace = 125
+closing Paren = char.close_paren
+closing Bracket = char.close_bracket
+closing Brace = char.close_brace
 
 -- what opens a documentation comment (Rust Reference, "Doc comments")
 abbrev pub doc_opening : Bool → Bool → List ℕ
@@ -72,11 +73,11 @@ doc_opening false false = codes "///"
 
 -- Behind its opening an outer line doesn't begin with a slash, and no line holds an LF or a CR.
 abbrev pub is_line_doc : Bool → List ℕ → Bool
-is_line_doc inner cs = (inner || not (begins (λ c. c == 47) cs)) && not (list_any (λ c. c == 10 || c == 13) cs)
+is_line_doc inner cs = (inner || not (begins (λ c. c == char.slash) cs)) && not (list_any (λ c. c == char.line_feed || c == char.carriage_return) cs)
 
 -- An outer block begins neither with a star nor with a slash, and a block ends with the end that matches.
 abbrev pub is_block_doc : Bool → List ℕ → Bool
-is_block_doc inner cs = (inner || not (begins (λ c. c == 42 || c == 47) cs)) && is_whole (run doc_step (Deep 0) cs)
+is_block_doc inner cs = (inner || not (begins (λ c. c == char.star || c == char.slash) cs)) && is_whole (run doc_step (Deep 0) cs)
 
 -- The piece has the form of the kind.
 unfoldable pub has_form : Kind → List ℕ → Bool
@@ -98,20 +99,20 @@ abbrev pub literal_may_stop : Bool → List ℕ → Bool
 literal_may_stop bare rest = cond bare (not (begins_suffix rest)) (not (begins in_word rest))
 
 -- The rest may follow the piece.
-unfoldable pub may_follow : Kind → List ℕ → List ℕ → Bool
-may_follow Ident piece rest = not (begins (λ c. in_word c || c == 34 || c == 39 || c == 35) rest)
-may_follow RawIdent piece rest = not (begins in_word rest)
-may_follow Underscore piece rest = not (begins (λ c. in_word c || c == 34 || c == 39 || c == 35) rest)
-may_follow Lifetime piece rest = not (begins (λ c. in_word c || c == 39 || c == 35) rest)
-may_follow Int piece rest = not (begins in_word rest) && not (is_bare_int piece && begins_point rest)
-may_follow Float piece rest =
-    cond (ends_in_point piece) (not (begins (λ c. is_ascii_digit c || c == 46 || starts_word c) rest))
+unfoldable pub may_precede : Kind → List ℕ → List ℕ → Bool
+may_precede Ident piece rest = not (begins (λ c. in_word c || c == char.quote || c == char.apostrophe || c == char.hash) rest)
+may_precede RawIdent piece rest = not (begins in_word rest)
+may_precede Underscore piece rest = not (begins (λ c. in_word c || c == char.quote || c == char.apostrophe || c == char.hash) rest)
+may_precede Lifetime piece rest = not (begins (λ c. in_word c || c == char.apostrophe || c == char.hash) rest)
+may_precede Int piece rest = not (begins in_word rest) && not (is_bare_int piece && begins_point rest)
+may_precede Float piece rest =
+    cond (ends_in_point piece) (not (begins (λ c. is_ascii_digit c || c == char.point || starts_word c) rest))
     (not (begins in_word rest))
-may_follow Punct piece rest = not (begins (λ c. c == 47) piece && begins (λ c. c == 47 || c == 42) rest)
-may_follow (Opener d) piece rest = true
-may_follow (Closer d) piece rest = true
-may_follow (Doc inner block) piece rest = block || not (begins (λ c. not (c == 10)) rest)
-may_follow k piece rest = literal_may_stop (is_whole (after_literal k piece)) rest
+may_precede Punct piece rest = not (begins (λ c. c == char.slash) piece && begins (λ c. c == char.slash || c == char.star) rest)
+may_precede (Opener d) piece rest = true
+may_precede (Closer d) piece rest = true
+may_precede (Doc inner block) piece rest = block || not (begins (λ c. not (c == char.line_feed)) rest)
+may_precede k piece rest = literal_may_stop (is_whole (after_literal k piece)) rest
 
 abbrev pub is_int_kind : Kind → Bool
 is_int_kind Int = true
@@ -128,7 +129,7 @@ unfoldable pub had : Kind → List ℕ → List ℕ → Bool → Bool
 had k piece rest index =
     cond (is_number_kind k && index && fronts_index piece rest)
     (is_int_kind k && is_index piece && not (begins in_word rest))
-    (has_form k piece && may_follow k piece rest)
+    (has_form k piece && may_precede k piece rest)
 
 abbrev pub Had : Kind → List ℕ → List ℕ → Bool → Type 0
 Had k piece rest index = IsTrue (had k piece rest index)

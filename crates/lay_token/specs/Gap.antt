@@ -1,6 +1,7 @@
 -- Gaps: white space and plain comments (Rust Reference, "Whitespace", "Comments"). Characters move a state, so
 -- that a gap is told from its own characters alone.
 use Rattle.std.specs.Prelude.{ℕ, Bool, true, false, cond, ◌==◌, List, [], ◌∷◌}
+use Rattle.lay_token.specs.Characters as char
 use Rattle.lay_token.specs.Chars.{is_white}
 use Rattle.lay_token.specs.Scan.{Next, Go, End, Bad}
 use Rattle.lay_token.specs.Quoted.{InBlock, Deep, Star, block_step}
@@ -32,13 +33,13 @@ in_block Bad = Spoilt
 
 -- Neither /// (save ////) nor //! begins a plain comment, nor /** (save /*** and /**/) nor /*!.
 unfoldable pub gap_step : InGap → ℕ → InGap
-gap_step Outside c = cond (is_white c) Outside (cond (c == 47) Opening Spoilt)
-gap_step Opening c = cond (c == 47) Two (cond (c == 42) Block Spoilt)
-gap_step Two c = cond (c == 10) Outside (cond (c == 47) Three (cond (c == 33) Spoilt Line))
-gap_step Three c = cond (c == 47) Line Spoilt
-gap_step Line c = cond (c == 10) Outside Line
-gap_step Block c = cond (c == 33) Spoilt (cond (c == 42) BlockStar (in_block (block_step (Deep 0) c)))
-gap_step BlockStar c = cond (c == 42) (Within (Star 0)) (cond (c == 47) Outside Spoilt)
+gap_step Outside c = cond (is_white c) Outside (cond (c == char.slash) Opening Spoilt)
+gap_step Opening c = cond (c == char.slash) Two (cond (c == char.star) Block Spoilt)
+gap_step Two c = cond (c == char.line_feed) Outside (cond (c == char.slash) Three (cond (c == char.bang) Spoilt Line))
+gap_step Three c = cond (c == char.slash) Line Spoilt
+gap_step Line c = cond (c == char.line_feed) Outside Line
+gap_step Block c = cond (c == char.bang) Spoilt (cond (c == char.star) BlockStar (in_block (block_step (Deep 0) c)))
+gap_step BlockStar c = cond (c == char.star) (Within (Star 0)) (cond (c == char.slash) Outside Spoilt)
 gap_step (Within b) c = in_block (block_step b c)
 gap_step Spoilt c = Spoilt
 

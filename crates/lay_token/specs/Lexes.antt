@@ -2,6 +2,7 @@
 use Rattle.std.specs.Prelude.{◌≡◌, ℕ, ◌+◌, ◌-◌, Bool, true, false, cond, ◌&&◌, ◌||◌, ◌==◌, not, List, [], ◌∷◌, ◌++◌, IsTrue, IsFalse, codes, length, take, drop, encode_utf8_all}
 use Rattle.std.specs.List.{list_any}
 use Rattle.std.specs.Str.{chars, bytes_eq}
+use Rattle.lay_token.specs.Characters as char
 use Rattle.lay_token.specs.Chars.{is_nil, without_end}
 use Rattle.lay_token.specs.Forms.{Had}
 use Rattle.lay_token.specs.Gap.{is_gap, is_last_gap}
@@ -61,7 +62,7 @@ size cs = length (encode_utf8_all cs)
 abbrev pub doc_text : Bool → List ℕ → List ℕ
 doc_text block cs =
     let text = cond block (take (length cs - 5) (drop 3 cs)) (drop 3 cs) in
-    cond (list_any (λ c. c == 10) text) text (without_end 32 text)
+    cond (list_any (λ c. c == char.line_feed) text) text (without_end char.blank text)
 
 -- the text of a token of this piece
 abbrev pub text_of_piece : Kind → List ℕ → List ℕ
@@ -91,7 +92,7 @@ tokens_from at (p ∷ ps) = let place = at + size p.gap in
     } ∷ tokens_from (place + size p.piece) ps
 
 -- The characters are these parts and a last gap.
-pub record Reads (text : List ℕ) (parts : List Part) (last : List ℕ) : Type 0 where
+pub record AreParts (text : List ℕ) (parts : List Part) (last : List ℕ) : Type 0 where
   pub whole : text ≡ spell parts last
   pub fit : Fit Other parts last
   pub end : IsTrue (is_last_gap last)
@@ -100,7 +101,7 @@ pub record Reads (text : List ℕ) (parts : List Part) (last : List ℕ) : Type 
 -- begins a gap.
 abbrev pub Lexes : List ℕ → ℕ → List Token → Type 0
 Lexes bytes start tokens = (parts : List Part) × (last : List ℕ)
-    × Reads (chars (drop start bytes)) parts last × (tokens ≡ tokens_from start parts)
+    × AreParts (chars (drop start bytes)) parts last × (tokens ≡ tokens_from start parts)
 
 -- No gap stands at the front, and the text isn't one that ends the whole.
 pub record BeginsNoGap (text : List ℕ) : Type 0 where
@@ -113,7 +114,7 @@ BeginsNoPiece text index =
     (k : Kind) (piece rest : List ℕ) → text ≡ piece ++ rest → Had k piece rest index → ⊥
 
 -- The text is parts, a gap as long as it can be, and a rest that begins with no piece.
-pub record Stops (text : List ℕ) (parts : List Part) (gap rest : List ℕ) : Type 0 where
+pub record PartsBefore (text : List ℕ) (parts : List Part) (gap rest : List ℕ) : Type 0 where
   pub whole : text ≡ spell parts (gap ++ rest)
   pub fit : Fit Other parts (gap ++ rest)
   pub closed : IsTrue (is_gap gap)
@@ -123,4 +124,4 @@ pub record Stops (text : List ℕ) (parts : List Part) (gap rest : List ℕ) : T
 -- Lexing from the start stops at the place, the first past gaps where no token is had.
 abbrev pub NoTokenAt : List ℕ → ℕ → ℕ → Type 0
 NoTokenAt bytes start at = (parts : List Part) × (gap rest : List ℕ)
-    × Stops (chars (drop start bytes)) parts gap rest × (at ≡ start + size (spell parts gap))
+    × PartsBefore (chars (drop start bytes)) parts gap rest × (at ≡ start + size (spell parts gap))

@@ -11,7 +11,7 @@ abbrev pub outer : ℕ → ℕ
 outer zero = zero
 outer (suc n) = n
 
--- the groups that are open after tokens, where n are open before
+-- the groups that are open layout_after tokens, where n are open before
 abbrev pub opened : List Tok → ℕ → ℕ
 opened [] n = n
 opened (tok.Text t ∷ ts) n = opened ts n
@@ -86,15 +86,15 @@ abbrev pub begun : Layout
 begun = record { frames = []; state = start }
 
 -- when the first j tokens of a stream are handled
-abbrev pub after : List Tok → ℕ → Layout
-after s j = play (take j s) (drop j s) begun
+abbrev pub layout_after : List Tok → ℕ → Layout
+layout_after s j = play (take j s) (drop j s) begun
 
 -- the text and the space when the first j tokens of a stream are handled
 abbrev pub shown : List Tok → ℕ → List ℕ
-shown s j = (after s j).state.text
+shown s j = (layout_after s j).state.text
 
 abbrev pub space : List Tok → ℕ → ℤ
-space s j = space_of (after s j).state
+space s j = space_of (layout_after s j).state
 
 -- the text of a stream
 abbrev pub text : List Tok → List ℕ

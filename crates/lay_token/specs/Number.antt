@@ -2,6 +2,7 @@
 use Rattle.std.specs.Prelude.{ℕ, Bool, true, false, cond, ◌&&◌, ◌||◌, ◌==◌, not, List, [], ◌∷◌, drop}
 use Rattle.std.specs.List.{list_all, list_any}
 use Rattle.std.specs.Char.{is_ascii_digit, is_ascii_hexdigit}
+use Rattle.lay_token.specs.Characters as char
 use Rattle.lay_token.specs.Chars.{is_between, begins, front, after, behind, is_nil, is_suffix, starts_word, in_word, in_digits, in_hex}
 use Rattle.lay_token.specs.declared.piece.numbers.Base.{Base}
 use Rattle.lay_token.specs.declared.piece.numbers.Base.TheVariants.{Binary, Octal, Decimal, Hexadecimal}
@@ -12,7 +13,7 @@ base_of cs = behind Decimal (48 ∷ []) named cs
   where
     named : List ℕ → Base
     named [] = Decimal
-    named (c ∷ cs) = cond (c == 120) Hexadecimal (cond (c == 111) Octal (cond (c == 98) Binary Decimal))
+    named (c ∷ cs) = cond (c == char.letter_x) Hexadecimal (cond (c == char.letter_o) Octal (cond (c == char.letter_b) Binary Decimal))
 
 -- what stands behind 0x, 0o or 0b
 abbrev pub digits_of : Base → List ℕ → List ℕ
@@ -32,14 +33,14 @@ in_base Hexadecimal c = is_ascii_hexdigit c
 
 -- A run holds at least one digit and none outside its base.
 abbrev pub is_run_in : Base → List ℕ → Bool
-is_run_in base run = list_any (in_base base) run && list_all (λ c. in_base base c || c == 95) run
+is_run_in base run = list_any (in_base base) run && list_all (λ c. in_base base c || c == char.underscore) run
 
 -- the letter of an exponent
 abbrev pub is_exponent_letter : ℕ → Bool
-is_exponent_letter c = c == 101 || c == 69
+is_exponent_letter c = c == char.letter_e || c == char.capital_e
 
 abbrev pub is_sign : ℕ → Bool
-is_sign c = c == 43 || c == 45
+is_sign c = c == char.plus || c == char.minus
 
 -- nothing, or any suffix
 abbrev pub is_any_suffix : List ℕ → Bool
@@ -86,7 +87,7 @@ is_fraction cs =
 -- what stands behind the whole part: a point alone, a point and a fraction, or an exponent
 abbrev pub is_float_tail : List ℕ → Bool
 is_float_tail [] = false
-is_float_tail (c ∷ cs) = cond (c == 46) (is_nil cs || is_fraction cs) (is_exponent (c ∷ cs))
+is_float_tail (c ∷ cs) = cond (c == char.point) (is_nil cs || is_fraction cs) (is_exponent (c ∷ cs))
 
 abbrev pub is_decimal : Base → Bool
 is_decimal Decimal = true
@@ -107,7 +108,7 @@ is_bare_int cs = is_nil (behind_digits cs)
 -- a point that isn't followed by a point, an underscore or XID_Start: it makes a number a Float
 abbrev pub begins_point : List ℕ → Bool
 begins_point [] = false
-begins_point (c ∷ cs) = c == 46 && not (begins (λ d. d == 46 || starts_word d) cs)
+begins_point (c ∷ cs) = c == char.point && not (begins (λ d. d == char.point || starts_word d) cs)
 
 -- An index is digits and nothing more (Rust Reference, "Tuple index").
 abbrev pub is_index : List ℕ → Bool

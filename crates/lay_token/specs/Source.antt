@@ -3,6 +3,7 @@
 use Rattle.std.specs.Prelude.{ℕ, ◌+◌, Bool, true, false, cond, ◌&&◌, ◌||◌, ◌==◌, not, List, [], ◌∷◌, Option, Some, None, Result, Ok, Err, codes, encode_utf8_all}
 use Rattle.std.specs.Str.{chars, is_utf8}
 use Rattle.std.specs.Str.Lossy.{utf8_valid_len}
+use Rattle.lay_token.specs.Characters as char
 use Rattle.lay_token.specs.Chars.{is_white, begins, behind, front, after, is_nil, without_end}
 use Rattle.lay_token.specs.Lexes.{size}
 use Rattle.lay_token.specs.declared.refusal.Refusal.{Refusal}
@@ -11,15 +12,15 @@ use Rattle.lay_token.specs.declared.refusal.Refusal.TheVariants.{NotUtf8}
 -- each CR LF as one LF
 abbrev pub folded : List ℕ → List ℕ
 folded [] = []
-folded (c ∷ cs) = cond (c == 13 && begins (λ d. d == 10) cs) (folded cs) (c ∷ folded cs)
+folded (c ∷ cs) = cond (c == char.carriage_return && begins (λ d. d == char.line_feed) cs) (folded cs) (c ∷ folded cs)
 
 -- without a byte order mark at the start
 abbrev pub without_mark : List ℕ → List ℕ
 without_mark [] = []
-without_mark (c ∷ cs) = cond (c == 65279) cs (c ∷ cs)
+without_mark (c ∷ cs) = cond (c == char.byte_order_mark) cs (c ∷ cs)
 
 abbrev pub is_in_line : ℕ → Bool
-is_in_line c = not (c == 10)
+is_in_line c = not (c == char.line_feed)
 
 -- Past white space the line goes on with nothing, or with what begins an attribute or a comment.
 abbrev pub is_no_command : List ℕ → Bool

@@ -1,6 +1,7 @@
 -- The value of a string without suffix: its text with the escapes resolved (Rust Reference, "String literals",
 -- "Raw string literals").
 use Rattle.std.specs.Prelude.{ℕ, ◌+◌, ◌*◌, ◌-◌, Bool, cond, ◌==◌, List, [], ◌∷◌, ◌++◌, length, take, drop, Option, Some, None}
+use Rattle.lay_token.specs.Characters as char
 use Rattle.lay_token.specs.Chars.{front, hex_value}
 use Rattle.lay_token.specs.Scan.{Go, End, Bad}
 use Rattle.lay_token.specs.Quoted.{Backslash, Hex, HexTwo, Open, Digits, InString, Plain, Turned, Escape, Skip, string_step, is_skipped}
@@ -12,11 +13,11 @@ use Rattle.lay_token.specs.declared.token.Kind.TheVariants.{Str, RawStr}
 -- what a character names behind a backslash, if it is an escape by itself
 abbrev pub short_escape : ℕ → List ℕ
 short_escape c =
-    cond (c == 110) (10 ∷ []) (cond (c == 114) (13 ∷ []) (cond (c == 116) (9 ∷ []) (cond (c == 48) (0 ∷ [])
-    (cond (c == 92) (92 ∷ []) (cond (c == 39) (39 ∷ []) (cond (c == 34) (34 ∷ []) []))))))
+    cond (c == char.letter_n) (10 ∷ []) (cond (c == char.letter_r) (13 ∷ []) (cond (c == char.letter_t) (9 ∷ []) (cond (c == char.zero) (0 ∷ [])
+    (cond (c == char.backslash) (92 ∷ []) (cond (c == char.apostrophe) (39 ∷ []) (cond (c == char.quote) (34 ∷ []) []))))))
 
 abbrev pub plain_adds : ℕ → List ℕ
-plain_adds c = cond (c == 92) [] (c ∷ [])
+plain_adds c = cond (c == char.backslash) [] (c ∷ [])
 
 -- what a character adds to the value
 unfoldable pub adds : InString → ℕ → List ℕ
@@ -26,7 +27,7 @@ adds (Escape Backslash) c = short_escape c
 adds (Escape Hex) c = []
 adds (Escape (HexTwo h)) c = (16 * h + hex_value c) ∷ []
 adds (Escape Open) c = []
-adds (Escape (Digits n v)) c = cond (c == 125) (v ∷ []) []
+adds (Escape (Digits n v)) c = cond (c == char.close_brace) (v ∷ []) []
 adds Skip c = cond (is_skipped c) [] (plain_adds c)
 
 -- the value of a string, behind its opening quote
@@ -36,7 +37,7 @@ string_value s (c ∷ cs) =
     elim (string_step of.Chars s c) [ Go t ↦ adds s c ++ string_value t cs | End ↦ [] | Bad ↦ [] ]
 
 abbrev pub is_hash : ℕ → Bool
-is_hash c = c == 35
+is_hash c = c == char.hash
 
 -- The value of a raw string, behind its r, stands between the quotes, and as many hashes stand before and behind.
 abbrev pub raw_value : List ℕ → List ℕ

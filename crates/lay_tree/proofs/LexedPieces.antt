@@ -8,7 +8,7 @@ use Rattle.std.proofs.lemmas.Bool.{and_parts, and_from, ne_eqb, both_ways, or_le
 use Rattle.std.proofs.lemmas.Str.{chars-encodes, scalars-chars}
 use lib.Utf8.{scalars}
 use Rattle.lay_token.specs.Chars.{begins, front, after, is_suffix, in_word, in_digits, without_end}
-use Rattle.lay_token.specs.Forms.{had, Had, has_form, may_follow, is_number_kind, is_int_kind}
+use Rattle.lay_token.specs.Forms.{had, Had, has_form, may_precede, is_number_kind, is_int_kind}
 use Rattle.lay_token.specs.Lexes.{Part, Before, Other, spell, step, is_index_place, Fit, size, doc_text, text_of_piece, tokens_from, Lexes}
 use Rattle.lay_token.specs.Number.{base_of, digits_of, in_run, is_run_in, is_int, is_index, is_int_suffix, fronts_index}
 use Rattle.lay_token.specs.Word.{is_path_word}
@@ -86,7 +86,7 @@ unfolding had
 had_form k piece rest index h = by_case (is_number_kind k && index && fronts_index piece rest) h
   where
     by_case : (t : Bool) → cond t (is_int_kind k && is_index piece && not (begins in_word rest))
-        (has_form k piece && may_follow k piece rest) ≡ true
+        (has_form k piece && may_precede k piece rest) ≡ true
         → has_form k piece ≡ true
     by_case true h = int_form k piece (and_parts (is_int_kind k && is_index piece) _ h).0
     by_case false h = (and_parts (has_form k piece) _ h).0

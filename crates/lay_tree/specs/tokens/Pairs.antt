@@ -69,9 +69,9 @@ abbrev pub is_keyword : Neighbour → Bool
 is_keyword (Single t) = elim (kind_of t) [ Ident ↦ is_strict (text_of t) | _ ↦ false ]
 is_keyword _ = false
 
-abbrev pub is_word : Neighbour → Bool
-is_word (Single t) = elim (kind_of t) [ Ident ↦ true | RawIdent ↦ true | _ ↦ false ]
-is_word _ = false
+abbrev pub is_any_word : Neighbour → Bool
+is_any_word (Single t) = elim (kind_of t) [ Ident ↦ true | RawIdent ↦ true | _ ↦ false ]
+is_any_word _ = false
 
 -- an Int that is no index, or a Float
 abbrev pub is_number_by : Bool → Neighbour → Bool
@@ -139,7 +139,7 @@ rows s r = let l = s.last in
     ∷ (is_char 46 r && is_number s, SoftBreak)
     ∷ (is_char 46 r || is_char 63 r || is_char 58 r, NoBreak)
     ∷ (is_char 33 r && not (is_joint_neighbour r) && is_free_word l, NoBreak)
-    ∷ (is_char 46 l || (is_char 58 l && is_char 58 s.before && is_joint_neighbour s.before && is_word r), NoBreak)
+    ∷ (is_char 46 l || (is_char 58 l && is_char 58 s.before && is_joint_neighbour s.before && is_any_word r), NoBreak)
     ∷ ((is_char 33 l || is_char 36 l) && not (is_brace r), NoBreak)
     ∷ (is_char 35 l && is_bracket r, NoBreak)
     ∷ (

@@ -1,14 +1,14 @@
 use Rattle.std.proofs.Common.{rules, arith, ◌≡◌, ℕ, List, ◌++◌, Bool, IsUtf8, sym, ap, ◌∙◌, subst, None}
 use Rattle.std.specs.Str.{chars}
 use Rattle.lay_token.specs.Forms.{Had}
-use Rattle.lay_token.specs.Found.{Front, found, front_of}
+use Rattle.lay_token.specs.Found.{FrontPiece, found, front_of}
 use Rattle.lay_token.specs.declared.token.Kind.{Kind}
 use Rattle.lay_token.proofs.Texts.{length_parts}
 use Rattle.lay_token.proofs.Exact.{stands_at, front_complete, found_kind, found_rest}
 use Rattle.lay_token.proofs.piece.piece_at.Goals as goal
 
 -- the text has the bytes that were passed
-at_bytes : (i : Bool) (bytes text : List ℕ) (x : Front) → text ≡ bytes → front_of i (chars text) ≡ x
+at_bytes : (i : Bool) (bytes text : List ℕ) (x : FrontPiece) → text ≡ bytes → front_of i (chars text) ≡ x
     → front_of i (chars bytes) ≡ x
 at_bytes i bytes text x e h = let P : List ℕ → Type 0 = λ v. front_of i (chars v) ≡ x in subst P e h
 

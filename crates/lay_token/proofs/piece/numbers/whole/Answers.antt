@@ -1,6 +1,6 @@
 use Rattle.std.proofs.Common.{◌≡◌, ℕ, List, ◌∷◌, true, false, refl, subst}
 use Rattle.lay_token.specs.Number.{begins_point, is_exponent_letter, is_decimal}
-use Rattle.lay_token.specs.Found.{Front, Finds, whole, exponent}
+use Rattle.lay_token.specs.Found.{FrontPiece, Finds, whole, exponent}
 use Rattle.lay_token.specs.declared.piece.numbers.Base.{Base}
 use Rattle.lay_token.proofs.piece.numbers.whole.Goals as goal
 
@@ -12,5 +12,5 @@ exponent_at base cs tail c e f g h = rw (e, ← f, ← g, ← h) refl
 
 pub returns-then-is_decimal-2 : goal.returns-then-is_decimal-2
 returns-then-is_decimal-2 c =
-    let P : Front → Type 0 = λ x. Finds x c.exponent.result in
+    let P : FrontPiece → Type 0 = λ x. Finds x c.exponent.result in
     subst P (exponent_at c.args.base _ _ c.in-Some.c c.in-Some.ensures.parts c.if-is_point.ensures c.if-contains.ensures c.if-is_decimal-2.ensures) c.exponent.ensures
