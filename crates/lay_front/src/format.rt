@@ -175,7 +175,9 @@ fn item_text(alloc: Global, stream: &mut Stream, item: &Item) -> Result<Text, No
     stream.clear();
     put_item(stream, item)?;
     stream.brk(HARD_BREAK)?;
-    plain(alloc, stream)
+    let text = plain(alloc, stream)?;
+    stream.clear();
+    Ok(text)
 }
 
 /// The first line of a file, if it is a shebang.

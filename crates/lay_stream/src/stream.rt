@@ -10,6 +10,9 @@ use lay_token::{Break, NoMemory, Text, Tok};
 use std::alloc::Global;
 use std::marker::Model;
 
+/// The greatest room that is kept, in tokens.
+const KEPT: usize = 1024;
+
 /// A list of tokens, in which each `End` closes a group. `NoMemory` leaves it as it was.
 #[derive(Debug, Drop)]
 pub struct Stream {
@@ -40,11 +43,15 @@ impl Stream {
         }
     }
 
-    /// Takes all tokens away, and keeps their room for others.
+    /// Takes all tokens away. The room of a few is kept for others.
     pub fn clear(&mut self)
         ensures { self.new ≡ [] }
     {
-        self.toks.clear();
+        if self.toks.capacity() <= KEPT {
+            self.toks.clear();
+        } else {
+            self.toks = Vec::new(self.alloc);
+        }
     }
 
     /// All the tokens.

@@ -1,5 +1,4 @@
 use Rattle.std.proofs.Common.{List, ◌∙◌, sym, ap}
-use Rattle.std.proofs.lemmas.Result.{IfOk-weaker}
 use Rattle.lay_token.specs.declared.layout.Tok.{Tok}
 use Rattle.lay_token.specs.Machine.{opened}
 use Rattle.lay_token.proofs.Lines.{opened_document}
@@ -13,6 +12,6 @@ plain-requires c =
     ∙ opened_document (line_document (form_of_item c.args.item.now)) 0
 
 pub returns : goal.returns
-returns c = IfOk-weaker c.plain.result _ _
-    (λ t h. h (line_document (form_of_item c.args.item.now)) (line_listed _ (form_of_item c.args.item.now) _ _ _ _ _ c.clear.ensures c.in_ok-put_item.ensures c.in_ok-brk.ensures.did))
-    c.plain.ensures.document
+returns c =
+    c.in_ok-text.ensures.document (line_document (form_of_item c.args.item.now))
+    (line_listed _ (form_of_item c.args.item.now) _ _ _ _ _ c.clear.ensures c.in_ok-put_item.ensures c.in_ok-brk.ensures.did)
