@@ -1,1 +1,1 @@
--- The program states nothing of its own.
+pub mod Exit

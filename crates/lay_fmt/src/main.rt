@@ -1,6 +1,9 @@
 //! The program: the real objects, one call, and its status as exit status.
 #![tactic(auto)]
 
+ghost use Rattle.std.specs.Prelude.{◌≡◌};
+ghost use Rattle.lay_fmt.specs.Exit.{number_of};
+
 use lay_front::{Status, run};
 use lay_io::{HostInputs, HostSink};
 use lay_token::{NoMemory, Text};
@@ -54,7 +57,10 @@ fn words(rt: &(impl Env + AllocGlobal), alloc: Global) -> Result<Vec<Text>, NoWo
     Ok(words)
 }
 
-fn exit_status(status: Status) -> u8 {
+/// The exit status that stands for an outcome.
+fn exit_status(status: Status) -> u8
+    ensures { result ≡ number_of status }
+{
     match status {
         Status::Done => 0,
         Status::Differs => 1,

@@ -1,6 +1,6 @@
 //! The command.
 ghost use Rattle.std.specs.Prelude.{◌≡◌, ◌≢◌, ◌<◌, ◌≤◌, ◌↔◌, ◌⊎◌, ℕ, List as Items, [], length, None, Some};
-ghost use Rattle.lay_io.specs.Faults.{Rose};
+ghost use Rattle.lay_io.specs.Faults.{Rose, SameLoan};
 ghost use Rattle.lay_io.specs.Told.{GrewBy};
 ghost use Rattle.lay_io.specs.declared.outside.Which.{Which};
 ghost use Rattle.lay_io.specs.declared.outside.Which.TheVariants.{Stdin};
@@ -54,6 +54,10 @@ pub fn run<I: Inputs, K: Sink, E: Sink>(
     ensures untouched { 0 < length words.now → (inputs.new ≡ inputs.old) × (out.new ≡ out.old) }
     ensures silent { err.new ≡ err.old }
 
+    // No count falls, and the sink that comes back holds the loan that it held.
+    ensures later { (I.faults inputs.old ≤ I.faults inputs.new) × (K.faults out.old ≤ K.faults out.new) }
+    ensures loan { SameLoan (K.loan out.old) (K.loan out.new) }
+
     // Without one standard input is formatted: the cause of each answer, and what it leaves.
     ensures chosen { words.now ≡ [] → I.chosen inputs.new ≡ Some Stdin }
     ensures format { words.now ≡ [] → FormatRun K.written K.faults I.left I.faults Stdin inputs.old inputs.new out.old out.new result }
@@ -93,6 +97,8 @@ fn format_input<I: Inputs, K: Sink>(
 ) -> Status
     requires { I.chosen inputs.old ≡ None }
     ensures chosen { I.chosen inputs.new ≡ Some which }
+    ensures later { (I.faults inputs.old ≤ I.faults inputs.new) × (K.faults out.old ≤ K.faults out.new) }
+    ensures loan { SameLoan (K.loan out.old) (K.loan out.new) }
     ensures run { FormatRun K.written K.faults I.left I.faults which inputs.old inputs.new out.old out.new result }
 {
     inputs.choose(which);

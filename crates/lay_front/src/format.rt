@@ -1,6 +1,6 @@
 //! From bytes to laid-out bytes in a sink.
 ghost use Rattle.std.specs.Prelude.{◌≡◌, ◌≤◌, ◌⊎◌, ℕ, List as Items, [], ◌++◌, map, Err, IfOk, OnOk, OnErr, IsOk, IsErrOf};
-ghost use Rattle.lay_io.specs.Faults.{HasCause, Rose};
+ghost use Rattle.lay_io.specs.Faults.{HasCause, Rose, SameLoan};
 ghost use Rattle.lay_io.specs.Told.{GrewBy, GrewByPrefix};
 ghost use Rattle.lay_io.specs.Calls.{Puts};
 ghost use Rattle.lay_token.specs.declared.refusal.Refusal.{Refusal};
@@ -46,6 +46,7 @@ const PIECE: usize = 65_536;
 /// they are refused.
 pub fn format_into<K: Sink>(alloc: Global, bytes: &[u8], out: &mut K) -> Result<(), IntoError>
     ensures later { K.faults out.old ≤ K.faults out.new }
+    ensures loan { SameLoan (K.loan out.old) (K.loan out.new) }
 
     // The cause of each answer, and what it leaves.
     ensures formats { Formats K.written K.faults bytes.now out.old out.new result }
@@ -67,6 +68,7 @@ pub fn format_into<K: Sink>(alloc: Global, bytes: &[u8], out: &mut K) -> Result<
 /// Reads the bytes to their file, and writes its text.
 fn format_bytes<K: Sink>(alloc: Global, bytes: &[u8], out: &mut K) -> Result<(), IntoError>
     ensures later { K.faults out.old ≤ K.faults out.new }
+    ensures loan { SameLoan (K.loan out.old) (K.loan out.new) }
     ensures formats { Formats K.written K.faults bytes.now out.old out.new result }
 {
     let file = match read_bytes(alloc, bytes) {
@@ -84,6 +86,7 @@ fn format_bytes<K: Sink>(alloc: Global, bytes: &[u8], out: &mut K) -> Result<(),
 /// Writes the text of a file, in pieces.
 fn write_file<K: Sink>(alloc: Global, file: &File, out: &mut K) -> Result<(), WriteError>
     ensures later { K.faults out.old ≤ K.faults out.new }
+    ensures loan { SameLoan (K.loan out.old) (K.loan out.new) }
     ensures whole { OnOk result (GrewBy (K.written out.old) (K.written out.new) (text_of_file file.now)) }
     ensures part { OnErr result (GrewByPrefix (K.written out.old) (K.written out.new) (text_of_file file.now)) }
     ensures cause { IsErrOf result WriteError.WriteFailed → Rose (K.faults out.old) (K.faults out.new) }
@@ -112,6 +115,7 @@ fn write_attrs<K: Sink>(
     out: &mut K,
 ) -> Result<(), WriteError>
     ensures later { K.faults out.old ≤ K.faults out.new }
+    ensures loan { SameLoan (K.loan out.old) (K.loan out.new) }
     ensures passed { OnOk result (Passed (K.written out.old) (K.written out.new) (waiting.old.items ++ all_lines (map attr_form attrs.now)) waiting.new.items) }
     ensures part { OnErr result (GrewByPrefix (K.written out.old) (K.written out.new) (waiting.old.items ++ all_lines (map attr_form attrs.now))) }
     ensures cause { IsErrOf result WriteError.WriteFailed → Rose (K.faults out.old) (K.faults out.new) }
@@ -136,6 +140,7 @@ fn write_items<K: Sink>(
     out: &mut K,
 ) -> Result<(), WriteError>
     ensures later { K.faults out.old ≤ K.faults out.new }
+    ensures loan { SameLoan (K.loan out.old) (K.loan out.new) }
     ensures passed { OnOk result (Passed (K.written out.old) (K.written out.new) (waiting.old.items ++ all_lines (map form_of_item items.now)) waiting.new.items) }
     ensures part { OnErr result (GrewByPrefix (K.written out.old) (K.written out.new) (waiting.old.items ++ all_lines (map form_of_item items.now))) }
     ensures cause { IsErrOf result WriteError.WriteFailed → Rose (K.faults out.old) (K.faults out.new) }
@@ -187,6 +192,7 @@ fn first_line(alloc: Global, file: &File) -> Result<Vec<u8>, NoMemory>
 /// Lets bytes wait behind those that wait already, and writes them all once there are enough for a piece.
 fn write_behind<K: Sink>(waiting: &mut Vec<u8>, bytes: &[u8], out: &mut K) -> Result<(), WriteError>
     ensures later { K.faults out.old ≤ K.faults out.new }
+    ensures loan { SameLoan (K.loan out.old) (K.loan out.new) }
     ensures passed { OnOk result (Passed (K.written out.old) (K.written out.new) (waiting.old.items ++ bytes.now) waiting.new.items) }
     ensures part { OnErr result (GrewByPrefix (K.written out.old) (K.written out.new) (waiting.old.items ++ bytes.now)) }
     ensures cause { IsErrOf result WriteError.WriteFailed → Rose (K.faults out.old) (K.faults out.new) }
@@ -208,6 +214,7 @@ fn write_waiting<K: Sink>(waiting: &mut Vec<u8>, out: &mut K) -> Result<(), Fail
     ensures bytes { Puts (K.written out.old) (K.written out.new) result waiting.old.items }
     ensures none_waits { OnOk result (waiting.new.items ≡ []) }
     ensures cause { HasCause (K.faults out.old) (K.faults out.new) result }
+    ensures loan { SameLoan (K.loan out.old) (K.loan out.new) }
 {
     if waiting.is_empty() {
         return Ok(());

@@ -1,9 +1,15 @@
--- Objects in memory of which named calls fail.
-use Rattle.std.specs.Prelude.{ℕ, ◌⊎◌, List, Option, None, Some, Contains, IsNone}
-use Rattle.lay_io.specs.Kept.{Kept}
-use Rattle.lay_io.specs.Stored.{content_of}
-use Rattle.lay_io.specs.declared.outside.Which.{Which}
+-- Objects in memory of which named calls fail, and what one call of an object in memory does.
+use Rattle.std.specs.Prelude.{ℕ, ◌≡◌, ◌<◌, ◌≤◌, ◌↔◌, List, length, take, min, Contains, Result, IsOk, IsErr, OnOk, OnErr}
+use Rattle.lay_io.specs.Faults.{one_more, CountsOnce}
+use Rattle.lay_io.specs.Kept.{Kept, kept_behind, untold}
+use Rattle.lay_io.specs.declared.outside.Failed.{Failed}
 use Rattle.lay_io.specs.declared.inputs.MemoryInputs.{MemoryInputs}
+
+-- A write of a sink that never fails: it keeps a piece that fits, and behind one that doesn't fit it tells nothing.
+pub record QuietWrite (before : Kept) (piece : List ℕ) (result : Result (Unit {0}) Failed) (now : Kept) : Type 0 where
+  pub never : IsOk result
+  pub fits : length piece ≤ before.spare → now ≡ kept_behind before piece
+  pub too_much : before.spare < length piece → now ≡ untold before
 
 -- A sink: what it keeps, the numbers of the writes that fail and how much these keep, the writes and the faults so far.
 pub record Device : Type 0 where
@@ -13,22 +19,25 @@ pub record Device : Type 0 where
   pub writes : ℕ
   pub faults : ℕ
 
--- the reads so far
+-- A write of such a sink.
+pub record DeviceWrite (before : Device) (piece : List ℕ) (result : Result (Unit {0}) Failed) (now : Device) : Type 0 where
+  -- It fails exactly where its number is among those that fail.
+  pub failed : IsErr result ↔ Contains before.fail before.writes
+  -- Otherwise it keeps a piece that fits, and behind one that doesn't fit nothing is told.
+  pub fits : OnOk result (length piece ≤ before.kept.spare → now.kept ≡ kept_behind before.kept piece)
+  pub too_much : OnOk result (before.kept.spare < length piece → now.kept ≡ untold before.kept)
+  -- Where it fails it keeps the front of its piece, no more than such a write keeps and no more than fits.
+  pub cut : OnErr result (now.kept ≡ kept_behind before.kept (take (min before.keep before.kept.spare) piece))
+  -- Faults and writes are counted, and which writes fail stays as it was.
+  pub once : CountsOnce before.faults now.faults result
+  pub numbered : now.writes ≡ one_more before.writes
+  pub same_fail : now.fail ≡ before.fail
+  pub same_keep : now.keep ≡ before.keep
+
+-- how many reads there were of inputs in memory
 abbrev pub reads_of : MemoryInputs → ℕ
 reads_of inputs = inputs.reads
 
--- the numbers of the reads that fail
+-- the numbers of their reads that fail
 abbrev pub failing_reads : MemoryInputs → List ℕ
 failing_reads inputs = inputs.fail
-
--- the bytes of the chosen input at first, if it is there
-abbrev pub chosen_content : MemoryInputs → Option (List ℕ)
-chosen_content inputs = content_by inputs.chosen
-  where
-    content_by : Option Which → Option (List ℕ)
-    content_by None = None
-    content_by (Some which) = content_of inputs.stdin inputs.files which
-
--- The next read fails: its number is among those that fail, or the chosen input isn't there.
-abbrev pub NextFails : MemoryInputs → Type 0
-NextFails inputs = Contains (failing_reads inputs) (reads_of inputs) ⊎ IsNone (chosen_content inputs)

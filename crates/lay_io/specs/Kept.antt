@@ -1,13 +1,27 @@
 -- What a sink in memory keeps: what was written, unless a piece didn't fit, and how many more bytes fit.
-use Rattle.std.specs.Prelude.{ℕ, ◌-◌, List, Option, None, Some, if◌then◌else◌, vec_len, vec_capacity}
+use Rattle.std.specs.Prelude.{ℕ, ◌-◌, List, [], length, take, Option, None, Some, if◌then◌else◌}
+use Rattle.std.specs.Box.{boxed_slice_items, boxed_slice_len}
+use Rattle.lay_io.specs.Told.{put_behind}
 use Rattle.lay_io.specs.declared.room.Room.{Room}
 
 pub record Kept : Type 0 where
   pub bytes : Option (List ℕ)
   pub spare : ℕ
 
+-- nothing yet, in room for so many bytes
+abbrev pub empty : ℕ → Kept
+empty room = record { bytes = Some []; spare = room }
+
+-- a piece that fits stands behind what was kept, and takes its length of the room
+abbrev pub kept_behind : Kept → List ℕ → Kept
+kept_behind kept piece = record { bytes = put_behind kept.bytes piece; spare = kept.spare - length piece }
+
+-- behind a piece that doesn't fit nothing is told, and the room is as it was: no memory was taken
+abbrev pub untold : Kept → Kept
+untold kept = record { bytes = None; spare = kept.spare }
+
 abbrev pub kept_in : Room → Kept
 kept_in room = record {
-  bytes = if room.fits then Some room.bytes.items else None;
-  spare = vec_capacity room.bytes - vec_len room.bytes;
+  bytes = if room.fits then Some (take room.used (boxed_slice_items room.bytes)) else None;
+  spare = boxed_slice_len room.bytes - room.used;
 }

@@ -4,3 +4,4 @@ pub mod Calls
 pub mod Stored
 pub mod Kept
 pub mod Devices
+pub mod Lending

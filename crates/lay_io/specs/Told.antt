@@ -13,6 +13,10 @@ put_behind told bytes = option_map (λ start. start ++ bytes) told
 abbrev pub TellsAs : Option (List ℕ) → List ℕ → Type 0
 TellsAs told bytes = IfSome told (λ all. all ≡ bytes)
 
+-- What is told now is an end of what was told before.
+abbrev pub IsEnd : Option (List ℕ) → Option (List ℕ) → Type 0
+IsEnd before now = (taken : List ℕ) × (before ≡ put_before taken now)
+
 -- Where it tells now, it told before, and has grown by these bytes.
 abbrev pub GrewBy : Option (List ℕ) → Option (List ℕ) → List ℕ → Type 0
 GrewBy before now bytes = IfSome now (λ all. put_behind before bytes ≡ Some all)

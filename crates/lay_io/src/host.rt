@@ -1,6 +1,9 @@
 //! The trusted edge: the system's streams. These objects tell nothing of content.
-ghost use Rattle.std.specs.Prelude.{◌≡◌, None};
+ghost use Rattle.std.specs.Prelude.{◌≡◌, ◌≢◌, None, IsSome};
 ghost use Rattle.std.specs.Io.{ReadsAtMost};
+ghost use Rattle.lay_io.specs.Calls.{Takes, left_of};
+ghost use Rattle.lay_io.specs.Faults.{CountsOnce, HasCause};
+ghost use Rattle.lay_io.specs.declared.outside.Which.{Which};
 
 use crate::outside::{Failed, Inputs, Sink, Which};
 use std::io::Read;
@@ -51,7 +54,21 @@ impl<R: Input> Inputs for HostInputs<R> {
         self.chosen = Some(which);
     }
 
-    fn read(&mut self, buf: &mut [u8]) -> Result<usize, Failed> {
+    fn read(&mut self, buf: &mut [u8]) -> Result<usize, Failed>
+        requires { IsSome (⟦<HostInputs<R> as Inputs>⟧.chosen self.old) }
+
+        // As for all inputs.
+        ensures bound { ReadsAtMost result buf.new }
+        ensures chosen { ⟦<HostInputs<R> as Inputs>⟧.chosen self.new ≡ ⟦<HostInputs<R> as Inputs>⟧.chosen self.old }
+        ensures others { (w : Which) → ⟦<HostInputs<R> as Inputs>⟧.chosen self.old ≢ Some w
+            → ⟦<HostInputs<R> as Inputs>⟧.left self.new w ≡ ⟦<HostInputs<R> as Inputs>⟧.left self.old w }
+        ensures bytes { let chosen = ⟦<HostInputs<R> as Inputs>⟧.chosen self.old in
+            Takes (left_of chosen (⟦<HostInputs<R> as Inputs>⟧.left self.old)) (left_of chosen (⟦<HostInputs<R> as Inputs>⟧.left self.new)) result buf.new }
+        ensures cause { HasCause (⟦<HostInputs<R> as Inputs>⟧.faults self.old) (⟦<HostInputs<R> as Inputs>⟧.faults self.new) result }
+
+        // Each failure is counted once.
+        ensures once { CountsOnce (⟦<HostInputs<R> as Inputs>⟧.faults self.old) (⟦<HostInputs<R> as Inputs>⟧.faults self.new) result }
+    {
         match self.read_once(buf) {
             Ok(count) => Ok(count),
             Err(Failed) => {
@@ -69,7 +86,7 @@ enum Stream {
     Stderr,
 }
 
-/// Standard output or standard error.
+/// Standard output or standard error. Each failure is counted once.
 #[derive(Drop)]
 pub struct HostSink<'a, R: Print + Eprint> {
     runtime: &'a R,
@@ -116,6 +133,8 @@ impl<'a, R: Print + Eprint> Sink for HostSink<'a, R> {
     ghost written = { λ _. None };
 
     ghost faults = { λ s. s.faults };
+
+    ghost wrote = { λ s _ answer t. CountsOnce s.faults t.faults answer };
 
     fn write(&mut self, piece: &[u8]) -> Result<(), Failed> {
         match self.write_once(piece) {

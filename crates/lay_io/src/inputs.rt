@@ -1,10 +1,10 @@
 //! Inputs in memory.
-ghost use Rattle.std.specs.Prelude.{◌≡◌, ◌≢◌, ◌+◌, ◌-◌, ◌^◌, [], None, Some, min, unwrap_or, IsErr, IsSome, OnOk, ◌↔◌};
+ghost use Rattle.std.specs.Prelude.{◌≡◌, ◌≢◌, ◌⊎◌, ◌↔◌, [], None, Some, Contains, unwrap_or, IsErr, IsNone, IsOk, IsSome};
 ghost use Rattle.std.specs.Io.{ReadsAtMost};
 ghost use Rattle.lay_io.specs.declared.outside.Which.{Which};
 ghost use Rattle.lay_io.specs.Stored.{content_of, left_after};
 ghost use Rattle.lay_io.specs.Calls.{Takes, left_of};
-ghost use Rattle.lay_io.specs.Faults.{HasCause};
+ghost use Rattle.lay_io.specs.Faults.{CountsOnce, HasCause, one_more};
 
 use crate::outside::{Failed, Inputs, Which};
 use crate::stored::{NamedFile, content, content_or_empty, take_next};
@@ -46,7 +46,20 @@ impl Inputs for QuietInputs {
         self.chosen = Some(which);
     }
 
-    fn read(&mut self, buf: &mut [u8]) -> Result<usize, Failed> {
+    fn read(&mut self, buf: &mut [u8]) -> Result<usize, Failed>
+        requires { IsSome (⟦<QuietInputs as Inputs>⟧.chosen self.old) }
+
+        // As for all inputs.
+        ensures bound { ReadsAtMost result buf.new }
+        ensures chosen { ⟦<QuietInputs as Inputs>⟧.chosen self.new ≡ ⟦<QuietInputs as Inputs>⟧.chosen self.old }
+        ensures others { (w : Which) → ⟦<QuietInputs as Inputs>⟧.chosen self.old ≢ Some w
+            → ⟦<QuietInputs as Inputs>⟧.left self.new w ≡ ⟦<QuietInputs as Inputs>⟧.left self.old w }
+        ensures bytes { let chosen = ⟦<QuietInputs as Inputs>⟧.chosen self.old in
+            Takes (left_of chosen (⟦<QuietInputs as Inputs>⟧.left self.old)) (left_of chosen (⟦<QuietInputs as Inputs>⟧.left self.new)) result buf.new }
+        ensures cause { HasCause 0 0 result }
+
+        ensures never { IsOk result }
+    {
         match &self.chosen {
             None => unreachable!(),
             Some(which) => {
@@ -58,7 +71,7 @@ impl Inputs for QuietInputs {
 }
 
 /// Inputs of which the reads with these numbers fail, counted from 0. A file that isn't in the list of files
-/// fails at each read. Each failure is counted.
+/// fails at each read. Each failure is counted once.
 #[derive(Debug, Drop)]
 pub struct MemoryInputs {
     stdin: List<u8>,
@@ -72,7 +85,7 @@ pub struct MemoryInputs {
 }
 
 impl MemoryInputs {
-    ghost use Rattle.lay_io.specs.Devices.{reads_of, failing_reads};
+    ghost use Rattle.lay_io.specs.Devices.{failing_reads, reads_of};
 
     /// Inputs of which none is chosen, with these bytes to come.
     pub fn new(stdin: List<u8>, files: List<NamedFile>, fail: List<u64>) -> MemoryInputs
@@ -95,7 +108,7 @@ impl MemoryInputs {
 }
 
 impl Inputs for MemoryInputs {
-    ghost use Rattle.lay_io.specs.Devices.{reads_of, failing_reads, NextFails};
+    ghost use Rattle.lay_io.specs.Devices.{failing_reads, reads_of};
 
     ghost left = { λ s w. left_after s.chosen s.taken (content_of s.stdin s.files w) w };
 
@@ -126,10 +139,13 @@ impl Inputs for MemoryInputs {
             Takes (left_of chosen (⟦<MemoryInputs as Inputs>⟧.left self.old)) (left_of chosen (⟦<MemoryInputs as Inputs>⟧.left self.new)) result buf.new }
         ensures cause { HasCause (⟦<MemoryInputs as Inputs>⟧.faults self.old) (⟦<MemoryInputs as Inputs>⟧.faults self.new) result }
 
-        // When a read fails, and that nothing else is counted.
-        ensures failed { IsErr result ↔ NextFails self.old }
-        ensures uncounted { OnOk result (⟦<MemoryInputs as Inputs>⟧.faults self.new ≡ ⟦<MemoryInputs as Inputs>⟧.faults self.old) }
-        ensures counted { reads_of self.new ≡ min (reads_of self.old + 1) (2 ^ 64 - 1) }
+        // A read fails exactly where its number is among those that fail, or the chosen input isn't there.
+        ensures failed { IsErr result ↔ (Contains (failing_reads self.old) (reads_of self.old)
+            ⊎ IsNone (left_of (⟦<MemoryInputs as Inputs>⟧.chosen self.old) (⟦<MemoryInputs as Inputs>⟧.left self.old))) }
+
+        // Each failure is counted once, and each read; which reads fail stays as it was.
+        ensures once { CountsOnce (⟦<MemoryInputs as Inputs>⟧.faults self.old) (⟦<MemoryInputs as Inputs>⟧.faults self.new) result }
+        ensures numbered { reads_of self.new ≡ one_more (reads_of self.old) }
         ensures same { failing_reads self.new ≡ failing_reads self.old }
     {
         let number = self.reads;

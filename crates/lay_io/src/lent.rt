@@ -11,21 +11,27 @@ pub struct Lent<'a, K: Sink> {
 }
 
 impl<'a, K: Sink> Lent<'a, K> {
+    ghost use Rattle.lay_io.specs.Lending.{lent_sink, loan_of};
+
     /// Stands for the sink, as long as it is lent. It takes no memory.
     pub fn new(sink: &'a mut K) -> Lent<'a, K>
-        ensures now { result.sink.now ≡ sink.entry.now }
-        ensures same_reference { result.sink.ghost_name ≡ sink.entry.ghost_name }
+        ensures now { lent_sink result ≡ sink.entry.now }
+        ensures same_reference { loan_of result ≡ sink.entry.ghost_name }
     {
         Lent { sink }
     }
 }
 
 impl<'a, K: Sink> Sink for Lent<'a, K> {
-    ghost written = { λ s. K.written s.sink.now };
+    ghost use Rattle.lay_io.specs.Lending.{lent_sink, loan_of};
 
-    ghost faults = { λ s. K.faults s.sink.now };
+    ghost written = { λ s. K.written (lent_sink s) };
 
-    ghost loan = { λ s. s.sink.ghost_name };
+    ghost faults = { λ s. K.faults (lent_sink s) };
+
+    ghost loan = { loan_of };
+
+    ghost wrote = { λ s piece answer t. K.wrote (lent_sink s) piece answer (lent_sink t) };
 
     fn write(&mut self, piece: &[u8]) -> Result<(), Failed> {
         self.sink.write(piece)

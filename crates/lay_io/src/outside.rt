@@ -1,8 +1,9 @@
 //! What the outside is to a caller.
-ghost use Rattle.std.specs.Prelude.{◌≡◌, ◌≢◌, ℕ, List, Option, None, Some, IsSome};
+ghost use Rattle.std.specs.Prelude.{◌≡◌, ◌≢◌, ℕ, List, Option, None, Some, IsSome, Result};
 ghost use Rattle.std.specs.Io.{ReadsAtMost};
 ghost use Rattle.lay_io.specs.Faults.{HasCause, SameLoan};
 ghost use Rattle.lay_io.specs.Calls.{Puts, Takes, left_of};
+ghost use Rattle.lay_io.specs.declared.outside.Failed.{Failed};
 ghost use Rattle.lay_io.specs.declared.outside.Which.{Which};
 
 use lay_token::Text;
@@ -61,9 +62,14 @@ pub trait Sink {
     /// that the owner knows which sink comes back.
     ghost loan: { Self → ℕ } = { λ _. 0 };
 
+    /// What an object says of a write of its own, beside what all sinks say: of the object before, the piece, the
+    /// answer and the object after. If it says nothing, this holds of every write.
+    ghost wrote: { Self → List ℕ → Result (Unit {0}) Failed → Self → Type 0 } = { λ _ _ _ _. Unit {0} };
+
     /// Appends the piece. `Failed` appends a prefix of it, and is counted.
     fn write(&mut self, piece: &[u8]) -> Result<(), Failed>
         ensures bytes { Puts (written self.old) (written self.new) result piece.now }
         ensures cause { HasCause (faults self.old) (faults self.new) result }
-        ensures loan { SameLoan (loan self.old) (loan self.new) };
+        ensures loan { SameLoan (loan self.old) (loan self.new) }
+        ensures one { wrote self.old piece.now result self.new };
 }

@@ -1,8 +1,9 @@
 //! Reading an input to its end.
-ghost use Rattle.std.specs.Prelude.{◌≡◌, ◌<◌, ◌≤◌, ◌^◌, [], length, IsSome, IfSome, IfOk, OnOk, IsErrOf};
+ghost use Rattle.std.specs.Prelude.{◌≡◌, ◌≢◌, ◌<◌, ◌≤◌, ◌^◌, [], length, Some, IsSome, IfSome, IfOk, OnOk, IsErrOf};
 ghost use Rattle.lay_io.specs.Faults.{Rose};
-ghost use Rattle.lay_io.specs.Told.{TellsAs};
+ghost use Rattle.lay_io.specs.Told.{IsEnd, TellsAs};
 ghost use Rattle.lay_io.specs.Calls.{left_of};
+ghost use Rattle.lay_io.specs.declared.outside.Which.{Which};
 
 use crate::outside::{Failed, Inputs};
 use lay_token::List;
@@ -29,7 +30,10 @@ pub fn read_all<I: Inputs>(
     requires chosen { IsSome (I.chosen inputs.old) }
     requires small { limit < 2 ^ 32 }
 
+    // What each answer leaves: of the chosen input an end of what was left, and of each other what was left.
     ensures same { I.chosen inputs.new ≡ I.chosen inputs.old }
+    ensures rest { IsEnd (left_of (I.chosen inputs.old) (I.left inputs.old)) (left_of (I.chosen inputs.old) (I.left inputs.new)) }
+    ensures others { (w : Which) → I.chosen inputs.old ≢ Some w → I.left inputs.new w ≡ I.left inputs.old w }
     ensures later { I.faults inputs.old ≤ I.faults inputs.new }
 
     // Ok is all that was left, read to its end.

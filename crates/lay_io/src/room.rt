@@ -1,35 +1,45 @@
 //! Bytes that are kept in room which was taken first.
-ghost use Rattle.std.specs.Prelude.{◌≡◌, ◌+◌, ◌-◌, ◌≤◌, [], true, length, vec_len, vec_capacity, IfOk, Some};
-ghost use Rattle.lay_io.specs.Kept.{Kept, kept_in};
-ghost use Rattle.lay_io.specs.Told.{GrewBy, put_behind};
+ghost use Rattle.std.specs.Prelude.{◌≡◌, ◌+◌, ◌<◌, ◌≤◌, ◌++◌, length, take, IfOk, IfSome};
+ghost use Rattle.std.specs.Box.{boxed_slice_len};
 
 use lay_token::NoMemory;
 use std::alloc::Global;
+use std::boxed::BoxedSlice;
 
-/// The bytes, and whether every piece has fitted.
+/// Room of a fixed length, how much of it is used, and whether every piece has fitted.
 #[derive(Debug, Drop)]
 pub struct Room {
-    pub bytes: Vec<u8>,
+    pub bytes: BoxedSlice<u8>,
+    pub used: usize,
     pub fits: bool,
+    ghost within: { used ≤ boxed_slice_len bytes },
 }
 
 impl Room {
+    ghost use Rattle.lay_io.specs.Told.{GrewBy};
+    ghost use Rattle.lay_io.specs.Kept.{empty, kept_behind, kept_in, untold};
+
     /// No room.
     pub fn new(alloc: Global) -> Room
-        ensures { (result.bytes.items ≡ []) × (result.fits ≡ true) }
+        ensures { kept_in result ≡ empty 0 }
     {
         Room {
-            bytes: Vec::new(alloc),
+            bytes: Vec::new(alloc).into_boxed_slice(),
+            used: 0,
             fits: true,
         }
     }
 
     /// Room for so many bytes.
     pub fn with_room(alloc: Global, n: usize) -> Result<Room, NoMemory>
-        ensures { IfOk result (λ room. kept_in room ≡ record { bytes = Some []; spare = n }) }
+        ensures { IfOk result (λ room. kept_in room ≡ empty n) }
     {
-        match Vec::with_capacity(alloc, n) {
-            Ok(bytes) => Ok(Room { bytes, fits: true }),
+        match vec![in alloc; 0u8; n] {
+            Ok(bytes) => Ok(Room {
+                bytes: bytes.into_boxed_slice(),
+                used: 0,
+                fits: true,
+            }),
             Err(_) => Err(NoMemory),
         }
     }
@@ -38,21 +48,35 @@ impl Room {
     pub fn left(&self) -> usize
         ensures { result ≡ (kept_in self.now).spare }
     {
-        self.bytes.capacity() - self.bytes.len()
+        self.bytes.len() - self.used
     }
 
-    /// Keeps the piece. Where it doesn't fit, nothing is told any more.
-    pub fn put(&mut self, piece: &[u8])
-        ensures grew { GrewBy (kept_in self.old).bytes (kept_in self.new).bytes piece.now }
-        ensures fits { length piece.now ≤ (kept_in self.old).spare → (kept_in self.new).bytes ≡ put_behind (kept_in self.old).bytes piece.now }
-        ensures spare { (kept_in self.old).spare ≤ (kept_in self.new).spare + length piece.now }
+    /// What is kept: what was put, where every piece has fitted.
+    pub fn kept(&self) -> &[u8]
+        ensures { IfSome (kept_in self.now).bytes (λ bytes. result.now ≡ bytes) }
     {
-        if piece.len() <= self.left() {
-            if self.bytes.extend_from_slice(piece).is_err() {
-                self.fits = false;
-            }
-        } else {
-            self.fits = false;
-        }
+        &self.bytes.as_slice()[..self.used]
     }
+
+    /// Keeps the piece. Where it doesn't fit, nothing is told any more. It takes no memory.
+    pub fn put(&mut self, piece: &[u8])
+        ensures fits { length piece.now ≤ (kept_in self.old).spare → kept_in self.new ≡ kept_behind (kept_in self.old) piece.now }
+        ensures too_much { (kept_in self.old).spare < length piece.now → kept_in self.new ≡ untold (kept_in self.old) }
+        ensures grew { GrewBy (kept_in self.old).bytes (kept_in self.new).bytes piece.now }
+    {
+        if piece.len() > self.left() {
+            self.fits = false;
+            return;
+        }
+        put_at(self.bytes.as_mut_slice(), self.used, piece);
+        self.used += piece.len();
+    }
+}
+
+/// Puts a piece behind the bytes that are used.
+fn put_at(bytes: &mut [u8], used: usize, piece: &[u8])
+    requires { used + length piece.now ≤ length bytes.old }
+    ensures { take (used + length piece.now) bytes.new ≡ take used bytes.old ++ piece.now }
+{
+    bytes[used..used + piece.len()].copy_from_slice(piece);
 }

@@ -1,8 +1,6 @@
 //! Sinks in memory. What they keep stands in room that was taken first.
-ghost use Rattle.std.specs.Prelude.{◌≡◌, ◌+◌, ◌-◌, ◌^◌, ◌≤◌, [], Some, length, take, min, Contains, IfOk, IfSome, IsErr, IsOk, OnErr, OnOk, ◌↔◌};
-ghost use Rattle.lay_io.specs.Told.{GrewBy, put_behind};
-ghost use Rattle.lay_io.specs.Calls.{Puts};
-ghost use Rattle.lay_io.specs.Faults.{HasCause, SameLoan};
+ghost use Rattle.std.specs.Prelude.{◌≡◌, IfOk, IfSome};
+ghost use Rattle.lay_io.specs.Kept.{empty};
 
 use crate::outside::{Failed, Sink};
 use crate::room::Room;
@@ -28,7 +26,7 @@ impl Model for QuietSink {
 impl QuietSink {
     /// A sink without room. It takes no memory.
     pub fn new(alloc: Global) -> QuietSink
-        ensures { result.bytes ≡ Some [] }
+        ensures { result ≡ empty 0 }
     {
         QuietSink {
             room: Room::new(alloc),
@@ -37,7 +35,7 @@ impl QuietSink {
 
     /// A sink with room for `n` bytes.
     pub fn with_room(alloc: Global, n: usize) -> Result<QuietSink, NoMemory>
-        ensures { IfOk result (λ sink. sink ≡ record { bytes = Some []; spare = n }) }
+        ensures { IfOk result (λ sink. sink ≡ empty n) }
     {
         match Room::with_room(alloc, n) {
             Ok(room) => Ok(QuietSink { room }),
@@ -49,23 +47,20 @@ impl QuietSink {
     pub fn bytes(&self) -> &[u8]
         ensures { IfSome self.now.bytes (λ bytes. result.now ≡ bytes) }
     {
-        self.room.bytes.as_slice()
+        self.room.kept()
     }
 }
 
 impl Sink for QuietSink {
+    ghost use Rattle.lay_io.specs.Devices.{QuietWrite};
+
     ghost written = { λ s. s.bytes };
 
     ghost faults = { λ _. 0 };
 
-    fn write(&mut self, piece: &[u8]) -> Result<(), Failed>
-        ensures bytes { Puts self.old.bytes self.new.bytes result piece.now }
-        ensures cause { HasCause 0 0 result }
-        ensures loan { SameLoan 0 0 }
-        ensures never { IsOk result }
-        ensures fits { length piece.now ≤ self.old.spare → self.new.bytes ≡ put_behind self.old.bytes piece.now }
-        ensures spare { self.old.spare ≤ self.new.spare + length piece.now }
-    {
+    ghost wrote = { QuietWrite };
+
+    fn write(&mut self, piece: &[u8]) -> Result<(), Failed> {
         self.room.put(piece);
         Ok(())
     }
@@ -99,7 +94,7 @@ impl MemorySink {
         fail: List<u64>,
         keep: usize,
     ) -> Result<MemorySink, NoMemory>
-        ensures { IfOk result (λ sink. sink ≡ record { kept = record { bytes = Some []; spare = room }; fail = fail; keep = keep; writes = 0; faults = 0 }) }
+        ensures { IfOk result (λ sink. sink ≡ record { kept = empty room; fail = fail; keep = keep; writes = 0; faults = 0 }) }
     {
         match Room::with_room(alloc, room) {
             Ok(room) => Ok(MemorySink {
@@ -117,25 +112,20 @@ impl MemorySink {
     pub fn bytes(&self) -> &[u8]
         ensures { IfSome self.now.kept.bytes (λ bytes. result.now ≡ bytes) }
     {
-        self.room.bytes.as_slice()
+        self.room.kept()
     }
 }
 
 impl Sink for MemorySink {
+    ghost use Rattle.lay_io.specs.Devices.{DeviceWrite};
+
     ghost written = { λ s. s.kept.bytes };
 
     ghost faults = { λ s. s.faults };
 
-    fn write(&mut self, piece: &[u8]) -> Result<(), Failed>
-        ensures bytes { Puts self.old.kept.bytes self.new.kept.bytes result piece.now }
-        ensures cause { HasCause self.old.faults self.new.faults result }
-        ensures loan { SameLoan 0 0 }
-        ensures failed { IsErr result ↔ Contains self.old.fail self.old.writes }
-        ensures uncounted { OnOk result (self.new.faults ≡ self.old.faults) }
-        ensures keeps { OnErr result (GrewBy self.old.kept.bytes self.new.kept.bytes (take (min self.old.keep self.old.kept.spare) piece.now)) }
-        ensures counted { self.new.writes ≡ min (self.old.writes + 1) (2 ^ 64 - 1) }
-        ensures same { (self.new.fail ≡ self.old.fail) × (self.new.keep ≡ self.old.keep) }
-    {
+    ghost wrote = { DeviceWrite };
+
+    fn write(&mut self, piece: &[u8]) -> Result<(), Failed> {
         let number = self.writes;
         self.writes = self.writes.saturating_add(1);
         if !self.fail.as_slice().contains(&number) {

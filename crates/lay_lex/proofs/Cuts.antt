@@ -1,16 +1,14 @@
 -- Characters and bytes at the ends of texts.
-use Rattle.std.proofs.Common.{◌≡◌, inl, inr, ℕ, zero, suc, ◌-◌, ◌≤◌, List, [], ◌∷◌, ◌++◌, Bool, true, false, ◌||◌, sym, refl, ap, ◌∙◌, subst, arith, length, take, drop, IsUtf8, length-append}
+use Rattle.std.proofs.Common.{◌≡◌, ℕ, zero, suc, ◌-◌, List, [], ◌∷◌, ◌++◌, sym, refl, ap, ◌∙◌, subst, arith, length, take, drop, IsUtf8, length-append}
 use Rattle.std.specs.Prelude.{◌==◌}
 use Rattle.std.specs.List.{list_any}
 use Rattle.std.specs.Str.{chars, encode_utf8_all, IsCharBoundary}
 use Rattle.std.proofs.Math.Seq.{take-append_seam, drop-append_seam}
-use Rattle.std.proofs.lemmas.Bool.{cases_lt, ne_eqb, and_parts}
 use Rattle.std.proofs.lemmas.List.{append-nil}
-use Rattle.std.proofs.lemmas.List.Folds.{list_any-append}
-use Rattle.std.proofs.lemmas.Str.{encodes-append, encodes-chars, encodes_same, encode_ascii, scalars-chars, chars-encodes, chars-nil, IsCharBoundary-at_seam}
-use lib.Utf8.{encode, scalar, scalars}
+use Rattle.std.proofs.lemmas.Str.{encodes-append, encodes-chars, encodes_same, scalars-chars, chars-encodes, chars-nil, IsCharBoundary-at_seam}
+use lib.Utf8.{encode, scalars}
 use Rattle.lay_token.specs.Lexes.{size}
-use Rattle.lay_lex.proofs.Folds.{IsHigh, high}
+use Rattle.lay_token.proofs.Encoding.{any_encodes, no_one, scalars_parts}
 
 -- a text without its last character
 snoc : (s t : List ℕ) (c : ℕ) → IsUtf8 s → IsUtf8 t → s ≡ t ++ encode c → chars s ≡ chars t ++ c ∷ []
@@ -33,40 +31,8 @@ pub without_none : (s : List ℕ) (n : ℕ) → length s ≡ 0 → chars s ≡ t
 without_none [] n h = rw chars-nil (take_nil (0 - n))
 without_none (c ∷ s) n h = absurd (omega arith)
 
--- an LF among the bytes
-high_any : (xs : List ℕ) → IsHigh xs → list_any (λ c. c == 10) xs ≡ false
-high_any [] h = refl
-high_any (x ∷ xs) h =
-    let big : 128 ≤ x = h 0 (omega arith) in
-    let no : x == 10 ≡ false = ne_eqb x 10 (λ e. absurd (omega arith)) in
-    rw no (high_any xs (λ k l. h (suc k) (omega arith)))
-
-first_any : (c : ℕ) → list_any (λ d. d == 10) (encode c) ≡ c == 10
-first_any c = elim (cases_lt c 128) [
-  | inl s ↦ ap (list_any (λ d. d == 10)) (encode_ascii c s) ∙ or_false (c == 10)
-  | inr g ↦ high_any (encode c) (high c g) ∙ sym (ne_eqb c 10 (λ e. absurd (omega arith)))
-]
-  where
-    or_false : (b : Bool) → b || false ≡ b
-    or_false true = refl
-    or_false false = refl
-
-any-encodes : (cs : List ℕ) → list_any (λ d. d == 10) (encode_utf8_all cs) ≡ list_any (λ d. d == 10) cs
-any-encodes [] = refl
-any-encodes (c ∷ cs) =
-    list_any-append (λ d. d == 10) (encode c) (encode_utf8_all cs)
-    ∙ ap (λ b. b || list_any (λ d. d == 10) (encode_utf8_all cs)) (first_any c) ∙ ap (λ b. c == 10 || b) (any-encodes cs)
-
 pub any-chars : (s : List ℕ) → IsUtf8 s → list_any (λ d. d == 10) s ≡ list_any (λ d. d == 10) (chars s)
-any-chars s u = ap (list_any (λ d. d == 10)) (sym (encodes-chars s u)) ∙ any-encodes (chars s)
-
--- a text cut where some of its characters end
-pub scalars_parts : (x y : List ℕ) → scalars (x ++ y) ≡ true → (scalars x ≡ true) × (scalars y ≡ true)
-scalars_parts [] y h = (refl, h)
-scalars_parts (c ∷ x) y h =
-    let p = and_parts (scalar c) (scalars (x ++ y)) h in
-    let q = scalars_parts x y p.1 in
-    (rw (p.0, q.0) refl, q.1)
+any-chars s u = ap (list_any (λ d. d == 10)) (sym (encodes-chars s u)) ∙ any_encodes (λ d. d == 10) (no_one 10 (omega arith)) (chars s)
 
 pub record Cut (s piece more : List ℕ) : Type 0 where
   pub bytes : s ≡ encode_utf8_all piece ++ encode_utf8_all more

@@ -2,11 +2,12 @@
 use Rattle.std.proofs.Common.{◌≡◌, inl, inr, ℕ, suc, ◌<◌, ◌≤◌, List, [], ◌∷◌, ◌++◌, Bool, true, false, cond, ◌&&◌, sym, refl, ap, ◌∙◌, arith, length, get_or, append-nil, IsUtf8}
 use Rattle.std.specs.Prelude.{◌==◌}
 use Rattle.std.specs.Str.{chars, encode_utf8_all}
-use Rattle.std.proofs.lemmas.Bool.{cases_lt, ne_eqb, and_parts, and_from}
-use Rattle.std.proofs.lemmas.Str.{encode_ascii, length-encode, len_utf8_bounds, inside_one, encodes-chars, scalars-chars, chars-encodes}
-use lib.Utf8.{encode, scalar, scalars}
+use Rattle.std.proofs.lemmas.Bool.{cases_lt, ne_eqb}
+use Rattle.std.proofs.lemmas.Str.{encode_ascii, inside_one, encodes-chars, scalars-chars, chars-encodes}
+use lib.Utf8.{encode}
 use Rattle.lay_token.specs.Chars.{begins}
 use Rattle.lay_token.specs.Source.{folded}
+use Rattle.lay_token.proofs.Encoding.{begins_encodes, no_one, scalars-folded}
 
 -- each byte is above ASCII
 abbrev pub IsHigh : List ℕ → Type 0
@@ -16,21 +17,6 @@ pub high : (c : ℕ) → 128 ≤ c → IsHigh (encode c)
 high c h k l = elim (cases_lt (get_or (encode c) k 0) 128) [
   | inl s ↦ let e : c ≡ get_or (encode c) k 0 = inside_one c [] (encode c) k (sym (append-nil (encode c))) l s in absurd (omega arith)
   | inr g ↦ g
-]
-
-pub not_empty : (c : ℕ) → 1 ≤ length (encode c)
-not_empty c = omega (arith, length-encode c, (len_utf8_bounds c).0)
-
-pub begins-high : (n : ℕ) (xs ys : List ℕ) → n < 128 → 1 ≤ length xs → IsHigh xs → begins (λ d. d == n) (xs ++ ys) ≡ false
-begins-high n [] ys l s h = absurd (omega arith)
-begins-high n (x ∷ xs) ys l s h = let big : 128 ≤ x = h 0 (omega arith) in ne_eqb x n (λ e. absurd (omega arith))
-
-pub begins-encodes : (n : ℕ) → n < 128 → (cs : List ℕ) → begins (λ d. d == n) (encode_utf8_all cs) ≡ begins (λ d. d == n) cs
-begins-encodes n l [] = refl
-begins-encodes n l (c ∷ cs) = elim (cases_lt c 128) [
-  | inl s ↦ ap (λ xs. begins (λ d. d == n) (xs ++ encode_utf8_all cs)) (encode_ascii c s)
-  | inr g ↦ begins-high n (encode c) (encode_utf8_all cs) l (not_empty c) (high c g)
-      ∙ sym (ne_eqb c n (λ e. absurd (omega arith)))
 ]
 
 folded-high : (xs ys : List ℕ) → IsHigh xs → folded (xs ++ ys) ≡ xs ++ folded ys
@@ -51,7 +37,7 @@ folded-encodes (c ∷ cs) = elim (cases_lt c 128) [
   | inl s ↦
       let one = encode_ascii c s in
       ap (λ xs. folded (xs ++ encode_utf8_all cs)) one
-      ∙ ap (λ b. cond (c == 13 && b) (folded (encode_utf8_all cs)) (c ∷ folded (encode_utf8_all cs))) (begins-encodes 10 (omega arith) cs)
+      ∙ ap (λ b. cond (c == 13 && b) (folded (encode_utf8_all cs)) (c ∷ folded (encode_utf8_all cs))) (begins_encodes (λ d. d == 10) (no_one 10 (omega arith)) cs)
       ∙ ap (λ xs. cond (c == 13 && begins (λ d. d == 10) cs) xs (c ∷ xs)) (folded-encodes cs)
       ∙ cond_encoded (c == 13 && begins (λ d. d == 10) cs) c (folded cs) one
   | inr g ↦
@@ -59,16 +45,6 @@ folded-encodes (c ∷ cs) = elim (cases_lt c 128) [
       let to : encode_utf8_all (folded (c ∷ cs)) ≡ encode c ++ encode_utf8_all (folded cs) = rw no refl in
       folded-high (encode c) (encode_utf8_all cs) (high c g) ∙ ap (λ xs. encode c ++ xs) (folded-encodes cs) ∙ sym to
 ]
-
-scalars-cond : (b : Bool) (c : ℕ) (cs : List ℕ) → scalar c ≡ true → scalars cs ≡ true → scalars (cond b cs (c ∷ cs)) ≡ true
-scalars-cond true c cs h g = g
-scalars-cond false c cs h g = and_from (scalar c) (scalars cs) h g
-
-pub scalars-folded : (cs : List ℕ) → scalars cs ≡ true → scalars (folded cs) ≡ true
-scalars-folded [] h = refl
-scalars-folded (c ∷ cs) h =
-    let p = and_parts (scalar c) (scalars cs) h in
-    scalars-cond (c == 13 && begins (λ d. d == 10) cs) c (folded cs) p.0 (scalars-folded cs p.1)
 
 -- the bytes of a text with its line ends folded
 pub folded_text : (bytes text : List ℕ) → IsUtf8 bytes → text ≡ folded bytes

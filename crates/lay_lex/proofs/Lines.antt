@@ -3,8 +3,8 @@ use Rattle.std.proofs.Common.{◌≡◌, ℕ, ◌+◌, ◌-◌, ◌<◌, ◌≤�
 use Rattle.std.specs.Str.{chars, is_utf8, encode_utf8_all, IsCharBoundary}
 use Rattle.std.specs.Str.Lossy.{utf8_valid_len}
 use Rattle.std.specs.Prelude.{◌==◌}
-use Rattle.std.proofs.lemmas.Bool.{false_from_ne_true, eqb-true, not-false, cond_both, and_parts}
-use lib.Utf8.{encode, scalar, scalars}
+use Rattle.std.proofs.lemmas.Bool.{false_from_ne_true, eqb-true, not-false, cond_both}
+use lib.Utf8.{encode, scalars}
 use Rattle.std.proofs.lemmas.Str.{encode_ascii, encodes-append, encodes-chars, IsCharBoundary-at_seam, IsCharBoundary-start, scalars-chars, IsUtf8-from_is_utf8, is_utf8-from_IsUtf8, length-le-encodes}
 use Rattle.lay_token.specs.Chars.{begins, front, after, is_nil}
 use Rattle.lay_token.specs.Lexes.{size}
@@ -13,10 +13,9 @@ use Rattle.lay_token.specs.Source.{folded, is_shebang, is_in_line, line_size, so
 use Rattle.lay_token.specs.declared.refusal.Refusal.TheVariants.{NotUtf8}
 use Rattle.lay_token.proofs.Texts.{text_parts, length_parts}
 use Rattle.lay_token.proofs.Fronts.{front-after, after-stops}
+use Rattle.lay_token.proofs.Encoding.{scalars-without_mark, scalars-folded, scalars_parts}
 use Rattle.lay_lex.specs.Source.{seen}
 use Rattle.lay_lex.specs.declared.source.Source.{Source}
-use Rattle.lay_lex.proofs.Cuts.{scalars_parts}
-use Rattle.lay_lex.proofs.Folds.{scalars-folded}
 
 pub size-append : (x y : List ℕ) → size (x ++ y) ≡ size x + size y
 size-append x y = ap length (encodes-append x y) ∙ length-append (encode_utf8_all x) (encode_utf8_all y)
@@ -99,11 +98,6 @@ ready ds h =
           (λ e. line_border ds (front is_in_line ds) (after is_in_line ds) h (front-after is_in_line ds) (λ c cs w. in_line c cs ds w))
           (λ e. IsCharBoundary-start (encode_utf8_all ds) u),
     )
-
-scalars-without_mark : (cs : List ℕ) → scalars cs ≡ true → scalars (without_mark cs) ≡ true
-scalars-without_mark [] h = refl
-scalars-without_mark (c ∷ cs) h =
-    cond_both (c == 65279) cs (c ∷ cs) (λ l. scalars l ≡ true) (λ e. (and_parts (scalar c) (scalars cs) h).1) (λ e. h)
 
 pub ready_source : (bytes : List ℕ) (s : Source) → IsUtf8 bytes → seen s ≡ source_of (folded (without_mark (chars bytes)))
     → IsUtf8 s.text × IsCharBoundary s.text s.start

@@ -1,15 +1,14 @@
 -- One turn of the lexer.
-use Rattle.std.proofs.Common.{◌≡◌, ℕ, ◌+◌, ◌-◌, ◌<◌, ◌≤◌, List, [], ◌∷◌, ◌++◌, Bool, true, false, Option, Some, None, sym, refl, ap, ◌∙◌, subst, arith, length, drop, IsUtf8, append_assoc, length-drop}
+use Rattle.std.proofs.Common.{◌≡◌, ℕ, ◌+◌, ◌-◌, ◌<◌, ◌≤◌, List, [], ◌∷◌, ◌++◌, Bool, false, Option, Some, None, sym, refl, ap, ◌∙◌, subst, arith, length, drop, IsUtf8, length-drop}
 use Rattle.std.specs.Prelude.{IsTrue, ◌==◌, option_to_list}
 use Rattle.std.specs.Str.{chars, IsCharBoundary}
 use Rattle.std.proofs.lemmas.Bool.{eq-eqb, ne_eqb}
 use Rattle.std.proofs.lemmas.Str.{length-le-encodes, IsUtf8-drop}
 use Rattle.lay_token.specs.Chars.{is_nil}
-use Rattle.lay_token.specs.Forms.{Had, had, has_form, after_literal}
+use Rattle.lay_token.specs.Forms.{Had, had}
 use Rattle.lay_token.specs.Gap.{Outside, is_gap, is_last_gap}
 use Rattle.lay_token.specs.Lexes.{Part, spell, Before, Other, is_index_place, step, steps, Fit, size, tokens_from, is_joint, Lexes, NoTokenAt, Stops, BeginsNoGap, BeginsNoPiece}
 use Rattle.lay_token.specs.declared.token.Kind.{Kind}
-use Rattle.lay_token.specs.declared.token.Kind.TheVariants.{Ident, RawIdent, Underscore, Lifetime, Char, Str, RawStr, Byte, ByteStr, RawByteStr, CStr, RawCStr, Int, Float, Punct, Opener, Closer, Doc}
 use Rattle.lay_token.specs.declared.token.Token.{Token}
 use Rattle.lay_token.proofs.Texts.{length_parts}
 use Rattle.lay_token.proofs.Parts.{spell-append, spell-out, steps-append, had_some}

@@ -1,10 +1,11 @@
 -- Laying out token by token is laying out the document.
-use Rattle.std.proofs.Common.{◌≡◌, ℕ, suc, ◌+◌, List, [], ◌∷◌, ◌++◌, refl, ap, ◌∙◌, append_assoc, append-nil, arith}
+use Rattle.std.proofs.Common.{◌≡◌, ℕ, ℤ, Bool, suc, ◌+◌, List, [], ◌∷◌, ◌++◌, refl, ap, ◌∙◌, append_assoc, append-nil, arith}
+use Rattle.lay_token.specs.declared.layout.Break.{Break}
 use Rattle.lay_token.specs.declared.layout.Frame.{Frame}
 use Rattle.lay_token.specs.declared.layout.Tok.{Tok}
 use Rattle.lay_token.specs.declared.layout.Tok.TheVariants as tok
 use Rattle.lay_token.specs.Document.{Document, Empty, AddText, AddBreak, AddGroup, State, flat, stream, ahead, render, width_of_break, over, write, enter, break_in, outside, start, text_of}
-use Rattle.lay_token.specs.Machine.{reach, play, Layout, top, begun, text}
+use Rattle.lay_token.specs.Machine.{measure, reach, play, Layout, top, begun, text}
 
 pub reach_flat : (d : Document) (k : ℕ) (more : List Tok) → reach (suc k) (stream d ++ more) ≡ flat d + reach (suc k) more
 reach_flat Empty k more = omega arith
@@ -19,6 +20,16 @@ reach_ahead (AddText t rest) more = omega (arith, reach_ahead rest more)
 reach_ahead (AddBreak b rest) more = refl
 reach_ahead (AddGroup c o inner rest) more =
     rw append_assoc (omega (arith, reach_flat inner 0 (tok.End ∷ (stream rest ++ more)), reach_ahead rest more))
+
+-- what the machine measures of a group and of a break
+pub measured_group : (c : Bool) (o : ℤ) (inner rest : Document) (more : List Tok)
+    → measure (tok.Begin c o) (stream inner ++ tok.End ∷ (stream rest ++ more)) ≡ flat inner + ahead rest (reach 0 more)
+measured_group c o inner rest more =
+    omega (arith, reach_flat inner 0 (tok.End ∷ (stream rest ++ more)), reach_ahead rest more)
+
+pub measured_break : (b : Break) (rest : Document) (more : List Tok)
+    → measure (tok.Break b) (stream rest ++ more) ≡ width_of_break b + ahead rest (reach 0 more)
+measured_break b rest more = omega (arith, reach_ahead rest more)
 
 reach_ahead_two : (d : Document) (more rest : List Tok) → reach 0 ((stream d ++ more) ++ rest) ≡ ahead d (reach 0 (more ++ rest))
 reach_ahead_two d more rest = rw append_assoc (reach_ahead d (more ++ rest))

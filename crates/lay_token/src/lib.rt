@@ -25,3 +25,4 @@ pub use piece::{Piece, piece_at, piece_law};
 pub use refusal::{FormatError, NoMemory, Refusal};
 pub use text::Text;
 pub use token::{Delim, Kind, Token, tokens_law};
+pub use word::{Class, word_class};

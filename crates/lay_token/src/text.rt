@@ -1,5 +1,5 @@
 //! Texts: lists of bytes.
-ghost use Rattle.std.specs.Prelude.{◌≡◌, ◌<◌, ◌≤◌, ◌++◌, ◌∷◌, [], length, IsOk, IfOk, OnOk, OnErr};
+ghost use Rattle.std.specs.Prelude.{◌≡◌, ◌+◌, ◌<◌, ◌≤◌, ◌++◌, ◌∷◌, [], length, IsOk, IfOk, OnOk, OnErr};
 
 use crate::refusal::NoMemory;
 use smallvec::SmallVec;
@@ -55,10 +55,11 @@ impl Text {
         }
     }
 
-    /// Adds bytes at the end.
+    /// Adds bytes at the end. A text of at most 22 bytes with them takes no memory for them.
     pub fn push_bytes(&mut self, bytes: &[u8]) -> Result<(), NoMemory>
         ensures ok { OnOk result (self.new ≡ self.old ++ bytes.now) }
         ensures err { OnErr result (self.new ≡ self.old) }
+        ensures short { length self.old + length bytes.now ≤ 22 → IsOk result }
     {
         match self.bytes.extend_from_slice(bytes) {
             Ok(()) => Ok(()),

@@ -1,4 +1,4 @@
-use Rattle.std.proofs.Common.{◌∙◌, arith}
+use Rattle.std.proofs.Common.{◌∙◌, arith, rules}
 use Rattle.lay_io.proofs.Growth.{grew_by_prefix-nothing}
 use Rattle.lay_tree.specs.nodes.Attr.{attr_form}
 use Rattle.lay_front.proofs.WritingLemmas.{turn-more, turn-stopped, turn-failed}
@@ -18,4 +18,5 @@ loop-attr-preserved g c = record {
       turn-more attr_form _ _ _ _ _ _ _ _ _ c.attr-item.result c.loop-attr.invariant.turn c.loop-attr-test.true c.attr-item.is
       (c.as_bytes.ensures ∙ c.in-Ok.ensures) c.in_default.ensures.passed;
   later = omega arith;
+  loan = search rules;
 }

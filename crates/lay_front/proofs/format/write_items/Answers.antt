@@ -1,4 +1,4 @@
-use Rattle.std.proofs.Common.{◌∙◌, arith}
+use Rattle.std.proofs.Common.{◌∙◌, arith, rules}
 use Rattle.lay_io.proofs.Growth.{grew_by_prefix-nothing}
 use Rattle.lay_tree.specs.nodes.Item.{form_of_item}
 use Rattle.lay_front.proofs.WritingLemmas.{turn-more, turn-stopped, turn-failed}
@@ -18,4 +18,5 @@ loop-item-preserved g c = record {
       turn-more form_of_item _ _ _ _ _ _ _ _ _ c.item-item.result c.loop-item.invariant.turn c.loop-item-test.true c.item-item.is
       (c.as_bytes.ensures ∙ c.in-Ok.ensures) c.in_default.ensures.passed;
   later = omega arith;
+  loan = search rules;
 }

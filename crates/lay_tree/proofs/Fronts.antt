@@ -1,0 +1,195 @@
+-- What the tests of the front of a list of tokens tell of it, and what stands there tells of the tests.
+use Rattle.std.proofs.Common.{◌≡◌, ℕ, suc, ◌+◌, ◌≤◌, ◌<◌, Bool, true, false, List, [], ◌∷◌, ◌++◌, length, drop, codes, Option, Some, None, refl, sym, ap, subst, ◌∙◌, inl, inr, arith, length-append, length-drop}
+use Rattle.std.specs.Str.{bytes_eq}
+use Rattle.std.proofs.lemmas.Bool.{and_parts, cases_Bool, false_from_ne_true}
+use Rattle.std.proofs.lemmas.Slice.Eq.{bytes_eq-Decides}
+use Rattle.lay_token.specs.Forms.{opening, closing}
+use Rattle.lay_token.specs.Lexes.{is_punct}
+use Rattle.lay_token.specs.Operators.{op_at, is_op_of, is_op}
+use Rattle.lay_token.specs.declared.token.Delim.{Delim}
+use Rattle.lay_token.specs.declared.token.Delim.TheVariants.{Paren, Bracket, Brace}
+use Rattle.lay_token.specs.declared.token.Kind.{Kind}
+use Rattle.lay_token.specs.declared.token.Kind.TheVariants.{Ident, Punct, Opener, Closer}
+use Rattle.lay_token.specs.declared.token.Token.{Token}
+use Rattle.lay_token.proofs.Deciding.{punct_is, bytes_same}
+use Rattle.lay_form.specs.Spelled.{IsOne, IsOperator}
+use Rattle.lay_form.proofs.FormLaws.{IsEnd}
+use Rattle.lay_tree.specs.Ahead.{Tokens, first, tail, is_ident, is_keyword, is_mark, same_delim, is_opener, is_closer, opens, closes}
+use Rattle.lay_tree.specs.reader.Exact.{only_text, IsText, HaveTexts}
+use Rattle.lay_tree.specs.reader.Loops.{passed}
+use Rattle.lay_tree.proofs.Steps.{chosen}
+
+-- ---- texts
+
+without : (before rest : Tokens) → HaveTexts (before ++ rest) → HaveTexts rest
+without [] rest h = h
+without (t ∷ before) rest h = without before rest h.1
+
+-- Tokens have their texts where they end ones that have.
+pub texts_behind : (ts rest : Tokens) → IsEnd rest ts → HaveTexts ts → HaveTexts rest
+texts_behind ts rest e h = without e.before rest (subst HaveTexts e.whole h)
+
+pub end_shorter : (ts rest : Tokens) → IsEnd rest ts → length rest ≤ length ts
+end_shorter ts rest e = omega (arith, ap length e.whole, length-append e.before rest)
+
+only_one : (kind other : Kind) (only text : List ℕ) → other ≡ kind → only_text kind ≡ Some only → IsText (only_text other) text → text ≡ only
+only_one kind other only text k o h = subst (λ (one : Option (List ℕ)). IsText one text) (ap only_text k ∙ o) h
+
+-- ---- what a test tells
+
+ident_kind : (k : Kind) → is_ident k ≡ true → k ≡ Ident
+ident_kind Ident h = refl
+ident_kind _ h = absurd (cc)
+
+delim_same : (d e : Delim) → same_delim d e ≡ true → e ≡ d
+delim_same Paren Paren h = refl
+delim_same Bracket Bracket h = refl
+delim_same Brace Brace h = refl
+delim_same _ _ h = absurd (cc)
+
+opener_kind : (d : Delim) (k : Kind) → is_opener d k ≡ true → k ≡ Opener d
+opener_kind d (Opener e) h = ap (λ x. Opener x) (delim_same d e h)
+opener_kind d _ h = absurd (cc)
+
+closer_kind : (d : Delim) (k : Kind) → is_closer d k ≡ true → k ≡ Closer d
+closer_kind d (Closer e) h = ap (λ x. Closer x) (delim_same d e h)
+closer_kind d _ h = absurd (cc)
+
+pub keyword_one : (word : List ℕ) (ts : Tokens) → first (is_keyword word) ts ≡ true → IsOne Ident word ts (tail ts)
+keyword_one word [] h = absurd (cc)
+keyword_one word (t ∷ ts) h =
+    let b = and_parts (is_ident t.kind) (bytes_eq t.text word) h in (ident_kind t.kind b.0, bytes_same t.text word b.1, refl)
+
+pub mark_one : (character : List ℕ) (ts : Tokens) → first (is_mark character) ts ≡ true → IsOne Punct character ts (tail ts)
+mark_one character [] h = absurd (cc)
+mark_one character (t ∷ ts) h =
+    let b = and_parts (is_punct t.kind) (bytes_eq t.text character) h in (punct_is t.kind b.0, bytes_same t.text character b.1, refl)
+
+pub opens_one : (d : Delim) (ts : Tokens) → HaveTexts ts → first (opens d) ts ≡ true → IsOne (Opener d) (opening d ∷ []) ts (tail ts)
+opens_one d [] p h = absurd (cc)
+opens_one d (t ∷ ts) p h =
+    let k = opener_kind d t.kind h in (k, only_one (Opener d) t.kind (opening d ∷ []) t.text k refl p.0, refl)
+
+pub closes_one : (d : Delim) (ts : Tokens) → HaveTexts ts → first (closes d) ts ≡ true → IsOne (Closer d) (closing d ∷ []) ts (tail ts)
+closes_one d [] p h = absurd (cc)
+closes_one d (t ∷ ts) p h =
+    let k = closer_kind d t.kind h in (k, only_one (Closer d) t.kind (closing d ∷ []) t.text k refl p.0, refl)
+
+-- what passes is what the test tells
+pub passed_is : (p : Token → Bool) (S : Tokens → Tokens → Type 0) → ((ts : Tokens) → HaveTexts ts → first p ts ≡ true → S ts (tail ts))
+    → (ts rest : Tokens) → HaveTexts ts → passed p ts ≡ Some rest → S ts rest
+passed_is p S one ts rest t h =
+    elim (chosen (first p ts) (Some (tail ts)) None (Some rest) h) [
+      | inl g ↦ let e : tail ts ≡ rest = cc g.1 in rw (← e) (one ts t g.0)
+      | inr g ↦ absurd (cc)
+    ]
+
+pub mark_passed_is : (character : List ℕ) (ts rest : Tokens) → passed (is_mark character) ts ≡ Some rest → IsOne Punct character ts rest
+mark_passed_is character ts rest h =
+    elim (chosen (first (is_mark character) ts) (Some (tail ts)) None (Some rest) h) [
+      | inl g ↦ let e : tail ts ≡ rest = cc g.1 in rw (← e) (mark_one character ts g.0)
+      | inr g ↦ absurd (cc)
+    ]
+
+pub opener_passed_is : (d : Delim) (ts rest : Tokens) → HaveTexts ts → passed (opens d) ts ≡ Some rest → IsOne (Opener d) (opening d ∷ []) ts rest
+opener_passed_is d ts rest t h = passed_is (opens d) (IsOne (Opener d) (opening d ∷ [])) (opens_one d) ts rest t h
+
+pub closer_passed_is : (d : Delim) (ts rest : Tokens) → HaveTexts ts → passed (closes d) ts ≡ Some rest → IsOne (Closer d) (closing d ∷ []) ts rest
+closer_passed_is d ts rest t h = passed_is (closes d) (IsOne (Closer d) (closing d ∷ [])) (closes_one d) ts rest t h
+
+-- ---- one token
+
+-- the token at the front, with the kind and text that it has written out
+pub one_front : (kind : Kind) (text : List ℕ) (ts rest : Tokens) → IsOne kind text ts rest
+    → (t : Token) × (ts ≡ record t { kind = kind; text = text } ∷ rest)
+one_front kind text [] rest h = absurd h
+one_front kind text (t ∷ ts) rest h = (
+  t,
+  ap (λ (us : Tokens). t ∷ us) h.2 ∙ ap (λ (k : Kind). record t { kind = k } ∷ rest) h.0
+      ∙ ap (λ (w : List ℕ). record t { kind = kind; text = w } ∷ rest) h.1,
+)
+
+pub one_shorter : (kind : Kind) (text : List ℕ) (ts rest : Tokens) → IsOne kind text ts rest → length rest < length ts
+one_shorter kind text [] rest h = absurd h
+one_shorter kind text (t ∷ ts) rest h = omega (arith, ap length h.2)
+
+-- what a test of kinds says of the front
+pub one_test : (p : Kind → Bool) (kind : Kind) (text : List ℕ) (ts rest : Tokens) → IsOne kind text ts rest → first (λ t. p t.kind) ts ≡ p kind
+one_test p kind text [] rest h = absurd h
+one_test p kind text (t ∷ ts) rest h = ap p h.0
+
+same_itself : (d : Delim) → same_delim d d ≡ true
+same_itself Paren = refl
+same_itself Bracket = refl
+same_itself Brace = refl
+
+pub mark_passed : (character : List ℕ) (ts rest : Tokens) → IsOne Punct character ts rest → passed (is_mark character) ts ≡ Some rest
+mark_passed character ts rest o =
+    let same : bytes_eq character character ≡ true = (bytes_eq-Decides character character).1 refl in
+    rw ((one_front Punct character ts rest o).1, same) refl
+
+pub opener_passed : (d : Delim) (ts rest : Tokens) → IsOne (Opener d) (opening d ∷ []) ts rest → passed (opens d) ts ≡ Some rest
+opener_passed d ts rest o = rw ((one_front (Opener d) (opening d ∷ []) ts rest o).1, same_itself d) refl
+
+pub closer_passed : (d : Delim) (ts rest : Tokens) → IsOne (Closer d) (closing d ∷ []) ts rest → passed (closes d) ts ≡ Some rest
+closer_passed d ts rest o = rw ((one_front (Closer d) (closing d ∷ []) ts rest o).1, same_itself d) refl
+
+-- a closing delimiter stands at the front
+pub closer_first : (d : Delim) (ts rest : Tokens) → IsOne (Closer d) (closing d ∷ []) ts rest → (first (closes d) ts ≡ true) × (tail ts ≡ rest)
+closer_first d ts rest o = let f = (one_front (Closer d) (closing d ∷ []) ts rest o).1 in (rw (f, same_itself d) refl, rw f refl)
+
+-- ---- operators
+
+no_operator : (t : Token) (ts : Tokens) → is_punct t.kind ≡ false → op_at (t ∷ ts) ≡ None
+unfolding op_at
+no_operator t ts h = at t.kind h
+  where
+    at : (k : Kind) → is_punct k ≡ false → op_at (record t { kind = k } ∷ ts) ≡ None
+    at Punct h = absurd (cc)
+    at _ h = refl
+
+no_op : (op : List ℕ) (t : Token) (ts : Tokens) → is_punct t.kind ≡ false → is_op op (t ∷ ts) ≡ false
+no_op op t ts h = ap (is_op_of op) (no_operator t ts h)
+
+-- An operator begins with punctuation.
+pub op_front : (op : List ℕ) (ts : Tokens) → is_op op ts ≡ true → (t : Token) × (us : Tokens) × (ts ≡ record t { kind = Punct } ∷ us)
+unfolding op_at
+op_front op [] h = absurd (cc)
+op_front op (t ∷ ts) h = elim (cases_Bool (is_punct t.kind)) [
+  | inl e ↦ (t, ts, ap (λ (k : Kind). record t { kind = k } ∷ ts) (punct_is t.kind e))
+  | inr e ↦ let g = no_op op t ts e in absurd (cc)
+]
+
+other_of : (op other : List ℕ) → bytes_eq op other ≡ false → (o : Option (List ℕ)) → is_op_of op o ≡ true → is_op_of other o ≡ false
+other_of op other differ None h = refl
+other_of op other differ (Some x) h =
+    false_from_ne_true (bytes_eq other x) (λ g.
+    let a : op ≡ x = (bytes_eq-Decides op x).0 h in
+    let b : other ≡ x = (bytes_eq-Decides other x).0 g in
+    let e : bytes_eq op other ≡ true = (bytes_eq-Decides op other).1 (a ∙ sym b) in
+    absurd (cc))
+
+-- One operator stands at a place.
+pub other_op : (op other : List ℕ) → bytes_eq op other ≡ false → (ts : Tokens) → is_op op ts ≡ true → is_op other ts ≡ false
+other_op op other differ ts h = other_of op other differ (op_at ts) h
+
+pub one_no_op : (op : List ℕ) (kind : Kind) (text : List ℕ) (ts rest : Tokens) → is_punct kind ≡ false → IsOne kind text ts rest → is_op op ts ≡ false
+one_no_op op kind text ts rest h o =
+    let g = one_front kind text ts rest o in rw g.1 (no_op op (record g.0 { kind = kind; text = text }) rest h)
+
+pub comma_no_colons : (ts rest : Tokens) → IsOne Punct (codes ",") ts rest → is_op (codes "::") ts ≡ false
+unfolding op_at
+comma_no_colons ts rest o = rw (one_front Punct (codes ",") ts rest o).1 refl
+
+pub semicolon_no_colons : (ts rest : Tokens) → IsOne Punct (codes ";") ts rest → is_op (codes "::") ts ≡ false
+unfolding op_at
+semicolon_no_colons ts rest o = rw (one_front Punct (codes ";") ts rest o).1 refl
+
+pub op_test : (p : Kind → Bool) (op : List ℕ) (ts : Tokens) → is_op op ts ≡ true → first (λ t. p t.kind) ts ≡ p Punct
+op_test p op ts h = rw (op_front op ts h).2 refl
+
+pub op_shorter : (c : ℕ) (cs : List ℕ) (ts rest : Tokens) → IsOperator (c ∷ cs) ts rest → length rest < length ts
+op_shorter c cs ts rest o =
+    let g = op_front (c ∷ cs) ts o.0 in
+    let l : length ts ≡ suc (length g.1) = ap length g.2 in
+    omega (arith, length-drop (length (c ∷ cs)) ts, ap length o.1)

@@ -1,0 +1,3 @@
+-- What the folds over nodes tell of each kind.
+pub mod UseLaws
+pub mod ItemLaws

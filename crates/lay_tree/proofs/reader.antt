@@ -1,0 +1,12 @@
+-- The readers, a family a file: what is read stands at the front of the tokens, and what stands there is read.
+pub mod Exact
+pub mod Loops
+pub mod Words
+pub mod Path
+pub mod Attr
+pub mod AttrRead
+pub mod Needs
+pub mod Use
+pub mod Item
+pub mod ItemRead
+pub mod File
