@@ -17,7 +17,7 @@ use Rattle.lay_form.specs.Stream.{fed, feed_doc, feed_text, stream_of}
 use Rattle.lay_form.proofs.StreamLaws.{laid_fed, stream_is}
 use Rattle.lay_tree.specs.Words.{colons, leaf_of}
 use Rattle.lay_tree.specs.nodes.Attr.{attr_form, input_form, meta_path_form}
-use Rattle.lay_tree.specs.nodes.Facts.{forms}
+use Rattle.lay_tree.specs.nodes.Facts.{Facts, forms}
 use Rattle.lay_tree.specs.nodes.Item.{about_item, about_kind}
 use Rattle.lay_tree.specs.nodes.Path.{path_form, segment_form, segments_form}
 use Rattle.lay_tree.specs.nodes.Use.{about_use, about_use_end, rename_form, words_form}
@@ -38,8 +38,9 @@ use Rattle.lay_tree.specs.declared.use_tree.Rename.{Rename}
 use Rattle.lay_tree.specs.declared.use_tree.UseEnd.{UseEnd}
 use Rattle.lay_tree.specs.declared.use_tree.UseEnd.TheVariants as use_end
 use Rattle.lay_tree.specs.declared.use_tree.UseTree.{UseTree}
+use Rattle.lay_tree.proofs.nodes.ItemLaws.{item_is, struct_is, module_is, import_is}
+use Rattle.lay_tree.proofs.nodes.UseLaws.{use_is, word_is, glob_is, group_is}
 use Rattle.lay_out_code.specs.Parts.{further_segments, no_forms, struct_part, module_part, import_part}
-use Rattle.lay_out_code.proofs.NodeForms.{use_form, word_form, glob_form, group_form, one_form, struct_form, module_form, import_form}
 
 -- ---- forms in general
 
@@ -53,6 +54,10 @@ fed_more point f more =
 pub level_stays : {S F T : Type 0} {m : Meanings S F} {a b : S} {x : T} (f : Form) → Did m a (stream_of f) (Ok x) b → m.groups b ≡ m.groups a
 level_stays {m} {a} f h =
     level_of h ∙ ap (λ (s : List Tok). opened s (m.groups a)) (sym (stream_is f)) ∙ opened_document (document f) (m.groups a)
+
+-- equal facts have equal streams
+same_stream : {x y : Facts} → x ≡ y → stream_of x.form ≡ stream_of y.form
+same_stream e = ap (λ (x : Facts). stream_of x.form) e
 
 -- the element at an index, and what is behind it
 rest_first : {A : Type 0} (xs : List A) (i : ℕ) (x : A) → i < length xs → x ≡ get_or xs i x → drop i xs ≡ x ∷ drop (i + 1) xs
@@ -179,20 +184,20 @@ use_parts tree put same =
     ap (λ (ws : List Word). stream_of (when tree.global colons Done) ++ (stream_of (words_form ws Done) ++ stream_of (about_use_end tree.end).form)) same
     ∙ ap (λ (s : List Tok). stream_of (when tree.global colons Done) ++ s) (words_more tree.path end)
     ∙ when_more tree.global (words_form tree.path end)
-    ∙ sym (ap stream_of (use_form tree))
+    ∙ sym (same_stream (use_is tree))
 
 pub word_end : (e : UseEnd) (word : Word) (renamed : Option Rename) → e ≡ use_end.Word word renamed
     → stream_of (leaf_of word.raw word.text (rename_form renamed)) ≡ stream_of (about_use_end e).form
-word_end e word renamed is = sym (ap (λ (x : UseEnd). stream_of (about_use_end x).form) is ∙ ap stream_of (word_form word renamed))
+word_end e word renamed is = sym (ap (λ (x : UseEnd). stream_of (about_use_end x).form) is ∙ same_stream (word_is word renamed))
 
 pub glob_end : (e : UseEnd) → e ≡ use_end.Glob → tok.Text (codes "*") ∷ [] ≡ stream_of (about_use_end e).form
-glob_end e is = sym (ap (λ (x : UseEnd). stream_of (about_use_end x).form) is ∙ ap stream_of glob_form)
+glob_end e is = sym (ap (λ (x : UseEnd). stream_of (about_use_end x).form) is ∙ same_stream glob_is)
 
 pub group_end : (e : UseEnd) (trees put : List UseTree) → e ≡ use_end.Group trees → put ≡ trees
     → stream_of (comma_list true (opener Brace) (closer Brace) (forms (map about_use put))) ≡ stream_of (about_use_end e).form
 group_end e trees put is same =
     ap (λ (ts : List UseTree). stream_of (comma_list true (opener Brace) (closer Brace) (forms (map about_use ts)))) same
-    ∙ sym (ap (λ (x : UseEnd). stream_of (about_use_end x).form) is ∙ ap stream_of (group_form trees))
+    ∙ sym (ap (λ (x : UseEnd). stream_of (about_use_end x).form) is ∙ same_stream (group_is trees))
 
 -- what a list is behind a text that ends in a point or doesn't
 any_commas : (point : Bool) (es : List Form) (more : List Tok) → fed point (each comma_gap es) more ≡ fed false (each comma_gap es) more
@@ -277,21 +282,21 @@ pub item_parts : (one : Item) (put : List Attr) → put ≡ one.attrs
 item_parts one put same =
     let attrs = map attr_form one.attrs in
     ap (λ (es : List Attr). stream_of (behind_attrs (map attr_form es) Done) ++ stream_of (about_kind one.kind).form) same
-    ∙ sym (ap stream_of (one_form one) ∙ attrs_on attrs (Part (about_kind one.kind).form Done) []
+    ∙ sym (same_stream (item_is one) ∙ attrs_on attrs (Part (about_kind one.kind).form Done) []
     ∙ fed_more false (behind_attrs attrs Done) (stream_of (about_kind one.kind).form))
 
 pub struct_kind : (k : ItemKind) (name : Name) → k ≡ item.Struct name → stream_of (struct_part name) ≡ stream_of (about_kind k).form
-struct_kind k name is = sym (ap (λ (x : ItemKind). stream_of (about_kind x).form) is ∙ ap stream_of (struct_form name))
+struct_kind k name is = sym (ap (λ (x : ItemKind). stream_of (about_kind x).form) is ∙ same_stream (struct_is name))
 
 pub module_kind : (k : ItemKind) (name : Name) (attrs put : List Attr) (items puts : List Item) → k ≡ item.Module name attrs items → put ≡ attrs → puts ≡ items
     → stream_of (module_part name put puts) ≡ stream_of (about_kind k).form
 module_kind k name attrs put items puts is same sames =
     ap (λ (xs : List Attr). stream_of (module_part name xs puts)) same
     ∙ ap (λ (xs : List Item). stream_of (module_part name attrs xs)) sames
-    ∙ sym (ap (λ (x : ItemKind). stream_of (about_kind x).form) is ∙ ap stream_of (module_form name attrs items))
+    ∙ sym (ap (λ (x : ItemKind). stream_of (about_kind x).form) is ∙ same_stream (module_is name attrs items))
 
 pub import_kind : (k : ItemKind) (tree : UseTree) → k ≡ item.Import tree → stream_of (import_part tree) ≡ stream_of (about_kind k).form
-import_kind k tree is = sym (ap (λ (x : ItemKind). stream_of (about_kind x).form) is ∙ ap stream_of (import_form tree))
+import_kind k tree is = sym (ap (λ (x : ItemKind). stream_of (about_kind x).form) is ∙ same_stream (import_is tree))
 
 -- a head of a keyword and a name
 abbrev pub head_of : List ℕ → Bool → List ℕ → List Tok

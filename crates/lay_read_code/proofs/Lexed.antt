@@ -1,15 +1,15 @@
 -- Tokens that stand in a list that some text lexes to: so do those that are left, and strings among them are pieces.
-use Rattle.std.proofs.Common.{◌≡◌, ℕ, ◌+◌, Bool, true, List, [], ◌∷◌, ◌++◌, take, drop, Option, Some, None, slice_get, refl, sym, ap, ◌∙◌, subst, append_assoc}
+use Rattle.std.proofs.Common.{◌≡◌, ℕ, ◌+◌, Bool, true, List, [], ◌∷◌, ◌++◌, take, drop, IsUtf8, Option, Some, None, slice_get, refl, sym, ap, ◌∙◌, subst, append_assoc}
 use Rattle.std.specs.Str.{encode_utf8_all}
 use Rattle.std.proofs.lemmas.List.{take-append-drop}
 use Rattle.std.proofs.lemmas.Str.{scalars-chars}
-use Rattle.std.proofs.lemmas.Bool.{and_parts}
-use lib.Utf8.{scalar, scalars}
+use lib.Utf8.{scalars}
 use Rattle.lay_token.specs.Forms.{Had}
 use Rattle.lay_token.specs.Lexes.{Lexes, Part, Before, Other, spell, step, is_index_place, Fit, size, text_of_piece, tokens_from}
 use Rattle.lay_token.specs.declared.token.Kind.{Kind}
 use Rattle.lay_token.specs.declared.token.Kind.TheVariants.{Str, RawStr}
 use Rattle.lay_token.specs.declared.token.Token.{Token}
+use Rattle.lay_token.proofs.Encoding.{scalars_parts}
 use Rattle.lay_cook.specs.Cooking.{IsPiece, IsString}
 use Rattle.lay_tree.specs.Ahead.{Tokens, tail}
 use Rattle.lay_tree.specs.reader.Loops.{Got}
@@ -46,19 +46,19 @@ pub lexed_tail : (ts : Tokens) → AreLexed ts → AreLexed (tail ts)
 lexed_tail [] l = l
 lexed_tail (t ∷ ts) l = lexed_left 0 (t ∷ ts) ts (dropped 1 (t ∷ ts)) l
 
+-- What holds of lists that are lexed, and of the parts of any list of which it holds, holds of a row in one.
+pub in_row : (P : Tokens → Type 0) → ((s t : Tokens) → P (s ++ t) → P s × P t)
+    → ((bytes : List ℕ) (start : ℕ) (tokens : Tokens) → IsUtf8 (drop start bytes) → Lexes bytes start tokens → P tokens)
+    → (ts : Tokens) → AreLexed ts → P ts
+in_row P parts whole ts l =
+    (parts l.before ts (parts (l.before ++ ts) l.after (whole l.bytes l.start (l.before ++ ts ++ l.after) l.utf8 l.lexes)).0).1
+
 -- ---- the strings of a text
 
 -- Each string among the tokens is a piece of its kind.
 abbrev Strings : List Token → Type 0
 Strings [] = Unit {0}
 Strings (t ∷ ts) = IsString t × Strings ts
-
-scalars_parts : (x y : List ℕ) → scalars (x ++ y) ≡ true → (scalars x ≡ true) × (scalars y ≡ true)
-scalars_parts [] y h = (refl, h)
-scalars_parts (c ∷ x) y h =
-    let p = and_parts (scalar c) (scalars (x ++ y)) h in
-    let q = scalars_parts x y p.1 in
-    (rw (p.0, q.0) refl, q.1)
 
 piece_string : (piece rest : List ℕ) (index : Bool) (kind : Kind) → scalars piece ≡ true → Had kind piece rest index → IsPiece kind (encode_utf8_all piece)
 piece_string piece rest index kind s h = record { piece = piece; rest = rest; index = index; utf8 = (piece, (s, refl)); spelt = refl; had = h }
@@ -77,20 +77,15 @@ parts_strings b (p ∷ ps) last at f s =
     let both = part_string p.kind p.piece (spell ps last) (is_index_place b) more.0 f.1 in
     (record { string = both.0; raw = both.1 }, parts_strings (step b p) ps last ((at + size p.gap) + size p.piece) f.2 more.1)
 
-strings_front : (ts after : Tokens) → Strings (ts ++ after) → Strings ts
-strings_front [] after s = tt
-strings_front (t ∷ ts) after s = (s.0, strings_front ts after s.1)
+lexed_strings : (bytes : List ℕ) (start : ℕ) (tokens : Tokens) → IsUtf8 (drop start bytes) → Lexes bytes start tokens → Strings tokens
+lexed_strings bytes start tokens u l =
+    let reads = l.2 in
+    let fine : scalars (spell l.0 l.1) ≡ true = sym (ap scalars reads.whole) ∙ scalars-chars (drop start bytes) u in
+    subst Strings (sym l.3) (parts_strings Other l.0 l.1 start reads.fit fine)
 
-strings_back : (before ts : Tokens) → Strings (before ++ ts) → Strings ts
-strings_back [] ts s = s
-strings_back (t ∷ before) ts s = strings_back before ts s.1
-
-strings_of : (ts : Tokens) → AreLexed ts → Strings ts
-strings_of ts l =
-    let parts = l.lexes in
-    let reads = parts.2 in
-    let fine : scalars (spell parts.0 parts.1) ≡ true = sym (ap scalars reads.whole) ∙ scalars-chars (drop l.start l.bytes) l.utf8 in
-    strings_back l.before ts (strings_front (l.before ++ ts) l.after (subst Strings (sym parts.3) (parts_strings Other parts.0 parts.1 l.start reads.fit fine)))
+strings_parts : (s t : Tokens) → Strings (s ++ t) → Strings s × Strings t
+strings_parts [] t h = (tt, h)
+strings_parts (u ∷ s) t h = let more = strings_parts s t h.1 in ((h.0, more.0), more.1)
 
 first_string : (ts : Tokens) (t : Token) → Some t ≡ slice_get ts 0 → Strings ts → IsString t
 first_string [] t e s = absurd (cc)
@@ -98,4 +93,4 @@ first_string (u ∷ ts) t e s = let same : u ≡ t = cc in subst IsString same s
 
 -- The token at the front is a piece of its kind, where it is a string.
 pub lexed_string : (ts : Tokens) (t : Token) → Some t ≡ slice_get ts 0 → AreLexed ts → IsString t
-lexed_string ts t e l = first_string ts t e (strings_of ts l)
+lexed_string ts t e l = first_string ts t e (in_row Strings strings_parts lexed_strings ts l)

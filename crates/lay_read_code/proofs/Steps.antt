@@ -1,5 +1,5 @@
 -- One step of a reader, from what the readers within it give.
-use Rattle.std.proofs.Common.{◌≡◌, ℕ, suc, ◌+◌, ◌-◌, ◌<◌, add-one, Bool, true, false, List, [], ◌∷◌, drop, codes, Option, Some, None, slice_get, refl, sym, ◌∙◌, ap, if◌then◌else◌, arith}
+use Rattle.std.proofs.Common.{◌≡◌, ℕ, suc, ◌+◌, ◌-◌, ◌<◌, add-one, Bool, true, false, List, [], ◌∷◌, drop, codes, Option, Some, None, Result, Ok, Err, slice_get, refl, sym, ◌∙◌, ap, if◌then◌else◌, arith}
 use Rattle.lay_token.specs.Operators.{is_op}
 use Rattle.lay_token.specs.declared.token.Delim.TheVariants.{Bracket, Brace}
 use Rattle.lay_token.specs.declared.token.Kind.{Kind}
@@ -9,8 +9,7 @@ use Rattle.lay_tree.specs.Ahead.{Tokens, first, tail, opens, closes}
 use Rattle.lay_tree.specs.Words.{is_literal_kind}
 use Rattle.lay_tree.specs.reader.Attr.{meta_input, made, attributes}
 use Rattle.lay_tree.specs.reader.Item.{items_by, module_by, kind_by, item_by, item_at}
-use Rattle.lay_tree.specs.reader.Loops.{Got, Read, ◌>>=◌, passed, nodes, deepest, repeat}
-use Rattle.lay_tree.specs.reader.Path.{segment, begins_colons, further_segment, path}
+use Rattle.lay_tree.specs.reader.Loops.{Got, Read, ◌>>=◌, passed, nodes, deepest}
 use Rattle.lay_tree.specs.reader.Use.{other_name, use_end_by, ended, use_at}
 use Rattle.lay_tree.specs.reader.Words.{name_by, name, literal, path_words}
 use Rattle.lay_tree.specs.declared.attr.Attr.{Attr}
@@ -19,8 +18,6 @@ use Rattle.lay_tree.specs.declared.attr.MetaPath.{MetaPath}
 use Rattle.lay_tree.specs.declared.item.Item.{Item}
 use Rattle.lay_tree.specs.declared.item.ItemKind.{ItemKind}
 use Rattle.lay_tree.specs.declared.item.ItemKind.TheVariants as item
-use Rattle.lay_tree.specs.declared.path.Path.{Path}
-use Rattle.lay_tree.specs.declared.path.Segment.{Segment}
 use Rattle.lay_tree.specs.declared.token.Name.{Name}
 use Rattle.lay_tree.specs.declared.token.Word.{Word}
 use Rattle.lay_tree.specs.declared.use_tree.Rename.{Rename}
@@ -49,28 +46,6 @@ behind_colons : {A : Type 0} (f : Bool → Tokens → A) (b : Bool) (ts : Tokens
     → (let pair : Bool × Tokens = if b then (true, drop 2 ts) else (false, ts) in f pair.0 pair.1) ≡ f flag mid
 behind_colons f true ts flag mid e g = let h : mid ≡ drop 2 ts = g ∙ rw e refl in rw (e, h) refl
 behind_colons f false ts flag mid e g = let h : mid ≡ ts = g ∙ rw e refl in rw (e, h) refl
-
--- ---- paths
-
--- what a path is, behind the `::` that it may begin with
-abbrev path_behind : Bool → Tokens → Got Path
-path_behind flag mid =
-    segment mid >>= (λ s. repeat begins_colons further_segment s.1 >>= (λ more. Some (record { global = flag; segments = s.0 ∷ more.0 }, more.1)))
-
-module _ (ts : Tokens) (flag : Bool) (mid : Tokens) (e : flag ≡ is_op (codes "::") ts) (g : mid ≡ (if flag then drop 2 ts else ts)) where
-  path_step : path ts ≡ path_behind flag mid
-  unfolding path
-  path_step = behind_colons path_behind (is_op (codes "::") ts) ts flag mid e g
-
-  pub path_first_none : segment mid ≡ None → path ts ≡ None
-  path_first_none s = path_step ∙ rw s refl
-
-  pub path_none : (s : Segment) (behind : Tokens) → segment mid ≡ Some (s, behind) → repeat begins_colons further_segment behind ≡ None → path ts ≡ None
-  path_none s behind h r = path_step ∙ rw (h, r) refl
-
-  pub path_some : (s : Segment) (behind : Tokens) (more segments : List Segment) (rest : Tokens) → segment mid ≡ Some (s, behind)
-      → repeat begins_colons further_segment behind ≡ Some (more, rest) → segments ≡ s ∷ more → path ts ≡ Some (record { global = flag; segments = segments }, rest)
-  path_some s behind more segments rest h r a = path_step ∙ rw (h, r, a) refl
 
 -- ---- what an attribute is given
 
@@ -105,6 +80,14 @@ module _ (inner : Bool) (path : MetaPath) where
       → value_rest inner path ts ≡ Some (made inner path (input.Value (record { kind = t.kind; text = t.text })), tail (tail ts))
   unfolding literal
   value_some ts t h k e = rw (front_is ts t h, k, e) refl
+
+pub got_by : {A : Type 0} (a b : Got A) (r : Result A Stop) (left : Tokens) → a ≡ b → IsGot b r left → IsGot a r left
+got_by a b r left e h = rw e h
+
+pub got_made : {A : Type 0} (got : Got A) (value : A) (answer : Result A Stop) (left : Tokens) → got ≡ Some (value, left) → IsMade value answer → IsGot got answer left
+got_made got value (Ok a) left e h = rw h e
+got_made got value (Err NoReading) left e h = absurd h
+got_made got value (Err NoMemory) left e h = tt
 
 -- ---- use trees
 
