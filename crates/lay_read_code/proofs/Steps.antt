@@ -9,8 +9,8 @@ use Rattle.lay_tree.specs.Ahead.{Tokens, first, tail, opens, closes}
 use Rattle.lay_tree.specs.Words.{is_literal_kind}
 use Rattle.lay_tree.specs.reader.Attr.{meta_input, made, attributes}
 use Rattle.lay_tree.specs.reader.Item.{items_by, module_by, kind_by, item_by, item_at}
-use Rattle.lay_tree.specs.reader.Loops.{Got, Read, ◌>>=◌, passed, nodes, deepest}
-use Rattle.lay_tree.specs.reader.Use.{other_name, use_end_by, ended, use_at}
+use Rattle.lay_tree.specs.reader.Loops.{Got, Read, ◌>>=◌, passed, nodes, deepest, elements}
+use Rattle.lay_tree.specs.reader.Use.{other_name, use_group, use_end_by, ended, use_at}
 use Rattle.lay_tree.specs.reader.Words.{name_by, name, literal, path_words}
 use Rattle.lay_tree.specs.declared.attr.Attr.{Attr}
 use Rattle.lay_tree.specs.declared.attr.MetaInput.TheVariants as input
@@ -23,6 +23,7 @@ use Rattle.lay_tree.specs.declared.token.Word.{Word}
 use Rattle.lay_tree.specs.declared.use_tree.Rename.{Rename}
 use Rattle.lay_tree.specs.declared.use_tree.Rename.TheVariants as rename
 use Rattle.lay_tree.specs.declared.use_tree.UseEnd.{UseEnd}
+use Rattle.lay_tree.specs.declared.use_tree.UseEnd.TheVariants as use_end
 use Rattle.lay_tree.specs.declared.use_tree.UseTree.{UseTree}
 use Rattle.lay_read_code.specs.Answers.{IsGot, IsMade, Stopped, meta_rest, bare_rest, value_rest, is_underscore_kind, is_underscore}
 use Rattle.lay_read_code.specs.declared.stop.Stop.{Stop}
@@ -122,6 +123,14 @@ other_none ts h n = other_is_name ts h ∙ rw n refl
 pub other_some : (ts : Tokens) (one : Name) (rest : Tokens) → first is_underscore ts ≡ false → name ts ≡ Some (one, rest) → other_name ts ≡ Some (rename.Name one, rest)
 other_some ts one rest h n = other_is_name ts h ∙ rw n refl
 
+module _ (within : Tokens → Read UseTree) (ts : Tokens) where
+  pub group_none : elements (closes Brace) within ts ≡ None → use_group within ts ≡ None
+  group_none h = rw h refl
+
+  pub group_some : (read : List (UseTree × ℕ)) (trees : List UseTree) (need : ℕ) (rest : Tokens) → elements (closes Brace) within ts ≡ Some (read, rest)
+      → nodes read ≡ trees → deepest read ≡ need → use_group within ts ≡ Some ((use_end.Group trees, need), rest)
+  group_some read trees need rest h e d = rw (h, e, d) refl
+
 -- ---- depths
 
 deeper : {X : Type 0} (f : ℕ → X) (n : ℕ) → 0 < n → f n ≡ f (suc (n - 1))
@@ -170,29 +179,3 @@ module _ (depth : ℕ) (ts : Tokens) (some : 0 < depth) where
     pub item_some : (kind : ItemKind) (need : ℕ) (rest : Tokens) → kind_by (item_at (depth - 1)) (use_at (depth - 1)) mid ≡ Some ((kind, need), rest)
         → item_at depth ts ≡ Some ((record { attrs = attrs; kind = kind }, need + 1), rest)
     item_some kind need rest k = item_step ∙ rw (a, k, add-one) refl
-
--- what a module is, behind its brace
-abbrev module_behind : (Tokens → Read Item) → Name → List Attr → Tokens → Read ItemKind
-module_behind within n attrs ts =
-    items_by within ts >>= (λ items. passed (closes Brace) items.1 >>= (λ rest. Some ((item.Module n attrs (nodes items.0), deepest items.0), rest)))
-
-module _ (within : Tokens → Read Item) (ts : Tokens) (n : Name) (mid : Tokens) (h : name ts ≡ Some (n, mid)) (opened : first (opens Brace) mid ≡ true) where
-  pub module_no_attrs : attributes true (tail mid) ≡ None → module_by within ts ≡ None
-  unfolding module_by
-  module_no_attrs a = rw (h, opened, a) refl
-
-  module _ (attrs : List Attr) (behind : Tokens) (a : attributes true (tail mid) ≡ Some (attrs, behind)) where
-    module_step : module_by within ts ≡ module_behind within n attrs behind
-    unfolding module_by
-    module_step = rw (h, opened, a) refl
-
-    pub module_none : items_by within behind ≡ None → module_by within ts ≡ None
-    module_none i = module_step ∙ rw i refl
-
-    module _ (read : List (Item × ℕ)) (rest : Tokens) (i : items_by within behind ≡ Some (read, rest)) where
-      pub module_open : first (closes Brace) rest ≡ false → module_by within ts ≡ None
-      module_open c = module_step ∙ rw (i, c) refl
-
-      pub module_some : (items : List Item) (need : ℕ) → nodes read ≡ items → deepest read ≡ need → first (closes Brace) rest ≡ true
-          → module_by within ts ≡ Some ((item.Module n attrs items, need), tail rest)
-      module_some items need e d c = module_step ∙ rw (i, c, e, d) refl

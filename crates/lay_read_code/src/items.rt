@@ -5,7 +5,7 @@ ghost use Rattle.lay_tree.specs.reader.Use.{use_at};
 ghost use Rattle.lay_read_code.specs.Answers.{AreFound, AreLexed, IsFound, IsHeld};
 
 use crate::attributes::read_attrs;
-use crate::found::Found;
+use crate::found::{Found, greater};
 use crate::front::{has_items, takes_closer, takes_keyword, takes_mark, takes_opener};
 use crate::names::read_name;
 use crate::stop::{Stop, keep};
@@ -26,7 +26,7 @@ pub fn read_items(alloc: Global, at: &mut Cursor<'_>, depth: u32) -> Result<Foun
     let mut need = 0;
     while has_items(at) {
         let item = read_item(alloc, at, depth)?;
-        need = need.max(item.need);
+        need = greater(need, item.need);
         keep(&mut items, item.node)?;
     }
     Ok(Found { node: items, need })

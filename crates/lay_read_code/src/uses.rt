@@ -3,7 +3,7 @@ ghost use Rattle.std.specs.Prelude.{◌≡◌, ◌≤◌, IfOk};
 ghost use Rattle.lay_tree.specs.reader.Use as reader;
 ghost use Rattle.lay_read_code.specs.Answers.{IsFound, IsGot};
 
-use crate::found::Found;
+use crate::found::{Found, greater};
 use crate::front::{
     is_at_colons, takes_closer, takes_colons, takes_element_end, takes_keyword, takes_op,
     takes_opener, takes_underscore,
@@ -69,7 +69,7 @@ fn read_group(alloc: Global, at: &mut Cursor<'_>, depth: u32) -> Result<Found<Us
     let mut need = 0;
     while !takes_closer(at, Delim::Brace) {
         let tree = read_use(alloc, at, depth)?;
-        need = need.max(tree.need);
+        need = greater(need, tree.need);
         keep(&mut trees, tree.node)?;
         if !takes_element_end(at, Delim::Brace) {
             return Err(Stop::NoReading);
