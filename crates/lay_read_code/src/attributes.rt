@@ -8,7 +8,9 @@ ghost use Rattle.lay_tree.specs.reader.Attr as reader;
 ghost use Rattle.lay_tree.specs.declared.attr.MetaInput.TheVariants as input;
 ghost use Rattle.lay_read_code.specs.Answers.{AreLexed, IsGot, IsMade, meta_rest, bare_rest, value_rest};
 
-use crate::front::{is_at_mark, pass, takes_closer, takes_keyword, takes_mark, takes_op, takes_opener};
+use crate::front::{
+    is_at_mark, pass, takes_closer, takes_keyword, takes_mark, takes_op, takes_opener,
+};
 use crate::paths::read_path;
 use crate::stop::{Stop, copy_of, keep};
 use lay_cook::{Cooked, cook};
