@@ -1,5 +1,5 @@
 -- What the tests of the front of a list of tokens tell of it, and what stands there tells of the tests.
-use Rattle.std.proofs.Common.{◌≡◌, ℕ, suc, ◌+◌, ◌≤◌, ◌<◌, Bool, true, false, List, [], ◌∷◌, ◌++◌, length, drop, codes, Option, Some, None, refl, sym, ap, subst, ◌∙◌, inl, inr, arith, length-append, length-drop}
+use Rattle.std.proofs.Common.{◌≡◌, ℕ, suc, ◌≤◌, ◌<◌, Bool, true, false, List, [], ◌∷◌, ◌++◌, length, codes, Option, Some, None, refl, sym, ap, subst, ◌∙◌, inl, inr, arith, length-append, length-drop}
 use Rattle.std.specs.Str.{bytes_eq}
 use Rattle.std.proofs.lemmas.Bool.{and_parts, cases_Bool, false_from_ne_true}
 use Rattle.std.proofs.lemmas.Slice.Eq.{bytes_eq-Decides}
@@ -11,7 +11,7 @@ use Rattle.lay_token.specs.declared.token.Delim.TheVariants.{Paren, Bracket, Bra
 use Rattle.lay_token.specs.declared.token.Kind.{Kind}
 use Rattle.lay_token.specs.declared.token.Kind.TheVariants.{Ident, Punct, Opener, Closer}
 use Rattle.lay_token.specs.declared.token.Token.{Token}
-use Rattle.lay_token.proofs.Deciding.{punct_is, bytes_same}
+use Rattle.lay_token.proofs.Deciding.{punct_is, bytes_same, bytes_self}
 use Rattle.lay_form.specs.Spelled.{IsOne, IsOperator}
 use Rattle.lay_form.proofs.FormLaws.{IsEnd}
 use Rattle.lay_tree.specs.Ahead.{Tokens, first, tail, is_ident, is_keyword, is_mark, same_delim, is_opener, is_closer, opens, closes}
@@ -75,27 +75,24 @@ closes_one d [] p h = absurd (cc)
 closes_one d (t ∷ ts) p h =
     let k = closer_kind d t.kind h in (k, only_one (Closer d) t.kind (closing d ∷ []) t.text k refl p.0, refl)
 
--- what passes is what the test tells
-pub passed_is : (p : Token → Bool) (S : Tokens → Tokens → Type 0) → ((ts : Tokens) → HaveTexts ts → first p ts ≡ true → S ts (tail ts))
-    → (ts rest : Tokens) → HaveTexts ts → passed p ts ≡ Some rest → S ts rest
-passed_is p S one ts rest t h =
+passed_first : (p : Token → Bool) (ts rest : Tokens) → passed p ts ≡ Some rest → (first p ts ≡ true) × (tail ts ≡ rest)
+passed_first p ts rest h =
     elim (chosen (first p ts) (Some (tail ts)) None (Some rest) h) [
-      | inl g ↦ let e : tail ts ≡ rest = cc g.1 in rw (← e) (one ts t g.0)
+      | inl g ↦ let e : tail ts ≡ rest = cc g.1 in (g.0, e)
       | inr g ↦ absurd (cc)
     ]
 
 pub mark_passed_is : (character : List ℕ) (ts rest : Tokens) → passed (is_mark character) ts ≡ Some rest → IsOne Punct character ts rest
 mark_passed_is character ts rest h =
-    elim (chosen (first (is_mark character) ts) (Some (tail ts)) None (Some rest) h) [
-      | inl g ↦ let e : tail ts ≡ rest = cc g.1 in rw (← e) (mark_one character ts g.0)
-      | inr g ↦ absurd (cc)
-    ]
+    let f = passed_first (is_mark character) ts rest h in subst (IsOne Punct character ts) f.1 (mark_one character ts f.0)
 
 pub opener_passed_is : (d : Delim) (ts rest : Tokens) → HaveTexts ts → passed (opens d) ts ≡ Some rest → IsOne (Opener d) (opening d ∷ []) ts rest
-opener_passed_is d ts rest t h = passed_is (opens d) (IsOne (Opener d) (opening d ∷ [])) (opens_one d) ts rest t h
+opener_passed_is d ts rest t h =
+    let f = passed_first (opens d) ts rest h in subst (IsOne (Opener d) (opening d ∷ []) ts) f.1 (opens_one d ts t f.0)
 
 pub closer_passed_is : (d : Delim) (ts rest : Tokens) → HaveTexts ts → passed (closes d) ts ≡ Some rest → IsOne (Closer d) (closing d ∷ []) ts rest
-closer_passed_is d ts rest t h = passed_is (closes d) (IsOne (Closer d) (closing d ∷ [])) (closes_one d) ts rest t h
+closer_passed_is d ts rest t h =
+    let f = passed_first (closes d) ts rest h in subst (IsOne (Closer d) (closing d ∷ []) ts) f.1 (closes_one d ts t f.0)
 
 -- ---- one token
 
@@ -125,8 +122,7 @@ same_itself Brace = refl
 
 pub mark_passed : (character : List ℕ) (ts rest : Tokens) → IsOne Punct character ts rest → passed (is_mark character) ts ≡ Some rest
 mark_passed character ts rest o =
-    let same : bytes_eq character character ≡ true = (bytes_eq-Decides character character).1 refl in
-    rw ((one_front Punct character ts rest o).1, same) refl
+    rw ((one_front Punct character ts rest o).1, bytes_self character) refl
 
 pub opener_passed : (d : Delim) (ts rest : Tokens) → IsOne (Opener d) (opening d ∷ []) ts rest → passed (opens d) ts ≡ Some rest
 opener_passed d ts rest o = rw ((one_front (Opener d) (opening d ∷ []) ts rest o).1, same_itself d) refl

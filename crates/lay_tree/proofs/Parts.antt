@@ -1,5 +1,5 @@
 -- Parts that stand one behind the other, and the forms that lay them out so: lines, bodies, and lists in delimiters.
-use Rattle.std.proofs.Common.{◌≡◌, ℕ, ◌≤◌, max, Bool, true, false, ◌&&◌, List, [], ◌∷◌, ◌++◌, map, refl, sym, ap, subst, ◌∙◌, inl, inr, arith, codes}
+use Rattle.std.proofs.Common.{◌≡◌, ℕ, Bool, true, false, List, [], ◌∷◌, ◌++◌, map, refl, sym, subst, ◌∙◌, codes}
 use Rattle.std.specs.List.{list_all}
 use Rattle.std.proofs.lemmas.Bool.{and_parts, and_from}
 use Rattle.std.proofs.lemmas.List.Folds.{list_all-map}
@@ -8,7 +8,7 @@ use Rattle.lay_token.specs.declared.token.Delim.{Delim}
 use Rattle.lay_token.specs.declared.token.Delim.TheVariants.{Brace}
 use Rattle.lay_token.specs.declared.token.Kind.{Kind}
 use Rattle.lay_token.specs.declared.token.Kind.TheVariants.{Ident, RawIdent, Punct, Opener, Closer}
-use Rattle.lay_form.specs.Form.{Bit, Blank, Fixed, Form, Done, Piece, Part, opener, closer, comma}
+use Rattle.lay_form.specs.Form.{Bit, Blank, Fixed, Form, Done, Part, opener, closer, comma}
 use Rattle.lay_form.specs.Notation.{H, piece, each, comma_gap, comma_list, body, lines, behind_attrs}
 use Rattle.lay_form.specs.Spelled.{Then, IsOne, IsBit, AreBits, MayBe, Spells}
 use Rattle.lay_tree.specs.Ahead.{Tokens}
@@ -73,10 +73,10 @@ pub rows_spelled : {A : Type 0} (about : A → Facts) (depth : ℕ) (xs : List A
     → Rows (SpelledAt depth) (forms (map about xs)) ts rest × (all_good (map about xs) ≡ true)
 rows_spelled about depth xs ts rest r = (
   rows_map (λ (x : Facts). x.form) (SpelledAt depth) (map about xs) ts rest
-  (rows_map about (λ (x : Facts). SpelledAt depth x.form) xs ts rest
-  (rows_to (GoodAt about depth) (λ x. SpelledAt depth (about x).form) (λ x us mid g. g.0) xs ts rest r)),
+      (rows_map about (λ (x : Facts). SpelledAt depth x.form) xs ts rest
+      (rows_to (GoodAt about depth) (λ x. SpelledAt depth (about x).form) (λ x us mid g. g.0) xs ts rest r)),
   list_all-map (λ (x : Facts). x.good) about xs
-  ∙ rows_pass (λ x. (about x).good) (λ x. SpelledAt depth (about x).form) xs ts rest r,
+      ∙ rows_pass (λ x. (about x).good) (λ x. SpelledAt depth (about x).form) xs ts rest r,
 )
 
 pub rows_good : {A : Type 0} (about : A → Facts) (depth : ℕ) (xs : List A) (ts rest : Tokens)

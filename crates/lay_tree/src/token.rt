@@ -26,14 +26,7 @@ pub struct Literal {
 #[derive(Debug, Drop)]
 pub enum Listed {
     /// Any token but documentation, with its joint mark: another punctuation token stands directly behind it.
-    Token {
-        kind: Kind,
-        text: Text,
-        joint: bool,
-    },
+    Token { kind: Kind, text: Text, joint: bool },
     /// Documentation.
-    Doc {
-        inner: bool,
-        text: Text,
-    },
+    Doc { inner: bool, text: Text },
 }

@@ -1,30 +1,25 @@
 -- Attributes: what is read is spelled, and well formed.
-use Rattle.std.proofs.Common.{◌≡◌, ℕ, ◌<◌, ◌≤◌, Bool, true, false, not, ◌&&◌, List, [], ◌∷◌, ◌++◌, map, drop, length, codes, ◌⊎◌, inl, inr, Option, Some, None, if◌then◌else◌, refl, sym, ap, subst, ◌∙◌, arith}
+use Rattle.std.proofs.Common.{◌≡◌, ℕ, Bool, true, false, not, ◌&&◌, List, [], ◌∷◌, map, drop, codes, inl, inr, Option, Some, None, if◌then◌else◌, refl, ap, subst}
 use Rattle.std.specs.Prelude.{encode_utf8_all}
-use Rattle.std.specs.List.{list_all}
 use Rattle.std.specs.Str.{chars, bytes_eq}
-use Rattle.std.proofs.lemmas.Bool.{and_parts, and_from, not-true, false_from_ne_true}
-use Rattle.std.proofs.lemmas.Slice.Eq.{bytes_eq-Decides}
-use Rattle.lay_token.specs.Forms.{opening, closing}
+use Rattle.std.proofs.lemmas.Bool.{and_from, not-true}
+use Rattle.lay_token.specs.Forms.{closing}
 use Rattle.lay_token.specs.Operators.{is_op}
 use Rattle.lay_token.specs.Value.{value_of}
-use Rattle.lay_token.specs.Word.{class_of}
 use Rattle.lay_token.specs.declared.token.Delim.TheVariants.{Bracket}
 use Rattle.lay_token.specs.declared.token.Kind.{Kind}
-use Rattle.lay_token.specs.declared.token.Kind.TheVariants.{Ident, RawIdent, Str, RawStr, Punct, Opener, Closer, Doc}
-use Rattle.lay_token.specs.declared.token.Token.{Token}
+use Rattle.lay_token.specs.declared.token.Kind.TheVariants.{Ident, Punct, Closer, Doc}
 use Rattle.lay_token.proofs.Deciding.{bytes_same}
-use Rattle.lay_form.specs.Form.{Blank, Operator, Form, Done, keyword, opener, closer}
+use Rattle.lay_form.specs.Form.{Operator, Form, Done, keyword, closer}
 use Rattle.lay_form.specs.Notation.{piece, when}
-use Rattle.lay_form.specs.Spelled.{IsOne, IsOperator, IsComment, IsString, IsDocAttr, IsDoc, AreBits, attr_opening, Spells}
-use Rattle.lay_form.proofs.FormLaws.{one_end, bits_end, is_end, shorter, string_end}
-use Rattle.lay_tree.specs.Ahead.{Tokens, first, tail, is_keyword, is_mark, opens, closes, is_closer}
-use Rattle.lay_tree.specs.Words.{leaf_of, colons, is_path_class, is_path_word, is_literal_kind}
-use Rattle.lay_tree.specs.nodes.Attr.{is_doc_text, is_doc_value, is_doc_segments, is_doc_path, is_doc_input, is_meta_path, is_input, same_flag, is_attr, are_attrs, meta_path_form, input_form, attr_form, about_attr}
-use Rattle.lay_tree.specs.nodes.Facts.{Front}
-use Rattle.lay_tree.specs.nodes.Path.{is_segments, segments_form, path_form, about_path}
+use Rattle.lay_form.specs.Spelled.{IsOne, IsString, AreBits, attr_opening, Spells}
+use Rattle.lay_form.proofs.FormLaws.{one_end, bits_end, is_end}
+use Rattle.lay_tree.specs.Ahead.{Tokens, first, tail, is_keyword, is_mark, opens, closes}
+use Rattle.lay_tree.specs.Words.{leaf_of, colons, is_literal_kind}
+use Rattle.lay_tree.specs.nodes.Attr.{is_doc_text, is_doc_segments, is_doc_path, is_doc_input, is_meta_path, is_input, same_flag, is_attr, are_attrs, meta_path_form, input_form, attr_form, about_attr}
+use Rattle.lay_tree.specs.nodes.Path.{segments_form}
 use Rattle.lay_tree.specs.reader.Attr.{meta_name, meta_input, doc_or, made, behind_opening, meta_attr, is_doc_kind, is_doc, doc_attr, attribute, begins_attr, attributes}
-use Rattle.lay_tree.specs.reader.Exact.{HaveTexts, Exact, needless}
+use Rattle.lay_tree.specs.reader.Exact.{HaveTexts}
 use Rattle.lay_tree.specs.reader.Loops.{Got, ◌>>=◌, passed}
 use Rattle.lay_tree.specs.reader.Path.{path as path_reading}
 use Rattle.lay_tree.specs.reader.Words.{literal}
@@ -37,13 +32,12 @@ use Rattle.lay_tree.specs.declared.attr.MetaPath.TheVariants as meta_path
 use Rattle.lay_tree.specs.declared.path.Path.{Path}
 use Rattle.lay_tree.specs.declared.path.Segment.{Segment}
 use Rattle.lay_tree.specs.declared.token.Literal.{Literal}
-use Rattle.lay_tree.proofs.Fronts.{texts_behind, end_shorter, keyword_one, mark_passed_is, mark_passed, opener_passed_is, opener_passed, closer_passed_is, closer_passed, one_front, op_front, one_no_op, other_op, one_test, one_shorter}
-use Rattle.lay_tree.proofs.Parts.{Rows, rows_to, rows_map, rows_of_map, rows_pass, rows_with, GoodAt, SpelledAt, bits_joined, bits_parts, bit_alone, behind_blank, before_blank, bit_piece, piece_bit, leaf_alone, word_kind}
-use Rattle.lay_tree.proofs.Steps.{got_same, same_some, chosen, bind_some}
-use Rattle.lay_tree.proofs.reader.Exact.{Stands, exact, needless_sound, needless_complete}
-use Rattle.lay_tree.proofs.reader.Loops.{Turn, repeat_sound, repeat_complete}
-use Rattle.lay_tree.proofs.reader.Path.{IsSegment, path_sound, path_complete, segments_rows}
-use Rattle.lay_tree.proofs.reader.Words.{literal_sound, literal_complete}
+use Rattle.lay_tree.proofs.Fronts.{texts_behind, keyword_one, mark_passed_is, opener_passed_is, closer_passed_is}
+use Rattle.lay_tree.proofs.Parts.{Rows, rows_to, rows_map, rows_of_map, rows_pass, rows_with, GoodAt, SpelledAt, bits_joined, bit_piece, leaf_alone}
+use Rattle.lay_tree.proofs.Steps.{same_some, chosen, bind_some}
+use Rattle.lay_tree.proofs.reader.Loops.{repeat_sound}
+use Rattle.lay_tree.proofs.reader.Path.{path_sound}
+use Rattle.lay_tree.proofs.reader.Words.{literal_sound}
 
 -- ---- what an attribute is called, and what it is given
 
@@ -260,7 +254,7 @@ pub attrs_spelled : (inner : Bool) (depth : ℕ) (attrs : List Attr) (ts rest : 
     → Rows (SpelledAt depth) (map attr_form attrs) ts rest × (are_attrs inner attrs ≡ true)
 attrs_spelled inner depth attrs ts rest r = (
   rows_map attr_form (SpelledAt depth) attrs ts rest
-  (rows_to (GoodAt (about_attr inner) depth) (λ a. SpelledAt depth (attr_form a)) (λ a us mid g. g.0) attrs ts rest r),
+      (rows_to (GoodAt (about_attr inner) depth) (λ a. SpelledAt depth (attr_form a)) (λ a us mid g. g.0) attrs ts rest r),
   rows_pass (is_attr inner) (λ a. SpelledAt depth (attr_form a)) attrs ts rest r,
 )
 

@@ -1,5 +1,5 @@
 -- Attributes: what is spelled, and well formed, is read.
-use Rattle.std.proofs.Common.{◌≡◌, ℕ, ◌<◌, ◌≤◌, Bool, true, false, not, ◌&&◌, List, [], ◌∷◌, ◌++◌, map, drop, length, codes, ◌⊎◌, inl, inr, Option, Some, None, if◌then◌else◌, refl, sym, ap, subst, ◌∙◌, arith}
+use Rattle.std.proofs.Common.{◌≡◌, ℕ, ◌<◌, ◌≤◌, Bool, true, false, not, ◌&&◌, List, [], ◌∷◌, length, codes, ◌⊎◌, inl, inr, Option, Some, None, if◌then◌else◌, refl, ap, subst, ◌∙◌, arith}
 use Rattle.std.specs.Prelude.{encode_utf8_all}
 use Rattle.std.specs.Str.{chars, bytes_eq}
 use Rattle.std.proofs.lemmas.Bool.{and_parts, not-true, false_from_ne_true}
@@ -18,10 +18,10 @@ use Rattle.lay_form.specs.Spelled.{IsOne, IsOperator, IsComment, IsString, IsDoc
 use Rattle.lay_form.proofs.FormLaws.{bits_end, shorter, string_end}
 use Rattle.lay_tree.specs.Ahead.{Tokens, first, is_keyword, is_closer}
 use Rattle.lay_tree.specs.Words.{colons, is_path_class, is_path_word, is_literal_kind}
-use Rattle.lay_tree.specs.nodes.Attr.{is_doc_text, is_doc_value, is_doc_path, is_doc_input, is_meta_path, is_input, same_flag, is_attr, are_attrs, meta_path_form, input_form, attr_form, about_attr}
+use Rattle.lay_tree.specs.nodes.Attr.{is_doc_text, is_doc_value, is_doc_path, is_doc_input, is_meta_path, is_input, same_flag, meta_path_form, input_form, attr_form, about_attr}
 use Rattle.lay_tree.specs.nodes.Facts.{Front}
 use Rattle.lay_tree.specs.nodes.Path.{are_segments, is_segments, segments_form}
-use Rattle.lay_tree.specs.reader.Attr.{meta_name, meta_input, doc_or, made, behind_opening, meta_attr, is_doc_kind, is_doc, doc_attr, attribute, begins_attr, attributes}
+use Rattle.lay_tree.specs.reader.Attr.{meta_name, meta_input, doc_or, made, behind_opening, meta_attr, is_doc_kind, doc_attr, attribute, begins_attr, attributes}
 use Rattle.lay_tree.specs.reader.Exact.{Exact, needless}
 use Rattle.lay_tree.specs.reader.Item.{ends_items}
 use Rattle.lay_tree.specs.declared.attr.Attr.{Attr}
@@ -35,7 +35,7 @@ use Rattle.lay_tree.specs.declared.token.Literal.{Literal}
 use Rattle.lay_tree.proofs.Fronts.{end_shorter, closer_passed, mark_passed, opener_passed, one_front, op_front, one_no_op, other_op, one_test, one_shorter}
 use Rattle.lay_tree.proofs.Parts.{Rows, rows_to, GoodAt, bits_parts, bit_alone, behind_blank, before_blank, piece_bit, word_kind}
 use Rattle.lay_tree.proofs.reader.Attr.{flag_same, same_as_itself, attribute_sound}
-use Rattle.lay_tree.proofs.reader.Exact.{Stands, exact, needless_sound, needless_complete}
+use Rattle.lay_tree.proofs.reader.Exact.{exact, needless_sound, needless_complete}
 use Rattle.lay_tree.proofs.reader.Loops.{Turn, repeat_complete}
 use Rattle.lay_tree.proofs.reader.Path.{path_complete, segments_rows}
 use Rattle.lay_tree.proofs.reader.Words.{literal_complete}
@@ -185,7 +185,7 @@ value_is_literal _ piece value h = absurd (cc)
 
 string_literal : (value : List ℕ) (ts rest : Tokens) → IsString value ts rest
     → (l : Literal) × (held : List ℕ) × IsOne l.kind l.text ts rest × (is_literal_kind l.kind ≡ true) × (value_of l.kind (chars l.text) ≡ Some held)
-        × (value ≡ encode_utf8_all held)
+    × (value ≡ encode_utf8_all held)
 string_literal value [] rest s = absurd s
 string_literal value (t ∷ ts) rest s =
     let l : Literal = record { kind = t.kind; text = t.text } in

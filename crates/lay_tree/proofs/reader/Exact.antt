@@ -1,8 +1,8 @@
 -- From what stands in front of what is left to a count of tokens; and that at most one node and one count fit.
-use Rattle.std.proofs.Common.{◌≡◌, ℕ, ◌+◌, ◌≤◌, ◌<◌, ◌∙◌, Bool, true, List, [], ◌∷◌, ◌++◌, length, drop, Option, Some, refl, sym, ap, subst, arith, length-append, length-drop}
+use Rattle.std.proofs.Common.{◌≡◌, ℕ, ◌≤◌, ◌∙◌, true, length, drop, Some, refl, sym, ap, subst, arith, length-append, length-drop}
 use Rattle.std.proofs.lemmas.List.{drop_at}
 use Rattle.lay_form.specs.Spelled.{Spells}
-use Rattle.lay_form.proofs.FormLaws.{IsEnd, is_end}
+use Rattle.lay_form.proofs.FormLaws.{is_end}
 use Rattle.lay_tree.specs.Ahead.{Tokens}
 use Rattle.lay_tree.specs.Follow.{may_follow}
 use Rattle.lay_tree.specs.nodes.Facts.{Facts, Front}

@@ -1,5 +1,5 @@
 -- Files: what is read of a whole list of tokens is spelled by it, and the only file that is.
-use Rattle.std.proofs.Common.{◌≡◌, ℕ, ◌≤◌, Bool, true, false, ◌&&◌, List, [], ◌∷◌, ◌++◌, map, inl, inr, Option, Some, None, if◌then◌else◌, refl, sym, ap, subst, ◌∙◌}
+use Rattle.std.proofs.Common.{◌≡◌, ℕ, true, ◌&&◌, List, [], ◌∷◌, ◌++◌, map, inl, inr, Option, Some, None, if◌then◌else◌, refl, sym, ap, subst, ◌∙◌}
 use Rattle.std.proofs.lemmas.Bool.{and_parts, and_from}
 use Rattle.lay_token.specs.declared.token.Token.{Token}
 use Rattle.lay_form.specs.Notation.{lines}
@@ -7,11 +7,11 @@ use Rattle.lay_form.specs.Spelled.{Spells}
 use Rattle.lay_form.proofs.FormLaws.{deeper}
 use Rattle.lay_tree.specs.Ahead.{Tokens, at_end}
 use Rattle.lay_tree.specs.Reading.{top, SpellsFile}
-use Rattle.lay_tree.specs.nodes.Attr.{are_attrs, attr_form, about_attr}
+use Rattle.lay_tree.specs.nodes.Attr.{are_attrs, attr_form}
 use Rattle.lay_tree.specs.nodes.Facts.{forms, all_good}
 use Rattle.lay_tree.specs.nodes.File.{form_of_file, is_normal}
 use Rattle.lay_tree.specs.nodes.Item.{about_item}
-use Rattle.lay_tree.specs.reader.Attr.{begins_attr, attributes}
+use Rattle.lay_tree.specs.reader.Attr.{attributes}
 use Rattle.lay_tree.specs.reader.Exact.{HaveTexts}
 use Rattle.lay_tree.specs.reader.File.{whole}
 use Rattle.lay_tree.specs.reader.Item.{more_items, items_by, item_at}
@@ -19,7 +19,7 @@ use Rattle.lay_tree.specs.reader.Loops.{◌>>=◌, nodes, deepest}
 use Rattle.lay_tree.specs.declared.attr.Attr.{Attr}
 use Rattle.lay_tree.specs.declared.file.File.{File}
 use Rattle.lay_tree.specs.declared.item.Item.{Item}
-use Rattle.lay_tree.proofs.Parts.{Rows, rows_to, rows_joined, rows_parts, rows_spelled, rows_good, GoodAt, SpelledAt, lines_spelled, lines_rows}
+use Rattle.lay_tree.proofs.Parts.{Rows, rows_to, rows_joined, rows_parts, rows_spelled, rows_good, SpelledAt, lines_spelled, lines_rows}
 use Rattle.lay_tree.proofs.Steps.{got_same, same_some, chosen, bind_some}
 use Rattle.lay_tree.proofs.reader.Attr.{attributes_sound, attrs_spelled, attrs_rows}
 use Rattle.lay_tree.proofs.reader.AttrRead.{attributes_complete}
@@ -39,7 +39,7 @@ GoodFile depth ts file =
 
 whole_parts : (depth : ℕ) (ts : Tokens) (attrs : List Attr) (items : List Item) → HaveTexts ts
     → (attributes true ts >>= (λ a. items_by (item_at depth) a.1 >>= (λ i.
-      let found : Option (List Attr × List Item) = if at_end i.1 then Some (a.0, nodes i.0) else None in found))) ≡ Some (attrs, items)
+    let found : Option (List Attr × List Item) = if at_end i.1 then Some (a.0, nodes i.0) else None in found))) ≡ Some (attrs, items)
     → GoodFile depth ts (attrs, items)
 unfolding items_by
 whole_parts depth ts attrs items t h =

@@ -1,25 +1,22 @@
 -- Items.
-use Rattle.std.proofs.Common.{◌≡◌, ℕ, zero, suc, ◌<◌, ◌≤◌, Bool, true, false, not, ◌&&◌, List, [], ◌∷◌, ◌++◌, length, map, codes, inl, inr, Option, Some, None, if◌then◌else◌, refl, sym, ap, subst, ◌∙◌, arith}
-use Rattle.std.proofs.lemmas.Bool.{and_parts, and_from, not-false}
-use Rattle.lay_token.specs.Forms.{opening, closing}
+use Rattle.std.proofs.Common.{◌≡◌, ℕ, zero, suc, ◌≤◌, Bool, true, false, ◌&&◌, List, [], ◌∷◌, ◌++◌, map, codes, inl, inr, Some, None, if◌then◌else◌, refl, arith}
+use Rattle.std.proofs.lemmas.Bool.{and_from}
+use Rattle.lay_token.specs.Forms.{opening}
 use Rattle.lay_token.specs.declared.token.Delim.TheVariants.{Brace}
-use Rattle.lay_token.specs.declared.token.Kind.TheVariants.{Ident, Punct, Opener, Closer}
-use Rattle.lay_token.specs.declared.token.Token.{Token}
-use Rattle.lay_form.specs.Form.{Bit, Blank, Form, Done, Piece, Part, keyword, punct, opener, closer}
-use Rattle.lay_form.specs.Notation.{I0, piece, behind_attrs}
+use Rattle.lay_token.specs.declared.token.Kind.TheVariants.{Ident, Opener}
+use Rattle.lay_form.specs.Form.{Blank, Done, Piece, Part, keyword, punct}
 use Rattle.lay_form.specs.Spelled.{IsOne, AreBits, Spells}
-use Rattle.lay_form.proofs.FormLaws.{deeper, one_end, is_end, shorter}
+use Rattle.lay_form.proofs.FormLaws.{one_end}
 use Rattle.lay_tree.specs.Ahead.{Tokens, first, tail, is_keyword, is_mark, opens, closes}
-use Rattle.lay_tree.specs.Follow.{may_follow}
 use Rattle.lay_tree.specs.Words.{is_name, leaf_of}
-use Rattle.lay_tree.specs.nodes.Attr.{are_attrs, attr_form, about_attr}
-use Rattle.lay_tree.specs.nodes.Facts.{Facts, forms, all_good, Front}
-use Rattle.lay_tree.specs.nodes.Item.{kind_form, kind_facts, item_facts, about_item, about_kind}
+use Rattle.lay_tree.specs.nodes.Attr.{are_attrs, attr_form}
+use Rattle.lay_tree.specs.nodes.Facts.{forms, all_good}
+use Rattle.lay_tree.specs.nodes.Item.{kind_form, kind_good, about_item, about_kind}
 use Rattle.lay_tree.specs.nodes.Use.{about_use}
-use Rattle.lay_tree.specs.reader.Attr.{begins_attr, attributes}
-use Rattle.lay_tree.specs.reader.Exact.{HaveTexts, Exact}
-use Rattle.lay_tree.specs.reader.Item.{ends_items, more_items, items_by, struct_item, module_by, import_by, kind_by, item_by, item_at}
-use Rattle.lay_tree.specs.reader.Loops.{Got, Read, ◌>>=◌, passed, nodes, deepest}
+use Rattle.lay_tree.specs.reader.Attr.{attributes}
+use Rattle.lay_tree.specs.reader.Exact.{HaveTexts}
+use Rattle.lay_tree.specs.reader.Item.{more_items, items_by, struct_item, module_by, import_by, kind_by, item_by, item_at}
+use Rattle.lay_tree.specs.reader.Loops.{Read, ◌>>=◌, passed, nodes, deepest}
 use Rattle.lay_tree.specs.reader.Use.{use_at}
 use Rattle.lay_tree.specs.reader.Words.{name}
 use Rattle.lay_tree.specs.declared.attr.Attr.{Attr}
@@ -29,17 +26,15 @@ use Rattle.lay_tree.specs.declared.item.ItemKind.TheVariants as item
 use Rattle.lay_tree.specs.declared.item.ItemKind.TheOpen.{ItemKind-F}
 use Rattle.lay_tree.specs.declared.token.Name.{Name}
 use Rattle.lay_tree.specs.declared.use_tree.UseTree.{UseTree}
-use Rattle.lay_tree.proofs.Follow.{quiet_follows, semicolon_quiet}
-use Rattle.lay_tree.proofs.Fronts.{texts_behind, end_shorter, keyword_one, mark_passed_is, mark_passed, opener_passed_is, opener_passed, closer_passed_is, closer_passed, one_front, one_shorter}
-use Rattle.lay_tree.proofs.Parts.{Rows, rows_joined, rows_parts, rows_spelled, rows_good, GoodAt, SpelledAt, behind_attrs_spelled, behind_attrs_rows, body_spelled, body_rows, before_blank, bit_piece, piece_bit, part_alone, word_kind, leaf_spelled, leaf_alone}
+use Rattle.lay_tree.proofs.Fronts.{texts_behind, keyword_one, mark_passed_is, opener_passed_is, closer_passed_is}
+use Rattle.lay_tree.proofs.Parts.{rows_joined, rows_spelled, SpelledAt, behind_attrs_spelled, body_spelled, bit_piece, word_kind, leaf_spelled}
 use Rattle.lay_tree.proofs.Steps.{same_some, chosen, bind_some}
-use Rattle.lay_tree.proofs.nodes.ItemLaws.{KindView, IsStruct, IsModule, IsImport, kind_view, item_is, struct_is, module_is, import_is}
-use Rattle.lay_tree.proofs.reader.Attr.{attributes_sound, attrs_spelled, attrs_rows}
-use Rattle.lay_tree.proofs.reader.AttrRead.{attr_shorter, BeginsItem, outer_begins_item, attributes_complete}
-use Rattle.lay_tree.proofs.reader.Exact.{Stands, Sound, IsRead, Complete, exact}
-use Rattle.lay_tree.proofs.reader.Needs.{nodes_sound, nodes_complete}
-use Rattle.lay_tree.proofs.reader.Use.{use_sound, use_complete}
-use Rattle.lay_tree.proofs.reader.Words.{GoodName, name_sound, name_complete}
+use Rattle.lay_tree.proofs.nodes.ItemLaws.{item_is, struct_is, module_is, import_is}
+use Rattle.lay_tree.proofs.reader.Attr.{attributes_sound, attrs_spelled}
+use Rattle.lay_tree.proofs.reader.Exact.{Stands, Sound}
+use Rattle.lay_tree.proofs.reader.Needs.{nodes_sound}
+use Rattle.lay_tree.proofs.reader.Use.{use_sound}
+use Rattle.lay_tree.proofs.reader.Words.{name_sound}
 
 -- ---- what is read is spelled
 
@@ -85,6 +80,11 @@ import_sound budget tree sound ts named kind need rest k t h =
     let stands : Stands (about_kind (item.Import u)) n ts c.0 = rw (import_is u) (spelled, s.1.1, refl) in
     same_some (Handed budget ts) ((item.Import u, n), c.0) ((kind, need), rest) c.2 (s.0, stands)
 
+module_stands : (n : Name) (attrs : List Attr) (items : List Item) (depth : ℕ) (ts rest : Tokens)
+    → Spells (kind_form (ItemKind-F.Module n attrs (map about_item items))) depth ts rest
+    → kind_good (ItemKind-F.Module n attrs (map about_item items)) ≡ true → Stands (about_kind (item.Module n attrs items)) depth ts rest
+module_stands n attrs items depth ts rest s g = rw (module_is n attrs items) (s, g, refl)
+
 module_sound : (budget : ℕ) (within : Tokens → Read Item) → Sound about_item budget within → SoundBehind (codes "mod") budget (module_by within)
 unfolding module_by items_by
 module_sound budget within sound ts named kind need rest k t h =
@@ -118,7 +118,7 @@ module_sound budget within sound ts named kind need rest k t h =
     (b.0.1, head_spelled (codes "mod") n most ts named b.0.1 k i.0, within_braces) in
     let headed = and_from (is_name n.raw n.text) (are_attrs true attrs) i.1 before.1 in
     let good = and_from (is_name n.raw n.text && are_attrs true attrs) (all_good (map about_item items)) headed behind.1 in
-    let stands : Stands (about_kind (item.Module n attrs items)) most ts e.0 = rw (module_is n attrs items) (spelled, good, refl) in
+    let stands = module_stands n attrs items most ts e.0 spelled good in
     same_some (Handed budget ts) ((item.Module n attrs items, most), e.0) ((kind, need), rest) e.2 (r.0, stands)
 
 module _ (budget : ℕ) (within : Tokens → Read Item) (tree : Tokens → Read UseTree) (sound : Sound about_item budget within) (use_is : Sound about_use budget tree) where

@@ -1,5 +1,5 @@
 -- The two loops of the readers: what they read stands there, and what stands there is read.
-use Rattle.std.proofs.Common.{◌≡◌, ℕ, zero, suc, ◌<◌, ◌≤◌, Bool, true, false, List, [], ◌∷◌, ◌++◌, ◌⊎◌, inl, inr, length, map, codes, Option, Some, None, refl, sym, ap, subst, ◌∙◌, if◌then◌else◌, append_assoc, append-nil, arith}
+use Rattle.std.proofs.Common.{◌≡◌, ℕ, zero, suc, ◌<◌, ◌≤◌, Bool, true, false, List, [], ◌∷◌, ◌++◌, ◌⊎◌, inl, inr, length, codes, Some, None, refl, sym, ap, subst, ◌∙◌, if◌then◌else◌, append_assoc, append-nil, arith}
 use Rattle.lay_token.specs.Forms.{closing}
 use Rattle.lay_token.specs.declared.token.Delim.{Delim}
 use Rattle.lay_token.specs.declared.token.Kind.TheVariants.{Punct, Closer}
@@ -208,11 +208,13 @@ Ended d P x ts mid = P x ts mid × Ends d mid
 behind_ends : {A : Type 0} (d : Delim) (P : A → Tokens → Tokens → Type 0) (xs : List A) (ts rest : Tokens) → Behind d P xs ts rest
     → Ends d ts × Behind d (Ended d P) xs ts rest
 behind_ends d P [] ts rest b =
-    let last = b.2 in
-    (elim last.1 [
-      | inl e ↦ (rest, inr (rw (b.1, e) last.2))
-      | inr m ↦ (last.0, inl (rw b.1 (bit_alone (Fixed Punct (codes ",")) b.0 last.0 m)))
-    ], b)
+    let last = b.2 in (
+      elim last.1 [
+        | inl e ↦ (rest, inr (rw (b.1, e) last.2))
+        | inr m ↦ (last.0, inl (rw b.1 (bit_alone (Fixed Punct (codes ",")) b.0 last.0 m)))
+      ],
+      b,
+    )
 behind_ends d P (x ∷ xs) ts rest b =
     let row = b.1.1 in
     let more = behind_ends d P xs b.1.0 rest (b.0, b.1.2, b.2) in

@@ -1,5 +1,5 @@
 -- The two loops over nodes, which are read with their needs: rows of nodes, and lists of nodes in delimiters.
-use Rattle.std.proofs.Common.{◌≡◌, ℕ, ◌<◌, ◌≤◌, max, Bool, true, false, ◌&&◌, List, [], ◌∷◌, length, map, codes, Some, refl, sym, ap, ◌∙◌, arith}
+use Rattle.std.proofs.Common.{◌≡◌, ℕ, ◌<◌, ◌≤◌, Bool, true, false, List, [], ◌∷◌, length, map, Some, refl, ap, arith}
 use Rattle.std.proofs.lemmas.Bool.{and_parts, and_from}
 use Rattle.lay_token.specs.Forms.{opening}
 use Rattle.lay_token.specs.declared.token.Delim.{Delim}
@@ -108,7 +108,7 @@ module _ {A : Type 0} (about : A → Facts) (budget : ℕ) (read : Tokens → Re
   pub list_sound : (d : Delim) (ts inside : Tokens) (xs : List (A × ℕ)) (rest : Tokens) → IsOne (Opener d) (opening d ∷ []) ts inside → HaveTexts inside
       → elements (closes d) read inside ≡ Some (xs, rest)
       → (deepest xs ≤ budget) × Spells (comma_list true (opener d) (closer d) (forms (map about (nodes xs)))) (deepest xs) ts rest
-          × (all_good (map about (nodes xs)) ≡ true)
+      × (all_good (map about (nodes xs)) ≡ true)
   list_sound d ts inside xs rest o t h =
       let r = elements_sound read (Within about budget) (step_within about budget read sound) d inside xs rest t h in
       let w = elements_within about budget d xs inside rest r.0 in
@@ -141,7 +141,7 @@ module _ {A : Type 0} (about : A → Facts) (depth : ℕ) (read : Tokens → Rea
 
   module _ (d : Delim)
       (one : (x : A) (ts rest : Tokens) → GoodAt about depth x ts rest → Ends d rest
-          → (first (closes d) ts ≡ false) × IsRead depth read x ts rest × (length rest < length ts)) where
+      → (first (closes d) ts ≡ false) × IsRead depth read x ts rest × (length rest < length ts)) where
     element : (x : A) (us mid : Tokens) → Ended d (GoodAt about depth) x us mid → (n : ℕ) × (n ≤ depth) × Element d read (x, n) us mid
     element x us mid e = let t = one x us mid e.0 e.1 in let is = t.1 in (is.0, is.1, (t.0, is.2, t.2))
 
@@ -163,7 +163,7 @@ module _ {A : Type 0} (about : A → Facts) (depth : ℕ) (read : Tokens → Rea
     pub list_complete : (xs : List A) (ts rest : Tokens) → Spells (comma_list true (opener d) (closer d) (forms (map about xs))) depth ts rest
         → all_good (map about xs) ≡ true
         → (inside : Tokens) × IsOne (Opener d) (opening d ∷ []) ts inside
-            × (ys : List (A × ℕ)) × (nodes ys ≡ xs) × (deepest ys ≤ depth) × (elements (closes d) read inside ≡ Some (ys, rest))
+        × (ys : List (A × ℕ)) × (nodes ys ≡ xs) × (deepest ys ≤ depth) × (elements (closes d) read inside ≡ Some (ys, rest))
     list_complete xs ts rest s g =
         let l = list_elements d (forms (map about xs)) depth ts rest s in
         let e = elements_end d (GoodAt about depth) xs l.0 rest (elements_good about depth d xs l.0 rest l.2 g) in

@@ -1,8 +1,8 @@
 -- Paths.
-use Rattle.std.proofs.Common.{◌≡◌, ℕ, ◌<◌, Bool, true, false, not, ◌&&◌, List, [], ◌∷◌, drop, length, codes, Option, Some, None, refl, sym, ap, subst, ◌∙◌, arith}
+use Rattle.std.proofs.Common.{◌≡◌, ℕ, Bool, true, false, not, List, [], ◌∷◌, drop, codes, Some, refl, arith}
 use Rattle.std.proofs.lemmas.Bool.{and_parts, and_from, not-true}
 use Rattle.lay_token.specs.Operators.{is_op}
-use Rattle.lay_form.specs.Form.{Operator, Form, Done, Piece}
+use Rattle.lay_form.specs.Form.{Operator, Done, Piece}
 use Rattle.lay_form.specs.Notation.{when}
 use Rattle.lay_form.specs.Spelled.{Then, IsOne, IsOperator, Spells}
 use Rattle.lay_form.proofs.FormLaws.{deeper, one_end, bits_end}
@@ -10,7 +10,7 @@ use Rattle.lay_tree.specs.Ahead.{Tokens}
 use Rattle.lay_tree.specs.Follow.{OfColons, may_follow}
 use Rattle.lay_tree.specs.Words.{is_path_word, colons}
 use Rattle.lay_tree.specs.nodes.Facts.{Front}
-use Rattle.lay_tree.specs.nodes.Path.{are_segments, is_segments, segment_form, segments_form, path_form, about_path}
+use Rattle.lay_tree.specs.nodes.Path.{are_segments, is_segments, segments_form, path_form, about_path}
 use Rattle.lay_tree.specs.reader.Exact.{HaveTexts, Exact, needless}
 use Rattle.lay_tree.specs.reader.Loops.{Got, ◌>>=◌, repeat}
 use Rattle.lay_tree.specs.reader.Path.{segment, begins_colons, further_segment, path}
@@ -23,7 +23,7 @@ use Rattle.lay_tree.proofs.Parts.{Rows, rows_to, rows_pass, rows_with, bit_alone
 use Rattle.lay_tree.proofs.Steps.{same_some, bind_some}
 use Rattle.lay_tree.proofs.reader.Exact.{Stands, exact, needless_sound, needless_complete}
 use Rattle.lay_tree.proofs.reader.Loops.{SoundTurn, Turn, repeat_sound, repeat_complete}
-use Rattle.lay_tree.proofs.reader.Words.{word_sound, word_complete, word_no_op, LedBy, global_leads, global_texts, global_parts}
+use Rattle.lay_tree.proofs.reader.Words.{word_sound, word_complete, word_no_op, global_leads, global_texts, global_parts}
 
 abbrev pub IsSegment : Segment → Tokens → Tokens → Type 0
 IsSegment s = IsOne (word_kind s.word.raw) s.word.text

@@ -1,5 +1,5 @@
 -- Use trees.
-use Rattle.std.proofs.Common.{◌≡◌, ℕ, zero, suc, ◌<◌, ◌≤◌, Bool, true, false, not, ◌&&◌, List, [], ◌∷◌, drop, length, map, codes, inl, inr, Option, Some, None, if◌then◌else◌, refl, sym, ap, subst, ◌∙◌, arith}
+use Rattle.std.proofs.Common.{◌≡◌, ℕ, zero, suc, ◌<◌, ◌≤◌, Bool, true, false, not, List, [], ◌∷◌, drop, length, map, codes, inl, inr, Option, Some, None, if◌then◌else◌, refl, ap, subst, ◌∙◌, arith}
 use Rattle.std.proofs.lemmas.Bool.{and_parts, and_from, not-true}
 use Rattle.lay_token.specs.Forms.{opening}
 use Rattle.lay_token.specs.Operators.{is_op}
@@ -7,18 +7,18 @@ use Rattle.lay_token.specs.declared.token.Delim.TheVariants.{Brace}
 use Rattle.lay_token.specs.declared.token.Kind.{Kind}
 use Rattle.lay_token.specs.declared.token.Kind.TheVariants.{Ident, RawIdent, Underscore, Punct, Opener}
 use Rattle.lay_token.specs.declared.token.Token.{Token}
-use Rattle.lay_form.specs.Form.{Blank, Operator, Form, Done, Piece, Brk, Soft, LastComma, Part, keyword, opener, closer}
-use Rattle.lay_form.specs.Notation.{Z, piece, when, each, comma_gap, last_break, comma_list}
+use Rattle.lay_form.specs.Form.{Blank, Operator, Form, Done, Piece, Part, keyword, opener, closer}
+use Rattle.lay_form.specs.Notation.{piece, when, each, comma_gap, last_break, comma_list}
 use Rattle.lay_form.specs.Spelled.{IsOne, IsOperator, AreBits, Spells}
-use Rattle.lay_form.proofs.FormLaws.{one_end, bits_end, is_end, shorter}
+use Rattle.lay_form.proofs.FormLaws.{one_end, bits_end, shorter}
 use Rattle.lay_tree.specs.Ahead.{Tokens, first, tail, is_keyword, is_opener, is_closer, opens, closes}
-use Rattle.lay_tree.specs.Follow.{OfRename, OfColons, begins_there, may_follow}
+use Rattle.lay_tree.specs.Follow.{OfColons, begins_there, may_follow}
 use Rattle.lay_tree.specs.Words.{is_name, is_path_word, are_path_words, leaf_of, colons}
-use Rattle.lay_tree.specs.nodes.Facts.{Facts, forms, all_good, Front}
-use Rattle.lay_tree.specs.nodes.Use.{is_rename, as_word, rename_form, refuses_rename, end_form, words_form, tree_facts, about_use, about_use_end}
+use Rattle.lay_tree.specs.nodes.Facts.{Facts, forms, Front}
+use Rattle.lay_tree.specs.nodes.Use.{is_rename, rename_form, refuses_rename, words_form, about_use, about_use_end}
 use Rattle.lay_tree.specs.reader.Exact.{only_text, IsText, HaveTexts, Exact}
 use Rattle.lay_tree.specs.reader.Loops.{Got, Read, ◌>>=◌, nodes, deepest, elements}
-use Rattle.lay_tree.specs.reader.Use.{other_name, renamed, use_word, use_group, use_end_by, ended, use_by, use_at}
+use Rattle.lay_tree.specs.reader.Use.{other_name, renamed, use_word, use_end_by, ended, use_by, use_at}
 use Rattle.lay_tree.specs.reader.Words.{name_by, word, global, path_word, path_words}
 use Rattle.lay_tree.specs.declared.token.Name.{Name}
 use Rattle.lay_tree.specs.declared.token.Word.{Word}
@@ -30,12 +30,12 @@ use Rattle.lay_tree.specs.declared.use_tree.UseTree.{UseTree}
 use Rattle.lay_tree.proofs.Follow.{Quiet, quiet_follows, comma_quiet, closer_quiet}
 use Rattle.lay_tree.proofs.Fronts.{texts_behind, end_shorter, keyword_one, opens_one, one_front, one_test, one_no_op, op_front, op_test, other_op, one_shorter, op_shorter}
 use Rattle.lay_tree.proofs.Parts.{GoodAt, bit_alone, behind_blank, before_blank, bit_piece, piece_bit, part_alone, word_kind, word_kinds, leaf_spelled, leaf_parts, leaf_alone}
-use Rattle.lay_tree.proofs.Steps.{got_same, same_some, chosen, bind_some}
+use Rattle.lay_tree.proofs.Steps.{same_some, chosen, bind_some}
 use Rattle.lay_tree.proofs.nodes.UseLaws.{EndView, IsWord, IsGlob, IsGroup, end_view, use_is, word_is, glob_is, group_is}
 use Rattle.lay_tree.proofs.reader.Exact.{Stands, Sound, IsRead, Complete, exact}
 use Rattle.lay_tree.proofs.reader.Loops.{Ends}
 use Rattle.lay_tree.proofs.reader.Needs.{list_sound, list_complete}
-use Rattle.lay_tree.proofs.reader.Words.{name_by_is, GoodName, GoodWord, word_sound, word_complete, word_no_op, global_leads, global_texts, global_parts, path_words_sound, words_spelled, words_good, last_word, no_word, path_words_complete}
+use Rattle.lay_tree.proofs.reader.Words.{name_by_is, GoodName, word_sound, word_complete, word_no_op, global_leads, global_texts, global_parts, path_words_sound, words_spelled, words_good, last_word, no_word, path_words_complete}
 
 -- ---- another name, read
 

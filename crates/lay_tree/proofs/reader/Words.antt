@@ -1,5 +1,5 @@
 -- Names, words and literals, and the words of a path.
-use Rattle.std.proofs.Common.{◌≡◌, ℕ, ◌<◌, Bool, true, false, List, [], ◌∷◌, drop, length, codes, inl, inr, Option, Some, None, is_some, if◌then◌else◌, refl, sym, ap, subst, ◌∙◌, arith}
+use Rattle.std.proofs.Common.{◌≡◌, ℕ, Bool, true, false, List, [], ◌∷◌, drop, codes, inl, inr, Option, Some, None, is_some, if◌then◌else◌, refl, ap, subst, arith}
 use Rattle.lay_token.specs.Lexes.{is_punct}
 use Rattle.lay_token.specs.Operators.{is_op}
 use Rattle.lay_token.specs.Word.{class_of}
@@ -8,13 +8,13 @@ use Rattle.lay_token.specs.declared.token.Kind.TheVariants.{Ident, RawIdent}
 use Rattle.lay_token.specs.declared.token.Token.{Token}
 use Rattle.lay_form.specs.Form.{Operator, Form, Piece}
 use Rattle.lay_form.specs.Notation.{when}
-use Rattle.lay_form.specs.Spelled.{Then, IsOne, IsOperator, AreBits, Spells}
+use Rattle.lay_form.specs.Spelled.{Then, IsOne, IsOperator, Spells}
 use Rattle.lay_form.proofs.FormLaws.{one_end, bits_end}
 use Rattle.lay_tree.specs.Ahead.{Tokens}
-use Rattle.lay_tree.specs.Words.{is_plain, is_path_class, is_name, is_path_word, are_path_words, leaf_of, colons, is_literal_kind}
+use Rattle.lay_tree.specs.Words.{is_plain, is_path_class, is_name, is_path_word, are_path_words, colons, is_literal_kind}
 use Rattle.lay_tree.specs.nodes.Use.{words_form}
 use Rattle.lay_tree.specs.reader.Exact.{HaveTexts}
-use Rattle.lay_tree.specs.reader.Loops.{Got, ◌>>=◌}
+use Rattle.lay_tree.specs.reader.Loops.{Got}
 use Rattle.lay_tree.specs.reader.Words.{name_by, name, word_by, word, literal, global, path_word, begins_path_word, path_words}
 use Rattle.lay_tree.specs.declared.token.Literal.{Literal}
 use Rattle.lay_tree.specs.declared.token.Name.{Name}

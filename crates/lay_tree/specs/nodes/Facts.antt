@@ -1,5 +1,5 @@
 -- What is told of a node.
-use Rattle.std.specs.Prelude.{ℕ, Bool, ◌&&◌, List, [], map}
+use Rattle.std.specs.Prelude.{ℕ, Bool, List, map}
 use Rattle.std.specs.List.{list_all}
 use Rattle.lay_form.specs.Form.{Form}
 use Rattle.lay_form.specs.Spelled as spelled

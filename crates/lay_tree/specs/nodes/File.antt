@@ -1,5 +1,5 @@
 -- Files (Rust Reference, "Crates and source files").
-use Rattle.std.specs.Prelude.{Bool, true, ◌&&◌, List, ◌++◌, map}
+use Rattle.std.specs.Prelude.{Bool, true, ◌&&◌, ◌++◌, map}
 use Rattle.lay_form.specs.Form.{Form}
 use Rattle.lay_form.specs.Notation.{lines}
 use Rattle.lay_tree.specs.nodes.Attr.{are_attrs, attr_form}

@@ -1,5 +1,5 @@
 -- Items (Rust Reference, "Items"). Each ends in a `;` or in a `}`, so anything may follow it.
-use Rattle.std.specs.Prelude.{Bool, true, false, ◌&&◌, List, [], ◌∷◌, ◌++◌, map, codes}
+use Rattle.std.specs.Prelude.{Bool, true, false, ◌&&◌, [], ◌∷◌, ◌++◌, map, codes}
 use Rattle.lay_form.specs.Form.{Blank, Form, Done, Piece, Part, Deeper, keyword, semicolon}
 use Rattle.lay_form.specs.Notation.{I0, piece, body, behind_attrs}
 use Rattle.lay_tree.specs.Words.{is_name, leaf_of}

@@ -1,5 +1,5 @@
 -- Paths (Rust Reference, "Paths").
-use Rattle.std.specs.Prelude.{Bool, true, false, List, [], ◌∷◌}
+use Rattle.std.specs.Prelude.{Bool, false, List, [], ◌∷◌}
 use Rattle.std.specs.List.{list_all}
 use Rattle.lay_form.specs.Form.{Form, Done, Piece}
 use Rattle.lay_form.specs.Notation.{when}

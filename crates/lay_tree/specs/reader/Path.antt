@@ -1,5 +1,5 @@
 -- Reading paths.
-use Rattle.std.specs.Prelude.{Bool, List, ◌∷◌, drop, codes, Some}
+use Rattle.std.specs.Prelude.{Bool, ◌∷◌, drop, codes, Some}
 use Rattle.lay_token.specs.Operators.{is_op}
 use Rattle.lay_tree.specs.Ahead.{Tokens}
 use Rattle.lay_tree.specs.reader.Loops.{Got, ◌>>=◌, repeat}

@@ -1,0 +1,5 @@
+-- Samples that hold by computation, a family a file.
+pub mod Trees
+pub mod Attr
+pub mod Use
+pub mod Item
