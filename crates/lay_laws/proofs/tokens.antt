@@ -1,4 +1,5 @@
 pub mod FromText
+pub mod Grouped
 pub mod Lexed
 pub mod Neighbours
 pub mod Rows

@@ -3,3 +3,4 @@ pub mod Trees
 pub mod Attr
 pub mod Use
 pub mod Item
+pub mod Tokens
