@@ -2,39 +2,45 @@
 use Rattle.std.proofs.Common.{◌≡◌, ◌≢◌, ℕ, suc, ◌+◌, ◌-◌, ◌≤◌, ◌<◌, Bool, true, false, cond, List, [], ◌∷◌, ◌++◌, map, length, take, drop, get_or, drop-cons, add-one, pos, codes, Option, Ok, refl, sym, ap, ◌∙◌, append_assoc, append-nil, arith}
 use Rattle.std.proofs.Math.Seq.{take-length}
 use Rattle.std.proofs.Math.ListN.{drop_of_length-le}
-use Rattle.lay_token.proofs.Lines.{opened_document}
 use Rattle.lay_token.specs.Document.{Empty}
 use Rattle.lay_token.specs.Machine.{opened}
 use Rattle.lay_token.specs.declared.layout.Tok.{Tok}
 use Rattle.lay_token.specs.declared.layout.Tok.TheVariants as tok
 use Rattle.lay_token.specs.declared.token.Delim.TheVariants.{Bracket, Brace}
+use Rattle.lay_token.proofs.Lines.{opened_document}
 use Rattle.lay_stream.specs.Fed.{Meanings, Did}
 use Rattle.lay_stream.proofs.Calls.{level_of}
-use Rattle.lay_tree.specs.Form.{Form, Blank, Opening, Closing, Soft, Hard, Never, Done, Piece, Leaf, LastComma, punct}
-use Rattle.lay_tree.specs.Layout.{document, ends_behind_point, break_of, comma_break, token_ends_in_point}
-use Rattle.lay_tree.specs.Notation.{H, comma_gap, each, part, text, listed, body, behind_attrs, when}
-use Rattle.lay_tree.specs.Nodes.{attr_form, colons, form_of_item, form_of_use, input_form, leaf_of, meta_path_form, path_form, rename_form, segment_form, segments_form, words_form}
-use Rattle.lay_tree.specs.Stream.{fed, feed_doc, feed_text, stream_of}
-use Rattle.lay_tree.specs.declared.tree.Attr.{Attr}
-use Rattle.lay_tree.specs.declared.tree.Attr.TheVariants as attr
-use Rattle.lay_tree.specs.declared.tree.Item.{Item}
-use Rattle.lay_tree.specs.declared.tree.ItemKind.{ItemKind}
-use Rattle.lay_tree.specs.declared.tree.ItemKind.TheVariants as item
-use Rattle.lay_tree.specs.declared.tree.Literal.{Literal}
-use Rattle.lay_tree.specs.declared.tree.MetaInput.{MetaInput}
-use Rattle.lay_tree.specs.declared.tree.MetaInput.TheVariants as input
-use Rattle.lay_tree.specs.declared.tree.MetaPath.{MetaPath}
-use Rattle.lay_tree.specs.declared.tree.Name.{Name}
-use Rattle.lay_tree.specs.declared.tree.Path.{Path}
-use Rattle.lay_tree.specs.declared.tree.Rename.{Rename}
-use Rattle.lay_tree.specs.declared.tree.Segment.{Segment}
-use Rattle.lay_tree.specs.declared.tree.UseEnd.{UseEnd}
-use Rattle.lay_tree.specs.declared.tree.UseEnd.TheVariants as use_end
-use Rattle.lay_tree.specs.declared.tree.UseTree.{UseTree}
-use Rattle.lay_tree.specs.declared.tree.Word.{Word}
-use Rattle.lay_tree.proofs.SoundParts.{form_of_end, form_of_kind, use_form, word_form, glob_form, group_form, one_form, struct_form, module_form, import_form}
-use Rattle.lay_tree.proofs.StreamLaws.{laid_fed, stream_is}
-use Rattle.lay_out_code.specs.Parts.{further_segments, no_forms, end_form, kind_form, struct_part, module_part, import_part}
+use Rattle.lay_form.specs.Form.{Form, Blank, Part, opener, closer, Soft, Hard, Never, Done, Piece, Leaf, LastComma, punct}
+use Rattle.lay_form.specs.Layout.{document, ends_behind_point, break_of, comma_break, token_ends_in_point}
+use Rattle.lay_form.specs.Notation.{H, comma_gap, each, piece, comma_list, body, behind_attrs, when}
+use Rattle.lay_form.specs.Stream.{fed, feed_doc, feed_text, stream_of}
+use Rattle.lay_form.proofs.StreamLaws.{laid_fed, stream_is}
+use Rattle.lay_tree.specs.Words.{colons, leaf_of}
+use Rattle.lay_tree.specs.nodes.Attr.{attr_form, input_form, meta_path_form}
+use Rattle.lay_tree.specs.nodes.Facts.{Facts, forms}
+use Rattle.lay_tree.specs.nodes.Item.{about_item, about_kind}
+use Rattle.lay_tree.specs.nodes.Path.{path_form, segment_form, segments_form}
+use Rattle.lay_tree.specs.nodes.Use.{about_use, about_use_end, rename_form, words_form}
+use Rattle.lay_tree.specs.declared.attr.Attr.{Attr}
+use Rattle.lay_tree.specs.declared.attr.Attr.TheVariants as attr
+use Rattle.lay_tree.specs.declared.attr.MetaInput.{MetaInput}
+use Rattle.lay_tree.specs.declared.attr.MetaInput.TheVariants as input
+use Rattle.lay_tree.specs.declared.attr.MetaPath.{MetaPath}
+use Rattle.lay_tree.specs.declared.item.Item.{Item}
+use Rattle.lay_tree.specs.declared.item.ItemKind.{ItemKind}
+use Rattle.lay_tree.specs.declared.item.ItemKind.TheVariants as item
+use Rattle.lay_tree.specs.declared.path.Path.{Path}
+use Rattle.lay_tree.specs.declared.path.Segment.{Segment}
+use Rattle.lay_tree.specs.declared.token.Literal.{Literal}
+use Rattle.lay_tree.specs.declared.token.Name.{Name}
+use Rattle.lay_tree.specs.declared.token.Word.{Word}
+use Rattle.lay_tree.specs.declared.use_tree.Rename.{Rename}
+use Rattle.lay_tree.specs.declared.use_tree.UseEnd.{UseEnd}
+use Rattle.lay_tree.specs.declared.use_tree.UseEnd.TheVariants as use_end
+use Rattle.lay_tree.specs.declared.use_tree.UseTree.{UseTree}
+use Rattle.lay_tree.proofs.nodes.ItemLaws.{item_is, struct_is, module_is, import_is}
+use Rattle.lay_tree.proofs.nodes.UseLaws.{use_is, word_is, glob_is, group_is}
+use Rattle.lay_out_code.specs.Parts.{further_segments, no_forms, struct_part, module_part, import_part}
 
 -- ---- forms in general
 
@@ -48,6 +54,10 @@ fed_more point f more =
 pub level_stays : {S F T : Type 0} {m : Meanings S F} {a b : S} {x : T} (f : Form) → Did m a (stream_of f) (Ok x) b → m.groups b ≡ m.groups a
 level_stays {m} {a} f h =
     level_of h ∙ ap (λ (s : List Tok). opened s (m.groups a)) (sym (stream_is f)) ∙ opened_document (document f) (m.groups a)
+
+-- equal facts have equal streams
+same_stream : {x y : Facts} → x ≡ y → stream_of x.form ≡ stream_of y.form
+same_stream e = ap (λ (x : Facts). stream_of x.form) e
 
 -- the element at an index, and what is behind it
 rest_first : {A : Type 0} (xs : List A) (i : ℕ) (x : A) → i < length xs → x ≡ get_or xs i x → drop i xs ≡ x ∷ drop (i + 1) xs
@@ -118,11 +128,11 @@ pub further_segment : (s : Segment) (more : List Segment)
     → tok.Text (codes "::") ∷ (stream_of (leaf_of s.word.raw s.word.text Done) ++ stream_of (further_segments more)) ≡ stream_of (further_segments (s ∷ more))
 further_segment s more = ap (λ (l : List Tok). tok.Text (codes "::") ∷ l) (leaf_more s.word.raw s.word.text (further_segments more))
 
-bracket : (point : Bool) (more : List Tok) → tok.Text (codes "]") ∷ more ≡ fed point (text (Closing Bracket ∷ [])) more
+bracket : (point : Bool) (more : List Tok) → tok.Text (codes "]") ∷ more ≡ fed point (piece (closer Bracket ∷ [])) more
 bracket true more = refl
 bracket false more = refl
 
-input_more : (point : Bool) (i : MetaInput) → stream_of (input_form i Done) ++ (tok.Text (codes "]") ∷ []) ≡ fed point (input_form i (text (Closing Bracket ∷ []))) []
+input_more : (point : Bool) (i : MetaInput) → stream_of (input_form i Done) ++ (tok.Text (codes "]") ∷ []) ≡ fed point (input_form i (piece (closer Bracket ∷ []))) []
 input_more point input.Bare = bracket point []
 input_more true (input.Value l) =
     sym (fed_more false (input_form (input.Value l) Done) (tok.Text (codes "]") ∷ []))
@@ -139,11 +149,11 @@ value_parts l put same =
 
 behind_opening : (path : MetaPath) (i : MetaInput)
     → stream_of (meta_path_form path) ++ (stream_of (input_form i Done) ++ (tok.Text (codes "]") ∷ []))
-    ≡ stream_of (part (meta_path_form path) (input_form i (text (Closing Bracket ∷ []))))
+    ≡ stream_of (Part (meta_path_form path) (input_form i (piece (closer Bracket ∷ []))))
 behind_opening path i =
     let point = ends_behind_point false (meta_path_form path) in
     ap (λ (s : List Tok). stream_of (meta_path_form path) ++ s) (input_more point i)
-    ∙ sym (fed_more false (meta_path_form path) (fed point (input_form i (text (Closing Bracket ∷ []))) []))
+    ∙ sym (fed_more false (meta_path_form path) (fed point (input_form i (piece (closer Bracket ∷ []))) []))
 
 pub meta_parts : (inner : Bool) (path : MetaPath) (i : MetaInput)
     → tok.Text (cond inner (codes "#![") (codes "#[")) ∷ (stream_of (meta_path_form path) ++ (stream_of (input_form i Done) ++ (tok.Text (codes "]") ∷ [])))
@@ -167,32 +177,27 @@ pub next_word : (w : Word) (ws : List Word)
     → stream_of (leaf_of w.raw w.text Done) ++ (tok.Text (codes "::") ∷ stream_of (words_form ws Done)) ≡ stream_of (words_form (w ∷ ws) Done)
 next_word w ws = leaf_more w.raw w.text (Piece colons (words_form ws Done))
 
-end_is : (e : UseEnd) → end_form e ≡ form_of_end e
-unfolding end_form form_of_end
-end_is e = refl
-
 pub use_parts : (tree : UseTree) (put : List Word) → put ≡ tree.path
-    → stream_of (when tree.global colons Done) ++ (stream_of (words_form put Done) ++ stream_of (end_form tree.end)) ≡ stream_of (form_of_use tree)
+    → stream_of (when tree.global colons Done) ++ (stream_of (words_form put Done) ++ stream_of (about_use_end tree.end).form) ≡ stream_of (about_use tree).form
 use_parts tree put same =
-    let end = part (form_of_end tree.end) Done in
-    ap (λ (ws : List Word). stream_of (when tree.global colons Done) ++ (stream_of (words_form ws Done) ++ stream_of (end_form tree.end))) same
-    ∙ ap (λ (f : Form). stream_of (when tree.global colons Done) ++ (stream_of (words_form tree.path Done) ++ stream_of f)) (end_is tree.end)
+    let end = Part (about_use_end tree.end).form Done in
+    ap (λ (ws : List Word). stream_of (when tree.global colons Done) ++ (stream_of (words_form ws Done) ++ stream_of (about_use_end tree.end).form)) same
     ∙ ap (λ (s : List Tok). stream_of (when tree.global colons Done) ++ s) (words_more tree.path end)
     ∙ when_more tree.global (words_form tree.path end)
-    ∙ sym (ap stream_of (use_form tree))
+    ∙ sym (same_stream (use_is tree))
 
 pub word_end : (e : UseEnd) (word : Word) (renamed : Option Rename) → e ≡ use_end.Word word renamed
-    → stream_of (leaf_of word.raw word.text (rename_form renamed)) ≡ stream_of (end_form e)
-word_end e word renamed is = sym (ap (λ (x : UseEnd). stream_of (end_form x)) is ∙ ap stream_of (end_is _ ∙ word_form word renamed))
+    → stream_of (leaf_of word.raw word.text (rename_form renamed)) ≡ stream_of (about_use_end e).form
+word_end e word renamed is = sym (ap (λ (x : UseEnd). stream_of (about_use_end x).form) is ∙ same_stream (word_is word renamed))
 
-pub glob_end : (e : UseEnd) → e ≡ use_end.Glob → tok.Text (codes "*") ∷ [] ≡ stream_of (end_form e)
-glob_end e is = sym (ap (λ (x : UseEnd). stream_of (end_form x)) is ∙ ap stream_of (end_is _ ∙ glob_form))
+pub glob_end : (e : UseEnd) → e ≡ use_end.Glob → tok.Text (codes "*") ∷ [] ≡ stream_of (about_use_end e).form
+glob_end e is = sym (ap (λ (x : UseEnd). stream_of (about_use_end x).form) is ∙ same_stream glob_is)
 
 pub group_end : (e : UseEnd) (trees put : List UseTree) → e ≡ use_end.Group trees → put ≡ trees
-    → stream_of (listed (Opening Brace) (Closing Brace) (map form_of_use put)) ≡ stream_of (end_form e)
+    → stream_of (comma_list true (opener Brace) (closer Brace) (forms (map about_use put))) ≡ stream_of (about_use_end e).form
 group_end e trees put is same =
-    ap (λ (ts : List UseTree). stream_of (listed (Opening Brace) (Closing Brace) (map form_of_use ts))) same
-    ∙ sym (ap (λ (x : UseEnd). stream_of (end_form x)) is ∙ ap stream_of (end_is _ ∙ group_form trees))
+    ap (λ (ts : List UseTree). stream_of (comma_list true (opener Brace) (closer Brace) (forms (map about_use ts)))) same
+    ∙ sym (ap (λ (x : UseEnd). stream_of (about_use_end x).form) is ∙ same_stream (group_is trees))
 
 -- what a list is behind a text that ends in a point or doesn't
 any_commas : (point : Bool) (es : List Form) (more : List Tok) → fed point (each comma_gap es) more ≡ fed false (each comma_gap es) more
@@ -207,7 +212,7 @@ next_comma e es =
     ap (λ (s : List Tok). tok.Text (codes ",") ∷ tok.Break (break_of (Soft false 1)) ∷ s)
     (ap (λ (s : List Tok). stream_of e ++ s) (sym (any_commas point es [])) ∙ sym (fed_more false e (fed point (each comma_gap es) [])))
 
-brace : (point : Bool) (more : List Tok) → tok.Text (codes "}") ∷ more ≡ fed point (text (Closing Brace ∷ [])) more
+brace : (point : Bool) (more : List Tok) → tok.Text (codes "}") ∷ more ≡ fed point (piece (closer Brace ∷ [])) more
 brace true more = refl
 brace false more = refl
 
@@ -220,29 +225,29 @@ list_closed closer = tok.Break (comma_break 0) ∷ tok.Text closer ∷ tok.End �
 
 list_parts : (e : Form) (es : List Form)
     → list_opened (codes "{") ++ (stream_of e ++ (stream_of (each comma_gap es) ++ list_closed (codes "}")))
-    ≡ stream_of (listed (Opening Brace) (Closing Brace) (e ∷ es))
+    ≡ stream_of (comma_list true (opener Brace) (closer Brace) (e ∷ es))
 list_parts e es =
     let point = ends_behind_point false e in
     let commas = each comma_gap es in
-    let last = LastComma 0 (text (Closing Brace ∷ [])) in
+    let last = LastComma 0 (piece (closer Brace ∷ [])) in
     let end : List Tok = tok.End ∷ [] in
     ap (λ (s : List Tok). list_opened (codes "{") ++ s)
     (ap (λ (s : List Tok). stream_of e ++ s)
     (ap (λ (s : List Tok). stream_of commas ++ s) (ap (λ (s : List Tok). tok.Break (comma_break 0) ∷ s) (brace (ends_behind_point point commas) end))
     ∙ sym (fed_more false commas (fed (ends_behind_point point commas) last end))
     ∙ sym (any_commas point es (fed (ends_behind_point point commas) last end)))
-    ∙ sym (fed_more false e (fed point (part commas last) end)))
+    ∙ sym (fed_more false e (fed point (Part commas last) end)))
 
-pub no_trees : (trees : List UseTree) → length trees < 1 → tok.Text (codes "{}") ∷ [] ≡ stream_of (listed (Opening Brace) (Closing Brace) (map form_of_use trees))
+pub no_trees : (trees : List UseTree) → length trees < 1 → tok.Text (codes "{}") ∷ [] ≡ stream_of (comma_list true (opener Brace) (closer Brace) (forms (map about_use trees)))
 no_trees [] h = refl
 no_trees (t ∷ trees) h = absurd (omega arith)
 
 pub full_list : (trees : List UseTree) (first : UseTree) → 1 ≤ length trees → first ≡ get_or trees 0 first
-    → list_opened (codes "{") ++ (stream_of (form_of_use first) ++ (stream_of (each comma_gap (map form_of_use (take (length trees - 1) (drop 1 trees)))) ++ list_closed (codes "}")))
-    ≡ stream_of (listed (Opening Brace) (Closing Brace) (map form_of_use trees))
+    → list_opened (codes "{") ++ (stream_of (about_use first).form ++ (stream_of (each comma_gap (forms (map about_use (take (length trees - 1) (drop 1 trees))))) ++ list_closed (codes "}")))
+    ≡ stream_of (comma_list true (opener Brace) (closer Brace) (forms (map about_use trees)))
 full_list trees first h is =
-    list_parts (form_of_use first) (map form_of_use (take (length trees - 1) (drop 1 trees)))
-    ∙ ap (λ (ts : List UseTree). stream_of (listed (Opening Brace) (Closing Brace) (map form_of_use ts))) (first_and_rest trees first h is)
+    list_parts (about_use first).form (forms (map about_use (take (length trees - 1) (drop 1 trees))))
+    ∙ ap (λ (ts : List UseTree). stream_of (comma_list true (opener Brace) (closer Brace) (forms (map about_use ts)))) (first_and_rest trees first h is)
 
 -- ---- items
 
@@ -272,31 +277,26 @@ attrs_on : (es : List Form) (f : Form) (more : List Tok) → fed false (behind_a
 attrs_on [] f more = refl
 attrs_on (e ∷ es) f more = ap (λ (s : List Tok). fed false e (tok.Break (break_of (Hard false)) ∷ s)) (attrs_on es f more)
 
-kind_is : (k : ItemKind) → kind_form k ≡ form_of_kind k
-unfolding kind_form form_of_kind
-kind_is k = refl
-
 pub item_parts : (one : Item) (put : List Attr) → put ≡ one.attrs
-    → stream_of (behind_attrs (map attr_form put) Done) ++ stream_of (kind_form one.kind) ≡ stream_of (form_of_item one)
+    → stream_of (behind_attrs (map attr_form put) Done) ++ stream_of (about_kind one.kind).form ≡ stream_of (about_item one).form
 item_parts one put same =
     let attrs = map attr_form one.attrs in
-    ap (λ (es : List Attr). stream_of (behind_attrs (map attr_form es) Done) ++ stream_of (kind_form one.kind)) same
-    ∙ ap (λ (f : Form). stream_of (behind_attrs attrs Done) ++ stream_of f) (kind_is one.kind)
-    ∙ sym (ap stream_of (one_form one) ∙ attrs_on attrs (part (form_of_kind one.kind) Done) []
-    ∙ fed_more false (behind_attrs attrs Done) (stream_of (form_of_kind one.kind)))
+    ap (λ (es : List Attr). stream_of (behind_attrs (map attr_form es) Done) ++ stream_of (about_kind one.kind).form) same
+    ∙ sym (same_stream (item_is one) ∙ attrs_on attrs (Part (about_kind one.kind).form Done) []
+    ∙ fed_more false (behind_attrs attrs Done) (stream_of (about_kind one.kind).form))
 
-pub struct_kind : (k : ItemKind) (name : Name) → k ≡ item.Struct name → stream_of (struct_part name) ≡ stream_of (kind_form k)
-struct_kind k name is = sym (ap (λ (x : ItemKind). stream_of (kind_form x)) is ∙ ap stream_of (kind_is _ ∙ struct_form name))
+pub struct_kind : (k : ItemKind) (name : Name) → k ≡ item.Struct name → stream_of (struct_part name) ≡ stream_of (about_kind k).form
+struct_kind k name is = sym (ap (λ (x : ItemKind). stream_of (about_kind x).form) is ∙ same_stream (struct_is name))
 
 pub module_kind : (k : ItemKind) (name : Name) (attrs put : List Attr) (items puts : List Item) → k ≡ item.Module name attrs items → put ≡ attrs → puts ≡ items
-    → stream_of (module_part name put puts) ≡ stream_of (kind_form k)
+    → stream_of (module_part name put puts) ≡ stream_of (about_kind k).form
 module_kind k name attrs put items puts is same sames =
     ap (λ (xs : List Attr). stream_of (module_part name xs puts)) same
     ∙ ap (λ (xs : List Item). stream_of (module_part name attrs xs)) sames
-    ∙ sym (ap (λ (x : ItemKind). stream_of (kind_form x)) is ∙ ap stream_of (kind_is _ ∙ module_form name attrs items))
+    ∙ sym (ap (λ (x : ItemKind). stream_of (about_kind x).form) is ∙ same_stream (module_is name attrs items))
 
-pub import_kind : (k : ItemKind) (tree : UseTree) → k ≡ item.Import tree → stream_of (import_part tree) ≡ stream_of (kind_form k)
-import_kind k tree is = sym (ap (λ (x : ItemKind). stream_of (kind_form x)) is ∙ ap stream_of (kind_is _ ∙ import_form tree))
+pub import_kind : (k : ItemKind) (tree : UseTree) → k ≡ item.Import tree → stream_of (import_part tree) ≡ stream_of (about_kind k).form
+import_kind k tree is = sym (ap (λ (x : ItemKind). stream_of (about_kind x).form) is ∙ same_stream (import_is tree))
 
 -- a head of a keyword and a name
 abbrev pub head_of : List ℕ → Bool → List ℕ → List Tok
@@ -310,27 +310,27 @@ pub struct_parts : (name : Name) → head_of (codes "struct ") name.raw name.tex
 struct_parts name = struct_by name.raw name.text
 
 module_by : (raw : Bool) (word : List ℕ) (attrs : List Attr) (items : List Item)
-    → head_of (codes "mod ") raw word ++ stream_of (body (Blank ∷ []) [] (map attr_form attrs ++ map form_of_item items))
+    → head_of (codes "mod ") raw word ++ stream_of (body (Blank ∷ []) [] (map attr_form attrs ++ forms (map about_item items)))
     ≡ stream_of (module_part (record { raw = raw; text = word }) attrs items)
 module_by true word attrs items = refl
 module_by false word attrs items = refl
 
 pub module_parts : (name : Name) (attrs : List Attr) (items : List Item)
-    → head_of (codes "mod ") name.raw name.text ++ stream_of (body (Blank ∷ []) [] (map attr_form attrs ++ map form_of_item items))
+    → head_of (codes "mod ") name.raw name.text ++ stream_of (body (Blank ∷ []) [] (map attr_form attrs ++ forms (map about_item items)))
     ≡ stream_of (module_part name attrs items)
 module_parts name attrs items = module_by name.raw name.text attrs items
 
-semicolon : (point : Bool) (more : List Tok) → tok.Text (codes ";") ∷ more ≡ fed point (text (punct 59 ∷ [])) more
+semicolon : (point : Bool) (more : List Tok) → tok.Text (codes ";") ∷ more ≡ fed point (piece (punct 59 ∷ [])) more
 semicolon true more = refl
 semicolon false more = refl
 
 pub import_parts : (tree : UseTree)
-    → tok.Begin false (pos 0) ∷ tok.Text (codes "use ") ∷ (stream_of (form_of_use tree) ++ (tok.End ∷ tok.Text (codes ";") ∷ [])) ≡ stream_of (import_part tree)
+    → tok.Begin false (pos 0) ∷ tok.Text (codes "use ") ∷ (stream_of (about_use tree).form ++ (tok.End ∷ tok.Text (codes ";") ∷ [])) ≡ stream_of (import_part tree)
 import_parts tree =
-    let point = ends_behind_point false (form_of_use tree) in
+    let point = ends_behind_point false (about_use tree).form in
     ap (λ (s : List Tok). tok.Begin false (pos 0) ∷ tok.Text (codes "use ") ∷ s)
-    (ap (λ (s : List Tok). stream_of (form_of_use tree) ++ (tok.End ∷ s)) (semicolon point [])
-    ∙ sym (fed_more false (form_of_use tree) (tok.End ∷ fed point (text (punct 59 ∷ [])) [])))
+    (ap (λ (s : List Tok). stream_of (about_use tree).form ++ (tok.End ∷ s)) (semicolon point [])
+    ∙ sym (fed_more false (about_use tree).form (tok.End ∷ fed point (piece (punct 59 ∷ [])) [])))
 
 -- what opens a body, and what closes it
 abbrev pub body_opened : List Tok
@@ -348,22 +348,22 @@ body_parts : (es : List Form) (bare : Bool) → bare ≡ no_forms es → bare �
 body_parts [] bare e is = cc
 body_parts (f ∷ es) bare e is = ap (λ (s : List Tok). body_opened ++ s) (sym (fed_more false (each H (f ∷ es)) body_closed))
 
-pub full_body : (attrs : List Attr) (items : List Item) (bare : Bool) → bare ≡ no_forms (map attr_form attrs ++ map form_of_item items) → bare ≡ false
-    → body_opened ++ (stream_of (each H (map attr_form attrs)) ++ (stream_of (each H (map form_of_item items)) ++ body_closed))
-    ≡ stream_of (body (Blank ∷ []) [] (map attr_form attrs ++ map form_of_item items))
+pub full_body : (attrs : List Attr) (items : List Item) (bare : Bool) → bare ≡ no_forms (map attr_form attrs ++ forms (map about_item items)) → bare ≡ false
+    → body_opened ++ (stream_of (each H (map attr_form attrs)) ++ (stream_of (each H (forms (map about_item items))) ++ body_closed))
+    ≡ stream_of (body (Blank ∷ []) [] (map attr_form attrs ++ forms (map about_item items)))
 full_body attrs items bare e is =
     let attr_lines = stream_of (each H (map attr_form attrs)) in
-    let item_lines = stream_of (each H (map form_of_item items)) in
+    let item_lines = stream_of (each H (forms (map about_item items))) in
     ap (λ (s : List Tok). body_opened ++ s)
-    (sym (append_assoc attr_lines item_lines body_closed) ∙ ap (λ (s : List Tok). s ++ body_closed) (sym (lines_joined (map attr_form attrs) (map form_of_item items))))
-    ∙ body_parts (map attr_form attrs ++ map form_of_item items) bare e is
+    (sym (append_assoc attr_lines item_lines body_closed) ∙ ap (λ (s : List Tok). s ++ body_closed) (sym (lines_joined (map attr_form attrs) (forms (map about_item items)))))
+    ∙ body_parts (map attr_form attrs ++ forms (map about_item items)) bare e is
 
-pub has_attrs : (attrs : List Attr) (items : List Item) → length attrs ≢ 0 → false ≡ no_forms (map attr_form attrs ++ map form_of_item items)
+pub has_attrs : (attrs : List Attr) (items : List Item) → length attrs ≢ 0 → false ≡ no_forms (map attr_form attrs ++ forms (map about_item items))
 has_attrs [] items h = absurd (h refl)
 has_attrs (a ∷ attrs) items h = refl
 
 pub has_items : (attrs : List Attr) (items : List Item) (bare : Bool) → length attrs ≡ 0 → (bare ≡ true → length items ≡ 0) → (bare ≡ false → length items ≢ 0)
-    → bare ≡ no_forms (map attr_form attrs ++ map form_of_item items)
+    → bare ≡ no_forms (map attr_form attrs ++ forms (map about_item items))
 has_items (a ∷ attrs) items bare e h i = absurd (omega arith)
 has_items [] [] true e h i = refl
 has_items [] [] false e h i = absurd (i refl refl)

@@ -3,13 +3,15 @@ ghost use Rattle.std.specs.Prelude.{◌≡◌, [], ◌∷◌, cond, map, codes, 
 ghost use Rattle.lay_token.specs.Docs.{doc_form};
 ghost use Rattle.lay_token.specs.declared.layout.Tok.TheVariants as tok;
 ghost use Rattle.lay_stream.specs.Fed.{Did};
-ghost use Rattle.lay_tree.specs.Form.{Done, Leaf};
-ghost use Rattle.lay_tree.specs.Layout.{is_block};
-ghost use Rattle.lay_tree.specs.Nodes.{attr_form, colons, input_form, leaf_of, meta_path_form, path_form, segment_form, segments_form};
-ghost use Rattle.lay_tree.specs.Notation.{behind_attrs, when};
-ghost use Rattle.lay_tree.specs.Stream.{feed_doc, feed_text, stream_of};
-ghost use Rattle.lay_tree.specs.declared.tree.Attr.TheVariants as attr;
-ghost use Rattle.lay_tree.specs.declared.tree.MetaInput.TheVariants as input;
+ghost use Rattle.lay_form.specs.Form.{Done, Leaf};
+ghost use Rattle.lay_form.specs.Layout.{is_block};
+ghost use Rattle.lay_form.specs.Notation.{behind_attrs, when};
+ghost use Rattle.lay_form.specs.Stream.{feed_doc, feed_text, stream_of};
+ghost use Rattle.lay_tree.specs.Words.{colons, leaf_of};
+ghost use Rattle.lay_tree.specs.nodes.Attr.{attr_form, input_form, meta_path_form};
+ghost use Rattle.lay_tree.specs.nodes.Path.{path_form, segment_form, segments_form};
+ghost use Rattle.lay_tree.specs.declared.attr.Attr.TheVariants as attr;
+ghost use Rattle.lay_tree.specs.declared.attr.MetaInput.TheVariants as input;
 ghost use Rattle.lay_out_code.specs.Parts.{further_segments};
 
 use crate::notation::HARD_BREAK;

@@ -2,11 +2,14 @@
 ghost use Rattle.std.specs.Prelude.{◌≡◌, [], ◌∷◌, ◌++◌, map, pos, false};
 ghost use Rattle.lay_token.specs.declared.layout.Tok.TheVariants as tok;
 ghost use Rattle.lay_stream.specs.Fed.{Did};
-ghost use Rattle.lay_tree.specs.Form.{Blank, Done};
-ghost use Rattle.lay_tree.specs.Nodes.{attr_form, form_of_item, leaf_of};
-ghost use Rattle.lay_tree.specs.Notation.{H, body, each};
-ghost use Rattle.lay_tree.specs.Stream.{stream_of};
-ghost use Rattle.lay_out_code.specs.Parts.{import_part, kind_form, module_part, no_forms, struct_part};
+ghost use Rattle.lay_form.specs.Form.{Blank, Done};
+ghost use Rattle.lay_form.specs.Notation.{H, body, each};
+ghost use Rattle.lay_form.specs.Stream.{stream_of};
+ghost use Rattle.lay_tree.specs.Words.{leaf_of};
+ghost use Rattle.lay_tree.specs.nodes.Attr.{attr_form};
+ghost use Rattle.lay_tree.specs.nodes.Facts.{forms};
+ghost use Rattle.lay_tree.specs.nodes.Item.{about_item, about_kind};
+ghost use Rattle.lay_out_code.specs.Parts.{import_part, module_part, no_forms, struct_part};
 
 use crate::attributes::{put_attr, put_outer_attrs, put_word};
 use crate::notation::{HARD_BREAK, close_body, open_body};
@@ -17,7 +20,7 @@ use lay_tree::{Attr, Item, ItemKind, Name, UseTree};
 /// Feeds the layout of an item, with its attributes, each on a line of its own.
 #[cycle(put_item)]
 pub fn put_item<E: Emit>(out: &mut E, item: &Item) -> Result<(), E::Fault>
-    ensures { Did E.meanings out.old (stream_of (form_of_item item.now)) result out.new }
+    ensures { Did E.meanings out.old (stream_of (about_item item.now).form) result out.new }
 {
     put_outer_attrs(out, item.attrs.as_slice())?;
     put_kind(out, &item.kind)
@@ -26,7 +29,7 @@ pub fn put_item<E: Emit>(out: &mut E, item: &Item) -> Result<(), E::Fault>
 /// An item without its attributes.
 #[cycle(put_item)]
 fn put_kind<E: Emit>(out: &mut E, kind: &ItemKind) -> Result<(), E::Fault>
-    ensures { Did E.meanings out.old (stream_of (kind_form kind.now)) result out.new }
+    ensures { Did E.meanings out.old (stream_of (about_kind kind.now).form) result out.new }
 {
     match kind {
         ItemKind::Struct { name } => put_struct(out, name),
@@ -57,7 +60,7 @@ fn put_module<E: Emit>(
 /// Inner attributes and items in braces, each on a line of its own.
 #[cycle(put_item)]
 fn put_body<E: Emit>(out: &mut E, attrs: &[Attr], items: &[Item]) -> Result<(), E::Fault>
-    ensures { Did E.meanings out.old (stream_of (body (Blank ∷ []) [] (map attr_form attrs.now ++ map form_of_item items.now))) result out.new }
+    ensures { Did E.meanings out.old (stream_of (body (Blank ∷ []) [] (map attr_form attrs.now ++ forms (map about_item items.now)))) result out.new }
 {
     if is_bare(attrs, items) {
         return out.text(b" {}");
@@ -71,7 +74,7 @@ fn put_body<E: Emit>(out: &mut E, attrs: &[Attr], items: &[Item]) -> Result<(), 
 /// Items, each behind a newline.
 #[cycle(put_item)]
 fn put_lines<E: Emit>(out: &mut E, items: &[Item]) -> Result<(), E::Fault>
-    ensures { Did E.meanings out.old (stream_of (each H (map form_of_item items.now))) result out.new }
+    ensures { Did E.meanings out.old (stream_of (each H (forms (map about_item items.now)))) result out.new }
 {
     for item in items {
         out.brk(HARD_BREAK)?;
@@ -82,7 +85,7 @@ fn put_lines<E: Emit>(out: &mut E, items: &[Item]) -> Result<(), E::Fault>
 
 /// Whether nothing stands in a body.
 fn is_bare(attrs: &[Attr], items: &[Item]) -> bool
-    ensures { result ≡ no_forms (map attr_form attrs.now ++ map form_of_item items.now) }
+    ensures { result ≡ no_forms (map attr_form attrs.now ++ forms (map about_item items.now)) }
 {
     if !attrs.is_empty() {
         return false;

@@ -2,8 +2,8 @@
 ghost use Rattle.std.specs.Prelude.{◌<◌, [], ◌∷◌, pos, true, false, codes};
 ghost use Rattle.lay_token.specs.declared.layout.Tok.TheVariants as tok;
 ghost use Rattle.lay_stream.specs.Fed.{Did};
-ghost use Rattle.lay_tree.specs.Form.{Soft, Hard, Never};
-ghost use Rattle.lay_tree.specs.Layout.{break_of, comma_break};
+ghost use Rattle.lay_form.specs.Form.{Soft, Hard, Never};
+ghost use Rattle.lay_form.specs.Layout.{break_of, comma_break};
 
 use lay_stream::Emit;
 use lay_token::{Break, Mark};

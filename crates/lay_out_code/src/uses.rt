@@ -2,11 +2,12 @@
 ghost use Rattle.std.specs.Prelude.{[], ◌∷◌, map, codes, Some};
 ghost use Rattle.lay_token.specs.declared.layout.Tok.TheVariants as tok;
 ghost use Rattle.lay_stream.specs.Fed.{Did};
-ghost use Rattle.lay_tree.specs.Form.{Done};
-ghost use Rattle.lay_tree.specs.Nodes.{form_of_use, leaf_of, rename_form, words_form};
-ghost use Rattle.lay_tree.specs.Notation.{comma_gap, each};
-ghost use Rattle.lay_tree.specs.Stream.{stream_of};
-ghost use Rattle.lay_out_code.specs.Parts.{end_form};
+ghost use Rattle.lay_form.specs.Form.{Done};
+ghost use Rattle.lay_form.specs.Notation.{comma_gap, each};
+ghost use Rattle.lay_form.specs.Stream.{stream_of};
+ghost use Rattle.lay_tree.specs.Words.{leaf_of};
+ghost use Rattle.lay_tree.specs.nodes.Facts.{forms};
+ghost use Rattle.lay_tree.specs.nodes.Use.{about_use, about_use_end, rename_form, words_form};
 
 use crate::attributes::{put_global, put_word};
 use crate::notation::{SPACE_BREAK, close_list, open_list};
@@ -16,7 +17,7 @@ use lay_tree::{Name, Rename, UseEnd, UseTree, Word};
 /// Feeds the layout of a use tree.
 #[cycle(put_use)]
 pub fn put_use<E: Emit>(out: &mut E, tree: &UseTree) -> Result<(), E::Fault>
-    ensures { Did E.meanings out.old (stream_of (form_of_use tree.now)) result out.new }
+    ensures { Did E.meanings out.old (stream_of (about_use tree.now).form) result out.new }
 {
     put_global(out, tree.global)?;
     put_words(out, tree.path.as_slice())?;
@@ -26,7 +27,7 @@ pub fn put_use<E: Emit>(out: &mut E, tree: &UseTree) -> Result<(), E::Fault>
 /// What a use tree names behind its path.
 #[cycle(put_use)]
 fn put_end<E: Emit>(out: &mut E, end: &UseEnd) -> Result<(), E::Fault>
-    ensures { Did E.meanings out.old (stream_of (end_form end.now)) result out.new }
+    ensures { Did E.meanings out.old (stream_of (about_use_end end.now).form) result out.new }
 {
     match end {
         UseEnd::Word { word, rename } => put_renamed(out, word, rename),
@@ -46,7 +47,7 @@ fn put_end<E: Emit>(out: &mut E, end: &UseEnd) -> Result<(), E::Fault>
 /// The use trees of a group behind its first one.
 #[cycle(put_use)]
 fn put_further<E: Emit>(out: &mut E, trees: &[UseTree]) -> Result<(), E::Fault>
-    ensures { Did E.meanings out.old (stream_of (each comma_gap (map form_of_use trees.now))) result out.new }
+    ensures { Did E.meanings out.old (stream_of (each comma_gap (forms (map about_use trees.now)))) result out.new }
 {
     for tree in trees {
         out.text(b",")?;

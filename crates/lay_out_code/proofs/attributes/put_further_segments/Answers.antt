@@ -1,7 +1,7 @@
 use Rattle.std.proofs.Common.{List}
 use Rattle.lay_stream.proofs.Calls.{last, call_on, stream_on, leave_on, stream_leave, no_call}
-use Rattle.lay_tree.specs.Stream.{stream_of}
-use Rattle.lay_tree.specs.declared.tree.Segment.{Segment}
+use Rattle.lay_form.specs.Stream.{stream_of}
+use Rattle.lay_tree.specs.declared.path.Segment.{Segment}
 use Rattle.lay_out_code.specs.Parts.{further_segments}
 use Rattle.lay_out_code.proofs.OutLemmas.{loop_step, loop_done, further_segment}
 use Rattle.lay_out_code.proofs.attributes.put_further_segments.Goals as goal

@@ -1,6 +1,6 @@
 use Rattle.std.proofs.Common.{drop, Result}
 use Rattle.lay_stream.specs.Fed.{Did}
-use Rattle.lay_tree.specs.Stream.{stream_of}
+use Rattle.lay_form.specs.Stream.{stream_of}
 use Rattle.lay_out_code.specs.Parts.{further_segments}
 use Rattle.lay_out_code.proofs.attributes.put_further_segments.Given as goal
 

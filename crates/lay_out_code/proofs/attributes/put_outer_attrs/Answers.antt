@@ -1,10 +1,10 @@
 use Rattle.std.proofs.Common.{List, map}
 use Rattle.lay_stream.proofs.Calls.{last, call_on, stream_on, leave_on, stream_leave, no_call}
-use Rattle.lay_tree.specs.Form.{Done}
-use Rattle.lay_tree.specs.Notation.{behind_attrs}
-use Rattle.lay_tree.specs.Stream.{stream_of}
-use Rattle.lay_tree.specs.Nodes.{attr_form}
-use Rattle.lay_tree.specs.declared.tree.Attr.{Attr}
+use Rattle.lay_form.specs.Form.{Done}
+use Rattle.lay_form.specs.Notation.{behind_attrs}
+use Rattle.lay_form.specs.Stream.{stream_of}
+use Rattle.lay_tree.specs.nodes.Attr.{attr_form}
+use Rattle.lay_tree.specs.declared.attr.Attr.{Attr}
 use Rattle.lay_out_code.proofs.OutLemmas.{loop_step, loop_done, next_attr}
 use Rattle.lay_out_code.proofs.attributes.put_outer_attrs.Goals as goal
 

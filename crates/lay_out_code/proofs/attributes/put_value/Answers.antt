@@ -1,6 +1,6 @@
 use Rattle.std.proofs.Common.{refl, arith}
 use Rattle.lay_stream.proofs.Calls.{last, call_on, stream_on, leave_on, stream_leave, level_of}
-use Rattle.lay_tree.specs.Form.{Done, Leaf}
+use Rattle.lay_form.specs.Form.{Done, Leaf}
 use Rattle.lay_out_code.proofs.OutLemmas.{level_stays, value_parts}
 use Rattle.lay_out_code.proofs.attributes.put_value.Goals as goal
 

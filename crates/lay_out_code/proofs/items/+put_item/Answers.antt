@@ -1,9 +1,11 @@
 use Rattle.std.proofs.Common.{List, ◌++◌, map, arith}
 use Rattle.lay_stream.proofs.Calls.{last, call_on, stream_on, leave_on, stream_leave, level_of, no_call}
-use Rattle.lay_tree.specs.Notation.{H, each}
-use Rattle.lay_tree.specs.Stream.{stream_of}
-use Rattle.lay_tree.specs.Nodes.{attr_form, form_of_item}
-use Rattle.lay_tree.specs.declared.tree.Item.{Item}
+use Rattle.lay_form.specs.Notation.{H, each}
+use Rattle.lay_form.specs.Stream.{stream_of}
+use Rattle.lay_tree.specs.nodes.Attr.{attr_form}
+use Rattle.lay_tree.specs.nodes.Facts.{forms}
+use Rattle.lay_tree.specs.nodes.Item.{about_item}
+use Rattle.lay_tree.specs.declared.item.Item.{Item}
 use Rattle.lay_out_code.proofs.OutLemmas.{level_stays, loop_step, loop_done, next_line, item_parts, struct_kind, module_kind, import_kind, module_parts, bare_body, full_body}
 use Rattle.lay_out_code.proofs.items.+put_item.Goals as goal
 
@@ -35,7 +37,7 @@ put_module-returns g t c =
 
 pub put_body-returns-then-is_bare : goal.put_body-returns-then-is_bare
 put_body-returns-then-is_bare g t c =
-    last c.text.ensures (bare_body (map attr_form c.args.attrs.now ++ map form_of_item c.args.items.now) _ c.is_bare.ensures c.if-is_bare.true)
+    last c.text.ensures (bare_body (map attr_form c.args.attrs.now ++ forms (map about_item c.args.items.now)) _ c.is_bare.ensures c.if-is_bare.true)
 
 pub put_body-returns-in_err-open_body : goal.put_body-returns-in_err-open_body
 put_body-returns-in_err-open_body g t c =
@@ -51,7 +53,7 @@ put_body-returns-in_err-put_lines g t c =
 
 pub put_body-close_body-requires : goal.put_body-close_body-requires
 put_body-close_body-requires g t c =
-    omega (arith, level_of c.in_ok-open_body.ensures, level_stays (each H (map attr_form c.args.attrs.now)) c.in_ok-put_inner_attrs.ensures, level_stays (each H (map form_of_item c.args.items.now)) c.in_ok-put_lines.ensures)
+    omega (arith, level_of c.in_ok-open_body.ensures, level_stays (each H (map attr_form c.args.attrs.now)) c.in_ok-put_inner_attrs.ensures, level_stays (each H (forms (map about_item c.args.items.now))) c.in_ok-put_lines.ensures)
 
 pub put_body-returns : goal.put_body-returns
 put_body-returns g t c =
@@ -59,19 +61,19 @@ put_body-returns g t c =
 
 pub put_lines-returns-in_err-brk : goal.put_lines-returns-in_err-brk
 put_lines-returns-in_err-brk g t c =
-    let step = loop_step (λ (xs : List Item). stream_of (each H (map form_of_item xs))) c.args.items.now _ _ _ c.loop-item-test.true c.item-item.is (next_line (form_of_item _) (map form_of_item _)) in
+    let step = loop_step (λ (xs : List Item). stream_of (each H (forms (map about_item xs)))) c.args.items.now _ _ _ c.loop-item-test.true c.item-item.is (next_line (about_item _).form (forms (map about_item _))) in
     c.loop-item.invariant _ _ (last (leave_on c.in_err-brk.ensures c.from_residual.ensures.1) step)
 
 pub put_lines-returns-in_err-put_item : goal.put_lines-returns-in_err-put_item
 put_lines-returns-in_err-put_item g t c =
-    let step = loop_step (λ (xs : List Item). stream_of (each H (map form_of_item xs))) c.args.items.now _ _ _ c.loop-item-test.true c.item-item.is (next_line (form_of_item _) (map form_of_item _)) in
+    let step = loop_step (λ (xs : List Item). stream_of (each H (forms (map about_item xs)))) c.args.items.now _ _ _ c.loop-item-test.true c.item-item.is (next_line (about_item _).form (forms (map about_item _))) in
     c.loop-item.invariant _ _ (last (call_on c.in_ok-brk.ensures (stream_leave _ c.in_err-put_item.ensures c.from_residual-in_err-put_item.ensures.1)) step)
 
 pub put_lines-loop-item-preserved : goal.put_lines-loop-item-preserved
 put_lines-loop-item-preserved g t c = λ r end h.
-    let step = loop_step (λ (xs : List Item). stream_of (each H (map form_of_item xs))) c.args.items.now _ _ _ c.loop-item-test.true c.item-item.is (next_line (form_of_item _) (map form_of_item _)) in
+    let step = loop_step (λ (xs : List Item). stream_of (each H (forms (map about_item xs)))) c.args.items.now _ _ _ c.loop-item-test.true c.item-item.is (next_line (about_item _).form (forms (map about_item _))) in
     c.loop-item.invariant r end (last (call_on c.in_ok-brk.ensures (stream_on c.in_ok-put_item.ensures h)) step)
 
 pub put_lines-returns : goal.put_lines-returns
 put_lines-returns g t c =
-    c.loop-item.invariant _ _ (last no_call (loop_done (λ (xs : List Item). stream_of (each H (map form_of_item xs))) c.args.items.now _ c.loop-item-test.false))
+    c.loop-item.invariant _ _ (last no_call (loop_done (λ (xs : List Item). stream_of (each H (forms (map about_item xs)))) c.args.items.now _ c.loop-item-test.false))

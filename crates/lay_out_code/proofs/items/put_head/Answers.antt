@@ -1,7 +1,7 @@
 use Rattle.std.proofs.Common.{arith}
 use Rattle.lay_stream.proofs.Calls.{call_on, stream_on, leave_on, stream_leave, level_of}
-use Rattle.lay_tree.specs.Form.{Done}
-use Rattle.lay_tree.specs.Nodes.{leaf_of}
+use Rattle.lay_form.specs.Form.{Done}
+use Rattle.lay_tree.specs.Words.{leaf_of}
 use Rattle.lay_out_code.proofs.OutLemmas.{level_stays}
 use Rattle.lay_out_code.proofs.items.put_head.Goals as goal
 

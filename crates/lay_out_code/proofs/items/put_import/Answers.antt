@@ -1,6 +1,6 @@
 use Rattle.std.proofs.Common.{arith}
 use Rattle.lay_stream.proofs.Calls.{last, call_on, stream_on, leave_on, stream_leave, level_of}
-use Rattle.lay_tree.specs.Nodes.{form_of_use}
+use Rattle.lay_tree.specs.nodes.Use.{about_use}
 use Rattle.lay_out_code.proofs.OutLemmas.{level_stays, import_parts}
 use Rattle.lay_out_code.proofs.items.put_import.Goals as goal
 
@@ -22,7 +22,7 @@ returns-in_err-end g c =
 
 pub end-requires : goal.end-requires
 end-requires g c =
-    omega (arith, level_of c.in_ok-begin.ensures, level_of c.in_ok-text.ensures, level_stays (form_of_use c.args.tree.now) c.in_ok-put_use.ensures)
+    omega (arith, level_of c.in_ok-begin.ensures, level_of c.in_ok-text.ensures, level_stays (about_use c.args.tree.now).form c.in_ok-put_use.ensures)
 
 pub returns : goal.returns
 returns g c =

@@ -1,9 +1,9 @@
 use Rattle.std.proofs.Common.{List, map}
 use Rattle.lay_stream.proofs.Calls.{last, call_on, stream_on, leave_on, stream_leave, no_call}
-use Rattle.lay_tree.specs.Notation.{H, each}
-use Rattle.lay_tree.specs.Stream.{stream_of}
-use Rattle.lay_tree.specs.Nodes.{attr_form}
-use Rattle.lay_tree.specs.declared.tree.Attr.{Attr}
+use Rattle.lay_form.specs.Notation.{H, each}
+use Rattle.lay_form.specs.Stream.{stream_of}
+use Rattle.lay_tree.specs.nodes.Attr.{attr_form}
+use Rattle.lay_tree.specs.declared.attr.Attr.{Attr}
 use Rattle.lay_out_code.proofs.OutLemmas.{loop_step, loop_done, next_line}
 use Rattle.lay_out_code.proofs.items.put_inner_attrs.Goals as goal
 

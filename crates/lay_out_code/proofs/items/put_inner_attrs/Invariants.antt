@@ -1,8 +1,8 @@
 use Rattle.std.proofs.Common.{map, drop, Result}
 use Rattle.lay_stream.specs.Fed.{Did}
-use Rattle.lay_tree.specs.Notation.{H, each}
-use Rattle.lay_tree.specs.Stream.{stream_of}
-use Rattle.lay_tree.specs.Nodes.{attr_form}
+use Rattle.lay_form.specs.Notation.{H, each}
+use Rattle.lay_form.specs.Stream.{stream_of}
+use Rattle.lay_tree.specs.nodes.Attr.{attr_form}
 use Rattle.lay_out_code.proofs.items.put_inner_attrs.Given as goal
 
 -- calls that put the rest, put all

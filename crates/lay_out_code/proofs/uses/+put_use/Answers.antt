@@ -1,9 +1,10 @@
 use Rattle.std.proofs.Common.{List, map, refl, arith, ◌∙◌}
 use Rattle.lay_stream.proofs.Calls.{last, call_on, stream_on, leave_on, stream_leave, level_of, no_call}
-use Rattle.lay_tree.specs.Notation.{each, comma_gap}
-use Rattle.lay_tree.specs.Stream.{stream_of}
-use Rattle.lay_tree.specs.Nodes.{form_of_use}
-use Rattle.lay_tree.specs.declared.tree.UseTree.{UseTree}
+use Rattle.lay_form.specs.Notation.{each, comma_gap}
+use Rattle.lay_form.specs.Stream.{stream_of}
+use Rattle.lay_tree.specs.nodes.Facts.{forms}
+use Rattle.lay_tree.specs.nodes.Use.{about_use}
+use Rattle.lay_tree.specs.declared.use_tree.UseTree.{UseTree}
 use Rattle.lay_out_code.proofs.OutLemmas.{level_stays, loop_step, loop_done, use_parts, word_end, glob_end, group_end, next_comma, no_trees, full_list}
 use Rattle.lay_out_code.proofs.uses.+put_use.Goals as goal
 
@@ -43,7 +44,7 @@ put_end-returns-in_err-put_further-in-len1-up g t c =
 
 pub put_end-close_list-requires : goal.put_end-close_list-requires
 put_end-close_list-requires g t c =
-    omega (arith, level_of c.in_ok-open_list-in-len1-up.ensures, level_stays (form_of_use _) c.in_ok-put_use-in-len1-up.ensures, level_stays (each comma_gap (map form_of_use _)) c.in_ok-put_further-in-len1-up.ensures)
+    omega (arith, level_of c.in_ok-open_list-in-len1-up.ensures, level_stays (about_use _).form c.in_ok-put_use-in-len1-up.ensures, level_stays (each comma_gap (forms (map about_use _))) c.in_ok-put_further-in-len1-up.ensures)
 
 pub put_end-returns-in_ok-put_further-in-len1-up : goal.put_end-returns-in_ok-put_further-in-len1-up
 put_end-returns-in_ok-put_further-in-len1-up g t c =
@@ -51,24 +52,24 @@ put_end-returns-in_ok-put_further-in-len1-up g t c =
 
 pub put_further-returns-in_err-text : goal.put_further-returns-in_err-text
 put_further-returns-in_err-text g t c =
-    let step = loop_step (λ (xs : List UseTree). stream_of (each comma_gap (map form_of_use xs))) c.args.trees.now _ _ _ c.loop-tree-test.true c.tree-item.is (next_comma (form_of_use _) (map form_of_use _)) in
+    let step = loop_step (λ (xs : List UseTree). stream_of (each comma_gap (forms (map about_use xs)))) c.args.trees.now _ _ _ c.loop-tree-test.true c.tree-item.is (next_comma (about_use _).form (forms (map about_use _))) in
     c.loop-tree.invariant _ _ (last (leave_on c.in_err-text.ensures c.from_residual.ensures.1) step)
 
 pub put_further-returns-in_err-brk : goal.put_further-returns-in_err-brk
 put_further-returns-in_err-brk g t c =
-    let step = loop_step (λ (xs : List UseTree). stream_of (each comma_gap (map form_of_use xs))) c.args.trees.now _ _ _ c.loop-tree-test.true c.tree-item.is (next_comma (form_of_use _) (map form_of_use _)) in
+    let step = loop_step (λ (xs : List UseTree). stream_of (each comma_gap (forms (map about_use xs)))) c.args.trees.now _ _ _ c.loop-tree-test.true c.tree-item.is (next_comma (about_use _).form (forms (map about_use _))) in
     c.loop-tree.invariant _ _ (last (call_on c.in_ok-text.ensures (leave_on c.in_err-brk.ensures c.from_residual-in_err-brk.ensures.1)) step)
 
 pub put_further-returns-in_err-put_use : goal.put_further-returns-in_err-put_use
 put_further-returns-in_err-put_use g t c =
-    let step = loop_step (λ (xs : List UseTree). stream_of (each comma_gap (map form_of_use xs))) c.args.trees.now _ _ _ c.loop-tree-test.true c.tree-item.is (next_comma (form_of_use _) (map form_of_use _)) in
+    let step = loop_step (λ (xs : List UseTree). stream_of (each comma_gap (forms (map about_use xs)))) c.args.trees.now _ _ _ c.loop-tree-test.true c.tree-item.is (next_comma (about_use _).form (forms (map about_use _))) in
     c.loop-tree.invariant _ _ (last (call_on c.in_ok-text.ensures (call_on c.in_ok-brk.ensures (stream_leave _ c.in_err-put_use.ensures c.from_residual-in_err-put_use.ensures.1))) step)
 
 pub put_further-loop-tree-preserved : goal.put_further-loop-tree-preserved
 put_further-loop-tree-preserved g t c = λ r end h.
-    let step = loop_step (λ (xs : List UseTree). stream_of (each comma_gap (map form_of_use xs))) c.args.trees.now _ _ _ c.loop-tree-test.true c.tree-item.is (next_comma (form_of_use _) (map form_of_use _)) in
+    let step = loop_step (λ (xs : List UseTree). stream_of (each comma_gap (forms (map about_use xs)))) c.args.trees.now _ _ _ c.loop-tree-test.true c.tree-item.is (next_comma (about_use _).form (forms (map about_use _))) in
     c.loop-tree.invariant r end (last (call_on c.in_ok-text.ensures (call_on c.in_ok-brk.ensures (stream_on c.in_ok-put_use.ensures h))) step)
 
 pub put_further-returns : goal.put_further-returns
 put_further-returns g t c =
-    c.loop-tree.invariant _ _ (last no_call (loop_done (λ (xs : List UseTree). stream_of (each comma_gap (map form_of_use xs))) c.args.trees.now _ c.loop-tree-test.false))
+    c.loop-tree.invariant _ _ (last no_call (loop_done (λ (xs : List UseTree). stream_of (each comma_gap (forms (map about_use xs)))) c.args.trees.now _ c.loop-tree-test.false))

@@ -1,5 +1,5 @@
 use Rattle.lay_stream.proofs.Calls.{last, stream_on, stream_leave}
-use Rattle.lay_tree.specs.Nodes.{rename_form}
+use Rattle.lay_tree.specs.nodes.Use.{rename_form}
 use Rattle.lay_out_code.proofs.OutLemmas.{leaf_more}
 use Rattle.lay_out_code.proofs.uses.put_renamed.Goals as goal
 

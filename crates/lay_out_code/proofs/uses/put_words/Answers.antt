@@ -1,9 +1,9 @@
 use Rattle.std.proofs.Common.{List}
 use Rattle.lay_stream.proofs.Calls.{last, call_on, stream_on, leave_on, stream_leave, no_call}
-use Rattle.lay_tree.specs.Form.{Done}
-use Rattle.lay_tree.specs.Stream.{stream_of}
-use Rattle.lay_tree.specs.Nodes.{words_form}
-use Rattle.lay_tree.specs.declared.tree.Word.{Word}
+use Rattle.lay_form.specs.Form.{Done}
+use Rattle.lay_form.specs.Stream.{stream_of}
+use Rattle.lay_tree.specs.nodes.Use.{words_form}
+use Rattle.lay_tree.specs.declared.token.Word.{Word}
 use Rattle.lay_out_code.proofs.OutLemmas.{loop_step, loop_done, next_word}
 use Rattle.lay_out_code.proofs.uses.put_words.Goals as goal
 

@@ -1,8 +1,8 @@
 use Rattle.std.proofs.Common.{drop, Result}
 use Rattle.lay_stream.specs.Fed.{Did}
-use Rattle.lay_tree.specs.Form.{Done}
-use Rattle.lay_tree.specs.Stream.{stream_of}
-use Rattle.lay_tree.specs.Nodes.{words_form}
+use Rattle.lay_form.specs.Form.{Done}
+use Rattle.lay_form.specs.Stream.{stream_of}
+use Rattle.lay_tree.specs.nodes.Use.{words_form}
 use Rattle.lay_out_code.proofs.uses.put_words.Given as goal
 
 -- calls that put the rest, put all
