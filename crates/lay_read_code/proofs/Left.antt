@@ -2,18 +2,25 @@
 use Rattle.std.proofs.Common.{◌≡◌, ℕ, zero, suc, ◌+◌, ◌<◌, ◌≤◌, Bool, true, false, List, [], ◌∷◌, length, drop, codes, Option, Some, None, refl, ap, ◌∙◌, if◌then◌else◌, arith}
 use Rattle.std.proofs.lemmas.List.{drop-drop, length-drop}
 use Rattle.lay_token.specs.Operators.{op_at, is_op}
+use Rattle.lay_token.specs.declared.token.Delim.TheVariants.{Bracket, Brace}
 use Rattle.lay_token.specs.declared.token.Kind.{Kind}
 use Rattle.lay_token.specs.declared.token.Kind.TheVariants.{Underscore}
 use Rattle.lay_token.specs.declared.token.Token.{Token}
-use Rattle.lay_tree.specs.Reader.{Tokens, Got, ◌>>=◌, is_keyword, closes_brace, opens_brace, opens_bracket, closes_bracket, first, tail, passed, either, global, name_by, name, word_by, word, path_word, words_from, words, segments_from, simple_path, meta_name, literal, meta_input, behind_opening, meta_attr, doc_attr, is_doc, attribute, begins_attr, attrs_from, attributes, is_mark, element_end, group_from, group, ends_items, all_from, all, other_name, renamed, use_word, use_end_by, use_by, use_at, struct_item, module_by, import_by, kind_by, item_by, item_at}
-use Rattle.lay_tree.specs.Written.{is_literal_kind, is_doc_text}
-use Rattle.lay_tree.specs.declared.tree.Name.{Name}
-use Rattle.lay_tree.specs.declared.tree.Word.{Word}
-use Rattle.lay_tree.specs.declared.tree.Segment.{Segment}
-use Rattle.lay_tree.specs.declared.tree.Attr.{Attr}
-use Rattle.lay_tree.specs.declared.tree.Rename.TheVariants as rename
-use Rattle.lay_tree.specs.declared.tree.UseTree.{UseTree}
-use Rattle.lay_tree.specs.declared.tree.Item.{Item}
+use Rattle.lay_tree.specs.Ahead.{Tokens, first, tail, is_keyword, is_mark, opens, closes}
+use Rattle.lay_tree.specs.Follow.{begins_there, OfColons}
+use Rattle.lay_tree.specs.Words.{is_literal_kind}
+use Rattle.lay_tree.specs.nodes.Attr.{is_doc_text}
+use Rattle.lay_tree.specs.reader.Attr.{meta_name, meta_input, behind_opening, meta_attr, doc_attr, is_doc, attribute, begins_attr, attributes}
+use Rattle.lay_tree.specs.reader.Item.{more_items, items_by, struct_item, module_by, import_by, kind_by, item_by, item_at}
+use Rattle.lay_tree.specs.reader.Loops.{Got, Read, ◌>>=◌, passed, element_end, repeat_from, repeat, elements_from, elements}
+use Rattle.lay_tree.specs.reader.Path.{segment, begins_colons, further_segment, path}
+use Rattle.lay_tree.specs.reader.Use.{other_name, renamed, use_word, use_group, use_end_by, ended, use_by, use_at}
+use Rattle.lay_tree.specs.reader.Words.{name_by, name, word_by, word, literal, global, path_word, begins_path_word, path_words}
+use Rattle.lay_tree.specs.declared.item.Item.{Item}
+use Rattle.lay_tree.specs.declared.token.Name.{Name}
+use Rattle.lay_tree.specs.declared.token.Word.{Word}
+use Rattle.lay_tree.specs.declared.use_tree.Rename.TheVariants as rename
+use Rattle.lay_tree.specs.declared.use_tree.UseTree.{UseTree}
 
 -- The rest stands behind at least n tokens.
 pub record Left (n : ℕ) (ts rest : Tokens) : Type 0 where
@@ -33,6 +40,9 @@ Passes n ts (Some rest) = Left n ts rest
 
 unread : (ts : Tokens) → Left 0 ts ts
 unread ts = record { count = 0; dropped = refl; fewer = omega arith }
+
+pub dropped : (n : ℕ) (ts : Tokens) → Left 0 ts (drop n ts)
+dropped n ts = record { count = n; dropped = refl; fewer = omega (arith, length-drop n ts) }
 
 one_read : (t : Token) (ts : Tokens) → Left 1 (t ∷ ts) ts
 one_read t ts = record { count = 1; dropped = refl; fewer = omega arith }
@@ -100,6 +110,40 @@ global_left ts = by_test (is_op (codes "::") ts) refl
     by_test true h = joined 0 1 0 ts (drop 2 ts) (drop 2 ts) (omega arith) (op_read (codes "::") 1 ts h) (unread (drop 2 ts))
     by_test false h = unread ts
 
+-- ---- loops
+
+element_end_left : (closing : Token → Bool) (ts : Tokens) → Passes 0 ts (element_end closing ts)
+element_end_left closing [] = tt
+element_end_left closing (t ∷ ts) = by_test (is_mark (codes ",") t) (closing t)
+  where
+    by_test : (comma close : Bool) → Passes 0 (t ∷ ts) (if comma then Some ts else (if close then Some (t ∷ ts) else None))
+    by_test true close = record { count = 1; dropped = refl; fewer = omega arith }
+    by_test false true = unread (t ∷ ts)
+    by_test false false = tt
+
+module _ {A : Type 0} (one : Tokens → Got A) (one_left : (ts : Tokens) → Leaves 1 ts (one ts)) where
+  repeat_from_left : (more : Tokens → Bool) (n : ℕ) (found : List A) (ts : Tokens) → Leaves 0 ts (repeat_from more one n found ts)
+  unfolding repeat_from
+  repeat_from_left more zero found ts = tt
+  repeat_from_left more (suc n) found ts = choice 0 ts (more ts) _ _
+      (λ h. chain 0 1 0 ts (one ts) _ (omega arith) (one_left ts) (λ x. repeat_from_left more n _ x.1))
+      (unread ts)
+
+  repeat_left : (more : Tokens → Bool) (ts : Tokens) → Leaves 0 ts (repeat more one ts)
+  unfolding repeat
+  repeat_left more ts = repeat_from_left more (suc (length ts)) [] ts
+
+  elements_from_left : (closing : Token → Bool) (n : ℕ) (found : List A) (ts : Tokens) → Leaves 1 ts (elements_from closing one n found ts)
+  unfolding elements_from
+  elements_from_left closing zero found ts = tt
+  elements_from_left closing (suc n) found ts = choice 1 ts (first closing ts) _ _ (λ h. first_read closing ts h)
+      (chain 1 1 0 ts (one ts) _ (omega arith) (one_left ts)
+      (λ x. chain_passed 0 0 1 x.1 (element_end closing x.1) _ (omega arith) (element_end_left closing x.1) (λ behind. elements_from_left closing n _ behind)))
+
+  elements_left : (closing : Token → Bool) (ts : Tokens) → Leaves 1 ts (elements closing one ts)
+  unfolding elements
+  elements_left closing ts = elements_from_left closing (suc (length ts)) [] ts
+
 -- ---- names and words
 
 pub name_left : (ts : Tokens) → Leaves 1 ts (name ts)
@@ -128,40 +172,31 @@ path_word_left ts = chain 1 1 0 ts (word ts) _ (omega arith) (word_left ts) (λ 
     ended w mid = choice 0 mid (is_op (codes "::") mid) (Some (w, drop 2 mid)) None
         (λ h. further 0 1 0 mid (drop 2 mid) (Some (w, drop 2 mid)) (omega arith) (op_read (codes "::") 1 mid h) (unread (drop 2 mid))) tt
 
-words_step : (found : List Word) (ts : Tokens) (o : Got Word) (more : Word × Tokens → Got (List Word)) → Leaves 1 ts o
-    → ((one : Word × Tokens) → Leaves 0 one.1 (more one)) → Leaves 0 ts (either o (Some (found, ts)) more)
-words_step found ts None more a b = unread ts
-words_step found ts (Some one) more a b = further 0 1 0 ts one.1 (more one) (omega arith) a (b one)
+path_words_left : (ts : Tokens) → Leaves 0 ts (path_words ts)
+unfolding path_words
+path_words_left ts = repeat_left path_word path_word_left begins_path_word ts
 
-words_from_left : (n : ℕ) (found : List Word) (ts : Tokens) → Leaves 0 ts (words_from n found ts)
-unfolding words_from
-words_from_left zero found ts = tt
-words_from_left (suc n) found ts = words_step found ts (path_word ts) _ (path_word_left ts) (λ one. words_from_left n _ one.1)
+-- ---- paths
 
-words_left : (ts : Tokens) → Leaves 0 ts (words ts)
-unfolding words
-words_left ts = words_from_left (suc (length ts)) [] ts
+segment_left : (ts : Tokens) → Leaves 1 ts (segment ts)
+unfolding segment
+segment_left ts = chain 1 1 0 ts (word ts) _ (omega arith) (word_left ts) (λ w. unread w.1)
+
+pub further_segment_left : (ts : Tokens) → Leaves 1 ts (further_segment ts)
+further_segment_left ts = further 1 0 1 ts (drop 2 ts) _ (omega arith) (dropped 2 ts) (segment_left (drop 2 ts))
+
+path_left : (ts : Tokens) → Leaves 1 ts (path ts)
+unfolding path
+path_left ts = further 1 0 1 ts (global ts).1 _ (omega arith) (global_left ts)
+    (chain 1 1 0 (global ts).1 (segment (global ts).1) _ (omega arith) (segment_left (global ts).1)
+    (λ s. chain 0 0 0 s.1 (repeat begins_colons further_segment s.1) _ (omega arith) (repeat_left further_segment further_segment_left begins_colons s.1) (λ more. unread more.1)))
 
 -- ---- attributes
-
-segments_from_left : (n : ℕ) (found : List Segment) (ts : Tokens) → Leaves 0 ts (segments_from n found ts)
-unfolding segments_from
-segments_from_left zero found ts = tt
-segments_from_left (suc n) found ts = choice 0 ts (is_op (codes "::") ts) _ _
-    (λ h. further 0 1 0 ts (drop 2 ts) _ (omega arith) (op_read (codes "::") 1 ts h)
-    (chain 0 1 0 (drop 2 ts) (word (drop 2 ts)) _ (omega arith) (word_left (drop 2 ts)) (λ w. segments_from_left n _ w.1)))
-    (unread ts)
-
-simple_path_left : (ts : Tokens) → Leaves 1 ts (simple_path ts)
-unfolding simple_path
-simple_path_left ts = further 1 0 1 ts (global ts).1 _ (omega arith) (global_left ts)
-    (chain 1 1 0 (global ts).1 (word (global ts).1) _ (omega arith) (word_left (global ts).1)
-    (λ w. chain 0 0 0 w.1 (segments_from (suc (length w.1)) (record { word = w.0 } ∷ []) w.1) _ (omega arith) (segments_from_left _ _ w.1) (λ s. unread s.1)))
 
 pub meta_name_left : (ts : Tokens) → Leaves 1 ts (meta_name ts)
 unfolding meta_name
 meta_name_left ts = choice 1 ts (first (is_keyword (codes "unsafe")) ts) _ _ (λ h. first_read (is_keyword (codes "unsafe")) ts h)
-    (chain 1 1 0 ts (simple_path ts) _ (omega arith) (simple_path_left ts) (λ path. unread path.1))
+    (chain 1 1 0 ts (path ts) _ (omega arith) (path_left ts) (λ p. unread p.1))
 
 literal_left : (ts : Tokens) → Leaves 1 ts (literal ts)
 unfolding literal
@@ -176,16 +211,16 @@ meta_input_left ts = choice 0 ts (is_op (codes "=") ts) _ _
     (unread ts)
 
 pub opening_left : (inner : Bool) (ts : Tokens) → Passes 1 ts (behind_opening inner ts)
-opening_left false ts = passed_twice 1 1 1 ts (passed (is_mark (codes "#")) ts) _ (omega arith) (passed_left (is_mark (codes "#")) ts) (λ mark. passed_left opens_bracket mark)
+opening_left false ts = passed_twice 1 1 1 ts (passed (is_mark (codes "#")) ts) _ (omega arith) (passed_left (is_mark (codes "#")) ts) (λ mark. passed_left (opens Bracket) mark)
 opening_left true ts = passed_twice 1 1 1 ts (passed (is_mark (codes "#")) ts) _ (omega arith) (passed_left (is_mark (codes "#")) ts)
-    (λ mark. passed_twice 1 1 1 mark (passed (is_mark (codes "!")) mark) _ (omega arith) (passed_left (is_mark (codes "!")) mark) (λ bang. passed_left opens_bracket bang))
+    (λ mark. passed_twice 1 1 1 mark (passed (is_mark (codes "!")) mark) _ (omega arith) (passed_left (is_mark (codes "!")) mark) (λ bang. passed_left (opens Bracket) bang))
 
 meta_attr_left : (inner : Bool) (ts : Tokens) → Leaves 1 ts (meta_attr inner ts)
 unfolding meta_attr
 meta_attr_left inner ts = chain_passed 1 1 1 ts (behind_opening inner ts) _ (omega arith) (opening_left inner ts)
     (λ inside. chain 1 1 0 inside (meta_name inside) _ (omega arith) (meta_name_left inside)
     (λ path. chain 0 0 0 path.1 (meta_input path.1) _ (omega arith) (meta_input_left path.1)
-    (λ given. chain_passed 0 1 0 given.1 (passed closes_bracket given.1) _ (omega arith) (passed_left closes_bracket given.1) unread)))
+    (λ given. chain_passed 0 1 0 given.1 (passed (closes Bracket) given.1) _ (omega arith) (passed_left (closes Bracket) given.1) unread)))
 
 doc_attr_left : (inner : Bool) (ts : Tokens) → Leaves 1 ts (doc_attr inner ts)
 unfolding doc_attr
@@ -196,49 +231,9 @@ pub attribute_left : (inner : Bool) (ts : Tokens) → Leaves 1 ts (attribute inn
 unfolding attribute
 attribute_left inner ts = choice 1 ts (first (is_doc inner) ts) _ _ (λ h. doc_attr_left inner ts) (meta_attr_left inner ts)
 
-attrs_from_left : (inner : Bool) (n : ℕ) (found : List Attr) (ts : Tokens) → Leaves 0 ts (attrs_from inner n found ts)
-unfolding attrs_from
-attrs_from_left inner zero found ts = tt
-attrs_from_left inner (suc n) found ts = choice 0 ts (begins_attr inner ts) _ _
-    (λ h. chain 0 1 0 ts (attribute inner ts) _ (omega arith) (attribute_left inner ts) (λ a. attrs_from_left inner n _ a.1))
-    (unread ts)
-
 pub attributes_left : (inner : Bool) (ts : Tokens) → Leaves 0 ts (attributes inner ts)
 unfolding attributes
-attributes_left inner ts = attrs_from_left inner (suc (length ts)) [] ts
-
--- ---- lists
-
-pub element_end_left : (ts : Tokens) → Passes 0 ts (element_end ts)
-element_end_left [] = tt
-element_end_left (t ∷ ts) = by_test (is_mark (codes ",") t) (closes_brace t)
-  where
-    by_test : (comma close : Bool) → Passes 0 (t ∷ ts) (if comma then Some ts else (if close then Some (t ∷ ts) else None))
-    by_test true close = record { count = 1; dropped = refl; fewer = omega arith }
-    by_test false true = unread (t ∷ ts)
-    by_test false false = tt
-
-module _ {A : Type 0} (element : Tokens → Got A) (element_left : (ts : Tokens) → Leaves 1 ts (element ts)) where
-  group_from_left : (n : ℕ) (found : List A) (ts : Tokens) → Leaves 1 ts (group_from element n found ts)
-  unfolding group_from
-  group_from_left zero found ts = tt
-  group_from_left (suc n) found ts = choice 1 ts (first closes_brace ts) _ _ (λ h. first_read closes_brace ts h)
-      (chain 1 1 0 ts (element ts) _ (omega arith) (element_left ts)
-      (λ x. chain_passed 0 0 1 x.1 (element_end x.1) _ (omega arith) (element_end_left x.1) (λ behind. group_from_left n _ behind)))
-
-  group_left : (ts : Tokens) → Leaves 1 ts (group element ts)
-  unfolding group
-  group_left ts = group_from_left (suc (length ts)) [] ts
-
-  all_from_left : (n : ℕ) (found : List A) (ts : Tokens) → Leaves 0 ts (all_from element n found ts)
-  unfolding all_from
-  all_from_left zero found ts = tt
-  all_from_left (suc n) found ts = choice 0 ts (ends_items ts) _ _ (λ h. unread ts)
-      (chain 0 1 0 ts (element ts) _ (omega arith) (element_left ts) (λ x. all_from_left n _ x.1))
-
-  all_left : (ts : Tokens) → Leaves 0 ts (all element ts)
-  unfolding all
-  all_left ts = all_from_left (suc (length ts)) [] ts
+attributes_left inner ts = repeat_left (attribute inner) (attribute_left inner) (begins_attr inner) ts
 
 -- ---- use trees
 
@@ -266,17 +261,23 @@ renamed_left ts = choice 0 ts (first (is_keyword (codes "as")) ts) _ _
 use_word_left : (ts : Tokens) → Leaves 1 ts (use_word ts)
 use_word_left ts = chain 1 1 0 ts (word ts) _ (omega arith) (word_left ts) (λ w. chain 0 0 0 w.1 (renamed w.1) _ (omega arith) (renamed_left w.1) (λ r. unread r.1))
 
-module _ (within : Tokens → Got UseTree) (within_left : (ts : Tokens) → Leaves 1 ts (within ts)) where
+ended_left : (tree : UseTree × ℕ) (ts : Tokens) → Leaves 0 ts (ended tree ts)
+ended_left tree ts = choice 0 ts (begins_there OfColons ts) None _ (λ h. tt) (unread ts)
+
+module _ (within : Tokens → Read UseTree) (within_left : (ts : Tokens) → Leaves 1 ts (within ts)) where
+  use_group_left : (ts : Tokens) → Leaves 1 ts (use_group within ts)
+  use_group_left ts =
+      chain 1 1 0 ts (elements (closes Brace) within ts) _ (omega arith) (elements_left within within_left (closes Brace) ts) (λ trees. unread trees.1)
+
   use_end_left : (ts : Tokens) → Leaves 1 ts (use_end_by within ts)
-  use_end_left ts = choice 1 ts (first opens_brace ts) _ _
-      (λ h. further 1 1 1 ts (tail ts) _ (omega arith) (first_read opens_brace ts h)
-      (chain 1 1 0 (tail ts) (group within (tail ts)) _ (omega arith) (group_left within within_left (tail ts)) (λ trees. unread trees.1)))
+  use_end_left ts = choice 1 ts (first (opens Brace) ts) _ _
+      (λ h. further 1 1 1 ts (tail ts) _ (omega arith) (first_read (opens Brace) ts h) (use_group_left (tail ts)))
       (choice 1 ts (is_op (codes "*") ts) _ _ (λ h. op_read (codes "*") 0 ts h) (use_word_left ts))
 
   use_by_left : (ts : Tokens) → Leaves 1 ts (use_by within ts)
   use_by_left ts = further 1 0 1 ts (global ts).1 _ (omega arith) (global_left ts)
-      (chain 1 0 1 (global ts).1 (words (global ts).1) _ (omega arith) (words_left (global ts).1)
-      (λ path. chain 1 1 0 path.1 (use_end_by within path.1) _ (omega arith) (use_end_left path.1) (λ end. unread end.1)))
+      (chain 1 0 1 (global ts).1 (path_words (global ts).1) _ (omega arith) (path_words_left (global ts).1)
+      (λ p. chain 1 1 0 p.1 (use_end_by within p.1) _ (omega arith) (use_end_left p.1) (λ end. ended_left _ end.1)))
 
 pub use_left : (depth : ℕ) (ts : Tokens) → Leaves 1 ts (use_at depth ts)
 unfolding use_at
@@ -290,21 +291,25 @@ unfolding struct_item
 struct_left ts = chain 1 1 1 ts (name ts) _ (omega arith) (name_left ts)
     (λ n. chain_passed 1 1 0 n.1 (passed (is_mark (codes ";")) n.1) _ (omega arith) (passed_left (is_mark (codes ";")) n.1) unread)
 
-import_left : (tree : Tokens → Got UseTree) → ((ts : Tokens) → Leaves 1 ts (tree ts)) → (ts : Tokens) → Leaves 1 ts (import_by tree ts)
+import_left : (tree : Tokens → Read UseTree) → ((ts : Tokens) → Leaves 1 ts (tree ts)) → (ts : Tokens) → Leaves 1 ts (import_by tree ts)
 unfolding import_by
 import_left tree tree_left ts = chain 1 1 1 ts (tree ts) _ (omega arith) (tree_left ts)
     (λ t. chain_passed 1 1 0 t.1 (passed (is_mark (codes ";")) t.1) _ (omega arith) (passed_left (is_mark (codes ";")) t.1) unread)
 
-module _ (within : Tokens → Got Item) (within_left : (ts : Tokens) → Leaves 1 ts (within ts)) where
+module _ (within : Tokens → Read Item) (within_left : (ts : Tokens) → Leaves 1 ts (within ts)) where
+  items_left : (ts : Tokens) → Leaves 0 ts (items_by within ts)
+  unfolding items_by
+  items_left ts = repeat_left within within_left more_items ts
+
   module_left : (ts : Tokens) → Leaves 1 ts (module_by within ts)
   unfolding module_by
   module_left ts = chain 1 1 1 ts (name ts) _ (omega arith) (name_left ts)
-      (λ n. chain_passed 1 1 0 n.1 (passed opens_brace n.1) _ (omega arith) (passed_left opens_brace n.1)
+      (λ n. chain_passed 1 1 0 n.1 (passed (opens Brace) n.1) _ (omega arith) (passed_left (opens Brace) n.1)
       (λ inside. chain 0 0 0 inside (attributes true inside) _ (omega arith) (attributes_left true inside)
-      (λ attrs. chain 0 0 0 attrs.1 (all within attrs.1) _ (omega arith) (all_left within within_left attrs.1)
-      (λ items. chain_passed 0 1 0 items.1 (passed closes_brace items.1) _ (omega arith) (passed_left closes_brace items.1) unread))))
+      (λ attrs. chain 0 0 0 attrs.1 (items_by within attrs.1) _ (omega arith) (items_left attrs.1)
+      (λ items. chain_passed 0 1 0 items.1 (passed (closes Brace) items.1) _ (omega arith) (passed_left (closes Brace) items.1) unread))))
 
-  module _ (tree : Tokens → Got UseTree) (tree_left : (ts : Tokens) → Leaves 1 ts (tree ts)) where
+  module _ (tree : Tokens → Read UseTree) (tree_left : (ts : Tokens) → Leaves 1 ts (tree ts)) where
     kind_left : (ts : Tokens) → Leaves 1 ts (kind_by within tree ts)
     unfolding kind_by
     kind_left ts = choice 1 ts (first (is_keyword (codes "struct")) ts) _ _
@@ -331,3 +336,13 @@ left_by n ts got x rest a e = rw e at a
 
 pub shorter : {A : Type 0} (ts : Tokens) (got : Got A) (x : A) (rest : Tokens) → Leaves 1 ts got → got ≡ Some (x, rest) → length rest < length ts
 shorter ts got x rest a e = omega (arith, (left_by 1 ts got x rest a e).fewer)
+
+no_longer : (ts : Tokens) (o : Option Tokens) (rest : Tokens) → Passes 0 ts o → o ≡ Some rest → length rest ≤ length ts
+no_longer ts None rest a e = absurd (cc)
+no_longer ts (Some left) rest a e = let same : left ≡ rest = cc in omega (arith, a.fewer, ap length same)
+
+-- the same behind an element and what ends it
+pub element_shorter : {A : Type 0} (closing : Token → Bool) (ts : Tokens) (got : Got A) (x : A) (mid behind : Tokens) → Leaves 1 ts got
+    → got ≡ Some (x, mid) → element_end closing mid ≡ Some behind → length behind < length ts
+element_shorter closing ts got x mid behind a h g =
+    omega (arith, shorter ts got x mid a h, no_longer mid (element_end closing mid) behind (element_end_left closing mid) g)

@@ -1,27 +1,27 @@
 //! Attributes and documentation.
-ghost use Rattle.std.specs.Prelude.{◌≡◌, ◌∷◌, [], suc, length, if◌then◌else◌, Some, None};
+ghost use Rattle.std.specs.Prelude.{◌≡◌, if◌then◌else◌, Some, None};
 ghost use Rattle.lay_cook.specs.Cooking.{IsString};
-ghost use Rattle.lay_tree.specs.declared.tree.MetaInput.TheVariants as input;
-ghost use Rattle.lay_tree.specs.Reader as reader;
-ghost use Rattle.lay_tree.specs.Reader.{first};
-ghost use Rattle.lay_tree.specs.Written.{is_doc_path, is_doc_text, is_literal_kind};
-ghost use Rattle.lay_read_code.specs.Answers.{IsGot, IsMade, Strings, meta_rest, bare_rest, value_rest};
+ghost use Rattle.lay_tree.specs.Ahead.{first};
+ghost use Rattle.lay_tree.specs.Words.{is_literal_kind};
+ghost use Rattle.lay_tree.specs.nodes.Attr.{is_doc_path, is_doc_text};
+ghost use Rattle.lay_tree.specs.reader.Attr as reader;
+ghost use Rattle.lay_tree.specs.declared.attr.MetaInput.TheVariants as input;
+ghost use Rattle.lay_read_code.specs.Answers.{AreLexed, IsGot, IsMade, meta_rest, bare_rest, value_rest};
 
 use crate::front::{
-    is_at_mark, pass, takes_close_bracket, takes_colons, takes_keyword, takes_mark, takes_op,
-    takes_open_bracket,
+    is_at_mark, pass, takes_closer, takes_keyword, takes_mark, takes_op, takes_opener,
 };
-use crate::names::read_word;
+use crate::paths::read_path;
 use crate::stop::{Stop, copy_of, keep};
 use lay_cook::{Cooked, cook};
 use lay_nest::Cursor;
-use lay_token::{DocForm, Kind, List, NoMemory, Token, doc_form};
-use lay_tree::{Attr, Literal, MetaInput, MetaPath, Path, Segment};
+use lay_token::{Delim, DocForm, Kind, List, NoMemory, Token, doc_form};
+use lay_tree::{Attr, Literal, MetaInput, MetaPath};
 use std::alloc::Global;
 
 /// The attributes at the front: inner ones, or outer ones.
 pub fn read_attrs(alloc: Global, at: &mut Cursor<'_>, inner: bool) -> Result<List<Attr>, Stop>
-    requires { Strings at.old }
+    requires { AreLexed at.old }
     ensures { IsGot (reader.attributes inner at.old) result at.new }
 {
     let mut attrs = List::new(alloc);
@@ -51,9 +51,9 @@ fn begins_attr(at: &Cursor<'_>, inner: bool) -> bool
 }
 
 /// An attribute at the front, or documentation.
-#[tactic(auto, unfolding(lay_tree::specs::Reader::attribute))]
+#[tactic(auto, unfolding(lay_tree::specs::reader::Attr::attribute))]
 fn read_attr(alloc: Global, at: &mut Cursor<'_>, inner: bool) -> Result<Attr, Stop>
-    requires { Strings at.old }
+    requires { AreLexed at.old }
     ensures { IsGot (reader.attribute inner at.old) result at.new }
 {
     if is_at_doc(at, inner) {
@@ -77,7 +77,7 @@ fn is_at_doc(at: &Cursor<'_>, inner: bool) -> bool
 }
 
 /// Documentation at the front, spelled as a comment.
-#[tactic(auto, unfolding(lay_tree::specs::Reader::doc_attr))]
+#[tactic(auto, unfolding(lay_tree::specs::reader::Attr::doc_attr))]
 fn read_doc(alloc: Global, at: &mut Cursor<'_>, inner: bool) -> Result<Attr, Stop>
     ensures { IsGot (reader.doc_attr inner at.old) result at.new }
 {
@@ -105,9 +105,9 @@ fn is_doc_text(text: &[u8], inner: bool) -> bool
 }
 
 /// An attribute in brackets.
-#[tactic(auto, unfolding(lay_tree::specs::Reader::meta_attr))]
+#[tactic(auto, unfolding(lay_tree::specs::reader::Attr::meta_attr))]
 fn read_meta(alloc: Global, at: &mut Cursor<'_>, inner: bool) -> Result<Attr, Stop>
-    requires { Strings at.old }
+    requires { AreLexed at.old }
     ensures { IsGot (reader.meta_attr inner at.old) result at.new }
 {
     if !takes_opening(at, inner) {
@@ -127,43 +127,19 @@ fn takes_opening(at: &mut Cursor<'_>, inner: bool) -> bool
     if inner && !takes_mark(at, b"!") {
         return false;
     }
-    takes_open_bracket(at)
+    takes_opener(at, Delim::Bracket)
 }
 
 /// What an attribute is called.
-#[tactic(auto, unfolding(lay_tree::specs::Reader::meta_name))]
+#[tactic(auto, unfolding(lay_tree::specs::reader::Attr::meta_name))]
 fn read_meta_path(alloc: Global, at: &mut Cursor<'_>) -> Result<MetaPath, Stop>
     ensures { IsGot (reader.meta_name at.old) result at.new }
 {
     if takes_keyword(at, b"unsafe") {
         return Ok(MetaPath::Unsafe);
     }
-    let path = read_simple_path(alloc, at)?;
+    let path = read_path(alloc, at)?;
     Ok(MetaPath::Path(path))
-}
-
-/// A path without arguments.
-#[tactic(auto, unfolding(lay_tree::specs::Reader::simple_path))]
-fn read_simple_path(alloc: Global, at: &mut Cursor<'_>) -> Result<Path, Stop>
-    ensures { IsGot (reader.simple_path at.old) result at.new }
-{
-    let global = takes_colons(at);
-    let word = read_word(alloc, at)?;
-    let segments = read_segments(alloc, at, Segment { word })?;
-    Ok(Path { global, segments })
-}
-
-/// The segments of a path behind its first, each with a `::` before it.
-fn read_segments(alloc: Global, at: &mut Cursor<'_>, first: Segment) -> Result<List<Segment>, Stop>
-    ensures { IsGot (reader.segments_from (suc (length at.old)) (first ∷ []) at.old) result at.new }
-{
-    let mut segments = List::new(alloc);
-    keep(&mut segments, first)?;
-    while takes_colons(at) {
-        let word = read_word(alloc, at)?;
-        keep(&mut segments, Segment { word })?;
-    }
-    Ok(segments)
 }
 
 /// What an attribute is given, and its closing bracket.
@@ -173,7 +149,7 @@ fn read_meta_input(
     inner: bool,
     path: MetaPath,
 ) -> Result<Attr, Stop>
-    requires { Strings at.old }
+    requires { AreLexed at.old }
     ensures { IsGot (meta_rest inner path at.old) result at.new }
 {
     if takes_op(at, b"=") {
@@ -187,7 +163,7 @@ fn read_meta_input(
 fn read_bare(at: &mut Cursor<'_>, inner: bool, path: MetaPath) -> Result<Attr, Stop>
     ensures { IsGot (bare_rest inner path at.old) result at.new }
 {
-    if takes_close_bracket(at) {
+    if takes_closer(at, Delim::Bracket) {
         Ok(Attr::Meta {
             inner,
             path,
@@ -200,7 +176,7 @@ fn read_bare(at: &mut Cursor<'_>, inner: bool, path: MetaPath) -> Result<Attr, S
 
 /// The literal that an attribute is given, and its closing bracket.
 fn read_value(alloc: Global, at: &mut Cursor<'_>, inner: bool, path: MetaPath) -> Result<Attr, Stop>
-    requires { Strings at.old }
+    requires { AreLexed at.old }
     ensures { IsGot (value_rest inner path at.old) result at.new }
 {
     let token = match at.peek(0) {
@@ -211,7 +187,7 @@ fn read_value(alloc: Global, at: &mut Cursor<'_>, inner: bool, path: MetaPath) -
         return Err(Stop::NoReading);
     }
     pass(at);
-    if takes_close_bracket(at) {
+    if takes_closer(at, Delim::Bracket) {
         made(alloc, inner, path, token)
     } else {
         Err(Stop::NoReading)

@@ -1,8 +1,8 @@
 //! Files.
 ghost use Rattle.std.specs.Prelude.{IsTrue};
-ghost use Rattle.lay_tree.specs.Reader as reader;
 ghost use Rattle.lay_tree.specs.Written.{is_good_shebang};
-ghost use Rattle.lay_read_code.specs.Answers.{AreLexed, FileAs, IsWhole, Strings};
+ghost use Rattle.lay_tree.specs.reader.File.{whole};
+ghost use Rattle.lay_read_code.specs.Answers.{AreLexed, FileAs, IsWhole};
 
 use crate::attributes::read_attrs;
 use crate::items::read_items;
@@ -37,15 +37,15 @@ pub fn read_file(alloc: Global, nested: &Nested, shebang: Option<Text>) -> Resul
 }
 
 /// Inner attributes and items, and behind them no token.
-#[tactic(auto, unfolding(lay_tree::specs::Reader::whole))]
+#[tactic(auto, unfolding(lay_tree::specs::reader::File::whole))]
 fn read_whole(alloc: Global, at: &mut Cursor<'_>) -> Result<(List<Attr>, List<Item>), Stop>
-    requires { Strings at.old }
-    ensures { IsWhole (reader.whole at.old) result }
+    requires { AreLexed at.old }
+    ensures { IsWhole (whole at.old) result }
 {
     let attrs = read_attrs(alloc, at, true)?;
     let items = read_items(alloc, at, DEPTH)?;
     if at.is_end() {
-        Ok((attrs, items))
+        Ok((attrs, items.node))
     } else {
         Err(Stop::NoReading)
     }

@@ -1,8 +1,10 @@
 //! The front of the tokens ahead.
 ghost use Rattle.std.specs.Prelude.{◌≡◌, ◌&&◌, if◌then◌else◌, drop, codes, Some, None};
 ghost use Rattle.lay_token.specs.Operators.{is_op};
-ghost use Rattle.lay_tree.specs.Reader as reader;
-ghost use Rattle.lay_tree.specs.Reader.{first, tail};
+ghost use Rattle.lay_tree.specs.Ahead as ahead;
+ghost use Rattle.lay_tree.specs.Ahead.{first, same_delim, tail};
+ghost use Rattle.lay_tree.specs.reader.Item.{more_items};
+ghost use Rattle.lay_tree.specs.reader.Loops.{element_end};
 ghost use Rattle.lay_read_code.specs.Answers.{is_underscore};
 
 use lay_nest::Cursor;
@@ -10,16 +12,47 @@ use lay_token::{Delim, Kind, Token};
 
 /// Whether the token is the keyword.
 fn is_keyword(token: &Token, word: &[u8]) -> bool
-    ensures { result ≡ reader.is_keyword word.now token.now }
+    ensures { result ≡ ahead.is_keyword word.now token.now }
 {
     matches!(token.kind, Kind::Ident) && token.text.as_bytes() == word
 }
 
 /// Whether the token is the punctuation of the character.
 fn is_mark(token: &Token, character: &[u8]) -> bool
-    ensures { result ≡ reader.is_mark character.now token.now }
+    ensures { result ≡ ahead.is_mark character.now token.now }
 {
     matches!(token.kind, Kind::Punct) && token.text.as_bytes() == character
+}
+
+/// Whether two delimiters are the same.
+fn is_same(delim: Delim, other: Delim) -> bool
+    ensures { result ≡ same_delim delim other }
+{
+    match delim {
+        Delim::Paren => matches!(other, Delim::Paren),
+        Delim::Bracket => matches!(other, Delim::Bracket),
+        Delim::Brace => matches!(other, Delim::Brace),
+    }
+}
+
+/// Whether the token opens a group in the delimiter.
+fn opens(token: &Token, delim: Delim) -> bool
+    ensures { result ≡ ahead.opens delim token.now }
+{
+    match token.kind {
+        Kind::Opener(found) => is_same(delim, found),
+        _ => false,
+    }
+}
+
+/// Whether the token closes a group in the delimiter.
+fn closes(token: &Token, delim: Delim) -> bool
+    ensures { result ≡ ahead.closes delim token.now }
+{
+    match token.kind {
+        Kind::Closer(found) => is_same(delim, found),
+        _ => false,
+    }
 }
 
 /// Passes the first token, if there is one.
@@ -31,9 +64,18 @@ pub fn pass(at: &mut Cursor<'_>)
     }
 }
 
+/// Passes the first token, if it is what was asked for.
+fn pass_if(at: &mut Cursor<'_>, found: bool)
+    ensures { at.new ≡ (if found then tail at.old else at.old) }
+{
+    if found {
+        pass(at);
+    }
+}
+
 /// Whether the keyword stands at the front.
-pub fn is_at_keyword(at: &Cursor<'_>, word: &[u8]) -> bool
-    ensures { result ≡ first (reader.is_keyword word.now) at.now }
+fn is_at_keyword(at: &Cursor<'_>, word: &[u8]) -> bool
+    ensures { result ≡ first (ahead.is_keyword word.now) at.now }
 {
     match at.peek(0) {
         Some(token) => is_keyword(token, word),
@@ -43,19 +85,17 @@ pub fn is_at_keyword(at: &Cursor<'_>, word: &[u8]) -> bool
 
 /// Passes the keyword, if it stands at the front.
 pub fn takes_keyword(at: &mut Cursor<'_>, word: &[u8]) -> bool
-    ensures found { result ≡ first (reader.is_keyword word.now) at.old }
+    ensures found { result ≡ first (ahead.is_keyword word.now) at.old }
     ensures passed { at.new ≡ (if result then tail at.old else at.old) }
 {
     let found = is_at_keyword(at, word);
-    if found {
-        pass(at);
-    }
+    pass_if(at, found);
     found
 }
 
 /// Whether the mark stands at the front.
 pub fn is_at_mark(at: &Cursor<'_>, character: &[u8]) -> bool
-    ensures { result ≡ first (reader.is_mark character.now) at.now }
+    ensures { result ≡ first (ahead.is_mark character.now) at.now }
 {
     match at.peek(0) {
         Some(token) => is_mark(token, character),
@@ -65,87 +105,44 @@ pub fn is_at_mark(at: &Cursor<'_>, character: &[u8]) -> bool
 
 /// Passes the mark, if it stands at the front.
 pub fn takes_mark(at: &mut Cursor<'_>, character: &[u8]) -> bool
-    ensures found { result ≡ first (reader.is_mark character.now) at.old }
+    ensures found { result ≡ first (ahead.is_mark character.now) at.old }
     ensures passed { at.new ≡ (if result then tail at.old else at.old) }
 {
     let found = is_at_mark(at, character);
-    if found {
-        pass(at);
-    }
+    pass_if(at, found);
     found
 }
 
-/// Whether a `{` stands at the front.
-pub fn is_at_open_brace(at: &Cursor<'_>) -> bool
-    ensures { result ≡ first reader.opens_brace at.now }
-{
-    match at.peek(0) {
-        Some(token) => matches!(token.kind, Kind::Opener(Delim::Brace)),
-        None => false,
-    }
-}
-
-/// Passes a `{`, if it stands at the front.
-pub fn takes_open_brace(at: &mut Cursor<'_>) -> bool
-    ensures found { result ≡ first reader.opens_brace at.old }
-    ensures passed { at.new ≡ (if result then tail at.old else at.old) }
-{
-    let found = is_at_open_brace(at);
-    if found {
-        pass(at);
-    }
-    found
-}
-
-/// Whether a `}` stands at the front.
-pub fn is_at_close_brace(at: &Cursor<'_>) -> bool
-    ensures { result ≡ first reader.closes_brace at.now }
-{
-    match at.peek(0) {
-        Some(token) => matches!(token.kind, Kind::Closer(Delim::Brace)),
-        None => false,
-    }
-}
-
-/// Passes a `}`, if it stands at the front.
-pub fn takes_close_brace(at: &mut Cursor<'_>) -> bool
-    ensures found { result ≡ first reader.closes_brace at.old }
-    ensures passed { at.new ≡ (if result then tail at.old else at.old) }
-{
-    let found = is_at_close_brace(at);
-    if found {
-        pass(at);
-    }
-    found
-}
-
-/// Passes a `[`, if it stands at the front.
-pub fn takes_open_bracket(at: &mut Cursor<'_>) -> bool
-    ensures found { result ≡ first reader.opens_bracket at.old }
+/// Passes an opener of the delimiter, if it stands at the front.
+pub fn takes_opener(at: &mut Cursor<'_>, delim: Delim) -> bool
+    ensures found { result ≡ first (ahead.opens delim) at.old }
     ensures passed { at.new ≡ (if result then tail at.old else at.old) }
 {
     let found = match at.peek(0) {
-        Some(token) => matches!(token.kind, Kind::Opener(Delim::Bracket)),
+        Some(token) => opens(token, delim),
         None => false,
     };
-    if found {
-        pass(at);
-    }
+    pass_if(at, found);
     found
 }
 
-/// Passes a `]`, if it stands at the front.
-pub fn takes_close_bracket(at: &mut Cursor<'_>) -> bool
-    ensures found { result ≡ first reader.closes_bracket at.old }
+/// Whether a closer of the delimiter stands at the front.
+fn is_at_closer(at: &Cursor<'_>, delim: Delim) -> bool
+    ensures { result ≡ first (ahead.closes delim) at.now }
+{
+    match at.peek(0) {
+        Some(token) => closes(token, delim),
+        None => false,
+    }
+}
+
+/// Passes a closer of the delimiter, if it stands at the front.
+pub fn takes_closer(at: &mut Cursor<'_>, delim: Delim) -> bool
+    ensures found { result ≡ first (ahead.closes delim) at.old }
     ensures passed { at.new ≡ (if result then tail at.old else at.old) }
 {
-    let found = match at.peek(0) {
-        Some(token) => matches!(token.kind, Kind::Closer(Delim::Bracket)),
-        None => false,
-    };
-    if found {
-        pass(at);
-    }
+    let found = is_at_closer(at, delim);
+    pass_if(at, found);
     found
 }
 
@@ -158,9 +155,7 @@ pub fn takes_underscore(at: &mut Cursor<'_>) -> bool
         Some(token) => matches!(token.kind, Kind::Underscore),
         None => false,
     };
-    if found {
-        pass(at);
-    }
+    pass_if(at, found);
     found
 }
 
@@ -176,32 +171,46 @@ pub fn takes_op(at: &mut Cursor<'_>, op: &[u8]) -> bool
     found
 }
 
+/// Passes two tokens, if there are so many.
+pub fn pass_two(at: &mut Cursor<'_>)
+    ensures { at.new ≡ drop 2 at.old }
+{
+    pass(at);
+    pass(at);
+}
+
+/// Whether a `::` stands at the front.
+pub fn is_at_colons(at: &Cursor<'_>) -> bool
+    ensures { result ≡ is_op (codes "::") at.now }
+{
+    at.op_is(b"::")
+}
+
 /// Passes a `::`, if it stands at the front.
 pub fn takes_colons(at: &mut Cursor<'_>) -> bool
     ensures found { result ≡ is_op (codes "::") at.old }
     ensures passed { at.new ≡ (if result then drop 2 at.old else at.old) }
 {
-    let found = at.op_is(b"::");
+    let found = is_at_colons(at);
     if found {
-        pass(at);
-        pass(at);
+        pass_two(at);
     }
     found
 }
 
-/// Behind an element of a list a `,` is passed, and where there is none a `}` stands.
-pub fn takes_element_end(at: &mut Cursor<'_>) -> bool
-    ensures { (if result then Some at.new else None) ≡ reader.element_end at.old }
+/// Behind an element of a list a `,` is passed, and where there is none the closer of the list stands.
+pub fn takes_element_end(at: &mut Cursor<'_>, delim: Delim) -> bool
+    ensures { (if result then Some at.new else None) ≡ element_end (ahead.closes delim) at.old }
 {
-    takes_mark(at, b",") || is_at_close_brace(at)
+    takes_mark(at, b",") || is_at_closer(at, delim)
 }
 
 /// Items end where no token is left, and before a `}`.
-pub fn ends_items(at: &Cursor<'_>) -> bool
-    ensures { result ≡ reader.ends_items at.now }
+pub fn has_items(at: &Cursor<'_>) -> bool
+    ensures { result ≡ more_items at.now }
 {
     match at.peek(0) {
-        Some(token) => matches!(token.kind, Kind::Closer(Delim::Brace)),
-        None => true,
+        Some(token) => !closes(token, Delim::Brace),
+        None => false,
     }
 }

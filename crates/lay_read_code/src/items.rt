@@ -1,53 +1,66 @@
 //! Items.
-ghost use Rattle.std.specs.Prelude.{◌≡◌};
-ghost use Rattle.lay_tree.specs.Reader as reader;
-ghost use Rattle.lay_read_code.specs.Answers.{IsGot, Strings};
+ghost use Rattle.std.specs.Prelude.{◌≡◌, ◌≤◌, IfOk};
+ghost use Rattle.lay_tree.specs.reader.Item as reader;
+ghost use Rattle.lay_tree.specs.reader.Use.{use_at};
+ghost use Rattle.lay_read_code.specs.Answers.{AreFound, AreLexed, IsFound, IsHeld};
 
 use crate::attributes::read_attrs;
-use crate::front::{ends_items, takes_close_brace, takes_keyword, takes_mark, takes_open_brace};
+use crate::found::{Found, greater};
+use crate::front::{has_items, takes_closer, takes_keyword, takes_mark, takes_opener};
 use crate::names::read_name;
 use crate::stop::{Stop, keep};
 use crate::uses::read_use;
 use lay_nest::Cursor;
-use lay_token::List;
+use lay_token::{Delim, List};
 use lay_tree::{Item, ItemKind};
 use std::alloc::Global;
 
-/// Items at a depth, up to where they end.
+/// Items within a depth, up to where they end.
 #[cycle(items)]
-pub fn read_items(alloc: Global, at: &mut Cursor<'_>, depth: u32) -> Result<List<Item>, Stop>
-    requires { Strings at.old }
-    ensures { IsGot (reader.all (reader.item_at depth) at.old) result at.new }
+pub fn read_items(alloc: Global, at: &mut Cursor<'_>, depth: u32) -> Result<Found<List<Item>>, Stop>
+    requires { AreLexed at.old }
+    ensures read { IsHeld AreFound (reader.items_by (reader.item_at depth) at.old) result at.new }
+    ensures within { IfOk result (λ found. found.need ≤ depth) }
 {
     let mut items = List::new(alloc);
-    while !ends_items(at) {
+    let mut need = 0;
+    while has_items(at) {
         let item = read_item(alloc, at, depth)?;
-        keep(&mut items, item)?;
+        need = greater(need, item.need);
+        keep(&mut items, item.node)?;
     }
-    Ok(items)
+    Ok(Found { node: items, need })
 }
 
-/// An item at a depth, with its attributes.
+/// An item within a depth, with its attributes.
 #[cycle(items)]
-#[tactic(auto, unfolding(lay_tree::specs::Reader::item_at))]
-fn read_item(alloc: Global, at: &mut Cursor<'_>, depth: u32) -> Result<Item, Stop>
-    requires { Strings at.old }
-    ensures { IsGot (reader.item_at depth at.old) result at.new }
+#[tactic(auto, unfolding(lay_tree::specs::reader::Item::item_at))]
+fn read_item(alloc: Global, at: &mut Cursor<'_>, depth: u32) -> Result<Found<Item>, Stop>
+    requires { AreLexed at.old }
+    ensures read { IsFound (reader.item_at depth at.old) result at.new }
+    ensures within { IfOk result (λ found. found.need ≤ depth) }
 {
     if depth == 0 {
         return Err(Stop::NoReading);
     }
     let attrs = read_attrs(alloc, at, false)?;
     let kind = read_kind(alloc, at, depth - 1)?;
-    Ok(Item { attrs, kind })
+    Ok(Found {
+        need: kind.need + 1,
+        node: Item {
+            attrs,
+            kind: kind.node,
+        },
+    })
 }
 
-/// What an item is, told from its keyword. What is within it stands at the depth.
+/// What an item is, told from its keyword. What is within it stands within the depth.
 #[cycle(items)]
-#[tactic(auto, unfolding(lay_tree::specs::Reader::kind_by))]
-fn read_kind(alloc: Global, at: &mut Cursor<'_>, depth: u32) -> Result<ItemKind, Stop>
-    requires { Strings at.old }
-    ensures { IsGot (reader.kind_by (reader.item_at depth) (reader.use_at depth) at.old) result at.new }
+#[tactic(auto, unfolding(lay_tree::specs::reader::Item::kind_by))]
+fn read_kind(alloc: Global, at: &mut Cursor<'_>, depth: u32) -> Result<Found<ItemKind>, Stop>
+    requires { AreLexed at.old }
+    ensures read { IsFound (reader.kind_by (reader.item_at depth) (use_at depth) at.old) result at.new }
+    ensures within { IfOk result (λ found. found.need ≤ depth) }
 {
     if takes_keyword(at, b"struct") {
         read_struct(alloc, at)
@@ -61,46 +74,62 @@ fn read_kind(alloc: Global, at: &mut Cursor<'_>, depth: u32) -> Result<ItemKind,
 }
 
 /// A struct, behind its keyword.
-#[tactic(auto, unfolding(lay_tree::specs::Reader::struct_item))]
-fn read_struct(alloc: Global, at: &mut Cursor<'_>) -> Result<ItemKind, Stop>
-    ensures { IsGot (reader.struct_item at.old) result at.new }
+#[tactic(auto, unfolding(lay_tree::specs::reader::Item::struct_item))]
+fn read_struct(alloc: Global, at: &mut Cursor<'_>) -> Result<Found<ItemKind>, Stop>
+    ensures read { IsFound (reader.struct_item at.old) result at.new }
+    ensures within { IfOk result (λ found. found.need ≡ 0) }
 {
     let name = read_name(alloc, at)?;
     if takes_mark(at, b";") {
-        Ok(ItemKind::Struct { name })
+        Ok(Found {
+            node: ItemKind::Struct { name },
+            need: 0,
+        })
     } else {
         Err(Stop::NoReading)
     }
 }
 
-/// A module, behind its keyword. Its items stand at the depth.
+/// A module, behind its keyword. Its items stand within the depth.
 #[cycle(items)]
-#[tactic(auto, unfolding(lay_tree::specs::Reader::module_by))]
-fn read_module(alloc: Global, at: &mut Cursor<'_>, depth: u32) -> Result<ItemKind, Stop>
-    requires { Strings at.old }
-    ensures { IsGot (reader.module_by (reader.item_at depth) at.old) result at.new }
+#[tactic(auto, unfolding(lay_tree::specs::reader::Item::module_by))]
+fn read_module(alloc: Global, at: &mut Cursor<'_>, depth: u32) -> Result<Found<ItemKind>, Stop>
+    requires { AreLexed at.old }
+    ensures read { IsFound (reader.module_by (reader.item_at depth) at.old) result at.new }
+    ensures within { IfOk result (λ found. found.need ≤ depth) }
 {
     let name = read_name(alloc, at)?;
-    if !takes_open_brace(at) {
+    if !takes_opener(at, Delim::Brace) {
         return Err(Stop::NoReading);
     }
     let attrs = read_attrs(alloc, at, true)?;
     let items = read_items(alloc, at, depth)?;
-    if takes_close_brace(at) {
-        Ok(ItemKind::Module { name, attrs, items })
+    if takes_closer(at, Delim::Brace) {
+        Ok(Found {
+            need: items.need,
+            node: ItemKind::Module {
+                name,
+                attrs,
+                items: items.node,
+            },
+        })
     } else {
         Err(Stop::NoReading)
     }
 }
 
-/// An import, behind its keyword. Its use tree stands at the depth.
-#[tactic(auto, unfolding(lay_tree::specs::Reader::import_by))]
-fn read_import(alloc: Global, at: &mut Cursor<'_>, depth: u32) -> Result<ItemKind, Stop>
-    ensures { IsGot (reader.import_by (reader.use_at depth) at.old) result at.new }
+/// An import, behind its keyword. Its use tree stands within the depth.
+#[tactic(auto, unfolding(lay_tree::specs::reader::Item::import_by))]
+fn read_import(alloc: Global, at: &mut Cursor<'_>, depth: u32) -> Result<Found<ItemKind>, Stop>
+    ensures read { IsFound (reader.import_by (use_at depth) at.old) result at.new }
+    ensures within { IfOk result (λ found. found.need ≤ depth) }
 {
     let tree = read_use(alloc, at, depth)?;
     if takes_mark(at, b";") {
-        Ok(ItemKind::Import { tree })
+        Ok(Found {
+            need: tree.need,
+            node: ItemKind::Import { tree: tree.node },
+        })
     } else {
         Err(Stop::NoReading)
     }

@@ -7,9 +7,11 @@
 
 mod attributes;
 mod file;
+mod found;
 mod front;
 mod items;
 mod names;
+mod paths;
 mod stop;
 mod uses;
 

@@ -1,9 +1,8 @@
 //! Names and the words of paths.
 ghost use Rattle.std.specs.Prelude.{◌≡◌, option_map};
-ghost use Rattle.std.specs.Option.{is_some};
 ghost use Rattle.lay_token.specs.Word.{class_of};
-ghost use Rattle.lay_tree.specs.Reader as reader;
-ghost use Rattle.lay_tree.specs.Written.{is_plain, is_path_class};
+ghost use Rattle.lay_tree.specs.Words.{is_path_class, is_plain};
+ghost use Rattle.lay_tree.specs.reader.Words as reader;
 ghost use Rattle.lay_read_code.specs.Answers.{IsGot, named, worded};
 
 use crate::front::{pass, takes_colons};
@@ -51,7 +50,7 @@ fn word_of(token: &Token) -> Option<bool>
 }
 
 /// The name at the front.
-#[tactic(auto, unfolding(lay_tree::specs::Reader::name))]
+#[tactic(auto, unfolding(lay_tree::specs::reader::Words::name))]
 pub fn read_name(alloc: Global, at: &mut Cursor<'_>) -> Result<Name, Stop>
     ensures { IsGot (reader.name at.old) result at.new }
 {
@@ -70,7 +69,7 @@ pub fn read_name(alloc: Global, at: &mut Cursor<'_>) -> Result<Name, Stop>
 }
 
 /// The word at the front.
-#[tactic(auto, unfolding(lay_tree::specs::Reader::word))]
+#[tactic(auto, unfolding(lay_tree::specs::reader::Words::word))]
 pub fn read_word(alloc: Global, at: &mut Cursor<'_>) -> Result<Word, Stop>
     ensures { IsGot (reader.word at.old) result at.new }
 {
@@ -88,23 +87,22 @@ pub fn read_word(alloc: Global, at: &mut Cursor<'_>) -> Result<Word, Stop>
     }
 }
 
-/// Words, each with a `::` behind it.
-pub fn read_words(alloc: Global, at: &mut Cursor<'_>) -> Result<List<Word>, Stop>
-    ensures { IsGot (reader.words at.old) result at.new }
+/// The words of a path that have a `::` behind them.
+pub fn read_path_words(alloc: Global, at: &mut Cursor<'_>) -> Result<List<Word>, Stop>
+    ensures { IsGot (reader.path_words at.old) result at.new }
 {
     let mut words = List::new(alloc);
-    while begins_path(at) {
-        let word = read_word(alloc, at)?;
-        takes_colons(at);
+    while begins_path_word(at) {
+        let word = read_path_word(alloc, at)?;
         keep(&mut words, word)?;
     }
     Ok(words)
 }
 
 /// Whether a word and a `::` behind it stand at the front.
-#[tactic(auto, unfolding(lay_tree::specs::Reader::path_word, lay_tree::specs::Reader::word))]
-fn begins_path(at: &Cursor<'_>) -> bool
-    ensures { result ≡ is_some (reader.path_word at.now) }
+#[tactic(auto, unfolding(lay_tree::specs::reader::Words::path_word, lay_tree::specs::reader::Words::word))]
+fn begins_path_word(at: &Cursor<'_>) -> bool
+    ensures { result ≡ reader.begins_path_word at.now }
 {
     match at.peek(0) {
         Some(token) => {
@@ -113,5 +111,18 @@ fn begins_path(at: &Cursor<'_>) -> bool
             word_of(token).is_some() && behind.op_is(b"::")
         }
         None => false,
+    }
+}
+
+/// A word and the `::` behind it.
+#[tactic(auto, unfolding(lay_tree::specs::reader::Words::path_word))]
+fn read_path_word(alloc: Global, at: &mut Cursor<'_>) -> Result<Word, Stop>
+    ensures { IsGot (reader.path_word at.old) result at.new }
+{
+    let word = read_word(alloc, at)?;
+    if takes_colons(at) {
+        Ok(word)
+    } else {
+        Err(Stop::NoReading)
     }
 }

@@ -1,76 +1,101 @@
 //! Use trees.
-ghost use Rattle.std.specs.Prelude.{◌≡◌};
-ghost use Rattle.lay_tree.specs.Reader as reader;
-ghost use Rattle.lay_read_code.specs.Answers.{IsGot};
+ghost use Rattle.std.specs.Prelude.{◌≡◌, ◌≤◌, IfOk};
+ghost use Rattle.lay_tree.specs.reader.Use as reader;
+ghost use Rattle.lay_read_code.specs.Answers.{IsFound, IsGot};
 
+use crate::found::{Found, greater};
 use crate::front::{
-    takes_close_brace, takes_colons, takes_element_end, takes_keyword, takes_op, takes_open_brace,
-    takes_underscore,
+    is_at_colons, takes_closer, takes_colons, takes_element_end, takes_keyword, takes_op,
+    takes_opener, takes_underscore,
 };
-use crate::names::{read_name, read_word, read_words};
+use crate::names::{read_name, read_path_words, read_word};
 use crate::stop::{Stop, keep};
 use lay_nest::Cursor;
-use lay_token::List;
+use lay_token::{Delim, List};
 use lay_tree::{Rename, UseEnd, UseTree};
 use std::alloc::Global;
 
-/// A use tree at a depth.
+/// A use tree, within a depth.
 #[cycle(use_trees)]
-#[tactic(auto, unfolding(lay_tree::specs::Reader::use_at))]
-pub fn read_use(alloc: Global, at: &mut Cursor<'_>, depth: u32) -> Result<UseTree, Stop>
-    ensures { IsGot (reader.use_at depth at.old) result at.new }
+#[tactic(auto, unfolding(lay_tree::specs::reader::Use::use_at))]
+pub fn read_use(alloc: Global, at: &mut Cursor<'_>, depth: u32) -> Result<Found<UseTree>, Stop>
+    ensures read { IsFound (reader.use_at depth at.old) result at.new }
+    ensures within { IfOk result (λ found. found.need ≤ depth) }
 {
     if depth == 0 {
         return Err(Stop::NoReading);
     }
     let global = takes_colons(at);
-    let path = read_words(alloc, at)?;
+    let path = read_path_words(alloc, at)?;
     let end = read_use_end(alloc, at, depth - 1)?;
-    Ok(UseTree { global, path, end })
+    if is_at_colons(at) {
+        return Err(Stop::NoReading);
+    }
+    Ok(Found {
+        need: end.need + 1,
+        node: UseTree {
+            global,
+            path,
+            end: end.node,
+        },
+    })
 }
 
-/// What stands behind the path of a use tree. The trees within it stand at the depth.
+/// What stands behind the path of a use tree. The trees within it stand within the depth.
 #[cycle(use_trees)]
-fn read_use_end(alloc: Global, at: &mut Cursor<'_>, depth: u32) -> Result<UseEnd, Stop>
-    ensures { IsGot (reader.use_end_by (reader.use_at depth) at.old) result at.new }
+fn read_use_end(alloc: Global, at: &mut Cursor<'_>, depth: u32) -> Result<Found<UseEnd>, Stop>
+    ensures read { IsFound (reader.use_end_by (reader.use_at depth) at.old) result at.new }
+    ensures within { IfOk result (λ found. found.need ≤ depth) }
 {
-    if takes_open_brace(at) {
-        let trees = read_group(alloc, at, depth)?;
-        Ok(UseEnd::Group { trees })
+    if takes_opener(at, Delim::Brace) {
+        read_group(alloc, at, depth)
     } else if takes_op(at, b"*") {
-        Ok(UseEnd::Glob)
+        Ok(Found {
+            node: UseEnd::Glob,
+            need: 0,
+        })
     } else {
         read_use_word(alloc, at)
     }
 }
 
-/// The use trees of a group, which stand at the depth, and the `}` behind them.
+/// The use trees of a group, which stand within the depth, and the `}` behind them.
 #[cycle(use_trees)]
-fn read_group(alloc: Global, at: &mut Cursor<'_>, depth: u32) -> Result<List<UseTree>, Stop>
-    ensures { IsGot (reader.group (reader.use_at depth) at.old) result at.new }
+fn read_group(alloc: Global, at: &mut Cursor<'_>, depth: u32) -> Result<Found<UseEnd>, Stop>
+    ensures read { IsFound (reader.use_group (reader.use_at depth) at.old) result at.new }
+    ensures within { IfOk result (λ found. found.need ≤ depth) }
 {
     let mut trees = List::new(alloc);
-    while !takes_close_brace(at) {
+    let mut need = 0;
+    while !takes_closer(at, Delim::Brace) {
         let tree = read_use(alloc, at, depth)?;
-        keep(&mut trees, tree)?;
-        if !takes_element_end(at) {
+        need = greater(need, tree.need);
+        keep(&mut trees, tree.node)?;
+        if !takes_element_end(at, Delim::Brace) {
             return Err(Stop::NoReading);
         }
     }
-    Ok(trees)
+    Ok(Found {
+        node: UseEnd::Group { trees },
+        need,
+    })
 }
 
 /// A word, and what it is called here.
-fn read_use_word(alloc: Global, at: &mut Cursor<'_>) -> Result<UseEnd, Stop>
-    ensures { IsGot (reader.use_word at.old) result at.new }
+fn read_use_word(alloc: Global, at: &mut Cursor<'_>) -> Result<Found<UseEnd>, Stop>
+    ensures read { IsFound (reader.use_word at.old) result at.new }
+    ensures within { IfOk result (λ found. found.need ≡ 0) }
 {
     let word = read_word(alloc, at)?;
     let rename = read_rename(alloc, at)?;
-    Ok(UseEnd::Word { word, rename })
+    Ok(Found {
+        node: UseEnd::Word { word, rename },
+        need: 0,
+    })
 }
 
 /// What follows a word: `as` and another name, or nothing of a use tree.
-#[tactic(auto, unfolding(lay_tree::specs::Reader::renamed))]
+#[tactic(auto, unfolding(lay_tree::specs::reader::Use::renamed))]
 fn read_rename(alloc: Global, at: &mut Cursor<'_>) -> Result<Option<Rename>, Stop>
     ensures { IsGot (reader.renamed at.old) result at.new }
 {

@@ -1,15 +1,14 @@
 use Rattle.std.proofs.Common.{codes, drop, sym, ap, ◌∙◌}
 use Rattle.lay_read_code.specs.Answers.{meta_rest, bare_rest, value_rest}
 use Rattle.lay_read_code.proofs.Left.{op_read}
-use Rattle.lay_read_code.proofs.Steps.{rest_value, rest_bare}
-use Rattle.lay_read_code.proofs.Strings.{strings_left}
-use Rattle.lay_read_code.proofs.Turns.{got_by}
+use Rattle.lay_read_code.proofs.Lexed.{lexed_left}
+use Rattle.lay_read_code.proofs.Steps.{rest_value, rest_bare, got_by}
 use Rattle.lay_read_code.proofs.attributes.read_meta_input.Goals as goal
 
 pub read_value-requires : goal.read_value-requires
 read_value-requires c =
     let ts = c.args.at.now in
-    rw c.if-takes_op.ensures.passed (strings_left 1 ts (drop 1 ts) (op_read (codes "=") 0 ts (sym c.if-takes_op.ensures.found)) c.requires)
+    rw c.if-takes_op.ensures.passed (lexed_left 1 ts (drop 1 ts) (op_read (codes "=") 0 ts (sym c.if-takes_op.ensures.found)) c.requires)
 
 pub returns-then-takes_op : goal.returns-then-takes_op
 returns-then-takes_op c =

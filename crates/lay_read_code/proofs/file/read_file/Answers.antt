@@ -1,11 +1,11 @@
-use Rattle.std.proofs.Common.{refl, ap, sym, ◌∙◌}
-use Rattle.lay_tree.specs.Reader.{whole}
+use Rattle.std.proofs.Common.{refl, ap, sym, subst, ◌∙◌}
+use Rattle.lay_tree.specs.reader.File.{whole}
+use Rattle.lay_read_code.specs.Answers.{AreLexed}
 use Rattle.lay_read_code.proofs.Files.{file_spelled, nothing_spelled}
-use Rattle.lay_read_code.proofs.Strings.{lexed_strings}
 use Rattle.lay_read_code.proofs.file.read_file.Goals as goal
 
 pub read_whole-requires : goal.read_whole-requires
-read_whole-requires c = rw c.cursor-at.ensures.tokens (lexed_strings c.args.nested.now c.requires.lexed)
+read_whole-requires c = subst AreLexed (sym c.cursor-at.ensures.tokens) c.requires.lexed
 
 pub returns-in-Ok : goal.returns-in-Ok
 returns-in-Ok c =

@@ -1,6 +1,9 @@
-use Rattle.std.proofs.Common.{◌+◌, ◌*◌, length}
-use Rattle.lay_tree.specs.Reader.{group, use_at}
-use Rattle.lay_read_code.proofs.Turns.{GroupTurn}
+use Rattle.std.proofs.Common.{◌+◌, ◌*◌, ◌≤◌, length}
+use Rattle.lay_token.specs.declared.token.Delim.TheVariants.{Brace}
+use Rattle.lay_tree.specs.Ahead.{closes}
+use Rattle.lay_tree.specs.reader.Loops.{elements_from, elements}
+use Rattle.lay_tree.specs.reader.Use.{use_at}
+use Rattle.lay_read_code.proofs.Turns.{Turn, Held, Holding}
 use Rattle.lay_read_code.proofs.uses.+use_trees.Given as goal
 
 abbrev pub decreases-read_group : goal.decreases-read_group
@@ -13,7 +16,11 @@ abbrev pub decreases-read_use_end : goal.decreases-read_use_end
 decreases-read_use_end l = 3 * l.depth + 2
 
 abbrev pub invariant-read_group-loop-alloc : goal.invariant-read_group-loop-alloc
-invariant-read_group-loop-alloc l = GroupTurn (use_at l.depth) (group (use_at l.depth) l.fn.at) l.trees l.at
+invariant-read_group-loop-alloc l = record {
+  held : Held (λ read. Turn (elements_from (closes Brace) (use_at l.depth)) (elements (closes Brace) (use_at l.depth) l.fn.at) read l.at)
+      (Holding l.trees l.need);
+  within : l.need ≤ l.depth;
+}
 
 abbrev pub decreases-read_group-loop-alloc : goal.decreases-read_group-loop-alloc
 decreases-read_group-loop-alloc l = length l.at
