@@ -1,23 +1,21 @@
 -- One step of a reader, from what the readers within it give.
-use Rattle.std.proofs.Common.{◌≡◌, ℕ, suc, ◌+◌, ◌-◌, ◌<◌, add-one, Bool, true, false, List, [], ◌∷◌, drop, codes, Option, Some, None, Result, Ok, Err, slice_get, refl, sym, ◌∙◌, ap, if◌then◌else◌, arith}
+use Rattle.std.proofs.Common.{◌≡◌, ℕ, suc, ◌+◌, ◌-◌, ◌<◌, add-one, Bool, true, false, List, [], ◌∷◌, drop, codes, Option, Some, None, Result, Ok, Err, slice_get, refl, ◌∙◌, ap, if◌then◌else◌, arith}
 use Rattle.lay_token.specs.Operators.{is_op}
 use Rattle.lay_token.specs.declared.token.Delim.TheVariants.{Bracket, Brace}
 use Rattle.lay_token.specs.declared.token.Kind.{Kind}
 use Rattle.lay_token.specs.declared.token.Kind.TheVariants.{Underscore}
 use Rattle.lay_token.specs.declared.token.Token.{Token}
-use Rattle.lay_tree.specs.Ahead.{Tokens, first, tail, opens, closes}
+use Rattle.lay_tree.specs.Ahead.{Tokens, first, tail, closes}
 use Rattle.lay_tree.specs.Words.{is_literal_kind}
 use Rattle.lay_tree.specs.reader.Attr.{meta_input, made, attributes}
-use Rattle.lay_tree.specs.reader.Item.{items_by, module_by, kind_by, item_by, item_at}
+use Rattle.lay_tree.specs.reader.Item.{kind_by, item_by, item_at}
 use Rattle.lay_tree.specs.reader.Loops.{Got, Read, ◌>>=◌, passed, nodes, deepest, elements}
 use Rattle.lay_tree.specs.reader.Use.{other_name, use_group, use_end_by, ended, use_at}
 use Rattle.lay_tree.specs.reader.Words.{name_by, name, literal, path_words}
 use Rattle.lay_tree.specs.declared.attr.Attr.{Attr}
 use Rattle.lay_tree.specs.declared.attr.MetaInput.TheVariants as input
 use Rattle.lay_tree.specs.declared.attr.MetaPath.{MetaPath}
-use Rattle.lay_tree.specs.declared.item.Item.{Item}
 use Rattle.lay_tree.specs.declared.item.ItemKind.{ItemKind}
-use Rattle.lay_tree.specs.declared.item.ItemKind.TheVariants as item
 use Rattle.lay_tree.specs.declared.token.Name.{Name}
 use Rattle.lay_tree.specs.declared.token.Word.{Word}
 use Rattle.lay_tree.specs.declared.use_tree.Rename.{Rename}
@@ -147,9 +145,6 @@ module _ (depth : ℕ) (ts : Tokens) (flag : Bool) (mid : Tokens) (some : 0 < de
   use_step =
       deeper (λ n. use_at n ts) depth some ∙ behind_colons (use_behind (use_at (depth - 1))) (is_op (codes "::") ts) ts flag mid e g
 
-  pub use_no_path : path_words mid ≡ None → use_at depth ts ≡ None
-  use_no_path p = use_step ∙ rw p refl
-
   module _ (words : List Word) (behind : Tokens) (p : path_words mid ≡ Some (words, behind)) where
     pub use_none : use_end_by (use_at (depth - 1)) behind ≡ None → use_at depth ts ≡ None
     use_none h = use_step ∙ rw (p, h) refl
@@ -168,9 +163,6 @@ module _ (depth : ℕ) (ts : Tokens) (some : 0 < depth) where
   item_step : item_at depth ts ≡ item_by (item_at (depth - 1)) (use_at (depth - 1)) ts
   unfolding item_at
   item_step = deeper (λ n. item_at n ts) depth some
-
-  pub item_no_attrs : attributes false ts ≡ None → item_at depth ts ≡ None
-  item_no_attrs a = item_step ∙ rw a refl
 
   module _ (attrs : List Attr) (mid : Tokens) (a : attributes false ts ≡ Some (attrs, mid)) where
     pub item_none : kind_by (item_at (depth - 1)) (use_at (depth - 1)) mid ≡ None → item_at depth ts ≡ None

@@ -3,9 +3,8 @@ use Rattle.std.proofs.Common.{◌≡◌, ℕ, zero, suc, ◌<◌, ◌≤◌, max
 use Rattle.std.proofs.lemmas.List.{map-append}
 use Rattle.lay_token.specs.declared.token.Token.{Token}
 use Rattle.lay_tree.specs.Ahead.{Tokens, first, tail}
-use Rattle.lay_tree.specs.reader.Loops.{Got, nodes, deepest, element_end, repeat_from, repeat, elements_from, elements}
+use Rattle.lay_tree.specs.reader.Loops.{Got, deepest, element_end, repeat_from, repeat, elements_from, elements}
 use Rattle.lay_read_code.specs.Answers.{AreFound}
-use Rattle.lay_read_code.specs.declared.found.Found.{Found}
 
 -- So many turns after this one suffice, and make this of what is found.
 pub record Turn {A : Type 0} (turns_make : ℕ → List A → Tokens → Got (List A)) (whole : Got (List A)) (found : List A) (ts : Tokens) : Type 0 where

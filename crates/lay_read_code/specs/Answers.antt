@@ -1,5 +1,5 @@
 -- What readers ask for and what they answer.
-use Rattle.std.specs.Prelude.{ℕ, ◌≡◌, Bool, true, false, List, [], ◌∷◌, ◌++◌, drop, IsUtf8, Option, Some, None, Result, Ok, Err}
+use Rattle.std.specs.Prelude.{ℕ, ◌≡◌, Bool, true, false, List, ◌∷◌, ◌++◌, drop, IsUtf8, Option, Some, None, Result, Ok, Err}
 use Rattle.lay_token.specs.Lexes.{Lexes}
 use Rattle.lay_token.specs.declared.refusal.FormatError.{FormatError}
 use Rattle.lay_token.specs.declared.refusal.FormatError.TheVariants as format

@@ -1,4 +1,4 @@
-use Rattle.std.proofs.Common.{◌≡◌, ◌∷◌, length}
+use Rattle.std.proofs.Common.{length}
 use Rattle.lay_tree.specs.reader.Loops.{repeat_from, repeat}
 use Rattle.lay_tree.specs.reader.Path.{begins_colons, further_segment}
 use Rattle.lay_read_code.specs.Answers.{BeginWith}

@@ -1,4 +1,4 @@
-use Rattle.std.proofs.Common.{◌≡◌, ◌-◌, ◌<◌, ◌++◌, ◌∷◌, [], List, Some, refl, sym, ap, ◌∙◌, arith}
+use Rattle.std.proofs.Common.{◌≡◌, ◌-◌, ◌<◌, ◌++◌, ◌∷◌, [], Some, refl, sym, ap, ◌∙◌, arith}
 use Rattle.std.proofs.lemmas.Result.{err_from_is_err_and}
 use Rattle.lay_token.specs.declared.token.Delim.TheVariants.{Brace}
 use Rattle.lay_tree.specs.Ahead.{closes}
@@ -6,7 +6,7 @@ use Rattle.lay_tree.specs.reader.Loops.{element_end, elements}
 use Rattle.lay_tree.specs.reader.Use.{use_at, use_end_by, use_group}
 use Rattle.lay_read_code.proofs.Left.{use_left, element_shorter}
 use Rattle.lay_read_code.proofs.Steps.{lost, use_none, use_goes_on, use_some, group_none, group_some}
-use Rattle.lay_read_code.proofs.Turns.{elements-start, elements-end, elements-none, elements-open, elements-step, Holding, holding_more}
+use Rattle.lay_read_code.proofs.Turns.{elements-start, elements-end, elements-none, elements-open, elements-step, holding_more}
 use Rattle.lay_read_code.proofs.uses.+use_trees.Goals as goal
 
 pub read_group-loop-alloc-init : goal.read_group-loop-alloc-init
