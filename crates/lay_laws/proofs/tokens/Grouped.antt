@@ -1,6 +1,6 @@
 -- A list whose tokens some text has, balanced, is made of groups: its listing by delimiters lists it again.
 use Rattle.std.proofs.Common.{◌≡◌, List, [], ◌∷◌, ◌++◌, true, false, sym, refl, ap, ◌∙◌, subst, append_assoc, append-nil}
-use Rattle.lay_token.specs.Delimiters.{is_opener, is_closer, is_pair, Trees, None, Plain, Group, tokens_of, Paired, Balanced}
+use Rattle.lay_token.specs.Delimiters.{is_opener, is_closer, is_pair, Trees, NoTree, One, Nest, tokens_of, Paired, Balanced}
 use Rattle.lay_token.specs.declared.token.Delim.{Delim}
 use Rattle.lay_token.specs.declared.token.Delim.TheVariants.{Paren, Bracket, Brace}
 use Rattle.lay_token.specs.declared.token.Kind.{Kind}
@@ -137,11 +137,11 @@ group_fronts u us o c rest more i h f g = by f.behind refl f.more
 
 fronts : (trees : Trees) (us : List Listed) (rest : List Token) → Paired trees
     → AreTokens us (tokens_of trees ++ rest) → Fronts us rest
-fronts None us rest p a = none_fronts us rest a
-fronts (Plain t more) [] rest p a = absurd a
-fronts (Plain t more) (u ∷ us) rest p a = plain_fronts u us t rest a.0 p.0 p.1 (fronts more us rest p.2 a.1)
-fronts (Group o inside c more) [] rest p a = absurd a
-fronts (Group o inside c more) (u ∷ us) rest p a =
+fronts NoTree us rest p a = none_fronts us rest a
+fronts (One t more) [] rest p a = absurd a
+fronts (One t more) (u ∷ us) rest p a = plain_fronts u us t rest a.0 p.0 p.1 (fronts more us rest p.2 a.1)
+fronts (Nest o inside c more) [] rest p a = absurd a
+fronts (Nest o inside c more) (u ∷ us) rest p a =
     group_fronts u us o c (tokens_of more ++ rest) rest a.0 p.0
     (fronts inside us (c ∷ (tokens_of more ++ rest)) p.1
     (subst (AreTokens us) (append_assoc (tokens_of inside) (c ∷ tokens_of more) rest) a.1))
