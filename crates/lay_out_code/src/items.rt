@@ -39,7 +39,7 @@ fn put_kind<E: Emit>(out: &mut E, kind: &ItemKind) -> Result<(), E::Fault>
             attrs.as_slice(),
             items.as_slice(),
         ),
-        ItemKind::Import { tree } => put_import(out, tree),
+        ItemKind::Import { tree } => put_import(out, tree.get()),
     }
 }
 

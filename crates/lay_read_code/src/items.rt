@@ -8,7 +8,7 @@ use crate::attributes::read_attrs;
 use crate::found::{Found, greater};
 use crate::front::{has_items, takes_closer, takes_keyword, takes_mark, takes_opener};
 use crate::names::read_name;
-use crate::stop::{Stop, keep};
+use crate::stop::{Stop, boxed, keep};
 use crate::uses::read_use;
 use lay_nest::Cursor;
 use lay_token::{Delim, List};
@@ -124,11 +124,12 @@ fn read_import(alloc: Global, at: &mut Cursor<'_>, depth: u32) -> Result<Found<I
     ensures read { IsFound (reader.import_by (use_at depth) at.old) result at.new }
     ensures within { IfOk result (λ found. found.need ≤ depth) }
 {
-    let tree = read_use(alloc, at, depth)?;
+    let Found { node, need } = read_use(alloc, at, depth)?;
+    let tree = boxed(alloc, node)?;
     if takes_mark(at, b";") {
         Ok(Found {
-            need: tree.need,
-            node: ItemKind::Import { tree: tree.node },
+            node: ItemKind::Import { tree },
+            need,
         })
     } else {
         Err(Stop::NoReading)

@@ -1,8 +1,9 @@
 //! Why a reader stops.
-ghost use Rattle.std.specs.Prelude.{◌≡◌, ◌++◌, ◌∷◌, [], OnOk, IfErr};
+ghost use Rattle.std.specs.Prelude.{◌≡◌, ◌++◌, ◌∷◌, [], IfOk, OnOk, IfErr};
 ghost use Rattle.lay_read_code.specs.Answers.{IsCopy};
 
 use lay_token::{List, NoMemory, Text};
+use lay_tree::Boxed;
 use std::alloc::Global;
 
 /// Why nothing was read.
@@ -22,6 +23,17 @@ pub fn keep<T: Drop>(list: &mut List<T>, item: T) -> Result<(), Stop>
     match list.push(item) {
         Ok(()) => Ok(()),
         Err(_) => Err(Stop::NoMemory),
+    }
+}
+
+/// The value in a box of its own.
+pub fn boxed<T: Drop>(alloc: Global, value: T) -> Result<Boxed<T>, Stop>
+    ensures ok { IfOk result (λ boxed. boxed ≡ value) }
+    ensures err { IfErr result (λ stop. stop ≡ Stop.NoMemory) }
+{
+    match Boxed::new(alloc, value) {
+        Ok(boxed) => Ok(boxed),
+        Err(NoMemory) => Err(Stop::NoMemory),
     }
 }
 

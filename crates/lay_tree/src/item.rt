@@ -1,5 +1,6 @@
 //! Items.
 use crate::attr::Attr;
+use crate::boxed::Boxed;
 use crate::token::Name;
 use crate::use_tree::UseTree;
 use lay_token::List;
@@ -26,8 +27,8 @@ pub enum ItemKind {
         attrs: List<Attr>,
         items: List<Item>,
     },
-    /// `use a::{b, c};`
+    /// `use a::{b, c};` The box keeps other items small.
     Import {
-        tree: UseTree,
+        tree: Boxed<UseTree>,
     },
 }

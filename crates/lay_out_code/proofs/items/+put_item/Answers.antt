@@ -1,4 +1,4 @@
-use Rattle.std.proofs.Common.{List, ◌++◌, map, arith}
+use Rattle.std.proofs.Common.{List, ◌++◌, map, ap, ◌∙◌, arith}
 use Rattle.lay_stream.proofs.Calls.{last, call_on, stream_on, leave_on, stream_leave, level_of, no_call}
 use Rattle.lay_form.specs.Notation.{H, each}
 use Rattle.lay_form.specs.Stream.{stream_of}
@@ -6,6 +6,7 @@ use Rattle.lay_tree.specs.nodes.Attr.{attr_form}
 use Rattle.lay_tree.specs.nodes.Facts.{forms}
 use Rattle.lay_tree.specs.nodes.Item.{about_item}
 use Rattle.lay_tree.specs.declared.item.Item.{Item}
+use Rattle.lay_out_code.specs.Parts.{import_part}
 use Rattle.lay_out_code.proofs.OutLemmas.{level_stays, loop_step, loop_done, next_line, item_parts, struct_kind, module_kind, import_kind, module_parts, bare_body, full_body}
 use Rattle.lay_out_code.proofs.items.+put_item.Goals as goal
 
@@ -25,7 +26,8 @@ put_kind-returns-in-Module g t c =
     last c.put_module.ensures (module_kind _ c.in-Module.name c.in-Module.attrs _ c.in-Module.items _ c.in-Module.is c.as_slice.ensures c.as_slice-in-Module.ensures)
 
 pub put_kind-returns-in-Import : goal.put_kind-returns-in-Import
-put_kind-returns-in-Import g t c = last c.put_import.ensures (import_kind _ c.in-Import.tree c.in-Import.is)
+put_kind-returns-in-Import g t c =
+    last c.put_import.ensures (ap (λ tree. stream_of (import_part tree)) c.get.ensures ∙ import_kind _ c.in-Import.tree c.in-Import.is)
 
 pub put_module-returns-in_err-put_head : goal.put_module-returns-in_err-put_head
 put_module-returns-in_err-put_head g t c =
