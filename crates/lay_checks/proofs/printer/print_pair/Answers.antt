@@ -52,5 +52,5 @@ returns-clause-err g c =
 pub finish-requires : goal.finish-requires
 finish-requires g c =
     let x = c.new-press.result in
-    let e : x.core.now.queue.groups ≡ 0 = search rules in
+    let e : x.core.now.groups ≡ 0 = search rules in
     λ _. level_zero (λ p. p.core.now) (λ p. g.K.Sink.written p.sink.now) (λ p. g.K.Sink.faults p.sink.now) (λ p. p.sink.ghost_name) x c.put_pair.new.out _ _ e c.in_ok-put_pair.ensures refl
