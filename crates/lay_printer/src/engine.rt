@@ -46,6 +46,7 @@ impl Engine {
     ghost use Rattle.lay_printer.specs.declared.engine.PrintError.TheVariants.{WriteFailed};
 
     /// A token is fed: it waits, and then what is decided is printed.
+    #[inline(always)]
     pub fn feed<K: Sink>(&mut self, sink: &mut K, tok: Tok) -> Result<(), PrintError>
         requires ended { self.old.queue.ended ≡ false }
         requires few { self.old.queue.waiting ≤ 89 }
@@ -93,6 +94,7 @@ impl Engine {
     }
 
     /// A token comes. It waits, with room for a frame.
+    #[inline(always)]
     fn take(&mut self, tok: Tok) -> Result<(), NoMemory>
         requires ended { self.old.queue.ended ≡ false }
         requires few { self.old.queue.waiting ≤ 89 }
@@ -109,6 +111,7 @@ impl Engine {
     }
 
     /// Makes room in the stack of frames for one entry more than wait.
+    #[inline(always)]
     fn keep_room(&mut self) -> Result<(), NoMemory>
         ensures queue { self.new.queue ≡ self.old.queue }
         ensures line { self.new.page.line ≡ self.old.page.line }
@@ -183,6 +186,7 @@ impl Engine {
     }
 
     /// How many tokens may come before memory is taken.
+    #[inline(always)]
     pub fn room(&self) -> usize
         ensures { result ≡ room_of self.now }
     {

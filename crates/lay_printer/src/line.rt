@@ -64,6 +64,7 @@ impl Line {
     }
 
     /// Writes a mark, if there is one.
+    #[inline(always)]
     fn put_mark<K: Sink>(&mut self, sink: &mut K, mark: Mark) -> Result<(), Failed>
         ensures moves { Moves self.old (K.written sink.old) result self.new (K.written sink.new) (marked mark) }
         ensures cause { HasCause (K.faults sink.old) (K.faults sink.new) result }

@@ -138,6 +138,7 @@ impl Core {
     }
 
     /// Feeds a token, unless a call has failed.
+    #[inline(always)]
     fn feed<K: Sink>(&mut self, sink: &mut K, tok: Tok) -> Result<(), PrintError>
         requires { IsNested self.old.groups (tok ∷ []) }
         ensures calls { Calls self.old (K.written sink.old) (K.faults sink.old) result self.new (K.written sink.new) (K.faults sink.new) tok }

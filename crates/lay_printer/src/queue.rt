@@ -35,6 +35,7 @@ pub struct Queue {
 }
 
 /// A mark's length.
+#[inline(always)]
 fn mark_len(mark: Mark) -> u64
     ensures value { result ≡ length (bytes_of_mark mark) }
     ensures small { result ≤ 1 }
@@ -88,6 +89,7 @@ impl Queue {
     }
 
     /// How many tokens may come before memory is taken.
+    #[inline(always)]
     pub fn room(&self) -> usize
         ensures { result ≡ room_in self.now }
     {
@@ -95,6 +97,7 @@ impl Queue {
     }
 
     /// Makes room for so many more tokens, of which each may have a note.
+    #[inline(always)]
     pub fn reserve(&mut self, n: usize) -> Result<(), NoMemory>
         ensures same { Roomier self.old self.new }
         ensures ring { OnOk result (n ≤ self.new.ring.spare) }
@@ -106,6 +109,7 @@ impl Queue {
     }
 
     /// A token comes.
+    #[inline(always)]
     pub fn add(&mut self, tok: Tok) -> Result<(), NoMemory>
         requires ended { self.old.ended ≡ false }
         requires few { self.old.waiting ≤ 89 }
@@ -123,6 +127,7 @@ impl Queue {
     }
 
     /// A token comes for which there is room.
+    #[inline(always)]
     fn scan(&mut self, tok: Tok)
         requires ready { Ready self.old }
         requires nested { IsNested self.old.groups (tok ∷ []) }
@@ -137,6 +142,7 @@ impl Queue {
     }
 
     /// A text has its size at once.
+    #[inline(always)]
     fn scan_text(&mut self, text: Text)
         requires { Ready self.old }
         ensures { Comes self.old self.new (tok.Text text) }
@@ -156,6 +162,7 @@ impl Queue {
     }
 
     /// A break ends the measures of what was noted with no fewer groups open.
+    #[inline(always)]
     fn scan_break(&mut self, brk: Break)
         requires { Ready self.old }
         ensures { Comes self.old self.new (tok.Break brk) }
@@ -183,6 +190,7 @@ impl Queue {
     }
 
     /// A group begins.
+    #[inline(always)]
     fn scan_begin(&mut self, consistent: bool, offset: i8)
         requires { Ready self.old }
         ensures { Comes self.old self.new (tok.Begin consistent offset) }
@@ -211,6 +219,7 @@ impl Queue {
     }
 
     /// The group that was begun last ends. Measures go on past it.
+    #[inline(always)]
     fn scan_end(&mut self)
         requires ready { Ready self.old }
         requires groups { 0 < self.old.groups }
