@@ -1,38 +1,65 @@
 #!/usr/bin/env python3
-"""Measures what the gate costs for each crate, in seconds of one core: its proofs with its tests, and its must-fail edits.
+"""Runs the gate from nothing and tells what it costs for each crate, in seconds of one core: proofs, tests, must-fail edits.
 
-usage: gate_cost.py [CRATE..]    all crates where none is named
+usage: gate_cost.py [CRATE..]    runs `rt ci --anew CRATE..`, without names the whole gate
 
-Each crate is proved from nothing (rt verdict), and its edits are tried anew (rt must-fail --anew), on one core. What stands below it is built
-first and isn't counted. The gate itself (rt ci) proves and tries the same, several crates side by side.
+Every half second it looks at the processes that the gate has started, and keeps what each has used of a core when it was seen
+last. So the last moment of each process is missing, a percent or two of the whole. It reads /proc, as Linux has it.
 """
-import os, resource, subprocess, sys
+import os, subprocess, sys, time
 
-TOP = os.path.dirname(os.path.dirname(os.path.abspath(__file__)))
-
-
-def crates():
-    with open(f"{TOP}/crates.txt") as lines:
-        return [line.split(":")[0].split()[0] for line in lines if ":" in line and not line.startswith("#")]
+TICK = os.sysconf("SC_CLK_TCK")
+KINDS = ("proofs", "tests", "edits")
 
 
-def cost(words, folder):
-    """The seconds that a command took of a core, with all that it started."""
-    before = resource.getrusage(resource.RUSAGE_CHILDREN)
-    subprocess.run(words, cwd=folder, stdout=subprocess.DEVNULL, stderr=subprocess.DEVNULL, check=True)
-    after = resource.getrusage(resource.RUSAGE_CHILDREN)
-    return after.ru_utime + after.ru_stime - before.ru_utime - before.ru_stime
+def processes():
+    """The processes that run: number to parent, words, folder, seconds of a core."""
+    found = {}
+    for name in os.listdir("/proc"):
+        if not name.isdigit():
+            continue
+        try:
+            with open(f"/proc/{name}/stat") as file:
+                fields = file.read().rpartition(")")[2].split()
+            with open(f"/proc/{name}/cmdline") as file:
+                words = file.read().split("\0")
+            folder = os.readlink(f"/proc/{name}/cwd")
+        except OSError:
+            continue
+        found[int(name)] = (int(fields[1]), words, folder, (int(fields[11]) + int(fields[12])) / TICK)
+    return found
+
+
+def part(number, found, gate):
+    """The crate and the kind of work that a process below the gate serves, told by the first compiler above it."""
+    place = ("other", "proofs")
+    while number in found and number != gate:
+        parent, words, folder, _ = found[number]
+        if place[0] == "other" and "--crate-name" in words:
+            kind = "edits" if "/rt-edit" in folder else "tests" if "--test" in words else "proofs"
+            place = words[words.index("--crate-name") + 1], kind
+        number = parent
+    return place if number == gate else None
 
 
 def main():
-    print("| crate | proofs and tests | edits | of them |\n|---|---|---|---|")
-    for crate in sys.argv[1:] or crates():
-        folder = f"{TOP}/crates/{crate}"
-        subprocess.run(["rt", "check"], cwd=folder, stdout=subprocess.DEVNULL, stderr=subprocess.DEVNULL, check=True)
-        proofs = cost(["rt", "verdict", "--jobs", "1"], folder)
-        edits = [name for name in os.listdir(f"{folder}/must-fail") if name.endswith(".edit")] if os.path.isdir(f"{folder}/must-fail") else []
-        tried = cost(["rt", "must-fail", "--anew", crate], TOP) if edits else 0
-        print(f"| {crate} | {proofs:.0f} | {tried:.0f} | {len(edits)} |", flush=True)
+    gate = subprocess.Popen(["rt", "ci", "--anew", *sys.argv[1:]], stdout=subprocess.DEVNULL, stderr=subprocess.DEVNULL)
+    used = {}
+    while gate.poll() is None:
+        found = processes()
+        for number in found:
+            place = part(number, found, gate.pid)
+            if place:
+                used[number] = (place, found[number][3])
+        time.sleep(0.5)
+    table = {}
+    for (crate, kind), seconds in used.values():
+        table.setdefault(crate, dict.fromkeys(KINDS, 0))[kind] += seconds
+    print("| crate | proofs | tests | edits |\n|---|---|---|---|")
+    for crate in sorted(table):
+        print(f"| {crate} |", " | ".join(f"{table[crate][kind]:.0f}" for kind in KINDS), "|")
+    print(f"{sum(seconds for _, seconds in used.values()) / 60:.1f} minutes of one core")
+    sys.exit(gate.returncode)
 
 
 main()
