@@ -1,6 +1,6 @@
 //! Strings and their values, worked out by hand from the Rust Reference's rules.
-use crate::given::{BETWEEN, parts};
 use lay_cook::{Cooked, cook};
+use lay_given::{BETWEEN, parts};
 use lay_token::{NoMemory, Text, Token, piece_at};
 use std::alloc::Global;
 use std::process::Abort;

@@ -1,8 +1,8 @@
 //! Runs of the command over objects in memory.
 ghost use Rattle.std.specs.Prelude.{◌≡◌, None};
 
-use crate::given::{BETWEEN, list, parts, repeated};
 use lay_front::{LIMIT, Status, run};
+use lay_given::{BETWEEN, list, parts, repeated};
 use lay_io::{Inputs, MemoryInputs, MemorySink, QuietInputs, QuietSink, Sink};
 use lay_token::{List, NoMemory, Refusal, Text};
 use std::alloc::Global;

@@ -1,5 +1,5 @@
 //! Inputs and texts, worked out by hand from the Rust Reference's rules and this format's.
-use crate::given::{BETWEEN, parts, tokens};
+use lay_given::{BETWEEN, parts, tokens};
 use lay_lex::normalise;
 use lay_token::{FormatError, Refusal, Text, Token};
 use std::alloc::{AllocError, Global};

@@ -1,12 +1,12 @@
-//! The tests of all crates' public calls.
+//! The tests of the public calls that read: texts, inputs and sinks, tokens, delimiters, strings, trees, and the top call.
+//! Those of the calls that print stand in lay_checks_print.
 //!
 //! They stand here, and not beside what they test, so that no crate below is proved twice. A test holds what no clause
 //! says: rows worked out by hand from the rules, printed texts, boundary rows, reads and writes that fail, and each call
 //! that may answer `NoMemory` once with ample memory. There is one module for each crate, named after it (`outside` for
-//! lay_io); the readers and the layouts of the grammar are tested through the top call, in `front`. `given` and `words`
-//! hold what many tests share.
+//! lay_io); the readers and the layouts of the grammar are tested through the top call, in `front`.
 //!
-//! The rows of a table stand in one literal: it is proved at once, and an array of rows row by row.
+//! The rows of a table stand in one literal (lay_given): it is proved at once, and an array of rows row by row.
 #![tactic(auto)]
 
 #[cfg(test)]
@@ -14,22 +14,12 @@ mod cook;
 #[cfg(test)]
 mod front;
 #[cfg(test)]
-mod given;
-#[cfg(test)]
 mod lex;
 #[cfg(test)]
 mod nest;
 #[cfg(test)]
 mod outside;
 #[cfg(test)]
-mod printer;
-#[cfg(test)]
-mod ring;
-#[cfg(test)]
-mod stream;
-#[cfg(test)]
 mod token;
 #[cfg(test)]
 mod tree;
-#[cfg(test)]
-mod words;

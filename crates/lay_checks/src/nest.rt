@@ -1,5 +1,5 @@
 //! Delimiters, operators and a walk, worked out by hand from the Rust Reference's rules.
-use crate::given::{BETWEEN, parts, tokens};
+use lay_given::{BETWEEN, parts, tokens};
 use lay_nest::{Cursor, Nested, nest};
 use lay_token::{FormatError, Kind, Refusal};
 use std::alloc::Global;

@@ -1,7 +1,7 @@
 //! Reads and writes in order, of which one fails in mid-stream.
 ghost use Rattle.std.specs.Prelude.{◌<◌, IfOk, IsSome};
 
-use crate::given::list;
+use lay_given::list;
 use lay_io::{
     Failed, HostInputs, HostSink, Inputs, Lent, MemoryInputs, MemorySink, NamedFile, QuietInputs,
     QuietSink, ReadError, Sink, Which, read_all,

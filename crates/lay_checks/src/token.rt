@@ -1,6 +1,6 @@
 //! Tokens, words and documentation, worked out by hand from the Rust Reference's rules and this format's; texts and
 //! lists with ample memory; and the messages of refusals.
-use crate::given::BETWEEN;
+use lay_given::BETWEEN;
 use lay_token::word::{Class, word_class};
 use lay_token::{
     Delim, DocForm, FormatError, Kind, List, NoMemory, Piece, Refusal, Text, doc_form, piece_at,

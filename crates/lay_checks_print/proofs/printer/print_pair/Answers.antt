@@ -1,7 +1,7 @@
 -- The press is over the core and the sink that came in, and what comes back is the sink that was written.
 use Rattle.std.proofs.Common.{rules, ◌≡◌, refl}
 use Rattle.lay_printer.proofs.Through.{Begins, printed_stopped, printed_finish, printed_along, level_zero}
-use Rattle.lay_checks.proofs.printer.print_pair.Goals as goal
+use Rattle.lay_checks_print.proofs.printer.print_pair.Goals as goal
 
 pub returns-in_err-put_pair-clause-err : goal.returns-in_err-put_pair-clause-err
 returns-in_err-put_pair-clause-err g c =

@@ -1,7 +1,7 @@
 use Rattle.std.proofs.Common.{◌≡◌, ℕ, zero, suc, ◌-◌, refl, ap, ◌∙◌, arith}
 use Rattle.lay_token.specs.Machine.{outer}
 use Rattle.lay_stream.proofs.Calls.{level_of}
-use Rattle.lay_checks.proofs.words.add.Goals as goal
+use Rattle.lay_checks_print.proofs.words.add.Goals as goal
 
 outer_is : (d : ℕ) → outer d ≡ d - 1
 outer_is zero = refl

@@ -1,6 +1,6 @@
 use Rattle.std.proofs.Common.{arith}
 use Rattle.lay_stream.proofs.Calls.{call_on, leave_on, level_of}
-use Rattle.lay_checks.proofs.printer.put_pair.Goals as goal
+use Rattle.lay_checks_print.proofs.printer.put_pair.Goals as goal
 
 pub returns-in_err-begin : goal.returns-in_err-begin
 returns-in_err-begin g c = leave_on c.in_err-begin.ensures c.from_residual.ensures.1

@@ -1,4 +1,7 @@
-//! What many tests are given.
+//! What the tests of several crates share: how the rows of a table stand in one literal, copies and lists of bytes,
+//! and the tokens of a text. It promises nothing but that each call is safe and ends.
+#![tactic(auto)]
+
 ghost use Rattle.std.specs.Prelude.{IfOk, IsUtf8};
 
 use lay_lex::{lex, normalise};

@@ -7,8 +7,8 @@ ghost use Rattle.lay_io.specs.Told.{GrewBy, GrewByPrefix};
 ghost use Rattle.lay_stream.specs.Fed.{Did};
 ghost use Rattle.lay_printer.specs.Errors.{Blames};
 
-use crate::given::{BETWEEN, parts};
 use crate::words::{add, stream, text};
+use lay_given::{BETWEEN, parts};
 use lay_io::{Lent, MemorySink, QuietSink, Sink};
 use lay_printer::{Core, Press, PrintError, Printer};
 use lay_stream::{Emit, Stream, plain};
