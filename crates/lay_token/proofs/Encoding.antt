@@ -6,7 +6,7 @@ use Rattle.std.specs.Str.{encode_utf8_all}
 use Rattle.std.proofs.lemmas.Bool.{cases_Bool, cond_both, and_parts, and_from, le-leb, leb-true, ltb-true, ltb-false, ne_eqb}
 use Rattle.std.proofs.lemmas.Str.{encode_ascii}
 use lib.Utf8.{encode, next, scalar, scalars}
-use Rattle.lay_token.specs.Chars.{begins}
+use Rattle.lay_piece.specs.Chars.{begins}
 use Rattle.lay_token.specs.Source.{folded, without_mark}
 
 -- ---- bytes above ASCII

@@ -1,9 +1,9 @@
 -- Parts of a text, one list behind another.
 use Rattle.std.proofs.Common.{◌≡◌, List, [], ◌∷◌, ◌++◌, ℕ, Bool, true, false, refl, ap, ◌∙◌, append_assoc}
-use Rattle.lay_token.specs.Forms.{had, has_form, after_literal}
+use Rattle.lay_piece.specs.Forms.{had, has_form, after_literal}
 use Rattle.lay_token.specs.Lexes.{Part, Before, spell, step, steps}
-use Rattle.lay_token.specs.declared.token.Kind.{Kind}
-use Rattle.lay_token.specs.declared.token.Kind.TheVariants.{Ident, RawIdent, Underscore, Lifetime, Char, Str, RawStr, Byte, ByteStr, RawByteStr, CStr, RawCStr, Int, Float, Punct, Opener, Closer, Doc}
+use Rattle.lay_piece.specs.declared.kind.Kind.{Kind}
+use Rattle.lay_piece.specs.declared.kind.Kind.TheVariants.{Ident, RawIdent, Underscore, Lifetime, Char, Str, RawStr, Byte, ByteStr, RawByteStr, CStr, RawCStr, Int, Float, Punct, Opener, Closer, Doc}
 
 pub spell-append : (ps qs : List Part) (last : List ℕ) → spell (ps ++ qs) last ≡ spell ps (spell qs last)
 spell-append [] qs last = refl

@@ -2,12 +2,13 @@
 use Rattle.std.specs.Prelude.{◌≡◌, ℕ, ◌+◌, ◌-◌, Bool, true, false, cond, ◌&&◌, ◌||◌, ◌==◌, not, List, [], ◌∷◌, ◌++◌, IsTrue, IsFalse, codes, length, take, drop, encode_utf8_all}
 use Rattle.std.specs.List.{list_any}
 use Rattle.std.specs.Str.{chars, bytes_eq}
-use Rattle.lay_token.specs.Characters as char
-use Rattle.lay_token.specs.Chars.{is_nil, without_end}
-use Rattle.lay_token.specs.Forms.{Had}
-use Rattle.lay_token.specs.Gap.{is_gap, is_last_gap}
-use Rattle.lay_token.specs.declared.token.Kind.{Kind}
-use Rattle.lay_token.specs.declared.token.Kind.TheVariants.{RawIdent, Punct, Doc}
+use Rattle.lay_piece.specs.Characters as char
+use Rattle.lay_piece.specs.Chars.{is_nil, without_end}
+use Rattle.lay_piece.specs.Begins.{BeginsNoGap, BeginsNoPiece}
+use Rattle.lay_piece.specs.Forms.{Had}
+use Rattle.lay_piece.specs.Gap.{is_gap, is_last_gap}
+use Rattle.lay_piece.specs.declared.kind.Kind.{Kind}
+use Rattle.lay_piece.specs.declared.kind.Kind.TheVariants.{RawIdent, Punct, Doc}
 use Rattle.lay_token.specs.declared.token.Token.{Token}
 
 -- a gap and the piece behind it
@@ -102,16 +103,6 @@ pub record AreParts (text : List ℕ) (parts : List Part) (last : List ℕ) : Ty
 abbrev pub Lexes : List ℕ → ℕ → List Token → Type 0
 Lexes bytes start tokens = (parts : List Part) × (last : List ℕ)
     × AreParts (chars (drop start bytes)) parts last × (tokens ≡ tokens_from start parts)
-
--- No gap stands at the front, and the text isn't one that ends the whole.
-pub record BeginsNoGap (text : List ℕ) : Type 0 where
-  pub none : (gap rest : List ℕ) → text ≡ gap ++ rest → IsTrue (is_gap gap) → gap ≡ []
-  pub unended : IsFalse (is_last_gap text)
-
--- No piece stands at the front.
-abbrev pub BeginsNoPiece : List ℕ → Bool → Type 0
-BeginsNoPiece text index =
-    (k : Kind) (piece rest : List ℕ) → text ≡ piece ++ rest → Had k piece rest index → ⊥
 
 -- The text is parts, a gap as long as it can be, and a rest that begins with no piece.
 pub record PartsBefore (text : List ℕ) (parts : List Part) (gap rest : List ℕ) : Type 0 where

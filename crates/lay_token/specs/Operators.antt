@@ -1,7 +1,7 @@
 -- Operators: longest runs of joint punctuation (Rust Reference, "Punctuation").
 use Rattle.std.specs.Prelude.{ℕ, Bool, true, false, cond, ◌&&◌, ◌||◌, List, [], ◌∷◌, codes, Option, Some, None}
 use Rattle.std.specs.Str.{bytes_eq}
-use Rattle.lay_token.specs.Chars.{is_nil}
+use Rattle.lay_piece.specs.Chars.{is_nil}
 use Rattle.lay_token.specs.Lexes.{is_punct}
 use Rattle.lay_token.specs.declared.token.Token.{Token}
 

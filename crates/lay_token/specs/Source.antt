@@ -3,11 +3,11 @@
 use Rattle.std.specs.Prelude.{ℕ, ◌+◌, Bool, true, false, cond, ◌&&◌, ◌||◌, ◌==◌, not, List, [], ◌∷◌, Option, Some, None, Result, Ok, Err, codes, encode_utf8_all}
 use Rattle.std.specs.Str.{chars, is_utf8}
 use Rattle.std.specs.Str.Lossy.{utf8_valid_len}
-use Rattle.lay_token.specs.Characters as char
-use Rattle.lay_token.specs.Chars.{is_white, begins, behind, front, after, is_nil, without_end}
+use Rattle.lay_piece.specs.Characters as char
+use Rattle.lay_piece.specs.Chars.{is_white, begins, behind, front, after, is_nil, without_end}
 use Rattle.lay_token.specs.Lexes.{size}
-use Rattle.lay_token.specs.declared.refusal.Refusal.{Refusal}
-use Rattle.lay_token.specs.declared.refusal.Refusal.TheVariants.{NotUtf8}
+use Rattle.lay_text.specs.declared.refusal.Refusal.{Refusal}
+use Rattle.lay_text.specs.declared.refusal.Refusal.TheVariants.{NotUtf8}
 
 -- each CR LF as one LF
 abbrev pub folded : List ℕ → List ℕ

@@ -1,62 +1,10 @@
-//! Tokens: their kinds, and the pieces of a text that they stand for.
+//! Tokens, and the pieces of a text that they stand for.
 ghost use Rattle.std.specs.Prelude.{◌≡◌, ℕ, List};
 ghost use Rattle.lay_token.specs.Lexes.{Lexes, NoTokenAt};
 ghost use Rattle.lay_token.specs.declared.token.Token.{Token};
 
-use crate::text::Text;
-
-/// What a delimiter is made of.
-#[derive(Clone, Copy, Debug, PartialEq, Eq)]
-pub enum Delim {
-    /// `(` and `)`
-    Paren,
-    /// `[` and `]`
-    Bracket,
-    /// `{` and `}`
-    Brace,
-}
-
-/// The kind of a token (Rust Reference, "Tokens"). A kind's example is a whole piece of it.
-#[derive(Clone, Copy, Debug, PartialEq, Eq)]
-pub enum Kind {
-    /// `name`, a keyword too
-    Ident,
-    /// `r#type`
-    RawIdent,
-    /// `_`
-    Underscore,
-    /// `'a`
-    Lifetime,
-    /// `'x'`
-    Char,
-    /// `"x\n"`
-    Str,
-    /// `r#"x"#`
-    RawStr,
-    /// `b'x'`
-    Byte,
-    /// `b"x\xff"`
-    ByteStr,
-    /// `br#"x"#`
-    RawByteStr,
-    /// `c"x"`
-    CStr,
-    /// `cr#"x"#`
-    RawCStr,
-    /// `0xff_u8`
-    Int,
-    /// `1.5e-3f64`
-    Float,
-    /// `+`, one character
-    Punct,
-    /// `(`
-    Opener(Delim),
-    /// `)`
-    Closer(Delim),
-    /// `/// text`, `//! text`, `/** text */` or `/*! text */`: documentation of what follows, or with `inner`
-    /// of what it stands in, as a line or as a block.
-    Doc { inner: bool, block: bool },
-}
+pub use lay_piece::{Delim, Kind};
+use lay_text::Text;
 
 /// One token of a text.
 #[derive(Debug, Drop)]

@@ -1,0 +1,4 @@
+pub mod AnywayLaws
+pub mod Lines
+pub mod Render
+pub mod Whole

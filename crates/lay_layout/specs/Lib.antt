@@ -1,0 +1,3 @@
+pub mod Anyway
+pub mod Document
+pub mod Machine

@@ -1,0 +1,17 @@
+pub mod Ascii
+pub mod Booleans
+pub mod Characters
+pub mod Complete
+pub mod Exact
+pub mod Fronts
+pub mod GapLaws
+pub mod Literals
+pub mod Nesting
+pub mod NumberFound
+pub mod NumberRuns
+pub mod NumberSound
+pub mod Rows
+pub mod Runs
+pub mod Sound
+pub mod Texts
+pub mod Unique

@@ -1,0 +1,16 @@
+use Rattle.std.proofs.Common.{◌≡◌, ◌≤◌, length}
+use denote.Text.{Utf8}
+use denote.Shadow.{shadow}
+use Rattle.std.specs.Str.{chars}
+use Rattle.lay_piece.specs.Chars.{after, in_word}
+use Rattle.lay_piece.proofs.piece.chars.after_word.Given as goal
+
+abbrev pub invariant-loop-c : goal.invariant-loop-c
+invariant-loop-c l = record {
+  text : shadow (Utf8 l.rest);
+  run : after in_word (chars l.rest) ≡ after in_word (chars l.s);
+  shorter : length l.rest ≤ length l.s;
+}
+
+abbrev pub decreases-loop-c : goal.decreases-loop-c
+decreases-loop-c l = length l.rest

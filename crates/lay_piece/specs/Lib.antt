@@ -1,0 +1,12 @@
+pub mod Begins
+pub mod Characters
+pub mod Chars
+pub mod Docs
+pub mod Forms
+pub mod Found
+pub mod Gap
+pub mod Number
+pub mod Quoted
+pub mod Scan
+pub mod Value
+pub mod Word
