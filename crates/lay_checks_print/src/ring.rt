@@ -1,6 +1,6 @@
 //! Calls on rings and marks, in order, each that may answer `NoMemory` with ample memory.
-use lay_ring::{Entry, Marks, Ring, Size};
 use lay_layout::Tok;
+use lay_ring::{Entry, Marks, Ring, Size};
 use lay_text::{NoMemory, Text};
 use std::alloc::Global;
 use std::process::Abort;

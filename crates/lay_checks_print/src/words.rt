@@ -8,8 +8,8 @@
 ghost use Rattle.std.specs.Prelude.{◌≡◌, IfOk};
 ghost use Rattle.lay_layout.specs.Machine.{opened};
 
-use lay_stream::{Emit, Stream};
 use lay_layout::{Break, Mark, Tok};
+use lay_stream::{Emit, Stream};
 use lay_text::{NoMemory, Text};
 use std::alloc::Global;
 

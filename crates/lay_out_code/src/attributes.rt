@@ -15,8 +15,8 @@ ghost use Rattle.lay_tree.specs.declared.attr.MetaInput.TheVariants as input;
 ghost use Rattle.lay_out_code.specs.Parts.{further_segments};
 
 use crate::notation::HARD_BREAK;
-use lay_stream::Emit;
 use lay_piece::{DocForm, Kind, doc_form};
+use lay_stream::Emit;
 use lay_text::Text;
 use lay_tree::{Attr, Literal, MetaInput, MetaPath, Path, Segment};
 

@@ -5,8 +5,8 @@ ghost use Rattle.lay_stream.specs.Fed.{Did};
 ghost use Rattle.lay_form.specs.Form.{Soft, Hard, Never};
 ghost use Rattle.lay_form.specs.Layout.{break_of, comma_break};
 
-use lay_stream::Emit;
 use lay_layout::{Break, Mark};
+use lay_stream::Emit;
 
 /// A break of no blanks.
 pub const SOFT_BREAK: Break = Break {

@@ -9,8 +9,8 @@ use crate::line::Line;
 use crate::page::Page;
 use crate::queue::Queue;
 use lay_io::{Failed, Sink};
-use lay_ring::Size;
 use lay_layout::Tok;
+use lay_ring::Size;
 use lay_text::NoMemory;
 
 /// Why a call of a printer failed.

@@ -15,8 +15,8 @@ ghost use Rattle.lay_printer.specs.declared.engine.PrintError.TheVariants.{Write
 use crate::engine::PrintError;
 use crate::printer::Core;
 use lay_io::Sink;
-use lay_stream::Emit;
 use lay_layout::Break;
+use lay_stream::Emit;
 use lay_text::{NoMemory, Text};
 use std::alloc::Global;
 

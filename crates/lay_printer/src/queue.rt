@@ -9,8 +9,8 @@ ghost use Rattle.lay_printer.specs.Queued.{notes_after, next_of};
 ghost use Rattle.lay_layout.specs.Machine.{IsNested};
 
 use crate::close::{CAP, Note, close};
-use lay_ring::{Entry, Marks, Ring, Size};
 use lay_layout::{Break, Mark, Tok};
+use lay_ring::{Entry, Marks, Ring, Size};
 use lay_text::{NoMemory, Text};
 use std::alloc::Global;
 
