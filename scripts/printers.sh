@@ -22,9 +22,9 @@ ghost use Rattle.std.specs.Prelude.{◌≡◌, IfOk};
 ghost use Rattle.lay_layout.specs.Machine.{opened};
 
 use lay_io::QuietSink;
+use lay_layout::{Break, Mark};
 use lay_printer::{PrintError, Printer};
 use lay_stream::{Emit, Stream, plain};
-use lay_layout::{Break, Mark};
 use lay_text::NoMemory;
 use std::fs;
 use std::io::Print;

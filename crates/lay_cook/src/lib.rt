@@ -2,7 +2,7 @@
 //!
 //! [`cook`] gives the value of a string without suffix: its text with the escapes resolved, or what stands
 //! between the quotes of a raw string (Rust Reference, "String literals", "Raw string literals"). It is proved
-//! equal to the definition that `lay_token` states.
+//! equal to the definition that `lay_piece` states.
 #![tactic(auto)]
 
 mod cooking;

@@ -2,7 +2,7 @@
 //!
 //! [`Emit`] is the door to every printer: it takes a layout token by token. [`Stream`] keeps the tokens as a
 //! list, and [`plain`] answers the text that the list's document is laid out as, measuring each group and
-//! break anew. The crate stands on lay_token, which defines that text.
+//! break anew. The crate stands on lay_layout, which defines that text.
 #![tactic(auto)]
 
 pub mod emit;
