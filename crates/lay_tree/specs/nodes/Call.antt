@@ -14,6 +14,9 @@ use Rattle.lay_tree.specs.declared.tokens.MacroCall.{MacroCall}
 abbrev pub is_group : Group → Bool
 is_group group = is_token_list group.tokens
 
+abbrev pub about_group : Group → Facts
+about_group group = record { form = group_form group Done; good = is_group group; refuses = [] }
+
 -- the `!` of a macro call, before a group in braces with a blank behind it
 abbrev pub bang : Delim → List Bit
 bang Brace = Operator (codes "!") ∷ Blank ∷ []
