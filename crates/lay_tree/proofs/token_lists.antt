@@ -1,0 +1,3 @@
+-- Token lists: what texts lex to, balance, groups.
+pub mod Balance
+pub mod FromText
