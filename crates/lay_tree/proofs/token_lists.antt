@@ -1,3 +1,6 @@
--- Token lists: what texts lex to, balance, groups.
+-- Token lists: what texts lex to, balance, groups, runs.
 pub mod Balance
 pub mod FromText
+pub mod Decided
+pub mod Grouped
+pub mod Runs

@@ -110,7 +110,7 @@ balanced_behind left xs ys h = balances_behind [] left xs ys h
 
 -- ---- tokens of a text
 
-turned_listed : (k : Kind) (text : List ℕ) (joint : Bool) (left : List Delim)
+pub turned_listed : (k : Kind) (text : List ℕ) (joint : Bool) (left : List Delim)
     → turned (kind_of (listed_by k text joint)) left ≡ turned k left
 turned_listed (Doc inner block) text joint left = refl
 turned_listed _ text joint left = refl

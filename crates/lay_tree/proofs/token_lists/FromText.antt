@@ -187,7 +187,7 @@ joint_of (Doc inner block) x joint q = sym (q refl)
 joint_of _ x joint q = sym (q refl)
 
 -- None but punctuation is joint.
-loose : (p : Part) (ps : List Part) → is_punct p.kind ≡ false → lexed.is_joint p ps ≡ false
+pub loose : (p : Part) (ps : List Part) → is_punct p.kind ≡ false → lexed.is_joint p ps ≡ false
 loose p [] n = refl
 loose p (q ∷ qs) n = ap (λ z. z && is_punct q.kind && is_nil q.gap && not (is_separator p.piece)
     && not (is_separator q.piece)) n
