@@ -2,6 +2,7 @@
 -- kind has one text has this one.
 use Rattle.std.proofs.Common.{◌≡◌, ℕ, ◌<◌, Bool, true, false, List, [], ◌∷◌, ◌++◌, not, ◌&&◌, ◌||◌, codes, map, Option, None, Some, refl, sym, ap, ◌∙◌, subst, arith}
 use Rattle.std.specs.Prelude.{◌==◌, encode_utf8_all}
+use Rattle.std.specs.List.{list_all}
 use Rattle.std.specs.Str.{chars, is_utf8}
 use Rattle.std.proofs.lemmas.Bool.{and_parts, eqb-true}
 use Rattle.std.proofs.lemmas.Str.{encode_ascii, encodes-chars, IsUtf8-from_is_utf8}
@@ -11,7 +12,7 @@ use Rattle.lay_token.specs.declared.token.Kind.{Kind}
 use Rattle.lay_token.specs.declared.token.Kind.TheVariants.{Underscore, Opener, Closer}
 use Rattle.lay_token.specs.declared.token.Token.{Token}
 use Rattle.lay_tree.specs.Ahead.{Tokens}
-use Rattle.lay_tree.specs.reader.Exact.{InText}
+use Rattle.lay_tree.specs.reader.Exact.{is_loose, InText}
 use Rattle.lay_tree.specs.tokens.Lexed.{is_had, may_join, fits}
 use Rattle.lay_tree.specs.tokens.Listing.{kind_of, text_of, as_listed, listed_by}
 use Rattle.lay_tree.specs.tokens.Pairs.{Single, is_joint_neighbour, is_index_place}
@@ -35,6 +36,7 @@ behind t ts i =
       before = i.last;
       last = Single (as_listed t);
       fit = (and_parts (may && is_had (is_index_place i.before i.last) (as_listed t)) _ i.fit).1;
+      loose = (and_parts (is_loose t) (list_all is_loose ts) i.loose).1;
     }
 
 pub behind_all : (before rest : Tokens) → InText (before ++ rest) → InText rest
