@@ -1,6 +1,7 @@
 -- What spells the groups of a list: its tokens, one by one.
 use Rattle.std.proofs.Common.{◌≡◌, ℕ, Bool, true, false, not, ◌&&◌, ◌||◌, List, [], ◌∷◌, ◌++◌, refl, sym, ap, ◌∙◌, subst, append_assoc}
 use Rattle.std.specs.List.{list_all}
+use Rattle.std.specs.Str.{is_utf8}
 use Rattle.std.proofs.lemmas.Bool.{and_parts, not-true}
 use Rattle.std.proofs.lemmas.List.Folds.{list_all-append}
 use Rattle.lay_token.specs.Forms.{opening, closing}
@@ -16,11 +17,14 @@ use Rattle.lay_form.specs.Spelled.{IsOne, Spells}
 use Rattle.lay_tree.specs.Ahead.{Tokens}
 use Rattle.lay_tree.specs.reader.Exact.{is_loose}
 use Rattle.lay_tree.specs.tokens.Lists.{opened_by, closed_by, enclosed_form, form_of_grouping, ended_by}
-use Rattle.lay_tree.specs.tokens.Listing.{kind_of, text_of, listed_form, listed_by, as_listed, Grouping, NoMore, OneToken, OneGroup}
-use Rattle.lay_tree.specs.tokens.Pairs.{Seen, Single, Enclosed, Separation, NoBreak, SoftBreak, HardBreak, between, leads, is_line_doc, seen_token, behind_group, seen_all, at_start}
+use Rattle.lay_tree.specs.tokens.Lexed.{is_had, may_join, fits, ends_apart, may_be_laid, is_token_list}
+use Rattle.lay_tree.specs.tokens.Listing.{is_doc_kind, is_balanced, in_groups, kind_of, text_of, listed_form, listed_by, as_listed, Grouping, NoMore, OneToken, OneGroup}
+use Rattle.lay_tree.specs.tokens.Pairs.{Neighbour, Nothing, is_joint_neighbour, is_index_place, Seen, Single, Enclosed, Separation, NoBreak, SoftBreak, HardBreak, between, leads, is_line_doc, seen_token, behind_group, seen_all, at_start}
 use Rattle.lay_tree.specs.declared.token.Listed.{Listed}
 use Rattle.lay_tree.specs.declared.token.Listed.TheVariants as listed
-use Rattle.lay_tree.proofs.token_lists.Grouped.{opener_token, closer_token, flat}
+use Rattle.lay_tree.proofs.token_lists.Decided.{listed_token}
+use Rattle.lay_tree.proofs.token_lists.Grouped as grouped
+use Rattle.lay_tree.proofs.token_lists.Grouped.{opener_token, closer_token, flat, list_grouped}
 
 -- ---- a row of tokens
 
@@ -144,6 +148,9 @@ inside_spelled false Brace x n ts mid rest s o = (mid, s, (rest, (rest, o, refl)
 abbrev grouped_tokens : Delim → Grouping → List Listed
 grouped_tokens d i = opener_token d ∷ (flat i ++ closer_token d ∷ [])
 
+split : (d : Delim) (i r : Grouping) → grouped_tokens d i ++ flat r ≡ flat (OneGroup d i r)
+split d i r = ap (λ z. opener_token d ∷ z) (append_assoc (flat i) (closer_token d ∷ []) (flat r))
+
 -- a group, and what follows it
 module _ (d : Delim) (line : Bool) (x f : Form) (n : ℕ) where
   full_row : (i : Grouping) (ts rest : Tokens) → ((us vs : Tokens) → Spells x n us vs → IsRow (flat i) us vs)
@@ -220,9 +227,6 @@ groups_row (OneGroup d i r) s n ts rest a e =
     subst (λ z. IsRow z ts rest) (split d i r)
     (row_joined (grouped_tokens d i) (flat r) ts q.0 rest q.1
     (groups_row r (behind_group d last.count) n q.0 rest a.1 (part_alone y n q.0 rest q.2)))
-  where
-    split : (d : Delim) (i r : Grouping) → grouped_tokens d i ++ flat r ≡ flat (OneGroup d i r)
-    split d i r = ap (λ z. opener_token d ∷ z) (append_assoc (flat i) (closer_token d ∷ []) (flat r))
 
 pub groups_spelled : (g : Grouping) (s : Seen) (n : ℕ) (ts rest : Tokens) → list_all is_loose ts ≡ true → IsRow (flat g) ts rest
     → Spells (form_of_grouping s g) n ts rest
@@ -244,6 +248,68 @@ groups_spelled (OneGroup d i g) s n ts rest l r =
     led (between s (Enclosed d)) (enclosed_form d i (is_line_doc last.last) x (Part y Done)) n ts rest
     (enclosed_spelled d (is_line_doc last.last) x (Part y Done) n i ts p.0 rest l
     (λ us vs k q. groups_spelled i (at_start s.count) n us vs k q) p.1 more)
+
+-- ---- lists that texts lex to
+
+abbrev AllTold : List Listed → Type 0
+AllTold [] = Unit {0}
+AllTold (u ∷ us) = IsTold u × AllTold us
+
+told_behind : (us vs : List Listed) → AllTold (us ++ vs) → AllTold us × AllTold vs
+told_behind [] vs a = (tt, a)
+told_behind (u ∷ us) vs a = let m = told_behind us vs a.1 in ((a.0, m.0), m.1)
+
+told_in : (g : Grouping) → AllTold (flat g) → AreTold g
+told_in NoMore a = tt
+told_in (OneToken t r) a = (a.0, told_in r a.1)
+told_in (OneGroup d i r) a =
+    let m = told_behind (flat i) (closer_token d ∷ flat r) a.1 in (told_in i m.0, told_in r m.1.1)
+
+told_one : (u : Listed) (place : Bool) → is_had place u ≡ true → grouped.is_loose u ≡ true → IsTold u
+told_one (listed.Token kind text joint) place h l =
+    listed_token kind text joint (not-true (is_doc_kind kind) (and_parts (not (is_doc_kind kind)) _ (and_parts (not (is_doc_kind kind) && is_utf8 text) _ h).0).0)
+    (unjoint joint (is_punct kind) l)
   where
-    split : (d : Delim) (i r : Grouping) → grouped_tokens d i ++ flat r ≡ flat (OneGroup d i r)
-    split d i r = ap (λ z. opener_token d ∷ z) (append_assoc (flat i) (closer_token d ∷ []) (flat r))
+    unjoint : (j p : Bool) → not j || p ≡ true → p ≡ false → j ≡ false
+    unjoint true true l e = absurd (cc)
+    unjoint true false l e = absurd (cc)
+    unjoint false p l e = refl
+told_one (listed.Doc inner text) place h l = tt
+
+all_told : (before last : Neighbour) (us : List Listed) → fits before last us ≡ true → list_all grouped.is_loose us ≡ true → AllTold us
+all_told before last [] f l = tt
+all_told before last (u ∷ us) f l =
+    let may = not (is_joint_neighbour last) || may_join last (Single u) in
+    let a = and_parts (may && is_had (is_index_place before last) u) (fits last (Single u) us) f in
+    let b = and_parts (grouped.is_loose u) (list_all grouped.is_loose us) l in
+    (told_one u (is_index_place before last) (and_parts may _ a.0).1 b.0, all_told last (Single u) us a.1 b.1)
+
+-- the four conditions of the test
+pub record ListParts (us : List Listed) : Type 0 where
+  pub fit : fits Nothing Nothing us ≡ true
+  pub apart : ends_apart Nothing us ≡ true
+  pub balanced : is_balanced us ≡ true
+  pub docs : list_all may_be_laid us ≡ true
+
+pub list_parts : (us : List Listed) → is_token_list us ≡ true → ListParts us
+list_parts us h =
+    let a = and_parts (fits Nothing Nothing us && ends_apart Nothing us && is_balanced us) _ h in
+    let b = and_parts (fits Nothing Nothing us && ends_apart Nothing us) _ a.0 in
+    let c = and_parts (fits Nothing Nothing us) _ b.0 in
+    record { fit = c.0; apart = c.1; balanced = b.1; docs = a.1 }
+
+list_told : (us : List Listed) → is_token_list us ≡ true → AreTold (in_groups us)
+list_told us h =
+    let p = list_parts us h in
+    told_in (in_groups us) (subst AllTold (sym (list_grouped us h).whole)
+    (all_told Nothing Nothing us p.fit (grouped.row_loose Nothing Nothing us p.fit p.apart)))
+
+pub list_row : (us : List Listed) (s : Seen) (n : ℕ) (ts rest : Tokens) → is_token_list us ≡ true
+    → Spells (form_of_grouping s (in_groups us)) n ts rest → IsRow us ts rest
+list_row us s n ts rest h e =
+    subst (λ z. IsRow z ts rest) (list_grouped us h).whole (groups_row (in_groups us) s n ts rest (list_told us h) e)
+
+pub list_spelled : (us : List Listed) (s : Seen) (n : ℕ) (ts rest : Tokens) → is_token_list us ≡ true
+    → list_all is_loose ts ≡ true → IsRow us ts rest → Spells (form_of_grouping s (in_groups us)) n ts rest
+list_spelled us s n ts rest h l r =
+    groups_spelled (in_groups us) s n ts rest l (subst (λ z. IsRow z ts rest) (sym (list_grouped us h).whole) r)
