@@ -27,7 +27,8 @@ use Rattle.lay_tree.proofs.InText.{behind}
 use Rattle.lay_tree.proofs.Steps.{got_same, chosen, bind_some}
 use Rattle.lay_tree.proofs.token_lists.Balance.{balances_turned, turned_listed}
 use Rattle.lay_tree.proofs.token_lists.Runs.{onto, run_over}
-use Rattle.lay_tree.proofs.token_lists.Spelling.{IsRow}
+use Rattle.lay_tree.proofs.token_lists.FromText.{two_rows}
+use Rattle.lay_tree.proofs.token_lists.Spelling.{IsRow, list_parts}
 
 -- ---- a run
 
@@ -97,3 +98,138 @@ pub run_there : (xs rest : Tokens) → is_balanced (map as_listed xs) ≡ true �
 unfolding run
 run_there xs [] b s = run_over [] xs [] b ∙ ap (λ z. Some (z, [])) (append-nil xs)
 run_there xs (t ∷ rest) b s = run_over [] xs (t ∷ rest) b ∙ rw s (ap (λ z. Some (z, t ∷ rest)) (append-nil xs))
+
+-- ---- a token list
+
+-- what a token list is, read
+pub record IsList (ts : Tokens) (us : List Listed) (rest : Tokens) : Type 0 where
+  pub read : Tokens
+  pub there : IsRun [] ts read rest
+  pub listed : map as_listed read ≡ us
+  pub docs : list_all may_be_laid us ≡ true
+
+pub tokens_is : (ts : Tokens) (us : List Listed) (rest : Tokens) → tokens ts ≡ Some (us, rest) → IsList ts us rest
+unfolding tokens
+tokens_is ts us rest h =
+    let b = bind_some (run [] ts) (λ r. if list_all may_be_laid (map as_listed r.0) then Some (map as_listed r.0, r.1) else None) (us, rest) h in
+    let xs = b.0.0 in
+    elim (chosen (list_all may_be_laid (map as_listed xs)) (Some (map as_listed xs, b.0.1)) None (Some (us, rest)) b.2) [
+      | inl g ↦
+          let e = got_same (map as_listed xs) us b.0.1 rest g.1 in
+          record {
+            read = xs;
+            there = subst (IsRun [] ts xs) e.1 (run_is [] ts xs b.0.1 b.1);
+            listed = e.0;
+            docs = subst (λ z. list_all may_be_laid z ≡ true) e.0 g.0;
+          }
+      | inr g ↦ absurd (cc)
+    ]
+
+pub tokens_there : (xs rest : Tokens) (us : List Listed) → map as_listed xs ≡ us → is_balanced us ≡ true → list_all may_be_laid us ≡ true
+    → StopsAt rest → tokens (xs ++ rest) ≡ Some (us, rest)
+unfolding tokens
+tokens_there xs rest us e b d s =
+    let r = run_there xs rest (ap is_balanced e ∙ b) s in
+    rw (r, e, d) refl
+
+-- Where its last neighbour is no point, nothing before it decides of a list.
+fits_before : (b c l : Neighbour) (us : List Listed) → is_joint_mark (codes ".") b ≡ is_joint_mark (codes ".") c
+    → fits b l us ≡ fits c l us
+fits_before b c l [] e = refl
+fits_before b c l (u ∷ us) e =
+    ap (λ z. (not (is_joint_neighbour l) || may_join l (Single u)) && is_had (is_mark (codes ".") l && not z) u && fits l (Single u) us) e
+
+from_start : (b l : Neighbour) (us : List Listed) → is_mark (codes ".") l ≡ false → fits b l us ≡ true → fits Nothing Nothing us ≡ true
+from_start b l [] n f = refl
+from_start b l (u ∷ us) n f =
+    let may = not (is_joint_neighbour l) || may_join l (Single u) in
+    let a = and_parts (may && is_had (is_index_place b l) u) (fits l (Single u) us) f in
+    let h : is_had false u ≡ true =
+    sym (ap (λ z. is_had (z && not (is_joint_mark (codes ".") b)) u) n) ∙ (and_parts may _ a.0).1 in
+    and_from (is_had false u) (fits Nothing (Single u) us) h
+    (fits_before Nothing l (Single u) us (sym (ap (λ z. z && is_joint_neighbour l) n)) ∙ a.1)
+
+-- Before a closer no token is joint.
+apart_at : (b : Neighbour) (x c : Token) (xs rest : Tokens) → is_closer c.kind ≡ true
+    → fits b (Single (as_listed x)) (map as_listed (xs ++ c ∷ rest)) ≡ true → ends_apart (Single (as_listed x)) (map as_listed xs) ≡ true
+apart_at b x c [] rest k f =
+    let l = Single (as_listed x) in
+    let may = not (is_joint_neighbour l) || may_join l (Single (as_listed c)) in
+    no_join (is_joint_neighbour l) _ (no_closer l c k)
+    (and_parts may _ (and_parts (may && is_had (is_index_place b l) (as_listed c)) _ f).0).0
+  where
+    no_join : (j m : Bool) → m ≡ false → not j || m ≡ true → not j ≡ true
+    no_join true m e h = absurd (cc)
+    no_join false m e h = refl
+
+    and_false : (a b c : Bool) → b ≡ false → a && b && c ≡ false
+    and_false true true c e = absurd (cc)
+    and_false true false c e = refl
+    and_false false b c e = refl
+
+    no_closer : (l : Neighbour) (c : Token) → is_closer c.kind ≡ true → may_join l (Single (as_listed c)) ≡ false
+    no_closer l c k = and_false _ _ _ (by c.kind refl)
+      where
+        by : (k : Kind) → c.kind ≡ k
+            → is_punct (kind_of (listed_by k c.text c.joint)) && not (is_mark (codes ",") (Single (listed_by k c.text c.joint))
+            || is_mark (codes ";") (Single (listed_by k c.text c.joint))) ≡ false
+        by Punct e = let n : is_closer Punct ≡ true = sym (ap is_closer e) ∙ k in absurd (cc)
+        by (Doc inner block) e = refl
+        by _ e = refl
+apart_at b x c (y ∷ xs) rest k f =
+    let l = Single (as_listed x) in
+    let may = not (is_joint_neighbour l) || may_join l (Single (as_listed y)) in
+    apart_at l y c xs rest k (and_parts (may && is_had (is_index_place b l) (as_listed y)) _ f).1
+
+apart_before : (b l : Neighbour) (c : Token) (xs rest : Tokens) → is_closer c.kind ≡ true
+    → fits b l (map as_listed (xs ++ c ∷ rest)) ≡ true → ends_apart Nothing (map as_listed xs) ≡ true
+apart_before b l c [] rest k f = refl
+apart_before b l c (x ∷ xs) rest k f =
+    let may = not (is_joint_neighbour l) || may_join l (Single (as_listed x)) in
+    apart_at l x c xs rest k (and_parts (may && is_had (is_index_place b l) (as_listed x)) _ f).1
+
+-- What is read up to a closer, behind what is no point, is a token list.
+pub list_good : (ts : Tokens) (us : List Listed) (c : Token) (rest : Tokens) (i : InText ts) → is_mark (codes ".") i.last ≡ false
+    → is_closer c.kind ≡ true → IsList ts us (c ∷ rest) → is_token_list us ≡ true
+list_good ts us c rest i n k l =
+    let xs = l.read in
+    let fit : fits i.before i.last (map as_listed (xs ++ c ∷ rest)) ≡ true =
+    sym (ap (λ z. fits i.before i.last (map as_listed z)) l.there.whole) ∙ i.fit in
+    let front = two_rows i.before i.last (map as_listed xs) (map as_listed (c ∷ rest))
+    (ap (fits i.before i.last) (sym (map-append as_listed xs (c ∷ rest))) ∙ fit) in
+    let good : is_token_list (map as_listed xs) ≡ true =
+    and_from (fits Nothing Nothing (map as_listed xs) && ends_apart Nothing (map as_listed xs) && is_balanced (map as_listed xs)) _
+    (and_from (fits Nothing Nothing (map as_listed xs) && ends_apart Nothing (map as_listed xs)) _
+    (and_from (fits Nothing Nothing (map as_listed xs)) _ (from_start i.before i.last (map as_listed xs) n front.front)
+    (apart_before i.before i.last c xs rest k fit)) l.there.balanced)
+    (ap (list_all may_be_laid) l.listed ∙ l.docs) in
+    subst (λ z. is_token_list z ≡ true) l.listed good
+
+-- ---- a row and what is read of it
+
+row_of : (xs rest : Tokens) → IsRow (map as_listed xs) (xs ++ rest) rest
+row_of [] rest = refl
+row_of (x ∷ xs) rest = (refl, row_of xs rest)
+
+pub record ReadRow (us : List Listed) (ts rest : Tokens) : Type 0 where
+  pub read : Tokens
+  pub whole : ts ≡ read ++ rest
+  pub listed : map as_listed read ≡ us
+
+pub row_read : (us : List Listed) (ts rest : Tokens) → IsRow us ts rest → ReadRow us ts rest
+row_read [] ts rest r = record { read = []; whole = r; listed = refl }
+row_read (u ∷ us) [] rest r = absurd r
+row_read (u ∷ us) (t ∷ ts) rest r = let m = row_read us ts rest r.1 in
+    record { read = t ∷ m.read; whole = ap (λ z. t ∷ z) m.whole; listed = (λ v. r.0 v ∷ m.listed v) }
+
+pub list_row_of : (ts : Tokens) (us : List Listed) (rest : Tokens) → IsList ts us rest → IsRow us ts rest
+list_row_of ts us rest l =
+    subst (λ z. IsRow z ts rest) l.listed (subst (λ z. IsRow (map as_listed l.read) z rest) (sym l.there.whole) (row_of l.read rest))
+
+-- A token list that stands before a closer is read.
+pub row_tokens : (us : List Listed) (ts : Tokens) (c : Token) (rest : Tokens) → is_token_list us ≡ true → is_closer c.kind ≡ true
+    → IsRow us ts (c ∷ rest) → tokens ts ≡ Some (us, c ∷ rest)
+row_tokens us ts c rest h k r =
+    let p = list_parts us h in
+    let m = row_read us ts (c ∷ rest) r in
+    ap tokens m.whole ∙ tokens_there m.read (c ∷ rest) us m.listed p.balanced p.docs k
