@@ -48,7 +48,7 @@ opener_kind : (d : Delim) (k : Kind) → is_opener d k ≡ true → k ≡ Opener
 opener_kind d (Opener e) h = ap (λ x. Opener x) (delim_same d e h)
 opener_kind d _ h = absurd (cc)
 
-closer_kind : (d : Delim) (k : Kind) → is_closer d k ≡ true → k ≡ Closer d
+pub closer_kind : (d : Delim) (k : Kind) → is_closer d k ≡ true → k ≡ Closer d
 closer_kind d (Closer e) h = ap (λ x. Closer x) (delim_same d e h)
 closer_kind d _ h = absurd (cc)
 
@@ -72,7 +72,7 @@ closes_one d [] p h = absurd (cc)
 closes_one d (t ∷ ts) p h =
     let k = closer_kind d t.kind h in (k, only_one (Closer d) t.kind (closing d ∷ []) t.text k refl (text_one t ts p), refl)
 
-passed_first : (p : Token → Bool) (ts rest : Tokens) → passed p ts ≡ Some rest → (first p ts ≡ true) × (tail ts ≡ rest)
+pub passed_first : (p : Token → Bool) (ts rest : Tokens) → passed p ts ≡ Some rest → (first p ts ≡ true) × (tail ts ≡ rest)
 passed_first p ts rest h =
     elim (chosen (first p ts) (Some (tail ts)) None (Some rest) h) [
       | inl g ↦ let e : tail ts ≡ rest = cc g.1 in (g.0, e)
