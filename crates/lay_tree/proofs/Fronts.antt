@@ -1,11 +1,12 @@
 -- What the tests of the front of a list of tokens tell of it, and what stands there tells of the tests.
-use Rattle.std.proofs.Common.{◌≡◌, ℕ, suc, ◌≤◌, ◌<◌, Bool, true, false, List, [], ◌∷◌, ◌++◌, length, codes, Option, Some, None, refl, sym, ap, subst, ◌∙◌, inl, inr, arith, length-append, length-drop}
+use Rattle.std.proofs.Common.{◌≡◌, ℕ, suc, ◌≤◌, ◌<◌, Bool, true, false, List, [], ◌∷◌, ◌++◌, length, codes, Option, Some, None, refl, sym, ap, subst, ◌∙◌, inl, inr, arith, length-append, length-drop, cond}
+use Rattle.std.specs.List.{list_all}
 use Rattle.std.specs.Str.{bytes_eq}
 use Rattle.std.proofs.lemmas.Bool.{and_parts, cases_Bool, false_from_ne_true}
 use Rattle.std.proofs.lemmas.Slice.Eq.{bytes_eq-Decides}
 use Rattle.lay_token.specs.Forms.{opening, closing}
 use Rattle.lay_token.specs.Lexes.{is_punct}
-use Rattle.lay_token.specs.Operators.{op_at, is_op_of, is_op}
+use Rattle.lay_token.specs.Operators.{operators, begins_op, first_op, or_lone, op_at, is_op_of, is_op}
 use Rattle.lay_token.specs.declared.token.Delim.{Delim}
 use Rattle.lay_token.specs.declared.token.Delim.TheVariants.{Paren, Bracket, Brace}
 use Rattle.lay_token.specs.declared.token.Kind.{Kind}
@@ -186,3 +187,35 @@ op_shorter c cs ts rest o =
     let g = op_front (c ∷ cs) ts o.0 in
     let l : length ts ≡ suc (length g.1) = ap length g.2 in
     omega (arith, length-drop (length (c ∷ cs)) ts, ap length o.1)
+
+abbrev is_long : List ℕ → Bool
+is_long (a ∷ b ∷ cs) = true
+is_long _ = false
+
+no_long : (c : ℕ) (op : List ℕ) → is_long op ≡ true → bytes_eq (c ∷ []) op ≡ false
+no_long c [] h = absurd (cc)
+no_long c (a ∷ []) h = absurd (cc)
+no_long c (a ∷ b ∷ cs) h = false_from_ne_true (bytes_eq (c ∷ []) (a ∷ b ∷ cs)) (λ e. let f = bytes_same (c ∷ []) (a ∷ b ∷ cs) e in absurd (cc))
+
+no_first : (c : ℕ) (ops : List (List ℕ)) (ts : Tokens) → list_all is_long ops ≡ true → is_op_of (c ∷ []) (first_op ops ts) ≡ false
+no_first c [] ts h = refl
+no_first c (op ∷ ops) ts h =
+    let a = and_parts (is_long op) (list_all is_long ops) h in by (begins_op op ts) (no_long c op a.0) (no_first c ops ts a.1)
+  where
+    by : (b : Bool) → bytes_eq (c ∷ []) op ≡ false → is_op_of (c ∷ []) (first_op ops ts) ≡ false
+        → is_op_of (c ∷ []) (cond b (Some op) (first_op ops ts)) ≡ false
+    by true n m = n
+    by false n m = m
+
+-- An operator of one character is a token of this text.
+pub lone_text : (c : ℕ) (t : Token) (ts : Tokens) → is_op (c ∷ []) (t ∷ ts) ≡ true → t.text ≡ c ∷ []
+unfolding op_at
+lone_text c t ts h = by (first_op operators (t ∷ ts)) (no_first c operators (t ∷ ts) refl) h
+  where
+    lone : (b : Bool) → is_op_of (c ∷ []) (cond b (Some t.text) None) ≡ true → t.text ≡ c ∷ []
+    lone true h = sym (bytes_same (c ∷ []) t.text h)
+    lone false h = absurd (cc)
+
+    by : (o : Option (List ℕ)) → is_op_of (c ∷ []) o ≡ false → is_op_of (c ∷ []) (or_lone o (t ∷ ts)) ≡ true → t.text ≡ c ∷ []
+    by None n h = lone (is_punct t.kind) h
+    by (Some op) n h = absurd (cc)
