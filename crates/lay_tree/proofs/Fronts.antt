@@ -142,7 +142,7 @@ no_operator t ts h = at t.kind h
     at Punct h = absurd (cc)
     at _ h = refl
 
-no_op : (op : List ℕ) (t : Token) (ts : Tokens) → is_punct t.kind ≡ false → is_op op (t ∷ ts) ≡ false
+pub no_op : (op : List ℕ) (t : Token) (ts : Tokens) → is_punct t.kind ≡ false → is_op op (t ∷ ts) ≡ false
 no_op op t ts h = ap (is_op_of op) (no_operator t ts h)
 
 -- An operator begins with punctuation.
