@@ -1,5 +1,5 @@
 -- What the tests of the front of a list of tokens tell of it, and what stands there tells of the tests.
-use Rattle.std.proofs.Common.{◌≡◌, ℕ, suc, ◌≤◌, ◌<◌, Bool, true, false, List, [], ◌∷◌, ◌++◌, length, codes, Option, Some, None, refl, sym, ap, subst, ◌∙◌, inl, inr, arith, length-append, length-drop, cond}
+use Rattle.std.proofs.Common.{◌≡◌, ℕ, suc, ◌≤◌, ◌<◌, Bool, true, false, List, [], ◌∷◌, ◌++◌, ◌&&◌, length, codes, Option, Some, None, refl, sym, ap, subst, ◌∙◌, inl, inr, arith, length-append, length-drop, cond}
 use Rattle.std.specs.List.{list_all}
 use Rattle.std.specs.Str.{bytes_eq}
 use Rattle.std.proofs.lemmas.Bool.{and_parts, cases_Bool, false_from_ne_true}
@@ -219,3 +219,26 @@ lone_text c t ts h = by (first_op operators (t ∷ ts)) (no_first c operators (t
     by : (o : Option (List ℕ)) → is_op_of (c ∷ []) o ≡ false → is_op_of (c ∷ []) (or_lone o (t ∷ ts)) ≡ true → t.text ≡ c ∷ []
     by None n h = lone (is_punct t.kind) h
     by (Some op) n h = absurd (cc)
+
+first_there : (ops : List (List ℕ)) (ts : Tokens) (op : List ℕ) → first_op ops ts ≡ Some op → begins_op op ts ≡ true
+first_there [] ts op h = absurd (cc)
+first_there (o ∷ ops) ts op h = elim (chosen (begins_op o ts) (Some o) (first_op ops ts) (Some op) h) [
+  | inl g ↦ let e : o ≡ op = cc g.1 in subst (λ z. begins_op z ts ≡ true) e g.0
+  | inr g ↦ first_there ops ts op g.1
+]
+
+-- The first token of an operator begins with its first character.
+pub op_text : (c : ℕ) (cs : List ℕ) (t : Token) (ts : Tokens) → is_op (c ∷ cs) (t ∷ ts) ≡ true → (xs : List ℕ) × (t.text ≡ c ∷ xs)
+unfolding op_at
+op_text c cs t ts h = by (first_op operators (t ∷ ts)) refl h
+  where
+    lone : (b : Bool) → is_op_of (c ∷ cs) (cond b (Some t.text) None) ≡ true → (xs : List ℕ) × (t.text ≡ c ∷ xs)
+    lone true h = (cs, sym (bytes_same (c ∷ cs) t.text h))
+    lone false h = absurd (cc)
+
+    by : (o : Option (List ℕ)) → first_op operators (t ∷ ts) ≡ o → is_op_of (c ∷ cs) (or_lone o (t ∷ ts)) ≡ true → (xs : List ℕ) × (t.text ≡ c ∷ xs)
+    by None e h = lone (is_punct t.kind) h
+    by (Some op) e h =
+        let same = bytes_same (c ∷ cs) op h in
+        let b = subst (λ z. begins_op z (t ∷ ts) ≡ true) (sym same) (first_there operators (t ∷ ts) op e) in
+        ([], bytes_same t.text (c ∷ []) (and_parts (is_punct t.kind) _ (and_parts (is_punct t.kind && bytes_eq t.text (c ∷ [])) _ b).0).1)

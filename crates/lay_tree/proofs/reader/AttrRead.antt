@@ -46,38 +46,18 @@ use Rattle.lay_tree.proofs.Parts.{Rows, rows_to, GoodAt, bits_parts, bit_alone, 
 use Rattle.lay_tree.proofs.reader.Attr.{flag_same, same_as_itself, attribute_sound}
 use Rattle.lay_tree.proofs.reader.Exact.{exact, needless_sound, needless_complete}
 use Rattle.lay_tree.proofs.reader.Loops.{Turn, repeat_complete}
-use Rattle.lay_tree.proofs.reader.Path.{path_complete, segments_rows}
+use Rattle.lay_tree.proofs.reader.Path.{path_no_keyword, path_complete}
 use Rattle.lay_tree.proofs.reader.Tokens.{tokens_there, row_tokens, group_complete}
 use Rattle.lay_tree.proofs.token_lists.Balance.{balances_turned}
 use Rattle.lay_tree.proofs.token_lists.Spelling.{IsRow, list_row}
 
 -- ---- what an attribute is called, and what it is given
 
--- a word of a path isn't `unsafe`
-word_not_unsafe : (raw : Bool) (word : List ℕ) (ts rest : Tokens) → is_path_word raw word ≡ true → IsOne (word_kind raw) word ts rest
-    → first (is_keyword (codes "unsafe")) ts ≡ false
-word_not_unsafe true word ts rest g o = rw (one_front RawIdent word ts rest o).1 refl
-word_not_unsafe false word ts rest g o =
-    let differs : bytes_eq word (codes "unsafe") ≡ false = false_from_ne_true (bytes_eq word (codes "unsafe")) (λ e.
-    let path_word : is_path_class (class_of (codes "unsafe")) ≡ true =
-    subst (λ w. is_path_class (class_of w) ≡ true) (bytes_same word (codes "unsafe") e) g in
-    absurd (cc)) in
-    rw ((one_front Ident word ts rest o).1, differs) refl
-
-path_not_unsafe : (leads : Bool) (segments : List Segment) (depth : ℕ) (ts rest : Tokens) → is_segments segments ≡ true
-    → Spells (when leads colons (segments_form segments Done)) depth ts rest → first (is_keyword (codes "unsafe")) ts ≡ false
-path_not_unsafe leads [] depth ts rest g s = absurd (cc)
-path_not_unsafe true (one ∷ more) depth ts rest g s =
-    let o : IsOperator (codes "::") ts s.0 = bit_alone (Operator (codes "::")) ts s.0 s.1 in rw (op_front (codes "::") ts o.0).2 refl
-path_not_unsafe false (one ∷ more) depth ts rest g s =
-    let w = segments_rows one more depth ts rest s in
-    word_not_unsafe one.word.raw one.word.text ts w.0 (and_parts (is_path_word one.word.raw one.word.text) (are_segments more) g).0 w.1
-
 meta_name_complete : (path : MetaPath) (depth : ℕ) (ts rest : Tokens) → Spells (meta_path_form path) depth ts rest → is_meta_path path ≡ true
     → is_op (codes "::") rest ≡ false → meta_name ts ≡ Some (path, rest)
 unfolding meta_name
 meta_name_complete (meta_path.Path path) depth ts rest s g h =
-    rw (path_not_unsafe path.global path.segments depth ts rest g s, path_complete path depth ts rest (s, g, rw h refl)) refl
+    rw (path_no_keyword (codes "unsafe") refl path depth ts rest g s, path_complete path depth ts rest (s, g, rw h refl)) refl
 meta_name_complete meta_path.Unsafe depth ts rest s g h =
     rw (one_front Ident (codes "unsafe") ts rest (piece_bit (keyword (codes "unsafe")) depth ts rest s)).1 refl
 
