@@ -14,6 +14,12 @@ use Rattle.lay_tree.specs.nodes.Facts.{Facts}
 use Rattle.lay_tree.specs.nodes.Item.{about_item, about_kind}
 use Rattle.lay_tree.specs.declared.attr.Attr.{Attr}
 use Rattle.lay_tree.specs.declared.attr.Attr.TheVariants as attr
+use Rattle.lay_tree.specs.reader.Call.{call}
+use Rattle.lay_tree.specs.reader.Item.{begins_rules, call_item}
+use Rattle.lay_tree.specs.reader.Loops.{repeat_from, repeat}
+use Rattle.lay_tree.specs.reader.Path.{segment, path}
+use Rattle.lay_tree.specs.reader.Tokens.{run, tokens, group}
+use Rattle.lay_tree.specs.reader.Words.{name, word as word_reading}
 use Rattle.lay_tree.specs.tokens.Lists.{group_form}
 use Rattle.lay_tree.specs.declared.item.Item.{Item}
 use Rattle.lay_tree.specs.declared.item.ItemKind.{ItemKind}
@@ -277,3 +283,27 @@ an_import_needs_three = rw (kind_is [] _ _ (items.import_is (group_of b c)), gro
 -- Token lists need nothing.
 a_call_needs_one : least_depth (about_item (call_of (in_braces statements))).form ≡ 1
 a_call_needs_one = rw (kind_is [] _ _ (items.call_is (m_call (in_braces statements)))) refl
+
+-- ---- which item it is
+
+abbrev parens : List Token → List Token
+parens ts = opens Paren ∷ closes Paren ∷ ts
+
+-- `m!()` is no item without its `;`.
+no_call : call_item (word (codes "m") ∷ mark (codes "!") ∷ parens []) ≡ None
+unfolding call_item call path segment word_reading repeat repeat_from op_at group tokens run
+no_call = refl
+
+read_call : call_item (word (codes "m") ∷ mark (codes "!") ∷ parens (mark (codes ";") ∷ []))
+    ≡ Some ((item.Call (m_call (in_parens [])), 0), [])
+unfolding call_item call path segment word_reading repeat repeat_from op_at group tokens run
+read_call = refl
+
+-- `macro_rules!` declares a macro before a name, and else calls one.
+begins_a_macro : begins_rules (word (codes "macro_rules") ∷ mark (codes "!") ∷ word (codes "m") ∷ parens []) ≡ true
+unfolding op_at name
+begins_a_macro = refl
+
+begins_a_call : begins_rules (word (codes "macro_rules") ∷ mark (codes "!") ∷ parens []) ≡ false
+unfolding op_at name
+begins_a_call = refl
