@@ -105,7 +105,7 @@ scalars_doc block piece h =
     let fine = scalars_cond block _ _ (scalars_take (length piece - 5) (drop 3 piece) behind) behind in
     scalars_cond (list_any (λ c. c == 10) text) text (without_end 32 text) fine (scalars_without_end 32 text fine)
 
-piece_text : (k : Kind) (piece : List ℕ) → has_form k piece ≡ true → scalars piece ≡ true
+pub piece_text : (k : Kind) (piece : List ℕ) → has_form k piece ≡ true → scalars piece ≡ true
     → is_text_of k (encode_utf8_all (text_of_piece k piece)) ≡ true
 unfolding is_text_of
 piece_text RawIdent piece f h =

@@ -1,9 +1,8 @@
--- Names, words and literals (Rust Reference, "Identifiers", "Keywords", "Tokens").
+-- Names and words (Rust Reference, "Identifiers", "Keywords").
 use Rattle.std.specs.Prelude.{ℕ, Bool, true, false, ◌||◌, List, [], ◌∷◌, codes}
 use Rattle.std.specs.List.{list_all}
 use Rattle.lay_piece.specs.Word.{class_of}
-use Rattle.lay_piece.specs.declared.kind.Kind.{Kind}
-use Rattle.lay_piece.specs.declared.kind.Kind.TheVariants.{Ident, RawIdent, Underscore, Lifetime, Punct, Opener, Closer, Doc}
+use Rattle.lay_piece.specs.declared.kind.Kind.TheVariants.{Ident, RawIdent}
 use Rattle.lay_piece.specs.declared.word.Class.{Class}
 use Rattle.lay_piece.specs.declared.word.Class.TheVariants.{Plain, PathWord}
 use Rattle.lay_form.specs.Form.{Bit, Operator, Form, Leaf}
@@ -35,14 +34,3 @@ leaf_of false text f = Leaf Ident text f
 
 abbrev pub colons : List Bit
 colons = Operator (codes "::") ∷ []
-
-abbrev pub is_literal_kind : Kind → Bool
-is_literal_kind Ident = false
-is_literal_kind RawIdent = false
-is_literal_kind Underscore = false
-is_literal_kind Lifetime = false
-is_literal_kind Punct = false
-is_literal_kind (Opener d) = false
-is_literal_kind (Closer d) = false
-is_literal_kind (Doc inner block) = false
-is_literal_kind kind = true

@@ -1,6 +1,7 @@
 -- The nodes, a family a file. Each says what is well formed, which form it has, and what may not follow.
 pub mod Facts
 pub mod Path
+pub mod Call
 pub mod Attr
 pub mod Use
 pub mod Item

@@ -5,6 +5,8 @@ pub mod Loops
 pub mod Exact
 pub mod Words
 pub mod Path
+pub mod Tokens
+pub mod Call
 pub mod Attr
 pub mod Use
 pub mod Item

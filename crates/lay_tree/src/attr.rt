@@ -1,6 +1,6 @@
 //! Attributes.
 use crate::path::Path;
-use crate::token::Literal;
+use crate::tokens::{Group, Tokens};
 use lay_token::Text;
 
 /// An attribute (Rust Reference, "Attributes"). An inner one says something of what it stands in.
@@ -11,7 +11,7 @@ pub enum Attr {
         inner: bool,
         text: Text,
     },
-    /// `#[path]` or `#[path = literal]`
+    /// `#[path]`, `#[path(tokens)]` or `#[path = tokens]`
     Meta {
         inner: bool,
         path: MetaPath,
@@ -33,6 +33,8 @@ pub enum MetaPath {
 pub enum MetaInput {
     /// Nothing.
     Bare,
-    /// ` = "x"`
-    Value(Literal),
+    /// `(a, b = "x")`
+    Group(Group),
+    /// ` = "x"`, of one token at least.
+    Value(Tokens),
 }

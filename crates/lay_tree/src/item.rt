@@ -2,6 +2,7 @@
 use crate::attr::Attr;
 use crate::boxed::Boxed;
 use crate::token::Name;
+use crate::tokens::{Group, MacroCall};
 use crate::use_tree::UseTree;
 use lay_token::List;
 
@@ -30,5 +31,14 @@ pub enum ItemKind {
     /// `use a::{b, c};` The box keeps other items small.
     Import {
         tree: Boxed<UseTree>,
+    },
+    /// `macro_rules! m { () => {}; }`
+    MacroRules {
+        name: Name,
+        rules: Group,
+    },
+    /// `m! {}` or `m!();`
+    Call {
+        call: MacroCall,
     },
 }

@@ -1,4 +1,4 @@
-//! Tokens of a tree: names, words, literals, and the tokens of token lists.
+//! Tokens of a tree: names, words, and the tokens of token lists.
 use lay_token::{Kind, Text};
 
 /// A name: an identifier that is no keyword, or a raw identifier, whose text is without `r#`.
@@ -12,13 +12,6 @@ pub struct Name {
 #[derive(Debug, Drop)]
 pub struct Word {
     pub raw: bool,
-    pub text: Text,
-}
-
-/// A literal token.
-#[derive(Debug, Drop)]
-pub struct Literal {
-    pub kind: Kind,
     pub text: Text,
 }
 

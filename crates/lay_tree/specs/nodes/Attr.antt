@@ -1,18 +1,18 @@
 -- Attributes and documentation (Rust Reference, "Attributes", "Comments").
-use Rattle.std.specs.Prelude.{ℕ, Bool, true, false, ◌&&◌, not, List, [], ◌∷◌, codes, Option, Some, None, encode_utf8_all}
+use Rattle.std.specs.Prelude.{ℕ, Bool, true, false, cond, ◌&&◌, ◌||◌, not, List, [], ◌∷◌, codes, Option, Some, None, encode_utf8_all}
 use Rattle.std.specs.List.{list_all}
 use Rattle.std.specs.Str.{chars, bytes_eq}
-use Rattle.lay_piece.specs.Docs.{doc_form}
 use Rattle.lay_piece.specs.Value.{value_of}
-use Rattle.lay_piece.specs.declared.doc.DocForm.{DocForm}
-use Rattle.lay_piece.specs.declared.doc.DocForm.TheVariants as doc
 use Rattle.lay_piece.specs.declared.kind.Delim.TheVariants.{Bracket}
-use Rattle.lay_form.specs.Form.{Blank, Operator, Form, Done, Piece, Leaf, Part, Docs, keyword, closer}
-use Rattle.lay_form.specs.Notation.{I4, piece}
+use Rattle.lay_form.specs.Form.{Blank, Operator, Form, Done, Piece, Part, Docs, keyword, closer}
+use Rattle.lay_form.specs.Notation.{H, piece}
 use Rattle.lay_form.specs.Spelled.{attr_opening}
-use Rattle.lay_tree.specs.Words.{is_literal_kind}
+use Rattle.lay_tree.specs.nodes.Call.{is_group}
 use Rattle.lay_tree.specs.nodes.Facts.{Facts}
 use Rattle.lay_tree.specs.nodes.Path.{is_segments, path_form}
+use Rattle.lay_tree.specs.tokens.Lexed.{is_token_list}
+use Rattle.lay_tree.specs.tokens.Lists.{group_form, token_list}
+use Rattle.lay_tree.specs.tokens.Listing.{is_doc_text, is_line_doc}
 use Rattle.lay_tree.specs.declared.attr.Attr.{Attr}
 use Rattle.lay_tree.specs.declared.attr.Attr.TheVariants as attr
 use Rattle.lay_tree.specs.declared.attr.MetaInput.{MetaInput}
@@ -20,26 +20,20 @@ use Rattle.lay_tree.specs.declared.attr.MetaInput.TheVariants as input
 use Rattle.lay_tree.specs.declared.attr.MetaPath.{MetaPath}
 use Rattle.lay_tree.specs.declared.attr.MetaPath.TheVariants as meta_path
 use Rattle.lay_tree.specs.declared.path.Segment.{Segment}
-use Rattle.lay_tree.specs.declared.token.Literal.{Literal}
+use Rattle.lay_tree.specs.declared.token.Listed.{Listed}
+use Rattle.lay_tree.specs.declared.token.Listed.TheVariants as listed
 use Rattle.lay_tree.specs.declared.token.Word.{Word}
 
 -- ---- what is documentation
-
-abbrev pub has_form_of_doc : DocForm → Bool
-has_form_of_doc doc.Neither = false
-has_form_of_doc _ = true
-
--- The text is one that documentation can be written with.
-abbrev pub is_doc_text : Bool → List ℕ → Bool
-is_doc_text inner text = has_form_of_doc (doc_form inner text)
 
 abbrev pub is_doc_value : Bool → Option (List ℕ) → Bool
 is_doc_value inner None = false
 is_doc_value inner (Some value) = is_doc_text inner (encode_utf8_all value)
 
--- The literal is a string that documentation can be written with.
-abbrev pub is_doc_literal : Bool → Literal → Bool
-is_doc_literal inner literal = is_doc_value inner (value_of literal.kind (chars literal.text))
+-- the value of a token list that is one string alone
+abbrev pub string_of : List Listed → Option (List ℕ)
+string_of (listed.Token kind text joint ∷ []) = value_of kind (chars text)
+string_of _ = None
 
 abbrev pub is_doc_word : Word → Bool
 is_doc_word word = not word.raw && bytes_eq word.text (codes "doc")
@@ -54,8 +48,8 @@ is_doc_path (meta_path.Path path) = not path.global && is_doc_segments path.segm
 is_doc_path meta_path.Unsafe = false
 
 abbrev pub is_doc_input : Bool → MetaInput → Bool
-is_doc_input inner input.Bare = false
-is_doc_input inner (input.Value literal) = is_doc_literal inner literal
+is_doc_input inner (input.Value tokens) = is_doc_value inner (string_of tokens)
+is_doc_input inner _ = false
 
 -- ---- which attributes are well formed
 
@@ -63,9 +57,14 @@ abbrev pub is_meta_path : MetaPath → Bool
 is_meta_path (meta_path.Path path) = is_segments path.segments
 is_meta_path meta_path.Unsafe = true
 
+abbrev pub is_empty : List Listed → Bool
+is_empty [] = true
+is_empty (t ∷ ts) = false
+
 abbrev pub is_input : MetaInput → Bool
 is_input input.Bare = true
-is_input (input.Value literal) = is_literal_kind literal.kind
+is_input (input.Group group) = is_group group
+is_input (input.Value tokens) = not (is_empty tokens) && is_token_list tokens
 
 abbrev pub same_flag : Bool → Bool → Bool
 same_flag true other = other
@@ -89,12 +88,29 @@ meta_path_form meta_path.Unsafe = piece (keyword (codes "unsafe") ∷ [])
 
 abbrev pub input_form : MetaInput → Form → Form
 input_form input.Bare f = f
-input_form (input.Value literal) f = Piece (Blank ∷ Operator (codes "=") ∷ Blank ∷ []) (I4 (Leaf literal.kind literal.text Done) f)
+input_form (input.Group group) f = group_form group f
+input_form (input.Value tokens) f = Piece (Blank ∷ Operator (codes "=") ∷ Blank ∷ []) (Part (token_list tokens) f)
 
 abbrev pub attr_form : Attr → Form
 attr_form (attr.Doc inner text) = Docs inner text Done
 attr_form (attr.Meta inner path input) =
     Piece (attr_opening inner) (Part (meta_path_form path) (input_form input (piece (closer Bracket ∷ []))))
+
+-- An attribute within other parts, and what follows it: an inner one alone; an outer one on a line of its own where that
+-- is wanted or it is documentation on a line, and else with a blank behind it.
+abbrev pub is_line : Attr → Bool
+is_line (attr.Doc inner text) = is_line_doc (listed.Doc inner text)
+is_line (attr.Meta inner path input) = false
+
+abbrev pub is_inner : Attr → Bool
+is_inner (attr.Doc inner text) = inner
+is_inner (attr.Meta inner path input) = inner
+
+abbrev pub behind_attr : Bool → Attr → Form → Form
+behind_attr own_line a f = cond (is_inner a) f (cond (own_line || is_line a) (H f) (Piece (Blank ∷ []) f))
+
+abbrev pub attr_part : Bool → Attr → Form → Form
+attr_part own_line a f = Part (attr_form a) (behind_attr own_line a f)
 
 -- An inner attribute, or an outer one: it ends in its `]` or with its comment, so anything may follow.
 abbrev pub about_attr : Bool → Attr → Facts

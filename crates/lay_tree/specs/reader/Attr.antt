@@ -1,17 +1,17 @@
 -- Reading attributes.
 use Rattle.std.specs.Prelude.{ℕ, ◌&&◌, ◌||◌, Bool, true, false, if◌then◌else◌, List, [], ◌∷◌, drop, codes, encode_utf8_all, Option, Some, None}
-use Rattle.std.specs.Str.{chars}
+use Rattle.lay_token.specs.Delimiters.{is_opener}
 use Rattle.lay_token.specs.Operators.{is_op}
-use Rattle.lay_piece.specs.Value.{value_of}
 use Rattle.lay_piece.specs.declared.kind.Delim.TheVariants.{Bracket}
 use Rattle.lay_piece.specs.declared.kind.Kind.{Kind}
 use Rattle.lay_piece.specs.declared.kind.Kind.TheVariants.{Doc}
 use Rattle.lay_token.specs.declared.token.Token.{Token}
 use Rattle.lay_tree.specs.Ahead.{Tokens, first, tail, is_keyword, is_mark, opens, closes}
-use Rattle.lay_tree.specs.nodes.Attr.{is_doc_text, is_doc_path, same_flag}
+use Rattle.lay_tree.specs.nodes.Attr.{is_doc_path, is_empty, same_flag, string_of}
 use Rattle.lay_tree.specs.reader.Loops.{Got, ◌>>=◌, passed, repeat}
 use Rattle.lay_tree.specs.reader.Path.{path}
-use Rattle.lay_tree.specs.reader.Words.{literal}
+use Rattle.lay_tree.specs.reader.Tokens.{tokens, group}
+use Rattle.lay_tree.specs.tokens.Listing.{is_doc_text}
 use Rattle.lay_tree.specs.declared.attr.Attr.{Attr}
 use Rattle.lay_tree.specs.declared.attr.Attr.TheVariants as attr
 use Rattle.lay_tree.specs.declared.attr.MetaInput.{MetaInput}
@@ -19,15 +19,25 @@ use Rattle.lay_tree.specs.declared.attr.MetaInput.TheVariants as input
 use Rattle.lay_tree.specs.declared.attr.MetaPath.{MetaPath}
 use Rattle.lay_tree.specs.declared.attr.MetaPath.TheVariants as meta_path
 
+abbrev pub begins_group : Token → Bool
+begins_group t = is_opener t.kind
+
 unfoldable pub meta_name : Tokens → Got MetaPath
 meta_name ts =
     if first (is_keyword (codes "unsafe")) ts then Some (meta_path.Unsafe, tail ts)
     else (do p ← path ts; Some (meta_path.Path p.0, p.1))
 
+-- a token list of one token at least, behind the `=`
+unfoldable pub value : Tokens → Got MetaInput
+value ts = do us ← tokens (drop 1 ts); if is_empty us.0 then None else Some (input.Value us.0, us.1)
+
+abbrev pub grouped : Tokens → Got MetaInput
+grouped ts = do g ← group ts; Some (input.Group g.0, g.1)
+
 unfoldable pub meta_input : Tokens → Got MetaInput
 meta_input ts =
-    if is_op (codes "=") ts then (do l ← literal (drop 1 ts); Some (input.Value l.0, l.1))
-    else Some (input.Bare, ts)
+    if is_op (codes "=") ts then value ts
+    else (if first begins_group ts then grouped ts else Some (input.Bare, ts))
 
 -- documentation where the value can be written as such, and else another attribute
 abbrev pub doc_or : Bool → Option (List ℕ) → Attr → Attr
@@ -37,10 +47,10 @@ doc_or inner (Some value) other =
 
 -- the attribute of this name and input
 abbrev pub made : Bool → MetaPath → MetaInput → Attr
-made inner path input.Bare = attr.Meta inner path input.Bare
-made inner path (input.Value l) =
-    if is_doc_path path then doc_or inner (value_of l.kind (chars l.text)) (attr.Meta inner path (input.Value l))
-    else attr.Meta inner path (input.Value l)
+made inner path (input.Value us) =
+    if is_doc_path path then doc_or inner (string_of us) (attr.Meta inner path (input.Value us))
+    else attr.Meta inner path (input.Value us)
+made inner path given = attr.Meta inner path given
 
 -- what stands behind `#[`, or behind `#![` of an inner attribute
 abbrev pub behind_opening : Bool → Tokens → Option Tokens

@@ -1,13 +1,12 @@
--- Reading names, words and literals.
+-- Reading names and words.
 use Rattle.std.specs.Prelude.{ℕ, Bool, true, false, if◌then◌else◌, List, [], ◌∷◌, drop, codes, Option, Some, None, is_some}
 use Rattle.lay_token.specs.Operators.{is_op}
 use Rattle.lay_piece.specs.Word.{class_of}
 use Rattle.lay_piece.specs.declared.kind.Kind.{Kind}
 use Rattle.lay_piece.specs.declared.kind.Kind.TheVariants.{Ident, RawIdent}
 use Rattle.lay_tree.specs.Ahead.{Tokens}
-use Rattle.lay_tree.specs.Words.{is_plain, is_path_class, is_literal_kind}
+use Rattle.lay_tree.specs.Words.{is_plain, is_path_class}
 use Rattle.lay_tree.specs.reader.Loops.{Got, ◌>>=◌, repeat}
-use Rattle.lay_tree.specs.declared.token.Literal.{Literal}
 use Rattle.lay_tree.specs.declared.token.Name.{Name}
 use Rattle.lay_tree.specs.declared.token.Word.{Word}
 
@@ -28,10 +27,6 @@ word_by _ text = None
 unfoldable pub word : Tokens → Got Word
 word [] = None
 word (t ∷ ts) = do w ← word_by t.kind t.text; Some (w, ts)
-
-unfoldable pub literal : Tokens → Got Literal
-literal [] = None
-literal (t ∷ ts) = if is_literal_kind t.kind then Some (record { kind = t.kind; text = t.text }, ts) else None
 
 -- whether a `::` stands at the front, left behind
 abbrev pub global : Tokens → Bool × Tokens
