@@ -1,5 +1,3 @@
-pub mod FromText
-pub mod Grouped
 pub mod Lexed
 pub mod Neighbours
 pub mod Rows
