@@ -15,19 +15,16 @@ use Rattle.lay_token.proofs.Deciding.{punct_is, bytes_same, bytes_self}
 use Rattle.lay_form.specs.Spelled.{IsOne, IsOperator}
 use Rattle.lay_form.proofs.FormLaws.{IsEnd}
 use Rattle.lay_tree.specs.Ahead.{Tokens, first, tail, is_ident, is_keyword, is_mark, same_delim, is_opener, is_closer, opens, closes}
-use Rattle.lay_tree.specs.reader.Exact.{only_text, IsText, HaveTexts}
+use Rattle.lay_tree.specs.reader.Exact.{InText}
 use Rattle.lay_tree.specs.reader.Loops.{passed}
+use Rattle.lay_tree.proofs.InText.{only_text, IsText, behind_all, text_one}
 use Rattle.lay_tree.proofs.Steps.{chosen}
 
--- ---- texts
+-- ---- what is left
 
-without : (before rest : Tokens) → HaveTexts (before ++ rest) → HaveTexts rest
-without [] rest h = h
-without (t ∷ before) rest h = without before rest h.1
-
--- Tokens have their texts where they end ones that have.
-pub texts_behind : (ts rest : Tokens) → IsEnd rest ts → HaveTexts ts → HaveTexts rest
-texts_behind ts rest e h = without e.before rest (subst HaveTexts e.whole h)
+-- Tokens stand in a text where they end ones that do.
+pub texts_behind : (ts rest : Tokens) → IsEnd rest ts → InText ts → InText rest
+texts_behind ts rest e h = behind_all e.before rest (subst InText e.whole h)
 
 pub end_shorter : (ts rest : Tokens) → IsEnd rest ts → length rest ≤ length ts
 end_shorter ts rest e = omega (arith, ap length e.whole, length-append e.before rest)
@@ -65,15 +62,15 @@ mark_one character [] h = absurd (cc)
 mark_one character (t ∷ ts) h =
     let b = and_parts (is_punct t.kind) (bytes_eq t.text character) h in (punct_is t.kind b.0, bytes_same t.text character b.1, refl)
 
-pub opens_one : (d : Delim) (ts : Tokens) → HaveTexts ts → first (opens d) ts ≡ true → IsOne (Opener d) (opening d ∷ []) ts (tail ts)
+pub opens_one : (d : Delim) (ts : Tokens) → InText ts → first (opens d) ts ≡ true → IsOne (Opener d) (opening d ∷ []) ts (tail ts)
 opens_one d [] p h = absurd (cc)
 opens_one d (t ∷ ts) p h =
-    let k = opener_kind d t.kind h in (k, only_one (Opener d) t.kind (opening d ∷ []) t.text k refl p.0, refl)
+    let k = opener_kind d t.kind h in (k, only_one (Opener d) t.kind (opening d ∷ []) t.text k refl (text_one t ts p), refl)
 
-pub closes_one : (d : Delim) (ts : Tokens) → HaveTexts ts → first (closes d) ts ≡ true → IsOne (Closer d) (closing d ∷ []) ts (tail ts)
+pub closes_one : (d : Delim) (ts : Tokens) → InText ts → first (closes d) ts ≡ true → IsOne (Closer d) (closing d ∷ []) ts (tail ts)
 closes_one d [] p h = absurd (cc)
 closes_one d (t ∷ ts) p h =
-    let k = closer_kind d t.kind h in (k, only_one (Closer d) t.kind (closing d ∷ []) t.text k refl p.0, refl)
+    let k = closer_kind d t.kind h in (k, only_one (Closer d) t.kind (closing d ∷ []) t.text k refl (text_one t ts p), refl)
 
 passed_first : (p : Token → Bool) (ts rest : Tokens) → passed p ts ≡ Some rest → (first p ts ≡ true) × (tail ts ≡ rest)
 passed_first p ts rest h =
@@ -86,11 +83,11 @@ pub mark_passed_is : (character : List ℕ) (ts rest : Tokens) → passed (is_ma
 mark_passed_is character ts rest h =
     let f = passed_first (is_mark character) ts rest h in subst (IsOne Punct character ts) f.1 (mark_one character ts f.0)
 
-pub opener_passed_is : (d : Delim) (ts rest : Tokens) → HaveTexts ts → passed (opens d) ts ≡ Some rest → IsOne (Opener d) (opening d ∷ []) ts rest
+pub opener_passed_is : (d : Delim) (ts rest : Tokens) → InText ts → passed (opens d) ts ≡ Some rest → IsOne (Opener d) (opening d ∷ []) ts rest
 opener_passed_is d ts rest t h =
     let f = passed_first (opens d) ts rest h in subst (IsOne (Opener d) (opening d ∷ []) ts) f.1 (opens_one d ts t f.0)
 
-pub closer_passed_is : (d : Delim) (ts rest : Tokens) → HaveTexts ts → passed (closes d) ts ≡ Some rest → IsOne (Closer d) (closing d ∷ []) ts rest
+pub closer_passed_is : (d : Delim) (ts rest : Tokens) → InText ts → passed (closes d) ts ≡ Some rest → IsOne (Closer d) (closing d ∷ []) ts rest
 closer_passed_is d ts rest t h =
     let f = passed_first (closes d) ts rest h in subst (IsOne (Closer d) (closing d ∷ []) ts) f.1 (closes_one d ts t f.0)
 

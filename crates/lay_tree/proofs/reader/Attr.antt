@@ -19,7 +19,7 @@ use Rattle.lay_tree.specs.Words.{leaf_of, colons, is_literal_kind}
 use Rattle.lay_tree.specs.nodes.Attr.{is_doc_text, is_doc_segments, is_doc_path, is_doc_input, is_meta_path, is_input, same_flag, is_attr, are_attrs, meta_path_form, input_form, attr_form, about_attr}
 use Rattle.lay_tree.specs.nodes.Path.{segments_form}
 use Rattle.lay_tree.specs.reader.Attr.{meta_name, meta_input, doc_or, made, behind_opening, meta_attr, is_doc_kind, is_doc, doc_attr, attribute, begins_attr, attributes}
-use Rattle.lay_tree.specs.reader.Exact.{HaveTexts}
+use Rattle.lay_tree.specs.reader.Exact.{InText}
 use Rattle.lay_tree.specs.reader.Loops.{Got, ◌>>=◌, passed}
 use Rattle.lay_tree.specs.reader.Path.{path as path_reading}
 use Rattle.lay_tree.specs.reader.Words.{literal}
@@ -41,7 +41,7 @@ use Rattle.lay_tree.proofs.reader.Words.{literal_sound}
 
 -- ---- what an attribute is called, and what it is given
 
-meta_name_sound : (depth : ℕ) (ts : Tokens) (path : MetaPath) (rest : Tokens) → HaveTexts ts → meta_name ts ≡ Some (path, rest)
+meta_name_sound : (depth : ℕ) (ts : Tokens) (path : MetaPath) (rest : Tokens) → InText ts → meta_name ts ≡ Some (path, rest)
     → Spells (meta_path_form path) depth ts rest × (is_meta_path path ≡ true)
 unfolding meta_name
 meta_name_sound depth ts path rest t h =
@@ -85,7 +85,7 @@ input_good : (given : MetaInput) (ts mid : Tokens) → InputIs given ts mid → 
 input_good input.Bare ts mid i = refl
 input_good (input.Value l) ts mid i = i.2
 
-input_texts : (given : MetaInput) (ts mid : Tokens) → InputIs given ts mid → HaveTexts ts → HaveTexts mid
+input_texts : (given : MetaInput) (ts mid : Tokens) → InputIs given ts mid → InText ts → InText mid
 input_texts given ts mid i t = texts_behind ts mid (is_end (input_form given Done) 0 ts mid (input_spelled given Done 0 ts mid mid i refl)) t
 
 -- ---- documentation that is spelled as an attribute
@@ -179,7 +179,7 @@ module _ (inner : Bool) (depth : ℕ) (ts rest : Tokens) where
 
 -- ---- attributes, one and many
 
-opening_sound : (inner : Bool) (ts inside : Tokens) → HaveTexts ts → behind_opening inner ts ≡ Some inside → AreBits (attr_opening inner) ts inside
+opening_sound : (inner : Bool) (ts inside : Tokens) → InText ts → behind_opening inner ts ≡ Some inside → AreBits (attr_opening inner) ts inside
 opening_sound false ts inside t h =
     let b = bind_some (passed (is_mark (codes "#")) ts) (λ mark. passed (opens Bracket) mark) inside h in
     let hash = mark_passed_is (codes "#") ts b.0 b.1 in
@@ -193,7 +193,7 @@ opening_sound true ts inside t h =
     let left = texts_behind b.0 c.0 (one_end Punct (codes "!") b.0 c.0 bang) (texts_behind ts b.0 (one_end Punct (codes "#") ts b.0 hash) t) in
     (b.0, hash, (c.0, bang, (inside, opener_passed_is Bracket c.0 inside left c.2, refl)))
 
-meta_attr_sound : (inner : Bool) (depth : ℕ) (ts : Tokens) (a : Attr) (rest : Tokens) → HaveTexts ts → meta_attr inner ts ≡ Some (a, rest)
+meta_attr_sound : (inner : Bool) (depth : ℕ) (ts : Tokens) (a : Attr) (rest : Tokens) → InText ts → meta_attr inner ts ≡ Some (a, rest)
     → GoodAt (about_attr inner) depth a ts rest
 unfolding meta_attr
 meta_attr_sound inner depth ts a rest t h =
@@ -229,7 +229,7 @@ doc_attr_sound inner depth (t ∷ ts) a rest d h =
       | inr g ↦ absurd (cc)
     ]
 
-pub attribute_sound : (inner : Bool) (depth : ℕ) (ts : Tokens) (a : Attr) (rest : Tokens) → HaveTexts ts → attribute inner ts ≡ Some (a, rest)
+pub attribute_sound : (inner : Bool) (depth : ℕ) (ts : Tokens) (a : Attr) (rest : Tokens) → InText ts → attribute inner ts ≡ Some (a, rest)
     → GoodAt (about_attr inner) depth a ts rest
 unfolding attribute
 attribute_sound inner depth ts a rest t h =
@@ -238,13 +238,13 @@ attribute_sound inner depth ts a rest t h =
       | inr g ↦ meta_attr_sound inner depth ts a rest t g.1
     ]
 
-attribute_turn : (inner : Bool) (depth : ℕ) (ts : Tokens) (a : Attr) (rest : Tokens) → HaveTexts ts → attribute inner ts ≡ Some (a, rest)
-    → GoodAt (about_attr inner) depth a ts rest × HaveTexts rest
+attribute_turn : (inner : Bool) (depth : ℕ) (ts : Tokens) (a : Attr) (rest : Tokens) → InText ts → attribute inner ts ≡ Some (a, rest)
+    → GoodAt (about_attr inner) depth a ts rest × InText rest
 attribute_turn inner depth ts a rest t h =
     let s = attribute_sound inner depth ts a rest t h in (s, texts_behind ts rest (is_end (attr_form a) depth ts rest s.0) t)
 
-pub attributes_sound : (inner : Bool) (depth : ℕ) (ts : Tokens) (attrs : List Attr) (rest : Tokens) → HaveTexts ts → attributes inner ts ≡ Some (attrs, rest)
-    → Rows (GoodAt (about_attr inner) depth) attrs ts rest × HaveTexts rest
+pub attributes_sound : (inner : Bool) (depth : ℕ) (ts : Tokens) (attrs : List Attr) (rest : Tokens) → InText ts → attributes inner ts ≡ Some (attrs, rest)
+    → Rows (GoodAt (about_attr inner) depth) attrs ts rest × InText rest
 unfolding attributes
 attributes_sound inner depth ts attrs rest t h =
     let r = repeat_sound (begins_attr inner) (attribute inner) (GoodAt (about_attr inner) depth)

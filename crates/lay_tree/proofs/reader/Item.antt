@@ -14,7 +14,7 @@ use Rattle.lay_tree.specs.nodes.Facts.{forms, all_good}
 use Rattle.lay_tree.specs.nodes.Item.{kind_form, kind_good, about_item, about_kind}
 use Rattle.lay_tree.specs.nodes.Use.{about_use}
 use Rattle.lay_tree.specs.reader.Attr.{attributes}
-use Rattle.lay_tree.specs.reader.Exact.{HaveTexts}
+use Rattle.lay_tree.specs.reader.Exact.{InText}
 use Rattle.lay_tree.specs.reader.Item.{more_items, items_by, struct_item, module_by, import_by, kind_by, item_by, item_at}
 use Rattle.lay_tree.specs.reader.Loops.{Read, ◌>>=◌, passed, nodes, deepest}
 use Rattle.lay_tree.specs.reader.Use.{use_at}
@@ -45,7 +45,7 @@ head_spelled word n depth ts named mid k o = (named, (named, k, (named, refl, re
 
 -- What an item is, is read behind its keyword.
 abbrev SoundBehind : List ℕ → ℕ → (Tokens → Read ItemKind) → Type 0
-SoundBehind word budget read = (ts named : Tokens) (kind : ItemKind) (need : ℕ) (rest : Tokens) → IsOne Ident word ts named → HaveTexts named
+SoundBehind word budget read = (ts named : Tokens) (kind : ItemKind) (need : ℕ) (rest : Tokens) → IsOne Ident word ts named → InText named
     → read named ≡ Some ((kind, need), rest) → (need ≤ budget) × Stands (about_kind kind) need ts rest
 
 -- what was found is what is handed back
@@ -127,7 +127,7 @@ module _ (budget : ℕ) (within : Tokens → Read Item) (tree : Tokens → Read 
   kind_sound ts kind need rest t h =
       let behind = tail ts in
       let is : List ℕ → Bool = λ word. first (is_keyword word) ts in
-      let left : (word : List ℕ) → IsOne Ident word ts behind → HaveTexts behind = λ word k. texts_behind ts behind (one_end Ident word ts behind k) t in
+      let left : (word : List ℕ) → IsOne Ident word ts behind → InText behind = λ word k. texts_behind ts behind (one_end Ident word ts behind k) t in
       let imported : Read ItemKind = if is (codes "use") then import_by tree behind else None in
       elim (chosen (is (codes "struct")) (struct_item behind) (if is (codes "mod") then module_by within behind else imported) (Some ((kind, need), rest)) h) [
         | inl g ↦

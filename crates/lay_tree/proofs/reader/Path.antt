@@ -11,7 +11,7 @@ use Rattle.lay_tree.specs.Follow.{OfColons, may_follow}
 use Rattle.lay_tree.specs.Words.{is_path_word, colons}
 use Rattle.lay_tree.specs.nodes.Facts.{Front}
 use Rattle.lay_tree.specs.nodes.Path.{are_segments, is_segments, segments_form, path_form, about_path}
-use Rattle.lay_tree.specs.reader.Exact.{HaveTexts, Exact, needless}
+use Rattle.lay_tree.specs.reader.Exact.{InText, Exact, needless}
 use Rattle.lay_tree.specs.reader.Loops.{Got, ◌>>=◌, repeat}
 use Rattle.lay_tree.specs.reader.Path.{segment, begins_colons, further_segment, path}
 use Rattle.lay_tree.specs.reader.Words.{word, global}
@@ -50,7 +50,7 @@ segment_read : (s : Segment) (ts rest : Tokens) → IsSegment s ts rest → good
 unfolding segment
 segment_read s ts rest o g = rw (word_complete s.word ts rest (o, g)) refl
 
-segment_texts : (s : Segment) (ts rest : Tokens) → IsSegment s ts rest → HaveTexts ts → HaveTexts rest
+segment_texts : (s : Segment) (ts rest : Tokens) → IsSegment s ts rest → InText ts → InText rest
 segment_texts s ts rest o t = texts_behind ts rest (one_end (word_kind s.word.raw) s.word.text ts rest o) t
 
 -- ---- what is read is spelled
@@ -70,7 +70,7 @@ segments_spelled s (t ∷ more) depth ts at rest o r =
     leaf_spelled s.word.raw s.word.text (Piece colons (segments_form (t ∷ more) Done)) depth ts at rest o
     (row.0, (row.0, row.1, refl), segments_spelled t more depth row.0 r.0 rest row.2 r.2)
 
-path_stands : (ts : Tokens) (p : Path) (rest : Tokens) → HaveTexts ts → path ts ≡ Some (p, rest) → Stands (about_path p) 0 ts rest
+path_stands : (ts : Tokens) (p : Path) (rest : Tokens) → InText ts → path ts ≡ Some (p, rest) → Stands (about_path p) 0 ts rest
 unfolding path
 path_stands ts p rest t h =
     let leads = (global ts).0 in
@@ -89,7 +89,7 @@ path_stands ts p rest t h =
     (spelled, good, follows)
 
 -- A path is spelled, and no `::` follows.
-pub path_sound : (depth : ℕ) (ts : Tokens) (p : Path) (rest : Tokens) → HaveTexts ts → path ts ≡ Some (p, rest) → Stands (about_path p) depth ts rest
+pub path_sound : (depth : ℕ) (ts : Tokens) (p : Path) (rest : Tokens) → InText ts → path ts ≡ Some (p, rest) → Stands (about_path p) depth ts rest
 path_sound depth ts p rest t h =
     let s = path_stands ts p rest t h in (deeper (path_form p) 0 depth ts rest (omega arith) s.0, s.1, s.2)
 

@@ -6,6 +6,7 @@ use Rattle.std.specs.List.{list_all, list_any}
 use Rattle.std.specs.Str.{chars, encode_utf8_all, is_utf8, bytes_eq}
 use Rattle.std.proofs.lemmas.Bool.{and_parts, and_from, cases_Bool, both_ways, eqb-true, ltb-true, not-true}
 use Rattle.std.proofs.lemmas.List.{map-append}
+use Rattle.std.proofs.lemmas.List.Folds.{list_all-append}
 use Rattle.std.proofs.lemmas.Slice.Eq.{bytes_eq-Decides}
 use Rattle.std.proofs.lemmas.Str.{chars-encodes, encode_ascii, scalars-chars}
 use lib.Utf8.{scalars}
@@ -23,7 +24,7 @@ use Rattle.lay_form.specs.Pieces.{is_text_of}
 use Rattle.lay_tree.specs.tokens.Lexed.{is_had, is_joinable, may_join, fits, ends_apart}
 use Rattle.lay_tree.specs.tokens.Listing.{listed_by, as_listed}
 use Rattle.lay_tree.specs.tokens.Pairs.{Neighbour, Nothing, Single, is_mark, is_joint_mark, is_joint_neighbour, is_punct_neighbour, is_index_place}
-use Rattle.lay_tree.specs.reader.Exact.{InText}
+use Rattle.lay_tree.specs.reader.Exact.{is_loose, InText}
 use Rattle.lay_tree.specs.declared.token.Listed.{Listed}
 use Rattle.lay_tree.proofs.LexedPieces.{had_form, raw_again, piece_text}
 use Rattle.lay_tree.proofs.Scalars.{scalars_drop, text_utf8}
@@ -383,10 +384,21 @@ nothing_before (q ∷ qs) = ((λ joint e. cc), (λ d e. cc))
 at_front : (ps : List Part) → Stands Nothing Nothing Other ps
 at_front ps = record { place = refl; point = refl; next = nothing_before ps }
 
+parts_loose : (ps : List Part) (at : ℕ) → list_all is_loose (tokens_from at ps) ≡ true
+parts_loose [] at = refl
+parts_loose (p ∷ ps) at =
+    and_from (is_punct p.kind || not (lexed.is_joint p ps)) _
+    (one (is_punct p.kind) (lexed.is_joint p ps) (loose p ps)) (parts_loose ps ((at + size p.gap) + size p.piece))
+  where
+    one : (a j : Bool) → (a ≡ false → j ≡ false) → a || not j ≡ true
+    one true j h = refl
+    one false j h = ap not (h refl)
+
 -- The tokens of a text fit, and the last isn't joint.
 pub record Row (ts : List Token) : Type 0 where
   pub fit : fits Nothing Nothing (map as_listed ts) ≡ true
   pub apart : ends_apart Nothing (map as_listed ts) ≡ true
+  pub loose : list_all is_loose ts ≡ true
 
 pub text_row : (bytes : List ℕ) (start : ℕ) (tokens : List Token) → IsUtf8 (drop start bytes) → Lexes bytes start tokens
     → Row tokens
@@ -397,6 +409,7 @@ text_row bytes start tokens u l =
           ∙ parts_fit Nothing Nothing Other l.0 l.1 start l.2.fit fine (at_front l.0);
       apart = ap (λ ts. ends_apart Nothing (map as_listed ts)) l.3
           ∙ parts_end Nothing Other l.0 l.1 start l.2.fit (nothing_before l.0);
+      loose = ap (list_all is_loose) l.3 ∙ parts_loose l.0 start;
     }
 
 -- ---- a part of the tokens
@@ -431,4 +444,8 @@ in_text bytes start before tokens behind u l =
     (ap (fits Nothing Nothing) (sym (map-append as_listed before (tokens ++ behind))) ∙ row.fit) in
     let b = two_rows a.before_back a.last_front (map as_listed tokens) (map as_listed behind)
     (ap (fits a.before_back a.last_front) (sym (map-append as_listed tokens behind)) ∙ a.back) in
-    record { before = a.before_back; last = a.last_front; fit = b.front }
+    let c = and_parts (list_all is_loose before) (list_all is_loose (tokens ++ behind))
+    (sym (list_all-append is_loose before (tokens ++ behind)) ∙ row.loose) in
+    let d = and_parts (list_all is_loose tokens) (list_all is_loose behind)
+    (sym (list_all-append is_loose tokens behind) ∙ c.1) in
+    record { before = a.before_back; last = a.last_front; fit = b.front; loose = d.0 }
