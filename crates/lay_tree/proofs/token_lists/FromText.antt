@@ -31,6 +31,10 @@ use Rattle.lay_tree.proofs.Scalars.{scalars_drop, text_utf8}
 
 -- ---- a piece that is had is had where nothing follows
 
+and_false : (b : Bool) → b && false ≡ false
+and_false true = refl
+and_false false = refl
+
 stops : (bare : Bool) → literal_may_stop bare [] ≡ true
 stops true = refl
 stops false = refl
@@ -42,20 +46,12 @@ last_may RawIdent x = refl
 last_may Underscore x = refl
 last_may Lifetime x = refl
 last_may Int x = ap not (and_false (is_bare_int x))
-  where
-    and_false : (b : Bool) → b && false ≡ false
-    and_false true = refl
-    and_false false = refl
 last_may Float x = either (ends_in_point x)
   where
     either : (b : Bool) → cond b true true ≡ true
     either true = refl
     either false = refl
 last_may Punct x = ap not (and_false (begins (λ c. c == 47) x))
-  where
-    and_false : (b : Bool) → b && false ≡ false
-    and_false true = refl
-    and_false false = refl
 last_may (Opener d) x = refl
 last_may (Closer d) x = refl
 last_may (Doc inner true) x = refl
@@ -75,10 +71,6 @@ digits_end (c ∷ x) h = let q = and_parts (is_ascii_digit c) _ h in
 no_float : (x : List ℕ) → list_all is_ascii_digit x ≡ true → is_float x ≡ false
 no_float x h = ap (λ r. begins is_ascii_digit x && is_decimal (base_of x) && is_float_tail r) (digits_end x h)
     ∙ and_false (begins is_ascii_digit x && is_decimal (base_of x))
-  where
-    and_false : (b : Bool) → b && false ≡ false
-    and_false true = refl
-    and_false false = refl
 
 no_number : (k : Kind) (x y : List ℕ) → is_number_kind k ≡ true → list_all is_ascii_digit x ≡ true
     → begins in_word y ≡ true → has_form k x && may_precede k x y ≡ false
