@@ -1,5 +1,6 @@
 pub mod Lexed
 pub mod Neighbours
 pub mod Rows
+pub mod Table
 pub mod TokenLists
 pub mod Within
