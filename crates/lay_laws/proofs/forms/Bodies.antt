@@ -169,7 +169,8 @@ comma_text v h last like x sep =
     (go_text (44 ∷ []) (44 ∷ []) h v x (beyond h comma) false (low_encodes (44 ∷ []) refl) refl
     (λ e c. piece_does v h comma e sep c))
 
-pub comma_mark : (v : Bool) (h : Border) (last like : Bool) (x : State) → pass h comma && under (beyond h comma) plain ≡ true
+pub comma_mark : (v : Bool) (h : Border) (last like : Bool) (x : State)
+    → pass h comma && under (beyond h comma) plain ≡ true
     → Goes (IsBehind (ArmComma last like) 0) h v x plain false (skip (closing_break (ArmComma last like)) x)
 comma_mark v h last like x fit =
     let a = and_parts (pass h comma) _ fit in
@@ -194,7 +195,8 @@ loosened_under h = at h.spot
     at Clear = refl
     at Unsure = refl
 
-pub marked_body : (v : Bool) (i : Form) (behind : Behind) (b g h c : Border) (w : Bool) (d : ℕ) (fr : Frame) (s m : State)
+pub marked_body : (v : Bool) (i : Form) (behind : Behind) (b g h c : Border) (w : Bool) (d : ℕ) (fr : Frame)
+    (s m : State)
     → ((k : ℕ) × (fr ≡ Broken true k)) ⊎ (fr ≡ Flat) → 1 ≤ d → under b g ≡ true → braces_pass b g h ≡ true
     → under plain c ≡ true
     → ((x : State) → Goes (IsBehind behind 0) h (ends_behind_point v i) x c w (skip (closing_break behind) x))

@@ -43,7 +43,8 @@ known_turns (At Points) = refl
 known_turns Clear = refl
 known_turns Unsure = tt
 
-pub go_loose : (b : Border) (v : Bool) (s : State) → Goes Same b v s (record { needs = b.needs; spot = loosen b.spot }) v s
+pub go_loose : (b : Border) (v : Bool) (s : State)
+    → Goes Same b v s (record { needs = b.needs; spot = loosen b.spot }) v s
 go_loose b v s e covers waits = record {
   at = e;
   added = [];

@@ -136,7 +136,8 @@ piece_goes v b p s h = at (full p) refl (and_parts (stands p) _ h).0
     at true f g =
         let passes = (and_parts (stands p) _ h).1 in
         let low = bits_low (led v p) b passes in
-        subst (λ m. Goes (AreBits p) b v s (beyond b (led v p)) (bits_end_in_point v p) m) (written x s (led_full v p f))
+        subst (λ m. Goes (AreBits p) b v s (beyond b (led v p)) (bits_end_in_point v p) m)
+        (written x s (led_full v p f))
         (go_text x x b v s (beyond b (led v p)) (bits_end_in_point v p) (low_encodes x low) (low_clean x low)
         (λ e covers. piece_does v b p e (and_from (full p) _ f passes) covers))
     at false f g = dropped_goes v b p s g
