@@ -29,7 +29,7 @@ abbrev pub IsText : Option (List ℕ) → List ℕ → Type 0
 IsText None text = Unit {0}
 IsText (Some only) text = text ≡ only
 
-pub behind : (t : Token) (ts : Tokens) → InText (t ∷ ts) → InText ts
+abbrev pub behind : (t : Token) (ts : Tokens) → InText (t ∷ ts) → InText ts
 behind t ts i =
     let may = not (is_joint_neighbour i.last) || may_join i.last (Single (as_listed t)) in
     record {

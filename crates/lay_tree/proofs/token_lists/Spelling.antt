@@ -88,7 +88,7 @@ closer_row : (d : Delim) (ts mid : Tokens) → IsOne (Closer d) (closing d ∷ [
 closer_row d [] mid o = o
 closer_row d (t ∷ ts) mid o = ((λ v. listed_by (o.0 v) (o.1 v) t.joint), o.2)
 
-opener_one : (d : Delim) (t : Token) (ts : Tokens) → as_listed t ≡ opener_token d → IsOne (Opener d) (opening d ∷ []) (t ∷ ts) ts
+pub opener_one : (d : Delim) (t : Token) (ts : Tokens) → as_listed t ≡ opener_token d → IsOne (Opener d) (opening d ∷ []) (t ∷ ts) ts
 opener_one d t ts e = by t.kind refl
   where
     by : (k : Kind) → t.kind ≡ k → IsOne (Opener d) (opening d ∷ []) (t ∷ ts) ts
@@ -96,7 +96,7 @@ opener_one d t ts e = by t.kind refl
     by k i = let f : listed_by k t.text t.joint ≡ opener_token d = sym (ap (λ z. listed_by z t.text t.joint) i) ∙ e in
         (i ∙ ap kind_of f, ap text_of f, refl)
 
-closer_one : (d : Delim) (t : Token) (ts : Tokens) → as_listed t ≡ closer_token d → IsOne (Closer d) (closing d ∷ []) (t ∷ ts) ts
+pub closer_one : (d : Delim) (t : Token) (ts : Tokens) → as_listed t ≡ closer_token d → IsOne (Closer d) (closing d ∷ []) (t ∷ ts) ts
 closer_one d t ts e = by t.kind refl
   where
     by : (k : Kind) → t.kind ≡ k → IsOne (Closer d) (closing d ∷ []) (t ∷ ts) ts
@@ -145,7 +145,7 @@ inside_spelled false Paren x n ts mid rest s o = (mid, s, (rest, (rest, o, refl)
 inside_spelled false Bracket x n ts mid rest s o = (mid, s, (rest, (rest, o, refl), refl))
 inside_spelled false Brace x n ts mid rest s o = (mid, s, (rest, (rest, o, refl), refl))
 
-abbrev grouped_tokens : Delim → Grouping → List Listed
+abbrev pub grouped_tokens : Delim → Grouping → List Listed
 grouped_tokens d i = opener_token d ∷ (flat i ++ closer_token d ∷ [])
 
 split : (d : Delim) (i r : Grouping) → grouped_tokens d i ++ flat r ≡ flat (OneGroup d i r)
