@@ -1,19 +1,19 @@
 -- Tokens that stand in a row in what a text lexes to: what is behind some of them stands so too, and each token whose
 -- kind has one text has this one.
-use Rattle.std.proofs.Common.{◌≡◌, ℕ, ◌<◌, Bool, true, false, List, [], ◌∷◌, ◌++◌, not, ◌&&◌, ◌||◌, codes, map, Option, None, Some, refl, sym, ap, ◌∙◌, subst, arith}
+use Rattle.std.proofs.Common.{◌≡◌, ℕ, Bool, true, false, List, [], ◌∷◌, ◌++◌, not, ◌&&◌, ◌||◌, codes, Option, None, Some, refl, sym, ap, ◌∙◌, subst, arith}
 use Rattle.std.specs.Prelude.{◌==◌, encode_utf8_all}
 use Rattle.std.specs.List.{list_all}
 use Rattle.std.specs.Str.{chars, is_utf8}
 use Rattle.std.proofs.lemmas.Bool.{and_parts, eqb-true}
 use Rattle.std.proofs.lemmas.Str.{encode_ascii, encodes-chars, IsUtf8-from_is_utf8}
 use Rattle.lay_token.specs.Chars.{is_lone_underscore}
-use Rattle.lay_token.specs.Forms.{had, has_form, may_precede, is_one, opening, closing}
+use Rattle.lay_token.specs.Forms.{had, has_form, may_precede, opening, closing}
 use Rattle.lay_token.specs.declared.token.Kind.{Kind}
 use Rattle.lay_token.specs.declared.token.Kind.TheVariants.{Underscore, Opener, Closer}
 use Rattle.lay_token.specs.declared.token.Token.{Token}
 use Rattle.lay_tree.specs.Ahead.{Tokens}
 use Rattle.lay_tree.specs.reader.Exact.{is_loose, InText}
-use Rattle.lay_tree.specs.tokens.Lexed.{is_had, may_join, fits}
+use Rattle.lay_tree.specs.tokens.Lexed.{is_had, may_join}
 use Rattle.lay_tree.specs.tokens.Listing.{kind_of, text_of, as_listed, listed_by}
 use Rattle.lay_tree.specs.tokens.Pairs.{Single, is_joint_neighbour, is_index_place}
 use Rattle.lay_tree.proofs.token_lists.Grouped.{IsDelimiter, text_delimiters}

@@ -12,7 +12,7 @@ use Rattle.lay_token.specs.declared.token.Kind.{Kind}
 use Rattle.lay_token.specs.declared.token.Kind.TheVariants.{Ident, Punct, Closer, Doc}
 use Rattle.lay_token.specs.declared.token.Token.{Token}
 use Rattle.lay_token.proofs.Deciding.{bytes_same}
-use Rattle.lay_form.specs.Form.{Operator, Form, Done, keyword, closer}
+use Rattle.lay_form.specs.Form.{Operator, Done, keyword, closer}
 use Rattle.lay_form.specs.Notation.{piece, when}
 use Rattle.lay_form.specs.Spelled.{IsOne, IsString, AreBits, attr_opening, Spells}
 use Rattle.lay_form.proofs.FormLaws.{one_end, bits_end, is_end}
@@ -140,8 +140,7 @@ input_sound (input.Value us) depth ts mid rest t i c = by mid i.2 c
         let good = list_good (drop 1 ts) us last end j.0 j.1 (ap is_closer c.0) l in
         let row = list_row_of (drop 1 ts) us (last ∷ end) l in
         let inner = list_spelled us (at_start 0) depth (drop 1 ts) (last ∷ end) good j.0.loose row in
-        let list : Spells (token_list us) depth (drop 1 ts) (last ∷ end) = (last ∷ end, inner, ended (ends_in_line us) depth (last ∷ end)) in
-        (
+        let list : Spells (token_list us) depth (drop 1 ts) (last ∷ end) = (last ∷ end, inner, ended (ends_in_line us) depth (last ∷ end)) in (
           (drop 1 ts, (ts, refl, (drop 1 ts, (i.0, refl), (drop 1 ts, refl, refl))), (last ∷ end, list, bit_piece (closer Bracket) depth (last ∷ end) rest c)),
           and_from (not (is_empty us)) (is_token_list us) (ap not i.1) good,
         )

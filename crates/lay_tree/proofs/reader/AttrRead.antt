@@ -1,28 +1,24 @@
 -- Attributes: what is spelled, and well formed, is read.
 use Rattle.std.proofs.Common.{◌≡◌, ℕ, ◌<◌, ◌≤◌, Bool, true, false, not, ◌&&◌, List, [], ◌∷◌, length, codes, ◌⊎◌, inl, inr, Option, Some, None, if◌then◌else◌, refl, ap, subst, ◌∙◌, arith}
 use Rattle.std.specs.Prelude.{encode_utf8_all}
-use Rattle.std.specs.Str.{chars, bytes_eq}
-use Rattle.std.proofs.lemmas.Bool.{and_parts, not-true, false_from_ne_true}
+use Rattle.std.specs.Str.{chars}
+use Rattle.std.proofs.lemmas.Bool.{and_parts, not-true}
 use Rattle.lay_token.specs.Forms.{opening, closing}
 use Rattle.lay_token.specs.Delimiters as delimiters
 use Rattle.lay_token.specs.Lexes.{is_punct}
 use Rattle.lay_token.specs.Operators.{is_op}
 use Rattle.lay_token.specs.Value.{value_of}
-use Rattle.lay_token.specs.Word.{class_of}
 use Rattle.lay_token.specs.declared.token.Delim.TheVariants.{Bracket, Brace}
 use Rattle.lay_token.specs.declared.token.Kind.{Kind}
-use Rattle.lay_token.specs.declared.token.Kind.TheVariants.{Ident, RawIdent, Str, RawStr, Punct, Opener, Closer, Doc}
+use Rattle.lay_token.specs.declared.token.Kind.TheVariants.{Ident, Str, RawStr, Punct, Opener, Closer, Doc}
 use Rattle.lay_token.specs.declared.token.Token.{Token}
-use Rattle.lay_token.proofs.Deciding.{bytes_same}
-use Rattle.lay_form.specs.Form.{Blank, Operator, Done, keyword, opener, closer}
-use Rattle.lay_form.specs.Notation.{piece, when}
+use Rattle.lay_form.specs.Form.{Blank, Operator, keyword, opener, closer}
+use Rattle.lay_form.specs.Notation.{piece}
 use Rattle.lay_form.specs.Spelled.{IsOne, IsOperator, IsComment, IsString, IsDocAttr, IsDoc, AreBits, attr_opening, Spells}
 use Rattle.lay_form.proofs.FormLaws.{bits_end, shorter, string_end}
-use Rattle.lay_tree.specs.Ahead.{Tokens, first, is_keyword, is_closer}
-use Rattle.lay_tree.specs.Words.{colons, is_path_class, is_path_word}
+use Rattle.lay_tree.specs.Ahead.{Tokens, first, is_closer}
 use Rattle.lay_tree.specs.nodes.Attr.{string_of, is_empty, is_doc_value, is_doc_path, is_doc_input, is_meta_path, is_input, same_flag, meta_path_form, input_form, attr_form, about_attr}
 use Rattle.lay_tree.specs.nodes.Facts.{Front}
-use Rattle.lay_tree.specs.nodes.Path.{are_segments, is_segments, segments_form}
 use Rattle.lay_tree.specs.reader.Attr.{value, meta_name, meta_input, doc_or, made, behind_opening, meta_attr, is_doc_kind, doc_attr, attribute, begins_attr, attributes}
 use Rattle.lay_tree.specs.reader.Exact.{Exact, needless}
 use Rattle.lay_tree.specs.reader.Item.{ends_items}
@@ -38,11 +34,10 @@ use Rattle.lay_tree.specs.declared.attr.MetaInput.{MetaInput}
 use Rattle.lay_tree.specs.declared.attr.MetaInput.TheVariants as input
 use Rattle.lay_tree.specs.declared.attr.MetaPath.{MetaPath}
 use Rattle.lay_tree.specs.declared.attr.MetaPath.TheVariants as meta_path
-use Rattle.lay_tree.specs.declared.path.Segment.{Segment}
 use Rattle.lay_tree.specs.declared.token.Listed.{Listed}
 use Rattle.lay_tree.specs.declared.token.Listed.TheVariants as listed
-use Rattle.lay_tree.proofs.Fronts.{end_shorter, closer_passed, mark_passed, opener_passed, one_front, op_front, no_op, one_no_op, other_op, one_test, one_shorter}
-use Rattle.lay_tree.proofs.Parts.{Rows, rows_to, GoodAt, bits_parts, bit_alone, behind_blank, before_blank, piece_bit, word_kind}
+use Rattle.lay_tree.proofs.Fronts.{end_shorter, closer_passed, mark_passed, opener_passed, one_front, no_op, one_no_op, other_op, one_test, one_shorter}
+use Rattle.lay_tree.proofs.Parts.{Rows, rows_to, GoodAt, bits_parts, bit_alone, behind_blank, before_blank, piece_bit}
 use Rattle.lay_tree.proofs.reader.Attr.{flag_same, same_as_itself, attribute_sound}
 use Rattle.lay_tree.proofs.reader.Exact.{exact, needless_sound, needless_complete}
 use Rattle.lay_tree.proofs.reader.Loops.{Turn, repeat_complete}

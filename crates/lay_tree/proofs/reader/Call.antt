@@ -1,29 +1,26 @@
 -- Groups by themselves, and macro calls.
-use Rattle.std.proofs.Common.{◌≡◌, ℕ, ◌<◌, ◌≤◌, Bool, true, false, ◌&&◌, not, List, [], ◌∷◌, length, drop, codes, inl, inr, Option, Some, None, if◌then◌else◌, refl, sym, ap, ◌∙◌, subst, arith}
+use Rattle.std.proofs.Common.{◌≡◌, ℕ, true, false, drop, codes, inl, inr, Some, None, refl, ap, ◌∙◌}
 use Rattle.std.proofs.lemmas.Bool.{and_parts, and_from}
 use Rattle.lay_token.specs.Operators.{is_op}
 use Rattle.lay_token.specs.declared.token.Delim.{Delim}
 use Rattle.lay_token.specs.declared.token.Delim.TheVariants.{Paren, Bracket, Brace}
-use Rattle.lay_token.specs.declared.token.Kind.TheVariants.{Punct}
-use Rattle.lay_form.specs.Form.{Form, Done, Operator, punct}
-use Rattle.lay_form.specs.Spelled.{IsOne, IsOperator, AreBits, Spells}
-use Rattle.lay_form.proofs.FormLaws.{bits_end, is_end, shorter}
-use Rattle.lay_tree.specs.Ahead.{Tokens, is_mark}
-use Rattle.lay_tree.specs.Follow.{may_follow}
-use Rattle.lay_tree.specs.nodes.Call.{is_group, about_group, bang, end_form, call_form, about_call}
+use Rattle.lay_form.specs.Form.{Done, Operator, punct}
+use Rattle.lay_form.specs.Spelled.{IsOperator, AreBits, Spells}
+use Rattle.lay_form.proofs.FormLaws.{bits_end, is_end}
+use Rattle.lay_tree.specs.Ahead.{Tokens}
+use Rattle.lay_tree.specs.nodes.Call.{is_group, about_group, bang, end_form, about_call}
 use Rattle.lay_tree.specs.nodes.Facts.{Front}
 use Rattle.lay_tree.specs.nodes.Path.{path_form, about_path}
 use Rattle.lay_tree.specs.reader.Call.{behind_bang, call, behind_end}
 use Rattle.lay_tree.specs.reader.Exact.{InText, Exact, needless}
-use Rattle.lay_tree.specs.reader.Loops.{Got, ◌>>=◌, passed}
+use Rattle.lay_tree.specs.reader.Loops.{Got, ◌>>=◌}
 use Rattle.lay_tree.specs.reader.Path.{path as path_reading}
 use Rattle.lay_tree.specs.reader.Tokens.{group}
-use Rattle.lay_tree.specs.tokens.Lists.{group_form}
 use Rattle.lay_tree.specs.declared.path.Path.{Path}
 use Rattle.lay_tree.specs.declared.tokens.Group.{Group}
 use Rattle.lay_tree.specs.declared.tokens.MacroCall.{MacroCall}
-use Rattle.lay_tree.proofs.Fronts.{texts_behind, mark_passed, mark_passed_is, other_op, one_shorter}
-use Rattle.lay_tree.proofs.Parts.{bit_alone, bit_piece, piece_bit, behind_blank, before_blank}
+use Rattle.lay_tree.proofs.Fronts.{texts_behind, mark_passed, mark_passed_is, other_op}
+use Rattle.lay_tree.proofs.Parts.{bit_alone, bit_piece, piece_bit, before_blank}
 use Rattle.lay_tree.proofs.Steps.{same_some, chosen, bind_some}
 use Rattle.lay_tree.proofs.reader.Exact.{Stands, exact, needless_sound, needless_complete}
 use Rattle.lay_tree.proofs.reader.Path.{path_sound, path_complete}
@@ -77,9 +74,11 @@ call_sound depth ts c rest t h =
     let mark = bang_is b.0.1 o.0 o.1 in
     let bits = bang_bits g.0.0.delim b.0.1 o.0 mark in
     let inside = texts_behind b.0.1 o.0 (bits_end (bang g.0.0.delim) b.0.1 o.0 bits) left in
-    let s = group_sound depth o.0 g.0.0 g.0.1 Done g.0.1 inside g.1 refl in
-    same_some (λ (r : MacroCall × Tokens). Stands (about_call r.0) depth ts r.1) (record { path = b.0.0; tokens = g.0.0 }, g.0.1) (c, rest) g.2
-    ((b.0.1, p.0, (o.0, bits, s.0)), and_from (about_path b.0.0).good (is_group g.0.0) p.1 s.1, refl)
+    let end : Spells Done depth g.0.1 g.0.1 = refl in
+    let s = group_sound depth o.0 g.0.0 g.0.1 Done g.0.1 inside g.1 end in
+    let good = and_from (about_path b.0.0).good (is_group g.0.0) p.1 s.1 in
+    let stands : Stands (about_call (record { path = b.0.0; tokens = g.0.0 })) depth ts g.0.1 = ((b.0.1, p.0, (o.0, bits, s.0)), good, refl) in
+    same_some (λ (r : MacroCall × Tokens). Stands (about_call r.0) depth ts r.1) (record { path = b.0.0; tokens = g.0.0 }, g.0.1) (c, rest) g.2 stands
   where
     bang_is : (ts within : Tokens) → behind_bang ts ≡ Some within → IsOperator (codes "!") ts within
     bang_is ts within h = elim (chosen (is_op (codes "!") ts) (Some (drop 1 ts)) None (Some within) h) [

@@ -1,5 +1,5 @@
 -- Items.
-use Rattle.std.proofs.Common.{◌≡◌, ℕ, zero, suc, ◌≤◌, Bool, true, false, ◌&&◌, List, [], ◌∷◌, ◌++◌, map, drop, codes, inl, inr, Some, None, if◌then◌else◌, refl, arith}
+use Rattle.std.proofs.Common.{◌≡◌, ℕ, zero, suc, ◌≤◌, Bool, true, false, ◌&&◌, List, [], ◌∷◌, ◌++◌, map, drop, codes, inl, inr, Some, if◌then◌else◌, refl, arith}
 use Rattle.std.proofs.lemmas.Bool.{and_parts, and_from}
 use Rattle.lay_token.specs.Forms.{opening}
 use Rattle.std.specs.Prelude.{is_some}
@@ -169,8 +169,7 @@ rules_sound budget ts kind need rest t m h =
     let i = name_sound (drop 2 ts) n b.0.1 b.1 in
     let t2 = texts_behind (drop 2 ts) b.0.1 (one_end (word_kind n.raw) n.text (drop 2 ts) b.0.1 i.0) t1 in
     let s = group_sound 0 b.0.1 g c.0.1 (end_form g.delim) e.0 t2 c.1 (end_spelled g.delim 0 c.0.1 e.0 e.1) in
-    let spelled : Spells (kind_form (ItemKind-F.MacroRules n g)) 0 ts e.0 =
-    (
+    let spelled : Spells (kind_form (ItemKind-F.MacroRules n g)) 0 ts e.0 = (
       drop 2 ts,
       bits,
       leaf_spelled n.raw n.text (before_rules g.delim (group_form g (end_form g.delim))) 0 (drop 2 ts) b.0.1 e.0 i.0

@@ -17,7 +17,7 @@ use Rattle.lay_form.specs.Form.{Blank, Operator, Form, Done, Piece, Part, keywor
 use Rattle.lay_form.specs.Notation.{I0, piece, body}
 use Rattle.lay_form.specs.Spelled.{IsOne, IsOperator, Spells}
 use Rattle.lay_form.proofs.FormLaws.{shorter}
-use Rattle.lay_tree.specs.Ahead.{Tokens, first, tail, is_keyword}
+use Rattle.lay_tree.specs.Ahead.{Tokens, first, is_keyword}
 use Rattle.lay_tree.specs.Follow.{may_follow}
 use Rattle.lay_tree.specs.Words.{is_path_class, is_name, leaf_of}
 use Rattle.lay_tree.specs.nodes.Attr.{are_attrs, attr_form, about_attr}
@@ -348,7 +348,6 @@ module _ (within : Tokens → Read Item) (tree : Tokens → Read UseTree) where
             let spelled = part_alone (about_use u).form depth h.0 h.1 h.3 in
             let r = use_reads u h.0 h.1 (spelled, s.1, quiet_follows (about_use u).refuses h.1 (semicolon_quiet h.1 rest e)) in
             (r.0, r.1, import_read u r.0 ts h.0 h.1 rest h.2 r.2 e)
-
         by _ (IsRules n g) x =
             let s = subst (λ (F : Facts). Spells F.form depth ts rest × (F.good ≡ true)) (rules_is n g) x in
             let goods = and_parts (is_name n.raw n.text) (is_group g) s.1 in
@@ -360,8 +359,7 @@ module _ (within : Tokens → Read Item) (tree : Tokens → Read UseTree) where
             let parts = s.0 in
             let p = call_complete c depth ts parts.0 (parts.1, s.1, refl) in
             let no : (keyword : List ℕ) → is_path_class (class_of keyword) ≡ false → first (is_keyword keyword) ts ≡ false =
-            λ keyword n. path_no_keyword keyword n c.path depth ts p.mid p.good p.path in
-            (
+            λ keyword n. path_no_keyword keyword n c.path depth ts p.mid p.good p.path in (
               0,
               omega arith,
               call_read c ts parts.0 rest (no (codes "struct") refl) (no (codes "mod") refl) (no (codes "use") refl) (no_rules c depth ts parts.0 p) p.read

@@ -1,9 +1,8 @@
 -- Token lists and groups: what is read is spelled, and well formed, and what is spelled is read.
-use Rattle.std.proofs.Common.{◌≡◌, ℕ, zero, suc, ◌<◌, ◌≤◌, Bool, true, false, not, ◌&&◌, ◌||◌, List, [], ◌∷◌, ◌++◌, length, map, Option, Some, None, inl, inr, if◌then◌else◌, refl, sym, ap, ◌∙◌, subst, append-nil, length-append, codes, arith}
+use Rattle.std.proofs.Common.{◌≡◌, ℕ, ◌<◌, Bool, true, false, not, ◌&&◌, ◌||◌, List, [], ◌∷◌, ◌++◌, length, map, Some, None, inl, inr, if◌then◌else◌, refl, sym, ap, ◌∙◌, subst, append-nil, length-append, codes, arith}
 use Rattle.std.specs.List.{list_all}
 use Rattle.std.specs.Str.{bytes_eq}
-use Rattle.std.proofs.lemmas.Bool.{and_parts, and_from, not-true}
-use Rattle.std.proofs.lemmas.List.Folds.{list_all-append}
+use Rattle.std.proofs.lemmas.Bool.{and_parts, and_from}
 use Rattle.std.proofs.lemmas.List.{map-append}
 use Rattle.lay_token.specs.Delimiters.{is_opener, is_closer}
 use Rattle.lay_token.specs.Forms.{opening, closing}
@@ -12,10 +11,10 @@ use Rattle.lay_token.specs.declared.token.Delim.{Delim}
 use Rattle.lay_token.specs.declared.token.Kind.{Kind}
 use Rattle.lay_token.specs.declared.token.Kind.TheVariants.{Punct, Opener, Closer, Doc}
 use Rattle.lay_token.specs.declared.token.Token.{Token}
-use Rattle.lay_form.specs.Form.{Form, Done}
-use Rattle.lay_form.specs.Spelled.{IsOne, Spells}
+use Rattle.lay_form.specs.Form.{Form}
+use Rattle.lay_form.specs.Spelled.{Spells}
 use Rattle.lay_tree.specs.Ahead.{Tokens, first, tail, closes}
-use Rattle.lay_tree.specs.reader.Exact.{is_loose, InText}
+use Rattle.lay_tree.specs.reader.Exact.{InText}
 use Rattle.lay_tree.specs.reader.Loops.{Got, ◌>>=◌, passed}
 use Rattle.lay_tree.specs.reader.Tokens.{ends_run, run, tokens, group}
 use Rattle.lay_tree.specs.tokens.Lexed.{may_join, is_had, fits, ends_apart, may_be_laid, is_token_list}
@@ -29,7 +28,7 @@ use Rattle.lay_tree.proofs.Fronts.{closer_kind, passed_first}
 use Rattle.lay_tree.proofs.InText.{only_text, IsText, behind, behind_all, text_one}
 use Rattle.lay_tree.proofs.Steps.{got_same, chosen, bind_some}
 use Rattle.lay_tree.proofs.token_lists.Balance.{same_delim_self, balances_turned, turned_listed}
-use Rattle.lay_tree.proofs.token_lists.Runs.{onto, run_over}
+use Rattle.lay_tree.proofs.token_lists.Runs.{run_over}
 use Rattle.lay_tree.proofs.token_lists.FromText.{two_rows}
 use Rattle.lay_tree.proofs.token_lists.Grouped.{opener_token, closer_token, flat, list_grouped}
 use Rattle.lay_tree.proofs.token_lists.Spelling.{IsRow, row_joined, row_parts, opener_one, closer_one, grouped_tokens, enclosed_row, enclosed_spelled, groups_spelled, list_parts, list_row}
@@ -308,8 +307,7 @@ group_sound depth (t ∷ ts) g rest f end i h s =
       row_joined (flat (in_groups g.tokens)) (closer_token g.delim ∷ []) ts (r.last ∷ rest) rest
           (subst (λ z. IsRow z ts (r.last ∷ rest)) (sym (list_grouped g.tokens good).whole) (list_row_of ts g.tokens (r.last ∷ rest) r.list))
           (closer_listed r.last rest g.delim last r.closed, refl),
-    ) in
-    (
+    ) in (
       enclosed_spelled g.delim (ends_in_line g.tokens) (form_of_grouping (at_start 0) (in_groups g.tokens)) f depth (in_groups g.tokens)
           (t ∷ ts) rest end i.loose (λ us vs k q. groups_spelled (in_groups g.tokens) (at_start 0) depth us vs k q) row s,
       good,

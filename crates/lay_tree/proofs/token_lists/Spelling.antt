@@ -3,7 +3,6 @@ use Rattle.std.proofs.Common.{◌≡◌, ℕ, Bool, true, false, not, ◌&&◌, 
 use Rattle.std.specs.List.{list_all}
 use Rattle.std.specs.Str.{is_utf8}
 use Rattle.std.proofs.lemmas.Bool.{and_parts, not-true}
-use Rattle.std.proofs.lemmas.List.Folds.{list_all-append}
 use Rattle.lay_token.specs.Forms.{opening, closing}
 use Rattle.lay_token.specs.Lexes.{is_punct}
 use Rattle.lay_token.specs.declared.token.Delim.{Delim}
@@ -16,7 +15,7 @@ use Rattle.lay_form.specs.Notation.{C4, I0, piece}
 use Rattle.lay_form.specs.Spelled.{IsOne, Spells}
 use Rattle.lay_tree.specs.Ahead.{Tokens}
 use Rattle.lay_tree.specs.reader.Exact.{is_loose}
-use Rattle.lay_tree.specs.tokens.Lists.{opened_by, closed_by, enclosed_form, form_of_grouping, ended_by}
+use Rattle.lay_tree.specs.tokens.Lists.{opened_by, closed_by, enclosed_form, form_of_grouping}
 use Rattle.lay_tree.specs.tokens.Lexed.{is_had, may_join, fits, ends_apart, may_be_laid, is_token_list}
 use Rattle.lay_tree.specs.tokens.Listing.{is_doc_kind, is_balanced, in_groups, kind_of, text_of, listed_form, listed_by, as_listed, Grouping, NoMore, OneToken, OneGroup}
 use Rattle.lay_tree.specs.tokens.Pairs.{Neighbour, Nothing, is_joint_neighbour, is_index_place, Seen, Single, Enclosed, Separation, NoBreak, SoftBreak, HardBreak, between, leads, is_line_doc, seen_token, behind_group, seen_all, at_start}
