@@ -2,16 +2,16 @@
 use Rattle.std.proofs.Common.{◌≡◌, ℕ, ◌-◌, ◌≤◌, ◌⊎◌, inl, inr, List, [], ◌∷◌, Bool, true, false, ◌&&◌, refl, ap, subst}
 use Rattle.std.specs.Prelude.{ℤ}
 use Rattle.std.proofs.lemmas.Bool.{and_parts}
-use Rattle.lay_token.specs.Forms.{has_form}
-use Rattle.lay_token.specs.declared.layout.Frame.{Frame}
-use Rattle.lay_token.specs.declared.layout.Frame.TheVariants.{Flat, Broken}
-use Rattle.lay_token.specs.Document.{Document, Empty, AddBreak, State, write, line, newline, skip}
-use Rattle.lay_token.specs.declared.token.Delim.TheVariants.{Brace}
+use Rattle.lay_piece.specs.Forms.{has_form}
+use Rattle.lay_layout.specs.declared.layout.Frame.{Frame}
+use Rattle.lay_layout.specs.declared.layout.Frame.TheVariants.{Flat, Broken}
+use Rattle.lay_layout.specs.Document.{Document, Empty, AddBreak, State, write, line, newline, skip}
+use Rattle.lay_piece.specs.declared.kind.Delim.TheVariants.{Brace}
 use Rattle.lay_token.specs.declared.token.Token.{Token}
 use Rattle.lay_form.specs.Form.{Behind, Nothing, ArmComma, Form, opener, closer, comma}
 use Rattle.lay_form.specs.Spelled.{AreBits, Then, Spells, Braced, IsBehind, may_lack, cost}
 use Rattle.lay_form.specs.Layout.{ends_behind_point, opening_break, closing_break, laid_out}
-use Rattle.lay_token.specs.Anyway.{Enters, Leads}
+use Rattle.lay_layout.specs.Anyway.{Enters, Leads}
 use Rattle.lay_laws.proofs.borders.Need.{Need, IntBare, all, line_ok}
 use Rattle.lay_laws.proofs.texts.Characters.{low_encodes}
 use Rattle.lay_laws.proofs.borders.Border.{Place, Other, Point, Far, Points, is_index_place, apart, fit_of, Border, Spot, Unsure, Clear, At, Covers, apart_spot, behind_gap, beyond, pass, bits_low, bits_covers, apart_covers, clear_apart, Rest, and_false, bits_came}

@@ -3,13 +3,13 @@ use Rattle.std.proofs.Common.{◌≡◌, ℕ, zero, suc, ◌⊎◌, inl, inr, Li
 use Rattle.std.specs.Prelude.{IsTrue}
 use Rattle.std.proofs.lemmas.Bool.{and_parts}
 use Rattle.lay_token.specs.Lexes.{Part}
-use Rattle.lay_token.specs.declared.layout.Frame.{Frame}
-use Rattle.lay_token.specs.declared.layout.Frame.TheVariants.{Flat, Broken}
-use Rattle.lay_token.specs.Document.{State, write, line, newline, skip}
+use Rattle.lay_layout.specs.declared.layout.Frame.{Frame}
+use Rattle.lay_layout.specs.declared.layout.Frame.TheVariants.{Flat, Broken}
+use Rattle.lay_layout.specs.Document.{State, write, line, newline, skip}
 use Rattle.lay_form.specs.Form.{Space, Soft, Hard, Never, comma}
 use Rattle.lay_form.specs.Spelled.{AreBits, MayBe}
 use Rattle.lay_form.specs.Layout.{space_ends_in_point, keeps_point, break_of, comma_break}
-use Rattle.lay_token.specs.Anyway.{indent_of, may_turn, may_stay}
+use Rattle.lay_layout.specs.Anyway.{indent_of, may_turn, may_stay}
 use Rattle.lay_laws.proofs.borders.Need.{Text, Need, IntBare, all, blank_ok, line_ok}
 use Rattle.lay_laws.proofs.texts.Characters.{low_encodes}
 use Rattle.lay_laws.proofs.borders.Border.{Place, Other, Point, Far, Points, is_index_place, apart, fit_of, Border, Spot, Unsure, Clear, At, Covers, apart_spot, behind_gap, beyond, pass, bits_low, bits_covers, apart_covers, clear_apart, Rest, and_false, bits_came}

@@ -2,17 +2,17 @@
 use Rattle.std.proofs.Common.{◌≡◌, ℕ, ◌+◌, List, [], ◌∷◌, ◌++◌, Bool, true, false, cond, not, ◌&&◌, ◌||◌, sym, refl, ap, ap₂, subst, append_assoc, append-nil, arith, length, length-append}
 use Rattle.std.specs.Prelude.{◌==◌, codes}
 use Rattle.std.proofs.lemmas.Bool.{and_parts, and_from}
-use Rattle.lay_token.specs.Chars.{begins, is_nil}
-use Rattle.lay_token.specs.Forms.{doc_opening}
-use Rattle.lay_token.specs.declared.layout.Frame.{Frame}
-use Rattle.lay_token.specs.Document.{Document, AddText, State, write}
-use Rattle.lay_token.specs.declared.token.Kind.{Kind}
-use Rattle.lay_token.specs.declared.token.Kind.TheVariants.{RawIdent, Doc}
+use Rattle.lay_piece.specs.Chars.{begins, is_nil}
+use Rattle.lay_piece.specs.Forms.{doc_opening}
+use Rattle.lay_layout.specs.declared.layout.Frame.{Frame}
+use Rattle.lay_layout.specs.Document.{Document, AddText, State, write}
+use Rattle.lay_piece.specs.declared.kind.Kind.{Kind}
+use Rattle.lay_piece.specs.declared.kind.Kind.TheVariants.{RawIdent, Doc}
 use Rattle.lay_token.specs.declared.token.Token.{Token}
 use Rattle.lay_form.specs.Form.{Bit, Blank, Fixed, Operator, Semicolons}
 use Rattle.lay_form.specs.Spelled.{AreBits, Then}
 use Rattle.lay_form.specs.Layout.{text_of_bits, add, add_token, bits_end_in_point, led}
-use Rattle.lay_token.specs.Anyway.{Leads}
+use Rattle.lay_layout.specs.Anyway.{Leads}
 use Rattle.lay_laws.proofs.texts.Characters.{low_encodes, low_clean}
 use Rattle.lay_laws.proofs.texts.Laid.{as_block, bytes_of}
 use Rattle.lay_laws.proofs.borders.Border.{Border, beyond, bits_low}

@@ -4,10 +4,10 @@ use Rattle.std.specs.Str.{chars, encode_utf8_all, is_utf8}
 use Rattle.std.proofs.lemmas.Bool.{and_parts, and_from}
 use Rattle.std.proofs.lemmas.Str.{scalars-chars, IsUtf8-from_is_utf8}
 use lib.Utf8.{scalars}
-use Rattle.lay_token.specs.Forms.{has_form, doc_opening}
+use Rattle.lay_piece.specs.Forms.{has_form, doc_opening}
 use Rattle.lay_token.specs.Lexes.{text_of_piece}
-use Rattle.lay_token.specs.declared.token.Kind.{Kind}
-use Rattle.lay_token.specs.declared.token.Kind.TheVariants.{RawIdent, Doc}
+use Rattle.lay_piece.specs.declared.kind.Kind.{Kind}
+use Rattle.lay_piece.specs.declared.kind.Kind.TheVariants.{RawIdent, Doc}
 use Rattle.lay_form.specs.Pieces.{is_text_of}
 use Rattle.lay_tree.specs.tokens.Listing.{is_doc_kind, is_doc_text}
 use Rattle.lay_tree.proofs.Scalars.{scalars_append}

@@ -2,8 +2,8 @@
 use Rattle.std.proofs.Common.{◌≡◌, ℕ, true, false, drop, codes, inl, inr, Some, None, refl, ap, ◌∙◌}
 use Rattle.std.proofs.lemmas.Bool.{and_parts, and_from}
 use Rattle.lay_token.specs.Operators.{is_op}
-use Rattle.lay_token.specs.declared.token.Delim.{Delim}
-use Rattle.lay_token.specs.declared.token.Delim.TheVariants.{Paren, Bracket, Brace}
+use Rattle.lay_piece.specs.declared.kind.Delim.{Delim}
+use Rattle.lay_piece.specs.declared.kind.Delim.TheVariants.{Paren, Bracket, Brace}
 use Rattle.lay_form.specs.Form.{Done, Operator, punct}
 use Rattle.lay_form.specs.Spelled.{IsOperator, AreBits, Spells}
 use Rattle.lay_form.proofs.FormLaws.{bits_end, is_end}

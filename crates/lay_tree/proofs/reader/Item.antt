@@ -1,12 +1,12 @@
 -- Items.
 use Rattle.std.proofs.Common.{◌≡◌, ℕ, zero, suc, ◌≤◌, Bool, true, false, ◌&&◌, List, [], ◌∷◌, ◌++◌, map, drop, codes, inl, inr, Some, if◌then◌else◌, refl, arith}
 use Rattle.std.proofs.lemmas.Bool.{and_parts, and_from}
-use Rattle.lay_token.specs.Forms.{opening}
+use Rattle.lay_piece.specs.Forms.{opening}
 use Rattle.std.specs.Prelude.{is_some}
 use Rattle.lay_token.specs.Operators.{is_op}
-use Rattle.lay_token.specs.declared.token.Delim.{Delim}
-use Rattle.lay_token.specs.declared.token.Delim.TheVariants.{Paren, Bracket, Brace}
-use Rattle.lay_token.specs.declared.token.Kind.TheVariants.{Ident, Opener}
+use Rattle.lay_piece.specs.declared.kind.Delim.{Delim}
+use Rattle.lay_piece.specs.declared.kind.Delim.TheVariants.{Paren, Bracket, Brace}
+use Rattle.lay_piece.specs.declared.kind.Kind.TheVariants.{Ident, Opener}
 use Rattle.lay_form.specs.Form.{Blank, Operator, Form, Done, Piece, Part, keyword, punct}
 use Rattle.lay_form.specs.Spelled.{IsOne, IsOperator, AreBits, Spells}
 use Rattle.lay_form.proofs.FormLaws.{one_end, bits_end}

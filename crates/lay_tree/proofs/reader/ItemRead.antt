@@ -1,18 +1,18 @@
 -- Items: what is spelled, and well formed, is read.
 use Rattle.std.proofs.Common.{◌≡◌, ℕ, zero, suc, ◌<◌, ◌≤◌, Bool, true, false, not, ◌&&◌, List, [], ◌∷◌, ◌++◌, length, map, drop, codes, Some, None, refl, sym, ap, ◌∙◌, subst, arith}
 use Rattle.std.proofs.lemmas.Bool.{and_parts}
-use Rattle.lay_token.specs.Forms.{opening, closing}
+use Rattle.lay_piece.specs.Forms.{opening, closing}
 use Rattle.std.specs.Prelude.{is_some}
 use Rattle.std.specs.Str.{bytes_eq}
 use Rattle.lay_token.specs.Delimiters.{is_opener}
 use Rattle.lay_token.specs.Lexes.{is_punct}
 use Rattle.lay_token.specs.Operators.{op_at, is_op}
-use Rattle.lay_token.specs.Word.{class_of}
+use Rattle.lay_piece.specs.Word.{class_of}
 use Rattle.lay_token.proofs.Deciding.{punct_is}
-use Rattle.lay_token.specs.declared.token.Delim.{Delim}
-use Rattle.lay_token.specs.declared.token.Delim.TheVariants.{Paren, Bracket, Brace}
-use Rattle.lay_token.specs.declared.token.Kind.{Kind}
-use Rattle.lay_token.specs.declared.token.Kind.TheVariants.{Ident, RawIdent, Punct, Opener, Closer}
+use Rattle.lay_piece.specs.declared.kind.Delim.{Delim}
+use Rattle.lay_piece.specs.declared.kind.Delim.TheVariants.{Paren, Bracket, Brace}
+use Rattle.lay_piece.specs.declared.kind.Kind.{Kind}
+use Rattle.lay_piece.specs.declared.kind.Kind.TheVariants.{Ident, RawIdent, Punct, Opener, Closer}
 use Rattle.lay_form.specs.Form.{Blank, Operator, Form, Done, Piece, Part, keyword, punct, semicolon}
 use Rattle.lay_form.specs.Notation.{I0, piece, body}
 use Rattle.lay_form.specs.Spelled.{IsOne, IsOperator, Spells}

@@ -2,16 +2,16 @@
 use Rattle.std.proofs.Common.{◌≡◌, ℕ, Bool, true, false, List, [], ◌∷◌, codes, refl, arith}
 use Rattle.std.specs.Str.{chars, is_utf8}
 use lib.Utf8.{encode}
-use Rattle.lay_token.specs.Chars.{starts_word, in_word}
-use Rattle.lay_token.specs.Docs.{doc_form}
-use Rattle.lay_token.specs.Document.{text_of}
-use Rattle.lay_token.specs.Forms.{had, has_form, may_precede, opening, closing}
-use Rattle.lay_token.specs.Quoted.{doc_step, block_step}
-use Rattle.lay_token.specs.Scan.{run}
-use Rattle.lay_token.specs.declared.token.Delim.{Delim}
-use Rattle.lay_token.specs.declared.token.Delim.TheVariants.{Paren, Bracket, Brace}
-use Rattle.lay_token.specs.declared.token.Kind.{Kind}
-use Rattle.lay_token.specs.declared.token.Kind.TheVariants.{Ident, Int, Float, Punct, Opener, Closer, Doc}
+use Rattle.lay_piece.specs.Chars.{starts_word, in_word}
+use Rattle.lay_piece.specs.Docs.{doc_form}
+use Rattle.lay_layout.specs.Document.{text_of}
+use Rattle.lay_piece.specs.Forms.{had, has_form, may_precede, opening, closing}
+use Rattle.lay_piece.specs.Quoted.{doc_step, block_step}
+use Rattle.lay_piece.specs.Scan.{run}
+use Rattle.lay_piece.specs.declared.kind.Delim.{Delim}
+use Rattle.lay_piece.specs.declared.kind.Delim.TheVariants.{Paren, Bracket, Brace}
+use Rattle.lay_piece.specs.declared.kind.Kind.{Kind}
+use Rattle.lay_piece.specs.declared.kind.Kind.TheVariants.{Ident, Int, Float, Punct, Opener, Closer, Doc}
 use Rattle.lay_token.specs.declared.token.Token.{Token}
 use Rattle.lay_form.specs.Form.{Bit, Fixed, Space, Form, Done, Piece, Leaf, Listed as ListedToken, ListedDoc, Brk, Group, Part, opener, closer}
 use Rattle.lay_form.specs.Layout.{document}
@@ -20,7 +20,7 @@ use Rattle.lay_tree.specs.tokens.Lexed.{is_token_list}
 use Rattle.lay_tree.specs.tokens.Lists.{token_list}
 use Rattle.lay_tree.specs.declared.token.Listed.{Listed}
 use Rattle.lay_tree.specs.declared.token.Listed.TheVariants as listed
-use Rattle.lay_token.proofs.Ascii.{ascii_starts, ascii_in_word}
+use Rattle.lay_piece.proofs.Ascii.{ascii_starts, ascii_in_word}
 use Rattle.lay_tree.proofs.samples.Trees.{token}
 
 -- ---- tokens

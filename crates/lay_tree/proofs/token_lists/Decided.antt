@@ -4,8 +4,8 @@ use Rattle.std.specs.List.{list_all}
 use Rattle.std.specs.Str.{encode_utf8_all}
 use Rattle.std.proofs.lemmas.Bool.{and_from}
 use Rattle.lay_token.specs.Lexes.{Part, is_punct, is_joint, size, text_of_piece, tokens_from}
-use Rattle.lay_token.specs.declared.token.Kind.{Kind}
-use Rattle.lay_token.specs.declared.token.Kind.TheVariants.{Punct, Doc}
+use Rattle.lay_piece.specs.declared.kind.Kind.{Kind}
+use Rattle.lay_piece.specs.declared.kind.Kind.TheVariants.{Punct, Doc}
 use Rattle.lay_token.specs.declared.token.Token.{Token}
 use Rattle.lay_tree.specs.tokens.Lexed.{IsToken, AreTokens, IsTokenList, may_be_laid, fits, ends_apart, is_token_list}
 use Rattle.lay_tree.specs.tokens.Listing.{as_listed, listed_by, is_doc_kind, is_balanced}

@@ -10,13 +10,13 @@ use Rattle.std.proofs.lemmas.List.Folds.{list_all-append}
 use Rattle.std.proofs.lemmas.Slice.Eq.{bytes_eq-Decides}
 use Rattle.std.proofs.lemmas.Str.{chars-encodes, encode_ascii, scalars-chars}
 use lib.Utf8.{scalars}
-use Rattle.lay_token.specs.Chars.{begins, after, is_nil, in_word, in_digits}
-use Rattle.lay_token.specs.Forms.{had, has_form, may_precede, is_number_kind, is_int_kind, is_punct_char, literal_may_stop, is_whole, after_literal}
+use Rattle.lay_piece.specs.Chars.{begins, after, is_nil, in_word, in_digits}
+use Rattle.lay_piece.specs.Forms.{had, has_form, may_precede, is_number_kind, is_int_kind, is_punct_char, literal_may_stop, is_whole, after_literal}
 use Rattle.lay_token.specs.Lexes as lexed
 use Rattle.lay_token.specs.Lexes.{Part, Before, Other, Point, Points, spell, is_punct, is_point, is_separator, step, Fit, size, text_of_piece, tokens_from, Lexes}
-use Rattle.lay_token.specs.Number.{is_index, fronts_index, ends_in_point, is_bare_int, is_float, is_float_tail, is_decimal, base_of}
-use Rattle.lay_token.specs.declared.token.Kind.{Kind}
-use Rattle.lay_token.specs.declared.token.Kind.TheVariants.{Ident, RawIdent, Underscore, Lifetime, Int, Float, Punct, Opener, Closer, Doc}
+use Rattle.lay_piece.specs.Number.{is_index, fronts_index, ends_in_point, is_bare_int, is_float, is_float_tail, is_decimal, base_of}
+use Rattle.lay_piece.specs.declared.kind.Kind.{Kind}
+use Rattle.lay_piece.specs.declared.kind.Kind.TheVariants.{Ident, RawIdent, Underscore, Lifetime, Int, Float, Punct, Opener, Closer, Doc}
 use Rattle.lay_token.specs.declared.token.Token.{Token}
 use Rattle.lay_token.proofs.Deciding.{punct_is}
 use Rattle.lay_token.proofs.Encoding.{scalars_parts}

@@ -7,12 +7,12 @@ use Rattle.std.proofs.lemmas.Bool.{and_parts, and_from, or_left, or_right, eqb-t
 use Rattle.std.proofs.lemmas.Str.{encodes-chars, IsUtf8-from_is_utf8}
 use lib.Utf8.{encode}
 use Rattle.lay_token.specs.Delimiters.{is_opener, is_closer}
-use Rattle.lay_token.specs.Forms.{had, has_form, may_precede, is_one, opening, closing}
+use Rattle.lay_piece.specs.Forms.{had, has_form, may_precede, is_one, opening, closing}
 use Rattle.lay_token.specs.Lexes.{is_punct}
-use Rattle.lay_token.specs.declared.token.Delim.{Delim}
-use Rattle.lay_token.specs.declared.token.Delim.TheVariants.{Paren, Bracket, Brace}
-use Rattle.lay_token.specs.declared.token.Kind.{Kind}
-use Rattle.lay_token.specs.declared.token.Kind.TheVariants.{Punct, Opener, Closer, Doc}
+use Rattle.lay_piece.specs.declared.kind.Delim.{Delim}
+use Rattle.lay_piece.specs.declared.kind.Delim.TheVariants.{Paren, Bracket, Brace}
+use Rattle.lay_piece.specs.declared.kind.Kind.{Kind}
+use Rattle.lay_piece.specs.declared.kind.Kind.TheVariants.{Punct, Opener, Closer, Doc}
 use Rattle.lay_token.specs.declared.token.Token.{Token}
 use Rattle.lay_tree.specs.tokens.Lexed.{is_had, may_join, fits, ends_apart, is_token_list}
 use Rattle.lay_tree.specs.tokens.Listing.{kind_of, turned, balances, is_balanced, Grouping, NoMore, OneToken, OneGroup, Nested, nested_by, nested, in_groups, as_listed, listed_by}

@@ -1,7 +1,7 @@
 -- Groups and macro calls (Rust Reference, "Macro invocation"). Each ends in a group, so anything may follow.
 use Rattle.std.specs.Prelude.{Bool, ◌&&◌, List, [], ◌∷◌, codes}
-use Rattle.lay_token.specs.declared.token.Delim.{Delim}
-use Rattle.lay_token.specs.declared.token.Delim.TheVariants.{Brace}
+use Rattle.lay_piece.specs.declared.kind.Delim.{Delim}
+use Rattle.lay_piece.specs.declared.kind.Delim.TheVariants.{Brace}
 use Rattle.lay_form.specs.Form.{Bit, Blank, Operator, Form, Done, Piece, Part, semicolon}
 use Rattle.lay_form.specs.Notation.{piece}
 use Rattle.lay_tree.specs.nodes.Facts.{Facts}

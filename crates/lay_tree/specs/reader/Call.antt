@@ -1,8 +1,8 @@
 -- Reading macro calls.
 use Rattle.std.specs.Prelude.{if◌then◌else◌, drop, codes, Option, Some, None}
 use Rattle.lay_token.specs.Operators.{is_op}
-use Rattle.lay_token.specs.declared.token.Delim.{Delim}
-use Rattle.lay_token.specs.declared.token.Delim.TheVariants.{Brace}
+use Rattle.lay_piece.specs.declared.kind.Delim.{Delim}
+use Rattle.lay_piece.specs.declared.kind.Delim.TheVariants.{Brace}
 use Rattle.lay_tree.specs.Ahead.{Tokens, is_mark}
 use Rattle.lay_tree.specs.reader.Loops.{Got, ◌>>=◌, passed}
 use Rattle.lay_tree.specs.reader.Path.{path}

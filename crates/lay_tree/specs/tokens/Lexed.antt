@@ -3,10 +3,10 @@ use Rattle.std.specs.Prelude.{ℕ, ◌≡◌, Bool, true, List, [], ◌∷◌, �
 use Rattle.std.specs.List.{list_all}
 use Rattle.std.specs.Str.{chars, is_utf8}
 use Rattle.lay_token.specs.Delimiters.{Balanced}
-use Rattle.lay_token.specs.Forms.{had}
+use Rattle.lay_piece.specs.Forms.{had}
 use Rattle.lay_token.specs.Lexes.{Lexes}
-use Rattle.lay_token.specs.declared.token.Kind.{Kind}
-use Rattle.lay_token.specs.declared.token.Kind.TheVariants.{RawIdent, Doc}
+use Rattle.lay_piece.specs.declared.kind.Kind.{Kind}
+use Rattle.lay_piece.specs.declared.kind.Kind.TheVariants.{RawIdent, Doc}
 use Rattle.lay_token.specs.declared.token.Token.{Token}
 use Rattle.lay_tree.specs.tokens.Listing.{is_doc_kind, is_doc_text, is_balanced}
 use Rattle.lay_tree.specs.tokens.Pairs.{Neighbour, Nothing, Single, is_mark, is_punct_neighbour, is_joint_neighbour, is_index_place}

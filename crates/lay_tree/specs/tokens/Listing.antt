@@ -1,12 +1,12 @@
 -- The tokens of a token list: what is told of each, which lists are balanced, and their groups.
 use Rattle.std.specs.Prelude.{ℕ, Bool, true, false, cond, not, ◌&&◌, List, [], ◌∷◌, Option, Some, None}
-use Rattle.lay_token.specs.Docs.{doc_form}
+use Rattle.lay_piece.specs.Docs.{doc_form}
 use Rattle.lay_token.specs.Lexes.{is_punct}
-use Rattle.lay_token.specs.declared.doc.DocForm.{DocForm}
-use Rattle.lay_token.specs.declared.doc.DocForm.TheVariants as doc
-use Rattle.lay_token.specs.declared.token.Delim.{Delim}
-use Rattle.lay_token.specs.declared.token.Kind.{Kind}
-use Rattle.lay_token.specs.declared.token.Kind.TheVariants.{Opener, Closer, Doc}
+use Rattle.lay_piece.specs.declared.doc.DocForm.{DocForm}
+use Rattle.lay_piece.specs.declared.doc.DocForm.TheVariants as doc
+use Rattle.lay_piece.specs.declared.kind.Delim.{Delim}
+use Rattle.lay_piece.specs.declared.kind.Kind.{Kind}
+use Rattle.lay_piece.specs.declared.kind.Kind.TheVariants.{Opener, Closer, Doc}
 use Rattle.lay_token.specs.declared.token.Token.{Token}
 use Rattle.lay_form.specs.Form as form
 use Rattle.lay_form.specs.Form.{Form}
