@@ -1,6 +1,9 @@
 pub mod Balance
+pub mod Bodies
+pub mod Breaks
 pub mod Opened
 pub mod Passes
 pub mod Rules
 pub mod Sound
+pub mod Texts
 pub mod Walk

@@ -2,3 +2,4 @@ pub mod Characters
 pub mod CleanPieces
 pub mod DocTexts
 pub mod Laid
+pub mod LaidTokens

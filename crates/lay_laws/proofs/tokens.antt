@@ -1,7 +1,6 @@
-pub mod FromText
-pub mod Grouped
 pub mod Lexed
 pub mod Neighbours
 pub mod Rows
+pub mod Table
 pub mod TokenLists
 pub mod Within
