@@ -16,6 +16,7 @@ use Rattle.lay_tree.specs.reader.Exact.{InText, Exact, needless}
 use Rattle.lay_tree.specs.reader.Loops.{Got, ◌>>=◌}
 use Rattle.lay_tree.specs.reader.Path.{path as path_reading}
 use Rattle.lay_tree.specs.reader.Tokens.{group}
+use Rattle.lay_tree.specs.tokens.Lists.{group_form}
 use Rattle.lay_tree.specs.declared.path.Path.{Path}
 use Rattle.lay_tree.specs.declared.tokens.Group.{Group}
 use Rattle.lay_tree.specs.declared.tokens.MacroCall.{MacroCall}
@@ -28,6 +29,10 @@ use Rattle.lay_tree.proofs.reader.Tokens.{group_sound, SpelledGroup, group_compl
 
 -- ---- groups
 
+group_alone : (depth : ℕ) (ts : Tokens) (g : Group) (rest : Tokens) → InText ts → group ts ≡ Some (g, rest)
+    → Spells (group_form g Done) depth ts rest × (is_group g ≡ true)
+group_alone depth ts g rest t h = group_sound depth ts g rest Done rest t h refl
+
 group_reads : (g : Group) (depth : ℕ) (ts rest : Tokens) → Stands (about_group g) depth ts rest → group ts ≡ Some (g, rest)
 group_reads g depth ts rest s =
     let r = group_complete g Done depth ts rest s.0 s.1 in r.read ∙ ap (λ (z : Tokens). let found : Got Group = Some (g, z) in found) r.after
@@ -35,7 +40,7 @@ group_reads g depth ts rest s =
 pub groups : Exact (needless group) (λ (x : Group). Front (about_group x))
 groups =
     exact about_group (needless group)
-    (needless_sound about_group group (λ ts g rest t h. let s = group_sound 0 ts g rest Done rest t h refl in (s.0, s.1, refl)))
+    (needless_sound about_group group (λ ts g rest t h. let s = group_alone 0 ts g rest t h in (s.0, s.1, refl)))
     (needless_complete about_group group group_reads)
 
 -- ---- the `!`, and what ends an item
@@ -74,8 +79,7 @@ call_sound depth ts c rest t h =
     let mark = bang_is b.0.1 o.0 o.1 in
     let bits = bang_bits g.0.0.delim b.0.1 o.0 mark in
     let inside = texts_behind b.0.1 o.0 (bits_end (bang g.0.0.delim) b.0.1 o.0 bits) left in
-    let end : Spells Done depth g.0.1 g.0.1 = refl in
-    let s = group_sound depth o.0 g.0.0 g.0.1 Done g.0.1 inside g.1 end in
+    let s = group_alone depth o.0 g.0.0 g.0.1 inside g.1 in
     let good = and_from (about_path b.0.0).good (is_group g.0.0) p.1 s.1 in
     let stands : Stands (about_call (record { path = b.0.0; tokens = g.0.0 })) depth ts g.0.1 = ((b.0.1, p.0, (o.0, bits, s.0)), good, refl) in
     same_some (λ (r : MacroCall × Tokens). Stands (about_call r.0) depth ts r.1) (record { path = b.0.0; tokens = g.0.0 }, g.0.1) (c, rest) g.2 stands

@@ -141,6 +141,10 @@ record RulesFront (ts : Tokens) : Type 0 where
   word : IsOne Ident (codes "macro_rules") ts (tail ts)
   mark : IsOperator (codes "!") (tail ts) (drop 2 ts)
 
+rules_stand : (n : Name) (g : Group) (depth : ℕ) (ts rest : Tokens) → Spells (kind_form (ItemKind-F.MacroRules n g)) depth ts rest
+    → kind_good (ItemKind-F.MacroRules n g) ≡ true → Stands (about_kind (item.MacroRules n g)) depth ts rest
+rules_stand n g depth ts rest s h = rw (rules_is n g) (s, h, refl)
+
 rules_front : (ts : Tokens) → begins_rules ts ≡ true → RulesFront ts
 rules_front ts h =
     let a = and_parts (first (is_keyword (codes "macro_rules")) ts && is_op (codes "!") (tail ts)) (is_some (name (drop 1 (tail ts)))) h in
@@ -175,8 +179,7 @@ rules_sound budget ts kind need rest t m h =
       leaf_spelled n.raw n.text (before_rules g.delim (group_form g (end_form g.delim))) 0 (drop 2 ts) b.0.1 e.0 i.0
           (rules_spelled g.delim (group_form g (end_form g.delim)) 0 b.0.1 e.0 s.0),
     ) in
-    let stands : Stands (about_kind (item.MacroRules n g)) 0 ts e.0 =
-    rw (rules_is n g) (spelled, and_from (is_name n.raw n.text) (is_group g) i.1 s.1, refl) in
+    let stands = rules_stand n g 0 ts e.0 spelled (and_from (is_name n.raw n.text) (is_group g) i.1 s.1) in
     same_some (Handed budget ts) ((item.MacroRules n g, 0), e.0) ((kind, need), rest) e.2 (omega arith, stands)
 
 call_item_sound : (budget : ℕ) (ts : Tokens) (kind : ItemKind) (need : ℕ) (rest : Tokens) → InText ts
