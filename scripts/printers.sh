@@ -10,7 +10,7 @@ set -e
 top=$(cd "$(dirname "$0")/.." && pwd)
 git clone --quiet "$top" "$1"
 cd "$1"
-echo "measure_printers: lay_token lay_io lay_stream lay_ring lay_printer" >>crates.txt
+echo "measure_printers: lay_text lay_layout lay_io lay_stream lay_ring lay_printer" >>crates.txt
 mkdir -p crates/measure_printers/src crates/measure_printers/proofs/at_once
 cd crates/measure_printers
 
@@ -19,12 +19,13 @@ cat >src/main.rt <<'END'
 #![tactic(auto)]
 
 ghost use Rattle.std.specs.Prelude.{◌≡◌, IfOk};
-ghost use Rattle.lay_token.specs.Machine.{opened};
+ghost use Rattle.lay_layout.specs.Machine.{opened};
 
 use lay_io::QuietSink;
+use lay_layout::{Break, Mark};
 use lay_printer::{PrintError, Printer};
 use lay_stream::{Emit, Stream, plain};
-use lay_token::{Break, Mark, NoMemory};
+use lay_text::NoMemory;
 use std::fs;
 use std::io::Print;
 use std::rt::{Clock, Files};
@@ -201,7 +202,7 @@ END
 
 cat >proofs/at_once/Invariants.antt <<'END'
 use Rattle.std.proofs.Common.{◌≡◌}
-use Rattle.lay_token.specs.Machine.{opened}
+use Rattle.lay_layout.specs.Machine.{opened}
 use Rattle.measure_printers.proofs.at_once.Given as goal
 
 abbrev pub invariant-loop : goal.invariant-loop

@@ -1,8 +1,8 @@
 //! Streams that are printed as they come: texts worked out by hand, random streams beside the slow printer, sinks that
 //! are handed in, and one that fails.
 ghost use Rattle.std.specs.Prelude.{◌≡◌, ◌∷◌, [], pos, true, IfOk, OnOk, OnErr};
-ghost use Rattle.lay_token.specs.declared.layout.Tok.TheVariants as tok;
-ghost use Rattle.lay_token.specs.Machine.{opened, text as text_of};
+ghost use Rattle.lay_layout.specs.declared.layout.Tok.TheVariants as tok;
+ghost use Rattle.lay_layout.specs.Machine.{opened, text as text_of};
 ghost use Rattle.lay_io.specs.Told.{GrewBy, GrewByPrefix};
 ghost use Rattle.lay_stream.specs.Fed.{Did};
 ghost use Rattle.lay_printer.specs.Errors.{Blames};
@@ -10,9 +10,10 @@ ghost use Rattle.lay_printer.specs.Errors.{Blames};
 use crate::words::{add, stream, text};
 use lay_given::{BETWEEN, parts};
 use lay_io::{Lent, MemorySink, QuietSink, Sink};
+use lay_layout::{Break, Mark, Tok};
 use lay_printer::{Core, Press, PrintError, Printer};
 use lay_stream::{Emit, Stream, plain};
-use lay_token::{Break, List, Mark, NoMemory, Text, Tok};
+use lay_text::{List, NoMemory, Text};
 use std::alloc::Global;
 use std::process::Abort;
 use std::test::Fail;

@@ -1,6 +1,7 @@
 //! Calls on rings and marks, in order, each that may answer `NoMemory` with ample memory.
+use lay_layout::Tok;
 use lay_ring::{Entry, Marks, Ring, Size};
-use lay_token::{NoMemory, Text, Tok};
+use lay_text::{NoMemory, Text};
 use std::alloc::Global;
 use std::process::Abort;
 use std::test::Fail;

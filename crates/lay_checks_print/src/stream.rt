@@ -1,7 +1,7 @@
 //! Layouts worked out by hand from the definitions: 89 columns, and 60 at the least after a newline.
 use crate::words::{stream, text};
 use lay_stream::plain;
-use lay_token::NoMemory;
+use lay_text::NoMemory;
 use std::alloc::Global;
 use std::process::Abort;
 

@@ -6,10 +6,11 @@
 //! that always is; `l:`, with `,` before a newline; `m:`, with `{` before it, `}` behind it and `,` instead of it; and
 //! of these three marks `o:` has the first, and `a:` the two others.
 ghost use Rattle.std.specs.Prelude.{◌≡◌, IfOk};
-ghost use Rattle.lay_token.specs.Machine.{opened};
+ghost use Rattle.lay_layout.specs.Machine.{opened};
 
+use lay_layout::{Break, Mark, Tok};
 use lay_stream::{Emit, Stream};
-use lay_token::{Break, Mark, NoMemory, Text, Tok};
+use lay_text::{NoMemory, Text};
 use std::alloc::Global;
 
 /// Adds what a word says to a text.

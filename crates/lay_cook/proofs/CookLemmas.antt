@@ -4,14 +4,14 @@ use Rattle.std.specs.Prelude.{◌==◌, encode_utf8_all}
 use Rattle.std.specs.Str.{chars}
 use Rattle.std.proofs.lemmas.Bool.{and_parts, not-true, not-false}
 use Rattle.std.proofs.lemmas.Str.{chars_from_encodes}
-use Rattle.lay_token.specs.Scan.{run}
-use Rattle.lay_token.specs.Quoted.{Plain, Hashes, string_step, raw_step}
-use Rattle.lay_token.specs.Forms.{after_literal, is_whole}
-use Rattle.lay_token.specs.declared.piece.quoted.Contents.TheVariants as of
-use Rattle.lay_token.specs.declared.token.Kind.{Kind}
-use Rattle.lay_token.specs.declared.token.Kind.TheVariants.{Str, RawStr}
-use Rattle.lay_token.specs.declared.text.Text.{Text}
-use Rattle.lay_token.proofs.Literals.{is_literal, had-literal}
+use Rattle.lay_piece.specs.Scan.{run}
+use Rattle.lay_piece.specs.Quoted.{Plain, Hashes, string_step, raw_step}
+use Rattle.lay_piece.specs.Forms.{after_literal, is_whole}
+use Rattle.lay_piece.specs.declared.piece.quoted.Contents.TheVariants as of
+use Rattle.lay_piece.specs.declared.kind.Kind.{Kind}
+use Rattle.lay_piece.specs.declared.kind.Kind.TheVariants.{Str, RawStr}
+use Rattle.lay_text.specs.declared.text.Text.{Text}
+use Rattle.lay_piece.proofs.Literals.{is_literal, had-literal}
 use Rattle.lay_cook.specs.declared.cooking.Cooked.TheVariants as cooked
 use Rattle.lay_cook.specs.Cooking.{CookedAs, IsPiece}
 use Rattle.lay_cook.specs.Steps.{IsLiteral, Closes, ClosesRaw, ends, ends_in_mark}

@@ -4,11 +4,11 @@ use Rattle.std.specs.Prelude.{◌==◌, nat_lt, nat_le}
 use Rattle.std.specs.Char.{is_ascii_hexdigit, InScalarRange}
 use Rattle.std.proofs.Math.Nat.{pow-suc, pow-le-pow_right}
 use Rattle.std.proofs.lemmas.Bool.{cases_Bool, and_parts, and_cases, not-true, ltb-true, leb-false, ne_eqb}
-use Rattle.lay_token.specs.Chars.{hex_value, is_between}
-use Rattle.lay_token.specs.Scan.{Next, Go, End, Bad}
-use Rattle.lay_token.specs.Quoted.{InEscape, Plain, Escape, Hex, HexTwo, Open, Digits, string_step, escape_step, digits_step, in_string, is_char_value}
-use Rattle.lay_token.specs.Value.{adds, string_value}
-use Rattle.lay_token.specs.declared.piece.quoted.Contents.TheVariants as of
+use Rattle.lay_piece.specs.Chars.{hex_value, is_between}
+use Rattle.lay_piece.specs.Scan.{Next, Go, End, Bad}
+use Rattle.lay_piece.specs.Quoted.{InEscape, Plain, Escape, Hex, HexTwo, Open, Digits, string_step, escape_step, digits_step, in_string, is_char_value}
+use Rattle.lay_piece.specs.Value.{adds, string_value}
+use Rattle.lay_piece.specs.declared.piece.quoted.Contents.TheVariants as of
 use Rattle.lay_cook.specs.Steps.{Closes, Reads}
 use Rattle.lay_cook.proofs.StepLemmas.{Goes, goes, stays}
 

@@ -8,16 +8,16 @@ use Rattle.std.proofs.lemmas.List.{append-nil}
 use Rattle.std.proofs.lemmas.Bool.{cases_Bool, and_parts, eqb-true, eq-eqb, ne_eqb, or_from, or_right}
 use Rattle.std.proofs.lemmas.Str.{IsUtf8-take, IsCharBoundary-before_ascii, encodes-append, encodes-chars, encode_ascii, encodes_same}
 use lib.Utf8.{encode}
-use Rattle.lay_token.specs.Scan.{Next, Go, End, Bad, run}
-use Rattle.lay_token.specs.Quoted.{InEscape, Backslash, InString, Plain, Turned, Escape, Skip, string_step, plain_step, in_string, escape_step, is_skipped, is_plain, InRaw, Hashes, Inside, Closing, raw_step, inside_step}
-use Rattle.lay_token.specs.Chars.{starts_word, in_word, is_word, is_suffix}
-use Rattle.lay_token.specs.Forms.{after_literal, is_literal_end, is_whole}
-use Rattle.lay_token.specs.declared.token.Kind.{Kind}
-use Rattle.lay_token.specs.declared.token.Kind.TheVariants.{Str, RawStr}
-use Rattle.lay_token.specs.declared.piece.quoted.Contents.TheVariants as of
-use Rattle.lay_token.proofs.Complete.{mark_in}
-use Rattle.lay_token.proofs.Literals.{starts_in, literal-split}
-use Rattle.lay_token.proofs.Runs.{next, run-nil, run-cons}
+use Rattle.lay_piece.specs.Scan.{Next, Go, End, Bad, run}
+use Rattle.lay_piece.specs.Quoted.{InEscape, Backslash, InString, Plain, Turned, Escape, Skip, string_step, plain_step, in_string, escape_step, is_skipped, is_plain, InRaw, Hashes, Inside, Closing, raw_step, inside_step}
+use Rattle.lay_piece.specs.Chars.{starts_word, in_word, is_word, is_suffix}
+use Rattle.lay_piece.specs.Forms.{after_literal, is_literal_end, is_whole}
+use Rattle.lay_piece.specs.declared.kind.Kind.{Kind}
+use Rattle.lay_piece.specs.declared.kind.Kind.TheVariants.{Str, RawStr}
+use Rattle.lay_piece.specs.declared.piece.quoted.Contents.TheVariants as of
+use Rattle.lay_piece.proofs.Complete.{mark_in}
+use Rattle.lay_piece.proofs.Literals.{starts_in, literal-split}
+use Rattle.lay_piece.proofs.Runs.{next, run-nil, run-cons}
 use Rattle.lay_cook.specs.Steps.{ends}
 
 pub record EndsWith (p : ℕ → Bool) (cs : List ℕ) : Type 0 where

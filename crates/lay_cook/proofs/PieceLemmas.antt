@@ -6,10 +6,10 @@ use Rattle.std.proofs.Math.Seq.{take-append_seam}
 use Rattle.std.proofs.lemmas.Bool.{and_parts, and_from}
 use Rattle.std.proofs.lemmas.Str.{encodes-append, encodes-chars, scalars-chars}
 use lib.Utf8.{scalar, scalars}
-use Rattle.lay_token.specs.Forms.{Had}
+use Rattle.lay_piece.specs.Forms.{Had}
 use Rattle.lay_token.specs.Lexes.{Part, Before, Other, Lexes, Fit, spell, step, is_index_place, size, text_of_piece, tokens_from}
-use Rattle.lay_token.specs.declared.token.Kind.TheVariants.{Str, RawStr}
-use Rattle.lay_token.specs.declared.token.Kind.{Kind}
+use Rattle.lay_piece.specs.declared.kind.Kind.TheVariants.{Str, RawStr}
+use Rattle.lay_piece.specs.declared.kind.Kind.{Kind}
 use Rattle.lay_token.specs.declared.token.Token.{Token}
 use Rattle.lay_cook.specs.Cooking.{IsPiece, IsString}
 

@@ -8,13 +8,13 @@ use Rattle.std.proofs.lemmas.List.{append-nil}
 use Rattle.std.proofs.lemmas.Bool.{eqb-true, and_parts}
 use Rattle.std.proofs.lemmas.Str.{encodes-append, encodes-chars}
 use lib.Utf8.{encode}
-use Rattle.lay_token.specs.Chars.{front, after}
-use Rattle.lay_token.specs.Scan.{Next, Go, End, Bad, run}
-use Rattle.lay_token.specs.Quoted.{InRaw, Hashes, Inside, Closing, raw_step, inside_step, is_plain}
-use Rattle.lay_token.specs.Value.{is_hash, raw_value}
-use Rattle.lay_token.specs.declared.piece.quoted.Contents.TheVariants as of
-use Rattle.lay_token.proofs.Runs.{next, run-nil, run-cons}
-use Rattle.lay_token.proofs.Fronts.{front-append, after-append}
+use Rattle.lay_piece.specs.Chars.{front, after}
+use Rattle.lay_piece.specs.Scan.{Next, Go, End, Bad, run}
+use Rattle.lay_piece.specs.Quoted.{InRaw, Hashes, Inside, Closing, raw_step, inside_step, is_plain}
+use Rattle.lay_piece.specs.Value.{is_hash, raw_value}
+use Rattle.lay_piece.specs.declared.piece.quoted.Contents.TheVariants as of
+use Rattle.lay_piece.proofs.Runs.{next, run-nil, run-cons}
+use Rattle.lay_piece.proofs.Fronts.{front-append, after-append}
 use Rattle.lay_cook.specs.Steps.{ClosesRaw}
 
 -- so many hashes

@@ -4,13 +4,13 @@ use Rattle.std.specs.Prelude.{◌==◌}
 use Rattle.std.specs.Str.{encode_utf8_all}
 use Rattle.std.proofs.lemmas.Str.{encodes-append}
 use Rattle.std.proofs.lemmas.Bool.{cases_Bool, or_parts, not-true, eqb-true, ne_eqb}
-use Rattle.lay_token.specs.Chars.{begins, after, front}
-use Rattle.lay_token.specs.Scan.{Next, Go, End, Bad, run}
-use Rattle.lay_token.specs.Quoted.{InString, Plain, Turned, Escape, Skip, Hex, Open, string_step, escape_step, is_plain, is_short_escape, is_skipped}
-use Rattle.lay_token.specs.Value.{adds, short_escape, string_value}
-use Rattle.lay_token.specs.declared.piece.quoted.Contents.TheVariants as of
-use Rattle.lay_token.proofs.Runs.{run-nil, run-step, string_skip}
-use Rattle.lay_token.proofs.Fronts.{after-stops}
+use Rattle.lay_piece.specs.Chars.{begins, after, front}
+use Rattle.lay_piece.specs.Scan.{Next, Go, End, Bad, run}
+use Rattle.lay_piece.specs.Quoted.{InString, Plain, Turned, Escape, Skip, Hex, Open, string_step, escape_step, is_plain, is_short_escape, is_skipped}
+use Rattle.lay_piece.specs.Value.{adds, short_escape, string_value}
+use Rattle.lay_piece.specs.declared.piece.quoted.Contents.TheVariants as of
+use Rattle.lay_piece.proofs.Runs.{run-nil, run-step, string_skip}
+use Rattle.lay_piece.proofs.Fronts.{after-stops}
 use Rattle.lay_cook.specs.Steps.{Closes, Reads, is_unmarked}
 
 -- The string goes on behind a character, which adds this to the value.

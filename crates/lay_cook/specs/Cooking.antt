@@ -1,8 +1,8 @@
 -- What a token says as a string.
 use Rattle.std.specs.Prelude.{◌≡◌, ℕ, Bool, List, IsUtf8, encode_utf8_all, Option, Some, None}
-use Rattle.lay_token.specs.Forms.{Had}
-use Rattle.lay_token.specs.declared.token.Kind.{Kind}
-use Rattle.lay_token.specs.declared.token.Kind.TheVariants.{Str, RawStr}
+use Rattle.lay_piece.specs.Forms.{Had}
+use Rattle.lay_piece.specs.declared.kind.Kind.{Kind}
+use Rattle.lay_piece.specs.declared.kind.Kind.TheVariants.{Str, RawStr}
 use Rattle.lay_token.specs.declared.token.Token.{Token}
 use Rattle.lay_cook.specs.declared.cooking.Cooked.{Cooked}
 use Rattle.lay_cook.specs.declared.cooking.Cooked.TheVariants as cooked

@@ -1,11 +1,11 @@
 -- What is left of a string on the way through it.
 use Rattle.std.specs.Prelude.{◌≡◌, ℕ, Bool, false, ◌||◌, ◌==◌, not, List, [], ◌∷◌, ◌++◌, IsTrue, Some}
-use Rattle.lay_token.specs.Scan.{run}
-use Rattle.lay_token.specs.Quoted.{InString, Plain, string_step}
-use Rattle.lay_token.specs.Forms.{after_literal, after_raw, is_literal_end}
-use Rattle.lay_token.specs.Value.{string_value}
-use Rattle.lay_token.specs.declared.piece.quoted.Contents.TheVariants as of
-use Rattle.lay_token.specs.declared.token.Kind.{Kind}
+use Rattle.lay_piece.specs.Scan.{run}
+use Rattle.lay_piece.specs.Quoted.{InString, Plain, string_step}
+use Rattle.lay_piece.specs.Forms.{after_literal, after_raw, is_literal_end}
+use Rattle.lay_piece.specs.Value.{string_value}
+use Rattle.lay_piece.specs.declared.piece.quoted.Contents.TheVariants as of
+use Rattle.lay_piece.specs.declared.kind.Kind.{Kind}
 
 -- The text is a literal of the kind, with a suffix or without.
 abbrev pub IsLiteral : Kind → List ℕ → Type 0

@@ -1,10 +1,10 @@
 //! The texts that tokens stand for.
 ghost use Rattle.std.specs.Prelude.{◌≡◌, ◌<◌, ◌==◌, IfOk, IsUtf8, not};
 ghost use Rattle.std.specs.Str.{chars};
-ghost use Rattle.lay_token.specs.Value.{value_of};
+ghost use Rattle.lay_piece.specs.Value.{value_of};
 ghost use Rattle.lay_cook.specs.Cooking.{CookedAs, IsString};
 ghost use Rattle.lay_cook.specs.Steps.{IsLiteral, ends, ends_in_mark};
-ghost use Rattle.lay_token.specs.declared.token.Kind.TheVariants as kind;
+ghost use Rattle.lay_piece.specs.declared.kind.Kind.TheVariants as kind;
 
 use crate::raw::raw_value;
 use crate::strings::{next, push_value};

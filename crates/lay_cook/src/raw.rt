@@ -1,7 +1,7 @@
 //! The values of raw strings.
 ghost use Rattle.std.specs.Prelude.{◌≡◌, encode_utf8_all};
 ghost use Rattle.std.specs.Str.{chars};
-ghost use Rattle.lay_token.specs.Value.{raw_value};
+ghost use Rattle.lay_piece.specs.Value.{raw_value};
 ghost use Rattle.lay_cook.specs.Steps.{ClosesRaw};
 
 use lay_token::piece::chars::CharSet;

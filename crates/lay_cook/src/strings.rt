@@ -2,10 +2,10 @@
 ghost use Rattle.std.specs.Prelude.{◌≡◌, ◌≢◌, ◌≤◌, ◌<◌, ◌∷◌, ◌++◌, [], length, IsTrue, OnOk, encode_utf8_all, option_to_list};
 ghost use Rattle.std.specs.Str.{chars};
 ghost use Rattle.std.specs.Char.{is_ascii_hexdigit};
-ghost use Rattle.lay_token.specs.Chars.{after, front, hex_value};
-ghost use Rattle.lay_token.specs.Quoted.{Digits, Escape, Hex, Open, Plain, Turned, is_short_escape};
-ghost use Rattle.lay_token.specs.Value.{short_escape, string_value};
-ghost use Rattle.lay_token.specs.declared.piece.quoted.Contents.TheVariants as of;
+ghost use Rattle.lay_piece.specs.Chars.{after, front, hex_value};
+ghost use Rattle.lay_piece.specs.Quoted.{Digits, Escape, Hex, Open, Plain, Turned, is_short_escape};
+ghost use Rattle.lay_piece.specs.Value.{short_escape, string_value};
+ghost use Rattle.lay_piece.specs.declared.piece.quoted.Contents.TheVariants as of;
 ghost use Rattle.lay_cook.specs.Steps.{Closes, Reads, is_unmarked};
 
 use lay_token::piece::chars::{CharSet, behind, first};

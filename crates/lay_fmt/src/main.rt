@@ -6,7 +6,7 @@ ghost use Rattle.lay_fmt.specs.Exit.{number_of};
 
 use lay_front::{Status, run};
 use lay_io::{HostInputs, HostSink};
-use lay_token::{NoMemory, Text};
+use lay_text::{NoMemory, Text};
 use std::alloc::Global;
 use std::process::ExitCode;
 use std::rt::Env;

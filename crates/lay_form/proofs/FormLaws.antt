@@ -2,8 +2,8 @@
 use Rattle.std.proofs.Common.{◌≡◌, inl, inr, ℕ, zero, suc, ◌-◌, ◌≤◌, Bool, List, [], ◌∷◌, ◌++◌, length, take, sym, ap, ◌∙◌, arith, append_assoc, length-append}
 use Rattle.std.proofs.lemmas.List.{take-append-drop}
 use Rattle.std.specs.Prelude.{codes}
-use Rattle.lay_token.specs.declared.token.Delim.TheVariants.{Bracket, Brace}
-use Rattle.lay_token.specs.declared.token.Kind.{Kind}
+use Rattle.lay_piece.specs.declared.kind.Delim.TheVariants.{Bracket, Brace}
+use Rattle.lay_piece.specs.declared.kind.Kind.{Kind}
 use Rattle.lay_token.specs.declared.token.Token.{Token}
 use Rattle.lay_form.specs.Depth.{least_depth}
 use Rattle.lay_form.specs.Form.{Bit, Blank, Fixed, Operator, Semicolons, Behind, Nothing, ArmComma, Form, Done, Piece, Leaf, Listed, ListedDoc, Brk, LastComma, Group, Part, Deeper, Optional, Docs, Body, keyword, opener, closer, comma}

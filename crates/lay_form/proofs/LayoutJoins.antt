@@ -1,11 +1,11 @@
 -- The layout of a form in front of a document is its layout alone, joined to the document.
 use Rattle.std.proofs.Common.{◌≡◌, ℕ, Bool, true, false, List, [], ◌∷◌, pos, refl, sym, ap, ◌∙◌}
 use Rattle.std.specs.Prelude.{codes}
-use Rattle.lay_token.specs.Docs.{doc_form}
-use Rattle.lay_token.specs.Document.{Document, Empty, AddText, AddBreak, AddGroup, joined}
-use Rattle.lay_token.specs.Forms.{doc_opening}
-use Rattle.lay_token.specs.declared.token.Kind.{Kind}
-use Rattle.lay_token.specs.declared.token.Kind.TheVariants.{RawIdent, Doc}
+use Rattle.lay_piece.specs.Docs.{doc_form}
+use Rattle.lay_layout.specs.Document.{Document, Empty, AddText, AddBreak, AddGroup, joined}
+use Rattle.lay_piece.specs.Forms.{doc_opening}
+use Rattle.lay_piece.specs.declared.kind.Kind.{Kind}
+use Rattle.lay_piece.specs.declared.kind.Kind.TheVariants.{RawIdent, Doc}
 use Rattle.lay_form.specs.Form.{Hard, Behind, Bare, Unseen, Marked, Nothing, ArmComma, Form, Done, Piece, Leaf, Listed, ListedDoc, Brk, LastComma, Group, Part, Deeper, Optional, Docs, Body}
 use Rattle.lay_form.specs.Layout.{add, add_doc, add_token, add_behind, is_block, keeps_point, space_ends_in_point, point_behind, ends_behind_point, break_of, comma_break, opening_break, closing_break, laid_out}
 use Rattle.lay_form.specs.Notation.{lines}

@@ -2,14 +2,14 @@
 use Rattle.std.proofs.Common.{◌≡◌, ℕ, Bool, true, false, List, [], ◌∷◌, ◌++◌, refl, inl, inr, arith}
 use Rattle.std.specs.Prelude.{codes, replicate}
 use Rattle.std.specs.Str.{chars}
-use Rattle.lay_token.specs.Docs.{doc_form}
-use Rattle.lay_token.specs.Document.{Empty, AddText, text_of}
+use Rattle.lay_piece.specs.Docs.{doc_form}
+use Rattle.lay_layout.specs.Document.{Empty, AddText, text_of}
 use Rattle.lay_token.specs.Operators.{op_at}
-use Rattle.lay_token.specs.Quoted.{doc_step, block_step}
-use Rattle.lay_token.specs.Scan.{run}
-use Rattle.lay_token.specs.declared.token.Delim.TheVariants.{Paren, Brace}
-use Rattle.lay_token.specs.declared.token.Kind.{Kind}
-use Rattle.lay_token.specs.declared.token.Kind.TheVariants.{Ident, Float, Punct, Opener, Closer, Doc}
+use Rattle.lay_piece.specs.Quoted.{doc_step, block_step}
+use Rattle.lay_piece.specs.Scan.{run}
+use Rattle.lay_piece.specs.declared.kind.Delim.TheVariants.{Paren, Brace}
+use Rattle.lay_piece.specs.declared.kind.Kind.{Kind}
+use Rattle.lay_piece.specs.declared.kind.Kind.TheVariants.{Ident, Float, Punct, Opener, Closer, Doc}
 use Rattle.lay_token.specs.declared.token.Token.{Token}
 use Rattle.lay_form.specs.Depth.{least_depth, alone}
 use Rattle.lay_form.specs.Form.{Blank, Operator, Semicolons, Braces, Bare, Unseen, Marked, Nothing, ArmComma, Form, Done, Piece, Leaf, Listed, ListedDoc, Part, Deeper, Body, punct, opener, closer, semicolon}

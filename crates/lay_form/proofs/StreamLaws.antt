@@ -1,13 +1,13 @@
 -- The stream of a form is that of its document.
 use Rattle.std.proofs.Common.{◌≡◌, ℕ, Bool, true, false, List, [], ◌∷◌, ◌++◌, pos, refl, sym, ap, ◌∙◌, append_assoc, append-nil}
 use Rattle.std.specs.Prelude.{codes}
-use Rattle.lay_token.specs.Docs.{doc_form}
-use Rattle.lay_token.specs.Document.{Document, Empty, AddBreak, AddGroup, stream}
-use Rattle.lay_token.specs.Forms.{doc_opening}
-use Rattle.lay_token.specs.declared.layout.Tok.{Tok}
-use Rattle.lay_token.specs.declared.layout.Tok.TheVariants as tok
-use Rattle.lay_token.specs.declared.token.Kind.{Kind}
-use Rattle.lay_token.specs.declared.token.Kind.TheVariants.{RawIdent, Doc}
+use Rattle.lay_piece.specs.Docs.{doc_form}
+use Rattle.lay_layout.specs.Document.{Document, Empty, AddBreak, AddGroup, stream}
+use Rattle.lay_piece.specs.Forms.{doc_opening}
+use Rattle.lay_layout.specs.declared.layout.Tok.{Tok}
+use Rattle.lay_layout.specs.declared.layout.Tok.TheVariants as tok
+use Rattle.lay_piece.specs.declared.kind.Kind.{Kind}
+use Rattle.lay_piece.specs.declared.kind.Kind.TheVariants.{RawIdent, Doc}
 use Rattle.lay_form.specs.Form.{Behind, Bare, Unseen, Marked, Nothing, ArmComma, Form, Done, Piece, Leaf, Listed, ListedDoc, Brk, LastComma, Group, Part, Deeper, Optional, Docs, Body}
 use Rattle.lay_form.specs.Layout.{add, add_doc, add_token, add_behind, is_block, point_behind, ends_behind_point, opening_break, closing_break, laid_out, document}
 use Rattle.lay_form.specs.Stream.{feed_text, feed_doc, feed_token, feed_behind, fed, stream_of}

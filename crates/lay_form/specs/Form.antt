@@ -1,10 +1,10 @@
 -- A form lists the parts of a node in order. From it follow the tokens that spell the node, and its layout.
 use Rattle.std.specs.Prelude.{ℕ, Bool, List, [], ◌∷◌}
-use Rattle.lay_token.specs.Characters as char
-use Rattle.lay_token.specs.Forms.{opening, closing}
-use Rattle.lay_token.specs.declared.token.Delim.{Delim}
-use Rattle.lay_token.specs.declared.token.Kind.{Kind}
-use Rattle.lay_token.specs.declared.token.Kind.TheVariants.{Ident, Punct, Opener, Closer}
+use Rattle.lay_piece.specs.Characters as char
+use Rattle.lay_piece.specs.Forms.{opening, closing}
+use Rattle.lay_piece.specs.declared.kind.Delim.{Delim}
+use Rattle.lay_piece.specs.declared.kind.Kind.{Kind}
+use Rattle.lay_piece.specs.declared.kind.Kind.TheVariants.{Ident, Punct, Opener, Closer}
 
 -- what a piece is made of
 pub data Bit : Type 0 where

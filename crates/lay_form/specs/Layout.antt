@@ -1,19 +1,19 @@
 -- The layout of a form: its document.
 use Rattle.std.specs.Prelude.{ℕ, zero, suc, Bool, true, false, cond, ◌&&◌, ◌==◌, List, [], ◌∷◌, ◌++◌, ℤ, pos, negsuc, codes}
 use Rattle.std.specs.Str.{chars, bytes_eq}
-use Rattle.lay_token.specs.Characters as char
-use Rattle.lay_token.specs.Chars.{begins}
-use Rattle.lay_token.specs.Docs.{doc_form}
-use Rattle.lay_token.specs.Document.{Document, Empty, AddText, AddBreak, AddGroup}
-use Rattle.lay_token.specs.Forms.{doc_opening}
-use Rattle.lay_token.specs.Number.{ends_in_point}
-use Rattle.lay_token.specs.declared.doc.DocForm.{DocForm}
-use Rattle.lay_token.specs.declared.doc.DocForm.TheVariants as doc
-use Rattle.lay_token.specs.declared.layout.Break.{Break}
-use Rattle.lay_token.specs.declared.layout.Mark.{Mark}
-use Rattle.lay_token.specs.declared.layout.Mark.TheVariants.{Absent, Comma, OpenBrace, CloseBrace}
-use Rattle.lay_token.specs.declared.token.Kind.{Kind}
-use Rattle.lay_token.specs.declared.token.Kind.TheVariants.{RawIdent, Float, Doc}
+use Rattle.lay_piece.specs.Characters as char
+use Rattle.lay_piece.specs.Chars.{begins}
+use Rattle.lay_piece.specs.Docs.{doc_form}
+use Rattle.lay_layout.specs.Document.{Document, Empty, AddText, AddBreak, AddGroup}
+use Rattle.lay_piece.specs.Forms.{doc_opening}
+use Rattle.lay_piece.specs.Number.{ends_in_point}
+use Rattle.lay_piece.specs.declared.doc.DocForm.{DocForm}
+use Rattle.lay_piece.specs.declared.doc.DocForm.TheVariants as doc
+use Rattle.lay_layout.specs.declared.layout.Break.{Break}
+use Rattle.lay_layout.specs.declared.layout.Mark.{Mark}
+use Rattle.lay_layout.specs.declared.layout.Mark.TheVariants.{Absent, Comma, OpenBrace, CloseBrace}
+use Rattle.lay_piece.specs.declared.kind.Kind.{Kind}
+use Rattle.lay_piece.specs.declared.kind.Kind.TheVariants.{RawIdent, Float, Doc}
 use Rattle.lay_form.specs.Form.{Bit, Blank, Fixed, Operator, Semicolons, Space, Soft, Hard, Never, Braces, Bare, Unseen, Marked, Behind, Nothing, ArmComma, Form, Done, Piece, Leaf, Listed, ListedDoc, Brk, LastComma, Group, Part, Deeper, Optional, Docs, Body}
 
 abbrev pub text_of_bit : Bit → List ℕ

@@ -1,6 +1,6 @@
 -- The notation of the grammar: breaks and groups, and lists, bodies, fields and braces of parts.
 use Rattle.std.specs.Prelude.{ℕ, Bool, true, false, List, [], ◌∷◌, ◌++◌, codes}
-use Rattle.lay_token.specs.declared.token.Delim.TheVariants.{Brace}
+use Rattle.lay_piece.specs.declared.kind.Delim.TheVariants.{Brace}
 use Rattle.lay_form.specs.Form.{Bit, Blank, Semicolons, Soft, Hard, Never, Form, Done, Piece, Brk, LastComma, Group, Part, Optional, keyword, opener, closer, comma}
 
 -- breaks of no blank, of one blank, hard ones and those that are never a newline; `-` is one step back

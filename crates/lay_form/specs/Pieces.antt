@@ -1,9 +1,9 @@
 -- Which forms have pieces of their kinds as their tokens.
 use Rattle.std.specs.Prelude.{ℕ, Bool, true, ◌&&◌, List, ◌++◌, codes}
 use Rattle.std.specs.Str.{chars, is_utf8}
-use Rattle.lay_token.specs.Forms.{has_form}
-use Rattle.lay_token.specs.declared.token.Kind.{Kind}
-use Rattle.lay_token.specs.declared.token.Kind.TheVariants.{RawIdent, Doc}
+use Rattle.lay_piece.specs.Forms.{has_form}
+use Rattle.lay_piece.specs.declared.kind.Kind.{Kind}
+use Rattle.lay_piece.specs.declared.kind.Kind.TheVariants.{RawIdent, Doc}
 use Rattle.lay_form.specs.Form.{Form, Done, Piece, Leaf, Listed, ListedDoc, Brk, LastComma, Group, Part, Deeper, Optional, Docs, Body}
 
 -- A piece of the kind has this text; the text of documentation is UTF-8.

@@ -1,12 +1,12 @@
 -- Which tokens spell a form at a depth. Each relation R x ts rest says that the front of ts, up to rest, spells x.
 use Rattle.std.specs.Prelude.{ℕ, zero, suc, ◌-◌, ◌≤◌, ◌≡◌, Bool, true, false, ◌||◌, List, [], ◌∷◌, ◌++◌, IsTrue, ◌⊎◌, codes, length, drop, Some, encode_utf8_all}
 use Rattle.std.specs.Str.{chars}
-use Rattle.lay_token.specs.Characters as char
+use Rattle.lay_piece.specs.Characters as char
 use Rattle.lay_token.specs.Operators.{is_op}
-use Rattle.lay_token.specs.Value.{value_of}
-use Rattle.lay_token.specs.declared.token.Delim.TheVariants.{Bracket, Brace}
-use Rattle.lay_token.specs.declared.token.Kind.{Kind}
-use Rattle.lay_token.specs.declared.token.Kind.TheVariants.{Punct, Doc}
+use Rattle.lay_piece.specs.Value.{value_of}
+use Rattle.lay_piece.specs.declared.kind.Delim.TheVariants.{Bracket, Brace}
+use Rattle.lay_piece.specs.declared.kind.Kind.{Kind}
+use Rattle.lay_piece.specs.declared.kind.Kind.TheVariants.{Punct, Doc}
 use Rattle.lay_token.specs.declared.token.Token.{Token}
 use Rattle.lay_form.specs.Form.{Bit, Blank, Fixed, Operator, Semicolons, Braces, Bare, Unseen, Marked, Behind, Nothing, ArmComma, Form, Done, Piece, Leaf, Listed, ListedDoc, Brk, LastComma, Group, Part, Deeper, Optional, Docs, Body, punct, keyword, opener, closer, comma}
 

@@ -1,12 +1,12 @@
 -- The stream of a form: what a printer is fed. It is the flattening of the form's document, said again in the order in
 -- which the layout crates feed it; these are the words of their contracts.
 use Rattle.std.specs.Prelude.{ℕ, Bool, true, false, cond, List, [], ◌∷◌, codes, pos}
-use Rattle.lay_token.specs.Docs.{doc_form}
-use Rattle.lay_token.specs.Forms.{doc_opening}
-use Rattle.lay_token.specs.declared.layout.Tok.{Tok}
-use Rattle.lay_token.specs.declared.layout.Tok.TheVariants.{Text, Break, Begin, End}
-use Rattle.lay_token.specs.declared.token.Kind.{Kind}
-use Rattle.lay_token.specs.declared.token.Kind.TheVariants.{RawIdent, Doc}
+use Rattle.lay_piece.specs.Docs.{doc_form}
+use Rattle.lay_piece.specs.Forms.{doc_opening}
+use Rattle.lay_layout.specs.declared.layout.Tok.{Tok}
+use Rattle.lay_layout.specs.declared.layout.Tok.TheVariants.{Text, Break, Begin, End}
+use Rattle.lay_piece.specs.declared.kind.Kind.{Kind}
+use Rattle.lay_piece.specs.declared.kind.Kind.TheVariants.{RawIdent, Doc}
 use Rattle.lay_form.specs.Form.{Bare, Unseen, Marked, Behind, Nothing, ArmComma, Form, Done, Piece, Leaf, Listed, ListedDoc, Brk, LastComma, Group, Part, Deeper, Optional, Docs, Body}
 use Rattle.lay_form.specs.Layout.{text_of_bits, is_block, token_ends_in_point, bits_end_in_point, keeps_point, space_ends_in_point, point_behind, ends_behind_point, led, break_of, comma_break, opening_break, closing_break}
 

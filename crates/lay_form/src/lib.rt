@@ -14,7 +14,7 @@ ghost use Rattle.lay_form.specs.Form.{Form};
 ghost use Rattle.lay_form.specs.Layout.{document};
 ghost use Rattle.lay_form.specs.Spelled.{Spells};
 ghost use Rattle.lay_form.specs.Stream.{stream_of};
-ghost use Rattle.lay_token.specs.Document.{stream};
+ghost use Rattle.lay_layout.specs.Document.{stream};
 ghost use Rattle.lay_token.specs.declared.token.Token.{Token};
 
 /// The laws of forms. A form is spelled at no depth below its least, and what is spelled at a depth is spelled at each

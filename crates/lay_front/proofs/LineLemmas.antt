@@ -2,11 +2,11 @@
 use Rattle.std.proofs.Common.{◌≡◌, ℕ, Bool, Option, Some, None, true, false, List, [], ◌∷◌, ◌++◌, map, codes, sym, ap, ◌∙◌, append_assoc, arith, refl, Ok, ◌+◌}
 use Rattle.std.proofs.lemmas.Bool.{lt-ltb}
 use Rattle.std.proofs.lemmas.Grind.{flat_map-append}
-use Rattle.lay_token.specs.declared.layout.Break.{Break}
-use Rattle.lay_token.specs.declared.layout.Tok.{Tok}
-use Rattle.lay_token.specs.declared.layout.Tok.TheVariants as tok
-use Rattle.lay_token.specs.Document.{Document, Empty, AddText, AddBreak, AddGroup, joined, stream, outside, start, text_of, break_by, over, width_of_break, write}
-use Rattle.lay_token.proofs.Lines.{stream_joined, EndsLine, text_joined}
+use Rattle.lay_layout.specs.declared.layout.Break.{Break}
+use Rattle.lay_layout.specs.declared.layout.Tok.{Tok}
+use Rattle.lay_layout.specs.declared.layout.Tok.TheVariants as tok
+use Rattle.lay_layout.specs.Document.{Document, Empty, AddText, AddBreak, AddGroup, joined, stream, outside, start, text_of, break_by, over, width_of_break, write}
+use Rattle.lay_layout.proofs.Lines.{stream_joined, EndsLine, text_joined}
 use Rattle.lay_stream.specs.Fed.{Start, Did}
 use Rattle.lay_stream.specs.Listed.{list_meanings}
 use Rattle.lay_form.specs.Form.{Form, Hard}

@@ -7,15 +7,15 @@ use Rattle.lay_token.specs.Source.{Source, source}
 use Rattle.lay_token.specs.Delimiters.{Balanced}
 use Rattle.lay_token.specs.Lexes.{Lexes}
 use Rattle.lay_token.specs.declared.token.Token.{Token}
-use Rattle.lay_token.specs.declared.refusal.Refusal.{Refusal}
-use Rattle.lay_token.specs.declared.refusal.Refusal.TheVariants.{NotUtf8, NoToken, Unbalanced, NoItem}
+use Rattle.lay_text.specs.declared.refusal.Refusal.{Refusal}
+use Rattle.lay_text.specs.declared.refusal.Refusal.TheVariants.{NotUtf8, NoToken, Unbalanced, NoItem}
 use Rattle.lay_tree.specs.Out.{out}
 use Rattle.lay_tree.specs.Reading.{Reads, IsRefused, SpellsFile}
 use Rattle.lay_tree.specs.declared.file.File.{File}
 use Rattle.lay_laws.proofs.file.OneAnswer.{same_source, same_tokens, one_file, one_refusal, never_both}
 use Rattle.lay_laws.proofs.file.Reparse.{again}
-use Rattle.lay_token.specs.declared.refusal.FormatError.{FormatError}
-use Rattle.lay_token.specs.declared.refusal.FormatError.TheVariants as error
+use Rattle.lay_text.specs.declared.refusal.FormatError.{FormatError}
+use Rattle.lay_text.specs.declared.refusal.FormatError.TheVariants as error
 use Rattle.lay_read_code.specs.Answers.{FileAs}
 use Rattle.lay_front.specs.Readings.{ReadsOnlyTo, ReadAs}
 use Rattle.lay_front.specs.Outcome.{Wrote, Formats, FormatRun}

@@ -1,7 +1,7 @@
 -- The text of a file, line by line: each attribute and each item ends in a newline.
 use Rattle.std.specs.Prelude.{ℕ, false, List, [], ◌++◌, codes, Option, Some, None}
 use Rattle.std.specs.List.{flat_map}
-use Rattle.lay_token.specs.Document.{Empty, AddBreak, joined, text_of}
+use Rattle.lay_layout.specs.Document.{Empty, AddBreak, joined, text_of}
 use Rattle.lay_form.specs.Form.{Form, Hard}
 use Rattle.lay_form.specs.Layout.{break_of, document}
 

@@ -1,7 +1,7 @@
 -- What a reader of bytes answers.
 use Rattle.std.specs.Prelude.{ℕ, ◌≡◌, List, Result, Ok, Err}
-use Rattle.lay_token.specs.declared.refusal.FormatError.{FormatError}
-use Rattle.lay_token.specs.declared.refusal.FormatError.TheVariants.{Refused, NoMemory}
+use Rattle.lay_text.specs.declared.refusal.FormatError.{FormatError}
+use Rattle.lay_text.specs.declared.refusal.FormatError.TheVariants.{Refused, NoMemory}
 use Rattle.lay_tree.specs.Reading.{Reads, IsRefused}
 use Rattle.lay_tree.specs.declared.file.File.{File}
 

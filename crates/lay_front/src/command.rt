@@ -4,7 +4,7 @@ ghost use Rattle.lay_io.specs.Faults.{Rose, SameLoan};
 ghost use Rattle.lay_io.specs.Told.{GrewBy};
 ghost use Rattle.lay_io.specs.declared.outside.Which.{Which};
 ghost use Rattle.lay_io.specs.declared.outside.Which.TheVariants.{Stdin};
-ghost use Rattle.lay_token.specs.declared.refusal.Refusal.{Refusal};
+ghost use Rattle.lay_text.specs.declared.refusal.Refusal.{Refusal};
 ghost use Rattle.lay_tree.specs.Out.{out as text_of_file};
 ghost use Rattle.lay_tree.specs.Reading.{IsRefused, Reads};
 ghost use Rattle.lay_front.specs.Outcome.{FormatRun};

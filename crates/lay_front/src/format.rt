@@ -3,7 +3,7 @@ ghost use Rattle.std.specs.Prelude.{◌≡◌, ◌≤◌, ◌⊎◌, ℕ, List a
 ghost use Rattle.lay_io.specs.Faults.{HasCause, Rose, SameLoan};
 ghost use Rattle.lay_io.specs.Told.{GrewBy, GrewByPrefix};
 ghost use Rattle.lay_io.specs.Calls.{Writes};
-ghost use Rattle.lay_token.specs.declared.refusal.Refusal.{Refusal};
+ghost use Rattle.lay_text.specs.declared.refusal.Refusal.{Refusal};
 ghost use Rattle.lay_tree.specs.Out.{out as text_of_file};
 ghost use Rattle.lay_tree.specs.Reading.{IsRefused, Reads};
 ghost use Rattle.lay_tree.specs.nodes.Attr.{attr_form};

@@ -8,7 +8,7 @@ ghost use Rattle.lay_io.specs.Faults.{CountsOnce, HasCause, one_more};
 
 use crate::outside::{Failed, Inputs, Which};
 use crate::stored::{NamedFile, content, content_or_empty, take_next};
-use lay_token::List;
+use lay_text::List;
 
 /// Inputs that never fail. A file that isn't in the list is empty.
 #[derive(Debug, Drop)]

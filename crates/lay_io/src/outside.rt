@@ -6,7 +6,7 @@ ghost use Rattle.lay_io.specs.Calls.{Writes, Takes, left_of};
 ghost use Rattle.lay_io.specs.declared.outside.Failed.{Failed};
 ghost use Rattle.lay_io.specs.declared.outside.Which.{Which};
 
-use lay_token::Text;
+use lay_text::Text;
 
 /// Which input is read.
 #[derive(Debug, Drop)]

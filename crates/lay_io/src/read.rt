@@ -6,7 +6,7 @@ ghost use Rattle.lay_io.specs.Calls.{left_of};
 ghost use Rattle.lay_io.specs.declared.outside.Which.{Which};
 
 use crate::outside::{Failed, Inputs};
-use lay_token::List;
+use lay_text::List;
 use std::alloc::Global;
 
 /// Why an input was not read to its end.

@@ -2,7 +2,7 @@
 ghost use Rattle.std.specs.Prelude.{◌≡◌, ◌+◌, ◌<◌, ◌≤◌, ◌++◌, length, take, IfOk, IfSome};
 ghost use Rattle.std.specs.Box.{boxed_slice_len};
 
-use lay_token::NoMemory;
+use lay_text::NoMemory;
 use std::alloc::Global;
 use std::boxed::BoxedSlice;
 

@@ -4,7 +4,7 @@ ghost use Rattle.lay_io.specs.Kept.{empty};
 
 use crate::outside::{Failed, Sink};
 use crate::room::Room;
-use lay_token::{List, NoMemory};
+use lay_text::{List, NoMemory};
 use std::alloc::Global;
 use std::marker::Model;
 

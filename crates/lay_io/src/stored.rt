@@ -5,7 +5,7 @@ ghost use Rattle.std.specs.Str.{bytes_eq};
 ghost use Rattle.lay_io.specs.Stored.{content_of};
 
 use crate::outside::Which;
-use lay_token::{List, Text};
+use lay_text::{List, Text};
 
 /// A file of an object in memory.
 #[derive(Debug, Drop)]

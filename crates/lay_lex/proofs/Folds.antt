@@ -6,7 +6,7 @@ use Rattle.std.specs.Str.{chars, encode_utf8_all}
 use Rattle.std.proofs.lemmas.Bool.{cases_lt, ne_eqb, or_parts}
 use Rattle.std.proofs.lemmas.Str.{encode_ascii, inside_one, encodes-chars, scalars-chars, chars-encodes}
 use lib.Utf8.{encode}
-use Rattle.lay_token.specs.Chars.{begins}
+use Rattle.lay_piece.specs.Chars.{begins}
 use Rattle.lay_token.specs.Source.{folded}
 use Rattle.lay_token.proofs.Encoding.{begins_encodes, no_one, scalars-folded}
 

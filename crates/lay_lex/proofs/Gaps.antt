@@ -2,10 +2,10 @@
 use Rattle.std.proofs.Common.{◌≡◌, ◌≢◌, ◌⊎◌, inl, inr, ℕ, List, [], ◌∷◌, ◌++◌, Bool, true, false, cond, Some, None, sym, refl, ap, ◌∙◌, subst}
 use Rattle.std.specs.Prelude.{IsTrue, IsFalse}
 use Rattle.std.proofs.lemmas.Bool.{cases_Bool, ne_eqb}
-use Rattle.lay_token.specs.Chars.{is_white}
-use Rattle.lay_token.specs.Gap.{InGap, Outside, Spoilt, gap_step, gap_end, is_closed, is_closed_or_line, is_gap, is_last_gap}
-use Rattle.lay_token.specs.Lexes.{BeginsNoGap}
-use Rattle.lay_token.proofs.GapLaws.{closed_is_outside}
+use Rattle.lay_piece.specs.Chars.{is_white}
+use Rattle.lay_piece.specs.Gap.{InGap, Outside, Spoilt, gap_step, gap_end, is_closed, is_closed_or_line, is_gap, is_last_gap}
+use Rattle.lay_piece.specs.Begins.{BeginsNoGap}
+use Rattle.lay_piece.proofs.GapLaws.{closed_is_outside}
 use Rattle.lay_lex.specs.Gap.{rest_of}
 
 pub rest_of-spoilt : (closed cs : List ℕ) → rest_of Spoilt closed cs ≡ Some closed

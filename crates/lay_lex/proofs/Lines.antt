@@ -6,13 +6,13 @@ use Rattle.std.specs.Prelude.{◌==◌}
 use Rattle.std.proofs.lemmas.Bool.{false_from_ne_true, eqb-true, not-false, cond_both}
 use lib.Utf8.{encode, scalars}
 use Rattle.std.proofs.lemmas.Str.{encode_ascii, encodes-append, encodes-chars, IsCharBoundary-at_seam, IsCharBoundary-start, scalars-chars, IsUtf8-from_is_utf8, is_utf8-from_IsUtf8, length-le-encodes}
-use Rattle.lay_token.specs.Chars.{begins, front, after, is_nil}
+use Rattle.lay_piece.specs.Chars.{begins, front, after, is_nil}
 use Rattle.lay_token.specs.Lexes.{size}
 use Rattle.lay_token.specs.Source as definition
 use Rattle.lay_token.specs.Source.{folded, is_shebang, is_in_line, line_size, source, source_of, without_mark}
-use Rattle.lay_token.specs.declared.refusal.Refusal.TheVariants.{NotUtf8}
-use Rattle.lay_token.proofs.Texts.{text_parts, length_parts}
-use Rattle.lay_token.proofs.Fronts.{front-after, after-stops}
+use Rattle.lay_text.specs.declared.refusal.Refusal.TheVariants.{NotUtf8}
+use Rattle.lay_piece.proofs.Texts.{text_parts, length_parts}
+use Rattle.lay_piece.proofs.Fronts.{front-after, after-stops}
 use Rattle.lay_token.proofs.Encoding.{scalars-without_mark, scalars-folded, scalars_parts}
 use Rattle.lay_lex.specs.Source.{seen}
 use Rattle.lay_lex.specs.declared.source.Source.{Source}

@@ -6,10 +6,10 @@ use Rattle.std.proofs.lemmas.Bool.Decides.{same_from_decides, Decides-like}
 use Rattle.std.proofs.lemmas.List.{append-nil}
 use Rattle.std.proofs.lemmas.Slice.Eq.{bytes_eq-Decides}
 use Rattle.std.proofs.lemmas.Str.{encodes_same, encode_ascii}
-use Rattle.lay_token.specs.Chars.{is_nil}
+use Rattle.lay_piece.specs.Chars.{is_nil}
 use Rattle.lay_token.specs.Lexes.{Part, Before, Other, Point, Points, is_punct, is_point, is_separator, is_joint, step, text_of_piece}
-use Rattle.lay_token.specs.declared.token.Kind.{Kind}
-use Rattle.lay_token.specs.declared.token.Kind.TheVariants.{Punct}
+use Rattle.lay_piece.specs.declared.kind.Kind.{Kind}
+use Rattle.lay_piece.specs.declared.kind.Kind.TheVariants.{Punct}
 use Rattle.lay_lex.specs.Tokens.{behind, is_mark, token_of}
 
 one_byte : (d : ℕ) → d < 128 → encode_utf8_all (d ∷ []) ≡ d ∷ []

@@ -4,13 +4,14 @@ use Rattle.std.specs.Prelude.{IsTrue, ◌==◌}
 use Rattle.std.specs.Str.{chars, IsCharBoundary}
 use Rattle.std.proofs.lemmas.Bool.{eq-eqb, ne_eqb}
 use Rattle.std.proofs.lemmas.Str.{length-le-encodes, IsUtf8-drop}
-use Rattle.lay_token.specs.Chars.{is_nil}
-use Rattle.lay_token.specs.Forms.{Had, had}
-use Rattle.lay_token.specs.Gap.{Outside, is_gap, is_last_gap}
-use Rattle.lay_token.specs.Lexes.{Part, spell, Before, Other, is_index_place, step, steps, Fit, size, tokens_from, is_joint, Lexes, NoTokenAt, PartsBefore, BeginsNoGap, BeginsNoPiece}
-use Rattle.lay_token.specs.declared.token.Kind.{Kind}
+use Rattle.lay_piece.specs.Chars.{is_nil}
+use Rattle.lay_piece.specs.Forms.{Had, had}
+use Rattle.lay_piece.specs.Gap.{Outside, is_gap, is_last_gap}
+use Rattle.lay_piece.specs.Begins.{BeginsNoGap, BeginsNoPiece}
+use Rattle.lay_token.specs.Lexes.{Part, spell, Before, Other, is_index_place, step, steps, Fit, size, tokens_from, is_joint, Lexes, NoTokenAt, PartsBefore}
+use Rattle.lay_piece.specs.declared.kind.Kind.{Kind}
 use Rattle.lay_token.specs.declared.token.Token.{Token}
-use Rattle.lay_token.proofs.Texts.{length_parts}
+use Rattle.lay_piece.proofs.Texts.{length_parts}
 use Rattle.lay_token.proofs.Parts.{spell-append, spell-out, steps-append, had_some}
 use Rattle.lay_lex.specs.Gap.{rest_of}
 use Rattle.lay_lex.specs.Tokens.{Adds, added, before as seen, behind, joined, so_far, token_of}

@@ -6,7 +6,7 @@ use Rattle.std.proofs.Math.Seq.{take-append_seam, get_or-append_seam}
 use Rattle.std.proofs.lemmas.Bool.{cases_Bool, eqb-true, eq-eqb, and_from}
 use Rattle.std.proofs.lemmas.Str.{encodes-append, encodes-chars, encode_ascii, chars-append, chars-encodes, chars-nil, IsUtf8-take, IsCharBoundary-before_ascii}
 use lib.Utf8.{scalar, scalars, low_scalar}
-use Rattle.lay_token.specs.Chars.{kept, without_end}
+use Rattle.lay_piece.specs.Chars.{kept, without_end}
 
 pub without_end-snoc : (d : ℕ) (cs : List ℕ) → without_end d (cs ++ d ∷ []) ≡ without_end d cs
 without_end-snoc d [] = let e : d == d ≡ true = eq-eqb d d refl in rw e refl

@@ -1,7 +1,7 @@
 -- What follows a gap, as the scanner finds it.
 use Rattle.std.specs.Prelude.{ℕ, cond, List, [], ◌∷◌, Option, Some, None}
-use Rattle.lay_token.specs.Quoted as block
-use Rattle.lay_token.specs.Gap.{InGap, Outside, Opening, Two, Three, Line, Block, BlockStar, Within, Spoilt, gap_step, is_closed, is_closed_or_line}
+use Rattle.lay_piece.specs.Quoted as block
+use Rattle.lay_piece.specs.Gap.{InGap, Outside, Opening, Two, Three, Line, Block, BlockStar, Within, Spoilt, gap_step, is_closed, is_closed_or_line}
 use Rattle.lay_lex.specs.declared.gap.InBlock.{InBlock}
 use Rattle.lay_lex.specs.declared.gap.InBlock.TheVariants as comment
 use Rattle.lay_lex.specs.declared.gap.State.{State}

@@ -2,9 +2,9 @@
 use Rattle.std.specs.Prelude.{ℕ, List, Result, Ok, Err}
 use Rattle.lay_token.specs.Lexes.{Lexes, NoTokenAt}
 use Rattle.lay_token.specs.declared.token.Token.{Token}
-use Rattle.lay_token.specs.declared.refusal.FormatError.{FormatError}
-use Rattle.lay_token.specs.declared.refusal.FormatError.TheVariants.{Refused, NoMemory}
-use Rattle.lay_token.specs.declared.refusal.Refusal.TheVariants.{NotUtf8, NoToken, Unbalanced, NoItem}
+use Rattle.lay_text.specs.declared.refusal.FormatError.{FormatError}
+use Rattle.lay_text.specs.declared.refusal.FormatError.TheVariants.{Refused, NoMemory}
+use Rattle.lay_text.specs.declared.refusal.Refusal.TheVariants.{NotUtf8, NoToken, Unbalanced, NoItem}
 
 -- The tokens, or the place where there is none. Memory may always be wanting.
 abbrev pub LexedAs : List ℕ → ℕ → Result (List Token) FormatError → Type 0

@@ -1,9 +1,9 @@
 -- What an answer of `normalise` says.
 use Rattle.std.specs.Prelude.{◌≡◌, Result, Ok, Err, IsOk}
 use Rattle.lay_token.specs.Source as definition
-use Rattle.lay_token.specs.declared.refusal.FormatError.{FormatError}
-use Rattle.lay_token.specs.declared.refusal.FormatError.TheVariants.{Refused, NoMemory}
-use Rattle.lay_token.specs.declared.refusal.Refusal.{Refusal}
+use Rattle.lay_text.specs.declared.refusal.FormatError.{FormatError}
+use Rattle.lay_text.specs.declared.refusal.FormatError.TheVariants.{Refused, NoMemory}
+use Rattle.lay_text.specs.declared.refusal.Refusal.{Refusal}
 use Rattle.lay_lex.specs.declared.source.Source.{Source}
 
 -- the source as its definition has it

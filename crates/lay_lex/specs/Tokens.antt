@@ -3,7 +3,7 @@ use Rattle.std.specs.Prelude.{◌≡◌, ℕ, ◌-◌, Bool, false, cond, ◌&&�
 use Rattle.std.specs.Str.{bytes_eq}
 use Rattle.lay_token.specs.Lexes as lexes
 use Rattle.lay_token.specs.Lexes.{is_punct, is_point, is_separator, size, text_of_piece}
-use Rattle.lay_token.specs.declared.token.Kind.{Kind}
+use Rattle.lay_piece.specs.declared.kind.Kind.{Kind}
 use Rattle.lay_token.specs.declared.token.Token.{Token}
 use Rattle.lay_lex.specs.declared.tokens.Before.{Before}
 use Rattle.lay_lex.specs.declared.tokens.Before.TheVariants as place

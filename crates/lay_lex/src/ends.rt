@@ -2,7 +2,7 @@
 ghost use Rattle.std.specs.Prelude.{◌≡◌, ◌<◌, ◌-◌, ◌==◌, ◌∷◌, [], length, take, drop, encode_utf8_all, MatchOption, IfSome};
 ghost use Rattle.std.specs.List.{list_any};
 ghost use Rattle.std.specs.Str.{chars};
-ghost use Rattle.lay_token.specs.Chars.{without_end};
+ghost use Rattle.lay_piece.specs.Chars.{without_end};
 
 use lay_token::piece::chars::first;
 

@@ -1,10 +1,10 @@
 //! Gaps: white space and plain comments.
 ghost use Rattle.std.specs.Prelude.{◌≡◌, ◌<◌, ◌≤◌, ◌+◌, ◌^◌};
 ghost use Rattle.std.specs.Str.{chars};
-ghost use Rattle.lay_token.specs.Chars.{is_white};
-ghost use Rattle.lay_token.specs.Quoted.{block_step, deep_step};
-ghost use Rattle.lay_token.specs.Found.{Leaves};
-ghost use Rattle.lay_token.specs.Gap.{Outside, gap_step, in_block, is_closed_or_line};
+ghost use Rattle.lay_piece.specs.Chars.{is_white};
+ghost use Rattle.lay_piece.specs.Quoted.{block_step, deep_step};
+ghost use Rattle.lay_piece.specs.Found.{Leaves};
+ghost use Rattle.lay_piece.specs.Gap.{Outside, gap_step, in_block, is_closed_or_line};
 ghost use Rattle.lay_lex.specs.Gap.{depth, in_comment, in_gap, open_around, rest_of};
 
 use lay_token::piece::chars::first;
@@ -60,7 +60,7 @@ enum InBlock {
 
 impl State {
     /// Behind one more character.
-    #[tactic(auto, unfolding(lay_token::specs::Gap::gap_step, lay_token::specs::Quoted::block_step))]
+    #[tactic(auto, unfolding(lay_piece::specs::Gap::gap_step, lay_piece::specs::Quoted::block_step))]
     fn step(self, c: char) -> State
         requires { depth self < 2 ^ 63 }
         ensures moved { in_gap result ≡ gap_step (in_gap self) c }
@@ -121,7 +121,7 @@ impl State {
 
 impl InBlock {
     /// Behind one more character.
-    #[tactic(auto, unfolding(lay_token::specs::Quoted::block_step))]
+    #[tactic(auto, unfolding(lay_piece::specs::Quoted::block_step))]
     fn step(self, c: char) -> State
         requires { open_around self < 2 ^ 63 }
         ensures moved { in_gap result ≡ in_block (block_step (in_comment self) c) }

@@ -2,7 +2,7 @@
 ghost use Rattle.std.specs.Prelude.{◌≡◌, ◌==◌, IfOk, IsUtf8, encode_utf8_all};
 ghost use Rattle.std.specs.List.{list_any};
 ghost use Rattle.std.specs.Str.{chars, IsCharBoundary};
-ghost use Rattle.lay_token.specs.Chars.{after, begins, front, is_white};
+ghost use Rattle.lay_piece.specs.Chars.{after, begins, front, is_white};
 ghost use Rattle.lay_token.specs.Source.{folded, is_in_line, is_no_command, is_shebang, source, source_of, without_mark};
 ghost use Rattle.lay_lex.specs.Source.{Answers, seen};
 

@@ -7,7 +7,7 @@ use Rattle.std.proofs.lemmas.Bool.{cases_Bool, and_parts, eqb-true, eq-eqb, fals
 use Rattle.std.proofs.lemmas.Slice.Eq.{bytes_eq-Decides}
 use Rattle.lay_token.specs.Lexes.{is_punct}
 use Rattle.lay_token.specs.Operators.{operators, begins_op, first_op, lone_op, or_lone, op_at, is_op_of, is_op}
-use Rattle.lay_token.specs.Word.{is_among}
+use Rattle.lay_piece.specs.Word.{is_among}
 use Rattle.lay_token.specs.declared.token.Token.{Token}
 use Rattle.lay_nest.specs.Marks.{threes, twos, one, mark, first_mark, second_mark}
 

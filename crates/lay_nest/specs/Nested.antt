@@ -2,9 +2,9 @@
 use Rattle.std.specs.Prelude.{ℕ, ◌≡◌, List, Result, Ok, Err}
 use Rattle.lay_token.specs.Delimiters.{Balanced, UnbalancedAt}
 use Rattle.lay_token.specs.declared.token.Token.{Token}
-use Rattle.lay_token.specs.declared.refusal.FormatError.{FormatError}
-use Rattle.lay_token.specs.declared.refusal.FormatError.TheVariants.{Refused, NoMemory}
-use Rattle.lay_token.specs.declared.refusal.Refusal.TheVariants.{NotUtf8, NoToken, Unbalanced, NoItem}
+use Rattle.lay_text.specs.declared.refusal.FormatError.{FormatError}
+use Rattle.lay_text.specs.declared.refusal.FormatError.TheVariants.{Refused, NoMemory}
+use Rattle.lay_text.specs.declared.refusal.Refusal.TheVariants.{NotUtf8, NoToken, Unbalanced, NoItem}
 use Rattle.lay_nest.specs.Spans.{Spanned}
 use Rattle.lay_nest.specs.declared.nesting.Nested.{Nested}
 

@@ -2,7 +2,7 @@
 use Rattle.std.specs.Prelude.{ℕ, ◌≡◌, ◌+◌, List, [], ◌∷◌, ◌++◌, length, IsTrue, Result, Ok, Err}
 use Rattle.lay_token.specs.Delimiters.{Trees, Paired, tokens_of, is_opener}
 use Rattle.lay_token.specs.declared.token.Token.{Token}
-use Rattle.lay_token.specs.declared.refusal.FormatError.{FormatError}
+use Rattle.lay_text.specs.declared.refusal.FormatError.{FormatError}
 use Rattle.lay_nest.specs.Nested.{RefusedAs}
 use Rattle.lay_nest.specs.Spans.{spans_of}
 use Rattle.lay_nest.specs.declared.partners.Reading.{Reading}

@@ -3,7 +3,7 @@ ghost use Rattle.std.specs.Prelude.{◌≡◌, true, ◌&&◌, ◌∷◌, []};
 ghost use Rattle.std.specs.Str.{bytes_eq};
 ghost use Rattle.lay_token.specs.Lexes.{is_punct};
 ghost use Rattle.lay_token.specs.Operators.{is_op};
-ghost use Rattle.lay_token.specs.Word.{is_among};
+ghost use Rattle.lay_piece.specs.Word.{is_among};
 ghost use Rattle.lay_nest.specs.Marks.{first_mark, mark, one, second_mark, threes, twos};
 
 use lay_token::{Kind, Token};

@@ -2,12 +2,12 @@
 use Rattle.std.proofs.Common.{◌≡◌, ◌≢◌, ℕ, suc, ◌+◌, ◌-◌, ◌≤◌, ◌<◌, Bool, true, false, cond, List, [], ◌∷◌, ◌++◌, map, length, take, drop, get_or, drop-cons, add-one, pos, codes, Option, Ok, refl, sym, ap, ◌∙◌, append_assoc, append-nil, arith}
 use Rattle.std.proofs.Math.Seq.{take-length}
 use Rattle.std.proofs.Math.ListN.{drop_of_length-le}
-use Rattle.lay_token.specs.Document.{Empty}
-use Rattle.lay_token.specs.Machine.{opened}
-use Rattle.lay_token.specs.declared.layout.Tok.{Tok}
-use Rattle.lay_token.specs.declared.layout.Tok.TheVariants as tok
-use Rattle.lay_token.specs.declared.token.Delim.TheVariants.{Bracket, Brace}
-use Rattle.lay_token.proofs.Lines.{opened_document}
+use Rattle.lay_layout.specs.Document.{Empty}
+use Rattle.lay_layout.specs.Machine.{opened}
+use Rattle.lay_layout.specs.declared.layout.Tok.{Tok}
+use Rattle.lay_layout.specs.declared.layout.Tok.TheVariants as tok
+use Rattle.lay_piece.specs.declared.kind.Delim.TheVariants.{Bracket, Brace}
+use Rattle.lay_layout.proofs.Lines.{opened_document}
 use Rattle.lay_stream.specs.Fed.{Meanings, Did}
 use Rattle.lay_stream.proofs.Calls.{level_of}
 use Rattle.lay_form.specs.Form.{Form, Blank, Part, opener, closer, Soft, Hard, Never, Done, Piece, Leaf, LastComma, punct}

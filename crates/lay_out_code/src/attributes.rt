@@ -1,7 +1,7 @@
 //! Attributes.
 ghost use Rattle.std.specs.Prelude.{◌≡◌, [], ◌∷◌, cond, map, codes, true, false};
-ghost use Rattle.lay_token.specs.Docs.{doc_form};
-ghost use Rattle.lay_token.specs.declared.layout.Tok.TheVariants as tok;
+ghost use Rattle.lay_piece.specs.Docs.{doc_form};
+ghost use Rattle.lay_layout.specs.declared.layout.Tok.TheVariants as tok;
 ghost use Rattle.lay_stream.specs.Fed.{Did};
 ghost use Rattle.lay_form.specs.Form.{Done, Leaf};
 ghost use Rattle.lay_form.specs.Layout.{is_block};
@@ -15,8 +15,9 @@ ghost use Rattle.lay_tree.specs.declared.attr.MetaInput.TheVariants as input;
 ghost use Rattle.lay_out_code.specs.Parts.{further_segments};
 
 use crate::notation::HARD_BREAK;
+use lay_piece::{DocForm, Kind, doc_form};
 use lay_stream::Emit;
-use lay_token::{DocForm, Kind, Text, doc_form};
+use lay_text::Text;
 use lay_tree::{Attr, Literal, MetaInput, MetaPath, Path, Segment};
 
 /// Feeds the layout of an attribute.

@@ -1,12 +1,12 @@
 //! Breaks, and what opens and closes lists and bodies.
 ghost use Rattle.std.specs.Prelude.{◌<◌, [], ◌∷◌, pos, true, false, codes};
-ghost use Rattle.lay_token.specs.declared.layout.Tok.TheVariants as tok;
+ghost use Rattle.lay_layout.specs.declared.layout.Tok.TheVariants as tok;
 ghost use Rattle.lay_stream.specs.Fed.{Did};
 ghost use Rattle.lay_form.specs.Form.{Soft, Hard, Never};
 ghost use Rattle.lay_form.specs.Layout.{break_of, comma_break};
 
+use lay_layout::{Break, Mark};
 use lay_stream::Emit;
-use lay_token::{Break, Mark};
 
 /// A break of no blanks.
 pub const SOFT_BREAK: Break = Break {

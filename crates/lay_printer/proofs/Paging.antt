@@ -1,7 +1,7 @@
 -- A page that moves from state to state.
 use Rattle.std.proofs.Common.{◌≡◌, ℕ, zero, suc, ◌+◌, ◌-◌, ◌≤◌, min, List, [], ◌∷◌, ◌++◌, replicate, take, Option, Some, None, Result, Ok, Err, IsErrAnd, refl, sym, ap, ◌∙◌, subst, append_assoc, append-nil, take-append-drop, drop, arith}
-use Rattle.lay_token.specs.Document.{State, write, put_mark, skip}
-use Rattle.lay_token.specs.declared.layout.Break.{Break}
+use Rattle.lay_layout.specs.Document.{State, write, put_mark, skip}
+use Rattle.lay_layout.specs.declared.layout.Break.{Break}
 use Rattle.lay_io.specs.Told.{GrewBy, GrewByPrefix}
 use Rattle.lay_io.specs.Calls.{Writes}
 use Rattle.lay_printer.specs.declared.line.Line.{Line}

@@ -1,7 +1,7 @@
 -- The groups that are open.
 use Rattle.std.specs.Prelude.{ℕ, List, length}
-use Rattle.lay_token.specs.declared.layout.Frame.{Frame}
-use Rattle.lay_token.specs.Machine.{opened}
+use Rattle.lay_layout.specs.declared.layout.Frame.{Frame}
+use Rattle.lay_layout.specs.Machine.{opened}
 use Rattle.lay_ring.specs.declared.entry.Entry.{Entry}
 use Rattle.lay_printer.specs.Closed.{toks_of}
 

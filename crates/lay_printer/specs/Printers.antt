@@ -1,7 +1,7 @@
 -- What is known of a printer.
 use Rattle.std.specs.Prelude.{◌≡◌, ◌≢◌, ℕ, ◌+◌, ◌%◌, ◌^◌, ◌<◌, ◌≤◌, ◌⊎◌, false, List, [], ◌∷◌, ◌++◌, Option, Some, None, Result, Err, OnOk, IfErr}
-use Rattle.lay_token.specs.declared.layout.Tok.{Tok}
-use Rattle.lay_token.specs.Machine.{opened, text, IsNested, IsClosed}
+use Rattle.lay_layout.specs.declared.layout.Tok.{Tok}
+use Rattle.lay_layout.specs.Machine.{opened, text, IsNested, IsClosed}
 use Rattle.lay_io.specs.Faults.{Rose}
 use Rattle.lay_stream.specs.Fed.{Meanings}
 use Rattle.lay_printer.specs.Queued.{Running, Broken, next_of}

@@ -1,8 +1,8 @@
 -- What holds of a printer at a moment: of whatever tokens s it was fed, and whatever tokens r follow.
 use Rattle.std.specs.Prelude.{◌≡◌, ℕ, ◌≤◌, ℤ, List, [], ◌++◌, Option}
-use Rattle.lay_token.specs.declared.layout.Tok.{Tok}
-use Rattle.lay_token.specs.Document.{State}
-use Rattle.lay_token.specs.Machine.{layout_after}
+use Rattle.lay_layout.specs.declared.layout.Tok.{Tok}
+use Rattle.lay_layout.specs.Document.{State}
+use Rattle.lay_layout.specs.Machine.{layout_after}
 use Rattle.lay_printer.specs.Printing.{Printing}
 use Rattle.lay_printer.specs.Pages.{Wrote}
 use Rattle.lay_printer.specs.Printers.{Runs}

@@ -1,8 +1,8 @@
 -- Lockstep: what has been written is what is shown at token j, whatever follows.
 use Rattle.std.specs.Prelude.{◌≡◌, ℕ, ◌+◌, ◌-◌, min, ℤ, pos, ◌-ℤ◌, List, ◌++◌, length, drop, Option}
-use Rattle.lay_token.specs.declared.layout.Tok.{Tok}
-use Rattle.lay_token.specs.Machine.{layout_after, shown}
-use Rattle.lay_token.specs.Document.{State}
+use Rattle.lay_layout.specs.declared.layout.Tok.{Tok}
+use Rattle.lay_layout.specs.Machine.{layout_after, shown}
+use Rattle.lay_layout.specs.Document.{State}
 use Rattle.lay_ring.specs.declared.entry.Entry.{Entry}
 use Rattle.lay_printer.specs.declared.line.Line.{Line}
 use Rattle.lay_printer.specs.Pages.{Is, Wrote}

@@ -2,9 +2,9 @@
 use Rattle.std.proofs.Common.{◌≡◌, ℕ, zero, suc, ◌+◌, ◌<◌, ◌≤◌, Bool, true, false, List, [], ◌∷◌, length, drop, codes, Option, Some, None, refl, ap, ◌∙◌, if◌then◌else◌, arith}
 use Rattle.std.proofs.lemmas.List.{drop-drop, length-drop}
 use Rattle.lay_token.specs.Operators.{op_at, is_op}
-use Rattle.lay_token.specs.declared.token.Delim.TheVariants.{Bracket, Brace}
-use Rattle.lay_token.specs.declared.token.Kind.{Kind}
-use Rattle.lay_token.specs.declared.token.Kind.TheVariants.{Underscore}
+use Rattle.lay_piece.specs.declared.kind.Delim.TheVariants.{Bracket, Brace}
+use Rattle.lay_piece.specs.declared.kind.Kind.{Kind}
+use Rattle.lay_piece.specs.declared.kind.Kind.TheVariants.{Underscore}
 use Rattle.lay_token.specs.declared.token.Token.{Token}
 use Rattle.lay_tree.specs.Ahead.{Tokens, first, tail, is_keyword, is_mark, opens, closes}
 use Rattle.lay_tree.specs.Follow.{begins_there, OfColons}

@@ -1,12 +1,12 @@
 -- What readers ask for and what they answer.
 use Rattle.std.specs.Prelude.{ℕ, ◌≡◌, Bool, true, false, List, ◌∷◌, ◌++◌, drop, IsUtf8, Option, Some, None, Result, Ok, Err}
 use Rattle.lay_token.specs.Lexes.{Lexes}
-use Rattle.lay_token.specs.declared.refusal.FormatError.{FormatError}
-use Rattle.lay_token.specs.declared.refusal.FormatError.TheVariants as format
-use Rattle.lay_token.specs.declared.refusal.Refusal.TheVariants.{NoItem}
-use Rattle.lay_token.specs.declared.token.Delim.TheVariants.{Bracket}
-use Rattle.lay_token.specs.declared.token.Kind.{Kind}
-use Rattle.lay_token.specs.declared.token.Kind.TheVariants.{Underscore}
+use Rattle.lay_text.specs.declared.refusal.FormatError.{FormatError}
+use Rattle.lay_text.specs.declared.refusal.FormatError.TheVariants as format
+use Rattle.lay_text.specs.declared.refusal.Refusal.TheVariants.{NoItem}
+use Rattle.lay_piece.specs.declared.kind.Delim.TheVariants.{Bracket}
+use Rattle.lay_piece.specs.declared.kind.Kind.{Kind}
+use Rattle.lay_piece.specs.declared.kind.Kind.TheVariants.{Underscore}
 use Rattle.lay_token.specs.declared.token.Token.{Token}
 use Rattle.lay_tree.specs.Ahead.{Tokens, closes}
 use Rattle.lay_tree.specs.Reading.{SpellsFile}

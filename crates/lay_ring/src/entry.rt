@@ -1,5 +1,5 @@
 //! A token of a layout that waits, and its size.
-use lay_token::Tok;
+use lay_layout::Tok;
 
 /// What is known of how many columns an entry needs, up to the next place where a line may end.
 #[derive(Clone, Copy, Debug, PartialEq, Eq)]

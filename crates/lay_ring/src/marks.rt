@@ -3,7 +3,7 @@ ghost use Rattle.std.specs.Prelude.{◌≡◌, ◌+◌, ◌-◌, ◌<◌, ◌≤
 
 use crate::room;
 use circular_buffer::HeapCircularBuffer;
-use lay_token::NoMemory;
+use lay_text::NoMemory;
 use std::alloc::Global;
 use std::marker::Model;
 

@@ -5,7 +5,7 @@ ghost use Rattle.lay_ring.specs.Held.{number_of, place_of, number_after_pop, siz
 use crate::entry::{Entry, Size};
 use crate::room;
 use circular_buffer::HeapCircularBuffer;
-use lay_token::NoMemory;
+use lay_text::NoMemory;
 use std::alloc::Global;
 use std::marker::Model;
 

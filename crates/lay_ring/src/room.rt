@@ -2,7 +2,7 @@
 ghost use Rattle.std.specs.Prelude.{◌≡◌, ◌+◌, ◌-◌, ◌≤◌, length, IsOk, OnOk, OnErr};
 
 use circular_buffer::HeapCircularBuffer;
-use lay_token::NoMemory;
+use lay_text::NoMemory;
 
 /// How many more items there is room for.
 pub fn spare<T>(buffer: &HeapCircularBuffer<T>) -> usize

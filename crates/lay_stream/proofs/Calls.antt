@@ -1,8 +1,8 @@
 -- Calls of an Emit, one after another.
 use Rattle.std.proofs.Common.{◌≡◌, ℕ, suc, le_trans, le_refl, List, [], ◌∷◌, ◌++◌, refl, sym, ap, ◌∙◌, subst, append_assoc, append-nil, IsErrAnd, Result, Ok, Err}
-use Rattle.lay_token.specs.declared.layout.Tok.{Tok}
-use Rattle.lay_token.specs.Machine.{outer, opened}
-use Rattle.lay_token.specs.declared.layout.Tok.TheVariants as tok
+use Rattle.lay_layout.specs.declared.layout.Tok.{Tok}
+use Rattle.lay_layout.specs.Machine.{outer, opened}
+use Rattle.lay_layout.specs.declared.layout.Tok.TheVariants as tok
 use Rattle.lay_stream.specs.Fed.{Meanings, Puts, Stops, Did}
 
 pub opened_append : (s t : List Tok) (n : ℕ) → opened (s ++ t) n ≡ opened t (opened s n)

@@ -1,9 +1,9 @@
 -- A list of tokens as an Emit.
 use Rattle.std.proofs.Common.{◌≡◌, ℕ, suc, List, [], ◌∷◌, ◌++◌, refl, sym, ap, ◌∙◌, subst, append-nil, Result, Ok, Err, OnOk, OnErr, le_refl}
 use Rattle.std.proofs.lemmas.Result.{MatchResult-at_ok, MatchResult-at_err}
-use Rattle.lay_token.specs.declared.layout.Tok.{Tok}
-use Rattle.lay_token.specs.Machine.{outer, opened, IsNested}
-use Rattle.lay_token.specs.declared.layout.Tok.TheVariants as tok
+use Rattle.lay_layout.specs.declared.layout.Tok.{Tok}
+use Rattle.lay_layout.specs.Machine.{outer, opened, IsNested}
+use Rattle.lay_layout.specs.declared.layout.Tok.TheVariants as tok
 use Rattle.lay_stream.specs.Fed.{Puts, Stops, Did}
 use Rattle.lay_stream.specs.Listed.{list_meanings}
 use Rattle.lay_stream.proofs.Calls.{opened_append}

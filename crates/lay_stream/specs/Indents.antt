@@ -1,7 +1,7 @@
 -- Frames as they come: an indent is at most 240.
 use Rattle.std.specs.Prelude.{◌≤◌, List, [], ◌∷◌}
-use Rattle.lay_token.specs.declared.layout.Frame.{Frame}
-use Rattle.lay_token.specs.declared.layout.Frame.TheVariants.{Flat, Broken}
+use Rattle.lay_layout.specs.declared.layout.Frame.{Frame}
+use Rattle.lay_layout.specs.declared.layout.Frame.TheVariants.{Flat, Broken}
 
 abbrev pub IsKept : Frame → Type 0
 IsKept Flat = Unit {0}

@@ -1,7 +1,7 @@
 -- A list of tokens as an Emit.
 use Rattle.std.specs.Prelude.{◌≡◌, List}
-use Rattle.lay_token.specs.declared.layout.Tok.{Tok}
-use Rattle.lay_token.specs.Machine.{opened}
+use Rattle.lay_layout.specs.declared.layout.Tok.{Tok}
+use Rattle.lay_layout.specs.Machine.{opened}
 use Rattle.lay_stream.specs.Fed.{Meanings}
 
 -- A list was fed just itself. Of its failures nothing is said.

@@ -1,8 +1,8 @@
 -- What a page of the code stands for.
 use Rattle.std.specs.Prelude.{◌≡◌, ◌≤◌, List, min}
-use Rattle.lay_token.specs.Document.{State}
-use Rattle.lay_token.specs.declared.layout.Frame.{Frame}
-use Rattle.lay_token.specs.Machine.{Layout}
+use Rattle.lay_layout.specs.Document.{State}
+use Rattle.lay_layout.specs.declared.layout.Frame.{Frame}
+use Rattle.lay_layout.specs.Machine.{Layout}
 use Rattle.lay_stream.specs.declared.page.Page.{Page}
 
 -- A page is at a state. What was used of the room is counted up to 2 ^ 62, a bound that no comparison sees.

@@ -1,10 +1,10 @@
 //! What takes the tokens of a layout, one by one.
 ghost use Rattle.std.specs.Prelude.{ℕ, ◌<◌, [], ◌∷◌};
-ghost use Rattle.lay_token.specs.declared.layout.Tok.{Tok};
-ghost use Rattle.lay_token.specs.declared.layout.Tok.TheVariants as tok;
+ghost use Rattle.lay_layout.specs.declared.layout.Tok.{Tok};
+ghost use Rattle.lay_layout.specs.declared.layout.Tok.TheVariants as tok;
 ghost use Rattle.lay_stream.specs.Fed.{Meanings, Did};
 
-use lay_token::Break;
+use lay_layout::Break;
 
 /// Takes the tokens of a layout, one by one.
 pub trait Emit {

@@ -1,11 +1,12 @@
 //! The frames of the groups that are open.
 ghost use Rattle.std.specs.Prelude.{◌≡◌, Bool, false, ℤ, [], ◌∷◌, OnOk, IsFalse};
-ghost use Rattle.lay_token.specs.Document.{State, break_in, enter};
-ghost use Rattle.lay_token.specs.Machine.{top, below};
+ghost use Rattle.lay_layout.specs.Document.{State, break_in, enter};
+ghost use Rattle.lay_layout.specs.Machine.{top, below};
 ghost use Rattle.lay_stream.specs.Indents.{IsKept};
 
 use crate::page::shifted;
-use lay_token::{Break, Frame, NoMemory};
+use lay_layout::{Break, Frame};
+use lay_text::NoMemory;
 use std::alloc::Global;
 use std::marker::Model;
 
@@ -17,7 +18,7 @@ pub struct Frames {
 
 impl Model for Frames {
     ghost use Rattle.std.specs.Prelude.{List, reverse};
-    ghost use Rattle.lay_token.specs.declared.layout.Frame.{Frame};
+    ghost use Rattle.lay_layout.specs.declared.layout.Frame.{Frame};
     ghost use Rattle.lay_stream.specs.Indents.{AreKept};
 
     ghost Value = { List Frame };

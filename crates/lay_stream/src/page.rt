@@ -1,10 +1,11 @@
 //! The text so far, the blanks that wait and the space that is left.
 ghost use Rattle.std.specs.Prelude.{◌≡◌, ◌<◌, ◌≤◌, min, ◌+◌, ◌++◌, replicate, OnOk};
-ghost use Rattle.lay_token.specs.Document.{State, shift, write as written, put_mark as marked, line as on_line, newline as on_newline, skip as skipped, break_in};
+ghost use Rattle.lay_layout.specs.Document.{State, shift, write as written, put_mark as marked, line as on_line, newline as on_newline, skip as skipped, break_in};
 ghost use Rattle.lay_stream.specs.Pages.{Is};
 ghost use Rattle.lay_stream.specs.Indents.{IsKept};
 
-use lay_token::{Break, Frame, Mark, NoMemory, Text};
+use lay_layout::{Break, Frame, Mark};
+use lay_text::{NoMemory, Text};
 
 /// The greatest count of what was used of a line. No comparison sees more than this, since the room is at
 /// most 89.

@@ -1,13 +1,14 @@
 //! The slow printer: each group and each break is measured anew.
 ghost use Rattle.std.specs.Prelude.{◌≡◌, ◌≤◌, ◌+◌, length, nat_lt, OnOk, IfOk};
-ghost use Rattle.lay_token.specs.Machine.{opened, reach, Layout, step, text};
-ghost use Rattle.lay_token.specs.Document.{bytes_of_mark, width_of_break, Document, stream as stream_of, text_of};
+ghost use Rattle.lay_layout.specs.Machine.{opened, reach, Layout, step, text};
+ghost use Rattle.lay_layout.specs.Document.{bytes_of_mark, width_of_break, Document, stream as stream_of, text_of};
 ghost use Rattle.lay_stream.specs.Pages.{At};
 
 use crate::frames::{Frames, asks_at_begin, asks_at_break, entered};
 use crate::page::Page;
 use crate::stream::Stream;
-use lay_token::{Break, Mark, NoMemory, Text, Tok};
+use lay_layout::{Break, Mark, Tok};
+use lay_text::{NoMemory, Text};
 use std::alloc::Global;
 
 /// The text of a stream in which no group is open: that of the document which the stream is the flattening

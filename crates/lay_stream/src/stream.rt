@@ -1,12 +1,13 @@
 //! A layout as a list of tokens.
 ghost use Rattle.std.specs.Prelude.{◌≡◌, ℕ, ◌<◌, [], ◌∷◌, ◌++◌, OnOk, OnErr};
-ghost use Rattle.lay_token.specs.declared.layout.Tok.TheVariants as tok;
-ghost use Rattle.lay_token.specs.Machine.{opened, IsNested};
+ghost use Rattle.lay_layout.specs.declared.layout.Tok.TheVariants as tok;
+ghost use Rattle.lay_layout.specs.Machine.{opened, IsNested};
 ghost use Rattle.lay_stream.specs.Listed.{list_meanings};
 ghost use Rattle.lay_stream.specs.Fed.{Did};
 
 use crate::emit::Emit;
-use lay_token::{Break, NoMemory, Text, Tok};
+use lay_layout::{Break, Tok};
+use lay_text::{NoMemory, Text};
 use std::alloc::Global;
 use std::marker::Model;
 
@@ -22,8 +23,8 @@ pub struct Stream {
 
 impl Model for Stream {
     ghost use Rattle.std.specs.Prelude.{List};
-    ghost use Rattle.lay_token.specs.declared.layout.Tok.{Tok};
-    ghost use Rattle.lay_token.specs.Machine.{IsNested};
+    ghost use Rattle.lay_layout.specs.declared.layout.Tok.{Tok};
+    ghost use Rattle.lay_layout.specs.Machine.{IsNested};
 
     ghost Value = { List Tok };
 
@@ -83,7 +84,7 @@ fn push_token(toks: &mut Vec<Tok>, token: Tok) -> Result<(), NoMemory>
 }
 
 impl Emit for Stream {
-    ghost use Rattle.lay_token.specs.declared.refusal.NoMemory.{NoMemory};
+    ghost use Rattle.lay_text.specs.declared.refusal.NoMemory.{NoMemory};
 
     type Fault = NoMemory;
 

@@ -1,8 +1,8 @@
 -- What may follow every node: a comma, a semicolon, and what closes a list.
 use Rattle.std.proofs.Common.{◌≡◌, true, false, List, [], ◌∷◌, codes, refl}
-use Rattle.lay_token.specs.Forms.{closing}
-use Rattle.lay_token.specs.declared.token.Delim.{Delim}
-use Rattle.lay_token.specs.declared.token.Kind.TheVariants.{Punct, Closer}
+use Rattle.lay_piece.specs.Forms.{closing}
+use Rattle.lay_piece.specs.declared.kind.Delim.{Delim}
+use Rattle.lay_piece.specs.declared.kind.Kind.TheVariants.{Punct, Closer}
 use Rattle.lay_form.specs.Spelled.{IsOne}
 use Rattle.lay_tree.specs.Ahead.{Tokens}
 use Rattle.lay_tree.specs.Follow.{Begin, OfRename, OfColons, begins_there, may_follow}

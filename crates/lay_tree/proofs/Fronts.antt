@@ -3,13 +3,13 @@ use Rattle.std.proofs.Common.{◌≡◌, ℕ, suc, ◌≤◌, ◌<◌, Bool, tru
 use Rattle.std.specs.Str.{bytes_eq}
 use Rattle.std.proofs.lemmas.Bool.{and_parts, cases_Bool, false_from_ne_true}
 use Rattle.std.proofs.lemmas.Slice.Eq.{bytes_eq-Decides}
-use Rattle.lay_token.specs.Forms.{opening, closing}
+use Rattle.lay_piece.specs.Forms.{opening, closing}
 use Rattle.lay_token.specs.Lexes.{is_punct}
 use Rattle.lay_token.specs.Operators.{op_at, is_op_of, is_op}
-use Rattle.lay_token.specs.declared.token.Delim.{Delim}
-use Rattle.lay_token.specs.declared.token.Delim.TheVariants.{Paren, Bracket, Brace}
-use Rattle.lay_token.specs.declared.token.Kind.{Kind}
-use Rattle.lay_token.specs.declared.token.Kind.TheVariants.{Ident, Punct, Opener, Closer}
+use Rattle.lay_piece.specs.declared.kind.Delim.{Delim}
+use Rattle.lay_piece.specs.declared.kind.Delim.TheVariants.{Paren, Bracket, Brace}
+use Rattle.lay_piece.specs.declared.kind.Kind.{Kind}
+use Rattle.lay_piece.specs.declared.kind.Kind.TheVariants.{Ident, Punct, Opener, Closer}
 use Rattle.lay_token.specs.declared.token.Token.{Token}
 use Rattle.lay_token.proofs.Deciding.{punct_is, bytes_same, bytes_self}
 use Rattle.lay_form.specs.Spelled.{IsOne, IsOperator}

@@ -8,10 +8,10 @@ use Rattle.std.proofs.lemmas.Bool.{cases_Bool, and_parts, and_from, eqb-true, bo
 use Rattle.std.proofs.lemmas.Slice.Eq.{bytes_eq-Decides}
 use Rattle.std.proofs.lemmas.Str.{chars-encodes, scalars-chars, IsUtf8-from_is_utf8}
 use lib.Utf8.{scalar, scalars}
-use Rattle.lay_token.specs.Chars.{is_white, behind, front, after, kept, without_end}
+use Rattle.lay_piece.specs.Chars.{is_white, behind, front, after, kept, without_end}
 use Rattle.lay_token.specs.Source.{Source, source, source_of, folded, without_mark, is_in_line, is_no_command, is_shebang}
-use Rattle.lay_token.specs.declared.refusal.Refusal.TheVariants.{NotUtf8}
-use Rattle.lay_token.proofs.Fronts.{each-front}
+use Rattle.lay_text.specs.declared.refusal.Refusal.TheVariants.{NotUtf8}
+use Rattle.lay_piece.proofs.Fronts.{each-front}
 use Rattle.lay_token.proofs.Encoding.{scalars-folded, scalars-without_mark}
 use Rattle.lay_tree.specs.Written.{is_good_shebang}
 use Rattle.lay_tree.proofs.Scalars.{text_utf8, scalars_cond, scalars_without_end}

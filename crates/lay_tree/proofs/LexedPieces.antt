@@ -7,18 +7,18 @@ use Rattle.std.specs.Str.{encode_utf8_all, is_utf8}
 use Rattle.std.proofs.lemmas.Bool.{and_parts, and_from, ne_eqb, both_ways, or_left}
 use Rattle.std.proofs.lemmas.Str.{chars-encodes, scalars-chars}
 use lib.Utf8.{scalars}
-use Rattle.lay_token.specs.Chars.{begins, front, after, is_suffix, in_word, in_digits, without_end}
-use Rattle.lay_token.specs.Forms.{had, Had, has_form, may_precede, is_number_kind, is_int_kind}
+use Rattle.lay_piece.specs.Chars.{begins, front, after, is_suffix, in_word, in_digits, without_end}
+use Rattle.lay_piece.specs.Forms.{had, Had, has_form, may_precede, is_number_kind, is_int_kind}
 use Rattle.lay_token.specs.Lexes.{Part, Before, Other, spell, step, is_index_place, Fit, size, doc_text, text_of_piece, tokens_from, Lexes}
-use Rattle.lay_token.specs.Number.{base_of, digits_of, in_run, is_run_in, is_int, is_index, is_int_suffix, fronts_index}
-use Rattle.lay_token.specs.Word.{is_path_word}
-use Rattle.lay_token.specs.declared.piece.numbers.Base.{Base}
-use Rattle.lay_token.specs.declared.piece.numbers.Base.TheVariants.{Decimal}
-use Rattle.lay_token.specs.declared.token.Kind.{Kind}
-use Rattle.lay_token.specs.declared.token.Kind.TheVariants.{RawIdent, Int, Doc}
+use Rattle.lay_piece.specs.Number.{base_of, digits_of, in_run, is_run_in, is_int, is_index, is_int_suffix, fronts_index}
+use Rattle.lay_piece.specs.Word.{is_path_word}
+use Rattle.lay_piece.specs.declared.piece.numbers.Base.{Base}
+use Rattle.lay_piece.specs.declared.piece.numbers.Base.TheVariants.{Decimal}
+use Rattle.lay_piece.specs.declared.kind.Kind.{Kind}
+use Rattle.lay_piece.specs.declared.kind.Kind.TheVariants.{RawIdent, Int, Doc}
 use Rattle.lay_token.specs.declared.token.Token.{Token}
-use Rattle.lay_token.proofs.Characters.{digit_parts}
-use Rattle.lay_token.proofs.Complete.{behind_true}
+use Rattle.lay_piece.proofs.Characters.{digit_parts}
+use Rattle.lay_piece.proofs.Complete.{behind_true}
 use Rattle.lay_token.proofs.Encoding.{scalars_parts}
 use Rattle.lay_form.specs.Pieces.{is_text_of}
 use Rattle.lay_tree.proofs.Pieces.{are_texts}

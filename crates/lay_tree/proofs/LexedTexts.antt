@@ -3,13 +3,13 @@ use Rattle.std.proofs.Common.{◌≡◌, ℕ, ◌+◌, ◌<◌, true, false, Lis
 use Rattle.std.specs.Prelude.{◌==◌, encode_utf8_all}
 use Rattle.std.proofs.lemmas.Bool.{and_parts, eqb-true}
 use Rattle.std.proofs.lemmas.Str.{encode_ascii}
-use Rattle.lay_token.specs.Chars.{is_lone_underscore}
-use Rattle.lay_token.specs.Forms.{is_one, has_form, opening, closing}
+use Rattle.lay_piece.specs.Chars.{is_lone_underscore}
+use Rattle.lay_piece.specs.Forms.{is_one, has_form, opening, closing}
 use Rattle.lay_token.specs.Lexes.{Part, spell, Before, Other, is_index_place, step, Fit, size, text_of_piece, tokens_from, Lexes}
-use Rattle.lay_token.specs.declared.token.Delim.{Delim}
-use Rattle.lay_token.specs.declared.token.Delim.TheVariants.{Paren, Bracket, Brace}
-use Rattle.lay_token.specs.declared.token.Kind.{Kind}
-use Rattle.lay_token.specs.declared.token.Kind.TheVariants.{Underscore, Opener, Closer}
+use Rattle.lay_piece.specs.declared.kind.Delim.{Delim}
+use Rattle.lay_piece.specs.declared.kind.Delim.TheVariants.{Paren, Bracket, Brace}
+use Rattle.lay_piece.specs.declared.kind.Kind.{Kind}
+use Rattle.lay_piece.specs.declared.kind.Kind.TheVariants.{Underscore, Opener, Closer}
 use Rattle.lay_tree.specs.Ahead.{Tokens}
 use Rattle.lay_tree.specs.reader.Exact.{only_text, IsText, HaveTexts}
 use Rattle.lay_tree.proofs.LexedPieces.{had_form}

@@ -6,14 +6,14 @@ use Rattle.std.specs.Str.{encode_utf8_all, is_utf8}
 use Rattle.std.proofs.lemmas.Bool.{cases_Bool, and_parts, and_from, eqb-true, not-true, le-leb, leb-false, ltb-true, ltb-false, both_ways}
 use Rattle.std.proofs.lemmas.Str.{is_utf8-from_IsUtf8}
 use lib.Utf8.{scalar, scalars, low_scalar}
-use Rattle.lay_token.specs.Chars.{front, hex_value, is_between, kept, without_end}
-use Rattle.lay_token.specs.Scan.{Next, Go, End, Bad}
-use Rattle.lay_token.specs.Quoted.{Backslash, Hex, HexTwo, Open, Digits, InString, Plain, Turned, Escape, Skip, string_step, escape_step, digits_step, in_string, is_skipped, is_char_value}
-use Rattle.lay_token.specs.Forms.{after_literal, is_whole}
-use Rattle.lay_token.specs.Value.{short_escape, plain_adds, adds, string_value, is_hash, raw_value, value_of}
-use Rattle.lay_token.specs.declared.piece.quoted.Contents.TheVariants as of
-use Rattle.lay_token.specs.declared.token.Kind.{Kind}
-use Rattle.lay_token.specs.declared.token.Kind.TheVariants.{Str, RawStr}
+use Rattle.lay_piece.specs.Chars.{front, hex_value, is_between, kept, without_end}
+use Rattle.lay_piece.specs.Scan.{Next, Go, End, Bad}
+use Rattle.lay_piece.specs.Quoted.{Backslash, Hex, HexTwo, Open, Digits, InString, Plain, Turned, Escape, Skip, string_step, escape_step, digits_step, in_string, is_skipped, is_char_value}
+use Rattle.lay_piece.specs.Forms.{after_literal, is_whole}
+use Rattle.lay_piece.specs.Value.{short_escape, plain_adds, adds, string_value, is_hash, raw_value, value_of}
+use Rattle.lay_piece.specs.declared.piece.quoted.Contents.TheVariants as of
+use Rattle.lay_piece.specs.declared.kind.Kind.{Kind}
+use Rattle.lay_piece.specs.declared.kind.Kind.TheVariants.{Str, RawStr}
 
 -- ---- lists of scalars
 

@@ -1,6 +1,6 @@
 -- The layout of a file, and its text.
 use Rattle.std.specs.Prelude.{ℕ, false, List, Option, Some, None}
-use Rattle.lay_token.specs.Document.{Document, AddText, AddBreak, Empty, text_of}
+use Rattle.lay_layout.specs.Document.{Document, AddText, AddBreak, Empty, text_of}
 use Rattle.lay_form.specs.Form.{Hard}
 use Rattle.lay_form.specs.Layout.{laid_out, break_of}
 use Rattle.lay_tree.specs.nodes.File.{form_of_file}

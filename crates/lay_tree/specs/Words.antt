@@ -1,11 +1,11 @@
 -- Names, words and literals (Rust Reference, "Identifiers", "Keywords", "Tokens").
 use Rattle.std.specs.Prelude.{ℕ, Bool, true, false, ◌||◌, List, [], ◌∷◌, codes}
 use Rattle.std.specs.List.{list_all}
-use Rattle.lay_token.specs.Word.{class_of}
-use Rattle.lay_token.specs.declared.token.Kind.{Kind}
-use Rattle.lay_token.specs.declared.token.Kind.TheVariants.{Ident, RawIdent, Underscore, Lifetime, Punct, Opener, Closer, Doc}
-use Rattle.lay_token.specs.declared.word.Class.{Class}
-use Rattle.lay_token.specs.declared.word.Class.TheVariants.{Plain, PathWord}
+use Rattle.lay_piece.specs.Word.{class_of}
+use Rattle.lay_piece.specs.declared.kind.Kind.{Kind}
+use Rattle.lay_piece.specs.declared.kind.Kind.TheVariants.{Ident, RawIdent, Underscore, Lifetime, Punct, Opener, Closer, Doc}
+use Rattle.lay_piece.specs.declared.word.Class.{Class}
+use Rattle.lay_piece.specs.declared.word.Class.TheVariants.{Plain, PathWord}
 use Rattle.lay_form.specs.Form.{Bit, Operator, Form, Leaf}
 use Rattle.lay_tree.specs.declared.token.Word.{Word}
 

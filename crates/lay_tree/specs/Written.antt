@@ -3,7 +3,7 @@
 use Rattle.std.specs.Prelude.{ℕ, Bool, true, ◌&&◌, List, Option, Some, None, IsTrue, encode_utf8_all}
 use Rattle.std.specs.List.{list_all}
 use Rattle.std.specs.Str.{chars, is_utf8, bytes_eq}
-use Rattle.lay_token.specs.Chars.{without_end}
+use Rattle.lay_piece.specs.Chars.{without_end}
 use Rattle.lay_token.specs.Source.{is_shebang, is_in_line}
 use Rattle.lay_form.specs.Pieces.{are_pieces}
 use Rattle.lay_tree.specs.nodes.File.{form_of_file, is_normal}

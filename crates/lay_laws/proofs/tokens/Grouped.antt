@@ -1,10 +1,10 @@
 -- A list whose tokens some text has, balanced, is made of groups: its listing by delimiters lists it again.
 use Rattle.std.proofs.Common.{◌≡◌, List, [], ◌∷◌, ◌++◌, true, false, sym, refl, ap, ◌∙◌, subst, append_assoc, append-nil}
 use Rattle.lay_token.specs.Delimiters.{is_opener, is_closer, is_pair, Trees, NoTree, One, Nest, tokens_of, Paired, Balanced}
-use Rattle.lay_token.specs.declared.token.Delim.{Delim}
-use Rattle.lay_token.specs.declared.token.Delim.TheVariants.{Paren, Bracket, Brace}
-use Rattle.lay_token.specs.declared.token.Kind.{Kind}
-use Rattle.lay_token.specs.declared.token.Kind.TheVariants.{Opener, Closer, Doc}
+use Rattle.lay_piece.specs.declared.kind.Delim.{Delim}
+use Rattle.lay_piece.specs.declared.kind.Delim.TheVariants.{Paren, Bracket, Brace}
+use Rattle.lay_piece.specs.declared.kind.Kind.{Kind}
+use Rattle.lay_piece.specs.declared.kind.Kind.TheVariants.{Opener, Closer, Doc}
 use Rattle.lay_token.specs.declared.token.Token.{Token}
 use Rattle.lay_tree.specs.declared.token.Listed.{Listed}
 use Rattle.lay_tree.specs.tokens.Lexed.{IsToken, AreTokens}

@@ -1,9 +1,9 @@
 -- Items.
 use Rattle.std.proofs.Common.{◌≡◌, ℕ, zero, suc, ◌≤◌, Bool, true, false, ◌&&◌, List, [], ◌∷◌, ◌++◌, map, codes, inl, inr, Some, None, if◌then◌else◌, refl, arith}
 use Rattle.std.proofs.lemmas.Bool.{and_from}
-use Rattle.lay_token.specs.Forms.{opening}
-use Rattle.lay_token.specs.declared.token.Delim.TheVariants.{Brace}
-use Rattle.lay_token.specs.declared.token.Kind.TheVariants.{Ident, Opener}
+use Rattle.lay_piece.specs.Forms.{opening}
+use Rattle.lay_piece.specs.declared.kind.Delim.TheVariants.{Brace}
+use Rattle.lay_piece.specs.declared.kind.Kind.TheVariants.{Ident, Opener}
 use Rattle.lay_form.specs.Form.{Blank, Done, Piece, Part, keyword, punct}
 use Rattle.lay_form.specs.Spelled.{IsOne, AreBits, Spells}
 use Rattle.lay_form.proofs.FormLaws.{one_end}

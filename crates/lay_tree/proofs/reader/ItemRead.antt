@@ -1,9 +1,9 @@
 -- Items: what is spelled, and well formed, is read.
 use Rattle.std.proofs.Common.{◌≡◌, ℕ, zero, suc, ◌<◌, ◌≤◌, true, false, not, ◌&&◌, List, [], ◌∷◌, ◌++◌, length, map, codes, Some, refl, sym, ap, subst, arith}
 use Rattle.std.proofs.lemmas.Bool.{and_parts}
-use Rattle.lay_token.specs.Forms.{opening, closing}
-use Rattle.lay_token.specs.declared.token.Delim.TheVariants.{Brace}
-use Rattle.lay_token.specs.declared.token.Kind.TheVariants.{Ident, Punct, Opener, Closer}
+use Rattle.lay_piece.specs.Forms.{opening, closing}
+use Rattle.lay_piece.specs.declared.kind.Delim.TheVariants.{Brace}
+use Rattle.lay_piece.specs.declared.kind.Kind.TheVariants.{Ident, Punct, Opener, Closer}
 use Rattle.lay_form.specs.Form.{Blank, Form, Done, Piece, Part, keyword, punct, semicolon}
 use Rattle.lay_form.specs.Notation.{I0, piece, body}
 use Rattle.lay_form.specs.Spelled.{IsOne, Spells}

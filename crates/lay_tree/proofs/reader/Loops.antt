@@ -1,8 +1,8 @@
 -- The two loops of the readers: what they read stands there, and what stands there is read.
 use Rattle.std.proofs.Common.{◌≡◌, ℕ, zero, suc, ◌<◌, ◌≤◌, Bool, true, false, List, [], ◌∷◌, ◌++◌, ◌⊎◌, inl, inr, length, codes, Some, None, refl, sym, ap, subst, ◌∙◌, if◌then◌else◌, append_assoc, append-nil, arith}
-use Rattle.lay_token.specs.Forms.{closing}
-use Rattle.lay_token.specs.declared.token.Delim.{Delim}
-use Rattle.lay_token.specs.declared.token.Kind.TheVariants.{Punct, Closer}
+use Rattle.lay_piece.specs.Forms.{closing}
+use Rattle.lay_piece.specs.declared.kind.Delim.{Delim}
+use Rattle.lay_piece.specs.declared.kind.Kind.TheVariants.{Punct, Closer}
 use Rattle.lay_form.specs.Form.{Fixed}
 use Rattle.lay_form.specs.Spelled.{IsOne}
 use Rattle.lay_form.proofs.FormLaws.{one_end}

@@ -1,9 +1,9 @@
 -- The two loops over nodes, which are read with their needs: rows of nodes, and lists of nodes in delimiters.
 use Rattle.std.proofs.Common.{◌≡◌, ℕ, ◌<◌, ◌≤◌, Bool, true, false, List, [], ◌∷◌, length, map, Some, refl, ap, arith}
 use Rattle.std.proofs.lemmas.Bool.{and_parts, and_from}
-use Rattle.lay_token.specs.Forms.{opening}
-use Rattle.lay_token.specs.declared.token.Delim.{Delim}
-use Rattle.lay_token.specs.declared.token.Kind.TheVariants.{Opener}
+use Rattle.lay_piece.specs.Forms.{opening}
+use Rattle.lay_piece.specs.declared.kind.Delim.{Delim}
+use Rattle.lay_piece.specs.declared.kind.Kind.TheVariants.{Opener}
 use Rattle.lay_form.specs.Form.{opener, closer}
 use Rattle.lay_form.specs.Notation.{comma_list}
 use Rattle.lay_form.specs.Spelled.{IsOne, Spells}

@@ -2,9 +2,9 @@
 use Rattle.std.proofs.Common.{◌≡◌, ℕ, Bool, true, false, List, [], ◌∷◌, drop, codes, inl, inr, Option, Some, None, is_some, if◌then◌else◌, refl, ap, subst, arith}
 use Rattle.lay_token.specs.Lexes.{is_punct}
 use Rattle.lay_token.specs.Operators.{is_op}
-use Rattle.lay_token.specs.Word.{class_of}
-use Rattle.lay_token.specs.declared.token.Kind.{Kind}
-use Rattle.lay_token.specs.declared.token.Kind.TheVariants.{Ident, RawIdent}
+use Rattle.lay_piece.specs.Word.{class_of}
+use Rattle.lay_piece.specs.declared.kind.Kind.{Kind}
+use Rattle.lay_piece.specs.declared.kind.Kind.TheVariants.{Ident, RawIdent}
 use Rattle.lay_token.specs.declared.token.Token.{Token}
 use Rattle.lay_form.specs.Form.{Operator, Form, Piece}
 use Rattle.lay_form.specs.Notation.{when}

@@ -1,14 +1,14 @@
 -- Samples of attributes: how they are laid out, and what spells them.
 use Rattle.std.proofs.Common.{◌≡◌, ℕ, Bool, true, false, List, [], ◌∷◌, ◌++◌, inl, inr, codes, map, refl}
 use Rattle.std.specs.Str.{chars}
-use Rattle.lay_token.specs.Docs.{doc_form}
-use Rattle.lay_token.specs.Forms.{after_literal}
+use Rattle.lay_piece.specs.Docs.{doc_form}
+use Rattle.lay_piece.specs.Forms.{after_literal}
 use Rattle.lay_token.specs.Operators.{op_at}
-use Rattle.lay_token.specs.Quoted.{block_step, doc_step, string_step}
-use Rattle.lay_token.specs.Scan.{run}
-use Rattle.lay_token.specs.Value.{string_value, adds}
-use Rattle.lay_token.specs.declared.token.Delim.TheVariants.{Bracket}
-use Rattle.lay_token.specs.declared.token.Kind.TheVariants.{Str, Doc}
+use Rattle.lay_piece.specs.Quoted.{block_step, doc_step, string_step}
+use Rattle.lay_piece.specs.Scan.{run}
+use Rattle.lay_piece.specs.Value.{string_value, adds}
+use Rattle.lay_piece.specs.declared.kind.Delim.TheVariants.{Bracket}
+use Rattle.lay_piece.specs.declared.kind.Kind.TheVariants.{Str, Doc}
 use Rattle.lay_token.specs.declared.token.Token.{Token}
 use Rattle.lay_form.specs.Form.{Part, closer}
 use Rattle.lay_form.specs.Notation.{piece}

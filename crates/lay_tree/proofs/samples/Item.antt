@@ -1,8 +1,8 @@
 -- Samples of items and of files: how they are laid out, what spells them, and what they need of the depth.
 use Rattle.std.proofs.Common.{◌≡◌, ℕ, suc, true, false, List, [], ◌∷◌, Some, None, inl, codes, refl}
-use Rattle.lay_token.specs.Docs.{doc_form}
-use Rattle.lay_token.specs.declared.token.Delim.TheVariants.{Brace}
-use Rattle.lay_token.specs.declared.token.Kind.TheVariants.{RawIdent, Doc}
+use Rattle.lay_piece.specs.Docs.{doc_form}
+use Rattle.lay_piece.specs.declared.kind.Delim.TheVariants.{Brace}
+use Rattle.lay_piece.specs.declared.kind.Kind.TheVariants.{RawIdent, Doc}
 use Rattle.lay_token.specs.declared.token.Token.{Token}
 use Rattle.lay_form.specs.Depth.{least_depth}
 use Rattle.lay_form.specs.Spelled.{Spells}

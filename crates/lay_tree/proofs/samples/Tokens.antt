@@ -1,14 +1,14 @@
 -- Samples of token lists, one for each row of the table of neighbours: how they are laid out, and what spells them.
 use Rattle.std.proofs.Common.{◌≡◌, ℕ, Bool, true, false, List, [], ◌∷◌, codes, refl}
-use Rattle.lay_token.specs.Docs.{doc_form}
-use Rattle.lay_token.specs.Document.{text_of}
-use Rattle.lay_token.specs.Forms.{opening, closing}
-use Rattle.lay_token.specs.Quoted.{doc_step, block_step}
-use Rattle.lay_token.specs.Scan.{run}
-use Rattle.lay_token.specs.declared.token.Delim.{Delim}
-use Rattle.lay_token.specs.declared.token.Delim.TheVariants.{Paren, Bracket, Brace}
-use Rattle.lay_token.specs.declared.token.Kind.{Kind}
-use Rattle.lay_token.specs.declared.token.Kind.TheVariants.{Ident, Int, Float, Punct, Opener, Closer, Doc}
+use Rattle.lay_piece.specs.Docs.{doc_form}
+use Rattle.lay_layout.specs.Document.{text_of}
+use Rattle.lay_piece.specs.Forms.{opening, closing}
+use Rattle.lay_piece.specs.Quoted.{doc_step, block_step}
+use Rattle.lay_piece.specs.Scan.{run}
+use Rattle.lay_piece.specs.declared.kind.Delim.{Delim}
+use Rattle.lay_piece.specs.declared.kind.Delim.TheVariants.{Paren, Bracket, Brace}
+use Rattle.lay_piece.specs.declared.kind.Kind.{Kind}
+use Rattle.lay_piece.specs.declared.kind.Kind.TheVariants.{Ident, Int, Float, Punct, Opener, Closer, Doc}
 use Rattle.lay_token.specs.declared.token.Token.{Token}
 use Rattle.lay_form.specs.Form.{Space, Form, Done, Piece, Listed as ListedToken, ListedDoc, Brk, Group, Part, opener, closer}
 use Rattle.lay_form.specs.Layout.{document}

@@ -1,10 +1,10 @@
 -- Small trees and tokens that samples are about, and what is told of the trees.
 use Rattle.std.proofs.Common.{◌≡◌, ℕ, Bool, true, false, List, [], ◌∷◌, Option, None, codes, ap, ◌∙◌, refl}
-use Rattle.lay_token.specs.Document.{text_of}
-use Rattle.lay_token.specs.Forms.{opening, closing}
-use Rattle.lay_token.specs.declared.token.Delim.{Delim}
-use Rattle.lay_token.specs.declared.token.Kind.{Kind}
-use Rattle.lay_token.specs.declared.token.Kind.TheVariants.{Ident, Punct, Opener, Closer}
+use Rattle.lay_layout.specs.Document.{text_of}
+use Rattle.lay_piece.specs.Forms.{opening, closing}
+use Rattle.lay_piece.specs.declared.kind.Delim.{Delim}
+use Rattle.lay_piece.specs.declared.kind.Kind.{Kind}
+use Rattle.lay_piece.specs.declared.kind.Kind.TheVariants.{Ident, Punct, Opener, Closer}
 use Rattle.lay_token.specs.declared.token.Token.{Token}
 use Rattle.lay_form.specs.Layout.{document}
 use Rattle.lay_form.specs.Spelled.{Spells}

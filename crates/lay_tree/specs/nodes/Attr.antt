@@ -2,11 +2,11 @@
 use Rattle.std.specs.Prelude.{ℕ, Bool, true, false, ◌&&◌, not, List, [], ◌∷◌, codes, Option, Some, None, encode_utf8_all}
 use Rattle.std.specs.List.{list_all}
 use Rattle.std.specs.Str.{chars, bytes_eq}
-use Rattle.lay_token.specs.Docs.{doc_form}
-use Rattle.lay_token.specs.Value.{value_of}
-use Rattle.lay_token.specs.declared.doc.DocForm.{DocForm}
-use Rattle.lay_token.specs.declared.doc.DocForm.TheVariants as doc
-use Rattle.lay_token.specs.declared.token.Delim.TheVariants.{Bracket}
+use Rattle.lay_piece.specs.Docs.{doc_form}
+use Rattle.lay_piece.specs.Value.{value_of}
+use Rattle.lay_piece.specs.declared.doc.DocForm.{DocForm}
+use Rattle.lay_piece.specs.declared.doc.DocForm.TheVariants as doc
+use Rattle.lay_piece.specs.declared.kind.Delim.TheVariants.{Bracket}
 use Rattle.lay_form.specs.Form.{Blank, Operator, Form, Done, Piece, Leaf, Part, Docs, keyword, closer}
 use Rattle.lay_form.specs.Notation.{I4, piece}
 use Rattle.lay_form.specs.Spelled.{attr_opening}

@@ -1,7 +1,7 @@
 -- Use trees (Rust Reference, "Use declarations").
 use Rattle.std.specs.Prelude.{Bool, true, ◌&&◌, List, [], ◌∷◌, codes, Option, Some, None}
-use Rattle.lay_token.specs.declared.token.Delim.TheVariants.{Brace}
-use Rattle.lay_token.specs.declared.token.Kind.TheVariants.{Underscore}
+use Rattle.lay_piece.specs.declared.kind.Delim.TheVariants.{Brace}
+use Rattle.lay_piece.specs.declared.kind.Kind.TheVariants.{Underscore}
 use Rattle.lay_form.specs.Form.{Blank, Operator, Form, Done, Piece, Leaf, Part, Deeper, keyword, opener, closer}
 use Rattle.lay_form.specs.Notation.{piece, when, comma_list}
 use Rattle.lay_tree.specs.Follow.{Begin, OfRename, OfColons}

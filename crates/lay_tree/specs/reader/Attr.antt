@@ -2,10 +2,10 @@
 use Rattle.std.specs.Prelude.{ℕ, ◌&&◌, ◌||◌, Bool, true, false, if◌then◌else◌, List, [], ◌∷◌, drop, codes, encode_utf8_all, Option, Some, None}
 use Rattle.std.specs.Str.{chars}
 use Rattle.lay_token.specs.Operators.{is_op}
-use Rattle.lay_token.specs.Value.{value_of}
-use Rattle.lay_token.specs.declared.token.Delim.TheVariants.{Bracket}
-use Rattle.lay_token.specs.declared.token.Kind.{Kind}
-use Rattle.lay_token.specs.declared.token.Kind.TheVariants.{Doc}
+use Rattle.lay_piece.specs.Value.{value_of}
+use Rattle.lay_piece.specs.declared.kind.Delim.TheVariants.{Bracket}
+use Rattle.lay_piece.specs.declared.kind.Kind.{Kind}
+use Rattle.lay_piece.specs.declared.kind.Kind.TheVariants.{Doc}
 use Rattle.lay_token.specs.declared.token.Token.{Token}
 use Rattle.lay_tree.specs.Ahead.{Tokens, first, tail, is_keyword, is_mark, opens, closes}
 use Rattle.lay_tree.specs.nodes.Attr.{is_doc_text, is_doc_path, same_flag}

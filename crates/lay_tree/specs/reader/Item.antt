@@ -1,6 +1,6 @@
 -- Reading items.
 use Rattle.std.specs.Prelude.{ℕ, zero, suc, not, Bool, true, false, if◌then◌else◌, List, [], ◌∷◌, codes, Some, None}
-use Rattle.lay_token.specs.declared.token.Delim.TheVariants.{Brace}
+use Rattle.lay_piece.specs.declared.kind.Delim.TheVariants.{Brace}
 use Rattle.lay_tree.specs.Ahead.{Tokens, first, tail, is_keyword, is_mark, opens, closes}
 use Rattle.lay_tree.specs.reader.Attr.{attributes}
 use Rattle.lay_tree.specs.reader.Loops.{Got, Read, ◌>>=◌, passed, nodes, deepest, repeat}

@@ -1,9 +1,9 @@
 -- Reading use trees.
 use Rattle.std.specs.Prelude.{ℕ, zero, suc, if◌then◌else◌, [], ◌∷◌, drop, codes, Option, Some, None}
 use Rattle.lay_token.specs.Operators.{is_op}
-use Rattle.lay_token.specs.declared.token.Delim.TheVariants.{Brace}
-use Rattle.lay_token.specs.declared.token.Kind.{Kind}
-use Rattle.lay_token.specs.declared.token.Kind.TheVariants.{Underscore}
+use Rattle.lay_piece.specs.declared.kind.Delim.TheVariants.{Brace}
+use Rattle.lay_piece.specs.declared.kind.Kind.{Kind}
+use Rattle.lay_piece.specs.declared.kind.Kind.TheVariants.{Underscore}
 use Rattle.lay_tree.specs.Ahead.{Tokens, first, tail, is_keyword, opens, closes}
 use Rattle.lay_tree.specs.Follow.{begins_there, OfColons}
 use Rattle.lay_tree.specs.reader.Loops.{Got, Read, ◌>>=◌, nodes, deepest, elements}

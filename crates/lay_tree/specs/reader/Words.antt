@@ -1,9 +1,9 @@
 -- Reading names, words and literals.
 use Rattle.std.specs.Prelude.{ℕ, Bool, true, false, if◌then◌else◌, List, [], ◌∷◌, drop, codes, Option, Some, None, is_some}
 use Rattle.lay_token.specs.Operators.{is_op}
-use Rattle.lay_token.specs.Word.{class_of}
-use Rattle.lay_token.specs.declared.token.Kind.{Kind}
-use Rattle.lay_token.specs.declared.token.Kind.TheVariants.{Ident, RawIdent}
+use Rattle.lay_piece.specs.Word.{class_of}
+use Rattle.lay_piece.specs.declared.kind.Kind.{Kind}
+use Rattle.lay_piece.specs.declared.kind.Kind.TheVariants.{Ident, RawIdent}
 use Rattle.lay_tree.specs.Ahead.{Tokens}
 use Rattle.lay_tree.specs.Words.{is_plain, is_path_class, is_literal_kind}
 use Rattle.lay_tree.specs.reader.Loops.{Got, ◌>>=◌, repeat}

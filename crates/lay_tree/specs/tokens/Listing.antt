@@ -1,9 +1,9 @@
 -- The tokens of a token list: what is told of each, and their groups.
 use Rattle.std.specs.Prelude.{ℕ, Bool, true, false, not, List, [], ◌∷◌}
-use Rattle.lay_token.specs.Docs.{doc_form}
-use Rattle.lay_token.specs.declared.token.Delim.{Delim}
-use Rattle.lay_token.specs.declared.token.Kind.{Kind}
-use Rattle.lay_token.specs.declared.token.Kind.TheVariants.{Opener, Closer, Doc}
+use Rattle.lay_piece.specs.Docs.{doc_form}
+use Rattle.lay_piece.specs.declared.kind.Delim.{Delim}
+use Rattle.lay_piece.specs.declared.kind.Kind.{Kind}
+use Rattle.lay_piece.specs.declared.kind.Kind.TheVariants.{Opener, Closer, Doc}
 use Rattle.lay_form.specs.Form as form
 use Rattle.lay_form.specs.Form.{Form}
 use Rattle.lay_form.specs.Layout.{is_block}

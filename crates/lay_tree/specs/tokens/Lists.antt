@@ -1,7 +1,7 @@
 -- The form of a token list.
 use Rattle.std.specs.Prelude.{Bool, true, false, List, [], ◌∷◌}
-use Rattle.lay_token.specs.declared.token.Delim.{Delim}
-use Rattle.lay_token.specs.declared.token.Delim.TheVariants.{Brace}
+use Rattle.lay_piece.specs.declared.kind.Delim.{Delim}
+use Rattle.lay_piece.specs.declared.kind.Delim.TheVariants.{Brace}
 use Rattle.lay_form.specs.Form.{Form, Done, Piece, Part, opener, closer}
 use Rattle.lay_form.specs.Notation.{Z, B, H, Z-, B-, H-, C4, I4, I0}
 use Rattle.lay_tree.specs.tokens.Listing.{listed_form, Grouping, NoMore, OneToken, OneGroup, nested}

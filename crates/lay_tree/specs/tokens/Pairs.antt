@@ -2,13 +2,13 @@
 use Rattle.std.specs.Prelude.{ℕ, zero, suc, ◌-◌, Bool, true, false, List, [], ◌∷◌, ◌&&◌, ◌||◌, not, cond}
 use Rattle.std.specs.Str.{bytes_eq}
 use Rattle.lay_token.specs.Lexes.{is_punct}
-use Rattle.lay_token.specs.Number.{is_index}
-use Rattle.lay_token.specs.Word.{class_of}
-use Rattle.lay_token.specs.declared.token.Delim.{Delim}
-use Rattle.lay_token.specs.declared.token.Delim.TheVariants.{Paren, Bracket, Brace}
-use Rattle.lay_token.specs.declared.token.Kind.TheVariants.{Ident, RawIdent, Int, Float}
-use Rattle.lay_token.specs.declared.word.Class.{Class}
-use Rattle.lay_token.specs.declared.word.Class.TheVariants.{Strict}
+use Rattle.lay_piece.specs.Number.{is_index}
+use Rattle.lay_piece.specs.Word.{class_of}
+use Rattle.lay_piece.specs.declared.kind.Delim.{Delim}
+use Rattle.lay_piece.specs.declared.kind.Delim.TheVariants.{Paren, Bracket, Brace}
+use Rattle.lay_piece.specs.declared.kind.Kind.TheVariants.{Ident, RawIdent, Int, Float}
+use Rattle.lay_piece.specs.declared.word.Class.{Class}
+use Rattle.lay_piece.specs.declared.word.Class.TheVariants.{Strict}
 use Rattle.lay_form.specs.Form.{Form}
 use Rattle.lay_form.specs.Notation.{B, H}
 use Rattle.lay_tree.specs.tokens.Listing as listing

@@ -1,5 +1,5 @@
 use Rattle.std.proofs.Common.{◌≡◌}
-use Rattle.lay_token.specs.Machine.{opened}
+use Rattle.lay_layout.specs.Machine.{opened}
 use Rattle.lay_checks_print.proofs.printer.random.Given as goal
 
 abbrev pub invariant-loop-turn : goal.invariant-loop-turn

@@ -1,5 +1,5 @@
 use Rattle.std.proofs.Common.{◌≡◌, ℕ, zero, suc, ◌-◌, refl, ap, ◌∙◌, arith}
-use Rattle.lay_token.specs.Machine.{outer}
+use Rattle.lay_layout.specs.Machine.{outer}
 use Rattle.lay_stream.proofs.Calls.{level_of}
 use Rattle.lay_checks_print.proofs.words.add.Goals as goal
 

@@ -1,5 +1,5 @@
 use Rattle.std.proofs.Common.{◌≡◌}
-use Rattle.lay_token.specs.Machine.{opened}
+use Rattle.lay_layout.specs.Machine.{opened}
 use Rattle.lay_checks_print.proofs.words.stream.Given as goal
 
 abbrev pub invariant-loop-word : goal.invariant-loop-word

@@ -1,5 +1,5 @@
 use Rattle.std.proofs.Common.{refl}
-use Rattle.lay_token.specs.declared.token.Kind.TheVariants as kind
+use Rattle.lay_piece.specs.declared.kind.Kind.TheVariants as kind
 use Rattle.lay_cook.proofs.CookLemmas.{literal}
 use Rattle.lay_cook.proofs.cooking.cook.Goals as goal
 

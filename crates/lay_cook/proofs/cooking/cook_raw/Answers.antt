@@ -1,8 +1,8 @@
 use Rattle.std.proofs.Common.{◌≡◌, drop, sym, ap, ◌∙◌}
 use Rattle.std.specs.Str.{chars, encode_utf8_all}
-use Rattle.lay_token.specs.Forms.{after_literal, is_whole}
-use Rattle.lay_token.specs.Value.{raw_value}
-use Rattle.lay_token.specs.declared.token.Kind.TheVariants as kind
+use Rattle.lay_piece.specs.Forms.{after_literal, is_whole}
+use Rattle.lay_piece.specs.Value.{raw_value}
+use Rattle.lay_piece.specs.declared.kind.Kind.TheVariants as kind
 use Rattle.lay_cook.proofs.CookLemmas.{raw_suffix, raw_closes, no_text, is_text}
 use Rattle.lay_cook.proofs.cooking.cook_raw.Goals as goal
 

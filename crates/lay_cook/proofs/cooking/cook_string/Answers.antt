@@ -1,9 +1,9 @@
 use Rattle.std.proofs.Common.{◌≡◌, ◌++◌, drop, sym, ap, ◌∙◌}
 use Rattle.std.specs.Str.{chars, encode_utf8_all}
-use Rattle.lay_token.specs.Quoted.{Plain}
-use Rattle.lay_token.specs.Forms.{after_literal, is_whole}
-use Rattle.lay_token.specs.Value.{string_value}
-use Rattle.lay_token.specs.declared.token.Kind.TheVariants as kind
+use Rattle.lay_piece.specs.Quoted.{Plain}
+use Rattle.lay_piece.specs.Forms.{after_literal, is_whole}
+use Rattle.lay_piece.specs.Value.{string_value}
+use Rattle.lay_piece.specs.declared.kind.Kind.TheVariants as kind
 use Rattle.lay_cook.proofs.CookLemmas.{string_suffix, string_closes, no_text, is_text}
 use Rattle.lay_cook.proofs.cooking.cook_string.Goals as goal
 

@@ -2,7 +2,7 @@ use Rattle.std.proofs.Common.{◌≡◌, ◌≤◌, length}
 use denote.Text.{Utf8}
 use denote.Shadow.{shadow}
 use Rattle.std.specs.Str.{chars}
-use Rattle.lay_token.specs.Chars.{after}
+use Rattle.lay_piece.specs.Chars.{after}
 use Rattle.lay_cook.specs.Steps.{is_unmarked}
 use Rattle.lay_cook.proofs.strings.after_run.Given as goal
 

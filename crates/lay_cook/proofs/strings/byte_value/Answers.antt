@@ -1,7 +1,7 @@
 use Rattle.std.proofs.Common.{◌≡◌, ◌+◌, ◌*◌, ◌∷◌, [], subst, arith}
 use Rattle.std.specs.Str.{chars}
-use Rattle.lay_token.specs.Chars.{hex_value}
-use Rattle.lay_token.specs.Quoted.{Escape, Hex, HexTwo}
+use Rattle.lay_piece.specs.Chars.{hex_value}
+use Rattle.lay_piece.specs.Quoted.{Escape, Hex, HexTwo}
 use Rattle.lay_cook.specs.Steps.{Closes, Reads}
 use Rattle.lay_cook.proofs.StepLemmas.{not_empty}
 use Rattle.lay_cook.proofs.DigitLemmas.{high_digit, byte_value}

@@ -2,8 +2,8 @@ use Rattle.std.proofs.Common.{rules, ◌≡◌, ◌+◌, ◌*◌, ◌<◌, ◌�
 use Rattle.std.specs.Str.{chars}
 use Rattle.std.specs.Char.{IsScalar}
 use Rattle.std.specs.Option.{SomeIff}
-use Rattle.lay_token.specs.Chars.{hex_value}
-use Rattle.lay_token.specs.Quoted.{Digits, Escape, Open}
+use Rattle.lay_piece.specs.Chars.{hex_value}
+use Rattle.lay_piece.specs.Quoted.{Digits, Escape, Open}
 use Rattle.lay_cook.specs.Steps.{Reads}
 use Rattle.lay_cook.proofs.StepLemmas.{not_empty}
 use Rattle.lay_cook.proofs.DigitLemmas.{InDigits, opened, brace, digit, underscore}

@@ -1,6 +1,6 @@
 use Rattle.std.proofs.Common.{rules, ◌≡◌, ◌∷◌, sym, ap, ◌∙◌, subst}
 use Rattle.std.specs.Str.{chars}
-use Rattle.lay_token.specs.Quoted.{Turned, Escape, Hex, Open, Skip}
+use Rattle.lay_piece.specs.Quoted.{Turned, Escape, Hex, Open, Skip}
 use Rattle.lay_cook.specs.Steps.{Closes, Reads}
 use Rattle.lay_cook.proofs.StepLemmas.{not_empty, behind_line, behind_x, behind_u, behind_short, is_short, silent, skipped, last}
 use Rattle.lay_cook.proofs.strings.escape.Goals as goal

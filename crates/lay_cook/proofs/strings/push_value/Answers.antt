@@ -1,9 +1,9 @@
 use Rattle.std.proofs.Common.{rules, ◌≡◌, ◌++◌, [], List, ℕ, refl, sym, ap, ◌∙◌, subst, option_to_list}
 use Rattle.std.specs.Str.{chars, encode_utf8_all}
 use Rattle.std.proofs.lemmas.List.{append-nil}
-use Rattle.lay_token.specs.Chars.{after, front}
-use Rattle.lay_token.specs.Quoted.{Plain, Turned}
-use Rattle.lay_token.specs.Value.{string_value}
+use Rattle.lay_piece.specs.Chars.{after, front}
+use Rattle.lay_piece.specs.Quoted.{Plain, Turned}
+use Rattle.lay_piece.specs.Value.{string_value}
 use Rattle.lay_cook.specs.Steps.{Closes, Reads, is_unmarked}
 use Rattle.lay_cook.proofs.StepLemmas.{plain_run, pushed, closed, turned}
 use Rattle.lay_cook.proofs.strings.push_value.Goals as goal

@@ -2,8 +2,8 @@ use Rattle.std.proofs.Common.{◌≡◌, ◌++◌, length}
 use denote.Text.{Utf8}
 use denote.Shadow.{shadow}
 use Rattle.std.specs.Str.{chars, encode_utf8_all}
-use Rattle.lay_token.specs.Quoted.{Plain}
-use Rattle.lay_token.specs.Value.{string_value}
+use Rattle.lay_piece.specs.Quoted.{Plain}
+use Rattle.lay_piece.specs.Value.{string_value}
 use Rattle.lay_cook.specs.Steps.{Closes}
 use Rattle.lay_cook.proofs.strings.push_value.Given as goal
 

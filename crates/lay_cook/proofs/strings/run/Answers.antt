@@ -1,8 +1,8 @@
 use Rattle.std.proofs.Common.{◌-◌, ◌++◌, length, take, ap, sym, ◌∙◌}
 use Rattle.std.specs.Str.{chars}
-use Rattle.lay_token.specs.Chars.{front}
-use Rattle.lay_token.proofs.Fronts.{front-after}
-use Rattle.lay_token.proofs.Texts.{bytes_before}
+use Rattle.lay_piece.specs.Chars.{front}
+use Rattle.lay_piece.proofs.Fronts.{front-after}
+use Rattle.lay_piece.proofs.Texts.{bytes_before}
 use Rattle.lay_cook.specs.Steps.{is_unmarked}
 use Rattle.lay_cook.proofs.strings.run.Goals as goal
 

@@ -1,8 +1,8 @@
 use Rattle.std.proofs.Common.{List, ◌∙◌, sym, ap}
 use Rattle.std.proofs.lemmas.Result.{IfOk-weaker}
-use Rattle.lay_token.specs.declared.layout.Tok.{Tok}
-use Rattle.lay_token.specs.Machine.{opened}
-use Rattle.lay_token.proofs.Lines.{opened_document}
+use Rattle.lay_layout.specs.declared.layout.Tok.{Tok}
+use Rattle.lay_layout.specs.Machine.{opened}
+use Rattle.lay_layout.proofs.Lines.{opened_document}
 use Rattle.lay_tree.specs.nodes.Attr.{attr_form}
 use Rattle.lay_front.proofs.LineLemmas.{line_document, line_listed}
 use Rattle.lay_front.proofs.format.attr_text.Goals as goal

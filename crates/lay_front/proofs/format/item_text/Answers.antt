@@ -1,7 +1,7 @@
 use Rattle.std.proofs.Common.{List, ◌∙◌, sym, ap}
-use Rattle.lay_token.specs.declared.layout.Tok.{Tok}
-use Rattle.lay_token.specs.Machine.{opened}
-use Rattle.lay_token.proofs.Lines.{opened_document}
+use Rattle.lay_layout.specs.declared.layout.Tok.{Tok}
+use Rattle.lay_layout.specs.Machine.{opened}
+use Rattle.lay_layout.proofs.Lines.{opened_document}
 use Rattle.lay_tree.specs.nodes.Item.{form_of_item}
 use Rattle.lay_front.proofs.LineLemmas.{line_document, line_listed}
 use Rattle.lay_front.proofs.format.item_text.Goals as goal

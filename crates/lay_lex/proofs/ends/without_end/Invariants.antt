@@ -1,6 +1,6 @@
 use Rattle.std.proofs.Common.{◌≡◌, length, IsUtf8}
 use Rattle.std.specs.Str.{chars}
-use Rattle.lay_token.specs.Chars.{without_end}
+use Rattle.lay_piece.specs.Chars.{without_end}
 use Rattle.lay_lex.proofs.ends.without_end.Given as goal
 
 abbrev pub invariant-loop-last : goal.invariant-loop-last

@@ -1,6 +1,6 @@
 use Rattle.std.proofs.Common.{rules, arith, ◌≡◌, false, refl, sym, ◌∙◌}
 use Rattle.std.specs.Str.{chars}
-use Rattle.lay_token.specs.Gap.{Spoilt, is_closed}
+use Rattle.lay_piece.specs.Gap.{Spoilt, is_closed}
 use Rattle.lay_lex.specs.Gap.{in_gap}
 use Rattle.lay_lex.specs.declared.gap.State.{State}
 use Rattle.lay_lex.specs.declared.gap.State.TheVariants as state

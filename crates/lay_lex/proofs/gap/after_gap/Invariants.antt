@@ -2,7 +2,7 @@ use Rattle.std.proofs.Common.{◌≡◌, length}
 use denote.Text.{Utf8}
 use denote.Shadow.{shadow}
 use Rattle.std.specs.Str.{chars}
-use Rattle.lay_token.specs.Gap.{Outside}
+use Rattle.lay_piece.specs.Gap.{Outside}
 use Rattle.lay_lex.specs.Gap.{rest_of}
 use Rattle.lay_lex.proofs.gap.after_gap.Given as goal
 

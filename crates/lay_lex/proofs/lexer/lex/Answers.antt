@@ -2,9 +2,9 @@
 use Rattle.std.proofs.Common.{◌≡◌, ◌⊎◌, inl, inr, ℕ, List, Result, Ok, Err, refl, ap, ◌∙◌, subst}
 use Rattle.lay_token.specs.Lexes.{Lexes, NoTokenAt}
 use Rattle.lay_token.specs.declared.token.Token.{Token}
-use Rattle.lay_token.specs.declared.refusal.FormatError.{FormatError}
-use Rattle.lay_token.specs.declared.refusal.FormatError.TheVariants.{Refused, NoMemory}
-use Rattle.lay_token.specs.declared.refusal.Refusal.TheVariants.{NotUtf8, NoToken, Unbalanced, NoItem}
+use Rattle.lay_text.specs.declared.refusal.FormatError.{FormatError}
+use Rattle.lay_text.specs.declared.refusal.FormatError.TheVariants.{Refused, NoMemory}
+use Rattle.lay_text.specs.declared.refusal.Refusal.TheVariants.{NotUtf8, NoToken, Unbalanced, NoItem}
 use Rattle.lay_token.proofs.Unique.{lexes_once, no_token_once, no_token_or_tokens}
 use Rattle.lay_lex.specs.Lexer.{LexedAs}
 use Rattle.lay_lex.proofs.lexer.lex.Goals as goal

@@ -1,7 +1,8 @@
 use Rattle.std.proofs.Common.{rules, ◌≡◌, ◌++◌, List, IsUtf8, sym, ap, ◌∙◌, subst}
 use Rattle.std.specs.Str.{chars}
-use Rattle.lay_token.specs.Forms.{Had}
-use Rattle.lay_token.specs.Lexes.{Lexes, BeginsNoPiece, is_index_place}
+use Rattle.lay_piece.specs.Forms.{Had}
+use Rattle.lay_piece.specs.Begins.{BeginsNoPiece}
+use Rattle.lay_token.specs.Lexes.{Lexes, is_index_place}
 use Rattle.lay_token.specs.declared.token.Token.{Token}
 use Rattle.lay_lex.specs.Tokens.{before}
 use Rattle.lay_lex.proofs.Gaps.{last_gap}

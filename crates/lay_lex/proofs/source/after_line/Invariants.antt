@@ -2,7 +2,7 @@ use Rattle.std.proofs.Common.{◌≡◌, length}
 use denote.Text.{Utf8}
 use denote.Shadow.{shadow}
 use Rattle.std.specs.Str.{chars}
-use Rattle.lay_token.specs.Chars.{after}
+use Rattle.lay_piece.specs.Chars.{after}
 use Rattle.lay_token.specs.Source.{is_in_line}
 use Rattle.lay_lex.proofs.source.after_line.Given as goal
 

@@ -2,7 +2,7 @@ use Rattle.std.proofs.Common.{◌≡◌, length}
 use denote.Text.{Utf8}
 use denote.Shadow.{shadow}
 use Rattle.std.specs.Str.{chars}
-use Rattle.lay_token.specs.Chars.{after, is_white}
+use Rattle.lay_piece.specs.Chars.{after, is_white}
 use Rattle.lay_lex.proofs.source.after_white.Given as goal
 
 abbrev pub invariant-loop-c : goal.invariant-loop-c

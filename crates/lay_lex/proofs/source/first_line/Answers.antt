@@ -1,9 +1,9 @@
 use Rattle.std.proofs.Common.{◌≡◌, sym, ap, ◌∙◌, arith, take, length, ◌-◌}
 use Rattle.std.specs.Str.{chars, encode_utf8_all}
 use Rattle.std.proofs.lemmas.Str.{chars_from_encodes}
-use Rattle.lay_token.specs.Chars.{front}
+use Rattle.lay_piece.specs.Chars.{front}
 use Rattle.lay_token.specs.Source.{is_in_line}
-use Rattle.lay_token.proofs.Texts.{bytes_before, length_parts}
+use Rattle.lay_piece.proofs.Texts.{bytes_before, length_parts}
 use Rattle.lay_lex.proofs.Lines.{line_parts, line_end}
 use Rattle.lay_lex.proofs.source.first_line.Goals as goal
 

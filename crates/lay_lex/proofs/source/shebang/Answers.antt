@@ -1,7 +1,7 @@
 use Rattle.std.proofs.Common.{rules, ◌≡◌, true, Some, None, sym, ap, ◌∙◌}
 use Rattle.std.specs.Str.{chars, encode_utf8_all}
 use Rattle.std.proofs.lemmas.Bool.{cond-true}
-use Rattle.lay_token.specs.Chars.{front, without_end}
+use Rattle.lay_piece.specs.Chars.{front, without_end}
 use Rattle.lay_token.specs.Source.{is_in_line, is_shebang, line_size}
 use Rattle.lay_lex.proofs.Lines.{line_sizes}
 use Rattle.lay_lex.proofs.source.shebang.Goals as goal

@@ -2,8 +2,8 @@ use Rattle.std.proofs.Common.{◌≡◌, ℕ, List, [], ◌∷◌, drop, refl, s
 use Rattle.std.specs.Str.{chars, encode_utf8_all}
 use Rattle.std.proofs.lemmas.Str.{encodes-chars}
 use Rattle.lay_token.specs.Lexes.{text_of_piece}
-use Rattle.lay_token.specs.declared.token.Kind.{Kind}
-use Rattle.lay_token.specs.declared.token.Kind.TheVariants.{RawIdent, Doc}
+use Rattle.lay_piece.specs.declared.kind.Kind.{Kind}
+use Rattle.lay_piece.specs.declared.kind.Kind.TheVariants.{RawIdent, Doc}
 use Rattle.lay_lex.proofs.tokens.text_of_piece.Goals as goal
 
 two_less : (cs : List ℕ) → drop 1 (drop 1 cs) ≡ drop 2 cs

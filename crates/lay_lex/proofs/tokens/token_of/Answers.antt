@@ -3,7 +3,7 @@ use Rattle.std.specs.Str.{chars, encode_utf8_all}
 use Rattle.std.proofs.lemmas.Str.{encodes-chars}
 use Rattle.lay_token.specs.Lexes.{size, text_of_piece}
 use Rattle.lay_token.specs.declared.token.Token.{Token}
-use Rattle.lay_token.specs.declared.token.Kind.{Kind}
+use Rattle.lay_piece.specs.declared.kind.Kind.{Kind}
 use Rattle.lay_lex.specs.Tokens.{token_of}
 use Rattle.lay_lex.proofs.tokens.token_of.Goals as goal
 

@@ -1,5 +1,5 @@
 use Rattle.std.proofs.Common.{◌≡◌, true, false, sym, ap, ◌∙◌}
-use Rattle.lay_token.specs.declared.token.Delim.TheVariants.{Bracket}
+use Rattle.lay_piece.specs.declared.kind.Delim.TheVariants.{Bracket}
 use Rattle.lay_tree.specs.Ahead.{first, tail, closes}
 use Rattle.lay_tree.specs.reader.Attr.{made}
 use Rattle.lay_tree.specs.declared.attr.MetaInput.TheVariants as input

@@ -1,5 +1,5 @@
 use Rattle.std.proofs.Common.{◌≡◌, ◌≤◌, ◌+◌, length, nat_lt}
-use Rattle.lay_token.specs.Machine.{reach}
+use Rattle.lay_layout.specs.Machine.{reach}
 use Rattle.lay_stream.proofs.slow.exceeds.Given as goal
 
 abbrev pub invariant-loop-tok : goal.invariant-loop-tok

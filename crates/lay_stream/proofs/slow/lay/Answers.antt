@@ -1,5 +1,5 @@
 use Rattle.std.proofs.Common.{refl, arith}
-use Rattle.lay_token.specs.Machine.{begun}
+use Rattle.lay_layout.specs.Machine.{begun}
 use Rattle.lay_stream.proofs.slow.lay.Goals as goal
 
 pub loop-tok-init : goal.loop-tok-init

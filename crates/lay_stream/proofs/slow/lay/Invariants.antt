@@ -1,5 +1,5 @@
 use Rattle.std.proofs.Common.{◌≡◌, [], length}
-use Rattle.lay_token.specs.Machine.{Layout, play, begun}
+use Rattle.lay_layout.specs.Machine.{Layout, play, begun}
 use Rattle.lay_stream.specs.Pages.{At}
 use Rattle.lay_stream.proofs.slow.lay.Given as goal
 

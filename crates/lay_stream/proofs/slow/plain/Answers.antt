@@ -1,7 +1,7 @@
 use Rattle.std.proofs.Common.{sym, ap, ◌∙◌}
 use Rattle.std.proofs.lemmas.Result.{IfOk-weaker}
-use Rattle.lay_token.specs.Machine.{text}
-use Rattle.lay_token.proofs.Render.{text_stream}
+use Rattle.lay_layout.specs.Machine.{text}
+use Rattle.lay_layout.proofs.Render.{text_stream}
 use Rattle.lay_stream.proofs.slow.plain.Goals as goal
 
 pub returns-clause-document : goal.returns-clause-document

@@ -1,6 +1,6 @@
 use Rattle.std.proofs.Common.{ℕ, ◌≤◌, List, length}
 use Rattle.lay_io.specs.Faults.{SameLoan}
-use Rattle.lay_token.specs.declared.layout.Tok.{Tok}
+use Rattle.lay_layout.specs.declared.layout.Tok.{Tok}
 use Rattle.lay_printer.specs.Engines.{Stays}
 use Rattle.lay_printer.specs.Queued.{Running}
 use Rattle.lay_printer.proofs.engine.Engine.drain.Given as goal

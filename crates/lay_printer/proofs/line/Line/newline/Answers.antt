@@ -1,5 +1,5 @@
 use Rattle.std.proofs.Common.{rules, ◌≡◌, ℕ, ap}
-use Rattle.lay_token.specs.Document.{State, shift, line, put_mark, newline}
+use Rattle.lay_layout.specs.Document.{State, shift, line, put_mark, newline}
 use Rattle.lay_printer.proofs.Paging.{moves_then, moves_as}
 use Rattle.lay_printer.proofs.line.Line.newline.Goals as goal
 

@@ -1,5 +1,5 @@
 use Rattle.std.proofs.Common.{rules, ◌≡◌, ◌∷◌, [], None, sym, refl, subst}
-use Rattle.lay_token.specs.Machine.{IsNested}
+use Rattle.lay_layout.specs.Machine.{IsNested}
 use Rattle.lay_printer.specs.Printing.{Printing}
 use Rattle.lay_printer.proofs.Calling.{calls_ok, calls_err}
 use Rattle.lay_printer.proofs.printer.Core.feed.Goals as goal

@@ -1,5 +1,5 @@
 use Rattle.std.proofs.Common.{rules, ◌≡◌, OnOk, ◌∷◌, ◌++◌, []}
-use Rattle.lay_token.specs.declared.layout.Tok.TheVariants as tok
+use Rattle.lay_layout.specs.declared.layout.Tok.TheVariants as tok
 use Rattle.lay_stream.proofs.ListedLemmas.{list_did}
 use Rattle.lay_stream.proofs.stream.StreamEmit.begin.Goals as goal
 
