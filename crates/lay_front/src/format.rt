@@ -33,7 +33,7 @@ pub enum IntoError {
 }
 
 /// Why the text of items wasn't written whole.
-#[derive(Clone, Copy, Debug, PartialEq, Eq)]
+#[derive(Clone, Copy)]
 enum WriteError {
     WriteFailed,
     NoMemory,

@@ -80,7 +80,7 @@ impl<R: Input> Inputs for HostInputs<R> {
 }
 
 /// Which of the system's streams takes the bytes.
-#[derive(Clone, Copy, Debug)]
+#[derive(Clone, Copy)]
 enum Stream {
     Stdout,
     Stderr,

@@ -26,7 +26,7 @@ pub fn is_white(c: char) -> bool
 }
 
 /// How far a gap is read.
-#[derive(Clone, Copy, Debug, PartialEq, Eq)]
+#[derive(Clone, Copy)]
 enum State {
     /// Between comments.
     Outside,
@@ -49,7 +49,7 @@ enum State {
 }
 
 /// How far a block comment is read, within so many more.
-#[derive(Clone, Copy, Debug, PartialEq, Eq)]
+#[derive(Clone, Copy)]
 enum InBlock {
     Deep(usize),
     /// Behind a star.

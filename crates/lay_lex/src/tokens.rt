@@ -9,7 +9,7 @@ use lay_token::{Kind, List, NoMemory, Text, Token};
 use std::alloc::Global;
 
 /// What stands before a place.
-#[derive(Clone, Copy, Debug, PartialEq, Eq)]
+#[derive(Clone, Copy, PartialEq, Eq)]
 enum Before {
     /// Anything but a point, or nothing.
     Other,
@@ -130,7 +130,7 @@ fn is_joint(last: &Token, next: &Token, touches: bool) -> bool
 }
 
 /// The tokens read so far. The next tells whether the last of them is joint.
-#[derive(Debug, Drop)]
+#[derive(Drop)]
 pub struct Tokens {
     read: Vec<Token>,
     before: Before,
