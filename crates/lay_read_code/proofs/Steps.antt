@@ -1,20 +1,17 @@
 -- One step of a reader, from what the readers within it give.
-use Rattle.std.proofs.Common.{◌≡◌, ℕ, suc, ◌+◌, ◌-◌, ◌<◌, add-one, Bool, true, false, List, [], ◌∷◌, drop, codes, Option, Some, None, Result, Ok, Err, slice_get, refl, ◌∙◌, ap, if◌then◌else◌, arith}
+use Rattle.std.proofs.Common.{◌≡◌, ℕ, suc, ◌+◌, ◌-◌, ◌<◌, add-one, Bool, true, false, List, [], ◌∷◌, drop, codes, Option, Some, None, refl, ◌∙◌, ap, if◌then◌else◌, arith}
 use Rattle.lay_token.specs.Operators.{is_op}
-use Rattle.lay_token.specs.declared.token.Delim.TheVariants.{Bracket, Brace}
+use Rattle.lay_token.specs.declared.token.Delim.TheVariants.{Brace}
 use Rattle.lay_token.specs.declared.token.Kind.{Kind}
 use Rattle.lay_token.specs.declared.token.Kind.TheVariants.{Underscore}
 use Rattle.lay_token.specs.declared.token.Token.{Token}
 use Rattle.lay_tree.specs.Ahead.{Tokens, first, tail, closes}
-use Rattle.lay_tree.specs.Words.{is_literal_kind}
-use Rattle.lay_tree.specs.reader.Attr.{meta_input, made, attributes}
+use Rattle.lay_tree.specs.reader.Attr.{attributes}
 use Rattle.lay_tree.specs.reader.Item.{kind_by, item_by, item_at}
-use Rattle.lay_tree.specs.reader.Loops.{Got, Read, ◌>>=◌, passed, nodes, deepest, elements}
+use Rattle.lay_tree.specs.reader.Loops.{Got, Read, ◌>>=◌, nodes, deepest, elements}
 use Rattle.lay_tree.specs.reader.Use.{other_name, use_group, use_end_by, ended, use_at}
-use Rattle.lay_tree.specs.reader.Words.{name_by, name, literal, path_words}
+use Rattle.lay_tree.specs.reader.Words.{name_by, name, path_words}
 use Rattle.lay_tree.specs.declared.attr.Attr.{Attr}
-use Rattle.lay_tree.specs.declared.attr.MetaInput.TheVariants as input
-use Rattle.lay_tree.specs.declared.attr.MetaPath.{MetaPath}
 use Rattle.lay_tree.specs.declared.item.ItemKind.{ItemKind}
 use Rattle.lay_tree.specs.declared.token.Name.{Name}
 use Rattle.lay_tree.specs.declared.token.Word.{Word}
@@ -23,21 +20,9 @@ use Rattle.lay_tree.specs.declared.use_tree.Rename.TheVariants as rename
 use Rattle.lay_tree.specs.declared.use_tree.UseEnd.{UseEnd}
 use Rattle.lay_tree.specs.declared.use_tree.UseEnd.TheVariants as use_end
 use Rattle.lay_tree.specs.declared.use_tree.UseTree.{UseTree}
-use Rattle.lay_read_code.specs.Answers.{IsGot, IsMade, Stopped, meta_rest, bare_rest, value_rest, is_underscore_kind, is_underscore}
-use Rattle.lay_read_code.specs.declared.stop.Stop.{Stop}
-use Rattle.lay_read_code.specs.declared.stop.Stop.TheVariants.{NoReading, NoMemory}
-
--- ---- what stops a reader
-
-pub lost : {A B : Type 0} (inner : Option A) (outer : Option B) (stop : Stop) → Stopped inner stop → (inner ≡ None → outer ≡ None) → Stopped outer stop
-lost inner outer NoReading h f = f h
-lost inner outer NoMemory h f = tt
+use Rattle.lay_read_types.specs.Answers.{is_underscore_kind, is_underscore}
 
 -- ---- the front
-
-pub front_is : (ts : Tokens) (t : Token) → Some t ≡ slice_get ts 0 → ts ≡ t ∷ tail ts
-front_is [] t h = absurd (cc)
-front_is (u ∷ ts) t h = cc
 
 -- what is read behind the `::`, if one stands at the front
 behind_colons : {A : Type 0} (f : Bool → Tokens → A) (b : Bool) (ts : Tokens) (flag : Bool) (mid : Tokens)
@@ -45,48 +30,6 @@ behind_colons : {A : Type 0} (f : Bool → Tokens → A) (b : Bool) (ts : Tokens
     → (let pair : Bool × Tokens = if b then (true, drop 2 ts) else (false, ts) in f pair.0 pair.1) ≡ f flag mid
 behind_colons f true ts flag mid e g = let h : mid ≡ drop 2 ts = g ∙ rw e refl in rw (e, h) refl
 behind_colons f false ts flag mid e g = let h : mid ≡ ts = g ∙ rw e refl in rw (e, h) refl
-
--- ---- what an attribute is given
-
-joined : {A B C : Type 0} (o : Got A) (f : A → B) (g : B × Tokens → Got C)
-    → ((o >>= (λ l. let one : Got B = Some (f l.0, l.1) in one)) >>= g) ≡ (o >>= (λ l. g (f l.0, l.1)))
-joined None f g = refl
-joined (Some l) f g = refl
-
-pub rest_value : (inner : Bool) (path : MetaPath) (ts : Tokens) → is_op (codes "=") ts ≡ true → meta_rest inner path ts ≡ value_rest inner path (drop 1 ts)
-unfolding meta_input
-rest_value inner path ts h = rw h (joined (literal (drop 1 ts)) input.Value (λ given. passed (closes Bracket) given.1 >>= (λ rest. Some (made inner path given.0, rest))))
-
-pub rest_bare : (inner : Bool) (path : MetaPath) (ts : Tokens) → is_op (codes "=") ts ≡ false → meta_rest inner path ts ≡ bare_rest inner path ts
-unfolding meta_input
-rest_bare inner path ts h = rw h refl
-
-module _ (inner : Bool) (path : MetaPath) where
-  pub value_none : (ts : Tokens) → None ≡ slice_get ts 0 → value_rest inner path ts ≡ None
-  unfolding literal
-  value_none [] h = refl
-  value_none (t ∷ ts) h = absurd (cc)
-
-  pub value_other : (ts : Tokens) (t : Token) → Some t ≡ slice_get ts 0 → is_literal_kind t.kind ≡ false → value_rest inner path ts ≡ None
-  unfolding literal
-  value_other ts t h k = rw (front_is ts t h, k) refl
-
-  pub value_open : (ts : Tokens) (t : Token) → Some t ≡ slice_get ts 0 → is_literal_kind t.kind ≡ true → first (closes Bracket) (tail ts) ≡ false → value_rest inner path ts ≡ None
-  unfolding literal
-  value_open ts t h k e = rw (front_is ts t h, k, e) refl
-
-  pub value_some : (ts : Tokens) (t : Token) → Some t ≡ slice_get ts 0 → is_literal_kind t.kind ≡ true → first (closes Bracket) (tail ts) ≡ true
-      → value_rest inner path ts ≡ Some (made inner path (input.Value (record { kind = t.kind; text = t.text })), tail (tail ts))
-  unfolding literal
-  value_some ts t h k e = rw (front_is ts t h, k, e) refl
-
-pub got_by : {A : Type 0} (a b : Got A) (r : Result A Stop) (left : Tokens) → a ≡ b → IsGot b r left → IsGot a r left
-got_by a b r left e h = rw e h
-
-pub got_made : {A : Type 0} (got : Got A) (value : A) (answer : Result A Stop) (left : Tokens) → got ≡ Some (value, left) → IsMade value answer → IsGot got answer left
-got_made got value (Ok a) left e h = rw h e
-got_made got value (Err NoReading) left e h = absurd h
-got_made got value (Err NoMemory) left e h = tt
 
 -- ---- use trees
 

@@ -1,6 +1,6 @@
 use Rattle.std.proofs.Common.{refl, ap, sym, subst, ◌∙◌}
 use Rattle.lay_tree.specs.reader.File.{whole}
-use Rattle.lay_read_code.specs.Answers.{AreLexed}
+use Rattle.lay_read_types.specs.Answers.{AreLexed}
 use Rattle.lay_read_code.proofs.Files.{file_spelled, nothing_spelled}
 use Rattle.lay_read_code.proofs.file.read_file.Goals as goal
 

@@ -4,17 +4,20 @@ use Rattle.lay_tree.specs.reader.Attr.{attributes}
 use Rattle.lay_tree.specs.reader.Item.{more_items, item_at, items_by, kind_by}
 use Rattle.lay_tree.specs.reader.Use.{use_at}
 use Rattle.lay_tree.specs.reader.Words.{name}
-use Rattle.lay_read_code.specs.Answers.{AreLexed}
-use Rattle.lay_read_code.proofs.Left.{attributes_left, item_left, name_left, shorter}
-use Rattle.lay_read_code.proofs.Lexed.{lexed_behind, lexed_tail}
-use Rattle.lay_read_code.proofs.Steps.{lost, item_none, item_some}
-use Rattle.lay_read_code.proofs.Turns.{repeat-start, repeat-end, repeat-none, repeat-step, holding_more}
+use Rattle.lay_read_types.specs.Answers.{AreLexed}
+use Rattle.lay_read_types.proofs.Left.{attributes_left, name_left, shorter}
+use Rattle.lay_read_code.proofs.Left.{item_left}
+use Rattle.lay_read_types.proofs.Lexed.{lexed_behind, lexed_tail}
+use Rattle.lay_read_types.proofs.Steps.{lost}
+use Rattle.lay_read_code.proofs.Steps.{item_none, item_some}
+use Rattle.lay_read_types.proofs.Turns.{repeat-start, repeat-end, repeat-none, repeat-step}
+use Rattle.lay_read_code.proofs.Holding.{holding_more}
 use Rattle.lay_read_code.proofs.items.+items.Goals as goal
 
 pub read_item-read_kind-requires : goal.read_item-read_kind-requires
 read_item-read_kind-requires t c =
     let ts = c.args.at.now in
-    (search rules, lexed_behind 0 ts (attributes false ts) c.in_ok-attrs.attrs c.read_attrs.new.at (attributes_left false ts) c.in_ok-attrs.ensures c.requires)
+    (search rules, lexed_behind 0 ts (attributes false ts) c.in_ok-attrs.attrs c.read_attrs.new.at (attributes_left false ts) c.in_ok-attrs.ensures.got c.requires)
 
 pub read_item-returns-in_err-kind-clause-read : goal.read_item-returns-in_err-kind-clause-read
 read_item-returns-in_err-kind-clause-read t c =
@@ -22,12 +25,12 @@ read_item-returns-in_err-kind-clause-read t c =
     let p = err_from_is_err_and c.from_residual-in_err-kind.result c.from_residual-in_err-kind.ensures.1 in
     rw (p.1, p.2) (lost (kind_by (item_at (c.args.depth - 1)) (use_at (c.args.depth - 1)) c.read_attrs.new.at) (item_at c.args.depth c.args.at.now)
     c.in_err-kind.field-0.0 c.in_err-kind.ensures.read
-    (item_none c.args.depth c.args.at.now some c.in_ok-attrs.attrs c.read_attrs.new.at c.in_ok-attrs.ensures))
+    (item_none c.args.depth c.args.at.now some c.in_ok-attrs.attrs c.read_attrs.new.at c.in_ok-attrs.ensures.got))
 
 pub read_item-returns-clause-read : goal.read_item-returns-clause-read
 read_item-returns-clause-read t c =
     let some : 0 < c.args.depth = omega arith in
-    item_some c.args.depth c.args.at.now some c.in_ok-attrs.attrs c.read_attrs.new.at c.in_ok-attrs.ensures
+    item_some c.args.depth c.args.at.now some c.in_ok-attrs.attrs c.read_attrs.new.at c.in_ok-attrs.ensures.got
     c.in_ok-kind.kind.node c.in_ok-kind.kind.need c.read_kind.new.at c.in_ok-kind.ensures.read
 
 pub read_kind-read_module-requires : goal.read_kind-read_module-requires
@@ -47,7 +50,7 @@ read_module-read_items-requires t c =
     let inside = c.takes_opener.new.at in
     let before : AreLexed inside =
     rw c.if-not-takes_opener.ensures.passed (lexed_tail mid (lexed_behind 1 ts (name ts) c.in_ok-name.name mid (name_left ts) c.in_ok-name.ensures c.requires)) in
-    (search rules, lexed_behind 0 inside (attributes true inside) c.in_ok-attrs.attrs c.read_attrs.new.at (attributes_left true inside) c.in_ok-attrs.ensures before)
+    (search rules, lexed_behind 0 inside (attributes true inside) c.in_ok-attrs.attrs c.read_attrs.new.at (attributes_left true inside) c.in_ok-attrs.ensures.got before)
 
 pub read_items-loop-alloc-init : goal.read_items-loop-alloc-init
 unfolding items_by

@@ -1,8 +1,9 @@
 use Rattle.std.proofs.Common.{◌+◌, ◌*◌, ◌≤◌, length}
 use Rattle.lay_tree.specs.reader.Item.{more_items, item_at, items_by}
 use Rattle.lay_tree.specs.reader.Loops.{repeat_from}
-use Rattle.lay_read_code.specs.Answers.{AreLexed}
-use Rattle.lay_read_code.proofs.Turns.{Turn, Held, Holding}
+use Rattle.lay_read_types.specs.Answers.{AreLexed}
+use Rattle.lay_read_types.proofs.Turns.{Turn, Held}
+use Rattle.lay_read_code.proofs.Holding.{Holding}
 use Rattle.lay_read_code.proofs.items.+items.Given as goal
 
 abbrev pub decreases-read_item : goal.decreases-read_item

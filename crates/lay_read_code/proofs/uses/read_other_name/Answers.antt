@@ -2,7 +2,8 @@ use Rattle.std.proofs.Common.{sym, ap, ◌∙◌}
 use Rattle.std.proofs.lemmas.Result.{err_from_is_err_and}
 use Rattle.lay_tree.specs.reader.Use.{other_name}
 use Rattle.lay_tree.specs.reader.Words.{name}
-use Rattle.lay_read_code.proofs.Steps.{lost, other_underscore, other_none, other_some}
+use Rattle.lay_read_types.proofs.Steps.{lost}
+use Rattle.lay_read_code.proofs.Steps.{other_underscore, other_none, other_some}
 use Rattle.lay_read_code.proofs.uses.read_other_name.Goals as goal
 
 pub returns-then-takes_underscore : goal.returns-then-takes_underscore
