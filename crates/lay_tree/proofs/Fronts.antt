@@ -1,11 +1,12 @@
 -- What the tests of the front of a list of tokens tell of it, and what stands there tells of the tests.
-use Rattle.std.proofs.Common.{◌≡◌, ℕ, suc, ◌≤◌, ◌<◌, Bool, true, false, List, [], ◌∷◌, ◌++◌, length, codes, Option, Some, None, refl, sym, ap, subst, ◌∙◌, inl, inr, arith, length-append, length-drop}
+use Rattle.std.proofs.Common.{◌≡◌, ℕ, suc, ◌≤◌, ◌<◌, Bool, true, false, List, [], ◌∷◌, ◌&&◌, length, codes, Option, Some, None, refl, sym, ap, subst, ◌∙◌, inl, inr, arith, length-append, length-drop, cond}
+use Rattle.std.specs.List.{list_all}
 use Rattle.std.specs.Str.{bytes_eq}
 use Rattle.std.proofs.lemmas.Bool.{and_parts, cases_Bool, false_from_ne_true}
 use Rattle.std.proofs.lemmas.Slice.Eq.{bytes_eq-Decides}
 use Rattle.lay_token.specs.Forms.{opening, closing}
 use Rattle.lay_token.specs.Lexes.{is_punct}
-use Rattle.lay_token.specs.Operators.{op_at, is_op_of, is_op}
+use Rattle.lay_token.specs.Operators.{operators, begins_op, first_op, or_lone, op_at, is_op_of, is_op}
 use Rattle.lay_token.specs.declared.token.Delim.{Delim}
 use Rattle.lay_token.specs.declared.token.Delim.TheVariants.{Paren, Bracket, Brace}
 use Rattle.lay_token.specs.declared.token.Kind.{Kind}
@@ -15,19 +16,16 @@ use Rattle.lay_token.proofs.Deciding.{punct_is, bytes_same, bytes_self}
 use Rattle.lay_form.specs.Spelled.{IsOne, IsOperator}
 use Rattle.lay_form.proofs.FormLaws.{IsEnd}
 use Rattle.lay_tree.specs.Ahead.{Tokens, first, tail, is_ident, is_keyword, is_mark, same_delim, is_opener, is_closer, opens, closes}
-use Rattle.lay_tree.specs.reader.Exact.{only_text, IsText, HaveTexts}
+use Rattle.lay_tree.specs.reader.Exact.{InText}
 use Rattle.lay_tree.specs.reader.Loops.{passed}
+use Rattle.lay_tree.proofs.InText.{only_text, IsText, behind_all, text_one}
 use Rattle.lay_tree.proofs.Steps.{chosen}
 
--- ---- texts
+-- ---- what is left
 
-without : (before rest : Tokens) → HaveTexts (before ++ rest) → HaveTexts rest
-without [] rest h = h
-without (t ∷ before) rest h = without before rest h.1
-
--- Tokens have their texts where they end ones that have.
-pub texts_behind : (ts rest : Tokens) → IsEnd rest ts → HaveTexts ts → HaveTexts rest
-texts_behind ts rest e h = without e.before rest (subst HaveTexts e.whole h)
+-- Tokens stand in a text where they end ones that do.
+pub texts_behind : (ts rest : Tokens) → IsEnd rest ts → InText ts → InText rest
+texts_behind ts rest e h = behind_all e.before rest (subst InText e.whole h)
 
 pub end_shorter : (ts rest : Tokens) → IsEnd rest ts → length rest ≤ length ts
 end_shorter ts rest e = omega (arith, ap length e.whole, length-append e.before rest)
@@ -51,7 +49,7 @@ opener_kind : (d : Delim) (k : Kind) → is_opener d k ≡ true → k ≡ Opener
 opener_kind d (Opener e) h = ap (λ x. Opener x) (delim_same d e h)
 opener_kind d _ h = absurd (cc)
 
-closer_kind : (d : Delim) (k : Kind) → is_closer d k ≡ true → k ≡ Closer d
+pub closer_kind : (d : Delim) (k : Kind) → is_closer d k ≡ true → k ≡ Closer d
 closer_kind d (Closer e) h = ap (λ x. Closer x) (delim_same d e h)
 closer_kind d _ h = absurd (cc)
 
@@ -65,17 +63,17 @@ mark_one character [] h = absurd (cc)
 mark_one character (t ∷ ts) h =
     let b = and_parts (is_punct t.kind) (bytes_eq t.text character) h in (punct_is t.kind b.0, bytes_same t.text character b.1, refl)
 
-pub opens_one : (d : Delim) (ts : Tokens) → HaveTexts ts → first (opens d) ts ≡ true → IsOne (Opener d) (opening d ∷ []) ts (tail ts)
+pub opens_one : (d : Delim) (ts : Tokens) → InText ts → first (opens d) ts ≡ true → IsOne (Opener d) (opening d ∷ []) ts (tail ts)
 opens_one d [] p h = absurd (cc)
 opens_one d (t ∷ ts) p h =
-    let k = opener_kind d t.kind h in (k, only_one (Opener d) t.kind (opening d ∷ []) t.text k refl p.0, refl)
+    let k = opener_kind d t.kind h in (k, only_one (Opener d) t.kind (opening d ∷ []) t.text k refl (text_one t ts p), refl)
 
-pub closes_one : (d : Delim) (ts : Tokens) → HaveTexts ts → first (closes d) ts ≡ true → IsOne (Closer d) (closing d ∷ []) ts (tail ts)
+pub closes_one : (d : Delim) (ts : Tokens) → InText ts → first (closes d) ts ≡ true → IsOne (Closer d) (closing d ∷ []) ts (tail ts)
 closes_one d [] p h = absurd (cc)
 closes_one d (t ∷ ts) p h =
-    let k = closer_kind d t.kind h in (k, only_one (Closer d) t.kind (closing d ∷ []) t.text k refl p.0, refl)
+    let k = closer_kind d t.kind h in (k, only_one (Closer d) t.kind (closing d ∷ []) t.text k refl (text_one t ts p), refl)
 
-passed_first : (p : Token → Bool) (ts rest : Tokens) → passed p ts ≡ Some rest → (first p ts ≡ true) × (tail ts ≡ rest)
+pub passed_first : (p : Token → Bool) (ts rest : Tokens) → passed p ts ≡ Some rest → (first p ts ≡ true) × (tail ts ≡ rest)
 passed_first p ts rest h =
     elim (chosen (first p ts) (Some (tail ts)) None (Some rest) h) [
       | inl g ↦ let e : tail ts ≡ rest = cc g.1 in (g.0, e)
@@ -86,11 +84,11 @@ pub mark_passed_is : (character : List ℕ) (ts rest : Tokens) → passed (is_ma
 mark_passed_is character ts rest h =
     let f = passed_first (is_mark character) ts rest h in subst (IsOne Punct character ts) f.1 (mark_one character ts f.0)
 
-pub opener_passed_is : (d : Delim) (ts rest : Tokens) → HaveTexts ts → passed (opens d) ts ≡ Some rest → IsOne (Opener d) (opening d ∷ []) ts rest
+pub opener_passed_is : (d : Delim) (ts rest : Tokens) → InText ts → passed (opens d) ts ≡ Some rest → IsOne (Opener d) (opening d ∷ []) ts rest
 opener_passed_is d ts rest t h =
     let f = passed_first (opens d) ts rest h in subst (IsOne (Opener d) (opening d ∷ []) ts) f.1 (opens_one d ts t f.0)
 
-pub closer_passed_is : (d : Delim) (ts rest : Tokens) → HaveTexts ts → passed (closes d) ts ≡ Some rest → IsOne (Closer d) (closing d ∷ []) ts rest
+pub closer_passed_is : (d : Delim) (ts rest : Tokens) → InText ts → passed (closes d) ts ≡ Some rest → IsOne (Closer d) (closing d ∷ []) ts rest
 closer_passed_is d ts rest t h =
     let f = passed_first (closes d) ts rest h in subst (IsOne (Closer d) (closing d ∷ []) ts) f.1 (closes_one d ts t f.0)
 
@@ -144,7 +142,7 @@ no_operator t ts h = at t.kind h
     at Punct h = absurd (cc)
     at _ h = refl
 
-no_op : (op : List ℕ) (t : Token) (ts : Tokens) → is_punct t.kind ≡ false → is_op op (t ∷ ts) ≡ false
+pub no_op : (op : List ℕ) (t : Token) (ts : Tokens) → is_punct t.kind ≡ false → is_op op (t ∷ ts) ≡ false
 no_op op t ts h = ap (is_op_of op) (no_operator t ts h)
 
 -- An operator begins with punctuation.
@@ -189,3 +187,58 @@ op_shorter c cs ts rest o =
     let g = op_front (c ∷ cs) ts o.0 in
     let l : length ts ≡ suc (length g.1) = ap length g.2 in
     omega (arith, length-drop (length (c ∷ cs)) ts, ap length o.1)
+
+abbrev is_long : List ℕ → Bool
+is_long (a ∷ b ∷ cs) = true
+is_long _ = false
+
+no_long : (c : ℕ) (op : List ℕ) → is_long op ≡ true → bytes_eq (c ∷ []) op ≡ false
+no_long c [] h = absurd (cc)
+no_long c (a ∷ []) h = absurd (cc)
+no_long c (a ∷ b ∷ cs) h = false_from_ne_true (bytes_eq (c ∷ []) (a ∷ b ∷ cs)) (λ e. let f = bytes_same (c ∷ []) (a ∷ b ∷ cs) e in absurd (cc))
+
+no_first : (c : ℕ) (ops : List (List ℕ)) (ts : Tokens) → list_all is_long ops ≡ true → is_op_of (c ∷ []) (first_op ops ts) ≡ false
+no_first c [] ts h = refl
+no_first c (op ∷ ops) ts h =
+    let a = and_parts (is_long op) (list_all is_long ops) h in by (begins_op op ts) (no_long c op a.0) (no_first c ops ts a.1)
+  where
+    by : (b : Bool) → bytes_eq (c ∷ []) op ≡ false → is_op_of (c ∷ []) (first_op ops ts) ≡ false
+        → is_op_of (c ∷ []) (cond b (Some op) (first_op ops ts)) ≡ false
+    by true n m = n
+    by false n m = m
+
+-- An operator of one character is a token of this text.
+pub lone_text : (c : ℕ) (t : Token) (ts : Tokens) → is_op (c ∷ []) (t ∷ ts) ≡ true → t.text ≡ c ∷ []
+unfolding op_at
+lone_text c t ts h = by (first_op operators (t ∷ ts)) (no_first c operators (t ∷ ts) refl) h
+  where
+    lone : (b : Bool) → is_op_of (c ∷ []) (cond b (Some t.text) None) ≡ true → t.text ≡ c ∷ []
+    lone true h = sym (bytes_same (c ∷ []) t.text h)
+    lone false h = absurd (cc)
+
+    by : (o : Option (List ℕ)) → is_op_of (c ∷ []) o ≡ false → is_op_of (c ∷ []) (or_lone o (t ∷ ts)) ≡ true → t.text ≡ c ∷ []
+    by None n h = lone (is_punct t.kind) h
+    by (Some op) n h = absurd (cc)
+
+first_there : (ops : List (List ℕ)) (ts : Tokens) (op : List ℕ) → first_op ops ts ≡ Some op → begins_op op ts ≡ true
+first_there [] ts op h = absurd (cc)
+first_there (o ∷ ops) ts op h = elim (chosen (begins_op o ts) (Some o) (first_op ops ts) (Some op) h) [
+  | inl g ↦ let e : o ≡ op = cc g.1 in subst (λ z. begins_op z ts ≡ true) e g.0
+  | inr g ↦ first_there ops ts op g.1
+]
+
+-- The first token of an operator begins with its first character.
+pub op_text : (c : ℕ) (cs : List ℕ) (t : Token) (ts : Tokens) → is_op (c ∷ cs) (t ∷ ts) ≡ true → (xs : List ℕ) × (t.text ≡ c ∷ xs)
+unfolding op_at
+op_text c cs t ts h = by (first_op operators (t ∷ ts)) refl h
+  where
+    lone : (b : Bool) → is_op_of (c ∷ cs) (cond b (Some t.text) None) ≡ true → (xs : List ℕ) × (t.text ≡ c ∷ xs)
+    lone true h = (cs, sym (bytes_same (c ∷ cs) t.text h))
+    lone false h = absurd (cc)
+
+    by : (o : Option (List ℕ)) → first_op operators (t ∷ ts) ≡ o → is_op_of (c ∷ cs) (or_lone o (t ∷ ts)) ≡ true → (xs : List ℕ) × (t.text ≡ c ∷ xs)
+    by None e h = lone (is_punct t.kind) h
+    by (Some op) e h =
+        let same = bytes_same (c ∷ cs) op h in
+        let b = subst (λ z. begins_op z (t ∷ ts) ≡ true) (sym same) (first_there operators (t ∷ ts) op e) in
+        ([], bytes_same t.text (c ∷ []) (and_parts (is_punct t.kind) _ (and_parts (is_punct t.kind && bytes_eq t.text (c ∷ [])) _ b).0).1)

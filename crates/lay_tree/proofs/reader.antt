@@ -3,6 +3,8 @@ pub mod Exact
 pub mod Loops
 pub mod Words
 pub mod Path
+pub mod Tokens
+pub mod Call
 pub mod Attr
 pub mod AttrRead
 pub mod Needs

@@ -4,3 +4,4 @@ pub mod FromText
 pub mod Decided
 pub mod Grouped
 pub mod Runs
+pub mod Spelling

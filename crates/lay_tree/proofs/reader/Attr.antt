@@ -1,28 +1,35 @@
 -- Attributes: what is read is spelled, and well formed.
-use Rattle.std.proofs.Common.{◌≡◌, ℕ, Bool, true, false, not, ◌&&◌, List, [], ◌∷◌, map, drop, codes, inl, inr, Option, Some, None, if◌then◌else◌, refl, ap, subst}
+use Rattle.std.proofs.Common.{◌≡◌, ℕ, Bool, true, false, not, ◌&&◌, List, [], ◌∷◌, map, drop, codes, inl, inr, Option, Some, None, if◌then◌else◌, refl, sym, ap, ◌∙◌, subst}
 use Rattle.std.specs.Prelude.{encode_utf8_all}
 use Rattle.std.specs.Str.{chars, bytes_eq}
 use Rattle.std.proofs.lemmas.Bool.{and_from, not-true}
 use Rattle.lay_token.specs.Forms.{closing}
-use Rattle.lay_token.specs.Operators.{is_op}
+use Rattle.lay_token.specs.Delimiters.{is_closer}
+use Rattle.lay_token.specs.Operators.{op_at, is_op}
 use Rattle.lay_token.specs.Value.{value_of}
 use Rattle.lay_token.specs.declared.token.Delim.TheVariants.{Bracket}
 use Rattle.lay_token.specs.declared.token.Kind.{Kind}
 use Rattle.lay_token.specs.declared.token.Kind.TheVariants.{Ident, Punct, Closer, Doc}
+use Rattle.lay_token.specs.declared.token.Token.{Token}
 use Rattle.lay_token.proofs.Deciding.{bytes_same}
-use Rattle.lay_form.specs.Form.{Operator, Form, Done, keyword, closer}
+use Rattle.lay_form.specs.Form.{Operator, Done, keyword, closer}
 use Rattle.lay_form.specs.Notation.{piece, when}
 use Rattle.lay_form.specs.Spelled.{IsOne, IsString, AreBits, attr_opening, Spells}
 use Rattle.lay_form.proofs.FormLaws.{one_end, bits_end, is_end}
 use Rattle.lay_tree.specs.Ahead.{Tokens, first, tail, is_keyword, is_mark, opens, closes}
-use Rattle.lay_tree.specs.Words.{leaf_of, colons, is_literal_kind}
-use Rattle.lay_tree.specs.nodes.Attr.{is_doc_text, is_doc_segments, is_doc_path, is_doc_input, is_meta_path, is_input, same_flag, is_attr, are_attrs, meta_path_form, input_form, attr_form, about_attr}
+use Rattle.lay_tree.specs.Words.{leaf_of, colons}
+use Rattle.lay_tree.specs.nodes.Attr.{string_of, is_empty, is_doc_segments, is_doc_path, is_doc_input, is_meta_path, is_input, same_flag, is_attr, are_attrs, meta_path_form, input_form, attr_form, about_attr}
 use Rattle.lay_tree.specs.nodes.Path.{segments_form}
-use Rattle.lay_tree.specs.reader.Attr.{meta_name, meta_input, doc_or, made, behind_opening, meta_attr, is_doc_kind, is_doc, doc_attr, attribute, begins_attr, attributes}
-use Rattle.lay_tree.specs.reader.Exact.{HaveTexts}
+use Rattle.lay_tree.specs.reader.Attr.{begins_group, value, grouped, meta_name, meta_input, doc_or, made, behind_opening, meta_attr, is_doc_kind, is_doc, doc_attr, attribute, begins_attr, attributes}
+use Rattle.lay_tree.specs.reader.Exact.{InText}
 use Rattle.lay_tree.specs.reader.Loops.{Got, ◌>>=◌, passed}
 use Rattle.lay_tree.specs.reader.Path.{path as path_reading}
-use Rattle.lay_tree.specs.reader.Words.{literal}
+use Rattle.lay_tree.specs.reader.Tokens.{tokens, group}
+use Rattle.lay_tree.specs.tokens.Lexed.{is_token_list}
+use Rattle.lay_tree.specs.tokens.Lists.{ended_by, ends_in_line, token_list, group_form}
+use Rattle.lay_tree.specs.tokens.Listing.{is_doc_text, kind_of, text_of, as_listed, listed_by}
+use Rattle.lay_tree.specs.tokens.Pairs as pairs
+use Rattle.lay_tree.specs.tokens.Pairs.{at_start}
 use Rattle.lay_tree.specs.declared.attr.Attr.{Attr}
 use Rattle.lay_tree.specs.declared.attr.Attr.TheVariants as attr
 use Rattle.lay_tree.specs.declared.attr.MetaInput.{MetaInput}
@@ -31,17 +38,20 @@ use Rattle.lay_tree.specs.declared.attr.MetaPath.{MetaPath}
 use Rattle.lay_tree.specs.declared.attr.MetaPath.TheVariants as meta_path
 use Rattle.lay_tree.specs.declared.path.Path.{Path}
 use Rattle.lay_tree.specs.declared.path.Segment.{Segment}
-use Rattle.lay_tree.specs.declared.token.Literal.{Literal}
-use Rattle.lay_tree.proofs.Fronts.{texts_behind, keyword_one, mark_passed_is, opener_passed_is, closer_passed_is}
+use Rattle.lay_tree.specs.declared.token.Listed.{Listed}
+use Rattle.lay_tree.specs.declared.token.Listed.TheVariants as listed
+use Rattle.lay_tree.proofs.InText.{behind, behind_all}
+use Rattle.lay_tree.proofs.Fronts.{lone_text, texts_behind, keyword_one, mark_passed_is, opener_passed_is, closer_passed_is}
 use Rattle.lay_tree.proofs.Parts.{Rows, rows_to, rows_map, rows_of_map, rows_pass, rows_with, GoodAt, SpelledAt, bits_joined, bit_piece, leaf_alone}
 use Rattle.lay_tree.proofs.Steps.{same_some, chosen, bind_some}
 use Rattle.lay_tree.proofs.reader.Loops.{repeat_sound}
 use Rattle.lay_tree.proofs.reader.Path.{path_sound}
-use Rattle.lay_tree.proofs.reader.Words.{literal_sound}
+use Rattle.lay_tree.proofs.reader.Tokens.{IsList, tokens_is, list_good, list_row_of, group_sound}
+use Rattle.lay_tree.proofs.token_lists.Spelling.{IsRow, list_spelled}
 
 -- ---- what an attribute is called, and what it is given
 
-meta_name_sound : (depth : ℕ) (ts : Tokens) (path : MetaPath) (rest : Tokens) → HaveTexts ts → meta_name ts ≡ Some (path, rest)
+meta_name_sound : (depth : ℕ) (ts : Tokens) (path : MetaPath) (rest : Tokens) → InText ts → meta_name ts ≡ Some (path, rest)
     → Spells (meta_path_form path) depth ts rest × (is_meta_path path ≡ true)
 unfolding meta_name
 meta_name_sound depth ts path rest t h =
@@ -57,36 +67,87 @@ meta_name_sound depth ts path rest t h =
           same_some R (meta_path.Path b.0.0, b.0.1) (path, rest) b.2 (s.0, s.1)
     ]
 
--- what an input is spelled by
-abbrev InputIs : MetaInput → Tokens → Tokens → Type 0
+-- what an input is, read
+abbrev pub InputIs : MetaInput → Tokens → Tokens → Type 0
 InputIs input.Bare ts rest = ts ≡ rest
-InputIs (input.Value l) ts rest = (is_op (codes "=") ts ≡ true) × IsOne l.kind l.text (drop 1 ts) rest × (is_literal_kind l.kind ≡ true)
+InputIs (input.Group g) ts rest = group ts ≡ Some (g, rest)
+InputIs (input.Value us) ts rest = (is_op (codes "=") ts ≡ true) × (is_empty us ≡ false) × IsList (drop 1 ts) us rest
+
+value_is : (ts : Tokens) (given : MetaInput) (rest : Tokens) → is_op (codes "=") ts ≡ true → value ts ≡ Some (given, rest) → InputIs given ts rest
+unfolding value
+value_is ts given rest e h =
+    let R : MetaInput × Tokens → Type 0 = λ r. InputIs r.0 ts r.1 in
+    let b = bind_some (tokens (drop 1 ts)) (λ us. if is_empty us.0 then None else Some (input.Value us.0, us.1)) (given, rest) h in
+    elim (chosen (is_empty b.0.0) None (Some (input.Value b.0.0, b.0.1)) (Some (given, rest)) b.2) [
+      | inl g ↦ absurd (cc)
+      | inr g ↦ same_some R (input.Value b.0.0, b.0.1) (given, rest) g.1 (e, g.0, tokens_is (drop 1 ts) b.0.0 b.0.1 b.1)
+    ]
 
 meta_input_is : (ts : Tokens) (given : MetaInput) (rest : Tokens) → meta_input ts ≡ Some (given, rest) → InputIs given ts rest
 unfolding meta_input
 meta_input_is ts given rest h =
-    let go_on : (Literal × Tokens) → Got MetaInput = λ l. Some (input.Value l.0, l.1) in
     let R : MetaInput × Tokens → Type 0 = λ r. InputIs r.0 ts r.1 in
-    elim (chosen (is_op (codes "=") ts) (literal (drop 1 ts) >>= go_on) (Some (input.Bare, ts)) (Some (given, rest)) h) [
-      | inl g ↦
-          let b = bind_some (literal (drop 1 ts)) go_on (given, rest) g.1 in
-          let l = literal_sound (drop 1 ts) b.0.0 b.0.1 b.1 in
-          same_some R (input.Value b.0.0, b.0.1) (given, rest) b.2 (g.0, l.0, l.1)
-      | inr g ↦ same_some R (input.Bare, ts) (given, rest) g.1 refl
+    elim (chosen (is_op (codes "=") ts) (value ts) (if first begins_group ts then grouped ts else Some (input.Bare, ts)) (Some (given, rest)) h) [
+      | inl g ↦ value_is ts given rest g.0 g.1
+      | inr g ↦ elim (chosen (first begins_group ts) (grouped ts) (Some (input.Bare, ts)) (Some (given, rest)) g.1) [
+        | inl f ↦
+            let b = bind_some (group ts) (λ x. Some (input.Group x.0, x.1)) (given, rest) f.1 in
+            same_some R (input.Group b.0.0, b.0.1) (given, rest) b.2 b.1
+        | inr f ↦ same_some R (input.Bare, ts) (given, rest) f.1 refl
+      ]
     ]
 
-input_spelled : (given : MetaInput) (f : Form) (depth : ℕ) (ts mid rest : Tokens) → InputIs given ts mid → Spells f depth mid rest
-    → Spells (input_form given f) depth ts rest
-input_spelled input.Bare f depth ts mid rest i s = rw i s
-input_spelled (input.Value l) f depth ts mid rest i s =
-    (drop 1 ts, (ts, refl, (drop 1 ts, (i.0, refl), (drop 1 ts, refl, refl))), (mid, (mid, i.1, refl), s))
+text_listed : (t : Token) → text_of (as_listed t) ≡ t.text
+text_listed t = by t.kind
+  where
+    by : (k : Kind) → text_of (listed_by k t.text t.joint) ≡ t.text
+    by (Doc inner block) = refl
+    by _ = refl
 
-input_good : (given : MetaInput) (ts mid : Tokens) → InputIs given ts mid → is_input given ≡ true
-input_good input.Bare ts mid i = refl
-input_good (input.Value l) ts mid i = i.2
+-- what stands behind a `=`, which is no point
+behind_equals : (ts : Tokens) → InText ts → is_op (codes "=") ts ≡ true → (j : InText (drop 1 ts)) × (pairs.is_mark (codes ".") j.last ≡ false)
+unfolding op_at
+behind_equals [] i h = absurd (cc)
+behind_equals (t ∷ ts) i h = (behind t ts i, and_no _ _ (ap (λ z. bytes_eq z (codes ".")) (text_listed t ∙ lone_text 61 t ts h)))
+  where
+    and_no : (a b : Bool) → b ≡ false → a && b ≡ false
+    and_no true b h = h
+    and_no false b h = refl
 
-input_texts : (given : MetaInput) (ts mid : Tokens) → InputIs given ts mid → HaveTexts ts → HaveTexts mid
-input_texts given ts mid i t = texts_behind ts mid (is_end (input_form given Done) 0 ts mid (input_spelled given Done 0 ts mid mid i refl)) t
+-- The tokens behind an input stand in a text.
+input_texts : (given : MetaInput) (ts mid : Tokens) → InputIs given ts mid → InText ts → InText mid
+input_texts input.Bare ts mid i t = subst InText i t
+input_texts (input.Group g) ts mid i t =
+    let s = group_sound 0 ts g mid Done mid t i refl in texts_behind ts mid (is_end (group_form g Done) 0 ts mid s.0) t
+input_texts (input.Value us) ts mid i t =
+    behind_all i.2.read mid (subst InText i.2.there.whole (behind_equals ts t i.0).0)
+
+-- what an input and the closing bracket behind it are spelled by
+abbrev InputStands : MetaInput → ℕ → Tokens → Tokens → Type 0
+InputStands given depth ts rest = Spells (input_form given (piece (closer Bracket ∷ []))) depth ts rest × (is_input given ≡ true)
+
+input_sound : (given : MetaInput) (depth : ℕ) (ts mid rest : Tokens) → InText ts → InputIs given ts mid
+    → IsOne (Closer Bracket) (closing Bracket ∷ []) mid rest → InputStands given depth ts rest
+input_sound input.Bare depth ts mid rest t i c = (rw i (bit_piece (closer Bracket) depth mid rest c), refl)
+input_sound (input.Group g) depth ts mid rest t i c =
+    group_sound depth ts g mid (piece (closer Bracket ∷ [])) rest t i (bit_piece (closer Bracket) depth mid rest c)
+input_sound (input.Value us) depth ts mid rest t i c = by mid i.2 c
+  where
+    by : (mid : Tokens) → IsList (drop 1 ts) us mid → IsOne (Closer Bracket) (closing Bracket ∷ []) mid rest → InputStands (input.Value us) depth ts rest
+    by [] l c = absurd c
+    by (last ∷ end) l c =
+        let j = behind_equals ts t i.0 in
+        let good = list_good (drop 1 ts) us last end j.0 j.1 (ap is_closer c.0) l in
+        let row = list_row_of (drop 1 ts) us (last ∷ end) l in
+        let inner = list_spelled us (at_start 0) depth (drop 1 ts) (last ∷ end) good j.0.loose row in
+        let list : Spells (token_list us) depth (drop 1 ts) (last ∷ end) = (last ∷ end, inner, ended (ends_in_line us) depth (last ∷ end)) in (
+          (drop 1 ts, (ts, refl, (drop 1 ts, (i.0, refl), (drop 1 ts, refl, refl))), (last ∷ end, list, bit_piece (closer Bracket) depth (last ∷ end) rest c)),
+          and_from (not (is_empty us)) (is_token_list us) (ap not i.1) good,
+        )
+      where
+        ended : (line : Bool) (depth : ℕ) (ts : Tokens) → Spells (ended_by line) depth ts ts
+        ended true depth ts = refl
+        ended false depth ts = refl
 
 -- ---- documentation that is spelled as an attribute
 
@@ -112,10 +173,26 @@ doc_name : (path : MetaPath) (depth : ℕ) (ts mid : Tokens) → is_doc_path pat
 doc_name (meta_path.Path path) depth ts mid d s = doc_path path.global path.segments depth ts mid d s
 doc_name meta_path.Unsafe depth ts mid d s = absurd (cc)
 
-string_one : (kind : Kind) (text : List ℕ) (value : List ℕ) (ts rest : Tokens) → IsOne kind text ts rest → value_of kind (chars text) ≡ Some value
+-- a list that is one string alone
+string_one : (us : List Listed) (value : List ℕ) (ts rest : Tokens) → IsRow us ts rest → string_of us ≡ Some value
     → IsString (encode_utf8_all value) ts rest
-string_one kind text value [] rest o v = o
-string_one kind text value (t ∷ ts) rest o v = let e = o.0 in let f = o.1 in ((value, rw (e, f) v, refl), o.2)
+string_one [] value ts rest r v = absurd (cc)
+string_one (u ∷ v ∷ us) value ts rest r h = absurd (two u v us h)
+  where
+    two : (u v : Listed) (us : List Listed) → string_of (u ∷ v ∷ us) ≡ Some value → ⊥
+    two (listed.Token k x j) v us h = cc
+    two (listed.Doc inner x) v us h = cc
+string_one (listed.Doc inner x ∷ []) value ts rest r h = absurd (cc)
+string_one (listed.Token k x j ∷ []) value [] rest r h = absurd r
+string_one (listed.Token k x j ∷ []) value (t ∷ ts) rest r h = by t.kind refl
+  where
+    by : (k : Kind) → t.kind ≡ k → IsString (encode_utf8_all value) (t ∷ ts) rest
+    by (Doc inner block) e = let f : listed.Doc inner t.text ≡ listed.Token k x j = sym (ap (λ z. listed_by z t.text t.joint) e) ∙ r.0 in absurd (cc)
+    by l e =
+        let f : listed_by l t.text t.joint ≡ listed.Token k x j = sym (ap (λ z. listed_by z t.text t.joint) e) ∙ r.0 in
+        let kind : t.kind ≡ k = e ∙ ap kind_of f in
+        let text : t.text ≡ x = ap text_of f in
+        ((value, ap (λ z. value_of z (chars t.text)) kind ∙ ap (λ z. value_of k (chars z)) text ∙ h, refl), r.1)
 
 -- ---- what an attribute is made of
 
@@ -138,48 +215,50 @@ module _ (inner : Bool) (depth : ℕ) (ts rest : Tokens) where
 
   module _ (path : MetaPath) (inside mid end : Tokens) (o : AreBits (attr_opening inner) ts inside) (s : Spells (meta_path_form path) depth inside mid)
       (p : is_meta_path path ≡ true) (c : IsOne (Closer Bracket) (closing Bracket ∷ []) end rest) where
-    plain_sound : (given : MetaInput) → InputIs given mid end → (is_doc_path path && is_doc_input inner given) ≡ false → GoodAttr (attr.Meta inner path given)
+    plain_sound : (given : MetaInput) → InputStands given depth mid rest → (is_doc_path path && is_doc_input inner given) ≡ false
+        → GoodAttr (attr.Meta inner path given)
     plain_sound given i plain =
-        let behind = input_spelled given (piece (closer Bracket ∷ [])) depth mid end rest i (bit_piece (closer Bracket) depth end rest c) in
         let normal : not (is_doc_path path && is_doc_input inner given) ≡ true = rw plain refl in
         let named = and_from (same_flag inner inner) (is_meta_path path) (same_as_itself inner) p in
-        let filled = and_from (same_flag inner inner && is_meta_path path) (is_input given) named (input_good given mid end i) in (
-          (inside, o, (mid, s, behind)),
+        let filled = and_from (same_flag inner inner && is_meta_path path) (is_input given) named i.1 in (
+          (inside, o, (mid, s, i.0)),
           and_from (same_flag inner inner && is_meta_path path && is_input given) (not (is_doc_path path && is_doc_input inner given)) filled normal,
         )
 
-    module _ (l : Literal) (i : InputIs (input.Value l) mid end) where
+    module _ (us : List Listed) (e : is_op (codes "=") mid ≡ true) (row : IsRow us (drop 1 mid) end) (i : InputStands (input.Value us) depth mid rest) where
       abbrev other : Attr
-      other = attr.Meta inner path (input.Value l)
+      other = attr.Meta inner path (input.Value us)
 
       -- by whether its name is `doc`, whether its input is a string, and whether documentation can be written with that
-      text_sound : (value : List ℕ) → is_doc_path path ≡ true → value_of l.kind (chars l.text) ≡ Some value → (b : Bool)
+      text_sound : (value : List ℕ) → is_doc_path path ≡ true → string_of us ≡ Some value → (b : Bool)
           → is_doc_text inner (encode_utf8_all value) ≡ b → GoodAttr (if b then attr.Doc inner (encode_utf8_all value) else other)
       text_sound value d v true w =
           let docs : AreBits (keyword (codes "doc") ∷ Operator (codes "=") ∷ []) inside (drop 1 mid) =
-          (mid, doc_name path depth inside mid d s, (drop 1 mid, (i.0, refl), refl)) in
+          (mid, doc_name path depth inside mid d s, (drop 1 mid, (e, refl), refl)) in
           let opened = bits_joined (attr_opening inner) (keyword (codes "doc") ∷ Operator (codes "=") ∷ []) ts inside (drop 1 mid) o docs in
-          let string = string_one l.kind l.text value (drop 1 mid) end i.1 v in (
+          let string = string_one us value (drop 1 mid) end row v in (
             (rest, inr (drop 1 mid, opened, (end, string, (rest, c, refl))), refl),
             and_from (same_flag inner inner) (is_doc_text inner (encode_utf8_all value)) (same_as_itself inner) w,
           )
-      text_sound value d v false w = plain_sound (input.Value l) i (rw (d, v) w)
+      text_sound value d v false w = plain_sound (input.Value us) i (rw (d, v) w)
 
-      value_sound : is_doc_path path ≡ true → (v : Option (List ℕ)) → value_of l.kind (chars l.text) ≡ v → GoodAttr (doc_or inner v other)
-      value_sound d None v = plain_sound (input.Value l) i (rw (d, v) refl)
+      value_sound : is_doc_path path ≡ true → (v : Option (List ℕ)) → string_of us ≡ v → GoodAttr (doc_or inner v other)
+      value_sound d None v = plain_sound (input.Value us) i (rw (d, v) refl)
       value_sound d (Some value) v = text_sound value d v (is_doc_text inner (encode_utf8_all value)) refl
 
-      named_sound : (b : Bool) → is_doc_path path ≡ b → GoodAttr (if b then doc_or inner (value_of l.kind (chars l.text)) other else other)
-      named_sound true d = value_sound d (value_of l.kind (chars l.text)) refl
-      named_sound false d = plain_sound (input.Value l) i (rw d refl)
+      named_sound : (b : Bool) → is_doc_path path ≡ b → GoodAttr (if b then doc_or inner (string_of us) other else other)
+      named_sound true d = value_sound d (string_of us) refl
+      named_sound false d = plain_sound (input.Value us) i (rw d refl)
 
-    made_sound : (given : MetaInput) → InputIs given mid end → GoodAttr (made inner path given)
-    made_sound input.Bare i = plain_sound input.Bare i (none (is_doc_path path))
-    made_sound (input.Value l) i = named_sound l i (is_doc_path path) refl
+    made_sound : (given : MetaInput) → InText mid → InputIs given mid end → GoodAttr (made inner path given)
+    made_sound input.Bare t i = plain_sound input.Bare (input_sound input.Bare depth mid end rest t i c) (none (is_doc_path path))
+    made_sound (input.Group g) t i = plain_sound (input.Group g) (input_sound (input.Group g) depth mid end rest t i c) (none (is_doc_path path))
+    made_sound (input.Value us) t i =
+        named_sound us i.0 (list_row_of (drop 1 mid) us end i.2) (input_sound (input.Value us) depth mid end rest t i c) (is_doc_path path) refl
 
 -- ---- attributes, one and many
 
-opening_sound : (inner : Bool) (ts inside : Tokens) → HaveTexts ts → behind_opening inner ts ≡ Some inside → AreBits (attr_opening inner) ts inside
+opening_sound : (inner : Bool) (ts inside : Tokens) → InText ts → behind_opening inner ts ≡ Some inside → AreBits (attr_opening inner) ts inside
 opening_sound false ts inside t h =
     let b = bind_some (passed (is_mark (codes "#")) ts) (λ mark. passed (opens Bracket) mark) inside h in
     let hash = mark_passed_is (codes "#") ts b.0 b.1 in
@@ -193,7 +272,7 @@ opening_sound true ts inside t h =
     let left = texts_behind b.0 c.0 (one_end Punct (codes "!") b.0 c.0 bang) (texts_behind ts b.0 (one_end Punct (codes "#") ts b.0 hash) t) in
     (b.0, hash, (c.0, bang, (inside, opener_passed_is Bracket c.0 inside left c.2, refl)))
 
-meta_attr_sound : (inner : Bool) (depth : ℕ) (ts : Tokens) (a : Attr) (rest : Tokens) → HaveTexts ts → meta_attr inner ts ≡ Some (a, rest)
+meta_attr_sound : (inner : Bool) (depth : ℕ) (ts : Tokens) (a : Attr) (rest : Tokens) → InText ts → meta_attr inner ts ≡ Some (a, rest)
     → GoodAt (about_attr inner) depth a ts rest
 unfolding meta_attr
 meta_attr_sound inner depth ts a rest t h =
@@ -208,7 +287,7 @@ meta_attr_sound inner depth ts a rest t h =
     let t2 = texts_behind b.0 c.0.1 (is_end (meta_path_form c.0.0) depth b.0 c.0.1 named.0) t1 in
     let given = meta_input_is c.0.1 d.0.0 d.0.1 d.1 in
     let closed = closer_passed_is Bracket d.0.1 e.0 (input_texts d.0.0 c.0.1 d.0.1 given t2) e.1 in
-    let good = made_sound inner depth ts e.0 c.0.0 b.0 c.0.1 d.0.1 opened named.0 named.1 closed d.0.0 given in
+    let good = made_sound inner depth ts e.0 c.0.0 b.0 c.0.1 d.0.1 opened named.0 named.1 closed d.0.0 t2 given in
     same_some (λ (r : Attr × Tokens). GoodAt (about_attr inner) depth r.0 ts r.1) (made inner c.0.0 d.0.0, e.0) (a, rest) e.2 good
 
 doc_kind : (inner : Bool) (k : Kind) → is_doc_kind inner k ≡ true → (block : Bool) × (k ≡ Doc inner block)
@@ -229,7 +308,7 @@ doc_attr_sound inner depth (t ∷ ts) a rest d h =
       | inr g ↦ absurd (cc)
     ]
 
-pub attribute_sound : (inner : Bool) (depth : ℕ) (ts : Tokens) (a : Attr) (rest : Tokens) → HaveTexts ts → attribute inner ts ≡ Some (a, rest)
+pub attribute_sound : (inner : Bool) (depth : ℕ) (ts : Tokens) (a : Attr) (rest : Tokens) → InText ts → attribute inner ts ≡ Some (a, rest)
     → GoodAt (about_attr inner) depth a ts rest
 unfolding attribute
 attribute_sound inner depth ts a rest t h =
@@ -238,13 +317,13 @@ attribute_sound inner depth ts a rest t h =
       | inr g ↦ meta_attr_sound inner depth ts a rest t g.1
     ]
 
-attribute_turn : (inner : Bool) (depth : ℕ) (ts : Tokens) (a : Attr) (rest : Tokens) → HaveTexts ts → attribute inner ts ≡ Some (a, rest)
-    → GoodAt (about_attr inner) depth a ts rest × HaveTexts rest
+attribute_turn : (inner : Bool) (depth : ℕ) (ts : Tokens) (a : Attr) (rest : Tokens) → InText ts → attribute inner ts ≡ Some (a, rest)
+    → GoodAt (about_attr inner) depth a ts rest × InText rest
 attribute_turn inner depth ts a rest t h =
     let s = attribute_sound inner depth ts a rest t h in (s, texts_behind ts rest (is_end (attr_form a) depth ts rest s.0) t)
 
-pub attributes_sound : (inner : Bool) (depth : ℕ) (ts : Tokens) (attrs : List Attr) (rest : Tokens) → HaveTexts ts → attributes inner ts ≡ Some (attrs, rest)
-    → Rows (GoodAt (about_attr inner) depth) attrs ts rest × HaveTexts rest
+pub attributes_sound : (inner : Bool) (depth : ℕ) (ts : Tokens) (attrs : List Attr) (rest : Tokens) → InText ts → attributes inner ts ≡ Some (attrs, rest)
+    → Rows (GoodAt (about_attr inner) depth) attrs ts rest × InText rest
 unfolding attributes
 attributes_sound inner depth ts attrs rest t h =
     let r = repeat_sound (begins_attr inner) (attribute inner) (GoodAt (about_attr inner) depth)

@@ -1,82 +1,76 @@
 -- Attributes: what is spelled, and well formed, is read.
 use Rattle.std.proofs.Common.{◌≡◌, ℕ, ◌<◌, ◌≤◌, Bool, true, false, not, ◌&&◌, List, [], ◌∷◌, length, codes, ◌⊎◌, inl, inr, Option, Some, None, if◌then◌else◌, refl, ap, subst, ◌∙◌, arith}
 use Rattle.std.specs.Prelude.{encode_utf8_all}
-use Rattle.std.specs.Str.{chars, bytes_eq}
-use Rattle.std.proofs.lemmas.Bool.{and_parts, not-true, false_from_ne_true}
+use Rattle.std.specs.Str.{chars}
+use Rattle.std.proofs.lemmas.Bool.{and_parts, not-true}
 use Rattle.lay_token.specs.Forms.{opening, closing}
+use Rattle.lay_token.specs.Delimiters as delimiters
+use Rattle.lay_token.specs.Lexes.{is_punct}
 use Rattle.lay_token.specs.Operators.{is_op}
 use Rattle.lay_token.specs.Value.{value_of}
-use Rattle.lay_token.specs.Word.{class_of}
 use Rattle.lay_token.specs.declared.token.Delim.TheVariants.{Bracket, Brace}
 use Rattle.lay_token.specs.declared.token.Kind.{Kind}
-use Rattle.lay_token.specs.declared.token.Kind.TheVariants.{Ident, RawIdent, Str, RawStr, Punct, Opener, Closer, Doc}
+use Rattle.lay_token.specs.declared.token.Kind.TheVariants.{Ident, Str, RawStr, Punct, Opener, Closer, Doc}
 use Rattle.lay_token.specs.declared.token.Token.{Token}
-use Rattle.lay_token.proofs.Deciding.{bytes_same}
-use Rattle.lay_form.specs.Form.{Blank, Operator, Done, keyword, opener, closer}
-use Rattle.lay_form.specs.Notation.{piece, when}
+use Rattle.lay_form.specs.Form.{Blank, Operator, keyword, opener, closer}
+use Rattle.lay_form.specs.Notation.{piece}
 use Rattle.lay_form.specs.Spelled.{IsOne, IsOperator, IsComment, IsString, IsDocAttr, IsDoc, AreBits, attr_opening, Spells}
 use Rattle.lay_form.proofs.FormLaws.{bits_end, shorter, string_end}
-use Rattle.lay_tree.specs.Ahead.{Tokens, first, is_keyword, is_closer}
-use Rattle.lay_tree.specs.Words.{colons, is_path_class, is_path_word, is_literal_kind}
-use Rattle.lay_tree.specs.nodes.Attr.{is_doc_text, is_doc_value, is_doc_path, is_doc_input, is_meta_path, is_input, same_flag, meta_path_form, input_form, attr_form, about_attr}
+use Rattle.lay_tree.specs.Ahead.{Tokens, first, is_closer}
+use Rattle.lay_tree.specs.nodes.Attr.{string_of, is_empty, is_doc_value, is_doc_path, is_doc_input, is_meta_path, is_input, same_flag, meta_path_form, input_form, attr_form, about_attr}
 use Rattle.lay_tree.specs.nodes.Facts.{Front}
-use Rattle.lay_tree.specs.nodes.Path.{are_segments, is_segments, segments_form}
-use Rattle.lay_tree.specs.reader.Attr.{meta_name, meta_input, doc_or, made, behind_opening, meta_attr, is_doc_kind, doc_attr, attribute, begins_attr, attributes}
+use Rattle.lay_tree.specs.reader.Attr.{value, meta_name, meta_input, doc_or, made, behind_opening, meta_attr, is_doc_kind, doc_attr, attribute, begins_attr, attributes}
 use Rattle.lay_tree.specs.reader.Exact.{Exact, needless}
 use Rattle.lay_tree.specs.reader.Item.{ends_items}
+use Rattle.lay_tree.specs.reader.Tokens.{tokens}
+use Rattle.lay_tree.specs.tokens.Lexed.{is_token_list}
+use Rattle.lay_tree.specs.tokens.Lists.{ended_by, ends_in_line}
+use Rattle.lay_tree.specs.tokens.Listing as listing
+use Rattle.lay_tree.specs.tokens.Listing.{is_doc_text, as_listed, listed_by, turned}
+use Rattle.lay_tree.specs.tokens.Pairs.{at_start}
 use Rattle.lay_tree.specs.declared.attr.Attr.{Attr}
 use Rattle.lay_tree.specs.declared.attr.Attr.TheVariants as attr
 use Rattle.lay_tree.specs.declared.attr.MetaInput.{MetaInput}
 use Rattle.lay_tree.specs.declared.attr.MetaInput.TheVariants as input
 use Rattle.lay_tree.specs.declared.attr.MetaPath.{MetaPath}
 use Rattle.lay_tree.specs.declared.attr.MetaPath.TheVariants as meta_path
-use Rattle.lay_tree.specs.declared.path.Segment.{Segment}
-use Rattle.lay_tree.specs.declared.token.Literal.{Literal}
-use Rattle.lay_tree.proofs.Fronts.{end_shorter, closer_passed, mark_passed, opener_passed, one_front, op_front, one_no_op, other_op, one_test, one_shorter}
-use Rattle.lay_tree.proofs.Parts.{Rows, rows_to, GoodAt, bits_parts, bit_alone, behind_blank, before_blank, piece_bit, word_kind}
+use Rattle.lay_tree.specs.declared.token.Listed.{Listed}
+use Rattle.lay_tree.specs.declared.token.Listed.TheVariants as listed
+use Rattle.lay_tree.proofs.Fronts.{end_shorter, closer_passed, mark_passed, opener_passed, one_front, no_op, one_no_op, other_op, one_test, one_shorter}
+use Rattle.lay_tree.proofs.Parts.{Rows, rows_to, GoodAt, bits_parts, bit_alone, behind_blank, before_blank, piece_bit}
 use Rattle.lay_tree.proofs.reader.Attr.{flag_same, same_as_itself, attribute_sound}
 use Rattle.lay_tree.proofs.reader.Exact.{exact, needless_sound, needless_complete}
 use Rattle.lay_tree.proofs.reader.Loops.{Turn, repeat_complete}
-use Rattle.lay_tree.proofs.reader.Path.{path_complete, segments_rows}
-use Rattle.lay_tree.proofs.reader.Words.{literal_complete}
+use Rattle.lay_tree.proofs.reader.Path.{path_no_keyword, path_complete}
+use Rattle.lay_tree.proofs.reader.Tokens.{tokens_there, row_tokens, group_complete}
+use Rattle.lay_tree.proofs.token_lists.Balance.{balances_turned}
+use Rattle.lay_tree.proofs.token_lists.Spelling.{IsRow, list_row}
 
 -- ---- what an attribute is called, and what it is given
-
--- a word of a path isn't `unsafe`
-word_not_unsafe : (raw : Bool) (word : List ℕ) (ts rest : Tokens) → is_path_word raw word ≡ true → IsOne (word_kind raw) word ts rest
-    → first (is_keyword (codes "unsafe")) ts ≡ false
-word_not_unsafe true word ts rest g o = rw (one_front RawIdent word ts rest o).1 refl
-word_not_unsafe false word ts rest g o =
-    let differs : bytes_eq word (codes "unsafe") ≡ false = false_from_ne_true (bytes_eq word (codes "unsafe")) (λ e.
-    let path_word : is_path_class (class_of (codes "unsafe")) ≡ true =
-    subst (λ w. is_path_class (class_of w) ≡ true) (bytes_same word (codes "unsafe") e) g in
-    absurd (cc)) in
-    rw ((one_front Ident word ts rest o).1, differs) refl
-
-path_not_unsafe : (leads : Bool) (segments : List Segment) (depth : ℕ) (ts rest : Tokens) → is_segments segments ≡ true
-    → Spells (when leads colons (segments_form segments Done)) depth ts rest → first (is_keyword (codes "unsafe")) ts ≡ false
-path_not_unsafe leads [] depth ts rest g s = absurd (cc)
-path_not_unsafe true (one ∷ more) depth ts rest g s =
-    let o : IsOperator (codes "::") ts s.0 = bit_alone (Operator (codes "::")) ts s.0 s.1 in rw (op_front (codes "::") ts o.0).2 refl
-path_not_unsafe false (one ∷ more) depth ts rest g s =
-    let w = segments_rows one more depth ts rest s in
-    word_not_unsafe one.word.raw one.word.text ts w.0 (and_parts (is_path_word one.word.raw one.word.text) (are_segments more) g).0 w.1
 
 meta_name_complete : (path : MetaPath) (depth : ℕ) (ts rest : Tokens) → Spells (meta_path_form path) depth ts rest → is_meta_path path ≡ true
     → is_op (codes "::") rest ≡ false → meta_name ts ≡ Some (path, rest)
 unfolding meta_name
 meta_name_complete (meta_path.Path path) depth ts rest s g h =
-    rw (path_not_unsafe path.global path.segments depth ts rest g s, path_complete path depth ts rest (s, g, rw h refl)) refl
+    rw (path_no_keyword (codes "unsafe") refl path depth ts rest g s, path_complete path depth ts rest (s, g, rw h refl)) refl
 meta_name_complete meta_path.Unsafe depth ts rest s g h =
     rw (one_front Ident (codes "unsafe") ts rest (piece_bit (keyword (codes "unsafe")) depth ts rest s)).1 refl
 
-value_complete : (l : Literal) (ts mid rest : Tokens) → is_literal_kind l.kind ≡ true → IsOperator (codes "=") ts mid → IsOne l.kind l.text mid rest
-    → meta_input ts ≡ Some (input.Value l, rest)
-unfolding meta_input
-value_complete l ts mid rest g o one = rw (o.0, o.1, literal_complete l mid rest (one, g)) refl
-
 abbrev Closes : Tokens → Tokens → Type 0
 Closes = IsOne (Closer Bracket) (closing Bracket ∷ [])
+
+value_complete : (us : List Listed) (ts mid rest : Tokens) → is_empty us ≡ false → IsOperator (codes "=") ts mid → tokens mid ≡ Some (us, rest)
+    → meta_input ts ≡ Some (input.Value us, rest)
+unfolding meta_input value
+value_complete us ts mid rest n o r = rw (o.0, o.1, r, n) refl
+
+opener_no_op : (op : List ℕ) (ts : Tokens) → first (λ t. delimiters.is_opener t.kind) ts ≡ true → is_op op ts ≡ false
+opener_no_op op [] h = absurd (cc)
+opener_no_op op (t ∷ ts) h = no_op op t ts (by t.kind h)
+  where
+    by : (k : Kind) → delimiters.is_opener k ≡ true → is_punct k ≡ false
+    by (Opener d) h = refl
+    by _ h = absurd (cc)
 
 meta_input_complete : (given : MetaInput) (depth : ℕ) (ts rest : Tokens) → Spells (input_form given (piece (closer Bracket ∷ []))) depth ts rest
     → is_input given ≡ true → (mid : Tokens) × (meta_input ts ≡ Some (given, mid)) × Closes mid rest × (is_op (codes "::") ts ≡ false)
@@ -84,12 +78,28 @@ unfolding meta_input
 meta_input_complete input.Bare depth ts rest s g =
     let c : Closes ts rest = piece_bit (closer Bracket) depth ts rest s in
     let no : (op : List ℕ) → is_op op ts ≡ false = λ op. one_no_op op (Closer Bracket) (closing Bracket ∷ []) ts rest refl c in
-    (ts, rw (no (codes "=")) refl, c, no (codes "::"))
-meta_input_complete (input.Value l) depth ts rest s g =
+    (ts, rw (no (codes "="), one_test delimiters.is_opener (Closer Bracket) (closing Bracket ∷ []) ts rest c) refl, c, no (codes "::"))
+meta_input_complete (input.Group g) depth ts rest s h =
+    let r = group_complete g (piece (closer Bracket ∷ [])) depth ts rest s h in
+    let no : (op : List ℕ) → is_op op ts ≡ false = λ op. opener_no_op op ts r.begins in
+    (r.rest, rw (no (codes "="), r.begins, r.read) refl, piece_bit (closer Bracket) depth r.rest rest r.after, no (codes "::"))
+meta_input_complete (input.Value us) depth ts rest s g =
     let o : IsOperator (codes "=") ts s.0 = before_blank (Operator (codes "=")) ts s.0 (behind_blank (Operator (codes "=") ∷ Blank ∷ []) ts s.0 s.1) in
+    let goods = and_parts (not (is_empty us)) (is_token_list us) g in
     let inside = s.2 in
-    let one : IsOne l.kind l.text s.0 inside.0 = subst (λ us. IsOne l.kind l.text s.0 us) inside.1.2 inside.1.1 in
-    (inside.0, value_complete l ts s.0 inside.0 g o one, piece_bit (closer Bracket) depth inside.0 rest inside.2, other_op (codes "=") (codes "::") refl ts o.0)
+    let c : Closes inside.0 rest = piece_bit (closer Bracket) depth inside.0 rest inside.2 in
+    let list = inside.1 in
+    let row = list_row us (at_start 0) depth s.0 list.0 goods.1 list.1 in
+    let read = read_to us s.0 inside.0 rest goods.1 (subst (IsRow us s.0) (ended (ends_in_line us) depth list.0 inside.0 list.2) row) c in
+    (inside.0, value_complete us ts s.0 inside.0 (not-true (is_empty us) goods.0) o read, c, other_op (codes "=") (codes "::") refl ts o.0)
+  where
+    ended : (line : Bool) (depth : ℕ) (ts rest : Tokens) → Spells (ended_by line) depth ts rest → ts ≡ rest
+    ended true depth ts rest s = s
+    ended false depth ts rest s = s
+
+    read_to : (us : List Listed) (ts mid rest : Tokens) → is_token_list us ≡ true → IsRow us ts mid → Closes mid rest → tokens ts ≡ Some (us, mid)
+    read_to us ts [] rest h r c = absurd c
+    read_to us ts (last ∷ mid) rest h r c = row_tokens us ts last mid h (ap delimiters.is_closer c.0) r
 
 -- ---- what `made` gives
 
@@ -105,8 +115,9 @@ chosen_other false inner value other h = refl
 made_meta : (inner : Bool) (path : MetaPath) (given : MetaInput) → not (is_doc_path path && is_doc_input inner given) ≡ true
     → made inner path given ≡ attr.Meta inner path given
 made_meta inner path input.Bare h = refl
-made_meta inner path (input.Value l) h =
-    chosen_other (is_doc_path path) inner (value_of l.kind (chars l.text)) (attr.Meta inner path (input.Value l)) h
+made_meta inner path (input.Group g) h = refl
+made_meta inner path (input.Value us) h =
+    chosen_other (is_doc_path path) inner (string_of us) (attr.Meta inner path (input.Value us)) h
 
 -- ---- what opens an attribute
 
@@ -177,20 +188,46 @@ comment_complete : (inner : Bool) (value : List ℕ) (ts rest : Tokens) → IsCo
 unfolding attribute doc_attr
 comment_complete inner value ts rest c g = rw ((comment_front inner value ts rest c).2, same_as_itself inner, g) refl
 
--- A literal that has a value is a string.
-value_is_literal : (kind : Kind) (piece value : List ℕ) → value_of kind piece ≡ Some value → is_literal_kind kind ≡ true
-value_is_literal Str piece value h = refl
-value_is_literal RawStr piece value h = refl
-value_is_literal _ piece value h = absurd (cc)
+-- A token that has a value is a string: no documentation, and no delimiter.
+string_kind : (kind : Kind) (piece value : List ℕ) → value_of kind piece ≡ Some value
+    → (listing.is_doc_kind kind ≡ false) × (turned kind [] ≡ Some []) × (is_punct kind ≡ false)
+string_kind Str piece value h = (refl, refl, refl)
+string_kind RawStr piece value h = (refl, refl, refl)
+string_kind _ piece value h = absurd (cc)
 
-string_literal : (value : List ℕ) (ts rest : Tokens) → IsString value ts rest
-    → (l : Literal) × (held : List ℕ) × IsOne l.kind l.text ts rest × (is_literal_kind l.kind ≡ true) × (value_of l.kind (chars l.text) ≡ Some held)
-    × (value ≡ encode_utf8_all held)
-string_literal value [] rest s = absurd s
-string_literal value (t ∷ ts) rest s =
-    let l : Literal = record { kind = t.kind; text = t.text } in
+plain_listed : (k : Kind) (text : List ℕ) (joint : Bool) → listing.is_doc_kind k ≡ false → is_punct k ≡ false
+    → listed_by k text joint ≡ listed.Token k text false
+plain_listed (Doc inner block) text joint n p = absurd (cc)
+plain_listed Punct text joint n p = absurd (cc)
+plain_listed _ text joint n p = refl
+
+-- a string, read
+record ReadString (value : List ℕ) (ts rest : Tokens) : Type 0 where
+  list : List Listed
+  held : List ℕ
+  read : tokens ts ≡ Some (list, rest)
+  some : is_empty list ≡ false
+  string : string_of list ≡ Some held
+  is : value ≡ encode_utf8_all held
+
+string_read : (value : List ℕ) (ts mid rest : Tokens) → IsString value ts mid → Closes mid rest → ReadString value ts mid
+string_read value [] mid rest s c = absurd s
+string_read value (t ∷ ts) [] rest s c = absurd c
+string_read value (t ∷ ts) (last ∷ mid) rest s c =
     let of = s.0 in
-    (l, of.0, (refl, refl, s.1), value_is_literal t.kind (chars t.text) of.0 of.1, of.1, of.2)
+    let k = string_kind t.kind (chars t.text) of.0 of.1 in
+    let one : as_listed t ≡ listed.Token t.kind t.text false = plain_listed t.kind t.text t.joint k.0 k.2 in
+    record {
+      list = listed.Token t.kind t.text false ∷ [];
+      held = of.0;
+      read =
+          ap (λ z. tokens (t ∷ z)) s.1
+          ∙ tokens_there (t ∷ []) (last ∷ mid) (listed.Token t.kind t.text false ∷ []) (λ v. one v ∷ [])
+          (balances_turned [] [] (listed.Token t.kind t.text false) [] k.1) refl (ap delimiters.is_closer c.0);
+      some = refl;
+      string = of.1;
+      is = of.2;
+    }
 
 -- the name `doc`
 abbrev doc_name : MetaPath
@@ -201,10 +238,10 @@ doc_or_doc : (inner : Bool) (value : List ℕ) (held : List ℕ) (other : Attr) 
 doc_or_doc inner value held other e g =
     let here : is_doc_text inner (encode_utf8_all held) ≡ true = subst (λ w. is_doc_text inner w ≡ true) e g in rw (here, e) refl
 
-made_doc : (inner : Bool) (value held : List ℕ) (l : Literal) → value_of l.kind (chars l.text) ≡ Some held → value ≡ encode_utf8_all held
-    → is_doc_text inner value ≡ true → made inner doc_name (input.Value l) ≡ attr.Doc inner value
-made_doc inner value held l v e g =
-    let other = attr.Meta inner doc_name (input.Value l) in
+made_doc : (inner : Bool) (value held : List ℕ) (us : List Listed) → string_of us ≡ Some held → value ≡ encode_utf8_all held
+    → is_doc_text inner value ≡ true → made inner doc_name (input.Value us) ≡ attr.Doc inner value
+made_doc inner value held us v e g =
+    let other = attr.Meta inner doc_name (input.Value us) in
     ap (λ (o : Option (List ℕ)). doc_or inner o other) v ∙ doc_or_doc inner value held other e g
 
 doc_attr_complete : (inner : Bool) (value : List ℕ) (ts rest : Tokens) → IsDocAttr inner value ts rest → is_doc_text inner value ≡ true
@@ -214,11 +251,12 @@ doc_attr_complete inner value ts rest d g =
     let name = opened.2 in
     let o : IsOperator (codes "=") name.0 d.0 = bit_alone (Operator (codes "=")) name.0 d.0 name.2 in
     let behind = d.2 in
-    let l = string_literal value d.0 behind.0 behind.1 in
+    let c : Closes behind.0 rest = bit_alone (closer Bracket) behind.0 rest behind.2 in
+    let l = string_read value d.0 behind.0 rest behind.1 c in
     let n = meta_name_complete doc_name 0 opened.0 name.0 (name.0, name.1, refl) refl (other_op (codes "=") (codes "::") refl name.0 o.0) in
-    let i = value_complete l.0 name.0 d.0 behind.0 l.3 o l.2 in
-    rw (← made_doc inner value l.1 l.0 l.4 l.5 g)
-    (meta_attr_made inner doc_name (input.Value l.0) ts opened.0 name.0 behind.0 rest opened.1 n i (bit_alone (closer Bracket) behind.0 rest behind.2))
+    let i = value_complete l.list name.0 d.0 behind.0 l.some o l.read in
+    rw (← made_doc inner value l.held l.list l.string l.is g)
+    (meta_attr_made inner doc_name (input.Value l.list) ts opened.0 name.0 behind.0 rest opened.1 n i c)
 
 opening_complete : (inner : Bool) (a : Attr) (ts mid rest : Tokens) → AreBits (attr_opening inner) ts mid → meta_attr inner ts ≡ Some (a, rest)
     → attribute inner ts ≡ Some (a, rest)

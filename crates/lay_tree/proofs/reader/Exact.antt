@@ -6,7 +6,7 @@ use Rattle.lay_form.proofs.FormLaws.{is_end}
 use Rattle.lay_tree.specs.Ahead.{Tokens}
 use Rattle.lay_tree.specs.Follow.{may_follow}
 use Rattle.lay_tree.specs.nodes.Facts.{Facts, Front}
-use Rattle.lay_tree.specs.reader.Exact.{HaveTexts, Exact, needless}
+use Rattle.lay_tree.specs.reader.Exact.{InText, Exact, needless}
 use Rattle.lay_tree.specs.reader.Loops.{Got, Read}
 use Rattle.lay_tree.proofs.Steps.{or_else, bind_some, read_same}
 
@@ -16,7 +16,7 @@ Stands x depth ts rest = Spells x.form depth ts rest × (x.good ≡ true) × (ma
 
 -- What is read stands there at the depth that it needs.
 abbrev pub Sound : {A : Type 0} → (A → Facts) → ℕ → (Tokens → Read A) → Type 0
-Sound {A} about budget read = (ts : Tokens) (x : A) (need : ℕ) (rest : Tokens) → HaveTexts ts → read ts ≡ Some ((x, need), rest)
+Sound {A} about budget read = (ts : Tokens) (x : A) (need : ℕ) (rest : Tokens) → InText ts → read ts ≡ Some ((x, need), rest)
     → (need ≤ budget) × Stands (about x) need ts rest
 
 -- What stands there at the depth is read, with its need.
@@ -47,7 +47,7 @@ exact about read sound complete = record {
 
 -- a reading of nodes with no nodes within them
 pub needless_sound : {A : Type 0} (about : A → Facts) (one : Tokens → Got A)
-    → ((ts : Tokens) (x : A) (rest : Tokens) → HaveTexts ts → one ts ≡ Some (x, rest) → Stands (about x) 0 ts rest)
+    → ((ts : Tokens) (x : A) (rest : Tokens) → InText ts → one ts ≡ Some (x, rest) → Stands (about x) 0 ts rest)
     → (budget : ℕ) → Sound about budget (needless one budget)
 needless_sound {A} about one sound budget ts x need rest t h =
     let last : A × Tokens → Read A = λ y. Some ((y.0, 0), y.1) in

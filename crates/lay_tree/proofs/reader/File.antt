@@ -12,7 +12,7 @@ use Rattle.lay_tree.specs.nodes.Facts.{forms, all_good}
 use Rattle.lay_tree.specs.nodes.File.{form_of_file, is_normal}
 use Rattle.lay_tree.specs.nodes.Item.{about_item}
 use Rattle.lay_tree.specs.reader.Attr.{attributes}
-use Rattle.lay_tree.specs.reader.Exact.{HaveTexts}
+use Rattle.lay_tree.specs.reader.Exact.{InText}
 use Rattle.lay_tree.specs.reader.File.{whole}
 use Rattle.lay_tree.specs.reader.Item.{more_items, items_by, item_at}
 use Rattle.lay_tree.specs.reader.Loops.{◌>>=◌, nodes, deepest}
@@ -37,7 +37,7 @@ GoodFile depth ts file =
     Spells (lines (map attr_form file.0 ++ forms (map about_item file.1))) depth ts []
     × ((are_attrs true file.0 && all_good (map about_item file.1)) ≡ true)
 
-whole_parts : (depth : ℕ) (ts : Tokens) (attrs : List Attr) (items : List Item) → HaveTexts ts
+whole_parts : (depth : ℕ) (ts : Tokens) (attrs : List Attr) (items : List Item) → InText ts
     → (attributes true ts >>= (λ a. items_by (item_at depth) a.1 >>= (λ i.
     let found : Option (List Attr × List Item) = if at_end i.1 then Some (a.0, nodes i.0) else None in found))) ≡ Some (attrs, items)
     → GoodFile depth ts (attrs, items)
@@ -65,7 +65,7 @@ whole_parts depth ts attrs items t h =
     ]
 
 -- What is read of a whole list of tokens is spelled by it, and normal.
-pub whole_sound : (ts : Tokens) (attrs : List Attr) (items : List Item) → HaveTexts ts → whole ts ≡ Some (attrs, items)
+pub whole_sound : (ts : Tokens) (attrs : List Attr) (items : List Item) → InText ts → whole ts ≡ Some (attrs, items)
     → (file : File) → file.attrs ≡ attrs → file.items ≡ items → Spells (form_of_file file) top ts [] × (is_normal file ≡ true)
 unfolding whole
 whole_sound ts attrs items t h file a i = rw (a, i) (whole_parts top ts attrs items t h)

@@ -7,7 +7,7 @@ use Rattle.lay_form.specs.Form.{Fixed}
 use Rattle.lay_form.specs.Spelled.{IsOne}
 use Rattle.lay_form.proofs.FormLaws.{one_end}
 use Rattle.lay_tree.specs.Ahead.{Tokens, first, tail, is_mark, closes}
-use Rattle.lay_tree.specs.reader.Exact.{HaveTexts}
+use Rattle.lay_tree.specs.reader.Exact.{InText}
 use Rattle.lay_tree.specs.reader.Loops.{Got, ◌>>=◌, repeat_from, repeat, element_end, elements_from, elements}
 use Rattle.lay_tree.proofs.Fronts.{texts_behind, mark_one, closes_one, one_front, one_shorter, closer_first}
 use Rattle.lay_tree.proofs.Parts.{Rows, bit_alone, Closed, Behind, Elements}
@@ -17,12 +17,12 @@ use Rattle.lay_tree.proofs.Steps.{got_same, chosen, bind_some, one_more, no_more
 
 -- what one step reads, and the texts of what it leaves
 abbrev pub SoundStep : {A : Type 0} → (Tokens → Got A) → (A → Tokens → Tokens → Type 0) → Type 0
-SoundStep {A} one P = (ts : Tokens) (x : A) (rest : Tokens) → HaveTexts ts → one ts ≡ Some (x, rest) → P x ts rest × HaveTexts rest
+SoundStep {A} one P = (ts : Tokens) (x : A) (rest : Tokens) → InText ts → one ts ≡ Some (x, rest) → P x ts rest × InText rest
 
 -- the same, where the loop's test holds
 abbrev pub SoundTurn : {A : Type 0} → (Tokens → Bool) → (Tokens → Got A) → (A → Tokens → Tokens → Type 0) → Type 0
-SoundTurn {A} more one P = (ts : Tokens) (x : A) (rest : Tokens) → HaveTexts ts → more ts ≡ true → one ts ≡ Some (x, rest)
-    → P x ts rest × HaveTexts rest
+SoundTurn {A} more one P = (ts : Tokens) (x : A) (rest : Tokens) → InText ts → more ts ≡ true → one ts ≡ Some (x, rest)
+    → P x ts rest × InText rest
 
 element_end_is : (d : Delim) (ts rest : Tokens) → element_end (closes d) ts ≡ Some rest
     → IsOne Punct (codes ",") ts rest ⊎ ((first (closes d) ts ≡ true) × (ts ≡ rest))
@@ -47,9 +47,9 @@ behind_comma d P [] ts next rest m r = (ts, refl, (next, inr (next, m, refl), r)
 behind_comma d P (x ∷ xs) ts next rest m r = let b = r.2 in (b.0, (r.0, (next, m, r.1), b.1), b.2)
 
 module _ {A : Type 0} (more : Tokens → Bool) (one : Tokens → Got A) (P : A → Tokens → Tokens → Type 0) (sound : SoundTurn more one P) where
-  repeat_from_sound : (n : ℕ) (found : List A) (ts : Tokens) (xs : List A) (rest : Tokens) → HaveTexts ts
+  repeat_from_sound : (n : ℕ) (found : List A) (ts : Tokens) (xs : List A) (rest : Tokens) → InText ts
       → repeat_from more one n found ts ≡ Some (xs, rest)
-      → (ys : List A) × (xs ≡ found ++ ys) × Rows P ys ts rest × HaveTexts rest × (more rest ≡ false)
+      → (ys : List A) × (xs ≡ found ++ ys) × Rows P ys ts rest × InText rest × (more rest ≡ false)
   unfolding repeat_from
   repeat_from_sound zero found ts xs rest t h = absurd (cc)
   repeat_from_sound (suc n) found ts xs rest t h =
@@ -62,27 +62,27 @@ module _ {A : Type 0} (more : Tokens → Bool) (one : Tokens → Got A) (P : A �
             (b.0.0 ∷ r.0, one_more found b.0.0 r.0 xs r.1, (b.0.1, s.0, r.2), r.3, r.4)
         | inr g ↦
             let e = got_same found xs ts rest g.1 in
-            ([], no_more found xs e.0, e.1, subst HaveTexts e.1 t, subst (λ us. more us ≡ false) e.1 g.0)
+            ([], no_more found xs e.0, e.1, subst InText e.1 t, subst (λ us. more us ≡ false) e.1 g.0)
       ]
 
-  pub repeat_sound : (ts : Tokens) (xs : List A) (rest : Tokens) → HaveTexts ts → repeat more one ts ≡ Some (xs, rest)
-      → Rows P xs ts rest × HaveTexts rest × (more rest ≡ false)
+  pub repeat_sound : (ts : Tokens) (xs : List A) (rest : Tokens) → InText ts → repeat more one ts ≡ Some (xs, rest)
+      → Rows P xs ts rest × InText rest × (more rest ≡ false)
   unfolding repeat
   repeat_sound ts xs rest t h =
       let r = repeat_from_sound (suc (length ts)) [] ts xs rest t h in
       (subst (λ ys. Rows P ys ts rest) (sym r.1) r.2, r.3, r.4)
 
 module _ {A : Type 0} (one : Tokens → Got A) (P : A → Tokens → Tokens → Type 0) (sound : SoundStep one P) where
-  elements_from_sound : (d : Delim) (n : ℕ) (found : List A) (ts : Tokens) (xs : List A) (rest : Tokens) → HaveTexts ts
-      → elements_from (closes d) one n found ts ≡ Some (xs, rest) → (ys : List A) × (xs ≡ found ++ ys) × Elements d P ys ts rest × HaveTexts rest
+  elements_from_sound : (d : Delim) (n : ℕ) (found : List A) (ts : Tokens) (xs : List A) (rest : Tokens) → InText ts
+      → elements_from (closes d) one n found ts ≡ Some (xs, rest) → (ys : List A) × (xs ≡ found ++ ys) × Elements d P ys ts rest × InText rest
   unfolding elements_from
   elements_from_sound d zero found ts xs rest t h = absurd (cc)
   elements_from_sound d (suc n) found ts xs rest t h =
       let go_on : A × Tokens → Got (List A) = λ x. element_end (closes d) x.1 >>= (λ next. elements_from (closes d) one n (found ++ x.0 ∷ []) next) in
-      let closed : (us : Tokens) → HaveTexts us → first (closes d) us ≡ true → tail us ≡ rest → Closed d us rest × HaveTexts rest =
+      let closed : (us : Tokens) → InText us → first (closes d) us ≡ true → tail us ≡ rest → Closed d us rest × InText rest =
       λ us p c e.
       let o = closes_one d us p c in
-      (subst (Closed d us) e o, subst HaveTexts e (texts_behind us (tail us) (one_end _ _ us (tail us) o) p)) in
+      (subst (Closed d us) e o, subst InText e (texts_behind us (tail us) (one_end _ _ us (tail us) o) p)) in
       elim (chosen (first (closes d) ts) (Some (found, tail ts)) (one ts >>= go_on) (Some (xs, rest)) h) [
         | inl g ↦
             let e = got_same found xs (tail ts) rest g.1 in
@@ -104,8 +104,8 @@ module _ {A : Type 0} (one : Tokens → Got A) (P : A → Tokens → Tokens → 
             ]
       ]
 
-  pub elements_sound : (d : Delim) (ts : Tokens) (xs : List A) (rest : Tokens) → HaveTexts ts → elements (closes d) one ts ≡ Some (xs, rest)
-      → Elements d P xs ts rest × HaveTexts rest
+  pub elements_sound : (d : Delim) (ts : Tokens) (xs : List A) (rest : Tokens) → InText ts → elements (closes d) one ts ≡ Some (xs, rest)
+      → Elements d P xs ts rest × InText rest
   unfolding elements
   elements_sound d ts xs rest t h =
       let r = elements_from_sound d (suc (length ts)) [] ts xs rest t h in

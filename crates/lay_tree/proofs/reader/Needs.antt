@@ -10,7 +10,7 @@ use Rattle.lay_form.specs.Spelled.{IsOne, Spells}
 use Rattle.lay_form.proofs.FormLaws.{deeper, is_end}
 use Rattle.lay_tree.specs.Ahead.{Tokens, first, closes}
 use Rattle.lay_tree.specs.nodes.Facts.{Facts, forms, all_good}
-use Rattle.lay_tree.specs.reader.Exact.{HaveTexts}
+use Rattle.lay_tree.specs.reader.Exact.{InText}
 use Rattle.lay_tree.specs.reader.Loops.{Read, nodes, deepest, repeat, elements}
 use Rattle.lay_tree.proofs.Fronts.{texts_behind}
 use Rattle.lay_tree.proofs.Parts.{Rows, rows_to, GoodAt, SpelledAt, Further, Elements, list_spelled, list_elements}
@@ -94,8 +94,8 @@ elements_good about depth d (x ∷ xs) ts rest r g =
 
 module _ {A : Type 0} (about : A → Facts) (budget : ℕ) (read : Tokens → Read A) (sound : Sound about budget read) where
   -- a row of nodes is spelled at the greatest need of theirs
-  pub nodes_sound : (more : Tokens → Bool) (ts : Tokens) (xs : List (A × ℕ)) (rest : Tokens) → HaveTexts ts → repeat more read ts ≡ Some (xs, rest)
-      → (deepest xs ≤ budget) × Rows (GoodAt about (deepest xs)) (nodes xs) ts rest × HaveTexts rest × (more rest ≡ false)
+  pub nodes_sound : (more : Tokens → Bool) (ts : Tokens) (xs : List (A × ℕ)) (rest : Tokens) → InText ts → repeat more read ts ≡ Some (xs, rest)
+      → (deepest xs ≤ budget) × Rows (GoodAt about (deepest xs)) (nodes xs) ts rest × InText rest × (more rest ≡ false)
   nodes_sound more ts xs rest t h =
       let r = repeat_sound more read (Within about budget) (λ us x left p m g. step_within about budget read sound us x left p g) ts xs rest t h in (
         rows_within (Within about budget) budget (λ y us mid w. w.0) xs ts rest r.0,
@@ -105,7 +105,7 @@ module _ {A : Type 0} (about : A → Facts) (budget : ℕ) (read : Tokens → Re
       )
 
   -- so is a list in delimiters
-  pub list_sound : (d : Delim) (ts inside : Tokens) (xs : List (A × ℕ)) (rest : Tokens) → IsOne (Opener d) (opening d ∷ []) ts inside → HaveTexts inside
+  pub list_sound : (d : Delim) (ts inside : Tokens) (xs : List (A × ℕ)) (rest : Tokens) → IsOne (Opener d) (opening d ∷ []) ts inside → InText inside
       → elements (closes d) read inside ≡ Some (xs, rest)
       → (deepest xs ≤ budget) × Spells (comma_list true (opener d) (closer d) (forms (map about (nodes xs)))) (deepest xs) ts rest
       × (all_good (map about (nodes xs)) ≡ true)

@@ -1,24 +1,28 @@
 -- Paths.
-use Rattle.std.proofs.Common.{◌≡◌, ℕ, Bool, true, false, not, List, [], ◌∷◌, drop, codes, Some, refl, arith}
-use Rattle.std.proofs.lemmas.Bool.{and_parts, and_from, not-true}
+use Rattle.std.proofs.Common.{◌≡◌, ℕ, Bool, true, false, not, List, [], ◌∷◌, drop, codes, Some, refl, subst, arith}
+use Rattle.std.proofs.lemmas.Bool.{and_parts, and_from, not-true, false_from_ne_true}
+use Rattle.std.specs.Str.{bytes_eq}
 use Rattle.lay_token.specs.Operators.{is_op}
+use Rattle.lay_token.specs.Word.{class_of}
+use Rattle.lay_token.specs.declared.token.Kind.TheVariants.{Ident, RawIdent}
+use Rattle.lay_token.proofs.Deciding.{bytes_same}
 use Rattle.lay_form.specs.Form.{Operator, Done, Piece}
 use Rattle.lay_form.specs.Notation.{when}
 use Rattle.lay_form.specs.Spelled.{Then, IsOne, IsOperator, Spells}
 use Rattle.lay_form.proofs.FormLaws.{deeper, one_end, bits_end}
-use Rattle.lay_tree.specs.Ahead.{Tokens}
+use Rattle.lay_tree.specs.Ahead.{Tokens, first, is_keyword}
 use Rattle.lay_tree.specs.Follow.{OfColons, may_follow}
-use Rattle.lay_tree.specs.Words.{is_path_word, colons}
+use Rattle.lay_tree.specs.Words.{is_path_class, is_path_word, colons}
 use Rattle.lay_tree.specs.nodes.Facts.{Front}
 use Rattle.lay_tree.specs.nodes.Path.{are_segments, is_segments, segments_form, path_form, about_path}
-use Rattle.lay_tree.specs.reader.Exact.{HaveTexts, Exact, needless}
+use Rattle.lay_tree.specs.reader.Exact.{InText, Exact, needless}
 use Rattle.lay_tree.specs.reader.Loops.{Got, ◌>>=◌, repeat}
 use Rattle.lay_tree.specs.reader.Path.{segment, begins_colons, further_segment, path}
 use Rattle.lay_tree.specs.reader.Words.{word, global}
 use Rattle.lay_tree.specs.declared.path.Path.{Path}
 use Rattle.lay_tree.specs.declared.path.Segment.{Segment}
 use Rattle.lay_tree.specs.declared.token.Word.{Word}
-use Rattle.lay_tree.proofs.Fronts.{texts_behind, one_shorter, op_shorter}
+use Rattle.lay_tree.proofs.Fronts.{texts_behind, one_front, op_front, one_shorter, op_shorter}
 use Rattle.lay_tree.proofs.Parts.{Rows, rows_to, rows_pass, rows_with, bit_alone, word_kind, leaf_spelled, leaf_parts}
 use Rattle.lay_tree.proofs.Steps.{same_some, bind_some}
 use Rattle.lay_tree.proofs.reader.Exact.{Stands, exact, needless_sound, needless_complete}
@@ -50,7 +54,7 @@ segment_read : (s : Segment) (ts rest : Tokens) → IsSegment s ts rest → good
 unfolding segment
 segment_read s ts rest o g = rw (word_complete s.word ts rest (o, g)) refl
 
-segment_texts : (s : Segment) (ts rest : Tokens) → IsSegment s ts rest → HaveTexts ts → HaveTexts rest
+segment_texts : (s : Segment) (ts rest : Tokens) → IsSegment s ts rest → InText ts → InText rest
 segment_texts s ts rest o t = texts_behind ts rest (one_end (word_kind s.word.raw) s.word.text ts rest o) t
 
 -- ---- what is read is spelled
@@ -70,7 +74,7 @@ segments_spelled s (t ∷ more) depth ts at rest o r =
     leaf_spelled s.word.raw s.word.text (Piece colons (segments_form (t ∷ more) Done)) depth ts at rest o
     (row.0, (row.0, row.1, refl), segments_spelled t more depth row.0 r.0 rest row.2 r.2)
 
-path_stands : (ts : Tokens) (p : Path) (rest : Tokens) → HaveTexts ts → path ts ≡ Some (p, rest) → Stands (about_path p) 0 ts rest
+path_stands : (ts : Tokens) (p : Path) (rest : Tokens) → InText ts → path ts ≡ Some (p, rest) → Stands (about_path p) 0 ts rest
 unfolding path
 path_stands ts p rest t h =
     let leads = (global ts).0 in
@@ -89,7 +93,7 @@ path_stands ts p rest t h =
     (spelled, good, follows)
 
 -- A path is spelled, and no `::` follows.
-pub path_sound : (depth : ℕ) (ts : Tokens) (p : Path) (rest : Tokens) → HaveTexts ts → path ts ≡ Some (p, rest) → Stands (about_path p) depth ts rest
+pub path_sound : (depth : ℕ) (ts : Tokens) (p : Path) (rest : Tokens) → InText ts → path ts ≡ Some (p, rest) → Stands (about_path p) depth ts rest
 path_sound depth ts p rest t h =
     let s = path_stands ts p rest t h in (deeper (path_form p) 0 depth ts rest (omega arith) s.0, s.1, s.2)
 
@@ -131,3 +135,50 @@ path_complete p depth ts rest s = at p.global p.segments s.0 s.1
 
 pub paths : Exact (needless path) (λ (x : Path). Front (about_path x))
 paths = exact about_path (needless path) (needless_sound about_path path (path_sound 0)) (needless_complete about_path path path_complete)
+
+-- ---- the front of a path
+
+word_no_keyword : (keyword : List ℕ) → is_path_class (class_of keyword) ≡ false → (raw : Bool) (text : List ℕ) (ts rest : Tokens)
+    → is_path_word raw text ≡ true → IsOne (word_kind raw) text ts rest → first (is_keyword keyword) ts ≡ false
+word_no_keyword keyword n true text ts rest g o = rw (one_front RawIdent text ts rest o).1 refl
+word_no_keyword keyword n false text ts rest g o =
+    let differs : bytes_eq text keyword ≡ false = false_from_ne_true (bytes_eq text keyword) (λ e.
+    let path_word : is_path_class (class_of keyword) ≡ true =
+    subst (λ w. is_path_class (class_of w) ≡ true) (bytes_same text keyword e) g in
+    absurd (cc)) in
+    rw ((one_front Ident text ts rest o).1, differs) refl
+
+-- No keyword that isn't a word of a path begins a path.
+pub path_no_keyword : (keyword : List ℕ) → is_path_class (class_of keyword) ≡ false → (p : Path) (depth : ℕ) (ts rest : Tokens)
+    → is_segments p.segments ≡ true → Spells (path_form p) depth ts rest → first (is_keyword keyword) ts ≡ false
+path_no_keyword keyword n p depth ts rest g s = at p.global p.segments g s
+  where
+    at : (leads : Bool) (segments : List Segment) → is_segments segments ≡ true → Spells (when leads colons (segments_form segments Done)) depth ts rest
+        → first (is_keyword keyword) ts ≡ false
+    at leads [] g s = absurd (cc)
+    at true (one ∷ more) g s =
+        let o : IsOperator (codes "::") ts s.0 = bit_alone (Operator (codes "::")) ts s.0 s.1 in rw (op_front (codes "::") ts o.0).2 refl
+    at false (one ∷ more) g s =
+        let w = segments_rows one more depth ts rest s in
+        word_no_keyword keyword n one.word.raw one.word.text ts w.0 (and_parts (good_segment one) (are_segments more) g).0 w.1
+
+-- what a path begins with: a `::`, or a word, behind which a `::` or what follows the path stands
+pub data PathFront (ts rest : Tokens) : Type 0 where
+  OfLead : is_op (codes "::") ts ≡ true → PathFront ts rest
+  OfWord : (raw : Bool) (text : List ℕ) (at : Tokens) → IsOne (word_kind raw) text ts at → is_op (codes "::") at ≡ true → PathFront ts rest
+  OfOne : (raw : Bool) (text : List ℕ) → IsOne (word_kind raw) text ts rest → PathFront ts rest
+
+pub path_front : (p : Path) (depth : ℕ) (ts rest : Tokens) → is_segments p.segments ≡ true → Spells (path_form p) depth ts rest → PathFront ts rest
+path_front p depth ts rest g s = at p.global p.segments g s
+  where
+    at : (leads : Bool) (segments : List Segment) → is_segments segments ≡ true → Spells (when leads colons (segments_form segments Done)) depth ts rest
+        → PathFront ts rest
+    at leads [] g s = absurd (cc)
+    at true (one ∷ more) g s = let o : IsOperator (codes "::") ts s.0 = bit_alone (Operator (codes "::")) ts s.0 s.1 in OfLead o.0
+    at false (one ∷ []) g s =
+        let w = segments_rows one [] depth ts rest s in
+        OfOne one.word.raw one.word.text (subst (IsOne (word_kind one.word.raw) one.word.text ts) w.2 w.1)
+    at false (one ∷ two ∷ more) g s =
+        let w = segments_rows one (two ∷ more) depth ts rest s in
+        let row = w.2.1 in
+        OfWord one.word.raw one.word.text w.0 w.1 row.1.0

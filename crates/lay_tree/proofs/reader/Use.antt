@@ -16,7 +16,7 @@ use Rattle.lay_tree.specs.Follow.{OfColons, begins_there, may_follow}
 use Rattle.lay_tree.specs.Words.{is_name, is_path_word, are_path_words, leaf_of, colons}
 use Rattle.lay_tree.specs.nodes.Facts.{Facts, forms, Front}
 use Rattle.lay_tree.specs.nodes.Use.{is_rename, rename_form, refuses_rename, words_form, about_use, about_use_end}
-use Rattle.lay_tree.specs.reader.Exact.{only_text, IsText, HaveTexts, Exact}
+use Rattle.lay_tree.specs.reader.Exact.{InText, Exact}
 use Rattle.lay_tree.specs.reader.Loops.{Got, Read, ◌>>=◌, nodes, deepest, elements}
 use Rattle.lay_tree.specs.reader.Use.{other_name, renamed, use_word, use_end_by, ended, use_by, use_at}
 use Rattle.lay_tree.specs.reader.Words.{name_by, word, global, path_word, path_words}
@@ -28,6 +28,7 @@ use Rattle.lay_tree.specs.declared.use_tree.UseEnd.{UseEnd}
 use Rattle.lay_tree.specs.declared.use_tree.UseEnd.TheVariants as use_end
 use Rattle.lay_tree.specs.declared.use_tree.UseTree.{UseTree}
 use Rattle.lay_tree.proofs.Follow.{Quiet, quiet_follows, comma_quiet, closer_quiet}
+use Rattle.lay_tree.proofs.InText.{only_text, IsText, text_one}
 use Rattle.lay_tree.proofs.Fronts.{texts_behind, end_shorter, keyword_one, opens_one, one_front, one_test, one_no_op, op_front, op_test, other_op, one_shorter, op_shorter}
 use Rattle.lay_tree.proofs.Parts.{GoodAt, bit_alone, behind_blank, before_blank, bit_piece, piece_bit, part_alone, word_kind, word_kinds, leaf_spelled, leaf_parts, leaf_alone}
 use Rattle.lay_tree.proofs.Steps.{same_some, chosen, bind_some}
@@ -58,10 +59,10 @@ other_by_kind Underscore t ts r rest u h =
     same_some (λ (m : Rename × Tokens). RenameIs m.0 (record t { kind = Underscore } ∷ ts) m.1) (rename.Underscore, ts) (r, rest) h (refl, u, refl)
 other_by_kind k t ts r rest u h = name_rename k t.text (record t { kind = k }) ts r rest refl refl h
 
-other_name_is : (ts : Tokens) (r : Rename) (rest : Tokens) → HaveTexts ts → other_name ts ≡ Some (r, rest) → RenameIs r ts rest
+other_name_is : (ts : Tokens) (r : Rename) (rest : Tokens) → InText ts → other_name ts ≡ Some (r, rest) → RenameIs r ts rest
 unfolding other_name
 other_name_is [] r rest t h = absurd (cc)
-other_name_is (t ∷ ts) r rest p h = other_by_kind t.kind t ts r rest p.0 h
+other_name_is (t ∷ ts) r rest p h = other_by_kind t.kind t ts r rest (text_one t ts p) h
 
 abbrev GoodRename : ℕ → Option Rename → Tokens → Tokens → Type 0
 GoodRename depth r ts rest = Spells (rename_form r) depth ts rest × (is_rename r ≡ true) × (may_follow (refuses_rename r) rest ≡ true)
@@ -71,7 +72,7 @@ rename_spelled depth (rename.Name n) ts inside rest k i =
     ((inside, (ts, refl, (inside, k, (inside, refl, refl))), leaf_spelled n.raw n.text Done depth inside rest rest i.0 refl), i.1, refl)
 rename_spelled depth rename.Underscore ts inside rest k i = ((inside, (ts, refl, (inside, k, (inside, refl, refl))), (rest, i, refl)), refl, refl)
 
-renamed_sound : (depth : ℕ) (ts : Tokens) (r : Option Rename) (rest : Tokens) → HaveTexts ts → renamed ts ≡ Some (r, rest) → GoodRename depth r ts rest
+renamed_sound : (depth : ℕ) (ts : Tokens) (r : Option Rename) (rest : Tokens) → InText ts → renamed ts ≡ Some (r, rest) → GoodRename depth r ts rest
 unfolding renamed
 renamed_sound depth ts r rest t h =
     let go_on : (Rename × Tokens) → Got (Option Rename) = λ m. Some (Some m.0, m.1) in
@@ -87,7 +88,7 @@ renamed_sound depth ts r rest t h =
 
 -- ---- what is read is spelled
 
-use_word_sound : (ts : Tokens) (e : UseEnd) (need : ℕ) (rest : Tokens) → HaveTexts ts → use_word ts ≡ Some ((e, need), rest)
+use_word_sound : (ts : Tokens) (e : UseEnd) (need : ℕ) (rest : Tokens) → InText ts → use_word ts ≡ Some ((e, need), rest)
     → (need ≡ 0) × Stands (about_use_end e) need ts rest
 use_word_sound ts e need rest t h =
     let last : Word → (Option Rename × Tokens) → Read UseEnd = λ w r. Some ((use_end.Word w r.0, 0), r.1) in

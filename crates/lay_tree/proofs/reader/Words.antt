@@ -1,4 +1,4 @@
--- Names, words and literals, and the words of a path.
+-- Names and words, and the words of a path.
 use Rattle.std.proofs.Common.{◌≡◌, ℕ, Bool, true, false, List, [], ◌∷◌, drop, codes, inl, inr, Option, Some, None, is_some, if◌then◌else◌, refl, ap, subst, arith}
 use Rattle.lay_token.specs.Lexes.{is_punct}
 use Rattle.lay_token.specs.Operators.{is_op}
@@ -11,12 +11,11 @@ use Rattle.lay_form.specs.Notation.{when}
 use Rattle.lay_form.specs.Spelled.{Then, IsOne, IsOperator, Spells}
 use Rattle.lay_form.proofs.FormLaws.{one_end, bits_end}
 use Rattle.lay_tree.specs.Ahead.{Tokens}
-use Rattle.lay_tree.specs.Words.{is_plain, is_path_class, is_name, is_path_word, are_path_words, colons, is_literal_kind}
+use Rattle.lay_tree.specs.Words.{is_plain, is_path_class, is_name, is_path_word, are_path_words, colons}
 use Rattle.lay_tree.specs.nodes.Use.{words_form}
-use Rattle.lay_tree.specs.reader.Exact.{HaveTexts}
+use Rattle.lay_tree.specs.reader.Exact.{InText}
 use Rattle.lay_tree.specs.reader.Loops.{Got}
-use Rattle.lay_tree.specs.reader.Words.{name_by, name, word_by, word, literal, global, path_word, begins_path_word, path_words}
-use Rattle.lay_tree.specs.declared.token.Literal.{Literal}
+use Rattle.lay_tree.specs.reader.Words.{name_by, name, word_by, word, global, path_word, begins_path_word, path_words}
 use Rattle.lay_tree.specs.declared.token.Name.{Name}
 use Rattle.lay_tree.specs.declared.token.Word.{Word}
 use Rattle.lay_tree.proofs.Fronts.{texts_behind, one_front, one_no_op, one_shorter, op_shorter}
@@ -100,23 +99,6 @@ name_complete n ts rest g = at n.raw n.text g.1 g.0
     at true text h o = rw (one_front RawIdent text ts rest o).1 refl
     at false text h o = rw ((one_front Ident text ts rest o).1, h) refl
 
-abbrev pub GoodLiteral : Literal → Tokens → Tokens → Type 0
-GoodLiteral l ts rest = IsOne l.kind l.text ts rest × (is_literal_kind l.kind ≡ true)
-
-pub literal_sound : (ts : Tokens) (l : Literal) (rest : Tokens) → literal ts ≡ Some (l, rest) → GoodLiteral l ts rest
-unfolding literal
-literal_sound [] l rest h = absurd (cc)
-literal_sound (t ∷ ts) l rest h =
-    let one : Literal = record { kind = t.kind; text = t.text } in
-    elim (chosen (is_literal_kind t.kind) (Some (one, ts)) None (Some (l, rest)) h) [
-      | inl g ↦ same_some (λ (r : Literal × Tokens). GoodLiteral r.0 (t ∷ ts) r.1) (one, ts) (l, rest) g.1 ((refl, refl, refl), g.0)
-      | inr g ↦ absurd (cc)
-    ]
-
-pub literal_complete : (l : Literal) (ts rest : Tokens) → GoodLiteral l ts rest → literal ts ≡ Some (l, rest)
-unfolding literal
-literal_complete l ts rest g = rw ((one_front l.kind l.text ts rest g.0).1, g.1) refl
-
 pub word_no_op : (op : List ℕ) (raw : Bool) (text : List ℕ) (ts rest : Tokens) → IsOne (word_kind raw) text ts rest → is_op op ts ≡ false
 word_no_op op raw text ts rest o = one_no_op op (word_kind raw) text ts rest (word_kinds is_punct refl refl raw) o
 
@@ -135,11 +117,11 @@ parted_leads false ts h f depth end s = s
 pub global_leads : (ts : Tokens) → LedBy (global ts).0 ts (global ts).1
 global_leads ts = parted_leads (is_op (codes "::") ts) ts refl
 
-parted_texts : (b : Bool) (ts : Tokens) → is_op (codes "::") ts ≡ b → HaveTexts ts → HaveTexts (parted b ts).1
+parted_texts : (b : Bool) (ts : Tokens) → is_op (codes "::") ts ≡ b → InText ts → InText (parted b ts).1
 parted_texts true ts h t = texts_behind ts (drop 2 ts) (bits_end colons ts (drop 2 ts) (drop 2 ts, (h, refl), refl)) t
 parted_texts false ts h t = t
 
-pub global_texts : (ts : Tokens) → HaveTexts ts → HaveTexts (global ts).1
+pub global_texts : (ts : Tokens) → InText ts → InText (global ts).1
 global_texts ts t = parted_texts (is_op (codes "::") ts) ts refl t
 
 -- what is spelled behind it, where that doesn't begin so itself
@@ -172,13 +154,13 @@ path_word_sound ts w rest t h =
           let at = b.0.1 in
           let left = texts_behind ts at (one_end (word_kind b.0.0.raw) b.0.0.text ts at i.0) t in
           let behind = texts_behind at (drop 2 at) (bits_end colons at (drop 2 at) (drop 2 at, (g.0, refl), refl)) left in
-          same_some (λ (r : Word × Tokens). PathWord r.0 ts r.1 × HaveTexts r.1) (b.0.0, drop 2 at) (w, rest) g.1
+          same_some (λ (r : Word × Tokens). PathWord r.0 ts r.1 × InText r.1) (b.0.0, drop 2 at) (w, rest) g.1
           (((at, i.0, (g.0, refl)), i.1), behind)
       | inr g ↦ absurd (cc)
     ]
 
-pub path_words_sound : (ts : Tokens) (ws : List Word) (rest : Tokens) → HaveTexts ts → path_words ts ≡ Some (ws, rest)
-    → Rows PathWord ws ts rest × HaveTexts rest
+pub path_words_sound : (ts : Tokens) (ws : List Word) (rest : Tokens) → InText ts → path_words ts ≡ Some (ws, rest)
+    → Rows PathWord ws ts rest × InText rest
 unfolding path_words
 path_words_sound ts ws rest t h = let r = repeat_sound begins_path_word path_word PathWord (λ us w left p m g. path_word_sound us w left p g) ts ws rest t h in (r.0, r.1)
 

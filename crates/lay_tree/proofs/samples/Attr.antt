@@ -1,5 +1,5 @@
 -- Samples of attributes: how they are laid out, and what spells them.
-use Rattle.std.proofs.Common.{◌≡◌, ℕ, Bool, true, false, List, [], ◌∷◌, ◌++◌, inl, inr, codes, map, refl}
+use Rattle.std.proofs.Common.{◌≡◌, ℕ, Bool, true, false, List, [], ◌∷◌, ◌++◌, inl, inr, Some, None, codes, map, refl}
 use Rattle.std.specs.Str.{chars}
 use Rattle.lay_token.specs.Docs.{doc_form}
 use Rattle.lay_token.specs.Forms.{after_literal}
@@ -7,7 +7,7 @@ use Rattle.lay_token.specs.Operators.{op_at}
 use Rattle.lay_token.specs.Quoted.{block_step, doc_step, string_step}
 use Rattle.lay_token.specs.Scan.{run}
 use Rattle.lay_token.specs.Value.{string_value, adds}
-use Rattle.lay_token.specs.declared.token.Delim.TheVariants.{Bracket}
+use Rattle.lay_token.specs.declared.token.Delim.TheVariants.{Paren, Bracket}
 use Rattle.lay_token.specs.declared.token.Kind.TheVariants.{Str, Doc}
 use Rattle.lay_token.specs.declared.token.Token.{Token}
 use Rattle.lay_form.specs.Form.{Part, closer}
@@ -15,11 +15,19 @@ use Rattle.lay_form.specs.Notation.{piece}
 use Rattle.lay_form.specs.Spelled.{Spells}
 use Rattle.lay_tree.specs.nodes.Attr.{meta_path_form, input_form, about_attr}
 use Rattle.lay_tree.specs.nodes.Facts.{Facts}
+use Rattle.lay_tree.specs.reader.Attr.{meta_name, value, meta_input, meta_attr, attribute}
+use Rattle.lay_tree.specs.reader.Loops.{repeat_from, repeat}
+use Rattle.lay_tree.specs.reader.Path.{segment, path as path_reading}
+use Rattle.lay_tree.specs.reader.Tokens.{run as run_tokens, tokens}
+use Rattle.lay_tree.specs.reader.Words.{word as word_reading}
 use Rattle.lay_tree.specs.declared.attr.Attr.TheVariants as attr
 use Rattle.lay_tree.specs.declared.attr.MetaInput.{MetaInput}
 use Rattle.lay_tree.specs.declared.attr.MetaInput.TheVariants as input
 use Rattle.lay_tree.specs.declared.attr.MetaPath.{MetaPath}
 use Rattle.lay_tree.specs.declared.attr.MetaPath.TheVariants as meta_path
+use Rattle.lay_tree.specs.declared.token.Listed.{Listed}
+use Rattle.lay_tree.specs.declared.token.Listed.TheVariants as listed
+use Rattle.lay_tree.proofs.samples.Tokens as list
 use Rattle.lay_tree.proofs.samples.Trees.{plain, a, b, laid, Spelt, token, word, mark, colons, opens, closes}
 use lib.Utf8.{encode}
 
@@ -30,7 +38,14 @@ abbrev path : Bool → List (List ℕ) → MetaPath
 path global words = meta_path.Path (record { global = global; segments = map (λ text. record { word = plain text }) words })
 
 abbrev slash : MetaInput
-slash = input.Value (record { kind = Str; text = codes "\"/x\"" })
+slash = input.Value (listed.Token Str (codes "\"/x\"") false ∷ [])
+
+-- `= b!(a)`
+abbrev call : MetaInput
+call = input.Value (list.b ∷ list.mark (codes "!") ∷ list.opens Paren ∷ list.a ∷ list.closes Paren ∷ [])
+
+abbrev group : List Listed → MetaInput
+group tokens = input.Group (record { delim = Paren; tokens = tokens })
 
 abbrev meta : MetaPath → MetaInput → Facts
 meta name given = about_attr false (attr.Meta false name given)
@@ -81,6 +96,18 @@ laid_meta = refl
 laid_value : laid (meta (path false (codes "doc" ∷ [])) slash) ≡ codes "#[doc = \"/x\"]"
 laid_value = refl
 
+laid_call : laid (meta (path false (a ∷ [])) call) ≡ codes "#[a = b!(a)]"
+laid_call = refl
+
+laid_group : laid (meta (path false (codes "cfg" ∷ [])) (group (list.word (codes "all") ∷ list.opens Paren ∷ list.a
+    ∷ list.mark (codes ",") ∷ list.word (codes "not") ∷ list.opens Paren ∷ list.b ∷ list.closes Paren
+    ∷ list.closes Paren ∷ [])))
+    ≡ codes "#[cfg(all(a, not(b)))]"
+laid_group = refl
+
+laid_empty_group : laid (meta (path false (a ∷ [])) (group [])) ≡ codes "#[a()]"
+laid_empty_group = refl
+
 laid_unsafe : laid (meta meta_path.Unsafe input.Bare) ≡ codes "#[unsafe]"
 laid_unsafe = refl
 
@@ -90,13 +117,30 @@ laid_path = refl
 spelled_meta : Spelt (meta (path false (a ∷ [])) input.Bare) (attr_tokens (word a ∷ []))
 spelled_meta = meta_spelled (path false (a ∷ [])) input.Bare (word a ∷ closes Bracket ∷ []) (_, (_, (refl, refl, refl), refl), (_, (_, (refl, refl, refl), refl), refl))
 
-spelled_value : Spelt (meta (path false (a ∷ [])) slash) (attr_tokens (word a ∷ mark (codes "=") ∷ token Str (codes "\"/x\"") false ∷ []))
+-- `#[a]`, with this input behind its name
+input_spelled : (given : MetaInput) (ts : List Token)
+    → list.Spelt 256 (input_form given (piece (closer Bracket ∷ []))) ts []
+    → Spelt (meta (path false (a ∷ [])) given) (mark (codes "#") ∷ opens Bracket ∷ word a ∷ ts)
+input_spelled given ts s =
+    meta_spelled (path false (a ∷ [])) given (word a ∷ ts) (_, (_, (refl, refl, refl), refl), s.spells)
+
+spelled_value : Spelt (meta (path false (a ∷ [])) slash)
+    (attr_tokens (word a ∷ mark (codes "=") ∷ token Str (codes "\"/x\"") false ∷ []))
 unfolding op_at
-spelled_value = meta_spelled (path false (a ∷ [])) slash (word a ∷ mark (codes "=") ∷ token Str (codes "\"/x\"") false ∷ closes Bracket ∷ []) (
-  _,
-  (_, (refl, refl, refl), refl),
-  (_, (_, refl, (_, (refl, refl), (_, refl, refl))), (_, (_, (refl, refl, refl), refl), (_, (_, (refl, refl, refl), refl), refl))),
-)
+spelled_value = input_spelled slash _
+    (list.pieces (_, refl, (_, (refl, refl), (_, refl, refl)))
+    (list.part (list.list (list.next list.end)) (list.fixed list.end)))
+
+spelled_call : Spelt (meta (path false (a ∷ [])) call)
+    (attr_tokens (word a ∷ mark (codes "=") ∷ word b ∷ mark (codes "!") ∷ opens Paren ∷ word a ∷ closes Paren ∷ []))
+unfolding op_at
+spelled_call = input_spelled call _
+    (list.pieces (_, refl, (_, (refl, refl), (_, refl, refl)))
+    (list.part (list.list (list.next (list.next (list.group (list.next list.end) list.end)))) (list.fixed list.end)))
+
+spelled_group : Spelt (meta (path false (a ∷ [])) (group (list.b ∷ [])))
+    (attr_tokens (word a ∷ opens Paren ∷ word b ∷ closes Paren ∷ []))
+spelled_group = input_spelled (group (list.b ∷ [])) _ (list.group_before (list.next list.end) (list.fixed list.end))
 
 spelled_unsafe : Spelt (meta meta_path.Unsafe input.Bare) (attr_tokens (word (codes "unsafe") ∷ []))
 spelled_unsafe =
@@ -110,3 +154,31 @@ spelled_path = meta_spelled (path false (a ∷ b ∷ [])) input.Bare (word a ∷
   (_, (refl, refl, refl), (_, (_, (refl, refl), refl), (_, (refl, refl, refl), refl))),
   (_, (_, (refl, refl, refl), refl), refl),
 )
+
+-- ---- what is read as documentation
+
+read_doc : attribute false (attr_tokens (word (codes "doc") ∷ mark (codes "=") ∷ token Str (codes "\"x\"") false ∷ []))
+    ≡ Some (attr.Doc false (codes "x"), [])
+unfolding attribute meta_attr meta_name path_reading segment word_reading repeat repeat_from meta_input value tokens
+    run_tokens op_at chars after_literal run string_step adds string_value encode doc_form
+read_doc = refl
+
+-- no text that documentation can be written with
+read_value : attribute false (attr_tokens (word (codes "doc") ∷ mark (codes "=") ∷ token Str (codes "\"/x\"") false ∷ []))
+    ≡ Some (attr.Meta false (path false (codes "doc" ∷ [])) slash, [])
+unfolding attribute meta_attr meta_name path_reading segment word_reading repeat repeat_from meta_input value tokens
+    run_tokens op_at chars after_literal run string_step adds string_value encode doc_form
+read_value = refl
+
+-- a value of several tokens
+read_call : attribute false (attr_tokens (word a ∷ mark (codes "=") ∷ word b ∷ mark (codes "!") ∷ opens Paren ∷ word a
+    ∷ closes Paren ∷ [])) ≡ Some (attr.Meta false (path false (a ∷ [])) call, [])
+unfolding attribute meta_attr meta_name path_reading segment word_reading repeat repeat_from meta_input value tokens
+    run_tokens op_at
+read_call = refl
+
+-- no value without a token
+no_value : attribute false (attr_tokens (word a ∷ mark (codes "=") ∷ [])) ≡ None
+unfolding attribute meta_attr meta_name path_reading segment word_reading repeat repeat_from meta_input value tokens
+    run_tokens op_at
+no_value = refl

@@ -1,8 +1,11 @@
 -- Samples of token lists, one for each row of the table of neighbours: how they are laid out, and what spells them.
-use Rattle.std.proofs.Common.{◌≡◌, ℕ, Bool, true, false, List, [], ◌∷◌, codes, refl}
+use Rattle.std.proofs.Common.{◌≡◌, ℕ, Bool, true, false, List, [], ◌∷◌, codes, refl, arith}
+use Rattle.std.specs.Str.{chars, is_utf8}
+use lib.Utf8.{encode}
+use Rattle.lay_token.specs.Chars.{starts_word, in_word}
 use Rattle.lay_token.specs.Docs.{doc_form}
 use Rattle.lay_token.specs.Document.{text_of}
-use Rattle.lay_token.specs.Forms.{opening, closing}
+use Rattle.lay_token.specs.Forms.{had, has_form, may_precede, opening, closing}
 use Rattle.lay_token.specs.Quoted.{doc_step, block_step}
 use Rattle.lay_token.specs.Scan.{run}
 use Rattle.lay_token.specs.declared.token.Delim.{Delim}
@@ -10,49 +13,51 @@ use Rattle.lay_token.specs.declared.token.Delim.TheVariants.{Paren, Bracket, Bra
 use Rattle.lay_token.specs.declared.token.Kind.{Kind}
 use Rattle.lay_token.specs.declared.token.Kind.TheVariants.{Ident, Int, Float, Punct, Opener, Closer, Doc}
 use Rattle.lay_token.specs.declared.token.Token.{Token}
-use Rattle.lay_form.specs.Form.{Space, Form, Done, Piece, Listed as ListedToken, ListedDoc, Brk, Group, Part, opener, closer}
+use Rattle.lay_form.specs.Form.{Bit, Fixed, Space, Form, Done, Piece, Leaf, Listed as ListedToken, ListedDoc, Brk, Group, Part, opener, closer}
 use Rattle.lay_form.specs.Layout.{document}
-use Rattle.lay_form.specs.Spelled.{Spells}
+use Rattle.lay_form.specs.Spelled.{AreBits, Spells}
+use Rattle.lay_tree.specs.tokens.Lexed.{is_token_list}
 use Rattle.lay_tree.specs.tokens.Lists.{token_list}
 use Rattle.lay_tree.specs.declared.token.Listed.{Listed}
 use Rattle.lay_tree.specs.declared.token.Listed.TheVariants as listed
+use Rattle.lay_token.proofs.Ascii.{ascii_starts, ascii_in_word}
 use Rattle.lay_tree.proofs.samples.Trees.{token}
 
 -- ---- tokens
 
-abbrev word : List ℕ → Listed
+abbrev pub word : List ℕ → Listed
 word text = listed.Token Ident text false
 
-abbrev number : List ℕ → Listed
+abbrev pub number : List ℕ → Listed
 number text = listed.Token Int text false
 
-abbrev mark : List ℕ → Listed
+abbrev pub mark : List ℕ → Listed
 mark text = listed.Token Punct text false
 
-abbrev joint : List ℕ → Listed
+abbrev pub joint : List ℕ → Listed
 joint text = listed.Token Punct text true
 
-abbrev opens : Delim → Listed
+abbrev pub opens : Delim → Listed
 opens d = listed.Token (Opener d) (opening d ∷ []) false
 
-abbrev closes : Delim → Listed
+abbrev pub closes : Delim → Listed
 closes d = listed.Token (Closer d) (closing d ∷ []) false
 
-abbrev x_doc : Listed
+abbrev pub x_doc : Listed
 x_doc = listed.Doc false (codes " x")
 
-abbrev a : Listed
+abbrev pub a : Listed
 a = word (codes "a")
 
-abbrev b : Listed
+abbrev pub b : Listed
 b = word (codes "b")
 
 -- the tokens of a text that the list tells, documentation on a line
-abbrev told_of : Listed → Token
+abbrev pub told_of : Listed → Token
 told_of (listed.Token kind text joint) = token kind text joint
 told_of (listed.Doc inner text) = token (Doc inner false) text false
 
-abbrev told : List Listed → List Token
+abbrev pub told : List Listed → List Token
 told [] = []
 told (u ∷ us) = told_of u ∷ told us
 
@@ -61,57 +66,92 @@ told (u ∷ us) = told_of u ∷ told us
 abbrev laid : List Listed → List ℕ
 laid us = text_of (document (token_list us))
 
--- The front of the tokens, up to the rest, spells the form.
-record Spelt (f : Form) (ts rest : List Token) : Type 0 where
-  spells : Spells f 0 ts rest
+-- The front of the tokens, up to the rest, spells the form at the depth.
+pub record Spelt (depth : ℕ) (f : Form) (ts rest : List Token) : Type 0 where
+  pub spells : Spells f depth ts rest
 
 -- The tokens of the list spell it.
 abbrev IsSpelt : List Listed → Type 0
-IsSpelt us = Spelt (token_list us) (told us) []
+IsSpelt us = Spelt 0 (token_list us) (told us) []
 
-end : {ts : List Token} → Spelt Done ts ts
+pub end : {n : ℕ} {ts : List Token} → Spelt n Done ts ts
 end = record { spells = refl }
 
-next : {k : Kind} {x : List ℕ} {j : Bool} {f : Form} {ts rest : List Token} → Spelt f ts rest
-    → Spelt (ListedToken k x j (Part f Done)) (token k x j ∷ ts) rest
+-- one part and then what follows it
+pub part : {n : ℕ} {i f : Form} {ts mid rest : List Token} → Spelt n i ts mid → Spelt n f mid rest
+    → Spelt n (Part i f) ts rest
+part {mid = mid} i s = record { spells = (mid, i.spells, s.spells) }
+
+pub next : {n : ℕ} {k : Kind} {x : List ℕ} {j : Bool} {f : Form} {ts rest : List Token} → Spelt n f ts rest
+    → Spelt n (ListedToken k x j (Part f Done)) (token k x j ∷ ts) rest
 next {ts = ts} {rest = rest} s = record { spells = (ts, (refl, refl, refl, refl), (rest, s.spells, refl)) }
 
-doc : {inner : Bool} {x : List ℕ} {f : Form} {ts rest : List Token} → Spelt f ts rest
-    → Spelt (ListedDoc inner x (Part f Done)) (token (Doc inner false) x false ∷ ts) rest
+pub doc : {n : ℕ} {inner : Bool} {x : List ℕ} {f : Form} {ts rest : List Token} → Spelt n f ts rest
+    → Spelt n (ListedDoc inner x (Part f Done)) (token (Doc inner false) x false ∷ ts) rest
 doc {ts = ts} {rest = rest} s = record { spells = (ts, (false, refl, refl, refl), (rest, s.spells, refl)) }
 
 -- behind a break
-gap : {g : Space} {f : Form} {ts rest : List Token} → Spelt f ts rest → Spelt (Brk g f) ts rest
+pub gap : {n : ℕ} {g : Space} {f : Form} {ts rest : List Token} → Spelt n f ts rest → Spelt n (Brk g f) ts rest
 gap s = record { spells = s.spells }
 
-empty : {d : Delim} {f : Form} {ts rest : List Token} → Spelt f ts rest
-    → Spelt (Piece (opener d ∷ closer d ∷ []) (Part f Done)) (told_of (opens d) ∷ told_of (closes d) ∷ ts) rest
-empty {d} {ts = ts} {rest = rest} s = record {
+-- a fixed token
+pub fixed : {n : ℕ} {k : Kind} {x : List ℕ} {j : Bool} {f : Form} {ts rest : List Token} → Spelt n f ts rest
+    → Spelt n (Piece (Fixed k x ∷ []) f) (token k x j ∷ ts) rest
+fixed {ts = ts} s = record { spells = (ts, (ts, (refl, refl, refl), refl), s.spells) }
+
+pub pieces : {n : ℕ} {bits : List Bit} {f : Form} {ts mid rest : List Token} → AreBits bits ts mid → Spelt n f mid rest
+    → Spelt n (Piece bits f) ts rest
+pieces {mid = mid} p s = record { spells = (mid, p, s.spells) }
+
+pub leaf : {n : ℕ} {k : Kind} {x : List ℕ} {j : Bool} {f : Form} {ts rest : List Token} → Spelt n f ts rest
+    → Spelt n (Leaf k x f) (token k x j ∷ ts) rest
+leaf {ts = ts} s = record { spells = (ts, (refl, refl, refl), s.spells) }
+
+-- a group, and what follows it
+pub empty_before : {n : ℕ} {d : Delim} {f : Form} {ts rest : List Token} → Spelt n f ts rest
+    → Spelt n (Piece (opener d ∷ closer d ∷ []) f) (told_of (opens d) ∷ told_of (closes d) ∷ ts) rest
+empty_before {d = d} {ts = ts} s = record {
   spells = (
     ts,
     (told_of (closes d) ∷ ts, (refl, refl, refl), (ts, (refl, refl, refl), refl)),
-    (rest, s.spells, refl),
+    s.spells,
   );
 }
 
-group : {d : Delim} {g h : Space} {i f : Form} {ts more rest : List Token}
-    → Spelt i ts (told_of (closes d) ∷ more) → Spelt f more rest
-    → Spelt (Group true 4 (ListedToken (Opener d) (opening d ∷ []) false
-    (Brk g (Group false 0 i (Brk h (ListedToken (Closer d) (closing d ∷ []) false Done))))) (Part f Done))
+pub group_before : {n : ℕ} {d : Delim} {g h : Space} {i f : Form} {ts more rest : List Token}
+    → Spelt n i ts (told_of (closes d) ∷ more) → Spelt n f more rest
+    → Spelt n (Group true 4 (Piece (opener d ∷ []) (Brk g (Group false 0 i (Brk h (Piece (closer d ∷ []) Done))))) f)
     (told_of (opens d) ∷ ts) rest
-group {d} {ts = ts} {more = more} {rest = rest} i s = record {
+group_before {d = d} {ts = ts} {more = more} i s = record {
   spells = (
     more,
-    (ts, (refl, refl, refl, refl), (told_of (closes d) ∷ more, i.spells, (more, (refl, refl, refl, refl), refl))),
-    (rest, s.spells, refl),
+    (
+      ts,
+      (ts, (refl, refl, refl), refl),
+      (told_of (closes d) ∷ more, i.spells, (more, (more, (refl, refl, refl), refl), refl)),
+    ),
+    s.spells,
   );
 }
 
-list : {i : Form} {ts : List Token} → Spelt i ts [] → Spelt (Group false 4 i Done) ts []
-list s = record { spells = ([], s.spells, refl) }
+-- the same within a list
+pub empty : {n : ℕ} {d : Delim} {f : Form} {ts rest : List Token} → Spelt n f ts rest
+    → Spelt n (Piece (opener d ∷ closer d ∷ []) (Part f Done)) (told_of (opens d) ∷ told_of (closes d) ∷ ts) rest
+empty s = empty_before (part s end)
 
-list_line : {g : Space} {i : Form} {ts : List Token} → Spelt i ts [] → Spelt (Group false 4 i (Brk g Done)) ts []
-list_line s = record { spells = ([], s.spells, refl) }
+pub group : {n : ℕ} {d : Delim} {g h : Space} {i f : Form} {ts more rest : List Token}
+    → Spelt n i ts (told_of (closes d) ∷ more) → Spelt n f more rest
+    → Spelt n (Group true 4 (Piece (opener d ∷ []) (Brk g (Group false 0 i (Brk h (Piece (closer d ∷ []) Done)))))
+    (Part f Done)) (told_of (opens d) ∷ ts) rest
+group i s = group_before i (part s end)
+
+-- a whole list
+pub list : {n : ℕ} {i : Form} {ts rest : List Token} → Spelt n i ts rest → Spelt n (Group false 4 i Done) ts rest
+list {rest = rest} s = record { spells = (rest, s.spells, refl) }
+
+list_line : {n : ℕ} {g : Space} {i : Form} {ts rest : List Token} → Spelt n i ts rest
+    → Spelt n (Group false 4 i (Brk g Done)) ts rest
+list_line {rest = rest} s = record { spells = (rest, s.spells, refl) }
 
 -- ---- the table, row by row
 
@@ -241,6 +281,16 @@ laid_9 = refl
 spelt_9 : IsSpelt row_9
 spelt_9 = list (next (next (next (next end))))
 
+-- What follows `::` is glued where it is a word.
+abbrev row_9_group : List Listed
+row_9_group = a ∷ joint (codes ":") ∷ mark (codes ":") ∷ opens Brace ∷ b ∷ closes Brace ∷ []
+
+laid_9_group : laid row_9_group ≡ codes "a:: { b }"
+laid_9_group = refl
+
+spelt_9_group : IsSpelt row_9_group
+spelt_9_group = list (next (next (next (gap (group (next end) end)))))
+
 abbrev row_10 : List Listed
 row_10 = mark (codes "$") ∷ opens Paren ∷ a ∷ closes Paren ∷ []
 
@@ -268,6 +318,16 @@ laid_12 = refl
 
 spelt_12 : IsSpelt row_12
 spelt_12 = list (next (next (gap (next (gap (next (next (gap (next (next end))))))))))
+
+-- behind a joint one, and behind a group
+abbrev row_12_operator : List Listed
+row_12_operator = opens Paren ∷ a ∷ closes Paren ∷ mark (codes "-") ∷ a ∷ joint (codes "&") ∷ mark (codes "&") ∷ b ∷ []
+
+laid_12_operator : laid row_12_operator ≡ codes "(a) - a && b"
+laid_12_operator = refl
+
+spelt_12_operator : IsSpelt row_12_operator
+spelt_12_operator = list (group (next end) (gap (next (gap (next (gap (next (next (gap (next end))))))))))
 
 -- the turbofish, and a comparison
 abbrev row_13 : List Listed
@@ -297,3 +357,49 @@ laid_15 = refl
 
 spelt_15 : IsSpelt row_15
 spelt_15 = list (next (gap (next (gap (group (next end) (gap (next end)))))))
+
+-- ---- which lists some text lexes to, by the test
+
+a_starts : starts_word 97 ≡ true
+a_starts = ascii_starts 97 (omega arith)
+
+b_starts : starts_word 98 ≡ true
+b_starts = ascii_starts 98 (omega arith)
+
+no_word : in_word 46 ≡ false
+no_word = ascii_in_word 46 (omega arith)
+
+listed_turbofish : is_token_list row_13 ≡ true
+unfolding is_utf8 chars encode had has_form may_precede
+listed_turbofish = rw (a_starts, b_starts) refl
+
+-- a joint `+` before what is no punctuation
+unlisted_plus : is_token_list (joint (codes "+") ∷ a ∷ []) ≡ false
+unfolding is_utf8 chars encode had has_form may_precede
+unlisted_plus = refl
+
+-- No `,` is joint.
+unlisted_comma : is_token_list (joint (codes ",") ∷ mark (codes "+") ∷ []) ≡ false
+unfolding is_utf8 chars encode had has_form may_precede
+unlisted_comma = refl
+
+unlisted_comment : is_token_list (joint (codes "/") ∷ mark (codes "*") ∷ []) ≡ false
+unfolding is_utf8 chars encode had has_form may_precede
+unlisted_comment = refl
+
+unlisted_end : is_token_list (joint (codes "+") ∷ []) ≡ false
+unfolding is_utf8 chars encode had has_form may_precede
+unlisted_end = refl
+
+unlisted_group : is_token_list (opens Paren ∷ a ∷ []) ≡ false
+unfolding is_utf8 chars encode had has_form may_precede
+unlisted_group = rw a_starts refl
+
+-- A Float may stand behind `..`, and behind a point none does.
+listed_range : is_token_list (joint (codes ".") ∷ mark (codes ".") ∷ listed.Token Float (codes "1.2") false ∷ []) ≡ true
+unfolding is_utf8 chars encode had has_form may_precede
+listed_range = refl
+
+unlisted_point : is_token_list (mark (codes ".") ∷ listed.Token Float (codes "1.5") false ∷ []) ≡ false
+unfolding is_utf8 chars encode had has_form may_precede
+unlisted_point = rw no_word refl

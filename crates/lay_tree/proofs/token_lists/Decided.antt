@@ -15,7 +15,7 @@ use Rattle.lay_tree.specs.declared.token.Listed.TheVariants as listed
 use Rattle.lay_tree.proofs.token_lists.Balance.{balanced_listed}
 use Rattle.lay_tree.proofs.token_lists.FromText.{loose, text_row}
 
-listed_token : (k : Kind) (text : List ℕ) (joint : Bool) → is_doc_kind k ≡ false → (is_punct k ≡ false → joint ≡ false)
+pub listed_token : (k : Kind) (text : List ℕ) (joint : Bool) → is_doc_kind k ≡ false → (is_punct k ≡ false → joint ≡ false)
     → listed_by k text joint ≡ listed.Token k text joint
 listed_token Punct text joint n q = refl
 listed_token (Doc inner block) text joint n q = cc

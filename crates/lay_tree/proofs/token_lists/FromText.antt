@@ -6,6 +6,7 @@ use Rattle.std.specs.List.{list_all, list_any}
 use Rattle.std.specs.Str.{chars, encode_utf8_all, is_utf8, bytes_eq}
 use Rattle.std.proofs.lemmas.Bool.{and_parts, and_from, cases_Bool, both_ways, eqb-true, ltb-true, not-true}
 use Rattle.std.proofs.lemmas.List.{map-append}
+use Rattle.std.proofs.lemmas.List.Folds.{list_all-append}
 use Rattle.std.proofs.lemmas.Slice.Eq.{bytes_eq-Decides}
 use Rattle.std.proofs.lemmas.Str.{chars-encodes, encode_ascii, scalars-chars}
 use lib.Utf8.{scalars}
@@ -23,12 +24,16 @@ use Rattle.lay_form.specs.Pieces.{is_text_of}
 use Rattle.lay_tree.specs.tokens.Lexed.{is_had, is_joinable, may_join, fits, ends_apart}
 use Rattle.lay_tree.specs.tokens.Listing.{listed_by, as_listed}
 use Rattle.lay_tree.specs.tokens.Pairs.{Neighbour, Nothing, Single, is_mark, is_joint_mark, is_joint_neighbour, is_punct_neighbour, is_index_place}
-use Rattle.lay_tree.specs.reader.Exact.{InText}
+use Rattle.lay_tree.specs.reader.Exact.{is_loose, InText}
 use Rattle.lay_tree.specs.declared.token.Listed.{Listed}
 use Rattle.lay_tree.proofs.LexedPieces.{had_form, raw_again, piece_text}
 use Rattle.lay_tree.proofs.Scalars.{scalars_drop, text_utf8}
 
 -- ---- a piece that is had is had where nothing follows
+
+and_false : (b : Bool) → b && false ≡ false
+and_false true = refl
+and_false false = refl
 
 stops : (bare : Bool) → literal_may_stop bare [] ≡ true
 stops true = refl
@@ -41,20 +46,12 @@ last_may RawIdent x = refl
 last_may Underscore x = refl
 last_may Lifetime x = refl
 last_may Int x = ap not (and_false (is_bare_int x))
-  where
-    and_false : (b : Bool) → b && false ≡ false
-    and_false true = refl
-    and_false false = refl
 last_may Float x = either (ends_in_point x)
   where
     either : (b : Bool) → cond b true true ≡ true
     either true = refl
     either false = refl
 last_may Punct x = ap not (and_false (begins (λ c. c == 47) x))
-  where
-    and_false : (b : Bool) → b && false ≡ false
-    and_false true = refl
-    and_false false = refl
 last_may (Opener d) x = refl
 last_may (Closer d) x = refl
 last_may (Doc inner true) x = refl
@@ -74,10 +71,6 @@ digits_end (c ∷ x) h = let q = and_parts (is_ascii_digit c) _ h in
 no_float : (x : List ℕ) → list_all is_ascii_digit x ≡ true → is_float x ≡ false
 no_float x h = ap (λ r. begins is_ascii_digit x && is_decimal (base_of x) && is_float_tail r) (digits_end x h)
     ∙ and_false (begins is_ascii_digit x && is_decimal (base_of x))
-  where
-    and_false : (b : Bool) → b && false ≡ false
-    and_false true = refl
-    and_false false = refl
 
 no_number : (k : Kind) (x y : List ℕ) → is_number_kind k ≡ true → list_all is_ascii_digit x ≡ true
     → begins in_word y ≡ true → has_form k x && may_precede k x y ≡ false
@@ -383,10 +376,21 @@ nothing_before (q ∷ qs) = ((λ joint e. cc), (λ d e. cc))
 at_front : (ps : List Part) → Stands Nothing Nothing Other ps
 at_front ps = record { place = refl; point = refl; next = nothing_before ps }
 
+parts_loose : (ps : List Part) (at : ℕ) → list_all is_loose (tokens_from at ps) ≡ true
+parts_loose [] at = refl
+parts_loose (p ∷ ps) at =
+    and_from (is_punct p.kind || not (lexed.is_joint p ps)) _
+    (one (is_punct p.kind) (lexed.is_joint p ps) (loose p ps)) (parts_loose ps ((at + size p.gap) + size p.piece))
+  where
+    one : (a j : Bool) → (a ≡ false → j ≡ false) → a || not j ≡ true
+    one true j h = refl
+    one false j h = ap not (h refl)
+
 -- The tokens of a text fit, and the last isn't joint.
 pub record Row (ts : List Token) : Type 0 where
   pub fit : fits Nothing Nothing (map as_listed ts) ≡ true
   pub apart : ends_apart Nothing (map as_listed ts) ≡ true
+  pub loose : list_all is_loose ts ≡ true
 
 pub text_row : (bytes : List ℕ) (start : ℕ) (tokens : List Token) → IsUtf8 (drop start bytes) → Lexes bytes start tokens
     → Row tokens
@@ -397,6 +401,7 @@ text_row bytes start tokens u l =
           ∙ parts_fit Nothing Nothing Other l.0 l.1 start l.2.fit fine (at_front l.0);
       apart = ap (λ ts. ends_apart Nothing (map as_listed ts)) l.3
           ∙ parts_end Nothing Other l.0 l.1 start l.2.fit (nothing_before l.0);
+      loose = ap (list_all is_loose) l.3 ∙ parts_loose l.0 start;
     }
 
 -- ---- a part of the tokens
@@ -431,4 +436,8 @@ in_text bytes start before tokens behind u l =
     (ap (fits Nothing Nothing) (sym (map-append as_listed before (tokens ++ behind))) ∙ row.fit) in
     let b = two_rows a.before_back a.last_front (map as_listed tokens) (map as_listed behind)
     (ap (fits a.before_back a.last_front) (sym (map-append as_listed tokens behind)) ∙ a.back) in
-    record { before = a.before_back; last = a.last_front; fit = b.front }
+    let c = and_parts (list_all is_loose before) (list_all is_loose (tokens ++ behind))
+    (sym (list_all-append is_loose before (tokens ++ behind)) ∙ row.loose) in
+    let d = and_parts (list_all is_loose tokens) (list_all is_loose behind)
+    (sym (list_all-append is_loose tokens behind) ∙ c.1) in
+    record { before = a.before_back; last = a.last_front; fit = b.front; loose = d.0 }

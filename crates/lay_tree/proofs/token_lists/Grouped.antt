@@ -179,7 +179,7 @@ delimiter (Closer d) text joint place h j =
 delimiter _ text joint place h j = tt
 
 -- No delimiter is joint.
-abbrev is_loose : Listed → Bool
+abbrev pub is_loose : Listed → Bool
 is_loose t = not (is_joint_neighbour (Single t)) || is_punct (kind_of t)
 
 loose_delimiter : (t : Listed) (place : Bool) → is_had place t ≡ true → is_loose t ≡ true → IsDelimiter (kind_of t) t
@@ -210,7 +210,7 @@ loose_delimiters before last (u ∷ us) f l =
     )
 
 -- A token that is joint is punctuation, since one more follows it and both are joined.
-row_loose : (before last : Neighbour) (us : List Listed) → fits before last us ≡ true → ends_apart last us ≡ true
+pub row_loose : (before last : Neighbour) (us : List Listed) → fits before last us ≡ true → ends_apart last us ≡ true
     → list_all is_loose us ≡ true
 row_loose before last [] f e = refl
 row_loose before last (u ∷ us) f e =

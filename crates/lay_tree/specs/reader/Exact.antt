@@ -1,16 +1,24 @@
 -- What is proved of readings: a node is read exactly where it stands at the front of the tokens.
-use Rattle.std.specs.Prelude.{ℕ, ◌≡◌, ◌≤◌, drop, map, Some, IsTrue}
+use Rattle.std.specs.Prelude.{ℕ, ◌≡◌, ◌≤◌, Bool, ◌||◌, not, drop, map, Some, IsTrue}
+use Rattle.std.specs.List.{list_all}
+use Rattle.lay_token.specs.Lexes.{is_punct}
+use Rattle.lay_token.specs.declared.token.Token.{Token}
 use Rattle.lay_tree.specs.Ahead.{Tokens}
 use Rattle.lay_tree.specs.reader.Loops.{Got, Read, ◌>>=◌}
 use Rattle.lay_tree.specs.tokens.Lexed.{fits}
 use Rattle.lay_tree.specs.tokens.Listing.{as_listed}
 use Rattle.lay_tree.specs.tokens.Pairs.{Neighbour}
 
+-- No token but punctuation is joint.
+abbrev pub is_loose : Token → Bool
+is_loose t = is_punct t.kind || not t.joint
+
 -- The tokens stand in a row in what some text lexes to, behind two others.
 pub record InText (ts : Tokens) : Type 0 where
   pub before : Neighbour
   pub last : Neighbour
   pub fit : IsTrue (fits before last (map as_listed ts))
+  pub loose : IsTrue (list_all is_loose ts)
 
 -- What is read within a budget stands at the front at the depth that it needs, and what stands there at a depth is read
 -- within it. So at most one node and one count of tokens fit.

@@ -1,5 +1,5 @@
 -- Reading token lists and groups.
-use Rattle.std.specs.Prelude.{Bool, true, false, if◌then◌else◌, List, [], ◌∷◌, map, Option, Some, None}
+use Rattle.std.specs.Prelude.{Bool, false, if◌then◌else◌, List, [], ◌∷◌, map, Some, None}
 use Rattle.std.specs.List.{list_all}
 use Rattle.lay_token.specs.Delimiters.{is_closer}
 use Rattle.lay_token.specs.declared.token.Delim.{Delim}

@@ -1,5 +1,5 @@
 -- Which token lists some text lexes to.
-use Rattle.std.specs.Prelude.{ℕ, ◌≡◌, Bool, true, false, List, [], ◌∷◌, ◌++◌, ◌&&◌, ◌||◌, not, codes, IsTrue, IsFalse, IsUtf8}
+use Rattle.std.specs.Prelude.{ℕ, ◌≡◌, Bool, true, List, [], ◌∷◌, ◌++◌, ◌&&◌, ◌||◌, not, codes, IsTrue, IsFalse, IsUtf8}
 use Rattle.std.specs.List.{list_all}
 use Rattle.std.specs.Str.{chars, is_utf8}
 use Rattle.lay_token.specs.Delimiters.{Balanced}
