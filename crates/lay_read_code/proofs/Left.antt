@@ -1,5 +1,5 @@
 -- What reading of use trees and items leaves: the tokens behind those that are read.
-use Rattle.std.proofs.Common.{ℕ, zero, suc, Bool, true, false, List, [], ◌∷◌, Option, Some, None, drop, codes, ◌≡◌, arith}
+use Rattle.std.proofs.Common.{ℕ, zero, suc, true, false, [], ◌∷◌, Option, Some, None, drop, codes, arith}
 use Rattle.lay_token.specs.Operators.{is_op}
 use Rattle.lay_token.specs.declared.token.Delim.TheVariants.{Brace}
 use Rattle.lay_token.specs.declared.token.Kind.{Kind}
@@ -10,7 +10,7 @@ use Rattle.lay_tree.specs.Follow.{begins_there, OfColons}
 use Rattle.lay_tree.specs.reader.Attr.{attributes}
 use Rattle.lay_tree.specs.reader.Call.{call, behind_end}
 use Rattle.lay_tree.specs.reader.Item.{more_items, items_by, struct_item, module_by, import_by, begins_rules, rules_item, call_item, kind_by, item_by, item_at}
-use Rattle.lay_tree.specs.reader.Loops.{Got, Read, ◌>>=◌, passed, elements}
+use Rattle.lay_tree.specs.reader.Loops.{Read, ◌>>=◌, passed, elements}
 use Rattle.lay_tree.specs.reader.Tokens.{group}
 use Rattle.lay_tree.specs.reader.Use.{other_name, renamed, use_word, use_group, use_end_by, ended, use_by, use_at}
 use Rattle.lay_tree.specs.reader.Words.{name_by, name, word, global, path_words}

@@ -22,7 +22,11 @@ use std::alloc::Global;
 
 /// Items within a depth, up to where they end.
 #[cycle(items)]
-pub fn read_items(alloc: Global, at: &mut Cursor<'_>, depth: u32) -> Result<Found<List<Item>>, ReadNone>
+pub fn read_items(
+    alloc: Global,
+    at: &mut Cursor<'_>,
+    depth: u32,
+) -> Result<Found<List<Item>>, ReadNone>
     requires { AreLexed at.old }
     ensures read { IsHeld AreFound (reader.items_by (reader.item_at depth) at.old) result at.new }
     ensures within { IfOk result (λ found. found.need ≤ depth) }

@@ -1,5 +1,5 @@
 -- One step of a reader, from what the readers within it give.
-use Rattle.std.proofs.Common.{◌≡◌, ℕ, Bool, true, false, ◌&&◌, if◌then◌else◌, List, [], ◌∷◌, ◌++◌, map, drop, codes, encode_utf8_all, Option, Some, None, Result, not, refl, sym, ap, ◌∙◌}
+use Rattle.std.proofs.Common.{◌≡◌, ℕ, Bool, true, false, ◌&&◌, if◌then◌else◌, List, [], ◌∷◌, ◌++◌, map, drop, codes, encode_utf8_all, Option, Some, None, Result, not, refl, sym, ap, ◌∙◌, Ok, Err}
 use Rattle.std.specs.Str.{chars}
 use Rattle.std.proofs.lemmas.Bool.{false≢true}
 use Rattle.lay_token.specs.Delimiters.{is_closer}
@@ -14,6 +14,7 @@ use Rattle.lay_tree.specs.Ahead as ahead
 use Rattle.lay_tree.specs.Ahead.{Tokens, first, tail, closes}
 use Rattle.lay_tree.specs.nodes.Attr.{is_doc_path, is_empty, string_of}
 use Rattle.lay_tree.specs.reader.Attr.{begins_group, value, grouped, meta_input, doc_or, made}
+use Rattle.lay_tree.specs.reader.Exact.{Exact, needless}
 use Rattle.lay_tree.specs.reader.Loops.{Got, ◌>>=◌}
 use Rattle.lay_tree.specs.reader.Tokens.{tokens, group}
 use Rattle.lay_tree.specs.tokens.Lexed.{may_be_laid}
@@ -26,9 +27,10 @@ use Rattle.lay_tree.specs.declared.attr.MetaPath.{MetaPath}
 use Rattle.lay_tree.specs.declared.token.Listed.{Listed}
 use Rattle.lay_tree.specs.declared.token.Listed.TheVariants as listed
 use Rattle.lay_tree.specs.declared.tokens.Group.{Group}
-use Rattle.lay_read_types.specs.Answers.{IsGot, Stopped, closed, meta_rest, value_behind, meta_closed, doc_text, front_doc, doc_value}
+use Rattle.lay_read_types.specs.Answers.{AreLexed, IsGot, IsRead, Stopped, closed, meta_rest, value_behind, meta_closed, doc_text, front_doc, doc_value}
 use Rattle.lay_read_types.specs.declared.stop.ReadNone.{ReadNone}
 use Rattle.lay_read_types.specs.declared.stop.ReadNone.TheVariants.{NoReading, NoMemory}
+use Rattle.lay_read_types.proofs.Lexed.{lexed_in_text}
 use Rattle.lay_read_types.proofs.Lists.{some_is, ListRead, list_read, tokens_end}
 
 -- ---- what stops a reader
@@ -39,6 +41,22 @@ lost inner outer NoMemory h f = tt
 
 pub got_by : {A : Type 0} (a b : Got A) (r : Result A ReadNone) (left : Tokens) → a ≡ b → IsGot b r left → IsGot a r left
 got_by a b r left e h = rw e h
+
+-- ---- what is read exactly
+
+module _ {A : Type 0} (one : Tokens → Got A) (Front : A → Tokens → ℕ → ℕ → Type 0) (exact : Exact (needless one) Front)
+    (ts : Tokens) (l : AreLexed ts) (fork : Tokens) (e : fork ≡ ts) where
+  pub node_read : (node : A) (left : Tokens) → one fork ≡ Some (node, left) → IsRead Front ts (Ok node) left
+  node_read node left h =
+      let here : one ts ≡ Some (node, left) = ap one (sym e) ∙ h in
+      let s = exact.sound 0 ts node 0 left (lexed_in_text ts l) (rw here refl) in
+      (s.0, sym s.1, s.3)
+
+  pub none_read : (none : ReadNone) → Stopped (one fork) none → IsRead Front ts (Err none) ts
+  none_read NoReading h =
+      let here : one ts ≡ None = ap one (sym e) ∙ h in
+      (refl, λ node n f. let c = exact.complete node ts n 0 f in let nothing : needless one 0 ts ≡ None = rw here refl in absurd (cc (c.2)))
+  none_read NoMemory h = refl
 
 -- ---- what an attribute is given
 

@@ -47,7 +47,14 @@ abbrev pub IsGot : {A : Type 0} → Got A → Result A ReadNone → Tokens → T
 IsGot got (Ok a) left = got ≡ Some (a, left)
 IsGot got (Err none) left = Stopped got none
 
--- The same where a reader holds in its own way what reading gives.
+-- What a reader of a node answers. Where it reads one, the node stands at the front and the cursor moves past it; where
+-- it doesn't, none stands there, or memory ran out, and the cursor stays.
+abbrev pub IsRead : {A : Type 0} → (A → Tokens → ℕ → ℕ → Type 0) → Tokens → Result A ReadNone → Tokens → Type 0
+IsRead Front ahead (Ok node) left = (n : ℕ) × (left ≡ drop n ahead) × Front node ahead n 0
+IsRead {A} Front ahead (Err NoReading) left = (left ≡ ahead) × ((node : A) (n : ℕ) → Front node ahead n 0 → ⊥)
+IsRead Front ahead (Err NoMemory) left = left ≡ ahead
+
+-- What a reader holds in its own way is what reading gives.
 abbrev pub IsHeld : {A B : Type 0} → (A → B → Type 0) → Got A → Result B ReadNone → Tokens → Type 0
 IsHeld {A} Holds got (Ok b) left = (a : A) × (got ≡ Some (a, left)) × Holds a b
 IsHeld Holds got (Err none) left = Stopped got none

@@ -5,9 +5,11 @@ ghost use Rattle.lay_cook.specs.Cooking.{IsString};
 ghost use Rattle.lay_token.specs.Value.{value_of};
 ghost use Rattle.lay_token.specs.declared.token.Delim.TheVariants.{Bracket};
 ghost use Rattle.lay_tree.specs.Ahead.{closes, first, tail};
-ghost use Rattle.lay_tree.specs.nodes.Attr.{is_doc_path};
+ghost use Rattle.lay_tree.specs.nodes.Attr.{about_attr, is_doc_path};
+ghost use Rattle.lay_tree.specs.nodes.Facts.{Front};
 ghost use Rattle.lay_tree.specs.reader.Attr as reader;
-ghost use Rattle.lay_read_types.specs.Answers.{AreLexed, IsGot, IsMade, closed, doc_text, doc_value, front_doc, meta_closed, meta_rest, value_behind};
+ghost use Rattle.lay_tree.specs.declared.attr.Attr.{Attr};
+ghost use Rattle.lay_read_types.specs.Answers.{AreLexed, IsGot, IsMade, IsRead, closed, doc_text, doc_value, front_doc, meta_closed, meta_rest, value_behind};
 
 use crate::front::{
     is_at_closer, is_at_mark, is_at_opener, pass, pass_two, takes_closer, takes_keyword,
@@ -37,7 +39,8 @@ pub fn read_attrs(alloc: Global, at: &mut Cursor<'_>, inner: bool) -> Result<Lis
 /// The attribute at the front, an inner one or an outer one. Where there is none the cursor stays.
 pub fn read_attr(alloc: Global, at: &mut Cursor<'_>, inner: bool) -> Result<Attr, ReadNone>
     requires { AreLexed at.old }
-    ensures { IsGot (reader.attribute inner at.old) result at.new }
+    ensures got { IsGot (reader.attribute inner at.old) result at.new }
+    ensures read { IsRead (λ (attr : Attr). Front (about_attr inner attr)) at.old result at.new }
 {
     let mut ahead = at.fork();
     let attr = attr_ahead(alloc, &mut ahead, inner)?;

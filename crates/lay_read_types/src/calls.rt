@@ -1,7 +1,10 @@
 //! Macro calls.
 ghost use Rattle.std.specs.Prelude.{◌≡◌, if◌then◌else◌, Some, None};
 ghost use Rattle.lay_tree.specs.reader.Call as reader;
-ghost use Rattle.lay_read_types.specs.Answers.{AreLexed, IsGot};
+ghost use Rattle.lay_tree.specs.nodes.Call.{about_call};
+ghost use Rattle.lay_tree.specs.nodes.Facts.{Front};
+ghost use Rattle.lay_tree.specs.declared.tokens.MacroCall.{MacroCall};
+ghost use Rattle.lay_read_types.specs.Answers.{AreLexed, IsGot, IsRead};
 
 use crate::front::{takes_mark, takes_op};
 use crate::paths::read_path;
@@ -15,7 +18,8 @@ use std::alloc::Global;
 /// The macro call at the front. Where there is none the cursor stays.
 pub fn read_call(alloc: Global, at: &mut Cursor<'_>) -> Result<MacroCall, ReadNone>
     requires { AreLexed at.old }
-    ensures { IsGot (reader.call at.old) result at.new }
+    ensures got { IsGot (reader.call at.old) result at.new }
+    ensures read { IsRead (λ (call : MacroCall). Front (about_call call)) at.old result at.new }
 {
     let mut ahead = at.fork();
     let call = call_ahead(alloc, &mut ahead)?;
