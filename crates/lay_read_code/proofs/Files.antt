@@ -21,8 +21,10 @@ pieces_parts : (s t : List Token) → are_texts (s ++ t) ≡ true → (are_texts
 pieces_parts s t h =
     and_parts (are_texts s) (are_texts t) (sym (list_all-append (λ (u : Token). is_text_of u.kind u.text) s t) ∙ h)
 
-pub file_spelled : (tokens : List Token) (shebang : Option (List ℕ)) (attrs : List Attr) (items : List Item) → AreLexed tokens → IsTrue (is_good_shebang shebang)
-    → whole tokens ≡ Some (attrs, items) → SpellsFile (record { shebang = shebang; attrs = attrs; items = items }) tokens
+pub file_spelled : (tokens : List Token) (shebang : Option (List ℕ)) (attrs : List Attr) (items : List Item)
+    → AreLexed tokens → IsTrue (is_good_shebang shebang)
+    → whole tokens ≡ Some (attrs, items) → SpellsFile (record { shebang = shebang; attrs = attrs; items = items })
+    tokens
 file_spelled tokens shebang attrs items l good h =
     let file : File = record { shebang = shebang; attrs = attrs; items = items } in
     let sound = whole_sound tokens attrs items (lexed_in_text tokens l) h file refl refl in

@@ -22,7 +22,8 @@ use Rattle.lay_read_types.proofs.Left.{Leaves, unread, dropped, one_read, furthe
 
 -- ---- use trees
 
-other_kind_left : (kind : Kind) (t : Token) (ts : Tokens) → Leaves 1 (record t { kind = kind } ∷ ts) (other_name (record t { kind = kind } ∷ ts))
+other_kind_left : (kind : Kind) (t : Token) (ts : Tokens) → Leaves 1 (record t { kind = kind } ∷ ts)
+    (other_name (record t { kind = kind } ∷ ts))
 unfolding other_name
 other_kind_left Underscore t ts = one_read (record t { kind = Underscore }) ts
 other_kind_left kind t ts = by_name (name_by kind t.text)
@@ -44,7 +45,8 @@ renamed_left ts = choice 0 ts (first (is_keyword (codes "as")) ts) _ _
     (unread ts)
 
 use_word_left : (ts : Tokens) → Leaves 1 ts (use_word ts)
-use_word_left ts = chain 1 1 0 ts (word ts) _ (omega arith) (word_left ts) (λ w. chain 0 0 0 w.1 (renamed w.1) _ (omega arith) (renamed_left w.1) (λ r. unread r.1))
+use_word_left ts = chain 1 1 0 ts (word ts) _ (omega arith) (word_left ts)
+    (λ w. chain 0 0 0 w.1 (renamed w.1) _ (omega arith) (renamed_left w.1) (λ r. unread r.1))
 
 ended_left : (tree : UseTree × ℕ) (ts : Tokens) → Leaves 0 ts (ended tree ts)
 ended_left tree ts = choice 0 ts (begins_there OfColons ts) None _ (λ h. tt) (unread ts)
@@ -52,7 +54,8 @@ ended_left tree ts = choice 0 ts (begins_there OfColons ts) None _ (λ h. tt) (u
 module _ (within : Tokens → Read UseTree) (within_left : (ts : Tokens) → Leaves 1 ts (within ts)) where
   use_group_left : (ts : Tokens) → Leaves 1 ts (use_group within ts)
   use_group_left ts =
-      chain 1 1 0 ts (elements (closes Brace) within ts) _ (omega arith) (elements_left within within_left (closes Brace) ts) (λ trees. unread trees.1)
+      chain 1 1 0 ts (elements (closes Brace) within ts) _ (omega arith)
+      (elements_left within within_left (closes Brace) ts) (λ trees. unread trees.1)
 
   use_end_left : (ts : Tokens) → Leaves 1 ts (use_end_by within ts)
   use_end_left ts = choice 1 ts (first (opens Brace) ts) _ _
@@ -74,12 +77,15 @@ use_left (suc depth) ts = use_by_left (use_at depth) (use_left depth) ts
 struct_left : (ts : Tokens) → Leaves 1 ts (struct_item ts)
 unfolding struct_item
 struct_left ts = chain 1 1 1 ts (name ts) _ (omega arith) (name_left ts)
-    (λ n. chain_passed 1 1 0 n.1 (passed (is_mark (codes ";")) n.1) _ (omega arith) (passed_left (is_mark (codes ";")) n.1) unread)
+    (λ n. chain_passed 1 1 0 n.1 (passed (is_mark (codes ";")) n.1) _ (omega arith)
+    (passed_left (is_mark (codes ";")) n.1) unread)
 
-import_left : (tree : Tokens → Read UseTree) → ((ts : Tokens) → Leaves 1 ts (tree ts)) → (ts : Tokens) → Leaves 1 ts (import_by tree ts)
+import_left : (tree : Tokens → Read UseTree) → ((ts : Tokens) → Leaves 1 ts (tree ts)) → (ts : Tokens)
+    → Leaves 1 ts (import_by tree ts)
 unfolding import_by
 import_left tree tree_left ts = chain 1 1 1 ts (tree ts) _ (omega arith) (tree_left ts)
-    (λ t. chain_passed 1 1 0 t.1 (passed (is_mark (codes ";")) t.1) _ (omega arith) (passed_left (is_mark (codes ";")) t.1) unread)
+    (λ t. chain_passed 1 1 0 t.1 (passed (is_mark (codes ";")) t.1) _ (omega arith)
+    (passed_left (is_mark (codes ";")) t.1) unread)
 
 rules_left : (ts : Tokens) → Leaves 1 ts (rules_item ts)
 unfolding rules_item
@@ -91,7 +97,8 @@ rules_left ts = further 1 0 1 ts (drop 2 ts) _ (omega arith) (dropped 2 ts)
 call_item_left : (ts : Tokens) → Leaves 1 ts (call_item ts)
 unfolding call_item
 call_item_left ts = chain 1 1 0 ts (call ts) _ (omega arith) (call_left ts)
-    (λ c. chain_passed 0 0 0 c.1 (behind_end c.0.tokens.delim c.1) _ (omega arith) (end_left c.0.tokens.delim c.1) unread)
+    (λ c. chain_passed 0 0 0 c.1 (behind_end c.0.tokens.delim c.1) _ (omega arith) (end_left c.0.tokens.delim c.1)
+    unread)
 
 module _ (within : Tokens → Read Item) (within_left : (ts : Tokens) → Leaves 1 ts (within ts)) where
   items_left : (ts : Tokens) → Leaves 0 ts (items_by within ts)
@@ -104,22 +111,27 @@ module _ (within : Tokens → Read Item) (within_left : (ts : Tokens) → Leaves
       (λ n. chain_passed 1 1 0 n.1 (passed (opens Brace) n.1) _ (omega arith) (passed_left (opens Brace) n.1)
       (λ inside. chain 0 0 0 inside (attributes true inside) _ (omega arith) (attributes_left true inside)
       (λ attrs. chain 0 0 0 attrs.1 (items_by within attrs.1) _ (omega arith) (items_left attrs.1)
-      (λ items. chain_passed 0 1 0 items.1 (passed (closes Brace) items.1) _ (omega arith) (passed_left (closes Brace) items.1) unread))))
+      (λ items. chain_passed 0 1 0 items.1 (passed (closes Brace) items.1) _ (omega arith)
+      (passed_left (closes Brace) items.1) unread))))
 
   module _ (tree : Tokens → Read UseTree) (tree_left : (ts : Tokens) → Leaves 1 ts (tree ts)) where
     kind_left : (ts : Tokens) → Leaves 1 ts (kind_by within tree ts)
     unfolding kind_by
     kind_left ts = choice 1 ts (first (is_keyword (codes "struct")) ts) _ _
-        (λ h. further 1 1 1 ts (tail ts) _ (omega arith) (first_read (is_keyword (codes "struct")) ts h) (struct_left (tail ts)))
+        (λ h. further 1 1 1 ts (tail ts) _ (omega arith) (first_read (is_keyword (codes "struct")) ts h)
+        (struct_left (tail ts)))
         (choice 1 ts (first (is_keyword (codes "mod")) ts) _ _
-        (λ h. further 1 1 1 ts (tail ts) _ (omega arith) (first_read (is_keyword (codes "mod")) ts h) (module_left (tail ts)))
+        (λ h. further 1 1 1 ts (tail ts) _ (omega arith) (first_read (is_keyword (codes "mod")) ts h)
+        (module_left (tail ts)))
         (choice 1 ts (first (is_keyword (codes "use")) ts) _ _
-        (λ h. further 1 1 1 ts (tail ts) _ (omega arith) (first_read (is_keyword (codes "use")) ts h) (import_left tree tree_left (tail ts)))
+        (λ h. further 1 1 1 ts (tail ts) _ (omega arith) (first_read (is_keyword (codes "use")) ts h)
+        (import_left tree tree_left (tail ts)))
         (choice 1 ts (begins_rules ts) _ _ (λ h. rules_left ts) (call_item_left ts))))
 
     item_by_left : (ts : Tokens) → Leaves 1 ts (item_by within tree ts)
     item_by_left ts = chain 1 0 1 ts (attributes false ts) _ (omega arith) (attributes_left false ts)
-        (λ attrs. chain 1 1 0 attrs.1 (kind_by within tree attrs.1) _ (omega arith) (kind_left attrs.1) (λ kind. unread kind.1))
+        (λ attrs. chain 1 1 0 attrs.1 (kind_by within tree attrs.1) _ (omega arith) (kind_left attrs.1)
+        (λ kind. unread kind.1))
 
 pub item_left : (depth : ℕ) (ts : Tokens) → Leaves 1 ts (item_at depth ts)
 unfolding item_at

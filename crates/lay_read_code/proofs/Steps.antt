@@ -34,17 +34,20 @@ behind_colons f false ts flag mid e g = let h : mid ≡ ts = g ∙ rw e refl in 
 -- ---- use trees
 
 name_both : (o : Option Name) (ts : Tokens)
-    → ◌≡◌ {A = Got Rename} (o >>= (λ n. Some (rename.Name n, ts))) ((o >>= (λ n. let one : Got Name = Some (n, ts) in one)) >>= (λ n. Some (rename.Name n.0, n.1)))
+    → ◌≡◌ {A = Got Rename} (o >>= (λ n. Some (rename.Name n, ts)))
+    ((o >>= (λ n. let one : Got Name = Some (n, ts) in one)) >>= (λ n. Some (rename.Name n.0, n.1)))
 name_both None ts = refl
 name_both (Some n) ts = refl
 
 other_kind : (k : Kind) (t : Token) (ts : Tokens) → is_underscore_kind k ≡ false
-    → other_name (record t { kind = k } ∷ ts) ≡ (name (record t { kind = k } ∷ ts) >>= (λ n. Some (rename.Name n.0, n.1)))
+    → other_name (record t { kind = k } ∷ ts) ≡ (name (record t { kind = k } ∷ ts)
+    >>= (λ n. Some (rename.Name n.0, n.1)))
 unfolding other_name name
 other_kind Underscore t ts h = absurd (cc)
 other_kind k t ts h = name_both (name_by k t.text) ts
 
-underscore_kind : (k : Kind) (t : Token) (ts : Tokens) → is_underscore_kind k ≡ true → other_name (record t { kind = k } ∷ ts) ≡ Some (rename.Underscore, ts)
+underscore_kind : (k : Kind) (t : Token) (ts : Tokens) → is_underscore_kind k ≡ true
+    → other_name (record t { kind = k } ∷ ts) ≡ Some (rename.Underscore, ts)
 unfolding other_name
 underscore_kind Underscore t ts h = refl
 underscore_kind _ t ts h = absurd (cc)
@@ -53,7 +56,8 @@ pub other_underscore : (ts : Tokens) → first is_underscore ts ≡ true → oth
 other_underscore [] h = absurd (cc)
 other_underscore (t ∷ ts) h = underscore_kind t.kind t ts h
 
-other_is_name : (ts : Tokens) → first is_underscore ts ≡ false → other_name ts ≡ (name ts >>= (λ n. Some (rename.Name n.0, n.1)))
+other_is_name : (ts : Tokens) → first is_underscore ts ≡ false
+    → other_name ts ≡ (name ts >>= (λ n. Some (rename.Name n.0, n.1)))
 unfolding other_name name
 other_is_name [] h = refl
 other_is_name (t ∷ ts) h = other_kind t.kind t ts h
@@ -61,14 +65,16 @@ other_is_name (t ∷ ts) h = other_kind t.kind t ts h
 pub other_none : (ts : Tokens) → first is_underscore ts ≡ false → name ts ≡ None → other_name ts ≡ None
 other_none ts h n = other_is_name ts h ∙ rw n refl
 
-pub other_some : (ts : Tokens) (one : Name) (rest : Tokens) → first is_underscore ts ≡ false → name ts ≡ Some (one, rest) → other_name ts ≡ Some (rename.Name one, rest)
+pub other_some : (ts : Tokens) (one : Name) (rest : Tokens) → first is_underscore ts ≡ false
+    → name ts ≡ Some (one, rest) → other_name ts ≡ Some (rename.Name one, rest)
 other_some ts one rest h n = other_is_name ts h ∙ rw n refl
 
 module _ (within : Tokens → Read UseTree) (ts : Tokens) where
   pub group_none : elements (closes Brace) within ts ≡ None → use_group within ts ≡ None
   group_none h = rw h refl
 
-  pub group_some : (read : List (UseTree × ℕ)) (trees : List UseTree) (need : ℕ) (rest : Tokens) → elements (closes Brace) within ts ≡ Some (read, rest)
+  pub group_some : (read : List (UseTree × ℕ)) (trees : List UseTree) (need : ℕ) (rest : Tokens)
+      → elements (closes Brace) within ts ≡ Some (read, rest)
       → nodes read ≡ trees → deepest read ≡ need → use_group within ts ≡ Some ((use_end.Group trees, need), rest)
   group_some read trees need rest h e d = rw (h, e, d) refl
 
@@ -80,23 +86,28 @@ deeper f n some = let e : n ≡ suc (n - 1) = omega arith in ap f e
 -- what a use tree is, behind the `::` that it may begin with
 abbrev use_behind : (Tokens → Read UseTree) → Bool → Tokens → Read UseTree
 use_behind within flag mid =
-    path_words mid >>= (λ p. use_end_by within p.1 >>= (λ end. ended (record { global = flag; path = p.0; end = end.0.0 }, suc end.0.1) end.1))
+    path_words mid >>= (λ p. use_end_by within p.1 >>= (λ end. ended
+    (record { global = flag; path = p.0; end = end.0.0 }, suc end.0.1) end.1))
 
-module _ (depth : ℕ) (ts : Tokens) (flag : Bool) (mid : Tokens) (some : 0 < depth) (e : flag ≡ is_op (codes "::") ts) (g : mid ≡ (if flag then drop 2 ts else ts)) where
+module _ (depth : ℕ) (ts : Tokens) (flag : Bool) (mid : Tokens) (some : 0 < depth) (e : flag ≡ is_op (codes "::") ts)
+    (g : mid ≡ (if flag then drop 2 ts else ts)) where
   use_step : use_at depth ts ≡ use_behind (use_at (depth - 1)) flag mid
   unfolding use_at
   use_step =
-      deeper (λ n. use_at n ts) depth some ∙ behind_colons (use_behind (use_at (depth - 1))) (is_op (codes "::") ts) ts flag mid e g
+      deeper (λ n. use_at n ts) depth some ∙ behind_colons (use_behind (use_at (depth - 1))) (is_op (codes "::") ts)
+      ts flag mid e g
 
   module _ (words : List Word) (behind : Tokens) (p : path_words mid ≡ Some (words, behind)) where
     pub use_none : use_end_by (use_at (depth - 1)) behind ≡ None → use_at depth ts ≡ None
     use_none h = use_step ∙ rw (p, h) refl
 
-    pub use_goes_on : (end : UseEnd) (need : ℕ) (rest : Tokens) → use_end_by (use_at (depth - 1)) behind ≡ Some ((end, need), rest) → is_op (codes "::") rest ≡ true
+    pub use_goes_on : (end : UseEnd) (need : ℕ) (rest : Tokens)
+        → use_end_by (use_at (depth - 1)) behind ≡ Some ((end, need), rest) → is_op (codes "::") rest ≡ true
         → use_at depth ts ≡ None
     use_goes_on end need rest h c = use_step ∙ rw (p, h, c) refl
 
-    pub use_some : (end : UseEnd) (need : ℕ) (rest : Tokens) → use_end_by (use_at (depth - 1)) behind ≡ Some ((end, need), rest) → is_op (codes "::") rest ≡ false
+    pub use_some : (end : UseEnd) (need : ℕ) (rest : Tokens)
+        → use_end_by (use_at (depth - 1)) behind ≡ Some ((end, need), rest) → is_op (codes "::") rest ≡ false
         → use_at depth ts ≡ Some ((record { global = flag; path = words; end = end }, need + 1), rest)
     use_some end need rest h c = use_step ∙ rw (p, h, c, add-one) refl
 
@@ -111,6 +122,7 @@ module _ (depth : ℕ) (ts : Tokens) (some : 0 < depth) where
     pub item_none : kind_by (item_at (depth - 1)) (use_at (depth - 1)) mid ≡ None → item_at depth ts ≡ None
     item_none k = item_step ∙ rw (a, k) refl
 
-    pub item_some : (kind : ItemKind) (need : ℕ) (rest : Tokens) → kind_by (item_at (depth - 1)) (use_at (depth - 1)) mid ≡ Some ((kind, need), rest)
+    pub item_some : (kind : ItemKind) (need : ℕ) (rest : Tokens)
+        → kind_by (item_at (depth - 1)) (use_at (depth - 1)) mid ≡ Some ((kind, need), rest)
         → item_at depth ts ≡ Some ((record { attrs = attrs; kind = kind }, need + 1), rest)
     item_some kind need rest k = item_step ∙ rw (a, k, add-one) refl

@@ -57,11 +57,13 @@ joined k m n ts mid rest e a b = record {
 
 -- ---- steps
 
-pub further : {A : Type 0} (k m n : ℕ) (ts mid : Tokens) (o : Got A) → k ≤ m + n → Left m ts mid → Leaves n mid o → Leaves k ts o
+pub further : {A : Type 0} (k m n : ℕ) (ts mid : Tokens) (o : Got A) → k ≤ m + n → Left m ts mid → Leaves n mid o
+    → Leaves k ts o
 further k m n ts mid None e a b = tt
 further k m n ts mid (Some got) e a b = joined k m n ts mid got.1 e a b
 
-pub passes_further : (k m n : ℕ) (ts mid : Tokens) (o : Option Tokens) → k ≤ m + n → Left m ts mid → Passes n mid o → Passes k ts o
+pub passes_further : (k m n : ℕ) (ts mid : Tokens) (o : Option Tokens) → k ≤ m + n → Left m ts mid → Passes n mid o
+    → Passes k ts o
 passes_further k m n ts mid None e a b = tt
 passes_further k m n ts mid (Some rest) e a b = joined k m n ts mid rest e a b
 
@@ -70,12 +72,14 @@ pub chain : {A B : Type 0} (k m n : ℕ) (ts : Tokens) (o : Got A) (f : A × Tok
 chain k m n ts None f e a b = tt
 chain k m n ts (Some got) f e a b = further k m n ts got.1 (f got) e a (b got)
 
-pub chain_passed : {B : Type 0} (k m n : ℕ) (ts : Tokens) (o : Option Tokens) (f : Tokens → Got B) → k ≤ m + n → Passes m ts o
+pub chain_passed : {B : Type 0} (k m n : ℕ) (ts : Tokens) (o : Option Tokens) (f : Tokens → Got B) → k ≤ m + n
+    → Passes m ts o
     → ((rest : Tokens) → Leaves n rest (f rest)) → Leaves k ts (o >>= f)
 chain_passed k m n ts None f e a b = tt
 chain_passed k m n ts (Some rest) f e a b = further k m n ts rest (f rest) e a (b rest)
 
-pub passed_twice : (k m n : ℕ) (ts : Tokens) (o : Option Tokens) (f : Tokens → Option Tokens) → k ≤ m + n → Passes m ts o
+pub passed_twice : (k m n : ℕ) (ts : Tokens) (o : Option Tokens) (f : Tokens → Option Tokens) → k ≤ m + n
+    → Passes m ts o
     → ((rest : Tokens) → Passes n rest (f rest)) → Passes k ts (o >>= f)
 passed_twice k m n ts None f e a b = tt
 passed_twice k m n ts (Some rest) f e a b = passes_further k m n ts rest (f rest) e a (b rest)
@@ -107,8 +111,10 @@ op_read op n (t ∷ ts) h = record { count = suc n; dropped = refl; fewer = omeg
 pub global_left : (ts : Tokens) → Left 0 ts (global ts).1
 global_left ts = by_test (is_op (codes "::") ts) refl
   where
-    by_test : (b : Bool) → is_op (codes "::") ts ≡ b → (let pair : Bool × Tokens = if b then (true, drop 2 ts) else (false, ts) in Left 0 ts pair.1)
-    by_test true h = joined 0 1 0 ts (drop 2 ts) (drop 2 ts) (omega arith) (op_read (codes "::") 1 ts h) (unread (drop 2 ts))
+    by_test : (b : Bool) → is_op (codes "::") ts ≡ b → (let pair : Bool × Tokens =
+        if b then (true, drop 2 ts) else (false, ts) in Left 0 ts pair.1)
+    by_test true h = joined 0 1 0 ts (drop 2 ts) (drop 2 ts) (omega arith) (op_read (codes "::") 1 ts h)
+        (unread (drop 2 ts))
     by_test false h = unread ts
 
 -- ---- loops
@@ -117,13 +123,15 @@ element_end_left : (closing : Token → Bool) (ts : Tokens) → Passes 0 ts (ele
 element_end_left closing [] = tt
 element_end_left closing (t ∷ ts) = by_test (is_mark (codes ",") t) (closing t)
   where
-    by_test : (comma close : Bool) → Passes 0 (t ∷ ts) (if comma then Some ts else (if close then Some (t ∷ ts) else None))
+    by_test : (comma close : Bool) → Passes 0 (t ∷ ts) (if comma then Some ts else
+        (if close then Some (t ∷ ts) else None))
     by_test true close = record { count = 1; dropped = refl; fewer = omega arith }
     by_test false true = unread (t ∷ ts)
     by_test false false = tt
 
 module _ {A : Type 0} (one : Tokens → Got A) (one_left : (ts : Tokens) → Leaves 1 ts (one ts)) where
-  repeat_from_left : (more : Tokens → Bool) (n : ℕ) (found : List A) (ts : Tokens) → Leaves 0 ts (repeat_from more one n found ts)
+  repeat_from_left : (more : Tokens → Bool) (n : ℕ) (found : List A) (ts : Tokens)
+      → Leaves 0 ts (repeat_from more one n found ts)
   unfolding repeat_from
   repeat_from_left more zero found ts = tt
   repeat_from_left more (suc n) found ts = choice 0 ts (more ts) _ _
@@ -134,12 +142,14 @@ module _ {A : Type 0} (one : Tokens → Got A) (one_left : (ts : Tokens) → Lea
   unfolding repeat
   repeat_left more ts = repeat_from_left more (suc (length ts)) [] ts
 
-  elements_from_left : (closing : Token → Bool) (n : ℕ) (found : List A) (ts : Tokens) → Leaves 1 ts (elements_from closing one n found ts)
+  elements_from_left : (closing : Token → Bool) (n : ℕ) (found : List A) (ts : Tokens)
+      → Leaves 1 ts (elements_from closing one n found ts)
   unfolding elements_from
   elements_from_left closing zero found ts = tt
   elements_from_left closing (suc n) found ts = choice 1 ts (first closing ts) _ _ (λ h. first_read closing ts h)
       (chain 1 1 0 ts (one ts) _ (omega arith) (one_left ts)
-      (λ x. chain_passed 0 0 1 x.1 (element_end closing x.1) _ (omega arith) (element_end_left closing x.1) (λ behind. elements_from_left closing n _ behind)))
+      (λ x. chain_passed 0 0 1 x.1 (element_end closing x.1) _ (omega arith) (element_end_left closing x.1)
+      (λ behind. elements_from_left closing n _ behind)))
 
   pub elements_left : (closing : Token → Bool) (ts : Tokens) → Leaves 1 ts (elements closing one ts)
   unfolding elements
@@ -171,7 +181,8 @@ path_word_left ts = chain 1 1 0 ts (word ts) _ (omega arith) (word_left ts) (λ 
   where
     ended : (w : Word) (mid : Tokens) → Leaves 0 mid (if is_op (codes "::") mid then Some (w, drop 2 mid) else None)
     ended w mid = choice 0 mid (is_op (codes "::") mid) (Some (w, drop 2 mid)) None
-        (λ h. further 0 1 0 mid (drop 2 mid) (Some (w, drop 2 mid)) (omega arith) (op_read (codes "::") 1 mid h) (unread (drop 2 mid))) tt
+        (λ h. further 0 1 0 mid (drop 2 mid) (Some (w, drop 2 mid)) (omega arith) (op_read (codes "::") 1 mid h)
+        (unread (drop 2 mid))) tt
 
 pub path_words_left : (ts : Tokens) → Leaves 0 ts (path_words ts)
 unfolding path_words
@@ -190,7 +201,8 @@ pub path_left : (ts : Tokens) → Leaves 1 ts (path ts)
 unfolding path
 path_left ts = further 1 0 1 ts (global ts).1 _ (omega arith) (global_left ts)
     (chain 1 1 0 (global ts).1 (segment (global ts).1) _ (omega arith) (segment_left (global ts).1)
-    (λ s. chain 0 0 0 s.1 (repeat begins_colons further_segment s.1) _ (omega arith) (repeat_left further_segment further_segment_left begins_colons s.1) (λ more. unread more.1)))
+    (λ s. chain 0 0 0 s.1 (repeat begins_colons further_segment s.1) _ (omega arith)
+    (repeat_left further_segment further_segment_left begins_colons s.1) (λ more. unread more.1)))
 
 -- ---- token lists, groups and macro calls
 
@@ -207,9 +219,11 @@ unfolding tokens
 tokens_left ts = chain 0 0 0 ts (run [] ts) _ (omega arith) (whole_left ts (run [] ts) (run_whole [] ts))
     (λ r. choice 0 r.1 (list_all may_be_laid (map as_listed r.0)) _ None (λ h. unread r.1) tt)
 
-group_kind_left : (k : Kind) (t : Token) (ts : Tokens) → Leaves 1 (record t { kind = k } ∷ ts) (group (record t { kind = k } ∷ ts))
+group_kind_left : (k : Kind) (t : Token) (ts : Tokens) → Leaves 1 (record t { kind = k } ∷ ts)
+    (group (record t { kind = k } ∷ ts))
 unfolding group
-group_kind_left (Opener d) t ts = further 1 1 0 (record t { kind = Opener d } ∷ ts) ts _ (omega arith) (one_read (record t { kind = Opener d }) ts)
+group_kind_left (Opener d) t ts = further 1 1 0 (record t { kind = Opener d } ∷ ts) ts _ (omega arith)
+    (one_read (record t { kind = Opener d }) ts)
     (chain 0 0 0 ts (tokens ts) _ (omega arith) (tokens_left ts)
     (λ us. chain_passed 0 1 0 us.1 (passed (closes d) us.1) _ (omega arith) (passed_left (closes d) us.1) unread))
 group_kind_left _ t ts = tt
@@ -240,7 +254,8 @@ end_left _ ts = passes_further 0 0 1 ts ts _ (omega arith) (unread ts) (passed_l
 
 pub meta_name_left : (ts : Tokens) → Leaves 1 ts (meta_name ts)
 unfolding meta_name
-meta_name_left ts = choice 1 ts (first (is_keyword (codes "unsafe")) ts) _ _ (λ h. first_read (is_keyword (codes "unsafe")) ts h)
+meta_name_left ts = choice 1 ts (first (is_keyword (codes "unsafe")) ts) _ _
+    (λ h. first_read (is_keyword (codes "unsafe")) ts h)
     (chain 1 1 0 ts (path ts) _ (omega arith) (path_left ts) (λ p. unread p.1))
 
 value_left : (ts : Tokens) → Leaves 0 ts (value ts)
@@ -253,20 +268,25 @@ meta_input_left : (ts : Tokens) → Leaves 0 ts (meta_input ts)
 unfolding meta_input
 meta_input_left ts = choice 0 ts (is_op (codes "=") ts) _ _
     (λ h. value_left ts)
-    (choice 0 ts (first begins_group ts) _ _ (λ h. chain 0 1 0 ts (group ts) _ (omega arith) (group_left ts) (λ g. unread g.1))
+    (choice 0 ts (first begins_group ts) _ _ (λ h. chain 0 1 0 ts (group ts) _ (omega arith) (group_left ts)
+    (λ g. unread g.1))
     (unread ts))
 
 pub opening_left : (inner : Bool) (ts : Tokens) → Passes 1 ts (behind_opening inner ts)
-opening_left false ts = passed_twice 1 1 1 ts (passed (is_mark (codes "#")) ts) _ (omega arith) (passed_left (is_mark (codes "#")) ts) (λ mark. passed_left (opens Bracket) mark)
-opening_left true ts = passed_twice 1 1 1 ts (passed (is_mark (codes "#")) ts) _ (omega arith) (passed_left (is_mark (codes "#")) ts)
-    (λ mark. passed_twice 1 1 1 mark (passed (is_mark (codes "!")) mark) _ (omega arith) (passed_left (is_mark (codes "!")) mark) (λ bang. passed_left (opens Bracket) bang))
+opening_left false ts = passed_twice 1 1 1 ts (passed (is_mark (codes "#")) ts) _ (omega arith)
+    (passed_left (is_mark (codes "#")) ts) (λ mark. passed_left (opens Bracket) mark)
+opening_left true ts = passed_twice 1 1 1 ts (passed (is_mark (codes "#")) ts) _ (omega arith)
+    (passed_left (is_mark (codes "#")) ts)
+    (λ mark. passed_twice 1 1 1 mark (passed (is_mark (codes "!")) mark) _ (omega arith)
+    (passed_left (is_mark (codes "!")) mark) (λ bang. passed_left (opens Bracket) bang))
 
 meta_attr_left : (inner : Bool) (ts : Tokens) → Leaves 1 ts (meta_attr inner ts)
 unfolding meta_attr
 meta_attr_left inner ts = chain_passed 1 1 1 ts (behind_opening inner ts) _ (omega arith) (opening_left inner ts)
     (λ inside. chain 1 1 0 inside (meta_name inside) _ (omega arith) (meta_name_left inside)
     (λ path. chain 0 0 0 path.1 (meta_input path.1) _ (omega arith) (meta_input_left path.1)
-    (λ given. chain_passed 0 1 0 given.1 (passed (closes Bracket) given.1) _ (omega arith) (passed_left (closes Bracket) given.1) unread)))
+    (λ given. chain_passed 0 1 0 given.1 (passed (closes Bracket) given.1) _ (omega arith)
+    (passed_left (closes Bracket) given.1) unread)))
 
 doc_attr_left : (inner : Bool) (ts : Tokens) → Leaves 1 ts (doc_attr inner ts)
 unfolding doc_attr
@@ -275,7 +295,8 @@ doc_attr_left inner (t ∷ ts) = choice 1 (t ∷ ts) (is_doc_text inner t.text) 
 
 pub attribute_left : (inner : Bool) (ts : Tokens) → Leaves 1 ts (attribute inner ts)
 unfolding attribute
-attribute_left inner ts = choice 1 ts (first (is_doc inner) ts) _ _ (λ h. doc_attr_left inner ts) (meta_attr_left inner ts)
+attribute_left inner ts = choice 1 ts (first (is_doc inner) ts) _ _ (λ h. doc_attr_left inner ts)
+    (meta_attr_left inner ts)
 
 pub attributes_left : (inner : Bool) (ts : Tokens) → Leaves 0 ts (attributes inner ts)
 unfolding attributes
@@ -283,10 +304,12 @@ attributes_left inner ts = repeat_left (attribute inner) (attribute_left inner) 
 
 -- ---- what is left, where something is read
 
-pub left_by : {A : Type 0} (n : ℕ) (ts : Tokens) (got : Got A) (x : A) (rest : Tokens) → Leaves n ts got → got ≡ Some (x, rest) → Left n ts rest
+pub left_by : {A : Type 0} (n : ℕ) (ts : Tokens) (got : Got A) (x : A) (rest : Tokens) → Leaves n ts got
+    → got ≡ Some (x, rest) → Left n ts rest
 left_by n ts got x rest a e = rw e at a
 
-pub shorter : {A : Type 0} (ts : Tokens) (got : Got A) (x : A) (rest : Tokens) → Leaves 1 ts got → got ≡ Some (x, rest) → length rest < length ts
+pub shorter : {A : Type 0} (ts : Tokens) (got : Got A) (x : A) (rest : Tokens) → Leaves 1 ts got
+    → got ≡ Some (x, rest) → length rest < length ts
 shorter ts got x rest a e = omega (arith, (left_by 1 ts got x rest a e).fewer)
 
 no_longer : (ts : Tokens) (o : Option Tokens) (rest : Tokens) → Passes 0 ts o → o ≡ Some rest → length rest ≤ length ts
@@ -294,7 +317,13 @@ no_longer ts None rest a e = absurd (cc)
 no_longer ts (Some left) rest a e = let same : left ≡ rest = cc in omega (arith, a.fewer, ap length same)
 
 -- the same behind an element and what ends it
-pub element_shorter : {A : Type 0} (closing : Token → Bool) (ts : Tokens) (got : Got A) (x : A) (mid behind : Tokens) → Leaves 1 ts got
+pub element_shorter : {A : Type 0} (closing : Token → Bool) (ts : Tokens) (got : Got A) (x : A) (mid behind : Tokens)
+    → Leaves 1 ts got
     → got ≡ Some (x, mid) → element_end closing mid ≡ Some behind → length behind < length ts
 element_shorter closing ts got x mid behind a h g =
-    omega (arith, shorter ts got x mid a h, no_longer mid (element_end closing mid) behind (element_end_left closing mid) g)
+    omega (
+      arith,
+      shorter ts got x mid a h,
+      no_longer mid (element_end closing mid) behind
+          (element_end_left closing mid) g,
+    )

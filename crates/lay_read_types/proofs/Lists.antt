@@ -33,7 +33,8 @@ abbrev pub Whole : Tokens → Got (List Token) → Type 0
 Whole ts None = Unit {0}
 Whole ts (Some got) = ts ≡ got.0 ++ got.1
 
-whole_one : (t : Token) (ts : Tokens) (got : Got (List Token)) → Whole ts got → Whole (t ∷ ts) (got >>= (λ r. let one : Got (List Token) = Some (t ∷ r.0, r.1) in one))
+whole_one : (t : Token) (ts : Tokens) (got : Got (List Token)) → Whole ts got
+    → Whole (t ∷ ts) (got >>= (λ r. let one : Got (List Token) = Some (t ∷ r.0, r.1) in one))
 whole_one t ts None h = tt
 whole_one t ts (Some r) h = ap (λ (s : Tokens). t ∷ s) h
 
@@ -48,8 +49,10 @@ run_whole [] [] = refl
 run_whole (d ∷ within) [] = tt
 run_whole [] (t ∷ ts) = by (is_closer t.kind) (whole_turned t ts (turned t.kind []) (λ more. run_whole more ts))
   where
-    by : (b : Bool) → Whole (t ∷ ts) (turned t.kind [] >>= (λ more. run more ts >>= (λ r. let got : Got (List Token) = Some (t ∷ r.0, r.1) in got)))
-        → Whole (t ∷ ts) (if b then Some ([], t ∷ ts) else (turned t.kind [] >>= (λ more. run more ts >>= (λ r. let got : Got (List Token) = Some (t ∷ r.0, r.1) in got))))
+    by : (b : Bool) → Whole (t ∷ ts) (turned t.kind [] >>= (λ more. run more ts
+        >>= (λ r. let got : Got (List Token) = Some (t ∷ r.0, r.1) in got)))
+        → Whole (t ∷ ts) (if b then Some ([], t ∷ ts) else (turned t.kind []
+        >>= (λ more. run more ts >>= (λ r. let got : Got (List Token) = Some (t ∷ r.0, r.1) in got))))
     by true h = refl
     by false h = h
 run_whole (d ∷ within) (t ∷ ts) = whole_turned t ts (turned t.kind (d ∷ within)) (λ more. run_whole more ts)
@@ -73,10 +76,16 @@ list_by : (ts : Tokens) (got : Got (List Token)) (us : List Listed) (left : Toke
 list_by ts None us left w h = absurd (cc)
 list_by ts (Some r) us left w h = by (list_all may_be_laid (map as_listed r.0)) h
   where
-    by : (b : Bool) → (let list : Got (List Listed) = if b then Some (map as_listed r.0, r.1) else None in list) ≡ Some (us, left) → ListRead ts us left
+    by : (b : Bool) → (let list : Got (List Listed) = if b then Some (map as_listed r.0, r.1) else None in list) ≡
+        Some (us, left) → ListRead ts us left
     by true g =
         let same = some_is {A = List Listed × Tokens} (map as_listed r.0, r.1) (us, left) g in
-        record { read = r.0; whole = w ∙ ap (λ (got : List Listed × Tokens). r.0 ++ got.1) same; list = sym (ap (λ (got : List Listed × Tokens). got.0) same) }
+        record {
+          read = r.0;
+          whole = w ∙ ap (λ (got : List Listed × Tokens). r.0 ++ got.1) same;
+          list =
+              sym (ap (λ (got : List Listed × Tokens). got.0) same);
+        }
     by false g = absurd (cc)
 
 pub list_read : (ts : Tokens) (us : List Listed) (left : Tokens) → tokens ts ≡ Some (us, left) → ListRead ts us left
@@ -87,7 +96,8 @@ list_read ts us left h = list_by ts (run [] ts) us left (run_whole [] ts) h
 
 are_laid-append : (xs ys : List Token) → are_laid (xs ++ ys) ≡ (are_laid xs && are_laid ys)
 are_laid-append xs ys =
-    ap (λ (us : List Listed). list_all may_be_laid us) (map-append as_listed xs ys) ∙ list_all-append may_be_laid (map as_listed xs) (map as_listed ys)
+    ap (λ (us : List Listed). list_all may_be_laid us) (map-append as_listed xs ys)
+    ∙ list_all-append may_be_laid (map as_listed xs) (map as_listed ys)
 
 balanced_append : (xs ys : List Token) → is_balanced (map as_listed xs) ≡ true → is_balanced (map as_listed ys) ≡ true
     → is_balanced (map as_listed (xs ++ ys)) ≡ true
@@ -105,12 +115,14 @@ unfolding run
 run_stops [] h = refl
 run_stops (t ∷ ts) h = rw (not_false (is_closer t.kind) h) refl
 
-pub tokens_end : (read left : Tokens) → is_balanced (map as_listed read) ≡ true → begins_tree left ≡ false → are_laid read ≡ true
+pub tokens_end : (read left : Tokens) → is_balanced (map as_listed read) ≡ true → begins_tree left ≡ false
+    → are_laid read ≡ true
     → tokens (read ++ left) ≡ Some (map as_listed read, left)
 unfolding tokens
 tokens_end read left b e l = rw (run_over [] read left b, run_stops left e, append-nil read, l) refl
 
-pub tokens_lost : (read left : Tokens) → is_balanced (map as_listed read) ≡ true → are_laid read ≡ false → tokens (read ++ left) ≡ None
+pub tokens_lost : (read left : Tokens) → is_balanced (map as_listed read) ≡ true → are_laid read ≡ false
+    → tokens (read ++ left) ≡ None
 unfolding tokens
 tokens_lost read left b l = rw (run_over [] read left b) (by (run [] left))
   where
@@ -137,7 +149,8 @@ module _ (whole : Tokens) (list : List Listed) (left : Tokens) (r : ReadFrom who
   list_balanced = ap is_balanced r.list_is ∙ r.balanced
 
   pub list_ends : begins_tree left ≡ false → tokens whole ≡ Some (list, left)
-  list_ends e = ap tokens r.whole_is ∙ tokens_end r.read left r.balanced e r.laid ∙ ap (λ (us : List Listed). let got : Got (List Listed) = Some (us, left) in got) (sym r.list_is)
+  list_ends e = ap tokens r.whole_is ∙ tokens_end r.read left r.balanced e r.laid
+      ∙ ap (λ (us : List Listed). let got : Got (List Listed) = Some (us, left) in got) (sym r.list_is)
 
   module _ (tree behind : Tokens) (e : left ≡ tree ++ behind) (b : Balanced tree) where
     further : whole ≡ (r.read ++ tree) ++ behind
@@ -146,19 +159,23 @@ module _ (whole : Tokens) (list : List Listed) (left : Tokens) (r : ReadFrom who
     all_balanced : is_balanced (map as_listed (r.read ++ tree)) ≡ true
     all_balanced = balanced_append r.read tree r.balanced (balanced_listed tree b)
 
-    pub tree_read : (more : List Listed) → more ≡ list ++ map as_listed tree → are_laid tree ≡ true → ReadFrom whole more behind
+    pub tree_read : (more : List Listed) → more ≡ list ++ map as_listed tree → are_laid tree ≡ true
+        → ReadFrom whole more behind
     tree_read more g l = record {
       read = r.read ++ tree;
       whole_is = further;
       balanced = all_balanced;
-      list_is = g ∙ ap (λ (us : List Listed). us ++ map as_listed tree) r.list_is ∙ sym (map-append as_listed r.read tree);
+      list_is = g ∙ ap (λ (us : List Listed). us ++ map as_listed tree) r.list_is
+          ∙ sym (map-append as_listed r.read tree);
       laid = are_laid-append r.read tree ∙ rw (r.laid, l) refl;
     }
 
     pub tree_lost : are_laid tree ≡ false → tokens whole ≡ None
-    tree_lost l = ap tokens further ∙ tokens_lost (r.read ++ tree) behind all_balanced (are_laid-append r.read tree ∙ rw (r.laid, l) refl)
+    tree_lost l = ap tokens further ∙ tokens_lost (r.read ++ tree) behind all_balanced
+        (are_laid-append r.read tree ∙ rw (r.laid, l) refl)
 
-    pub tree_stops : (before now : List Listed) (none : ReadNone) → AreAdded before tree (Err none) now → Stopped (tokens whole) none
+    pub tree_stops : (before now : List Listed) (none : ReadNone) → AreAdded before tree (Err none) now
+        → Stopped (tokens whole) none
     tree_stops before now NoReading l = tree_lost l
     tree_stops before now NoMemory l = tt
 
@@ -168,7 +185,8 @@ and_false : (b : Bool) → (b && false) ≡ false
 and_false true = refl
 and_false false = refl
 
-item_lost : (tokens : List Token) (i : ℕ) (default : Token) → i < length tokens → may_be_laid (as_listed (get_or tokens i default)) ≡ false
+item_lost : (tokens : List Token) (i : ℕ) (default : Token) → i < length tokens
+    → may_be_laid (as_listed (get_or tokens i default)) ≡ false
     → are_laid tokens ≡ false
 item_lost [] i default lt h = absurd (omega arith)
 item_lost (t ∷ ts) zero default lt h = rw h refl
@@ -176,9 +194,11 @@ item_lost (t ∷ ts) (suc i) default lt h =
     let fewer : i < length ts = omega arith in
     rw (item_lost ts i default fewer h) (and_false (may_be_laid (as_listed t)))
 
-pub item_stops : (before now : List Listed) (tokens : List Token) (i : ℕ) (t : Token) (none : ReadNone) → i < length tokens → t ≡ get_or tokens i t
+pub item_stops : (before now : List Listed) (tokens : List Token) (i : ℕ) (t : Token) (none : ReadNone)
+    → i < length tokens → t ≡ get_or tokens i t
     → IsLaid (as_listed t) (Err none) → AreAdded before tokens (Err none) now
-item_stops before now tokens i t NoReading lt e h = item_lost tokens i t lt (ap (λ (u : Token). may_be_laid (as_listed u)) (sym e) ∙ h)
+item_stops before now tokens i t NoReading lt e h = item_lost tokens i t lt
+    (ap (λ (u : Token). may_be_laid (as_listed u)) (sym e) ∙ h)
 item_stops before now tokens i t NoMemory lt e h = tt
 
 -- ---- groups
@@ -193,7 +213,8 @@ opener_begins (t ∷ ts) d h = by t.kind h
 
 group_step : (k : Kind) (t : Token) (ts : Tokens) (d : Delim) → opened_by k ≡ Some d
     → group (record t { kind = k } ∷ ts)
-    ≡ (tokens ts >>= (λ us. passed (closes d) us.1 >>= (λ rest. let got : Got Group = Some (record { delim = d; tokens = us.0 }, rest) in got)))
+    ≡ (tokens ts >>= (λ us. passed (closes d) us.1 >>= (λ rest. let got : Got Group =
+    Some (record { delim = d; tokens = us.0 }, rest) in got)))
 unfolding group
 group_step (Opener e) t ts d h = let same : e ≡ d = cc in rw same refl
 group_step _ t ts d h = absurd (cc)
@@ -216,10 +237,17 @@ module _ (ts inside behind : Tokens) (d : Delim) (g : Grouped ts inside behind) 
       >>= (λ rest. let got : Got Group = Some (record { delim = d; tokens = us.0 }, rest) in got)))
   group_is = ap group g.whole ∙ group_step g.opener.kind g.opener (inside ++ g.closer ∷ behind) d opened
 
-  pub group_read : are_laid inside ≡ true → group ts ≡ Some (record { delim = d; tokens = map as_listed inside }, behind)
+  pub group_read : are_laid inside ≡ true → group ts ≡ Some (
+    record { delim = d; tokens = map as_listed inside },
+    behind,
+  )
   group_read l =
       let stops : begins_tree (g.closer ∷ behind) ≡ false = ap not (pair_closer g.opener.kind g.closer.kind g.pair) in
-      group_is ∙ rw (tokens_end inside (g.closer ∷ behind) (balanced_listed inside g.balanced) stops l, pair_closes g.opener.kind g.closer.kind d opened g.pair) refl
+      group_is ∙ rw (
+        tokens_end inside (g.closer ∷ behind) (balanced_listed inside g.balanced) stops l,
+        pair_closes
+            g.opener.kind g.closer.kind d opened g.pair,
+      ) refl
 
   pub group_lost : are_laid inside ≡ false → group ts ≡ None
   group_lost l = group_is ∙ rw (tokens_lost inside (g.closer ∷ behind) (balanced_listed inside g.balanced) l) refl
@@ -229,7 +257,8 @@ module _ (ts inside behind : Tokens) (d : Delim) (g : Grouped ts inside behind) 
         → group ts ≡ Some (record { delim = d; tokens = us }, behind)
     opened_read us h l =
         group_read (ap are_laid (sym e) ∙ l)
-        ∙ ap (λ (v : List Listed). let got : Got Group = Some (record { delim = d; tokens = v }, behind) in got) (ap (map as_listed) (sym e) ∙ sym h)
+        ∙ ap (λ (v : List Listed). let got : Got Group = Some (record { delim = d; tokens = v }, behind) in got)
+        (ap (map as_listed) (sym e) ∙ sym h)
 
     pub opened_stops : (none : ReadNone) → AreListed slice (Err none) → Stopped (group ts) none
     opened_stops NoReading l = group_lost (ap are_laid (sym e) ∙ l)

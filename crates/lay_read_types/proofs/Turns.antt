@@ -1,17 +1,20 @@
--- The loops of the readers, turn by turn: what reading gives in all is what the turns that are left make of what is found.
+-- The loops of the readers, turn by turn: what reading gives in all is what the turns that are left make of what is
+-- found.
 use Rattle.std.proofs.Common.{◌≡◌, ℕ, zero, suc, ◌<◌, ◌≤◌, Bool, true, false, List, [], ◌∷◌, ◌++◌, length, Some, None, refl, ◌∙◌, arith}
 use Rattle.lay_token.specs.declared.token.Token.{Token}
 use Rattle.lay_tree.specs.Ahead.{Tokens, first, tail}
 use Rattle.lay_tree.specs.reader.Loops.{Got, element_end, repeat_from, repeat, elements_from, elements}
 
 -- So many turns after this one suffice, and make this of what is found.
-pub record Turn {A : Type 0} (turns_make : ℕ → List A → Tokens → Got (List A)) (whole : Got (List A)) (found : List A) (ts : Tokens) : Type 0 where
+pub record Turn {A : Type 0} (turns_make : ℕ → List A → Tokens → Got (List A)) (whole : Got (List A))
+    (found : List A) (ts : Tokens) : Type 0 where
   pub turns : ℕ
   pub enough : length ts ≤ turns
   pub same : whole ≡ turns_make (suc turns) found ts
 
 module _ {A : Type 0} (turns_make : ℕ → List A → Tokens → Got (List A)) where
-  some_turns : (n : ℕ) (whole : Got (List A)) (found : List A) (ts : Tokens) → length ts < n → whole ≡ turns_make n found ts
+  some_turns : (n : ℕ) (whole : Got (List A)) (found : List A) (ts : Tokens) → length ts < n
+      → whole ≡ turns_make n found ts
       → Turn turns_make whole found ts
   some_turns zero whole found ts lt e = absurd (omega arith)
   some_turns (suc n) whole found ts lt e = record { turns = n; enough = omega arith; same = e }
@@ -46,7 +49,8 @@ module _ {A : Type 0} (closing : Token → Bool) (one : Tokens → Got A) where
   unfolding elements
   elements-start ts = record { turns = length ts; enough = omega arith; same = refl }
 
-  module _ (whole : Got (List A)) (found : List A) (ts : Tokens) (t : Turn (elements_from closing one) whole found ts) where
+  module _ (whole : Got (List A)) (found : List A) (ts : Tokens)
+      (t : Turn (elements_from closing one) whole found ts) where
     pub elements-end : first closing ts ≡ true → whole ≡ Some (found, tail ts)
     unfolding elements_from
     elements-end h = t.same ∙ rw h refl
@@ -55,11 +59,13 @@ module _ {A : Type 0} (closing : Token → Bool) (one : Tokens → Got A) where
     unfolding elements_from
     elements-none h e = t.same ∙ rw (h, e) refl
 
-    pub elements-open : (x : A) (mid : Tokens) → first closing ts ≡ false → one ts ≡ Some (x, mid) → element_end closing mid ≡ None → whole ≡ None
+    pub elements-open : (x : A) (mid : Tokens) → first closing ts ≡ false → one ts ≡ Some (x, mid)
+        → element_end closing mid ≡ None → whole ≡ None
     unfolding elements_from
     elements-open x mid h e g = t.same ∙ rw (h, e, g) refl
 
-    pub elements-step : (x : A) (mid behind : Tokens) → first closing ts ≡ false → one ts ≡ Some (x, mid) → element_end closing mid ≡ Some behind
+    pub elements-step : (x : A) (mid behind : Tokens) → first closing ts ≡ false → one ts ≡ Some (x, mid)
+        → element_end closing mid ≡ Some behind
         → length behind < length ts → Turn (elements_from closing one) whole (found ++ x ∷ []) behind
     unfolding elements_from
     elements-step x mid behind h e g less =

@@ -20,7 +20,8 @@ decreases-read_kind l = 4 * l.depth + 3
 
 abbrev pub invariant-read_items-loop-alloc : goal.invariant-read_items-loop-alloc
 invariant-read_items-loop-alloc l = record {
-  held : Held (λ read. Turn (repeat_from more_items (item_at l.depth)) (items_by (item_at l.depth) l.fn.at) read l.at) (Holding l.items l.need);
+  held : Held (λ read. Turn (repeat_from more_items (item_at l.depth)) (items_by (item_at l.depth) l.fn.at) read
+      l.at) (Holding l.items l.need);
   within : l.need ≤ l.depth;
   lexed : AreLexed l.at;
 }

@@ -18,7 +18,8 @@ decreases-read_use_end l = 3 * l.depth + 2
 
 abbrev pub invariant-read_group-loop-alloc : goal.invariant-read_group-loop-alloc
 invariant-read_group-loop-alloc l = record {
-  held : Held (λ read. Turn (elements_from (closes Brace) (use_at l.depth)) (elements (closes Brace) (use_at l.depth) l.fn.at) read l.at)
+  held : Held (λ read. Turn (elements_from (closes Brace) (use_at l.depth))
+      (elements (closes Brace) (use_at l.depth) l.fn.at) read l.at)
       (Holding l.trees l.need);
   within : l.need ≤ l.depth;
 }

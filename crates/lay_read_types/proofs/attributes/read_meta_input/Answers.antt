@@ -11,14 +11,16 @@ use Rattle.lay_read_types.proofs.attributes.read_meta_input.Goals as goal
 pub read_value-requires : goal.read_value-requires
 read_value-requires c =
     let ts = c.args.at.now in
-    rw c.if-takes_op.ensures.passed (lexed_left 1 ts (drop 1 ts) (op_read (codes "=") 0 ts (sym c.if-takes_op.ensures.found)) c.requires)
+    rw c.if-takes_op.ensures.passed (lexed_left 1 ts (drop 1 ts)
+    (op_read (codes "=") 0 ts (sym c.if-takes_op.ensures.found)) c.requires)
 
 pub returns-then-takes_op : goal.returns-then-takes_op
 returns-then-takes_op c =
     let ts = c.args.at.now in
     let rest = λ (mid : Tokens). closed c.args.inner c.args.path (value_behind mid) in
     got_by (meta_rest c.args.inner c.args.path ts) (rest c.takes_op.new.at) c.read_value.result c.read_value.new.at
-    (rest_value c.args.inner c.args.path ts (sym c.if-takes_op.ensures.found) ∙ ap rest (sym c.if-takes_op.ensures.passed)) c.read_value.ensures
+    (rest_value c.args.inner c.args.path ts (sym c.if-takes_op.ensures.found)
+    ∙ ap rest (sym c.if-takes_op.ensures.passed)) c.read_value.ensures
 
 pub returns-then-is_at_opener : goal.returns-then-is_at_opener
 returns-then-is_at_opener c =
@@ -27,7 +29,8 @@ returns-then-is_at_opener c =
     let rest = λ (mid : Tokens). closed c.args.inner c.args.path (grouped mid) in
     let opens : first begins_group ts ≡ true = ap (first begins_group) same ∙ sym c.if-is_at_opener.ensures in
     got_by (meta_rest c.args.inner c.args.path ts) (rest c.takes_op.new.at) c.read_grouped.result c.read_grouped.new.at
-    (rest_group c.args.inner c.args.path ts (sym c.if-takes_op.ensures.found) opens ∙ ap rest same) c.read_grouped.ensures
+    (rest_group c.args.inner c.args.path ts (sym c.if-takes_op.ensures.found) opens ∙ ap rest same)
+    c.read_grouped.ensures
 
 pub returns-else-is_at_opener : goal.returns-else-is_at_opener
 returns-else-is_at_opener c =

@@ -7,7 +7,8 @@ use Rattle.lay_read_types.proofs.paths.read_segments.Given as goal
 
 abbrev pub invariant-loop-alloc : goal.invariant-loop-alloc
 invariant-loop-alloc l =
-    Held (λ more. Turn (repeat_from begins_colons further_segment) (repeat begins_colons further_segment l.fn.at) more l.at) (λ more. BeginWith l.fn.first more l.segments)
+    Held (λ more. Turn (repeat_from begins_colons further_segment) (repeat begins_colons further_segment l.fn.at)
+    more l.at) (λ more. BeginWith l.fn.first more l.segments)
 
 abbrev pub decreases-loop-alloc : goal.decreases-loop-alloc
 decreases-loop-alloc l = length l.at

@@ -7,5 +7,6 @@ pub returns-in_err-listed : goal.returns-in_err-listed
 returns-in_err-listed c =
     let within : c.loop-token.token-index < length c.args.tokens.now = omega arith in
     let p = err_from_is_err_and c.from_residual.result c.from_residual.ensures.1 in
-    rw (p.1, p.2) (item_stops c.args.list.now c.loop-token.list c.args.tokens.now c.loop-token.token-index c.token-item.result c.in_err-listed.field-0.0
+    rw (p.1, p.2) (item_stops c.args.list.now c.loop-token.list c.args.tokens.now c.loop-token.token-index
+    c.token-item.result c.in_err-listed.field-0.0
     within c.token-item.is c.in_err-listed.ensures)
