@@ -1,5 +1,6 @@
 -- What readers ask for and what they answer.
-use Rattle.std.specs.Prelude.{ℕ, ◌≡◌, ◌&&◌, Bool, true, false, if◌then◌else◌, List, [], ◌∷◌, ◌++◌, map, drop, encode_utf8_all, IsTrue, IsFalse, IsUtf8, Option, Some, None, Result, Ok, Err}
+use Rattle.std.specs.Prelude.{ℕ, ◌≡◌, ◌&&◌, Bool, true, false, if◌then◌else◌, IsTrue, IsFalse, IsUtf8}
+use Rattle.std.specs.Prelude.{List, [], ◌∷◌, ◌++◌, map, drop, encode_utf8_all, Option, Some, None, Result, Ok, Err}
 use Rattle.std.specs.List.{list_all}
 use Rattle.std.specs.Str.{chars}
 use Rattle.lay_token.specs.Lexes.{Lexes}

@@ -9,7 +9,8 @@ ghost use Rattle.lay_tree.specs.nodes.Attr.{about_attr, is_doc_path};
 ghost use Rattle.lay_tree.specs.nodes.Facts.{Front};
 ghost use Rattle.lay_tree.specs.reader.Attr as reader;
 ghost use Rattle.lay_tree.specs.declared.attr.Attr.{Attr};
-ghost use Rattle.lay_read_types.specs.Answers.{AreLexed, IsGot, IsMade, IsRead, closed, doc_text, doc_value, front_doc, meta_closed, meta_rest, value_behind};
+ghost use Rattle.lay_read_types.specs.Answers.{AreLexed, IsGot, IsMade, IsRead, doc_text, doc_value, front_doc};
+ghost use Rattle.lay_read_types.specs.Answers.{closed, meta_closed, meta_rest, value_behind};
 
 use crate::front::{
     is_at_closer, is_at_mark, is_at_opener, pass, pass_two, takes_closer, takes_keyword,

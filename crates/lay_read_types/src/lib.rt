@@ -12,6 +12,6 @@ pub mod paths;
 pub mod stop;
 pub mod tokens;
 
-pub use attributes::read_attrs;
+pub use attributes::{read_attr, read_attrs};
 pub use calls::read_call;
 pub use stop::ReadNone;
