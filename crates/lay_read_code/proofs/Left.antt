@@ -1,9 +1,9 @@
 -- What reading of use trees and items leaves: the tokens behind those that are read.
 use Rattle.std.proofs.Common.{ℕ, zero, suc, true, false, [], ◌∷◌, Option, Some, None, drop, codes, arith}
 use Rattle.lay_token.specs.Operators.{is_op}
-use Rattle.lay_token.specs.declared.token.Delim.TheVariants.{Brace}
-use Rattle.lay_token.specs.declared.token.Kind.{Kind}
-use Rattle.lay_token.specs.declared.token.Kind.TheVariants.{Underscore}
+use Rattle.lay_piece.specs.declared.kind.Delim.TheVariants.{Brace}
+use Rattle.lay_piece.specs.declared.kind.Kind.{Kind}
+use Rattle.lay_piece.specs.declared.kind.Kind.TheVariants.{Underscore}
 use Rattle.lay_token.specs.declared.token.Token.{Token}
 use Rattle.lay_tree.specs.Ahead.{Tokens, first, tail, is_keyword, is_mark, opens, closes}
 use Rattle.lay_tree.specs.Follow.{begins_there, OfColons}

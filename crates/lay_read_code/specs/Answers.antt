@@ -1,8 +1,8 @@
 -- What readers answer.
 use Rattle.std.specs.Prelude.{ℕ, ◌≡◌, List, Option, Some, Result, Ok, Err}
-use Rattle.lay_token.specs.declared.refusal.FormatError.{FormatError}
-use Rattle.lay_token.specs.declared.refusal.FormatError.TheVariants as format
-use Rattle.lay_token.specs.declared.refusal.Refusal.TheVariants.{NoItem}
+use Rattle.lay_text.specs.declared.refusal.FormatError.{FormatError}
+use Rattle.lay_text.specs.declared.refusal.FormatError.TheVariants as format
+use Rattle.lay_text.specs.declared.refusal.Refusal.TheVariants.{NoItem}
 use Rattle.lay_token.specs.declared.token.Token.{Token}
 use Rattle.lay_tree.specs.Ahead.{Tokens}
 use Rattle.lay_tree.specs.Reading.{SpellsFile}

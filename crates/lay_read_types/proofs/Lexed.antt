@@ -4,10 +4,10 @@ use Rattle.std.specs.Str.{encode_utf8_all}
 use Rattle.std.proofs.lemmas.List.{take-append-drop}
 use Rattle.std.proofs.lemmas.Str.{scalars-chars}
 use lib.Utf8.{scalars}
-use Rattle.lay_token.specs.Forms.{Had}
+use Rattle.lay_piece.specs.Forms.{Had}
 use Rattle.lay_token.specs.Lexes.{Lexes, Part, Before, Other, spell, step, is_index_place, Fit, size, text_of_piece, tokens_from}
-use Rattle.lay_token.specs.declared.token.Kind.{Kind}
-use Rattle.lay_token.specs.declared.token.Kind.TheVariants.{Str, RawStr}
+use Rattle.lay_piece.specs.declared.kind.Kind.{Kind}
+use Rattle.lay_piece.specs.declared.kind.Kind.TheVariants.{Str, RawStr}
 use Rattle.lay_token.specs.declared.token.Token.{Token}
 use Rattle.lay_token.proofs.Encoding.{scalars_parts}
 use Rattle.lay_cook.specs.Cooking.{IsPiece, IsString}

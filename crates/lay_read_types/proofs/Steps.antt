@@ -4,11 +4,11 @@ use Rattle.std.specs.Str.{chars}
 use Rattle.std.proofs.lemmas.Bool.{false≢true}
 use Rattle.lay_token.specs.Delimiters.{is_closer}
 use Rattle.lay_token.specs.Operators.{is_op}
-use Rattle.lay_token.specs.Value.{value_of}
-use Rattle.lay_token.specs.declared.token.Delim.{Delim}
-use Rattle.lay_token.specs.declared.token.Delim.TheVariants.{Bracket}
-use Rattle.lay_token.specs.declared.token.Kind.{Kind}
-use Rattle.lay_token.specs.declared.token.Kind.TheVariants.{Str, RawStr, Closer, Doc}
+use Rattle.lay_piece.specs.Value.{value_of}
+use Rattle.lay_piece.specs.declared.kind.Delim.{Delim}
+use Rattle.lay_piece.specs.declared.kind.Delim.TheVariants.{Bracket}
+use Rattle.lay_piece.specs.declared.kind.Kind.{Kind}
+use Rattle.lay_piece.specs.declared.kind.Kind.TheVariants.{Str, RawStr, Closer, Doc}
 use Rattle.lay_token.specs.declared.token.Token.{Token}
 use Rattle.lay_tree.specs.Ahead as ahead
 use Rattle.lay_tree.specs.Ahead.{Tokens, first, tail, closes}

@@ -2,8 +2,8 @@
 ghost use Rattle.std.specs.Prelude.{◌≡◌, if◌then◌else◌, OnErr, Some, None};
 ghost use Rattle.std.specs.Str.{chars};
 ghost use Rattle.lay_cook.specs.Cooking.{IsString};
-ghost use Rattle.lay_token.specs.Value.{value_of};
-ghost use Rattle.lay_token.specs.declared.token.Delim.TheVariants.{Bracket};
+ghost use Rattle.lay_piece.specs.Value.{value_of};
+ghost use Rattle.lay_piece.specs.declared.kind.Delim.TheVariants.{Bracket};
 ghost use Rattle.lay_tree.specs.Ahead.{closes, first, tail};
 ghost use Rattle.lay_tree.specs.nodes.Attr.{about_attr, is_doc_path};
 ghost use Rattle.lay_tree.specs.nodes.Facts.{Front};

@@ -1,6 +1,6 @@
 //! Names and the words of paths.
 ghost use Rattle.std.specs.Prelude.{◌≡◌, is_some, option_map};
-ghost use Rattle.lay_token.specs.Word.{class_of};
+ghost use Rattle.lay_piece.specs.Word.{class_of};
 ghost use Rattle.lay_tree.specs.Words.{is_path_class, is_plain};
 ghost use Rattle.lay_tree.specs.reader.Words as reader;
 ghost use Rattle.lay_read_types.specs.Answers.{IsGot, named, worded};

@@ -1,6 +1,6 @@
 use Rattle.std.proofs.Common.{◌≡◌, ◌-◌, ◌<◌, ◌++◌, ◌∷◌, [], Some, refl, sym, ap, ◌∙◌, arith}
 use Rattle.std.proofs.lemmas.Result.{err_from_is_err_and}
-use Rattle.lay_token.specs.declared.token.Delim.TheVariants.{Brace}
+use Rattle.lay_piece.specs.declared.kind.Delim.TheVariants.{Brace}
 use Rattle.lay_tree.specs.Ahead.{closes}
 use Rattle.lay_tree.specs.reader.Loops.{element_end, elements}
 use Rattle.lay_tree.specs.reader.Use.{use_at, use_end_by, use_group}

@@ -1,5 +1,5 @@
 use Rattle.std.proofs.Common.{◌+◌, ◌*◌, ◌≤◌, length}
-use Rattle.lay_token.specs.declared.token.Delim.TheVariants.{Brace}
+use Rattle.lay_piece.specs.declared.kind.Delim.TheVariants.{Brace}
 use Rattle.lay_tree.specs.Ahead.{closes}
 use Rattle.lay_tree.specs.reader.Loops.{elements_from, elements}
 use Rattle.lay_tree.specs.reader.Use.{use_at}
