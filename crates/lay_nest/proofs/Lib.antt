@@ -3,3 +3,4 @@ pub mod Machine
 pub mod Steps
 pub mod Places
 pub mod OperatorLemmas
+pub mod TokenTrees

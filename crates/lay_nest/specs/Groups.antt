@@ -1,6 +1,6 @@
--- A group at the front of tokens.
-use Rattle.std.specs.Prelude.{◌≡◌, Bool, false, List, [], ◌∷◌, ◌++◌, IsTrue}
-use Rattle.lay_token.specs.Delimiters.{Balanced, is_opener, is_pair}
+-- A group and a token tree at the front of tokens.
+use Rattle.std.specs.Prelude.{◌≡◌, ◌<◌, Bool, false, not, List, [], ◌∷◌, ◌++◌, length, IsTrue}
+use Rattle.lay_token.specs.Delimiters.{Balanced, is_opener, is_closer, is_pair}
 use Rattle.lay_token.specs.declared.token.Token.{Token}
 
 -- The first token is an opener.
@@ -15,3 +15,15 @@ pub record Grouped (tokens inside behind : List Token) : Type 0 where
   pub whole : tokens ≡ opener ∷ (inside ++ closer ∷ behind)
   pub pair : IsTrue (is_pair opener.kind closer.kind)
   pub balanced : Balanced inside
+
+-- The first token is no closer.
+abbrev pub begins_tree : List Token → Bool
+begins_tree [] = false
+begins_tree (t ∷ ts) = not (is_closer t.kind)
+
+-- The tokens are a token tree and what is behind it.
+pub record BehindTree (tokens behind : List Token) : Type 0 where
+  pub tree : List Token
+  pub whole : tokens ≡ tree ++ behind
+  pub balanced : Balanced tree
+  pub some : 0 < length tree

@@ -2,10 +2,11 @@
 ghost use Rattle.std.specs.Prelude.{◌≡◌, ◌↔◌, ◌<◌, ◌≤◌, ◌++◌, ◌∷◌, List, IsTrue, length, drop, slice_get, option_copied, MatchOption};
 ghost use Rattle.lay_token.specs.Operators.{is_op};
 ghost use Rattle.lay_nest.specs.Ahead.{SpannedAhead};
-ghost use Rattle.lay_nest.specs.Groups.{Grouped, begins_group};
+ghost use Rattle.lay_token.specs.Delimiters.{Balanced, is_opener};
+ghost use Rattle.lay_nest.specs.Groups.{BehindTree, Grouped, begins_group, begins_tree};
 
 use crate::operator::is_op;
-use lay_token::Token;
+use lay_token::{Kind, Token};
 use std::marker::Model;
 
 /// A place in the tokens, seen as the list of the tokens ahead. It takes no memory.
@@ -91,12 +92,44 @@ impl<'a> Cursor<'a> {
         Cursor { tokens, spans }
     }
 
+    /// Moves past the token tree at the front, and gives its tokens: one token, or a group with its delimiters
+    /// (Rust Reference, "Macros": token trees).
+    pub fn tree(&mut self) -> &'a [Token]
+        requires { IsTrue (begins_tree self.old) }
+        ensures whole { self.old ≡ result.now ++ self.new }
+        ensures balanced { Balanced result.now }
+        ensures some { 0 < length result.now }
+    {
+        let tokens = self.as_slice();
+        self.pass_tree();
+        &tokens[..tokens.len() - self.as_slice().len()]
+    }
+
+    /// Moves past the token tree at the front.
+    fn pass_tree(&mut self)
+        requires { IsTrue (begins_tree self.old) }
+        ensures { BehindTree self.old self.new }
+    {
+        if is_opener(&self.tokens[0]) {
+            self.group();
+        } else {
+            self.step();
+        }
+    }
+
     /// The tokens ahead.
     pub fn as_slice(&self) -> &'a [Token]
         ensures { result.now ≡ self.now }
     {
         self.tokens
     }
+}
+
+/// Whether the token opens a group.
+fn is_opener(token: &Token) -> bool
+    ensures { result ≡ is_opener token.now.kind }
+{
+    matches!(token.kind, Kind::Opener(_))
 }
 
 /// What is behind the first item.

@@ -1,5 +1,5 @@
 -- Files: what is read is spelled, and what is spelled is read.
-use Rattle.std.proofs.Common.{◌≡◌, ℕ, true, List, [], ◌∷◌, ◌++◌, Option, Some, None, refl, sym, ◌∙◌, IsTrue}
+use Rattle.std.proofs.Common.{◌≡◌, ℕ, true, List, [], ◌++◌, Option, Some, None, refl, sym, ◌∙◌, IsTrue}
 use Rattle.std.proofs.lemmas.Bool.{and_parts}
 use Rattle.std.proofs.lemmas.List.Folds.{list_all-append}
 use Rattle.lay_token.specs.declared.token.Token.{Token}
@@ -7,32 +7,27 @@ use Rattle.lay_form.specs.Pieces.{is_text_of}
 use Rattle.lay_tree.specs.Reading.{SpellsFile, top}
 use Rattle.lay_tree.specs.Written.{is_good_shebang}
 use Rattle.lay_tree.specs.nodes.File.{form_of_file}
-use Rattle.lay_tree.specs.reader.Exact.{HaveTexts}
 use Rattle.lay_tree.specs.reader.File.{whole}
 use Rattle.lay_tree.specs.declared.attr.Attr.{Attr}
 use Rattle.lay_tree.specs.declared.file.File.{File}
 use Rattle.lay_tree.specs.declared.item.Item.{Item}
 use Rattle.lay_tree.proofs.LexedPieces.{lexed_pieces}
-use Rattle.lay_tree.proofs.LexedTexts.{lexed_texts}
 use Rattle.lay_tree.proofs.Pieces.{are_texts, pieces_spelled}
 use Rattle.lay_tree.proofs.reader.File.{whole_sound, whole_complete}
-use Rattle.lay_read_code.specs.Answers.{AreLexed}
-use Rattle.lay_read_code.proofs.Lexed.{in_row}
-
-texts_parts : (s t : List Token) → HaveTexts (s ++ t) → HaveTexts s × HaveTexts t
-texts_parts [] t h = (tt, h)
-texts_parts (u ∷ s) t h = let more = texts_parts s t h.1 in ((h.0, more.0), more.1)
+use Rattle.lay_read_types.specs.Answers.{AreLexed}
+use Rattle.lay_read_types.proofs.Lexed.{lexed_in_text, in_row}
 
 pieces_parts : (s t : List Token) → are_texts (s ++ t) ≡ true → (are_texts s ≡ true) × (are_texts t ≡ true)
 pieces_parts s t h =
     and_parts (are_texts s) (are_texts t) (sym (list_all-append (λ (u : Token). is_text_of u.kind u.text) s t) ∙ h)
 
-pub file_spelled : (tokens : List Token) (shebang : Option (List ℕ)) (attrs : List Attr) (items : List Item) → AreLexed tokens → IsTrue (is_good_shebang shebang)
-    → whole tokens ≡ Some (attrs, items) → SpellsFile (record { shebang = shebang; attrs = attrs; items = items }) tokens
+pub file_spelled : (tokens : List Token) (shebang : Option (List ℕ)) (attrs : List Attr) (items : List Item)
+    → AreLexed tokens → IsTrue (is_good_shebang shebang)
+    → whole tokens ≡ Some (attrs, items) → SpellsFile (record { shebang = shebang; attrs = attrs; items = items })
+    tokens
 file_spelled tokens shebang attrs items l good h =
     let file : File = record { shebang = shebang; attrs = attrs; items = items } in
-    let texts = in_row HaveTexts texts_parts (λ bytes start ts u lexes. lexed_texts bytes start ts lexes) tokens l in
-    let sound = whole_sound tokens attrs items texts h file refl refl in
+    let sound = whole_sound tokens attrs items (lexed_in_text tokens l) h file refl refl in
     let written = in_row (λ (ts : List Token). are_texts ts ≡ true) pieces_parts lexed_pieces tokens l in
     let pieces = pieces_spelled (form_of_file file) top tokens [] written sound.0 in
     (record { shebang = good; normal = sound.1; pieces = pieces }, sound.0)

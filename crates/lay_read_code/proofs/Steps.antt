@@ -1,20 +1,17 @@
 -- One step of a reader, from what the readers within it give.
-use Rattle.std.proofs.Common.{◌≡◌, ℕ, suc, ◌+◌, ◌-◌, ◌<◌, add-one, Bool, true, false, List, [], ◌∷◌, drop, codes, Option, Some, None, Result, Ok, Err, slice_get, refl, ◌∙◌, ap, if◌then◌else◌, arith}
+use Rattle.std.proofs.Common.{◌≡◌, ℕ, suc, ◌+◌, ◌-◌, ◌<◌, add-one, Bool, true, false, List, [], ◌∷◌, drop, codes, Option, Some, None, refl, ◌∙◌, ap, if◌then◌else◌, arith}
 use Rattle.lay_token.specs.Operators.{is_op}
-use Rattle.lay_piece.specs.declared.kind.Delim.TheVariants.{Bracket, Brace}
+use Rattle.lay_piece.specs.declared.kind.Delim.TheVariants.{Brace}
 use Rattle.lay_piece.specs.declared.kind.Kind.{Kind}
 use Rattle.lay_piece.specs.declared.kind.Kind.TheVariants.{Underscore}
 use Rattle.lay_token.specs.declared.token.Token.{Token}
 use Rattle.lay_tree.specs.Ahead.{Tokens, first, tail, closes}
-use Rattle.lay_tree.specs.Words.{is_literal_kind}
-use Rattle.lay_tree.specs.reader.Attr.{meta_input, made, attributes}
+use Rattle.lay_tree.specs.reader.Attr.{attributes}
 use Rattle.lay_tree.specs.reader.Item.{kind_by, item_by, item_at}
-use Rattle.lay_tree.specs.reader.Loops.{Got, Read, ◌>>=◌, passed, nodes, deepest, elements}
+use Rattle.lay_tree.specs.reader.Loops.{Got, Read, ◌>>=◌, nodes, deepest, elements}
 use Rattle.lay_tree.specs.reader.Use.{other_name, use_group, use_end_by, ended, use_at}
-use Rattle.lay_tree.specs.reader.Words.{name_by, name, literal, path_words}
+use Rattle.lay_tree.specs.reader.Words.{name_by, name, path_words}
 use Rattle.lay_tree.specs.declared.attr.Attr.{Attr}
-use Rattle.lay_tree.specs.declared.attr.MetaInput.TheVariants as input
-use Rattle.lay_tree.specs.declared.attr.MetaPath.{MetaPath}
 use Rattle.lay_tree.specs.declared.item.ItemKind.{ItemKind}
 use Rattle.lay_tree.specs.declared.token.Name.{Name}
 use Rattle.lay_tree.specs.declared.token.Word.{Word}
@@ -23,21 +20,9 @@ use Rattle.lay_tree.specs.declared.use_tree.Rename.TheVariants as rename
 use Rattle.lay_tree.specs.declared.use_tree.UseEnd.{UseEnd}
 use Rattle.lay_tree.specs.declared.use_tree.UseEnd.TheVariants as use_end
 use Rattle.lay_tree.specs.declared.use_tree.UseTree.{UseTree}
-use Rattle.lay_read_code.specs.Answers.{IsGot, IsMade, Stopped, meta_rest, bare_rest, value_rest, is_underscore_kind, is_underscore}
-use Rattle.lay_read_code.specs.declared.stop.Stop.{Stop}
-use Rattle.lay_read_code.specs.declared.stop.Stop.TheVariants.{NoReading, NoMemory}
-
--- ---- what stops a reader
-
-pub lost : {A B : Type 0} (inner : Option A) (outer : Option B) (stop : Stop) → Stopped inner stop → (inner ≡ None → outer ≡ None) → Stopped outer stop
-lost inner outer NoReading h f = f h
-lost inner outer NoMemory h f = tt
+use Rattle.lay_read_types.specs.Answers.{is_underscore_kind, is_underscore}
 
 -- ---- the front
-
-pub front_is : (ts : Tokens) (t : Token) → Some t ≡ slice_get ts 0 → ts ≡ t ∷ tail ts
-front_is [] t h = absurd (cc)
-front_is (u ∷ ts) t h = cc
 
 -- what is read behind the `::`, if one stands at the front
 behind_colons : {A : Type 0} (f : Bool → Tokens → A) (b : Bool) (ts : Tokens) (flag : Bool) (mid : Tokens)
@@ -46,62 +31,23 @@ behind_colons : {A : Type 0} (f : Bool → Tokens → A) (b : Bool) (ts : Tokens
 behind_colons f true ts flag mid e g = let h : mid ≡ drop 2 ts = g ∙ rw e refl in rw (e, h) refl
 behind_colons f false ts flag mid e g = let h : mid ≡ ts = g ∙ rw e refl in rw (e, h) refl
 
--- ---- what an attribute is given
-
-joined : {A B C : Type 0} (o : Got A) (f : A → B) (g : B × Tokens → Got C)
-    → ((o >>= (λ l. let one : Got B = Some (f l.0, l.1) in one)) >>= g) ≡ (o >>= (λ l. g (f l.0, l.1)))
-joined None f g = refl
-joined (Some l) f g = refl
-
-pub rest_value : (inner : Bool) (path : MetaPath) (ts : Tokens) → is_op (codes "=") ts ≡ true → meta_rest inner path ts ≡ value_rest inner path (drop 1 ts)
-unfolding meta_input
-rest_value inner path ts h = rw h (joined (literal (drop 1 ts)) input.Value (λ given. passed (closes Bracket) given.1 >>= (λ rest. Some (made inner path given.0, rest))))
-
-pub rest_bare : (inner : Bool) (path : MetaPath) (ts : Tokens) → is_op (codes "=") ts ≡ false → meta_rest inner path ts ≡ bare_rest inner path ts
-unfolding meta_input
-rest_bare inner path ts h = rw h refl
-
-module _ (inner : Bool) (path : MetaPath) where
-  pub value_none : (ts : Tokens) → None ≡ slice_get ts 0 → value_rest inner path ts ≡ None
-  unfolding literal
-  value_none [] h = refl
-  value_none (t ∷ ts) h = absurd (cc)
-
-  pub value_other : (ts : Tokens) (t : Token) → Some t ≡ slice_get ts 0 → is_literal_kind t.kind ≡ false → value_rest inner path ts ≡ None
-  unfolding literal
-  value_other ts t h k = rw (front_is ts t h, k) refl
-
-  pub value_open : (ts : Tokens) (t : Token) → Some t ≡ slice_get ts 0 → is_literal_kind t.kind ≡ true → first (closes Bracket) (tail ts) ≡ false → value_rest inner path ts ≡ None
-  unfolding literal
-  value_open ts t h k e = rw (front_is ts t h, k, e) refl
-
-  pub value_some : (ts : Tokens) (t : Token) → Some t ≡ slice_get ts 0 → is_literal_kind t.kind ≡ true → first (closes Bracket) (tail ts) ≡ true
-      → value_rest inner path ts ≡ Some (made inner path (input.Value (record { kind = t.kind; text = t.text })), tail (tail ts))
-  unfolding literal
-  value_some ts t h k e = rw (front_is ts t h, k, e) refl
-
-pub got_by : {A : Type 0} (a b : Got A) (r : Result A Stop) (left : Tokens) → a ≡ b → IsGot b r left → IsGot a r left
-got_by a b r left e h = rw e h
-
-pub got_made : {A : Type 0} (got : Got A) (value : A) (answer : Result A Stop) (left : Tokens) → got ≡ Some (value, left) → IsMade value answer → IsGot got answer left
-got_made got value (Ok a) left e h = rw h e
-got_made got value (Err NoReading) left e h = absurd h
-got_made got value (Err NoMemory) left e h = tt
-
 -- ---- use trees
 
 name_both : (o : Option Name) (ts : Tokens)
-    → ◌≡◌ {A = Got Rename} (o >>= (λ n. Some (rename.Name n, ts))) ((o >>= (λ n. let one : Got Name = Some (n, ts) in one)) >>= (λ n. Some (rename.Name n.0, n.1)))
+    → ◌≡◌ {A = Got Rename} (o >>= (λ n. Some (rename.Name n, ts)))
+    ((o >>= (λ n. let one : Got Name = Some (n, ts) in one)) >>= (λ n. Some (rename.Name n.0, n.1)))
 name_both None ts = refl
 name_both (Some n) ts = refl
 
 other_kind : (k : Kind) (t : Token) (ts : Tokens) → is_underscore_kind k ≡ false
-    → other_name (record t { kind = k } ∷ ts) ≡ (name (record t { kind = k } ∷ ts) >>= (λ n. Some (rename.Name n.0, n.1)))
+    → other_name (record t { kind = k } ∷ ts) ≡ (name (record t { kind = k } ∷ ts)
+    >>= (λ n. Some (rename.Name n.0, n.1)))
 unfolding other_name name
 other_kind Underscore t ts h = absurd (cc)
 other_kind k t ts h = name_both (name_by k t.text) ts
 
-underscore_kind : (k : Kind) (t : Token) (ts : Tokens) → is_underscore_kind k ≡ true → other_name (record t { kind = k } ∷ ts) ≡ Some (rename.Underscore, ts)
+underscore_kind : (k : Kind) (t : Token) (ts : Tokens) → is_underscore_kind k ≡ true
+    → other_name (record t { kind = k } ∷ ts) ≡ Some (rename.Underscore, ts)
 unfolding other_name
 underscore_kind Underscore t ts h = refl
 underscore_kind _ t ts h = absurd (cc)
@@ -110,7 +56,8 @@ pub other_underscore : (ts : Tokens) → first is_underscore ts ≡ true → oth
 other_underscore [] h = absurd (cc)
 other_underscore (t ∷ ts) h = underscore_kind t.kind t ts h
 
-other_is_name : (ts : Tokens) → first is_underscore ts ≡ false → other_name ts ≡ (name ts >>= (λ n. Some (rename.Name n.0, n.1)))
+other_is_name : (ts : Tokens) → first is_underscore ts ≡ false
+    → other_name ts ≡ (name ts >>= (λ n. Some (rename.Name n.0, n.1)))
 unfolding other_name name
 other_is_name [] h = refl
 other_is_name (t ∷ ts) h = other_kind t.kind t ts h
@@ -118,14 +65,16 @@ other_is_name (t ∷ ts) h = other_kind t.kind t ts h
 pub other_none : (ts : Tokens) → first is_underscore ts ≡ false → name ts ≡ None → other_name ts ≡ None
 other_none ts h n = other_is_name ts h ∙ rw n refl
 
-pub other_some : (ts : Tokens) (one : Name) (rest : Tokens) → first is_underscore ts ≡ false → name ts ≡ Some (one, rest) → other_name ts ≡ Some (rename.Name one, rest)
+pub other_some : (ts : Tokens) (one : Name) (rest : Tokens) → first is_underscore ts ≡ false
+    → name ts ≡ Some (one, rest) → other_name ts ≡ Some (rename.Name one, rest)
 other_some ts one rest h n = other_is_name ts h ∙ rw n refl
 
 module _ (within : Tokens → Read UseTree) (ts : Tokens) where
   pub group_none : elements (closes Brace) within ts ≡ None → use_group within ts ≡ None
   group_none h = rw h refl
 
-  pub group_some : (read : List (UseTree × ℕ)) (trees : List UseTree) (need : ℕ) (rest : Tokens) → elements (closes Brace) within ts ≡ Some (read, rest)
+  pub group_some : (read : List (UseTree × ℕ)) (trees : List UseTree) (need : ℕ) (rest : Tokens)
+      → elements (closes Brace) within ts ≡ Some (read, rest)
       → nodes read ≡ trees → deepest read ≡ need → use_group within ts ≡ Some ((use_end.Group trees, need), rest)
   group_some read trees need rest h e d = rw (h, e, d) refl
 
@@ -137,23 +86,28 @@ deeper f n some = let e : n ≡ suc (n - 1) = omega arith in ap f e
 -- what a use tree is, behind the `::` that it may begin with
 abbrev use_behind : (Tokens → Read UseTree) → Bool → Tokens → Read UseTree
 use_behind within flag mid =
-    path_words mid >>= (λ p. use_end_by within p.1 >>= (λ end. ended (record { global = flag; path = p.0; end = end.0.0 }, suc end.0.1) end.1))
+    path_words mid >>= (λ p. use_end_by within p.1 >>= (λ end. ended
+    (record { global = flag; path = p.0; end = end.0.0 }, suc end.0.1) end.1))
 
-module _ (depth : ℕ) (ts : Tokens) (flag : Bool) (mid : Tokens) (some : 0 < depth) (e : flag ≡ is_op (codes "::") ts) (g : mid ≡ (if flag then drop 2 ts else ts)) where
+module _ (depth : ℕ) (ts : Tokens) (flag : Bool) (mid : Tokens) (some : 0 < depth) (e : flag ≡ is_op (codes "::") ts)
+    (g : mid ≡ (if flag then drop 2 ts else ts)) where
   use_step : use_at depth ts ≡ use_behind (use_at (depth - 1)) flag mid
   unfolding use_at
   use_step =
-      deeper (λ n. use_at n ts) depth some ∙ behind_colons (use_behind (use_at (depth - 1))) (is_op (codes "::") ts) ts flag mid e g
+      deeper (λ n. use_at n ts) depth some ∙ behind_colons (use_behind (use_at (depth - 1))) (is_op (codes "::") ts)
+      ts flag mid e g
 
   module _ (words : List Word) (behind : Tokens) (p : path_words mid ≡ Some (words, behind)) where
     pub use_none : use_end_by (use_at (depth - 1)) behind ≡ None → use_at depth ts ≡ None
     use_none h = use_step ∙ rw (p, h) refl
 
-    pub use_goes_on : (end : UseEnd) (need : ℕ) (rest : Tokens) → use_end_by (use_at (depth - 1)) behind ≡ Some ((end, need), rest) → is_op (codes "::") rest ≡ true
+    pub use_goes_on : (end : UseEnd) (need : ℕ) (rest : Tokens)
+        → use_end_by (use_at (depth - 1)) behind ≡ Some ((end, need), rest) → is_op (codes "::") rest ≡ true
         → use_at depth ts ≡ None
     use_goes_on end need rest h c = use_step ∙ rw (p, h, c) refl
 
-    pub use_some : (end : UseEnd) (need : ℕ) (rest : Tokens) → use_end_by (use_at (depth - 1)) behind ≡ Some ((end, need), rest) → is_op (codes "::") rest ≡ false
+    pub use_some : (end : UseEnd) (need : ℕ) (rest : Tokens)
+        → use_end_by (use_at (depth - 1)) behind ≡ Some ((end, need), rest) → is_op (codes "::") rest ≡ false
         → use_at depth ts ≡ Some ((record { global = flag; path = words; end = end }, need + 1), rest)
     use_some end need rest h c = use_step ∙ rw (p, h, c, add-one) refl
 
@@ -168,6 +122,7 @@ module _ (depth : ℕ) (ts : Tokens) (some : 0 < depth) where
     pub item_none : kind_by (item_at (depth - 1)) (use_at (depth - 1)) mid ≡ None → item_at depth ts ≡ None
     item_none k = item_step ∙ rw (a, k) refl
 
-    pub item_some : (kind : ItemKind) (need : ℕ) (rest : Tokens) → kind_by (item_at (depth - 1)) (use_at (depth - 1)) mid ≡ Some ((kind, need), rest)
+    pub item_some : (kind : ItemKind) (need : ℕ) (rest : Tokens)
+        → kind_by (item_at (depth - 1)) (use_at (depth - 1)) mid ≡ Some ((kind, need), rest)
         → item_at depth ts ≡ Some ((record { attrs = attrs; kind = kind }, need + 1), rest)
     item_some kind need rest k = item_step ∙ rw (a, k, add-one) refl

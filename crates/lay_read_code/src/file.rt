@@ -2,12 +2,12 @@
 ghost use Rattle.std.specs.Prelude.{IsTrue};
 ghost use Rattle.lay_tree.specs.Written.{is_good_shebang};
 ghost use Rattle.lay_tree.specs.reader.File.{whole};
-ghost use Rattle.lay_read_code.specs.Answers.{AreLexed, FileAs, IsWhole};
+ghost use Rattle.lay_read_types.specs.Answers.{AreLexed};
+ghost use Rattle.lay_read_code.specs.Answers.{FileAs, IsWhole};
 
-use crate::attributes::read_attrs;
 use crate::items::read_items;
-use crate::stop::Stop;
 use lay_nest::{Cursor, Nested};
+use lay_read_types::{ReadNone, read_attrs};
 use lay_token::{FormatError, List, Refusal, Text};
 use lay_tree::{Attr, File, Item};
 use std::alloc::Global;
@@ -31,14 +31,14 @@ pub fn read_file(alloc: Global, nested: &Nested, shebang: Option<Text>) -> Resul
             attrs,
             items,
         }),
-        Err(Stop::NoReading) => Err(FormatError::Refused(Refusal::NoItem { at: 0 })),
-        Err(Stop::NoMemory) => Err(FormatError::NoMemory),
+        Err(ReadNone::NoReading) => Err(FormatError::Refused(Refusal::NoItem { at: 0 })),
+        Err(ReadNone::NoMemory) => Err(FormatError::NoMemory),
     }
 }
 
 /// Inner attributes and items, and behind them no token.
 #[tactic(auto, unfolding(lay_tree::specs::reader::File::whole))]
-fn read_whole(alloc: Global, at: &mut Cursor<'_>) -> Result<(List<Attr>, List<Item>), Stop>
+fn read_whole(alloc: Global, at: &mut Cursor<'_>) -> Result<(List<Attr>, List<Item>), ReadNone>
     requires { AreLexed at.old }
     ensures { IsWhole (whole at.old) result }
 {
@@ -47,6 +47,6 @@ fn read_whole(alloc: Global, at: &mut Cursor<'_>) -> Result<(List<Attr>, List<It
     if at.is_end() {
         Ok((attrs, items.node))
     } else {
-        Err(Stop::NoReading)
+        Err(ReadNone::NoReading)
     }
 }

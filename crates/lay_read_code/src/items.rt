@@ -2,22 +2,31 @@
 ghost use Rattle.std.specs.Prelude.{◌≡◌, ◌≤◌, IfOk};
 ghost use Rattle.lay_tree.specs.reader.Item as reader;
 ghost use Rattle.lay_tree.specs.reader.Use.{use_at};
-ghost use Rattle.lay_read_code.specs.Answers.{AreFound, AreLexed, IsFound, IsHeld};
+ghost use Rattle.lay_read_types.specs.Answers.{AreLexed, IsHeld};
+ghost use Rattle.lay_read_code.specs.Answers.{AreFound, IsFound};
 
-use crate::attributes::read_attrs;
 use crate::found::{Found, greater};
-use crate::front::{has_items, takes_closer, takes_keyword, takes_mark, takes_opener};
-use crate::names::read_name;
-use crate::stop::{Stop, boxed, keep};
 use crate::uses::read_use;
 use lay_nest::Cursor;
+use lay_read_types::calls::takes_end;
+use lay_read_types::front::{
+    has_items, pass_two, takes_closer, takes_keyword, takes_mark, takes_op, takes_opener,
+};
+use lay_read_types::names::{is_at_name, read_name};
+use lay_read_types::stop::{boxed, keep};
+use lay_read_types::tokens::read_group;
+use lay_read_types::{ReadNone, read_attrs, read_call};
 use lay_token::{Delim, List};
 use lay_tree::{Item, ItemKind};
 use std::alloc::Global;
 
 /// Items within a depth, up to where they end.
 #[cycle(items)]
-pub fn read_items(alloc: Global, at: &mut Cursor<'_>, depth: u32) -> Result<Found<List<Item>>, Stop>
+pub fn read_items(
+    alloc: Global,
+    at: &mut Cursor<'_>,
+    depth: u32,
+) -> Result<Found<List<Item>>, ReadNone>
     requires { AreLexed at.old }
     ensures read { IsHeld AreFound (reader.items_by (reader.item_at depth) at.old) result at.new }
     ensures within { IfOk result (λ found. found.need ≤ depth) }
@@ -35,13 +44,13 @@ pub fn read_items(alloc: Global, at: &mut Cursor<'_>, depth: u32) -> Result<Foun
 /// An item within a depth, with its attributes.
 #[cycle(items)]
 #[tactic(auto, unfolding(lay_tree::specs::reader::Item::item_at))]
-fn read_item(alloc: Global, at: &mut Cursor<'_>, depth: u32) -> Result<Found<Item>, Stop>
+fn read_item(alloc: Global, at: &mut Cursor<'_>, depth: u32) -> Result<Found<Item>, ReadNone>
     requires { AreLexed at.old }
     ensures read { IsFound (reader.item_at depth at.old) result at.new }
     ensures within { IfOk result (λ found. found.need ≤ depth) }
 {
     if depth == 0 {
-        return Err(Stop::NoReading);
+        return Err(ReadNone::NoReading);
     }
     let attrs = read_attrs(alloc, at, false)?;
     let kind = read_kind(alloc, at, depth - 1)?;
@@ -54,10 +63,10 @@ fn read_item(alloc: Global, at: &mut Cursor<'_>, depth: u32) -> Result<Found<Ite
     })
 }
 
-/// What an item is, told from its keyword. What is within it stands within the depth.
+/// What an item is, told from its keyword; without one it is a macro call. What is within it stands within the depth.
 #[cycle(items)]
 #[tactic(auto, unfolding(lay_tree::specs::reader::Item::kind_by))]
-fn read_kind(alloc: Global, at: &mut Cursor<'_>, depth: u32) -> Result<Found<ItemKind>, Stop>
+fn read_kind(alloc: Global, at: &mut Cursor<'_>, depth: u32) -> Result<Found<ItemKind>, ReadNone>
     requires { AreLexed at.old }
     ensures read { IsFound (reader.kind_by (reader.item_at depth) (use_at depth) at.old) result at.new }
     ensures within { IfOk result (λ found. found.need ≤ depth) }
@@ -68,14 +77,61 @@ fn read_kind(alloc: Global, at: &mut Cursor<'_>, depth: u32) -> Result<Found<Ite
         read_module(alloc, at, depth)
     } else if takes_keyword(at, b"use") {
         read_import(alloc, at, depth)
+    } else if begins_rules(at) {
+        read_rules(alloc, at)
     } else {
-        Err(Stop::NoReading)
+        read_call_item(alloc, at)
+    }
+}
+
+/// Whether a macro is declared at the front: `macro_rules` before a `!` and a name.
+fn begins_rules(at: &Cursor<'_>) -> bool
+    ensures { result ≡ reader.begins_rules at.now }
+{
+    let mut behind = at.fork();
+    takes_keyword(&mut behind, b"macro_rules") && takes_op(&mut behind, b"!") && is_at_name(&behind)
+}
+
+/// The declaration of a macro. The tokens before its name are known.
+#[tactic(auto, unfolding(lay_tree::specs::reader::Item::rules_item))]
+fn read_rules(alloc: Global, at: &mut Cursor<'_>) -> Result<Found<ItemKind>, ReadNone>
+    ensures read { IsFound (reader.rules_item at.old) result at.new }
+    ensures within { IfOk result (λ found. found.need ≡ 0) }
+{
+    pass_two(at);
+    let name = read_name(alloc, at)?;
+    let rules = read_group(alloc, at)?;
+    if takes_end(at, rules.delim) {
+        Ok(Found {
+            node: ItemKind::MacroRules { name, rules },
+            need: 0,
+        })
+    } else {
+        Err(ReadNone::NoReading)
+    }
+}
+
+/// A macro call, and what ends it.
+#[tactic(auto, unfolding(lay_tree::specs::reader::Item::call_item))]
+fn read_call_item(alloc: Global, at: &mut Cursor<'_>) -> Result<Found<ItemKind>, ReadNone>
+    requires { AreLexed at.old }
+    ensures read { IsFound (reader.call_item at.old) result at.new }
+    ensures within { IfOk result (λ found. found.need ≡ 0) }
+{
+    let call = read_call(alloc, at)?;
+    if takes_end(at, call.tokens.delim) {
+        Ok(Found {
+            node: ItemKind::Call { call },
+            need: 0,
+        })
+    } else {
+        Err(ReadNone::NoReading)
     }
 }
 
 /// A struct, behind its keyword.
 #[tactic(auto, unfolding(lay_tree::specs::reader::Item::struct_item))]
-fn read_struct(alloc: Global, at: &mut Cursor<'_>) -> Result<Found<ItemKind>, Stop>
+fn read_struct(alloc: Global, at: &mut Cursor<'_>) -> Result<Found<ItemKind>, ReadNone>
     ensures read { IsFound (reader.struct_item at.old) result at.new }
     ensures within { IfOk result (λ found. found.need ≡ 0) }
 {
@@ -86,21 +142,21 @@ fn read_struct(alloc: Global, at: &mut Cursor<'_>) -> Result<Found<ItemKind>, St
             need: 0,
         })
     } else {
-        Err(Stop::NoReading)
+        Err(ReadNone::NoReading)
     }
 }
 
 /// A module, behind its keyword. Its items stand within the depth.
 #[cycle(items)]
 #[tactic(auto, unfolding(lay_tree::specs::reader::Item::module_by))]
-fn read_module(alloc: Global, at: &mut Cursor<'_>, depth: u32) -> Result<Found<ItemKind>, Stop>
+fn read_module(alloc: Global, at: &mut Cursor<'_>, depth: u32) -> Result<Found<ItemKind>, ReadNone>
     requires { AreLexed at.old }
     ensures read { IsFound (reader.module_by (reader.item_at depth) at.old) result at.new }
     ensures within { IfOk result (λ found. found.need ≤ depth) }
 {
     let name = read_name(alloc, at)?;
     if !takes_opener(at, Delim::Brace) {
-        return Err(Stop::NoReading);
+        return Err(ReadNone::NoReading);
     }
     let attrs = read_attrs(alloc, at, true)?;
     let items = read_items(alloc, at, depth)?;
@@ -114,13 +170,13 @@ fn read_module(alloc: Global, at: &mut Cursor<'_>, depth: u32) -> Result<Found<I
             },
         })
     } else {
-        Err(Stop::NoReading)
+        Err(ReadNone::NoReading)
     }
 }
 
 /// An import, behind its keyword. Its use tree stands within the depth.
 #[tactic(auto, unfolding(lay_tree::specs::reader::Item::import_by))]
-fn read_import(alloc: Global, at: &mut Cursor<'_>, depth: u32) -> Result<Found<ItemKind>, Stop>
+fn read_import(alloc: Global, at: &mut Cursor<'_>, depth: u32) -> Result<Found<ItemKind>, ReadNone>
     ensures read { IsFound (reader.import_by (use_at depth) at.old) result at.new }
     ensures within { IfOk result (λ found. found.need ≤ depth) }
 {
@@ -132,6 +188,6 @@ fn read_import(alloc: Global, at: &mut Cursor<'_>, depth: u32) -> Result<Found<I
             need,
         })
     } else {
-        Err(Stop::NoReading)
+        Err(ReadNone::NoReading)
     }
 }

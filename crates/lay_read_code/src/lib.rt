@@ -5,14 +5,9 @@
 //! spelled and nothing else.
 #![tactic(auto)]
 
-mod attributes;
 mod file;
 mod found;
-mod front;
 mod items;
-mod names;
-mod paths;
-mod stop;
 mod uses;
 
 pub use file::read_file;

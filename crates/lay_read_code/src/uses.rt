@@ -1,16 +1,18 @@
 //! Use trees.
 ghost use Rattle.std.specs.Prelude.{◌≡◌, ◌≤◌, IfOk};
 ghost use Rattle.lay_tree.specs.reader.Use as reader;
-ghost use Rattle.lay_read_code.specs.Answers.{IsFound, IsGot};
+ghost use Rattle.lay_read_types.specs.Answers.{IsGot};
+ghost use Rattle.lay_read_code.specs.Answers.{IsFound};
 
 use crate::found::{Found, greater};
-use crate::front::{
+use lay_nest::Cursor;
+use lay_read_types::ReadNone;
+use lay_read_types::front::{
     is_at_colons, takes_closer, takes_colons, takes_element_end, takes_keyword, takes_op,
     takes_opener, takes_underscore,
 };
-use crate::names::{read_name, read_path_words, read_word};
-use crate::stop::{Stop, keep};
-use lay_nest::Cursor;
+use lay_read_types::names::{read_name, read_path_words, read_word};
+use lay_read_types::stop::keep;
 use lay_token::{Delim, List};
 use lay_tree::{Rename, UseEnd, UseTree};
 use std::alloc::Global;
@@ -18,18 +20,18 @@ use std::alloc::Global;
 /// A use tree, within a depth.
 #[cycle(use_trees)]
 #[tactic(auto, unfolding(lay_tree::specs::reader::Use::use_at))]
-pub fn read_use(alloc: Global, at: &mut Cursor<'_>, depth: u32) -> Result<Found<UseTree>, Stop>
+pub fn read_use(alloc: Global, at: &mut Cursor<'_>, depth: u32) -> Result<Found<UseTree>, ReadNone>
     ensures read { IsFound (reader.use_at depth at.old) result at.new }
     ensures within { IfOk result (λ found. found.need ≤ depth) }
 {
     if depth == 0 {
-        return Err(Stop::NoReading);
+        return Err(ReadNone::NoReading);
     }
     let global = takes_colons(at);
     let path = read_path_words(alloc, at)?;
     let end = read_use_end(alloc, at, depth - 1)?;
     if is_at_colons(at) {
-        return Err(Stop::NoReading);
+        return Err(ReadNone::NoReading);
     }
     Ok(Found {
         need: end.need + 1,
@@ -43,7 +45,7 @@ pub fn read_use(alloc: Global, at: &mut Cursor<'_>, depth: u32) -> Result<Found<
 
 /// What stands behind the path of a use tree. The trees within it stand within the depth.
 #[cycle(use_trees)]
-fn read_use_end(alloc: Global, at: &mut Cursor<'_>, depth: u32) -> Result<Found<UseEnd>, Stop>
+fn read_use_end(alloc: Global, at: &mut Cursor<'_>, depth: u32) -> Result<Found<UseEnd>, ReadNone>
     ensures read { IsFound (reader.use_end_by (reader.use_at depth) at.old) result at.new }
     ensures within { IfOk result (λ found. found.need ≤ depth) }
 {
@@ -61,7 +63,7 @@ fn read_use_end(alloc: Global, at: &mut Cursor<'_>, depth: u32) -> Result<Found<
 
 /// The use trees of a group, which stand within the depth, and the `}` behind them.
 #[cycle(use_trees)]
-fn read_group(alloc: Global, at: &mut Cursor<'_>, depth: u32) -> Result<Found<UseEnd>, Stop>
+fn read_group(alloc: Global, at: &mut Cursor<'_>, depth: u32) -> Result<Found<UseEnd>, ReadNone>
     ensures read { IsFound (reader.use_group (reader.use_at depth) at.old) result at.new }
     ensures within { IfOk result (λ found. found.need ≤ depth) }
 {
@@ -72,7 +74,7 @@ fn read_group(alloc: Global, at: &mut Cursor<'_>, depth: u32) -> Result<Found<Us
         need = greater(need, tree.need);
         keep(&mut trees, tree.node)?;
         if !takes_element_end(at, Delim::Brace) {
-            return Err(Stop::NoReading);
+            return Err(ReadNone::NoReading);
         }
     }
     Ok(Found {
@@ -82,7 +84,7 @@ fn read_group(alloc: Global, at: &mut Cursor<'_>, depth: u32) -> Result<Found<Us
 }
 
 /// A word, and what it is called here.
-fn read_use_word(alloc: Global, at: &mut Cursor<'_>) -> Result<Found<UseEnd>, Stop>
+fn read_use_word(alloc: Global, at: &mut Cursor<'_>) -> Result<Found<UseEnd>, ReadNone>
     ensures read { IsFound (reader.use_word at.old) result at.new }
     ensures within { IfOk result (λ found. found.need ≡ 0) }
 {
@@ -96,7 +98,7 @@ fn read_use_word(alloc: Global, at: &mut Cursor<'_>) -> Result<Found<UseEnd>, St
 
 /// What follows a word: `as` and another name, or nothing of a use tree.
 #[tactic(auto, unfolding(lay_tree::specs::reader::Use::renamed))]
-fn read_rename(alloc: Global, at: &mut Cursor<'_>) -> Result<Option<Rename>, Stop>
+fn read_rename(alloc: Global, at: &mut Cursor<'_>) -> Result<Option<Rename>, ReadNone>
     ensures { IsGot (reader.renamed at.old) result at.new }
 {
     if !takes_keyword(at, b"as") {
@@ -107,7 +109,7 @@ fn read_rename(alloc: Global, at: &mut Cursor<'_>) -> Result<Option<Rename>, Sto
 }
 
 /// A name, or `_`.
-fn read_other_name(alloc: Global, at: &mut Cursor<'_>) -> Result<Rename, Stop>
+fn read_other_name(alloc: Global, at: &mut Cursor<'_>) -> Result<Rename, ReadNone>
     ensures { IsGot (reader.other_name at.old) result at.new }
 {
     if takes_underscore(at) {

@@ -1,6 +1,6 @@
 use Rattle.std.proofs.Common.{refl, ap, sym, subst, ◌∙◌}
 use Rattle.lay_tree.specs.reader.File.{whole}
-use Rattle.lay_read_code.specs.Answers.{AreLexed}
+use Rattle.lay_read_types.specs.Answers.{AreLexed}
 use Rattle.lay_read_code.proofs.Files.{file_spelled, nothing_spelled}
 use Rattle.lay_read_code.proofs.file.read_file.Goals as goal
 
@@ -9,8 +9,11 @@ read_whole-requires c = subst AreLexed (sym c.cursor-at.ensures.tokens) c.requir
 
 pub returns-in-Ok : goal.returns-in-Ok
 returns-in-Ok c =
-    let here = sym (ap whole c.cursor-at.ensures.tokens) in
-    (refl, file_spelled c.args.nested.now c.args.shebang c.in-Ok.attrs c.in-Ok.items c.requires.lexed c.requires.good (here ∙ c.in-Ok.ensures))
+    let here = sym (ap whole c.cursor-at.ensures.tokens) in (
+      refl,
+      file_spelled c.args.nested.now c.args.shebang c.in-Ok.attrs c.in-Ok.items c.requires.lexed c.requires.good
+          (here ∙ c.in-Ok.ensures),
+    )
 
 pub returns-in-Err-NoReading : goal.returns-in-Err-NoReading
 returns-in-Err-NoReading c =

@@ -3,7 +3,8 @@ use Rattle.lay_piece.specs.declared.kind.Delim.TheVariants.{Brace}
 use Rattle.lay_tree.specs.Ahead.{closes}
 use Rattle.lay_tree.specs.reader.Loops.{elements_from, elements}
 use Rattle.lay_tree.specs.reader.Use.{use_at}
-use Rattle.lay_read_code.proofs.Turns.{Turn, Held, Holding}
+use Rattle.lay_read_types.proofs.Turns.{Turn, Held}
+use Rattle.lay_read_code.proofs.Holding.{Holding}
 use Rattle.lay_read_code.proofs.uses.+use_trees.Given as goal
 
 abbrev pub decreases-read_group : goal.decreases-read_group
@@ -17,7 +18,8 @@ decreases-read_use_end l = 3 * l.depth + 2
 
 abbrev pub invariant-read_group-loop-alloc : goal.invariant-read_group-loop-alloc
 invariant-read_group-loop-alloc l = record {
-  held : Held (λ read. Turn (elements_from (closes Brace) (use_at l.depth)) (elements (closes Brace) (use_at l.depth) l.fn.at) read l.at)
+  held : Held (λ read. Turn (elements_from (closes Brace) (use_at l.depth))
+      (elements (closes Brace) (use_at l.depth) l.fn.at) read l.at)
       (Holding l.trees l.need);
   within : l.need ≤ l.depth;
 }

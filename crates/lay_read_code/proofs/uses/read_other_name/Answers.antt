@@ -2,11 +2,13 @@ use Rattle.std.proofs.Common.{sym, ap, ◌∙◌}
 use Rattle.std.proofs.lemmas.Result.{err_from_is_err_and}
 use Rattle.lay_tree.specs.reader.Use.{other_name}
 use Rattle.lay_tree.specs.reader.Words.{name}
-use Rattle.lay_read_code.proofs.Steps.{lost, other_underscore, other_none, other_some}
+use Rattle.lay_read_types.proofs.Steps.{lost}
+use Rattle.lay_read_code.proofs.Steps.{other_underscore, other_none, other_some}
 use Rattle.lay_read_code.proofs.uses.read_other_name.Goals as goal
 
 pub returns-then-takes_underscore : goal.returns-then-takes_underscore
-returns-then-takes_underscore c = rw c.if-takes_underscore.ensures.passed (other_underscore c.args.at.now (sym c.if-takes_underscore.ensures.found))
+returns-then-takes_underscore c = rw c.if-takes_underscore.ensures.passed
+    (other_underscore c.args.at.now (sym c.if-takes_underscore.ensures.found))
 
 pub returns-in_err-name : goal.returns-in_err-name
 returns-in_err-name c =
@@ -19,4 +21,5 @@ returns-in_err-name c =
 pub returns : goal.returns
 returns c =
     let here = ap name (sym c.if-takes_underscore.ensures.passed) in
-    other_some c.args.at.now c.in_ok-name.name c.read_name.new.at (sym c.if-takes_underscore.ensures.found) (here ∙ c.in_ok-name.ensures)
+    other_some c.args.at.now c.in_ok-name.name c.read_name.new.at (sym c.if-takes_underscore.ensures.found)
+    (here ∙ c.in_ok-name.ensures)

@@ -1,0 +1,5 @@
+pub mod Lists
+pub mod Left
+pub mod Lexed
+pub mod Turns
+pub mod Steps

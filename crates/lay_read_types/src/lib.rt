@@ -1,0 +1,17 @@
+//! From nested tokens to what all nodes are made of: names, paths, token lists, macro calls and attributes.
+//!
+//! Each reader is proved equal to a function of the tokens ahead that `lay_tree` defines, and that function reads what
+//! is spelled and nothing else. Where a reader reads none, [`ReadNone`] says why.
+#![tactic(auto)]
+
+pub mod attributes;
+pub mod calls;
+pub mod front;
+pub mod names;
+pub mod paths;
+pub mod stop;
+pub mod tokens;
+
+pub use attributes::{read_attr, read_attrs};
+pub use calls::read_call;
+pub use stop::ReadNone;
