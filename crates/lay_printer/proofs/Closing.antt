@@ -80,7 +80,7 @@ left_pop {w} {first} {acc} {cur} {es} h ns m e l f g =
 
 pub closed : {w : List Tok} {first acc cur : ℕ} {es : List Entry} {ms : List Note} → Left w first acc cur es ms → NoteKept cur ms → Closed w first acc cur es ms
 closed {first} {acc} {cur} h (inl e) = record { left = h; none = no_note first acc cur cur h.now (subst (λ (x : List Note). Fits first acc cur cur h.now x) e h.fits) }
-closed {first} {acc} {cur} h (inr b) = record { left = h; none = none_stops first acc cur h.now b.before b.newest b.low (subst (λ (x : List Note). Fits first acc cur cur h.now x) b.both h.fits) }
+closed {first} {acc} {cur} h (inr b) = record { left = h; none = none_stops first acc cur h.now b.0 b.1 b.3 (subst (λ (x : List Note). Fits first acc cur cur h.now x) b.2 h.fits) }
 
 pub left_along : {w : List Tok} {first acc cur : ℕ} {es : List Entry} {ms : List Note} (first' acc' : ℕ) (es' : List Entry) →
     first' ≡ first → acc' ≡ acc → es' ≡ es → Left w first acc cur es ms → Left w first' acc' cur es' ms

@@ -4,7 +4,8 @@ use Rattle.lay_token.specs.declared.layout.Tok.{Tok}
 use Rattle.lay_token.specs.declared.layout.Tok.TheVariants as tok
 use Rattle.lay_printer.specs.declared.close.Note.{Note}
 use Rattle.lay_printer.specs.Scan.{Scan, cap}
-use Rattle.lay_printer.specs.Notes.{scans, grow, deepen, leave, Fits}
+use Rattle.lay_printer.specs.Notes.{scans, Fits}
+use Rattle.lay_printer.proofs.Advancing.{grow, deepen, leave}
 use Rattle.lay_printer.proofs.WriteBack.{scans_append, fits_grow, fits_deepen, fits_leave, fits_still, fits_push}
 
 length_scans_of : (w : List Tok) → length (scans w) ≡ length w

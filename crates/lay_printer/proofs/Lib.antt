@@ -1,4 +1,5 @@
 pub mod Steps
+pub mod Advancing
 pub mod WriteBack
 pub mod Feeding
 pub mod Closing

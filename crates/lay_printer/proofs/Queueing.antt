@@ -10,11 +10,21 @@ use Rattle.lay_ring.specs.declared.entry.Size.TheVariants.{Unknown, Known}
 use Rattle.lay_ring.specs.declared.entry.Entry.{Entry}
 use Rattle.lay_printer.specs.declared.close.Note.{Note}
 use Rattle.lay_printer.specs.Scan.{Scan, Stopped, Going, at_end, size_of_scan, scan_of, waiting, text_length, cap}
-use Rattle.lay_printer.specs.Notes.{scans, advance, stop, Fits}
+use Rattle.lay_printer.specs.Notes.{scans, stop, Fits}
+use Rattle.lay_printer.proofs.Advancing.{advance}
 use Rattle.lay_printer.specs.Closed.{Left, Closed, toks_of, sizes_of}
-use Rattle.lay_printer.specs.Queued.{notes_after, Good}
+use Rattle.lay_printer.specs.Queued.{notes_after}
 use Rattle.lay_printer.proofs.WriteBack.{scans_append, fed_break}
 use Rattle.lay_printer.proofs.Feeding.{fed_text, fed_begin, fed_end}
+
+-- What is kept fits the tokens that wait. ended: no more tokens come.
+pub record Good (ended : Bool) (ring : Held) (notes : List Note) (acc groups wait : ℕ) : Type 0 where
+  pub sizes : sizes_of ring.entries ≡ map size_of_scan (map (at_end ended) (scans (toks_of ring.entries)))
+  pub fits : Fits ring.first acc groups groups (map (at_end ended) (scans (toks_of ring.entries))) notes
+  pub acc_small : acc ≤ cap
+  pub wait_is : wait ≡ waiting ring.entries
+  pub number : ring.first < 2 ^ 64
+  pub held : length ring.entries ≤ 2 ^ 63
 
 at_end_false : (cs : List Scan) → map (at_end false) cs ≡ cs
 at_end_false [] = refl

@@ -8,7 +8,8 @@ use Rattle.lay_ring.specs.declared.entry.Size.{Size}
 use Rattle.lay_ring.specs.declared.entry.Size.TheVariants.{Unknown, Known}
 use Rattle.lay_printer.specs.Scan.{Scan, Stopped, Going, widen, scan, scan_of, size_of_scan, cap}
 use Rattle.lay_printer.specs.declared.close.Note.{Note}
-use Rattle.lay_printer.specs.Notes.{scans, grow, deepen, leave, stop, advance, acc_of, low_of, Fits}
+use Rattle.lay_printer.specs.Notes.{scans, stop, acc_of, low_of, Fits}
+use Rattle.lay_printer.proofs.Advancing.{grow, deepen, leave, advance}
 
 -- one more token
 widen_advance : (w : ℕ) (x : Tok) (c : Scan) → widen w (advance x c) ≡ advance x (widen w c)

@@ -5,8 +5,6 @@ pub mod Pages
 pub mod Queued
 pub mod Errors
 pub mod Printers
-pub mod Steps
-pub mod Depth
 pub mod Sizes
 pub mod Texts
 pub mod Printing

@@ -1,11 +1,8 @@
 -- The notes that the printer keeps of the entries whose size isn't known, oldest first.
-use Rattle.std.specs.Prelude.{◌≡◌, ℕ, zero, suc, ◌+◌, ◌-◌, ◌%◌, ◌^◌, min, List, [], ◌∷◌, length}
+use Rattle.std.specs.Prelude.{◌≡◌, ℕ, zero, ◌+◌, ◌-◌, ◌%◌, ◌^◌, min, List, [], ◌∷◌}
 use Rattle.lay_token.specs.declared.layout.Tok.{Tok}
 use Rattle.std.specs.Coded.{Unit-prop}
 use native.Mathlib.Nat.{ℕ_set}
-use Rattle.lay_token.specs.declared.layout.Tok.TheVariants as tok
-use Rattle.lay_token.specs.Document.{width_of_break}
-use Rattle.lay_token.specs.Machine.{outer}
 use Rattle.lay_printer.specs.declared.close.Note.{Note}
 use Rattle.lay_printer.specs.Scan.{Scan, Stopped, Going, scan_of, cap}
 
@@ -14,29 +11,10 @@ abbrev pub scans : List Tok → List Scan
 scans [] = []
 scans (t ∷ ts) = scan_of t ts ∷ scans ts
 
--- a scan after one more token
-abbrev pub grow : ℕ → Scan → Scan
-grow k (Stopped n) = Stopped n
-grow k (Going n d) = Going (n + k) d
-
-abbrev pub deepen : Scan → Scan
-deepen (Stopped n) = Stopped n
-deepen (Going n d) = Going n (suc d)
-
-abbrev pub leave : Scan → Scan
-leave (Stopped n) = Stopped n
-leave (Going n d) = Going n (outer d)
-
+-- a scan before a break
 abbrev pub stop : Scan → Scan
-stop (Stopped n) = Stopped n
 stop (Going n zero) = Stopped n
-stop (Going n (suc d)) = Going n (suc d)
-
-abbrev pub advance : Tok → Scan → Scan
-advance (tok.Text t) c = grow (length t) c
-advance (tok.Break b) c = grow (width_of_break b) (stop c)
-advance (tok.Begin o k) c = deepen c
-advance tok.End c = leave c
+stop c = c
 
 -- the width from the oldest note's entry on, where acc is the width from the newest one's on
 abbrev pub acc_of : ℕ → List Note → ℕ
@@ -55,7 +33,8 @@ Fits i acc low cur [] (m ∷ ms) = ⊥
 Fits i acc low cur (Stopped n ∷ cs) ms = Fits (i + 1) acc low cur cs ms
 Fits i acc low cur (Going n d ∷ cs) [] = ⊥
 Fits i acc low cur (Going n d ∷ cs) (m ∷ ms) =
-    (m.number ≡ i % 2 ^ 64) × (min n cap ≡ acc_of acc ms) × (d ≡ cur - low_of low (m ∷ ms)) × Fits (i + 1) acc low cur cs ms
+    (m.number ≡ i % 2 ^ 64) × (min n cap ≡ acc_of acc ms) × (d ≡ cur - low_of low (m ∷ ms))
+    × Fits (i + 1) acc low cur cs ms
 
 -- it says one thing
 pub Fits-prop : (i acc low cur : ℕ) (cs : List Scan) (ms : List Note) → IsProp (Fits i acc low cur cs ms)
@@ -64,4 +43,9 @@ Fits-prop i acc low cur [] (m ∷ ms) = λ x y. absurd x
 Fits-prop i acc low cur (Stopped n ∷ cs) ms = Fits-prop (i + 1) acc low cur cs ms
 Fits-prop i acc low cur (Going n d ∷ cs) [] = λ x y. absurd x
 Fits-prop i acc low cur (Going n d ∷ cs) (m ∷ ms) =
-    λ x y j. (ℕ_set m.number (i % 2 ^ 64) x.0 y.0 j, ℕ_set (min n cap) (acc_of acc ms) x.1 y.1 j, ℕ_set d (cur - low_of low (m ∷ ms)) x.2 y.2 j, Fits-prop (i + 1) acc low cur cs ms x.3 y.3 j)
+    λ x y j. (
+      ℕ_set m.number (i % 2 ^ 64) x.0 y.0 j,
+      ℕ_set (min n cap) (acc_of acc ms) x.1 y.1 j,
+      ℕ_set d (cur - low_of low (m ∷ ms)) x.2 y.2 j,
+      Fits-prop (i + 1) acc low cur cs ms x.3 y.3 j,
+    )

@@ -1,15 +1,19 @@
 -- What is known of a printer.
-use Rattle.std.specs.Prelude.{◌≡◌, ◌≢◌, ℕ, ◌+◌, ◌%◌, ◌^◌, ◌<◌, ◌≤◌, ◌⊎◌, false, List, [], ◌∷◌, ◌++◌, Option, Some, None, Result, Err, OnOk, IfErr}
+use Rattle.std.specs.Prelude.{◌≡◌, ◌≢◌, ℕ, ◌+◌, ◌-◌, ◌%◌, ◌^◌, ◌<◌, ◌≤◌, ◌⊎◌, false, List, [], ◌∷◌, ◌++◌, length, Option, Some, None, Result, Err, OnOk, IfErr}
 use Rattle.lay_token.specs.declared.layout.Tok.{Tok}
 use Rattle.lay_token.specs.Machine.{opened, text, IsNested, IsClosed}
+use Rattle.lay_ring.specs.declared.entry.Entry.{Entry}
 use Rattle.lay_io.specs.Faults.{Rose}
 use Rattle.lay_stream.specs.Fed.{Meanings}
 use Rattle.lay_printer.specs.Queued.{Running, Broken, next_of}
 use Rattle.lay_printer.specs.Pages.{Wrote, Cut}
-use Rattle.lay_printer.specs.Steps.{at}
 use Rattle.lay_printer.specs.Printing.{Printing}
 use Rattle.lay_printer.specs.declared.engine.PrintError.{PrintError}
 use Rattle.lay_printer.specs.declared.engine.PrintError.TheVariants.{WriteFailed, NoMemory}
+
+-- the number of tokens that are printed
+abbrev pub at : List Tok → List Entry → ℕ
+at s es = length s - length es
 
 -- The printer was fed the tokens s, over a sink that had the content, and hasn't failed. The number of its first entry
 -- counts the tokens that are printed. Each End of s closes a group, and the groups that are open are those of s.
@@ -36,8 +40,8 @@ CauseOf NoMemory before now failed = Unit {0}
 
 -- a call that failed, after one that failed or not: after one that failed the sink isn't written to
 abbrev pub LostBy : Option PrintError → Printing → Option (List ℕ) → Option (List ℕ) → Tok → Type 0
-LostBy None c before now t = (content : List ℕ) (s : List Tok) → Runs c before content s → Fails now content (s ++ t ∷ [])
-LostBy (Some e) c before now t = now ≡ before
+LostBy None c was now t = (content : List ℕ) (s : List Tok) → Runs c was content s → Fails now content (s ++ t ∷ [])
+LostBy (Some e) c was now t = now ≡ was
 
 pub record Went (c : Printing) (before : Option (List ℕ)) (c' : Printing) (now : Option (List ℕ)) (t : Tok) : Type 0 where
   pub hadnt_failed : c.failed ≡ None

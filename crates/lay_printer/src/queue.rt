@@ -34,7 +34,6 @@ pub struct Queue {
     ghost held: { length ring.entries ≤ 2 ^ 63 },
 }
 
-/// A mark's length.
 #[inline(always)]
 fn mark_len(mark: Mark) -> u64
     ensures value { result ≡ length (bytes_of_mark mark) }
@@ -46,7 +45,6 @@ fn mark_len(mark: Mark) -> u64
     }
 }
 
-/// A text's length, or 0.
 fn text_len(tok: &Tok) -> u64
     ensures { result ≡ text_length tok.now }
 {
