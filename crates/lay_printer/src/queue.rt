@@ -4,7 +4,7 @@ ghost use Rattle.lay_token.specs.declared.layout.Tok.TheVariants as tok;
 ghost use Rattle.lay_token.specs.Document.{bytes_of_mark};
 ghost use Rattle.lay_printer.specs.Closed.{toks_of, sizes_of};
 ghost use Rattle.lay_printer.specs.Scan.{at_end, text_length, size_of_scan, waiting as sum_waiting, cap};
-ghost use Rattle.lay_printer.specs.Notes.{Fits, Fits-prop, scans};
+ghost use Rattle.lay_printer.specs.Notes.{Fits, scans};
 ghost use Rattle.lay_printer.specs.Queued.{notes_after, next_of};
 ghost use Rattle.lay_token.specs.Machine.{IsNested};
 
@@ -27,7 +27,7 @@ pub struct Queue {
     /// No more tokens come.
     pub ended: bool,
     ghost sizes: { sizes_of ring.entries ≡ map size_of_scan (map (at_end ended) (scans (toks_of ring.entries))) },
-    ghost fits: { Fits ring.first acc groups groups (map (at_end ended) (scans (toks_of ring.entries))) notes.items } by { Fits-prop ring.first acc groups groups (map (at_end ended) (scans (toks_of ring.entries))) notes.items },
+    ghost fits: { Fits ring.first acc groups groups (map (at_end ended) (scans (toks_of ring.entries))) notes.items },
     ghost acc_small: { acc ≤ cap },
     ghost wait_is: { waiting ≡ sum_waiting ring.entries },
     ghost number: { ring.first < 2 ^ 64 },
