@@ -14,7 +14,7 @@ use Rattle.lay_printer.specs.declared.engine.PrintError.TheVariants.{WriteFailed
 use Rattle.lay_printer.specs.Printing.{Printing}
 use Rattle.lay_printer.specs.Scan.{Holds, waiting}
 use Rattle.lay_printer.specs.Pages.{Wrote, Cut}
-use Rattle.lay_printer.specs.Errors.{Blame, Blames}
+use Rattle.lay_printer.specs.Errors.{Blames}
 use Rattle.lay_printer.specs.Queued.{Advances, Says, Decided, next_of}
 use Rattle.lay_printer.specs.Printers.{at, Runs, Fails, FedBy, CauseOf, LostBy, Went, Lost, Calls, Finishes, printer_meanings}
 use Rattle.lay_stream.proofs.Calls.{opened_append}
@@ -70,8 +70,8 @@ calls_ok c c' b n f f' v t u w o k h g m z = record {
   err = tt;
 }
 
-cause_now : (e : PrintError) (f f' : ℕ) (x : Option PrintError) → Blame e f f' → CauseOf e f f' x
-cause_now WriteFailed f f' x h = inl h
+cause_now : (e : PrintError) (f f' : ℕ) (x : Option PrintError) → (e ≡ WriteFailed → Rose f f') → CauseOf e f f' x
+cause_now WriteFailed f f' x h = inl (h refl)
 cause_now NoMemory f f' x h = tt
 
 cause_before : (e : PrintError) (f : ℕ) (x : Option PrintError) → x ≡ Some e → CauseOf e f f x

@@ -20,11 +20,11 @@ each_fits i acc low cur [] (m ∷ ms) h = cc
 each_fits i acc low cur (Stopped n ∷ cs) ms h = each_fits (i + 1) acc low cur cs ms h
 each_fits i acc low cur (Going n d ∷ cs) [] h = cc
 each_fits i acc low cur (Going n d ∷ cs) (m ∷ ms) h =
+    let r : Fits (i + 1) acc low cur cs ms = cc in
     let p : (i % 2 ^ 64, min n cap, d) ≡ (m.number, acc_of acc ms, cur - low_of low (m ∷ ms)) = cc in
     let a : m.number ≡ i % 2 ^ 64 = sym (ap (λ (x : ℕ × ℕ × ℕ). x.0) p) in
     let b : min n cap ≡ acc_of acc ms = ap (λ (x : ℕ × ℕ × ℕ). x.1) p in
     let c : d ≡ cur - low_of low (m ∷ ms) = ap (λ (x : ℕ × ℕ × ℕ). x.2) p in
-    let r : Fits (i + 1) acc low cur cs ms = cc in
     (a, b, c, each_fits (i + 1) acc low cur cs ms r)
 
 pub all_fit : (i acc low cur : ℕ) (cs : List Scan) (ms : List Note) → EachFits i acc low cur cs ms → Fits i acc low cur cs ms

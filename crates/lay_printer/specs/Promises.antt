@@ -10,8 +10,8 @@ use Rattle.lay_printer.specs.Printers.{Runs, at}
 use Rattle.lay_ring.specs.declared.entry.Entry.{Entry}
 use Rattle.lay_printer.specs.declared.line.Line.{Line}
 
--- Lockstep: the sink has grown by what is shown at the token that was printed last, the line is that of the state there,
--- and the tokens after it wait.
+-- Lockstep: the sink has grown by what is shown at the token that was printed last, the line is that of the state
+-- there, and the tokens after it wait.
 pub record InStep (es : List Entry) (p : Line) (w : Option (List ℕ)) (content : List ℕ) (s r : List Tok) : Type 0 where
   pub grown : Wrote w content (shown (s ++ r) (at s es))
   pub line : Is p (layout_after (s ++ r) (at s es)).state

@@ -1,5 +1,6 @@
 -- Tokens that wait, and what is kept of them.
-use Rattle.std.specs.Prelude.{◌≡◌, ℕ, ◌+◌, ◌≤◌, ◌<◌, Bool, true, false, nat_lt, pos, negsuc, List, [], ◌∷◌, ◌++◌, length, Option, Some, None, Result, OnOk, OnErr}
+use Rattle.std.specs.Prelude.{◌≡◌, ℕ, ◌+◌, ◌≤◌, ◌<◌, Bool, true, false, nat_lt, pos, negsuc}
+use Rattle.std.specs.Prelude.{List, [], ◌∷◌, ◌++◌, length, Option, Some, None, Result, OnOk, OnErr}
 use Rattle.lay_token.specs.declared.layout.Tok.{Tok}
 use Rattle.lay_token.specs.declared.layout.Frame.{Frame}
 use Rattle.lay_token.specs.Machine.{Layout, act, text}
@@ -40,12 +41,16 @@ pub record At (line : Line) (frames : List Frame) (m : Layout) : Type 0 where
   pub is : Is line m.state
 
 -- A token is printed: Ok makes the layout act of it, and Err leaves a front of the text of that.
-pub record Prints {T E : Type 0} (line : Line) (frames : List Frame) (before : Option (List ℕ)) (result : Result T E) (line' : Line) (frames' : List Frame) (now : Option (List ℕ)) (tok : Tok) (big : Bool) : Type 0 where
-  pub ok : OnOk result ((content : List ℕ) (m : Layout) → At line frames m → Wrote before content m.state.text → At line' frames' (act tok big m) × Wrote now content (act tok big m).state.text)
-  pub err : OnErr result ((content : List ℕ) (m : Layout) → At line frames m → Wrote before content m.state.text → Cut now content (act tok big m).state.text)
+pub record Prints {T E : Type 0} (line : Line) (frames : List Frame) (before : Option (List ℕ)) (result : Result T E)
+    (line' : Line) (frames' : List Frame) (now : Option (List ℕ)) (tok : Tok) (big : Bool) : Type 0 where
+  pub ok : OnOk result ((content : List ℕ) (m : Layout) → At line frames m → Wrote before content m.state.text
+      → At line' frames' (act tok big m) × Wrote now content (act tok big m).state.text)
+  pub err : OnErr result ((content : List ℕ) (m : Layout) → At line frames m → Wrote before content m.state.text
+      → Cut now content (act tok big m).state.text)
 
 -- The printer holds the tokens s of a stream, over a sink that had the content.
-pub record Running (ended : Bool) (entries : List Entry) (line : Line) (frames : List Frame) (written : Option (List ℕ)) (content : List ℕ) (s : List Tok) : Type 0 where
+pub record Running (ended : Bool) (entries : List Entry) (line : Line) (frames : List Frame)
+    (written : Option (List ℕ)) (content : List ℕ) (s : List Tok) : Type 0 where
   pub layout : Layout
   pub holds : Holds ended s entries layout
   pub at : At line frames layout
@@ -55,7 +60,7 @@ pub record Running (ended : Bool) (entries : List Entry) (line : Line) (frames :
 abbrev pub Broken : Bool → Option (List ℕ) → List ℕ → List Tok → Type 0
 Broken ended written content s = (r : List Tok) → MayFollow ended r → Cut written content (text (s ++ r))
 
--- From a printer that holds tokens: Ok makes them f of them, and Err leaves a front of the text of that and any that follow.
+-- From a printer that holds tokens: Ok makes them f of them, and Err leaves a front of the text of f and what follows.
 pub record Advances {T E : Type 0} (ended : Bool) (entries : List Entry) (line : Line) (frames : List Frame)
     (before : Option (List ℕ)) (result : Result T E) (entries' : List Entry) (line' : Line) (frames' : List Frame)
     (now : Option (List ℕ)) (f : List Tok → List Tok) : Type 0 where
@@ -65,6 +70,9 @@ pub record Advances {T E : Type 0} (ended : Bool) (entries : List Entry) (line :
       → Running ended entries line frames before content s → Broken ended now content (f s))
 
 -- The rest is printed.
-pub record Ends {T E : Type 0} (entries : List Entry) (line : Line) (frames : List Frame) (before : Option (List ℕ)) (result : Result T E) (now : Option (List ℕ)) : Type 0 where
-  pub ok : OnOk result ((content : List ℕ) (s : List Tok) → Running false entries line frames before content s → Wrote now content (text s))
-  pub err : OnErr result ((content : List ℕ) (s : List Tok) → Running false entries line frames before content s → Cut now content (text s))
+pub record Ends {T E : Type 0} (entries : List Entry) (line : Line) (frames : List Frame) (before : Option (List ℕ))
+    (result : Result T E) (now : Option (List ℕ)) : Type 0 where
+  pub ok : OnOk result ((content : List ℕ) (s : List Tok)
+      → Running false entries line frames before content s → Wrote now content (text s))
+  pub err : OnErr result ((content : List ℕ) (s : List Tok)
+      → Running false entries line frames before content s → Cut now content (text s))

@@ -143,7 +143,7 @@ impl<'p, K: Sink> Emit for Press<'p, K> {
     }
 }
 
-/// A printer that owns its sink.
+/// A printer that owns its sink. Contracts see its core and its sink.
 #[derive(Drop)]
 pub struct Printer<K: Sink> {
     core: Core,
