@@ -1,9 +1,9 @@
 -- Scans after one more token.
 use Rattle.std.proofs.Common.{ℕ, suc, ◌+◌, length}
-use Rattle.lay_token.specs.declared.layout.Tok.{Tok}
-use Rattle.lay_token.specs.declared.layout.Tok.TheVariants as tok
-use Rattle.lay_token.specs.Document.{width_of_break}
-use Rattle.lay_token.specs.Machine.{outer}
+use Rattle.lay_layout.specs.declared.layout.Tok.{Tok}
+use Rattle.lay_layout.specs.declared.layout.Tok.TheVariants as tok
+use Rattle.lay_layout.specs.Document.{width_of_break}
+use Rattle.lay_layout.specs.Machine.{outer}
 use Rattle.lay_printer.specs.Scan.{Scan, Stopped, Going}
 use Rattle.lay_printer.specs.Notes.{stop}
 

@@ -1,14 +1,14 @@
 -- What is shown ends in a blank only where the last text does.
 use Rattle.std.proofs.Common.{◌≡◌, ◌≢◌, ℕ, Bool, true, false, List, [], ◌∷◌, ◌++◌, replicate, refl, sym, ap, ◌∙◌, append_assoc}
-use Rattle.lay_token.specs.declared.layout.Mark.{Mark}
-use Rattle.lay_token.specs.declared.layout.Mark.TheVariants.{Absent, Comma, OpenBrace, CloseBrace}
-use Rattle.lay_token.specs.declared.layout.Break.{Break}
-use Rattle.lay_token.specs.declared.layout.Frame.{Frame}
-use Rattle.lay_token.specs.declared.layout.Frame.TheVariants.{Flat, Broken}
-use Rattle.lay_token.specs.declared.layout.Tok.{Tok}
-use Rattle.lay_token.specs.declared.layout.Tok.TheVariants as tok
-use Rattle.lay_token.specs.Document.{State, over, write, put_mark, newline, line, shift, break_by}
-use Rattle.lay_token.specs.Machine.{measure, play, step, Layout, top, begun, shown}
+use Rattle.lay_layout.specs.declared.layout.Mark.{Mark}
+use Rattle.lay_layout.specs.declared.layout.Mark.TheVariants.{Absent, Comma, OpenBrace, CloseBrace}
+use Rattle.lay_layout.specs.declared.layout.Break.{Break}
+use Rattle.lay_layout.specs.declared.layout.Frame.{Frame}
+use Rattle.lay_layout.specs.declared.layout.Frame.TheVariants.{Flat, Broken}
+use Rattle.lay_layout.specs.declared.layout.Tok.{Tok}
+use Rattle.lay_layout.specs.declared.layout.Tok.TheVariants as tok
+use Rattle.lay_layout.specs.Document.{State, over, write, put_mark, newline, line, shift, break_by}
+use Rattle.lay_layout.specs.Machine.{measure, play, step, Layout, top, begun, shown}
 use Rattle.lay_printer.specs.Texts.{ends_in_blank, last_blank, AreFull}
 use Rattle.std.proofs.Common.{zero, suc, ◌≤◌, take, drop, length, arith}
 

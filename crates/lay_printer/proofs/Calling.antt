@@ -1,8 +1,8 @@
 -- Calls of a printer.
 use Rattle.std.proofs.Common.{pos, negsuc, ◌≡◌, ◌≢◌, ℕ, ◌+◌, ◌-◌, ◌<◌, ◌≤◌, inl, inr, false, List, [], ◌∷◌, ◌++◌, Option, Some, None, Result, Ok, Err, refl, sym, ap, ◌∙◌, subst, append-nil, le_trans, le_refl, ◌%◌, ◌^◌, length, length-append, arith}
-use Rattle.lay_token.specs.declared.layout.Frame.{Frame}
-use Rattle.lay_token.specs.declared.layout.Tok.{Tok}
-use Rattle.lay_token.specs.Machine.{begun, opened, text, IsNested, IsClosed}
+use Rattle.lay_layout.specs.declared.layout.Frame.{Frame}
+use Rattle.lay_layout.specs.declared.layout.Tok.{Tok}
+use Rattle.lay_layout.specs.Machine.{begun, opened, text, IsNested, IsClosed}
 use Rattle.lay_io.specs.Faults.{Rose}
 use Rattle.lay_ring.specs.declared.entry.Entry.{Entry}
 use Rattle.lay_ring.specs.declared.entry.Size.{Size}

@@ -1,7 +1,7 @@
 -- A token is fed: the notes fit the scans of the tokens that wait again.
 use Rattle.std.proofs.Common.{◌≡◌, ℕ, suc, ◌+◌, ◌-◌, ◌≤◌, ◌%◌, ◌^◌, min, List, [], ◌∷◌, ◌++◌, map, length, refl, sym, ap, subst, arith}
-use Rattle.lay_token.specs.declared.layout.Tok.{Tok}
-use Rattle.lay_token.specs.declared.layout.Tok.TheVariants as tok
+use Rattle.lay_layout.specs.declared.layout.Tok.{Tok}
+use Rattle.lay_layout.specs.declared.layout.Tok.TheVariants as tok
 use Rattle.lay_printer.specs.declared.close.Note.{Note}
 use Rattle.lay_printer.specs.Scan.{Scan, cap}
 use Rattle.lay_printer.specs.Notes.{scans}

@@ -1,9 +1,9 @@
 -- What sizes say of measures.
 use Rattle.std.proofs.Common.{pos, ◌≡◌, ◌≢◌, ℕ, zero, suc, min, Bool, true, false, List, [], ◌∷◌, ℤ, length, refl, sym, ap, ◌∙◌, subst}
-use Rattle.lay_token.specs.declared.layout.Tok.{Tok}
-use Rattle.lay_token.specs.declared.layout.Tok.TheVariants as tok
-use Rattle.lay_token.specs.Document.{width_of_break}
-use Rattle.lay_token.specs.Machine.{outer}
+use Rattle.lay_layout.specs.declared.layout.Tok.{Tok}
+use Rattle.lay_layout.specs.declared.layout.Tok.TheVariants as tok
+use Rattle.lay_layout.specs.Document.{width_of_break}
+use Rattle.lay_layout.specs.Machine.{outer}
 use Rattle.lay_ring.specs.declared.entry.Size.TheVariants.{Unknown, Known, Forced}
 use Rattle.lay_ring.specs.declared.entry.Entry.{Entry}
 use Rattle.lay_printer.specs.Scan.{Scan, Stopped, Going, widen, scan, scan_of, size_of_scan, sized, cap}

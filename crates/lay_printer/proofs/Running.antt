@@ -1,10 +1,10 @@
 -- The printer holds tokens, and prints them.
 use Rattle.std.proofs.Common.{pos, negsuc, ◌≡◌, ℕ, ◌+◌, nat_lt, Bool, true, false, List, [], ◌∷◌, ◌++◌, map, drop, slice_get, Option, Some, None, Result, Ok, Err, OnOk, refl, sym, ap, ◌∙◌, subst, append_assoc, append-nil, arith}
 use Rattle.std.proofs.lemmas.Bool.Decides.{nat_tests}
-use Rattle.lay_token.specs.declared.layout.Frame.{Frame}
-use Rattle.lay_token.specs.declared.layout.Tok.{Tok}
-use Rattle.lay_token.specs.Document.{State, over}
-use Rattle.lay_token.specs.Machine.{Layout, act, play, step, begun, text}
+use Rattle.lay_layout.specs.declared.layout.Frame.{Frame}
+use Rattle.lay_layout.specs.declared.layout.Tok.{Tok}
+use Rattle.lay_layout.specs.Document.{State, over}
+use Rattle.lay_layout.specs.Machine.{Layout, act, play, step, begun, text}
 use Rattle.lay_ring.specs.declared.entry.Size.{Size}
 use Rattle.lay_ring.specs.declared.entry.Size.TheVariants.{Unknown, Known, Forced}
 use Rattle.lay_ring.specs.declared.entry.Entry.{Entry}

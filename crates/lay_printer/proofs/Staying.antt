@@ -1,11 +1,11 @@
 -- What stays where entries are printed, and how many wait.
 use Rattle.std.proofs.Common.{◌≡◌, ℕ, ◌+◌, ◌<◌, ◌≤◌, ◌∙◌, List, [], ◌∷◌, ◌++◌, length, Result, Ok, Err, OnOk, OnErr, ap, refl, sym, le_trans, length-append, arith}
-use Rattle.lay_token.specs.declared.layout.Tok.{Tok}
+use Rattle.lay_layout.specs.declared.layout.Tok.{Tok}
 use Rattle.lay_ring.specs.declared.entry.Entry.{Entry}
 use Rattle.lay_printer.specs.declared.queue.Queue.{Queue}
 use Rattle.lay_printer.specs.declared.engine.Engine.{Engine}
 use Rattle.lay_printer.specs.Closed.{toks_of}
-use Rattle.lay_token.specs.declared.layout.Frame.{Frame}
+use Rattle.lay_layout.specs.declared.layout.Frame.{Frame}
 use Rattle.lay_printer.specs.Engines.{Comes, Roomier, Stays}
 use Rattle.lay_printer.proofs.Depths.{open_in, open_more}
 use Rattle.lay_printer.proofs.Queueing.{length_toks}

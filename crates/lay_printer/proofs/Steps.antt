@@ -1,15 +1,15 @@
 -- Each step of the printer keeps Holds.
 use Rattle.std.proofs.Common.{pos, ◌≡◌, ℕ, zero, suc, ◌+◌, ◌<◌, ◌≤◌, min, Bool, true, false, List, [], ◌∷◌, ◌++◌, length, refl, sym, ap, ◌∙◌, append_assoc, append-nil, arith, lt-ltb}
 use Rattle.std.proofs.lemmas.Bool.Decides.{nat_tests}
-use Rattle.lay_token.specs.declared.layout.Mark.{Mark}
-use Rattle.lay_token.specs.declared.layout.Mark.TheVariants.{Absent, Comma, OpenBrace, CloseBrace}
-use Rattle.lay_token.specs.declared.layout.Break.{Break}
-use Rattle.lay_token.specs.declared.layout.Frame.{Frame}
-use Rattle.lay_token.specs.declared.layout.Frame.TheVariants.{Flat, Broken}
-use Rattle.lay_token.specs.declared.layout.Tok.{Tok}
-use Rattle.lay_token.specs.declared.layout.Tok.TheVariants as tok
-use Rattle.lay_token.specs.Document.{State, width_of_break, over, put_mark, skip, newline, line, shift, break_by}
-use Rattle.lay_token.specs.Machine.{outer, reach, measure, play, step, act, Layout, begun, text, top}
+use Rattle.lay_layout.specs.declared.layout.Mark.{Mark}
+use Rattle.lay_layout.specs.declared.layout.Mark.TheVariants.{Absent, Comma, OpenBrace, CloseBrace}
+use Rattle.lay_layout.specs.declared.layout.Break.{Break}
+use Rattle.lay_layout.specs.declared.layout.Frame.{Frame}
+use Rattle.lay_layout.specs.declared.layout.Frame.TheVariants.{Flat, Broken}
+use Rattle.lay_layout.specs.declared.layout.Tok.{Tok}
+use Rattle.lay_layout.specs.declared.layout.Tok.TheVariants as tok
+use Rattle.lay_layout.specs.Document.{State, width_of_break, over, put_mark, skip, newline, line, shift, break_by}
+use Rattle.lay_layout.specs.Machine.{outer, reach, measure, play, step, act, Layout, begun, text, top}
 use Rattle.lay_ring.specs.declared.entry.Size.{Size}
 use Rattle.lay_ring.specs.declared.entry.Size.TheVariants.{Unknown, Known}
 use Rattle.lay_ring.specs.declared.entry.Entry.{Entry}

@@ -1,8 +1,8 @@
 -- A whole stream through a printer.
 use Rattle.std.proofs.Common.{◌≡◌, ◌≢◌, ℕ, zero, suc, ◌+◌, inl, inr, List, [], ◌∷◌, ◌++◌, length, take, replicate, Option, Some, None, Result, Ok, Err, OnOk, OnErr, IsErrAnd, refl, sym, ap, ◌∙◌, subst, append-nil, le_trans, le_refl, length-append, arith}
 use Rattle.std.proofs.Math.Seq.{take-append_seam}
-use Rattle.lay_token.specs.declared.layout.Tok.{Tok}
-use Rattle.lay_token.specs.Machine.{opened, text}
+use Rattle.lay_layout.specs.declared.layout.Tok.{Tok}
+use Rattle.lay_layout.specs.Machine.{opened, text}
 use Rattle.lay_io.specs.Faults.{Rose}
 use Rattle.lay_io.specs.Told.{GrewBy, GrewByPrefix}
 use Rattle.lay_stream.specs.Fed.{Did}

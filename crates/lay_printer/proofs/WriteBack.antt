@@ -1,9 +1,9 @@
 -- Sizes that are written back.
 use Rattle.std.proofs.Common.{pos, ◌≡◌, ℕ, zero, suc, ◌+◌, ◌-◌, ◌<◌, ◌≤◌, ◌%◌, ◌^◌, min, List, [], ◌∷◌, ◌++◌, map, set, length, get_or, refl, sym, ap, ap₂, ◌∙◌, subst, arith}
-use Rattle.lay_token.specs.declared.layout.Tok.{Tok}
-use Rattle.lay_token.specs.declared.layout.Tok.TheVariants as tok
-use Rattle.lay_token.specs.Document.{width_of_break}
-use Rattle.lay_token.specs.Machine.{outer}
+use Rattle.lay_layout.specs.declared.layout.Tok.{Tok}
+use Rattle.lay_layout.specs.declared.layout.Tok.TheVariants as tok
+use Rattle.lay_layout.specs.Document.{width_of_break}
+use Rattle.lay_layout.specs.Machine.{outer}
 use Rattle.lay_ring.specs.declared.entry.Size.{Size}
 use Rattle.lay_ring.specs.declared.entry.Size.TheVariants.{Unknown, Known}
 use Rattle.lay_printer.specs.Scan.{Scan, Stopped, Going, widen, scan, scan_of, size_of_scan, cap}

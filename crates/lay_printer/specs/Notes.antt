@@ -1,6 +1,6 @@
 -- The notes that the printer keeps of the entries whose size isn't known, oldest first.
 use Rattle.std.specs.Prelude.{◌≡◌, ℕ, zero, ◌+◌, ◌-◌, ◌%◌, ◌^◌, min, List, [], ◌∷◌}
-use Rattle.lay_token.specs.declared.layout.Tok.{Tok}
+use Rattle.lay_layout.specs.declared.layout.Tok.{Tok}
 use Rattle.lay_printer.specs.declared.close.Note.{Note}
 use Rattle.lay_printer.specs.Scan.{Scan, Stopped, Going, scan_of, cap}
 

@@ -1,8 +1,8 @@
 -- What is known of a printer.
 use Rattle.std.specs.Prelude.{◌≡◌, ◌≢◌, ℕ, ◌+◌, ◌-◌, ◌%◌, ◌^◌, ◌<◌, ◌≤◌, ◌⊎◌, false}
 use Rattle.std.specs.Prelude.{List, [], ◌∷◌, ◌++◌, length, Option, Some, None, Result, Err, OnOk, IfErr}
-use Rattle.lay_token.specs.declared.layout.Tok.{Tok}
-use Rattle.lay_token.specs.Machine.{opened, text, IsNested, IsClosed}
+use Rattle.lay_layout.specs.declared.layout.Tok.{Tok}
+use Rattle.lay_layout.specs.Machine.{opened, text, IsNested, IsClosed}
 use Rattle.lay_ring.specs.declared.entry.Entry.{Entry}
 use Rattle.lay_io.specs.Faults.{Rose}
 use Rattle.lay_stream.specs.Fed.{Meanings}

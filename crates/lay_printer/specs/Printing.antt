@@ -1,6 +1,6 @@
 -- What contracts see of frames, and of a printer.
 use Rattle.std.specs.Prelude.{ℕ, List, Option}
-use Rattle.lay_token.specs.declared.layout.Frame.{Frame}
+use Rattle.lay_layout.specs.declared.layout.Frame.{Frame}
 use Rattle.lay_ring.specs.declared.entry.Entry.{Entry}
 use Rattle.lay_printer.specs.declared.line.Line.{Line}
 use Rattle.lay_printer.specs.declared.engine.PrintError.{PrintError}

@@ -1,8 +1,8 @@
 -- What holds of a printer at a moment: of whatever tokens s it was fed, and whatever tokens r follow.
 use Rattle.std.specs.Prelude.{◌≡◌, ℕ, ◌+◌, ◌-◌, ◌≤◌, min, ℤ, pos, ◌-ℤ◌, List, [], ◌++◌, drop, Option}
-use Rattle.lay_token.specs.declared.layout.Tok.{Tok}
-use Rattle.lay_token.specs.Document.{State}
-use Rattle.lay_token.specs.Machine.{layout_after, shown}
+use Rattle.lay_layout.specs.declared.layout.Tok.{Tok}
+use Rattle.lay_layout.specs.Document.{State}
+use Rattle.lay_layout.specs.Machine.{layout_after, shown}
 use Rattle.lay_printer.specs.Closed.{toks_of}
 use Rattle.lay_printer.specs.Printing.{Printing}
 use Rattle.lay_printer.specs.Pages.{Is, Wrote}

@@ -1,12 +1,12 @@
 -- Tokens that wait, with the sizes that are known of them before the rest is fed.
 use Rattle.std.specs.Prelude.{◌≡◌, ℕ, zero, suc, ◌+◌, ◌≤◌, min, pos, Bool, true, false, List, [], ◌∷◌, ◌++◌, length}
-use Rattle.lay_token.specs.declared.layout.Tok.{Tok}
-use Rattle.lay_token.specs.declared.layout.Tok.TheVariants as tok
+use Rattle.lay_layout.specs.declared.layout.Tok.{Tok}
+use Rattle.lay_layout.specs.declared.layout.Tok.TheVariants as tok
 use Rattle.lay_ring.specs.declared.entry.Size.{Size}
 use Rattle.lay_ring.specs.declared.entry.Size.TheVariants.{Unknown, Known}
 use Rattle.lay_ring.specs.declared.entry.Entry.{Entry}
-use Rattle.lay_token.specs.Document.{width_of_break}
-use Rattle.lay_token.specs.Machine.{outer, play, Layout, begun}
+use Rattle.lay_layout.specs.Document.{width_of_break}
+use Rattle.lay_layout.specs.Machine.{outer, play, Layout, begun}
 
 -- How far a measure has come in the tokens that were fed: it has ended, or it goes on at a depth.
 pub data Scan : Type 0 where

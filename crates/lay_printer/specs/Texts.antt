@@ -1,7 +1,7 @@
 -- Texts, and blanks at their ends.
 use Rattle.std.specs.Prelude.{◌≢◌, ℕ, eqb, Bool, false, List, [], ◌∷◌}
-use Rattle.lay_token.specs.declared.layout.Tok.{Tok}
-use Rattle.lay_token.specs.declared.layout.Tok.TheVariants as tok
+use Rattle.lay_layout.specs.declared.layout.Tok.{Tok}
+use Rattle.lay_layout.specs.declared.layout.Tok.TheVariants as tok
 
 abbrev pub ends_in_blank : List ℕ → Bool
 ends_in_blank [] = false

@@ -1,6 +1,6 @@
 //! Where scanning and printing meet: the entry at the front of the ring is printed once it is decided.
 ghost use Rattle.std.specs.Prelude.{◌≡◌, ◌+◌, ◌%◌, ◌^◌, ◌<◌, ◌≤◌, [], ◌∷◌, ◌++◌, length, nat_lt, OnOk, OnErr, IfOk, IfErr, IsOk, Some, None, false};
-ghost use Rattle.lay_token.specs.Machine.{opened, IsNested};
+ghost use Rattle.lay_layout.specs.Machine.{opened, IsNested};
 ghost use Rattle.lay_io.specs.Faults.{HasCause, SameLoan};
 ghost use Rattle.lay_printer.specs.Closed.{toks_of};
 ghost use Rattle.lay_printer.specs.Queued.{Advances, Decided, Ends, next_of};
@@ -9,8 +9,9 @@ use crate::line::Line;
 use crate::page::Page;
 use crate::queue::Queue;
 use lay_io::{Failed, Sink};
+use lay_layout::Tok;
 use lay_ring::Size;
-use lay_token::{NoMemory, Tok};
+use lay_text::NoMemory;
 
 /// Why a call of a printer failed.
 #[derive(Clone, Copy, Debug, PartialEq, Eq)]

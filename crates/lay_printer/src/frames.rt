@@ -1,9 +1,10 @@
 //! The frames of the groups that are open, and room for more.
 ghost use Rattle.std.specs.Prelude.{◌≡◌, ◌+◌, ◌^◌, ◌<◌, ◌≤◌, [], ◌∷◌, length, OnOk};
-ghost use Rattle.lay_token.specs.Machine.{top, below};
+ghost use Rattle.lay_layout.specs.Machine.{top, below};
 ghost use Rattle.lay_stream.specs.Indents.{IsKept};
 
-use lay_token::{Frame, NoMemory};
+use lay_layout::Frame;
+use lay_text::NoMemory;
 use std::alloc::Global;
 use std::marker::Model;
 
@@ -15,7 +16,7 @@ pub struct Frames {
 
 impl Model for Frames {
     ghost use Rattle.std.specs.Prelude.{List, reverse, ◌-◌, vec_len, vec_capacity};
-    ghost use Rattle.lay_token.specs.declared.layout.Frame.{Frame};
+    ghost use Rattle.lay_layout.specs.declared.layout.Frame.{Frame};
     ghost use Rattle.lay_stream.specs.Indents.{AreKept};
     ghost use Rattle.lay_printer.specs.Printing.{Framed};
 

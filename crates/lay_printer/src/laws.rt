@@ -1,7 +1,7 @@
 //! What holds of a printer at every moment.
 ghost use Rattle.std.specs.Prelude.{◌≡◌, ℕ, ◌≤◌, ◌-◌, ◌%◌, ◌^◌, ◌++◌, List, Option, true, false, length, take};
-ghost use Rattle.lay_token.specs.declared.layout.Tok.{Tok};
-ghost use Rattle.lay_token.specs.Machine.{shown};
+ghost use Rattle.lay_layout.specs.declared.layout.Tok.{Tok};
+ghost use Rattle.lay_layout.specs.Machine.{shown};
 ghost use Rattle.lay_printer.specs.Printing.{Printing};
 ghost use Rattle.lay_printer.specs.Printers.{Runs, at};
 ghost use Rattle.lay_printer.specs.Promises.{InStep};

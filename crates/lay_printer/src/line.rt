@@ -1,12 +1,12 @@
 //! The line that is being written, and what is put on it.
 ghost use Rattle.std.specs.Prelude.{◌≡◌, ℕ, ◌<◌, ◌≤◌, min, max, ◌+◌, ◌∷◌, ◌++◌, [], replicate, OnOk, OnErr, IsTrue, length};
-ghost use Rattle.lay_token.specs.Document.{State, shift, write as written_on, put_mark as marked, line as on_line, newline as on_newline, skip as skipped, break_in};
+ghost use Rattle.lay_layout.specs.Document.{State, shift, write as written_on, put_mark as marked, line as on_line, newline as on_newline, skip as skipped, break_in};
 ghost use Rattle.lay_io.specs.Calls.{Writes};
 ghost use Rattle.lay_io.specs.Faults.{HasCause, SameLoan};
 ghost use Rattle.lay_stream.specs.Indents.{IsKept};
 
 use lay_io::{Failed, Sink};
-use lay_token::{Break, Frame, Mark};
+use lay_layout::{Break, Frame, Mark};
 
 /// The blanks that are to be written before what comes next, the room of the line and what was used of it.
 #[derive(Clone, Copy, Debug)]

@@ -1,7 +1,7 @@
 //! The printing side: tokens are printed where the layout stands.
 ghost use Rattle.std.specs.Prelude.{◌≡◌, ◌+◌, ◌<◌, ◌≤◌, [], ◌∷◌, length};
-ghost use Rattle.lay_token.specs.Document.{enter};
-ghost use Rattle.lay_token.specs.Machine.{opened};
+ghost use Rattle.lay_layout.specs.Document.{enter};
+ghost use Rattle.lay_layout.specs.Machine.{opened};
 ghost use Rattle.lay_io.specs.Faults.{HasCause, SameLoan};
 ghost use Rattle.lay_printer.specs.Queued.{Prints};
 ghost use Rattle.lay_stream.specs.Indents.{IsKept};
@@ -9,7 +9,7 @@ ghost use Rattle.lay_stream.specs.Indents.{IsKept};
 use crate::frames::Frames;
 use crate::line::{Line, shifted};
 use lay_io::{Failed, Sink};
-use lay_token::{Frame, Tok};
+use lay_layout::{Frame, Tok};
 
 /// Where the layout stands: the line that is being written, and the frames of the groups that are open there.
 #[derive(Drop)]

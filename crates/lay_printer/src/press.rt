@@ -1,7 +1,7 @@
 //! Printers: one that is lent its sink, and one that owns it.
 ghost use Rattle.std.specs.Prelude.{◌≡◌, ◌+◌, ◌<◌, ◌≤◌, [], ◌∷◌, OnOk, OnErr, IfOk, IfErr, None, Some, MatchResult};
-ghost use Rattle.lay_token.specs.declared.layout.Tok.TheVariants as tok;
-ghost use Rattle.lay_token.specs.Machine.{text};
+ghost use Rattle.lay_layout.specs.declared.layout.Tok.TheVariants as tok;
+ghost use Rattle.lay_layout.specs.Machine.{text};
 ghost use Rattle.lay_io.specs.Faults.{SameLoan};
 ghost use Rattle.lay_stream.specs.Fed.{Did};
 ghost use Rattle.lay_printer.specs.Pages.{Wrote, Cut};
@@ -15,8 +15,9 @@ ghost use Rattle.lay_printer.specs.declared.engine.PrintError.TheVariants.{Write
 use crate::engine::PrintError;
 use crate::printer::Core;
 use lay_io::Sink;
+use lay_layout::Break;
 use lay_stream::Emit;
-use lay_token::{Break, NoMemory, Text};
+use lay_text::{NoMemory, Text};
 use std::alloc::Global;
 use std::marker::Model;
 

@@ -1,7 +1,7 @@
 //! What a printer keeps beside its sink.
 ghost use Rattle.std.specs.Prelude.{◌≡◌, ℕ, ◌+◌, ◌<◌, ◌≤◌, [], ◌∷◌, OnOk, OnErr, IfOk, IfErr, None, Some, length, pos, ◌-ℤ◌};
-ghost use Rattle.lay_token.specs.declared.layout.Tok.TheVariants as tok;
-ghost use Rattle.lay_token.specs.Machine.{IsNested};
+ghost use Rattle.lay_layout.specs.declared.layout.Tok.TheVariants as tok;
+ghost use Rattle.lay_layout.specs.Machine.{IsNested};
 ghost use Rattle.lay_io.specs.Faults.{SameLoan};
 ghost use Rattle.lay_printer.specs.Printers.{Calls, Finishes, IsWhole, Repeats, TakesRoom};
 ghost use Rattle.lay_printer.specs.Promises.{FitSpace, IsSame, IsSpace, KeepsStep, RunsAs, RunsFresh};
@@ -15,7 +15,8 @@ use crate::line::Line;
 use crate::page::Page;
 use crate::queue::Queue;
 use lay_io::{Failed, Sink};
-use lay_token::{Break, NoMemory, Text, Tok};
+use lay_layout::{Break, Tok};
+use lay_text::{NoMemory, Text};
 use std::alloc::Global;
 use std::marker::Model;
 

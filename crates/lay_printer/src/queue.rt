@@ -1,16 +1,17 @@
 //! The scanning side: tokens that wait, with the sizes that are known of them.
 ghost use Rattle.std.specs.Prelude.{◌≡◌, ℕ, ◌+◌, ◌-◌, ◌%◌, ◌^◌, ◌<◌, ◌≤◌, [], ◌∷◌, ◌++◌, length, drop, slice_get, OnOk, OnErr, IfOk, IsOk, map, true, false};
-ghost use Rattle.lay_token.specs.declared.layout.Tok.TheVariants as tok;
-ghost use Rattle.lay_token.specs.Document.{bytes_of_mark};
+ghost use Rattle.lay_layout.specs.declared.layout.Tok.TheVariants as tok;
+ghost use Rattle.lay_layout.specs.Document.{bytes_of_mark};
 ghost use Rattle.lay_printer.specs.Closed.{toks_of, sizes_of};
 ghost use Rattle.lay_printer.specs.Scan.{at_end, text_length, size_of_scan, waiting as sum_waiting, cap};
 ghost use Rattle.lay_printer.specs.Notes.{Fits, scans};
 ghost use Rattle.lay_printer.specs.Queued.{notes_after, next_of};
-ghost use Rattle.lay_token.specs.Machine.{IsNested};
+ghost use Rattle.lay_layout.specs.Machine.{IsNested};
 
 use crate::close::{CAP, Note, close};
+use lay_layout::{Break, Mark, Tok};
 use lay_ring::{Entry, Marks, Ring, Size};
-use lay_token::{Break, Mark, NoMemory, Text, Tok};
+use lay_text::{NoMemory, Text};
 use std::alloc::Global;
 
 /// Tokens that wait, oldest first, and what is kept of those whose size isn't known.

@@ -1,5 +1,5 @@
 use Rattle.std.proofs.Common.{rules}
-use Rattle.lay_token.specs.declared.layout.Tok.TheVariants as tok
+use Rattle.lay_layout.specs.declared.layout.Tok.TheVariants as tok
 use Rattle.lay_printer.specs.Printers.{Calls}
 use Rattle.lay_printer.proofs.Calling.{did_calls}
 use Rattle.lay_printer.proofs.press.PrinterEmit.begin.Goals as goal

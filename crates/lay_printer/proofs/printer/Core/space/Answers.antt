@@ -1,5 +1,5 @@
 use Rattle.std.proofs.Common.{rules, ◌≡◌, ◌++◌, ℕ, ◌+◌, min, pos, ◌-ℤ◌, ap, ap₂, ◌∙◌, arith}
-use Rattle.lay_token.specs.Machine.{layout_after}
+use Rattle.lay_layout.specs.Machine.{layout_after}
 use Rattle.lay_printer.specs.declared.line.Line.{Line}
 use Rattle.lay_printer.specs.Printing.{Printing}
 use Rattle.lay_printer.specs.Printers.{at}
