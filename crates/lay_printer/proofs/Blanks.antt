@@ -1,5 +1,5 @@
 -- What is shown ends in a blank only where the last text does.
-use Rattle.std.proofs.Common.{◌≡◌, ℕ, Bool, true, false, List, [], ◌∷◌, ◌++◌, replicate, refl, sym, ap, ◌∙◌, append_assoc}
+use Rattle.std.proofs.Common.{◌≡◌, ◌≢◌, ℕ, Bool, true, false, List, [], ◌∷◌, ◌++◌, replicate, refl, sym, ap, ◌∙◌, append_assoc}
 use Rattle.lay_layout.specs.declared.layout.Mark.{Mark}
 use Rattle.lay_layout.specs.declared.layout.Mark.TheVariants.{Absent, Comma, OpenBrace, CloseBrace}
 use Rattle.lay_layout.specs.declared.layout.Break.{Break}
@@ -9,7 +9,7 @@ use Rattle.lay_layout.specs.declared.layout.Tok.{Tok}
 use Rattle.lay_layout.specs.declared.layout.Tok.TheVariants as tok
 use Rattle.lay_layout.specs.Document.{State, over, write, put_mark, newline, line, shift, break_by}
 use Rattle.lay_layout.specs.Machine.{measure, play, step, Layout, top, begun, shown}
-use Rattle.lay_printer.specs.Texts.{ends_in_blank, last_blank, IsFull, AreFull}
+use Rattle.lay_printer.specs.Texts.{ends_in_blank, last_blank, AreFull}
 use Rattle.std.proofs.Common.{zero, suc, ◌≤◌, take, drop, length, arith}
 
 ends_append : (a : List ℕ) (x : ℕ) (b : List ℕ) → ends_in_blank (a ++ x ∷ b) ≡ ends_in_blank (x ∷ b)
@@ -17,8 +17,8 @@ ends_append [] x b = refl
 ends_append (y ∷ []) x b = refl
 ends_append (y ∷ z ∷ a) x b = ends_append (z ∷ a) x b
 
-ends_write : (t : List ℕ) (s : State) → IsFull t → ends_in_blank (write t s).text ≡ ends_in_blank t
-ends_write [] s f = absurd f
+ends_write : (t : List ℕ) (s : State) → t ≢ [] → ends_in_blank (write t s).text ≡ ends_in_blank t
+ends_write [] s f = absurd (f refl)
 ends_write (x ∷ b) s f = ap ends_in_blank (sym (append_assoc s.text (replicate s.pending 32) (x ∷ b))) ∙ ends_append (s.text ++ replicate s.pending 32) x b
 
 -- the state's text ends in a blank only where b is true
@@ -27,9 +27,9 @@ Within s b = ends_in_blank s.text ≡ true → b ≡ true
 
 within_mark : (k : Mark) (s : State) (b : Bool) → Within s b → Within (put_mark k s) b
 within_mark Absent s b h = h
-within_mark Comma s b h = λ e. let q = ends_write (44 ∷ []) s tt in cc
-within_mark OpenBrace s b h = λ e. let q = ends_write (123 ∷ []) s tt in cc
-within_mark CloseBrace s b h = λ e. let q = ends_write (125 ∷ []) s tt in cc
+within_mark Comma s b h = λ e. let q = ends_write (44 ∷ []) s (λ n. cc) in cc
+within_mark OpenBrace s b h = λ e. let q = ends_write (123 ∷ []) s (λ n. cc) in cc
+within_mark CloseBrace s b h = λ e. let q = ends_write (125 ∷ []) s (λ n. cc) in cc
 
 within_newline : (k : Break) (i : ℕ) (s : State) (b : Bool) → Within (newline k i s) b
 within_newline k i s b =

@@ -14,10 +14,9 @@ use Rattle.lay_printer.specs.declared.engine.PrintError.TheVariants.{WriteFailed
 use Rattle.lay_printer.specs.Printing.{Printing}
 use Rattle.lay_printer.specs.Scan.{Holds, waiting}
 use Rattle.lay_printer.specs.Pages.{Wrote, Cut}
-use Rattle.lay_printer.specs.Errors.{Blame, Blames}
-use Rattle.lay_printer.specs.Queued.{Feeds, Says, Decided, next_of}
-use Rattle.lay_printer.specs.Printers.{Runs, Fails, FedBy, CauseOf, LostBy, Went, Lost, Calls, Finishes, printer_meanings}
-use Rattle.lay_printer.specs.Steps.{at}
+use Rattle.lay_printer.specs.Errors.{Blames}
+use Rattle.lay_printer.specs.Queued.{Advances, Says, Decided, next_of}
+use Rattle.lay_printer.specs.Printers.{at, Runs, Fails, FedBy, CauseOf, LostBy, Went, Lost, Calls, Finishes, printer_meanings}
 use Rattle.lay_stream.proofs.Calls.{opened_append}
 use Rattle.lay_stream.proofs.ListedLemmas.{nested_append}
 use Rattle.lay_printer.proofs.Running.{running_broken}
@@ -49,7 +48,7 @@ counted_next : (n l first first' k k' : ℕ) → l ≡ n + 1 → k ≤ n → k' 
 counted_next n l first first' k k' e a b f g h = omega arith
 
 pub calls_ok : {T : Type 0} (c c' : Printing) (b n : Option (List ℕ)) (f f' : ℕ) (v : T) (t : Tok) →
-    c.failed ≡ None → c'.failed ≡ None → IsNested c.groups (t ∷ []) → Feeds {E = PrintError} c.entries c.line c.frames b (Ok v) c'.entries c'.line c'.frames n t → Blames {T = T} f f' (Ok v) →
+    c.failed ≡ None → c'.failed ≡ None → IsNested c.groups (t ∷ []) → Advances {E = PrintError} false c.entries c.line c.frames b (Ok v) c'.entries c'.line c'.frames n (λ s. s ++ t ∷ []) → Blames {T = T} f f' (Ok v) →
     c'.groups ≡ opened (t ∷ []) c.groups → next_of c'.first c'.entries ≡ (next_of c.first c.entries + 1) % 2 ^ 64 → c'.first < 2 ^ 64 → Calls {T = T} c b f (Ok v) c' n f' t
 calls_ok c c' b n f f' v t u w o k h g m z = record {
   later = h.later;
@@ -71,8 +70,8 @@ calls_ok c c' b n f f' v t u w o k h g m z = record {
   err = tt;
 }
 
-cause_now : (e : PrintError) (f f' : ℕ) (x : Option PrintError) → Blame e f f' → CauseOf e f f' x
-cause_now WriteFailed f f' x h = inl h
+cause_now : (e : PrintError) (f f' : ℕ) (x : Option PrintError) → (e ≡ WriteFailed → Rose f f') → CauseOf e f f' x
+cause_now WriteFailed f f' x h = inl (h refl)
 cause_now NoMemory f f' x h = tt
 
 cause_before : (e : PrintError) (f : ℕ) (x : Option PrintError) → x ≡ Some e → CauseOf e f f x
@@ -80,7 +79,7 @@ cause_before WriteFailed f x h = inr h
 cause_before NoMemory f x h = tt
 
 pub calls_err : {T : Type 0} (c c' : Printing) (b n : Option (List ℕ)) (f f' : ℕ) (e : PrintError) (es' : List Entry) (p' : Line) (fs' : List Frame) (t : Tok) →
-    c.failed ≡ None → c'.failed ≡ Some e → IsNested c.groups (t ∷ []) → Feeds {T = T} c.entries c.line c.frames b (Err e) es' p' fs' n t → Blames {T = T} f f' (Err e) → Calls {T = T} c b f (Err e) c' n f' t
+    c.failed ≡ None → c'.failed ≡ Some e → IsNested c.groups (t ∷ []) → Advances {T = T} false c.entries c.line c.frames b (Err e) es' p' fs' n (λ s. s ++ t ∷ []) → Blames {T = T} f f' (Err e) → Calls {T = T} c b f (Err e) c' n f' t
 calls_err c c' b n f f' e es' p' fs' t u v o k h = record {
   later = h.later;
   ok = tt;

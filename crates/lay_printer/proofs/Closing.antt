@@ -7,7 +7,7 @@ use Rattle.lay_ring.specs.declared.entry.Entry.{Entry}
 use Rattle.lay_ring.specs.Held.{place_of, sized_at, IsUnknownAt}
 use Rattle.lay_printer.specs.declared.close.Note.{Note}
 use Rattle.lay_printer.specs.Scan.{Scan, size_of_scan, cap}
-use Rattle.lay_printer.specs.Notes.{Fits}
+use Rattle.lay_printer.proofs.Fitting.{EachFits, each_fits, all_fit}
 use Rattle.lay_printer.specs.Closed.{Left, Closed, toks_of, sizes_of, NoteKept}
 use Rattle.lay_printer.proofs.WriteBack.{Popped, pop, none_stops, no_note}
 
@@ -37,7 +37,7 @@ length_scans (c ∷ cs) = ap suc (length_scans cs)
 -- the newest note names an entry
 pub popped : {w : List Tok} {first acc cur : ℕ} {es : List Entry} {ms : List Note} (h : Left w first acc cur es ms) (ns : List Note) (m : Note) →
     ms ≡ ns ++ m ∷ [] → cur ≤ m.level → Popped first acc cur h.now ns m
-popped {first} {acc} {cur} h ns m e l = pop first acc cur h.now ns m l (subst (λ (x : List Note). Fits first acc cur cur h.now x) e h.fits)
+popped {first} {acc} {cur} h ns m e l = pop first acc cur h.now ns m l (subst (λ (x : List Note). EachFits first acc cur cur h.now x) e (each_fits first acc cur cur h.now _ h.fits))
 
 place_is : (first place number : ℕ) → first < 2 ^ 64 → place < 2 ^ 64 → number ≡ (first + place) % 2 ^ 64 → place_of first number ≡ place
 place_is first place number f p e = omega arith
@@ -75,12 +75,12 @@ left_pop {w} {first} {acc} {cur} {es} h ns m e l f g =
       sizes = sizes_set es i (Known (pos acc)) ∙ ap (λ (i : ℕ). set (sizes_of es) i (Known (pos acc))) (place_popped h ns m e l f g)
           ∙ ap (λ (x : List Size). set x p.place (Known (pos acc))) h.sizes ∙ sym p.sizes;
       stops = p.stops ∙ h.stops;
-      fits = p.fits;
+      fits = all_fit first (min (acc + m.delta) cap) cur cur p.now ns p.fits;
     }
 
 pub closed : {w : List Tok} {first acc cur : ℕ} {es : List Entry} {ms : List Note} → Left w first acc cur es ms → NoteKept cur ms → Closed w first acc cur es ms
-closed {first} {acc} {cur} h (inl e) = record { left = h; none = no_note first acc cur cur h.now (subst (λ (x : List Note). Fits first acc cur cur h.now x) e h.fits) }
-closed {first} {acc} {cur} h (inr b) = record { left = h; none = none_stops first acc cur h.now b.before b.newest b.low (subst (λ (x : List Note). Fits first acc cur cur h.now x) b.both h.fits) }
+closed {first} {acc} {cur} h (inl e) = record { left = h; none = no_note first acc cur cur h.now (subst (λ (x : List Note). EachFits first acc cur cur h.now x) e (each_fits first acc cur cur h.now _ h.fits)) }
+closed {first} {acc} {cur} h (inr b) = record { left = h; none = none_stops first acc cur h.now b.0 b.1 b.3 (subst (λ (x : List Note). EachFits first acc cur cur h.now x) b.2 (each_fits first acc cur cur h.now _ h.fits)) }
 
 pub left_along : {w : List Tok} {first acc cur : ℕ} {es : List Entry} {ms : List Note} (first' acc' : ℕ) (es' : List Entry) →
     first' ≡ first → acc' ≡ acc → es' ≡ es → Left w first acc cur es ms → Left w first' acc' cur es' ms

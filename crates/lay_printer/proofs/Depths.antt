@@ -7,7 +7,10 @@ use Rattle.lay_layout.specs.Machine.{opened, outer}
 use Rattle.lay_stream.proofs.Calls.{opened_append}
 use Rattle.lay_ring.specs.declared.entry.Entry.{Entry}
 use Rattle.lay_printer.specs.Closed.{toks_of}
-use Rattle.lay_printer.specs.Depth.{open_in}
+
+-- how many groups are open after entries that wait, where these frames are before them
+abbrev pub open_in : List Entry → List Frame → ℕ
+open_in entries frames = opened (toks_of entries) (length frames)
 
 outer_le : (n : ℕ) → outer n ≤ n
 outer_le zero = omega arith

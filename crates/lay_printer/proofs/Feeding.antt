@@ -4,7 +4,9 @@ use Rattle.lay_layout.specs.declared.layout.Tok.{Tok}
 use Rattle.lay_layout.specs.declared.layout.Tok.TheVariants as tok
 use Rattle.lay_printer.specs.declared.close.Note.{Note}
 use Rattle.lay_printer.specs.Scan.{Scan, cap}
-use Rattle.lay_printer.specs.Notes.{scans, grow, deepen, leave, Fits}
+use Rattle.lay_printer.specs.Notes.{scans}
+use Rattle.lay_printer.proofs.Fitting.{EachFits}
+use Rattle.lay_printer.proofs.Advancing.{grow, deepen, leave}
 use Rattle.lay_printer.proofs.WriteBack.{scans_append, fits_grow, fits_deepen, fits_leave, fits_still, fits_push}
 
 length_scans_of : (w : List Tok) → length (scans w) ≡ length w
@@ -15,25 +17,25 @@ length_deepen : (cs : List Scan) → length (map deepen cs) ≡ length cs
 length_deepen [] = refl
 length_deepen (c ∷ cs) = ap suc (length_deepen cs)
 
-pub fed_text : (i acc cur : ℕ) (w : List Tok) (t : List ℕ) (ms : List Note) → Fits i acc cur cur (scans w) ms →
-    Fits i (min (acc + length t) cap) cur cur (scans (w ++ tok.Text t ∷ [])) ms
+pub fed_text : (i acc cur : ℕ) (w : List Tok) (t : List ℕ) (ms : List Note) → EachFits i acc cur cur (scans w) ms →
+    EachFits i (min (acc + length t) cap) cur cur (scans (w ++ tok.Text t ∷ [])) ms
 fed_text i acc cur w t ms h =
-    subst (λ (x : List Scan). Fits i (min (acc + length t) cap) cur cur x ms) (sym (scans_append w (tok.Text t)))
+    subst (λ (x : List Scan). EachFits i (min (acc + length t) cap) cur cur x ms) (sym (scans_append w (tok.Text t)))
     (fits_still i (min (acc + length t) cap) cur cur (length t) (map (grow (length t)) (scans w)) ms (fits_grow i acc cur cur (length t) (scans w) ms h))
 
-pub fed_begin : (i acc cur : ℕ) (w : List Tok) (c : _) (o : _) (ms : List Note) → acc ≤ cap → Fits i acc cur cur (scans w) ms →
-    Fits i 0 (cur + 1) (cur + 1) (scans (w ++ tok.Begin c o ∷ [])) (ms ++ record { number = (i + length w) % 2 ^ 64; level = cur; delta = acc } ∷ [])
+pub fed_begin : (i acc cur : ℕ) (w : List Tok) (c : _) (o : _) (ms : List Note) → acc ≤ cap → EachFits i acc cur cur (scans w) ms →
+    EachFits i 0 (cur + 1) (cur + 1) (scans (w ++ tok.Begin c o ∷ [])) (ms ++ record { number = (i + length w) % 2 ^ 64; level = cur; delta = acc } ∷ [])
 fed_begin i acc cur w c o ms q h =
     let note : Note = record { number = (i + length w) % 2 ^ 64; level = cur; delta = acc } in
-    subst (λ (x : List Scan). Fits i 0 (cur + 1) (cur + 1) x (ms ++ note ∷ [])) (sym (scans_append w (tok.Begin c o)))
+    subst (λ (x : List Scan). EachFits i 0 (cur + 1) (cur + 1) x (ms ++ note ∷ [])) (sym (scans_append w (tok.Begin c o)))
     (fits_push i acc cur (cur + 1) 0 1 0 (cur + 1) note (map deepen (scans w)) ms
     (ap (λ (x : ℕ). x % 2 ^ 64) (let e : i + length w ≡ i + length (map deepen (scans w)) = omega (arith, length_deepen (scans w), length_scans_of w) in e)) (omega arith) (omega arith) (omega arith) (omega arith)
     (fits_deepen i acc cur cur (scans w) ms (omega arith) h))
 
-pub fed_end : (i acc cur : ℕ) (w : List Tok) (ms : List Note) → Fits i acc cur cur (scans w) ms →
-    Fits i acc (cur - 1) (cur - 1) (scans (w ++ tok.End ∷ [])) ms
+pub fed_end : (i acc cur : ℕ) (w : List Tok) (ms : List Note) → EachFits i acc cur cur (scans w) ms →
+    EachFits i acc (cur - 1) (cur - 1) (scans (w ++ tok.End ∷ [])) ms
 fed_end i acc cur w ms h =
     let e : min cur (cur - 1) ≡ cur - 1 = omega arith in
-    subst (λ (x : List Scan). Fits i acc (cur - 1) (cur - 1) x ms) (sym (scans_append w tok.End))
+    subst (λ (x : List Scan). EachFits i acc (cur - 1) (cur - 1) x ms) (sym (scans_append w tok.End))
     (fits_still i acc (cur - 1) (cur - 1) 0 (map leave (scans w)) ms
-    (subst (λ (x : ℕ). Fits i acc x (cur - 1) (map leave (scans w)) ms) e (fits_leave i acc cur cur (scans w) ms h)))
+    (subst (λ (x : ℕ). EachFits i acc x (cur - 1) (map leave (scans w)) ms) e (fits_leave i acc cur cur (scans w) ms h)))

@@ -1,4 +1,6 @@
 pub mod Steps
+pub mod Advancing
+pub mod Fitting
 pub mod WriteBack
 pub mod Feeding
 pub mod Closing

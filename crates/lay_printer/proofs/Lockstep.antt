@@ -10,7 +10,8 @@ use Rattle.lay_printer.specs.Scan.{sized, Holds}
 use Rattle.lay_printer.specs.Pages.{Is, Wrote}
 use Rattle.lay_printer.specs.Closed.{toks_of}
 use Rattle.lay_printer.specs.Queued.{Running}
-use Rattle.lay_printer.specs.Steps.{at, InStep}
+use Rattle.lay_printer.specs.Printers.{at}
+use Rattle.lay_printer.specs.Promises.{InStep}
 
 length_sized : (w : List Tok) → length (sized false w) ≡ length w
 length_sized [] = refl

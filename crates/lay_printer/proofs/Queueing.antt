@@ -10,11 +10,22 @@ use Rattle.lay_ring.specs.declared.entry.Size.TheVariants.{Unknown, Known}
 use Rattle.lay_ring.specs.declared.entry.Entry.{Entry}
 use Rattle.lay_printer.specs.declared.close.Note.{Note}
 use Rattle.lay_printer.specs.Scan.{Scan, Stopped, Going, at_end, size_of_scan, scan_of, waiting, text_length, cap}
-use Rattle.lay_printer.specs.Notes.{scans, advance, stop, Fits}
+use Rattle.lay_printer.specs.Notes.{scans, stop, Fits}
+use Rattle.lay_printer.proofs.Fitting.{EachFits, each_fits, all_fit}
+use Rattle.lay_printer.proofs.Advancing.{advance}
 use Rattle.lay_printer.specs.Closed.{Left, Closed, toks_of, sizes_of}
-use Rattle.lay_printer.specs.Queued.{notes_after, Good}
+use Rattle.lay_printer.specs.Queued.{notes_after}
 use Rattle.lay_printer.proofs.WriteBack.{scans_append, fed_break}
 use Rattle.lay_printer.proofs.Feeding.{fed_text, fed_begin, fed_end}
+
+-- What is kept fits the tokens that wait. ended: no more tokens come.
+pub record Good (ended : Bool) (ring : Held) (notes : List Note) (acc groups wait : ℕ) : Type 0 where
+  pub sizes : sizes_of ring.entries ≡ map size_of_scan (map (at_end ended) (scans (toks_of ring.entries)))
+  pub fits : Fits ring.first acc groups groups (map (at_end ended) (scans (toks_of ring.entries))) notes
+  pub acc_small : acc ≤ cap
+  pub wait_is : wait ≡ waiting ring.entries
+  pub number : ring.first < 2 ^ 64
+  pub held : length ring.entries ≤ 2 ^ 63
 
 at_end_false : (cs : List Scan) → map (at_end false) cs ≡ cs
 at_end_false [] = refl
@@ -74,14 +85,15 @@ sizes_with es es' e a h k =
     ∙ sym k ∙ ap (λ (y : List Tok). map size_of_scan (scans y)) (sym (toks_more es e) ∙ ap toks_of (sym a))
     ∙ ap (λ (y : List Scan). map size_of_scan y) (sym (at_end_false (scans (toks_of es'))))
 
-fits_with : (i acc low cur : ℕ) (es es' : List Entry) (e : Entry) (ms : List Note) → es' ≡ es ++ e ∷ [] → Fits i acc low cur (scans (toks_of es ++ e.tok ∷ [])) ms →
-    Fits i acc low cur (map (at_end false) (scans (toks_of es'))) ms
+fits_with : (i acc low cur : ℕ) (es es' : List Entry) (e : Entry) (ms : List Note) → es' ≡ es ++ e ∷ [] → EachFits i acc low cur (scans (toks_of es ++ e.tok ∷ [])) ms →
+    EachFits i acc low cur (map (at_end false) (scans (toks_of es'))) ms
 fits_with i acc low cur es es' e ms a h =
-    subst (λ (y : List Scan). Fits i acc low cur y ms) (sym (at_end_false (scans (toks_of es'))))
-    (subst (λ (y : List Tok). Fits i acc low cur (scans y) ms) (sym (toks_more es e) ∙ ap toks_of (sym a)) h)
+    subst (λ (y : List Scan). EachFits i acc low cur y ms) (sym (at_end_false (scans (toks_of es'))))
+    (subst (λ (y : List Tok). EachFits i acc low cur (scans y) ms) (sym (toks_more es e) ∙ ap toks_of (sym a)) h)
 
-plain_fits : (i acc low cur : ℕ) (w : List Tok) (ms : List Note) → Fits i acc low cur (map (at_end false) (scans w)) ms → Fits i acc low cur (scans w) ms
-plain_fits i acc low cur w ms h = subst (λ (y : List Scan). Fits i acc low cur y ms) (at_end_false (scans w)) h
+plain_fits : (i acc low cur : ℕ) (w : List Tok) (ms : List Note) → Fits i acc low cur (map (at_end false) (scans w)) ms → EachFits i acc low cur (scans w) ms
+plain_fits i acc low cur w ms h =
+    subst (λ (y : List Scan). EachFits i acc low cur y ms) (at_end_false (scans w)) (each_fits i acc low cur (map (at_end false) (scans w)) ms h)
 
 pub good_text : (x : Bool) (r r' : Held) (ms : List Note) (acc acc' g wait wait' : ℕ) (t : List ℕ) (z : Size) → x ≡ false → Good x r ms acc g wait →
     z ≡ Known (pos (min (length t) cap)) → r'.entries ≡ r.entries ++ record { tok = tok.Text t; size = z } ∷ [] → r'.first ≡ r.first → length r.entries < 2 ^ 63 →
@@ -91,9 +103,9 @@ good_text false r r' ms acc acc' g wait wait' t z b h s e f n a k =
     let x : Entry = record { tok = tok.Text t; size = z } in
     record {
       sizes = sizes_with r.entries r'.entries x e h.sizes (sizes_fed (tok.Text t) (toks_of r.entries) (same_text t) ∙ ap (λ (y : Size). map size_of_scan (scans (toks_of r.entries)) ++ y ∷ []) (sym s));
-      fits = subst (λ (i : ℕ). Fits i acc' g g (map (at_end false) (scans (toks_of r'.entries))) ms) (sym f)
-          (fits_with r.first acc' g g r.entries r'.entries x ms e (subst (λ (i : ℕ). Fits r.first i g g (scans (toks_of r.entries ++ tok.Text t ∷ [])) ms) (sym a)
-          (fed_text r.first acc g (toks_of r.entries) t ms (plain_fits r.first acc g g (toks_of r.entries) ms h.fits))));
+      fits = all_fit r'.first acc' g g (map (at_end false) (scans (toks_of r'.entries))) ms (subst (λ (i : ℕ). EachFits i acc' g g (map (at_end false) (scans (toks_of r'.entries))) ms) (sym f)
+          (fits_with r.first acc' g g r.entries r'.entries x ms e (subst (λ (i : ℕ). EachFits r.first i g g (scans (toks_of r.entries ++ tok.Text t ∷ [])) ms) (sym a)
+          (fed_text r.first acc g (toks_of r.entries) t ms (plain_fits r.first acc g g (toks_of r.entries) ms h.fits)))));
       acc_small = omega arith;
       wait_is = omega (arith, h.wait_is, ap waiting e, waiting_more r.entries x);
       number = omega (arith, h.number);
@@ -110,11 +122,11 @@ good_begin false r r' ms ms' acc g g' wait number k o b h e f n u m l =
     let q : number ≡ (r.first + length w) % 2 ^ 64 = u ∙ ap (λ (j : ℕ). (r.first + j) % 2 ^ 64) (sym (length_toks r.entries)) in
     record {
       sizes = sizes_with r.entries r'.entries x e h.sizes (sizes_fed (tok.Begin k o) w (same_begin k o));
-      fits = subst (λ (i : ℕ). Fits i 0 g' g' (map (at_end false) (scans (toks_of r'.entries))) ms') (sym f)
-          (subst (λ (j : ℕ). Fits r.first 0 j j (map (at_end false) (scans (toks_of r'.entries))) ms') (sym l)
+      fits = all_fit r'.first 0 g' g' (map (at_end false) (scans (toks_of r'.entries))) ms' (subst (λ (i : ℕ). EachFits i 0 g' g' (map (at_end false) (scans (toks_of r'.entries))) ms') (sym f)
+          (subst (λ (j : ℕ). EachFits r.first 0 j j (map (at_end false) (scans (toks_of r'.entries))) ms') (sym l)
           (fits_with r.first 0 (g + 1) (g + 1) r.entries r'.entries x ms' e
-          (subst (λ (y : List Note). Fits r.first 0 (g + 1) (g + 1) (scans (w ++ tok.Begin k o ∷ [])) y) (ap (λ (j : ℕ). ms ++ record { number = j; level = g; delta = acc } ∷ []) (sym q) ∙ sym m)
-          (fed_begin r.first acc g w k o ms h.acc_small (plain_fits r.first acc g g w ms h.fits)))));
+          (subst (λ (y : List Note). EachFits r.first 0 (g + 1) (g + 1) (scans (w ++ tok.Begin k o ∷ [])) y) (ap (λ (j : ℕ). ms ++ record { number = j; level = g; delta = acc } ∷ []) (sym q) ∙ sym m)
+          (fed_begin r.first acc g w k o ms h.acc_small (plain_fits r.first acc g g w ms h.fits))))));
       acc_small = omega arith;
       wait_is = omega (arith, h.wait_is, ap waiting e, waiting_more r.entries x);
       number = omega (arith, h.number);
@@ -130,9 +142,9 @@ good_end false r r' ms acc g g' wait z b h s e f n l =
     let w = toks_of r.entries in
     record {
       sizes = sizes_with r.entries r'.entries x e h.sizes (sizes_fed tok.End w same_end ∙ ap (λ (y : Size). map size_of_scan (scans w) ++ y ∷ []) (sym s));
-      fits = subst (λ (i : ℕ). Fits i acc g' g' (map (at_end false) (scans (toks_of r'.entries))) ms) (sym f)
-          (subst (λ (j : ℕ). Fits r.first acc j j (map (at_end false) (scans (toks_of r'.entries))) ms) (sym l)
-          (fits_with r.first acc (g - 1) (g - 1) r.entries r'.entries x ms e (fed_end r.first acc g w ms (plain_fits r.first acc g g w ms h.fits))));
+      fits = all_fit r'.first acc g' g' (map (at_end false) (scans (toks_of r'.entries))) ms (subst (λ (i : ℕ). EachFits i acc g' g' (map (at_end false) (scans (toks_of r'.entries))) ms) (sym f)
+          (subst (λ (j : ℕ). EachFits r.first acc j j (map (at_end false) (scans (toks_of r'.entries))) ms) (sym l)
+          (fits_with r.first acc (g - 1) (g - 1) r.entries r'.entries x ms e (fed_end r.first acc g w ms (plain_fits r.first acc g g w ms h.fits)))));
       acc_small = h.acc_small;
       wait_is = omega (arith, h.wait_is, ap waiting e, waiting_more r.entries x);
       number = omega (arith, h.number);
@@ -147,7 +159,7 @@ left_begin false r ms acc g wait b h = record {
   toks = refl;
   sizes = h.sizes ∙ ap (λ (y : List Scan). map size_of_scan y) (at_end_false (scans (toks_of r.entries)));
   stops = refl;
-  fits = plain_fits r.first acc g g (toks_of r.entries) ms h.fits;
+  fits = all_fit r.first acc g g (scans (toks_of r.entries)) ms (plain_fits r.first acc g g (toks_of r.entries) ms h.fits);
 }
 
 waiting_toks : (a b : List Entry) → toks_of a ≡ toks_of b → waiting a ≡ waiting b
@@ -179,7 +191,7 @@ good_break true r s r' ms ns ns' acc acc' delta g wait number b z h k d e f o n 
 good_break false r s r' ms ns ns' acc acc' delta g wait number b z h k d e f o n u m l j =
     let x : Entry = record { tok = tok.Break b; size = Unknown } in
     let w = toks_of r.entries in
-    let F = fed_break s.first g delta w b k.left.now ns d k.left.stops k.none k.left.fits in
+    let F = fed_break s.first g delta w b k.left.now ns d k.left.stops k.none (each_fits s.first delta g g k.left.now ns k.left.fits) in
     let t : toks_of s.entries ≡ w = k.left.toks in
     let y : length s.entries ≡ length k.left.now = omega (arith, ap length k.left.sizes, length_sizes s.entries, length_scans k.left.now) in
     let q : number ≡ (s.first + length k.left.now) % 2 ^ 64 = u ∙ ap (λ (j : ℕ). (s.first + j) % 2 ^ 64) y in
@@ -188,12 +200,12 @@ good_break false r s r' ms ns ns' acc acc' delta g wait number b z h k d e f o n
     record {
       sizes = ap sizes_of e ∙ sizes_more s.entries x ∙ ap (λ (y : List Size). y ++ Unknown ∷ []) k.left.sizes ∙ sym F.sizes
           ∙ ap (λ (y : List Tok). map size_of_scan (scans y)) (sym wt) ∙ ap (λ (y : List Scan). map size_of_scan y) (sym (at_end_false (scans (toks_of r'.entries))));
-      fits = subst (λ (i : ℕ). Fits i acc' g g (map (at_end false) (scans (toks_of r'.entries))) ns') (sym f)
-          (subst (λ (i : ℕ). Fits s.first i g g (map (at_end false) (scans (toks_of r'.entries))) ns') (sym v)
-          (subst (λ (y : List Scan). Fits s.first (min (width_of_break b) cap) g g y ns') (sym (at_end_false (scans (toks_of r'.entries))))
-          (subst (λ (y : List Tok). Fits s.first (min (width_of_break b) cap) g g (scans y) ns') (sym wt)
-          (subst (λ (y : List Note). Fits s.first (min (width_of_break b) cap) g g (scans (w ++ tok.Break b ∷ [])) y)
-          (ap (λ (i : ℕ). ns ++ record { number = i; level = g; delta = delta } ∷ []) (sym q) ∙ sym m) F.fits))));
+      fits = all_fit r'.first acc' g g (map (at_end false) (scans (toks_of r'.entries))) ns' (subst (λ (i : ℕ). EachFits i acc' g g (map (at_end false) (scans (toks_of r'.entries))) ns') (sym f)
+          (subst (λ (i : ℕ). EachFits s.first i g g (map (at_end false) (scans (toks_of r'.entries))) ns') (sym v)
+          (subst (λ (y : List Scan). EachFits s.first (min (width_of_break b) cap) g g y ns') (sym (at_end_false (scans (toks_of r'.entries))))
+          (subst (λ (y : List Tok). EachFits s.first (min (width_of_break b) cap) g g (scans y) ns') (sym wt)
+          (subst (λ (y : List Note). EachFits s.first (min (width_of_break b) cap) g g (scans (w ++ tok.Break b ∷ [])) y)
+          (ap (λ (i : ℕ). ns ++ record { number = i; level = g; delta = delta } ∷ []) (sym q) ∙ sym m) F.fits)))));
       acc_small = omega arith;
       wait_is = omega (arith, h.wait_is, ap waiting e, waiting_more s.entries x, waiting_toks s.entries r.entries t);
       number = omega (arith, h.number);
@@ -205,7 +217,7 @@ AllStopped [] = Unit {0}
 AllStopped (Stopped n ∷ cs) = AllStopped cs
 AllStopped (Going n d ∷ cs) = ⊥
 
-all_stopped : (i acc : ℕ) (cs : List Scan) (ms : List Note) → Fits i acc 0 0 cs ms → map stop cs ≡ cs → AllStopped cs
+all_stopped : (i acc : ℕ) (cs : List Scan) (ms : List Note) → EachFits i acc 0 0 cs ms → map stop cs ≡ cs → AllStopped cs
 all_stopped i acc [] ms h e = tt
 all_stopped i acc (Stopped n ∷ cs) ms h e = let k : map stop cs ≡ cs = cc in all_stopped (i + 1) acc cs ms h k
 all_stopped i acc (Going n zero ∷ cs) ms h e = cc
@@ -226,14 +238,15 @@ pub good_ended : (x : Bool) (r s : Held) (ms ns : List Note) (acc acc' g wait : 
     Closed (toks_of r.entries) s.first acc' 0 s.entries ns → acc' ≤ cap → s.first ≡ r.first → Good true s ns acc' g wait
 good_ended true r s ms ns acc acc' g wait z h l k d n = cc
 good_ended false r s ms ns acc acc' g wait z h l k d n =
-    let a = all_stopped s.first acc' k.left.now ns k.left.fits k.none in
+    let f = each_fits s.first acc' 0 0 k.left.now ns k.left.fits in
+    let a = all_stopped s.first acc' k.left.now ns f k.none in
     let t : toks_of s.entries ≡ toks_of r.entries = k.left.toks in
     let e : map (at_end true) (scans (toks_of s.entries)) ≡ k.left.now =
     ap (λ (y : List Tok). map (at_end true) (scans y)) t ∙ ends_as (scans (toks_of r.entries)) k.left.now a (sym k.left.stops ∙ k.none) in
     record {
       sizes = k.left.sizes ∙ ap (λ (y : List Scan). map size_of_scan y) (sym e);
-      fits = subst (λ (i : ℕ). Fits s.first acc' i i (map (at_end true) (scans (toks_of s.entries))) ns) (sym l)
-          (subst (λ (y : List Scan). Fits s.first acc' 0 0 y ns) (sym e) k.left.fits);
+      fits = all_fit s.first acc' g g (map (at_end true) (scans (toks_of s.entries))) ns (subst (λ (i : ℕ). EachFits s.first acc' i i (map (at_end true) (scans (toks_of s.entries))) ns) (sym l)
+          (subst (λ (y : List Scan). EachFits s.first acc' 0 0 y ns) (sym e) f));
       acc_small = d;
       wait_is = omega (arith, h.wait_is, waiting_toks s.entries r.entries t);
       number = omega (arith, h.number);
@@ -241,7 +254,7 @@ good_ended false r s ms ns acc acc' g wait z h l k d n =
     }
 
 -- numbers are told by what is left of them modulo 2^64
-fits_modulo : (i j acc low cur : ℕ) (cs : List Scan) (ms : List Note) → i % 2 ^ 64 ≡ j % 2 ^ 64 → Fits i acc low cur cs ms → Fits j acc low cur cs ms
+fits_modulo : (i j acc low cur : ℕ) (cs : List Scan) (ms : List Note) → i % 2 ^ 64 ≡ j % 2 ^ 64 → EachFits i acc low cur cs ms → EachFits j acc low cur cs ms
 fits_modulo i j acc low cur [] [] e h = tt
 fits_modulo i j acc low cur [] (m ∷ ms) e h = h
 fits_modulo i j acc low cur (Stopped n ∷ cs) ms e h = fits_modulo (i + 1) (j + 1) acc low cur cs ms (omega arith) h
@@ -249,10 +262,10 @@ fits_modulo i j acc low cur (Going n d ∷ cs) [] e h = h
 fits_modulo i j acc low cur (Going n d ∷ cs) (m ∷ ms) e h = (h.0 ∙ e, h.1, h.2, fits_modulo (i + 1) (j + 1) acc low cur cs ms (omega arith) h.3)
 
 -- the notes behind the first entry's, if it has one
-fits_rest : (i acc g : ℕ) (c : Scan) (cs : List Scan) (z : Size) (ms : List Note) → z ≡ size_of_scan c → Fits i acc g g (c ∷ cs) ms → Fits (i + 1) acc g g cs (notes_after z ms)
-fits_rest i acc g (Stopped n) cs z ms e h = subst (λ (y : Size). Fits (i + 1) acc g g cs (notes_after y ms)) (sym e) h
+fits_rest : (i acc g : ℕ) (c : Scan) (cs : List Scan) (z : Size) (ms : List Note) → z ≡ size_of_scan c → EachFits i acc g g (c ∷ cs) ms → EachFits (i + 1) acc g g cs (notes_after z ms)
+fits_rest i acc g (Stopped n) cs z ms e h = subst (λ (y : Size). EachFits (i + 1) acc g g cs (notes_after y ms)) (sym e) h
 fits_rest i acc g (Going n d) cs z [] e h = absurd h
-fits_rest i acc g (Going n d) cs z (m ∷ ms) e h = subst (λ (y : Size). Fits (i + 1) acc g g cs (notes_after y (m ∷ ms))) (sym e) h.3
+fits_rest i acc g (Going n d) cs z (m ∷ ms) e h = subst (λ (y : Size). EachFits (i + 1) acc g g cs (notes_after y (m ∷ ms))) (sym e) h.3
 
 -- the first entry is taken
 pub good_pop : (x : Bool) (r r' : Held) (e : Entry) (ms ms' : List Note) (acc g wait wait' : ℕ) → Good x r ms acc g wait →
@@ -263,10 +276,10 @@ good_pop x r r' e ms ms' acc g wait wait' h a f m l =
     let s : e.size ∷ sizes_of r'.entries ≡ size_of_scan c ∷ map size_of_scan cs =
     subst (λ (y : List Entry). sizes_of y ≡ map size_of_scan (map (at_end x) (scans (toks_of y)))) a h.sizes in
     let s0 : e.size ≡ size_of_scan c = cc in
-    let k : Fits r.first acc g g (c ∷ cs) ms = subst (λ (y : List Entry). Fits r.first acc g g (map (at_end x) (scans (toks_of y))) ms) a h.fits in
+    let k : EachFits r.first acc g g (c ∷ cs) ms = each_fits r.first acc g g (c ∷ cs) ms (subst (λ (y : List Entry). Fits r.first acc g g (map (at_end x) (scans (toks_of y))) ms) a h.fits) in
     record {
       sizes = cc;
-      fits = subst (λ (y : List Note). Fits r'.first acc g g cs y) (sym m) (fits_modulo (r.first + 1) r'.first acc g g cs (notes_after e.size ms) (omega arith) (fits_rest r.first acc g c cs e.size ms s0 k));
+      fits = all_fit r'.first acc g g cs ms' (subst (λ (y : List Note). EachFits r'.first acc g g cs y) (sym m) (fits_modulo (r.first + 1) r'.first acc g g cs (notes_after e.size ms) (omega arith) (fits_rest r.first acc g c cs e.size ms s0 k)));
       acc_small = h.acc_small;
       wait_is = omega (arith, h.wait_is, ap waiting a);
       number = omega arith;

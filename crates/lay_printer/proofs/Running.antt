@@ -9,12 +9,12 @@ use Rattle.lay_ring.specs.declared.entry.Size.{Size}
 use Rattle.lay_ring.specs.declared.entry.Size.TheVariants.{Unknown, Known, Forced}
 use Rattle.lay_ring.specs.declared.entry.Entry.{Entry}
 use Rattle.lay_printer.specs.declared.line.Line.{Line}
-use Rattle.lay_printer.specs.Scan.{Scan, Stopped, Going, at_end, size_of_scan, size_of, scan_of, sized, waiting, MayFollow, Holds}
+use Rattle.lay_printer.specs.Scan.{Scan, Stopped, Going, at_end, size_of_scan, scan_of, sized, waiting, MayFollow, Holds}
 use Rattle.lay_printer.specs.Notes.{scans}
 use Rattle.lay_printer.specs.Closed.{toks_of, sizes_of}
 use Rattle.lay_printer.specs.Pages.{Is, Wrote, Cut}
-use Rattle.lay_printer.specs.Queued.{Running, Broken, Prints, Prints_on, Feeds, Ends, Says, Decided}
-use Rattle.lay_printer.proofs.Steps.{Grows, grows_play, fed_one, print_known, print_forced, to_end, text_ended}
+use Rattle.lay_printer.specs.Queued.{Running, Broken, Prints, Advances, Ends, Says, Decided}
+use Rattle.lay_printer.proofs.Steps.{size_of, Grows, grows_play, fed_one, print_known, print_forced, to_end, text_ended}
 use Rattle.lay_printer.proofs.Paging.{cut_more, wrote_cut}
 use Rattle.lay_printer.proofs.Lockstep.{toks_sized}
 
@@ -106,7 +106,7 @@ front_is [] e h = cc
 front_is (x ∷ es) e h = let k : x ≡ e = cc in ap (λ (y : Entry). y ∷ es) k
 
 prints_by : {T E : Type 0} (x : Bool) (es es' : List Entry) (t : Tok) (p p' : Line) (fs fs' : List Frame) (b n : Option (List ℕ)) (big : Bool) (res : Result T E) →
-    ((s : List Tok) (m : Layout) → Is p m.state → Holds x s es m → Holds x s es' (act t big m)) → Prints p fs b res p' fs' n t big → Prints_on x es p fs b res es' p' fs' n
+    ((s : List Tok) (m : Layout) → Is p m.state → Holds x s es m → Holds x s es' (act t big m)) → Prints p fs b res p' fs' n t big → Advances x es p fs b res es' p' fs' n (λ s. s)
 prints_by x es es' t p p' fs fs' b n big (Ok y) f k = record {
   ok = λ content s r.
       let a = k.ok content r.layout r.at r.wrote in
@@ -121,7 +121,7 @@ prints_by x es es' t p p' fs fs' b n big (Err y) f k = record {
 }
 
 pub prints_front : {T E : Type 0} (x : Bool) (es es' : List Entry) (e : Entry) (p p' : Line) (fs fs' : List Frame) (b n : Option (List ℕ)) (wait : ℕ) (big : Bool) (res : Result T E) →
-    es ≡ e ∷ es' → wait ≡ waiting es → Decided es wait p (Some big) → Prints p fs b res p' fs' n e.tok big → Prints_on x es p fs b res es' p' fs' n
+    es ≡ e ∷ es' → wait ≡ waiting es → Decided es wait p (Some big) → Prints p fs b res p' fs' n e.tok big → Advances x es p fs b res es' p' fs' n (λ s. s)
 prints_front x es es' e p p' fs fs' b n wait big res a w d k =
     let d' : Says e.size wait p (Some big) = subst (λ (y : List Entry). Decided y wait p (Some big)) a d in
     let w' : wait ≡ waiting (e ∷ es') = w ∙ ap waiting a in
@@ -131,7 +131,7 @@ prints_front x es es' e p p' fs fs' b n wait big res a w d k =
     step_at x s e.tok e.size es' m p wait big i w' d' (front_size x e.tok e.size es' q.waits q.are_sized) q) k
 
 -- a token wasn't fed
-pub feeds_not : {T E : Type 0} (es es' : List Entry) (p p' : Line) (fs fs' : List Frame) (b : Option (List ℕ)) (t : Tok) (f : E) → Feeds {T = T} es p fs b (Err f) es' p' fs' b t
+pub feeds_not : {T E : Type 0} (es es' : List Entry) (p p' : Line) (fs fs' : List Frame) (b : Option (List ℕ)) (t : Tok) (f : E) → Advances {T = T} false es p fs b (Err f) es' p' fs' b (λ s. s ++ t ∷ [])
 feeds_not es es' p p' fs fs' b t f = record { ok = tt; err = λ content s r. running_broken es p fs b content s (t ∷ []) r }
 
 -- no more tokens come
@@ -144,7 +144,7 @@ running_ends_ es mid p fs w content s e q r =
     record { layout = r.layout; holds = subst (λ (x : List Entry). Holds true s x r.layout) v (to_end s es r.layout k); at = r.at; wrote = r.wrote }
 
 pub ends_on : {T E : Type 0} (es mid es' : List Entry) (z : Bool) (p p' : Line) (fs fs' : List Frame) (b n : Option (List ℕ)) (res : Result T E) →
-    toks_of mid ≡ toks_of es → z ≡ true → mid ≡ sized z (toks_of mid) → Prints_on z mid p fs b res es' p' fs' n → (OnOk res (es' ≡ [])) → Ends es p fs b res n
+    toks_of mid ≡ toks_of es → z ≡ true → mid ≡ sized z (toks_of mid) → Advances z mid p fs b res es' p' fs' n (λ s. s) → (OnOk res (es' ≡ [])) → Ends es p fs b res n
 ends_on es mid es' false p p' fs fs' b n res e y q k v = cc
 ends_on es mid es' true p p' fs fs' b n (Ok x) e y q k v = record {
   ok = λ content s r.
@@ -180,7 +180,7 @@ fed_first es mid p mp fs mfs w content s t g f k q r =
     (subst (λ (y : Line). Running false es y mfs w content s) (sym g) (subst (λ (x : List Frame). Running false es p x w content s) (sym f) r))
 
 pub feeds_won : {T U E F : Type 0} (es mid es' : List Entry) (z : Bool) (p mp p' : Line) (fs mfs fs' : List Frame) (b n : Option (List ℕ)) (t : Tok) (u : T) (v : U) → mp ≡ p → mfs ≡ fs → toks_of mid ≡ toks_of es ++ t ∷ [] → z ≡ false →
-    sizes_of mid ≡ map size_of_scan (map (at_end z) (scans (toks_of mid))) → Prints_on {E = E} z mid mp mfs b (Ok u) es' p' fs' n → Feeds {E = F} es p fs b (Ok v) es' p' fs' n t
+    sizes_of mid ≡ map size_of_scan (map (at_end z) (scans (toks_of mid))) → Advances {E = E} z mid mp mfs b (Ok u) es' p' fs' n (λ s. s) → Advances {E = F} false es p fs b (Ok v) es' p' fs' n (λ s. s ++ t ∷ [])
 feeds_won es mid es' true p mp p' fs mfs fs' b n t u v g f k y q h = cc
 feeds_won es mid es' false p mp p' fs mfs fs' b n t u v g f k y q h = record {
   ok = λ content s r. h.ok content (s ++ t ∷ []) (fed_first es mid p mp fs mfs b content s t g f k q r);
@@ -188,7 +188,7 @@ feeds_won es mid es' false p mp p' fs mfs fs' b n t u v g f k y q h = record {
 }
 
 pub feeds_lost : {T U E F : Type 0} (es mid es' : List Entry) (z : Bool) (p mp p' : Line) (fs mfs fs' : List Frame) (b n : Option (List ℕ)) (t : Tok) (e : E) (f : F) → mp ≡ p → mfs ≡ fs → toks_of mid ≡ toks_of es ++ t ∷ [] → z ≡ false →
-    sizes_of mid ≡ map size_of_scan (map (at_end z) (scans (toks_of mid))) → Prints_on {T = T} z mid mp mfs b (Err e) es' p' fs' n → Feeds {T = U} es p fs b (Err f) es' p' fs' n t
+    sizes_of mid ≡ map size_of_scan (map (at_end z) (scans (toks_of mid))) → Advances {T = T} z mid mp mfs b (Err e) es' p' fs' n (λ s. s) → Advances {T = U} false es p fs b (Err f) es' p' fs' n (λ s. s ++ t ∷ [])
 feeds_lost es mid es' true p mp p' fs mfs fs' b n t e f g m k y q h = cc
 feeds_lost es mid es' false p mp p' fs mfs fs' b n t e f g m k y q h = record {
   ok = tt;

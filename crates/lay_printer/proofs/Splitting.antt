@@ -32,4 +32,4 @@ pub kept_none : (cur : ℕ) (ms : List Note) → None ≡ slice_get ms (length m
 kept_none cur ms h = inl (none_last ms h)
 
 pub kept_below : (cur : ℕ) (ms : List Note) (n : Note) → Some n ≡ slice_get ms (length ms - 1) → n.level < cur → NoteKept cur ms
-kept_below cur ms n h l = inr (record { before = take (length ms - 1) ms; newest = n; both = some_last ms n h; low = l })
+kept_below cur ms n h l = inr (take (length ms - 1) ms, n, some_last ms n h, l)

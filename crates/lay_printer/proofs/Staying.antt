@@ -6,9 +6,8 @@ use Rattle.lay_printer.specs.declared.queue.Queue.{Queue}
 use Rattle.lay_printer.specs.declared.engine.Engine.{Engine}
 use Rattle.lay_printer.specs.Closed.{toks_of}
 use Rattle.lay_layout.specs.declared.layout.Frame.{Frame}
-use Rattle.lay_printer.specs.Depth.{open_in}
 use Rattle.lay_printer.specs.Engines.{Comes, Roomier, Stays}
-use Rattle.lay_printer.proofs.Depths.{open_more}
+use Rattle.lay_printer.proofs.Depths.{open_in, open_more}
 use Rattle.lay_printer.proofs.Queueing.{length_toks}
 
 pub stays_then : {a b c : Engine} → Stays a b → Stays b c → Stays a c

@@ -10,9 +10,19 @@ use Rattle.lay_layout.specs.declared.layout.Tok.{Tok}
 use Rattle.lay_layout.specs.declared.layout.Tok.TheVariants as tok
 use Rattle.lay_layout.specs.Document.{State, width_of_break, over, put_mark, skip, newline, line, shift, break_by}
 use Rattle.lay_layout.specs.Machine.{outer, reach, measure, play, step, act, Layout, begun, text, top}
+use Rattle.lay_ring.specs.declared.entry.Size.{Size}
 use Rattle.lay_ring.specs.declared.entry.Size.TheVariants.{Unknown, Known}
 use Rattle.lay_ring.specs.declared.entry.Entry.{Entry}
-use Rattle.lay_printer.specs.Scan.{Scan, Stopped, Going, widen, scan, with_rest, cap, size_of_scan, scan_of, size_of, sized, waiting, at_end, MayFollow, Holds}
+use Rattle.lay_printer.specs.Scan.{Scan, Stopped, Going, widen, scan, cap, size_of_scan, scan_of, sized, waiting, at_end, MayFollow, Holds}
+
+-- the measure, where r follows
+abbrev pub with_rest : Scan → List Tok → ℕ
+with_rest (Stopped n) r = n
+with_rest (Going n d) r = n + reach d r
+
+-- the size of a token that ts follow. ended: no more tokens come.
+abbrev pub size_of : Bool → Tok → List Tok → Size
+size_of ended t ts = size_of_scan (at_end ended (scan_of t ts))
 
 with_rest_widen : (w : ℕ) (c : Scan) (r : List Tok) → with_rest (widen w c) r ≡ w + with_rest c r
 with_rest_widen w (Stopped n) r = refl

@@ -3,13 +3,14 @@ use Rattle.std.proofs.Common.{◌≡◌, ◌≢◌, ℕ, zero, suc, ◌+◌, inl
 use Rattle.std.proofs.Math.Seq.{take-append_seam}
 use Rattle.lay_layout.specs.declared.layout.Tok.{Tok}
 use Rattle.lay_layout.specs.Machine.{opened, text}
+use Rattle.lay_io.specs.Faults.{Rose}
 use Rattle.lay_io.specs.Told.{GrewBy, GrewByPrefix}
 use Rattle.lay_stream.specs.Fed.{Did}
 use Rattle.lay_printer.specs.declared.engine.PrintError.{PrintError}
 use Rattle.lay_printer.specs.declared.engine.PrintError.TheVariants.{WriteFailed, NoMemory}
 use Rattle.lay_printer.specs.Printing.{Printing}
 use Rattle.lay_printer.specs.Pages.{Wrote, Cut}
-use Rattle.lay_printer.specs.Errors.{Blame, Blames}
+use Rattle.lay_printer.specs.Errors.{Blames}
 use Rattle.lay_printer.specs.Printers.{Runs, FedBy, CauseOf, Finishes, printer_meanings}
 
 length-replicate : (n x : ℕ) → length (replicate n x) ≡ n
@@ -64,10 +65,10 @@ pub went : {S T : Type 0} (core : S → Printing) (written : S → Option (List 
 went core written faults loan x y ts v b d content h =
     ((d.puts v refl).appends (record { content = content; faults = faults x }) [] (begins_fed (core x) (written x) b content h, le_refl (faults x))).0
 
-pub blame_of : (e : PrintError) (a b : ℕ) (z : Option PrintError) → z ≡ None → CauseOf e a b z → Blame e a b
-blame_of WriteFailed a b z u (inl h) = h
-blame_of WriteFailed a b z u (inr h) = cc
-blame_of NoMemory a b z u h = tt
+pub blame_of : (e : PrintError) (a b : ℕ) (z : Option PrintError) → z ≡ None → CauseOf e a b z → e ≡ WriteFailed → Rose a b
+blame_of WriteFailed a b z u (inl h) w = h
+blame_of WriteFailed a b z u (inr h) w = cc
+blame_of NoMemory a b z u h w = cc
 
 cause_at : (e : PrintError) (a b : ℕ) (z : Option PrintError) → CauseOf e a b z → CauseOf e a b z
 cause_at e a b z h = h
@@ -86,7 +87,7 @@ printed_stopped core written faults loan x y ts e (Err v) b d i = record {
   err = grew_cut (written x) (written y) (text ts) (stopped core written faults loan x y ts e b d);
   cause = record {
     later = (d.stops e refl).later;
-    failed = subst (λ (z : PrintError). Blame z (faults x) (faults y)) (sym i) (blame_of e (faults x) (faults y) (core x).failed b.fresh (d.stops e refl).because);
+    failed = subst (λ (z : PrintError). z ≡ WriteFailed → Rose (faults x) (faults y)) (sym i) (blame_of e (faults x) (faults y) (core x).failed b.fresh (d.stops e refl).because);
   };
 }
 

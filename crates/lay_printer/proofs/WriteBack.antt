@@ -8,7 +8,9 @@ use Rattle.lay_ring.specs.declared.entry.Size.{Size}
 use Rattle.lay_ring.specs.declared.entry.Size.TheVariants.{Unknown, Known}
 use Rattle.lay_printer.specs.Scan.{Scan, Stopped, Going, widen, scan, scan_of, size_of_scan, cap}
 use Rattle.lay_printer.specs.declared.close.Note.{Note}
-use Rattle.lay_printer.specs.Notes.{scans, grow, deepen, leave, stop, advance, acc_of, low_of, Fits}
+use Rattle.lay_printer.specs.Notes.{scans, stop, acc_of, low_of}
+use Rattle.lay_printer.proofs.Fitting.{EachFits}
+use Rattle.lay_printer.proofs.Advancing.{grow, deepen, leave, advance}
 
 -- one more token
 widen_advance : (w : ℕ) (x : Tok) (c : Scan) → widen w (advance x c) ≡ advance x (widen w c)
@@ -61,7 +63,7 @@ acc_grow : (acc k : ℕ) (ms : List Note) → acc_of (min (acc + k) cap) ms ≡ 
 acc_grow acc k [] = refl
 acc_grow acc k (m ∷ ms) = omega (arith, acc_grow acc k ms)
 
-pub fits_grow : (i acc low cur k : ℕ) (cs : List Scan) (ms : List Note) → Fits i acc low cur cs ms → Fits i (min (acc + k) cap) low cur (map (grow k) cs) ms
+pub fits_grow : (i acc low cur k : ℕ) (cs : List Scan) (ms : List Note) → EachFits i acc low cur cs ms → EachFits i (min (acc + k) cap) low cur (map (grow k) cs) ms
 fits_grow i acc low cur k [] [] h = tt
 fits_grow i acc low cur k [] (m ∷ ms) h = h
 fits_grow i acc low cur k (Stopped n ∷ cs) ms h = fits_grow (i + 1) acc low cur k cs ms h
@@ -75,7 +77,7 @@ low_le low [] = omega arith
 low_le low (m ∷ ms) = omega (arith, low_le low ms)
 
 -- a group begins
-pub fits_deepen : (i acc low cur : ℕ) (cs : List Scan) (ms : List Note) → low ≤ cur → Fits i acc low cur cs ms → Fits i acc low (cur + 1) (map deepen cs) ms
+pub fits_deepen : (i acc low cur : ℕ) (cs : List Scan) (ms : List Note) → low ≤ cur → EachFits i acc low cur cs ms → EachFits i acc low (cur + 1) (map deepen cs) ms
 fits_deepen i acc low cur [] [] l h = tt
 fits_deepen i acc low cur [] (m ∷ ms) l h = h
 fits_deepen i acc low cur (Stopped n ∷ cs) ms l h = fits_deepen (i + 1) acc low cur cs ms l h
@@ -93,7 +95,7 @@ low_min low k [] = refl
 low_min low k (m ∷ ms) = omega (arith, low_min low k ms)
 
 -- a group ends
-pub fits_leave : (i acc low cur : ℕ) (cs : List Scan) (ms : List Note) → Fits i acc low cur cs ms → Fits i acc (min low (cur - 1)) (cur - 1) (map leave cs) ms
+pub fits_leave : (i acc low cur : ℕ) (cs : List Scan) (ms : List Note) → EachFits i acc low cur cs ms → EachFits i acc (min low (cur - 1)) (cur - 1) (map leave cs) ms
 fits_leave i acc low cur [] [] h = tt
 fits_leave i acc low cur [] (m ∷ ms) h = h
 fits_leave i acc low cur (Stopped n ∷ cs) ms h = fits_leave (i + 1) acc low cur cs ms h
@@ -111,7 +113,7 @@ low_append low [] m = refl
 low_append low (k ∷ ms) m = ap (λ (a : ℕ). min k.level a) (low_append low ms m)
 
 -- an entry that has its size is added
-pub fits_still : (i acc low cur n : ℕ) (cs : List Scan) (ms : List Note) → Fits i acc low cur cs ms → Fits i acc low cur (cs ++ Stopped n ∷ []) ms
+pub fits_still : (i acc low cur n : ℕ) (cs : List Scan) (ms : List Note) → EachFits i acc low cur cs ms → EachFits i acc low cur (cs ++ Stopped n ∷ []) ms
 fits_still i acc low cur n [] [] h = tt
 fits_still i acc low cur n [] (m ∷ ms) h = h
 fits_still i acc low cur n (Stopped k ∷ cs) ms h = fits_still (i + 1) acc low cur n cs ms h
@@ -124,7 +126,7 @@ same_number i j e = ap (λ (x : ℕ). x % 2 ^ 64) e
 -- an entry that has no size yet is added, with its note
 pub fits_push : (i acc low cur n d acc' low' : ℕ) (m : Note) (cs : List Scan) (ms : List Note) →
     m.number ≡ (i + length cs) % 2 ^ 64 → min n cap ≡ acc' → d ≡ cur - min m.level low' → acc ≡ min (acc' + m.delta) cap → low ≡ min m.level low' →
-    Fits i acc low cur cs ms → Fits i acc' low' cur (cs ++ Going n d ∷ []) (ms ++ m ∷ [])
+    EachFits i acc low cur cs ms → EachFits i acc' low' cur (cs ++ Going n d ∷ []) (ms ++ m ∷ [])
 fits_push i acc low cur n d acc' low' m [] [] p q r s t h = (p ∙ same_number (i + 0) i (omega arith), q, r, tt)
 fits_push i acc low cur n d acc' low' m [] (k ∷ ms) p q r s t h = absurd h
 fits_push i acc low cur n d acc' low' m (Stopped k ∷ cs) ms p q r s t h = fits_push (i + 1) acc low cur n d acc' low' m cs ms (p ∙ same_number (i + suc (length cs)) (i + 1 + length cs) (omega arith)) q r s t h
@@ -143,18 +145,18 @@ pub record Popped (i acc cur : ℕ) (cs : List Scan) (ms : List Note) (m : Note)
   pub sizes : map size_of_scan now ≡ set (map size_of_scan cs) place (Known (pos acc))
   pub was : get_or (map size_of_scan cs) place (Known (pos 0)) ≡ Unknown
   pub stops : map stop now ≡ map stop cs
-  pub fits : Fits i (min (acc + m.delta) cap) cur cur now ms
+  pub fits : EachFits i (min (acc + m.delta) cap) cur cur now ms
 
 low_stays : (level cur : ℕ) → cur ≤ level → min level cur ≡ cur
 low_stays level cur l = omega arith
 
 -- no scan goes on where there is no note
-fits_none : (i acc low acc' low' cur : ℕ) (cs : List Scan) → Fits i acc low cur cs [] → Fits i acc' low' cur cs []
+fits_none : (i acc low acc' low' cur : ℕ) (cs : List Scan) → EachFits i acc low cur cs [] → EachFits i acc' low' cur cs []
 fits_none i acc low acc' low' cur [] h = tt
 fits_none i acc low acc' low' cur (Stopped n ∷ cs) h = fits_none (i + 1) acc low acc' low' cur cs h
 fits_none i acc low acc' low' cur (Going n d ∷ cs) h = h
 
-pop_first : (i acc cur n d : ℕ) (cs : List Scan) (m : Note) → cur ≤ m.level → m.number ≡ i % 2 ^ 64 → min n cap ≡ acc → d ≡ cur - min m.level cur → Fits (i + 1) acc cur cur cs [] → Popped i acc cur (Going n d ∷ cs) [] m
+pop_first : (i acc cur n d : ℕ) (cs : List Scan) (m : Note) → cur ≤ m.level → m.number ≡ i % 2 ^ 64 → min n cap ≡ acc → d ≡ cur - min m.level cur → EachFits (i + 1) acc cur cur cs [] → Popped i acc cur (Going n d ∷ cs) [] m
 pop_first i acc cur n zero cs m l a b e h = record {
   now = Stopped n ∷ cs;
   place = 0;
@@ -167,7 +169,7 @@ pop_first i acc cur n zero cs m l a b e h = record {
 }
 pop_first i acc cur n (suc d) cs m l a b e h = absurd (omega arith)
 
-pub pop : (i acc cur : ℕ) (cs : List Scan) (ms : List Note) (m : Note) → cur ≤ m.level → Fits i acc cur cur cs (ms ++ m ∷ []) → Popped i acc cur cs ms m
+pub pop : (i acc cur : ℕ) (cs : List Scan) (ms : List Note) (m : Note) → cur ≤ m.level → EachFits i acc cur cur cs (ms ++ m ∷ []) → Popped i acc cur cs ms m
 pop i acc cur [] [] m l h = absurd h
 pop i acc cur [] (k ∷ ms) m l h = absurd h
 pop i acc cur (Stopped n ∷ cs) ms m l h =
@@ -196,7 +198,7 @@ pop i acc cur (Going n d ∷ cs) (k ∷ ms) m l h =
       fits = (h.0, h.1 ∙ acc_append acc ms m, h.2 ∙ ap (λ (x : ℕ). cur - min k.level x) (low_append cur ms m ∙ ap (λ (x : ℕ). low_of x ms) (low_stays m.level cur l)), p.fits);
     }
 
-pub no_note : (i acc low cur : ℕ) (cs : List Scan) → Fits i acc low cur cs [] → map stop cs ≡ cs
+pub no_note : (i acc low cur : ℕ) (cs : List Scan) → EachFits i acc low cur cs [] → map stop cs ≡ cs
 no_note i acc low cur [] h = refl
 no_note i acc low cur (Stopped n ∷ cs) h = ap (λ (x : List Scan). Stopped n ∷ x) (no_note (i + 1) acc low cur cs h)
 no_note i acc low cur (Going n d ∷ cs) h = absurd h
@@ -206,7 +208,7 @@ still n zero a b l e = absurd (omega arith)
 still n (suc d) a b l e = ap (λ (x : List Scan). Going n (suc d) ∷ x) e
 
 -- where the newest note was made with fewer groups open than now, no more entry ends its measure here
-pub none_stops : (i acc cur : ℕ) (cs : List Scan) (ms : List Note) (m : Note) → m.level < cur → Fits i acc cur cur cs (ms ++ m ∷ []) → map stop cs ≡ cs
+pub none_stops : (i acc cur : ℕ) (cs : List Scan) (ms : List Note) (m : Note) → m.level < cur → EachFits i acc cur cur cs (ms ++ m ∷ []) → map stop cs ≡ cs
 none_stops i acc cur [] ms m l h = refl
 none_stops i acc cur (Stopped n ∷ cs) ms m l h = ap (λ (x : List Scan). Stopped n ∷ x) (none_stops (i + 1) acc cur cs ms m l h)
 none_stops i acc cur (Going n d ∷ cs) [] m l h = still n d (map stop cs) cs (omega (arith, h.2)) (no_note (i + 1) acc cur cur cs h.3)
@@ -226,7 +228,7 @@ map_two k (c ∷ cs) f h = ap₂ (λ (x : Scan) (xs : List Scan). x ∷ xs) (h c
 -- and with a note of it the notes fit again.
 pub record FedBreak (i cur : ℕ) (w : List Tok) (b : _) (now : List Scan) (acc : ℕ) (ms : List Note) : Type 0 where
   pub sizes : map size_of_scan (scans (w ++ tok.Break b ∷ [])) ≡ map size_of_scan now ++ Unknown ∷ []
-  pub fits : Fits i (min (width_of_break b) cap) cur cur (scans (w ++ tok.Break b ∷ [])) (ms ++ record { number = (i + length now) % 2 ^ 64; level = cur; delta = acc } ∷ [])
+  pub fits : EachFits i (min (width_of_break b) cap) cur cur (scans (w ++ tok.Break b ∷ [])) (ms ++ record { number = (i + length now) % 2 ^ 64; level = cur; delta = acc } ∷ [])
 
 map_append : (f : Scan → Size) (a b : List Scan) → map f (a ++ b) ≡ map f a ++ map f b
 map_append f [] b = refl
@@ -237,7 +239,7 @@ length_grow k [] = refl
 length_grow k (c ∷ cs) = ap suc (length_grow k cs)
 
 pub fed_break : (i cur acc : ℕ) (w : List Tok) (b : _) (now : List Scan) (ms : List Note) → acc ≤ cap →
-    map stop now ≡ map stop (scans w) → map stop now ≡ now → Fits i acc cur cur now ms → FedBreak i cur w b now acc ms
+    map stop now ≡ map stop (scans w) → map stop now ≡ now → EachFits i acc cur cur now ms → FedBreak i cur w b now acc ms
 fed_break i cur acc w b now ms q s t h =
     let k = width_of_break b in
     let e : scans (w ++ tok.Break b ∷ []) ≡ map (grow k) now ++ Going (k + 0) 0 ∷ [] =
@@ -246,6 +248,6 @@ fed_break i cur acc w b now ms q s t h =
     let note : Note = record { number = (i + length now) % 2 ^ 64; level = cur; delta = acc } in
     record {
       sizes = ap (λ (x : List Scan). map size_of_scan x) e ∙ map_append size_of_scan (map (grow k) now) (Going (k + 0) 0 ∷ []) ∙ ap (λ (x : List Size). x ++ Unknown ∷ []) (size_grow k now);
-      fits = subst (λ (x : List Scan). Fits i (min k cap) cur cur x (ms ++ note ∷ [])) (sym e)
+      fits = subst (λ (x : List Scan). EachFits i (min k cap) cur cur x (ms ++ note ∷ [])) (sym e)
           (fits_push i (min (acc + k) cap) cur cur (k + 0) 0 (min k cap) cur note (map (grow k) now) ms (same_number (i + length now) (i + length (map (grow k) now)) (omega (arith, length_grow k now))) (omega arith) (omega arith) (omega arith) (omega arith) g);
     }

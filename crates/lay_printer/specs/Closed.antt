@@ -16,14 +16,8 @@ sizes_of [] = []
 sizes_of (e ∷ es) = e.size ∷ sizes_of es
 
 -- there is no note, or the newest was made with fewer than cur groups open
-pub record NoteBelow (cur : ℕ) (ms : List Note) : Type 0 where
-  pub before : List Note
-  pub newest : Note
-  pub both : ms ≡ before ++ newest ∷ []
-  pub low : newest.level < cur
-
 abbrev pub NoteKept : ℕ → List Note → Type 0
-NoteKept cur ms = (ms ≡ []) ⊎ NoteBelow cur ms
+NoteKept cur ms = (ms ≡ []) ⊎ ((before : List Note) × (m : Note) × (ms ≡ before ++ m ∷ []) × (m.level < cur))
 
 -- some pops were made, from entries of tokens w: acc is the width since the newest note
 pub record Left (w : List Tok) (first acc cur : ℕ) (entries : List Entry) (ms : List Note) : Type 0 where

@@ -4,12 +4,10 @@ pub mod Closed
 pub mod Pages
 pub mod Queued
 pub mod Errors
+pub mod Engines
+pub mod Printing
 pub mod Printers
-pub mod Steps
-pub mod Depth
+pub mod Promises
+pub mod Presses
 pub mod Sizes
 pub mod Texts
-pub mod Printing
-pub mod Engines
-pub mod Presses
-pub mod Promises

@@ -1,11 +1,6 @@
 -- The notes that the printer keeps of the entries whose size isn't known, oldest first.
-use Rattle.std.specs.Prelude.{◌≡◌, ℕ, zero, suc, ◌+◌, ◌-◌, ◌%◌, ◌^◌, min, List, [], ◌∷◌, length}
+use Rattle.std.specs.Prelude.{◌≡◌, ℕ, zero, ◌+◌, ◌-◌, ◌%◌, ◌^◌, min, List, [], ◌∷◌}
 use Rattle.lay_layout.specs.declared.layout.Tok.{Tok}
-use Rattle.std.specs.Coded.{Unit-prop}
-use native.Mathlib.Nat.{ℕ_set}
-use Rattle.lay_layout.specs.declared.layout.Tok.TheVariants as tok
-use Rattle.lay_layout.specs.Document.{width_of_break}
-use Rattle.lay_layout.specs.Machine.{outer}
 use Rattle.lay_printer.specs.declared.close.Note.{Note}
 use Rattle.lay_printer.specs.Scan.{Scan, Stopped, Going, scan_of, cap}
 
@@ -14,29 +9,10 @@ abbrev pub scans : List Tok → List Scan
 scans [] = []
 scans (t ∷ ts) = scan_of t ts ∷ scans ts
 
--- a scan after one more token
-abbrev pub grow : ℕ → Scan → Scan
-grow k (Stopped n) = Stopped n
-grow k (Going n d) = Going (n + k) d
-
-abbrev pub deepen : Scan → Scan
-deepen (Stopped n) = Stopped n
-deepen (Going n d) = Going n (suc d)
-
-abbrev pub leave : Scan → Scan
-leave (Stopped n) = Stopped n
-leave (Going n d) = Going n (outer d)
-
+-- a scan before a break
 abbrev pub stop : Scan → Scan
-stop (Stopped n) = Stopped n
 stop (Going n zero) = Stopped n
-stop (Going n (suc d)) = Going n (suc d)
-
-abbrev pub advance : Tok → Scan → Scan
-advance (tok.Text t) c = grow (length t) c
-advance (tok.Break b) c = grow (width_of_break b) (stop c)
-advance (tok.Begin o k) c = deepen c
-advance tok.End c = leave c
+stop c = c
 
 -- the width from the oldest note's entry on, where acc is the width from the newest one's on
 abbrev pub acc_of : ℕ → List Note → ℕ
@@ -48,20 +24,16 @@ abbrev pub low_of : ℕ → List Note → ℕ
 low_of low [] = low
 low_of low (m ∷ ms) = min m.level (low_of low ms)
 
--- The notes are those of the scans that go on, where i is the first number, modulo 2^64, and cur groups are open.
-abbrev pub Fits : (i acc low cur : ℕ) → List Scan → List Note → Type 0
-Fits i acc low cur [] [] = Unit {0}
-Fits i acc low cur [] (m ∷ ms) = ⊥
-Fits i acc low cur (Stopped n ∷ cs) ms = Fits (i + 1) acc low cur cs ms
-Fits i acc low cur (Going n d ∷ cs) [] = ⊥
-Fits i acc low cur (Going n d ∷ cs) (m ∷ ms) =
-    (m.number ≡ i % 2 ^ 64) × (min n cap ≡ acc_of acc ms) × (d ≡ cur - low_of low (m ∷ ms)) × Fits (i + 1) acc low cur cs ms
+-- the numbers of the entries whose scans go on, modulo 2^64, their widths so far and their depths
+abbrev pub going : ℕ → List Scan → List (ℕ × ℕ × ℕ)
+going i [] = []
+going i (Stopped n ∷ cs) = going (i + 1) cs
+going i (Going n d ∷ cs) = (i % 2 ^ 64, min n cap, d) ∷ going (i + 1) cs
 
--- it says one thing
-pub Fits-prop : (i acc low cur : ℕ) (cs : List Scan) (ms : List Note) → IsProp (Fits i acc low cur cs ms)
-Fits-prop i acc low cur [] [] = Unit-prop
-Fits-prop i acc low cur [] (m ∷ ms) = λ x y. absurd x
-Fits-prop i acc low cur (Stopped n ∷ cs) ms = Fits-prop (i + 1) acc low cur cs ms
-Fits-prop i acc low cur (Going n d ∷ cs) [] = λ x y. absurd x
-Fits-prop i acc low cur (Going n d ∷ cs) (m ∷ ms) =
-    λ x y j. (ℕ_set m.number (i % 2 ^ 64) x.0 y.0 j, ℕ_set (min n cap) (acc_of acc ms) x.1 y.1 j, ℕ_set d (cur - low_of low (m ∷ ms)) x.2 y.2 j, Fits-prop (i + 1) acc low cur cs ms x.3 y.3 j)
+-- what the notes tell of them, where cur groups are open
+abbrev pub noted : (acc low cur : ℕ) → List Note → List (ℕ × ℕ × ℕ)
+noted acc low cur [] = []
+noted acc low cur (m ∷ ms) = (m.number, acc_of acc ms, cur - low_of low (m ∷ ms)) ∷ noted acc low cur ms
+
+abbrev pub Fits : (i acc low cur : ℕ) → List Scan → List Note → Type 0
+Fits i acc low cur cs ms = going i cs ≡ noted acc low cur ms

@@ -1,15 +1,20 @@
 -- What is known of a printer.
-use Rattle.std.specs.Prelude.{◌≡◌, ◌≢◌, ℕ, ◌+◌, ◌%◌, ◌^◌, ◌<◌, ◌≤◌, ◌⊎◌, false, List, [], ◌∷◌, ◌++◌, Option, Some, None, Result, Err, OnOk, IfErr}
+use Rattle.std.specs.Prelude.{◌≡◌, ◌≢◌, ℕ, ◌+◌, ◌-◌, ◌%◌, ◌^◌, ◌<◌, ◌≤◌, ◌⊎◌, false}
+use Rattle.std.specs.Prelude.{List, [], ◌∷◌, ◌++◌, length, Option, Some, None, Result, Err, OnOk, IfErr}
 use Rattle.lay_layout.specs.declared.layout.Tok.{Tok}
 use Rattle.lay_layout.specs.Machine.{opened, text, IsNested, IsClosed}
+use Rattle.lay_ring.specs.declared.entry.Entry.{Entry}
 use Rattle.lay_io.specs.Faults.{Rose}
 use Rattle.lay_stream.specs.Fed.{Meanings}
 use Rattle.lay_printer.specs.Queued.{Running, Broken, next_of}
 use Rattle.lay_printer.specs.Pages.{Wrote, Cut}
-use Rattle.lay_printer.specs.Steps.{at}
 use Rattle.lay_printer.specs.Printing.{Printing}
 use Rattle.lay_printer.specs.declared.engine.PrintError.{PrintError}
 use Rattle.lay_printer.specs.declared.engine.PrintError.TheVariants.{WriteFailed, NoMemory}
+
+-- the number of tokens that are printed
+abbrev pub at : List Tok → List Entry → ℕ
+at s es = length s - length es
 
 -- The printer was fed the tokens s, over a sink that had the content, and hasn't failed. The number of its first entry
 -- counts the tokens that are printed. Each End of s closes a group, and the groups that are open are those of s.
@@ -36,23 +41,26 @@ CauseOf NoMemory before now failed = Unit {0}
 
 -- a call that failed, after one that failed or not: after one that failed the sink isn't written to
 abbrev pub LostBy : Option PrintError → Printing → Option (List ℕ) → Option (List ℕ) → Tok → Type 0
-LostBy None c before now t = (content : List ℕ) (s : List Tok) → Runs c before content s → Fails now content (s ++ t ∷ [])
-LostBy (Some e) c before now t = now ≡ before
+LostBy None c was now t = (content : List ℕ) (s : List Tok) → Runs c was content s → Fails now content (s ++ t ∷ [])
+LostBy (Some e) c was now t = now ≡ was
 
-pub record Went (c : Printing) (before : Option (List ℕ)) (c' : Printing) (now : Option (List ℕ)) (t : Tok) : Type 0 where
+pub record Went (c : Printing) (before : Option (List ℕ)) (c' : Printing) (now : Option (List ℕ)) (t : Tok)
+    : Type 0 where
   pub hadnt_failed : c.failed ≡ None
   pub hasnt_failed : c'.failed ≡ None
   pub runs : (content : List ℕ) (s : List Tok) → Runs c before content s → Runs c' now content (s ++ t ∷ [])
   pub level : c'.groups ≡ opened (t ∷ []) c.groups
   pub number : next_of c'.first c'.entries ≡ (next_of c.first c.entries + 1) % 2 ^ 64
 
-pub record Lost (c : Printing) (before : Option (List ℕ)) (faults : ℕ) (c' : Printing) (now : Option (List ℕ)) (faults' : ℕ) (t : Tok) (e : PrintError) : Type 0 where
+pub record Lost (c : Printing) (before : Option (List ℕ)) (faults : ℕ) (c' : Printing)
+    (now : Option (List ℕ)) (faults' : ℕ) (t : Tok) (e : PrintError) : Type 0 where
   pub has_failed : c'.failed ≡ Some e
   pub writes : LostBy c.failed c before now t
   pub because : CauseOf e faults faults' c.failed
 
 -- A call that is to feed a token.
-pub record Calls {T : Type 0} (c : Printing) (before : Option (List ℕ)) (faults : ℕ) (result : Result T PrintError) (c' : Printing) (now : Option (List ℕ)) (faults' : ℕ) (t : Tok) : Type 0 where
+pub record Calls {T : Type 0} (c : Printing) (before : Option (List ℕ)) (faults : ℕ) (result : Result T PrintError)
+    (c' : Printing) (now : Option (List ℕ)) (faults' : ℕ) (t : Tok) : Type 0 where
   pub later : faults ≤ faults'
   pub ok : OnOk result (Went c before c' now t)
   pub err : IfErr result (λ e. Lost c before faults c' now faults' t e)
@@ -71,13 +79,17 @@ abbrev pub IsWhole : Printing → Option (List ℕ) → Type 0
 IsWhole c written = (content : List ℕ) (s : List Tok) → c.failed ≡ None → Runs c written content s → IsClosed 0 s
 
 -- The end of a stream.
-pub record Finishes {T : Type 0} (c : Printing) (before : Option (List ℕ)) (faults : ℕ) (result : Result T PrintError) (c' : Printing) (now : Option (List ℕ)) (faults' : ℕ) : Type 0 where
+pub record Finishes {T : Type 0} (c : Printing) (before : Option (List ℕ)) (faults : ℕ) (result : Result T PrintError)
+    (c' : Printing) (now : Option (List ℕ)) (faults' : ℕ) : Type 0 where
   pub later : faults ≤ faults'
-  pub ok : OnOk result ((c.failed ≡ None) × ((content : List ℕ) (s : List Tok) → FedBy c.failed c before content s → Wrote now content (text s)))
-  pub err : IfErr result (λ e. (c'.failed ≡ Some e) × CauseOf e faults faults' c.failed × ((content : List ℕ) (s : List Tok) → FedBy c.failed c before content s → Cut now content (text s)))
+  pub ok : OnOk result ((c.failed ≡ None) × ((content : List ℕ) (s : List Tok)
+      → FedBy c.failed c before content s → Wrote now content (text s)))
+  pub err : IfErr result (λ e. (c'.failed ≡ Some e) × CauseOf e faults faults' c.failed
+      × ((content : List ℕ) (s : List Tok) → FedBy c.failed c before content s → Cut now content (text s)))
 
 -- What is said of a printer as an Emit.
-abbrev pub printer_meanings : {S : Type 0} → (S → Printing) → (S → Option (List ℕ)) → (S → ℕ) → (S → ℕ) → Meanings S PrintError
+abbrev pub printer_meanings : {S : Type 0}
+    → (S → Printing) → (S → Option (List ℕ)) → (S → ℕ) → (S → ℕ) → Meanings S PrintError
 printer_meanings core written faults loan = record {
   fed = λ x start s. FedBy (core x).failed (core x) (written x) start.content s × (start.faults ≤ faults x);
   groups = λ x. (core x).groups;

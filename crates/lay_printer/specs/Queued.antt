@@ -1,38 +1,27 @@
 -- Tokens that wait, and what is kept of them.
-use Rattle.std.specs.Prelude.{◌≡◌, ℕ, ◌+◌, ◌≤◌, ◌<◌, ◌^◌, Bool, true, false, nat_lt, pos, negsuc, List, [], ◌∷◌, ◌++◌, map, length, Option, Some, None, Result, OnOk, OnErr}
+use Rattle.std.specs.Prelude.{◌≡◌, ℕ, ◌+◌, ◌≤◌, ◌<◌, Bool, true, false, nat_lt, pos, negsuc}
+use Rattle.std.specs.Prelude.{List, [], ◌∷◌, ◌++◌, length, Option, Some, None, Result, OnOk, OnErr}
 use Rattle.lay_layout.specs.declared.layout.Tok.{Tok}
 use Rattle.lay_layout.specs.declared.layout.Frame.{Frame}
 use Rattle.lay_layout.specs.Machine.{Layout, act, text}
-use Rattle.lay_ring.specs.Held.{Held, number_of}
+use Rattle.lay_ring.specs.Held.{number_of}
 use Rattle.lay_ring.specs.declared.entry.Size.{Size}
 use Rattle.lay_ring.specs.declared.entry.Size.TheVariants.{Unknown, Known, Forced}
 use Rattle.lay_ring.specs.declared.entry.Entry.{Entry}
 use Rattle.lay_printer.specs.declared.close.Note.{Note}
 use Rattle.lay_printer.specs.declared.line.Line.{Line}
-use Rattle.lay_printer.specs.Scan.{at_end, size_of_scan, waiting, cap, MayFollow, Holds}
-use Rattle.lay_printer.specs.Notes.{scans, Fits}
-use Rattle.lay_printer.specs.Closed.{toks_of, sizes_of}
+use Rattle.lay_printer.specs.Scan.{MayFollow, Holds}
 use Rattle.lay_printer.specs.Pages.{Is, Wrote, Cut}
 
 -- the number that the next entry gets
 abbrev pub next_of : ℕ → List Entry → ℕ
 next_of first entries = number_of first (length entries)
 
--- What is kept fits the tokens that wait. ended: no more tokens come.
-pub record Good (ended : Bool) (ring : Held) (notes : List Note) (acc groups wait : ℕ) : Type 0 where
-  pub sizes : sizes_of ring.entries ≡ map size_of_scan (map (at_end ended) (scans (toks_of ring.entries)))
-  pub fits : Fits ring.first acc groups groups (map (at_end ended) (scans (toks_of ring.entries))) notes
-  pub acc_small : acc ≤ cap
-  pub wait_is : wait ≡ waiting ring.entries
-  pub number : ring.first < 2 ^ 64
-  pub held : length ring.entries ≤ 2 ^ 63
-
 -- the notes that are left when an entry of this size is printed
 abbrev pub notes_after : Size → List Note → List Note
 notes_after Unknown [] = []
 notes_after Unknown (m ∷ ms) = ms
-notes_after (Known z) ms = ms
-notes_after Forced ms = ms
+notes_after size ms = ms
 
 -- What is decided of the oldest entry: whether it doesn't fit, or nothing yet.
 abbrev pub Says : Size → ℕ → Line → Option Bool → Type 0
@@ -52,12 +41,16 @@ pub record At (line : Line) (frames : List Frame) (m : Layout) : Type 0 where
   pub is : Is line m.state
 
 -- A token is printed: Ok makes the layout act of it, and Err leaves a front of the text of that.
-pub record Prints {T E : Type 0} (line : Line) (frames : List Frame) (before : Option (List ℕ)) (result : Result T E) (line' : Line) (frames' : List Frame) (now : Option (List ℕ)) (tok : Tok) (big : Bool) : Type 0 where
-  pub ok : OnOk result ((content : List ℕ) (m : Layout) → At line frames m → Wrote before content m.state.text → At line' frames' (act tok big m) × Wrote now content (act tok big m).state.text)
-  pub err : OnErr result ((content : List ℕ) (m : Layout) → At line frames m → Wrote before content m.state.text → Cut now content (act tok big m).state.text)
+pub record Prints {T E : Type 0} (line : Line) (frames : List Frame) (before : Option (List ℕ)) (result : Result T E)
+    (line' : Line) (frames' : List Frame) (now : Option (List ℕ)) (tok : Tok) (big : Bool) : Type 0 where
+  pub ok : OnOk result ((content : List ℕ) (m : Layout) → At line frames m → Wrote before content m.state.text
+      → At line' frames' (act tok big m) × Wrote now content (act tok big m).state.text)
+  pub err : OnErr result ((content : List ℕ) (m : Layout) → At line frames m → Wrote before content m.state.text
+      → Cut now content (act tok big m).state.text)
 
 -- The printer holds the tokens s of a stream, over a sink that had the content.
-pub record Running (ended : Bool) (entries : List Entry) (line : Line) (frames : List Frame) (written : Option (List ℕ)) (content : List ℕ) (s : List Tok) : Type 0 where
+pub record Running (ended : Bool) (entries : List Entry) (line : Line) (frames : List Frame)
+    (written : Option (List ℕ)) (content : List ℕ) (s : List Tok) : Type 0 where
   pub layout : Layout
   pub holds : Holds ended s entries layout
   pub at : At line frames layout
@@ -67,17 +60,19 @@ pub record Running (ended : Bool) (entries : List Entry) (line : Line) (frames :
 abbrev pub Broken : Bool → Option (List ℕ) → List ℕ → List Tok → Type 0
 Broken ended written content s = (r : List Tok) → MayFollow ended r → Cut written content (text (s ++ r))
 
--- Entries are printed.
-pub record Prints_on {T E : Type 0} (ended : Bool) (entries : List Entry) (line : Line) (frames : List Frame) (before : Option (List ℕ)) (result : Result T E) (entries' : List Entry) (line' : Line) (frames' : List Frame) (now : Option (List ℕ)) : Type 0 where
-  pub ok : OnOk result ((content : List ℕ) (s : List Tok) → Running ended entries line frames before content s → Running ended entries' line' frames' now content s)
-  pub err : OnErr result ((content : List ℕ) (s : List Tok) → Running ended entries line frames before content s → Broken ended now content s)
-
--- A token is fed.
-pub record Feeds {T E : Type 0} (entries : List Entry) (line : Line) (frames : List Frame) (before : Option (List ℕ)) (result : Result T E) (entries' : List Entry) (line' : Line) (frames' : List Frame) (now : Option (List ℕ)) (tok : Tok) : Type 0 where
-  pub ok : OnOk result ((content : List ℕ) (s : List Tok) → Running false entries line frames before content s → Running false entries' line' frames' now content (s ++ tok ∷ []))
-  pub err : OnErr result ((content : List ℕ) (s : List Tok) → Running false entries line frames before content s → Broken false now content (s ++ tok ∷ []))
+-- From a printer that holds tokens: Ok makes them f of them, and Err leaves a front of the text of f and what follows.
+pub record Advances {T E : Type 0} (ended : Bool) (entries : List Entry) (line : Line) (frames : List Frame)
+    (before : Option (List ℕ)) (result : Result T E) (entries' : List Entry) (line' : Line) (frames' : List Frame)
+    (now : Option (List ℕ)) (f : List Tok → List Tok) : Type 0 where
+  pub ok : OnOk result ((content : List ℕ) (s : List Tok)
+      → Running ended entries line frames before content s → Running ended entries' line' frames' now content (f s))
+  pub err : OnErr result ((content : List ℕ) (s : List Tok)
+      → Running ended entries line frames before content s → Broken ended now content (f s))
 
 -- The rest is printed.
-pub record Ends {T E : Type 0} (entries : List Entry) (line : Line) (frames : List Frame) (before : Option (List ℕ)) (result : Result T E) (now : Option (List ℕ)) : Type 0 where
-  pub ok : OnOk result ((content : List ℕ) (s : List Tok) → Running false entries line frames before content s → Wrote now content (text s))
-  pub err : OnErr result ((content : List ℕ) (s : List Tok) → Running false entries line frames before content s → Cut now content (text s))
+pub record Ends {T E : Type 0} (entries : List Entry) (line : Line) (frames : List Frame) (before : Option (List ℕ))
+    (result : Result T E) (now : Option (List ℕ)) : Type 0 where
+  pub ok : OnOk result ((content : List ℕ) (s : List Tok)
+      → Running false entries line frames before content s → Wrote now content (text s))
+  pub err : OnErr result ((content : List ℕ) (s : List Tok)
+      → Running false entries line frames before content s → Cut now content (text s))

@@ -6,7 +6,7 @@ use Rattle.lay_ring.specs.declared.entry.Size.{Size}
 use Rattle.lay_ring.specs.declared.entry.Size.TheVariants.{Unknown, Known}
 use Rattle.lay_ring.specs.declared.entry.Entry.{Entry}
 use Rattle.lay_layout.specs.Document.{width_of_break}
-use Rattle.lay_layout.specs.Machine.{outer, reach, play, Layout, begun}
+use Rattle.lay_layout.specs.Machine.{outer, play, Layout, begun}
 
 -- How far a measure has come in the tokens that were fed: it has ended, or it goes on at a depth.
 pub data Scan : Type 0 where
@@ -17,21 +17,13 @@ abbrev pub widen : ℕ → Scan → Scan
 widen w (Stopped n) = Stopped (w + n)
 widen w (Going n d) = Going (w + n) d
 
-abbrev pub scan_break : ℕ → ℕ → Scan → Scan
-scan_break zero w rest = Stopped 0
-scan_break (suc d) w rest = widen w rest
-
 abbrev pub scan : ℕ → List Tok → Scan
 scan d [] = Going 0 d
 scan d (tok.Text t ∷ ts) = widen (length t) (scan d ts)
-scan d (tok.Break b ∷ ts) = scan_break d (width_of_break b) (scan d ts)
+scan zero (tok.Break b ∷ ts) = Stopped 0
+scan (suc d) (tok.Break b ∷ ts) = widen (width_of_break b) (scan (suc d) ts)
 scan d (tok.Begin c o ∷ ts) = scan (suc d) ts
 scan d (tok.End ∷ ts) = scan (outer d) ts
-
--- the measure, where r follows
-abbrev pub with_rest : Scan → List Tok → ℕ
-with_rest (Stopped n) r = n
-with_rest (Going n d) r = n + reach d r
 
 -- the greatest size that is kept
 abbrev pub cap : ℕ
@@ -53,21 +45,15 @@ at_end false c = c
 at_end true (Stopped n) = Stopped n
 at_end true (Going n d) = Stopped n
 
--- the size of a token that ts follow. ended: no more tokens come.
-abbrev pub size_of : Bool → Tok → List Tok → Size
-size_of ended t ts = size_of_scan (at_end ended (scan_of t ts))
-
--- the entries of tokens that wait
+-- the entries of tokens that wait. ended: no more tokens come.
 abbrev pub sized : Bool → List Tok → List Entry
 sized ended [] = []
-sized ended (t ∷ ts) = record { tok = t; size = size_of ended t ts } ∷ sized ended ts
+sized ended (t ∷ ts) = record { tok = t; size = size_of_scan (at_end ended (scan_of t ts)) } ∷ sized ended ts
 
 -- the length of the texts
 abbrev pub text_length : Tok → ℕ
 text_length (tok.Text t) = length t
-text_length (tok.Break b) = 0
-text_length (tok.Begin c o) = 0
-text_length tok.End = 0
+text_length t = 0
 
 abbrev pub waiting : List Entry → ℕ
 waiting [] = 0

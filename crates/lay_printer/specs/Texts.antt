@@ -1,5 +1,5 @@
 -- Texts, and blanks at their ends.
-use Rattle.std.specs.Prelude.{ℕ, eqb, Bool, false, List, [], ◌∷◌}
+use Rattle.std.specs.Prelude.{◌≢◌, ℕ, eqb, Bool, false, List, [], ◌∷◌}
 use Rattle.lay_layout.specs.declared.layout.Tok.{Tok}
 use Rattle.lay_layout.specs.declared.layout.Tok.TheVariants as tok
 
@@ -12,18 +12,10 @@ ends_in_blank (x ∷ y ∷ ys) = ends_in_blank (y ∷ ys)
 abbrev pub last_blank : List Tok → Bool → Bool
 last_blank [] before = before
 last_blank (tok.Text t ∷ ts) before = last_blank ts (ends_in_blank t)
-last_blank (tok.Break b ∷ ts) before = last_blank ts before
-last_blank (tok.Begin c o ∷ ts) before = last_blank ts before
-last_blank (tok.End ∷ ts) before = last_blank ts before
-
-abbrev pub IsFull : List ℕ → Type 0
-IsFull [] = ⊥
-IsFull (x ∷ xs) = Unit {0}
+last_blank (t ∷ ts) before = last_blank ts before
 
 -- no text among the tokens is empty
 abbrev pub AreFull : List Tok → Type 0
 AreFull [] = Unit {0}
-AreFull (tok.Text t ∷ ts) = IsFull t × AreFull ts
-AreFull (tok.Break b ∷ ts) = AreFull ts
-AreFull (tok.Begin c o ∷ ts) = AreFull ts
-AreFull (tok.End ∷ ts) = AreFull ts
+AreFull (tok.Text t ∷ ts) = (t ≢ []) × AreFull ts
+AreFull (t ∷ ts) = AreFull ts

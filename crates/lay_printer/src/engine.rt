@@ -1,9 +1,9 @@
 //! Where scanning and printing meet: the entry at the front of the ring is printed once it is decided.
-ghost use Rattle.std.specs.Prelude.{◌≡◌, ◌+◌, ◌%◌, ◌^◌, ◌<◌, ◌≤◌, [], ◌∷◌, length, nat_lt, OnOk, OnErr, IfOk, IfErr, IsOk, Some, None, false};
+ghost use Rattle.std.specs.Prelude.{◌≡◌, ◌+◌, ◌%◌, ◌^◌, ◌<◌, ◌≤◌, [], ◌∷◌, ◌++◌, length, nat_lt, OnOk, OnErr, IfOk, IfErr, IsOk, Some, None, false};
 ghost use Rattle.lay_layout.specs.Machine.{opened, IsNested};
 ghost use Rattle.lay_io.specs.Faults.{HasCause, SameLoan};
-ghost use Rattle.lay_printer.specs.Depth.{open_in};
-ghost use Rattle.lay_printer.specs.Queued.{Decided, Prints_on, Feeds, Ends, next_of};
+ghost use Rattle.lay_printer.specs.Closed.{toks_of};
+ghost use Rattle.lay_printer.specs.Queued.{Advances, Decided, Ends, next_of};
 
 use crate::line::Line;
 use crate::page::Page;
@@ -28,7 +28,7 @@ pub struct Engine {
     pub queue: Queue,
     pub page: Page,
     ghost room: { length queue.ring.entries ≤ page.frames.spare },
-    ghost level: { queue.groups ≡ open_in queue.ring.entries page.frames.frames },
+    ghost level: { queue.groups ≡ opened (toks_of queue.ring.entries) (length page.frames.frames) },
 }
 
 /// Is a size greater than the space?
@@ -52,7 +52,7 @@ impl Engine {
         requires ended { self.old.queue.ended ≡ false }
         requires few { self.old.queue.waiting ≤ 89 }
         requires nested { IsNested self.old.queue.groups (tok ∷ []) }
-        ensures feeds { Feeds self.old.queue.ring.entries self.old.page.line self.old.page.frames.frames (K.written sink.old) result self.new.queue.ring.entries self.new.page.line self.new.page.frames.frames (K.written sink.new) tok }
+        ensures feeds { Advances false self.old.queue.ring.entries self.old.page.line self.old.page.frames.frames (K.written sink.old) result self.new.queue.ring.entries self.new.page.line self.new.page.frames.frames (K.written sink.new) (λ s. s ++ tok ∷ []) }
         ensures sure { 0 < room_of self.old → IfErr result (λ e. e ≡ WriteFailed) }
         ensures stops { OnOk result (Decided self.new.queue.ring.entries self.new.queue.waiting self.new.page.line None) }
         ensures groups { OnOk result (self.new.queue.groups ≡ opened (tok ∷ []) self.old.queue.groups) }
@@ -133,7 +133,7 @@ impl Engine {
 
     /// Prints entries while they are decided.
     fn drain<K: Sink>(&mut self, sink: &mut K) -> Result<(), Failed>
-        ensures prints { Prints_on self.old.queue.ended self.old.queue.ring.entries self.old.page.line self.old.page.frames.frames (K.written sink.old) result self.new.queue.ring.entries self.new.page.line self.new.page.frames.frames (K.written sink.new) }
+        ensures prints { Advances self.old.queue.ended self.old.queue.ring.entries self.old.page.line self.old.page.frames.frames (K.written sink.old) result self.new.queue.ring.entries self.new.page.line self.new.page.frames.frames (K.written sink.new) (λ s. s) }
         ensures stays { Stays self.old self.new }
         ensures stops { OnOk result (Decided self.new.queue.ring.entries self.new.queue.waiting self.new.page.line None) }
         ensures cause { HasCause (K.faults sink.old) (K.faults sink.new) result }
@@ -171,10 +171,9 @@ impl Engine {
         }
     }
 
-    /// Prints the oldest entry.
     fn print_front<K: Sink>(&mut self, sink: &mut K, big: bool) -> Result<(), Failed>
         requires { Decided self.old.queue.ring.entries self.old.queue.waiting self.old.page.line (Some big) }
-        ensures prints { Prints_on self.old.queue.ended self.old.queue.ring.entries self.old.page.line self.old.page.frames.frames (K.written sink.old) result self.new.queue.ring.entries self.new.page.line self.new.page.frames.frames (K.written sink.new) }
+        ensures prints { Advances self.old.queue.ended self.old.queue.ring.entries self.old.page.line self.old.page.frames.frames (K.written sink.old) result self.new.queue.ring.entries self.new.page.line self.new.page.frames.frames (K.written sink.new) (λ s. s) }
         ensures stays { Stays self.old self.new }
         ensures fewer { length self.new.queue.ring.entries < length self.old.queue.ring.entries }
         ensures cause { HasCause (K.faults sink.old) (K.faults sink.new) result }

@@ -18,7 +18,7 @@ impl Model for Frames {
     ghost use Rattle.std.specs.Prelude.{List, reverse, ◌-◌, vec_len, vec_capacity};
     ghost use Rattle.lay_layout.specs.declared.layout.Frame.{Frame};
     ghost use Rattle.lay_stream.specs.Indents.{AreKept};
-    ghost use Rattle.lay_printer.specs.Depth.{Framed};
+    ghost use Rattle.lay_printer.specs.Printing.{Framed};
 
     ghost Value = { Framed };
 
@@ -28,7 +28,6 @@ impl Model for Frames {
 }
 
 impl Frames {
-    /// No group is open.
     pub fn new(alloc: Global) -> Frames
         ensures { result.frames ≡ [] }
     {

@@ -33,7 +33,6 @@ pub fn shifted(indent: u64, offset: i8) -> u64
 impl Line {
     ghost use Rattle.lay_printer.specs.Pages.{Moves};
 
-    /// Writes the blanks that wait.
     fn write_blanks<K: Sink>(&mut self, sink: &mut K) -> Result<(), Failed>
         ensures bytes { Writes (K.written sink.old) (K.written sink.new) result (replicate self.old.pending 32) }
         ensures pending { OnOk result (self.new.pending ≡ 0) }
@@ -63,7 +62,6 @@ impl Line {
         Ok(())
     }
 
-    /// Writes a mark, if there is one.
     #[inline(always)]
     fn put_mark<K: Sink>(&mut self, sink: &mut K, mark: Mark) -> Result<(), Failed>
         ensures moves { Moves self.old (K.written sink.old) result self.new (K.written sink.new) (marked mark) }
@@ -78,7 +76,6 @@ impl Line {
         }
     }
 
-    /// A line that begins with so many blanks.
     fn start_line<K: Sink>(&mut self, sink: &mut K, blanks: u64) -> Result<(), Failed>
         ensures moves { Moves self.old (K.written sink.old) result self.new (K.written sink.new) (on_line blanks) }
         ensures cause { HasCause (K.faults sink.old) (K.faults sink.new) result }
@@ -91,7 +88,6 @@ impl Line {
         Ok(())
     }
 
-    /// A break that is a newline.
     fn newline<K: Sink>(&mut self, sink: &mut K, brk: Break, indent: u64) -> Result<(), Failed>
         requires { indent ≤ 240 }
         ensures moves { Moves self.old (K.written sink.old) result self.new (K.written sink.new) (on_newline brk indent) }

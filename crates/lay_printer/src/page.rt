@@ -44,7 +44,6 @@ impl Page {
     }
 }
 
-/// A group's frame in a frame.
 fn entered(frame: Frame, consistent: bool, offset: i8, big: bool) -> Frame
     requires { IsKept frame }
     ensures value { result ≡ enter frame consistent offset big }

@@ -5,7 +5,7 @@ ghost use Rattle.lay_layout.specs.Machine.{text};
 ghost use Rattle.lay_io.specs.Faults.{SameLoan};
 ghost use Rattle.lay_stream.specs.Fed.{Did};
 ghost use Rattle.lay_printer.specs.Pages.{Wrote, Cut};
-ghost use Rattle.lay_printer.specs.Presses.{lent_core, lent_sink, lent_as, own_core, own_sink, press_meanings, owner_meanings};
+ghost use Rattle.lay_printer.specs.Presses.{lent_core, lent_sink, lent_as, press_meanings, owner_meanings};
 ghost use Rattle.lay_printer.specs.Printers.{CauseOf, FedBy, Finishes, IsWhole, Repeats, TakesRoom};
 ghost use Rattle.lay_printer.specs.Promises.{FitSpace, IsSame, IsSpace, RunsAs, RunsFresh};
 ghost use Rattle.lay_printer.specs.Scan.{waiting as sum_waiting};
@@ -19,13 +19,14 @@ use lay_layout::Break;
 use lay_stream::Emit;
 use lay_text::{NoMemory, Text};
 use std::alloc::Global;
+use std::marker::Model;
 
 /// A printer that is lent what it keeps and its sink, so that the sink can be one that was handed in by
 /// reference. Its memory is that of the [`Core`].
 #[derive(Drop)]
 pub struct Press<'p, K: Sink> {
-    pub(crate) core: &'p mut Core,
-    pub(crate) sink: &'p mut K,
+    core: &'p mut Core,
+    sink: &'p mut K,
 }
 
 impl<'p, K: Sink> Press<'p, K> {
@@ -143,11 +144,11 @@ impl<'p, K: Sink> Emit for Press<'p, K> {
     }
 }
 
-/// A printer that owns its sink.
+/// A printer that owns its sink. Contracts see its core and its sink.
 #[derive(Drop)]
 pub struct Printer<K: Sink> {
-    pub(crate) core: Core,
-    pub(crate) sink: K,
+    core: Core,
+    sink: K,
 }
 
 /// Why a stream wasn't printed whole, and the sink.
@@ -157,13 +158,21 @@ pub struct PrintFault<K> {
     pub sink: K,
 }
 
+impl<K: Sink> Model for Printer<K> {
+    ghost use Rattle.lay_printer.specs.Printing.{Owning};
+
+    ghost Value = { Owning K };
+
+    ghost view = { λ p. record { core = p.core; sink = p.sink } };
+}
+
 impl<K: Sink> Printer<K> {
     /// A printer that was fed nothing. `Err` hands the sink back for want of memory.
     pub fn new(alloc: Global, sink: K) -> Result<Printer<K>, K>
-        ensures sink { MatchResult result (λ p. own_sink p ≡ sink) (λ k. k ≡ sink) }
-        ensures failed { IfOk result (λ p. (own_core p).failed ≡ None) }
-        ensures groups { IfOk result (λ p. (own_core p).groups ≡ 0) }
-        ensures runs { IfOk result (λ p. RunsFresh (own_core p) (K.written (own_sink p))) }
+        ensures sink { MatchResult result (λ p. p.sink ≡ sink) (λ k. k ≡ sink) }
+        ensures failed { IfOk result (λ p. p.core.failed ≡ None) }
+        ensures groups { IfOk result (λ p. p.core.groups ≡ 0) }
+        ensures runs { IfOk result (λ p. RunsFresh p.core (K.written p.sink)) }
     {
         match Core::new(alloc) {
             Ok(core) => Ok(Printer { core, sink }),
@@ -174,13 +183,13 @@ impl<K: Sink> Printer<K> {
     /// Prints the rest, since no more tokens come, and hands the sink back. Every group must have ended, unless
     /// a call has failed.
     pub fn finish(self) -> Result<K, PrintFault<K>>
-        requires { (own_core self).failed ≡ None → (own_core self).groups ≡ 0 }
-        ensures text { (content : _) (s : _) → FedBy (own_core self).failed (own_core self) (K.written (own_sink self)) content s → MatchResult result (λ k. Wrote (K.written k) content (text s)) (λ f. Cut (K.written f.sink) content (text s)) }
-        ensures whole { IsWhole (own_core self) (K.written (own_sink self)) }
-        ensures cause { MatchResult result (λ k. K.faults (own_sink self) ≤ K.faults k) (λ f. (K.faults (own_sink self) ≤ K.faults f.sink) × CauseOf f.error (K.faults (own_sink self)) (K.faults f.sink) (own_core self).failed) }
-        ensures no_memory { (own_core self).failed ≡ None → IfErr result (λ f. f.error ≡ WriteFailed) }
-        ensures same { (e : PrintError) → (own_core self).failed ≡ Some e → MatchResult result (λ _. ⊥) (λ f. (f.error ≡ e) × (f.sink ≡ own_sink self)) }
-        ensures loan { MatchResult result (λ k. SameLoan (K.loan (own_sink self)) (K.loan k)) (λ f. SameLoan (K.loan (own_sink self)) (K.loan f.sink)) }
+        requires { self.core.failed ≡ None → self.core.groups ≡ 0 }
+        ensures text { (content : _) (s : _) → FedBy self.core.failed self.core (K.written self.sink) content s → MatchResult result (λ k. Wrote (K.written k) content (text s)) (λ f. Cut (K.written f.sink) content (text s)) }
+        ensures whole { IsWhole self.core (K.written self.sink) }
+        ensures cause { MatchResult result (λ k. K.faults self.sink ≤ K.faults k) (λ f. (K.faults self.sink ≤ K.faults f.sink) × CauseOf f.error (K.faults self.sink) (K.faults f.sink) self.core.failed) }
+        ensures no_memory { self.core.failed ≡ None → IfErr result (λ f. f.error ≡ WriteFailed) }
+        ensures same { (e : PrintError) → self.core.failed ≡ Some e → MatchResult result (λ _. ⊥) (λ f. (f.error ≡ e) × (f.sink ≡ self.sink)) }
+        ensures loan { MatchResult result (λ k. SameLoan (K.loan self.sink) (K.loan k)) (λ f. SameLoan (K.loan self.sink) (K.loan f.sink)) }
     {
         let Printer { mut core, mut sink } = self;
         match core.finish(&mut sink) {
@@ -192,49 +201,49 @@ impl<K: Sink> Printer<K> {
     /// Feeds a text, which isn't copied.
     pub fn text_owned(&mut self, text: Text) -> Result<(), PrintError>
         ensures did { Did (owner_meanings K.written K.faults K.loan) self.old (tok.Text text ∷ []) result self.new }
-        ensures room { TakesRoom (own_core self.old) result (own_core self.new) }
-        ensures same { Repeats (own_core self.old) result }
+        ensures room { TakesRoom self.old.core result self.new.core }
+        ensures same { Repeats self.old.core result }
     {
         self.core.text_owned(&mut self.sink, text)
     }
 
     /// How many groups are open: `end` asks for one, and `finish` for none.
     pub fn open_groups(&self) -> u64
-        ensures { result ≡ (own_core self.now).groups }
+        ensures { result ≡ self.now.core.groups }
     {
         self.core.open_groups()
     }
 
     /// How many bytes of text were fed and aren't in the sink: no more than the space.
     pub fn waiting(&self) -> usize
-        ensures value { result ≡ sum_waiting (own_core self.now).entries }
-        ensures lag { (own_core self.now).failed ≡ None → FitSpace (own_core self.now) result }
+        ensures value { result ≡ sum_waiting self.now.core.entries }
+        ensures lag { self.now.core.failed ≡ None → FitSpace self.now.core result }
     {
         self.core.waiting()
     }
 
     /// The space of the line, or -2^62 where it is less.
     pub fn space(&self) -> i64
-        ensures { IsSpace (own_core self.now) result }
+        ensures { IsSpace self.now.core result }
     {
         self.core.space()
     }
 
     /// How many tokens may come before memory is taken.
     pub fn spare(&self) -> usize
-        ensures { result ≡ (own_core self.now).spare }
+        ensures { result ≡ self.now.core.spare }
     {
         self.core.spare()
     }
 
     /// Makes room for so many more tokens. All else stays as it was, and after `NoMemory` all does.
     pub fn reserve(&mut self, n: usize) -> Result<(), NoMemory>
-        ensures ok { OnOk result (n ≤ (own_core self.new).spare) }
-        ensures never_less { (own_core self.old).spare ≤ (own_core self.new).spare }
-        ensures err { OnErr result ((own_core self.new).spare ≡ (own_core self.old).spare) }
-        ensures same { IsSame (own_core self.old) (own_core self.new) }
-        ensures runs { RunsAs (own_core self.old) (own_core self.new) }
-        ensures sink { own_sink self.new ≡ own_sink self.old }
+        ensures ok { OnOk result (n ≤ self.new.core.spare) }
+        ensures never_less { self.old.core.spare ≤ self.new.core.spare }
+        ensures err { OnErr result (self.new.core.spare ≡ self.old.core.spare) }
+        ensures same { IsSame self.old.core self.new.core }
+        ensures runs { RunsAs self.old.core self.new.core }
+        ensures sink { self.new.sink ≡ self.old.sink }
     {
         self.core.reserve(n)
     }
@@ -247,32 +256,32 @@ impl<K: Sink> Emit for Printer<K> {
 
     fn text(&mut self, text: &[u8]) -> Result<(), PrintError>
         ensures did { Did (owner_meanings K.written K.faults K.loan) self.old (tok.Text text.now ∷ []) result self.new }
-        ensures same { Repeats (own_core self.old) result }
+        ensures same { Repeats self.old.core result }
     {
         self.core.text(&mut self.sink, text)
     }
 
     fn brk(&mut self, token: Break) -> Result<(), PrintError>
         ensures did { Did (owner_meanings K.written K.faults K.loan) self.old (tok.Break token ∷ []) result self.new }
-        ensures room { TakesRoom (own_core self.old) result (own_core self.new) }
-        ensures same { Repeats (own_core self.old) result }
+        ensures room { TakesRoom self.old.core result self.new.core }
+        ensures same { Repeats self.old.core result }
     {
         self.core.brk(&mut self.sink, token)
     }
 
     fn begin(&mut self, consistent: bool, offset: i8) -> Result<(), PrintError>
         ensures did { Did (owner_meanings K.written K.faults K.loan) self.old (tok.Begin consistent offset ∷ []) result self.new }
-        ensures room { TakesRoom (own_core self.old) result (own_core self.new) }
-        ensures same { Repeats (own_core self.old) result }
+        ensures room { TakesRoom self.old.core result self.new.core }
+        ensures same { Repeats self.old.core result }
     {
         self.core.begin(&mut self.sink, consistent, offset)
     }
 
     fn end(&mut self) -> Result<(), PrintError>
-        requires { 0 < (own_core self.old).groups }
+        requires { 0 < self.old.core.groups }
         ensures did { Did (owner_meanings K.written K.faults K.loan) self.old (tok.End ∷ []) result self.new }
-        ensures room { TakesRoom (own_core self.old) result (own_core self.new) }
-        ensures same { Repeats (own_core self.old) result }
+        ensures room { TakesRoom self.old.core result self.new.core }
+        ensures same { Repeats self.old.core result }
     {
         self.core.end(&mut self.sink)
     }

@@ -42,7 +42,6 @@ impl Model for Core {
     ghost invariant = { λ c. Sound c.engine c.failed c.spare };
 }
 
-/// A number less another.
 fn difference(a: u64, b: u64) -> i64
     requires small { a ≤ 89 }
     requires bound { b ≤ 0x4000_0000_0000_0059 }

@@ -4,7 +4,7 @@ ghost use Rattle.lay_layout.specs.declared.layout.Tok.TheVariants as tok;
 ghost use Rattle.lay_layout.specs.Document.{bytes_of_mark};
 ghost use Rattle.lay_printer.specs.Closed.{toks_of, sizes_of};
 ghost use Rattle.lay_printer.specs.Scan.{at_end, text_length, size_of_scan, waiting as sum_waiting, cap};
-ghost use Rattle.lay_printer.specs.Notes.{Fits, Fits-prop, scans};
+ghost use Rattle.lay_printer.specs.Notes.{Fits, scans};
 ghost use Rattle.lay_printer.specs.Queued.{notes_after, next_of};
 ghost use Rattle.lay_layout.specs.Machine.{IsNested};
 
@@ -28,14 +28,13 @@ pub struct Queue {
     /// No more tokens come.
     pub ended: bool,
     ghost sizes: { sizes_of ring.entries ≡ map size_of_scan (map (at_end ended) (scans (toks_of ring.entries))) },
-    ghost fits: { Fits ring.first acc groups groups (map (at_end ended) (scans (toks_of ring.entries))) notes.items } by { Fits-prop ring.first acc groups groups (map (at_end ended) (scans (toks_of ring.entries))) notes.items },
+    ghost fits: { Fits ring.first acc groups groups (map (at_end ended) (scans (toks_of ring.entries))) notes.items },
     ghost acc_small: { acc ≤ cap },
     ghost wait_is: { waiting ≡ sum_waiting ring.entries },
     ghost number: { ring.first < 2 ^ 64 },
     ghost held: { length ring.entries ≤ 2 ^ 63 },
 }
 
-/// A mark's length.
 #[inline(always)]
 fn mark_len(mark: Mark) -> u64
     ensures value { result ≡ length (bytes_of_mark mark) }
@@ -47,7 +46,6 @@ fn mark_len(mark: Mark) -> u64
     }
 }
 
-/// A text's length, or 0.
 fn text_len(tok: &Tok) -> u64
     ensures { result ≡ text_length tok.now }
 {

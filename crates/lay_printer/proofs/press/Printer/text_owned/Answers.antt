@@ -3,4 +3,5 @@ use Rattle.lay_printer.proofs.press.Printer.text_owned.Goals as goal
 
 pub returns-clause-did : goal.returns-clause-did
 returns-clause-did g c =
-    did_calls (λ p. p.core) (λ p. g.K.Sink.written p.sink) (λ p. g.K.Sink.faults p.sink) (λ p. g.K.Sink.loan p.sink) c.args.self.now _ _ _ c.text_owned.ensures.calls c.text_owned.ensures.loan
+    rw (← c.self.view_is) (did_calls (λ p. p.core) (λ p. g.K.Sink.written p.sink) (λ p. g.K.Sink.faults p.sink)
+    (λ p. g.K.Sink.loan p.sink) _ _ _ _ c.text_owned.ensures.calls c.text_owned.ensures.loan)

@@ -6,5 +6,9 @@ use Rattle.lay_printer.proofs.press.PrinterEmit.begin.Goals as goal
 
 pub returns-clause-did : goal.returns-clause-did
 returns-clause-did g c =
-    let k : Calls c.args.self.now.core (g.K.Sink.written c.args.self.now.sink) (g.K.Sink.faults c.args.self.now.sink) c.begin.result c.begin.new.self (g.K.Sink.written c.begin.new.sink) (g.K.Sink.faults c.begin.new.sink) (tok.Begin c.args.consistent c.args.offset) = search rules in
-    did_calls (λ p. p.core) (λ p. g.K.Sink.written p.sink) (λ p. g.K.Sink.faults p.sink) (λ p. g.K.Sink.loan p.sink) c.args.self.now _ _ _ k c.begin.ensures.loan
+    let p = c.self.inside in
+    let k : Calls p.core (g.K.Sink.written p.sink) (g.K.Sink.faults p.sink) c.begin.result c.begin.new.self
+    (g.K.Sink.written c.begin.new.sink) (g.K.Sink.faults c.begin.new.sink)
+    (tok.Begin c.args.consistent c.args.offset) = search rules in
+    rw (← c.self.view_is) (did_calls (λ p. p.core) (λ p. g.K.Sink.written p.sink) (λ p. g.K.Sink.faults p.sink)
+    (λ p. g.K.Sink.loan p.sink) _ _ _ _ k c.begin.ensures.loan)

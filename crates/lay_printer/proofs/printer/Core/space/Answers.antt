@@ -2,7 +2,8 @@ use Rattle.std.proofs.Common.{rules, ◌≡◌, ◌++◌, ℕ, ◌+◌, min, pos
 use Rattle.lay_layout.specs.Machine.{layout_after}
 use Rattle.lay_printer.specs.declared.line.Line.{Line}
 use Rattle.lay_printer.specs.Printing.{Printing}
-use Rattle.lay_printer.specs.Steps.{at, least_space}
+use Rattle.lay_printer.specs.Printers.{at}
+use Rattle.lay_printer.specs.Promises.{least_space}
 use Rattle.lay_printer.proofs.Lockstep.{in_step}
 use Rattle.lay_printer.proofs.printer.Core.space.Goals as goal
 

@@ -1,6 +1,5 @@
 use Rattle.std.proofs.Common.{ℕ, subst, arith}
-use Rattle.lay_printer.specs.Queued.{Good}
-use Rattle.lay_printer.proofs.Queueing.{good_ended, left_begin, length_same}
+use Rattle.lay_printer.proofs.Queueing.{Good, good_ended, left_begin, length_same}
 use Rattle.lay_printer.proofs.queue.Queue.end_all.Goals as goal
 
 pub close-self-requires-clause-left : goal.close-self-requires-clause-left

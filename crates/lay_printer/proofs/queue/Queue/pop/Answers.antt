@@ -1,8 +1,7 @@
 use Rattle.std.proofs.Common.{◌≡◌, ◌+◌, ◌-◌, ◌%◌, ◌^◌, ◌∷◌, List, ap, sym, ◌∙◌}
 use Rattle.lay_ring.specs.Held.{number_after_pop}
 use Rattle.lay_ring.specs.declared.entry.Entry.{Entry}
-use Rattle.lay_printer.specs.Queued.{Good}
-use Rattle.lay_printer.proofs.Queueing.{good_pop}
+use Rattle.lay_printer.proofs.Queueing.{Good, good_pop}
 use Rattle.lay_printer.proofs.Running.{front_is}
 use Rattle.lay_printer.proofs.queue.Queue.pop.Goals as goal
 

@@ -2,8 +2,7 @@ use Rattle.std.proofs.Common.{rules, ◌≡◌, ◌+◌, [], ◌∷◌, ◌++◌
 use Rattle.lay_layout.specs.declared.layout.Tok.TheVariants as tok
 use Rattle.lay_ring.specs.declared.entry.Size.TheVariants.{Unknown}
 use Rattle.lay_printer.specs.Closed.{toks_of}
-use Rattle.lay_printer.specs.Queued.{Good}
-use Rattle.lay_printer.proofs.Queueing.{good_begin, toks_more}
+use Rattle.lay_printer.proofs.Queueing.{Good, good_begin, toks_more}
 use Rattle.lay_printer.proofs.queue.Queue.scan_begin.Goals as goal
 
 pub invariant_of-self : goal.invariant_of-self

@@ -3,8 +3,7 @@ use Rattle.lay_layout.specs.declared.layout.Tok.{Tok}
 use Rattle.lay_layout.specs.declared.layout.Tok.TheVariants as tok
 use Rattle.lay_layout.specs.Document.{width_of_break}
 use Rattle.lay_printer.specs.Closed.{toks_of}
-use Rattle.lay_printer.specs.Queued.{Good}
-use Rattle.lay_printer.proofs.Queueing.{good_break, left_begin, toks_more}
+use Rattle.lay_printer.proofs.Queueing.{Good, good_break, left_begin, toks_more}
 use Rattle.lay_printer.proofs.queue.Queue.scan_break.Goals as goal
 
 pub close-delta-requires-clause-left : goal.close-delta-requires-clause-left

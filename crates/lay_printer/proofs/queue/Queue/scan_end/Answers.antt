@@ -1,9 +1,8 @@
 use Rattle.std.proofs.Common.{pos, ◌-◌, refl, sym, ap, ◌∙◌, arith}
 use Rattle.lay_ring.specs.declared.entry.Size.TheVariants.{Known}
 use Rattle.lay_printer.specs.Closed.{toks_of}
-use Rattle.lay_printer.specs.Queued.{Good}
 use Rattle.lay_printer.proofs.WriteBack.{outer_is}
-use Rattle.lay_printer.proofs.Queueing.{good_end, toks_more}
+use Rattle.lay_printer.proofs.Queueing.{Good, good_end, toks_more}
 use Rattle.lay_printer.proofs.queue.Queue.scan_end.Goals as goal
 
 pub invariant_of-self : goal.invariant_of-self

@@ -4,8 +4,7 @@ use Rattle.lay_layout.specs.declared.layout.Tok.TheVariants as tok
 use Rattle.lay_ring.specs.declared.entry.Size.TheVariants.{Known}
 use Rattle.lay_printer.specs.Closed.{toks_of}
 use Rattle.lay_printer.specs.Scan.{cap}
-use Rattle.lay_printer.specs.Queued.{Good}
-use Rattle.lay_printer.proofs.Queueing.{good_text, toks_more}
+use Rattle.lay_printer.proofs.Queueing.{Good, good_text, toks_more}
 use Rattle.lay_printer.proofs.queue.Queue.scan_text.Goals as goal
 
 small_cast : (n : ℕ) → n ≤ 0x4000_0000_0000_0000 → to_z w64 n ≡ pos n
