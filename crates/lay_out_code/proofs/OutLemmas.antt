@@ -1,10 +1,10 @@
 -- The streams of forms, part by part.
 use Rattle.std.proofs.Common.{◌≡◌, ◌≢◌, ℕ, suc, ◌+◌, ◌-◌, ◌≤◌, ◌<◌, Bool, true, false, List, [], ◌∷◌, ◌++◌, map, length}
 use Rattle.std.proofs.Common.{take, drop, get_or, pos, codes, Option, refl, sym, ap, ◌∙◌, append_assoc, arith}
-use Rattle.lay_token.specs.declared.layout.Tok.{Tok}
-use Rattle.lay_token.specs.declared.layout.Tok.TheVariants as tok
-use Rattle.lay_token.specs.declared.token.Delim.{Delim}
-use Rattle.lay_token.specs.declared.token.Delim.TheVariants.{Paren, Bracket, Brace}
+use Rattle.lay_layout.specs.declared.layout.Tok.{Tok}
+use Rattle.lay_layout.specs.declared.layout.Tok.TheVariants as tok
+use Rattle.lay_piece.specs.declared.kind.Delim.{Delim}
+use Rattle.lay_piece.specs.declared.kind.Delim.TheVariants.{Paren, Bracket, Brace}
 use Rattle.lay_form.specs.Form.{Form, Blank, Part, opener, closer, Soft, Hard, Never, Done, Piece, LastComma, punct}
 use Rattle.lay_form.specs.Layout.{ends_behind_point, break_of, comma_break}
 use Rattle.lay_form.specs.Notation.{H, comma_gap, each, piece, comma_list, body, behind_attrs, when}

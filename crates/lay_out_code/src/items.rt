@@ -1,6 +1,6 @@
 //! Items.
 ghost use Rattle.std.specs.Prelude.{◌≡◌, [], ◌∷◌, ◌++◌, map, pos, false};
-ghost use Rattle.lay_token.specs.declared.layout.Tok.TheVariants as tok;
+ghost use Rattle.lay_layout.specs.declared.layout.Tok.TheVariants as tok;
 ghost use Rattle.lay_stream.specs.Fed.{Did};
 ghost use Rattle.lay_form.specs.Form.{Blank, Done};
 ghost use Rattle.lay_form.specs.Notation.{H, body, each};
@@ -16,8 +16,8 @@ use crate::attributes::put_outer_attrs;
 use crate::uses::put_use;
 use lay_out_tokens::notation::{close_body, open_body};
 use lay_out_tokens::{HARD_BREAK, put_bare_attr, put_call, put_group, put_word};
+use lay_piece::Delim;
 use lay_stream::Emit;
-use lay_token::Delim;
 use lay_tree::{Attr, Group, Item, ItemKind, MacroCall, Name, UseTree};
 
 /// Feeds the layout of an item, with its attributes, each on a line of its own.

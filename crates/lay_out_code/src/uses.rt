@@ -1,6 +1,6 @@
 //! Use trees.
 ghost use Rattle.std.specs.Prelude.{[], ◌∷◌, map, codes, Some};
-ghost use Rattle.lay_token.specs.declared.layout.Tok.TheVariants as tok;
+ghost use Rattle.lay_layout.specs.declared.layout.Tok.TheVariants as tok;
 ghost use Rattle.lay_stream.specs.Fed.{Did};
 ghost use Rattle.lay_form.specs.Form.{Done};
 ghost use Rattle.lay_form.specs.Notation.{comma_gap, each};

@@ -4,15 +4,15 @@ use Rattle.std.proofs.Common.{length, take, drop, get_or, drop-cons, add-one, co
 use Rattle.std.proofs.Common.{append-nil, arith}
 use Rattle.std.proofs.Math.Seq.{take-length}
 use Rattle.std.proofs.Math.ListN.{drop_of_length-le}
-use Rattle.lay_token.specs.Document.{Empty}
-use Rattle.lay_token.specs.Forms.{opening, closing}
-use Rattle.lay_token.specs.Machine.{opened}
-use Rattle.lay_token.specs.declared.layout.Break.{Break}
-use Rattle.lay_token.specs.declared.layout.Tok.{Tok}
-use Rattle.lay_token.specs.declared.layout.Tok.TheVariants as tok
-use Rattle.lay_token.specs.declared.token.Delim.{Delim}
-use Rattle.lay_token.specs.declared.token.Delim.TheVariants.{Paren, Bracket, Brace}
-use Rattle.lay_token.proofs.Lines.{opened_document}
+use Rattle.lay_layout.specs.Document.{Empty}
+use Rattle.lay_piece.specs.Forms.{opening, closing}
+use Rattle.lay_layout.specs.Machine.{opened}
+use Rattle.lay_layout.specs.declared.layout.Break.{Break}
+use Rattle.lay_layout.specs.declared.layout.Tok.{Tok}
+use Rattle.lay_layout.specs.declared.layout.Tok.TheVariants as tok
+use Rattle.lay_piece.specs.declared.kind.Delim.{Delim}
+use Rattle.lay_piece.specs.declared.kind.Delim.TheVariants.{Paren, Bracket, Brace}
+use Rattle.lay_layout.proofs.Lines.{opened_document}
 use Rattle.lay_stream.specs.Fed.{Meanings, Did}
 use Rattle.lay_stream.proofs.Calls.{level_of}
 use Rattle.lay_form.specs.Form.{Form, Blank, Part, closer, Done, Piece}

@@ -1,15 +1,15 @@
 -- A token list is fed the same as a flat list and in groups.
 use Rattle.std.proofs.Common.{◌≡◌, length, ℕ, suc, ◌+◌, ◌-◌, ◌≤◌, ◌<◌, Bool, true, false, subst, cond, IsTrue, List, []}
 use Rattle.std.proofs.Common.{◌∷◌, ◌++◌, Option, Some, None, pos, refl, sym, ap, ◌∙◌, append_assoc, append-nil, arith}
-use Rattle.lay_token.specs.Document.{Document, Empty, AddText, AddBreak, AddGroup, stream}
-use Rattle.lay_token.specs.Machine as machine
-use Rattle.lay_token.specs.Machine.{IsNested}
-use Rattle.lay_token.specs.declared.layout.Tok.{Tok}
-use Rattle.lay_token.specs.declared.layout.Tok.TheVariants as tok
-use Rattle.lay_token.specs.declared.token.Delim.{Delim}
-use Rattle.lay_token.specs.declared.token.Delim.TheVariants.{Paren, Bracket, Brace}
-use Rattle.lay_token.specs.declared.token.Kind.{Kind}
-use Rattle.lay_token.specs.declared.token.Kind.TheVariants.{Opener, Closer, RawIdent, Doc}
+use Rattle.lay_layout.specs.Document.{Document, Empty, AddText, AddBreak, AddGroup, stream}
+use Rattle.lay_layout.specs.Machine as machine
+use Rattle.lay_layout.specs.Machine.{IsNested}
+use Rattle.lay_layout.specs.declared.layout.Tok.{Tok}
+use Rattle.lay_layout.specs.declared.layout.Tok.TheVariants as tok
+use Rattle.lay_piece.specs.declared.kind.Delim.{Delim}
+use Rattle.lay_piece.specs.declared.kind.Delim.TheVariants.{Paren, Bracket, Brace}
+use Rattle.lay_piece.specs.declared.kind.Kind.{Kind}
+use Rattle.lay_piece.specs.declared.kind.Kind.TheVariants.{Opener, Closer, RawIdent, Doc}
 use Rattle.lay_form.specs.Form.{Form, Done, Part}
 use Rattle.lay_form.specs.Layout.{document, token_ends_in_point}
 use Rattle.lay_form.specs.Stream.{fed, feed_doc, feed_text, stream_of}

@@ -1,12 +1,12 @@
 -- What a token list is fed as, token by token over the flat list.
 use Rattle.std.specs.Prelude.{Bool, true, false, cond, List, [], ◌∷◌, ◌++◌, pos}
-use Rattle.lay_token.specs.Forms.{opening, closing}
-use Rattle.lay_token.specs.declared.layout.Tok.{Tok}
-use Rattle.lay_token.specs.declared.layout.Tok.TheVariants.{Text, Break, Begin, End}
-use Rattle.lay_token.specs.declared.token.Delim.{Delim}
-use Rattle.lay_token.specs.declared.token.Delim.TheVariants.{Brace}
-use Rattle.lay_token.specs.declared.token.Kind.{Kind}
-use Rattle.lay_token.specs.declared.token.Kind.TheVariants.{Opener, Closer}
+use Rattle.lay_piece.specs.Forms.{opening, closing}
+use Rattle.lay_layout.specs.declared.layout.Tok.{Tok}
+use Rattle.lay_layout.specs.declared.layout.Tok.TheVariants.{Text, Break, Begin, End}
+use Rattle.lay_piece.specs.declared.kind.Delim.{Delim}
+use Rattle.lay_piece.specs.declared.kind.Delim.TheVariants.{Brace}
+use Rattle.lay_piece.specs.declared.kind.Kind.{Kind}
+use Rattle.lay_piece.specs.declared.kind.Kind.TheVariants.{Opener, Closer}
 use Rattle.lay_form.specs.Form.{Space, Soft, Hard, Done}
 use Rattle.lay_form.specs.Layout.{break_of}
 use Rattle.lay_form.specs.Stream.{stream_of}

@@ -1,6 +1,6 @@
 //! Macro calls.
 ghost use Rattle.std.specs.Prelude.{[], ◌∷◌};
-ghost use Rattle.lay_token.specs.declared.layout.Tok.TheVariants as tok;
+ghost use Rattle.lay_layout.specs.declared.layout.Tok.TheVariants as tok;
 ghost use Rattle.lay_stream.specs.Fed.{Did};
 ghost use Rattle.lay_form.specs.Layout.{text_of_bits};
 ghost use Rattle.lay_form.specs.Stream.{stream_of};

@@ -4,7 +4,7 @@ ghost use Rattle.std.specs.Char.{is_ascii_digit};
 ghost use Rattle.std.specs.List.{list_all};
 ghost use Rattle.std.specs.Str.{bytes_eq};
 ghost use Rattle.lay_token.specs.Lexes.{is_punct};
-ghost use Rattle.lay_token.specs.Number.{is_index};
+ghost use Rattle.lay_piece.specs.Number.{is_index};
 ghost use Rattle.lay_tree.specs.tokens.Listing as listing;
 ghost use Rattle.lay_tree.specs.tokens.Pairs as pairs;
 ghost use Rattle.lay_out_tokens.specs.Neighbours.{neighbour_of};

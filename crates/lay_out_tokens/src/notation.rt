@@ -1,6 +1,6 @@
 //! Breaks, and what opens and closes lists and bodies.
 ghost use Rattle.std.specs.Prelude.{◌<◌, [], ◌∷◌, pos, true, false, codes};
-ghost use Rattle.lay_token.specs.declared.layout.Tok.TheVariants as tok;
+ghost use Rattle.lay_layout.specs.declared.layout.Tok.TheVariants as tok;
 ghost use Rattle.lay_stream.specs.Fed.{Did};
 ghost use Rattle.lay_form.specs.Form.{Soft, Hard, Never};
 ghost use Rattle.lay_form.specs.Layout.{break_of, comma_break};

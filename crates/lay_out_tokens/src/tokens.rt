@@ -1,7 +1,7 @@
 //! Token lists and groups.
 ghost use Rattle.std.specs.Prelude.{◌≡◌, ◌≤◌, ◌+◌, [], ◌∷◌, ◌++◌, IsTrue, IfOk};
-ghost use Rattle.lay_token.specs.Forms.{closing, opening};
-ghost use Rattle.lay_token.specs.Machine.{IsNested};
+ghost use Rattle.lay_piece.specs.Forms.{closing, opening};
+ghost use Rattle.lay_layout.specs.Machine.{IsNested};
 ghost use Rattle.lay_stream.specs.Fed.{Did};
 ghost use Rattle.lay_form.specs.Form.{Done};
 ghost use Rattle.lay_form.specs.Layout.{break_of};

@@ -1,7 +1,7 @@
 //! Words, documentation, and other single tokens.
 ghost use Rattle.std.specs.Prelude.{◌≡◌, [], ◌∷◌, cond, codes, true, false};
-ghost use Rattle.lay_token.specs.Docs.{doc_form};
-ghost use Rattle.lay_token.specs.declared.layout.Tok.TheVariants as tok;
+ghost use Rattle.lay_piece.specs.Docs.{doc_form};
+ghost use Rattle.lay_layout.specs.declared.layout.Tok.TheVariants as tok;
 ghost use Rattle.lay_stream.specs.Fed.{Did};
 ghost use Rattle.lay_form.specs.Form.{Done, Leaf};
 ghost use Rattle.lay_form.specs.Layout.{is_block};

@@ -1,5 +1,5 @@
 use Rattle.std.proofs.Common.{◌≡◌, ◌+◌, ◌≤◌, Bool, Result, length}
-use Rattle.lay_token.specs.Machine.{IsNested}
+use Rattle.lay_layout.specs.Machine.{IsNested}
 use Rattle.lay_stream.specs.Fed.{Did}
 use Rattle.lay_tree.specs.tokens.Pairs.{at_start}
 use Rattle.lay_out_tokens.specs.Fed.{fed_tokens, seen_over}

@@ -1,5 +1,5 @@
 use Rattle.std.proofs.Common.{◌≡◌, Bool, true, false, ◌++◌, sym, ap, ◌∙◌}
-use Rattle.lay_token.specs.declared.token.Delim.{Delim}
+use Rattle.lay_piece.specs.declared.kind.Delim.{Delim}
 use Rattle.lay_stream.proofs.Calls.{last, stream_on, stream_leave}
 use Rattle.lay_tree.specs.tokens.Pairs.{Separation}
 use Rattle.lay_out_tokens.specs.Fed.{empty_group, fed_gap, fed_opener, opened}
