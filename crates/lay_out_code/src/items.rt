@@ -7,15 +7,18 @@ ghost use Rattle.lay_form.specs.Notation.{H, body, each};
 ghost use Rattle.lay_form.specs.Stream.{stream_of};
 ghost use Rattle.lay_tree.specs.Words.{leaf_of};
 ghost use Rattle.lay_tree.specs.nodes.Attr.{attr_form};
+ghost use Rattle.lay_tree.specs.nodes.Call.{before_rules, end_form};
 ghost use Rattle.lay_tree.specs.nodes.Facts.{forms};
 ghost use Rattle.lay_tree.specs.nodes.Item.{about_item, about_kind};
-ghost use Rattle.lay_out_code.specs.Parts.{import_part, module_part, no_forms, struct_part};
+ghost use Rattle.lay_out_code.specs.Parts.{call_part, import_part, module_part, no_forms, rules_part, struct_part};
 
-use crate::attributes::{put_attr, put_outer_attrs, put_word};
-use crate::notation::{HARD_BREAK, close_body, open_body};
+use crate::attributes::put_outer_attrs;
 use crate::uses::put_use;
+use lay_out_tokens::notation::{close_body, open_body};
+use lay_out_tokens::{HARD_BREAK, put_bare_attr, put_call, put_group, put_word};
+use lay_piece::Delim;
 use lay_stream::Emit;
-use lay_tree::{Attr, Item, ItemKind, Name, UseTree};
+use lay_tree::{Attr, Group, Item, ItemKind, MacroCall, Name, UseTree};
 
 /// Feeds the layout of an item, with its attributes, each on a line of its own.
 #[cycle(put_item)]
@@ -40,6 +43,8 @@ fn put_kind<E: Emit>(out: &mut E, kind: &ItemKind) -> Result<(), E::Fault>
             items.as_slice(),
         ),
         ItemKind::Import { tree } => put_import(out, tree.get()),
+        ItemKind::MacroRules { name, rules } => put_macro_rules(out, name, rules),
+        ItemKind::Call { call } => put_call_item(out, call),
     }
 }
 
@@ -60,7 +65,8 @@ fn put_module<E: Emit>(
 /// Inner attributes and items in braces, each on a line of its own.
 #[cycle(put_item)]
 fn put_body<E: Emit>(out: &mut E, attrs: &[Attr], items: &[Item]) -> Result<(), E::Fault>
-    ensures { Did E.meanings out.old (stream_of (body (Blank ∷ []) [] (map attr_form attrs.now ++ forms (map about_item items.now)))) result out.new }
+    ensures { let parts = map attr_form attrs.now ++ forms (map about_item items.now) in
+        Did E.meanings out.old (stream_of (body (Blank ∷ []) [] parts)) result out.new }
 {
     if is_bare(attrs, items) {
         return out.text(b" {}");
@@ -118,14 +124,55 @@ fn put_inner_attrs<E: Emit>(out: &mut E, attrs: &[Attr]) -> Result<(), E::Fault>
 {
     for attr in attrs {
         out.brk(HARD_BREAK)?;
-        put_attr(out, attr)?;
+        put_bare_attr(out, attr)?;
     }
     Ok(())
 }
 
+/// A macro by its rules.
+fn put_macro_rules<E: Emit>(out: &mut E, name: &Name, rules: &Group) -> Result<(), E::Fault>
+    ensures { Did E.meanings out.old (stream_of (rules_part name.now rules.now)) result out.new }
+{
+    out.text(b"macro_rules! ")?;
+    put_word(out, name.raw, &name.text)?;
+    put_before_rules(out, rules.delim)?;
+    put_group(out, rules)?;
+    put_item_end(out, rules.delim)
+}
+
+/// The blank before rules in braces.
+fn put_before_rules<E: Emit>(out: &mut E, delim: Delim) -> Result<(), E::Fault>
+    ensures { Did E.meanings out.old (stream_of (before_rules delim Done)) result out.new }
+{
+    match delim {
+        Delim::Brace => out.text(b" "),
+        _ => Ok(()),
+    }
+}
+
+/// A macro call as an item.
+fn put_call_item<E: Emit>(out: &mut E, call: &MacroCall) -> Result<(), E::Fault>
+    ensures { Did E.meanings out.old (stream_of (call_part call.now)) result out.new }
+{
+    put_call(out, call)?;
+    put_item_end(out, call.tokens.delim)
+}
+
+/// What ends an item behind a group: nothing behind braces, and else a `;`.
+fn put_item_end<E: Emit>(out: &mut E, delim: Delim) -> Result<(), E::Fault>
+    ensures { Did E.meanings out.old (stream_of (end_form delim)) result out.new }
+{
+    match delim {
+        Delim::Brace => Ok(()),
+        _ => out.text(b";"),
+    }
+}
+
 /// The head of an item that is a keyword, with a blank behind it, and a name.
 fn put_head<E: Emit>(out: &mut E, keyword: &[u8], name: &Name) -> Result<(), E::Fault>
-    ensures { Did E.meanings out.old (tok.Begin false (pos 0) ∷ tok.Text keyword.now ∷ (stream_of (leaf_of name.now.raw name.now.text Done) ++ tok.End ∷ [])) result out.new }
+    ensures { let word = stream_of (leaf_of name.now.raw name.now.text Done) in
+        let head = tok.Begin false (pos 0) ∷ tok.Text keyword.now ∷ (word ++ tok.End ∷ []) in
+        Did E.meanings out.old head result out.new }
 {
     out.begin(false, 0)?;
     out.text(keyword)?;

@@ -6,9 +6,7 @@
 
 mod attributes;
 mod items;
-mod notation;
 mod uses;
 
-pub use attributes::put_attr;
 pub use items::put_item;
-pub use notation::HARD_BREAK;
+pub use lay_out_tokens::{HARD_BREAK, put_bare_attr};

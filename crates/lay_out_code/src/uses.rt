@@ -9,8 +9,8 @@ ghost use Rattle.lay_tree.specs.Words.{leaf_of};
 ghost use Rattle.lay_tree.specs.nodes.Facts.{forms};
 ghost use Rattle.lay_tree.specs.nodes.Use.{about_use, about_use_end, rename_form, words_form};
 
-use crate::attributes::{put_global, put_word};
-use crate::notation::{SPACE_BREAK, close_list, open_list};
+use lay_out_tokens::notation::{SPACE_BREAK, close_list, open_list};
+use lay_out_tokens::{put_global, put_word};
 use lay_stream::Emit;
 use lay_tree::{Name, Rename, UseEnd, UseTree, Word};
 
@@ -70,7 +70,8 @@ fn put_words<E: Emit>(out: &mut E, words: &[Word]) -> Result<(), E::Fault>
 
 /// A word, and the name that it is given.
 fn put_renamed<E: Emit>(out: &mut E, word: &Word, rename: &Option<Rename>) -> Result<(), E::Fault>
-    ensures { Did E.meanings out.old (stream_of (leaf_of word.now.raw word.now.text (rename_form rename.now))) result out.new }
+    ensures { Did E.meanings out.old
+        (stream_of (leaf_of word.now.raw word.now.text (rename_form rename.now))) result out.new }
 {
     put_word(out, word.raw, &word.text)?;
     put_rename(out, rename)
@@ -106,7 +107,8 @@ fn put_as_nothing<E: Emit>(out: &mut E) -> Result<(), E::Fault>
 
 /// A name, behind its `as`.
 fn put_as<E: Emit>(out: &mut E, name: &Name) -> Result<(), E::Fault>
-    ensures { Did E.meanings out.old (tok.Text (codes " as ") ∷ stream_of (leaf_of name.now.raw name.now.text Done)) result out.new }
+    ensures { Did E.meanings out.old
+        (tok.Text (codes " as ") ∷ stream_of (leaf_of name.now.raw name.now.text Done)) result out.new }
 {
     out.text(b" as ")?;
     put_word(out, name.raw, &name.text)

@@ -1,0 +1,3 @@
+pub mod StreamParts
+mod TokenFeeds
+mod Rows

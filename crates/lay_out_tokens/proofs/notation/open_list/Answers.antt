@@ -1,0 +1,12 @@
+use Rattle.lay_stream.proofs.Calls.{call_on, leave_on}
+use Rattle.lay_out_tokens.proofs.notation.open_list.Goals as goal
+
+pub returns-in_err-begin : goal.returns-in_err-begin
+returns-in_err-begin g c = leave_on c.in_err-begin.ensures c.from_residual.ensures.1
+
+pub returns-in_err-text : goal.returns-in_err-text
+returns-in_err-text g c =
+    call_on c.in_ok-begin.ensures (leave_on c.in_err-text.ensures c.from_residual-in_err-text.ensures.1)
+
+pub returns : goal.returns
+returns g c = call_on c.in_ok-begin.ensures (call_on c.in_ok-text.ensures c.brk.ensures)

@@ -1,0 +1,18 @@
+use Rattle.std.proofs.Common.{◌++◌, ap}
+use Rattle.lay_stream.proofs.Calls.{last, stream_on, stream_leave}
+use Rattle.lay_form.specs.Form.{Done}
+use Rattle.lay_form.specs.Stream.{stream_of}
+use Rattle.lay_tree.specs.tokens.Listing.{listed_form}
+use Rattle.lay_tree.specs.tokens.Pairs.{Separation}
+use Rattle.lay_out_tokens.specs.Fed.{fed_gap}
+use Rattle.lay_out_tokens.proofs.tokens.put_single.Goals as goal
+
+pub returns-in_err-put_gap : goal.returns-in_err-put_gap
+returns-in_err-put_gap g c =
+    last (stream_leave _ c.in_err-put_gap.ensures c.from_residual.ensures.1)
+    (ap (λ (z : Separation). fed_gap z ++ stream_of (listed_form c.args.token.now Done)) c.between.ensures)
+
+pub returns : goal.returns
+returns g c =
+    last (stream_on c.in_ok-put_gap.ensures c.put_listed.ensures)
+    (ap (λ (z : Separation). fed_gap z ++ stream_of (listed_form c.args.token.now Done)) c.between.ensures)

@@ -1,0 +1,3 @@
+pub mod Parts
+pub mod Neighbours
+pub mod Fed

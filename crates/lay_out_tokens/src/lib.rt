@@ -1,0 +1,22 @@
+//! How token lists, and the attributes and macro calls that hold them, are laid out.
+//!
+//! Each call appends to an [`Emit`](lay_stream::Emit) exactly the stream of the form that `lay_tree` gives to its
+//! part, or stops where the `Emit` does. A token list is walked as the flat list that it is, however deep its groups
+//! nest: what stands before a group decides nothing behind it, so nothing is kept of the groups that are open.
+#![tactic(auto)]
+
+mod attributes;
+mod calls;
+mod neighbours;
+pub mod notation;
+mod paths;
+mod separation;
+mod tokens;
+mod words;
+
+pub use attributes::{put_attr, put_bare_attr};
+pub use calls::put_call;
+pub use notation::HARD_BREAK;
+pub use paths::put_global;
+pub use tokens::{put_group, put_tokens};
+pub use words::put_word;

@@ -1,0 +1,389 @@
+//! What stands between two neighbours of a token list.
+ghost use Rattle.std.specs.Prelude.{◌≡◌, ◌&&◌, ◌||◌, ◌<◌, ◌≤◌, ◌+◌, not, drop, codes, true};
+ghost use Rattle.lay_tree.specs.tokens.Pairs as pairs;
+ghost use Rattle.lay_tree.specs.tokens.Pairs.{ends_turbofish, is_any_word, is_brace, is_bracket, is_free_word};
+ghost use Rattle.lay_tree.specs.tokens.Pairs.{is_joint_mark, is_joint_neighbour, is_keyword, is_mark, is_nothing};
+ghost use Rattle.lay_tree.specs.tokens.Pairs.{is_number, is_paren, is_positive, is_punct_neighbour, opens_turbofish};
+ghost use Rattle.lay_out_tokens.specs.Fed.{seen_behind};
+ghost use Rattle.lay_out_tokens.specs.Neighbours.{neighbour_of, seen_of, separation_of};
+
+use crate::neighbours::{Neighbour, kind_of};
+use lay_token::{Delim, Kind};
+use lay_tree::Listed;
+
+/// What stands before a place of a token list.
+#[derive(Clone, Copy)]
+pub struct Seen<'a> {
+    /// The last two neighbours.
+    pub before: Neighbour<'a>,
+    pub last: Neighbour<'a>,
+    /// Whether the last one stands where a number may be an index.
+    pub place: bool,
+    /// Whether it is a `<` of a turbofish.
+    pub opens: bool,
+    /// Whether it is the `>` that closes a turbofish.
+    pub closes: bool,
+    /// How many `<` of a turbofish are open.
+    pub count: usize,
+}
+
+/// What stands between two neighbours; a soft break is a blank or a newline.
+#[derive(Clone, Copy)]
+pub enum Separation {
+    NoBreak,
+    SoftBreak,
+    HardBreak,
+}
+
+impl<'a> Seen<'a> {
+    /// At the start of a list or of a group.
+    pub fn at_start(count: usize) -> Seen<'a>
+        ensures { seen_of result ≡ pairs.at_start count }
+    {
+        Seen {
+            before: Neighbour::Nothing,
+            last: Neighbour::Nothing,
+            place: false,
+            opens: false,
+            closes: false,
+            count,
+        }
+    }
+
+    /// Behind a group.
+    fn behind_group(delim: Delim, count: usize) -> Seen<'a>
+        ensures { seen_of result ≡ pairs.behind_group delim count }
+    {
+        Seen {
+            before: Neighbour::Nothing,
+            last: Neighbour::Enclosed(delim),
+            place: false,
+            opens: false,
+            closes: false,
+            count,
+        }
+    }
+
+    /// What is seen behind one more token.
+    #[tactic(auto, unfolding(crate::specs::Fed::seen_behind))]
+    pub fn behind(&self, token: &'a Listed) -> Seen<'a>
+        requires { self.now.count < usize.MAX }
+        ensures seen { seen_of result ≡ seen_behind (seen_of self.now) token.now }
+        ensures count { result.count ≤ self.now.count + 1 }
+    {
+        match kind_of(token) {
+            Kind::Opener(_) => Seen::at_start(self.count),
+            Kind::Closer(delim) => Seen::behind_group(delim, self.count),
+            _ => self.behind_single(token),
+        }
+    }
+
+    /// Behind a token that is no delimiter.
+    fn behind_single(&self, token: &'a Listed) -> Seen<'a>
+        requires { self.now.count < usize.MAX }
+        ensures seen { seen_of result ≡ pairs.seen_token (seen_of self.now) token.now }
+        ensures count { result.count ≤ self.now.count + 1 }
+    {
+        let next = Neighbour::Single(token);
+        Seen {
+            before: self.last,
+            last: next,
+            place: self.is_index_place(),
+            opens: self.opens_turbofish(&next),
+            closes: self.closes_turbofish(&next),
+            count: self.count_behind(&next),
+        }
+    }
+
+    /// Whether a number here may be an index: behind a point, but not behind `..`.
+    fn is_index_place(&self) -> bool
+        ensures { result ≡ pairs.is_index_place (seen_of self.now).before (seen_of self.now).last }
+    {
+        self.last.is_mark(b'.') && !self.before.is_joint_mark(b'.')
+    }
+
+    /// The turbofish's count behind this one.
+    fn count_behind(&self, next: &Neighbour<'_>) -> usize
+        requires { self.now.count < usize.MAX }
+        ensures { result ≡ pairs.count_behind (seen_of self.now) (neighbour_of next.now) }
+    {
+        if next.is_mark(b'<') {
+            return self.raised();
+        }
+        if next.is_mark(b'>') {
+            return self.lowered();
+        }
+        self.count
+    }
+
+    /// The turbofish's count behind a `<`.
+    fn raised(&self) -> usize
+        requires { self.now.count < usize.MAX }
+        ensures { result ≡ pairs.raised (seen_of self.now) }
+    {
+        if self.may_open_turbofish() {
+            return self.count + 1;
+        }
+        self.count
+    }
+
+    /// Whether a `<` here is one of a turbofish.
+    fn may_open_turbofish(&self) -> bool
+        ensures { let l = neighbour_of self.now.last in
+            result ≡ (is_positive self.now.count || is_joint_mark (codes ":") l) }
+    {
+        self.count > 0 || self.last.is_joint_mark(b':')
+    }
+
+    /// The turbofish's count behind a `>`. That of an arrow closes none.
+    fn lowered(&self) -> usize
+        ensures { result ≡ pairs.lowered (seen_of self.now) }
+    {
+        if self.is_arrow() {
+            return self.count;
+        }
+        self.count.saturating_sub(1)
+    }
+
+    /// Whether a `>` here ends an arrow.
+    fn is_arrow(&self) -> bool
+        ensures { let l = neighbour_of self.now.last in
+            result ≡ (is_joint_mark (codes "-") l || is_joint_mark (codes "=") l) }
+    {
+        self.last.is_joint_mark(b'-') || self.last.is_joint_mark(b'=')
+    }
+
+    /// Whether this one is a `<` of a turbofish.
+    fn opens_turbofish(&self, next: &Neighbour<'_>) -> bool
+        ensures { result ≡ pairs.opens_turbofish (seen_of self.now) (neighbour_of next.now) }
+    {
+        next.is_mark(b'<') && self.may_open_turbofish()
+    }
+
+    /// Whether this one is a `>` within a turbofish.
+    fn ends_turbofish(&self, next: &Neighbour<'_>) -> bool
+        ensures { result ≡ pairs.ends_turbofish (seen_of self.now) (neighbour_of next.now) }
+    {
+        next.is_mark(b'>') && self.count > 0
+    }
+
+    /// Whether this one is the `>` that closes a turbofish.
+    fn closes_turbofish(&self, next: &Neighbour<'_>) -> bool
+        ensures { result ≡ pairs.closes_turbofish (seen_of self.now) (neighbour_of next.now) }
+    {
+        self.ends_turbofish(next) && self.lowered() == 0
+    }
+}
+
+/// What stands between what was seen and this one: the first row of the table that fits.
+pub fn between(seen: &Seen<'_>, next: &Neighbour<'_>) -> Separation
+    ensures { separation_of result ≡ pairs.between (seen_of seen.now) (neighbour_of next.now) }
+{
+    if seen.last.is_nothing() {
+        return Separation::NoBreak;
+    }
+    if seen.last.is_line_doc() {
+        return Separation::HardBreak;
+    }
+    if is_beside_doc(seen, next) {
+        return Separation::SoftBreak;
+    }
+    if seen.last.is_joint() {
+        return Separation::NoBreak;
+    }
+    between_tokens(seen, next)
+}
+
+/// The rows of tokens, where neither is documentation and the first one isn't joint.
+fn between_tokens(seen: &Seen<'_>, next: &Neighbour<'_>) -> Separation
+    ensures { separation_of result ≡ pairs.first_row (drop 4 (pairs.rows (seen_of seen.now) (neighbour_of next.now))) }
+{
+    if next.is_punct() {
+        return before_mark(seen, next);
+    }
+    if seen.last.is_punct() {
+        return behind_mark(seen, next);
+    }
+    around_group(seen, next)
+}
+
+/// The rows of a mark that follows.
+fn before_mark(seen: &Seen<'_>, next: &Neighbour<'_>) -> Separation
+    requires { pairs.is_punct_neighbour (neighbour_of next.now) ≡ true }
+    ensures { separation_of result ≡ pairs.first_row (drop 4 (pairs.rows (seen_of seen.now) (neighbour_of next.now))) }
+{
+    if is_end_mark(next) {
+        return Separation::NoBreak;
+    }
+    if seen.last.is_punct() {
+        return Separation::SoftBreak;
+    }
+    if is_point_behind_number(seen, next) {
+        return Separation::SoftBreak;
+    }
+    if is_mark_without_gap(next) {
+        return Separation::NoBreak;
+    }
+    if is_bang_of_call(seen, next) {
+        return Separation::NoBreak;
+    }
+    around_group(seen, next)
+}
+
+/// The rows of a mark that stands before.
+fn behind_mark(seen: &Seen<'_>, next: &Neighbour<'_>) -> Separation
+    ensures { separation_of result ≡ pairs.first_row (drop 9 (pairs.rows (seen_of seen.now) (neighbour_of next.now))) }
+{
+    if is_behind_point_or_path(seen, next) {
+        return Separation::NoBreak;
+    }
+    if is_behind_bang_or_dollar(seen, next) {
+        return Separation::NoBreak;
+    }
+    if is_attribute(seen, next) {
+        return Separation::NoBreak;
+    }
+    if is_prefix(seen) {
+        return Separation::NoBreak;
+    }
+    around_group(seen, next)
+}
+
+/// The rows of a turbofish, and of a group that follows.
+fn around_group(seen: &Seen<'_>, next: &Neighbour<'_>) -> Separation
+    ensures { separation_of result ≡ pairs.first_row (drop 13 (pairs.rows (seen_of seen.now) (neighbour_of next.now))) }
+{
+    if is_within_turbofish(seen, next) {
+        return Separation::NoBreak;
+    }
+    if is_call_or_index(seen, next) {
+        return Separation::NoBreak;
+    }
+    Separation::SoftBreak
+}
+
+fn is_beside_doc(seen: &Seen<'_>, next: &Neighbour<'_>) -> bool
+    ensures { result ≡ (pairs.is_doc (seen_of seen.now).last || pairs.is_doc (neighbour_of next.now)) }
+{
+    seen.last.is_doc() || next.is_doc()
+}
+
+/// `,` or `;`
+fn is_end_mark(next: &Neighbour<'_>) -> bool
+    ensures { let r = neighbour_of next.now in
+        result ≡ (is_mark (codes ",") r || is_mark (codes ";") r) }
+{
+    next.is_mark(b',') || next.is_mark(b';')
+}
+
+fn is_point_behind_number(seen: &Seen<'_>, next: &Neighbour<'_>) -> bool
+    ensures { let l = neighbour_of seen.now.last in let r = neighbour_of next.now in
+        result ≡ (is_mark (codes ".") r && is_number seen.now.place l) }
+{
+    next.is_mark(b'.') && seen.last.is_number(seen.place)
+}
+
+/// `.`, `?` or `:`
+fn is_mark_without_gap(next: &Neighbour<'_>) -> bool
+    ensures { let r = neighbour_of next.now in
+        result ≡ (is_mark (codes ".") r || is_mark (codes "?") r || is_mark (codes ":") r) }
+{
+    next.is_mark(b'.') || next.is_mark(b'?') || next.is_mark(b':')
+}
+
+/// The `!` of `name!(..)`
+fn is_bang_of_call(seen: &Seen<'_>, next: &Neighbour<'_>) -> bool
+    ensures { let l = neighbour_of seen.now.last in let r = neighbour_of next.now in
+        result ≡ (is_mark (codes "!") r && not (is_joint_neighbour r) && is_free_word l) }
+{
+    next.is_mark(b'!') && !next.is_joint() && seen.last.is_free_word()
+}
+
+/// Behind `.`, or a word behind `::`
+fn is_behind_point_or_path(seen: &Seen<'_>, next: &Neighbour<'_>) -> bool
+    ensures { let b = neighbour_of seen.now.before in let l = neighbour_of seen.now.last in
+        let r = neighbour_of next.now in
+        result ≡ (is_mark (codes ".") l || (is_mark (codes ":") l && is_joint_mark (codes ":") b && is_any_word r)) }
+{
+    seen.last.is_mark(b'.') || is_behind_path(seen, next)
+}
+
+fn is_behind_path(seen: &Seen<'_>, next: &Neighbour<'_>) -> bool
+    ensures { let b = neighbour_of seen.now.before in let l = neighbour_of seen.now.last in
+        let r = neighbour_of next.now in
+        result ≡ (is_mark (codes ":") l && is_joint_mark (codes ":") b && is_any_word r) }
+{
+    seen.last.is_mark(b':') && seen.before.is_joint_mark(b':') && next.is_any_word()
+}
+
+fn is_behind_bang_or_dollar(seen: &Seen<'_>, next: &Neighbour<'_>) -> bool
+    ensures { let l = neighbour_of seen.now.last in let r = neighbour_of next.now in
+        result ≡ ((is_mark (codes "!") l || is_mark (codes "$") l) && not (is_brace r)) }
+{
+    (seen.last.is_mark(b'!') || seen.last.is_mark(b'$')) && !next.is_brace()
+}
+
+/// The brackets of `#[..]`
+fn is_attribute(seen: &Seen<'_>, next: &Neighbour<'_>) -> bool
+    ensures { result ≡ (pairs.is_mark (codes "#") (seen_of seen.now).last && pairs.is_bracket (neighbour_of next.now)) }
+{
+    seen.last.is_mark(b'#') && next.is_bracket()
+}
+
+/// Behind `&`, `*` or `-` that has no left operand
+fn is_prefix(seen: &Seen<'_>) -> bool
+    ensures { let b = neighbour_of seen.now.before in let l = neighbour_of seen.now.last in
+        result ≡ ((is_mark (codes "&") l || is_mark (codes "*") l || is_mark (codes "-") l)
+        && not (is_punct_neighbour b && is_joint_neighbour b)
+        && (is_nothing b || (is_punct_neighbour b && not (is_mark (codes "?") b)) || is_keyword b)) }
+{
+    is_prefix_mark(&seen.last) && !is_joint_punct(&seen.before) && has_no_operand(&seen.before)
+}
+
+/// `&`, `*` or `-`
+fn is_prefix_mark(last: &Neighbour<'_>) -> bool
+    ensures { let l = neighbour_of last.now in
+        result ≡ (is_mark (codes "&") l || is_mark (codes "*") l || is_mark (codes "-") l) }
+{
+    last.is_mark(b'&') || last.is_mark(b'*') || last.is_mark(b'-')
+}
+
+fn is_joint_punct(before: &Neighbour<'_>) -> bool
+    ensures { let b = neighbour_of before.now in
+        result ≡ (is_punct_neighbour b && is_joint_neighbour b) }
+{
+    before.is_punct() && before.is_joint()
+}
+
+/// Whether it is no operand of an operator behind it
+fn has_no_operand(before: &Neighbour<'_>) -> bool
+    ensures { let b = neighbour_of before.now in
+        result ≡ (is_nothing b || (is_punct_neighbour b && not (is_mark (codes "?") b)) || is_keyword b) }
+{
+    before.is_nothing() || (before.is_punct() && !before.is_mark(b'?')) || before.is_keyword()
+}
+
+fn is_within_turbofish(seen: &Seen<'_>, next: &Neighbour<'_>) -> bool
+    ensures { let s = seen_of seen.now in let r = neighbour_of next.now in
+        result ≡ (s.opens || opens_turbofish s r || ends_turbofish s r || (s.closes && is_paren r)) }
+{
+    seen.opens
+        || seen.opens_turbofish(next)
+        || seen.ends_turbofish(next)
+        || (seen.closes && next.is_paren())
+}
+
+/// The group of `name(..)` and `name[..]`, or one behind another
+fn is_call_or_index(seen: &Seen<'_>, next: &Neighbour<'_>) -> bool
+    ensures { let l = neighbour_of seen.now.last in let r = neighbour_of next.now in
+        result ≡ ((is_paren r || is_bracket r) && (is_free_word l || is_paren l || is_bracket l)) }
+{
+    (next.is_paren() || next.is_bracket()) && is_before_group(&seen.last)
+}
+
+fn is_before_group(last: &Neighbour<'_>) -> bool
+    ensures { let l = neighbour_of last.now in
+        result ≡ (is_free_word l || is_paren l || is_bracket l) }
+{
+    last.is_free_word() || last.is_paren() || last.is_bracket()
+}

@@ -1,0 +1,251 @@
+//! Token lists and groups.
+ghost use Rattle.std.specs.Prelude.{◌≡◌, ◌≤◌, ◌+◌, [], ◌∷◌, ◌++◌, IsTrue, IfOk};
+ghost use Rattle.lay_piece.specs.Forms.{closing, opening};
+ghost use Rattle.lay_layout.specs.Machine.{IsNested};
+ghost use Rattle.lay_stream.specs.Fed.{Did};
+ghost use Rattle.lay_form.specs.Form.{Done};
+ghost use Rattle.lay_form.specs.Layout.{break_of};
+ghost use Rattle.lay_form.specs.Stream.{stream_of};
+ghost use Rattle.lay_tree.specs.tokens.Lists.{ended_by, ends_in_line, form_of_grouping, group_form, token_list};
+ghost use Rattle.lay_tree.specs.tokens.Listing.{in_groups, is_balanced, listed_form};
+ghost use Rattle.lay_tree.specs.tokens.Pairs.{at_start};
+ghost use Rattle.lay_tree.specs.tokens.Pairs as pairs;
+ghost use Rattle.lay_out_tokens.specs.Fed.{closed, closes_at_once, closing_space, empty_group, fed_closer, fed_gap};
+ghost use Rattle.lay_out_tokens.specs.Fed.{fed_opener, fed_token, is_closer, opened, opening_space};
+ghost use Rattle.lay_out_tokens.specs.Neighbours.{neighbour_of, seen_of, separation_of};
+
+use crate::neighbours::{Neighbour, kind_of};
+use crate::notation::{
+    CLOSING_HARD_BREAK, CLOSING_SOFT_BREAK, CLOSING_SPACE_BREAK, HARD_BREAK, SOFT_BREAK,
+    SPACE_BREAK,
+};
+use crate::separation::{Seen, Separation, between};
+use crate::words::{put_doc, put_token};
+use lay_stream::Emit;
+use lay_token::{Break, Delim, Kind};
+use lay_tree::{Group, Listed, Tokens};
+
+/// Feeds the layout of a token list.
+pub fn put_tokens<E: Emit>(out: &mut E, tokens: &Tokens) -> Result<(), E::Fault>
+    ensures { Did E.meanings out.old (stream_of (token_list tokens.now)) result out.new }
+{
+    out.begin(false, 4)?;
+    let line = put_list(out, tokens.as_slice())?;
+    out.end()?;
+    put_list_end(out, line)
+}
+
+/// A newline behind a list that ends in documentation on a line.
+fn put_list_end<E: Emit>(out: &mut E, line: bool) -> Result<(), E::Fault>
+    ensures { Did E.meanings out.old (stream_of (ended_by line)) result out.new }
+{
+    if line {
+        return out.brk(HARD_BREAK);
+    }
+    Ok(())
+}
+
+/// Feeds the layout of a group.
+pub fn put_group<E: Emit>(out: &mut E, group: &Group) -> Result<(), E::Fault>
+    ensures { Did E.meanings out.old (stream_of (group_form group.now Done)) result out.new }
+{
+    let tokens = group.tokens.as_slice();
+    if tokens.is_empty() {
+        return put_empty_group(out, group.delim);
+    }
+    put_full_group(out, group.delim, tokens)
+}
+
+/// A group of these tokens.
+fn put_full_group<E: Emit>(out: &mut E, delim: Delim, tokens: &[Listed]) -> Result<(), E::Fault>
+    requires { IsTrue (is_balanced tokens.now) }
+    ensures { let within = stream_of (form_of_grouping (at_start 0) (in_groups tokens.now)) in
+        Did E.meanings out.old (opened delim ++ (within ++ closed (ends_in_line tokens.now) delim)) result out.new }
+{
+    open_group(out, delim)?;
+    let line = put_list(out, tokens)?;
+    close_group(out, delim, line)
+}
+
+/// Tokens whose delimiters are balanced. Answers whether the last one is documentation on a line.
+fn put_list<E: Emit>(out: &mut E, tokens: &[Listed]) -> Result<bool, E::Fault>
+    requires { IsTrue (is_balanced tokens.now) }
+    ensures did { let form = form_of_grouping (at_start 0) (in_groups tokens.now) in
+        Did E.meanings out.old (stream_of form) result out.new }
+    ensures line { IfOk result (λ line. line ≡ ends_in_line tokens.now) }
+{
+    let mut seen = Seen::at_start(0);
+    let mut rest = tokens;
+    while let Some((token, more)) = rest.split_first() {
+        put_next(out, &seen, token, more)?;
+        seen = seen.behind(token);
+        rest = more;
+    }
+    Ok(seen.last.is_line_doc())
+}
+
+/// One token, which others follow.
+#[tactic(auto, unfolding(crate::specs::Fed::fed_token))]
+fn put_next<E: Emit>(
+    out: &mut E,
+    seen: &Seen<'_>,
+    token: &Listed,
+    more: &[Listed],
+) -> Result<(), E::Fault>
+    requires { IsNested (E.meanings.groups out.old) (fed_token (seen_of seen.now) token.now more.now) }
+    ensures { Did E.meanings out.old (fed_token (seen_of seen.now) token.now more.now) result out.new }
+{
+    match kind_of(token) {
+        Kind::Opener(delim) => put_opener(out, seen, delim, closes_at_once(more)),
+        Kind::Closer(delim) => put_closer(out, seen, delim),
+        _ => put_single(out, seen, token),
+    }
+}
+
+/// Whether a closer is the next token.
+fn closes_at_once(more: &[Listed]) -> bool
+    ensures { result ≡ closes_at_once more.now }
+{
+    match more {
+        [] => false,
+        [first, ..] => is_closer(kind_of(first)),
+    }
+}
+
+fn is_closer(kind: Kind) -> bool
+    ensures { result ≡ is_closer kind }
+{
+    matches!(kind, Kind::Closer(_))
+}
+
+/// What opens a group, or all of a group without tokens.
+fn put_opener<E: Emit>(
+    out: &mut E,
+    seen: &Seen<'_>,
+    delim: Delim,
+    empty: bool,
+) -> Result<(), E::Fault>
+    ensures { let gap = fed_gap (pairs.between (seen_of seen.now) (pairs.Enclosed delim)) in
+        Did E.meanings out.old (gap ++ fed_opener empty delim) result out.new }
+{
+    put_gap(out, between(seen, &Neighbour::Enclosed(delim)))?;
+    if empty {
+        return put_empty_group(out, delim);
+    }
+    open_group(out, delim)
+}
+
+/// What closes a group, unless it has no tokens.
+fn put_closer<E: Emit>(out: &mut E, seen: &Seen<'_>, delim: Delim) -> Result<(), E::Fault>
+    requires { IsNested (E.meanings.groups out.old) (fed_closer (seen_of seen.now) delim) }
+    ensures { Did E.meanings out.old (fed_closer (seen_of seen.now) delim) result out.new }
+{
+    if seen.last.is_nothing() {
+        return Ok(());
+    }
+    close_group(out, delim, seen.last.is_line_doc())
+}
+
+/// A token that is no delimiter.
+fn put_single<E: Emit>(out: &mut E, seen: &Seen<'_>, token: &Listed) -> Result<(), E::Fault>
+    ensures { let gap = fed_gap (pairs.between (seen_of seen.now) (pairs.Single token.now)) in
+        Did E.meanings out.old (gap ++ stream_of (listed_form token.now Done)) result out.new }
+{
+    put_gap(out, between(seen, &Neighbour::Single(token)))?;
+    put_listed(out, token)
+}
+
+fn put_listed<E: Emit>(out: &mut E, token: &Listed) -> Result<(), E::Fault>
+    ensures { Did E.meanings out.old (stream_of (listed_form token.now Done)) result out.new }
+{
+    match token {
+        Listed::Token { kind, text, .. } => put_token(out, *kind, text.as_bytes()),
+        Listed::Doc { inner, text } => put_doc(out, *inner, text.as_bytes()),
+    }
+}
+
+/// What stands between two neighbours.
+fn put_gap<E: Emit>(out: &mut E, separation: Separation) -> Result<(), E::Fault>
+    ensures { Did E.meanings out.old (fed_gap (separation_of separation)) result out.new }
+{
+    match separation {
+        Separation::NoBreak => Ok(()),
+        Separation::SoftBreak => out.brk(SPACE_BREAK),
+        Separation::HardBreak => out.brk(HARD_BREAK),
+    }
+}
+
+/// A group without tokens is one text.
+fn put_empty_group<E: Emit>(out: &mut E, delim: Delim) -> Result<(), E::Fault>
+    ensures { Did E.meanings out.old (empty_group delim) result out.new }
+{
+    match delim {
+        Delim::Paren => out.text(b"()"),
+        Delim::Bracket => out.text(b"[]"),
+        Delim::Brace => out.text(b"{}"),
+    }
+}
+
+/// What opens a group with tokens.
+fn open_group<E: Emit>(out: &mut E, delim: Delim) -> Result<(), E::Fault>
+    ensures { Did E.meanings out.old (opened delim) result out.new }
+{
+    out.begin(true, 4)?;
+    out.text(opening(delim))?;
+    out.brk(opening_break(delim))?;
+    out.begin(false, 0)
+}
+
+/// What closes a group with tokens; the last one may be documentation on a line.
+fn close_group<E: Emit>(out: &mut E, delim: Delim, line: bool) -> Result<(), E::Fault>
+    requires { IsNested (E.meanings.groups out.old) (closed line delim) }
+    ensures { Did E.meanings out.old (closed line delim) result out.new }
+{
+    out.end()?;
+    out.brk(closing_break(delim, line))?;
+    out.text(closing(delim))?;
+    out.end()
+}
+
+fn opening(delim: Delim) -> &'static [u8]
+    ensures { result.now ≡ opening delim ∷ [] }
+{
+    match delim {
+        Delim::Paren => b"(",
+        Delim::Bracket => b"[",
+        Delim::Brace => b"{",
+    }
+}
+
+fn closing(delim: Delim) -> &'static [u8]
+    ensures { result.now ≡ closing delim ∷ [] }
+{
+    match delim {
+        Delim::Paren => b")",
+        Delim::Bracket => b"]",
+        Delim::Brace => b"}",
+    }
+}
+
+/// The break behind an opener: braces have blanks within.
+fn opening_break(delim: Delim) -> Break
+    ensures { result ≡ break_of (opening_space delim) }
+{
+    match delim {
+        Delim::Brace => SPACE_BREAK,
+        _ => SOFT_BREAK,
+    }
+}
+
+/// The break before a closer.
+fn closing_break(delim: Delim, line: bool) -> Break
+    ensures { result ≡ break_of (closing_space line delim) }
+{
+    if line {
+        return CLOSING_HARD_BREAK;
+    }
+    match delim {
+        Delim::Brace => CLOSING_SPACE_BREAK,
+        _ => CLOSING_SOFT_BREAK,
+    }
+}
