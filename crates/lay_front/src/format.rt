@@ -15,7 +15,7 @@ ghost use Rattle.lay_front.specs.Waiting.{Passed};
 
 use crate::file::read_bytes;
 use lay_io::{Failed, Sink};
-use lay_out_code::{HARD_BREAK, put_attr, put_item};
+use lay_out_code::{HARD_BREAK, put_bare_attr, put_item};
 use lay_stream::{Emit, Stream, plain};
 use lay_token::{FormatError, NoMemory, Refusal, Text};
 use lay_tree::{Attr, File, Item};
@@ -163,7 +163,7 @@ fn attr_text(alloc: Global, attr: &Attr) -> Result<Text, NoMemory>
     ensures { IfOk result (λ text. text ≡ line (attr_form attr.now)) }
 {
     let mut stream = Stream::new(alloc);
-    put_attr(&mut stream, attr)?;
+    put_bare_attr(&mut stream, attr)?;
     stream.brk(HARD_BREAK)?;
     plain(alloc, &stream)
 }

@@ -9,10 +9,10 @@ use Rattle.lay_front.proofs.format.attr_text.Goals as goal
 
 pub plain-requires : goal.plain-requires
 plain-requires c =
-    ap (λ (s : List Tok). opened s 0) (sym (line_listed _ (attr_form c.args.attr.now) _ _ _ _ _ c.new-stream.ensures c.in_ok-put_attr.ensures c.in_ok-brk.ensures.did))
+    ap (λ (s : List Tok). opened s 0) (sym (line_listed _ (attr_form c.args.attr.now) _ _ _ _ _ c.new-stream.ensures c.in_ok-put_bare_attr.ensures c.in_ok-brk.ensures.did))
     ∙ opened_document (line_document (attr_form c.args.attr.now)) 0
 
 pub returns : goal.returns
 returns c = IfOk-weaker c.plain.result _ _
-    (λ t h. h (line_document (attr_form c.args.attr.now)) (line_listed _ (attr_form c.args.attr.now) _ _ _ _ _ c.new-stream.ensures c.in_ok-put_attr.ensures c.in_ok-brk.ensures.did))
+    (λ t h. h (line_document (attr_form c.args.attr.now)) (line_listed _ (attr_form c.args.attr.now) _ _ _ _ _ c.new-stream.ensures c.in_ok-put_bare_attr.ensures c.in_ok-brk.ensures.did))
     c.plain.ensures.document
