@@ -1,6 +1,6 @@
 -- A token list is fed the same as a flat list and in groups.
-use Rattle.std.proofs.Common.{◌≡◌, length, ℕ, suc, ◌+◌, ◌-◌, ◌≤◌, ◌<◌, Bool, true, false, subst, cond, IsTrue, List, []}
-use Rattle.std.proofs.Common.{◌∷◌, ◌++◌, Option, Some, None, pos, refl, sym, ap, ◌∙◌, append_assoc, append-nil, arith}
+use Rattle.std.proofs.Common.{◌≡◌, length, ℕ, suc, Bool, true, false, subst, cond, IsTrue, List, []}
+use Rattle.std.proofs.Common.{◌∷◌, ◌++◌, Option, Some, None, refl, sym, ap, ◌∙◌, append_assoc, append-nil, arith}
 use Rattle.lay_layout.specs.Document.{Document, Empty, AddText, AddBreak, AddGroup, stream}
 use Rattle.lay_layout.specs.Machine as machine
 use Rattle.lay_layout.specs.Machine.{IsNested}
@@ -8,11 +8,10 @@ use Rattle.lay_layout.specs.declared.layout.Tok.{Tok}
 use Rattle.lay_layout.specs.declared.layout.Tok.TheVariants as tok
 use Rattle.lay_piece.specs.declared.kind.Delim.{Delim}
 use Rattle.lay_piece.specs.declared.kind.Delim.TheVariants.{Paren, Bracket, Brace}
-use Rattle.lay_piece.specs.declared.kind.Kind.{Kind}
-use Rattle.lay_piece.specs.declared.kind.Kind.TheVariants.{Opener, Closer, RawIdent, Doc}
+use Rattle.lay_piece.specs.declared.kind.Kind.TheVariants.{Opener, Closer, Doc}
 use Rattle.lay_form.specs.Form.{Form, Done, Part}
 use Rattle.lay_form.specs.Layout.{document, token_ends_in_point}
-use Rattle.lay_form.specs.Stream.{fed, feed_doc, feed_text, stream_of}
+use Rattle.lay_form.specs.Stream.{fed, feed_doc, stream_of}
 use Rattle.lay_form.proofs.StreamLaws.{stream_is}
 use Rattle.lay_tree.specs.Ahead.{same_delim}
 use Rattle.lay_tree.specs.tokens.Lists.{enclosed_form, ends_in_line, form_of_grouping, group_form}
@@ -25,24 +24,17 @@ use Rattle.lay_tree.specs.declared.token.Listed.TheVariants as listed
 use Rattle.lay_tree.specs.declared.tokens.Group.{Group}
 use Rattle.lay_out_tokens.specs.Fed as feeds
 use Rattle.lay_out_tokens.specs.Fed.{fed_gap, empty_group, opened, fed_opener, fed_closer, closes_at_once, fed_by}
-use Rattle.lay_out_tokens.specs.Fed.{fed_token, fed_tokens, is_closer, seen_by, seen_behind, seen_over}
+use Rattle.lay_token.specs.Delimiters.{is_closer}
+use Rattle.lay_out_tokens.specs.Fed.{fed_token, fed_tokens, seen_by, seen_behind, seen_over}
 use Rattle.lay_out_tokens.proofs.StreamParts.{group_alone}
 
 -- ---- one part behind a text that ends in a point or doesn't
-
-gap_point : Bool → Separation → Bool
-gap_point p NoBreak = p
-gap_point p _ = false
 
 gap_fed : (p : Bool) (sep : Separation) (f : Form) (more : List Tok)
     → (q : Bool) × (fed p (leads sep f) more ≡ fed_gap sep ++ fed q f more)
 gap_fed p NoBreak f more = (p, refl)
 gap_fed p SoftBreak f more = (false, refl)
 gap_fed p HardBreak f more = (false, refl)
-
-text_more : (text : List ℕ) (more : List Tok) → feed_text text more ≡ feed_text text [] ++ more
-text_more [] more = refl
-text_more (c ∷ cs) more = refl
 
 doc_more : (inner block : Bool) (text : List ℕ) (more : List Tok)
     → feed_doc inner block text more ≡ feed_doc inner block text [] ++ more

@@ -7,6 +7,7 @@ use Rattle.lay_piece.specs.declared.kind.Delim.{Delim}
 use Rattle.lay_piece.specs.declared.kind.Delim.TheVariants.{Brace}
 use Rattle.lay_piece.specs.declared.kind.Kind.{Kind}
 use Rattle.lay_piece.specs.declared.kind.Kind.TheVariants.{Opener, Closer}
+use Rattle.lay_token.specs.Delimiters.{is_closer}
 use Rattle.lay_form.specs.Form.{Space, Soft, Hard, Done}
 use Rattle.lay_form.specs.Layout.{break_of}
 use Rattle.lay_form.specs.Stream.{stream_of}
@@ -40,10 +41,6 @@ closed line d = End ∷ Break (break_of (closing_space line d)) ∷ Text (closin
 -- a group without tokens, as one text
 abbrev pub empty_group : Delim → List Tok
 empty_group d = Text (opening d ∷ closing d ∷ []) ∷ []
-
-abbrev pub is_closer : Kind → Bool
-is_closer (Closer d) = true
-is_closer _ = false
 
 -- A closer is the next token.
 abbrev pub closes_at_once : List Listed → Bool

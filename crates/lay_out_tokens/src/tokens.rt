@@ -1,6 +1,7 @@
 //! Token lists and groups.
 ghost use Rattle.std.specs.Prelude.{◌≡◌, ◌≤◌, ◌+◌, [], ◌∷◌, ◌++◌, IsTrue, IfOk};
 ghost use Rattle.lay_piece.specs.Forms.{closing, opening};
+ghost use Rattle.lay_token.specs.Delimiters.{is_closer};
 ghost use Rattle.lay_layout.specs.Machine.{IsNested};
 ghost use Rattle.lay_stream.specs.Fed.{Did};
 ghost use Rattle.lay_form.specs.Form.{Done};
@@ -11,7 +12,7 @@ ghost use Rattle.lay_tree.specs.tokens.Listing.{in_groups, is_balanced, listed_f
 ghost use Rattle.lay_tree.specs.tokens.Pairs.{at_start};
 ghost use Rattle.lay_tree.specs.tokens.Pairs as pairs;
 ghost use Rattle.lay_out_tokens.specs.Fed.{closed, closes_at_once, closing_space, empty_group, fed_closer, fed_gap};
-ghost use Rattle.lay_out_tokens.specs.Fed.{fed_opener, fed_token, is_closer, opened, opening_space};
+ghost use Rattle.lay_out_tokens.specs.Fed.{fed_opener, fed_token, opened, opening_space};
 ghost use Rattle.lay_out_tokens.specs.Neighbours.{neighbour_of, seen_of, separation_of};
 
 use crate::neighbours::{Neighbour, kind_of};

@@ -1,4 +1,3 @@
-use Rattle.std.proofs.Common.{refl}
 use Rattle.lay_stream.proofs.Calls.{last, call_on, leave_on}
 use Rattle.lay_out_tokens.proofs.StreamParts.{value_parts}
 use Rattle.lay_out_tokens.proofs.attributes.put_value.Goals as goal

@@ -1,4 +1,4 @@
-use Rattle.std.proofs.Common.{◌≡◌, ◌==◌, ℕ, Bool, false, List, [], ◌∷◌, length, arith}
+use Rattle.std.proofs.Common.{◌≡◌, ◌==◌, Bool, false, List, [], ◌∷◌, length, arith}
 use Rattle.lay_stream.proofs.Calls.{last}
 use Rattle.lay_tree.specs.declared.token.Listed.{Listed}
 use Rattle.lay_out_tokens.proofs.TokenFeeds.{full_group}
