@@ -60,6 +60,27 @@ def names(size):
     return ",".join(f"n{number:06x}" for number in range(size // 8))
 
 
+def token(chance):
+    """A few tokens of a macro call, as a generator would print them."""
+    return chance.choice([
+        name(chance), name(chance) + ",", str(chance.randrange(1000)) + ";", f"{name(chance)} += {name(chance)};", f"&{name(chance)}.field,",
+        f"{name(chance)}::new({name(chance)}, -1),", f"#[{name(chance)}]", f"{name(chance)}[{chance.randrange(9)}] => {{{name(chance)}}}",
+        f'"text of {name(chance)}",', f"$({name(chance)}: ty),*", f"parse::<Vec<{name(chance)}>>()?;", f"if {name(chance)} == 'a' {{ return 1.5e3; }}",
+        f"/// {name(chance)} in words\n", f"impl<'a> {name(chance)} for &'a mut {name(chance)} {{}}",
+    ])
+
+
+def tokens(size):
+    return repeated(lambda _, chance: token(chance) + " ")(size)
+
+
+def nested(size):
+    """A macro call whose groups nest, a level in forty bytes: 200,000 of them in eight million."""
+    level = "(" + "a, bb + ccc; d::e, ".ljust(38)
+    depth = (size - 4) // 40
+    return "m!(" + level * depth + ")" * depth + ");"
+
+
 KINDS = {
     # accepted: all is read and laid out
     "structs": repeated(lambda number, _: f"struct Name{number};\n"),
@@ -75,6 +96,8 @@ KINDS = {
     "nested_use": repeated(lambda _, __: "use " + "a::{b," * 254 + "c" + "}" * 254 + ";\n"),
     "long_name": lambda size: "struct " + "a" * (size - 8) + ";",
     "doc_block": lambda size: "/**" + "\n * x" * ((size - 16) // 5) + "\n*/struct A;",
+    "macro_call": lambda size: "m!{" + tokens(size - 4) + "}",
+    "nested_groups": nested,
     # gaps alone, which are accepted as an empty file
     "blanks": lambda size: " " * size,
     "line_ends": lambda size: "\r\n" * (size // 2),

@@ -89,7 +89,33 @@ fn files(rt: HostRuntime) {
         struct r#type;→struct r#type;\n§\
         use r#type::{r#fn};→use r#type::{r#fn};\n§\
         struct \u{fc}ber;→struct \u{fc}ber;\n";
-    for rows in [items, documentation, lines] {
+    // Token lists, a row of the table of neighbours or two in each.
+    let lists = "m!{a+=b;x.0}→m! { a += b; x.0 }\n§\
+        m!(a&&b,&c,-1,f::<T>(x));→m!(a && b, &c, -1, f::<T>(x));\n§\
+        m!{/// x\na}→m! {\n    /// x\n    a\n}\n§\
+        m!{a/** x */b}→m! {\n    a /// x\n    b\n}\n§\
+        m!(/// x\n);→m!(\n    /// x\n);\n§\
+        m!{..=a ... b}→m! { ..= a...b }\n§\
+        m!(a.b.0.1,1 .c,1. .d,x?.y);→m!(a.b.0.1, 1 .c, 1. .d, x?.y);\n§\
+        m!{$($a:ty),*}→m! { $($a: ty), * }\n§\
+        m!{#[a]#![b]}→m! { #[a] #![b] }\n§\
+        m!{a& &b;a&&b;&&a;return-1}→m! { a & &b; a && b; && a; return -1 }\n§\
+        m!{a<b>(c);a::<b>(c);a::<b<c>>::d(e)}→m! { a < b > (c); a::<b>(c); a::<b<c>>::d(e) }\n§\
+        m!{r#if(a)if(b){}}→m! { r#if(a) if (b) {} }\n";
+    // What is made of them.
+    let macros = "m!{}→m! {}\n§\
+        m![];→m![];\n§\
+        a::m!{b!{}}::a::b!();→a::m! { b! {} }\n::a::b!();\n§\
+        macro_rules! m{()=>{1};}→macro_rules! m { () => { 1 }; }\n§\
+        macro_rules!m(()=>{});→macro_rules! m(() => {});\n§\
+        macro_rules!{}→macro_rules! {}\n§\
+        mod a{m!{}n!();#[b]macro_rules!o{}}→mod a {\n    m! {}\n    n!();\n    #[b]\n    macro_rules! o {}\n}\n§\
+        #[a(b=\"c\",d)]#[a{b}]#[a[b]]#[a=b c]use a;→#[a(b = \"c\", d)]\n#[a{ b }]\n#[a[b]]\n#[a = b c]\nuse a;\n§\
+        #[cfg(all(a,not(b)))]struct A;→#[cfg(all(a, not(b)))]\nstruct A;\n§\
+        #[doc=\"a\" \"b\"]struct A;→#[doc = \"a\" \"b\"]\nstruct A;\n§\
+        #[doc(hidden)]#[unsafe(a)]use a;→#[doc(hidden)]\n#[unsafe(a)]\nuse a;\n§\
+        #![a=/// x\n]→#![a = /// x\n]\n";
+    for rows in [items, documentation, lines, lists, macros] {
         for row in rows.split(BETWEEN) {
             lays(&rt, rt.alloc(), row);
         }
@@ -133,7 +159,7 @@ fn refusals(rt: HostRuntime) {
     no_item(
         &rt,
         alloc,
-        "#[x=]struct A;§#[x==1]struct A;§#[x 1]struct A;§#[x=y]struct A;§#[fn]struct A;§#[a::]struct A;",
+        "#[x=]struct A;§#[x==1]struct A;§#[x 1]struct A;§#[x()y]struct A;§#[fn]struct A;§#[a::]struct A;",
     );
     no_item(
         &rt,
@@ -144,6 +170,11 @@ fn refusals(rt: HostRuntime) {
         &rt,
         alloc,
         "use a::{b,,c};§use a::;§use a: :b;§use a:::b;§use fn::a;",
+    );
+    no_item(
+        &rt,
+        alloc,
+        "m!()§m!{};§m!§m{}§m!a{}§macro_rules! m()§macro_rules! fn{}§fn!{}§r#m!{}m![]",
     );
     answers(
         &rt,
@@ -225,6 +256,15 @@ fn nested(alloc: Global, levels: usize) -> Result<Vec<u8>, NoMemory> {
     Ok(all)
 }
 
+/// A macro call with so many groups, each within the one before.
+fn groups(alloc: Global, levels: usize) -> Result<Vec<u8>, NoMemory> {
+    let mut all = repeated(alloc, b"m!", 1)?;
+    all.extend_from_slice(repeated(alloc, b"(", levels)?.as_slice())?;
+    all.extend_from_slice(repeated(alloc, b")", levels)?.as_slice())?;
+    all.push(b';')?;
+    Ok(all)
+}
+
 /// The greatest input, and more behind it.
 fn longest(alloc: Global, more: &[u8]) -> Result<Vec<u8>, NoMemory> {
     let mut all = repeated(alloc, &[0xff; 1024], LIMIT / 1024)?;
@@ -243,7 +283,7 @@ fn outcome(alloc: Global, given: Result<Vec<u8>, NoMemory>) -> Status {
     }
 }
 
-// An item stands in 255 others at most. An input of 16 MiB is read, and one that holds a byte more is not: it is no
+// An item stands in 255 others at most, and a group of a token list in any number. An input of 16 MiB is read, and one that holds a byte more is not: it is no
 // UTF-8, so it is refused before it is taken apart.
 #[test]
 fn limits(rt: HostRuntime) {
@@ -252,6 +292,7 @@ fn limits(rt: HostRuntime) {
     assert_eq!(rt; outcome(alloc, nested(alloc, 256)), Status::Done);
     assert_eq!(rt; outcome(alloc, nested(alloc, 257)), refused);
     assert_eq!(rt; outcome(alloc, nested(alloc, 10_000)), refused);
+    assert_eq!(rt; outcome(alloc, groups(alloc, 5_000)), Status::Done);
     let unbalanced = Status::Refused(Refusal::Unbalanced { at: 999_999 });
     assert_eq!(rt;
         outcome(alloc, repeated(alloc, b"(", 1_000_000)),
