@@ -2,7 +2,7 @@
 pub mod Exact
 pub mod Loops
 pub mod Words
-pub mod Path
+pub mod SimplePath
 pub mod Tokens
 pub mod Call
 pub mod Attr

@@ -1,6 +1,6 @@
 -- The nodes, a family a file. Each says what is well formed, which form it has, and what may not follow.
 pub mod Facts
-pub mod Path
+pub mod SimplePath
 pub mod Call
 pub mod Attr
 pub mod Use

@@ -4,7 +4,7 @@
 pub mod Loops
 pub mod Exact
 pub mod Words
-pub mod Path
+pub mod SimplePath
 pub mod Tokens
 pub mod Call
 pub mod Attr

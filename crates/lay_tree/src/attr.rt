@@ -1,5 +1,5 @@
 //! Attributes.
-use crate::path::Path;
+use crate::simple_path::SimplePath;
 use crate::tokens::{Group, Tokens};
 use lay_token::Text;
 
@@ -23,7 +23,7 @@ pub enum Attr {
 #[derive(Debug, Drop)]
 pub enum MetaPath {
     /// `a::b`
-    Path(Path),
+    Path(SimplePath),
     /// `unsafe`
     Unsafe,
 }

@@ -1,7 +1,7 @@
 //! Trees of Rust files, and the definitions that say which tokens spell a tree and how it is laid out.
 //!
-//! The families are the same in the sources, in `specs/` and in `proofs/`: token lists, paths, attributes, use
-//! trees, items, files.
+//! The families are the same in the sources, in `specs/` and in `proofs/`: token lists, simple paths,
+//! attributes, use trees, items, files.
 //! `specs/nodes/` says of each which nodes are well formed, which form they have (in the signs of `lay_form`), and what
 //! may not follow them (`Follow`). `Reading` says which bytes read to which file, and `Out` what a file's text is.
 //! `specs/reader/` holds the functions that code which reads is proved equal to. [`node_law`] and [`reading_law`] say what
@@ -13,7 +13,7 @@ pub mod boxed;
 pub mod file;
 pub mod item;
 mod laws;
-pub mod path;
+pub mod simple_path;
 pub mod token;
 pub mod tokens;
 pub mod use_tree;
@@ -23,7 +23,7 @@ pub use boxed::Boxed;
 pub use file::File;
 pub use item::{Item, ItemKind};
 pub use laws::{node_law, reading_law};
-pub use path::{Path, Segment};
-pub use token::{Listed, Name, Word};
+pub use simple_path::SimplePath;
+pub use token::{GivenName, Listed, Name, Word};
 pub use tokens::{Group, MacroCall, Tokens};
-pub use use_tree::{Rename, UseEnd, UseTree};
+pub use use_tree::{UseEnd, UseTree};

@@ -8,6 +8,14 @@ pub struct Name {
     pub text: Text,
 }
 
+/// A name that is given, or `_` where none is.
+#[derive(Debug, Drop)]
+pub enum GivenName {
+    Name(Name),
+    /// `_`
+    Underscore,
+}
+
 /// A word of a path: a name, or `crate`, `self`, `super` or `Self`.
 #[derive(Debug, Drop)]
 pub struct Word {

@@ -2,7 +2,7 @@
 ghost use Rattle.std.specs.Prelude.{◌≡◌, IsTrue};
 ghost use Rattle.lay_tree.specs.tokens.Listing.{is_balanced};
 
-use crate::path::Path;
+use crate::simple_path::SimplePath;
 use crate::token::Listed;
 use lay_token::{Delim, List};
 use std::marker::Model;
@@ -54,6 +54,6 @@ pub struct Group {
 /// A macro call (Rust Reference, "Macro invocation"): `a::m!(b, c)`.
 #[derive(Debug, Drop)]
 pub struct MacroCall {
-    pub path: Path,
+    pub path: SimplePath,
     pub tokens: Group,
 }

@@ -1,5 +1,5 @@
 //! Use trees, which imports are made of.
-use crate::token::{Name, Word};
+use crate::token::{GivenName, Word};
 use lay_token::List;
 
 /// What an import names (Rust Reference, "Use declarations"). One in a group stands one level deeper.
@@ -18,17 +18,14 @@ pub struct UseTree {
 #[derive(Debug, Drop)]
 pub enum UseEnd {
     /// `a`, or `a as b`
-    Word { word: Word, rename: Option<Rename> },
+    Word {
+        word: Word,
+        rename: Option<GivenName>,
+    },
     /// `*`
     Glob,
     /// `{a, b}`
-    Group { trees: List<UseTree> },
-}
-
-/// What is brought in under another name, or under none.
-#[derive(Debug, Drop)]
-pub enum Rename {
-    Name(Name),
-    /// `_`
-    Underscore,
+    Group {
+        trees: List<UseTree>,
+    },
 }

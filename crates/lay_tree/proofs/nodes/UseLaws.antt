@@ -2,8 +2,8 @@
 use Rattle.std.proofs.Common.{◌≡◌, List, map, Option, sym, ap, ◌∙◌, subst}
 use Rattle.lay_tree.specs.nodes.Facts.{Facts}
 use Rattle.lay_tree.specs.nodes.Use.{end_facts, tree_facts, about_use, about_use_end}
+use Rattle.lay_tree.specs.declared.token.GivenName.{GivenName}
 use Rattle.lay_tree.specs.declared.token.Word.{Word}
-use Rattle.lay_tree.specs.declared.use_tree.Rename.{Rename}
 use Rattle.lay_tree.specs.declared.use_tree.UseEnd.{UseEnd}
 use Rattle.lay_tree.specs.declared.use_tree.UseEnd.TheVariants as use_end
 use Rattle.lay_tree.specs.declared.use_tree.UseEnd.TheOpen.{UseEnd-F}
@@ -13,7 +13,7 @@ use Rattle.lay_tree.specs.declared.use_tree.UseTree.{UseTree}
 
 -- which end it is
 pub data EndView : UseEnd → Type 0 where
-  IsWord : (word : Word) (renamed : Option Rename) → EndView (use_end.Word word renamed)
+  IsWord : (word : Word) (renamed : Option GivenName) → EndView (use_end.Word word renamed)
   IsGlob : EndView use_end.Glob
   IsGroup : (trees : List UseTree) → EndView (use_end.Group trees)
 
@@ -29,7 +29,7 @@ pub use_is : (tree : UseTree) → about_use tree ≡ tree_facts (record { global
 unfolding about_use about_use_end
 use_is tree = fold_out-UseTree Facts Facts end_facts tree_facts tree
 
-pub word_is : (word : Word) (renamed : Option Rename) → about_use_end (use_end.Word word renamed) ≡ end_facts (UseEnd-F.Word word renamed)
+pub word_is : (word : Word) (renamed : Option GivenName) → about_use_end (use_end.Word word renamed) ≡ end_facts (UseEnd-F.Word word renamed)
 unfolding about_use_end
 word_is word renamed =
     ap about_use_end (sym (rolls-Word word renamed)) ∙ fold-roll-UseEnd Facts Facts end_facts tree_facts (UseEnd-F.Word word renamed)

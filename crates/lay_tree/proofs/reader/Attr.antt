@@ -18,12 +18,12 @@ use Rattle.lay_form.specs.Spelled.{IsOne, IsString, AreBits, attr_opening, Spell
 use Rattle.lay_form.proofs.FormLaws.{one_end, bits_end, is_end}
 use Rattle.lay_tree.specs.Ahead.{Tokens, first, tail, is_keyword, is_mark, opens, closes}
 use Rattle.lay_tree.specs.Words.{leaf_of, colons}
-use Rattle.lay_tree.specs.nodes.Attr.{string_of, is_empty, is_doc_segments, is_doc_path, is_doc_input, is_meta_path, is_input, same_flag, is_attr, are_attrs, meta_path_form, input_form, attr_form, about_attr}
-use Rattle.lay_tree.specs.nodes.Path.{segments_form}
+use Rattle.lay_tree.specs.nodes.Attr.{string_of, is_empty, is_doc_words, is_doc_path, is_doc_input, is_meta_path, is_input, same_flag, is_attr, are_attrs, meta_path_form, input_form, attr_form, about_attr}
+use Rattle.lay_tree.specs.nodes.SimplePath.{simple_words_form}
 use Rattle.lay_tree.specs.reader.Attr.{begins_group, value, grouped, meta_name, meta_input, doc_or, made, behind_opening, meta_attr, is_doc_kind, is_doc, doc_attr, attribute, begins_attr, attributes}
 use Rattle.lay_tree.specs.reader.Exact.{InText}
 use Rattle.lay_tree.specs.reader.Loops.{Got, ◌>>=◌, passed}
-use Rattle.lay_tree.specs.reader.Path.{path as path_reading}
+use Rattle.lay_tree.specs.reader.SimplePath.{simple_path}
 use Rattle.lay_tree.specs.reader.Tokens.{tokens, group}
 use Rattle.lay_tree.specs.tokens.Lexed.{is_token_list}
 use Rattle.lay_tree.specs.tokens.Lists.{ended_by, ends_in_line, token_list, group_form}
@@ -36,8 +36,8 @@ use Rattle.lay_tree.specs.declared.attr.MetaInput.{MetaInput}
 use Rattle.lay_tree.specs.declared.attr.MetaInput.TheVariants as input
 use Rattle.lay_tree.specs.declared.attr.MetaPath.{MetaPath}
 use Rattle.lay_tree.specs.declared.attr.MetaPath.TheVariants as meta_path
-use Rattle.lay_tree.specs.declared.path.Path.{Path}
-use Rattle.lay_tree.specs.declared.path.Segment.{Segment}
+use Rattle.lay_tree.specs.declared.simple_path.SimplePath.{SimplePath}
+use Rattle.lay_tree.specs.declared.token.Word.{Word}
 use Rattle.lay_tree.specs.declared.token.Listed.{Listed}
 use Rattle.lay_tree.specs.declared.token.Listed.TheVariants as listed
 use Rattle.lay_tree.proofs.InText.{behind, behind_all}
@@ -45,7 +45,7 @@ use Rattle.lay_tree.proofs.Fronts.{lone_text, texts_behind, keyword_one, mark_pa
 use Rattle.lay_tree.proofs.Parts.{Rows, rows_to, rows_map, rows_of_map, rows_pass, rows_with, GoodAt, SpelledAt, bits_joined, bit_piece, leaf_alone}
 use Rattle.lay_tree.proofs.Steps.{same_some, chosen, bind_some}
 use Rattle.lay_tree.proofs.reader.Loops.{repeat_sound}
-use Rattle.lay_tree.proofs.reader.Path.{path_sound}
+use Rattle.lay_tree.proofs.reader.SimplePath.{simple_path_sound}
 use Rattle.lay_tree.proofs.reader.Tokens.{IsList, tokens_is, list_good, list_row_of, group_sound}
 use Rattle.lay_tree.proofs.token_lists.Spelling.{IsRow, list_spelled}
 
@@ -55,15 +55,15 @@ meta_name_sound : (depth : ℕ) (ts : Tokens) (path : MetaPath) (rest : Tokens) 
     → Spells (meta_path_form path) depth ts rest × (is_meta_path path ≡ true)
 unfolding meta_name
 meta_name_sound depth ts path rest t h =
-    let go_on : (Path × Tokens) → Got MetaPath = λ p. Some (meta_path.Path p.0, p.1) in
+    let go_on : (SimplePath × Tokens) → Got MetaPath = λ p. Some (meta_path.Path p.0, p.1) in
     let R : MetaPath × Tokens → Type 0 = λ r. Spells (meta_path_form r.0) depth ts r.1 × (is_meta_path r.0 ≡ true) in
-    elim (chosen (first (is_keyword (codes "unsafe")) ts) (Some (meta_path.Unsafe, tail ts)) (path_reading ts >>= go_on) (Some (path, rest)) h) [
+    elim (chosen (first (is_keyword (codes "unsafe")) ts) (Some (meta_path.Unsafe, tail ts)) (simple_path ts >>= go_on) (Some (path, rest)) h) [
       | inl g ↦
           same_some R (meta_path.Unsafe, tail ts) (path, rest) g.1
           (bit_piece (keyword (codes "unsafe")) depth ts (tail ts) (keyword_one (codes "unsafe") ts g.0), refl)
       | inr g ↦
-          let b = bind_some (path_reading ts) go_on (path, rest) g.1 in
-          let s = path_sound depth ts b.0.0 b.0.1 t b.1 in
+          let b = bind_some (simple_path ts) go_on (path, rest) g.1 in
+          let s = simple_path_sound depth ts b.0.0 b.0.1 t b.1 in
           same_some R (meta_path.Path b.0.0, b.0.1) (path, rest) b.2 (s.0, s.1)
     ]
 
@@ -157,20 +157,20 @@ doc_leaf true text depth ts mid d s = absurd (cc)
 doc_leaf false text depth ts mid d s =
     subst (λ w. IsOne Ident w ts mid) (bytes_same text (codes "doc") d) (leaf_alone false text depth ts mid s)
 
-doc_segments : (segments : List Segment) (depth : ℕ) (ts mid : Tokens) → is_doc_segments segments ≡ true
-    → Spells (segments_form segments Done) depth ts mid → IsOne Ident (codes "doc") ts mid
-doc_segments [] depth ts mid d s = absurd (cc)
-doc_segments (one ∷ []) depth ts mid d s = doc_leaf one.word.raw one.word.text depth ts mid d s
-doc_segments (one ∷ two ∷ more) depth ts mid d s = absurd (cc)
+doc_words : (words : List Word) (depth : ℕ) (ts mid : Tokens) → is_doc_words words ≡ true
+    → Spells (simple_words_form words Done) depth ts mid → IsOne Ident (codes "doc") ts mid
+doc_words [] depth ts mid d s = absurd (cc)
+doc_words (one ∷ []) depth ts mid d s = doc_leaf one.raw one.text depth ts mid d s
+doc_words (one ∷ two ∷ more) depth ts mid d s = absurd (cc)
 
-doc_path : (global : Bool) (segments : List Segment) (depth : ℕ) (ts mid : Tokens) → (not global && is_doc_segments segments) ≡ true
-    → Spells (when global colons (segments_form segments Done)) depth ts mid → IsOne Ident (codes "doc") ts mid
-doc_path true segments depth ts mid d s = absurd (cc)
-doc_path false segments depth ts mid d s = doc_segments segments depth ts mid d s
+doc_path : (global : Bool) (words : List Word) (depth : ℕ) (ts mid : Tokens) → (not global && is_doc_words words) ≡ true
+    → Spells (when global colons (simple_words_form words Done)) depth ts mid → IsOne Ident (codes "doc") ts mid
+doc_path true words depth ts mid d s = absurd (cc)
+doc_path false words depth ts mid d s = doc_words words depth ts mid d s
 
 doc_name : (path : MetaPath) (depth : ℕ) (ts mid : Tokens) → is_doc_path path ≡ true → Spells (meta_path_form path) depth ts mid
     → IsOne Ident (codes "doc") ts mid
-doc_name (meta_path.Path path) depth ts mid d s = doc_path path.global path.segments depth ts mid d s
+doc_name (meta_path.Path path) depth ts mid d s = doc_path path.global path.words depth ts mid d s
 doc_name meta_path.Unsafe depth ts mid d s = absurd (cc)
 
 -- a list that is one string alone

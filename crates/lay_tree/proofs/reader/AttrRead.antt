@@ -41,7 +41,7 @@ use Rattle.lay_tree.proofs.Parts.{Rows, rows_to, GoodAt, bits_parts, bit_alone, 
 use Rattle.lay_tree.proofs.reader.Attr.{flag_same, same_as_itself, attribute_sound}
 use Rattle.lay_tree.proofs.reader.Exact.{exact, needless_sound, needless_complete}
 use Rattle.lay_tree.proofs.reader.Loops.{Turn, repeat_complete}
-use Rattle.lay_tree.proofs.reader.Path.{path_no_keyword, path_complete}
+use Rattle.lay_tree.proofs.reader.SimplePath.{simple_path_no_keyword, simple_path_complete}
 use Rattle.lay_tree.proofs.reader.Tokens.{tokens_there, row_tokens, group_complete}
 use Rattle.lay_tree.proofs.token_lists.Balance.{balances_turned}
 use Rattle.lay_tree.proofs.token_lists.Spelling.{IsRow, list_row}
@@ -52,7 +52,7 @@ meta_name_complete : (path : MetaPath) (depth : ℕ) (ts rest : Tokens) → Spel
     → is_op (codes "::") rest ≡ false → meta_name ts ≡ Some (path, rest)
 unfolding meta_name
 meta_name_complete (meta_path.Path path) depth ts rest s g h =
-    rw (path_no_keyword (codes "unsafe") refl path depth ts rest g s, path_complete path depth ts rest (s, g, rw h refl)) refl
+    rw (simple_path_no_keyword (codes "unsafe") refl path depth ts rest g s, simple_path_complete path depth ts rest (s, g, rw h refl)) refl
 meta_name_complete meta_path.Unsafe depth ts rest s g h =
     rw (one_front Ident (codes "unsafe") ts rest (piece_bit (keyword (codes "unsafe")) depth ts rest s)).1 refl
 
@@ -231,7 +231,7 @@ string_read value (t ∷ ts) (last ∷ mid) rest s c =
 
 -- the name `doc`
 abbrev doc_name : MetaPath
-doc_name = meta_path.Path (record { global = false; segments = record { word = record { raw = false; text = codes "doc" } } ∷ [] })
+doc_name = meta_path.Path (record { global = false; words = record { raw = false; text = codes "doc" } ∷ [] })
 
 doc_or_doc : (inner : Bool) (value : List ℕ) (held : List ℕ) (other : Attr) → value ≡ encode_utf8_all held → is_doc_text inner value ≡ true
     → doc_or inner (Some held) other ≡ attr.Doc inner value

@@ -10,21 +10,21 @@ use Rattle.lay_form.proofs.FormLaws.{bits_end, is_end}
 use Rattle.lay_tree.specs.Ahead.{Tokens}
 use Rattle.lay_tree.specs.nodes.Call.{is_group, about_group, bang, end_form, about_call}
 use Rattle.lay_tree.specs.nodes.Facts.{Front}
-use Rattle.lay_tree.specs.nodes.Path.{path_form, about_path}
+use Rattle.lay_tree.specs.nodes.SimplePath.{simple_path_form, about_simple_path}
 use Rattle.lay_tree.specs.reader.Call.{behind_bang, call, behind_end}
 use Rattle.lay_tree.specs.reader.Exact.{InText, Exact, needless}
 use Rattle.lay_tree.specs.reader.Loops.{Got, ◌>>=◌}
-use Rattle.lay_tree.specs.reader.Path.{path as path_reading}
+use Rattle.lay_tree.specs.reader.SimplePath.{simple_path}
 use Rattle.lay_tree.specs.reader.Tokens.{group}
 use Rattle.lay_tree.specs.tokens.Lists.{group_form}
-use Rattle.lay_tree.specs.declared.path.Path.{Path}
+use Rattle.lay_tree.specs.declared.simple_path.SimplePath.{SimplePath}
 use Rattle.lay_tree.specs.declared.tokens.Group.{Group}
 use Rattle.lay_tree.specs.declared.tokens.MacroCall.{MacroCall}
 use Rattle.lay_tree.proofs.Fronts.{texts_behind, mark_passed, mark_passed_is, other_op}
 use Rattle.lay_tree.proofs.Parts.{bit_alone, bit_piece, piece_bit, before_blank}
 use Rattle.lay_tree.proofs.Steps.{same_some, chosen, bind_some}
 use Rattle.lay_tree.proofs.reader.Exact.{Stands, exact, needless_sound, needless_complete}
-use Rattle.lay_tree.proofs.reader.Path.{path_sound, path_complete}
+use Rattle.lay_tree.proofs.reader.SimplePath.{simple_path_sound, simple_path_complete}
 use Rattle.lay_tree.proofs.reader.Tokens.{group_sound, SpelledGroup, group_complete}
 
 -- ---- groups
@@ -70,17 +70,17 @@ end_read Bracket depth ts rest s = mark_passed (codes ";") ts rest (piece_bit (p
 pub call_sound : (depth : ℕ) (ts : Tokens) (c : MacroCall) (rest : Tokens) → InText ts → call ts ≡ Some (c, rest) → Stands (about_call c) depth ts rest
 unfolding call
 call_sound depth ts c rest t h =
-    let last : Path → (Group × Tokens) → Got MacroCall = λ p g. Some (record { path = p; tokens = g.0 }, g.1) in
-    let b = bind_some (path_reading ts) (λ p. behind_bang p.1 >>= (λ within. group within >>= last p.0)) (c, rest) h in
+    let last : SimplePath → (Group × Tokens) → Got MacroCall = λ p g. Some (record { path = p; tokens = g.0 }, g.1) in
+    let b = bind_some (simple_path ts) (λ p. behind_bang p.1 >>= (λ within. group within >>= last p.0)) (c, rest) h in
     let o = bind_some (behind_bang b.0.1) (λ within. group within >>= last b.0.0) (c, rest) b.2 in
     let g = bind_some (group o.0) (last b.0.0) (c, rest) o.2 in
-    let p = path_sound depth ts b.0.0 b.0.1 t b.1 in
-    let left = texts_behind ts b.0.1 (is_end (path_form b.0.0) depth ts b.0.1 p.0) t in
+    let p = simple_path_sound depth ts b.0.0 b.0.1 t b.1 in
+    let left = texts_behind ts b.0.1 (is_end (simple_path_form b.0.0) depth ts b.0.1 p.0) t in
     let mark = bang_is b.0.1 o.0 o.1 in
     let bits = bang_bits g.0.0.delim b.0.1 o.0 mark in
     let inside = texts_behind b.0.1 o.0 (bits_end (bang g.0.0.delim) b.0.1 o.0 bits) left in
     let s = group_alone depth o.0 g.0.0 g.0.1 inside g.1 in
-    let good = and_from (about_path b.0.0).good (is_group g.0.0) p.1 s.1 in
+    let good = and_from (about_simple_path b.0.0).good (is_group g.0.0) p.1 s.1 in
     let stands : Stands (about_call (record { path = b.0.0; tokens = g.0.0 })) depth ts g.0.1 = ((b.0.1, p.0, (o.0, bits, s.0)), good, refl) in
     same_some (λ (r : MacroCall × Tokens). Stands (about_call r.0) depth ts r.1) (record { path = b.0.0; tokens = g.0.0 }, g.0.1) (c, rest) g.2 stands
   where
@@ -94,8 +94,8 @@ call_sound depth ts c rest t h =
 pub record SpelledCall (c : MacroCall) (depth : ℕ) (ts rest : Tokens) : Type 0 where
   pub mid : Tokens
   pub within : Tokens
-  pub path : Spells (path_form c.path) depth ts mid
-  pub good : (about_path c.path).good ≡ true
+  pub path : Spells (simple_path_form c.path) depth ts mid
+  pub good : (about_simple_path c.path).good ≡ true
   pub mark : IsOperator (codes "!") mid within
   pub group : SpelledGroup c.tokens Done depth within rest
   pub read : call ts ≡ Some (c, rest)
@@ -106,10 +106,10 @@ call_complete c depth ts rest s =
     let spelled = s.0 in
     let mid = spelled.0 in
     let inner = spelled.2 in
-    let goods = and_parts (about_path c.path).good (is_group c.tokens) s.1 in
+    let goods = and_parts (about_simple_path c.path).good (is_group c.tokens) s.1 in
     let o = bang_operator c.tokens.delim mid inner.0 inner.1 in
     let no_colons : is_op (codes "::") mid ≡ false = other_op (codes "!") (codes "::") refl mid o.0 in
-    let p = path_complete c.path depth ts mid (spelled.1, goods.0, rw no_colons refl) in
+    let p = simple_path_complete c.path depth ts mid (spelled.1, goods.0, rw no_colons refl) in
     let g = group_complete c.tokens Done depth inner.0 rest inner.2 goods.1 in
     let read : group inner.0 ≡ Some (c.tokens, rest) = g.read ∙ ap (λ (z : Tokens). let found : Got Group = Some (c.tokens, z) in found) g.after in
     record {

@@ -24,7 +24,7 @@ use Rattle.lay_tree.specs.nodes.Attr.{are_attrs, attr_form, about_attr}
 use Rattle.lay_tree.specs.nodes.Call.{is_group, before_rules, end_form}
 use Rattle.lay_tree.specs.nodes.Facts.{Facts, forms, all_good, Front}
 use Rattle.lay_tree.specs.nodes.Item.{kind_form, about_item, about_kind}
-use Rattle.lay_tree.specs.nodes.Path.{path_form}
+use Rattle.lay_tree.specs.nodes.SimplePath.{simple_path_form}
 use Rattle.lay_tree.specs.nodes.Use.{about_use}
 use Rattle.lay_tree.specs.reader.Attr.{begins_attr, attributes}
 use Rattle.lay_tree.specs.reader.Call.{call, behind_end}
@@ -54,7 +54,7 @@ use Rattle.lay_tree.proofs.reader.Call.{end_read, SpelledCall, call_complete}
 use Rattle.lay_tree.proofs.reader.Exact.{Stands, IsRead, Complete, exact}
 use Rattle.lay_tree.proofs.reader.Item.{item_sound}
 use Rattle.lay_tree.proofs.reader.Needs.{nodes_complete}
-use Rattle.lay_tree.proofs.reader.Path.{PathFront, OfLead, OfWord, OfOne, path_front, path_no_keyword}
+use Rattle.lay_tree.proofs.reader.SimplePath.{SimplePathFront, OfLead, OfWord, OfOne, simple_path_front, simple_path_no_keyword}
 use Rattle.lay_tree.proofs.reader.Tokens.{group_complete}
 use Rattle.lay_tree.proofs.reader.Use.{use_complete}
 use Rattle.lay_tree.proofs.reader.Words.{GoodName, name_complete}
@@ -105,19 +105,19 @@ colons_begin (t ∷ ts) h =
 
 call_begins : (c : MacroCall) (depth : ℕ) (ts rest : Tokens) → SpelledCall c depth ts rest → Begins ts rest
 call_begins c depth ts rest s =
-    let b = by (path_front c.path depth ts s.mid s.good s.path) in (
+    let b = by (simple_path_front c.path depth ts s.mid s.good s.path) in (
       b.0,
       b.1,
       omega (
         arith,
-        shorter (path_form c.path) depth ts s.mid s.path,
+        shorter (simple_path_form c.path) depth ts s.mid s.path,
         op_shorter 33 [] s.mid s.within s.mark,
         s.group.less,
         ap length s.group.after,
       ),
     )
   where
-    by : PathFront ts s.mid → BeginsItem ts × (begins_attr false ts ≡ false)
+    by : SimplePathFront ts s.mid → BeginsItem ts × (begins_attr false ts ≡ false)
     by (OfLead h) = colons_begin ts h
     by (OfWord raw text at o h) = word_begins raw text ts at o
     by (OfOne raw text o) = word_begins raw text ts s.mid o
@@ -197,7 +197,7 @@ name_none (t ∷ ts) h = by t.kind h
 
 -- A macro call begins no declaration of a macro: a group stands behind its `!`.
 no_rules : (c : MacroCall) (depth : ℕ) (ts rest : Tokens) → SpelledCall c depth ts rest → begins_rules ts ≡ false
-no_rules c depth ts rest s = by (path_front c.path depth ts s.mid s.good s.path)
+no_rules c depth ts rest s = by (simple_path_front c.path depth ts s.mid s.good s.path)
   where
     no_mark : (a c : Bool) → a && false && c ≡ false
     no_mark true c = refl
@@ -208,7 +208,7 @@ no_rules c depth ts rest s = by (path_front c.path depth ts s.mid s.good s.path)
     no_name true false = refl
     no_name false b = refl
 
-    by : PathFront ts s.mid → begins_rules ts ≡ false
+    by : SimplePathFront ts s.mid → begins_rules ts ≡ false
     by (OfLead h) = rw (op_front (codes "::") ts h).2 refl
     by (OfWord true text at o h) = rw (one_front RawIdent text ts at o).1 refl
     by (OfWord false text at o h) =
@@ -359,7 +359,7 @@ module _ (within : Tokens → Read Item) (tree : Tokens → Read UseTree) where
             let parts = s.0 in
             let p = call_complete c depth ts parts.0 (parts.1, s.1, refl) in
             let no : (keyword : List ℕ) → is_path_class (class_of keyword) ≡ false → first (is_keyword keyword) ts ≡ false =
-            λ keyword n. path_no_keyword keyword n c.path depth ts p.mid p.good p.path in (
+            λ keyword n. simple_path_no_keyword keyword n c.path depth ts p.mid p.good p.path in (
               0,
               omega arith,
               call_read c ts parts.0 rest (no (codes "struct") refl) (no (codes "mod") refl) (no (codes "use") refl) (no_rules c depth ts parts.0 p) p.read

@@ -17,9 +17,9 @@ use Rattle.lay_tree.specs.declared.item.Item.{Item}
 use Rattle.lay_tree.specs.declared.item.ItemKind.{ItemKind}
 use Rattle.lay_tree.specs.declared.item.ItemKind.TheOpen.{ItemKind-F}
 use Rattle.lay_tree.specs.declared.item.ItemKind.TheVariants as item
+use Rattle.lay_tree.specs.declared.token.GivenName.{GivenName}
 use Rattle.lay_tree.specs.declared.token.Name.{Name}
 use Rattle.lay_tree.specs.declared.token.Word.{Word}
-use Rattle.lay_tree.specs.declared.use_tree.Rename.{Rename}
 use Rattle.lay_tree.specs.declared.use_tree.UseEnd.{UseEnd}
 use Rattle.lay_tree.specs.declared.use_tree.UseEnd.TheOpen.{UseEnd-F}
 use Rattle.lay_tree.specs.declared.use_tree.UseEnd.TheVariants as use_end
@@ -65,7 +65,7 @@ import_of tree = item_of [] (item.Import tree)
 abbrev pub tree_of : Bool → List Word → UseEnd → UseTree
 tree_of global path end = record { global = global; path = path; end = end }
 
-abbrev pub word_of : List ℕ → Option Rename → UseTree
+abbrev pub word_of : List ℕ → Option GivenName → UseTree
 word_of text renamed = tree_of false [] (use_end.Word (plain text) renamed)
 
 -- `a::{one, two}`
@@ -77,7 +77,7 @@ group_of one two = tree_of false (plain a ∷ []) (use_end.Group (word_of one No
 abbrev pub tree_facts_of : Bool → List Word → Facts → Facts
 tree_facts_of global path end = tree_facts (record { global = global; path = path; end = end })
 
-abbrev pub word_facts : List ℕ → Option Rename → Facts
+abbrev pub word_facts : List ℕ → Option GivenName → Facts
 word_facts text renamed = tree_facts_of false [] (end_facts (UseEnd-F.Word (plain text) renamed))
 
 abbrev pub group_facts : List ℕ → List ℕ → Facts
@@ -93,7 +93,7 @@ pub tree_is : (global : Bool) (path : List Word) (end : UseEnd) (F : Facts) → 
     → about_use (tree_of global path end) ≡ tree_facts_of global path F
 tree_is global path end F e = uses.use_is (tree_of global path end) ∙ ap (tree_facts_of global path) e
 
-pub word_is : (text : List ℕ) (renamed : Option Rename) → about_use (word_of text renamed) ≡ word_facts text renamed
+pub word_is : (text : List ℕ) (renamed : Option GivenName) → about_use (word_of text renamed) ≡ word_facts text renamed
 word_is text renamed = tree_is false [] _ _ (uses.word_is (plain text) renamed)
 
 pub group_is : (one two : List ℕ) → about_use (group_of one two) ≡ group_facts one two

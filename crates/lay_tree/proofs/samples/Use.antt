@@ -15,8 +15,8 @@ use Rattle.lay_tree.specs.nodes.Use.{words_form, about_use, about_use_end}
 use Rattle.lay_tree.specs.reader.Loops.{repeat_from, repeat, elements_from, elements}
 use Rattle.lay_tree.specs.reader.Use.{use_at}
 use Rattle.lay_tree.specs.reader.Words.{word as word_reading, path_word, path_words}
+use Rattle.lay_tree.specs.declared.token.GivenName.TheVariants as given_name
 use Rattle.lay_tree.specs.declared.token.Word.{Word}
-use Rattle.lay_tree.specs.declared.use_tree.Rename.TheVariants as rename
 use Rattle.lay_tree.specs.declared.use_tree.UseEnd.{UseEnd}
 use Rattle.lay_tree.specs.declared.use_tree.UseEnd.TheVariants as use_end
 use Rattle.lay_tree.specs.declared.use_tree.UseTree.{UseTree}
@@ -31,11 +31,11 @@ laid_global = rw (tree_is true [] _ _ (uses.word_is (plain a) None)) refl
 laid_path : laid (about_use (tree_of false (plain a ∷ plain b ∷ []) (use_end.Word (plain c) None))) ≡ codes "a::b::c"
 laid_path = rw (tree_is false (plain a ∷ plain b ∷ []) _ _ (uses.word_is (plain c) None)) refl
 
-laid_as : laid (about_use (word_of a (Some (rename.Name (named b))))) ≡ codes "a as b"
-laid_as = rw (word_is a (Some (rename.Name (named b)))) refl
+laid_as : laid (about_use (word_of a (Some (given_name.Name (named b))))) ≡ codes "a as b"
+laid_as = rw (word_is a (Some (given_name.Name (named b)))) refl
 
-laid_as_underscore : laid (about_use (word_of a (Some rename.Underscore))) ≡ codes "a as _"
-laid_as_underscore = rw (word_is a (Some rename.Underscore)) refl
+laid_as_underscore : laid (about_use (word_of a (Some given_name.Underscore))) ≡ codes "a as _"
+laid_as_underscore = rw (word_is a (Some given_name.Underscore)) refl
 
 laid_glob : laid (about_use (tree_of false (plain a ∷ []) use_end.Glob)) ≡ codes "a::*"
 laid_glob = rw (tree_is false (plain a ∷ []) _ _ uses.glob_is) refl
@@ -72,14 +72,14 @@ spelled_path =
     tree_spelled _ _ _ _ _ (uses.word_is (plain b) None)
     (_, (refl, refl, refl), (_, (_, (refl, refl), refl), (_, (_, (refl, refl, refl), refl), refl)))
 
-spelled_as : Spelt (about_use (word_of a (Some (rename.Name (named b))))) (word a ∷ word (codes "as") ∷ word b ∷ [])
+spelled_as : Spelt (about_use (word_of a (Some (given_name.Name (named b))))) (word a ∷ word (codes "as") ∷ word b ∷ [])
 spelled_as =
-    tree_spelled _ _ _ _ _ (uses.word_is (plain a) (Some (rename.Name (named b))))
+    tree_spelled _ _ _ _ _ (uses.word_is (plain a) (Some (given_name.Name (named b))))
     (_, (_, (refl, refl, refl), (_, (_, refl, (_, (refl, refl, refl), (_, refl, refl))), (_, (refl, refl, refl), refl))), refl)
 
-spelled_as_underscore : Spelt (about_use (word_of a (Some rename.Underscore))) (word a ∷ word (codes "as") ∷ token Underscore (codes "_") false ∷ [])
+spelled_as_underscore : Spelt (about_use (word_of a (Some given_name.Underscore))) (word a ∷ word (codes "as") ∷ token Underscore (codes "_") false ∷ [])
 spelled_as_underscore =
-    tree_spelled _ _ _ _ _ (uses.word_is (plain a) (Some rename.Underscore))
+    tree_spelled _ _ _ _ _ (uses.word_is (plain a) (Some given_name.Underscore))
     (_, (_, (refl, refl, refl), (_, (_, refl, (_, (refl, refl, refl), (_, refl, refl))), (_, (refl, refl, refl), refl))), refl)
 
 spelled_glob : Spelt (about_use (tree_of false [] use_end.Glob)) (mark (codes "*") ∷ [])
@@ -128,9 +128,9 @@ a_before_as : follows (word_of a None) as_b ≡ false
 unfolding op_at
 a_before_as = rw (word_is a None) refl
 
-a_as_b_before_as : follows (word_of a (Some (rename.Name (named b)))) as_b ≡ true
+a_as_b_before_as : follows (word_of a (Some (given_name.Name (named b)))) as_b ≡ true
 unfolding op_at
-a_as_b_before_as = rw (word_is a (Some (rename.Name (named b)))) refl
+a_as_b_before_as = rw (word_is a (Some (given_name.Name (named b)))) refl
 
 a_glob_before_as : follows (tree_of false [] use_end.Glob) as_b ≡ true
 unfolding op_at

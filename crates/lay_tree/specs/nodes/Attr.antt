@@ -9,7 +9,7 @@ use Rattle.lay_form.specs.Notation.{H, piece}
 use Rattle.lay_form.specs.Spelled.{attr_opening}
 use Rattle.lay_tree.specs.nodes.Call.{is_group}
 use Rattle.lay_tree.specs.nodes.Facts.{Facts}
-use Rattle.lay_tree.specs.nodes.Path.{is_segments, path_form}
+use Rattle.lay_tree.specs.nodes.SimplePath.{is_simple_path, simple_path_form}
 use Rattle.lay_tree.specs.tokens.Lexed.{is_token_list}
 use Rattle.lay_tree.specs.tokens.Lists.{group_form, token_list}
 use Rattle.lay_tree.specs.tokens.Listing.{is_doc_text, is_line_doc}
@@ -19,7 +19,6 @@ use Rattle.lay_tree.specs.declared.attr.MetaInput.{MetaInput}
 use Rattle.lay_tree.specs.declared.attr.MetaInput.TheVariants as input
 use Rattle.lay_tree.specs.declared.attr.MetaPath.{MetaPath}
 use Rattle.lay_tree.specs.declared.attr.MetaPath.TheVariants as meta_path
-use Rattle.lay_tree.specs.declared.path.Segment.{Segment}
 use Rattle.lay_tree.specs.declared.token.Listed.{Listed}
 use Rattle.lay_tree.specs.declared.token.Listed.TheVariants as listed
 use Rattle.lay_tree.specs.declared.token.Word.{Word}
@@ -38,13 +37,13 @@ string_of _ = None
 abbrev pub is_doc_word : Word → Bool
 is_doc_word word = not word.raw && bytes_eq word.text (codes "doc")
 
-abbrev pub is_doc_segments : List Segment → Bool
-is_doc_segments [] = false
-is_doc_segments (s ∷ []) = is_doc_word s.word
-is_doc_segments (s ∷ t ∷ more) = false
+abbrev pub is_doc_words : List Word → Bool
+is_doc_words [] = false
+is_doc_words (w ∷ []) = is_doc_word w
+is_doc_words (w ∷ v ∷ more) = false
 
 abbrev pub is_doc_path : MetaPath → Bool
-is_doc_path (meta_path.Path path) = not path.global && is_doc_segments path.segments
+is_doc_path (meta_path.Path path) = not path.global && is_doc_words path.words
 is_doc_path meta_path.Unsafe = false
 
 abbrev pub is_doc_input : Bool → MetaInput → Bool
@@ -54,7 +53,7 @@ is_doc_input inner _ = false
 -- ---- which attributes are well formed
 
 abbrev pub is_meta_path : MetaPath → Bool
-is_meta_path (meta_path.Path path) = is_segments path.segments
+is_meta_path (meta_path.Path path) = is_simple_path path
 is_meta_path meta_path.Unsafe = true
 
 abbrev pub is_empty : List Listed → Bool
@@ -83,7 +82,7 @@ are_attrs inner attrs = list_all (is_attr inner) attrs
 -- ---- forms
 
 abbrev pub meta_path_form : MetaPath → Form
-meta_path_form (meta_path.Path path) = path_form path
+meta_path_form (meta_path.Path path) = simple_path_form path
 meta_path_form meta_path.Unsafe = piece (keyword (codes "unsafe") ∷ [])
 
 abbrev pub input_form : MetaInput → Form → Form

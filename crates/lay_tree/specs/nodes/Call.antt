@@ -5,7 +5,7 @@ use Rattle.lay_piece.specs.declared.kind.Delim.TheVariants.{Brace}
 use Rattle.lay_form.specs.Form.{Bit, Blank, Operator, Form, Done, Piece, Part, semicolon}
 use Rattle.lay_form.specs.Notation.{piece}
 use Rattle.lay_tree.specs.nodes.Facts.{Facts}
-use Rattle.lay_tree.specs.nodes.Path.{about_path}
+use Rattle.lay_tree.specs.nodes.SimplePath.{about_simple_path}
 use Rattle.lay_tree.specs.tokens.Lexed.{is_token_list}
 use Rattle.lay_tree.specs.tokens.Lists.{group_form}
 use Rattle.lay_tree.specs.declared.tokens.Group.{Group}
@@ -34,7 +34,7 @@ end_form _ = piece semicolon
 
 abbrev pub call_form : MacroCall → Form
 call_form call =
-    Part (about_path call.path).form (Piece (bang call.tokens.delim) (group_form call.tokens Done))
+    Part (about_simple_path call.path).form (Piece (bang call.tokens.delim) (group_form call.tokens Done))
 
 abbrev pub about_call : MacroCall → Facts
-about_call call = record { form = call_form call; good = (about_path call.path).good && is_group call.tokens; refuses = [] }
+about_call call = record { form = call_form call; good = (about_simple_path call.path).good && is_group call.tokens; refuses = [] }

@@ -7,9 +7,9 @@ use Rattle.lay_form.specs.Notation.{piece, when, comma_list}
 use Rattle.lay_tree.specs.Follow.{Begin, OfRename, OfColons}
 use Rattle.lay_tree.specs.Words.{is_name, is_path_word, are_path_words, leaf_of, colons}
 use Rattle.lay_tree.specs.nodes.Facts.{Facts, forms, all_good}
+use Rattle.lay_tree.specs.declared.token.GivenName.{GivenName}
+use Rattle.lay_tree.specs.declared.token.GivenName.TheVariants as given_name
 use Rattle.lay_tree.specs.declared.token.Word.{Word}
-use Rattle.lay_tree.specs.declared.use_tree.Rename.{Rename}
-use Rattle.lay_tree.specs.declared.use_tree.Rename.TheVariants as rename
 use Rattle.lay_tree.specs.declared.use_tree.UseEnd.{UseEnd}
 use Rattle.lay_tree.specs.declared.use_tree.UseEnd.TheFolds.{fold-UseEnd, fold-UseTree}
 use Rattle.lay_tree.specs.declared.use_tree.UseEnd.TheOpen.{UseEnd-F, UseTree-F}
@@ -17,20 +17,20 @@ use Rattle.lay_tree.specs.declared.use_tree.UseTree.{UseTree}
 
 -- ---- another name
 
-abbrev pub is_rename : Option Rename → Bool
+abbrev pub is_rename : Option GivenName → Bool
 is_rename None = true
-is_rename (Some (rename.Name name)) = is_name name.raw name.text
-is_rename (Some rename.Underscore) = true
+is_rename (Some (given_name.Name name)) = is_name name.raw name.text
+is_rename (Some given_name.Underscore) = true
 
 abbrev pub as_word : Form → Form
 as_word f = Piece (Blank ∷ keyword (codes "as") ∷ Blank ∷ []) f
 
-abbrev pub rename_form : Option Rename → Form
+abbrev pub rename_form : Option GivenName → Form
 rename_form None = Done
-rename_form (Some (rename.Name name)) = as_word (leaf_of name.raw name.text Done)
-rename_form (Some rename.Underscore) = as_word (Leaf Underscore (codes "_") Done)
+rename_form (Some (given_name.Name name)) = as_word (leaf_of name.raw name.text Done)
+rename_form (Some given_name.Underscore) = as_word (Leaf Underscore (codes "_") Done)
 
-abbrev pub refuses_rename : Option Rename → List Begin
+abbrev pub refuses_rename : Option GivenName → List Begin
 refuses_rename None = OfRename ∷ []
 refuses_rename (Some r) = []
 

@@ -9,7 +9,7 @@ use Rattle.lay_token.specs.declared.token.Token.{Token}
 use Rattle.lay_tree.specs.Ahead.{Tokens, first, tail, is_keyword, is_mark, opens, closes}
 use Rattle.lay_tree.specs.nodes.Attr.{is_doc_path, is_empty, same_flag, string_of}
 use Rattle.lay_tree.specs.reader.Loops.{Got, ◌>>=◌, passed, repeat}
-use Rattle.lay_tree.specs.reader.Path.{path}
+use Rattle.lay_tree.specs.reader.SimplePath.{simple_path}
 use Rattle.lay_tree.specs.reader.Tokens.{tokens, group}
 use Rattle.lay_tree.specs.tokens.Listing.{is_doc_text}
 use Rattle.lay_tree.specs.declared.attr.Attr.{Attr}
@@ -25,7 +25,7 @@ begins_group t = is_opener t.kind
 unfoldable pub meta_name : Tokens → Got MetaPath
 meta_name ts =
     if first (is_keyword (codes "unsafe")) ts then Some (meta_path.Unsafe, tail ts)
-    else (do p ← path ts; Some (meta_path.Path p.0, p.1))
+    else (do p ← simple_path ts; Some (meta_path.Path p.0, p.1))
 
 -- a token list of one token at least, behind the `=`
 unfoldable pub value : Tokens → Got MetaInput

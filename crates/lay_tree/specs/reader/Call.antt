@@ -5,7 +5,7 @@ use Rattle.lay_piece.specs.declared.kind.Delim.{Delim}
 use Rattle.lay_piece.specs.declared.kind.Delim.TheVariants.{Brace}
 use Rattle.lay_tree.specs.Ahead.{Tokens, is_mark}
 use Rattle.lay_tree.specs.reader.Loops.{Got, ◌>>=◌, passed}
-use Rattle.lay_tree.specs.reader.Path.{path}
+use Rattle.lay_tree.specs.reader.SimplePath.{simple_path}
 use Rattle.lay_tree.specs.reader.Tokens.{group}
 use Rattle.lay_tree.specs.declared.tokens.MacroCall.{MacroCall}
 
@@ -15,7 +15,7 @@ behind_bang ts = if is_op (codes "!") ts then Some (drop 1 ts) else None
 
 unfoldable pub call : Tokens → Got MacroCall
 call ts = do
-  p ← path ts
+  p ← simple_path ts
   within ← behind_bang p.1
   g ← group within
   Some (record { path = p.0; tokens = g.0 }, g.1)

@@ -1,13 +1,13 @@
 use Rattle.lay_tree.specs.nodes.Attr.{about_attr}
 use Rattle.lay_tree.specs.nodes.Call.{about_group, about_call}
 use Rattle.lay_tree.specs.nodes.Item.{about_item}
-use Rattle.lay_tree.specs.nodes.Path.{about_path}
+use Rattle.lay_tree.specs.nodes.SimplePath.{about_simple_path}
 use Rattle.lay_tree.specs.nodes.Use.{about_use}
 use Rattle.lay_tree.specs.reader.Attr.{attribute}
 use Rattle.lay_tree.specs.reader.Call.{call}
 use Rattle.lay_tree.specs.reader.Exact.{needless}
 use Rattle.lay_tree.specs.reader.Item.{item_at}
-use Rattle.lay_tree.specs.reader.Path.{path}
+use Rattle.lay_tree.specs.reader.SimplePath.{simple_path}
 use Rattle.lay_tree.specs.reader.Tokens.{group}
 use Rattle.lay_tree.specs.reader.Use.{use_at}
 use Rattle.lay_tree.proofs.reader.AttrRead.{attrs_exact}
@@ -15,13 +15,13 @@ use Rattle.lay_tree.proofs.reader.Call.{groups, calls}
 use Rattle.lay_tree.proofs.reader.Exact.{one_at_most}
 use Rattle.lay_tree.proofs.reader.File.{one_file}
 use Rattle.lay_tree.proofs.reader.ItemRead.{items_exact}
-use Rattle.lay_tree.proofs.reader.Path.{paths}
+use Rattle.lay_tree.proofs.reader.SimplePath.{simple_paths}
 use Rattle.lay_tree.proofs.reader.Use.{use_trees}
 use Rattle.lay_tree.proofs.laws.node_law.Goals as goal
 
 pub returns : goal.returns
 returns c = record {
-  one_path = one_at_most about_path (needless path) paths;
+  one_simple_path = one_at_most about_simple_path (needless simple_path) simple_paths;
   one_group = one_at_most about_group (needless group) groups;
   one_call = one_at_most about_call (needless call) calls;
   one_attr = λ node other inner. one_at_most (about_attr inner) (needless (attribute inner)) (attrs_exact inner) node other;
