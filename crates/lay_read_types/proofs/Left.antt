@@ -14,7 +14,7 @@ use Rattle.lay_tree.specs.nodes.Attr.{is_empty}
 use Rattle.lay_tree.specs.reader.Attr.{begins_group, meta_name, value, meta_input, behind_opening, meta_attr, doc_attr, is_doc, attribute, begins_attr, attributes}
 use Rattle.lay_tree.specs.reader.Call.{behind_bang, call, behind_end}
 use Rattle.lay_tree.specs.reader.Loops.{Got, ◌>>=◌, passed, element_end, repeat_from, repeat, elements_from, elements}
-use Rattle.lay_tree.specs.reader.Path.{segment, begins_colons, further_segment, path}
+use Rattle.lay_tree.specs.reader.SimplePath.{begins_colons, further_word, simple_path}
 use Rattle.lay_tree.specs.reader.Tokens.{run, tokens, group}
 use Rattle.lay_tree.specs.reader.Words.{name_by, name, word_by, word, global, path_word, begins_path_word, path_words}
 use Rattle.lay_tree.specs.tokens.Lexed.{may_be_laid}
@@ -188,21 +188,17 @@ pub path_words_left : (ts : Tokens) → Leaves 0 ts (path_words ts)
 unfolding path_words
 path_words_left ts = repeat_left path_word path_word_left begins_path_word ts
 
--- ---- paths
+-- ---- simple paths
 
-segment_left : (ts : Tokens) → Leaves 1 ts (segment ts)
-unfolding segment
-segment_left ts = chain 1 1 0 ts (word ts) _ (omega arith) (word_left ts) (λ w. unread w.1)
+pub further_word_left : (ts : Tokens) → Leaves 1 ts (further_word ts)
+further_word_left ts = further 1 0 1 ts (drop 2 ts) _ (omega arith) (dropped 2 ts) (word_left (drop 2 ts))
 
-pub further_segment_left : (ts : Tokens) → Leaves 1 ts (further_segment ts)
-further_segment_left ts = further 1 0 1 ts (drop 2 ts) _ (omega arith) (dropped 2 ts) (segment_left (drop 2 ts))
-
-pub path_left : (ts : Tokens) → Leaves 1 ts (path ts)
-unfolding path
-path_left ts = further 1 0 1 ts (global ts).1 _ (omega arith) (global_left ts)
-    (chain 1 1 0 (global ts).1 (segment (global ts).1) _ (omega arith) (segment_left (global ts).1)
-    (λ s. chain 0 0 0 s.1 (repeat begins_colons further_segment s.1) _ (omega arith)
-    (repeat_left further_segment further_segment_left begins_colons s.1) (λ more. unread more.1)))
+pub simple_path_left : (ts : Tokens) → Leaves 1 ts (simple_path ts)
+unfolding simple_path
+simple_path_left ts = further 1 0 1 ts (global ts).1 _ (omega arith) (global_left ts)
+    (chain 1 1 0 (global ts).1 (word (global ts).1) _ (omega arith) (word_left (global ts).1)
+    (λ w. chain 0 0 0 w.1 (repeat begins_colons further_word w.1) _ (omega arith)
+    (repeat_left further_word further_word_left begins_colons w.1) (λ more. unread more.1)))
 
 -- ---- token lists, groups and macro calls
 
@@ -242,7 +238,7 @@ bang_left ts = by_test (is_op (codes "!") ts)
 
 pub call_left : (ts : Tokens) → Leaves 1 ts (call ts)
 unfolding call
-call_left ts = chain 1 1 0 ts (path ts) _ (omega arith) (path_left ts)
+call_left ts = chain 1 1 0 ts (simple_path ts) _ (omega arith) (simple_path_left ts)
     (λ p. chain_passed 0 0 0 p.1 (behind_bang p.1) _ (omega arith) (bang_left p.1)
     (λ within. chain 0 1 0 within (group within) _ (omega arith) (group_left within) (λ g. unread g.1)))
 
@@ -256,7 +252,7 @@ pub meta_name_left : (ts : Tokens) → Leaves 1 ts (meta_name ts)
 unfolding meta_name
 meta_name_left ts = choice 1 ts (first (is_keyword (codes "unsafe")) ts) _ _
     (λ h. first_read (is_keyword (codes "unsafe")) ts h)
-    (chain 1 1 0 ts (path ts) _ (omega arith) (path_left ts) (λ p. unread p.1))
+    (chain 1 1 0 ts (simple_path ts) _ (omega arith) (simple_path_left ts) (λ p. unread p.1))
 
 value_left : (ts : Tokens) → Leaves 0 ts (value ts)
 unfolding value

@@ -22,7 +22,6 @@ use Rattle.lay_tree.specs.declared.attr.Attr.TheVariants as attr
 use Rattle.lay_tree.specs.declared.attr.MetaInput.{MetaInput}
 use Rattle.lay_tree.specs.declared.attr.MetaInput.TheVariants as input
 use Rattle.lay_tree.specs.declared.attr.MetaPath.{MetaPath}
-use Rattle.lay_tree.specs.declared.path.Segment.{Segment}
 use Rattle.lay_tree.specs.declared.token.Listed.{Listed}
 use Rattle.lay_tree.specs.declared.token.Name.{Name}
 use Rattle.lay_tree.specs.declared.token.Word.{Word}
@@ -70,9 +69,9 @@ IsMade value (Err NoMemory) = Unit {0}
 abbrev pub IsCopy : List ℕ → Result (List ℕ) ReadNone → Type 0
 IsCopy text answer = IsMade text answer
 
--- The segments are the first one and the others.
-abbrev pub BeginWith : Segment → List Segment → List Segment → Type 0
-BeginWith first others segments = segments ≡ first ∷ others
+-- The words are the first one and the others.
+abbrev pub BeginWith : Word → List Word → List Word → Type 0
+BeginWith first others words = words ≡ first ∷ others
 
 abbrev pub named : List ℕ → Bool → Name
 named text raw = record { raw = raw; text = text }

@@ -16,7 +16,7 @@ use crate::front::{
     is_at_closer, is_at_mark, is_at_opener, pass, pass_two, takes_closer, takes_keyword,
     takes_mark, takes_op, takes_opener,
 };
-use crate::paths::read_path;
+use crate::simple_paths::read_simple_path;
 use crate::stop::{ReadNone, copy_of, keep};
 use crate::tokens::{is_doc_text, read_group, read_tokens};
 use lay_cook::{Cooked, cook};
@@ -157,7 +157,7 @@ fn read_meta_path(alloc: Global, at: &mut Cursor<'_>) -> Result<MetaPath, ReadNo
     if takes_keyword(at, b"unsafe") {
         return Ok(MetaPath::Unsafe);
     }
-    let path = read_path(alloc, at)?;
+    let path = read_simple_path(alloc, at)?;
     Ok(MetaPath::Path(path))
 }
 
@@ -307,12 +307,8 @@ fn is_doc_path(path: &MetaPath) -> bool
     ensures { result ≡ is_doc_path path.now }
 {
     match path {
-        MetaPath::Path(path) => match path.segments.as_slice() {
-            [segment] => {
-                !path.global
-                    && !segment.word.raw
-                    && segment.word.text.as_bytes() == b"doc".as_slice()
-            }
+        MetaPath::Path(path) => match path.words.as_slice() {
+            [word] => !path.global && !word.raw && word.text.as_bytes() == b"doc".as_slice(),
             _ => false,
         },
         MetaPath::Unsafe => false,

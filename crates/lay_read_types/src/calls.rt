@@ -7,7 +7,7 @@ ghost use Rattle.lay_tree.specs.declared.tokens.MacroCall.{MacroCall};
 ghost use Rattle.lay_read_types.specs.Answers.{AreLexed, IsGot, IsRead};
 
 use crate::front::{takes_mark, takes_op};
-use crate::paths::read_path;
+use crate::simple_paths::read_simple_path;
 use crate::stop::ReadNone;
 use crate::tokens::read_group;
 use lay_nest::Cursor;
@@ -32,7 +32,7 @@ pub fn read_call(alloc: Global, at: &mut Cursor<'_>) -> Result<MacroCall, ReadNo
 fn call_ahead(alloc: Global, at: &mut Cursor<'_>) -> Result<MacroCall, ReadNone>
     ensures { IsGot (reader.call at.old) result at.new }
 {
-    let path = read_path(alloc, at)?;
+    let path = read_simple_path(alloc, at)?;
     if !takes_op(at, b"!") {
         return Err(ReadNone::NoReading);
     }

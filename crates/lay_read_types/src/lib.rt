@@ -1,4 +1,5 @@
-//! From nested tokens to what all nodes are made of: names, paths, token lists, macro calls and attributes.
+//! From nested tokens to what all nodes are made of: names, simple paths, token lists, macro calls and
+//! attributes.
 //!
 //! Each reader is proved equal to a function of the tokens ahead that `lay_tree` defines, and that function reads what
 //! is spelled and nothing else. Where a reader reads none, [`ReadNone`] says why.
@@ -8,7 +9,7 @@ pub mod attributes;
 pub mod calls;
 pub mod front;
 pub mod names;
-pub mod paths;
+pub mod simple_paths;
 pub mod stop;
 pub mod tokens;
 
