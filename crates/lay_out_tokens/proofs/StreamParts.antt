@@ -23,7 +23,7 @@ use Rattle.lay_form.proofs.StreamLaws.{laid_fed, stream_is}
 use Rattle.lay_tree.specs.Words.{colons, leaf_of}
 use Rattle.lay_tree.specs.nodes.Attr.{attr_form, attr_part, behind_attr, is_inner, is_line, input_form, meta_path_form}
 use Rattle.lay_tree.specs.nodes.Call.{bang, call_form}
-use Rattle.lay_tree.specs.nodes.Path.{path_form, segment_form, segments_form}
+use Rattle.lay_tree.specs.nodes.SimplePath.{simple_path_form, simple_words_form}
 use Rattle.lay_tree.specs.tokens.Lists.{enclosed_form, ended_by, ends_in_line, form_of_grouping, group_form, token_list}
 use Rattle.lay_tree.specs.tokens.Listing.{Grouping, NoMore, in_groups}
 use Rattle.lay_tree.specs.tokens.Pairs.{at_start}
@@ -32,14 +32,14 @@ use Rattle.lay_tree.specs.declared.attr.Attr.TheVariants as attr
 use Rattle.lay_tree.specs.declared.attr.MetaInput.{MetaInput}
 use Rattle.lay_tree.specs.declared.attr.MetaInput.TheVariants as input
 use Rattle.lay_tree.specs.declared.attr.MetaPath.{MetaPath}
-use Rattle.lay_tree.specs.declared.path.Path.{Path}
-use Rattle.lay_tree.specs.declared.path.Segment.{Segment}
+use Rattle.lay_tree.specs.declared.simple_path.SimplePath.{SimplePath}
 use Rattle.lay_tree.specs.declared.token.Listed.{Listed}
+use Rattle.lay_tree.specs.declared.token.Word.{Word}
 use Rattle.lay_tree.specs.declared.tokens.Group.{Group}
 use Rattle.lay_tree.specs.declared.tokens.MacroCall.{MacroCall}
 use Rattle.lay_out_tokens.specs.Fed as feeds
 use Rattle.lay_out_tokens.specs.Fed.{opening_space, closing_space}
-use Rattle.lay_out_tokens.specs.Parts.{further_segments}
+use Rattle.lay_out_tokens.specs.Parts.{further_words}
 
 -- ---- forms in general
 
@@ -105,37 +105,38 @@ pub line_parts : (inner : Bool) (word : List ℕ)
 line_parts true word = refl
 line_parts false word = refl
 
--- ---- paths and attributes
+-- ---- simple paths and attributes
 
 pub when_more : (global : Bool) (f : Form)
     → stream_of (when global colons Done) ++ stream_of f ≡ stream_of (when global colons f)
 when_more true f = refl
 when_more false f = refl
 
-pub path_parts : (path : Path) (put : List Segment) → put ≡ path.segments
-    → stream_of (when path.global colons Done) ++ stream_of (segments_form put Done) ≡ stream_of (path_form path)
-path_parts path put same = rw same (when_more path.global (segments_form path.segments Done))
+pub simple_path_parts : (path : SimplePath) (put : List Word) → put ≡ path.words
+    → stream_of (when path.global colons Done) ++ stream_of (simple_words_form put Done)
+    ≡ stream_of (simple_path_form path)
+simple_path_parts path put same = rw same (when_more path.global (simple_words_form path.words Done))
 
-joined : (s : Segment) (more : List Segment) → segment_form s (further_segments more) ≡ segments_form (s ∷ more) Done
-joined s [] = refl
-joined s (t ∷ more) = ap (λ (f : Form). segment_form s (Piece colons f)) (joined t more)
+joined : (w : Word) (more : List Word) → leaf_of w.raw w.text (further_words more) ≡ simple_words_form (w ∷ more) Done
+joined w [] = refl
+joined w (v ∷ more) = ap (λ (f : Form). leaf_of w.raw w.text (Piece colons f)) (joined v more)
 
-pub no_segments : (ss : List Segment) → length ss < 1 → [] ≡ stream_of (segments_form ss Done)
-no_segments [] h = refl
-no_segments (s ∷ ss) h = absurd (omega arith)
+pub no_words : (ws : List Word) → length ws < 1 → [] ≡ stream_of (simple_words_form ws Done)
+no_words [] h = refl
+no_words (w ∷ ws) h = absurd (omega arith)
 
-pub some_segments : (ss : List Segment) (first : Segment) → 1 ≤ length ss → first ≡ get_or ss 0 first
-    → stream_of (segment_form first (further_segments (take (length ss - 1) (drop 1 ss))))
-    ≡ stream_of (segments_form ss Done)
-some_segments ss first h is =
-    ap stream_of (joined first (take (length ss - 1) (drop 1 ss)))
-    ∙ ap (λ (xs : List Segment). stream_of (segments_form xs Done)) (first_and_rest ss first h is)
+pub some_words : (ws : List Word) (first : Word) → 1 ≤ length ws → first ≡ get_or ws 0 first
+    → stream_of (leaf_of first.raw first.text (further_words (take (length ws - 1) (drop 1 ws))))
+    ≡ stream_of (simple_words_form ws Done)
+some_words ws first h is =
+    ap stream_of (joined first (take (length ws - 1) (drop 1 ws)))
+    ∙ ap (λ (xs : List Word). stream_of (simple_words_form xs Done)) (first_and_rest ws first h is)
 
-pub further_segment : (s : Segment) (more : List Segment)
-    → tok.Text (codes "::") ∷ (stream_of (leaf_of s.word.raw s.word.text Done) ++ stream_of (further_segments more))
-    ≡ stream_of (further_segments (s ∷ more))
-further_segment s more =
-    ap (λ (l : List Tok). tok.Text (codes "::") ∷ l) (leaf_more s.word.raw s.word.text (further_segments more))
+pub further_word : (w : Word) (more : List Word)
+    → tok.Text (codes "::") ∷ (stream_of (leaf_of w.raw w.text Done) ++ stream_of (further_words more))
+    ≡ stream_of (further_words (w ∷ more))
+further_word w more =
+    ap (λ (l : List Tok). tok.Text (codes "::") ∷ l) (leaf_more w.raw w.text (further_words more))
 
 bracket : (point : Bool) (more : List Tok) → tok.Text (codes "]") ∷ more ≡ fed point (piece (closer Bracket ∷ [])) more
 bracket true more = refl
@@ -208,13 +209,13 @@ bang_more Bracket g point = refl
 bang_more Brace g point = refl
 
 pub call_parts : (call : MacroCall)
-    → stream_of (path_form call.path)
+    → stream_of (simple_path_form call.path)
     ++ (tok.Text (text_of_bits (bang call.tokens.delim)) ∷ stream_of (group_form call.tokens Done))
     ≡ stream_of (call_form call)
 call_parts call =
-    let point = ends_behind_point false (path_form call.path) in
-    ap (λ (s : List Tok). stream_of (path_form call.path) ++ s) (bang_more call.tokens.delim call.tokens point)
-    ∙ sym (fed_more false (path_form call.path)
+    let point = ends_behind_point false (simple_path_form call.path) in
+    ap (λ (s : List Tok). stream_of (simple_path_form call.path) ++ s) (bang_more call.tokens.delim call.tokens point)
+    ∙ sym (fed_more false (simple_path_form call.path)
     (fed point (Piece (bang call.tokens.delim) (group_form call.tokens Done)) []))
 
 -- ---- groups of token lists

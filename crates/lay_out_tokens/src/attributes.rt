@@ -10,7 +10,7 @@ ghost use Rattle.lay_tree.specs.declared.attr.Attr.TheVariants as attr;
 ghost use Rattle.lay_tree.specs.declared.attr.MetaInput.TheVariants as input;
 
 use crate::notation::HARD_BREAK;
-use crate::paths::put_path;
+use crate::simple_paths::put_simple_path;
 use crate::tokens::{put_group, put_tokens};
 use crate::words::{is_block, put_doc, put_either};
 use lay_stream::Emit;
@@ -88,7 +88,7 @@ fn put_meta_path<E: Emit>(out: &mut E, path: &MetaPath) -> Result<(), E::Fault>
     ensures { Did E.meanings out.old (stream_of (meta_path_form path.now)) result out.new }
 {
     match path {
-        MetaPath::Path(path) => put_path(out, path),
+        MetaPath::Path(path) => put_simple_path(out, path),
         MetaPath::Unsafe => out.text(b"unsafe"),
     }
 }

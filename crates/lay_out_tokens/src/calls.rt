@@ -6,7 +6,7 @@ ghost use Rattle.lay_form.specs.Layout.{text_of_bits};
 ghost use Rattle.lay_form.specs.Stream.{stream_of};
 ghost use Rattle.lay_tree.specs.nodes.Call.{bang, call_form};
 
-use crate::paths::put_path;
+use crate::simple_paths::put_simple_path;
 use crate::tokens::put_group;
 use lay_stream::Emit;
 use lay_token::Delim;
@@ -16,7 +16,7 @@ use lay_tree::MacroCall;
 pub fn put_call<E: Emit>(out: &mut E, call: &MacroCall) -> Result<(), E::Fault>
     ensures { Did E.meanings out.old (stream_of (call_form call.now)) result out.new }
 {
-    put_path(out, &call.path)?;
+    put_simple_path(out, &call.path)?;
     put_bang(out, call.tokens.delim)?;
     put_group(out, &call.tokens)
 }

@@ -9,14 +9,14 @@ mod attributes;
 mod calls;
 mod neighbours;
 pub mod notation;
-mod paths;
 mod separation;
+mod simple_paths;
 mod tokens;
 mod words;
 
 pub use attributes::{put_attr, put_bare_attr};
 pub use calls::put_call;
 pub use notation::HARD_BREAK;
-pub use paths::put_global;
+pub use simple_paths::put_global;
 pub use tokens::{put_group, put_tokens};
 pub use words::put_word;
