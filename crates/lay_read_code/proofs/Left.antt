@@ -15,8 +15,8 @@ use Rattle.lay_tree.specs.reader.Tokens.{group}
 use Rattle.lay_tree.specs.reader.Use.{other_name, renamed, use_word, use_group, use_end_by, ended, use_by, use_at}
 use Rattle.lay_tree.specs.reader.Words.{name_by, name, word, global, path_words}
 use Rattle.lay_tree.specs.declared.item.Item.{Item}
+use Rattle.lay_tree.specs.declared.token.GivenName.TheVariants as given_name
 use Rattle.lay_tree.specs.declared.token.Name.{Name}
-use Rattle.lay_tree.specs.declared.use_tree.Rename.TheVariants as rename
 use Rattle.lay_tree.specs.declared.use_tree.UseTree.{UseTree}
 use Rattle.lay_read_types.proofs.Left.{Leaves, unread, dropped, one_read, further, chain, chain_passed, choice, first_read, passed_left, op_read, global_left, repeat_left, elements_left, name_left, word_left, path_words_left, group_left, call_left, end_left, attributes_left}
 
@@ -28,7 +28,7 @@ unfolding other_name
 other_kind_left Underscore t ts = one_read (record t { kind = Underscore }) ts
 other_kind_left kind t ts = by_name (name_by kind t.text)
   where
-    by_name : (o : Option Name) → Leaves 1 (record t { kind = kind } ∷ ts) (o >>= (λ n. Some (rename.Name n, ts)))
+    by_name : (o : Option Name) → Leaves 1 (record t { kind = kind } ∷ ts) (o >>= (λ n. Some (given_name.Name n, ts)))
     by_name None = tt
     by_name (Some n) = one_read (record t { kind = kind }) ts
 

@@ -14,7 +14,7 @@ use lay_read_types::front::{
 use lay_read_types::names::{read_name, read_path_words, read_word};
 use lay_read_types::stop::keep;
 use lay_token::{Delim, List};
-use lay_tree::{Rename, UseEnd, UseTree};
+use lay_tree::{GivenName, UseEnd, UseTree};
 use std::alloc::Global;
 
 /// A use tree, within a depth.
@@ -98,7 +98,7 @@ fn read_use_word(alloc: Global, at: &mut Cursor<'_>) -> Result<Found<UseEnd>, Re
 
 /// What follows a word: `as` and another name, or nothing of a use tree.
 #[tactic(auto, unfolding(lay_tree::specs::reader::Use::renamed))]
-fn read_rename(alloc: Global, at: &mut Cursor<'_>) -> Result<Option<Rename>, ReadNone>
+fn read_rename(alloc: Global, at: &mut Cursor<'_>) -> Result<Option<GivenName>, ReadNone>
     ensures { IsGot (reader.renamed at.old) result at.new }
 {
     if !takes_keyword(at, b"as") {
@@ -109,12 +109,12 @@ fn read_rename(alloc: Global, at: &mut Cursor<'_>) -> Result<Option<Rename>, Rea
 }
 
 /// A name, or `_`.
-fn read_other_name(alloc: Global, at: &mut Cursor<'_>) -> Result<Rename, ReadNone>
+fn read_other_name(alloc: Global, at: &mut Cursor<'_>) -> Result<GivenName, ReadNone>
     ensures { IsGot (reader.other_name at.old) result at.new }
 {
     if takes_underscore(at) {
-        return Ok(Rename::Underscore);
+        return Ok(GivenName::Underscore);
     }
     let name = read_name(alloc, at)?;
-    Ok(Rename::Name(name))
+    Ok(GivenName::Name(name))
 }
