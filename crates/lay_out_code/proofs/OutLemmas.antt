@@ -20,11 +20,11 @@ use Rattle.lay_tree.specs.declared.attr.Attr.{Attr}
 use Rattle.lay_tree.specs.declared.item.Item.{Item}
 use Rattle.lay_tree.specs.declared.item.ItemKind.{ItemKind}
 use Rattle.lay_tree.specs.declared.item.ItemKind.TheVariants as item
+use Rattle.lay_tree.specs.declared.token.GivenName.{GivenName}
 use Rattle.lay_tree.specs.declared.token.Name.{Name}
 use Rattle.lay_tree.specs.declared.token.Word.{Word}
 use Rattle.lay_tree.specs.declared.tokens.Group.{Group}
 use Rattle.lay_tree.specs.declared.tokens.MacroCall.{MacroCall}
-use Rattle.lay_tree.specs.declared.use_tree.Rename.{Rename}
 use Rattle.lay_tree.specs.declared.use_tree.UseEnd.{UseEnd}
 use Rattle.lay_tree.specs.declared.use_tree.UseEnd.TheVariants as use_end
 use Rattle.lay_tree.specs.declared.use_tree.UseTree.{UseTree}
@@ -66,7 +66,7 @@ use_parts tree put same =
     ∙ when_more tree.global (words_form tree.path end)
     ∙ sym (same_stream (use_is tree))
 
-pub word_end : (e : UseEnd) (word : Word) (renamed : Option Rename) → e ≡ use_end.Word word renamed
+pub word_end : (e : UseEnd) (word : Word) (renamed : Option GivenName) → e ≡ use_end.Word word renamed
     → stream_of (leaf_of word.raw word.text (rename_form renamed)) ≡ stream_of (about_use_end e).form
 word_end e word renamed is =
     sym (ap (λ (x : UseEnd). stream_of (about_use_end x).form) is ∙ same_stream (word_is word renamed))

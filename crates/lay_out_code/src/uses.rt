@@ -12,7 +12,7 @@ ghost use Rattle.lay_tree.specs.nodes.Use.{about_use, about_use_end, rename_form
 use lay_out_tokens::notation::{SPACE_BREAK, close_list, open_list};
 use lay_out_tokens::{put_global, put_word};
 use lay_stream::Emit;
-use lay_tree::{Name, Rename, UseEnd, UseTree, Word};
+use lay_tree::{GivenName, Name, UseEnd, UseTree, Word};
 
 /// Feeds the layout of a use tree.
 #[cycle(put_use)]
@@ -69,7 +69,11 @@ fn put_words<E: Emit>(out: &mut E, words: &[Word]) -> Result<(), E::Fault>
 }
 
 /// A word, and the name that it is given.
-fn put_renamed<E: Emit>(out: &mut E, word: &Word, rename: &Option<Rename>) -> Result<(), E::Fault>
+fn put_renamed<E: Emit>(
+    out: &mut E,
+    word: &Word,
+    rename: &Option<GivenName>,
+) -> Result<(), E::Fault>
     ensures { Did E.meanings out.old
         (stream_of (leaf_of word.now.raw word.now.text (rename_form rename.now))) result out.new }
 {
@@ -78,7 +82,7 @@ fn put_renamed<E: Emit>(out: &mut E, word: &Word, rename: &Option<Rename>) -> Re
 }
 
 /// Another name, behind its `as`.
-fn put_rename<E: Emit>(out: &mut E, rename: &Option<Rename>) -> Result<(), E::Fault>
+fn put_rename<E: Emit>(out: &mut E, rename: &Option<GivenName>) -> Result<(), E::Fault>
     ensures { Did E.meanings out.old (stream_of (rename_form rename.now)) result out.new }
 {
     match rename {
@@ -88,12 +92,12 @@ fn put_rename<E: Emit>(out: &mut E, rename: &Option<Rename>) -> Result<(), E::Fa
 }
 
 /// Another name, or none.
-fn put_new_name<E: Emit>(out: &mut E, rename: &Rename) -> Result<(), E::Fault>
+fn put_new_name<E: Emit>(out: &mut E, rename: &GivenName) -> Result<(), E::Fault>
     ensures { Did E.meanings out.old (stream_of (rename_form (Some rename.now))) result out.new }
 {
     match rename {
-        Rename::Underscore => put_as_nothing(out),
-        Rename::Name(name) => put_as(out, name),
+        GivenName::Underscore => put_as_nothing(out),
+        GivenName::Name(name) => put_as(out, name),
     }
 }
 
