@@ -1,0 +1,28 @@
+-- The command, as `clap` reads it, and what `clap` makes of words.
+use Rattle.std.specs.Prelude.{ℕ, ◌≡◌, ◌≢◌, true, List, [], Option, Some, None, codes}
+use Rattle.clap.specs.Words.{App, Rule, new_app, new_rule, with_rule, fault_of, found_of, matches_of, rows_of}
+use Rattle.clap.specs.Simple.{on_top}
+use Rattle.clap.specs.declared.builder.action.ArgAction.TheVariants.{SetTrue}
+use Rattle.clap.specs.declared.parser.matches.ArgMatches.{ArgMatches}
+
+-- the flag `--check`
+abbrev pub check_rule : Rule
+check_rule = record (new_rule (codes "check")) { long = Some (codes "check"); action = Some SetTrue }
+
+-- one FILE, which may be left out
+abbrev pub file_rule : Rule
+file_rule = new_rule (codes "file")
+
+-- a command whose words don't begin with the program's name
+abbrev pub bare : App
+bare = on_top (λ top. record top { no_binary_name = true }) (new_app (codes "lay_fmt"))
+
+-- `[--check] [FILE]`, and the help that `clap` adds
+abbrev pub command : App
+command = with_rule (with_rule bare check_rule) file_rule
+
+-- The matches are those of the words, or none where there is a fault in the words.
+abbrev pub Matched : List (List ℕ) → Option ArgMatches → Type 0
+Matched words (Some matches) =
+    (fault_of command words ≡ []) × (rows_of (found_of matches) ≡ matches_of command words)
+Matched words None = fault_of command words ≢ []

@@ -1,0 +1,36 @@
+//! The command, as `clap` reads it.
+ghost use Rattle.std.specs.Prelude.{◌≡◌, IfOk, map};
+ghost use Rattle.clap.specs.Words.{app_of};
+ghost use Rattle.lay_line.specs.Command.{Matched, command as the_command};
+
+use clap::error::ErrorKind;
+use clap::{Arg, ArgAction, ArgMatches, Command};
+use lay_text::NoMemory;
+use std::alloc::{AllocError, Global};
+
+/// The matches that `clap` has for the words, or none where it finds a fault in them: a word that is no part of the
+/// command, or one that asks for help.
+pub fn matches<'a>(alloc: Global, words: &'a [&'a str]) -> Result<Option<ArgMatches<'a>>, NoMemory>
+    ensures { IfOk result (Matched (map (λ word. word.now) words.entry.now)) }
+{
+    let command: Command<'a> = command(alloc)?;
+    match command.try_get_matches_from(words) {
+        Ok(matches) => Ok(Some(matches)),
+        Err(error) => match error.kind() {
+            ErrorKind::OutOfMemory => Err(NoMemory),
+            _ => Ok(None),
+        },
+    }
+}
+
+/// The flag `--check` and one optional file, of words that don't begin with the program's name.
+fn command<'a>(alloc: Global) -> Result<Command<'a>, AllocError>
+    ensures { IfOk result (λ command. app_of command ≡ the_command) }
+{
+    let check = Arg::new(alloc, "check")
+        .long("check")
+        .action(ArgAction::SetTrue);
+    let file = Arg::new(alloc, "file");
+    let bare = Command::new(alloc, "lay_fmt").no_binary_name(true);
+    bare.arg(check)?.arg(file)
+}
