@@ -1,5 +1,5 @@
-//! The tests of the public calls that read: texts, inputs and sinks, tokens, delimiters, strings, trees, and the top call.
-//! Those of the calls that print stand in lay_checks_print.
+//! The tests of the public calls that read: texts, inputs and sinks, tokens, delimiters, strings, trees, the command's
+//! words, and the top call. Those of the calls that print stand in lay_checks_print.
 //!
 //! They stand here, and not beside what they test, so that no crate below is proved twice. A test holds what no clause
 //! says: rows worked out by hand from the rules, printed texts, boundary rows, reads and writes that fail, and each call
@@ -15,6 +15,8 @@ mod cook;
 mod front;
 #[cfg(test)]
 mod lex;
+#[cfg(test)]
+mod line;
 #[cfg(test)]
 mod nest;
 #[cfg(test)]

@@ -1,0 +1,94 @@
+//! Words and what they ask for, worked out by hand from what `clap` documents.
+use lay_given::{BETWEEN, parts};
+use lay_io::Which;
+use lay_line::{Line, line};
+use lay_token::{NoMemory, Text};
+use std::alloc::Global;
+use std::process::Abort;
+
+/// The line that the words of a row make, with a blank between two words. An empty row has none.
+fn line_of(alloc: Global, row: &[u8]) -> Result<Line, NoMemory> {
+    let mut words = Vec::new(alloc);
+    if !row.is_empty() {
+        for word in row.split(|byte| *byte == b' ') {
+            words.push(Text::from_bytes(alloc, word)?)?;
+        }
+    }
+    line(alloc, words.as_slice())
+}
+
+/// Whether the input is the file of this name, or standard input where there is none.
+fn is_input(input: &Which, name: Option<&str>) -> bool {
+    match (input, name) {
+        (Which::Stdin, None) => true,
+        (Which::File(file), Some(name)) => file.as_bytes() == name.as_bytes(),
+        _ => false,
+    }
+}
+
+/// Whether the line asks for this, which stands before the name of its file.
+fn asks(line: &Line, wanted: &str) -> bool {
+    let (mode, name) = match wanted.split_once(' ') {
+        Some((mode, name)) => (mode, Some(name)),
+        None => (wanted, None),
+    };
+    match line {
+        Line::Usage => mode == "usage",
+        Line::Format(input) => mode == "format" && is_input(input, name),
+        Line::Check(input) => mode == "check" && is_input(input, name),
+    }
+}
+
+/// The words of a row ask for this.
+fn row_asks(rt: &impl Abort, alloc: Global, row: &[u8], wanted: &str) {
+    match line_of(alloc, row) {
+        Ok(line) => assert!(rt; asks(&line, wanted), "{row:?} {wanted}"),
+        Err(NoMemory) => assert!(rt; false, "{row:?}"),
+    }
+}
+
+#[test]
+fn lines(rt: HostRuntime) {
+    let rows = "→format§\
+        --check→check§\
+        a→format a§\
+        --check a→check a§\
+        a --check→check a§\
+        --→format§\
+        --check --→check§\
+        -- --check→format --check§\
+        --check -- --check→check --check§\
+        -- -x→format -x§\
+        -- --→format --§\
+        -- →format §\
+        -→format -§\
+        --check -→check -§\
+        help→format help§\
+        a=b→format a=b§\
+        a b→usage§\
+        -- a b→usage§\
+        a --check b→usage§\
+        --check --check→usage§\
+        --check=1→usage§\
+        --check=→usage§\
+        --chec→usage§\
+        --checks→usage§\
+        ---check→usage§\
+        -check→usage§\
+        -c→usage§\
+        -x→usage§\
+        a -x→usage§\
+        --help→usage§\
+        a --help→usage§\
+        -h→usage§\
+        --version→usage§\
+        -V→usage§\
+        --sample 1 --items 1→usage";
+    for row in rows.split(BETWEEN) {
+        let (words, wanted) = parts(row);
+        row_asks(&rt, rt.alloc(), words.as_bytes(), wanted);
+    }
+    // A word that isn't UTF-8.
+    row_asks(&rt, rt.alloc(), b"\xff", "usage");
+    row_asks(&rt, rt.alloc(), b"-- a\xff", "usage");
+}
