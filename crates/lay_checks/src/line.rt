@@ -77,6 +77,8 @@ fn lines(rt: HostRuntime) {
         -check→usage§\
         -c→usage§\
         -x→usage§\
+        --nope→usage§\
+        a --nope→usage§\
         a -x→usage§\
         --help→usage§\
         a --help→usage§\
