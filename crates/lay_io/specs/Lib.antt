@@ -5,3 +5,4 @@ pub mod Stored
 pub mod Kept
 pub mod Devices
 pub mod Lending
+pub mod Gathered

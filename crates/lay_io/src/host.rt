@@ -1,30 +1,41 @@
-//! The trusted edge: the system's streams. These objects tell nothing of content.
-ghost use Rattle.std.specs.Prelude.{◌≡◌, ◌≢◌, None, IsSome};
+//! The trusted edge: the system's streams and files. These objects tell nothing of content.
+ghost use Rattle.std.specs.Prelude.{◌≡◌, ◌≢◌, [], None, Some, IfOk, OnErr, IsSome};
 ghost use Rattle.std.specs.Io.{ReadsAtMost};
 ghost use Rattle.lay_io.specs.Calls.{Takes, left_of};
 ghost use Rattle.lay_io.specs.Faults.{CountsOnce, HasCause};
+ghost use Rattle.lay_io.specs.Kept.{kept_in};
 ghost use Rattle.lay_io.specs.declared.outside.Which.{Which};
 
 use crate::outside::{Failed, Inputs, Sink, Which};
+use crate::room::Room;
+use lay_text::{NoMemory, Text};
+use std::alloc::Global;
 use std::io::Read;
-use std::str;
+use std::rt::Files;
+use std::{fs, str};
 
-/// The system's inputs. So far only standard input can be read: a named file fails at each read, counted.
+/// The system's inputs: standard input and the files that have a name. A named file is opened in its first read. A
+/// read fails where the name isn't UTF-8, or the file can't be opened or can't be read, and the next read tries again.
+/// What the bytes are isn't promised, nor that two reads are of one state of the file.
 #[derive(Drop)]
-pub struct HostInputs<R: Input> {
+pub struct HostInputs<'a, R: Input + Files> {
+    runtime: &'a R,
     stdin: R::Reader,
+    file: Option<R::File>,
     chosen: Option<Which>,
     faults: u64,
 }
 
-impl<R: Input> HostInputs<R> {
-    /// Inputs of which none is chosen.
-    pub fn new(runtime: &R) -> HostInputs<R>
-        ensures chosen { ⟦<HostInputs<R> as Inputs>⟧.chosen result ≡ None }
-        ensures faults { ⟦<HostInputs<R> as Inputs>⟧.faults result ≡ 0 }
+impl<'a, R: Input + Files> HostInputs<'a, R> {
+    /// Inputs of which none is chosen, and no file is open.
+    pub fn new(runtime: &'a R) -> HostInputs<'a, R>
+        ensures chosen { ⟦<HostInputs<'a, R> as Inputs>⟧.chosen result ≡ None }
+        ensures faults { ⟦<HostInputs<'a, R> as Inputs>⟧.faults result ≡ 0 }
     {
         HostInputs {
+            runtime,
             stdin: runtime.reader(),
+            file: None,
             chosen: None,
             faults: 0,
         }
@@ -37,13 +48,37 @@ impl<R: Input> HostInputs<R> {
         ensures faults { self.new.faults ≡ self.old.faults }
     {
         match &self.chosen {
-            Some(Which::File(_)) => Err(Failed),
+            Some(Which::File(name)) => read_file(self.runtime, &mut self.file, name, buf),
             _ => self.stdin.read(buf).map_err(|_| Failed),
         }
     }
 }
 
-impl<R: Input> Inputs for HostInputs<R> {
+/// Reads once from the file, which is opened if it isn't open.
+fn read_file<R: Files>(
+    runtime: &R,
+    file: &mut Option<R::File>,
+    name: &Text,
+    buf: &mut [u8],
+) -> Result<usize, Failed>
+    ensures { ReadsAtMost result buf.new }
+{
+    match file {
+        Some(file) => file.read(buf).map_err(|_| Failed),
+        None => file
+            .insert(open(runtime, name)?)
+            .read(buf)
+            .map_err(|_| Failed),
+    }
+}
+
+/// Opens the file of this name.
+fn open<R: Files>(runtime: &R, name: &Text) -> Result<R::File, Failed> {
+    let path = str::from_utf8(name.as_bytes()).map_err(|_| Failed)?;
+    fs::open(runtime, path).map_err(|_| Failed)
+}
+
+impl<'a, R: Input + Files> Inputs for HostInputs<'a, R> {
     ghost left = { λ _ _. None };
 
     ghost chosen = { λ s. s.chosen };
@@ -55,19 +90,19 @@ impl<R: Input> Inputs for HostInputs<R> {
     }
 
     fn read(&mut self, buf: &mut [u8]) -> Result<usize, Failed>
-        requires { IsSome (⟦<HostInputs<R> as Inputs>⟧.chosen self.old) }
+        requires { IsSome (⟦<HostInputs<'a, R> as Inputs>⟧.chosen self.old) }
 
         // As for all inputs.
         ensures bound { ReadsAtMost result buf.new }
-        ensures chosen { ⟦<HostInputs<R> as Inputs>⟧.chosen self.new ≡ ⟦<HostInputs<R> as Inputs>⟧.chosen self.old }
-        ensures others { (w : Which) → ⟦<HostInputs<R> as Inputs>⟧.chosen self.old ≢ Some w
-            → ⟦<HostInputs<R> as Inputs>⟧.left self.new w ≡ ⟦<HostInputs<R> as Inputs>⟧.left self.old w }
-        ensures bytes { let chosen = ⟦<HostInputs<R> as Inputs>⟧.chosen self.old in
-            Takes (left_of chosen (⟦<HostInputs<R> as Inputs>⟧.left self.old)) (left_of chosen (⟦<HostInputs<R> as Inputs>⟧.left self.new)) result buf.new }
-        ensures cause { HasCause (⟦<HostInputs<R> as Inputs>⟧.faults self.old) (⟦<HostInputs<R> as Inputs>⟧.faults self.new) result }
+        ensures chosen { ⟦<HostInputs<'a, R> as Inputs>⟧.chosen self.new ≡ ⟦<HostInputs<'a, R> as Inputs>⟧.chosen self.old }
+        ensures others { (w : Which) → ⟦<HostInputs<'a, R> as Inputs>⟧.chosen self.old ≢ Some w
+            → ⟦<HostInputs<'a, R> as Inputs>⟧.left self.new w ≡ ⟦<HostInputs<'a, R> as Inputs>⟧.left self.old w }
+        ensures bytes { let chosen = ⟦<HostInputs<'a, R> as Inputs>⟧.chosen self.old in
+            Takes (left_of chosen (⟦<HostInputs<'a, R> as Inputs>⟧.left self.old)) (left_of chosen (⟦<HostInputs<'a, R> as Inputs>⟧.left self.new)) result buf.new }
+        ensures cause { HasCause (⟦<HostInputs<'a, R> as Inputs>⟧.faults self.old) (⟦<HostInputs<'a, R> as Inputs>⟧.faults self.new) result }
 
         // Each failure is counted once.
-        ensures once { CountsOnce (⟦<HostInputs<R> as Inputs>⟧.faults self.old) (⟦<HostInputs<R> as Inputs>⟧.faults self.new) result }
+        ensures once { CountsOnce (⟦<HostInputs<'a, R> as Inputs>⟧.faults self.old) (⟦<HostInputs<'a, R> as Inputs>⟧.faults self.new) result }
     {
         match self.read_once(buf) {
             Ok(count) => Ok(count),
@@ -79,14 +114,21 @@ impl<R: Input> Inputs for HostInputs<R> {
     }
 }
 
+/// How many bytes standard output gathers before they are handed to the system.
+const GATHERED: usize = 65536;
+
 /// Which of the system's streams takes the bytes.
-#[derive(Clone, Copy)]
+#[derive(Drop)]
 enum Stream {
-    Stdout,
+    /// Standard output, with the bytes that wait for it.
+    Stdout(Room),
+    /// Standard error.
     Stderr,
 }
 
-/// Standard output or standard error. Each failure is counted once.
+/// Standard output or standard error. Each failure is counted once. A failure may be of bytes that an earlier write
+/// took, and nothing that was handed to the system is handed to it again. How much of a piece has reached the system
+/// isn't promised, not even where the sink is dropped: [`HostSink::flush`] says whether it took what was gathered.
 #[derive(Drop)]
 pub struct HostSink<'a, R: Print + Eprint> {
     runtime: &'a R,
@@ -95,18 +137,23 @@ pub struct HostSink<'a, R: Print + Eprint> {
 }
 
 impl<'a, R: Print + Eprint> HostSink<'a, R> {
-    /// Standard output.
-    pub fn stdout(runtime: &'a R) -> HostSink<'a, R>
-        ensures { ⟦<HostSink<'a, R> as Sink>⟧.faults result ≡ 0 }
+    ghost use Rattle.lay_io.specs.Gathered.{IsHandedOver};
+
+    /// Standard output. It gathers up to 64 KiB in room that is taken here, so that small pieces cost no call of the
+    /// system each. A piece that fits waits. Where one doesn't fit, what waits is written first, and then the piece
+    /// waits, or is written itself if it has 64 KiB or more.
+    pub fn stdout(alloc: Global, runtime: &'a R) -> Result<HostSink<'a, R>, NoMemory>
+        ensures faults { IfOk result (λ sink. ⟦<HostSink<'a, R> as Sink>⟧.faults sink ≡ 0) }
+        ensures waits { IfOk result (λ sink. IsHandedOver sink) }
     {
-        HostSink {
+        Ok(HostSink {
             runtime,
-            stream: Stream::Stdout,
+            stream: Stream::Stdout(Room::with_room(alloc, GATHERED)?),
             faults: 0,
-        }
+        })
     }
 
-    /// Standard error. It takes text: a piece that isn't UTF-8 fails.
+    /// Standard error. It gathers nothing and takes no memory. It takes text: a piece that isn't UTF-8 fails.
     pub fn stderr(runtime: &'a R) -> HostSink<'a, R>
         ensures { ⟦<HostSink<'a, R> as Sink>⟧.faults result ≡ 0 }
     {
@@ -117,32 +164,77 @@ impl<'a, R: Print + Eprint> HostSink<'a, R> {
         }
     }
 
-    /// Writes the piece once.
-    fn write_once(&self, piece: &[u8]) -> Result<(), Failed> {
-        match self.stream {
-            Stream::Stdout => self.runtime.write_all(piece).map_err(|_| Failed),
-            Stream::Stderr => {
-                let text = str::from_utf8(piece).map_err(|_| Failed)?;
-                self.runtime.eprint(text).map_err(|_| Failed)
-            }
+    /// Writes what waits. After it nothing waits, whatever the answer. A failure is counted.
+    pub fn flush(&mut self) -> Result<(), Failed>
+        ensures once { CountsOnce (⟦<HostSink<'a, R> as Sink>⟧.faults self.old) (⟦<HostSink<'a, R> as Sink>⟧.faults self.new) result }
+        ensures waits { IsHandedOver self.new }
+    {
+        let answer = match &mut self.stream {
+            Stream::Stdout(waiting) => write_waiting(self.runtime, waiting),
+            Stream::Stderr => Ok(()),
+        };
+        self.count(answer)
+    }
+
+    /// Counts a failure.
+    fn count(&mut self, answer: Result<(), Failed>) -> Result<(), Failed>
+        ensures same { result ≡ answer }
+        ensures stream { self.new.stream ≡ self.old.stream }
+        ensures once { CountsOnce self.old.faults self.new.faults result }
+        ensures cause { HasCause self.old.faults self.new.faults result }
+    {
+        if answer.is_err() {
+            self.faults = self.faults.saturating_add(1);
         }
+        answer
     }
 }
 
+/// Writes what waits to standard output. After it nothing waits, whatever the answer.
+fn write_waiting<R: Print>(runtime: &R, waiting: &mut Room) -> Result<(), Failed>
+    ensures { (kept_in waiting.new).bytes ≡ Some [] }
+{
+    let answer = runtime.write_all(waiting.kept());
+    waiting.clear();
+    answer.map_err(|_| Failed)
+}
+
+/// Keeps the piece behind what waits, or writes what waits first. After a failure nothing waits.
+fn gather<R: Print>(runtime: &R, waiting: &mut Room, piece: &[u8]) -> Result<(), Failed>
+    ensures { OnErr result ((kept_in waiting.new).bytes ≡ Some []) }
+{
+    if piece.len() <= waiting.left() {
+        waiting.put(piece);
+        return Ok(());
+    }
+    write_waiting(runtime, waiting)?;
+    if piece.len() < GATHERED {
+        waiting.put(piece);
+        return Ok(());
+    }
+    runtime.write_all(piece).map_err(|_| Failed)
+}
+
+/// Writes text to standard error.
+fn write_text<R: Eprint>(runtime: &R, piece: &[u8]) -> Result<(), Failed> {
+    let text = str::from_utf8(piece).map_err(|_| Failed)?;
+    runtime.eprint(text).map_err(|_| Failed)
+}
+
 impl<'a, R: Print + Eprint> Sink for HostSink<'a, R> {
+    ghost use Rattle.lay_io.specs.Gathered.{HostWrite};
+
     ghost written = { λ _. None };
 
     ghost faults = { λ s. s.faults };
 
-    ghost wrote = { λ s _ answer t. CountsOnce s.faults t.faults answer };
+    ghost wrote = { λ s _ answer t. HostWrite s answer t };
 
     fn write(&mut self, piece: &[u8]) -> Result<(), Failed> {
-        match self.write_once(piece) {
-            Ok(()) => Ok(()),
-            Err(Failed) => {
-                self.faults = self.faults.saturating_add(1);
-                Err(Failed)
-            }
-        }
+        let answer = match &mut self.stream {
+            Stream::Stdout(waiting) => gather(self.runtime, waiting, piece),
+            Stream::Stderr => write_text(self.runtime, piece),
+        };
+        self.count(answer)
     }
 }

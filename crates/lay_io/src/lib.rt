@@ -2,8 +2,8 @@
 //!
 //! [`Inputs`] and [`Sink`] are all that the other crates know of it. Each object counts its faults, each of them
 //! once, and tells its content where it can: the objects in memory do, and [`HostInputs`] and [`HostSink`], which
-//! reach the system's streams, tell nothing. [`Lent`] is a sink that was handed in by reference, each write of
-//! which is one of that sink. [`read_all`] reads an input to its end, and says what each answer leaves. The crate
+//! reach the system's streams and files, tell nothing. [`Lent`] is a sink that was handed in by reference, each write
+//! of which is one of that sink. [`read_all`] reads an input to its end, and says what each answer leaves. The crate
 //! stands on lay_text.
 #![tactic(auto)]
 

@@ -58,6 +58,14 @@ impl Room {
         &self.bytes.as_slice()[..self.used]
     }
 
+    /// Keeps nothing any more, in the same room.
+    pub fn clear(&mut self)
+        ensures { kept_in self.new ≡ empty (boxed_slice_len self.old.bytes) }
+    {
+        self.used = 0;
+        self.fits = true;
+    }
+
     /// Keeps the piece. Where it doesn't fit, nothing is told any more. It takes no memory.
     pub fn put(&mut self, piece: &[u8])
         ensures fits { length piece.now ≤ (kept_in self.old).spare → kept_in self.new ≡ kept_behind (kept_in self.old) piece.now }
