@@ -1,15 +1,19 @@
 //! Reads and writes in order, of which one fails in mid-stream.
 ghost use Rattle.std.specs.Prelude.{◌<◌, IfOk, IsSome};
 
-use lay_given::list;
+use lay_given::{list, repeated};
 use lay_io::{
     Failed, HostInputs, HostSink, Inputs, Lent, MemoryInputs, MemorySink, NamedFile, QuietInputs,
     QuietSink, ReadError, Sink, Which, read_all,
 };
 use lay_token::{List, NoMemory, Text};
 use std::alloc::Global;
+use std::cell::{Cell, RefCell};
+use std::fmt::Display;
+use std::io::{Eprint, Print};
 use std::process::Abort;
 use std::test::Fail;
+use std::{fs, io, process};
 
 /// How many bytes are read of five, up to a limit.
 fn length(alloc: Global, limit: usize) -> Result<usize, ReadError>
@@ -79,9 +83,28 @@ fn reads(rt: HostRuntime) {
     let mut missing = MemoryInputs::new(List::new(alloc), List::new(alloc), List::new(alloc));
     missing.choose(Which::File(Text::new(alloc)));
     read(&rt, &mut missing, Err(Failed), b"");
-    let mut host = HostInputs::new(&rt);
-    host.choose(Which::File(Text::new(alloc)));
-    read(&rt, &mut host, Err(Failed), b"");
+}
+
+// A file is read piece by piece to its end. One that isn't there, and a name that is no text, fail at each read.
+#[test]
+fn reads_of_the_system(rt: HostRuntime) -> Result<(), Fail> {
+    let alloc = rt.alloc();
+    let name = format!(in alloc; "/tmp/lay_checks_{}", process::id(rt.process()))?;
+    fs::write(&rt, name.as_str(), b"abcde".as_slice())?;
+    let mut file = HostInputs::new(&rt);
+    file.choose(Which::File(Text::from_bytes(alloc, name.as_bytes())?));
+    read(&rt, &mut file, Ok(2), b"ab");
+    read(&rt, &mut file, Ok(2), b"cd");
+    read(&rt, &mut file, Ok(1), b"e");
+    read(&rt, &mut file, Ok(0), b"");
+    fs::remove_file(&rt, name.as_str())?;
+    for missing in [name.as_bytes(), b"\xff"] {
+        let mut none = HostInputs::new(&rt);
+        none.choose(Which::File(Text::from_bytes(alloc, missing)?));
+        read(&rt, &mut none, Err(Failed), b"");
+        read(&rt, &mut none, Err(Failed), b"");
+    }
+    Ok(())
 }
 
 /// One write and its answer.
@@ -123,12 +146,126 @@ fn writes_of_a_lent_sink(rt: HostRuntime) -> Result<(), Fail> {
     Ok(())
 }
 
+/// A system that keeps what it is handed, a `|` behind each call. The call with this number fails, counted from 0.
+#[derive(Drop)]
+struct System {
+    handed: RefCell<Vec<u8>>,
+    calls: Cell<u64>,
+    fail: u64,
+}
+
+impl System {
+    fn new(alloc: Global, fail: u64) -> System {
+        System {
+            handed: RefCell::new(Vec::new(alloc)),
+            calls: Cell::new(0),
+            fail,
+        }
+    }
+
+    /// Keeps what is handed.
+    fn keep(&self, bytes: &[u8]) -> Result<(), NoMemory> {
+        if let Ok(mut handed) = self.handed.try_borrow_mut() {
+            handed.extend_from_slice(bytes)?;
+            handed.extend_from_slice(b"|")?;
+        }
+        Ok(())
+    }
+
+    /// All that was handed.
+    fn all(&self, alloc: Global) -> Vec<u8> {
+        match self.handed.try_replace(Vec::new(alloc)) {
+            Ok(handed) => handed,
+            Err(refused) => refused,
+        }
+    }
+}
+
+impl Print for System {
+    fn print<D: Display + Drop>(&self, _: D) -> io::Result<()> {
+        Err(io::Error::from(io::ErrorKind::Unsupported))
+    }
+
+    fn println<D: Display + Drop>(&self, _: D) -> io::Result<()> {
+        Err(io::Error::from(io::ErrorKind::Unsupported))
+    }
+
+    fn write_all(&self, bytes: &[u8]) -> io::Result<()> {
+        let number = self.calls.get();
+        self.calls.set(number.saturating_add(1));
+        if self.keep(bytes).is_err() || number == self.fail {
+            return Err(io::Error::from(io::ErrorKind::StorageFull));
+        }
+        Ok(())
+    }
+}
+
+impl Eprint for System {
+    fn eprint<D: Display + Drop>(&self, _: D) -> io::Result<()> {
+        Err(io::Error::from(io::ErrorKind::Unsupported))
+    }
+
+    fn eprintln<D: Display + Drop>(&self, _: D) -> io::Result<()> {
+        Err(io::Error::from(io::ErrorKind::Unsupported))
+    }
+}
+
+/// One byte fewer than is gathered, copies of `a`.
+fn nearly_all(alloc: Global) -> Result<Vec<u8>, NoMemory> {
+    repeated(alloc, b"a", 65535)
+}
+
+// What fits waits, what waits is written before what doesn't fit, and 64 KiB are written themselves. What failed isn't
+// handed over again.
+#[test]
+fn writes_that_are_gathered(rt: HostRuntime) -> Result<(), Fail> {
+    let alloc = rt.alloc();
+    let system = System::new(alloc, 3);
+    let mut out = HostSink::stdout(alloc, &system)?;
+    write(&rt, &mut out, nearly_all(alloc)?.as_slice(), Ok(()));
+    write(&rt, &mut out, b"b", Ok(()));
+    assert_eq!(rt; system.calls.get(), 0);
+    write(&rt, &mut out, b"c", Ok(()));
+    assert_eq!(rt; system.calls.get(), 1);
+    write(
+        &rt,
+        &mut out,
+        repeated(alloc, b"d", 65536)?.as_slice(),
+        Ok(()),
+    );
+    assert_eq!(rt; system.calls.get(), 3);
+    write(&rt, &mut out, b"e", Ok(()));
+    assert_eq!(rt; out.flush(), Err(Failed));
+    write(&rt, &mut out, b"f", Ok(()));
+    assert_eq!(rt; out.flush(), Ok(()));
+    let mut wanted = nearly_all(alloc)?;
+    wanted.extend_from_slice(b"b|c|")?;
+    wanted.extend_from_slice(repeated(alloc, b"d", 65536)?.as_slice())?;
+    wanted.extend_from_slice(b"|e|f|")?;
+    assert!(rt; system.all(alloc) == wanted);
+
+    let system = System::new(alloc, 0);
+    let mut out = HostSink::stdout(alloc, &system)?;
+    let first = nearly_all(alloc)?;
+    write(&rt, &mut out, first.as_slice(), Ok(()));
+    write(&rt, &mut out, b"bb", Err(Failed));
+    write(&rt, &mut out, b"c", Ok(()));
+    assert_eq!(rt; out.flush(), Ok(()));
+    let mut wanted = nearly_all(alloc)?;
+    wanted.extend_from_slice(b"|c|")?;
+    assert!(rt; system.all(alloc) == wanted);
+    Ok(())
+}
+
 // Bytes that are no text fail on standard error.
 #[test]
-fn writes_of_the_system(rt: HostRuntime) {
-    let mut out = HostSink::stdout(&rt);
+fn writes_of_the_system(rt: HostRuntime) -> Result<(), Fail> {
+    let mut out = HostSink::stdout(rt.alloc(), &rt)?;
     write(&rt, &mut out, b"", Ok(()));
+    assert_eq!(rt; out.flush(), Ok(()));
     let mut err = HostSink::stderr(&rt);
     write(&rt, &mut err, b"\xff", Err(Failed));
     write(&rt, &mut err, b"", Ok(()));
+    assert_eq!(rt; err.flush(), Ok(()));
+    Ok(())
 }

@@ -5,7 +5,7 @@ ghost use Rattle.std.specs.Prelude.{◌≡◌};
 ghost use Rattle.lay_fmt.specs.Exit.{number_of};
 
 use lay_front::{Status, run};
-use lay_io::{HostInputs, HostSink};
+use lay_io::{Failed, HostInputs, HostSink};
 use lay_text::{NoMemory, Text};
 use std::alloc::Global;
 use std::process::ExitCode;
@@ -31,11 +31,17 @@ fn main(rt: HostRuntime) -> ExitCode {
         Err(NoWords::NotText) => return ExitCode::from(8),
         Err(NoWords::NoMemory) => return ExitCode::from(7),
     };
+    let mut out = match HostSink::stdout(alloc, &rt) {
+        Ok(out) => out,
+        Err(NoMemory) => return ExitCode::from(7),
+    };
     let mut inputs = HostInputs::new(&rt);
-    let mut out = HostSink::stdout(&rt);
     let mut err = HostSink::stderr(&rt);
     let status = run(alloc, words.as_slice(), &mut inputs, &mut out, &mut err);
-    ExitCode::from(exit_status(status))
+    match out.flush() {
+        Ok(()) => ExitCode::from(exit_status(status)),
+        Err(Failed) => ExitCode::from(exit_status(Status::WriteFailed)),
+    }
 }
 
 /// The words of the command without the program's name.
