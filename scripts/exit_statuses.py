@@ -108,7 +108,8 @@ def main():
         for wanted, name, run in cases(files(folder), folder):
             had = status(command, **run)
             differing += had != wanted
-            print("%s  wanted %d, had %d: %s" % ("ok     " if had == wanted else "DIFFERS", wanted, had, name), flush=True)
+            verdict = "ok" if had == wanted else "DIFFERS"
+            print("%-7s wanted %d, had %d: %s" % (verdict, wanted, had, name), flush=True)
     sys.exit(1 if differing else 0)
 
 

@@ -17,6 +17,7 @@ abbrev pub IsHandedOver : {R : Type 0} → HostSink R → Type 0
 IsHandedOver sink = waiting_in sink.stream ≡ Some []
 
 -- A write of such a sink: a failure is counted once and nothing else is counted, and after a failure nothing waits.
-pub record HostWrite {R : Type 0} (before : HostSink R) (result : Result (Unit {0}) Failed) (now : HostSink R) : Type 0 where
+pub record HostWrite {R : Type 0} (before : HostSink R) (result : Result (Unit {0}) Failed) (now : HostSink R)
+    : Type 0 where
   pub once : CountsOnce before.faults now.faults result
   pub dropped : OnErr result (IsHandedOver now)

@@ -94,15 +94,19 @@ impl<'a, R: Input + Files> Inputs for HostInputs<'a, R> {
 
         // As for all inputs.
         ensures bound { ReadsAtMost result buf.new }
-        ensures chosen { ⟦<HostInputs<'a, R> as Inputs>⟧.chosen self.new ≡ ⟦<HostInputs<'a, R> as Inputs>⟧.chosen self.old }
+        ensures chosen { ⟦<HostInputs<'a, R> as Inputs>⟧.chosen self.new
+            ≡ ⟦<HostInputs<'a, R> as Inputs>⟧.chosen self.old }
         ensures others { (w : Which) → ⟦<HostInputs<'a, R> as Inputs>⟧.chosen self.old ≢ Some w
             → ⟦<HostInputs<'a, R> as Inputs>⟧.left self.new w ≡ ⟦<HostInputs<'a, R> as Inputs>⟧.left self.old w }
         ensures bytes { let chosen = ⟦<HostInputs<'a, R> as Inputs>⟧.chosen self.old in
-            Takes (left_of chosen (⟦<HostInputs<'a, R> as Inputs>⟧.left self.old)) (left_of chosen (⟦<HostInputs<'a, R> as Inputs>⟧.left self.new)) result buf.new }
-        ensures cause { HasCause (⟦<HostInputs<'a, R> as Inputs>⟧.faults self.old) (⟦<HostInputs<'a, R> as Inputs>⟧.faults self.new) result }
+            Takes (left_of chosen (⟦<HostInputs<'a, R> as Inputs>⟧.left self.old))
+            (left_of chosen (⟦<HostInputs<'a, R> as Inputs>⟧.left self.new)) result buf.new }
+        ensures cause { HasCause (⟦<HostInputs<'a, R> as Inputs>⟧.faults self.old)
+            (⟦<HostInputs<'a, R> as Inputs>⟧.faults self.new) result }
 
         // Each failure is counted once.
-        ensures once { CountsOnce (⟦<HostInputs<'a, R> as Inputs>⟧.faults self.old) (⟦<HostInputs<'a, R> as Inputs>⟧.faults self.new) result }
+        ensures once { CountsOnce (⟦<HostInputs<'a, R> as Inputs>⟧.faults self.old)
+            (⟦<HostInputs<'a, R> as Inputs>⟧.faults self.new) result }
     {
         match self.read_once(buf) {
             Ok(count) => Ok(count),
@@ -166,7 +170,8 @@ impl<'a, R: Print + Eprint> HostSink<'a, R> {
 
     /// Writes what waits. After it nothing waits, whatever the answer. A failure is counted.
     pub fn flush(&mut self) -> Result<(), Failed>
-        ensures once { CountsOnce (⟦<HostSink<'a, R> as Sink>⟧.faults self.old) (⟦<HostSink<'a, R> as Sink>⟧.faults self.new) result }
+        ensures once { CountsOnce (⟦<HostSink<'a, R> as Sink>⟧.faults self.old)
+            (⟦<HostSink<'a, R> as Sink>⟧.faults self.new) result }
         ensures waits { IsHandedOver self.new }
     {
         let answer = match &mut self.stream {
