@@ -131,9 +131,9 @@ cause_passes WriteFailed a b c x y l u (inl h) = inl (rose_more a b c l h)
 cause_passes WriteFailed a b c x y l u (inr h) = cc
 cause_passes NoMemory a b c x y l u h = tt
 
-went_puts : {S : Type 0} (core : S → Printing) (written : S → Option (List ℕ)) (faults loan : S → ℕ) (x y : S) (t : Tok) →
-    Went (core x) (written x) (core y) (written y) t → faults x ≤ faults y → loan y ≡ loan x → Puts (printer_meanings core written faults loan) x (t ∷ []) y
-went_puts core written faults loan x y t w l o = record {
+went_puts : {S : Type 0} (core : S → Printing) (written : S → Option (List ℕ)) (faults : S → ℕ) (loans : S → List ℕ) (x y : S) (t : Tok) →
+    Went (core x) (written x) (core y) (written y) t → faults x ≤ faults y → loans y ≡ loans x → Puts (printer_meanings core written faults loans) x (t ∷ []) y
+went_puts core written faults loans x y t w l o = record {
   appends = λ start s h.
       let r : Runs (core x) (written x) start.content s = subst (λ (z : Option PrintError). FedBy z (core x) (written x) start.content s) w.hadnt_failed h.0 in
       (subst (λ (z : Option PrintError). FedBy z (core y) (written y) start.content (s ++ t ∷ [])) (sym w.hasnt_failed) (w.runs start.content s r), le_trans h.1 l);
@@ -142,19 +142,19 @@ went_puts core written faults loan x y t w l o = record {
   passes = λ e c k. cause_passes e (faults x) (faults y) (faults c) (core x).failed (core y).failed l w.hasnt_failed k;
   failed_before = λ h. absurd (h w.hasnt_failed);
   failed_after = λ h. absurd (h w.hadnt_failed);
-  same_loan = o;
+  same_loans = o;
 }
 
-lost_front : {S : Type 0} (core : S → Printing) (written : S → Option (List ℕ)) (faults loan : S → ℕ) (x y : S) (t : Tok) (e : PrintError) (z : Option PrintError) →
+lost_front : {S : Type 0} (core : S → Printing) (written : S → Option (List ℕ)) (faults : S → ℕ) (loans : S → List ℕ) (x y : S) (t : Tok) (e : PrintError) (z : Option PrintError) →
     (core y).failed ≡ Some e → LostBy z (core x) (written x) (written y) t → faults x ≤ faults y → (start : Start) (s : List Tok) → FedBy z (core x) (written x) start.content s → start.faults ≤ faults x →
-    FedFront (printer_meanings core written faults loan) y start s (t ∷ [])
-lost_front core written faults loan x y t e None v k l start s h m = record {
+    FedFront (printer_meanings core written faults loans) y start s (t ∷ [])
+lost_front core written faults loans x y t e None v k l start s h m = record {
   front = t ∷ [];
   back = [];
   both = refl;
   is_fed = (subst (λ (q : Option PrintError). FedBy q (core y) (written y) start.content (s ++ t ∷ [])) (sym v) (k start.content s h), le_trans m l);
 }
-lost_front core written faults loan x y t e (Some d) v k l start s h m =
+lost_front core written faults loans x y t e (Some d) v k l start s h m =
     let b : Fails (written y) start.content (s ++ []) = subst (λ (q : List Tok). Fails (written y) start.content q) (sym (append-nil s)) (subst (λ (q : Option (List ℕ)). Fails q start.content s) (sym k) h) in
     record {
       front = [];
@@ -166,28 +166,28 @@ lost_front core written faults loan x y t e (Some d) v k l start s h m =
 some_is : (z : Option PrintError) (e : PrintError) → z ≡ Some e → z ≢ None
 some_is z e h k = cc
 
-lost_stops : {S : Type 0} (core : S → Printing) (written : S → Option (List ℕ)) (faults loan : S → ℕ) (x y : S) (t : Tok) (e : PrintError) →
-    Lost (core x) (written x) (faults x) (core y) (written y) (faults y) t e → faults x ≤ faults y → loan y ≡ loan x → Stops (printer_meanings core written faults loan) x (t ∷ []) e y
-lost_stops core written faults loan x y t e w l o = record {
-  appends = λ start s h. lost_front core written faults loan x y t e (core x).failed w.has_failed w.writes l start s h.0 h.1;
+lost_stops : {S : Type 0} (core : S → Printing) (written : S → Option (List ℕ)) (faults : S → ℕ) (loans : S → List ℕ) (x y : S) (t : Tok) (e : PrintError) →
+    Lost (core x) (written x) (faults x) (core y) (written y) (faults y) t e → faults x ≤ faults y → loans y ≡ loans x → Stops (printer_meanings core written faults loans) x (t ∷ []) e y
+lost_stops core written faults loans x y t e w l o = record {
+  appends = λ start s h. lost_front core written faults loans x y t e (core x).failed w.has_failed w.writes l start s h.0 h.1;
   later = l;
   because = w.because;
   has_failed = some_is (core y).failed e w.has_failed;
-  same_loan = o;
+  same_loans = o;
 }
 
 err_is : {T F : Type 0} (r : Result T F) (f g : F) → r ≡ Err f → r ≡ Err g → f ≡ g
 err_is r f g e h = cc
 
-pub did_calls : {S T : Type 0} (core : S → Printing) (written : S → Option (List ℕ)) (faults loan : S → ℕ) (x y : S) (t : Tok) (r : Result T PrintError) →
-    Calls (core x) (written x) (faults x) r (core y) (written y) (faults y) t → loan y ≡ loan x → Did (printer_meanings core written faults loan) x (t ∷ []) r y
-did_calls core written faults loan x y t (Ok v) k o = record {
-  puts = λ u e. went_puts core written faults loan x y t k.ok k.later o;
+pub did_calls : {S T : Type 0} (core : S → Printing) (written : S → Option (List ℕ)) (faults : S → ℕ) (loans : S → List ℕ) (x y : S) (t : Tok) (r : Result T PrintError) →
+    Calls (core x) (written x) (faults x) r (core y) (written y) (faults y) t → loans y ≡ loans x → Did (printer_meanings core written faults loans) x (t ∷ []) r y
+did_calls core written faults loans x y t (Ok v) k o = record {
+  puts = λ u e. went_puts core written faults loans x y t k.ok k.later o;
   stops = λ f e. cc;
 }
-did_calls core written faults loan x y t (Err v) k o = record {
+did_calls core written faults loans x y t (Err v) k o = record {
   puts = λ u e. cc;
-  stops = λ f e. subst (λ (z : PrintError). Stops (printer_meanings core written faults loan) x (t ∷ []) z y) (err_is _ v f refl e) (lost_stops core written faults loan x y t v k.err k.later o);
+  stops = λ f e. subst (λ (z : PrintError). Stops (printer_meanings core written faults loans) x (t ∷ []) z y) (err_is _ v f refl e) (lost_stops core written faults loans x y t v k.err k.later o);
 }
 
 lag_at : (z : Size) (wait : ℕ) (p : Line) → Says z wait p None → wait ≤ p.room - p.used

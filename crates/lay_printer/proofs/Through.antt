@@ -52,17 +52,17 @@ begins_fed : (c : Printing) (w : Option (List ℕ)) → Begins c w → (content 
 begins_fed c w b content h = subst (λ (z : Option PrintError). FedBy z c w content []) (sym b.fresh) (b.runs content h)
 
 -- a call failed
-pub stopped : {S T : Type 0} (core : S → Printing) (written : S → Option (List ℕ)) (faults loan : S → ℕ) (x y : S) (ts : List Tok) (e : PrintError) →
-    Begins (core x) (written x) → Did {T = T} (printer_meanings core written faults loan) x ts (Err e) y → (content : List ℕ) → Wrote (written x) content [] → Cut (written y) content (text ts)
-stopped core written faults loan x y ts e b d content h =
+pub stopped : {S T : Type 0} (core : S → Printing) (written : S → Option (List ℕ)) (faults : S → ℕ) (loans : S → List ℕ) (x y : S) (ts : List Tok) (e : PrintError) →
+    Begins (core x) (written x) → Did {T = T} (printer_meanings core written faults loans) x ts (Err e) y → (content : List ℕ) → Wrote (written x) content [] → Cut (written y) content (text ts)
+stopped core written faults loans x y ts e b d content h =
     let s = d.stops e refl in
     let f = s.appends (record { content = content; faults = faults x }) [] (begins_fed (core x) (written x) b content h, le_refl (faults x)) in
     subst (λ (z : List Tok). Cut (written y) content (text z)) f.both (fed_cut (core y).failed (core y) (written y) content f.front s.has_failed f.is_fed.0 f.back)
 
 -- all calls answered Ok
-pub went : {S T : Type 0} (core : S → Printing) (written : S → Option (List ℕ)) (faults loan : S → ℕ) (x y : S) (ts : List Tok) (v : T) →
-    Begins (core x) (written x) → Did (printer_meanings core written faults loan) x ts (Ok v) y → (content : List ℕ) → Wrote (written x) content [] → FedBy (core y).failed (core y) (written y) content ts
-went core written faults loan x y ts v b d content h =
+pub went : {S T : Type 0} (core : S → Printing) (written : S → Option (List ℕ)) (faults : S → ℕ) (loans : S → List ℕ) (x y : S) (ts : List Tok) (v : T) →
+    Begins (core x) (written x) → Did (printer_meanings core written faults loans) x ts (Ok v) y → (content : List ℕ) → Wrote (written x) content [] → FedBy (core y).failed (core y) (written y) content ts
+went core written faults loans x y ts v b d content h =
     ((d.puts v refl).appends (record { content = content; faults = faults x }) [] (begins_fed (core x) (written x) b content h, le_refl (faults x))).0
 
 pub blame_of : (e : PrintError) (a b : ℕ) (z : Option PrintError) → z ≡ None → CauseOf e a b z → e ≡ WriteFailed → Rose a b
@@ -79,29 +79,29 @@ pub record Printed {T : Type 0} (before now : Option (List ℕ)) (faults faults'
   pub err : OnErr result (GrewByPrefix before now (text ts))
   pub cause : Blames faults faults' result
 
-pub printed_stopped : {S T U : Type 0} (core : S → Printing) (written : S → Option (List ℕ)) (faults loan : S → ℕ) (x y : S) (ts : List Tok) (e : PrintError) (r : Result U PrintError) →
-    Begins (core x) (written x) → Did {T = T} (printer_meanings core written faults loan) x ts (Err e) y → IsErrAnd r (λ z. z ≡ e) → Printed (written x) (written y) (faults x) (faults y) r ts
-printed_stopped core written faults loan x y ts e (Ok v) b d i = absurd i
-printed_stopped core written faults loan x y ts e (Err v) b d i = record {
+pub printed_stopped : {S T U : Type 0} (core : S → Printing) (written : S → Option (List ℕ)) (faults : S → ℕ) (loans : S → List ℕ) (x y : S) (ts : List Tok) (e : PrintError) (r : Result U PrintError) →
+    Begins (core x) (written x) → Did {T = T} (printer_meanings core written faults loans) x ts (Err e) y → IsErrAnd r (λ z. z ≡ e) → Printed (written x) (written y) (faults x) (faults y) r ts
+printed_stopped core written faults loans x y ts e (Ok v) b d i = absurd i
+printed_stopped core written faults loans x y ts e (Err v) b d i = record {
   ok = tt;
-  err = grew_cut (written x) (written y) (text ts) (stopped core written faults loan x y ts e b d);
+  err = grew_cut (written x) (written y) (text ts) (stopped core written faults loans x y ts e b d);
   cause = record {
     later = (d.stops e refl).later;
     failed = subst (λ (z : PrintError). z ≡ WriteFailed → Rose (faults x) (faults y)) (sym i) (blame_of e (faults x) (faults y) (core x).failed b.fresh (d.stops e refl).because);
   };
 }
 
-pub printed_finish : {S T U : Type 0} (core : S → Printing) (written : S → Option (List ℕ)) (faults loan : S → ℕ) (x y z : S) (ts : List Tok) (v : T) (r : Result U PrintError) →
-    Begins (core x) (written x) → Did (printer_meanings core written faults loan) x ts (Ok v) y → Finishes (core y) (written y) (faults y) r (core z) (written z) (faults z) →
+pub printed_finish : {S T U : Type 0} (core : S → Printing) (written : S → Option (List ℕ)) (faults : S → ℕ) (loans : S → List ℕ) (x y z : S) (ts : List Tok) (v : T) (r : Result U PrintError) →
+    Begins (core x) (written x) → Did (printer_meanings core written faults loans) x ts (Ok v) y → Finishes (core y) (written y) (faults y) r (core z) (written z) (faults z) →
     Printed (written x) (written z) (faults x) (faults z) r ts
-printed_finish core written faults loan x y z ts v (Ok u) b d f = record {
-  ok = grew (written x) (written z) (text ts) (λ content h. f.ok.1 content ts (went core written faults loan x y ts v b d content h));
+printed_finish core written faults loans x y z ts v (Ok u) b d f = record {
+  ok = grew (written x) (written z) (text ts) (λ content h. f.ok.1 content ts (went core written faults loans x y ts v b d content h));
   err = tt;
   cause = record { later = le_trans (d.puts v refl).later f.later; failed = tt };
 }
-printed_finish core written faults loan x y z ts v (Err e) b d f = record {
+printed_finish core written faults loans x y z ts v (Err e) b d f = record {
   ok = tt;
-  err = grew_cut (written x) (written z) (text ts) (λ content h. f.err.2 content ts (went core written faults loan x y ts v b d content h));
+  err = grew_cut (written x) (written z) (text ts) (λ content h. f.err.2 content ts (went core written faults loans x y ts v b d content h));
   cause = record {
     later = le_trans (d.puts v refl).later f.later;
     failed = blame_of e (faults x) (faults z) (core x).failed b.fresh ((d.puts v refl).passes e z (cause_at e (faults y) (faults z) (core y).failed f.err.1));
@@ -114,6 +114,6 @@ pub printed_along : {K T : Type 0} (written : K → Option (List ℕ)) (faults :
 printed_along written faults a a' b b' r ts e f h =
     subst (λ (z : _). Printed (written z) (written b') (faults z) (faults b') r ts) e (subst (λ (z : _). Printed (written a) (written z) (faults a) (faults z) r ts) f h)
 
-pub level_zero : {S T : Type 0} (core : S → Printing) (written : S → Option (List ℕ)) (faults loan : S → ℕ) (x y : S) (ts : List Tok) (v : T) →
-    (core x).groups ≡ 0 → Did (printer_meanings core written faults loan) x ts (Ok v) y → opened ts 0 ≡ 0 → (core y).groups ≡ 0
-level_zero core written faults loan x y ts v g d o = (d.puts v refl).level ∙ ap (opened ts) g ∙ o
+pub level_zero : {S T : Type 0} (core : S → Printing) (written : S → Option (List ℕ)) (faults : S → ℕ) (loans : S → List ℕ) (x y : S) (ts : List Tok) (v : T) →
+    (core x).groups ≡ 0 → Did (printer_meanings core written faults loans) x ts (Ok v) y → opened ts 0 ≡ 0 → (core y).groups ≡ 0
+level_zero core written faults loans x y ts v g d o = (d.puts v refl).level ∙ ap (opened ts) g ∙ o

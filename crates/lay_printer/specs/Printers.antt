@@ -89,12 +89,12 @@ pub record Finishes {T : Type 0} (c : Printing) (before : Option (List ℕ)) (fa
 
 -- What is said of a printer as an Emit.
 abbrev pub printer_meanings : {S : Type 0}
-    → (S → Printing) → (S → Option (List ℕ)) → (S → ℕ) → (S → ℕ) → Meanings S PrintError
-printer_meanings core written faults loan = record {
+    → (S → Printing) → (S → Option (List ℕ)) → (S → ℕ) → (S → List ℕ) → Meanings S PrintError
+printer_meanings core written faults loans = record {
   fed = λ x start s. FedBy (core x).failed (core x) (written x) start.content s × (start.faults ≤ faults x);
   groups = λ x. (core x).groups;
   faults = faults;
   failed = λ x. (core x).failed ≢ None;
   cause = λ x e y. CauseOf e (faults x) (faults y) (core x).failed;
-  loan = loan;
+  loans = loans;
 }

@@ -5,7 +5,7 @@ ghost use Rattle.lay_layout.specs.Machine.{text};
 ghost use Rattle.lay_io.specs.Faults.{SameLoan};
 ghost use Rattle.lay_stream.specs.Fed.{Did};
 ghost use Rattle.lay_printer.specs.Pages.{Wrote, Cut};
-ghost use Rattle.lay_printer.specs.Presses.{lent_core, lent_sink, lent_as, press_meanings, owner_meanings};
+ghost use Rattle.lay_printer.specs.Presses.{lent_core, lent_sink, lent_as, press_loans, press_meanings, owner_meanings};
 ghost use Rattle.lay_printer.specs.Printers.{CauseOf, FedBy, Finishes, IsWhole, Repeats, TakesRoom};
 ghost use Rattle.lay_printer.specs.Promises.{FitSpace, IsSame, IsSpace, RunsAs, RunsFresh};
 ghost use Rattle.lay_printer.specs.Scan.{waiting as sum_waiting};
@@ -49,14 +49,14 @@ impl<'p, K: Sink> Press<'p, K> {
         ensures no_memory { (lent_core self.old).failed ≡ None → IfErr result (λ e. e ≡ WriteFailed) }
         ensures same { Repeats (lent_core self.old) result }
         ensures alone { (e : PrintError) → (lent_core self.old).failed ≡ Some e → lent_sink self.new ≡ lent_sink self.old }
-        ensures loan { SameLoan (lent_as self.old) (lent_as self.new) }
+        ensures loans { press_loans K.loan self.new ≡ press_loans K.loan self.old }
     {
         self.core.finish(self.sink)
     }
 
     /// Feeds a text, which isn't copied.
     pub fn text_owned(&mut self, text: Text) -> Result<(), PrintError>
-        ensures did { Did (press_meanings K.written K.faults) self.old (tok.Text text ∷ []) result self.new }
+        ensures did { Did (press_meanings K.written K.faults K.loan) self.old (tok.Text text ∷ []) result self.new }
         ensures room { TakesRoom (lent_core self.old) result (lent_core self.new) }
         ensures same { Repeats (lent_core self.old) result }
     {
@@ -109,17 +109,17 @@ impl<'p, K: Sink> Press<'p, K> {
 impl<'p, K: Sink> Emit for Press<'p, K> {
     type Fault = PrintError;
 
-    ghost meanings = { press_meanings K.written K.faults };
+    ghost meanings = { press_meanings K.written K.faults K.loan };
 
     fn text(&mut self, text: &[u8]) -> Result<(), PrintError>
-        ensures did { Did (press_meanings K.written K.faults) self.old (tok.Text text.now ∷ []) result self.new }
+        ensures did { Did (press_meanings K.written K.faults K.loan) self.old (tok.Text text.now ∷ []) result self.new }
         ensures same { Repeats (lent_core self.old) result }
     {
         self.core.text(self.sink, text)
     }
 
     fn brk(&mut self, token: Break) -> Result<(), PrintError>
-        ensures did { Did (press_meanings K.written K.faults) self.old (tok.Break token ∷ []) result self.new }
+        ensures did { Did (press_meanings K.written K.faults K.loan) self.old (tok.Break token ∷ []) result self.new }
         ensures room { TakesRoom (lent_core self.old) result (lent_core self.new) }
         ensures same { Repeats (lent_core self.old) result }
     {
@@ -127,7 +127,7 @@ impl<'p, K: Sink> Emit for Press<'p, K> {
     }
 
     fn begin(&mut self, consistent: bool, offset: i8) -> Result<(), PrintError>
-        ensures did { Did (press_meanings K.written K.faults) self.old (tok.Begin consistent offset ∷ []) result self.new }
+        ensures did { Did (press_meanings K.written K.faults K.loan) self.old (tok.Begin consistent offset ∷ []) result self.new }
         ensures room { TakesRoom (lent_core self.old) result (lent_core self.new) }
         ensures same { Repeats (lent_core self.old) result }
     {
@@ -136,7 +136,7 @@ impl<'p, K: Sink> Emit for Press<'p, K> {
 
     fn end(&mut self) -> Result<(), PrintError>
         requires { 0 < (lent_core self.old).groups }
-        ensures did { Did (press_meanings K.written K.faults) self.old (tok.End ∷ []) result self.new }
+        ensures did { Did (press_meanings K.written K.faults K.loan) self.old (tok.End ∷ []) result self.new }
         ensures room { TakesRoom (lent_core self.old) result (lent_core self.new) }
         ensures same { Repeats (lent_core self.old) result }
     {

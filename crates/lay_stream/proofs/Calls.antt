@@ -29,7 +29,7 @@ then_puts {m} {a} {b} {c} {s} {t} p q e = record {
   passes = λ f d h. p.passes f d (q.passes f d h);
   failed_before = λ h. p.failed_before (q.failed_before h);
   failed_after = λ h. q.failed_after (p.failed_after h);
-  same_loan = q.same_loan ∙ p.same_loan;
+  same_loans = q.same_loans ∙ p.same_loans;
 }
 
 pub then_stops : {S F : Type 0} {m : Meanings S F} {a b c : S} {s t : List Tok} {ts : List Tok} {e : F} →
@@ -46,7 +46,7 @@ then_stops {m} {a} {b} {c} {s} {t} p q u e = record {
   later = le_trans p.later q.later;
   because = p.passes _ _ q.because;
   has_failed = q.has_failed;
-  same_loan = q.same_loan ∙ p.same_loan;
+  same_loans = q.same_loans ∙ p.same_loans;
 }
 
 pub stops_more : {S F : Type 0} {m : Meanings S F} {a b : S} {t : List Tok} {ts : List Tok} {e : F} →
@@ -63,7 +63,7 @@ stops_more {m} q u e = record {
   later = q.later;
   because = q.because;
   has_failed = q.has_failed;
-  same_loan = q.same_loan;
+  same_loans = q.same_loans;
 }
 
 -- one more call, after calls that answered Ok
@@ -136,7 +136,7 @@ no_call {m} {a} = record {
     passes = λ f c h. h;
     failed_before = λ h. h;
     failed_after = λ h. h;
-    same_loan = refl;
+    same_loans = refl;
   };
   stops = λ f e. cc;
 }

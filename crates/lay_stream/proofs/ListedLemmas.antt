@@ -23,7 +23,7 @@ list_puts F a ts b e = record {
   passes = λ f c h. tt;
   failed_before = λ h. tt;
   failed_after = λ h. tt;
-  same_loan = refl;
+  same_loans = refl;
 }
 
 list_stops : (F : Type 0) (a ts : List Tok) (f : F) (b : List Tok) → b ≡ a → Stops (list_meanings F) a ts f b
@@ -32,7 +32,7 @@ list_stops F a ts f b e = record {
   later = le_refl 0;
   because = tt;
   has_failed = tt;
-  same_loan = refl;
+  same_loans = refl;
 }
 
 pub list_did : (F T : Type 0) (a ts : List Tok) (r : Result T F) (b : List Tok) → OnOk r (b ≡ a ++ ts) → OnErr r (b ≡ a) → Did (list_meanings F) a ts r b

@@ -13,14 +13,14 @@ pub record Start : Type 0 where
 -- keep what it has written.
 -- groups x: how many groups are open. faults x: a count that never falls. failed x: a call has failed.
 -- cause x e y: calls of which the last one answered e lead from x to y.
--- loan x: the loan that x holds, if it holds one.
+-- loans x: the loans that x holds: that of what it writes to, and those that this holds in turn.
 pub record Meanings (S F : Type 0) : Type 1 where
   pub fed : S → Start → List Tok → Type 0
   pub groups : S → ℕ
   pub faults : S → ℕ
   pub failed : S → Type 0
   pub cause : S → F → S → Type 0
-  pub loan : S → ℕ
+  pub loans : S → List ℕ
 
 -- Ok: the tokens ts were appended, whatever was fed before. What causes a later call to fail is a cause of the whole run
 -- that begins with these calls.
@@ -31,7 +31,7 @@ pub record Puts {S F : Type 0} (m : Meanings S F) (old : S) (ts : List Tok) (new
   pub passes : (fault : F) (end : S) → m.cause new fault end → m.cause old fault end
   pub failed_before : m.failed new → m.failed old
   pub failed_after : m.failed old → m.failed new
-  pub same_loan : m.loan new ≡ m.loan old
+  pub same_loans : m.loans new ≡ m.loans old
 
 -- some front of ts was appended
 pub record FedFront {S F : Type 0} (m : Meanings S F) (new : S) (start : Start) (s ts : List Tok) : Type 0 where
@@ -46,7 +46,7 @@ pub record Stops {S F : Type 0} (m : Meanings S F) (old : S) (ts : List Tok) (fa
   pub later : m.faults old ≤ m.faults new
   pub because : m.cause old fault new
   pub has_failed : m.failed new
-  pub same_loan : m.loan new ≡ m.loan old
+  pub same_loans : m.loans new ≡ m.loans old
 
 -- Calls that are to append the tokens ts, from old to new, of which the last one answered r.
 pub record Did {S F T : Type 0} (m : Meanings S F) (old : S) (ts : List Tok) (r : Result T F) (new : S) : Type 0 where

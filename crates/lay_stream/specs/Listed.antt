@@ -1,5 +1,5 @@
 -- A list of tokens as an Emit.
-use Rattle.std.specs.Prelude.{◌≡◌, List}
+use Rattle.std.specs.Prelude.{◌≡◌, List, []}
 use Rattle.lay_layout.specs.declared.layout.Tok.{Tok}
 use Rattle.lay_layout.specs.Machine.{opened}
 use Rattle.lay_stream.specs.Fed.{Meanings}
@@ -12,5 +12,5 @@ list_meanings F = record {
   faults = λ list. 0;
   failed = λ list. Unit {0};
   cause = λ old fault new. Unit {0};
-  loan = λ list. 0;
+  loans = λ list. [];
 }

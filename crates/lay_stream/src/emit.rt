@@ -12,7 +12,7 @@ pub trait Emit {
     type Fault;
 
     /// What was fed, the groups that are open, the faults, whether a call failed, the causes of failures, and
-    /// the loan that is held.
+    /// the loans that are held.
     ghost meanings: { Meanings Self Self.Fault };
 
     /// Feeds a text.

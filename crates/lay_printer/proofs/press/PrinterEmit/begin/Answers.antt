@@ -1,4 +1,4 @@
-use Rattle.std.proofs.Common.{rules}
+use Rattle.std.proofs.Common.{rules, ◌∷◌, [], ap}
 use Rattle.lay_layout.specs.declared.layout.Tok.TheVariants as tok
 use Rattle.lay_printer.specs.Printers.{Calls}
 use Rattle.lay_printer.proofs.Calling.{did_calls}
@@ -11,4 +11,4 @@ returns-clause-did g c =
     (g.K.Sink.written c.begin.new.sink) (g.K.Sink.faults c.begin.new.sink)
     (tok.Begin c.args.consistent c.args.offset) = search rules in
     rw (← c.self.view_is) (did_calls (λ p. p.core) (λ p. g.K.Sink.written p.sink) (λ p. g.K.Sink.faults p.sink)
-    (λ p. g.K.Sink.loan p.sink) _ _ _ _ k c.begin.ensures.loan)
+    (λ p. g.K.Sink.loan p.sink ∷ []) _ _ _ _ k (ap (λ n. n ∷ []) c.begin.ensures.loan))

@@ -1,7 +1,8 @@
+use Rattle.std.proofs.Common.{◌∷◌, [], ap}
 use Rattle.lay_printer.proofs.Calling.{did_calls}
 use Rattle.lay_printer.proofs.press.PrinterEmit.brk.Goals as goal
 
 pub returns-clause-did : goal.returns-clause-did
 returns-clause-did g c =
     rw (← c.self.view_is) (did_calls (λ p. p.core) (λ p. g.K.Sink.written p.sink) (λ p. g.K.Sink.faults p.sink)
-    (λ p. g.K.Sink.loan p.sink) _ _ _ _ c.brk.ensures.calls c.brk.ensures.loan)
+    (λ p. g.K.Sink.loan p.sink ∷ []) _ _ _ _ c.brk.ensures.calls (ap (λ n. n ∷ []) c.brk.ensures.loan))
