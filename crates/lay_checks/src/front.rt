@@ -348,8 +348,8 @@ fn fails(
     Ok(())
 }
 
-// 8,000 items take five reads of at most 16 KiB and one that finds the end, and a write of the first items that take
-// 64 KiB and one of the others.
+// 8,000 items take five reads of at most 16 KiB and one that finds the end, and four writes each: `struct `, `A`, `;`
+// and the newline.
 #[test]
 fn failures(rt: HostRuntime) -> Result<(), Fail> {
     let alloc = rt.alloc();
@@ -367,14 +367,30 @@ fn failures(rt: HostRuntime) -> Result<(), Fail> {
         (8000, Some(6), None, (Status::Done, 80_000)),
         (8000, Some(7), None, (Status::Done, 80_000)),
         (2, None, Some(0), (Status::WriteFailed, 2)),
-        (2, None, Some(1), (Status::Done, 20)),
+        (2, None, Some(4), (Status::WriteFailed, 12)),
+        (2, None, Some(7), (Status::WriteFailed, 20)),
+        (2, None, Some(8), (Status::Done, 20)),
         (8000, None, Some(0), (Status::WriteFailed, 2)),
-        (8000, None, Some(1), (Status::WriteFailed, 65_542)),
-        (8000, None, Some(2), (Status::Done, 80_000)),
+        (8000, None, Some(31_996), (Status::WriteFailed, 79_992)),
         (8000, None, None, (Status::Done, 80_000)),
     ];
     for (count, read, write, wanted) in rows {
         fails(&rt, alloc, count, read, write, wanted)?;
     }
+    Ok(())
+}
+
+// A text of 50,000 bytes is written as it is laid out: of 5,000 items 25 take the first 100 writes, and one of the next
+// item's fails.
+#[test]
+fn failure_in_the_middle(rt: HostRuntime) -> Result<(), Fail> {
+    let alloc = rt.alloc();
+    let given = List::from_vec(repeated(alloc, b"struct A;", 5000)?);
+    let mut inputs = QuietInputs::new(given, List::new(alloc));
+    let mut out = MemorySink::new(alloc, 100_000, numbers(alloc, Some(100))?, 2)?;
+    let status = status(alloc, &[], &mut inputs, &mut out);
+    assert_eq!(rt; status, Status::WriteFailed);
+    assert_eq!(rt; out.bytes().len(), 252);
+    assert!(rt; repeated(alloc, b"struct A;\n", 26)?.starts_with(out.bytes()));
     Ok(())
 }

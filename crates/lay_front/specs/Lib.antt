@@ -1,4 +1,2 @@
-pub mod Lines
 pub mod Outcome
 pub mod Readings
-pub mod Waiting

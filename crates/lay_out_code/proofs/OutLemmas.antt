@@ -1,22 +1,27 @@
 -- The streams of forms, part by part.
 use Rattle.std.proofs.Common.{◌≡◌, ◌≢◌, ℕ, ◌-◌, ◌≤◌, ◌<◌, Bool, true, false, List, [], ◌∷◌, ◌++◌, map, length}
-use Rattle.std.proofs.Common.{take, drop, get_or, pos, codes, Option, refl, sym, ap, ◌∙◌, append_assoc, arith}
+use Rattle.std.proofs.Common.{take, drop, get_or, pos, codes, Option, Some, None, refl, sym, ap, ◌∙◌, append_assoc, arith}
+use Rattle.lay_layout.specs.Document.{Document, Empty, stream}
 use Rattle.lay_layout.specs.declared.layout.Tok.{Tok}
 use Rattle.lay_layout.specs.declared.layout.Tok.TheVariants as tok
 use Rattle.lay_piece.specs.declared.kind.Delim.{Delim}
 use Rattle.lay_piece.specs.declared.kind.Delim.TheVariants.{Paren, Bracket, Brace}
 use Rattle.lay_form.specs.Form.{Form, Blank, Part, opener, closer, Soft, Hard, Never, Done, Piece, LastComma, punct}
-use Rattle.lay_form.specs.Layout.{ends_behind_point, break_of, comma_break}
-use Rattle.lay_form.specs.Notation.{H, comma_gap, each, piece, comma_list, body, behind_attrs, when}
+use Rattle.lay_form.specs.Layout.{ends_behind_point, break_of, comma_break, document}
+use Rattle.lay_form.specs.Notation.{H, comma_gap, each, piece, comma_list, body, behind_attrs, lines, when}
 use Rattle.lay_form.specs.Stream.{fed, stream_of}
+use Rattle.lay_form.proofs.StreamLaws.{stream_is}
+use Rattle.lay_tree.specs.Out.{behind_shebang, layout_of_file}
 use Rattle.lay_tree.specs.Words.{colons, leaf_of}
 use Rattle.lay_tree.specs.nodes.Attr.{attr_form}
 use Rattle.lay_tree.specs.nodes.Call.{before_rules, end_form, call_form}
 use Rattle.lay_tree.specs.nodes.Facts.{Facts, forms}
+use Rattle.lay_tree.specs.nodes.File.{form_of_file}
 use Rattle.lay_tree.specs.nodes.Item.{about_item, about_kind}
 use Rattle.lay_tree.specs.nodes.Use.{about_use, about_use_end, rename_form, words_form}
 use Rattle.lay_tree.specs.tokens.Lists.{group_form}
 use Rattle.lay_tree.specs.declared.attr.Attr.{Attr}
+use Rattle.lay_tree.specs.declared.file.File.{File}
 use Rattle.lay_tree.specs.declared.item.Item.{Item}
 use Rattle.lay_tree.specs.declared.item.ItemKind.{ItemKind}
 use Rattle.lay_tree.specs.declared.item.ItemKind.TheVariants as item
@@ -328,3 +333,35 @@ rules_kind k name rules is =
 pub call_kind : (k : ItemKind) (call : MacroCall) → k ≡ item.Call call
     → stream_of (call_part call) ≡ stream_of (about_kind k).form
 call_kind k call is = sym (ap (λ (x : ItemKind). stream_of (about_kind x).form) is ∙ same_stream (call_is call))
+
+-- ---- files
+
+pub next_own_line : (e : Form) (es : List Form)
+    → stream_of e ++ (tok.Break (break_of (Hard false)) ∷ stream_of (lines es)) ≡ stream_of (lines (e ∷ es))
+next_own_line e es = sym (fed_more false e (tok.Break (break_of (Hard false)) ∷ stream_of (lines es)))
+
+own_lines_joined : (es fs : List Form)
+    → stream_of (behind_attrs es Done) ++ stream_of (lines fs) ≡ stream_of (lines (es ++ fs))
+own_lines_joined [] fs = refl
+own_lines_joined (e ∷ es) fs =
+    ap (λ (s : List Tok). s ++ stream_of (lines fs)) (sym (next_attr e es))
+    ∙ append_assoc (stream_of e) (tok.Break (break_of (Hard false)) ∷ stream_of (behind_attrs es Done)) (stream_of (lines fs))
+    ∙ ap (λ (s : List Tok). stream_of e ++ (tok.Break (break_of (Hard false)) ∷ s)) (own_lines_joined es fs)
+    ∙ next_own_line e (es ++ fs)
+
+behind_line : (line : Option (List ℕ)) (d : Document)
+    → stream (behind_shebang line Empty) ++ stream d ≡ stream (behind_shebang line d)
+behind_line None d = refl
+behind_line (Some line) d = refl
+
+pub file_parts : (file : File) (attrs : List Attr) (items : List Item) → attrs ≡ file.attrs → items ≡ file.items
+    → stream (behind_shebang file.shebang Empty)
+    ++ (stream_of (behind_attrs (map attr_form attrs) Done) ++ stream_of (lines (forms (map about_item items))))
+    ≡ stream (layout_of_file file)
+file_parts file attrs items same sames =
+    ap (λ (s : List Tok). stream (behind_shebang file.shebang Empty) ++ s)
+    (own_lines_joined (map attr_form attrs) (forms (map about_item items))
+    ∙ ap (λ (xs : List Attr). stream_of (lines (map attr_form xs ++ forms (map about_item items)))) same
+    ∙ ap (λ (xs : List Item). stream_of (lines (map attr_form file.attrs ++ forms (map about_item xs)))) sames
+    ∙ sym (stream_is (form_of_file file)))
+    ∙ behind_line file.shebang (document (form_of_file file))

@@ -1,4 +1,4 @@
-//! Attributes of items.
+//! Attributes on lines of their own.
 ghost use Rattle.std.specs.Prelude.{map};
 ghost use Rattle.lay_stream.specs.Fed.{Did};
 ghost use Rattle.lay_form.specs.Form.{Done};
@@ -11,7 +11,7 @@ use lay_stream::Emit;
 use lay_tree::Attr;
 
 /// Attributes, each with a newline behind it.
-pub fn put_outer_attrs<E: Emit>(out: &mut E, attrs: &[Attr]) -> Result<(), E::Fault>
+pub fn put_attrs<E: Emit>(out: &mut E, attrs: &[Attr]) -> Result<(), E::Fault>
     ensures { Did E.meanings out.old (stream_of (behind_attrs (map attr_form attrs.now) Done)) result out.new }
 {
     for attr in attrs {

@@ -12,7 +12,7 @@ ghost use Rattle.lay_tree.specs.nodes.Facts.{forms};
 ghost use Rattle.lay_tree.specs.nodes.Item.{about_item, about_kind};
 ghost use Rattle.lay_out_code.specs.Parts.{call_part, import_part, module_part, no_forms, rules_part, struct_part};
 
-use crate::attributes::put_outer_attrs;
+use crate::attributes::put_attrs;
 use crate::uses::put_use;
 use lay_out_tokens::notation::{close_body, open_body};
 use lay_out_tokens::{HARD_BREAK, put_bare_attr, put_call, put_group, put_word};
@@ -25,7 +25,7 @@ use lay_tree::{Attr, Group, Item, ItemKind, MacroCall, Name, UseTree};
 pub fn put_item<E: Emit>(out: &mut E, item: &Item) -> Result<(), E::Fault>
     ensures { Did E.meanings out.old (stream_of (about_item item.now).form) result out.new }
 {
-    put_outer_attrs(out, item.attrs.as_slice())?;
+    put_attrs(out, item.attrs.as_slice())?;
     put_kind(out, &item.kind)
 }
 

@@ -1,12 +1,12 @@
 //! How trees are laid out, fed to an [`Emit`](lay_stream::Emit) token by token.
 //!
-//! Each call appends exactly the stream of the form that `lay_tree` gives to its node, or stops where the `Emit`
-//! does.
+//! [`put_file`] appends exactly the stream of the layout that `lay_tree` gives to a file, or stops where the `Emit`
+//! does; and so does each function within, of the form of its node.
 #![tactic(auto)]
 
 mod attributes;
+mod files;
 mod items;
 mod uses;
 
-pub use items::put_item;
-pub use lay_out_tokens::{HARD_BREAK, put_bare_attr};
+pub use files::put_file;

@@ -12,14 +12,14 @@ use Rattle.lay_out_code.proofs.OutLemmas.{next_line, item_parts, struct_kind, mo
 use Rattle.lay_out_code.proofs.OutLemmas.{call_kind, module_parts, bare_body, full_body}
 use Rattle.lay_out_code.proofs.items.+put_item.Goals as goal
 
-pub put_item-returns-in_err-put_outer_attrs : goal.put_item-returns-in_err-put_outer_attrs
-put_item-returns-in_err-put_outer_attrs g t c =
-    last (stream_leave _ c.in_err-put_outer_attrs.ensures c.from_residual.ensures.1)
+pub put_item-returns-in_err-put_attrs : goal.put_item-returns-in_err-put_attrs
+put_item-returns-in_err-put_attrs g t c =
+    last (stream_leave _ c.in_err-put_attrs.ensures c.from_residual.ensures.1)
     (item_parts c.args.item.now _ c.as_slice.ensures)
 
 pub put_item-returns : goal.put_item-returns
 put_item-returns g t c =
-    last (stream_on c.in_ok-put_outer_attrs.ensures c.put_kind.ensures)
+    last (stream_on c.in_ok-put_attrs.ensures c.put_kind.ensures)
     (item_parts c.args.item.now _ c.as_slice.ensures)
 
 pub put_kind-returns-in-Struct : goal.put_kind-returns-in-Struct

@@ -7,7 +7,7 @@ use Rattle.lay_tree.specs.nodes.Attr.{attr_form}
 use Rattle.lay_tree.specs.declared.attr.Attr.{Attr}
 use Rattle.lay_out_tokens.proofs.StreamParts.{loop_step, loop_done}
 use Rattle.lay_out_code.proofs.OutLemmas.{next_attr}
-use Rattle.lay_out_code.proofs.attributes.put_outer_attrs.Goals as goal
+use Rattle.lay_out_code.proofs.attributes.put_attrs.Goals as goal
 
 pub returns-in_err-put_bare_attr : goal.returns-in_err-put_bare_attr
 returns-in_err-put_bare_attr g c =

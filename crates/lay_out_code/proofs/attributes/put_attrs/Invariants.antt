@@ -4,7 +4,7 @@ use Rattle.lay_form.specs.Form.{Done}
 use Rattle.lay_form.specs.Notation.{behind_attrs}
 use Rattle.lay_form.specs.Stream.{stream_of}
 use Rattle.lay_tree.specs.nodes.Attr.{attr_form}
-use Rattle.lay_out_code.proofs.attributes.put_outer_attrs.Given as goal
+use Rattle.lay_out_code.proofs.attributes.put_attrs.Given as goal
 
 -- calls that put the rest, put all
 abbrev pub invariant-loop-attr : goal.invariant-loop-attr
