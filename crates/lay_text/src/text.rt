@@ -6,6 +6,9 @@ use smallvec::SmallVec;
 use std::alloc::Global;
 use std::marker::Model;
 
+/// How many bytes a text keeps in the value itself.
+const INLINE: usize = 22;
+
 /// A list of bytes. Up to 22 of them are kept in the value itself, where no memory is taken.
 #[derive(Debug, Drop)]
 pub struct Text {
@@ -38,15 +41,38 @@ impl Text {
         ensures ok { IfOk result (λ text. text ≡ bytes.now) }
         ensures short { length bytes.now ≤ 22 → IsOk result }
     {
-        let mut text = Text::new(alloc);
         match bytes {
             // Every second token is a mark.
-            [byte] => text.push(*byte)?,
-            _ => {
-                text.bytes.reserve_exact(bytes.len())?;
-                text.push_bytes(bytes)?;
+            [byte] => {
+                let mut text = Text::new(alloc);
+                text.push(*byte)?;
+                Ok(text)
             }
+            _ if bytes.len() <= INLINE => Ok(Text::short(alloc, bytes)),
+            _ => Text::long(alloc, bytes),
         }
+    }
+
+    /// A copy of at most 22 bytes.
+    #[inline(always)]
+    fn short(alloc: Global, bytes: &[u8]) -> Text
+        requires { length bytes.now ≤ 22 }
+        ensures { result ≡ bytes.now }
+    {
+        let mut copy = SmallVec::new(alloc);
+        for byte in bytes {
+            copy.push_reserved(*byte);
+        }
+        Text { bytes: copy }
+    }
+
+    /// A copy of the bytes, with no more room than it needs.
+    fn long(alloc: Global, bytes: &[u8]) -> Result<Text, NoMemory>
+        ensures { IfOk result (λ text. text ≡ bytes.now) }
+    {
+        let mut text = Text::new(alloc);
+        text.bytes.reserve_exact(bytes.len())?;
+        text.push_bytes(bytes)?;
         Ok(text)
     }
 
