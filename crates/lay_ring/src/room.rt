@@ -11,8 +11,8 @@ pub fn spare<T>(buffer: &HeapCircularBuffer<T>) -> usize
     buffer.capacity() - buffer.len()
 }
 
-/// Makes room for so many more items. Where there was too little, it becomes twice as much at the least, so
-/// that items which are pushed one by one are moved a bounded number of times each.
+/// Makes room for so many more items.
+#[inline(always)]
 pub fn reserve<T>(buffer: &mut HeapCircularBuffer<T>, more: usize) -> Result<(), NoMemory>
     ensures items { buffer.new.items ≡ buffer.old.items }
     ensures never_less { buffer.old.capacity ≤ buffer.new.capacity }
@@ -24,6 +24,17 @@ pub fn reserve<T>(buffer: &mut HeapCircularBuffer<T>, more: usize) -> Result<(),
     if more <= spare(buffer) {
         return Ok(());
     }
+    grow(buffer, more)
+}
+
+/// Makes more room, twice as much at the least, so that items which are pushed one by one are moved a bounded
+/// number of times each.
+fn grow<T>(buffer: &mut HeapCircularBuffer<T>, more: usize) -> Result<(), NoMemory>
+    ensures items { buffer.new.items ≡ buffer.old.items }
+    ensures never_less { buffer.old.capacity ≤ buffer.new.capacity }
+    ensures ok { OnOk result (length buffer.old.items + more ≤ buffer.new.capacity) }
+    ensures err { OnErr result (buffer.new ≡ buffer.old) }
+{
     let Some(wanted) = buffer.len().checked_add(more) else {
         return Err(NoMemory);
     };
