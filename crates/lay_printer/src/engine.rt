@@ -132,7 +132,22 @@ impl Engine {
     }
 
     /// Prints entries while they are decided.
+    #[inline(always)]
     fn drain<K: Sink>(&mut self, sink: &mut K) -> Result<(), Failed>
+        ensures prints { Advances self.old.queue.ended self.old.queue.ring.entries self.old.page.line self.old.page.frames.frames (K.written sink.old) result self.new.queue.ring.entries self.new.page.line self.new.page.frames.frames (K.written sink.new) (λ s. s) }
+        ensures stays { Stays self.old self.new }
+        ensures stops { OnOk result (Decided self.new.queue.ring.entries self.new.queue.waiting self.new.page.line None) }
+        ensures cause { HasCause (K.faults sink.old) (K.faults sink.new) result }
+        ensures loan { SameLoan (K.loan sink.old) (K.loan sink.new) }
+    {
+        if self.decide().is_none() {
+            return Ok(());
+        }
+        self.print_decided(sink)
+    }
+
+    /// Prints entries while they are decided.
+    fn print_decided<K: Sink>(&mut self, sink: &mut K) -> Result<(), Failed>
         ensures prints { Advances self.old.queue.ended self.old.queue.ring.entries self.old.page.line self.old.page.frames.frames (K.written sink.old) result self.new.queue.ring.entries self.new.page.line self.new.page.frames.frames (K.written sink.new) (λ s. s) }
         ensures stays { Stays self.old self.new }
         ensures stops { OnOk result (Decided self.new.queue.ring.entries self.new.queue.waiting self.new.page.line None) }
@@ -146,6 +161,7 @@ impl Engine {
     }
 
     /// Whether the oldest entry doesn't fit, once that is decided.
+    #[inline(always)]
     fn decide(&self) -> Option<bool>
         ensures { Decided self.now.queue.ring.entries self.now.queue.waiting self.now.page.line result }
     {
@@ -171,6 +187,7 @@ impl Engine {
         }
     }
 
+    /// Prints the oldest entry where it stands, and takes it away.
     fn print_front<K: Sink>(&mut self, sink: &mut K, big: bool) -> Result<(), Failed>
         requires { Decided self.old.queue.ring.entries self.old.queue.waiting self.old.page.line (Some big) }
         ensures prints { Advances self.old.queue.ended self.old.queue.ring.entries self.old.page.line self.old.page.frames.frames (K.written sink.old) result self.new.queue.ring.entries self.new.page.line self.new.page.frames.frames (K.written sink.new) (λ s. s) }
@@ -179,10 +196,13 @@ impl Engine {
         ensures cause { HasCause (K.faults sink.old) (K.faults sink.new) result }
         ensures loan { SameLoan (K.loan sink.old) (K.loan sink.new) }
     {
-        match self.queue.pop() {
+        let queue = &self.queue;
+        let printed = match queue.ring.front() {
             Some(entry) => self.page.print(sink, &entry.tok, big),
             None => unreachable!(),
-        }
+        };
+        self.queue.drop_front();
+        printed
     }
 
     /// How many tokens may come before memory is taken.
@@ -192,6 +212,20 @@ impl Engine {
     {
         let rooms = self.page.frames.spare() - self.queue.ring.len();
         self.queue.room().min(rooms)
+    }
+
+    /// How many tokens may come before memory is taken, after one token: where so many might before, one less,
+    /// which needs no look at the room.
+    #[inline(always)]
+    pub fn room_after(&self, before: usize) -> usize
+        requires { before ≤ room_of self.now + 1 }
+        ensures within { result ≤ room_of self.now }
+        ensures lowers { before ≤ result + 1 }
+    {
+        match before.checked_sub(1) {
+            Some(less) => less,
+            None => self.room(),
+        }
     }
 
     /// Makes room for so many more tokens.

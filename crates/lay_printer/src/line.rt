@@ -33,7 +33,25 @@ pub fn shifted(indent: u64, offset: i8) -> u64
 impl Line {
     ghost use Rattle.lay_printer.specs.Pages.{Moves};
 
+    /// Writes the blanks that wait, if there are any.
+    #[inline(always)]
     fn write_blanks<K: Sink>(&mut self, sink: &mut K) -> Result<(), Failed>
+        ensures bytes { Writes (K.written sink.old) (K.written sink.new) result (replicate self.old.pending 32) }
+        ensures pending { OnOk result (self.new.pending ≡ 0) }
+        ensures room { self.new.room ≡ self.old.room }
+        ensures used { self.new.used ≡ self.old.used }
+        ensures cause { HasCause (K.faults sink.old) (K.faults sink.new) result }
+        ensures loan { SameLoan (K.loan sink.old) (K.loan sink.new) }
+    {
+        if self.pending == 0 {
+            return Ok(());
+        }
+        self.write_pending(sink)
+    }
+
+    /// Writes the blanks that wait, up to 64 at once.
+    #[inline(never)]
+    fn write_pending<K: Sink>(&mut self, sink: &mut K) -> Result<(), Failed>
         ensures bytes { Writes (K.written sink.old) (K.written sink.new) result (replicate self.old.pending 32) }
         ensures pending { OnOk result (self.new.pending ≡ 0) }
         ensures room { self.new.room ≡ self.old.room }

@@ -151,7 +151,7 @@ impl Core {
         }
         match self.engine.feed(sink, tok) {
             Ok(()) => {
-                self.spare = self.engine.room();
+                self.spare = self.engine.room_after(self.spare);
                 Ok(())
             }
             Err(fault) => {

@@ -249,9 +249,9 @@ impl Queue {
         self.ended = true;
     }
 
-    /// Takes the oldest entry.
-    pub fn pop(&mut self) -> Option<Entry>
-        ensures value { result ≡ slice_get self.old.ring.entries 0 }
+    /// Takes the oldest entry away.
+    #[inline(always)]
+    pub fn drop_front(&mut self)
         ensures entries { self.new.ring.entries ≡ drop 1 self.old.ring.entries }
         ensures groups { self.new.groups ≡ self.old.groups }
         ensures ring_spare { self.old.ring.spare ≤ self.new.ring.spare }
@@ -259,13 +259,9 @@ impl Queue {
         ensures number { next_of self.new.ring.first self.new.ring.entries ≡ next_of self.old.ring.first self.old.ring.entries }
         ensures ended { self.new.ended ≡ self.old.ended }
     {
-        match self.ring.pop_front() {
-            Some(entry) => {
-                drop_note(&mut self.notes, entry.size);
-                self.waiting -= text_len(&entry.tok);
-                Some(entry)
-            }
-            None => None,
+        if let Some(entry) = self.ring.pop_front() {
+            drop_note(&mut self.notes, entry.size);
+            self.waiting -= text_len(&entry.tok);
         }
     }
 

@@ -3,7 +3,7 @@ use Rattle.lay_io.specs.Faults.{SameLoan}
 use Rattle.lay_layout.specs.declared.layout.Tok.{Tok}
 use Rattle.lay_printer.specs.Engines.{Stays}
 use Rattle.lay_printer.specs.Queued.{Running}
-use Rattle.lay_printer.proofs.engine.Engine.drain.Given as goal
+use Rattle.lay_printer.proofs.engine.Engine.print_decided.Given as goal
 
 abbrev pub invariant-loop-big : goal.invariant-loop-big
 invariant-loop-big g l = record {

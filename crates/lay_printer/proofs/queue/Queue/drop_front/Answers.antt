@@ -3,7 +3,7 @@ use Rattle.lay_ring.specs.Held.{number_after_pop}
 use Rattle.lay_ring.specs.declared.entry.Entry.{Entry}
 use Rattle.lay_printer.proofs.Queueing.{Good, good_pop}
 use Rattle.lay_printer.proofs.Running.{front_is}
-use Rattle.lay_printer.proofs.queue.Queue.pop.Goals as goal
+use Rattle.lay_printer.proofs.queue.Queue.drop_front.Goals as goal
 
 pub invariant_of-self : goal.invariant_of-self
 invariant_of-self c =
