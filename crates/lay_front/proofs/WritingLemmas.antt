@@ -1,5 +1,6 @@
 -- A file whose stream was printed on a sink that was lent to a press.
-use Rattle.std.proofs.Common.{◌≡◌, ℕ, ◌≤◌, List, get_or, Option, Result, Ok, Err, OnOk, OnErr, IfErr, IsErrOf, sym, ap, ◌∙◌, subst}
+use Rattle.std.proofs.Common.{◌≡◌, ℕ, ◌≤◌, List, get_or, Option, Result, Ok, Err, OnOk, OnErr, IfErr, IsErrOf}
+use Rattle.std.proofs.Common.{sym, ap, ◌∙◌, subst}
 use Rattle.lay_layout.specs.Document.{stream}
 use Rattle.lay_layout.proofs.Render.{text_stream}
 use Rattle.lay_io.specs.Faults.{Rose, SameLoan}
@@ -27,16 +28,18 @@ cause_of a b (Ok x) h e = cc
 cause_of a b (Err x) h e = let same : x ≡ WriteFailed = cc in h same
 
 -- The sink that was lent is the one that comes back, and holds the loan that it held.
-pub file_written : {K T : Type 0} (written : K → Option (List ℕ)) (faults loan : K → ℕ) (x y : Press K) (before now : K) (file : File)
-    (result : Result T PrintError) → lent_sink x ≡ before → lent_sink y ≡ now → press_loans loan y ≡ press_loans loan x
-    → Printed (written (lent_sink x)) (written (lent_sink y)) (faults (lent_sink x)) (faults (lent_sink y)) result (stream (layout_of_file file))
+pub file_written : {K T : Type 0} (written : K → Option (List ℕ)) (faults loan : K → ℕ) (x y : Press K)
+    (before now : K) (file : File) (result : Result T PrintError)
+    → lent_sink x ≡ before → lent_sink y ≡ now → press_loans loan y ≡ press_loans loan x
+    → Printed (written (lent_sink x)) (written (lent_sink y)) (faults (lent_sink x)) (faults (lent_sink y)) result
+    (stream (layout_of_file file))
     → Written written faults loan before now file result
 file_written written faults loan x y before now file result first last same h =
     let k = printed_along written faults _ _ _ _ result (stream (layout_of_file file)) first last h in
     let text_is = text_stream (layout_of_file file) in
     record {
       later = k.cause.later;
-      same_loan = ap loan (sym last) ∙ ap (λ (names : List ℕ). get_or names 1 0) same ∙ ap loan first;
+      same_loan = ap loan (sym last) ∙ ap (λ (loans : List ℕ). get_or loans 1 0) same ∙ ap loan first;
       whole = subst (λ (t : List ℕ). OnOk result (GrewBy (written before) (written now) t)) text_is k.ok;
       part = subst (λ (t : List ℕ). OnErr result (GrewByPrefix (written before) (written now) t)) text_is k.err;
       cause = cause_of (faults before) (faults now) result k.cause.failed;

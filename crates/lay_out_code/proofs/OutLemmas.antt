@@ -1,6 +1,7 @@
 -- The streams of forms, part by part.
 use Rattle.std.proofs.Common.{◌≡◌, ◌≢◌, ℕ, ◌-◌, ◌≤◌, ◌<◌, Bool, true, false, List, [], ◌∷◌, ◌++◌, map, length}
-use Rattle.std.proofs.Common.{take, drop, get_or, pos, codes, Option, Some, None, refl, sym, ap, ◌∙◌, append_assoc, arith}
+use Rattle.std.proofs.Common.{take, drop, get_or, pos, codes, Option, Some, None}
+use Rattle.std.proofs.Common.{refl, sym, ap, ◌∙◌, append_assoc, arith}
 use Rattle.lay_layout.specs.Document.{Document, Empty, stream}
 use Rattle.lay_layout.specs.declared.layout.Tok.{Tok}
 use Rattle.lay_layout.specs.declared.layout.Tok.TheVariants as tok
@@ -345,7 +346,8 @@ own_lines_joined : (es fs : List Form)
 own_lines_joined [] fs = refl
 own_lines_joined (e ∷ es) fs =
     ap (λ (s : List Tok). s ++ stream_of (lines fs)) (sym (next_attr e es))
-    ∙ append_assoc (stream_of e) (tok.Break (break_of (Hard false)) ∷ stream_of (behind_attrs es Done)) (stream_of (lines fs))
+    ∙ append_assoc (stream_of e) (tok.Break (break_of (Hard false)) ∷ stream_of (behind_attrs es Done))
+    (stream_of (lines fs))
     ∙ ap (λ (s : List Tok). stream_of e ++ (tok.Break (break_of (Hard false)) ∷ s)) (own_lines_joined es fs)
     ∙ next_own_line e (es ++ fs)
 
