@@ -2,11 +2,39 @@
 use Rattle.std.proofs.Common.{◌≡◌, inl, inr, ℕ, ◌+◌, ◌≤◌, Bool, true, false, not, ◌&&◌, ◌||◌, ℤ, refl, ap, ◌∙◌, arith}
 use Rattle.std.proofs.lemmas.Bool.{or_cases, eqb-true, lt-ltb, both_ways, false_from_ne_true}
 use Rattle.lay_layout.specs.declared.layout.Break.{Break}
+use Rattle.lay_layout.specs.declared.layout.Mark.{Mark}
+use Rattle.lay_layout.specs.declared.layout.Mark.TheVariants.{Absent, Comma, OpenBrace, CloseBrace}
 use Rattle.lay_layout.specs.declared.layout.Frame.{Frame}
 use Rattle.lay_layout.specs.declared.layout.Frame.TheVariants.{Flat, Broken}
-use Rattle.lay_layout.specs.Document.{Document, Empty, AddText, AddBreak, AddGroup, State, flat, ahead, render, width_of_break, over, write, enter, break_by, break_in, outside, start, text_of}
-use Rattle.lay_layout.proofs.Lines.{render_room}
+use Rattle.lay_layout.specs.Document.{Document, Empty, AddText, AddBreak, AddGroup, State, flat, ahead, render, width_of_break, over, write, put_mark, newline, enter, break_by, break_in, outside, start, text_of}
 use Rattle.lay_layout.specs.Anyway.{is_hard, has_hard, Enters, Leads, Anyway}
+
+mark_room : (m : Mark) (s : State) → s.room ≤ 89 → (put_mark m s).room ≤ 89
+mark_room Absent s h = h
+mark_room Comma s h = h
+mark_room OpenBrace s h = h
+mark_room CloseBrace s h = h
+
+newline_room : (b : Break) (i : ℕ) (s : State) → (newline b i s).room ≤ 89
+newline_room b i s = mark_room b.after _ (omega arith)
+
+break_room : (never : Bool) (f : Frame) (b : Break) (big : Bool) (s : State) → s.room ≤ 89 → (break_by never f b big s).room ≤ 89
+break_room true f b big s h = mark_room b.instead _ h
+break_room false Flat b big s h = mark_room b.instead _ h
+break_room false (Broken true i) b big s h = newline_room b i s
+break_room false (Broken false i) b true s h = newline_room b i s
+break_room false (Broken false i) b false s h = mark_room b.instead _ h
+
+-- A line has no more than 89 columns of room.
+render_room : (d : Document) (f : Frame) (s : State) (follow : ℕ) → s.room ≤ 89 → (render d f s follow).room ≤ 89
+render_room Empty f s follow h = h
+render_room (AddText t rest) f s follow h = render_room rest f (write t s) follow h
+render_room (AddBreak b rest) f s follow h =
+    let big = over (width_of_break b + ahead rest follow) s in
+    render_room rest f (break_in f b big s) follow (break_room b.never f b big s h)
+render_room (AddGroup c o inner rest) f s follow h =
+    let g = enter f c o (over (flat inner + ahead rest follow) s) in
+    render_room rest f (render inner g s (ahead rest follow)) follow (render_room inner g s (ahead rest follow) h)
 
 hard_wide : (b : Break) → is_hard b ≡ true → 65535 ≤ b.blank
 hard_wide b h = let e : b.blank ≡ 65535 = eqb-true b.blank 65535 h in omega arith

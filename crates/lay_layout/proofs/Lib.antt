@@ -1,4 +1,3 @@
 pub mod AnywayLaws
-pub mod Lines
 pub mod Render
 pub mod Whole

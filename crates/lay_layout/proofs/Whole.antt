@@ -45,12 +45,16 @@ nested_stream (AddBreak b rest) n s h = nested_stream rest n s h
 nested_stream (AddGroup c o inner rest) n s h =
     rw append_assoc (nested_stream inner (suc n) (tok.End ∷ (stream rest ++ s)) (omega arith, nested_stream rest n s h))
 
-pub opened_stream : (d : Document) (n : ℕ) (s : List Tok) → opened (stream d ++ s) n ≡ opened s n
+opened_stream : (d : Document) (n : ℕ) (s : List Tok) → opened (stream d ++ s) n ≡ opened s n
 opened_stream Empty n s = refl
 opened_stream (AddText t rest) n s = opened_stream rest n s
 opened_stream (AddBreak b rest) n s = opened_stream rest n s
 opened_stream (AddGroup c o inner rest) n s =
     rw append_assoc (opened_stream inner (suc n) (tok.End ∷ (stream rest ++ s)) ∙ opened_stream rest n s)
+
+-- A document leaves as many groups open as were open before.
+pub opened_document : (d : Document) (n : ℕ) → opened (stream d) n ≡ n
+opened_document d n = rw append-nil at (opened_stream d n [])
 
 pub closed_stream : (d : Document) → IsClosed 0 (stream d)
 closed_stream d =

@@ -27,13 +27,6 @@ stream (AddGroup c o inner rest) = tok.Begin c o ∷ (stream inner ++ tok.End �
 abbrev pub IsWhole : List Tok → Type 0
 IsWhole s = (d : Document) × (stream d ≡ s)
 
--- one document behind another
-abbrev pub joined : Document → Document → Document
-joined Empty e = e
-joined (AddText t rest) e = AddText t (joined rest e)
-joined (AddBreak b rest) e = AddBreak b (joined rest e)
-joined (AddGroup c o inner rest) e = AddGroup c o inner (joined rest e)
-
 abbrev pub bytes_of_mark : Mark → List ℕ
 bytes_of_mark Absent = []
 bytes_of_mark Comma = 44 ∷ []

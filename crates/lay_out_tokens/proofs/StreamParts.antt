@@ -12,7 +12,7 @@ use Rattle.lay_layout.specs.declared.layout.Tok.{Tok}
 use Rattle.lay_layout.specs.declared.layout.Tok.TheVariants as tok
 use Rattle.lay_piece.specs.declared.kind.Delim.{Delim}
 use Rattle.lay_piece.specs.declared.kind.Delim.TheVariants.{Paren, Bracket, Brace}
-use Rattle.lay_layout.proofs.Lines.{opened_document}
+use Rattle.lay_layout.proofs.Whole.{opened_document}
 use Rattle.lay_stream.specs.Fed.{Meanings, Did}
 use Rattle.lay_stream.proofs.Calls.{level_of}
 use Rattle.lay_form.specs.Form.{Form, Blank, Part, closer, Done, Piece}

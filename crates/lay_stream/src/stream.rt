@@ -11,9 +11,6 @@ use lay_text::{NoMemory, Text};
 use std::alloc::Global;
 use std::marker::Model;
 
-/// The greatest room that is kept, in tokens.
-const KEPT: usize = 1024;
-
 /// A list of tokens, in which each `End` closes a group. `NoMemory` leaves it as it was.
 #[derive(Debug, Drop)]
 pub struct Stream {
@@ -41,17 +38,6 @@ impl Stream {
         Stream {
             alloc,
             toks: Vec::new(alloc),
-        }
-    }
-
-    /// Takes all tokens away. The room of a few is kept for others.
-    pub fn clear(&mut self)
-        ensures { self.new ≡ [] }
-    {
-        if self.toks.capacity() <= KEPT {
-            self.toks.clear();
-        } else {
-            self.toks = Vec::new(self.alloc);
         }
     }
 
