@@ -3,7 +3,7 @@ use Rattle.std.proofs.Common.{pos, negsuc, ◌≡◌, ◌≢◌, ℕ, ◌+◌, �
 use Rattle.lay_layout.specs.declared.layout.Frame.{Frame}
 use Rattle.lay_layout.specs.declared.layout.Tok.{Tok}
 use Rattle.lay_layout.specs.Machine.{begun, opened, text, IsNested, IsClosed}
-use Rattle.lay_io.specs.Faults.{Rose}
+use Rattle.lay_io.specs.Faults.{HasCause, Rose}
 use Rattle.lay_ring.specs.declared.entry.Entry.{Entry}
 use Rattle.lay_ring.specs.declared.entry.Size.{Size}
 use Rattle.lay_ring.specs.declared.entry.Size.TheVariants.{Unknown, Known, Forced}
@@ -15,7 +15,7 @@ use Rattle.lay_printer.specs.Printing.{Printing}
 use Rattle.lay_printer.specs.Scan.{Holds, waiting}
 use Rattle.lay_printer.specs.Pages.{Wrote, Cut}
 use Rattle.lay_printer.specs.Errors.{Blames}
-use Rattle.lay_printer.specs.Queued.{Advances, Says, Decided, next_of}
+use Rattle.lay_printer.specs.Queued.{least_width, Advances, Says, Decided, next_of}
 use Rattle.lay_printer.specs.Printers.{at, Runs, Fails, FedBy, CauseOf, LostBy, Went, Lost, Calls, Finishes, printer_meanings}
 use Rattle.lay_stream.proofs.Calls.{opened_append}
 use Rattle.lay_stream.proofs.ListedLemmas.{nested_append}
@@ -89,6 +89,16 @@ calls_err c c' b n f f' e es' p' fs' t u v o k h = record {
     because = cause_now e f f' c.failed h.failed;
   };
 }
+
+-- a token was printed at once
+pub calls_now_ok : {T E : Type 0} (c c' : Printing) (b n : Option (List ℕ)) (f f' : ℕ) (v : T) (t : Tok) →
+    c.failed ≡ None → c'.failed ≡ None → IsNested c.groups (t ∷ []) → Advances {T = T} {E = E} false c.entries c.line c.frames b (Ok v) c'.entries c'.line c'.frames n (λ s. s ++ t ∷ []) → HasCause {T = T} {E = E} f f' (Ok v) →
+    c'.groups ≡ opened (t ∷ []) c.groups → next_of c'.first c'.entries ≡ (next_of c.first c.entries + 1) % 2 ^ 64 → c'.first < 2 ^ 64 → Calls {T = T} c b f (Ok v) c' n f' t
+calls_now_ok c c' b n f f' v t u w o k h g m z = calls_ok c c' b n f f' v t u w o (record { ok = k.ok; err = tt }) (record { later = h.later; failed = tt }) g m z
+
+pub calls_now_err : {T E : Type 0} (c c' : Printing) (b n : Option (List ℕ)) (f f' : ℕ) (e : E) (es' : List Entry) (p' : Line) (fs' : List Frame) (t : Tok) →
+    c.failed ≡ None → c'.failed ≡ Some WriteFailed → IsNested c.groups (t ∷ []) → Advances {T = T} {E = E} false c.entries c.line c.frames b (Err e) es' p' fs' n (λ s. s ++ t ∷ []) → HasCause {T = T} {E = E} f f' (Err e) → Calls {T = T} c b f (Err WriteFailed) c' n f' t
+calls_now_err c c' b n f f' e es' p' fs' t u v o k h = calls_err c c' b n f f' WriteFailed es' p' fs' t u v o (record { ok = tt; err = k.err }) (record { later = h.later; failed = λ q. h.failed })
 
 pub calls_no_memory : {T : Type 0} (c c' : Printing) (b : Option (List ℕ)) (f : ℕ) (t : Tok) → c.failed ≡ None → c'.failed ≡ Some NoMemory → IsNested c.groups (t ∷ []) → Calls {T = T} c b f (Err NoMemory) c' b f t
 calls_no_memory c c' b f t u v o = record {
@@ -190,13 +200,13 @@ did_calls core written faults loans x y t (Err v) k o = record {
   stops = λ f e. subst (λ (z : PrintError). Stops (printer_meanings core written faults loans) x (t ∷ []) z y) (err_is _ v f refl e) (lost_stops core written faults loans x y t v k.err k.later o);
 }
 
-lag_at : (z : Size) (wait : ℕ) (p : Line) → Says z wait p None → wait ≤ p.room - p.used
-lag_at Unknown wait p h = omega arith
-lag_at (Known (pos k)) wait p h = cc
-lag_at (Known (negsuc k)) wait p h = cc
-lag_at Forced wait p h = cc
+lag_at : (z : Size) (least wait : ℕ) (p : Line) → Says z least wait p None → wait ≤ p.room - p.used
+lag_at Unknown least wait p h = omega arith
+lag_at (Known (pos k)) least wait p h = cc
+lag_at (Known (negsuc k)) least wait p h = cc
+lag_at Forced least wait p h = cc
 
 -- nothing more is decided: no more text waits than fits
 pub lag_of : (es : List Entry) (wait : ℕ) (p : Line) → wait ≡ waiting es → Decided es wait p None → wait ≤ p.room - p.used
 lag_of [] wait p w d = omega arith
-lag_of (e ∷ es) wait p w d = lag_at e.size wait p d
+lag_of (e ∷ es) wait p w d = lag_at e.size (least_width e.tok) wait p d

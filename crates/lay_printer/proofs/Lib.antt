@@ -9,6 +9,7 @@ pub mod Paging
 pub mod Splitting
 pub mod Queueing
 pub mod Running
+pub mod Clearing
 pub mod Calling
 pub mod Through
 pub mod Lockstep

@@ -4,7 +4,7 @@ use Rattle.std.proofs.lemmas.Bool.Decides.{nat_tests}
 use Rattle.lay_layout.specs.declared.layout.Frame.{Frame}
 use Rattle.lay_layout.specs.declared.layout.Tok.{Tok}
 use Rattle.lay_layout.specs.Document.{State, over}
-use Rattle.lay_layout.specs.Machine.{Layout, act, play, step, begun, text}
+use Rattle.lay_layout.specs.Machine.{Layout, act, measure, play, step, begun, text}
 use Rattle.lay_ring.specs.declared.entry.Size.{Size}
 use Rattle.lay_ring.specs.declared.entry.Size.TheVariants.{Unknown, Known, Forced}
 use Rattle.lay_ring.specs.declared.entry.Entry.{Entry}
@@ -13,8 +13,8 @@ use Rattle.lay_printer.specs.Scan.{Scan, Stopped, Going, at_end, size_of_scan, s
 use Rattle.lay_printer.specs.Notes.{scans}
 use Rattle.lay_printer.specs.Closed.{toks_of, sizes_of}
 use Rattle.lay_printer.specs.Pages.{Is, Wrote, Cut}
-use Rattle.lay_printer.specs.Queued.{Running, Broken, Prints, Advances, Ends, Says, Decided}
-use Rattle.lay_printer.proofs.Steps.{size_of, Grows, grows_play, fed_one, print_known, print_forced, to_end, text_ended}
+use Rattle.lay_printer.specs.Queued.{least_width, At, Running, Broken, Prints, Advances, Ends, Says, Decided}
+use Rattle.lay_printer.proofs.Steps.{size_of, Grows, grows_play, fed_one, print_known, print_forced, print_now, to_end, text_ended}
 use Rattle.lay_printer.proofs.Paging.{cut_more, wrote_cut}
 use Rattle.lay_printer.proofs.Lockstep.{toks_sized}
 
@@ -90,7 +90,7 @@ front_size e t z es (x ∷ w) h =
 
 -- the oldest entry is printed as was decided
 step_at : (x : Bool) (s : List Tok) (t : Tok) (z : Size) (es : List Entry) (m : Layout) (p : Line) (wait : ℕ) (big : Bool) → Is p m.state →
-    wait ≡ waiting (record { tok = t; size = z } ∷ es) → Says z wait p (Some big) → IsSize x z → Holds x s (record { tok = t; size = z } ∷ es) m → Holds x s es (act t big m)
+    wait ≡ waiting (record { tok = t; size = z } ∷ es) → Says z (least_width t) wait p (Some big) → IsSize x z → Holds x s (record { tok = t; size = z } ∷ es) m → Holds x s es (act t big m)
 step_at x s t (Known (pos k)) es m p wait big i w d q h =
     let e : nat_lt p.room (p.used + k) ≡ big = cc in
     subst (λ (y : Bool). Holds x s es (act t y m)) (sym (over_page p m.state k i) ∙ e) (print_known x s t k es m h)
@@ -123,12 +123,35 @@ prints_by x es es' t p p' fs fs' b n big (Err y) f k = record {
 pub prints_front : {T E : Type 0} (x : Bool) (es es' : List Entry) (e : Entry) (p p' : Line) (fs fs' : List Frame) (b n : Option (List ℕ)) (wait : ℕ) (big : Bool) (res : Result T E) →
     es ≡ e ∷ es' → wait ≡ waiting es → Decided es wait p (Some big) → Prints p fs b res p' fs' n e.tok big → Advances x es p fs b res es' p' fs' n (λ s. s)
 prints_front x es es' e p p' fs fs' b n wait big res a w d k =
-    let d' : Says e.size wait p (Some big) = subst (λ (y : List Entry). Decided y wait p (Some big)) a d in
+    let d' : Says e.size (least_width e.tok) wait p (Some big) = subst (λ (y : List Entry). Decided y wait p (Some big)) a d in
     let w' : wait ≡ waiting (e ∷ es') = w ∙ ap waiting a in
     prints_by x es es' e.tok p p' fs fs' b n big res
     (λ s m i h.
     let q = subst (λ (y : List Entry). Holds x s y m) a h in
     step_at x s e.tok e.size es' m p wait big i w' d' (front_size x e.tok e.size es' q.waits q.are_sized) q) k
+
+-- a token is printed at once, where none waits and its decision doesn't count
+pub prints_now : {T E : Type 0} (es es' : List Entry) (t : Tok) (p p' : Line) (fs fs' : List Frame) (b n : Option (List ℕ)) (big : Bool) (res : Result T E) → es ≡ [] → es' ≡ [] →
+    ((m : Layout) → At p fs m → (r : List Tok) → act t (over (measure t r) m.state) m ≡ act t big m) → Prints p fs b res p' fs' n t big → Advances false es p fs b res es' p' fs' n (λ s. s ++ t ∷ [])
+prints_now es es' t p p' fs fs' b n big (Ok y) e e' d k = record {
+  ok = λ content s r.
+      let h : Holds false s [] r.layout = subst (λ (x : List Entry). Holds false s x r.layout) e r.holds in
+      let a = k.ok content r.layout r.at r.wrote in
+      record {
+        layout = act t big r.layout;
+        holds = subst (λ (x : List Entry). Holds false (s ++ t ∷ []) x (act t big r.layout)) (sym e') (print_now s t r.layout big h (d r.layout r.at));
+        at = a.0;
+        wrote = a.1;
+      };
+  err = tt;
+}
+prints_now es es' t p p' fs fs' b n big (Err y) e e' d k = record {
+  ok = tt;
+  err = λ content s r q g.
+      let h : Holds false s [] r.layout = subst (λ (x : List Entry). Holds false s x r.layout) e r.holds in
+      cut_more n content (act t big r.layout).state.text (text ((s ++ t ∷ []) ++ q)) (k.err content r.layout r.at r.wrote)
+      (grows_by false (s ++ t ∷ []) [] (act t big r.layout) (print_now s t r.layout big h (d r.layout r.at)) q g);
+}
 
 -- a token wasn't fed
 pub feeds_not : {T E : Type 0} (es es' : List Entry) (p p' : Line) (fs fs' : List Frame) (b : Option (List ℕ)) (t : Tok) (f : E) → Advances {T = T} false es p fs b (Err f) es' p' fs' b (λ s. s ++ t ∷ [])
@@ -158,11 +181,11 @@ ends_on es mid es' true p p' fs fs' b n (Err x) e y q k v = record {
   err = λ content s r. subst (λ (x : List Tok). Cut n content (text x)) (append-nil s) (k.err content s (running_ends_ es mid p fs b content s e q r) [] refl);
 }
 
-undecided : (z : Size) (wait : ℕ) (p : Line) → IsSize true z → Says z wait p None → ⊥
-undecided (Known (pos k)) wait p q d = cc
-undecided (Known (negsuc k)) wait p q d = q
-undecided Unknown wait p q d = q
-undecided Forced wait p q d = q
+undecided : (z : Size) (least wait : ℕ) (p : Line) → IsSize true z → Says z least wait p None → ⊥
+undecided (Known (pos k)) least wait p q d = cc
+undecided (Known (negsuc k)) least wait p q d = q
+undecided Unknown least wait p q d = q
+undecided Forced least wait p q d = q
 
 -- at the end nothing stays undecided
 pub none_left : (es : List Entry) (z : Bool) (wait : ℕ) (p : Line) → z ≡ true → sizes_of es ≡ map size_of_scan (map (at_end z) (scans (toks_of es))) → Decided es wait p None → es ≡ []
@@ -170,7 +193,7 @@ none_left [] z wait p y q d = refl
 none_left (e ∷ es) false wait p y q d = cc
 none_left (e ∷ es) true wait p y q d =
     let a : e.size ≡ size_of_scan (at_end true (scan_of e.tok (toks_of es))) = cc in
-    absurd (undecided e.size wait p (subst (IsSize true) (sym a) (is_size true (scan_of e.tok (toks_of es)))) d)
+    absurd (undecided e.size (least_width e.tok) wait p (subst (IsSize true) (sym a) (is_size true (scan_of e.tok (toks_of es)))) d)
 
 -- a token was fed, where the stack of frames was given room before
 fed_first : (es mid : List Entry) (p mp : Line) (fs mfs : List Frame) (w : Option (List ℕ)) (content : List ℕ) (s : List Tok) (t : Tok) → mp ≡ p → mfs ≡ fs → toks_of mid ≡ toks_of es ++ t ∷ [] →

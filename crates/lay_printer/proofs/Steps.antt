@@ -13,6 +13,7 @@ use Rattle.lay_layout.specs.Machine.{outer, reach, measure, play, step, act, Lay
 use Rattle.lay_ring.specs.declared.entry.Size.{Size}
 use Rattle.lay_ring.specs.declared.entry.Size.TheVariants.{Unknown, Known}
 use Rattle.lay_ring.specs.declared.entry.Entry.{Entry}
+use Rattle.lay_printer.specs.Queued.{least_width}
 use Rattle.lay_printer.specs.Scan.{Scan, Stopped, Going, widen, scan, cap, size_of_scan, scan_of, sized, waiting, at_end, MayFollow, Holds}
 
 -- the measure, where r follows
@@ -151,8 +152,8 @@ texts_going (tok.Break b ∷ ts) (suc d) = at_least_widen (width_of_break b) (sc
 texts_going (tok.Begin c o ∷ ts) d = at_least_le (scan (suc d) ts) (waiting (sized false ts)) _ (texts_going ts (suc d)) (omega arith)
 texts_going (tok.End ∷ ts) d = at_least_le (scan (outer d) ts) (waiting (sized false ts)) _ (texts_going ts (outer d)) (omega arith)
 
--- so are those of an entry whose size isn't known and of what waits behind it
-texts_unknown : (t : Tok) (ts : List Tok) → AtLeast (scan_of t ts) (waiting (sized false (t ∷ ts)))
+-- so are those of an entry whose size isn't known and of what waits behind it, and its own width
+texts_unknown : (t : Tok) (ts : List Tok) → AtLeast (scan_of t ts) (least_width t + waiting (sized false (t ∷ ts)))
 texts_unknown (tok.Text t) ts = tt
 texts_unknown (tok.Break b) ts = at_least_widen (width_of_break b) (scan 0 ts) (waiting (sized false ts)) _ (texts_going ts 0) (omega arith)
 texts_unknown (tok.Begin c o) ts = at_least_le (scan 1 ts) (waiting (sized false ts)) _ (texts_going ts 1) (omega arith)
@@ -164,19 +165,20 @@ forced_decides (Going n d) k s h e l r = lt-ltb s.room (s.used + (n + reach d r)
 
 print_forced_at : (s : List Tok) (t : Tok) (es : List Entry) (m : Layout) (p w : List Tok) →
     p ++ w ≡ s → record { tok = t; size = Unknown } ∷ es ≡ sized false w → m.state.room ≤ 89 →
-    ((r : List Tok) → MayFollow false r → play p (w ++ r) begun ≡ m) → m.state.room < m.state.used + waiting (record { tok = t; size = Unknown } ∷ es) → Holds false s es (act t true m)
+    ((r : List Tok) → MayFollow false r → play p (w ++ r) begun ≡ m) → m.state.room < m.state.used + (least_width t + waiting (record { tok = t; size = Unknown } ∷ es)) → Holds false s es (act t true m)
 print_forced_at s t es m p [] a z q h l = cc
 print_forced_at s t es m p (x ∷ ts) a z q h l =
     let z0 : record { tok = t; size = Unknown } ≡ record { tok = x; size = size_of false x ts } = cc in
     let zk = ap (λ (y : Entry). y.size) z0 in
     let zz : es ≡ sized false ts = cc in
     let zw = ap waiting z in
+    let zl = ap (λ (y : Entry). least_width y.tok) z0 in
     held_on false s t x ts es m p true a (sym (ap (λ (y : Entry). y.tok) z0)) zz q h
-    (λ r f. forced_decides (scan_of x ts) (waiting (sized false (x ∷ ts))) m.state (texts_unknown x ts) zk (omega (arith, zw)) r)
+    (λ r f. forced_decides (scan_of x ts) (least_width x + waiting (sized false (x ∷ ts))) m.state (texts_unknown x ts) zk (omega (arith, zw, zl)) r)
 
 -- the first entry has no size yet, and the text that waits is greater than the space: it is printed as one that doesn't fit
 pub print_forced : (s : List Tok) (t : Tok) (es : List Entry) (m : Layout) →
-    Holds false s (record { tok = t; size = Unknown } ∷ es) m → m.state.room < m.state.used + waiting (record { tok = t; size = Unknown } ∷ es) →
+    Holds false s (record { tok = t; size = Unknown } ∷ es) m → m.state.room < m.state.used + (least_width t + waiting (record { tok = t; size = Unknown } ∷ es)) →
     Holds false s es (act t true m)
 print_forced s t es m h l = print_forced_at s t es m h.printed h.waits h.all h.are_sized h.small h.shown l
 
@@ -190,6 +192,22 @@ fed_one s t es m h = record {
   small = h.small;
   shown = λ r f. ap (λ (x : List Tok). play h.printed x begun) (append_assoc h.waits (t ∷ []) r) ∙ h.shown (t ∷ r) tt;
 }
+
+-- a token that is fed where none waits is printed at once, where its decision doesn't count
+print_now_at : (s : List Tok) (t : Tok) (m : Layout) (big : Bool) (p w : List Tok) → p ++ w ≡ s → [] ≡ sized false w → m.state.room ≤ 89 → ((r : List Tok) → MayFollow false r → play p (w ++ r) begun ≡ m) →
+    ((r : List Tok) → act t (over (measure t r) m.state) m ≡ act t big m) → Holds false (s ++ t ∷ []) [] (act t big m)
+print_now_at s t m big p (x ∷ w) a z q h d = cc
+print_now_at s t m big p [] a z q h d = record {
+  printed = p ++ t ∷ [];
+  waits = [];
+  all = append-nil (p ++ t ∷ []) ∙ ap (λ (x : List Tok). x ++ t ∷ []) (sym (append-nil p) ∙ a);
+  are_sized = refl;
+  small = room_act t big m q;
+  shown = λ r f. play_more p t r begun ∙ ap (λ (l : Layout). step t r l) (h (t ∷ r) tt) ∙ d r;
+}
+
+pub print_now : (s : List Tok) (t : Tok) (m : Layout) (big : Bool) → Holds false s [] m → ((r : List Tok) → act t (over (measure t r) m.state) m ≡ act t big m) → Holds false (s ++ t ∷ []) [] (act t big m)
+print_now s t m big h d = print_now_at s t m big h.printed h.waits h.all h.are_sized h.small h.shown d
 
 -- no more tokens come: the sizes that weren't known are
 pub to_end : (s : List Tok) (es : List Entry) (m : Layout) (h : Holds false s es m) → Holds true s (sized true h.waits) m

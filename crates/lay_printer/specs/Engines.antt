@@ -1,5 +1,5 @@
 -- What the two sides of a printer keep between them.
-use Rattle.std.specs.Prelude.{◌≡◌, ℕ, ◌+◌, ◌-◌, ◌^◌, ◌<◌, ◌≤◌, min, false, [], ◌∷◌, ◌++◌, length, Option, None}
+use Rattle.std.specs.Prelude.{◌≡◌, ℕ, ◌+◌, ◌-◌, ◌%◌, ◌^◌, ◌<◌, ◌≤◌, min, false, [], ◌∷◌, ◌++◌, length, Option, None}
 use Rattle.lay_layout.specs.declared.layout.Tok.{Tok}
 use Rattle.lay_layout.specs.Machine.{opened}
 use Rattle.lay_printer.specs.Closed.{toks_of}
@@ -47,6 +47,14 @@ pub record Stays (old new : Engine) : Type 0 where
   pub ended : new.queue.ended ≡ old.queue.ended
   pub groups : new.queue.groups ≡ old.queue.groups
   pub number : next_of new.queue.ring.first new.queue.ring.entries ≡ next_of old.queue.ring.first old.queue.ring.entries
+  pub room : room_of old ≤ room_of new
+
+-- A token was printed at once, where none waited.
+pub record Passes (old new : Engine) : Type 0 where
+  pub empty : new.queue.ring.entries ≡ []
+  pub ended : new.queue.ended ≡ old.queue.ended
+  pub groups : new.queue.groups ≡ old.queue.groups
+  pub number : next_of new.queue.ring.first new.queue.ring.entries ≡ (next_of old.queue.ring.first old.queue.ring.entries + 1) % 2 ^ 64
   pub room : room_of old ≤ room_of new
 
 -- What holds of a printer between calls. While none has failed, tokens may come, and no more text waits than the space.

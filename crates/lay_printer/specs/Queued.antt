@@ -2,8 +2,10 @@
 use Rattle.std.specs.Prelude.{◌≡◌, ℕ, ◌+◌, ◌≤◌, ◌<◌, Bool, true, false, nat_lt, pos, negsuc}
 use Rattle.std.specs.Prelude.{List, [], ◌∷◌, ◌++◌, length, Option, Some, None, Result, OnOk, OnErr}
 use Rattle.lay_layout.specs.declared.layout.Tok.{Tok}
+use Rattle.lay_layout.specs.declared.layout.Tok.TheVariants as tok
 use Rattle.lay_layout.specs.declared.layout.Frame.{Frame}
-use Rattle.lay_layout.specs.Machine.{Layout, act, text}
+use Rattle.lay_layout.specs.Document.{over, width_of_break}
+use Rattle.lay_layout.specs.Machine.{Layout, act, measure, text}
 use Rattle.lay_ring.specs.Held.{number_of}
 use Rattle.lay_ring.specs.declared.entry.Size.{Size}
 use Rattle.lay_ring.specs.declared.entry.Size.TheVariants.{Unknown, Known, Forced}
@@ -23,22 +25,34 @@ notes_after Unknown [] = []
 notes_after Unknown (m ∷ ms) = ms
 notes_after size ms = ms
 
--- What is decided of the oldest entry: whether it doesn't fit, or nothing yet.
-abbrev pub Says : Size → ℕ → Line → Option Bool → Type 0
-Says Unknown wait line None = line.used + wait ≤ line.room
-Says Unknown wait line (Some big) = (big ≡ true) × (line.room < line.used + wait)
-Says (Known (pos k)) wait line r = r ≡ Some (nat_lt line.room (line.used + k))
-Says (Known (negsuc k)) wait line r = r ≡ Some false
-Says Forced wait line r = r ≡ Some true
+-- what a token's measure has at the least beside texts
+abbrev pub least_width : Tok → ℕ
+least_width (tok.Text t) = 0
+least_width (tok.Break b) = width_of_break b
+least_width (tok.Begin c o) = 0
+least_width tok.End = 0
+
+-- What is decided of the oldest entry, where it has so many columns at the least and the text that waits: whether it
+-- doesn't fit, or nothing yet.
+abbrev pub Says : Size → (least wait : ℕ) → Line → Option Bool → Type 0
+Says Unknown least wait line None = line.used + (least + wait) ≤ line.room
+Says Unknown least wait line (Some big) = (big ≡ true) × (line.room < line.used + (least + wait))
+Says (Known (pos k)) least wait line r = r ≡ Some (nat_lt line.room (line.used + k))
+Says (Known (negsuc k)) least wait line r = r ≡ Some false
+Says Forced least wait line r = r ≡ Some true
 
 abbrev pub Decided : List Entry → ℕ → Line → Option Bool → Type 0
 Decided [] wait line r = r ≡ None
-Decided (e ∷ es) wait line r = Says e.size wait line r
+Decided (e ∷ es) wait line r = Says e.size (least_width e.tok) wait line r
 
 -- a line and frames are at a layout
 pub record At (line : Line) (frames : List Frame) (m : Layout) : Type 0 where
   pub frames_are : frames ≡ m.frames
   pub is : Is line m.state
+
+-- A token is printed as one that doesn't fit, whatever follows it.
+abbrev pub IsClear : Line → List Frame → Tok → Type 0
+IsClear line frames t = (m : Layout) → At line frames m → (r : List Tok) → act t (over (measure t r) m.state) m ≡ act t true m
 
 -- A token is printed: Ok makes the layout act of it, and Err leaves a front of the text of that.
 pub record Prints {T E : Type 0} (line : Line) (frames : List Frame) (before : Option (List ℕ)) (result : Result T E)

@@ -1,15 +1,16 @@
 //! Where scanning and printing meet: the entry at the front of the ring is printed once it is decided.
-ghost use Rattle.std.specs.Prelude.{◌≡◌, ◌+◌, ◌%◌, ◌^◌, ◌<◌, ◌≤◌, [], ◌∷◌, ◌++◌, length, nat_lt, OnOk, OnErr, IfOk, IfErr, IsOk, Some, None, false};
+ghost use Rattle.std.specs.Prelude.{◌≡◌, ◌+◌, ◌%◌, ◌^◌, ◌<◌, ◌≤◌, [], ◌∷◌, ◌++◌, length, nat_lt, OnOk, OnErr, IfOk, IfErr, IsOk, IsTrue, Some, None, false};
+ghost use Rattle.lay_layout.specs.declared.layout.Tok.TheVariants as tok;
 ghost use Rattle.lay_layout.specs.Machine.{opened, IsNested};
 ghost use Rattle.lay_io.specs.Faults.{HasCause, SameLoan};
 ghost use Rattle.lay_printer.specs.Closed.{toks_of};
-ghost use Rattle.lay_printer.specs.Queued.{Advances, Decided, Ends, next_of};
+ghost use Rattle.lay_printer.specs.Queued.{Advances, Decided, Ends, IsClear, next_of};
 
-use crate::line::Line;
+use crate::line::exceeds;
 use crate::page::Page;
-use crate::queue::Queue;
+use crate::queue::{Queue, least_width};
 use lay_io::{Failed, Sink};
-use lay_layout::Tok;
+use lay_layout::{Break, Tok};
 use lay_ring::Size;
 use lay_text::NoMemory;
 
@@ -31,18 +32,8 @@ pub struct Engine {
     ghost level: { queue.groups ≡ opened (toks_of queue.ring.entries) (length page.frames.frames) },
 }
 
-/// Is a size greater than the space?
-fn exceeds(line: &Line, size: u64) -> bool
-    ensures { result ≡ nat_lt line.now.room (line.now.used + size) }
-{
-    if line.used > line.room {
-        return true;
-    }
-    line.room - line.used < size
-}
-
 impl Engine {
-    ghost use Rattle.lay_printer.specs.Engines.{Comes, Stays, room_of};
+    ghost use Rattle.lay_printer.specs.Engines.{Comes, Passes, Stays, room_of};
     ghost use Rattle.lay_printer.specs.Errors.{Blames};
     ghost use Rattle.lay_printer.specs.declared.engine.PrintError.TheVariants.{WriteFailed};
 
@@ -70,6 +61,53 @@ impl Engine {
             Ok(()) => Ok(()),
             Err(Failed) => Err(PrintError::WriteFailed),
         }
+    }
+
+    /// Does nothing wait?
+    #[inline(always)]
+    pub fn is_idle(&self) -> bool
+        ensures { IsTrue result → self.now.queue.ring.entries ≡ [] }
+    {
+        self.queue.ring.len() == 0
+    }
+
+    /// A text is fed where nothing waits: it is printed at once.
+    #[inline(always)]
+    pub fn print_text<K: Sink>(&mut self, sink: &mut K, text: &[u8]) -> Result<(), Failed>
+        requires idle { self.old.queue.ring.entries ≡ [] }
+        ensures feeds { Advances false self.old.queue.ring.entries self.old.page.line self.old.page.frames.frames (K.written sink.old) result self.new.queue.ring.entries self.new.page.line self.new.page.frames.frames (K.written sink.new) (λ s. s ++ tok.Text text.now ∷ []) }
+        ensures passes { Passes self.old self.new }
+        ensures cause { HasCause (K.faults sink.old) (K.faults sink.new) result }
+        ensures loan { SameLoan (K.loan sink.old) (K.loan sink.new) }
+    {
+        self.queue.pass();
+        self.page.print_text(sink, text)
+    }
+
+    /// Is a break printed at once, since nothing waits and what follows it doesn't count?
+    #[inline(always)]
+    pub fn is_clear(&self, brk: Break) -> bool
+        ensures idle { IsTrue result → self.now.queue.ring.entries ≡ [] }
+        ensures clear { IsTrue result → IsClear self.now.page.line self.now.page.frames.frames (tok.Break brk) }
+    {
+        if self.is_idle() {
+            return self.page.is_clear(brk);
+        }
+        false
+    }
+
+    /// A break is fed that is printed at once.
+    #[inline(always)]
+    pub fn print_break<K: Sink>(&mut self, sink: &mut K, brk: Break) -> Result<(), Failed>
+        requires idle { self.old.queue.ring.entries ≡ [] }
+        requires clear { IsClear self.old.page.line self.old.page.frames.frames (tok.Break brk) }
+        ensures feeds { Advances false self.old.queue.ring.entries self.old.page.line self.old.page.frames.frames (K.written sink.old) result self.new.queue.ring.entries self.new.page.line self.new.page.frames.frames (K.written sink.new) (λ s. s ++ tok.Break brk ∷ []) }
+        ensures passes { Passes self.old self.new }
+        ensures cause { HasCause (K.faults sink.old) (K.faults sink.new) result }
+        ensures loan { SameLoan (K.loan sink.old) (K.loan sink.new) }
+    {
+        self.queue.pass();
+        self.page.print_break(sink, brk)
     }
 
     /// No more tokens come: the rest is printed. Then tokens may come again.
@@ -173,11 +211,12 @@ impl Engine {
                     if size < 0 {
                         Some(false)
                     } else {
-                        Some(exceeds(&self.page.line, size as u64))
+                        Some(exceeds(&self.page.line, 0, size as u64))
                     }
                 }
                 Size::Unknown => {
-                    if exceeds(&self.page.line, self.queue.waiting) {
+                    let width = least_width(&entry.tok);
+                    if exceeds(&self.page.line, width, self.queue.waiting) {
                         Some(true)
                     } else {
                         None

@@ -1,5 +1,5 @@
 //! The line that is being written, and what is put on it.
-ghost use Rattle.std.specs.Prelude.{◌≡◌, ℕ, ◌<◌, ◌≤◌, min, max, ◌+◌, ◌∷◌, ◌++◌, [], replicate, OnOk, OnErr, IsTrue, length};
+ghost use Rattle.std.specs.Prelude.{◌≡◌, ℕ, ◌<◌, ◌≤◌, min, max, ◌+◌, ◌∷◌, ◌++◌, [], replicate, OnOk, OnErr, IsTrue, length, nat_lt};
 ghost use Rattle.lay_layout.specs.Document.{State, shift, write as written_on, put_mark as marked, line as on_line, newline as on_newline, skip as skipped, break_in};
 ghost use Rattle.lay_io.specs.Calls.{Writes};
 ghost use Rattle.lay_io.specs.Faults.{HasCause, SameLoan};
@@ -28,6 +28,21 @@ pub fn shifted(indent: u64, offset: i8) -> u64
 {
     let sum = indent as i64 + offset as i64;
     if sum < 0 { 0 } else { sum as u64 }
+}
+
+/// Is the sum of a width and a length greater than the space?
+#[inline(always)]
+pub fn exceeds(line: &Line, width: u64, length: u64) -> bool
+    ensures { result ≡ nat_lt line.now.room (line.now.used + (width + length)) }
+{
+    if line.used > line.room {
+        return true;
+    }
+    let space = line.room - line.used;
+    if width > space {
+        return true;
+    }
+    space - width < length
 }
 
 impl Line {

@@ -1,15 +1,17 @@
 //! The printing side: tokens are printed where the layout stands.
-ghost use Rattle.std.specs.Prelude.{◌≡◌, ◌+◌, ◌<◌, ◌≤◌, [], ◌∷◌, length};
-ghost use Rattle.lay_layout.specs.Document.{enter};
+ghost use Rattle.std.specs.Prelude.{◌≡◌, ◌+◌, ◌<◌, ◌≤◌, Bool, true, [], ◌∷◌, length, IsFalse, IsTrue};
+ghost use Rattle.lay_layout.specs.declared.layout.Tok.TheVariants as tok;
+ghost use Rattle.lay_layout.specs.Document.{State, break_in, enter};
 ghost use Rattle.lay_layout.specs.Machine.{opened};
 ghost use Rattle.lay_io.specs.Faults.{HasCause, SameLoan};
-ghost use Rattle.lay_printer.specs.Queued.{Prints};
+ghost use Rattle.lay_printer.specs.Queued.{IsClear, Prints};
 ghost use Rattle.lay_stream.specs.Indents.{IsKept};
 
 use crate::frames::Frames;
-use crate::line::{Line, shifted};
+use crate::line::{Line, exceeds, shifted};
+use crate::queue::width_of;
 use lay_io::{Failed, Sink};
-use lay_layout::{Frame, Tok};
+use lay_layout::{Break, Frame, Tok};
 
 /// Where the layout stands: the line that is being written, and the frames of the groups that are open there.
 #[derive(Drop)]
@@ -19,6 +21,39 @@ pub struct Page {
 }
 
 impl Page {
+    /// Prints a text.
+    #[inline(always)]
+    pub fn print_text<K: Sink>(&mut self, sink: &mut K, text: &[u8]) -> Result<(), Failed>
+        ensures prints { Prints self.old.line self.old.frames.frames (K.written sink.old) result self.new.line self.new.frames.frames (K.written sink.new) (tok.Text text.now) true }
+        ensures frames { self.new.frames ≡ self.old.frames }
+        ensures cause { HasCause (K.faults sink.old) (K.faults sink.new) result }
+        ensures loan { SameLoan (K.loan sink.old) (K.loan sink.new) }
+    {
+        self.line.write(sink, text)
+    }
+
+    /// Prints a break as one that doesn't fit.
+    #[inline(always)]
+    pub fn print_break<K: Sink>(&mut self, sink: &mut K, brk: Break) -> Result<(), Failed>
+        ensures prints { Prints self.old.line self.old.frames.frames (K.written sink.old) result self.new.line self.new.frames.frames (K.written sink.new) (tok.Break brk) true }
+        ensures frames { self.new.frames ≡ self.old.frames }
+        ensures cause { HasCause (K.faults sink.old) (K.faults sink.new) result }
+        ensures loan { SameLoan (K.loan sink.old) (K.loan sink.new) }
+    {
+        self.line.put_break(sink, self.frames.top(), brk, true)
+    }
+
+    /// Is a break printed as one that doesn't fit, whatever follows it?
+    #[inline(always)]
+    pub fn is_clear(&self, brk: Break) -> bool
+        ensures { IsTrue result → IsClear self.now.line self.now.frames.frames (tok.Break brk) }
+    {
+        if asks(self.frames.top(), brk) {
+            return exceeds(&self.line, width_of(brk), 0);
+        }
+        true
+    }
+
     /// Prints a token, of which it is known whether its measure is greater than the space.
     pub fn print<K: Sink>(&mut self, sink: &mut K, tok: &Tok, big: bool) -> Result<(), Failed>
         requires { 0 < self.old.frames.spare }
@@ -41,6 +76,17 @@ impl Page {
                 Ok(())
             }
         }
+    }
+}
+
+/// Does it count for a break in a frame that its measure is greater than the space?
+#[inline(always)]
+fn asks(frame: Frame, brk: Break) -> bool
+    ensures { IsFalse result → (big : Bool) (s : State) → break_in frame brk big s ≡ break_in frame brk true s }
+{
+    match frame {
+        Frame::Broken { consistent, .. } => !consistent && !brk.never,
+        Frame::Flat => false,
     }
 }
 

@@ -5,6 +5,7 @@ ghost use Rattle.lay_layout.specs.Machine.{IsNested};
 ghost use Rattle.lay_io.specs.Faults.{SameLoan};
 ghost use Rattle.lay_printer.specs.Printers.{Calls, Finishes, IsWhole, Repeats, TakesRoom};
 ghost use Rattle.lay_printer.specs.Promises.{FitSpace, IsSame, IsSpace, KeepsStep, RunsAs, RunsFresh};
+ghost use Rattle.lay_printer.specs.Queued.{IsClear};
 ghost use Rattle.lay_printer.specs.Scan.{waiting as sum_waiting};
 ghost use Rattle.lay_printer.specs.declared.engine.PrintError.{PrintError};
 ghost use Rattle.lay_printer.specs.declared.engine.PrintError.TheVariants.{WriteFailed};
@@ -82,6 +83,9 @@ impl Core {
         if let Some(fault) = self.failed {
             return Err(fault);
         }
+        if self.engine.is_idle() {
+            return self.print_text(sink, text);
+        }
         match Text::from_bytes(self.alloc, text) {
             Ok(text) => self.text_owned(sink, text),
             Err(NoMemory) => {
@@ -108,6 +112,9 @@ impl Core {
         ensures same { Repeats self.old result }
         ensures loan { SameLoan (K.loan sink.old) (K.loan sink.new) }
     {
+        if self.failed.is_none() && self.engine.is_clear(brk) {
+            return self.print_break(sink, brk);
+        }
         self.feed(sink, Tok::Break(brk))
     }
 
@@ -135,6 +142,43 @@ impl Core {
         ensures loan { SameLoan (K.loan sink.old) (K.loan sink.new) }
     {
         self.feed(sink, Tok::End)
+    }
+
+    /// Feeds a text where nothing waits.
+    #[inline(always)]
+    fn print_text<K: Sink>(&mut self, sink: &mut K, text: &[u8]) -> Result<(), PrintError>
+        requires live { self.old.failed ≡ None }
+        requires idle { self.old.entries ≡ [] }
+        ensures calls { Calls self.old (K.written sink.old) (K.faults sink.old) result self.new (K.written sink.new) (K.faults sink.new) (tok.Text text.now) }
+        ensures room { TakesRoom self.old result self.new }
+        ensures loan { SameLoan (K.loan sink.old) (K.loan sink.new) }
+    {
+        match self.engine.print_text(sink, text) {
+            Ok(()) => Ok(()),
+            Err(Failed) => {
+                self.failed = Some(PrintError::WriteFailed);
+                Err(PrintError::WriteFailed)
+            }
+        }
+    }
+
+    /// Feeds a break that is printed at once.
+    #[inline(always)]
+    fn print_break<K: Sink>(&mut self, sink: &mut K, brk: Break) -> Result<(), PrintError>
+        requires live { self.old.failed ≡ None }
+        requires idle { self.old.entries ≡ [] }
+        requires clear { IsClear self.old.line self.old.frames (tok.Break brk) }
+        ensures calls { Calls self.old (K.written sink.old) (K.faults sink.old) result self.new (K.written sink.new) (K.faults sink.new) (tok.Break brk) }
+        ensures room { TakesRoom self.old result self.new }
+        ensures loan { SameLoan (K.loan sink.old) (K.loan sink.new) }
+    {
+        match self.engine.print_break(sink, brk) {
+            Ok(()) => Ok(()),
+            Err(Failed) => {
+                self.failed = Some(PrintError::WriteFailed);
+                Err(PrintError::WriteFailed)
+            }
+        }
     }
 
     /// Feeds a token, unless a call has failed.

@@ -1,11 +1,11 @@
 //! The scanning side: tokens that wait, with the sizes that are known of them.
 ghost use Rattle.std.specs.Prelude.{◌≡◌, ℕ, ◌+◌, ◌-◌, ◌%◌, ◌^◌, ◌<◌, ◌≤◌, [], ◌∷◌, ◌++◌, length, drop, slice_get, OnOk, OnErr, IfOk, IsOk, map, true, false};
 ghost use Rattle.lay_layout.specs.declared.layout.Tok.TheVariants as tok;
-ghost use Rattle.lay_layout.specs.Document.{bytes_of_mark};
+ghost use Rattle.lay_layout.specs.Document.{bytes_of_mark, width_of_break};
 ghost use Rattle.lay_printer.specs.Closed.{toks_of, sizes_of};
 ghost use Rattle.lay_printer.specs.Scan.{at_end, text_length, size_of_scan, waiting as sum_waiting, cap};
 ghost use Rattle.lay_printer.specs.Notes.{Fits, scans};
-ghost use Rattle.lay_printer.specs.Queued.{notes_after, next_of};
+ghost use Rattle.lay_printer.specs.Queued.{least_width, notes_after, next_of};
 ghost use Rattle.lay_layout.specs.Machine.{IsNested};
 
 use crate::close::{CAP, Note, close};
@@ -43,6 +43,26 @@ fn mark_len(mark: Mark) -> u64
     match mark {
         Mark::Absent => 0,
         Mark::Comma | Mark::OpenBrace | Mark::CloseBrace => 1,
+    }
+}
+
+/// The width of a break that is no newline.
+#[inline(always)]
+pub fn width_of(brk: Break) -> u64
+    ensures value { result ≡ width_of_break brk }
+    ensures small { result ≤ 65536 }
+{
+    brk.blank as u64 + mark_len(brk.instead)
+}
+
+/// What a token's measure has at the least beside texts: the width of a break.
+#[inline(always)]
+pub fn least_width(tok: &Tok) -> u64
+    ensures { result ≡ least_width tok.now }
+{
+    match tok {
+        Tok::Break(brk) => width_of(*brk),
+        _ => 0,
     }
 }
 
@@ -247,6 +267,20 @@ impl Queue {
     {
         self.acc = close(&mut self.ring, &mut self.notes, self.acc, 0);
         self.ended = true;
+    }
+
+    /// A token that is printed at once, where none waits, takes a number alone.
+    #[inline(always)]
+    pub fn pass(&mut self)
+        requires { self.old.ring.entries ≡ [] }
+        ensures entries { self.new.ring.entries ≡ [] }
+        ensures groups { self.new.groups ≡ self.old.groups }
+        ensures ring_spare { self.new.ring.spare ≡ self.old.ring.spare }
+        ensures notes_spare { self.new.notes.spare ≡ self.old.notes.spare }
+        ensures number { next_of self.new.ring.first self.new.ring.entries ≡ (next_of self.old.ring.first self.old.ring.entries + 1) % 2 ^ 64 }
+        ensures ended { self.new.ended ≡ self.old.ended }
+    {
+        self.ring.pass();
     }
 
     /// Takes the oldest entry away.

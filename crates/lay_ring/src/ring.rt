@@ -95,6 +95,17 @@ impl Ring {
         Some(entry)
     }
 
+    /// Gives a number to an entry that isn't kept, where none is held.
+    #[inline(always)]
+    pub fn pass(&mut self)
+        requires { self.old.entries ≡ [] }
+        ensures entries { self.new.entries ≡ [] }
+        ensures first { self.new.first ≡ number_of self.old.first 1 }
+        ensures spare { self.new.spare ≡ self.old.spare }
+    {
+        self.first = self.first.wrapping_add(1);
+    }
+
     /// The number of the first entry, or of the next one to be pushed where there is none.
     pub fn first(&self) -> u64
         ensures { result ≡ self.now.first }
