@@ -4,6 +4,7 @@
 //! says that there is one at most. All else that the other crates speak of is passed on from the crates below.
 #![tactic(auto)]
 
+pub mod place;
 pub mod token;
 
 pub use lay_layout::{Break, Frame, Mark, Tok, layout, layout_law};
@@ -11,4 +12,5 @@ pub use lay_piece::{
     Class, DocForm, Piece, doc, doc_form, piece, piece_at, piece_law, word, word_class,
 };
 pub use lay_text::{FormatError, List, NoMemory, Refusal, Text, list, refusal, text};
+pub use place::{Place2, place_of};
 pub use token::{Delim, Kind, Token, tokens_law};
