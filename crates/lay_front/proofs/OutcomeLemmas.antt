@@ -1,5 +1,7 @@
 -- What a reader of bytes answers, and that with no fault the outcome is the one that the bytes have.
-use Rattle.std.proofs.Common.{◌≡◌, ◌<◌, ◌≤◌, ◌⊎◌, inl, inr, ℕ, List, length, Option, Some, Result, Ok, Err, refl, sym, ap, ◌∙◌, subst, IfSome, IsOk, arith}
+use Rattle.std.proofs.Common.{◌≡◌, ◌<◌, ◌≤◌, ◌⊎◌, inl, inr, ℕ, List, length, Option, Some, Result, Ok, Err, refl, sym, ap, ◌∙◌, subst, IfSome, IsOk, arith, Bool, true, false, cond}
+use Rattle.std.specs.Str.{is_utf8}
+use Rattle.std.specs.Str.Lossy.{utf8_valid_len}
 use Rattle.lay_io.specs.Told.{TellsAs, GrewBy}
 use Rattle.lay_io.specs.Faults.{Rose}
 use Rattle.lay_io.specs.declared.outside.Which.{Which}
@@ -17,7 +19,13 @@ use Rattle.lay_laws.proofs.file.Reparse.{again}
 use Rattle.lay_text.specs.declared.refusal.FormatError.{FormatError}
 use Rattle.lay_text.specs.declared.refusal.FormatError.TheVariants as error
 use Rattle.lay_read_code.specs.Answers.{FileAs}
-use Rattle.lay_front.specs.Readings.{ReadsOnlyTo, ReadAs}
+use Rattle.lay_lex.specs.Lexer.{LexedAs}
+use Rattle.lay_lex.specs.Source.{Answers}
+use Rattle.lay_nest.specs.Nested.{RefusedAs}
+use Rattle.lay_token.specs.Place.{place_of}
+use Rattle.lay_front.specs.Messages.{number_of, text_or}
+use Rattle.lay_front.specs.Readings.{ReadsOnlyTo, ReadAs, placed_in}
+use Rattle.lay_front.specs.declared.file.FileError.{FileError}
 use Rattle.lay_front.specs.Outcome.{Wrote, Formats, FormatRun}
 use Rattle.lay_front.specs.declared.format.IntoError.{IntoError}
 use Rattle.lay_front.specs.declared.format.IntoError.TheVariants as into
@@ -44,20 +52,69 @@ read_none bytes from tokens e lexes none file r =
     none file (sym r.shebang ∙ ap (λ (s : Source). s.shebang) (same_source bytes r.from from r.text e))
     (subst (SpellsFile file) (same_tokens bytes r.from from r.tokens tokens r.text e r.lexes lexes) r.spells)
 
+-- ---- why and where bytes are refused
+
+-- The error is a refusal of the bytes, or want of memory.
+abbrev pub IsRefusal : List ℕ → FormatError → Type 0
+IsRefusal bytes (error.Refused refusal) = IsRefused bytes refusal
+IsRefusal bytes error.NoMemory = Unit {0}
+
+-- a refusal of bytes whose text is at hand is placed in that text
+pub placed : (bytes : List ℕ) (from : Source) (e : FormatError) (answer : FileError) → source bytes ≡ Ok from → IsRefusal bytes e
+    → answer ≡ placed_in from.text e → ReadAs bytes (Err answer)
+placed bytes from (error.Refused refusal) answer e h is =
+    subst (λ (a : FileError). ReadAs bytes (Err a)) (sym is)
+    (h, ap (λ (s : Result Source Refusal). place_of (text_or bytes s) (number_of refusal)) (sym e))
+placed bytes from error.NoMemory answer e h is = subst (λ (a : FileError). ReadAs bytes (Err a)) (sym is) tt
+
+-- bytes that have no text are no UTF-8
+no_utf8 : (utf8 : Bool) (from : Source) (at : ℕ) (refusal : Refusal) → cond utf8 (Ok from) (Err (NotUtf8 at)) ≡ Err refusal → NotUtf8 at ≡ refusal
+no_utf8 true from at refusal e = let no : ⊥ = cc in absurd no
+no_utf8 false from at refusal e = cc
+
+pub unread : (bytes : List ℕ) (e : FormatError) (answer : FileError) → Answers (source bytes) (Err e)
+    → answer ≡ placed_in bytes e → ReadAs bytes (Err answer)
+unread bytes (error.Refused refusal) answer h is =
+    let none : NotUtf8 (utf8_valid_len bytes) ≡ refusal = no_utf8 (is_utf8 bytes) _ _ refusal h in
+    let refused : IsRefused bytes refusal =
+    subst (IsRefused bytes) none (subst (λ (r : Refusal). source bytes ≡ Err r) (sym none) h) in
+    subst (λ (a : FileError). ReadAs bytes (Err a)) (sym is)
+    (refused, ap (λ (s : Result Source Refusal). place_of (text_or bytes s) (number_of refusal)) (sym h))
+unread bytes error.NoMemory answer h is = subst (λ (a : FileError). ReadAs bytes (Err a)) (sym is) tt
+
+pub unlexed : (bytes : List ℕ) (from : Source) (e : FormatError) → source bytes ≡ Ok from → LexedAs from.text from.start (Err e)
+    → IsRefusal bytes e
+unlexed bytes from (error.Refused (NotUtf8 at)) e h = absurd h
+unlexed bytes from (error.Refused (NoToken at)) e h = (from, e, h)
+unlexed bytes from (error.Refused (Unbalanced at)) e h = absurd h
+unlexed bytes from (error.Refused (NoItem at)) e h = absurd h
+unlexed bytes from error.NoMemory e h = tt
+
+pub unnested : (bytes : List ℕ) (from : Source) (tokens : List Token) (e : FormatError) → source bytes ≡ Ok from
+    → Lexes from.text from.start tokens → RefusedAs tokens e → IsRefusal bytes e
+unnested bytes from tokens (error.Refused (NotUtf8 at)) e lexes h = absurd h
+unnested bytes from tokens (error.Refused (NoToken at)) e lexes h = absurd h
+unnested bytes from tokens (error.Refused (Unbalanced at)) e lexes h = (from, tokens, e, lexes, h)
+unnested bytes from tokens (error.Refused (NoItem at)) e lexes h = absurd h
+unnested bytes from tokens error.NoMemory e lexes h = tt
+
 -- what a reader of nested tokens answers is what a reader of their bytes does
-pub read_as : (bytes : List ℕ) (from : Source) (tokens nested : List Token) (answer : Result File FormatError) → source bytes ≡ Ok from
-    → Lexes from.text from.start tokens → nested ≡ tokens → Balanced tokens → FileAs nested from.shebang answer → ReadAs bytes answer
-read_as bytes from tokens nested (Ok file) e lexes same balanced h =
+pub read_as : (bytes : List ℕ) (from : Source) (tokens nested : List Token) (file : File) → source bytes ≡ Ok from
+    → Lexes from.text from.start tokens → nested ≡ tokens → Balanced tokens → FileAs nested from.shebang (Ok file) → ReadsOnlyTo bytes file
+read_as bytes from tokens nested file e lexes same balanced h =
     read_only bytes from tokens file e lexes balanced h.0 (subst (SpellsFile file) same h.1)
-read_as bytes from tokens nested (Err (error.Refused (NotUtf8 at))) e lexes same balanced h = absurd h
-read_as bytes from tokens nested (Err (error.Refused (NoToken at))) e lexes same balanced h = absurd h
-read_as bytes from tokens nested (Err (error.Refused (Unbalanced at))) e lexes same balanced h = absurd h
-read_as bytes from tokens nested (Err (error.Refused (NoItem at))) e lexes same balanced h = (
+
+pub read_no_file : (bytes : List ℕ) (from : Source) (tokens nested : List Token) (unspelled : FormatError) → source bytes ≡ Ok from
+    → Lexes from.text from.start tokens → nested ≡ tokens → Balanced tokens → FileAs nested from.shebang (Err unspelled) → IsRefusal bytes unspelled
+read_no_file bytes from tokens nested (error.Refused (NotUtf8 at)) e lexes same balanced h = absurd h
+read_no_file bytes from tokens nested (error.Refused (NoToken at)) e lexes same balanced h = absurd h
+read_no_file bytes from tokens nested (error.Refused (Unbalanced at)) e lexes same balanced h = absurd h
+read_no_file bytes from tokens nested (error.Refused (NoItem at)) e lexes same balanced h = (
   h.0,
   record { from = from; tokens = tokens; text = e; lexes = lexes; balanced = balanced },
   read_none bytes from tokens e lexes (λ file line s. h.1 file line (subst (SpellsFile file) (sym same) s)),
 )
-read_as bytes from tokens nested (Err error.NoMemory) e lexes same balanced h = tt
+read_no_file bytes from tokens nested error.NoMemory e lexes same balanced h = tt
 
 -- ---- a call that formats bytes
 
@@ -88,7 +145,7 @@ module _ {K T : Type 0} (written : K → Option (List ℕ)) (writes : K → ℕ)
 
 -- ---- a run
 
-told_as : (told : Option (List ℕ)) (bytes all : List ℕ) → told ≡ Some bytes → TellsAs told all → bytes ≡ all
+pub told_as : (told : Option (List ℕ)) (bytes all : List ℕ) → told ≡ Some bytes → TellsAs told all → bytes ≡ all
 told_as told bytes all e h = let same : TellsAs (Some bytes) all = subst (λ (t : Option (List ℕ)). TellsAs t all) e h in same
 
 module _ {K I : Type 0} (written : K → Option (List ℕ)) (writes : K → ℕ) (left : I → Which → Option (List ℕ)) (reads : I → ℕ)

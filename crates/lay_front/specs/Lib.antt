@@ -1,2 +1,6 @@
+pub mod Comparing
+pub mod Inputs
+pub mod Messages
 pub mod Outcome
 pub mod Readings
+pub mod Stops

@@ -1,8 +1,10 @@
 -- How a run comes out.
-use Rattle.std.specs.Prelude.{ℕ, ◌≡◌, ◌<◌, ◌≤◌, ◌⊎◌, List, [], length, Option, IfSome, Result, Ok, Err}
+use Rattle.std.specs.Prelude.{ℕ, ◌≡◌, ◌≢◌, ◌<◌, ◌≤◌, ◌⊎◌, List, [], length, Option, IfSome, Result, Ok, Err}
 use Rattle.lay_io.specs.Told.{TellsAs, GrewBy, GrewByPrefix}
 use Rattle.lay_io.specs.Faults.{Rose}
 use Rattle.lay_io.specs.declared.outside.Which.{Which}
+use Rattle.lay_line.specs.declared.lines.Line.{Line}
+use Rattle.lay_line.specs.declared.lines.Line.TheVariants as line
 use Rattle.lay_tree.specs.Reading.{IsRefused}
 use Rattle.lay_front.specs.Readings.{ReadsOnlyTo}
 use Rattle.lay_tree.specs.Out.{out}
@@ -56,3 +58,34 @@ module _ {K : Type 0} (written : K → Option (List ℕ)) (writes : K → ℕ) w
     FormatRun which i j k l (Refused refusal) = WasRead (left i which) (left j which) (λ bytes. IsRefused bytes refusal) × (l ≡ k)
     FormatRun which i j k l WriteFailed = Rose (writes k) (writes l) × WasRead (left i which) (left j which) (λ bytes. WrotePart bytes (written k) (written l))
     FormatRun which i j k l NoMemory = WroteNoMore k l (WasRead (left i which) (left j which) (λ bytes. WrotePart bytes (written k) (written l)))
+
+-- The bytes read to one file, and are its text.
+pub record IsItsText (bytes : List ℕ) : Type 0 where
+  pub file : File
+  pub reads : ReadsOnlyTo bytes file
+  pub same : bytes ≡ out file
+
+-- The bytes read to one file, and aren't its text.
+pub record IsNotItsText (bytes : List ℕ) : Type 0 where
+  pub file : File
+  pub reads : ReadsOnlyTo bytes file
+  pub other : bytes ≢ out file
+
+module _ {I : Type 0} (left : I → Which → Option (List ℕ)) (reads : I → ℕ) where
+  -- A run that checks an input: a case for each status. The inputs go from i to j, and the sink stays as it was.
+  abbrev pub CheckRun : Which → I → I → Status → Type 0
+  CheckRun which i j Done = WasRead (left i which) (left j which) IsItsText
+  CheckRun which i j Differs = WasRead (left i which) (left j which) IsNotItsText
+  CheckRun which i j Usage = ⊥
+  CheckRun which i j ReadFailed = Rose (reads i) (reads j)
+  CheckRun which i j TooLong = IfSome (left i which) (λ all. 16777216 < length all)
+  CheckRun which i j (Refused refusal) = WasRead (left i which) (left j which) (λ bytes. IsRefused bytes refusal)
+  CheckRun which i j WriteFailed = ⊥
+  CheckRun which i j NoMemory = Unit {0}
+
+-- A run of a line. The inputs go from i to j, the sink from k to l. Memory may be wanting before anything is read.
+module _ {K I : Type 0} (written : K → Option (List ℕ)) (writes : K → ℕ) (left : I → Which → Option (List ℕ)) (reads : I → ℕ) where
+  abbrev pub LineRun : Line → I → I → K → K → Status → Type 0
+  LineRun line.Usage i j k l status = (j ≡ i) × (l ≡ k) × ((status ≡ Usage) ⊎ (status ≡ NoMemory))
+  LineRun (line.Format which) i j k l status = FormatRun written writes left reads which i j k l status
+  LineRun (line.Check which) i j k l status = CheckRun left reads which i j status × (l ≡ k)

@@ -1,26 +1,38 @@
 //! The command.
-ghost use Rattle.std.specs.Prelude.{◌≡◌, ◌≢◌, ◌<◌, ◌≤◌, ◌↔◌, ◌⊎◌, ℕ, List as Items, [], length, None, Some};
+ghost use Rattle.std.specs.Prelude.{◌≡◌, ◌≢◌, ◌<◌, ◌≤◌, ◌⊎◌, ℕ, List as Items, length, None, Some, Err};
+ghost use Rattle.lay_io.specs.Calls.{left_of};
 ghost use Rattle.lay_io.specs.Faults.{Rose, SameLoan};
 ghost use Rattle.lay_io.specs.Told.{GrewBy};
 ghost use Rattle.lay_io.specs.declared.outside.Which.{Which};
-ghost use Rattle.lay_io.specs.declared.outside.Which.TheVariants.{Stdin};
+ghost use Rattle.lay_line.specs.Line.{line_of};
+ghost use Rattle.lay_line.specs.declared.lines.Line.TheVariants as line;
 ghost use Rattle.lay_text.specs.declared.refusal.Refusal.{Refusal};
 ghost use Rattle.lay_tree.specs.Out.{out as text_of_file};
 ghost use Rattle.lay_tree.specs.Reading.{IsRefused, Reads};
-ghost use Rattle.lay_front.specs.Outcome.{FormatRun};
+ghost use Rattle.lay_front.specs.Inputs.{InputAs, IsPlaced, input_of};
+ghost use Rattle.lay_front.specs.Messages.{Says};
+ghost use Rattle.lay_front.specs.Outcome.{CheckRun, FormatRun, LineRun};
+ghost use Rattle.lay_front.specs.Stops.{status_of};
 ghost use Rattle.lay_tree.specs.declared.file.File.{File};
 
-use crate::format::{IntoError, format_into};
+use crate::compare::is_text;
+use crate::file::{FileError, read_bytes};
+use crate::format::write_file;
+use crate::messages::tell;
+use crate::stop::Stop;
 use lay_io::{Inputs, ReadError, Sink, Which, read_all};
-use lay_token::{Refusal, Text};
+use lay_line::{Line, line};
+use lay_printer::PrintError;
+use lay_token::{List, NoMemory, Refusal, Text};
+use lay_tree::File;
 use std::alloc::Global;
 
 /// How a run comes out.
 #[derive(Clone, Copy, Debug, PartialEq, Eq)]
 pub enum Status {
-    /// The text was written whole.
+    /// The text was written whole; or the input was checked, and is its text.
     Done,
-    /// The input differs from its text. It never comes so far.
+    /// The input was checked, and isn't its text. Nothing was written.
     Differs,
     /// The words are no line of the command. Nothing was read.
     Usage,
@@ -39,7 +51,8 @@ pub enum Status {
 /// The greatest input of the command, in bytes.
 pub const LIMIT: usize = 16_777_216;
 
-/// Runs the command with its words, without the program's name: no word formats standard input.
+/// Runs the command with its words, without the program's name: `[FILE]` writes the text of an input to `out`, and
+/// `--check [FILE]` tells whether the input is its text. Every other outcome is told in one line on `err`.
 pub fn run<I: Inputs, K: Sink, E: Sink>(
     alloc: Global,
     words: &[Text],
@@ -49,69 +62,165 @@ pub fn run<I: Inputs, K: Sink, E: Sink>(
 ) -> Status
     requires { I.chosen inputs.old ≡ None }
 
-    // With a word nothing happens.
-    ensures usage { (result ≡ Status.Usage) ↔ (0 < length words.now) }
-    ensures untouched { 0 < length words.now → (inputs.new ≡ inputs.old) × (out.new ≡ out.old) }
-    ensures silent { err.new ≡ err.old }
+    // Words that are no line: nothing was read and nothing written.
+    ensures usage { result ≡ Status.Usage → line_of words.now ≡ line.Usage }
+    ensures complete_usage { line_of words.now ≡ line.Usage → (result ≡ Status.Usage) ⊎ (result ≡ Status.NoMemory) }
+    ensures untouched { line_of words.now ≡ line.Usage → (inputs.new ≡ inputs.old) × (out.new ≡ out.old) }
 
-    // No count falls, and the sink that comes back holds the loan that it held.
-    ensures later { (I.faults inputs.old ≤ I.faults inputs.new) × (K.faults out.old ≤ K.faults out.new) }
-    ensures loan { SameLoan (K.loan out.old) (K.loan out.new) }
+    // The input that the line names is chosen, and none where it names none, unless memory was wanting for the words.
+    ensures chosen { (I.chosen inputs.new ≡ input_of (line_of words.now)) ⊎ ((result ≡ Status.NoMemory) × (inputs.new ≡ inputs.old)) }
 
-    // Without one standard input is formatted: the cause of each answer, and what it leaves.
-    ensures chosen { words.now ≡ [] → I.chosen inputs.new ≡ Some Stdin }
-    ensures format { words.now ≡ [] → FormatRun K.written K.faults I.left I.faults Stdin inputs.old inputs.new out.old out.new result }
+    // No count falls, and each sink that comes back holds the loan that it held.
+    ensures later { (I.faults inputs.old ≤ I.faults inputs.new) × (K.faults out.old ≤ K.faults out.new) × (E.faults err.old ≤ E.faults err.new) }
+    ensures loan { SameLoan (K.loan out.old) (K.loan out.new) × SameLoan (E.loan err.old) (E.loan err.new) }
+
+    // The cause of each answer, and what it leaves, where an input is formatted and where one is checked.
+    ensures format { (which : Which) → line_of words.now ≡ line.Format which
+        → FormatRun K.written K.faults I.left I.faults which inputs.old inputs.new out.old out.new result }
+    ensures check { (which : Which) → line_of words.now ≡ line.Check which
+        → CheckRun I.left I.faults which inputs.old inputs.new result }
+    ensures unwritten { (which : Which) → line_of words.now ≡ line.Check which → out.new ≡ out.old }
 
     // With no fault the answer is the one that the input's bytes have, and what a run wrote is formatted again to the
     // same bytes.
-    ensures complete { (bytes : Items ℕ) (file : File) → words.now ≡ []
+    ensures complete { (which : Which) (bytes : Items ℕ) (file : File) → line_of words.now ≡ line.Format which
         → ¬ (Rose (I.faults inputs.old) (I.faults inputs.new)) → ¬ (Rose (K.faults out.old) (K.faults out.new))
-        → I.left inputs.old Stdin ≡ Some bytes → length bytes ≤ 16777216 → Reads bytes file
+        → I.left inputs.old which ≡ Some bytes → length bytes ≤ 16777216 → Reads bytes file
         → ((result ≡ Status.Done) × GrewBy (K.written out.old) (K.written out.new) (text_of_file file)) ⊎ (result ≡ Status.NoMemory) }
-    ensures again { (given : Items ℕ) (file : File) → words.now ≡ []
+    ensures again { (which : Which) (given : Items ℕ) (file : File) → line_of words.now ≡ line.Format which
         → ¬ (Rose (I.faults inputs.old) (I.faults inputs.new)) → ¬ (Rose (K.faults out.old) (K.faults out.new))
-        → Reads given file → I.left inputs.old Stdin ≡ Some (text_of_file file) → length (text_of_file file) ≤ 16777216
+        → Reads given file → I.left inputs.old which ≡ Some (text_of_file file) → length (text_of_file file) ≤ 16777216
         → ((result ≡ Status.Done) × GrewBy (K.written out.old) (K.written out.new) (text_of_file file)) ⊎ (result ≡ Status.NoMemory) }
-    ensures complete_refused { (bytes : Items ℕ) (refusal : Refusal) → words.now ≡ []
+    ensures complete_done { (which : Which) (bytes : Items ℕ) (file : File) → line_of words.now ≡ line.Check which
         → ¬ (Rose (I.faults inputs.old) (I.faults inputs.new))
-        → I.left inputs.old Stdin ≡ Some bytes → length bytes ≤ 16777216 → IsRefused bytes refusal
+        → I.left inputs.old which ≡ Some bytes → length bytes ≤ 16777216 → Reads bytes file → bytes ≡ text_of_file file
+        → (result ≡ Status.Done) ⊎ (result ≡ Status.NoMemory) }
+    ensures complete_differs { (which : Which) (bytes : Items ℕ) (file : File) → line_of words.now ≡ line.Check which
+        → ¬ (Rose (I.faults inputs.old) (I.faults inputs.new))
+        → I.left inputs.old which ≡ Some bytes → length bytes ≤ 16777216 → Reads bytes file → bytes ≢ text_of_file file
+        → (result ≡ Status.Differs) ⊎ (result ≡ Status.NoMemory) }
+    ensures complete_refused { (which : Which) (bytes : Items ℕ) (refusal : Refusal) → input_of (line_of words.now) ≡ Some which
+        → ¬ (Rose (I.faults inputs.old) (I.faults inputs.new))
+        → I.left inputs.old which ≡ Some bytes → length bytes ≤ 16777216 → IsRefused bytes refusal
         → (result ≡ Status.Refused refusal) ⊎ (result ≡ Status.NoMemory) }
-    ensures complete_too_long { (bytes : Items ℕ) → words.now ≡ []
+    ensures complete_too_long { (which : Which) (bytes : Items ℕ) → input_of (line_of words.now) ≡ Some which
         → ¬ (Rose (I.faults inputs.old) (I.faults inputs.new))
-        → I.left inputs.old Stdin ≡ Some bytes → 16777216 < length bytes
+        → I.left inputs.old which ≡ Some bytes → 16777216 < length bytes
         → (result ≡ Status.TooLong) ⊎ (result ≡ Status.NoMemory) }
+
+    // The line of the status stands on `err`, and none where the work was done.
+    ensures said { Says (left_of (input_of (line_of words.now)) (I.left inputs.old)) result
+        (E.written err.old) (E.written err.new) (E.faults err.old) (E.faults err.new) }
+    ensures silent { result ≡ Status.Done → err.new ≡ err.old }
 {
-    let _ = err;
-    if !words.is_empty() {
-        return Status::Usage;
-    }
-    format_input(alloc, Which::Stdin, inputs, out)
+    let ended = execute(alloc, words, inputs, out);
+    tell(ended, err);
+    status_after(ended)
 }
 
-/// Formats an input.
+/// The status of a run that ended so.
+fn status_after(ended: Result<(), Stop>) -> Status
+    ensures { result ≡ status_of ended }
+{
+    match ended {
+        Ok(()) => Status::Done,
+        Err(Stop::Usage) => Status::Usage,
+        Err(Stop::ReadFailed) => Status::ReadFailed,
+        Err(Stop::TooLong) => Status::TooLong,
+        Err(Stop::Refused { refusal, .. }) => Status::Refused(refusal),
+        Err(Stop::WriteFailed) => Status::WriteFailed,
+        Err(Stop::Differs) => Status::Differs,
+        Err(Stop::NoMemory) => Status::NoMemory,
+    }
+}
+
+/// Does what the words ask for.
+fn execute<I: Inputs, K: Sink>(
+    alloc: Global,
+    words: &[Text],
+    inputs: &mut I,
+    out: &mut K,
+) -> Result<(), Stop>
+    requires { I.chosen inputs.old ≡ None }
+    ensures chosen { (I.chosen inputs.new ≡ input_of (line_of words.now)) ⊎ ((result ≡ Err Stop.NoMemory) × (inputs.new ≡ inputs.old)) }
+    ensures run { LineRun K.written K.faults I.left I.faults (line_of words.now) inputs.old inputs.new out.old out.new (status_of result) }
+    ensures placed { IsPlaced (left_of (input_of (line_of words.now)) (I.left inputs.old)) result }
+    ensures later { (I.faults inputs.old ≤ I.faults inputs.new) × (K.faults out.old ≤ K.faults out.new) }
+    ensures loan { SameLoan (K.loan out.old) (K.loan out.new) }
+{
+    match line(alloc, words) {
+        Ok(Line::Usage) => Err(Stop::Usage),
+        Ok(Line::Format(which)) => format_input(alloc, which, inputs, out),
+        Ok(Line::Check(which)) => check_input(alloc, which, inputs),
+        Err(NoMemory) => Err(Stop::NoMemory),
+    }
+}
+
+/// Writes the text of an input.
 fn format_input<I: Inputs, K: Sink>(
     alloc: Global,
     which: Which,
     inputs: &mut I,
     out: &mut K,
-) -> Status
+) -> Result<(), Stop>
     requires { I.chosen inputs.old ≡ None }
     ensures chosen { I.chosen inputs.new ≡ Some which }
+    ensures run { FormatRun K.written K.faults I.left I.faults which inputs.old inputs.new out.old out.new (status_of result) }
+    ensures placed { IsPlaced (I.left inputs.old which) result }
     ensures later { (I.faults inputs.old ≤ I.faults inputs.new) × (K.faults out.old ≤ K.faults out.new) }
     ensures loan { SameLoan (K.loan out.old) (K.loan out.new) }
-    ensures run { FormatRun K.written K.faults I.left I.faults which inputs.old inputs.new out.old out.new result }
+{
+    let given = match read_input(alloc, which, inputs) {
+        Ok(given) => given,
+        Err(stop) => return Err(stop),
+    };
+    match write_file(alloc, &given.1, out) {
+        Ok(()) => Ok(()),
+        Err(PrintError::WriteFailed) => Err(Stop::WriteFailed),
+        Err(PrintError::NoMemory) => Err(Stop::NoMemory),
+    }
+}
+
+/// Compares an input with its text.
+fn check_input<I: Inputs>(alloc: Global, which: Which, inputs: &mut I) -> Result<(), Stop>
+    requires { I.chosen inputs.old ≡ None }
+    ensures chosen { I.chosen inputs.new ≡ Some which }
+    ensures run { CheckRun I.left I.faults which inputs.old inputs.new (status_of result) }
+    ensures placed { IsPlaced (I.left inputs.old which) result }
+    ensures later { I.faults inputs.old ≤ I.faults inputs.new }
+{
+    let (bytes, file) = match read_input(alloc, which, inputs) {
+        Ok(given) => given,
+        Err(stop) => return Err(stop),
+    };
+    match is_text(alloc, &file, bytes) {
+        Ok(true) => Ok(()),
+        Ok(false) => Err(Stop::Differs),
+        Err(NoMemory) => Err(Stop::NoMemory),
+    }
+}
+
+/// The bytes of an input, and the file that they read to.
+fn read_input<I: Inputs>(
+    alloc: Global,
+    which: Which,
+    inputs: &mut I,
+) -> Result<(List<u8>, File), Stop>
+    requires { I.chosen inputs.old ≡ None }
+    ensures chosen { I.chosen inputs.new ≡ Some which }
+    ensures input { InputAs (I.left inputs.old which) (I.left inputs.new which) (I.faults inputs.old) (I.faults inputs.new) result }
+    ensures later { I.faults inputs.old ≤ I.faults inputs.new }
 {
     inputs.choose(which);
     let bytes = match read_all(alloc, inputs, LIMIT) {
         Ok(bytes) => bytes,
-        Err(ReadError::ReadFailed) => return Status::ReadFailed,
-        Err(ReadError::TooLong) => return Status::TooLong,
-        Err(ReadError::NoMemory) => return Status::NoMemory,
+        Err(ReadError::ReadFailed) => return Err(Stop::ReadFailed),
+        Err(ReadError::TooLong) => return Err(Stop::TooLong),
+        Err(ReadError::NoMemory) => return Err(Stop::NoMemory),
     };
-    match format_into(alloc, bytes.as_slice(), out) {
-        Ok(()) => Status::Done,
-        Err(IntoError::Refused(refusal)) => Status::Refused(refusal),
-        Err(IntoError::WriteFailed) => Status::WriteFailed,
-        Err(IntoError::NoMemory) => Status::NoMemory,
+    match read_bytes(alloc, bytes.as_slice()) {
+        Ok(file) => Ok((bytes, file)),
+        Err(FileError::Refused { refusal, place }) => Err(Stop::Refused { refusal, place }),
+        Err(FileError::NoMemory) => Err(Stop::NoMemory),
     }
 }

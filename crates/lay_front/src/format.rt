@@ -8,11 +8,11 @@ ghost use Rattle.lay_tree.specs.Reading.{IsRefused, Reads};
 ghost use Rattle.lay_tree.specs.declared.file.File.{File};
 ghost use Rattle.lay_front.specs.Outcome.{Formats};
 
-use crate::file::read_bytes;
+use crate::file::{FileError, read_bytes};
 use lay_io::Sink;
 use lay_out_code::put_file;
 use lay_printer::{Core, Press, PrintError};
-use lay_token::{FormatError, NoMemory, Refusal};
+use lay_token::{NoMemory, Refusal};
 use lay_tree::File;
 use std::alloc::Global;
 
@@ -58,8 +58,8 @@ fn format_bytes<K: Sink>(alloc: Global, bytes: &[u8], out: &mut K) -> Result<(),
 {
     let file = match read_bytes(alloc, bytes) {
         Ok(file) => file,
-        Err(FormatError::Refused(refusal)) => return Err(IntoError::Refused(refusal)),
-        Err(FormatError::NoMemory) => return Err(IntoError::NoMemory),
+        Err(FileError::Refused { refusal, .. }) => return Err(IntoError::Refused(refusal)),
+        Err(FileError::NoMemory) => return Err(IntoError::NoMemory),
     };
     match write_file(alloc, &file, out) {
         Ok(()) => Ok(()),
@@ -69,7 +69,11 @@ fn format_bytes<K: Sink>(alloc: Global, bytes: &[u8], out: &mut K) -> Result<(),
 }
 
 /// Writes the text of a file, piece by piece as it is laid out.
-fn write_file<K: Sink>(alloc: Global, file: &File, out: &mut K) -> Result<(), PrintError>
+pub(crate) fn write_file<K: Sink>(
+    alloc: Global,
+    file: &File,
+    out: &mut K,
+) -> Result<(), PrintError>
     ensures later { K.faults out.old ≤ K.faults out.new }
     ensures loan { SameLoan (K.loan out.old) (K.loan out.new) }
     ensures whole { OnOk result (GrewBy (K.written out.old) (K.written out.new) (text_of_file file.now)) }

@@ -6,8 +6,11 @@
 #![tactic(auto)]
 
 pub mod command;
+mod compare;
 pub mod file;
 pub mod format;
+mod messages;
+mod stop;
 
 pub use command::{LIMIT, Status, run};
 pub use format::{IntoError, format_into};

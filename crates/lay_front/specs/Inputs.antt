@@ -1,0 +1,36 @@
+-- Which input a run reads, and what is read of it before anything is written.
+use Rattle.std.specs.Prelude.{ℕ, ◌≡◌, ◌<◌, List, length, Option, None, Some, IfSome, Result, Ok, Err}
+use Rattle.lay_io.specs.Faults.{Rose}
+use Rattle.lay_io.specs.Told.{TellsAs}
+use Rattle.lay_io.specs.declared.outside.Which.{Which}
+use Rattle.lay_line.specs.declared.lines.Line.{Line}
+use Rattle.lay_line.specs.declared.lines.Line.TheVariants as line
+use Rattle.lay_tree.specs.Reading.{IsRefused}
+use Rattle.lay_tree.specs.declared.file.File.{File}
+use Rattle.lay_front.specs.Messages.{place_in}
+use Rattle.lay_front.specs.Outcome.{WasRead}
+use Rattle.lay_front.specs.Readings.{ReadsOnlyTo}
+use Rattle.lay_front.specs.declared.stop.Stop.{Stop}
+use Rattle.lay_front.specs.declared.stop.Stop.TheVariants.{ReadFailed, TooLong, Refused, NoMemory}
+
+-- the input that a line names
+abbrev pub input_of : Line → Option Which
+input_of line.Usage = None
+input_of (line.Format which) = Some which
+input_of (line.Check which) = Some which
+
+-- The bytes of an input and the file that they read to, or why there is none: a case for each answer. The input goes from
+-- what is told before to what is told now, and the count of its faults from f to g.
+abbrev pub InputAs : Option (List ℕ) → Option (List ℕ) → ℕ → ℕ → Result (List ℕ × File) Stop → Type 0
+InputAs before now f g (Ok given) = WasRead before now (λ bytes. (given.0 ≡ bytes) × ReadsOnlyTo bytes given.1)
+InputAs before now f g (Err ReadFailed) = Rose f g
+InputAs before now f g (Err TooLong) = IfSome before (λ all. 16777216 < length all)
+InputAs before now f g (Err (Refused refusal place)) =
+    WasRead before now (λ bytes. IsRefused bytes refusal × (place ≡ place_in bytes refusal))
+InputAs before now f g (Err NoMemory) = Unit {0}
+InputAs before now f g (Err stop) = ⊥
+
+-- A refusal stands at its place in the bytes that are told.
+abbrev pub IsPlaced : Option (List ℕ) → Result (Unit {0}) Stop → Type 0
+IsPlaced told (Err (Refused refusal place)) = (bytes : List ℕ) × TellsAs told bytes × (place ≡ place_in bytes refusal)
+IsPlaced told ended = Unit {0}

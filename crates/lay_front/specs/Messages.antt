@@ -1,0 +1,65 @@
+-- The line that a run says on `err`.
+use Rattle.std.specs.Prelude.{ℕ, List, [], ◌++◌, codes, Option, Result, Ok, Err}
+use Rattle.std.specs.Fmt.{decimal}
+use Rattle.lay_io.specs.Faults.{Rose}
+use Rattle.lay_io.specs.Told.{TellsAs, GrewBy, GrewByPrefix}
+use Rattle.lay_text.specs.declared.refusal.Refusal.{Refusal}
+use Rattle.lay_text.specs.declared.refusal.Refusal.TheVariants.{NotUtf8, NoToken, Unbalanced, NoItem}
+use Rattle.lay_token.specs.Place.{place_of}
+use Rattle.lay_token.specs.Source.{Source, source}
+use Rattle.lay_token.specs.declared.place.Place2.{Place2}
+use Rattle.lay_front.specs.declared.stop.Stop.{Stop}
+use Rattle.lay_front.specs.declared.stop.Stop.TheVariants as stop
+use Rattle.lay_front.specs.Stops.{status_of}
+use Rattle.lay_front.specs.declared.command.Status.{Status}
+use Rattle.lay_front.specs.declared.command.Status.TheVariants.{Done, Differs, Usage, ReadFailed, Refused, WriteFailed, TooLong, NoMemory}
+
+-- the number of the byte at which an input is refused
+abbrev pub number_of : Refusal → ℕ
+number_of (NotUtf8 at) = at
+number_of (NoToken at) = at
+number_of (Unbalanced at) = at
+number_of (NoItem at) = at
+
+-- the text that is lexed of these bytes, or the bytes themselves where they are no UTF-8
+abbrev pub text_or : List ℕ → Result Source Refusal → List ℕ
+text_or bytes (Ok from) = from.text
+text_or bytes (Err refusal) = bytes
+
+-- The place of a refusal of these bytes: it is counted in them where they are no UTF-8, and else in the text that is lexed.
+abbrev pub place_in : List ℕ → Refusal → Place2
+place_in bytes refusal = place_of (text_or bytes (source bytes)) (number_of refusal)
+
+-- why an input is refused, behind the place
+abbrev pub reason : Refusal → List ℕ
+reason (NotUtf8 at) = codes ": not UTF-8\n"
+reason (NoToken at) = codes ": no token\n"
+reason (Unbalanced at) = codes ": unbalanced delimiter\n"
+reason (NoItem at) = codes ": no item\n"
+
+-- line and column in decimal digits, and why
+abbrev pub refusal_line : Refusal → Place2 → List ℕ
+refusal_line refusal place = decimal place.line ++ codes ":" ++ (decimal place.column ++ reason refusal)
+
+-- the line of a status, where these bytes were given
+abbrev pub message : List ℕ → Status → List ℕ
+message bytes Done = []
+message bytes Differs = codes "differs\n"
+message bytes Usage = codes "usage: lay_fmt [--check] [FILE] or lay_fmt --sample SEED --items N\n"
+message bytes ReadFailed = codes "read failed\n"
+message bytes (Refused refusal) = refusal_line refusal (place_in bytes refusal)
+message bytes WriteFailed = codes "write failed\n"
+message bytes TooLong = codes "input is longer than 16777216 bytes\n"
+message bytes NoMemory = codes "no memory\n"
+
+-- A run over the bytes that are told said the line of its status: a prefix of it, and all of it where no write failed.
+pub record Says (told : Option (List ℕ)) (status : Status) (before now : Option (List ℕ)) (faults later : ℕ) : Type 0 where
+  pub bytes : List ℕ
+  pub given : TellsAs told bytes
+  pub part : GrewByPrefix before now (message bytes status)
+  pub whole : (Rose faults later → ⊥) → GrewBy before now (message bytes status)
+
+-- the line of what ended a run: a refusal brings its place, and no other end needs the bytes
+abbrev pub line_of_end : Result (Unit {0}) Stop → List ℕ
+line_of_end (Err (stop.Refused refusal place)) = refusal_line refusal place
+line_of_end ended = message [] (status_of ended)

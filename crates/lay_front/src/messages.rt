@@ -1,0 +1,83 @@
+//! The lines that say why a run stopped.
+ghost use Rattle.std.specs.Prelude.{◌≡◌, ◌≤◌, ◌++◌, Err, OnOk, codes};
+ghost use Rattle.std.specs.Fmt.{decimal};
+ghost use Rattle.lay_io.specs.Calls.{Writes};
+ghost use Rattle.lay_io.specs.Faults.{HasCause, Rose, SameLoan};
+ghost use Rattle.lay_io.specs.Told.{GrewBy, GrewByPrefix};
+ghost use Rattle.lay_front.specs.Messages.{line_of_end, reason, refusal_line};
+
+use crate::stop::Stop;
+use itoa::Buffer;
+use lay_io::{Failed, Sink};
+use lay_token::{Place2, Refusal};
+
+/// Says on `err` why a run ended, and nothing where it was done: a line, in pieces, without memory. A fault of `err`
+/// changes nothing else.
+pub fn tell<E: Sink>(ended: Result<(), Stop>, err: &mut E)
+    ensures part { GrewByPrefix (E.written err.old) (E.written err.new) (line_of_end ended) }
+    ensures whole { ¬ (Rose (E.faults err.old) (E.faults err.new)) → GrewBy (E.written err.old) (E.written err.new) (line_of_end ended) }
+    ensures silent { OnOk ended (err.new ≡ err.old) }
+    ensures later { E.faults err.old ≤ E.faults err.new }
+    ensures loan { SameLoan (E.loan err.old) (E.loan err.new) }
+{
+    let Err(stop) = ended else {
+        return;
+    };
+    let _ = write_line(stop, err);
+}
+
+/// Writes the line of a run that stopped.
+fn write_line<E: Sink>(stop: Stop, err: &mut E) -> Result<(), Failed>
+    ensures bytes { Writes (E.written err.old) (E.written err.new) result (line_of_end (Err stop)) }
+    ensures cause { HasCause (E.faults err.old) (E.faults err.new) result }
+    ensures loan { SameLoan (E.loan err.old) (E.loan err.new) }
+{
+    match stop {
+        Stop::Usage => {
+            err.write(b"usage: lay_fmt [--check] [FILE] or lay_fmt --sample SEED --items N\n")
+        }
+        Stop::ReadFailed => err.write(b"read failed\n"),
+        Stop::TooLong => err.write(b"input is longer than 16777216 bytes\n"),
+        Stop::Refused { refusal, place } => write_refusal(refusal, place, err),
+        Stop::WriteFailed => err.write(b"write failed\n"),
+        Stop::Differs => err.write(b"differs\n"),
+        Stop::NoMemory => err.write(b"no memory\n"),
+    }
+}
+
+/// Writes the line of a refusal: where it stands, and why.
+fn write_refusal<E: Sink>(refusal: Refusal, place: Place2, err: &mut E) -> Result<(), Failed>
+    ensures bytes { Writes (E.written err.old) (E.written err.new) result (refusal_line refusal place) }
+    ensures cause { HasCause (E.faults err.old) (E.faults err.new) result }
+    ensures loan { SameLoan (E.loan err.old) (E.loan err.new) }
+{
+    if let Err(Failed) = write_number(place.line, b":", err) {
+        return Err(Failed);
+    }
+    write_number(place.column, reason(refusal), err)
+}
+
+/// Writes a number in decimal digits, and a piece behind it.
+fn write_number<E: Sink>(number: usize, behind: &[u8], err: &mut E) -> Result<(), Failed>
+    ensures bytes { Writes (E.written err.old) (E.written err.new) result (decimal number ++ behind.now) }
+    ensures cause { HasCause (E.faults err.old) (E.faults err.new) result }
+    ensures loan { SameLoan (E.loan err.old) (E.loan err.new) }
+{
+    let mut digits = Buffer::new();
+    if let Err(Failed) = err.write(digits.format(number).as_bytes()) {
+        return Err(Failed);
+    }
+    err.write(behind)
+}
+
+/// Why an input is refused, behind the place.
+fn reason(refusal: Refusal) -> &'static [u8]
+    ensures { result.now ≡ reason refusal }
+{
+    match refusal {
+        Refusal::NotUtf8 { .. } => b": not UTF-8\n",
+        Refusal::NoToken { .. } => b": no token\n",
+        Refusal::Unbalanced { .. } => b": unbalanced delimiter\n",
+        Refusal::NoItem { .. } => b": no item\n",
+    }
+}
