@@ -37,14 +37,16 @@ impl Engine {
     ghost use Rattle.lay_printer.specs.Errors.{Blames};
     ghost use Rattle.lay_printer.specs.declared.engine.PrintError.TheVariants.{WriteFailed};
 
-    /// A token is fed: it waits, and then what is decided is printed.
+    /// A token is fed: it waits, and then what is decided is printed. `roomy` says that there is room for it, so that
+    /// it need not be looked for.
     #[inline(always)]
-    pub fn feed<K: Sink>(&mut self, sink: &mut K, tok: Tok) -> Result<(), PrintError>
+    pub fn feed<K: Sink>(&mut self, sink: &mut K, tok: Tok, roomy: bool) -> Result<(), PrintError>
+        requires roomy { IsTrue roomy → 0 < room_of self.old }
         requires ended { self.old.queue.ended ≡ false }
         requires few { self.old.queue.waiting ≤ 89 }
         requires nested { IsNested self.old.queue.groups (tok ∷ []) }
         ensures feeds { Advances false self.old.queue.ring.entries self.old.page.line self.old.page.frames.frames (K.written sink.old) result self.new.queue.ring.entries self.new.page.line self.new.page.frames.frames (K.written sink.new) (λ s. s ++ tok ∷ []) }
-        ensures sure { 0 < room_of self.old → IfErr result (λ e. e ≡ WriteFailed) }
+        ensures sure { IsTrue roomy → IfErr result (λ e. e ≡ WriteFailed) }
         ensures stops { OnOk result (Decided self.new.queue.ring.entries self.new.queue.waiting self.new.page.line None) }
         ensures groups { OnOk result (self.new.queue.groups ≡ opened (tok ∷ []) self.old.queue.groups) }
         ensures ended { OnOk result (self.new.queue.ended ≡ false) }
@@ -53,7 +55,7 @@ impl Engine {
         ensures cause { Blames (K.faults sink.old) (K.faults sink.new) result }
         ensures loan { SameLoan (K.loan sink.old) (K.loan sink.new) }
     {
-        match self.take(tok) {
+        match self.take(tok, roomy) {
             Ok(()) => {}
             Err(NoMemory) => return Err(PrintError::NoMemory),
         }
@@ -132,41 +134,46 @@ impl Engine {
         }
     }
 
-    /// A token comes. It waits, with room for a frame.
+    /// A token comes, for which room is made if there may be none.
     #[inline(always)]
-    fn take(&mut self, tok: Tok) -> Result<(), NoMemory>
+    fn take(&mut self, tok: Tok, roomy: bool) -> Result<(), NoMemory>
+        requires roomy { IsTrue roomy → 0 < room_of self.old }
         requires ended { self.old.queue.ended ≡ false }
         requires few { self.old.queue.waiting ≤ 89 }
         requires nested { IsNested self.old.queue.groups (tok ∷ []) }
-        ensures comes { OnOk result (Comes self.old.queue self.new.queue tok) }
+        ensures toks { OnOk result (toks_of self.new.queue.ring.entries ≡ toks_of self.old.queue.ring.entries ++ tok ∷ []) }
+        ensures groups { OnOk result (self.new.queue.groups ≡ opened (tok ∷ []) self.old.queue.groups) }
+        ensures first { OnOk result (self.new.queue.ring.first ≡ self.old.queue.ring.first) }
+        ensures ended { OnOk result (self.new.queue.ended ≡ false) }
         ensures line { self.new.page.line ≡ self.old.page.line }
         ensures frames { self.new.page.frames.frames ≡ self.old.page.frames.frames }
-        ensures sure { 0 < room_of self.old → IsOk result }
+        ensures sure { IsTrue roomy → IsOk result }
         ensures room { room_of self.old ≤ room_of self.new + 1 }
     {
-        self.keep_room()?;
-        self.queue.add(tok)?;
+        if !roomy {
+            self.reserve(1)?;
+        }
+        self.put(tok);
         Ok(())
     }
 
-    /// Makes room in the stack of frames for one entry more than wait.
+    /// A token comes for which there is room. It waits, with room for a frame.
     #[inline(always)]
-    fn keep_room(&mut self) -> Result<(), NoMemory>
-        ensures queue { self.new.queue ≡ self.old.queue }
+    fn put(&mut self, tok: Tok)
+        requires room { 0 < room_of self.old }
+        requires ended { self.old.queue.ended ≡ false }
+        requires few { self.old.queue.waiting ≤ 89 }
+        requires nested { IsNested self.old.queue.groups (tok ∷ []) }
+        ensures comes { Comes self.old.queue self.new.queue tok }
         ensures line { self.new.page.line ≡ self.old.page.line }
         ensures frames { self.new.page.frames.frames ≡ self.old.page.frames.frames }
-        ensures kept { self.old.page.frames.spare ≤ self.new.page.frames.spare }
-        ensures room { OnOk result (length self.new.queue.ring.entries < self.new.page.frames.spare) }
-        ensures small { OnOk result (length self.new.page.frames.frames + length self.new.queue.ring.entries + 1 < 2 ^ 64) }
-        ensures sure { length self.old.queue.ring.entries < self.old.page.frames.spare → IsOk result }
+        ensures room { room_of self.old ≤ room_of self.new + 1 }
     {
-        let len = self.queue.ring.len();
-        if len >= self.page.frames.spare() {
-            self.page.frames.reserve(len + 8)?;
-        }
+        let held = self.queue.ring.len();
+        prove!(held < 0x8000_0000_0000_0000);
         let room = self.page.frames.spare();
-        prove!(len < room);
-        Ok(())
+        prove!(held < room);
+        self.queue.scan(tok);
     }
 
     /// Prints entries while they are decided.

@@ -193,7 +193,7 @@ impl Core {
         if let Some(fault) = self.failed {
             return Err(fault);
         }
-        match self.engine.feed(sink, tok) {
+        match self.engine.feed(sink, tok, self.spare > 0) {
             Ok(()) => {
                 self.spare = self.engine.room_after(self.spare);
                 Ok(())

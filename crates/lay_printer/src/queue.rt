@@ -127,27 +127,9 @@ impl Queue {
         self.notes.reserve(n)
     }
 
-    /// A token comes.
-    #[inline(always)]
-    pub fn add(&mut self, tok: Tok) -> Result<(), NoMemory>
-        requires ended { self.old.ended ≡ false }
-        requires few { self.old.waiting ≤ 89 }
-        requires groups { self.old.groups + 1 < 2 ^ 64 }
-        requires nested { IsNested self.old.groups (tok ∷ []) }
-        ensures comes { OnOk result (Comes self.old self.new tok) }
-        ensures same { OnErr result (Roomier self.old self.new) }
-        ensures sure { 0 < room_in self.old → IsOk result }
-    {
-        let held = self.ring.len();
-        prove!(held < 0x8000_0000_0000_0000);
-        self.reserve(1)?;
-        self.scan(tok);
-        Ok(())
-    }
-
     /// A token comes for which there is room.
     #[inline(always)]
-    fn scan(&mut self, tok: Tok)
+    pub fn scan(&mut self, tok: Tok)
         requires ready { Ready self.old }
         requires nested { IsNested self.old.groups (tok ∷ []) }
         ensures { Comes self.old self.new tok }
