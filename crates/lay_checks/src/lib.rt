@@ -1,18 +1,16 @@
-//! The tests of the public calls that read: texts, inputs and sinks, tokens, delimiters, strings, trees, the command's
-//! words, and the top call. Those of the calls that print stand in lay_checks_print.
+//! The tests of the public calls that read: texts, inputs and sinks, tokens, delimiters, strings, trees, and the command's
+//! words. Those of the calls that print stand in lay_checks_print, and those of the top call in lay_checks_front.
 //!
 //! They stand here, and not beside what they test, so that no crate below is proved twice. A test holds what no clause
 //! says: rows worked out by hand from the rules, printed texts, boundary rows, reads and writes that fail, and each call
 //! that may answer `NoMemory` once with ample memory. There is one module for each crate, named after it (`outside` for
-//! lay_io); the readers and the layouts of the grammar are tested through the top call, in `front`.
+//! lay_io); the readers and the layouts of the grammar are tested through the top call.
 //!
 //! The rows of a table stand in one literal (lay_given): it is proved at once, and an array of rows row by row.
 #![tactic(auto)]
 
 #[cfg(test)]
 mod cook;
-#[cfg(test)]
-mod front;
 #[cfg(test)]
 mod lex;
 #[cfg(test)]

@@ -1,11 +1,13 @@
 //! The program: the real objects, one call, and its status as exit status.
 #![tactic(auto)]
 
-ghost use Rattle.std.specs.Prelude.{◌≡◌};
+ghost use Rattle.std.specs.Prelude.{◌≡◌, [], OnOk, OnErr};
+ghost use Rattle.lay_io.specs.Told.{GrewByPrefix};
+ghost use Rattle.lay_front.specs.Messages.{message};
 ghost use Rattle.lay_fmt.specs.Exit.{number_of};
 
 use lay_front::{Status, run};
-use lay_io::{Failed, HostInputs, HostSink};
+use lay_io::{Failed, HostInputs, HostSink, Sink};
 use lay_text::{NoMemory, Text};
 use std::alloc::Global;
 use std::process::ExitCode;
@@ -38,9 +40,22 @@ fn main(rt: HostRuntime) -> ExitCode {
     let mut inputs = HostInputs::new(&rt);
     let mut err = HostSink::stderr(&rt);
     let status = run(alloc, words.as_slice(), &mut inputs, &mut out, &mut err);
-    match out.flush() {
-        Ok(()) => ExitCode::from(exit_status(status)),
-        Err(Failed) => ExitCode::from(exit_status(Status::WriteFailed)),
+    let status = finished(status, out.flush(), &mut err);
+    ExitCode::from(exit_status(status))
+}
+
+/// The status of a run, or `WriteFailed` where its output wasn't handed to the system, which is told in one line.
+fn finished<E: Sink>(status: Status, flushed: Result<(), Failed>, err: &mut E) -> Status
+    ensures same { OnOk flushed ((result ≡ status) × (err.new ≡ err.old)) }
+    ensures failed { OnErr flushed ((result ≡ Status.WriteFailed)
+        × GrewByPrefix (E.written err.old) (E.written err.new) (message [] Status.WriteFailed)) }
+{
+    match flushed {
+        Ok(()) => status,
+        Err(Failed) => {
+            let _ = err.write(b"write failed\n");
+            Status::WriteFailed
+        }
     }
 }
 

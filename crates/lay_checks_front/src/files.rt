@@ -1,47 +1,17 @@
-//! Runs of the command over objects in memory.
-ghost use Rattle.std.specs.Prelude.{◌≡◌, None};
+//! What texts read and are laid out to, what is refused, and the greatest inputs.
 
-use lay_front::{LIMIT, Status, run};
-use lay_given::{BETWEEN, list, parts, repeated};
-use lay_io::{Inputs, MemoryInputs, MemorySink, QuietInputs, QuietSink, Sink};
-use lay_token::{List, NoMemory, Refusal, Text};
+use crate::runs::{is_run, ran};
+use lay_front::{LIMIT, Status};
+use lay_given::{BETWEEN, parts, repeated};
+use lay_token::{List, NoMemory, Refusal};
 use std::alloc::Global;
 use std::process::Abort;
-use std::test::Fail;
-
-/// The status of a run.
-fn status<I: Inputs, K: Sink>(alloc: Global, words: &[Text], inputs: &mut I, out: &mut K) -> Status
-    requires { I.chosen inputs.old ≡ None }
-{
-    let mut err = QuietSink::new(alloc);
-    run(alloc, words, inputs, out, &mut err)
-}
-
-/// The status of a run that can't fail, and its sink.
-fn ran(alloc: Global, words: &[Text], given: List<u8>) -> Result<(Status, QuietSink), NoMemory> {
-    let mut inputs = QuietInputs::new(given, List::new(alloc));
-    let mut out = QuietSink::with_room(alloc, 1000)?;
-    let status = status(alloc, words, &mut inputs, &mut out);
-    Ok((status, out))
-}
-
-/// Whether a run answers this status and writes this text.
-fn is_run(
-    alloc: Global,
-    words: &[Text],
-    given: &[u8],
-    wanted: Status,
-    text: &[u8],
-) -> Result<bool, NoMemory> {
-    let (status, out) = ran(alloc, words, list(alloc, given)?)?;
-    Ok(status == wanted && out.bytes() == text)
-}
 
 /// A text reads to a file whose text is the other one, and so does that.
 fn lays(rt: &impl Abort, alloc: Global, row: &str) {
     let (given, text) = parts(row);
     for bytes in [given, text] {
-        let run = is_run(alloc, &[], bytes.as_bytes(), Status::Done, text.as_bytes());
+        let run = is_run(alloc, bytes.as_bytes(), Status::Done, text.as_bytes());
         assert_eq!(rt; run, Ok(true), "{bytes}");
     }
 }
@@ -124,11 +94,7 @@ fn files(rt: HostRuntime) {
 
 /// The bytes are refused, and nothing is written.
 fn answers(rt: &impl Abort, alloc: Global, given: &[u8], status: Status) {
-    assert_eq!(rt;
-        is_run(alloc, &[], given, status, b""),
-        Ok(true),
-        "{status:?}"
-    );
+    assert_eq!(rt; is_run(alloc, given, status, b""), Ok(true), "{status:?}");
 }
 
 /// None of these texts spells items.
@@ -136,7 +102,7 @@ fn no_item(rt: &impl Abort, alloc: Global, texts: &str) {
     for text in texts.split(BETWEEN) {
         let refused = Status::Refused(Refusal::NoItem { at: 0 });
         assert_eq!(rt;
-            is_run(alloc, &[], text.as_bytes(), refused, b""),
+            is_run(alloc, text.as_bytes(), refused, b""),
             Ok(true),
             "{text}"
         );
@@ -242,11 +208,6 @@ fn refusals(rt: HostRuntime) {
         b"struct A;\xff",
         Status::Refused(Refusal::NotUtf8 { at: 9 }),
     );
-    let word = [Text::new(alloc)];
-    assert_eq!(rt;
-        is_run(alloc, &word, b"struct A;", Status::Usage, b""),
-        Ok(true)
-    );
 }
 
 /// So many modules, each within the one before.
@@ -275,8 +236,8 @@ fn longest(alloc: Global, more: &[u8]) -> Result<Vec<u8>, NoMemory> {
 /// The status of a run over these bytes.
 fn outcome(alloc: Global, given: Result<Vec<u8>, NoMemory>) -> Status {
     match given {
-        Ok(given) => match ran(alloc, &[], List::from_vec(given)) {
-            Ok((status, _)) => status,
+        Ok(given) => match ran(alloc, List::from_vec(given)) {
+            Ok((status, ..)) => status,
             Err(NoMemory) => Status::NoMemory,
         },
         Err(NoMemory) => Status::NoMemory,
@@ -306,91 +267,4 @@ fn limits(rt: HostRuntime) {
     let refused = Status::Refused(Refusal::NotUtf8 { at: 0 });
     assert_eq!(rt; outcome(alloc, longest(alloc, b"")), refused);
     assert_eq!(rt; outcome(alloc, longest(alloc, b"\xff")), Status::TooLong);
-}
-
-/// The number, or none.
-fn numbers(alloc: Global, number: Option<u64>) -> Result<List<u64>, NoMemory> {
-    let mut all = Vec::new(alloc);
-    if let Some(number) = number {
-        all.push(number)?;
-    }
-    Ok(List::from_vec(all))
-}
-
-/// The status and the sink of a run over so many `struct A;`, of which one read and one write fail; the write keeps two
-/// bytes.
-fn failing(
-    alloc: Global,
-    count: usize,
-    read: Option<u64>,
-    write: Option<u64>,
-) -> Result<(Status, MemorySink), NoMemory> {
-    let given = List::from_vec(repeated(alloc, b"struct A;", count)?);
-    let mut inputs = MemoryInputs::new(given, List::new(alloc), numbers(alloc, read)?);
-    let mut out = MemorySink::new(alloc, 100_000, numbers(alloc, write)?, 2)?;
-    let status = status(alloc, &[], &mut inputs, &mut out);
-    Ok((status, out))
-}
-
-/// Such a run answers this status, and writes so many bytes of the text.
-fn fails(
-    rt: &impl Abort,
-    alloc: Global,
-    count: usize,
-    read: Option<u64>,
-    write: Option<u64>,
-    wanted: (Status, usize),
-) -> Result<(), NoMemory> {
-    let whole = repeated(alloc, b"struct A;\n", count)?;
-    let (status, out) = failing(alloc, count, read, write)?;
-    assert_eq!(rt; (status, out.bytes().len()), wanted);
-    assert!(rt; whole.starts_with(out.bytes()));
-    Ok(())
-}
-
-// 8,000 items take five reads of at most 16 KiB and one that finds the end, and four writes each: `struct `, `A`, `;`
-// and the newline.
-#[test]
-fn failures(rt: HostRuntime) -> Result<(), Fail> {
-    let alloc = rt.alloc();
-    for number in 0..6 {
-        fails(
-            &rt,
-            alloc,
-            8000,
-            Some(number),
-            None,
-            (Status::ReadFailed, 0),
-        )?;
-    }
-    let rows = [
-        (8000, Some(6), None, (Status::Done, 80_000)),
-        (8000, Some(7), None, (Status::Done, 80_000)),
-        (2, None, Some(0), (Status::WriteFailed, 2)),
-        (2, None, Some(4), (Status::WriteFailed, 12)),
-        (2, None, Some(7), (Status::WriteFailed, 20)),
-        (2, None, Some(8), (Status::Done, 20)),
-        (8000, None, Some(0), (Status::WriteFailed, 2)),
-        (8000, None, Some(31_996), (Status::WriteFailed, 79_992)),
-        (8000, None, None, (Status::Done, 80_000)),
-    ];
-    for (count, read, write, wanted) in rows {
-        fails(&rt, alloc, count, read, write, wanted)?;
-    }
-    Ok(())
-}
-
-// A text of 50,000 bytes is written as it is laid out: of 5,000 items 25 take the first 100 writes, and one of the next
-// item's fails.
-#[test]
-fn failure_in_the_middle(rt: HostRuntime) -> Result<(), Fail> {
-    let alloc = rt.alloc();
-    let given = List::from_vec(repeated(alloc, b"struct A;", 5000)?);
-    let mut inputs = QuietInputs::new(given, List::new(alloc));
-    let mut out = MemorySink::new(alloc, 100_000, numbers(alloc, Some(100))?, 2)?;
-    let status = status(alloc, &[], &mut inputs, &mut out);
-    assert_eq!(rt; status, Status::WriteFailed);
-    assert_eq!(rt; out.bytes().len(), 252);
-    assert!(rt; repeated(alloc, b"struct A;\n", 26)?.starts_with(out.bytes()));
-    Ok(())
 }
