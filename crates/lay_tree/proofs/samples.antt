@@ -4,3 +4,4 @@ pub mod Attr
 pub mod Use
 pub mod Item
 pub mod Tokens
+pub mod Types

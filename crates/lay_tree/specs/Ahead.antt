@@ -1,11 +1,12 @@
 -- Tests of the tokens ahead.
-use Rattle.std.specs.Prelude.{ℕ, ◌&&◌, Bool, true, false, List, [], ◌∷◌}
+use Rattle.std.specs.Prelude.{ℕ, ◌&&◌, ◌||◌, Bool, true, false, List, [], ◌∷◌, drop, codes}
 use Rattle.std.specs.Str.{bytes_eq}
 use Rattle.lay_token.specs.Lexes.{is_punct}
 use Rattle.lay_piece.specs.declared.kind.Delim.{Delim}
 use Rattle.lay_piece.specs.declared.kind.Delim.TheVariants.{Paren, Bracket, Brace}
 use Rattle.lay_piece.specs.declared.kind.Kind.{Kind}
-use Rattle.lay_piece.specs.declared.kind.Kind.TheVariants.{Ident, Opener, Closer}
+use Rattle.lay_piece.specs.declared.kind.Kind.TheVariants.{Ident, Lifetime, Opener, Closer}
+use Rattle.lay_token.specs.Operators.{is_op}
 use Rattle.lay_token.specs.declared.token.Token.{Token}
 
 abbrev pub Tokens : Type 0
@@ -52,3 +53,18 @@ opens d t = is_opener d t.kind
 
 abbrev pub closes : Delim → Token → Bool
 closes d t = is_closer d t.kind
+
+abbrev pub is_lifetime_kind : Kind → Bool
+is_lifetime_kind Lifetime = true
+is_lifetime_kind _ = false
+
+abbrev pub is_lifetime : Token → Bool
+is_lifetime t = is_lifetime_kind t.kind
+
+-- Generic arguments are opened by a `<` that is an operator by itself, or the first character of `<<` or `<-`.
+abbrev pub opens_args : Tokens → Bool
+opens_args ts = is_op (codes "<") ts || (is_op (codes "<<") ts || is_op (codes "<-") ts)
+
+-- the same behind a `::`
+abbrev pub opens_args_late : Tokens → Bool
+opens_args_late ts = is_op (codes "::") ts && opens_args (drop 2 ts)

@@ -1,19 +1,31 @@
 -- What may not follow a node. A node refuses what would make it longer: what its own rule names, and what is refused by
 -- the node that ends where it ends. The rules stand here in the order of docs/GRAMMAR.md.
-use Rattle.std.specs.Prelude.{◌&&◌, not, Bool, true, List, [], ◌∷◌, codes}
+use Rattle.std.specs.Prelude.{◌&&◌, ◌||◌, not, Bool, true, List, [], ◌∷◌, codes}
 use Rattle.lay_token.specs.Operators.{is_op}
-use Rattle.lay_tree.specs.Ahead.{Tokens, first, is_keyword}
+use Rattle.lay_piece.specs.declared.kind.Delim.TheVariants.{Paren}
+use Rattle.lay_tree.specs.Ahead.{Tokens, first, is_keyword, opens, opens_args, opens_args_late}
 
 pub data Begin : Type 0 where
   -- an optional last part that is left out: another name, behind the word that an import ends in
   OfRename : Begin
+  -- generic arguments that are left out: in what names a kind of things, and in code
+  OfArgs : Begin
+  OfCodeArgs : Begin
+  -- a return type that is left out
+  OfArrow : Begin
   -- `::`, behind a path and a use tree
   OfColons : Begin
+  -- `!`, behind a path that is a type
+  OfBang : Begin
 
 -- It stands at the front.
 abbrev pub begins_there : Begin → Tokens → Bool
 begins_there OfRename ts = first (is_keyword (codes "as")) ts
+begins_there OfArgs ts = opens_args ts || (opens_args_late ts || first (opens Paren) ts)
+begins_there OfCodeArgs ts = opens_args_late ts
+begins_there OfArrow ts = is_op (codes "->") ts
 begins_there OfColons ts = is_op (codes "::") ts
+begins_there OfBang ts = is_op (codes "!") ts
 
 -- The tokens may follow a node that refuses these.
 abbrev pub may_follow : List Begin → Tokens → Bool

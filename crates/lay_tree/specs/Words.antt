@@ -1,7 +1,11 @@
 -- Names and words (Rust Reference, "Identifiers", "Keywords").
-use Rattle.std.specs.Prelude.{ℕ, Bool, true, false, ◌||◌, List, [], ◌∷◌, codes}
+use Rattle.std.specs.Prelude.{ℕ, Bool, true, false, ◌||◌, List, [], ◌∷◌, codes, is_some}
 use Rattle.std.specs.List.{list_all}
+use Rattle.std.specs.Str.{chars, bytes_eq}
+use Rattle.lay_piece.specs.Value.{value_of}
 use Rattle.lay_piece.specs.Word.{class_of}
+use Rattle.lay_piece.specs.declared.kind.Kind.{Kind}
+use Rattle.lay_piece.specs.declared.kind.Kind.TheVariants as kind
 use Rattle.lay_piece.specs.declared.kind.Kind.TheVariants.{Ident, RawIdent}
 use Rattle.lay_piece.specs.declared.word.Class.{Class}
 use Rattle.lay_piece.specs.declared.word.Class.TheVariants.{Plain, PathWord}
@@ -34,3 +38,27 @@ leaf_of false text f = Leaf Ident text f
 
 abbrev pub colons : List Bit
 colons = Operator (codes "::") ∷ []
+
+-- A literal is a token of its own kind, or `true` or `false` (Rust Reference, "Literal expressions").
+abbrev pub is_literal : Kind → List ℕ → Bool
+is_literal kind.Ident text = bytes_eq text (codes "true") || bytes_eq text (codes "false")
+is_literal kind.Char text = true
+is_literal kind.Str text = true
+is_literal kind.RawStr text = true
+is_literal kind.Byte text = true
+is_literal kind.ByteStr text = true
+is_literal kind.RawByteStr text = true
+is_literal kind.CStr text = true
+is_literal kind.RawCStr text = true
+is_literal kind.Int text = true
+is_literal kind.Float text = true
+is_literal _ text = false
+
+abbrev pub is_number : Kind → Bool
+is_number kind.Int = true
+is_number kind.Float = true
+is_number _ = false
+
+-- a string without suffix
+abbrev pub is_string : Kind → List ℕ → Bool
+is_string k text = is_some (value_of k (chars text))

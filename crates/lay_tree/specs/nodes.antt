@@ -3,6 +3,9 @@ pub mod Facts
 pub mod SimplePath
 pub mod Call
 pub mod Attr
+pub mod Types
+pub mod Generics
+pub mod Where
 pub mod Use
 pub mod Item
 pub mod File

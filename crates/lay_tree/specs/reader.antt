@@ -8,6 +8,9 @@ pub mod SimplePath
 pub mod Tokens
 pub mod Call
 pub mod Attr
+pub mod Types
+pub mod Generics
+pub mod Where
 pub mod Use
 pub mod Item
 pub mod File

@@ -11,19 +11,25 @@
 pub mod attr;
 pub mod boxed;
 pub mod file;
+pub mod generics;
 pub mod item;
 mod laws;
 pub mod simple_path;
 pub mod token;
 pub mod tokens;
+pub mod types;
 pub mod use_tree;
 
 pub use attr::{Attr, MetaInput, MetaPath};
 pub use boxed::Boxed;
 pub use file::File;
+pub use generics::{ConstDefault, GenericParam, Generics, Predicate, Wheres};
 pub use item::{Item, ItemKind};
 pub use laws::{node_law, reading_law};
 pub use simple_path::SimplePath;
-pub use token::{GivenName, Listed, Name, Word};
+pub use token::{GivenName, Lifetime, Listed, Literal, Name, Word};
 pub use tokens::{Group, MacroCall, Tokens};
+pub use types::{
+    Abi, Arg, Args, Binder, Bound, ConstArg, Constraint, FuncParam, LifetimeParam, Path, PathStart, PathStyle, Ty, TypePlace,
+};
 pub use use_tree::{UseEnd, UseTree};

@@ -31,3 +31,16 @@ pub enum Listed {
     /// Documentation.
     Doc { inner: bool, text: Text },
 }
+
+/// A lifetime, with its `'` (Rust Reference, "Lifetimes and loop labels").
+#[derive(Drop)]
+pub struct Lifetime {
+    pub text: Text,
+}
+
+/// A literal token, or `true` or `false`, which are identifiers (Rust Reference, "Literal expressions").
+#[derive(Drop)]
+pub struct Literal {
+    pub kind: Kind,
+    pub text: Text,
+}

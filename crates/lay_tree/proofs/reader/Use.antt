@@ -18,10 +18,10 @@ use Rattle.lay_tree.specs.nodes.Facts.{Facts, forms, Front}
 use Rattle.lay_tree.specs.nodes.Use.{is_rename, rename_form, refuses_rename, words_form, about_use, about_use_end}
 use Rattle.lay_tree.specs.reader.Exact.{InText, Exact}
 use Rattle.lay_tree.specs.reader.Loops.{Got, Read, ◌>>=◌, nodes, deepest, elements}
-use Rattle.lay_tree.specs.reader.Use.{other_name, renamed, use_word, use_end_by, ended, use_by, use_at}
-use Rattle.lay_tree.specs.reader.Words.{name_by, word, global, path_word, path_words}
+use Rattle.lay_tree.specs.reader.Use.{renamed, use_word, use_end_by, ended, use_by, use_at}
+use Rattle.lay_tree.specs.reader.Words.{given_name, name_by, word, global, path_word, path_words}
 use Rattle.lay_tree.specs.declared.token.GivenName.{GivenName}
-use Rattle.lay_tree.specs.declared.token.GivenName.TheVariants as given_name
+use Rattle.lay_tree.specs.declared.token.GivenName.TheVariants as given
 use Rattle.lay_tree.specs.declared.token.Name.{Name}
 use Rattle.lay_tree.specs.declared.token.Word.{Word}
 use Rattle.lay_tree.specs.declared.use_tree.UseEnd.{UseEnd}
@@ -42,46 +42,46 @@ use Rattle.lay_tree.proofs.reader.Words.{name_by_is, GoodName, word_sound, word_
 
 -- what spells another name
 abbrev RenameIs : GivenName → Tokens → Tokens → Type 0
-RenameIs (given_name.Name n) ts rest = GoodName n ts rest
-RenameIs given_name.Underscore ts rest = IsOne Underscore (codes "_") ts rest
+RenameIs (given.Name n) ts rest = GoodName n ts rest
+RenameIs given.Underscore ts rest = IsOne Underscore (codes "_") ts rest
 
 name_rename : (k : Kind) (text : List ℕ) (t : Token) (ts : Tokens) (r : GivenName) (rest : Tokens) → t.kind ≡ k → t.text ≡ text
-    → (name_by k text >>= (λ (n : Name). let found : Got GivenName = Some (given_name.Name n, ts) in found)) ≡ Some (r, rest) → RenameIs r (t ∷ ts) rest
+    → (name_by k text >>= (λ (n : Name). let found : Got GivenName = Some (given.Name n, ts) in found)) ≡ Some (r, rest) → RenameIs r (t ∷ ts) rest
 name_rename k text t ts r rest is has h =
-    let b = bind_some (name_by k text) (λ (n : Name). let found : Got GivenName = Some (given_name.Name n, ts) in found) (r, rest) h in
+    let b = bind_some (name_by k text) (λ (n : Name). let found : Got GivenName = Some (given.Name n, ts) in found) (r, rest) h in
     let i = name_by_is k text b.0 b.1 in
-    same_some (λ (m : GivenName × Tokens). RenameIs m.0 (t ∷ ts) m.1) (given_name.Name b.0, ts) (r, rest) b.2 ((is ∙ i.0, has ∙ i.1, refl), i.2)
+    same_some (λ (m : GivenName × Tokens). RenameIs m.0 (t ∷ ts) m.1) (given.Name b.0, ts) (r, rest) b.2 ((is ∙ i.0, has ∙ i.1, refl), i.2)
 
 other_by_kind : (k : Kind) (t : Token) (ts : Tokens) (r : GivenName) (rest : Tokens) → IsText (only_text k) t.text
-    → other_name (record t { kind = k } ∷ ts) ≡ Some (r, rest) → RenameIs r (record t { kind = k } ∷ ts) rest
-unfolding other_name
+    → given_name (record t { kind = k } ∷ ts) ≡ Some (r, rest) → RenameIs r (record t { kind = k } ∷ ts) rest
+unfolding given_name
 other_by_kind Underscore t ts r rest u h =
-    same_some (λ (m : GivenName × Tokens). RenameIs m.0 (record t { kind = Underscore } ∷ ts) m.1) (given_name.Underscore, ts) (r, rest) h (refl, u, refl)
+    same_some (λ (m : GivenName × Tokens). RenameIs m.0 (record t { kind = Underscore } ∷ ts) m.1) (given.Underscore, ts) (r, rest) h (refl, u, refl)
 other_by_kind k t ts r rest u h = name_rename k t.text (record t { kind = k }) ts r rest refl refl h
 
-other_name_is : (ts : Tokens) (r : GivenName) (rest : Tokens) → InText ts → other_name ts ≡ Some (r, rest) → RenameIs r ts rest
-unfolding other_name
-other_name_is [] r rest t h = absurd (cc)
-other_name_is (t ∷ ts) r rest p h = other_by_kind t.kind t ts r rest (text_one t ts p) h
+given_name_is : (ts : Tokens) (r : GivenName) (rest : Tokens) → InText ts → given_name ts ≡ Some (r, rest) → RenameIs r ts rest
+unfolding given_name
+given_name_is [] r rest t h = absurd (cc)
+given_name_is (t ∷ ts) r rest p h = other_by_kind t.kind t ts r rest (text_one t ts p) h
 
 abbrev GoodRename : ℕ → Option GivenName → Tokens → Tokens → Type 0
 GoodRename depth r ts rest = Spells (rename_form r) depth ts rest × (is_rename r ≡ true) × (may_follow (refuses_rename r) rest ≡ true)
 
 rename_spelled : (depth : ℕ) (r : GivenName) (ts inside rest : Tokens) → IsOne Ident (codes "as") ts inside → RenameIs r inside rest → GoodRename depth (Some r) ts rest
-rename_spelled depth (given_name.Name n) ts inside rest k i =
+rename_spelled depth (given.Name n) ts inside rest k i =
     ((inside, (ts, refl, (inside, k, (inside, refl, refl))), leaf_spelled n.raw n.text Done depth inside rest rest i.0 refl), i.1, refl)
-rename_spelled depth given_name.Underscore ts inside rest k i = ((inside, (ts, refl, (inside, k, (inside, refl, refl))), (rest, i, refl)), refl, refl)
+rename_spelled depth given.Underscore ts inside rest k i = ((inside, (ts, refl, (inside, k, (inside, refl, refl))), (rest, i, refl)), refl, refl)
 
 renamed_sound : (depth : ℕ) (ts : Tokens) (r : Option GivenName) (rest : Tokens) → InText ts → renamed ts ≡ Some (r, rest) → GoodRename depth r ts rest
 unfolding renamed
 renamed_sound depth ts r rest t h =
     let go_on : (GivenName × Tokens) → Got (Option GivenName) = λ m. Some (Some m.0, m.1) in
     let R : Option GivenName × Tokens → Type 0 = λ m. GoodRename depth m.0 ts m.1 in
-    elim (chosen (first (is_keyword (codes "as")) ts) (other_name (tail ts) >>= go_on) (Some (None, ts)) (Some (r, rest)) h) [
+    elim (chosen (first (is_keyword (codes "as")) ts) (given_name (tail ts) >>= go_on) (Some (None, ts)) (Some (r, rest)) h) [
       | inl g ↦
-          let b = bind_some (other_name (tail ts)) go_on (r, rest) g.1 in
+          let b = bind_some (given_name (tail ts)) go_on (r, rest) g.1 in
           let k = keyword_one (codes "as") ts g.0 in
-          let i = other_name_is (tail ts) b.0.0 b.0.1 (texts_behind ts (tail ts) (one_end Ident (codes "as") ts (tail ts) k) t) b.1 in
+          let i = given_name_is (tail ts) b.0.0 b.0.1 (texts_behind ts (tail ts) (one_end Ident (codes "as") ts (tail ts) k) t) b.1 in
           same_some R (Some b.0.0, b.0.1) (r, rest) b.2 (rename_spelled depth b.0.0 ts (tail ts) b.0.1 k i)
       | inr g ↦ same_some R (None, ts) (r, rest) g.1 (refl, refl, rw g.0 refl)
     ]
@@ -164,21 +164,21 @@ use_sound (suc budget) ts tree need rest t h = use_by_sound budget (use_at budge
 
 -- ---- another name, spelled
 
-other_name_complete : (n : Name) (ts rest : Tokens) → GoodName n ts rest → other_name ts ≡ Some (given_name.Name n, rest)
-unfolding other_name
-other_name_complete n ts rest g = at n.raw n.text g.1 g.0
+given_name_complete : (n : Name) (ts rest : Tokens) → GoodName n ts rest → given_name ts ≡ Some (given.Name n, rest)
+unfolding given_name
+given_name_complete n ts rest g = at n.raw n.text g.1 g.0
   where
     at : (raw : Bool) (text : List ℕ) → is_name raw text ≡ true → IsOne (word_kind raw) text ts rest
-        → other_name ts ≡ Some (given_name.Name (record { raw = raw; text = text }), rest)
+        → given_name ts ≡ Some (given.Name (record { raw = raw; text = text }), rest)
     at true text g o = rw (one_front RawIdent text ts rest o).1 refl
     at false text g o = rw ((one_front Ident text ts rest o).1, g) refl
 
-underscore_complete : (ts rest : Tokens) → IsOne Underscore (codes "_") ts rest → other_name ts ≡ Some (given_name.Underscore, rest)
-unfolding other_name
+underscore_complete : (ts rest : Tokens) → IsOne Underscore (codes "_") ts rest → given_name ts ≡ Some (given.Underscore, rest)
+unfolding given_name
 underscore_complete ts rest o = rw (one_front Underscore (codes "_") ts rest o).1 refl
 
 -- Another name is read behind `as`, and no `::` stands before it.
-as_complete : (r : GivenName) (ts mid rest : Tokens) → AreBits (Blank ∷ keyword (codes "as") ∷ Blank ∷ []) ts mid → other_name mid ≡ Some (r, rest)
+as_complete : (r : GivenName) (ts mid rest : Tokens) → AreBits (Blank ∷ keyword (codes "as") ∷ Blank ∷ []) ts mid → given_name mid ≡ Some (r, rest)
     → (renamed ts ≡ Some (Some r, rest)) × (is_op (codes "::") ts ≡ false)
 unfolding renamed
 as_complete r ts mid rest s h =
@@ -192,12 +192,12 @@ rename_complete None depth ts rest g h =
     let stops : first (is_keyword (codes "as")) rest ≡ false =
     not-true (first (is_keyword (codes "as")) rest) (and_parts (not (first (is_keyword (codes "as")) rest)) true g.2).0 in
     (rw (g.0, stops) refl, rw g.0 h)
-rename_complete (Some (given_name.Name n)) depth ts rest g h =
-    let s = g.0 in as_complete (given_name.Name n) ts s.0 rest s.1 (other_name_complete n s.0 rest (leaf_alone n.raw n.text depth s.0 rest s.2, g.1))
-rename_complete (Some given_name.Underscore) depth ts rest g h =
+rename_complete (Some (given.Name n)) depth ts rest g h =
+    let s = g.0 in as_complete (given.Name n) ts s.0 rest s.1 (given_name_complete n s.0 rest (leaf_alone n.raw n.text depth s.0 rest s.2, g.1))
+rename_complete (Some given.Underscore) depth ts rest g h =
     let s = g.0 in
     let one : IsOne Underscore (codes "_") s.0 rest = subst (λ us. IsOne Underscore (codes "_") s.0 us) s.2.2 s.2.1 in
-    as_complete given_name.Underscore ts s.0 rest s.1 (underscore_complete s.0 rest one)
+    as_complete given.Underscore ts s.0 rest s.1 (underscore_complete s.0 rest one)
 
 -- ---- the front of a use tree
 

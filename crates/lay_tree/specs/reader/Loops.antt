@@ -1,5 +1,6 @@
--- What a reading gives, and the two loops of all readers: parts as long as a test holds, and elements with commas.
-use Rattle.std.specs.Prelude.{ℕ, zero, suc, max, Bool, if◌then◌else◌, List, [], ◌∷◌, ◌++◌, length, map, codes, Option, Some, None, option_and_then}
+-- What a reading gives, and the loops of all readers: parts as long as a test holds, and elements with commas, in delimiters
+-- or not.
+use Rattle.std.specs.Prelude.{ℕ, zero, suc, max, Bool, true, false, if◌then◌else◌, List, [], ◌∷◌, ◌++◌, length, map, codes, Option, Some, None, option_and_then}
 use Rattle.lay_token.specs.declared.token.Token.{Token}
 use Rattle.lay_tree.specs.Ahead.{Tokens, first, tail, is_mark}
 
@@ -28,7 +29,7 @@ abbrev pub deepest : {A : Type 0} → List (A × ℕ) → ℕ
 deepest [] = 0
 deepest (x ∷ xs) = max x.1 (deepest xs)
 
--- Parts as long as the test holds, behind those that are found, in so many turns at the most. In both loops every turn
+-- Parts as long as the test holds, behind those that are found, in so many turns at the most. In each loop every turn
 -- but the last leaves fewer tokens, so more turns than there are tokens suffice.
 unfoldable pub repeat_from : {A : Type 0} → (Tokens → Bool) → (Tokens → Got A) → ℕ → List A → Tokens → Got (List A)
 repeat_from more one zero found ts = None
@@ -52,3 +53,17 @@ elements_from closes one (suc n) found ts =
 
 unfoldable pub elements : {A : Type 0} → (Token → Bool) → (Tokens → Got A) → Tokens → Got (List A)
 elements closes one ts = elements_from closes one (suc (length ts)) [] ts
+
+-- Elements with commas that nothing closes, as long as one begins, behind those that are found; and whether a `,` stands
+-- behind the last of them, or there is none.
+abbrev pub behind_open : {A : Type 0} → (Tokens → Got (List A × Bool)) → List A → Tokens → Got (List A × Bool)
+behind_open go_on found ts = if first (is_mark (codes ",")) ts then go_on (tail ts) else Some ((found, false), ts)
+
+unfoldable pub open_elements_from : {A : Type 0} → (Tokens → Bool) → (Tokens → Got A) → ℕ → List A → Tokens → Got (List A × Bool)
+open_elements_from begins one zero found ts = None
+open_elements_from begins one (suc n) found ts =
+    if begins ts then (do x ← one ts; behind_open (open_elements_from begins one n (found ++ x.0 ∷ [])) (found ++ x.0 ∷ []) x.1)
+    else Some ((found, true), ts)
+
+unfoldable pub open_elements : {A : Type 0} → (Tokens → Bool) → (Tokens → Got A) → Tokens → Got (List A × Bool)
+open_elements begins one ts = open_elements_from begins one (suc (length ts)) [] ts

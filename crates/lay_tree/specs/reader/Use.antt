@@ -2,30 +2,18 @@
 use Rattle.std.specs.Prelude.{ℕ, zero, suc, if◌then◌else◌, [], ◌∷◌, drop, codes, Option, Some, None}
 use Rattle.lay_token.specs.Operators.{is_op}
 use Rattle.lay_piece.specs.declared.kind.Delim.TheVariants.{Brace}
-use Rattle.lay_piece.specs.declared.kind.Kind.{Kind}
-use Rattle.lay_piece.specs.declared.kind.Kind.TheVariants.{Underscore}
 use Rattle.lay_tree.specs.Ahead.{Tokens, first, tail, is_keyword, opens, closes}
 use Rattle.lay_tree.specs.Follow.{begins_there, OfColons}
 use Rattle.lay_tree.specs.reader.Loops.{Got, Read, ◌>>=◌, nodes, deepest, elements}
-use Rattle.lay_tree.specs.reader.Words.{name_by, word, global, path_words}
+use Rattle.lay_tree.specs.reader.Words.{word, given_name, global, path_words}
 use Rattle.lay_tree.specs.declared.token.GivenName.{GivenName}
-use Rattle.lay_tree.specs.declared.token.GivenName.TheVariants as given_name
 use Rattle.lay_tree.specs.declared.use_tree.UseEnd.{UseEnd}
 use Rattle.lay_tree.specs.declared.use_tree.UseEnd.TheVariants as use_end
 use Rattle.lay_tree.specs.declared.use_tree.UseTree.{UseTree}
 
--- what another name is, behind `as`
-unfoldable pub other_name : Tokens → Got GivenName
-other_name [] = None
-other_name (t ∷ ts) = by_kind t.kind
-  where
-    by_kind : Kind → Got GivenName
-    by_kind Underscore = Some (given_name.Underscore, ts)
-    by_kind kind = do n ← name_by kind t.text; Some (given_name.Name n, ts)
-
 unfoldable pub renamed : Tokens → Got (Option GivenName)
 renamed ts =
-    if first (is_keyword (codes "as")) ts then (do r ← other_name (tail ts); Some (Some r.0, r.1))
+    if first (is_keyword (codes "as")) ts then (do r ← given_name (tail ts); Some (Some r.0, r.1))
     else Some (None, ts)
 
 abbrev pub use_word : Tokens → Read UseEnd

@@ -3,10 +3,12 @@ use Rattle.std.specs.Prelude.{ℕ, Bool, true, false, if◌then◌else◌, List,
 use Rattle.lay_token.specs.Operators.{is_op}
 use Rattle.lay_piece.specs.Word.{class_of}
 use Rattle.lay_piece.specs.declared.kind.Kind.{Kind}
-use Rattle.lay_piece.specs.declared.kind.Kind.TheVariants.{Ident, RawIdent}
+use Rattle.lay_piece.specs.declared.kind.Kind.TheVariants.{Ident, RawIdent, Underscore}
 use Rattle.lay_tree.specs.Ahead.{Tokens}
 use Rattle.lay_tree.specs.Words.{is_plain, is_path_class}
 use Rattle.lay_tree.specs.reader.Loops.{Got, ◌>>=◌, repeat}
+use Rattle.lay_tree.specs.declared.token.GivenName.{GivenName}
+use Rattle.lay_tree.specs.declared.token.GivenName.TheVariants as given
 use Rattle.lay_tree.specs.declared.token.Name.{Name}
 use Rattle.lay_tree.specs.declared.token.Word.{Word}
 
@@ -18,6 +20,15 @@ name_by _ text = None
 unfoldable pub name : Tokens → Got Name
 name [] = None
 name (t ∷ ts) = do n ← name_by t.kind t.text; Some (n, ts)
+
+-- a name that is given, or `_`
+unfoldable pub given_name : Tokens → Got GivenName
+given_name [] = None
+given_name (t ∷ ts) = by_kind t.kind
+  where
+    by_kind : Kind → Got GivenName
+    by_kind Underscore = Some (given.Underscore, ts)
+    by_kind kind = do n ← name_by kind t.text; Some (given.Name n, ts)
 
 abbrev pub word_by : Kind → List ℕ → Option Word
 word_by Ident text = if is_path_class (class_of text) then Some (record { raw = false; text = text }) else None
