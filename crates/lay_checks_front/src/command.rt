@@ -244,6 +244,6 @@ fn texts_of_bytes(rt: HostRuntime) -> Result<(), Fail> {
     assert_eq!(rt; given, Ok(()));
     let refused = format_into(alloc, b"}", &mut out);
     assert_eq!(rt; refused, Err(IntoError::Refused(Refusal::Unbalanced { at: 0 })));
-    assert_eq!(rt; out.bytes(), b"struct A;\nstruct B;\n");
+    assert_eq!(rt; out.bytes(), b"struct A;\nstruct B;\n".as_slice());
     Ok(())
 }

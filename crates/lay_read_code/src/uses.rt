@@ -1,6 +1,7 @@
 //! Use trees.
 ghost use Rattle.std.specs.Prelude.{◌≡◌, ◌≤◌, IfOk};
 ghost use Rattle.lay_tree.specs.reader.Use as reader;
+ghost use Rattle.lay_tree.specs.reader.Words.{given_name};
 ghost use Rattle.lay_read_types.specs.Answers.{IsGot};
 ghost use Rattle.lay_read_code.specs.Answers.{IsFound};
 
@@ -104,13 +105,13 @@ fn read_rename(alloc: Global, at: &mut Cursor<'_>) -> Result<Option<GivenName>, 
     if !takes_keyword(at, b"as") {
         return Ok(None);
     }
-    let rename = read_other_name(alloc, at)?;
+    let rename = read_given_name(alloc, at)?;
     Ok(Some(rename))
 }
 
 /// A name, or `_`.
-fn read_other_name(alloc: Global, at: &mut Cursor<'_>) -> Result<GivenName, ReadNone>
-    ensures { IsGot (reader.other_name at.old) result at.new }
+fn read_given_name(alloc: Global, at: &mut Cursor<'_>) -> Result<GivenName, ReadNone>
+    ensures { IsGot (given_name at.old) result at.new }
 {
     if takes_underscore(at) {
         return Ok(GivenName::Underscore);

@@ -1,10 +1,9 @@
 use Rattle.std.proofs.Common.{sym, ap, ◌∙◌}
 use Rattle.std.proofs.lemmas.Result.{err_from_is_err_and}
-use Rattle.lay_tree.specs.reader.Use.{other_name}
-use Rattle.lay_tree.specs.reader.Words.{name}
+use Rattle.lay_tree.specs.reader.Words.{given_name, name}
 use Rattle.lay_read_types.proofs.Steps.{lost}
 use Rattle.lay_read_code.proofs.Steps.{other_underscore, other_none, other_some}
-use Rattle.lay_read_code.proofs.uses.read_other_name.Goals as goal
+use Rattle.lay_read_code.proofs.uses.read_given_name.Goals as goal
 
 pub returns-then-takes_underscore : goal.returns-then-takes_underscore
 returns-then-takes_underscore c = rw c.if-takes_underscore.ensures.passed
@@ -15,7 +14,7 @@ returns-in_err-name c =
     let ts = c.args.at.now in
     let here = ap name (sym c.if-takes_underscore.ensures.passed) in
     let p = err_from_is_err_and c.from_residual.result c.from_residual.ensures.1 in
-    rw (p.1, p.2) (lost (name c.takes_underscore.new.at) (other_name ts) c.in_err-name.field-0.0 c.in_err-name.ensures
+    rw (p.1, p.2) (lost (name c.takes_underscore.new.at) (given_name ts) c.in_err-name.field-0.0 c.in_err-name.ensures
     (λ none. other_none ts (sym c.if-takes_underscore.ensures.found) (here ∙ none)))
 
 pub returns : goal.returns
