@@ -9,6 +9,7 @@ pub mod Attr
 pub mod AttrRead
 pub mod Needs
 pub mod Use
+pub mod TypesSoundParts
 pub mod Item
 pub mod ItemRead
 pub mod File

@@ -41,7 +41,7 @@ use Rattle.lay_tree.proofs.reader.Words.{name_by_is, GoodName, word_sound, word_
 -- ---- another name, read
 
 -- what spells another name
-abbrev RenameIs : GivenName → Tokens → Tokens → Type 0
+abbrev pub RenameIs : GivenName → Tokens → Tokens → Type 0
 RenameIs (given.Name n) ts rest = GoodName n ts rest
 RenameIs given.Underscore ts rest = IsOne Underscore (codes "_") ts rest
 
@@ -59,7 +59,7 @@ other_by_kind Underscore t ts r rest u h =
     same_some (λ (m : GivenName × Tokens). RenameIs m.0 (record t { kind = Underscore } ∷ ts) m.1) (given.Underscore, ts) (r, rest) h (refl, u, refl)
 other_by_kind k t ts r rest u h = name_rename k t.text (record t { kind = k }) ts r rest refl refl h
 
-given_name_is : (ts : Tokens) (r : GivenName) (rest : Tokens) → InText ts → given_name ts ≡ Some (r, rest) → RenameIs r ts rest
+pub given_name_is : (ts : Tokens) (r : GivenName) (rest : Tokens) → InText ts → given_name ts ≡ Some (r, rest) → RenameIs r ts rest
 unfolding given_name
 given_name_is [] r rest t h = absurd (cc)
 given_name_is (t ∷ ts) r rest p h = other_by_kind t.kind t ts r rest (text_one t ts p) h
