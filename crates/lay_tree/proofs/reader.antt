@@ -10,6 +10,7 @@ pub mod AttrRead
 pub mod Needs
 pub mod Use
 pub mod TypesSoundParts
+pub mod TypesSoundPaths
 pub mod Item
 pub mod ItemRead
 pub mod File
