@@ -11,6 +11,7 @@ pub mod Needs
 pub mod Use
 pub mod TypesSoundParts
 pub mod TypesSoundPaths
+pub mod TypesSoundBounds
 pub mod Item
 pub mod ItemRead
 pub mod File
