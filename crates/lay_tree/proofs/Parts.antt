@@ -213,7 +213,7 @@ abbrev pub Elements : {A : Type 0} → Delim → (A → Tokens → Tokens → Ty
 Elements d P [] = Closed d
 Elements d P (x ∷ xs) = Then (P x) (Behind d P xs)
 
-each_comma_spelled : (fs : List Form) (depth : ℕ) (ts rest : Tokens) → Rows (Further (SpelledAt depth)) fs ts rest → Spells (each comma_gap fs) depth ts rest
+pub each_comma_spelled : (fs : List Form) (depth : ℕ) (ts rest : Tokens) → Rows (Further (SpelledAt depth)) fs ts rest → Spells (each comma_gap fs) depth ts rest
 each_comma_spelled [] depth ts rest r = r
 each_comma_spelled (f ∷ fs) depth ts rest r =
     let one = r.1 in (one.0, (one.0, one.1, refl), (r.0, one.2, each_comma_spelled fs depth r.0 rest r.2))

@@ -12,6 +12,7 @@ pub mod Use
 pub mod TypesSoundParts
 pub mod TypesSoundPaths
 pub mod TypesSoundBounds
+pub mod TypesSoundOpen
 pub mod Item
 pub mod ItemRead
 pub mod File

@@ -97,7 +97,7 @@ meta_input_is ts given rest h =
       ]
     ]
 
-text_listed : (t : Token) → text_of (as_listed t) ≡ t.text
+pub text_listed : (t : Token) → text_of (as_listed t) ≡ t.text
 text_listed t = by t.kind
   where
     by : (k : Kind) → text_of (listed_by k t.text t.joint) ≡ t.text

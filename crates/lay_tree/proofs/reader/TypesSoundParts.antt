@@ -159,7 +159,7 @@ abbrev pub ElementsBy : {A : Type 0} → Bit → (A → Tokens → Tokens → Ty
 ElementsBy shut P [] = IsBit shut
 ElementsBy shut P (x ∷ xs) = Then (P x) (BehindBy shut P xs)
 
-behind_comma : {A : Type 0} (shut : Bit) (P : A → Tokens → Tokens → Type 0) (xs : List A) (ts next rest : Tokens) → IsOne kind.Punct (codes ",") ts next
+pub behind_comma : {A : Type 0} (shut : Bit) (P : A → Tokens → Tokens → Type 0) (xs : List A) (ts next rest : Tokens) → IsOne kind.Punct (codes ",") ts next
     → ElementsBy shut P xs next rest → BehindBy shut P xs ts rest
 behind_comma shut P [] ts next rest m r = (ts, refl, (next, inr (next, m, refl), r))
 behind_comma shut P (x ∷ xs) ts next rest m r = let b = r.2 in (b.0, (r.0, (next, m, r.1), b.1), b.2)
@@ -534,7 +534,7 @@ goods_of told xs = list_all-map (λ (x : Facts). x.good) told xs
 -- Lists of nodes are spelled at the greatest need of theirs.
 module _ {A : Type 0} (budget : ℕ) (form : A → Form) (good : A → Bool) (P : A × ℕ → Tokens → Tokens → Type 0)
     (to : (x : A × ℕ) (ts mid : Tokens) → P x ts mid → (x.1 ≤ budget) × Spells (form x.0) x.1 ts mid × (good x.0 ≡ true)) where
-  rows_most : (S : Tokens → Tokens → Type 0) (most : ℕ) (xs : List (A × ℕ)) (ts rest : Tokens) → deepest xs ≤ most → Rows (λ x. Then S (P x)) xs ts rest
+  pub rows_most : (S : Tokens → Tokens → Type 0) (most : ℕ) (xs : List (A × ℕ)) (ts rest : Tokens) → deepest xs ≤ most → Rows (λ x. Then S (P x)) xs ts rest
       → Rows (λ x. Then S (SpelledAt most (form x))) (nodes xs) ts rest × (deepest xs ≤ budget) × (list_all good (nodes xs) ≡ true)
   rows_most S most [] ts rest le r = (r, omega arith, refl)
   rows_most S most (x ∷ xs) ts rest le r =
@@ -546,26 +546,27 @@ module _ {A : Type 0} (budget : ℕ) (form : A → Form) (good : A → Bool) (P 
         and_from (good x.0) (list_all good (nodes xs)) one.2 more.2,
       )
 
+  pub list_held : (opens shut : Bit) (xs : List (A × ℕ)) (ts inside rest : Tokens) → IsBit opens ts inside → ElementsBy shut P xs inside rest
+      → (deepest xs ≤ budget) × Spells (comma_list true opens shut (map form (nodes xs))) (deepest xs) ts rest × (list_all good (nodes xs) ≡ true)
+  list_held opens shut [] ts inside rest o r = (omega arith, list_by form 0 opens shut [] ts inside rest o r, refl)
+  list_held opens shut (x ∷ xs) ts inside rest o r =
+      let behind = r.2 in
+      let most = deepest (x ∷ xs) in
+      let one = to x inside r.0 r.1 in
+      let more = rows_most (IsOne kind.Punct (codes ",")) most xs r.0 behind.0 (omega arith) behind.1 in
+      let elements : ElementsBy shut (λ y. SpelledAt most (form y)) (nodes (x ∷ xs)) inside rest =
+      (r.0, raise (form x.0) x.1 most inside r.0 (omega arith) one.1, (behind.0, more.0, behind.2)) in (
+        omega (arith, one.0, more.1),
+        list_by form most opens shut (nodes (x ∷ xs)) ts inside rest o elements,
+        and_from (good x.0) (list_all good (nodes xs)) one.2 more.2,
+      )
+
   pub listed : (closed : Token → Bool) (opens shut : Bit) → Shuts closed shut → (one : Tokens → Read A) → SoundStep one P → (ts inside : Tokens) (xs : List (A × ℕ)) (rest : Tokens)
       → IsBit opens ts inside → InText inside → elements closed one inside ≡ Some (xs, rest)
       → (deepest xs ≤ budget) × Spells (comma_list true opens shut (map form (nodes xs))) (deepest xs) ts rest × (list_all good (nodes xs) ≡ true) × InText rest
   listed closed opens shut shuts one sound ts inside xs rest o t h =
       let e = elements_by one P sound closed shut shuts inside xs rest t h in
-      let l = at xs inside rest e.0 in
-      (l.1, list_by form (deepest xs) opens shut (nodes xs) ts inside rest o l.0, l.2, e.1)
-    where
-      at : (xs : List (A × ℕ)) (ts rest : Tokens) → ElementsBy shut P xs ts rest
-          → ElementsBy shut (λ x. SpelledAt (deepest xs) (form x)) (nodes xs) ts rest × (deepest xs ≤ budget) × (list_all good (nodes xs) ≡ true)
-      at [] ts rest r = (r, omega arith, refl)
-      at (x ∷ xs) ts rest r =
-          let behind = r.2 in
-          let most = deepest (x ∷ xs) in
-          let one = to x ts r.0 r.1 in
-          let more = rows_most (IsOne kind.Punct (codes ",")) most xs r.0 behind.0 (omega arith) behind.1 in (
-            (r.0, raise (form x.0) x.1 most ts r.0 (omega arith) one.1, (behind.0, more.0, behind.2)),
-            omega (arith, one.0, more.1),
-            and_from (good x.0) (list_all good (nodes xs)) one.2 more.2,
-          )
+      let l = list_held opens shut xs ts inside rest o e.0 in (l.0, l.1, l.2, e.1)
 
   pub chained : (op : List ℕ) (lead : Form → Form)
       → ((f : Form) (depth : ℕ) (ts mid rest : Tokens) → IsOperator op ts mid → Spells f depth mid rest → Spells (lead f) depth ts rest)
