@@ -13,6 +13,7 @@ pub mod TypesSoundParts
 pub mod TypesSoundPaths
 pub mod TypesSoundBounds
 pub mod TypesSoundOpen
+pub mod TypesSoundKinds
 pub mod Item
 pub mod ItemRead
 pub mod File
