@@ -14,6 +14,7 @@ pub mod TypesSoundPaths
 pub mod TypesSoundBounds
 pub mod TypesSoundOpen
 pub mod TypesSoundKinds
+pub mod TypesSound
 pub mod Item
 pub mod ItemRead
 pub mod File
