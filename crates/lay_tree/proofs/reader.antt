@@ -15,6 +15,8 @@ pub mod TypesSoundBounds
 pub mod TypesSoundOpen
 pub mod TypesSoundKinds
 pub mod TypesSound
+pub mod GenericsSound
+pub mod WheresSound
 pub mod Item
 pub mod ItemRead
 pub mod File
