@@ -13,6 +13,7 @@ pub mod TypesSoundParts
 pub mod TypesSoundPaths
 pub mod TypesSoundBounds
 pub mod TypesSoundOpen
+pub mod TypesSoundFuncs
 pub mod TypesSoundKinds
 pub mod TypesSound
 pub mod GenericsSound

@@ -1,11 +1,9 @@
 -- Generic parameters: what is read within a budget stands there, at the depth that it needs.
-use Rattle.std.proofs.Common.{◌≡◌, ℕ, suc, ◌≤◌, max, Bool, true, false, not, ◌&&◌, ◌||◌, List, [], ◌∷◌, inl, inr, map, drop, codes, Option, Some, None, if◌then◌else◌, refl, sym, ap, subst, ◌∙◌, arith}
-use Rattle.std.specs.List.{list_all}
-use Rattle.std.proofs.lemmas.Bool.{and_parts, and_from}
+use Rattle.std.proofs.Common.{◌≡◌, ℕ, ◌≤◌, max, Bool, true, false, not, ◌&&◌, ◌||◌, List, [], ◌∷◌, inl, inr, map, drop, codes, Option, Some, refl, ap, arith}
+use Rattle.std.proofs.lemmas.Bool.{and_from}
 use Rattle.lay_piece.specs.declared.kind.Kind.TheVariants as kind
 use Rattle.lay_token.specs.Operators.{is_op}
 use Rattle.lay_form.specs.Form.{Blank, Fixed, Operator, Form, Done, Piece, Part, keyword}
-use Rattle.lay_form.specs.Notation.{comma_list}
 use Rattle.lay_form.specs.Spelled.{IsOne, IsOperator, Spells}
 use Rattle.lay_form.proofs.FormLaws.{deeper as raise}
 use Rattle.lay_tree.specs.Ahead.{Tokens, first, tail, is_keyword, is_lifetime, is_mark}
@@ -13,15 +11,15 @@ use Rattle.lay_tree.specs.Begins.{begins_bound}
 use Rattle.lay_tree.specs.Follow.{may_follow}
 use Rattle.lay_tree.specs.Words.{is_name, leaf_of}
 use Rattle.lay_tree.specs.nodes.Attr.{are_attrs, about_attr}
-use Rattle.lay_tree.specs.nodes.Generics.{bounded_form, are_bounds, default_form, is_default, const_default_form, is_const_default, param_form, is_param, is_generics, params_list, generics_spelled, generics_follow}
+use Rattle.lay_tree.specs.nodes.Generics.{GenericsAt, bounded_form, are_bounds, default_form, is_default, const_default_form, is_const_default, param_form, is_param, is_generics, generics_spelled, generics_follow}
 use Rattle.lay_tree.specs.nodes.Types as types
-use Rattle.lay_tree.specs.nodes.Types.{about_bound, about_type, bounds_form, bounds_good, colon, const_form, good_at, is_there, is_lifetime_param, last_refuses, less, greater, param_attrs}
+use Rattle.lay_tree.specs.nodes.Types.{about_bound, about_type, bounds_form, colon, good_at, is_there, last_refuses, less, greater}
 use Rattle.lay_tree.specs.nodes.Where.{meets_follow}
 use Rattle.lay_tree.specs.reader.Attr.{attributes}
 use Rattle.lay_tree.specs.reader.Exact.{InText}
 use Rattle.lay_tree.specs.reader.Generics.{met, met_if, type_param, const_default_at, const_param, param_by, one_param, generics, generics_at}
 use Rattle.lay_tree.specs.reader.Loops.{passed, nodes, deepest}
-use Rattle.lay_tree.specs.reader.Types.{Within, all_bounds, angled, begins_const, const, if_read, if_there, lifetime_behind, operator}
+use Rattle.lay_tree.specs.reader.Types.{Within, angled, begins_const, const, if_read, if_there, lifetime_behind, operator}
 use Rattle.lay_tree.specs.reader.Words.{name}
 use Rattle.lay_tree.specs.declared.attr.Attr.{Attr}
 use Rattle.lay_tree.specs.declared.generics.ConstDefault.{ConstDefault}
@@ -29,7 +27,6 @@ use Rattle.lay_tree.specs.declared.generics.ConstDefault.TheVariants as const_de
 use Rattle.lay_tree.specs.declared.generics.GenericParam.{GenericParam}
 use Rattle.lay_tree.specs.declared.generics.GenericParam.TheVariants as param
 use Rattle.lay_tree.specs.declared.generics.Generics.{Generics}
-use Rattle.lay_tree.specs.declared.token.Name.{Name}
 use Rattle.lay_tree.specs.declared.types.Bound.{Bound}
 use Rattle.lay_tree.specs.declared.types.Ty.{Ty}
 use Rattle.lay_tree.specs.declared.types.TypePlace.TheVariants.{Bounds}
@@ -38,8 +35,8 @@ use Rattle.lay_tree.proofs.Parts.{Rows, GoodAt, word_kind, leaf_spelled}
 use Rattle.lay_tree.proofs.Steps.{same_some, chosen, bind_some}
 use Rattle.lay_tree.proofs.reader.Attr.{attributes_sound}
 use Rattle.lay_tree.proofs.reader.Loops.{SoundStep}
-use Rattle.lay_tree.proofs.reader.TypesSound.{Deep, alone_sound}
-use Rattle.lay_tree.proofs.reader.TypesSoundBounds.{BoundsHeld, AllHeld, bounds_sound}
+use Rattle.lay_tree.proofs.reader.TypesSound.{counted_sound, Deep, alone_sound}
+use Rattle.lay_tree.proofs.reader.TypesSoundBounds.{BoundsHeld, bounds_sound}
 use Rattle.lay_tree.proofs.reader.TypesSoundParts.{Out, bit_texts, operator_is, if_there_sound, if_read_sound, param_attrs_leads, attrs_good, lifetime_behind_sound, lifetime_param_is, greater_shuts, const_sound, listed}
 use Rattle.lay_tree.proofs.reader.TypesSoundPaths.{SoundWithin}
 use Rattle.lay_tree.proofs.reader.Words.{name_sound}
@@ -247,3 +244,9 @@ pub generics_at_sound : (budget : ℕ) → SoundStep (generics_at budget) (Gener
 generics_at_sound budget ts x rest t h =
     let s = alone_sound (λ (y : Generics × Bool). generics_spelled y.1 y.0) GoodGenerics generics generics_sound budget ts x rest t h in
     let k = s.0 in ((k.0, k.1, k.2.0, k.2.1), s.1)
+
+pub generics_stand : (budget : ℕ) (ts : Tokens) (x : Generics × Bool) (need : ℕ) (rest : Tokens) → InText ts → generics_at budget ts ≡ Some ((x, need), rest)
+    → (n : ℕ) × (drop n ts ≡ rest) × (need ≤ budget) × GenericsAt x.1 x.0 ts n need
+generics_stand =
+    counted_sound (λ (x : Generics × Bool). types.deeper (generics_spelled x.1 x.0)) (λ x. (x.1 || not (is_there x.0.params)) && is_generics x.0)
+    (λ x. generics_follow x.1) generics_at generics_at_sound

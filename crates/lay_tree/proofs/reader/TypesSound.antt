@@ -1,15 +1,18 @@
 -- Types, and paths, arguments and bounds by themselves: what is read within a budget stands there, at the depth that it needs.
-use Rattle.std.proofs.Common.{◌≡◌, ℕ, zero, suc, ◌≤◌, Bool, true, false, not, ◌&&◌, List, map, codes, Some, refl, ap, arith}
+use Rattle.std.proofs.Common.{length, drop, Bool, Some, sym, subst, ◌∙◌, length-append, ◌≡◌, ℕ, zero, suc, ◌≤◌, true, not, List, map, codes, refl, ap, arith}
 use Rattle.std.proofs.lemmas.Bool.{and_from}
+use Rattle.std.proofs.lemmas.List.{drop_at}
 use Rattle.lay_token.specs.Operators.{is_op}
 use Rattle.lay_form.specs.Form.{Form}
+use Rattle.lay_form.specs.Spelled as spelled
 use Rattle.lay_form.specs.Spelled.{Spells}
+use Rattle.lay_form.proofs.FormLaws.{is_end}
 use Rattle.lay_tree.specs.Ahead.{Tokens}
 use Rattle.lay_tree.specs.Begins.{lead_at}
 use Rattle.lay_tree.specs.Follow.{may_follow}
 use Rattle.lay_tree.specs.nodes.Facts.{Facts}
 use Rattle.lay_tree.specs.nodes.Types as types
-use Rattle.lay_tree.specs.nodes.Types.{good_at, type_follows, bounds_form, bounds_good, bounds_follow, last_refuses, alone, about_type, about_args, about_path, about_bound, in_style}
+use Rattle.lay_tree.specs.nodes.Types.{TypeFront, BoundsFront, good_at, type_follows, about_type, bounds_form, bounds_good, bounds_follow, last_refuses, alone, about_args, about_path, about_bound, in_style}
 use Rattle.lay_tree.specs.reader.Exact.{InText}
 use Rattle.lay_tree.specs.reader.Loops.{Read}
 use Rattle.lay_tree.specs.reader.Types.{Within, within, type_at, alone_at, path, path_at, args_by, args_at, all_bounds, bounds_at}
@@ -20,12 +23,12 @@ use Rattle.lay_tree.specs.declared.types.PathStyle.{PathStyle}
 use Rattle.lay_tree.specs.declared.types.Ty.{Ty}
 use Rattle.lay_tree.specs.declared.types.TypePlace.{TypePlace}
 use Rattle.lay_tree.proofs.Steps.{same_some, bind_some}
-use Rattle.lay_tree.proofs.reader.Exact.{Stands, Sound}
+use Rattle.lay_tree.proofs.reader.Exact.{Sound}
 use Rattle.lay_tree.proofs.reader.Loops.{SoundStep}
-use Rattle.lay_tree.proofs.reader.TypesSoundBounds.{BoundsHeld, bounds_sound, constraint_sound}
+use Rattle.lay_tree.proofs.reader.TypesSoundBounds.{bounds_sound, constraint_sound}
 use Rattle.lay_tree.proofs.reader.TypesSoundKinds.{type_sound}
 use Rattle.lay_tree.proofs.reader.TypesSoundParts.{Out, Held}
-use Rattle.lay_tree.proofs.reader.TypesSoundPaths.{TypeHeld, asked, SoundWithin, args_told, path_told, args_sound, path_sound}
+use Rattle.lay_tree.proofs.reader.TypesSoundPaths.{TypeHeld, SoundWithin, args_told, path_told, args_sound, path_sound}
 
 -- What is read within a budget stands there.
 pub within_sound : (budget : ℕ) → SoundWithin budget (within budget)
@@ -95,3 +98,36 @@ bounds_at_sound budget ts x rest t h =
     ((one.0, one.1, (one.2, and_from (not (is_op (codes "+") end)) (may_follow (last_refuses (map about_bound y.0)) end) (ap not r.0.1) one.3)), r.1))
     budget ts x rest t h in
     let k = s.0 in ((k.0, k.1, k.2.0, k.2.1), s.1)
+
+-- ---- fronts
+
+-- What is read and spelled is counted.
+pub counted_sound : {A : Type 0} (form : A → Form) (good : A → Bool) (follows : A → Tokens → Bool) (read : ℕ → Tokens → Read A)
+    → ((budget : ℕ) → SoundStep (read budget) (λ x ts rest. (x.1 ≤ budget) × Spells (form x.0) x.1 ts rest × (good x.0 ≡ true) × (follows x.0 rest ≡ true)))
+    → (budget : ℕ) (ts : Tokens) (x : A) (need : ℕ) (rest : Tokens) → InText ts → read budget ts ≡ Some ((x, need), rest)
+    → (n : ℕ) × (drop n ts ≡ rest) × (need ≤ budget) × spelled.Front (form x) (good x) (follows x) ts n need
+counted_sound form good follows read sound budget ts x need rest t h =
+    let k = (sound budget ts (x, need) rest t h).0 in
+    let e = is_end (form x) need ts rest k.1 in
+    let n = length e.before in
+    let dropped : drop n ts ≡ rest = ap (λ (us : Tokens). drop n us) e.whole ∙ drop_at e.before rest n refl in
+    let le : n ≤ length ts = omega (arith, ap length e.whole, length-append e.before rest) in
+    let front : spelled.Front (form x) (good x) (follows x) ts n need =
+    (le, subst (λ us. Spells (form x) need ts us) (sym dropped) k.1, k.2, subst (λ us. follows x us ≡ true) (sym dropped) k.3) in
+    (n, dropped, k.0, front)
+
+pub types_stand : (place : TypePlace) (budget : ℕ) (ts : Tokens) (x : Ty) (need : ℕ) (rest : Tokens) → InText ts
+    → type_at place budget ts ≡ Some ((x, need), rest) → (n : ℕ) × (drop n ts ≡ rest) × (need ≤ budget) × TypeFront place (about_type x) ts n need
+types_stand place =
+    counted_sound (λ x. (about_type x).told.form) (λ x. good_at place (about_type x)) (λ x. type_follows place (about_type x)) (type_at place) (type_at_sound place)
+
+pub paths_sound : (style : PathStyle) (budget : ℕ) → Sound (λ (x : Path). alone (about_path x style)) budget (path_at style budget)
+paths_sound style budget ts x need rest t h = (path_at_sound style budget ts (x, need) rest t h).0
+
+pub args_all_sound : (style : PathStyle) (budget : ℕ) → Sound (λ (x : Args). alone (in_style style (about_args x))) budget (args_at style budget)
+args_all_sound style budget ts x need rest t h = (args_at_sound style budget ts (x, need) rest t h).0
+
+pub bounds_stand : (budget : ℕ) (ts : Tokens) (x : List Bound) (need : ℕ) (rest : Tokens) → InText ts → bounds_at budget ts ≡ Some ((x, need), rest)
+    → (n : ℕ) × (drop n ts ≡ rest) × (need ≤ budget) × BoundsFront x ts n need
+bounds_stand =
+    counted_sound (λ (x : List Bound). types.deeper (bounds_form (map about_bound x))) (λ x. bounds_good (map about_bound x)) bounds_follow bounds_at bounds_at_sound

@@ -1,17 +1,16 @@
 -- Bounds, and what is asked of a name among arguments: what is read stands there, where what is one level deeper is read so.
 use Rattle.std.proofs.Common.{◌≡◌, ℕ, suc, ◌≤◌, Bool, true, false, not, ◌&&◌, List, [], ◌∷◌, inl, inr, map, drop, codes, Option, Some, refl, sym, ap, subst, ◌∙◌, arith}
-use Rattle.std.proofs.lemmas.Bool.{and_parts, and_from}
+use Rattle.std.proofs.lemmas.Bool.{and_from}
 use Rattle.lay_piece.specs.declared.kind.Delim.TheVariants.{Paren}
 use Rattle.lay_piece.specs.declared.kind.Kind.TheVariants as kind
 use Rattle.lay_token.specs.Operators.{is_op}
 use Rattle.lay_form.specs.Form.{Blank, Fixed, Operator, Form, Done, Piece, Part, opener, closer}
 use Rattle.lay_form.specs.Notation.{B}
 use Rattle.lay_form.specs.Spelled.{IsOperator, AreBits, Spells}
-use Rattle.lay_form.proofs.FormLaws.{deeper as raise}
 use Rattle.lay_tree.specs.Ahead.{Tokens, first, tail, is_mark, is_lifetime, opens, closes}
 use Rattle.lay_tree.specs.Follow.{may_follow}
-use Rattle.lay_tree.specs.nodes.Facts.{Facts, forms, all_good}
-use Rattle.lay_tree.specs.nodes.Types.{good_at, is_several, bounds_form, bounds_good, last_refuses, meets_form, bound_facts, constraint_facts, binder_form, is_binder, about_type, about_path, about_constraint, about_bound, alone, bounds_follow, joined, colon}
+use Rattle.lay_tree.specs.nodes.Facts.{Facts}
+use Rattle.lay_tree.specs.nodes.Types.{is_several, bounds_form, bounds_good, last_refuses, meets_form, bound_facts, constraint_facts, binder_form, is_binder, about_type, about_path, about_constraint, about_bound, alone, joined}
 use Rattle.lay_tree.specs.reader.Exact.{InText}
 use Rattle.lay_tree.specs.reader.Loops.{passed, nodes, deepest}
 use Rattle.lay_tree.specs.reader.Types.{Within, operator, flag, lifetime, chain, binder_if, begins_const, const, path, meets, one_bound, all_bounds, bounds_by, equal, constraint_by}
@@ -31,7 +30,7 @@ use Rattle.lay_tree.proofs.Steps.{same_some, chosen, bind_some}
 use Rattle.lay_tree.proofs.nodes.TypesLaws.{constraint_equal_is, constraint_equal_const_is, constraint_limit_is, bound_outlives_is, bound_meets_is}
 use Rattle.lay_tree.proofs.reader.Exact.{Stands}
 use Rattle.lay_tree.proofs.reader.Loops.{SoundStep}
-use Rattle.lay_tree.proofs.reader.TypesSoundParts.{Out, Leads, bit_texts, operator_is, flag_leads, flag_texts, BehindOp, Chain, chain_sound, lifetime_sound, binder_if_sound, const_sound, Held, held, forms_of, goods_of, chained}
+use Rattle.lay_tree.proofs.reader.TypesSoundParts.{Out, bit_texts, operator_is, flag_leads, flag_texts, BehindOp, Chain, chain_sound, lifetime_sound, binder_if_sound, const_sound, Held, held, forms_of, goods_of, chained}
 use Rattle.lay_tree.proofs.reader.TypesSoundPaths.{asked, SoundWithin, bounds_refused, path_told, path_sound}
 
 abbrev plus_lead : Form → Form

@@ -1,5 +1,5 @@
 -- Elements with commas that nothing closes: what is read of them is spelled.
-use Rattle.std.proofs.Common.{◌≡◌, ℕ, zero, suc, ◌≤◌, max, Bool, true, false, List, [], ◌∷◌, ◌++◌, inl, inr, length, map, codes, Option, Some, None, if◌then◌else◌, refl, sym, ap, subst, ◌∙◌, append-nil, arith}
+use Rattle.std.proofs.Common.{◌≡◌, ℕ, zero, suc, ◌≤◌, Bool, true, false, List, [], ◌∷◌, ◌++◌, inl, inr, length, codes, Some, refl, sym, subst, append-nil, arith}
 use Rattle.std.specs.List.{list_all}
 use Rattle.std.proofs.lemmas.Bool.{and_from}
 use Rattle.lay_piece.specs.declared.kind.Kind.TheVariants as kind
@@ -9,11 +9,10 @@ use Rattle.lay_form.specs.Spelled.{Then, IsOne, IsBit, MayBe, Spells}
 use Rattle.lay_form.proofs.FormLaws.{deeper as raise}
 use Rattle.lay_tree.specs.Ahead.{Tokens, first, tail, is_mark}
 use Rattle.lay_tree.specs.reader.Exact.{InText}
-use Rattle.lay_tree.specs.reader.Loops.{Got, Read, ◌>>=◌, nodes, deepest, behind_open, open_elements_from, open_elements}
+use Rattle.lay_tree.specs.reader.Loops.{Got, nodes, deepest, open_elements_from, open_elements}
 use Rattle.lay_tree.proofs.Fronts.{mark_one}
 use Rattle.lay_tree.proofs.Parts.{Rows, SpelledAt, Further, each_comma_spelled}
-use Rattle.lay_tree.proofs.Steps.{same_some, chosen, bind_some, one_more, no_more}
-use Rattle.lay_tree.proofs.reader.Loops.{SoundStep}
+use Rattle.lay_tree.proofs.Steps.{same_some, chosen, bind_some, one_more}
 use Rattle.lay_tree.proofs.reader.TypesSoundParts.{bit_texts, ElementsBy, rows_most}
 
 -- what stands behind the last element: a `,`, and none begins there, or no `,`

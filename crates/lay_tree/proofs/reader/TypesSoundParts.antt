@@ -1,33 +1,32 @@
 -- What is read in parts of types is spelled: lists in any brackets, parts with an operator between them, and parts with no
 -- types within them.
-use Rattle.std.proofs.Common.{◌≡◌, ℕ, zero, suc, ◌≤◌, max, Bool, true, false, not, ◌&&◌, ◌||◌, List, [], ◌∷◌, ◌++◌, ◌⊎◌, inl, inr, length, map, drop, codes, Option, Some, None, if◌then◌else◌, cond, refl, sym, ap, subst, ◌∙◌, arith}
+use Rattle.std.proofs.Common.{◌≡◌, ℕ, zero, suc, ◌≤◌, Bool, true, false, not, List, [], ◌∷◌, ◌++◌, ◌⊎◌, inl, inr, length, map, drop, codes, Option, Some, None, if◌then◌else◌, cond, refl, sym, ap, subst, ◌∙◌, arith}
 use Rattle.std.specs.List.{list_all}
-use Rattle.std.specs.Str.{bytes_eq}
 use Rattle.std.proofs.lemmas.Bool.{and_from}
 use Rattle.std.proofs.lemmas.List.Folds.{list_all-map}
-use Rattle.lay_piece.specs.Forms.{opening, closing}
+use Rattle.lay_piece.specs.Forms.{opening}
 use Rattle.lay_piece.specs.declared.kind.Delim.{Delim}
 use Rattle.lay_piece.specs.declared.kind.Delim.TheVariants.{Brace}
 use Rattle.lay_piece.specs.declared.kind.Kind.{Kind}
 use Rattle.lay_piece.specs.declared.kind.Kind.TheVariants as kind
 use Rattle.lay_token.specs.Operators.{is_op}
 use Rattle.lay_token.specs.declared.token.Token.{Token}
-use Rattle.lay_form.specs.Form.{Bit, Blank, Fixed, Operator, Form, Done, Piece, Part, Deeper, punct, keyword, comma, opener, closer}
-use Rattle.lay_form.specs.Notation.{H, piece, when, each, comma_gap, comma_list, last_break}
+use Rattle.lay_form.specs.Form.{Bit, Blank, Fixed, Operator, Form, Done, Piece, Part, Deeper, keyword, comma}
+use Rattle.lay_form.specs.Notation.{H, when, each, comma_gap, comma_list}
 use Rattle.lay_form.specs.Spelled.{Then, IsOne, IsOperator, IsBit, AreBits, MayBe, Spells}
-use Rattle.lay_form.proofs.FormLaws.{deeper as raise, one_end, bits_end, is_end}
+use Rattle.lay_form.proofs.FormLaws.{deeper as raise, bits_end, is_end}
 use Rattle.lay_tree.specs.Ahead.{Tokens, first, tail, is_keyword, is_mark, is_lifetime, is_lifetime_kind, opens, closes}
 use Rattle.lay_tree.specs.Words.{is_literal, is_number, is_string}
 use Rattle.lay_tree.specs.nodes.Attr.{attr_form, is_attr, are_attrs, is_inner, is_line, about_attr}
 use Rattle.lay_tree.specs.nodes.Facts.{Facts, forms, all_good}
-use Rattle.lay_tree.specs.nodes.Types.{joined, less, greater, colon, param_attrs, lifetime_form, lifetimes_form, outlived_form, lifetime_param_form, is_lifetime_param, binder_form, is_binder, const_form, is_const, abi_form, is_abi}
+use Rattle.lay_tree.specs.nodes.Types.{joined, less, greater, param_attrs, lifetime_form, lifetimes_form, outlived_form, lifetime_param_form, is_lifetime_param, binder_form, is_binder, const_form, is_const, abi_form, is_abi}
 use Rattle.lay_tree.specs.nodes.Types as types
 use Rattle.lay_tree.specs.nodes.Where.{outlives_follow}
 use Rattle.lay_tree.specs.reader.Attr.{attributes}
 use Rattle.lay_tree.specs.reader.Exact.{InText}
 use Rattle.lay_tree.specs.reader.Loops.{Got, Read, ◌>>=◌, passed, nodes, deepest, repeat, element_end, elements_from, elements}
 use Rattle.lay_tree.specs.reader.Tokens.{tokens, group}
-use Rattle.lay_tree.specs.reader.Types.{operator, flag, if_there, if_read, lifetime, is_literal_token, literal, chain, lifetimes, outlived, lifetime_behind, lifetime_param, angled, binder, binder_if, begins_const, negative, braces, const, is_string_token, abi}
+use Rattle.lay_tree.specs.reader.Types.{operator, flag, if_there, if_read, lifetime, is_literal_token, literal, chain, lifetimes, outlived, lifetime_behind, lifetime_param, angled, binder, binder_if, negative, braces, const, is_string_token, abi}
 use Rattle.lay_tree.specs.tokens.Lists.{group_form}
 use Rattle.lay_tree.specs.declared.attr.Attr.{Attr}
 use Rattle.lay_tree.specs.declared.token.Lifetime.{Lifetime}
@@ -39,7 +38,7 @@ use Rattle.lay_tree.specs.declared.types.Binder.{Binder}
 use Rattle.lay_tree.specs.declared.types.ConstArg.{ConstArg}
 use Rattle.lay_tree.specs.declared.types.ConstArg.TheVariants as const_arg
 use Rattle.lay_tree.specs.declared.types.LifetimeParam.{LifetimeParam}
-use Rattle.lay_tree.proofs.Fronts.{texts_behind, keyword_one, mark_one, opens_one, passed_first, mark_passed_is, opener_passed_is}
+use Rattle.lay_tree.proofs.Fronts.{texts_behind, keyword_one, mark_one, passed_first, mark_passed_is, opener_passed_is}
 use Rattle.lay_tree.proofs.Parts.{Rows, rows_pass, GoodAt, SpelledAt, Further}
 use Rattle.lay_tree.proofs.Steps.{got_same, same_some, chosen, bind_some, one_more, no_more}
 use Rattle.lay_tree.proofs.reader.Attr.{attributes_sound}

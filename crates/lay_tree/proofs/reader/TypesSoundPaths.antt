@@ -1,39 +1,35 @@
 -- Generic arguments, paths and bounds: what is read stands there, where what is one level deeper is read so.
-use Rattle.std.proofs.Common.{◌≡◌, ℕ, zero, suc, ◌≤◌, max, Bool, true, false, not, ◌&&◌, ◌||◌, List, [], ◌∷◌, inl, inr, length, map, drop, codes, Option, option_map, Some, None, if◌then◌else◌, refl, sym, ap, subst, ◌∙◌, arith}
+use Rattle.std.proofs.Common.{◌≡◌, ℕ, suc, ◌≤◌, max, Bool, true, false, not, ◌&&◌, ◌||◌, List, [], ◌∷◌, inl, inr, map, drop, codes, Option, option_map, Some, refl, sym, ap, subst, ◌∙◌, arith}
 use Rattle.std.specs.List.{list_all}
 use Rattle.std.proofs.lemmas.Bool.{and_parts, and_from}
 use Rattle.std.proofs.lemmas.List.Folds.{list_all-map}
 use Rattle.lay_piece.specs.declared.kind.Delim.TheVariants.{Paren}
 use Rattle.lay_piece.specs.declared.kind.Kind.TheVariants as kind
 use Rattle.lay_token.specs.Operators.{is_op}
-use Rattle.lay_form.specs.Form.{Bit, Blank, Fixed, Operator, Form, Done, Piece, Part, keyword, opener, closer}
-use Rattle.lay_form.specs.Notation.{B, piece, when, comma_list}
-use Rattle.lay_form.specs.Spelled.{Then, IsOne, IsOperator, AreBits, MayBe, Spells}
+use Rattle.lay_form.specs.Form.{Fixed, Operator, Form, Done, Piece, Part, keyword, opener, closer}
+use Rattle.lay_form.specs.Notation.{B, piece, comma_list}
+use Rattle.lay_form.specs.Spelled.{IsOperator, AreBits, MayBe, Spells}
 use Rattle.lay_form.proofs.FormLaws.{deeper as raise}
 use Rattle.lay_tree.specs.Ahead.{Tokens, first, tail, is_keyword, is_mark, is_lifetime, opens, closes, opens_args, opens_args_late}
-use Rattle.lay_tree.specs.Follow.{OfColons, begins_there, may_follow}
+use Rattle.lay_tree.specs.Follow.{Begin, may_follow}
 use Rattle.lay_tree.specs.Words.{is_name, is_path_word, colons, leaf_of}
-use Rattle.lay_tree.specs.nodes.Facts.{Facts, forms, all_good}
+use Rattle.lay_tree.specs.nodes.Facts.{Facts, all_good}
 use Rattle.lay_tree.specs.nodes.Types as types
-use Rattle.lay_tree.specs.nodes.Types.{TypeFacts, ArgsFacts, good_at, all_types_good, type_forms, type_follows, in_style, output_form, output_good, output_refuses, angle_form, round_form, args_facts, is_there, is_several, bounds_form, bounds_good, last_refuses, meets_form, bound_facts, constraint_facts, arg_facts, segment_form, segments_form, segment_good, segments_good, segments_refuse, of_form, of_good, start_facts, path_facts, ty_facts, binder_form, is_binder, lifetime_form, const_form, less, greater, about_type, about_path, about_start, about_args, about_arg, about_constraint, about_bound, alone, bounds_follow}
+use Rattle.lay_tree.specs.nodes.Types.{TypeFacts, ArgsFacts, good_at, all_types_good, type_forms, type_follows, in_style, output_form, output_good, output_refuses, angle_form, round_form, args_facts, arg_facts, segment_form, segments_form, segment_good, segments_good, segments_refuse, of_form, of_good, start_facts, path_facts, ty_facts, less, greater, about_type, about_path, about_start, about_args, about_arg, about_constraint, alone}
 use Rattle.lay_tree.specs.reader.Exact.{InText}
-use Rattle.lay_tree.specs.reader.Loops.{Got, Read, ◌>>=◌, passed, nodes, deepest, elements}
-use Rattle.lay_tree.specs.reader.Types as reader
-use Rattle.lay_tree.specs.reader.Types.{Within, operator, flag, if_read, lifetime, chain, angled, binder_if, begins_const, const, path_in, as_path, starts_plain, as_name, named_segments, named_path, named_type, begins_constraint, arg_by, one_arg, angle, output, round, args_by, segment, trait_path, qualified, path_start, returns_last, path, meets, one_bound, all_bounds, bounds_by, equal, constraint_by}
+use Rattle.lay_tree.specs.reader.Loops.{passed, nodes, deepest, elements}
+use Rattle.lay_tree.specs.reader.Types.{Within, operator, if_read, lifetime, chain, angled, begins_const, const, path_in, as_path, starts_plain, as_name, named_segments, named_type, begins_constraint, arg_by, one_arg, angle, output, round, args_by, segment, trait_path, qualified, path_start, returns_last, path}
 use Rattle.lay_tree.specs.reader.Words.{word}
 use Rattle.lay_tree.specs.declared.token.Name.{Name}
 use Rattle.lay_tree.specs.declared.token.Word.{Word}
 use Rattle.lay_tree.specs.declared.types.Arg.{Arg}
-use Rattle.lay_tree.specs.declared.types.Arg.TheOpen.{Arg-F, Args-F, Bound-F, Constraint-F, PathStart-F, Ty-F}
+use Rattle.lay_tree.specs.declared.types.Arg.TheOpen.{Arg-F, Args-F, PathStart-F, Ty-F}
 use Rattle.lay_tree.specs.declared.types.Arg.TheVariants as arg
 use Rattle.lay_tree.specs.declared.types.Arg.TheViews as views
 use Rattle.lay_tree.specs.declared.types.Args.{Args}
 use Rattle.lay_tree.specs.declared.types.Args.TheVariants as args
-use Rattle.lay_tree.specs.declared.types.Binder.{Binder}
 use Rattle.lay_tree.specs.declared.types.Bound.{Bound}
-use Rattle.lay_tree.specs.declared.types.Bound.TheVariants as bound
 use Rattle.lay_tree.specs.declared.types.Constraint.{Constraint}
-use Rattle.lay_tree.specs.declared.types.Constraint.TheVariants as constraint
 use Rattle.lay_tree.specs.declared.types.FuncParam.{FuncParam}
 use Rattle.lay_tree.specs.declared.types.Path.{Path}
 use Rattle.lay_tree.specs.declared.types.PathStart.{PathStart}
@@ -44,13 +40,13 @@ use Rattle.lay_tree.specs.declared.types.Ty.{Ty}
 use Rattle.lay_tree.specs.declared.types.Ty.TheVariants as ty
 use Rattle.lay_tree.specs.declared.types.TypePlace.{TypePlace}
 use Rattle.lay_tree.specs.declared.types.TypePlace.TheVariants.{Bounds, NoBounds}
-use Rattle.lay_tree.proofs.Fronts.{texts_behind, keyword_one, mark_one, opens_one, closes_one, mark_passed_is, opener_passed_is, closer_passed_is}
+use Rattle.lay_tree.proofs.Fronts.{keyword_one, closes_one, mark_passed_is, opener_passed_is}
 use Rattle.lay_tree.proofs.Parts.{Rows, part_alone, word_kind, leaf_spelled, leaf_parts}
 use Rattle.lay_tree.proofs.Steps.{or_else, got_same, same_some, chosen, bind_some}
-use Rattle.lay_tree.proofs.nodes.TypesLaws.{about_segment, type_path_is, start_local_is, start_global_is, start_qualified_is, args_none_is, args_angle_is, args_round_is, arg_region_is, arg_plain_is, arg_const_is, arg_named_is, constraint_equal_is, constraint_equal_const_is, constraint_limit_is, bound_outlives_is, bound_meets_is, path_is}
+use Rattle.lay_tree.proofs.nodes.TypesLaws.{about_segment, type_path_is, start_local_is, start_global_is, start_qualified_is, args_none_is, args_angle_is, args_round_is, arg_region_is, arg_plain_is, arg_const_is, arg_named_is, path_is}
 use Rattle.lay_tree.proofs.reader.Exact.{Stands}
 use Rattle.lay_tree.proofs.reader.Loops.{SoundStep}
-use Rattle.lay_tree.proofs.reader.TypesSoundParts.{Out, Leads, bit_texts, operator_is, flag_leads, flag_texts, if_read_sound, BehindOp, Chain, chain_sound, Shuts, lifetime_sound, greater_shuts, binder_if_sound, const_sound, Held, held, forms_of, goods_of, listed, chained, both_deeper, deeper_then}
+use Rattle.lay_tree.proofs.reader.TypesSoundParts.{Out, bit_texts, operator_is, if_read_sound, BehindOp, Chain, chain_sound, Shuts, lifetime_sound, greater_shuts, const_sound, Held, held, forms_of, goods_of, listed, both_deeper, deeper_then}
 use Rattle.lay_tree.proofs.reader.Words.{word_sound}
 
 -- ---- types one level deeper
@@ -81,6 +77,36 @@ bounds_refused x rest h = (and_parts (not (x.bounded && is_op (codes "+") rest))
 
 pub lone_good : (x : TypeFacts) → good_at NoBounds x ≡ true → x.told.good ≡ true
 lone_good x h = (and_parts x.told.good (not x.several) h).0
+
+-- ---- a type, one level above what is within it
+
+-- what is told of a type that isn't bounds
+abbrev pub unbounded : Form → Bool → List Begin → Bool → TypeFacts
+unbounded form good refuses binds =
+    record { told = record { form = types.deeper form; good = good; refuses = refuses }; bounded = false; several = false; binds = binds }
+
+unbounded_good : (place : TypePlace) (form : Form) (good : Bool) (refuses : List Begin) (binds : Bool) → good ≡ true
+    → good_at place (unbounded form good refuses binds) ≡ true
+unbounded_good Bounds form good refuses binds g = g
+unbounded_good NoBounds form good refuses binds g = and_from good true g refl
+
+unbounded_follows : (place : TypePlace) (form : Form) (good : Bool) (refuses : List Begin) (binds : Bool) (rest : Tokens) → may_follow refuses rest ≡ true
+    → type_follows place (unbounded form good refuses binds) rest ≡ true
+unbounded_follows Bounds form good refuses binds rest f = f
+unbounded_follows NoBounds form good refuses binds rest f = f
+
+pub type_held : (place : TypePlace) (budget : ℕ) (X : TypeFacts) (form : Form) (good : Bool) (refuses : List Begin) (binds : Bool) (n : ℕ) (ts rest : Tokens)
+    → X ≡ unbounded form good refuses binds → n ≤ budget → Spells form n ts rest → good ≡ true → may_follow refuses rest ≡ true
+    → IsType place (suc budget) X (suc n) ts rest
+type_held place budget X form good refuses binds n ts rest e le s g f =
+    let there : IsType place (suc budget) (unbounded form good refuses binds) (suc n) ts rest =
+    (omega (arith, le), (rest, s, refl), unbounded_good place form good refuses binds g, unbounded_follows place form good refuses binds rest f) in
+    subst (λ (z : TypeFacts). IsType place (suc budget) z (suc n) ts rest) (sym e) there
+
+-- one that anything may follow
+pub shut_held : (place : TypePlace) (budget : ℕ) (X : TypeFacts) (form : Form) (good : Bool) (n : ℕ) (ts rest : Tokens) → X ≡ unbounded form good [] false
+    → n ≤ budget → Spells form n ts rest → good ≡ true → IsType place (suc budget) X (suc n) ts rest
+shut_held place budget X form good n ts rest e le s g = type_held place budget X form good [] false n ts rest e le s g refl
 
 -- ---- which path a type is
 
@@ -465,16 +491,18 @@ module _ (budget : ℕ) (within : Within) (sound : SoundWithin budget within) wh
       if_read_sound IsOf (λ us. trait_path within (tail us)) (first (is_keyword (codes "as")) ts) ts
       (λ g y mid e.
       let k = keyword_one (codes "as") ts g in
-      let s = trait_sound (tail ts) y mid (bit_texts (keyword (codes "as")) ts (tail ts) k t) e in
-      ((
-        s.0.0,
-        s.0.2,
-        λ f n end le r. (
-          tail ts,
-          (ts, refl, (tail ts, k, (tail ts, refl, refl))),
-          deeper_then (path_told Kind y.0).form f n (tail ts) mid end (raise (types.deeper (path_told Kind y.0).form) y.1 n (tail ts) mid le s.0.1) r,
+      let s = trait_sound (tail ts) y mid (bit_texts (keyword (codes "as")) ts (tail ts) k t) e in (
+        (
+          s.0.0,
+          s.0.2,
+          λ f n end le r. (
+            tail ts,
+            (ts, refl, (tail ts, k, (tail ts, refl, refl))),
+            deeper_then (path_told Kind y.0).form f n (tail ts) mid end (raise (types.deeper (path_told Kind y.0).form) y.1 n (tail ts) mid le s.0.1) r,
+          ),
         ),
-      ), s.1))
+        s.1,
+      ))
       (λ g. (omega arith, refl, λ f n end le r. r)) t x rest h
 
   qualified_sound : SoundStep (qualified within) (Held about_start budget)

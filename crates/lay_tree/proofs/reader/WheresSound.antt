@@ -1,12 +1,9 @@
 -- Where clauses: what is read within a budget stands there, at the depth that it needs.
-use Rattle.std.proofs.Common.{◌≡◌, ℕ, zero, suc, ◌≤◌, max, Bool, true, false, not, ◌&&◌, ◌||◌, List, [], ◌∷◌, ◌⊎◌, inl, inr, map, codes, Option, option_map, Some, None, is_some, if◌then◌else◌, refl, sym, ap, subst, ◌∙◌, arith}
-use Rattle.std.specs.List.{list_all}
+use Rattle.std.proofs.Common.{drop, ◌≡◌, ℕ, zero, suc, ◌≤◌, max, Bool, true, false, not, ◌&&◌, ◌||◌, List, [], ◌∷◌, ◌⊎◌, inl, inr, map, codes, Option, option_map, Some, None, is_some, refl, sym, ap, subst, arith}
 use Rattle.std.proofs.lemmas.Bool.{and_from}
 use Rattle.lay_piece.specs.declared.kind.Kind.TheVariants as kind
-use Rattle.lay_token.specs.Operators.{is_op}
-use Rattle.lay_token.proofs.Deciding.{bytes_self}
 use Rattle.lay_form.specs.Form.{Blank, Operator, Form, Done, Piece, Part, comma, keyword}
-use Rattle.lay_form.specs.Notation.{when, where_word, wheres_spelled}
+use Rattle.lay_form.specs.Notation.{when, wheres_spelled}
 use Rattle.lay_form.specs.LastParts.{last_follows}
 use Rattle.lay_form.specs.Spelled.{IsOne, IsOperator, Spells}
 use Rattle.lay_form.proofs.FormLaws.{deeper as raise}
@@ -14,8 +11,8 @@ use Rattle.lay_tree.specs.Ahead.{Tokens, first, tail, is_keyword, is_lifetime, i
 use Rattle.lay_tree.specs.Begins.{begins_predicate}
 use Rattle.lay_tree.specs.nodes.Generics.{are_bounds}
 use Rattle.lay_tree.specs.nodes.Types as types
-use Rattle.lay_tree.specs.nodes.Types.{about_bound, about_type, about_func_param, abi_form, params_form, output_form, binder_form, is_binder, lifetime_form, lifetimes_form, good_at}
-use Rattle.lay_tree.specs.nodes.Where.{outlives_form, meets_form, predicate_form, is_predicate, outlives_follow, meets_follow, predicate_follow, last_predicate_follow, begins_last_part, are_predicates}
+use Rattle.lay_tree.specs.nodes.Types.{about_type, about_func_param, abi_form, params_form, output_form, binder_form, is_binder, lifetimes_form, good_at}
+use Rattle.lay_tree.specs.nodes.Where.{WheresAt, outlives_form, meets_form, predicate_form, is_predicate, predicate_follow, last_predicate_follow, begins_last_part, are_predicates}
 use Rattle.lay_tree.specs.reader.Exact.{InText}
 use Rattle.lay_tree.specs.reader.Generics.{met}
 use Rattle.lay_tree.specs.reader.Loops.{nodes, deepest, open_elements}
@@ -25,13 +22,9 @@ use Rattle.lay_tree.specs.declared.generics.Predicate.{Predicate}
 use Rattle.lay_tree.specs.declared.generics.Predicate.TheVariants as predicate
 use Rattle.lay_tree.specs.declared.generics.Wheres.{Wheres}
 use Rattle.lay_tree.specs.declared.token.Lifetime.{Lifetime}
-use Rattle.lay_tree.specs.declared.types.Abi.{Abi}
-use Rattle.lay_tree.specs.declared.types.Arg.TheOpen.{Ty-F}
 use Rattle.lay_tree.specs.declared.types.Binder.{Binder}
 use Rattle.lay_tree.specs.declared.types.Bound.{Bound}
-use Rattle.lay_tree.specs.declared.types.FuncParam.{FuncParam}
 use Rattle.lay_tree.specs.declared.types.Ty.{Ty}
-use Rattle.lay_tree.specs.declared.types.Ty.TheVariants as ty
 use Rattle.lay_tree.specs.declared.types.TypePlace.TheVariants.{Bounds}
 use Rattle.lay_tree.proofs.Fronts.{keyword_one, one_front}
 use Rattle.lay_tree.proofs.Parts.{Rows, rows_map, bit_alone, SpelledAt, Further, each_comma_spelled}
@@ -39,9 +32,9 @@ use Rattle.lay_tree.proofs.Steps.{got_same, same_some, chosen, bind_some}
 use Rattle.lay_tree.proofs.nodes.TypesLaws.{TyView, IsPath, IsCall, IsParen, IsTuple, IsNever, IsInfer, IsPtr, IsRef, IsSlice, IsArray, IsFunc, IsBounds, type_view, type_path_is, type_call_is, type_paren_is, type_tuple_is, type_never_is, type_infer_is, type_ptr_is, type_ref_is, type_slice_is, type_array_is, type_func_is, type_bounds_is}
 use Rattle.lay_tree.proofs.reader.Loops.{SoundStep}
 use Rattle.lay_tree.proofs.reader.GenericsSound.{MetHeld, met_sound}
-use Rattle.lay_tree.proofs.reader.TypesSound.{Deep, alone_sound}
+use Rattle.lay_tree.proofs.reader.TypesSound.{counted_sound, Deep, alone_sound}
 use Rattle.lay_tree.proofs.reader.TypesSoundOpen.{LastOpen, OpenBy, open_sound, open_held}
-use Rattle.lay_tree.proofs.reader.TypesSoundParts.{Out, IsLifetime, AreLifetimes, bit_texts, operator_is, lifetime_sound, lifetimes_sound, binder_if_sound}
+use Rattle.lay_tree.proofs.reader.TypesSoundParts.{Out, bit_texts, operator_is, lifetime_sound, lifetimes_sound, binder_if_sound}
 use Rattle.lay_tree.proofs.reader.TypesSoundPaths.{SoundWithin}
 
 -- ---- a binder before a function type
@@ -208,9 +201,11 @@ module _ (budget : ℕ) (within : Within) (sound : SoundWithin budget within) wh
       → OpenBy begins_predicate (PredicateHeld budget) ps last at rest → Deep wheres_form GoodWheres budget ((record { predicates = nodes ps }, last), deepest ps) ts rest
   wheres_held [] last ts at rest w r =
       let spelled : Spells (wheres_spelled true []) 0 ts rest = (at, (at, w, refl), r.1) in
-      let good : GoodWheres (record { predicates = [] }, true) rest = (refl, ap not r.2) in
-      (omega arith, subst (λ b. Spells (wheres_spelled b []) 0 ts rest) (sym r.0) spelled,
-      subst (λ b. GoodWheres (record { predicates = [] }, b) rest) (sym r.0) good)
+      let good : GoodWheres (record { predicates = [] }, true) rest = (refl, ap not r.2) in (
+        omega arith,
+        subst (λ b. Spells (wheres_spelled b []) 0 ts rest) (sym r.0) spelled,
+        subst (λ b. GoodWheres (record { predicates = [] }, b) rest) (sym r.0) good,
+      )
   wheres_held (p ∷ ps) last ts at rest w r =
       let k = open_held begins_predicate budget predicate_form is_predicate (PredicateHeld budget) (λ q us mid s. (s.0, s.1, s.2)) (p ∷ ps) last at rest r in
       let depth = deepest (p ∷ ps) in
@@ -254,3 +249,9 @@ pub wheres_at_sound : (budget : ℕ) → SoundStep (wheres_at budget) (WheresAlo
 wheres_at_sound budget ts x rest t h =
     let s = alone_sound wheres_form GoodWheres wheres wheres_sound budget ts x rest t h in
     let k = s.0 in ((k.0, k.1, k.2.0, k.2.1), s.1)
+
+pub wheres_stand : (budget : ℕ) (ts : Tokens) (x : Wheres × Bool) (need : ℕ) (rest : Tokens) → InText ts → wheres_at budget ts ≡ Some ((x, need), rest)
+    → (n : ℕ) × (drop n ts ≡ rest) × (need ≤ budget) × WheresAt x.1 x.0 ts n need
+wheres_stand =
+    counted_sound (λ (x : Wheres × Bool). types.deeper (wheres_form x)) (λ x. are_predicates x.0)
+    (λ x. last_follows x.1 (begins_last_part x.0.predicates) begins_predicate) wheres_at wheres_at_sound
