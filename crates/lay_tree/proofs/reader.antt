@@ -10,6 +10,8 @@ pub mod AttrRead
 pub mod Needs
 pub mod Use
 pub mod TypesSoundParts
+pub mod TypesSoundNeeds
+pub mod TypesSoundLevel
 pub mod TypesSoundPaths
 pub mod TypesSoundBounds
 pub mod TypesSoundOpen

@@ -37,8 +37,9 @@ use Rattle.lay_tree.proofs.reader.Attr.{attributes_sound}
 use Rattle.lay_tree.proofs.reader.Loops.{SoundStep}
 use Rattle.lay_tree.proofs.reader.TypesSound.{counted_sound, Deep, alone_sound}
 use Rattle.lay_tree.proofs.reader.TypesSoundBounds.{BoundsHeld, bounds_sound}
-use Rattle.lay_tree.proofs.reader.TypesSoundParts.{Out, bit_texts, operator_is, if_there_sound, if_read_sound, param_attrs_leads, attrs_good, lifetime_behind_sound, lifetime_param_is, greater_shuts, const_sound, listed}
-use Rattle.lay_tree.proofs.reader.TypesSoundPaths.{SoundWithin}
+use Rattle.lay_tree.proofs.reader.TypesSoundNeeds.{listed}
+use Rattle.lay_tree.proofs.reader.TypesSoundParts.{Out, bit_texts, operator_is, if_there_sound, if_read_sound, param_attrs_leads, attrs_good, lifetime_behind_sound, lifetime_param_is, greater_shuts, const_sound}
+use Rattle.lay_tree.proofs.reader.TypesSoundLevel.{SoundWithin}
 use Rattle.lay_tree.proofs.reader.Words.{name_sound}
 
 -- ---- bounds behind a `:`
@@ -52,16 +53,23 @@ abbrev pub MetHeld : ℕ → List Bound × ℕ → Tokens → Tokens → Type 0
 MetHeld budget x ts rest =
     (x.1 ≤ budget) × Spells (met_form x.0) x.1 ts rest × (are_bounds x.0 ≡ true) × (meets_follow x.0 rest ≡ true)
 
-met_held : (budget : ℕ) (bs : List Bound) (n : ℕ) (ts rest : Tokens) → BoundsHeld budget (bs, n) ts rest → is_op (codes "+") rest ≡ false
+met_held : (budget : ℕ) (bs : List Bound) (n : ℕ) (ts rest : Tokens) → BoundsHeld budget (bs, n) ts rest
+    → is_op (codes "+") rest ≡ false
     → MetHeld budget (bs, n) ts rest
 met_held budget [] n ts rest k e = absurd (cc k.2)
-met_held budget (b ∷ bs) n ts rest k e =
-    (k.0, k.1, k.2, and_from (not (is_op (codes "+") rest)) (may_follow (last_refuses (map about_bound (b ∷ bs))) rest) (ap not e) k.3)
+met_held budget (b ∷ bs) n ts rest k e = (
+  k.0,
+  k.1,
+  k.2,
+  and_from (not (is_op (codes "+") rest)) (may_follow (last_refuses (map about_bound (b ∷ bs))) rest) (ap not e)
+      k.3,
+)
 
 abbrev IsBounded : ℕ → List Bound × ℕ → Tokens → Tokens → Type 0
 IsBounded budget x ts rest = (x.1 ≤ budget) × Spells (bounded_form x.0) x.1 ts rest × (are_bounds x.0 ≡ true)
 
-bounded_held : (budget : ℕ) (bs : List Bound) (n : ℕ) (ts at rest : Tokens) → IsOperator (codes ":") ts at → MetHeld budget (bs, n) at rest
+bounded_held : (budget : ℕ) (bs : List Bound) (n : ℕ) (ts at rest : Tokens) → IsOperator (codes ":") ts at
+    → MetHeld budget (bs, n) at rest
     → IsBounded budget (bs, n) ts rest
 bounded_held budget [] n ts at rest o k = (k.0, (at, inr (at, o, refl), k.1), refl)
 bounded_held budget (b ∷ bs) n ts at rest o k = (k.0, (at, (at, o, (at, refl, refl)), (rest, k.1, refl)), k.2)
@@ -75,24 +83,30 @@ ParamHeld budget x ts rest = (x.1 ≤ budget) × Spells (param_form x.0) x.1 ts 
 abbrev IsConstDefault : Option ConstDefault → Tokens → Tokens → Type 0
 IsConstDefault d ts rest = Spells (const_default_form d) 0 ts rest × (is_const_default d ≡ true)
 
-const_default_sound : (ts at : Tokens) → IsOperator (codes "=") ts at → InText at → (x : ConstDefault) (rest : Tokens) → const_default_at at ≡ Some (x, rest)
+const_default_sound : (ts at : Tokens) → IsOperator (codes "=") ts at → InText at → (x : ConstDefault) (rest : Tokens)
+    → const_default_at at ≡ Some (x, rest)
     → Out IsConstDefault ts (Some x, rest)
 const_default_sound ts at o t x rest h = elim (chosen (begins_const at) _ _ _ h) [
   | inl g ↦
       let c = bind_some (const at) _ _ g.1 in
       let s = const_sound at c.0.0 c.0.1 t c.1 in
-      same_some (λ (r : ConstDefault × Tokens). Out IsConstDefault ts (Some r.0, r.1)) (const_default.Arg c.0.0, c.0.1) (x, rest) c.2
+      same_some (λ (r : ConstDefault × Tokens). Out IsConstDefault ts (Some r.0, r.1)) (const_default.Arg c.0.0, c.0.1)
+      (x, rest) c.2
       (((at, (ts, refl, (at, o, (at, refl, refl))), (c.0.1, s.0.0, refl)), s.0.1), s.1)
   | inr g ↦
       let n = bind_some (name at) _ _ g.1 in
       let s = name_sound at n.0.0 n.0.1 n.1 in
       let leaf = leaf_spelled n.0.0.raw n.0.0.text Done 0 at n.0.1 n.0.1 s.0 refl in
-      same_some (λ (r : ConstDefault × Tokens). Out IsConstDefault ts (Some r.0, r.1)) (const_default.Name n.0.0, n.0.1) (x, rest) n.2
-      (((at, (ts, refl, (at, o, (at, refl, refl))), leaf), s.1), bit_texts (Fixed (word_kind n.0.0.raw) n.0.0.text) at n.0.1 s.0 t)
+      same_some (λ (r : ConstDefault × Tokens). Out IsConstDefault ts (Some r.0, r.1)) (const_default.Name n.0.0, n.0.1)
+      (x, rest) n.2 (
+        ((at, (ts, refl, (at, o, (at, refl, refl))), leaf), s.1),
+        bit_texts (Fixed (word_kind n.0.0.raw) n.0.0.text) at n.0.1 s.0 t,
+      )
 ]
 
 const_default_if : (ts : Tokens) (x : Option ConstDefault) (rest : Tokens) → InText ts
-    → if_there (is_op (codes "=") ts) (λ us. const_default_at (drop 1 us)) ts ≡ Some (x, rest) → Out IsConstDefault ts (x, rest)
+    → if_there (is_op (codes "=") ts) (λ us. const_default_at (drop 1 us)) ts ≡ Some (x, rest)
+    → Out IsConstDefault ts (x, rest)
 const_default_if ts x rest t h =
     if_there_sound IsConstDefault (λ us. const_default_at (drop 1 us)) (is_op (codes "=") ts) ts
     (λ g y mid e.
@@ -102,12 +116,14 @@ const_default_if ts x rest t h =
 
 -- What holds of parameters that are spelled with `<` and `>`, or as nothing, and of what follows them.
 abbrev GoodGenerics : Generics × Bool → Tokens → Type 0
-GoodGenerics x rest = (((x.1 || not (is_there x.0.params)) && is_generics x.0) ≡ true) × (generics_follow x.1 rest ≡ true)
+GoodGenerics x rest =
+    (((x.1 || not (is_there x.0.params)) && is_generics x.0) ≡ true) × (generics_follow x.1 rest ≡ true)
 
 module _ (budget : ℕ) (within : Within) (sound : SoundWithin budget within) where
   pub met_sound : SoundStep (met within) (MetHeld budget)
   met_sound ts x rest t h = elim (chosen (begins_bound ts) _ _ _ h) [
-    | inl g ↦ let s = bounds_sound budget within sound ts x rest t g.1 in (met_held budget x.0 x.1 ts rest s.0.0 s.0.1, s.1)
+    | inl g ↦
+        let s = bounds_sound budget within sound ts x rest t g.1 in (met_held budget x.0 x.1 ts rest s.0.0 s.0.1, s.1)
     | inr g ↦ same_some (Out (MetHeld budget) ts) (([], 0), ts) (x, rest) g.1 ((omega arith, refl, refl, ap not g.0), t)
   ]
 
@@ -118,7 +134,8 @@ module _ (budget : ℕ) (within : Within) (sound : SoundWithin budget within) wh
         let o : IsOperator (codes ":") ts at = (g.0, refl) in
         let s = met_sound at x rest (bit_texts (Operator (codes ":")) ts at o t) g.1 in
         (bounded_held budget x.0 x.1 ts at rest o s.0, s.1)
-    | inr g ↦ same_some (Out (IsBounded budget) ts) (([], 0), ts) (x, rest) g.1 ((omega arith, (ts, inl refl, refl), refl), t)
+    | inr g ↦
+        same_some (Out (IsBounded budget) ts) (([], 0), ts) (x, rest) g.1 ((omega arith, (ts, inl refl, refl), refl), t)
   ]
 
   -- ---- parameters
@@ -127,7 +144,8 @@ module _ (budget : ℕ) (within : Within) (sound : SoundWithin budget within) wh
   IsTypeDefault x ts rest = (x.1 ≤ budget) × Spells (default_form x.0) x.1 ts rest × (is_default x.0 ≡ true)
 
   default_sound : (ts : Tokens) (x : Option Ty × ℕ) (rest : Tokens) → InText ts
-      → if_read (is_op (codes "=") ts) (λ us. within.types Bounds (drop 1 us)) ts ≡ Some (x, rest) → Out IsTypeDefault ts (x, rest)
+      → if_read (is_op (codes "=") ts) (λ us. within.types Bounds (drop 1 us)) ts ≡ Some (x, rest)
+      → Out IsTypeDefault ts (x, rest)
   default_sound ts x rest t h =
       if_read_sound IsTypeDefault (λ us. within.types Bounds (drop 1 us)) (is_op (codes "=") ts) ts
       (λ g y mid e.
@@ -137,8 +155,10 @@ module _ (budget : ℕ) (within : Within) (sound : SoundWithin budget within) wh
       ((s.0.0, (at, (ts, refl, (at, o, (at, refl, refl))), (mid, s.0.1, refl)), s.0.2), s.1))
       (λ g. (omega arith, refl, refl)) t x rest h
 
-  module _ (ts : Tokens) (attrs : List Attr) (at : Tokens) (rows : (depth : ℕ) → Rows (GoodAt (about_attr false) depth) attrs ts at) (t : InText at) where
-    type_param_sound : (x : GenericParam × ℕ) (rest : Tokens) → type_param within attrs at ≡ Some (x, rest) → Out (ParamHeld budget) ts (x, rest)
+  module _ (ts : Tokens) (attrs : List Attr) (at : Tokens)
+      (rows : (depth : ℕ) → Rows (GoodAt (about_attr false) depth) attrs ts at) (t : InText at) where
+    type_param_sound : (x : GenericParam × ℕ) (rest : Tokens) → type_param within attrs at ≡ Some (x, rest)
+        → Out (ParamHeld budget) ts (x, rest)
     unfolding type_param
     type_param_sound x rest h =
         let n = bind_some (name at) _ _ h in
@@ -161,7 +181,8 @@ module _ (budget : ℕ) (within : Within) (sound : SoundWithin budget within) wh
         let spelled = param_attrs_leads most attrs ts at (rows most) (leaf_of raw text inner) d.0.1 leaf in
         let good = and_from (are_attrs false attrs && is_name raw text && are_bounds bounds) (is_default default)
         (and_from (are_attrs false attrs && is_name raw text) (are_bounds bounds)
-        (and_from (are_attrs false attrs) (is_name raw text) (attrs_good most attrs ts at (rows most)) i.1) k.0.2) s.0.2 in
+        (and_from (are_attrs false attrs) (is_name raw text) (attrs_good most attrs ts at (rows most)) i.1) k.0.2)
+        s.0.2 in
         same_some (Out (ParamHeld budget) ts) ((param.Named attrs n.0.0 bounds default, most), d.0.1) (x, rest) d.2
         ((omega (arith, k.0.0, s.0.0), spelled, good), s.1)
 
@@ -177,7 +198,8 @@ module _ (budget : ℕ) (within : Within) (sound : SoundWithin budget within) wh
         let i = name_sound start n.0.0 n.0.1 n.1 in
         let raw = n.0.0.raw in
         let text = n.0.0.text in
-        let named = bit_texts (Fixed (word_kind raw) text) start n.0.1 i.0 (bit_texts (keyword (codes "const")) at start word t) in
+        let named = bit_texts (Fixed (word_kind raw) text) start n.0.1 i.0
+        (bit_texts (keyword (codes "const")) at start word t) in
         let o = operator_is (codes ":") n.0.1 c.0 c.1 in
         let s = sound.types Bounds c.0 y.0.0 y.0.1 (bit_texts (Operator (codes ":")) n.0.1 c.0 o named) y.1 in
         let k = const_default_if y.0.1 d.0.0 d.0.1 s.1 d.1 in
@@ -191,19 +213,25 @@ module _ (budget : ℕ) (within : Within) (sound : SoundWithin budget within) wh
           (c.0, o, (c.0, refl, refl)),
           (y.0.1, s.0.1, (d.0.1, raise (const_default_form default) 0 need y.0.1 d.0.1 (omega arith) k.0.0, refl)),
         ) in
-        let spelled = param_attrs_leads need attrs ts at (rows need) F d.0.1 (start, (start, word, (start, refl, refl)), leaf) in
-        let good = and_from (are_attrs false attrs && is_name raw text && good_at Bounds told) (is_const_default default)
+        let spelled = param_attrs_leads need attrs ts at (rows need) F d.0.1
+        (start, (start, word, (start, refl, refl)), leaf) in
+        let good = and_from (are_attrs false attrs && is_name raw text && good_at Bounds told)
+        (is_const_default default)
         (and_from (are_attrs false attrs && is_name raw text) (good_at Bounds told)
-        (and_from (are_attrs false attrs) (is_name raw text) (attrs_good need attrs ts at (rows need)) i.1) s.0.2) k.0.1 in
-        same_some (Out (ParamHeld budget) ts) ((param.Const attrs n.0.0 y.0.0.0 default, need), d.0.1) (x, rest) d.2 ((s.0.0, spelled, good), k.1)
+        (and_from (are_attrs false attrs) (is_name raw text) (attrs_good need attrs ts at (rows need)) i.1) s.0.2)
+        k.0.1 in
+        same_some (Out (ParamHeld budget) ts) ((param.Const attrs n.0.0 y.0.0.0 default, need), d.0.1) (x, rest) d.2
+        ((s.0.0, spelled, good), k.1)
 
-    param_by_sound : (x : GenericParam × ℕ) (rest : Tokens) → param_by within attrs at ≡ Some (x, rest) → Out (ParamHeld budget) ts (x, rest)
+    param_by_sound : (x : GenericParam × ℕ) (rest : Tokens) → param_by within attrs at ≡ Some (x, rest)
+        → Out (ParamHeld budget) ts (x, rest)
     param_by_sound x rest h = elim (chosen (first is_lifetime at) _ _ _ h) [
       | inl g ↦
           let l = bind_some (lifetime_behind attrs at) _ _ g.1 in
           let s = lifetime_behind_sound attrs at l.0.0 l.0.1 t l.1 in
           let p = lifetime_param_is l.0.0 attrs ts at l.0.1 (rows 0) s.0 in
-          same_some (Out (ParamHeld budget) ts) ((param.Region l.0.0, 0), l.0.1) (x, rest) l.2 ((omega arith, p.0, p.1), s.1)
+          same_some (Out (ParamHeld budget) ts) ((param.Region l.0.0, 0), l.0.1) (x, rest) l.2
+          ((omega arith, p.0, p.1), s.1)
       | inr g ↦ elim (chosen (first (is_keyword (codes "const")) at) _ _ _ g.1) [
         | inl f ↦ const_param_sound (keyword_one (codes "const") at f.0) x rest f.1
         | inr f ↦ type_param_sound x rest f.1
@@ -227,11 +255,13 @@ module _ (budget : ℕ) (within : Within) (sound : SoundWithin budget within) wh
             let o = bind_some (passed (is_mark (codes "<")) ts) _ _ ps.1 in
             let mark = mark_passed_is (codes "<") ts o.0 o.1 in
             let l = listed budget param_form is_param (ParamHeld budget) (λ y us mid s. s)
-            (is_mark (codes ">")) less greater greater_shuts (one_param within) param_sound ts o.0 ps.0.0 ps.0.1 mark (bit_texts less ts o.0 mark t) o.2 in
+            (is_mark (codes ">")) less greater greater_shuts (one_param within) param_sound ts o.0 ps.0.0 ps.0.1 mark
+            (bit_texts less ts o.0 mark t) o.2 in
             same_some (Out P ts) (((record { params = nodes ps.0.0 }, true), deepest ps.0.0), ps.0.1) (x, rest) ps.2
             ((l.0, l.1, (l.2, refl)), l.3)
         | inr g ↦
-            same_some (Out P ts) (((record { params = [] }, false), 0), ts) (x, rest) g.1 ((omega arith, refl, (refl, ap not g.0)), t)
+            same_some (Out P ts) (((record { params = [] }, false), 0), ts) (x, rest) g.1
+            ((omega arith, refl, (refl, ap not g.0)), t)
       ]
 
 -- Generic parameters that are read stand there, spelled as the flag says.
@@ -242,11 +272,14 @@ GenericsAlone budget x ts rest =
 
 pub generics_at_sound : (budget : ℕ) → SoundStep (generics_at budget) (GenericsAlone budget)
 generics_at_sound budget ts x rest t h =
-    let s = alone_sound (λ (y : Generics × Bool). generics_spelled y.1 y.0) GoodGenerics generics generics_sound budget ts x rest t h in
+    let s = alone_sound (λ (y : Generics × Bool). generics_spelled y.1 y.0)
+    GoodGenerics generics generics_sound budget ts x rest t h in
     let k = s.0 in ((k.0, k.1, k.2.0, k.2.1), s.1)
 
-pub generics_stand : (budget : ℕ) (ts : Tokens) (x : Generics × Bool) (need : ℕ) (rest : Tokens) → InText ts → generics_at budget ts ≡ Some ((x, need), rest)
+pub generics_stand : (budget : ℕ) (ts : Tokens) (x : Generics × Bool) (need : ℕ) (rest : Tokens) → InText ts
+    → generics_at budget ts ≡ Some ((x, need), rest)
     → (n : ℕ) × (drop n ts ≡ rest) × (need ≤ budget) × GenericsAt x.1 x.0 ts n need
 generics_stand =
-    counted_sound (λ (x : Generics × Bool). types.deeper (generics_spelled x.1 x.0)) (λ x. (x.1 || not (is_there x.0.params)) && is_generics x.0)
+    counted_sound (λ (x : Generics × Bool). types.deeper (generics_spelled x.1 x.0))
+    (λ x. (x.1 || not (is_there x.0.params)) && is_generics x.0)
     (λ x. generics_follow x.1) generics_at generics_at_sound

@@ -27,8 +27,10 @@ use Rattle.lay_tree.proofs.reader.Exact.{Sound}
 use Rattle.lay_tree.proofs.reader.Loops.{SoundStep}
 use Rattle.lay_tree.proofs.reader.TypesSoundBounds.{bounds_sound, constraint_sound}
 use Rattle.lay_tree.proofs.reader.TypesSoundKinds.{type_sound}
-use Rattle.lay_tree.proofs.reader.TypesSoundParts.{Out, Held}
-use Rattle.lay_tree.proofs.reader.TypesSoundPaths.{TypeHeld, SoundWithin, args_told, path_told, args_sound, path_sound}
+use Rattle.lay_tree.proofs.reader.TypesSoundNeeds.{Held}
+use Rattle.lay_tree.proofs.reader.TypesSoundParts.{Out}
+use Rattle.lay_tree.proofs.reader.TypesSoundLevel.{TypeHeld, SoundWithin}
+use Rattle.lay_tree.proofs.reader.TypesSoundPaths.{args_told, path_told, args_sound, path_sound}
 
 -- What is read within a budget stands there.
 pub within_sound : (budget : ℕ) → SoundWithin budget (within budget)
@@ -71,15 +73,18 @@ told_sound : {A : Type 0} (told : A → Facts) (one : Within → Tokens → Read
     → (budget : ℕ) → SoundStep (alone_at one budget) (Held (λ x. alone (told x)) budget)
 told_sound told one sound budget ts x rest t h =
     let s = alone_sound (λ y. (told y).form) (GoodBefore told) one
-    (λ b inner k us y end i e. let r = sound b inner k us y end i e in ((r.0.0, r.0.1.0, (r.0.1.1, r.0.1.2)), r.1)) budget ts x rest t h in
+    (λ b inner k us y end i e. let r = sound b inner k us y end i e in ((r.0.0, r.0.1.0, (r.0.1.1, r.0.1.2)), r.1))
+    budget ts x rest t h in
     let k = s.0 in ((k.0, (k.1, k.2.0, k.2.1)), s.1)
 
-pub path_at_sound : (style : PathStyle) (budget : ℕ) → SoundStep (path_at style budget) (Held (λ (x : Path). alone (about_path x style)) budget)
+pub path_at_sound : (style : PathStyle) (budget : ℕ)
+    → SoundStep (path_at style budget) (Held (λ (x : Path). alone (about_path x style)) budget)
 path_at_sound style = told_sound (path_told style) (λ w ts. path w style ts) (λ b inner k. path_sound b inner k style)
 
 pub args_at_sound : (style : PathStyle) (budget : ℕ)
     → SoundStep (args_at style budget) (Held (λ (x : Args). alone (in_style style (about_args x))) budget)
-args_at_sound style = told_sound (args_told style) (λ w ts. args_by w style ts) (λ b inner k. args_sound b inner k style)
+args_at_sound style =
+    told_sound (args_told style) (λ w ts. args_by w style ts) (λ b inner k. args_sound b inner k style)
 
 abbrev pub BoundsAlone : ℕ → List Bound × ℕ → Tokens → Tokens → Type 0
 BoundsAlone budget x ts rest =
@@ -94,17 +99,29 @@ bounds_at_sound budget ts x rest t h =
     let s = alone_sound (λ (y : List Bound). bounds_form (map about_bound y)) FollowBounds all_bounds
     (λ b inner k us y end i e.
     let r = bounds_sound b inner k us y end i e in
-    let one = r.0.0 in
-    ((one.0, one.1, (one.2, and_from (not (is_op (codes "+") end)) (may_follow (last_refuses (map about_bound y.0)) end) (ap not r.0.1) one.3)), r.1))
+    let one = r.0.0 in (
+      (
+        one.0,
+        one.1,
+        (
+          one.2,
+          and_from (not (is_op (codes "+") end)) (may_follow (last_refuses (map about_bound y.0)) end) (ap not r.0.1)
+              one.3,
+        ),
+      ),
+      r.1,
+    ))
     budget ts x rest t h in
     let k = s.0 in ((k.0, k.1, k.2.0, k.2.1), s.1)
 
 -- ---- fronts
 
 -- What is read and spelled is counted.
-pub counted_sound : {A : Type 0} (form : A → Form) (good : A → Bool) (follows : A → Tokens → Bool) (read : ℕ → Tokens → Read A)
+pub counted_sound : {A : Type 0} (form : A → Form) (good : A → Bool) (follows : A → Tokens → Bool)
+    (read : ℕ → Tokens → Read A)
     → ((budget : ℕ) → SoundStep (read budget) (λ x ts rest. (x.1 ≤ budget) × Spells (form x.0) x.1 ts rest × (good x.0 ≡ true) × (follows x.0 rest ≡ true)))
-    → (budget : ℕ) (ts : Tokens) (x : A) (need : ℕ) (rest : Tokens) → InText ts → read budget ts ≡ Some ((x, need), rest)
+    → (budget : ℕ) (ts : Tokens) (x : A) (need : ℕ) (rest : Tokens) → InText ts
+    → read budget ts ≡ Some ((x, need), rest)
     → (n : ℕ) × (drop n ts ≡ rest) × (need ≤ budget) × spelled.Front (form x) (good x) (follows x) ts n need
 counted_sound form good follows read sound budget ts x need rest t h =
     let k = (sound budget ts (x, need) rest t h).0 in
@@ -112,22 +129,32 @@ counted_sound form good follows read sound budget ts x need rest t h =
     let n = length e.before in
     let dropped : drop n ts ≡ rest = ap (λ (us : Tokens). drop n us) e.whole ∙ drop_at e.before rest n refl in
     let le : n ≤ length ts = omega (arith, ap length e.whole, length-append e.before rest) in
-    let front : spelled.Front (form x) (good x) (follows x) ts n need =
-    (le, subst (λ us. Spells (form x) need ts us) (sym dropped) k.1, k.2, subst (λ us. follows x us ≡ true) (sym dropped) k.3) in
+    let front : spelled.Front (form x) (good x) (follows x) ts n need = (
+      le,
+      subst (λ us. Spells (form x) need ts us) (sym dropped) k.1,
+      k.2,
+      subst (λ us. follows x us ≡ true) (sym dropped) k.3,
+    ) in
     (n, dropped, k.0, front)
 
 pub types_stand : (place : TypePlace) (budget : ℕ) (ts : Tokens) (x : Ty) (need : ℕ) (rest : Tokens) → InText ts
-    → type_at place budget ts ≡ Some ((x, need), rest) → (n : ℕ) × (drop n ts ≡ rest) × (need ≤ budget) × TypeFront place (about_type x) ts n need
+    → type_at place budget ts ≡ Some ((x, need), rest) → (n : ℕ) × (drop n ts ≡ rest) × (need ≤ budget)
+    × TypeFront place (about_type x) ts n need
 types_stand place =
-    counted_sound (λ x. (about_type x).told.form) (λ x. good_at place (about_type x)) (λ x. type_follows place (about_type x)) (type_at place) (type_at_sound place)
+    counted_sound (λ x. (about_type x).told.form) (λ x. good_at place (about_type x))
+    (λ x. type_follows place (about_type x)) (type_at place) (type_at_sound place)
 
-pub paths_sound : (style : PathStyle) (budget : ℕ) → Sound (λ (x : Path). alone (about_path x style)) budget (path_at style budget)
-paths_sound style budget ts x need rest t h = (path_at_sound style budget ts (x, need) rest t h).0
+pub path_alone_sound : (style : PathStyle) (budget : ℕ)
+    → Sound (λ (x : Path). alone (about_path x style)) budget (path_at style budget)
+path_alone_sound style budget ts x need rest t h = (path_at_sound style budget ts (x, need) rest t h).0
 
-pub args_all_sound : (style : PathStyle) (budget : ℕ) → Sound (λ (x : Args). alone (in_style style (about_args x))) budget (args_at style budget)
-args_all_sound style budget ts x need rest t h = (args_at_sound style budget ts (x, need) rest t h).0
+pub args_alone_sound : (style : PathStyle) (budget : ℕ)
+    → Sound (λ (x : Args). alone (in_style style (about_args x))) budget (args_at style budget)
+args_alone_sound style budget ts x need rest t h = (args_at_sound style budget ts (x, need) rest t h).0
 
-pub bounds_stand : (budget : ℕ) (ts : Tokens) (x : List Bound) (need : ℕ) (rest : Tokens) → InText ts → bounds_at budget ts ≡ Some ((x, need), rest)
+pub bounds_stand : (budget : ℕ) (ts : Tokens) (x : List Bound) (need : ℕ) (rest : Tokens) → InText ts
+    → bounds_at budget ts ≡ Some ((x, need), rest)
     → (n : ℕ) × (drop n ts ≡ rest) × (need ≤ budget) × BoundsFront x ts n need
 bounds_stand =
-    counted_sound (λ (x : List Bound). types.deeper (bounds_form (map about_bound x))) (λ x. bounds_good (map about_bound x)) bounds_follow bounds_at bounds_at_sound
+    counted_sound (λ (x : List Bound). types.deeper (bounds_form (map about_bound x)))
+    (λ x. bounds_good (map about_bound x)) bounds_follow bounds_at bounds_at_sound

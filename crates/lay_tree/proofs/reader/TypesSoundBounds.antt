@@ -30,13 +30,16 @@ use Rattle.lay_tree.proofs.Steps.{same_some, chosen, bind_some}
 use Rattle.lay_tree.proofs.nodes.TypesLaws.{constraint_equal_is, constraint_equal_const_is, constraint_limit_is, bound_outlives_is, bound_meets_is}
 use Rattle.lay_tree.proofs.reader.Exact.{Stands}
 use Rattle.lay_tree.proofs.reader.Loops.{SoundStep}
-use Rattle.lay_tree.proofs.reader.TypesSoundParts.{Out, bit_texts, operator_is, flag_leads, flag_texts, BehindOp, Chain, chain_sound, lifetime_sound, binder_if_sound, const_sound, Held, held, forms_of, goods_of, chained}
-use Rattle.lay_tree.proofs.reader.TypesSoundPaths.{asked, SoundWithin, bounds_refused, path_told, path_sound}
+use Rattle.lay_tree.proofs.reader.TypesSoundNeeds.{Held, held, forms_of, goods_of, chained}
+use Rattle.lay_tree.proofs.reader.TypesSoundParts.{Out, bit_texts, operator_is, flag_leads, flag_texts, BehindOp, Chain, chain_sound, lifetime_sound, binder_if_sound, const_sound}
+use Rattle.lay_tree.proofs.reader.TypesSoundLevel.{asked, SoundWithin, bounds_refused}
+use Rattle.lay_tree.proofs.reader.TypesSoundPaths.{path_told, path_sound}
 
 abbrev plus_lead : Form → Form
 plus_lead f = B (Piece (Operator (codes "+") ∷ Blank ∷ []) f)
 
-plus_leads : (f : Form) (depth : ℕ) (ts mid rest : Tokens) → IsOperator (codes "+") ts mid → Spells f depth mid rest → Spells (plus_lead f) depth ts rest
+plus_leads : (f : Form) (depth : ℕ) (ts mid rest : Tokens) → IsOperator (codes "+") ts mid → Spells f depth mid rest
+    → Spells (plus_lead f) depth ts rest
 plus_leads f depth ts mid rest o s = (mid, (mid, o, (mid, refl, refl)), s)
 
 -- Bounds stand there, within the budget.
@@ -87,7 +90,8 @@ module _ (budget : ℕ) (within : Within) (sound : SoundWithin budget within) wh
         good = and_from (is_binder b.0.0) (path_told Kind p.0.0.0).good s.0.1 k.0.1.1;
         follows = k.0.1.2;
       } in
-      same_some (Out (IsMeets parens) ts) ((bound.Meets parens maybe b.0.0 p.0.0.0, p.0.0.1), p.0.1) (x, rest) p.2 (found, k.1)
+      same_some (Out (IsMeets parens) ts) ((bound.Meets parens maybe b.0.0 p.0.0.0, p.0.0.1), p.0.1) (x, rest) p.2
+      (found, k.1)
 
   pub bound_sound : SoundStep (one_bound within) (Held about_bound budget)
   unfolding one_bound
@@ -96,8 +100,11 @@ module _ (budget : ℕ) (within : Within) (sound : SoundWithin budget within) wh
         let b = bind_some (lifetime ts) _ _ g.1 in
         let s = lifetime_sound ts b.0.0 b.0.1 t b.1 in
         let there : Stands (bound_facts (Bound-F.Outlives b.0.0)) 0 ts b.0.1 = ((b.0.1, s.0, refl), refl, refl) in
-        same_some (Out (Held about_bound budget) ts) ((bound.Outlives b.0.0, 0), b.0.1) (x, rest) b.2
-        (held (about_bound (bound.Outlives b.0.0)) (bound_facts (Bound-F.Outlives b.0.0)) budget 0 ts b.0.1 (bound_outlives_is b.0.0) (omega arith) there, s.1)
+        same_some (Out (Held about_bound budget) ts) ((bound.Outlives b.0.0, 0), b.0.1) (x, rest) b.2 (
+          held (about_bound (bound.Outlives b.0.0)) (bound_facts (Bound-F.Outlives b.0.0)) budget 0 ts b.0.1
+              (bound_outlives_is b.0.0) (omega arith) there,
+          s.1,
+        )
     | inr g ↦ elim (chosen (first (opens Paren) ts) _ _ _ g.1) [
       | inl f ↦
           let y = bind_some (meets within true (tail ts)) _ _ f.1 in
@@ -113,32 +120,43 @@ module _ (budget : ℕ) (within : Within) (sound : SoundWithin budget within) wh
             refl,
           ) in
           same_some (Out (Held about_bound budget) ts) (y.0.0, c.0) (x, rest) c.2 (
-            held (about_bound y.0.0.0) told budget y.0.0.1 ts c.0 (ap about_bound i.same ∙ bound_meets_is true i.maybe i.binder i.path) i.need there,
+            held (about_bound y.0.0.0) told budget y.0.0.1 ts c.0
+                (ap about_bound i.same ∙ bound_meets_is true i.maybe i.binder i.path) i.need there,
             bit_texts (closer Paren) y.0.1 c.0 shut m.1,
           )
       | inr f ↦
           let m = meets_sound false ts x rest t f.1 in
           let i = m.0 in
-          let told = bound_facts (Bound-F.Meets false i.maybe i.binder (about_path i.path)) in
-          (held (about_bound x.0) told budget x.1 ts rest (ap about_bound i.same ∙ bound_meets_is false i.maybe i.binder i.path) i.need (i.form, i.good, i.follows), m.1)
+          let told = bound_facts (Bound-F.Meets false i.maybe i.binder (about_path i.path)) in (
+            held (about_bound x.0) told budget x.1 ts rest
+                (ap about_bound i.same ∙ bound_meets_is false i.maybe i.binder i.path) i.need (i.form, i.good, i.follows),
+            m.1,
+          )
     ]
   ]
 
   -- ---- several
 
   last_follows : (x : Bound × ℕ) (xs : List (Bound × ℕ)) (ts at rest : Tokens) → Held about_bound budget x ts at
-      → Rows (BehindOp (codes "+") (Held about_bound budget)) xs at rest → may_follow (last_refuses (map about_bound (nodes (x ∷ xs)))) rest ≡ true
+      → Rows (BehindOp (codes "+") (Held about_bound budget)) xs at rest
+      → may_follow (last_refuses (map about_bound (nodes (x ∷ xs)))) rest ≡ true
   last_follows x [] ts at rest k r = subst (λ us. may_follow (about_bound x.0).refuses us ≡ true) r k.1.2
   last_follows x (y ∷ ys) ts at rest k r = let row = r.1 in last_follows y ys row.0 r.0 rest row.2 r.2
 
-  chain_held : (xs : List (Bound × ℕ)) (ts rest : Tokens) → Chain (codes "+") (Held about_bound budget) xs ts rest → BoundsHeld budget (nodes xs, deepest xs) ts rest
+  chain_held : (xs : List (Bound × ℕ)) (ts rest : Tokens) → Chain (codes "+") (Held about_bound budget) xs ts rest
+      → BoundsHeld budget (nodes xs, deepest xs) ts rest
   chain_held [] ts rest c = absurd c
   chain_held (x ∷ xs) ts rest c =
-      let k = chained budget (λ y. (about_bound y).form) (λ y. (about_bound y).good) (Held about_bound budget) (λ y us mid s. (s.0, s.1.0, s.1.1))
+      let k = chained budget (λ y. (about_bound y).form) (λ y. (about_bound y).good) (Held about_bound budget)
+      (λ y us mid s. (s.0, s.1.0, s.1.1))
       (codes "+") plus_lead plus_leads (x ∷ xs) ts rest c in
       let ys = nodes (x ∷ xs) in (
         k.0,
-        (rest, subst (λ fs. Spells (joined plus_lead fs) (deepest (x ∷ xs)) ts rest) (sym (forms_of about_bound ys)) k.1, refl),
+        (
+          rest,
+          subst (λ fs. Spells (joined plus_lead fs) (deepest (x ∷ xs)) ts rest) (sym (forms_of about_bound ys)) k.1,
+          refl,
+        ),
         goods_of about_bound ys ∙ k.2,
         last_follows x xs ts c.0 rest c.1 c.2,
       )
@@ -150,8 +168,10 @@ module _ (budget : ℕ) (within : Within) (sound : SoundWithin budget within) wh
   pub bounds_sound : SoundStep (all_bounds within) AllHeld
   bounds_sound ts x rest t h =
       let xs = bind_some (chain (codes "+") (one_bound within) ts) _ _ h in
-      let c = chain_sound (codes "+") (one_bound within) (Held about_bound budget) bound_sound ts xs.0.0 xs.0.1 t xs.1 in
-      same_some (Out AllHeld ts) ((nodes xs.0.0, deepest xs.0.0), xs.0.1) (x, rest) xs.2 ((chain_held xs.0.0 ts xs.0.1 c.0, c.2), c.1)
+      let c = chain_sound (codes "+") (one_bound within) (Held about_bound budget)
+      bound_sound ts xs.0.0 xs.0.1 t xs.1 in
+      same_some (Out AllHeld ts) ((nodes xs.0.0, deepest xs.0.0), xs.0.1) (x, rest) xs.2
+      ((chain_held xs.0.0 ts xs.0.1 c.0, c.2), c.1)
 
   abbrev pub PlacedHeld : TypePlace → List Bound × ℕ → Tokens → Tokens → Type 0
   PlacedHeld place x ts rest = BoundsHeld budget x ts rest × (placed place x.0 rest ≡ true)
@@ -174,12 +194,15 @@ module _ (budget : ℕ) (within : Within) (sound : SoundWithin budget within) wh
   -- ---- what is asked of a name
 
   -- a node one level deeper, from what is told of it
-  deeper_held : (c : Constraint) (F : Facts) (n : ℕ) (ts rest : Tokens) → about_constraint c ≡ F → n ≤ budget → Stands F n ts rest
+  deeper_held : (c : Constraint) (F : Facts) (n : ℕ) (ts rest : Tokens) → about_constraint c ≡ F → n ≤ budget
+      → Stands F n ts rest
       → Held asked (suc budget) (c, suc n) ts rest
   deeper_held c F n ts rest e le s =
-      held (asked c) (alone F) (suc budget) (suc n) ts rest (ap alone e) (omega (arith, le)) ((rest, s.0, refl), s.1, s.2)
+      held (asked c) (alone F) (suc budget) (suc n) ts rest (ap alone e) (omega (arith, le))
+      ((rest, s.0, refl), s.1, s.2)
 
-  equal_sound : (ts at : Tokens) (x : Constraint × ℕ) (rest : Tokens) → IsOperator (codes "=") ts at → InText at → equal within at ≡ Some (x, rest)
+  equal_sound : (ts at : Tokens) (x : Constraint × ℕ) (rest : Tokens) → IsOperator (codes "=") ts at → InText at
+      → equal within at ≡ Some (x, rest)
       → Out (Held asked (suc budget)) ts (x, rest)
   equal_sound ts at x rest o t h = elim (chosen (begins_const at) _ _ _ h) [
     | inl g ↦
@@ -187,16 +210,22 @@ module _ (budget : ℕ) (within : Within) (sound : SoundWithin budget within) wh
         let s = const_sound at c.0.0 c.0.1 t c.1 in
         let there : Stands (constraint_facts (Constraint-F.EqualConst c.0.0)) 0 ts c.0.1 =
         ((at, (ts, refl, (at, o, (at, refl, refl))), (c.0.1, s.0.0, refl)), s.0.1, refl) in
-        same_some (Out (Held asked (suc budget)) ts) ((constraint.EqualConst c.0.0, 1), c.0.1) (x, rest) c.2
-        (deeper_held (constraint.EqualConst c.0.0) (constraint_facts (Constraint-F.EqualConst c.0.0)) 0 ts c.0.1 (constraint_equal_const_is c.0.0) (omega arith) there, s.1)
+        same_some (Out (Held asked (suc budget)) ts) ((constraint.EqualConst c.0.0, 1), c.0.1) (x, rest) c.2 (
+          deeper_held (constraint.EqualConst c.0.0) (constraint_facts (Constraint-F.EqualConst c.0.0)) 0 ts c.0.1
+              (constraint_equal_const_is c.0.0) (omega arith) there,
+          s.1,
+        )
     | inr g ↦
         let y = bind_some (within.types Bounds at) _ _ g.1 in
         let s = sound.types Bounds at y.0.0 y.0.1 t y.1 in
         let told = about_type y.0.0.0 in
         let there : Stands (constraint_facts (Constraint-F.Equal told)) y.0.0.1 ts y.0.1 =
         ((at, (ts, refl, (at, o, (at, refl, refl))), (y.0.1, s.0.1, refl)), s.0.2, bounds_refused told y.0.1 s.0.3) in
-        same_some (Out (Held asked (suc budget)) ts) ((constraint.Equal y.0.0.0, suc y.0.0.1), y.0.1) (x, rest) y.2
-        (deeper_held (constraint.Equal y.0.0.0) (constraint_facts (Constraint-F.Equal told)) y.0.0.1 ts y.0.1 (constraint_equal_is y.0.0.0) s.0.0 there, s.1)
+        same_some (Out (Held asked (suc budget)) ts) ((constraint.Equal y.0.0.0, suc y.0.0.1), y.0.1) (x, rest) y.2 (
+          deeper_held (constraint.Equal y.0.0.0) (constraint_facts (Constraint-F.Equal told)) y.0.0.1 ts y.0.1
+              (constraint_equal_is y.0.0.0) s.0.0 there,
+          s.1,
+        )
   ]
 
   pub constraint_sound : SoundStep (constraint_by within) (Held asked (suc budget))

@@ -35,8 +35,10 @@ use Rattle.lay_tree.proofs.reader.Attr.{attributes_sound}
 use Rattle.lay_tree.proofs.reader.Exact.{Stands}
 use Rattle.lay_tree.proofs.reader.Loops.{SoundStep}
 use Rattle.lay_tree.proofs.reader.TypesSoundOpen.{OpenBy, open_sound, open_held, open_shut, shut_list}
-use Rattle.lay_tree.proofs.reader.TypesSoundParts.{Out, Leads, bit_texts, keyword_passed_is, flag_leads, flag_texts, if_there_sound, param_attrs_leads, attrs_good, binder_if_sound, AbiLeads, abi_sound, Held, held, forms_of, goods_of, list_held}
-use Rattle.lay_tree.proofs.reader.TypesSoundPaths.{type_held, TypeHeld, SoundWithin, bounds_refused, output_told, output_sound}
+use Rattle.lay_tree.proofs.reader.TypesSoundNeeds.{Held, held, forms_of, goods_of, list_held}
+use Rattle.lay_tree.proofs.reader.TypesSoundParts.{Out, Leads, bit_texts, keyword_passed_is, flag_leads, flag_texts, if_there_sound, param_attrs_leads, attrs_good, binder_if_sound, AbiLeads, abi_sound}
+use Rattle.lay_tree.proofs.reader.TypesSoundLevel.{type_held, TypeHeld, SoundWithin, bounds_refused}
+use Rattle.lay_tree.proofs.reader.TypesSoundPaths.{output_told, output_sound}
 use Rattle.lay_tree.proofs.reader.Use.{RenameIs, given_name_is}
 
 -- ---- the name of a parameter
@@ -44,20 +46,29 @@ use Rattle.lay_tree.proofs.reader.Use.{RenameIs, given_name_is}
 abbrev NameLeads : Option GivenName → Tokens → Tokens → Type 0
 NameLeads n ts rest = Leads (types.param_name n) ts rest × (is_param_name n ≡ true)
 
-given_leads : (g : GivenName) (ts mid rest : Tokens) → RenameIs g ts mid → IsOperator (codes ":") mid rest → NameLeads (Some g) ts rest
-given_leads (given.Name n) ts mid rest i o =
-    ((λ f depth end s. leaf_spelled n.raw n.text (Piece types.colon f) depth ts mid end i.0 (rest, (rest, o, (rest, refl, refl)), s)), i.1)
-given_leads given.Underscore ts mid rest i o = ((λ f depth end s. (mid, i, (rest, (rest, o, (rest, refl, refl)), s))), refl)
+given_leads : (g : GivenName) (ts mid rest : Tokens) → RenameIs g ts mid → IsOperator (codes ":") mid rest
+    → NameLeads (Some g) ts rest
+given_leads (given.Name n) ts mid rest i o = (
+  (λ f depth end s. leaf_spelled n.raw n.text (Piece types.colon f) depth ts mid end i.0
+      (rest, (rest, o, (rest, refl, refl)), s)),
+  i.1,
+)
+given_leads given.Underscore ts mid rest i o =
+    ((λ f depth end s. (mid, i, (rest, (rest, o, (rest, refl, refl)), s))), refl)
 
 given_texts : (g : GivenName) (ts mid : Tokens) → RenameIs g ts mid → InText ts → InText mid
 given_texts (given.Name n) ts mid i t =
-    texts_behind ts mid (is_end (types.given_form (given.Name n) Done) 0 ts mid (leaf_spelled n.raw n.text Done 0 ts mid mid i.0 refl)) t
+    texts_behind ts mid (is_end (types.given_form (given.Name n) Done) 0 ts mid
+    (leaf_spelled n.raw n.text Done 0 ts mid mid i.0 refl)) t
 given_texts given.Underscore ts mid i t = bit_texts (Fixed kind.Underscore (codes "_")) ts mid i t
 
-given_colon : (ts : Tokens) (g : GivenName × Tokens) → given_name ts ≡ Some g → begins_given ts ≡ true → is_op (codes ":") g.1 ≡ true
-given_colon ts g e h = subst (λ (o : Option (GivenName × Tokens)). elim o [ None ↦ false | Some x ↦ is_op (codes ":") x.1 ] ≡ true) e h
+given_colon : (ts : Tokens) (g : GivenName × Tokens) → given_name ts ≡ Some g → begins_given ts ≡ true
+    → is_op (codes ":") g.1 ≡ true
+given_colon ts g e h =
+    subst (λ (o : Option (GivenName × Tokens)). elim o [ None ↦ false | Some x ↦ is_op (codes ":") x.1 ] ≡ true) e h
 
-param_name_sound : (ts : Tokens) (x : Option GivenName) (rest : Tokens) → InText ts → if_there (begins_given ts) reader.param_name ts ≡ Some (x, rest)
+param_name_sound : (ts : Tokens) (x : Option GivenName) (rest : Tokens) → InText ts
+    → if_there (begins_given ts) reader.param_name ts ≡ Some (x, rest)
     → Out NameLeads ts (x, rest)
 param_name_sound ts x rest t h =
     if_there_sound NameLeads reader.param_name (begins_given ts) ts
@@ -67,7 +78,8 @@ param_name_sound ts x rest t h =
     let at = drop 1 g.0.1 in
     let o : IsOperator (codes ":") g.0.1 at = (given_colon ts g.0 g.1 b, refl) in
     let left = bit_texts (Operator (codes ":")) g.0.1 at o (given_texts g.0.0 ts g.0.1 i t) in
-    same_some (λ (r : GivenName × Tokens). Out NameLeads ts (Some r.0, r.1)) (g.0.0, at) (y, mid) g.2 (given_leads g.0.0 ts g.0.1 at i o, left))
+    same_some (λ (r : GivenName × Tokens). Out NameLeads ts (Some r.0, r.1)) (g.0.0, at) (y, mid) g.2
+    (given_leads g.0.0 ts g.0.1 at i o, left))
     (λ b. ((λ f depth end s. s), refl)) t x rest h
 
 -- ---- parameters, and the type
@@ -86,7 +98,8 @@ module _ (budget : ℕ) (within : Within) (sound : SoundWithin budget within) wh
       let p : FuncParam = record { attrs = a.0.0; name = n.0.0; ty = y.0.0.0 } in
       let told = about_type y.0.0.0 in
       let F : Form = Part told.told.form Done in
-      let spelled = param_attrs_leads need a.0.0 ts a.0.1 r.0 (types.param_name n.0.0 F) y.0.1 (g.0.0 F need y.0.1 (y.0.1, s.0.1, refl)) in
+      let spelled = param_attrs_leads need a.0.0 ts a.0.1 r.0 (types.param_name n.0.0 F) y.0.1
+      (g.0.0 F need y.0.1 (y.0.1, s.0.1, refl)) in
       let good = and_from (are_attrs false a.0.0 && is_param_name n.0.0) (good_at Bounds told)
       (and_from (are_attrs false a.0.0) (is_param_name n.0.0) (attrs_good need a.0.0 ts a.0.1 r.0) g.0.1) s.0.2 in
       let G = func_param_facts (record { attrs = a.0.0; name = n.0.0; ty = told }) in
@@ -98,50 +111,61 @@ module _ (budget : ℕ) (within : Within) (sound : SoundWithin budget within) wh
   dots_form = piece (Operator (codes "...") ∷ [])
 
   -- parameters, with `...` behind them or without
-  variadic_list : (ps : List (FuncParam × ℕ)) (last : Bool) (ts inside end rest : Tokens) → IsBit (opener Paren) ts inside
-      → OpenBy begins_param (λ p. SpelledAt (deepest ps) (about_func_param p).form) (nodes ps) last inside end → last ≡ true
+  variadic_list : (ps : List (FuncParam × ℕ)) (last : Bool) (ts inside end rest : Tokens)
+      → IsBit (opener Paren) ts inside
+      → OpenBy begins_param (λ p. SpelledAt (deepest ps) (about_func_param p).form) (nodes ps) last inside end
+      → last ≡ true
       → IsOperator (codes "...") end (drop 3 end) → IsBit (closer Paren) (drop 3 end) rest
       → Spells (comma_list false (opener Paren) (closer Paren) (map (λ p. (about_func_param p).form) (nodes ps) ++ dots_form ∷ [])) (deepest ps) ts rest
   variadic_list ps last ts inside end rest o r e d c = at (nodes ps) last r e
     where
-      at : (qs : List FuncParam) (last : Bool) → OpenBy begins_param (λ p. SpelledAt (deepest ps) (about_func_param p).form) qs last inside end → last ≡ true
+      at : (qs : List FuncParam) (last : Bool)
+          → OpenBy begins_param (λ p. SpelledAt (deepest ps) (about_func_param p).form) qs last inside end → last ≡ true
           → Spells (comma_list false (opener Paren) (closer Paren) (map (λ p. (about_func_param p).form) qs ++ dots_form ∷ [])) (deepest ps) ts rest
       at [] last r e =
           let first_one : Spells dots_form (deepest ps) inside (drop 3 end) =
-          subst (λ us. Spells dots_form (deepest ps) us (drop 3 end)) (sym r.1) (drop 3 end, (drop 3 end, d, refl), refl) in
-          shut_list (opener Paren) (closer Paren) dots_form [] (deepest ps) ts inside (drop 3 end) (drop 3 end) rest o first_one refl c
+          subst (λ us. Spells dots_form (deepest ps) us (drop 3 end)) (sym r.1)
+          (drop 3 end, (drop 3 end, d, refl), refl) in
+          shut_list (opener Paren) (closer Paren) dots_form [] (deepest ps) ts inside (drop 3 end) (drop 3 end)
+          rest o first_one refl c
       at (q ∷ qs) false r e = absurd (cc)
       at (q ∷ qs) true r e =
           let behind = r.2 in
           let last_one : Spells dots_form (deepest ps) end (drop 3 end) = (drop 3 end, (drop 3 end, d, refl), refl) in
           let form : FuncParam → Form = λ p. (about_func_param p).form in
           let before = rows_map form (Further (SpelledAt (deepest ps))) qs r.0 behind.0 behind.1 in
-          let rows = rows_joined (Further (SpelledAt (deepest ps))) (map form qs) (dots_form ∷ []) r.0 behind.0 (drop 3 end) before
+          let rows = rows_joined (Further (SpelledAt (deepest ps))) (map form qs) (dots_form ∷ []) r.0 behind.0
+          (drop 3 end) before
           (drop 3 end, (end, behind.2.0, last_one), refl) in
-          shut_list (opener Paren) (closer Paren) (form q) (map form qs ++ dots_form ∷ []) (deepest ps) ts inside r.0 (drop 3 end) rest o r.1 rows c
+          shut_list (opener Paren) (closer Paren) (form q) (map form qs ++ dots_form ∷ []) (deepest ps) ts inside r.0
+          (drop 3 end) rest o r.1 rows c
 
   abbrev AreParams : (List FuncParam × Bool) × ℕ → Tokens → Tokens → Type 0
   AreParams x ts rest =
-      (x.1 ≤ budget) × Spells (params_form (map about_func_param x.0.0) x.0.1) x.1 ts rest × (all_good (map about_func_param x.0.0) ≡ true)
+      (x.1 ≤ budget) × Spells (params_form (map about_func_param x.0.0) x.0.1)
+      x.1 ts rest × (all_good (map about_func_param x.0.0) ≡ true)
 
   -- by whether `...` stands there
   params_held : (ps : List (FuncParam × ℕ)) (last : Bool) (ts inside end : Tokens) → IsBit (opener Paren) ts inside
       → OpenBy begins_param (Held about_func_param budget) ps last inside end → InText end
       → (variadic : Bool) → (last && is_op (codes "...") end) ≡ variadic → (rest : Tokens)
-      → passed (closes Paren) (if variadic then drop 3 end else end) ≡ Some rest → AreParams ((nodes ps, variadic), deepest ps) ts rest × InText rest
+      → passed (closes Paren) (if variadic then drop 3 end else end) ≡ Some rest
+      → AreParams ((nodes ps, variadic), deepest ps) ts rest × InText rest
   params_held ps last ts inside end o r t true e rest h =
       let both = and_parts last (is_op (codes "...") end) e in
       let at = drop 3 end in
       let d : IsOperator (codes "...") end at = (both.1, refl) in
       let left = bit_texts (Operator (codes "...")) end at d t in
       let c = closer_passed_is Paren at rest left h in
-      let k = open_held begins_param budget (λ p. (about_func_param p).form) (λ p. (about_func_param p).good) (Held about_func_param budget)
+      let k = open_held begins_param budget (λ p. (about_func_param p).form) (λ p. (about_func_param p).good)
+      (Held about_func_param budget)
       (λ p us mid s. (s.0, s.1.0, s.1.1)) ps last inside end r in
       let qs = nodes ps in
       let list = variadic_list ps last ts inside end rest o k.0 both.0 d c in (
         (
           k.1,
-          subst (λ fs. Spells (comma_list false (opener Paren) (closer Paren) (fs ++ dots_form ∷ [])) (deepest ps) ts rest) (sym (forms_of about_func_param qs)) list,
+          subst (λ fs. Spells (comma_list false (opener Paren) (closer Paren) (fs ++ dots_form ∷ [])) (deepest ps)
+              ts rest) (sym (forms_of about_func_param qs)) list,
           goods_of about_func_param qs ∙ k.2,
         ),
         bit_texts (closer Paren) at rest c left,
@@ -151,9 +175,11 @@ module _ (budget : ℕ) (within : Within) (sound : SoundWithin budget within) wh
       let P = Held about_func_param budget in
       let form : FuncParam → Form = λ p. (about_func_param p).form in
       let k = list_held budget form (λ p. (about_func_param p).good) P (λ p us mid s. (s.0, s.1.0, s.1.1))
-      (opener Paren) (closer Paren) ps ts inside rest o (open_shut begins_param P (closer Paren) ps last inside end rest r c) in
+      (opener Paren) (closer Paren) ps ts inside rest o
+      (open_shut begins_param P (closer Paren) ps last inside end rest r c) in
       let qs = nodes ps in
-      let same : map form qs ≡ forms (map about_func_param qs) ++ [] = sym (forms_of about_func_param qs) ∙ sym (append-nil (forms (map about_func_param qs))) in (
+      let same : map form qs ≡ forms (map about_func_param qs) ++ [] =
+      sym (forms_of about_func_param qs) ∙ sym (append-nil (forms (map about_func_param qs))) in (
         (
           k.0,
           subst (λ fs. Spells (comma_list true (opener Paren) (closer Paren) fs) (deepest ps) ts rest) same k.1,
@@ -170,15 +196,18 @@ module _ (budget : ℕ) (within : Within) (sound : SoundWithin budget within) wh
       let variadic = ps.0.0.1 && is_op (codes "...") ps.0.1 in
       let c = bind_some (passed (closes Paren) (if variadic then drop 3 ps.0.1 else ps.0.1)) _ _ ps.2 in
       let mark = opener_passed_is Paren ts o.0 t o.1 in
-      let r = open_sound begins_param (func_param within) (Held about_func_param budget) (λ us p end i b e. param_sound us p end i e)
+      let r = open_sound begins_param (func_param within) (Held about_func_param budget)
+      (λ us p end i b e. param_sound us p end i e)
       o.0 ps.0.0.0 ps.0.0.1 ps.0.1 (bit_texts (opener Paren) ts o.0 mark t) ps.1 in
       same_some (Out AreParams ts) (((nodes ps.0.0.0, variadic), deepest ps.0.0.0), c.0) (x, rest) c.2
       (params_held ps.0.0.0 ps.0.0.1 ts o.0 ps.0.1 mark r.0 r.1 variadic refl c.0 c.1)
 
-  abi_if_sound : (ts : Tokens) (x : Option Abi) (rest : Tokens) → InText ts → if_there (first (is_keyword (codes "extern")) ts) abi ts ≡ Some (x, rest)
+  abi_if_sound : (ts : Tokens) (x : Option Abi) (rest : Tokens) → InText ts
+      → if_there (first (is_keyword (codes "extern")) ts) abi ts ≡ Some (x, rest)
       → Out AbiLeads ts (x, rest)
   abi_if_sound ts x rest t h =
-      if_there_sound AbiLeads abi (first (is_keyword (codes "extern")) ts) ts (λ g y mid e. abi_sound ts y mid t e) (λ g. ((λ f depth end s. s), refl)) t x rest h
+      if_there_sound AbiLeads abi (first (is_keyword (codes "extern")) ts) ts (λ g y mid e. abi_sound ts y mid t e)
+      (λ g. ((λ f depth end s. s), refl)) t x rest h
 
   pub func_sound : (place : TypePlace) → SoundStep (func_type within) (TypeHeld place (suc budget))
   unfolding func_type
@@ -217,10 +246,13 @@ module _ (budget : ℕ) (within : Within) (sound : SoundWithin budget within) wh
       let spelled = bound.0.0 (when is_unsafe bits (abi_form a.0.0 F)) most o.0.1
       (flag_leads mark bits b.0.1 are (abi_form a.0.0 F) most o.0.1 (extern.0.0 F most o.0.1 inner)) in
       let good = and_from (is_binder b.0.0 && is_abi a.0.0 && all_good qs) told.good
-      (and_from (is_binder b.0.0 && is_abi a.0.0) (all_good qs) (and_from (is_binder b.0.0) (is_abi a.0.0) bound.0.1 extern.0.1) params.0.2) out.0.1.1 in
+      (and_from (is_binder b.0.0 && is_abi a.0.0) (all_good qs)
+      (and_from (is_binder b.0.0) (is_abi a.0.0) bound.0.1 extern.0.1) params.0.2) out.0.1.1 in
       let X = ty.Func b.0.0 is_unsafe a.0.0 ps.0.0.0.0 variadic o.0.0.0 in
       same_some (Out (TypeHeld place (suc budget)) ts) ((X, suc most), o.0.1) (x, rest) o.2 (
-        type_held place budget (about_type X) G (is_binder b.0.0 && is_abi a.0.0 && all_good qs && told.good) told.refuses (is_some b.0.0) most ts o.0.1
-            (type_func_is b.0.0 is_unsafe a.0.0 ps.0.0.0.0 variadic o.0.0.0) (omega (arith, params.0.0, out.0.0)) spelled good out.0.1.2,
+        type_held place budget (about_type X) G (is_binder b.0.0 && is_abi a.0.0 && all_good qs && told.good)
+            told.refuses (is_some b.0.0) most ts o.0.1
+            (type_func_is b.0.0 is_unsafe a.0.0 ps.0.0.0.0 variadic o.0.0.0) (omega (arith, params.0.0, out.0.0))
+            spelled good out.0.1.2,
         out.1,
       )

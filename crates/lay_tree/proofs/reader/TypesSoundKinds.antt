@@ -54,8 +54,10 @@ use Rattle.lay_tree.proofs.reader.Loops.{SoundStep}
 use Rattle.lay_tree.proofs.reader.Tokens.{IsList, tokens_is, list_good, list_row_of}
 use Rattle.lay_tree.proofs.reader.TypesSoundBounds.{placed, PlacedHeld, placed_sound}
 use Rattle.lay_tree.proofs.reader.TypesSoundFuncs.{func_sound}
-use Rattle.lay_tree.proofs.reader.TypesSoundParts.{Out, Leads, bit_texts, flag_leads, flag_texts, if_there_sound, ElementsBy, behind_comma, elements_by, lifetime_sound, list_held}
-use Rattle.lay_tree.proofs.reader.TypesSoundPaths.{type_held, shut_held, IsType, TypeHeld, SoundWithin, paren_shuts, path_told, type_list, path_sound}
+use Rattle.lay_tree.proofs.reader.TypesSoundNeeds.{list_held}
+use Rattle.lay_tree.proofs.reader.TypesSoundParts.{Out, Leads, bit_texts, flag_leads, flag_texts, if_there_sound, ElementsBy, behind_comma, elements_by, lifetime_sound}
+use Rattle.lay_tree.proofs.reader.TypesSoundLevel.{type_held, shut_held, IsType, TypeHeld, SoundWithin}
+use Rattle.lay_tree.proofs.reader.TypesSoundPaths.{paren_shuts, path_told, type_list, path_sound}
 use Rattle.lay_tree.proofs.token_lists.Spelling.{list_spelled}
 
 -- ---- the first token
@@ -118,9 +120,13 @@ first_is l [] h = absurd (cc)
 first_is l (t ∷ ts) h = lead_text t.kind t.text (t ∷ ts) l h
 
 -- a token whose kind has one text alone
-only_first : (k : Kind) (only : List ℕ) → only_text k ≡ Some only → (t : Token) (ts : Tokens) → InText (t ∷ ts) → t.kind ≡ k → IsOne k only (t ∷ ts) ts
-only_first k only e t ts i h =
-    (h, subst (λ (z : Option (List ℕ)). IsText z t.text) e (subst (λ z. IsText (only_text z) t.text) h (text_one t ts i)), refl)
+only_first : (k : Kind) (only : List ℕ) → only_text k ≡ Some only → (t : Token) (ts : Tokens) → InText (t ∷ ts)
+    → t.kind ≡ k → IsOne k only (t ∷ ts) ts
+only_first k only e t ts i h = (
+  h,
+  subst (λ (z : Option (List ℕ)). IsText z t.text) e (subst (λ z. IsText (only_text z) t.text) h (text_one t ts i)),
+  refl,
+)
 
 paren_first : (ts : Tokens) → InText ts → FirstIs OfParen ts → IsBit (opener Paren) ts (tail ts)
 paren_first [] i f = absurd f
@@ -156,7 +162,8 @@ dyn_first (t ∷ ts) f = (f.0, f.1, refl)
 
 -- ---- tokens behind a `;`
 
-semicolon_texts : (ts : Tokens) → InText ts → first (is_mark (codes ";")) ts ≡ true → (j : InText (tail ts)) × (pairs.is_mark (codes ".") j.last ≡ false)
+semicolon_texts : (ts : Tokens) → InText ts → first (is_mark (codes ";")) ts ≡ true → (j : InText (tail ts))
+    × (pairs.is_mark (codes ".") j.last ≡ false)
 semicolon_texts [] i h = absurd (cc)
 semicolon_texts (t ∷ ts) i h =
     let text = bytes_same t.text (codes ";") (and_parts (is_punct t.kind) (bytes_eq t.text (codes ";")) h).1 in
@@ -171,19 +178,25 @@ line_ended true depth ts = refl
 line_ended false depth ts = refl
 
 -- A list of tokens is spelled behind a `;` and before what closes it.
-length_sound : (d : Delim) (depth : ℕ) (ts : Tokens) (us : List Listed) (mid rest : Tokens) → InText ts → first (is_mark (codes ";")) ts ≡ true
+length_sound : (d : Delim) (depth : ℕ) (ts : Tokens) (us : List Listed) (mid rest : Tokens) → InText ts
+    → first (is_mark (codes ";")) ts ≡ true
     → tokens (tail ts) ≡ Some (us, mid) → passed (closes d) mid ≡ Some rest
     → Spells (token_list us) depth (tail ts) mid × (is_token_list us ≡ true) × InText mid
-length_sound d depth ts us mid rest t m h c = at mid (tokens_is (tail ts) us mid h) (passed_first (closes d) mid rest c).0
+length_sound d depth ts us mid rest t m h c =
+    at mid (tokens_is (tail ts) us mid h) (passed_first (closes d) mid rest c).0
   where
-    at : (mid : Tokens) → IsList (tail ts) us mid → first (closes d) mid ≡ true → Spells (token_list us) depth (tail ts) mid × (is_token_list us ≡ true) × InText mid
+    at : (mid : Tokens) → IsList (tail ts) us mid → first (closes d) mid ≡ true
+        → Spells (token_list us) depth (tail ts) mid × (is_token_list us ≡ true) × InText mid
     at [] l f = absurd (cc)
     at (last ∷ end) l f =
         let j = semicolon_texts ts t m in
         let good = list_good (tail ts) us last end j.0 j.1 (ap is_closer (closer_kind d last.kind f)) l in
         let row = list_row_of (tail ts) us (last ∷ end) l in
-        let inner = list_spelled us (at_start 0) depth (tail ts) (last ∷ end) good j.0.loose row in
-        ((last ∷ end, inner, line_ended (ends_in_line us) depth (last ∷ end)), good, behind_all l.read (last ∷ end) (subst InText l.there.whole j.0))
+        let inner = list_spelled us (at_start 0) depth (tail ts) (last ∷ end) good j.0.loose row in (
+          (last ∷ end, inner, line_ended (ends_in_line us) depth (last ∷ end)),
+          good,
+          behind_all l.read (last ∷ end) (subst InText l.there.whole j.0),
+        )
 
 pub bracket_shuts : (ts : Tokens) → InText ts → first (closes Bracket) ts ≡ true → IsBit (closer Bracket) ts (tail ts)
 bracket_shuts ts t h = closes_one Bracket ts t h
@@ -200,7 +213,8 @@ module _ (budget : ℕ) (within : Within) (sound : SoundWithin budget within) wh
       let s = call_sound 0 ts c.0.0 c.0.1 t c.1 in
       let told = about_call c.0.0 in
       same_some (Out (Held_at place) ts) ((ty.Call c.0.0, 1), c.0.1) (x, rest) c.2 (
-        shut_held place budget (about_type (ty.Call c.0.0)) told.form told.good 0 ts c.0.1 (type_call_is c.0.0) (omega arith) s.0 s.1,
+        shut_held place budget (about_type (ty.Call c.0.0)) told.form told.good 0 ts c.0.1 (type_call_is c.0.0)
+            (omega arith) s.0 s.1,
         texts_behind ts c.0.1 (is_end told.form 0 ts c.0.1 s.0) t,
       )
 
@@ -213,9 +227,11 @@ module _ (budget : ℕ) (within : Within) (sound : SoundWithin budget within) wh
       elim (chosen (begins_there OfBang p.0.1) _ _ _ p.2) [
         | inl g ↦ absurd (cc g.1)
         | inr g ↦
-            let follows = and_from (not (begins_there OfBang p.0.1)) (may_follow told.refuses p.0.1) (ap not g.0) s.0.1.2 in
+            let follows = and_from (not (begins_there OfBang p.0.1)) (may_follow told.refuses p.0.1) (ap not g.0)
+            s.0.1.2 in
             same_some (Out (Held_at place) ts) ((ty.Path p.0.0.0, suc p.0.0.1), p.0.1) (x, rest) g.1 (
-              type_held place budget (about_type (ty.Path p.0.0.0)) told.form told.good (OfBang ∷ told.refuses) false p.0.0.1 ts p.0.1
+              type_held place budget (about_type (ty.Path p.0.0.0)) told.form told.good (OfBang ∷ told.refuses)
+                  false p.0.0.1 ts p.0.1
                   (type_path_is p.0.0.0) s.0.0 s.0.1.0 s.0.1.1 follows,
               s.1,
             )
@@ -223,27 +239,40 @@ module _ (budget : ℕ) (within : Within) (sound : SoundWithin budget within) wh
 
   -- ---- parentheses
 
-  tuple_held : (x : Ty × ℕ) (xs : List (Ty × ℕ)) (ts inside mid behind rest : Tokens) → IsBit (opener Paren) ts inside → TypeHeld Bounds budget x inside mid
+  tuple_held : (x : Ty × ℕ) (xs : List (Ty × ℕ)) (ts inside mid behind rest : Tokens) → IsBit (opener Paren) ts inside
+      → TypeHeld Bounds budget x inside mid
       → IsOne kind.Punct (codes ",") mid behind → ElementsBy (closer Paren) (TypeHeld Bounds budget) xs behind rest
       → (deepest (x ∷ xs) ≤ budget) × Spells (tuple_form (map about_type (nodes (x ∷ xs)))) (deepest (x ∷ xs)) ts rest
       × (all_types_good (map about_type (nodes (x ∷ xs))) ≡ true)
   tuple_held x [] ts inside mid behind rest o s c e = (
     omega (arith, s.0),
-    (inside, (inside, o, refl), (mid, raise (about_type x.0).told.form x.1 (deepest (x ∷ [])) inside mid (omega arith) s.1, (rest, (behind, c, (rest, e, refl)), refl))),
+    (
+      inside,
+      (inside, o, refl),
+      (
+        mid,
+        raise (about_type x.0).told.form x.1 (deepest (x ∷ [])) inside mid (omega arith) s.1,
+        (rest, (behind, c, (rest, e, refl)), refl),
+      ),
+    ),
     and_from (good_at Bounds (about_type x.0)) true s.2 refl,
   )
   tuple_held x (y ∷ ys) ts inside mid behind rest o s c e =
       let P = TypeHeld Bounds budget in
-      let all : ElementsBy (closer Paren) P (x ∷ y ∷ ys) inside rest = (mid, s, behind_comma (closer Paren) P (y ∷ ys) mid behind rest c e) in
-      let l = list_held budget (λ z. (about_type z).told.form) (λ z. good_at Bounds (about_type z)) P (λ z us at k. (k.0, k.1, k.2))
+      let all : ElementsBy (closer Paren) P (x ∷ y ∷ ys) inside rest =
+      (mid, s, behind_comma (closer Paren) P (y ∷ ys) mid behind rest c e) in
+      let l = list_held budget (λ z. (about_type z).told.form) (λ z. good_at Bounds (about_type z)) P
+      (λ z us at k. (k.0, k.1, k.2))
       (opener Paren) (closer Paren) (x ∷ y ∷ ys) ts inside rest o all in
       let told = type_list (nodes (x ∷ y ∷ ys)) in (
         l.0,
-        subst (λ fs. Spells (comma_list true (opener Paren) (closer Paren) fs) (deepest (x ∷ y ∷ ys)) ts rest) (sym told.0) l.1,
+        subst (λ fs. Spells (comma_list true (opener Paren) (closer Paren) fs) (deepest (x ∷ y ∷ ys)) ts rest)
+            (sym told.0) l.1,
         told.1 ∙ l.2,
       )
 
-  paren_by_sound : (place : TypePlace) (ts inside : Tokens) (y : Ty × ℕ) (mid : Tokens) → IsBit (opener Paren) ts inside → TypeHeld Bounds budget y inside mid → InText mid
+  paren_by_sound : (place : TypePlace) (ts inside : Tokens) (y : Ty × ℕ) (mid : Tokens) → IsBit (opener Paren) ts inside
+      → TypeHeld Bounds budget y inside mid → InText mid
       → (x : Ty × ℕ) (rest : Tokens) → paren_by within y mid ≡ Some (x, rest) → Out (Held_at place) ts (x, rest)
   paren_by_sound place ts inside y mid o s t x rest h = elim (chosen (first (closes Paren) mid) _ _ _ h) [
     | inl g ↦
@@ -253,19 +282,22 @@ module _ (budget : ℕ) (within : Within) (sound : SoundWithin budget within) wh
         let form : Form = Piece (opener Paren ∷ []) (Part told.told.form (piece (closer Paren ∷ []))) in
         let spelled : Spells form y.1 ts end = (inside, (inside, o, refl), (mid, s.1, (end, (end, c, refl), refl))) in
         same_some (Out (Held_at place) ts) ((ty.Paren y.0, suc y.1), end) (x, rest) g.1 (
-          shut_held place budget (about_type (ty.Paren y.0)) form (good_at Bounds told) y.1 ts end (type_paren_is y.0) s.0 spelled s.2,
+          shut_held place budget (about_type (ty.Paren y.0)) form (good_at Bounds told) y.1 ts end (type_paren_is y.0)
+              s.0 spelled s.2,
           bit_texts (closer Paren) mid end c t,
         )
     | inr g ↦
         let k = bind_some (passed (is_mark (codes ",")) mid) _ _ g.1 in
         let more = bind_some (elements (closes Paren) (within.types Bounds) k.0) _ _ k.2 in
         let comma = mark_passed_is (codes ",") mid k.0 k.1 in
-        let e = elements_by (within.types Bounds) (TypeHeld Bounds budget) (sound.types Bounds) (closes Paren) (closer Paren) paren_shuts
+        let e = elements_by (within.types Bounds) (TypeHeld Bounds budget) (sound.types Bounds) (closes Paren)
+        (closer Paren) paren_shuts
         k.0 more.0.0 more.0.1 (bit_texts (Fixed kind.Punct (codes ",")) mid k.0 comma t) more.1 in
         let l = tuple_held y more.0.0 ts inside mid k.0 more.0.1 o s comma e.0 in
         let all = nodes (y ∷ more.0.0) in
         same_some (Out (Held_at place) ts) ((ty.Tuple all, suc (deepest (y ∷ more.0.0))), more.0.1) (x, rest) more.2 (
-          shut_held place budget (about_type (ty.Tuple all)) (tuple_form (map about_type all)) (all_types_good (map about_type all)) (deepest (y ∷ more.0.0))
+          shut_held place budget (about_type (ty.Tuple all)) (tuple_form (map about_type all))
+              (all_types_good (map about_type all)) (deepest (y ∷ more.0.0))
               ts more.0.1 (type_tuple_is all) l.0 l.1 l.2,
           e.1,
         )
@@ -280,7 +312,8 @@ module _ (budget : ℕ) (within : Within) (sound : SoundWithin budget within) wh
         let end = tail inside in
         let spelled : Spells (tuple_form []) 0 ts end = (end, (inside, o, (end, c, refl)), refl) in
         same_some (Out (Held_at place) ts) ((ty.Tuple [], 1), end) (x, rest) g.1 (
-          shut_held place budget (about_type (ty.Tuple [])) (tuple_form []) true 0 ts end (type_tuple_is []) (omega arith) spelled refl,
+          shut_held place budget (about_type (ty.Tuple [])) (tuple_form []) true 0 ts end (type_tuple_is [])
+              (omega arith) spelled refl,
           bit_texts (closer Paren) inside end c t,
         )
     | inr g ↦
@@ -291,8 +324,10 @@ module _ (budget : ℕ) (within : Within) (sound : SoundWithin budget within) wh
 
   -- ---- brackets
 
-  array_sound : (place : TypePlace) (ts inside : Tokens) (y : Ty × ℕ) (mid : Tokens) → IsBit (opener Bracket) ts inside → TypeHeld Bounds budget y inside mid
-      → InText mid → first (is_mark (codes ";")) mid ≡ true → (x : Ty × ℕ) (rest : Tokens) → array_by y (tail mid) ≡ Some (x, rest)
+  array_sound : (place : TypePlace) (ts inside : Tokens) (y : Ty × ℕ) (mid : Tokens) → IsBit (opener Bracket) ts inside
+      → TypeHeld Bounds budget y inside mid
+      → InText mid → first (is_mark (codes ";")) mid ≡ true → (x : Ty × ℕ) (rest : Tokens)
+      → array_by y (tail mid) ≡ Some (x, rest)
       → Out (Held_at place) ts (x, rest)
   array_sound place ts inside y mid o s t m x rest h =
       let at = tail mid in
@@ -307,13 +342,18 @@ module _ (budget : ℕ) (within : Within) (sound : SoundWithin budget within) wh
         | inl g ↦ absurd (cc g.1)
         | inr g ↦
             let form : Form =
-            Piece (opener Bracket ∷ []) (Part told.told.form (Piece (punct char.semicolon ∷ Blank ∷ []) (Part (token_list length) (piece (closer Bracket ∷ []))))) in
-            let spelled : Spells form y.1 ts c.0 =
-            (inside, (inside, o, refl), (mid, s.1, (at, (at, semi, (at, refl, refl)), (us.0.1, l.0, (c.0, (c.0, shut, refl), refl))))) in
+            Piece (opener Bracket ∷ []) (Part told.told.form
+            (Piece (punct char.semicolon ∷ Blank ∷ []) (Part (token_list length) (piece (closer Bracket ∷ []))))) in
+            let spelled : Spells form y.1 ts c.0 = (
+              inside,
+              (inside, o, refl),
+              (mid, s.1, (at, (at, semi, (at, refl, refl)), (us.0.1, l.0, (c.0, (c.0, shut, refl), refl)))),
+            ) in
             let good = and_from (good_at Bounds told && not (is_empty length)) (is_token_list length)
             (and_from (good_at Bounds told) (not (is_empty length)) s.2 (ap not g.0)) l.1 in
             same_some (Out (Held_at place) ts) ((ty.Array y.0 length, suc y.1), c.0) (x, rest) g.1 (
-              shut_held place budget (about_type (ty.Array y.0 length)) form (good_at Bounds told && not (is_empty length) && is_token_list length) y.1 ts c.0
+              shut_held place budget (about_type (ty.Array y.0 length)) form
+                  (good_at Bounds told && not (is_empty length) && is_token_list length) y.1 ts c.0
                   (type_array_is y.0 length) s.0 spelled good,
               bit_texts (closer Bracket) us.0.1 c.0 shut l.2,
             )
@@ -332,20 +372,30 @@ module _ (budget : ℕ) (within : Within) (sound : SoundWithin budget within) wh
             let shut = closer_passed_is Bracket y.0.1 c.0 s.1 c.1 in
             let told = about_type y.0.0.0 in
             let form : Form = Piece (opener Bracket ∷ []) (Part told.told.form (piece (closer Bracket ∷ []))) in
-            let spelled : Spells form y.0.0.1 ts c.0 = (inside, (inside, o, refl), (y.0.1, s.0.1, (c.0, (c.0, shut, refl), refl))) in
+            let spelled : Spells form y.0.0.1 ts c.0 =
+            (inside, (inside, o, refl), (y.0.1, s.0.1, (c.0, (c.0, shut, refl), refl))) in
             same_some (Out (Held_at place) ts) ((ty.Slice y.0.0.0, suc y.0.0.1), c.0) (x, rest) c.2 (
-              shut_held place budget (about_type (ty.Slice y.0.0.0)) form (good_at Bounds told) y.0.0.1 ts c.0 (type_slice_is y.0.0.0) s.0.0 spelled s.0.2,
+              shut_held place budget (about_type (ty.Slice y.0.0.0)) form (good_at Bounds told) y.0.0.1 ts c.0
+                  (type_slice_is y.0.0.0) s.0.0 spelled s.0.2,
               bit_texts (closer Bracket) y.0.1 c.0 shut s.1,
             )
       ]
 
   -- ---- references and pointers
 
-  life_sound : (ts : Tokens) (x : Option Lifetime) (rest : Tokens) → InText ts → if_there (first is_lifetime ts) lifetime ts ≡ Some (x, rest)
+  life_sound : (ts : Tokens) (x : Option Lifetime) (rest : Tokens) → InText ts
+      → if_there (first is_lifetime ts) lifetime ts ≡ Some (x, rest)
       → Out (λ l us end. Leads (ref_lifetime l) us end) ts (x, rest)
   life_sound ts x rest t h =
       if_there_sound (λ l us end. Leads (ref_lifetime l) us end) lifetime (first is_lifetime ts) ts
-      (λ g y mid e. let s = lifetime_sound ts y mid t e in ((λ f depth end r. (mid, (mid, s.0, refl), (mid, (mid, refl, refl), r))), s.1))
+      (λ g y mid e. let s = lifetime_sound ts y mid t e in (
+        (λ f depth end r. (
+          mid,
+          (mid, s.0, refl),
+          (mid, (mid, refl, refl), r),
+        )),
+        s.1,
+      ))
       (λ g f depth end s. s) t x rest h
 
   reference_sound : (place : TypePlace) (ts at : Tokens) → IsOne kind.Punct (codes "&") ts at → InText at
@@ -358,7 +408,8 @@ module _ (budget : ℕ) (within : Within) (sound : SoundWithin budget within) wh
       let bits = keyword (codes "mut") ∷ Blank ∷ [] in
       let mid = (flag mark l.0.1).1 in
       let mutable = (flag mark l.0.1).0 in
-      let are : first mark l.0.1 ≡ true → AreBits bits l.0.1 (tail l.0.1) = λ e. (tail l.0.1, keyword_one (codes "mut") l.0.1 e, (tail l.0.1, refl, refl)) in
+      let are : first mark l.0.1 ≡ true → AreBits bits l.0.1 (tail l.0.1) =
+      λ e. (tail l.0.1, keyword_one (codes "mut") l.0.1 e, (tail l.0.1, refl, refl)) in
       let y = bind_some (within.types NoBounds mid) _ _ l.2 in
       let s = sound.types NoBounds mid y.0.0 y.0.1 (flag_texts mark bits l.0.1 are life.1) y.1 in
       let inner = y.0.0.0 in
@@ -369,7 +420,8 @@ module _ (budget : ℕ) (within : Within) (sound : SoundWithin budget within) wh
       let led = life.0 (when mutable bits F) n y.0.1 (flag_leads mark bits l.0.1 are F n y.0.1 (y.0.1, s.0.1, refl)) in
       let spelled : Spells G n ts y.0.1 = (at, (at, o, refl), led) in
       same_some (Out (Held_at place) ts) ((ty.Ref l.0.0 mutable inner, suc n), y.0.1) (x, rest) y.2 (
-        type_held place budget (about_type (ty.Ref l.0.0 mutable inner)) G (good_at NoBounds told) told.told.refuses false n ts y.0.1
+        type_held place budget (about_type (ty.Ref l.0.0 mutable inner)) G (good_at NoBounds told)
+            told.told.refuses false n ts y.0.1
             (type_ref_is l.0.0 mutable inner) s.0.0 spelled s.0.2 s.0.3,
         s.1,
       )
@@ -384,7 +436,8 @@ module _ (budget : ℕ) (within : Within) (sound : SoundWithin budget within) wh
         | inr g ↦ elim (chosen (first (is_keyword (codes "const")) ts) _ _ _ g.1) [
           | inl f ↦
               let o = keyword_one (codes "const") ts f.0 in
-              same_some (Out P ts) (false, tail ts) (x, rest) f.1 (o, bit_texts (keyword (codes "const")) ts (tail ts) o t)
+              same_some (Out P ts) (false, tail ts) (x, rest) f.1
+              (o, bit_texts (keyword (codes "const")) ts (tail ts) o t)
           | inr f ↦ absurd (cc f.1)
         ]
       ]
@@ -403,34 +456,44 @@ module _ (budget : ℕ) (within : Within) (sound : SoundWithin budget within) wh
       let G : Form = Piece (punct char.star ∷ pointer_word m.0.0 ∷ Blank ∷ []) (Part told.told.form Done) in
       let spelled : Spells G n ts y.0.1 = (m.0.1, (at, o, (m.0.1, w.0, (m.0.1, refl, refl))), (y.0.1, s.0.1, refl)) in
       same_some (Out (Held_at place) ts) ((ty.Ptr m.0.0 inner, suc n), y.0.1) (x, rest) y.2 (
-        type_held place budget (about_type (ty.Ptr m.0.0 inner)) G (good_at NoBounds told) told.told.refuses false n ts y.0.1
+        type_held place budget (about_type (ty.Ptr m.0.0 inner)) G (good_at NoBounds told)
+            told.told.refuses false n ts y.0.1
             (type_ptr_is m.0.0 inner) s.0.0 spelled s.0.2 s.0.3,
         s.1,
       )
 
   -- ---- bounds
 
-  bounds_held : (place : TypePlace) (dynamic : Bool) (bs : List Bound × ℕ) (ts at rest : Tokens) → IsBit (bounds_word dynamic) ts at
+  bounds_held : (place : TypePlace) (dynamic : Bool) (bs : List Bound × ℕ) (ts at rest : Tokens)
+      → IsBit (bounds_word dynamic) ts at
       → PlacedHeld budget within sound place bs at rest → Held_at place (ty.Bounds dynamic bs.0, suc bs.1) ts rest
   bounds_held place dynamic bs ts at rest w k =
       let X = ty_facts (Ty-F.Bounds dynamic (map about_bound bs.0)) in
       let all = map about_bound bs.0 in
       let one = k.0 in
-      let spelled : Spells X.told.form (suc bs.1) ts rest = (rest, (at, (at, w, (at, refl, refl)), (rest, one.1, refl)), refl) in
+      let spelled : Spells X.told.form (suc bs.1) ts rest =
+      (rest, (at, (at, w, (at, refl, refl)), (rest, one.1, refl)), refl) in
       let there : (place : TypePlace) → placed place bs.0 rest ≡ true → IsType place (suc budget) X (suc bs.1) ts rest =
       λ q e. (omega (arith, one.0), spelled, fits_good q e, fits_follow q e) in
-      subst (λ (z : TypeFacts). IsType place (suc budget) z (suc bs.1) ts rest) (sym (type_bounds_is dynamic bs.0)) (there place k.1)
+      subst (λ (z : TypeFacts). IsType place (suc budget) z (suc bs.1) ts rest) (sym (type_bounds_is dynamic bs.0))
+      (there place k.1)
     where
-      fits_good : (q : TypePlace) → placed q bs.0 rest ≡ true → good_at q (ty_facts (Ty-F.Bounds dynamic (map about_bound bs.0))) ≡ true
+      fits_good : (q : TypePlace) → placed q bs.0 rest ≡ true
+          → good_at q (ty_facts (Ty-F.Bounds dynamic (map about_bound bs.0))) ≡ true
       fits_good Bounds e = k.0.2
-      fits_good NoBounds e = and_from (types.bounds_good (map about_bound bs.0)) (not (is_several (map about_bound bs.0))) k.0.2 e
+      fits_good NoBounds e =
+          and_from (types.bounds_good (map about_bound bs.0)) (not (is_several (map about_bound bs.0))) k.0.2 e
 
-      fits_follow : (q : TypePlace) → placed q bs.0 rest ≡ true → type_follows q (ty_facts (Ty-F.Bounds dynamic (map about_bound bs.0))) rest ≡ true
-      fits_follow Bounds e = and_from (not (is_op (codes "+") rest)) (may_follow (last_refuses (map about_bound bs.0)) rest) e k.0.3
+      fits_follow : (q : TypePlace) → placed q bs.0 rest ≡ true
+          → type_follows q (ty_facts (Ty-F.Bounds dynamic (map about_bound bs.0))) rest ≡ true
+      fits_follow Bounds e =
+          and_from (not (is_op (codes "+") rest)) (may_follow (last_refuses (map about_bound bs.0)) rest) e k.0.3
       fits_follow NoBounds e = k.0.3
 
-  bounds_type_sound : (place : TypePlace) (dynamic : Bool) (ts at : Tokens) → IsBit (bounds_word dynamic) ts at → InText at
-      → (x : Ty × ℕ) (rest : Tokens) → bounds_type within dynamic place at ≡ Some (x, rest) → Out (Held_at place) ts (x, rest)
+  bounds_type_sound : (place : TypePlace) (dynamic : Bool) (ts at : Tokens) → IsBit (bounds_word dynamic) ts at
+      → InText at
+      → (x : Ty × ℕ) (rest : Tokens) → bounds_type within dynamic place at ≡ Some (x, rest)
+      → Out (Held_at place) ts (x, rest)
   unfolding bounds_type
   bounds_type_sound place dynamic ts at w t x rest h =
       let bs = bind_some (bounds_by within place at) _ _ h in
@@ -440,7 +503,8 @@ module _ (budget : ℕ) (within : Within) (sound : SoundWithin budget within) wh
 
   -- ---- all kinds
 
-  pub type_sound : (place : TypePlace) (l : Option Lead) (ts : Tokens) → lead_at ts ≡ l → InText ts → (x : Ty × ℕ) (rest : Tokens)
+  pub type_sound : (place : TypePlace) (l : Option Lead) (ts : Tokens) → lead_at ts ≡ l → InText ts
+      → (x : Ty × ℕ) (rest : Tokens)
       → type_by within place l ts ≡ Some (x, rest) → Out (Held_at place) ts (x, rest)
   type_sound place None ts e t x rest h = absurd (cc)
   type_sound place (Some OfPath) ts e t x rest h = elim (chosen (begins_call ts) _ _ _ h) [
@@ -448,12 +512,14 @@ module _ (budget : ℕ) (within : Within) (sound : SoundWithin budget within) wh
     | inr g ↦ path_type_sound place ts x rest t g.1
   ]
   type_sound place (Some OfParen) ts e t x rest h =
-      let o = paren_first ts t (first_is OfParen ts e) in paren_type_sound place ts (tail ts) o (bit_texts (opener Paren) ts (tail ts) o t) x rest h
+      let o = paren_first ts t (first_is OfParen ts e) in
+      paren_type_sound place ts (tail ts) o (bit_texts (opener Paren) ts (tail ts) o t) x rest h
   type_sound place (Some OfNever) ts e t x rest h =
       let o = never_first ts (first_is OfNever ts e) in
       let spelled : Spells (piece (punct char.bang ∷ [])) 0 ts (tail ts) = (tail ts, (tail ts, o, refl), refl) in
       same_some (Out (Held_at place) ts) ((ty.Never, 1), tail ts) (x, rest) h (
-        shut_held place budget (about_type ty.Never) (piece (punct char.bang ∷ [])) true 0 ts (tail ts) type_never_is (omega arith) spelled refl,
+        shut_held place budget (about_type ty.Never) (piece (punct char.bang ∷ [])) true 0 ts (tail ts) type_never_is
+            (omega arith) spelled refl,
         bit_texts (punct char.bang) ts (tail ts) o t,
       )
   type_sound place (Some OfInfer) ts e t x rest h =
@@ -461,16 +527,19 @@ module _ (budget : ℕ) (within : Within) (sound : SoundWithin budget within) wh
       let bit = Fixed kind.Underscore (codes "_") in
       let spelled : Spells (piece (bit ∷ [])) 0 ts (tail ts) = (tail ts, (tail ts, o, refl), refl) in
       same_some (Out (Held_at place) ts) ((ty.Infer, 1), tail ts) (x, rest) h (
-        shut_held place budget (about_type ty.Infer) (piece (bit ∷ [])) true 0 ts (tail ts) type_infer_is (omega arith) spelled refl,
+        shut_held place budget (about_type ty.Infer) (piece (bit ∷ [])) true 0 ts (tail ts) type_infer_is (omega arith)
+            spelled refl,
         bit_texts bit ts (tail ts) o t,
       )
   type_sound place (Some OfPointer) ts e t x rest h =
-      let o = pointer_first ts (first_is OfPointer ts e) in pointer_sound place ts (tail ts) o (bit_texts (Fixed kind.Punct (codes "*")) ts (tail ts) o t) x rest h
+      let o = pointer_first ts (first_is OfPointer ts e) in
+      pointer_sound place ts (tail ts) o (bit_texts (Fixed kind.Punct (codes "*")) ts (tail ts) o t) x rest h
   type_sound place (Some OfReference) ts e t x rest h =
       let o = reference_first ts (first_is OfReference ts e) in
       reference_sound place ts (tail ts) o (bit_texts (Fixed kind.Punct (codes "&")) ts (tail ts) o t) x rest h
   type_sound place (Some OfBracket) ts e t x rest h =
-      let o = bracket_first ts t (first_is OfBracket ts e) in bracket_type_sound place ts (tail ts) o (bit_texts (opener Bracket) ts (tail ts) o t) x rest h
+      let o = bracket_first ts t (first_is OfBracket ts e) in
+      bracket_type_sound place ts (tail ts) o (bit_texts (opener Bracket) ts (tail ts) o t) x rest h
   type_sound place (Some OfImpl) ts e t x rest h =
       let o = impl_first ts (first_is OfImpl ts e) in
       bounds_type_sound place false ts (tail ts) o (bit_texts (bounds_word false) ts (tail ts) o t) x rest h

@@ -35,18 +35,20 @@ use Rattle.lay_tree.proofs.reader.GenericsSound.{MetHeld, met_sound}
 use Rattle.lay_tree.proofs.reader.TypesSound.{counted_sound, Deep, alone_sound}
 use Rattle.lay_tree.proofs.reader.TypesSoundOpen.{LastOpen, OpenBy, open_sound, open_held}
 use Rattle.lay_tree.proofs.reader.TypesSoundParts.{Out, bit_texts, operator_is, lifetime_sound, lifetimes_sound, binder_if_sound}
-use Rattle.lay_tree.proofs.reader.TypesSoundPaths.{SoundWithin}
+use Rattle.lay_tree.proofs.reader.TypesSoundLevel.{SoundWithin}
 
 -- ---- a binder before a function type
 
 -- A type that is spelled where no `for` stands has no binder.
-binds_not : (x : Ty) (n : ℕ) (ts rest : Tokens) → Spells (about_type x).told.form n ts rest → first (is_keyword (codes "for")) ts ≡ false → (about_type x).binds ≡ false
+binds_not : (x : Ty) (n : ℕ) (ts rest : Tokens) → Spells (about_type x).told.form n ts rest
+    → first (is_keyword (codes "for")) ts ≡ false → (about_type x).binds ≡ false
 binds_not x n ts rest s h = by x (type_view x) s
   where
     word_there : (us : Tokens) → IsOne kind.Ident (codes "for") ts us → first (is_keyword (codes "for")) ts ≡ true
     word_there us o = rw (one_front kind.Ident (codes "for") ts us o).1 refl
 
-    binder_there : (b : Binder) (f : Form) (n : ℕ) → Spells (types.deeper (binder_form (Some b) f)) n ts rest → first (is_keyword (codes "for")) ts ≡ true
+    binder_there : (b : Binder) (f : Form) (n : ℕ) → Spells (types.deeper (binder_form (Some b) f)) n ts rest
+        → first (is_keyword (codes "for")) ts ≡ true
     binder_there b f zero s = absurd s
     binder_there b f (suc k) s =
         let piece = s.1 in
@@ -70,7 +72,8 @@ binds_not x n ts rest s h = by x (type_view x) s
         let f = subst (λ (z : types.TypeFacts). Spells z.told.form n ts rest) (type_func_is (Some b) u a ps v o) s in
         let there = binder_there b
         (when u (keyword (codes "unsafe") ∷ Blank ∷ []) (abi_form a
-        (Piece (keyword (codes "fn") ∷ []) (Part (params_form (map about_func_param ps) v) (output_form (option_map about_type o)))))) n f in
+        (Piece (keyword (codes "fn") ∷ []) (Part (params_form (map about_func_param ps) v)
+        (output_form (option_map about_type o)))))) n f in
         absurd (cc)
 
 -- ---- predicates
@@ -78,14 +81,17 @@ binds_not x n ts rest s h = by x (type_view x) s
 -- A predicate stands there, within the budget.
 abbrev PredicateHeld : ℕ → Predicate × ℕ → Tokens → Tokens → Type 0
 PredicateHeld budget x ts rest =
-    (x.1 ≤ budget) × Spells (predicate_form x.0) x.1 ts rest × (is_predicate x.0 ≡ true) × (predicate_follow x.0 rest ≡ true)
+    (x.1 ≤ budget) × Spells (predicate_form x.0)
+    x.1 ts rest × (is_predicate x.0 ≡ true) × (predicate_follow x.0 rest ≡ true)
 
-outlives_spelled : (ls : List Lifetime) (depth : ℕ) (ts at rest : Tokens) → IsOperator (codes ":") ts at → Spells (lifetimes_form ls) depth at rest
+outlives_spelled : (ls : List Lifetime) (depth : ℕ) (ts at rest : Tokens) → IsOperator (codes ":") ts at
+    → Spells (lifetimes_form ls) depth at rest
     → Spells (outlives_form ls) depth ts rest
 outlives_spelled [] depth ts at rest o s = (at, (at, o, refl), s)
 outlives_spelled (l ∷ ls) depth ts at rest o s = (at, (at, o, (at, refl, refl)), s)
 
-meets_spelled : (budget : ℕ) (bs : List Bound) (n : ℕ) (ts at rest : Tokens) → IsOperator (codes ":") ts at → MetHeld budget (bs, n) at rest
+meets_spelled : (budget : ℕ) (bs : List Bound) (n : ℕ) (ts at rest : Tokens) → IsOperator (codes ":") ts at
+    → MetHeld budget (bs, n) at rest
     → Spells (meets_form bs) n ts rest
 meets_spelled budget [] n ts at rest o k = (at, (at, o, refl), k.1)
 meets_spelled budget (b ∷ bs) n ts at rest o k = (at, (at, o, (at, refl, refl)), (rest, k.1, refl))
@@ -107,10 +113,12 @@ wheres_form x = wheres_spelled x.1 (map predicate_form x.0.predicates)
 
 -- What holds of a where clause that is spelled with its last part or without it, and of what follows it.
 abbrev GoodWheres : Wheres × Bool → Tokens → Type 0
-GoodWheres x rest = (are_predicates x.0 ≡ true) × (last_follows x.1 (begins_last_part x.0.predicates) begins_predicate rest ≡ true)
+GoodWheres x rest =
+    (are_predicates x.0 ≡ true) × (last_follows x.1 (begins_last_part x.0.predicates) begins_predicate rest ≡ true)
 
 module _ (budget : ℕ) (within : Within) (sound : SoundWithin budget within) where
-  lifetime_predicate_sound : (ts : Tokens) (x : Predicate) (rest : Tokens) → InText ts → lifetime_predicate ts ≡ Some (x, rest)
+  lifetime_predicate_sound : (ts : Tokens) (x : Predicate) (rest : Tokens) → InText ts
+      → lifetime_predicate ts ≡ Some (x, rest)
       → Out (PredicateHeld budget) ts ((x, 0), rest)
   unfolding lifetime_predicate
   lifetime_predicate_sound ts x rest t h =
@@ -120,11 +128,13 @@ module _ (budget : ℕ) (within : Within) (sound : SoundWithin budget within) wh
       let s = lifetime_sound ts l.0.0 l.0.1 t l.1 in
       let o = operator_is (codes ":") l.0.1 c.0 c.1 in
       let k = lifetimes_sound c.0 ls.0.0 ls.0.1 (bit_texts (Operator (codes ":")) l.0.1 c.0 o s.1) ls.1 in
-      same_some (λ (r : Predicate × Tokens). Out (PredicateHeld budget) ts ((r.0, 0), r.1)) (predicate.Region l.0.0 ls.0.0, ls.0.1) (x, rest) ls.2
+      same_some (λ (r : Predicate × Tokens). Out (PredicateHeld budget) ts ((r.0, 0), r.1))
+      (predicate.Region l.0.0 ls.0.0, ls.0.1) (x, rest) ls.2
       ((omega arith, (l.0.1, (l.0.1, s.0, refl), outlives_spelled ls.0.0 0 l.0.1 c.0 ls.0.1 o k.0.0), refl, k.0.1), k.1)
 
   -- A binder before a function type is the predicate's own.
-  binder_own : (ts : Tokens) (b : Option Binder) (mid : Tokens) (y : Ty) (n : ℕ) (rest : Tokens) → binder_if ts ≡ Some (b, mid)
+  binder_own : (ts : Tokens) (b : Option Binder) (mid : Tokens) (y : Ty) (n : ℕ) (rest : Tokens)
+      → binder_if ts ≡ Some (b, mid)
       → Spells (about_type y).told.form n mid rest → (is_some b || not (about_type y).binds) ≡ true
   binder_own ts b mid y n rest h s = elim (binder_left ts b mid h) [
     | inl e ↦ or_true (is_some b) (not (about_type y).binds) e
@@ -159,10 +169,12 @@ module _ (budget : ℕ) (within : Within) (sound : SoundWithin budget within) wh
       let inner : Spells F most b.0.1 bs.0.1 = (
         y.0.1,
         raise told.told.form y.0.0.1 most b.0.1 y.0.1 (omega arith) s.0.1,
-        raise (meets_form bounds) bs.0.0.1 most y.0.1 bs.0.1 (omega arith) (meets_spelled budget bounds bs.0.0.1 y.0.1 c.0 bs.0.1 o k.0),
+        raise (meets_form bounds) bs.0.0.1 most y.0.1 bs.0.1 (omega arith)
+            (meets_spelled budget bounds bs.0.0.1 y.0.1 c.0 bs.0.1 o k.0),
       ) in
       let own = binder_own ts b.0.0 b.0.1 y.0.0.0 y.0.0.1 y.0.1 b.1 s.0.1 in
-      let good = and_from (is_binder b.0.0 && good_at Bounds told && (is_some b.0.0 || not told.binds)) (are_bounds bounds)
+      let good = and_from (is_binder b.0.0 && good_at Bounds told && (is_some b.0.0 || not told.binds))
+      (are_bounds bounds)
       (and_from (is_binder b.0.0 && good_at Bounds told) (is_some b.0.0 || not told.binds)
       (and_from (is_binder b.0.0) (good_at Bounds told) bound.0.1 s.0.2) own) k.0.2 in
       same_some (Out (PredicateHeld budget) ts) ((predicate.Bounded b.0.0 y.0.0.0 bounds, most), bs.0.1) (x, rest) bs.2
@@ -172,13 +184,15 @@ module _ (budget : ℕ) (within : Within) (sound : SoundWithin budget within) wh
   predicate_sound ts x rest t h = elim (chosen (first is_lifetime ts) _ _ _ h) [
     | inl g ↦
         let p = bind_some (lifetime_predicate ts) _ _ g.1 in
-        same_some (Out (PredicateHeld budget) ts) ((p.0.0, 0), p.0.1) (x, rest) p.2 (lifetime_predicate_sound ts p.0.0 p.0.1 t p.1)
+        same_some (Out (PredicateHeld budget) ts) ((p.0.0, 0), p.0.1) (x, rest) p.2
+        (lifetime_predicate_sound ts p.0.0 p.0.1 t p.1)
     | inr g ↦ type_predicate_sound ts x rest t g.1
   ]
 
   -- ---- a where clause
 
-  last_held : (p : Predicate × ℕ) (ps : List (Predicate × ℕ)) (ts at rest : Tokens) → PredicateHeld budget p ts at → Rows (Further (PredicateHeld budget)) ps at rest
+  last_held : (p : Predicate × ℕ) (ps : List (Predicate × ℕ)) (ts at rest : Tokens) → PredicateHeld budget p ts at
+      → Rows (Further (PredicateHeld budget)) ps at rest
       → last_predicate_follow (nodes (p ∷ ps)) rest ≡ true
   last_held p [] ts at rest k r = subst (λ us. predicate_follow p.0 us ≡ true) r k.3
   last_held p (q ∷ qs) ts at rest k r = let row = r.1 in last_held q qs row.0 r.0 rest row.2 r.2
@@ -186,19 +200,23 @@ module _ (budget : ℕ) (within : Within) (sound : SoundWithin budget within) wh
   nothing_more : (a b : Bool) → a ≡ false → b ≡ true → not (a || not b) ≡ true
   nothing_more a b x y = rw (x, y) refl
 
-  comma_spelled : (last : Bool) (depth : ℕ) (ts rest : Tokens) → LastOpen begins_predicate last ts rest → Spells (when last comma Done) depth ts rest
+  comma_spelled : (last : Bool) (depth : ℕ) (ts rest : Tokens) → LastOpen begins_predicate last ts rest
+      → Spells (when last comma Done) depth ts rest
   comma_spelled true depth ts rest l = (rest, (rest, l.0, refl), refl)
   comma_spelled false depth ts rest l = l.0
 
-  follows_last : (last : Bool) (p : Predicate) (ps : List Predicate) (mid rest : Tokens) → LastOpen begins_predicate last mid rest
-      → last_predicate_follow (p ∷ ps) mid ≡ true → last_follows last (begins_last_part (p ∷ ps)) begins_predicate rest ≡ true
+  follows_last : (last : Bool) (p : Predicate) (ps : List Predicate) (mid rest : Tokens)
+      → LastOpen begins_predicate last mid rest
+      → last_predicate_follow (p ∷ ps) mid ≡ true
+      → last_follows last (begins_last_part (p ∷ ps)) begins_predicate rest ≡ true
   follows_last true p ps mid rest l f = ap not l.1
   follows_last false p ps mid rest l f =
       nothing_more (first (is_mark (codes ",")) rest) (last_predicate_follow (p ∷ ps) rest) l.1
       (subst (λ us. last_predicate_follow (p ∷ ps) us ≡ true) l.0 f)
 
   wheres_held : (ps : List (Predicate × ℕ)) (last : Bool) (ts at rest : Tokens) → IsOne kind.Ident (codes "where") ts at
-      → OpenBy begins_predicate (PredicateHeld budget) ps last at rest → Deep wheres_form GoodWheres budget ((record { predicates = nodes ps }, last), deepest ps) ts rest
+      → OpenBy begins_predicate (PredicateHeld budget) ps last at rest
+      → Deep wheres_form GoodWheres budget ((record { predicates = nodes ps }, last), deepest ps) ts rest
   wheres_held [] last ts at rest w r =
       let spelled : Spells (wheres_spelled true []) 0 ts rest = (at, (at, w, refl), r.1) in
       let good : GoodWheres (record { predicates = [] }, true) rest = (refl, ap not r.2) in (
@@ -207,7 +225,8 @@ module _ (budget : ℕ) (within : Within) (sound : SoundWithin budget within) wh
         subst (λ b. GoodWheres (record { predicates = [] }, b) rest) (sym r.0) good,
       )
   wheres_held (p ∷ ps) last ts at rest w r =
-      let k = open_held begins_predicate budget predicate_form is_predicate (PredicateHeld budget) (λ q us mid s. (s.0, s.1, s.2)) (p ∷ ps) last at rest r in
+      let k = open_held begins_predicate budget predicate_form is_predicate (PredicateHeld budget)
+      (λ q us mid s. (s.0, s.1, s.2)) (p ∷ ps) last at rest r in
       let depth = deepest (p ∷ ps) in
       let one = k.0 in
       let behind = one.2 in
@@ -217,7 +236,19 @@ module _ (budget : ℕ) (within : Within) (sound : SoundWithin budget within) wh
         k.1,
         (
           rest,
-          (at, (at, w, refl), (one.0, one.1, (behind.0, each_comma_spelled forms depth one.0 behind.0 rows, comma_spelled last depth behind.0 rest behind.2))),
+          (
+            at,
+            (at, w, refl),
+            (
+              one.0,
+              one.1,
+              (
+                behind.0,
+                each_comma_spelled forms depth one.0 behind.0 rows,
+                comma_spelled last depth behind.0 rest behind.2,
+              ),
+            ),
+          ),
           refl,
         ),
         (k.2, follows_last last p.0 (nodes ps) end.0 rest end.2 (last_held p ps at r.0 end.0 r.1 end.1)),
@@ -231,26 +262,31 @@ module _ (budget : ℕ) (within : Within) (sound : SoundWithin budget within) wh
         | inl g ↦
             let ps = bind_some (open_elements begins_predicate (one_predicate within) (tail ts)) _ _ g.1 in
             let w = keyword_one (codes "where") ts g.0 in
-            let r = open_sound begins_predicate (one_predicate within) (PredicateHeld budget) (λ us p end i b e. predicate_sound us p end i e)
+            let r = open_sound begins_predicate (one_predicate within) (PredicateHeld budget)
+            (λ us p end i b e. predicate_sound us p end i e)
             (tail ts) ps.0.0.0 ps.0.0.1 ps.0.1 (bit_texts (keyword (codes "where")) ts (tail ts) w t) ps.1 in
-            same_some (Out P ts) (((record { predicates = nodes ps.0.0.0 }, ps.0.0.1), deepest ps.0.0.0), ps.0.1) (x, rest) ps.2
+            same_some (Out P ts) (((record { predicates = nodes ps.0.0.0 }, ps.0.0.1), deepest ps.0.0.0), ps.0.1)
+            (x, rest) ps.2
             (wheres_held ps.0.0.0 ps.0.0.1 ts (tail ts) ps.0.1 w r.0, r.1)
         | inr g ↦
-            same_some (Out P ts) (((record { predicates = [] }, false), 0), ts) (x, rest) g.1 ((omega arith, refl, (refl, ap not g.0)), t)
+            same_some (Out P ts) (((record { predicates = [] }, false), 0), ts) (x, rest) g.1
+            ((omega arith, refl, (refl, ap not g.0)), t)
       ]
 
 -- A where clause that is read stands there, spelled as the flag says.
 abbrev pub WheresAlone : ℕ → (Wheres × Bool) × ℕ → Tokens → Tokens → Type 0
 WheresAlone budget x ts rest =
     (x.1 ≤ budget) × Spells (types.deeper (wheres_spelled x.0.1 (map predicate_form x.0.0.predicates))) x.1 ts rest
-    × (are_predicates x.0.0 ≡ true) × (last_follows x.0.1 (begins_last_part x.0.0.predicates) begins_predicate rest ≡ true)
+    × (are_predicates x.0.0 ≡ true)
+    × (last_follows x.0.1 (begins_last_part x.0.0.predicates) begins_predicate rest ≡ true)
 
 pub wheres_at_sound : (budget : ℕ) → SoundStep (wheres_at budget) (WheresAlone budget)
 wheres_at_sound budget ts x rest t h =
     let s = alone_sound wheres_form GoodWheres wheres wheres_sound budget ts x rest t h in
     let k = s.0 in ((k.0, k.1, k.2.0, k.2.1), s.1)
 
-pub wheres_stand : (budget : ℕ) (ts : Tokens) (x : Wheres × Bool) (need : ℕ) (rest : Tokens) → InText ts → wheres_at budget ts ≡ Some ((x, need), rest)
+pub wheres_stand : (budget : ℕ) (ts : Tokens) (x : Wheres × Bool) (need : ℕ) (rest : Tokens) → InText ts
+    → wheres_at budget ts ≡ Some ((x, need), rest)
     → (n : ℕ) × (drop n ts ≡ rest) × (need ≤ budget) × WheresAt x.1 x.0 ts n need
 wheres_stand =
     counted_sound (λ (x : Wheres × Bool). types.deeper (wheres_form x)) (λ x. are_predicates x.0)
