@@ -220,7 +220,7 @@ lone_text c t ts h = by (first_op operators (t ∷ ts)) (no_first c operators (t
     by None n h = lone (is_punct t.kind) h
     by (Some op) n h = absurd (cc)
 
-first_there : (ops : List (List ℕ)) (ts : Tokens) (op : List ℕ) → first_op ops ts ≡ Some op → begins_op op ts ≡ true
+pub first_there : (ops : List (List ℕ)) (ts : Tokens) (op : List ℕ) → first_op ops ts ≡ Some op → begins_op op ts ≡ true
 first_there [] ts op h = absurd (cc)
 first_there (o ∷ ops) ts op h = elim (chosen (begins_op o ts) (Some o) (first_op ops ts) (Some op) h) [
   | inl g ↦ let e : o ≡ op = cc g.1 in subst (λ z. begins_op z ts ≡ true) e g.0

@@ -23,3 +23,4 @@ pub mod WheresSound
 pub mod Item
 pub mod ItemRead
 pub mod File
+pub mod TypesFronts
