@@ -24,3 +24,5 @@ pub mod Item
 pub mod ItemRead
 pub mod File
 pub mod TypesFronts
+pub mod TypesBegins
+pub mod TypesLists

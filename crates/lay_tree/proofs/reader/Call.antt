@@ -50,7 +50,7 @@ bang_bits Paren ts rest o = (rest, o, refl)
 bang_bits Bracket ts rest o = (rest, o, refl)
 bang_bits Brace ts rest o = (rest, o, (rest, refl, refl))
 
-bang_operator : (d : Delim) (ts rest : Tokens) → AreBits (bang d) ts rest → IsOperator (codes "!") ts rest
+pub bang_operator : (d : Delim) (ts rest : Tokens) → AreBits (bang d) ts rest → IsOperator (codes "!") ts rest
 bang_operator Paren ts rest s = bit_alone (Operator (codes "!")) ts rest s
 bang_operator Bracket ts rest s = bit_alone (Operator (codes "!")) ts rest s
 bang_operator Brace ts rest s = before_blank (Operator (codes "!")) ts rest s
