@@ -26,3 +26,4 @@ pub mod File
 pub mod TypesFronts
 pub mod TypesBegins
 pub mod TypesLists
+pub mod TypesCompleteParts

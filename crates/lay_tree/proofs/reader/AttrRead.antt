@@ -332,7 +332,7 @@ comment_begins : (inner : Bool) (value : List ℕ) (ts rest : Tokens) → IsComm
 comment_begins false value ts rest c = rw (comment_front false value ts rest c).2 refl
 comment_begins true value ts rest c = rw (comment_front true value ts rest c).2 refl
 
-attr_begins : (inner : Bool) (a : Attr) (depth : ℕ) (ts rest : Tokens) → GoodAt (about_attr inner) depth a ts rest → begins_attr inner ts ≡ true
+pub attr_begins : (inner : Bool) (a : Attr) (depth : ℕ) (ts rest : Tokens) → GoodAt (about_attr inner) depth a ts rest → begins_attr inner ts ≡ true
 attr_begins inner a depth ts rest s = elim (attr_front inner a depth ts rest s) [
   | inl c ↦ comment_begins inner c.0 ts rest c.1
   | inr o ↦ opening_begins inner ts o.0 o.1

@@ -60,8 +60,15 @@ greater_closes ts rest o =
 comma_passed : (ends : Token → Bool) (ts rest : Tokens) → IsOne Punct (codes ",") ts rest → element_end ends ts ≡ Some rest
 comma_passed ends ts rest o = rw (one_front Punct (codes ",") ts rest o).1 refl
 
-module _ {A : Type 0} (close : Bit) (ends : Token → Bool) (closed : ClosedBy close ends) (read : Tokens → Read A) (spelling : A → Form) (good : A → Bool)
-    (depth : ℕ) (reads : (x : A) (ts rest : Tokens) → Spells (spelling x) depth ts rest → good x ≡ true → Ends rest → IsRead depth read x ts rest)
+-- what was read of each part
+abbrev pub Each : {A B : Type 0} → (A → B → Type 0) → List A → List B → Type 0
+Each Is [] [] = Unit {0}
+Each Is (x ∷ xs) (y ∷ ys) = Is x y × Each Is xs ys
+Each Is _ _ = ⊥
+
+module _ {A B : Type 0} (Is : A → B → Type 0) (close : Bit) (ends : Token → Bool) (closed : ClosedBy close ends) (read : Tokens → Got B) (spelling : A → Form)
+    (good : A → Bool) (depth : ℕ)
+    (reads : (x : A) (ts rest : Tokens) → Spells (spelling x) depth ts rest → good x ≡ true → Ends rest → (y : B) × Is x y × (read ts ≡ Some (y, rest)))
     (begins : (x : A) (ts rest : Tokens) → Spells (spelling x) depth ts rest → good x ≡ true → (first ends ts ≡ false) × (length rest < length ts)) where
   -- a comma or none, and what closes the list
   abbrev pub Last : Tokens → Tokens → Type 0
@@ -83,14 +90,14 @@ module _ {A : Type 0} (close : Bit) (ends : Token → Bool) (closed : ClosedBy c
     | inr b ↦ omega (arith, le, (closed last.0 rest last.2).less, one_shorter Punct (codes ",") end last.0 (bit_alone (Fixed Punct (codes ",")) end last.0 b))
   ]
 
-  abbrev ReadOn : ℕ → List (A × ℕ) → List A → Tokens → Tokens → Type 0
-  ReadOn n found xs ts rest = (ys : List (A × ℕ)) × (nodes ys ≡ xs) × (deepest ys ≤ depth) × (elements_from ends read n found ts ≡ Some (found ++ ys, rest))
+  abbrev ReadOn : ℕ → List B → List A → Tokens → Tokens → Type 0
+  ReadOn n found xs ts rest = (ys : List B) × Each Is xs ys × (elements_from ends read n found ts ≡ Some (found ++ ys, rest))
 
-  closed_read : (n : ℕ) (found : List (A × ℕ)) (ts rest : Tokens) → IsBit close ts rest → ReadOn (suc n) found [] ts rest
+  closed_read : (n : ℕ) (found : List B) (ts rest : Tokens) → IsBit close ts rest → ReadOn (suc n) found [] ts rest
   unfolding elements_from
-  closed_read n found ts rest o = let c = closed ts rest o in ([], refl, omega arith, rw (c.there, c.left, append-nil found) refl)
+  closed_read n found ts rest o = let c = closed ts rest o in ([], tt, rw (c.there, c.left, append-nil found) refl)
 
-  further_read : (xs : List A) (n : ℕ) (found : List (A × ℕ)) (ts end rest : Tokens) → length ts ≤ n → list_all good xs ≡ true
+  further_read : (xs : List A) (n : ℕ) (found : List B) (ts end rest : Tokens) → length ts ≤ n → list_all good xs ≡ true
       → Further xs ts end → Last end rest → (behind : Tokens) × (element_end ends ts ≡ Some behind) × ReadOn n found xs behind rest
   unfolding elements_from
   further_read xs zero found ts end rest le g s last =
@@ -108,51 +115,98 @@ module _ {A : Type 0} (close : Bit) (ends : Token → Bool) (closed : ClosedBy c
       let b = begins x s.0 part.0 part.1 goods.0 in
       let less : length part.0 ≤ n = omega (arith, le, one_shorter Punct (codes ",") ts s.0 here, b.1) in
       let r = reads x s.0 part.0 part.1 goods.0 (further_ends xs part.0 end rest part.2 last) in
-      let more = further_read xs n (found ++ (x, r.0) ∷ []) part.0 end rest less goods.1 part.2 last in
+      let more = further_read xs n (found ++ r.0 ∷ []) part.0 end rest less goods.1 part.2 last in
       let go = more.2 in (
         s.0,
         comma_passed ends ts s.0 here,
         (
-          (x, r.0) ∷ go.0,
-          ap (λ l. x ∷ l) go.1,
-          omega (arith, r.1, go.2),
-          rw (b.0, r.2, more.1, go.3, append_assoc found ((x, r.0) ∷ []) go.0) refl,
+          r.0 ∷ go.0,
+          (r.1, go.1),
+          rw (b.0, r.2, more.1, go.2, append_assoc found (r.0 ∷ []) go.0) refl,
         ),
       )
 
-  abbrev pub ElementsRead : List A → Tokens → Tokens → Type 0
-  ElementsRead xs ts rest = (ys : List (A × ℕ)) × (nodes ys ≡ xs) × (deepest ys ≤ depth) × (elements ends read ts ≡ Some (ys, rest))
+  abbrev pub EachRead : List A → Tokens → Tokens → Type 0
+  EachRead xs ts rest = (ys : List B) × Each Is xs ys × (elements ends read ts ≡ Some (ys, rest))
 
   -- elements, what stands behind each, and what closes them
-  pub some_read : (x : A) (xs : List A) (ts mid end rest : Tokens) → list_all good (x ∷ xs) ≡ true → Spells (spelling x) depth ts mid
-      → Further xs mid end → Last end rest → ElementsRead (x ∷ xs) ts rest
+  pub each_some_read : (x : A) (xs : List A) (ts mid end rest : Tokens) → list_all good (x ∷ xs) ≡ true → Spells (spelling x) depth ts mid
+      → Further xs mid end → Last end rest → EachRead (x ∷ xs) ts rest
   unfolding elements elements_from
-  some_read x xs ts mid end rest g one s last =
+  each_some_read x xs ts mid end rest g one s last =
       let goods = and_parts (good x) (list_all good xs) g in
       let b = begins x ts mid one goods.0 in
       let r = reads x ts mid one goods.0 (further_ends xs mid end rest s last) in
       let less : length mid ≤ length ts = omega (arith, b.1) in
-      let more = further_read xs (length ts) ((x, r.0) ∷ []) mid end rest less goods.1 s last in
+      let more = further_read xs (length ts) (r.0 ∷ []) mid end rest less goods.1 s last in
       let go = more.2 in
-      ((x, r.0) ∷ go.0, ap (λ l. x ∷ l) go.1, omega (arith, r.1, go.2), rw (b.0, r.2, more.1, go.3) refl)
+      (r.0 ∷ go.0, (r.1, go.1), rw (b.0, r.2, more.1, go.2) refl)
 
-  pub none_read : (ts rest : Tokens) → IsBit close ts rest → ElementsRead [] ts rest
+  pub each_none_read : (ts rest : Tokens) → IsBit close ts rest → EachRead [] ts rest
   unfolding elements
-  none_read ts rest o = closed_read (length ts) [] ts rest o
+  each_none_read ts rest o = closed_read (length ts) [] ts rest o
 
-  pub list_read : (o : Bit) (xs : List A) (ts rest : Tokens) → list_all good xs ≡ true → Spells (comma_list true o close (map spelling xs)) depth ts rest
-      → (inside : Tokens) × IsBit o ts inside × ElementsRead xs inside rest
-  list_read o [] ts rest g s =
+  pub each_list_read : (o : Bit) (xs : List A) (ts rest : Tokens) → list_all good xs ≡ true → Spells (comma_list true o close (map spelling xs)) depth ts rest
+      → (inside : Tokens) × IsBit o ts inside × EachRead xs inside rest
+  each_list_read o [] ts rest g s =
       let inside = s.1.0 in
       let here : IsBit close inside rest = subst (λ us. IsBit close inside us) s.2 (bit_alone close inside s.0 s.1.2) in
-      (inside, s.1.1, none_read inside rest here)
-  list_read o (x ∷ xs) ts rest g s =
+      (inside, s.1.1, each_none_read inside rest here)
+  each_list_read o (x ∷ xs) ts rest g s =
       let inside = s.1.0 in
       let row = s.1.2 in
       let more = row.2 in
       let last = more.2 in
       let here : IsBit close last.0 rest = subst (λ us. IsBit close last.0 us) s.2 (piece_bit close depth last.0 s.0 last.2) in
-      (inside, bit_alone o ts inside s.1.1, some_read x xs inside row.0 more.0 rest g row.1 more.1 (last.0, last.1, here))
+      (inside, bit_alone o ts inside s.1.1, each_some_read x xs inside row.0 more.0 rest g row.1 more.1 (last.0, last.1, here))
+
+-- parts that are themselves what is read
+pub each_same : {A : Type 0} (xs ys : List A) → Each (λ x y. y ≡ x) xs ys → ys ≡ xs
+each_same [] [] e = refl
+each_same [] (y ∷ ys) e = absurd e
+each_same (x ∷ xs) [] e = absurd e
+each_same (x ∷ xs) (y ∷ ys) e = ap (λ z. z ∷ ys) e.0 ∙ ap (λ zs. x ∷ zs) (each_same xs ys e.1)
+
+-- a node, read with its need
+abbrev pub WithNeed : {A : Type 0} → ℕ → A → A × ℕ → Type 0
+WithNeed depth x y = (y.0 ≡ x) × (y.1 ≤ depth)
+
+pub each_node : {A : Type 0} (depth : ℕ) (xs : List A) (ys : List (A × ℕ)) → Each (WithNeed depth) xs ys → (nodes ys ≡ xs) × (deepest ys ≤ depth)
+each_node depth [] [] e = (refl, omega arith)
+each_node depth [] (y ∷ ys) e = absurd e
+each_node depth (x ∷ xs) [] e = absurd e
+each_node depth (x ∷ xs) (y ∷ ys) e =
+    let more = each_node depth xs ys e.1 in
+    (ap (λ z. z ∷ nodes ys) e.0.0 ∙ ap (λ zs. x ∷ zs) more.0, omega (arith, e.0.1, more.1))
+
+module _ {A : Type 0} (close : Bit) (ends : Token → Bool) (closed : ClosedBy close ends) (read : Tokens → Read A) (spelling : A → Form) (good : A → Bool)
+    (depth : ℕ) (reads : (x : A) (ts rest : Tokens) → Spells (spelling x) depth ts rest → good x ≡ true → Ends rest → IsRead depth read x ts rest)
+    (begins : (x : A) (ts rest : Tokens) → Spells (spelling x) depth ts rest → good x ≡ true → (first ends ts ≡ false) × (length rest < length ts)) where
+  node_read : (x : A) (ts rest : Tokens) → Spells (spelling x) depth ts rest → good x ≡ true → Ends rest
+      → (y : A × ℕ) × WithNeed depth x y × (read ts ≡ Some (y, rest))
+  node_read x ts rest s g e = let r = reads x ts rest s g e in ((x, r.0), (refl, r.1), r.2)
+
+  abbrev pub ElementsRead : List A → Tokens → Tokens → Type 0
+  ElementsRead xs ts rest = (ys : List (A × ℕ)) × (nodes ys ≡ xs) × (deepest ys ≤ depth) × (elements ends read ts ≡ Some (ys, rest))
+
+  elements_read : (xs : List A) (ts rest : Tokens) → (ys : List (A × ℕ)) × Each (WithNeed depth) xs ys × (elements ends read ts ≡ Some (ys, rest)) → ElementsRead xs ts rest
+  elements_read xs ts rest e = let n = each_node depth xs e.0 e.1 in (e.0, n.0, n.1, e.2)
+
+  pub some_read : (x : A) (xs : List A) (ts mid end rest : Tokens) → list_all good (x ∷ xs) ≡ true → Spells (spelling x) depth ts mid
+      → Spells (each comma_gap (map spelling xs)) depth mid end → (last : Tokens) × MayBe comma end last × IsBit close last rest → ElementsRead (x ∷ xs) ts rest
+  some_read x xs ts mid end rest g one s last =
+      elements_read (x ∷ xs) ts rest
+      (each_some_read (WithNeed depth) close ends closed read spelling good depth node_read begins x xs ts mid end rest g one s last)
+
+  pub none_read : (ts rest : Tokens) → IsBit close ts rest → ElementsRead [] ts rest
+  none_read ts rest o =
+      elements_read [] ts rest (each_none_read (WithNeed depth) close ends closed read spelling good depth node_read begins ts rest o)
+
+  pub list_read : (o : Bit) (xs : List A) (ts rest : Tokens) → list_all good xs ≡ true → Spells (comma_list true o close (map spelling xs)) depth ts rest
+      → (inside : Tokens) × IsBit o ts inside × ElementsRead xs inside rest
+  list_read o xs ts rest g s =
+      let l = each_list_read (WithNeed depth) close ends closed read spelling good depth node_read begins o xs ts rest g s in
+      (l.0, l.1, elements_read xs l.0 rest l.2)
 
 -- ---- elements that nothing closes
 

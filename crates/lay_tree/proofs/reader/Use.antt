@@ -164,7 +164,7 @@ use_sound (suc budget) ts tree need rest t h = use_by_sound budget (use_at budge
 
 -- ---- another name, spelled
 
-given_name_complete : (n : Name) (ts rest : Tokens) → GoodName n ts rest → given_name ts ≡ Some (given.Name n, rest)
+pub given_name_complete : (n : Name) (ts rest : Tokens) → GoodName n ts rest → given_name ts ≡ Some (given.Name n, rest)
 unfolding given_name
 given_name_complete n ts rest g = at n.raw n.text g.1 g.0
   where
@@ -173,7 +173,7 @@ given_name_complete n ts rest g = at n.raw n.text g.1 g.0
     at true text g o = rw (one_front RawIdent text ts rest o).1 refl
     at false text g o = rw ((one_front Ident text ts rest o).1, g) refl
 
-underscore_complete : (ts rest : Tokens) → IsOne Underscore (codes "_") ts rest → given_name ts ≡ Some (given.Underscore, rest)
+pub underscore_complete : (ts rest : Tokens) → IsOne Underscore (codes "_") ts rest → given_name ts ≡ Some (given.Underscore, rest)
 unfolding given_name
 underscore_complete ts rest o = rw (one_front Underscore (codes "_") ts rest o).1 refl
 
