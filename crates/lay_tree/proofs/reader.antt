@@ -27,3 +27,4 @@ pub mod TypesFronts
 pub mod TypesBegins
 pub mod TypesLists
 pub mod TypesCompleteParts
+pub mod TypesComplete
