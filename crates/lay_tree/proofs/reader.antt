@@ -28,3 +28,4 @@ pub mod TypesBegins
 pub mod TypesLists
 pub mod TypesCompleteParts
 pub mod TypesComplete
+pub mod TypesCompletePaths

@@ -1,11 +1,12 @@
 -- Generic arguments, paths and bounds: what is spelled is read, where what is one level deeper is read.
-use Rattle.std.proofs.Common.{◌≡◌, ℕ, suc, ◌≤◌, ◌<◌, max, Bool, true, false, not, ◌&&◌, ◌||◌, List, [], ◌∷◌, map, length, drop, codes, Option, option_map, Some, None, inl, inr, refl, sym, ap, subst, ◌∙◌, arith}
+use Rattle.std.proofs.Common.{◌≡◌, ℕ, zero, suc, ◌≤◌, ◌<◌, max, Bool, true, false, not, ◌&&◌, ◌||◌, List, [], ◌∷◌, map, length, drop, codes, Option, option_map, Some, None, inl, inr, refl, sym, ap, subst, ◌∙◌, arith}
 use Rattle.std.specs.List.{list_all}
 use Rattle.std.proofs.lemmas.Bool.{and_parts, and_from, not-true}
 use Rattle.std.proofs.lemmas.List.Folds.{list_all-map}
 use Rattle.lay_piece.specs.Forms.{opening, closing}
 use Rattle.lay_piece.specs.Word.{class_of}
 use Rattle.lay_piece.specs.declared.kind.Delim.TheVariants.{Paren}
+use Rattle.lay_piece.specs.declared.kind.Kind.TheVariants as kind
 use Rattle.lay_piece.specs.declared.kind.Kind.TheVariants.{Ident, Punct, Opener}
 use Rattle.lay_piece.specs.declared.word.Class.{Class}
 use Rattle.lay_piece.specs.declared.word.Class.TheVariants.{Plain, PathWord}
@@ -17,7 +18,7 @@ use Rattle.lay_form.proofs.FormLaws.{shorter}
 use Rattle.lay_tree.specs.Ahead.{Tokens, first, tail, is_keyword, is_lifetime, is_mark, is_opener, opens, closes, opens_args, opens_args_late}
 use Rattle.lay_tree.specs.Begins.{OfPath, lead_at, begins_bound}
 use Rattle.lay_tree.specs.Follow.{Begin, begins_there}
-use Rattle.lay_tree.specs.Words.{is_plain, is_path_class, is_name, is_path_word, colons}
+use Rattle.lay_tree.specs.Words.{is_plain, is_path_class, is_name, is_path_word, leaf_of, colons}
 use Rattle.lay_tree.specs.nodes.Facts.{Facts, forms, all_good}
 use Rattle.lay_tree.specs.nodes.Types.{TypeFacts, ArgsFacts, PathFacts, in_style, less, greater, colon, equals, good_at, all_types_good, type_forms, type_follows, output_form, output_good, output_refuses, angle_form, round_form, args_facts, bounds_form, bounds_good, last_refuses, meets_form, binder_form, is_binder, bound_facts, constraint_facts, arg_facts, segment_form, segments_form, segment_good, segments_good, segments_refuse, of_form, of_good, start_facts, path_facts, ty_facts, deeper, const_form, is_const, lifetime_form, about_type, about_path, about_start, about_args, about_arg, about_constraint, about_bound}
 use Rattle.lay_tree.specs.reader.Loops.{Got, Read, ◌>>=◌, passed, nodes, deepest, elements}
@@ -49,8 +50,8 @@ use Rattle.lay_tree.proofs.nodes.TypesLaws.{PathStartView, IsLocal, IsGlobal, Is
 use Rattle.lay_tree.proofs.reader.Exact.{IsRead}
 use Rattle.lay_tree.proofs.reader.Loops.{Turn}
 use Rattle.lay_tree.proofs.reader.TypesBegins.{lead_of, opened, list_front, path_parts, path_goods, SegmentsFront, segments_front, path_begins, type_begins, type_no_shift}
-use Rattle.lay_tree.proofs.reader.TypesCompleteParts.{one_left, lifetime_complete, lifetime_alone, plus_operator, colon_operator, binder_complete, const_complete}
-use Rattle.lay_tree.proofs.reader.TypesFronts.{no_begins, opens_there, lead_no_lifetime, lead_no_greater, lead_no_equals, lead_no_question, lead_no_const, path_lead_no_paren, path_lead_no_for, word_no_mark, Clear, follows_clear, Free, free_clear, Quiet, Ends, plus_free, equals_quiet, colon_quiet, comma_ends, greater_ends, closer_ends, as_quiet}
+use Rattle.lay_tree.proofs.reader.TypesCompleteParts.{none_left, none_right, one_left, lifetime_complete, lifetime_alone, plus_operator, colon_operator, binder_complete, const_complete}
+use Rattle.lay_tree.proofs.reader.TypesFronts.{no_begins, opens_there, lead_no_closer, lead_no_lifetime, lead_no_greater, lead_no_equals, lead_no_question, lead_no_const, path_lead_no_paren, path_lead_no_for, word_no_mark, Clear, follows_clear, Free, free_clear, Quiet, Ends, plus_free, equals_quiet, colon_quiet, comma_ends, greater_ends, closer_ends, as_quiet}
 use Rattle.lay_tree.proofs.reader.TypesLists.{forms_of, chain_complete, paren_closes, greater_closes, ElementsRead, list_read}
 use Rattle.lay_tree.proofs.reader.Words.{word_complete, word_no_op}
 
@@ -90,7 +91,7 @@ operator_read op ts rest o = rw (o.0, o.1) refl
 
 pub deeper_parts : (f g : Form) (depth : ℕ) (ts rest : Tokens) → Spells (Deeper f g) depth ts rest
     → (least : ℕ) × (depth ≡ suc least) × (mid : Tokens) × Spells f least ts mid × Spells g depth mid rest
-deeper_parts f g Rattle.std.proofs.Common.zero ts rest s = absurd s
+deeper_parts f g zero ts rest s = absurd s
 deeper_parts f g (suc depth) ts rest s = (depth, refl, s.0, s.1, s.2)
 
 pub deeper_from : (f : Form) (depth least : ℕ) (ts rest : Tokens) → depth ≡ suc least → Spells f least ts rest → Spells (deeper f) depth ts rest
@@ -110,11 +111,11 @@ pub path_as_type : (p : Path) (depth least : ℕ) (ts rest : Tokens) → depth �
 path_as_type p depth least ts rest e s =
     subst (λ (F : TypeFacts). Spells F.told.form depth ts rest) (sym (type_path_is p)) (deeper_from (about_path p InKind).form depth least ts rest e s)
 
-path_type_good : (place : TypePlace) (p : Path) → (about_path p InKind).good ≡ true → good_at place (about_type (ty.Path p)) ≡ true
+pub path_type_good : (place : TypePlace) (p : Path) → (about_path p InKind).good ≡ true → good_at place (about_type (ty.Path p)) ≡ true
 path_type_good Bounds p g = subst (λ (F : TypeFacts). good_at Bounds F ≡ true) (sym (type_path_is p)) g
 path_type_good NoBounds p g = subst (λ (F : TypeFacts). good_at NoBounds F ≡ true) (sym (type_path_is p)) (rw g refl)
 
-as_path_is : (p : Path) → as_path (ty.Path p) ≡ Some p
+pub as_path_is : (p : Path) → as_path (ty.Path p) ≡ Some p
 as_path_is p = ap path_in (views.outs-Path p)
 
 -- the path that a name with its arguments is
@@ -165,10 +166,10 @@ record ArgBegun (ts rest : Tokens) : Type 0 where
   pub shift : begins_op (codes "<=") ts ≡ false
   pub less : length rest < length ts
 
-lifetime_begun : (l : Lifetime) (ts rest : Tokens) → IsOne Rattle.lay_piece.specs.declared.kind.Kind.TheVariants.Lifetime l.text ts rest → ArgBegun ts rest
+lifetime_begun : (l : Lifetime) (ts rest : Tokens) → IsOne kind.Lifetime l.text ts rest → ArgBegun ts rest
 lifetime_begun l ts rest o =
-    let f = one_front Rattle.lay_piece.specs.declared.kind.Kind.TheVariants.Lifetime l.text ts rest o in
-    record { greater = rw f.1 refl; equals = rw f.1 refl; shift = rw f.1 refl; less = one_shorter Rattle.lay_piece.specs.declared.kind.Kind.TheVariants.Lifetime l.text ts rest o }
+    let f = one_front kind.Lifetime l.text ts rest o in
+    record { greater = rw f.1 refl; equals = rw f.1 refl; shift = rw f.1 refl; less = one_shorter kind.Lifetime l.text ts rest o }
 
 arg_begins : (x : Arg) (depth : ℕ) (ts rest : Tokens) → Spells (about_arg x).form depth ts rest → (about_arg x).good ≡ true → ArgBegun ts rest
 arg_begins x depth ts rest s g = by x (arg_view x) s g
@@ -187,7 +188,7 @@ arg_begins x depth ts rest s g = by x (arg_view x) s g
         record { greater = c.greater; equals = c.equals; shift = no_begins 60 (codes "=") ts c.smaller; less = c.less }
     by _ (IsNamed n a c) t h =
         let behind : Form = Part (about_args a).kind.form (Part (about_constraint c).form Done) in
-        let i = opened (Rattle.lay_tree.specs.Words.leaf_of n.raw n.text behind) depth ts rest (subst (λ (F : Facts). Spells F.form depth ts rest) (arg_named_is n a c) t) in
+        let i = opened (leaf_of n.raw n.text behind) depth ts rest (subst (λ (F : Facts). Spells F.form depth ts rest) (arg_named_is n a c) t) in
         let l = leaf_parts n.raw n.text behind i.0 ts rest i.2 in
         record {
           greater = word_no_mark (codes ">") n.raw n.text ts l.0 l.1;
@@ -216,7 +217,7 @@ colons_no_args ts h =
     rw (other_op (codes "::") (codes "<") refl ts h, other_op (codes "::") (codes "<<") refl ts h, other_op (codes "::") (codes "<-") refl ts h) refl
 
 -- What stands behind arguments that aren't the last of a path doesn't go on with them.
-colons_clear : (style : PathStyle) (a : Args) (w : Word) (ts at mid : Tokens) → (about_args a).returns ≡ false → IsOperator (codes "::") ts at
+pub colons_clear : (style : PathStyle) (a : Args) (w : Word) (ts at mid : Tokens) → (about_args a).returns ≡ false → IsOperator (codes "::") ts at
     → IsOne (word_kind w.raw) w.text at mid → Clear (in_style style (about_args a)).refuses ts
 colons_clear style a w ts at mid r o s = by style a (args_view a) r
   where
@@ -283,7 +284,7 @@ module _ (depth : ℕ) (within : Within) (reads : Reads depth within) where
           (0, omega arith, rw (c.lifetime, c.begins, c.read) refl)
       by _ (IsNamed n a c) t h =
           let behind : Form = Part (about_args a).kind.form (Part (about_constraint c).form Done) in
-          let i = opened (Rattle.lay_tree.specs.Words.leaf_of n.raw n.text behind) depth ts rest (subst (λ (F : Facts). Spells F.form depth ts rest) (arg_named_is n a c) t) in
+          let i = opened (leaf_of n.raw n.text behind) depth ts rest (subst (λ (F : Facts). Spells F.form depth ts rest) (arg_named_is n a c) t) in
           let k = subst (λ (F : Facts). F.good ≡ true) (arg_named_is n a c) h in
           let k3 = and_parts (is_name n.raw n.text && not (about_args a).round && (about_args a).kind.good) (about_constraint c).good k in
           let k2 = and_parts (is_name n.raw n.text && not (about_args a).round) (about_args a).kind.good k3.0 in
@@ -323,7 +324,7 @@ module _ (depth : ℕ) (within : Within) (reads : Reads depth within) where
       → (first (closes Paren) ts ≡ false) × (length rest < length ts)
   type_starts x ts rest s g =
       let b = type_begins x Bounds depth ts rest s g in
-      (Rattle.lay_tree.proofs.reader.TypesFronts.lead_no_closer Paren ts (lead_of x (type_view x)) b.lead, b.less)
+      (lead_no_closer Paren ts (lead_of x (type_view x)) b.lead, b.less)
 
   abbrev pub TypesRead : List Ty → Tokens → Tokens → Type 0
   TypesRead xs ts rest = (ys : List (Ty × ℕ)) × (nodes ys ≡ xs) × (deepest ys ≤ depth) × (elements (closes Paren) (within.types Bounds) ts ≡ Some (ys, rest))
@@ -376,10 +377,10 @@ module _ (depth : ℕ) (within : Within) (reads : Reads depth within) where
           let c = subst (λ (F : ArgsFacts). Clear F.kind.refuses rest) args_none_is k in
           let none = not-true (opens_args rest || (opens_args_late rest || first (opens Paren) rest))
           (and_parts (not (opens_args rest || (opens_args_late rest || first (opens Paren) rest))) true c).0 in
-          let n1 = Rattle.lay_tree.proofs.reader.TypesCompleteParts.none_left (opens_args rest) _ none in
-          let n2 = Rattle.lay_tree.proofs.reader.TypesCompleteParts.none_right (opens_args rest) _ none in
-          let n3 = Rattle.lay_tree.proofs.reader.TypesCompleteParts.none_left (opens_args_late rest) _ n2 in
-          let n4 = Rattle.lay_tree.proofs.reader.TypesCompleteParts.none_right (opens_args_late rest) _ n2 in
+          let n1 = none_left (opens_args rest) _ none in
+          let n2 = none_right (opens_args rest) _ none in
+          let n3 = none_left (opens_args_late rest) _ n2 in
+          let n4 = none_right (opens_args_late rest) _ n2 in
           (0, omega arith, rw u (rw (n1, n3, n4) refl))
       by Code _ (IsAngle xs) t h k =
           let u = subst (λ (F : ArgsFacts). Spells F.code.form depth ts rest) (args_angle_is xs) t in

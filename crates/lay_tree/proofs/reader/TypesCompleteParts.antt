@@ -14,8 +14,9 @@ use Rattle.lay_piece.specs.declared.kind.Kind.TheVariants.{Ident, RawIdent, Unde
 use Rattle.lay_token.specs.Lexes.{is_punct}
 use Rattle.lay_token.specs.Operators.{is_op}
 use Rattle.lay_token.specs.declared.token.Token.{Token}
+use Rattle.lay_token.proofs.Deciding.{bytes_self}
 use Rattle.lay_form.specs.Form.{Bit, Blank, Operator, Form, Done, Piece, Part, punct, keyword}
-use Rattle.lay_form.specs.Notation.{H, when, each}
+use Rattle.lay_form.specs.Notation.{H, when, each, comma_list}
 use Rattle.lay_form.specs.Spelled.{IsOne, IsOperator, AreBits, Spells}
 use Rattle.lay_form.proofs.FormLaws.{shorter}
 use Rattle.lay_tree.specs.Ahead.{Tokens, first, tail, is_keyword, is_lifetime, is_lifetime_kind, is_mark, is_opener, is_closer, opens, closes}
@@ -221,7 +222,7 @@ lifetime_param_complete p depth ts rest s g e =
     }
 
 lifetime_params : (ps : List LifetimeParam) (depth : ℕ) (ts rest : Tokens)
-    → Spells (Rattle.lay_form.specs.Notation.comma_list true less greater (map lifetime_param_form ps)) depth ts rest → list_all is_lifetime_param ps ≡ true
+    → Spells (comma_list true less greater (map lifetime_param_form ps)) depth ts rest → list_all is_lifetime_param ps ≡ true
     → (inside : Tokens) × IsOne Punct (codes "<") ts inside × (elements (is_mark (codes ">")) lifetime_param inside ≡ Some (ps, rest))
 lifetime_params ps depth ts rest s g =
     let l = each_list_read (λ (x y : LifetimeParam). y ≡ x) greater (is_mark (codes ">")) greater_closes lifetime_param lifetime_param_form is_lifetime_param depth
@@ -239,8 +240,8 @@ lifetime_params ps depth ts rest s g =
         (f.greater (lifetime_no_greater p.lifetime r.0 spelled.0 one),
           omega (arith, f.shorter, one_shorter kind.Lifetime p.lifetime.text r.0 spelled.0 one, shorter (outlived_form p.bounds) depth spelled.0 end spelled.2))
 
-keyword_there : (word : List ℕ) (ts rest : Tokens) → IsOne Ident word ts rest → first (is_keyword word) ts ≡ true
-keyword_there word ts rest o = rw ((one_front Ident word ts rest o).1, Rattle.lay_token.proofs.Deciding.bytes_self word) refl
+pub keyword_there : (word : List ℕ) (ts rest : Tokens) → IsOne Ident word ts rest → first (is_keyword word) ts ≡ true
+keyword_there word ts rest o = rw ((one_front Ident word ts rest o).1, bytes_self word) refl
 
 pub binder_complete : (b : Option Binder) (f : Form) (depth : ℕ) (ts rest : Tokens) → Spells (binder_form b f) depth ts rest → is_binder b ≡ true
     → ((us : Tokens) → Spells f depth us rest → first (is_keyword (codes "for")) us ≡ false)
