@@ -243,7 +243,10 @@ fn texts_of_bytes(rt: HostRuntime) -> Result<(), Fail> {
     let given = format_into(alloc, b"struct A;struct B;", &mut out);
     assert_eq!(rt; given, Ok(()));
     let refused = format_into(alloc, b"}", &mut out);
-    assert_eq!(rt; refused, Err(IntoError::Refused(Refusal::Unbalanced { at: 0 })));
+    assert_eq!(rt;
+        refused,
+        Err(IntoError::Refused(Refusal::Unbalanced { at: 0 }))
+    );
     assert_eq!(rt; out.bytes(), b"struct A;\nstruct B;\n".as_slice());
     Ok(())
 }

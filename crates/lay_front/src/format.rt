@@ -69,11 +69,7 @@ fn format_bytes<K: Sink>(alloc: Global, bytes: &[u8], out: &mut K) -> Result<(),
 }
 
 /// Writes the text of a file, piece by piece as it is laid out.
-pub(crate) fn write_file<K: Sink>(
-    alloc: Global,
-    file: &File,
-    out: &mut K,
-) -> Result<(), PrintError>
+pub(crate) fn write_file<K: Sink>(alloc: Global, file: &File, out: &mut K) -> Result<(), PrintError>
     ensures later { K.faults out.old ≤ K.faults out.new }
     ensures loan { SameLoan (K.loan out.old) (K.loan out.new) }
     ensures whole { OnOk result (GrewBy (K.written out.old) (K.written out.new) (text_of_file file.now)) }

@@ -14,7 +14,9 @@ pub struct Generics {
 #[derive(Drop)]
 pub enum GenericParam {
     /// `'a: 'b`
-    Region { param: LifetimeParam },
+    Region {
+        param: LifetimeParam,
+    },
     /// `A: B + C = D`
     Named {
         attrs: List<Attr>,

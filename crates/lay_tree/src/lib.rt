@@ -30,6 +30,7 @@ pub use simple_path::SimplePath;
 pub use token::{GivenName, Lifetime, Listed, Literal, Name, Word};
 pub use tokens::{Group, MacroCall, Tokens};
 pub use types::{
-    Abi, Arg, Args, Binder, Bound, ConstArg, Constraint, FuncParam, LifetimeParam, Path, PathStart, PathStyle, Ty, TypePlace,
+    Abi, Arg, Args, Binder, Bound, ConstArg, Constraint, FuncParam, LifetimeParam, Path, PathStart,
+    PathStyle, Ty, TypePlace,
 };
 pub use use_tree::{UseEnd, UseTree};

@@ -25,19 +25,30 @@ pub enum TypePlace {
 #[derive(Drop)]
 pub enum Ty {
     /// `a::B<C>`
-    Path { path: Path },
+    Path {
+        path: Path,
+    },
     /// `m!(a)`
-    Call { call: MacroCall },
+    Call {
+        call: MacroCall,
+    },
     /// `(A)`
-    Paren { inner: Boxed<Ty> },
+    Paren {
+        inner: Boxed<Ty>,
+    },
     /// `(A, B)`
-    Tuple { elements: List<Ty> },
+    Tuple {
+        elements: List<Ty>,
+    },
     /// `!`
     Never,
     /// `_`
     Infer,
     /// `*const A`, `*mut A`
-    Ptr { mutable: bool, inner: Boxed<Ty> },
+    Ptr {
+        mutable: bool,
+        inner: Boxed<Ty>,
+    },
     /// `&'a mut A`
     Ref {
         lifetime: Option<Lifetime>,
@@ -45,9 +56,14 @@ pub enum Ty {
         inner: Boxed<Ty>,
     },
     /// `[A]`
-    Slice { inner: Boxed<Ty> },
+    Slice {
+        inner: Boxed<Ty>,
+    },
     /// `[A; n]`, with one token at least behind the `;`
-    Array { inner: Boxed<Ty>, length: Tokens },
+    Array {
+        inner: Boxed<Ty>,
+        length: Tokens,
+    },
     /// `for<'a> unsafe extern "C" fn(a: A, ...) -> B`
     Func {
         binder: Option<Binder>,
@@ -58,7 +74,10 @@ pub enum Ty {
         output: Option<Boxed<Ty>>,
     },
     /// `impl A + B` or, where it is dynamic, `dyn A + B`; of one bound at least
-    Bounds { dynamic: bool, bounds: List<Bound> },
+    Bounds {
+        dynamic: bool,
+        bounds: List<Bound>,
+    },
 }
 
 /// A parameter of a function type.
@@ -100,7 +119,9 @@ pub enum PathStart {
 pub enum Args {
     None,
     /// `<A, 'a, 1, B = C>`
-    Angle { args: List<Arg> },
+    Angle {
+        args: List<Arg>,
+    },
     /// `(A, B) -> C`
     Round {
         inputs: List<Ty>,
@@ -113,11 +134,17 @@ pub enum Args {
 #[derive(Drop)]
 pub enum Arg {
     /// `'a`
-    Region { lifetime: Lifetime },
+    Region {
+        lifetime: Lifetime,
+    },
     /// `A`
-    Plain { ty: Ty },
+    Plain {
+        ty: Ty,
+    },
     /// `1`, `-1`, `{ n }`
-    Const { value: ConstArg },
+    Const {
+        value: ConstArg,
+    },
     /// `A<B> = C`, `A<B>: C`
     Named {
         name: Name,
@@ -143,7 +170,9 @@ pub enum Constraint {
 #[derive(Drop)]
 pub enum Bound {
     /// `'a`
-    Outlives { lifetime: Lifetime },
+    Outlives {
+        lifetime: Lifetime,
+    },
     /// `?for<'a> A<'a>`, in parentheses or not
     Meets {
         parens: bool,

@@ -372,4 +372,3 @@ pub path_is : (p : Path) → about_path p ≡ path_facts (record { start = about
 unfolding about_type about_path about_start about_args about_arg about_constraint about_bound about_func_param
 path_is p = fold_out-Path Facts ArgsFacts Facts Facts Facts TypeFacts Facts PathFacts
     arg_facts args_facts bound_facts constraint_facts start_facts ty_facts func_param_facts path_facts p
-

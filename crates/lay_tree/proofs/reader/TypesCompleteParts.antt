@@ -236,9 +236,10 @@ lifetime_params ps depth ts rest s g =
         let r = param_attrs_rows p.attrs (Part (lifetime_form p.lifetime) (outlived_form p.bounds)) depth us end t h in
         let spelled = r.2 in
         let one = lifetime_alone p.lifetime depth r.0 spelled.0 spelled.1 in
-        let f = attrs_front p.attrs depth us r.0 r.1 in
-        (f.greater (lifetime_no_greater p.lifetime r.0 spelled.0 one),
-          omega (arith, f.shorter, one_shorter kind.Lifetime p.lifetime.text r.0 spelled.0 one, shorter (outlived_form p.bounds) depth spelled.0 end spelled.2))
+        let f = attrs_front p.attrs depth us r.0 r.1 in (
+          f.greater (lifetime_no_greater p.lifetime r.0 spelled.0 one),
+          omega (arith, f.shorter, one_shorter kind.Lifetime p.lifetime.text r.0 spelled.0 one, shorter (outlived_form p.bounds) depth spelled.0 end spelled.2),
+        )
 
 pub keyword_there : (word : List ℕ) (ts rest : Tokens) → IsOne Ident word ts rest → first (is_keyword word) ts ≡ true
 keyword_there word ts rest o = rw ((one_front Ident word ts rest o).1, bytes_self word) refl

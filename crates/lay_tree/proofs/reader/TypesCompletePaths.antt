@@ -72,8 +72,7 @@ module _ (depth : ℕ) (within : Within) (reads : Reads depth within) where
       let l = leaf_parts s.0.raw s.0.text (Part args.form f) depth ts rest t in
       let p = l.2 in
       let w = word_complete s.0 ts l.0 (l.1, goods.0) in
-      let a = args_read depth within reads style s.1 l.0 p.0 p.1 goods.1 (clear p.0 p.2) in
-      (
+      let a = args_read depth within reads style s.1 l.0 p.0 p.1 goods.1 (clear p.0 p.2) in (
         p.0,
         (a.0, a.1, rw (w, a.2) refl),
         p.2,
@@ -295,8 +294,7 @@ module _ (depth : ℕ) (within : Within) (reads : Reads depth within) where
           let close : IsOne (Closer Paren) (closing Paren ∷ []) part.0 rest = piece_bit (closer Paren) depth part.0 rest part.2 in
           let r = meets_read true m d p u.0 part.0 part.1 good (free_clear (about_path p InKind).refuses part.0 (closer_ends Paren part.0 rest close).quiet.free) in
           let one = r.0 in
-          let front = paren_front ts u.0 o in
-          (
+          let front = paren_front ts u.0 o in (
             (one.0, one.1, rw (front.0, front.1, front.2, one.2, closer_passed Paren part.0 rest close) refl),
             rw (front.0, front.1) refl,
             omega (arith, r.2, one_shorter (Opener Paren) (opening Paren ∷ []) ts u.0 o, shorter (piece (closer Paren ∷ [])) depth part.0 rest part.2),
