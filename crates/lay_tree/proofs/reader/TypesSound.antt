@@ -1,4 +1,5 @@
--- Types, and paths, arguments and bounds by themselves: what is read within a budget stands there, at the depth that it needs.
+-- Types, and paths, arguments and bounds by themselves: what is read within a budget stands there, at the depth that it
+-- needs.
 use Rattle.std.proofs.Common.{length, drop, Bool, Some, sym, subst, ◌∙◌, length-append, ◌≡◌, ℕ, zero, suc, ◌≤◌, true, not, List, map, codes, refl, ap, arith}
 use Rattle.std.proofs.lemmas.Bool.{and_from}
 use Rattle.std.proofs.lemmas.List.{drop_at}
@@ -116,10 +117,15 @@ bounds_at_sound budget ts x rest t h =
 
 -- ---- fronts
 
--- What is read and spelled is counted.
+-- It is spelled within the budget, it is good, and what stands behind it may follow it.
+abbrev Fitting : {A : Type 0} → (A → Form) → (A → Bool) → (A → Tokens → Bool) → ℕ → A × ℕ → Tokens → Tokens → Type 0
+Fitting form good follows budget x ts rest =
+    (x.1 ≤ budget) × Spells (form x.0) x.1 ts rest × (good x.0 ≡ true) × (follows x.0 rest ≡ true)
+
+-- What is read so stands at the front, by a count of tokens.
 pub counted_sound : {A : Type 0} (form : A → Form) (good : A → Bool) (follows : A → Tokens → Bool)
     (read : ℕ → Tokens → Read A)
-    → ((budget : ℕ) → SoundStep (read budget) (λ x ts rest. (x.1 ≤ budget) × Spells (form x.0) x.1 ts rest × (good x.0 ≡ true) × (follows x.0 rest ≡ true)))
+    → ((budget : ℕ) → SoundStep (read budget) (Fitting form good follows budget))
     → (budget : ℕ) (ts : Tokens) (x : A) (need : ℕ) (rest : Tokens) → InText ts
     → read budget ts ≡ Some ((x, need), rest)
     → (n : ℕ) × (drop n ts ≡ rest) × (need ≤ budget) × spelled.Front (form x) (good x) (follows x) ts n need

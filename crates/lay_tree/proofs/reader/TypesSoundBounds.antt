@@ -1,4 +1,5 @@
--- Bounds, and what is asked of a name among arguments: what is read stands there, where what is one level deeper is read so.
+-- Bounds, and what is asked of a name among arguments: what is read stands there, where what is one level deeper is
+-- read so.
 use Rattle.std.proofs.Common.{◌≡◌, ℕ, suc, ◌≤◌, Bool, true, false, not, ◌&&◌, List, [], ◌∷◌, inl, inr, map, drop, codes, Option, Some, refl, sym, ap, subst, ◌∙◌, arith}
 use Rattle.std.proofs.lemmas.Bool.{and_from}
 use Rattle.lay_piece.specs.declared.kind.Delim.TheVariants.{Paren}
@@ -129,7 +130,8 @@ module _ (budget : ℕ) (within : Within) (sound : SoundWithin budget within) wh
           let i = m.0 in
           let told = bound_facts (Bound-F.Meets false i.maybe i.binder (about_path i.path)) in (
             held (about_bound x.0) told budget x.1 ts rest
-                (ap about_bound i.same ∙ bound_meets_is false i.maybe i.binder i.path) i.need (i.form, i.good, i.follows),
+                (ap about_bound i.same ∙ bound_meets_is false i.maybe i.binder i.path) i.need
+                (i.form, i.good, i.follows),
             m.1,
           )
     ]

@@ -28,7 +28,7 @@ use Rattle.lay_tree.specs.declared.types.TypePlace.{TypePlace}
 use Rattle.lay_tree.specs.declared.types.TypePlace.TheVariants.{Bounds}
 use Rattle.lay_tree.proofs.Fronts.{texts_behind, keyword_one, opener_passed_is, closer_passed_is}
 use Rattle.lay_tree.proofs.InText.{behind}
-use Rattle.lay_tree.proofs.Parts.{rows_map, rows_joined, SpelledAt, Further, leaf_spelled}
+use Rattle.lay_tree.proofs.Parts.{bit_piece, Rows, rows_map, rows_joined, SpelledAt, Further, leaf_spelled}
 use Rattle.lay_tree.proofs.Steps.{same_some, bind_some}
 use Rattle.lay_tree.proofs.nodes.TypesLaws.{type_func_is, func_param_is}
 use Rattle.lay_tree.proofs.reader.Attr.{attributes_sound}
@@ -84,6 +84,34 @@ param_name_sound ts x rest t h =
 
 -- ---- parameters, and the type
 
+abbrev dots_form : Form
+dots_form = piece (Operator (codes "...") ∷ [])
+
+abbrev form_of_param : FuncParam → Form
+form_of_param p = (about_func_param p).form
+
+-- parameters with `...` behind them
+variadic_list : (depth : ℕ) (ps : List FuncParam) (last : Bool) (ts inside end rest : Tokens)
+    → IsBit (opener Paren) ts inside → OpenBy begins_param (λ p. SpelledAt depth (form_of_param p)) ps last inside end → last ≡ true
+    → IsOperator (codes "...") end (drop 3 end) → IsBit (closer Paren) (drop 3 end) rest
+    → Spells (comma_list false (opener Paren) (closer Paren) (map form_of_param ps ++ dots_form ∷ [])) depth ts rest
+variadic_list depth [] last ts inside end rest o r e d c =
+    let at = drop 3 end in
+    let behind : Spells dots_form depth inside at =
+    subst (λ us. Spells dots_form depth us at) (sym r.1) (bit_piece (Operator (codes "...")) depth end at d) in
+    shut_list (opener Paren) (closer Paren) dots_form [] depth ts inside at at rest o behind refl c
+variadic_list depth (p ∷ ps) false ts inside end rest o r e d c = absurd (cc)
+variadic_list depth (p ∷ ps) true ts inside end rest o r e d c =
+    let at = drop 3 end in
+    let behind = r.2 in
+    let P = Further (SpelledAt depth) in
+    let params = rows_map form_of_param P ps r.0 behind.0 behind.1 in
+    let dots : Rows P (dots_form ∷ []) behind.0 at =
+    (at, (end, behind.2.0, bit_piece (Operator (codes "...")) depth end at d), refl) in
+    let all = rows_joined P (map form_of_param ps) (dots_form ∷ []) r.0 behind.0 at params dots in
+    shut_list (opener Paren) (closer Paren) (form_of_param p) (map form_of_param ps ++ dots_form ∷ []) depth ts inside
+    r.0 at rest o r.1 all c
+
 module _ (budget : ℕ) (within : Within) (sound : SoundWithin budget within) where
   param_sound : SoundStep (func_param within) (Held about_func_param budget)
   unfolding func_param
@@ -107,43 +135,10 @@ module _ (budget : ℕ) (within : Within) (sound : SoundWithin budget within) wh
       same_some (Out (Held about_func_param budget) ts) ((p, need), y.0.1) (x, rest) y.2
       (held (about_func_param p) G budget need ts y.0.1 (func_param_is p) s.0.0 there, s.1)
 
-  abbrev dots_form : Form
-  dots_form = piece (Operator (codes "...") ∷ [])
-
-  -- parameters, with `...` behind them or without
-  variadic_list : (ps : List (FuncParam × ℕ)) (last : Bool) (ts inside end rest : Tokens)
-      → IsBit (opener Paren) ts inside
-      → OpenBy begins_param (λ p. SpelledAt (deepest ps) (about_func_param p).form) (nodes ps) last inside end
-      → last ≡ true
-      → IsOperator (codes "...") end (drop 3 end) → IsBit (closer Paren) (drop 3 end) rest
-      → Spells (comma_list false (opener Paren) (closer Paren) (map (λ p. (about_func_param p).form) (nodes ps) ++ dots_form ∷ [])) (deepest ps) ts rest
-  variadic_list ps last ts inside end rest o r e d c = at (nodes ps) last r e
-    where
-      at : (qs : List FuncParam) (last : Bool)
-          → OpenBy begins_param (λ p. SpelledAt (deepest ps) (about_func_param p).form) qs last inside end → last ≡ true
-          → Spells (comma_list false (opener Paren) (closer Paren) (map (λ p. (about_func_param p).form) qs ++ dots_form ∷ [])) (deepest ps) ts rest
-      at [] last r e =
-          let first_one : Spells dots_form (deepest ps) inside (drop 3 end) =
-          subst (λ us. Spells dots_form (deepest ps) us (drop 3 end)) (sym r.1)
-          (drop 3 end, (drop 3 end, d, refl), refl) in
-          shut_list (opener Paren) (closer Paren) dots_form [] (deepest ps) ts inside (drop 3 end) (drop 3 end)
-          rest o first_one refl c
-      at (q ∷ qs) false r e = absurd (cc)
-      at (q ∷ qs) true r e =
-          let behind = r.2 in
-          let last_one : Spells dots_form (deepest ps) end (drop 3 end) = (drop 3 end, (drop 3 end, d, refl), refl) in
-          let form : FuncParam → Form = λ p. (about_func_param p).form in
-          let before = rows_map form (Further (SpelledAt (deepest ps))) qs r.0 behind.0 behind.1 in
-          let rows = rows_joined (Further (SpelledAt (deepest ps))) (map form qs) (dots_form ∷ []) r.0 behind.0
-          (drop 3 end) before
-          (drop 3 end, (end, behind.2.0, last_one), refl) in
-          shut_list (opener Paren) (closer Paren) (form q) (map form qs ++ dots_form ∷ []) (deepest ps) ts inside r.0
-          (drop 3 end) rest o r.1 rows c
-
   abbrev AreParams : (List FuncParam × Bool) × ℕ → Tokens → Tokens → Type 0
   AreParams x ts rest =
-      (x.1 ≤ budget) × Spells (params_form (map about_func_param x.0.0) x.0.1)
-      x.1 ts rest × (all_good (map about_func_param x.0.0) ≡ true)
+      (x.1 ≤ budget) × Spells (params_form (map about_func_param x.0.0) x.0.1) x.1 ts rest
+      × (all_good (map about_func_param x.0.0) ≡ true)
 
   -- by whether `...` stands there
   params_held : (ps : List (FuncParam × ℕ)) (last : Bool) (ts inside end : Tokens) → IsBit (opener Paren) ts inside
@@ -157,11 +152,11 @@ module _ (budget : ℕ) (within : Within) (sound : SoundWithin budget within) wh
       let d : IsOperator (codes "...") end at = (both.1, refl) in
       let left = bit_texts (Operator (codes "...")) end at d t in
       let c = closer_passed_is Paren at rest left h in
-      let k = open_held begins_param budget (λ p. (about_func_param p).form) (λ p. (about_func_param p).good)
+      let k = open_held begins_param budget form_of_param (λ p. (about_func_param p).good)
       (Held about_func_param budget)
       (λ p us mid s. (s.0, s.1.0, s.1.1)) ps last inside end r in
       let qs = nodes ps in
-      let list = variadic_list ps last ts inside end rest o k.0 both.0 d c in (
+      let list = variadic_list (deepest ps) (nodes ps) last ts inside end rest o k.0 both.0 d c in (
         (
           k.1,
           subst (λ fs. Spells (comma_list false (opener Paren) (closer Paren) (fs ++ dots_form ∷ [])) (deepest ps)
@@ -173,12 +168,11 @@ module _ (budget : ℕ) (within : Within) (sound : SoundWithin budget within) wh
   params_held ps last ts inside end o r t false e rest h =
       let c = closer_passed_is Paren end rest t h in
       let P = Held about_func_param budget in
-      let form : FuncParam → Form = λ p. (about_func_param p).form in
-      let k = list_held budget form (λ p. (about_func_param p).good) P (λ p us mid s. (s.0, s.1.0, s.1.1))
+      let k = list_held budget form_of_param (λ p. (about_func_param p).good) P (λ p us mid s. (s.0, s.1.0, s.1.1))
       (opener Paren) (closer Paren) ps ts inside rest o
       (open_shut begins_param P (closer Paren) ps last inside end rest r c) in
       let qs = nodes ps in
-      let same : map form qs ≡ forms (map about_func_param qs) ++ [] =
+      let same : map form_of_param qs ≡ forms (map about_func_param qs) ++ [] =
       sym (forms_of about_func_param qs) ∙ sym (append-nil (forms (map about_func_param qs))) in (
         (
           k.0,

@@ -204,21 +204,21 @@ bracket_shuts ts t h = closes_one Bracket ts t h
 -- ---- each kind
 
 module _ (budget : ℕ) (within : Within) (sound : SoundWithin budget within) where
-  abbrev Held_at : TypePlace → Ty × ℕ → Tokens → Tokens → Type 0
-  Held_at place = TypeHeld place (suc budget)
+  abbrev HeldAt : TypePlace → Ty × ℕ → Tokens → Tokens → Type 0
+  HeldAt place = TypeHeld place (suc budget)
 
-  call_type_sound : (place : TypePlace) → SoundStep call_type (Held_at place)
+  call_type_sound : (place : TypePlace) → SoundStep call_type (HeldAt place)
   call_type_sound place ts x rest t h =
       let c = bind_some (call ts) _ _ h in
       let s = call_sound 0 ts c.0.0 c.0.1 t c.1 in
       let told = about_call c.0.0 in
-      same_some (Out (Held_at place) ts) ((ty.Call c.0.0, 1), c.0.1) (x, rest) c.2 (
+      same_some (Out (HeldAt place) ts) ((ty.Call c.0.0, 1), c.0.1) (x, rest) c.2 (
         shut_held place budget (about_type (ty.Call c.0.0)) told.form told.good 0 ts c.0.1 (type_call_is c.0.0)
             (omega arith) s.0 s.1,
         texts_behind ts c.0.1 (is_end told.form 0 ts c.0.1 s.0) t,
       )
 
-  path_type_sound : (place : TypePlace) → SoundStep (path_type within) (Held_at place)
+  path_type_sound : (place : TypePlace) → SoundStep (path_type within) (HeldAt place)
   unfolding path_type
   path_type_sound place ts x rest t h =
       let p = bind_some (path within InKind ts) _ _ h in
@@ -229,7 +229,7 @@ module _ (budget : ℕ) (within : Within) (sound : SoundWithin budget within) wh
         | inr g ↦
             let follows = and_from (not (begins_there OfBang p.0.1)) (may_follow told.refuses p.0.1) (ap not g.0)
             s.0.1.2 in
-            same_some (Out (Held_at place) ts) ((ty.Path p.0.0.0, suc p.0.0.1), p.0.1) (x, rest) g.1 (
+            same_some (Out (HeldAt place) ts) ((ty.Path p.0.0.0, suc p.0.0.1), p.0.1) (x, rest) g.1 (
               type_held place budget (about_type (ty.Path p.0.0.0)) told.form told.good (OfBang ∷ told.refuses)
                   false p.0.0.1 ts p.0.1
                   (type_path_is p.0.0.0) s.0.0 s.0.1.0 s.0.1.1 follows,
@@ -273,7 +273,7 @@ module _ (budget : ℕ) (within : Within) (sound : SoundWithin budget within) wh
 
   paren_by_sound : (place : TypePlace) (ts inside : Tokens) (y : Ty × ℕ) (mid : Tokens) → IsBit (opener Paren) ts inside
       → TypeHeld Bounds budget y inside mid → InText mid
-      → (x : Ty × ℕ) (rest : Tokens) → paren_by within y mid ≡ Some (x, rest) → Out (Held_at place) ts (x, rest)
+      → (x : Ty × ℕ) (rest : Tokens) → paren_by within y mid ≡ Some (x, rest) → Out (HeldAt place) ts (x, rest)
   paren_by_sound place ts inside y mid o s t x rest h = elim (chosen (first (closes Paren) mid) _ _ _ h) [
     | inl g ↦
         let c = closes_one Paren mid t g.0 in
@@ -281,7 +281,7 @@ module _ (budget : ℕ) (within : Within) (sound : SoundWithin budget within) wh
         let told = about_type y.0 in
         let form : Form = Piece (opener Paren ∷ []) (Part told.told.form (piece (closer Paren ∷ []))) in
         let spelled : Spells form y.1 ts end = (inside, (inside, o, refl), (mid, s.1, (end, (end, c, refl), refl))) in
-        same_some (Out (Held_at place) ts) ((ty.Paren y.0, suc y.1), end) (x, rest) g.1 (
+        same_some (Out (HeldAt place) ts) ((ty.Paren y.0, suc y.1), end) (x, rest) g.1 (
           shut_held place budget (about_type (ty.Paren y.0)) form (good_at Bounds told) y.1 ts end (type_paren_is y.0)
               s.0 spelled s.2,
           bit_texts (closer Paren) mid end c t,
@@ -295,7 +295,7 @@ module _ (budget : ℕ) (within : Within) (sound : SoundWithin budget within) wh
         k.0 more.0.0 more.0.1 (bit_texts (Fixed kind.Punct (codes ",")) mid k.0 comma t) more.1 in
         let l = tuple_held y more.0.0 ts inside mid k.0 more.0.1 o s comma e.0 in
         let all = nodes (y ∷ more.0.0) in
-        same_some (Out (Held_at place) ts) ((ty.Tuple all, suc (deepest (y ∷ more.0.0))), more.0.1) (x, rest) more.2 (
+        same_some (Out (HeldAt place) ts) ((ty.Tuple all, suc (deepest (y ∷ more.0.0))), more.0.1) (x, rest) more.2 (
           shut_held place budget (about_type (ty.Tuple all)) (tuple_form (map about_type all))
               (all_types_good (map about_type all)) (deepest (y ∷ more.0.0))
               ts more.0.1 (type_tuple_is all) l.0 l.1 l.2,
@@ -304,14 +304,14 @@ module _ (budget : ℕ) (within : Within) (sound : SoundWithin budget within) wh
   ]
 
   paren_type_sound : (place : TypePlace) (ts inside : Tokens) → IsBit (opener Paren) ts inside → InText inside
-      → (x : Ty × ℕ) (rest : Tokens) → paren_type within inside ≡ Some (x, rest) → Out (Held_at place) ts (x, rest)
+      → (x : Ty × ℕ) (rest : Tokens) → paren_type within inside ≡ Some (x, rest) → Out (HeldAt place) ts (x, rest)
   unfolding paren_type
   paren_type_sound place ts inside o t x rest h = elim (chosen (first (closes Paren) inside) _ _ _ h) [
     | inl g ↦
         let c = closes_one Paren inside t g.0 in
         let end = tail inside in
         let spelled : Spells (tuple_form []) 0 ts end = (end, (inside, o, (end, c, refl)), refl) in
-        same_some (Out (Held_at place) ts) ((ty.Tuple [], 1), end) (x, rest) g.1 (
+        same_some (Out (HeldAt place) ts) ((ty.Tuple [], 1), end) (x, rest) g.1 (
           shut_held place budget (about_type (ty.Tuple [])) (tuple_form []) true 0 ts end (type_tuple_is [])
               (omega arith) spelled refl,
           bit_texts (closer Paren) inside end c t,
@@ -328,7 +328,7 @@ module _ (budget : ℕ) (within : Within) (sound : SoundWithin budget within) wh
       → TypeHeld Bounds budget y inside mid
       → InText mid → first (is_mark (codes ";")) mid ≡ true → (x : Ty × ℕ) (rest : Tokens)
       → array_by y (tail mid) ≡ Some (x, rest)
-      → Out (Held_at place) ts (x, rest)
+      → Out (HeldAt place) ts (x, rest)
   array_sound place ts inside y mid o s t m x rest h =
       let at = tail mid in
       let us = bind_some (tokens at) _ _ h in
@@ -351,7 +351,7 @@ module _ (budget : ℕ) (within : Within) (sound : SoundWithin budget within) wh
             ) in
             let good = and_from (good_at Bounds told && not (is_empty length)) (is_token_list length)
             (and_from (good_at Bounds told) (not (is_empty length)) s.2 (ap not g.0)) l.1 in
-            same_some (Out (Held_at place) ts) ((ty.Array y.0 length, suc y.1), c.0) (x, rest) g.1 (
+            same_some (Out (HeldAt place) ts) ((ty.Array y.0 length, suc y.1), c.0) (x, rest) g.1 (
               shut_held place budget (about_type (ty.Array y.0 length)) form
                   (good_at Bounds told && not (is_empty length) && is_token_list length) y.1 ts c.0
                   (type_array_is y.0 length) s.0 spelled good,
@@ -360,7 +360,7 @@ module _ (budget : ℕ) (within : Within) (sound : SoundWithin budget within) wh
       ]
 
   bracket_type_sound : (place : TypePlace) (ts inside : Tokens) → IsBit (opener Bracket) ts inside → InText inside
-      → (x : Ty × ℕ) (rest : Tokens) → bracket_type within inside ≡ Some (x, rest) → Out (Held_at place) ts (x, rest)
+      → (x : Ty × ℕ) (rest : Tokens) → bracket_type within inside ≡ Some (x, rest) → Out (HeldAt place) ts (x, rest)
   unfolding bracket_type
   bracket_type_sound place ts inside o t x rest h =
       let y = bind_some (within.types Bounds inside) _ _ h in
@@ -374,7 +374,7 @@ module _ (budget : ℕ) (within : Within) (sound : SoundWithin budget within) wh
             let form : Form = Piece (opener Bracket ∷ []) (Part told.told.form (piece (closer Bracket ∷ []))) in
             let spelled : Spells form y.0.0.1 ts c.0 =
             (inside, (inside, o, refl), (y.0.1, s.0.1, (c.0, (c.0, shut, refl), refl))) in
-            same_some (Out (Held_at place) ts) ((ty.Slice y.0.0.0, suc y.0.0.1), c.0) (x, rest) c.2 (
+            same_some (Out (HeldAt place) ts) ((ty.Slice y.0.0.0, suc y.0.0.1), c.0) (x, rest) c.2 (
               shut_held place budget (about_type (ty.Slice y.0.0.0)) form (good_at Bounds told) y.0.0.1 ts c.0
                   (type_slice_is y.0.0.0) s.0.0 spelled s.0.2,
               bit_texts (closer Bracket) y.0.1 c.0 shut s.1,
@@ -399,7 +399,7 @@ module _ (budget : ℕ) (within : Within) (sound : SoundWithin budget within) wh
       (λ g f depth end s. s) t x rest h
 
   reference_sound : (place : TypePlace) (ts at : Tokens) → IsOne kind.Punct (codes "&") ts at → InText at
-      → (x : Ty × ℕ) (rest : Tokens) → reference_type within at ≡ Some (x, rest) → Out (Held_at place) ts (x, rest)
+      → (x : Ty × ℕ) (rest : Tokens) → reference_type within at ≡ Some (x, rest) → Out (HeldAt place) ts (x, rest)
   unfolding reference_type
   reference_sound place ts at o t x rest h =
       let l = bind_some (if_there (first is_lifetime at) lifetime at) _ _ h in
@@ -419,7 +419,7 @@ module _ (budget : ℕ) (within : Within) (sound : SoundWithin budget within) wh
       let G : Form = Piece (Fixed kind.Punct (codes "&") ∷ []) (ref_lifetime l.0.0 (when mutable bits F)) in
       let led = life.0 (when mutable bits F) n y.0.1 (flag_leads mark bits l.0.1 are F n y.0.1 (y.0.1, s.0.1, refl)) in
       let spelled : Spells G n ts y.0.1 = (at, (at, o, refl), led) in
-      same_some (Out (Held_at place) ts) ((ty.Ref l.0.0 mutable inner, suc n), y.0.1) (x, rest) y.2 (
+      same_some (Out (HeldAt place) ts) ((ty.Ref l.0.0 mutable inner, suc n), y.0.1) (x, rest) y.2 (
         type_held place budget (about_type (ty.Ref l.0.0 mutable inner)) G (good_at NoBounds told)
             told.told.refuses false n ts y.0.1
             (type_ref_is l.0.0 mutable inner) s.0.0 spelled s.0.2 s.0.3,
@@ -443,7 +443,7 @@ module _ (budget : ℕ) (within : Within) (sound : SoundWithin budget within) wh
       ]
 
   pointer_sound : (place : TypePlace) (ts at : Tokens) → IsOne kind.Punct (codes "*") ts at → InText at
-      → (x : Ty × ℕ) (rest : Tokens) → pointer_type within at ≡ Some (x, rest) → Out (Held_at place) ts (x, rest)
+      → (x : Ty × ℕ) (rest : Tokens) → pointer_type within at ≡ Some (x, rest) → Out (HeldAt place) ts (x, rest)
   unfolding pointer_type
   pointer_sound place ts at o t x rest h =
       let m = bind_some (is_mutable at) _ _ h in
@@ -455,7 +455,7 @@ module _ (budget : ℕ) (within : Within) (sound : SoundWithin budget within) wh
       let told = about_type inner in
       let G : Form = Piece (punct char.star ∷ pointer_word m.0.0 ∷ Blank ∷ []) (Part told.told.form Done) in
       let spelled : Spells G n ts y.0.1 = (m.0.1, (at, o, (m.0.1, w.0, (m.0.1, refl, refl))), (y.0.1, s.0.1, refl)) in
-      same_some (Out (Held_at place) ts) ((ty.Ptr m.0.0 inner, suc n), y.0.1) (x, rest) y.2 (
+      same_some (Out (HeldAt place) ts) ((ty.Ptr m.0.0 inner, suc n), y.0.1) (x, rest) y.2 (
         type_held place budget (about_type (ty.Ptr m.0.0 inner)) G (good_at NoBounds told)
             told.told.refuses false n ts y.0.1
             (type_ptr_is m.0.0 inner) s.0.0 spelled s.0.2 s.0.3,
@@ -466,7 +466,7 @@ module _ (budget : ℕ) (within : Within) (sound : SoundWithin budget within) wh
 
   bounds_held : (place : TypePlace) (dynamic : Bool) (bs : List Bound × ℕ) (ts at rest : Tokens)
       → IsBit (bounds_word dynamic) ts at
-      → PlacedHeld budget within sound place bs at rest → Held_at place (ty.Bounds dynamic bs.0, suc bs.1) ts rest
+      → PlacedHeld budget within sound place bs at rest → HeldAt place (ty.Bounds dynamic bs.0, suc bs.1) ts rest
   bounds_held place dynamic bs ts at rest w k =
       let X = ty_facts (Ty-F.Bounds dynamic (map about_bound bs.0)) in
       let all = map about_bound bs.0 in
@@ -493,19 +493,19 @@ module _ (budget : ℕ) (within : Within) (sound : SoundWithin budget within) wh
   bounds_type_sound : (place : TypePlace) (dynamic : Bool) (ts at : Tokens) → IsBit (bounds_word dynamic) ts at
       → InText at
       → (x : Ty × ℕ) (rest : Tokens) → bounds_type within dynamic place at ≡ Some (x, rest)
-      → Out (Held_at place) ts (x, rest)
+      → Out (HeldAt place) ts (x, rest)
   unfolding bounds_type
   bounds_type_sound place dynamic ts at w t x rest h =
       let bs = bind_some (bounds_by within place at) _ _ h in
       let s = placed_sound budget within sound place at bs.0.0 bs.0.1 t bs.1 in
-      same_some (Out (Held_at place) ts) ((ty.Bounds dynamic bs.0.0.0, suc bs.0.0.1), bs.0.1) (x, rest) bs.2
+      same_some (Out (HeldAt place) ts) ((ty.Bounds dynamic bs.0.0.0, suc bs.0.0.1), bs.0.1) (x, rest) bs.2
       (bounds_held place dynamic bs.0.0 ts at bs.0.1 w s.0, s.1)
 
   -- ---- all kinds
 
   pub type_sound : (place : TypePlace) (l : Option Lead) (ts : Tokens) → lead_at ts ≡ l → InText ts
       → (x : Ty × ℕ) (rest : Tokens)
-      → type_by within place l ts ≡ Some (x, rest) → Out (Held_at place) ts (x, rest)
+      → type_by within place l ts ≡ Some (x, rest) → Out (HeldAt place) ts (x, rest)
   type_sound place None ts e t x rest h = absurd (cc)
   type_sound place (Some OfPath) ts e t x rest h = elim (chosen (begins_call ts) _ _ _ h) [
     | inl g ↦ call_type_sound place ts x rest t g.1
@@ -517,7 +517,7 @@ module _ (budget : ℕ) (within : Within) (sound : SoundWithin budget within) wh
   type_sound place (Some OfNever) ts e t x rest h =
       let o = never_first ts (first_is OfNever ts e) in
       let spelled : Spells (piece (punct char.bang ∷ [])) 0 ts (tail ts) = (tail ts, (tail ts, o, refl), refl) in
-      same_some (Out (Held_at place) ts) ((ty.Never, 1), tail ts) (x, rest) h (
+      same_some (Out (HeldAt place) ts) ((ty.Never, 1), tail ts) (x, rest) h (
         shut_held place budget (about_type ty.Never) (piece (punct char.bang ∷ [])) true 0 ts (tail ts) type_never_is
             (omega arith) spelled refl,
         bit_texts (punct char.bang) ts (tail ts) o t,
@@ -526,7 +526,7 @@ module _ (budget : ℕ) (within : Within) (sound : SoundWithin budget within) wh
       let o = infer_first ts t (first_is OfInfer ts e) in
       let bit = Fixed kind.Underscore (codes "_") in
       let spelled : Spells (piece (bit ∷ [])) 0 ts (tail ts) = (tail ts, (tail ts, o, refl), refl) in
-      same_some (Out (Held_at place) ts) ((ty.Infer, 1), tail ts) (x, rest) h (
+      same_some (Out (HeldAt place) ts) ((ty.Infer, 1), tail ts) (x, rest) h (
         shut_held place budget (about_type ty.Infer) (piece (bit ∷ [])) true 0 ts (tail ts) type_infer_is (omega arith)
             spelled refl,
         bit_texts bit ts (tail ts) o t,

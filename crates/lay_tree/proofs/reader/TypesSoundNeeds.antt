@@ -26,8 +26,8 @@ use Rattle.lay_tree.proofs.reader.TypesSoundParts.{Shuts, Chain, ElementsBy, ele
 abbrev pub Held : {A : Type 0} → (A → Facts) → ℕ → (A × ℕ) → Tokens → Tokens → Type 0
 Held told budget x ts rest = (x.1 ≤ budget) × Stands (told x.0) x.1 ts rest
 
-pub held : (F G : Facts) (budget n : ℕ) (ts rest : Tokens) → F ≡ G → n ≤ budget → Stands G n ts rest → (n ≤ budget)
-    × Stands F n ts rest
+pub held : (F G : Facts) (budget n : ℕ) (ts rest : Tokens) → F ≡ G → n ≤ budget → Stands G n ts rest
+    → (n ≤ budget) × Stands F n ts rest
 held F G budget n ts rest e le s = (le, subst (λ (x : Facts). Stands x n ts rest) (sym e) s)
 
 pub forms_of : {A : Type 0} (told : A → Facts) (xs : List A) → forms (map told xs) ≡ map (λ x. (told x).form) xs
@@ -39,8 +39,8 @@ goods_of told xs = list_all-map (λ (x : Facts). x.good) told xs
 
 -- Lists of nodes are spelled at the greatest need of theirs.
 module _ {A : Type 0} (budget : ℕ) (form : A → Form) (good : A → Bool) (P : A × ℕ → Tokens → Tokens → Type 0)
-    (to : (x : A × ℕ) (ts mid : Tokens) → P x ts mid → (x.1 ≤ budget) × Spells (form x.0)
-    x.1 ts mid × (good x.0 ≡ true)) where
+    (to : (x : A × ℕ) (ts mid : Tokens) → P x ts mid
+    → (x.1 ≤ budget) × Spells (form x.0) x.1 ts mid × (good x.0 ≡ true)) where
   pub rows_most : (S : Tokens → Tokens → Type 0) (most : ℕ) (xs : List (A × ℕ)) (ts rest : Tokens) → deepest xs ≤ most
       → Rows (λ x. Then S (P x)) xs ts rest
       → Rows (λ x. Then S (SpelledAt most (form x))) (nodes xs) ts rest × (deepest xs ≤ budget)
@@ -82,7 +82,8 @@ module _ {A : Type 0} (budget : ℕ) (form : A → Form) (good : A → Bool) (P 
       let l = list_held opens shut xs ts inside rest o e.0 in (l.0, l.1, l.2, e.1)
 
   pub chained : (op : List ℕ) (lead : Form → Form)
-      → ((f : Form) (depth : ℕ) (ts mid rest : Tokens) → IsOperator op ts mid → Spells f depth mid rest → Spells (lead f) depth ts rest)
+      → ((f : Form) (depth : ℕ) (ts mid rest : Tokens) → IsOperator op ts mid → Spells f depth mid rest
+      → Spells (lead f) depth ts rest)
       → (xs : List (A × ℕ)) (ts rest : Tokens) → Chain op P xs ts rest
       → (deepest xs ≤ budget) × Spells (joined lead (map form (nodes xs))) (deepest xs) ts rest
       × (list_all good (nodes xs) ≡ true)

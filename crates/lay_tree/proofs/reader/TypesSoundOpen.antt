@@ -37,8 +37,8 @@ open_more begins P x (y ∷ ys) last ts mid next rest p m r =
     let behind = r.2 in (mid, p, (behind.0, (r.0, (next, m, r.1), behind.1), behind.2))
 
 module _ {A : Type 0} (begins : Tokens → Bool) (one : Tokens → Got A) (P : A → Tokens → Tokens → Type 0)
-    (sound : (ts : Tokens) (x : A) (rest : Tokens) → InText ts → begins ts ≡ true → one ts ≡ Some
-    (x, rest) → P x ts rest × InText rest) where
+    (sound : (ts : Tokens) (x : A) (rest : Tokens) → InText ts → begins ts ≡ true → one ts ≡ Some (x, rest)
+    → P x ts rest × InText rest) where
   -- what is found behind those that were found before
   abbrev Found : List A → Tokens → (List A × Bool) × Tokens → Type 0
   Found found ts r = (ys : List A) × (r.0.0 ≡ found ++ ys) × OpenBy begins P ys r.0.1 ts r.1 × InText r.1
@@ -83,8 +83,8 @@ module _ {A : Type 0} (begins : Tokens → Bool) (one : Tokens → Got A) (P : A
 -- Nodes with their needs are spelled at the greatest of them.
 module _ {A : Type 0} (begins : Tokens → Bool) (budget : ℕ) (form : A → Form) (good : A → Bool)
     (P : A × ℕ → Tokens → Tokens → Type 0)
-    (to : (x : A × ℕ) (ts mid : Tokens) → P x ts mid → (x.1 ≤ budget) × Spells (form x.0)
-    x.1 ts mid × (good x.0 ≡ true)) where
+    (to : (x : A × ℕ) (ts mid : Tokens) → P x ts mid
+    → (x.1 ≤ budget) × Spells (form x.0) x.1 ts mid × (good x.0 ≡ true)) where
   pub open_held : (xs : List (A × ℕ)) (last : Bool) (ts rest : Tokens) → OpenBy begins P xs last ts rest
       → OpenBy begins (λ x. SpelledAt (deepest xs) (form x)) (nodes xs) last ts rest × (deepest xs ≤ budget)
       × (list_all good (nodes xs) ≡ true)

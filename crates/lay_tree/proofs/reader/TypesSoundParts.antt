@@ -1,5 +1,5 @@
--- What is read in parts of types is spelled: lists in any brackets, parts with an operator between them, and parts with no
--- types within them.
+-- What is read in parts of types is spelled: lists in any brackets, parts with an operator between them, and parts with
+-- no types within them.
 use Rattle.std.proofs.Common.{◌≡◌, ℕ, zero, suc, Bool, true, false, not, List, [], ◌∷◌, ◌++◌, ◌⊎◌, inl, inr, length, map, drop, codes, Option, Some, None, if◌then◌else◌, cond, refl, sym, ap, subst, ◌∙◌, arith}
 use Rattle.std.specs.List.{list_all}
 use Rattle.std.proofs.lemmas.Bool.{and_from}

@@ -488,7 +488,8 @@ module _ (budget : ℕ) (within : Within) (sound : SoundWithin budget within) wh
   -- the trait, before whatever stands behind it at the depth
   abbrev IsOf : Option Path × ℕ → Tokens → Tokens → Type 0
   IsOf x ts rest = (x.1 ≤ budget) × (of_good (option_map about_path x.0) ≡ true)
-      × ((f : Form) (n : ℕ) (end : Tokens) → x.1 ≤ n → Spells f n rest end → Spells (of_form (option_map about_path x.0) f) n ts end)
+      × ((f : Form) (n : ℕ) (end : Tokens) → x.1 ≤ n → Spells f n rest end
+      → Spells (of_form (option_map about_path x.0) f) n ts end)
 
   of_sound : (ts : Tokens) (x : Option Path × ℕ) (rest : Tokens) → InText ts
       → if_read (first (is_keyword (codes "as")) ts) (λ us. trait_path within (tail us)) ts ≡ Some (x, rest)

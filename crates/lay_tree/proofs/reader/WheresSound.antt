@@ -81,8 +81,8 @@ binds_not x n ts rest s h = by x (type_view x) s
 -- A predicate stands there, within the budget.
 abbrev PredicateHeld : ℕ → Predicate × ℕ → Tokens → Tokens → Type 0
 PredicateHeld budget x ts rest =
-    (x.1 ≤ budget) × Spells (predicate_form x.0)
-    x.1 ts rest × (is_predicate x.0 ≡ true) × (predicate_follow x.0 rest ≡ true)
+    (x.1 ≤ budget) × Spells (predicate_form x.0) x.1 ts rest
+    × (is_predicate x.0 ≡ true) × (predicate_follow x.0 rest ≡ true)
 
 outlives_spelled : (ls : List Lifetime) (depth : ℕ) (ts at rest : Tokens) → IsOperator (codes ":") ts at
     → Spells (lifetimes_form ls) depth at rest
