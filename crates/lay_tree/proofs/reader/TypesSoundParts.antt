@@ -144,8 +144,8 @@ module _ {A : Type 0} (op : List ℕ) (one : Tokens → Got A) (P : A → Tokens
       ((b.0.1, s.0, r.0), r.1, r.2)
 
 module _ {A : Type 0} (op : List ℕ) (lead : Form → Form)
-    (leads : (f : Form) (depth : ℕ) (ts mid rest : Tokens) → IsOperator op ts mid → Spells f depth mid rest → Spells
-    (lead f) depth ts rest)
+    (leads : (f : Form) (depth : ℕ) (ts mid rest : Tokens) → IsOperator op ts mid → Spells f depth mid rest
+    → Spells (lead f) depth ts rest)
     (form : A → Form) (depth : ℕ) where
   pub further_spelled : (xs : List A) (ts rest : Tokens) → Rows (BehindOp op (λ x. SpelledAt depth (form x))) xs ts rest
       → Spells (each lead (map form xs)) depth ts rest
