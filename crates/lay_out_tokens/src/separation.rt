@@ -85,6 +85,26 @@ impl<'a> Seen<'a> {
         ensures count { result.count ≤ self.now.count + 1 }
     {
         let next = Neighbour::Single(token);
+        if is_angle(&next) {
+            return self.behind_angle(token);
+        }
+        Seen {
+            before: self.last,
+            last: next,
+            place: self.is_index_place(),
+            opens: false,
+            closes: false,
+            count: self.count,
+        }
+    }
+
+    /// Behind a `<` or a `>`.
+    fn behind_angle(&self, token: &'a Listed) -> Seen<'a>
+        requires { self.now.count < usize.MAX }
+        ensures seen { seen_of result ≡ pairs.seen_token (seen_of self.now) token.now }
+        ensures count { result.count ≤ self.now.count + 1 }
+    {
+        let next = Neighbour::Single(token);
         Seen {
             before: self.last,
             last: next,
@@ -266,6 +286,14 @@ fn is_beside_doc(seen: &Seen<'_>, next: &Neighbour<'_>) -> bool
     ensures { result ≡ (pairs.is_doc (seen_of seen.now).last || pairs.is_doc (neighbour_of next.now)) }
 {
     seen.last.is_doc() || next.is_doc()
+}
+
+/// `<` or `>`
+fn is_angle(next: &Neighbour<'_>) -> bool
+    ensures { let r = neighbour_of next.now in
+        result ≡ (is_mark (codes "<") r || is_mark (codes ">") r) }
+{
+    next.is_mark(b'<') || next.is_mark(b'>')
 }
 
 /// `,` or `;`

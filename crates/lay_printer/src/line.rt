@@ -121,6 +121,7 @@ impl Line {
         Ok(())
     }
 
+    #[inline(never)]
     fn newline<K: Sink>(&mut self, sink: &mut K, brk: Break, indent: u64) -> Result<(), Failed>
         requires { indent ≤ 240 }
         ensures moves { Moves self.old (K.written sink.old) result self.new (K.written sink.new) (on_newline brk indent) }
@@ -133,6 +134,7 @@ impl Line {
     }
 
     /// Blanks that wait, of which there are never more than 1,000,000.
+    #[inline(always)]
     fn add_blanks(&mut self, blank: u16)
         ensures pending { self.new.pending ≡ min (self.old.pending + blank) 1000000 }
         ensures used { self.new.used ≡ min (self.old.used + blank) USED }
@@ -143,6 +145,7 @@ impl Line {
     }
 
     /// A break that is no newline.
+    #[inline(always)]
     fn skip<K: Sink>(&mut self, sink: &mut K, brk: Break) -> Result<(), Failed>
         ensures moves { Moves self.old (K.written sink.old) result self.new (K.written sink.new) (skipped brk) }
         ensures cause { HasCause (K.faults sink.old) (K.faults sink.new) result }
@@ -153,6 +156,7 @@ impl Line {
     }
 
     /// A break in a frame.
+    #[inline(always)]
     pub fn put_break<K: Sink>(
         &mut self,
         sink: &mut K,
