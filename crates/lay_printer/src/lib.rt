@@ -14,9 +14,10 @@
 //!
 //! The two meet at the front of the ring ([`engine`]). After each token that is fed, entries are printed while
 //! it is decided whether they fit. A known size decides by itself. While the first entry's size is unknown and
-//! the text that waits is longer than the space, its measure is greater than the space too, whatever comes: it
-//! is forced, which means that it is printed as one that doesn't fit. So no more text waits than the space, and
-//! at the end of the stream every size is known.
+//! its own width with the text that waits is longer than the space, its measure is greater than the space too,
+//! whatever comes: it is forced, which means that it is printed as one that doesn't fit. So no more text waits
+//! than the space, and at the end of the stream every size is known. Where nothing waits, a text goes straight
+//! to the line, and so does a break for which nothing that follows counts. They take a number alone.
 //!
 //! A [`Core`] is an engine that remembers whether a call has failed: then each later one answers the same
 //! error and leaves the sink as it is. [`Press`] is lent a core and a sink, so it serves a sink that was handed
