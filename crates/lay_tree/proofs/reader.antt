@@ -29,3 +29,4 @@ pub mod TypesLists
 pub mod TypesCompleteParts
 pub mod TypesComplete
 pub mod TypesCompletePaths
+pub mod TypesCompleteKinds

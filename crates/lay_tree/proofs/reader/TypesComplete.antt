@@ -68,6 +68,10 @@ follows_fits Bounds x ts h =
     (not-true (x.bounded && is_op (codes "+") ts) p.0, follows_clear x.told.refuses ts p.1)
 follows_fits NoBounds x ts h = follows_clear x.told.refuses ts h
 
+pub fits_clear : (place : TypePlace) (x : TypeFacts) (ts : Tokens) → Fits place x ts → Clear x.told.refuses ts
+fits_clear Bounds x ts f = f.1
+fits_clear NoBounds x ts f = f
+
 and_none : (a : Bool) → (a && false) ≡ false
 and_none true = refl
 and_none false = refl

@@ -210,43 +210,43 @@ module _ {A : Type 0} (close : Bit) (ends : Token → Bool) (closed : ClosedBy c
 
 -- ---- elements that nothing closes
 
+abbrev pub LastFollows : {A : Type 0} → (A → Tokens → Type 0) → List A → Tokens → Type 0
+LastFollows follows [] ts = Unit {0}
+LastFollows follows (x ∷ []) ts = follows x ts
+LastFollows follows (x ∷ y ∷ ys) ts = LastFollows follows (y ∷ ys) ts
+
+-- what stands behind the last element, with a comma or without one
+abbrev pub Ending : {A : Type 0} → (Tokens → Bool) → (A → Tokens → Type 0) → Bool → List A → Tokens → Tokens → Type 0
+Ending begins follows true xs ts rest = IsOne Punct (codes ",") ts rest × (begins rest ≡ false)
+Ending begins follows false xs ts rest = (ts ≡ rest) × (first (is_mark (codes ",")) rest ≡ false) × LastFollows follows xs rest
+
 module _ {A : Type 0} (begins : Tokens → Bool) (read : Tokens → Read A) (spelling : A → Form) (good : A → Bool) (follows : A → Tokens → Type 0) (depth : ℕ)
     (reads : (x : A) (ts rest : Tokens) → Spells (spelling x) depth ts rest → good x ≡ true → follows x rest → IsRead depth read x ts rest)
     (goes_on : (x : A) (ts rest : Tokens) → Spells (spelling x) depth ts rest → good x ≡ true → (begins ts ≡ true) × (length rest < length ts))
     (comma_follows : (x : A) (ts rest : Tokens) → IsOne Punct (codes ",") ts rest → good x ≡ true → follows x ts) where
-  abbrev pub LastFollows : List A → Tokens → Type 0
-  LastFollows [] ts = Unit {0}
-  LastFollows (x ∷ []) ts = follows x ts
-  LastFollows (x ∷ y ∷ ys) ts = LastFollows (y ∷ ys) ts
-
-  -- what stands behind the last element, with a comma or without one
-  abbrev pub Ending : Bool → List A → Tokens → Tokens → Type 0
-  Ending true xs ts rest = IsOne Punct (codes ",") ts rest × (begins rest ≡ false)
-  Ending false xs ts rest = (ts ≡ rest) × (first (is_mark (codes ",")) rest ≡ false) × LastFollows xs rest
-
   abbrev OpenRead : ℕ → List (A × ℕ) → List A → Bool → Tokens → Tokens → Type 0
   OpenRead n found xs last ts rest =
       (ys : List (A × ℕ)) × (nodes ys ≡ xs) × (deepest ys ≤ depth) × (open_elements_from begins read n found ts ≡ Some ((found ++ ys, last), rest))
 
-  last_behind : (last : Bool) (x : A) (n : ℕ) (found : List (A × ℕ)) (ts rest : Tokens) → length ts ≤ n → Ending last (x ∷ []) ts rest
+  last_behind : (last : Bool) (x : A) (n : ℕ) (found : List (A × ℕ)) (ts rest : Tokens) → length ts ≤ n → Ending begins follows last (x ∷ []) ts rest
       → behind_open (open_elements_from begins read n found) found ts ≡ Some ((found, last), rest)
   unfolding open_elements_from
   last_behind true x zero found ts rest le e = absurd (omega (arith, le, one_shorter Punct (codes ",") ts rest e.0))
   last_behind true x (suc n) found ts rest le e = rw ((one_front Punct (codes ",") ts rest e.0).1, e.1) refl
   last_behind false x n found ts rest le e = rw (e.0, e.1) refl
 
-  last_follows : (last : Bool) (x : A) (ts rest : Tokens) → good x ≡ true → Ending last (x ∷ []) ts rest → follows x ts
+  last_follows : (last : Bool) (x : A) (ts rest : Tokens) → good x ≡ true → Ending begins follows last (x ∷ []) ts rest → follows x ts
   last_follows true x ts rest g e = comma_follows x ts rest e.0 g
   last_follows false x ts rest g e = subst (follows x) (sym e.0) e.2
 
   open_from : (last : Bool) (x : A) (xs : List A) (n : ℕ) (found : List (A × ℕ)) (ts mid end rest : Tokens) → length ts ≤ n → list_all good (x ∷ xs) ≡ true
-      → Spells (spelling x) depth ts mid → Spells (each comma_gap (map spelling xs)) depth mid end → Ending last (x ∷ xs) end rest
+      → Spells (spelling x) depth ts mid → Spells (each comma_gap (map spelling xs)) depth mid end → Ending begins follows last (x ∷ xs) end rest
       → OpenRead (suc n) found (x ∷ xs) last ts rest
   unfolding open_elements_from
   open_from last x [] n found ts mid end rest le g one s ending =
       let goods = and_parts (good x) true g in
       let b = goes_on x ts mid one goods.0 in
-      let e : Ending last (x ∷ []) mid rest = subst (λ us. Ending last (x ∷ []) us rest) (sym s) ending in
+      let e : Ending begins follows last (x ∷ []) mid rest = subst (λ us. Ending begins follows last (x ∷ []) us rest) (sym s) ending in
       let r = reads x ts mid one goods.0 (last_follows last x mid rest goods.0 e) in
       let less : length mid ≤ n = omega (arith, le, b.1) in
       ((x, r.0) ∷ [], refl, omega (arith, r.1), rw (b.0, r.2, last_behind last x n (found ++ (x, r.0) ∷ []) mid rest less e) refl)
@@ -269,12 +269,12 @@ module _ {A : Type 0} (begins : Tokens → Bool) (read : Tokens → Read A) (spe
         rw (b.0, r.2, comma_there, left, go.3, append_assoc found ((x, r.0) ∷ []) go.0) refl,
       )
     where
-      same : (last : Bool) → Ending last (x ∷ y ∷ ys) end rest → Ending last (y ∷ ys) end rest
+      same : (last : Bool) → Ending begins follows last (x ∷ y ∷ ys) end rest → Ending begins follows last (y ∷ ys) end rest
       same true e = e
       same false e = e
 
   pub open_read : (last : Bool) (x : A) (xs : List A) (ts mid end rest : Tokens) → list_all good (x ∷ xs) ≡ true
-      → Spells (spelling x) depth ts mid → Spells (each comma_gap (map spelling xs)) depth mid end → Ending last (x ∷ xs) end rest
+      → Spells (spelling x) depth ts mid → Spells (each comma_gap (map spelling xs)) depth mid end → Ending begins follows last (x ∷ xs) end rest
       → (ys : List (A × ℕ)) × (nodes ys ≡ x ∷ xs) × (deepest ys ≤ depth) × (open_elements begins read ts ≡ Some ((ys, last), rest))
   unfolding open_elements
   open_read last x xs ts mid end rest g one s ending =
