@@ -43,7 +43,7 @@ pub behind_all : (before rest : Tokens) → InText (before ++ rest) → InText r
 behind_all [] rest i = i
 behind_all (t ∷ before) rest i = behind_all before rest (behind t (before ++ rest) i)
 
-had_first : (t : Token) (ts : Tokens) (i : InText (t ∷ ts)) → is_had (is_index_place i.before i.last) (as_listed t) ≡ true
+pub had_first : (t : Token) (ts : Tokens) (i : InText (t ∷ ts)) → is_had (is_index_place i.before i.last) (as_listed t) ≡ true
 had_first t ts i =
     let may = not (is_joint_neighbour i.last) || may_join i.last (Single (as_listed t)) in
     (and_parts may _ (and_parts (may && is_had (is_index_place i.before i.last) (as_listed t)) _ i.fit).0).1

@@ -24,9 +24,14 @@ pub mod Item
 pub mod ItemRead
 pub mod File
 pub mod TypesFronts
+pub mod TypesOpens
 pub mod TypesBegins
 pub mod TypesLists
 pub mod TypesCompleteParts
 pub mod TypesComplete
 pub mod TypesCompletePaths
 pub mod TypesCompleteKinds
+pub mod TypesCompleteAlone
+pub mod GenericsComplete
+pub mod WheresComplete
+pub mod TypesExact

@@ -5,22 +5,36 @@ ghost use Rattle.lay_tree.specs.Reading.{SpellsFile};
 ghost use Rattle.lay_tree.specs.nodes.Attr.{about_attr};
 ghost use Rattle.lay_tree.specs.nodes.Call.{about_call, about_group};
 ghost use Rattle.lay_tree.specs.nodes.Facts.{Front};
+ghost use Rattle.lay_tree.specs.nodes.Generics.{GenericsAt, GenericsFront};
 ghost use Rattle.lay_tree.specs.nodes.Item.{about_item};
 ghost use Rattle.lay_tree.specs.nodes.SimplePath.{about_simple_path};
+ghost use Rattle.lay_tree.specs.nodes.Types.{BoundsFront, TypeFront, about_args, about_path, about_type, alone, in_style};
 ghost use Rattle.lay_tree.specs.nodes.Use.{about_use};
+ghost use Rattle.lay_tree.specs.nodes.Where.{WheresAt, WheresFront};
 ghost use Rattle.lay_tree.specs.reader.Attr.{attribute};
 ghost use Rattle.lay_tree.specs.reader.Call.{call};
 ghost use Rattle.lay_tree.specs.reader.Exact.{Exact, needless};
+ghost use Rattle.lay_tree.specs.reader.Generics.{generics_at};
 ghost use Rattle.lay_tree.specs.reader.Item.{item_at};
 ghost use Rattle.lay_tree.specs.reader.SimplePath.{simple_path};
 ghost use Rattle.lay_tree.specs.reader.Tokens.{group};
+ghost use Rattle.lay_tree.specs.reader.Types.{args_at, bounds_at, path_at, type_at};
 ghost use Rattle.lay_tree.specs.reader.Use.{use_at};
+ghost use Rattle.lay_tree.specs.reader.Where.{wheres_at};
 ghost use Rattle.lay_tree.specs.declared.attr.Attr.{Attr};
 ghost use Rattle.lay_tree.specs.declared.file.File.{File};
+ghost use Rattle.lay_tree.specs.declared.generics.Generics.{Generics};
+ghost use Rattle.lay_tree.specs.declared.generics.Wheres.{Wheres};
 ghost use Rattle.lay_tree.specs.declared.item.Item.{Item};
 ghost use Rattle.lay_tree.specs.declared.simple_path.SimplePath.{SimplePath};
 ghost use Rattle.lay_tree.specs.declared.tokens.Group.{Group};
 ghost use Rattle.lay_tree.specs.declared.tokens.MacroCall.{MacroCall};
+ghost use Rattle.lay_tree.specs.declared.types.Args.{Args};
+ghost use Rattle.lay_tree.specs.declared.types.Bound.{Bound};
+ghost use Rattle.lay_tree.specs.declared.types.Path.{Path};
+ghost use Rattle.lay_tree.specs.declared.types.PathStyle.{PathStyle};
+ghost use Rattle.lay_tree.specs.declared.types.Ty.{Ty};
+ghost use Rattle.lay_tree.specs.declared.types.TypePlace.{TypePlace};
 ghost use Rattle.lay_tree.specs.declared.use_tree.UseTree.{UseTree};
 
 /// The functions that read nodes read exactly what stands at the front of the tokens.
@@ -29,6 +43,12 @@ pub fn reading_law()
     ensures groups { Exact (needless group) (λ (x : Group). Front (about_group x)) }
     ensures calls { Exact (needless call) (λ (x : MacroCall). Front (about_call x)) }
     ensures attrs { (inner : Bool) → Exact (needless (attribute inner)) (λ (x : Attr). Front (about_attr inner x)) }
+    ensures types { (place : TypePlace) → Exact (type_at place) (λ (x : Ty). TypeFront place (about_type x)) }
+    ensures paths { (style : PathStyle) → Exact (path_at style) (λ (x : Path). Front (alone (about_path x style))) }
+    ensures args { (style : PathStyle) → Exact (args_at style) (λ (x : Args). Front (alone (in_style style (about_args x)))) }
+    ensures bounds { Exact bounds_at (λ (x : List Bound). BoundsFront x) }
+    ensures generics { Exact generics_at (λ (x : Generics × Bool). GenericsAt x.1 x.0) }
+    ensures wheres { Exact wheres_at (λ (x : Wheres × Bool). WheresAt x.1 x.0) }
     ensures use_trees { Exact use_at (λ (x : UseTree). Front (about_use x)) }
     ensures items { Exact item_at (λ (x : Item). Front (about_item x)) }
 {}
@@ -43,6 +63,20 @@ pub fn node_law()
         → Front (about_call node) ts n depth → Front (about_call other) ts m depth → (node ≡ other) × (n ≡ m) }
     ensures one_attr { (node other : Attr) (inner : Bool) (ts : List Token) (n m depth : ℕ)
         → Front (about_attr inner node) ts n depth → Front (about_attr inner other) ts m depth → (node ≡ other) × (n ≡ m) }
+    ensures one_type { (node other : Ty) (place : TypePlace) (ts : List Token) (n m depth : ℕ)
+        → TypeFront place (about_type node) ts n depth → TypeFront place (about_type other) ts m depth → (node ≡ other) × (n ≡ m) }
+    ensures one_path { (node other : Path) (style : PathStyle) (ts : List Token) (n m depth : ℕ)
+        → Front (alone (about_path node style)) ts n depth → Front (alone (about_path other style)) ts m depth
+        → (node ≡ other) × (n ≡ m) }
+    ensures one_args { (node other : Args) (style : PathStyle) (ts : List Token) (n m depth : ℕ)
+        → Front (alone (in_style style (about_args node))) ts n depth → Front (alone (in_style style (about_args other))) ts m depth
+        → (node ≡ other) × (n ≡ m) }
+    ensures one_bounds { (nodes others : List Bound) (ts : List Token) (n m depth : ℕ)
+        → BoundsFront nodes ts n depth → BoundsFront others ts m depth → (nodes ≡ others) × (n ≡ m) }
+    ensures one_generics { (node other : Generics) (ts : List Token) (n m depth : ℕ)
+        → GenericsFront node ts n depth → GenericsFront other ts m depth → (node ≡ other) × (n ≡ m) }
+    ensures one_wheres { (node other : Wheres) (ts : List Token) (n m depth : ℕ)
+        → WheresFront node ts n depth → WheresFront other ts m depth → (node ≡ other) × (n ≡ m) }
     ensures one_use { (node other : UseTree) (ts : List Token) (n m depth : ℕ)
         → Front (about_use node) ts n depth → Front (about_use other) ts m depth → (node ≡ other) × (n ≡ m) }
     ensures one_item { (node other : Item) (ts : List Token) (n m depth : ℕ)

@@ -61,13 +61,18 @@ pub needless_complete : {A : Type 0} (about : A → Facts) (one : Tokens → Got
     → (depth : ℕ) → Complete about depth (needless one depth)
 needless_complete about one complete depth x ts rest s = (0, omega arith, rw (complete x depth ts rest s) refl)
 
--- One reading gives one node and one count of tokens.
-pub one_at_most : {A : Type 0} (about : A → Facts) (read : ℕ → Tokens → Read A) → Exact read (λ x. Front (about x))
-    → (node other : A) (ts : Tokens) (n m depth : ℕ) → Front (about node) ts n depth → Front (about other) ts m depth → (node ≡ other) × (n ≡ m)
-one_at_most {A} about read exactly node other ts n m depth f g =
+-- One reading gives one node and one count of tokens, where a front is no longer than the tokens.
+pub one_by_reading : {A : Type 0} (Fits : A → Tokens → ℕ → ℕ → Type 0) (read : ℕ → Tokens → Read A)
+    → ((x : A) (ts : Tokens) (n depth : ℕ) → Fits x ts n depth → n ≤ length ts) → Exact read Fits
+    → (node other : A) (ts : Tokens) (n m depth : ℕ) → Fits node ts n depth → Fits other ts m depth → (node ≡ other) × (n ≡ m)
+one_by_reading {A} Fits read within exactly node other ts n m depth f g =
     let a = exactly.complete node ts n depth f in
     let b = exactly.complete other ts m depth g in
     let e : ◌≡◌ {A = (A × ℕ) × Tokens} ((node, a.0), drop n ts) ((other, b.0), drop m ts) =
     ap (or_else ((node, a.0), drop n ts)) (sym a.2 ∙ b.2) in
     let left : length (drop n ts) ≡ length (drop m ts) = ap (λ (x : (A × ℕ) × Tokens). length x.1) e in
-    (ap (λ (x : (A × ℕ) × Tokens). x.0.0) e, omega (arith, left, length-drop n ts, length-drop m ts, f.0, g.0))
+    (ap (λ (x : (A × ℕ) × Tokens). x.0.0) e, omega (arith, left, length-drop n ts, length-drop m ts, within node ts n depth f, within other ts m depth g))
+
+pub one_at_most : {A : Type 0} (about : A → Facts) (read : ℕ → Tokens → Read A) → Exact read (λ x. Front (about x))
+    → (node other : A) (ts : Tokens) (n m depth : ℕ) → Front (about node) ts n depth → Front (about other) ts m depth → (node ≡ other) × (n ≡ m)
+one_at_most about read exactly = one_by_reading (λ x. Front (about x)) read (λ x ts n depth f. f.0) exactly

@@ -1,10 +1,10 @@
 -- What a path and a type begin with: the first token depends on the root alone, but for a path behind a `<`, which begins with
 -- a type in turn.
-use Rattle.std.proofs.Common.{◌≡◌, ℕ, zero, suc, ◌≤◌, ◌<◌, Bool, true, false, not, ◌&&◌, List, [], ◌∷◌, ◌++◌, map, length, drop, codes, Option, option_map, Some, None, refl, sym, ap, subst, ◌∙◌, arith, inl, inr}
+use Rattle.std.proofs.Common.{◌≡◌, ℕ, zero, suc, ◌≤◌, ◌<◌, Bool, true, false, not, ◌&&◌, List, [], ◌∷◌, ◌++◌, map, length, drop, codes, Option, option_map, Some, None, refl, sym, subst, ◌∙◌, arith, inl, inr}
 use Rattle.std.specs.Prelude.{◌==◌}
 use Rattle.std.specs.Str.{bytes_eq}
 use Rattle.std.proofs.lemmas.Bool.{and_parts, false_from_ne_true}
-use Rattle.lay_piece.specs.Forms.{opening, closing}
+use Rattle.lay_piece.specs.Forms.{opening}
 use Rattle.lay_piece.specs.declared.kind.Delim.TheVariants.{Paren, Bracket}
 use Rattle.lay_piece.specs.declared.kind.Kind.{Kind}
 use Rattle.lay_piece.specs.declared.kind.Kind.TheVariants.{Ident, Underscore, Punct, Opener}
@@ -21,7 +21,7 @@ use Rattle.lay_tree.specs.Words.{is_path_word, are_path_words, colons}
 use Rattle.lay_tree.specs.nodes.Call.{bang, about_call}
 use Rattle.lay_tree.specs.nodes.Facts.{Facts, forms}
 use Rattle.lay_tree.specs.nodes.SimplePath.{are_simple_words, is_simple_path, simple_words_form, simple_path_form}
-use Rattle.lay_tree.specs.nodes.Types.{TypeFacts, ArgsFacts, PathFacts, args_facts, start_facts, ty_facts, path_facts, in_style, good_at, less, greater, lifetime_param_form, binder_form, abi_name, abi_form, segments_form, segments_good, of_form, of_good, deeper, tuple_form, type_forms, pointer_word, bounds_word, ref_lifetime, bounds_form, params_form, output_form, about_type, about_path, about_start, about_args, about_arg, about_bound, about_func_param}
+use Rattle.lay_tree.specs.nodes.Types.{TypeFacts, ArgsFacts, PathFacts, ty_facts, in_style, good_at, less, greater, lifetime_param_form, binder_form, abi_name, abi_form, segments_form, segments_good, of_form, of_good, deeper, tuple_form, type_forms, pointer_word, ref_lifetime, bounds_form, params_form, output_form, about_type, about_path, about_start, about_args, about_arg, about_bound, about_func_param}
 use Rattle.lay_tree.specs.tokens.Lists.{group_form, token_list}
 use Rattle.lay_tree.specs.reader.Types.{begins_given}
 use Rattle.lay_tree.specs.reader.Words.{given_name}
@@ -29,13 +29,11 @@ use Rattle.lay_tree.specs.declared.simple_path.SimplePath.{SimplePath}
 use Rattle.lay_tree.specs.declared.token.Word.{Word}
 use Rattle.lay_tree.specs.declared.tokens.MacroCall.{MacroCall}
 use Rattle.lay_tree.specs.declared.types.Abi.{Abi}
-use Rattle.lay_tree.specs.declared.types.Arg.TheOpen.{Args-F, PathStart-F, Ty-F}
+use Rattle.lay_tree.specs.declared.types.Arg.TheOpen.{Ty-F}
 use Rattle.lay_tree.specs.declared.types.Args.{Args}
-use Rattle.lay_tree.specs.declared.types.Args.TheVariants as args
 use Rattle.lay_tree.specs.declared.types.Binder.{Binder}
 use Rattle.lay_tree.specs.declared.types.Path.{Path}
 use Rattle.lay_tree.specs.declared.types.PathStart.{PathStart}
-use Rattle.lay_tree.specs.declared.types.PathStart.TheVariants as start
 use Rattle.lay_tree.specs.declared.types.PathStyle.{PathStyle}
 use Rattle.lay_tree.specs.declared.types.PathStyle.TheVariants.{Code, Kind as InKind}
 use Rattle.lay_tree.specs.declared.types.Ty.{Ty}
@@ -43,7 +41,7 @@ use Rattle.lay_tree.specs.declared.types.Ty.TheVariants as ty
 use Rattle.lay_tree.specs.declared.types.TypePlace.{TypePlace}
 use Rattle.lay_tree.specs.declared.types.TypePlace.TheVariants.{Bounds, NoBounds}
 use Rattle.lay_tree.proofs.Fronts.{mark_one, one_front, one_no_op, other_op, one_shorter, op_shorter}
-use Rattle.lay_tree.proofs.Parts.{bit_alone, before_blank, bit_piece, piece_bit, word_kind, leaf_parts}
+use Rattle.lay_tree.proofs.Parts.{bit_alone, before_blank, piece_bit, word_kind, leaf_parts}
 use Rattle.lay_tree.proofs.nodes.TypesLaws.{TyView, IsPath, IsCall, IsParen, IsTuple, IsNever, IsInfer, IsPtr, IsRef, IsSlice, IsArray, IsFunc, IsBounds, PathStartView, IsLocal, IsGlobal, IsQualified, ArgsView, IsNone, IsAngle, IsRound, about_segment, type_view, start_view, args_view, type_path_is, type_call_is, type_paren_is, type_tuple_is, type_never_is, type_infer_is, type_ptr_is, type_ref_is, type_slice_is, type_array_is, type_func_is, type_bounds_is, start_local_is, start_global_is, start_qualified_is, args_none_is, args_angle_is, args_round_is, path_is}
 use Rattle.lay_tree.proofs.reader.Call.{bang_operator}
 use Rattle.lay_tree.proofs.reader.TypesFronts.{no_other_op, op_first, no_begins, lead_no_equals, word_lead, colons_lead, less_lead, word_no_mark, word_no_given}
@@ -84,7 +82,8 @@ args_front style a depth ts rest s = by style a (args_view a) s
     by InKind _ (IsAngle xs) t =
         let u = subst (λ (F : ArgsFacts). Spells F.kind.form depth ts rest) (args_angle_is xs) t in
         elim u.1 [
-          | inl e ↦ let f = list_front less greater (forms (map about_arg xs)) depth u.0 rest u.2 in OfLess f.0 (subst (λ us. IsOne Punct (codes "<") us f.0) (sym e) f.1)
+          | inl e ↦ let f =
+              list_front less greater (forms (map about_arg xs)) depth u.0 rest u.2 in OfLess f.0 (subst (λ us. IsOne Punct (codes "<") us f.0) (sym e) f.1)
           | inr b ↦ late (forms (map about_arg xs)) u.0 (bit_alone (Operator (codes "::")) ts u.0 b) u.2
         ]
     by Code _ (IsRound xs y) t =
@@ -147,7 +146,8 @@ segments_front style (w ∷ v ∷ more) depth ts rest g s =
     let a = l.2 in
     let b = a.2 in
     let o : IsOperator (codes "::") a.0 b.0 = bit_alone (Operator (codes "::")) a.0 b.0 b.1 in
-    let goods = (and_parts (is_path_word w.0.raw w.0.text && args.good && not (about_args w.1).returns) (segments_good style (map about_segment (v ∷ more))) g).0 in
+    let goods =
+    (and_parts (is_path_word w.0.raw w.0.text && args.good && not (about_args w.1).returns) (segments_good style (map about_segment (v ∷ more))) g).0 in
     let goods2 = (and_parts (is_path_word w.0.raw w.0.text && args.good) (not (about_args w.1).returns) goods).0 in
     record {
       raw = w.0.raw;
@@ -194,7 +194,8 @@ path_begins style p depth ts rest s g =
           plain = λ n. word_no_given f.raw f.text mid f.behind f.word (f.colon n);
         })
     by _ IsGlobal mid t u h =
-        let o : IsOperator (codes "::") ts mid = piece_bit (Operator (codes "::")) depth ts mid (subst (λ (F : Facts). Spells F.form depth ts mid) start_global_is t) in
+        let o : IsOperator (codes "::") ts mid =
+        piece_bit (Operator (codes "::")) depth ts mid (subst (λ (F : Facts). Spells F.form depth ts mid) start_global_is t) in
         record {
           lead = colons_lead ts o.0;
           less = omega (arith, op_shorter 58 (codes ":") ts mid o, shorter segments depth mid rest u);
@@ -345,7 +346,8 @@ module _ (depth : ℕ) (ts rest : Tokens) where
       front : (xs : List Ty) (d : ℕ) → Spells (tuple_form (map about_type xs)) d ts rest
           → (inside : Tokens) × IsOne (Opener Paren) (opening Paren ∷ []) ts inside × (length rest ≤ length inside)
       front [] d t = list [] d t
-      front (x ∷ []) d t = (t.0, bit_alone (opener Paren) ts t.0 t.1, shorter (Part (about_type x).told.form (piece (punct 44 ∷ closer Paren ∷ []))) d t.0 rest t.2)
+      front (x ∷ []) d t =
+          (t.0, bit_alone (opener Paren) ts t.0 t.1, shorter (Part (about_type x).told.form (piece (punct 44 ∷ closer Paren ∷ []))) d t.0 rest t.2)
       front (x ∷ y ∷ ys) d t = list (type_forms (map about_type (x ∷ y ∷ ys))) d t
 
   begins : (x : Ty) (v : TyView x) → Begins (lead_of x v) (about_type x)
@@ -385,7 +387,8 @@ module _ (depth : ℕ) (ts rest : Tokens) where
       (type_func_is binder is_unsafe abi params variadic output)
       (λ s g.
       let f : Form = Part (params_form (map about_func_param params) variadic) (output_form (option_map about_type output)) in
-      let i = opened (binder_form binder (when is_unsafe (keyword (codes "unsafe") ∷ Blank ∷ []) (abi_form abi (Piece (keyword (codes "fn") ∷ []) f)))) depth ts rest s in
+      let i =
+      opened (binder_form binder (when is_unsafe (keyword (codes "unsafe") ∷ Blank ∷ []) (abi_form abi (Piece (keyword (codes "fn") ∷ []) f)))) depth ts rest s in
       func_begins binder is_unsafe abi f i.0 ts rest i.2)
   begins _ (IsBounds true bs) = told_begins OfDyn (ty.Bounds true bs) (ty_facts (Ty-F.Bounds true (map about_bound bs))) (type_bounds_is true bs)
       (λ s g.
@@ -437,7 +440,8 @@ path_no_shift style p depth ts rest s g =
         let f = segments_front style p.segments depth mid rest k u in
         rw e (no_begins 60 (codes "=") mid (word_no_mark (codes "<") f.raw f.text mid f.behind f.word))
     by _ IsGlobal mid t u h k =
-        let o : IsOperator (codes "::") ts mid = piece_bit (Operator (codes "::")) depth ts mid (subst (λ (F : Facts). Spells F.form depth ts mid) start_global_is t) in
+        let o : IsOperator (codes "::") ts mid =
+        piece_bit (Operator (codes "::")) depth ts mid (subst (λ (F : Facts). Spells F.form depth ts mid) start_global_is t) in
         op_no_less ts o.0
     by _ (IsQualified x of) mid t u h k =
         let v = subst (λ (F : Facts). Spells F.form depth ts mid) (start_qualified_is x of) t in
@@ -446,7 +450,8 @@ path_no_shift style p depth ts rest s g =
         let b = type_begins x Bounds depth v.0 v.2.0 v.2.1 (and_parts (good_at Bounds (about_type x)) (of_good (option_map about_path of)) good).0 in
         shift_behind 60 61 [] ts v.0 o (no_begins 61 [] v.0 (lead_no_equals v.0 (lead_of x (type_view x)) b.lead))
 
-simple_no_shift : (p : SimplePath) (depth : ℕ) (ts rest : Tokens) → Spells (simple_path_form p) depth ts rest → is_simple_path p ≡ true → begins_op (codes "<=") ts ≡ false
+simple_no_shift : (p : SimplePath) (depth : ℕ) (ts rest : Tokens) → Spells (simple_path_form p) depth ts rest → is_simple_path p ≡ true
+    → begins_op (codes "<=") ts ≡ false
 simple_no_shift p depth ts rest s g = at p.global p.words g s
   where
     at : (leads : Bool) (words : List Word) → are_simple_words words ≡ true → Spells (when leads colons (simple_words_form words Done)) depth ts rest

@@ -1,42 +1,35 @@
 -- Generic arguments, paths and bounds: what is spelled is read, where what is one level deeper is read.
 use Rattle.std.proofs.Common.{◌≡◌, ℕ, zero, suc, ◌≤◌, ◌<◌, max, Bool, true, false, not, ◌&&◌, ◌||◌, List, [], ◌∷◌, map, length, drop, codes, Option, option_map, Some, None, inl, inr, refl, sym, ap, subst, ◌∙◌, arith}
 use Rattle.std.specs.List.{list_all}
-use Rattle.std.proofs.lemmas.Bool.{and_parts, and_from, not-true}
+use Rattle.std.proofs.lemmas.Bool.{and_parts, not-true}
 use Rattle.std.proofs.lemmas.List.Folds.{list_all-map}
-use Rattle.lay_piece.specs.Forms.{opening, closing}
+use Rattle.lay_piece.specs.Forms.{opening}
 use Rattle.lay_piece.specs.Word.{class_of}
 use Rattle.lay_piece.specs.declared.kind.Delim.TheVariants.{Paren}
 use Rattle.lay_piece.specs.declared.kind.Kind.TheVariants as kind
 use Rattle.lay_piece.specs.declared.kind.Kind.TheVariants.{Ident, Punct, Opener}
 use Rattle.lay_piece.specs.declared.word.Class.{Class}
-use Rattle.lay_piece.specs.declared.word.Class.TheVariants.{Plain, PathWord}
+use Rattle.lay_piece.specs.declared.word.Class.TheVariants.{Plain}
 use Rattle.lay_token.specs.Operators.{begins_op, is_op}
-use Rattle.lay_form.specs.Form.{Bit, Blank, Fixed, Operator, Form, Done, Piece, Part, Deeper, keyword, opener, closer}
-use Rattle.lay_form.specs.Notation.{B, when, each, piece, comma_list}
+use Rattle.lay_form.specs.Form.{Bit, Blank, Operator, Form, Done, Part, Deeper, opener, closer}
+use Rattle.lay_form.specs.Notation.{comma_list}
 use Rattle.lay_form.specs.Spelled.{IsOne, IsBit, IsOperator, AreBits, Spells}
 use Rattle.lay_form.proofs.FormLaws.{shorter}
-use Rattle.lay_tree.specs.Ahead.{Tokens, first, tail, is_keyword, is_lifetime, is_mark, is_opener, opens, closes, opens_args, opens_args_late}
-use Rattle.lay_tree.specs.Begins.{OfPath, lead_at, begins_bound}
-use Rattle.lay_tree.specs.Follow.{Begin, begins_there}
-use Rattle.lay_tree.specs.Words.{is_plain, is_path_class, is_name, is_path_word, leaf_of, colons}
-use Rattle.lay_tree.specs.nodes.Facts.{Facts, forms, all_good}
-use Rattle.lay_tree.specs.nodes.Types.{TypeFacts, ArgsFacts, PathFacts, in_style, less, greater, colon, equals, good_at, all_types_good, type_forms, type_follows, output_form, output_good, output_refuses, angle_form, round_form, args_facts, bounds_form, bounds_good, last_refuses, meets_form, binder_form, is_binder, bound_facts, constraint_facts, arg_facts, segment_form, segments_form, segment_good, segments_good, segments_refuse, of_form, of_good, start_facts, path_facts, ty_facts, deeper, const_form, is_const, lifetime_form, about_type, about_path, about_start, about_args, about_arg, about_constraint, about_bound}
-use Rattle.lay_tree.specs.reader.Loops.{Got, Read, ◌>>=◌, passed, nodes, deepest, elements}
-use Rattle.lay_tree.specs.reader.Types.{Within, operator, flag, if_read, lifetime, binder_if, chain, angled, begins_const, as_path, path_in, starts_plain, as_name, named_segments, named_type, begins_constraint, one_arg, angle, output, round, args_by, segment, trait_path, qualified, path_start, returns_last, path_of, path, meets, one_bound, all_bounds, bounds_by, equal, constraint_by}
+use Rattle.lay_tree.specs.Ahead.{Tokens, first, is_mark, is_opener, opens, closes, opens_args, opens_args_late}
+use Rattle.lay_tree.specs.Words.{is_plain, is_path_class, is_name, is_path_word, leaf_of}
+use Rattle.lay_tree.specs.nodes.Facts.{Facts, all_good}
+use Rattle.lay_tree.specs.nodes.Types.{TypeFacts, ArgsFacts, PathFacts, in_style, less, greater, equals, good_at, all_types_good, type_forms, type_follows, output_form, output_good, output_refuses, angle_form, round_form, deeper, about_type, about_path, about_start, about_args, about_arg, about_constraint}
+use Rattle.lay_tree.specs.reader.Loops.{Read, nodes, deepest, elements}
+use Rattle.lay_tree.specs.reader.Types.{Within, operator, as_path, path_in, starts_plain, named_type, begins_constraint, one_arg, angle, output, round, args_by}
 use Rattle.lay_tree.specs.declared.token.Lifetime.{Lifetime}
 use Rattle.lay_tree.specs.declared.token.Name.{Name}
 use Rattle.lay_tree.specs.declared.token.Word.{Word}
 use Rattle.lay_tree.specs.declared.types.Arg.{Arg}
-use Rattle.lay_tree.specs.declared.types.Arg.TheOpen.{Arg-F, Args-F, Bound-F, Constraint-F, PathStart-F, Ty-F}
 use Rattle.lay_tree.specs.declared.types.Arg.TheViews as views
 use Rattle.lay_tree.specs.declared.types.Args.{Args}
 use Rattle.lay_tree.specs.declared.types.Args.TheVariants as args
-use Rattle.lay_tree.specs.declared.types.Binder.{Binder}
-use Rattle.lay_tree.specs.declared.types.Bound.{Bound}
-use Rattle.lay_tree.specs.declared.types.Bound.TheVariants as bound
 use Rattle.lay_tree.specs.declared.types.Constraint.{Constraint}
 use Rattle.lay_tree.specs.declared.types.Path.{Path}
-use Rattle.lay_tree.specs.declared.types.PathStart.{PathStart}
 use Rattle.lay_tree.specs.declared.types.PathStart.TheVariants as start
 use Rattle.lay_tree.specs.declared.types.PathStyle.{PathStyle}
 use Rattle.lay_tree.specs.declared.types.PathStyle.TheVariants.{Code, Kind as InKind}
@@ -44,16 +37,15 @@ use Rattle.lay_tree.specs.declared.types.Ty.{Ty}
 use Rattle.lay_tree.specs.declared.types.Ty.TheVariants as ty
 use Rattle.lay_tree.specs.declared.types.TypePlace.{TypePlace}
 use Rattle.lay_tree.specs.declared.types.TypePlace.TheVariants.{Bounds, NoBounds}
-use Rattle.lay_tree.proofs.Fronts.{one_front, one_no_op, op_front, op_test, other_op, one_shorter, op_shorter, mark_passed, opener_passed, closer_first, closer_passed}
-use Rattle.lay_tree.proofs.Parts.{Rows, bit_alone, behind_blank, before_blank, piece_bit, part_alone, word_kind, leaf_spelled, leaf_parts}
-use Rattle.lay_tree.proofs.nodes.TypesLaws.{PathStartView, IsLocal, IsGlobal, IsQualified, ArgsView, IsNone, IsAngle, IsRound, ArgView, IsRegion, IsPlain, IsConst, IsNamed, ConstraintView, IsEqual, IsEqualConst, IsLimit, BoundView, IsOutlives, IsMeets, about_segment, type_view, start_view, args_view, arg_view, constraint_view, bound_view, type_path_is, start_local_is, start_global_is, start_qualified_is, args_none_is, args_angle_is, args_round_is, arg_region_is, arg_plain_is, arg_const_is, arg_named_is, constraint_equal_is, constraint_equal_const_is, constraint_limit_is, bound_outlives_is, bound_meets_is, path_is}
+use Rattle.lay_tree.proofs.Fronts.{one_front, one_no_op, op_test, other_op, one_shorter, mark_passed, opener_passed}
+use Rattle.lay_tree.proofs.Parts.{bit_alone, behind_blank, before_blank, part_alone, word_kind, leaf_spelled, leaf_parts}
+use Rattle.lay_tree.proofs.nodes.TypesLaws.{ArgsView, IsNone, IsAngle, IsRound, ArgView, IsRegion, IsPlain, IsConst, IsNamed, ConstraintView, IsEqual, IsEqualConst, IsLimit, type_view, args_view, arg_view, constraint_view, type_path_is, start_local_is, args_none_is, args_angle_is, args_round_is, arg_region_is, arg_plain_is, arg_const_is, arg_named_is, constraint_equal_is, constraint_equal_const_is, constraint_limit_is, path_is}
 use Rattle.lay_tree.proofs.reader.Exact.{IsRead}
-use Rattle.lay_tree.proofs.reader.Loops.{Turn}
-use Rattle.lay_tree.proofs.reader.TypesBegins.{lead_of, opened, list_front, path_parts, path_goods, SegmentsFront, segments_front, path_begins, type_begins, type_no_shift}
-use Rattle.lay_tree.proofs.reader.TypesCompleteParts.{none_left, none_right, one_left, lifetime_complete, lifetime_alone, plus_operator, colon_operator, binder_complete, const_complete}
-use Rattle.lay_tree.proofs.reader.TypesFronts.{no_begins, opens_there, lead_no_closer, lead_no_lifetime, lead_no_greater, lead_no_equals, lead_no_question, lead_no_const, path_lead_no_paren, path_lead_no_for, word_no_mark, Clear, follows_clear, Free, free_clear, Quiet, Ends, plus_free, equals_quiet, colon_quiet, comma_ends, greater_ends, closer_ends, as_quiet}
-use Rattle.lay_tree.proofs.reader.TypesLists.{forms_of, chain_complete, paren_closes, greater_closes, ElementsRead, list_read}
-use Rattle.lay_tree.proofs.reader.Words.{word_complete, word_no_op}
+use Rattle.lay_tree.proofs.reader.TypesBegins.{lead_of, opened, list_front, type_begins, type_no_shift}
+use Rattle.lay_tree.proofs.reader.TypesCompleteParts.{none_left, none_right, lifetime_complete, lifetime_alone, colon_operator, const_complete}
+use Rattle.lay_tree.proofs.reader.TypesFronts.{no_begins, opens_there, lead_no_closer, lead_no_lifetime, lead_no_greater, lead_no_equals, lead_no_const, word_no_mark, Clear, follows_clear, free_clear, Quiet, Ends, equals_quiet, colon_quiet}
+use Rattle.lay_tree.proofs.reader.TypesLists.{forms_of, paren_closes, greater_closes, list_read}
+use Rattle.lay_tree.proofs.reader.Words.{word_no_op}
 
 -- ---- what may follow
 
@@ -105,7 +97,7 @@ plain_class : (c : Class) → is_plain c ≡ true → is_path_class c ≡ true
 plain_class Plain h = refl
 plain_class _ h = absurd (cc)
 
-name_is_word : (raw : Bool) (text : List ℕ) → is_name raw text ≡ true → is_path_word raw text ≡ true
+pub name_is_word : (raw : Bool) (text : List ℕ) → is_name raw text ≡ true → is_path_word raw text ≡ true
 name_is_word true text h = refl
 name_is_word false text h = plain_class (class_of text) h
 
@@ -126,7 +118,8 @@ as_path_is p = ap path_in (views.outs-Path p)
 abbrev name_path : Name → Args → Path
 name_path n a = record { start = start.Local; segments = (record { raw = n.raw; text = n.text }, a) ∷ [] }
 
-name_path_spelled : (n : Name) (a : Args) (depth : ℕ) (ts mid rest : Tokens) → IsOne (word_kind n.raw) n.text ts mid → Spells (about_args a).kind.form depth mid rest
+name_path_spelled : (n : Name) (a : Args) (depth : ℕ) (ts mid rest : Tokens) → IsOne (word_kind n.raw) n.text ts mid
+    → Spells (about_args a).kind.form depth mid rest
     → Spells (about_path (name_path n a) InKind).form depth ts rest
 name_path_spelled n a depth ts mid rest o s =
     let local : Spells (about_start start.Local).form depth ts ts = subst (λ (F : Facts). Spells F.form depth ts ts) (sym start_local_is) refl in
@@ -249,13 +242,15 @@ module _ (depth : ℕ) (within : Within) (reads : Reads depth within) where
   abbrev pub Is : {A : Type 0} → (Tokens → Read A) → A → Tokens → Tokens → Type 0
   Is one x ts rest = IsRead depth one x ts rest
 
-  pub quiet_read : (place : TypePlace) (x : Ty) (ts rest : Tokens) → Spells (about_type x).told.form depth ts rest → good_at place (about_type x) ≡ true → Quiet rest
+  pub quiet_read : (place : TypePlace) (x : Ty) (ts rest : Tokens) → Spells (about_type x).told.form depth ts rest
+      → good_at place (about_type x) ≡ true → Quiet rest
       → Is (within.types place) x ts rest
   quiet_read place x ts rest s g q = reads.types place x ts rest s g (quiet_fits place (about_type x) rest q)
 
   -- ---- return types
 
-  pub output_read : (y : Option Ty) (ts rest : Tokens) → Spells (output_form (option_map about_type y)) depth ts rest → output_good (option_map about_type y) ≡ true
+  pub output_read : (y : Option Ty) (ts rest : Tokens) → Spells (output_form (option_map about_type y)) depth ts rest
+      → output_good (option_map about_type y) ≡ true
       → Clear (output_refuses (option_map about_type y)) rest → Is (output within) y ts rest
   output_read None ts rest s g f =
       let arrow = not-true (is_op (codes "->") rest) (and_parts (not (is_op (codes "->") rest)) true f).0 in
@@ -318,7 +313,8 @@ module _ (depth : ℕ) (within : Within) (reads : Reads depth within) where
   angle_read xs ts rest s g =
       let spelled = subst (λ fs. Spells (comma_list true less greater fs) depth ts rest) (forms_of (λ (x : Facts). x.form) about_arg xs) s in
       let goods = sym (list_all-map (λ (x : Facts). x.good) about_arg xs) ∙ g in
-      let l = list_read greater (is_mark (codes ">")) greater_closes (one_arg within) (λ x. (about_arg x).form) (λ x. (about_arg x).good) depth arg_read arg_starts
+      let l =
+      list_read greater (is_mark (codes ">")) greater_closes (one_arg within) (λ x. (about_arg x).form) (λ x. (about_arg x).good) depth arg_read arg_starts
       less xs ts rest goods spelled in
       let there = mark_passed (codes "<") ts l.0 l.1 in
       let ys = l.2 in
@@ -337,7 +333,8 @@ module _ (depth : ℕ) (within : Within) (reads : Reads depth within) where
   types_goods xs g = sym (list_all-map (good_at Bounds) about_type xs) ∙ g
 
   pub types_read : (o : Bit) (xs : List Ty) (ts rest : Tokens) → all_types_good (map about_type xs) ≡ true
-      → Spells (comma_list true o (closer Paren) (type_forms (map about_type xs))) depth ts rest → (inside : Tokens) × IsBit o ts inside × TypesRead xs inside rest
+      → Spells (comma_list true o (closer Paren) (type_forms (map about_type xs))) depth ts rest
+      → (inside : Tokens) × IsBit o ts inside × TypesRead xs inside rest
   types_read o xs ts rest g s =
       list_read (closer Paren) (closes Paren) paren_closes (within.types Bounds) (λ x. (about_type x).told.form) (λ x. good_at Bounds (about_type x)) depth
       (λ x us end t h e. quiet_read Bounds x us end t h e.quiet) type_starts o xs ts rest (types_goods xs g)
@@ -364,7 +361,8 @@ module _ (depth : ℕ) (within : Within) (reads : Reads depth within) where
       Wanted style a = Spells (in_style style (about_args a)).form depth ts rest → (in_style style (about_args a)).good ≡ true
           → Clear (in_style style (about_args a)).refuses rest → Is (args_by within style) a ts rest
 
-      late_read : (xs : List Arg) (mid : Tokens) → IsOperator (codes "::") ts mid → Spells (angle_form (map about_arg xs)) depth mid rest → all_good (map about_arg xs) ≡ true
+      late_read : (xs : List Arg) (mid : Tokens) → IsOperator (codes "::") ts mid → Spells (angle_form (map about_arg xs)) depth mid rest
+          → all_good (map about_arg xs) ≡ true
           → (opens_args_late ts ≡ true) × Is (λ us. angle within (drop 2 us)) (args.Angle xs) ts rest
       late_read xs mid o l h =
           let r = angle_read xs mid rest l h in

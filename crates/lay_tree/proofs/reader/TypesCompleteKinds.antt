@@ -1,28 +1,26 @@
 -- Each kind of type is read where it is spelled, where what is one level deeper is read; and so is every type, and what is not
 -- counted by itself.
-use Rattle.std.proofs.Common.{◌≡◌, ℕ, zero, suc, ◌≤◌, ◌<◌, max, Bool, true, false, not, ◌&&◌, ◌||◌, List, [], ◌∷◌, ◌++◌, map, length, drop, codes, Option, option_map, Some, None, inl, inr, if◌then◌else◌, refl, sym, ap, subst, ◌∙◌, append-nil, arith}
+use Rattle.std.proofs.Common.{◌≡◌, ℕ, zero, suc, ◌≤◌, ◌<◌, max, Bool, true, false, not, ◌&&◌, List, [], ◌∷◌, ◌++◌, map, length, drop, codes, Option, option_map, Some, None, inl, inr, if◌then◌else◌, refl, sym, ap, subst, ◌∙◌, append-nil, arith}
 use Rattle.std.specs.List.{list_all}
 use Rattle.std.specs.Str.{bytes_eq}
 use Rattle.std.proofs.lemmas.Bool.{and_parts, not-true}
 use Rattle.std.proofs.lemmas.List.Folds.{list_all-map}
 use Rattle.lay_piece.specs.Forms.{opening, closing}
 use Rattle.lay_piece.specs.declared.kind.Delim.TheVariants.{Paren, Bracket}
-use Rattle.lay_piece.specs.declared.kind.Kind.TheVariants as kind
 use Rattle.lay_piece.specs.declared.kind.Kind.TheVariants.{Ident, RawIdent, Underscore, Punct, Opener, Closer}
 use Rattle.lay_token.specs.Delimiters as delimiters
 use Rattle.lay_token.specs.Operators.{is_op}
-use Rattle.lay_form.specs.Form.{Bit, Blank, Fixed, Operator, Form, Done, Piece, Part, punct, keyword, opener, closer, comma, semicolon}
+use Rattle.lay_form.specs.Form.{Blank, Fixed, Operator, Form, Done, Piece, Part, punct, keyword, opener, closer, comma, semicolon}
 use Rattle.lay_form.specs.Notation.{when, each, piece, comma_gap, comma_list}
-use Rattle.lay_form.specs.Spelled.{IsOne, IsBit, IsOperator, AreBits, MayBe, Spells}
+use Rattle.lay_form.specs.Spelled.{IsOne, IsBit, IsOperator, MayBe, Spells}
 use Rattle.lay_form.proofs.FormLaws.{shorter}
-use Rattle.lay_tree.specs.Ahead.{Tokens, first, tail, is_keyword, is_lifetime, is_mark, is_closer, opens, closes}
-use Rattle.lay_tree.specs.Begins.{OfPath, lead_at}
-use Rattle.lay_tree.specs.Follow.{begins_there, OfBang}
-use Rattle.lay_tree.specs.Words.{is_path_word, leaf_of, colons}
+use Rattle.lay_tree.specs.Ahead.{Tokens, first, tail, is_keyword, is_lifetime, is_mark, is_closer, closes}
+use Rattle.lay_tree.specs.Begins.{OfPath}
+use Rattle.lay_tree.specs.Follow.{OfBang}
+use Rattle.lay_tree.specs.Words.{is_path_word, colons}
 use Rattle.lay_tree.specs.nodes.Attr.{is_empty, are_attrs, about_attr}
 use Rattle.lay_tree.specs.nodes.Call.{about_call}
 use Rattle.lay_tree.specs.nodes.Facts.{Facts, forms, all_good}
-use Rattle.lay_tree.specs.nodes.SimplePath.{about_simple_path}
 use Rattle.lay_tree.specs.nodes.Types as types
 use Rattle.lay_tree.specs.nodes.Types.{TypeFacts, ArgsFacts, PathFacts, in_style, good_at, all_types_good, type_forms, type_follows, output_form, output_good, output_refuses, bounds_form, bounds_good, last_refuses, is_several, binder_form, is_binder, abi_form, is_abi, segment_form, segments_form, segment_good, segments_good, start_facts, ty_facts, func_param_facts, deeper, tuple_form, pointer_word, ref_lifetime, bounds_word, is_param_name, params_form, dots, param_attrs, about_type, about_path, about_start, about_args, about_bound, about_constraint, about_func_param}
 use Rattle.lay_tree.specs.tokens.Lexed.{is_token_list}
@@ -32,7 +30,7 @@ use Rattle.lay_tree.specs.reader.Attr.{begins_attr}
 use Rattle.lay_tree.specs.reader.Loops.{Got, Read, ◌>>=◌, passed, nodes, deepest, repeat_from, repeat, elements, open_elements_from, open_elements}
 use Rattle.lay_tree.specs.reader.SimplePath.{begins_colons, further_word, simple_path}
 use Rattle.lay_tree.specs.reader.Tokens.{tokens}
-use Rattle.lay_tree.specs.reader.Types.{Within, flag, path, bounds_by, if_there, lifetime, begins_call, call_type, path_type, paren_by, paren_type, array_by, slice_by, bracket_type, reference_type, is_mutable, pointer_type, bounds_type, abi, is_string_token, begins_given, param_name, func_param, begins_param, func_params, func_type, type_by, within, type_at, constraint_by}
+use Rattle.lay_tree.specs.reader.Types.{Within, flag, path, bounds_by, begins_call, path_type, paren_by, paren_type, array_by, bracket_type, reference_type, is_mutable, pointer_type, bounds_type, is_string_token, func_param, begins_param, func_params, func_type, type_by, within, type_at}
 use Rattle.lay_tree.specs.reader.Words.{word, global}
 use Rattle.lay_tree.specs.declared.simple_path.SimplePath.{SimplePath}
 use Rattle.lay_tree.specs.declared.token.GivenName.{GivenName}
@@ -42,32 +40,31 @@ use Rattle.lay_tree.specs.declared.token.Listed.{Listed}
 use Rattle.lay_tree.specs.declared.token.Word.{Word}
 use Rattle.lay_tree.specs.declared.tokens.MacroCall.{MacroCall}
 use Rattle.lay_tree.specs.declared.types.Abi.{Abi}
-use Rattle.lay_tree.specs.declared.types.Arg.TheOpen.{PathStart-F, Ty-F}
+use Rattle.lay_tree.specs.declared.types.Arg.TheOpen.{Ty-F}
 use Rattle.lay_tree.specs.declared.types.Args.{Args}
 use Rattle.lay_tree.specs.declared.types.Binder.{Binder}
 use Rattle.lay_tree.specs.declared.types.Bound.{Bound}
-use Rattle.lay_tree.specs.declared.types.Constraint.{Constraint}
 use Rattle.lay_tree.specs.declared.types.FuncParam.{FuncParam}
 use Rattle.lay_tree.specs.declared.types.Path.{Path}
 use Rattle.lay_tree.specs.declared.types.PathStart.{PathStart}
-use Rattle.lay_tree.specs.declared.types.PathStyle.TheVariants.{Code, Kind as InKind}
+use Rattle.lay_tree.specs.declared.types.PathStyle.TheVariants.{Kind as InKind}
 use Rattle.lay_tree.specs.declared.types.Ty.{Ty}
 use Rattle.lay_tree.specs.declared.types.Ty.TheVariants as ty
 use Rattle.lay_tree.specs.declared.types.TypePlace.{TypePlace}
 use Rattle.lay_tree.specs.declared.types.TypePlace.TheVariants.{Bounds, NoBounds}
-use Rattle.lay_tree.proofs.Fronts.{one_front, one_no_op, one_test, op_test, other_op, one_shorter, op_shorter, mark_passed, opener_passed, closer_first, closer_passed}
-use Rattle.lay_tree.proofs.Parts.{Rows, GoodAt, bit_alone, behind_blank, before_blank, piece_bit, part_alone, word_kind, leaf_parts}
+use Rattle.lay_tree.proofs.Fronts.{one_front, one_no_op, op_test, other_op, one_shorter, mark_passed, opener_passed, closer_first, closer_passed}
+use Rattle.lay_tree.proofs.Parts.{Rows, GoodAt, bit_alone, before_blank, piece_bit, part_alone, word_kind, leaf_parts}
 use Rattle.lay_tree.proofs.nodes.TypesLaws.{TyView, IsPath, IsCall, IsParen, IsTuple, IsNever, IsInfer, IsPtr, IsRef, IsSlice, IsArray, IsFunc, IsBounds, PathStartView, IsLocal, IsGlobal, IsQualified, about_segment, type_view, start_view, type_path_is, type_call_is, type_paren_is, type_tuple_is, type_never_is, type_infer_is, type_ptr_is, type_ref_is, type_slice_is, type_array_is, type_func_is, type_bounds_is, start_local_is, start_global_is, start_qualified_is, func_param_is, path_is}
 use Rattle.lay_tree.proofs.reader.AttrRead.{attributes_complete}
 use Rattle.lay_tree.proofs.reader.Call.{call_complete}
 use Rattle.lay_tree.proofs.reader.Exact.{IsRead}
 use Rattle.lay_tree.proofs.reader.SimplePath.{simple_path_complete}
 use Rattle.lay_tree.proofs.reader.Tokens.{row_tokens}
-use Rattle.lay_tree.proofs.reader.TypesBegins.{good_of, ArgsFront, OfNothing, OfLess, OfLate, OfRound, lead_of, list_front, args_front, path_parts, path_goods, type_begins}
-use Rattle.lay_tree.proofs.reader.TypesComplete.{Fits, fits_clear, follows_fits, Reads, Is, quiet_read, output_read, TypesRead, types_read, type_starts, types_goods}
+use Rattle.lay_tree.proofs.reader.TypesBegins.{good_of, ArgsFront, OfNothing, OfLess, OfLate, OfRound, lead_of, args_front, path_parts, path_goods, type_begins}
+use Rattle.lay_tree.proofs.reader.TypesComplete.{Fits, fits_clear, follows_fits, Reads, quiet_read, output_read, TypesRead, type_starts, types_goods}
 use Rattle.lay_tree.proofs.reader.TypesCompleteParts.{keyword_there, one_left, blank_left, lifetime_complete, lifetime_alone, flag_complete, binder_complete, abi_complete, param_attrs_rows, attrs_front, param_name_complete}
 use Rattle.lay_tree.proofs.reader.TypesCompletePaths.{path_read, bounds_read, constraint_read}
-use Rattle.lay_tree.proofs.reader.TypesFronts.{no_other_op, lead_no_closer, lead_no_lifetime, lead_no_keyword, lead_no_attr, lead_no_dots, word_no_mark, Clear, Ends, Quiet, comma_ends, closer_ends, semicolon_quiet}
+use Rattle.lay_tree.proofs.reader.TypesFronts.{no_other_op, lead_no_closer, lead_no_lifetime, lead_no_keyword, lead_no_attr, lead_no_dots, Clear, Ends, comma_ends, closer_ends, semicolon_quiet}
 use Rattle.lay_tree.proofs.reader.TypesLists.{forms_of, paren_closes, some_read, none_read, LastFollows, Ending, open_read}
 use Rattle.lay_tree.proofs.reader.Words.{word_complete, word_no_op}
 use Rattle.lay_tree.proofs.token_lists.Spelling.{IsRow, list_row}
@@ -98,7 +95,8 @@ abbrev NextGood : List (Word × Args) → Type 0
 NextGood [] = Unit {0}
 NextGood (s ∷ more) = segments_good InKind (map about_segment (s ∷ more)) ≡ true
 
-first_segment : (s : Word × Args) (more : List (Word × Args)) (depth : ℕ) (ts rest : Tokens) → Spells (segments_form InKind (map about_segment (s ∷ more))) depth ts rest
+first_segment : (s : Word × Args) (more : List (Word × Args)) (depth : ℕ) (ts rest : Tokens)
+    → Spells (segments_form InKind (map about_segment (s ∷ more))) depth ts rest
     → Spells (segment_form InKind (about_segment s) (Next more)) depth ts rest
 first_segment s [] depth ts rest t = t
 first_segment s (v ∷ more) depth ts rest t = t
@@ -116,7 +114,8 @@ unfolding word
 mark_no_word text ts rest o = rw (one_front Punct text ts rest o).1 refl
 
 -- Behind a word of a path that isn't a macro call's, the words that go on aren't followed by `!`.
-words_no_bang : (ss : List (Word × Args)) (depth n : ℕ) (found : List Word) (ts mid rest : Tokens) → ArgsFront ts mid → Spells (Next ss) depth mid rest → NextGood ss
+words_no_bang : (ss : List (Word × Args)) (depth n : ℕ) (found : List Word) (ts mid rest : Tokens) → ArgsFront ts mid
+    → Spells (Next ss) depth mid rest → NextGood ss
     → is_op (codes "::") rest ≡ false → is_op (codes "!") rest ≡ false → bang_behind (repeat_from begins_colons further_word n found ts) ≡ false
 unfolding repeat_from
 words_no_bang ss depth zero found ts mid rest front s g no_colons no_bang = refl
@@ -154,7 +153,8 @@ path_no_call p depth ts rest s g no_colons no_bang =
     let goods = path_goods InKind p g in
     call_test ts ∙ by p.start (start_view p.start) t.0 t.1 p.segments t.2 goods.1
   where
-    behind : (leads : Bool) (ss : List (Word × Args)) (mid : Tokens) → global ts ≡ (leads, mid) → Spells (segments_form InKind (map about_segment ss)) depth mid rest
+    behind : (leads : Bool) (ss : List (Word × Args)) (mid : Tokens) → global ts ≡ (leads, mid)
+        → Spells (segments_form InKind (map about_segment ss)) depth mid rest
         → segments_good InKind (map about_segment ss) ≡ true → bang_behind (simple_path ts) ≡ false
     behind leads [] mid e t h = absurd (cc)
     behind leads (v ∷ more) mid e t h =
@@ -176,7 +176,8 @@ path_no_call p depth ts rest s g no_colons no_bang =
         let none : is_op (codes "::") ts ≡ false = rw e (word_no_op (codes "::") v.0.raw v.0.text mid l.0 l.1) in
         behind false (v ∷ more) mid (rw none (ap (λ (us : Tokens). let found : Bool × Tokens = (false, us) in found) e)) u h
     by _ IsGlobal mid t ss u h =
-        let o : IsOperator (codes "::") ts mid = piece_bit (Operator (codes "::")) depth ts mid (subst (λ (F : Facts). Spells F.form depth ts mid) start_global_is t) in
+        let o : IsOperator (codes "::") ts mid =
+        piece_bit (Operator (codes "::")) depth ts mid (subst (λ (F : Facts). Spells F.form depth ts mid) start_global_is t) in
         behind true ss mid (rw (o.0, o.1) refl) u h
     by _ (IsQualified x of) mid t ss u h =
         let v = subst (λ (F : Facts). Spells F.form depth ts mid) (start_qualified_is x of) t in
@@ -209,7 +210,7 @@ list_there us depth ts mid rest g s o =
 
 -- ---- parameters of function types
 
-keyword_other : (at other : List ℕ) → bytes_eq at other ≡ false → (ts rest : Tokens) → IsOne Ident at ts rest → first (is_keyword other) ts ≡ false
+pub keyword_other : (at other : List ℕ) → bytes_eq at other ≡ false → (ts rest : Tokens) → IsOne Ident at ts rest → first (is_keyword other) ts ≡ false
 keyword_other at other h ts rest o = rw ((one_front Ident at ts rest o).1, h) refl
 
 -- what stands behind the attributes of a parameter
@@ -238,8 +239,7 @@ param_front (Some (given.Name n)) x depth ts rest s g =
         record { attr = rw f refl; paren = rw f refl; dots = one_no_op (codes "...") Ident text us at refl o }
 param_front (Some given.Underscore) x depth ts rest s g =
     let f = (one_front Underscore (codes "_") ts s.0 s.1).1 in
-    let behind : Form = Piece types.colon (Part (about_type x).told.form Done) in
-    (
+    let behind : Form = Piece types.colon (Part (about_type x).told.form Done) in (
       record { attr = rw f refl; paren = rw f refl; dots = one_no_op (codes "...") Underscore (codes "_") ts s.0 refl s.1 },
       omega (arith, one_shorter Underscore (codes "_") ts s.0 s.1, shorter behind depth s.0 rest s.2),
     )
@@ -264,7 +264,8 @@ module _ (depth : ℕ) (inner : Within) (reads : Reads depth inner) where
   abbrev Made : (Tokens → Read Ty) → Ty → Tokens → Tokens → Type 0
   Made one x ts rest = IsRead (suc depth) one x ts rest
 
-  path_made : (place : TypePlace) (p : Path) (ts rest : Tokens) → Spells (deeper (about_path p InKind).form) (suc depth) ts rest → (about_path p InKind).good ≡ true
+  path_made : (place : TypePlace) (p : Path) (ts rest : Tokens) → Spells (deeper (about_path p InKind).form) (suc depth) ts rest
+      → (about_path p InKind).good ≡ true
       → Clear (OfBang ∷ (about_path p InKind).refuses) rest → Made (type_by inner place (Some OfPath)) (ty.Path p) ts rest
   unfolding path_type
   path_made place p ts rest s g f =
@@ -338,7 +339,8 @@ module _ (depth : ℕ) (inner : Within) (reads : Reads depth inner) where
   tuple_made [] ts rest s g =
       let t = inner_of (tuple_form []) depth ts rest s in
       let o : IsOne (Opener Paren) (opening Paren ∷ []) ts t.1.0 = t.1.1 in
-      let close : IsOne (Closer Paren) (closing Paren ∷ []) t.1.0 rest = subst (λ us. IsOne (Closer Paren) (closing Paren ∷ []) t.1.0 us) t.2 (bit_alone (closer Paren) t.1.0 t.0 t.1.2) in
+      let close : IsOne (Closer Paren) (closing Paren ∷ []) t.1.0 rest =
+      subst (λ us. IsOne (Closer Paren) (closing Paren ∷ []) t.1.0 us) t.2 (bit_alone (closer Paren) t.1.0 t.0 t.1.2) in
       let c = closer_first Paren t.1.0 rest close in
       (1, omega arith, rw (one_left (Opener Paren) (opening Paren ∷ []) ts t.1.0 o, c.0, c.1) refl)
   tuple_made (x ∷ []) ts rest s g =
@@ -350,15 +352,18 @@ module _ (depth : ℕ) (inner : Within) (reads : Reads depth inner) where
       let end = p.2 in
       let bits = end.1 in
       let comma : IsOne Punct (codes ",") mid bits.0 = bits.1 in
-      let close : IsOne (Closer Paren) (closing Paren ∷ []) bits.0 rest = subst (λ us. IsOne (Closer Paren) (closing Paren ∷ []) bits.0 us) end.2 (bit_alone (closer Paren) bits.0 end.0 bits.2) in
+      let close : IsOne (Closer Paren) (closing Paren ∷ []) bits.0 rest =
+      subst (λ us. IsOne (Closer Paren) (closing Paren ∷ []) bits.0 us) end.2 (bit_alone (closer Paren) bits.0 end.0 bits.2) in
       let r = quiet_read depth inner reads Bounds x t.0 mid p.1 good (comma_ends mid bits.0 comma).quiet in
       let b = type_starts depth inner reads x t.0 mid p.1 good in
       let n = no_more bits.0 rest close in
-      let made = paren_open x r.0 t.0 mid (Some ((ty.Tuple (x ∷ []), suc (max r.0 (deepest n.0))), rest)) b.0 r.2 (comma_by x [] r.0 mid bits.0 rest n.0 comma n.1 n.3) in
+      let made =
+      paren_open x r.0 t.0 mid (Some ((ty.Tuple (x ∷ []), suc (max r.0 (deepest n.0))), rest)) b.0 r.2 (comma_by x [] r.0 mid bits.0 rest n.0 comma n.1 n.3) in
       (suc (max r.0 (deepest n.0)), omega (arith, r.1, n.2), rw (one_left (Opener Paren) (opening Paren ∷ []) ts t.0 o) made)
   tuple_made (x ∷ y ∷ ys) ts rest s g =
       let u = inner_of (tuple_form (map about_type (x ∷ y ∷ ys))) depth ts rest s in
-      let t = subst (λ fs. Spells (comma_list true (opener Paren) (closer Paren) fs) depth ts rest) (forms_of (λ (z : TypeFacts). z.told.form) about_type (x ∷ y ∷ ys)) u in
+      let t =
+      subst (λ fs. Spells (comma_list true (opener Paren) (closer Paren) fs) depth ts rest) (forms_of (λ (z : TypeFacts). z.told.form) about_type (x ∷ y ∷ ys)) u in
       let all = types_goods depth inner reads (x ∷ y ∷ ys) g in
       let goods = and_parts (good_at Bounds (about_type x)) (list_all (λ z. good_at Bounds (about_type z)) (y ∷ ys)) all in
       let inside = t.1.0 in
@@ -370,11 +375,13 @@ module _ (depth : ℕ) (inner : Within) (reads : Reads depth inner) where
       let comma : IsOne Punct (codes ",") mid next.0 = bit_alone (Fixed Punct (codes ",")) mid next.0 next.1 in
       let part = next.2 in
       let last = more.2 in
-      let close : IsOne (Closer Paren) (closing Paren ∷ []) last.0 rest = subst (λ us. IsOne (Closer Paren) (closing Paren ∷ []) last.0 us) t.2 (piece_bit (closer Paren) depth last.0 t.0 last.2) in
+      let close : IsOne (Closer Paren) (closing Paren ∷ []) last.0 rest =
+      subst (λ us. IsOne (Closer Paren) (closing Paren ∷ []) last.0 us) t.2 (piece_bit (closer Paren) depth last.0 t.0 last.2) in
       let n = more_read y ys next.0 part.0 more.0 rest goods.1 part.1 part.2 (last.0, last.1, close) in
       let r = quiet_read depth inner reads Bounds x inside mid row.1 goods.0 (comma_ends mid next.0 comma).quiet in
       let b = type_starts depth inner reads x inside mid row.1 goods.0 in
-      let made = paren_open x r.0 inside mid (Some ((ty.Tuple (x ∷ y ∷ ys), suc (max r.0 (deepest n.0))), rest)) b.0 r.2 (comma_by x (y ∷ ys) r.0 mid next.0 rest n.0 comma n.1 n.3) in
+      let made =
+      paren_open x r.0 inside mid (Some ((ty.Tuple (x ∷ y ∷ ys), suc (max r.0 (deepest n.0))), rest)) b.0 r.2 (comma_by x (y ∷ ys) r.0 mid next.0 rest n.0 comma n.1 n.3) in
       (suc (max r.0 (deepest n.0)), omega (arith, r.1, n.2), rw (one_left (Opener Paren) (opening Paren ∷ []) ts inside o) made)
 
   -- ---- in brackets
@@ -436,8 +443,10 @@ module _ (depth : ℕ) (inner : Within) (reads : Reads depth inner) where
       word_is true us vs o = rw (one_front Ident (codes "mut") us vs o).1 refl
       word_is false us vs o = rw (one_front Ident (codes "const") us vs o).1 refl
 
-  reference_made : (l : Option Lifetime) (mutable : Bool) (x : Ty) (ts rest : Tokens) → Spells (ty_facts (Ty-F.Ref l mutable (about_type x))).told.form (suc depth) ts rest
-      → good_at NoBounds (about_type x) ≡ true → Clear (about_type x).told.refuses rest → Made (λ us. reference_type inner (tail us)) (ty.Ref l mutable x) ts rest
+  reference_made : (l : Option Lifetime) (mutable : Bool) (x : Ty) (ts rest : Tokens)
+      → Spells (ty_facts (Ty-F.Ref l mutable (about_type x))).told.form (suc depth) ts rest
+      → good_at NoBounds (about_type x) ≡ true → Clear (about_type x).told.refuses rest
+      → Made (λ us. reference_type inner (tail us)) (ty.Ref l mutable x) ts rest
   unfolding reference_type
   reference_made l mutable x ts rest s g f = by l (inner_of (Piece (Fixed Punct (codes "&") ∷ []) (ref_lifetime l (behind mutable))) depth ts rest s)
     where
@@ -476,7 +485,8 @@ module _ (depth : ℕ) (inner : Within) (reads : Reads depth inner) where
 
   -- ---- bounds
 
-  bounds_made : (dynamic : Bool) (place : TypePlace) (bs : List Bound) (ts rest : Tokens) → Spells (ty_facts (Ty-F.Bounds dynamic (map about_bound bs))).told.form (suc depth) ts rest
+  bounds_made : (dynamic : Bool) (place : TypePlace) (bs : List Bound) (ts rest : Tokens)
+      → Spells (ty_facts (Ty-F.Bounds dynamic (map about_bound bs))).told.form (suc depth) ts rest
       → good_at place (ty_facts (Ty-F.Bounds dynamic (map about_bound bs))) ≡ true → Fits place (ty_facts (Ty-F.Bounds dynamic (map about_bound bs))) rest
       → Made (λ us. bounds_type inner dynamic place (tail us)) (ty.Bounds dynamic bs) ts rest
   unfolding bounds_type
@@ -490,7 +500,8 @@ module _ (depth : ℕ) (inner : Within) (reads : Reads depth inner) where
       left true us o = one_left Ident (codes "dyn") ts us o
       left false us o = one_left Ident (codes "impl") ts us o
 
-      by : (place : TypePlace) → good_at place (ty_facts (Ty-F.Bounds dynamic (map about_bound bs))) ≡ true → Fits place (ty_facts (Ty-F.Bounds dynamic (map about_bound bs))) rest
+      by : (place : TypePlace) → good_at place (ty_facts (Ty-F.Bounds dynamic (map about_bound bs))) ≡ true
+          → Fits place (ty_facts (Ty-F.Bounds dynamic (map about_bound bs))) rest
           → (us : Tokens) → Spells (bounds_form (map about_bound bs)) depth us rest → Has (bounds_by inner place) bs us rest
       by Bounds h k us t = bounds_read depth inner reads Bounds bs us rest t h tt k.1 k.0
       by NoBounds h k us t =
@@ -584,7 +595,8 @@ module _ (depth : ℕ) (inner : Within) (reads : Reads depth inner) where
       → all_good (map about_func_param ps) ≡ true → Has (func_params inner) (ps, variadic) ts rest
   params_read [] false ts rest s g =
       let o : IsOne (Opener Paren) (opening Paren ∷ []) ts s.1.0 = s.1.1 in
-      let close : IsOne (Closer Paren) (closing Paren ∷ []) s.1.0 rest = subst (λ us. IsOne (Closer Paren) (closing Paren ∷ []) s.1.0 us) s.2 (bit_alone (closer Paren) s.1.0 s.0 s.1.2) in
+      let close : IsOne (Closer Paren) (closing Paren ∷ []) s.1.0 rest =
+      subst (λ us. IsOne (Closer Paren) (closing Paren ∷ []) s.1.0 us) s.2 (bit_alone (closer Paren) s.1.0 s.0 s.1.2) in
       let n = closer_no_param s.1.0 rest close in
       params_made [] false true ts s.1.0 s.1.0 rest o (no_params s.1.0 n.0) n.1 (closer_passed Paren s.1.0 rest close)
   params_read [] true ts rest s g =
@@ -599,20 +611,23 @@ module _ (depth : ℕ) (inner : Within) (reads : Reads depth inner) where
       params_made [] true true ts inside inside rest o (no_params inside (dots_no_param inside d.0)) d.0 (rw d.1 (closer_passed Paren row.0 rest close))
   params_read (p ∷ ps) false ts rest s g =
       let fs = map (λ q. (about_func_param q).form) ps in
-      let more_forms : (forms (map about_func_param ps) ++ []) ≡ fs = append-nil (forms (map about_func_param ps)) ∙ forms_of (λ (F : Facts). F.form) about_func_param ps in
+      let more_forms : (forms (map about_func_param ps) ++ []) ≡ fs =
+      append-nil (forms (map about_func_param ps)) ∙ forms_of (λ (F : Facts). F.form) about_func_param ps in
       let t = subst (λ gs. Spells (comma_list true (opener Paren) (closer Paren) ((about_func_param p).form ∷ gs)) depth ts rest) more_forms s in
       let inside = t.1.0 in
       let o : IsOne (Opener Paren) (opening Paren ∷ []) ts inside = bit_alone (opener Paren) ts inside t.1.1 in
       let row = t.1.2 in
       let more = row.2 in
       let last = more.2 in
-      let close : IsOne (Closer Paren) (closing Paren ∷ []) last.0 rest = subst (λ us. IsOne (Closer Paren) (closing Paren ∷ []) last.0 us) t.2 (piece_bit (closer Paren) depth last.0 t.0 last.2) in
+      let close : IsOne (Closer Paren) (closing Paren ∷ []) last.0 rest =
+      subst (λ us. IsOne (Closer Paren) (closing Paren ∷ []) last.0 us) t.2 (piece_bit (closer Paren) depth last.0 t.0 last.2) in
       let n = closer_no_param last.0 rest close in
       let passes = closer_passed Paren last.0 rest close in
       elim last.1 [
         | inl e ↦
             let no_comma : first (is_mark (codes ",")) last.0 ≡ false = rw (one_front (Closer Paren) (closing Paren ∷ []) last.0 rest close).1 refl in
-            let r = some_params false p ps inside row.0 more.0 last.0 g row.1 more.1 (e, no_comma, last_ends (p ∷ ps) last.0 (closer_ends Paren last.0 rest close)) in
+            let r =
+            some_params false p ps inside row.0 more.0 last.0 g row.1 more.1 (e, no_comma, last_ends (p ∷ ps) last.0 (closer_ends Paren last.0 rest close)) in
             params_made (p ∷ ps) false false ts inside last.0 rest o r refl passes
         | inr b ↦
             let here : IsOne Punct (codes ",") more.0 last.0 = bit_alone (Fixed Punct (codes ",")) more.0 last.0 b in
@@ -627,7 +642,8 @@ module _ (depth : ℕ) (inner : Within) (reads : Reads depth inner) where
       let l = last_part (forms (map about_func_param ps)) (piece (Operator (codes "...") ∷ [])) depth row.0 more.0 more.1 in
       let spelled = subst (λ fs. Spells (each comma_gap fs) depth row.0 l.0) (forms_of (λ (F : Facts). F.form) about_func_param ps) l.2 in
       let d : IsOperator (codes "...") l.1 more.0 = piece_bit (Operator (codes "...")) depth l.1 more.0 l.4 in
-      let close : IsOne (Closer Paren) (closing Paren ∷ []) more.0 rest = subst (λ us. IsOne (Closer Paren) (closing Paren ∷ []) more.0 us) s.2 (piece_bit (closer Paren) depth more.0 s.0 more.2) in
+      let close : IsOne (Closer Paren) (closing Paren ∷ []) more.0 rest =
+      subst (λ us. IsOne (Closer Paren) (closing Paren ∷ []) more.0 us) s.2 (piece_bit (closer Paren) depth more.0 s.0 more.2) in
       let r = some_params true p ps inside row.0 l.0 l.1 g row.1 spelled (l.3, dots_no_param l.1 d.0) in
       params_made (p ∷ ps) true true ts inside l.1 rest o r d.0 (rw d.1 (closer_passed Paren more.0 rest close))
 
@@ -677,14 +693,16 @@ module _ (depth : ℕ) (inner : Within) (reads : Reads depth inner) where
       no_unsafe : (us : Tokens) → Spells behind_unsafe depth us rest → first (is_keyword (codes "unsafe")) us ≡ false
       no_unsafe = behind_word (codes "unsafe") refl refl a
 
-      no_for : (m : Bool) (us : Tokens) → Spells (when m (keyword (codes "unsafe") ∷ Blank ∷ []) behind_unsafe) depth us rest → first (is_keyword (codes "for")) us ≡ false
+      no_for : (m : Bool) (us : Tokens) → Spells (when m (keyword (codes "unsafe") ∷ Blank ∷ []) behind_unsafe) depth us rest
+          → first (is_keyword (codes "for")) us ≡ false
       no_for true us v = keyword_other (codes "unsafe") (codes "for") refl us v.0 (before_blank (keyword (codes "unsafe")) us v.0 v.1)
       no_for false us v = behind_word (codes "for") refl refl a us v
 
   -- ---- any type
 
   abbrev Told : TypePlace → (x : Ty) → TyView x → Tokens → Tokens → TypeFacts → Type 0
-  Told place x v ts rest F = Spells F.told.form (suc depth) ts rest → good_at place F ≡ true → Fits place F rest → Made (type_by inner place (Some (lead_of x v))) x ts rest
+  Told place x v ts rest F =
+      Spells F.told.form (suc depth) ts rest → good_at place F ≡ true → Fits place F rest → Made (type_by inner place (Some (lead_of x v))) x ts rest
 
   type_made : (place : TypePlace) (x : Ty) (v : TyView x) (ts rest : Tokens) → Told place x v ts rest (about_type x)
   type_made place x v ts rest = at x v
@@ -698,7 +716,8 @@ module _ (depth : ℕ) (inner : Within) (reads : Reads depth inner) where
       at : (x : Ty) (v : TyView x) → Told place x v ts rest (about_type x)
       at _ (IsPath p) = by (ty.Path p) (IsPath p) (ty_facts (Ty-F.Path (about_path p))) (type_path_is p)
           (λ s g f. path_made place p ts rest s (good_of place (ty_facts (Ty-F.Path (about_path p))) g) (clear (ty_facts (Ty-F.Path (about_path p))) f))
-      at _ (IsCall c) = by (ty.Call c) (IsCall c) (ty_facts (Ty-F.Call c)) (type_call_is c) (λ s g f. call_made place c ts rest s (good_of place (ty_facts (Ty-F.Call c)) g))
+      at _ (IsCall c) =
+          by (ty.Call c) (IsCall c) (ty_facts (Ty-F.Call c)) (type_call_is c) (λ s g f. call_made place c ts rest s (good_of place (ty_facts (Ty-F.Call c)) g))
       at _ (IsParen x) = by (ty.Paren x) (IsParen x) (ty_facts (Ty-F.Paren (about_type x))) (type_paren_is x)
           (λ s g f. paren_made x ts rest s (good_of place (ty_facts (Ty-F.Paren (about_type x))) g))
       at _ (IsTuple xs) = by (ty.Tuple xs) (IsTuple xs) (ty_facts (Ty-F.Tuple (map about_type xs))) (type_tuple_is xs)
@@ -773,6 +792,7 @@ within_reads (suc depth) = record {
 }
 
 -- A type that stands there is read.
-pub type_complete : (place : TypePlace) (x : Ty) (depth : ℕ) (ts rest : Tokens) → Spells (about_type x).told.form depth ts rest → good_at place (about_type x) ≡ true
+pub type_complete : (place : TypePlace) (x : Ty) (depth : ℕ) (ts rest : Tokens) → Spells (about_type x).told.form depth ts rest
+    → good_at place (about_type x) ≡ true
     → type_follows place (about_type x) rest ≡ true → IsRead depth (type_at place depth) x ts rest
 type_complete place x depth ts rest s g f = (within_reads depth).types place x ts rest s g (follows_fits place (about_type x) rest f)

@@ -1,13 +1,11 @@
 -- The parts of types that have no types within them, where they are spelled: lifetimes, binders, constants, attributes of
 -- parameters, and what stands before a function type's parameters.
-use Rattle.std.proofs.Common.{◌≡◌, ℕ, suc, ◌≤◌, ◌<◌, Bool, true, false, not, ◌&&◌, ◌||◌, cond, List, [], ◌∷◌, map, length, drop, codes, Option, Some, None, inl, inr, if◌then◌else◌, refl, sym, ap, subst, ◌∙◌, arith}
-use Rattle.std.specs.Prelude.{◌==◌}
+use Rattle.std.proofs.Common.{◌≡◌, ℕ, ◌≤◌, ◌<◌, Bool, true, false, ◌&&◌, ◌||◌, cond, List, [], ◌∷◌, map, length, drop, codes, Option, Some, None, inl, inr, refl, sym, ap, subst, ◌∙◌, arith}
 use Rattle.std.specs.List.{list_all}
 use Rattle.std.specs.Str.{bytes_eq}
 use Rattle.std.proofs.lemmas.Bool.{and_parts, cases_Bool}
-use Rattle.lay_piece.specs.Forms.{opening, closing}
 use Rattle.lay_piece.specs.declared.kind.Delim.{Delim}
-use Rattle.lay_piece.specs.declared.kind.Delim.TheVariants.{Paren, Bracket, Brace}
+use Rattle.lay_piece.specs.declared.kind.Delim.TheVariants.{Paren, Brace}
 use Rattle.lay_piece.specs.declared.kind.Kind.{Kind}
 use Rattle.lay_piece.specs.declared.kind.Kind.TheVariants as kind
 use Rattle.lay_piece.specs.declared.kind.Kind.TheVariants.{Ident, RawIdent, Underscore, Punct, Opener, Closer, Doc}
@@ -15,16 +13,16 @@ use Rattle.lay_token.specs.Lexes.{is_punct}
 use Rattle.lay_token.specs.Operators.{is_op}
 use Rattle.lay_token.specs.declared.token.Token.{Token}
 use Rattle.lay_token.proofs.Deciding.{bytes_self}
-use Rattle.lay_form.specs.Form.{Bit, Blank, Operator, Form, Done, Piece, Part, punct, keyword}
+use Rattle.lay_form.specs.Form.{Blank, Operator, Form, Done, Piece, Part, punct, keyword}
 use Rattle.lay_form.specs.Notation.{H, when, each, comma_list}
 use Rattle.lay_form.specs.Spelled.{IsOne, IsOperator, AreBits, Spells}
 use Rattle.lay_form.proofs.FormLaws.{shorter}
 use Rattle.lay_tree.specs.Ahead.{Tokens, first, tail, is_keyword, is_lifetime, is_lifetime_kind, is_mark, is_opener, is_closer, opens, closes}
-use Rattle.lay_tree.specs.Words.{is_literal, is_number, is_string}
-use Rattle.lay_tree.specs.nodes.Attr.{are_attrs, is_attr, attr_form, behind_attr, is_inner, is_line, about_attr}
+use Rattle.lay_tree.specs.Words.{is_literal, is_number}
+use Rattle.lay_tree.specs.nodes.Attr.{are_attrs, is_attr, behind_attr, is_inner, is_line, about_attr}
 use Rattle.lay_tree.specs.nodes.Types as types
 use Rattle.lay_tree.specs.nodes.Types.{less, greater, param_attrs, lifetime_form, lifetimes_form, outlived_form, lifetime_param_form, is_lifetime_param, binder_form, is_binder, const_form, is_const, abi_form, is_abi, is_param_name}
-use Rattle.lay_tree.specs.reader.Attr.{is_doc, is_doc_kind, begins_attr, attributes}
+use Rattle.lay_tree.specs.reader.Attr.{is_doc_kind, begins_attr, attributes}
 use Rattle.lay_tree.specs.reader.Loops.{Got, ◌>>=◌, passed, elements}
 use Rattle.lay_tree.specs.reader.Tokens.{tokens, group}
 use Rattle.lay_tree.specs.reader.Types.{flag, if_there, lifetime, is_literal_token, literal, lifetimes, outlived, lifetime_behind, lifetime_param, binder, binder_if, begins_const, braces, const, is_string_token, abi, begins_given, param_name}
@@ -41,8 +39,8 @@ use Rattle.lay_tree.specs.declared.types.Binder.{Binder}
 use Rattle.lay_tree.specs.declared.types.ConstArg.{ConstArg}
 use Rattle.lay_tree.specs.declared.types.ConstArg.TheVariants as const_arg
 use Rattle.lay_tree.specs.declared.types.LifetimeParam.{LifetimeParam}
-use Rattle.lay_tree.proofs.Fronts.{mark_one, one_front, one_test, one_shorter, op_shorter, no_op, mark_passed, passed_first}
-use Rattle.lay_tree.proofs.Parts.{Rows, GoodAt, bit_alone, behind_blank, before_blank, part_alone, word_kind, leaf_parts, leaf_alone}
+use Rattle.lay_tree.proofs.Fronts.{mark_one, one_front, one_test, one_shorter, op_shorter, no_op, mark_passed}
+use Rattle.lay_tree.proofs.Parts.{Rows, GoodAt, bit_alone, behind_blank, before_blank, leaf_parts}
 use Rattle.lay_tree.proofs.Steps.{got_same, bind_some}
 use Rattle.lay_tree.proofs.reader.AttrRead.{attr_begins, attr_shorter, attributes_complete}
 use Rattle.lay_tree.proofs.reader.Loops.{Turn}
@@ -199,8 +197,6 @@ pub record LifetimeRead (p : LifetimeParam) (ts rest : Tokens) : Type 0 where
   pub attrs : attributes false ts ≡ Some (p.attrs, behind)
   pub there : first is_lifetime behind ≡ true
   pub read : lifetime_behind p.attrs behind ≡ Some (p, rest)
-  pub greater : first (is_mark (codes ">")) ts ≡ false
-  pub less : length rest < length ts
 
 pub lifetime_param_complete : (p : LifetimeParam) (depth : ℕ) (ts rest : Tokens) → Spells (lifetime_param_form p) depth ts rest → is_lifetime_param p ≡ true
     → Ends rest → LifetimeRead p ts rest
@@ -211,45 +207,42 @@ lifetime_param_complete p depth ts rest s g e =
     let one = lifetime_alone p.lifetime depth r.0 spelled.0 spelled.1 in
     let l = lifetime_complete p.lifetime r.0 spelled.0 one in
     let o = outlived_complete p.bounds depth spelled.0 rest spelled.2 e in
-    let f = attrs_front p.attrs depth ts r.0 r.1 in
     record {
       behind = r.0;
       attrs = attributes_complete false p.attrs depth ts r.0 r.1 (lifetime_no_attr p.lifetime r.0 spelled.0 one);
       there = l.1;
       read = rw (l.0, o) refl;
-      greater = f.greater (lifetime_no_greater p.lifetime r.0 spelled.0 one);
-      less = omega (arith, f.shorter, one_shorter kind.Lifetime p.lifetime.text r.0 spelled.0 one, shorter (outlived_form p.bounds) depth spelled.0 rest spelled.2);
     }
+
+pub lifetime_param_starts : (p : LifetimeParam) (depth : ℕ) (ts rest : Tokens) → Spells (lifetime_param_form p) depth ts rest → is_lifetime_param p ≡ true
+    → (first (is_mark (codes ">")) ts ≡ false) × (length rest < length ts)
+lifetime_param_starts p depth ts rest s g =
+    let r = param_attrs_rows p.attrs (Part (lifetime_form p.lifetime) (outlived_form p.bounds)) depth ts rest s g in
+    let spelled = r.2 in
+    let one = lifetime_alone p.lifetime depth r.0 spelled.0 spelled.1 in
+    let f = attrs_front p.attrs depth ts r.0 r.1 in (
+      f.greater (lifetime_no_greater p.lifetime r.0 spelled.0 one),
+      omega (arith, f.shorter, one_shorter kind.Lifetime p.lifetime.text r.0 spelled.0 one, shorter (outlived_form p.bounds) depth spelled.0 rest spelled.2),
+    )
 
 lifetime_params : (ps : List LifetimeParam) (depth : ℕ) (ts rest : Tokens)
     → Spells (comma_list true less greater (map lifetime_param_form ps)) depth ts rest → list_all is_lifetime_param ps ≡ true
     → (inside : Tokens) × IsOne Punct (codes "<") ts inside × (elements (is_mark (codes ">")) lifetime_param inside ≡ Some (ps, rest))
 lifetime_params ps depth ts rest s g =
-    let l = each_list_read (λ (x y : LifetimeParam). y ≡ x) greater (is_mark (codes ">")) greater_closes lifetime_param lifetime_param_form is_lifetime_param depth
-    (λ p us end t h e. let r = lifetime_param_complete p depth us end t h e in (p, refl, rw (r.attrs, r.read) refl)) begins less ps ts rest g s in
+    let l =
+    each_list_read (λ (x y : LifetimeParam). y ≡ x) greater (is_mark (codes ">")) greater_closes lifetime_param lifetime_param_form is_lifetime_param depth
+    (λ p us end t h e. let r = lifetime_param_complete p depth us end t h e in (p, refl, rw (r.attrs, r.read) refl))
+    (λ p us end t h. lifetime_param_starts p depth us end t h) less ps ts rest g s in
     let e = l.2 in
     (l.0, l.1, e.2 ∙ ap (λ (xs : List LifetimeParam). let found : Got (List LifetimeParam) = Some (xs, rest) in found) (each_same ps e.0 e.1))
-  where
-    begins : (p : LifetimeParam) (us end : Tokens) → Spells (lifetime_param_form p) depth us end → is_lifetime_param p ≡ true
-        → (first (is_mark (codes ">")) us ≡ false) × (length end < length us)
-    begins p us end t h =
-        let r = param_attrs_rows p.attrs (Part (lifetime_form p.lifetime) (outlived_form p.bounds)) depth us end t h in
-        let spelled = r.2 in
-        let one = lifetime_alone p.lifetime depth r.0 spelled.0 spelled.1 in
-        let f = attrs_front p.attrs depth us r.0 r.1 in (
-          f.greater (lifetime_no_greater p.lifetime r.0 spelled.0 one),
-          omega (arith, f.shorter, one_shorter kind.Lifetime p.lifetime.text r.0 spelled.0 one, shorter (outlived_form p.bounds) depth spelled.0 end spelled.2),
-        )
 
 pub keyword_there : (word : List ℕ) (ts rest : Tokens) → IsOne Ident word ts rest → first (is_keyword word) ts ≡ true
 keyword_there word ts rest o = rw ((one_front Ident word ts rest o).1, bytes_self word) refl
 
-pub binder_complete : (b : Option Binder) (f : Form) (depth : ℕ) (ts rest : Tokens) → Spells (binder_form b f) depth ts rest → is_binder b ≡ true
-    → ((us : Tokens) → Spells f depth us rest → first (is_keyword (codes "for")) us ≡ false)
-    → (mid : Tokens) × (binder_if ts ≡ Some (b, mid)) × Spells f depth mid rest
+pub some_binder : (b : Binder) (f : Form) (depth : ℕ) (ts rest : Tokens) → Spells (binder_form (Some b) f) depth ts rest → is_binder (Some b) ≡ true
+    → (mid : Tokens) × (binder_if ts ≡ Some (Some b, mid)) × Spells f depth mid rest
 unfolding binder
-binder_complete None f depth ts rest s g none = (ts, rw (none ts s) refl, s)
-binder_complete (Some b) f depth ts rest s g none =
+some_binder b f depth ts rest s g =
     let o : IsOne Ident (codes "for") ts s.0 = bit_alone (keyword (codes "for")) ts s.0 s.1 in
     let part = s.2 in
     let l = lifetime_params b.params depth s.0 part.0 part.1 g in
@@ -258,6 +251,12 @@ binder_complete (Some b) f depth ts rest s g none =
     let there = keyword_there (codes "for") ts s.0 o in
     let left = one_left Ident (codes "for") ts s.0 o in
     (part.0, rw (there, there, left, less_there, l.2) refl, subst (λ us. Spells f depth us rest) (sym (blank_left part.0 end.0 end.1)) end.2)
+
+pub binder_complete : (b : Option Binder) (f : Form) (depth : ℕ) (ts rest : Tokens) → Spells (binder_form b f) depth ts rest → is_binder b ≡ true
+    → ((us : Tokens) → Spells f depth us rest → first (is_keyword (codes "for")) us ≡ false)
+    → (mid : Tokens) × (binder_if ts ≡ Some (b, mid)) × Spells f depth mid rest
+binder_complete None f depth ts rest s g none = (ts, rw (none ts s) refl, s)
+binder_complete (Some b) f depth ts rest s g none = some_binder b f depth ts rest s g
 
 -- ---- a word that may be there
 
@@ -287,30 +286,26 @@ braces_of_group us (t ∷ ts) rest h = by t.kind h
     made : Delim → List Listed × Tokens → Got Group
     made d xs = passed (closes d) xs.1 >>= (λ left. Some (record { delim = d; tokens = xs.0 }, left))
 
-    is_brace : (d : Delim) (xs : List Listed) (left : Tokens) → ◌≡◌ {A = Got Group} (Some (record { delim = d; tokens = xs }, left)) (Some (record { delim = Brace; tokens = us }, rest))
+    is_brace : (d : Delim) (xs : List Listed) (left : Tokens)
+        → ◌≡◌ {A = Got Group} (Some (record { delim = d; tokens = xs }, left)) (Some (record { delim = Brace; tokens = us }, rest))
         → (d ≡ Brace) × (xs ≡ us) × (left ≡ rest)
     is_brace d xs left e =
         let g = got_same (record { delim = d; tokens = xs }) (record { delim = Brace; tokens = us }) left rest e in
         (ap (λ (x : Group). x.delim) g.0, ap (λ (x : Group). x.tokens) g.0, g.1)
 
-    same : (xs : List Listed) (left : Tokens) → xs ≡ us → left ≡ rest → ◌≡◌ {A = Got ConstArg} (Some (const_arg.Braces xs, left)) (Some (const_arg.Braces us, rest))
+    same : (xs : List Listed) (left : Tokens) → xs ≡ us → left ≡ rest
+        → ◌≡◌ {A = Got ConstArg} (Some (const_arg.Braces xs, left)) (Some (const_arg.Braces us, rest))
     same xs left e f = rw (e, f) refl
 
     by : (k : Kind) → group (record t { kind = k } ∷ ts) ≡ Some (record { delim = Brace; tokens = us }, rest)
         → (braces (record t { kind = k } ∷ ts) ≡ Some (const_arg.Braces us, rest)) × (is_opener Brace k ≡ true)
-    by (Opener Brace) e =
-        let b = bind_some (tokens ts) (made Brace) (record { delim = Brace; tokens = us }, rest) e in
-        let c = bind_some (passed (closes Brace) b.0.1) (λ left. Some (record { delim = Brace; tokens = b.0.0 }, left)) (record { delim = Brace; tokens = us }, rest) b.2 in
-        let i = is_brace Brace b.0.0 c.0 c.2 in
-        (rw (b.1, c.1) (same b.0.0 c.0 i.1 i.2), refl)
-    by (Opener Paren) e =
-        let b = bind_some (tokens ts) (made Paren) (record { delim = Brace; tokens = us }, rest) e in
-        let c = bind_some (passed (closes Paren) b.0.1) (λ left. Some (record { delim = Paren; tokens = b.0.0 }, left)) (record { delim = Brace; tokens = us }, rest) b.2 in
-        let i = is_brace Paren b.0.0 c.0 c.2 in let e = i.0 in absurd (cc)
-    by (Opener Bracket) e =
-        let b = bind_some (tokens ts) (made Bracket) (record { delim = Brace; tokens = us }, rest) e in
-        let c = bind_some (passed (closes Bracket) b.0.1) (λ left. Some (record { delim = Bracket; tokens = b.0.0 }, left)) (record { delim = Brace; tokens = us }, rest) b.2 in
-        let i = is_brace Bracket b.0.0 c.0 c.2 in let e = i.0 in absurd (cc)
+    by (Opener d) e =
+        let b = bind_some (tokens ts) (made d) (record { delim = Brace; tokens = us }, rest) e in
+        let built : Tokens → Got Group = λ left. Some (record { delim = d; tokens = b.0.0 }, left) in
+        let c = bind_some (passed (closes d) b.0.1) built (record { delim = Brace; tokens = us }, rest) b.2 in
+        let i = is_brace d b.0.0 c.0 c.2 in
+        let closed = subst (λ z. passed (closes z) b.0.1 ≡ Some c.0) i.0 c.1 in
+        (rw i.0 (rw (b.1, closed) (same b.0.0 c.0 i.1 i.2)), rw i.0 refl)
     by k e = absurd (cc)
 
 -- how a constant begins, and that it is read
@@ -333,7 +328,8 @@ number_kinds kind.Int h = refl
 number_kinds kind.Float h = refl
 number_kinds _ h = absurd (cc)
 
-pub const_complete : (value : ConstArg) (depth : ℕ) (ts rest : Tokens) → Spells (const_form value) depth ts rest → is_const value ≡ true → ConstRead value ts rest
+pub const_complete : (value : ConstArg) (depth : ℕ) (ts rest : Tokens) → Spells (const_form value) depth ts rest → is_const value ≡ true
+    → ConstRead value ts rest
 unfolding const
 const_complete (const_arg.Literal l) depth ts rest s g =
     let o = one_alone l.kind l.text ts s.0 rest s.1 s.2 in
@@ -423,7 +419,8 @@ abi_complete (Some a) f depth ts rest s g none = by a.name s.2 g
 given_there : (ts mid : Tokens) (g : GivenName) → given_name ts ≡ Some (g, mid) → is_op (codes ":") mid ≡ true → begins_given ts ≡ true
 given_there ts mid g r h = ap (λ (o : Got GivenName). elim o [ None ↦ false | Some x ↦ is_op (codes ":") x.1 ]) r ∙ h
 
-pub param_name_complete : (n : Option GivenName) (f : Form) (depth : ℕ) (ts rest : Tokens) → Spells (types.param_name n f) depth ts rest → is_param_name n ≡ true
+pub param_name_complete : (n : Option GivenName) (f : Form) (depth : ℕ) (ts rest : Tokens) → Spells (types.param_name n f) depth ts rest
+    → is_param_name n ≡ true
     → ((us : Tokens) → Spells f depth us rest → begins_given us ≡ false)
     → (mid : Tokens) × (if_there (begins_given ts) param_name ts ≡ Some (n, mid)) × Spells f depth mid rest
 param_name_complete None f depth ts rest s g none = (ts, rw (none ts s) refl, s)

@@ -1,59 +1,45 @@
 -- Paths, bounds and what is asked of a name among generic arguments: what is spelled is read, where what is one level deeper is read.
-use Rattle.std.proofs.Common.{◌≡◌, ℕ, zero, suc, ◌≤◌, ◌<◌, max, Bool, true, false, not, ◌&&◌, ◌||◌, List, [], ◌∷◌, map, length, drop, codes, Option, option_map, Some, None, inl, inr, refl, sym, ap, subst, ◌∙◌, arith}
-use Rattle.std.specs.List.{list_all}
+use Rattle.std.proofs.Common.{◌≡◌, ℕ, suc, ◌≤◌, ◌<◌, max, Bool, true, false, not, ◌&&◌, List, [], ◌∷◌, map, length, drop, codes, Option, option_map, Some, None, refl, sym, ap, subst, arith}
 use Rattle.std.proofs.lemmas.Bool.{and_parts, and_from, not-true}
-use Rattle.std.proofs.lemmas.List.Folds.{list_all-map}
 use Rattle.lay_piece.specs.Forms.{opening, closing}
-use Rattle.lay_piece.specs.Word.{class_of}
 use Rattle.lay_piece.specs.declared.kind.Delim.TheVariants.{Paren}
 use Rattle.lay_piece.specs.declared.kind.Kind.TheVariants as kind
 use Rattle.lay_piece.specs.declared.kind.Kind.TheVariants.{Ident, Punct, Opener, Closer}
-use Rattle.lay_piece.specs.declared.word.Class.{Class}
-use Rattle.lay_piece.specs.declared.word.Class.TheVariants.{Plain, PathWord}
-use Rattle.lay_token.specs.Operators.{begins_op, is_op}
-use Rattle.lay_form.specs.Form.{Bit, Blank, Fixed, Operator, Form, Done, Piece, Part, Deeper, keyword, opener, closer}
-use Rattle.lay_form.specs.Notation.{B, when, each, piece, comma_list}
-use Rattle.lay_form.specs.Spelled.{IsOne, IsBit, IsOperator, AreBits, Spells}
+use Rattle.lay_token.specs.Operators.{is_op}
+use Rattle.lay_form.specs.Form.{Blank, Fixed, Operator, Form, Done, Piece, Part, keyword, opener, closer}
+use Rattle.lay_form.specs.Notation.{B, piece, comma_list}
+use Rattle.lay_form.specs.Spelled.{IsOne, IsOperator, AreBits, Spells}
 use Rattle.lay_form.proofs.FormLaws.{shorter}
-use Rattle.lay_tree.specs.Ahead.{Tokens, first, tail, is_keyword, is_lifetime, is_mark, is_opener, opens, closes, opens_args, opens_args_late}
+use Rattle.lay_tree.specs.Ahead.{Tokens, first, tail, is_keyword, is_lifetime, is_mark, opens}
 use Rattle.lay_tree.specs.Begins.{OfPath, lead_at, begins_bound}
-use Rattle.lay_tree.specs.Follow.{Begin, begins_there}
-use Rattle.lay_tree.specs.Words.{is_plain, is_path_class, is_name, is_path_word, leaf_of, colons}
+use Rattle.lay_tree.specs.Words.{is_path_word, colons}
 use Rattle.lay_tree.specs.nodes.Facts.{Facts, forms, all_good}
-use Rattle.lay_tree.specs.nodes.Types.{TypeFacts, ArgsFacts, PathFacts, in_style, less, greater, colon, equals, good_at, all_types_good, type_forms, type_follows, output_form, output_good, output_refuses, angle_form, round_form, args_facts, joined, is_several, lifetime_param_form, bounds_form, bounds_good, last_refuses, meets_form, binder_form, is_binder, bound_facts, constraint_facts, arg_facts, segment_form, segments_form, segment_good, segments_good, segments_refuse, of_form, of_good, start_facts, path_facts, ty_facts, deeper, const_form, is_const, lifetime_form, about_type, about_path, about_start, about_args, about_arg, about_constraint, about_bound}
-use Rattle.lay_tree.specs.reader.Loops.{Got, Read, ◌>>=◌, passed, nodes, deepest, elements}
-use Rattle.lay_tree.specs.reader.Types.{Within, operator, flag, if_read, lifetime, binder_if, chain, angled, begins_const, as_path, path_in, starts_plain, as_name, named_segments, named_type, begins_constraint, one_arg, angle, output, round, args_by, segment, trait_path, qualified, path_start, returns_last, path_of, path, meets, one_bound, all_bounds, bounds_by, equal, constraint_by}
-use Rattle.lay_tree.specs.declared.token.Lifetime.{Lifetime}
-use Rattle.lay_tree.specs.declared.token.Name.{Name}
+use Rattle.lay_tree.specs.nodes.Types.{PathFacts, in_style, less, greater, equals, good_at, joined, is_several, lifetime_param_form, bounds_form, bounds_good, last_refuses, meets_form, binder_form, is_binder, segment_form, segments_form, segment_good, segments_good, segments_refuse, of_form, of_good, const_form, about_type, about_path, about_start, about_args, about_constraint, about_bound}
+use Rattle.lay_tree.specs.reader.Loops.{Read, nodes, deepest}
+use Rattle.lay_tree.specs.reader.Types.{Within, operator, if_read, binder_if, segment, trait_path, qualified, path_start, returns_last, path, meets, one_bound, all_bounds, bounds_by, constraint_by}
 use Rattle.lay_tree.specs.declared.token.Word.{Word}
-use Rattle.lay_tree.specs.declared.types.Arg.{Arg}
-use Rattle.lay_tree.specs.declared.types.Arg.TheOpen.{Arg-F, Args-F, Bound-F, Constraint-F, PathStart-F, Ty-F}
-use Rattle.lay_tree.specs.declared.types.Arg.TheViews as views
 use Rattle.lay_tree.specs.declared.types.Args.{Args}
-use Rattle.lay_tree.specs.declared.types.Args.TheVariants as args
 use Rattle.lay_tree.specs.declared.types.Binder.{Binder}
 use Rattle.lay_tree.specs.declared.types.Bound.{Bound}
 use Rattle.lay_tree.specs.declared.types.Bound.TheVariants as bound
 use Rattle.lay_tree.specs.declared.types.Constraint.{Constraint}
 use Rattle.lay_tree.specs.declared.types.Path.{Path}
 use Rattle.lay_tree.specs.declared.types.PathStart.{PathStart}
-use Rattle.lay_tree.specs.declared.types.PathStart.TheVariants as start
 use Rattle.lay_tree.specs.declared.types.PathStyle.{PathStyle}
-use Rattle.lay_tree.specs.declared.types.PathStyle.TheVariants.{Code, Kind as InKind}
-use Rattle.lay_tree.specs.declared.types.Ty.{Ty}
+use Rattle.lay_tree.specs.declared.types.PathStyle.TheVariants.{Kind as InKind}
 use Rattle.lay_tree.specs.declared.types.Ty.TheVariants as ty
 use Rattle.lay_tree.specs.declared.types.TypePlace.{TypePlace}
 use Rattle.lay_tree.specs.declared.types.TypePlace.TheVariants.{Bounds, NoBounds}
-use Rattle.lay_tree.proofs.Fronts.{one_front, one_no_op, op_front, op_test, other_op, one_shorter, op_shorter, mark_passed, opener_passed, closer_first, closer_passed}
-use Rattle.lay_tree.proofs.Parts.{Rows, bit_alone, behind_blank, before_blank, piece_bit, part_alone, word_kind, leaf_spelled, leaf_parts}
-use Rattle.lay_tree.proofs.nodes.TypesLaws.{PathStartView, IsLocal, IsGlobal, IsQualified, ArgsView, IsNone, IsAngle, IsRound, ArgView, IsRegion, IsPlain, IsConst, IsNamed, ConstraintView, IsEqual, IsEqualConst, IsLimit, BoundView, IsOutlives, IsMeets, about_segment, type_view, start_view, args_view, arg_view, constraint_view, bound_view, type_path_is, start_local_is, start_global_is, start_qualified_is, args_none_is, args_angle_is, args_round_is, arg_region_is, arg_plain_is, arg_const_is, arg_named_is, constraint_equal_is, constraint_equal_const_is, constraint_limit_is, bound_outlives_is, bound_meets_is, path_is}
+use Rattle.lay_tree.proofs.Fronts.{one_front, other_op, one_shorter, op_shorter, mark_passed, closer_passed}
+use Rattle.lay_tree.proofs.Parts.{Rows, bit_alone, behind_blank, before_blank, piece_bit, part_alone, word_kind, leaf_parts}
+use Rattle.lay_tree.proofs.nodes.TypesLaws.{PathStartView, IsLocal, IsGlobal, IsQualified, ConstraintView, IsEqual, IsEqualConst, IsLimit, BoundView, IsOutlives, IsMeets, about_segment, type_view, start_view, constraint_view, bound_view, start_local_is, start_global_is, start_qualified_is, constraint_equal_is, constraint_equal_const_is, constraint_limit_is, bound_outlives_is, bound_meets_is, path_is}
 use Rattle.lay_tree.proofs.reader.Exact.{IsRead}
 use Rattle.lay_tree.proofs.reader.Loops.{Turn}
-use Rattle.lay_tree.proofs.reader.TypesBegins.{lead_of, opened, list_front, path_parts, path_goods, SegmentsFront, segments_front, path_begins, type_begins, type_no_shift}
-use Rattle.lay_tree.proofs.reader.TypesCompleteParts.{keyword_there, one_left, lifetime_complete, lifetime_alone, plus_operator, colon_operator, binder_complete, const_complete}
-use Rattle.lay_tree.proofs.reader.TypesComplete.{quiet_fits, Reads, Is, quiet_read, args_read, operator_read, deeper_parts, path_as_type, path_type_good, as_path_is, colons_clear}
-use Rattle.lay_tree.proofs.reader.TypesFronts.{op_first, no_begins, opens_there, lead_no_closer, lead_no_lifetime, lead_no_greater, lead_no_equals, lead_no_question, lead_no_const, path_lead_no_paren, path_lead_no_for, word_no_mark, Clear, follows_clear, Free, free_clear, Quiet, Ends, plus_free, equals_quiet, colon_quiet, comma_ends, greater_ends, closer_ends, as_quiet}
-use Rattle.lay_tree.proofs.reader.TypesLists.{forms_of, chain_complete, paren_closes, greater_closes, ElementsRead, list_read}
+use Rattle.lay_tree.proofs.reader.TypesBegins.{lead_of, path_parts, path_goods, SegmentsFront, segments_front, path_begins, type_begins}
+use Rattle.lay_tree.proofs.reader.TypesCompleteParts.{keyword_there, one_left, lifetime_complete, lifetime_alone, colon_operator, binder_complete, const_complete}
+use Rattle.lay_tree.proofs.reader.TypesComplete.{Reads, quiet_read, args_read, operator_read, deeper_parts, path_as_type, path_type_good, as_path_is, colons_clear}
+use Rattle.lay_tree.proofs.reader.TypesFronts.{op_first, lead_no_lifetime, lead_no_question, lead_no_const, path_lead_no_paren, path_lead_no_for, word_no_mark, Clear, free_clear, Quiet, Ends, plus_free, greater_ends, closer_ends, as_quiet}
+use Rattle.lay_tree.proofs.reader.TypesLists.{chain_complete}
 use Rattle.lay_tree.proofs.reader.Words.{word_complete, word_no_op}
 
 module _ (depth : ℕ) (within : Within) (reads : Reads depth within) where
@@ -116,7 +102,8 @@ module _ (depth : ℕ) (within : Within) (reads : Reads depth within) where
           → (mid : Tokens) × IsOne (word_kind v.0.raw) v.0.text us mid
       first_word v [] us t = let l = leaf_parts v.0.raw v.0.text (Part (in_style style (about_args v.1)).form Done) depth us rest t in (l.0, l.1)
       first_word v (w ∷ more) us t =
-          let l = leaf_parts v.0.raw v.0.text (Part (in_style style (about_args v.1)).form (Piece colons (segments_form style (map about_segment (w ∷ more))))) depth us rest t in
+          let l =
+          leaf_parts v.0.raw v.0.text (Part (in_style style (about_args v.1)).form (Piece colons (segments_form style (map about_segment (w ∷ more))))) depth us rest t in
           (l.0, l.1)
 
   last_returns : (style : PathStyle) (ss : List (Word × Args)) → segments_good style (map about_segment ss) ≡ true → returns_last ss ≡ true
@@ -129,14 +116,16 @@ module _ (depth : ℕ) (within : Within) (reads : Reads depth within) where
 
   -- ---- what a path begins with
 
-  trait_read : (p : Path) (ts rest : Tokens) (least : ℕ) → depth ≡ suc least → Spells (about_path p InKind).form least ts rest → (about_path p InKind).good ≡ true
+  trait_read : (p : Path) (ts rest : Tokens) (least : ℕ) → depth ≡ suc least → Spells (about_path p InKind).form least ts rest
+      → (about_path p InKind).good ≡ true
       → Quiet rest → Has (trait_path within) p ts rest
   trait_read p ts rest least e s g q =
       let r = quiet_read depth within reads NoBounds (ty.Path p) ts rest (path_as_type p depth least ts rest e s) (path_type_good NoBounds p g) q in
       (r.0, r.1, rw (r.2, as_path_is p) refl)
 
   -- the trait that a type is taken as, and the `>::` behind it
-  of_read : (of : Option Path) (ts rest : Tokens) → Spells (of_form (option_map about_path of) (piece (greater ∷ colons))) depth ts rest → of_good (option_map about_path of) ≡ true
+  of_read : (of : Option Path) (ts rest : Tokens) → Spells (of_form (option_map about_path of) (piece (greater ∷ colons))) depth ts rest
+      → of_good (option_map about_path of) ≡ true
       → Quiet ts × (mid behind : Tokens) × Has (λ us. if_read (first (is_keyword (codes "as")) us) (λ vs. trait_path within (tail vs)) us) of ts mid
       × IsOne Punct (codes ">") mid behind × IsOperator (codes "::") behind rest
   of_read None ts rest s g =
@@ -152,7 +141,8 @@ module _ (depth : ℕ) (within : Within) (reads : Reads depth within) where
       let end = d.4 in
       let bits = end.1 in
       let close : IsOne Punct (codes ">") mid bits.0 = bits.1 in
-      let c : IsOperator (codes "::") bits.0 rest = subst (λ us. IsOperator (codes "::") bits.0 us) end.2 (bit_alone (Operator (codes "::")) bits.0 end.0 bits.2) in
+      let c : IsOperator (codes "::") bits.0 rest =
+      subst (λ us. IsOperator (codes "::") bits.0 us) end.2 (bit_alone (Operator (codes "::")) bits.0 end.0 bits.2) in
       let r = trait_read p s.0 mid d.0 d.1 d.3 g (greater_ends mid bits.0 close).quiet in
       let there = keyword_there (codes "as") ts s.0 o in
       let left = one_left Ident (codes "as") ts s.0 o in
@@ -168,12 +158,14 @@ module _ (depth : ℕ) (within : Within) (reads : Reads depth within) where
           let e : ts ≡ mid = subst (λ (F : Facts). Spells F.form depth ts mid) start_local_is t in
           (0, omega arith, rw e (rw (word_no_mark (codes "<") f.raw f.text mid f.behind f.word, word_no_op (codes "::") f.raw f.text mid f.behind f.word) refl))
       by _ IsGlobal t h =
-          let o : IsOperator (codes "::") ts mid = piece_bit (Operator (codes "::")) depth ts mid (subst (λ (F : Facts). Spells F.form depth ts mid) start_global_is t) in
+          let o : IsOperator (codes "::") ts mid =
+          piece_bit (Operator (codes "::")) depth ts mid (subst (λ (F : Facts). Spells F.form depth ts mid) start_global_is t) in
           let no_less : first (is_mark (codes "<")) ts ≡ false = rw (op_first 58 (codes ":") ts o.0).3 refl in
           (0, omega arith, rw (no_less, o.0, o.1) refl)
       by _ (IsQualified x of) t h =
           let u = subst (λ (F : Facts). Spells F.form depth ts mid) (start_qualified_is x of) t in
-          let goods = and_parts (good_at Bounds (about_type x)) (of_good (option_map about_path of)) (subst (λ (F : Facts). F.good ≡ true) (start_qualified_is x of) h) in
+          let goods =
+          and_parts (good_at Bounds (about_type x)) (of_good (option_map about_path of)) (subst (λ (F : Facts). F.good ≡ true) (start_qualified_is x of) h) in
           let o : IsOne Punct (codes "<") ts u.0 = bit_alone less ts u.0 u.1 in
           let p = u.2 in
           let q = of_read of p.0 mid p.2 goods.1 in
@@ -281,7 +273,8 @@ module _ (depth : ℕ) (within : Within) (reads : Reads depth within) where
   unfolding one_bound
   bound_read b ts rest s g f = by b (bound_view b) s g f
     where
-      by : (b : Bound) → BoundView b → Spells (about_bound b).form depth ts rest → (about_bound b).good ≡ true → Clear (about_bound b).refuses rest → BoundRead b ts rest
+      by : (b : Bound) → BoundView b → Spells (about_bound b).form depth ts rest → (about_bound b).good ≡ true → Clear (about_bound b).refuses rest
+          → BoundRead b ts rest
       by _ (IsOutlives l) t h k =
           let o = lifetime_alone l depth ts rest (subst (λ (F : Facts). Spells F.form depth ts rest) (bound_outlives_is l) t) in
           let r = lifetime_complete l ts rest o in
@@ -292,7 +285,8 @@ module _ (depth : ℕ) (within : Within) (reads : Reads depth within) where
           let o : IsOne (Opener Paren) (opening Paren ∷ []) ts u.0 = bit_alone (opener Paren) ts u.0 u.1 in
           let part = u.2 in
           let close : IsOne (Closer Paren) (closing Paren ∷ []) part.0 rest = piece_bit (closer Paren) depth part.0 rest part.2 in
-          let r = meets_read true m d p u.0 part.0 part.1 good (free_clear (about_path p InKind).refuses part.0 (closer_ends Paren part.0 rest close).quiet.free) in
+          let r =
+          meets_read true m d p u.0 part.0 part.1 good (free_clear (about_path p InKind).refuses part.0 (closer_ends Paren part.0 rest close).quiet.free) in
           let one = r.0 in
           let front = paren_front ts u.0 o in (
             (one.0, one.1, rw (front.0, front.1, front.2, one.2, closer_passed Paren part.0 rest close) refl),
@@ -319,7 +313,8 @@ module _ (depth : ℕ) (within : Within) (reads : Reads depth within) where
   FurtherBound = Turn (is_op (codes "+")) (λ us. one_bound within (drop 1 us))
 
   abbrev BoundsRead : Bound → List Bound → Tokens → Tokens → Type 0
-  BoundsRead b bs ts rest = (mid : Tokens) × BoundRead b ts mid × (ys : List (Bound × ℕ)) × (nodes ys ≡ bs) × (deepest ys ≤ depth) × Rows FurtherBound ys mid rest
+  BoundsRead b bs ts rest =
+      (mid : Tokens) × BoundRead b ts mid × (ys : List (Bound × ℕ)) × (nodes ys ≡ bs) × (deepest ys ≤ depth) × Rows FurtherBound ys mid rest
 
   bounds_rows : (b : Bound) (bs : List Bound) (ts rest : Tokens) → Spells (joined plus (forms (map about_bound (b ∷ bs)))) depth ts rest
       → all_good (map about_bound (b ∷ bs)) ≡ true → Clear (last_refuses (map about_bound (b ∷ bs))) rest → BoundsRead b bs ts rest

@@ -1,12 +1,11 @@
 -- What types, paths and bounds begin with, and what stands behind them: what the first tokens tell, and tokens that begin
 -- nothing that a type may refuse.
-use Rattle.std.proofs.Common.{◌≡◌, ℕ, ◌≤◌, ◌<◌, Bool, true, false, not, ◌&&◌, ◌||◌, cond, List, [], ◌∷◌, length, drop, codes, Option, Some, None, inl, inr, if◌then◌else◌, refl, sym, ap, subst, ◌∙◌, arith, eq-eqb}
+use Rattle.std.proofs.Common.{◌≡◌, ℕ, Bool, true, false, not, ◌&&◌, ◌||◌, cond, List, [], ◌∷◌, length, codes, Option, Some, None, inl, inr, refl, sym, ap, subst, ◌∙◌, arith, eq-eqb}
 use Rattle.std.specs.Prelude.{◌==◌}
 use Rattle.std.specs.List.{list_all}
 use Rattle.std.specs.Str.{bytes_eq}
 use Rattle.std.proofs.lemmas.Bool.{and_parts, and_from, cases_Bool, false_from_ne_true}
-use Rattle.lay_piece.specs.Chars.{is_nil}
-use Rattle.lay_piece.specs.Forms.{opening, closing}
+use Rattle.lay_piece.specs.Forms.{closing}
 use Rattle.lay_piece.specs.Word.{class_of}
 use Rattle.lay_piece.specs.declared.kind.Delim.{Delim}
 use Rattle.lay_piece.specs.declared.kind.Delim.TheVariants.{Paren, Brace}
@@ -15,17 +14,17 @@ use Rattle.lay_piece.specs.declared.kind.Kind.TheVariants.{Ident, RawIdent, Life
 use Rattle.lay_token.specs.Lexes.{is_punct}
 use Rattle.lay_token.specs.Operators.{operators, begins_op, first_op, or_lone, op_at, is_op_of, is_op}
 use Rattle.lay_token.specs.declared.token.Token.{Token}
-use Rattle.lay_token.proofs.Deciding.{bytes_same, bytes_self}
+use Rattle.lay_token.proofs.Deciding.{bytes_same}
 use Rattle.lay_form.specs.Spelled.{IsOne}
-use Rattle.lay_tree.specs.Ahead.{Tokens, first, tail, is_ident, is_keyword, is_lifetime, is_lifetime_kind, is_mark, is_opener, is_closer, opens, closes, opens_args, opens_args_late}
-use Rattle.lay_tree.specs.Begins.{Lead, OfPath, OfFunc, lead_of_word, lead_of_punct, lead_by, lead_at, begins_type, begins_bound}
+use Rattle.lay_tree.specs.Ahead.{Tokens, first, tail, is_keyword, is_lifetime, is_lifetime_kind, is_mark, is_opener, is_closer, opens, closes, opens_args}
+use Rattle.lay_tree.specs.Begins.{Lead, OfPath, OfFunc, lead_of_word, lead_of_punct, lead_by, lead_at, begins_bound}
 use Rattle.lay_tree.specs.Follow.{Begin, OfRename, OfArgs, OfCodeArgs, OfArrow, OfColons, OfBang, begins_there, may_follow}
 use Rattle.lay_tree.specs.Words.{is_plain, is_path_word, is_literal}
 use Rattle.lay_tree.specs.reader.Attr.{is_doc_kind, begins_attr}
 use Rattle.lay_tree.specs.reader.Types.{is_literal_token, begins_const, begins_given}
 use Rattle.lay_tree.specs.reader.Words.{given_name}
 use Rattle.lay_tree.proofs.Fronts.{keyword_one, mark_one, one_front, op_front, op_test, op_text, one_test, other_op, one_no_op, first_there}
-use Rattle.lay_tree.proofs.Parts.{word_kind, word_kinds}
+use Rattle.lay_tree.proofs.Parts.{word_kind}
 
 -- ---- operators
 
@@ -255,12 +254,14 @@ pub less_lead : (ts rest : Tokens) → IsOne Punct (codes "<") ts rest → lead_
 unfolding lead_at
 less_lead ts rest s = rw (one_front Punct (codes "<") ts rest s).1 refl
 
-pub word_no_mark : (character : List ℕ) (raw : Bool) (text : List ℕ) (ts rest : Tokens) → IsOne (word_kind raw) text ts rest → first (is_mark character) ts ≡ false
+pub word_no_mark : (character : List ℕ) (raw : Bool) (text : List ℕ) (ts rest : Tokens) → IsOne (word_kind raw) text ts rest
+    → first (is_mark character) ts ≡ false
 word_no_mark character true text ts rest s = rw (one_front RawIdent text ts rest s).1 refl
 word_no_mark character false text ts rest s = rw (one_front Ident text ts rest s).1 refl
 
 -- No name of a parameter stands where no `:` does behind the word.
-pub word_no_given : (raw : Bool) (text : List ℕ) (ts rest : Tokens) → IsOne (word_kind raw) text ts rest → is_op (codes ":") rest ≡ false → begins_given ts ≡ false
+pub word_no_given : (raw : Bool) (text : List ℕ) (ts rest : Tokens) → IsOne (word_kind raw) text ts rest → is_op (codes ":") rest ≡ false
+    → begins_given ts ≡ false
 unfolding given_name
 word_no_given true text ts rest s h = rw ((one_front RawIdent text ts rest s).1, h) refl
 word_no_given false text ts rest s h =
@@ -268,7 +269,8 @@ word_no_given false text ts rest s h =
     let us : Tokens = record f.0 { kind = Ident; text = text } ∷ rest in
     subst (λ vs. begins_given vs ≡ false) (sym f.1) (by us (is_plain (class_of text)) refl)
   where
-    by : (us : Tokens) (b : Bool) → is_plain (class_of text) ≡ b → begins_given ((record (one_front Ident text ts rest s).0 { kind = Ident; text = text }) ∷ rest) ≡ false
+    by : (us : Tokens) (b : Bool) → is_plain (class_of text) ≡ b
+        → begins_given ((record (one_front Ident text ts rest s).0 { kind = Ident; text = text }) ∷ rest) ≡ false
     by us true e = rw (e, h) refl
     by us false e = rw e refl
 

@@ -1,5 +1,5 @@
 -- Lists between any two tokens, lists that nothing closes, and parts with an operator between them: what is spelled is read.
-use Rattle.std.proofs.Common.{◌≡◌, ℕ, zero, suc, ◌≤◌, ◌<◌, max, Bool, true, false, List, [], ◌∷◌, ◌++◌, map, length, drop, codes, Some, inl, inr, if◌then◌else◌, refl, sym, ap, subst, ◌∙◌, append_assoc, append-nil, arith}
+use Rattle.std.proofs.Common.{◌≡◌, ℕ, zero, suc, ◌≤◌, ◌<◌, Bool, true, false, List, [], ◌∷◌, ◌++◌, map, length, drop, codes, Some, inl, inr, refl, sym, ap, subst, ◌∙◌, append_assoc, append-nil, arith}
 use Rattle.std.specs.List.{list_all}
 use Rattle.std.proofs.lemmas.Bool.{and_parts}
 use Rattle.lay_piece.specs.Forms.{closing}
@@ -7,7 +7,7 @@ use Rattle.lay_piece.specs.declared.kind.Delim.TheVariants.{Paren}
 use Rattle.lay_piece.specs.declared.kind.Kind.TheVariants.{Punct, Closer}
 use Rattle.lay_token.specs.Operators.{is_op}
 use Rattle.lay_token.specs.declared.token.Token.{Token}
-use Rattle.lay_form.specs.Form.{Bit, Fixed, Form, Done, comma, closer}
+use Rattle.lay_form.specs.Form.{Bit, Fixed, Form, comma, closer}
 use Rattle.lay_form.specs.Notation.{each, comma_gap, comma_list}
 use Rattle.lay_form.specs.Spelled.{IsOne, IsBit, MayBe, Spells}
 use Rattle.lay_form.proofs.FormLaws.{shorter}
@@ -50,7 +50,13 @@ pub paren_closes : ClosedBy (closer Paren) (closes Paren)
 paren_closes ts rest o =
     let f = closer_first Paren ts rest o in
     let no_comma : first (is_mark (codes ",")) ts ≡ false = rw (one_front (Closer Paren) (closing Paren ∷ []) ts rest o).1 refl in
-    record { there = f.0; left = f.1; kept = rw (no_comma, f.0) refl; quiet = closer_ends Paren ts rest o; less = one_shorter (Closer Paren) (closing Paren ∷ []) ts rest o }
+    record {
+      there = f.0;
+      left = f.1;
+      kept = rw (no_comma, f.0) refl;
+      quiet = closer_ends Paren ts rest o;
+      less = one_shorter (Closer Paren) (closing Paren ∷ []) ts rest o;
+    }
 
 pub greater_closes : ClosedBy greater (is_mark (codes ">"))
 greater_closes ts rest o =
@@ -189,7 +195,8 @@ module _ {A : Type 0} (close : Bit) (ends : Token → Bool) (closed : ClosedBy c
   abbrev pub ElementsRead : List A → Tokens → Tokens → Type 0
   ElementsRead xs ts rest = (ys : List (A × ℕ)) × (nodes ys ≡ xs) × (deepest ys ≤ depth) × (elements ends read ts ≡ Some (ys, rest))
 
-  elements_read : (xs : List A) (ts rest : Tokens) → (ys : List (A × ℕ)) × Each (WithNeed depth) xs ys × (elements ends read ts ≡ Some (ys, rest)) → ElementsRead xs ts rest
+  elements_read : (xs : List A) (ts rest : Tokens) → (ys : List (A × ℕ)) × Each (WithNeed depth) xs ys × (elements ends read ts ≡ Some (ys, rest))
+      → ElementsRead xs ts rest
   elements_read xs ts rest e = let n = each_node depth xs e.0 e.1 in (e.0, n.0, n.1, e.2)
 
   pub some_read : (x : A) (xs : List A) (ts mid end rest : Tokens) → list_all good (x ∷ xs) ≡ true → Spells (spelling x) depth ts mid

@@ -16,6 +16,7 @@ use Rattle.lay_tree.proofs.reader.Exact.{one_at_most}
 use Rattle.lay_tree.proofs.reader.File.{one_file}
 use Rattle.lay_tree.proofs.reader.ItemRead.{items_exact}
 use Rattle.lay_tree.proofs.reader.SimplePath.{simple_paths}
+use Rattle.lay_tree.proofs.reader.TypesExact.{one_type, one_path, one_args, one_bounds, one_generics, one_wheres}
 use Rattle.lay_tree.proofs.reader.Use.{use_trees}
 use Rattle.lay_tree.proofs.laws.node_law.Goals as goal
 
@@ -25,6 +26,12 @@ returns c = record {
   one_group = one_at_most about_group (needless group) groups;
   one_call = one_at_most about_call (needless call) calls;
   one_attr = λ node other inner. one_at_most (about_attr inner) (needless (attribute inner)) (attrs_exact inner) node other;
+  one_type = λ node other place. one_type place node other;
+  one_path = λ node other style. one_path style node other;
+  one_args = λ node other style. one_args style node other;
+  one_bounds = one_bounds;
+  one_generics = one_generics;
+  one_wheres = one_wheres;
   one_use = one_at_most about_use use_at use_trees;
   one_item = one_at_most about_item item_at items_exact;
   one_file = one_file;
