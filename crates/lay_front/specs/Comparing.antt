@@ -11,7 +11,7 @@ and_wrong bytes (Some wrong) = bytes ++ wrong ∷ []
 abbrev pub expected_by : Comparer → List ℕ
 expected_by comparer = comparer.expected
 
--- The bytes that were written to it: those that were expected, and then the first one that was wrong. Behind that one it
--- takes no more.
+-- The bytes that were written to it: those that were expected, and then the first one that was wrong. Behind that one
+-- it takes no more.
 abbrev pub written_to : Comparer → List ℕ
 written_to comparer = and_wrong (take comparer.met comparer.expected) comparer.wrong

@@ -19,8 +19,8 @@ input_of line.Usage = None
 input_of (line.Format which) = Some which
 input_of (line.Check which) = Some which
 
--- The bytes of an input and the file that they read to, or why there is none: a case for each answer. The input goes from
--- what is told before to what is told now, and the count of its faults from f to g.
+-- The bytes of an input and the file that they read to, or why there is none: a case for each answer. The input goes
+-- from what is told before to what is told now, and the count of its faults from f to g.
 abbrev pub InputAs : Option (List ℕ) → Option (List ℕ) → ℕ → ℕ → Result (List ℕ × File) Stop → Type 0
 InputAs before now f g (Ok given) = WasRead before now (λ bytes. (given.0 ≡ bytes) × ReadsOnlyTo bytes given.1)
 InputAs before now f g (Err ReadFailed) = Rose f g

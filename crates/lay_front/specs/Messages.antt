@@ -26,7 +26,8 @@ abbrev pub text_or : List ℕ → Result Source Refusal → List ℕ
 text_or bytes (Ok from) = from.text
 text_or bytes (Err refusal) = bytes
 
--- The place of a refusal of these bytes: it is counted in them where they are no UTF-8, and else in the text that is lexed.
+-- The place of a refusal of these bytes: it is counted in them where they are no UTF-8, and else in the text that is
+-- lexed.
 abbrev pub place_in : List ℕ → Refusal → Place2
 place_in bytes refusal = place_of (text_or bytes (source bytes)) (number_of refusal)
 
@@ -53,7 +54,8 @@ message bytes TooLong = codes "input is longer than 16777216 bytes\n"
 message bytes NoMemory = codes "no memory\n"
 
 -- A run over the bytes that are told said the line of its status: a prefix of it, and all of it where no write failed.
-pub record Says (told : Option (List ℕ)) (status : Status) (before now : Option (List ℕ)) (faults later : ℕ) : Type 0 where
+pub record Says (told : Option (List ℕ)) (status : Status) (before now : Option (List ℕ)) (faults later : ℕ)
+    : Type 0 where
   pub bytes : List ℕ
   pub given : TellsAs told bytes
   pub part : GrewByPrefix before now (message bytes status)

@@ -84,7 +84,8 @@ module _ {I : Type 0} (left : I → Which → Option (List ℕ)) (reads : I → 
   CheckRun which i j NoMemory = Unit {0}
 
 -- A run of a line. The inputs go from i to j, the sink from k to l. Memory may be wanting before anything is read.
-module _ {K I : Type 0} (written : K → Option (List ℕ)) (writes : K → ℕ) (left : I → Which → Option (List ℕ)) (reads : I → ℕ) where
+module _ {K I : Type 0} (written : K → Option (List ℕ)) (writes : K → ℕ) (left : I → Which → Option (List ℕ))
+    (reads : I → ℕ) where
   abbrev pub LineRun : Line → I → I → K → K → Status → Type 0
   LineRun line.Usage i j k l status = (j ≡ i) × (l ≡ k) × ((status ≡ Usage) ⊎ (status ≡ NoMemory))
   LineRun (line.Format which) i j k l status = FormatRun written writes left reads which i j k l status

@@ -68,10 +68,12 @@ pub fn run<I: Inputs, K: Sink, E: Sink>(
     ensures untouched { line_of words.now ≡ line.Usage → (inputs.new ≡ inputs.old) × (out.new ≡ out.old) }
 
     // The input that the line names is chosen, and none where it names none, unless memory was wanting for the words.
-    ensures chosen { (I.chosen inputs.new ≡ input_of (line_of words.now)) ⊎ ((result ≡ Status.NoMemory) × (inputs.new ≡ inputs.old)) }
+    ensures chosen { (I.chosen inputs.new ≡ input_of (line_of words.now))
+        ⊎ ((result ≡ Status.NoMemory) × (inputs.new ≡ inputs.old)) }
 
     // No count falls, and each sink that comes back holds the loan that it held.
-    ensures later { (I.faults inputs.old ≤ I.faults inputs.new) × (K.faults out.old ≤ K.faults out.new) × (E.faults err.old ≤ E.faults err.new) }
+    ensures later { (I.faults inputs.old ≤ I.faults inputs.new) × (K.faults out.old ≤ K.faults out.new)
+        × (E.faults err.old ≤ E.faults err.new) }
     ensures loan { SameLoan (K.loan out.old) (K.loan out.new) × SameLoan (E.loan err.old) (E.loan err.new) }
 
     // The cause of each answer, and what it leaves, where an input is formatted and where one is checked.
@@ -86,11 +88,13 @@ pub fn run<I: Inputs, K: Sink, E: Sink>(
     ensures complete { (which : Which) (bytes : Items ℕ) (file : File) → line_of words.now ≡ line.Format which
         → ¬ (Rose (I.faults inputs.old) (I.faults inputs.new)) → ¬ (Rose (K.faults out.old) (K.faults out.new))
         → I.left inputs.old which ≡ Some bytes → length bytes ≤ 16777216 → Reads bytes file
-        → ((result ≡ Status.Done) × GrewBy (K.written out.old) (K.written out.new) (text_of_file file)) ⊎ (result ≡ Status.NoMemory) }
+        → ((result ≡ Status.Done) × GrewBy (K.written out.old) (K.written out.new) (text_of_file file))
+        ⊎ (result ≡ Status.NoMemory) }
     ensures again { (which : Which) (given : Items ℕ) (file : File) → line_of words.now ≡ line.Format which
         → ¬ (Rose (I.faults inputs.old) (I.faults inputs.new)) → ¬ (Rose (K.faults out.old) (K.faults out.new))
         → Reads given file → I.left inputs.old which ≡ Some (text_of_file file) → length (text_of_file file) ≤ 16777216
-        → ((result ≡ Status.Done) × GrewBy (K.written out.old) (K.written out.new) (text_of_file file)) ⊎ (result ≡ Status.NoMemory) }
+        → ((result ≡ Status.Done) × GrewBy (K.written out.old) (K.written out.new) (text_of_file file))
+        ⊎ (result ≡ Status.NoMemory) }
     ensures complete_done { (which : Which) (bytes : Items ℕ) (file : File) → line_of words.now ≡ line.Check which
         → ¬ (Rose (I.faults inputs.old) (I.faults inputs.new))
         → I.left inputs.old which ≡ Some bytes → length bytes ≤ 16777216 → Reads bytes file → bytes ≡ text_of_file file
@@ -99,7 +103,8 @@ pub fn run<I: Inputs, K: Sink, E: Sink>(
         → ¬ (Rose (I.faults inputs.old) (I.faults inputs.new))
         → I.left inputs.old which ≡ Some bytes → length bytes ≤ 16777216 → Reads bytes file → bytes ≢ text_of_file file
         → (result ≡ Status.Differs) ⊎ (result ≡ Status.NoMemory) }
-    ensures complete_refused { (which : Which) (bytes : Items ℕ) (refusal : Refusal) → input_of (line_of words.now) ≡ Some which
+    ensures complete_refused { (which : Which) (bytes : Items ℕ) (refusal : Refusal)
+        → input_of (line_of words.now) ≡ Some which
         → ¬ (Rose (I.faults inputs.old) (I.faults inputs.new))
         → I.left inputs.old which ≡ Some bytes → length bytes ≤ 16777216 → IsRefused bytes refusal
         → (result ≡ Status.Refused refusal) ⊎ (result ≡ Status.NoMemory) }
@@ -142,8 +147,10 @@ fn execute<I: Inputs, K: Sink>(
     out: &mut K,
 ) -> Result<(), Stop>
     requires { I.chosen inputs.old ≡ None }
-    ensures chosen { (I.chosen inputs.new ≡ input_of (line_of words.now)) ⊎ ((result ≡ Err Stop.NoMemory) × (inputs.new ≡ inputs.old)) }
-    ensures run { LineRun K.written K.faults I.left I.faults (line_of words.now) inputs.old inputs.new out.old out.new (status_of result) }
+    ensures chosen { (I.chosen inputs.new ≡ input_of (line_of words.now))
+        ⊎ ((result ≡ Err Stop.NoMemory) × (inputs.new ≡ inputs.old)) }
+    ensures run { LineRun K.written K.faults I.left I.faults (line_of words.now)
+        inputs.old inputs.new out.old out.new (status_of result) }
     ensures placed { IsPlaced (left_of (input_of (line_of words.now)) (I.left inputs.old)) result }
     ensures later { (I.faults inputs.old ≤ I.faults inputs.new) × (K.faults out.old ≤ K.faults out.new) }
     ensures loan { SameLoan (K.loan out.old) (K.loan out.new) }
@@ -165,7 +172,8 @@ fn format_input<I: Inputs, K: Sink>(
 ) -> Result<(), Stop>
     requires { I.chosen inputs.old ≡ None }
     ensures chosen { I.chosen inputs.new ≡ Some which }
-    ensures run { FormatRun K.written K.faults I.left I.faults which inputs.old inputs.new out.old out.new (status_of result) }
+    ensures run { FormatRun K.written K.faults I.left I.faults which
+        inputs.old inputs.new out.old out.new (status_of result) }
     ensures placed { IsPlaced (I.left inputs.old which) result }
     ensures later { (I.faults inputs.old ≤ I.faults inputs.new) × (K.faults out.old ≤ K.faults out.new) }
     ensures loan { SameLoan (K.loan out.old) (K.loan out.new) }
@@ -208,7 +216,8 @@ fn read_input<I: Inputs>(
 ) -> Result<(List<u8>, File), Stop>
     requires { I.chosen inputs.old ≡ None }
     ensures chosen { I.chosen inputs.new ≡ Some which }
-    ensures input { InputAs (I.left inputs.old which) (I.left inputs.new which) (I.faults inputs.old) (I.faults inputs.new) result }
+    ensures input { InputAs (I.left inputs.old which) (I.left inputs.new which)
+        (I.faults inputs.old) (I.faults inputs.new) result }
     ensures later { I.faults inputs.old ≤ I.faults inputs.new }
 {
     inputs.choose(which);

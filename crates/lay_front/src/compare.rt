@@ -102,7 +102,8 @@ fn same_front(piece: &[u8], expected: &[u8]) -> usize
     ensures in_piece { result ≤ length piece.now }
     ensures in_expected { result ≤ length expected.now }
     ensures same { take result piece.now ≡ take result expected.now }
-    ensures ends { result < length piece.now → result < length expected.now → slice_index expected.now result ≢ slice_index piece.now result }
+    ensures ends { result < length piece.now → result < length expected.now
+        → slice_index expected.now result ≢ slice_index piece.now result }
 {
     for number in 0..piece.len().min(expected.len()) {
         if piece[number] != expected[number] {

@@ -15,7 +15,8 @@ use lay_token::{Place2, Refusal};
 /// changes nothing else.
 pub fn tell<E: Sink>(ended: Result<(), Stop>, err: &mut E)
     ensures part { GrewByPrefix (E.written err.old) (E.written err.new) (line_of_end ended) }
-    ensures whole { ¬ (Rose (E.faults err.old) (E.faults err.new)) → GrewBy (E.written err.old) (E.written err.new) (line_of_end ended) }
+    ensures whole { ¬ (Rose (E.faults err.old) (E.faults err.new))
+        → GrewBy (E.written err.old) (E.written err.new) (line_of_end ended) }
     ensures silent { OnOk ended (err.new ≡ err.old) }
     ensures later { E.faults err.old ≤ E.faults err.new }
     ensures loan { SameLoan (E.loan err.old) (E.loan err.new) }

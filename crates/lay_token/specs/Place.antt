@@ -9,7 +9,8 @@ is_line_feed byte = byte == char.line_feed
 abbrev pub is_in_line : ℕ → Bool
 is_in_line byte = not (is_line_feed byte)
 
--- The place of byte number `at` of a text: 1 more than the line feeds before it, and 1 more than the bytes since the last.
+-- The place of byte number `at` of a text: 1 more than the line feeds before it, and 1 more than the bytes since the
+-- last.
 abbrev pub place_of : List ℕ → ℕ → Place2
 place_of text at = record {
   line = 1 + count_by is_line_feed (take at text);
