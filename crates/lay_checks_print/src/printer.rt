@@ -5,7 +5,7 @@ ghost use Rattle.lay_layout.specs.declared.layout.Tok.TheVariants as tok;
 ghost use Rattle.lay_layout.specs.Machine.{opened, text as text_of};
 ghost use Rattle.lay_io.specs.Told.{GrewBy, GrewByPrefix};
 ghost use Rattle.lay_stream.specs.Fed.{Did};
-ghost use Rattle.lay_printer.specs.Errors.{Blames};
+ghost use Rattle.lay_printer.specs.Printers.{Blames};
 
 use crate::words::{add, stream, text};
 use lay_given::{BETWEEN, parts};

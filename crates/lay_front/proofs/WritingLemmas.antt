@@ -8,7 +8,7 @@ use Rattle.lay_io.specs.Told.{GrewBy, GrewByPrefix}
 use Rattle.lay_tree.specs.Out.{layout_of_file, out}
 use Rattle.lay_tree.specs.declared.file.File.{File}
 use Rattle.lay_printer.proofs.Through.{Printed, printed_along}
-use Rattle.lay_printer.specs.Presses.{lent_sink, press_loans}
+use Rattle.lay_printer.specs.Printers.{lent_sink, press_loans}
 use Rattle.lay_printer.specs.declared.engine.PrintError.{PrintError}
 use Rattle.lay_printer.specs.declared.engine.PrintError.TheVariants.{WriteFailed}
 use Rattle.lay_printer.specs.declared.press.Press.{Press}

@@ -9,7 +9,7 @@ use Rattle.lay_layout.specs.declared.layout.Tok.{Tok}
 use Rattle.lay_layout.specs.declared.layout.Tok.TheVariants as tok
 use Rattle.lay_layout.specs.Document.{State, over, write, put_mark, newline, line, shift, break_by}
 use Rattle.lay_layout.specs.Machine.{measure, play, step, Layout, top, begun, shown}
-use Rattle.lay_printer.specs.Texts.{ends_in_blank, last_blank, AreFull}
+use Rattle.lay_printer.specs.Promises.{ends_in_blank, last_blank, AreFull}
 use Rattle.std.proofs.Common.{zero, suc, ◌≤◌, take, drop, length, arith}
 
 ends_append : (a : List ℕ) (x : ℕ) (b : List ℕ) → ends_in_blank (a ++ x ∷ b) ≡ ends_in_blank (x ∷ b)

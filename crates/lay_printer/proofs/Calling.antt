@@ -14,9 +14,8 @@ use Rattle.lay_printer.specs.declared.engine.PrintError.TheVariants.{WriteFailed
 use Rattle.lay_printer.specs.Printing.{Printing}
 use Rattle.lay_printer.specs.Scan.{Holds, waiting}
 use Rattle.lay_printer.specs.Pages.{Wrote, Cut}
-use Rattle.lay_printer.specs.Errors.{Blames}
 use Rattle.lay_printer.specs.Queued.{least_width, Advances, Says, Decided, next_of}
-use Rattle.lay_printer.specs.Printers.{at, Runs, Fails, FedBy, CauseOf, LostBy, Went, Lost, Calls, Finishes, printer_meanings}
+use Rattle.lay_printer.specs.Printers.{at, Runs, Fails, FedBy, CauseOf, Blames, LostBy, Went, Lost, Calls, Finishes, printer_meanings}
 use Rattle.lay_stream.proofs.Calls.{opened_append}
 use Rattle.lay_stream.proofs.ListedLemmas.{nested_append}
 use Rattle.lay_printer.proofs.Running.{running_broken}

@@ -54,7 +54,8 @@ pub record Passes (old new : Engine) : Type 0 where
   pub empty : new.queue.ring.entries ≡ []
   pub ended : new.queue.ended ≡ old.queue.ended
   pub groups : new.queue.groups ≡ old.queue.groups
-  pub number : next_of new.queue.ring.first new.queue.ring.entries ≡ (next_of old.queue.ring.first old.queue.ring.entries + 1) % 2 ^ 64
+  pub number : next_of new.queue.ring.first new.queue.ring.entries
+      ≡ (next_of old.queue.ring.first old.queue.ring.entries + 1) % 2 ^ 64
   pub room : room_of old ≤ room_of new
 
 -- What holds of a printer between calls. While none has failed, tokens may come, and no more text waits than the space.

@@ -3,11 +3,7 @@ pub mod Notes
 pub mod Closed
 pub mod Pages
 pub mod Queued
-pub mod Errors
 pub mod Engines
 pub mod Printing
 pub mod Printers
 pub mod Promises
-pub mod Presses
-pub mod Sizes
-pub mod Texts

@@ -1,4 +1,4 @@
--- What is known of a printer.
+-- What is known of a printer, and of a press.
 use Rattle.std.specs.Prelude.{◌≡◌, ◌≢◌, ℕ, ◌+◌, ◌-◌, ◌%◌, ◌^◌, ◌<◌, ◌≤◌, ◌⊎◌, false}
 use Rattle.std.specs.Prelude.{List, [], ◌∷◌, ◌++◌, length, Option, Some, None, Result, Err, OnOk, IfErr}
 use Rattle.lay_layout.specs.declared.layout.Tok.{Tok}
@@ -8,9 +8,10 @@ use Rattle.lay_io.specs.Faults.{Rose}
 use Rattle.lay_stream.specs.Fed.{Meanings}
 use Rattle.lay_printer.specs.Queued.{Running, Broken, next_of}
 use Rattle.lay_printer.specs.Pages.{Wrote, Cut}
-use Rattle.lay_printer.specs.Printing.{Printing}
+use Rattle.lay_printer.specs.Printing.{Printing, Owning}
 use Rattle.lay_printer.specs.declared.engine.PrintError.{PrintError}
 use Rattle.lay_printer.specs.declared.engine.PrintError.TheVariants.{WriteFailed, NoMemory}
+use Rattle.lay_printer.specs.declared.press.Press.{Press}
 
 -- the number of tokens that are printed
 abbrev pub at : List Tok → List Entry → ℕ
@@ -39,16 +40,20 @@ abbrev pub CauseOf : PrintError → ℕ → ℕ → Option PrintError → Type 0
 CauseOf WriteFailed before now failed = Rose before now ⊎ (failed ≡ Some WriteFailed)
 CauseOf NoMemory before now failed = Unit {0}
 
+-- the count of faults never falls, and a write failed only where it rose
+pub record Blames {T : Type 0} (before now : ℕ) (result : Result T PrintError) : Type 0 where
+  pub later : before ≤ now
+  pub failed : IfErr result (λ e. e ≡ WriteFailed → Rose before now)
+
 -- a call that failed, after one that failed or not: after one that failed the sink isn't written to
 abbrev pub LostBy : Option PrintError → Printing → Option (List ℕ) → Option (List ℕ) → Tok → Type 0
 LostBy None c was now t = (content : List ℕ) (s : List Tok) → Runs c was content s → Fails now content (s ++ t ∷ [])
 LostBy (Some e) c was now t = now ≡ was
 
-pub record Went (c : Printing) (before : Option (List ℕ)) (c' : Printing) (now : Option (List ℕ)) (t : Tok)
-    : Type 0 where
+pub record Went (c : Printing) (was : Option (List ℕ)) (c' : Printing) (now : Option (List ℕ)) (t : Tok) : Type 0 where
   pub hadnt_failed : c.failed ≡ None
   pub hasnt_failed : c'.failed ≡ None
-  pub runs : (content : List ℕ) (s : List Tok) → Runs c before content s → Runs c' now content (s ++ t ∷ [])
+  pub runs : (content : List ℕ) (s : List Tok) → Runs c was content s → Runs c' now content (s ++ t ∷ [])
   pub level : c'.groups ≡ opened (t ∷ []) c.groups
   pub number : next_of c'.first c'.entries ≡ (next_of c.first c.entries + 1) % 2 ^ 64
 
@@ -98,3 +103,27 @@ printer_meanings core written faults loans = record {
   cause = λ x e y. CauseOf e (faults x) (faults y) (core x).failed;
   loans = loans;
 }
+
+-- What contracts see of a press: what was lent to it, and which loan its sink is. It has no model, since from what a
+-- model shows nobody could tell what a loan ends with.
+abbrev pub lent_core : {K : Type 0} → Press K → Printing
+lent_core p = p.core.now
+
+abbrev pub lent_sink : {K : Type 0} → Press K → K
+lent_sink p = p.sink.now
+
+abbrev pub lent_as : {K : Type 0} → Press K → ℕ
+lent_as p = p.sink.ghost_name
+
+-- the loan that a press holds, and the one that its sink does
+abbrev pub press_loans : {K : Type 0} → (K → ℕ) → Press K → List ℕ
+press_loans loan p = lent_as p ∷ loan (lent_sink p) ∷ []
+
+-- what is said of a press and of a printer that owns its sink as an Emit, over what the sink tells
+abbrev pub press_meanings : {K : Type 0} → (K → Option (List ℕ)) → (K → ℕ) → (K → ℕ) → Meanings (Press K) PrintError
+press_meanings written faults loan =
+    printer_meanings lent_core (λ p. written (lent_sink p)) (λ p. faults (lent_sink p)) (press_loans loan)
+
+abbrev pub owner_meanings : {K : Type 0} → (K → Option (List ℕ)) → (K → ℕ) → (K → ℕ) → Meanings (Owning K) PrintError
+owner_meanings written faults loan =
+    printer_meanings (λ p. p.core) (λ p. written p.sink) (λ p. faults p.sink) (λ p. loan p.sink ∷ [])

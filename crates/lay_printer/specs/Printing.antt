@@ -10,9 +10,8 @@ pub record Framed : Type 0 where
   pub frames : List Frame
   pub spare : ℕ
 
--- The tokens that wait with their sizes, oldest first, and the number of the first of them. How many groups are open
--- after all tokens that were fed. How many tokens may come before memory is taken. Why a call failed, if one did. The
--- line that is being written, and the frames of the groups that are open there.
+-- The tokens that wait with their sizes, oldest first, the number of the first, how many groups are open after all of
+-- them, how many may come before memory is taken, why a call failed, and the line being written with its open frames.
 pub record Printing : Type 0 where
   pub entries : List Entry
   pub first : ℕ

@@ -1,17 +1,20 @@
--- What holds of a printer at a moment: of whatever tokens s it was fed, and whatever tokens r follow.
-use Rattle.std.specs.Prelude.{◌≡◌, ℕ, ◌+◌, ◌-◌, ◌≤◌, min, ℤ, pos, ◌-ℤ◌, List, [], ◌++◌, drop, Option}
+-- What holds of a printer at a moment, of whatever tokens s were fed and r follow, and of measures and blanks at ends.
+use Rattle.std.specs.Prelude.{◌≡◌, ◌≢◌, ℕ, zero, suc, ◌+◌, ◌-◌, ◌≤◌, eqb, min, ℤ, pos, ◌-ℤ◌}
+use Rattle.std.specs.Prelude.{Bool, true, false, List, [], ◌∷◌, ◌++◌, drop, Option}
 use Rattle.lay_layout.specs.declared.layout.Tok.{Tok}
+use Rattle.lay_layout.specs.declared.layout.Tok.TheVariants as tok
 use Rattle.lay_layout.specs.Document.{State}
-use Rattle.lay_layout.specs.Machine.{layout_after, shown}
+use Rattle.lay_layout.specs.Machine.{outer, measure, layout_after, shown}
+use Rattle.lay_printer.specs.Scan.{cap}
 use Rattle.lay_printer.specs.Closed.{toks_of}
 use Rattle.lay_printer.specs.Printing.{Printing}
 use Rattle.lay_printer.specs.Pages.{Is, Wrote}
 use Rattle.lay_printer.specs.Printers.{Runs, at}
+use Rattle.lay_ring.specs.declared.entry.Size.TheVariants.{Unknown, Known, Forced}
 use Rattle.lay_ring.specs.declared.entry.Entry.{Entry}
 use Rattle.lay_printer.specs.declared.line.Line.{Line}
 
--- Lockstep: the sink has grown by what is shown at the token that was printed last, the line is that of the state
--- there, and the tokens after it wait.
+-- The sink grew by what is shown at the last printed token, the line is as there, and the tokens of s after it wait.
 pub record InStep (es : List Entry) (p : Line) (w : Option (List ℕ)) (content : List ℕ) (s r : List Tok) : Type 0 where
   pub grown : Wrote w content (shown (s ++ r) (at s es))
   pub line : Is p (layout_after (s ++ r) (at s es)).state
@@ -55,3 +58,46 @@ RunsAs old new = (written : Option (List ℕ)) (content : List ℕ) (s : List To
 -- but for its room all is as it was
 abbrev pub IsSame : (old new : Printing) → Type 0
 IsSame old new = new ≡ record old { spare = new.spare }
+
+-- Is there a break outside the groups that begin among the tokens and the d groups that are open before them?
+abbrev pub has_end : ℕ → List Tok → Bool
+has_end d [] = false
+has_end d (tok.Text t ∷ ts) = has_end d ts
+has_end zero (tok.Break b ∷ ts) = true
+has_end (suc d) (tok.Break b ∷ ts) = has_end (suc d) ts
+has_end d (tok.Begin c o ∷ ts) = has_end (suc d) ts
+has_end d (tok.End ∷ ts) = has_end (outer d) ts
+
+-- The break that ends a token's measure isn't among the tokens that follow it.
+abbrev pub IsOpen : Tok → List Tok → Type 0
+IsOpen (tok.Break b) rest = has_end 0 rest ≡ false
+IsOpen (tok.Begin c o) rest = has_end 1 rest ≡ false
+IsOpen t rest = ⊥
+
+-- Where the tokens rest follow an entry and were fed: a known size is the measure, whatever is fed after them, or 2^62
+-- where the measure is greater. It is unknown only where what ends the measure hasn't been fed.
+pub record IsMeasured (e : Entry) (rest : List Tok) : Type 0 where
+  pub known : (k : ℤ) → e.size ≡ Known k → (r : List Tok) → k ≡ pos (min (measure e.tok (rest ++ r)) cap)
+  pub unknown : e.size ≡ Unknown → IsOpen e.tok rest
+  pub never_forced : e.size ≢ Forced
+
+abbrev pub AreMeasured : List Entry → Type 0
+AreMeasured [] = Unit {0}
+AreMeasured (e ∷ es) = IsMeasured e (toks_of es) × AreMeasured es
+
+abbrev pub ends_in_blank : List ℕ → Bool
+ends_in_blank [] = false
+ends_in_blank (x ∷ []) = eqb x 32
+ends_in_blank (x ∷ y ∷ ys) = ends_in_blank (y ∷ ys)
+
+-- Does the last text among the tokens end in a blank? Where there is none, before says it.
+abbrev pub last_blank : List Tok → Bool → Bool
+last_blank [] before = before
+last_blank (tok.Text t ∷ ts) before = last_blank ts (ends_in_blank t)
+last_blank (t ∷ ts) before = last_blank ts before
+
+-- no text among the tokens is empty
+abbrev pub AreFull : List Tok → Type 0
+AreFull [] = Unit {0}
+AreFull (tok.Text t ∷ ts) = (t ≢ []) × AreFull ts
+AreFull (t ∷ ts) = AreFull ts

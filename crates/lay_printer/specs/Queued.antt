@@ -27,13 +27,10 @@ notes_after size ms = ms
 
 -- what a token's measure has at the least beside texts
 abbrev pub least_width : Tok → ℕ
-least_width (tok.Text t) = 0
 least_width (tok.Break b) = width_of_break b
-least_width (tok.Begin c o) = 0
-least_width tok.End = 0
+least_width t = 0
 
--- What is decided of the oldest entry, where it has so many columns at the least and the text that waits: whether it
--- doesn't fit, or nothing yet.
+-- Is the oldest entry too big, where it has so many columns at the least and the text that waits? None: undecided.
 abbrev pub Says : Size → (least wait : ℕ) → Line → Option Bool → Type 0
 Says Unknown least wait line None = line.used + (least + wait) ≤ line.room
 Says Unknown least wait line (Some big) = (big ≡ true) × (line.room < line.used + (least + wait))
@@ -52,7 +49,8 @@ pub record At (line : Line) (frames : List Frame) (m : Layout) : Type 0 where
 
 -- A token is printed as one that doesn't fit, whatever follows it.
 abbrev pub IsClear : Line → List Frame → Tok → Type 0
-IsClear line frames t = (m : Layout) → At line frames m → (r : List Tok) → act t (over (measure t r) m.state) m ≡ act t true m
+IsClear line frames t = (m : Layout) → At line frames m → (r : List Tok)
+    → act t (over (measure t r) m.state) m ≡ act t true m
 
 -- A token is printed: Ok makes the layout act of it, and Err leaves a front of the text of that.
 pub record Prints {T E : Type 0} (line : Line) (frames : List Frame) (before : Option (List ℕ)) (result : Result T E)

@@ -34,7 +34,7 @@ pub struct Engine {
 
 impl Engine {
     ghost use Rattle.lay_printer.specs.Engines.{Comes, Passes, Stays, room_of};
-    ghost use Rattle.lay_printer.specs.Errors.{Blames};
+    ghost use Rattle.lay_printer.specs.Printers.{Blames};
     ghost use Rattle.lay_printer.specs.declared.engine.PrintError.TheVariants.{WriteFailed};
 
     /// A token is fed: it waits, and then what is decided is printed. `roomy` says that there is room for it, so that

@@ -4,9 +4,7 @@ ghost use Rattle.lay_layout.specs.declared.layout.Tok.{Tok};
 ghost use Rattle.lay_layout.specs.Machine.{shown};
 ghost use Rattle.lay_printer.specs.Printing.{Printing};
 ghost use Rattle.lay_printer.specs.Printers.{Runs, at};
-ghost use Rattle.lay_printer.specs.Promises.{InStep};
-ghost use Rattle.lay_printer.specs.Sizes.{AreMeasured};
-ghost use Rattle.lay_printer.specs.Texts.{AreFull, ends_in_blank, last_blank};
+ghost use Rattle.lay_printer.specs.Promises.{AreFull, AreMeasured, InStep, ends_in_blank, last_blank};
 
 /// A printer that was fed the tokens s and hasn't failed, over a sink that had the content.
 ///

@@ -1,6 +1,6 @@
 -- The press is over the core and the sink that came in, and what comes back is the sink that was written.
 use Rattle.std.proofs.Common.{rules, ◌≡◌, ℕ, List, get_or, ap, ◌∙◌, refl}
-use Rattle.lay_printer.specs.Presses.{press_loans}
+use Rattle.lay_printer.specs.Printers.{press_loans}
 use Rattle.lay_printer.proofs.Through.{Begins, printed_stopped, printed_finish, printed_along, level_zero}
 use Rattle.lay_checks_print.proofs.printer.print_pair.Goals as goal
 

@@ -1,7 +1,7 @@
 -- The press is over the core and the sink that came in, and what comes back is the sink that was written.
 use Rattle.std.proofs.Common.{rules, ◌≡◌, ℕ, List, get_or, ap, ◌∙◌, refl}
 use Rattle.lay_layout.proofs.Whole.{closed_stream}
-use Rattle.lay_printer.specs.Presses.{lent_core, press_loans}
+use Rattle.lay_printer.specs.Printers.{lent_core, press_loans}
 use Rattle.lay_printer.proofs.Through.{Begins, printed_stopped, printed_finish, level_zero}
 use Rattle.lay_tree.specs.Out.{layout_of_file}
 use Rattle.lay_front.proofs.WritingLemmas.{file_written}
