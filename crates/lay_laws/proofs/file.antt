@@ -3,3 +3,4 @@ pub mod Nodes
 pub mod OneAnswer
 pub mod Reparse
 pub mod Singles
+pub mod TypeParts
