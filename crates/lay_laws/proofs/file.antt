@@ -4,3 +4,4 @@ pub mod OneAnswer
 pub mod Reparse
 pub mod Singles
 pub mod TypeParts
+pub mod Types
