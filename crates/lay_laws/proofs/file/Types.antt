@@ -14,11 +14,12 @@ use Rattle.lay_tree.specs.Words.{is_name, is_path_word, leaf_of, colons}
 use Rattle.lay_tree.specs.nodes.Attr.{are_attrs, is_empty}
 use Rattle.lay_tree.specs.nodes.Call.{about_call}
 use Rattle.lay_tree.specs.nodes.Facts.{Facts, forms, all_good}
-use Rattle.lay_tree.specs.nodes.Types.{TypeFacts, pointer_word, type_forms, good_at, all_types_good, ArgsFacts, in_style, PathFacts, output_form, output_good, angle_form, round_form, args_facts, is_there, bounds_form, bounds_good, meets_form, bound_facts, constraint_facts, arg_facts, segment_form, segments_form, segment_good, segments_good, of_form, of_good, start_facts, path_facts, deeper, tuple_form, ref_lifetime, param_name, is_param_name, func_param_facts, param_attrs, dots, params_form, ty_facts, less, greater, joined, lifetime_form, binder_form, is_binder, abi_form, is_abi, about_type, about_path, about_start, about_args, about_arg, about_constraint, about_bound, about_func_param}
+use Rattle.lay_tree.specs.nodes.Types.{const_form, TypeFacts, pointer_word, type_forms, good_at, all_types_good, ArgsFacts, in_style, PathFacts, output_form, output_good, angle_form, round_form, args_facts, is_there, bounds_form, bounds_good, meets_form, bound_facts, constraint_facts, arg_facts, segment_form, segments_form, segment_good, segments_good, of_form, of_good, start_facts, path_facts, deeper, tuple_form, ref_lifetime, param_name, is_param_name, func_param_facts, param_attrs, dots, params_form, ty_facts, less, greater, joined, lifetime_form, binder_form, is_binder, abi_form, is_abi, about_type, about_path, about_start, about_args, about_arg, about_constraint, about_bound, about_func_param}
 use Rattle.lay_tree.specs.tokens.Lexed.{is_token_list}
 use Rattle.lay_tree.specs.tokens.Lists.{token_list, ends_in_line}
 use Rattle.lay_tree.specs.declared.token.Lifetime.{Lifetime}
 use Rattle.lay_tree.specs.declared.token.Listed.{Listed}
+use Rattle.lay_tree.specs.declared.token.Name.{Name}
 use Rattle.lay_tree.specs.declared.token.Word.{Word}
 use Rattle.lay_tree.specs.declared.types.Abi.{Abi}
 use Rattle.lay_tree.specs.declared.types.Arg.{Arg}
@@ -28,6 +29,7 @@ use Rattle.lay_tree.specs.declared.types.Arg.TheViews as views
 use Rattle.lay_tree.specs.declared.types.Args.{Args}
 use Rattle.lay_tree.specs.declared.types.Binder.{Binder}
 use Rattle.lay_tree.specs.declared.types.Bound.{Bound}
+use Rattle.lay_tree.specs.declared.types.ConstArg.{ConstArg}
 use Rattle.lay_tree.specs.declared.types.Constraint.{Constraint}
 use Rattle.lay_tree.specs.declared.types.FuncParam.{FuncParam}
 use Rattle.lay_tree.specs.declared.types.Path.{Path}
@@ -43,7 +45,7 @@ use Rattle.lay_laws.proofs.borders.Need.{RawWord, Grow}
 use Rattle.lay_laws.proofs.borders.Border.{Other, Border, Clear, At}
 use Rattle.lay_laws.proofs.borders.Move.{under}
 use Rattle.lay_laws.proofs.forms.Passes.{plain}
-use Rattle.lay_laws.proofs.forms.Rules.{tables, On, From, All, Leads, ends, fixed, dotted, breaks, within, part, level, left_out, list_fits, list}
+use Rattle.lay_laws.proofs.forms.Rules.{wider, tables, On, From, All, Leads, ends, fixed, dotted, breaks, within, part, level, left_out, list_fits, list}
 use Rattle.lay_laws.proofs.tokens.Rows.{list_end}
 use Rattle.lay_laws.proofs.tokens.Within.{listed}
 use Rattle.lay_laws.proofs.file.Nodes.{ends_name, behind_word, start_path, word, rest_pieces, when_pieces, list_pieces, both_pieces, both_all, call_passes}
@@ -539,3 +541,294 @@ func_pass binder is_unsafe abi params variadic output k l = record {
       (fixed refl (part behind_word plain refl (params_pass params variadic k n2.1 w3.0)
       (output_passes output l n1.1 w3.1))))));
 }
+
+-- ---- arguments, of what is told
+
+region_pass : (l : Lifetime) → Passing plain ends_arg (arg_facts (Arg-F.Region l))
+unfolding tables
+region_pass l = record { go = λ g w. leaf_passes kind.Lifetime l.text refl (and_parts _ true w).0 (ends refl) }
+
+plain_pass : (x : TypeFacts) → TypePasses x → Passing plain ends_arg (arg_facts (Arg-F.Plain x))
+plain_pass x k = record { go = λ g w. wider refl (k.go g w) }
+
+const_pass : (value : ConstArg) → Passing plain ends_arg (arg_facts (Arg-F.Const value))
+const_pass value = record { go = λ g w. const_passes value g w }
+
+equal_const_pass : (value : ConstArg) → Passing ends_type ends_arg (constraint_facts (Constraint-F.EqualConst value))
+unfolding tables
+equal_const_pass value = record {
+  go = λ g w.
+      fixed refl (part plain ends_arg refl
+      (const_passes value g (and_parts (are_pieces (const_form value)) true w).0) (ends refl));
+}
+
+named_arg_pass : (name : Name) (x : ArgsFacts) (y : Facts) → ArgsPass x → Passing ends_type ends_arg y
+    → Passing plain ends_arg (arg_facts (Arg-F.Named name x y))
+named_arg_pass name x y k l = record {
+  go = λ g w.
+      let n = and_parts (is_name name.raw name.text && not x.round && x.kind.good) y.good g in
+      let q = (and_parts (is_name name.raw name.text && not x.round) x.kind.good n.0).1 in
+      level plain ends_arg refl
+      (named_pass name.raw name.text x y k l (q, n.1) (and_parts _ true w).0) (ends refl);
+}
+
+-- ---- each node
+
+abbrev ArgIs : Arg → Type 0
+ArgIs x = Passing plain ends_arg (about_arg x)
+
+abbrev ArgsAre : Args → Type 0
+ArgsAre x = ArgsPass (about_args x)
+
+abbrev BoundIs : Bound → Type 0
+BoundIs x = Passing plain ends_type (about_bound x)
+
+abbrev ConstraintIs : Constraint → Type 0
+ConstraintIs x = Passing ends_type ends_arg (about_constraint x)
+
+abbrev StartIs : PathStart → Type 0
+StartIs x = Passing plain start_path (about_start x)
+
+abbrev TypeIs : Ty → Type 0
+TypeIs x = TypePasses (about_type x)
+
+abbrev ParamIs : FuncParam → Type 0
+ParamIs x = Passing plain ends_param (about_func_param x)
+
+abbrev PathIs : Path → Type 0
+PathIs x = PathPasses (about_path x)
+
+-- a node that passes
+abbrev KeptArg : Type 0
+KeptArg = (x : Arg) × ArgIs x
+
+abbrev KeptArgs : Type 0
+KeptArgs = (x : Args) × ArgsAre x
+
+abbrev KeptBound : Type 0
+KeptBound = (x : Bound) × BoundIs x
+
+abbrev KeptConstraint : Type 0
+KeptConstraint = (x : Constraint) × ConstraintIs x
+
+abbrev KeptStart : Type 0
+KeptStart = (x : PathStart) × StartIs x
+
+abbrev KeptType : Type 0
+KeptType = (x : Ty) × TypeIs x
+
+abbrev KeptParam : Type 0
+KeptParam = (x : FuncParam) × ParamIs x
+
+abbrev KeptPath : Type 0
+KeptPath = (x : Path) × PathIs x
+
+kept : {A B : Type 0} (P : B → Type 0) (about : A → B) (ys : List ((x : A) × P (about x)))
+    → Each P (map about (map (λ (y : (x : A) × P (about x)). y.0) ys))
+kept P about [] = tt
+kept P about (y ∷ ys) = (y.1, kept P about ys)
+
+kept_segments : (ys : List (Word × KeptArgs))
+    → Each SegmentPasses (map about_segment (map (λ (y : Word × KeptArgs). (y.0, y.1.0)) ys))
+kept_segments [] = tt
+kept_segments (y ∷ ys) = (y.1.1, kept_segments ys)
+
+arg_step : (y : Arg-F KeptArg KeptArgs KeptBound KeptConstraint KeptStart KeptType KeptParam KeptPath)
+    → ArgIs (views.roll-Arg (type_fold.map-Arg KeptArg KeptArgs KeptBound KeptConstraint KeptStart KeptType KeptParam KeptPath
+    Arg Args Bound Constraint PathStart Ty FuncParam Path
+    (λ y. y.0) (λ y. y.0) (λ y. y.0) (λ y. y.0) (λ y. y.0) (λ y. y.0) (λ y. y.0) (λ y. y.0) y))
+arg_step (Arg-F.Region l) = subst ArgIs (sym (views.rolls-Region l))
+    (subst (Passing plain ends_arg) (sym (laws.arg_region_is l)) (region_pass l))
+arg_step (Arg-F.Plain x) = subst ArgIs (sym (views.rolls-Plain x.0))
+    (subst (Passing plain ends_arg) (sym (laws.arg_plain_is x.0)) (plain_pass (about_type x.0) x.1))
+arg_step (Arg-F.Const value) = subst ArgIs (sym (views.rolls-Const value))
+    (subst (Passing plain ends_arg) (sym (laws.arg_const_is value)) (const_pass value))
+arg_step (Arg-F.Named name x c) = subst ArgIs (sym (views.rolls-Named name x.0 c.0))
+    (subst (Passing plain ends_arg) (sym (laws.arg_named_is name x.0 c.0)) (named_arg_pass name (about_args x.0) (about_constraint c.0) x.1 c.1))
+
+args_step : (y : Args-F KeptArg KeptArgs KeptBound KeptConstraint KeptStart KeptType KeptParam KeptPath)
+    → ArgsAre (views.roll-Args (type_fold.map-Args KeptArg KeptArgs KeptBound KeptConstraint KeptStart KeptType KeptParam KeptPath
+    Arg Args Bound Constraint PathStart Ty FuncParam Path
+    (λ y. y.0) (λ y. y.0) (λ y. y.0) (λ y. y.0) (λ y. y.0) (λ y. y.0) (λ y. y.0) (λ y. y.0) y))
+args_step Args-F.None = subst ArgsAre (sym (views.rolls-None))
+    (subst ArgsPass (sym (laws.args_none_is)) (none_pass))
+args_step (Args-F.Angle xs) = subst ArgsAre (sym (views.rolls-Angle (map (λ (y : KeptArg). y.0) xs)))
+    (subst ArgsPass (sym (laws.args_angle_is (map (λ (y : KeptArg). y.0) xs))) (angle_pass (map about_arg (map (λ (y : KeptArg). y.0) xs)) (kept (Passing plain ends_arg) about_arg xs)))
+args_step (Args-F.Round xs None) = subst ArgsAre (sym (views.rolls-Round (map (λ (y : KeptType). y.0) xs) None))
+    (subst ArgsPass (sym (laws.args_round_is (map (λ (y : KeptType). y.0) xs) None)) (round_pass (map about_type (map (λ (y : KeptType). y.0) xs)) None (kept TypePasses about_type xs) tt))
+args_step (Args-F.Round xs (Some x)) = subst ArgsAre (sym (views.rolls-Round (map (λ (y : KeptType). y.0) xs) (Some x.0)))
+    (subst ArgsPass (sym (laws.args_round_is (map (λ (y : KeptType). y.0) xs) (Some x.0))) (round_pass (map about_type (map (λ (y : KeptType). y.0) xs)) (Some (about_type x.0)) (kept TypePasses about_type xs) x.1))
+
+bound_step : (y : Bound-F KeptArg KeptArgs KeptBound KeptConstraint KeptStart KeptType KeptParam KeptPath)
+    → BoundIs (views.roll-Bound (type_fold.map-Bound KeptArg KeptArgs KeptBound KeptConstraint KeptStart KeptType KeptParam KeptPath
+    Arg Args Bound Constraint PathStart Ty FuncParam Path
+    (λ y. y.0) (λ y. y.0) (λ y. y.0) (λ y. y.0) (λ y. y.0) (λ y. y.0) (λ y. y.0) (λ y. y.0) y))
+bound_step (Bound-F.Outlives l) = subst BoundIs (sym (views.rolls-Outlives l))
+    (subst (Passing plain ends_type) (sym (laws.bound_outlives_is l)) (outlives_pass l))
+bound_step (Bound-F.Meets parens maybe binder p) = subst BoundIs (sym (views.rolls-Meets parens maybe binder p.0))
+    (subst (Passing plain ends_type) (sym (laws.bound_meets_is parens maybe binder p.0)) (meets_pass parens maybe binder (about_path p.0) p.1))
+
+constraint_step : (y : Constraint-F KeptArg KeptArgs KeptBound KeptConstraint KeptStart KeptType KeptParam KeptPath)
+    → ConstraintIs (views.roll-Constraint (type_fold.map-Constraint KeptArg KeptArgs KeptBound KeptConstraint KeptStart KeptType KeptParam KeptPath
+    Arg Args Bound Constraint PathStart Ty FuncParam Path
+    (λ y. y.0) (λ y. y.0) (λ y. y.0) (λ y. y.0) (λ y. y.0) (λ y. y.0) (λ y. y.0) (λ y. y.0) y))
+constraint_step (Constraint-F.Equal x) = subst ConstraintIs (sym (views.rolls-Equal x.0))
+    (subst (Passing ends_type ends_arg) (sym (laws.constraint_equal_is x.0)) (equal_pass (about_type x.0) x.1))
+constraint_step (Constraint-F.EqualConst value) = subst ConstraintIs (sym (views.rolls-EqualConst value))
+    (subst (Passing ends_type ends_arg) (sym (laws.constraint_equal_const_is value)) (equal_const_pass value))
+constraint_step (Constraint-F.Limit xs) = subst ConstraintIs (sym (views.rolls-Limit (map (λ (y : KeptBound). y.0) xs)))
+    (subst (Passing ends_type ends_arg) (sym (laws.constraint_limit_is (map (λ (y : KeptBound). y.0) xs))) (limit_pass (map about_bound (map (λ (y : KeptBound). y.0) xs)) (kept (Passing plain ends_type) about_bound xs)))
+
+start_step : (y : PathStart-F KeptArg KeptArgs KeptBound KeptConstraint KeptStart KeptType KeptParam KeptPath)
+    → StartIs (views.roll-PathStart (type_fold.map-PathStart KeptArg KeptArgs KeptBound KeptConstraint KeptStart KeptType KeptParam KeptPath
+    Arg Args Bound Constraint PathStart Ty FuncParam Path
+    (λ y. y.0) (λ y. y.0) (λ y. y.0) (λ y. y.0) (λ y. y.0) (λ y. y.0) (λ y. y.0) (λ y. y.0) y))
+start_step PathStart-F.Local = subst StartIs (sym (views.rolls-Local))
+    (subst (Passing plain start_path) (sym (laws.start_local_is)) (local_pass))
+start_step PathStart-F.Global = subst StartIs (sym (views.rolls-Global))
+    (subst (Passing plain start_path) (sym (laws.start_global_is)) (global_pass))
+start_step (PathStart-F.Qualified x None) = subst StartIs (sym (views.rolls-Qualified x.0 None))
+    (subst (Passing plain start_path) (sym (laws.start_qualified_is x.0 None)) (qualified_pass (about_type x.0) None x.1 tt))
+start_step (PathStart-F.Qualified x (Some p)) = subst StartIs (sym (views.rolls-Qualified x.0 (Some p.0)))
+    (subst (Passing plain start_path) (sym (laws.start_qualified_is x.0 (Some p.0))) (qualified_pass (about_type x.0) (Some (about_path p.0)) x.1 p.1))
+
+type_step : (y : Ty-F KeptArg KeptArgs KeptBound KeptConstraint KeptStart KeptType KeptParam KeptPath)
+    → TypeIs (views.roll-Ty (type_fold.map-Ty KeptArg KeptArgs KeptBound KeptConstraint KeptStart KeptType KeptParam KeptPath
+    Arg Args Bound Constraint PathStart Ty FuncParam Path
+    (λ y. y.0) (λ y. y.0) (λ y. y.0) (λ y. y.0) (λ y. y.0) (λ y. y.0) (λ y. y.0) (λ y. y.0) y))
+type_step (Ty-F.Path p) = subst TypeIs (sym (views.rolls-Path p.0))
+    (subst TypePasses (sym (laws.type_path_is p.0)) (path_type_pass (about_path p.0) p.1))
+type_step (Ty-F.Call call) = subst TypeIs (sym (views.rolls-Call call))
+    (subst TypePasses (sym (laws.type_call_is call)) (call_pass call))
+type_step (Ty-F.Paren x) = subst TypeIs (sym (views.rolls-Paren x.0))
+    (subst TypePasses (sym (laws.type_paren_is x.0)) (paren_pass (about_type x.0) x.1))
+type_step (Ty-F.Tuple xs) = subst TypeIs (sym (views.rolls-Tuple (map (λ (y : KeptType). y.0) xs)))
+    (subst TypePasses (sym (laws.type_tuple_is (map (λ (y : KeptType). y.0) xs))) (tuple_pass (map about_type (map (λ (y : KeptType). y.0) xs)) (kept TypePasses about_type xs)))
+type_step Ty-F.Never = subst TypeIs (sym (views.rolls-Never))
+    (subst TypePasses (sym (laws.type_never_is)) (never_pass))
+type_step Ty-F.Infer = subst TypeIs (sym (views.rolls-Infer))
+    (subst TypePasses (sym (laws.type_infer_is)) (infer_pass))
+type_step (Ty-F.Ptr mutable x) = subst TypeIs (sym (views.rolls-Ptr mutable x.0))
+    (subst TypePasses (sym (laws.type_ptr_is mutable x.0)) (pointer_pass mutable (about_type x.0) x.1))
+type_step (Ty-F.Ref lifetime mutable x) = subst TypeIs (sym (views.rolls-Ref lifetime mutable x.0))
+    (subst TypePasses (sym (laws.type_ref_is lifetime mutable x.0)) (reference_pass lifetime mutable (about_type x.0) x.1))
+type_step (Ty-F.Slice x) = subst TypeIs (sym (views.rolls-Slice x.0))
+    (subst TypePasses (sym (laws.type_slice_is x.0)) (slice_pass (about_type x.0) x.1))
+type_step (Ty-F.Array x length) = subst TypeIs (sym (views.rolls-Array x.0 length))
+    (subst TypePasses (sym (laws.type_array_is x.0 length)) (array_pass (about_type x.0) length x.1))
+type_step (Ty-F.Func binder is_unsafe abi ps variadic None) = subst TypeIs (sym (views.rolls-Func binder is_unsafe abi (map (λ (y : KeptParam). y.0) ps) variadic None))
+    (subst TypePasses (sym (laws.type_func_is binder is_unsafe abi (map (λ (y : KeptParam). y.0) ps) variadic None)) (func_pass binder is_unsafe abi (map about_func_param (map (λ (y : KeptParam). y.0) ps)) variadic None
+    (kept (Passing plain ends_param) about_func_param ps) tt))
+type_step (Ty-F.Func binder is_unsafe abi ps variadic (Some x)) = subst TypeIs (sym (views.rolls-Func binder is_unsafe abi (map (λ (y : KeptParam). y.0) ps) variadic (Some x.0)))
+    (subst TypePasses (sym (laws.type_func_is binder is_unsafe abi (map (λ (y : KeptParam). y.0) ps) variadic (Some x.0))) (func_pass binder is_unsafe abi (map about_func_param (map (λ (y : KeptParam). y.0) ps)) variadic (Some (about_type x.0))
+    (kept (Passing plain ends_param) about_func_param ps) x.1))
+type_step (Ty-F.Bounds dynamic xs) = subst TypeIs (sym (views.rolls-Bounds dynamic (map (λ (y : KeptBound). y.0) xs)))
+    (subst TypePasses (sym (laws.type_bounds_is dynamic (map (λ (y : KeptBound). y.0) xs))) (bounds_type_pass dynamic (map about_bound (map (λ (y : KeptBound). y.0) xs)) (kept (Passing plain ends_type) about_bound xs)))
+
+param_from : (p : FuncParam) → TypeIs p.ty → ParamIs p
+param_from p k = subst (Passing plain ends_param) (sym (laws.func_param_is p))
+    (func_param_pass (record { attrs = p.attrs; name = p.name; ty = about_type p.ty }) k)
+
+param_step : (y : FuncParam-F KeptArg KeptArgs KeptBound KeptConstraint KeptStart KeptType KeptParam KeptPath)
+    → ParamIs (views.roll-FuncParam (type_fold.map-FuncParam KeptArg KeptArgs KeptBound KeptConstraint KeptStart KeptType KeptParam KeptPath
+    Arg Args Bound Constraint PathStart Ty FuncParam Path
+    (λ y. y.0) (λ y. y.0) (λ y. y.0) (λ y. y.0) (λ y. y.0) (λ y. y.0) (λ y. y.0) (λ y. y.0) y))
+param_step y = param_from _ y.ty.1
+
+path_from : (p : Path) → StartIs p.start → Each SegmentPasses (map about_segment p.segments) → PathIs p
+path_from p k l = subst PathPasses (sym (laws.path_is p))
+    (path_pass (about_start p.start) (map about_segment p.segments) k l)
+
+path_step : (y : Path-F KeptArg KeptArgs KeptBound KeptConstraint KeptStart KeptType KeptParam KeptPath)
+    → PathIs (views.roll-Path (type_fold.map-Path KeptArg KeptArgs KeptBound KeptConstraint KeptStart KeptType KeptParam KeptPath
+    Arg Args Bound Constraint PathStart Ty FuncParam Path
+    (λ y. y.0) (λ y. y.0) (λ y. y.0) (λ y. y.0) (λ y. y.0) (λ y. y.0) (λ y. y.0) (λ y. y.0) y))
+path_step y = path_from _ y.start.1 (kept_segments y.segments)
+
+pub type_passes : (x : Ty) → Passing plain ends_type (about_type x).told
+type_passes = type_fold.ind-Ty ArgIs ArgsAre BoundIs ConstraintIs StartIs TypeIs ParamIs PathIs
+    (λ x y is. subst (λ z. ArgIs (views.roll-Arg z)) is (arg_step y))
+    (λ x y is. subst (λ z. ArgsAre (views.roll-Args z)) is (args_step y))
+    (λ x y is. subst (λ z. BoundIs (views.roll-Bound z)) is (bound_step y))
+    (λ x y is. subst (λ z. ConstraintIs (views.roll-Constraint z)) is (constraint_step y))
+    (λ x y is. subst (λ z. StartIs (views.roll-PathStart z)) is (start_step y))
+    (λ x y is. subst (λ z. TypeIs (views.roll-Ty z)) is (type_step y))
+    (λ x y is. subst (λ z. ParamIs (views.roll-FuncParam z)) is (param_step y))
+    (λ x y is. subst (λ z. PathIs (views.roll-Path z)) is (path_step y))
+
+pub path_passes : (x : Path) → PathPasses (about_path x)
+path_passes = type_fold.ind-Path ArgIs ArgsAre BoundIs ConstraintIs StartIs TypeIs ParamIs PathIs
+    (λ x y is. subst (λ z. ArgIs (views.roll-Arg z)) is (arg_step y))
+    (λ x y is. subst (λ z. ArgsAre (views.roll-Args z)) is (args_step y))
+    (λ x y is. subst (λ z. BoundIs (views.roll-Bound z)) is (bound_step y))
+    (λ x y is. subst (λ z. ConstraintIs (views.roll-Constraint z)) is (constraint_step y))
+    (λ x y is. subst (λ z. StartIs (views.roll-PathStart z)) is (start_step y))
+    (λ x y is. subst (λ z. TypeIs (views.roll-Ty z)) is (type_step y))
+    (λ x y is. subst (λ z. ParamIs (views.roll-FuncParam z)) is (param_step y))
+    (λ x y is. subst (λ z. PathIs (views.roll-Path z)) is (path_step y))
+
+pub start_passes : (x : PathStart) → Passing plain start_path (about_start x)
+start_passes = type_fold.ind-PathStart ArgIs ArgsAre BoundIs ConstraintIs StartIs TypeIs ParamIs PathIs
+    (λ x y is. subst (λ z. ArgIs (views.roll-Arg z)) is (arg_step y))
+    (λ x y is. subst (λ z. ArgsAre (views.roll-Args z)) is (args_step y))
+    (λ x y is. subst (λ z. BoundIs (views.roll-Bound z)) is (bound_step y))
+    (λ x y is. subst (λ z. ConstraintIs (views.roll-Constraint z)) is (constraint_step y))
+    (λ x y is. subst (λ z. StartIs (views.roll-PathStart z)) is (start_step y))
+    (λ x y is. subst (λ z. TypeIs (views.roll-Ty z)) is (type_step y))
+    (λ x y is. subst (λ z. ParamIs (views.roll-FuncParam z)) is (param_step y))
+    (λ x y is. subst (λ z. PathIs (views.roll-Path z)) is (path_step y))
+
+pub args_pass : (x : Args) → ArgsPass (about_args x)
+args_pass = type_fold.ind-Args ArgIs ArgsAre BoundIs ConstraintIs StartIs TypeIs ParamIs PathIs
+    (λ x y is. subst (λ z. ArgIs (views.roll-Arg z)) is (arg_step y))
+    (λ x y is. subst (λ z. ArgsAre (views.roll-Args z)) is (args_step y))
+    (λ x y is. subst (λ z. BoundIs (views.roll-Bound z)) is (bound_step y))
+    (λ x y is. subst (λ z. ConstraintIs (views.roll-Constraint z)) is (constraint_step y))
+    (λ x y is. subst (λ z. StartIs (views.roll-PathStart z)) is (start_step y))
+    (λ x y is. subst (λ z. TypeIs (views.roll-Ty z)) is (type_step y))
+    (λ x y is. subst (λ z. ParamIs (views.roll-FuncParam z)) is (param_step y))
+    (λ x y is. subst (λ z. PathIs (views.roll-Path z)) is (path_step y))
+
+pub arg_passes : (x : Arg) → Passing plain ends_arg (about_arg x)
+arg_passes = type_fold.ind-Arg ArgIs ArgsAre BoundIs ConstraintIs StartIs TypeIs ParamIs PathIs
+    (λ x y is. subst (λ z. ArgIs (views.roll-Arg z)) is (arg_step y))
+    (λ x y is. subst (λ z. ArgsAre (views.roll-Args z)) is (args_step y))
+    (λ x y is. subst (λ z. BoundIs (views.roll-Bound z)) is (bound_step y))
+    (λ x y is. subst (λ z. ConstraintIs (views.roll-Constraint z)) is (constraint_step y))
+    (λ x y is. subst (λ z. StartIs (views.roll-PathStart z)) is (start_step y))
+    (λ x y is. subst (λ z. TypeIs (views.roll-Ty z)) is (type_step y))
+    (λ x y is. subst (λ z. ParamIs (views.roll-FuncParam z)) is (param_step y))
+    (λ x y is. subst (λ z. PathIs (views.roll-Path z)) is (path_step y))
+
+pub constraint_passes : (x : Constraint) → Passing ends_type ends_arg (about_constraint x)
+constraint_passes = type_fold.ind-Constraint ArgIs ArgsAre BoundIs ConstraintIs StartIs TypeIs ParamIs PathIs
+    (λ x y is. subst (λ z. ArgIs (views.roll-Arg z)) is (arg_step y))
+    (λ x y is. subst (λ z. ArgsAre (views.roll-Args z)) is (args_step y))
+    (λ x y is. subst (λ z. BoundIs (views.roll-Bound z)) is (bound_step y))
+    (λ x y is. subst (λ z. ConstraintIs (views.roll-Constraint z)) is (constraint_step y))
+    (λ x y is. subst (λ z. StartIs (views.roll-PathStart z)) is (start_step y))
+    (λ x y is. subst (λ z. TypeIs (views.roll-Ty z)) is (type_step y))
+    (λ x y is. subst (λ z. ParamIs (views.roll-FuncParam z)) is (param_step y))
+    (λ x y is. subst (λ z. PathIs (views.roll-Path z)) is (path_step y))
+
+pub bound_passes : (x : Bound) → Passing plain ends_type (about_bound x)
+bound_passes = type_fold.ind-Bound ArgIs ArgsAre BoundIs ConstraintIs StartIs TypeIs ParamIs PathIs
+    (λ x y is. subst (λ z. ArgIs (views.roll-Arg z)) is (arg_step y))
+    (λ x y is. subst (λ z. ArgsAre (views.roll-Args z)) is (args_step y))
+    (λ x y is. subst (λ z. BoundIs (views.roll-Bound z)) is (bound_step y))
+    (λ x y is. subst (λ z. ConstraintIs (views.roll-Constraint z)) is (constraint_step y))
+    (λ x y is. subst (λ z. StartIs (views.roll-PathStart z)) is (start_step y))
+    (λ x y is. subst (λ z. TypeIs (views.roll-Ty z)) is (type_step y))
+    (λ x y is. subst (λ z. ParamIs (views.roll-FuncParam z)) is (param_step y))
+    (λ x y is. subst (λ z. PathIs (views.roll-Path z)) is (path_step y))
+
+pub func_param_passes : (x : FuncParam) → Passing plain ends_param (about_func_param x)
+func_param_passes = type_fold.ind-FuncParam ArgIs ArgsAre BoundIs ConstraintIs StartIs TypeIs ParamIs PathIs
+    (λ x y is. subst (λ z. ArgIs (views.roll-Arg z)) is (arg_step y))
+    (λ x y is. subst (λ z. ArgsAre (views.roll-Args z)) is (args_step y))
+    (λ x y is. subst (λ z. BoundIs (views.roll-Bound z)) is (bound_step y))
+    (λ x y is. subst (λ z. ConstraintIs (views.roll-Constraint z)) is (constraint_step y))
+    (λ x y is. subst (λ z. StartIs (views.roll-PathStart z)) is (start_step y))
+    (λ x y is. subst (λ z. TypeIs (views.roll-Ty z)) is (type_step y))
+    (λ x y is. subst (λ z. ParamIs (views.roll-FuncParam z)) is (param_step y))
+    (λ x y is. subst (λ z. PathIs (views.roll-Path z)) is (path_step y))
