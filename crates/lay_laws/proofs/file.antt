@@ -1,4 +1,5 @@
 pub mod FirstText
+pub mod Generics
 pub mod Nodes
 pub mod OneAnswer
 pub mod Reparse
