@@ -4,5 +4,7 @@ pub mod Nodes
 pub mod OneAnswer
 pub mod Reparse
 pub mod Singles
+pub mod TypeArgs
+pub mod TypeKinds
 pub mod TypeParts
 pub mod Types

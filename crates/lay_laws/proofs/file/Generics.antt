@@ -31,7 +31,8 @@ use Rattle.lay_laws.proofs.forms.Passes.{plain}
 use Rattle.lay_laws.proofs.forms.Rules.{tables, From, All, wider, ends, fixed, part, left_out, list_fits, list, where_fits, where_both}
 use Rattle.lay_laws.proofs.file.Nodes.{ends_name, word, rest_pieces, list_pieces, each_pieces}
 use Rattle.lay_laws.proofs.file.TypeParts.{ends_lifetime, ends_type, ends_arg, lifetime_passes, outlived_passes, lifetime_param_passes, param_attrs_pass, param_attrs_pieces, binder_passes, binder_pieces, const_passes}
-use Rattle.lay_laws.proofs.file.Types.{Each, Passing, bounds_pass, type_passes, bound_passes}
+use Rattle.lay_laws.proofs.file.TypeArgs.{Each, Passing, bounds_pass}
+use Rattle.lay_laws.proofs.file.Types.{type_passes, bound_passes}
 
 -- ---- bounds and defaults
 
@@ -69,7 +70,7 @@ const_default_passes (Some (const_default.Arg value)) g w =
     fixed refl (part plain ends_arg refl
     (const_passes value g (and_parts (are_pieces (const_form value)) true w).0) (ends refl))
 const_default_passes (Some (const_default.Name n)) g w =
-    fixed refl (word n.raw n.text refl refl w (ends refl) (ends refl))
+    fixed refl (word n.raw n.text refl w (ends refl) (ends refl))
 
 -- ---- parameters
 
@@ -89,7 +90,7 @@ param_passes (param.Named attrs name bounds default) g w =
     let d = default_passes default n1.1 (and_parts (are_pieces (default_form default)) true q.1).0 in
     let z : From ends_type (form.Part (default_form default) Done) ends_arg =
     part ends_type ends_type refl d (ends refl) in
-    param_attrs_pass attrs n3.0 w (word name.raw name.text refl refl p
+    param_attrs_pass attrs n3.0 w (word name.raw name.text refl p
     (part ends_name ends_type refl a z) (part ends_name ends_type refl a z))
 param_passes (param.Const attrs name x default) g w =
     let n1 = and_parts (are_attrs false attrs && is_name name.raw name.text && (about_type x).told.good)
@@ -104,7 +105,7 @@ param_passes (param.Const attrs name x default) g w =
     let d = const_default_passes default n1.1 (and_parts (are_pieces (const_default_form default)) true q.1).0 in
     let z : From plain (form.Part (about_type x).told.form (form.Part (const_default_form default) Done)) ends_arg =
     part plain ends_type refl a (part ends_type ends_arg refl d (ends refl)) in
-    param_attrs_pass attrs n3.0 w (fixed refl (word name.raw name.text refl refl p (fixed refl z) (fixed refl z)))
+    param_attrs_pass attrs n3.0 w (fixed refl (word name.raw name.text refl p (fixed refl z) (fixed refl z)))
 
 params_pass : (ps : List GenericParam) → list_all is_param ps ≡ true
     → list_all are_pieces (map param_form ps) ≡ true → All plain (map param_form ps) ends_arg

@@ -249,7 +249,7 @@ pub param_name_passes : (name : Option GivenName) {f : Form} {c : Border} → ar
     → From plain f c → From plain (param_name name f) c
 unfolding tables
 param_name_passes None w k = k
-param_name_passes (Some (given.Name n)) w k = word n.raw n.text refl refl w (fixed refl k) (fixed refl k)
+param_name_passes (Some (given.Name n)) w k = word n.raw n.text refl w (fixed refl k) (fixed refl k)
 param_name_passes (Some given.Underscore) w k =
     leaf_passes kind.Underscore (codes "_") refl (and_parts (is_text_of kind.Underscore (codes "_")) _ w).0
     (fixed refl k)
