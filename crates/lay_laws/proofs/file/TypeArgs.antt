@@ -44,7 +44,7 @@ pub record ArgsPass (x : ArgsFacts) : Type 0 where
 pub record PathPasses (x : PathFacts) : Type 0 where
   pub go : (s : PathStyle) → Passing plain ends_type (x s)
 
-pub args_in : (s : PathStyle) {x : ArgsFacts} → ArgsPass x → Passing ends_name ends_type (in_style s x)
+args_in : (s : PathStyle) {x : ArgsFacts} → ArgsPass x → Passing ends_name ends_type (in_style s x)
 args_in style.Code p = p.in_code
 args_in style.Kind p = p.in_kind
 
@@ -85,19 +85,19 @@ output_passes (Some x) k g w =
 
 -- ---- generic arguments
 
-pub code_args : list_fits true less greater start_path plain ends_arg ends_type ≡ true
+code_args : list_fits true less greater start_path plain ends_arg ends_type ≡ true
 unfolding tables
 code_args = refl
 
-pub kind_args : list_fits true less greater ends_name plain ends_arg ends_type ≡ true
+kind_args : list_fits true less greater ends_name plain ends_arg ends_type ≡ true
 unfolding tables
 kind_args = refl
 
-pub round_args : list_fits true (opener Paren) (closer Paren) ends_name plain ends_type plain ≡ true
+round_args : list_fits true (opener Paren) (closer Paren) ends_name plain ends_type plain ≡ true
 unfolding tables
 round_args = refl
 
-pub round_passes : (inputs : List TypeFacts) (output : Option TypeFacts) → Each TypePasses inputs → Any TypePasses output
+round_passes : (inputs : List TypeFacts) (output : Option TypeFacts) → Each TypePasses inputs → Any TypePasses output
     → all_types_good inputs && output_good output ≡ true
     → are_pieces (round_form inputs output) ≡ true
     → From ends_name (round_form inputs output) ends_type
@@ -141,7 +141,7 @@ round_pass inputs output k l = record {
 
 -- ---- bounds
 
-pub further_bound : Leads (λ f. B (Piece (Operator (codes "+") ∷ Blank ∷ []) f)) plain ends_type
+further_bound : Leads (λ f. B (Piece (Operator (codes "+") ∷ Blank ∷ []) f)) plain ends_type
 unfolding tables
 further_bound = record { to = λ e f k l. breaks refl (fixed refl (part plain ends_type refl k l)) }
 
@@ -157,18 +157,18 @@ bounds_pass xs k g w =
     (all_pass plain ends_type xs k (and_parts (is_there xs) _ g).1 (joined_pieces lead (λ f. refl) (forms xs) p)))
     (ends refl)
 
-pub maybe_passes : (maybe : Bool) {f : Form} {c : Border} → From plain f c
+maybe_passes : (maybe : Bool) {f : Form} {c : Border} → From plain f c
     → From plain (when maybe (form.Fixed kind.Punct (codes "?") ∷ []) f) c
 unfolding tables
 maybe_passes true k = fixed refl k
 maybe_passes false k = k
 
-pub maybe_pieces : (maybe : Bool) (f : Form) → are_pieces (when maybe (form.Fixed kind.Punct (codes "?") ∷ []) f) ≡ true
+maybe_pieces : (maybe : Bool) (f : Form) → are_pieces (when maybe (form.Fixed kind.Punct (codes "?") ∷ []) f) ≡ true
     → are_pieces f ≡ true
 maybe_pieces true f w = w
 maybe_pieces false f w = w
 
-pub meets_passes : (maybe : Bool) (binder : Option Binder) (x : Facts) → Passing plain ends_type x
+meets_passes : (maybe : Bool) (binder : Option Binder) (x : Facts) → Passing plain ends_type x
     → is_binder binder && x.good ≡ true → are_pieces (meets_form maybe binder x.form) ≡ true
     → From plain (meets_form maybe binder x.form) ends_type
 unfolding tables
@@ -219,7 +219,7 @@ limit_pass xs k = record {
       (bounds_pass xs k g (and_parts (are_pieces (bounds_form xs)) true w).0) (ends refl));
 }
 
-pub named_pass : (raw : Bool) (t : List ℕ) (x : ArgsFacts) (y : Facts) → ArgsPass x → Passing ends_type ends_arg y
+named_pass : (raw : Bool) (t : List ℕ) (x : ArgsFacts) (y : Facts) → ArgsPass x → Passing ends_type ends_arg y
     → (x.kind.good ≡ true) × (y.good ≡ true)
     → are_pieces (leaf_of raw t (form.Part x.kind.form (form.Part y.form Done))) ≡ true
     → From plain (leaf_of raw t (form.Part x.kind.form (form.Part y.form Done))) ends_arg
@@ -266,7 +266,7 @@ named_arg_pass name x y k l = record {
 abbrev pub words_lead : Border → Bool
 words_lead b = all (leads kind.Ident) b.needs && all (leads kind.RawIdent) b.needs
 
-pub segment_passes : (b : Border) → words_lead b ≡ true → (s : PathStyle) (x : Word × ArgsFacts) {f : Form} {c : Border}
+segment_passes : (b : Border) → words_lead b ≡ true → (s : PathStyle) (x : Word × ArgsFacts) {f : Form} {c : Border}
     → ArgsPass x.1 → segment_good s x ≡ true → are_pieces (segment_form s x f) ≡ true → From ends_type f c
     → From b (segment_form s x f) c
 unfolding tables
@@ -276,7 +276,7 @@ segment_passes b h s x {f} k g w l =
     (and_parts (are_pieces (in_style s x.1).form) _ q).0 in
     word x.0.raw x.0.text h w (part ends_name ends_type refl a l) (part ends_name ends_type refl a l)
 
-pub segment_pieces : (s : PathStyle) (x : Word × ArgsFacts) (f : Form) → are_pieces (segment_form s x f) ≡ true
+segment_pieces : (s : PathStyle) (x : Word × ArgsFacts) (f : Form) → are_pieces (segment_form s x f) ≡ true
     → are_pieces f ≡ true
 segment_pieces s x f w =
     (and_parts (are_pieces (in_style s x.1).form) (are_pieces f)

@@ -37,10 +37,10 @@ use Rattle.lay_laws.proofs.file.TypeArgs.{Any, Each, Passing, PathPasses, TypePa
 -- ---- types
 
 -- one level deeper
-pub deep : {f : Form} {c : Border} → under ends_type c ≡ true → From plain f ends_type → From plain (deeper f) c
+deep : {f : Form} {c : Border} → under ends_type c ≡ true → From plain f ends_type → From plain (deeper f) c
 deep u k = level plain ends_type refl k (ends u)
 
-pub deep_pieces : (f : Form) → are_pieces (deeper f) ≡ true → are_pieces f ≡ true
+deep_pieces : (f : Form) → are_pieces (deeper f) ≡ true → are_pieces f ≡ true
 deep_pieces f w = (and_parts (are_pieces f) true w).0
 
 pub path_type_pass : (path : PathFacts) → PathPasses path → TypePasses (ty_facts (Ty-F.Path path))
@@ -70,7 +70,7 @@ slice_pass x k = record {
 }
 
 -- a token list may have ended, and a `]` ends the array
-pub ends_array : (line : Bool) → On (Some (Bracket ∷ [])) (list_end line) (piece (closer Bracket ∷ [])) ends_type
+ends_array : (line : Bool) → On (Some (Bracket ∷ [])) (list_end line) (piece (closer Bracket ∷ [])) ends_type
 unfolding tables
 ends_array true = fixed refl (ends refl)
 ends_array false = fixed refl (ends refl)
@@ -85,11 +85,11 @@ array_pass x length k = record {
       (listed length n.1 refl (λ v. refl) refl (ends_array (ends_in_line length)))));
 }
 
-pub tuple_fits : list_fits true (opener Paren) (closer Paren) plain plain ends_type ends_type ≡ true
+tuple_fits : list_fits true (opener Paren) (closer Paren) plain plain ends_type ends_type ≡ true
 unfolding tables
 tuple_fits = refl
 
-pub tuple_passes : (xs : List TypeFacts) → Each TypePasses xs → all_types_good xs ≡ true
+tuple_passes : (xs : List TypeFacts) → Each TypePasses xs → all_types_good xs ≡ true
     → are_pieces (tuple_form xs) ≡ true → From plain (tuple_form xs) ends_type
 unfolding tables
 tuple_passes [] k g w = list true (opener Paren) (closer Paren) [] plain ends_type tuple_fits tt
@@ -112,7 +112,7 @@ pub infer_pass : TypePasses (ty_facts Ty-F.Infer)
 unfolding tables
 infer_pass = record { go = λ g w. deep refl (fixed refl (ends refl)) }
 
-pub pointer_passes : (mutable : Bool) {f : Form} → From plain f ends_type
+pointer_passes : (mutable : Bool) {f : Form} → From plain f ends_type
     → From plain (Piece (form.punct char.star ∷ pointer_word mutable ∷ Blank ∷ []) f) ends_type
 unfolding tables
 pointer_passes true k = fixed refl k
@@ -126,25 +126,25 @@ pointer_pass mutable x k = record {
       (part plain ends_type refl (k.go (and_parts x.told.good _ g).0 p) (ends refl)));
 }
 
-pub mutable_passes : (mutable : Bool) {f : Form} → From plain f ends_type
+mutable_passes : (mutable : Bool) {f : Form} → From plain f ends_type
     → From plain (when mutable (keyword (codes "mut") ∷ Blank ∷ []) f) ends_type
 unfolding tables
 mutable_passes true k = fixed refl k
 mutable_passes false k = k
 
-pub mutable_pieces : (mutable : Bool) (f : Form)
+mutable_pieces : (mutable : Bool) (f : Form)
     → are_pieces (when mutable (keyword (codes "mut") ∷ Blank ∷ []) f) ≡ true → are_pieces f ≡ true
 mutable_pieces true f w = w
 mutable_pieces false f w = w
 
-pub borrow_passes : (lifetime : Option Lifetime) {f : Form} → are_pieces (ref_lifetime lifetime f) ≡ true
+borrow_passes : (lifetime : Option Lifetime) {f : Form} → are_pieces (ref_lifetime lifetime f) ≡ true
     → From plain f ends_type → From plain (ref_lifetime lifetime f) ends_type
 unfolding tables
 borrow_passes None w k = k
 borrow_passes (Some l) w k =
     part plain ends_lifetime refl (lifetime_passes l (and_parts (are_pieces (lifetime_form l)) _ w).0) (fixed refl k)
 
-pub borrow_pieces : (lifetime : Option Lifetime) (f : Form) → are_pieces (ref_lifetime lifetime f) ≡ true
+borrow_pieces : (lifetime : Option Lifetime) (f : Form) → are_pieces (ref_lifetime lifetime f) ≡ true
     → are_pieces f ≡ true
 borrow_pieces None f w = w
 borrow_pieces (Some l) f w = (and_parts (are_pieces (lifetime_form l)) (are_pieces f) w).1
@@ -197,7 +197,7 @@ func_param_pass p k = record {
       (part plain ends_type refl (k.go n.1 (and_parts (are_pieces p.ty.told.form) true r).0) (ends refl)));
 }
 
-pub dots_pass : (variadic : Bool) → All plain (dots variadic) ends_param
+dots_pass : (variadic : Bool) → All plain (dots variadic) ends_param
 unfolding tables
 dots_pass true = (dotted refl (ends refl) (ends refl), tt)
 dots_pass false = tt
@@ -219,13 +219,13 @@ params_pass params variadic k g w =
     (both_all plain ends_param (forms params) (dots variadic) (all_pass plain ends_param params k g p.0)
     (dots_pass variadic))
 
-pub unsafe_passes : (is_unsafe : Bool) {f : Form} → From plain f ends_type
+unsafe_passes : (is_unsafe : Bool) {f : Form} → From plain f ends_type
     → From plain (when is_unsafe (keyword (codes "unsafe") ∷ Blank ∷ []) f) ends_type
 unfolding tables
 unsafe_passes true k = fixed refl k
 unsafe_passes false k = k
 
-pub unsafe_pieces : (is_unsafe : Bool) (f : Form)
+unsafe_pieces : (is_unsafe : Bool) (f : Form)
     → are_pieces (when is_unsafe (keyword (codes "unsafe") ∷ Blank ∷ []) f) ≡ true → are_pieces f ≡ true
 unsafe_pieces true f w = w
 unsafe_pieces false f w = w

@@ -86,6 +86,67 @@ KeptParam = (x : FuncParam) × ParamIs x
 abbrev KeptPath : Type 0
 KeptPath = (x : Path) × PathIs x
 
+-- one layer of a node, with nodes within it that pass, and the same without that
+abbrev Layer : (Type 0 → Type 0 → Type 0 → Type 0 → Type 0 → Type 0 → Type 0 → Type 0 → Type 0) → Type 0
+Layer F = F Arg Args Bound Constraint PathStart Ty FuncParam Path
+
+abbrev Kept : (Type 0 → Type 0 → Type 0 → Type 0 → Type 0 → Type 0 → Type 0 → Type 0 → Type 0) → Type 0
+Kept F = F KeptArg KeptArgs KeptBound KeptConstraint KeptStart KeptType KeptParam KeptPath
+
+abbrev arg_layer : Kept Arg-F → Layer Arg-F
+arg_layer y = type_fold.map-Arg KeptArg KeptArgs KeptBound KeptConstraint KeptStart KeptType KeptParam KeptPath
+    Arg Args Bound Constraint PathStart Ty FuncParam Path
+    (λ y. y.0) (λ y. y.0) (λ y. y.0) (λ y. y.0) (λ y. y.0) (λ y. y.0) (λ y. y.0) (λ y. y.0) y
+
+abbrev args_layer : Kept Args-F → Layer Args-F
+args_layer y = type_fold.map-Args KeptArg KeptArgs KeptBound KeptConstraint KeptStart KeptType KeptParam KeptPath
+    Arg Args Bound Constraint PathStart Ty FuncParam Path
+    (λ y. y.0) (λ y. y.0) (λ y. y.0) (λ y. y.0) (λ y. y.0) (λ y. y.0) (λ y. y.0) (λ y. y.0) y
+
+abbrev bound_layer : Kept Bound-F → Layer Bound-F
+bound_layer y = type_fold.map-Bound KeptArg KeptArgs KeptBound KeptConstraint KeptStart KeptType KeptParam KeptPath
+    Arg Args Bound Constraint PathStart Ty FuncParam Path
+    (λ y. y.0) (λ y. y.0) (λ y. y.0) (λ y. y.0) (λ y. y.0) (λ y. y.0) (λ y. y.0) (λ y. y.0) y
+
+abbrev constraint_layer : Kept Constraint-F → Layer Constraint-F
+constraint_layer y = type_fold.map-Constraint KeptArg KeptArgs KeptBound KeptConstraint KeptStart KeptType KeptParam KeptPath
+    Arg Args Bound Constraint PathStart Ty FuncParam Path
+    (λ y. y.0) (λ y. y.0) (λ y. y.0) (λ y. y.0) (λ y. y.0) (λ y. y.0) (λ y. y.0) (λ y. y.0) y
+
+abbrev start_layer : Kept PathStart-F → Layer PathStart-F
+start_layer y = type_fold.map-PathStart KeptArg KeptArgs KeptBound KeptConstraint KeptStart KeptType KeptParam KeptPath
+    Arg Args Bound Constraint PathStart Ty FuncParam Path
+    (λ y. y.0) (λ y. y.0) (λ y. y.0) (λ y. y.0) (λ y. y.0) (λ y. y.0) (λ y. y.0) (λ y. y.0) y
+
+abbrev type_layer : Kept Ty-F → Layer Ty-F
+type_layer y = type_fold.map-Ty KeptArg KeptArgs KeptBound KeptConstraint KeptStart KeptType KeptParam KeptPath
+    Arg Args Bound Constraint PathStart Ty FuncParam Path
+    (λ y. y.0) (λ y. y.0) (λ y. y.0) (λ y. y.0) (λ y. y.0) (λ y. y.0) (λ y. y.0) (λ y. y.0) y
+
+abbrev param_layer : Kept FuncParam-F → Layer FuncParam-F
+param_layer y = type_fold.map-FuncParam KeptArg KeptArgs KeptBound KeptConstraint KeptStart KeptType KeptParam KeptPath
+    Arg Args Bound Constraint PathStart Ty FuncParam Path
+    (λ y. y.0) (λ y. y.0) (λ y. y.0) (λ y. y.0) (λ y. y.0) (λ y. y.0) (λ y. y.0) (λ y. y.0) y
+
+abbrev path_layer : Kept Path-F → Layer Path-F
+path_layer y = type_fold.map-Path KeptArg KeptArgs KeptBound KeptConstraint KeptStart KeptType KeptParam KeptPath
+    Arg Args Bound Constraint PathStart Ty FuncParam Path
+    (λ y. y.0) (λ y. y.0) (λ y. y.0) (λ y. y.0) (λ y. y.0) (λ y. y.0) (λ y. y.0) (λ y. y.0) y
+
+kept : {A B : Type 0} (P : B → Type 0) (about : A → B) (ys : List ((x : A) × P (about x)))
+    → Each P (map about (map (λ (y : (x : A) × P (about x)). y.0) ys))
+kept P about [] = tt
+kept P about (y ∷ ys) = (y.1, kept P about ys)
+
+kept_segments : (ys : List (Word × KeptArgs))
+    → Each SegmentPasses (map about_segment (map (λ (y : Word × KeptArgs). (y.0, y.1.0)) ys))
+kept_segments [] = tt
+kept_segments (y ∷ ys) = (y.1.1, kept_segments ys)
+
+-- from what is told of a node to the node
+told : {A B : Type 0} (P : B → Type 0) (about : A → B) {x y : A} {f : B} → y ≡ x → about x ≡ f → P f → P (about y)
+told P about same is k = subst (λ z. P (about z)) (sym same) (subst P (sym is) k)
+
 abbrev types_of : List KeptType → List Ty
 types_of ys = map (λ (y : KeptType). y.0) ys
 
@@ -98,215 +159,191 @@ bounds_of ys = map (λ (y : KeptBound). y.0) ys
 abbrev args_of : List KeptArg → List Arg
 args_of ys = map (λ (y : KeptArg). y.0) ys
 
-kept : {A B : Type 0} (P : B → Type 0) (about : A → B) (ys : List ((x : A) × P (about x)))
-    → Each P (map about (map (λ (y : (x : A) × P (about x)). y.0) ys))
-kept P about [] = tt
-kept P about (y ∷ ys) = (y.1, kept P about ys)
+arg_step : (y : Kept Arg-F) → ArgIs (views.roll-Arg (arg_layer y))
+arg_step (Arg-F.Region l) =
+    told (Passing plain ends_arg) about_arg (views.rolls-Region l) (laws.arg_region_is l)
+    (region_pass l)
+arg_step (Arg-F.Plain x) =
+    told (Passing plain ends_arg) about_arg (views.rolls-Plain x.0) (laws.arg_plain_is x.0)
+    (plain_pass (about_type x.0) x.1)
+arg_step (Arg-F.Const value) =
+    told (Passing plain ends_arg) about_arg (views.rolls-Const value) (laws.arg_const_is value)
+    (const_pass value)
+arg_step (Arg-F.Named name x c) =
+    told (Passing plain ends_arg) about_arg (views.rolls-Named name x.0 c.0) (laws.arg_named_is name x.0 c.0)
+    (named_arg_pass name (about_args x.0) (about_constraint c.0) x.1 c.1)
 
-kept_segments : (ys : List (Word × KeptArgs))
-    → Each SegmentPasses (map about_segment (map (λ (y : Word × KeptArgs). (y.0, y.1.0)) ys))
-kept_segments [] = tt
-kept_segments (y ∷ ys) = (y.1.1, kept_segments ys)
+args_step : (y : Kept Args-F) → ArgsAre (views.roll-Args (args_layer y))
+args_step Args-F.None =
+    told ArgsPass about_args views.rolls-None laws.args_none_is
+    none_pass
+args_step (Args-F.Angle xs) =
+    told ArgsPass about_args (views.rolls-Angle (args_of xs)) (laws.args_angle_is (args_of xs))
+    (angle_pass (map about_arg (args_of xs)) (kept (Passing plain ends_arg) about_arg xs))
+args_step (Args-F.Round xs None) =
+    told ArgsPass about_args (views.rolls-Round (types_of xs) None) (laws.args_round_is (types_of xs) None)
+    (round_pass (map about_type (types_of xs)) None (kept TypePasses about_type xs) tt)
+args_step (Args-F.Round xs (Some x)) =
+    told ArgsPass about_args (views.rolls-Round (types_of xs) (Some x.0)) (laws.args_round_is (types_of xs) (Some x.0))
+    (round_pass (map about_type (types_of xs)) (Some (about_type x.0)) (kept TypePasses about_type xs) x.1)
 
-arg_step : (y : Arg-F KeptArg KeptArgs KeptBound KeptConstraint KeptStart KeptType KeptParam KeptPath)
-    → ArgIs (views.roll-Arg (type_fold.map-Arg KeptArg KeptArgs KeptBound KeptConstraint KeptStart KeptType KeptParam KeptPath
-    Arg Args Bound Constraint PathStart Ty FuncParam Path
-    (λ y. y.0) (λ y. y.0) (λ y. y.0) (λ y. y.0) (λ y. y.0) (λ y. y.0) (λ y. y.0) (λ y. y.0) y))
-arg_step (Arg-F.Region l) = subst ArgIs (sym (views.rolls-Region l))
-    (subst (Passing plain ends_arg) (sym (laws.arg_region_is l)) (region_pass l))
-arg_step (Arg-F.Plain x) = subst ArgIs (sym (views.rolls-Plain x.0))
-    (subst (Passing plain ends_arg) (sym (laws.arg_plain_is x.0)) (plain_pass (about_type x.0) x.1))
-arg_step (Arg-F.Const value) = subst ArgIs (sym (views.rolls-Const value))
-    (subst (Passing plain ends_arg) (sym (laws.arg_const_is value)) (const_pass value))
-arg_step (Arg-F.Named name x c) = subst ArgIs (sym (views.rolls-Named name x.0 c.0))
-    (subst (Passing plain ends_arg) (sym (laws.arg_named_is name x.0 c.0)) (named_arg_pass name (about_args x.0) (about_constraint c.0) x.1 c.1))
+bound_step : (y : Kept Bound-F) → BoundIs (views.roll-Bound (bound_layer y))
+bound_step (Bound-F.Outlives l) =
+    told (Passing plain ends_type) about_bound (views.rolls-Outlives l) (laws.bound_outlives_is l)
+    (outlives_pass l)
+bound_step (Bound-F.Meets parens maybe binder p) =
+    told (Passing plain ends_type) about_bound (views.rolls-Meets parens maybe binder p.0) (laws.bound_meets_is parens maybe binder p.0)
+    (meets_pass parens maybe binder (about_path p.0) p.1)
 
-args_step : (y : Args-F KeptArg KeptArgs KeptBound KeptConstraint KeptStart KeptType KeptParam KeptPath)
-    → ArgsAre (views.roll-Args (type_fold.map-Args KeptArg KeptArgs KeptBound KeptConstraint KeptStart KeptType KeptParam KeptPath
-    Arg Args Bound Constraint PathStart Ty FuncParam Path
-    (λ y. y.0) (λ y. y.0) (λ y. y.0) (λ y. y.0) (λ y. y.0) (λ y. y.0) (λ y. y.0) (λ y. y.0) y))
-args_step Args-F.None = subst ArgsAre (sym (views.rolls-None))
-    (subst ArgsPass (sym (laws.args_none_is)) (none_pass))
-args_step (Args-F.Angle xs) = subst ArgsAre (sym (views.rolls-Angle (args_of xs)))
-    (subst ArgsPass (sym (laws.args_angle_is (args_of xs))) (angle_pass (map about_arg (args_of xs)) (kept (Passing plain ends_arg) about_arg xs)))
-args_step (Args-F.Round xs None) = subst ArgsAre (sym (views.rolls-Round (types_of xs) None))
-    (subst ArgsPass (sym (laws.args_round_is (types_of xs) None)) (round_pass (map about_type (types_of xs)) None (kept TypePasses about_type xs) tt))
-args_step (Args-F.Round xs (Some x)) = subst ArgsAre (sym (views.rolls-Round (types_of xs) (Some x.0)))
-    (subst ArgsPass (sym (laws.args_round_is (types_of xs) (Some x.0))) (round_pass (map about_type (types_of xs)) (Some (about_type x.0)) (kept TypePasses about_type xs) x.1))
+constraint_step : (y : Kept Constraint-F) → ConstraintIs (views.roll-Constraint (constraint_layer y))
+constraint_step (Constraint-F.Equal x) =
+    told (Passing ends_type ends_arg) about_constraint (views.rolls-Equal x.0) (laws.constraint_equal_is x.0)
+    (equal_pass (about_type x.0) x.1)
+constraint_step (Constraint-F.EqualConst value) =
+    told (Passing ends_type ends_arg) about_constraint (views.rolls-EqualConst value) (laws.constraint_equal_const_is value)
+    (equal_const_pass value)
+constraint_step (Constraint-F.Limit xs) =
+    told (Passing ends_type ends_arg) about_constraint (views.rolls-Limit (bounds_of xs)) (laws.constraint_limit_is (bounds_of xs))
+    (limit_pass (map about_bound (bounds_of xs)) (kept (Passing plain ends_type) about_bound xs))
 
-bound_step : (y : Bound-F KeptArg KeptArgs KeptBound KeptConstraint KeptStart KeptType KeptParam KeptPath)
-    → BoundIs (views.roll-Bound (type_fold.map-Bound KeptArg KeptArgs KeptBound KeptConstraint KeptStart KeptType KeptParam KeptPath
-    Arg Args Bound Constraint PathStart Ty FuncParam Path
-    (λ y. y.0) (λ y. y.0) (λ y. y.0) (λ y. y.0) (λ y. y.0) (λ y. y.0) (λ y. y.0) (λ y. y.0) y))
-bound_step (Bound-F.Outlives l) = subst BoundIs (sym (views.rolls-Outlives l))
-    (subst (Passing plain ends_type) (sym (laws.bound_outlives_is l)) (outlives_pass l))
-bound_step (Bound-F.Meets parens maybe binder p) = subst BoundIs (sym (views.rolls-Meets parens maybe binder p.0))
-    (subst (Passing plain ends_type) (sym (laws.bound_meets_is parens maybe binder p.0)) (meets_pass parens maybe binder (about_path p.0) p.1))
+start_step : (y : Kept PathStart-F) → StartIs (views.roll-PathStart (start_layer y))
+start_step PathStart-F.Local =
+    told (Passing plain start_path) about_start views.rolls-Local laws.start_local_is
+    local_pass
+start_step PathStart-F.Global =
+    told (Passing plain start_path) about_start views.rolls-Global laws.start_global_is
+    global_pass
+start_step (PathStart-F.Qualified x None) =
+    told (Passing plain start_path) about_start (views.rolls-Qualified x.0 None) (laws.start_qualified_is x.0 None)
+    (qualified_pass (about_type x.0) None x.1 tt)
+start_step (PathStart-F.Qualified x (Some p)) =
+    told (Passing plain start_path) about_start (views.rolls-Qualified x.0 (Some p.0)) (laws.start_qualified_is x.0 (Some p.0))
+    (qualified_pass (about_type x.0) (Some (about_path p.0)) x.1 p.1)
 
-constraint_step : (y : Constraint-F KeptArg KeptArgs KeptBound KeptConstraint KeptStart KeptType KeptParam KeptPath)
-    → ConstraintIs (views.roll-Constraint (type_fold.map-Constraint KeptArg KeptArgs KeptBound KeptConstraint KeptStart KeptType KeptParam KeptPath
-    Arg Args Bound Constraint PathStart Ty FuncParam Path
-    (λ y. y.0) (λ y. y.0) (λ y. y.0) (λ y. y.0) (λ y. y.0) (λ y. y.0) (λ y. y.0) (λ y. y.0) y))
-constraint_step (Constraint-F.Equal x) = subst ConstraintIs (sym (views.rolls-Equal x.0))
-    (subst (Passing ends_type ends_arg) (sym (laws.constraint_equal_is x.0)) (equal_pass (about_type x.0) x.1))
-constraint_step (Constraint-F.EqualConst value) = subst ConstraintIs (sym (views.rolls-EqualConst value))
-    (subst (Passing ends_type ends_arg) (sym (laws.constraint_equal_const_is value)) (equal_const_pass value))
-constraint_step (Constraint-F.Limit xs) = subst ConstraintIs (sym (views.rolls-Limit (bounds_of xs)))
-    (subst (Passing ends_type ends_arg) (sym (laws.constraint_limit_is (bounds_of xs))) (limit_pass (map about_bound (bounds_of xs)) (kept (Passing plain ends_type) about_bound xs)))
-
-start_step : (y : PathStart-F KeptArg KeptArgs KeptBound KeptConstraint KeptStart KeptType KeptParam KeptPath)
-    → StartIs (views.roll-PathStart (type_fold.map-PathStart KeptArg KeptArgs KeptBound KeptConstraint KeptStart KeptType KeptParam KeptPath
-    Arg Args Bound Constraint PathStart Ty FuncParam Path
-    (λ y. y.0) (λ y. y.0) (λ y. y.0) (λ y. y.0) (λ y. y.0) (λ y. y.0) (λ y. y.0) (λ y. y.0) y))
-start_step PathStart-F.Local = subst StartIs (sym (views.rolls-Local))
-    (subst (Passing plain start_path) (sym (laws.start_local_is)) (local_pass))
-start_step PathStart-F.Global = subst StartIs (sym (views.rolls-Global))
-    (subst (Passing plain start_path) (sym (laws.start_global_is)) (global_pass))
-start_step (PathStart-F.Qualified x None) = subst StartIs (sym (views.rolls-Qualified x.0 None))
-    (subst (Passing plain start_path) (sym (laws.start_qualified_is x.0 None)) (qualified_pass (about_type x.0) None x.1 tt))
-start_step (PathStart-F.Qualified x (Some p)) = subst StartIs (sym (views.rolls-Qualified x.0 (Some p.0)))
-    (subst (Passing plain start_path) (sym (laws.start_qualified_is x.0 (Some p.0))) (qualified_pass (about_type x.0) (Some (about_path p.0)) x.1 p.1))
-
-type_step : (y : Ty-F KeptArg KeptArgs KeptBound KeptConstraint KeptStart KeptType KeptParam KeptPath)
-    → TypeIs (views.roll-Ty (type_fold.map-Ty KeptArg KeptArgs KeptBound KeptConstraint KeptStart KeptType KeptParam KeptPath
-    Arg Args Bound Constraint PathStart Ty FuncParam Path
-    (λ y. y.0) (λ y. y.0) (λ y. y.0) (λ y. y.0) (λ y. y.0) (λ y. y.0) (λ y. y.0) (λ y. y.0) y))
-type_step (Ty-F.Path p) = subst TypeIs (sym (views.rolls-Path p.0))
-    (subst TypePasses (sym (laws.type_path_is p.0)) (path_type_pass (about_path p.0) p.1))
-type_step (Ty-F.Call call) = subst TypeIs (sym (views.rolls-Call call))
-    (subst TypePasses (sym (laws.type_call_is call)) (call_pass call))
-type_step (Ty-F.Paren x) = subst TypeIs (sym (views.rolls-Paren x.0))
-    (subst TypePasses (sym (laws.type_paren_is x.0)) (paren_pass (about_type x.0) x.1))
-type_step (Ty-F.Tuple xs) = subst TypeIs (sym (views.rolls-Tuple (types_of xs)))
-    (subst TypePasses (sym (laws.type_tuple_is (types_of xs))) (tuple_pass (map about_type (types_of xs)) (kept TypePasses about_type xs)))
-type_step Ty-F.Never = subst TypeIs (sym (views.rolls-Never))
-    (subst TypePasses (sym (laws.type_never_is)) (never_pass))
-type_step Ty-F.Infer = subst TypeIs (sym (views.rolls-Infer))
-    (subst TypePasses (sym (laws.type_infer_is)) (infer_pass))
-type_step (Ty-F.Ptr mutable x) = subst TypeIs (sym (views.rolls-Ptr mutable x.0))
-    (subst TypePasses (sym (laws.type_ptr_is mutable x.0)) (pointer_pass mutable (about_type x.0) x.1))
-type_step (Ty-F.Ref lifetime mutable x) = subst TypeIs (sym (views.rolls-Ref lifetime mutable x.0))
-    (subst TypePasses (sym (laws.type_ref_is lifetime mutable x.0)) (reference_pass lifetime mutable (about_type x.0) x.1))
-type_step (Ty-F.Slice x) = subst TypeIs (sym (views.rolls-Slice x.0))
-    (subst TypePasses (sym (laws.type_slice_is x.0)) (slice_pass (about_type x.0) x.1))
-type_step (Ty-F.Array x length) = subst TypeIs (sym (views.rolls-Array x.0 length))
-    (subst TypePasses (sym (laws.type_array_is x.0 length)) (array_pass (about_type x.0) length x.1))
-type_step (Ty-F.Func binder is_unsafe abi ps variadic None) = subst TypeIs (sym (views.rolls-Func binder is_unsafe abi (params_of ps) variadic None))
-    (subst TypePasses (sym (laws.type_func_is binder is_unsafe abi (params_of ps) variadic None)) (func_pass binder is_unsafe abi (map about_func_param (params_of ps)) variadic None
-    (kept (Passing plain ends_param) about_func_param ps) tt))
-type_step (Ty-F.Func binder is_unsafe abi ps variadic (Some x)) = subst TypeIs (sym (views.rolls-Func binder is_unsafe abi (params_of ps) variadic (Some x.0)))
-    (subst TypePasses (sym (laws.type_func_is binder is_unsafe abi (params_of ps) variadic (Some x.0))) (func_pass binder is_unsafe abi (map about_func_param (params_of ps)) variadic (Some (about_type x.0))
-    (kept (Passing plain ends_param) about_func_param ps) x.1))
-type_step (Ty-F.Bounds dynamic xs) = subst TypeIs (sym (views.rolls-Bounds dynamic (bounds_of xs)))
-    (subst TypePasses (sym (laws.type_bounds_is dynamic (bounds_of xs))) (bounds_type_pass dynamic (map about_bound (bounds_of xs)) (kept (Passing plain ends_type) about_bound xs)))
+type_step : (y : Kept Ty-F) → TypeIs (views.roll-Ty (type_layer y))
+type_step (Ty-F.Path p) =
+    told TypePasses about_type (views.rolls-Path p.0) (laws.type_path_is p.0)
+    (path_type_pass (about_path p.0) p.1)
+type_step (Ty-F.Call call) =
+    told TypePasses about_type (views.rolls-Call call) (laws.type_call_is call)
+    (call_pass call)
+type_step (Ty-F.Paren x) =
+    told TypePasses about_type (views.rolls-Paren x.0) (laws.type_paren_is x.0)
+    (paren_pass (about_type x.0) x.1)
+type_step (Ty-F.Tuple xs) =
+    told TypePasses about_type (views.rolls-Tuple (types_of xs)) (laws.type_tuple_is (types_of xs))
+    (tuple_pass (map about_type (types_of xs)) (kept TypePasses about_type xs))
+type_step Ty-F.Never =
+    told TypePasses about_type views.rolls-Never laws.type_never_is
+    never_pass
+type_step Ty-F.Infer =
+    told TypePasses about_type views.rolls-Infer laws.type_infer_is
+    infer_pass
+type_step (Ty-F.Ptr mutable x) =
+    told TypePasses about_type (views.rolls-Ptr mutable x.0) (laws.type_ptr_is mutable x.0)
+    (pointer_pass mutable (about_type x.0) x.1)
+type_step (Ty-F.Ref lifetime mutable x) =
+    told TypePasses about_type (views.rolls-Ref lifetime mutable x.0) (laws.type_ref_is lifetime mutable x.0)
+    (reference_pass lifetime mutable (about_type x.0) x.1)
+type_step (Ty-F.Slice x) =
+    told TypePasses about_type (views.rolls-Slice x.0) (laws.type_slice_is x.0)
+    (slice_pass (about_type x.0) x.1)
+type_step (Ty-F.Array x length) =
+    told TypePasses about_type (views.rolls-Array x.0 length) (laws.type_array_is x.0 length)
+    (array_pass (about_type x.0) length x.1)
+type_step (Ty-F.Func binder is_unsafe abi ps variadic None) =
+    told TypePasses about_type (views.rolls-Func binder is_unsafe abi (params_of ps) variadic None) (laws.type_func_is binder is_unsafe abi (params_of ps) variadic None)
+    (func_pass binder is_unsafe abi (map about_func_param (params_of ps)) variadic None
+    (kept (Passing plain ends_param) about_func_param ps) tt)
+type_step (Ty-F.Func binder is_unsafe abi ps variadic (Some x)) =
+    told TypePasses about_type (views.rolls-Func binder is_unsafe abi (params_of ps) variadic (Some x.0)) 
+    (laws.type_func_is binder is_unsafe abi (params_of ps) variadic (Some x.0))
+    (func_pass binder is_unsafe abi (map about_func_param (params_of ps)) variadic (Some (about_type x.0))
+    (kept (Passing plain ends_param) about_func_param ps) x.1)
+type_step (Ty-F.Bounds dynamic xs) =
+    told TypePasses about_type (views.rolls-Bounds dynamic (bounds_of xs)) (laws.type_bounds_is dynamic (bounds_of xs))
+    (bounds_type_pass dynamic (map about_bound (bounds_of xs)) (kept (Passing plain ends_type) about_bound xs))
 
 param_from : (p : FuncParam) → TypeIs p.ty → ParamIs p
 param_from p k = subst (Passing plain ends_param) (sym (laws.func_param_is p))
     (func_param_pass (record { attrs = p.attrs; name = p.name; ty = about_type p.ty }) k)
 
-param_step : (y : FuncParam-F KeptArg KeptArgs KeptBound KeptConstraint KeptStart KeptType KeptParam KeptPath)
-    → ParamIs (views.roll-FuncParam (type_fold.map-FuncParam KeptArg KeptArgs KeptBound KeptConstraint KeptStart KeptType KeptParam KeptPath
-    Arg Args Bound Constraint PathStart Ty FuncParam Path
-    (λ y. y.0) (λ y. y.0) (λ y. y.0) (λ y. y.0) (λ y. y.0) (λ y. y.0) (λ y. y.0) (λ y. y.0) y))
-param_step y = param_from _ y.ty.1
-
 path_from : (p : Path) → StartIs p.start → Each SegmentPasses (map about_segment p.segments) → PathIs p
 path_from p k l = subst PathPasses (sym (laws.path_is p))
     (path_pass (about_start p.start) (map about_segment p.segments) k l)
 
-path_step : (y : Path-F KeptArg KeptArgs KeptBound KeptConstraint KeptStart KeptType KeptParam KeptPath)
-    → PathIs (views.roll-Path (type_fold.map-Path KeptArg KeptArgs KeptBound KeptConstraint KeptStart KeptType KeptParam KeptPath
-    Arg Args Bound Constraint PathStart Ty FuncParam Path
-    (λ y. y.0) (λ y. y.0) (λ y. y.0) (λ y. y.0) (λ y. y.0) (λ y. y.0) (λ y. y.0) (λ y. y.0) y))
+param_step : (y : Kept FuncParam-F) → ParamIs (views.roll-FuncParam (param_layer y))
+param_step y = param_from _ y.ty.1
+
+path_step : (y : Kept Path-F) → PathIs (views.roll-Path (path_layer y))
 path_step y = path_from _ y.start.1 (kept_segments y.segments)
+
+-- the same, of a layer that is this one
+arg_rolled : (x : Layer Arg-F) (y : Kept Arg-F) → arg_layer y ≡ x → ArgIs (views.roll-Arg x)
+arg_rolled x y is = subst (λ z. ArgIs (views.roll-Arg z)) is (arg_step y)
+
+args_rolled : (x : Layer Args-F) (y : Kept Args-F) → args_layer y ≡ x → ArgsAre (views.roll-Args x)
+args_rolled x y is = subst (λ z. ArgsAre (views.roll-Args z)) is (args_step y)
+
+bound_rolled : (x : Layer Bound-F) (y : Kept Bound-F) → bound_layer y ≡ x → BoundIs (views.roll-Bound x)
+bound_rolled x y is = subst (λ z. BoundIs (views.roll-Bound z)) is (bound_step y)
+
+constraint_rolled : (x : Layer Constraint-F) (y : Kept Constraint-F) → constraint_layer y ≡ x → ConstraintIs (views.roll-Constraint x)
+constraint_rolled x y is = subst (λ z. ConstraintIs (views.roll-Constraint z)) is (constraint_step y)
+
+start_rolled : (x : Layer PathStart-F) (y : Kept PathStart-F) → start_layer y ≡ x → StartIs (views.roll-PathStart x)
+start_rolled x y is = subst (λ z. StartIs (views.roll-PathStart z)) is (start_step y)
+
+type_rolled : (x : Layer Ty-F) (y : Kept Ty-F) → type_layer y ≡ x → TypeIs (views.roll-Ty x)
+type_rolled x y is = subst (λ z. TypeIs (views.roll-Ty z)) is (type_step y)
+
+param_rolled : (x : Layer FuncParam-F) (y : Kept FuncParam-F) → param_layer y ≡ x → ParamIs (views.roll-FuncParam x)
+param_rolled x y is = subst (λ z. ParamIs (views.roll-FuncParam z)) is (param_step y)
+
+path_rolled : (x : Layer Path-F) (y : Kept Path-F) → path_layer y ≡ x → PathIs (views.roll-Path x)
+path_rolled x y is = subst (λ z. PathIs (views.roll-Path z)) is (path_step y)
+
+-- ---- and so each does
 
 pub type_passes : (x : Ty) → Passing plain ends_type (about_type x).told
 type_passes = type_fold.ind-Ty ArgIs ArgsAre BoundIs ConstraintIs StartIs TypeIs ParamIs PathIs
-    (λ x y is. subst (λ z. ArgIs (views.roll-Arg z)) is (arg_step y))
-    (λ x y is. subst (λ z. ArgsAre (views.roll-Args z)) is (args_step y))
-    (λ x y is. subst (λ z. BoundIs (views.roll-Bound z)) is (bound_step y))
-    (λ x y is. subst (λ z. ConstraintIs (views.roll-Constraint z)) is (constraint_step y))
-    (λ x y is. subst (λ z. StartIs (views.roll-PathStart z)) is (start_step y))
-    (λ x y is. subst (λ z. TypeIs (views.roll-Ty z)) is (type_step y))
-    (λ x y is. subst (λ z. ParamIs (views.roll-FuncParam z)) is (param_step y))
-    (λ x y is. subst (λ z. PathIs (views.roll-Path z)) is (path_step y))
+    arg_rolled args_rolled bound_rolled constraint_rolled start_rolled
+    type_rolled param_rolled path_rolled
 
 pub path_passes : (x : Path) → PathPasses (about_path x)
 path_passes = type_fold.ind-Path ArgIs ArgsAre BoundIs ConstraintIs StartIs TypeIs ParamIs PathIs
-    (λ x y is. subst (λ z. ArgIs (views.roll-Arg z)) is (arg_step y))
-    (λ x y is. subst (λ z. ArgsAre (views.roll-Args z)) is (args_step y))
-    (λ x y is. subst (λ z. BoundIs (views.roll-Bound z)) is (bound_step y))
-    (λ x y is. subst (λ z. ConstraintIs (views.roll-Constraint z)) is (constraint_step y))
-    (λ x y is. subst (λ z. StartIs (views.roll-PathStart z)) is (start_step y))
-    (λ x y is. subst (λ z. TypeIs (views.roll-Ty z)) is (type_step y))
-    (λ x y is. subst (λ z. ParamIs (views.roll-FuncParam z)) is (param_step y))
-    (λ x y is. subst (λ z. PathIs (views.roll-Path z)) is (path_step y))
+    arg_rolled args_rolled bound_rolled constraint_rolled start_rolled
+    type_rolled param_rolled path_rolled
 
 pub start_passes : (x : PathStart) → Passing plain start_path (about_start x)
 start_passes = type_fold.ind-PathStart ArgIs ArgsAre BoundIs ConstraintIs StartIs TypeIs ParamIs PathIs
-    (λ x y is. subst (λ z. ArgIs (views.roll-Arg z)) is (arg_step y))
-    (λ x y is. subst (λ z. ArgsAre (views.roll-Args z)) is (args_step y))
-    (λ x y is. subst (λ z. BoundIs (views.roll-Bound z)) is (bound_step y))
-    (λ x y is. subst (λ z. ConstraintIs (views.roll-Constraint z)) is (constraint_step y))
-    (λ x y is. subst (λ z. StartIs (views.roll-PathStart z)) is (start_step y))
-    (λ x y is. subst (λ z. TypeIs (views.roll-Ty z)) is (type_step y))
-    (λ x y is. subst (λ z. ParamIs (views.roll-FuncParam z)) is (param_step y))
-    (λ x y is. subst (λ z. PathIs (views.roll-Path z)) is (path_step y))
+    arg_rolled args_rolled bound_rolled constraint_rolled start_rolled
+    type_rolled param_rolled path_rolled
 
 pub args_pass : (x : Args) → ArgsPass (about_args x)
 args_pass = type_fold.ind-Args ArgIs ArgsAre BoundIs ConstraintIs StartIs TypeIs ParamIs PathIs
-    (λ x y is. subst (λ z. ArgIs (views.roll-Arg z)) is (arg_step y))
-    (λ x y is. subst (λ z. ArgsAre (views.roll-Args z)) is (args_step y))
-    (λ x y is. subst (λ z. BoundIs (views.roll-Bound z)) is (bound_step y))
-    (λ x y is. subst (λ z. ConstraintIs (views.roll-Constraint z)) is (constraint_step y))
-    (λ x y is. subst (λ z. StartIs (views.roll-PathStart z)) is (start_step y))
-    (λ x y is. subst (λ z. TypeIs (views.roll-Ty z)) is (type_step y))
-    (λ x y is. subst (λ z. ParamIs (views.roll-FuncParam z)) is (param_step y))
-    (λ x y is. subst (λ z. PathIs (views.roll-Path z)) is (path_step y))
+    arg_rolled args_rolled bound_rolled constraint_rolled start_rolled
+    type_rolled param_rolled path_rolled
 
 pub arg_passes : (x : Arg) → Passing plain ends_arg (about_arg x)
 arg_passes = type_fold.ind-Arg ArgIs ArgsAre BoundIs ConstraintIs StartIs TypeIs ParamIs PathIs
-    (λ x y is. subst (λ z. ArgIs (views.roll-Arg z)) is (arg_step y))
-    (λ x y is. subst (λ z. ArgsAre (views.roll-Args z)) is (args_step y))
-    (λ x y is. subst (λ z. BoundIs (views.roll-Bound z)) is (bound_step y))
-    (λ x y is. subst (λ z. ConstraintIs (views.roll-Constraint z)) is (constraint_step y))
-    (λ x y is. subst (λ z. StartIs (views.roll-PathStart z)) is (start_step y))
-    (λ x y is. subst (λ z. TypeIs (views.roll-Ty z)) is (type_step y))
-    (λ x y is. subst (λ z. ParamIs (views.roll-FuncParam z)) is (param_step y))
-    (λ x y is. subst (λ z. PathIs (views.roll-Path z)) is (path_step y))
+    arg_rolled args_rolled bound_rolled constraint_rolled start_rolled
+    type_rolled param_rolled path_rolled
 
 pub constraint_passes : (x : Constraint) → Passing ends_type ends_arg (about_constraint x)
 constraint_passes = type_fold.ind-Constraint ArgIs ArgsAre BoundIs ConstraintIs StartIs TypeIs ParamIs PathIs
-    (λ x y is. subst (λ z. ArgIs (views.roll-Arg z)) is (arg_step y))
-    (λ x y is. subst (λ z. ArgsAre (views.roll-Args z)) is (args_step y))
-    (λ x y is. subst (λ z. BoundIs (views.roll-Bound z)) is (bound_step y))
-    (λ x y is. subst (λ z. ConstraintIs (views.roll-Constraint z)) is (constraint_step y))
-    (λ x y is. subst (λ z. StartIs (views.roll-PathStart z)) is (start_step y))
-    (λ x y is. subst (λ z. TypeIs (views.roll-Ty z)) is (type_step y))
-    (λ x y is. subst (λ z. ParamIs (views.roll-FuncParam z)) is (param_step y))
-    (λ x y is. subst (λ z. PathIs (views.roll-Path z)) is (path_step y))
+    arg_rolled args_rolled bound_rolled constraint_rolled start_rolled
+    type_rolled param_rolled path_rolled
 
 pub bound_passes : (x : Bound) → Passing plain ends_type (about_bound x)
 bound_passes = type_fold.ind-Bound ArgIs ArgsAre BoundIs ConstraintIs StartIs TypeIs ParamIs PathIs
-    (λ x y is. subst (λ z. ArgIs (views.roll-Arg z)) is (arg_step y))
-    (λ x y is. subst (λ z. ArgsAre (views.roll-Args z)) is (args_step y))
-    (λ x y is. subst (λ z. BoundIs (views.roll-Bound z)) is (bound_step y))
-    (λ x y is. subst (λ z. ConstraintIs (views.roll-Constraint z)) is (constraint_step y))
-    (λ x y is. subst (λ z. StartIs (views.roll-PathStart z)) is (start_step y))
-    (λ x y is. subst (λ z. TypeIs (views.roll-Ty z)) is (type_step y))
-    (λ x y is. subst (λ z. ParamIs (views.roll-FuncParam z)) is (param_step y))
-    (λ x y is. subst (λ z. PathIs (views.roll-Path z)) is (path_step y))
+    arg_rolled args_rolled bound_rolled constraint_rolled start_rolled
+    type_rolled param_rolled path_rolled
 
 pub func_param_passes : (x : FuncParam) → Passing plain ends_param (about_func_param x)
 func_param_passes = type_fold.ind-FuncParam ArgIs ArgsAre BoundIs ConstraintIs StartIs TypeIs ParamIs PathIs
-    (λ x y is. subst (λ z. ArgIs (views.roll-Arg z)) is (arg_step y))
-    (λ x y is. subst (λ z. ArgsAre (views.roll-Args z)) is (args_step y))
-    (λ x y is. subst (λ z. BoundIs (views.roll-Bound z)) is (bound_step y))
-    (λ x y is. subst (λ z. ConstraintIs (views.roll-Constraint z)) is (constraint_step y))
-    (λ x y is. subst (λ z. StartIs (views.roll-PathStart z)) is (start_step y))
-    (λ x y is. subst (λ z. TypeIs (views.roll-Ty z)) is (type_step y))
-    (λ x y is. subst (λ z. ParamIs (views.roll-FuncParam z)) is (param_step y))
-    (λ x y is. subst (λ z. PathIs (views.roll-Path z)) is (path_step y))
+    arg_rolled args_rolled bound_rolled constraint_rolled start_rolled
+    type_rolled param_rolled path_rolled
 
 -- ---- where a path may begin, and what may follow a type
 
