@@ -1,17 +1,16 @@
 -- Generic parameters and where clauses pass: parameters behind a name or a word, a where clause behind what may stand
 -- before it.
-use Rattle.std.proofs.Common.{◌≡◌, ℕ, List, [], ◌∷◌, Bool, true, false, not, ◌&&◌, ◌||◌, refl, codes, map, Option, Some, None, is_some}
+use Rattle.std.proofs.Common.{◌≡◌, List, [], ◌∷◌, true, false, not, ◌&&◌, ◌||◌, refl, codes, map, Option, Some, None, is_some}
 use Rattle.std.specs.List.{list_all}
 use Rattle.std.proofs.lemmas.Bool.{and_parts, and_from}
 use Rattle.lay_form.specs.Form as form
-use Rattle.lay_form.specs.Form.{Blank, Operator, Form, Done, Piece, keyword}
-use Rattle.lay_form.specs.Notation.{each, comma_gap, comma_list, where_body, where_semicolon}
+use Rattle.lay_form.specs.Form.{Blank, Form, Done, Piece, keyword}
+use Rattle.lay_form.specs.Notation.{each, comma_gap, where_body, where_semicolon}
 use Rattle.lay_form.specs.Pieces.{are_pieces}
 use Rattle.lay_tree.specs.Words.{is_name, leaf_of}
 use Rattle.lay_tree.specs.nodes.Attr.{are_attrs}
-use Rattle.lay_tree.specs.nodes.Facts.{Facts}
 use Rattle.lay_tree.specs.nodes.Generics.{bounded_form, are_bounds, default_form, is_default, const_default_form, is_const_default, param_form, is_param, is_generics, params_list, generics_form}
-use Rattle.lay_tree.specs.nodes.Types.{about_bound, about_type, binder_form, bounds_form, colon, const_form, equals, greater, is_binder, is_there, less, lifetime_form, lifetime_param_form, lifetimes_form, param_attrs}
+use Rattle.lay_tree.specs.nodes.Types.{about_bound, about_type, bounds_form, colon, const_form, greater, is_binder, is_there, less, lifetime_form}
 use Rattle.lay_tree.specs.nodes.Where.{outlives_form, meets_form, predicate_form, is_predicate, are_predicates, wheres_before_body, wheres_before_semicolon}
 use Rattle.lay_tree.specs.declared.generics.ConstDefault.{ConstDefault}
 use Rattle.lay_tree.specs.declared.generics.ConstDefault.TheVariants as const_default

@@ -1,5 +1,5 @@
 -- Generic arguments, bounds and paths pass, of what is told of them, given that what is within them passes.
-use Rattle.std.proofs.Common.{◌≡◌, ℕ, List, [], ◌∷◌, ◌++◌, Bool, true, false, not, ◌&&◌, refl, codes, Option, Some, None}
+use Rattle.std.proofs.Common.{◌≡◌, ℕ, List, [], ◌∷◌, Bool, true, false, not, ◌&&◌, refl, codes, Option, Some, None}
 use Rattle.std.specs.List.{list_all}
 use Rattle.std.proofs.lemmas.Bool.{and_parts}
 use Rattle.lay_piece.specs.declared.kind.Delim.TheVariants.{Paren}
@@ -177,7 +177,8 @@ meets_passes maybe binder x k g w =
     let f = form.Part x.form Done in
     let p = maybe_pieces maybe (binder_form binder f) w in
     maybe_passes maybe (binder_passes binder n.0 p
-    (part plain ends_type refl (k.go n.1 (and_parts (are_pieces x.form) true (binder_pieces binder f p)).0) (ends refl)))
+    (part plain ends_type refl (k.go n.1 (and_parts (are_pieces x.form) true (binder_pieces binder f p)).0)
+    (ends refl)))
 
 pub outlives_pass : (l : Lifetime) → Passing plain ends_type (bound_facts (Bound-F.Outlives l))
 unfolding tables
@@ -242,7 +243,8 @@ plain_pass x k = record { go = λ g w. wider refl (k.go g w) }
 pub const_pass : (value : ConstArg) → Passing plain ends_arg (arg_facts (Arg-F.Const value))
 const_pass value = record { go = λ g w. const_passes value g w }
 
-pub equal_const_pass : (value : ConstArg) → Passing ends_type ends_arg (constraint_facts (Constraint-F.EqualConst value))
+pub equal_const_pass : (value : ConstArg)
+    → Passing ends_type ends_arg (constraint_facts (Constraint-F.EqualConst value))
 unfolding tables
 equal_const_pass value = record {
   go = λ g w.

@@ -9,11 +9,11 @@ use Rattle.lay_piece.specs.declared.kind.Kind.{Kind}
 use Rattle.lay_piece.specs.declared.kind.Kind.TheVariants as kind
 use Rattle.lay_form.specs.Form as form
 use Rattle.lay_form.specs.Form.{Blank, Operator, Form, Done, Piece, Leaf}
-use Rattle.lay_form.specs.Notation.{H, each, comma_list}
+use Rattle.lay_form.specs.Notation.{H, comma_list}
 use Rattle.lay_form.specs.Pieces.{is_text_of, are_pieces}
 use Rattle.lay_tree.specs.Words.{is_literal, is_number, is_string}
 use Rattle.lay_tree.specs.nodes.Attr.{is_attr, are_attrs, attr_form, behind_attr, is_inner, is_line}
-use Rattle.lay_tree.specs.nodes.Types.{joined, less, greater, param_attrs, param_name, lifetime_form, lifetimes_form, outlived_form, lifetime_param_form, is_lifetime_param, binder_form, is_binder, const_form, is_const, abi_name, abi_form, is_abi_name, is_abi, given_form, colon}
+use Rattle.lay_tree.specs.nodes.Types.{joined, less, greater, param_attrs, param_name, lifetime_form, lifetimes_form, outlived_form, lifetime_param_form, is_lifetime_param, binder_form, is_binder, const_form, is_const, abi_name, abi_form, is_abi_name, is_abi, colon}
 use Rattle.lay_tree.specs.declared.attr.Attr.{Attr}
 use Rattle.lay_tree.specs.declared.attr.Attr.TheVariants as attr
 use Rattle.lay_tree.specs.declared.token.GivenName.{GivenName}
@@ -26,10 +26,10 @@ use Rattle.lay_tree.specs.declared.types.ConstArg.{ConstArg}
 use Rattle.lay_tree.specs.declared.types.ConstArg.TheVariants as const_arg
 use Rattle.lay_tree.specs.declared.types.LifetimeParam.{LifetimeParam}
 use Rattle.lay_laws.proofs.borders.Need as need
-use Rattle.lay_laws.proofs.borders.Need.{RawWord, LineDoc, all}
+use Rattle.lay_laws.proofs.borders.Need.{RawWord, LineDoc}
 use Rattle.lay_laws.proofs.borders.Border.{Other, Border, At}
 use Rattle.lay_laws.proofs.borders.Move.{under}
-use Rattle.lay_laws.proofs.forms.Passes.{plain, leads, behind_leaf}
+use Rattle.lay_laws.proofs.forms.Passes.{plain, behind_leaf}
 use Rattle.lay_laws.proofs.forms.Rules.{tables, On, From, All, Leads, each_part, under-refl, ends, fixed, tree_token, breaks, part, left_out, list_fits, list}
 use Rattle.lay_laws.proofs.texts.Laid.{as_block, is_leaf_kind}
 use Rattle.lay_laws.proofs.tokens.Within.{grouped}

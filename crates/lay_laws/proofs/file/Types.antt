@@ -1,6 +1,6 @@
--- Types, paths, generic arguments and bounds pass: by one induction each, from where nothing is asked to the end of a
--- type or of an argument. A path does so from each border where one may begin.
-use Rattle.std.proofs.Common.{◌≡◌, ℕ, List, [], ◌∷◌, ◌++◌, Bool, true, ◌&&◌, sym, refl, subst, codes, map, Option, Some, None, option_map}
+-- Types, paths, generic arguments and bounds pass, by the induction of their family: from where nothing is asked to the
+-- end of a type or of an argument. A path does so from each border where one may begin.
+use Rattle.std.proofs.Common.{◌≡◌, ℕ, List, [], ◌∷◌, Bool, true, ◌&&◌, sym, refl, subst, codes, map, Option, Some, None, option_map}
 use Rattle.std.specs.List.{list_all}
 use Rattle.std.proofs.lemmas.Bool.{and_parts}
 use Rattle.lay_piece.specs.declared.kind.Delim.TheVariants.{Paren, Bracket, Brace}
@@ -30,7 +30,7 @@ use Rattle.lay_laws.proofs.borders.Border.{Border, beyond}
 use Rattle.lay_laws.proofs.borders.Move.{under}
 use Rattle.lay_laws.proofs.forms.Passes.{plain}
 use Rattle.lay_laws.proofs.forms.Rules.{simple, under-refl, tables, From, ends, fixed, part}
-use Rattle.lay_laws.proofs.file.Nodes.{start_path, word}
+use Rattle.lay_laws.proofs.file.Nodes.{start_path}
 use Rattle.lay_laws.proofs.file.TypeParts.{ends_type, ends_arg}
 use Rattle.lay_laws.proofs.file.TypeArgs.{Any, ArgsPass, Each, Passing, PathPasses, SegmentPasses, TypePasses, angle_pass, const_pass, equal_const_pass, equal_pass, global_pass, limit_pass, local_pass, meets_pass, named_arg_pass, none_pass, outlives_pass, path_pass, plain_pass, qualified_pass, qualified_passes, region_pass, round_pass, segments_pass, words_lead}
 use Rattle.lay_laws.proofs.file.TypeKinds.{array_pass, bounds_type_pass, call_pass, ends_param, func_param_pass, func_pass, infer_pass, never_pass, paren_pass, path_type_pass, pointer_pass, reference_pass, slice_pass, tuple_pass}
@@ -86,7 +86,7 @@ KeptParam = (x : FuncParam) × ParamIs x
 abbrev KeptPath : Type 0
 KeptPath = (x : Path) × PathIs x
 
--- one layer of a node, with nodes within it that pass, and the same without that
+-- one layer of a node, and one whose nodes within it pass
 abbrev Layer : (Type 0 → Type 0 → Type 0 → Type 0 → Type 0 → Type 0 → Type 0 → Type 0 → Type 0) → Type 0
 Layer F = F Arg Args Bound Constraint PathStart Ty FuncParam Path
 
@@ -109,8 +109,8 @@ bound_layer y = type_fold.map-Bound KeptArg KeptArgs KeptBound KeptConstraint Ke
     (λ y. y.0) (λ y. y.0) (λ y. y.0) (λ y. y.0) (λ y. y.0) (λ y. y.0) (λ y. y.0) (λ y. y.0) y
 
 abbrev constraint_layer : Kept Constraint-F → Layer Constraint-F
-constraint_layer y = type_fold.map-Constraint KeptArg KeptArgs KeptBound KeptConstraint KeptStart KeptType KeptParam KeptPath
-    Arg Args Bound Constraint PathStart Ty FuncParam Path
+constraint_layer y = type_fold.map-Constraint KeptArg KeptArgs KeptBound KeptConstraint KeptStart KeptType KeptParam
+    KeptPath Arg Args Bound Constraint PathStart Ty FuncParam Path
     (λ y. y.0) (λ y. y.0) (λ y. y.0) (λ y. y.0) (λ y. y.0) (λ y. y.0) (λ y. y.0) (λ y. y.0) y
 
 abbrev start_layer : Kept PathStart-F → Layer PathStart-F
@@ -192,7 +192,8 @@ bound_step (Bound-F.Outlives l) =
     told (Passing plain ends_type) about_bound (views.rolls-Outlives l) (laws.bound_outlives_is l)
     (outlives_pass l)
 bound_step (Bound-F.Meets parens maybe binder p) =
-    told (Passing plain ends_type) about_bound (views.rolls-Meets parens maybe binder p.0) (laws.bound_meets_is parens maybe binder p.0)
+    told (Passing plain ends_type) about_bound (views.rolls-Meets parens maybe binder p.0)
+    (laws.bound_meets_is parens maybe binder p.0)
     (meets_pass parens maybe binder (about_path p.0) p.1)
 
 constraint_step : (y : Kept Constraint-F) → ConstraintIs (views.roll-Constraint (constraint_layer y))
@@ -200,10 +201,12 @@ constraint_step (Constraint-F.Equal x) =
     told (Passing ends_type ends_arg) about_constraint (views.rolls-Equal x.0) (laws.constraint_equal_is x.0)
     (equal_pass (about_type x.0) x.1)
 constraint_step (Constraint-F.EqualConst value) =
-    told (Passing ends_type ends_arg) about_constraint (views.rolls-EqualConst value) (laws.constraint_equal_const_is value)
+    told (Passing ends_type ends_arg) about_constraint (views.rolls-EqualConst value)
+    (laws.constraint_equal_const_is value)
     (equal_const_pass value)
 constraint_step (Constraint-F.Limit xs) =
-    told (Passing ends_type ends_arg) about_constraint (views.rolls-Limit (bounds_of xs)) (laws.constraint_limit_is (bounds_of xs))
+    told (Passing ends_type ends_arg) about_constraint (views.rolls-Limit (bounds_of xs))
+    (laws.constraint_limit_is (bounds_of xs))
     (limit_pass (map about_bound (bounds_of xs)) (kept (Passing plain ends_type) about_bound xs))
 
 start_step : (y : Kept PathStart-F) → StartIs (views.roll-PathStart (start_layer y))
@@ -217,7 +220,8 @@ start_step (PathStart-F.Qualified x None) =
     told (Passing plain start_path) about_start (views.rolls-Qualified x.0 None) (laws.start_qualified_is x.0 None)
     (qualified_pass (about_type x.0) None x.1 tt)
 start_step (PathStart-F.Qualified x (Some p)) =
-    told (Passing plain start_path) about_start (views.rolls-Qualified x.0 (Some p.0)) (laws.start_qualified_is x.0 (Some p.0))
+    told (Passing plain start_path) about_start (views.rolls-Qualified x.0 (Some p.0))
+    (laws.start_qualified_is x.0 (Some p.0))
     (qualified_pass (about_type x.0) (Some (about_path p.0)) x.1 p.1)
 
 type_step : (y : Kept Ty-F) → TypeIs (views.roll-Ty (type_layer y))
@@ -252,11 +256,12 @@ type_step (Ty-F.Array x length) =
     told TypePasses about_type (views.rolls-Array x.0 length) (laws.type_array_is x.0 length)
     (array_pass (about_type x.0) length x.1)
 type_step (Ty-F.Func binder is_unsafe abi ps variadic None) =
-    told TypePasses about_type (views.rolls-Func binder is_unsafe abi (params_of ps) variadic None) (laws.type_func_is binder is_unsafe abi (params_of ps) variadic None)
+    told TypePasses about_type (views.rolls-Func binder is_unsafe abi (params_of ps) variadic None)
+    (laws.type_func_is binder is_unsafe abi (params_of ps) variadic None)
     (func_pass binder is_unsafe abi (map about_func_param (params_of ps)) variadic None
     (kept (Passing plain ends_param) about_func_param ps) tt)
 type_step (Ty-F.Func binder is_unsafe abi ps variadic (Some x)) =
-    told TypePasses about_type (views.rolls-Func binder is_unsafe abi (params_of ps) variadic (Some x.0)) 
+    told TypePasses about_type (views.rolls-Func binder is_unsafe abi (params_of ps) variadic (Some x.0))
     (laws.type_func_is binder is_unsafe abi (params_of ps) variadic (Some x.0))
     (func_pass binder is_unsafe abi (map about_func_param (params_of ps)) variadic (Some (about_type x.0))
     (kept (Passing plain ends_param) about_func_param ps) x.1)
@@ -288,7 +293,8 @@ args_rolled x y is = subst (λ z. ArgsAre (views.roll-Args z)) is (args_step y)
 bound_rolled : (x : Layer Bound-F) (y : Kept Bound-F) → bound_layer y ≡ x → BoundIs (views.roll-Bound x)
 bound_rolled x y is = subst (λ z. BoundIs (views.roll-Bound z)) is (bound_step y)
 
-constraint_rolled : (x : Layer Constraint-F) (y : Kept Constraint-F) → constraint_layer y ≡ x → ConstraintIs (views.roll-Constraint x)
+constraint_rolled : (x : Layer Constraint-F) (y : Kept Constraint-F) → constraint_layer y ≡ x
+    → ConstraintIs (views.roll-Constraint x)
 constraint_rolled x y is = subst (λ z. ConstraintIs (views.roll-Constraint z)) is (constraint_step y)
 
 start_rolled : (x : Layer PathStart-F) (y : Kept PathStart-F) → start_layer y ≡ x → StartIs (views.roll-PathStart x)
