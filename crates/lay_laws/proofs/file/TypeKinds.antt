@@ -15,11 +15,9 @@ use Rattle.lay_tree.specs.tokens.Lexed.{is_token_list}
 use Rattle.lay_tree.specs.tokens.Lists.{ends_in_line}
 use Rattle.lay_tree.specs.declared.token.Lifetime.{Lifetime}
 use Rattle.lay_tree.specs.declared.token.Listed.{Listed}
-use Rattle.lay_tree.specs.declared.token.Word.{Word}
 use Rattle.lay_tree.specs.declared.types.Abi.{Abi}
 use Rattle.lay_tree.specs.declared.types.Arg.TheOpen.{Ty-F, FuncParam-F}
 use Rattle.lay_tree.specs.declared.types.Binder.{Binder}
-use Rattle.lay_tree.specs.declared.types.Path.{Path}
 use Rattle.lay_tree.specs.declared.types.PathStyle.TheVariants as style
 use Rattle.lay_tree.specs.declared.tokens.MacroCall.{MacroCall}
 use Rattle.lay_laws.proofs.borders.Need as need

@@ -6,7 +6,6 @@ use Rattle.std.proofs.lemmas.Bool.{and_parts}
 use Rattle.lay_piece.specs.declared.kind.Delim.TheVariants.{Paren, Bracket, Brace}
 use Rattle.lay_form.specs.Form as form
 use Rattle.lay_form.specs.Form.{Bit, Blank, Operator, Form, opener, closer, comma, semicolon}
-use Rattle.lay_form.specs.Notation.{B}
 use Rattle.lay_form.specs.Pieces.{are_pieces}
 use Rattle.lay_tree.specs.Words.{colons}
 use Rattle.lay_tree.specs.nodes.Facts.{Facts}
