@@ -1,6 +1,6 @@
 -- Samples of types: how they are laid out, and what is read.
 use Rattle.std.proofs.Common.{◌≡◌, ℕ, Bool, true, false, List, [], ◌∷◌, ◌++◌, Option, Some, None, codes, ap, ◌∙◌, refl}
-use Rattle.std.specs.Prelude.{replicate}
+use Rattle.std.specs.Prelude.{suc, max, replicate, if◌then◌else◌}
 use Rattle.lay_layout.specs.Document.{text_of}
 use Rattle.lay_piece.specs.declared.kind.Delim.TheVariants.{Paren, Brace}
 use Rattle.lay_piece.specs.declared.kind.Kind.TheVariants as kind
@@ -9,15 +9,16 @@ use Rattle.lay_form.specs.Form.{Fixed, Form, Piece, Part, opener, semicolon}
 use Rattle.lay_form.specs.Layout.{document}
 use Rattle.lay_form.specs.Notation.{piece}
 use Rattle.lay_tree.specs.Begins.{lead_at}
+use Rattle.lay_tree.specs.Follow.{begins_there, OfBang}
 use Rattle.lay_tree.specs.nodes.Types.{PathFacts, about_type, about_path, about_bound, args_facts, bound_facts, path_facts, start_facts, ty_facts}
 use Rattle.lay_tree.specs.nodes.Where.{wheres_before_body, wheres_before_semicolon}
 use Rattle.lay_tree.specs.nodes.Generics.{generics_form}
 use Rattle.lay_tree.specs.reader.Attr.{attributes}
 use Rattle.lay_tree.specs.reader.Call.{call}
-use Rattle.lay_tree.specs.reader.Loops.{repeat_from, repeat, elements_from, elements, open_elements_from, open_elements}
+use Rattle.lay_tree.specs.reader.Loops.{Read, ◌>>=◌, repeat_from, repeat, elements_from, elements, open_elements_from, open_elements}
 use Rattle.lay_tree.specs.reader.SimplePath.{simple_path}
 use Rattle.lay_tree.specs.reader.Tokens.{run, tokens, group}
-use Rattle.lay_tree.specs.reader.Types.{type_at, within, path_type, path, chain, segment, args_by, angle, one_arg, const, lifetime, func_type, func_params, func_param, bounds_type, bounds_by, one_bound, meets}
+use Rattle.lay_tree.specs.reader.Types.{type_at, within, path_type, path, chain, segment, args_by, angle, one_arg, round, func_type, func_params, func_param, bounds_type, bounds_by, one_bound, meets, paren_type, path_of, constraint_by, named_type, starts_plain}
 use Rattle.lay_tree.specs.reader.Generics.{generics_at, generics}
 use Rattle.lay_tree.specs.reader.Where.{wheres_at, wheres, type_predicate}
 use Rattle.lay_tree.specs.reader.Words.{given_name, word as word_reading}
@@ -29,9 +30,12 @@ use Rattle.lay_tree.specs.declared.generics.Wheres.{Wheres}
 use Rattle.lay_tree.specs.declared.token.GivenName.TheVariants as given
 use Rattle.lay_tree.specs.declared.token.Lifetime.{Lifetime}
 use Rattle.lay_tree.specs.declared.token.Literal.{Literal}
+use Rattle.lay_tree.specs.declared.token.Name.{Name}
+use Rattle.lay_tree.specs.declared.token.Word.{Word}
 use Rattle.lay_tree.specs.declared.types.Arg.{Arg}
 use Rattle.lay_tree.specs.declared.types.Arg.TheOpen.{Args-F, Bound-F, PathStart-F, Ty-F}
 use Rattle.lay_tree.specs.declared.types.Arg.TheVariants as arg
+use Rattle.lay_tree.specs.declared.types.Arg.TheViews as views
 use Rattle.lay_tree.specs.declared.types.Args.{Args}
 use Rattle.lay_tree.specs.declared.types.Args.TheVariants as args
 use Rattle.lay_tree.specs.declared.types.Binder.{Binder}
@@ -42,11 +46,13 @@ use Rattle.lay_tree.specs.declared.types.Constraint.TheVariants as constraint
 use Rattle.lay_tree.specs.declared.types.FuncParam.{FuncParam}
 use Rattle.lay_tree.specs.declared.types.Path.{Path}
 use Rattle.lay_tree.specs.declared.types.PathStart.TheVariants as start
-use Rattle.lay_tree.specs.declared.types.PathStyle.TheVariants.{Code}
+use Rattle.lay_tree.specs.declared.types.PathStyle.TheVariants.{Code, Kind as InKind}
 use Rattle.lay_tree.specs.declared.types.Ty.{Ty}
 use Rattle.lay_tree.specs.declared.types.Ty.TheVariants as ty
 use Rattle.lay_tree.specs.declared.types.TypePlace.TheVariants.{Bounds, NoBounds}
+use Rattle.lay_token.specs.declared.token.Token.{Token}
 use Rattle.lay_tree.proofs.nodes.TypesLaws as types
+use Rattle.lay_tree.proofs.reader.TypesComplete.{as_path_is}
 use Rattle.lay_tree.proofs.samples.Tokens as list
 use Rattle.lay_tree.proofs.samples.Trees.{named, plain, a, b, laid, token, word, mark, colons, opens, closes}
 
@@ -335,3 +341,71 @@ read_where_comma : wheres_at 2 (word (codes "where") ∷ word (codes "A") ∷ ma
     ≡ Some (((where_A_is (codes "B"), true), 2), opens Brace ∷ [])
 unfolding wheres open_elements open_elements_from type_predicate within lead_at simple_path path_type path chain repeat repeat_from segment args_by one_bound meets word_reading op_at
 read_where_comma = refl
+
+-- ---- return types, and what is asked of a name
+
+-- `B::C`
+abbrev B_then_C : Path
+B_then_C = record { start = start.Local; segments = (plain (codes "B"), args.None) ∷ (plain (codes "C"), args.None) ∷ [] }
+
+B_then_C_read : path (within 0) InKind (word (codes "B") ∷ colons (word (codes "C") ∷ [])) ≡ Some ((B_then_C, 0), [])
+unfolding path chain repeat repeat_from segment args_by word_reading op_at
+B_then_C_read = rw types.args_none_is refl
+
+type_B_then_C : type_at NoBounds 1 (word (codes "B") ∷ colons (word (codes "C") ∷ [])) ≡ Some ((ty.Path B_then_C, 1), [])
+unfolding within lead_at path_type simple_path repeat repeat_from word_reading op_at
+type_B_then_C =
+    ap (λ (r : Read Path). do p ← r; if begins_there OfBang p.1 then None else Some ((ty.Path p.0.0, suc p.0.1), p.1)) B_then_C_read
+
+abbrev with_output : Read Ty → Read (Option Ty)
+with_output r = do x ← r; Some ((Some x.0.0, x.0.1), x.1)
+
+abbrev as_round : Read (Option Ty) → Read Args
+as_round r = do o ← r; Some ((args.Round [] o.0.0, max 0 o.0.1), o.1)
+
+-- In `Fn() -> B::C` all of `B::C` is the return type.
+read_return : round (within 1) (opens Paren ∷ closes Paren ∷ token kind.Punct (codes "-") true ∷ mark (codes ">") ∷ word (codes "B") ∷ colons (word (codes "C") ∷ []))
+    ≡ Some ((args.Round [] (Some (ty.Path B_then_C)), 1), [])
+unfolding round elements elements_from op_at
+read_return = ap (λ (r : Read Ty). as_round (with_output r)) type_B_then_C
+
+-- `Fn() -> (B)::C`
+abbrev return_then_C : List Token
+return_then_C = word (codes "Fn") ∷ opens Paren ∷ closes Paren ∷ token kind.Punct (codes "-") true ∷ mark (codes ">")
+    ∷ opens Paren ∷ word (codes "B") ∷ closes Paren ∷ colons (word (codes "C") ∷ [])
+
+abbrev return_then_C_segments : List (Word × Args)
+return_then_C_segments = (plain (codes "Fn"), args.Round [] (Some (ty.Paren B))) ∷ (plain (codes "C"), args.None) ∷ []
+
+-- Two segments would be read, of which the first has a return type.
+not_behind_a_return : path (within 2) InKind return_then_C ≡ None
+unfolding within lead_at paren_type path_type simple_path path chain repeat repeat_from segment args_by round elements elements_from word_reading op_at
+not_behind_a_return = two_segments ∙ refused
+  where
+    two_segments : path (within 2) InKind return_then_C ≡ path_of start.Local 2 return_then_C_segments []
+    two_segments = refl
+
+    refused : path_of start.Local 2 return_then_C_segments [] ≡ None
+    refused = rw (types.args_round_is [] (Some (ty.Paren B))) refl
+
+-- `B = C` among arguments needs a level, and `C` another one.
+B_named : named_type B ≡ Some (named (codes "B"), args.None)
+B_named = rw (as_path_is (local (codes "B")), plain_start, types.args_none_is) refl
+  where
+    plain_start : starts_plain (views.out-PathStart start.Local) ≡ true
+    plain_start = ap starts_plain views.outs-Local
+
+abbrev B_is_C : List Token
+B_is_C = word (codes "B") ∷ mark (codes "=") ∷ word (codes "C") ∷ mark (codes ">") ∷ []
+
+read_equal : one_arg (within 2) B_is_C ≡ Some ((arg.Named (named (codes "B")) args.None (constraint.Equal C), 2), mark (codes ">") ∷ [])
+unfolding one_arg within lead_at constraint_by path_type simple_path path chain repeat repeat_from segment args_by word_reading op_at
+read_equal =
+    ap (λ (r : Option (Name × Args)). do n ← r; Some ((arg.Named n.0 n.1 (constraint.Equal C), 2), mark (codes ">") ∷ [])) B_named
+
+none_of_a_name : Option (Name × Args) → Read Arg
+none_of_a_name r = do n ← r; None
+
+not_equal_within_one : one_arg (within 1) B_is_C ≡ None
+unfolding one_arg within lead_at constraint_by path_type simple_path path chain repeat repeat_from segment args_by word_reading op_at none_of_a_name
+not_equal_within_one = ap none_of_a_name B_named
