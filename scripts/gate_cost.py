@@ -1,7 +1,7 @@
 #!/usr/bin/env python3
 """Runs the gate from nothing and tells what it costs for each crate, in seconds of one core: proofs, tests, must-fail edits.
 
-usage: gate_cost.py [CRATE..]    runs `rt ci --anew CRATE..`, without names the whole gate
+usage: gate_cost.py [WORD..]    runs `rt ci WORD..`; a toolchain that keeps what passed needs the word --anew
 
 Every half second it looks at the processes that the gate has started, and keeps what each has used of a core when it was seen
 last. So the last moment of each process is missing, a percent or two of the whole. It reads /proc, as Linux has it.
@@ -43,7 +43,7 @@ def part(number, found, gate):
 
 
 def main():
-    gate = subprocess.Popen(["rt", "ci", "--anew", *sys.argv[1:]], stdout=subprocess.DEVNULL, stderr=subprocess.DEVNULL)
+    gate = subprocess.Popen(["rt", "ci", *sys.argv[1:]], stdout=subprocess.DEVNULL, stderr=subprocess.DEVNULL)
     used = {}
     while gate.poll() is None:
         found = processes()
