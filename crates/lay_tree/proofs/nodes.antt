@@ -2,3 +2,4 @@
 pub mod UseLaws
 pub mod ItemLaws
 pub mod TypesLaws
+pub mod PatternsLaws

@@ -6,8 +6,9 @@ use Rattle.lay_piece.specs.Word.{class_of}
 use Rattle.lay_piece.specs.declared.kind.Delim.TheVariants.{Paren, Bracket}
 use Rattle.lay_piece.specs.declared.kind.Kind.{Kind}
 use Rattle.lay_piece.specs.declared.kind.Kind.TheVariants as kind
+use Rattle.lay_token.specs.declared.token.Token.{Token}
 use Rattle.lay_tree.specs.Ahead.{Tokens, first, is_keyword, is_lifetime, is_mark, opens}
-use Rattle.lay_tree.specs.Words.{is_path_class}
+use Rattle.lay_tree.specs.Words.{is_path_class, is_literal}
 
 -- what begins a type
 pub data Lead : Type 0 where
@@ -63,6 +64,16 @@ is_path_lead _ = false
 abbrev pub begins_bound : Tokens → Bool
 begins_bound ts =
     first is_lifetime ts || (first (opens Paren) ts || (first (is_mark (codes "?")) ts || (first (is_keyword (codes "for")) ts || is_path_lead (lead_at ts))))
+
+abbrev pub is_literal_token : Token → Bool
+is_literal_token t = is_literal t.kind t.text
+
+-- a literal in a pattern, or a number behind a `-`
+abbrev pub begins_value : Tokens → Bool
+begins_value ts = first is_literal_token ts || first (is_mark (codes "-")) ts
+
+abbrev pub begins_span_end : Tokens → Bool
+begins_span_end ts = begins_value ts || is_path_lead (lead_at ts)
 
 abbrev pub begins_predicate : Tokens → Bool
 begins_predicate ts = first is_lifetime ts || begins_type ts

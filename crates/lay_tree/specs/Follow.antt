@@ -2,7 +2,7 @@
 -- the node that ends where it ends. The rules stand here in the order of docs/GRAMMAR.md.
 use Rattle.std.specs.Prelude.{◌&&◌, ◌||◌, not, Bool, true, List, [], ◌∷◌, codes}
 use Rattle.lay_token.specs.Operators.{is_op}
-use Rattle.lay_piece.specs.declared.kind.Delim.TheVariants.{Paren}
+use Rattle.lay_piece.specs.declared.kind.Delim.TheVariants.{Paren, Brace}
 use Rattle.lay_tree.specs.Ahead.{Tokens, first, is_keyword, opens, opens_args, opens_args_late}
 
 pub data Begin : Type 0 where
@@ -31,3 +31,11 @@ begins_there OfBang ts = is_op (codes "!") ts
 abbrev pub may_follow : List Begin → Tokens → Bool
 may_follow [] ts = true
 may_follow (b ∷ bs) ts = not (begins_there b ts) && may_follow bs ts
+
+-- the `..` or `..=` of a span
+abbrev pub begins_dots : Tokens → Bool
+begins_dots ts = is_op (codes "..") ts || is_op (codes "..=") ts
+
+-- What no pattern is followed by: fields in parentheses or in braces, and the `..` or `..=` of a span.
+abbrev pub goes_on_pattern : Tokens → Bool
+goes_on_pattern ts = first (opens Paren) ts || (first (opens Brace) ts || begins_dots ts)

@@ -6,6 +6,7 @@ pub mod Attr
 pub mod Types
 pub mod Generics
 pub mod Where
+pub mod Patterns
 pub mod Use
 pub mod Item
 pub mod File

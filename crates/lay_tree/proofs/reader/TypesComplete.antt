@@ -18,9 +18,9 @@ use Rattle.lay_form.proofs.FormLaws.{shorter}
 use Rattle.lay_tree.specs.Ahead.{Tokens, first, is_mark, is_opener, opens, closes, opens_args, opens_args_late}
 use Rattle.lay_tree.specs.Words.{is_plain, is_path_class, is_name, is_path_word, leaf_of}
 use Rattle.lay_tree.specs.nodes.Facts.{Facts, all_good}
-use Rattle.lay_tree.specs.nodes.Types.{TypeFacts, ArgsFacts, PathFacts, in_style, less, greater, equals, good_at, all_types_good, type_forms, type_follows, output_form, output_good, output_refuses, angle_form, round_form, deeper, about_type, about_path, about_start, about_args, about_arg, about_constraint}
+use Rattle.lay_tree.specs.nodes.Types.{TypeFacts, ArgsFacts, PathFacts, in_style, less, greater, equals, good_at, all_types_good, type_forms, type_follows, output_form, output_good, output_refuses, angle_form, round_form, deeper, about_type, about_path, about_start, about_args, about_arg, about_constraint, starts_plain}
 use Rattle.lay_tree.specs.reader.Loops.{Read, nodes, deepest, elements}
-use Rattle.lay_tree.specs.reader.Types.{Within, operator, as_path, path_in, starts_plain, named_type, begins_constraint, one_arg, angle, output, round, args_by}
+use Rattle.lay_tree.specs.reader.Types.{Within, operator, as_path, path_in, named_type, begins_constraint, one_arg, angle, output, round, args_by}
 use Rattle.lay_tree.specs.declared.token.Lifetime.{Lifetime}
 use Rattle.lay_tree.specs.declared.token.Name.{Name}
 use Rattle.lay_tree.specs.declared.token.Word.{Word}

@@ -25,7 +25,8 @@ use Rattle.lay_tree.specs.nodes.Types.{less, greater, param_attrs, lifetime_form
 use Rattle.lay_tree.specs.reader.Attr.{is_doc_kind, begins_attr, attributes}
 use Rattle.lay_tree.specs.reader.Loops.{Got, ◌>>=◌, passed, elements}
 use Rattle.lay_tree.specs.reader.Tokens.{tokens, group}
-use Rattle.lay_tree.specs.reader.Types.{flag, if_there, lifetime, is_literal_token, literal, lifetimes, outlived, lifetime_behind, lifetime_param, binder, binder_if, begins_const, braces, const, is_string_token, abi, begins_given, param_name}
+use Rattle.lay_tree.specs.reader.Types.{flag, if_there, lifetime, literal, lifetimes, outlived, lifetime_behind, lifetime_param, binder, binder_if, begins_const, braces, const, is_string_token, abi, begins_given, param_name}
+use Rattle.lay_tree.specs.Begins.{is_literal_token}
 use Rattle.lay_tree.specs.reader.Words.{given_name}
 use Rattle.lay_tree.specs.declared.attr.Attr.{Attr}
 use Rattle.lay_tree.specs.declared.token.GivenName.{GivenName}

@@ -17,11 +17,11 @@ use Rattle.lay_token.specs.declared.token.Token.{Token}
 use Rattle.lay_token.proofs.Deciding.{bytes_same}
 use Rattle.lay_form.specs.Spelled.{IsOne}
 use Rattle.lay_tree.specs.Ahead.{Tokens, first, tail, is_keyword, is_lifetime, is_lifetime_kind, is_mark, is_opener, is_closer, opens, closes, opens_args}
-use Rattle.lay_tree.specs.Begins.{Lead, OfPath, OfFunc, lead_of_word, lead_of_punct, lead_by, lead_at, begins_bound}
+use Rattle.lay_tree.specs.Begins.{Lead, OfPath, OfFunc, lead_of_word, lead_of_punct, lead_by, lead_at, begins_bound, is_literal_token}
 use Rattle.lay_tree.specs.Follow.{Begin, OfRename, OfArgs, OfCodeArgs, OfArrow, OfColons, OfBang, begins_there, may_follow}
 use Rattle.lay_tree.specs.Words.{is_plain, is_path_word, is_literal}
 use Rattle.lay_tree.specs.reader.Attr.{is_doc_kind, begins_attr}
-use Rattle.lay_tree.specs.reader.Types.{is_literal_token, begins_const, begins_given}
+use Rattle.lay_tree.specs.reader.Types.{begins_const, begins_given}
 use Rattle.lay_tree.specs.reader.Words.{given_name}
 use Rattle.lay_tree.proofs.Fronts.{keyword_one, mark_one, one_front, op_front, op_test, op_text, one_test, other_op, one_no_op, first_there}
 use Rattle.lay_tree.proofs.Parts.{word_kind}

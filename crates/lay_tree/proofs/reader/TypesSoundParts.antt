@@ -24,7 +24,8 @@ use Rattle.lay_tree.specs.reader.Attr.{attributes}
 use Rattle.lay_tree.specs.reader.Exact.{InText}
 use Rattle.lay_tree.specs.reader.Loops.{Got, Read, ◌>>=◌, passed, repeat, element_end, elements_from, elements}
 use Rattle.lay_tree.specs.reader.Tokens.{tokens, group}
-use Rattle.lay_tree.specs.reader.Types.{operator, flag, if_there, if_read, lifetime, is_literal_token, literal, chain, lifetimes, outlived, lifetime_behind, lifetime_param, angled, binder, binder_if, negative, braces, const, is_string_token, abi}
+use Rattle.lay_tree.specs.reader.Types.{operator, flag, if_there, if_read, lifetime, literal, chain, lifetimes, outlived, lifetime_behind, lifetime_param, angled, binder, binder_if, negative, braces, const, is_string_token, abi}
+use Rattle.lay_tree.specs.Begins.{is_literal_token}
 use Rattle.lay_tree.specs.tokens.Lists.{group_form}
 use Rattle.lay_tree.specs.declared.attr.Attr.{Attr}
 use Rattle.lay_tree.specs.declared.token.Lifetime.{Lifetime}

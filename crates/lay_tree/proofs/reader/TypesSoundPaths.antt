@@ -15,10 +15,10 @@ use Rattle.lay_tree.specs.Follow.{may_follow}
 use Rattle.lay_tree.specs.Words.{is_name, is_path_word, colons, leaf_of}
 use Rattle.lay_tree.specs.nodes.Facts.{Facts, all_good}
 use Rattle.lay_tree.specs.nodes.Types as types
-use Rattle.lay_tree.specs.nodes.Types.{TypeFacts, ArgsFacts, good_at, all_types_good, type_forms, in_style, output_form, output_good, output_refuses, angle_form, round_form, args_facts, arg_facts, segment_form, segments_form, segment_good, segments_good, segments_refuse, of_form, of_good, start_facts, path_facts, ty_facts, less, greater, about_type, about_path, about_start, about_args, about_arg, about_constraint}
+use Rattle.lay_tree.specs.nodes.Types.{TypeFacts, ArgsFacts, good_at, all_types_good, type_forms, in_style, output_form, output_good, output_refuses, angle_form, round_form, args_facts, arg_facts, segment_form, segments_form, segment_good, segments_good, segments_refuse, of_form, of_good, start_facts, path_facts, ty_facts, less, greater, about_type, about_path, about_start, about_args, about_arg, about_constraint, starts_plain}
 use Rattle.lay_tree.specs.reader.Exact.{InText}
 use Rattle.lay_tree.specs.reader.Loops.{passed, nodes, deepest, elements}
-use Rattle.lay_tree.specs.reader.Types.{Within, operator, if_read, lifetime, chain, angled, begins_const, const, path_in, as_path, starts_plain, as_name, named_segments, named_type, begins_constraint, arg_by, one_arg, angle, output, round, args_by, segment, trait_path, qualified, path_start, returns_last, path}
+use Rattle.lay_tree.specs.reader.Types.{Within, operator, if_read, lifetime, chain, angled, begins_const, const, path_in, as_path, as_name, named_segments, named_type, begins_constraint, arg_by, one_arg, angle, output, round, args_by, segment, trait_path, qualified, path_start, returns_last, path}
 use Rattle.lay_tree.specs.reader.Words.{word}
 use Rattle.lay_tree.specs.declared.token.Name.{Name}
 use Rattle.lay_tree.specs.declared.token.Word.{Word}

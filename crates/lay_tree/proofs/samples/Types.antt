@@ -10,7 +10,7 @@ use Rattle.lay_form.specs.Layout.{document}
 use Rattle.lay_form.specs.Notation.{piece}
 use Rattle.lay_tree.specs.Begins.{lead_at}
 use Rattle.lay_tree.specs.Follow.{begins_there, OfBang}
-use Rattle.lay_tree.specs.nodes.Types.{PathFacts, about_type, about_path, about_bound, args_facts, bound_facts, path_facts, start_facts, ty_facts}
+use Rattle.lay_tree.specs.nodes.Types.{PathFacts, about_type, about_path, about_bound, args_facts, bound_facts, path_facts, start_facts, ty_facts, starts_plain}
 use Rattle.lay_tree.specs.nodes.Where.{wheres_before_body, wheres_before_semicolon}
 use Rattle.lay_tree.specs.nodes.Generics.{generics_form}
 use Rattle.lay_tree.specs.reader.Attr.{attributes}
@@ -18,7 +18,7 @@ use Rattle.lay_tree.specs.reader.Call.{call}
 use Rattle.lay_tree.specs.reader.Loops.{Read, ◌>>=◌, repeat_from, repeat, elements_from, elements, open_elements_from, open_elements}
 use Rattle.lay_tree.specs.reader.SimplePath.{simple_path}
 use Rattle.lay_tree.specs.reader.Tokens.{run, tokens, group}
-use Rattle.lay_tree.specs.reader.Types.{type_at, within, path_type, path, chain, segment, args_by, angle, one_arg, round, func_type, func_params, func_param, bounds_type, bounds_by, one_bound, meets, paren_type, path_of, constraint_by, named_type, starts_plain}
+use Rattle.lay_tree.specs.reader.Types.{type_at, within, path_type, path, chain, segment, args_by, angle, one_arg, round, func_type, func_params, func_param, bounds_type, bounds_by, one_bound, meets, paren_type, path_of, constraint_by, named_type}
 use Rattle.lay_tree.specs.reader.Generics.{generics_at, generics}
 use Rattle.lay_tree.specs.reader.Where.{wheres_at, wheres, type_predicate}
 use Rattle.lay_tree.specs.reader.Words.{given_name, word as word_reading}

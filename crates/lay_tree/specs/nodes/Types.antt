@@ -1,5 +1,5 @@
 -- Types, paths with generic arguments, and bounds (Rust Reference, "Types", "Paths", "Trait and lifetime bounds").
-use Rattle.std.specs.Prelude.{ℕ, ◌&&◌, not, Bool, true, false, List, [], ◌∷◌, ◌++◌, map, codes, Option, Some, None, is_some}
+use Rattle.std.specs.Prelude.{ℕ, ◌&&◌, not, Bool, true, false, if◌then◌else◌, List, [], ◌∷◌, ◌++◌, map, codes, Option, Some, None, is_some}
 use Rattle.std.specs.List.{list_all}
 use Rattle.lay_piece.specs.Characters as char
 use Rattle.lay_piece.specs.declared.kind.Delim.TheVariants.{Paren, Bracket, Brace}
@@ -26,6 +26,7 @@ use Rattle.lay_tree.specs.declared.types.Abi.{Abi}
 use Rattle.lay_tree.specs.declared.types.Arg.{Arg}
 use Rattle.lay_tree.specs.declared.types.Arg.TheFolds.{fold-Arg, fold-Args, fold-Bound, fold-Constraint, fold-Ty, fold-FuncParam, fold-Path, fold-PathStart}
 use Rattle.lay_tree.specs.declared.types.Arg.TheOpen.{Arg-F, Args-F, Bound-F, Constraint-F, PathStart-F, Ty-F, FuncParam-F, Path-F}
+use Rattle.lay_tree.specs.declared.types.Arg.TheViews.{out-Args, out-PathStart}
 use Rattle.lay_tree.specs.declared.types.Args.{Args}
 use Rattle.lay_tree.specs.declared.types.Binder.{Binder}
 use Rattle.lay_tree.specs.declared.types.Bound.{Bound}
@@ -468,3 +469,22 @@ bounds_follow bounds ts = not (is_op (codes "+") ts) && may_follow (last_refuses
 abbrev pub BoundsFront : List Bound → Tokens → ℕ → ℕ → Type 0
 BoundsFront bounds ts n depth =
     spelled.Front (deeper (bounds_form (map about_bound bounds))) (bounds_good (map about_bound bounds)) (bounds_follow bounds) ts n depth
+
+-- ---- a path that is one word
+
+-- A path begins with its first segment.
+abbrev pub starts_plain : PathStart-F Arg Args Bound Constraint PathStart Ty FuncParam Path → Bool
+starts_plain PathStart-F.Local = true
+starts_plain _ = false
+
+abbrev pub are_none : Args-F Arg Args Bound Constraint PathStart Ty FuncParam Path → Bool
+are_none Args-F.None = true
+are_none _ = false
+
+abbrev pub lone_segment : List (Word × Args) → Option Word
+lone_segment (s ∷ []) = if are_none (out-Args s.1) then Some s.0 else None
+lone_segment _ = None
+
+-- the word that a path is, without arguments
+abbrev pub lone_word : Path → Option Word
+lone_word p = if starts_plain (out-PathStart p.start) then lone_segment p.segments else None

@@ -4,11 +4,11 @@ use Rattle.lay_token.specs.Operators.{is_op}
 use Rattle.lay_piece.specs.declared.kind.Delim.TheVariants.{Paren, Bracket, Brace}
 use Rattle.lay_token.specs.declared.token.Token.{Token}
 use Rattle.lay_tree.specs.Ahead.{Tokens, first, tail, is_keyword, is_mark, is_lifetime, opens, closes, opens_args, opens_args_late}
-use Rattle.lay_tree.specs.Begins.{Lead, OfPath, OfParen, OfNever, OfInfer, OfPointer, OfReference, OfBracket, OfImpl, OfDyn, OfFunc, lead_at}
+use Rattle.lay_tree.specs.Begins.{is_literal_token, Lead, OfPath, OfParen, OfNever, OfInfer, OfPointer, OfReference, OfBracket, OfImpl, OfDyn, OfFunc, lead_at}
 use Rattle.lay_tree.specs.Follow.{begins_there, OfBang}
-use Rattle.lay_tree.specs.Words.{is_name, is_literal, is_number, is_string}
+use Rattle.lay_tree.specs.Words.{is_name, is_number, is_string}
 use Rattle.lay_tree.specs.nodes.Attr.{is_empty}
-use Rattle.lay_tree.specs.nodes.Types.{about_args}
+use Rattle.lay_tree.specs.nodes.Types.{about_args, starts_plain}
 use Rattle.lay_tree.specs.reader.Attr.{attributes}
 use Rattle.lay_tree.specs.reader.Call.{call}
 use Rattle.lay_tree.specs.reader.Loops.{Got, Read, ◌>>=◌, passed, nodes, deepest, repeat, elements, open_elements}
@@ -23,7 +23,7 @@ use Rattle.lay_tree.specs.declared.token.Name.{Name}
 use Rattle.lay_tree.specs.declared.token.Word.{Word}
 use Rattle.lay_tree.specs.declared.types.Abi.{Abi}
 use Rattle.lay_tree.specs.declared.types.Arg.{Arg}
-use Rattle.lay_tree.specs.declared.types.Arg.TheOpen.{PathStart-F, Ty-F}
+use Rattle.lay_tree.specs.declared.types.Arg.TheOpen.{Ty-F}
 use Rattle.lay_tree.specs.declared.types.Arg.TheVariants as arg
 use Rattle.lay_tree.specs.declared.types.Arg.TheViews.{out-PathStart, out-Ty}
 use Rattle.lay_tree.specs.declared.types.Args.{Args}
@@ -74,9 +74,6 @@ if_read false one ts = Some ((None, 0), ts)
 unfoldable pub lifetime : Tokens → Got Lifetime
 lifetime [] = None
 lifetime (t ∷ ts) = if is_lifetime t then Some (record { text = t.text }, ts) else None
-
-abbrev pub is_literal_token : Token → Bool
-is_literal_token t = is_literal t.kind t.text
 
 -- a literal token that passes
 unfoldable pub literal : (Token → Bool) → Tokens → Got Literal
@@ -150,11 +147,6 @@ path_in _ = None
 
 abbrev pub as_path : Ty → Option Path
 as_path x = path_in (out-Ty x)
-
--- A path begins with its first segment.
-abbrev pub starts_plain : PathStart-F Arg Args Bound Constraint PathStart Ty FuncParam Path → Bool
-starts_plain PathStart-F.Local = true
-starts_plain _ = false
 
 abbrev pub as_name : Word → Option Name
 as_name w = if is_name w.raw w.text then Some (record { raw = w.raw; text = w.text }) else None
