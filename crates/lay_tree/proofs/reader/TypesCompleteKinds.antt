@@ -775,24 +775,27 @@ no_depth x ts rest = at x (type_view x)
         by (ty.Func b u a ps variadic y) (ty_facts (Ty-F.Func b u a (map about_func_param ps) variadic (option_map about_type y))) (type_func_is b u a ps variadic y) (λ s. s)
     at _ (IsBounds d bs) = by (ty.Bounds d bs) (ty_facts (Ty-F.Bounds d (map about_bound bs))) (type_bounds_is d bs) (λ s. s)
 
--- What is one level deeper than a budget is read within it.
-pub within_reads : (depth : ℕ) → Reads depth (within depth)
+-- What is one level deeper than a budget is read within it, and within every greater one.
+pub within_reads : (depth budget : ℕ) → depth ≤ budget → Reads depth (within budget)
 unfolding within
-within_reads zero = record {
+within_reads zero budget h = record {
   types = λ place x ts rest s g f. absurd (no_depth x ts rest s);
   constraints = λ c ts rest s g e. absurd s;
 }
-within_reads (suc depth) = record {
-  types = λ place x ts rest s g f.
-      let r = type_made depth (within depth) (within_reads depth) place x (type_view x) ts rest s g f in
-      let b = type_begins x place (suc depth) ts rest s g in
-      (r.0, r.1, rw b.lead r.2);
-  constraints = λ c ts rest s g e.
-      constraint_read depth (within depth) (within_reads depth) c ts rest (inner_of (about_constraint c).form depth ts rest s) g e;
-}
+within_reads (suc depth) zero h = absurd (omega arith)
+within_reads (suc depth) (suc budget) h =
+    let reads = within_reads depth budget (omega arith) in
+    record {
+      types = λ place x ts rest s g f.
+          let r = type_made depth (within budget) reads place x (type_view x) ts rest s g f in
+          let b = type_begins x place (suc depth) ts rest s g in
+          (r.0, r.1, rw b.lead r.2);
+      constraints = λ c ts rest s g e.
+          constraint_read depth (within budget) reads c ts rest (inner_of (about_constraint c).form depth ts rest s) g e;
+    }
 
 -- A type that stands there is read.
-pub type_complete : (place : TypePlace) (x : Ty) (depth : ℕ) (ts rest : Tokens) → Spells (about_type x).told.form depth ts rest
-    → good_at place (about_type x) ≡ true
-    → type_follows place (about_type x) rest ≡ true → IsRead depth (type_at place depth) x ts rest
-type_complete place x depth ts rest s g f = (within_reads depth).types place x ts rest s g (follows_fits place (about_type x) rest f)
+pub type_complete : (place : TypePlace) (x : Ty) (depth budget : ℕ) (ts rest : Tokens) → depth ≤ budget
+    → Spells (about_type x).told.form depth ts rest → good_at place (about_type x) ≡ true
+    → type_follows place (about_type x) rest ≡ true → IsRead depth (type_at place budget) x ts rest
+type_complete place x depth budget ts rest h s g f = (within_reads depth budget h).types place x ts rest s g (follows_fits place (about_type x) rest f)
