@@ -30,8 +30,10 @@ pub mod TypesLists
 pub mod TypesCompleteParts
 pub mod TypesComplete
 pub mod TypesCompletePaths
+pub mod TypesCalls
 pub mod TypesCompleteKinds
 pub mod TypesCompleteAlone
 pub mod GenericsComplete
 pub mod WheresComplete
+pub mod PatternsFronts
 pub mod TypesExact
