@@ -36,4 +36,6 @@ pub mod TypesCompleteAlone
 pub mod GenericsComplete
 pub mod WheresComplete
 pub mod PatternsFronts
+pub mod PatternsParts
+pub mod PatternsBegins
 pub mod TypesExact
