@@ -38,4 +38,5 @@ pub mod WheresComplete
 pub mod PatternsFronts
 pub mod PatternsParts
 pub mod PatternsBegins
+pub mod PatternsCompletePaths
 pub mod TypesExact
