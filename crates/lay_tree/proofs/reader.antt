@@ -39,4 +39,5 @@ pub mod PatternsFronts
 pub mod PatternsParts
 pub mod PatternsBegins
 pub mod PatternsCompletePaths
+pub mod PatternsCompleteLists
 pub mod TypesExact
