@@ -40,4 +40,5 @@ pub mod PatternsParts
 pub mod PatternsBegins
 pub mod PatternsCompletePaths
 pub mod PatternsCompleteLists
+pub mod PatternsCompleteFields
 pub mod TypesExact
