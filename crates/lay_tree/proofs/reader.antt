@@ -41,4 +41,5 @@ pub mod PatternsBegins
 pub mod PatternsCompletePaths
 pub mod PatternsCompleteLists
 pub mod PatternsCompleteFields
+pub mod PatternsComplete
 pub mod TypesExact
