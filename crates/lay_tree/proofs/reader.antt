@@ -20,6 +20,9 @@ pub mod TypesSoundKinds
 pub mod TypesSound
 pub mod GenericsSound
 pub mod WheresSound
+pub mod PatternsSoundLevel
+pub mod PatternsSoundSpans
+pub mod PatternsSoundBinds
 pub mod Item
 pub mod ItemRead
 pub mod File
