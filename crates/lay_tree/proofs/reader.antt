@@ -23,6 +23,7 @@ pub mod WheresSound
 pub mod PatternsSoundLevel
 pub mod PatternsSoundSpans
 pub mod PatternsSoundBinds
+pub mod PatternsSoundFields
 pub mod Item
 pub mod ItemRead
 pub mod File
