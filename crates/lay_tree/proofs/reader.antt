@@ -24,6 +24,9 @@ pub mod PatternsSoundLevel
 pub mod PatternsSoundSpans
 pub mod PatternsSoundBinds
 pub mod PatternsSoundFields
+pub mod PatternsSoundKinds
+pub mod PatternsSoundRest
+pub mod PatternsSound
 pub mod Item
 pub mod ItemRead
 pub mod File
