@@ -1,19 +1,17 @@
 -- Patterns: what is read within a budget stands there, at the depth that it needs.
-use Rattle.std.proofs.Common.{◌≡◌, ℕ, zero, suc, ◌≤◌, Bool, true, false, not, ◌&&◌, List, [], ◌∷◌, ◌⊎◌, inl, inr, map, drop, codes, Some, if◌then◌else◌, refl, sym, ap, subst, ◌∙◌, arith}
+use Rattle.std.proofs.Common.{◌≡◌, ℕ, zero, suc, ◌≤◌, Bool, true, false, not, List, [], ◌∷◌, inl, inr, map, drop, codes, Some, if◌then◌else◌, refl, sym, ap, subst, ◌∙◌}
 use Rattle.std.specs.Prelude.{nat_le}
 use Rattle.std.proofs.lemmas.Bool.{and_parts, and_from, leb-true}
 use Rattle.lay_token.specs.Operators.{is_op}
 use Rattle.lay_form.specs.Form.{Blank, Operator, Form, Done, Piece, Part, Optional}
-use Rattle.lay_form.specs.Notation.{B, I0}
+use Rattle.lay_form.specs.Notation.{B}
 use Rattle.lay_form.specs.Spelled.{IsOperator, Spells}
-use Rattle.lay_tree.specs.Ahead.{Tokens, first, closes}
-use Rattle.lay_tree.specs.Begins.{begins_value, is_literal_token}
-use Rattle.lay_tree.specs.Follow.{goes_on_pattern}
+use Rattle.lay_tree.specs.Ahead.{Tokens}
 use Rattle.lay_tree.specs.nodes.Patterns.{PatFacts, PatFront, all_pats_good, pat_facts, pat_follows, pat_form, pat_forms, pat_good, single_follows, about_pat}
-use Rattle.lay_tree.specs.nodes.Types.{deeper, is_several, joined}
+use Rattle.lay_tree.specs.nodes.Types.{joined}
 use Rattle.lay_tree.specs.reader.Exact.{InText}
 use Rattle.lay_tree.specs.reader.Loops.{Read, nodes, deepest}
-use Rattle.lay_tree.specs.reader.Patterns.{PatWithin, alternatives_of, begins_lone_rest, behind_bar, pat_at, pat_by, pat_in, single_at, span}
+use Rattle.lay_tree.specs.reader.Patterns.{PatWithin, alternatives_of, behind_bar, pat_at, pat_in, single_at}
 use Rattle.lay_tree.specs.reader.Types.{chain, within}
 use Rattle.lay_tree.specs.declared.patterns.FieldPat.TheOpen.{Pat-F}
 use Rattle.lay_tree.specs.declared.patterns.Pat.{Pat}
@@ -25,11 +23,11 @@ use Rattle.lay_tree.proofs.Steps.{same_some, chosen, bind_some}
 use Rattle.lay_tree.proofs.nodes.PatternsLaws.{pat_or_is}
 use Rattle.lay_tree.proofs.reader.Loops.{SoundStep}
 use Rattle.lay_tree.proofs.reader.PatternsSoundKinds.{single_by_sound}
-use Rattle.lay_tree.proofs.reader.PatternsSoundLevel.{IsPat, SoundPatWithin, PatHeld, pat_list}
+use Rattle.lay_tree.proofs.reader.PatternsSoundLevel.{SoundPatWithin, PatHeld, pat_list}
 use Rattle.lay_tree.proofs.reader.PatternsSoundRest.{rest_alone}
 use Rattle.lay_tree.proofs.reader.TypesSound.{counted_sound, within_sound}
 use Rattle.lay_tree.proofs.reader.TypesSoundNeeds.{chained}
-use Rattle.lay_tree.proofs.reader.TypesSoundParts.{Out, Leads, bit_texts, BehindOp, Chain, chain_sound}
+use Rattle.lay_tree.proofs.reader.TypesSoundParts.{Out, bit_texts, BehindOp, Chain, chain_sound}
 
 -- ---- alternatives
 

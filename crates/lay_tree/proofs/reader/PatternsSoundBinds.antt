@@ -1,7 +1,6 @@
 -- Names that are bound, and paths in patterns: what is read stands there, where what is one level deeper is read so.
-use Rattle.std.proofs.Common.{◌≡◌, ℕ, suc, ◌≤◌, Bool, true, false, not, ◌&&◌, ◌||◌, List, [], ◌∷◌, inl, inr, map, drop, codes, Option, Some, None, refl, sym, ap, subst, ◌∙◌, arith}
+use Rattle.std.proofs.Common.{◌≡◌, ℕ, suc, Bool, true, false, not, ◌&&◌, ◌||◌, List, [], ◌∷◌, inl, inr, map, drop, codes, Option, Some, None, refl, sym, ap, subst, ◌∙◌, arith}
 use Rattle.std.proofs.lemmas.Bool.{and_from, or_parts}
-use Rattle.lay_piece.specs.declared.kind.Kind.TheVariants as kind
 use Rattle.lay_token.specs.Operators.{is_op}
 use Rattle.lay_form.specs.Form.{Blank, Fixed, Operator, Form, Done, Piece, Part, keyword}
 use Rattle.lay_form.specs.Notation.{when}
@@ -10,11 +9,11 @@ use Rattle.lay_tree.specs.Ahead.{Tokens, first, tail, is_keyword}
 use Rattle.lay_tree.specs.Follow.{Begin, may_follow}
 use Rattle.lay_tree.specs.Words.{is_name, leaf_of}
 use Rattle.lay_tree.specs.nodes.Facts.{Facts}
-use Rattle.lay_tree.specs.nodes.Patterns.{bound_refuses, is_self, may_be_path, pat_facts, pat_good, about_pat}
+use Rattle.lay_tree.specs.nodes.Patterns.{is_self, may_be_path, pat_facts, pat_good, about_pat}
 use Rattle.lay_tree.specs.nodes.Types as types
 use Rattle.lay_tree.specs.nodes.Types.{args_facts, about_args, about_path, about_start, are_none, lone_segment, lone_word, path_facts, start_facts, starts_plain}
 use Rattle.lay_tree.specs.reader.Exact.{InText}
-use Rattle.lay_tree.specs.reader.Patterns.{PatWithin, bind, bound, marked_bind, plain_path, word_pat}
+use Rattle.lay_tree.specs.reader.Patterns.{PatWithin, bind, marked_bind, plain_path, word_pat}
 use Rattle.lay_tree.specs.reader.Types.{flag}
 use Rattle.lay_tree.specs.reader.Words.{name}
 use Rattle.lay_tree.specs.declared.patterns.FieldPat.TheOpen.{Pat-F}
@@ -27,7 +26,6 @@ use Rattle.lay_tree.specs.declared.types.Arg.{Arg}
 use Rattle.lay_tree.specs.declared.types.Arg.TheOpen.{Args-F, PathStart-F}
 use Rattle.lay_tree.specs.declared.types.Arg.TheViews as views
 use Rattle.lay_tree.specs.declared.types.Args.{Args}
-use Rattle.lay_tree.specs.declared.types.Args.TheVariants as args
 use Rattle.lay_tree.specs.declared.types.Bound.{Bound}
 use Rattle.lay_tree.specs.declared.types.Constraint.{Constraint}
 use Rattle.lay_tree.specs.declared.types.FuncParam.{FuncParam}

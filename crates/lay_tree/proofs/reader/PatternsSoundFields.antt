@@ -1,5 +1,5 @@
 -- Fields in patterns, and what stands behind a path: what is read stands there, where what is one level deeper is read so.
-use Rattle.std.proofs.Common.{◌≡◌, ℕ, suc, ◌≤◌, max, Bool, true, false, not, ◌&&◌, ◌||◌, List, [], ◌∷◌, ◌++◌, inl, inr, map, drop, codes, Option, Some, None, if◌then◌else◌, refl, sym, ap, subst, ◌∙◌, append-nil, arith}
+use Rattle.std.proofs.Common.{◌≡◌, ℕ, suc, ◌≤◌, max, Bool, true, false, not, ◌&&◌, List, [], ◌∷◌, ◌++◌, inl, inr, map, drop, codes, Some, None, if◌then◌else◌, refl, sym, subst, ◌∙◌, append-nil, arith}
 use Rattle.std.proofs.lemmas.Bool.{and_parts, and_from}
 use Rattle.lay_piece.specs.declared.kind.Delim.TheVariants.{Paren, Brace}
 use Rattle.lay_piece.specs.declared.kind.Kind.{Kind}
@@ -13,8 +13,8 @@ use Rattle.lay_tree.specs.Ahead.{Tokens, first, tail, opens, closes}
 use Rattle.lay_tree.specs.Follow.{begins_dots}
 use Rattle.lay_tree.specs.Words.{is_name, leaf_of}
 use Rattle.lay_tree.specs.nodes.Attr.{are_attrs, attr_form, about_attr}
-use Rattle.lay_tree.specs.nodes.Facts.{Facts, forms, all_good}
-use Rattle.lay_tree.specs.nodes.Patterns.{PatFacts, all_pats_good, field_facts, pat_form, pat_forms, pat_good, rest_form, about_pat, about_field_pat}
+use Rattle.lay_tree.specs.nodes.Facts.{forms, all_good}
+use Rattle.lay_tree.specs.nodes.Patterns.{all_pats_good, field_facts, pat_form, pat_forms, pat_good, rest_form, about_pat, about_field_pat}
 use Rattle.lay_tree.specs.nodes.Types.{colon, lone_word}
 use Rattle.lay_tree.specs.reader.Attr.{attributes}
 use Rattle.lay_tree.specs.reader.Exact.{InText}
@@ -36,7 +36,7 @@ use Rattle.lay_tree.specs.declared.types.PathStyle.TheVariants.{Code}
 use Rattle.lay_tree.proofs.Fronts.{opens_one, closer_passed_is}
 use Rattle.lay_tree.proofs.InText.{behind}
 use Rattle.lay_tree.proofs.Parts.{Rows, rows_map, rows_joined, GoodAt, SpelledAt, Further, behind_attrs_spelled, bit_piece, each_comma_spelled, word_kind, leaf_spelled}
-use Rattle.lay_tree.proofs.Steps.{got_same, same_some, chosen, bind_some}
+use Rattle.lay_tree.proofs.Steps.{same_some, chosen, bind_some}
 use Rattle.lay_tree.proofs.nodes.PatternsLaws.{pat_struct_is, pat_tuple_struct_is, field_named_is, field_index_is, field_short_is}
 use Rattle.lay_tree.proofs.reader.Attr.{attributes_sound, attrs_spelled}
 use Rattle.lay_tree.proofs.reader.Exact.{Stands}

@@ -1,21 +1,20 @@
 -- Patterns, kind by kind: what is read stands there, where what is one level deeper is read so.
-use Rattle.std.proofs.Common.{◌≡◌, ℕ, zero, suc, ◌≤◌, Bool, true, false, not, ◌&&◌, ◌||◌, List, [], ◌∷◌, inl, inr, map, drop, codes, Option, option_map, Some, None, refl, sym, ap, subst, ◌∙◌, arith}
+use Rattle.std.proofs.Common.{◌≡◌, ℕ, zero, suc, Bool, true, false, not, ◌&&◌, ◌||◌, List, [], ◌∷◌, inl, inr, map, drop, codes, option_map, Some, None, refl, sym, ap, subst, ◌∙◌, arith}
 use Rattle.std.proofs.lemmas.Bool.{and_parts, and_from}
-use Rattle.lay_piece.specs.Characters as char
 use Rattle.lay_piece.specs.declared.kind.Delim.TheVariants.{Paren, Bracket}
 use Rattle.lay_piece.specs.declared.kind.Kind.{Kind}
 use Rattle.lay_piece.specs.declared.kind.Kind.TheVariants as kind
 use Rattle.lay_token.specs.Operators.{is_op}
-use Rattle.lay_form.specs.Form.{Bit, Blank, Fixed, Operator, Form, Done, Piece, Part, Deeper, punct, keyword, opener, closer}
-use Rattle.lay_form.specs.Notation.{piece, when, comma_list}
+use Rattle.lay_form.specs.Form.{Blank, Fixed, Operator, Form, Done, Piece, Part, Deeper, keyword, opener, closer}
+use Rattle.lay_form.specs.Notation.{piece, comma_list}
 use Rattle.lay_form.specs.Spelled.{IsOne, IsOperator, IsBit, AreBits, Spells}
-use Rattle.lay_form.proofs.FormLaws.{deeper as raise, is_end}
+use Rattle.lay_form.proofs.FormLaws.{is_end}
 use Rattle.lay_tree.specs.Ahead.{Tokens, first, tail, is_keyword, is_mark, opens, closes}
 use Rattle.lay_tree.specs.Begins.{begins_value}
 use Rattle.lay_tree.specs.Follow.{begins_dots, goes_on_pattern}
 use Rattle.lay_tree.specs.Words.{leaf_of}
 use Rattle.lay_tree.specs.nodes.Call.{about_call}
-use Rattle.lay_tree.specs.nodes.Patterns.{PatFacts, all_pats_good, bound_form, one_form, pat_facts, pat_form, pat_forms, pat_good, tuple_form, about_pat, about_field_pat}
+use Rattle.lay_tree.specs.nodes.Patterns.{PatFacts, all_pats_good, bound_form, one_form, pat_facts, pat_form, pat_forms, pat_good, tuple_form, about_pat}
 use Rattle.lay_tree.specs.nodes.Types as types
 use Rattle.lay_tree.specs.reader.Call.{call}
 use Rattle.lay_tree.specs.reader.Exact.{InText}
@@ -26,16 +25,14 @@ use Rattle.lay_tree.specs.declared.patterns.FieldPat.TheOpen.{Pat-F}
 use Rattle.lay_tree.specs.declared.patterns.Pat.{Pat}
 use Rattle.lay_tree.specs.declared.patterns.Pat.TheVariants as pat
 use Rattle.lay_tree.specs.declared.patterns.PatPlace.TheVariants.{Alternatives, Single}
-use Rattle.lay_tree.specs.declared.token.Name.{Name}
 use Rattle.lay_tree.proofs.Fronts.{texts_behind, keyword_one, mark_one, opens_one, closes_one, one_front, mark_passed_is, closer_passed_is}
-use Rattle.lay_tree.proofs.Parts.{Rows, bit_alone}
 use Rattle.lay_tree.proofs.Steps.{same_some, chosen, bind_some}
 use Rattle.lay_tree.proofs.nodes.PatternsLaws.{PatView, IsOr, IsValue, IsWild, IsRest, IsCall, IsPath, IsBind, IsSpan, IsRef, IsStruct, IsTupleStruct, IsTuple, IsParen, IsSlice, pat_view, pat_or_is, pat_value_is, pat_wild_is, pat_rest_is, pat_call_is, pat_path_is, pat_bind_is, pat_span_is, pat_ref_is, pat_struct_is, pat_tuple_struct_is, pat_tuple_is, pat_paren_is, pat_slice_is}
 use Rattle.lay_tree.proofs.reader.Call.{call_sound}
 use Rattle.lay_tree.proofs.reader.Loops.{SoundStep}
 use Rattle.lay_tree.proofs.reader.PatternsSoundBinds.{marked_bind_sound}
 use Rattle.lay_tree.proofs.reader.PatternsSoundFields.{path_pat_sound}
-use Rattle.lay_tree.proofs.reader.PatternsSoundLevel.{IsPat, SoundPatWithin, PatHeld, PatOpen, follows_parts, open_held, open_told, pat_list, shut_open}
+use Rattle.lay_tree.proofs.reader.PatternsSoundLevel.{SoundPatWithin, PatHeld, PatOpen, follows_parts, open_held, open_told, pat_list, shut_open}
 use Rattle.lay_tree.proofs.reader.PatternsSoundSpans.{no_start, span_sound, value_pat_sound}
 use Rattle.lay_tree.proofs.reader.TypesSoundKinds.{bracket_shuts, only_first}
 use Rattle.lay_tree.proofs.reader.TypesSoundNeeds.{list_held, listed}

@@ -10,7 +10,6 @@ use Rattle.lay_tree.specs.Ahead.{Tokens}
 use Rattle.lay_tree.specs.Begins.{begins_span_end}
 use Rattle.lay_tree.specs.Follow.{goes_on_pattern, may_follow}
 use Rattle.lay_tree.specs.nodes.Patterns.{PatFacts, about_pat, all_pats_good, pat_follows, pat_form, pat_forms, pat_good, shut_pat, single_follows}
-use Rattle.lay_tree.specs.nodes.Types as types
 use Rattle.lay_tree.specs.reader.Patterns.{PatWithin, begins_lone_rest}
 use Rattle.lay_tree.specs.declared.patterns.Pat.{Pat}
 use Rattle.lay_tree.specs.declared.patterns.Pat.TheVariants as pat

@@ -1,16 +1,13 @@
 -- A `..` before a `)` is read as a rest alone.
-use Rattle.std.proofs.Common.{◌≡◌, ℕ, zero, suc, Bool, true, false, List, [], ◌∷◌, drop, codes, Some, None, refl, sym, ap, ◌∙◌}
+use Rattle.std.proofs.Common.{◌≡◌, ℕ, zero, suc, Bool, true, false, [], ◌∷◌, drop, codes, Some, refl, sym, ◌∙◌}
 use Rattle.std.proofs.lemmas.Bool.{and_parts}
 use Rattle.lay_piece.specs.declared.kind.Delim.TheVariants.{Paren}
 use Rattle.lay_piece.specs.declared.kind.Kind.{Kind}
 use Rattle.lay_piece.specs.declared.kind.Kind.TheVariants as kind
 use Rattle.lay_token.specs.Operators.{is_op, op_at}
-use Rattle.lay_token.specs.declared.token.Token.{Token}
-use Rattle.lay_token.proofs.Deciding.{bytes_same}
 use Rattle.lay_tree.specs.Ahead.{Tokens, first, closes}
 use Rattle.lay_tree.specs.Begins.{begins_span_end, begins_value, lead_at}
 use Rattle.lay_tree.specs.Follow.{goes_on_pattern}
-use Rattle.lay_tree.specs.reader.Loops.{Read}
 use Rattle.lay_tree.specs.reader.Patterns.{PatWithin, begins_lone_rest, is_underscore, pat_by, single_at, single_by, span}
 use Rattle.lay_tree.specs.declared.patterns.Pat.{Pat}
 use Rattle.lay_tree.specs.declared.patterns.Pat.TheVariants as pat

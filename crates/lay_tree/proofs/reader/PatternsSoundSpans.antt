@@ -1,6 +1,6 @@
 -- Values and spans in patterns: what is read stands there, where the arguments of paths are read so.
-use Rattle.std.proofs.Common.{◌≡◌, ℕ, suc, ◌≤◌, max, Bool, true, false, not, ◌&&◌, ◌||◌, List, [], ◌∷◌, inl, inr, drop, codes, Option, Some, None, is_some, refl, ap, arith}
-use Rattle.std.proofs.lemmas.Bool.{and_from, or_cases}
+use Rattle.std.proofs.Common.{◌≡◌, ℕ, suc, ◌≤◌, max, Bool, true, false, not, ◌&&◌, ◌||◌, List, [], ◌∷◌, inl, inr, drop, codes, Option, Some, None, refl, ap, arith}
+use Rattle.std.proofs.lemmas.Bool.{and_from}
 use Rattle.lay_piece.specs.declared.kind.Kind.{Kind}
 use Rattle.lay_piece.specs.declared.kind.Kind.TheVariants as kind
 use Rattle.lay_token.specs.Operators.{is_op}
@@ -14,7 +14,7 @@ use Rattle.lay_tree.specs.Follow.{begins_dots, may_follow}
 use Rattle.lay_tree.specs.Words.{is_literal, is_number}
 use Rattle.lay_tree.specs.nodes.Patterns.{dots, end_form, end_refuses, first_end, has_ends, is_end, is_value, may_end, pat_facts, value_form, about_pat}
 use Rattle.lay_tree.specs.reader.Exact.{InText}
-use Rattle.lay_tree.specs.reader.Patterns.{closed_span, is_number_token, one_end, open_span, span, value, value_by, value_pat}
+use Rattle.lay_tree.specs.reader.Patterns.{closed_span, is_number_token, one_end, open_span, span, value, value_pat}
 use Rattle.lay_tree.specs.reader.Types.{Within, literal, path}
 use Rattle.lay_tree.specs.declared.patterns.FieldPat.TheOpen.{Pat-F}
 use Rattle.lay_tree.specs.declared.patterns.Pat.{Pat}
