@@ -20,6 +20,13 @@ pub mod TypesSoundKinds
 pub mod TypesSound
 pub mod GenericsSound
 pub mod WheresSound
+pub mod PatternsSoundLevel
+pub mod PatternsSoundSpans
+pub mod PatternsSoundBinds
+pub mod PatternsSoundFields
+pub mod PatternsSoundKinds
+pub mod PatternsSoundRest
+pub mod PatternsSound
 pub mod Item
 pub mod ItemRead
 pub mod File
