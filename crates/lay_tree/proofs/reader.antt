@@ -50,3 +50,4 @@ pub mod PatternsCompleteLists
 pub mod PatternsCompleteFields
 pub mod PatternsComplete
 pub mod TypesExact
+pub mod PatternsExact
