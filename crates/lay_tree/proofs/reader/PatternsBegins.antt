@@ -1,5 +1,5 @@
 -- How patterns begin.
-use Rattle.std.proofs.Common.{◌≡◌, ℕ, suc, ◌≤◌, ◌<◌, Bool, true, false, not, ◌&&◌, List, [], ◌∷◌, ◌++◌, map, length, drop, codes, Option, option_map, Some, None, inl, inr, refl, sym, ap, subst, ◌∙◌, arith}
+use Rattle.std.proofs.Common.{◌≡◌, ℕ, suc, ◌≤◌, ◌<◌, Bool, true, false, not, ◌&&◌, List, [], ◌∷◌, ◌++◌, map, length, codes, Option, option_map, Some, None, inl, inr, refl, sym, ap, subst, arith}
 use Rattle.std.proofs.lemmas.Bool.{and_parts}
 use Rattle.std.specs.Str.{bytes_eq}
 use Rattle.lay_piece.specs.Forms.{opening}
@@ -7,16 +7,16 @@ use Rattle.lay_piece.specs.declared.kind.Delim.{Delim}
 use Rattle.lay_piece.specs.declared.kind.Delim.TheVariants.{Paren, Bracket}
 use Rattle.lay_piece.specs.declared.kind.Kind.TheVariants.{Ident, Underscore, Punct, Opener}
 use Rattle.lay_token.specs.Operators.{is_op}
-use Rattle.lay_form.specs.Form.{Bit, Blank, Fixed, Operator, Form, Done, Piece, Part, LastComma, punct, keyword, opener, closer}
+use Rattle.lay_form.specs.Form.{Blank, Fixed, Operator, Form, Done, Piece, Part, LastComma, punct, keyword, opener, closer}
 use Rattle.lay_form.specs.Notation.{B, when, each, piece, comma_gap, comma_list, braces}
-use Rattle.lay_form.specs.Spelled.{IsOne, IsBit, IsOperator, Spells}
+use Rattle.lay_form.specs.Spelled.{IsOne, IsOperator, Spells}
 use Rattle.lay_form.proofs.FormLaws.{shorter}
-use Rattle.lay_tree.specs.Ahead.{Tokens, first, is_keyword, is_closer, closes}
+use Rattle.lay_tree.specs.Ahead.{Tokens, first, is_closer, closes}
 use Rattle.lay_tree.specs.Begins.{OfPath}
 use Rattle.lay_tree.specs.Words.{is_name, leaf_of}
 use Rattle.lay_tree.specs.nodes.Call.{about_call}
 use Rattle.lay_tree.specs.nodes.Facts.{forms}
-use Rattle.lay_tree.specs.nodes.Patterns.{PatFacts, pat_form, pat_good, pat_forms, all_pats_good, value_form, end_form, is_end, dots, first_end, last_end, may_end, has_ends, bound_form, bound_good, rest_form, tuple_form, one_form, pat_facts, about_pat, about_field_pat}
+use Rattle.lay_tree.specs.nodes.Patterns.{PatFacts, pat_form, pat_good, pat_forms, all_pats_good, value_form, dots, first_end, last_end, may_end, has_ends, bound_form, bound_good, rest_form, tuple_form, one_form, pat_facts, about_pat, about_field_pat}
 use Rattle.lay_tree.specs.nodes.Types.{about_path, is_several, joined}
 use Rattle.lay_tree.specs.reader.Patterns.{begins_lone_rest, behind_bar}
 use Rattle.lay_tree.specs.declared.patterns.FieldPat.TheOpen.{Pat-F}

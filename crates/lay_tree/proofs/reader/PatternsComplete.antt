@@ -1,5 +1,5 @@
 -- Every pattern is read where it is spelled, at each budget from its depth on.
-use Rattle.std.proofs.Common.{◌≡◌, ℕ, zero, suc, ◌≤◌, ◌<◌, max, Bool, true, false, not, ◌&&◌, List, [], ◌∷◌, ◌++◌, map, length, drop, codes, option_map, Some, refl, sym, ap, subst, ◌∙◌, arith}
+use Rattle.std.proofs.Common.{◌≡◌, ℕ, zero, suc, ◌≤◌, ◌<◌, Bool, true, false, not, ◌&&◌, List, [], ◌∷◌, ◌++◌, map, length, drop, codes, option_map, Some, refl, sym, ap, subst, ◌∙◌, arith}
 use Rattle.std.specs.Prelude.{nat_le}
 use Rattle.std.proofs.lemmas.Bool.{and_parts, not-true, le-leb}
 use Rattle.lay_piece.specs.declared.kind.Delim.TheVariants.{Paren, Bracket}
@@ -15,7 +15,7 @@ use Rattle.lay_tree.specs.nodes.Call.{about_call}
 use Rattle.lay_tree.specs.nodes.Facts.{forms, all_good}
 use Rattle.lay_tree.specs.nodes.Patterns.{PatFacts, pat_form, pat_good, pat_follows, pat_forms, all_pats_good, value_form, dots, first_end, last_end, may_end, has_ends, may_be_path, bound_form, bound_good, rest_form, tuple_form, pat_facts, about_pat, about_field_pat}
 use Rattle.lay_tree.specs.nodes.Types.{about_path, is_several, joined, lone_word}
-use Rattle.lay_tree.specs.reader.Loops.{Got, Read, nodes, deepest}
+use Rattle.lay_tree.specs.reader.Loops.{Read, nodes, deepest}
 use Rattle.lay_tree.specs.reader.Patterns.{PatWithin, pat_by, single_by, alternatives_of, behind_bar, pat_in, single_at, pat_at}
 use Rattle.lay_tree.specs.reader.Types.{chain, within}
 use Rattle.lay_tree.specs.declared.patterns.FieldPat.TheOpen.{Pat-F}

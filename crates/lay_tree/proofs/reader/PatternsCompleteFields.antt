@@ -1,6 +1,5 @@
 -- Patterns of structs are read where they are spelled, field by field, where what is one level deeper is read.
-use Rattle.std.proofs.Common.{◌≡◌, ℕ, suc, ◌≤◌, ◌<◌, max, Bool, true, false, not, ◌&&◌, ◌||◌, List, [], ◌∷◌, ◌++◌, map, length, drop, codes, Option, option_map, Some, None, if◌then◌else◌, inl, inr, refl, sym, ap, subst, ◌∙◌, append-nil, arith}
-use Rattle.std.specs.List.{list_all}
+use Rattle.std.proofs.Common.{◌≡◌, ℕ, suc, ◌≤◌, ◌<◌, max, Bool, true, false, not, ◌&&◌, ◌||◌, List, [], ◌∷◌, ◌++◌, map, length, drop, codes, Some, None, if◌then◌else◌, inl, inr, refl, sym, ap, subst, ◌∙◌, append-nil, arith}
 use Rattle.std.proofs.lemmas.Bool.{and_parts}
 use Rattle.std.proofs.lemmas.List.Folds.{list_all-map}
 use Rattle.lay_piece.specs.Forms.{opening, closing}
@@ -12,21 +11,20 @@ use Rattle.lay_form.specs.Form.{Blank, Fixed, Operator, Form, Done, Piece, Leaf,
 use Rattle.lay_form.specs.Notation.{when, each, piece, comma_gap, braces, behind_attrs}
 use Rattle.lay_form.specs.Spelled.{IsOne, IsOperator, AreBits, Spells}
 use Rattle.lay_form.proofs.FormLaws.{shorter}
-use Rattle.lay_tree.specs.Ahead.{Tokens, first, tail, is_mark, opens, closes}
+use Rattle.lay_tree.specs.Ahead.{Tokens, first, is_mark, opens, closes}
 use Rattle.lay_tree.specs.Begins.{OfPath}
 use Rattle.lay_tree.specs.Words.{is_name, leaf_of}
 use Rattle.lay_tree.specs.nodes.Attr.{are_attrs, attr_form, about_attr}
 use Rattle.lay_tree.specs.nodes.Facts.{Facts, forms, all_good}
-use Rattle.lay_tree.specs.nodes.Patterns.{PatFacts, pat_form, pat_good, bound_form, rest_form, field_facts, pat_facts, about_pat, about_field_pat}
+use Rattle.lay_tree.specs.nodes.Patterns.{PatFacts, pat_form, pat_good, rest_form, pat_facts, about_pat, about_field_pat}
 use Rattle.lay_tree.specs.nodes.Types.{about_path, colon}
-use Rattle.lay_tree.specs.reader.Attr.{begins_attr, attributes}
-use Rattle.lay_tree.specs.reader.Loops.{Got, Read, passed, nodes, deepest, open_elements_from, open_elements}
-use Rattle.lay_tree.specs.reader.Patterns.{PatWithin, index, field_name, field_by, one_field, begins_field, fields, path_by, pat_by}
-use Rattle.lay_tree.specs.reader.Types.{operator}
+use Rattle.lay_tree.specs.reader.Attr.{begins_attr}
+use Rattle.lay_tree.specs.reader.Loops.{passed, nodes, deepest, open_elements_from, open_elements}
+use Rattle.lay_tree.specs.reader.Patterns.{PatWithin, index, field_name, field_by, one_field, begins_field, fields, path_by}
 use Rattle.lay_tree.specs.reader.Words.{name}
 use Rattle.lay_tree.specs.declared.attr.Attr.{Attr}
 use Rattle.lay_tree.specs.declared.patterns.FieldPat.{FieldPat}
-use Rattle.lay_tree.specs.declared.patterns.FieldPat.TheOpen.{FieldPat-F, Pat-F}
+use Rattle.lay_tree.specs.declared.patterns.FieldPat.TheOpen.{Pat-F}
 use Rattle.lay_tree.specs.declared.patterns.FieldPat.TheVariants as field
 use Rattle.lay_tree.specs.declared.patterns.Pat.{Pat}
 use Rattle.lay_tree.specs.declared.patterns.Pat.TheVariants as pat
@@ -34,7 +32,7 @@ use Rattle.lay_tree.specs.declared.patterns.PatPlace.TheVariants.{Alternatives, 
 use Rattle.lay_tree.specs.declared.token.Name.{Name}
 use Rattle.lay_tree.specs.declared.types.Path.{Path}
 use Rattle.lay_tree.specs.declared.types.PathStyle.TheVariants.{Code}
-use Rattle.lay_tree.proofs.Fronts.{one_front, one_no_op, one_shorter, op_test, closer_first, closer_passed}
+use Rattle.lay_tree.proofs.Fronts.{one_front, one_no_op, one_shorter, closer_first, closer_passed}
 use Rattle.lay_tree.proofs.Parts.{Rows, GoodAt, behind_attrs_rows, bit_alone, behind_blank, before_blank, piece_bit, part_alone, word_kind, leaf_parts}
 use Rattle.lay_tree.proofs.nodes.PatternsLaws.{PatView, IsOr, IsValue, IsWild, IsRest, IsCall, IsPath, IsBind, IsSpan, IsRef, IsStruct, IsTupleStruct, IsTuple, IsParen, IsSlice, FieldPatView, IsNamed, IsIndex, IsShort, pat_view, field_pat_view, pat_or_is, pat_value_is, pat_wild_is, pat_rest_is, pat_call_is, pat_path_is, pat_bind_is, pat_span_is, pat_ref_is, pat_struct_is, pat_tuple_struct_is, pat_tuple_is, pat_paren_is, pat_slice_is, field_named_is, field_index_is, field_short_is}
 use Rattle.lay_tree.proofs.reader.Attr.{attrs_rows}
@@ -42,7 +40,7 @@ use Rattle.lay_tree.proofs.reader.AttrRead.{attributes_complete}
 use Rattle.lay_tree.proofs.reader.Exact.{IsRead}
 use Rattle.lay_tree.proofs.reader.PatternsBegins.{single_begins}
 use Rattle.lay_tree.proofs.reader.PatternsCompletePaths.{PatReads, Made, path_there}
-use Rattle.lay_tree.proofs.reader.PatternsFronts.{Front, kind_front, lead_front, ends_fits}
+use Rattle.lay_tree.proofs.reader.PatternsFronts.{kind_front, lead_front, ends_fits}
 use Rattle.lay_tree.proofs.reader.TypesBegins.{opened}
 use Rattle.lay_tree.proofs.reader.TypesComplete.{and_none, operator_read, name_is_word}
 use Rattle.lay_tree.proofs.reader.TypesCompleteKinds.{last_part}

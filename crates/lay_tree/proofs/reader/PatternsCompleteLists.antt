@@ -1,21 +1,21 @@
 -- Patterns in parentheses and brackets are read where they are spelled, where what is one level deeper is read.
-use Rattle.std.proofs.Common.{◌≡◌, ℕ, suc, ◌≤◌, ◌<◌, max, Bool, true, false, not, ◌&&◌, List, [], ◌∷◌, map, length, drop, codes, Some, None, if◌then◌else◌, refl, sym, ap, subst, ◌∙◌, arith}
+use Rattle.std.proofs.Common.{◌≡◌, ℕ, suc, ◌≤◌, ◌<◌, max, Bool, true, false, List, [], ◌∷◌, map, length, codes, Some, refl, sym, ap, subst, ◌∙◌, arith}
 use Rattle.std.specs.List.{list_all}
-use Rattle.std.proofs.lemmas.Bool.{and_parts, not-true}
+use Rattle.std.proofs.lemmas.Bool.{and_parts}
 use Rattle.std.proofs.lemmas.List.Folds.{list_all-map}
 use Rattle.lay_piece.specs.Forms.{opening, closing}
 use Rattle.lay_piece.specs.declared.kind.Delim.{Delim}
-use Rattle.lay_piece.specs.declared.kind.Delim.TheVariants.{Paren, Bracket, Brace}
+use Rattle.lay_piece.specs.declared.kind.Delim.TheVariants.{Paren, Bracket}
 use Rattle.lay_piece.specs.declared.kind.Kind.TheVariants.{Punct, Opener, Closer}
 use Rattle.lay_token.specs.Operators.{is_op}
-use Rattle.lay_form.specs.Form.{Bit, Fixed, Operator, Form, Done, Piece, Part, punct, opener, closer, comma}
-use Rattle.lay_form.specs.Notation.{each, piece, comma_gap, comma_list}
-use Rattle.lay_form.specs.Spelled.{IsOne, IsBit, IsOperator, MayBe, Spells}
-use Rattle.lay_tree.specs.Ahead.{Tokens, first, tail, is_mark, is_opener, is_closer, opens, closes}
+use Rattle.lay_form.specs.Form.{Bit, Fixed, Operator, Form, Done, Piece, Part, opener, closer}
+use Rattle.lay_form.specs.Notation.{piece, comma_list}
+use Rattle.lay_form.specs.Spelled.{IsOne, IsBit, IsOperator, Spells}
+use Rattle.lay_tree.specs.Ahead.{Tokens, first, tail, is_mark, is_closer, opens, closes}
 use Rattle.lay_tree.specs.Begins.{begins_value}
 use Rattle.lay_tree.specs.Follow.{begins_dots}
 use Rattle.lay_tree.specs.nodes.Patterns.{PatFacts, pat_form, pat_good, pat_forms, all_pats_good, tuple_form, one_form, pat_facts, about_pat}
-use Rattle.lay_tree.specs.nodes.Types.{deeper, about_path}
+use Rattle.lay_tree.specs.nodes.Types.{about_path}
 use Rattle.lay_tree.specs.reader.Loops.{Read, nodes, deepest, elements}
 use Rattle.lay_tree.specs.reader.Patterns.{PatWithin, begins_lone_rest, tuple_of, paren_by, paren_pat, slice_pat, is_underscore, path_by, pat_by}
 use Rattle.lay_tree.specs.declared.patterns.FieldPat.TheOpen.{Pat-F}
@@ -31,7 +31,6 @@ use Rattle.lay_tree.proofs.reader.Exact.{IsRead}
 use Rattle.lay_tree.proofs.reader.PatternsBegins.{starts}
 use Rattle.lay_tree.proofs.reader.PatternsCompletePaths.{PatReads, Made, path_there}
 use Rattle.lay_tree.proofs.reader.PatternsFronts.{ends_fits}
-use Rattle.lay_tree.proofs.reader.TypesBegins.{list_front}
 use Rattle.lay_tree.proofs.reader.TypesComplete.{and_none, deeper_parts}
 use Rattle.lay_tree.proofs.reader.TypesCompleteParts.{one_left}
 use Rattle.lay_tree.proofs.reader.TypesFronts.{Ends, comma_ends, closer_ends}

@@ -1,7 +1,6 @@
 -- Patterns without a list within them are read where they are spelled, where what is one level deeper is read: values, spans,
 -- names, paths, macro calls and references.
-use Rattle.std.proofs.Common.{◌≡◌, ℕ, suc, ◌≤◌, Bool, true, false, not, ◌&&◌, ◌||◌, List, [], ◌∷◌, map, length, drop, codes, Option, option_map, Some, None, is_some, if◌then◌else◌, refl, sym, ap, subst, ◌∙◌, arith}
-use Rattle.std.specs.Str.{bytes_eq}
+use Rattle.std.proofs.Common.{◌≡◌, ℕ, suc, ◌≤◌, Bool, true, false, not, ◌&&◌, ◌||◌, List, [], ◌∷◌, codes, Option, option_map, Some, None, refl, sym, ap, subst, ◌∙◌, arith}
 use Rattle.std.proofs.lemmas.Bool.{and_parts, not-true}
 use Rattle.lay_piece.specs.declared.kind.Delim.TheVariants.{Paren, Bracket, Brace}
 use Rattle.lay_piece.specs.declared.kind.Kind.TheVariants.{Ident, Underscore, Punct}
@@ -9,17 +8,16 @@ use Rattle.lay_token.specs.Operators.{is_op}
 use Rattle.lay_form.specs.Form.{Blank, Fixed, Operator, Form, Done, Piece, Part, keyword}
 use Rattle.lay_form.specs.Notation.{when}
 use Rattle.lay_form.specs.Spelled.{IsOne, IsOperator, Spells}
-use Rattle.lay_tree.specs.Ahead.{Tokens, first, tail, is_keyword, is_mark, is_opener, opens}
+use Rattle.lay_tree.specs.Ahead.{Tokens, first, is_keyword, is_mark, is_opener, opens}
 use Rattle.lay_tree.specs.Begins.{OfPath, begins_value, begins_span_end}
-use Rattle.lay_tree.specs.Follow.{OfBang, may_follow, begins_dots}
+use Rattle.lay_tree.specs.Follow.{may_follow, begins_dots}
 use Rattle.lay_tree.specs.Words.{is_name, is_literal, leaf_of}
 use Rattle.lay_tree.specs.nodes.Call.{about_call}
 use Rattle.lay_tree.specs.nodes.Facts.{Facts}
-use Rattle.lay_tree.specs.nodes.Patterns.{PatFacts, pat_form, pat_good, value_form, is_value, dots, first_end, last_end, may_end, last_end_refuses, has_ends, is_self, may_be_path, bound_form, bound_good, pat_facts, about_pat}
+use Rattle.lay_tree.specs.nodes.Patterns.{PatFacts, pat_form, pat_good, value_form, is_value, dots, first_end, last_end, may_end, has_ends, is_self, may_be_path, bound_form, bound_good, pat_facts, about_pat}
 use Rattle.lay_tree.specs.nodes.Types.{ArgsFacts, PathFacts, about_path, about_start, about_args, starts_plain, are_none, lone_word}
-use Rattle.lay_tree.specs.reader.Loops.{Read}
 use Rattle.lay_tree.specs.reader.Patterns.{PatWithin, span, value_pat, bind, begins_bind, marked_bind, word_pat, path_by, path_pat, ref_pat, is_underscore, pat_by}
-use Rattle.lay_tree.specs.reader.Types.{flag, begins_call}
+use Rattle.lay_tree.specs.reader.Types.{flag}
 use Rattle.lay_tree.specs.declared.patterns.FieldPat.TheOpen.{Pat-F}
 use Rattle.lay_tree.specs.declared.patterns.Pat.{Pat}
 use Rattle.lay_tree.specs.declared.patterns.Pat.TheVariants as pat

@@ -1,22 +1,19 @@
 -- What stands behind patterns, and what their first tokens tell.
-use Rattle.std.proofs.Common.{◌≡◌, ℕ, suc, ◌≤◌, ◌<◌, Bool, true, false, not, ◌&&◌, ◌||◌, List, [], ◌∷◌, map, length, drop, codes, Option, Some, None, if◌then◌else◌, inl, inr, refl, sym, ap, subst, ◌∙◌, arith}
+use Rattle.std.proofs.Common.{◌≡◌, ℕ, ◌<◌, Bool, true, false, not, ◌&&◌, ◌||◌, List, [], ◌∷◌, map, length, codes, Some, inl, inr, refl, sym, ap, subst, ◌∙◌}
 use Rattle.std.specs.Prelude.{◌==◌}
 use Rattle.std.specs.Str.{bytes_eq}
-use Rattle.std.proofs.lemmas.Bool.{and_parts, and_from, cases_Bool, not-true, false_from_ne_true}
-use Rattle.lay_piece.specs.Forms.{opening}
+use Rattle.std.proofs.lemmas.Bool.{and_parts, cases_Bool, not-true, false_from_ne_true}
 use Rattle.lay_piece.specs.declared.kind.Delim.{Delim}
 use Rattle.lay_piece.specs.declared.kind.Delim.TheVariants.{Paren, Bracket, Brace}
 use Rattle.lay_piece.specs.declared.kind.Kind.{Kind}
-use Rattle.lay_piece.specs.declared.kind.Kind.TheVariants as kind
-use Rattle.lay_piece.specs.declared.kind.Kind.TheVariants.{Ident, RawIdent, Lifetime, Underscore, Punct, Opener, Closer}
+use Rattle.lay_piece.specs.declared.kind.Kind.TheVariants.{Ident, Underscore, Punct, Opener, Closer}
 use Rattle.lay_token.specs.Lexes.{is_punct}
 use Rattle.lay_token.specs.Operators.{is_op}
-use Rattle.lay_token.specs.declared.token.Token.{Token}
 use Rattle.lay_token.proofs.Deciding.{bytes_same}
 use Rattle.lay_form.specs.Spelled.{IsOne}
 use Rattle.lay_tree.specs.Ahead.{Tokens, first, tail, is_ident, is_keyword, is_mark, is_opener, is_closer, opens, closes, opens_args_late}
-use Rattle.lay_tree.specs.Begins.{Lead, OfPath, OfReference, lead_by, lead_of_punct, lead_at, is_literal_token, begins_value, begins_span_end}
-use Rattle.lay_tree.specs.Follow.{Begin, OfRename, OfArgs, OfCodeArgs, OfArrow, OfColons, OfBang, begins_there, may_follow, begins_dots, goes_on_pattern}
+use Rattle.lay_tree.specs.Begins.{Lead, OfPath, OfReference, lead_by, lead_at, begins_value, begins_span_end}
+use Rattle.lay_tree.specs.Follow.{OfRename, OfArgs, OfCodeArgs, OfArrow, OfColons, OfBang, may_follow, begins_dots, goes_on_pattern}
 use Rattle.lay_tree.specs.Words.{is_literal}
 use Rattle.lay_tree.specs.nodes.Patterns.{PatFacts, single_follows, pat_follows}
 use Rattle.lay_tree.specs.nodes.Types.{ArgsFacts, PathFacts, segment_good, segments_good, segments_refuse, about_path, about_args}
@@ -28,7 +25,7 @@ use Rattle.lay_tree.specs.declared.types.Args.{Args}
 use Rattle.lay_tree.specs.declared.types.Path.{Path}
 use Rattle.lay_tree.specs.declared.types.PathStyle.TheVariants.{Code}
 use Rattle.lay_tree.proofs.Follow.{Quiet, quiet_follows}
-use Rattle.lay_tree.proofs.Fronts.{mark_one, one_front, one_no_op, one_test, op_front, op_test, other_op}
+use Rattle.lay_tree.proofs.Fronts.{mark_one, one_front, one_no_op, one_test, op_test, other_op}
 use Rattle.lay_tree.proofs.nodes.TypesLaws.{ArgsView, IsNone, IsAngle, IsRound, about_segment, args_view, args_none_is, args_angle_is, args_round_is, path_is}
 use Rattle.lay_tree.proofs.reader.TypesBegins.{path_goods}
 use Rattle.lay_tree.proofs.reader.TypesCompleteParts.{none_left, none_right}

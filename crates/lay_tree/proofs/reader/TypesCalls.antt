@@ -1,5 +1,5 @@
 -- A path that isn't a macro call's begins none.
-use Rattle.std.proofs.Common.{◌≡◌, ℕ, zero, suc, ◌≤◌, ◌<◌, Bool, true, false, not, ◌&&◌, List, [], ◌∷◌, ◌++◌, map, length, drop, codes, Some, None, refl, ap, subst, ◌∙◌}
+use Rattle.std.proofs.Common.{◌≡◌, ℕ, zero, suc, Bool, true, false, not, ◌&&◌, List, [], ◌∷◌, ◌++◌, map, length, drop, codes, Some, None, refl, ap, subst, ◌∙◌}
 use Rattle.std.proofs.lemmas.Bool.{and_parts}
 use Rattle.lay_piece.specs.Forms.{opening}
 use Rattle.lay_piece.specs.declared.kind.Delim.TheVariants.{Paren}
@@ -15,7 +15,7 @@ use Rattle.lay_tree.specs.nodes.Types as types
 use Rattle.lay_tree.specs.nodes.Types.{in_style, segment_form, segments_form, segment_good, segments_good, about_path, about_start, about_args}
 use Rattle.lay_tree.specs.reader.Loops.{Got, ◌>>=◌, repeat_from, repeat}
 use Rattle.lay_tree.specs.reader.SimplePath.{begins_colons, further_word, simple_path}
-use Rattle.lay_tree.specs.reader.Types.{path, begins_call}
+use Rattle.lay_tree.specs.reader.Types.{begins_call}
 use Rattle.lay_tree.specs.reader.Words.{word, global}
 use Rattle.lay_tree.specs.declared.simple_path.SimplePath.{SimplePath}
 use Rattle.lay_tree.specs.declared.token.Word.{Word}

@@ -26,7 +26,7 @@ use Rattle.lay_tree.specs.tokens.Lexed.{is_token_list}
 use Rattle.lay_tree.specs.tokens.Lists.{token_list, ended_by, ends_in_line}
 use Rattle.lay_tree.specs.tokens.Pairs.{at_start}
 use Rattle.lay_tree.specs.reader.Attr.{begins_attr}
-use Rattle.lay_tree.specs.reader.Loops.{Read, ◌>>=◌, passed, nodes, deepest, elements, open_elements_from, open_elements}
+use Rattle.lay_tree.specs.reader.Loops.{Read, passed, nodes, deepest, elements, open_elements_from, open_elements}
 use Rattle.lay_tree.specs.reader.Tokens.{tokens}
 use Rattle.lay_tree.specs.reader.Types.{Within, flag, path, bounds_by, begins_call, path_type, paren_by, paren_type, array_by, bracket_type, reference_type, is_mutable, pointer_type, bounds_type, is_string_token, func_param, begins_param, func_params, func_type, type_by, within, type_at}
 use Rattle.lay_tree.specs.declared.token.GivenName.{GivenName}
