@@ -47,10 +47,6 @@ none_both true true h e = absurd (cc)
 none_both true false h e = refl
 none_both false b h e = absurd (cc)
 
-both_none : (a b : Bool) → (a ≡ true → b ≡ false) → not (a && b) ≡ true
-both_none true b h = rw (h refl) refl
-both_none false b h = refl
-
 pub single_parts : (x : PatFacts) (ts : Tokens) → single_follows x ts ≡ true → Follows x ts
 single_parts x ts h =
     let p = and_parts (not (goes_on_pattern ts) && not (x.lacks_end && begins_span_end ts) && not (x.lacks_bound && is_op (codes "@") ts))
