@@ -1,5 +1,5 @@
 -- One step of a reader, from what the readers within it give.
-use Rattle.std.proofs.Common.{◌≡◌, ℕ, Bool, true, false, ◌&&◌, if◌then◌else◌, List, [], ◌∷◌, ◌++◌, map, drop, codes, encode_utf8_all, Option, Some, None, Result, not, refl, sym, ap, ◌∙◌, Ok, Err}
+use Rattle.std.proofs.Common.{◌≡◌, ℕ, Bool, true, false, ◌&&◌, if◌then◌else◌, List, [], ◌∷◌, ◌++◌, map, drop, codes, encode_utf8_all, Option, Some, None, Result, not, refl, sym, ap, ◌∙◌, arith, Ok, Err}
 use Rattle.std.specs.Str.{chars}
 use Rattle.std.proofs.lemmas.Bool.{false≢true}
 use Rattle.lay_token.specs.Delimiters.{is_closer}
@@ -58,7 +58,7 @@ module _ {A : Type 0} (one : Tokens → Got A) (Front : A → Tokens → ℕ →
   none_read NoReading h =
       let here : one ts ≡ None = ap one (sym e) ∙ h in (
         refl,
-        λ node n f. let c = exact.complete node ts n 0 f in let nothing : needless one 0 ts ≡ None =
+        λ node n f. let c = exact.complete node ts n 0 f 0 (omega arith) in let nothing : needless one 0 ts ≡ None =
             rw here refl in absurd (cc (c.2)),
       )
   none_read NoMemory h = refl

@@ -5,3 +5,4 @@ pub mod Use
 pub mod Item
 pub mod Tokens
 pub mod Types
+pub mod Patterns

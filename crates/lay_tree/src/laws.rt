@@ -7,6 +7,7 @@ ghost use Rattle.lay_tree.specs.nodes.Call.{about_call, about_group};
 ghost use Rattle.lay_tree.specs.nodes.Facts.{Front};
 ghost use Rattle.lay_tree.specs.nodes.Generics.{GenericsAt, GenericsFront};
 ghost use Rattle.lay_tree.specs.nodes.Item.{about_item};
+ghost use Rattle.lay_tree.specs.nodes.Patterns.{PatFront, about_pat};
 ghost use Rattle.lay_tree.specs.nodes.SimplePath.{about_simple_path};
 ghost use Rattle.lay_tree.specs.nodes.Types.{BoundsFront, TypeFront, about_args, about_path, about_type, alone, in_style};
 ghost use Rattle.lay_tree.specs.nodes.Use.{about_use};
@@ -16,6 +17,7 @@ ghost use Rattle.lay_tree.specs.reader.Call.{call};
 ghost use Rattle.lay_tree.specs.reader.Exact.{Exact, needless};
 ghost use Rattle.lay_tree.specs.reader.Generics.{generics_at};
 ghost use Rattle.lay_tree.specs.reader.Item.{item_at};
+ghost use Rattle.lay_tree.specs.reader.Patterns.{pat_at};
 ghost use Rattle.lay_tree.specs.reader.SimplePath.{simple_path};
 ghost use Rattle.lay_tree.specs.reader.Tokens.{group};
 ghost use Rattle.lay_tree.specs.reader.Types.{args_at, bounds_at, path_at, type_at};
@@ -26,6 +28,8 @@ ghost use Rattle.lay_tree.specs.declared.file.File.{File};
 ghost use Rattle.lay_tree.specs.declared.generics.Generics.{Generics};
 ghost use Rattle.lay_tree.specs.declared.generics.Wheres.{Wheres};
 ghost use Rattle.lay_tree.specs.declared.item.Item.{Item};
+ghost use Rattle.lay_tree.specs.declared.patterns.Pat.{Pat};
+ghost use Rattle.lay_tree.specs.declared.patterns.PatPlace.{PatPlace};
 ghost use Rattle.lay_tree.specs.declared.simple_path.SimplePath.{SimplePath};
 ghost use Rattle.lay_tree.specs.declared.tokens.Group.{Group};
 ghost use Rattle.lay_tree.specs.declared.tokens.MacroCall.{MacroCall};
@@ -49,6 +53,7 @@ pub fn reading_law()
     ensures bounds { Exact bounds_at (λ (x : List Bound). BoundsFront x) }
     ensures generics { Exact generics_at (λ (x : Generics × Bool). GenericsAt x.1 x.0) }
     ensures wheres { Exact wheres_at (λ (x : Wheres × Bool). WheresAt x.1 x.0) }
+    ensures pats { (place : PatPlace) → Exact (pat_at place) (λ (x : Pat). PatFront place (about_pat x)) }
     ensures use_trees { Exact use_at (λ (x : UseTree). Front (about_use x)) }
     ensures items { Exact item_at (λ (x : Item). Front (about_item x)) }
 {}
@@ -77,6 +82,8 @@ pub fn node_law()
         → GenericsFront node ts n depth → GenericsFront other ts m depth → (node ≡ other) × (n ≡ m) }
     ensures one_wheres { (node other : Wheres) (ts : List Token) (n m depth : ℕ)
         → WheresFront node ts n depth → WheresFront other ts m depth → (node ≡ other) × (n ≡ m) }
+    ensures one_pat { (node other : Pat) (place : PatPlace) (ts : List Token) (n m depth : ℕ)
+        → PatFront place (about_pat node) ts n depth → PatFront place (about_pat other) ts m depth → (node ≡ other) × (n ≡ m) }
     ensures one_use { (node other : UseTree) (ts : List Token) (n m depth : ℕ)
         → Front (about_use node) ts n depth → Front (about_use other) ts m depth → (node ≡ other) × (n ≡ m) }
     ensures one_item { (node other : Item) (ts : List Token) (n m depth : ℕ)

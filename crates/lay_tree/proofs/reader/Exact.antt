@@ -37,12 +37,12 @@ counted x depth ts rest s =
     (n, dropped, front)
 
 pub exact : {A : Type 0} (about : A → Facts) (read : ℕ → Tokens → Read A) → ((budget : ℕ) → Sound about budget (read budget))
-    → ((depth : ℕ) → Complete about depth (read depth)) → Exact read (λ x. Front (about x))
+    → ((depth budget : ℕ) → depth ≤ budget → Complete about depth (read budget)) → Exact read (λ x. Front (about x))
 exact about read sound complete = record {
   sound = λ budget ts x need rest t h.
       let s = sound budget ts x need rest t h in
       let c = counted (about x) need ts rest s.1 in (c.0, c.1, s.0, c.2);
-  complete = λ x ts n depth f. complete depth x ts (drop n ts) (f.1, f.2, f.3);
+  complete = λ x ts n depth f budget h. complete depth budget h x ts (drop n ts) (f.1, f.2, f.3);
 }
 
 -- a reading of nodes with no nodes within them
@@ -58,16 +58,16 @@ needless_sound {A} about one sound budget ts x need rest t h =
 
 pub needless_complete : {A : Type 0} (about : A → Facts) (one : Tokens → Got A)
     → ((x : A) (depth : ℕ) (ts rest : Tokens) → Stands (about x) depth ts rest → one ts ≡ Some (x, rest))
-    → (depth : ℕ) → Complete about depth (needless one depth)
-needless_complete about one complete depth x ts rest s = (0, omega arith, rw (complete x depth ts rest s) refl)
+    → (depth budget : ℕ) → depth ≤ budget → Complete about depth (needless one budget)
+needless_complete about one complete depth budget h x ts rest s = (0, omega arith, rw (complete x depth ts rest s) refl)
 
 -- One reading gives one node and one count of tokens, where a front is no longer than the tokens.
 pub one_by_reading : {A : Type 0} (Fits : A → Tokens → ℕ → ℕ → Type 0) (read : ℕ → Tokens → Read A)
     → ((x : A) (ts : Tokens) (n depth : ℕ) → Fits x ts n depth → n ≤ length ts) → Exact read Fits
     → (node other : A) (ts : Tokens) (n m depth : ℕ) → Fits node ts n depth → Fits other ts m depth → (node ≡ other) × (n ≡ m)
 one_by_reading {A} Fits read within exactly node other ts n m depth f g =
-    let a = exactly.complete node ts n depth f in
-    let b = exactly.complete other ts m depth g in
+    let a = exactly.complete node ts n depth f depth (omega arith) in
+    let b = exactly.complete other ts m depth g depth (omega arith) in
     let e : ◌≡◌ {A = (A × ℕ) × Tokens} ((node, a.0), drop n ts) ((other, b.0), drop m ts) =
     ap (or_else ((node, a.0), drop n ts)) (sym a.2 ∙ b.2) in
     let left : length (drop n ts) ≡ length (drop m ts) = ap (λ (x : (A × ℕ) × Tokens). length x.1) e in

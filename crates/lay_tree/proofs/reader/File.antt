@@ -1,5 +1,5 @@
 -- Files: what is read of a whole list of tokens is spelled by it, and the only file that is.
-use Rattle.std.proofs.Common.{◌≡◌, ℕ, true, ◌&&◌, List, [], ◌∷◌, ◌++◌, map, inl, inr, Option, Some, None, if◌then◌else◌, refl, sym, ap, subst, ◌∙◌}
+use Rattle.std.proofs.Common.{◌≡◌, ℕ, true, ◌&&◌, List, [], ◌∷◌, ◌++◌, map, inl, inr, Option, Some, None, if◌then◌else◌, refl, sym, ap, subst, ◌∙◌, arith}
 use Rattle.std.proofs.lemmas.Bool.{and_parts, and_from}
 use Rattle.lay_token.specs.declared.token.Token.{Token}
 use Rattle.lay_form.specs.Notation.{lines}
@@ -83,7 +83,7 @@ whole_complete file ts s g =
     (lines_rows (map attr_form file.attrs ++ forms (map about_item file.items)) top ts [] s) in
     let attrs = attrs_rows true top file.attrs ts a.0 a.1 goods.0 in
     let items = rows_good about_item top file.items a.0 [] a.2 goods.1 in
-    let r = items_complete top (item_at top) (item_complete top) file.items a.0 [] items refl in
+    let r = items_complete top (item_at top) (item_complete top top (omega arith)) file.items a.0 [] items refl in
     whole_read ts a.0 file.attrs file.items r.0
     (attributes_complete true file.attrs top ts a.0 attrs (items_begin file.items top a.0 [] items refl)) r.3 r.1
 

@@ -1,5 +1,5 @@
 -- Generic parameters: what is spelled is read, and handed back with the way in which it is spelled.
-use Rattle.std.proofs.Common.{◌≡◌, ℕ, ◌<◌, max, Bool, true, false, not, ◌&&◌, ◌||◌, List, [], ◌∷◌, map, length, drop, codes, Option, Some, None, inl, inr, refl, ◌∙◌, arith}
+use Rattle.std.proofs.Common.{◌≡◌, ℕ, ◌<◌, ◌≤◌, max, Bool, true, false, not, ◌&&◌, ◌||◌, List, [], ◌∷◌, map, length, drop, codes, Option, Some, None, inl, inr, refl, ◌∙◌, arith}
 use Rattle.std.proofs.lemmas.Bool.{and_parts, not-true}
 use Rattle.lay_piece.specs.declared.kind.Kind.TheVariants.{Ident, Punct}
 use Rattle.lay_token.specs.Operators.{is_op}
@@ -16,7 +16,7 @@ use Rattle.lay_tree.specs.nodes.Types.{about_bound, about_type, bounds_form, con
 use Rattle.lay_tree.specs.reader.Attr.{begins_attr}
 use Rattle.lay_tree.specs.reader.Generics.{met_if, type_param, const_default_at, const_param, one_param, generics, generics_at}
 use Rattle.lay_tree.specs.reader.Loops.{Read, nodes, deepest, elements}
-use Rattle.lay_tree.specs.reader.Types.{Within, if_there, if_read, within}
+use Rattle.lay_tree.specs.reader.Types.{Within, if_there, if_read}
 use Rattle.lay_tree.specs.declared.attr.Attr.{Attr}
 use Rattle.lay_tree.specs.declared.generics.ConstDefault.{ConstDefault}
 use Rattle.lay_tree.specs.declared.generics.ConstDefault.TheVariants as const_default
@@ -34,7 +34,6 @@ use Rattle.lay_tree.proofs.reader.AttrRead.{attributes_complete}
 use Rattle.lay_tree.proofs.reader.Exact.{IsRead}
 use Rattle.lay_tree.proofs.reader.TypesComplete.{Reads, quiet_read, operator_read, name_is_word}
 use Rattle.lay_tree.proofs.reader.TypesCompleteAlone.{alone_read}
-use Rattle.lay_tree.proofs.reader.TypesCompleteKinds.{within_reads}
 use Rattle.lay_tree.proofs.reader.TypesCompleteParts.{one_left, colon_operator, const_complete, lifetime_param_complete, lifetime_param_starts, param_attrs_rows, attrs_front, keyword_there}
 use Rattle.lay_tree.proofs.reader.TypesCompletePaths.{all_bounds_read}
 use Rattle.lay_tree.proofs.reader.TypesFronts.{lead_no_lifetime, lead_no_keyword, lead_no_const, lead_no_attr, lead_no_greater, word_lead, Quiet, Ends, free_clear, equals_quiet, equals_no_bound}
@@ -286,9 +285,10 @@ module _ (depth : ℕ) (inner : Within) (reads : Reads depth inner) where
       by (p ∷ ps) h = absurd (cc)
 
 -- Generic parameters by themselves.
-pub generics_complete : (is_spelled : Bool) (g : Generics) (depth : ℕ) (ts rest : Tokens) → Spells (deeper (generics_spelled is_spelled g)) depth ts rest
+pub generics_complete : (is_spelled : Bool) (g : Generics) (depth budget : ℕ) (ts rest : Tokens) → depth ≤ budget
+    → Spells (deeper (generics_spelled is_spelled g)) depth ts rest
     → ((is_spelled || not (is_there g.params)) && is_generics g) ≡ true → generics_follow is_spelled rest ≡ true
-    → IsRead depth (generics_at depth) (g, is_spelled) ts rest
-generics_complete is_spelled g depth ts rest s good f =
-    alone_read generics (g, is_spelled) (generics_spelled is_spelled g) depth ts rest s (λ least t.
-    generics_read least (within least) (within_reads least) is_spelled g ts rest t good f)
+    → IsRead depth (generics_at budget) (g, is_spelled) ts rest
+generics_complete is_spelled g depth budget ts rest h s good f =
+    alone_read generics (g, is_spelled) (generics_spelled is_spelled g) depth budget h ts rest s (λ least inner reads t.
+    generics_read least inner reads is_spelled g ts rest t good f)

@@ -373,11 +373,12 @@ module _ (within : Tokens → Read Item) (tree : Tokens → Read UseTree) where
         let k = kind_complete one.kind p.0 rest p.2 in
         (suc k.0, omega (arith, k.1), item_read one k.0 ts p.0 rest (attributes_complete false one.attrs depth ts p.0 p.1 no_attr) k.2)
 
-pub item_complete : (depth : ℕ) → Complete about_item depth (item_at depth)
+pub item_complete : (depth budget : ℕ) → depth ≤ budget → Complete about_item depth (item_at budget)
 unfolding item_at
-item_complete zero one ts rest s = absurd (item_none one ts rest s.0)
-item_complete (suc depth) one ts rest s =
-    item_by_complete (item_at depth) (use_at depth) depth (item_complete depth) (use_complete depth) one ts rest s
+item_complete zero budget h one ts rest s = absurd (item_none one ts rest s.0)
+item_complete (suc depth) zero h one ts rest s = absurd (omega arith)
+item_complete (suc depth) (suc budget) h one ts rest s =
+    item_by_complete (item_at budget) (use_at budget) depth (item_complete depth budget (omega arith)) (use_complete depth budget (omega arith)) one ts rest s
 
 pub items_exact : Exact item_at (λ (x : Item). Front (about_item x))
 items_exact = exact about_item item_at item_sound item_complete

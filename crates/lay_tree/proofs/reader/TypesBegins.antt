@@ -244,7 +244,7 @@ simple_begins p depth ts rest g s = at p.global p.words g s
           plain = λ n. word_no_given one.raw one.text ts l.0 l.1 (other_op (codes "::") (codes ":") refl l.0 o.0);
         }
 
-call_begins : (c : MacroCall) (depth : ℕ) (ts rest : Tokens) → Spells (about_call c).form depth ts rest → (about_call c).good ≡ true → Begun OfPath ts rest
+pub call_begins : (c : MacroCall) (depth : ℕ) (ts rest : Tokens) → Spells (about_call c).form depth ts rest → (about_call c).good ≡ true → Begun OfPath ts rest
 call_begins c depth ts rest s g =
     let p = simple_begins c.path depth ts s.0 (and_parts (is_simple_path c.path) _ g).0 s.1 in
     let behind : Form = Piece (bang c.tokens.delim) (group_form c.tokens Done) in

@@ -64,7 +64,7 @@ pub fits_clear : (place : TypePlace) (x : TypeFacts) (ts : Tokens) → Fits plac
 fits_clear Bounds x ts f = f.1
 fits_clear NoBounds x ts f = f
 
-and_none : (a : Bool) → (a && false) ≡ false
+pub and_none : (a : Bool) → (a && false) ≡ false
 and_none true = refl
 and_none false = refl
 

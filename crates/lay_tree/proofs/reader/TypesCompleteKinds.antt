@@ -17,180 +17,52 @@ use Rattle.lay_form.proofs.FormLaws.{shorter}
 use Rattle.lay_tree.specs.Ahead.{Tokens, first, tail, is_keyword, is_lifetime, is_mark, is_closer, closes}
 use Rattle.lay_tree.specs.Begins.{OfPath}
 use Rattle.lay_tree.specs.Follow.{OfBang}
-use Rattle.lay_tree.specs.Words.{is_path_word, colons}
 use Rattle.lay_tree.specs.nodes.Attr.{is_empty, are_attrs, about_attr}
 use Rattle.lay_tree.specs.nodes.Call.{about_call}
 use Rattle.lay_tree.specs.nodes.Facts.{Facts, forms, all_good}
 use Rattle.lay_tree.specs.nodes.Types as types
-use Rattle.lay_tree.specs.nodes.Types.{TypeFacts, ArgsFacts, PathFacts, in_style, good_at, all_types_good, type_forms, type_follows, output_form, output_good, output_refuses, bounds_form, bounds_good, last_refuses, is_several, binder_form, is_binder, abi_form, is_abi, segment_form, segments_form, segment_good, segments_good, start_facts, ty_facts, func_param_facts, deeper, tuple_form, pointer_word, ref_lifetime, bounds_word, is_param_name, params_form, dots, param_attrs, about_type, about_path, about_start, about_args, about_bound, about_constraint, about_func_param}
+use Rattle.lay_tree.specs.nodes.Types.{TypeFacts, PathFacts, good_at, all_types_good, type_follows, output_form, output_good, output_refuses, bounds_form, bounds_good, is_several, binder_form, is_binder, abi_form, is_abi, ty_facts, deeper, tuple_form, pointer_word, ref_lifetime, bounds_word, is_param_name, params_form, dots, about_type, about_path, about_bound, about_constraint, about_func_param}
 use Rattle.lay_tree.specs.tokens.Lexed.{is_token_list}
 use Rattle.lay_tree.specs.tokens.Lists.{token_list, ended_by, ends_in_line}
 use Rattle.lay_tree.specs.tokens.Pairs.{at_start}
 use Rattle.lay_tree.specs.reader.Attr.{begins_attr}
-use Rattle.lay_tree.specs.reader.Loops.{Got, Read, ◌>>=◌, passed, nodes, deepest, repeat_from, repeat, elements, open_elements_from, open_elements}
-use Rattle.lay_tree.specs.reader.SimplePath.{begins_colons, further_word, simple_path}
+use Rattle.lay_tree.specs.reader.Loops.{Read, passed, nodes, deepest, elements, open_elements_from, open_elements}
 use Rattle.lay_tree.specs.reader.Tokens.{tokens}
 use Rattle.lay_tree.specs.reader.Types.{Within, flag, path, bounds_by, begins_call, path_type, paren_by, paren_type, array_by, bracket_type, reference_type, is_mutable, pointer_type, bounds_type, is_string_token, func_param, begins_param, func_params, func_type, type_by, within, type_at}
-use Rattle.lay_tree.specs.reader.Words.{word, global}
-use Rattle.lay_tree.specs.declared.simple_path.SimplePath.{SimplePath}
 use Rattle.lay_tree.specs.declared.token.GivenName.{GivenName}
 use Rattle.lay_tree.specs.declared.token.GivenName.TheVariants as given
 use Rattle.lay_tree.specs.declared.token.Lifetime.{Lifetime}
 use Rattle.lay_tree.specs.declared.token.Listed.{Listed}
-use Rattle.lay_tree.specs.declared.token.Word.{Word}
 use Rattle.lay_tree.specs.declared.tokens.MacroCall.{MacroCall}
 use Rattle.lay_tree.specs.declared.types.Abi.{Abi}
 use Rattle.lay_tree.specs.declared.types.Arg.TheOpen.{Ty-F}
-use Rattle.lay_tree.specs.declared.types.Args.{Args}
 use Rattle.lay_tree.specs.declared.types.Binder.{Binder}
 use Rattle.lay_tree.specs.declared.types.Bound.{Bound}
 use Rattle.lay_tree.specs.declared.types.FuncParam.{FuncParam}
 use Rattle.lay_tree.specs.declared.types.Path.{Path}
-use Rattle.lay_tree.specs.declared.types.PathStart.{PathStart}
 use Rattle.lay_tree.specs.declared.types.PathStyle.TheVariants.{Kind as InKind}
 use Rattle.lay_tree.specs.declared.types.Ty.{Ty}
 use Rattle.lay_tree.specs.declared.types.Ty.TheVariants as ty
 use Rattle.lay_tree.specs.declared.types.TypePlace.{TypePlace}
 use Rattle.lay_tree.specs.declared.types.TypePlace.TheVariants.{Bounds, NoBounds}
-use Rattle.lay_tree.proofs.Fronts.{one_front, one_no_op, op_test, other_op, one_shorter, mark_passed, opener_passed, closer_first, closer_passed}
+use Rattle.lay_tree.proofs.Fronts.{one_front, one_no_op, op_test, one_shorter, mark_passed, opener_passed, closer_first, closer_passed}
 use Rattle.lay_tree.proofs.Parts.{Rows, GoodAt, bit_alone, before_blank, piece_bit, part_alone, word_kind, leaf_parts}
-use Rattle.lay_tree.proofs.nodes.TypesLaws.{TyView, IsPath, IsCall, IsParen, IsTuple, IsNever, IsInfer, IsPtr, IsRef, IsSlice, IsArray, IsFunc, IsBounds, PathStartView, IsLocal, IsGlobal, IsQualified, about_segment, type_view, start_view, type_path_is, type_call_is, type_paren_is, type_tuple_is, type_never_is, type_infer_is, type_ptr_is, type_ref_is, type_slice_is, type_array_is, type_func_is, type_bounds_is, start_local_is, start_global_is, start_qualified_is, func_param_is, path_is}
+use Rattle.lay_tree.proofs.nodes.TypesLaws.{TyView, IsPath, IsCall, IsParen, IsTuple, IsNever, IsInfer, IsPtr, IsRef, IsSlice, IsArray, IsFunc, IsBounds, type_view, type_path_is, type_call_is, type_paren_is, type_tuple_is, type_never_is, type_infer_is, type_ptr_is, type_ref_is, type_slice_is, type_array_is, type_func_is, type_bounds_is, func_param_is, path_is}
 use Rattle.lay_tree.proofs.reader.AttrRead.{attributes_complete}
 use Rattle.lay_tree.proofs.reader.Call.{call_complete}
 use Rattle.lay_tree.proofs.reader.Exact.{IsRead}
-use Rattle.lay_tree.proofs.reader.SimplePath.{simple_path_complete}
 use Rattle.lay_tree.proofs.reader.Tokens.{row_tokens}
-use Rattle.lay_tree.proofs.reader.TypesBegins.{good_of, ArgsFront, OfNothing, OfLess, OfLate, OfRound, lead_of, args_front, path_parts, path_goods, type_begins}
+use Rattle.lay_tree.proofs.reader.TypesBegins.{good_of, lead_of, type_begins}
+use Rattle.lay_tree.proofs.reader.TypesCalls.{path_no_call, call_there}
 use Rattle.lay_tree.proofs.reader.TypesComplete.{Fits, fits_clear, follows_fits, Reads, quiet_read, output_read, TypesRead, type_starts, types_goods}
 use Rattle.lay_tree.proofs.reader.TypesCompleteParts.{keyword_there, one_left, blank_left, lifetime_complete, lifetime_alone, flag_complete, binder_complete, abi_complete, param_attrs_rows, attrs_front, param_name_complete}
 use Rattle.lay_tree.proofs.reader.TypesCompletePaths.{path_read, bounds_read, constraint_read}
-use Rattle.lay_tree.proofs.reader.TypesFronts.{no_other_op, lead_no_closer, lead_no_lifetime, lead_no_keyword, lead_no_attr, lead_no_dots, Clear, Ends, comma_ends, closer_ends, semicolon_quiet}
+use Rattle.lay_tree.proofs.reader.TypesFronts.{lead_no_closer, lead_no_lifetime, lead_no_keyword, lead_no_attr, lead_no_dots, Clear, Ends, comma_ends, closer_ends, semicolon_quiet}
 use Rattle.lay_tree.proofs.reader.TypesLists.{forms_of, paren_closes, some_read, none_read, LastFollows, Ending, open_read}
-use Rattle.lay_tree.proofs.reader.Words.{word_complete, word_no_op}
 use Rattle.lay_tree.proofs.token_lists.Spelling.{IsRow, list_row}
 
 pub inner_of : (f : Form) (depth : ℕ) (ts rest : Tokens) → Spells (deeper f) (suc depth) ts rest → Spells f depth ts rest
 inner_of f depth ts rest s = subst (λ us. Spells f depth ts us) s.2 s.1
-
--- ---- paths and macro calls
-
--- a `!` behind what was read
-abbrev bang_behind : {A : Type 0} → Got A → Bool
-bang_behind None = false
-bang_behind (Some x) = is_op (codes "!") x.1
-
-call_test : (ts : Tokens) → begins_call ts ≡ bang_behind (simple_path ts)
-call_test ts = by (simple_path ts)
-  where
-    by : (o : Got SimplePath) → elim o [ None ↦ false | Some p ↦ is_op (codes "!") p.1 ] ≡ bang_behind o
-    by None = refl
-    by (Some p) = refl
-
--- what stands behind a segment
-abbrev Next : List (Word × Args) → Form
-Next [] = Done
-Next (s ∷ more) = Piece colons (segments_form InKind (map about_segment (s ∷ more)))
-
-abbrev NextGood : List (Word × Args) → Type 0
-NextGood [] = Unit {0}
-NextGood (s ∷ more) = segments_good InKind (map about_segment (s ∷ more)) ≡ true
-
-first_segment : (s : Word × Args) (more : List (Word × Args)) (depth : ℕ) (ts rest : Tokens)
-    → Spells (segments_form InKind (map about_segment (s ∷ more))) depth ts rest
-    → Spells (segment_form InKind (about_segment s) (Next more)) depth ts rest
-first_segment s [] depth ts rest t = t
-first_segment s (v ∷ more) depth ts rest t = t
-
-first_good : (s : Word × Args) (more : List (Word × Args)) → segments_good InKind (map about_segment (s ∷ more)) ≡ true
-    → (is_path_word s.0.raw s.0.text ≡ true) × NextGood more
-first_good s [] g = ((and_parts (is_path_word s.0.raw s.0.text) (about_args s.1).kind.good g).0, tt)
-first_good s (v ∷ more) g =
-    let goods = and_parts (segment_good InKind (about_segment s) && not (about_args s.1).returns) (segments_good InKind (map about_segment (v ∷ more))) g in
-    let kept = and_parts (segment_good InKind (about_segment s)) (not (about_args s.1).returns) goods.0 in
-    ((and_parts (is_path_word s.0.raw s.0.text) (about_args s.1).kind.good kept.0).0, goods.1)
-
-mark_no_word : (text : List ℕ) (ts rest : Tokens) → IsOne Punct text ts rest → word ts ≡ None
-unfolding word
-mark_no_word text ts rest o = rw (one_front Punct text ts rest o).1 refl
-
--- Behind a word of a path that isn't a macro call's, the words that go on aren't followed by `!`.
-words_no_bang : (ss : List (Word × Args)) (depth n : ℕ) (found : List Word) (ts mid rest : Tokens) → ArgsFront ts mid
-    → Spells (Next ss) depth mid rest → NextGood ss
-    → is_op (codes "::") rest ≡ false → is_op (codes "!") rest ≡ false → bang_behind (repeat_from begins_colons further_word n found ts) ≡ false
-unfolding repeat_from
-words_no_bang ss depth zero found ts mid rest front s g no_colons no_bang = refl
-words_no_bang [] depth (suc n) found ts mid rest (OfNothing e) s g no_colons no_bang = rw e (rw s (rw no_colons no_bang))
-words_no_bang (v ∷ more) depth (suc n) found ts mid rest (OfNothing e) s g no_colons no_bang =
-    let o : IsOperator (codes "::") mid s.0 = bit_alone (Operator (codes "::")) mid s.0 s.1 in
-    let args = (about_args v.1).kind in
-    let l = leaf_parts v.0.raw v.0.text (Part args.form (Next more)) depth s.0 rest (first_segment v more depth s.0 rest s.2) in
-    let p = l.2 in
-    let goods = first_good v more g in
-    let w = word_complete v.0 s.0 l.0 (l.1, goods.0) in
-    let go = words_no_bang more depth n (found ++ v.0 ∷ []) l.0 p.0 rest (args_front InKind v.1 depth l.0 p.0 p.1) p.2 goods.1 no_colons no_bang in
-    rw e (rw (o.0, o.1, w) go)
-words_no_bang ss depth (suc n) found ts mid rest (OfLess at o) s g no_colons no_bang =
-    let a : is_op (codes "::") ts ≡ false = no_other_op 58 (codes ":") 60 ts at refl o in
-    let b : is_op (codes "!") ts ≡ false = no_other_op 33 [] 60 ts at refl o in
-    rw a b
-words_no_bang ss depth (suc n) found ts mid rest (OfLate at h o) s g no_colons no_bang = rw (h, mark_no_word (codes "<") (drop 2 ts) at o) refl
-words_no_bang ss depth (suc n) found ts mid rest (OfRound at o) s g no_colons no_bang =
-    let a : is_op (codes "::") ts ≡ false = one_no_op (codes "::") (Opener Paren) (opening Paren ∷ []) ts at refl o in
-    let b : is_op (codes "!") ts ≡ false = one_no_op (codes "!") (Opener Paren) (opening Paren ∷ []) ts at refl o in
-    rw a b
-
-made_no_bang : (leads : Bool) (w : Word) (o : Got (List Word)) → bang_behind o ≡ false
-    → bang_behind (o >>= (λ more. let found : Got SimplePath = Some (record { global = leads; words = w ∷ more.0 }, more.1) in found)) ≡ false
-made_no_bang leads w None h = refl
-made_no_bang leads w (Some x) h = h
-
--- So no macro call begins where a path is spelled that no `!` follows.
-path_no_call : (p : Path) (depth : ℕ) (ts rest : Tokens) → Spells (about_path p InKind).form depth ts rest → (about_path p InKind).good ≡ true
-    → is_op (codes "::") rest ≡ false → is_op (codes "!") rest ≡ false → begins_call ts ≡ false
-unfolding simple_path repeat
-path_no_call p depth ts rest s g no_colons no_bang =
-    let t = path_parts InKind p depth ts rest s in
-    let goods = path_goods InKind p g in
-    call_test ts ∙ by p.start (start_view p.start) t.0 t.1 p.segments t.2 goods.1
-  where
-    behind : (leads : Bool) (ss : List (Word × Args)) (mid : Tokens) → global ts ≡ (leads, mid)
-        → Spells (segments_form InKind (map about_segment ss)) depth mid rest
-        → segments_good InKind (map about_segment ss) ≡ true → bang_behind (simple_path ts) ≡ false
-    behind leads [] mid e t h = absurd (cc)
-    behind leads (v ∷ more) mid e t h =
-        let args = (about_args v.1).kind in
-        let l = leaf_parts v.0.raw v.0.text (Part args.form (Next more)) depth mid rest (first_segment v more depth mid rest t) in
-        let q = l.2 in
-        let k = first_good v more h in
-        let w = word_complete v.0 mid l.0 (l.1, k.0) in
-        let go = words_no_bang more depth (suc (length l.0)) [] l.0 q.0 rest (args_front InKind v.1 depth l.0 q.0 q.1) q.2 k.1 no_colons no_bang in
-        rw (e, w) (made_no_bang leads v.0 (repeat begins_colons further_word l.0) go)
-
-    by : (b : PathStart) → PathStartView b → (mid : Tokens) → Spells (about_start b).form depth ts mid → (ss : List (Word × Args))
-        → Spells (segments_form InKind (map about_segment ss)) depth mid rest → segments_good InKind (map about_segment ss) ≡ true
-        → bang_behind (simple_path ts) ≡ false
-    by _ IsLocal mid t [] u h = absurd (cc)
-    by _ IsLocal mid t (v ∷ more) u h =
-        let e : ts ≡ mid = subst (λ (F : Facts). Spells F.form depth ts mid) start_local_is t in
-        let l = leaf_parts v.0.raw v.0.text (Part (about_args v.1).kind.form (Next more)) depth mid rest (first_segment v more depth mid rest u) in
-        let none : is_op (codes "::") ts ≡ false = rw e (word_no_op (codes "::") v.0.raw v.0.text mid l.0 l.1) in
-        behind false (v ∷ more) mid (rw none (ap (λ (us : Tokens). let found : Bool × Tokens = (false, us) in found) e)) u h
-    by _ IsGlobal mid t ss u h =
-        let o : IsOperator (codes "::") ts mid =
-        piece_bit (Operator (codes "::")) depth ts mid (subst (λ (F : Facts). Spells F.form depth ts mid) start_global_is t) in
-        behind true ss mid (rw (o.0, o.1) refl) u h
-    by _ (IsQualified x of) mid t ss u h =
-        let v = subst (λ (F : Facts). Spells F.form depth ts mid) (start_qualified_is x of) t in
-        let o : IsOne Punct (codes "<") ts v.0 = bit_alone types.less ts v.0 v.1 in
-        let none : is_op (codes "::") ts ≡ false = no_other_op 58 (codes ":") 60 ts v.0 refl o in
-        rw (none, mark_no_word (codes "<") ts v.0 o) refl
-
-call_there : (c : MacroCall) (depth : ℕ) (ts rest : Tokens) → Spells (about_call c).form depth ts rest → (about_call c).good ≡ true → begins_call ts ≡ true
-call_there c depth ts rest s g =
-    let r = call_complete c depth ts rest (s, g, refl) in
-    let no_colons : is_op (codes "::") r.mid ≡ false = other_op (codes "!") (codes "::") refl r.mid r.mark.0 in
-    let p = simple_path_complete c.path depth ts r.mid (r.path, r.good, rw no_colons refl) in
-    call_test ts ∙ ap (λ (o : Got SimplePath). bang_behind o) p ∙ r.mark.0
 
 -- ---- a token list before a `]`
 
@@ -245,7 +117,7 @@ param_front (Some given.Underscore) x depth ts rest s g =
     )
 
 -- a last element that is laid out as the others are
-last_part : (fs : List Form) (g : Form) (depth : ℕ) (ts rest : Tokens) → Spells (each comma_gap (fs ++ g ∷ [])) depth ts rest
+pub last_part : (fs : List Form) (g : Form) (depth : ℕ) (ts rest : Tokens) → Spells (each comma_gap (fs ++ g ∷ [])) depth ts rest
     → (end at : Tokens) × Spells (each comma_gap fs) depth ts end × IsOne Punct (codes ",") end at × Spells g depth at rest
 last_part [] g depth ts rest s =
     let part = s.2 in
@@ -274,7 +146,7 @@ module _ (depth : ℕ) (inner : Within) (reads : Reads depth inner) where
       let no_bang = not-true (is_op (codes "!") rest) c.0 in
       let r = path_read depth inner reads InKind p ts rest t g c.1 in
       let no_colons = path_stops rest c.1 in
-      (suc r.0, omega (arith, r.1), made r.0 (path_no_call p depth ts rest t g no_colons no_bang) r.2 no_bang)
+      (suc r.0, omega (arith, r.1), made r.0 (path_no_call InKind p depth ts rest t g no_colons no_bang) r.2 no_bang)
     where
       made : (n : ℕ) → begins_call ts ≡ false → path inner InKind ts ≡ Some ((p, n), rest) → is_op (codes "!") rest ≡ false
           → type_by inner place (Some OfPath) ts ≡ Some ((ty.Path p, suc n), rest)
@@ -547,7 +419,7 @@ module _ (depth : ℕ) (inner : Within) (reads : Reads depth inner) where
   param_starts p ts rest s g =
       let parts = param_parts p ts rest s g in
       let before = attrs_front p.attrs depth ts parts.mid parts.rows in
-      (rw (before.paren parts.front.paren, before.dots parts.front.dots) refl, omega (arith, before.shorter, parts.less))
+      (rw (before.closer Paren parts.front.paren, before.dots parts.front.dots) refl, omega (arith, before.shorter, parts.less))
 
   abbrev Follows : FuncParam → Tokens → Type 0
   Follows p ts = Ends ts
@@ -775,24 +647,27 @@ no_depth x ts rest = at x (type_view x)
         by (ty.Func b u a ps variadic y) (ty_facts (Ty-F.Func b u a (map about_func_param ps) variadic (option_map about_type y))) (type_func_is b u a ps variadic y) (λ s. s)
     at _ (IsBounds d bs) = by (ty.Bounds d bs) (ty_facts (Ty-F.Bounds d (map about_bound bs))) (type_bounds_is d bs) (λ s. s)
 
--- What is one level deeper than a budget is read within it.
-pub within_reads : (depth : ℕ) → Reads depth (within depth)
+-- What is one level deeper than a budget is read within it, and within every greater one.
+pub within_reads : (depth budget : ℕ) → depth ≤ budget → Reads depth (within budget)
 unfolding within
-within_reads zero = record {
+within_reads zero budget h = record {
   types = λ place x ts rest s g f. absurd (no_depth x ts rest s);
   constraints = λ c ts rest s g e. absurd s;
 }
-within_reads (suc depth) = record {
-  types = λ place x ts rest s g f.
-      let r = type_made depth (within depth) (within_reads depth) place x (type_view x) ts rest s g f in
-      let b = type_begins x place (suc depth) ts rest s g in
-      (r.0, r.1, rw b.lead r.2);
-  constraints = λ c ts rest s g e.
-      constraint_read depth (within depth) (within_reads depth) c ts rest (inner_of (about_constraint c).form depth ts rest s) g e;
-}
+within_reads (suc depth) zero h = absurd (omega arith)
+within_reads (suc depth) (suc budget) h =
+    let reads = within_reads depth budget (omega arith) in
+    record {
+      types = λ place x ts rest s g f.
+          let r = type_made depth (within budget) reads place x (type_view x) ts rest s g f in
+          let b = type_begins x place (suc depth) ts rest s g in
+          (r.0, r.1, rw b.lead r.2);
+      constraints = λ c ts rest s g e.
+          constraint_read depth (within budget) reads c ts rest (inner_of (about_constraint c).form depth ts rest s) g e;
+    }
 
 -- A type that stands there is read.
-pub type_complete : (place : TypePlace) (x : Ty) (depth : ℕ) (ts rest : Tokens) → Spells (about_type x).told.form depth ts rest
-    → good_at place (about_type x) ≡ true
-    → type_follows place (about_type x) rest ≡ true → IsRead depth (type_at place depth) x ts rest
-type_complete place x depth ts rest s g f = (within_reads depth).types place x ts rest s g (follows_fits place (about_type x) rest f)
+pub type_complete : (place : TypePlace) (x : Ty) (depth budget : ℕ) (ts rest : Tokens) → depth ≤ budget
+    → Spells (about_type x).told.form depth ts rest → good_at place (about_type x) ≡ true
+    → type_follows place (about_type x) rest ≡ true → IsRead depth (type_at place budget) x ts rest
+type_complete place x depth budget ts rest h s g f = (within_reads depth budget h).types place x ts rest s g (follows_fits place (about_type x) rest f)

@@ -5,7 +5,7 @@ use Rattle.std.specs.List.{list_all}
 use Rattle.std.specs.Str.{bytes_eq}
 use Rattle.std.proofs.lemmas.Bool.{and_parts, cases_Bool}
 use Rattle.lay_piece.specs.declared.kind.Delim.{Delim}
-use Rattle.lay_piece.specs.declared.kind.Delim.TheVariants.{Paren, Brace}
+use Rattle.lay_piece.specs.declared.kind.Delim.TheVariants.{Brace}
 use Rattle.lay_piece.specs.declared.kind.Kind.{Kind}
 use Rattle.lay_piece.specs.declared.kind.Kind.TheVariants as kind
 use Rattle.lay_piece.specs.declared.kind.Kind.TheVariants.{Ident, RawIdent, Underscore, Punct, Opener, Closer, Doc}
@@ -138,19 +138,21 @@ param_attrs_rows (a ∷ more) f depth ts rest s g =
     let r = param_attrs_rows more f depth s.0 rest (behind_attr_spelled a (param_attrs more f) depth s.0 rest s.2) goods.1 in
     (r.0, (s.0, (s.1, goods.0), r.1), r.2)
 
--- An attribute closes no list, and isn't the `...` of a function type.
+-- An attribute closes no list, and isn't the `...` of a function type or the `..` behind the fields of a pattern.
 record NoEnd (ts : Tokens) : Type 0 where
   pub greater : first (is_mark (codes ">")) ts ≡ false
-  pub paren : first (closes Paren) ts ≡ false
+  pub closer : (d : Delim) → first (closes d) ts ≡ false
   pub dots : is_op (codes "...") ts ≡ false
+  pub rest : is_op (codes "..") ts ≡ false
 
 hash_no_end : (ts : Tokens) → first (is_mark (codes "#")) ts ≡ true → NoEnd ts
 hash_no_end ts h =
     let s = mark_one (codes "#") ts h in
     record {
       greater = rw (one_front Punct (codes "#") ts (tail ts) s).1 refl;
-      paren = rw (one_front Punct (codes "#") ts (tail ts) s).1 refl;
+      closer = λ d. rw (one_front Punct (codes "#") ts (tail ts) s).1 refl;
       dots = no_other_op 46 (codes "..") 35 ts (tail ts) refl s;
+      rest = no_other_op 46 (codes ".") 35 ts (tail ts) refl s;
     }
 
 attr_no_end : (ts : Tokens) → begins_attr false ts ≡ true → NoEnd ts
@@ -159,30 +161,37 @@ attr_no_end (t ∷ ts) h = elim (cases_Bool (is_doc_kind false t.kind)) [
   | inl d ↦
       let k = doc t.kind d in
       let p : is_punct t.kind ≡ false = k.0 in
-      record { greater = rw p refl; paren = k.1; dots = no_op (codes "...") t ts p }
+      record { greater = rw p refl; closer = k.1; dots = no_op (codes "...") t ts p; rest = no_op (codes "..") t ts p }
   | inr d ↦
       let m : first (is_mark (codes "#")) (t ∷ ts) ≡ true = sym (ap (λ b. b || is_mark (codes "#") t) d) ∙ h in
       hash_no_end (t ∷ ts) m
 ]
   where
-    doc : (k : Kind) → is_doc_kind false k ≡ true → (is_punct k ≡ false) × (is_closer Paren k ≡ false)
-    doc (Doc inner block) e = (refl, refl)
+    doc : (k : Kind) → is_doc_kind false k ≡ true → (is_punct k ≡ false) × ((d : Delim) → is_closer d k ≡ false)
+    doc (Doc inner block) e = (refl, λ d. refl)
     doc _ e = absurd (cc)
 
 -- So what closes a list stands at the front of a parameter only where it stands behind its attributes.
 pub record AttrsFront (ts mid : Tokens) : Type 0 where
   pub greater : first (is_mark (codes ">")) mid ≡ false → first (is_mark (codes ">")) ts ≡ false
-  pub paren : first (closes Paren) mid ≡ false → first (closes Paren) ts ≡ false
+  pub closer : (d : Delim) → first (closes d) mid ≡ false → first (closes d) ts ≡ false
   pub dots : is_op (codes "...") mid ≡ false → is_op (codes "...") ts ≡ false
+  pub rest : is_op (codes "..") mid ≡ false → is_op (codes "..") ts ≡ false
   pub shorter : length mid ≤ length ts
 
 pub attrs_front : (attrs : List Attr) (depth : ℕ) (ts mid : Tokens) → Rows (GoodAt (about_attr false) depth) attrs ts mid → AttrsFront ts mid
 attrs_front [] depth ts mid r =
-    rw r (record { greater = λ h. h; paren = λ h. h; dots = λ h. h; shorter = omega arith })
+    rw r (record { greater = λ h. h; closer = λ d h. h; dots = λ h. h; rest = λ h. h; shorter = omega arith })
 attrs_front (a ∷ more) depth ts mid r =
     let n = attr_no_end ts (attr_begins false a depth ts r.0 r.1) in
     let f = attrs_front more depth r.0 mid r.2 in
-    record { greater = λ h. n.greater; paren = λ h. n.paren; dots = λ h. n.dots; shorter = omega (arith, attr_shorter false a depth ts r.0 r.1, f.shorter) }
+    record {
+      greater = λ h. n.greater;
+      closer = λ d h. n.closer d;
+      dots = λ h. n.dots;
+      rest = λ h. n.rest;
+      shorter = omega (arith, attr_shorter false a depth ts r.0 r.1, f.shorter);
+    }
 
 -- ---- binders
 
@@ -319,7 +328,7 @@ pub record ConstRead (value : ConstArg) (ts rest : Tokens) : Type 0 where
   pub smaller : first (is_mark (codes "<")) ts ≡ false
   pub less : length rest < length ts
 
-literal_kinds : (k : Kind) (text : List ℕ) → is_literal k text ≡ true → (is_punct k ≡ false) × (is_lifetime_kind k ≡ false)
+pub literal_kinds : (k : Kind) (text : List ℕ) → is_literal k text ≡ true → (is_punct k ≡ false) × (is_lifetime_kind k ≡ false)
 literal_kinds Punct text h = absurd (cc)
 literal_kinds kind.Lifetime text h = absurd (cc)
 literal_kinds _ text h = (refl, refl)

@@ -29,7 +29,7 @@ use Rattle.lay_tree.proofs.reader.WheresSound.{wheres_stand}
 pub types_exact : (place : TypePlace) → Exact (type_at place) (λ (x : Ty). TypeFront place (about_type x))
 types_exact place = record {
   sound = types_stand place;
-  complete = λ x ts n depth f. type_complete place x depth ts (drop n ts) f.1 f.2 f.3;
+  complete = λ x ts n depth f budget h. type_complete place x depth budget ts (drop n ts) h f.1 f.2 f.3;
 }
 
 pub paths_exact : (style : PathStyle) → Exact (path_at style) (λ (x : Path). Front (alone (about_path x style)))
@@ -41,19 +41,19 @@ args_exact style = exact (λ (x : Args). alone (in_style style (about_args x))) 
 pub bounds_exact : Exact bounds_at (λ (x : List Bound). BoundsFront x)
 bounds_exact = record {
   sound = bounds_stand;
-  complete = λ x ts n depth f. bounds_complete x depth ts (drop n ts) f.1 f.2 f.3;
+  complete = λ x ts n depth f budget h. bounds_complete x depth budget ts (drop n ts) h f.1 f.2 f.3;
 }
 
 pub generics_exact : Exact generics_at (λ (x : Generics × Bool). GenericsAt x.1 x.0)
 generics_exact = record {
   sound = generics_stand;
-  complete = λ x ts n depth f. generics_complete x.1 x.0 depth ts (drop n ts) f.1 f.2 f.3;
+  complete = λ x ts n depth f budget h. generics_complete x.1 x.0 depth budget ts (drop n ts) h f.1 f.2 f.3;
 }
 
 pub wheres_exact : Exact wheres_at (λ (x : Wheres × Bool). WheresAt x.1 x.0)
 wheres_exact = record {
   sound = wheres_stand;
-  complete = λ x ts n depth f. wheres_complete x.1 x.0 depth ts (drop n ts) f.1 f.2 f.3;
+  complete = λ x ts n depth f budget h. wheres_complete x.1 x.0 depth budget ts (drop n ts) h f.1 f.2 f.3;
 }
 
 -- ---- so at most one node and one count of tokens fit

@@ -17,8 +17,8 @@ use Rattle.lay_token.specs.declared.token.Token.{Token}
 use Rattle.lay_token.proofs.Deciding.{bytes_same}
 use Rattle.lay_form.specs.Spelled.{IsOne}
 use Rattle.lay_tree.specs.Ahead.{Tokens, first, tail, is_keyword, is_lifetime, is_lifetime_kind, is_mark, is_opener, is_closer, opens, closes, opens_args}
-use Rattle.lay_tree.specs.Begins.{Lead, OfPath, OfFunc, lead_of_word, lead_of_punct, lead_by, lead_at, begins_bound, is_literal_token}
-use Rattle.lay_tree.specs.Follow.{Begin, OfRename, OfArgs, OfCodeArgs, OfArrow, OfColons, OfBang, begins_there, may_follow}
+use Rattle.lay_tree.specs.Begins.{Lead, OfPath, OfFunc, lead_of_word, lead_of_punct, lead_by, lead_at, begins_bound, is_literal_token, begins_value, begins_span_end}
+use Rattle.lay_tree.specs.Follow.{Begin, OfRename, OfArgs, OfCodeArgs, OfArrow, OfColons, OfBang, begins_there, may_follow, begins_dots}
 use Rattle.lay_tree.specs.Words.{is_plain, is_path_word, is_literal}
 use Rattle.lay_tree.specs.reader.Attr.{is_doc_kind, begins_attr}
 use Rattle.lay_tree.specs.reader.Types.{begins_const, begins_given}
@@ -187,7 +187,7 @@ pub lead_other_keyword : (word : List ℕ) (other l : Lead) → lead_of_word wor
 lead_other_keyword word other l is differ ts h = false_from_ne_true (first (is_keyword word) ts) (λ e. differ (sym is ∙ sym (keyword_lead word ts e) ∙ h))
 
 -- No type begins as a constant does.
-lead_no_literal : (ts : Tokens) (l : Lead) → lead_at ts ≡ Some l → first is_literal_token ts ≡ false
+pub lead_no_literal : (ts : Tokens) (l : Lead) → lead_at ts ≡ Some l → first is_literal_token ts ≡ false
 unfolding lead_at
 lead_no_literal [] l h = refl
 lead_no_literal (t ∷ ts) l h = lead_no (is_literal t.kind t.text) (t ∷ ts) l h (λ e. none t.kind t.text e)
@@ -210,14 +210,30 @@ lead_no_const ts l h = rw (lead_no_literal ts l h, lead_no_mark 45 (λ us n. rw 
 pub lead_no_attr : (ts : Tokens) (l : Lead) → lead_at ts ≡ Some l → begins_attr false ts ≡ false
 lead_no_attr ts l h = rw (lead_no_doc ts l h, lead_no_mark 35 (λ us n. rw n refl) refl ts l h) refl
 
-pub lead_no_dots : (ts : Tokens) (l : Lead) → lead_at ts ≡ Some l → is_op (codes "...") ts ≡ false
+-- an operator that begins no type
+lead_no_op : (c : ℕ) (cs : List ℕ) → ((more : List ℕ) (us : Tokens) → is_op (codes "::") us ≡ false → lead_by Punct (c ∷ more) us ≡ None)
+    → bytes_eq (c ∷ cs) (codes "::") ≡ false → (ts : Tokens) (l : Lead) → lead_at ts ≡ Some l → is_op (c ∷ cs) ts ≡ false
 unfolding lead_at
-lead_no_dots ts l h = lead_no (is_op (codes "...") ts) ts l h (λ e.
-    let f = op_first 46 (codes "..") ts e in
-    let us : Tokens = record f.0 { kind = Punct; text = 46 ∷ f.2 } ∷ f.1 in
-    let no : is_op (codes "::") us ≡ false = subst (λ vs. is_op (codes "::") vs ≡ false) f.3 (other_op (codes "...") (codes "::") refl ts e) in
-    let g : lead_at us ≡ None = rw no refl in
+lead_no_op c cs none other ts l h = lead_no (is_op (c ∷ cs) ts) ts l h (λ e.
+    let f = op_first c cs ts e in
+    let us : Tokens = record f.0 { kind = Punct; text = c ∷ f.2 } ∷ f.1 in
+    let no : is_op (codes "::") us ≡ false = subst (λ vs. is_op (codes "::") vs ≡ false) f.3 (other_op (c ∷ cs) (codes "::") other ts e) in
+    let g : lead_at us ≡ None = none f.2 us no in
     subst (λ vs. lead_at vs ≡ None) (sym f.3) g)
+
+pub lead_no_dots : (ts : Tokens) (l : Lead) → lead_at ts ≡ Some l → is_op (codes "...") ts ≡ false
+lead_no_dots = lead_no_op 46 (codes "..") (λ more us n. rw n refl) refl
+
+pub lead_no_rest : (ts : Tokens) (l : Lead) → lead_at ts ≡ Some l → begins_dots ts ≡ false
+lead_no_rest ts l h =
+    let none : (more : List ℕ) (us : Tokens) → is_op (codes "::") us ≡ false → lead_by Punct (46 ∷ more) us ≡ None = λ more us n. rw n refl in
+    rw (lead_no_op 46 (codes ".") none refl ts l h, lead_no_op 46 (codes ".=") none refl ts l h) refl
+
+pub lead_no_bar : (ts : Tokens) (l : Lead) → lead_at ts ≡ Some l → is_op (codes "|") ts ≡ false
+lead_no_bar = lead_no_op 124 [] (λ more us n. rw n refl) refl
+
+pub lead_no_value : (ts : Tokens) (l : Lead) → lead_at ts ≡ Some l → begins_value ts ≡ false
+lead_no_value ts l h = rw (lead_no_literal ts l h, lead_no_mark 45 (λ us n. rw n refl) refl ts l h) refl
 
 -- A path begins neither a bound in parentheses nor one of its other signs.
 pub path_lead_no_paren : (ts : Tokens) → lead_at ts ≡ Some OfPath → first (opens Paren) ts ≡ false
@@ -323,8 +339,18 @@ pub record Quiet (ts : Tokens) : Type 0 where
   pub free : Free ts
   pub plus : is_op (codes "+") ts ≡ false
 
+-- Nothing that a pattern goes on with, and no other name.
+pub record EndsPattern (ts : Tokens) : Type 0 where
+  pub bar : is_op (codes "|") ts ≡ false
+  pub at : is_op (codes "@") ts ≡ false
+  pub brace : first (opens Brace) ts ≡ false
+  pub dots : begins_dots ts ≡ false
+  pub span : begins_span_end ts ≡ false
+  pub rename : first (is_keyword (codes "as")) ts ≡ false
+
 -- Nor does what is asked of a name, or a first bound: an element of a list ends there.
 pub record Ends (ts : Tokens) : Type 0 where
+  pub pattern : EndsPattern ts
   pub quiet : Quiet ts
   pub colon : is_op (codes ":") ts ≡ false
   pub equals : is_op (codes "=") ts ≡ false
@@ -376,12 +402,32 @@ mark_no_bound text ts rest s n none other =
     let h : begins_bound us ≡ false = rw (other, g) refl in
     subst (λ vs. begins_bound vs ≡ false) (sym f.1) h
 
-mark_ends : (c : ℕ) → (58 == c) ≡ false → (33 == c) ≡ false → (45 == c) ≡ false → (60 == c) ≡ false → (43 == c) ≡ false → (61 == c) ≡ false
+-- no `@`, no bar and no point, and neither a value nor a path
+mark_pattern : (c : ℕ) → (124 == c) ≡ false → (64 == c) ≡ false → (46 == c) ≡ false → bytes_eq (c ∷ []) (codes "-") ≡ false
+    → ((us : Tokens) → is_op (codes "::") us ≡ false → lead_of_punct (c ∷ []) us ≡ None)
+    → (ts rest : Tokens) → IsOne Punct (c ∷ []) ts rest → is_op (codes "::") ts ≡ false → EndsPattern ts
+unfolding lead_at
+mark_pattern c bar at point minus none ts rest s n =
+    let f = one_front Punct (c ∷ []) ts rest s in
+    let us : Tokens = record f.0 { kind = Punct; text = c ∷ [] } ∷ rest in
+    let g : lead_of_punct (c ∷ []) us ≡ None = none us (subst (λ vs. is_op (codes "::") vs ≡ false) f.1 n) in
+    let h : begins_span_end us ≡ false = rw (minus, g) refl in
+    record {
+      bar = no_other_op 124 [] c ts rest bar s;
+      at = no_other_op 64 [] c ts rest at s;
+      brace = rw f.1 refl;
+      dots = rw (no_other_op 46 (codes ".") c ts rest point s, no_other_op 46 (codes ".=") c ts rest point s) refl;
+      span = subst (λ vs. begins_span_end vs ≡ false) (sym f.1) h;
+      rename = rw f.1 refl;
+    }
+
+mark_ends : (c : ℕ) → (124 == c) ≡ false → (64 == c) ≡ false → (46 == c) ≡ false → bytes_eq (c ∷ []) (codes "-") ≡ false → (58 == c) ≡ false → (33 == c) ≡ false → (45 == c) ≡ false → (60 == c) ≡ false → (43 == c) ≡ false → (61 == c) ≡ false
     → ((us : Tokens) → is_op (codes "::") us ≡ false → lead_of_punct (c ∷ []) us ≡ None) → bytes_eq (c ∷ []) (codes "?") ≡ false
     → (ts rest : Tokens) → IsOne Punct (c ∷ []) ts rest → Ends ts
-mark_ends c colon bang minus less plus equals none other ts rest s =
+mark_ends c bar at point negative colon bang minus less plus equals none other ts rest s =
     let q = mark_quiet c colon bang minus less plus ts rest s in
     record {
+      pattern = mark_pattern c bar at point negative none ts rest s q.free.colons;
       quiet = q;
       colon = no_other_op 58 [] c ts rest colon s;
       equals = no_other_op 61 [] c ts rest equals s;
@@ -389,10 +435,10 @@ mark_ends c colon bang minus less plus equals none other ts rest s =
     }
 
 pub comma_ends : (ts rest : Tokens) → IsOne Punct (codes ",") ts rest → Ends ts
-comma_ends = mark_ends 44 refl refl refl refl refl refl (λ us n. rw n refl) refl
+comma_ends = mark_ends 44 refl refl refl refl refl refl refl refl refl refl (λ us n. rw n refl) refl
 
 pub greater_ends : (ts rest : Tokens) → IsOne Punct (codes ">") ts rest → Ends ts
-greater_ends = mark_ends 62 refl refl refl refl refl refl (λ us n. rw n refl) refl
+greater_ends = mark_ends 62 refl refl refl refl refl refl refl refl refl refl (λ us n. rw n refl) refl
 
 pub semicolon_quiet : (ts rest : Tokens) → IsOne Punct (codes ";") ts rest → Quiet ts
 semicolon_quiet = mark_quiet 59 refl refl refl refl refl
@@ -408,7 +454,7 @@ equals_no_bound ts h =
     subst (λ vs. begins_bound vs ≡ false) (sym f.3) g
 
 -- a token that is no punctuation
-kind_quiet : (k : Kind) (text : List ℕ) → is_punct k ≡ false → is_opener Paren k ≡ false → (ts rest : Tokens) → IsOne k text ts rest → Quiet ts
+pub kind_quiet : (k : Kind) (text : List ℕ) → is_punct k ≡ false → is_opener Paren k ≡ false → (ts rest : Tokens) → IsOne k text ts rest → Quiet ts
 kind_quiet k text punct opener ts rest s =
     let no : (op : List ℕ) → is_op op ts ≡ false = λ op. one_no_op op k text ts rest punct s in
     let paren : first (opens Paren) ts ≡ false = one_test (is_opener Paren) k text ts rest s ∙ opener in
@@ -429,6 +475,17 @@ as_quiet = kind_quiet Ident (codes "as") refl refl
 pub closer_ends : (d : Delim) (ts rest : Tokens) → IsOne (Closer d) (closing d ∷ []) ts rest → Ends ts
 unfolding lead_at
 closer_ends d ts rest s = record {
+  pattern = record {
+    bar = one_no_op (codes "|") (Closer d) (closing d ∷ []) ts rest refl s;
+    at = one_no_op (codes "@") (Closer d) (closing d ∷ []) ts rest refl s;
+    brace = rw (one_front (Closer d) (closing d ∷ []) ts rest s).1 refl;
+    dots = rw (
+      one_no_op (codes "..") (Closer d) (closing d ∷ []) ts rest refl s,
+      one_no_op (codes "..=") (Closer d) (closing d ∷ []) ts rest refl s,
+    ) refl;
+    span = rw (one_front (Closer d) (closing d ∷ []) ts rest s).1 refl;
+    rename = rw (one_front (Closer d) (closing d ∷ []) ts rest s).1 refl;
+  };
   quiet = kind_quiet (Closer d) (closing d ∷ []) refl refl ts rest s;
   colon = one_no_op (codes ":") (Closer d) (closing d ∷ []) ts rest refl s;
   equals = one_no_op (codes "=") (Closer d) (closing d ∷ []) ts rest refl s;

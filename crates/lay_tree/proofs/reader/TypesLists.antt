@@ -3,6 +3,7 @@ use Rattle.std.proofs.Common.{◌≡◌, ℕ, zero, suc, ◌≤◌, ◌<◌, Boo
 use Rattle.std.specs.List.{list_all}
 use Rattle.std.proofs.lemmas.Bool.{and_parts}
 use Rattle.lay_piece.specs.Forms.{closing}
+use Rattle.lay_piece.specs.declared.kind.Delim.{Delim}
 use Rattle.lay_piece.specs.declared.kind.Delim.TheVariants.{Paren}
 use Rattle.lay_piece.specs.declared.kind.Kind.TheVariants.{Punct, Closer}
 use Rattle.lay_token.specs.Operators.{is_op}
@@ -46,17 +47,20 @@ pub record Closing (close : Bit) (ends : Token → Bool) (ts rest : Tokens) : Ty
 abbrev pub ClosedBy : Bit → (Token → Bool) → Type 0
 ClosedBy close ends = (ts rest : Tokens) → IsBit close ts rest → Closing close ends ts rest
 
-pub paren_closes : ClosedBy (closer Paren) (closes Paren)
-paren_closes ts rest o =
-    let f = closer_first Paren ts rest o in
-    let no_comma : first (is_mark (codes ",")) ts ≡ false = rw (one_front (Closer Paren) (closing Paren ∷ []) ts rest o).1 refl in
+pub closer_closes : (d : Delim) → ClosedBy (closer d) (closes d)
+closer_closes d ts rest o =
+    let f = closer_first d ts rest o in
+    let no_comma : first (is_mark (codes ",")) ts ≡ false = rw (one_front (Closer d) (closing d ∷ []) ts rest o).1 refl in
     record {
       there = f.0;
       left = f.1;
       kept = rw (no_comma, f.0) refl;
-      quiet = closer_ends Paren ts rest o;
-      less = one_shorter (Closer Paren) (closing Paren ∷ []) ts rest o;
+      quiet = closer_ends d ts rest o;
+      less = one_shorter (Closer d) (closing d ∷ []) ts rest o;
     }
+
+pub paren_closes : ClosedBy (closer Paren) (closes Paren)
+paren_closes = closer_closes Paren
 
 pub greater_closes : ClosedBy greater (is_mark (codes ">"))
 greater_closes ts rest o =

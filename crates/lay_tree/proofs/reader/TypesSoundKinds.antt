@@ -120,7 +120,7 @@ first_is l [] h = absurd (cc)
 first_is l (t ∷ ts) h = lead_text t.kind t.text (t ∷ ts) l h
 
 -- a token whose kind has one text alone
-only_first : (k : Kind) (only : List ℕ) → only_text k ≡ Some only → (t : Token) (ts : Tokens) → InText (t ∷ ts)
+pub only_first : (k : Kind) (only : List ℕ) → only_text k ≡ Some only → (t : Token) (ts : Tokens) → InText (t ∷ ts)
     → t.kind ≡ k → IsOne k only (t ∷ ts) ts
 only_first k only e t ts i h = (
   h,

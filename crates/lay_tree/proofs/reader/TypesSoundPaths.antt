@@ -67,7 +67,7 @@ local_layer : (layer : PathStart-F Arg Args Bound Constraint PathStart Ty FuncPa
 local_layer PathStart-F.Local h = refl
 local_layer _ h = absurd (cc)
 
-local_is : (s : PathStart) → starts_plain (views.out-PathStart s) ≡ true → s ≡ start.Local
+pub local_is : (s : PathStart) → starts_plain (views.out-PathStart s) ≡ true → s ≡ start.Local
 local_is s h =
     sym (views.roll-out-PathStart s) ∙ ap views.roll-PathStart (local_layer (views.out-PathStart s) h)
     ∙ views.rolls-Local

@@ -332,10 +332,12 @@ module _ (depth : ℕ) (within : Tokens → Read UseTree) (complete : Complete a
       let e = (read path.0 path.2).0 in
       (suc e.0, omega (arith, e.1), tree_read tree e.0 ts lead.0 path.0 rest lead.1 path.1 e.2 no_colons)
 
-pub use_complete : (depth : ℕ) → Complete about_use depth (use_at depth)
+pub use_complete : (depth budget : ℕ) → depth ≤ budget → Complete about_use depth (use_at budget)
 unfolding use_at
-use_complete zero tree ts rest s = absurd (use_none tree ts rest s.0)
-use_complete (suc depth) tree ts rest s = use_by_complete depth (use_at depth) (use_complete depth) tree ts rest s
+use_complete zero budget h tree ts rest s = absurd (use_none tree ts rest s.0)
+use_complete (suc depth) zero h tree ts rest s = absurd (omega arith)
+use_complete (suc depth) (suc budget) h tree ts rest s =
+    use_by_complete depth (use_at budget) (use_complete depth budget (omega arith)) tree ts rest s
 
 pub use_trees : Exact use_at (λ (x : UseTree). Front (about_use x))
 use_trees = exact about_use use_at use_sound use_complete

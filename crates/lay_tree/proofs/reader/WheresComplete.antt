@@ -19,7 +19,7 @@ use Rattle.lay_tree.specs.nodes.Where as where_nodes
 use Rattle.lay_tree.specs.nodes.Where.{bare_colon, outlives_form, predicate_form, is_predicate, predicate_follow, last_predicate_follow, begins_last_part, are_predicates}
 use Rattle.lay_tree.specs.reader.Generics.{met}
 use Rattle.lay_tree.specs.reader.Loops.{Read, nodes, deepest, open_elements_from, open_elements}
-use Rattle.lay_tree.specs.reader.Types.{Within, binder_if, lifetimes, within}
+use Rattle.lay_tree.specs.reader.Types.{Within, binder_if, lifetimes}
 use Rattle.lay_tree.specs.reader.Where.{lifetime_predicate, type_predicate, one_predicate, wheres, wheres_at}
 use Rattle.lay_tree.specs.declared.generics.Predicate.{Predicate}
 use Rattle.lay_tree.specs.declared.generics.Predicate.TheVariants as predicate
@@ -37,7 +37,7 @@ use Rattle.lay_tree.proofs.reader.Exact.{IsRead}
 use Rattle.lay_tree.proofs.reader.TypesBegins.{lead_of, opened, type_begins}
 use Rattle.lay_tree.proofs.reader.TypesComplete.{Reads, quiet_read, operator_read}
 use Rattle.lay_tree.proofs.reader.TypesCompleteAlone.{alone_read}
-use Rattle.lay_tree.proofs.reader.TypesCompleteKinds.{keyword_other, within_reads}
+use Rattle.lay_tree.proofs.reader.TypesCompleteKinds.{keyword_other}
 use Rattle.lay_tree.proofs.reader.TypesCompleteParts.{none_left, none_right, keyword_there, one_left, ends_no_lifetime, lifetime_complete, lifetime_alone, lifetimes_complete, colon_operator, some_binder}
 use Rattle.lay_tree.proofs.reader.TypesCompletePaths.{all_bounds_read}
 use Rattle.lay_tree.proofs.reader.TypesFronts.{lead_no_lifetime, lead_other_keyword, Clear, follows_clear, free_clear, Ends, comma_ends, colon_quiet}
@@ -272,10 +272,10 @@ module _ (depth : ℕ) (inner : Within) (reads : Reads depth inner) where
       kept false h = absurd (cc)
 
 -- Where clauses by themselves.
-pub wheres_complete : (last : Bool) (w : Wheres) (depth : ℕ) (ts rest : Tokens)
+pub wheres_complete : (last : Bool) (w : Wheres) (depth budget : ℕ) (ts rest : Tokens) → depth ≤ budget
     → Spells (deeper (wheres_spelled last (map predicate_form w.predicates))) depth ts rest
     → are_predicates w ≡ true → last_follows last (begins_last_part w.predicates) begins_predicate rest ≡ true
-    → IsRead depth (wheres_at depth) (w, last) ts rest
-wheres_complete last w depth ts rest s good f =
-    alone_read wheres (w, last) (wheres_spelled last (map predicate_form w.predicates)) depth ts rest s (λ least t.
-    wheres_read least (within least) (within_reads least) last w.predicates ts rest t good f)
+    → IsRead depth (wheres_at budget) (w, last) ts rest
+wheres_complete last w depth budget ts rest h s good f =
+    alone_read wheres (w, last) (wheres_spelled last (map predicate_form w.predicates)) depth budget h ts rest s (λ least inner reads t.
+    wheres_read least inner reads last w.predicates ts rest t good f)

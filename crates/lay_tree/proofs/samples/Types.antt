@@ -59,13 +59,13 @@ use Rattle.lay_tree.proofs.samples.Trees.{named, plain, a, b, laid, token, word,
 -- ---- trees
 
 -- a path of one word
-abbrev local : List ℕ → Path
+abbrev pub local : List ℕ → Path
 local text = record { start = start.Local; segments = (plain text, args.None) ∷ [] }
 
 abbrev A : Ty
 A = ty.Path (local (codes "A"))
 
-abbrev B : Ty
+abbrev pub B : Ty
 B = ty.Path (local (codes "B"))
 
 abbrev C : Ty
@@ -116,7 +116,7 @@ abbrev fn_path : Path
 fn_path = record { start = start.Local; segments = (plain (codes "Fn"), args.Round (A ∷ []) (Some B)) ∷ [] }
 
 -- `a::<B>`
-abbrev a_of_B : Path
+abbrev pub a_of_B : Path
 a_of_B = record { start = start.Local; segments = (plain a, args.Angle (arg.Plain B ∷ [])) ∷ [] }
 
 -- `<'a: 'b, A: B = C, const D: E = 1>`
@@ -133,10 +133,10 @@ where_A_is text = record { predicates = predicate.Bounded None A (meeting false 
 
 -- ---- what is told of them
 
-abbrev local_facts : List ℕ → PathFacts
+abbrev pub local_facts : List ℕ → PathFacts
 local_facts text = path_facts (record { start = start_facts PathStart-F.Local; segments = (plain text, args_facts Args-F.None) ∷ [] })
 
-local_is : (text : List ℕ) → about_path (local text) ≡ local_facts text
+pub local_is : (text : List ℕ) → about_path (local text) ≡ local_facts text
 local_is text = rw (types.path_is (local text), types.start_local_is, types.args_none_is) refl
 
 named_is : (text : List ℕ) → about_type (ty.Path (local text)) ≡ ty_facts (Ty-F.Path (local_facts text))
@@ -145,7 +145,7 @@ named_is text = types.type_path_is (local text) ∙ ap (λ (p : PathFacts). ty_f
 A_is : about_type A ≡ ty_facts (Ty-F.Path (local_facts (codes "A")))
 A_is = named_is (codes "A")
 
-B_is : about_type B ≡ ty_facts (Ty-F.Path (local_facts (codes "B")))
+pub B_is : about_type B ≡ ty_facts (Ty-F.Path (local_facts (codes "B")))
 B_is = named_is (codes "B")
 
 meeting_is : (parens maybe : Bool) (text : List ℕ)
@@ -345,7 +345,7 @@ read_where_comma = refl
 -- ---- return types, and what is asked of a name
 
 -- `B::C`
-abbrev B_then_C : Path
+abbrev pub B_then_C : Path
 B_then_C = record { start = start.Local; segments = (plain (codes "B"), args.None) ∷ (plain (codes "C"), args.None) ∷ [] }
 
 B_then_C_read : path (within 0) InKind (word (codes "B") ∷ colons (word (codes "C") ∷ [])) ≡ Some ((B_then_C, 0), [])

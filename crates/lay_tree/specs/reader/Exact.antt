@@ -21,12 +21,12 @@ pub record InText (ts : Tokens) : Type 0 where
   pub loose : IsTrue (list_all is_loose ts)
 
 -- What is read within a budget stands at the front at the depth that it needs, and what stands there at a depth is read
--- within it. So at most one node and one count of tokens fit.
+-- within every budget from it on. So at most one node and one count of tokens fit.
 pub record Exact {A : Type 0} (read : ℕ → Tokens → Read A) (Front : A → Tokens → ℕ → ℕ → Type 0) : Type 0 where
   pub sound : (budget : ℕ) (ts : Tokens) (x : A) (need : ℕ) (rest : Tokens) → InText ts → read budget ts ≡ Some ((x, need), rest)
       → (n : ℕ) × (drop n ts ≡ rest) × (need ≤ budget) × Front x ts n need
   pub complete : (x : A) (ts : Tokens) (n depth : ℕ) → Front x ts n depth
-      → (need : ℕ) × (need ≤ depth) × (read depth ts ≡ Some ((x, need), drop n ts))
+      → (budget : ℕ) → depth ≤ budget → (need : ℕ) × (need ≤ depth) × (read budget ts ≡ Some ((x, need), drop n ts))
 
 -- a reading of a node with no nodes within it
 abbrev pub needless : {A : Type 0} → (Tokens → Got A) → ℕ → Tokens → Read A

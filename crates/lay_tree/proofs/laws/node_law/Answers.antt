@@ -15,6 +15,7 @@ use Rattle.lay_tree.proofs.reader.Call.{groups, calls}
 use Rattle.lay_tree.proofs.reader.Exact.{one_at_most}
 use Rattle.lay_tree.proofs.reader.File.{one_file}
 use Rattle.lay_tree.proofs.reader.ItemRead.{items_exact}
+use Rattle.lay_tree.proofs.reader.PatternsExact.{one_pat}
 use Rattle.lay_tree.proofs.reader.SimplePath.{simple_paths}
 use Rattle.lay_tree.proofs.reader.TypesExact.{one_type, one_path, one_args, one_bounds, one_generics, one_wheres}
 use Rattle.lay_tree.proofs.reader.Use.{use_trees}
@@ -32,6 +33,7 @@ returns c = record {
   one_bounds = one_bounds;
   one_generics = one_generics;
   one_wheres = one_wheres;
+  one_pat = λ node other place. one_pat place node other;
   one_use = one_at_most about_use use_at use_trees;
   one_item = one_at_most about_item item_at items_exact;
   one_file = one_file;

@@ -1,6 +1,7 @@
 use Rattle.lay_tree.proofs.reader.AttrRead.{attrs_exact}
 use Rattle.lay_tree.proofs.reader.Call.{groups, calls}
 use Rattle.lay_tree.proofs.reader.ItemRead.{items_exact}
+use Rattle.lay_tree.proofs.reader.PatternsExact.{pats_exact}
 use Rattle.lay_tree.proofs.reader.SimplePath.{simple_paths}
 use Rattle.lay_tree.proofs.reader.TypesExact.{types_exact, paths_exact, args_exact, bounds_exact, generics_exact, wheres_exact}
 use Rattle.lay_tree.proofs.reader.Use.{use_trees}
@@ -18,6 +19,7 @@ returns c = record {
   bounds = bounds_exact;
   generics = generics_exact;
   wheres = wheres_exact;
+  pats = pats_exact;
   use_trees = use_trees;
   items = items_exact;
 }
