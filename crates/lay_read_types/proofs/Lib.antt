@@ -1,5 +1,0 @@
-pub mod Lists
-pub mod Left
-pub mod Lexed
-pub mod Turns
-pub mod Steps
