@@ -75,7 +75,7 @@ fn pass_if(at: &mut Ahead<'_>, found: bool)
 }
 
 /// Whether the keyword stands at the front.
-fn is_at_keyword(at: &Ahead<'_>, word: &[u8]) -> bool
+pub fn is_at_keyword(at: &Ahead<'_>, word: &[u8]) -> bool
     ensures { result ≡ first (ahead.is_keyword word.now) at.now }
 {
     match at.peek(0) {
@@ -115,11 +115,21 @@ pub fn takes_mark(at: &mut Ahead<'_>, character: &[u8]) -> bool
 }
 
 /// Whether an opener stands at the front.
-pub(crate) fn is_at_opener(at: &Ahead<'_>) -> bool
+pub fn is_at_opener(at: &Ahead<'_>) -> bool
     ensures { result ≡ first begins_group at.now }
 {
     match at.peek(0) {
         Some(token) => matches!(token.kind, Kind::Opener(_)),
+        None => false,
+    }
+}
+
+/// Whether an opener of the delimiter stands at the front.
+pub fn is_at_opened(at: &Ahead<'_>, delim: Delim) -> bool
+    ensures { result ≡ first (ahead.opens delim) at.now }
+{
+    match at.peek(0) {
+        Some(token) => opens(token, delim),
         None => false,
     }
 }
@@ -129,16 +139,13 @@ pub fn takes_opener(at: &mut Ahead<'_>, delim: Delim) -> bool
     ensures found { result ≡ first (ahead.opens delim) at.old }
     ensures passed { at.new ≡ (if result then tail at.old else at.old) }
 {
-    let found = match at.peek(0) {
-        Some(token) => opens(token, delim),
-        None => false,
-    };
+    let found = is_at_opened(at, delim);
     pass_if(at, found);
     found
 }
 
 /// Whether a closer of the delimiter stands at the front.
-pub(crate) fn is_at_closer(at: &Ahead<'_>, delim: Delim) -> bool
+pub fn is_at_closer(at: &Ahead<'_>, delim: Delim) -> bool
     ensures { result ≡ first (ahead.closes delim) at.now }
 {
     match at.peek(0) {

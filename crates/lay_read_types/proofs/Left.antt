@@ -1,0 +1,500 @@
+-- What reading of types, generic parameters and where clauses leaves: the tokens behind those that are read.
+use Rattle.std.proofs.Common.{◌≡◌, ℕ, zero, suc, ◌<◌, ◌≤◌, ◌&&◌, Bool, true, false, List, [], ◌∷◌, ◌++◌, length, drop, codes, Option, Some, None, if◌then◌else◌, ap, arith}
+use Rattle.lay_token.specs.Operators.{is_op}
+use Rattle.lay_piece.specs.declared.kind.Delim.TheVariants.{Paren, Bracket, Brace}
+use Rattle.lay_token.specs.declared.token.Token.{Token}
+use Rattle.lay_tree.specs.Ahead.{Tokens, first, tail, is_keyword, is_mark, is_lifetime, opens, closes, opens_args, opens_args_late}
+use Rattle.lay_tree.specs.Begins.{Lead, OfPath, OfParen, OfNever, OfInfer, OfPointer, OfReference, OfBracket, OfImpl, OfDyn, OfFunc, lead_at, begins_bound, begins_predicate}
+use Rattle.lay_tree.specs.Follow.{begins_there, OfBang}
+use Rattle.lay_tree.specs.nodes.Attr.{is_empty}
+use Rattle.lay_tree.specs.reader.Attr.{attributes}
+use Rattle.lay_tree.specs.reader.Call.{call}
+use Rattle.lay_tree.specs.reader.Exact.{needless}
+use Rattle.lay_tree.specs.reader.Generics as g
+use Rattle.lay_tree.specs.reader.Loops.{Got, Read, ◌>>=◌, passed, nodes, deepest, repeat, elements, behind_open, open_elements_from, open_elements}
+use Rattle.lay_tree.specs.reader.Tokens.{tokens}
+use Rattle.lay_tree.specs.reader.Types as r
+use Rattle.lay_tree.specs.reader.Types.{Within, within}
+use Rattle.lay_tree.specs.reader.Where as w
+use Rattle.lay_tree.specs.reader.Words.{word, given_name, name}
+use Rattle.lay_tree.specs.declared.attr.Attr.{Attr}
+use Rattle.lay_tree.specs.declared.token.Name.{Name}
+use Rattle.lay_tree.specs.declared.token.Word.{Word}
+use Rattle.lay_tree.specs.declared.types.Args.{Args}
+use Rattle.lay_tree.specs.declared.types.Path.{Path}
+use Rattle.lay_tree.specs.declared.types.PathStart.{PathStart}
+use Rattle.lay_tree.specs.declared.types.PathStyle.{PathStyle}
+use Rattle.lay_tree.specs.declared.types.PathStyle.TheVariants.{Code, Kind as InKind}
+use Rattle.lay_tree.specs.declared.types.Ty.{Ty}
+use Rattle.lay_tree.specs.declared.types.TypePlace.{TypePlace}
+use Rattle.lay_tree.specs.declared.types.TypePlace.TheVariants.{Bounds, NoBounds}
+use Rattle.lay_read_tokens.proofs.Left.{Left, Leaves, Passes, unread, dropped, one_read, joined, further, chain, chain_passed, choice, first_read, passed_left, op_read, repeat_left, elements_left, name_left, given_name_left, word_left, tokens_left, call_left, attributes_left, shorter}
+
+-- ---- small parts
+
+operator_left : (op : List ℕ) (ts : Tokens) → Passes 0 ts (r.operator op ts)
+operator_left op ts = by (is_op op ts)
+  where
+    by : (b : Bool) → Passes 0 ts (if b then Some (drop (length op) ts) else None)
+    by true = dropped (length op) ts
+    by false = tt
+
+flag_left : (p : Token → Bool) (ts : Tokens) → Left 0 ts (r.flag p ts).1
+flag_left p [] = unread []
+flag_left p (t ∷ ts) = by (p t)
+  where
+    by : (b : Bool) → (let pair : Bool × Tokens = if b then (true, ts) else (false, t ∷ ts) in Left 0 (t ∷ ts) pair.1)
+    by true = dropped 1 (t ∷ ts)
+    by false = unread (t ∷ ts)
+
+weaker : {A : Type 0} (ts : Tokens) (o : Got A) → Leaves 1 ts o → Leaves 0 ts o
+weaker ts o h = further 0 0 1 ts ts o (omega arith) (unread ts) h
+
+there_left : {A : Type 0} (b : Bool) (one : Tokens → Got A) (ts : Tokens) → Leaves 0 ts (one ts)
+    → Leaves 0 ts (r.if_there b one ts)
+there_left true one ts h = chain 0 0 0 ts (one ts) _ (omega arith) h (λ x. unread x.1)
+there_left false one ts h = unread ts
+
+read_left : {A : Type 0} (b : Bool) (one : Tokens → Read A) (ts : Tokens) → Leaves 0 ts (one ts)
+    → Leaves 0 ts (r.if_read b one ts)
+read_left true one ts h = chain 0 0 0 ts (one ts) _ (omega arith) h (λ x. unread x.1)
+read_left false one ts h = unread ts
+
+pub lifetime_left : (ts : Tokens) → Leaves 1 ts (r.lifetime ts)
+unfolding r.lifetime
+lifetime_left [] = tt
+lifetime_left (t ∷ ts) = choice 1 (t ∷ ts) (is_lifetime t) _ None (λ h. one_read t ts) tt
+
+literal_left : (p : Token → Bool) (ts : Tokens) → Leaves 1 ts (r.literal p ts)
+unfolding r.literal
+literal_left p [] = tt
+literal_left p (t ∷ ts) = choice 1 (t ∷ ts) (p t) _ None (λ h. one_read t ts) tt
+
+module _ {A : Type 0} (one : Tokens → Got A) (one_left : (ts : Tokens) → Leaves 1 ts (one ts)) where
+  pub joint_left : (n : ℕ) (ts : Tokens) → Leaves 1 ts (one (drop n ts))
+  joint_left n ts = further 1 0 1 ts (drop n ts) _ (omega arith) (dropped n ts) (one_left (drop n ts))
+
+  pub chain_left : (op : List ℕ) (ts : Tokens) → Leaves 1 ts (r.chain op one ts)
+  unfolding r.chain
+  chain_left op ts = chain 1 1 0 ts (one ts) _ (omega arith) (one_left ts)
+      (λ x. chain 0 0 0 x.1 (repeat (is_op op) (λ us. one (drop (length op) us)) x.1) _ (omega arith)
+      (repeat_left (λ us. one (drop (length op) us)) (joint_left (length op)) (is_op op) x.1) (λ more. unread more.1))
+
+  angled_left : (ts : Tokens) → Leaves 1 ts (r.angled one ts)
+  angled_left ts = chain_passed 1 1 0 ts (passed (is_mark (codes "<")) ts) _ (omega arith)
+      (passed_left (is_mark (codes "<")) ts)
+      (λ inside. weaker inside _ (elements_left one one_left (is_mark (codes ">")) inside))
+
+  open_from_left : (begins : Tokens → Bool) (n : ℕ) (found : List A) (ts : Tokens)
+      → Leaves 0 ts (open_elements_from begins one n found ts)
+  unfolding open_elements_from
+  open_from_left begins zero found ts = tt
+  open_from_left begins (suc n) found ts = choice 0 ts (begins ts) _ _
+      (λ h. chain 0 1 0 ts (one ts) _ (omega arith) (one_left ts)
+      (λ x. choice 0 x.1 (first (is_mark (codes ",")) x.1) _ _
+      (λ c. further 0 1 0 x.1 (tail x.1) _ (omega arith) (first_read (is_mark (codes ",")) x.1 c)
+      (open_from_left begins n _ (tail x.1))) (unread x.1)))
+      (unread ts)
+
+  open_left : (begins : Tokens → Bool) (ts : Tokens) → Leaves 0 ts (open_elements begins one ts)
+  unfolding open_elements
+  open_left begins ts = open_from_left begins (suc (length ts)) [] ts
+
+lifetimes_left : (ts : Tokens) → Leaves 0 ts (r.lifetimes ts)
+lifetimes_left ts = choice 0 ts (first is_lifetime ts) _ _
+    (λ h. weaker ts _ (chain_left r.lifetime lifetime_left (codes "+") ts)) (unread ts)
+
+outlived_left : (ts : Tokens) → Leaves 0 ts (r.outlived ts)
+outlived_left ts = choice 0 ts (is_op (codes ":") ts) _ _
+    (λ h. further 0 0 0 ts (drop 1 ts) _ (omega arith) (dropped 1 ts) (lifetimes_left (drop 1 ts))) (unread ts)
+
+behind_left : (attrs : List Attr) (ts : Tokens) → Leaves 1 ts (r.lifetime_behind attrs ts)
+unfolding r.lifetime_behind
+behind_left attrs ts = chain 1 1 0 ts (r.lifetime ts) _ (omega arith) (lifetime_left ts)
+    (λ l. chain 0 0 0 l.1 (r.outlived l.1) _ (omega arith) (outlived_left l.1) (λ bounds. unread bounds.1))
+
+pub lifetime_param_left : (ts : Tokens) → Leaves 1 ts (r.lifetime_param ts)
+lifetime_param_left ts = chain 1 0 1 ts (attributes false ts) _ (omega arith) (attributes_left false ts)
+    (λ attrs. behind_left attrs.0 attrs.1)
+
+binder_left : (ts : Tokens) → Leaves 1 ts (r.binder ts)
+unfolding r.binder
+binder_left ts = chain_passed 1 1 0 ts (passed (is_keyword (codes "for")) ts) _ (omega arith)
+    (passed_left (is_keyword (codes "for")) ts)
+    (λ behind. chain 0 1 0 behind (r.angled r.lifetime_param behind) _ (omega arith)
+    (angled_left r.lifetime_param lifetime_param_left behind) (λ params. unread params.1))
+
+binder_if_left : (ts : Tokens) → Leaves 0 ts (r.binder_if ts)
+binder_if_left ts = there_left (first (is_keyword (codes "for")) ts) r.binder ts (weaker ts _ (binder_left ts))
+
+-- ---- the same of what needs no depth
+
+free_left : {A : Type 0} (one : Tokens → Got A) (ts : Tokens) → Leaves 1 ts (one ts) → Leaves 1 ts (needless one 0 ts)
+free_left one ts h = chain 1 1 0 ts (one ts) _ (omega arith) h (λ x. unread x.1)
+
+pub lifetime_free : (ts : Tokens) → Leaves 1 ts (needless r.lifetime 0 ts)
+lifetime_free ts = free_left r.lifetime ts (lifetime_left ts)
+
+pub param_free : (ts : Tokens) → Leaves 1 ts (needless r.lifetime_param 0 ts)
+param_free ts = free_left r.lifetime_param ts (lifetime_param_left ts)
+
+-- ---- constants
+
+const_left : (ts : Tokens) → Leaves 1 ts (r.const ts)
+unfolding r.const
+const_left ts = choice 1 ts (first r.is_literal_token ts) _ _
+    (λ h. chain 1 1 0 ts (r.literal r.is_literal_token ts) _ (omega arith) (literal_left r.is_literal_token ts)
+    (λ l. unread l.1))
+    (choice 1 ts (first (is_mark (codes "-")) ts) _ _
+    (λ h. further 1 1 0 ts (tail ts) _ (omega arith) (first_read (is_mark (codes "-")) ts h)
+    (chain 0 1 0 (tail ts) (r.literal _ (tail ts)) _ (omega arith) (literal_left _ (tail ts)) (λ n. unread n.1)))
+    (chain_passed 1 1 0 ts (passed (opens Brace) ts) _ (omega arith) (passed_left (opens Brace) ts)
+    (λ inside. chain 0 0 0 inside (tokens inside) _ (omega arith) (tokens_left inside)
+    (λ us. chain_passed 0 1 0 us.1 (passed (closes Brace) us.1) _ (omega arith) (passed_left (closes Brace) us.1)
+    unread))))
+
+const_default_left : (ts : Tokens) → Leaves 1 ts (g.const_default_at ts)
+const_default_left ts = choice 1 ts (r.begins_const ts) _ _
+    (λ h. chain 1 1 0 ts (r.const ts) _ (omega arith) (const_left ts) (λ c. unread c.1))
+    (chain 1 1 0 ts (name ts) _ (omega arith) (name_left ts) (λ n. unread n.1))
+
+abi_left : (ts : Tokens) → Leaves 1 ts (r.abi ts)
+unfolding r.abi
+abi_left ts = chain_passed 1 1 0 ts (passed (is_keyword (codes "extern")) ts) _ (omega arith)
+    (passed_left (is_keyword (codes "extern")) ts)
+    (λ behind. chain 0 0 0 behind (r.if_there (first r.is_string_token behind) (r.literal r.is_string_token) behind) _
+    (omega arith) (there_left (first r.is_string_token behind) (r.literal r.is_string_token) behind
+    (weaker behind _ (literal_left r.is_string_token behind))) (λ l. unread l.1))
+
+is_mutable_left : (ts : Tokens) → Leaves 0 ts (r.is_mutable ts)
+is_mutable_left ts = choice 0 ts (first (is_keyword (codes "mut")) ts) _ _ (λ h. joined 0 1 0 ts (tail ts) (tail ts)
+    (omega arith) (first_read (is_keyword (codes "mut")) ts h) (unread (tail ts)))
+    (choice 0 ts (first (is_keyword (codes "const")) ts) _ None (λ h. joined 0 1 0 ts (tail ts) (tail ts)
+    (omega arith) (first_read (is_keyword (codes "const")) ts h) (unread (tail ts))) tt)
+
+param_name_left : (ts : Tokens) → Leaves 0 ts (r.param_name ts)
+param_name_left ts = chain 0 1 0 ts (given_name ts) _ (omega arith) (given_name_left ts) (λ n. dropped 1 n.1)
+
+-- ---- over what is one level deeper
+
+-- Each reader of what is one level deeper passes a token at least.
+pub record LeftWithin (deeper : Within) : Type 0 where
+  pub types : (place : TypePlace) (ts : Tokens) → Leaves 1 ts (deeper.types place ts)
+  pub constraints : (ts : Tokens) → Leaves 1 ts (deeper.constraints ts)
+
+-- a part that needs no token
+option_left : {A B : Type 0} (n : ℕ) (ts : Tokens) (o : Option A) (f : A → Got B) → ((a : A) → Leaves n ts (f a))
+    → Leaves n ts (o >>= f)
+option_left n ts None f h = tt
+option_left n ts (Some a) f h = h a
+
+module _ (deeper : Within) (l : LeftWithin deeper) where
+  arg_by_left : (x : Ty × ℕ) (ts : Tokens) → Leaves 0 ts (r.arg_by deeper x ts)
+  arg_by_left x ts = choice 0 ts (r.begins_constraint ts) _ _
+      (λ h. option_left 0 ts (r.named_type x.0) _
+      (λ n. chain 0 1 0 ts (deeper.constraints ts) _ (omega arith) (l.constraints ts) (λ c. unread c.1)))
+      (unread ts)
+
+  pub one_arg_left : (ts : Tokens) → Leaves 1 ts (r.one_arg deeper ts)
+  unfolding r.one_arg
+  one_arg_left ts = choice 1 ts (first is_lifetime ts) _ _
+      (λ h. chain 1 1 0 ts (r.lifetime ts) _ (omega arith) (lifetime_left ts) (λ x. unread x.1))
+      (choice 1 ts (r.begins_const ts) _ _
+      (λ h. chain 1 1 0 ts (r.const ts) _ (omega arith) (const_left ts) (λ x. unread x.1))
+      (chain 1 1 0 ts (deeper.types Bounds ts) _ (omega arith) (l.types Bounds ts) (λ x. arg_by_left x.0 x.1)))
+
+  angle_left : (ts : Tokens) → Leaves 1 ts (r.angle deeper ts)
+  unfolding r.angle
+  angle_left ts = chain 1 1 0 ts (r.angled (r.one_arg deeper) ts) _ (omega arith)
+      (angled_left (r.one_arg deeper) one_arg_left ts) (λ xs. unread xs.1)
+
+  output_left : (ts : Tokens) → Leaves 0 ts (r.output deeper ts)
+  output_left ts = read_left (is_op (codes "->") ts) (λ us. deeper.types NoBounds (drop 2 us)) ts
+      (further 0 0 1 ts (drop 2 ts) _ (omega arith) (dropped 2 ts) (l.types NoBounds (drop 2 ts)))
+
+  round_left : (ts : Tokens) → Leaves 1 ts (r.round deeper ts)
+  unfolding r.round
+  round_left ts = chain_passed 1 1 0 ts (passed (opens Paren) ts) _ (omega arith) (passed_left (opens Paren) ts)
+      (λ inside. chain 0 1 0 inside (elements (closes Paren) (deeper.types Bounds) inside) _ (omega arith)
+      (elements_left (deeper.types Bounds) (l.types Bounds) (closes Paren) inside)
+      (λ xs. chain 0 0 0 xs.1 (r.output deeper xs.1) _ (omega arith) (output_left xs.1) (λ o. unread o.1)))
+
+  late_left : (ts : Tokens) → Leaves 0 ts (r.angle deeper (drop 2 ts))
+  late_left ts = further 0 0 1 ts (drop 2 ts) _ (omega arith) (dropped 2 ts) (angle_left (drop 2 ts))
+
+  args_left : (style : PathStyle) (ts : Tokens) → Leaves 0 ts (r.args_by deeper style ts)
+  unfolding r.args_by
+  args_left Code ts = choice 0 ts (opens_args_late ts) _ _ (λ h. late_left ts) (unread ts)
+  args_left InKind ts = choice 0 ts (opens_args ts) _ _ (λ h. weaker ts _ (angle_left ts))
+      (choice 0 ts (opens_args_late ts) _ _ (λ h. late_left ts)
+      (choice 0 ts (first (opens Paren) ts) _ _ (λ h. weaker ts _ (round_left ts)) (unread ts)))
+
+  pub segment_left : (style : PathStyle) (ts : Tokens) → Leaves 1 ts (r.segment deeper style ts)
+  unfolding r.segment
+  segment_left style ts = chain 1 1 0 ts (word ts) _ (omega arith) (word_left ts)
+      (λ x. chain 0 0 0 x.1 (r.args_by deeper style x.1) _ (omega arith) (args_left style x.1) (λ a. unread a.1))
+
+  trait_left : (ts : Tokens) → Leaves 1 ts (r.trait_path deeper ts)
+  trait_left ts = chain 1 1 0 ts (deeper.types NoBounds ts) _ (omega arith) (l.types NoBounds ts)
+      (λ x. option_left 0 x.1 (r.as_path x.0.0) _ (λ p. unread x.1))
+
+  qualified_left : (ts : Tokens) → Leaves 1 ts (r.qualified deeper ts)
+  unfolding r.qualified
+  qualified_left ts = chain_passed 1 1 0 ts (passed (is_mark (codes "<")) ts) _ (omega arith)
+      (passed_left (is_mark (codes "<")) ts)
+      (λ inside. chain 0 1 0 inside (deeper.types Bounds inside) _ (omega arith) (l.types Bounds inside)
+      (λ x. chain 0 0 0 x.1 (r.if_read (first (is_keyword (codes "as")) x.1) (λ us. r.trait_path deeper (tail us)) x.1)
+      _ (omega arith)
+      (as_left x.1)
+      (λ p. chain_passed 0 1 0 p.1 (passed (is_mark (codes ">")) p.1) _ (omega arith)
+      (passed_left (is_mark (codes ">")) p.1)
+      (λ behind. chain_passed 0 0 0 behind (r.operator (codes "::") behind) _ (omega arith)
+      (operator_left (codes "::") behind) unread))))
+    where
+      as_left : (us : Tokens) → Leaves 0 us (r.if_read (first (is_keyword (codes "as")) us)
+          (λ vs. r.trait_path deeper (tail vs)) us)
+      as_left [] = unread []
+      as_left (t ∷ us) = read_left (is_keyword (codes "as") t) (λ vs. r.trait_path deeper (tail vs)) (t ∷ us)
+          (further 0 1 1 (t ∷ us) us _ (omega arith) (one_read t us) (trait_left us))
+
+  path_start_left : (ts : Tokens) → Leaves 0 ts (r.path_start deeper ts)
+  path_start_left ts = choice 0 ts (first (is_mark (codes "<")) ts) _ _ (λ h. weaker ts _ (qualified_left ts))
+      (choice 0 ts (is_op (codes "::") ts) _ _ (λ h. dropped 2 ts) (unread ts))
+
+  path_of_left : (begun : PathStart) (need : ℕ) (segments : List (Word × Args)) (ts : Tokens)
+      → Leaves 0 ts (r.path_of begun need segments ts)
+  path_of_left begun need segments ts = choice 0 ts (r.returns_last segments) _ None (λ h. unread ts) tt
+
+  pub path_left : (style : PathStyle) (ts : Tokens) → Leaves 1 ts (r.path deeper style ts)
+  unfolding r.path
+  path_left style ts = chain 1 0 1 ts (r.path_start deeper ts) _ (omega arith) (path_start_left ts)
+      (λ begun. chain 1 1 0 begun.1 (r.chain (codes "::") (r.segment deeper style) begun.1) _ (omega arith)
+      (chain_left (r.segment deeper style) (segment_left style) (codes "::") begun.1)
+      (λ ss. path_of_left begun.0.0 _ (nodes ss.0) ss.1))
+
+  -- ---- bounds
+
+  meets_left : (parens : Bool) (ts : Tokens) → Leaves 1 ts (r.meets deeper parens ts)
+  unfolding r.meets
+  meets_left parens ts =
+      let mid = (r.flag (is_mark (codes "?")) ts).1 in
+      further 1 0 1 ts mid _ (omega arith) (flag_left (is_mark (codes "?")) ts)
+      (chain 1 0 1 mid (r.binder_if mid) _ (omega arith) (binder_if_left mid)
+      (λ b. chain 1 1 0 b.1 (r.path deeper InKind b.1) _ (omega arith) (path_left InKind b.1) (λ p. unread p.1)))
+
+  pub one_bound_left : (ts : Tokens) → Leaves 1 ts (r.one_bound deeper ts)
+  unfolding r.one_bound
+  one_bound_left ts = choice 1 ts (first is_lifetime ts) _ _
+      (λ h. chain 1 1 0 ts (r.lifetime ts) _ (omega arith) (lifetime_left ts) (λ x. unread x.1))
+      (choice 1 ts (first (opens Paren) ts) _ _
+      (λ h. further 1 1 1 ts (tail ts) _ (omega arith) (first_read (opens Paren) ts h)
+      (chain 1 1 1 (tail ts) (r.meets deeper true (tail ts)) _ (omega arith) (meets_left true (tail ts))
+      (λ x. chain_passed 1 1 0 x.1 (passed (closes Paren) x.1) _ (omega arith) (passed_left (closes Paren) x.1)
+      unread)))
+      (meets_left false ts))
+
+  all_bounds_left : (ts : Tokens) → Leaves 1 ts (r.all_bounds deeper ts)
+  all_bounds_left ts = chain 1 1 0 ts (r.chain (codes "+") (r.one_bound deeper) ts) _ (omega arith)
+      (chain_left (r.one_bound deeper) one_bound_left (codes "+") ts) (λ xs. unread xs.1)
+
+  bounds_by_left : (place : TypePlace) (ts : Tokens) → Leaves 1 ts (r.bounds_by deeper place ts)
+  unfolding r.bounds_by
+  bounds_by_left Bounds ts = all_bounds_left ts
+  bounds_by_left NoBounds ts = chain 1 1 0 ts (r.one_bound deeper ts) _ (omega arith) (one_bound_left ts)
+      (λ x. unread x.1)
+
+  equal_left : (ts : Tokens) → Leaves 1 ts (r.equal deeper ts)
+  equal_left ts = choice 1 ts (r.begins_const ts) _ _
+      (λ h. chain 1 1 0 ts (r.const ts) _ (omega arith) (const_left ts) (λ c. unread c.1))
+      (chain 1 1 0 ts (deeper.types Bounds ts) _ (omega arith) (l.types Bounds ts) (λ x. unread x.1))
+
+  constraint_left : (ts : Tokens) → Leaves 1 ts (r.constraint_by deeper ts)
+  unfolding r.constraint_by
+  constraint_left ts = choice 1 ts (is_op (codes ":") ts) _ _
+      (λ h. further 1 0 1 ts (drop 1 ts) _ (omega arith) (dropped 1 ts)
+      (chain 1 1 0 (drop 1 ts) (r.all_bounds deeper (drop 1 ts)) _ (omega arith) (all_bounds_left (drop 1 ts))
+      (λ bs. unread bs.1)))
+      (chain_passed 1 0 1 ts (r.operator (codes "=") ts) _ (omega arith) (operator_left (codes "=") ts) equal_left)
+
+  -- ---- types
+
+  path_type_left : (ts : Tokens) → Leaves 1 ts (r.path_type deeper ts)
+  unfolding r.path_type
+  path_type_left ts = chain 1 1 0 ts (r.path deeper InKind ts) _ (omega arith) (path_left InKind ts)
+      (λ p. choice 0 p.1 (begins_there OfBang p.1) None _ (λ h. tt) (unread p.1))
+
+  paren_left : (ts : Tokens) → Leaves 0 ts (r.paren_type deeper ts)
+  unfolding r.paren_type
+  paren_left ts = choice 0 ts (first (closes Paren) ts) _ _
+      (λ h. joined 0 1 0 ts (tail ts) (tail ts) (omega arith) (first_read (closes Paren) ts h) (unread (tail ts)))
+      (chain 0 1 0 ts (deeper.types Bounds ts) _ (omega arith) (l.types Bounds ts) (λ x. by x.0 x.1))
+    where
+      by : (x : Ty × ℕ) (us : Tokens) → Leaves 0 us (r.paren_by deeper x us)
+      by x us = choice 0 us (first (closes Paren) us) _ _
+          (λ h. joined 0 1 0 us (tail us) (tail us) (omega arith) (first_read (closes Paren) us h) (unread (tail us)))
+          (chain_passed 0 1 0 us (passed (is_mark (codes ",")) us) _ (omega arith)
+          (passed_left (is_mark (codes ",")) us)
+          (λ behind. chain 0 1 0 behind (elements (closes Paren) (deeper.types Bounds) behind) _ (omega arith)
+          (elements_left (deeper.types Bounds) (l.types Bounds) (closes Paren) behind) (λ more. unread more.1)))
+
+  array_left : (x : Ty × ℕ) (us : Tokens) → Leaves 0 us (r.array_by x us)
+  array_left x us = chain 0 0 0 us (tokens us) _ (omega arith) (tokens_left us)
+      (λ n. chain_passed 0 1 0 n.1 (passed (closes Bracket) n.1) _ (omega arith) (passed_left (closes Bracket) n.1)
+      (λ rest. choice 0 rest (is_empty n.0) None _ (λ h. tt) (unread rest)))
+
+  bracket_left : (ts : Tokens) → Leaves 0 ts (r.bracket_type deeper ts)
+  unfolding r.bracket_type
+  bracket_left ts = chain 0 1 0 ts (deeper.types Bounds ts) _ (omega arith) (l.types Bounds ts)
+      (λ x. choice 0 x.1 (first (is_mark (codes ";")) x.1) _ _
+      (λ h. further 0 1 0 x.1 (tail x.1) _ (omega arith) (first_read (is_mark (codes ";")) x.1 h)
+      (array_left x.0 (tail x.1)))
+      (chain_passed 0 1 0 x.1 (passed (closes Bracket) x.1) _ (omega arith) (passed_left (closes Bracket) x.1) unread))
+
+  reference_left : (ts : Tokens) → Leaves 0 ts (r.reference_type deeper ts)
+  unfolding r.reference_type
+  reference_left ts = chain 0 0 0 ts (r.if_there (first is_lifetime ts) r.lifetime ts) _ (omega arith)
+      (there_left (first is_lifetime ts) r.lifetime ts (weaker ts _ (lifetime_left ts)))
+      (λ x. further 0 0 0 x.1 (r.flag (is_keyword (codes "mut")) x.1).1 _ (omega arith)
+      (flag_left (is_keyword (codes "mut")) x.1)
+      (chain 0 1 0 (r.flag (is_keyword (codes "mut")) x.1).1 (deeper.types NoBounds _) _ (omega arith)
+      (l.types NoBounds (r.flag (is_keyword (codes "mut")) x.1).1) (λ y. unread y.1)))
+
+  pointer_left : (ts : Tokens) → Leaves 0 ts (r.pointer_type deeper ts)
+  unfolding r.pointer_type
+  pointer_left ts = chain 0 0 0 ts (r.is_mutable ts) _ (omega arith) (is_mutable_left ts)
+      (λ m. chain 0 1 0 m.1 (deeper.types NoBounds m.1) _ (omega arith) (l.types NoBounds m.1) (λ x. unread x.1))
+
+  bounds_type_left : (dynamic : Bool) (place : TypePlace) (ts : Tokens) → Leaves 0 ts (r.bounds_type deeper dynamic place ts)
+  unfolding r.bounds_type
+  bounds_type_left dynamic place ts = chain 0 1 0 ts (r.bounds_by deeper place ts) _ (omega arith)
+      (bounds_by_left place ts) (λ bs. unread bs.1)
+
+  pub func_param_left : (ts : Tokens) → Leaves 1 ts (r.func_param deeper ts)
+  unfolding r.func_param
+  func_param_left ts = chain 1 0 1 ts (attributes false ts) _ (omega arith) (attributes_left false ts)
+      (λ attrs. chain 1 0 1 attrs.1 (r.if_there (r.begins_given attrs.1) r.param_name attrs.1) _ (omega arith)
+      (there_left (r.begins_given attrs.1) r.param_name attrs.1 (param_name_left attrs.1))
+      (λ n. chain 1 1 0 n.1 (deeper.types Bounds n.1) _ (omega arith) (l.types Bounds n.1) (λ x. unread x.1)))
+
+  dots_left : (b : Bool) (ts : Tokens) → Left 0 ts (if b then drop 3 ts else ts)
+  dots_left true ts = dropped 3 ts
+  dots_left false ts = unread ts
+
+  func_params_left : (ts : Tokens) → Leaves 1 ts (r.func_params deeper ts)
+  unfolding r.func_params
+  func_params_left ts = chain_passed 1 1 0 ts (passed (opens Paren) ts) _ (omega arith) (passed_left (opens Paren) ts)
+      (λ inside. chain 0 0 0 inside (open_elements r.begins_param (r.func_param deeper) inside) _ (omega arith)
+      (open_left (r.func_param deeper) func_param_left r.begins_param inside)
+      (λ ps. let us : Tokens = if ps.0.1 && is_op (codes "...") ps.1 then drop 3 ps.1 else ps.1 in
+      further 0 0 0 ps.1 us _ (omega arith)
+      (dots_left (ps.0.1 && is_op (codes "...") ps.1) ps.1)
+      (chain_passed 0 1 0 us (passed (closes Paren) us) _ (omega arith) (passed_left (closes Paren) us) unread)))
+
+  func_left : (ts : Tokens) → Leaves 1 ts (r.func_type deeper ts)
+  unfolding r.func_type
+  func_left ts = chain 1 0 1 ts (r.binder_if ts) _ (omega arith) (binder_if_left ts)
+      (λ b. let mid = (r.flag (is_keyword (codes "unsafe")) b.1).1 in
+      further 1 0 1 b.1 mid _ (omega arith) (flag_left (is_keyword (codes "unsafe")) b.1)
+      (chain 1 0 1 mid (r.if_there (first (is_keyword (codes "extern")) mid) r.abi mid) _ (omega arith)
+      (there_left (first (is_keyword (codes "extern")) mid) r.abi mid (weaker mid _ (abi_left mid)))
+      (λ a. chain_passed 1 1 0 a.1 (passed (is_keyword (codes "fn")) a.1) _ (omega arith)
+      (passed_left (is_keyword (codes "fn")) a.1)
+      (λ behind. chain 0 1 0 behind (r.func_params deeper behind) _ (omega arith) (func_params_left behind)
+      (λ ps. chain 0 0 0 ps.1 (r.output deeper ps.1) _ (omega arith) (output_left ps.1) (λ o. unread o.1))))))
+
+  call_type_left : (ts : Tokens) → Leaves 1 ts (r.call_type ts)
+  call_type_left ts = chain 1 1 0 ts (call ts) _ (omega arith) (call_left ts) (λ c. unread c.1)
+
+  behind_one : {A : Type 0} (t : Token) (ts : Tokens) (o : Got A) → Leaves 0 ts o → Leaves 1 (t ∷ ts) o
+  behind_one t ts o h = further 1 1 0 (t ∷ ts) ts o (omega arith) (one_read t ts) h
+
+  type_by_left : (place : TypePlace) (lead : Option Lead) (t : Token) (ts : Tokens)
+      → Leaves 1 (t ∷ ts) (r.type_by deeper place lead (t ∷ ts))
+  type_by_left place None t ts = tt
+  type_by_left place (Some OfPath) t ts = choice 1 (t ∷ ts) (r.begins_call (t ∷ ts)) _ _
+      (λ h. call_type_left (t ∷ ts)) (path_type_left (t ∷ ts))
+  type_by_left place (Some OfParen) t ts = behind_one t ts _ (paren_left ts)
+  type_by_left place (Some OfNever) t ts = one_read t ts
+  type_by_left place (Some OfInfer) t ts = one_read t ts
+  type_by_left place (Some OfPointer) t ts = behind_one t ts _ (pointer_left ts)
+  type_by_left place (Some OfReference) t ts = behind_one t ts _ (reference_left ts)
+  type_by_left place (Some OfBracket) t ts = behind_one t ts _ (bracket_left ts)
+  type_by_left place (Some OfImpl) t ts = behind_one t ts _ (bounds_type_left false place ts)
+  type_by_left place (Some OfDyn) t ts = behind_one t ts _ (bounds_type_left true place ts)
+  type_by_left place (Some OfFunc) t ts = func_left (t ∷ ts)
+
+  type_left : (place : TypePlace) (ts : Tokens) → Leaves 1 ts (r.type_by deeper place (lead_at ts) ts)
+  unfolding lead_at
+  type_left place [] = tt
+  type_left place (t ∷ ts) = type_by_left place (lead_at (t ∷ ts)) t ts
+
+  -- ---- generic parameters and where clauses
+
+  met_left : (ts : Tokens) → Leaves 0 ts (g.met deeper ts)
+  met_left ts = choice 0 ts (begins_bound ts) _ _ (λ h. weaker ts _ (all_bounds_left ts)) (unread ts)
+
+  met_if_left : (ts : Tokens) → Leaves 0 ts (g.met_if deeper ts)
+  met_if_left ts = choice 0 ts (is_op (codes ":") ts) _ _
+      (λ h. further 0 0 0 ts (drop 1 ts) _ (omega arith) (dropped 1 ts) (met_left (drop 1 ts))) (unread ts)
+
+  type_param_left : (attrs : List Attr) (ts : Tokens) → Leaves 1 ts (g.type_param deeper attrs ts)
+  unfolding g.type_param
+  type_param_left attrs ts = chain 1 1 0 ts (name ts) _ (omega arith) (name_left ts)
+      (λ n. chain 0 0 0 n.1 (g.met_if deeper n.1) _ (omega arith) (met_if_left n.1)
+      (λ bounds. chain 0 0 0 bounds.1 (r.if_read (is_op (codes "=") bounds.1)
+      (λ us. deeper.types Bounds (drop 1 us)) bounds.1) _ (omega arith)
+      (read_left (is_op (codes "=") bounds.1) (λ us. deeper.types Bounds (drop 1 us)) bounds.1
+      (further 0 0 1 bounds.1 (drop 1 bounds.1) _ (omega arith) (dropped 1 bounds.1)
+      (l.types Bounds (drop 1 bounds.1)))) (λ d. unread d.1)))
+
+  const_param_left : (attrs : List Attr) (ts : Tokens) → Leaves 1 ts (g.const_param deeper attrs ts)
+  unfolding g.const_param
+  const_param_left attrs ts = chain 1 1 0 ts (name ts) _ (omega arith) (name_left ts)
+      (λ n. chain_passed 0 0 0 n.1 (r.operator (codes ":") n.1) _ (omega arith) (operator_left (codes ":") n.1)
+      (λ at. chain 0 1 0 at (deeper.types Bounds at) _ (omega arith) (l.types Bounds at)
+      (λ x. chain 0 0 0 x.1 (r.if_there (is_op (codes "=") x.1) (λ us. g.const_default_at (drop 1 us)) x.1) _
+      (omega arith)
+      (there_left (is_op (codes "=") x.1) (λ us. g.const_default_at (drop 1 us)) x.1
+      (further 0 0 1 x.1 (drop 1 x.1) _ (omega arith) (dropped 1 x.1) (const_default_left (drop 1 x.1))))
+      (λ d. unread d.1))))
+
+  pub one_param_left : (ts : Tokens) → Leaves 1 ts (g.one_param deeper ts)
+  unfolding g.one_param
+  one_param_left ts = chain 1 0 1 ts (attributes false ts) _ (omega arith) (attributes_left false ts)
+      (λ attrs. choice 1 attrs.1 (first is_lifetime attrs.1) _ _
+      (λ h. chain 1 1 0 attrs.1 (r.lifetime_behind attrs.0 attrs.1) _ (omega arith) (behind_left attrs.0 attrs.1)
+      (λ x. unread x.1))
+      (choice 1 attrs.1 (first (is_keyword (codes "const")) attrs.1) _ _
+      (λ h. further 1 1 1 attrs.1 (tail attrs.1) _ (omega arith) (first_read (is_keyword (codes "const")) attrs.1 h)
+      (const_param_left attrs.0 (tail attrs.1))) (type_param_left attrs.0 attrs.1)))
+
+  pub one_predicate_left : (ts : Tokens) → Leaves 1 ts (w.one_predicate deeper ts)
+  unfolding w.lifetime_predicate w.type_predicate
+  one_predicate_left ts = choice 1 ts (first is_lifetime ts) _ _
+      (λ h. chain 1 1 0 ts (w.lifetime_predicate ts) _ (omega arith)
+      (chain 1 1 0 ts (r.lifetime ts) _ (omega arith) (lifetime_left ts)
+      (λ x. chain_passed 0 0 0 x.1 (r.operator (codes ":") x.1) _ (omega arith) (operator_left (codes ":") x.1)
+      (λ at. chain 0 0 0 at (r.lifetimes at) _ (omega arith) (lifetimes_left at) (λ bounds. unread bounds.1))))
+      (λ p. unread p.1))
+      (chain 1 0 1 ts (r.binder_if ts) _ (omega arith) (binder_if_left ts)
+      (λ b. chain 1 1 0 b.1 (deeper.types Bounds b.1) _ (omega arith) (l.types Bounds b.1)
+      (λ x. chain_passed 0 0 0 x.1 (r.operator (codes ":") x.1) _ (omega arith) (operator_left (codes ":") x.1)
+      (λ at. chain 0 0 0 at (g.met deeper at) _ (omega arith) (met_left at) (λ bounds. unread bounds.1)))))
+
+-- ---- within a depth
+
+pub left_within : (depth : ℕ) → LeftWithin (within depth)
+unfolding within
+left_within zero = record { types = λ place ts. tt; constraints = λ ts. tt }
+left_within (suc depth) = record {
+  types = λ place ts. type_left (within depth) (left_within depth) place ts;
+  constraints = λ ts. constraint_left (within depth) (left_within depth) ts;
+}
+
+-- ---- what is left, where something is read
+
+-- behind a part and a comma
+pub behind_shorter : {A : Type 0} (ts : Tokens) (got : Got A) (x : A) (mid rest : Tokens) → Leaves 1 ts got
+    → got ≡ Some (x, mid) → first (is_mark (codes ",")) mid ≡ true → rest ≡ tail mid → length rest < length ts
+behind_shorter ts got x mid rest a e c k =
+    omega (arith, shorter ts got x mid a e, (first_read (is_mark (codes ",")) mid c).fewer, ap length k)

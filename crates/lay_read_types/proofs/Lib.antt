@@ -1,0 +1,4 @@
+pub mod Left
+pub mod Turning
+pub mod Steps
+pub mod Free

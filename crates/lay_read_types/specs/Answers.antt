@@ -1,0 +1,75 @@
+-- What readers ask for and what they answer.
+use Rattle.std.specs.Prelude.{ℕ, ◌≡◌, ◌≤◌, Bool, if◌then◌else◌, List, [], ◌∷◌, codes, Option, Some, None, Result, IfOk}
+use Rattle.std.specs.declared.alloc.Global.{Global}
+use denote.Ref.{Bor, MutBor}
+use Rattle.lay_token.specs.declared.token.Token.{Token}
+use Rattle.lay_tree.specs.Ahead.{Tokens, closes, is_mark}
+use Rattle.lay_tree.specs.Begins.{begins_predicate}
+use Rattle.lay_tree.specs.reader.Loops.{Got, Read, nodes, deepest}
+use Rattle.lay_tree.specs.reader.Types.{within, begins_param}
+use Rattle.lay_tree.specs.declared.token.Literal.{Literal}
+use Rattle.lay_tree.specs.declared.types.Constraint.{Constraint}
+use Rattle.lay_tree.specs.declared.types.Ty.{Ty}
+use Rattle.lay_tree.specs.declared.types.TypePlace.{TypePlace}
+use Rattle.lay_read_tokens.proofs.Left.{Leaves}
+use Rattle.lay_read_tokens.specs.Answers.{IsFound}
+use Rattle.lay_read_tokens.specs.declared.found.Found.{Found}
+use Rattle.lay_read_tokens.specs.declared.stop.ReadNone.{ReadNone}
+use Rattle.lay_read_types.specs.declared.loops.Closer.{Closer}
+use Rattle.lay_read_types.specs.declared.loops.Closer.TheVariants as closer
+use Rattle.lay_read_types.specs.declared.loops.Joint.{Joint}
+use Rattle.lay_read_types.specs.declared.loops.Joint.TheVariants as joint
+use Rattle.lay_read_types.specs.declared.loops.Opening.{Opening}
+use Rattle.lay_read_types.specs.declared.loops.Opening.TheVariants as opening
+
+-- These functions read types and what is asked of a name at this depth.
+pub record AreDeeper (depth : ℕ) (may_read : Global → MutBor Tokens → TypePlace → ℕ → Type 0)
+    (reads : Global → MutBor Tokens → TypePlace → ℕ → Result (Found Ty) ReadNone → MutBor Tokens → Type 0)
+    (may_ask : Global → MutBor Tokens → ℕ → Type 0)
+    (asks : Global → MutBor Tokens → ℕ → Result (Found Constraint) ReadNone → MutBor Tokens → Type 0) : Type 0 where
+  pub readable : (alloc : Global) (old : MutBor Tokens) (place : TypePlace) → may_read alloc old place depth
+  pub read : (alloc : Global) (old new : MutBor Tokens) (place : TypePlace) (r : Result (Found Ty) ReadNone)
+      → reads alloc old place depth r new → IsFound ((within depth).types place old.now) r new.now
+  pub within_read : (alloc : Global) (old new : MutBor Tokens) (place : TypePlace) (r : Result (Found Ty) ReadNone)
+      → reads alloc old place depth r new → IfOk r (λ found. found.need ≤ depth)
+  pub askable : (alloc : Global) (old : MutBor Tokens) → may_ask alloc old depth
+  pub asked : (alloc : Global) (old new : MutBor Tokens) (r : Result (Found Constraint) ReadNone)
+      → asks alloc old depth r new → IsFound ((within depth).constraints old.now) r new.now
+  pub within_asked : (alloc : Global) (old new : MutBor Tokens) (r : Result (Found Constraint) ReadNone)
+      → asks alloc old depth r new → IfOk r (λ found. found.need ≤ depth)
+
+-- This function reads such parts at this place, by these rules. Each has a token at least.
+pub record ReadsParts {R X T : Type 0} (depth : ℕ) (rules : R) (place : X) (one : Tokens → Read T)
+    (may_read : Bor R → MutBor Tokens → X → Type 0)
+    (reads : Bor R → MutBor Tokens → X → Result (Found T) ReadNone → MutBor Tokens → Type 0) : Type 0 where
+  pub readable : (by : Bor R) (old : MutBor Tokens) → by.now ≡ rules → may_read by old place
+  pub read : (by : Bor R) (old new : MutBor Tokens) (r : Result (Found T) ReadNone)
+      → reads by old place r new → by.now ≡ rules → IsFound (one old.now) r new.now
+  pub within_read : (by : Bor R) (old new : MutBor Tokens) (r : Result (Found T) ReadNone)
+      → reads by old place r new → by.now ≡ rules → IfOk r (λ found. found.need ≤ depth)
+  pub leaves : (ts : Tokens) → Leaves 1 ts (one ts)
+
+-- ---- what ends a list, stands between its parts, or goes on
+
+abbrev pub closed_by : Closer → Token → Bool
+closed_by (closer.Group delim) t = closes delim t
+closed_by closer.Angle t = is_mark (codes ">") t
+
+abbrev pub joined_by : Joint → List ℕ
+joined_by joint.Plus = codes "+"
+joined_by joint.Colons = codes "::"
+
+abbrev pub begins_part : Opening → Tokens → Bool
+begins_part opening.Param ts = begins_param ts
+begins_part opening.Predicate ts = begins_predicate ts
+
+-- These nodes were read as long as one began, and whether a comma stands behind them, and this is the greatest need.
+abbrev pub AreFoundOpen : {A : Type 0} → List (A × ℕ) × Bool → Found (List A × Bool) → Type 0
+AreFoundOpen read found = (nodes read.0 ≡ found.node.0) × (read.1 ≡ found.node.1) × (deepest read.0 ≡ found.need)
+
+-- ---- literals
+
+-- the first token as a literal, where it passes
+abbrev pub literal_if : Bool → Tokens → Got Literal
+literal_if passes [] = None
+literal_if passes (t ∷ ts) = if passes then Some (record { kind = t.kind; text = t.text }, ts) else None
