@@ -1,9 +1,6 @@
 -- Files: what is read is spelled, and what is spelled is read.
-use Rattle.std.proofs.Common.{◌≡◌, ℕ, true, List, [], ◌++◌, Option, Some, None, refl, sym, ◌∙◌, IsTrue}
-use Rattle.std.proofs.lemmas.Bool.{and_parts}
-use Rattle.std.proofs.lemmas.List.Folds.{list_all-append}
+use Rattle.std.proofs.Common.{◌≡◌, ℕ, List, [], Option, Some, None, refl, IsTrue}
 use Rattle.lay_token.specs.declared.token.Token.{Token}
-use Rattle.lay_form.specs.Pieces.{is_text_of}
 use Rattle.lay_tree.specs.Reading.{SpellsFile, top}
 use Rattle.lay_tree.specs.Written.{is_good_shebang}
 use Rattle.lay_tree.specs.nodes.File.{form_of_file}
@@ -11,15 +8,10 @@ use Rattle.lay_tree.specs.reader.File.{whole}
 use Rattle.lay_tree.specs.declared.attr.Attr.{Attr}
 use Rattle.lay_tree.specs.declared.file.File.{File}
 use Rattle.lay_tree.specs.declared.item.Item.{Item}
-use Rattle.lay_tree.proofs.LexedPieces.{lexed_pieces}
-use Rattle.lay_tree.proofs.Pieces.{are_texts, pieces_spelled}
+use Rattle.lay_tree.proofs.Pieces.{pieces_spelled}
 use Rattle.lay_tree.proofs.reader.File.{whole_sound, whole_complete}
-use Rattle.lay_read_types.specs.Answers.{AreLexed}
-use Rattle.lay_read_types.proofs.Lexed.{lexed_in_text, in_row}
-
-pieces_parts : (s t : List Token) → are_texts (s ++ t) ≡ true → (are_texts s ≡ true) × (are_texts t ≡ true)
-pieces_parts s t h =
-    and_parts (are_texts s) (are_texts t) (sym (list_all-append (λ (u : Token). is_text_of u.kind u.text) s t) ∙ h)
+use Rattle.lay_read_tokens.specs.Answers.{AreLexed}
+use Rattle.lay_read_tokens.proofs.Lexed.{lexed_in_text, lexed_texts}
 
 pub file_spelled : (tokens : List Token) (shebang : Option (List ℕ)) (attrs : List Attr) (items : List Item)
     → AreLexed tokens → IsTrue (is_good_shebang shebang)
@@ -28,8 +20,7 @@ pub file_spelled : (tokens : List Token) (shebang : Option (List ℕ)) (attrs : 
 file_spelled tokens shebang attrs items l good h =
     let file : File = record { shebang = shebang; attrs = attrs; items = items } in
     let sound = whole_sound tokens attrs items (lexed_in_text tokens l) h file refl refl in
-    let written = in_row (λ (ts : List Token). are_texts ts ≡ true) pieces_parts lexed_pieces tokens l in
-    let pieces = pieces_spelled (form_of_file file) top tokens [] written sound.0 in
+    let pieces = pieces_spelled (form_of_file file) top tokens [] (lexed_texts tokens l) sound.0 in
     (record { shebang = good; normal = sound.1; pieces = pieces }, sound.0)
 
 pub nothing_spelled : (tokens : List Token) (file : File) → whole tokens ≡ None → SpellsFile file tokens → ⊥

@@ -1,41 +1,21 @@
 -- What reading of use trees and items leaves: the tokens behind those that are read.
-use Rattle.std.proofs.Common.{ℕ, zero, suc, true, false, [], ◌∷◌, Option, Some, None, drop, codes, arith}
+use Rattle.std.proofs.Common.{ℕ, zero, suc, true, false, None, drop, codes, arith}
 use Rattle.lay_token.specs.Operators.{is_op}
 use Rattle.lay_piece.specs.declared.kind.Delim.TheVariants.{Brace}
-use Rattle.lay_piece.specs.declared.kind.Kind.{Kind}
-use Rattle.lay_piece.specs.declared.kind.Kind.TheVariants.{Underscore}
-use Rattle.lay_token.specs.declared.token.Token.{Token}
 use Rattle.lay_tree.specs.Ahead.{Tokens, first, tail, is_keyword, is_mark, opens, closes}
 use Rattle.lay_tree.specs.Follow.{begins_there, OfColons}
 use Rattle.lay_tree.specs.reader.Attr.{attributes}
 use Rattle.lay_tree.specs.reader.Call.{call, behind_end}
 use Rattle.lay_tree.specs.reader.Item.{more_items, items_by, struct_item, module_by, import_by, begins_rules, rules_item, call_item, kind_by, item_by, item_at}
-use Rattle.lay_tree.specs.reader.Loops.{Read, ◌>>=◌, passed, elements}
+use Rattle.lay_tree.specs.reader.Loops.{Read, passed, elements}
 use Rattle.lay_tree.specs.reader.Tokens.{group}
 use Rattle.lay_tree.specs.reader.Use.{renamed, use_word, use_group, use_end_by, ended, use_by, use_at}
-use Rattle.lay_tree.specs.reader.Words.{given_name, name_by, name, word, global, path_words}
+use Rattle.lay_tree.specs.reader.Words.{given_name, name, word, global, path_words}
 use Rattle.lay_tree.specs.declared.item.Item.{Item}
-use Rattle.lay_tree.specs.declared.token.GivenName.TheVariants as given
-use Rattle.lay_tree.specs.declared.token.Name.{Name}
 use Rattle.lay_tree.specs.declared.use_tree.UseTree.{UseTree}
-use Rattle.lay_read_types.proofs.Left.{Leaves, unread, dropped, one_read, further, chain, chain_passed, choice, first_read, passed_left, op_read, global_left, repeat_left, elements_left, name_left, word_left, path_words_left, group_left, call_left, end_left, attributes_left}
+use Rattle.lay_read_tokens.proofs.Left.{Leaves, unread, dropped, further, chain, chain_passed, choice, first_read, passed_left, op_read, global_left, repeat_left, elements_left, name_left, given_name_left, word_left, path_words_left, group_left, call_left, end_left, attributes_left}
 
 -- ---- use trees
-
-other_kind_left : (kind : Kind) (t : Token) (ts : Tokens) → Leaves 1 (record t { kind = kind } ∷ ts)
-    (given_name (record t { kind = kind } ∷ ts))
-unfolding given_name
-other_kind_left Underscore t ts = one_read (record t { kind = Underscore }) ts
-other_kind_left kind t ts = by_name (name_by kind t.text)
-  where
-    by_name : (o : Option Name) → Leaves 1 (record t { kind = kind } ∷ ts) (o >>= (λ n. Some (given.Name n, ts)))
-    by_name None = tt
-    by_name (Some n) = one_read (record t { kind = kind }) ts
-
-given_name_left : (ts : Tokens) → Leaves 1 ts (given_name ts)
-unfolding given_name
-given_name_left [] = tt
-given_name_left (t ∷ ts) = other_kind_left t.kind t ts
 
 renamed_left : (ts : Tokens) → Leaves 0 ts (renamed ts)
 unfolding renamed

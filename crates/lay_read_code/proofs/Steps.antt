@@ -1,26 +1,19 @@
 -- One step of a reader, from what the readers within it give.
-use Rattle.std.proofs.Common.{◌≡◌, ℕ, suc, ◌+◌, ◌-◌, ◌<◌, add-one, Bool, true, false, List, [], ◌∷◌, drop, codes, Option, Some, None, refl, ◌∙◌, ap, if◌then◌else◌, arith}
+use Rattle.std.proofs.Common.{◌≡◌, ℕ, suc, ◌+◌, ◌-◌, ◌<◌, add-one, Bool, true, false, List, drop, codes, Some, None, refl, ◌∙◌, ap, if◌then◌else◌, arith}
 use Rattle.lay_token.specs.Operators.{is_op}
 use Rattle.lay_piece.specs.declared.kind.Delim.TheVariants.{Brace}
-use Rattle.lay_piece.specs.declared.kind.Kind.{Kind}
-use Rattle.lay_piece.specs.declared.kind.Kind.TheVariants.{Underscore}
-use Rattle.lay_token.specs.declared.token.Token.{Token}
-use Rattle.lay_tree.specs.Ahead.{Tokens, first, tail, closes}
+use Rattle.lay_tree.specs.Ahead.{Tokens, closes}
 use Rattle.lay_tree.specs.reader.Attr.{attributes}
 use Rattle.lay_tree.specs.reader.Item.{kind_by, item_by, item_at}
-use Rattle.lay_tree.specs.reader.Loops.{Got, Read, ◌>>=◌, nodes, deepest, elements}
+use Rattle.lay_tree.specs.reader.Loops.{Read, ◌>>=◌, nodes, deepest, elements}
 use Rattle.lay_tree.specs.reader.Use.{use_group, use_end_by, ended, use_at}
-use Rattle.lay_tree.specs.reader.Words.{given_name, name_by, name, path_words}
+use Rattle.lay_tree.specs.reader.Words.{path_words}
 use Rattle.lay_tree.specs.declared.attr.Attr.{Attr}
 use Rattle.lay_tree.specs.declared.item.ItemKind.{ItemKind}
-use Rattle.lay_tree.specs.declared.token.GivenName.{GivenName}
-use Rattle.lay_tree.specs.declared.token.GivenName.TheVariants as given
-use Rattle.lay_tree.specs.declared.token.Name.{Name}
 use Rattle.lay_tree.specs.declared.token.Word.{Word}
 use Rattle.lay_tree.specs.declared.use_tree.UseEnd.{UseEnd}
 use Rattle.lay_tree.specs.declared.use_tree.UseEnd.TheVariants as use_end
 use Rattle.lay_tree.specs.declared.use_tree.UseTree.{UseTree}
-use Rattle.lay_read_types.specs.Answers.{is_underscore_kind, is_underscore}
 
 -- ---- the front
 
@@ -32,43 +25,6 @@ behind_colons f true ts flag mid e g = let h : mid ≡ drop 2 ts = g ∙ rw e re
 behind_colons f false ts flag mid e g = let h : mid ≡ ts = g ∙ rw e refl in rw (e, h) refl
 
 -- ---- use trees
-
-name_both : (o : Option Name) (ts : Tokens)
-    → ◌≡◌ {A = Got GivenName} (o >>= (λ n. Some (given.Name n, ts)))
-    ((o >>= (λ n. let one : Got Name = Some (n, ts) in one)) >>= (λ n. Some (given.Name n.0, n.1)))
-name_both None ts = refl
-name_both (Some n) ts = refl
-
-other_kind : (k : Kind) (t : Token) (ts : Tokens) → is_underscore_kind k ≡ false
-    → given_name (record t { kind = k } ∷ ts) ≡ (name (record t { kind = k } ∷ ts)
-    >>= (λ n. Some (given.Name n.0, n.1)))
-unfolding given_name name
-other_kind Underscore t ts h = absurd (cc)
-other_kind k t ts h = name_both (name_by k t.text) ts
-
-underscore_kind : (k : Kind) (t : Token) (ts : Tokens) → is_underscore_kind k ≡ true
-    → given_name (record t { kind = k } ∷ ts) ≡ Some (given.Underscore, ts)
-unfolding given_name
-underscore_kind Underscore t ts h = refl
-underscore_kind _ t ts h = absurd (cc)
-
-pub other_underscore : (ts : Tokens) → first is_underscore ts ≡ true
-    → given_name ts ≡ Some (given.Underscore, tail ts)
-other_underscore [] h = absurd (cc)
-other_underscore (t ∷ ts) h = underscore_kind t.kind t ts h
-
-other_is_name : (ts : Tokens) → first is_underscore ts ≡ false
-    → given_name ts ≡ (name ts >>= (λ n. Some (given.Name n.0, n.1)))
-unfolding given_name name
-other_is_name [] h = refl
-other_is_name (t ∷ ts) h = other_kind t.kind t ts h
-
-pub other_none : (ts : Tokens) → first is_underscore ts ≡ false → name ts ≡ None → given_name ts ≡ None
-other_none ts h n = other_is_name ts h ∙ rw n refl
-
-pub other_some : (ts : Tokens) (one : Name) (rest : Tokens) → first is_underscore ts ≡ false
-    → name ts ≡ Some (one, rest) → given_name ts ≡ Some (given.Name one, rest)
-other_some ts one rest h n = other_is_name ts h ∙ rw n refl
 
 module _ (within : Tokens → Read UseTree) (ts : Tokens) where
   pub group_none : elements (closes Brace) within ts ≡ None → use_group within ts ≡ None

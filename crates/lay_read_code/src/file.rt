@@ -2,12 +2,13 @@
 ghost use Rattle.std.specs.Prelude.{IsTrue};
 ghost use Rattle.lay_tree.specs.Written.{is_good_shebang};
 ghost use Rattle.lay_tree.specs.reader.File.{whole};
-ghost use Rattle.lay_read_types.specs.Answers.{AreLexed};
+ghost use Rattle.lay_read_tokens.specs.Answers.{AreLexed};
 ghost use Rattle.lay_read_code.specs.Answers.{FileAs, IsWhole};
 
 use crate::items::read_items;
-use lay_nest::{Cursor, Nested};
-use lay_read_types::{ReadNone, read_attrs};
+use lay_nest::Nested;
+use lay_read_tokens::attributes::attrs_ahead;
+use lay_read_tokens::{Ahead, ReadNone};
 use lay_token::{FormatError, List, Refusal, Text};
 use lay_tree::{Attr, File, Item};
 use std::alloc::Global;
@@ -24,7 +25,7 @@ pub fn read_file(alloc: Global, nested: &Nested, shebang: Option<Text>) -> Resul
     requires good { IsTrue (is_good_shebang shebang) }
     ensures { FileAs nested.now shebang result }
 {
-    let mut at = nested.cursor();
+    let mut at = Ahead::new(nested.cursor());
     match read_whole(alloc, &mut at) {
         Ok((attrs, items)) => Ok(File {
             shebang,
@@ -38,11 +39,10 @@ pub fn read_file(alloc: Global, nested: &Nested, shebang: Option<Text>) -> Resul
 
 /// Inner attributes and items, and behind them no token.
 #[tactic(auto, unfolding(lay_tree::specs::reader::File::whole))]
-fn read_whole(alloc: Global, at: &mut Cursor<'_>) -> Result<(List<Attr>, List<Item>), ReadNone>
-    requires { AreLexed at.old }
+fn read_whole(alloc: Global, at: &mut Ahead<'_>) -> Result<(List<Attr>, List<Item>), ReadNone>
     ensures { IsWhole (whole at.old) result }
 {
-    let attrs = read_attrs(alloc, at, true)?;
+    let attrs = attrs_ahead(alloc, at, true)?;
     let items = read_items(alloc, at, DEPTH)?;
     if at.is_end() {
         Ok((attrs, items.node))

@@ -2,20 +2,20 @@
 ghost use Rattle.std.specs.Prelude.{◌≡◌, ◌≤◌, IfOk};
 ghost use Rattle.lay_tree.specs.reader.Item as reader;
 ghost use Rattle.lay_tree.specs.reader.Use.{use_at};
-ghost use Rattle.lay_read_types.specs.Answers.{AreLexed, IsHeld};
-ghost use Rattle.lay_read_code.specs.Answers.{AreFound, IsFound};
+ghost use Rattle.lay_read_tokens.specs.Answers.{AreFound, IsFound, IsHeld};
 
-use crate::found::{Found, greater};
 use crate::uses::read_use;
-use lay_nest::Cursor;
-use lay_read_types::calls::takes_end;
-use lay_read_types::front::{
+use lay_read_tokens::ReadNone;
+use lay_read_tokens::ahead::Ahead;
+use lay_read_tokens::attributes::attrs_ahead;
+use lay_read_tokens::calls::{call_ahead, takes_end};
+use lay_read_tokens::found::{Found, greater};
+use lay_read_tokens::front::{
     has_items, pass_two, takes_closer, takes_keyword, takes_mark, takes_op, takes_opener,
 };
-use lay_read_types::names::{is_at_name, read_name};
-use lay_read_types::stop::{boxed, keep};
-use lay_read_types::tokens::read_group;
-use lay_read_types::{ReadNone, read_attrs, read_call};
+use lay_read_tokens::names::{is_at_name, read_name};
+use lay_read_tokens::stop::{boxed, keep};
+use lay_read_tokens::tokens::read_group;
 use lay_token::{Delim, List};
 use lay_tree::{Item, ItemKind};
 use std::alloc::Global;
@@ -24,10 +24,9 @@ use std::alloc::Global;
 #[cycle(items)]
 pub fn read_items(
     alloc: Global,
-    at: &mut Cursor<'_>,
+    at: &mut Ahead<'_>,
     depth: u32,
 ) -> Result<Found<List<Item>>, ReadNone>
-    requires { AreLexed at.old }
     ensures read { IsHeld AreFound (reader.items_by (reader.item_at depth) at.old) result at.new }
     ensures within { IfOk result (λ found. found.need ≤ depth) }
 {
@@ -44,15 +43,14 @@ pub fn read_items(
 /// An item within a depth, with its attributes.
 #[cycle(items)]
 #[tactic(auto, unfolding(lay_tree::specs::reader::Item::item_at))]
-fn read_item(alloc: Global, at: &mut Cursor<'_>, depth: u32) -> Result<Found<Item>, ReadNone>
-    requires { AreLexed at.old }
+fn read_item(alloc: Global, at: &mut Ahead<'_>, depth: u32) -> Result<Found<Item>, ReadNone>
     ensures read { IsFound (reader.item_at depth at.old) result at.new }
     ensures within { IfOk result (λ found. found.need ≤ depth) }
 {
     if depth == 0 {
         return Err(ReadNone::NoReading);
     }
-    let attrs = read_attrs(alloc, at, false)?;
+    let attrs = attrs_ahead(alloc, at, false)?;
     let kind = read_kind(alloc, at, depth - 1)?;
     Ok(Found {
         need: kind.need + 1,
@@ -66,8 +64,7 @@ fn read_item(alloc: Global, at: &mut Cursor<'_>, depth: u32) -> Result<Found<Ite
 /// What an item is, told from its keyword; without one it is a macro call. What is within it stands within the depth.
 #[cycle(items)]
 #[tactic(auto, unfolding(lay_tree::specs::reader::Item::kind_by))]
-fn read_kind(alloc: Global, at: &mut Cursor<'_>, depth: u32) -> Result<Found<ItemKind>, ReadNone>
-    requires { AreLexed at.old }
+fn read_kind(alloc: Global, at: &mut Ahead<'_>, depth: u32) -> Result<Found<ItemKind>, ReadNone>
     ensures read { IsFound (reader.kind_by (reader.item_at depth) (use_at depth) at.old) result at.new }
     ensures within { IfOk result (λ found. found.need ≤ depth) }
 {
@@ -85,7 +82,7 @@ fn read_kind(alloc: Global, at: &mut Cursor<'_>, depth: u32) -> Result<Found<Ite
 }
 
 /// Whether a macro is declared at the front: `macro_rules` before a `!` and a name.
-fn begins_rules(at: &Cursor<'_>) -> bool
+fn begins_rules(at: &Ahead<'_>) -> bool
     ensures { result ≡ reader.begins_rules at.now }
 {
     let mut behind = at.fork();
@@ -94,7 +91,7 @@ fn begins_rules(at: &Cursor<'_>) -> bool
 
 /// The declaration of a macro. The tokens before its name are known.
 #[tactic(auto, unfolding(lay_tree::specs::reader::Item::rules_item))]
-fn read_rules(alloc: Global, at: &mut Cursor<'_>) -> Result<Found<ItemKind>, ReadNone>
+fn read_rules(alloc: Global, at: &mut Ahead<'_>) -> Result<Found<ItemKind>, ReadNone>
     ensures read { IsFound (reader.rules_item at.old) result at.new }
     ensures within { IfOk result (λ found. found.need ≡ 0) }
 {
@@ -113,12 +110,11 @@ fn read_rules(alloc: Global, at: &mut Cursor<'_>) -> Result<Found<ItemKind>, Rea
 
 /// A macro call, and what ends it.
 #[tactic(auto, unfolding(lay_tree::specs::reader::Item::call_item))]
-fn read_call_item(alloc: Global, at: &mut Cursor<'_>) -> Result<Found<ItemKind>, ReadNone>
-    requires { AreLexed at.old }
+fn read_call_item(alloc: Global, at: &mut Ahead<'_>) -> Result<Found<ItemKind>, ReadNone>
     ensures read { IsFound (reader.call_item at.old) result at.new }
     ensures within { IfOk result (λ found. found.need ≡ 0) }
 {
-    let call = read_call(alloc, at)?;
+    let call = call_ahead(alloc, at)?;
     if takes_end(at, call.tokens.delim) {
         Ok(Found {
             node: ItemKind::Call { call },
@@ -131,7 +127,7 @@ fn read_call_item(alloc: Global, at: &mut Cursor<'_>) -> Result<Found<ItemKind>,
 
 /// A struct, behind its keyword.
 #[tactic(auto, unfolding(lay_tree::specs::reader::Item::struct_item))]
-fn read_struct(alloc: Global, at: &mut Cursor<'_>) -> Result<Found<ItemKind>, ReadNone>
+fn read_struct(alloc: Global, at: &mut Ahead<'_>) -> Result<Found<ItemKind>, ReadNone>
     ensures read { IsFound (reader.struct_item at.old) result at.new }
     ensures within { IfOk result (λ found. found.need ≡ 0) }
 {
@@ -149,8 +145,7 @@ fn read_struct(alloc: Global, at: &mut Cursor<'_>) -> Result<Found<ItemKind>, Re
 /// A module, behind its keyword. Its items stand within the depth.
 #[cycle(items)]
 #[tactic(auto, unfolding(lay_tree::specs::reader::Item::module_by))]
-fn read_module(alloc: Global, at: &mut Cursor<'_>, depth: u32) -> Result<Found<ItemKind>, ReadNone>
-    requires { AreLexed at.old }
+fn read_module(alloc: Global, at: &mut Ahead<'_>, depth: u32) -> Result<Found<ItemKind>, ReadNone>
     ensures read { IsFound (reader.module_by (reader.item_at depth) at.old) result at.new }
     ensures within { IfOk result (λ found. found.need ≤ depth) }
 {
@@ -158,7 +153,7 @@ fn read_module(alloc: Global, at: &mut Cursor<'_>, depth: u32) -> Result<Found<I
     if !takes_opener(at, Delim::Brace) {
         return Err(ReadNone::NoReading);
     }
-    let attrs = read_attrs(alloc, at, true)?;
+    let attrs = attrs_ahead(alloc, at, true)?;
     let items = read_items(alloc, at, depth)?;
     if takes_closer(at, Delim::Brace) {
         Ok(Found {
@@ -176,7 +171,7 @@ fn read_module(alloc: Global, at: &mut Cursor<'_>, depth: u32) -> Result<Found<I
 
 /// An import, behind its keyword. Its use tree stands within the depth.
 #[tactic(auto, unfolding(lay_tree::specs::reader::Item::import_by))]
-fn read_import(alloc: Global, at: &mut Cursor<'_>, depth: u32) -> Result<Found<ItemKind>, ReadNone>
+fn read_import(alloc: Global, at: &mut Ahead<'_>, depth: u32) -> Result<Found<ItemKind>, ReadNone>
     ensures read { IsFound (reader.import_by (use_at depth) at.old) result at.new }
     ensures within { IfOk result (λ found. found.need ≤ depth) }
 {

@@ -6,7 +6,6 @@
 #![tactic(auto)]
 
 mod file;
-mod found;
 mod items;
 mod uses;
 

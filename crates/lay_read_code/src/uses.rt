@@ -1,19 +1,17 @@
 //! Use trees.
 ghost use Rattle.std.specs.Prelude.{◌≡◌, ◌≤◌, IfOk};
 ghost use Rattle.lay_tree.specs.reader.Use as reader;
-ghost use Rattle.lay_tree.specs.reader.Words.{given_name};
-ghost use Rattle.lay_read_types.specs.Answers.{IsGot};
-ghost use Rattle.lay_read_code.specs.Answers.{IsFound};
+ghost use Rattle.lay_read_tokens.specs.Answers.{IsFound, IsGot};
 
-use crate::found::{Found, greater};
-use lay_nest::Cursor;
-use lay_read_types::ReadNone;
-use lay_read_types::front::{
+use lay_read_tokens::ReadNone;
+use lay_read_tokens::ahead::Ahead;
+use lay_read_tokens::found::{Found, greater};
+use lay_read_tokens::front::{
     is_at_colons, takes_closer, takes_colons, takes_element_end, takes_keyword, takes_op,
-    takes_opener, takes_underscore,
+    takes_opener,
 };
-use lay_read_types::names::{read_name, read_path_words, read_word};
-use lay_read_types::stop::keep;
+use lay_read_tokens::names::{read_given_name, read_path_words, read_word};
+use lay_read_tokens::stop::keep;
 use lay_token::{Delim, List};
 use lay_tree::{GivenName, UseEnd, UseTree};
 use std::alloc::Global;
@@ -21,7 +19,7 @@ use std::alloc::Global;
 /// A use tree, within a depth.
 #[cycle(use_trees)]
 #[tactic(auto, unfolding(lay_tree::specs::reader::Use::use_at))]
-pub fn read_use(alloc: Global, at: &mut Cursor<'_>, depth: u32) -> Result<Found<UseTree>, ReadNone>
+pub fn read_use(alloc: Global, at: &mut Ahead<'_>, depth: u32) -> Result<Found<UseTree>, ReadNone>
     ensures read { IsFound (reader.use_at depth at.old) result at.new }
     ensures within { IfOk result (λ found. found.need ≤ depth) }
 {
@@ -46,7 +44,7 @@ pub fn read_use(alloc: Global, at: &mut Cursor<'_>, depth: u32) -> Result<Found<
 
 /// What stands behind the path of a use tree. The trees within it stand within the depth.
 #[cycle(use_trees)]
-fn read_use_end(alloc: Global, at: &mut Cursor<'_>, depth: u32) -> Result<Found<UseEnd>, ReadNone>
+fn read_use_end(alloc: Global, at: &mut Ahead<'_>, depth: u32) -> Result<Found<UseEnd>, ReadNone>
     ensures read { IsFound (reader.use_end_by (reader.use_at depth) at.old) result at.new }
     ensures within { IfOk result (λ found. found.need ≤ depth) }
 {
@@ -64,7 +62,7 @@ fn read_use_end(alloc: Global, at: &mut Cursor<'_>, depth: u32) -> Result<Found<
 
 /// The use trees of a group, which stand within the depth, and the `}` behind them.
 #[cycle(use_trees)]
-fn read_group(alloc: Global, at: &mut Cursor<'_>, depth: u32) -> Result<Found<UseEnd>, ReadNone>
+fn read_group(alloc: Global, at: &mut Ahead<'_>, depth: u32) -> Result<Found<UseEnd>, ReadNone>
     ensures read { IsFound (reader.use_group (reader.use_at depth) at.old) result at.new }
     ensures within { IfOk result (λ found. found.need ≤ depth) }
 {
@@ -85,7 +83,7 @@ fn read_group(alloc: Global, at: &mut Cursor<'_>, depth: u32) -> Result<Found<Us
 }
 
 /// A word, and what it is called here.
-fn read_use_word(alloc: Global, at: &mut Cursor<'_>) -> Result<Found<UseEnd>, ReadNone>
+fn read_use_word(alloc: Global, at: &mut Ahead<'_>) -> Result<Found<UseEnd>, ReadNone>
     ensures read { IsFound (reader.use_word at.old) result at.new }
     ensures within { IfOk result (λ found. found.need ≡ 0) }
 {
@@ -99,7 +97,7 @@ fn read_use_word(alloc: Global, at: &mut Cursor<'_>) -> Result<Found<UseEnd>, Re
 
 /// What follows a word: `as` and another name, or nothing of a use tree.
 #[tactic(auto, unfolding(lay_tree::specs::reader::Use::renamed))]
-fn read_rename(alloc: Global, at: &mut Cursor<'_>) -> Result<Option<GivenName>, ReadNone>
+fn read_rename(alloc: Global, at: &mut Ahead<'_>) -> Result<Option<GivenName>, ReadNone>
     ensures { IsGot (reader.renamed at.old) result at.new }
 {
     if !takes_keyword(at, b"as") {
@@ -107,15 +105,4 @@ fn read_rename(alloc: Global, at: &mut Cursor<'_>) -> Result<Option<GivenName>, 
     }
     let rename = read_given_name(alloc, at)?;
     Ok(Some(rename))
-}
-
-/// A name, or `_`.
-fn read_given_name(alloc: Global, at: &mut Cursor<'_>) -> Result<GivenName, ReadNone>
-    ensures { IsGot (given_name at.old) result at.new }
-{
-    if takes_underscore(at) {
-        return Ok(GivenName::Underscore);
-    }
-    let name = read_name(alloc, at)?;
-    Ok(GivenName::Name(name))
 }

@@ -1,325 +1,501 @@
--- What reading leaves: the tokens behind those that are read.
-use Rattle.std.proofs.Common.{◌≡◌, ℕ, zero, suc, ◌+◌, ◌<◌, ◌≤◌, Bool, true, false, List, [], ◌∷◌, length, map, drop, codes, Option, Some, None, refl, sym, ap, ◌∙◌, if◌then◌else◌, arith, length-append}
-use Rattle.std.specs.List.{list_all}
-use Rattle.std.proofs.Math.Seq.{drop-append_seam}
-use Rattle.std.proofs.lemmas.List.{drop-drop, length-drop}
-use Rattle.lay_token.specs.Operators.{op_at, is_op}
-use Rattle.lay_piece.specs.declared.kind.Delim.{Delim}
-use Rattle.lay_piece.specs.declared.kind.Delim.TheVariants.{Bracket, Brace}
-use Rattle.lay_piece.specs.declared.kind.Kind.{Kind}
-use Rattle.lay_piece.specs.declared.kind.Kind.TheVariants.{Opener}
+-- What reading of types, generic parameters and where clauses leaves: the tokens behind those that are read.
+use Rattle.std.proofs.Common.{◌≡◌, ℕ, zero, suc, ◌<◌, ◌≤◌, ◌&&◌, Bool, true, false, List, [], ◌∷◌, ◌++◌, length, drop, codes, Option, Some, None, if◌then◌else◌, ap, arith}
+use Rattle.lay_token.specs.Operators.{is_op}
+use Rattle.lay_piece.specs.declared.kind.Delim.TheVariants.{Paren, Bracket, Brace}
 use Rattle.lay_token.specs.declared.token.Token.{Token}
-use Rattle.lay_tree.specs.Ahead.{Tokens, first, tail, is_keyword, is_mark, opens, closes}
+use Rattle.lay_tree.specs.Begins.{is_literal_token}
+use Rattle.lay_tree.specs.Ahead.{Tokens, first, tail, is_keyword, is_mark, is_lifetime, opens, closes, opens_args, opens_args_late}
+use Rattle.lay_tree.specs.Begins.{Lead, OfPath, OfParen, OfNever, OfInfer, OfPointer, OfReference, OfBracket, OfImpl, OfDyn, OfFunc, lead_at, begins_bound, begins_predicate}
+use Rattle.lay_tree.specs.Follow.{begins_there, OfBang}
 use Rattle.lay_tree.specs.nodes.Attr.{is_empty}
-use Rattle.lay_tree.specs.reader.Attr.{begins_group, meta_name, value, meta_input, behind_opening, meta_attr, doc_attr, is_doc, attribute, begins_attr, attributes}
-use Rattle.lay_tree.specs.reader.Call.{behind_bang, call, behind_end}
-use Rattle.lay_tree.specs.reader.Loops.{Got, ◌>>=◌, passed, element_end, repeat_from, repeat, elements_from, elements}
-use Rattle.lay_tree.specs.reader.SimplePath.{begins_colons, further_word, simple_path}
-use Rattle.lay_tree.specs.reader.Tokens.{run, tokens, group}
-use Rattle.lay_tree.specs.reader.Words.{name_by, name, word_by, word, global, path_word, begins_path_word, path_words}
-use Rattle.lay_tree.specs.tokens.Lexed.{may_be_laid}
-use Rattle.lay_tree.specs.tokens.Listing.{as_listed, is_doc_text}
+use Rattle.lay_tree.specs.reader.Attr.{attributes}
+use Rattle.lay_tree.specs.reader.Call.{call}
+use Rattle.lay_tree.specs.reader.Exact.{needless}
+use Rattle.lay_tree.specs.reader.Generics as g
+use Rattle.lay_tree.specs.reader.Loops.{Got, Read, ◌>>=◌, passed, nodes, deepest, repeat, elements, behind_open, open_elements_from, open_elements}
+use Rattle.lay_tree.specs.reader.Tokens.{tokens}
+use Rattle.lay_tree.specs.reader.Types as r
+use Rattle.lay_tree.specs.reader.Types.{Within, within}
+use Rattle.lay_tree.specs.reader.Where as w
+use Rattle.lay_tree.specs.reader.Words.{word, given_name, name}
+use Rattle.lay_tree.specs.declared.attr.Attr.{Attr}
 use Rattle.lay_tree.specs.declared.token.Name.{Name}
 use Rattle.lay_tree.specs.declared.token.Word.{Word}
-use Rattle.lay_read_types.proofs.Lists.{Whole, run_whole}
+use Rattle.lay_tree.specs.declared.types.Args.{Args}
+use Rattle.lay_tree.specs.declared.types.Path.{Path}
+use Rattle.lay_tree.specs.declared.types.PathStart.{PathStart}
+use Rattle.lay_tree.specs.declared.types.PathStyle.{PathStyle}
+use Rattle.lay_tree.specs.declared.types.PathStyle.TheVariants.{Code, Kind as InKind}
+use Rattle.lay_tree.specs.declared.types.Ty.{Ty}
+use Rattle.lay_tree.specs.declared.types.TypePlace.{TypePlace}
+use Rattle.lay_tree.specs.declared.types.TypePlace.TheVariants.{Bounds, NoBounds}
+use Rattle.lay_read_tokens.proofs.Left.{Left, Leaves, Passes, unread, dropped, one_read, joined, further, chain, chain_passed, choice, first_read, passed_left, op_read, repeat_left, elements_left, name_left, given_name_left, word_left, tokens_left, call_left, attributes_left, shorter}
 
--- The rest stands behind at least n tokens.
-pub record Left (n : ℕ) (ts rest : Tokens) : Type 0 where
-  pub count : ℕ
-  pub dropped : rest ≡ drop count ts
-  pub fewer : n + length rest ≤ length ts
+-- ---- small parts
 
--- What reading leaves, if it gives anything, stands behind at least n tokens.
-abbrev pub Leaves : {A : Type 0} → ℕ → Tokens → Got A → Type 0
-Leaves n ts None = Unit {0}
-Leaves n ts (Some got) = Left n ts got.1
-
--- the same of what leaves tokens and gives nothing else
-abbrev pub Passes : ℕ → Tokens → Option Tokens → Type 0
-Passes n ts None = Unit {0}
-Passes n ts (Some rest) = Left n ts rest
-
-pub unread : (ts : Tokens) → Left 0 ts ts
-unread ts = record { count = 0; dropped = refl; fewer = omega arith }
-
-pub dropped : (n : ℕ) (ts : Tokens) → Left 0 ts (drop n ts)
-dropped n ts = record { count = n; dropped = refl; fewer = omega (arith, length-drop n ts) }
-
-pub one_read : (t : Token) (ts : Tokens) → Left 1 (t ∷ ts) ts
-one_read t ts = record { count = 1; dropped = refl; fewer = omega arith }
-
-pub joined : (k m n : ℕ) (ts mid rest : Tokens) → k ≤ m + n → Left m ts mid → Left n mid rest → Left k ts rest
-joined k m n ts mid rest e a b = record {
-  count = a.count + b.count;
-  dropped = b.dropped ∙ ap (drop b.count) a.dropped ∙ drop-drop b.count a.count ts;
-  fewer = omega (arith, a.fewer, b.fewer);
-}
-
--- ---- steps
-
-pub further : {A : Type 0} (k m n : ℕ) (ts mid : Tokens) (o : Got A) → k ≤ m + n → Left m ts mid → Leaves n mid o
-    → Leaves k ts o
-further k m n ts mid None e a b = tt
-further k m n ts mid (Some got) e a b = joined k m n ts mid got.1 e a b
-
-pub passes_further : (k m n : ℕ) (ts mid : Tokens) (o : Option Tokens) → k ≤ m + n → Left m ts mid → Passes n mid o
-    → Passes k ts o
-passes_further k m n ts mid None e a b = tt
-passes_further k m n ts mid (Some rest) e a b = joined k m n ts mid rest e a b
-
-pub chain : {A B : Type 0} (k m n : ℕ) (ts : Tokens) (o : Got A) (f : A × Tokens → Got B) → k ≤ m + n → Leaves m ts o
-    → ((got : A × Tokens) → Leaves n got.1 (f got)) → Leaves k ts (o >>= f)
-chain k m n ts None f e a b = tt
-chain k m n ts (Some got) f e a b = further k m n ts got.1 (f got) e a (b got)
-
-pub chain_passed : {B : Type 0} (k m n : ℕ) (ts : Tokens) (o : Option Tokens) (f : Tokens → Got B) → k ≤ m + n
-    → Passes m ts o
-    → ((rest : Tokens) → Leaves n rest (f rest)) → Leaves k ts (o >>= f)
-chain_passed k m n ts None f e a b = tt
-chain_passed k m n ts (Some rest) f e a b = further k m n ts rest (f rest) e a (b rest)
-
-pub passed_twice : (k m n : ℕ) (ts : Tokens) (o : Option Tokens) (f : Tokens → Option Tokens) → k ≤ m + n
-    → Passes m ts o
-    → ((rest : Tokens) → Passes n rest (f rest)) → Passes k ts (o >>= f)
-passed_twice k m n ts None f e a b = tt
-passed_twice k m n ts (Some rest) f e a b = passes_further k m n ts rest (f rest) e a (b rest)
-
-pub choice : {A : Type 0} (n : ℕ) (ts : Tokens) (b : Bool) (x y : Got A) → (b ≡ true → Leaves n ts x) → Leaves n ts y
-    → Leaves n ts (if b then x else y)
-choice n ts true x y p q = p refl
-choice n ts false x y p q = q
-
--- ---- the front
-
-pub first_read : (p : Token → Bool) (ts : Tokens) → first p ts ≡ true → Left 1 ts (tail ts)
-first_read p [] h = absurd (cc)
-first_read p (t ∷ ts) h = one_read t ts
-
-pub passed_left : (p : Token → Bool) (ts : Tokens) → Passes 1 ts (passed p ts)
-passed_left p [] = tt
-passed_left p (t ∷ ts) = by_test (p t)
+operator_left : (op : List ℕ) (ts : Tokens) → Passes 0 ts (r.operator op ts)
+operator_left op ts = by (is_op op ts)
   where
-    by_test : (b : Bool) → Passes 1 (t ∷ ts) (if b then Some ts else None)
-    by_test true = one_read t ts
-    by_test false = tt
+    by : (b : Bool) → Passes 0 ts (if b then Some (drop (length op) ts) else None)
+    by true = dropped (length op) ts
+    by false = tt
 
-pub op_read : (op : List ℕ) (n : ℕ) (ts : Tokens) → is_op op ts ≡ true → Left 1 ts (drop (suc n) ts)
-unfolding op_at
-op_read op n [] h = absurd (cc)
-op_read op n (t ∷ ts) h = record { count = suc n; dropped = refl; fewer = omega (arith, length-drop n ts) }
-
-pub global_left : (ts : Tokens) → Left 0 ts (global ts).1
-global_left ts = by_test (is_op (codes "::") ts) refl
+flag_left : (p : Token → Bool) (ts : Tokens) → Left 0 ts (r.flag p ts).1
+flag_left p [] = unread []
+flag_left p (t ∷ ts) = by (p t)
   where
-    by_test : (b : Bool) → is_op (codes "::") ts ≡ b → (let pair : Bool × Tokens =
-        if b then (true, drop 2 ts) else (false, ts) in Left 0 ts pair.1)
-    by_test true h = joined 0 1 0 ts (drop 2 ts) (drop 2 ts) (omega arith) (op_read (codes "::") 1 ts h)
-        (unread (drop 2 ts))
-    by_test false h = unread ts
+    by : (b : Bool) → (let pair : Bool × Tokens = if b then (true, ts) else (false, t ∷ ts) in Left 0 (t ∷ ts) pair.1)
+    by true = dropped 1 (t ∷ ts)
+    by false = unread (t ∷ ts)
 
--- ---- loops
+weaker : {A : Type 0} (ts : Tokens) (o : Got A) → Leaves 1 ts o → Leaves 0 ts o
+weaker ts o h = further 0 0 1 ts ts o (omega arith) (unread ts) h
 
-element_end_left : (closing : Token → Bool) (ts : Tokens) → Passes 0 ts (element_end closing ts)
-element_end_left closing [] = tt
-element_end_left closing (t ∷ ts) = by_test (is_mark (codes ",") t) (closing t)
-  where
-    by_test : (comma close : Bool) → Passes 0 (t ∷ ts) (if comma then Some ts else
-        (if close then Some (t ∷ ts) else None))
-    by_test true close = record { count = 1; dropped = refl; fewer = omega arith }
-    by_test false true = unread (t ∷ ts)
-    by_test false false = tt
+there_left : {A : Type 0} (b : Bool) (one : Tokens → Got A) (ts : Tokens) → Leaves 0 ts (one ts)
+    → Leaves 0 ts (r.if_there b one ts)
+there_left true one ts h = chain 0 0 0 ts (one ts) _ (omega arith) h (λ x. unread x.1)
+there_left false one ts h = unread ts
+
+read_left : {A : Type 0} (b : Bool) (one : Tokens → Read A) (ts : Tokens) → Leaves 0 ts (one ts)
+    → Leaves 0 ts (r.if_read b one ts)
+read_left true one ts h = chain 0 0 0 ts (one ts) _ (omega arith) h (λ x. unread x.1)
+read_left false one ts h = unread ts
+
+pub lifetime_left : (ts : Tokens) → Leaves 1 ts (r.lifetime ts)
+unfolding r.lifetime
+lifetime_left [] = tt
+lifetime_left (t ∷ ts) = choice 1 (t ∷ ts) (is_lifetime t) _ None (λ h. one_read t ts) tt
+
+literal_left : (p : Token → Bool) (ts : Tokens) → Leaves 1 ts (r.literal p ts)
+unfolding r.literal
+literal_left p [] = tt
+literal_left p (t ∷ ts) = choice 1 (t ∷ ts) (p t) _ None (λ h. one_read t ts) tt
 
 module _ {A : Type 0} (one : Tokens → Got A) (one_left : (ts : Tokens) → Leaves 1 ts (one ts)) where
-  repeat_from_left : (more : Tokens → Bool) (n : ℕ) (found : List A) (ts : Tokens)
-      → Leaves 0 ts (repeat_from more one n found ts)
-  unfolding repeat_from
-  repeat_from_left more zero found ts = tt
-  repeat_from_left more (suc n) found ts = choice 0 ts (more ts) _ _
-      (λ h. chain 0 1 0 ts (one ts) _ (omega arith) (one_left ts) (λ x. repeat_from_left more n _ x.1))
+  pub joint_left : (n : ℕ) (ts : Tokens) → Leaves 1 ts (one (drop n ts))
+  joint_left n ts = further 1 0 1 ts (drop n ts) _ (omega arith) (dropped n ts) (one_left (drop n ts))
+
+  pub chain_left : (op : List ℕ) (ts : Tokens) → Leaves 1 ts (r.chain op one ts)
+  unfolding r.chain
+  chain_left op ts = chain 1 1 0 ts (one ts) _ (omega arith) (one_left ts)
+      (λ x. chain 0 0 0 x.1 (repeat (is_op op) (λ us. one (drop (length op) us)) x.1) _ (omega arith)
+      (repeat_left (λ us. one (drop (length op) us)) (joint_left (length op)) (is_op op) x.1) (λ more. unread more.1))
+
+  angled_left : (ts : Tokens) → Leaves 1 ts (r.angled one ts)
+  angled_left ts = chain_passed 1 1 0 ts (passed (is_mark (codes "<")) ts) _ (omega arith)
+      (passed_left (is_mark (codes "<")) ts)
+      (λ inside. weaker inside _ (elements_left one one_left (is_mark (codes ">")) inside))
+
+  open_from_left : (begins : Tokens → Bool) (n : ℕ) (found : List A) (ts : Tokens)
+      → Leaves 0 ts (open_elements_from begins one n found ts)
+  unfolding open_elements_from
+  open_from_left begins zero found ts = tt
+  open_from_left begins (suc n) found ts = choice 0 ts (begins ts) _ _
+      (λ h. chain 0 1 0 ts (one ts) _ (omega arith) (one_left ts)
+      (λ x. choice 0 x.1 (first (is_mark (codes ",")) x.1) _ _
+      (λ c. further 0 1 0 x.1 (tail x.1) _ (omega arith) (first_read (is_mark (codes ",")) x.1 c)
+      (open_from_left begins n _ (tail x.1))) (unread x.1)))
       (unread ts)
 
-  pub repeat_left : (more : Tokens → Bool) (ts : Tokens) → Leaves 0 ts (repeat more one ts)
-  unfolding repeat
-  repeat_left more ts = repeat_from_left more (suc (length ts)) [] ts
+  open_left : (begins : Tokens → Bool) (ts : Tokens) → Leaves 0 ts (open_elements begins one ts)
+  unfolding open_elements
+  open_left begins ts = open_from_left begins (suc (length ts)) [] ts
 
-  elements_from_left : (closing : Token → Bool) (n : ℕ) (found : List A) (ts : Tokens)
-      → Leaves 1 ts (elements_from closing one n found ts)
-  unfolding elements_from
-  elements_from_left closing zero found ts = tt
-  elements_from_left closing (suc n) found ts = choice 1 ts (first closing ts) _ _ (λ h. first_read closing ts h)
-      (chain 1 1 0 ts (one ts) _ (omega arith) (one_left ts)
-      (λ x. chain_passed 0 0 1 x.1 (element_end closing x.1) _ (omega arith) (element_end_left closing x.1)
-      (λ behind. elements_from_left closing n _ behind)))
+lifetimes_left : (ts : Tokens) → Leaves 0 ts (r.lifetimes ts)
+lifetimes_left ts = choice 0 ts (first is_lifetime ts) _ _
+    (λ h. weaker ts _ (chain_left r.lifetime lifetime_left (codes "+") ts)) (unread ts)
 
-  pub elements_left : (closing : Token → Bool) (ts : Tokens) → Leaves 1 ts (elements closing one ts)
-  unfolding elements
-  elements_left closing ts = elements_from_left closing (suc (length ts)) [] ts
+outlived_left : (ts : Tokens) → Leaves 0 ts (r.outlived ts)
+outlived_left ts = choice 0 ts (is_op (codes ":") ts) _ _
+    (λ h. further 0 0 0 ts (drop 1 ts) _ (omega arith) (dropped 1 ts) (lifetimes_left (drop 1 ts))) (unread ts)
 
--- ---- names and words
+behind_left : (attrs : List Attr) (ts : Tokens) → Leaves 1 ts (r.lifetime_behind attrs ts)
+unfolding r.lifetime_behind
+behind_left attrs ts = chain 1 1 0 ts (r.lifetime ts) _ (omega arith) (lifetime_left ts)
+    (λ l. chain 0 0 0 l.1 (r.outlived l.1) _ (omega arith) (outlived_left l.1) (λ bounds. unread bounds.1))
 
-pub name_left : (ts : Tokens) → Leaves 1 ts (name ts)
-unfolding name
-name_left [] = tt
-name_left (t ∷ ts) = by_name (name_by t.kind t.text)
-  where
-    by_name : (o : Option Name) → Leaves 1 (t ∷ ts) (o >>= (λ n. Some (n, ts)))
-    by_name None = tt
-    by_name (Some n) = one_read t ts
+pub lifetime_param_left : (ts : Tokens) → Leaves 1 ts (r.lifetime_param ts)
+lifetime_param_left ts = chain 1 0 1 ts (attributes false ts) _ (omega arith) (attributes_left false ts)
+    (λ attrs. behind_left attrs.0 attrs.1)
 
-pub word_left : (ts : Tokens) → Leaves 1 ts (word ts)
-unfolding word
-word_left [] = tt
-word_left (t ∷ ts) = by_word (word_by t.kind t.text)
-  where
-    by_word : (o : Option Word) → Leaves 1 (t ∷ ts) (o >>= (λ w. Some (w, ts)))
-    by_word None = tt
-    by_word (Some w) = one_read t ts
+binder_left : (ts : Tokens) → Leaves 1 ts (r.binder ts)
+unfolding r.binder
+binder_left ts = chain_passed 1 1 0 ts (passed (is_keyword (codes "for")) ts) _ (omega arith)
+    (passed_left (is_keyword (codes "for")) ts)
+    (λ behind. chain 0 1 0 behind (r.angled r.lifetime_param behind) _ (omega arith)
+    (angled_left r.lifetime_param lifetime_param_left behind) (λ params. unread params.1))
 
-pub path_word_left : (ts : Tokens) → Leaves 1 ts (path_word ts)
-unfolding path_word
-path_word_left ts = chain 1 1 0 ts (word ts) _ (omega arith) (word_left ts) (λ w. ended w.0 w.1)
-  where
-    ended : (w : Word) (mid : Tokens) → Leaves 0 mid (if is_op (codes "::") mid then Some (w, drop 2 mid) else None)
-    ended w mid = choice 0 mid (is_op (codes "::") mid) (Some (w, drop 2 mid)) None
-        (λ h. further 0 1 0 mid (drop 2 mid) (Some (w, drop 2 mid)) (omega arith) (op_read (codes "::") 1 mid h)
-        (unread (drop 2 mid))) tt
+binder_if_left : (ts : Tokens) → Leaves 0 ts (r.binder_if ts)
+binder_if_left ts = there_left (first (is_keyword (codes "for")) ts) r.binder ts (weaker ts _ (binder_left ts))
 
-pub path_words_left : (ts : Tokens) → Leaves 0 ts (path_words ts)
-unfolding path_words
-path_words_left ts = repeat_left path_word path_word_left begins_path_word ts
+-- ---- the same of what needs no depth
 
--- ---- simple paths
+free_left : {A : Type 0} (one : Tokens → Got A) (ts : Tokens) → Leaves 1 ts (one ts) → Leaves 1 ts (needless one 0 ts)
+free_left one ts h = chain 1 1 0 ts (one ts) _ (omega arith) h (λ x. unread x.1)
 
-pub further_word_left : (ts : Tokens) → Leaves 1 ts (further_word ts)
-further_word_left ts = further 1 0 1 ts (drop 2 ts) _ (omega arith) (dropped 2 ts) (word_left (drop 2 ts))
+pub lifetime_free : (ts : Tokens) → Leaves 1 ts (needless r.lifetime 0 ts)
+lifetime_free ts = free_left r.lifetime ts (lifetime_left ts)
 
-pub simple_path_left : (ts : Tokens) → Leaves 1 ts (simple_path ts)
-unfolding simple_path
-simple_path_left ts = further 1 0 1 ts (global ts).1 _ (omega arith) (global_left ts)
-    (chain 1 1 0 (global ts).1 (word (global ts).1) _ (omega arith) (word_left (global ts).1)
-    (λ w. chain 0 0 0 w.1 (repeat begins_colons further_word w.1) _ (omega arith)
-    (repeat_left further_word further_word_left begins_colons w.1) (λ more. unread more.1)))
+pub param_free : (ts : Tokens) → Leaves 1 ts (needless r.lifetime_param 0 ts)
+param_free ts = free_left r.lifetime_param ts (lifetime_param_left ts)
 
--- ---- token lists, groups and macro calls
+-- ---- constants
 
-whole_left : (ts : Tokens) (got : Got (List Token)) → Whole ts got → Leaves 0 ts got
-whole_left ts None h = tt
-whole_left ts (Some r) h = record {
-  count = length r.0;
-  dropped = sym (ap (drop (length r.0)) h ∙ drop-append_seam r.0 r.1);
-  fewer = omega (arith, ap length h, length-append r.0 r.1);
+const_left : (ts : Tokens) → Leaves 1 ts (r.const ts)
+unfolding r.const
+const_left ts = choice 1 ts (first is_literal_token ts) _ _
+    (λ h. chain 1 1 0 ts (r.literal is_literal_token ts) _ (omega arith) (literal_left is_literal_token ts)
+    (λ l. unread l.1))
+    (choice 1 ts (first (is_mark (codes "-")) ts) _ _
+    (λ h. further 1 1 0 ts (tail ts) _ (omega arith) (first_read (is_mark (codes "-")) ts h)
+    (chain 0 1 0 (tail ts) (r.literal _ (tail ts)) _ (omega arith) (literal_left _ (tail ts)) (λ n. unread n.1)))
+    (chain_passed 1 1 0 ts (passed (opens Brace) ts) _ (omega arith) (passed_left (opens Brace) ts)
+    (λ inside. chain 0 0 0 inside (tokens inside) _ (omega arith) (tokens_left inside)
+    (λ us. chain_passed 0 1 0 us.1 (passed (closes Brace) us.1) _ (omega arith) (passed_left (closes Brace) us.1)
+    unread))))
+
+const_default_left : (ts : Tokens) → Leaves 1 ts (g.const_default_at ts)
+const_default_left ts = choice 1 ts (r.begins_const ts) _ _
+    (λ h. chain 1 1 0 ts (r.const ts) _ (omega arith) (const_left ts) (λ c. unread c.1))
+    (chain 1 1 0 ts (name ts) _ (omega arith) (name_left ts) (λ n. unread n.1))
+
+abi_left : (ts : Tokens) → Leaves 1 ts (r.abi ts)
+unfolding r.abi
+abi_left ts = chain_passed 1 1 0 ts (passed (is_keyword (codes "extern")) ts) _ (omega arith)
+    (passed_left (is_keyword (codes "extern")) ts)
+    (λ behind. chain 0 0 0 behind (r.if_there (first r.is_string_token behind) (r.literal r.is_string_token) behind) _
+    (omega arith) (there_left (first r.is_string_token behind) (r.literal r.is_string_token) behind
+    (weaker behind _ (literal_left r.is_string_token behind))) (λ l. unread l.1))
+
+is_mutable_left : (ts : Tokens) → Leaves 0 ts (r.is_mutable ts)
+is_mutable_left ts = choice 0 ts (first (is_keyword (codes "mut")) ts) _ _ (λ h. joined 0 1 0 ts (tail ts) (tail ts)
+    (omega arith) (first_read (is_keyword (codes "mut")) ts h) (unread (tail ts)))
+    (choice 0 ts (first (is_keyword (codes "const")) ts) _ None (λ h. joined 0 1 0 ts (tail ts) (tail ts)
+    (omega arith) (first_read (is_keyword (codes "const")) ts h) (unread (tail ts))) tt)
+
+param_name_left : (ts : Tokens) → Leaves 0 ts (r.param_name ts)
+param_name_left ts = chain 0 1 0 ts (given_name ts) _ (omega arith) (given_name_left ts) (λ n. dropped 1 n.1)
+
+-- ---- over what is one level deeper
+
+-- Each reader of what is one level deeper passes a token at least.
+pub record LeftWithin (deeper : Within) : Type 0 where
+  pub types : (place : TypePlace) (ts : Tokens) → Leaves 1 ts (deeper.types place ts)
+  pub constraints : (ts : Tokens) → Leaves 1 ts (deeper.constraints ts)
+
+-- a part that needs no token
+option_left : {A B : Type 0} (n : ℕ) (ts : Tokens) (o : Option A) (f : A → Got B) → ((a : A) → Leaves n ts (f a))
+    → Leaves n ts (o >>= f)
+option_left n ts None f h = tt
+option_left n ts (Some a) f h = h a
+
+module _ (deeper : Within) (l : LeftWithin deeper) where
+  arg_by_left : (x : Ty × ℕ) (ts : Tokens) → Leaves 0 ts (r.arg_by deeper x ts)
+  arg_by_left x ts = choice 0 ts (r.begins_constraint ts) _ _
+      (λ h. option_left 0 ts (r.named_type x.0) _
+      (λ n. chain 0 1 0 ts (deeper.constraints ts) _ (omega arith) (l.constraints ts) (λ c. unread c.1)))
+      (unread ts)
+
+  pub one_arg_left : (ts : Tokens) → Leaves 1 ts (r.one_arg deeper ts)
+  unfolding r.one_arg
+  one_arg_left ts = choice 1 ts (first is_lifetime ts) _ _
+      (λ h. chain 1 1 0 ts (r.lifetime ts) _ (omega arith) (lifetime_left ts) (λ x. unread x.1))
+      (choice 1 ts (r.begins_const ts) _ _
+      (λ h. chain 1 1 0 ts (r.const ts) _ (omega arith) (const_left ts) (λ x. unread x.1))
+      (chain 1 1 0 ts (deeper.types Bounds ts) _ (omega arith) (l.types Bounds ts) (λ x. arg_by_left x.0 x.1)))
+
+  angle_left : (ts : Tokens) → Leaves 1 ts (r.angle deeper ts)
+  unfolding r.angle
+  angle_left ts = chain 1 1 0 ts (r.angled (r.one_arg deeper) ts) _ (omega arith)
+      (angled_left (r.one_arg deeper) one_arg_left ts) (λ xs. unread xs.1)
+
+  output_left : (ts : Tokens) → Leaves 0 ts (r.output deeper ts)
+  output_left ts = read_left (is_op (codes "->") ts) (λ us. deeper.types NoBounds (drop 2 us)) ts
+      (further 0 0 1 ts (drop 2 ts) _ (omega arith) (dropped 2 ts) (l.types NoBounds (drop 2 ts)))
+
+  round_left : (ts : Tokens) → Leaves 1 ts (r.round deeper ts)
+  unfolding r.round
+  round_left ts = chain_passed 1 1 0 ts (passed (opens Paren) ts) _ (omega arith) (passed_left (opens Paren) ts)
+      (λ inside. chain 0 1 0 inside (elements (closes Paren) (deeper.types Bounds) inside) _ (omega arith)
+      (elements_left (deeper.types Bounds) (l.types Bounds) (closes Paren) inside)
+      (λ xs. chain 0 0 0 xs.1 (r.output deeper xs.1) _ (omega arith) (output_left xs.1) (λ o. unread o.1)))
+
+  late_left : (ts : Tokens) → Leaves 0 ts (r.angle deeper (drop 2 ts))
+  late_left ts = further 0 0 1 ts (drop 2 ts) _ (omega arith) (dropped 2 ts) (angle_left (drop 2 ts))
+
+  args_left : (style : PathStyle) (ts : Tokens) → Leaves 0 ts (r.args_by deeper style ts)
+  unfolding r.args_by
+  args_left Code ts = choice 0 ts (opens_args_late ts) _ _ (λ h. late_left ts) (unread ts)
+  args_left InKind ts = choice 0 ts (opens_args ts) _ _ (λ h. weaker ts _ (angle_left ts))
+      (choice 0 ts (opens_args_late ts) _ _ (λ h. late_left ts)
+      (choice 0 ts (first (opens Paren) ts) _ _ (λ h. weaker ts _ (round_left ts)) (unread ts)))
+
+  pub segment_left : (style : PathStyle) (ts : Tokens) → Leaves 1 ts (r.segment deeper style ts)
+  unfolding r.segment
+  segment_left style ts = chain 1 1 0 ts (word ts) _ (omega arith) (word_left ts)
+      (λ x. chain 0 0 0 x.1 (r.args_by deeper style x.1) _ (omega arith) (args_left style x.1) (λ a. unread a.1))
+
+  trait_left : (ts : Tokens) → Leaves 1 ts (r.trait_path deeper ts)
+  trait_left ts = chain 1 1 0 ts (deeper.types NoBounds ts) _ (omega arith) (l.types NoBounds ts)
+      (λ x. option_left 0 x.1 (r.as_path x.0.0) _ (λ p. unread x.1))
+
+  qualified_left : (ts : Tokens) → Leaves 1 ts (r.qualified deeper ts)
+  unfolding r.qualified
+  qualified_left ts = chain_passed 1 1 0 ts (passed (is_mark (codes "<")) ts) _ (omega arith)
+      (passed_left (is_mark (codes "<")) ts)
+      (λ inside. chain 0 1 0 inside (deeper.types Bounds inside) _ (omega arith) (l.types Bounds inside)
+      (λ x. chain 0 0 0 x.1 (r.if_read (first (is_keyword (codes "as")) x.1) (λ us. r.trait_path deeper (tail us)) x.1)
+      _ (omega arith)
+      (as_left x.1)
+      (λ p. chain_passed 0 1 0 p.1 (passed (is_mark (codes ">")) p.1) _ (omega arith)
+      (passed_left (is_mark (codes ">")) p.1)
+      (λ behind. chain_passed 0 0 0 behind (r.operator (codes "::") behind) _ (omega arith)
+      (operator_left (codes "::") behind) unread))))
+    where
+      as_left : (us : Tokens) → Leaves 0 us (r.if_read (first (is_keyword (codes "as")) us)
+          (λ vs. r.trait_path deeper (tail vs)) us)
+      as_left [] = unread []
+      as_left (t ∷ us) = read_left (is_keyword (codes "as") t) (λ vs. r.trait_path deeper (tail vs)) (t ∷ us)
+          (further 0 1 1 (t ∷ us) us _ (omega arith) (one_read t us) (trait_left us))
+
+  path_start_left : (ts : Tokens) → Leaves 0 ts (r.path_start deeper ts)
+  path_start_left ts = choice 0 ts (first (is_mark (codes "<")) ts) _ _ (λ h. weaker ts _ (qualified_left ts))
+      (choice 0 ts (is_op (codes "::") ts) _ _ (λ h. dropped 2 ts) (unread ts))
+
+  path_of_left : (begun : PathStart) (need : ℕ) (segments : List (Word × Args)) (ts : Tokens)
+      → Leaves 0 ts (r.path_of begun need segments ts)
+  path_of_left begun need segments ts = choice 0 ts (r.returns_last segments) _ None (λ h. unread ts) tt
+
+  pub path_left : (style : PathStyle) (ts : Tokens) → Leaves 1 ts (r.path deeper style ts)
+  unfolding r.path
+  path_left style ts = chain 1 0 1 ts (r.path_start deeper ts) _ (omega arith) (path_start_left ts)
+      (λ begun. chain 1 1 0 begun.1 (r.chain (codes "::") (r.segment deeper style) begun.1) _ (omega arith)
+      (chain_left (r.segment deeper style) (segment_left style) (codes "::") begun.1)
+      (λ ss. path_of_left begun.0.0 _ (nodes ss.0) ss.1))
+
+  -- ---- bounds
+
+  meets_left : (parens : Bool) (ts : Tokens) → Leaves 1 ts (r.meets deeper parens ts)
+  unfolding r.meets
+  meets_left parens ts =
+      let mid = (r.flag (is_mark (codes "?")) ts).1 in
+      further 1 0 1 ts mid _ (omega arith) (flag_left (is_mark (codes "?")) ts)
+      (chain 1 0 1 mid (r.binder_if mid) _ (omega arith) (binder_if_left mid)
+      (λ b. chain 1 1 0 b.1 (r.path deeper InKind b.1) _ (omega arith) (path_left InKind b.1) (λ p. unread p.1)))
+
+  pub one_bound_left : (ts : Tokens) → Leaves 1 ts (r.one_bound deeper ts)
+  unfolding r.one_bound
+  one_bound_left ts = choice 1 ts (first is_lifetime ts) _ _
+      (λ h. chain 1 1 0 ts (r.lifetime ts) _ (omega arith) (lifetime_left ts) (λ x. unread x.1))
+      (choice 1 ts (first (opens Paren) ts) _ _
+      (λ h. further 1 1 1 ts (tail ts) _ (omega arith) (first_read (opens Paren) ts h)
+      (chain 1 1 1 (tail ts) (r.meets deeper true (tail ts)) _ (omega arith) (meets_left true (tail ts))
+      (λ x. chain_passed 1 1 0 x.1 (passed (closes Paren) x.1) _ (omega arith) (passed_left (closes Paren) x.1)
+      unread)))
+      (meets_left false ts))
+
+  all_bounds_left : (ts : Tokens) → Leaves 1 ts (r.all_bounds deeper ts)
+  all_bounds_left ts = chain 1 1 0 ts (r.chain (codes "+") (r.one_bound deeper) ts) _ (omega arith)
+      (chain_left (r.one_bound deeper) one_bound_left (codes "+") ts) (λ xs. unread xs.1)
+
+  bounds_by_left : (place : TypePlace) (ts : Tokens) → Leaves 1 ts (r.bounds_by deeper place ts)
+  unfolding r.bounds_by
+  bounds_by_left Bounds ts = all_bounds_left ts
+  bounds_by_left NoBounds ts = chain 1 1 0 ts (r.one_bound deeper ts) _ (omega arith) (one_bound_left ts)
+      (λ x. unread x.1)
+
+  equal_left : (ts : Tokens) → Leaves 1 ts (r.equal deeper ts)
+  equal_left ts = choice 1 ts (r.begins_const ts) _ _
+      (λ h. chain 1 1 0 ts (r.const ts) _ (omega arith) (const_left ts) (λ c. unread c.1))
+      (chain 1 1 0 ts (deeper.types Bounds ts) _ (omega arith) (l.types Bounds ts) (λ x. unread x.1))
+
+  constraint_left : (ts : Tokens) → Leaves 1 ts (r.constraint_by deeper ts)
+  unfolding r.constraint_by
+  constraint_left ts = choice 1 ts (is_op (codes ":") ts) _ _
+      (λ h. further 1 0 1 ts (drop 1 ts) _ (omega arith) (dropped 1 ts)
+      (chain 1 1 0 (drop 1 ts) (r.all_bounds deeper (drop 1 ts)) _ (omega arith) (all_bounds_left (drop 1 ts))
+      (λ bs. unread bs.1)))
+      (chain_passed 1 0 1 ts (r.operator (codes "=") ts) _ (omega arith) (operator_left (codes "=") ts) equal_left)
+
+  -- ---- types
+
+  path_type_left : (ts : Tokens) → Leaves 1 ts (r.path_type deeper ts)
+  unfolding r.path_type
+  path_type_left ts = chain 1 1 0 ts (r.path deeper InKind ts) _ (omega arith) (path_left InKind ts)
+      (λ p. choice 0 p.1 (begins_there OfBang p.1) None _ (λ h. tt) (unread p.1))
+
+  paren_left : (ts : Tokens) → Leaves 0 ts (r.paren_type deeper ts)
+  unfolding r.paren_type
+  paren_left ts = choice 0 ts (first (closes Paren) ts) _ _
+      (λ h. joined 0 1 0 ts (tail ts) (tail ts) (omega arith) (first_read (closes Paren) ts h) (unread (tail ts)))
+      (chain 0 1 0 ts (deeper.types Bounds ts) _ (omega arith) (l.types Bounds ts) (λ x. by x.0 x.1))
+    where
+      by : (x : Ty × ℕ) (us : Tokens) → Leaves 0 us (r.paren_by deeper x us)
+      by x us = choice 0 us (first (closes Paren) us) _ _
+          (λ h. joined 0 1 0 us (tail us) (tail us) (omega arith) (first_read (closes Paren) us h) (unread (tail us)))
+          (chain_passed 0 1 0 us (passed (is_mark (codes ",")) us) _ (omega arith)
+          (passed_left (is_mark (codes ",")) us)
+          (λ behind. chain 0 1 0 behind (elements (closes Paren) (deeper.types Bounds) behind) _ (omega arith)
+          (elements_left (deeper.types Bounds) (l.types Bounds) (closes Paren) behind) (λ more. unread more.1)))
+
+  array_left : (x : Ty × ℕ) (us : Tokens) → Leaves 0 us (r.array_by x us)
+  array_left x us = chain 0 0 0 us (tokens us) _ (omega arith) (tokens_left us)
+      (λ n. chain_passed 0 1 0 n.1 (passed (closes Bracket) n.1) _ (omega arith) (passed_left (closes Bracket) n.1)
+      (λ rest. choice 0 rest (is_empty n.0) None _ (λ h. tt) (unread rest)))
+
+  bracket_left : (ts : Tokens) → Leaves 0 ts (r.bracket_type deeper ts)
+  unfolding r.bracket_type
+  bracket_left ts = chain 0 1 0 ts (deeper.types Bounds ts) _ (omega arith) (l.types Bounds ts)
+      (λ x. choice 0 x.1 (first (is_mark (codes ";")) x.1) _ _
+      (λ h. further 0 1 0 x.1 (tail x.1) _ (omega arith) (first_read (is_mark (codes ";")) x.1 h)
+      (array_left x.0 (tail x.1)))
+      (chain_passed 0 1 0 x.1 (passed (closes Bracket) x.1) _ (omega arith) (passed_left (closes Bracket) x.1) unread))
+
+  reference_left : (ts : Tokens) → Leaves 0 ts (r.reference_type deeper ts)
+  unfolding r.reference_type
+  reference_left ts = chain 0 0 0 ts (r.if_there (first is_lifetime ts) r.lifetime ts) _ (omega arith)
+      (there_left (first is_lifetime ts) r.lifetime ts (weaker ts _ (lifetime_left ts)))
+      (λ x. further 0 0 0 x.1 (r.flag (is_keyword (codes "mut")) x.1).1 _ (omega arith)
+      (flag_left (is_keyword (codes "mut")) x.1)
+      (chain 0 1 0 (r.flag (is_keyword (codes "mut")) x.1).1 (deeper.types NoBounds _) _ (omega arith)
+      (l.types NoBounds (r.flag (is_keyword (codes "mut")) x.1).1) (λ y. unread y.1)))
+
+  pointer_left : (ts : Tokens) → Leaves 0 ts (r.pointer_type deeper ts)
+  unfolding r.pointer_type
+  pointer_left ts = chain 0 0 0 ts (r.is_mutable ts) _ (omega arith) (is_mutable_left ts)
+      (λ m. chain 0 1 0 m.1 (deeper.types NoBounds m.1) _ (omega arith) (l.types NoBounds m.1) (λ x. unread x.1))
+
+  bounds_type_left : (dynamic : Bool) (place : TypePlace) (ts : Tokens) → Leaves 0 ts (r.bounds_type deeper dynamic place ts)
+  unfolding r.bounds_type
+  bounds_type_left dynamic place ts = chain 0 1 0 ts (r.bounds_by deeper place ts) _ (omega arith)
+      (bounds_by_left place ts) (λ bs. unread bs.1)
+
+  pub func_param_left : (ts : Tokens) → Leaves 1 ts (r.func_param deeper ts)
+  unfolding r.func_param
+  func_param_left ts = chain 1 0 1 ts (attributes false ts) _ (omega arith) (attributes_left false ts)
+      (λ attrs. chain 1 0 1 attrs.1 (r.if_there (r.begins_given attrs.1) r.param_name attrs.1) _ (omega arith)
+      (there_left (r.begins_given attrs.1) r.param_name attrs.1 (param_name_left attrs.1))
+      (λ n. chain 1 1 0 n.1 (deeper.types Bounds n.1) _ (omega arith) (l.types Bounds n.1) (λ x. unread x.1)))
+
+  dots_left : (b : Bool) (ts : Tokens) → Left 0 ts (if b then drop 3 ts else ts)
+  dots_left true ts = dropped 3 ts
+  dots_left false ts = unread ts
+
+  func_params_left : (ts : Tokens) → Leaves 1 ts (r.func_params deeper ts)
+  unfolding r.func_params
+  func_params_left ts = chain_passed 1 1 0 ts (passed (opens Paren) ts) _ (omega arith) (passed_left (opens Paren) ts)
+      (λ inside. chain 0 0 0 inside (open_elements r.begins_param (r.func_param deeper) inside) _ (omega arith)
+      (open_left (r.func_param deeper) func_param_left r.begins_param inside)
+      (λ ps. let us : Tokens = if ps.0.1 && is_op (codes "...") ps.1 then drop 3 ps.1 else ps.1 in
+      further 0 0 0 ps.1 us _ (omega arith)
+      (dots_left (ps.0.1 && is_op (codes "...") ps.1) ps.1)
+      (chain_passed 0 1 0 us (passed (closes Paren) us) _ (omega arith) (passed_left (closes Paren) us) unread)))
+
+  func_left : (ts : Tokens) → Leaves 1 ts (r.func_type deeper ts)
+  unfolding r.func_type
+  func_left ts = chain 1 0 1 ts (r.binder_if ts) _ (omega arith) (binder_if_left ts)
+      (λ b. let mid = (r.flag (is_keyword (codes "unsafe")) b.1).1 in
+      further 1 0 1 b.1 mid _ (omega arith) (flag_left (is_keyword (codes "unsafe")) b.1)
+      (chain 1 0 1 mid (r.if_there (first (is_keyword (codes "extern")) mid) r.abi mid) _ (omega arith)
+      (there_left (first (is_keyword (codes "extern")) mid) r.abi mid (weaker mid _ (abi_left mid)))
+      (λ a. chain_passed 1 1 0 a.1 (passed (is_keyword (codes "fn")) a.1) _ (omega arith)
+      (passed_left (is_keyword (codes "fn")) a.1)
+      (λ behind. chain 0 1 0 behind (r.func_params deeper behind) _ (omega arith) (func_params_left behind)
+      (λ ps. chain 0 0 0 ps.1 (r.output deeper ps.1) _ (omega arith) (output_left ps.1) (λ o. unread o.1))))))
+
+  call_type_left : (ts : Tokens) → Leaves 1 ts (r.call_type ts)
+  call_type_left ts = chain 1 1 0 ts (call ts) _ (omega arith) (call_left ts) (λ c. unread c.1)
+
+  behind_one : {A : Type 0} (t : Token) (ts : Tokens) (o : Got A) → Leaves 0 ts o → Leaves 1 (t ∷ ts) o
+  behind_one t ts o h = further 1 1 0 (t ∷ ts) ts o (omega arith) (one_read t ts) h
+
+  type_by_left : (place : TypePlace) (lead : Option Lead) (t : Token) (ts : Tokens)
+      → Leaves 1 (t ∷ ts) (r.type_by deeper place lead (t ∷ ts))
+  type_by_left place None t ts = tt
+  type_by_left place (Some OfPath) t ts = choice 1 (t ∷ ts) (r.begins_call (t ∷ ts)) _ _
+      (λ h. call_type_left (t ∷ ts)) (path_type_left (t ∷ ts))
+  type_by_left place (Some OfParen) t ts = behind_one t ts _ (paren_left ts)
+  type_by_left place (Some OfNever) t ts = one_read t ts
+  type_by_left place (Some OfInfer) t ts = one_read t ts
+  type_by_left place (Some OfPointer) t ts = behind_one t ts _ (pointer_left ts)
+  type_by_left place (Some OfReference) t ts = behind_one t ts _ (reference_left ts)
+  type_by_left place (Some OfBracket) t ts = behind_one t ts _ (bracket_left ts)
+  type_by_left place (Some OfImpl) t ts = behind_one t ts _ (bounds_type_left false place ts)
+  type_by_left place (Some OfDyn) t ts = behind_one t ts _ (bounds_type_left true place ts)
+  type_by_left place (Some OfFunc) t ts = func_left (t ∷ ts)
+
+  type_left : (place : TypePlace) (ts : Tokens) → Leaves 1 ts (r.type_by deeper place (lead_at ts) ts)
+  unfolding lead_at
+  type_left place [] = tt
+  type_left place (t ∷ ts) = type_by_left place (lead_at (t ∷ ts)) t ts
+
+  -- ---- generic parameters and where clauses
+
+  met_left : (ts : Tokens) → Leaves 0 ts (g.met deeper ts)
+  met_left ts = choice 0 ts (begins_bound ts) _ _ (λ h. weaker ts _ (all_bounds_left ts)) (unread ts)
+
+  met_if_left : (ts : Tokens) → Leaves 0 ts (g.met_if deeper ts)
+  met_if_left ts = choice 0 ts (is_op (codes ":") ts) _ _
+      (λ h. further 0 0 0 ts (drop 1 ts) _ (omega arith) (dropped 1 ts) (met_left (drop 1 ts))) (unread ts)
+
+  type_param_left : (attrs : List Attr) (ts : Tokens) → Leaves 1 ts (g.type_param deeper attrs ts)
+  unfolding g.type_param
+  type_param_left attrs ts = chain 1 1 0 ts (name ts) _ (omega arith) (name_left ts)
+      (λ n. chain 0 0 0 n.1 (g.met_if deeper n.1) _ (omega arith) (met_if_left n.1)
+      (λ bounds. chain 0 0 0 bounds.1 (r.if_read (is_op (codes "=") bounds.1)
+      (λ us. deeper.types Bounds (drop 1 us)) bounds.1) _ (omega arith)
+      (read_left (is_op (codes "=") bounds.1) (λ us. deeper.types Bounds (drop 1 us)) bounds.1
+      (further 0 0 1 bounds.1 (drop 1 bounds.1) _ (omega arith) (dropped 1 bounds.1)
+      (l.types Bounds (drop 1 bounds.1)))) (λ d. unread d.1)))
+
+  const_param_left : (attrs : List Attr) (ts : Tokens) → Leaves 1 ts (g.const_param deeper attrs ts)
+  unfolding g.const_param
+  const_param_left attrs ts = chain 1 1 0 ts (name ts) _ (omega arith) (name_left ts)
+      (λ n. chain_passed 0 0 0 n.1 (r.operator (codes ":") n.1) _ (omega arith) (operator_left (codes ":") n.1)
+      (λ at. chain 0 1 0 at (deeper.types Bounds at) _ (omega arith) (l.types Bounds at)
+      (λ x. chain 0 0 0 x.1 (r.if_there (is_op (codes "=") x.1) (λ us. g.const_default_at (drop 1 us)) x.1) _
+      (omega arith)
+      (there_left (is_op (codes "=") x.1) (λ us. g.const_default_at (drop 1 us)) x.1
+      (further 0 0 1 x.1 (drop 1 x.1) _ (omega arith) (dropped 1 x.1) (const_default_left (drop 1 x.1))))
+      (λ d. unread d.1))))
+
+  pub one_param_left : (ts : Tokens) → Leaves 1 ts (g.one_param deeper ts)
+  unfolding g.one_param
+  one_param_left ts = chain 1 0 1 ts (attributes false ts) _ (omega arith) (attributes_left false ts)
+      (λ attrs. choice 1 attrs.1 (first is_lifetime attrs.1) _ _
+      (λ h. chain 1 1 0 attrs.1 (r.lifetime_behind attrs.0 attrs.1) _ (omega arith) (behind_left attrs.0 attrs.1)
+      (λ x. unread x.1))
+      (choice 1 attrs.1 (first (is_keyword (codes "const")) attrs.1) _ _
+      (λ h. further 1 1 1 attrs.1 (tail attrs.1) _ (omega arith) (first_read (is_keyword (codes "const")) attrs.1 h)
+      (const_param_left attrs.0 (tail attrs.1))) (type_param_left attrs.0 attrs.1)))
+
+  pub one_predicate_left : (ts : Tokens) → Leaves 1 ts (w.one_predicate deeper ts)
+  unfolding w.lifetime_predicate w.type_predicate
+  one_predicate_left ts = choice 1 ts (first is_lifetime ts) _ _
+      (λ h. chain 1 1 0 ts (w.lifetime_predicate ts) _ (omega arith)
+      (chain 1 1 0 ts (r.lifetime ts) _ (omega arith) (lifetime_left ts)
+      (λ x. chain_passed 0 0 0 x.1 (r.operator (codes ":") x.1) _ (omega arith) (operator_left (codes ":") x.1)
+      (λ at. chain 0 0 0 at (r.lifetimes at) _ (omega arith) (lifetimes_left at) (λ bounds. unread bounds.1))))
+      (λ p. unread p.1))
+      (chain 1 0 1 ts (r.binder_if ts) _ (omega arith) (binder_if_left ts)
+      (λ b. chain 1 1 0 b.1 (deeper.types Bounds b.1) _ (omega arith) (l.types Bounds b.1)
+      (λ x. chain_passed 0 0 0 x.1 (r.operator (codes ":") x.1) _ (omega arith) (operator_left (codes ":") x.1)
+      (λ at. chain 0 0 0 at (g.met deeper at) _ (omega arith) (met_left at) (λ bounds. unread bounds.1)))))
+
+-- ---- within a depth
+
+pub left_within : (depth : ℕ) → LeftWithin (within depth)
+unfolding within
+left_within zero = record { types = λ place ts. tt; constraints = λ ts. tt }
+left_within (suc depth) = record {
+  types = λ place ts. type_left (within depth) (left_within depth) place ts;
+  constraints = λ ts. constraint_left (within depth) (left_within depth) ts;
 }
-
-pub tokens_left : (ts : Tokens) → Leaves 0 ts (tokens ts)
-unfolding tokens
-tokens_left ts = chain 0 0 0 ts (run [] ts) _ (omega arith) (whole_left ts (run [] ts) (run_whole [] ts))
-    (λ r. choice 0 r.1 (list_all may_be_laid (map as_listed r.0)) _ None (λ h. unread r.1) tt)
-
-group_kind_left : (k : Kind) (t : Token) (ts : Tokens) → Leaves 1 (record t { kind = k } ∷ ts)
-    (group (record t { kind = k } ∷ ts))
-unfolding group
-group_kind_left (Opener d) t ts = further 1 1 0 (record t { kind = Opener d } ∷ ts) ts _ (omega arith)
-    (one_read (record t { kind = Opener d }) ts)
-    (chain 0 0 0 ts (tokens ts) _ (omega arith) (tokens_left ts)
-    (λ us. chain_passed 0 1 0 us.1 (passed (closes d) us.1) _ (omega arith) (passed_left (closes d) us.1) unread))
-group_kind_left _ t ts = tt
-
-pub group_left : (ts : Tokens) → Leaves 1 ts (group ts)
-unfolding group
-group_left [] = tt
-group_left (t ∷ ts) = group_kind_left t.kind t ts
-
-bang_left : (ts : Tokens) → Passes 0 ts (behind_bang ts)
-bang_left ts = by_test (is_op (codes "!") ts)
-  where
-    by_test : (b : Bool) → Passes 0 ts (if b then Some (drop 1 ts) else None)
-    by_test true = dropped 1 ts
-    by_test false = tt
-
-pub call_left : (ts : Tokens) → Leaves 1 ts (call ts)
-unfolding call
-call_left ts = chain 1 1 0 ts (simple_path ts) _ (omega arith) (simple_path_left ts)
-    (λ p. chain_passed 0 0 0 p.1 (behind_bang p.1) _ (omega arith) (bang_left p.1)
-    (λ within. chain 0 1 0 within (group within) _ (omega arith) (group_left within) (λ g. unread g.1)))
-
-pub end_left : (d : Delim) (ts : Tokens) → Passes 0 ts (behind_end d ts)
-end_left Brace ts = unread ts
-end_left _ ts = passes_further 0 0 1 ts ts _ (omega arith) (unread ts) (passed_left (is_mark (codes ";")) ts)
-
--- ---- attributes
-
-pub meta_name_left : (ts : Tokens) → Leaves 1 ts (meta_name ts)
-unfolding meta_name
-meta_name_left ts = choice 1 ts (first (is_keyword (codes "unsafe")) ts) _ _
-    (λ h. first_read (is_keyword (codes "unsafe")) ts h)
-    (chain 1 1 0 ts (simple_path ts) _ (omega arith) (simple_path_left ts) (λ p. unread p.1))
-
-value_left : (ts : Tokens) → Leaves 0 ts (value ts)
-unfolding value
-value_left ts = further 0 0 0 ts (drop 1 ts) _ (omega arith) (dropped 1 ts)
-    (chain 0 0 0 (drop 1 ts) (tokens (drop 1 ts)) _ (omega arith) (tokens_left (drop 1 ts))
-    (λ us. choice 0 us.1 (is_empty us.0) None _ (λ h. tt) (unread us.1)))
-
-meta_input_left : (ts : Tokens) → Leaves 0 ts (meta_input ts)
-unfolding meta_input
-meta_input_left ts = choice 0 ts (is_op (codes "=") ts) _ _
-    (λ h. value_left ts)
-    (choice 0 ts (first begins_group ts) _ _ (λ h. chain 0 1 0 ts (group ts) _ (omega arith) (group_left ts)
-    (λ g. unread g.1))
-    (unread ts))
-
-pub opening_left : (inner : Bool) (ts : Tokens) → Passes 1 ts (behind_opening inner ts)
-opening_left false ts = passed_twice 1 1 1 ts (passed (is_mark (codes "#")) ts) _ (omega arith)
-    (passed_left (is_mark (codes "#")) ts) (λ mark. passed_left (opens Bracket) mark)
-opening_left true ts = passed_twice 1 1 1 ts (passed (is_mark (codes "#")) ts) _ (omega arith)
-    (passed_left (is_mark (codes "#")) ts)
-    (λ mark. passed_twice 1 1 1 mark (passed (is_mark (codes "!")) mark) _ (omega arith)
-    (passed_left (is_mark (codes "!")) mark) (λ bang. passed_left (opens Bracket) bang))
-
-meta_attr_left : (inner : Bool) (ts : Tokens) → Leaves 1 ts (meta_attr inner ts)
-unfolding meta_attr
-meta_attr_left inner ts = chain_passed 1 1 1 ts (behind_opening inner ts) _ (omega arith) (opening_left inner ts)
-    (λ inside. chain 1 1 0 inside (meta_name inside) _ (omega arith) (meta_name_left inside)
-    (λ path. chain 0 0 0 path.1 (meta_input path.1) _ (omega arith) (meta_input_left path.1)
-    (λ given. chain_passed 0 1 0 given.1 (passed (closes Bracket) given.1) _ (omega arith)
-    (passed_left (closes Bracket) given.1) unread)))
-
-doc_attr_left : (inner : Bool) (ts : Tokens) → Leaves 1 ts (doc_attr inner ts)
-unfolding doc_attr
-doc_attr_left inner [] = tt
-doc_attr_left inner (t ∷ ts) = choice 1 (t ∷ ts) (is_doc_text inner t.text) _ None (λ h. one_read t ts) tt
-
-pub attribute_left : (inner : Bool) (ts : Tokens) → Leaves 1 ts (attribute inner ts)
-unfolding attribute
-attribute_left inner ts = choice 1 ts (first (is_doc inner) ts) _ _ (λ h. doc_attr_left inner ts)
-    (meta_attr_left inner ts)
-
-pub attributes_left : (inner : Bool) (ts : Tokens) → Leaves 0 ts (attributes inner ts)
-unfolding attributes
-attributes_left inner ts = repeat_left (attribute inner) (attribute_left inner) (begins_attr inner) ts
 
 -- ---- what is left, where something is read
 
-pub left_by : {A : Type 0} (n : ℕ) (ts : Tokens) (got : Got A) (x : A) (rest : Tokens) → Leaves n ts got
-    → got ≡ Some (x, rest) → Left n ts rest
-left_by n ts got x rest a e = rw e at a
-
-pub shorter : {A : Type 0} (ts : Tokens) (got : Got A) (x : A) (rest : Tokens) → Leaves 1 ts got
-    → got ≡ Some (x, rest) → length rest < length ts
-shorter ts got x rest a e = omega (arith, (left_by 1 ts got x rest a e).fewer)
-
-no_longer : (ts : Tokens) (o : Option Tokens) (rest : Tokens) → Passes 0 ts o → o ≡ Some rest → length rest ≤ length ts
-no_longer ts None rest a e = absurd (cc)
-no_longer ts (Some left) rest a e = let same : left ≡ rest = cc in omega (arith, a.fewer, ap length same)
-
--- the same behind an element and what ends it
-pub element_shorter : {A : Type 0} (closing : Token → Bool) (ts : Tokens) (got : Got A) (x : A) (mid behind : Tokens)
-    → Leaves 1 ts got
-    → got ≡ Some (x, mid) → element_end closing mid ≡ Some behind → length behind < length ts
-element_shorter closing ts got x mid behind a h g =
-    omega (
-      arith,
-      shorter ts got x mid a h,
-      no_longer mid (element_end closing mid) behind
-          (element_end_left closing mid) g,
-    )
+-- behind a part and a comma
+pub behind_shorter : {A : Type 0} (ts : Tokens) (got : Got A) (x : A) (mid rest : Tokens) → Leaves 1 ts got
+    → got ≡ Some (x, mid) → first (is_mark (codes ",")) mid ≡ true → rest ≡ tail mid → length rest < length ts
+behind_shorter ts got x mid rest a e c k =
+    omega (arith, shorter ts got x mid a e, (first_read (is_mark (codes ",")) mid c).fewer, ap length k)

@@ -1,5 +1,4 @@
-pub mod Lists
 pub mod Left
-pub mod Lexed
-pub mod Turns
+pub mod Turning
 pub mod Steps
+pub mod Free

@@ -1,18 +1,12 @@
-//! From nested tokens to what all nodes are made of: names, simple paths, token lists, macro calls and
-//! attributes.
+//! From nested tokens to types, paths, generic arguments, bounds, generic parameters and where clauses.
 //!
 //! Each reader is proved equal to a function of the tokens ahead that `lay_tree` defines, and that function reads what
-//! is spelled and nothing else. Where a reader reads none, [`ReadNone`] says why.
+//! is spelled and nothing else.
 #![tactic(auto)]
 
-pub mod attributes;
-pub mod calls;
-pub mod front;
-pub mod names;
-pub mod simple_paths;
-pub mod stop;
-pub mod tokens;
+mod leads;
+mod loops;
+mod parts;
+mod rules;
 
-pub use attributes::{read_attr, read_attrs};
-pub use calls::read_call;
-pub use stop::ReadNone;
+pub use lay_read_tokens::{ReadNone, read_attr, read_attrs, read_call};

@@ -21,7 +21,7 @@ use Rattle.lay_piece.proofs.Characters.{digit_parts}
 use Rattle.lay_piece.proofs.Complete.{behind_true}
 use Rattle.lay_token.proofs.Encoding.{scalars_parts}
 use Rattle.lay_form.specs.Pieces.{is_text_of}
-use Rattle.lay_tree.proofs.Pieces.{are_texts}
+use Rattle.lay_tree.specs.tokens.Texts.{are_texts}
 use Rattle.lay_tree.proofs.Scalars.{text_utf8, scalars_drop, scalars_take, scalars_cond, scalars_without_end}
 
 -- ---- an index is an integer

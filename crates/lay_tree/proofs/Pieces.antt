@@ -1,6 +1,5 @@
 -- Tokens that are pieces of their kinds: a form that they spell is made of pieces.
 use Rattle.std.proofs.Common.{◌≡◌, inl, inr, ℕ, zero, suc, ◌-◌, List, [], ◌∷◌, Bool, true, refl, sym, ap, ◌∙◌}
-use Rattle.std.specs.List.{list_all}
 use Rattle.std.specs.Str.{chars, is_utf8}
 use Rattle.std.proofs.lemmas.Bool.{and_parts, and_from}
 use Rattle.std.proofs.lemmas.List.Folds.{list_all-append}
@@ -12,11 +11,8 @@ use Rattle.lay_form.specs.Form.{Form, Done, Piece, Leaf, Listed, ListedDoc, Brk,
 use Rattle.lay_form.specs.Pieces.{is_text_of, are_pieces}
 use Rattle.lay_form.specs.Spelled.{IsOne, IsListed, IsComment, IsString, IsDoc, cost, Spells}
 use Rattle.lay_form.proofs.FormLaws.{IsEnd, bits_end, doc_opening_end, may_be_end, one_end, listed_end, comment_end, doc_end, opens_end, closes_end, behind_end, is_end}
+use Rattle.lay_tree.specs.tokens.Texts.{are_texts}
 use Rattle.lay_tree.proofs.Scalars.{text_utf8, value_scalars}
-
--- Each token is a piece of its kind.
-abbrev pub are_texts : List Token → Bool
-are_texts ts = list_all (λ (t : Token). is_text_of t.kind t.text) ts
 
 behind_texts : {ts rest : List Token} → IsEnd rest ts → are_texts ts ≡ true → are_texts rest ≡ true
 behind_texts {ts} {rest} e h =

@@ -4,3 +4,4 @@ pub mod Listing
 pub mod Pairs
 pub mod Lists
 pub mod Lexed
+pub mod Texts

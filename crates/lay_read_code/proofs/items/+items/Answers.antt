@@ -1,68 +1,29 @@
-use Rattle.std.proofs.Common.{◌-◌, ◌<◌, ◌++◌, ◌∷◌, [], true, false, refl, sym, arith, rules}
+use Rattle.std.proofs.Common.{◌-◌, ◌<◌, ◌++◌, ◌∷◌, [], refl, sym, arith}
 use Rattle.std.proofs.lemmas.Result.{err_from_is_err_and}
-use Rattle.lay_tree.specs.reader.Attr.{attributes}
 use Rattle.lay_tree.specs.reader.Item.{more_items, item_at, items_by, kind_by}
 use Rattle.lay_tree.specs.reader.Use.{use_at}
-use Rattle.lay_tree.specs.reader.Words.{name}
-use Rattle.lay_read_types.specs.Answers.{AreLexed}
-use Rattle.lay_read_types.proofs.Left.{attributes_left, name_left, shorter}
+use Rattle.lay_read_tokens.proofs.Left.{shorter}
 use Rattle.lay_read_code.proofs.Left.{item_left}
-use Rattle.lay_read_types.proofs.Lexed.{lexed_behind, lexed_tail}
-use Rattle.lay_read_types.proofs.Steps.{lost}
+use Rattle.lay_read_tokens.proofs.Steps.{lost}
 use Rattle.lay_read_code.proofs.Steps.{item_none, item_some}
-use Rattle.lay_read_types.proofs.Turns.{repeat-start, repeat-end, repeat-none, repeat-step}
-use Rattle.lay_read_code.proofs.Holding.{holding_more}
+use Rattle.lay_read_tokens.proofs.Turns.{repeat-start, repeat-end, repeat-none, repeat-step}
+use Rattle.lay_read_tokens.proofs.Holding.{holding_more}
 use Rattle.lay_read_code.proofs.items.+items.Goals as goal
-
-pub read_item-read_kind-requires : goal.read_item-read_kind-requires
-read_item-read_kind-requires t c =
-    let ts = c.args.at.now in (
-      search rules,
-      lexed_behind 0 ts (attributes false ts) c.in_ok-attrs.attrs c.read_attrs.new.at
-          (attributes_left false ts) c.in_ok-attrs.ensures.got c.requires,
-    )
 
 pub read_item-returns-in_err-kind-clause-read : goal.read_item-returns-in_err-kind-clause-read
 read_item-returns-in_err-kind-clause-read t c =
     let some : 0 < c.args.depth = omega arith in
     let p = err_from_is_err_and c.from_residual-in_err-kind.result c.from_residual-in_err-kind.ensures.1 in
-    rw (p.1, p.2) (lost (kind_by (item_at (c.args.depth - 1)) (use_at (c.args.depth - 1)) c.read_attrs.new.at)
+    rw (p.1, p.2) (lost (kind_by (item_at (c.args.depth - 1)) (use_at (c.args.depth - 1)) c.attrs_ahead.new.at)
     (item_at c.args.depth c.args.at.now)
     c.in_err-kind.field-0.0 c.in_err-kind.ensures.read
-    (item_none c.args.depth c.args.at.now some c.in_ok-attrs.attrs c.read_attrs.new.at c.in_ok-attrs.ensures.got))
+    (item_none c.args.depth c.args.at.now some c.in_ok-attrs.attrs c.attrs_ahead.new.at c.in_ok-attrs.ensures))
 
 pub read_item-returns-clause-read : goal.read_item-returns-clause-read
 read_item-returns-clause-read t c =
     let some : 0 < c.args.depth = omega arith in
-    item_some c.args.depth c.args.at.now some c.in_ok-attrs.attrs c.read_attrs.new.at c.in_ok-attrs.ensures.got
+    item_some c.args.depth c.args.at.now some c.in_ok-attrs.attrs c.attrs_ahead.new.at c.in_ok-attrs.ensures
     c.in_ok-kind.kind.node c.in_ok-kind.kind.need c.read_kind.new.at c.in_ok-kind.ensures.read
-
-pub read_kind-read_module-requires : goal.read_kind-read_module-requires
-read_kind-read_module-requires t c = (
-  search rules,
-  rw (c.if-takes_keyword-2.ensures.passed, c.if-takes_keyword.ensures.passed)
-      (lexed_tail c.args.at.now c.requires),
-)
-
-pub read_module-read_attrs-requires : goal.read_module-read_attrs-requires
-read_module-read_attrs-requires t c =
-    let ts = c.args.at.now in
-    let mid = c.read_name.new.at in
-    rw c.if-not-takes_opener.ensures.passed (lexed_tail mid (lexed_behind 1 ts (name ts) c.in_ok-name.name mid
-    (name_left ts) c.in_ok-name.ensures c.requires))
-
-pub read_module-read_items-requires : goal.read_module-read_items-requires
-read_module-read_items-requires t c =
-    let ts = c.args.at.now in
-    let mid = c.read_name.new.at in
-    let inside = c.takes_opener.new.at in
-    let before : AreLexed inside =
-    rw c.if-not-takes_opener.ensures.passed (lexed_tail mid (lexed_behind 1 ts (name ts) c.in_ok-name.name mid
-    (name_left ts) c.in_ok-name.ensures c.requires)) in (
-      search rules,
-      lexed_behind 0 inside (attributes true inside) c.in_ok-attrs.attrs c.read_attrs.new.at
-          (attributes_left true inside) c.in_ok-attrs.ensures.got before,
-    )
 
 pub read_items-loop-alloc-init : goal.read_items-loop-alloc-init
 unfolding items_by
@@ -74,7 +35,6 @@ read_items-loop-alloc-init t c = record {
         (sym c.new-items.ensures, refl);
   };
   within = omega arith;
-  lexed = c.requires;
 }
 
 pub read_items-returns-in_err-item-clause-read : goal.read_items-returns-in_err-item-clause-read
@@ -111,8 +71,6 @@ read_items-loop-alloc-preserved t c =
             (holding_more c.loop-alloc.items c.loop-alloc.need held.found item.node item.need held.holds);
       };
       within = omega (arith, c.greater-need.ensures, c.in_ok-item.ensures.within, c.loop-alloc.invariant.within);
-      lexed = lexed_behind 1 ts (within ts) (item.node, item.need) c.read_item.new.at (item_left c.args.depth ts)
-          c.in_ok-item.ensures.read c.loop-alloc.invariant.lexed;
     }
 
 pub read_items-returns-clause-read : goal.read_items-returns-clause-read

@@ -1,9 +1,8 @@
 use Rattle.std.proofs.Common.{◌+◌, ◌*◌, ◌≤◌, length}
 use Rattle.lay_tree.specs.reader.Item.{more_items, item_at, items_by}
 use Rattle.lay_tree.specs.reader.Loops.{repeat_from}
-use Rattle.lay_read_types.specs.Answers.{AreLexed}
-use Rattle.lay_read_types.proofs.Turns.{Turn, Held}
-use Rattle.lay_read_code.proofs.Holding.{Holding}
+use Rattle.lay_read_tokens.proofs.Turns.{Turn, Held}
+use Rattle.lay_read_tokens.proofs.Holding.{Holding}
 use Rattle.lay_read_code.proofs.items.+items.Given as goal
 
 abbrev pub decreases-read_item : goal.decreases-read_item
@@ -23,7 +22,6 @@ invariant-read_items-loop-alloc l = record {
   held : Held (λ read. Turn (repeat_from more_items (item_at l.depth)) (items_by (item_at l.depth) l.fn.at) read
       l.at) (Holding l.items l.need);
   within : l.need ≤ l.depth;
-  lexed : AreLexed l.at;
 }
 
 abbrev pub decreases-read_items-loop-alloc : goal.decreases-read_items-loop-alloc

@@ -4,12 +4,12 @@ use Rattle.lay_piece.specs.declared.kind.Delim.TheVariants.{Brace}
 use Rattle.lay_tree.specs.Ahead.{closes}
 use Rattle.lay_tree.specs.reader.Loops.{element_end, elements}
 use Rattle.lay_tree.specs.reader.Use.{use_at, use_end_by, use_group}
-use Rattle.lay_read_types.proofs.Left.{element_shorter}
+use Rattle.lay_read_tokens.proofs.Left.{element_shorter}
 use Rattle.lay_read_code.proofs.Left.{use_left}
-use Rattle.lay_read_types.proofs.Steps.{lost}
+use Rattle.lay_read_tokens.proofs.Steps.{lost}
 use Rattle.lay_read_code.proofs.Steps.{use_none, use_goes_on, use_some, group_none, group_some}
-use Rattle.lay_read_types.proofs.Turns.{elements-start, elements-end, elements-none, elements-open, elements-step}
-use Rattle.lay_read_code.proofs.Holding.{holding_more}
+use Rattle.lay_read_tokens.proofs.Turns.{elements-start, elements-end, elements-none, elements-open, elements-step}
+use Rattle.lay_read_tokens.proofs.Holding.{holding_more}
 use Rattle.lay_read_code.proofs.uses.+use_trees.Goals as goal
 
 pub read_group-loop-alloc-init : goal.read_group-loop-alloc-init

@@ -3,8 +3,8 @@ use Rattle.lay_piece.specs.declared.kind.Delim.TheVariants.{Brace}
 use Rattle.lay_tree.specs.Ahead.{closes}
 use Rattle.lay_tree.specs.reader.Loops.{elements_from, elements}
 use Rattle.lay_tree.specs.reader.Use.{use_at}
-use Rattle.lay_read_types.proofs.Turns.{Turn, Held}
-use Rattle.lay_read_code.proofs.Holding.{Holding}
+use Rattle.lay_read_tokens.proofs.Turns.{Turn, Held}
+use Rattle.lay_read_tokens.proofs.Holding.{Holding}
 use Rattle.lay_read_code.proofs.uses.+use_trees.Given as goal
 
 abbrev pub decreases-read_group : goal.decreases-read_group

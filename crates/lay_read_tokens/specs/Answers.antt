@@ -1,0 +1,160 @@
+-- What readers ask for and what they answer.
+use Rattle.std.specs.Prelude.{ℕ, ◌≡◌, ◌&&◌, Bool, true, false, if◌then◌else◌, IsTrue, IsFalse, IsUtf8}
+use Rattle.std.specs.Prelude.{List, [], ◌∷◌, ◌++◌, map, drop, encode_utf8_all, Option, Some, None, Result, Ok, Err}
+use Rattle.std.specs.List.{list_all}
+use Rattle.std.specs.Str.{chars}
+use Rattle.lay_token.specs.Lexes.{Lexes}
+use Rattle.lay_piece.specs.Value.{value_of}
+use Rattle.lay_piece.specs.declared.kind.Delim.{Delim}
+use Rattle.lay_piece.specs.declared.kind.Delim.TheVariants.{Bracket}
+use Rattle.lay_piece.specs.declared.kind.Kind.{Kind}
+use Rattle.lay_piece.specs.declared.kind.Kind.TheVariants.{Underscore, Opener}
+use Rattle.lay_token.specs.declared.token.Token.{Token}
+use Rattle.lay_tree.specs.Ahead.{Tokens, first, tail, closes}
+use Rattle.lay_tree.specs.nodes.Attr.{is_doc_path, is_empty}
+use Rattle.lay_tree.specs.reader.Attr.{meta_input, made}
+use Rattle.lay_tree.specs.reader.Loops.{Got, Read, ◌>>=◌, passed, nodes, deepest}
+use Rattle.lay_tree.specs.reader.Tokens as reader
+use Rattle.lay_tree.specs.tokens.Lexed.{may_be_laid}
+use Rattle.lay_tree.specs.tokens.Listing.{as_listed, is_doc_text}
+use Rattle.lay_tree.specs.declared.attr.Attr.{Attr}
+use Rattle.lay_tree.specs.declared.attr.Attr.TheVariants as attr
+use Rattle.lay_tree.specs.declared.attr.MetaInput.{MetaInput}
+use Rattle.lay_tree.specs.declared.attr.MetaInput.TheVariants as input
+use Rattle.lay_tree.specs.declared.attr.MetaPath.{MetaPath}
+use Rattle.lay_tree.specs.declared.token.Listed.{Listed}
+use Rattle.lay_tree.specs.declared.token.Name.{Name}
+use Rattle.lay_tree.specs.declared.token.Word.{Word}
+use Rattle.lay_read_tokens.specs.declared.found.Found.{Found}
+use Rattle.lay_read_tokens.specs.declared.stop.ReadNone.{ReadNone}
+use Rattle.lay_read_tokens.specs.declared.stop.ReadNone.TheVariants.{NoReading, NoMemory}
+
+-- The tokens stand in a row in a list that some text lexes to, from a place on.
+pub record AreLexed (tokens : List Token) : Type 0 where
+  pub bytes : List ℕ
+  pub start : ℕ
+  pub before : List Token
+  pub after : List Token
+  pub utf8 : IsUtf8 (drop start bytes)
+  pub lexes : Lexes bytes start (before ++ tokens ++ after)
+
+-- Where a reader stops, reading gives nothing, unless memory ran out.
+abbrev pub Stopped : {A : Type 0} → Option A → ReadNone → Type 0
+Stopped got NoReading = got ≡ None
+Stopped got NoMemory = Unit {0}
+
+-- What a reader answered is what reading gives.
+abbrev pub IsGot : {A : Type 0} → Got A → Result A ReadNone → Tokens → Type 0
+IsGot got (Ok a) left = got ≡ Some (a, left)
+IsGot got (Err none) left = Stopped got none
+
+-- What a reader answered is what reading gives, a node with the depth that it needs.
+abbrev pub IsFound : {A : Type 0} → Read A → Result (Found A) ReadNone → Tokens → Type 0
+IsFound read (Ok found) left = read ≡ Some ((found.node, found.need), left)
+IsFound read (Err none) left = Stopped read none
+
+-- These nodes were read, and this is the greatest need of theirs.
+abbrev pub AreFound : {A : Type 0} → List (A × ℕ) → Found (List A) → Type 0
+AreFound read found = (nodes read ≡ found.node) × (deepest read ≡ found.need)
+
+-- What a reader of a node answers. Where it reads one, the node stands at the front and the cursor moves past it; where
+-- it doesn't, none stands there, or memory ran out, and the cursor stays.
+abbrev pub IsRead : {A : Type 0} → (A → Tokens → ℕ → ℕ → Type 0) → Tokens → Result A ReadNone → Tokens → Type 0
+IsRead Front ahead (Ok node) left = (n : ℕ) × (left ≡ drop n ahead) × Front node ahead n 0
+IsRead {A} Front ahead (Err NoReading) left = (left ≡ ahead) × ((node : A) (n : ℕ) → Front node ahead n 0 → ⊥)
+IsRead Front ahead (Err NoMemory) left = left ≡ ahead
+
+-- What a reader holds in its own way is what reading gives.
+abbrev pub IsHeld : {A B : Type 0} → (A → B → Type 0) → Got A → Result B ReadNone → Tokens → Type 0
+IsHeld {A} Holds got (Ok b) left = (a : A) × (got ≡ Some (a, left)) × Holds a b
+IsHeld Holds got (Err none) left = Stopped got none
+
+-- The answer is this value, unless memory ran out.
+abbrev pub IsMade : {A : Type 0} → A → Result A ReadNone → Type 0
+IsMade value (Ok a) = a ≡ value
+IsMade value (Err NoReading) = ⊥
+IsMade value (Err NoMemory) = Unit {0}
+
+-- the same text, unless memory ran out
+abbrev pub IsCopy : List ℕ → Result (List ℕ) ReadNone → Type 0
+IsCopy text answer = IsMade text answer
+
+-- The words are the first one and the others.
+abbrev pub BeginWith : Word → List Word → List Word → Type 0
+BeginWith first others words = words ≡ first ∷ others
+
+abbrev pub named : List ℕ → Bool → Name
+named text raw = record { raw = raw; text = text }
+
+abbrev pub worded : List ℕ → Bool → Word
+worded text raw = record { raw = raw; text = text }
+
+abbrev pub is_underscore_kind : Kind → Bool
+is_underscore_kind Underscore = true
+is_underscore_kind _ = false
+
+abbrev pub is_underscore : Token → Bool
+is_underscore t = is_underscore_kind t.kind
+
+-- ---- tokens
+
+-- The tokens as they stand in a list; documentation among them has a text that it may be laid out with.
+abbrev pub are_laid : List Token → Bool
+are_laid tokens = list_all may_be_laid (map as_listed tokens)
+
+-- The answer is this token of a list, unless it may not be laid out or memory ran out.
+abbrev pub IsLaid : Listed → Result Listed ReadNone → Type 0
+IsLaid u (Ok v) = (v ≡ u) × IsTrue (may_be_laid u)
+IsLaid u (Err NoReading) = IsFalse (may_be_laid u)
+IsLaid u (Err NoMemory) = Unit {0}
+
+-- The same of all these tokens as they stand in a list.
+abbrev pub AreListed : List Token → Result (List Listed) ReadNone → Type 0
+AreListed tokens (Ok us) = (us ≡ map as_listed tokens) × IsTrue (are_laid tokens)
+AreListed tokens (Err NoReading) = IsFalse (are_laid tokens)
+AreListed tokens (Err NoMemory) = Unit {0}
+
+-- The same where they are added to a list.
+abbrev pub AreAdded : List Listed → List Token → Result (Unit {0}) ReadNone → List Listed → Type 0
+AreAdded before tokens (Ok done) now = (now ≡ before ++ map as_listed tokens) × IsTrue (are_laid tokens)
+AreAdded before tokens (Err NoReading) now = IsFalse (are_laid tokens)
+AreAdded before tokens (Err NoMemory) now = Unit {0}
+
+-- the delimiter of the opener at the front
+abbrev pub opened_by : Kind → Option Delim
+opened_by (Opener d) = Some d
+opened_by _ = None
+
+abbrev pub front_opener : Tokens → Option Delim
+front_opener [] = None
+front_opener (t ∷ ts) = opened_by t.kind
+
+-- ---- attributes
+
+-- what an attribute is given, and its closing bracket
+abbrev pub closed : Bool → MetaPath → Got MetaInput → Got Attr
+closed inner path got = do given ← got; rest ← passed (closes Bracket) given.1; Some (made inner path given.0, rest)
+
+abbrev pub meta_rest : Bool → MetaPath → Tokens → Got Attr
+meta_rest inner path ts = closed inner path (meta_input ts)
+
+-- the value that it is given, behind the `=`
+abbrev pub value_behind : Tokens → Got MetaInput
+value_behind ts = do us ← reader.tokens ts; if is_empty us.0 then None else Some (input.Value us.0, us.1)
+
+-- the closing bracket of an attribute that is no documentation
+abbrev pub meta_closed : Bool → MetaPath → MetaInput → Tokens → Got Attr
+meta_closed inner path given ts = do rest ← passed (closes Bracket) ts; Some (attr.Meta inner path given, rest)
+
+-- the text of documentation that has this value, if it can be written with it
+abbrev pub doc_text : Bool → Option (List ℕ) → Option (List ℕ)
+doc_text inner None = None
+doc_text inner (Some value) = if is_doc_text inner (encode_utf8_all value) then Some (encode_utf8_all value) else None
+
+abbrev pub front_doc : Bool → Tokens → Option (List ℕ)
+front_doc inner [] = None
+front_doc inner (t ∷ ts) = doc_text inner (value_of t.kind (chars t.text))
+
+-- the text of the documentation that an attribute is, where its value is one string before the closing bracket
+abbrev pub doc_value : Bool → MetaPath → Tokens → Option (List ℕ)
+doc_value inner path ts = if is_doc_path path && first (closes Bracket) (tail ts) then front_doc inner ts else None

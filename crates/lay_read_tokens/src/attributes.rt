@@ -1,0 +1,310 @@
+//! Attributes and documentation.
+ghost use Rattle.std.specs.Prelude.{◌≡◌, if◌then◌else◌, OnErr, Some, None};
+ghost use Rattle.std.specs.Str.{chars};
+ghost use Rattle.lay_cook.specs.Cooking.{IsString};
+ghost use Rattle.lay_piece.specs.Value.{value_of};
+ghost use Rattle.lay_piece.specs.declared.kind.Delim.TheVariants.{Bracket};
+ghost use Rattle.lay_tree.specs.Ahead.{closes, first, tail};
+ghost use Rattle.lay_tree.specs.nodes.Attr.{about_attr, is_doc_path};
+ghost use Rattle.lay_tree.specs.nodes.Facts.{Front};
+ghost use Rattle.lay_tree.specs.reader.Attr as reader;
+ghost use Rattle.lay_tree.specs.declared.attr.Attr.{Attr};
+ghost use Rattle.lay_read_tokens.specs.Answers.{AreLexed, IsGot, IsMade, IsRead, doc_text, doc_value, front_doc};
+ghost use Rattle.lay_read_tokens.specs.Answers.{closed, meta_closed, meta_rest, value_behind};
+
+use crate::ahead::Ahead;
+use crate::front::{
+    is_at_closer, is_at_mark, is_at_opener, pass, pass_two, takes_closer, takes_keyword,
+    takes_mark, takes_op, takes_opener,
+};
+use crate::simple_paths::read_simple_path;
+use crate::stop::{ReadNone, copy_of, keep};
+use crate::tokens::{is_doc_text, read_group, read_tokens};
+use lay_cook::{Cooked, cook};
+use lay_nest::Cursor;
+use lay_token::{Delim, Kind, List, NoMemory, Text, Token};
+use lay_tree::{Attr, MetaInput, MetaPath};
+use std::alloc::Global;
+
+/// The attributes at the front: inner ones, or outer ones. Where one can't be read the cursor stays.
+pub fn read_attrs(alloc: Global, at: &mut Cursor<'_>, inner: bool) -> Result<List<Attr>, ReadNone>
+    requires { AreLexed at.old }
+    ensures got { IsGot (reader.attributes inner at.old) result at.new }
+    ensures back { OnErr result (at.new ≡ at.old) }
+{
+    let mut ahead = Ahead::new(at.fork());
+    let attrs = attrs_ahead(alloc, &mut ahead, inner)?;
+    *at = ahead.into_cursor();
+    Ok(attrs)
+}
+
+/// The attribute at the front, an inner one or an outer one. Where there is none the cursor stays.
+pub fn read_attr(alloc: Global, at: &mut Cursor<'_>, inner: bool) -> Result<Attr, ReadNone>
+    requires { AreLexed at.old }
+    ensures got { IsGot (reader.attribute inner at.old) result at.new }
+    ensures read { IsRead (λ (attr : Attr). Front (about_attr inner attr)) at.old result at.new }
+{
+    let mut ahead = Ahead::new(at.fork());
+    let attr = attr_ahead(alloc, &mut ahead, inner)?;
+    *at = ahead.into_cursor();
+    Ok(attr)
+}
+
+/// The attributes at the front. Where one can't be read the cursor may stand anywhere.
+pub fn attrs_ahead(alloc: Global, at: &mut Ahead<'_>, inner: bool) -> Result<List<Attr>, ReadNone>
+    ensures { IsGot (reader.attributes inner at.old) result at.new }
+{
+    let mut attrs = List::new(alloc);
+    while begins_attr(at, inner) {
+        let attr = attr_ahead(alloc, at, inner)?;
+        keep(&mut attrs, attr)?;
+    }
+    Ok(attrs)
+}
+
+/// Whether an attribute begins at the front.
+fn begins_attr(at: &Ahead<'_>, inner: bool) -> bool
+    ensures { result ≡ reader.begins_attr inner at.now }
+{
+    if is_at_doc(at, inner) {
+        return true;
+    }
+    if !is_at_mark(at, b"#") {
+        return false;
+    }
+    if !inner {
+        return true;
+    }
+    let mut behind = at.fork();
+    pass(&mut behind);
+    is_at_mark(&behind, b"!")
+}
+
+/// The attribute at the front. Where there is none the cursor may stand anywhere.
+#[tactic(auto, unfolding(lay_tree::specs::reader::Attr::attribute))]
+fn attr_ahead(alloc: Global, at: &mut Ahead<'_>, inner: bool) -> Result<Attr, ReadNone>
+    ensures { IsGot (reader.attribute inner at.old) result at.new }
+{
+    if is_at_doc(at, inner) {
+        read_doc(alloc, at, inner)
+    } else {
+        read_meta(alloc, at, inner)
+    }
+}
+
+/// Whether documentation stands at the front.
+fn is_at_doc(at: &Ahead<'_>, inner: bool) -> bool
+    ensures { result ≡ first (reader.is_doc inner) at.now }
+{
+    match at.peek(0) {
+        Some(token) => match token.kind {
+            Kind::Doc { inner: found, .. } => found == inner,
+            _ => false,
+        },
+        None => false,
+    }
+}
+
+/// Documentation at the front, spelled as a comment.
+#[tactic(auto, unfolding(lay_tree::specs::reader::Attr::doc_attr))]
+fn read_doc(alloc: Global, at: &mut Ahead<'_>, inner: bool) -> Result<Attr, ReadNone>
+    ensures { IsGot (reader.doc_attr inner at.old) result at.new }
+{
+    let token = match at.peek(0) {
+        Some(token) => token,
+        None => return Err(ReadNone::NoReading),
+    };
+    if !is_doc_text(token.text.as_bytes(), inner) {
+        return Err(ReadNone::NoReading);
+    }
+    let text = copy_of(alloc, &token.text)?;
+    pass(at);
+    Ok(Attr::Doc { inner, text })
+}
+
+/// An attribute in brackets.
+#[tactic(auto, unfolding(lay_tree::specs::reader::Attr::meta_attr))]
+fn read_meta(alloc: Global, at: &mut Ahead<'_>, inner: bool) -> Result<Attr, ReadNone>
+    ensures { IsGot (reader.meta_attr inner at.old) result at.new }
+{
+    if !takes_opening(at, inner) {
+        return Err(ReadNone::NoReading);
+    }
+    let path = read_meta_path(alloc, at)?;
+    read_meta_input(alloc, at, inner, path)
+}
+
+/// Passes `#[`, or `#![` of an inner attribute.
+fn takes_opening(at: &mut Ahead<'_>, inner: bool) -> bool
+    ensures { (if result then Some at.new else None) ≡ reader.behind_opening inner at.old }
+{
+    if !takes_mark(at, b"#") {
+        return false;
+    }
+    if inner && !takes_mark(at, b"!") {
+        return false;
+    }
+    takes_opener(at, Delim::Bracket)
+}
+
+/// What an attribute is called.
+#[tactic(auto, unfolding(lay_tree::specs::reader::Attr::meta_name))]
+fn read_meta_path(alloc: Global, at: &mut Ahead<'_>) -> Result<MetaPath, ReadNone>
+    ensures { IsGot (reader.meta_name at.old) result at.new }
+{
+    if takes_keyword(at, b"unsafe") {
+        return Ok(MetaPath::Unsafe);
+    }
+    let path = read_simple_path(alloc, at)?;
+    Ok(MetaPath::Path(path))
+}
+
+/// What an attribute is given, and its closing bracket.
+fn read_meta_input(
+    alloc: Global,
+    at: &mut Ahead<'_>,
+    inner: bool,
+    path: MetaPath,
+) -> Result<Attr, ReadNone>
+    ensures { IsGot (meta_rest inner path at.old) result at.new }
+{
+    if takes_op(at, b"=") {
+        read_value(alloc, at, inner, path)
+    } else if is_at_opener(at) {
+        read_grouped(alloc, at, inner, path)
+    } else {
+        close(at, inner, path, MetaInput::Bare)
+    }
+}
+
+/// The closing bracket of an attribute that is no documentation.
+fn close(
+    at: &mut Ahead<'_>,
+    inner: bool,
+    path: MetaPath,
+    input: MetaInput,
+) -> Result<Attr, ReadNone>
+    ensures { IsGot (meta_closed inner path input at.old) result at.new }
+{
+    if takes_closer(at, Delim::Bracket) {
+        Ok(Attr::Meta { inner, path, input })
+    } else {
+        Err(ReadNone::NoReading)
+    }
+}
+
+/// The group that an attribute is given, and its closing bracket.
+fn read_grouped(
+    alloc: Global,
+    at: &mut Ahead<'_>,
+    inner: bool,
+    path: MetaPath,
+) -> Result<Attr, ReadNone>
+    ensures { IsGot (closed inner path (reader.grouped at.old)) result at.new }
+{
+    let group = read_group(alloc, at)?;
+    close(at, inner, path, MetaInput::Group(group))
+}
+
+/// The value that an attribute is given, and its closing bracket.
+fn read_value(
+    alloc: Global,
+    at: &mut Ahead<'_>,
+    inner: bool,
+    path: MetaPath,
+) -> Result<Attr, ReadNone>
+    ensures { IsGot (closed inner path (value_behind at.old)) result at.new }
+{
+    match doc_value(alloc, at, inner, &path)? {
+        Some(text) => {
+            pass_two(at);
+            Ok(Attr::Doc { inner, text })
+        }
+        None => read_other_value(alloc, at, inner, path),
+    }
+}
+
+/// A value that makes no documentation of the attribute, and its closing bracket.
+fn read_other_value(
+    alloc: Global,
+    at: &mut Ahead<'_>,
+    inner: bool,
+    path: MetaPath,
+) -> Result<Attr, ReadNone>
+    requires { doc_value inner path at.old ≡ None }
+    ensures { IsGot (closed inner path (value_behind at.old)) result at.new }
+{
+    let input = read_listed(alloc, at)?;
+    close(at, inner, path, input)
+}
+
+/// A token list of one token at least.
+fn read_listed(alloc: Global, at: &mut Ahead<'_>) -> Result<MetaInput, ReadNone>
+    ensures { IsGot (value_behind at.old) result at.new }
+{
+    let tokens = read_tokens(alloc, at)?;
+    if tokens.as_slice().is_empty() {
+        return Err(ReadNone::NoReading);
+    }
+    Ok(MetaInput::Value(tokens))
+}
+
+/// The text of the documentation that an attribute is, where its value is one string before the closing bracket.
+fn doc_value(
+    alloc: Global,
+    at: &Ahead<'_>,
+    inner: bool,
+    path: &MetaPath,
+) -> Result<Option<Text>, ReadNone>
+    ensures { IsMade (doc_value inner path.now at.now) result }
+{
+    if is_doc_path(path) && is_alone(at) {
+        front_doc(alloc, at, inner)
+    } else {
+        Ok(None)
+    }
+}
+
+/// Whether a closing bracket stands behind the first token.
+fn is_alone(at: &Ahead<'_>) -> bool
+    ensures { result ≡ first (closes Bracket) (tail at.now) }
+{
+    let mut behind = at.fork();
+    pass(&mut behind);
+    is_at_closer(&behind, Delim::Bracket)
+}
+
+/// The text of documentation whose value is the first token.
+fn front_doc(alloc: Global, at: &Ahead<'_>, inner: bool) -> Result<Option<Text>, ReadNone>
+    ensures { IsMade (front_doc inner at.now) result }
+{
+    match at.front() {
+        Some(token) => doc_text(alloc, token, inner),
+        None => Ok(None),
+    }
+}
+
+/// The text of documentation whose value is the token.
+fn doc_text(alloc: Global, token: &Token, inner: bool) -> Result<Option<Text>, ReadNone>
+    requires { IsString token.now }
+    ensures { IsMade (doc_text inner (value_of token.now.kind (chars token.now.text))) result }
+{
+    match cook(alloc, token) {
+        Ok(Cooked::Str(text)) if is_doc_text(text.as_bytes(), inner) => Ok(Some(text)),
+        Ok(_) => Ok(None),
+        Err(NoMemory) => Err(ReadNone::NoMemory),
+    }
+}
+
+/// Whether an attribute is called `doc`.
+fn is_doc_path(path: &MetaPath) -> bool
+    ensures { result ≡ is_doc_path path.now }
+{
+    match path {
+        MetaPath::Path(path) => match path.words.as_slice() {
+            [word] => !path.global && !word.raw && word.text.as_bytes() == b"doc".as_slice(),
+            _ => false,
+        },
+        MetaPath::Unsafe => false,
+    }
+}

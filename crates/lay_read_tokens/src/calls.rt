@@ -1,0 +1,53 @@
+//! Macro calls.
+ghost use Rattle.std.specs.Prelude.{◌≡◌, if◌then◌else◌, Some, None};
+ghost use Rattle.lay_tree.specs.reader.Call as reader;
+ghost use Rattle.lay_tree.specs.nodes.Call.{about_call};
+ghost use Rattle.lay_tree.specs.nodes.Facts.{Front};
+ghost use Rattle.lay_tree.specs.declared.tokens.MacroCall.{MacroCall};
+ghost use Rattle.lay_read_tokens.specs.Answers.{AreLexed, IsGot, IsRead};
+
+use crate::ahead::Ahead;
+use crate::front::{takes_mark, takes_op};
+use crate::simple_paths::read_simple_path;
+use crate::stop::ReadNone;
+use crate::tokens::read_group;
+use lay_nest::Cursor;
+use lay_token::Delim;
+use lay_tree::MacroCall;
+use std::alloc::Global;
+
+/// The macro call at the front. Where there is none the cursor stays.
+pub fn read_call(alloc: Global, at: &mut Cursor<'_>) -> Result<MacroCall, ReadNone>
+    requires { AreLexed at.old }
+    ensures got { IsGot (reader.call at.old) result at.new }
+    ensures read { IsRead (λ (call : MacroCall). Front (about_call call)) at.old result at.new }
+{
+    let mut ahead = Ahead::new(at.fork());
+    let call = call_ahead(alloc, &mut ahead)?;
+    *at = ahead.into_cursor();
+    Ok(call)
+}
+
+/// The macro call at the front. Where there is none the cursor may stand anywhere.
+#[tactic(auto, unfolding(lay_tree::specs::reader::Call::call))]
+pub fn call_ahead(alloc: Global, at: &mut Ahead<'_>) -> Result<MacroCall, ReadNone>
+    ensures { IsGot (reader.call at.old) result at.new }
+{
+    let path = read_simple_path(alloc, at)?;
+    if !takes_op(at, b"!") {
+        return Err(ReadNone::NoReading);
+    }
+    let tokens = read_group(alloc, at)?;
+    Ok(MacroCall { path, tokens })
+}
+
+/// Passes what ends an item that is a macro call or declares a macro: behind braces nothing, and else a `;`.
+pub fn takes_end(at: &mut Ahead<'_>, delim: Delim) -> bool
+    ensures { (if result then Some at.new else None) ≡ reader.behind_end delim at.old }
+{
+    match delim {
+        Delim::Paren => takes_mark(at, b";"),
+        Delim::Bracket => takes_mark(at, b";"),
+        Delim::Brace => true,
+    }
+}

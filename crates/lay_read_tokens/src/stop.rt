@@ -1,0 +1,48 @@
+//! Why a reader stops.
+ghost use Rattle.std.specs.Prelude.{◌≡◌, ◌++◌, ◌∷◌, [], IfOk, OnOk, IfErr};
+ghost use Rattle.lay_read_tokens.specs.Answers.{IsCopy};
+
+use lay_token::{List, NoMemory, Text};
+use lay_tree::Boxed;
+use std::alloc::Global;
+
+/// Why nothing was read.
+#[derive(Clone, Copy, Debug)]
+pub enum ReadNone {
+    /// The tokens ahead spell nothing of the kind.
+    NoReading,
+    /// Memory was not found, which says nothing of the tokens.
+    NoMemory,
+}
+
+/// Adds an item at the end.
+pub fn keep<T: Drop>(list: &mut List<T>, item: T) -> Result<(), ReadNone>
+    ensures ok { OnOk result (list.new ≡ list.old ++ item ∷ []) }
+    ensures err { IfErr result (λ none. none ≡ ReadNone.NoMemory) }
+{
+    match list.push(item) {
+        Ok(()) => Ok(()),
+        Err(_) => Err(ReadNone::NoMemory),
+    }
+}
+
+/// The value in a box of its own.
+pub fn boxed<T: Drop>(alloc: Global, value: T) -> Result<Boxed<T>, ReadNone>
+    ensures ok { IfOk result (λ boxed. boxed ≡ value) }
+    ensures err { IfErr result (λ none. none ≡ ReadNone.NoMemory) }
+{
+    match Boxed::new(alloc, value) {
+        Ok(boxed) => Ok(boxed),
+        Err(NoMemory) => Err(ReadNone::NoMemory),
+    }
+}
+
+/// The text once more, on its own.
+pub fn copy_of(alloc: Global, text: &Text) -> Result<Text, ReadNone>
+    ensures { IsCopy text.now result }
+{
+    match Text::from_bytes(alloc, text.as_bytes()) {
+        Ok(copy) => Ok(copy),
+        Err(NoMemory) => Err(ReadNone::NoMemory),
+    }
+}

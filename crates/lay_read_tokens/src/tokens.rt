@@ -1,0 +1,134 @@
+//! Token lists and groups.
+ghost use Rattle.std.specs.Prelude.{◌≡◌, ◌&&◌, Some};
+ghost use Rattle.lay_token.specs.Delimiters.{Balanced};
+ghost use Rattle.lay_token.specs.Lexes.{is_punct};
+ghost use Rattle.lay_nest.specs.Groups.{begins_tree};
+ghost use Rattle.lay_tree.specs.reader.Tokens as reader;
+ghost use Rattle.lay_tree.specs.tokens.Listing.{as_listed, is_doc_text};
+ghost use Rattle.lay_tree.specs.declared.token.Listed.TheVariants as listed;
+ghost use Rattle.lay_read_tokens.specs.Answers.{AreAdded, AreListed, IsGot, IsLaid, front_opener};
+
+use crate::ahead::Ahead;
+use crate::stop::{ReadNone, copy_of, keep};
+use lay_token::{Delim, DocForm, Kind, List, Text, Token, doc_form};
+use lay_tree::{Group, Listed, Tokens};
+use std::alloc::Global;
+
+/// The token list at the front: the tokens up to the closer of the group that they stand in, or to the end.
+pub fn read_tokens(alloc: Global, at: &mut Ahead<'_>) -> Result<Tokens, ReadNone>
+    ensures { IsGot (reader.tokens at.old) result at.new }
+{
+    let mut list = List::new(alloc);
+    while is_at_tree(at) {
+        add_tokens(alloc, &mut list, at.tree())?;
+    }
+    Ok(Tokens::new(list))
+}
+
+/// Whether a token tree begins at the front.
+fn is_at_tree(at: &Ahead<'_>) -> bool
+    ensures { result ≡ begins_tree at.now }
+{
+    match at.peek(0) {
+        Some(token) => !matches!(token.kind, Kind::Closer(_)),
+        None => false,
+    }
+}
+
+/// The group at the front.
+pub fn read_group(alloc: Global, at: &mut Ahead<'_>) -> Result<Group, ReadNone>
+    ensures { IsGot (reader.group at.old) result at.new }
+{
+    match opener(at) {
+        Some(delim) => read_opened(alloc, at, delim),
+        None => Err(ReadNone::NoReading),
+    }
+}
+
+/// The delimiter of the opener at the front.
+fn opener(at: &Ahead<'_>) -> Option<Delim>
+    ensures { result ≡ front_opener at.now }
+{
+    match at.peek(0) {
+        Some(token) => match token.kind {
+            Kind::Opener(delim) => Some(delim),
+            _ => None,
+        },
+        None => None,
+    }
+}
+
+/// The group that an opener of this delimiter begins.
+fn read_opened(alloc: Global, at: &mut Ahead<'_>, delim: Delim) -> Result<Group, ReadNone>
+    requires { front_opener at.old ≡ Some delim }
+    ensures { IsGot (reader.group at.old) result at.new }
+{
+    let inside = at.group();
+    let tokens = list_of(alloc, inside.as_slice())?;
+    Ok(Group { delim, tokens })
+}
+
+/// The list of balanced tokens.
+fn list_of(alloc: Global, tokens: &[Token]) -> Result<Tokens, ReadNone>
+    requires { Balanced tokens.now }
+    ensures { AreListed tokens.now result }
+{
+    let mut list = List::new(alloc);
+    add_tokens(alloc, &mut list, tokens)?;
+    Ok(Tokens::new(list))
+}
+
+/// Adds the tokens, as they stand in a list.
+fn add_tokens(alloc: Global, list: &mut List<Listed>, tokens: &[Token]) -> Result<(), ReadNone>
+    ensures { AreAdded list.old tokens.now result list.new }
+{
+    for token in tokens {
+        let listed = listed(alloc, token)?;
+        keep(list, listed)?;
+    }
+    Ok(())
+}
+
+/// The token as it stands in a list. There is none of documentation that can't be laid out.
+fn listed(alloc: Global, token: &Token) -> Result<Listed, ReadNone>
+    ensures { IsLaid (as_listed token.now) result }
+{
+    match token.kind {
+        Kind::Doc { inner, .. } => listed_doc(alloc, inner, &token.text),
+        kind => listed_token(alloc, kind, token),
+    }
+}
+
+/// Documentation as it stands in a list.
+fn listed_doc(alloc: Global, inner: bool, text: &Text) -> Result<Listed, ReadNone>
+    ensures { IsLaid (listed.Doc inner text.now) result }
+{
+    if !is_doc_text(text.as_bytes(), inner) {
+        return Err(ReadNone::NoReading);
+    }
+    let text = copy_of(alloc, text)?;
+    Ok(Listed::Doc { inner, text })
+}
+
+/// A token that is no documentation as it stands in a list. Only punctuation is joint.
+fn listed_token(alloc: Global, kind: Kind, token: &Token) -> Result<Listed, ReadNone>
+    ensures { IsLaid (listed.Token kind token.now.text (is_punct kind && token.now.joint)) result }
+{
+    let text = copy_of(alloc, &token.text)?;
+    Ok(Listed::Token {
+        kind,
+        text,
+        joint: matches!(kind, Kind::Punct) && token.joint,
+    })
+}
+
+/// Whether documentation can be written with the text.
+pub(crate) fn is_doc_text(text: &[u8], inner: bool) -> bool
+    ensures { result ≡ is_doc_text inner text.now }
+{
+    match doc_form(text, inner) {
+        DocForm::Line => true,
+        DocForm::Block => true,
+        DocForm::Neither => false,
+    }
+}

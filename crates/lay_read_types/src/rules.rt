@@ -1,0 +1,53 @@
+//! What the rules share: how what is one level deeper is read.
+ghost use Rattle.std.specs.Prelude.{◌≡◌, ◌≤◌, IfOk, MatchResult, Ok, Err};
+ghost use Rattle.lay_tree.specs.reader.Types.{within};
+ghost use Rattle.lay_read_tokens.specs.Answers.{IsFound};
+ghost use Rattle.lay_read_types.specs.Answers.{AreDeeper};
+
+use lay_read_tokens::{Ahead, Found, ReadNone};
+use lay_tree::{Constraint, Ty, TypePlace};
+use std::alloc::Global;
+
+/// The rules of a level, over the readers of what is one level deeper: of types, at a place, and of what is asked of a
+/// name among generic arguments.
+#[derive(Clone, Copy)]
+pub struct Rules<F, G> {
+    pub alloc: Global,
+    /// At this depth what is one level deeper is read.
+    pub depth: u32,
+    pub types: F,
+    pub constraints: G,
+}
+
+impl<
+    F: Fn(Global, &mut Ahead<'_>, TypePlace, u32) -> Result<Found<Ty>, ReadNone>,
+    G: Fn(Global, &mut Ahead<'_>, u32) -> Result<Found<Constraint>, ReadNone>,
+> Rules<F, G> {
+    /// A type one level deeper.
+    pub fn inner(&self, at: &mut Ahead<'_>, place: TypePlace) -> Result<Found<Ty>, ReadNone>
+        requires { AreDeeper self.now.depth (F.pre self.now.types) (F.post self.now.types) (G.pre self.now.constraints) (G.post self.now.constraints) }
+        ensures read { IsFound ((within self.now.depth).types place at.old) result at.new }
+        ensures within { IfOk result (λ found. found.need ≤ self.now.depth) }
+    {
+        (self.types)(self.alloc, at, place, self.depth)
+    }
+
+    /// What is asked of a name, one level deeper.
+    pub fn asked(&self, at: &mut Ahead<'_>) -> Result<Found<Constraint>, ReadNone>
+        requires { AreDeeper self.now.depth (F.pre self.now.types) (F.post self.now.types) (G.pre self.now.constraints) (G.post self.now.constraints) }
+        ensures read { IsFound ((within self.now.depth).constraints at.old) result at.new }
+        ensures within { IfOk result (λ found. found.need ≤ self.now.depth) }
+    {
+        (self.constraints)(self.alloc, at, self.depth)
+    }
+}
+
+/// What was read, and what was read behind it.
+pub fn both<A: Drop, B>(first: A, second: Result<B, ReadNone>) -> Result<(A, B), ReadNone>
+    ensures { MatchResult second (λ b. result ≡ Ok (first, b)) (λ none. result ≡ Err none) }
+{
+    match second {
+        Ok(second) => Ok((first, second)),
+        Err(none) => Err(none),
+    }
+}
