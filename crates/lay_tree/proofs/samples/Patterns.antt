@@ -1,5 +1,5 @@
 -- Samples of patterns: how they are laid out, and what is read.
-use Rattle.std.proofs.Common.{◌≡◌, ℕ, Bool, true, false, List, [], ◌∷◌, ◌++◌, Option, Some, None, codes, ap, ◌∙◌, refl}
+use Rattle.std.proofs.Common.{◌≡◌, ℕ, Bool, true, false, List, [], ◌∷◌, ◌++◌, Some, None, codes, ap, refl}
 use Rattle.std.specs.Prelude.{replicate}
 use Rattle.lay_piece.specs.declared.kind.Delim.TheVariants.{Paren, Bracket, Brace}
 use Rattle.lay_piece.specs.declared.kind.Kind.TheVariants as kind
@@ -17,6 +17,7 @@ use Rattle.lay_tree.specs.reader.Tokens.{run, tokens, group}
 use Rattle.lay_tree.specs.reader.Types.{within, path_type, path, chain, segment, args_by, angle, one_arg, literal}
 use Rattle.lay_tree.specs.reader.Words.{name as name_reading, word as word_reading}
 use Rattle.lay_tree.specs.declared.attr.Attr.{Attr}
+use Rattle.lay_tree.specs.declared.patterns.FieldPat.{FieldPat}
 use Rattle.lay_tree.specs.declared.patterns.FieldPat.TheOpen.{FieldPat-F, Pat-F}
 use Rattle.lay_tree.specs.declared.patterns.FieldPat.TheVariants as field
 use Rattle.lay_tree.specs.declared.patterns.Pat.{Pat}
@@ -31,7 +32,7 @@ use Rattle.lay_tree.specs.declared.types.Path.{Path}
 use Rattle.lay_tree.proofs.nodes.PatternsLaws as pats
 use Rattle.lay_tree.proofs.nodes.TypesLaws as types
 use Rattle.lay_tree.proofs.samples.Trees.{named, plain, a, b, c, laid, token, word, mark, colons, opens, closes}
-use Rattle.lay_tree.proofs.samples.Types.{local, local_facts, local_is, B, B_is, a_of_B, B_then_C}
+use Rattle.lay_tree.proofs.samples.Types.{local, local_is, B, B_is, a_of_B, B_then_C}
 
 -- ---- trees and tokens
 
@@ -64,6 +65,9 @@ one_to_two = pat.Span (Some one) true (Some two)
 abbrev digits : List ℕ → Token
 digits text = token kind.Int text false
 
+abbrev underscore : Token
+underscore = token kind.Underscore (codes "_") false
+
 abbrev dots : List Token → List Token
 dots ts = token kind.Punct (codes ".") true ∷ mark (codes ".") ∷ ts
 
@@ -92,18 +96,18 @@ abbrev laid_pat : Pat → List ℕ
 laid_pat x = laid (about_pat x).told
 
 -- `A { b: _, 0: a, ref c, .. }`, and without its last part
-abbrev three_fields : Bool → Pat
-three_fields rest =
-    pat.Struct A (field.Named [] (named b) pat.Wild ∷ field.Index [] (codes "0") name_a ∷ field.Short [] (bound true false c) ∷ []) rest
+abbrev fields_of_three : List FieldPat
+fields_of_three = field.Named [] (named b) pat.Wild ∷ field.Index [] (codes "0") name_a ∷ field.Short [] (bound true false c) ∷ []
 
-laid_three : (rest : Bool) (text : List ℕ)
-    → laid (pat_facts (Pat-F.Struct A (field_facts (FieldPat-F.Named [] (named b) (pat_facts Pat-F.Wild))
+abbrev three_fields : Bool → Pat
+three_fields rest = pat.Struct A fields_of_three rest
+
+three_are : (rest : Bool) → about_pat (three_fields rest) ≡ pat_facts (Pat-F.Struct A (field_facts (FieldPat-F.Named [] (named b) (pat_facts Pat-F.Wild))
     ∷ field_facts (FieldPat-F.Index [] (codes "0") (pat_facts (Pat-F.Bind false false (named a) None)))
-    ∷ field_facts (FieldPat-F.Short [] (pat_facts (Pat-F.Bind true false (named c) None))) ∷ []) rest)).told ≡ text
-    → laid_pat (three_fields rest) ≡ text
-laid_three rest text e =
+    ∷ field_facts (FieldPat-F.Short [] (pat_facts (Pat-F.Bind true false (named c) None))) ∷ []) rest)
+three_are rest =
     rw (
-      pats.pat_struct_is A (field.Named [] (named b) pat.Wild ∷ field.Index [] (codes "0") name_a ∷ field.Short [] (bound true false c) ∷ []) rest,
+      pats.pat_struct_is A fields_of_three rest,
       pats.field_named_is [] (named b) pat.Wild,
       pats.field_index_is [] (codes "0") name_a,
       pats.field_short_is [] (bound true false c),
@@ -111,13 +115,13 @@ laid_three rest text e =
       name_is a,
       pats.pat_bind_is true false (named c) None,
     )
-    e
+    refl
 
 laid_struct_with_rest : laid_pat (three_fields true) ≡ codes "A { b: _, 0: a, ref c, .. }"
-laid_struct_with_rest = laid_three true (codes "A { b: _, 0: a, ref c, .. }") (rw (local_is (codes "A")) refl)
+laid_struct_with_rest = rw (three_are true, local_is (codes "A")) refl
 
 laid_struct : laid_pat (three_fields false) ≡ codes "A { b: _, 0: a, ref c }"
-laid_struct = laid_three false (codes "A { b: _, 0: a, ref c }") (rw (local_is (codes "A")) refl)
+laid_struct = rw (three_are false, local_is (codes "A")) refl
 
 laid_rest_alone : laid_pat (pat.Struct A [] true) ≡ codes "A { .. }"
 laid_rest_alone = rw (pats.pat_struct_is A [] true, local_is (codes "A")) refl
@@ -129,38 +133,27 @@ laid_no_fields = rw (pats.pat_struct_is A [] false, local_is (codes "A")) refl
 abbrev one_field_of : List ℕ → Bool → Pat
 one_field_of text rest = pat.Struct A (field.Named [] (named text) pat.Wild ∷ []) rest
 
-rest_of_89 : laid_pat (one_field_of (replicate 76 98) true) ≡ codes "A { " ++ (replicate 76 98 ++ codes ": _, .. }")
-rest_of_89 =
+one_is : (text : List ℕ) (rest : Bool) → about_pat (one_field_of text rest)
+    ≡ pat_facts (Pat-F.Struct A (field_facts (FieldPat-F.Named [] (named text) (pat_facts Pat-F.Wild)) ∷ []) rest)
+one_is text rest =
     rw (
-      pats.pat_struct_is A (field.Named [] (named (replicate 76 98)) pat.Wild ∷ []) true,
-      local_is (codes "A"),
-      pats.field_named_is [] (named (replicate 76 98)) pat.Wild,
+      pats.pat_struct_is A (field.Named [] (named text) pat.Wild ∷ []) rest,
+      pats.field_named_is [] (named text) pat.Wild,
       pats.pat_wild_is,
     )
     refl
+
+rest_of_89 : laid_pat (one_field_of (replicate 76 98) true) ≡ codes "A { " ++ (replicate 76 98 ++ codes ": _, .. }")
+rest_of_89 = rw (one_is (replicate 76 98) true, local_is (codes "A")) refl
 
 -- No comma stands behind the `..`.
 rest_of_90 : laid_pat (one_field_of (replicate 77 98) true)
     ≡ codes "A {\n    " ++ (replicate 77 98 ++ codes ": _,\n    ..\n}")
-rest_of_90 =
-    rw (
-      pats.pat_struct_is A (field.Named [] (named (replicate 77 98)) pat.Wild ∷ []) true,
-      local_is (codes "A"),
-      pats.field_named_is [] (named (replicate 77 98)) pat.Wild,
-      pats.pat_wild_is,
-    )
-    refl
+rest_of_90 = rw (one_is (replicate 77 98) true, local_is (codes "A")) refl
 
 field_of_90 : laid_pat (one_field_of (replicate 81 98) false)
     ≡ codes "A {\n    " ++ (replicate 81 98 ++ codes ": _,\n}")
-field_of_90 =
-    rw (
-      pats.pat_struct_is A (field.Named [] (named (replicate 81 98)) pat.Wild ∷ []) false,
-      local_is (codes "A"),
-      pats.field_named_is [] (named (replicate 81 98)) pat.Wild,
-      pats.pat_wild_is,
-    )
-    refl
+field_of_90 = rw (one_is (replicate 81 98) false, local_is (codes "A")) refl
 
 laid_tuple_of_one : laid_pat (pat.Tuple (name_a ∷ [])) ≡ codes "(a,)"
 laid_tuple_of_one = rw (pats.pat_tuple_is (name_a ∷ []), name_is a) refl
@@ -200,23 +193,21 @@ laid_or = rw (pats.pat_or_is (name_a ∷ name_b ∷ []), name_is a, name_is b) r
 abbrev either_of : ℕ → Pat
 either_of n = pat.Or (bound false false (replicate 44 97) ∷ bound false false (replicate n 98) ∷ [])
 
-or_of_89 : laid_pat (either_of 42) ≡ replicate 44 97 ++ (codes " | " ++ replicate 42 98)
-or_of_89 =
+either_is : (n : ℕ) → about_pat (either_of n) ≡ pat_facts (Pat-F.Or (pat_facts (Pat-F.Bind false false (named (replicate 44 97)) None)
+    ∷ pat_facts (Pat-F.Bind false false (named (replicate n 98)) None) ∷ []))
+either_is n =
     rw (
-      pats.pat_or_is (bound false false (replicate 44 97) ∷ bound false false (replicate 42 98) ∷ []),
+      pats.pat_or_is (bound false false (replicate 44 97) ∷ bound false false (replicate n 98) ∷ []),
       name_is (replicate 44 97),
-      name_is (replicate 42 98),
+      name_is (replicate n 98),
     )
     refl
 
+or_of_89 : laid_pat (either_of 42) ≡ replicate 44 97 ++ (codes " | " ++ replicate 42 98)
+or_of_89 = rw (either_is 42) refl
+
 or_of_90 : laid_pat (either_of 43) ≡ replicate 44 97 ++ (codes "\n| " ++ replicate 43 98)
-or_of_90 =
-    rw (
-      pats.pat_or_is (bound false false (replicate 44 97) ∷ bound false false (replicate 43 98) ∷ []),
-      name_is (replicate 44 97),
-      name_is (replicate 43 98),
-    )
-    refl
+or_of_90 = rw (either_is 43) refl
 
 laid_bind : laid_pat (pat.Bind true true (named a) (Some one_to_two)) ≡ codes "ref mut a @ 1..=2"
 laid_bind = rw (pats.pat_bind_is true true (named a) (Some one_to_two), pats.pat_span_is (Some one) true (Some two)) refl
@@ -245,7 +236,7 @@ not_negative_name : pat_at Single 1 (mark (codes "-") ∷ word a ∷ []) ≡ Non
 unfolding single_at pat_by value_pat value literal
 not_negative_name = refl
 
-read_wild : pat_at Single 1 (token kind.Underscore (codes "_") false ∷ []) ≡ Some ((pat.Wild, 1), [])
+read_wild : pat_at Single 1 (underscore ∷ []) ≡ Some ((pat.Wild, 1), [])
 unfolding single_at pat_by op_at
 read_wild = refl
 
@@ -318,7 +309,8 @@ not_ref_of_path : pat_at Single 1 (word (codes "ref") ∷ word a ∷ colons (wor
 unfolding single_at pat_by marked_bind bind name_reading op_at
 not_ref_of_path = refl
 
-read_bind : pat_at Single 2 (word (codes "ref") ∷ word (codes "mut") ∷ word a ∷ mark (codes "@") ∷ digits (codes "1") ∷ dots_to (digits (codes "2") ∷ []))
+read_bind : pat_at Single 2 (word (codes "ref") ∷ word (codes "mut") ∷ word a ∷ mark (codes "@") ∷ digits (codes "1")
+    ∷ dots_to (digits (codes "2") ∷ []))
     ≡ Some ((pat.Bind true true (named a) (Some one_to_two), 2), [])
 unfolding single_at pat_by value_pat value literal span one_end op_at marked_bind bind name_reading
 read_bind = refl
@@ -467,7 +459,8 @@ read_tuple_struct = rw (lone a) refl
 
 -- ---- what is read: fields
 
-read_fields : pat_at Single 2 (of_A (word b ∷ mark (codes ":") ∷ token kind.Underscore (codes "_") false ∷ mark (codes ",") ∷ digits (codes "0") ∷ mark (codes ":") ∷ word a ∷ mark (codes ",") ∷ word (codes "ref") ∷ word c ∷ mark (codes ",") ∷ dots []))
+read_fields : pat_at Single 2 (of_A (word b ∷ mark (codes ":") ∷ underscore ∷ mark (codes ",") ∷ digits (codes "0") ∷ mark (codes ":")
+    ∷ word a ∷ mark (codes ",") ∷ word (codes "ref") ∷ word c ∷ mark (codes ",") ∷ dots []))
     ≡ Some ((three_fields true, 2), [])
 unfolding single_at pat_by simple_path path_pat path_by bind path chain segment args_by repeat repeat_from word_reading op_at fields one_field open_elements open_elements_from attributes name_reading marked_bind
 read_fields = rw (lone a, pats.pat_bind_is true false (named c) None) refl
