@@ -1,6 +1,7 @@
 -- Samples of patterns: how they are laid out, and what is read.
 use Rattle.std.proofs.Common.{◌≡◌, ℕ, Bool, true, false, List, [], ◌∷◌, ◌++◌, Some, None, codes, ap, refl}
 use Rattle.std.specs.Prelude.{replicate}
+use Rattle.std.specs.Str.{chars}
 use Rattle.lay_piece.specs.declared.kind.Delim.TheVariants.{Paren, Bracket, Brace}
 use Rattle.lay_piece.specs.declared.kind.Kind.TheVariants as kind
 use Rattle.lay_token.specs.Operators.{op_at}
@@ -26,6 +27,7 @@ use Rattle.lay_tree.specs.declared.patterns.PatPlace.TheVariants.{Alternatives, 
 use Rattle.lay_tree.specs.declared.patterns.PatValue.{PatValue}
 use Rattle.lay_tree.specs.declared.patterns.SpanEnd.{SpanEnd}
 use Rattle.lay_tree.specs.declared.patterns.SpanEnd.TheVariants as span_end
+use Rattle.lay_tree.specs.declared.tokens.MacroCall.{MacroCall}
 use Rattle.lay_tree.specs.declared.types.Arg.TheViews as views
 use Rattle.lay_tree.specs.declared.types.Arg.TheVariants as arg
 use Rattle.lay_tree.specs.declared.types.Path.{Path}
@@ -61,6 +63,10 @@ two = span_end.Value (number false (codes "2"))
 -- `1..=2`
 abbrev one_to_two : Pat
 one_to_two = pat.Span (Some one) true (Some two)
+
+-- `m!()`
+abbrev called : MacroCall
+called = record { path = record { global = false; words = plain (codes "m") ∷ [] }; tokens = record { delim = Paren; tokens = [] } }
 
 abbrev digits : List ℕ → Token
 digits text = token kind.Int text false
@@ -215,6 +221,14 @@ laid_bind = rw (pats.pat_bind_is true true (named a) (Some one_to_two), pats.pat
 laid_open_span : laid_pat (pat.Span (Some one) false None) ≡ codes "1.."
 laid_open_span = rw (pats.pat_span_is (Some one) false None) refl
 
+-- A `..` that stands directly behind the point of a number has a blank before it.
+abbrev point : SpanEnd
+point = span_end.Value (record { negative = false; literal = record { kind = kind.Float; text = codes "1." } })
+
+laid_behind_point : laid_pat (pat.Span (Some point) true (Some two)) ≡ codes "1. ..=2"
+unfolding chars
+laid_behind_point = rw (pats.pat_span_is (Some point) true (Some two)) refl
+
 laid_span_to : laid_pat (pat.Span None false (Some one)) ≡ codes "..1"
 laid_span_to = rw (pats.pat_span_is None false (Some one)) refl
 
@@ -281,7 +295,7 @@ unfolding single_at pat_by simple_path path_pat path_by bind path chain segment 
 not_before_less = rw (lone a) refl
 
 read_call : pat_at Single 1 (word (codes "m") ∷ mark (codes "!") ∷ in_parens [])
-    ≡ Some ((pat.Call (record { path = record { global = false; words = plain (codes "m") ∷ [] }; tokens = record { delim = Paren; tokens = [] } }), 1), [])
+    ≡ Some ((pat.Call called, 1), [])
 unfolding single_at pat_by simple_path call group tokens run repeat repeat_from word_reading op_at
 read_call = refl
 
