@@ -66,7 +66,10 @@ one_to_two = pat.Span (Some one) true (Some two)
 
 -- `m!()`
 abbrev called : MacroCall
-called = record { path = record { global = false; words = plain (codes "m") ∷ [] }; tokens = record { delim = Paren; tokens = [] } }
+called = record {
+  path = record { global = false; words = plain (codes "m") ∷ [] };
+  tokens = record { delim = Paren; tokens = [] };
+}
 
 abbrev digits : List ℕ → Token
 digits text = token kind.Int text false
@@ -103,12 +106,14 @@ laid_pat x = laid (about_pat x).told
 
 -- `A { b: _, 0: a, ref c, .. }`, and without its last part
 abbrev fields_of_three : List FieldPat
-fields_of_three = field.Named [] (named b) pat.Wild ∷ field.Index [] (codes "0") name_a ∷ field.Short [] (bound true false c) ∷ []
+fields_of_three =
+    field.Named [] (named b) pat.Wild ∷ field.Index [] (codes "0") name_a ∷ field.Short [] (bound true false c) ∷ []
 
 abbrev three_fields : Bool → Pat
 three_fields rest = pat.Struct A fields_of_three rest
 
-three_are : (rest : Bool) → about_pat (three_fields rest) ≡ pat_facts (Pat-F.Struct A (field_facts (FieldPat-F.Named [] (named b) (pat_facts Pat-F.Wild))
+three_are : (rest : Bool) → about_pat (three_fields rest)
+    ≡ pat_facts (Pat-F.Struct A (field_facts (FieldPat-F.Named [] (named b) (pat_facts Pat-F.Wild))
     ∷ field_facts (FieldPat-F.Index [] (codes "0") (pat_facts (Pat-F.Bind false false (named a) None)))
     ∷ field_facts (FieldPat-F.Short [] (pat_facts (Pat-F.Bind true false (named c) None))) ∷ []) rest)
 three_are rest =
@@ -199,7 +204,8 @@ laid_or = rw (pats.pat_or_is (name_a ∷ name_b ∷ []), name_is a, name_is b) r
 abbrev either_of : ℕ → Pat
 either_of n = pat.Or (bound false false (replicate 44 97) ∷ bound false false (replicate n 98) ∷ [])
 
-either_is : (n : ℕ) → about_pat (either_of n) ≡ pat_facts (Pat-F.Or (pat_facts (Pat-F.Bind false false (named (replicate 44 97)) None)
+either_is : (n : ℕ) → about_pat (either_of n)
+    ≡ pat_facts (Pat-F.Or (pat_facts (Pat-F.Bind false false (named (replicate 44 97)) None)
     ∷ pat_facts (Pat-F.Bind false false (named (replicate n 98)) None) ∷ []))
 either_is n =
     rw (
@@ -216,7 +222,8 @@ or_of_90 : laid_pat (either_of 43) ≡ replicate 44 97 ++ (codes "\n| " ++ repli
 or_of_90 = rw (either_is 43) refl
 
 laid_bind : laid_pat (pat.Bind true true (named a) (Some one_to_two)) ≡ codes "ref mut a @ 1..=2"
-laid_bind = rw (pats.pat_bind_is true true (named a) (Some one_to_two), pats.pat_span_is (Some one) true (Some two)) refl
+laid_bind =
+    rw (pats.pat_bind_is true true (named a) (Some one_to_two), pats.pat_span_is (Some one) true (Some two)) refl
 
 laid_open_span : laid_pat (pat.Span (Some one) false None) ≡ codes "1.."
 laid_open_span = rw (pats.pat_span_is (Some one) false None) refl
@@ -308,8 +315,8 @@ not_ref_before_bang : pat_at Single 1 (word (codes "ref") ∷ word a ∷ mark (c
 unfolding single_at pat_by marked_bind bind name_reading op_at
 not_ref_before_bang = refl
 
-not_path_before_bang : pat_at Single 2 (word a ∷ colons (mark (codes "<") ∷ word (codes "B") ∷ mark (codes ">") ∷ mark (codes "!") ∷ []))
-    ≡ None
+not_path_before_bang : pat_at Single 2 (word a
+    ∷ colons (mark (codes "<") ∷ word (codes "B") ∷ mark (codes ">") ∷ mark (codes "!") ∷ [])) ≡ None
 unfolding single_at pat_by simple_path path_pat path_by path chain segment args_by repeat repeat_from word_reading op_at lead_at within path_type angle elements elements_from one_arg
 not_path_before_bang = rw (views.outs-Local, views.outs-Angle) refl
 
@@ -473,8 +480,8 @@ read_tuple_struct = rw (lone a) refl
 
 -- ---- what is read: fields
 
-read_fields : pat_at Single 2 (of_A (word b ∷ mark (codes ":") ∷ underscore ∷ mark (codes ",") ∷ digits (codes "0") ∷ mark (codes ":")
-    ∷ word a ∷ mark (codes ",") ∷ word (codes "ref") ∷ word c ∷ mark (codes ",") ∷ dots []))
+read_fields : pat_at Single 2 (of_A (word b ∷ mark (codes ":") ∷ underscore ∷ mark (codes ",")
+    ∷ digits (codes "0") ∷ mark (codes ":") ∷ word a ∷ mark (codes ",") ∷ word (codes "ref") ∷ word c ∷ mark (codes ",") ∷ dots []))
     ≡ Some ((three_fields true, 2), [])
 unfolding single_at pat_by simple_path path_pat path_by bind path chain segment args_by repeat repeat_from word_reading op_at fields one_field open_elements open_elements_from attributes name_reading marked_bind
 read_fields = rw (lone a, pats.pat_bind_is true false (named c) None) refl
@@ -533,7 +540,8 @@ read_at_one = rw (lone a) refl
 
 at_one_is : (about_pat name_at_one).short ≡ false
 at_one_is =
-    ap (λ (x : PatFacts). x.short) (pats.pat_bind_is false false (named a) (Some (pat.Value (number false (codes "1")))))
+    ap (λ (x : PatFacts). x.short)
+    (pats.pat_bind_is false false (named a) (Some (pat.Value (number false (codes "1")))))
 
 no_field_at_one : one_field within_three a_at_one ≡ None
 unfolding one_field attributes repeat repeat_from name_reading op_at
