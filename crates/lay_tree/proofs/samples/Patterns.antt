@@ -481,7 +481,8 @@ read_tuple_struct = rw (lone a) refl
 -- ---- what is read: fields
 
 read_fields : pat_at Single 2 (of_A (word b ∷ mark (codes ":") ∷ underscore ∷ mark (codes ",")
-    ∷ digits (codes "0") ∷ mark (codes ":") ∷ word a ∷ mark (codes ",") ∷ word (codes "ref") ∷ word c ∷ mark (codes ",") ∷ dots []))
+    ∷ digits (codes "0") ∷ mark (codes ":") ∷ word a ∷ mark (codes ",") ∷ word (codes "ref") ∷ word c ∷ mark (codes ",")
+    ∷ dots []))
     ≡ Some ((three_fields true, 2), [])
 unfolding single_at pat_by simple_path path_pat path_by bind path chain segment args_by repeat repeat_from word_reading op_at fields one_field open_elements open_elements_from attributes name_reading marked_bind
 read_fields = rw (lone a, pats.pat_bind_is true false (named c) None) refl
