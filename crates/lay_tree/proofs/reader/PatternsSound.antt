@@ -137,7 +137,8 @@ pub single_at_sound : (budget : ℕ) → SoundStep (single_at budget) (PatHeld S
 unfolding single_at
 single_at_sound zero ts x rest t h = absurd (cc)
 single_at_sound (suc budget) ts x rest t h =
-    let inner : PatWithin = record { pats = λ place us. pat_in budget (single_at budget) place us; kinds = within budget } in
+    let inner : PatWithin =
+    record { pats = λ place us. pat_in budget (single_at budget) place us; kinds = within budget } in
     let sound : SoundPatWithin budget inner = record {
       pats = λ place. pat_in_sound budget (single_at budget) (single_at_sound budget) place;
       kinds = within_sound budget;

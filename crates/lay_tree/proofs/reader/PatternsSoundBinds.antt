@@ -54,7 +54,8 @@ none_layer _ h = absurd (cc)
 
 none_is : (a : Args) → are_none (views.out-Args a) ≡ true → about_args a ≡ args_facts Args-F.None
 none_is a h =
-    ap about_args (sym (views.roll-out-Args a) ∙ ap views.roll-Args (none_layer (views.out-Args a) h) ∙ views.rolls-None)
+    ap about_args
+    (sym (views.roll-out-Args a) ∙ ap views.roll-Args (none_layer (views.out-Args a) h) ∙ views.rolls-None)
     ∙ args_none_is
 
 lone_segments : (ss : List (Word × Args)) (w : Word) → lone_segment ss ≡ Some w
@@ -200,7 +201,8 @@ module _ (budget : ℕ) (within : PatWithin) (sound : SoundPatWithin budget with
       flag_leads mark bits ts are (when mutable bits_mut (leaf_of raw text f)) depth end
       (flag_leads mark_mut bits_mut behind are_mut (leaf_of raw text f) depth end
       (leaf_spelled raw text f depth at n.0.1 end i.0 s)) in
-      bind_sound by_ref mutable n.0.0 ts n.0.1 lead i.1 (bit_texts (Fixed (word_kind raw) text) at n.0.1 i.0 left) x rest
+      bind_sound by_ref mutable n.0.0 ts n.0.1 lead i.1
+      (bit_texts (Fixed (word_kind raw) text) at n.0.1 i.0 left) x rest
       n.2
 
   -- ---- paths

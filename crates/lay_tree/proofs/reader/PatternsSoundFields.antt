@@ -1,4 +1,5 @@
--- Fields in patterns, and what stands behind a path: what is read stands there, where what is one level deeper is read so.
+-- Fields in patterns, and what stands behind a path: what is read stands there, where what is one level deeper is read
+-- so.
 use Rattle.std.proofs.Common.{◌≡◌, ℕ, suc, ◌≤◌, max, Bool, true, false, not, ◌&&◌, List, [], ◌∷◌, ◌++◌, inl, inr, map, drop, codes, Some, None, if◌then◌else◌, refl, sym, subst, ◌∙◌, append-nil, arith}
 use Rattle.std.proofs.lemmas.Bool.{and_parts, and_from}
 use Rattle.lay_piece.specs.declared.kind.Delim.TheVariants.{Paren, Brace}
@@ -130,7 +131,8 @@ index_sound (u ∷ us) x rest t h = elim (chosen (is_int u.kind && is_op (codes 
 -- A name and a `:` stand there.
 abbrev IsFieldName : Name → Tokens → Tokens → Type 0
 IsFieldName n ts rest =
-    (at : Tokens) × IsOne (word_kind n.raw) n.text ts at × IsOperator (codes ":") at rest × (is_name n.raw n.text ≡ true)
+    (at : Tokens) × IsOne (word_kind n.raw) n.text ts at × IsOperator (codes ":") at rest
+    × (is_name n.raw n.text ≡ true)
 
 field_name_sound : SoundStep field_name IsFieldName
 field_name_sound ts x rest t h =
@@ -279,7 +281,8 @@ module _ (budget : ℕ) (within : PatWithin) (sound : SoundPatWithin budget with
       (λ f us mid s. (s.0, s.1.0, s.1.1)) fs last inside end r in
       let gs = nodes fs in
       let list = braces_by form_of_field (deepest fs) gs ts inside rest o
-      (open_shut begins_field (λ f. SpelledAt (deepest fs) (form_of_field f)) (closer Brace) gs last inside end rest k.0 c) in
+      (open_shut begins_field (λ f. SpelledAt (deepest fs) (form_of_field f)) (closer Brace) gs last inside end rest
+      k.0 c) in
       let same : map form_of_field gs ≡ forms (map about_field_pat gs) ++ [] =
       sym (forms_of about_field_pat gs) ∙ sym (append-nil (forms (map about_field_pat gs))) in (
         (

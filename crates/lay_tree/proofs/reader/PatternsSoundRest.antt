@@ -24,7 +24,8 @@ closed [] h = let g : ◌≡◌ {A = Bool} false true = h in absurd (cc)
 closed (t ∷ ts) h = at t.kind (closer_kind Paren t.kind h)
   where
     at : (k : Kind) → k ≡ kind.Closer Paren
-        → (begins_span_end (record t { kind = k } ∷ ts) ≡ false) × (goes_on_pattern (record t { kind = k } ∷ ts) ≡ false)
+        → (begins_span_end (record t { kind = k } ∷ ts) ≡ false)
+        × (goes_on_pattern (record t { kind = k } ∷ ts) ≡ false)
     at k e = rw e (refl, refl)
 
 -- ---- what a `..` begins

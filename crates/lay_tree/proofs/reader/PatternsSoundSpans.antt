@@ -73,7 +73,8 @@ value_sound ts x rest t h = elim (chosen (first (is_mark (codes "-")) ts) _ _ _ 
 -- An end stands there, at the depth that stands with it, which is within the budget.
 abbrev pub EndHeld : ℕ → SpanEnd × ℕ → Tokens → Tokens → Type 0
 EndHeld budget x ts rest =
-    (x.1 ≤ budget) × Spells (end_form x.0) x.1 ts rest × (is_end x.0 ≡ true) × (may_follow (end_refuses x.0) rest ≡ true)
+    (x.1 ≤ budget) × Spells (end_form x.0) x.1 ts rest × (is_end x.0 ≡ true)
+    × (may_follow (end_refuses x.0) rest ≡ true)
 
 -- The first end stands there, or nothing, before whatever stands behind it.
 abbrev pub StartHeld : ℕ → Option SpanEnd → ℕ → Tokens → Tokens → Type 0
@@ -194,7 +195,8 @@ module _ (budget : ℕ) (within : Within) (sound : SoundWithin budget within) wh
         x rest g.1
     | inr g ↦
         let at = drop 2 ts in
-        let o : IsOperator (codes "..") ts at = (left_of (is_op (codes "..") ts) (is_op (codes "..=") ts) d g.0, refl) in
+        let o : IsOperator (codes "..") ts at =
+        (left_of (is_op (codes "..") ts) (is_op (codes "..=") ts) d g.0, refl) in
         let left = bit_texts (Operator (codes "..")) ts at o t in
         elim (chosen (begins_span_end at) _ _ _ g.1) [
           | inl f ↦ closed_sound start need begun ts held false at (at, o, refl) left x rest f.1
