@@ -1,9 +1,8 @@
 //! Strings and their values, worked out by hand from the Rust Reference's rules.
 use lay_cook::{Cooked, cook};
-use lay_given::{BETWEEN, parts};
+use lay_given::{BETWEEN, each_holds, parts};
 use lay_token::{NoMemory, Text, Token, piece_at};
 use std::alloc::Global;
-use std::process::Abort;
 
 /// What the first piece of a text says as a string.
 fn cooked(alloc: Global, text: &str) -> Result<Cooked, NoMemory> {
@@ -23,12 +22,17 @@ fn cooked(alloc: Global, text: &str) -> Result<Cooked, NoMemory> {
 }
 
 /// The first piece of a text says this as a string.
-fn says(rt: &impl Abort, alloc: Global, row: &str) {
+fn says(alloc: Global, row: &str) -> bool {
     let (text, wanted) = parts(row);
     match cooked(alloc, text) {
-        Ok(Cooked::Str(value)) => assert_eq!(rt; value.as_bytes(), wanted.as_bytes(), "{row}"),
-        _ => assert!(rt; false, "{row}"),
+        Ok(Cooked::Str(value)) => value.as_bytes() == wanted.as_bytes(),
+        _ => false,
     }
+}
+
+/// It is no text.
+fn is_no_text(alloc: Global, text: &str) -> bool {
+    matches!(cooked(alloc, text), Ok(Cooked::NotText))
 }
 
 #[test]
@@ -53,9 +57,7 @@ fn values(rt: HostRuntime) {
         r\"\u{e9}\\\n  \"→\u{e9}\\\n  §\
         r##\"#\"##→#§\
         r#\"more than twenty-two bytes\"#→more than twenty-two bytes";
-    for row in rows.split(BETWEEN) {
-        says(&rt, rt.alloc(), row);
-    }
+    each_holds(&rt, rt.alloc(), rows, BETWEEN, says);
 }
 
 // Strings with a suffix, and what is no string.
@@ -63,10 +65,5 @@ fn values(rt: HostRuntime) {
 fn no_values(rt: HostRuntime) {
     let rows =
         r##""a"x§"\n"_x§""é§r"a"x§r#"a"#x1§b"a"§br"a"§c"a"§cr"a"§'a'§b'a'§1§1.5§name§r#name§'name§_§+§(§)§/// a"##;
-    for text in rows.split(BETWEEN) {
-        assert!(rt;
-            matches!(cooked(rt.alloc(), text), Ok(Cooked::NotText)),
-            "{text}"
-        );
-    }
+    each_holds(&rt, rt.alloc(), rows, BETWEEN, is_no_text);
 }

@@ -1,9 +1,8 @@
 //! Inputs and texts, worked out by hand from the Rust Reference's rules and this format's.
-use lay_given::{BETWEEN, parts, tokens};
+use lay_given::{BETWEEN, each_holds, parts, tokens};
 use lay_lex::normalise;
 use lay_token::{FormatError, Refusal, Text, Token};
 use std::alloc::{AllocError, Global};
-use std::process::Abort;
 use std::str;
 
 /// Whether a shebang line is this one.
@@ -15,95 +14,74 @@ fn is_line(line: &Option<Text>, wanted: Option<&str>) -> bool {
     }
 }
 
-/// What is lexed of an input: the shebang line, the text and the start.
-fn source(
-    rt: &impl Abort,
-    alloc: Global,
-    given: &str,
-    shebang: Option<&str>,
-    text: &str,
-    start: usize,
-) {
+/// Whether this is lexed of an input: the shebang line, the text and the start.
+fn is_source(alloc: Global, given: &str, shebang: Option<&str>, text: &str, start: usize) -> bool {
     match normalise(alloc, given.as_bytes()) {
         Ok(source) => {
             let same = source.text.as_slice() == text.as_bytes() && source.start == start;
-            assert!(rt; same && is_line(&source.shebang, shebang), "{given}");
+            same && is_line(&source.shebang, shebang)
         }
-        Err(_) => assert!(rt; false, "{given}"),
+        Err(_) => false,
     }
+}
+
+/// What is lexed of the input of a row: the text, the start, and the shebang line if there is one.
+fn source(alloc: Global, row: &str) -> bool {
+    let (given, rest) = parts(row);
+    let (text, rest) = parts(rest);
+    let (start, shebang) = match rest.split_once('→') {
+        Some((start, line)) => (start, Some(line)),
+        None => (rest, None),
+    };
+    let start = start.parse::<usize>().unwrap_or(usize::MAX);
+    is_source(alloc, given, shebang, text, start)
+}
+
+/// A text is lexed as it is.
+fn same_source(alloc: Global, text: &str) -> bool {
+    is_source(alloc, text, None, text, 0)
 }
 
 #[test]
 fn sources(rt: HostRuntime) {
-    let alloc = rt.alloc();
     let same =
         "§struct A;\n§ \u{feff}§#![allow(x)]\nstruct A;§#! \t[x]\n§#!//x\n§#! /*x\n§#!§#!  \n[x]§\n#!/bin/x\n§ #!/bin/x\n";
-    for text in same.split(BETWEEN) {
-        source(&rt, alloc, text, None, text, 0);
-    }
-    source(&rt, alloc, "\u{feff}struct A;", None, "struct A;", 0);
-    source(&rt, alloc, "\u{feff}\u{feff}", None, "\u{feff}", 0);
-    source(&rt, alloc, "a\r\nb\r\n\r\n", None, "a\nb\n\n", 0);
-    source(&rt, alloc, "\"a\r\nb\"", None, "\"a\nb\"", 0);
-    source(&rt, alloc, "a\rb\r\r\nc\r", None, "a\rb\r\nc\r", 0);
-    source(
-        &rt,
-        alloc,
-        "\u{e9}\r\n\u{1f600}",
-        None,
-        "\u{e9}\n\u{1f600}",
-        0,
-    );
-    source(&rt, alloc, "#!\r\n/bin/x", None, "#!\n/bin/x", 0);
-    source(&rt, alloc, "#!/bin/x", Some("#!/bin/x"), "#!/bin/x", 8);
-    source(
-        &rt,
-        alloc,
-        "#!/bin/x\nstruct A;",
-        Some("#!/bin/x"),
-        "#!/bin/x\nstruct A;",
-        9,
-    );
-    source(
-        &rt,
-        alloc,
-        "\u{feff}#!/bin/x\r\nstruct A;\r\n",
-        Some("#!/bin/x"),
-        "#!/bin/x\nstruct A;\n",
-        9,
-    );
-    source(&rt, alloc, "#!x\r\r\r\ny", Some("#!x"), "#!x\r\r\ny", 6);
-    source(
-        &rt,
-        alloc,
-        "#! \u{e9}\ry\r",
-        Some("#! \u{e9}\ry"),
-        "#! \u{e9}\ry\r",
-        8,
-    );
-    source(&rt, alloc, "#!/x\n#!/y\n", Some("#!/x"), "#!/x\n#!/y\n", 5);
+    each_holds(&rt, rt.alloc(), same, BETWEEN, same_source);
+    let rows = "\u{feff}struct A;→struct A;→0§\
+        \u{feff}\u{feff}→\u{feff}→0§\
+        a\r\nb\r\n\r\n→a\nb\n\n→0§\
+        \"a\r\nb\"→\"a\nb\"→0§\
+        a\rb\r\r\nc\r→a\rb\r\nc\r→0§\
+        \u{e9}\r\n\u{1f600}→\u{e9}\n\u{1f600}→0§\
+        #!\r\n/bin/x→#!\n/bin/x→0§\
+        #!/bin/x→#!/bin/x→8→#!/bin/x§\
+        #!/bin/x\nstruct A;→#!/bin/x\nstruct A;→9→#!/bin/x§\
+        \u{feff}#!/bin/x\r\nstruct A;\r\n→#!/bin/x\nstruct A;\n→9→#!/bin/x§\
+        #!x\r\r\r\ny→#!x\r\r\ny→6→#!x§\
+        #! \u{e9}\ry\r→#! \u{e9}\ry\r→8→#! \u{e9}\ry§\
+        #!/x\n#!/y\n→#!/x\n#!/y\n→5→#!/x";
+    each_holds(&rt, rt.alloc(), rows, BETWEEN, source);
 }
 
-/// The bytes are no UTF-8 behind so many.
-fn no_text(rt: &impl Abort, alloc: Global, bytes: &[u8], at: usize) {
-    match normalise(alloc, bytes) {
-        Ok(_) => assert!(rt; false, "{at}"),
-        Err(error) => assert_eq!(rt; error, FormatError::Refused(Refusal::NotUtf8 { at })),
+/// The bytes of a row are no UTF-8 behind so many, the digit that stands before them.
+fn no_text(alloc: Global, row: &[u8]) -> bool {
+    match row.split_first() {
+        Some((digit, bytes)) => match normalise(alloc, bytes) {
+            Err(FormatError::Refused(Refusal::NotUtf8 { at })) => at
+                == digit.wrapping_sub(b'0') as usize,
+            _ => false,
+        },
+        None => false,
     }
 }
 
 #[test]
 fn no_texts(rt: HostRuntime) {
-    let alloc = rt.alloc();
-    no_text(&rt, alloc, b"struct A;\xff", 9);
-    no_text(&rt, alloc, b"\xff", 0);
-    no_text(&rt, alloc, b"a\xc3", 1);
-    no_text(&rt, alloc, b"a\xe4\xb8", 1);
-    no_text(&rt, alloc, b"\xc3\xa9\xf0\x9f\x98", 2);
-    no_text(&rt, alloc, b"\xef\xbb", 0);
-    no_text(&rt, alloc, b"\xef\xbb\xbfa\r\n\x80", 6);
-    no_text(&rt, alloc, b"a\xc0\x80", 1);
-    no_text(&rt, alloc, b"\xed\xa0\x80", 0);
+    let rows =
+        b"9struct A;\xff|0\xff|1a\xc3|1a\xe4\xb8|2\xc3\xa9\xf0\x9f\x98|0\xef\xbb|6\xef\xbb\xbfa\r\n\x80|1a\xc0\x80|0\xed\xa0\x80";
+    for row in rows.split(|byte| *byte == b'|') {
+        assert!(rt; no_text(rt.alloc(), row), "{row:?}");
+    }
 }
 
 /// A token in words: its kind, where its piece begins and how long that is, its text, and `&` where it is joint.
@@ -137,14 +115,12 @@ fn are(alloc: Global, tokens: &[Token], wanted: &str) -> bool {
     left.next().is_none()
 }
 
-/// A text lexes to these tokens.
-fn lexes(rt: &impl Abort, alloc: Global, row: &str) {
+/// The text of a row lexes to these tokens.
+fn lexes(alloc: Global, row: &str) -> bool {
     let (text, wanted) = parts(row);
     match tokens(alloc, text.as_bytes()) {
-        Ok(tokens) => {
-            assert!(rt; are(alloc, tokens.as_slice(), wanted), "{row}");
-        }
-        Err(_) => assert!(rt; false, "{row}"),
+        Ok(tokens) => are(alloc, tokens.as_slice(), wanted),
+        Err(_) => false,
     }
 }
 
@@ -161,9 +137,7 @@ fn numbers_and_points(rt: HostRuntime) {
         1e5e3→Float 0+5 1e5e3§\
         1_e5→Float 0+4 1_e5§\
         x.0u8→Ident 0+1 x | Punct 1+1 . | Int 2+3 0u8";
-    for row in rows.split(BETWEEN) {
-        lexes(&rt, rt.alloc(), row);
-    }
+    each_holds(&rt, rt.alloc(), rows, BETWEEN, lexes);
 }
 
 #[test]
@@ -179,9 +153,7 @@ fn words_quotes_and_marks(rt: HostRuntime) {
         &&,→Punct 0+1 & & | Punct 1+1 & | Punct 2+1 ,§\
         <<= ;:/**/:→Punct 0+1 < & | Punct 1+1 < & | Punct 2+1 = | Punct 4+1 ; | Punct 5+1 : | Punct 10+1 :§\
         \u{feff}#!/x\r\n\u{e9}{}→Ident 5+2 \u{e9} | Opener(Brace) 7+1 { | Closer(Brace) 8+1 }";
-    for row in rows.split(BETWEEN) {
-        lexes(&rt, rt.alloc(), row);
-    }
+    each_holds(&rt, rt.alloc(), rows, BETWEEN, lexes);
 }
 
 #[test]
@@ -194,32 +166,26 @@ fn documentation(rt: HostRuntime) {
         /** a \n */→Doc { inner: false, block: true } 0+10  a \n §\
         /*!*/ /*!/**/*/→Doc { inner: true, block: true } 0+5  | Doc { inner: true, block: true } 6+9 /**/§\
         /***/ /**/ /*** */→";
-    for row in rows.split(BETWEEN) {
-        lexes(&rt, rt.alloc(), row);
-    }
+    each_holds(&rt, rt.alloc(), rows, BETWEEN, lexes);
 }
 
-/// No token is had at this place, and those before it are had.
-fn no_token(rt: &impl Abort, alloc: Global, text: &str, at: usize) {
+/// No token is had at the place that stands behind the text of a row, and those before it are had.
+fn no_token(alloc: Global, row: &str) -> bool {
+    let (text, at) = parts(row);
+    let wanted = at.parse::<usize>().unwrap_or(usize::MAX);
     match tokens(alloc, text.as_bytes()) {
-        Ok(_) => assert!(rt; false, "{text}"),
-        Err(error) => assert_eq!(rt;
-            error,
-            FormatError::Refused(Refusal::NoToken { at }),
-            "{text}"
-        ),
+        Err(FormatError::Refused(Refusal::NoToken { at })) => at == wanted,
+        _ => false,
     }
 }
 
 #[test]
 fn no_tokens(rt: HostRuntime) {
-    let alloc = rt.alloc();
-    for text in "1e§0b12§0b1_2§0x1.0§'ab'§k\"s\"§r#self§/*/**/§/// a\rb".split(BETWEEN) {
-        no_token(&rt, alloc, text, 0);
-    }
-    no_token(&rt, alloc, "a /* b */ /* /* c */", 10);
-    no_token(&rt, alloc, "////x\n/***/struct A;/*/*x*/", 20);
-    no_token(&rt, alloc, "\u{feff}a\r\n\\", 2);
-    no_token(&rt, alloc, "#!/x\n\u{a0}", 5);
-    no_token(&rt, alloc, "a // \u{e9}\n\"", 8);
+    let rows = "1e→0§0b12→0§0b1_2→0§0x1.0→0§'ab'→0§k\"s\"→0§r#self→0§/*/**/→0§/// a\rb→0§\
+        a /* b */ /* /* c */→10§\
+        ////x\n/***/struct A;/*/*x*/→20§\
+        \u{feff}a\r\n\\→2§\
+        #!/x\n\u{a0}→5§\
+        a // \u{e9}\n\"→8";
+    each_holds(&rt, rt.alloc(), rows, BETWEEN, no_token);
 }

@@ -1,10 +1,9 @@
 //! Words and what they ask for, worked out by hand from what `clap` documents.
-use lay_given::{BETWEEN, parts};
+use lay_given::{BETWEEN, each_holds, parts};
 use lay_io::Which;
 use lay_line::{Line, line};
 use lay_token::{NoMemory, Text};
 use std::alloc::Global;
-use std::process::Abort;
 
 /// The line that the words of a row make, with a blank between two words. An empty row has none.
 fn line_of(alloc: Global, row: &[u8]) -> Result<Line, NoMemory> {
@@ -39,12 +38,18 @@ fn asks(line: &Line, wanted: &str) -> bool {
     }
 }
 
-/// The words of a row ask for this.
-fn row_asks(rt: &impl Abort, alloc: Global, row: &[u8], wanted: &str) {
-    match line_of(alloc, row) {
-        Ok(line) => assert!(rt; asks(&line, wanted), "{row:?} {wanted}"),
-        Err(NoMemory) => assert!(rt; false, "{row:?}"),
+/// The words ask for this.
+fn ask(alloc: Global, words: &[u8], wanted: &str) -> bool {
+    match line_of(alloc, words) {
+        Ok(line) => asks(&line, wanted),
+        Err(NoMemory) => false,
     }
+}
+
+/// The words of a row ask for what stands behind them.
+fn row_asks(alloc: Global, row: &str) -> bool {
+    let (words, wanted) = parts(row);
+    ask(alloc, words.as_bytes(), wanted)
 }
 
 #[test]
@@ -86,11 +91,8 @@ fn lines(rt: HostRuntime) {
         --version→usage§\
         -V→usage§\
         --sample 1 --items 1→usage";
-    for row in rows.split(BETWEEN) {
-        let (words, wanted) = parts(row);
-        row_asks(&rt, rt.alloc(), words.as_bytes(), wanted);
-    }
+    each_holds(&rt, rt.alloc(), rows, BETWEEN, row_asks);
     // A word that isn't UTF-8.
-    row_asks(&rt, rt.alloc(), b"\xff", "usage");
-    row_asks(&rt, rt.alloc(), b"-- a\xff", "usage");
+    assert!(rt; ask(rt.alloc(), b"\xff", "usage"));
+    assert!(rt; ask(rt.alloc(), b"-- a\xff", "usage"));
 }

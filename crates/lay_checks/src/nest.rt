@@ -1,5 +1,5 @@
 //! Delimiters, operators and a walk, worked out by hand from the Rust Reference's rules.
-use lay_given::{BETWEEN, parts, tokens};
+use lay_given::{BETWEEN, each_holds, parts, tokens};
 use lay_nest::{Cursor, Nested, nest};
 use lay_token::{FormatError, Kind, Refusal};
 use std::alloc::Global;
@@ -10,29 +10,23 @@ fn nested(alloc: Global, text: &[u8]) -> Result<Nested, FormatError> {
     nest(alloc, tokens(alloc, text)?)
 }
 
-/// The tokens of the text are balanced, or else unbalanced at this place.
-fn place(rt: &impl Abort, alloc: Global, text: &[u8], wanted: Option<usize>) {
-    let found = match nested(alloc, text) {
-        Ok(_) => None,
-        Err(FormatError::Refused(Refusal::Unbalanced { at })) => Some(at),
-        Err(_) => Some(usize::MAX),
+/// The tokens of the text of a row are balanced, or else unbalanced at the place that stands behind it.
+fn place(alloc: Global, row: &str) -> bool {
+    let (text, wanted) = match row.split_once('→') {
+        Some((text, at)) => (text, Some(at.parse::<usize>().unwrap_or(usize::MAX))),
+        None => (row, None),
     };
-    assert_eq!(rt; found, wanted);
+    match nested(alloc, text.as_bytes()) {
+        Ok(_) => wanted.is_none(),
+        Err(FormatError::Refused(Refusal::Unbalanced { at })) => wanted == Some(at),
+        Err(_) => false,
+    }
 }
 
 #[test]
 fn places(rt: HostRuntime) {
-    let alloc = rt.alloc();
-    place(&rt, alloc, b"", None);
-    place(&rt, alloc, b"()", None);
-    place(&rt, alloc, b"([{}])(a)", None);
-    place(&rt, alloc, b"fn f( { }", Some(4));
-    place(&rt, alloc, b"fn f( { )", Some(8));
-    place(&rt, alloc, b"(", Some(0));
-    place(&rt, alloc, b"}", Some(0));
-    place(&rt, alloc, b"a ) (", Some(2));
-    place(&rt, alloc, b"{ ( [ ] ) a", Some(0));
-    place(&rt, alloc, b"[ { ( ) ]", Some(8));
+    let rows = "§()§([{}])(a)§fn f( { }→4§fn f( { )→8§(→0§}→0§a ) (→2§{ ( [ ] ) a→0§[ { ( ) ]→8";
+    each_holds(&rt, rt.alloc(), rows, BETWEEN, place);
 }
 
 /// The texts of the tokens ahead, one character each.
@@ -128,22 +122,27 @@ fn walk_inside(rt: HostRuntime) {
     }
 }
 
-/// Whether the operator at the front of a text is this one.
-fn operator(rt: &impl Abort, alloc: Global, row: &str, wanted: bool) {
+/// Whether the operator of a row stands at the front of its text.
+fn operator(alloc: Global, row: &str) -> Option<bool> {
     let (text, op) = parts(row);
     match nested(alloc, text.as_bytes()) {
-        Ok(nested) => assert_eq!(rt; nested.cursor().op_is(op.as_bytes()), wanted, "{row}"),
-        Err(_) => assert!(rt; false, "{row}"),
+        Ok(nested) => Some(nested.cursor().op_is(op.as_bytes())),
+        Err(_) => None,
     }
+}
+
+fn stands(alloc: Global, row: &str) -> bool {
+    operator(alloc, row) == Some(true)
+}
+
+fn stands_not(alloc: Global, row: &str) -> bool {
+    operator(alloc, row) == Some(false)
 }
 
 #[test]
 fn operators(rt: HostRuntime) {
-    for row in "<<=→<<=§..=a→..=§< <→<§::a→::§: :→:§- >→-§....→...§=!a→=".split(BETWEEN) {
-        operator(&rt, rt.alloc(), row, true);
-    }
+    let rows = "<<=→<<=§..=a→..=§< <→<§::a→::§: :→:§- >→-§....→...§=!a→=";
+    each_holds(&rt, rt.alloc(), rows, BETWEEN, stands);
     let others = "<<=→<<§<<=→<§..=a→..§< <→<<§: :→::§- >→->§....→..§=!a→=!§a→a§→+§→";
-    for row in others.split(BETWEEN) {
-        operator(&rt, rt.alloc(), row, false);
-    }
+    each_holds(&rt, rt.alloc(), others, BETWEEN, stands_not);
 }

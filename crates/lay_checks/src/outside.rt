@@ -12,6 +12,7 @@ use std::cell::{Cell, RefCell};
 use std::fmt::Display;
 use std::io::{Eprint, Print};
 use std::process::Abort;
+use std::rt::Files;
 use std::test::Fail;
 use std::{fs, io, process};
 
@@ -54,16 +55,15 @@ fn read<I: Inputs>(rt: &impl Abort, inputs: &mut I, answer: Result<usize, Failed
 fn file(alloc: Global) -> Result<MemoryInputs, NoMemory>
     ensures { IfOk result (λ inputs. IsSome (⟦<MemoryInputs as Inputs>⟧.chosen inputs)) }
 {
+    let chosen = Text::from_bytes(alloc, b"q")?;
+    let fail = List::from_vec(vec![in alloc; 1u64]?);
     let file = NamedFile {
         name: Text::from_bytes(alloc, b"q")?,
         bytes: list(alloc, b"abcde")?,
     };
-    let mut inputs = MemoryInputs::new(
-        List::new(alloc),
-        List::from_vec(vec![in alloc; file]?),
-        List::from_vec(vec![in alloc; 1u64]?),
-    );
-    inputs.choose(Which::File(Text::from_bytes(alloc, b"q")?));
+    let files = List::from_vec(vec![in alloc; file]?);
+    let mut inputs = MemoryInputs::new(List::new(alloc), files, fail);
+    inputs.choose(Which::File(chosen));
     Ok(inputs)
 }
 
@@ -85,25 +85,34 @@ fn reads(rt: HostRuntime) {
     read(&rt, &mut missing, Err(Failed), b"");
 }
 
-// A file is read piece by piece to its end. One that isn't there, and a name that is no text, fail at each read.
+/// A file of the system of five bytes is read piece by piece to its end.
+fn reads_file<R: Input + Files + Abort>(rt: &R, name: Text) {
+    let mut file = HostInputs::new(rt);
+    file.choose(Which::File(name));
+    read(rt, &mut file, Ok(2), b"ab");
+    read(rt, &mut file, Ok(2), b"cd");
+    read(rt, &mut file, Ok(1), b"e");
+    read(rt, &mut file, Ok(0), b"");
+}
+
+/// A file of the system that isn't there fails at each read.
+fn misses_file<R: Input + Files + Abort>(rt: &R, name: Text) {
+    let mut none = HostInputs::new(rt);
+    none.choose(Which::File(name));
+    read(rt, &mut none, Err(Failed), b"");
+    read(rt, &mut none, Err(Failed), b"");
+}
+
+// A file is read to its end. One that isn't there, and a name that is no text, fail at each read.
 #[test]
 fn reads_of_the_system(rt: HostRuntime) -> Result<(), Fail> {
     let alloc = rt.alloc();
     let name = format!(in alloc; "/tmp/lay_checks_{}", process::id(rt.process()))?;
     fs::write(&rt, name.as_str(), b"abcde".as_slice())?;
-    let mut file = HostInputs::new(&rt);
-    file.choose(Which::File(Text::from_bytes(alloc, name.as_bytes())?));
-    read(&rt, &mut file, Ok(2), b"ab");
-    read(&rt, &mut file, Ok(2), b"cd");
-    read(&rt, &mut file, Ok(1), b"e");
-    read(&rt, &mut file, Ok(0), b"");
+    reads_file(&rt, Text::from_bytes(alloc, name.as_bytes())?);
     fs::remove_file(&rt, name.as_str())?;
-    for missing in [name.as_bytes(), b"\xff"] {
-        let mut none = HostInputs::new(&rt);
-        none.choose(Which::File(Text::from_bytes(alloc, missing)?));
-        read(&rt, &mut none, Err(Failed), b"");
-        read(&rt, &mut none, Err(Failed), b"");
-    }
+    misses_file(&rt, Text::from_bytes(alloc, name.as_bytes())?);
+    misses_file(&rt, Text::from_bytes(alloc, b"\xff")?);
     Ok(())
 }
 
@@ -111,6 +120,11 @@ fn reads_of_the_system(rt: HostRuntime) -> Result<(), Fail> {
 fn write<K: Sink>(rt: &impl Abort, sink: &mut K, piece: &[u8], answer: Result<(), Failed>) {
     let written = sink.write(piece);
     assert_eq!(rt; written, answer);
+}
+
+/// These bytes are kept.
+fn keeps(rt: &impl Abort, bytes: &[u8], wanted: &[u8]) {
+    assert_eq!(rt; bytes, wanted);
 }
 
 /// A sink with room for six bytes, of which the write numbered 1 fails and keeps two bytes.
@@ -124,13 +138,18 @@ fn writes(rt: HostRuntime) -> Result<(), Fail> {
     write(&rt, &mut memory, b"ab", Ok(()));
     write(&rt, &mut memory, b"cde", Err(Failed));
     write(&rt, &mut memory, b"fg", Ok(()));
-    assert_eq!(rt; memory.bytes(), b"abcdfg".as_slice());
+    keeps(&rt, memory.bytes(), b"abcdfg");
     // What doesn't fit is lost.
     write(&rt, &mut memory, b"h", Ok(()));
+    Ok(())
+}
+
+#[test]
+fn writes_that_never_fail(rt: HostRuntime) -> Result<(), Fail> {
     let mut quiet = QuietSink::with_room(rt.alloc(), 3)?;
     write(&rt, &mut quiet, b"ab", Ok(()));
     write(&rt, &mut quiet, b"c", Ok(()));
-    assert_eq!(rt; quiet.bytes(), b"abc".as_slice());
+    keeps(&rt, quiet.bytes(), b"abc");
     write(&rt, &mut quiet, b"d", Ok(()));
     Ok(())
 }
@@ -142,7 +161,7 @@ fn writes_of_a_lent_sink(rt: HostRuntime) -> Result<(), Fail> {
     let mut lent = Lent::new(&mut memory);
     write(&rt, &mut lent, b"ab", Ok(()));
     write(&rt, &mut lent, b"cde", Err(Failed));
-    assert_eq!(rt; memory.bytes(), b"abcd".as_slice());
+    keeps(&rt, memory.bytes(), b"abcd");
     Ok(())
 }
 
@@ -210,50 +229,118 @@ impl Eprint for System {
     }
 }
 
-/// One byte fewer than is gathered, copies of `a`.
-fn nearly_all(alloc: Global) -> Result<Vec<u8>, NoMemory> {
-    repeated(alloc, b"a", 65535)
+/// A write of so many copies of a byte, which is taken.
+fn write_copies<K: Sink>(
+    rt: &impl Abort,
+    alloc: Global,
+    sink: &mut K,
+    byte: &[u8],
+    count: usize,
+) -> Result<(), NoMemory> {
+    let piece = repeated(alloc, byte, count)?;
+    write(rt, sink, piece.as_slice(), Ok(()));
+    Ok(())
 }
 
-// What fits waits, what waits is written before what doesn't fit, and 64 KiB are written themselves. What failed isn't
-// handed over again.
+/// What is left behind so many copies of a byte and these bytes, if all begins with them.
+fn behind<'a>(all: &'a [u8], byte: u8, count: usize, more: &[u8]) -> Option<&'a [u8]> {
+    let mut rest = all;
+    for _ in 0..count {
+        match rest.split_first() {
+            Some((first, left)) => if *first == byte {
+                rest = left;
+            } else {
+                return None;
+            },
+            None => return None,
+        }
+    }
+    for wanted in more {
+        match rest.split_first() {
+            Some((first, left)) => if first == wanted {
+                rest = left;
+            } else {
+                return None;
+            },
+            None => return None,
+        }
+    }
+    Some(rest)
+}
+
+/// What fits waits, what waits is written before what doesn't fit, and 64 KiB are written themselves.
+fn gather<R: Print + Eprint>(
+    rt: &impl Abort,
+    alloc: Global,
+    system: &System,
+    out: &mut HostSink<'_, R>,
+) -> Result<(), NoMemory> {
+    write_copies(rt, alloc, out, b"a", 65535)?;
+    write(rt, out, b"b", Ok(()));
+    assert_eq!(rt; system.calls.get(), 0);
+    write(rt, out, b"c", Ok(()));
+    assert_eq!(rt; system.calls.get(), 1);
+    write_copies(rt, alloc, out, b"d", 65536)?;
+    assert_eq!(rt; system.calls.get(), 3);
+    Ok(())
+}
+
+/// What failed isn't handed over again.
+fn fail_once<R: Print + Eprint>(rt: &impl Abort, out: &mut HostSink<'_, R>) {
+    write(rt, out, b"e", Ok(()));
+    assert_eq!(rt; out.flush(), Err(Failed));
+    write(rt, out, b"f", Ok(()));
+    assert_eq!(rt; out.flush(), Ok(()));
+}
+
+/// Whether this was handed over of what `gather` and `fail_once` write.
+fn is_gathered(all: &[u8]) -> bool {
+    match behind(all, b'a', 65535, b"b|c|") {
+        Some(rest) => match behind(rest, b'd', 65536, b"|e|f|") {
+            Some(rest) => rest.is_empty(),
+            None => false,
+        },
+        None => false,
+    }
+}
+
 #[test]
 fn writes_that_are_gathered(rt: HostRuntime) -> Result<(), Fail> {
-    let alloc = rt.alloc();
-    let system = System::new(alloc, 3);
-    let mut out = HostSink::stdout(alloc, &system)?;
-    write(&rt, &mut out, nearly_all(alloc)?.as_slice(), Ok(()));
-    write(&rt, &mut out, b"b", Ok(()));
-    assert_eq!(rt; system.calls.get(), 0);
-    write(&rt, &mut out, b"c", Ok(()));
-    assert_eq!(rt; system.calls.get(), 1);
-    write(
-        &rt,
-        &mut out,
-        repeated(alloc, b"d", 65536)?.as_slice(),
-        Ok(()),
-    );
-    assert_eq!(rt; system.calls.get(), 3);
-    write(&rt, &mut out, b"e", Ok(()));
-    assert_eq!(rt; out.flush(), Err(Failed));
-    write(&rt, &mut out, b"f", Ok(()));
-    assert_eq!(rt; out.flush(), Ok(()));
-    let mut wanted = nearly_all(alloc)?;
-    wanted.extend_from_slice(b"b|c|")?;
-    wanted.extend_from_slice(repeated(alloc, b"d", 65536)?.as_slice())?;
-    wanted.extend_from_slice(b"|e|f|")?;
-    assert!(rt; system.all(alloc) == wanted);
+    let system = System::new(rt.alloc(), 3);
+    let mut out = HostSink::stdout(rt.alloc(), &system)?;
+    gather(&rt, rt.alloc(), &system, &mut out)?;
+    fail_once(&rt, &mut out);
+    assert!(rt; is_gathered(system.all(rt.alloc()).as_slice()));
+    Ok(())
+}
 
-    let system = System::new(alloc, 0);
-    let mut out = HostSink::stdout(alloc, &system)?;
-    let first = nearly_all(alloc)?;
-    write(&rt, &mut out, first.as_slice(), Ok(()));
-    write(&rt, &mut out, b"bb", Err(Failed));
-    write(&rt, &mut out, b"c", Ok(()));
+/// A write that doesn't fit fails with what waits, and the next one waits.
+fn fail_with_what_waits<R: Print + Eprint>(
+    rt: &impl Abort,
+    alloc: Global,
+    out: &mut HostSink<'_, R>,
+) -> Result<(), NoMemory> {
+    write_copies(rt, alloc, out, b"a", 65535)?;
+    write(rt, out, b"bb", Err(Failed));
+    write(rt, out, b"c", Ok(()));
     assert_eq!(rt; out.flush(), Ok(()));
-    let mut wanted = nearly_all(alloc)?;
-    wanted.extend_from_slice(b"|c|")?;
-    assert!(rt; system.all(alloc) == wanted);
+    Ok(())
+}
+
+/// Whether this was handed over of what it writes.
+fn is_handed(all: &[u8]) -> bool {
+    match behind(all, b'a', 65535, b"|c|") {
+        Some(rest) => rest.is_empty(),
+        None => false,
+    }
+}
+
+#[test]
+fn writes_that_fail_with_what_waits(rt: HostRuntime) -> Result<(), Fail> {
+    let system = System::new(rt.alloc(), 0);
+    let mut out = HostSink::stdout(rt.alloc(), &system)?;
+    fail_with_what_waits(&rt, rt.alloc(), &mut out)?;
+    assert!(rt; is_handed(system.all(rt.alloc()).as_slice()));
     Ok(())
 }
 

@@ -32,18 +32,22 @@ fn feed<K: Sink>(press: &mut Press<K>, tok: &Tok) -> Result<(), PrintError> {
     }
 }
 
-/// Prints a stream into a sink that was handed in by reference.
-fn print<K: Sink>(alloc: Global, out: &mut K, stream: &Stream) -> Result<(), Fail> {
-    let mut core = Core::new(alloc)?;
-    let mut press = Press::new(&mut core, out);
+/// Feeds the tokens of a stream, of which each group must end, and prints the rest.
+fn feed_all<K: Sink>(press: &mut Press<K>, stream: &Stream) -> Result<(), Fail> {
     for tok in stream.toks() {
-        feed(&mut press, tok)?;
+        feed(press, tok)?;
     }
     if press.open_groups() > 0 {
         return Err(Fail::new("a group is open"));
     }
     press.finish()?;
     Ok(())
+}
+
+/// Prints a stream into a sink that was handed in by reference.
+fn print<K: Sink>(alloc: Global, out: &mut K, stream: &Stream) -> Result<(), Fail> {
+    let mut core = Core::new(alloc)?;
+    feed_all(&mut Press::new(&mut core, out), stream)
 }
 
 /// The same for a printer that owns its sink, and texts that it takes.
@@ -67,14 +71,24 @@ fn feed_owner(
     }
 }
 
+/// Feeds it the tokens of a stream, of which each group must end.
+fn feed_owner_all(
+    alloc: Global,
+    printer: &mut Printer<QuietSink>,
+    stream: &Stream,
+) -> Result<(), Fail> {
+    for tok in stream.toks() {
+        feed_owner(alloc, printer, tok)?;
+    }
+    Ok(())
+}
+
 /// What a printer that owns its sink writes of a stream.
 fn printed(alloc: Global, stream: &Stream) -> Result<QuietSink, Fail> {
     let Ok(mut printer) = Printer::new(alloc, QuietSink::with_room(alloc, 20_000)?) else {
         return Err(NoMemory.into());
     };
-    for tok in stream.toks() {
-        feed_owner(alloc, &mut printer, tok)?;
-    }
+    feed_owner_all(alloc, &mut printer, stream)?;
     if printer.open_groups() > 0 {
         return Err(Fail::new("a group is open"));
     }
@@ -84,23 +98,50 @@ fn printed(alloc: Global, stream: &Stream) -> Result<QuietSink, Fail> {
     }
 }
 
+/// This text was made.
+fn is_made(rt: &impl Abort, found: &[u8], wanted: &[u8]) {
+    assert_eq!(rt; found, wanted);
+}
+
+/// The printer that owns its sink makes this text of a stream.
+fn owner_prints(
+    rt: &impl Abort,
+    alloc: Global,
+    stream: &Stream,
+    wanted: &[u8],
+) -> Result<(), Fail> {
+    is_made(rt, printed(alloc, stream)?.bytes(), wanted);
+    Ok(())
+}
+
 /// Each printer makes this text of a stream.
 fn prints(rt: &impl Abort, alloc: Global, stream: &Stream, wanted: &[u8]) -> Result<(), Fail> {
-    let own = printed(alloc, stream)?;
-    assert_eq!(rt; own.bytes(), wanted);
+    owner_prints(rt, alloc, stream, wanted)?;
     let mut lent = QuietSink::with_room(alloc, 20_000)?;
     print(alloc, &mut lent, stream)?;
-    assert_eq!(rt; lent.bytes(), wanted);
+    is_made(rt, lent.bytes(), wanted);
+    Ok(())
+}
+
+/// The slow printer makes this text of a stream.
+fn slow_prints(
+    rt: &impl Abort,
+    alloc: Global,
+    stream: &Stream,
+    wanted: &[u8],
+) -> Result<(), NoMemory>
+    requires { opened stream.now 0 ≡ 0 }
+{
+    is_made(rt, plain(alloc, stream)?.as_bytes(), wanted);
     Ok(())
 }
 
 /// Each printer, the slow one too, makes of the stream of words the text of words.
 fn lays(rt: &impl Abort, alloc: Global, row: &str) -> Result<(), Fail> {
     let (given, wanted) = parts(row);
-    let stream = stream(alloc, given)?;
     let wanted = text(alloc, wanted)?;
-    let slow = plain(alloc, &stream)?;
-    assert_eq!(rt; slow.as_bytes(), wanted.as_bytes(), "{row}");
+    let stream = stream(alloc, given)?;
+    slow_prints(rt, alloc, &stream, wanted.as_bytes())?;
     prints(rt, alloc, &stream, wanted.as_bytes())
 }
 
@@ -198,23 +239,43 @@ fn long_group(press: &mut Press<QuietSink>) -> Result<(), PrintError> {
     Ok(())
 }
 
+/// Feeds it to a press that has room for eight tokens at the least.
+fn fill(rt: &impl Abort, press: &mut Press<QuietSink>) -> Result<(), Fail> {
+    press.reserve(8)?;
+    assert!(rt; press.spare() >= 8);
+    long_group(press)?;
+    Ok(())
+}
+
+/// How many of these bytes are neither a line end nor a blank.
+fn letters(bytes: &[u8]) -> usize {
+    let mut count = 0usize;
+    for byte in bytes {
+        if *byte != b'\n' && *byte != b' ' {
+            count = count.saturating_add(1);
+        }
+    }
+    count
+}
+
 // No more text waits than the space.
 #[test]
 fn lag(rt: HostRuntime) -> Result<(), Fail> {
     let alloc = rt.alloc();
-    let mut core = Core::new(alloc)?;
     let mut sink = QuietSink::with_room(alloc, 10_000)?;
-    let mut press = Press::new(&mut core, &mut sink);
-    press.reserve(8)?;
-    assert!(rt; press.spare() >= 8);
-    long_group(&mut press)?;
-    let written = sink
-        .bytes()
-        .iter()
-        .filter(|byte| **byte != b'\n' && **byte != b' ')
-        .count();
-    assert!(rt; written >= 1911);
+    let mut core = Core::new(alloc)?;
+    fill(&rt, &mut Press::new(&mut core, &mut sink))?;
+    assert!(rt; letters(sink.bytes()) >= 1911);
     Ok(())
+}
+
+/// What the first call of a printer over a sink that fails answers, as each later one does.
+fn first_answer(rt: &impl Abort, printer: &mut Printer<MemorySink>) -> Result<(), PrintError> {
+    let first = printer.text(b"a");
+    assert_ne!(rt; first, Ok(()));
+    assert_eq!(rt; printer.text(b"b"), first);
+    assert_eq!(rt; printer.brk(BLANK), first);
+    first
 }
 
 // Each call after a failed write answers what that one did.
@@ -225,10 +286,7 @@ fn a_write_fails(rt: HostRuntime) -> Result<(), Fail> {
     let Ok(mut printer) = Printer::new(alloc, MemorySink::new(alloc, 1000, fail, 0)?) else {
         return Err(NoMemory.into());
     };
-    let first = printer.text(b"a");
-    assert_ne!(rt; first, Ok(()));
-    assert_eq!(rt; printer.text(b"b"), first);
-    assert_eq!(rt; printer.brk(BLANK), first);
+    let first = first_answer(&rt, &mut printer);
     if printer.open_groups() > 0 {
         return Err(Fail::new("a group is open"));
     }
