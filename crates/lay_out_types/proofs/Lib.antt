@@ -1,0 +1,5 @@
+pub mod Adding
+pub mod RowLemmas
+pub mod FormRows
+pub mod PartLemmas
+pub mod TypeLemmas
