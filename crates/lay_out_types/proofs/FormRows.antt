@@ -105,6 +105,31 @@ list_is may opening closing o both c opens closes whole (e ∷ es) bare is =
     ∙ sym (fed_more false e _))
     ∙ ap (λ (s : List Tok). tok.Begin true (pos 4) ∷ s) (sym (opens (Z (Part e (Part (each comma_gap es) last))) (tok.End ∷ [])))
 
+-- ---- one more element
+
+further_end : (between : List Tok) (es : List Form) (e : Form)
+    → further between (es ++ e ∷ []) ≡ further between es ++ (between ++ stream_of e)
+further_end between [] e = ap (λ (s : List Tok). between ++ s) (append-nil (stream_of e))
+further_end between (d ∷ es) e =
+    ap (λ (s : List Tok). between ++ (stream_of d ++ s)) (further_end between es e)
+    ∙ ap (λ (s : List Tok). between ++ s)
+    (sym (append_assoc (stream_of d) (further between es) (between ++ stream_of e)))
+    ∙ sym (append_assoc between (stream_of d ++ further between es) (between ++ stream_of e))
+
+pub row_end : (opening between : List Tok) (es : List Form) (e : Form) (bare : Bool) → bare ≡ are_none es
+    → row opening between es ++ (cond bare opening between ++ stream_of e) ≡ row opening between (es ++ e ∷ [])
+row_end opening between [] e bare is =
+    rw is (ap (λ (s : List Tok). opening ++ s) (sym (append-nil (stream_of e))))
+row_end opening between (d ∷ es) e bare is =
+    rw is (append_assoc opening (stream_of d ++ further between es) (between ++ stream_of e)
+    ∙ ap (λ (s : List Tok). opening ++ s)
+    (append_assoc (stream_of d) (further between es) (between ++ stream_of e)
+    ∙ ap (λ (s : List Tok). stream_of d ++ s) (sym (further_end between es e))))
+
+pub one_there : (es : List Form) (e : Form) → false ≡ are_none (es ++ e ∷ [])
+one_there [] e = refl
+one_there (d ∷ es) e = refl
+
 -- ---- bounds
 
 pub bounds_are : (es : List Form)

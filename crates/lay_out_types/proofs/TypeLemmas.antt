@@ -1,17 +1,17 @@
 -- The streams of paths, generic arguments, bounds and types, kind by kind.
-use Rattle.std.proofs.Common.{◌≡◌, ℕ, Bool, true, false, cond, List, [], ◌∷◌, ◌++◌, map, length, get_or, codes, Option, option_map, Some, None, refl, sym, ap, ◌∙◌, append_assoc, append-nil, arith}
+use Rattle.std.proofs.Common.{◌≡◌, ℕ, Bool, true, false, cond, List, [], ◌∷◌, ◌++◌, map, length, ◌≤◌, ◌<◌, get_or, codes, pos, not, Option, option_map, Some, None, refl, sym, ap, ◌∙◌, append_assoc, append-nil, arith}
 use Rattle.lay_layout.specs.declared.layout.Tok.{Tok}
 use Rattle.lay_layout.specs.declared.layout.Tok.TheVariants as tok
 use Rattle.lay_piece.specs.Characters as char
 use Rattle.lay_piece.specs.declared.kind.Delim.TheVariants.{Paren, Bracket}
 use Rattle.lay_piece.specs.declared.kind.Kind.TheVariants as kind
 use Rattle.lay_form.specs.Form.{Bit, Blank, Fixed, Operator, Form, Done, Piece, Part, punct, opener, closer, keyword, semicolon}
-use Rattle.lay_form.specs.Notation.{comma_list, piece, when}
+use Rattle.lay_form.specs.Notation.{B, I4, comma_list, piece, when}
 use Rattle.lay_form.specs.Stream.{fed, stream_of}
 use Rattle.lay_tree.specs.Words.{colons, leaf_of}
 use Rattle.lay_tree.specs.nodes.Call.{call_form}
 use Rattle.lay_tree.specs.nodes.Facts.{Facts, forms}
-use Rattle.lay_tree.specs.nodes.Types.{PathFacts, TypeFacts, ArgsFacts, about_arg, about_args, about_bound, about_constraint, about_func_param, about_path, about_start, about_type, args_facts, abi_form, angle_form, binder_form, bounds_form, colon, const_form, dots, equals, in_style, meets_form, output_form, param_attrs, param_name, params_form, ref_lifetime, segment_form, segments_form, type_forms, tuple_form}
+use Rattle.lay_tree.specs.nodes.Types.{PathFacts, TypeFacts, ArgsFacts, about_arg, about_args, about_bound, about_constraint, about_func_param, about_path, about_start, about_type, args_facts, abi_form, angle_form, binder_form, bounds_form, colon, const_form, dots, equals, greater, joined, less, in_style, meets_form, output_form, param_attrs, param_name, params_form, ref_lifetime, segment_form, segments_form, type_forms, tuple_form}
 use Rattle.lay_tree.specs.tokens.Lists.{token_list}
 use Rattle.lay_tree.specs.declared.attr.Attr.{Attr}
 use Rattle.lay_tree.specs.declared.token.GivenName.{GivenName}
@@ -43,8 +43,8 @@ use Rattle.lay_tree.specs.declared.types.Ty.TheVariants as ty
 use Rattle.lay_tree.proofs.nodes.TypesLaws.{ConstraintView, IsEqual, IsEqualConst, IsLimit, about_segment, constraint_view, arg_const_is, arg_named_is, arg_plain_is, arg_region_is, args_angle_is, args_none_is, args_round_is, bound_meets_is, bound_outlives_is, constraint_equal_const_is, constraint_equal_is, constraint_limit_is, func_param_is, path_is, start_global_is, start_local_is, start_qualified_is, type_array_is, type_bounds_is, type_call_is, type_func_is, type_infer_is, type_never_is, type_paren_is, type_path_is, type_ptr_is, type_ref_is, type_slice_is, type_tuple_is}
 use Rattle.lay_out_tokens.proofs.StreamParts.{fed_more, leaf_more}
 use Rattle.lay_out_types.specs.Rows.{comma_between, further, list_closed, list_opened, plus_between, row}
-use Rattle.lay_out_types.proofs.FormRows.{are_none, list_is, part_more}
-use Rattle.lay_out_types.proofs.PartLemmas.{abi_more, attrs_more, binder_more, param_name_more, reference_more}
+use Rattle.lay_out_types.proofs.FormRows.{are_none, bounds_are, list_is, one_there, part_more, row_end}
+use Rattle.lay_out_types.proofs.PartLemmas.{abi_more, angles_are, attrs_more, binder_more, param_name_more, reference_more}
 
 -- the form of a node of which this is told
 abbrev pub form_of : {A : Type 0} → (A → Facts) → A → Form
@@ -105,7 +105,7 @@ colons_any f false = refl
 further_segments : (style : PathStyle) (s : Word × Args) (more : List (Word × Args))
     → stream_of (segment_part style s) ++ further (tok.Text (codes "::") ∷ []) (map (segment_part style) more)
     ≡ stream_of (segments_form style (map about_segment (s ∷ more)))
-further_segments style s [] = append_nil _
+further_segments style s [] = append-nil _
 further_segments style s (t ∷ more) =
     ap (λ (l : List Tok). stream_of (segment_part style s) ++ (tok.Text (codes "::") ∷ l)) (further_segments style t more)
     ∙ segment_by s.0.raw s.0.text (in_style style (about_args s.1)).form
@@ -203,9 +203,9 @@ output_any (Some x) false = refl
 pub no_output : (x : Option Ty) → x ≡ None → [] ≡ stream_of (output_form (option_map about_type x))
 no_output x is = rw is refl
 
-pub some_output : (x : Option Ty) (inner put : Ty) → x ≡ Some inner → put ≡ inner
+pub some_output : (x : Option Ty) (one put : Ty) → x ≡ Some one → put ≡ one
     → tok.Text (codes " -> ") ∷ told put ≡ stream_of (output_form (option_map about_type x))
-some_output x inner put is e = rw (is, e) refl
+some_output x one put is e = rw (is, e) refl
 
 pub round_args : (x : Args) (style : PathStyle) (inputs put : List Ty) (output : Option Ty) → x ≡ args.Round inputs output
     → put ≡ inputs
@@ -260,13 +260,15 @@ colon_any : (f : Form) (q : Bool) → fed q (Piece colon f) [] ≡ stream_of (Pi
 colon_any f true = refl
 colon_any f false = refl
 
+constraint_by : (x : Constraint) → ConstraintView x → (q : Bool)
+    → fed q (about_constraint x).form [] ≡ stream_of (about_constraint x).form
+constraint_by _ (IsEqual inner) q = rw (constraint_equal_is inner) (equals_any (Part (told_form inner) Done) q)
+constraint_by _ (IsEqualConst value) q = rw (constraint_equal_const_is value) (equals_any (Part (const_form value) Done) q)
+constraint_by _ (IsLimit bounds) q = rw (constraint_limit_is bounds)
+    (colon_any (Part (bounds_form (map about_bound bounds)) Done) q)
+
 constraint_any : (x : Constraint) (q : Bool) → fed q (about_constraint x).form [] ≡ stream_of (about_constraint x).form
-constraint_any x q = by (constraint_view x)
-  where
-    by : ConstraintView x → fed q (about_constraint x).form [] ≡ stream_of (about_constraint x).form
-    by (IsEqual inner) = rw (constraint_equal_is inner) (equals_any _ q)
-    by (IsEqualConst value) = rw (constraint_equal_const_is value) (equals_any _ q)
-    by (IsLimit bounds) = rw (constraint_limit_is bounds) (colon_any _ q)
+constraint_any x q = constraint_by x (constraint_view x) q
 
 pub named_arg : (x : Arg) (name : Name) (given : Args) (asked : Constraint) → x ≡ arg.Named name given asked
     → stream_of (leaf_of name.raw name.text Done) ++ (stream_of (about_args given).kind.form
@@ -345,19 +347,24 @@ comma_any : (q : Bool) → fed q (piece (punct char.comma ∷ closer Paren ∷ [
 comma_any true = refl
 comma_any false = refl
 
-pub one_type : (x : Ty) (elements put : List Ty) (only : Ty) → x ≡ ty.Tuple elements → put ≡ elements → length put ≡ 1
-    → only ≡ get_or put 0 only → tok.Text (codes "(") ∷ (told only ++ (tok.Text (codes ",)") ∷ [])) ≡ told x
-one_type x elements [] only is e one first = absurd (omega arith)
-one_type x elements (y ∷ []) only is e one first =
+pub one_type : (x : Ty) (elements put : List Ty) (only : Ty) → x ≡ ty.Tuple elements → put ≡ elements → 1 ≤ length put
+    → length put < 2 → only ≡ get_or put 0 only → tok.Text (codes "(") ∷ (told only ++ (tok.Text (codes ",)") ∷ [])) ≡ told x
+one_type x elements [] only is e some one first = absurd (omega arith)
+one_type x elements (y ∷ []) only is e some one first =
     rw first (ap (λ (s : List Tok). tok.Text (codes "(") ∷ s)
     (part_more (told_form y) (piece (punct char.comma ∷ closer Paren ∷ [])) comma_any))
     ∙ told_is x (ty.Tuple (y ∷ [])) _ (is ∙ ap ty.Tuple (sym e)) (type_tuple_is (y ∷ []))
-one_type x elements (y ∷ z ∷ more) only is e one first = absurd (omega arith)
+one_type x elements (y ∷ z ∷ more) only is e some one first = absurd (omega arith)
 
-pub tuple_type : (x : Ty) (elements put : List Ty) → x ≡ ty.Tuple elements → put ≡ elements → (length put ≡ 1 → ⊥)
+pub no_types : (x : Ty) (elements put : List Ty) → x ≡ ty.Tuple elements → put ≡ elements → length put < 1
+    → tok.Text (codes "()") ∷ [] ≡ told x
+no_types x elements [] is e none = told_is x (ty.Tuple []) _ (is ∙ ap ty.Tuple (sym e)) (type_tuple_is [])
+no_types x elements (y ∷ more) is e none = absurd (omega arith)
+
+pub tuple_type : (x : Ty) (elements put : List Ty) → x ≡ ty.Tuple elements → put ≡ elements → 2 ≤ length put
     → stream_of (comma_list true (opener Paren) (closer Paren) (type_forms (map about_type put))) ≡ told x
-tuple_type x elements [] is e many = told_is x (ty.Tuple []) _ (is ∙ ap ty.Tuple (sym e)) (type_tuple_is [])
-tuple_type x elements (y ∷ []) is e many = absurd (many refl)
+tuple_type x elements [] is e many = absurd (omega arith)
+tuple_type x elements (y ∷ []) is e many = absurd (omega arith)
 tuple_type x elements (y ∷ z ∷ more) is e many =
     told_is x (ty.Tuple (y ∷ z ∷ more)) _ (is ∙ ap ty.Tuple (sym e)) (type_tuple_is (y ∷ z ∷ more))
 
@@ -439,7 +446,7 @@ bounds_type x false bounds put is e = rw e (told_is x (ty.Bounds false bounds) _
 
 -- ---- parameters of function types
 
-pub func_param_parts : (p : FuncParam) (attrs : List Attr) → attrs ≡ p.attrs
+func_param_parts : (p : FuncParam) (attrs : List Attr) → attrs ≡ p.attrs
     → stream_of (param_attrs attrs Done) ++ (stream_of (param_name p.name Done) ++ told p.ty)
     ≡ stream_of (about_func_param p).form
 func_param_parts p attrs e =
@@ -447,3 +454,81 @@ func_param_parts p attrs e =
     (param_name_more p.name (Part (told_form p.ty) Done))
     ∙ attrs_more p.attrs (param_name p.name (Part (told_form p.ty) Done)))
     ∙ sym (same (func_param_is p))
+
+-- what one turn of the loop over the parameters puts
+pub param_turn : (first : Bool) (p : FuncParam) (attrs : List Attr) → attrs ≡ p.attrs
+    → cond first (list_opened (codes "(")) comma_between
+    ++ (stream_of (param_attrs attrs Done) ++ (stream_of (param_name p.name Done) ++ told p.ty))
+    ≡ cond first (list_opened (codes "(")) comma_between ++ stream_of (about_func_param p).form
+param_turn first p attrs e =
+    ap (λ (s : List Tok). cond first (list_opened (codes "(")) comma_between ++ s) (func_param_parts p attrs e)
+
+-- the `...` behind the parameters
+abbrev pub variadic_close : List Tok
+variadic_close = list_closed false false (codes "()") (codes ")")
+
+pub dots_are : (es : List Form) (bare : Bool) → bare ≡ are_none es
+    → row (list_opened (codes "(")) comma_between es
+    ++ (cond bare (list_opened (codes "(")) comma_between ++ (tok.Text (codes "...") ∷ []))
+    ≡ row (list_opened (codes "(")) comma_between (es ++ dots true)
+dots_are es bare is = row_end (list_opened (codes "(")) comma_between es (piece (Operator (codes "...") ∷ [])) bare is
+
+pub variadic_are : (ps : List FuncParam) (variadic bare : Bool) → variadic ≡ true
+    → bare ≡ are_none (map (form_of about_func_param) ps)
+    → row (list_opened (codes "(")) comma_between (map (form_of about_func_param) ps)
+    ++ (cond bare (list_opened (codes "(")) comma_between ++ (tok.Text (codes "...") ∷ variadic_close))
+    ≡ stream_of (params_form (map about_func_param ps) variadic)
+variadic_are ps variadic bare there is =
+    let es = map (form_of about_func_param) ps in
+    let lead = cond bare (list_opened (codes "(")) comma_between in
+    rw there (
+    ap (λ (s : List Tok). row (list_opened (codes "(")) comma_between es ++ s)
+    (sym (append_assoc lead (tok.Text (codes "...") ∷ []) variadic_close))
+    ∙ sym (append_assoc (row (list_opened (codes "(")) comma_between es) (lead ++ (tok.Text (codes "...") ∷ [])) variadic_close)
+    ∙ ap (λ (s : List Tok). s ++ variadic_close) (dots_are es bare is)
+    ∙ parens_are false (es ++ dots true) false (one_there es (piece (Operator (codes "...") ∷ [])))
+    ∙ ap (λ (fs : List Form). stream_of (comma_list false (opener Paren) (closer Paren) (fs ++ dots true)))
+    (forms_are about_func_param ps))
+
+pub params_are : (ps : List FuncParam) (variadic bare : Bool) → variadic ≡ false
+    → bare ≡ are_none (map (form_of about_func_param) ps)
+    → row (list_opened (codes "(")) comma_between (map (form_of about_func_param) ps)
+    ++ list_closed true bare (codes "()") (codes ")")
+    ≡ stream_of (params_form (map about_func_param ps) variadic)
+params_are ps variadic bare there is =
+    let es = map (form_of about_func_param) ps in
+    rw there (parens_are true es bare is
+    ∙ ap (λ (fs : List Form). stream_of (comma_list true (opener Paren) (closer Paren) fs))
+    (forms_are about_func_param ps ∙ sym (append-nil (forms (map about_func_param ps)))))
+
+pub types_are : (xs : List Ty) (bare : Bool) → bare ≡ are_none (map told_form xs)
+    → row (list_opened (codes "(")) comma_between (map told_form xs) ++ list_closed true bare (codes "()") (codes ")")
+    ≡ stream_of (comma_list true (opener Paren) (closer Paren) (type_forms (map about_type xs)))
+types_are xs bare is =
+    parens_are true (map told_form xs) bare is
+    ∙ ap (λ (fs : List Form). stream_of (comma_list true (opener Paren) (closer Paren) fs)) (type_forms_are xs)
+
+pub args_are : (xs : List Arg) (bare : Bool) → bare ≡ are_none (map (form_of about_arg) xs)
+    → row (list_opened (codes "<")) comma_between (map (form_of about_arg) xs) ++ list_closed true bare (codes "<>") (codes ">")
+    ≡ stream_of (angle_form (map about_arg xs))
+args_are xs bare is =
+    angles_are (map (form_of about_arg) xs) bare is
+    ∙ ap (λ (fs : List Form). stream_of (comma_list true less greater fs)) (forms_are about_arg xs)
+
+pub all_bounds : (xs : List Bound)
+    → (tok.Begin false (pos 4) ∷ row [] plus_between (map (form_of about_bound) xs)) ++ (tok.End ∷ [])
+    ≡ stream_of (bounds_form (map about_bound xs))
+all_bounds xs =
+    bounds_are (map (form_of about_bound) xs)
+    ∙ ap (λ (fs : List Form). stream_of (I4 (joined (λ f. B (Piece (Operator (codes "+") ∷ Blank ∷ []) f)) fs) Done))
+    (forms_are about_bound xs)
+
+-- what one turn of the loop over the segments puts
+pub segment_turn : (style : PathStyle) (first : Bool) (s : Word × Args)
+    → cond (not first) (tok.Text (codes "::") ∷ []) [] ++ (stream_of (leaf_of s.0.raw s.0.text Done)
+    ++ stream_of (in_style style (about_args s.1)).form)
+    ≡ cond first [] (tok.Text (codes "::") ∷ []) ++ stream_of (segment_part style s)
+segment_turn style true s = leaf_more s.0.raw s.0.text (Part (in_style style (about_args s.1)).form Done)
+segment_turn style false s =
+    ap (λ (l : List Tok). tok.Text (codes "::") ∷ l)
+    (leaf_more s.0.raw s.0.text (Part (in_style style (about_args s.1)).form Done))

@@ -241,13 +241,17 @@ pub fn add_type<E: Emit>(
             let inner = add_type(out, opener, inner.get());
             add_text(out, inner, b")")
         },
-        Ty::Tuple { elements } => match elements.as_slice() {
-            [element] => {
-                let opener = add_text(out, before, b"(");
-                let element = add_type(out, opener, element);
-                add_text(out, element, b",)")
-            },
-            elements => add_types(out, before, elements),
+        Ty::Tuple { elements } => {
+            let elements = elements.as_slice();
+            match elements {
+                [] => add_text(out, before, b"()"),
+                [element] => {
+                    let opener = add_text(out, before, b"(");
+                    let element = add_type(out, opener, element);
+                    add_text(out, element, b",)")
+                },
+                [_, _, ..] => add_types(out, before, elements),
+            }
         },
         Ty::Never => add_text(out, before, b"!"),
         Ty::Infer => add_text(out, before, b"_"),
