@@ -32,7 +32,7 @@ part_alone e = refl
 
 -- ---- parts behind what leads to each
 
-each_is : (lead : Form → Form) (between : List Tok)
+pub each_is : (lead : Form → Form) (between : List Tok)
     → ((q : Bool) (f : Form) (more : List Tok) → fed q (lead f) more ≡ between ++ fed false f more)
     → (es : List Form) (q : Bool) (more : List Tok) → fed q (each lead es) more ≡ further between es ++ more
 each_is lead between leads [] q more = refl
@@ -44,7 +44,7 @@ each_is lead between leads (e ∷ es) q more =
     ∙ sym (append_assoc (stream_of e) (further between es) more))
     ∙ sym (append_assoc between (stream_of e ++ further between es) more)
 
-comma_leads : (q : Bool) (f : Form) (more : List Tok) → fed q (comma_gap f) more ≡ comma_between ++ fed false f more
+pub comma_leads : (q : Bool) (f : Form) (more : List Tok) → fed q (comma_gap f) more ≡ comma_between ++ fed false f more
 comma_leads true f more = refl
 comma_leads false f more = refl
 
@@ -143,10 +143,10 @@ bounds_are (e ∷ es) = ap (λ (s : List Tok). tok.Begin false (pos 4) ∷ s)
 
 -- ---- which groups are open
 
-level_form : (f : Form) (n : ℕ) → opened (stream_of f) n ≡ n
+pub level_form : (f : Form) (n : ℕ) → opened (stream_of f) n ≡ n
 level_form f n = ap (λ (s : List Tok). opened s n) (sym (stream_is f)) ∙ opened_document (document f) n
 
-level_further : (between : List Tok) → ((n : ℕ) → opened between n ≡ n) → (es : List Form) (n : ℕ)
+pub level_further : (between : List Tok) → ((n : ℕ) → opened between n ≡ n) → (es : List Form) (n : ℕ)
     → opened (further between es) n ≡ n
 level_further between level [] n = refl
 level_further between level (e ∷ es) n =
@@ -156,7 +156,7 @@ level_further between level (e ∷ es) n =
     ∙ ap (opened (further between es)) (level_form e n)
     ∙ level_further between level es n
 
-level_row : (between : List Tok) → ((n : ℕ) → opened between n ≡ n) → (es : List Form) (n : ℕ)
+pub level_row : (between : List Tok) → ((n : ℕ) → opened between n ≡ n) → (es : List Form) (n : ℕ)
     → opened (row [] between es) n ≡ n
 level_row between level [] n = refl
 level_row between level (e ∷ es) n =
@@ -164,7 +164,7 @@ level_row between level (e ∷ es) n =
     ∙ ap (opened (further between es)) (level_form e n)
     ∙ level_further between level es n
 
-one_open : (n : ℕ) {k : ℕ} → k ≡ suc n → (0 < k) × Unit {0}
+pub one_open : (n : ℕ) {k : ℕ} → k ≡ suc n → (0 < k) × Unit {0}
 one_open n e = (omega arith, tt)
 
 list_nested : (o both c : List ℕ) (may : Bool) (es : List Form) (bare : Bool) (n k : ℕ) → bare ≡ are_none es

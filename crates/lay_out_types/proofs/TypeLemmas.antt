@@ -123,7 +123,7 @@ leaf_any : (raw : Bool) (text : List ℕ) (f : Form) (q : Bool)
 leaf_any true text f q = refl
 leaf_any false text f q = refl
 
-segments_any : (style : PathStyle) (ss : List (Word × Args)) (q : Bool)
+pub segments_any : (style : PathStyle) (ss : List (Word × Args)) (q : Bool)
     → fed q (segments_form style (map about_segment ss)) [] ≡ stream_of (segments_form style (map about_segment ss))
 segments_any style [] q = refl
 segments_any style (s ∷ []) q = leaf_any s.0.raw s.0.text _ q

@@ -1,4 +1,4 @@
-//! How types, paths, generic arguments, bounds, generic parameters and where clauses are laid out.
+//! How types, paths, generic arguments, bounds, generic parameters and where clauses and patterns are laid out.
 //!
 //! Each public call appends to an [`Emit`](lay_stream::Emit) exactly the stream of the form that `lay_tree` gives to
 //! its node, or stops where the `Emit` does.
@@ -10,6 +10,8 @@
 mod calls;
 mod lists;
 mod parts;
+mod patterns;
 mod types;
 
+pub use patterns::put_pat;
 pub use types::{put_args, put_bounds, put_path, put_type};

@@ -52,7 +52,7 @@ pub fn put_type<E: Emit>(out: &mut E, ty: &Ty) -> Result<(), E::Fault>
 
 /// A path.
 #[cycle(add_type)]
-fn add_path<E: Emit>(
+pub fn add_path<E: Emit>(
     out: &mut E,
     before: Result<(), E::Fault>,
     path: &Path,
