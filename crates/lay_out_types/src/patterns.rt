@@ -3,6 +3,7 @@ ghost use Rattle.std.specs.Prelude.{◌≡◌, ◌==◌, [], ◌∷◌, ◌++◌
 ghost use Rattle.lay_layout.specs.Machine.{IsNested};
 ghost use Rattle.lay_layout.specs.declared.layout.Tok.TheVariants as tok;
 ghost use Rattle.lay_stream.specs.Fed.{Did};
+ghost use Rattle.lay_piece.specs.Number.{ends_in_point};
 ghost use Rattle.lay_form.specs.Form.{Done};
 ghost use Rattle.lay_form.specs.Layout.{ends_behind_point, led, text_of_bits, token_ends_in_point};
 ghost use Rattle.lay_form.specs.Notation.{behind_attrs, piece};
@@ -324,9 +325,23 @@ fn is_pointed(literal: &Literal) -> bool
     ensures { result ≡ token_ends_in_point literal.now.kind literal.now.text }
 {
     match literal.kind {
-        Kind::Float => literal.text.as_bytes().ends_with(b"."),
+        Kind::Float => is_digits_and_point(literal.text.as_bytes()),
         _ => false,
     }
+}
+
+/// Whether a text is digits, with `_` among them, and a point behind them.
+fn is_digits_and_point(text: &[u8]) -> bool
+    ensures { result ≡ ends_in_point text.now }
+{
+    let mut rest = text;
+    while let [byte, tail @ ..] = rest {
+        if !(byte.is_ascii_digit() || *byte == b'_') {
+            return *byte == b'.' && tail.is_empty();
+        }
+        rest = tail;
+    }
+    false
 }
 
 /// Whether a pattern is `..` alone.
