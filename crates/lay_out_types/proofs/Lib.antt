@@ -3,3 +3,4 @@ pub mod RowLemmas
 pub mod FormRows
 pub mod PartLemmas
 pub mod TypeLemmas
+pub mod ClauseLemmas

@@ -8,8 +8,12 @@
 #![tactic(auto)]
 
 mod calls;
+mod generics;
 mod lists;
 mod parts;
 mod types;
+mod wheres;
 
+pub use generics::put_generics;
 pub use types::{put_args, put_bounds, put_path, put_type};
+pub use wheres::put_wheres;
