@@ -1,5 +1,6 @@
 -- The streams of generic parameters and where clauses.
-use Rattle.std.proofs.Common.{◌≡◌, ℕ, ◌==◌, Bool, true, false, cond, List, [], ◌∷◌, ◌++◌, map, length, codes, Option, Some, None, refl, sym, ap, ◌∙◌}
+use Rattle.std.proofs.Common.{◌≡◌, ℕ, ◌==◌, Bool, true, false, cond, List, [], ◌∷◌, ◌++◌, map, length, codes, Option}
+use Rattle.std.proofs.Common.{Some, None, refl, sym, ap, ◌∙◌}
 use Rattle.std.proofs.Math.Dec.{eqb-suc-zero}
 use Rattle.lay_layout.specs.declared.layout.Tok.{Tok}
 use Rattle.lay_layout.specs.declared.layout.Tok.TheVariants as tok
@@ -8,7 +9,8 @@ use Rattle.lay_form.specs.Notation.{comma_list}
 use Rattle.lay_form.specs.Stream.{fed, stream_of}
 use Rattle.lay_tree.specs.Words.{leaf_of}
 use Rattle.lay_tree.specs.nodes.Generics.{bounded_form, const_default_form, default_form, generics_form, param_form}
-use Rattle.lay_tree.specs.nodes.Types.{about_bound, about_type, binder_form, bounds_form, colon, const_form, greater, less, outlived_form, param_attrs}
+use Rattle.lay_tree.specs.nodes.Types.{about_bound, about_type, binder_form, bounds_form, colon, const_form, greater}
+use Rattle.lay_tree.specs.nodes.Types.{less, outlived_form, param_attrs}
 use Rattle.lay_tree.specs.nodes.Where.{meets_form, predicate_form, wheres_before_body, wheres_before_semicolon}
 use Rattle.lay_tree.specs.declared.attr.Attr.{Attr}
 use Rattle.lay_tree.specs.declared.generics.ConstDefault.{ConstDefault}
@@ -38,7 +40,8 @@ not_none x xs b e is = let no : true ≡ false = sym is ∙ e ∙ eqb-suc-zero (
 
 pub no_generics : (generics : Generics) (put : List GenericParam) (b : Bool) → put ≡ generics.params
     → b ≡ (length put == 0) → b ≡ true → [] ≡ stream_of (generics_form generics)
-no_generics generics put b same e is = by generics.params (ap (λ (ps : List GenericParam). length ps == 0) (sym same) ∙ sym e ∙ is)
+no_generics generics put b same e is = by generics.params
+    (ap (λ (ps : List GenericParam). length ps == 0) (sym same) ∙ sym e ∙ is)
   where
     by : (ps : List GenericParam) → (length ps == 0) ≡ true
         → [] ≡ stream_of (generics_form (record { params = ps }))
@@ -72,7 +75,8 @@ pub default_is : (x : Option Ty) (y : Ty) → x ≡ Some y
 default_is x y is = rw is refl
 
 pub default_const : (x : Option ConstDefault) (y : ConstDefault) (value : ConstArg) → x ≡ Some y
-    → y ≡ const_default.Arg value → tok.Text (codes " = ") ∷ stream_of (const_form value) ≡ stream_of (const_default_form x)
+    → y ≡ const_default.Arg value → tok.Text (codes " = ") ∷ stream_of (const_form value) ≡ stream_of
+    (const_default_form x)
 default_const x y value is same = rw (is, same) refl
 
 pub default_name : (x : Option ConstDefault) (y : ConstDefault) (name : Name) → x ≡ Some y
@@ -85,7 +89,8 @@ default_any None q = refl
 default_any (Some x) true = refl
 default_any (Some x) false = refl
 
-const_default_any : (x : Option ConstDefault) (q : Bool) → fed q (const_default_form x) [] ≡ stream_of (const_default_form x)
+const_default_any : (x : Option ConstDefault) (q : Bool)
+    → fed q (const_default_form x) [] ≡ stream_of (const_default_form x)
 const_default_any None q = refl
 const_default_any (Some (const_default.Arg value)) true = refl
 const_default_any (Some (const_default.Arg value)) false = refl

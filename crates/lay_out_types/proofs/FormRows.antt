@@ -1,5 +1,6 @@
 -- The streams of lists, bounds and other rows of parts, and which groups they leave open.
-use Rattle.std.proofs.Common.{◌≡◌, ℕ, suc, ◌≤◌, ◌<◌, ◌==◌, Bool, true, false, cond, List, [], ◌∷◌, ◌++◌, map, length, take, pos, codes, refl, sym, ap, ◌∙◌, append_assoc, append-nil, arith, OnOk, Result}
+use Rattle.std.proofs.Common.{◌≡◌, ℕ, suc, ◌≤◌, ◌<◌, ◌==◌, Bool, true, false, cond, List, [], ◌∷◌, ◌++◌, map, length}
+use Rattle.std.proofs.Common.{take, pos, codes, refl, sym, ap, ◌∙◌, append_assoc, append-nil, arith, OnOk, Result}
 use Rattle.std.proofs.Math.Dec.{eqb-suc-zero}
 use Rattle.lay_layout.specs.declared.layout.Break.{Break}
 use Rattle.lay_layout.specs.Machine.{IsNested, opened}
@@ -10,19 +11,22 @@ use Rattle.lay_stream.specs.Fed.{Meanings}
 use Rattle.lay_stream.proofs.Calls.{opened_append}
 use Rattle.lay_form.specs.Form.{Bit, Blank, Operator, Form, Done, LastComma, Optional, Piece, Part, Soft, comma}
 use Rattle.lay_form.specs.Layout.{break_of, comma_break, document, ends_behind_point}
-use Rattle.lay_form.specs.Notation.{B, I4, Z, each, comma_gap, comma_list, piece, predicates, where_body, where_semicolon}
+use Rattle.lay_form.specs.Notation.{B, I4, Z, each, comma_gap, comma_list, piece, predicates, where_body}
+use Rattle.lay_form.specs.Notation.{where_semicolon}
 use Rattle.lay_form.specs.Notation as notation
 use Rattle.lay_form.specs.Stream.{fed, stream_of}
 use Rattle.lay_form.proofs.StreamLaws.{stream_is}
 use Rattle.lay_tree.specs.nodes.Types.{joined}
 use Rattle.lay_out_tokens.proofs.StreamParts.{fed_more}
 use Rattle.lay_out_types.specs.Calls.{Adds}
-use Rattle.lay_out_types.specs.Rows.{comma_between, further, last_break, list_closed, list_opened, plus_between, row, wheres_closed, wheres_opened}
+use Rattle.lay_out_types.specs.Rows.{comma_between, further, last_break, list_closed, list_opened, plus_between, row}
+use Rattle.lay_out_types.specs.Rows.{wheres_closed, wheres_opened}
 use Rattle.lay_out_types.proofs.Adding.{level_behind, on_ok}
 use Rattle.lay_out_types.proofs.RowLemmas.{take_all}
 
 -- A part, and what follows it, which is fed alike behind a point.
-pub part_more : (e f : Form) → ((q : Bool) → fed q f [] ≡ stream_of f) → stream_of e ++ stream_of f ≡ stream_of (Part e f)
+pub part_more : (e f : Form) → ((q : Bool) → fed q f [] ≡ stream_of f)
+    → stream_of e ++ stream_of f ≡ stream_of (Part e f)
 part_more e f any =
     ap (λ (s : List Tok). stream_of e ++ s) (sym (any (ends_behind_point false e)))
     ∙ sym (fed_more false e (fed (ends_behind_point false e) f []))
@@ -89,7 +93,8 @@ pub list_is : (may : Bool) (opening closing : Bit) (o both c : List ℕ)
     → ((q : Bool) (more : List Tok) → fed q (piece (closing ∷ [])) more ≡ tok.Text c ∷ more)
     → stream_of (piece (opening ∷ closing ∷ [])) ≡ tok.Text both ∷ [] → (es : List Form) (bare : Bool)
     → bare ≡ are_none es
-    → row (list_opened o) comma_between es ++ list_closed may bare both c ≡ stream_of (comma_list may opening closing es)
+    → row (list_opened o) comma_between es ++ list_closed may bare both c ≡ stream_of
+    (comma_list may opening closing es)
 list_is may opening closing o both c opens closes whole [] bare e = rw e (sym whole)
 list_is may opening closing o both c opens closes whole (e ∷ es) bare is =
     let q = ends_behind_point false e in
@@ -103,7 +108,8 @@ list_is may opening closing o both c opens closes whole (e ∷ es) bare is =
     (sym (last_is may closing c closes (ends_behind_point q (each comma_gap es))))
     ∙ sym (each_is comma_gap comma_between comma_leads es q _))
     ∙ sym (fed_more false e _))
-    ∙ ap (λ (s : List Tok). tok.Begin true (pos 4) ∷ s) (sym (opens (Z (Part e (Part (each comma_gap es) last))) (tok.End ∷ [])))
+    ∙ ap (λ (s : List Tok). tok.Begin true (pos 4) ∷ s)
+    (sym (opens (Z (Part e (Part (each comma_gap es) last))) (tok.End ∷ [])))
 
 -- ---- one more element
 

@@ -3,7 +3,8 @@ ghost use Rattle.std.specs.Prelude.{map, true};
 ghost use Rattle.lay_stream.specs.Fed.{Did};
 ghost use Rattle.lay_form.specs.Notation.{comma_list};
 ghost use Rattle.lay_form.specs.Stream.{stream_of};
-ghost use Rattle.lay_tree.specs.nodes.Generics.{bounded_form, const_default_form, default_form, generics_form, param_form};
+ghost use Rattle.lay_tree.specs.nodes.Generics.{bounded_form, const_default_form, default_form, generics_form};
+ghost use Rattle.lay_tree.specs.nodes.Generics.{param_form};
 ghost use Rattle.lay_tree.specs.nodes.Types.{greater, less};
 ghost use Rattle.lay_out_types.specs.Calls.{Adds};
 

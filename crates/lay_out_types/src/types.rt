@@ -352,7 +352,8 @@ fn add_output<E: Emit>(
     before: Result<(), E::Fault>,
     output: &Option<Boxed<Ty>>,
 ) -> Result<(), E::Fault>
-    ensures { Adds E.meanings before out.old (stream_of (output_form (option_map about_type output.now))) result out.new }
+    ensures { let form = output_form (option_map about_type output.now) in
+        Adds E.meanings before out.old (stream_of form) result out.new }
 {
     match output {
         None => before,
