@@ -49,8 +49,7 @@ add_token kind text d = AddText text d
 -- A text that begins with a point gets a blank where it would stand directly behind the point of a Float or behind
 -- `..`. There are three such places: a step behind a literal as `1.`, a range behind one, and a base that begins with
 -- a range behind the `..` of a struct literal. The blank belongs to the text that gets it, which may stand deep within a
--- part. These say whether the text so far ends so. A
--- number is ASCII, so its bytes tell it.
+-- part. These say whether the text so far ends so. A number is ASCII, so its bytes tell it.
 abbrev pub token_ends_in_point : Kind → List ℕ → Bool
 token_ends_in_point Float text = ends_in_point text
 token_ends_in_point _ text = false

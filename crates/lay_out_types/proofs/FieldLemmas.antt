@@ -8,7 +8,7 @@ use Rattle.lay_piece.specs.declared.kind.Delim.TheVariants.{Brace}
 use Rattle.lay_piece.specs.declared.kind.Kind.TheVariants as kind
 use Rattle.lay_stream.specs.Fed.{Meanings}
 use Rattle.lay_stream.proofs.Calls.{opened_append}
-use Rattle.lay_form.specs.Form.{Form, Operator, Done, Leaf, Part, Piece, Soft, Hard, closer}
+use Rattle.lay_form.specs.Form.{Form, Operator, Done, Leaf, Part, Piece, Hard, closer}
 use Rattle.lay_form.specs.Layout.{break_of, ends_behind_point}
 use Rattle.lay_form.specs.Notation.{B, H, I0, behind_attrs, braces, comma_gap, each, piece}
 use Rattle.lay_form.specs.Notation as notation
@@ -30,7 +30,7 @@ use Rattle.lay_tree.specs.declared.types.PathStyle.TheVariants.{Code}
 use Rattle.lay_tree.proofs.nodes.PatternsLaws.{field_index_is, field_named_is, field_short_is, pat_struct_is}
 use Rattle.lay_out_tokens.proofs.StreamParts.{fed_more, leaf_more}
 use Rattle.lay_out_types.specs.Calls.{Adds}
-use Rattle.lay_out_types.specs.PatternRows.{alternatives_form, attr_line, bar_between, bar_lead, braces_closed, braces_opened, closing_break, field_told, fields_form, pat_told}
+use Rattle.lay_out_types.specs.PatternRows.{attr_line, bar_between, bar_lead, braces_closed, braces_opened, closing_break, field_told, fields_form}
 use Rattle.lay_out_types.specs.Rows.{comma_between, further, row}
 use Rattle.lay_out_types.proofs.Adding.{level_behind, on_ok}
 use Rattle.lay_out_types.proofs.FormRows.{are_none, comma_leads, each_is, level_form, level_further, level_row, none_is, one_open, part_more}

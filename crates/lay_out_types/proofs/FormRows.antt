@@ -1,5 +1,6 @@
 -- The streams of lists, bounds and other rows of parts, and which groups they leave open.
-use Rattle.std.proofs.Common.{◌≡◌, ℕ, suc, ◌≤◌, ◌<◌, ◌==◌, Bool, true, false, cond, List, [], ◌∷◌, ◌++◌, map, length, take, pos, codes, refl, sym, ap, ◌∙◌, append_assoc, append-nil, arith, OnOk, Result}
+use Rattle.std.proofs.Common.{◌≡◌, ℕ, suc, ◌≤◌, ◌<◌, ◌==◌, Bool, true, false, cond, List, [], ◌∷◌, ◌++◌, map, length}
+use Rattle.std.proofs.Common.{take, pos, codes, refl, sym, ap, ◌∙◌, append_assoc, append-nil, arith, OnOk, Result}
 use Rattle.std.proofs.Math.Dec.{eqb-suc-zero}
 use Rattle.lay_layout.specs.declared.layout.Break.{Break}
 use Rattle.lay_layout.specs.Machine.{IsNested, opened}
@@ -8,9 +9,10 @@ use Rattle.lay_layout.specs.declared.layout.Tok.TheVariants as tok
 use Rattle.lay_layout.proofs.Whole.{opened_document}
 use Rattle.lay_stream.specs.Fed.{Meanings}
 use Rattle.lay_stream.proofs.Calls.{opened_append}
-use Rattle.lay_form.specs.Form.{Bit, Blank, Operator, Form, Done, Piece, Part, Soft}
-use Rattle.lay_form.specs.Layout.{break_of, document, ends_behind_point}
-use Rattle.lay_form.specs.Notation.{B, I4, Z, each, comma_gap, comma_list, piece}
+use Rattle.lay_form.specs.Form.{Bit, Blank, Operator, Form, Done, LastComma, Optional, Piece, Part, Soft, comma}
+use Rattle.lay_form.specs.Layout.{break_of, comma_break, document, ends_behind_point}
+use Rattle.lay_form.specs.Notation.{B, I4, Z, each, comma_gap, comma_list, piece, predicates, where_body}
+use Rattle.lay_form.specs.Notation.{where_semicolon}
 use Rattle.lay_form.specs.Notation as notation
 use Rattle.lay_form.specs.Stream.{fed, stream_of}
 use Rattle.lay_form.proofs.StreamLaws.{stream_is}
@@ -18,11 +20,13 @@ use Rattle.lay_tree.specs.nodes.Types.{joined}
 use Rattle.lay_out_tokens.proofs.StreamParts.{fed_more}
 use Rattle.lay_out_types.specs.Calls.{Adds}
 use Rattle.lay_out_types.specs.Rows.{comma_between, further, last_break, list_closed, list_opened, plus_between, row}
+use Rattle.lay_out_types.specs.Rows.{wheres_closed, wheres_opened}
 use Rattle.lay_out_types.proofs.Adding.{level_behind, on_ok}
 use Rattle.lay_out_types.proofs.RowLemmas.{take_all}
 
 -- A part, and what follows it, which is fed alike behind a point.
-pub part_more : (e f : Form) → ((q : Bool) → fed q f [] ≡ stream_of f) → stream_of e ++ stream_of f ≡ stream_of (Part e f)
+pub part_more : (e f : Form) → ((q : Bool) → fed q f [] ≡ stream_of f)
+    → stream_of e ++ stream_of f ≡ stream_of (Part e f)
 part_more e f any =
     ap (λ (s : List Tok). stream_of e ++ s) (sym (any (ends_behind_point false e)))
     ∙ sym (fed_more false e (fed (ends_behind_point false e) f []))
@@ -89,7 +93,8 @@ pub list_is : (may : Bool) (opening closing : Bit) (o both c : List ℕ)
     → ((q : Bool) (more : List Tok) → fed q (piece (closing ∷ [])) more ≡ tok.Text c ∷ more)
     → stream_of (piece (opening ∷ closing ∷ [])) ≡ tok.Text both ∷ [] → (es : List Form) (bare : Bool)
     → bare ≡ are_none es
-    → row (list_opened o) comma_between es ++ list_closed may bare both c ≡ stream_of (comma_list may opening closing es)
+    → row (list_opened o) comma_between es ++ list_closed may bare both c ≡ stream_of
+    (comma_list may opening closing es)
 list_is may opening closing o both c opens closes whole [] bare e = rw e (sym whole)
 list_is may opening closing o both c opens closes whole (e ∷ es) bare is =
     let q = ends_behind_point false e in
@@ -103,7 +108,8 @@ list_is may opening closing o both c opens closes whole (e ∷ es) bare is =
     (sym (last_is may closing c closes (ends_behind_point q (each comma_gap es))))
     ∙ sym (each_is comma_gap comma_between comma_leads es q _))
     ∙ sym (fed_more false e _))
-    ∙ ap (λ (s : List Tok). tok.Begin true (pos 4) ∷ s) (sym (opens (Z (Part e (Part (each comma_gap es) last))) (tok.End ∷ [])))
+    ∙ ap (λ (s : List Tok). tok.Begin true (pos 4) ∷ s)
+    (sym (opens (Z (Part e (Part (each comma_gap es) last))) (tok.End ∷ [])))
 
 -- ---- one more element
 
@@ -141,6 +147,41 @@ bounds_are (e ∷ es) = ap (λ (s : List Tok). tok.Begin false (pos 4) ∷ s)
     (sym (each_is plus plus_between plus_leads es (ends_behind_point false e) (tok.End ∷ [])))
     ∙ sym (fed_more false e _))
 
+-- ---- where clauses
+
+-- what closes predicates before a body
+pub body_closed : (body bare : Bool) → bare ≡ false → body ≡ true
+    → tok.Break (comma_break 1) ∷ tok.End ∷ [] ≡ wheres_closed body bare
+body_closed body bare is e = rw (is, e) refl
+
+abbrev end_of : Bool → Form
+end_of true = LastComma 1 Done
+end_of false = Optional false comma Done
+
+end_is : (body q : Bool) → fed q (end_of body) (tok.End ∷ []) ≡ wheres_closed body false
+end_is true q = refl
+end_is false q = refl
+
+predicates_by : (body : Bool) (es : List Form) (bare : Bool) → bare ≡ are_none es
+    → row wheres_opened comma_between es ++ wheres_closed body bare ≡ stream_of (predicates (end_of body) es)
+predicates_by body [] bare e = rw e refl
+predicates_by body (e ∷ es) bare is =
+    let q = ends_behind_point false e in
+    ap (λ (b : Bool). row wheres_opened comma_between (e ∷ es) ++ wheres_closed body b) is
+    ∙ ap (λ (s : List Tok). wheres_opened ++ s)
+    (append_assoc (stream_of e) (further comma_between es) (wheres_closed body false)
+    ∙ ap (λ (s : List Tok). stream_of e ++ s)
+    (ap (λ (s : List Tok). further comma_between es ++ s)
+    (sym (end_is body (ends_behind_point q (each comma_gap es))))
+    ∙ sym (each_is comma_gap comma_between comma_leads es q _))
+    ∙ sym (fed_more false e _))
+
+pub predicates_are : (body : Bool) (es : List Form) (bare : Bool) → bare ≡ are_none es
+    → row wheres_opened comma_between es ++ wheres_closed body bare
+    ≡ stream_of (cond body (where_body es) (where_semicolon es))
+predicates_are true es bare e = predicates_by true es bare e
+predicates_are false es bare e = predicates_by false es bare e
+
 -- ---- which groups are open
 
 pub level_form : (f : Form) (n : ℕ) → opened (stream_of f) n ≡ n
@@ -167,13 +208,17 @@ level_row between level (e ∷ es) n =
 pub one_open : (n : ℕ) {k : ℕ} → k ≡ suc n → (0 < k) × Unit {0}
 one_open n e = (omega arith, tt)
 
+level_opened : (f : Form) (es : List Form) (n : ℕ)
+    → opened (stream_of f ++ further comma_between es) (suc n) ≡ suc n
+level_opened f es n =
+    opened_append (stream_of f) (further comma_between es) (suc n)
+    ∙ ap (opened (further comma_between es)) (level_form f (suc n))
+    ∙ level_further comma_between (λ m. refl) es (suc n)
+
 list_nested : (o both c : List ℕ) (may : Bool) (es : List Form) (bare : Bool) (n k : ℕ) → bare ≡ are_none es
     → k ≡ opened (row (list_opened o) comma_between es) n → IsNested k (list_closed may bare both c)
 list_nested o both c may [] bare n k is e = rw is tt
-list_nested o both c may (f ∷ es) bare n k is e = rw is (one_open n
-    (e ∙ opened_append (stream_of f) (further comma_between es) (suc n)
-    ∙ ap (opened (further comma_between es)) (level_form f (suc n))
-    ∙ level_further comma_between (λ m. refl) es (suc n)))
+list_nested o both c may (f ∷ es) bare n k is e = rw is (one_open n (e ∙ level_opened f es n))
 
 -- A list may be closed behind its elements.
 pub may_close : {S F T : Type 0} {m : Meanings S F} {a b : S} {p q : Result T F} (o both c : List ℕ) (may : Bool)
@@ -181,6 +226,19 @@ pub may_close : {S F T : Type 0} {m : Meanings S F} {a b : S} {p q : Result T F}
     → OnOk q (IsNested (m.groups b) (list_closed may bare both c))
 may_close {p} {q} o both c may es bare is h =
     on_ok q (λ x e. list_nested o both c may es bare _ _ is (level_behind p q x h e))
+
+wheres_nested : (body : Bool) (es : List Form) (bare : Bool) (n k : ℕ) → bare ≡ are_none es
+    → k ≡ opened (row wheres_opened comma_between es) n → IsNested k (wheres_closed body bare)
+wheres_nested body [] bare n k is e = rw is tt
+wheres_nested true (f ∷ es) bare n k is e = rw is (one_open n (e ∙ level_opened f es n))
+wheres_nested false (f ∷ es) bare n k is e = rw is (one_open n (e ∙ level_opened f es n))
+
+-- A where clause may be closed behind its predicates.
+pub may_close_wheres : {S F T : Type 0} {m : Meanings S F} {a b : S} {p q : Result T F} (body : Bool) (es : List Form)
+    (bare : Bool) → bare ≡ are_none es → Adds m p a (row wheres_opened comma_between es) q b
+    → OnOk q (IsNested (m.groups b) (wheres_closed body bare))
+may_close_wheres {p} {q} body es bare is h =
+    on_ok q (λ x e. wheres_nested body es bare _ _ is (level_behind p q x h e))
 
 -- Bounds may be closed behind their bounds.
 pub may_end : {S F T : Type 0} {m : Meanings S F} {a b : S} {p q : Result T F} (es : List Form)

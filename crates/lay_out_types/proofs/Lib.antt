@@ -7,3 +7,4 @@ pub mod PathEnds
 pub mod PatternLemmas
 pub mod FieldLemmas
 pub mod PathPoints
+pub mod ClauseLemmas

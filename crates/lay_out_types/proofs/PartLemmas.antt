@@ -1,5 +1,6 @@
 -- The streams of what types are made of, with no type within it.
-use Rattle.std.proofs.Common.{◌≡◌, ℕ, Bool, true, false, ◌||◌, cond, List, [], ◌∷◌, ◌++◌, map, codes, Option, Some, None, refl, sym, ap, ◌∙◌, append_assoc}
+use Rattle.std.proofs.Common.{◌≡◌, ℕ, Bool, true, false, ◌||◌, cond, List, [], ◌∷◌, ◌++◌, map, codes, Option, Some}
+use Rattle.std.proofs.Common.{None, refl, sym, ap, ◌∙◌, append_assoc}
 use Rattle.lay_layout.specs.declared.layout.Tok.{Tok}
 use Rattle.lay_layout.specs.declared.layout.Tok.TheVariants as tok
 use Rattle.lay_piece.specs.declared.kind.Kind.TheVariants as kind
@@ -11,7 +12,9 @@ use Rattle.lay_form.specs.Notation.{H, comma_list, each, piece}
 use Rattle.lay_form.specs.Stream.{fed, stream_of}
 use Rattle.lay_tree.specs.nodes.Attr.{attr_form, attr_part, behind_attr, is_inner, is_line}
 use Rattle.lay_tree.specs.Words.{leaf_of}
-use Rattle.lay_tree.specs.nodes.Types.{abi_form, abi_name, binder_form, colon, const_form, greater, less, lifetime_form, lifetime_param_form, literal_form, outlived_form, param_attrs, param_name, ref_lifetime}
+use Rattle.lay_tree.specs.nodes.Types.{abi_form, abi_name, binder_form, colon, const_form, greater, less, lifetime_form}
+use Rattle.lay_tree.specs.nodes.Types.{lifetime_param_form, literal_form, outlived_form, param_attrs, param_name}
+use Rattle.lay_tree.specs.nodes.Types.{ref_lifetime}
 use Rattle.lay_tree.specs.tokens.Lists.{enclosed_form}
 use Rattle.lay_tree.specs.tokens.Listing.{Grouping, NoMore, in_groups}
 use Rattle.lay_tree.specs.declared.attr.Attr.{Attr}
@@ -41,7 +44,8 @@ more_lifetimes (l ∷ ls) =
     ap (λ (s : List Tok). tok.Text (codes " + ") ∷ tok.Text l.text ∷ s) (more_lifetimes ls)
 
 pub outlived_are : (ls : List Lifetime)
-    → row (tok.Text (codes ": ") ∷ []) (tok.Text (codes " + ") ∷ []) (map lifetime_form ls) ≡ stream_of (outlived_form ls)
+    → row (tok.Text (codes ": ") ∷ []) (tok.Text (codes " + ") ∷ []) (map lifetime_form ls) ≡ stream_of
+    (outlived_form ls)
 outlived_are [] = refl
 outlived_are (l ∷ ls) = ap (λ (s : List Tok). tok.Text (codes ": ") ∷ tok.Text l.text ∷ s) (more_lifetimes ls)
 
@@ -113,7 +117,8 @@ attrs_more (a ∷ attrs) f =
     ∙ ap (λ (s : List Tok). stream_of (attr_alone a) ++ s) (attrs_more attrs f)
     ∙ attr_more a (param_attrs attrs f)
 
-pub lifetime_param_is : (p : LifetimeParam) (attrs : List Attr) (text : List ℕ) (bounds : List Lifetime) → attrs ≡ p.attrs
+pub lifetime_param_is : (p : LifetimeParam) (attrs : List Attr) (text : List ℕ) (bounds : List Lifetime)
+    → attrs ≡ p.attrs
     → text ≡ p.lifetime.text → bounds ≡ p.bounds
     → stream_of (param_attrs attrs Done) ++ (tok.Text text ∷ stream_of (outlived_form bounds))
     ≡ stream_of (lifetime_param_form p)
@@ -175,7 +180,8 @@ abi_name_more (Some l) f =
 pub abi_is : (x : Option Abi) (a : Abi) (n : Option Literal) (l : Literal) → x ≡ Some a → n ≡ a.name → n ≡ Some l
     → tok.Text (codes "extern ") ∷ (stream_of (literal_form l Done) ++ (tok.Text (codes " ") ∷ []))
     ≡ stream_of (abi_form x Done)
-abi_is x a n l is same name = rw (is, sym same ∙ name) (ap (λ (s : List Tok). tok.Text (codes "extern ") ∷ s) (abi_name_is l Done))
+abi_is x a n l is same name = rw (is, sym same ∙ name)
+    (ap (λ (s : List Tok). tok.Text (codes "extern ") ∷ s) (abi_name_is l Done))
 
 pub abi_more : (x : Option Abi) (f : Form) → stream_of (abi_form x Done) ++ stream_of f ≡ stream_of (abi_form x f)
 abi_more None f = refl

@@ -1,7 +1,6 @@
--- How the form of a path begins and ends.
-use Rattle.std.proofs.Common.{◌≡◌, Bool, true, false, List, [], ◌∷◌, map, refl, sym, ap, ◌∙◌, subst}
-use Rattle.lay_form.specs.Form.{Form, Done, Part}
-use Rattle.lay_form.specs.Layout.{ends_behind_point}
+-- How a path is fed behind a point.
+use Rattle.std.proofs.Common.{◌≡◌, Bool, true, false, [], map, refl, sym, subst}
+use Rattle.lay_form.specs.Form.{Form, Part}
 use Rattle.lay_form.specs.Stream.{fed, stream_of}
 use Rattle.lay_tree.specs.nodes.Facts.{Facts}
 use Rattle.lay_tree.specs.nodes.Types.{PathFacts, about_path, about_start, segments_form}

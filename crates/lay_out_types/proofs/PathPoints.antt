@@ -1,15 +1,15 @@
 -- No path ends in a point: neither does a type, a bound or a list of generic arguments, by the induction of their family.
-use Rattle.std.proofs.Common.{◌≡◌, Bool, true, false, not, List, [], ◌∷◌, ◌++◌, codes, map, Option, Some, None, option_map, sym, refl, subst, ap, ◌∙◌}
+use Rattle.std.proofs.Common.{◌≡◌, Bool, true, false, not, List, [], ◌∷◌, ◌++◌, codes, map, Option, Some, None, sym, refl, subst, ap, ◌∙◌}
 use Rattle.lay_piece.specs.declared.kind.Delim.{Delim}
 use Rattle.lay_piece.specs.declared.kind.Delim.TheVariants.{Paren, Bracket, Brace}
-use Rattle.lay_form.specs.Form.{Form, Bit, Blank, Operator, Done, Piece, Part, keyword, opener, closer}
+use Rattle.lay_form.specs.Form.{Form, Blank, Operator, Done, Piece, Part, keyword, opener, closer}
 use Rattle.lay_form.specs.Layout.{ends_behind_point}
 use Rattle.lay_form.specs.Notation.{B, comma_list, each, when}
 use Rattle.lay_tree.specs.Words.{leaf_of}
 use Rattle.lay_tree.specs.nodes.Call.{bang}
 use Rattle.lay_tree.specs.nodes.Facts.{Facts, forms}
 use Rattle.lay_tree.specs.nodes.Patterns.{end_form}
-use Rattle.lay_tree.specs.nodes.Types.{ArgsFacts, PathFacts, TypeFacts, abi_form, about_arg, about_args, about_bound, about_path, about_start, about_type, args_facts, binder_form, bound_facts, dots, greater, in_style, joined, less, meets_form, output_form, params_form, path_facts, segments_form, ty_facts}
+use Rattle.lay_tree.specs.nodes.Types.{ArgsFacts, PathFacts, TypeFacts, abi_form, about_arg, about_args, about_bound, about_path, about_start, about_type, binder_form, dots, greater, in_style, joined, less, output_form, params_form, segments_form, ty_facts}
 use Rattle.lay_tree.specs.tokens.Lists.{enclosed_form, ends_in_line, form_of_grouping, group_form}
 use Rattle.lay_tree.specs.tokens.Listing.{Grouping, NoMore, in_groups}
 use Rattle.lay_tree.specs.tokens.Pairs.{at_start}
@@ -20,7 +20,7 @@ use Rattle.lay_tree.specs.declared.tokens.Group.{Group}
 use Rattle.lay_tree.specs.declared.types.Abi.{Abi}
 use Rattle.lay_tree.specs.declared.types.Arg.{Arg}
 use Rattle.lay_tree.specs.declared.types.Arg.TheFolds as type_fold
-use Rattle.lay_tree.specs.declared.types.Arg.TheOpen.{Arg-F, Args-F, Bound-F, Constraint-F, PathStart-F, Ty-F, FuncParam-F, Path-F}
+use Rattle.lay_tree.specs.declared.types.Arg.TheOpen.{Args-F, Bound-F, Ty-F, Path-F}
 use Rattle.lay_tree.specs.declared.types.Arg.TheViews as views
 use Rattle.lay_tree.specs.declared.types.Args.{Args}
 use Rattle.lay_tree.specs.declared.types.Binder.{Binder}
@@ -335,7 +335,7 @@ segments_end s (x ∷ y ∷ more) q e =
 path_from : (p : Path) (xs : List (Word × KeptArgs)) → p.segments ≡ map (λ (y : Word × KeptArgs). (y.0, y.1.0)) xs → PathIs p
 path_from p xs e = subst PathEnds (sym (laws.path_is p)) (record {
   go = λ s. ap (λ (ys : List (Word × Args)). ends_behind_point (ends_behind_point false (about_start p.start).form)
-  (segments_form s (map about_segment ys))) e ∙ segments_end s xs _ (start_ends p.start (laws.start_view p.start));
+      (segments_form s (map about_segment ys))) e ∙ segments_end s xs _ (start_ends p.start (laws.start_view p.start));
 })
 
 path_step : (y : Kept Path-F) → PathIs (views.roll-Path (path_layer y))

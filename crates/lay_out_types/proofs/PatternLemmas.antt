@@ -1,35 +1,33 @@
 -- The streams of patterns, kind by kind.
-use Rattle.std.proofs.Common.{◌≡◌, ℕ, ◌<◌, ◌≤◌, ◌==◌, Bool, true, false, not, cond, List, [], ◌∷◌, ◌++◌, map, length, get_or, codes, pos, Option, Some, None, refl, sym, ap, ◌∙◌, append_assoc, arith}
+use Rattle.std.proofs.Common.{◌≡◌, ◌<◌, ◌≤◌, ◌==◌, Bool, true, false, cond, List, [], ◌∷◌, ◌++◌, map, length, get_or, codes, Option, Some, None, refl, sym, ap, ◌∙◌, append_assoc, arith}
 use Rattle.lay_layout.specs.declared.layout.Tok.{Tok}
 use Rattle.lay_layout.specs.declared.layout.Tok.TheVariants as tok
 use Rattle.lay_piece.specs.Characters as char
 use Rattle.lay_piece.specs.declared.kind.Delim.TheVariants.{Paren, Bracket}
-use Rattle.lay_form.specs.Form.{Form, Blank, Operator, Done, Piece, Part, punct, keyword, opener, closer}
+use Rattle.lay_form.specs.Form.{Form, Blank, Done, Piece, Part, punct, keyword, opener, closer}
 use Rattle.lay_form.specs.Layout.{ends_behind_point, led, text_of_bits, token_ends_in_point}
 use Rattle.lay_form.specs.Notation.{I0, comma_list, piece, when}
 use Rattle.lay_form.specs.Stream.{fed, stream_of}
 use Rattle.lay_tree.specs.Words.{leaf_of}
 use Rattle.lay_tree.specs.nodes.Call.{call_form}
-use Rattle.lay_tree.specs.nodes.Patterns.{PatFacts, about_field_pat, about_pat, bound_form, dots, end_form, first_end, last_end, one_form, pat_form, pat_forms, rest_form, value_form}
+use Rattle.lay_tree.specs.nodes.Patterns.{PatFacts, about_pat, bound_form, dots, end_form, first_end, last_end, one_form, pat_form, pat_forms, value_form}
 use Rattle.lay_tree.specs.nodes.Types.{about_path, joined, literal_form}
-use Rattle.lay_tree.specs.declared.patterns.FieldPat.{FieldPat}
 use Rattle.lay_tree.specs.declared.patterns.Pat.{Pat}
 use Rattle.lay_tree.specs.declared.patterns.Pat.TheVariants as pat
 use Rattle.lay_tree.specs.declared.patterns.PatPlace.TheVariants.{Alternatives, Single}
 use Rattle.lay_tree.specs.declared.patterns.PatValue.{PatValue}
 use Rattle.lay_tree.specs.declared.patterns.SpanEnd.{SpanEnd}
 use Rattle.lay_tree.specs.declared.patterns.SpanEnd.TheVariants as span_end
-use Rattle.lay_tree.specs.declared.token.Literal.{Literal}
 use Rattle.lay_tree.specs.declared.token.Name.{Name}
 use Rattle.lay_tree.specs.declared.tokens.MacroCall.{MacroCall}
 use Rattle.lay_tree.specs.declared.types.Path.{Path}
 use Rattle.lay_tree.specs.declared.types.PathStyle.TheVariants.{Code}
 use Rattle.lay_tree.proofs.nodes.PatternsLaws.{IsBind, IsCall, IsOr, IsParen, IsPath, IsRef, IsRest, IsSlice, IsSpan, IsStruct, IsTuple, IsTupleStruct, IsValue, IsWild, PatView, pat_bind_is, pat_call_is, pat_or_is, pat_paren_is, pat_path_is, pat_ref_is, pat_rest_is, pat_slice_is, pat_span_is, pat_struct_is, pat_tuple_is, pat_tuple_struct_is, pat_value_is, pat_view, pat_wild_is}
 use Rattle.lay_out_tokens.proofs.StreamParts.{fed_more, leaf_more}
-use Rattle.lay_out_types.specs.PatternRows.{alternatives_form, bar_lead, fields_form, pat_told}
+use Rattle.lay_out_types.specs.PatternRows.{alternatives_form, bar_lead, pat_told}
 use Rattle.lay_out_types.specs.Rows.{comma_between, further, list_closed, list_opened, row}
 use Rattle.lay_out_types.proofs.FormRows.{are_none, list_is, none_is, part_more}
-use Rattle.lay_out_types.proofs.TypeLemmas.{forms_are, parens_are}
+use Rattle.lay_out_types.proofs.TypeLemmas.{parens_are}
 use Rattle.lay_out_types.proofs.PathEnds.{path_any}
 
 -- the stream of a pattern

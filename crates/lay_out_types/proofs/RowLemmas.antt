@@ -1,5 +1,6 @@
 -- Elements in a row, one more at each turn of a loop.
-use Rattle.std.proofs.Common.{◌≡◌, ℕ, zero, suc, ◌+◌, ◌≤◌, ◌<◌, ◌==◌, Bool, true, false, cond, List, [], ◌∷◌, ◌++◌, map, length, take, get_or, refl, sym, ap, ◌∙◌, add-one, append-nil, append_assoc, arith}
+use Rattle.std.proofs.Common.{◌≡◌, ℕ, zero, suc, ◌+◌, ◌≤◌, ◌<◌, ◌==◌, Bool, true, false, cond, List, [], ◌∷◌, ◌++◌, map}
+use Rattle.std.proofs.Common.{length, take, get_or, refl, sym, ap, ◌∙◌, add-one, append-nil, append_assoc, arith}
 use Rattle.std.proofs.Math.Dec.{eqb-suc-zero}
 use Rattle.lay_layout.specs.declared.layout.Tok.{Tok}
 use Rattle.lay_form.specs.Form.{Form}
@@ -29,7 +30,8 @@ row_more form opening between (y ∷ ys) zero x lt is =
     ap (λ (z : _). opening ++ stream_of (form z)) is
     ∙ ap (λ (s : List Tok). opening ++ s) (sym (append-nil (stream_of (form y))))
 row_more form opening between (y ∷ ys) (suc i) x lt is =
-    ap (λ (b : Bool). row opening between (map form (take (suc i) (y ∷ ys))) ++ (cond b opening between ++ stream_of (form x)))
+    ap (λ (b : Bool). row opening between (map form (take (suc i) (y ∷ ys))) ++
+    (cond b opening between ++ stream_of (form x)))
     (eqb-suc-zero i)
     ∙ append_assoc opening _ _
     ∙ ap (λ (s : List Tok). opening ++ s)

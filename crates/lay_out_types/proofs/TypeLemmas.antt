@@ -1,17 +1,25 @@
 -- The streams of paths, generic arguments, bounds and types, kind by kind.
-use Rattle.std.proofs.Common.{◌≡◌, ℕ, Bool, true, false, cond, List, [], ◌∷◌, ◌++◌, map, length, ◌≤◌, ◌<◌, get_or, codes, pos, not, Option, option_map, Some, None, refl, sym, ap, ◌∙◌, append_assoc, append-nil, arith}
+use Rattle.std.proofs.Common.{◌≡◌, ℕ, Bool, true, false, cond, List, [], ◌∷◌, ◌++◌, map, length, ◌≤◌, ◌<◌, get_or}
+use Rattle.std.proofs.Common.{codes, pos, not, Option, option_map, Some, None, refl, sym, ap, ◌∙◌, append_assoc}
+use Rattle.std.proofs.Common.{append-nil, arith}
 use Rattle.lay_layout.specs.declared.layout.Tok.{Tok}
 use Rattle.lay_layout.specs.declared.layout.Tok.TheVariants as tok
 use Rattle.lay_piece.specs.Characters as char
 use Rattle.lay_piece.specs.declared.kind.Delim.TheVariants.{Paren, Bracket}
 use Rattle.lay_piece.specs.declared.kind.Kind.TheVariants as kind
-use Rattle.lay_form.specs.Form.{Bit, Blank, Fixed, Operator, Form, Done, Piece, Part, punct, opener, closer, keyword, semicolon}
+use Rattle.lay_form.specs.Form.{Bit, Blank, Fixed, Operator, Form, Done, Piece, Part, punct, opener, closer, keyword}
+use Rattle.lay_form.specs.Form.{semicolon}
 use Rattle.lay_form.specs.Notation.{B, I4, comma_list, piece, when}
 use Rattle.lay_form.specs.Stream.{fed, stream_of}
 use Rattle.lay_tree.specs.Words.{colons, leaf_of}
 use Rattle.lay_tree.specs.nodes.Call.{call_form}
 use Rattle.lay_tree.specs.nodes.Facts.{Facts, forms}
-use Rattle.lay_tree.specs.nodes.Types.{PathFacts, TypeFacts, ArgsFacts, about_arg, about_args, about_bound, about_constraint, about_func_param, about_path, about_start, about_type, args_facts, abi_form, angle_form, binder_form, bounds_form, colon, const_form, dots, equals, greater, joined, less, in_style, meets_form, output_form, param_attrs, param_name, params_form, ref_lifetime, segment_form, segments_form, type_forms, tuple_form}
+use Rattle.lay_tree.specs.nodes.Types.{PathFacts, TypeFacts, ArgsFacts, about_arg, about_args, about_bound}
+use Rattle.lay_tree.specs.nodes.Types.{about_constraint, about_func_param, about_path, about_start, about_type}
+use Rattle.lay_tree.specs.nodes.Types.{args_facts, abi_form, angle_form, binder_form, bounds_form, colon, const_form}
+use Rattle.lay_tree.specs.nodes.Types.{dots, equals, greater, joined, less, in_style, meets_form, output_form}
+use Rattle.lay_tree.specs.nodes.Types.{param_attrs, param_name, params_form, ref_lifetime, segment_form, segments_form}
+use Rattle.lay_tree.specs.nodes.Types.{type_forms, tuple_form}
 use Rattle.lay_tree.specs.tokens.Lists.{token_list}
 use Rattle.lay_tree.specs.declared.attr.Attr.{Attr}
 use Rattle.lay_tree.specs.declared.token.GivenName.{GivenName}
@@ -40,11 +48,19 @@ use Rattle.lay_tree.specs.declared.types.PathStyle.{PathStyle}
 use Rattle.lay_tree.specs.declared.types.PathStyle.TheVariants.{Code, Kind}
 use Rattle.lay_tree.specs.declared.types.Ty.{Ty}
 use Rattle.lay_tree.specs.declared.types.Ty.TheVariants as ty
-use Rattle.lay_tree.proofs.nodes.TypesLaws.{ConstraintView, IsEqual, IsEqualConst, IsLimit, about_segment, constraint_view, arg_const_is, arg_named_is, arg_plain_is, arg_region_is, args_angle_is, args_none_is, args_round_is, bound_meets_is, bound_outlives_is, constraint_equal_const_is, constraint_equal_is, constraint_limit_is, func_param_is, path_is, start_global_is, start_local_is, start_qualified_is, type_array_is, type_bounds_is, type_call_is, type_func_is, type_infer_is, type_never_is, type_paren_is, type_path_is, type_ptr_is, type_ref_is, type_slice_is, type_tuple_is}
+use Rattle.lay_tree.proofs.nodes.TypesLaws.{ConstraintView, IsEqual, IsEqualConst, IsLimit, about_segment}
+use Rattle.lay_tree.proofs.nodes.TypesLaws.{constraint_view, arg_const_is, arg_named_is, arg_plain_is, arg_region_is}
+use Rattle.lay_tree.proofs.nodes.TypesLaws.{args_angle_is, args_none_is, args_round_is, bound_meets_is}
+use Rattle.lay_tree.proofs.nodes.TypesLaws.{bound_outlives_is, constraint_equal_const_is, constraint_equal_is}
+use Rattle.lay_tree.proofs.nodes.TypesLaws.{constraint_limit_is, func_param_is, path_is, start_global_is}
+use Rattle.lay_tree.proofs.nodes.TypesLaws.{start_local_is, start_qualified_is, type_array_is, type_bounds_is}
+use Rattle.lay_tree.proofs.nodes.TypesLaws.{type_call_is, type_func_is, type_infer_is, type_never_is, type_paren_is}
+use Rattle.lay_tree.proofs.nodes.TypesLaws.{type_path_is, type_ptr_is, type_ref_is, type_slice_is, type_tuple_is}
 use Rattle.lay_out_tokens.proofs.StreamParts.{fed_more, leaf_more}
 use Rattle.lay_out_types.specs.Rows.{comma_between, further, list_closed, list_opened, plus_between, row}
 use Rattle.lay_out_types.proofs.FormRows.{are_none, bounds_are, list_is, one_there, part_more, row_end}
-use Rattle.lay_out_types.proofs.PartLemmas.{abi_more, angles_are, attrs_more, binder_more, param_name_more, reference_more}
+use Rattle.lay_out_types.proofs.PartLemmas.{abi_more, angles_are, attrs_more, binder_more, param_name_more}
+use Rattle.lay_out_types.proofs.PartLemmas.{reference_more}
 
 -- the form of a node of which this is told
 abbrev pub form_of : {A : Type 0} → (A → Facts) → A → Form
@@ -63,7 +79,8 @@ same e = ap (λ (x : Facts). stream_of x.form) e
 same_told : {x y : TypeFacts} → x ≡ y → stream_of x.told.form ≡ stream_of y.told.form
 same_told e = ap (λ (x : TypeFacts). stream_of x.told.form) e
 
-same_args : {x y : ArgsFacts} (style : PathStyle) → x ≡ y → stream_of (in_style style x).form ≡ stream_of (in_style style y).form
+same_args : {x y : ArgsFacts} (style : PathStyle) → x ≡ y
+    → stream_of (in_style style x).form ≡ stream_of (in_style style y).form
 same_args style e = ap (λ (x : ArgsFacts). stream_of (in_style style x).form) e
 
 -- ---- lists
@@ -72,7 +89,8 @@ pub parens_are : (may : Bool) (es : List Form) (bare : Bool) → bare ≡ are_no
     → row (list_opened (codes "(")) comma_between es ++ list_closed may bare (codes "()") (codes ")")
     ≡ stream_of (comma_list may (opener Paren) (closer Paren) es)
 parens_are may es bare is =
-    list_is may (opener Paren) (closer Paren) (codes "(") (codes "()") (codes ")") (λ f more. refl) closes refl es bare is
+    list_is may (opener Paren) (closer Paren) (codes "(") (codes "()") (codes ")")
+    (λ f more. refl) closes refl es bare is
   where
     closes : (q : Bool) (more : List Tok) → fed q (piece (closer Paren ∷ [])) more ≡ tok.Text (codes ")") ∷ more
     closes true more = refl
@@ -107,7 +125,8 @@ further_segments : (style : PathStyle) (s : Word × Args) (more : List (Word × 
     ≡ stream_of (segments_form style (map about_segment (s ∷ more)))
 further_segments style s [] = append-nil _
 further_segments style s (t ∷ more) =
-    ap (λ (l : List Tok). stream_of (segment_part style s) ++ (tok.Text (codes "::") ∷ l)) (further_segments style t more)
+    ap (λ (l : List Tok). stream_of (segment_part style s) ++ (tok.Text (codes "::") ∷ l))
+    (further_segments style t more)
     ∙ segment_by s.0.raw s.0.text (in_style style (about_args s.1)).form
     (Piece colons (segments_form style (map about_segment (t ∷ more))))
     (colons_any (segments_form style (map about_segment (t ∷ more))))
@@ -150,7 +169,8 @@ angle_colons : (q : Bool) → fed q (piece (Fixed kind.Punct (codes ">") ∷ col
 angle_colons true = refl
 angle_colons false = refl
 
-pub bare_start : (x : PathStart) (inner put : Ty) (of : Option Path) → x ≡ start.Qualified inner of → put ≡ inner → of ≡ None
+pub bare_start : (x : PathStart) (inner put : Ty) (of : Option Path) → x ≡ start.Qualified inner of → put ≡ inner
+    → of ≡ None
     → tok.Text (codes "<") ∷ (told put ++ (tok.Text (codes ">::") ∷ [])) ≡ stream_of (about_start x).form
 bare_start x inner put of is e none =
     rw e (ap (λ (s : List Tok). tok.Text (codes "<") ∷ s)
@@ -165,7 +185,8 @@ as_any : (f : Form) (q : Bool) → fed q (as_form f) [] ≡ stream_of (as_form f
 as_any f true = refl
 as_any f false = refl
 
-pub qualified_start : (x : PathStart) (inner put : Ty) (of : Option Path) (path lent : Path) → x ≡ start.Qualified inner of
+pub qualified_start : (x : PathStart) (inner put : Ty) (of : Option Path) (path lent : Path)
+    → x ≡ start.Qualified inner of
     → put ≡ inner → of ≡ Some path → lent ≡ path
     → tok.Text (codes "<") ∷ (told put ++ (tok.Text (codes " as ") ∷ (stream_of (about_path lent Kind).form
     ++ (tok.Text (codes ">::") ∷ [])))) ≡ stream_of (about_start x).form
@@ -183,13 +204,16 @@ pub no_args : (x : Args) (style : PathStyle) → x ≡ args.None → [] ≡ stre
 no_args x Code is = sym (ap (λ (y : _). stream_of (in_style Code (about_args y)).form) is ∙ same_args Code args_none_is)
 no_args x Kind is = sym (ap (λ (y : _). stream_of (in_style Kind (about_args y)).form) is ∙ same_args Kind args_none_is)
 
-pub code_angles : (x : Args) (style : PathStyle) (given put : List Arg) → x ≡ args.Angle given → style ≡ Code → put ≡ given
-    → tok.Text (codes "::") ∷ stream_of (angle_form (map about_arg put)) ≡ stream_of (in_style style (about_args x)).form
+pub code_angles : (x : Args) (style : PathStyle) (given put : List Arg) → x ≡ args.Angle given → style ≡ Code
+    → put ≡ given
+    → tok.Text (codes "::") ∷ stream_of (angle_form (map about_arg put))
+    ≡ stream_of (in_style style (about_args x)).form
 code_angles x style given put is code e =
     rw (e, code) (sym (ap (λ (y : _). stream_of (in_style Code (about_args y)).form) is
     ∙ same_args Code (args_angle_is given)))
 
-pub kind_angles : (x : Args) (style : PathStyle) (given put : List Arg) → x ≡ args.Angle given → style ≡ Kind → put ≡ given
+pub kind_angles : (x : Args) (style : PathStyle) (given put : List Arg) → x ≡ args.Angle given → style ≡ Kind
+    → put ≡ given
     → stream_of (angle_form (map about_arg put)) ≡ stream_of (in_style style (about_args x)).form
 kind_angles x style given put is kind e =
     rw (e, kind) (sym (ap (λ (y : _). stream_of (in_style Kind (about_args y)).form) is
@@ -207,7 +231,8 @@ pub some_output : (x : Option Ty) (one put : Ty) → x ≡ Some one → put ≡ 
     → tok.Text (codes " -> ") ∷ told put ≡ stream_of (output_form (option_map about_type x))
 some_output x one put is e = rw (is, e) refl
 
-pub round_args : (x : Args) (style : PathStyle) (inputs put : List Ty) (output : Option Ty) → x ≡ args.Round inputs output
+pub round_args : (x : Args) (style : PathStyle) (inputs put : List Ty) (output : Option Ty)
+    → x ≡ args.Round inputs output
     → put ≡ inputs
     → stream_of (comma_list true (opener Paren) (closer Paren) (type_forms (map about_type put)))
     ++ stream_of (output_form (option_map about_type output)) ≡ stream_of (in_style style (about_args x)).form
@@ -215,7 +240,8 @@ round_args x style inputs put output is e =
     rw e (part_more (comma_list true (opener Paren) (closer Paren) (type_forms (map about_type inputs)))
     (output_form (option_map about_type output)) (output_any (option_map about_type output)))
     ∙ by style
-    ∙ sym (ap (λ (y : _). stream_of (in_style style (about_args y)).form) is ∙ same_args style (args_round_is inputs output))
+    ∙ sym (ap (λ (y : _). stream_of (in_style style (about_args y)).form) is
+    ∙ same_args style (args_round_is inputs output))
   where
     by : (s : PathStyle)
         → stream_of (Part (comma_list true (opener Paren) (closer Paren) (type_forms (map about_type inputs)))
@@ -263,7 +289,8 @@ colon_any f false = refl
 constraint_by : (x : Constraint) → ConstraintView x → (q : Bool)
     → fed q (about_constraint x).form [] ≡ stream_of (about_constraint x).form
 constraint_by _ (IsEqual inner) q = rw (constraint_equal_is inner) (equals_any (Part (told_form inner) Done) q)
-constraint_by _ (IsEqualConst value) q = rw (constraint_equal_const_is value) (equals_any (Part (const_form value) Done) q)
+constraint_by _ (IsEqualConst value) q = rw (constraint_equal_const_is value)
+    (equals_any (Part (const_form value) Done) q)
 constraint_by _ (IsLimit bounds) q = rw (constraint_limit_is bounds)
     (colon_any (Part (bounds_form (map about_bound bounds)) Done) q)
 
@@ -340,7 +367,8 @@ call_type x call is = told_is x (ty.Call call) _ is (type_call_is call)
 pub paren_type : (x inner put : Ty) → x ≡ ty.Paren inner → put ≡ inner
     → tok.Text (codes "(") ∷ (told put ++ (tok.Text (codes ")") ∷ [])) ≡ told x
 paren_type x inner put is e =
-    rw e (ap (λ (s : List Tok). tok.Text (codes "(") ∷ s) (part_more (told_form inner) (piece (closer Paren ∷ [])) paren_any))
+    rw e (ap (λ (s : List Tok). tok.Text (codes "(") ∷ s)
+    (part_more (told_form inner) (piece (closer Paren ∷ [])) paren_any))
     ∙ told_is x (ty.Paren inner) _ is (type_paren_is inner)
 
 comma_any : (q : Bool) → fed q (piece (punct char.comma ∷ closer Paren ∷ [])) [] ≡ tok.Text (codes ",)") ∷ []
@@ -348,7 +376,8 @@ comma_any true = refl
 comma_any false = refl
 
 pub one_type : (x : Ty) (elements put : List Ty) (only : Ty) → x ≡ ty.Tuple elements → put ≡ elements → 1 ≤ length put
-    → length put < 2 → only ≡ get_or put 0 only → tok.Text (codes "(") ∷ (told only ++ (tok.Text (codes ",)") ∷ [])) ≡ told x
+    → length put < 2 → only ≡ get_or put 0 only
+    → tok.Text (codes "(") ∷ (told only ++ (tok.Text (codes ",)") ∷ [])) ≡ told x
 one_type x elements [] only is e some one first = absurd (omega arith)
 one_type x elements (y ∷ []) only is e some one first =
     rw first (ap (λ (s : List Tok). tok.Text (codes "(") ∷ s)
@@ -418,7 +447,8 @@ array_type x inner put tokens is e =
     ∙ part_more (told_form inner) (length_form tokens) (length_any tokens)))
     ∙ told_is x (ty.Array inner tokens) _ is (type_array_is inner tokens)
 
-pub function_type : (x : Ty) (binder : Option Binder) (is_unsafe : Bool) (abi : Option Abi) (params put : List FuncParam)
+pub function_type : (x : Ty) (binder : Option Binder) (is_unsafe : Bool) (abi : Option Abi)
+    (params put : List FuncParam)
     (variadic : Bool) (output : Option Ty) → x ≡ ty.Func binder is_unsafe abi params variadic output → put ≡ params
     → stream_of (binder_form binder Done) ++ (cond is_unsafe (tok.Text (codes "unsafe ") ∷ []) []
     ++ (stream_of (abi_form abi Done) ++ (tok.Text (codes "fn") ∷
@@ -484,7 +514,8 @@ variadic_are ps variadic bare there is =
     rw there (
     ap (λ (s : List Tok). row (list_opened (codes "(")) comma_between es ++ s)
     (sym (append_assoc lead (tok.Text (codes "...") ∷ []) variadic_close))
-    ∙ sym (append_assoc (row (list_opened (codes "(")) comma_between es) (lead ++ (tok.Text (codes "...") ∷ [])) variadic_close)
+    ∙ sym (append_assoc (row (list_opened (codes "(")) comma_between es)
+    (lead ++ (tok.Text (codes "...") ∷ [])) variadic_close)
     ∙ ap (λ (s : List Tok). s ++ variadic_close) (dots_are es bare is)
     ∙ parens_are false (es ++ dots true) false (one_there es (piece (Operator (codes "...") ∷ [])))
     ∙ ap (λ (fs : List Form). stream_of (comma_list false (opener Paren) (closer Paren) (fs ++ dots true)))
@@ -509,7 +540,8 @@ types_are xs bare is =
     ∙ ap (λ (fs : List Form). stream_of (comma_list true (opener Paren) (closer Paren) fs)) (type_forms_are xs)
 
 pub args_are : (xs : List Arg) (bare : Bool) → bare ≡ are_none (map (form_of about_arg) xs)
-    → row (list_opened (codes "<")) comma_between (map (form_of about_arg) xs) ++ list_closed true bare (codes "<>") (codes ">")
+    → row (list_opened (codes "<")) comma_between (map (form_of about_arg) xs)
+    ++ list_closed true bare (codes "<>") (codes ">")
     ≡ stream_of (angle_form (map about_arg xs))
 args_are xs bare is =
     angles_are (map (form_of about_arg) xs) bare is

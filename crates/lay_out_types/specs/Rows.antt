@@ -42,3 +42,7 @@ plus_between = tok.Break (break_of (Soft false 1)) ∷ tok.Text (codes "+ ") ∷
 abbrev pub wheres_opened : List Tok
 wheres_opened = tok.Break (break_of Never) ∷ tok.Begin true (pos 4) ∷ tok.Break (break_of (Soft true 1)) ∷
     tok.Text (codes "where") ∷ tok.Break (break_of (Soft false 1)) ∷ []
+
+-- what closes them: before a body a break where a comma may stand
+abbrev pub wheres_closed : Bool → Bool → List Tok
+wheres_closed body bare = cond bare [] (cond body (tok.Break (comma_break 1) ∷ tok.End ∷ []) (tok.End ∷ []))

@@ -2,15 +2,23 @@
 ghost use Rattle.std.specs.Prelude.{◌≡◌, ◌<◌, [], ◌∷◌, cond, pos, true, false, OnOk};
 ghost use Rattle.lay_layout.specs.Machine.{IsNested};
 ghost use Rattle.lay_layout.specs.declared.layout.Tok.TheVariants as tok;
+ghost use Rattle.lay_stream.specs.Fed.{Did};
 ghost use Rattle.lay_out_types.specs.Calls.{Adds};
 ghost use Rattle.lay_out_types.specs.Rows.{comma_between, last_break, list_closed, list_opened, plus_between};
-ghost use Rattle.lay_out_types.specs.Rows.{wheres_opened};
+ghost use Rattle.lay_out_types.specs.Rows.{wheres_closed, wheres_opened};
 
 use lay_layout::Break;
 use lay_out_tokens::notation::{
-    CLOSING_SOFT_BREAK, CLOSING_SPACE_BREAK, COMMA_CLOSING_BREAK, NEVER_BREAK, SPACE_BREAK, open_list,
+    CLOSING_SOFT_BREAK, CLOSING_SPACE_BREAK, COMMA_CLOSING_BREAK, NEVER_BREAK, SPACE_BREAK,
+    open_list,
 };
 use lay_stream::Emit;
+
+/// The break behind the last predicate before a body: one step back, of one blank, with a `,` before the newline.
+const COMMA_CLOSING_SPACE_BREAK: Break = Break {
+    blank: 1,
+    ..COMMA_CLOSING_BREAK
+};
 
 /// What stands before an element of a list: before the first one what opens the list, and else a comma.
 pub fn add_lead<E: Emit>(
@@ -25,6 +33,13 @@ pub fn add_lead<E: Emit>(
     if first {
         return open_list(out, opener);
     }
+    put_comma(out)
+}
+
+/// The comma between two elements.
+fn put_comma<E: Emit>(out: &mut E) -> Result<(), E::Fault>
+    ensures { Did E.meanings out.old comma_between result out.new }
+{
     out.text(b",")?;
     out.brk(SPACE_BREAK)
 }
@@ -91,5 +106,52 @@ pub fn add_end<E: Emit>(out: &mut E, before: Result<(), E::Fault>) -> Result<(),
     ensures { Adds E.meanings before out.old (tok.End ∷ []) result out.new }
 {
     before?;
+    out.end()
+}
+
+/// What stands before a predicate of a where clause: before the first one the word `where`, and else a comma.
+pub fn add_predicates_lead<E: Emit>(
+    out: &mut E,
+    before: Result<(), E::Fault>,
+    first: bool,
+) -> Result<(), E::Fault>
+    ensures { Adds E.meanings before out.old (cond first wheres_opened comma_between) result out.new }
+{
+    before?;
+    if first {
+        return open_predicates(out);
+    }
+    put_comma(out)
+}
+
+/// The word `where`, on the line before it or on its own.
+fn open_predicates<E: Emit>(out: &mut E) -> Result<(), E::Fault>
+    ensures { Did E.meanings out.old wheres_opened result out.new }
+{
+    out.brk(NEVER_BREAK)?;
+    out.begin(true, 4)?;
+    out.brk(CLOSING_SPACE_BREAK)?;
+    out.text(b"where")?;
+    out.brk(SPACE_BREAK)
+}
+
+/// What closes a where clause, if it has predicates: before a body a break, with a `,` before its newline.
+pub fn add_predicates_close<E: Emit>(
+    out: &mut E,
+    before: Result<(), E::Fault>,
+    body: bool,
+    bare: bool,
+) -> Result<(), E::Fault>
+    requires { OnOk before (IsNested (E.meanings.groups out.old) (wheres_closed body bare)) }
+    ensures { Adds E.meanings before out.old (wheres_closed body bare) result out.new }
+{
+    before?;
+    if bare {
+        return Ok(());
+    }
+    if body {
+        out.brk(COMMA_CLOSING_SPACE_BREAK)?;
+        return out.end();
+    }
     out.end()
 }

@@ -54,7 +54,12 @@ pub fn add_pat<E: Emit>(
         Pat::Rest => add_text(out, before, b".."),
         Pat::Call { call } => add_call(out, before, call),
         Pat::Path { path } => add_path(out, before, path, PathStyle::Code),
-        Pat::Bind { by_ref, mutable, name, of } => {
+        Pat::Bind {
+            by_ref,
+            mutable,
+            name,
+            of,
+        } => {
             let reference = add_if(out, before, *by_ref, b"ref ");
             let word = add_if(out, reference, *mutable, b"mut ");
             let name = add_word(out, word, name.raw, &name.text);
@@ -66,7 +71,11 @@ pub fn add_pat<E: Emit>(
                 },
             }
         },
-        Pat::Span { start, inclusive, end } => {
+        Pat::Span {
+            start,
+            inclusive,
+            end,
+        } => {
             let dots = add_dots(out, before, start, *inclusive);
             add_last_end(out, dots, end)
         },
@@ -360,11 +369,7 @@ fn add_group<E: Emit>(out: &mut E, before: Result<(), E::Fault>) -> Result<(), E
 }
 
 /// What stands before an alternative: a `|`, unless it is the first one.
-fn add_bar<E: Emit>(
-    out: &mut E,
-    before: Result<(), E::Fault>,
-    first: bool,
-) -> Result<(), E::Fault>
+fn add_bar<E: Emit>(out: &mut E, before: Result<(), E::Fault>, first: bool) -> Result<(), E::Fault>
     ensures { Adds E.meanings before out.old (cond first [] bar_between) result out.new }
 {
     before?;

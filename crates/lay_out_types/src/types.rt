@@ -10,9 +10,7 @@ ghost use Rattle.lay_tree.specs.nodes.Types.{about_path, about_start, about_type
 ghost use Rattle.lay_tree.specs.nodes.Types.{output_form, params_form, type_forms};
 ghost use Rattle.lay_out_types.specs.Calls.{Adds};
 
-use crate::calls::{
-    add_call, add_either, add_if, add_text, add_tokens, add_word,
-};
+use crate::calls::{add_call, add_either, add_if, add_text, add_tokens, add_word};
 use crate::lists::{add_begin, add_close, add_end, add_lead, add_plus};
 use crate::parts::{
     add_abi, add_binder, add_const, add_param_attrs, add_param_name, add_reference,
@@ -142,18 +140,18 @@ fn add_angles<E: Emit>(
 
 /// A generic argument.
 #[cycle(add_type)]
-fn add_arg<E: Emit>(
-    out: &mut E,
-    before: Result<(), E::Fault>,
-    arg: &Arg,
-) -> Result<(), E::Fault>
+fn add_arg<E: Emit>(out: &mut E, before: Result<(), E::Fault>, arg: &Arg) -> Result<(), E::Fault>
     ensures { Adds E.meanings before out.old (stream_of (about_arg arg.now).form) result out.new }
 {
     match arg {
         Arg::Region { lifetime } => add_text(out, before, lifetime.text.as_bytes()),
         Arg::Plain { ty } => add_type(out, before, ty),
         Arg::Const { value } => add_const(out, before, value),
-        Arg::Named { name, args, constraint } => {
+        Arg::Named {
+            name,
+            args,
+            constraint,
+        } => {
             let name = add_word(out, before, name.raw, &name.text);
             let args = add_args(out, name, args, PathStyle::Kind);
             add_constraint(out, args, constraint)
@@ -214,7 +212,12 @@ fn add_bound<E: Emit>(
 {
     match bound {
         Bound::Outlives { lifetime } => add_text(out, before, lifetime.text.as_bytes()),
-        Bound::Meets { parens, maybe, binder, path } => {
+        Bound::Meets {
+            parens,
+            maybe,
+            binder,
+            path,
+        } => {
             let opener = add_if(out, before, *parens, b"(");
             let question = add_if(out, opener, *maybe, b"?");
             let binder = add_binder(out, question, binder);
@@ -226,11 +229,7 @@ fn add_bound<E: Emit>(
 
 /// A type.
 #[cycle(add_type)]
-pub fn add_type<E: Emit>(
-    out: &mut E,
-    before: Result<(), E::Fault>,
-    ty: &Ty,
-) -> Result<(), E::Fault>
+pub fn add_type<E: Emit>(out: &mut E, before: Result<(), E::Fault>, ty: &Ty) -> Result<(), E::Fault>
     ensures { Adds E.meanings before out.old (stream_of (about_type ty.now).told.form) result out.new }
 {
     match ty {
@@ -259,7 +258,11 @@ pub fn add_type<E: Emit>(
             let word = add_either(out, before, *mutable, b"*mut ", b"*const ");
             add_type(out, word, inner.get())
         },
-        Ty::Ref { lifetime, mutable, inner } => {
+        Ty::Ref {
+            lifetime,
+            mutable,
+            inner,
+        } => {
             let lifetime = add_reference(out, before, lifetime);
             let word = add_if(out, lifetime, *mutable, b"mut ");
             add_type(out, word, inner.get())
@@ -276,7 +279,14 @@ pub fn add_type<E: Emit>(
             let length = add_tokens(out, semicolon, length);
             add_text(out, length, b"]")
         },
-        Ty::Func { binder, is_unsafe, abi, params, variadic, output } => {
+        Ty::Func {
+            binder,
+            is_unsafe,
+            abi,
+            params,
+            variadic,
+            output,
+        } => {
             let binder = add_binder(out, before, binder);
             let word = add_if(out, binder, *is_unsafe, b"unsafe ");
             let abi = add_abi(out, word, abi);
@@ -342,7 +352,8 @@ fn add_output<E: Emit>(
     before: Result<(), E::Fault>,
     output: &Option<Boxed<Ty>>,
 ) -> Result<(), E::Fault>
-    ensures { Adds E.meanings before out.old (stream_of (output_form (option_map about_type output.now))) result out.new }
+    ensures { let form = output_form (option_map about_type output.now) in
+        Adds E.meanings before out.old (stream_of form) result out.new }
 {
     match output {
         None => before,

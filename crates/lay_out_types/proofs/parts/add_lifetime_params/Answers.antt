@@ -17,7 +17,8 @@ loop-index-preserved g c =
 pub add_close-requires : goal.add_close-requires
 add_close-requires g c =
     may_close (codes "<") (codes "<>") (codes ">") true _ _
-    (none_left lifetime_param_form c.args.params.now _ _ c.loop-index-test.false c.is_empty.ensures) c.loop-index.invariant
+    (none_left lifetime_param_form c.args.params.now _ _ c.loop-index-test.false c.is_empty.ensures)
+    c.loop-index.invariant
 
 pub returns : goal.returns
 returns g c =

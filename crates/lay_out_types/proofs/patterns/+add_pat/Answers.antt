@@ -1,4 +1,4 @@
-use Rattle.std.proofs.Common.{List, [], ◌∷◌, ◌++◌, ◌==◌, true, false, cond, map, length, codes, pos, refl, ap, ◌∙◌}
+use Rattle.std.proofs.Common.{List, [], ◌∷◌, ◌++◌, true, false, cond, map, codes, pos, refl, ap, ◌∙◌}
 use Rattle.lay_layout.specs.declared.layout.Tok.{Tok}
 use Rattle.lay_layout.specs.declared.layout.Tok.TheVariants as tok
 use Rattle.lay_tree.specs.declared.patterns.FieldPat.{FieldPat}

@@ -1,5 +1,4 @@
 use Rattle.lay_out_types.proofs.Adding.{adds}
-use Rattle.lay_out_types.proofs.FieldLemmas.{line_is}
 use Rattle.lay_out_types.proofs.PatternLemmas.{path_end, value_end}
 use Rattle.lay_out_types.proofs.patterns.add_span_end.Goals as goal
 

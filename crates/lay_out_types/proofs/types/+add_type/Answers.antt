@@ -20,12 +20,14 @@ use Rattle.lay_out_types.proofs.types.+add_type.Goals as goal
 pub add_angles-loop-index-preserved : goal.add_angles-loop-index-preserved
 add_angles-loop-index-preserved g t c =
     adds (adds_on c.loop-index.invariant (adds_on c.add_lead-done.ensures c.add_arg-done.ensures))
-    (turn (form_of about_arg) (list_opened (codes "<")) comma_between c.args.args.now _ _ c.loop-index-test.true c.index-args-index.is _ refl)
+    (turn (form_of about_arg) (list_opened
+    (codes "<")) comma_between c.args.args.now _ _ c.loop-index-test.true c.index-args-index.is _ refl)
 
 pub add_angles-add_close-requires : goal.add_angles-add_close-requires
 add_angles-add_close-requires g t c =
     may_close (codes "<") (codes "<>") (codes ">") true _ _
-    (none_left (form_of about_arg) c.args.args.now _ _ c.loop-index-test.false c.is_empty.ensures) c.loop-index.invariant
+    (none_left (form_of about_arg) c.args.args.now _ _ c.loop-index-test.false c.is_empty.ensures)
+    c.loop-index.invariant
 
 pub add_angles-returns : goal.add_angles-returns
 add_angles-returns g t c =
@@ -80,14 +82,17 @@ add_bound-returns-in-Outlives g t c =
 
 pub add_bound-returns-in-Meets : goal.add_bound-returns-in-Meets
 add_bound-returns-in-Meets g t c =
-    adds (adds_on c.add_if-opener.ensures (adds_on c.add_if-question.ensures (adds_on c.add_binder-binder.ensures (adds_on c.add_path-path.ensures c.add_if.ensures))))
+    adds (adds_on c.add_if-opener.ensures
+    (adds_on c.add_if-question.ensures (adds_on c.add_binder-binder.ensures
+    (adds_on c.add_path-path.ensures c.add_if.ensures))))
     (of.meets_bound _ c.in-Meets.parens c.in-Meets.maybe c.in-Meets.binder c.in-Meets.path c.in-Meets.is)
 
 pub add_bounds-loop-index-preserved : goal.add_bounds-loop-index-preserved
 add_bounds-loop-index-preserved g t c =
     adds (adds_on c.loop-index.invariant (adds_on c.add_plus-done.ensures c.add_bound-done.ensures))
     (ap (λ (s : List Tok). tok.Begin false (pos 4) ∷ s)
-    (turn (form_of about_bound) [] plus_between c.args.bounds.now _ _ c.loop-index-test.true c.index-bounds-index.is _ refl))
+    (turn (form_of about_bound) [] plus_between c.args.bounds.now _ _ c.loop-index-test.true c.index-bounds-index.is _
+    refl))
 
 pub add_bounds-add_end-requires : goal.add_bounds-add_end-requires
 add_bounds-add_end-requires g t c =
@@ -124,7 +129,8 @@ pub add_params-loop-index-preserved : goal.add_params-loop-index-preserved
 add_params-loop-index-preserved g t c =
     adds (adds_on c.loop-index.invariant (adds_on c.add_lead-done.ensures (adds_on c.add_param_attrs-done.ensures
     (adds_on c.add_param_name-done.ensures c.add_type-done.ensures))))
-    (turn (form_of about_func_param) (list_opened (codes "(")) comma_between c.args.params.now _ _ c.loop-index-test.true
+    (turn (form_of about_func_param) (list_opened
+    (codes "(")) comma_between c.args.params.now _ _ c.loop-index-test.true
     c.index-params-index.is _ (of.param_turn _ c.index-params-index.result _ c.as_slice.ensures))
 
 pub add_params-add_close-requires : goal.add_params-add_close-requires
@@ -191,7 +197,9 @@ add_start-returns-in-None g t c =
 
 pub add_start-returns-in-Some : goal.add_start-returns-in-Some
 add_start-returns-in-Some g t c =
-    adds (adds_on c.add_text-opener.ensures (adds_on c.add_type-ty.ensures (adds_on c.add_text-word.ensures (adds_on c.add_path-path.ensures c.add_text-in-Some.ensures))))
+    adds (adds_on c.add_text-opener.ensures
+    (adds_on c.add_type-ty.ensures (adds_on c.add_text-word.ensures
+    (adds_on c.add_path-path.ensures c.add_text-in-Some.ensures))))
     (of.qualified_start _ c.in-Qualified.ty _ c.in-Qualified.of c.in-Some.path _ c.in-Qualified.is c.get.ensures
     c.in-Some.is c.get-in-Some.ensures)
 
@@ -248,17 +256,23 @@ add_type-returns-in-Ref g t c =
 
 pub add_type-returns-in-Slice : goal.add_type-returns-in-Slice
 add_type-returns-in-Slice g t c =
-    adds (adds_on c.add_text-opener-in-Slice.ensures (adds_on c.add_type-inner-in-Slice.ensures c.add_text-in-Slice.ensures))
+    adds (adds_on c.add_text-opener-in-Slice.ensures
+    (adds_on c.add_type-inner-in-Slice.ensures c.add_text-in-Slice.ensures))
     (of.slice_type _ c.in-Slice.inner _ c.in-Slice.is c.get-in-Slice.ensures)
 
 pub add_type-returns-in-Array : goal.add_type-returns-in-Array
 add_type-returns-in-Array g t c =
-    adds (adds_on c.add_text-opener-in-Array.ensures (adds_on c.add_type-inner-in-Array.ensures (adds_on c.add_text-semicolon.ensures (adds_on c.add_tokens-length.ensures c.add_text-in-Array.ensures))))
+    adds (adds_on c.add_text-opener-in-Array.ensures
+    (adds_on c.add_type-inner-in-Array.ensures
+    (adds_on c.add_text-semicolon.ensures (adds_on c.add_tokens-length.ensures c.add_text-in-Array.ensures))))
     (of.array_type _ c.in-Array.inner _ c.in-Array.length c.in-Array.is c.get-in-Array.ensures)
 
 pub add_type-returns-in-Func : goal.add_type-returns-in-Func
 add_type-returns-in-Func g t c =
-    adds (adds_on c.add_binder-binder.ensures (adds_on c.add_if-word-in-Func.ensures (adds_on c.add_abi-abi.ensures (adds_on c.add_text-word.ensures (adds_on c.add_params-params.ensures c.add_output.ensures)))))
+    adds (adds_on c.add_binder-binder.ensures
+    (adds_on c.add_if-word-in-Func.ensures
+    (adds_on c.add_abi-abi.ensures (adds_on c.add_text-word.ensures
+    (adds_on c.add_params-params.ensures c.add_output.ensures)))))
     (of.function_type _ c.in-Func.binder c.in-Func.is_unsafe c.in-Func.abi c.in-Func.params _ c.in-Func.variadic
     c.in-Func.output c.in-Func.is c.as_slice.ensures)
 
@@ -270,12 +284,14 @@ add_type-returns-in-Bounds g t c =
 pub add_types-loop-index-preserved : goal.add_types-loop-index-preserved
 add_types-loop-index-preserved g t c =
     adds (adds_on c.loop-index.invariant (adds_on c.add_lead-done.ensures c.add_type-done.ensures))
-    (turn told_form (list_opened (codes "(")) comma_between c.args.types.now _ _ c.loop-index-test.true c.index-types-index.is _ refl)
+    (turn told_form (list_opened (codes "(")) comma_between c.args.types.now _ _ c.loop-index-test.true
+    c.index-types-index.is _ refl)
 
 pub add_types-add_close-requires : goal.add_types-add_close-requires
 add_types-add_close-requires g t c =
     may_close (codes "(") (codes "()") (codes ")") true _ _
-    (none_left told_form c.args.types.now _ _ c.loop-index-test.false c.is_empty.ensures) c.loop-index.invariant
+    (none_left told_form c.args.types.now _ _ c.loop-index-test.false c.is_empty.ensures)
+    c.loop-index.invariant
 
 pub add_types-returns : goal.add_types-returns
 add_types-returns g t c =
