@@ -219,7 +219,8 @@ pub struct_pat : (x : Pat) (path : Path) (fields put : List FieldPat) (rest : Bo
     → put ≡ fields → stream_of (about_path path Code).form ++ stream_of (fields_form put rest) ≡ told x
 struct_pat x path fields put rest is e =
     let es = forms (map about_field_pat put) ++ rest_form rest in
-    ap (λ (fs : List Form). stream_of (about_path path Code).form ++ stream_of (braces (not rest) (fs ++ rest_form rest)))
+    ap (λ (fs : List Form). stream_of (about_path path Code).form
+    ++ stream_of (braces (not rest) (fs ++ rest_form rest)))
     (forms_are about_field_pat put)
     ∙ part_more (about_path path Code).form (braces (not rest) es) (braces_any (not rest) es)
     ∙ told_is x (pat.Struct path put rest) _ (is ∙ ap (λ (fs : List FieldPat). pat.Struct path fs rest) (sym e))

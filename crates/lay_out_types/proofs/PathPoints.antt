@@ -1,4 +1,5 @@
--- No path ends in a point: neither does a type, a bound or a list of generic arguments, by the induction of their family.
+-- No path ends in a point: neither does a type, a bound or a list of generic arguments, by the induction of their
+-- family.
 use Rattle.std.proofs.Common.{◌≡◌, Bool, true, false, not, List, [], ◌∷◌, ◌++◌, codes, map, Option, Some, None, sym, refl, subst, ap, ◌∙◌}
 use Rattle.lay_piece.specs.declared.kind.Delim.{Delim}
 use Rattle.lay_piece.specs.declared.kind.Delim.TheVariants.{Paren, Bracket, Brace}
@@ -259,7 +260,8 @@ tuple_ends (x ∷ []) = refl
 tuple_ends (x ∷ y ∷ xs) = refl
 
 func_ends : (binder : Option Binder) (is_unsafe : Bool) (abi : Option Abi) (params : List Facts) (variadic : Bool)
-    (output : Option TypeFacts) → AnyEnds output → TypeEnds (ty_facts (Ty-F.Func binder is_unsafe abi params variadic output))
+    (output : Option TypeFacts) → AnyEnds output
+    → TypeEnds (ty_facts (Ty-F.Func binder is_unsafe abi params variadic output))
 func_ends binder is_unsafe abi params variadic output k =
     let f = Piece (keyword (codes "fn") ∷ []) (Part (params_form params variadic) (output_form output)) in
     let h : Closes f = λ q. output_closes (params_form params variadic) output
@@ -275,7 +277,8 @@ type_step (Ty-F.Call call) =
 type_step (Ty-F.Paren x) =
     told TypeEnds about_type (views.rolls-Paren x.0) (laws.type_paren_is x.0) refl
 type_step (Ty-F.Tuple xs) =
-    told TypeEnds about_type (views.rolls-Tuple (types_of xs)) (laws.type_tuple_is (types_of xs)) (tuple_ends (types_of xs))
+    told TypeEnds about_type (views.rolls-Tuple (types_of xs)) (laws.type_tuple_is (types_of xs))
+    (tuple_ends (types_of xs))
 type_step Ty-F.Never = told TypeEnds about_type views.rolls-Never laws.type_never_is refl
 type_step Ty-F.Infer = told TypeEnds about_type views.rolls-Infer laws.type_infer_is refl
 type_step (Ty-F.Ptr true x) =
@@ -332,7 +335,8 @@ segments_end s (x ∷ []) q e =
 segments_end s (x ∷ y ∷ more) q e =
     leaf_ends x.0.raw x.0.text _ q (segments_end s (y ∷ more) false refl)
 
-path_from : (p : Path) (xs : List (Word × KeptArgs)) → p.segments ≡ map (λ (y : Word × KeptArgs). (y.0, y.1.0)) xs → PathIs p
+path_from : (p : Path) (xs : List (Word × KeptArgs)) → p.segments ≡ map (λ (y : Word × KeptArgs). (y.0, y.1.0)) xs
+    → PathIs p
 path_from p xs e = subst PathEnds (sym (laws.path_is p)) (record {
   go = λ s. ap (λ (ys : List (Word × Args)). ends_behind_point (ends_behind_point false (about_start p.start).form)
       (segments_form s (map about_segment ys))) e ∙ segments_end s xs _ (start_ends p.start (laws.start_view p.start));

@@ -41,7 +41,8 @@ told_is x y facts is e = sym (ap told is ∙ ap (λ (z : PatFacts). stream_of z.
 -- ---- values and ends of spans
 
 pub value_is : (v : PatValue)
-    → cond v.negative (tok.Text (codes "-") ∷ []) [] ++ stream_of (literal_form v.literal Done) ≡ stream_of (value_form v)
+    → cond v.negative (tok.Text (codes "-") ∷ []) [] ++ stream_of (literal_form v.literal Done)
+    ≡ stream_of (value_form v)
 value_is v = by v.negative
   where
     by : (n : Bool) → cond n (tok.Text (codes "-") ∷ []) [] ++ stream_of (literal_form v.literal Done)
@@ -104,7 +105,8 @@ pub dots_close : (q i : Bool) → q ≡ false
 dots_close q true is = rw is refl
 dots_close q false is = rw is refl
 
-pub dots_behind : (s : Option SpanEnd) (e : SpanEnd) (i q : Bool) → s ≡ Some e → q ≡ ends_behind_point false (end_form e)
+pub dots_behind : (s : Option SpanEnd) (e : SpanEnd) (i q : Bool) → s ≡ Some e
+    → q ≡ ends_behind_point false (end_form e)
     → stream_of (end_form e) ++ (tok.Text (text_of_bits (led q (dots i))) ∷ [])
     ≡ stream_of (first_end s (piece (dots i)))
 dots_behind s e i q is point =
@@ -180,7 +182,8 @@ pub full_bind : (x : Pat) (r m : Bool) (name : Name) (of : Option Pat) (inner pu
     ++ (stream_of (leaf_of name.raw name.text Done) ++ (tok.Text (codes " @ ") ∷ told put))) ≡ told x
 full_bind x r m name of inner put is some e =
     let f = bound_form (Some (about_pat inner)) in
-    rw e (ap (λ (s : List Tok). cond r (tok.Text (codes "ref ") ∷ []) [] ++ (cond m (tok.Text (codes "mut ") ∷ []) [] ++ s))
+    rw e (ap (λ (s : List Tok). cond r (tok.Text (codes "ref ") ∷ []) []
+    ++ (cond m (tok.Text (codes "mut ") ∷ []) [] ++ s))
     (leaf_more name.raw name.text f)
     ∙ bound_parts r m (leaf_of name.raw name.text f)
     ∙ told_is x (pat.Bind r m name (Some inner)) _ (is ∙ ap (λ (o : Option Pat). pat.Bind r m name o) some)
@@ -232,7 +235,8 @@ round_are : (xs : List Pat) (bare : Bool) → bare ≡ (length xs == 0)
 round_are xs bare e =
     ap (λ (s : List Tok). s ++ list_closed true bare (codes "()") (codes ")"))
     (row_placed (list_opened (codes "(")) comma_between xs)
-    ∙ parens_are true (pat_forms Alternatives (map about_pat xs)) bare (none_placed xs bare (none_is pat_told xs bare e))
+    ∙ parens_are true (pat_forms Alternatives (map about_pat xs)) bare
+    (none_placed xs bare (none_is pat_told xs bare e))
 
 square_are : (xs : List Pat) (bare : Bool) → bare ≡ (length xs == 0)
     → row (list_opened (codes "[")) comma_between (map pat_told xs) ++ list_closed true bare (codes "[]") (codes "]")

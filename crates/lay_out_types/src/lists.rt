@@ -14,8 +14,8 @@ use lay_out_tokens::notation::{
 };
 use lay_stream::Emit;
 
-/// The break behind the last predicate before a body: one step back, of one blank, with a `,` before the newline.
-const COMMA_CLOSING_SPACE_BREAK: Break = Break {
+/// The break before what closes a group of parts with commas: one step back, of one blank, with a `,` before the newline.
+pub const COMMA_CLOSING_SPACE_BREAK: Break = Break {
     blank: 1,
     ..COMMA_CLOSING_BREAK
 };

@@ -16,20 +16,14 @@ ghost use Rattle.lay_out_types.specs.PatternRows.{attr_line, fields_form, pat_to
 ghost use Rattle.lay_out_types.specs.Rows.{comma_between, list_closed, list_opened, row};
 
 use crate::calls::{add_call, add_either, add_if, add_literal, add_text, add_word};
-use crate::lists::{add_close, add_end, add_lead};
+use crate::lists::{COMMA_CLOSING_SPACE_BREAK, add_close, add_end, add_lead};
 use crate::types::add_path;
 use lay_layout::Break;
-use lay_out_tokens::notation::{CLOSING_SPACE_BREAK, COMMA_CLOSING_BREAK, SPACE_BREAK};
+use lay_out_tokens::notation::{CLOSING_SPACE_BREAK, SPACE_BREAK};
 use lay_out_tokens::{HARD_BREAK, put_bare_attr};
 use lay_piece::Kind;
 use lay_stream::Emit;
 use lay_tree::{Attr, FieldPat, Literal, Pat, PatValue, PathStyle, SpanEnd};
-
-/// The break before the brace that closes fields: one step back, of one blank, with a `,` before the newline.
-const COMMA_CLOSING_SPACE_BREAK: Break = Break {
-    blank: 1,
-    ..COMMA_CLOSING_BREAK
-};
 
 /// Feeds the layout of a pattern.
 pub fn put_pat<E: Emit>(out: &mut E, pat: &Pat) -> Result<(), E::Fault>

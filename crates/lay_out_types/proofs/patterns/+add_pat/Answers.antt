@@ -16,7 +16,8 @@ pub add_alternatives-loop-index-preserved : goal.add_alternatives-loop-index-pre
 add_alternatives-loop-index-preserved g t c =
     adds (adds_on c.loop-index.invariant (adds_on c.add_bar-done.ensures c.add_pat-done.ensures))
     (ap (λ (s : List Tok). tok.Begin false (pos 0) ∷ s)
-    (turn pat_told [] bar_between c.args.alternatives.now _ _ c.loop-index-test.true c.index-alternatives-index.is _ refl))
+    (turn pat_told [] bar_between c.args.alternatives.now _ _ c.loop-index-test.true
+    c.index-alternatives-index.is _ refl))
 
 pub add_alternatives-add_end-requires : goal.add_alternatives-add_end-requires
 add_alternatives-add_end-requires g t c = fields.may_end_alternatives (map pat_told _) c.loop-index.invariant

@@ -6,7 +6,8 @@ use Rattle.lay_out_types.proofs.patterns.add_brace.Goals as goal
 pub returns-in_err-text : goal.returns-in_err-text
 returns-in_err-text g c =
     went_well c.in_ok-before.was
-    (last (leave_on c.in_err-text.ensures c.from_residual-in_err-text.ensures.1) (chosen _ _ c.args.first c.if-first.true))
+    (last (leave_on c.in_err-text.ensures c.from_residual-in_err-text.ensures.1)
+    (chosen _ _ c.args.first c.if-first.true))
 
 pub returns-in_err-begin : goal.returns-in_err-begin
 returns-in_err-begin g c =
