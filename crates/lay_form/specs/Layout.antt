@@ -1,6 +1,6 @@
 -- The layout of a form: its document.
 use Rattle.std.specs.Prelude.{ℕ, zero, suc, Bool, true, false, cond, ◌&&◌, ◌==◌, List, [], ◌∷◌, ◌++◌, ℤ, pos, negsuc, codes}
-use Rattle.std.specs.Str.{chars, bytes_eq}
+use Rattle.std.specs.Str.{bytes_eq}
 use Rattle.lay_piece.specs.Characters as char
 use Rattle.lay_piece.specs.Chars.{begins}
 use Rattle.lay_piece.specs.Docs.{doc_form}
@@ -49,9 +49,9 @@ add_token kind text d = AddText text d
 -- A text that begins with a point gets a blank where it would stand directly behind the point of a Float or behind
 -- `..`. There are three such places: a step behind a literal as `1.`, a range behind one, and a base that begins with
 -- a range behind the `..` of a struct literal. The blank belongs to the text that gets it, which may stand deep within a
--- part. These say whether the text so far ends so.
+-- part. These say whether the text so far ends so. A number is ASCII, so its bytes tell it.
 abbrev pub token_ends_in_point : Kind → List ℕ → Bool
-token_ends_in_point Float text = ends_in_point (chars text)
+token_ends_in_point Float text = ends_in_point text
 token_ends_in_point _ text = false
 
 abbrev pub bits_end_in_point : Bool → List Bit → Bool

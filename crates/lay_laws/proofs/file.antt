@@ -2,6 +2,9 @@ pub mod FirstText
 pub mod Generics
 pub mod Nodes
 pub mod OneAnswer
+pub mod PatternKinds
+pub mod PatternParts
+pub mod Patterns
 pub mod Reparse
 pub mod Singles
 pub mod TypeArgs

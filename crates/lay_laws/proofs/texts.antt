@@ -3,3 +3,4 @@ pub mod CleanPieces
 pub mod DocTexts
 pub mod Laid
 pub mod LaidTokens
+pub mod PointTexts

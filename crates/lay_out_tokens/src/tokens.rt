@@ -14,6 +14,7 @@ ghost use Rattle.lay_tree.specs.tokens.Pairs as pairs;
 ghost use Rattle.lay_out_tokens.specs.Fed.{closed, closes_at_once, closing_space, empty_group, fed_closer, fed_gap};
 ghost use Rattle.lay_out_tokens.specs.Fed.{fed_opener, fed_token, opened, opening_space};
 ghost use Rattle.lay_out_tokens.specs.Neighbours.{neighbour_of, seen_of, separation_of};
+ghost use Rattle.lay_out_tokens.specs.Parts.{enclosed};
 
 use crate::neighbours::{Neighbour, kind_of};
 use crate::notation::{
@@ -50,11 +51,18 @@ fn put_list_end<E: Emit>(out: &mut E, line: bool) -> Result<(), E::Fault>
 pub fn put_group<E: Emit>(out: &mut E, group: &Group) -> Result<(), E::Fault>
     ensures { Did E.meanings out.old (stream_of (group_form group.now Done)) result out.new }
 {
-    let tokens = group.tokens.as_slice();
+    put_enclosed(out, group.delim, &group.tokens)
+}
+
+/// Feeds the layout of a token list in delimiters, which is that of a group.
+pub fn put_enclosed<E: Emit>(out: &mut E, delim: Delim, tokens: &Tokens) -> Result<(), E::Fault>
+    ensures { Did E.meanings out.old (stream_of (enclosed delim tokens.now)) result out.new }
+{
+    let tokens = tokens.as_slice();
     if tokens.is_empty() {
-        return put_empty_group(out, group.delim);
+        return put_empty_group(out, delim);
     }
-    put_full_group(out, group.delim, tokens)
+    put_full_group(out, delim, tokens)
 }
 
 /// A group of these tokens.

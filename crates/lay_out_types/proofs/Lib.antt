@@ -1,0 +1,10 @@
+pub mod Adding
+pub mod RowLemmas
+pub mod FormRows
+pub mod PartLemmas
+pub mod TypeLemmas
+pub mod PathEnds
+pub mod PatternLemmas
+pub mod FieldLemmas
+pub mod PathPoints
+pub mod ClauseLemmas

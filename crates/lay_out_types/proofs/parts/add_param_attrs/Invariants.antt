@@ -1,0 +1,10 @@
+use Rattle.std.proofs.Common.{[], map, take}
+use Rattle.lay_out_types.specs.Calls.{Adds}
+use Rattle.lay_out_types.specs.Rows.{row}
+use Rattle.lay_out_types.proofs.PartLemmas.{attr_alone}
+use Rattle.lay_out_types.proofs.parts.add_param_attrs.Given as goal
+
+-- the attributes so far are put
+abbrev pub invariant-loop-attr : goal.invariant-loop-attr
+invariant-loop-attr g l =
+    Adds g.E.Emit.meanings l.fn.before l.fn.out (row [] [] (map attr_alone (take l.attr-index l.attrs))) l.done l.out

@@ -1,0 +1,157 @@
+//! What stands round the elements of lists, bounds and where clauses.
+ghost use Rattle.std.specs.Prelude.{◌≡◌, ◌<◌, [], ◌∷◌, cond, pos, true, false, OnOk};
+ghost use Rattle.lay_layout.specs.Machine.{IsNested};
+ghost use Rattle.lay_layout.specs.declared.layout.Tok.TheVariants as tok;
+ghost use Rattle.lay_stream.specs.Fed.{Did};
+ghost use Rattle.lay_out_types.specs.Calls.{Adds};
+ghost use Rattle.lay_out_types.specs.Rows.{comma_between, last_break, list_closed, list_opened, plus_between};
+ghost use Rattle.lay_out_types.specs.Rows.{wheres_closed, wheres_opened};
+
+use lay_layout::Break;
+use lay_out_tokens::notation::{
+    CLOSING_SOFT_BREAK, CLOSING_SPACE_BREAK, COMMA_CLOSING_BREAK, NEVER_BREAK, SPACE_BREAK,
+    open_list,
+};
+use lay_stream::Emit;
+
+/// The break before what closes a group of parts with commas: one step back, of one blank, with a `,` before the newline.
+pub const COMMA_CLOSING_SPACE_BREAK: Break = Break {
+    blank: 1,
+    ..COMMA_CLOSING_BREAK
+};
+
+/// What stands before an element of a list: before the first one what opens the list, and else a comma.
+pub fn add_lead<E: Emit>(
+    out: &mut E,
+    before: Result<(), E::Fault>,
+    first: bool,
+    opener: &[u8],
+) -> Result<(), E::Fault>
+    ensures { Adds E.meanings before out.old (cond first (list_opened opener.now) comma_between) result out.new }
+{
+    before?;
+    if first {
+        return open_list(out, opener);
+    }
+    put_comma(out)
+}
+
+/// The comma between two elements.
+fn put_comma<E: Emit>(out: &mut E) -> Result<(), E::Fault>
+    ensures { Did E.meanings out.old comma_between result out.new }
+{
+    out.text(b",")?;
+    out.brk(SPACE_BREAK)
+}
+
+/// What closes a list, with a `,` behind its last element where each stands on its own line and one may stand there. A
+/// list without elements is both delimiters, as one text.
+pub fn add_close<E: Emit>(
+    out: &mut E,
+    before: Result<(), E::Fault>,
+    may: bool,
+    bare: bool,
+    both: &[u8],
+    closer: &[u8],
+) -> Result<(), E::Fault>
+    requires { OnOk before (IsNested (E.meanings.groups out.old) (list_closed may bare both.now closer.now)) }
+    ensures { Adds E.meanings before out.old (list_closed may bare both.now closer.now) result out.new }
+{
+    before?;
+    if bare {
+        return out.text(both);
+    }
+    out.brk(last_break(may))?;
+    out.text(closer)?;
+    out.end()
+}
+
+/// The break behind the last element of a list.
+fn last_break(may: bool) -> Break
+    ensures { result ≡ last_break may }
+{
+    if may {
+        return COMMA_CLOSING_BREAK;
+    }
+    CLOSING_SOFT_BREAK
+}
+
+/// What opens bounds.
+pub fn add_begin<E: Emit>(out: &mut E, before: Result<(), E::Fault>) -> Result<(), E::Fault>
+    ensures { Adds E.meanings before out.old (tok.Begin false (pos 4) ∷ []) result out.new }
+{
+    before?;
+    out.begin(false, 4)
+}
+
+/// What stands before a bound: a `+`, unless it is the first one.
+pub fn add_plus<E: Emit>(
+    out: &mut E,
+    before: Result<(), E::Fault>,
+    first: bool,
+) -> Result<(), E::Fault>
+    ensures { Adds E.meanings before out.old (cond first [] plus_between) result out.new }
+{
+    before?;
+    if first {
+        return Ok(());
+    }
+    out.brk(SPACE_BREAK)?;
+    out.text(b"+ ")
+}
+
+/// What closes bounds.
+pub fn add_end<E: Emit>(out: &mut E, before: Result<(), E::Fault>) -> Result<(), E::Fault>
+    requires { OnOk before (0 < E.meanings.groups out.old) }
+    ensures { Adds E.meanings before out.old (tok.End ∷ []) result out.new }
+{
+    before?;
+    out.end()
+}
+
+/// What stands before a predicate of a where clause: before the first one the word `where`, and else a comma.
+pub fn add_predicates_lead<E: Emit>(
+    out: &mut E,
+    before: Result<(), E::Fault>,
+    first: bool,
+) -> Result<(), E::Fault>
+    ensures { Adds E.meanings before out.old (cond first wheres_opened comma_between) result out.new }
+{
+    before?;
+    if first {
+        return open_predicates(out);
+    }
+    put_comma(out)
+}
+
+/// The word `where`, on the line before it or on its own.
+fn open_predicates<E: Emit>(out: &mut E) -> Result<(), E::Fault>
+    ensures { Did E.meanings out.old wheres_opened result out.new }
+{
+    out.brk(NEVER_BREAK)?;
+    out.begin(true, 4)?;
+    out.brk(CLOSING_SPACE_BREAK)?;
+    out.text(b"where")?;
+    out.brk(SPACE_BREAK)
+}
+
+/// What closes a where clause, if it has predicates: before a body a break, with a `,` before its newline.
+pub fn add_predicates_close<E: Emit>(
+    out: &mut E,
+    before: Result<(), E::Fault>,
+    body: bool,
+    bare: bool,
+) -> Result<(), E::Fault>
+    requires { OnOk before (IsNested (E.meanings.groups out.old) (wheres_closed body bare)) }
+    ensures { Adds E.meanings before out.old (wheres_closed body bare) result out.new }
+{
+    before?;
+    if bare {
+        return Ok(());
+    }
+    if body {
+        out.brk(COMMA_CLOSING_SPACE_BREAK)?;
+        return out.end();
+    }
+    out.end()
+}

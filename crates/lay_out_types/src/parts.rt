@@ -1,0 +1,187 @@
+//! What types and generic parameters are made of, with no type within it.
+ghost use Rattle.std.specs.Prelude.{[], ◌∷◌, map, codes, true, Some};
+ghost use Rattle.lay_piece.specs.declared.kind.Kind.TheVariants as kind;
+ghost use Rattle.lay_form.specs.Form.{Done, Fixed, Piece};
+ghost use Rattle.lay_form.specs.Notation.{comma_list};
+ghost use Rattle.lay_form.specs.Stream.{stream_of};
+ghost use Rattle.lay_tree.specs.nodes.Types.{abi_form, binder_form, const_form, greater, less, lifetime_param_form};
+ghost use Rattle.lay_tree.specs.nodes.Types.{outlived_form, param_attrs, param_name, ref_lifetime};
+ghost use Rattle.lay_out_types.specs.Calls.{Adds};
+
+use crate::calls::{add_attr, add_braces, add_either, add_literal, add_text, add_word};
+use crate::lists::{add_close, add_lead};
+use lay_stream::Emit;
+use lay_tree::{Abi, Attr, Binder, ConstArg, GivenName, Lifetime, LifetimeParam};
+
+/// Attributes of a parameter.
+pub fn add_param_attrs<E: Emit>(
+    out: &mut E,
+    before: Result<(), E::Fault>,
+    attrs: &[Attr],
+) -> Result<(), E::Fault>
+    ensures { Adds E.meanings before out.old (stream_of (param_attrs attrs.now Done)) result out.new }
+{
+    let mut done = before;
+    for attr in attrs {
+        done = add_attr(out, done, attr);
+    }
+    done
+}
+
+/// Lifetimes that another one outlives, behind a `:`; nothing without them.
+pub fn add_outlived<E: Emit>(
+    out: &mut E,
+    before: Result<(), E::Fault>,
+    lifetimes: &[Lifetime],
+) -> Result<(), E::Fault>
+    ensures { Adds E.meanings before out.old (stream_of (outlived_form lifetimes.now)) result out.new }
+{
+    let mut done = before;
+    for (index, lifetime) in lifetimes.iter().enumerate() {
+        done = add_either(out, done, index == 0, b": ", b" + ");
+        done = add_text(out, done, lifetime.text.as_bytes());
+    }
+    done
+}
+
+/// A generic parameter that is a lifetime.
+pub fn add_lifetime_param<E: Emit>(
+    out: &mut E,
+    before: Result<(), E::Fault>,
+    param: &LifetimeParam,
+) -> Result<(), E::Fault>
+    ensures { Adds E.meanings before out.old (stream_of (lifetime_param_form param.now)) result out.new }
+{
+    let attrs = add_param_attrs(out, before, param.attrs.as_slice());
+    let lifetime = add_text(out, attrs, param.lifetime.text.as_bytes());
+    add_outlived(out, lifetime, param.bounds.as_slice())
+}
+
+/// A binder, and a blank behind it.
+pub fn add_binder<E: Emit>(
+    out: &mut E,
+    before: Result<(), E::Fault>,
+    binder: &Option<Binder>,
+) -> Result<(), E::Fault>
+    ensures { Adds E.meanings before out.old (stream_of (binder_form binder.now Done)) result out.new }
+{
+    match binder {
+        None => before,
+        Some(binder) => {
+            let word = add_text(out, before, b"for");
+            let params = add_lifetime_params(out, word, binder.params.as_slice());
+            add_text(out, params, b" ")
+        },
+    }
+}
+
+/// Lifetimes in `<` and `>`.
+fn add_lifetime_params<E: Emit>(
+    out: &mut E,
+    before: Result<(), E::Fault>,
+    params: &[LifetimeParam],
+) -> Result<(), E::Fault>
+    ensures { Adds E.meanings before out.old
+        (stream_of (comma_list true less greater (map lifetime_param_form params.now))) result out.new }
+{
+    let mut done = before;
+    for (index, param) in params.iter().enumerate() {
+        done = add_lead(out, done, index == 0, b"<");
+        done = add_lifetime_param(out, done, param);
+    }
+    add_close(out, done, true, params.is_empty(), b"<>", b">")
+}
+
+/// A generic argument that is a constant.
+pub fn add_const<E: Emit>(
+    out: &mut E,
+    before: Result<(), E::Fault>,
+    value: &ConstArg,
+) -> Result<(), E::Fault>
+    ensures { Adds E.meanings before out.old (stream_of (const_form value.now)) result out.new }
+{
+    match value {
+        ConstArg::Literal(literal) => add_literal(out, before, literal),
+        ConstArg::Negative(literal) => {
+            let minus = add_text(out, before, b"-");
+            add_literal(out, minus, literal)
+        },
+        ConstArg::Braces(tokens) => add_braces(out, before, tokens),
+    }
+}
+
+/// An ABI, and a blank behind it.
+pub fn add_abi<E: Emit>(
+    out: &mut E,
+    before: Result<(), E::Fault>,
+    abi: &Option<Abi>,
+) -> Result<(), E::Fault>
+    ensures { Adds E.meanings before out.old (stream_of (abi_form abi.now Done)) result out.new }
+{
+    match abi {
+        None => before,
+        Some(abi) => {
+            let word = add_text(out, before, b"extern ");
+            match &abi.name {
+                None => word,
+                Some(name) => {
+                    let name = add_literal(out, word, name);
+                    add_text(out, name, b" ")
+                },
+            }
+        },
+    }
+}
+
+/// The `&` of a reference, and its lifetime with a blank behind it.
+pub fn add_reference<E: Emit>(
+    out: &mut E,
+    before: Result<(), E::Fault>,
+    lifetime: &Option<Lifetime>,
+) -> Result<(), E::Fault>
+    ensures { let reference = Piece (Fixed kind.Punct (codes "&") ∷ []) (ref_lifetime lifetime.now Done) in
+        Adds E.meanings before out.old (stream_of reference) result out.new }
+{
+    let reference = add_text(out, before, b"&");
+    match lifetime {
+        None => reference,
+        Some(lifetime) => {
+            let lifetime = add_text(out, reference, lifetime.text.as_bytes());
+            add_text(out, lifetime, b" ")
+        },
+    }
+}
+
+/// What a parameter of a function type is called, and a `:` behind it.
+pub fn add_param_name<E: Emit>(
+    out: &mut E,
+    before: Result<(), E::Fault>,
+    name: &Option<GivenName>,
+) -> Result<(), E::Fault>
+    ensures { Adds E.meanings before out.old (stream_of (param_name name.now Done)) result out.new }
+{
+    match name {
+        None => before,
+        Some(name) => add_given_name(out, before, name),
+    }
+}
+
+/// A name that is given, or the `_` of none, and a `:` behind it.
+fn add_given_name<E: Emit>(
+    out: &mut E,
+    before: Result<(), E::Fault>,
+    name: &GivenName,
+) -> Result<(), E::Fault>
+    ensures { Adds E.meanings before out.old (stream_of (param_name (Some name.now) Done)) result out.new }
+{
+    match name {
+        GivenName::Underscore => {
+            let name = add_text(out, before, b"_");
+            add_text(out, name, b": ")
+        },
+        GivenName::Name(name) => {
+            let name = add_word(out, before, name.raw, &name.text);
+            add_text(out, name, b": ")
+        },
+    }
+}
