@@ -4,3 +4,4 @@ pub mod Steps
 pub mod Free
 pub mod LeftPaths
 pub mod PathSteps
+pub mod GenericSteps
