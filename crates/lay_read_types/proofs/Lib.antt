@@ -2,3 +2,6 @@ pub mod Left
 pub mod Turning
 pub mod Steps
 pub mod Free
+pub mod LeftPaths
+pub mod PathSteps
+pub mod GenericSteps

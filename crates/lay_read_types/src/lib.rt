@@ -4,9 +4,14 @@
 //! is spelled and nothing else.
 #![tactic(auto)]
 
+mod bounds;
+mod generics;
 mod leads;
 mod loops;
+mod named;
 mod parts;
+mod paths;
 mod rules;
+mod wheres;
 
 pub use lay_read_tokens::{ReadNone, read_attr, read_attrs, read_call};
