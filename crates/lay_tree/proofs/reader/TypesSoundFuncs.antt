@@ -27,7 +27,6 @@ use Rattle.lay_tree.specs.declared.types.Ty.TheVariants as ty
 use Rattle.lay_tree.specs.declared.types.TypePlace.{TypePlace}
 use Rattle.lay_tree.specs.declared.types.TypePlace.TheVariants.{Bounds}
 use Rattle.lay_tree.proofs.Fronts.{texts_behind, keyword_one, opener_passed_is, closer_passed_is}
-use Rattle.lay_tree.proofs.InText.{behind}
 use Rattle.lay_tree.proofs.Parts.{bit_piece, Rows, rows_map, rows_joined, SpelledAt, Further, leaf_spelled}
 use Rattle.lay_tree.proofs.Steps.{same_some, bind_some}
 use Rattle.lay_tree.proofs.nodes.TypesLaws.{type_func_is, func_param_is}

@@ -4,10 +4,9 @@ use Rattle.std.specs.List.{list_all}
 use Rattle.std.proofs.lemmas.Bool.{and_parts, and_from}
 use Rattle.std.proofs.lemmas.List.Folds.{list_all-map}
 use Rattle.lay_piece.specs.declared.kind.Delim.TheVariants.{Paren}
-use Rattle.lay_piece.specs.declared.kind.Kind.TheVariants as kind
 use Rattle.lay_token.specs.Operators.{is_op}
 use Rattle.lay_form.specs.Form.{Fixed, Operator, Form, Done, Piece, Part, keyword, opener, closer}
-use Rattle.lay_form.specs.Notation.{B, piece, comma_list}
+use Rattle.lay_form.specs.Notation.{piece, comma_list}
 use Rattle.lay_form.specs.Spelled.{IsOperator, AreBits, MayBe, Spells}
 use Rattle.lay_form.proofs.FormLaws.{deeper as raise}
 use Rattle.lay_tree.specs.Ahead.{Tokens, first, tail, is_keyword, is_mark, is_lifetime, opens, closes, opens_args, opens_args_late}

@@ -1,9 +1,8 @@
 -- Generic parameters (Rust Reference, "Generic parameters").
 use Rattle.std.specs.Prelude.{ℕ, ◌&&◌, ◌||◌, not, Bool, true, false, List, [], ◌∷◌, map, codes, Option, Some, None}
 use Rattle.std.specs.List.{list_all}
-use Rattle.lay_form.specs.Form.{Blank, Operator, Form, Done, Piece, Part, Optional, keyword}
+use Rattle.lay_form.specs.Form.{Blank, Form, Done, Piece, Part, Optional, keyword}
 use Rattle.lay_form.specs.Notation.{comma_list}
-use Rattle.lay_form.specs.LastParts.{last_follows}
 use Rattle.lay_form.specs.Spelled as spelled
 use Rattle.lay_tree.specs.Ahead.{Tokens, first, is_mark}
 use Rattle.lay_tree.specs.Words.{is_name, leaf_of}

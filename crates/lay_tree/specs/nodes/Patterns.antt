@@ -17,7 +17,6 @@ use Rattle.lay_tree.specs.nodes.Attr.{are_attrs, attr_form}
 use Rattle.lay_tree.specs.nodes.Call.{about_call}
 use Rattle.lay_tree.specs.nodes.Facts.{Facts, forms, all_good}
 use Rattle.lay_tree.specs.nodes.Types.{about_path, colon, deeper, is_several, joined, last_refuses, literal_form, lone_word}
-use Rattle.lay_tree.specs.declared.attr.Attr.{Attr}
 use Rattle.lay_tree.specs.declared.patterns.FieldPat.{FieldPat}
 use Rattle.lay_tree.specs.declared.patterns.FieldPat.TheFolds.{fold-FieldPat, fold-Pat}
 use Rattle.lay_tree.specs.declared.patterns.FieldPat.TheOpen.{FieldPat-F, Pat-F}
@@ -27,9 +26,7 @@ use Rattle.lay_tree.specs.declared.patterns.PatPlace.TheVariants.{Alternatives, 
 use Rattle.lay_tree.specs.declared.patterns.PatValue.{PatValue}
 use Rattle.lay_tree.specs.declared.patterns.SpanEnd.{SpanEnd}
 use Rattle.lay_tree.specs.declared.patterns.SpanEnd.TheVariants as span_end
-use Rattle.lay_tree.specs.declared.token.Name.{Name}
 use Rattle.lay_tree.specs.declared.token.Word.{Word}
-use Rattle.lay_tree.specs.declared.types.Path.{Path}
 use Rattle.lay_tree.specs.declared.types.PathStyle.TheVariants.{Code}
 
 -- ---- parts with no patterns within them

@@ -1,5 +1,5 @@
 -- Where clauses (Rust Reference, "Where clauses").
-use Rattle.std.specs.Prelude.{ℕ, ◌&&◌, ◌||◌, not, Bool, true, false, List, [], ◌∷◌, map, codes, Option, Some, None, is_some}
+use Rattle.std.specs.Prelude.{ℕ, ◌&&◌, ◌||◌, not, Bool, true, List, [], ◌∷◌, map, codes, is_some}
 use Rattle.std.specs.List.{list_all}
 use Rattle.lay_token.specs.Operators.{is_op}
 use Rattle.lay_form.specs.Form.{Operator, Form, Done, Piece, Part}

@@ -1,5 +1,5 @@
 -- Reading generic parameters.
-use Rattle.std.specs.Prelude.{ℕ, suc, max, Bool, true, false, if◌then◌else◌, List, [], drop, codes, Option, Some, None}
+use Rattle.std.specs.Prelude.{ℕ, max, Bool, true, false, if◌then◌else◌, List, [], drop, codes, Some}
 use Rattle.lay_token.specs.Operators.{is_op}
 use Rattle.lay_tree.specs.Ahead.{Tokens, first, tail, is_keyword, is_lifetime, is_mark}
 use Rattle.lay_tree.specs.Begins.{begins_bound}

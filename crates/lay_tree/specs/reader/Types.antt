@@ -1,5 +1,5 @@
 -- Reading types, paths with generic arguments, and bounds.
-use Rattle.std.specs.Prelude.{ℕ, zero, suc, max, ◌&&◌, ◌||◌, not, Bool, true, false, if◌then◌else◌, List, [], ◌∷◌, length, drop, codes, Option, Some, None, is_some}
+use Rattle.std.specs.Prelude.{ℕ, zero, suc, max, ◌&&◌, ◌||◌, not, Bool, true, false, if◌then◌else◌, List, [], ◌∷◌, length, drop, codes, Option, Some, None}
 use Rattle.lay_token.specs.Operators.{is_op}
 use Rattle.lay_piece.specs.declared.kind.Delim.TheVariants.{Paren, Bracket, Brace}
 use Rattle.lay_token.specs.declared.token.Token.{Token}

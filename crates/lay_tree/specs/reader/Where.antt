@@ -1,5 +1,5 @@
 -- Reading where clauses.
-use Rattle.std.specs.Prelude.{ℕ, max, Bool, true, false, if◌then◌else◌, List, [], codes, Option, Some, None}
+use Rattle.std.specs.Prelude.{ℕ, max, Bool, false, if◌then◌else◌, [], codes, Some}
 use Rattle.lay_tree.specs.Ahead.{Tokens, first, tail, is_keyword, is_lifetime}
 use Rattle.lay_tree.specs.Begins.{begins_predicate}
 use Rattle.lay_tree.specs.reader.Generics.{met}
