@@ -1,5 +1,5 @@
 -- Calls behind other calls, one after another.
-use Rattle.std.proofs.Common.{◌≡◌, List, [], ◌∷◌, ◌++◌, Bool, true, false, cond, rules, refl, sym, ap, ◌∙◌, subst, OnOk}
+use Rattle.std.proofs.Common.{◌≡◌, List, [], ◌++◌, Bool, true, false, cond, rules, refl, sym, ◌∙◌, subst, OnOk}
 use Rattle.std.proofs.Common.{Result, Ok, Err}
 use Rattle.lay_layout.specs.Machine.{opened}
 use Rattle.lay_layout.specs.declared.layout.Tok.{Tok}

@@ -4,7 +4,7 @@ use Rattle.std.proofs.Common.{Some, None, refl, sym, ap, ◌∙◌}
 use Rattle.std.proofs.Math.Dec.{eqb-suc-zero}
 use Rattle.lay_layout.specs.declared.layout.Tok.{Tok}
 use Rattle.lay_layout.specs.declared.layout.Tok.TheVariants as tok
-use Rattle.lay_form.specs.Form.{Blank, Form, Done, Piece, Part, keyword}
+use Rattle.lay_form.specs.Form.{Blank, Done, Piece, Part, keyword}
 use Rattle.lay_form.specs.Notation.{comma_list}
 use Rattle.lay_form.specs.Stream.{fed, stream_of}
 use Rattle.lay_tree.specs.Words.{leaf_of}

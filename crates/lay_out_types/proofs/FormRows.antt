@@ -9,8 +9,8 @@ use Rattle.lay_layout.specs.declared.layout.Tok.TheVariants as tok
 use Rattle.lay_layout.proofs.Whole.{opened_document}
 use Rattle.lay_stream.specs.Fed.{Meanings}
 use Rattle.lay_stream.proofs.Calls.{opened_append}
-use Rattle.lay_form.specs.Form.{Bit, Blank, Operator, Form, Done, LastComma, Optional, Piece, Part, Soft, comma}
-use Rattle.lay_form.specs.Layout.{break_of, comma_break, document, ends_behind_point}
+use Rattle.lay_form.specs.Form.{Bit, Blank, Operator, Form, Done, LastComma, Optional, Piece, Part, comma}
+use Rattle.lay_form.specs.Layout.{comma_break, document, ends_behind_point}
 use Rattle.lay_form.specs.Notation.{B, I4, Z, each, comma_gap, comma_list, piece, predicates, where_body}
 use Rattle.lay_form.specs.Notation.{where_semicolon}
 use Rattle.lay_form.specs.Notation as notation

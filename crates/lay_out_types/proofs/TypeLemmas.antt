@@ -19,10 +19,9 @@ use Rattle.lay_tree.specs.nodes.Types.{about_constraint, about_func_param, about
 use Rattle.lay_tree.specs.nodes.Types.{args_facts, abi_form, angle_form, binder_form, bounds_form, colon, const_form}
 use Rattle.lay_tree.specs.nodes.Types.{dots, equals, greater, joined, less, in_style, meets_form, output_form}
 use Rattle.lay_tree.specs.nodes.Types.{param_attrs, param_name, params_form, ref_lifetime, segment_form, segments_form}
-use Rattle.lay_tree.specs.nodes.Types.{type_forms, tuple_form}
+use Rattle.lay_tree.specs.nodes.Types.{type_forms}
 use Rattle.lay_tree.specs.tokens.Lists.{token_list}
 use Rattle.lay_tree.specs.declared.attr.Attr.{Attr}
-use Rattle.lay_tree.specs.declared.token.GivenName.{GivenName}
 use Rattle.lay_tree.specs.declared.token.Lifetime.{Lifetime}
 use Rattle.lay_tree.specs.declared.token.Listed.{Listed}
 use Rattle.lay_tree.specs.declared.token.Name.{Name}
@@ -56,7 +55,7 @@ use Rattle.lay_tree.proofs.nodes.TypesLaws.{constraint_limit_is, func_param_is, 
 use Rattle.lay_tree.proofs.nodes.TypesLaws.{start_local_is, start_qualified_is, type_array_is, type_bounds_is}
 use Rattle.lay_tree.proofs.nodes.TypesLaws.{type_call_is, type_func_is, type_infer_is, type_never_is, type_paren_is}
 use Rattle.lay_tree.proofs.nodes.TypesLaws.{type_path_is, type_ptr_is, type_ref_is, type_slice_is, type_tuple_is}
-use Rattle.lay_out_tokens.proofs.StreamParts.{fed_more, leaf_more}
+use Rattle.lay_out_tokens.proofs.StreamParts.{leaf_more}
 use Rattle.lay_out_types.specs.Rows.{comma_between, further, list_closed, list_opened, plus_between, row}
 use Rattle.lay_out_types.proofs.FormRows.{are_none, bounds_are, list_is, one_there, part_more, row_end}
 use Rattle.lay_out_types.proofs.PartLemmas.{abi_more, angles_are, attrs_more, binder_more, param_name_more}

@@ -16,9 +16,7 @@ use crate::parts::{
     add_abi, add_binder, add_const, add_param_attrs, add_param_name, add_reference,
 };
 use lay_stream::Emit;
-use lay_tree::{
-    Arg, Args, Bound, Boxed, Constraint, FuncParam, Path, PathStart, PathStyle, Ty, Word,
-};
+use lay_tree::{Arg, Args, Bound, Boxed, Constraint, FuncParam, Path, PathStart, PathStyle, Ty};
 
 /// Feeds the layout of a path.
 pub fn put_path<E: Emit>(out: &mut E, path: &Path, style: PathStyle) -> Result<(), E::Fault>

@@ -1,8 +1,8 @@
-use Rattle.std.proofs.Common.{List, [], ◌∷◌, ◌++◌, map, cond, codes, pos, true, false, refl, sym, ap, ◌∙◌, append_assoc}
+use Rattle.std.proofs.Common.{List, [], ◌∷◌, ◌++◌, map, cond, codes, pos, true, false, refl, ap, ◌∙◌, append_assoc}
 use Rattle.lay_layout.specs.declared.layout.Tok.{Tok}
 use Rattle.lay_layout.specs.declared.layout.Tok.TheVariants as tok
 use Rattle.lay_form.specs.Stream.{stream_of}
-use Rattle.lay_tree.specs.nodes.Types.{about_arg, about_bound, about_func_param, about_start, dots}
+use Rattle.lay_tree.specs.nodes.Types.{about_arg, about_bound, about_func_param, about_start}
 use Rattle.lay_tree.specs.declared.token.Word.{Word}
 use Rattle.lay_tree.specs.declared.types.Arg.{Arg}
 use Rattle.lay_tree.specs.declared.types.Args.{Args}
