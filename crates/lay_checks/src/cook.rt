@@ -1,6 +1,7 @@
 //! Strings and their values, worked out by hand from the Rust Reference's rules.
+use crate::each::each_holds;
 use lay_cook::{Cooked, cook};
-use lay_given::{BETWEEN, each_holds, parts};
+use lay_given::{BETWEEN, parts};
 use lay_token::{NoMemory, Text, Token, piece_at};
 use std::alloc::Global;
 

@@ -1,5 +1,6 @@
 //! Inputs and texts, worked out by hand from the Rust Reference's rules and this format's.
-use lay_given::{BETWEEN, each_holds, parts, tokens};
+use crate::each::each_holds;
+use lay_given::{BETWEEN, parts, tokens};
 use lay_lex::normalise;
 use lay_token::{FormatError, Refusal, Text, Token};
 use std::alloc::{AllocError, Global};

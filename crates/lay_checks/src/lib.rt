@@ -12,6 +12,8 @@
 #[cfg(test)]
 mod cook;
 #[cfg(test)]
+mod each;
+#[cfg(test)]
 mod lex;
 #[cfg(test)]
 mod line;

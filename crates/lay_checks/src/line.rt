@@ -1,5 +1,6 @@
 //! Words and what they ask for, worked out by hand from what `clap` documents.
-use lay_given::{BETWEEN, each_holds, parts};
+use crate::each::each_holds;
+use lay_given::{BETWEEN, parts};
 use lay_io::Which;
 use lay_line::{Line, line};
 use lay_token::{NoMemory, Text};

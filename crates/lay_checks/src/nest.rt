@@ -1,5 +1,6 @@
 //! Delimiters, operators and a walk, worked out by hand from the Rust Reference's rules.
-use lay_given::{BETWEEN, each_holds, parts, tokens};
+use crate::each::each_holds;
+use lay_given::{BETWEEN, parts, tokens};
 use lay_nest::{Cursor, Nested, nest};
 use lay_token::{FormatError, Kind, Refusal};
 use std::alloc::Global;

@@ -1,6 +1,7 @@
 //! Tokens, words and documentation, worked out by hand from the Rust Reference's rules and this format's; texts and
 //! lists with ample memory; and the messages of refusals.
-use lay_given::{BETWEEN, each_holds, parts};
+use crate::each::each_holds;
+use lay_given::{BETWEEN, parts};
 use lay_token::word::word_class;
 use lay_token::{FormatError, List, NoMemory, Refusal, Text, doc_form, piece_at};
 use std::alloc::{AllocError, Global};

@@ -7,7 +7,6 @@ ghost use Rattle.std.specs.Prelude.{IfOk, IsUtf8};
 use lay_lex::{lex, normalise};
 use lay_token::{FormatError, List, NoMemory, Token};
 use std::alloc::Global;
-use std::process::Abort;
 
 /// Stands between the rows of one literal. It begins no token.
 pub const BETWEEN: char = '§';
@@ -17,22 +16,6 @@ pub fn parts(row: &str) -> (&str, &str) {
     match row.split_once('→') {
         Some(both) => both,
         None => (row, "no arrow"),
-    }
-}
-
-/// Each row of a literal holds, rows that stand between these characters. The function is lent as a pointer, so that the
-/// loop and its message are proved once, and not in each test.
-pub fn each_holds(
-    rt: &impl Abort,
-    alloc: Global,
-    rows: &str,
-    between: char,
-    holds: fn(Global, &str) -> bool,
-)
-    requires { IsAlwaysCallable holds }
-{
-    for row in rows.split(between) {
-        assert!(rt; holds(alloc, row), "{row}");
     }
 }
 

@@ -1,0 +1,21 @@
+//! All rows of a table.
+ghost use Rattle.std.specs.Fn.{IsAlwaysCallable};
+
+use std::alloc::Global;
+use std::process::Abort;
+
+/// Each row of a literal holds, rows that stand between these characters. The function is lent as a pointer, so that the
+/// loop and its message are proved once, and not in each test.
+pub fn each_holds(
+    rt: &impl Abort,
+    alloc: Global,
+    rows: &str,
+    between: char,
+    holds: fn(Global, &str) -> bool,
+)
+    requires { IsAlwaysCallable holds }
+{
+    for row in rows.split(between) {
+        assert!(rt; holds(alloc, row), "{row}");
+    }
+}
