@@ -1,10 +1,10 @@
 -- Calls behind other calls, one after another.
-use Rattle.std.proofs.Common.{◌≡◌, List, [], ◌++◌, Bool, true, false, cond, rules, refl, sym, ◌∙◌, subst, OnOk}
+use Rattle.std.proofs.Common.{◌≡◌, List, [], ◌++◌, Bool, true, false, cond, refl, sym, ◌∙◌, subst, OnOk}
 use Rattle.std.proofs.Common.{Result, Ok, Err}
 use Rattle.lay_layout.specs.Machine.{opened}
 use Rattle.lay_layout.specs.declared.layout.Tok.{Tok}
 use Rattle.lay_stream.specs.Fed.{Meanings, Did}
-use Rattle.lay_stream.proofs.Calls.{stream_on, stream_cut}
+use Rattle.lay_stream.proofs.Calls.{no_call, stream_on, stream_cut}
 use Rattle.lay_out_types.specs.Calls.{Adds}
 
 after_all : {S F T : Type 0} {m : Meanings S F} {a b c : S} {s t : List Tok} {r : Result T F} (q : Result T F)
@@ -30,7 +30,11 @@ adds {m} {a} {b} {p} {q} h e = subst (λ (y : List Tok). Adds m p a y q b) e h
 
 -- no call at all
 pub adds_nothing : {S F T : Type 0} {m : Meanings S F} {a : S} {p : Result T F} → Adds m p a [] p a
-adds_nothing = search rules
+adds_nothing {m} {a} = record {
+  goes_on = λ x e. subst (λ (q : Result _ _). Did m a [] q a) (sym e) no_call;
+  hands_on = λ f e. e;
+  stays = λ f e. refl;
+}
 
 -- calls behind calls that went well
 pub went_well : {S F T : Type 0} {m : Meanings S F} {a b : S} {ts : List Tok} {p q : Result T F} {x : T} → p ≡ Ok x

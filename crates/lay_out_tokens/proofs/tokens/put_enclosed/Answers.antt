@@ -11,5 +11,6 @@ not_empty (t ∷ ts) empty e h k = omega arith
 pub returns : goal.returns
 returns g c =
     last c.put_full_group.ensures
-    (full_group (record { delim = c.args.delim; tokens = c.args.tokens.now }) _ c.as_slice-tokens.ensures.tokens c.as_slice-tokens.ensures.balanced
+    (full_group (record { delim = c.args.delim; tokens = c.args.tokens.now }) _ c.as_slice-tokens.ensures.tokens
+    c.as_slice-tokens.ensures.balanced
     (not_empty _ _ c.is_empty.ensures c.if-is_empty.false))
