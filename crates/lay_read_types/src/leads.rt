@@ -57,7 +57,11 @@ fn lead_of_word(word: &[u8]) -> Option<Lead>
         Some(Lead::Impl)
     } else if word == b"dyn".as_slice() {
         Some(Lead::Dyn)
-    } else if word == b"fn".as_slice() || word == b"unsafe".as_slice() || word == b"extern".as_slice() || word == b"for".as_slice() {
+    } else if word == b"fn".as_slice()
+        || word == b"unsafe".as_slice()
+        || word == b"extern".as_slice()
+        || word == b"for".as_slice()
+    {
         Some(Lead::Func)
     } else {
         None
@@ -136,7 +140,8 @@ fn is_literal(token: &Token) -> bool
     ensures { result ≡ words.is_literal token.now.kind token.now.text }
 {
     match token.kind {
-        Kind::Ident => token.text.as_bytes() == b"true".as_slice() || token.text.as_bytes() == b"false".as_slice(),
+        Kind::Ident => token.text.as_bytes() == b"true".as_slice()
+            || token.text.as_bytes() == b"false".as_slice(),
         Kind::Char
         | Kind::Str
         | Kind::RawStr

@@ -4,9 +4,17 @@
 //! is spelled and nothing else.
 #![tactic(auto)]
 
+mod arguments;
+mod bounds;
+mod knot;
 mod leads;
 mod loops;
 mod parts;
+mod paths;
+mod reads;
 mod rules;
+mod types;
 
+pub use knot::type_ahead;
 pub use lay_read_tokens::{ReadNone, read_attr, read_attrs, read_call};
+pub use reads::read_type;

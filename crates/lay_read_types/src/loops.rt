@@ -9,7 +9,9 @@ ghost use Rattle.lay_read_types.specs.Answers.{AreFoundOpen, ReadsParts, begins_
 
 use crate::leads::{begins_param, begins_predicate};
 use lay_read_tokens::found::greater;
-use lay_read_tokens::front::{is_at_closer, is_at_mark, takes_closer, takes_colons, takes_mark, takes_op};
+use lay_read_tokens::front::{
+    is_at_closer, is_at_mark, takes_closer, takes_colons, takes_mark, takes_op,
+};
 use lay_read_tokens::stop::keep;
 use lay_read_tokens::{Ahead, Found, ReadNone};
 use lay_token::{Delim, List};

@@ -57,7 +57,11 @@ impl Part<Lifetime, ()> for Lifetimes {
 }
 
 /// A lifetime, which needs no depth.
-fn free_lifetime(alloc: &Global, at: &mut Ahead<'_>, _place: ()) -> Result<Found<Lifetime>, ReadNone>
+fn free_lifetime(
+    alloc: &Global,
+    at: &mut Ahead<'_>,
+    _place: (),
+) -> Result<Found<Lifetime>, ReadNone>
     ensures read { IsFound (needless reader.lifetime 0 at.old) result at.new }
     ensures within { IfOk result (λ found. found.need ≤ 0) }
 {

@@ -1,0 +1,199 @@
+//! Paths.
+ghost use Rattle.std.specs.Prelude.{◌≡◌, ◌≤◌, codes, IfOk};
+ghost use Rattle.lay_tree.specs.Ahead.{first, is_keyword, tail};
+ghost use Rattle.lay_tree.specs.nodes.Types.{about_args};
+ghost use Rattle.lay_tree.specs.reader.Types as reader;
+ghost use Rattle.lay_tree.specs.reader.Types.{within};
+ghost use Rattle.lay_read_tokens.specs.Answers.{IsFound};
+ghost use Rattle.lay_read_types.specs.Answers.{AreDeeper, gathered};
+
+use crate::loops::{Joint, Part, read_chain};
+use crate::rules::{Rules, both};
+use lay_read_tokens::found::greater;
+use lay_read_tokens::front::{is_at_mark, takes_colons, takes_keyword, takes_mark};
+use lay_read_tokens::names::read_word;
+use lay_read_tokens::stop::boxed;
+use lay_read_tokens::{Ahead, Found, ReadNone};
+use lay_token::List;
+use lay_tree::{Args, Boxed, Constraint, Path, PathStart, PathStyle, Ty, TypePlace, Word};
+use std::alloc::Global;
+
+/// Segments, as parts of a path.
+pub struct Segments;
+
+impl Part<(Word, Args), PathStyle> for Segments {
+    ghost reads = { λ depth style ts. reader.segment (within depth) style ts };
+}
+
+impl<
+    F: Fn(Global, &mut Ahead<'_>, TypePlace, u32) -> Result<Found<Ty>, ReadNone>,
+    G: Fn(Global, &mut Ahead<'_>, u32) -> Result<Found<Constraint>, ReadNone>,
+> Rules<F, G> {
+    /// A segment.
+    #[tactic(auto, unfolding(lay_tree::specs::reader::Types::segment))]
+    fn segment(&self, at: &mut Ahead<'_>, style: PathStyle) -> Result<Found<(Word, Args)>, ReadNone>
+        requires { AreDeeper self.now.depth (F.pre self.now.types) (F.post self.now.types) (G.pre self.now.constraints) (G.post self.now.constraints) }
+        ensures read { IsFound (reader.segment (within self.now.depth) style at.old) result at.new }
+        ensures within { IfOk result (λ found. found.need ≤ self.now.depth) }
+    {
+        let word = read_word(self.alloc, at)?;
+        let args = self.args(at, style)?;
+        Ok(Found {
+            need: args.need,
+            node: (word, args.node),
+        })
+    }
+
+    /// Segments, one at least.
+    #[tactic(auto, using(crate::proofs::Left::segment_leaves))]
+    fn segments(
+        &self,
+        at: &mut Ahead<'_>,
+        style: PathStyle,
+    ) -> Result<Found<List<(Word, Args)>>, ReadNone>
+        requires { AreDeeper self.now.depth (F.pre self.now.types) (F.post self.now.types) (G.pre self.now.constraints) (G.post self.now.constraints) }
+        ensures read { IsFound (gathered (reader.chain (codes "::") (reader.segment (within self.now.depth) style) at.old)) result at.new }
+        ensures within { IfOk result (λ found. found.need ≤ self.now.depth) }
+    {
+        read_chain::<Segments, Rules<F, G>, (Word, Args), PathStyle, _>(
+            self.alloc,
+            at,
+            self.depth,
+            Joint::Colons,
+            self,
+            Rules::segment,
+            style,
+        )
+    }
+
+    /// A trait, which is one level deeper, as a type is.
+    fn trait_path(&self, at: &mut Ahead<'_>) -> Result<Found<Path>, ReadNone>
+        requires { AreDeeper self.now.depth (F.pre self.now.types) (F.post self.now.types) (G.pre self.now.constraints) (G.post self.now.constraints) }
+        ensures read { IsFound (reader.trait_path (within self.now.depth) at.old) result at.new }
+        ensures within { IfOk result (λ found. found.need ≤ self.now.depth) }
+    {
+        let Found { node, need } = self.inner(at, TypePlace::NoBounds)?;
+        match into_path(node) {
+            Some(node) => Ok(Found { node, need }),
+            None => Err(ReadNone::NoReading),
+        }
+    }
+
+    /// The trait that a type is taken as, if there is one.
+    fn trait_if(&self, at: &mut Ahead<'_>) -> Result<Found<Option<Boxed<Path>>>, ReadNone>
+        requires { AreDeeper self.now.depth (F.pre self.now.types) (F.post self.now.types) (G.pre self.now.constraints) (G.post self.now.constraints) }
+        ensures read { IsFound (reader.if_read (first (is_keyword (codes "as")) at.old) (λ ts. reader.trait_path (within self.now.depth) (tail ts)) at.old) result at.new }
+        ensures within { IfOk result (λ found. found.need ≤ self.now.depth) }
+    {
+        if !takes_keyword(at, b"as") {
+            return Ok(Found {
+                node: None,
+                need: 0,
+            });
+        }
+        let found = self.trait_path(at)?;
+        let path = boxed(self.alloc, found.node)?;
+        Ok(Found {
+            node: Some(path),
+            need: found.need,
+        })
+    }
+
+    /// A type in `<` and `>::`, and the trait that it is taken as.
+    #[tactic(auto, unfolding(lay_tree::specs::reader::Types::qualified))]
+    fn qualified(&self, at: &mut Ahead<'_>) -> Result<Found<PathStart>, ReadNone>
+        requires { AreDeeper self.now.depth (F.pre self.now.types) (F.post self.now.types) (G.pre self.now.constraints) (G.post self.now.constraints) }
+        ensures read { IsFound (reader.qualified (within self.now.depth) at.old) result at.new }
+        ensures within { IfOk result (λ found. found.need ≤ self.now.depth) }
+    {
+        if !takes_mark(at, b"<") {
+            return Err(ReadNone::NoReading);
+        }
+        let ty = self.inner(at, TypePlace::Bounds)?;
+        let (ty, of) = both(ty, self.trait_if(at))?;
+        if !takes_mark(at, b">") || !takes_colons(at) {
+            return Err(ReadNone::NoReading);
+        }
+        let need = greater(ty.need, of.need);
+        let (of, ty) = both(of.node, boxed(self.alloc, ty.node))?;
+        Ok(Found {
+            node: PathStart::Qualified { ty, of },
+            need,
+        })
+    }
+
+    /// What a path begins with.
+    fn path_start(&self, at: &mut Ahead<'_>) -> Result<Found<PathStart>, ReadNone>
+        requires { AreDeeper self.now.depth (F.pre self.now.types) (F.post self.now.types) (G.pre self.now.constraints) (G.post self.now.constraints) }
+        ensures read { IsFound (reader.path_start (within self.now.depth) at.old) result at.new }
+        ensures within { IfOk result (λ found. found.need ≤ self.now.depth) }
+    {
+        if is_at_mark(at, b"<") {
+            self.qualified(at)
+        } else if takes_colons(at) {
+            Ok(Found {
+                node: PathStart::Global,
+                need: 0,
+            })
+        } else {
+            Ok(Found {
+                node: PathStart::Local,
+                need: 0,
+            })
+        }
+    }
+
+    /// A path.
+    #[tactic(auto, unfolding(lay_tree::specs::reader::Types::path))]
+    pub fn path(&self, at: &mut Ahead<'_>, style: PathStyle) -> Result<Found<Path>, ReadNone>
+        requires { AreDeeper self.now.depth (F.pre self.now.types) (F.post self.now.types) (G.pre self.now.constraints) (G.post self.now.constraints) }
+        ensures read { IsFound (reader.path (within self.now.depth) style at.old) result at.new }
+        ensures within { IfOk result (λ found. found.need ≤ self.now.depth) }
+    {
+        let start = self.path_start(at)?;
+        let (start, segments) = both(start, self.segments(at, style))?;
+        if !returns_last(segments.node.as_slice()) {
+            return Err(ReadNone::NoReading);
+        }
+        Ok(Found {
+            need: greater(start.need, segments.need),
+            node: Path {
+                start: start.node,
+                segments: segments.node,
+            },
+        })
+    }
+}
+
+/// The path that a type is, if it is one.
+fn into_path(ty: Ty) -> Option<Path>
+    ensures { result ≡ reader.as_path ty }
+{
+    match ty {
+        Ty::Path { path } => Some(path),
+        _ => None,
+    }
+}
+
+/// Whether generic arguments have a return type.
+#[tactic(auto, using(crate::proofs::Steps::returns_none, crate::proofs::Steps::returns_angle, crate::proofs::Steps::returns_round))]
+fn has_output(args: &Args) -> bool
+    ensures { result ≡ (about_args args.now).returns }
+{
+    match args {
+        Args::None => false,
+        Args::Angle { .. } => false,
+        Args::Round { output, .. } => output.is_some(),
+    }
+}
+
+/// Whether a return type stands on the last segment alone.
+fn returns_last(segments: &[(Word, Args)]) -> bool
+    ensures { result ≡ reader.returns_last segments.now }
+{
+    match segments {
+        [] => true,
+        [_] => true,
+        [first, _, ..] => !has_output(&first.1) && returns_last(&segments[1..]),
+    }
+}
