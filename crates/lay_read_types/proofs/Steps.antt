@@ -6,6 +6,7 @@ use Rattle.lay_token.specs.declared.token.Token.{Token}
 use Rattle.lay_tree.specs.Ahead.{Tokens, first, tail, is_mark}
 use Rattle.lay_tree.specs.Begins.{lead_by, lead_at, lead_of_word}
 use Rattle.lay_tree.specs.nodes.Types.{ArgsFacts, about_args, about_type}
+use Rattle.lay_tree.specs.reader.Generics.{generics, one_param}
 use Rattle.lay_tree.specs.reader.Loops.{Got, Read, ◌>>=◌, elements}
 use Rattle.lay_tree.specs.reader.Types.{Within, within, angle, one_arg, returns_last, type_at, type_by, constraint_by, literal, is_literal_token, const, negative, braces}
 use Rattle.lay_tree.specs.declared.token.Word.{Word}
@@ -117,3 +118,13 @@ pub short_last : (xs : List (Word × Args)) → length xs < 2 → returns_last x
 short_last [] h = refl
 short_last (x ∷ []) h = refl
 short_last (x ∷ y ∷ xs) h = absurd (omega arith)
+
+-- ---- generic parameters
+
+pub generics_lost : (w : Within) (ts mid : Tokens) → first (is_mark (codes "<")) ts ≡ true → mid ≡ tail ts
+    → gathered (elements (is_mark (codes ">")) (one_param w) mid) ≡ None → generics w ts ≡ None
+unfolding generics
+generics_lost w ts mid h e n =
+    let here : gathered (elements (is_mark (codes ">")) (one_param w) (tail ts)) ≡ None =
+    ap (λ us. gathered (elements (is_mark (codes ">")) (one_param w) us)) (sym e) ∙ n in
+    rw h (gathered_lost (elements (is_mark (codes ">")) (one_param w) (tail ts)) _ here)

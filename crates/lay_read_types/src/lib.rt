@@ -6,6 +6,7 @@
 
 mod arguments;
 mod bounds;
+mod generics;
 mod knot;
 mod leads;
 mod loops;
@@ -14,6 +15,7 @@ mod paths;
 mod reads;
 mod rules;
 mod types;
+mod wheres;
 
 pub use knot::type_ahead;
 pub use lay_read_tokens::{ReadNone, read_attr, read_attrs, read_call};
