@@ -1,5 +1,5 @@
 -- What readers ask for and what they answer.
-use Rattle.std.specs.Prelude.{ℕ, ◌≡◌, ◌+◌, ◌^◌, ◌<◌, ◌≤◌, Bool, true, false, if◌then◌else◌, List, [], ◌∷◌, codes, Option, Some, None, Result, Ok, Err, drop, IfOk}
+use Rattle.std.specs.Prelude.{ℕ, ◌≡◌, ◌≤◌, Bool, true, false, if◌then◌else◌, List, [], ◌∷◌, codes, Option, Some, None, Result, Ok, Err, drop, IfOk}
 use Rattle.std.specs.declared.alloc.Global.{Global}
 use denote.Ref.{Bor, MutBor}
 use Rattle.lay_token.specs.declared.token.Token.{Token}
@@ -29,12 +29,11 @@ use Rattle.lay_read_types.specs.declared.loops.Joint.TheVariants as joint
 use Rattle.lay_read_types.specs.declared.loops.Opening.{Opening}
 use Rattle.lay_read_types.specs.declared.loops.Opening.TheVariants as opening
 
--- These functions read types and what is asked of a name at this depth, and the depth one above is a number.
+-- These functions read types and what is asked of a name at this depth.
 pub record AreDeeper (depth : ℕ) (may_read : Global → MutBor Tokens → TypePlace → ℕ → Type 0)
     (reads : Global → MutBor Tokens → TypePlace → ℕ → Result (Found Ty) ReadNone → MutBor Tokens → Type 0)
     (may_ask : Global → MutBor Tokens → ℕ → Type 0)
     (asks : Global → MutBor Tokens → ℕ → Result (Found Constraint) ReadNone → MutBor Tokens → Type 0) : Type 0 where
-  pub room : depth + 1 < 2 ^ 32
   pub readable : (alloc : Global) (old : MutBor Tokens) (place : TypePlace) → may_read alloc old place depth
   pub read : (alloc : Global) (old new : MutBor Tokens) (place : TypePlace) (r : Result (Found Ty) ReadNone)
       → reads alloc old place depth r new → IsFound ((within depth).types place old.now) r new.now

@@ -1,5 +1,5 @@
 //! Bounds, and what is asked of a name among generic arguments.
-ghost use Rattle.std.specs.Prelude.{◌≤◌, ◌+◌, IfOk};
+ghost use Rattle.std.specs.Prelude.{◌<◌, ◌≤◌, ◌+◌, ◌^◌, IfOk};
 ghost use Rattle.lay_tree.specs.reader.Types as reader;
 ghost use Rattle.lay_tree.specs.reader.Types.{within};
 ghost use Rattle.lay_read_tokens.specs.Answers.{IsFound};
@@ -116,7 +116,8 @@ impl<
 
     /// What a name is equal to, behind its `=`.
     fn equal(&self, at: &mut Ahead<'_>) -> Result<Found<Constraint>, ReadNone>
-        requires { AreDeeper self.now.depth (F.pre self.now.types) (F.post self.now.types) (G.pre self.now.constraints) (G.post self.now.constraints) }
+        requires deeper { AreDeeper self.now.depth (F.pre self.now.types) (F.post self.now.types) (G.pre self.now.constraints) (G.post self.now.constraints) }
+        requires room { self.now.depth + 1 < 2 ^ 32 }
         ensures read { IsFound (reader.equal (within self.now.depth) at.old) result at.new }
         ensures within { IfOk result (λ found. found.need ≤ self.now.depth + 1) }
     {
@@ -137,7 +138,8 @@ impl<
     /// What is asked of a name among generic arguments.
     #[tactic(auto, unfolding(lay_tree::specs::reader::Types::constraint_by))]
     pub fn constraint(&self, at: &mut Ahead<'_>) -> Result<Found<Constraint>, ReadNone>
-        requires { AreDeeper self.now.depth (F.pre self.now.types) (F.post self.now.types) (G.pre self.now.constraints) (G.post self.now.constraints) }
+        requires deeper { AreDeeper self.now.depth (F.pre self.now.types) (F.post self.now.types) (G.pre self.now.constraints) (G.post self.now.constraints) }
+        requires room { self.now.depth + 1 < 2 ^ 32 }
         ensures read { IsFound (reader.constraint_by (within self.now.depth) at.old) result at.new }
         ensures within { IfOk result (λ found. found.need ≤ self.now.depth + 1) }
     {

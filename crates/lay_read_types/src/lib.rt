@@ -17,6 +17,6 @@ mod rules;
 mod types;
 mod wheres;
 
-pub use knot::type_ahead;
+pub use knot::{args_ahead, bounds_ahead, generics_ahead, path_ahead, type_ahead, wheres_ahead};
 pub use lay_read_tokens::{ReadNone, read_attr, read_attrs, read_call};
 pub use reads::read_type;

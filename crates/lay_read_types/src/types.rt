@@ -50,7 +50,8 @@ impl<
 > Rules<F, G> {
     /// A type at its place, told from what begins it.
     pub fn type_by(&self, at: &mut Ahead<'_>, place: TypePlace) -> Result<Found<Ty>, ReadNone>
-        requires { AreDeeper self.now.depth (F.pre self.now.types) (F.post self.now.types) (G.pre self.now.constraints) (G.post self.now.constraints) }
+        requires deeper { AreDeeper self.now.depth (F.pre self.now.types) (F.post self.now.types) (G.pre self.now.constraints) (G.post self.now.constraints) }
+        requires room { self.now.depth + 1 < 2 ^ 32 }
         ensures read { IsFound (reader.type_by (within self.now.depth) place (lead_at at.old) at.old) result at.new }
         ensures within { IfOk result (λ found. found.need ≤ self.now.depth + 1) }
     {
@@ -72,7 +73,8 @@ impl<
         place: TypePlace,
         lead: Lead,
     ) -> Result<Found<Ty>, ReadNone>
-        requires { AreDeeper self.now.depth (F.pre self.now.types) (F.post self.now.types) (G.pre self.now.constraints) (G.post self.now.constraints) }
+        requires deeper { AreDeeper self.now.depth (F.pre self.now.types) (F.post self.now.types) (G.pre self.now.constraints) (G.post self.now.constraints) }
+        requires room { self.now.depth + 1 < 2 ^ 32 }
         ensures read { IsFound (marked (within self.now.depth) place lead at.old) result at.new }
         ensures within { IfOk result (λ found. found.need ≤ self.now.depth + 1) }
     {
@@ -117,7 +119,8 @@ impl<
     /// What stands behind a `(`.
     #[tactic(auto, unfolding(lay_tree::specs::reader::Types::paren_type))]
     fn paren_type(&self, at: &mut Ahead<'_>) -> Result<Found<Ty>, ReadNone>
-        requires { AreDeeper self.now.depth (F.pre self.now.types) (F.post self.now.types) (G.pre self.now.constraints) (G.post self.now.constraints) }
+        requires deeper { AreDeeper self.now.depth (F.pre self.now.types) (F.post self.now.types) (G.pre self.now.constraints) (G.post self.now.constraints) }
+        requires room { self.now.depth + 1 < 2 ^ 32 }
         ensures read { IsFound (reader.paren_type (within self.now.depth) at.old) result at.new }
         ensures within { IfOk result (λ found. found.need ≤ self.now.depth + 1) }
     {
@@ -136,6 +139,7 @@ impl<
     /// What stands behind a `(` and a type.
     fn paren_rest(&self, at: &mut Ahead<'_>, first: Found<Ty>) -> Result<Found<Ty>, ReadNone>
         requires deeper { AreDeeper self.now.depth (F.pre self.now.types) (F.post self.now.types) (G.pre self.now.constraints) (G.post self.now.constraints) }
+        requires room { self.now.depth + 1 < 2 ^ 32 }
         requires within { first.need ≤ self.now.depth }
         ensures read { IsFound (reader.paren_by (within self.now.depth) (first.node, first.need) at.old) result at.new }
         ensures within { IfOk result (λ found. found.need ≤ self.now.depth + 1) }
@@ -161,7 +165,8 @@ impl<
     /// What stands behind a `[`.
     #[tactic(auto, unfolding(lay_tree::specs::reader::Types::bracket_type))]
     fn bracket_type(&self, at: &mut Ahead<'_>) -> Result<Found<Ty>, ReadNone>
-        requires { AreDeeper self.now.depth (F.pre self.now.types) (F.post self.now.types) (G.pre self.now.constraints) (G.post self.now.constraints) }
+        requires deeper { AreDeeper self.now.depth (F.pre self.now.types) (F.post self.now.types) (G.pre self.now.constraints) (G.post self.now.constraints) }
+        requires room { self.now.depth + 1 < 2 ^ 32 }
         ensures read { IsFound (reader.bracket_type (within self.now.depth) at.old) result at.new }
         ensures within { IfOk result (λ found. found.need ≤ self.now.depth + 1) }
     {
@@ -183,7 +188,8 @@ impl<
     /// What stands behind a `&`.
     #[tactic(auto, unfolding(lay_tree::specs::reader::Types::reference_type))]
     fn reference_type(&self, at: &mut Ahead<'_>) -> Result<Found<Ty>, ReadNone>
-        requires { AreDeeper self.now.depth (F.pre self.now.types) (F.post self.now.types) (G.pre self.now.constraints) (G.post self.now.constraints) }
+        requires deeper { AreDeeper self.now.depth (F.pre self.now.types) (F.post self.now.types) (G.pre self.now.constraints) (G.post self.now.constraints) }
+        requires room { self.now.depth + 1 < 2 ^ 32 }
         ensures read { IsFound (reader.reference_type (within self.now.depth) at.old) result at.new }
         ensures within { IfOk result (λ found. found.need ≤ self.now.depth + 1) }
     {
@@ -205,7 +211,8 @@ impl<
     /// What stands behind a `*`.
     #[tactic(auto, unfolding(lay_tree::specs::reader::Types::pointer_type))]
     fn pointer_type(&self, at: &mut Ahead<'_>) -> Result<Found<Ty>, ReadNone>
-        requires { AreDeeper self.now.depth (F.pre self.now.types) (F.post self.now.types) (G.pre self.now.constraints) (G.post self.now.constraints) }
+        requires deeper { AreDeeper self.now.depth (F.pre self.now.types) (F.post self.now.types) (G.pre self.now.constraints) (G.post self.now.constraints) }
+        requires room { self.now.depth + 1 < 2 ^ 32 }
         ensures read { IsFound (reader.pointer_type (within self.now.depth) at.old) result at.new }
         ensures within { IfOk result (λ found. found.need ≤ self.now.depth + 1) }
     {
@@ -227,7 +234,8 @@ impl<
         dynamic: bool,
         place: TypePlace,
     ) -> Result<Found<Ty>, ReadNone>
-        requires { AreDeeper self.now.depth (F.pre self.now.types) (F.post self.now.types) (G.pre self.now.constraints) (G.post self.now.constraints) }
+        requires deeper { AreDeeper self.now.depth (F.pre self.now.types) (F.post self.now.types) (G.pre self.now.constraints) (G.post self.now.constraints) }
+        requires room { self.now.depth + 1 < 2 ^ 32 }
         ensures read { IsFound (reader.bounds_type (within self.now.depth) dynamic place at.old) result at.new }
         ensures within { IfOk result (λ found. found.need ≤ self.now.depth + 1) }
     {
@@ -243,7 +251,8 @@ impl<
 
     /// A macro call, or a path.
     fn path_or_call(&self, at: &mut Ahead<'_>) -> Result<Found<Ty>, ReadNone>
-        requires { AreDeeper self.now.depth (F.pre self.now.types) (F.post self.now.types) (G.pre self.now.constraints) (G.post self.now.constraints) }
+        requires deeper { AreDeeper self.now.depth (F.pre self.now.types) (F.post self.now.types) (G.pre self.now.constraints) (G.post self.now.constraints) }
+        requires room { self.now.depth + 1 < 2 ^ 32 }
         ensures read { IsFound (path_or_call (within self.now.depth) at.old) result at.new }
         ensures within { IfOk result (λ found. found.need ≤ self.now.depth + 1) }
     {
@@ -260,7 +269,8 @@ impl<
     /// A path.
     #[tactic(auto, unfolding(lay_tree::specs::reader::Types::path_type))]
     fn path_type(&self, at: &mut Ahead<'_>) -> Result<Found<Ty>, ReadNone>
-        requires { AreDeeper self.now.depth (F.pre self.now.types) (F.post self.now.types) (G.pre self.now.constraints) (G.post self.now.constraints) }
+        requires deeper { AreDeeper self.now.depth (F.pre self.now.types) (F.post self.now.types) (G.pre self.now.constraints) (G.post self.now.constraints) }
+        requires room { self.now.depth + 1 < 2 ^ 32 }
         ensures read { IsFound (reader.path_type (within self.now.depth) at.old) result at.new }
         ensures within { IfOk result (λ found. found.need ≤ self.now.depth + 1) }
     {
@@ -338,7 +348,8 @@ impl<
     /// A function type.
     #[tactic(auto, unfolding(lay_tree::specs::reader::Types::func_type))]
     fn func_type(&self, at: &mut Ahead<'_>) -> Result<Found<Ty>, ReadNone>
-        requires { AreDeeper self.now.depth (F.pre self.now.types) (F.post self.now.types) (G.pre self.now.constraints) (G.post self.now.constraints) }
+        requires deeper { AreDeeper self.now.depth (F.pre self.now.types) (F.post self.now.types) (G.pre self.now.constraints) (G.post self.now.constraints) }
+        requires room { self.now.depth + 1 < 2 ^ 32 }
         ensures read { IsFound (reader.func_type (within self.now.depth) at.old) result at.new }
         ensures within { IfOk result (λ found. found.need ≤ self.now.depth + 1) }
     {
