@@ -14,7 +14,7 @@ use lay_tree::{GivenName, Name, Word};
 use std::alloc::Global;
 
 /// Whether a word is no keyword.
-fn is_plain(word: &[u8]) -> bool
+pub fn is_plain(word: &[u8]) -> bool
     ensures { result ≡ is_plain (class_of word.now) }
 {
     matches!(word_class(word), Class::Plain)

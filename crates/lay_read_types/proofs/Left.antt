@@ -499,3 +499,26 @@ pub behind_shorter : {A : Type 0} (ts : Tokens) (got : Got A) (x : A) (mid rest 
     → got ≡ Some (x, mid) → first (is_mark (codes ",")) mid ≡ true → rest ≡ tail mid → length rest < length ts
 behind_shorter ts got x mid rest a e c k =
     omega (arith, shorter ts got x mid a e, (first_read (is_mark (codes ",")) mid c).fewer, ap length k)
+
+-- ---- parts, as the loops ask for them
+
+pub types_leave : (depth : ℕ) (place : TypePlace) (ts : Tokens) → Leaves 1 ts ((within depth).types place ts)
+types_leave depth place ts = (left_within depth).types place ts
+
+pub bound_leaves : (depth : ℕ) (ts : Tokens) → Leaves 1 ts (r.one_bound (within depth) ts)
+bound_leaves depth ts = one_bound_left (within depth) (left_within depth) ts
+
+pub arg_leaves : (depth : ℕ) (ts : Tokens) → Leaves 1 ts (r.one_arg (within depth) ts)
+arg_leaves depth ts = one_arg_left (within depth) (left_within depth) ts
+
+pub segment_leaves : (depth : ℕ) (style : PathStyle) (ts : Tokens) → Leaves 1 ts (r.segment (within depth) style ts)
+segment_leaves depth style ts = segment_left (within depth) (left_within depth) style ts
+
+pub param_leaves : (depth : ℕ) (ts : Tokens) → Leaves 1 ts (r.func_param (within depth) ts)
+param_leaves depth ts = func_param_left (within depth) (left_within depth) ts
+
+pub one_param_leaves : (depth : ℕ) (ts : Tokens) → Leaves 1 ts (g.one_param (within depth) ts)
+one_param_leaves depth ts = one_param_left (within depth) (left_within depth) ts
+
+pub predicate_leaves : (depth : ℕ) (ts : Tokens) → Leaves 1 ts (w.one_predicate (within depth) ts)
+predicate_leaves depth ts = one_predicate_left (within depth) (left_within depth) ts

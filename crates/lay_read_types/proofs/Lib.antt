@@ -2,6 +2,4 @@ pub mod Left
 pub mod Turning
 pub mod Steps
 pub mod Free
-pub mod LeftPaths
-pub mod PathSteps
-pub mod GenericSteps
+pub mod AtFront

@@ -1,15 +1,27 @@
 -- One step of a reader, from what the readers within it give.
-use Rattle.std.proofs.Common.{◌≡◌, Bool, true, false, refl, if◌then◌else◌, codes, List, [], ◌∷◌, Option, Some, None, slice_get, sym, ap, ◌∙◌}
+use Rattle.std.proofs.Common.{◌≡◌, ℕ, suc, ◌-◌, ◌<◌, Bool, true, false, refl, if◌then◌else◌, codes, arith, length, is_some, option_map, Result, List, [], ◌∷◌, Option, Some, None, slice_get, sym, ap, ◌∙◌}
 use Rattle.lay_piece.specs.declared.kind.Kind.{Kind}
 use Rattle.lay_piece.specs.declared.kind.Kind.TheVariants as kind
 use Rattle.lay_token.specs.declared.token.Token.{Token}
+use Rattle.lay_tree.specs.Begins.{is_literal_token}
 use Rattle.lay_tree.specs.Ahead.{Tokens, first, tail, is_mark}
 use Rattle.lay_tree.specs.Begins.{lead_by, lead_at, lead_of_word}
-use Rattle.lay_tree.specs.reader.Loops.{◌>>=◌}
-use Rattle.lay_tree.specs.Begins.{is_literal_token}
-use Rattle.lay_tree.specs.reader.Types.{literal, const, negative, braces}
+use Rattle.lay_tree.specs.nodes.Types.{ArgsFacts, about_args, about_type}
+use Rattle.lay_tree.specs.reader.Generics.{generics, one_param}
+use Rattle.lay_tree.specs.reader.Loops.{Got, Read, ◌>>=◌, elements}
+use Rattle.lay_tree.specs.reader.Types.{Within, within, angle, one_arg, returns_last, type_at, type_by, constraint_by, literal, const, negative, braces}
+use Rattle.lay_tree.specs.declared.token.Word.{Word}
+use Rattle.lay_tree.specs.declared.types.Arg.{Arg}
+use Rattle.lay_tree.specs.declared.types.Args.{Args}
+use Rattle.lay_tree.specs.declared.types.Args.TheVariants as args
 use Rattle.lay_tree.specs.declared.types.ConstArg.TheVariants as const_arg
-use Rattle.lay_read_types.specs.Answers.{literal_if}
+use Rattle.lay_tree.specs.declared.types.Ty.{Ty}
+use Rattle.lay_tree.specs.declared.types.TypePlace.{TypePlace}
+use Rattle.lay_tree.proofs.nodes.TypesLaws.{args_none_is, args_angle_is, args_round_is}
+use Rattle.lay_read_tokens.specs.Answers.{IsFound}
+use Rattle.lay_read_tokens.specs.declared.found.Found.{Found}
+use Rattle.lay_read_tokens.specs.declared.stop.ReadNone.{ReadNone}
+use Rattle.lay_read_types.specs.Answers.{gathered, literal_if}
 
 -- ---- what begins a type
 
@@ -37,3 +49,83 @@ pub const_other : (ts : Tokens) → first is_literal_token ts ≡ false
     → const ts ≡ (if first (is_mark (codes "-")) ts then negative (tail ts) else braces ts)
 unfolding const
 const_other ts h = rw h refl
+
+-- ---- generic arguments
+
+pub round_none : (about_args args.None).round ≡ false
+round_none = ap (λ (a : ArgsFacts). a.round) args_none_is
+
+pub round_angle : (xs : List Arg) → (about_args (args.Angle xs)).round ≡ false
+round_angle xs = ap (λ (a : ArgsFacts). a.round) (args_angle_is xs)
+
+pub round_round : (inputs : List Ty) (output : Option Ty) → (about_args (args.Round inputs output)).round ≡ true
+round_round inputs output = ap (λ (a : ArgsFacts). a.round) (args_round_is inputs output)
+
+pub returns_none : (about_args args.None).returns ≡ false
+returns_none = ap (λ (a : ArgsFacts). a.returns) args_none_is
+
+pub returns_angle : (xs : List Arg) → (about_args (args.Angle xs)).returns ≡ false
+returns_angle xs = ap (λ (a : ArgsFacts). a.returns) (args_angle_is xs)
+
+some_about : (output : Option Ty) → is_some (option_map about_type output) ≡ is_some output
+some_about None = refl
+some_about (Some x) = refl
+
+pub returns_round : (inputs : List Ty) (output : Option Ty) → (about_args (args.Round inputs output)).returns ≡ is_some output
+returns_round inputs output = ap (λ (a : ArgsFacts). a.returns) (args_round_is inputs output) ∙ some_about output
+
+-- ---- within a depth
+
+deeper : {X : Type 0} (f : ℕ → X) (n : ℕ) → 0 < n → f n ≡ f (suc (n - 1))
+deeper f n some = let e : n ≡ suc (n - 1) = omega arith in ap f e
+
+pub type_none : (place : TypePlace) (n : ℕ) (ts : Tokens) → n ≡ 0 → type_at place n ts ≡ None
+unfolding within
+type_none place n ts e = ap (λ (k : ℕ). type_at place k ts) e
+
+pub asked_none : (n : ℕ) (ts : Tokens) → n ≡ 0 → (within n).constraints ts ≡ None
+unfolding within
+asked_none n ts e = ap (λ (k : ℕ). (within k).constraints ts) e
+
+pub type_deeper : (place : TypePlace) (n : ℕ) (ts : Tokens) → 0 < n
+    → type_at place n ts ≡ type_by (within (n - 1)) place (lead_at ts) ts
+unfolding within
+type_deeper place n ts some = deeper (λ (k : ℕ). type_at place k ts) n some
+
+pub asked_deeper : (n : ℕ) (ts : Tokens) → 0 < n → (within n).constraints ts ≡ constraint_by (within (n - 1)) ts
+unfolding within
+asked_deeper n ts some = deeper (λ (k : ℕ). (within k).constraints ts) n some
+
+pub found_by : {A : Type 0} (a b : Read A) (r : Result (Found A) ReadNone) (left : Tokens) → a ≡ b → IsFound b r left
+    → IsFound a r left
+found_by a b r left e h = rw e h
+
+gathered_lost : {A B : Type 0} (o : Got (List (A × ℕ))) (f : List (A × ℕ) × Tokens → Got B) → gathered o ≡ None
+    → (o >>= f) ≡ None
+gathered_lost None f h = refl
+gathered_lost (Some xs) f h = absurd (cc)
+
+pub angle_lost : (w : Within) (ts mid : Tokens) → first (is_mark (codes "<")) ts ≡ true → mid ≡ tail ts
+    → gathered (elements (is_mark (codes ">")) (one_arg w) mid) ≡ None → angle w ts ≡ None
+unfolding angle
+angle_lost w ts mid h e n =
+    let here : gathered (elements (is_mark (codes ">")) (one_arg w) (tail ts)) ≡ None =
+    ap (λ us. gathered (elements (is_mark (codes ">")) (one_arg w) us)) (sym e) ∙ n in
+    rw h (gathered_lost (elements (is_mark (codes ">")) (one_arg w) (tail ts)) _ here)
+
+-- ---- paths
+
+pub short_last : (xs : List (Word × Args)) → length xs < 2 → returns_last xs ≡ true
+short_last [] h = refl
+short_last (x ∷ []) h = refl
+short_last (x ∷ y ∷ xs) h = absurd (omega arith)
+
+-- ---- generic parameters
+
+pub generics_lost : (w : Within) (ts mid : Tokens) → first (is_mark (codes "<")) ts ≡ true → mid ≡ tail ts
+    → gathered (elements (is_mark (codes ">")) (one_param w) mid) ≡ None → generics w ts ≡ None
+unfolding generics
+generics_lost w ts mid h e n =
+    let here : gathered (elements (is_mark (codes ">")) (one_param w) (tail ts)) ≡ None =
+    ap (λ us. gathered (elements (is_mark (codes ">")) (one_param w) us)) (sym e) ∙ n in
+    rw h (gathered_lost (elements (is_mark (codes ">")) (one_param w) (tail ts)) _ here)

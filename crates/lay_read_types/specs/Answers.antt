@@ -1,20 +1,27 @@
 -- What readers ask for and what they answer.
-use Rattle.std.specs.Prelude.{ℕ, ◌≡◌, ◌≤◌, Bool, if◌then◌else◌, List, [], ◌∷◌, codes, Option, Some, None, Result, IfOk}
+use Rattle.std.specs.Prelude.{ℕ, ◌≡◌, ◌≤◌, Bool, true, false, if◌then◌else◌, List, [], ◌∷◌, codes, Option, Some, None, Result, Ok, Err, drop, IfOk}
 use Rattle.std.specs.declared.alloc.Global.{Global}
 use denote.Ref.{Bor, MutBor}
 use Rattle.lay_token.specs.declared.token.Token.{Token}
 use Rattle.lay_tree.specs.Ahead.{Tokens, closes, is_mark}
 use Rattle.lay_tree.specs.Begins.{begins_predicate}
-use Rattle.lay_tree.specs.reader.Loops.{Got, Read, nodes, deepest}
-use Rattle.lay_tree.specs.reader.Types.{within, begins_param}
+use Rattle.lay_tree.specs.reader.Loops.{Got, Read, ◌>>=◌, nodes, deepest}
+use Rattle.lay_tree.specs.reader.Types.{Within, within, begins_param, named_segments, paren_type, pointer_type, reference_type, bracket_type, bounds_type, begins_call, call_type, path_type}
 use Rattle.lay_tree.specs.declared.token.Literal.{Literal}
+use Rattle.lay_tree.specs.declared.token.Name.{Name}
+use Rattle.lay_tree.specs.declared.token.Word.{Word}
+use Rattle.lay_tree.specs.declared.types.Args.{Args}
 use Rattle.lay_tree.specs.declared.types.Constraint.{Constraint}
 use Rattle.lay_tree.specs.declared.types.Ty.{Ty}
+use Rattle.lay_tree.specs.declared.types.Ty.TheVariants as ty
 use Rattle.lay_tree.specs.declared.types.TypePlace.{TypePlace}
 use Rattle.lay_read_tokens.proofs.Left.{Leaves}
 use Rattle.lay_read_tokens.specs.Answers.{IsFound}
 use Rattle.lay_read_tokens.specs.declared.found.Found.{Found}
 use Rattle.lay_read_tokens.specs.declared.stop.ReadNone.{ReadNone}
+use Rattle.lay_read_tokens.specs.declared.stop.ReadNone.TheVariants.{NoReading, NoMemory}
+use Rattle.lay_read_types.specs.declared.leads.Lead.{Lead}
+use Rattle.lay_read_types.specs.declared.leads.Lead.TheVariants as lead
 use Rattle.lay_read_types.specs.declared.loops.Closer.{Closer}
 use Rattle.lay_read_types.specs.declared.loops.Closer.TheVariants as closer
 use Rattle.lay_read_types.specs.declared.loops.Joint.{Joint}
@@ -73,3 +80,42 @@ AreFoundOpen read found = (nodes read.0 ≡ found.node.0) × (read.1 ≡ found.n
 abbrev pub literal_if : Bool → Tokens → Got Literal
 literal_if passes [] = None
 literal_if passes (t ∷ ts) = if passes then Some (record { kind = t.kind; text = t.text }, ts) else None
+
+-- ---- types
+
+-- the nodes and the greatest need of theirs
+abbrev pub gathered : {A : Type 0} → Got (List (A × ℕ)) → Read (List A)
+gathered got = do xs ← got; Some ((nodes xs.0, deepest xs.0), xs.1)
+
+-- a type behind the token that begins it
+abbrev pub marked : Within → TypePlace → Lead → Tokens → Read Ty
+marked deeper place lead.Paren ts = paren_type deeper ts
+marked deeper place lead.Never ts = Some ((ty.Never, 1), ts)
+marked deeper place lead.Infer ts = Some ((ty.Infer, 1), ts)
+marked deeper place lead.Pointer ts = pointer_type deeper ts
+marked deeper place lead.Reference ts = reference_type deeper ts
+marked deeper place lead.Bracket ts = bracket_type deeper ts
+marked deeper place lead.Impl ts = bounds_type deeper false place ts
+marked deeper place lead.Dyn ts = bounds_type deeper true place ts
+marked deeper place lead.Path ts = None
+marked deeper place lead.Func ts = None
+
+-- a name and generic arguments, where the word is a name and they stand in no parentheses
+abbrev pub named_segment : Word → Args → Option (Name × Args)
+named_segment word args = named_segments ((word, args) ∷ [])
+
+-- the same of those that nothing closes
+abbrev pub gathered_open : {A : Type 0} → Got (List (A × ℕ) × Bool) → Read (List A × Bool)
+gathered_open got = do xs ← got; Some (((nodes xs.0.0, xs.0.1), deepest xs.0.0), xs.1)
+
+abbrev pub path_or_call : Within → Tokens → Read Ty
+path_or_call deeper ts = if begins_call ts then call_type ts else path_type deeper ts
+
+-- ---- what stands at the front
+
+-- What a reader of a node answers. Where it reads one, the node stands at the front at this depth and the cursor moves
+-- past it; where it doesn't, none stands there, or memory ran out, and the cursor stays.
+abbrev pub IsReadAt : {A : Type 0} → ℕ → (A → Tokens → ℕ → ℕ → Type 0) → Tokens → Result A ReadNone → Tokens → Type 0
+IsReadAt depth Front ahead (Ok node) left = (n : ℕ) × (left ≡ drop n ahead) × Front node ahead n depth
+IsReadAt {A} depth Front ahead (Err NoReading) left = (left ≡ ahead) × ((node : A) (n : ℕ) → Front node ahead n depth → ⊥)
+IsReadAt depth Front ahead (Err NoMemory) left = left ≡ ahead

@@ -1,17 +1,15 @@
 //! Bounds, and what is asked of a name among generic arguments.
-ghost use Rattle.std.specs.Prelude.{◌≡◌, ◌≤◌, ◌<◌, ◌+◌, IfOk};
+ghost use Rattle.std.specs.Prelude.{◌<◌, ◌≤◌, ◌+◌, ◌^◌, IfOk};
 ghost use Rattle.lay_tree.specs.reader.Types as reader;
 ghost use Rattle.lay_tree.specs.reader.Types.{within};
-ghost use Rattle.lay_tree.specs.declared.types.TypePlace.TheVariants as place;
 ghost use Rattle.lay_read_tokens.specs.Answers.{IsFound};
 ghost use Rattle.lay_read_types.specs.Answers.{AreDeeper};
 
 use crate::leads::{begins_const, is_at_lifetime};
 use crate::loops::{Joint, Part, read_chain};
 use crate::parts::{read_binder_if, read_const, read_lifetime};
-use crate::rules::{Rules, both};
+use crate::rules::{Rules, prepended};
 use lay_read_tokens::front::{takes_closer, takes_mark, takes_op, takes_opener};
-use lay_read_tokens::stop::keep;
 use lay_read_tokens::{Ahead, Found, ReadNone};
 use lay_token::{Delim, List};
 use lay_tree::{Bound, Constraint, PathStyle, Ty, TypePlace};
@@ -28,7 +26,7 @@ impl<
     F: Fn(Global, &mut Ahead<'_>, TypePlace, u32) -> Result<Found<Ty>, ReadNone>,
     G: Fn(Global, &mut Ahead<'_>, u32) -> Result<Found<Constraint>, ReadNone>,
 > Rules<F, G> {
-    /// A bound that is a path, in parentheses or not, behind the opening one.
+    /// A bound that is a path, in parentheses or not.
     #[tactic(auto, unfolding(lay_tree::specs::reader::Types::meets))]
     fn meets(&self, at: &mut Ahead<'_>, parens: bool) -> Result<Found<Bound>, ReadNone>
         requires { AreDeeper self.now.depth (F.pre self.now.types) (F.post self.now.types) (G.pre self.now.constraints) (G.post self.now.constraints) }
@@ -37,45 +35,45 @@ impl<
     {
         let maybe = takes_mark(at, b"?");
         let binder = read_binder_if(self.alloc, at)?;
-        let (binder, path) = both(binder, self.path(at, PathStyle::Kind))?;
+        let path = self.path(at, PathStyle::Kind)?;
         Ok(Found {
+            need: path.need,
             node: Bound::Meets {
                 parens,
                 maybe,
                 binder,
                 path: path.node,
             },
-            need: path.need,
         })
     }
 
     /// A bound.
     #[tactic(auto, unfolding(lay_tree::specs::reader::Types::one_bound))]
-    fn one_bound(&self, at: &mut Ahead<'_>, _place: ()) -> Result<Found<Bound>, ReadNone>
+    fn bound(&self, at: &mut Ahead<'_>, _place: ()) -> Result<Found<Bound>, ReadNone>
         requires { AreDeeper self.now.depth (F.pre self.now.types) (F.post self.now.types) (G.pre self.now.constraints) (G.post self.now.constraints) }
         ensures read { IsFound (reader.one_bound (within self.now.depth) at.old) result at.new }
         ensures within { IfOk result (λ found. found.need ≤ self.now.depth) }
     {
         if is_at_lifetime(at) {
             let lifetime = read_lifetime(self.alloc, at)?;
-            Ok(Found {
+            return Ok(Found {
                 node: Bound::Outlives { lifetime },
                 need: 0,
-            })
-        } else if takes_opener(at, Delim::Paren) {
-            let bound = self.meets(at, true)?;
-            if takes_closer(at, Delim::Paren) {
-                Ok(bound)
-            } else {
-                Err(ReadNone::NoReading)
-            }
+            });
+        }
+        if !takes_opener(at, Delim::Paren) {
+            return self.meets(at, false);
+        }
+        let bound = self.meets(at, true)?;
+        if takes_closer(at, Delim::Paren) {
+            Ok(bound)
         } else {
-            self.meets(at, false)
+            Err(ReadNone::NoReading)
         }
     }
 
-    /// Bounds with `+` between them, one at least.
-    #[tactic(auto, using(crate::proofs::LeftPaths::one_there))]
+    /// Bounds, one at least.
+    #[tactic(auto, using(crate::proofs::Left::bound_leaves))]
     pub fn all_bounds(&self, at: &mut Ahead<'_>) -> Result<Found<List<Bound>>, ReadNone>
         requires { AreDeeper self.now.depth (F.pre self.now.types) (F.post self.now.types) (G.pre self.now.constraints) (G.post self.now.constraints) }
         ensures read { IsFound (reader.all_bounds (within self.now.depth) at.old) result at.new }
@@ -87,28 +85,12 @@ impl<
             self.depth,
             Joint::Plus,
             self,
-            Rules::one_bound,
+            Rules::bound,
             (),
         )
     }
 
-    /// One bound alone.
-    #[tactic(auto, unfolding(lay_tree::specs::reader::Types::bounds_by))]
-    fn lone_bound(&self, at: &mut Ahead<'_>) -> Result<Found<List<Bound>>, ReadNone>
-        requires { AreDeeper self.now.depth (F.pre self.now.types) (F.post self.now.types) (G.pre self.now.constraints) (G.post self.now.constraints) }
-        ensures read { IsFound (reader.bounds_by (within self.now.depth) place.NoBounds at.old) result at.new }
-        ensures within { IfOk result (λ found. found.need ≤ self.now.depth) }
-    {
-        let found = self.one_bound(at, ())?;
-        let mut bounds = List::new(self.alloc);
-        keep(&mut bounds, found.node)?;
-        Ok(Found {
-            node: bounds,
-            need: found.need,
-        })
-    }
-
-    /// As many bounds as there are, or one alone, by the place.
+    /// As many bounds as there are, or one alone, by where they stand.
     #[tactic(auto, unfolding(lay_tree::specs::reader::Types::bounds_by))]
     pub fn bounds(
         &self,
@@ -121,46 +103,53 @@ impl<
     {
         match place {
             TypePlace::Bounds => self.all_bounds(at),
-            TypePlace::NoBounds => self.lone_bound(at),
+            TypePlace::NoBounds => {
+                let bound = self.bound(at, ())?;
+                let node = prepended(bound.node, List::new(self.alloc))?;
+                Ok(Found {
+                    node,
+                    need: bound.need,
+                })
+            }
         }
     }
 
-    /// What a name equals, behind the `=`.
-    #[tactic(auto, using(crate::proofs::PathSteps::equal_some))]
+    /// What a name is equal to, behind its `=`.
     fn equal(&self, at: &mut Ahead<'_>) -> Result<Found<Constraint>, ReadNone>
         requires deeper { AreDeeper self.now.depth (F.pre self.now.types) (F.post self.now.types) (G.pre self.now.constraints) (G.post self.now.constraints) }
-        requires below { self.now.depth < 4294967295 }
+        requires room { self.now.depth + 1 < 2 ^ 32 }
         ensures read { IsFound (reader.equal (within self.now.depth) at.old) result at.new }
         ensures within { IfOk result (λ found. found.need ≤ self.now.depth + 1) }
     {
         if begins_const(at) {
             let value = read_const(self.alloc, at)?;
-            Ok(Found {
+            return Ok(Found {
                 node: Constraint::EqualConst { value },
                 need: 1,
-            })
-        } else {
-            let found = self.inner(at, TypePlace::Bounds)?;
-            Ok(Found {
-                node: Constraint::Equal { ty: found.node },
-                need: found.need + 1,
-            })
+            });
         }
+        let ty = self.inner(at, TypePlace::Bounds)?;
+        Ok(Found {
+            need: ty.need + 1,
+            node: Constraint::Equal { ty: ty.node },
+        })
     }
 
-    /// What is asked of a name among generic arguments. With the name it stands one level deeper.
-    #[tactic(auto, using(crate::proofs::PathSteps::limit_some), unfolding(lay_tree::specs::reader::Types::constraint_by))]
+    /// What is asked of a name among generic arguments.
+    #[tactic(auto, unfolding(lay_tree::specs::reader::Types::constraint_by))]
     pub fn constraint(&self, at: &mut Ahead<'_>) -> Result<Found<Constraint>, ReadNone>
         requires deeper { AreDeeper self.now.depth (F.pre self.now.types) (F.post self.now.types) (G.pre self.now.constraints) (G.post self.now.constraints) }
-        requires below { self.now.depth < 4294967295 }
+        requires room { self.now.depth + 1 < 2 ^ 32 }
         ensures read { IsFound (reader.constraint_by (within self.now.depth) at.old) result at.new }
         ensures within { IfOk result (λ found. found.need ≤ self.now.depth + 1) }
     {
         if takes_op(at, b":") {
-            let found = self.all_bounds(at)?;
+            let bounds = self.all_bounds(at)?;
             Ok(Found {
-                node: Constraint::Limit { bounds: found.node },
-                need: found.need + 1,
+                need: bounds.need + 1,
+                node: Constraint::Limit {
+                    bounds: bounds.node,
+                },
             })
         } else if takes_op(at, b"=") {
             self.equal(at)

@@ -4,14 +4,19 @@
 //! is spelled and nothing else.
 #![tactic(auto)]
 
+mod arguments;
 mod bounds;
 mod generics;
+mod knot;
 mod leads;
 mod loops;
-mod named;
 mod parts;
 mod paths;
+mod reads;
 mod rules;
+mod types;
 mod wheres;
 
+pub use knot::{args_ahead, bounds_ahead, generics_ahead, path_ahead, type_ahead, wheres_ahead};
 pub use lay_read_tokens::{ReadNone, read_attr, read_attrs, read_call};
+pub use reads::{read_args, read_bounds, read_generics, read_path, read_type, read_wheres};

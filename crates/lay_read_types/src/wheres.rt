@@ -1,10 +1,11 @@
 //! Where clauses.
-ghost use Rattle.std.specs.Prelude.{◌≡◌, ◌≤◌, IfOk};
+ghost use Rattle.std.specs.Prelude.{◌≤◌, IfOk};
+ghost use Rattle.lay_tree.specs.Begins.{begins_predicate};
+ghost use Rattle.lay_tree.specs.reader.Loops.{open_elements};
 ghost use Rattle.lay_tree.specs.reader.Types.{within};
 ghost use Rattle.lay_tree.specs.reader.Where as reader;
-ghost use Rattle.lay_read_tokens.specs.Answers.{IsFound, IsGot};
-ghost use Rattle.lay_read_types.specs.Answers.{AreDeeper};
-ghost use Rattle.lay_read_types.specs.Generics.{limited};
+ghost use Rattle.lay_read_tokens.specs.Answers.{IsFound};
+ghost use Rattle.lay_read_types.specs.Answers.{AreDeeper, gathered_open};
 
 use crate::leads::is_at_lifetime;
 use crate::loops::{Opening, Part, read_open_elements};
@@ -14,23 +15,10 @@ use lay_read_tokens::found::greater;
 use lay_read_tokens::front::{takes_keyword, takes_op};
 use lay_read_tokens::{Ahead, Found, ReadNone};
 use lay_token::List;
-use lay_tree::{Bound, Constraint, Predicate, Ty, TypePlace, Wheres};
+use lay_tree::{Constraint, Predicate, Ty, TypePlace, Wheres};
 use std::alloc::Global;
 
-/// What is said of a lifetime.
-#[tactic(auto, unfolding(lay_tree::specs::reader::Where::lifetime_predicate))]
-fn read_lifetime_predicate(alloc: Global, at: &mut Ahead<'_>) -> Result<Predicate, ReadNone>
-    ensures { IsGot (reader.lifetime_predicate at.old) result at.new }
-{
-    let lifetime = read_lifetime(alloc, at)?;
-    if !takes_op(at, b":") {
-        return Err(ReadNone::NoReading);
-    }
-    let bounds = read_lifetimes(alloc, at)?;
-    Ok(Predicate::Region { lifetime, bounds })
-}
-
-/// Predicates, as elements that go on as long as one begins.
+/// Predicates, as parts of a where clause.
 pub struct Predicates;
 
 impl Part<Predicate, ()> for Predicates {
@@ -41,23 +29,6 @@ impl<
     F: Fn(Global, &mut Ahead<'_>, TypePlace, u32) -> Result<Found<Ty>, ReadNone>,
     G: Fn(Global, &mut Ahead<'_>, u32) -> Result<Found<Constraint>, ReadNone>,
 > Rules<F, G> {
-    /// A type, and what it meets behind a `:`.
-    fn limited(&self, at: &mut Ahead<'_>) -> Result<Found<(Ty, List<Bound>)>, ReadNone>
-        requires { AreDeeper self.now.depth (F.pre self.now.types) (F.post self.now.types) (G.pre self.now.constraints) (G.post self.now.constraints) }
-        ensures read { IsFound (limited (within self.now.depth) at.old) result at.new }
-        ensures within { IfOk result (λ found. found.need ≤ self.now.depth) }
-    {
-        let found = self.inner(at, TypePlace::Bounds)?;
-        if !takes_op(at, b":") {
-            return Err(ReadNone::NoReading);
-        }
-        let (found, bounds) = both(found, self.met(at))?;
-        Ok(Found {
-            need: greater(found.need, bounds.need),
-            node: (found.node, bounds.node),
-        })
-    }
-
     /// What is said of a type.
     #[tactic(auto, unfolding(lay_tree::specs::reader::Where::type_predicate))]
     fn type_predicate(&self, at: &mut Ahead<'_>) -> Result<Found<Predicate>, ReadNone>
@@ -66,16 +37,24 @@ impl<
         ensures within { IfOk result (λ found. found.need ≤ self.now.depth) }
     {
         let binder = read_binder_if(self.alloc, at)?;
-        let found = self.limited(at)?;
-        let (ty, bounds) = found.node;
+        let ty = self.inner(at, TypePlace::Bounds)?;
+        if !takes_op(at, b":") {
+            return Err(ReadNone::NoReading);
+        }
+        let (ty, bounds) = both(ty, self.met(at))?;
         Ok(Found {
-            need: found.need,
-            node: Predicate::Bounded { binder, ty, bounds },
+            need: greater(ty.need, bounds.need),
+            node: Predicate::Bounded {
+                binder,
+                ty: ty.node,
+                bounds: bounds.node,
+            },
         })
     }
 
-    /// What is said of a lifetime or of a type.
-    fn one_predicate(&self, at: &mut Ahead<'_>, _place: ()) -> Result<Found<Predicate>, ReadNone>
+    /// A predicate.
+    #[tactic(auto, unfolding(lay_tree::specs::reader::Where::lifetime_predicate))]
+    fn predicate(&self, at: &mut Ahead<'_>, _place: ()) -> Result<Found<Predicate>, ReadNone>
         requires { AreDeeper self.now.depth (F.pre self.now.types) (F.post self.now.types) (G.pre self.now.constraints) (G.post self.now.constraints) }
         ensures read { IsFound (reader.one_predicate (within self.now.depth) at.old) result at.new }
         ensures within { IfOk result (λ found. found.need ≤ self.now.depth) }
@@ -83,8 +62,33 @@ impl<
         if !is_at_lifetime(at) {
             return self.type_predicate(at);
         }
-        let node = read_lifetime_predicate(self.alloc, at)?;
-        Ok(Found { node, need: 0 })
+        let lifetime = read_lifetime(self.alloc, at)?;
+        if !takes_op(at, b":") {
+            return Err(ReadNone::NoReading);
+        }
+        let bounds = read_lifetimes(self.alloc, at)?;
+        Ok(Found {
+            node: Predicate::Region { lifetime, bounds },
+            need: 0,
+        })
+    }
+
+    /// Predicates as long as one begins.
+    #[tactic(auto, using(crate::proofs::Left::predicate_leaves))]
+    fn predicates(&self, at: &mut Ahead<'_>) -> Result<Found<(List<Predicate>, bool)>, ReadNone>
+        requires { AreDeeper self.now.depth (F.pre self.now.types) (F.post self.now.types) (G.pre self.now.constraints) (G.post self.now.constraints) }
+        ensures read { IsFound (gathered_open (open_elements begins_predicate (reader.one_predicate (within self.now.depth)) at.old)) result at.new }
+        ensures within { IfOk result (λ found. found.need ≤ self.now.depth) }
+    {
+        read_open_elements::<Predicates, Rules<F, G>, Predicate, (), _>(
+            self.alloc,
+            at,
+            self.depth,
+            Opening::Predicate,
+            self,
+            Rules::predicate,
+            (),
+        )
     }
 
     /// A where clause, and whether its last part is spelled.
@@ -101,19 +105,11 @@ impl<
                 need: 0,
             });
         }
-        let found = read_open_elements::<Predicates, Self, Predicate, (), _>(
-            self.alloc,
-            at,
-            self.depth,
-            Opening::Predicate,
-            self,
-            Self::one_predicate,
-            (),
-        )?;
-        let (predicates, ends) = found.node;
+        let Found { node, need } = self.predicates(at)?;
+        let (predicates, last) = node;
         Ok(Found {
-            need: found.need,
-            node: (Wheres { predicates }, ends),
+            node: (Wheres { predicates }, last),
+            need,
         })
     }
 }

@@ -1,0 +1,149 @@
+//! What is read within a depth.
+ghost use Rattle.std.specs.Prelude.{◌≤◌, IfOk};
+ghost use Rattle.lay_tree.specs.reader.Generics.{generics};
+ghost use Rattle.lay_tree.specs.reader.Types.{all_bounds, args_by, path, type_at, within};
+ghost use Rattle.lay_tree.specs.reader.Where.{wheres};
+ghost use Rattle.lay_read_tokens.specs.Answers.{IsFound};
+
+use crate::rules::Rules;
+use lay_read_tokens::{Ahead, Found, ReadNone};
+use lay_token::List;
+use lay_tree::{Args, Bound, Constraint, Generics, Path, PathStyle, Ty, TypePlace, Wheres};
+use std::alloc::Global;
+
+/// A type at its place, within a depth.
+#[cycle(types)]
+pub fn type_ahead(
+    alloc: Global,
+    at: &mut Ahead<'_>,
+    place: TypePlace,
+    depth: u32,
+) -> Result<Found<Ty>, ReadNone>
+    ensures read { IsFound (type_at place depth at.old) result at.new }
+    ensures within { IfOk result (λ found. found.need ≤ depth) }
+{
+    if depth == 0 {
+        return Err(ReadNone::NoReading);
+    }
+    let rules = Rules {
+        alloc,
+        depth: depth - 1,
+        types: type_ahead,
+        constraints: constraint_ahead,
+    };
+    rules.type_by(at, place)
+}
+
+/// What is asked of a name among generic arguments, within a depth.
+#[cycle(types)]
+pub fn constraint_ahead(
+    alloc: Global,
+    at: &mut Ahead<'_>,
+    depth: u32,
+) -> Result<Found<Constraint>, ReadNone>
+    ensures read { IsFound ((within depth).constraints at.old) result at.new }
+    ensures within { IfOk result (λ found. found.need ≤ depth) }
+{
+    if depth == 0 {
+        return Err(ReadNone::NoReading);
+    }
+    let rules = Rules {
+        alloc,
+        depth: depth - 1,
+        types: type_ahead,
+        constraints: constraint_ahead,
+    };
+    rules.constraint(at)
+}
+
+/// A path, with what is within it within the depth.
+pub fn path_ahead(
+    alloc: Global,
+    at: &mut Ahead<'_>,
+    style: PathStyle,
+    depth: u32,
+) -> Result<Found<Path>, ReadNone>
+    ensures read { IsFound (path (within depth) style at.old) result at.new }
+    ensures within { IfOk result (λ found. found.need ≤ depth) }
+{
+    let rules = Rules {
+        alloc,
+        depth,
+        types: type_ahead,
+        constraints: constraint_ahead,
+    };
+    rules.path(at, style)
+}
+
+/// Generic arguments, with what is within them within the depth.
+pub fn args_ahead(
+    alloc: Global,
+    at: &mut Ahead<'_>,
+    style: PathStyle,
+    depth: u32,
+) -> Result<Found<Args>, ReadNone>
+    ensures read { IsFound (args_by (within depth) style at.old) result at.new }
+    ensures within { IfOk result (λ found. found.need ≤ depth) }
+{
+    let rules = Rules {
+        alloc,
+        depth,
+        types: type_ahead,
+        constraints: constraint_ahead,
+    };
+    rules.args(at, style)
+}
+
+/// Bounds, one at least, with what is within them within the depth.
+pub fn bounds_ahead(
+    alloc: Global,
+    at: &mut Ahead<'_>,
+    depth: u32,
+) -> Result<Found<List<Bound>>, ReadNone>
+    ensures read { IsFound (all_bounds (within depth) at.old) result at.new }
+    ensures within { IfOk result (λ found. found.need ≤ depth) }
+{
+    let rules = Rules {
+        alloc,
+        depth,
+        types: type_ahead,
+        constraints: constraint_ahead,
+    };
+    rules.all_bounds(at)
+}
+
+/// Generic parameters, with what is within them within the depth, and whether `<` and `>` are spelled.
+pub fn generics_ahead(
+    alloc: Global,
+    at: &mut Ahead<'_>,
+    depth: u32,
+) -> Result<Found<(Generics, bool)>, ReadNone>
+    ensures read { IsFound (generics (within depth) at.old) result at.new }
+    ensures within { IfOk result (λ found. found.need ≤ depth) }
+{
+    let rules = Rules {
+        alloc,
+        depth,
+        types: type_ahead,
+        constraints: constraint_ahead,
+    };
+    rules.generics(at)
+}
+
+/// A where clause, with what is within it within the depth, and whether its last part is spelled.
+pub fn wheres_ahead(
+    alloc: Global,
+    at: &mut Ahead<'_>,
+    depth: u32,
+) -> Result<Found<(Wheres, bool)>, ReadNone>
+    ensures read { IsFound (wheres (within depth) at.old) result at.new }
+    ensures within { IfOk result (λ found. found.need ≤ depth) }
+{
+    let rules = Rules {
+        alloc,
+        depth,
+        types: type_ahead,
+        constraints: constraint_ahead,
+    };
+    rules.wheres(at)
+}

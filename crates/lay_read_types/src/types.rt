@@ -1,0 +1,452 @@
+//! Types.
+ghost use Rattle.std.specs.Prelude.{◌≡◌, ◌&&◌, ◌<◌, ◌≤◌, ◌+◌, ◌^◌, if◌then◌else◌, codes, drop, IfOk};
+ghost use Rattle.lay_token.specs.Operators.{is_op};
+ghost use Rattle.lay_piece.specs.declared.kind.Delim.TheVariants.{Paren};
+ghost use Rattle.lay_tree.specs.Ahead.{closes};
+ghost use Rattle.lay_tree.specs.reader.Loops.{elements, open_elements};
+ghost use Rattle.lay_tree.specs.reader.Types as reader;
+ghost use Rattle.lay_tree.specs.reader.Types.{within};
+ghost use Rattle.lay_tree.specs.Begins.{lead_at};
+ghost use Rattle.lay_tree.specs.declared.types.TypePlace.TheVariants.{Bounds};
+ghost use Rattle.lay_read_tokens.specs.Answers.{IsFound, IsGot, IsMade};
+ghost use Rattle.lay_read_types.specs.Answers.{AreDeeper, gathered, gathered_open, marked, path_or_call};
+
+use crate::leads::{Lead, lead_at};
+use crate::loops::{Closer, Opening, Part, read_elements, read_open_elements};
+use crate::parts::{read_abi_if, read_binder_if, read_lifetime_if};
+use crate::rules::{Rules, both, prepended};
+use lay_read_tokens::attributes::attrs_ahead;
+use lay_read_tokens::calls::call_ahead;
+use lay_read_tokens::found::greater;
+use lay_read_tokens::front::{
+    pass, pass_two, takes_closer, takes_keyword, takes_mark, takes_op, takes_opener,
+};
+use lay_read_tokens::names::read_given_name;
+use lay_read_tokens::simple_paths::read_simple_path;
+use lay_read_tokens::stop::boxed;
+use lay_read_tokens::tokens::read_tokens;
+use lay_read_tokens::{Ahead, Found, ReadNone};
+use lay_token::{Delim, List};
+use lay_tree::{Constraint, FuncParam, GivenName, PathStyle, Ty, TypePlace};
+use std::alloc::Global;
+
+/// Types one level deeper, as parts of a list.
+pub struct Types;
+
+impl Part<Ty, TypePlace> for Types {
+    ghost reads = { λ depth place ts. (within depth).types place ts };
+}
+
+/// Parameters of a function type, as parts of a list.
+pub struct FuncParams;
+
+impl Part<FuncParam, ()> for FuncParams {
+    ghost reads = { λ depth place ts. reader.func_param (within depth) ts };
+}
+
+impl<
+    F: Fn(Global, &mut Ahead<'_>, TypePlace, u32) -> Result<Found<Ty>, ReadNone>,
+    G: Fn(Global, &mut Ahead<'_>, u32) -> Result<Found<Constraint>, ReadNone>,
+> Rules<F, G> {
+    /// A type at its place, told from what begins it.
+    pub fn type_by(&self, at: &mut Ahead<'_>, place: TypePlace) -> Result<Found<Ty>, ReadNone>
+        requires deeper { AreDeeper self.now.depth (F.pre self.now.types) (F.post self.now.types) (G.pre self.now.constraints) (G.post self.now.constraints) }
+        requires room { self.now.depth + 1 < 2 ^ 32 }
+        ensures read { IsFound (reader.type_by (within self.now.depth) place (lead_at at.old) at.old) result at.new }
+        ensures within { IfOk result (λ found. found.need ≤ self.now.depth + 1) }
+    {
+        match lead_at(at) {
+            Some(Lead::Path) => self.path_or_call(at),
+            Some(Lead::Func) => self.func_type(at),
+            Some(lead) => {
+                pass(at);
+                self.marked_type(at, place, lead)
+            }
+            None => Err(ReadNone::NoReading),
+        }
+    }
+
+    /// A type behind the token that begins it.
+    fn marked_type(
+        &self,
+        at: &mut Ahead<'_>,
+        place: TypePlace,
+        lead: Lead,
+    ) -> Result<Found<Ty>, ReadNone>
+        requires deeper { AreDeeper self.now.depth (F.pre self.now.types) (F.post self.now.types) (G.pre self.now.constraints) (G.post self.now.constraints) }
+        requires room { self.now.depth + 1 < 2 ^ 32 }
+        ensures read { IsFound (marked (within self.now.depth) place lead at.old) result at.new }
+        ensures within { IfOk result (λ found. found.need ≤ self.now.depth + 1) }
+    {
+        match lead {
+            Lead::Paren => self.paren_type(at),
+            Lead::Never => Ok(Found {
+                node: Ty::Never,
+                need: 1,
+            }),
+            Lead::Infer => Ok(Found {
+                node: Ty::Infer,
+                need: 1,
+            }),
+            Lead::Pointer => self.pointer_type(at),
+            Lead::Reference => self.reference_type(at),
+            Lead::Bracket => self.bracket_type(at),
+            Lead::Impl => self.bounds_type(at, false, place),
+            Lead::Dyn => self.bounds_type(at, true, place),
+            Lead::Path => Err(ReadNone::NoReading),
+            Lead::Func => Err(ReadNone::NoReading),
+        }
+    }
+
+    /// Types with commas, and the closing parenthesis behind them.
+    #[tactic(auto, using(crate::proofs::Left::types_leave))]
+    pub fn paren_types(&self, at: &mut Ahead<'_>) -> Result<Found<List<Ty>>, ReadNone>
+        requires { AreDeeper self.now.depth (F.pre self.now.types) (F.post self.now.types) (G.pre self.now.constraints) (G.post self.now.constraints) }
+        ensures read { IsFound (gathered (elements (closes Paren) ((within self.now.depth).types Bounds) at.old)) result at.new }
+        ensures within { IfOk result (λ found. found.need ≤ self.now.depth) }
+    {
+        read_elements::<Types, Rules<F, G>, Ty, TypePlace, _>(
+            self.alloc,
+            at,
+            self.depth,
+            Closer::Group(Delim::Paren),
+            self,
+            Rules::inner,
+            TypePlace::Bounds,
+        )
+    }
+
+    /// What stands behind a `(`.
+    #[tactic(auto, unfolding(lay_tree::specs::reader::Types::paren_type))]
+    fn paren_type(&self, at: &mut Ahead<'_>) -> Result<Found<Ty>, ReadNone>
+        requires deeper { AreDeeper self.now.depth (F.pre self.now.types) (F.post self.now.types) (G.pre self.now.constraints) (G.post self.now.constraints) }
+        requires room { self.now.depth + 1 < 2 ^ 32 }
+        ensures read { IsFound (reader.paren_type (within self.now.depth) at.old) result at.new }
+        ensures within { IfOk result (λ found. found.need ≤ self.now.depth + 1) }
+    {
+        if takes_closer(at, Delim::Paren) {
+            return Ok(Found {
+                node: Ty::Tuple {
+                    elements: List::new(self.alloc),
+                },
+                need: 1,
+            });
+        }
+        let first = self.inner(at, TypePlace::Bounds)?;
+        self.paren_rest(at, first)
+    }
+
+    /// What stands behind a `(` and a type.
+    fn paren_rest(&self, at: &mut Ahead<'_>, first: Found<Ty>) -> Result<Found<Ty>, ReadNone>
+        requires deeper { AreDeeper self.now.depth (F.pre self.now.types) (F.post self.now.types) (G.pre self.now.constraints) (G.post self.now.constraints) }
+        requires room { self.now.depth + 1 < 2 ^ 32 }
+        requires within { first.need ≤ self.now.depth }
+        ensures read { IsFound (reader.paren_by (within self.now.depth) (first.node, first.need) at.old) result at.new }
+        ensures within { IfOk result (λ found. found.need ≤ self.now.depth + 1) }
+    {
+        if takes_closer(at, Delim::Paren) {
+            let inner = boxed(self.alloc, first.node)?;
+            return Ok(Found {
+                node: Ty::Paren { inner },
+                need: first.need + 1,
+            });
+        }
+        if !takes_mark(at, b",") {
+            return Err(ReadNone::NoReading);
+        }
+        let (first, more) = both(first, self.paren_types(at))?;
+        let elements = prepended(first.node, more.node)?;
+        Ok(Found {
+            node: Ty::Tuple { elements },
+            need: greater(first.need, more.need) + 1,
+        })
+    }
+
+    /// What stands behind a `[`.
+    #[tactic(auto, unfolding(lay_tree::specs::reader::Types::bracket_type))]
+    fn bracket_type(&self, at: &mut Ahead<'_>) -> Result<Found<Ty>, ReadNone>
+        requires deeper { AreDeeper self.now.depth (F.pre self.now.types) (F.post self.now.types) (G.pre self.now.constraints) (G.post self.now.constraints) }
+        requires room { self.now.depth + 1 < 2 ^ 32 }
+        ensures read { IsFound (reader.bracket_type (within self.now.depth) at.old) result at.new }
+        ensures within { IfOk result (λ found. found.need ≤ self.now.depth + 1) }
+    {
+        let inner = self.inner(at, TypePlace::Bounds)?;
+        if takes_mark(at, b";") {
+            array(self.alloc, at, inner)
+        } else if takes_closer(at, Delim::Bracket) {
+            let need = inner.need + 1;
+            let inner = boxed(self.alloc, inner.node)?;
+            Ok(Found {
+                node: Ty::Slice { inner },
+                need,
+            })
+        } else {
+            Err(ReadNone::NoReading)
+        }
+    }
+
+    /// What stands behind a `&`.
+    #[tactic(auto, unfolding(lay_tree::specs::reader::Types::reference_type))]
+    fn reference_type(&self, at: &mut Ahead<'_>) -> Result<Found<Ty>, ReadNone>
+        requires deeper { AreDeeper self.now.depth (F.pre self.now.types) (F.post self.now.types) (G.pre self.now.constraints) (G.post self.now.constraints) }
+        requires room { self.now.depth + 1 < 2 ^ 32 }
+        ensures read { IsFound (reader.reference_type (within self.now.depth) at.old) result at.new }
+        ensures within { IfOk result (λ found. found.need ≤ self.now.depth + 1) }
+    {
+        let lifetime = read_lifetime_if(self.alloc, at)?;
+        let mutable = takes_keyword(at, b"mut");
+        let found = self.inner(at, TypePlace::NoBounds)?;
+        let need = found.need + 1;
+        let inner = boxed(self.alloc, found.node)?;
+        Ok(Found {
+            node: Ty::Ref {
+                lifetime,
+                mutable,
+                inner,
+            },
+            need,
+        })
+    }
+
+    /// What stands behind a `*`.
+    #[tactic(auto, unfolding(lay_tree::specs::reader::Types::pointer_type))]
+    fn pointer_type(&self, at: &mut Ahead<'_>) -> Result<Found<Ty>, ReadNone>
+        requires deeper { AreDeeper self.now.depth (F.pre self.now.types) (F.post self.now.types) (G.pre self.now.constraints) (G.post self.now.constraints) }
+        requires room { self.now.depth + 1 < 2 ^ 32 }
+        ensures read { IsFound (reader.pointer_type (within self.now.depth) at.old) result at.new }
+        ensures within { IfOk result (λ found. found.need ≤ self.now.depth + 1) }
+    {
+        let mutable = is_mutable(at)?;
+        let found = self.inner(at, TypePlace::NoBounds)?;
+        let need = found.need + 1;
+        let inner = boxed(self.alloc, found.node)?;
+        Ok(Found {
+            node: Ty::Ptr { mutable, inner },
+            need,
+        })
+    }
+
+    /// What stands behind `impl` or `dyn`.
+    #[tactic(auto, unfolding(lay_tree::specs::reader::Types::bounds_type))]
+    fn bounds_type(
+        &self,
+        at: &mut Ahead<'_>,
+        dynamic: bool,
+        place: TypePlace,
+    ) -> Result<Found<Ty>, ReadNone>
+        requires deeper { AreDeeper self.now.depth (F.pre self.now.types) (F.post self.now.types) (G.pre self.now.constraints) (G.post self.now.constraints) }
+        requires room { self.now.depth + 1 < 2 ^ 32 }
+        ensures read { IsFound (reader.bounds_type (within self.now.depth) dynamic place at.old) result at.new }
+        ensures within { IfOk result (λ found. found.need ≤ self.now.depth + 1) }
+    {
+        let bounds = self.bounds(at, place)?;
+        Ok(Found {
+            need: bounds.need + 1,
+            node: Ty::Bounds {
+                dynamic,
+                bounds: bounds.node,
+            },
+        })
+    }
+
+    /// A macro call, or a path.
+    fn path_or_call(&self, at: &mut Ahead<'_>) -> Result<Found<Ty>, ReadNone>
+        requires deeper { AreDeeper self.now.depth (F.pre self.now.types) (F.post self.now.types) (G.pre self.now.constraints) (G.post self.now.constraints) }
+        requires room { self.now.depth + 1 < 2 ^ 32 }
+        ensures read { IsFound (path_or_call (within self.now.depth) at.old) result at.new }
+        ensures within { IfOk result (λ found. found.need ≤ self.now.depth + 1) }
+    {
+        if begins_call(self.alloc, at)? {
+            let call = call_ahead(self.alloc, at)?;
+            return Ok(Found {
+                node: Ty::Call { call },
+                need: 1,
+            });
+        }
+        self.path_type(at)
+    }
+
+    /// A path.
+    #[tactic(auto, unfolding(lay_tree::specs::reader::Types::path_type))]
+    fn path_type(&self, at: &mut Ahead<'_>) -> Result<Found<Ty>, ReadNone>
+        requires deeper { AreDeeper self.now.depth (F.pre self.now.types) (F.post self.now.types) (G.pre self.now.constraints) (G.post self.now.constraints) }
+        requires room { self.now.depth + 1 < 2 ^ 32 }
+        ensures read { IsFound (reader.path_type (within self.now.depth) at.old) result at.new }
+        ensures within { IfOk result (λ found. found.need ≤ self.now.depth + 1) }
+    {
+        let path = self.path(at, PathStyle::Kind)?;
+        if at.op_is(b"!") {
+            return Err(ReadNone::NoReading);
+        }
+        Ok(Found {
+            need: path.need + 1,
+            node: Ty::Path { path: path.node },
+        })
+    }
+
+    /// A parameter of a function type.
+    #[tactic(auto, unfolding(lay_tree::specs::reader::Types::func_param))]
+    fn func_param(&self, at: &mut Ahead<'_>, _place: ()) -> Result<Found<FuncParam>, ReadNone>
+        requires { AreDeeper self.now.depth (F.pre self.now.types) (F.post self.now.types) (G.pre self.now.constraints) (G.post self.now.constraints) }
+        ensures read { IsFound (reader.func_param (within self.now.depth) at.old) result at.new }
+        ensures within { IfOk result (λ found. found.need ≤ self.now.depth) }
+    {
+        let attrs = attrs_ahead(self.alloc, at, false)?;
+        let name = read_param_name_if(self.alloc, at)?;
+        let ty = self.inner(at, TypePlace::Bounds)?;
+        Ok(Found {
+            need: ty.need,
+            node: FuncParam {
+                attrs,
+                name,
+                ty: ty.node,
+            },
+        })
+    }
+
+    /// Parameters of a function type as long as one begins.
+    #[tactic(auto, using(crate::proofs::Left::param_leaves))]
+    fn open_params(&self, at: &mut Ahead<'_>) -> Result<Found<(List<FuncParam>, bool)>, ReadNone>
+        requires { AreDeeper self.now.depth (F.pre self.now.types) (F.post self.now.types) (G.pre self.now.constraints) (G.post self.now.constraints) }
+        ensures read { IsFound (gathered_open (open_elements reader.begins_param (reader.func_param (within self.now.depth)) at.old)) result at.new }
+        ensures within { IfOk result (λ found. found.need ≤ self.now.depth) }
+    {
+        read_open_elements::<FuncParams, Rules<F, G>, FuncParam, (), _>(
+            self.alloc,
+            at,
+            self.depth,
+            Opening::Param,
+            self,
+            Rules::func_param,
+            (),
+        )
+    }
+
+    /// The parameters of a function type, and whether `...` stands behind them.
+    #[tactic(auto, unfolding(lay_tree::specs::reader::Types::func_params))]
+    fn func_params(&self, at: &mut Ahead<'_>) -> Result<Found<(List<FuncParam>, bool)>, ReadNone>
+        requires { AreDeeper self.now.depth (F.pre self.now.types) (F.post self.now.types) (G.pre self.now.constraints) (G.post self.now.constraints) }
+        ensures read { IsFound (reader.func_params (within self.now.depth) at.old) result at.new }
+        ensures within { IfOk result (λ found. found.need ≤ self.now.depth) }
+    {
+        if !takes_opener(at, Delim::Paren) {
+            return Err(ReadNone::NoReading);
+        }
+        let Found { node, need } = self.open_params(at)?;
+        let (params, may_vary) = node;
+        let variadic = takes_dots(at, may_vary);
+        if takes_closer(at, Delim::Paren) {
+            Ok(Found {
+                node: (params, variadic),
+                need,
+            })
+        } else {
+            Err(ReadNone::NoReading)
+        }
+    }
+
+    /// A function type.
+    #[tactic(auto, unfolding(lay_tree::specs::reader::Types::func_type))]
+    fn func_type(&self, at: &mut Ahead<'_>) -> Result<Found<Ty>, ReadNone>
+        requires deeper { AreDeeper self.now.depth (F.pre self.now.types) (F.post self.now.types) (G.pre self.now.constraints) (G.post self.now.constraints) }
+        requires room { self.now.depth + 1 < 2 ^ 32 }
+        ensures read { IsFound (reader.func_type (within self.now.depth) at.old) result at.new }
+        ensures within { IfOk result (λ found. found.need ≤ self.now.depth + 1) }
+    {
+        let binder = read_binder_if(self.alloc, at)?;
+        let is_unsafe = takes_keyword(at, b"unsafe");
+        let abi = read_abi_if(self.alloc, at)?;
+        if !takes_keyword(at, b"fn") {
+            return Err(ReadNone::NoReading);
+        }
+        let params = self.func_params(at)?;
+        let (params, output) = both(params, self.output(at))?;
+        let Found { node, need } = params;
+        let (params, variadic) = node;
+        Ok(Found {
+            need: greater(need, output.need) + 1,
+            node: Ty::Func {
+                binder,
+                is_unsafe,
+                abi,
+                params,
+                variadic,
+                output: output.node,
+            },
+        })
+    }
+}
+
+/// Whether what a pointer leads to may change: `mut` or `const`.
+fn is_mutable(at: &mut Ahead<'_>) -> Result<bool, ReadNone>
+    ensures { IsGot (reader.is_mutable at.old) result at.new }
+{
+    if takes_keyword(at, b"mut") {
+        Ok(true)
+    } else if takes_keyword(at, b"const") {
+        Ok(false)
+    } else {
+        Err(ReadNone::NoReading)
+    }
+}
+
+/// An array, behind its `;`.
+fn array(alloc: Global, at: &mut Ahead<'_>, element: Found<Ty>) -> Result<Found<Ty>, ReadNone>
+    requires { element.need + 1 < 2 ^ 32 }
+    ensures read { IsFound (reader.array_by (element.node, element.need) at.old) result at.new }
+    ensures within { IfOk result (λ found. found.need ≡ element.need + 1) }
+{
+    let length = read_tokens(alloc, at)?;
+    if !takes_closer(at, Delim::Bracket) || length.as_slice().is_empty() {
+        return Err(ReadNone::NoReading);
+    }
+    let need = element.need + 1;
+    let inner = boxed(alloc, element.node)?;
+    Ok(Found {
+        node: Ty::Array { inner, length },
+        need,
+    })
+}
+
+/// Whether a macro call begins at the front: a path of words before a `!`.
+fn begins_call(alloc: Global, at: &Ahead<'_>) -> Result<bool, ReadNone>
+    ensures { IsMade (reader.begins_call at.now) result }
+{
+    let mut behind = at.fork();
+    match read_simple_path(alloc, &mut behind) {
+        Ok(_) => Ok(behind.op_is(b"!")),
+        Err(ReadNone::NoReading) => Ok(false),
+        Err(ReadNone::NoMemory) => Err(ReadNone::NoMemory),
+    }
+}
+
+/// The name of a parameter and the `:` behind it, if they stand there.
+fn read_param_name_if(alloc: Global, at: &mut Ahead<'_>) -> Result<Option<GivenName>, ReadNone>
+    ensures { IsGot (reader.if_there (reader.begins_given at.old) reader.param_name at.old) result at.new }
+{
+    let mut behind = at.fork();
+    match read_given_name(alloc, &mut behind) {
+        Ok(name) => {
+            if !takes_op(&mut behind, b":") {
+                return Ok(None);
+            }
+            *at = behind;
+            Ok(Some(name))
+        }
+        Err(ReadNone::NoReading) => Ok(None),
+        Err(ReadNone::NoMemory) => Err(ReadNone::NoMemory),
+    }
+}
+
+/// Passes `...`, if it may stand at the front and does.
+fn takes_dots(at: &mut Ahead<'_>, may_vary: bool) -> bool
+    ensures found { result ≡ (may_vary && is_op (codes "...") at.old) }
+    ensures passed { at.new ≡ (if result then drop 3 at.old else at.old) }
+{
+    let found = may_vary && at.op_is(b"...");
+    if found {
+        pass_two(at);
+        pass(at);
+    }
+    found
+}
