@@ -6,6 +6,7 @@ use Rattle.lay_token.specs.declared.token.Token.{Token}
 use Rattle.lay_tree.specs.Ahead.{Tokens, closes, is_mark}
 use Rattle.lay_tree.specs.Begins.{begins_predicate}
 use Rattle.lay_tree.specs.reader.Loops.{Got, Read, nodes, deepest}
+use Rattle.lay_tree.specs.reader.Patterns.{begins_field}
 use Rattle.lay_tree.specs.reader.Types.{within, begins_param}
 use Rattle.lay_tree.specs.declared.token.Literal.{Literal}
 use Rattle.lay_tree.specs.declared.types.Constraint.{Constraint}
@@ -58,10 +59,12 @@ closed_by closer.Angle t = is_mark (codes ">") t
 abbrev pub joined_by : Joint → List ℕ
 joined_by joint.Plus = codes "+"
 joined_by joint.Colons = codes "::"
+joined_by joint.Bar = codes "|"
 
 abbrev pub begins_part : Opening → Tokens → Bool
 begins_part opening.Param ts = begins_param ts
 begins_part opening.Predicate ts = begins_predicate ts
+begins_part opening.Field ts = begins_field ts
 
 -- These nodes were read as long as one began, and whether a comma stands behind them, and this is the greatest need.
 abbrev pub AreFoundOpen : {A : Type 0} → List (A × ℕ) × Bool → Found (List A × Bool) → Type 0

@@ -4,9 +4,9 @@
 //! is spelled and nothing else.
 #![tactic(auto)]
 
-mod leads;
-mod loops;
-mod parts;
-mod rules;
+pub mod leads;
+pub mod loops;
+pub mod parts;
+pub mod rules;
 
 pub use lay_read_tokens::{ReadNone, read_attr, read_attrs, read_call};
