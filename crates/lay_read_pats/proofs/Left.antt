@@ -287,6 +287,9 @@ single_leaves (suc depth) ts = single_by_left (pats_within depth) (record {
 pub pats_leave : (depth : ℕ) (place : PatPlace) (ts : Tokens) → Leaves 1 ts (p.pat_at place depth ts)
 pats_leave depth place ts = place_left depth (p.single_at depth) (single_leaves depth) place ts
 
+pub alternatives_leave : (depth : ℕ) (ts : Tokens) → Leaves 1 ts (p.pat_at Alternatives depth ts)
+alternatives_leave depth ts = pats_leave depth Alternatives ts
+
 pub field_leaves : (depth : ℕ) (ts : Tokens) → Leaves 1 ts (p.one_field (pats_within depth) ts)
 field_leaves depth ts = one_field_left (pats_within depth) (record {
   pats = λ place us. pats_leave depth place us;

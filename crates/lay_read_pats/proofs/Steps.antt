@@ -1,5 +1,5 @@
 -- One step of a reader, from what the readers within it give.
-use Rattle.std.proofs.Common.{◌≡◌, ℕ, zero, suc, ◌-◌, ◌<◌, max, nat_le, not, Bool, true, false, refl, if◌then◌else◌, codes, List, [], ◌∷◌, map, Option, Some, None, Result, is_some, sym, ap, ◌∙◌, arith}
+use Rattle.std.proofs.Common.{◌≡◌, ℕ, zero, suc, ◌-◌, ◌<◌, max, nat_le, not, Bool, true, false, refl, if◌then◌else◌, codes, List, [], ◌∷◌, map, Option, Some, None, Result, Ok, Err, MatchResult, is_some, sym, ap, ◌∙◌, arith}
 use Rattle.lay_token.specs.Operators.{is_op}
 use Rattle.lay_piece.specs.declared.kind.Delim.TheVariants.{Paren}
 use Rattle.lay_piece.specs.declared.kind.Kind.{Kind}
@@ -18,8 +18,9 @@ use Rattle.lay_tree.specs.declared.patterns.FieldPat.TheViews as views
 use Rattle.lay_tree.specs.declared.patterns.Pat.{Pat}
 use Rattle.lay_tree.specs.declared.patterns.Pat.TheVariants as pat
 use Rattle.lay_tree.specs.declared.patterns.PatPlace.TheVariants.{Alternatives}
+use Rattle.lay_tree.specs.declared.token.Name.{Name}
 use Rattle.lay_tree.proofs.nodes.PatternsLaws.{PatView, IsOr, IsValue, IsWild, IsRest, IsCall, IsPath, IsBind, IsSpan, IsRef, IsStruct, IsTupleStruct, IsTuple, IsParen, IsSlice, pat_view, pat_or_is, pat_value_is, pat_wild_is, pat_rest_is, pat_call_is, pat_path_is, pat_bind_is, pat_span_is, pat_ref_is, pat_struct_is, pat_tuple_struct_is, pat_tuple_is, pat_paren_is, pat_slice_is}
-use Rattle.lay_read_tokens.specs.Answers.{IsFound, is_underscore, is_underscore_kind}
+use Rattle.lay_read_tokens.specs.Answers.{AreFound, IsFound, IsHeld, is_underscore, is_underscore_kind}
 use Rattle.lay_read_tokens.specs.declared.found.Found.{Found}
 use Rattle.lay_read_tokens.specs.declared.stop.ReadNone.{ReadNone}
 use Rattle.lay_read_types.specs.Answers.{literal_if}
@@ -168,3 +169,35 @@ single_none n ts e = ap (λ (k : ℕ). r.single_at k ts) e
 pub single_deeper : (n : ℕ) (ts : Tokens) → 0 < n → r.single_at n ts ≡ r.single_by (pats_within (n - 1)) ts
 unfolding r.single_at
 single_deeper n ts some = deeper (λ (k : ℕ). r.single_at k ts) n some
+
+-- ---- a pair of what was read
+
+same_ok : {A B : Type 0} (x y : A) (b d : B) → ◌≡◌ {A = Result (A × B) ReadNone} (Ok (y, d)) (Ok (x, b))
+    → (y ≡ x) × (d ≡ b)
+same_ok {A} {B} x y b d e =
+    let p : ◌≡◌ {A = A × B} (y, d) (x, b) = cc in (ap (λ (z : A × B). z.0) p, ap (λ (z : A × B). z.1) p)
+
+pub paren_both : (deeper : PatWithin) (x : Found Pat) (ts mid rest : Tokens) → first (closes Paren) ts ≡ false
+    → first (is_mark (codes ",")) ts ≡ true → mid ≡ tail ts → (second : Result (Found (List Pat)) ReadNone)
+    (y : Found Pat) (more : Found (List Pat))
+    → IsHeld AreFound (elements (closes Paren) (deeper.pats Alternatives) mid) second rest
+    → MatchResult second (λ b. ◌≡◌ {A = Result (Found Pat × Found (List Pat)) ReadNone} (Ok (y, more)) (Ok (x, b)))
+    (λ none. ◌≡◌ {A = Result (Found Pat × Found (List Pat)) ReadNone} (Ok (y, more)) (Err none))
+    → r.paren_by deeper (x.node, x.need) ts ≡ tuple_behind (y.node, y.need) more.node more.need rest
+paren_both deeper x ts mid rest h g m (Ok b) y more held e =
+    let s = same_ok x y b more e in
+    rw (s.0, s.1) (paren_more deeper (x.node, x.need) ts mid h g m held.0 b.node b.need rest held.1 held.2.0 held.2.1)
+paren_both deeper x ts mid rest h g m (Err none) y more held e = absurd (cc)
+
+short_bind : (by_ref mutable : Bool) (name : Name) (of : Option Pat)
+    → (about_pat (pat.Bind by_ref mutable name of)).short ≡ not (is_some of)
+short_bind by_ref mutable name None = ap (λ (x : PatFacts). x.short) (pat_bind_is by_ref mutable name None)
+short_bind by_ref mutable name (Some x) = ap (λ (f : PatFacts). f.short) (pat_bind_is by_ref mutable name (Some x))
+
+twice : (b : Bool) → b ≡ not (not b)
+twice true = refl
+twice false = refl
+
+pub short_none : (by_ref mutable : Bool) (name : Name) (of : Option Pat) (none : Bool) → is_some of ≡ not none
+    → none ≡ (about_pat (pat.Bind by_ref mutable name of)).short
+short_none by_ref mutable name of none h = twice none ∙ ap not (sym h) ∙ sym (short_bind by_ref mutable name of)

@@ -86,7 +86,7 @@ fn tuple_of(
 
 impl<P: Fn(Global, &mut Ahead<'_>, PatPlace, u32) -> Result<Found<Pat>, ReadNone>> PatRules<P> {
     /// Patterns with commas, and the closing delimiter behind them.
-    #[tactic(auto, using(crate::proofs::Left::pats_leave))]
+    #[tactic(auto, using(crate::proofs::Left::alternatives_leave))]
     pub fn elements(&self, at: &mut Ahead<'_>, delim: Delim) -> Result<Found<List<Pat>>, ReadNone>
         requires { ArePats self.now.depth (P.pre self.now.pats) (P.post self.now.pats) }
         ensures read { IsHeld AreFound (elements (closes delim) (pat_at Alternatives self.now.depth) at.old) result at.new }
@@ -179,7 +179,6 @@ impl<P: Fn(Global, &mut Ahead<'_>, PatPlace, u32) -> Result<Found<Pat>, ReadNone
     }
 
     /// What stands behind a `(` and a pattern.
-    #[tactic(auto, using(crate::proofs::Steps::tuple_is))]
     fn paren_by(&self, at: &mut Ahead<'_>, first: Found<Pat>) -> Result<Found<Pat>, ReadNone>
         requires deeper { ArePats self.now.depth (P.pre self.now.pats) (P.post self.now.pats) }
         requires within { first.need ≤ self.now.depth }

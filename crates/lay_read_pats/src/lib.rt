@@ -15,6 +15,5 @@ mod rules;
 mod structs;
 mod values;
 
-pub use reads::{read_pat, read_pat_no_alt};
-
 pub use lay_read_types::{ReadNone, read_attr, read_attrs, read_call};
+pub use reads::{read_pat, read_pat_no_alt};

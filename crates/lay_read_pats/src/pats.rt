@@ -51,11 +51,7 @@ pub fn pat_ahead(
 /// A pattern without alternatives, within a depth.
 #[cycle(pats)]
 #[tactic(auto, unfolding(lay_tree::specs::reader::Patterns::single_at))]
-pub fn single_ahead(
-    alloc: Global,
-    at: &mut Ahead<'_>,
-    depth: u32,
-) -> Result<Found<Pat>, ReadNone>
+pub fn single_ahead(alloc: Global, at: &mut Ahead<'_>, depth: u32) -> Result<Found<Pat>, ReadNone>
     ensures read { IsFound (single_at depth at.old) result at.new }
     ensures within { IfOk result (λ found. found.need ≤ depth) }
 {
@@ -73,11 +69,7 @@ pub fn single_ahead(
 /// Patterns with a `|` between them, one at least.
 #[cycle(pats)]
 #[tactic(auto, using(crate::proofs::Left::single_leaves))]
-fn alternatives(
-    alloc: Global,
-    at: &mut Ahead<'_>,
-    depth: u32,
-) -> Result<Found<List<Pat>>, ReadNone>
+fn alternatives(alloc: Global, at: &mut Ahead<'_>, depth: u32) -> Result<Found<List<Pat>>, ReadNone>
     ensures read { IsHeld AreFound (chain (codes "|") (single_at depth) at.old) result at.new }
     ensures within { IfOk result (λ found. found.need ≤ depth) }
 {
@@ -95,11 +87,7 @@ fn alternatives(
 
 /// One of several alternatives.
 #[cycle(pats)]
-fn one_alternative(
-    level: &Level,
-    at: &mut Ahead<'_>,
-    _place: (),
-) -> Result<Found<Pat>, ReadNone>
+fn one_alternative(level: &Level, at: &mut Ahead<'_>, _place: ()) -> Result<Found<Pat>, ReadNone>
     ensures read { IsFound (single_at level.now.depth at.old) result at.new }
     ensures within { IfOk result (λ found. found.need ≤ level.now.depth) }
 {

@@ -28,12 +28,7 @@ pub fn read_pat_no_alt(alloc: Global, at: &mut Cursor<'_>, depth: u32) -> Result
 }
 
 /// The pattern at the front, at its place and within a depth. Where there is none the cursor stays.
-fn read_at(
-    alloc: Global,
-    at: &mut Cursor<'_>,
-    place: PatPlace,
-    depth: u32,
-) -> Result<Pat, ReadNone>
+fn read_at(alloc: Global, at: &mut Cursor<'_>, place: PatPlace, depth: u32) -> Result<Pat, ReadNone>
     requires { AreLexed at.old }
     ensures { IsReadAt depth (λ (x : Pat). PatFront place (about_pat x)) at.old result at.new }
 {
