@@ -1,5 +1,5 @@
 -- What reading of patterns leaves: the tokens behind those that are read.
-use Rattle.std.proofs.Common.{◌≡◌, ℕ, zero, suc, max, nat_le, ◌<◌, ◌≤◌, ◌&&◌, ◌||◌, Bool, true, false, List, [], ◌∷◌, length, drop, codes, Option, Some, None, if◌then◌else◌, refl, arith}
+use Rattle.std.proofs.Common.{◌≡◌, ℕ, zero, suc, nat_le, ◌&&◌, ◌||◌, Bool, true, false, List, [], ◌∷◌, drop, codes, Option, Some, None, if◌then◌else◌, refl, arith}
 use Rattle.std.proofs.lemmas.List.{length-drop}
 use Rattle.lay_token.specs.Operators.{op_at, is_op}
 use Rattle.lay_piece.specs.declared.kind.Delim.TheVariants.{Paren, Bracket, Brace}
@@ -12,7 +12,7 @@ use Rattle.lay_tree.specs.nodes.Patterns.{about_pat, is_self}
 use Rattle.lay_tree.specs.nodes.Types.{lone_word}
 use Rattle.lay_tree.specs.reader.Attr.{attributes}
 use Rattle.lay_tree.specs.reader.Call.{call}
-use Rattle.lay_tree.specs.reader.Loops.{Got, Read, ◌>>=◌, passed, nodes, deepest, elements, open_elements}
+use Rattle.lay_tree.specs.reader.Loops.{Got, Read, passed, deepest, elements, open_elements}
 use Rattle.lay_tree.specs.reader.Patterns as p
 use Rattle.lay_tree.specs.reader.Patterns.{PatWithin}
 use Rattle.lay_tree.specs.reader.Types as r
@@ -22,14 +22,13 @@ use Rattle.lay_tree.specs.declared.attr.Attr.{Attr}
 use Rattle.lay_tree.specs.declared.patterns.Pat.{Pat}
 use Rattle.lay_tree.specs.declared.patterns.PatPlace.{PatPlace}
 use Rattle.lay_tree.specs.declared.patterns.PatPlace.TheVariants.{Alternatives, Single}
-use Rattle.lay_tree.specs.declared.patterns.PatValue.{PatValue}
 use Rattle.lay_tree.specs.declared.patterns.SpanEnd.{SpanEnd}
 use Rattle.lay_tree.specs.declared.token.Name.{Name}
 use Rattle.lay_tree.specs.declared.token.Word.{Word}
 use Rattle.lay_tree.specs.declared.types.Path.{Path}
 use Rattle.lay_tree.specs.declared.types.PathStyle.TheVariants.{Code}
-use Rattle.lay_read_tokens.proofs.Left.{Left, Leaves, Passes, unread, dropped, one_read, joined, further, chain, chain_passed, choice, first_read, passed_left, elements_left, name_left, call_left, attributes_left}
-use Rattle.lay_read_types.proofs.Left.{flag_left, literal_left, weaker, chain_left, open_left, path_left, left_within}
+use Rattle.lay_read_tokens.proofs.Left.{Left, Leaves, Passes, unread, dropped, joined, further, chain, chain_passed, choice, first_read, passed_left, elements_left, name_left, call_left, attributes_left}
+use Rattle.lay_read_types.proofs.Left.{flag_left, literal_left, chain_left, open_left, path_left, left_within}
 use Rattle.lay_read_pats.specs.Answers.{pats_within}
 
 -- ---- small parts

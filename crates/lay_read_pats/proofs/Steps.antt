@@ -1,6 +1,5 @@
 -- One step of a reader, from what the readers within it give.
-use Rattle.std.proofs.Common.{◌≡◌, ℕ, zero, suc, ◌-◌, ◌<◌, max, nat_le, not, Bool, true, false, refl, if◌then◌else◌, codes, List, [], ◌∷◌, map, Option, Some, None, Result, Ok, Err, MatchResult, is_some, sym, ap, ◌∙◌, arith}
-use Rattle.lay_token.specs.Operators.{is_op}
+use Rattle.std.proofs.Common.{◌≡◌, ℕ, suc, ◌-◌, ◌<◌, max, not, Bool, true, false, refl, if◌then◌else◌, codes, List, [], ◌∷◌, Option, Some, None, Result, Ok, Err, MatchResult, is_some, sym, ap, ◌∙◌, arith}
 use Rattle.lay_piece.specs.declared.kind.Delim.TheVariants.{Paren}
 use Rattle.lay_piece.specs.declared.kind.Kind.{Kind}
 use Rattle.lay_piece.specs.declared.kind.Kind.TheVariants as kind
@@ -8,10 +7,10 @@ use Rattle.lay_token.specs.declared.token.Token.{Token}
 use Rattle.lay_tree.specs.Ahead.{Tokens, first, tail, is_mark, closes}
 use Rattle.lay_tree.specs.Begins.{is_literal_token}
 use Rattle.lay_tree.specs.nodes.Patterns.{PatFacts, about_pat}
-use Rattle.lay_tree.specs.reader.Loops.{Got, Read, ◌>>=◌, passed, nodes, deepest, elements}
+use Rattle.lay_tree.specs.reader.Loops.{Read, ◌>>=◌, nodes, deepest, elements}
 use Rattle.lay_tree.specs.reader.Patterns as r
 use Rattle.lay_tree.specs.reader.Patterns.{PatWithin}
-use Rattle.lay_tree.specs.reader.Types.{chain, flag, literal}
+use Rattle.lay_tree.specs.reader.Types.{flag}
 use Rattle.lay_tree.specs.declared.patterns.FieldPat.{FieldPat}
 use Rattle.lay_tree.specs.declared.patterns.FieldPat.TheOpen.{Pat-F}
 use Rattle.lay_tree.specs.declared.patterns.FieldPat.TheViews as views
@@ -25,7 +24,7 @@ use Rattle.lay_read_tokens.specs.declared.found.Found.{Found}
 use Rattle.lay_read_tokens.specs.declared.stop.ReadNone.{ReadNone}
 use Rattle.lay_read_types.specs.Answers.{literal_if}
 use Rattle.lay_read_types.proofs.Steps.{literal_is}
-use Rattle.lay_read_pats.specs.Answers.{alternatives_behind, pats_within, tuple_behind}
+use Rattle.lay_read_pats.specs.Answers.{pats_within, tuple_behind}
 
 -- ---- values
 
@@ -65,20 +64,13 @@ underscore_is (t ∷ ts) = kind_is t.kind
 
 -- ---- lists
 
--- what is made of a list that is read by its nodes and their greatest need
+-- a tuple of a list that is read, by its nodes and their greatest need
 pub tuple_is : (x : Pat × ℕ) (read : List (Pat × ℕ)) (ts : Tokens)
     → r.tuple_of x read ts ≡ tuple_behind x (nodes read) (deepest read) ts
 tuple_is x [] ts =
     let e : x.1 ≡ max x.1 0 = omega arith in
     ap (λ (n : ℕ). let got : Read Pat = if (about_pat x.0).rest then None else Some ((pat.Tuple (x.0 ∷ []), suc n), ts) in got) e
 tuple_is x (y ∷ more) ts = refl
-
-pub alternatives_is : (budget : ℕ) (read : List (Pat × ℕ)) (ts : Tokens)
-    → r.alternatives_of budget read ts ≡ alternatives_behind budget (nodes read) (deepest read) ts
-alternatives_is budget [] ts = refl
-alternatives_is budget (x ∷ []) ts =
-    let e : x.1 ≡ max x.1 0 = omega arith in ap (λ (n : ℕ). let got : Read Pat = Some ((x.0, n), ts) in got) e
-alternatives_is budget (x ∷ y ∷ more) ts = refl
 
 -- ---- what is told of a pattern
 
@@ -120,6 +112,19 @@ span_is x = ap (λ (s : Bool × Bool × Bool). s.1) (shape_by x (pat_view x))
 pub rest_is : (x : Pat) → (about_pat x).rest ≡ (shape_in (views.out-Pat x)).2
 rest_is x = ap (λ (s : Bool × Bool × Bool). s.2) (shape_by x (pat_view x))
 
+short_bind : (by_ref mutable : Bool) (name : Name) (of : Option Pat)
+    → (about_pat (pat.Bind by_ref mutable name of)).short ≡ not (is_some of)
+short_bind by_ref mutable name None = ap (λ (x : PatFacts). x.short) (pat_bind_is by_ref mutable name None)
+short_bind by_ref mutable name (Some x) = ap (λ (f : PatFacts). f.short) (pat_bind_is by_ref mutable name (Some x))
+
+twice : (b : Bool) → b ≡ not (not b)
+twice true = refl
+twice false = refl
+
+pub short_none : (by_ref mutable : Bool) (name : Name) (of : Option Pat) (none : Bool) → is_some of ≡ not none
+    → none ≡ (about_pat (pat.Bind by_ref mutable name of)).short
+short_none by_ref mutable name of none h = twice none ∙ ap not (sym h) ∙ sym (short_bind by_ref mutable name of)
+
 -- ---- readers
 
 pub found_by : {A : Type 0} (a b : Read A) (r : Result (Found A) ReadNone) (left : Tokens) → a ≡ b → IsFound b r left
@@ -137,34 +142,10 @@ module _ (deeper : PatWithin) (x : Pat × ℕ) (ts mid : Tokens) (h : first (clo
       ap (elements (closes Paren) (deeper.pats Alternatives)) (sym m) ∙ e in
       rw (h, g, all, ← a, ← b) (tuple_is x read rest)
 
-  pub paren_lost : elements (closes Paren) (deeper.pats Alternatives) mid ≡ None → r.paren_by deeper x ts ≡ None
-  paren_lost e =
-      let all : elements (closes Paren) (deeper.pats Alternatives) (tail ts) ≡ None =
-      ap (elements (closes Paren) (deeper.pats Alternatives)) (sym m) ∙ e in
-      rw (h, g, all) refl
-
--- alternatives, behind the bar that may stand before them
-module _ (budget : ℕ) (one : Tokens → Read Pat) (ts mid : Tokens) (m : mid ≡ r.behind_bar ts) where
-  pub alternatives_read : (read : List (Pat × ℕ)) (pats : List Pat) (need : ℕ) (rest : Tokens)
-      → chain (codes "|") one mid ≡ Some (read, rest) → nodes read ≡ pats → deepest read ≡ need
-      → r.pat_in budget one Alternatives ts ≡ alternatives_behind budget pats need rest
-  alternatives_read read pats need rest e a b =
-      let all : chain (codes "|") one (r.behind_bar ts) ≡ Some (read, rest) = ap (chain (codes "|") one) (sym m) ∙ e in
-      rw (all, ← a, ← b) (alternatives_is budget read rest)
-
-  pub alternatives_lost : chain (codes "|") one mid ≡ None → r.pat_in budget one Alternatives ts ≡ None
-  alternatives_lost e =
-      let all : chain (codes "|") one (r.behind_bar ts) ≡ None = ap (chain (codes "|") one) (sym m) ∙ e in
-      rw all refl
-
 -- ---- within a depth
 
 deeper : {X : Type 0} (f : ℕ → X) (n : ℕ) → 0 < n → f n ≡ f (suc (n - 1))
 deeper f n some = let e : n ≡ suc (n - 1) = omega arith in ap f e
-
-pub single_none : (n : ℕ) (ts : Tokens) → n ≡ 0 → r.single_at n ts ≡ None
-unfolding r.single_at
-single_none n ts e = ap (λ (k : ℕ). r.single_at k ts) e
 
 pub single_deeper : (n : ℕ) (ts : Tokens) → 0 < n → r.single_at n ts ≡ r.single_by (pats_within (n - 1)) ts
 unfolding r.single_at
@@ -188,16 +169,3 @@ paren_both deeper x ts mid rest h g m (Ok b) y more held e =
     let s = same_ok x y b more e in
     rw (s.0, s.1) (paren_more deeper (x.node, x.need) ts mid h g m held.0 b.node b.need rest held.1 held.2.0 held.2.1)
 paren_both deeper x ts mid rest h g m (Err none) y more held e = absurd (cc)
-
-short_bind : (by_ref mutable : Bool) (name : Name) (of : Option Pat)
-    → (about_pat (pat.Bind by_ref mutable name of)).short ≡ not (is_some of)
-short_bind by_ref mutable name None = ap (λ (x : PatFacts). x.short) (pat_bind_is by_ref mutable name None)
-short_bind by_ref mutable name (Some x) = ap (λ (f : PatFacts). f.short) (pat_bind_is by_ref mutable name (Some x))
-
-twice : (b : Bool) → b ≡ not (not b)
-twice true = refl
-twice false = refl
-
-pub short_none : (by_ref mutable : Bool) (name : Name) (of : Option Pat) (none : Bool) → is_some of ≡ not none
-    → none ≡ (about_pat (pat.Bind by_ref mutable name of)).short
-short_none by_ref mutable name of none h = twice none ∙ ap not (sym h) ∙ sym (short_bind by_ref mutable name of)
