@@ -33,14 +33,14 @@ use Rattle.lay_read_tokens.proofs.Left.{Left, Leaves, Passes, unread, dropped, o
 
 -- ---- small parts
 
-operator_left : (op : List ℕ) (ts : Tokens) → Passes 0 ts (r.operator op ts)
+pub operator_left : (op : List ℕ) (ts : Tokens) → Passes 0 ts (r.operator op ts)
 operator_left op ts = by (is_op op ts)
   where
     by : (b : Bool) → Passes 0 ts (if b then Some (drop (length op) ts) else None)
     by true = dropped (length op) ts
     by false = tt
 
-flag_left : (p : Token → Bool) (ts : Tokens) → Left 0 ts (r.flag p ts).1
+pub flag_left : (p : Token → Bool) (ts : Tokens) → Left 0 ts (r.flag p ts).1
 flag_left p [] = unread []
 flag_left p (t ∷ ts) = by (p t)
   where
@@ -48,7 +48,7 @@ flag_left p (t ∷ ts) = by (p t)
     by true = dropped 1 (t ∷ ts)
     by false = unread (t ∷ ts)
 
-weaker : {A : Type 0} (ts : Tokens) (o : Got A) → Leaves 1 ts o → Leaves 0 ts o
+pub weaker : {A : Type 0} (ts : Tokens) (o : Got A) → Leaves 1 ts o → Leaves 0 ts o
 weaker ts o h = further 0 0 1 ts ts o (omega arith) (unread ts) h
 
 there_left : {A : Type 0} (b : Bool) (one : Tokens → Got A) (ts : Tokens) → Leaves 0 ts (one ts)
@@ -66,7 +66,7 @@ unfolding r.lifetime
 lifetime_left [] = tt
 lifetime_left (t ∷ ts) = choice 1 (t ∷ ts) (is_lifetime t) _ None (λ h. one_read t ts) tt
 
-literal_left : (p : Token → Bool) (ts : Tokens) → Leaves 1 ts (r.literal p ts)
+pub literal_left : (p : Token → Bool) (ts : Tokens) → Leaves 1 ts (r.literal p ts)
 unfolding r.literal
 literal_left p [] = tt
 literal_left p (t ∷ ts) = choice 1 (t ∷ ts) (p t) _ None (λ h. one_read t ts) tt
@@ -97,7 +97,7 @@ module _ {A : Type 0} (one : Tokens → Got A) (one_left : (ts : Tokens) → Lea
       (open_from_left begins n _ (tail x.1))) (unread x.1)))
       (unread ts)
 
-  open_left : (begins : Tokens → Bool) (ts : Tokens) → Leaves 0 ts (open_elements begins one ts)
+  pub open_left : (begins : Tokens → Bool) (ts : Tokens) → Leaves 0 ts (open_elements begins one ts)
   unfolding open_elements
   open_left begins ts = open_from_left begins (suc (length ts)) [] ts
 

@@ -6,6 +6,7 @@ use Rattle.lay_token.specs.declared.token.Token.{Token}
 use Rattle.lay_tree.specs.Ahead.{Tokens, closes, is_mark}
 use Rattle.lay_tree.specs.Begins.{begins_predicate}
 use Rattle.lay_tree.specs.reader.Loops.{Got, Read, ◌>>=◌, nodes, deepest}
+use Rattle.lay_tree.specs.reader.Patterns.{begins_field}
 use Rattle.lay_tree.specs.reader.Types.{Within, within, begins_param, named_segments, paren_type, pointer_type, reference_type, bracket_type, bounds_type, begins_call, call_type, path_type}
 use Rattle.lay_tree.specs.declared.token.Literal.{Literal}
 use Rattle.lay_tree.specs.declared.token.Name.{Name}
@@ -65,10 +66,12 @@ closed_by closer.Angle t = is_mark (codes ">") t
 abbrev pub joined_by : Joint → List ℕ
 joined_by joint.Plus = codes "+"
 joined_by joint.Colons = codes "::"
+joined_by joint.Bar = codes "|"
 
 abbrev pub begins_part : Opening → Tokens → Bool
 begins_part opening.Param ts = begins_param ts
 begins_part opening.Predicate ts = begins_predicate ts
+begins_part opening.Field ts = begins_field ts
 
 -- These nodes were read as long as one began, and whether a comma stands behind them, and this is the greatest need.
 abbrev pub AreFoundOpen : {A : Type 0} → List (A × ℕ) × Bool → Found (List A × Bool) → Type 0

@@ -6,6 +6,7 @@ ghost use Rattle.lay_tree.specs.Ahead.{first};
 ghost use Rattle.lay_tree.specs.Ahead as ahead;
 ghost use Rattle.lay_tree.specs.Begins as begins;
 ghost use Rattle.lay_tree.specs.Words as words;
+ghost use Rattle.lay_tree.specs.reader.Patterns as patterns;
 ghost use Rattle.lay_tree.specs.reader.Types as reader;
 ghost use Rattle.lay_read_types.specs.Leads.{told};
 
@@ -119,6 +120,13 @@ pub fn begins_param(at: &Ahead<'_>) -> bool
     ensures { result ≡ reader.begins_param at.now }
 {
     !(is_at_closer(at, Delim::Paren) || at.op_is(b"..."))
+}
+
+/// Whether a field in the pattern of a struct begins at the front.
+pub fn begins_field(at: &Ahead<'_>) -> bool
+    ensures { result ≡ patterns.begins_field at.now }
+{
+    !(is_at_closer(at, Delim::Brace) || at.op_is(b".."))
 }
 
 /// Whether generic arguments open at the front.

@@ -8,13 +8,13 @@ mod arguments;
 mod bounds;
 mod generics;
 mod knot;
-mod leads;
-mod loops;
-mod parts;
+pub mod leads;
+pub mod loops;
+pub mod parts;
 mod paths;
 mod reads;
-mod rules;
-mod types;
+pub mod rules;
+pub mod types;
 mod wheres;
 
 pub use knot::{args_ahead, bounds_ahead, generics_ahead, path_ahead, type_ahead, wheres_ahead};

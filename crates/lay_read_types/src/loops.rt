@@ -7,7 +7,7 @@ ghost use Rattle.lay_tree.specs.reader.Types.{chain};
 ghost use Rattle.lay_read_tokens.specs.Answers.{AreFound, IsFound, IsHeld};
 ghost use Rattle.lay_read_types.specs.Answers.{AreFoundOpen, ReadsParts, begins_part, closed_by, joined_by};
 
-use crate::leads::{begins_param, begins_predicate};
+use crate::leads::{begins_field, begins_param, begins_predicate};
 use lay_read_tokens::found::greater;
 use lay_read_tokens::front::{
     is_at_closer, is_at_mark, takes_closer, takes_colons, takes_mark, takes_op,
@@ -32,6 +32,8 @@ pub enum Joint {
     Plus,
     /// `::`
     Colons,
+    /// `|`
+    Bar,
 }
 
 /// What goes on as long as a part of it begins.
@@ -41,6 +43,8 @@ pub enum Opening {
     Param,
     /// A where clause.
     Predicate,
+    /// The fields in the pattern of a struct.
+    Field,
 }
 
 /// How parts are read within a depth and at a place.
@@ -84,6 +88,7 @@ fn takes_joint(at: &mut Ahead<'_>, joint: Joint) -> bool
     match joint {
         Joint::Plus => takes_op(at, b"+"),
         Joint::Colons => takes_colons(at),
+        Joint::Bar => takes_op(at, b"|"),
     }
 }
 
@@ -158,6 +163,7 @@ fn goes_on(at: &Ahead<'_>, opening: Opening) -> bool
     match opening {
         Opening::Param => begins_param(at),
         Opening::Predicate => begins_predicate(at),
+        Opening::Field => begins_field(at),
     }
 }
 

@@ -172,7 +172,7 @@ pub fn read_binder_if(alloc: Global, at: &mut Ahead<'_>) -> Result<Option<Binder
 }
 
 /// The first token as a literal, if it passes.
-fn read_literal(alloc: Global, at: &mut Ahead<'_>, passes: bool) -> Result<Literal, ReadNone>
+pub fn read_literal(alloc: Global, at: &mut Ahead<'_>, passes: bool) -> Result<Literal, ReadNone>
     ensures { IsGot (literal_if passes at.old) result at.new }
 {
     let token = match at.peek(0) {

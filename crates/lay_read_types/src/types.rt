@@ -409,7 +409,7 @@ fn array(alloc: Global, at: &mut Ahead<'_>, element: Found<Ty>) -> Result<Found<
 }
 
 /// Whether a macro call begins at the front: a path of words before a `!`.
-fn begins_call(alloc: Global, at: &Ahead<'_>) -> Result<bool, ReadNone>
+pub fn begins_call(alloc: Global, at: &Ahead<'_>) -> Result<bool, ReadNone>
     ensures { IsMade (reader.begins_call at.now) result }
 {
     let mut behind = at.fork();

@@ -1,0 +1,197 @@
+//! Patterns in delimiters, and references.
+ghost use Rattle.std.specs.Prelude.{◌≡◌, ◌+◌, ◌^◌, ◌<◌, ◌≤◌, ◌∷◌, [], max, IfOk};
+ghost use Rattle.lay_tree.specs.Ahead.{closes};
+ghost use Rattle.lay_tree.specs.declared.patterns.PatPlace.TheVariants.{Alternatives};
+ghost use Rattle.lay_tree.specs.reader.Loops.{elements};
+ghost use Rattle.lay_tree.specs.reader.Patterns as reader;
+ghost use Rattle.lay_tree.specs.reader.Patterns.{pat_at};
+ghost use Rattle.lay_read_tokens.specs.Answers.{AreFound, IsFound, IsHeld, IsMade};
+ghost use Rattle.lay_read_pats.specs.Answers.{ArePats, paren_of, pats_within, tuple_behind};
+
+use crate::facts::{is_rest, is_span};
+use crate::rules::PatRules;
+use lay_read_tokens::found::greater;
+use lay_read_tokens::front::{is_at_closer, pass_two, takes_closer, takes_keyword, takes_mark};
+use lay_read_tokens::stop::{boxed, keep};
+use lay_read_tokens::{Ahead, Found, ReadNone};
+use lay_read_types::loops::{Closer, Part, read_elements};
+use lay_read_types::rules::{both, prepended};
+use lay_token::{Delim, List};
+use lay_tree::{Pat, PatPlace};
+use std::alloc::Global;
+
+/// Patterns one level deeper, as elements of a list.
+pub struct Elements;
+
+impl Part<Pat, PatPlace> for Elements {
+    ghost reads = { λ depth place ts. pat_at place depth ts };
+}
+
+/// Whether a `..` alone and a `)` stand at the front.
+fn begins_lone_rest(at: &Ahead<'_>) -> bool
+    ensures { result ≡ reader.begins_lone_rest at.now }
+{
+    let mut behind = at.fork();
+    pass_two(&mut behind);
+    at.op_is(b"..") && is_at_closer(&behind, Delim::Paren)
+}
+
+/// A list of one pattern.
+fn alone(alloc: Global, pat: Pat) -> Result<List<Pat>, ReadNone>
+    ensures { IsMade (pat ∷ []) result }
+{
+    let mut pats = List::new(alloc);
+    keep(&mut pats, pat)?;
+    Ok(pats)
+}
+
+/// A pattern in parentheses, behind it and the `)`.
+fn paren_of(alloc: Global, at: &Ahead<'_>, found: Found<Pat>) -> Result<Found<Pat>, ReadNone>
+    requires { found.need + 1 < 2 ^ 32 }
+    ensures read { IsFound (paren_of (found.node, found.need) at.now) result at.now }
+    ensures within { IfOk result (λ paren. paren.need ≡ found.need + 1) }
+{
+    if is_rest(&found.node) {
+        return Err(ReadNone::NoReading);
+    }
+    let need = found.need + 1;
+    let inner = boxed(alloc, found.node)?;
+    Ok(Found {
+        node: Pat::Paren { inner },
+        need,
+    })
+}
+
+/// A tuple of a first element and the others. One that is `..` alone has no comma.
+fn tuple_of(
+    at: &Ahead<'_>,
+    first: Found<Pat>,
+    more: Found<List<Pat>>,
+) -> Result<Found<Pat>, ReadNone>
+    requires first { first.need + 1 < 2 ^ 32 }
+    requires more { more.need + 1 < 2 ^ 32 }
+    ensures read { IsFound (tuple_behind (first.node, first.need) more.node more.need at.now) result at.now }
+    ensures within { IfOk result (λ tuple. tuple.need ≡ max first.need more.need + 1) }
+{
+    if more.node.as_slice().is_empty() && is_rest(&first.node) {
+        return Err(ReadNone::NoReading);
+    }
+    let need = greater(first.need, more.need) + 1;
+    let elements = prepended(first.node, more.node)?;
+    Ok(Found {
+        node: Pat::Tuple { elements },
+        need,
+    })
+}
+
+impl<P: Fn(Global, &mut Ahead<'_>, PatPlace, u32) -> Result<Found<Pat>, ReadNone>> PatRules<P> {
+    /// Patterns with commas, and the closing delimiter behind them.
+    #[tactic(auto, using(crate::proofs::Left::alternatives_leave))]
+    pub fn elements(&self, at: &mut Ahead<'_>, delim: Delim) -> Result<Found<List<Pat>>, ReadNone>
+        requires { ArePats self.now.depth (P.pre self.now.pats) (P.post self.now.pats) }
+        ensures read { IsHeld AreFound (elements (closes delim) (pat_at Alternatives self.now.depth) at.old) result at.new }
+        ensures within { IfOk result (λ found. found.need ≤ self.now.depth) }
+    {
+        read_elements::<Elements, PatRules<P>, Pat, PatPlace, _>(
+            self.alloc,
+            at,
+            self.depth,
+            Closer::Group(delim),
+            self,
+            PatRules::inner,
+            PatPlace::Alternatives,
+        )
+    }
+
+    /// What stands behind a `&`.
+    #[tactic(auto, unfolding(lay_tree::specs::reader::Patterns::ref_pat), using(crate::proofs::Steps::flag_found, crate::proofs::Steps::flag_rest))]
+    pub fn ref_pat(&self, at: &mut Ahead<'_>) -> Result<Found<Pat>, ReadNone>
+        requires { ArePats self.now.depth (P.pre self.now.pats) (P.post self.now.pats) }
+        ensures read { IsFound (reader.ref_pat (pats_within self.now.depth) at.old) result at.new }
+        ensures within { IfOk result (λ found. found.need ≤ self.now.depth + 1) }
+    {
+        let mutable = takes_keyword(at, b"mut");
+        let found = self.inner(at, PatPlace::Single)?;
+        if is_span(&found.node) {
+            return Err(ReadNone::NoReading);
+        }
+        let need = found.need + 1;
+        let inner = boxed(self.alloc, found.node)?;
+        Ok(Found {
+            node: Pat::Ref { mutable, inner },
+            need,
+        })
+    }
+
+    /// What stands behind a `[`.
+    #[tactic(auto, unfolding(lay_tree::specs::reader::Patterns::slice_pat))]
+    pub fn slice_pat(&self, at: &mut Ahead<'_>) -> Result<Found<Pat>, ReadNone>
+        requires { ArePats self.now.depth (P.pre self.now.pats) (P.post self.now.pats) }
+        ensures read { IsFound (reader.slice_pat (pats_within self.now.depth) at.old) result at.new }
+        ensures within { IfOk result (λ found. found.need ≤ self.now.depth + 1) }
+    {
+        let found = self.elements(at, Delim::Bracket)?;
+        Ok(Found {
+            node: Pat::Slice {
+                elements: found.node,
+            },
+            need: found.need + 1,
+        })
+    }
+
+    /// What stands behind a `(`.
+    #[tactic(auto, unfolding(lay_tree::specs::reader::Patterns::paren_pat))]
+    pub fn paren_pat(&self, at: &mut Ahead<'_>) -> Result<Found<Pat>, ReadNone>
+        requires { ArePats self.now.depth (P.pre self.now.pats) (P.post self.now.pats) }
+        ensures read { IsFound (reader.paren_pat (pats_within self.now.depth) at.old) result at.new }
+        ensures within { IfOk result (λ found. found.need ≤ self.now.depth + 1) }
+    {
+        if takes_closer(at, Delim::Paren) {
+            let elements = List::new(self.alloc);
+            return Ok(Found {
+                node: Pat::Tuple { elements },
+                need: 1,
+            });
+        }
+        if begins_lone_rest(at) {
+            return self.lone_rest(at);
+        }
+        let first = self.inner(at, PatPlace::Alternatives)?;
+        self.paren_by(at, first)
+    }
+
+    /// A `..` alone in parentheses, behind the `(`.
+    fn lone_rest(&self, at: &mut Ahead<'_>) -> Result<Found<Pat>, ReadNone>
+        requires { ArePats self.now.depth (P.pre self.now.pats) (P.post self.now.pats) }
+        ensures read { IsFound (reader.lone_rest (pats_within self.now.depth) at.old) result at.new }
+        ensures within { IfOk result (λ found. found.need ≤ self.now.depth + 1) }
+    {
+        let found = self.inner(at, PatPlace::Single)?;
+        if !takes_closer(at, Delim::Paren) {
+            return Err(ReadNone::NoReading);
+        }
+        let need = found.need + 1;
+        let elements = alone(self.alloc, found.node)?;
+        Ok(Found {
+            node: Pat::Tuple { elements },
+            need,
+        })
+    }
+
+    /// What stands behind a `(` and a pattern.
+    fn paren_by(&self, at: &mut Ahead<'_>, first: Found<Pat>) -> Result<Found<Pat>, ReadNone>
+        requires deeper { ArePats self.now.depth (P.pre self.now.pats) (P.post self.now.pats) }
+        requires within { first.need ≤ self.now.depth }
+        ensures read { IsFound (reader.paren_by (pats_within self.now.depth) (first.node, first.need) at.old) result at.new }
+        ensures within { IfOk result (λ found. found.need ≤ self.now.depth + 1) }
+    {
+        if takes_closer(at, Delim::Paren) {
+            return paren_of(self.alloc, at, first);
+        }
+        if !takes_mark(at, b",") {
+            return Err(ReadNone::NoReading);
+        }
+        let (first, more) = both(first, self.elements(at, Delim::Paren))?;
+        tuple_of(at, first, more)
+    }
+}

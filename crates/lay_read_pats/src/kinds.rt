@@ -1,0 +1,97 @@
+//! Each kind of pattern, told from what begins it.
+ghost use Rattle.std.specs.Prelude.{◌≡◌, ◌+◌, ◌≤◌, IfOk};
+ghost use Rattle.lay_tree.specs.Follow as follow;
+ghost use Rattle.lay_tree.specs.reader.Patterns as reader;
+ghost use Rattle.lay_read_tokens.specs.Answers.{IsFound};
+ghost use Rattle.lay_read_pats.specs.Answers.{ArePats, pats_within};
+
+use crate::binds::begins_bind;
+use crate::rules::PatRules;
+use crate::values::{begins_dots, begins_value, span, value_pat};
+use lay_read_tokens::calls::call_ahead;
+use lay_read_tokens::front::{is_at_opened, takes_mark, takes_opener, takes_underscore};
+use lay_read_tokens::{Ahead, Found, ReadNone};
+use lay_read_types::types::begins_call;
+use lay_token::Delim;
+use lay_tree::{Pat, PatPlace};
+use std::alloc::Global;
+
+/// A macro call that is a pattern.
+fn call_pat(alloc: Global, at: &mut Ahead<'_>) -> Result<Found<Pat>, ReadNone>
+    ensures read { IsFound (reader.call_pat at.old) result at.new }
+    ensures within { IfOk result (λ found. found.need ≡ 1) }
+{
+    let call = call_ahead(alloc, at)?;
+    Ok(Found {
+        node: Pat::Call { call },
+        need: 1,
+    })
+}
+
+/// Whether what no pattern is followed by stands at the front.
+fn goes_on(at: &Ahead<'_>) -> bool
+    ensures { result ≡ follow.goes_on_pattern at.now }
+{
+    is_at_opened(at, Delim::Paren) || is_at_opened(at, Delim::Brace) || begins_dots(at)
+}
+
+impl<P: Fn(Global, &mut Ahead<'_>, PatPlace, u32) -> Result<Found<Pat>, ReadNone>> PatRules<P> {
+    /// A pattern that isn't followed by what goes on with one.
+    pub fn single_by(&self, at: &mut Ahead<'_>) -> Result<Found<Pat>, ReadNone>
+        requires { ArePats self.now.depth (P.pre self.now.pats) (P.post self.now.pats) }
+        ensures read { IsFound (reader.single_by (pats_within self.now.depth) at.old) result at.new }
+        ensures within { IfOk result (λ found. found.need ≤ self.now.depth + 1) }
+    {
+        let found = self.pat_by(at)?;
+        if goes_on(at) {
+            return Err(ReadNone::NoReading);
+        }
+        Ok(found)
+    }
+
+    /// A pattern, told from what begins it.
+    #[tactic(auto, unfolding(lay_tree::specs::reader::Patterns::pat_by), using(crate::proofs::Steps::underscore_is))]
+    fn pat_by(&self, at: &mut Ahead<'_>) -> Result<Found<Pat>, ReadNone>
+        requires { ArePats self.now.depth (P.pre self.now.pats) (P.post self.now.pats) }
+        ensures read { IsFound (reader.pat_by (pats_within self.now.depth) at.old) result at.new }
+        ensures within { IfOk result (λ found. found.need ≤ self.now.depth + 1) }
+    {
+        if begins_value(at) {
+            value_pat(self.alloc, at, self.depth)
+        } else if takes_underscore(at) {
+            Ok(Found {
+                node: Pat::Wild,
+                need: 1,
+            })
+        } else if begins_dots(at) {
+            let start = Found {
+                node: None,
+                need: 0,
+            };
+            span(self.alloc, at, self.depth, start)
+        } else if takes_mark(at, b"&") {
+            self.ref_pat(at)
+        } else if takes_opener(at, Delim::Paren) {
+            self.paren_pat(at)
+        } else if takes_opener(at, Delim::Bracket) {
+            self.slice_pat(at)
+        } else {
+            self.word_led(at)
+        }
+    }
+
+    /// A pattern that begins with a word, or with what a path begins with.
+    fn word_led(&self, at: &mut Ahead<'_>) -> Result<Found<Pat>, ReadNone>
+        requires { ArePats self.now.depth (P.pre self.now.pats) (P.post self.now.pats) }
+        ensures read { IsFound (reader.word_led (pats_within self.now.depth) at.old) result at.new }
+        ensures within { IfOk result (λ found. found.need ≤ self.now.depth + 1) }
+    {
+        if begins_bind(at) {
+            self.marked_bind(at)
+        } else if begins_call(self.alloc, at)? {
+            call_pat(self.alloc, at)
+        } else {
+            self.path_pat(at)
+        }
+    }
+}

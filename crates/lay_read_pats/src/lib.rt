@@ -1,0 +1,18 @@
+//! From nested tokens to patterns.
+//!
+//! Each reader is proved equal to a function of the tokens ahead that `lay_tree` defines, and that function reads what
+//! is spelled and nothing else.
+#![tactic(auto)]
+
+mod binds;
+mod facts;
+mod groups;
+mod kinds;
+mod pats;
+mod reads;
+mod rules;
+mod structs;
+mod values;
+
+pub use lay_read_types::{ReadNone, read_attr, read_attrs, read_call};
+pub use reads::{read_pat, read_pat_no_alt};

@@ -1,0 +1,39 @@
+//! The pattern at a cursor.
+ghost use Rattle.lay_tree.specs.nodes.Patterns.{PatFront, about_pat};
+ghost use Rattle.lay_tree.specs.declared.patterns.Pat.{Pat};
+ghost use Rattle.lay_tree.specs.declared.patterns.PatPlace.TheVariants.{Alternatives, Single};
+ghost use Rattle.lay_read_tokens.specs.Answers.{AreLexed};
+ghost use Rattle.lay_read_types.specs.Answers.{IsReadAt};
+
+use crate::pats::pat_ahead;
+use lay_nest::Cursor;
+use lay_read_tokens::{Ahead, ReadNone};
+use lay_tree::{Pat, PatPlace};
+use std::alloc::Global;
+
+/// The pattern at the front, which may be several alternatives, within a depth. Where there is none the cursor stays.
+pub fn read_pat(alloc: Global, at: &mut Cursor<'_>, depth: u32) -> Result<Pat, ReadNone>
+    requires { AreLexed at.old }
+    ensures { IsReadAt depth (λ (x : Pat). PatFront Alternatives (about_pat x)) at.old result at.new }
+{
+    read_at(alloc, at, PatPlace::Alternatives, depth)
+}
+
+/// The pattern at the front, which is no alternatives, within a depth. Where there is none the cursor stays.
+pub fn read_pat_no_alt(alloc: Global, at: &mut Cursor<'_>, depth: u32) -> Result<Pat, ReadNone>
+    requires { AreLexed at.old }
+    ensures { IsReadAt depth (λ (x : Pat). PatFront Single (about_pat x)) at.old result at.new }
+{
+    read_at(alloc, at, PatPlace::Single, depth)
+}
+
+/// The pattern at the front, at its place and within a depth. Where there is none the cursor stays.
+fn read_at(alloc: Global, at: &mut Cursor<'_>, place: PatPlace, depth: u32) -> Result<Pat, ReadNone>
+    requires { AreLexed at.old }
+    ensures { IsReadAt depth (λ (x : Pat). PatFront place (about_pat x)) at.old result at.new }
+{
+    let mut ahead = Ahead::new(at.fork());
+    let found = pat_ahead(alloc, &mut ahead, place, depth)?;
+    *at = ahead.into_cursor();
+    Ok(found.node)
+}

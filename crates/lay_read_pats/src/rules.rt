@@ -1,0 +1,48 @@
+//! The rules of a level, and how what is one level deeper is read.
+ghost use Rattle.std.specs.Prelude.{◌≡◌, ◌≤◌, IfOk};
+ghost use Rattle.lay_tree.specs.reader.Patterns.{pat_at};
+ghost use Rattle.lay_read_tokens.specs.Answers.{IsFound};
+ghost use Rattle.lay_read_pats.specs.Answers.{ArePats};
+
+use lay_read_tokens::stop::boxed;
+use lay_read_tokens::{Ahead, Found, ReadNone};
+use lay_tree::{Boxed, Pat, PatPlace};
+use std::alloc::Global;
+
+/// The rules of a level, over the reader of patterns one level deeper, at a place.
+#[derive(Clone, Copy)]
+pub struct PatRules<P> {
+    pub alloc: Global,
+    /// At this depth what is one level deeper is read.
+    pub depth: u32,
+    pub pats: P,
+}
+
+impl<P: Fn(Global, &mut Ahead<'_>, PatPlace, u32) -> Result<Found<Pat>, ReadNone>> PatRules<P> {
+    /// A pattern one level deeper.
+    pub fn inner(&self, at: &mut Ahead<'_>, place: PatPlace) -> Result<Found<Pat>, ReadNone>
+        requires { ArePats self.now.depth (P.pre self.now.pats) (P.post self.now.pats) }
+        ensures read { IsFound (pat_at place self.now.depth at.old) result at.new }
+        ensures within { IfOk result (λ found. found.need ≤ self.now.depth) }
+    {
+        (self.pats)(self.alloc, at, place, self.depth)
+    }
+
+    /// The same in a box.
+    pub fn boxed_inner(
+        &self,
+        at: &mut Ahead<'_>,
+        place: PatPlace,
+    ) -> Result<Found<Boxed<Pat>>, ReadNone>
+        requires { ArePats self.now.depth (P.pre self.now.pats) (P.post self.now.pats) }
+        ensures read { IsFound (pat_at place self.now.depth at.old) result at.new }
+        ensures within { IfOk result (λ found. found.need ≤ self.now.depth) }
+    {
+        let found = self.inner(at, place)?;
+        let node = boxed(self.alloc, found.node)?;
+        Ok(Found {
+            node,
+            need: found.need,
+        })
+    }
+}

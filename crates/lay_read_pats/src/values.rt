@@ -1,0 +1,183 @@
+//! Values, and spans of them.
+ghost use Rattle.std.specs.Prelude.{◌≡◌, ◌+◌, ◌^◌, ◌<◌, ◌≤◌, drop, IfOk};
+ghost use Rattle.lay_tree.specs.Begins as begins;
+ghost use Rattle.lay_tree.specs.Follow as follow;
+ghost use Rattle.lay_tree.specs.reader.Patterns as reader;
+ghost use Rattle.lay_tree.specs.reader.Types.{within};
+ghost use Rattle.lay_read_tokens.specs.Answers.{IsFound, IsGot};
+
+use lay_read_tokens::found::greater;
+use lay_read_tokens::front::{is_at_mark, pass, pass_two, takes_mark};
+use lay_read_tokens::{Ahead, Found, ReadNone};
+use lay_read_types::leads::{Lead, is_at_literal, is_at_number, lead_at};
+use lay_read_types::parts::read_literal;
+use lay_read_types::path_ahead;
+use lay_read_types::rules::both;
+use lay_tree::{Pat, PatValue, PathStyle, SpanEnd};
+use std::alloc::Global;
+
+/// Whether the `..` or `..=` of a span stands at the front.
+pub fn begins_dots(at: &Ahead<'_>) -> bool
+    ensures { result ≡ follow.begins_dots at.now }
+{
+    at.op_is(b"..") || at.op_is(b"..=")
+}
+
+/// Whether a value begins at the front.
+pub fn begins_value(at: &Ahead<'_>) -> bool
+    ensures { result ≡ begins.begins_value at.now }
+{
+    is_at_literal(at) || is_at_mark(at, b"-")
+}
+
+/// Whether the end of a span begins at the front.
+fn begins_span_end(at: &Ahead<'_>) -> bool
+    ensures { result ≡ begins.begins_span_end at.now }
+{
+    begins_value(at) || matches!(lead_at(at), Some(Lead::Path))
+}
+
+/// Passes three tokens, if there are so many.
+fn pass_three(at: &mut Ahead<'_>)
+    ensures { at.new ≡ drop 3 at.old }
+{
+    pass(at);
+    pass_two(at);
+}
+
+/// A literal, or a number behind a `-`.
+#[tactic(auto, using(crate::proofs::Steps::negative_value, crate::proofs::Steps::plain_value))]
+fn read_value(alloc: Global, at: &mut Ahead<'_>) -> Result<PatValue, ReadNone>
+    ensures { IsGot (reader.value at.old) result at.new }
+{
+    if takes_mark(at, b"-") {
+        let passes = is_at_number(at);
+        let literal = read_literal(alloc, at, passes)?;
+        Ok(PatValue {
+            negative: true,
+            literal,
+        })
+    } else {
+        let passes = is_at_literal(at);
+        let literal = read_literal(alloc, at, passes)?;
+        Ok(PatValue {
+            negative: false,
+            literal,
+        })
+    }
+}
+
+/// An end of a span.
+#[tactic(auto, unfolding(lay_tree::specs::reader::Patterns::one_end))]
+fn one_end(alloc: Global, at: &mut Ahead<'_>, depth: u32) -> Result<Found<SpanEnd>, ReadNone>
+    ensures read { IsFound (reader.one_end (within depth) at.old) result at.new }
+    ensures within { IfOk result (λ found. found.need ≤ depth) }
+{
+    if begins_value(at) {
+        let value = read_value(alloc, at)?;
+        Ok(Found {
+            node: SpanEnd::Value(value),
+            need: 0,
+        })
+    } else {
+        let path = path_ahead(alloc, at, PathStyle::Code, depth)?;
+        Ok(Found {
+            node: SpanEnd::Path(path.node),
+            need: path.need,
+        })
+    }
+}
+
+/// A span that ends, behind its `..` or `..=`.
+fn closed_span(
+    alloc: Global,
+    at: &mut Ahead<'_>,
+    depth: u32,
+    start: Found<Option<SpanEnd>>,
+    inclusive: bool,
+) -> Result<Found<Pat>, ReadNone>
+    requires room { depth + 1 < 2 ^ 32 }
+    requires within { start.need ≤ depth }
+    ensures read { IsFound (reader.closed_span (within depth) start.node start.need inclusive at.old) result at.new }
+    ensures within { IfOk result (λ found. found.need ≤ depth + 1) }
+{
+    let (start, end) = both(start, one_end(alloc, at, depth))?;
+    Ok(Found {
+        need: greater(start.need, end.need) + 1,
+        node: Pat::Span {
+            start: start.node,
+            inclusive,
+            end: Some(end.node),
+        },
+    })
+}
+
+/// A `..` without an end behind it: a rest, or a span with its first end alone.
+fn open_span(at: &Ahead<'_>, start: Found<Option<SpanEnd>>) -> Result<Found<Pat>, ReadNone>
+    requires { start.need + 1 < 2 ^ 32 }
+    ensures read { IsFound (reader.open_span start.node start.need at.now) result at.now }
+    ensures within { IfOk result (λ found. found.need ≤ start.need + 1) }
+{
+    let need = start.need + 1;
+    match start.node {
+        Some(end) => Ok(Found {
+            node: Pat::Span {
+                start: Some(end),
+                inclusive: false,
+                end: None,
+            },
+            need,
+        }),
+        None => Ok(Found {
+            node: Pat::Rest,
+            need: 1,
+        }),
+    }
+}
+
+/// A span, or a rest, from its `..` or `..=` on.
+#[tactic(auto, unfolding(lay_tree::specs::reader::Patterns::span))]
+pub fn span(
+    alloc: Global,
+    at: &mut Ahead<'_>,
+    depth: u32,
+    start: Found<Option<SpanEnd>>,
+) -> Result<Found<Pat>, ReadNone>
+    requires room { depth + 1 < 2 ^ 32 }
+    requires within { start.need ≤ depth }
+    ensures read { IsFound (reader.span (within depth) start.node start.need at.old) result at.new }
+    ensures within { IfOk result (λ found. found.need ≤ depth + 1) }
+{
+    if at.op_is(b"..=") {
+        pass_three(at);
+        return closed_span(alloc, at, depth, start, true);
+    }
+    pass_two(at);
+    if begins_span_end(at) {
+        closed_span(alloc, at, depth, start, false)
+    } else {
+        open_span(at, start)
+    }
+}
+
+/// A value, or a span that it begins.
+#[tactic(auto, unfolding(lay_tree::specs::reader::Patterns::value_pat))]
+pub fn value_pat(alloc: Global, at: &mut Ahead<'_>, depth: u32) -> Result<Found<Pat>, ReadNone>
+    requires { depth + 1 < 2 ^ 32 }
+    ensures read { IsFound (reader.value_pat (within depth) at.old) result at.new }
+    ensures within { IfOk result (λ found. found.need ≤ depth + 1) }
+{
+    let value = read_value(alloc, at)?;
+    if begins_dots(at) {
+        let start = Found {
+            node: Some(SpanEnd::Value(value)),
+            need: 0,
+        };
+        span(alloc, at, depth, start)
+    } else {
+        Ok(Found {
+            node: Pat::Value { value },
+            need: 1,
+        })
+    }
+}
