@@ -1,5 +1,4 @@
 //! All rows of a table.
-ghost use Rattle.std.specs.Fn.{IsAlwaysCallable};
 
 use std::alloc::Global;
 use std::process::Abort;
