@@ -1,0 +1,1 @@
+-- The tests state nothing of their own.
