@@ -5,13 +5,17 @@ ghost use Rattle.lay_read_tokens.specs.Answers.{AreLexed};
 
 use lay_lex::{lex, normalise};
 use lay_nest::{Nested, nest};
+use lay_out_tokens::{put_attr, put_call};
 use lay_out_types::{put_args, put_bounds, put_generics, put_pat, put_path, put_type, put_wheres};
 use lay_read_pats::{read_pat, read_pat_no_alt};
+use lay_read_tokens::{read_attr, read_call};
 use lay_read_types::{read_args, read_bounds, read_generics, read_path, read_type, read_wheres};
 use lay_stream::{Stream, plain};
 use lay_text::Text;
 use lay_token::FormatError;
-use lay_tree::{Args, Bound, Generics, Pat, Path, PathStyle, Ty, TypePlace, Wheres};
+use lay_tree::{
+    Args, Attr, Bound, Generics, MacroCall, Pat, Path, PathStyle, Ty, TypePlace, Wheres,
+};
 use std::alloc::Global;
 
 /// What reads and prints a text.
@@ -25,6 +29,8 @@ pub enum Call {
     Wheres,
     Pat,
     PatNoAlt,
+    MacroCall,
+    OuterAttr,
 }
 
 /// The tokens of a text, nested.
@@ -52,6 +58,25 @@ pub fn laid_out(alloc: Global, call: Call, text: &[u8], depth: u32) -> Option<St
     }
 }
 
+/// Whether the text begins no type, and the cursor then still stands before its `=`.
+pub fn stays(alloc: Global, text: &[u8]) -> bool {
+    match nested(alloc, text) {
+        Ok(nested) => stays_before(alloc, &nested),
+        Err(_) => false,
+    }
+}
+
+/// The same of tokens.
+fn stays_before(alloc: Global, nested: &Nested) -> bool
+    requires { AreLexed nested.now }
+{
+    let mut at = nested.cursor();
+    match read_type(alloc, &mut at, TypePlace::Bounds, 256) {
+        Ok(_) => false,
+        Err(_) => at.op_is(b"="),
+    }
+}
+
 /// The stream of what is read of all the tokens.
 fn stream(alloc: Global, call: Call, nested: &Nested, depth: u32) -> Option<Stream>
     requires { AreLexed nested.now }
@@ -66,6 +91,8 @@ fn stream(alloc: Global, call: Call, nested: &Nested, depth: u32) -> Option<Stre
         Call::Wheres => wheres_stream(alloc, nested, depth),
         Call::Pat => pat_stream(alloc, nested, depth),
         Call::PatNoAlt => pat_no_alt_stream(alloc, nested, depth),
+        Call::MacroCall => call_stream(alloc, nested),
+        Call::OuterAttr => attr_stream(alloc, nested),
     }
 }
 
@@ -147,6 +174,26 @@ fn pat_no_alt_stream(alloc: Global, nested: &Nested, depth: u32) -> Option<Strea
     let mut at = nested.cursor();
     let node = read_pat_no_alt(alloc, &mut at, depth).ok()?;
     of_pat(alloc, &node, at.is_end())
+}
+
+/// The layout of a macro call.
+fn call_stream(alloc: Global, nested: &Nested) -> Option<Stream>
+    requires { AreLexed nested.now }
+    ensures { IfSome result (λ stream. opened stream 0 ≡ 0) }
+{
+    let mut at = nested.cursor();
+    let node = read_call(alloc, &mut at).ok()?;
+    of_call(alloc, &node, at.is_end())
+}
+
+/// The layout of an outer attribute on a line of its own.
+fn attr_stream(alloc: Global, nested: &Nested) -> Option<Stream>
+    requires { AreLexed nested.now }
+    ensures { IfSome result (λ stream. opened stream 0 ≡ 0) }
+{
+    let mut at = nested.cursor();
+    let node = read_attr(alloc, &mut at, false).ok()?;
+    of_attr(alloc, &node, at.is_end())
 }
 
 /// The stream of a type, where it is the whole.
@@ -242,6 +289,34 @@ fn of_pat(alloc: Global, pat: &Pat, whole: bool) -> Option<Stream>
     }
     let mut stream = Stream::new(alloc);
     match put_pat(&mut stream, pat) {
+        Ok(()) => Some(stream),
+        Err(_) => None,
+    }
+}
+
+/// The same of a macro call.
+fn of_call(alloc: Global, call: &MacroCall, whole: bool) -> Option<Stream>
+    ensures { IfSome result (λ stream. opened stream 0 ≡ 0) }
+{
+    if !whole {
+        return None;
+    }
+    let mut stream = Stream::new(alloc);
+    match put_call(&mut stream, call) {
+        Ok(()) => Some(stream),
+        Err(_) => None,
+    }
+}
+
+/// The same of an attribute on a line of its own.
+fn of_attr(alloc: Global, attr: &Attr, whole: bool) -> Option<Stream>
+    ensures { IfSome result (λ stream. opened stream 0 ≡ 0) }
+{
+    if !whole {
+        return None;
+    }
+    let mut stream = Stream::new(alloc);
+    match put_attr(&mut stream, attr, true) {
         Ok(()) => Some(stream),
         Err(_) => None,
     }

@@ -1,5 +1,5 @@
 //! Rows worked out by hand from the rules of the grammar and of its layout.
-use crate::kinds::{Call, printed};
+use crate::kinds::{Call, printed, stays};
 use lay_given::{BETWEEN, parts};
 use lay_tree::{PathStyle, TypePlace};
 use std::alloc::Global;
@@ -55,6 +55,7 @@ fn types(rt: HostRuntime) {
     let alloc = rt.alloc();
     table(&rt, alloc, Call::Type(TypePlace::Bounds), TYPES);
     table(&rt, alloc, Call::Type(TypePlace::NoBounds), ONE_BOUND);
+    assert!(&rt; stays(alloc, b"="), "the cursor stays");
     row(&rt, alloc, Call::Type(TypePlace::Bounds), 0, "A→no");
     row(&rt, alloc, Call::Type(TypePlace::Bounds), 1, "A→A");
     row(&rt, alloc, Call::Type(TypePlace::Bounds), 1, "&A→no");
@@ -69,6 +70,8 @@ fn what_types_are_made_of(rt: HostRuntime) {
     table(&rt, alloc, Call::Bounds, BOUNDS);
     table(&rt, alloc, Call::Args(PathStyle::Code), CODE_ARGS);
     table(&rt, alloc, Call::Args(PathStyle::Kind), KIND_ARGS);
+    table(&rt, alloc, Call::MacroCall, "m!(a,b)→m!(a, b)§m!→no");
+    table(&rt, alloc, Call::OuterAttr, "#[x]→#[x]\n§#![x]→no");
     // What is within a node that isn't counted stands one level deeper.
     row(&rt, alloc, Call::Args(PathStyle::Kind), 1, "<A>→no");
     row(&rt, alloc, Call::Args(PathStyle::Kind), 2, "<A>→<A>");
