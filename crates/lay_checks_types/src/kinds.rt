@@ -77,6 +77,22 @@ fn stays_before(alloc: Global, nested: &Nested) -> bool
     }
 }
 
+/// Whether a pattern stands at the front of the text.
+pub fn begins_pat(alloc: Global, text: &[u8]) -> bool {
+    match nested(alloc, text) {
+        Ok(nested) => pat_stands(alloc, &nested),
+        Err(_) => false,
+    }
+}
+
+/// The same of tokens.
+fn pat_stands(alloc: Global, nested: &Nested) -> bool
+    requires { AreLexed nested.now }
+{
+    let mut at = nested.cursor();
+    read_pat(alloc, &mut at, 256).is_ok()
+}
+
 /// The stream of what is read of all the tokens.
 fn stream(alloc: Global, call: Call, nested: &Nested, depth: u32) -> Option<Stream>
     requires { AreLexed nested.now }

@@ -1,5 +1,5 @@
 //! Rows worked out by hand from the rules of the grammar and of its layout.
-use crate::kinds::{Call, printed, stays};
+use crate::kinds::{Call, begins_pat, printed, stays};
 use lay_given::{BETWEEN, parts};
 use lay_tree::{PathStyle, TypePlace};
 use std::alloc::Global;
@@ -84,6 +84,27 @@ self→no§Self→Self§ref mut a→ref mut a§a@1|2→a @ 1 | 2§a@(1|2)→a @ 
 &1..2→no§&(1..2)→&(1..2)§A{b:C|D,0:_,ref e,#[x]f,..}→A {\n    b: C | D,\n    0: _,\n    ref e,\n    #[x]\n    f,\n    ..\n}§A{}→A {}§A{..}→A { .. }§\
 A{a,}→A { a }§A{..,a}→no§A{a@1}→no§A{a::B}→no§A()→A()§A(B,..,)→A(B, ..)§()→()§(a,)→(a,)§(..)→(..)§(..,)→no§(..,a)→(.., a)§(a)→(a)§[]→[]§\
 <A>::B→<A>::B§a!→no§a::b!→no§|→no§a|→no§a||b→no";
+
+/// Whether a pattern stands at the front, by what may follow one.
+const FRONTS: &str =
+    "1(a)→no§1{}→no§..1..→no§1..2..=3→no§1..{}→no§..(a)→no§a!→no§ref a!→no§a::<B>!→no§a!=1→yes§a|b|→no§a|→no§a,→yes§\
+a|b if c→yes§1..=2,→yes§self→no";
+
+/// A pattern stands at the front of the text, or none does, as is wanted.
+fn front(rt: &impl Abort, alloc: Global, row: &str) {
+    let (text, wanted) = parts(row);
+    assert!(rt;
+        begins_pat(alloc, text.as_bytes()) == (wanted == "yes"),
+        "{row}"
+    );
+}
+
+#[test]
+fn what_follows_patterns(rt: HostRuntime) {
+    for row in FRONTS.split(BETWEEN) {
+        front(&rt, rt.alloc(), row);
+    }
+}
 
 #[test]
 fn patterns(rt: HostRuntime) {
