@@ -51,3 +51,4 @@ pub mod PatternsCompleteFields
 pub mod PatternsComplete
 pub mod TypesExact
 pub mod PatternsExact
+pub mod HeadsLevel

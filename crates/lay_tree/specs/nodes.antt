@@ -7,6 +7,10 @@ pub mod Types
 pub mod Generics
 pub mod Where
 pub mod Patterns
+pub mod Vis
+pub mod Fields
+pub mod Functions
+pub mod Heads
 pub mod Use
 pub mod Item
 pub mod File

@@ -10,8 +10,11 @@
 
 pub mod attr;
 pub mod boxed;
+pub mod fields;
 pub mod file;
+pub mod functions;
 pub mod generics;
+pub mod heads;
 pub mod item;
 mod laws;
 pub mod patterns;
@@ -20,11 +23,17 @@ pub mod token;
 pub mod tokens;
 pub mod types;
 pub mod use_tree;
+pub mod vis;
 
 pub use attr::{Attr, MetaInput, MetaPath};
 pub use boxed::Boxed;
+pub use fields::{Field, Fields, TupleField, Variant};
 pub use file::File;
+pub use functions::{FnHead, Param, ParamKind, Safety};
 pub use generics::{ConstDefault, GenericParam, Generics, Predicate, Wheres};
+pub use heads::{
+    Alias, Enum, ExternCrate, ImplHead, Site, Struct, TraitHead, TraitRef, Union, ValueHead,
+};
 pub use item::{Item, ItemKind};
 pub use laws::{node_law, reading_law};
 pub use patterns::{FieldPat, Pat, PatPlace, PatValue, SpanEnd};
@@ -36,3 +45,4 @@ pub use types::{
     PathStyle, Ty, TypePlace,
 };
 pub use use_tree::{UseEnd, UseTree};
+pub use vis::Vis;

@@ -253,7 +253,7 @@ module _ (depth budget : ℕ) (within_budget : depth ≤ budget) (one : Tokens �
       let le : suc (deepest r.0) ≤ depth = omega (arith, r.2, i.1) in
       (r.0, suc (deepest r.0), le, r.3, several_of budget x y more r.0 rest r.1 (omega (arith, le, within_budget)))
 
-  place_read : (place : PatPlace) (x : Pat) (ts rest : Tokens) → Spells (pat_form place (about_pat x)) depth ts rest
+  pub place_read : (place : PatPlace) (x : Pat) (ts rest : Tokens) → Spells (pat_form place (about_pat x)) depth ts rest
       → pat_good place (about_pat x) ≡ true → Fits place (about_pat x) rest → IsRead depth (pat_in budget one place) x ts rest
   place_read Single x ts rest s g f = singles depth (omega arith) x ts rest s g f
   place_read Alternatives x ts rest s g f = by (about_pat x).several refl
@@ -279,7 +279,7 @@ module _ (depth budget : ℕ) (within_budget : depth ≤ budget) (one : Tokens �
 
 -- ---- at every depth
 
-single_reads : (bound depth budget : ℕ) → depth ≤ bound → depth ≤ budget → Singles depth (single_at budget)
+pub single_reads : (bound depth budget : ℕ) → depth ≤ bound → depth ≤ budget → Singles depth (single_at budget)
 unfolding single_at
 single_reads bound zero budget h k x ts rest s g f = absurd (no_depth x ts rest s)
 single_reads zero (suc depth) budget h k x ts rest s g f = absurd (omega arith)

@@ -16,7 +16,7 @@ use Rattle.lay_form.specs.Spelled.{Spells}
 use Rattle.lay_tree.specs.Ahead.{Tokens, first, tail, closes}
 use Rattle.lay_tree.specs.reader.Exact.{InText}
 use Rattle.lay_tree.specs.reader.Loops.{Got, ◌>>=◌, passed}
-use Rattle.lay_tree.specs.reader.Tokens.{ends_run, run, tokens, group}
+use Rattle.lay_tree.specs.reader.Tokens.{ends_run, run, tokens, tokens_of, group}
 use Rattle.lay_tree.specs.tokens.Lexed.{may_join, is_had, fits, ends_apart, may_be_laid, is_token_list}
 use Rattle.lay_tree.specs.nodes.Call.{is_group}
 use Rattle.lay_tree.specs.tokens.Lists.{form_of_grouping, ends_in_line, group_form}
@@ -46,7 +46,7 @@ pub record IsRun (within : List Delim) (ts xs rest : Tokens) : Type 0 where
   pub balanced : balances within (map as_listed xs) ≡ true
   pub stops : StopsAt rest
 
-pub run_is : (within : List Delim) (ts xs rest : Tokens) → run within ts ≡ Some (xs, rest) → IsRun within ts xs rest
+pub run_is : (within : List Delim) (ts xs rest : Tokens) → run false within ts ≡ Some (xs, rest) → IsRun within ts xs rest
 unfolding run
 run_is [] [] xs rest h =
     let e = got_same [] xs [] rest h in
@@ -58,7 +58,7 @@ run_is [] [] xs rest h =
 run_is (d ∷ within) [] xs rest h = absurd (cc)
 run_is within (t ∷ ts) xs rest h =
     let go_on : Got (List Token) = goes_on within t in
-    elim (chosen (ends_run within t) (Some ([], t ∷ ts)) go_on (Some (xs, rest)) (unfolded within t h)) [
+    elim (chosen (ends_run false within t) (Some ([], t ∷ ts)) go_on (Some (xs, rest)) (unfolded within t h)) [
       | inl g ↦
           let e = got_same [] xs (t ∷ ts) rest g.1 in
           let c = closes_there within t g.0 in
@@ -68,8 +68,8 @@ run_is within (t ∷ ts) xs rest h =
             stops = subst StopsAt e.1 c;
           }
       | inr g ↦
-          let b = bind_some (turned t.kind within) (λ more. run more ts >>= (λ r. Some (t ∷ r.0, r.1))) (xs, rest) g.1 in
-          let c = bind_some (run b.0 ts) (λ r. Some (t ∷ r.0, r.1)) (xs, rest) b.2 in
+          let b = bind_some (turned t.kind within) (λ more. run false more ts >>= (λ r. Some (t ∷ r.0, r.1))) (xs, rest) g.1 in
+          let c = bind_some (run false b.0 ts) (λ r. Some (t ∷ r.0, r.1)) (xs, rest) b.2 in
           let e = got_same (t ∷ c.0.0) xs c.0.1 rest c.2 in
           let r = run_is b.0 ts c.0.0 c.0.1 c.1 in
           record {
@@ -82,22 +82,22 @@ run_is within (t ∷ ts) xs rest h =
     ]
   where
     goes_on : (within : List Delim) (t : Token) → Got (List Token)
-    goes_on within t = turned t.kind within >>= (λ more. run more ts >>= (λ r. Some (t ∷ r.0, r.1)))
+    goes_on within t = turned t.kind within >>= (λ more. run false more ts >>= (λ r. Some (t ∷ r.0, r.1)))
 
-    unfolded : (within : List Delim) (t : Token) → run within (t ∷ ts) ≡ Some (xs, rest)
-        → (if ends_run within t then Some ([], t ∷ ts) else goes_on within t) ≡ Some (xs, rest)
+    unfolded : (within : List Delim) (t : Token) → run false within (t ∷ ts) ≡ Some (xs, rest)
+        → (if ends_run false within t then Some ([], t ∷ ts) else goes_on within t) ≡ Some (xs, rest)
     unfolded [] t h = h
     unfolded (d ∷ within) t h = h
 
-    closes_there : (within : List Delim) (t : Token) → ends_run within t ≡ true → is_closer t.kind ≡ true
+    closes_there : (within : List Delim) (t : Token) → ends_run false within t ≡ true → is_closer t.kind ≡ true
     closes_there [] t h = h
     closes_there (d ∷ within) t h = absurd (cc)
 
-    nothing : (within : List Delim) (t : Token) → ends_run within t ≡ true → balances within [] ≡ true
+    nothing : (within : List Delim) (t : Token) → ends_run false within t ≡ true → balances within [] ≡ true
     nothing [] t h = refl
     nothing (d ∷ within) t h = absurd (cc)
 
-pub run_there : (xs rest : Tokens) → is_balanced (map as_listed xs) ≡ true → StopsAt rest → run [] (xs ++ rest) ≡ Some (xs, rest)
+pub run_there : (xs rest : Tokens) → is_balanced (map as_listed xs) ≡ true → StopsAt rest → run false [] (xs ++ rest) ≡ Some (xs, rest)
 unfolding run
 run_there xs [] b s = run_over [] xs [] b ∙ ap (λ z. Some (z, [])) (append-nil xs)
 run_there xs (t ∷ rest) b s = run_over [] xs (t ∷ rest) b ∙ rw s (ap (λ z. Some (z, t ∷ rest)) (append-nil xs))
@@ -112,9 +112,9 @@ pub record IsList (ts : Tokens) (us : List Listed) (rest : Tokens) : Type 0 wher
   pub docs : list_all may_be_laid us ≡ true
 
 pub tokens_is : (ts : Tokens) (us : List Listed) (rest : Tokens) → tokens ts ≡ Some (us, rest) → IsList ts us rest
-unfolding tokens
+unfolding tokens_of
 tokens_is ts us rest h =
-    let b = bind_some (run [] ts) (λ r. if list_all may_be_laid (map as_listed r.0) then Some (map as_listed r.0, r.1) else None) (us, rest) h in
+    let b = bind_some (run false [] ts) (λ r. if list_all may_be_laid (map as_listed r.0) then Some (map as_listed r.0, r.1) else None) (us, rest) h in
     let xs = b.0.0 in
     elim (chosen (list_all may_be_laid (map as_listed xs)) (Some (map as_listed xs, b.0.1)) None (Some (us, rest)) b.2) [
       | inl g ↦
@@ -130,7 +130,7 @@ tokens_is ts us rest h =
 
 pub tokens_there : (xs rest : Tokens) (us : List Listed) → map as_listed xs ≡ us → is_balanced us ≡ true → list_all may_be_laid us ≡ true
     → StopsAt rest → tokens (xs ++ rest) ≡ Some (us, rest)
-unfolding tokens
+unfolding tokens_of
 tokens_there xs rest us e b d s =
     let r = run_there xs rest (ap is_balanced e ∙ b) s in
     rw (r, e, d) refl

@@ -18,7 +18,7 @@ use Rattle.lay_tree.specs.nodes.Facts.{Facts}
 use Rattle.lay_tree.specs.reader.Attr.{meta_name, value, meta_input, meta_attr, attribute}
 use Rattle.lay_tree.specs.reader.Loops.{repeat_from, repeat}
 use Rattle.lay_tree.specs.reader.SimplePath.{simple_path}
-use Rattle.lay_tree.specs.reader.Tokens.{run as run_tokens, tokens}
+use Rattle.lay_tree.specs.reader.Tokens.{run as run_tokens, tokens_of}
 use Rattle.lay_tree.specs.reader.Words.{word as word_reading}
 use Rattle.lay_tree.specs.declared.attr.Attr.TheVariants as attr
 use Rattle.lay_tree.specs.declared.attr.MetaInput.{MetaInput}
@@ -159,26 +159,26 @@ spelled_path = meta_spelled (path false (a ∷ b ∷ [])) input.Bare (word a ∷
 
 read_doc : attribute false (attr_tokens (word (codes "doc") ∷ mark (codes "=") ∷ token Str (codes "\"x\"") false ∷ []))
     ≡ Some (attr.Doc false (codes "x"), [])
-unfolding attribute meta_attr meta_name simple_path word_reading repeat repeat_from meta_input value tokens
+unfolding attribute meta_attr meta_name simple_path word_reading repeat repeat_from meta_input value tokens_of
     run_tokens op_at chars after_literal run string_step adds string_value encode doc_form
 read_doc = refl
 
 -- no text that documentation can be written with
 read_value : attribute false (attr_tokens (word (codes "doc") ∷ mark (codes "=") ∷ token Str (codes "\"/x\"") false ∷ []))
     ≡ Some (attr.Meta false (path false (codes "doc" ∷ [])) slash, [])
-unfolding attribute meta_attr meta_name simple_path word_reading repeat repeat_from meta_input value tokens
+unfolding attribute meta_attr meta_name simple_path word_reading repeat repeat_from meta_input value tokens_of
     run_tokens op_at chars after_literal run string_step adds string_value encode doc_form
 read_value = refl
 
 -- a value of several tokens
 read_call : attribute false (attr_tokens (word a ∷ mark (codes "=") ∷ word b ∷ mark (codes "!") ∷ opens Paren ∷ word a
     ∷ closes Paren ∷ [])) ≡ Some (attr.Meta false (path false (a ∷ [])) call, [])
-unfolding attribute meta_attr meta_name simple_path word_reading repeat repeat_from meta_input value tokens
+unfolding attribute meta_attr meta_name simple_path word_reading repeat repeat_from meta_input value tokens_of
     run_tokens op_at
 read_call = refl
 
 -- no value without a token
 no_value : attribute false (attr_tokens (word a ∷ mark (codes "=") ∷ [])) ≡ None
-unfolding attribute meta_attr meta_name simple_path word_reading repeat repeat_from meta_input value tokens
+unfolding attribute meta_attr meta_name simple_path word_reading repeat repeat_from meta_input value tokens_of
     run_tokens op_at
 no_value = refl

@@ -18,7 +18,7 @@ use Rattle.lay_tree.specs.reader.Call.{call}
 use Rattle.lay_tree.specs.reader.Item.{begins_rules, call_item}
 use Rattle.lay_tree.specs.reader.Loops.{repeat_from, repeat}
 use Rattle.lay_tree.specs.reader.SimplePath.{simple_path}
-use Rattle.lay_tree.specs.reader.Tokens.{run, tokens, group}
+use Rattle.lay_tree.specs.reader.Tokens.{run, tokens_of, group}
 use Rattle.lay_tree.specs.reader.Words.{name, word as word_reading}
 use Rattle.lay_tree.specs.tokens.Lists.{group_form}
 use Rattle.lay_tree.specs.declared.item.Item.{Item}
@@ -291,12 +291,12 @@ parens ts = opens Paren ∷ closes Paren ∷ ts
 
 -- `m!()` is no item without its `;`.
 no_call : call_item (word (codes "m") ∷ mark (codes "!") ∷ parens []) ≡ None
-unfolding call_item call simple_path word_reading repeat repeat_from op_at group tokens run
+unfolding call_item call simple_path word_reading repeat repeat_from op_at group tokens_of run
 no_call = refl
 
 read_call : call_item (word (codes "m") ∷ mark (codes "!") ∷ parens (mark (codes ";") ∷ []))
     ≡ Some ((item.Call (m_call (in_parens [])), 0), [])
-unfolding call_item call simple_path word_reading repeat repeat_from op_at group tokens run
+unfolding call_item call simple_path word_reading repeat repeat_from op_at group tokens_of run
 read_call = refl
 
 -- `macro_rules!` declares a macro before a name, and else calls one.

@@ -14,7 +14,7 @@ use Rattle.lay_tree.specs.reader.Call.{call}
 use Rattle.lay_tree.specs.reader.Loops.{repeat_from, repeat, elements_from, elements, open_elements_from, open_elements}
 use Rattle.lay_tree.specs.reader.Patterns.{PatWithin, bind, fields, marked_bind, one_end, one_field, paren_pat, pat_at, pat_by, path_by, path_pat, pat_in, ref_pat, short_field, single_at, slice_pat, span, value, value_pat}
 use Rattle.lay_tree.specs.reader.SimplePath.{simple_path}
-use Rattle.lay_tree.specs.reader.Tokens.{run, tokens, group}
+use Rattle.lay_tree.specs.reader.Tokens.{run, tokens_of, group}
 use Rattle.lay_tree.specs.reader.Types.{within, path_type, path, chain, segment, args_by, angle, one_arg, literal}
 use Rattle.lay_tree.specs.reader.Words.{name as name_reading, word as word_reading}
 use Rattle.lay_tree.specs.declared.attr.Attr.{Attr}
@@ -303,7 +303,7 @@ not_before_less = rw (lone a) refl
 
 read_call : pat_at Single 1 (word (codes "m") ∷ mark (codes "!") ∷ in_parens [])
     ≡ Some ((pat.Call called, 1), [])
-unfolding single_at pat_by simple_path call group tokens run repeat repeat_from word_reading op_at
+unfolding single_at pat_by simple_path call group tokens_of run repeat repeat_from word_reading op_at
 read_call = refl
 
 -- A name isn't followed by `!`.

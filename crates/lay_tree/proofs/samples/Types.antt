@@ -17,7 +17,7 @@ use Rattle.lay_tree.specs.reader.Attr.{attributes}
 use Rattle.lay_tree.specs.reader.Call.{call}
 use Rattle.lay_tree.specs.reader.Loops.{Read, ◌>>=◌, repeat_from, repeat, elements_from, elements, open_elements_from, open_elements}
 use Rattle.lay_tree.specs.reader.SimplePath.{simple_path}
-use Rattle.lay_tree.specs.reader.Tokens.{run, tokens, group}
+use Rattle.lay_tree.specs.reader.Tokens.{run, tokens_of, group}
 use Rattle.lay_tree.specs.reader.Types.{type_at, within, path_type, path, chain, segment, args_by, angle, one_arg, round, func_type, func_params, func_param, bounds_type, bounds_by, one_bound, meets, paren_type, path_of, constraint_by, named_type}
 use Rattle.lay_tree.specs.reader.Generics.{generics_at, generics}
 use Rattle.lay_tree.specs.reader.Where.{wheres_at, wheres, type_predicate}
@@ -309,7 +309,7 @@ not_before_bang = refl
 -- `m!()` is a type.
 read_call : type_at Bounds 1 (word (codes "m") ∷ mark (codes "!") ∷ opens Paren ∷ closes Paren ∷ [])
     ≡ Some ((ty.Call (record { path = record { global = false; words = plain (codes "m") ∷ [] }; tokens = record { delim = Paren; tokens = [] } }), 1), [])
-unfolding within lead_at simple_path call group tokens run repeat repeat_from word_reading op_at
+unfolding within lead_at simple_path call group tokens_of run repeat repeat_from word_reading op_at
 read_call = refl
 
 -- Where one bound may stand, one is read.

@@ -17,7 +17,7 @@ onto xs None = None
 onto xs (Some r) = Some (xs ++ r.0, r.1)
 
 goes_on : (inner left more : List Delim) (t : Token) → turned t.kind inner ≡ Some more
-    → ends_run (inner ++ left) t ≡ false
+    → ends_run false (inner ++ left) t ≡ false
 goes_on (e ∷ inner) left more t h = refl
 goes_on [] (e ∷ left) more t h = refl
 goes_on [] [] more t h = by t.kind h
@@ -26,15 +26,15 @@ goes_on [] [] more t h = by t.kind h
     by (Closer d) g = cc
     by _ g = refl
 
-run_turned : (within more : List Delim) (t : Token) (ts : Tokens) → ends_run within t ≡ false
-    → turned t.kind within ≡ Some more → run within (t ∷ ts) ≡ onto (t ∷ []) (run more ts)
+run_turned : (within more : List Delim) (t : Token) (ts : Tokens) → ends_run false within t ≡ false
+    → turned t.kind within ≡ Some more → run false within (t ∷ ts) ≡ onto (t ∷ []) (run false more ts)
 unfolding run
-run_turned [] more t ts e h = rw (e, h) (by (run more ts))
+run_turned [] more t ts e h = rw (e, h) (by (run false more ts))
   where
     by : (g : Got (List Token)) → (do r ← g; Some (t ∷ r.0, r.1)) ≡ onto (t ∷ []) g
     by None = refl
     by (Some r) = refl
-run_turned (d ∷ within) more t ts e h = rw h (by (run more ts))
+run_turned (d ∷ within) more t ts e h = rw h (by (run false more ts))
   where
     by : (g : Got (List Token)) → (do r ← g; Some (t ∷ r.0, r.1)) ≡ onto (t ∷ []) g
     by None = refl
@@ -49,17 +49,17 @@ onto_both t xs None = refl
 onto_both t xs (Some r) = refl
 
 run_behind : (inner left : List Delim) (xs rest : List Token) → balances inner (map as_listed xs) ≡ true
-    → run (inner ++ left) (xs ++ rest) ≡ onto xs (run left rest)
-run_behind [] left [] rest h = sym (onto_none (run left rest))
+    → run false (inner ++ left) (xs ++ rest) ≡ onto xs (run false left rest)
+run_behind [] left [] rest h = sym (onto_none (run false left rest))
 run_behind (d ∷ inner) left [] rest h = cc
 run_behind inner left (t ∷ xs) rest h =
     let s = turns inner (as_listed t) (map as_listed xs) h in
     let e : turned t.kind inner ≡ Some s.more = sym (turned_listed t.kind t.text t.joint inner) ∙ s.turn in
     run_turned (inner ++ left) (s.more ++ left) t (xs ++ rest) (goes_on inner left s.more t e)
     (turned_within t.kind inner s.more left e)
-    ∙ ap (onto (t ∷ [])) (run_behind s.more left xs rest s.rest) ∙ onto_both t xs (run left rest)
+    ∙ ap (onto (t ∷ [])) (run_behind s.more left xs rest s.rest) ∙ onto_both t xs (run false left rest)
 
 -- A run passes over what is balanced.
 pub run_over : (left : List Delim) (xs rest : List Token) → is_balanced (map as_listed xs) ≡ true
-    → run left (xs ++ rest) ≡ onto xs (run left rest)
+    → run false left (xs ++ rest) ≡ onto xs (run false left rest)
 run_over left xs rest h = run_behind [] left xs rest h

@@ -1,7 +1,7 @@
 -- What is told of a node.
 use Rattle.std.specs.Prelude.{ℕ, Bool, List, map}
 use Rattle.std.specs.List.{list_all}
-use Rattle.lay_form.specs.Form.{Form}
+use Rattle.lay_form.specs.Form.{Form, Done, Deeper}
 use Rattle.lay_form.specs.Spelled as spelled
 use Rattle.lay_tree.specs.Ahead.{Tokens}
 use Rattle.lay_tree.specs.Follow.{Begin, may_follow}
@@ -22,3 +22,16 @@ all_good nodes = list_all (λ (x : Facts). x.good) nodes
 -- and what stands behind them may follow it.
 abbrev pub Front : Facts → Tokens → ℕ → ℕ → Type 0
 Front x ts n depth = spelled.Front x.form x.good (may_follow x.refuses) ts n depth
+
+-- The same of a node that says by itself which tokens may follow it.
+pub record Told : Type 0 where
+  pub form : Form
+  pub good : Bool
+  pub follows : Tokens → Bool
+
+-- A node that isn't counted, by itself: what is within it stands one level deeper.
+abbrev pub by_itself : Told → Told
+by_itself x = record { form = Deeper x.form Done; good = x.good; follows = x.follows }
+
+abbrev pub ToldFront : Told → Tokens → ℕ → ℕ → Type 0
+ToldFront x ts n depth = spelled.Front x.form x.good x.follows ts n depth

@@ -1,0 +1,63 @@
+//! The heads of functions.
+use crate::attr::Attr;
+use crate::generics::Generics;
+use crate::patterns::Pat;
+use crate::token::{Lifetime, Name};
+use crate::types::{Abi, Ty};
+use lay_token::List;
+
+/// What a function says of its safety.
+#[derive(Clone, Copy)]
+pub enum Safety {
+    /// `unsafe`
+    Unsafe,
+    /// `safe`, which a function of a foreign block may say
+    Safe,
+}
+
+/// The head of a function (Rust Reference, "Functions"): all up to its where clause.
+#[derive(Drop)]
+pub struct FnHead {
+    pub is_const: bool,
+    pub is_async: bool,
+    pub safety: Option<Safety>,
+    pub abi: Option<Abi>,
+    pub name: Name,
+    pub generics: Generics,
+    /// A receiver stands first alone, and `...` last alone.
+    pub params: List<Param>,
+    pub output: Option<Ty>,
+}
+
+/// A parameter of a function.
+#[derive(Drop)]
+pub struct Param {
+    pub attrs: List<Attr>,
+    pub kind: ParamKind,
+}
+
+/// What a parameter of a function is.
+#[derive(Drop)]
+pub enum ParamKind {
+    /// `&'a mut self`
+    RefSelf {
+        lifetime: Option<Lifetime>,
+        mutable: bool,
+    },
+    /// `mut self: A`
+    OwnSelf {
+        mutable: bool,
+        ty: Option<Ty>,
+    },
+    /// `a: A`
+    Typed {
+        pat: Pat,
+        ty: Ty,
+    },
+    /// `...`
+    Variadic,
+    /// `a: ...`
+    NamedVariadic {
+        pat: Pat,
+    },
+}
