@@ -61,7 +61,7 @@ module _ {A : Type 0} (about : A → Told) (one : PatWithin → Tokens → Read 
       let s = sound budget (insides budget) (insides_sound budget) ts y.0.0 y.0.1 t y.1 in
       let k = s.0 in
       same_some (Out (Stood (λ x. by_itself (about x)) (suc budget)) ts) ((y.0.0.0, suc y.0.0.1), y.0.1) (x, rest) y.2
-      ((omega (arith, k.0), (y.0.1, k.1, refl), k.2), s.1)
+      ((omega (arith, k.0), (y.0.1, k.1, refl), k.2, k.3), s.1)
 
   head_read : CompleteHead about one → (x : A) (depth budget : ℕ) → depth ≤ budget → (ts rest : Tokens)
       → Spells (by_itself (about x)).form depth ts rest → (about x).good ≡ true → (about x).follows rest ≡ true → IsRead depth (head_at one budget) x ts rest
