@@ -4,7 +4,7 @@ use crate::item::Item;
 use lay_token::{List, Text};
 
 /// A file (Rust Reference, "Crates and source files").
-#[derive(Debug, Drop)]
+#[derive(Drop)]
 pub struct File {
     /// The first line, without its line end, where it tells the system what runs the file.
     pub shebang: Option<Text>,

@@ -1,25 +1,39 @@
 //! Items.
 use crate::attr::Attr;
 use crate::boxed::Boxed;
-use crate::token::Name;
+use crate::functions::FnHead;
+use crate::generics::Wheres;
+use crate::heads::{Alias, Enum, ExternCrate, ImplHead, Struct, TraitHead, Union, ValueHead};
+use crate::token::{Literal, Name};
 use crate::tokens::{Group, MacroCall};
 use crate::use_tree::UseTree;
+use crate::vis::Vis;
 use lay_token::List;
 
-/// An item with its outer attributes (Rust Reference, "Items"). One in a module stands one level deeper.
+/// An item with its outer attributes (Rust Reference, "Items"). One within another stands one level deeper.
 #[cycle(items)]
-#[derive(Debug, Drop)]
+#[derive(Drop)]
 pub struct Item {
     pub attrs: List<Attr>,
+    /// Nothing, where it is a macro call or declares a macro.
+    pub vis: Vis,
     pub kind: ItemKind,
 }
 
 /// What an item is.
 #[cycle(items)]
-#[derive(Debug, Drop)]
+#[derive(Drop)]
 pub enum ItemKind {
-    /// `struct A;`
-    Struct {
+    /// `extern crate a;`
+    ExternCrate {
+        item: ExternCrate,
+    },
+    /// `use a::{b, c};` The box keeps other items small.
+    Import {
+        tree: Boxed<UseTree>,
+    },
+    /// `mod a;`, a module in a file of its own
+    FileModule {
         name: Name,
     },
     /// `mod a { struct B; }`, with its inner attributes and its items
@@ -28,9 +42,51 @@ pub enum ItemKind {
         attrs: List<Attr>,
         items: List<Item>,
     },
-    /// `use a::{b, c};` The box keeps other items small.
-    Import {
-        tree: Boxed<UseTree>,
+    /// `fn a();`
+    Function {
+        head: FnHead,
+        wheres: Wheres,
+    },
+    /// `type A = B;`
+    Alias {
+        item: Alias,
+    },
+    /// `struct A;`
+    Struct {
+        item: Struct,
+    },
+    /// `union A { b: C }`
+    Union {
+        item: Union,
+    },
+    /// `enum A { B }`
+    Enum {
+        item: Enum,
+    },
+    /// `const A: B;` or `static A: B;`
+    Value {
+        head: ValueHead,
+    },
+    /// `trait A { fn b(); }`, with its inner attributes and its members
+    Trait {
+        head: TraitHead,
+        wheres: Wheres,
+        attrs: List<Attr>,
+        items: List<Item>,
+    },
+    /// `impl A { type B = C; }`, with its inner attributes and its members
+    Impl {
+        head: ImplHead,
+        wheres: Wheres,
+        attrs: List<Attr>,
+        items: List<Item>,
+    },
+    /// `unsafe extern "C" { fn a(); }`, with its inner attributes and its items
+    Foreign {
+        is_unsafe: bool,
+        abi: Option<Literal>,
+        attrs: List<Attr>,
+        items: List<Item>,
     },
     /// `macro_rules! m { () => {}; }`
     MacroRules {

@@ -6,11 +6,12 @@ use Rattle.lay_tree.specs.nodes.Attr.{are_attrs, attr_form}
 use Rattle.lay_tree.specs.nodes.Facts.{forms, all_good}
 use Rattle.lay_tree.specs.nodes.Item.{about_item}
 use Rattle.lay_tree.specs.declared.file.File.{File}
+use Rattle.lay_tree.specs.declared.heads.Site.TheVariants.{Module}
 
 -- the inner attributes of a file and then its items, each on a line of its own
 abbrev pub form_of_file : File → Form
-form_of_file file = lines (map attr_form file.attrs ++ forms (map about_item file.items))
+form_of_file file = lines (map attr_form file.attrs ++ forms (map (about_item Module) file.items))
 
 -- The tree is normal, and each node meets the conditions of its form.
 abbrev pub is_normal : File → Bool
-is_normal file = are_attrs true file.attrs && all_good (map about_item file.items)
+is_normal file = are_attrs true file.attrs && all_good (map (about_item Module) file.items)

@@ -1,57 +1,200 @@
 -- Items (Rust Reference, "Items"). Each ends in a `;` or in a `}`, so anything may follow it.
-use Rattle.std.specs.Prelude.{Bool, true, false, ◌&&◌, [], ◌∷◌, ◌++◌, map, codes}
+use Rattle.std.specs.Prelude.{Bool, true, false, ◌&&◌, ◌||◌, List, [], ◌∷◌, ◌++◌, map, codes, Option, Some, None}
+use Rattle.std.specs.List.{list_all}
 use Rattle.lay_form.specs.Form.{Blank, Operator, Form, Done, Piece, Part, Deeper, keyword, semicolon}
-use Rattle.lay_form.specs.Notation.{I0, piece, body, behind_attrs}
+use Rattle.lay_form.specs.Notation.{piece, body, behind_attrs}
 use Rattle.lay_tree.specs.Words.{is_name, leaf_of}
 use Rattle.lay_tree.specs.nodes.Attr.{are_attrs, attr_form}
 use Rattle.lay_tree.specs.nodes.Call.{is_group, before_rules, end_form, about_call}
-use Rattle.lay_tree.specs.nodes.Facts.{Facts, forms, all_good}
+use Rattle.lay_tree.specs.nodes.Facts.{Facts}
+use Rattle.lay_tree.specs.nodes.Fields.{blank_if}
+use Rattle.lay_tree.specs.nodes.Functions.{fn_head_form, is_fn_head}
+use Rattle.lay_tree.specs.nodes.Heads.{HeadFacts, about_alias, about_enum, about_extern_crate, about_struct, about_union, impl_head_form, is_impl_head, is_trait_head, is_value_head, leads, seen, trait_head_form, unsafe_form, value_head_form}
+use Rattle.lay_tree.specs.nodes.Types.{is_abi_name, literal_form}
 use Rattle.lay_tree.specs.nodes.Use.{about_use}
+use Rattle.lay_tree.specs.nodes.Vis.{is_vis}
+use Rattle.lay_tree.specs.nodes.Where.{are_predicates, wheres_before_body, wheres_before_semicolon}
 use Rattle.lay_tree.specs.tokens.Lists.{group_form}
+use Rattle.lay_tree.specs.declared.attr.Attr.{Attr}
+use Rattle.lay_tree.specs.declared.functions.FnHead.{FnHead}
+use Rattle.lay_tree.specs.declared.generics.Wheres.{Wheres}
+use Rattle.lay_tree.specs.declared.heads.ImplHead.{ImplHead}
+use Rattle.lay_tree.specs.declared.heads.Site.{Site}
+use Rattle.lay_tree.specs.declared.heads.Site.TheVariants as site
+use Rattle.lay_tree.specs.declared.heads.TraitHead.{TraitHead}
+use Rattle.lay_tree.specs.declared.heads.ValueHead.{ValueHead}
+use Rattle.lay_tree.specs.declared.heads.ValueHead.TheVariants as value
 use Rattle.lay_tree.specs.declared.item.Item.{Item}
 use Rattle.lay_tree.specs.declared.item.ItemKind.{ItemKind}
 use Rattle.lay_tree.specs.declared.item.ItemKind.TheFolds.{fold-Item, fold-ItemKind}
 use Rattle.lay_tree.specs.declared.item.ItemKind.TheOpen.{Item-F, ItemKind-F}
+use Rattle.lay_tree.specs.declared.token.Literal.{Literal}
+use Rattle.lay_tree.specs.declared.token.Name.{Name}
+use Rattle.lay_tree.specs.declared.tokens.Group.{Group}
+use Rattle.lay_tree.specs.declared.tokens.MacroCall.{MacroCall}
+use Rattle.lay_tree.specs.declared.use_tree.UseTree.{UseTree}
+use Rattle.lay_tree.specs.declared.vis.Vis.{Vis}
+use Rattle.lay_tree.specs.declared.vis.Vis.TheVariants as vis
 
--- ---- what an item is, where all is told of the items within it: its head is a group of its own, but that of a macro
+-- ---- where an item may stand
 
-abbrev pub kind_form : ItemKind-F Facts Facts → Form
-kind_form (ItemKind-F.Struct name) =
-    I0 (Piece (keyword (codes "struct") ∷ Blank ∷ []) (leaf_of name.raw name.text Done)) (piece semicolon)
-kind_form (ItemKind-F.Module name attrs items) =
-    I0 (Piece (keyword (codes "mod") ∷ Blank ∷ []) (leaf_of name.raw name.text Done))
-    (body (Blank ∷ []) [] (map attr_form attrs ++ forms items))
-kind_form (ItemKind-F.Import tree) =
-    I0 (Piece (keyword (codes "use") ∷ Blank ∷ []) (Part (about_use tree).form Done)) (piece semicolon)
-kind_form (ItemKind-F.MacroRules name rules) =
-    Piece (keyword (codes "macro_rules") ∷ Operator (codes "!") ∷ Blank ∷ [])
+abbrev pub in_module : Site → Bool
+in_module site.Module = true
+in_module _ = false
+
+-- A function has no body in a trait, where it may lack one, and in a foreign block.
+abbrev pub may_lack_body : Site → Bool
+may_lack_body site.TraitMember = true
+may_lack_body site.Foreign = true
+may_lack_body _ = false
+
+-- A constant has no value in a trait, where it may lack one, and a static in a foreign block.
+abbrev pub may_lack_value : Site → ValueHead → Bool
+may_lack_value site.TraitMember (value.Const name x) = true
+may_lack_value site.Foreign (value.Static mutable name x) = true
+may_lack_value _ _ = false
+
+-- ---- what is told of an item, and of what it is
+
+pub record ItemFacts : Type 0 where
+  pub form : Form
+  pub good : Site → Bool
+
+pub record KindFacts : Type 0 where
+  -- with a visibility before it
+  pub form : Vis → Form
+  pub good : Site → Bool
+  -- It may have a visibility.
+  pub shown : Bool
+
+abbrev pub item_forms : List ItemFacts → List Form
+item_forms items = map (λ (x : ItemFacts). x.form) items
+
+abbrev pub items_good : Site → List ItemFacts → Bool
+items_good site items = list_all (λ (x : ItemFacts). x.good site) items
+
+-- inner attributes and items in braces
+abbrev pub item_body : Bool → List Attr → List ItemFacts → Form
+item_body lead attrs items = body (blank_if lead) [] (map attr_form attrs ++ item_forms items)
+
+-- ---- heads and what is behind them
+
+abbrev pub about_import : UseTree → HeadFacts
+about_import tree = record {
+  head = Piece (keyword (codes "use") ∷ Blank ∷ []) (Part (about_use tree).form Done);
+  tail = piece semicolon;
+  good = (about_use tree).good;
+}
+
+abbrev pub module_head : Name → Form
+module_head name = Piece (keyword (codes "mod") ∷ Blank ∷ []) (leaf_of name.raw name.text Done)
+
+abbrev pub about_file_module : Name → HeadFacts
+about_file_module name = record { head = module_head name; tail = piece semicolon; good = is_name name.raw name.text }
+
+abbrev pub about_module : Name → List Attr → List ItemFacts → HeadFacts
+about_module name attrs items = record {
+  head = module_head name;
+  tail = item_body true attrs items;
+  good = is_name name.raw name.text && are_attrs true attrs && items_good site.Module items;
+}
+
+abbrev pub about_function : Site → FnHead → Wheres → HeadFacts
+about_function site head wheres = record {
+  head = fn_head_form head;
+  tail = Part (wheres_before_semicolon wheres) (piece semicolon);
+  good = is_fn_head site head && are_predicates wheres && may_lack_body site;
+}
+
+abbrev pub about_value : Site → ValueHead → HeadFacts
+about_value site head = record { head = value_head_form head; tail = piece semicolon; good = is_value_head head && may_lack_value site head }
+
+abbrev pub about_trait : TraitHead → Wheres → List Attr → List ItemFacts → HeadFacts
+about_trait head wheres attrs items = record {
+  head = trait_head_form head;
+  tail = Part (wheres_before_body wheres) (item_body (leads wheres) attrs items);
+  good = is_trait_head head && are_predicates wheres && are_attrs true attrs && items_good site.TraitMember items;
+}
+
+abbrev pub about_impl : ImplHead → Wheres → List Attr → List ItemFacts → HeadFacts
+about_impl head wheres attrs items = record {
+  head = impl_head_form head;
+  tail = Part (wheres_before_body wheres) (item_body (leads wheres) attrs items);
+  good = is_impl_head head && are_predicates wheres && are_attrs true attrs && items_good site.Member items;
+}
+
+abbrev pub foreign_abi : Option Literal → Form
+foreign_abi None = Done
+foreign_abi (Some l) = Piece (Blank ∷ []) (literal_form l Done)
+
+abbrev pub about_foreign : Bool → Option Literal → List Attr → List ItemFacts → HeadFacts
+about_foreign is_unsafe abi attrs items = record {
+  head = unsafe_form is_unsafe (Piece (keyword (codes "extern") ∷ []) (foreign_abi abi));
+  tail = item_body true attrs items;
+  good = is_abi_name abi && are_attrs true attrs && items_good site.Foreign items;
+}
+
+-- ---- macros, which have no head
+
+abbrev pub rules_form : Name → Group → Form
+rules_form name rules = Piece (keyword (codes "macro_rules") ∷ Operator (codes "!") ∷ Blank ∷ [])
     (leaf_of name.raw name.text (before_rules rules.delim (group_form rules (end_form rules.delim))))
-kind_form (ItemKind-F.Call call) = Part (about_call call).form (end_form call.tokens.delim)
 
-abbrev pub kind_good : ItemKind-F Facts Facts → Bool
-kind_good (ItemKind-F.Struct name) = is_name name.raw name.text
-kind_good (ItemKind-F.Module name attrs items) = is_name name.raw name.text && are_attrs true attrs && all_good items
-kind_good (ItemKind-F.Import tree) = (about_use tree).good
-kind_good (ItemKind-F.MacroRules name rules) = is_name name.raw name.text && is_group rules
-kind_good (ItemKind-F.Call call) = (about_call call).good
+abbrev pub call_item_form : MacroCall → Form
+call_item_form call = Part (about_call call).form (end_form call.tokens.delim)
 
-abbrev pub kind_facts : ItemKind-F Facts Facts → Facts
-kind_facts kind = record { form = kind_form kind; good = kind_good kind; refuses = [] }
+-- ---- kinds, where all is told of the items within them
+
+-- what has a head, in a module
+abbrev pub in_modules : HeadFacts → KindFacts
+in_modules x = record { form = λ v. seen v x; good = λ site. x.good && in_module site; shown = true }
+
+-- what has a head, of which the site decides
+abbrev pub by_site : (Site → HeadFacts) → KindFacts
+by_site x = record { form = λ v. seen v (x site.Module); good = λ site. (x site).good; shown = true }
+
+abbrev pub kind_facts : ItemKind-F KindFacts ItemFacts → KindFacts
+kind_facts (ItemKind-F.ExternCrate x) = in_modules (about_extern_crate x)
+kind_facts (ItemKind-F.Import tree) = in_modules (about_import tree)
+kind_facts (ItemKind-F.FileModule name) = in_modules (about_file_module name)
+kind_facts (ItemKind-F.Module name attrs items) = in_modules (about_module name attrs items)
+kind_facts (ItemKind-F.Function head wheres) = by_site (λ site. about_function site head wheres)
+kind_facts (ItemKind-F.Alias x) = by_site (λ site. about_alias site x)
+kind_facts (ItemKind-F.Struct x) = in_modules (about_struct x)
+kind_facts (ItemKind-F.Union x) = in_modules (about_union x)
+kind_facts (ItemKind-F.Enum x) = in_modules (about_enum x)
+kind_facts (ItemKind-F.Value head) = by_site (λ site. about_value site head)
+kind_facts (ItemKind-F.Trait head wheres attrs items) = in_modules (about_trait head wheres attrs items)
+kind_facts (ItemKind-F.Impl head wheres attrs items) = in_modules (about_impl head wheres attrs items)
+kind_facts (ItemKind-F.Foreign is_unsafe abi attrs items) = in_modules (about_foreign is_unsafe abi attrs items)
+kind_facts (ItemKind-F.MacroRules name rules) = record {
+  form = λ v. rules_form name rules;
+  good = λ site. is_name name.raw name.text && is_group rules && in_module site;
+  shown = false;
+}
+kind_facts (ItemKind-F.Call call) = record { form = λ v. call_item_form call; good = λ site. (about_call call).good; shown = false }
 
 -- ---- an item
 
-abbrev pub item_facts : Item-F Facts Facts → Facts
+abbrev pub is_inherited : Vis → Bool
+is_inherited vis.Inherited = true
+is_inherited _ = false
+
+abbrev pub item_facts : Item-F KindFacts ItemFacts → ItemFacts
 item_facts item = record {
-  form = Deeper (behind_attrs (map attr_form item.attrs) (Part item.kind.form Done)) Done;
-  good = are_attrs false item.attrs && item.kind.good;
-  refuses = [];
+  form = Deeper (behind_attrs (map attr_form item.attrs) (Part (item.kind.form item.vis) Done)) Done;
+  good = λ site. are_attrs false item.attrs && is_vis item.vis && (item.kind.shown || is_inherited item.vis) && item.kind.good site;
 }
 
-unfoldable pub about_item : Item → Facts
-about_item = fold-Item Facts Facts kind_facts item_facts
+unfoldable pub told_of_item : Item → ItemFacts
+told_of_item = fold-Item KindFacts ItemFacts kind_facts item_facts
 
-unfoldable pub about_kind : ItemKind → Facts
-about_kind = fold-ItemKind Facts Facts kind_facts item_facts
+unfoldable pub told_of_kind : ItemKind → KindFacts
+told_of_kind = fold-ItemKind KindFacts ItemFacts kind_facts item_facts
+
+-- what is told of an item at its site
+abbrev pub about_item : Site → Item → Facts
+about_item site item = record { form = (told_of_item item).form; good = (told_of_item item).good site; refuses = [] }
 
 abbrev pub form_of_item : Item → Form
-form_of_item item = (about_item item).form
+form_of_item item = (told_of_item item).form

@@ -6,11 +6,12 @@ use Rattle.lay_tree.specs.reader.Attr.{attributes}
 use Rattle.lay_tree.specs.reader.Item.{items_by, item_at}
 use Rattle.lay_tree.specs.reader.Loops.{◌>>=◌, nodes}
 use Rattle.lay_tree.specs.declared.attr.Attr.{Attr}
+use Rattle.lay_tree.specs.declared.heads.Site.TheVariants.{Module}
 use Rattle.lay_tree.specs.declared.item.Item.{Item}
 
 -- the inner attributes and the items of a file, behind which no token is left
 unfoldable pub whole : Tokens → Option (List Attr × List Item)
 whole ts = do
   attrs ← attributes true ts
-  items ← items_by (item_at top) attrs.1
+  items ← items_by (item_at Module top) attrs.1
   if at_end items.1 then Some (attrs.0, nodes items.0) else None

@@ -1,14 +1,27 @@
 -- Reading items.
-use Rattle.std.specs.Prelude.{ℕ, zero, suc, not, ◌&&◌, Bool, true, false, if◌then◌else◌, List, [], ◌∷◌, drop, codes, Some, None, is_some}
+use Rattle.std.specs.Prelude.{ℕ, zero, suc, max, not, ◌&&◌, ◌||◌, Bool, true, false, if◌then◌else◌, List, [], ◌∷◌, drop, codes, Option, Some, None, is_some}
 use Rattle.lay_token.specs.Operators.{is_op}
 use Rattle.lay_piece.specs.declared.kind.Delim.TheVariants.{Brace}
+use Rattle.lay_piece.specs.declared.kind.Kind.{Kind}
+use Rattle.lay_piece.specs.declared.kind.Kind.TheVariants as kind
+use Rattle.lay_token.specs.declared.token.Token.{Token}
 use Rattle.lay_tree.specs.Ahead.{Tokens, first, tail, is_keyword, is_mark, opens, closes}
+use Rattle.lay_tree.specs.nodes.Item.{told_of_kind, in_module, is_inherited, may_lack_body, may_lack_value}
 use Rattle.lay_tree.specs.reader.Attr.{attributes}
 use Rattle.lay_tree.specs.reader.Call.{call, behind_end}
+use Rattle.lay_tree.specs.reader.Functions.{fn_head, insides}
+use Rattle.lay_tree.specs.reader.Heads.{alias, enum, extern_crate, impl_head, semicolon, struct, trait_head, union, unsafe_flag, value_head}
 use Rattle.lay_tree.specs.reader.Loops.{Got, Read, ◌>>=◌, passed, nodes, deepest, repeat}
+use Rattle.lay_tree.specs.reader.Patterns.{PatWithin}
 use Rattle.lay_tree.specs.reader.Tokens.{group}
+use Rattle.lay_tree.specs.reader.Types.{if_there, is_string_token, literal}
 use Rattle.lay_tree.specs.reader.Use.{use_at}
+use Rattle.lay_tree.specs.reader.Vis.{visibility}
+use Rattle.lay_tree.specs.reader.Where.{wheres}
 use Rattle.lay_tree.specs.reader.Words.{name}
+use Rattle.lay_tree.specs.declared.attr.Attr.{Attr}
+use Rattle.lay_tree.specs.declared.heads.Site.{Site}
+use Rattle.lay_tree.specs.declared.heads.Site.TheVariants as site
 use Rattle.lay_tree.specs.declared.item.Item.{Item}
 use Rattle.lay_tree.specs.declared.item.ItemKind.{ItemKind}
 use Rattle.lay_tree.specs.declared.item.ItemKind.TheVariants as item
@@ -26,26 +39,146 @@ more_items ts = not (ends_items ts)
 unfoldable pub items_by : (Tokens → Read Item) → Tokens → Got (List (Item × ℕ))
 items_by one ts = repeat more_items one ts
 
--- ---- each behind the keyword that it begins with, and a macro from its start
+-- How what is one level deeper is read: items at a site, use trees, and what is within heads.
+pub record ItemWithin : Type 0 where
+  pub items : Site → Tokens → Read Item
+  pub trees : Tokens → Read UseTree
+  pub heads : PatWithin
 
-unfoldable pub struct_item : Tokens → Read ItemKind
-struct_item ts = do n ← name ts; rest ← passed (is_mark (codes ";")) n.1; Some ((item.Struct n.0, 0), rest)
-
-unfoldable pub module_by : (Tokens → Read Item) → Tokens → Read ItemKind
-module_by within ts = do
-  n ← name ts
-  inside ← passed (opens Brace) n.1
+-- inner attributes and items at a site, in braces
+unfoldable pub item_body : ItemWithin → Site → Tokens → Read (List Attr × List Item)
+item_body within site ts = do
+  inside ← passed (opens Brace) ts
   attrs ← attributes true inside
-  items ← items_by within attrs.1
+  items ← items_by (within.items site) attrs.1
   rest ← passed (closes Brace) items.1
-  Some ((item.Module n.0 attrs.0 (nodes items.0), deepest items.0), rest)
+  Some (((attrs.0, nodes items.0), deepest items.0), rest)
 
-unfoldable pub import_by : (Tokens → Read UseTree) → Tokens → Read ItemKind
-import_by tree ts = do t ← tree ts; rest ← passed (is_mark (codes ";")) t.1; Some ((item.Import t.0.0, t.0.1), rest)
+-- ---- what an item begins with
 
--- `macro_rules`, before a `!` and a name
+pub data ItemLead : Type 0 where
+  OfExternCrate : ItemLead
+  OfImport : ItemLead
+  OfModule : ItemLead
+  OfFunction : ItemLead
+  OfAlias : ItemLead
+  OfStruct : ItemLead
+  OfUnion : ItemLead
+  OfEnum : ItemLead
+  OfValue : ItemLead
+  OfTrait : ItemLead
+  OfImpl : ItemLead
+  OfForeign : ItemLead
+  OfRules : ItemLead
+  OfCall : ItemLead
+
+abbrev pub skips : List ℕ → Tokens → Tokens
+skips word ts = if first (is_keyword word) ts then tail ts else ts
+
+abbrev pub is_string_kind : Kind → Bool
+is_string_kind kind.Str = true
+is_string_kind kind.RawStr = true
+is_string_kind _ = false
+
+-- an ABI, left behind
+abbrev pub skips_name : Tokens → Tokens
+skips_name ts = if first (λ t. is_string_kind t.kind) ts then tail ts else ts
+
+abbrev pub skips_abi : Tokens → Tokens
+skips_abi ts = if first (is_keyword (codes "extern")) ts then skips_name (tail ts) else ts
+
+-- what a function may say before its `fn`, left behind
+abbrev pub behind_qualifiers : Tokens → Tokens
+behind_qualifiers ts = skips_abi (skips (codes "safe") (skips (codes "unsafe") (skips (codes "async") (skips (codes "const") ts))))
+
+abbrev pub begins_function : Tokens → Bool
+begins_function ts = first (is_keyword (codes "fn")) (behind_qualifiers ts)
+
+-- `union` before a name, and `macro_rules` before a `!` and a name, are words of their own.
+abbrev pub begins_union : Tokens → Bool
+begins_union ts = first (is_keyword (codes "union")) ts && is_some (name (tail ts))
+
 abbrev pub begins_rules : Tokens → Bool
 begins_rules ts = first (is_keyword (codes "macro_rules")) ts && is_op (codes "!") (tail ts) && is_some (name (drop 1 (tail ts)))
+
+-- what begins with `unsafe`, or could, and is no function
+abbrev pub unsafe_lead : Tokens → ItemLead
+unsafe_lead ts =
+    if first (is_keyword (codes "trait")) ts then OfTrait
+    else (if first (is_keyword (codes "impl")) ts then OfImpl else OfForeign)
+
+abbrev pub extern_lead : Tokens → ItemLead
+extern_lead ts = if first (is_keyword (codes "crate")) ts then OfExternCrate else OfForeign
+
+abbrev pub macro_lead : Tokens → ItemLead
+macro_lead ts = if begins_union ts then OfUnion else (if begins_rules ts then OfRules else OfCall)
+
+abbrev pub word_lead : Tokens → ItemLead
+word_lead ts =
+    if first (is_keyword (codes "use")) ts then OfImport
+    else (if first (is_keyword (codes "mod")) ts then OfModule
+    else (if first (is_keyword (codes "type")) ts then OfAlias
+    else (if first (is_keyword (codes "struct")) ts then OfStruct
+    else (if first (is_keyword (codes "enum")) ts then OfEnum
+    else (if first (is_keyword (codes "const")) ts then OfValue
+    else (if first (is_keyword (codes "static")) ts then OfValue
+    else (if first (is_keyword (codes "trait")) ts then OfTrait
+    else (if first (is_keyword (codes "impl")) ts then OfImpl
+    else (if first (is_keyword (codes "unsafe")) ts then unsafe_lead (tail ts)
+    else (if first (is_keyword (codes "extern")) ts then extern_lead (tail ts) else macro_lead ts))))))))))
+
+unfoldable pub item_lead : Tokens → ItemLead
+item_lead ts = if begins_function ts then OfFunction else word_lead ts
+
+-- ---- each kind
+
+unfoldable pub module_by : ItemWithin → Tokens → Read ItemKind
+module_by within ts = do
+  behind ← passed (is_keyword (codes "mod")) ts
+  n ← name behind
+  if first (is_mark (codes ";")) n.1 then Some ((item.FileModule n.0, 0), tail n.1)
+    else (do b ← item_body within site.Module n.1; Some ((item.Module n.0 b.0.0.0 b.0.0.1, b.0.1), b.1))
+
+unfoldable pub import_by : ItemWithin → Tokens → Read ItemKind
+import_by within ts = do
+  behind ← passed (is_keyword (codes "use")) ts
+  t ← within.trees behind
+  rest ← semicolon t.1
+  Some ((item.Import t.0.0, t.0.1), rest)
+
+unfoldable pub function_by : Site → ItemWithin → Tokens → Read ItemKind
+function_by at within ts = do
+  h ← fn_head at within.heads ts
+  w ← wheres within.heads.kinds h.1
+  rest ← semicolon w.1
+  Some ((item.Function h.0.0 w.0.0.0, max h.0.1 w.0.1), rest)
+
+unfoldable pub value_by : Site → ItemWithin → Tokens → Read ItemKind
+value_by at within ts = do
+  h ← value_head within.heads.kinds ts
+  rest ← semicolon h.1
+  if may_lack_value at h.0.0 then Some ((item.Value h.0.0, h.0.1), rest) else None
+
+unfoldable pub trait_by : ItemWithin → Tokens → Read ItemKind
+trait_by within ts = do
+  h ← trait_head within.heads.kinds ts
+  w ← wheres within.heads.kinds h.1
+  b ← item_body within site.TraitMember w.1
+  Some ((item.Trait h.0.0.0 w.0.0.0 b.0.0.0 b.0.0.1, max h.0.1 (max w.0.1 b.0.1)), b.1)
+
+unfoldable pub impl_by : ItemWithin → Tokens → Read ItemKind
+impl_by within ts = do
+  h ← impl_head within.heads.kinds ts
+  w ← wheres within.heads.kinds h.1
+  b ← item_body within site.Member w.1
+  Some ((item.Impl h.0.0 w.0.0.0 b.0.0.0 b.0.0.1, max h.0.1 (max w.0.1 b.0.1)), b.1)
+
+unfoldable pub foreign_by : ItemWithin → Tokens → Read ItemKind
+foreign_by within ts = do
+  behind ← passed (is_keyword (codes "extern")) (unsafe_flag ts).1
+  l ← if_there (first is_string_token behind) (literal is_string_token) behind
+  b ← item_body within site.Foreign l.1
+  Some ((item.Foreign (unsafe_flag ts).0 l.0 b.0.0.0 b.0.0.1, b.0.1), b.1)
 
 unfoldable pub rules_item : Tokens → Read ItemKind
 rules_item ts = do
@@ -57,22 +190,47 @@ rules_item ts = do
 unfoldable pub call_item : Tokens → Read ItemKind
 call_item ts = do c ← call ts; rest ← behind_end c.0.tokens.delim c.1; Some ((item.Call c.0, 0), rest)
 
-unfoldable pub kind_by : (Tokens → Read Item) → (Tokens → Read UseTree) → Tokens → Read ItemKind
-kind_by within tree ts =
-    if first (is_keyword (codes "struct")) ts then struct_item (tail ts)
-    else (if first (is_keyword (codes "mod")) ts then module_by within (tail ts)
-    else (if first (is_keyword (codes "use")) ts then import_by tree (tail ts)
-    else (if begins_rules ts then rules_item ts else call_item ts)))
+-- Where an item with this lead may stand. Of an alias and of a value what is behind the lead decides.
+abbrev pub may_stand : Site → ItemLead → Bool
+may_stand at OfFunction = may_lack_body at
+may_stand at OfAlias = true
+may_stand at OfValue = true
+may_stand at OfCall = true
+may_stand at _ = in_module at
 
--- ---- with its attributes
+abbrev pub kind_by : Site → ItemWithin → ItemLead → Tokens → Read ItemKind
+kind_by at within OfExternCrate ts = do x ← extern_crate ts; Some ((item.ExternCrate x.0, 0), x.1)
+kind_by at within OfImport ts = import_by within ts
+kind_by at within OfModule ts = module_by within ts
+kind_by at within OfFunction ts = function_by at within ts
+kind_by at within OfAlias ts = do x ← alias at within.heads.kinds ts; Some ((item.Alias x.0.0, x.0.1), x.1)
+kind_by at within OfStruct ts = do x ← struct within.heads.kinds ts; Some ((item.Struct x.0.0, x.0.1), x.1)
+kind_by at within OfUnion ts = do x ← union within.heads.kinds ts; Some ((item.Union x.0.0, x.0.1), x.1)
+kind_by at within OfEnum ts = do x ← enum within.heads.kinds ts; Some ((item.Enum x.0.0, x.0.1), x.1)
+kind_by at within OfValue ts = value_by at within ts
+kind_by at within OfTrait ts = trait_by within ts
+kind_by at within OfImpl ts = impl_by within ts
+kind_by at within OfForeign ts = foreign_by within ts
+kind_by at within OfRules ts = rules_item ts
+kind_by at within OfCall ts = call_item ts
 
-abbrev pub item_by : (Tokens → Read Item) → (Tokens → Read UseTree) → Tokens → Read Item
-item_by within tree ts = do
+unfoldable pub kind_at : Site → ItemWithin → Tokens → Read ItemKind
+kind_at at within ts = if may_stand at (item_lead ts) then kind_by at within (item_lead ts) ts else None
+
+-- ---- with its attributes and its visibility
+
+-- A macro call and what declares a macro have no visibility.
+unfoldable pub item_by : Site → ItemWithin → Tokens → Read Item
+item_by at within ts = do
   attrs ← attributes false ts
-  kind ← kind_by within tree attrs.1
-  Some ((record { attrs = attrs.0; kind = kind.0.0 }, suc kind.0.1), kind.1)
+  v ← visibility attrs.1
+  kind ← kind_at at within v.1
+  if (told_of_kind kind.0.0).shown || is_inherited v.0
+    then Some ((record { attrs = attrs.0; vis = v.0; kind = kind.0.0 }, suc kind.0.1), kind.1)
+    else None
 
--- an item within a budget
-unfoldable pub item_at : ℕ → Tokens → Read Item
-item_at zero ts = None
-item_at (suc budget) ts = item_by (item_at budget) (use_at budget) ts
+-- an item at a site, within a budget
+unfoldable pub item_at : Site → ℕ → Tokens → Read Item
+item_at at zero ts = None
+item_at at (suc budget) ts =
+    item_by at (record { items = λ s us. item_at s budget us; trees = use_at budget; heads = insides budget }) ts
