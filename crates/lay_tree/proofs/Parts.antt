@@ -14,6 +14,7 @@ use Rattle.lay_form.specs.Spelled.{Then, IsOne, IsBit, AreBits, MayBe, Spells}
 use Rattle.lay_tree.specs.Ahead.{Tokens}
 use Rattle.lay_tree.specs.Words.{leaf_of}
 use Rattle.lay_tree.specs.nodes.Facts.{Facts, forms, all_good}
+use Rattle.lay_tree.specs.nodes.Fields.{blank_if}
 
 -- ---- rows
 
@@ -183,15 +184,24 @@ body_spelled before skipped (f ∷ fs) depth ts at inside start end rest b o s r
   (end, (end, each_line_spelled (f ∷ fs) depth start end r, refl), bit_piece (closer Brace) depth end rest c),
 )
 
--- a body behind a blank, with nothing that isn't laid out
-pub body_rows : (fs : List Form) (depth : ℕ) (ts rest : Tokens) → Spells (body (Blank ∷ []) [] fs) depth ts rest
+-- A leading blank is no token.
+unled : (lead : Bool) (bs : List Bit) (ts rest : Tokens) → AreBits (blank_if lead ++ bs) ts rest → AreBits bs ts rest
+unled true bs ts rest s = behind_blank bs ts rest s
+unled false bs ts rest s = s
+
+pub led_blank : (lead : Bool) (ts : Tokens) → AreBits (blank_if lead) ts ts
+led_blank true ts = (ts, refl, refl)
+led_blank false ts = refl
+
+-- a body, behind a blank or not, with nothing that isn't laid out
+pub body_rows : (lead : Bool) (fs : List Form) (depth : ℕ) (ts rest : Tokens) → Spells (body (blank_if lead) [] fs) depth ts rest
     → (inside end : Tokens) × IsBit (opener Brace) ts inside × Rows (SpelledAt depth) fs inside end × IsBit (closer Brace) end rest
-body_rows [] depth ts rest s =
-    let bits = behind_blank (opener Brace ∷ closer Brace ∷ []) ts s.0 s.1 in
+body_rows lead [] depth ts rest s =
+    let bits = unled lead (opener Brace ∷ closer Brace ∷ []) ts s.0 s.1 in
     let closing : IsBit (closer Brace) bits.0 s.0 = bit_alone (closer Brace) bits.0 s.0 bits.2 in
     (bits.0, bits.0, bits.1, refl, subst (λ us. IsBit (closer Brace) bits.0 us) s.2 closing)
-body_rows (f ∷ fs) depth ts rest s =
-    let opening : IsBit (opener Brace) ts s.0 = bit_alone (opener Brace) ts s.0 (behind_blank (opener Brace ∷ []) ts s.0 s.1) in
+body_rows lead (f ∷ fs) depth ts rest s =
+    let opening : IsBit (opener Brace) ts s.0 = bit_alone (opener Brace) ts s.0 (unled lead (opener Brace ∷ []) ts s.0 s.1) in
     let inside = each_line_rows (f ∷ fs) depth s.0 s.2.0 (part_alone (each H (f ∷ fs)) depth s.0 s.2.0 s.2.1) in
     (s.0, s.2.0, opening, inside, piece_bit (closer Brace) depth s.2.0 rest s.2.2)
 

@@ -27,6 +27,8 @@ pub mod PatternsSoundFields
 pub mod PatternsSoundKinds
 pub mod PatternsSoundRest
 pub mod PatternsSound
+pub mod ItemBodies
+pub mod ItemSound
 pub mod Item
 pub mod ItemRead
 pub mod File

@@ -1,14 +1,24 @@
 -- What is told of an item and of what it is, kind by kind.
-use Rattle.std.proofs.Common.{◌≡◌, List, map, sym, ap, ◌∙◌, subst}
-use Rattle.lay_tree.specs.nodes.Facts.{Facts}
-use Rattle.lay_tree.specs.nodes.Item.{kind_facts, item_facts, about_item, about_kind}
+use Rattle.std.proofs.Common.{◌≡◌, Bool, List, Option, map, sym, ap, ◌∙◌, subst}
+use Rattle.lay_tree.specs.nodes.Item.{KindFacts, ItemFacts, kind_facts, item_facts, told_of_item, told_of_kind}
 use Rattle.lay_tree.specs.declared.attr.Attr.{Attr}
+use Rattle.lay_tree.specs.declared.functions.FnHead.{FnHead}
+use Rattle.lay_tree.specs.declared.generics.Wheres.{Wheres}
+use Rattle.lay_tree.specs.declared.heads.Alias.{Alias}
+use Rattle.lay_tree.specs.declared.heads.Enum.{Enum}
+use Rattle.lay_tree.specs.declared.heads.ExternCrate.{ExternCrate}
+use Rattle.lay_tree.specs.declared.heads.ImplHead.{ImplHead}
+use Rattle.lay_tree.specs.declared.heads.Struct.{Struct}
+use Rattle.lay_tree.specs.declared.heads.TraitHead.{TraitHead}
+use Rattle.lay_tree.specs.declared.heads.Union.{Union}
+use Rattle.lay_tree.specs.declared.heads.ValueHead.{ValueHead}
 use Rattle.lay_tree.specs.declared.item.Item.{Item}
 use Rattle.lay_tree.specs.declared.item.ItemKind.{ItemKind}
 use Rattle.lay_tree.specs.declared.item.ItemKind.TheVariants as item
 use Rattle.lay_tree.specs.declared.item.ItemKind.TheOpen.{ItemKind-F}
-use Rattle.lay_tree.specs.declared.item.ItemKind.TheViews.{out-ItemKind, roll-ItemKind, roll-out-ItemKind, rolls-Struct, rolls-Module, rolls-Import, rolls-MacroRules, rolls-Call}
+use Rattle.lay_tree.specs.declared.item.ItemKind.TheViews.{out-ItemKind, roll-ItemKind, roll-out-ItemKind, rolls-ExternCrate, rolls-Import, rolls-FileModule, rolls-Module, rolls-Function, rolls-Alias, rolls-Struct, rolls-Union, rolls-Enum, rolls-Value, rolls-Trait, rolls-Impl, rolls-Foreign, rolls-MacroRules, rolls-Call}
 use Rattle.lay_tree.specs.declared.item.ItemKind.TheFolds.{fold_out-Item, fold-roll-ItemKind}
+use Rattle.lay_tree.specs.declared.token.Literal.{Literal}
 use Rattle.lay_tree.specs.declared.token.Name.{Name}
 use Rattle.lay_tree.specs.declared.tokens.Group.{Group}
 use Rattle.lay_tree.specs.declared.tokens.MacroCall.{MacroCall}
@@ -16,46 +26,117 @@ use Rattle.lay_tree.specs.declared.use_tree.UseTree.{UseTree}
 
 -- which kind it is
 pub data KindView : ItemKind → Type 0 where
-  IsStruct : (name : Name) → KindView (item.Struct name)
-  IsModule : (name : Name) (attrs : List Attr) (items : List Item) → KindView (item.Module name attrs items)
+  IsExternCrate : (x : ExternCrate) → KindView (item.ExternCrate x)
   IsImport : (tree : UseTree) → KindView (item.Import tree)
+  IsFileModule : (name : Name) → KindView (item.FileModule name)
+  IsModule : (name : Name) (attrs : List Attr) (items : List Item) → KindView (item.Module name attrs items)
+  IsFunction : (head : FnHead) (wheres : Wheres) → KindView (item.Function head wheres)
+  IsAlias : (x : Alias) → KindView (item.Alias x)
+  IsStruct : (x : Struct) → KindView (item.Struct x)
+  IsUnion : (x : Union) → KindView (item.Union x)
+  IsEnum : (x : Enum) → KindView (item.Enum x)
+  IsValue : (head : ValueHead) → KindView (item.Value head)
+  IsTrait : (head : TraitHead) (wheres : Wheres) (attrs : List Attr) (items : List Item) → KindView (item.Trait head wheres attrs items)
+  IsImpl : (head : ImplHead) (wheres : Wheres) (attrs : List Attr) (items : List Item) → KindView (item.Impl head wheres attrs items)
+  IsForeign : (is_unsafe : Bool) (abi : Option Literal) (attrs : List Attr) (items : List Item) → KindView (item.Foreign is_unsafe abi attrs items)
   IsRules : (name : Name) (rules : Group) → KindView (item.MacroRules name rules)
   IsCall : (call : MacroCall) → KindView (item.Call call)
 
 kind_layer : (layer : ItemKind-F ItemKind Item) → KindView (roll-ItemKind layer)
-kind_layer (ItemKind-F.Struct name) = subst KindView (sym (rolls-Struct name)) (IsStruct name)
-kind_layer (ItemKind-F.Module name attrs items) = subst KindView (sym (rolls-Module name attrs items)) (IsModule name attrs items)
+kind_layer (ItemKind-F.ExternCrate x) = subst KindView (sym (rolls-ExternCrate x)) (IsExternCrate x)
 kind_layer (ItemKind-F.Import tree) = subst KindView (sym (rolls-Import tree)) (IsImport tree)
+kind_layer (ItemKind-F.FileModule name) = subst KindView (sym (rolls-FileModule name)) (IsFileModule name)
+kind_layer (ItemKind-F.Module name attrs items) = subst KindView (sym (rolls-Module name attrs items)) (IsModule name attrs items)
+kind_layer (ItemKind-F.Function head wheres) = subst KindView (sym (rolls-Function head wheres)) (IsFunction head wheres)
+kind_layer (ItemKind-F.Alias x) = subst KindView (sym (rolls-Alias x)) (IsAlias x)
+kind_layer (ItemKind-F.Struct x) = subst KindView (sym (rolls-Struct x)) (IsStruct x)
+kind_layer (ItemKind-F.Union x) = subst KindView (sym (rolls-Union x)) (IsUnion x)
+kind_layer (ItemKind-F.Enum x) = subst KindView (sym (rolls-Enum x)) (IsEnum x)
+kind_layer (ItemKind-F.Value head) = subst KindView (sym (rolls-Value head)) (IsValue head)
+kind_layer (ItemKind-F.Trait head wheres attrs items) = subst KindView (sym (rolls-Trait head wheres attrs items)) (IsTrait head wheres attrs items)
+kind_layer (ItemKind-F.Impl head wheres attrs items) = subst KindView (sym (rolls-Impl head wheres attrs items)) (IsImpl head wheres attrs items)
+kind_layer (ItemKind-F.Foreign is_unsafe abi attrs items) = subst KindView (sym (rolls-Foreign is_unsafe abi attrs items)) (IsForeign is_unsafe abi attrs items)
 kind_layer (ItemKind-F.MacroRules name rules) = subst KindView (sym (rolls-MacroRules name rules)) (IsRules name rules)
 kind_layer (ItemKind-F.Call call) = subst KindView (sym (rolls-Call call)) (IsCall call)
 
 pub kind_view : (kind : ItemKind) → KindView kind
 kind_view kind = subst KindView (roll-out-ItemKind kind) (kind_layer (out-ItemKind kind))
 
-pub item_is : (one : Item) → about_item one ≡ item_facts (record { attrs = one.attrs; kind = about_kind one.kind })
-unfolding about_item about_kind
-item_is one = fold_out-Item Facts Facts kind_facts item_facts one
+pub item_is : (one : Item) → told_of_item one ≡ item_facts (record { attrs = one.attrs; vis = one.vis; kind = told_of_kind one.kind })
+unfolding told_of_item told_of_kind
+item_is one = fold_out-Item KindFacts ItemFacts kind_facts item_facts one
 
-pub struct_is : (name : Name) → about_kind (item.Struct name) ≡ kind_facts (ItemKind-F.Struct name)
-unfolding about_kind
-struct_is name = ap about_kind (sym (rolls-Struct name)) ∙ fold-roll-ItemKind Facts Facts kind_facts item_facts (ItemKind-F.Struct name)
+pub extern_crate_is : (x : ExternCrate) → told_of_kind (item.ExternCrate x) ≡ kind_facts (ItemKind-F.ExternCrate x)
+unfolding told_of_kind
+extern_crate_is x =
+    ap told_of_kind (sym (rolls-ExternCrate x)) ∙ fold-roll-ItemKind KindFacts ItemFacts kind_facts item_facts (ItemKind-F.ExternCrate x)
 
-pub module_is : (name : Name) (attrs : List Attr) (items : List Item)
-    → about_kind (item.Module name attrs items) ≡ kind_facts (ItemKind-F.Module name attrs (map about_item items))
-unfolding about_item about_kind
+pub import_is : (tree : UseTree) → told_of_kind (item.Import tree) ≡ kind_facts (ItemKind-F.Import tree)
+unfolding told_of_kind
+import_is tree =
+    ap told_of_kind (sym (rolls-Import tree)) ∙ fold-roll-ItemKind KindFacts ItemFacts kind_facts item_facts (ItemKind-F.Import tree)
+
+pub file_module_is : (name : Name) → told_of_kind (item.FileModule name) ≡ kind_facts (ItemKind-F.FileModule name)
+unfolding told_of_kind
+file_module_is name =
+    ap told_of_kind (sym (rolls-FileModule name)) ∙ fold-roll-ItemKind KindFacts ItemFacts kind_facts item_facts (ItemKind-F.FileModule name)
+
+pub module_is : (name : Name) (attrs : List Attr) (items : List Item) → told_of_kind (item.Module name attrs items) ≡ kind_facts (ItemKind-F.Module name attrs (map told_of_item items))
+unfolding told_of_item told_of_kind
 module_is name attrs items =
-    ap about_kind (sym (rolls-Module name attrs items)) ∙ fold-roll-ItemKind Facts Facts kind_facts item_facts (ItemKind-F.Module name attrs items)
+    ap told_of_kind (sym (rolls-Module name attrs items)) ∙ fold-roll-ItemKind KindFacts ItemFacts kind_facts item_facts (ItemKind-F.Module name attrs items)
 
-pub import_is : (tree : UseTree) → about_kind (item.Import tree) ≡ kind_facts (ItemKind-F.Import tree)
-unfolding about_kind
-import_is tree = ap about_kind (sym (rolls-Import tree)) ∙ fold-roll-ItemKind Facts Facts kind_facts item_facts (ItemKind-F.Import tree)
+pub function_is : (head : FnHead) (wheres : Wheres) → told_of_kind (item.Function head wheres) ≡ kind_facts (ItemKind-F.Function head wheres)
+unfolding told_of_kind
+function_is head wheres =
+    ap told_of_kind (sym (rolls-Function head wheres)) ∙ fold-roll-ItemKind KindFacts ItemFacts kind_facts item_facts (ItemKind-F.Function head wheres)
 
-pub rules_is : (name : Name) (rules : Group) → about_kind (item.MacroRules name rules) ≡ kind_facts (ItemKind-F.MacroRules name rules)
-unfolding about_kind
+pub alias_is : (x : Alias) → told_of_kind (item.Alias x) ≡ kind_facts (ItemKind-F.Alias x)
+unfolding told_of_kind
+alias_is x =
+    ap told_of_kind (sym (rolls-Alias x)) ∙ fold-roll-ItemKind KindFacts ItemFacts kind_facts item_facts (ItemKind-F.Alias x)
+
+pub struct_is : (x : Struct) → told_of_kind (item.Struct x) ≡ kind_facts (ItemKind-F.Struct x)
+unfolding told_of_kind
+struct_is x =
+    ap told_of_kind (sym (rolls-Struct x)) ∙ fold-roll-ItemKind KindFacts ItemFacts kind_facts item_facts (ItemKind-F.Struct x)
+
+pub union_is : (x : Union) → told_of_kind (item.Union x) ≡ kind_facts (ItemKind-F.Union x)
+unfolding told_of_kind
+union_is x =
+    ap told_of_kind (sym (rolls-Union x)) ∙ fold-roll-ItemKind KindFacts ItemFacts kind_facts item_facts (ItemKind-F.Union x)
+
+pub enum_is : (x : Enum) → told_of_kind (item.Enum x) ≡ kind_facts (ItemKind-F.Enum x)
+unfolding told_of_kind
+enum_is x =
+    ap told_of_kind (sym (rolls-Enum x)) ∙ fold-roll-ItemKind KindFacts ItemFacts kind_facts item_facts (ItemKind-F.Enum x)
+
+pub value_is : (head : ValueHead) → told_of_kind (item.Value head) ≡ kind_facts (ItemKind-F.Value head)
+unfolding told_of_kind
+value_is head =
+    ap told_of_kind (sym (rolls-Value head)) ∙ fold-roll-ItemKind KindFacts ItemFacts kind_facts item_facts (ItemKind-F.Value head)
+
+pub trait_is : (head : TraitHead) (wheres : Wheres) (attrs : List Attr) (items : List Item) → told_of_kind (item.Trait head wheres attrs items) ≡ kind_facts (ItemKind-F.Trait head wheres attrs (map told_of_item items))
+unfolding told_of_item told_of_kind
+trait_is head wheres attrs items =
+    ap told_of_kind (sym (rolls-Trait head wheres attrs items)) ∙ fold-roll-ItemKind KindFacts ItemFacts kind_facts item_facts (ItemKind-F.Trait head wheres attrs items)
+
+pub impl_is : (head : ImplHead) (wheres : Wheres) (attrs : List Attr) (items : List Item) → told_of_kind (item.Impl head wheres attrs items) ≡ kind_facts (ItemKind-F.Impl head wheres attrs (map told_of_item items))
+unfolding told_of_item told_of_kind
+impl_is head wheres attrs items =
+    ap told_of_kind (sym (rolls-Impl head wheres attrs items)) ∙ fold-roll-ItemKind KindFacts ItemFacts kind_facts item_facts (ItemKind-F.Impl head wheres attrs items)
+
+pub foreign_is : (is_unsafe : Bool) (abi : Option Literal) (attrs : List Attr) (items : List Item) → told_of_kind (item.Foreign is_unsafe abi attrs items) ≡ kind_facts (ItemKind-F.Foreign is_unsafe abi attrs (map told_of_item items))
+unfolding told_of_item told_of_kind
+foreign_is is_unsafe abi attrs items =
+    ap told_of_kind (sym (rolls-Foreign is_unsafe abi attrs items)) ∙ fold-roll-ItemKind KindFacts ItemFacts kind_facts item_facts (ItemKind-F.Foreign is_unsafe abi attrs items)
+
+pub rules_is : (name : Name) (rules : Group) → told_of_kind (item.MacroRules name rules) ≡ kind_facts (ItemKind-F.MacroRules name rules)
+unfolding told_of_kind
 rules_is name rules =
-    ap about_kind (sym (rolls-MacroRules name rules))
-    ∙ fold-roll-ItemKind Facts Facts kind_facts item_facts (ItemKind-F.MacroRules name rules)
+    ap told_of_kind (sym (rolls-MacroRules name rules)) ∙ fold-roll-ItemKind KindFacts ItemFacts kind_facts item_facts (ItemKind-F.MacroRules name rules)
 
-pub call_is : (call : MacroCall) → about_kind (item.Call call) ≡ kind_facts (ItemKind-F.Call call)
-unfolding about_kind
-call_is call = ap about_kind (sym (rolls-Call call)) ∙ fold-roll-ItemKind Facts Facts kind_facts item_facts (ItemKind-F.Call call)
+pub call_is : (call : MacroCall) → told_of_kind (item.Call call) ≡ kind_facts (ItemKind-F.Call call)
+unfolding told_of_kind
+call_is call =
+    ap told_of_kind (sym (rolls-Call call)) ∙ fold-roll-ItemKind KindFacts ItemFacts kind_facts item_facts (ItemKind-F.Call call)

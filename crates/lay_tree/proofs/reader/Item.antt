@@ -1,31 +1,37 @@
--- Items.
-use Rattle.std.proofs.Common.{◌≡◌, ℕ, zero, suc, ◌≤◌, Bool, true, false, ◌&&◌, List, [], ◌∷◌, ◌++◌, map, drop, codes, inl, inr, Some, if◌then◌else◌, refl, arith}
+-- Items: what is read is spelled.
+use Rattle.std.proofs.Common.{◌≡◌, ℕ, zero, suc, ◌≤◌, Bool, true, false, ◌&&◌, ◌||◌, List, [], ◌∷◌, map, drop, codes, inl, inr, Option, Some, None, if◌then◌else◌, refl, sym, subst, arith}
 use Rattle.std.proofs.lemmas.Bool.{and_parts, and_from}
-use Rattle.lay_piece.specs.Forms.{opening}
 use Rattle.std.specs.Prelude.{is_some}
+use Rattle.lay_piece.specs.Forms.{opening}
 use Rattle.lay_token.specs.Operators.{is_op}
 use Rattle.lay_piece.specs.declared.kind.Delim.{Delim}
 use Rattle.lay_piece.specs.declared.kind.Delim.TheVariants.{Paren, Bracket, Brace}
-use Rattle.lay_piece.specs.declared.kind.Kind.TheVariants.{Ident, Opener}
-use Rattle.lay_form.specs.Form.{Blank, Operator, Form, Done, Piece, Part, keyword, punct}
+use Rattle.lay_piece.specs.declared.kind.Kind.TheVariants.{Ident}
+use Rattle.lay_form.specs.Form.{Blank, Operator, Form, Done, Part, keyword}
+use Rattle.lay_form.specs.Notation.{I0}
 use Rattle.lay_form.specs.Spelled.{IsOne, IsOperator, AreBits, Spells}
-use Rattle.lay_form.proofs.FormLaws.{one_end, bits_end}
-use Rattle.lay_tree.specs.Ahead.{Tokens, first, tail, is_keyword, is_mark, opens, closes}
-use Rattle.lay_tree.specs.Words.{is_name, leaf_of}
+use Rattle.lay_form.proofs.FormLaws.{bits_end, is_end, one_end}
+use Rattle.lay_form.proofs.FormLaws.{deeper as raise}
+use Rattle.lay_tree.specs.Ahead.{Tokens, first, tail, is_keyword}
+use Rattle.lay_tree.specs.Words.{is_name}
 use Rattle.lay_tree.specs.nodes.Attr.{are_attrs, attr_form}
-use Rattle.lay_tree.specs.nodes.Call.{is_group, before_rules, end_form}
-use Rattle.lay_tree.specs.nodes.Facts.{forms, all_good}
-use Rattle.lay_tree.specs.nodes.Item.{kind_form, kind_good, about_item, about_kind}
+use Rattle.lay_tree.specs.nodes.Call.{about_call, is_group, before_rules, end_form}
+use Rattle.lay_tree.specs.nodes.Item.{KindFacts, about_item, call_item_form, in_module, is_inherited, item_facts, kind_facts, kind_form, may_lack_body, rules_form, told_of_item, told_of_kind}
 use Rattle.lay_tree.specs.nodes.Use.{about_use}
+use Rattle.lay_tree.specs.nodes.Vis.{about_vis, is_vis, vis_form}
 use Rattle.lay_tree.specs.reader.Attr.{attributes}
 use Rattle.lay_tree.specs.reader.Call.{call, behind_end}
 use Rattle.lay_tree.specs.reader.Exact.{InText}
-use Rattle.lay_tree.specs.reader.Item.{more_items, items_by, struct_item, module_by, import_by, begins_rules, rules_item, call_item, kind_by, item_by, item_at}
-use Rattle.lay_tree.specs.reader.Loops.{Read, ◌>>=◌, passed, nodes, deepest}
+use Rattle.lay_tree.specs.reader.Functions.{insides}
+use Rattle.lay_tree.specs.reader.Item.{ItemLead, ItemWithin, OfAlias, OfCall, OfEnum, OfExternCrate, OfForeign, OfFunction, OfImpl, OfImport, OfModule, OfRules, OfStruct, OfTrait, OfUnion, OfValue, begins_rules, call_item, item_at, item_by, item_lead, kind_at, kind_by, may_stand, rules_item}
+use Rattle.lay_tree.specs.reader.Loops.{Read, ◌>>=◌}
 use Rattle.lay_tree.specs.reader.Tokens.{group}
 use Rattle.lay_tree.specs.reader.Use.{use_at}
+use Rattle.lay_tree.specs.reader.Vis.{visibility}
 use Rattle.lay_tree.specs.reader.Words.{name}
+use Rattle.lay_tree.specs.tokens.Lists.{group_form}
 use Rattle.lay_tree.specs.declared.attr.Attr.{Attr}
+use Rattle.lay_tree.specs.declared.heads.Site.{Site}
 use Rattle.lay_tree.specs.declared.item.Item.{Item}
 use Rattle.lay_tree.specs.declared.item.ItemKind.{ItemKind}
 use Rattle.lay_tree.specs.declared.item.ItemKind.TheVariants as item
@@ -34,103 +40,27 @@ use Rattle.lay_tree.specs.declared.token.Name.{Name}
 use Rattle.lay_tree.specs.declared.tokens.Group.{Group}
 use Rattle.lay_tree.specs.declared.tokens.MacroCall.{MacroCall}
 use Rattle.lay_tree.specs.declared.use_tree.UseTree.{UseTree}
-use Rattle.lay_tree.specs.tokens.Lists.{group_form}
-use Rattle.lay_tree.proofs.Fronts.{texts_behind, keyword_one, mark_passed_is, opener_passed_is, closer_passed_is}
-use Rattle.lay_tree.proofs.Parts.{rows_joined, rows_spelled, SpelledAt, behind_attrs_spelled, body_spelled, bit_piece, word_kind, leaf_spelled}
+use Rattle.lay_tree.specs.declared.vis.Vis.{Vis}
+use Rattle.lay_tree.specs.declared.vis.Vis.TheVariants as vis
+use Rattle.lay_tree.proofs.Fronts.{texts_behind, keyword_one}
+use Rattle.lay_tree.proofs.Parts.{behind_attrs_spelled, word_kind, leaf_spelled}
 use Rattle.lay_tree.proofs.Steps.{same_some, chosen, bind_some}
-use Rattle.lay_tree.proofs.nodes.ItemLaws.{item_is, struct_is, module_is, import_is, rules_is, call_is}
+use Rattle.lay_tree.proofs.nodes.ItemLaws as laws
+use Rattle.lay_tree.proofs.nodes.ItemLaws.{item_is}
 use Rattle.lay_tree.proofs.reader.Attr.{attributes_sound, attrs_spelled}
 use Rattle.lay_tree.proofs.reader.Call.{end_spelled, call_sound}
 use Rattle.lay_tree.proofs.reader.Exact.{Stands, Sound}
-use Rattle.lay_tree.proofs.reader.Needs.{nodes_sound}
+use Rattle.lay_tree.proofs.reader.HeadsLevel.{insides_sound}
+use Rattle.lay_tree.proofs.reader.ItemSound.{HeadsSound, KindAt, KindHeld, alias_sound, alone, enum_sound, extern_sound, foreign_sound, function_sound, impl_sound, import_sound, kind_alone, kind_told, module_sound, struct_sound, trait_sound, union_sound, value_sound}
+use Rattle.lay_tree.proofs.reader.Loops.{SoundStep}
+use Rattle.lay_tree.proofs.reader.PatternsSoundLevel.{SoundPatWithin}
 use Rattle.lay_tree.proofs.reader.Tokens.{group_sound}
+use Rattle.lay_tree.proofs.reader.TypesSoundParts.{Out}
 use Rattle.lay_tree.proofs.reader.Use.{use_sound}
+use Rattle.lay_tree.proofs.reader.Vis.{visibility_sound}
 use Rattle.lay_tree.proofs.reader.Words.{name_sound}
 
--- ---- what is read is spelled
-
--- a keyword and a name
-head_spelled : (word : List ℕ) (n : Name) (depth : ℕ) (ts named mid : Tokens) → IsOne Ident word ts named → IsOne (word_kind n.raw) n.text named mid
-    → Spells (Piece (keyword word ∷ Blank ∷ []) (leaf_of n.raw n.text Done)) depth ts mid
-head_spelled word n depth ts named mid k o = (named, (named, k, (named, refl, refl)), leaf_spelled n.raw n.text Done depth named mid mid o refl)
-
--- What an item is, is read behind its keyword.
-abbrev SoundBehind : List ℕ → ℕ → (Tokens → Read ItemKind) → Type 0
-SoundBehind word budget read = (ts named : Tokens) (kind : ItemKind) (need : ℕ) (rest : Tokens) → IsOne Ident word ts named → InText named
-    → read named ≡ Some ((kind, need), rest) → (need ≤ budget) × Stands (about_kind kind) need ts rest
-
--- what was found is what is handed back
-abbrev Handed : ℕ → Tokens → ((ItemKind × ℕ) × Tokens) → Type 0
-Handed budget ts m = (m.0.1 ≤ budget) × Stands (about_kind m.0.0) m.0.1 ts m.1
-
-struct_sound : (budget : ℕ) → SoundBehind (codes "struct") budget struct_item
-unfolding struct_item
-struct_sound budget ts named kind need rest k t h =
-    let last : Name → Tokens → Read ItemKind = λ n left. Some ((item.Struct n, 0), left) in
-    let b = bind_some (name named) (λ n. passed (is_mark (codes ";")) n.1 >>= last n.0) ((kind, need), rest) h in
-    let c = bind_some (passed (is_mark (codes ";")) b.0.1) (last b.0.0) ((kind, need), rest) b.2 in
-    let n = name_sound named b.0.0 b.0.1 b.1 in
-    let spelled : Spells (kind_form (ItemKind-F.Struct b.0.0)) 0 ts c.0 =
-    (b.0.1, head_spelled (codes "struct") b.0.0 0 ts named b.0.1 k n.0, bit_piece (punct 59) 0 b.0.1 c.0 (mark_passed_is (codes ";") b.0.1 c.0 c.1)) in
-    let stands : Stands (about_kind (item.Struct b.0.0)) 0 ts c.0 = rw (struct_is b.0.0) (spelled, n.1, refl) in
-    same_some (Handed budget ts) ((item.Struct b.0.0, 0), c.0) ((kind, need), rest) c.2 (omega arith, stands)
-
-import_sound : (budget : ℕ) (tree : Tokens → Read UseTree) → Sound about_use budget tree → SoundBehind (codes "use") budget (import_by tree)
-unfolding import_by
-import_sound budget tree sound ts named kind need rest k t h =
-    let last : (UseTree × ℕ) → Tokens → Read ItemKind = λ u left. Some ((item.Import u.0, u.1), left) in
-    let b = bind_some (tree named) (λ u. passed (is_mark (codes ";")) u.1 >>= last u.0) ((kind, need), rest) h in
-    let c = bind_some (passed (is_mark (codes ";")) b.0.1) (last b.0.0) ((kind, need), rest) b.2 in
-    let u = b.0.0.0 in
-    let n = b.0.0.1 in
-    let s = sound named u n b.0.1 t b.1 in
-    let head : Spells (Piece (keyword (codes "use") ∷ Blank ∷ []) (Part (about_use u).form Done)) n ts b.0.1 =
-    (named, (named, k, (named, refl, refl)), (b.0.1, s.1.0, refl)) in
-    let spelled : Spells (kind_form (ItemKind-F.Import u)) n ts c.0 =
-    (b.0.1, head, bit_piece (punct 59) n b.0.1 c.0 (mark_passed_is (codes ";") b.0.1 c.0 c.1)) in
-    let stands : Stands (about_kind (item.Import u)) n ts c.0 = rw (import_is u) (spelled, s.1.1, refl) in
-    same_some (Handed budget ts) ((item.Import u, n), c.0) ((kind, need), rest) c.2 (s.0, stands)
-
-module_stands : (n : Name) (attrs : List Attr) (items : List Item) (depth : ℕ) (ts rest : Tokens)
-    → Spells (kind_form (ItemKind-F.Module n attrs (map about_item items))) depth ts rest
-    → kind_good (ItemKind-F.Module n attrs (map about_item items)) ≡ true → Stands (about_kind (item.Module n attrs items)) depth ts rest
-module_stands n attrs items depth ts rest s g = rw (module_is n attrs items) (s, g, refl)
-
-module_sound : (budget : ℕ) (within : Tokens → Read Item) → Sound about_item budget within → SoundBehind (codes "mod") budget (module_by within)
-unfolding module_by items_by
-module_sound budget within sound ts named kind need rest k t h =
-    let last : Name → List Attr → (List (Item × ℕ) × Tokens) → Read ItemKind = λ n attrs items.
-    passed (closes Brace) items.1 >>= (λ left. Some ((item.Module n attrs (nodes items.0), deepest items.0), left)) in
-    let filled : Name → (List Attr × Tokens) → Read ItemKind = λ n attrs. items_by within attrs.1 >>= last n attrs.0 in
-    let b = bind_some (name named) (λ n. passed (opens Brace) n.1 >>= (λ inside. attributes true inside >>= filled n.0)) ((kind, need), rest) h in
-    let c = bind_some (passed (opens Brace) b.0.1) (λ inside. attributes true inside >>= filled b.0.0) ((kind, need), rest) b.2 in
-    let a = bind_some (attributes true c.0) (filled b.0.0) ((kind, need), rest) c.2 in
-    let d = bind_some (items_by within a.0.1) (last b.0.0 a.0.0) ((kind, need), rest) a.2 in
-    let e = bind_some (passed (closes Brace) d.0.1) (λ left. Some ((item.Module b.0.0 a.0.0 (nodes d.0.0), deepest d.0.0), left)) ((kind, need), rest) d.2 in
-    let n = b.0.0 in
-    let attrs = a.0.0 in
-    let items = nodes d.0.0 in
-    let most = deepest d.0.0 in
-    let i = name_sound named n b.0.1 b.1 in
-    let t1 = texts_behind named b.0.1 (one_end (word_kind n.raw) n.text named b.0.1 i.0) t in
-    let o = opener_passed_is Brace b.0.1 c.0 t1 c.1 in
-    let t2 = texts_behind b.0.1 c.0 (one_end (Opener Brace) (opening Brace ∷ []) b.0.1 c.0 o) t1 in
-    let inner = attributes_sound true most c.0 attrs a.0.1 t2 a.1 in
-    let r = nodes_sound about_item budget within sound more_items a.0.1 d.0.0 d.0.1 inner.1 d.1 in
-    let closed = closer_passed_is Brace d.0.1 e.0 r.2 e.1 in
-    let before = attrs_spelled true most attrs c.0 a.0.1 inner.0 in
-    let behind = rows_spelled about_item most items a.0.1 d.0.1 r.1 in
-    let parts = rows_joined (SpelledAt most) (map attr_form attrs) (forms (map about_item items)) c.0 a.0.1 d.0.1 before.0 behind.0 in
-    let blank : AreBits (Blank ∷ []) b.0.1 b.0.1 = (b.0.1, refl, refl) in
-    let none : AreBits [] c.0 c.0 = refl in
-    let within_braces = body_spelled (Blank ∷ []) [] (map attr_form attrs ++ forms (map about_item items)) most b.0.1 b.0.1 c.0 c.0 d.0.1 e.0
-    blank o none parts closed in
-    let spelled : Spells (kind_form (ItemKind-F.Module n attrs (map about_item items))) most ts e.0 =
-    (b.0.1, head_spelled (codes "mod") n most ts named b.0.1 k i.0, within_braces) in
-    let headed = and_from (is_name n.raw n.text) (are_attrs true attrs) i.1 before.1 in
-    let good = and_from (is_name n.raw n.text && are_attrs true attrs) (all_good (map about_item items)) headed behind.1 in
-    let stands = module_stands n attrs items most ts e.0 spelled good in
-    same_some (Handed budget ts) ((item.Module n attrs items, most), e.0) ((kind, need), rest) e.2 (r.0, stands)
+-- ---- macros
 
 two_behind : (ts : Tokens) → drop 1 (tail ts) ≡ drop 2 ts
 two_behind [] = refl
@@ -140,10 +70,6 @@ two_behind (t ∷ ts) = refl
 record RulesFront (ts : Tokens) : Type 0 where
   word : IsOne Ident (codes "macro_rules") ts (tail ts)
   mark : IsOperator (codes "!") (tail ts) (drop 2 ts)
-
-rules_stand : (n : Name) (g : Group) (depth : ℕ) (ts rest : Tokens) → Spells (kind_form (ItemKind-F.MacroRules n g)) depth ts rest
-    → kind_good (ItemKind-F.MacroRules n g) ≡ true → Stands (about_kind (item.MacroRules n g)) depth ts rest
-rules_stand n g depth ts rest s h = rw (rules_is n g) (s, h, refl)
 
 rules_front : (ts : Tokens) → begins_rules ts ≡ true → RulesFront ts
 rules_front ts h =
@@ -156,91 +82,137 @@ rules_spelled Paren f depth ts rest s = s
 rules_spelled Bracket f depth ts rest s = s
 rules_spelled Brace f depth ts rest s = (ts, (ts, refl, refl), s)
 
-rules_sound : (budget : ℕ) (ts : Tokens) (kind : ItemKind) (need : ℕ) (rest : Tokens) → InText ts → begins_rules ts ≡ true
-    → rules_item ts ≡ Some ((kind, need), rest) → (need ≤ budget) × Stands (about_kind kind) need ts rest
+-- What is read has the texts of what it leaves.
+out_texts : (at : Site) (budget : ℕ) (x : ItemKind × ℕ) (ts rest : Tokens) → InText ts → KindHeld at budget x ts rest → Out (KindHeld at budget) ts (x, rest)
+out_texts at budget x ts rest t k = (k, texts_behind ts rest (is_end (alone (told_of_kind x.0)) x.1 ts rest k.1.0) t)
+
+rules_sound : (at : Site) (budget : ℕ) (ts : Tokens) → begins_rules ts ≡ true → in_module at ≡ true → InText ts → (x : ItemKind × ℕ) (rest : Tokens)
+    → rules_item ts ≡ Some (x, rest) → Out (KindHeld at budget) ts (x, rest)
 unfolding rules_item
-rules_sound budget ts kind need rest t m h =
-    let last : Name → Group → Tokens → Read ItemKind = λ n g left. Some ((item.MacroRules n g, 0), left) in
-    let b = bind_some (name (drop 2 ts)) (λ n. group n.1 >>= (λ g. behind_end g.0.delim g.1 >>= last n.0 g.0)) ((kind, need), rest) h in
-    let c = bind_some (group b.0.1) (λ g. behind_end g.0.delim g.1 >>= last b.0.0 g.0) ((kind, need), rest) b.2 in
-    let e = bind_some (behind_end c.0.0.delim c.0.1) (last b.0.0 c.0.0) ((kind, need), rest) c.2 in
+rules_sound at budget ts m i t x rest h =
+    let b = bind_some (name (drop 2 ts)) _ _ h in
+    let c = bind_some (group b.0.1) _ _ b.2 in
+    let e = bind_some (behind_end c.0.0.delim c.0.1) _ _ c.2 in
     let n = b.0.0 in
     let g = c.0.0 in
     let r = rules_front ts m in
     let bits : AreBits (keyword (codes "macro_rules") ∷ Operator (codes "!") ∷ Blank ∷ []) ts (drop 2 ts) =
     (tail ts, r.word, (drop 2 ts, r.mark, (drop 2 ts, refl, refl))) in
     let t1 = texts_behind ts (drop 2 ts) (bits_end (keyword (codes "macro_rules") ∷ Operator (codes "!") ∷ Blank ∷ []) ts (drop 2 ts) bits) t in
-    let i = name_sound (drop 2 ts) n b.0.1 b.1 in
-    let t2 = texts_behind (drop 2 ts) b.0.1 (one_end (word_kind n.raw) n.text (drop 2 ts) b.0.1 i.0) t1 in
-    let s = group_sound 0 b.0.1 g c.0.1 (end_form g.delim) e.0 t2 c.1 (end_spelled g.delim 0 c.0.1 e.0 e.1) in
-    let spelled : Spells (kind_form (ItemKind-F.MacroRules n g)) 0 ts e.0 = (
+    let s = name_sound (drop 2 ts) n b.0.1 b.1 in
+    let t2 = texts_behind (drop 2 ts) b.0.1 (one_end (word_kind n.raw) n.text (drop 2 ts) b.0.1 s.0) t1 in
+    let p = group_sound 0 b.0.1 g c.0.1 (end_form g.delim) e.0 t2 c.1 (end_spelled g.delim 0 c.0.1 e.0 e.1) in
+    let spelled : Spells (rules_form n g) 0 ts e.0 = (
       drop 2 ts,
       bits,
-      leaf_spelled n.raw n.text (before_rules g.delim (group_form g (end_form g.delim))) 0 (drop 2 ts) b.0.1 e.0 i.0
-          (rules_spelled g.delim (group_form g (end_form g.delim)) 0 b.0.1 e.0 s.0),
+      leaf_spelled n.raw n.text (before_rules g.delim (group_form g (end_form g.delim))) 0 (drop 2 ts) b.0.1 e.0 s.0
+          (rules_spelled g.delim (group_form g (end_form g.delim)) 0 b.0.1 e.0 p.0),
     ) in
-    let stands = rules_stand n g 0 ts e.0 spelled (and_from (is_name n.raw n.text) (is_group g) i.1 s.1) in
-    same_some (Handed budget ts) ((item.MacroRules n g, 0), e.0) ((kind, need), rest) e.2 (omega arith, stands)
+    let good = and_from (is_name n.raw n.text && is_group g) (in_module at) (and_from (is_name n.raw n.text) (is_group g) s.1 p.1) i in
+    same_some (Out (KindHeld at budget) ts) ((item.MacroRules n g, 0), e.0) (x, rest) e.2
+    (out_texts at budget (item.MacroRules n g, 0) ts e.0 t
+      (omega arith, kind_told at 0 (item.MacroRules n g) (kind_facts (ItemKind-F.MacroRules n g)) ts e.0 (laws.rules_is n g) spelled good))
 
-call_item_sound : (budget : ℕ) (ts : Tokens) (kind : ItemKind) (need : ℕ) (rest : Tokens) → InText ts
-    → call_item ts ≡ Some ((kind, need), rest) → (need ≤ budget) × Stands (about_kind kind) need ts rest
+call_item_sound : (at : Site) (budget : ℕ) → SoundStep call_item (KindHeld at budget)
 unfolding call_item
-call_item_sound budget ts kind need rest t h =
-    let last : MacroCall → Tokens → Read ItemKind = λ c left. Some ((item.Call c, 0), left) in
-    let b = bind_some (call ts) (λ c. behind_end c.0.tokens.delim c.1 >>= last c.0) ((kind, need), rest) h in
-    let e = bind_some (behind_end b.0.0.tokens.delim b.0.1) (last b.0.0) ((kind, need), rest) b.2 in
-    let s = call_sound 0 ts b.0.0 b.0.1 t b.1 in
-    let stands : Stands (about_kind (item.Call b.0.0)) 0 ts e.0 =
-    rw (call_is b.0.0) ((b.0.1, s.0, end_spelled b.0.0.tokens.delim 0 b.0.1 e.0 e.1), s.1, refl) in
-    same_some (Handed budget ts) ((item.Call b.0.0, 0), e.0) ((kind, need), rest) e.2 (omega arith, stands)
+call_item_sound at budget ts x rest t h =
+    let b = bind_some (call ts) _ _ h in
+    let e = bind_some (behind_end b.0.0.tokens.delim b.0.1) _ _ b.2 in
+    let c = b.0.0 in
+    let s = call_sound 0 ts c b.0.1 t b.1 in
+    let spelled : Spells (call_item_form c) 0 ts e.0 = (b.0.1, s.0, end_spelled c.tokens.delim 0 b.0.1 e.0 e.1) in
+    same_some (Out (KindHeld at budget) ts) ((item.Call c, 0), e.0) (x, rest) e.2
+    (out_texts at budget (item.Call c, 0) ts e.0 t
+      (omega arith, kind_told at 0 (item.Call c) (kind_facts (ItemKind-F.Call c)) ts e.0 (laws.call_is c) spelled s.1))
 
-module _ (budget : ℕ) (within : Tokens → Read Item) (tree : Tokens → Read UseTree) (sound : Sound about_item budget within) (use_is : Sound about_use budget tree) where
-  kind_sound : Sound about_kind budget (kind_by within tree)
-  unfolding kind_by
-  kind_sound ts kind need rest t h =
-      let behind = tail ts in
-      let is : List ℕ → Bool = λ word. first (is_keyword word) ts in
-      let left : (word : List ℕ) → IsOne Ident word ts behind → InText behind = λ word k. texts_behind ts behind (one_end Ident word ts behind k) t in
-      let macro : Read ItemKind = if begins_rules ts then rules_item ts else call_item ts in
-      let imported : Read ItemKind = if is (codes "use") then import_by tree behind else macro in
-      elim (chosen (is (codes "struct")) (struct_item behind) (if is (codes "mod") then module_by within behind else imported) (Some ((kind, need), rest)) h) [
+-- ---- what an item is
+
+-- A lead that stands there in no module, but is one of an item in modules, doesn't.
+rules_begin : (ts : Tokens) → item_lead ts ≡ OfRules → begins_rules ts ≡ true
+unfolding item_lead
+rules_begin ts h = by (begins_rules ts) refl
+  where
+    by : (b : Bool) → begins_rules ts ≡ b → b ≡ true
+    by true e = refl
+    by false e = absurd (cc)
+
+module _ (heads : HeadsSound) (at : Site) (budget : ℕ) (within : ItemWithin) (inner : SoundPatWithin budget within.heads)
+    (items : (s : Site) → Sound (about_item s) budget (within.items s)) (trees : Sound about_use budget within.trees) where
+  by_lead : (lead : ItemLead) → may_stand at lead ≡ true → (ts : Tokens) → item_lead ts ≡ lead → (x : ItemKind × ℕ) (rest : Tokens) → InText ts
+      → kind_by at within lead ts ≡ Some (x, rest) → Out (KindHeld at budget) ts (x, rest)
+  by_lead OfExternCrate m ts l x rest t h = extern_sound heads at budget within inner items trees m ts x rest t h
+  by_lead OfImport m ts l x rest t h = import_sound heads at budget within inner items trees m ts x rest t h
+  by_lead OfModule m ts l x rest t h = module_sound heads at budget within inner items trees m ts x rest t h
+  by_lead OfFunction m ts l x rest t h = function_sound heads at budget within inner items trees m ts x rest t h
+  by_lead OfAlias m ts l x rest t h = alias_sound heads at budget within inner items trees ts x rest t h
+  by_lead OfStruct m ts l x rest t h = struct_sound heads at budget within inner items trees m ts x rest t h
+  by_lead OfUnion m ts l x rest t h = union_sound heads at budget within inner items trees m ts x rest t h
+  by_lead OfEnum m ts l x rest t h = enum_sound heads at budget within inner items trees m ts x rest t h
+  by_lead OfValue m ts l x rest t h = value_sound heads at budget within inner items trees ts x rest t h
+  by_lead OfTrait m ts l x rest t h = trait_sound heads at budget within inner items trees m ts x rest t h
+  by_lead OfImpl m ts l x rest t h = impl_sound heads at budget within inner items trees m ts x rest t h
+  by_lead OfForeign m ts l x rest t h = foreign_sound heads at budget within inner items trees m ts x rest t h
+  by_lead OfRules m ts l x rest t h = rules_sound at budget ts (rules_begin ts l) m t x rest h
+  by_lead OfCall m ts l x rest t h = call_item_sound at budget ts x rest t h
+
+  kind_sound : SoundStep (kind_at at within) (KindHeld at budget)
+  unfolding kind_at
+  kind_sound ts x rest t h = elim (chosen (may_stand at (item_lead ts)) (kind_by at within (item_lead ts) ts) None (Some (x, rest)) h) [
+    | inl g ↦ by_lead (item_lead ts) g.0 ts refl x rest t g.1
+    | inr g ↦ absurd (cc)
+  ]
+
+-- ---- with a visibility
+
+-- A visibility stands before a head, and none before a macro.
+led : (v : Vis) (head : Option Form) (behind : Form) (depth : ℕ) (ts mid rest : Tokens) → (is_some head || is_inherited v) ≡ true
+    → Spells (vis_form v) depth ts mid → Spells (kind_alone head behind) depth mid rest → Spells (kind_form v head behind) depth ts rest
+led v (Some head) behind depth ts mid rest g s k = (k.0, (mid, s, k.1), k.2)
+led vis.Inherited None behind depth ts mid rest g s k = subst (λ us. Spells behind depth us rest) (sym s) k
+led vis.Public None behind depth ts mid rest g s k = absurd (cc)
+led vis.Crate None behind depth ts mid rest g s k = absurd (cc)
+led vis.Own None behind depth ts mid rest g s k = absurd (cc)
+led vis.Super None behind depth ts mid rest g s k = absurd (cc)
+led (vis.In path) None behind depth ts mid rest g s k = absurd (cc)
+
+module _ (heads : HeadsSound) (at : Site) (budget : ℕ) (within : ItemWithin) (inner : SoundPatWithin budget within.heads)
+    (items : (s : Site) → Sound (about_item s) budget (within.items s)) (trees : Sound about_use budget within.trees) where
+  item_by_sound : Sound (about_item at) (suc budget) (item_by at within)
+  unfolding item_by
+  item_by_sound ts one need rest t h =
+      let a = bind_some (attributes false ts) _ _ h in
+      let v = bind_some (visibility a.0.1) _ _ a.2 in
+      let k = bind_some (kind_at at within v.0.1) _ _ v.2 in
+      let attrs = a.0.0 in
+      let seen = v.0.0 in
+      let kind = k.0.0.0 in
+      let n = k.0.0.1 in
+      let K = told_of_kind kind in
+      let inner_attrs = attributes_sound false n ts attrs a.0.1 t a.1 in
+      let w = visibility_sound a.0.1 seen v.0.1 inner_attrs.1 v.1 in
+      let s = kind_sound heads at budget within inner items trees v.0.1 k.0.0 k.0.1 w.1 k.1 in
+      let held = s.0 in
+      let made : Item = record { attrs = attrs; vis = seen; kind = kind } in
+      let may = is_some K.head || is_inherited seen in
+      elim (chosen may (Some ((made, suc n), k.0.1)) None (Some ((one, need), rest)) k.2) [
         | inl g ↦
-            let k = keyword_one (codes "struct") ts g.0 in struct_sound budget ts behind kind need rest k (left (codes "struct") k) g.1
-        | inr g ↦ elim (chosen (is (codes "mod")) (module_by within behind) imported (Some ((kind, need), rest)) g.1) [
-          | inl f ↦
-              let k = keyword_one (codes "mod") ts f.0 in module_sound budget within sound ts behind kind need rest k (left (codes "mod") k) f.1
-          | inr f ↦ elim (chosen (is (codes "use")) (import_by tree behind) macro (Some ((kind, need), rest)) f.1) [
-            | inl u ↦
-                let k = keyword_one (codes "use") ts u.0 in import_sound budget tree use_is ts behind kind need rest k (left (codes "use") k) u.1
-            | inr u ↦ elim (chosen (begins_rules ts) (rules_item ts) (call_item ts) (Some ((kind, need), rest)) u.1) [
-              | inl m ↦ rules_sound budget ts kind need rest t m.0 m.1
-              | inr m ↦ call_item_sound budget ts kind need rest t m.1
-            ]
-          ]
-        ]
+            let before = attrs_spelled false n attrs ts a.0.1 inner_attrs.0 in
+            let named = led seen K.head K.tail n a.0.1 v.0.1 k.0.1 g.0 (raise (vis_form seen) 0 n a.0.1 v.0.1 (omega arith) w.0.0) held.1.0 in
+            let body : Form = kind_form seen K.head K.tail in
+            let inside : Spells (Part body Done) n a.0.1 k.0.1 = (k.0.1, named, refl) in
+            let spelled = behind_attrs_spelled (map attr_form attrs) (Part body Done) n ts a.0.1 k.0.1 before.0 inside in
+            let g1 = and_from (are_attrs false attrs) (is_vis seen) before.1 w.0.1 in
+            let g2 = and_from (are_attrs false attrs && is_vis seen) may g1 g.0 in
+            let good = and_from (are_attrs false attrs && is_vis seen && may) (K.good at) g2 held.1.1 in
+            let stands : Stands (about_item at made) (suc n) ts k.0.1 = rw (item_is made) ((k.0.1, spelled, refl), good, refl) in
+            same_some (λ (m : (Item × ℕ) × Tokens). (m.0.1 ≤ suc budget) × Stands (about_item at m.0.0) m.0.1 ts m.1) ((made, suc n), k.0.1) ((one, need), rest) g.1
+            (omega (arith, held.0), stands)
+        | inr g ↦ absurd (cc)
       ]
 
-  item_by_sound : Sound about_item (suc budget) (item_by within tree)
-  item_by_sound ts one need rest t h =
-      let last : List Attr → ((ItemKind × ℕ) × Tokens) → Read Item = λ attrs kind. Some ((record { attrs = attrs; kind = kind.0.0 }, suc kind.0.1), kind.1) in
-      let b = bind_some (attributes false ts) (λ attrs. kind_by within tree attrs.1 >>= last attrs.0) ((one, need), rest) h in
-      let c = bind_some (kind_by within tree b.0.1) (last b.0.0) ((one, need), rest) b.2 in
-      let attrs = b.0.0 in
-      let kind = c.0.0.0 in
-      let n = c.0.0.1 in
-      let made : Item = record { attrs = attrs; kind = kind } in
-      let a = attributes_sound false n ts attrs b.0.1 t b.1 in
-      let s = kind_sound b.0.1 kind n c.0.1 a.1 c.1 in
-      let before = attrs_spelled false n attrs ts b.0.1 a.0 in
-      let inner : Spells (Part (about_kind kind).form Done) n b.0.1 c.0.1 = (c.0.1, s.1.0, refl) in
-      let spelled = behind_attrs_spelled (map attr_form attrs) (Part (about_kind kind).form Done) n ts b.0.1 c.0.1 before.0 inner in
-      let good = and_from (are_attrs false attrs) (about_kind kind).good before.1 s.1.1 in
-      let stands : Stands (about_item made) (suc n) ts c.0.1 = rw (item_is made) ((c.0.1, spelled, refl), good, refl) in
-      same_some (λ (m : (Item × ℕ) × Tokens). (m.0.1 ≤ suc budget) × Stands (about_item m.0.0) m.0.1 ts m.1) ((made, suc n), c.0.1) ((one, need), rest) c.2
-      (omega (arith, s.0), stands)
-
-pub item_sound : (budget : ℕ) → Sound about_item budget (item_at budget)
+pub item_sound : HeadsSound → (at : Site) (budget : ℕ) → Sound (about_item at) budget (item_at at budget)
 unfolding item_at
-item_sound zero ts one need rest t h = absurd (cc)
-item_sound (suc budget) ts one need rest t h =
-    item_by_sound budget (item_at budget) (use_at budget) (item_sound budget) (use_sound budget) ts one need rest t h
+item_sound heads at zero ts one need rest t h = absurd (cc)
+item_sound heads at (suc budget) ts one need rest t h =
+    item_by_sound heads at budget (record { items = λ s us. item_at s budget us; trees = use_at budget; heads = insides budget }) (insides_sound budget)
+    (λ s. item_sound heads s budget) (use_sound budget) ts one need rest t h

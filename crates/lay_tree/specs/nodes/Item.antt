@@ -1,18 +1,18 @@
 -- Items (Rust Reference, "Items"). Each ends in a `;` or in a `}`, so anything may follow it.
-use Rattle.std.specs.Prelude.{Bool, true, false, ◌&&◌, ◌||◌, List, [], ◌∷◌, ◌++◌, map, codes, Option, Some, None}
+use Rattle.std.specs.Prelude.{Bool, true, false, ◌&&◌, ◌||◌, List, [], ◌∷◌, ◌++◌, map, codes, Option, Some, None, is_some}
 use Rattle.std.specs.List.{list_all}
 use Rattle.lay_form.specs.Form.{Blank, Operator, Form, Done, Piece, Part, Deeper, keyword, semicolon}
-use Rattle.lay_form.specs.Notation.{piece, body, behind_attrs}
+use Rattle.lay_form.specs.Notation.{I0, piece, body, behind_attrs}
 use Rattle.lay_tree.specs.Words.{is_name, leaf_of}
 use Rattle.lay_tree.specs.nodes.Attr.{are_attrs, attr_form}
 use Rattle.lay_tree.specs.nodes.Call.{is_group, before_rules, end_form, about_call}
 use Rattle.lay_tree.specs.nodes.Facts.{Facts}
 use Rattle.lay_tree.specs.nodes.Fields.{blank_if}
 use Rattle.lay_tree.specs.nodes.Functions.{fn_head_form, is_fn_head}
-use Rattle.lay_tree.specs.nodes.Heads.{HeadFacts, about_alias, about_enum, about_extern_crate, about_struct, about_union, impl_head_form, is_impl_head, is_trait_head, is_value_head, leads, seen, trait_head_form, unsafe_form, value_head_form}
+use Rattle.lay_tree.specs.nodes.Heads.{HeadFacts, about_alias, about_enum, about_extern_crate, about_struct, about_union, impl_head_form, is_impl_head, is_trait_head, is_value_head, leads, trait_head_form, unsafe_form, value_head_form}
 use Rattle.lay_tree.specs.nodes.Types.{is_abi_name, literal_form}
 use Rattle.lay_tree.specs.nodes.Use.{about_use}
-use Rattle.lay_tree.specs.nodes.Vis.{is_vis}
+use Rattle.lay_tree.specs.nodes.Vis.{is_vis, vis_form}
 use Rattle.lay_tree.specs.nodes.Where.{are_predicates, wheres_before_body, wheres_before_semicolon}
 use Rattle.lay_tree.specs.tokens.Lists.{group_form}
 use Rattle.lay_tree.specs.declared.attr.Attr.{Attr}
@@ -61,11 +61,15 @@ pub record ItemFacts : Type 0 where
   pub good : Site → Bool
 
 pub record KindFacts : Type 0 where
-  -- with a visibility before it
-  pub form : Vis → Form
+  -- the head, which the layout keeps in a group of its own, with a visibility before it; a macro has none
+  pub head : Option Form
+  -- what stands behind it
+  pub tail : Form
   pub good : Site → Bool
-  -- It may have a visibility.
-  pub shown : Bool
+
+abbrev pub kind_form : Vis → Option Form → Form → Form
+kind_form v None tail = tail
+kind_form v (Some head) tail = I0 (Part (vis_form v) head) tail
 
 abbrev pub item_forms : List ItemFacts → List Form
 item_forms items = map (λ (x : ItemFacts). x.form) items
@@ -147,11 +151,11 @@ call_item_form call = Part (about_call call).form (end_form call.tokens.delim)
 
 -- what has a head, in a module
 abbrev pub in_modules : HeadFacts → KindFacts
-in_modules x = record { form = λ v. seen v x; good = λ site. x.good && in_module site; shown = true }
+in_modules x = record { head = Some x.head; tail = x.tail; good = λ site. x.good && in_module site }
 
 -- what has a head, of which the site decides
 abbrev pub by_site : (Site → HeadFacts) → KindFacts
-by_site x = record { form = λ v. seen v (x site.Module); good = λ site. (x site).good; shown = true }
+by_site x = record { head = Some (x site.Module).head; tail = (x site.Module).tail; good = λ site. (x site).good }
 
 abbrev pub kind_facts : ItemKind-F KindFacts ItemFacts → KindFacts
 kind_facts (ItemKind-F.ExternCrate x) = in_modules (about_extern_crate x)
@@ -168,11 +172,11 @@ kind_facts (ItemKind-F.Trait head wheres attrs items) = in_modules (about_trait 
 kind_facts (ItemKind-F.Impl head wheres attrs items) = in_modules (about_impl head wheres attrs items)
 kind_facts (ItemKind-F.Foreign is_unsafe abi attrs items) = in_modules (about_foreign is_unsafe abi attrs items)
 kind_facts (ItemKind-F.MacroRules name rules) = record {
-  form = λ v. rules_form name rules;
+  head = None;
+  tail = rules_form name rules;
   good = λ site. is_name name.raw name.text && is_group rules && in_module site;
-  shown = false;
 }
-kind_facts (ItemKind-F.Call call) = record { form = λ v. call_item_form call; good = λ site. (about_call call).good; shown = false }
+kind_facts (ItemKind-F.Call call) = record { head = None; tail = call_item_form call; good = λ site. (about_call call).good }
 
 -- ---- an item
 
@@ -182,8 +186,8 @@ is_inherited _ = false
 
 abbrev pub item_facts : Item-F KindFacts ItemFacts → ItemFacts
 item_facts item = record {
-  form = Deeper (behind_attrs (map attr_form item.attrs) (Part (item.kind.form item.vis) Done)) Done;
-  good = λ site. are_attrs false item.attrs && is_vis item.vis && (item.kind.shown || is_inherited item.vis) && item.kind.good site;
+  form = Deeper (behind_attrs (map attr_form item.attrs) (Part (kind_form item.vis item.kind.head item.kind.tail) Done)) Done;
+  good = λ site. are_attrs false item.attrs && is_vis item.vis && (is_some item.kind.head || is_inherited item.vis) && item.kind.good site;
 }
 
 unfoldable pub told_of_item : Item → ItemFacts

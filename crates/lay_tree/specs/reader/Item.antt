@@ -225,7 +225,7 @@ item_by at within ts = do
   attrs ← attributes false ts
   v ← visibility attrs.1
   kind ← kind_at at within v.1
-  if (told_of_kind kind.0.0).shown || is_inherited v.0
+  if is_some (told_of_kind kind.0.0).head || is_inherited v.0
     then Some ((record { attrs = attrs.0; vis = v.0; kind = kind.0.0 }, suc kind.0.1), kind.1)
     else None
 
