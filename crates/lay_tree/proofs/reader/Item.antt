@@ -1,5 +1,5 @@
 -- Items: what is read is spelled.
-use Rattle.std.proofs.Common.{◌≡◌, ℕ, zero, suc, ◌≤◌, Bool, true, false, ◌&&◌, ◌||◌, List, [], ◌∷◌, map, drop, codes, inl, inr, Option, Some, None, if◌then◌else◌, refl, sym, subst, arith}
+use Rattle.std.proofs.Common.{◌≡◌, ℕ, zero, suc, ◌≤◌, Bool, true, false, ◌&&◌, ◌||◌, List, [], ◌∷◌, map, drop, codes, inl, inr, Option, Some, None, if◌then◌else◌, refl, sym, ap, subst, arith}
 use Rattle.std.proofs.lemmas.Bool.{and_parts, and_from}
 use Rattle.std.specs.Prelude.{is_some}
 use Rattle.lay_piece.specs.Forms.{opening}
@@ -23,7 +23,7 @@ use Rattle.lay_tree.specs.reader.Attr.{attributes}
 use Rattle.lay_tree.specs.reader.Call.{call, behind_end}
 use Rattle.lay_tree.specs.reader.Exact.{InText}
 use Rattle.lay_tree.specs.reader.Functions.{insides}
-use Rattle.lay_tree.specs.reader.Item.{ItemLead, ItemWithin, OfAlias, OfCall, OfEnum, OfExternCrate, OfForeign, OfFunction, OfImpl, OfImport, OfModule, OfRules, OfStruct, OfTrait, OfUnion, OfValue, begins_rules, call_item, item_at, item_by, item_lead, kind_at, kind_by, may_stand, rules_item}
+use Rattle.lay_tree.specs.reader.Item.{ItemLead, ItemWithin, OfAlias, OfCall, OfEnum, OfExternCrate, OfForeign, OfFunction, OfImpl, OfImport, OfModule, OfRules, OfStruct, OfTrait, OfUnion, OfValue, begins_function, begins_rules, begins_union, call_item, extern_lead, item_at, item_by, item_lead, kind_at, kind_by, may_stand, rules_item, unsafe_lead}
 use Rattle.lay_tree.specs.reader.Loops.{Read, ◌>>=◌}
 use Rattle.lay_tree.specs.reader.Tokens.{group}
 use Rattle.lay_tree.specs.reader.Use.{use_at}
@@ -57,7 +57,7 @@ use Rattle.lay_tree.proofs.reader.PatternsSoundLevel.{SoundPatWithin}
 use Rattle.lay_tree.proofs.reader.Tokens.{group_sound}
 use Rattle.lay_tree.proofs.reader.TypesSoundParts.{Out}
 use Rattle.lay_tree.proofs.reader.Use.{use_sound}
-use Rattle.lay_tree.proofs.reader.Vis.{visibility_sound}
+use Rattle.lay_tree.proofs.reader.Vis.{vis_sound}
 use Rattle.lay_tree.proofs.reader.Words.{name_sound}
 
 -- ---- macros
@@ -127,14 +127,47 @@ call_item_sound at budget ts x rest t h =
 
 -- ---- what an item is
 
--- A lead that stands there in no module, but is one of an item in modules, doesn't.
+abbrev is_rules : ItemLead → Bool
+is_rules OfRules = true
+is_rules _ = false
+
+-- What isn't chosen for what it is, is chosen for what stands behind it.
+passes : (b : Bool) (x y : ItemLead) → is_rules x ≡ false → (if b then x else y) ≡ OfRules → y ≡ OfRules
+passes true x y n h = absurd (cc (n, ap is_rules h))
+passes false x y n h = h
+
+unsafe_passes : (b c : Bool) → is_rules (if b then OfTrait else (if c then OfImpl else OfForeign)) ≡ false
+unsafe_passes true c = refl
+unsafe_passes false true = refl
+unsafe_passes false false = refl
+
+extern_passes : (b : Bool) → is_rules (if b then OfExternCrate else OfForeign) ≡ false
+extern_passes true = refl
+extern_passes false = refl
+
+call_is_none : (b : Bool) → (if b then OfRules else OfCall) ≡ OfRules → b ≡ true
+call_is_none true h = refl
+call_is_none false h = absurd (cc)
+
 rules_begin : (ts : Tokens) → item_lead ts ≡ OfRules → begins_rules ts ≡ true
 unfolding item_lead
-rules_begin ts h = by (begins_rules ts) refl
-  where
-    by : (b : Bool) → begins_rules ts ≡ b → b ≡ true
-    by true e = refl
-    by false e = absurd (cc)
+rules_begin ts h =
+    let is : List ℕ → Bool = λ word. first (is_keyword word) ts in
+    let behind = tail ts in
+    let h1 = passes (begins_function ts) OfFunction _ refl h in
+    let h2 = passes (is (codes "use")) OfImport _ refl h1 in
+    let h3 = passes (is (codes "mod")) OfModule _ refl h2 in
+    let h4 = passes (is (codes "type")) OfAlias _ refl h3 in
+    let h5 = passes (is (codes "struct")) OfStruct _ refl h4 in
+    let h6 = passes (is (codes "enum")) OfEnum _ refl h5 in
+    let h7 = passes (is (codes "const")) OfValue _ refl h6 in
+    let h8 = passes (is (codes "static")) OfValue _ refl h7 in
+    let h9 = passes (is (codes "trait")) OfTrait _ refl h8 in
+    let h10 = passes (is (codes "impl")) OfImpl _ refl h9 in
+    let h11 = passes (is (codes "unsafe")) (unsafe_lead behind) _
+    (unsafe_passes (first (is_keyword (codes "trait")) behind) (first (is_keyword (codes "impl")) behind)) h10 in
+    let h12 = passes (is (codes "extern")) (extern_lead behind) _ (extern_passes (first (is_keyword (codes "crate")) behind)) h11 in
+    call_is_none (begins_rules ts) (passes (begins_union ts) OfUnion _ refl h12)
 
 module _ (heads : HeadsSound) (at : Site) (budget : ℕ) (within : ItemWithin) (inner : SoundPatWithin budget within.heads)
     (items : (s : Site) → Sound (about_item s) budget (within.items s)) (trees : Sound about_use budget within.trees) where
@@ -189,7 +222,7 @@ module _ (heads : HeadsSound) (at : Site) (budget : ℕ) (within : ItemWithin) (
       let n = k.0.0.1 in
       let K = told_of_kind kind in
       let inner_attrs = attributes_sound false n ts attrs a.0.1 t a.1 in
-      let w = visibility_sound a.0.1 seen v.0.1 inner_attrs.1 v.1 in
+      let w = vis_sound a.0.1 seen v.0.1 inner_attrs.1 v.1 in
       let s = kind_sound heads at budget within inner items trees v.0.1 k.0.0 k.0.1 w.1 k.1 in
       let held = s.0 in
       let made : Item = record { attrs = attrs; vis = seen; kind = kind } in
