@@ -53,4 +53,5 @@ pub mod TypesExact
 pub mod PatternsExact
 pub mod HeadsLevel
 pub mod OutsideExact
+pub mod ValueHeads
 pub mod HeadParts
