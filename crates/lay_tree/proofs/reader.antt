@@ -55,3 +55,5 @@ pub mod HeadsLevel
 pub mod OutsideExact
 pub mod ValueHeads
 pub mod HeadParts
+pub mod AliasSound
+pub mod AliasComplete
