@@ -56,3 +56,8 @@ pub mod PatternsExact
 pub mod HeadsLevel
 pub mod HeadParts
 pub mod Vis
+pub mod OutsideExact
+pub mod ValueHeads
+pub mod HeadParts
+pub mod AliasSound
+pub mod AliasComplete
