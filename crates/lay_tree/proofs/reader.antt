@@ -52,3 +52,4 @@ pub mod PatternsComplete
 pub mod TypesExact
 pub mod PatternsExact
 pub mod HeadsLevel
+pub mod HeadParts
