@@ -80,7 +80,7 @@ value_is ts given rest e h =
     let b = bind_some (tokens (drop 1 ts)) (λ us. if is_empty us.0 then None else Some (input.Value us.0, us.1)) (given, rest) h in
     elim (chosen (is_empty b.0.0) None (Some (input.Value b.0.0, b.0.1)) (Some (given, rest)) b.2) [
       | inl g ↦ absurd (cc)
-      | inr g ↦ same_some R (input.Value b.0.0, b.0.1) (given, rest) g.1 (e, g.0, tokens_is (drop 1 ts) b.0.0 b.0.1 b.1)
+      | inr g ↦ same_some R (input.Value b.0.0, b.0.1) (given, rest) g.1 (e, g.0, tokens_is false (drop 1 ts) b.0.0 b.0.1 b.1)
     ]
 
 meta_input_is : (ts : Tokens) (given : MetaInput) (rest : Tokens) → meta_input ts ≡ Some (given, rest) → InputIs given ts rest
@@ -137,8 +137,8 @@ input_sound (input.Value us) depth ts mid rest t i c = by mid i.2 c
     by [] l c = absurd c
     by (last ∷ end) l c =
         let j = behind_equals ts t i.0 in
-        let good = list_good (drop 1 ts) us last end j.0 j.1 (ap is_closer c.0) l in
-        let row = list_row_of (drop 1 ts) us (last ∷ end) l in
+        let good = list_good false (drop 1 ts) us last end j.0 j.1 (ap is_closer c.0) l in
+        let row = list_row_of false (drop 1 ts) us (last ∷ end) l in
         let inner = list_spelled us (at_start 0) depth (drop 1 ts) (last ∷ end) good j.0.loose row in
         let list : Spells (token_list us) depth (drop 1 ts) (last ∷ end) = (last ∷ end, inner, ended (ends_in_line us) depth (last ∷ end)) in (
           (drop 1 ts, (ts, refl, (drop 1 ts, (i.0, refl), (drop 1 ts, refl, refl))), (last ∷ end, list, bit_piece (closer Bracket) depth (last ∷ end) rest c)),
@@ -254,7 +254,7 @@ module _ (inner : Bool) (depth : ℕ) (ts rest : Tokens) where
     made_sound input.Bare t i = plain_sound input.Bare (input_sound input.Bare depth mid end rest t i c) (none (is_doc_path path))
     made_sound (input.Group g) t i = plain_sound (input.Group g) (input_sound (input.Group g) depth mid end rest t i c) (none (is_doc_path path))
     made_sound (input.Value us) t i =
-        named_sound us i.0 (list_row_of (drop 1 mid) us end i.2) (input_sound (input.Value us) depth mid end rest t i c) (is_doc_path path) refl
+        named_sound us i.0 (list_row_of false (drop 1 mid) us end i.2) (input_sound (input.Value us) depth mid end rest t i c) (is_doc_path path) refl
 
 -- ---- attributes, one and many
 

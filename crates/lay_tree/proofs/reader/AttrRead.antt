@@ -99,7 +99,7 @@ meta_input_complete (input.Value us) depth ts rest s g =
 
     read_to : (us : List Listed) (ts mid rest : Tokens) → is_token_list us ≡ true → IsRow us ts mid → Closes mid rest → tokens ts ≡ Some (us, mid)
     read_to us ts [] rest h r c = absurd c
-    read_to us ts (last ∷ mid) rest h r c = row_tokens us ts last mid h (ap delimiters.is_closer c.0) r
+    read_to us ts (last ∷ mid) rest h r c = row_tokens false us ts last mid h tt (ap delimiters.is_closer c.0) r
 
 -- ---- what `made` gives
 
@@ -222,8 +222,8 @@ string_read value (t ∷ ts) (last ∷ mid) rest s c =
       held = of.0;
       read =
           ap (λ z. tokens (t ∷ z)) s.1
-          ∙ tokens_there (t ∷ []) (last ∷ mid) (listed.Token t.kind t.text false ∷ []) (λ v. one v ∷ [])
-          (balances_turned [] [] (listed.Token t.kind t.text false) [] k.1) refl (ap delimiters.is_closer c.0);
+          ∙ tokens_there false (t ∷ []) (last ∷ mid) (listed.Token t.kind t.text false ∷ []) (λ v. one v ∷ [])
+          (balances_turned [] [] (listed.Token t.kind t.text false) [] k.1) tt refl (ap delimiters.is_closer c.0);
       some = refl;
       string = of.1;
       is = of.2;

@@ -78,7 +78,7 @@ list_there us depth ts mid rest g s o =
 
     read_to : (mid : Tokens) → IsRow us ts mid → IsOne (Closer Bracket) (closing Bracket ∷ []) mid rest → tokens ts ≡ Some (us, mid)
     read_to [] r c = absurd c
-    read_to (last ∷ mid) r c = row_tokens us ts last mid g (ap delimiters.is_closer c.0) r
+    read_to (last ∷ mid) r c = row_tokens false us ts last mid g tt (ap delimiters.is_closer c.0) r
 
 -- ---- parameters of function types
 

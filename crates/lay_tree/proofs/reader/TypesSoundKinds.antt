@@ -183,15 +183,15 @@ length_sound : (d : Delim) (depth : ℕ) (ts : Tokens) (us : List Listed) (mid r
     → tokens (tail ts) ≡ Some (us, mid) → passed (closes d) mid ≡ Some rest
     → Spells (token_list us) depth (tail ts) mid × (is_token_list us ≡ true) × InText mid
 length_sound d depth ts us mid rest t m h c =
-    at mid (tokens_is (tail ts) us mid h) (passed_first (closes d) mid rest c).0
+    at mid (tokens_is false (tail ts) us mid h) (passed_first (closes d) mid rest c).0
   where
     at : (mid : Tokens) → IsList (tail ts) us mid → first (closes d) mid ≡ true
         → Spells (token_list us) depth (tail ts) mid × (is_token_list us ≡ true) × InText mid
     at [] l f = absurd (cc)
     at (last ∷ end) l f =
         let j = semicolon_texts ts t m in
-        let good = list_good (tail ts) us last end j.0 j.1 (ap is_closer (closer_kind d last.kind f)) l in
-        let row = list_row_of (tail ts) us (last ∷ end) l in
+        let good = list_good false (tail ts) us last end j.0 j.1 (ap is_closer (closer_kind d last.kind f)) l in
+        let row = list_row_of false (tail ts) us (last ∷ end) l in
         let inner = list_spelled us (at_start 0) depth (tail ts) (last ∷ end) good j.0.loose row in (
           (last ∷ end, inner, line_ended (ends_in_line us) depth (last ∷ end)),
           good,

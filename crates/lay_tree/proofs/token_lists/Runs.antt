@@ -1,5 +1,5 @@
--- Runs of tokens pass over balanced ones.
-use Rattle.std.proofs.Common.{◌≡◌, List, [], ◌∷◌, ◌++◌, true, false, Some, None, map, refl, sym, ap, ◌∙◌}
+-- Runs of tokens pass over balanced ones: where they go on to a comma, over ones with no comma outside their groups.
+use Rattle.std.proofs.Common.{◌≡◌, List, [], ◌∷◌, ◌++◌, Bool, true, false, ◌||◌, Some, None, length, map, refl, sym, ap, subst, ◌∙◌}
 use Rattle.lay_token.specs.Delimiters.{is_closer}
 use Rattle.lay_piece.specs.declared.kind.Delim.{Delim}
 use Rattle.lay_piece.specs.declared.kind.Kind.{Kind}
@@ -10,31 +10,36 @@ use Rattle.lay_tree.specs.reader.Loops.{Got, ◌>>=◌}
 use Rattle.lay_tree.specs.reader.Tokens.{ends_run, run}
 use Rattle.lay_tree.specs.tokens.Listing.{as_listed, turned, balances, is_balanced}
 use Rattle.lay_tree.proofs.token_lists.Balance.{turned_listed, turned_within, turns}
+use Rattle.lay_tree.proofs.token_lists.Commas.{Commaless, CommaApart, commaless_parts, level_turned}
 
 -- what a run gives behind these tokens
 abbrev pub onto : List Token → Got (List Token) → Got (List Token)
 onto xs None = None
 onto xs (Some r) = Some (xs ++ r.0, r.1)
 
-goes_on : (inner left more : List Delim) (t : Token) → turned t.kind inner ≡ Some more
-    → ends_run false (inner ++ left) t ≡ false
-goes_on (e ∷ inner) left more t h = refl
-goes_on [] (e ∷ left) more t h = refl
-goes_on [] [] more t h = by t.kind h
+goes_on : (to_comma : Bool) (inner left more : List Delim) (t : Token) → turned t.kind inner ≡ Some more
+    → CommaApart to_comma (length (inner ++ left)) t → ends_run to_comma (inner ++ left) t ≡ false
+goes_on to_comma (e ∷ inner) left more t h c = refl
+goes_on to_comma [] (e ∷ left) more t h c = refl
+goes_on to_comma [] [] more t h c = at to_comma c (by t.kind h)
   where
     by : (k : Kind) → turned k [] ≡ Some more → is_closer k ≡ false
     by (Closer d) g = cc
     by _ g = refl
 
-run_turned : (within more : List Delim) (t : Token) (ts : Tokens) → ends_run false within t ≡ false
-    → turned t.kind within ≡ Some more → run false within (t ∷ ts) ≡ onto (t ∷ []) (run false more ts)
+    at : (to_comma : Bool) → CommaApart to_comma 0 t → is_closer t.kind ≡ false → ends_run to_comma [] t ≡ false
+    at false c e = e
+    at true c e = rw (e, c) refl
+
+run_turned : (to_comma : Bool) (within more : List Delim) (t : Token) (ts : Tokens) → ends_run to_comma within t ≡ false
+    → turned t.kind within ≡ Some more → run to_comma within (t ∷ ts) ≡ onto (t ∷ []) (run to_comma more ts)
 unfolding run
-run_turned [] more t ts e h = rw (e, h) (by (run false more ts))
+run_turned to_comma [] more t ts e h = rw (e, h) (by (run to_comma more ts))
   where
     by : (g : Got (List Token)) → (do r ← g; Some (t ∷ r.0, r.1)) ≡ onto (t ∷ []) g
     by None = refl
     by (Some r) = refl
-run_turned (d ∷ within) more t ts e h = rw h (by (run false more ts))
+run_turned to_comma (d ∷ within) more t ts e h = rw h (by (run to_comma more ts))
   where
     by : (g : Got (List Token)) → (do r ← g; Some (t ∷ r.0, r.1)) ≡ onto (t ∷ []) g
     by None = refl
@@ -48,18 +53,21 @@ onto_both : (t : Token) (xs : List Token) (g : Got (List Token)) → onto (t ∷
 onto_both t xs None = refl
 onto_both t xs (Some r) = refl
 
-run_behind : (inner left : List Delim) (xs rest : List Token) → balances inner (map as_listed xs) ≡ true
-    → run false (inner ++ left) (xs ++ rest) ≡ onto xs (run false left rest)
-run_behind [] left [] rest h = sym (onto_none (run false left rest))
-run_behind (d ∷ inner) left [] rest h = cc
-run_behind inner left (t ∷ xs) rest h =
+run_behind : (to_comma : Bool) (inner left : List Delim) (xs rest : List Token) → balances inner (map as_listed xs) ≡ true
+    → Commaless to_comma (length (inner ++ left)) (map as_listed xs)
+    → run to_comma (inner ++ left) (xs ++ rest) ≡ onto xs (run to_comma left rest)
+run_behind to_comma [] left [] rest h c = sym (onto_none (run to_comma left rest))
+run_behind to_comma (d ∷ inner) left [] rest h c = cc
+run_behind to_comma inner left (t ∷ xs) rest h c =
     let s = turns inner (as_listed t) (map as_listed xs) h in
     let e : turned t.kind inner ≡ Some s.more = sym (turned_listed t.kind t.text t.joint inner) ∙ s.turn in
-    run_turned (inner ++ left) (s.more ++ left) t (xs ++ rest) (goes_on inner left s.more t e)
-    (turned_within t.kind inner s.more left e)
-    ∙ ap (onto (t ∷ [])) (run_behind s.more left xs rest s.rest) ∙ onto_both t xs (run false left rest)
+    let p = commaless_parts to_comma (length (inner ++ left)) t (map as_listed xs) c in
+    let wide = turned_within t.kind inner s.more left e in
+    let more = subst (λ n. Commaless to_comma n (map as_listed xs)) (level_turned t.kind (inner ++ left) (s.more ++ left) wide) p.1 in
+    run_turned to_comma (inner ++ left) (s.more ++ left) t (xs ++ rest) (goes_on to_comma inner left s.more t e p.0) wide
+    ∙ ap (onto (t ∷ [])) (run_behind to_comma s.more left xs rest s.rest more) ∙ onto_both t xs (run to_comma left rest)
 
 -- A run passes over what is balanced.
-pub run_over : (left : List Delim) (xs rest : List Token) → is_balanced (map as_listed xs) ≡ true
-    → run false left (xs ++ rest) ≡ onto xs (run false left rest)
-run_over left xs rest h = run_behind [] left xs rest h
+pub run_over : (to_comma : Bool) (left : List Delim) (xs rest : List Token) → is_balanced (map as_listed xs) ≡ true
+    → Commaless to_comma (length left) (map as_listed xs) → run to_comma left (xs ++ rest) ≡ onto xs (run to_comma left rest)
+run_over to_comma left xs rest h c = run_behind to_comma [] left xs rest h c
