@@ -53,3 +53,4 @@ pub mod TypesExact
 pub mod PatternsExact
 pub mod HeadsLevel
 pub mod HeadParts
+pub mod FunctionsSoundParams
