@@ -54,3 +54,4 @@ pub mod PatternsExact
 pub mod HeadsLevel
 pub mod HeadParts
 pub mod FunctionsSoundParams
+pub mod FunctionsSound
