@@ -61,3 +61,5 @@ pub mod ValueHeads
 pub mod HeadParts
 pub mod AliasSound
 pub mod AliasComplete
+pub mod FunctionsSoundParams
+pub mod FunctionsSound
