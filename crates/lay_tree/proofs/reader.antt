@@ -29,6 +29,7 @@ pub mod PatternsSoundRest
 pub mod PatternsSound
 pub mod ItemBodies
 pub mod ItemSound
+pub mod ItemLeads
 pub mod Item
 pub mod ItemRead
 pub mod File
@@ -58,7 +59,6 @@ pub mod HeadParts
 pub mod Vis
 pub mod OutsideExact
 pub mod ValueHeads
-pub mod HeadParts
 pub mod AliasSound
 pub mod AliasComplete
 pub mod FunctionsSoundParams
