@@ -30,6 +30,7 @@ pub mod PatternsSound
 pub mod ItemBodies
 pub mod ItemSound
 pub mod ItemLeads
+pub mod ItemReads
 pub mod Item
 pub mod ItemRead
 pub mod File

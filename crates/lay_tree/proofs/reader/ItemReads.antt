@@ -1,0 +1,230 @@
+-- What an item is: what is spelled, and well formed, is read, kind by kind.
+use Rattle.std.proofs.Common.{◌≡◌, ℕ, ◌≤◌, max, Bool, true, false, ◌&&◌, ◌||◌, not, List, [], ◌∷◌, ◌++◌, map, drop, codes, Option, Some, None, inl, inr, refl, sym, ap, subst, ◌∙◌, arith}
+use Rattle.std.proofs.lemmas.Bool.{and_parts}
+use Rattle.std.specs.Prelude.{if◌then◌else◌, is_some}
+use Rattle.std.specs.Str.{bytes_eq}
+use Rattle.lay_piece.specs.Forms.{opening, closing}
+use Rattle.lay_piece.specs.Word.{class_of}
+use Rattle.lay_piece.specs.declared.kind.Delim.TheVariants.{Brace}
+use Rattle.lay_piece.specs.declared.kind.Kind.{Kind}
+use Rattle.lay_piece.specs.declared.kind.Kind.TheVariants as kind
+use Rattle.lay_piece.specs.declared.kind.Kind.TheVariants.{Ident, RawIdent, Punct, Opener, Closer}
+use Rattle.lay_token.specs.Delimiters.{is_opener}
+use Rattle.lay_token.specs.Operators.{is_op}
+use Rattle.lay_token.specs.declared.token.Token.{Token}
+use Rattle.lay_form.specs.Form.{Blank, Fixed, Form, Operator, Part, Piece, keyword, semicolon}
+use Rattle.lay_form.specs.Notation.{piece}
+use Rattle.lay_form.specs.Spelled.{IsOne, IsOperator, Spells}
+use Rattle.lay_tree.specs.Ahead.{Tokens, first, is_ident, is_keyword, tail}
+use Rattle.lay_tree.specs.Words.{is_path_class, is_string}
+use Rattle.lay_tree.specs.nodes.Functions.{about_fn_head, fn_head_form, is_fn_head}
+use Rattle.lay_tree.specs.nodes.Heads.{about_alias, about_enum, about_extern_crate, about_impl_head, about_struct, about_union, about_value_head, ends_head, headed, is_trait_head, trait_head_form}
+use Rattle.lay_tree.specs.nodes.Types.{is_abi_name}
+use Rattle.lay_tree.specs.reader.Functions.{fn_head}
+use Rattle.lay_tree.specs.reader.Heads.{alias, enum, extern_crate, impl_head, struct, trait_head, union, value_head}
+use Rattle.lay_tree.specs.reader.Item.{ItemLead, OfAlias, OfCall, OfEnum, OfExternCrate, OfForeign, OfFunction, OfImpl, OfImport, OfModule, OfRules, OfStruct, OfTrait, OfUnion, OfValue, begins_function, begins_rules, begins_union, is_string_kind, item_lead, macro_lead, may_stand, skips_abi}
+use Rattle.lay_tree.specs.reader.Loops.{Got, ◌>>=◌}
+use Rattle.lay_tree.specs.reader.Patterns.{PatWithin}
+use Rattle.lay_tree.specs.reader.Words.{name, name_by}
+use Rattle.lay_tree.specs.declared.functions.FnHead.{FnHead}
+use Rattle.lay_tree.specs.declared.heads.Alias.{Alias}
+use Rattle.lay_tree.specs.declared.heads.Enum.{Enum}
+use Rattle.lay_tree.specs.declared.heads.ExternCrate.{ExternCrate}
+use Rattle.lay_tree.specs.declared.heads.Site.{Site}
+use Rattle.lay_tree.specs.declared.heads.Struct.{Struct}
+use Rattle.lay_tree.specs.declared.heads.TraitHead.{TraitHead}
+use Rattle.lay_tree.specs.declared.heads.Union.{Union}
+use Rattle.lay_tree.specs.declared.token.Literal.{Literal}
+use Rattle.lay_tree.specs.declared.token.Name.{Name}
+use Rattle.lay_tree.specs.declared.tokens.MacroCall.{MacroCall}
+use Rattle.lay_tree.proofs.Fronts.{one_front, op_front, other_op}
+use Rattle.lay_tree.proofs.Parts.{word_kind}
+use Rattle.lay_tree.proofs.reader.Call.{SpelledCall}
+use Rattle.lay_tree.proofs.reader.Exact.{IsRead}
+use Rattle.lay_tree.proofs.reader.HeadsLevel.{CompleteHead}
+use Rattle.lay_tree.proofs.reader.PatternsCompletePaths.{PatReads}
+use Rattle.lay_tree.proofs.reader.SimplePath.{OfLead, OfOne, OfWord, SimplePathFront, simple_path_front, simple_path_no_keyword}
+use Rattle.lay_tree.proofs.reader.TypesCompleteParts.{one_left}
+use Rattle.lay_tree.proofs.reader.Words.{GoodName, name_complete}
+
+-- What is proved of the heads: what stands there is read.
+pub record HeadsComplete : Type 0 where
+  pub extern_crates : (x : ExternCrate) (depth : ℕ) (ts rest : Tokens) → Spells (headed (about_extern_crate x)).form depth ts rest
+      → (about_extern_crate x).good ≡ true → extern_crate ts ≡ Some (x, rest)
+  pub aliases : (at : Site) → CompleteHead (λ (x : Alias). headed (about_alias at x)) (λ w ts. alias at w.kinds ts)
+  pub structs : CompleteHead (λ (x : Struct). headed (about_struct x)) (λ w ts. struct w.kinds ts)
+  pub unions : CompleteHead (λ (x : Union). headed (about_union x)) (λ w ts. union w.kinds ts)
+  pub enums : CompleteHead (λ (x : Enum). headed (about_enum x)) (λ w ts. enum w.kinds ts)
+  pub values : CompleteHead about_value_head (λ w ts. value_head w.kinds ts)
+  pub functions : (at : Site) → CompleteHead (about_fn_head at) (fn_head at)
+  pub function_begins : (at : Site) (h : FnHead) (depth : ℕ) (ts rest : Tokens) → Spells (fn_head_form h) depth ts rest → is_fn_head at h ≡ true
+      → begins_function ts ≡ true
+  pub impls : CompleteHead about_impl_head (λ w ts. impl_head w.kinds ts)
+  -- in front of a where clause or a body
+  pub traits : (depth : ℕ) (inner : PatWithin) → PatReads depth inner → (x : TraitHead) (ts rest : Tokens) → Spells (trait_head_form x) depth ts rest
+      → is_trait_head x ≡ true → ends_head rest ≡ true → (flags : Bool × Bool) × IsRead depth (trait_head inner.kinds) (x, flags) ts rest
+
+-- ---- what an item is, by its first tokens
+
+pub extern_crate_lead : (ts at mid : Tokens) → IsOne Ident (codes "extern") ts at → IsOne Ident (codes "crate") at mid → item_lead ts ≡ OfExternCrate
+unfolding item_lead
+extern_crate_lead ts at mid o p = rw ((one_front Ident (codes "extern") ts at o).1, (one_front Ident (codes "crate") at mid p).1) refl
+
+pub import_lead : (ts mid : Tokens) → IsOne Ident (codes "use") ts mid → item_lead ts ≡ OfImport
+unfolding item_lead
+import_lead ts mid o = rw (one_front Ident (codes "use") ts mid o).1 refl
+
+pub module_lead : (ts mid : Tokens) → IsOne Ident (codes "mod") ts mid → item_lead ts ≡ OfModule
+unfolding item_lead
+module_lead ts mid o = rw (one_front Ident (codes "mod") ts mid o).1 refl
+
+pub function_lead : (ts : Tokens) → begins_function ts ≡ true → item_lead ts ≡ OfFunction
+unfolding item_lead
+function_lead ts h = rw h refl
+
+pub alias_lead : (ts mid : Tokens) → IsOne Ident (codes "type") ts mid → item_lead ts ≡ OfAlias
+unfolding item_lead
+alias_lead ts mid o = rw (one_front Ident (codes "type") ts mid o).1 refl
+
+pub struct_lead : (ts mid : Tokens) → IsOne Ident (codes "struct") ts mid → item_lead ts ≡ OfStruct
+unfolding item_lead
+struct_lead ts mid o = rw (one_front Ident (codes "struct") ts mid o).1 refl
+
+pub enum_lead : (ts mid : Tokens) → IsOne Ident (codes "enum") ts mid → item_lead ts ≡ OfEnum
+unfolding item_lead
+enum_lead ts mid o = rw (one_front Ident (codes "enum") ts mid o).1 refl
+
+pub union_lead : (n : Name) (ts mid rest : Tokens) → IsOne Ident (codes "union") ts mid → GoodName n mid rest → item_lead ts ≡ OfUnion
+unfolding item_lead
+union_lead n ts mid rest o g = rw ((one_front Ident (codes "union") ts mid o).1, name_complete n mid rest g) refl
+
+pub static_lead : (ts mid : Tokens) → IsOne Ident (codes "static") ts mid → item_lead ts ≡ OfValue
+unfolding item_lead
+static_lead ts mid o = rw (one_front Ident (codes "static") ts mid o).1 refl
+
+pub impl_lead : (ts mid : Tokens) → IsOne Ident (codes "impl") ts mid → item_lead ts ≡ OfImpl
+unfolding item_lead
+impl_lead ts mid o = rw (one_front Ident (codes "impl") ts mid o).1 refl
+
+pub trait_lead : (ts mid : Tokens) → IsOne Ident (codes "trait") ts mid → item_lead ts ≡ OfTrait
+unfolding item_lead
+trait_lead ts mid o = rw (one_front Ident (codes "trait") ts mid o).1 refl
+
+pub unsafe_impl_lead : (ts at mid : Tokens) → IsOne Ident (codes "unsafe") ts at → IsOne Ident (codes "impl") at mid → item_lead ts ≡ OfImpl
+unfolding item_lead
+unsafe_impl_lead ts at mid o p = rw ((one_front Ident (codes "unsafe") ts at o).1, (one_front Ident (codes "impl") at mid p).1) refl
+
+pub unsafe_trait_lead : (ts at mid : Tokens) → IsOne Ident (codes "unsafe") ts at → IsOne Ident (codes "trait") at mid → item_lead ts ≡ OfTrait
+unfolding item_lead
+unsafe_trait_lead ts at mid o p = rw ((one_front Ident (codes "unsafe") ts at o).1, (one_front Ident (codes "trait") at mid p).1) refl
+
+-- A string is told by its kind, and no word.
+string_kind : (k : Kind) (text : List ℕ) → is_string k text ≡ true → (is_string_kind k ≡ true) × (is_ident k ≡ false)
+string_kind kind.Str text h = (refl, refl)
+string_kind kind.RawStr text h = (refl, refl)
+string_kind _ text h = absurd (cc)
+
+-- ---- macros
+
+name_none : (ts : Tokens) → first (λ t. is_opener t.kind) ts ≡ true → name ts ≡ None
+unfolding name
+name_none [] h = refl
+name_none (t ∷ ts) h = by t.kind h
+  where
+    by : (k : Kind) → is_opener k ≡ true → (name_by k t.text >>= (λ (n : Name). let found : Got Name = Some (n, ts) in found)) ≡ None
+    by (Opener d) h = refl
+    by _ h = absurd (cc)
+
+-- A macro call begins no declaration of a macro: a group stands behind its `!`.
+no_rules : (c : MacroCall) (depth : ℕ) (ts rest : Tokens) → SpelledCall c depth ts rest → begins_rules ts ≡ false
+no_rules c depth ts rest s = by (simple_path_front c.path depth ts s.mid s.good s.path)
+  where
+    no_mark : (a c : Bool) → a && false && c ≡ false
+    no_mark true c = refl
+    no_mark false c = refl
+
+    no_name : (a b : Bool) → a && b && false ≡ false
+    no_name true true = refl
+    no_name true false = refl
+    no_name false b = refl
+
+    by : SimplePathFront ts s.mid → begins_rules ts ≡ false
+    by (OfLead h) = rw (op_front (codes "::") ts h).2 refl
+    by (OfWord true text at o h) = rw (one_front RawIdent text ts at o).1 refl
+    by (OfWord false text at o h) =
+        rw ((one_front Ident text ts at o).1, other_op (codes "::") (codes "!") refl at h) (no_mark (bytes_eq text (codes "macro_rules")) (is_some (name (drop 1 at))))
+    by (OfOne true text o) = rw (one_front RawIdent text ts s.mid o).1 refl
+    by (OfOne false text o) =
+        rw ((one_front Ident text ts s.mid o).1, s.mark.1, name_none s.within s.group.begins) (no_name (bytes_eq text (codes "macro_rules")) (is_op (codes "!") s.mid))
+
+-- No name stands at an operator.
+op_no_name : (op : List ℕ) (ts : Tokens) → is_op op ts ≡ true → name ts ≡ None
+unfolding name
+op_no_name op ts h = rw (op_front op ts h).2 refl
+
+-- Nor does a macro call begin a union, or a function.
+no_union : (c : MacroCall) (depth : ℕ) (ts rest : Tokens) → SpelledCall c depth ts rest → begins_union ts ≡ false
+no_union c depth ts rest s = by (simple_path_front c.path depth ts s.mid s.good s.path)
+  where
+    none : (b : Bool) → b && false ≡ false
+    none true = refl
+    none false = refl
+
+    by : SimplePathFront ts s.mid → begins_union ts ≡ false
+    by (OfLead h) = rw (op_front (codes "::") ts h).2 refl
+    by (OfWord true text at o h) = rw (one_front RawIdent text ts at o).1 refl
+    by (OfWord false text at o h) = rw ((one_front Ident text ts at o).1, op_no_name (codes "::") at h) (none (bytes_eq text (codes "union")))
+    by (OfOne true text o) = rw (one_front RawIdent text ts s.mid o).1 refl
+    by (OfOne false text o) = rw ((one_front Ident text ts s.mid o).1, op_no_name (codes "!") s.mid s.mark.0) (none (bytes_eq text (codes "union")))
+
+op_no_fn : (op : List ℕ) (ts : Tokens) → is_op op ts ≡ true → first (is_keyword (codes "fn")) (skips_abi ts) ≡ false
+op_no_fn op ts h = rw (op_front op ts h).2 refl
+
+no_function : (c : MacroCall) (depth : ℕ) (ts rest : Tokens) → SpelledCall c depth ts rest → begins_function ts ≡ false
+no_function c depth ts rest s =
+    let no : (word : List ℕ) → is_path_class (class_of word) ≡ false → first (is_keyword word) ts ≡ false =
+    λ word n. simple_path_no_keyword word n c.path depth ts s.mid s.good s.path in
+    rw (no (codes "const") refl, no (codes "async") refl, no (codes "unsafe") refl) (by (simple_path_front c.path depth ts s.mid s.good s.path) no)
+  where
+    skipped : (b : Bool) (us vs : Tokens) → first (is_keyword (codes "fn")) (skips_abi us) ≡ false → first (is_keyword (codes "fn")) (skips_abi vs) ≡ false
+        → first (is_keyword (codes "fn")) (skips_abi (if b then us else vs)) ≡ false
+    skipped true us vs h k = h
+    skipped false us vs h k = k
+
+    whole : ((word : List ℕ) → is_path_class (class_of word) ≡ false → first (is_keyword word) ts ≡ false) → first (is_keyword (codes "fn")) (skips_abi ts) ≡ false
+    whole clear = rw (clear (codes "extern") refl) (clear (codes "fn") refl)
+
+    by : SimplePathFront ts s.mid → ((word : List ℕ) → is_path_class (class_of word) ≡ false → first (is_keyword word) ts ≡ false)
+        → first (is_keyword (codes "fn")) (skips_abi (if first (is_keyword (codes "safe")) ts then tail ts else ts)) ≡ false
+    by (OfLead h) clear = rw (op_front (codes "::") ts h).2 refl
+    by (OfWord raw text at o h) clear =
+        skipped (first (is_keyword (codes "safe")) ts) (tail ts) ts (rw (one_left (word_kind raw) text ts at o) (op_no_fn (codes "::") at h)) (whole clear)
+    by (OfOne raw text o) clear =
+        skipped (first (is_keyword (codes "safe")) ts) (tail ts) ts (rw (one_left (word_kind raw) text ts s.mid o) (op_no_fn (codes "!") s.mid s.mark.0)) (whole clear)
+
+pub call_lead : (c : MacroCall) (depth : ℕ) (ts rest : Tokens) → SpelledCall c depth ts rest → item_lead ts ≡ OfCall
+unfolding item_lead
+call_lead c depth ts rest s =
+    let no : (word : List ℕ) → is_path_class (class_of word) ≡ false → first (is_keyword word) ts ≡ false =
+    λ word n. simple_path_no_keyword word n c.path depth ts s.mid s.good s.path in
+    rw (
+      no_function c depth ts rest s,
+      no (codes "use") refl,
+      no (codes "mod") refl,
+      no (codes "type") refl,
+      no (codes "struct") refl,
+      no (codes "enum") refl,
+      no (codes "const") refl,
+      no (codes "static") refl,
+      no (codes "trait") refl,
+      no (codes "impl") refl,
+      no (codes "unsafe") refl,
+      no (codes "extern") refl,
+      no_union c depth ts rest s,
+      no_rules c depth ts rest s,
+    ) refl
+
+pub rules_lead : (n : Name) (ts at mid rest : Tokens) → IsOne Ident (codes "macro_rules") ts at → IsOperator (codes "!") at mid → GoodName n mid rest
+    → item_lead ts ≡ OfRules
+unfolding item_lead
+rules_lead n ts at mid rest o m g = rw ((one_front Ident (codes "macro_rules") ts at o).1, m.0, m.1, name_complete n mid rest g) refl
