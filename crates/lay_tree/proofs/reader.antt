@@ -57,3 +57,4 @@ pub mod ValueHeads
 pub mod HeadParts
 pub mod AliasSound
 pub mod AliasComplete
+pub mod TraitHeads
