@@ -55,6 +55,7 @@ pub mod HeadsLevel
 pub mod OutsideExact
 pub mod ValueHeads
 pub mod HeadParts
+pub mod HeadEnds
 pub mod AliasSound
 pub mod AliasComplete
 pub mod TraitHeads

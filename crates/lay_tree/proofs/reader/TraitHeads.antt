@@ -1,5 +1,5 @@
 -- The heads of traits are read exactly where they stand, and handed back with the way in which they are spelled.
-use Rattle.std.proofs.Common.{if◌then◌else◌, Bool, List, Some, [], arith, codes, drop, false, map, max, not, refl, true, ℕ, ◌&&◌, ◌||◌, ◌∷◌, ◌≡◌, ◌≤◌, subst}
+use Rattle.std.proofs.Common.{if◌then◌else◌, Bool, List, Some, [], arith, codes, drop, false, map, max, not, refl, true, ℕ, ◌&&◌, ◌||◌, ◌∷◌, ◌≡◌, ◌≤◌, subst, ap, inl, inr, ◌∙◌}
 use Rattle.std.proofs.lemmas.Bool.{and_from, and_parts, not-true}
 use Rattle.lay_piece.specs.declared.kind.Kind.TheVariants.{Ident}
 use Rattle.lay_token.specs.Operators.{is_op}
@@ -10,8 +10,8 @@ use Rattle.lay_tree.specs.Ahead.{first, is_keyword, tail, Tokens}
 use Rattle.lay_tree.specs.Begins.{begins_bound}
 use Rattle.lay_tree.specs.Follow.{may_follow}
 use Rattle.lay_tree.specs.Words.{is_name, leaf_of}
-use Rattle.lay_tree.specs.nodes.Generics.{are_bounds, generics_follow, generics_spelled, is_generics}
-use Rattle.lay_tree.specs.nodes.Heads.{TraitHeadAt, about_trait_head, bounds_end, bounds_spelled, is_trait_head, tells}
+use Rattle.lay_tree.specs.nodes.Generics.{are_bounds, generics_follow, generics_spelled, is_generics, bounded_form, generics_form}
+use Rattle.lay_tree.specs.nodes.Heads.{TraitHeadAt, about_trait_head, bounds_end, bounds_spelled, is_trait_head, tells, ends_head, trait_head_form, trait_head_spelled, unsafe_form}
 use Rattle.lay_tree.specs.nodes.Types.{about_bound, bounds_form, last_refuses, is_there}
 use Rattle.lay_tree.specs.reader.Exact.{Exact, InText}
 use Rattle.lay_tree.specs.reader.Functions.{head_at}
@@ -23,12 +23,15 @@ use Rattle.lay_tree.specs.reader.Types.{Within}
 use Rattle.lay_tree.specs.reader.Words.{name}
 use Rattle.lay_tree.specs.declared.heads.TraitHead.{TraitHead}
 use Rattle.lay_tree.specs.declared.types.Bound.{Bound}
+use Rattle.lay_tree.proofs.Follow.{quiet_follows}
 use Rattle.lay_tree.proofs.Fronts.{keyword_one}
 use Rattle.lay_tree.proofs.Parts.{before_blank, leaf_parts, leaf_spelled, part_alone, piece_bit, word_kind}
 use Rattle.lay_tree.proofs.Steps.{bind_some, same_some}
 use Rattle.lay_tree.proofs.reader.Exact.{IsRead}
 use Rattle.lay_tree.proofs.reader.GenericsComplete.{generics_read}
 use Rattle.lay_tree.proofs.reader.GenericsSound.{MetHeld, generics_sound, met_sound}
+use Rattle.lay_tree.proofs.reader.HeadEnds.{BeforeBody, WordFront, before_body, word_front}
+use Rattle.lay_tree.proofs.reader.HeadParts.{generics_unflagged, generics_way}
 use Rattle.lay_tree.proofs.reader.HeadsLevel.{CompleteHead, SoundHead, Stood, head_exact}
 use Rattle.lay_tree.proofs.reader.Loops.{SoundStep}
 use Rattle.lay_tree.proofs.reader.TypesComplete.{Reads}
@@ -222,3 +225,115 @@ trait_heads_complete depth inner reads x ts rest s g f = trait_read depth inner.
 
 pub trait_heads_exact : Exact (head_at read_trait) (λ (x : Flagged). TraitHeadAt x.1.0 x.1.1 x.0)
 trait_heads_exact = head_exact about_trait_head read_trait trait_heads_sound trait_heads_complete
+
+-- ---- heads of traits within items
+
+-- The head is spelled in one of its ways.
+abbrev pub TraitWay : TraitHead → ℕ → Tokens → Tokens → Type 0
+TraitWay x depth ts rest =
+    (with_generics : Bool) × (with_colon : Bool) × Spells (trait_head_spelled with_generics with_colon x) depth ts rest
+    × (tells with_generics x.generics.params ≡ true) × (tells with_colon x.bounds ≡ true)
+
+bounds_way : (bs : List Bound) (depth : ℕ) (ts rest : Tokens) → Spells (bounded_form bs) depth ts rest
+    → (with_colon : Bool) × Spells (bounds_spelled with_colon bs) depth ts rest × (tells with_colon bs ≡ true)
+bounds_way [] depth ts rest s = elim s.1 [
+  | inl e ↦ (false, e ∙ s.2, refl)
+  | inr b ↦ (true, (s.0, b, s.2), refl)
+]
+bounds_way (b ∷ bs) depth ts rest s = (true, s, refl)
+
+bounds_unflagged : (with_colon : Bool) (bs : List Bound) (depth : ℕ) (ts rest : Tokens) → Spells (bounds_spelled with_colon bs) depth ts rest
+    → tells with_colon bs ≡ true → Spells (bounded_form bs) depth ts rest
+bounds_unflagged true [] depth ts rest s t = (s.0, inr s.1, s.2)
+bounds_unflagged false [] depth ts rest s t = (ts, inl refl, s)
+bounds_unflagged true (b ∷ bs) depth ts rest s t = s
+bounds_unflagged false (b ∷ bs) depth ts rest s t = absurd (cc)
+
+-- what stands behind `unsafe`
+abbrev trait_called : TraitHead → Form → Form
+trait_called x f = Piece (keyword (codes "trait") ∷ Blank ∷ []) (leaf_of x.name.raw x.name.text f)
+
+pub trait_way : (x : TraitHead) (depth : ℕ) (ts rest : Tokens) → Spells (trait_head_form x) depth ts rest → TraitWay x depth ts rest
+trait_way x depth ts rest s = by x.is_unsafe s
+  where
+    bounded : Form
+    bounded = Part (bounded_form x.bounds) Done
+
+    called_way : (us : Tokens) → Spells (trait_called x (Part (generics_form x.generics) bounded)) depth us rest
+        → TraitWay (record { is_unsafe = false; name = x.name; generics = x.generics; bounds = x.bounds }) depth us rest
+    called_way us t =
+        let l = leaf_parts x.name.raw x.name.text (Part (generics_form x.generics) bounded) depth t.0 rest t.2 in
+        let p = l.2 in
+        let g = generics_way x.generics depth l.0 p.0 p.1 in
+        let b = bounds_way x.bounds depth p.0 rest (part_alone (bounded_form x.bounds) depth p.0 rest p.2) in
+        let leaf = leaf_spelled x.name.raw x.name.text (Part (generics_spelled g.0 x.generics) (Part (bounds_spelled b.0 x.bounds) Done)) depth t.0 l.0 rest l.1
+        (p.0, g.1, (rest, b.1, refl)) in
+        (g.0, b.0, (t.0, t.1, leaf), g.2, b.2)
+
+    by : (is_unsafe : Bool) → Spells (unsafe_form is_unsafe (trait_called x (Part (generics_form x.generics) bounded))) depth ts rest
+        → TraitWay (record { is_unsafe = is_unsafe; name = x.name; generics = x.generics; bounds = x.bounds }) depth ts rest
+    by true t = let c = called_way t.0 t.2 in (c.0, c.1, (t.0, t.1, c.2), c.3, c.4)
+    by false t = called_way ts t
+
+pub trait_unflagged : (x : Flagged) (depth : ℕ) (ts rest : Tokens) → Spells (trait_head_spelled x.1.0 x.1.1 x.0) depth ts rest
+    → tells x.1.0 x.0.generics.params ≡ true → tells x.1.1 x.0.bounds ≡ true → Spells (trait_head_form x.0) depth ts rest
+trait_unflagged x depth ts rest s g b = by x.0.is_unsafe s
+  where
+    head : TraitHead
+    head = x.0
+
+    spelled : Form
+    spelled = Part (generics_spelled x.1.0 head.generics) (Part (bounds_spelled x.1.1 head.bounds) Done)
+
+    behind : Form
+    behind = Part (generics_form head.generics) (Part (bounded_form head.bounds) Done)
+
+    called_spelled : (us : Tokens) → Spells (trait_called head spelled) depth us rest → Spells (trait_called head behind) depth us rest
+    called_spelled us t =
+        let l = leaf_parts head.name.raw head.name.text spelled depth t.0 rest t.2 in
+        let p = l.2 in
+        let params = generics_unflagged x.1.0 head.generics depth l.0 p.0 p.1 g in
+        let bounds = bounds_unflagged x.1.1 head.bounds depth p.0 rest (part_alone (bounds_spelled x.1.1 head.bounds) depth p.0 rest p.2) b in
+        (t.0, t.1, leaf_spelled head.name.raw head.name.text behind depth t.0 l.0 rest l.1 (p.0, params, (rest, bounds, refl)))
+
+    by : (is_unsafe : Bool) → Spells (unsafe_form is_unsafe (trait_called head spelled)) depth ts rest
+        → Spells (unsafe_form is_unsafe (trait_called head behind)) depth ts rest
+    by true t = (t.0, t.1, called_spelled t.0 t.2)
+    by false t = called_spelled ts t
+
+-- A where clause and a body may follow it, in whichever way it is spelled.
+pub body_ends_bounds : (with_generics with_colon : Bool) (bs : List Bound) (ts : Tokens) → BeforeBody ts → bounds_end with_generics with_colon bs ts ≡ true
+body_ends_bounds with_generics with_colon (b ∷ bs) ts e =
+    and_from (not (is_op (codes "+") ts)) (may_follow (last_refuses (map about_bound (b ∷ bs))) ts) (ap not e.quiet.plus)
+    (quiet_follows (last_refuses (map about_bound (b ∷ bs))) ts e.follow)
+body_ends_bounds with_generics true [] ts e = rw e.bound refl
+body_ends_bounds true false [] ts e = rw e.colon refl
+body_ends_bounds false false [] ts e = rw (e.colon, e.less) refl
+
+-- What is read stands there.
+abbrev pub TraitHeld : ℕ → Flagged × ℕ → Tokens → Tokens → Type 0
+TraitHeld budget x ts rest = (x.1 ≤ budget) × Spells (trait_head_form x.0.0) x.1 ts rest × (is_trait_head x.0.0 ≡ true)
+
+pub trait_held : (budget : ℕ) (within : Within) → SoundWithin budget within → SoundStep (trait_head within) (TraitHeld budget)
+trait_held budget within sound ts x rest t h =
+    let s = trait_sound budget within sound ts x rest t h in
+    let k = s.0 in
+    let told = and_parts (tells x.0.1.0 x.0.0.generics.params && tells x.0.1.1 x.0.0.bounds) (is_trait_head x.0.0) k.2 in
+    let flags = and_parts (tells x.0.1.0 x.0.0.generics.params) (tells x.0.1.1 x.0.0.bounds) told.0 in
+    ((k.0, trait_unflagged x.0 x.1 ts rest k.1 flags.0 flags.1, told.1), s.1)
+
+-- What stands there before a where clause or a body is read.
+pub trait_there : (depth : ℕ) (inner : Within) → Reads depth inner → (x : TraitHead) (ts rest : Tokens) → Spells (trait_head_form x) depth ts rest
+    → is_trait_head x ≡ true → ends_head rest ≡ true → (flags : Bool × Bool) × IsRead depth (trait_head inner) (x, flags) ts rest
+trait_there depth inner reads x ts rest s g f =
+    let w = trait_way x depth ts rest s in
+    let flags : Bool × Bool = (w.0, w.1) in
+    let good = and_from (tells w.0 x.generics.params && tells w.1 x.bounds) (is_trait_head x)
+    (and_from (tells w.0 x.generics.params) (tells w.1 x.bounds) w.3 w.4) g in
+    (flags, trait_read depth inner reads (x, flags) ts rest w.2 good (body_ends_bounds w.0 w.1 x.bounds rest (before_body rest f)))
+
+-- A head of a trait begins with its words, in whichever way it is spelled.
+pub trait_begins : (x : TraitHead) (depth : ℕ) (ts rest : Tokens) → Spells (trait_head_form x) depth ts rest → WordFront x.is_unsafe (codes "trait") ts
+trait_begins x depth ts rest s =
+    word_front x.is_unsafe (codes "trait") (trait_called x (Part (generics_form x.generics) (Part (bounded_form x.bounds) Done))) depth ts rest refl
+    (λ us t. (t.0, before_blank (keyword (codes "trait")) us t.0 t.1)) s
