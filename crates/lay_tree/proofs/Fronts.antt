@@ -45,7 +45,7 @@ delim_same Bracket Bracket h = refl
 delim_same Brace Brace h = refl
 delim_same _ _ h = absurd (cc)
 
-opener_kind : (d : Delim) (k : Kind) → is_opener d k ≡ true → k ≡ Opener d
+pub opener_kind : (d : Delim) (k : Kind) → is_opener d k ≡ true → k ≡ Opener d
 opener_kind d (Opener e) h = ap (λ x. Opener x) (delim_same d e h)
 opener_kind d _ h = absurd (cc)
 

@@ -64,3 +64,8 @@ pub mod AliasSound
 pub mod AliasComplete
 pub mod FunctionsSoundParams
 pub mod FunctionsSound
+pub mod HeadParts
+pub mod HeadEnds
+pub mod AliasSound
+pub mod AliasComplete
+pub mod TraitHeads

@@ -1,82 +1,36 @@
 -- Types with a name: what is spelled is read.
-use Rattle.std.proofs.Common.{List, None, Option, Some, [], arith, codes, false, inl, inr, map, max, refl, subst, sym, true, ℕ, ◌&&◌, ◌∙◌, ◌∷◌, ◌≡◌, Bool}
+use Rattle.std.proofs.Common.{Bool, List, None, Option, Some, [], arith, codes, false, inl, inr, map, max, refl, true, ℕ, ◌&&◌, ◌∙◌, ◌∷◌, ◌≡◌}
 use Rattle.std.proofs.lemmas.Bool.{and_parts}
 use Rattle.lay_piece.specs.declared.kind.Kind.TheVariants.{Ident, Punct}
-use Rattle.lay_token.specs.Operators.{is_op}
 use Rattle.lay_form.specs.Form.{Done, Fixed, Form, Operator, Part, keyword}
 use Rattle.lay_form.specs.Spelled.{IsOne, IsOperator, Spells}
 use Rattle.lay_tree.specs.Ahead.{Tokens, first, is_mark}
-use Rattle.lay_tree.specs.Begins.{lead_at}
 use Rattle.lay_tree.specs.Words.{is_name}
 use Rattle.lay_tree.specs.nodes.Facts.{ToldFront, by_itself}
 use Rattle.lay_tree.specs.nodes.Generics.{are_bounds, bounded_form, default_form, is_default, is_generics}
 use Rattle.lay_tree.specs.nodes.Heads.{about_alias, headed, may_be_given}
-use Rattle.lay_tree.specs.nodes.Where.{are_predicates, predicate_form, wheres_before_semicolon}
+use Rattle.lay_tree.specs.nodes.Where.{are_predicates, predicate_form}
 use Rattle.lay_tree.specs.reader.Exact.{Exact}
 use Rattle.lay_tree.specs.reader.Functions.{head_at}
 use Rattle.lay_tree.specs.reader.Generics.{met_if}
 use Rattle.lay_tree.specs.reader.Heads.{alias, called, given, semicolon}
 use Rattle.lay_tree.specs.reader.Types.{Within}
 use Rattle.lay_tree.specs.reader.Where.{wheres}
-use Rattle.lay_tree.specs.reader.Words.{word}
-use Rattle.lay_tree.specs.declared.generics.Wheres.{Wheres}
 use Rattle.lay_tree.specs.declared.heads.Alias.{Alias}
 use Rattle.lay_tree.specs.declared.heads.Site.{Site}
 use Rattle.lay_tree.specs.declared.types.Bound.{Bound}
 use Rattle.lay_tree.specs.declared.types.Ty.{Ty}
-use Rattle.lay_tree.proofs.Fronts.{mark_passed, one_front, one_no_op}
+use Rattle.lay_tree.proofs.Fronts.{mark_passed}
 use Rattle.lay_tree.proofs.Parts.{before_blank, bit_alone, part_alone, piece_bit}
 use Rattle.lay_tree.proofs.reader.AliasSound.{alias_told, aliases_sound}
 use Rattle.lay_tree.proofs.reader.Exact.{IsRead}
 use Rattle.lay_tree.proofs.reader.GenericsComplete.{default_behind, default_read, equals_operator, met_read}
-use Rattle.lay_tree.proofs.reader.HeadParts.{body_wheres, called_there, semicolon_ends_wheres, wheres_front, wheres_there}
+use Rattle.lay_tree.proofs.reader.HeadEnds.{tail_ends}
+use Rattle.lay_tree.proofs.reader.HeadParts.{body_wheres, called_there, semicolon_ends_wheres, wheres_there}
 use Rattle.lay_tree.proofs.reader.HeadsLevel.{CompleteHead, head_exact}
 use Rattle.lay_tree.proofs.reader.TypesComplete.{Reads}
 use Rattle.lay_tree.proofs.reader.TypesCompleteParts.{colon_operator}
-use Rattle.lay_tree.proofs.reader.TypesFronts.{Ends, EndsPattern, kind_quiet, mark_ends, op_first}
-
--- ---- what stands behind a head before its where clause
-
--- A where clause and a `;` begin so.
-abbrev pub BeforeWheres : Tokens → Type 0
-BeforeWheres ts = Ends ts × (first (is_mark (codes "<")) ts ≡ false)
-
-pub where_ends : (ts rest : Tokens) → IsOne Ident (codes "where") ts rest → BeforeWheres ts
-unfolding lead_at
-where_ends ts rest o =
-    let f = (one_front Ident (codes "where") ts rest o).1 in
-    let no : (op : List ℕ) → is_op op ts ≡ false = λ op. one_no_op op Ident (codes "where") ts rest refl o in
-    let pattern : EndsPattern ts =
-    record {
-      bar = no (codes "|");
-      at = no (codes "@");
-      brace = rw f refl;
-      dots = rw (no (codes ".."), no (codes "..=")) refl;
-      span = rw f refl;
-      rename = rw f refl;
-    } in (
-      record {
-        pattern = pattern;
-        quiet = kind_quiet Ident (codes "where") refl refl ts rest o;
-        colon = no (codes ":");
-        equals = no (codes "=");
-        bound = rw f refl;
-      },
-      rw f refl,
-    )
-
-pub semicolon_ends : (ts rest : Tokens) → IsOne Punct (codes ";") ts rest → BeforeWheres ts
-semicolon_ends ts rest o =
-    (mark_ends 59 refl refl refl refl refl refl refl refl refl refl (λ us n. rw n refl) refl ts rest o, rw (one_front Punct (codes ";") ts rest o).1 refl)
-
--- A where clause and a `;` stand there.
-pub tail_ends : (w : Wheres) (depth : ℕ) (ts mid rest : Tokens) → Spells (wheres_before_semicolon w) depth ts mid → IsOne Punct (codes ";") mid rest
-    → BeforeWheres ts
-tail_ends w depth ts mid rest s o =
-    elim (wheres_front (map predicate_form w.predicates) depth ts mid (body_wheres (map predicate_form w.predicates) depth ts mid s)) [
-      | inl e ↦ subst BeforeWheres (sym e) (semicolon_ends mid rest o)
-      | inr word ↦ where_ends ts word.0 word.1
-    ]
+use Rattle.lay_tree.proofs.reader.TypesFronts.{op_first}
 
 -- ---- no `<` begins what stands behind a name and its generic parameters
 
