@@ -55,3 +55,4 @@ pub mod PatternsExact
 pub mod HeadsLevel
 pub mod HeadParts
 pub mod Vis
+pub mod Restrictions
