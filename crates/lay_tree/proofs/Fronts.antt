@@ -35,7 +35,7 @@ only_one kind other only text k o h = subst (λ (one : Option (List ℕ)). IsTex
 
 -- ---- what a test tells
 
-ident_kind : (k : Kind) → is_ident k ≡ true → k ≡ Ident
+pub ident_kind : (k : Kind) → is_ident k ≡ true → k ≡ Ident
 ident_kind Ident h = refl
 ident_kind _ h = absurd (cc)
 

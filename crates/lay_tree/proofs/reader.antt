@@ -4,6 +4,7 @@ pub mod Loops
 pub mod Words
 pub mod SimplePath
 pub mod Tokens
+pub mod TokenLists
 pub mod Call
 pub mod Attr
 pub mod AttrRead
@@ -69,3 +70,4 @@ pub mod HeadEnds
 pub mod AliasSound
 pub mod AliasComplete
 pub mod TraitHeads
+pub mod Restrictions

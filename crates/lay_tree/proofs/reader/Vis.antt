@@ -33,7 +33,7 @@ use Rattle.lay_tree.proofs.reader.TypesSoundParts.{Out, bit_texts}
 -- ---- what restricts
 
 -- A word in parentheses stands there.
-abbrev Restriction : List ℕ → Tokens → Tokens → Type 0
+abbrev pub Restriction : List ℕ → Tokens → Tokens → Type 0
 Restriction word ts rest =
     (inside end : Tokens) × IsOne (Opener Paren) (opening Paren ∷ []) ts inside × IsOne Ident word inside end
     × IsOne (Closer Paren) (closing Paren ∷ []) end rest
@@ -162,7 +162,7 @@ module _ (word : List ℕ) (ts rest : Tokens) (r : Restriction word ts rest) whe
   paren_there : first (opens Paren) ts ≡ true
   paren_there = rw (one_front (Opener Paren) (opening Paren ∷ []) ts r.0 r.2).1 refl
 
-  restricts_there : restricts_to word ts ≡ true
+  pub restricts_there : restricts_to word ts ≡ true
   restricts_there =
       rw (
         paren_there,

@@ -1,5 +1,5 @@
 -- Runs of tokens pass over balanced ones: where they go on to a comma, over ones with no comma outside their groups.
-use Rattle.std.proofs.Common.{◌≡◌, List, [], ◌∷◌, ◌++◌, Bool, true, false, ◌||◌, Some, None, length, map, refl, sym, ap, subst, ◌∙◌}
+use Rattle.std.proofs.Common.{◌≡◌, List, [], ◌∷◌, ◌++◌, Bool, true, false, Some, None, length, map, refl, sym, ap, subst, ◌∙◌}
 use Rattle.lay_token.specs.Delimiters.{is_closer}
 use Rattle.lay_piece.specs.declared.kind.Delim.{Delim}
 use Rattle.lay_piece.specs.declared.kind.Kind.{Kind}
