@@ -2,6 +2,8 @@ pub mod Balance
 pub mod Bodies
 pub mod Breaks
 pub mod Fields
+pub mod Functions
+pub mod Heads
 pub mod Opened
 pub mod Passes
 pub mod Rules

@@ -212,16 +212,11 @@ params_pass params variadic k g w =
     (both_all plain ends_param (forms params) (dots variadic) (all_pass plain ends_param params k g p.0)
     (dots_pass variadic))
 
-unsafe_passes : (is_unsafe : Bool) {f : Form} → From plain f ends_type
-    → From plain (when is_unsafe (keyword (codes "unsafe") ∷ Blank ∷ []) f) ends_type
+pub unsafe_passes : (is_unsafe : Bool) {f : Form} {c : Border} → From plain f c
+    → From plain (when is_unsafe (keyword (codes "unsafe") ∷ Blank ∷ []) f) c
 unfolding tables
 unsafe_passes true k = fixed refl k
 unsafe_passes false k = k
-
-unsafe_pieces : (is_unsafe : Bool) (f : Form)
-    → are_pieces (when is_unsafe (keyword (codes "unsafe") ∷ Blank ∷ []) f) ≡ true → are_pieces f ≡ true
-unsafe_pieces true f w = w
-unsafe_pieces false f w = w
 
 pub func_pass : (binder : Option Binder) (is_unsafe : Bool) (abi : Option Abi) (params : List Facts) (variadic : Bool)
     (output : Option TypeFacts) → Each (Passing plain ends_param) params → Any TypePasses output
@@ -236,7 +231,7 @@ func_pass binder is_unsafe abi params variadic output k l = record {
       let f = abi_form abi e in
       let h = when is_unsafe (keyword (codes "unsafe") ∷ Blank ∷ []) f in
       let w1 = (and_parts (are_pieces (binder_form binder h)) true w).0 in
-      let w2 = unsafe_pieces is_unsafe f (binder_pieces binder h w1) in
+      let w2 = when_pieces is_unsafe (keyword (codes "unsafe") ∷ Blank ∷ []) f (binder_pieces binder h w1) in
       let w3 = and_parts (are_pieces (params_form params variadic)) (are_pieces (output_form output))
       (abi_pieces abi e w2) in
       deep refl (binder_passes binder n3.0 w1 (unsafe_passes is_unsafe (abi_passes abi n3.1 w2

@@ -8,11 +8,11 @@ use Rattle.lay_form.specs.Form.{Form, Done, Piece, opener, closer}
 use Rattle.lay_form.specs.Notation.{behind_attrs, with_commas}
 use Rattle.lay_form.specs.Notation as notation
 use Rattle.lay_form.specs.Pieces.{are_pieces}
-use Rattle.lay_tree.specs.Words.{is_name, leaf_of}
+use Rattle.lay_tree.specs.Words.{is_name}
 use Rattle.lay_tree.specs.nodes.Attr.{are_attrs, attr_form, is_empty}
 use Rattle.lay_tree.specs.nodes.Fields.{are_fields, blank_if, discriminant_form, field_form, fields_form, has_comma, is_discriminant, is_field, is_tuple_field, is_variant, may_lead, named_form, tuple_field_form, tuple_form, variant_form}
 use Rattle.lay_tree.specs.nodes.Types.{about_type, colon, good_at}
-use Rattle.lay_tree.specs.nodes.Vis.{is_vis, vis_form}
+use Rattle.lay_tree.specs.nodes.Vis.{is_vis}
 use Rattle.lay_tree.specs.tokens.Lexed.{is_token_list}
 use Rattle.lay_tree.specs.tokens.Lists.{ends_in_line}
 use Rattle.lay_tree.specs.declared.attr.Attr.{Attr}
@@ -83,8 +83,8 @@ field_passes f g w =
     let n3 = and_parts (are_attrs false f.attrs) (is_vis f.vis) n2.0 in
     let e = Piece colon (form.Part (about_type f.ty).told.form Done) in
     attributed f.attrs n3.0 w (λ p. behind_vis f.vis p (λ q.
-        let z = type_ends f.ty n1.1 (rest_pieces f.name.raw f.name.text e q) in
-        word f.name.raw f.name.text refl q (fixed refl z) (fixed refl z)))
+    let z = type_ends f.ty n1.1 (rest_pieces f.name.raw f.name.text e q) in
+    word f.name.raw f.name.text refl q (fixed refl z) (fixed refl z)))
 
 -- ---- lists of fields
 
@@ -174,10 +174,10 @@ variant_passes v g w =
     let n4 = and_parts (are_attrs false v.attrs) (is_vis v.vis) n3.0 in
     let e = form.Part (fields_form true v.fields) (form.Part (discriminant_form v.discriminant) Done) in
     attributed v.attrs n4.0 w (λ p. behind_vis v.vis p (λ q.
-        let f = fields_pass true v.fields n2.1
-        (and_parts (are_pieces (fields_form true v.fields)) _ (rest_pieces v.name.raw v.name.text e q)).0 in
-        let d = part ends_name ends_variant refl (discriminant_passes v.discriminant n1.1) (ends refl) in
-        word v.name.raw v.name.text refl q (part ends_name ends_name refl f d) (part ends_name ends_name refl f d)))
+    let f = fields_pass true v.fields n2.1
+    (and_parts (are_pieces (fields_form true v.fields)) _ (rest_pieces v.name.raw v.name.text e q)).0 in
+    let d = part ends_name ends_variant refl (discriminant_passes v.discriminant n1.1) (ends refl) in
+    word v.name.raw v.name.text refl q (part ends_name ends_name refl f d) (part ends_name ends_name refl f d)))
 
 variant_comma : field_fits ends_variant plain ≡ true
 unfolding tables
