@@ -126,7 +126,7 @@ pub named_passes : (lead : Bool) (fs : List Field) {b z : Border}
     → are_pieces (named_form lead fs) ≡ true → From b (named_form lead fs) z
 named_passes lead fs fit g w = in_braces lead field_form is_field field_passes type_comma fit fs g w
 
-tuple_fits : list_fits true (opener Paren) (closer Paren) ends_name plain ends_type ends_name ≡ true
+pub tuple_fits : list_fits true (opener Paren) (closer Paren) ends_name plain ends_type ends_name ≡ true
 unfolding tables
 tuple_fits = refl
 

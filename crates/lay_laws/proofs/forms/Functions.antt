@@ -119,17 +119,17 @@ safety_pieces : (s : Option Safety) (f : Form) → are_pieces (safety_form s f) 
 safety_pieces None f w = w
 safety_pieces (Some s) f w = w
 
-const_passes : (is_const : Bool) {f : Form} {c : Border} → From plain f c
+const_word_passes : (is_const : Bool) {f : Form} {c : Border} → From plain f c
     → From plain (when is_const (keyword (codes "const") ∷ Blank ∷ []) f) c
 unfolding tables
-const_passes true k = fixed refl k
-const_passes false k = k
+const_word_passes true k = fixed refl k
+const_word_passes false k = k
 
-async_passes : (is_async : Bool) {f : Form} {c : Border} → From plain f c
+async_word_passes : (is_async : Bool) {f : Form} {c : Border} → From plain f c
     → From plain (when is_async (keyword (codes "async") ∷ Blank ∷ []) f) c
 unfolding tables
-async_passes true k = fixed refl k
-async_passes false k = k
+async_word_passes true k = fixed refl k
+async_word_passes false k = k
 
 pub fn_head_passes : (site : Site) (h : FnHead) → is_fn_head site h ≡ true → are_pieces (fn_head_form h) ≡ true
     → From plain (fn_head_form h) ends_type
@@ -153,5 +153,5 @@ fn_head_passes site h g w =
     let w2 = when_pieces h.is_async (keyword (codes "async") ∷ Blank ∷ []) s w1 in
     let w3 = safety_pieces h.safety a w2 in
     let w4 = abi_pieces h.abi e w3 in
-    const_passes h.is_const (async_passes h.is_async (safety_passes h.safety (abi_passes h.abi n5.1 w3
+    const_word_passes h.is_const (async_word_passes h.is_async (safety_passes h.safety (abi_passes h.abi n5.1 w3
     (fixed refl (signature_passes h n3.1 n2.1 n1.1 w4)))))

@@ -2,9 +2,8 @@
 use Rattle.std.proofs.Common.{◌≡◌, inl, inr, List, [], ◌∷◌, Bool, true, false, not, ◌&&◌, ◌||◌, refl, codes, Option, Some, None}
 use Rattle.std.specs.List.{list_all}
 use Rattle.std.proofs.lemmas.Bool.{and_parts}
-use Rattle.lay_piece.specs.declared.kind.Delim.TheVariants.{Paren}
 use Rattle.lay_form.specs.Form as form
-use Rattle.lay_form.specs.Form.{Blank, Form, Done, Piece, keyword, opener, closer, semicolon}
+use Rattle.lay_form.specs.Form.{Bit, Blank, Form, Done, Piece, keyword, opener, closer, semicolon}
 use Rattle.lay_form.specs.Notation.{I0, piece}
 use Rattle.lay_form.specs.Pieces.{are_pieces}
 use Rattle.lay_tree.specs.Words.{is_name, leaf_of}
@@ -36,13 +35,13 @@ use Rattle.lay_tree.specs.declared.types.TypePlace.TheVariants.{Bounds}
 use Rattle.lay_tree.specs.declared.vis.Vis.{Vis}
 use Rattle.lay_laws.proofs.borders.Border.{Border}
 use Rattle.lay_laws.proofs.forms.Passes.{plain}
-use Rattle.lay_laws.proofs.forms.Rules.{tables, From, ends, fixed, within, part, list_fits, body_fits, where_fits, under-refl}
-use Rattle.lay_laws.proofs.file.Nodes.{ends_name, ends_use, word, rest_pieces, when_pieces, rename_passes}
+use Rattle.lay_laws.proofs.forms.Rules.{tables, From, ends, fixed, within, part, body_fits, where_fits, under-refl}
+use Rattle.lay_laws.proofs.file.Nodes.{ends_name, ends_line, ends_use, word, rest_pieces, when_pieces, rename_passes}
 use Rattle.lay_laws.proofs.file.TypeParts.{ends_type, param_name_passes, param_name_pieces}
 use Rattle.lay_laws.proofs.file.TypeKinds.{mutable_passes, unsafe_passes}
 use Rattle.lay_laws.proofs.file.Types.{path_passes}
 use Rattle.lay_laws.proofs.file.Generics.{bounded_passes, default_passes, generics_pass, ends_predicate, body_wheres_pass, semicolon_wheres_pass, behind_generics, behind_type}
-use Rattle.lay_laws.proofs.forms.Fields.{type_ends, tuple_passes, named_passes, variants_pass}
+use Rattle.lay_laws.proofs.forms.Fields.{type_ends, tuple_fits, tuple_passes, named_passes, variants_pass}
 use Rattle.lay_laws.proofs.forms.Functions.{behind_name}
 use Rattle.lay_laws.proofs.forms.Vis.{behind_vis}
 
@@ -92,11 +91,17 @@ body_tail {b} wheres {f} fit g w k =
     let p = and_parts (are_pieces (wheres_before_body wheres)) (are_pieces f) w in
     part b ends_predicate (under-refl b) (body_wheres_pass wheres fit g p.0) (k p.1)
 
--- braces of parts behind a where clause, with a leading blank and without one
+-- fields or variants in braces behind a where clause, with a leading blank and without one
 pub braces_fit : (lead : Bool) → body_fits (blank_if lead) [] ends_predicate plain plain plain ≡ true
 unfolding tables
 braces_fit true = refl
 braces_fit false = refl
+
+-- items in braces there
+pub items_fit : (lead : Bool) → body_fits (blank_if lead) [] ends_predicate plain ends_line plain ≡ true
+unfolding tables
+items_fit true = refl
+items_fit false = refl
 
 -- ---- what is outside
 
@@ -143,10 +148,6 @@ alias_passes site x = record {
         ((and_parts (is_name x.name.raw x.name.text) (is_generics x.generics) n4.0).1, n4.1, n3.1, n2.1)
 
 -- ---- structs, unions and enumerations
-
-tuple_fits : list_fits true (opener Paren) (closer Paren) ends_name plain ends_type ends_name ≡ true
-unfolding tables
-tuple_fits = refl
 
 head_fields_pass : (fs : Fields) → are_fields fs ≡ true → are_pieces (head_fields fs) ≡ true
     → From ends_name (head_fields fs) ends_name
@@ -241,7 +242,7 @@ value_head_passes (value.Static mutable name x) g w =
 
 -- ---- traits
 
-abbrev unsafe_word : List form.Bit
+abbrev unsafe_word : List Bit
 unsafe_word = keyword (codes "unsafe") ∷ Blank ∷ []
 
 pub trait_head_passes : (x : TraitHead) → is_trait_head x ≡ true → are_pieces (trait_head_form x) ≡ true
