@@ -4,6 +4,7 @@ pub mod Breaks
 pub mod Fields
 pub mod Functions
 pub mod Heads
+pub mod HeadsFirst
 pub mod Opened
 pub mod Passes
 pub mod Rules
