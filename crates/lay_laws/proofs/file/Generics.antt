@@ -188,7 +188,7 @@ body_pieces (e ∷ es) w =
     let q = (and_parts (are_pieces (each comma_gap es)) true p.1).0 in
     and_from (are_pieces e) (list_all are_pieces es) p.0 (each_pieces comma_gap (λ f. refl) es q)
 
-pub semicolon_pieces : (es : List Form) → are_pieces (where_semicolon es) ≡ true → are_pieces (where_body es) ≡ true
+semicolon_pieces : (es : List Form) → are_pieces (where_semicolon es) ≡ true → are_pieces (where_body es) ≡ true
 semicolon_pieces [] w = refl
 semicolon_pieces (e ∷ es) w = w
 
