@@ -1,9 +1,14 @@
 pub mod Balance
 pub mod Bodies
 pub mod Breaks
+pub mod Fields
+pub mod Functions
+pub mod Heads
+pub mod HeadsFirst
 pub mod Opened
 pub mod Passes
 pub mod Rules
 pub mod Sound
 pub mod Texts
+pub mod Vis
 pub mod Walk

@@ -45,7 +45,7 @@ pub bounds_list_passes : (bs : List Bound) → are_bounds bs ≡ true → is_the
 bounds_list_passes [] g h w = cc
 bounds_list_passes (b ∷ bs) g h w = bounds_pass (map about_bound (b ∷ bs)) (each_bound (b ∷ bs)) g w
 
-bounded_passes : (bs : List Bound) → are_bounds bs ≡ true → are_pieces (bounded_form bs) ≡ true
+pub bounded_passes : (bs : List Bound) → are_bounds bs ≡ true → are_pieces (bounded_form bs) ≡ true
     → From ends_name (bounded_form bs) ends_type
 unfolding tables
 bounded_passes [] g w = left_out refl refl (ends refl)
@@ -53,7 +53,7 @@ bounded_passes (b ∷ bs) g w =
     let p = (and_parts (are_pieces (bounds_form (map about_bound (b ∷ bs)))) true w).0 in
     fixed refl (part plain ends_type refl (bounds_list_passes (b ∷ bs) g refl p) (ends refl))
 
-default_passes : (x : Option Ty) → is_default x ≡ true → are_pieces (default_form x) ≡ true
+pub default_passes : (x : Option Ty) → is_default x ≡ true → are_pieces (default_form x) ≡ true
     → From ends_type (default_form x) ends_type
 unfolding tables
 default_passes None g w = ends refl

@@ -30,7 +30,7 @@ use Rattle.lay_laws.proofs.borders.Move.{under}
 use Rattle.lay_laws.proofs.forms.Opened.{bits_open, is_even, even}
 use Rattle.lay_laws.proofs.forms.Passes.{plain}
 use Rattle.lay_laws.proofs.forms.Rules.{tables, From, All, Leads, under-refl, wider, ends, simple, fixed, dotted, breaks, within, part, level, left_out, each_part, with_outer, list_fits, list, braces_fit, bracing}
-use Rattle.lay_laws.proofs.file.Nodes.{behind_word, behind_raw, ends_line, word, rest_pieces, each_pieces, list_pieces, both_pieces, both_all, outer_pieces, attrs_pass}
+use Rattle.lay_laws.proofs.file.Nodes.{behind_word, behind_raw, ends_line, word, rest_pieces, when_pieces, each_pieces, list_pieces, both_pieces, both_all, outer_pieces, attrs_pass}
 use Rattle.lay_laws.proofs.file.TypeParts.{ends_type, ends_arg, leaf_passes, joined_pieces}
 use Rattle.lay_laws.proofs.file.TypeArgs.{Any, Each, Passing, all_pass, words_lead}
 use Rattle.lay_laws.proofs.file.Types.{begins_path, path_passes_at}
@@ -161,10 +161,6 @@ name_passes : (b : Border) → words_lead b ≡ true → (raw : Bool) (t : List 
     → From b (leaf_of raw t (bound_form of)) ends_pat
 name_passes b h raw t of k g w =
     let l = bound_passes of k g (rest_pieces raw t (bound_form of) w) in word raw t h w l.0 l.1
-
-when_pieces : (there : Bool) (p : List Bit) (f : Form) → are_pieces (when there p f) ≡ true → are_pieces f ≡ true
-when_pieces true p f w = w
-when_pieces false p f w = w
 
 pub bind_pass : (ref mutable : Bool) (name : Name) (of : Option PatFacts) → Any PatPasses of
     → PatPasses (pat_facts (Pat-F.Bind ref mutable name of))

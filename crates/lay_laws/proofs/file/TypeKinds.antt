@@ -28,7 +28,7 @@ use Rattle.lay_laws.proofs.forms.Passes.{plain}
 use Rattle.lay_laws.proofs.forms.Rules.{tables, On, From, All, ends, fixed, dotted, part, level, list_fits, list}
 use Rattle.lay_laws.proofs.tokens.Rows.{list_end}
 use Rattle.lay_laws.proofs.tokens.Within.{listed}
-use Rattle.lay_laws.proofs.file.Nodes.{behind_word, list_pieces, both_pieces, both_all, call_passes}
+use Rattle.lay_laws.proofs.file.Nodes.{behind_word, list_pieces, both_pieces, both_all, call_passes, when_pieces}
 use Rattle.lay_laws.proofs.file.TypeParts.{ends_lifetime, ends_type, lifetime_passes, param_attrs_pass, param_attrs_pieces, binder_passes, binder_pieces, abi_passes, abi_pieces, param_name_passes, param_name_pieces}
 use Rattle.lay_laws.proofs.file.TypeArgs.{Any, Each, Passing, PathPasses, TypePasses, all_pass, bounds_pass, output_passes, types_pass}
 
@@ -124,25 +124,20 @@ pointer_pass mutable x k = record {
       (part plain ends_type refl (k.go (and_parts x.told.good _ g).0 p) (ends refl)));
 }
 
-mutable_passes : (mutable : Bool) {f : Form} → From plain f ends_type
-    → From plain (when mutable (keyword (codes "mut") ∷ Blank ∷ []) f) ends_type
+pub mutable_passes : (mutable : Bool) {f : Form} {c : Border} → From plain f c
+    → From plain (when mutable (keyword (codes "mut") ∷ Blank ∷ []) f) c
 unfolding tables
 mutable_passes true k = fixed refl k
 mutable_passes false k = k
 
-mutable_pieces : (mutable : Bool) (f : Form)
-    → are_pieces (when mutable (keyword (codes "mut") ∷ Blank ∷ []) f) ≡ true → are_pieces f ≡ true
-mutable_pieces true f w = w
-mutable_pieces false f w = w
-
-borrow_passes : (lifetime : Option Lifetime) {f : Form} → are_pieces (ref_lifetime lifetime f) ≡ true
-    → From plain f ends_type → From plain (ref_lifetime lifetime f) ends_type
+pub borrow_passes : (lifetime : Option Lifetime) {f : Form} {c : Border} → are_pieces (ref_lifetime lifetime f) ≡ true
+    → From plain f c → From plain (ref_lifetime lifetime f) c
 unfolding tables
 borrow_passes None w k = k
 borrow_passes (Some l) w k =
     part plain ends_lifetime refl (lifetime_passes l (and_parts (are_pieces (lifetime_form l)) _ w).0) (fixed refl k)
 
-borrow_pieces : (lifetime : Option Lifetime) (f : Form) → are_pieces (ref_lifetime lifetime f) ≡ true
+pub borrow_pieces : (lifetime : Option Lifetime) (f : Form) → are_pieces (ref_lifetime lifetime f) ≡ true
     → are_pieces f ≡ true
 borrow_pieces None f w = w
 borrow_pieces (Some l) f w = (and_parts (are_pieces (lifetime_form l)) (are_pieces f) w).1
@@ -155,7 +150,7 @@ reference_pass lifetime mutable x k = record {
       let e = form.Part x.told.form Done in
       let f = when mutable (keyword (codes "mut") ∷ Blank ∷ []) e in
       let p = (and_parts (are_pieces (ref_lifetime lifetime f)) true w).0 in
-      let q = mutable_pieces mutable e (borrow_pieces lifetime f p) in
+      let q = when_pieces mutable (keyword (codes "mut") ∷ Blank ∷ []) e (borrow_pieces lifetime f p) in
       deep refl (fixed refl (borrow_passes lifetime p (mutable_passes mutable
       (part plain ends_type refl
       (k.go (and_parts x.told.good _ g).0 (and_parts (are_pieces x.told.form) true q).0) (ends refl)))));
@@ -217,16 +212,11 @@ params_pass params variadic k g w =
     (both_all plain ends_param (forms params) (dots variadic) (all_pass plain ends_param params k g p.0)
     (dots_pass variadic))
 
-unsafe_passes : (is_unsafe : Bool) {f : Form} → From plain f ends_type
-    → From plain (when is_unsafe (keyword (codes "unsafe") ∷ Blank ∷ []) f) ends_type
+pub unsafe_passes : (is_unsafe : Bool) {f : Form} {c : Border} → From plain f c
+    → From plain (when is_unsafe (keyword (codes "unsafe") ∷ Blank ∷ []) f) c
 unfolding tables
 unsafe_passes true k = fixed refl k
 unsafe_passes false k = k
-
-unsafe_pieces : (is_unsafe : Bool) (f : Form)
-    → are_pieces (when is_unsafe (keyword (codes "unsafe") ∷ Blank ∷ []) f) ≡ true → are_pieces f ≡ true
-unsafe_pieces true f w = w
-unsafe_pieces false f w = w
 
 pub func_pass : (binder : Option Binder) (is_unsafe : Bool) (abi : Option Abi) (params : List Facts) (variadic : Bool)
     (output : Option TypeFacts) → Each (Passing plain ends_param) params → Any TypePasses output
@@ -241,7 +231,7 @@ func_pass binder is_unsafe abi params variadic output k l = record {
       let f = abi_form abi e in
       let h = when is_unsafe (keyword (codes "unsafe") ∷ Blank ∷ []) f in
       let w1 = (and_parts (are_pieces (binder_form binder h)) true w).0 in
-      let w2 = unsafe_pieces is_unsafe f (binder_pieces binder h w1) in
+      let w2 = when_pieces is_unsafe (keyword (codes "unsafe") ∷ Blank ∷ []) f (binder_pieces binder h w1) in
       let w3 = and_parts (are_pieces (params_form params variadic)) (are_pieces (output_form output))
       (abi_pieces abi e w2) in
       deep refl (binder_passes binder n3.0 w1 (unsafe_passes is_unsafe (abi_passes abi n3.1 w2

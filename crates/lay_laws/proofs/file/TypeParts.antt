@@ -224,6 +224,13 @@ string_passes kind.Str t h w k = leaf_passes kind.Str t refl w (fixed refl k)
 string_passes kind.RawStr t h w k = leaf_passes kind.RawStr t refl w (fixed refl k)
 string_passes _ t h w k = cc
 
+-- the same without a blank, as a literal
+pub string_literal_passes : (k : Kind) (t : List ℕ) → is_string k t ≡ true → is_text_of k t ≡ true
+    → From plain (Leaf k t Done) ends_arg
+string_literal_passes kind.Str t h w = literal_passes kind.Str t refl w
+string_literal_passes kind.RawStr t h w = literal_passes kind.RawStr t refl w
+string_literal_passes _ t h w = cc
+
 abi_name_passes : (name : Option Literal) {f : Form} {c : Border} → is_abi_name name ≡ true
     → are_pieces (abi_name name f) ≡ true → From plain f c → From plain (abi_name name f) c
 abi_name_passes None g w k = k
