@@ -55,3 +55,5 @@ pub mod HeadsLevel
 pub mod HeadParts
 pub mod FunctionsSoundParams
 pub mod FunctionsSound
+pub mod FunctionsStarts
+pub mod FunctionsPatterns
