@@ -57,3 +57,4 @@ pub mod FunctionsSoundParams
 pub mod FunctionsSound
 pub mod FunctionsStarts
 pub mod FunctionsPatterns
+pub mod FunctionsCompleteParams
