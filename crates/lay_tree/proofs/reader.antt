@@ -71,3 +71,6 @@ pub mod AliasSound
 pub mod AliasComplete
 pub mod TraitHeads
 pub mod Restrictions
+pub mod FunctionsStarts
+pub mod FunctionsPatterns
+pub mod FunctionsCompleteParams
