@@ -32,6 +32,7 @@ pub mod ItemBodies
 pub mod ItemSound
 pub mod ItemLeads
 pub mod ItemReads
+pub mod ItemKinds
 pub mod Item
 pub mod ItemRead
 pub mod File
@@ -65,10 +66,7 @@ pub mod AliasSound
 pub mod AliasComplete
 pub mod FunctionsSoundParams
 pub mod FunctionsSound
-pub mod HeadParts
 pub mod HeadEnds
-pub mod AliasSound
-pub mod AliasComplete
 pub mod TraitHeads
 pub mod Restrictions
 pub mod FunctionsStarts

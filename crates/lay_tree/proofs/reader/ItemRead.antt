@@ -1,126 +1,89 @@
 -- Items: what is spelled, and well formed, is read.
-use Rattle.std.proofs.Common.{◌≡◌, ℕ, zero, suc, ◌<◌, ◌≤◌, Bool, true, false, not, ◌&&◌, List, [], ◌∷◌, ◌++◌, length, map, drop, codes, Some, None, refl, sym, ap, ◌∙◌, subst, arith}
+use Rattle.std.proofs.Common.{◌≡◌, ℕ, zero, suc, ◌≤◌, max, Bool, true, false, ◌&&◌, ◌||◌, not, List, [], ◌∷◌, map, drop, codes, Option, Some, None, inl, inr, refl, sym, ap, subst, ◌∙◌, arith}
 use Rattle.std.proofs.lemmas.Bool.{and_parts}
-use Rattle.lay_piece.specs.Forms.{opening, closing}
 use Rattle.std.specs.Prelude.{is_some}
-use Rattle.std.specs.Str.{bytes_eq}
-use Rattle.lay_token.specs.Delimiters.{is_opener}
-use Rattle.lay_token.specs.Lexes.{is_punct}
-use Rattle.lay_token.specs.Operators.{op_at, is_op}
-use Rattle.lay_piece.specs.Word.{class_of}
-use Rattle.lay_token.proofs.Deciding.{punct_is}
+use Rattle.lay_piece.specs.Forms.{opening, closing}
 use Rattle.lay_piece.specs.declared.kind.Delim.{Delim}
 use Rattle.lay_piece.specs.declared.kind.Delim.TheVariants.{Paren, Bracket, Brace}
-use Rattle.lay_piece.specs.declared.kind.Kind.{Kind}
-use Rattle.lay_piece.specs.declared.kind.Kind.TheVariants.{Ident, RawIdent, Punct, Opener, Closer}
-use Rattle.lay_form.specs.Form.{Blank, Operator, Form, Done, Piece, Part, keyword, punct, semicolon}
-use Rattle.lay_form.specs.Notation.{I0, piece, body}
+use Rattle.lay_piece.specs.declared.kind.Kind.TheVariants.{Ident, Punct, Opener, Closer}
+use Rattle.lay_form.specs.Form.{Blank, Done, Fixed, Form, Operator, Part, Piece, keyword, semicolon}
+use Rattle.lay_form.specs.Notation.{I0, piece}
 use Rattle.lay_form.specs.Spelled.{IsOne, IsOperator, Spells}
-use Rattle.lay_form.proofs.FormLaws.{shorter}
-use Rattle.lay_tree.specs.Ahead.{Tokens, first, is_keyword}
-use Rattle.lay_tree.specs.Follow.{may_follow}
-use Rattle.lay_tree.specs.Words.{is_path_class, is_name, leaf_of}
-use Rattle.lay_tree.specs.nodes.Attr.{are_attrs, attr_form, about_attr}
-use Rattle.lay_tree.specs.nodes.Call.{is_group, before_rules, end_form}
-use Rattle.lay_tree.specs.nodes.Facts.{Facts, forms, all_good, Front}
-use Rattle.lay_tree.specs.nodes.Item.{kind_form, about_item, about_kind}
-use Rattle.lay_tree.specs.nodes.SimplePath.{simple_path_form}
-use Rattle.lay_tree.specs.nodes.Use.{about_use}
-use Rattle.lay_tree.specs.reader.Attr.{begins_attr, attributes}
-use Rattle.lay_tree.specs.reader.Call.{call, behind_end}
-use Rattle.lay_tree.specs.reader.Exact.{Exact}
-use Rattle.lay_tree.specs.reader.Item.{ends_items, more_items, items_by, struct_item, module_by, import_by, begins_rules, rules_item, call_item, kind_by, item_by, item_at}
-use Rattle.lay_tree.specs.reader.Loops.{Got, ◌>>=◌, Read, nodes, deepest}
+use Rattle.lay_tree.specs.Ahead.{Tokens, first, is_keyword, is_mark, tail}
+use Rattle.lay_tree.specs.Words.{is_name, leaf_of}
+use Rattle.lay_tree.specs.nodes.Attr.{are_attrs}
+use Rattle.lay_tree.specs.nodes.Call.{before_rules, end_form, is_group}
+use Rattle.lay_tree.specs.nodes.Functions.{is_fn_head, output_follows}
+use Rattle.lay_tree.specs.nodes.Generics.{bounded_form, generics_form, is_generics}
+use Rattle.lay_tree.specs.nodes.Heads.{about_enum, about_extern_crate, about_struct, about_union, about_value_head, called, ends_head, head_fields, is_impl_head, is_trait_head, is_value_head, leads, struct_tail, trait_ref_form, value_follows, value_head_form}
+use Rattle.lay_tree.specs.nodes.Item as node
+use Rattle.lay_tree.specs.nodes.Item.{about_foreign, about_impl, about_import, about_item, about_module, about_trait, foreign_abi, in_module, is_inherited, items_good, may_lack_body, may_lack_value, module_head, rules_form, told_of_item, told_of_kind}
+use Rattle.lay_tree.specs.nodes.Types.{about_type, good_at, is_abi_name, is_given, type_follows}
+use Rattle.lay_tree.specs.nodes.Use.{about_use, rename_form}
+use Rattle.lay_tree.specs.nodes.Where.{are_predicates, predicate_form, wheres_before_body}
+use Rattle.lay_tree.specs.reader.Attr.{attributes}
+use Rattle.lay_tree.specs.reader.Call.{behind_end, call}
+use Rattle.lay_tree.specs.reader.Functions.{fn_head, insides}
+use Rattle.lay_tree.specs.reader.Heads.{impl_head, trait_head, unsafe_flag, value_head}
+use Rattle.lay_tree.specs.reader.Item.{ItemLead, ItemWithin, OfAlias, OfCall, OfEnum, OfExternCrate, OfForeign, OfFunction, OfImpl, OfImport, OfModule, OfRules, OfStruct, OfTrait, OfUnion, OfValue, call_item, foreign_by, function_by, impl_by, import_by, item_at, item_body, item_by, item_lead, kind_at, kind_by, may_stand, module_by, rules_item, trait_by, value_by}
 use Rattle.lay_tree.specs.reader.Tokens.{group}
+use Rattle.lay_tree.specs.reader.Types.{if_there, is_string_token, literal}
 use Rattle.lay_tree.specs.reader.Use.{use_at}
-use Rattle.lay_tree.specs.reader.Words.{name_by, name}
+use Rattle.lay_tree.specs.reader.Vis.{visibility}
+use Rattle.lay_tree.specs.reader.Where.{wheres}
 use Rattle.lay_tree.specs.tokens.Lists.{group_form}
 use Rattle.lay_tree.specs.declared.attr.Attr.{Attr}
+use Rattle.lay_tree.specs.declared.functions.FnHead.{FnHead}
+use Rattle.lay_tree.specs.declared.generics.Generics.{Generics}
+use Rattle.lay_tree.specs.declared.generics.Wheres.{Wheres}
+use Rattle.lay_tree.specs.declared.heads.Alias.{Alias}
+use Rattle.lay_tree.specs.declared.heads.Enum.{Enum}
+use Rattle.lay_tree.specs.declared.heads.ExternCrate.{ExternCrate}
+use Rattle.lay_tree.specs.declared.heads.ImplHead.{ImplHead}
+use Rattle.lay_tree.specs.declared.heads.Site.{Site}
+use Rattle.lay_tree.specs.declared.heads.Site.TheVariants as site
+use Rattle.lay_tree.specs.declared.heads.Struct.{Struct}
+use Rattle.lay_tree.specs.declared.heads.TraitHead.{TraitHead}
+use Rattle.lay_tree.specs.declared.heads.Union.{Union}
+use Rattle.lay_tree.specs.declared.heads.ValueHead.{ValueHead}
+use Rattle.lay_tree.specs.declared.heads.ValueHead.TheVariants as value
 use Rattle.lay_tree.specs.declared.item.Item.{Item}
 use Rattle.lay_tree.specs.declared.item.ItemKind.{ItemKind}
 use Rattle.lay_tree.specs.declared.item.ItemKind.TheVariants as item
+use Rattle.lay_tree.specs.declared.token.Literal.{Literal}
 use Rattle.lay_tree.specs.declared.token.Name.{Name}
-use Rattle.lay_tree.specs.declared.item.ItemKind.TheOpen.{ItemKind-F}
 use Rattle.lay_tree.specs.declared.tokens.Group.{Group}
 use Rattle.lay_tree.specs.declared.tokens.MacroCall.{MacroCall}
+use Rattle.lay_tree.specs.declared.types.Ty.{Ty}
+use Rattle.lay_tree.specs.declared.types.TypePlace.TheVariants.{Bounds}
 use Rattle.lay_tree.specs.declared.use_tree.UseTree.{UseTree}
 use Rattle.lay_tree.proofs.Follow.{quiet_follows, semicolon_quiet}
-use Rattle.lay_tree.proofs.Fronts.{mark_passed, opener_passed, closer_passed, one_front, one_shorter, op_front, op_test, op_text, op_shorter, other_op}
-use Rattle.lay_tree.proofs.Parts.{Rows, rows_parts, rows_good, GoodAt, SpelledAt, behind_attrs_rows, body_rows, before_blank, piece_bit, part_alone, leaf_alone, leaf_parts, word_kind}
-use Rattle.lay_tree.proofs.nodes.ItemLaws.{KindView, IsStruct, IsModule, IsImport, IsRules, IsCall, kind_view, item_is, struct_is, module_is, import_is, rules_is, call_is}
-use Rattle.lay_tree.proofs.reader.Attr.{attrs_rows}
-use Rattle.lay_tree.proofs.reader.AttrRead.{attr_shorter, BeginsItem, outer_begins_item, attributes_complete}
-use Rattle.lay_tree.proofs.reader.Call.{end_read, SpelledCall, call_complete}
-use Rattle.lay_tree.proofs.reader.Exact.{Stands, IsRead, Complete, exact}
-use Rattle.lay_tree.proofs.reader.Item.{item_sound}
-use Rattle.lay_tree.proofs.reader.Needs.{nodes_complete}
-use Rattle.lay_tree.proofs.reader.SimplePath.{SimplePathFront, OfLead, OfWord, OfOne, simple_path_front, simple_path_no_keyword}
+use Rattle.lay_tree.proofs.Fronts.{mark_passed, one_front}
+use Rattle.lay_tree.proofs.Parts.{before_blank, behind_blank, bit_alone, leaf_alone, leaf_parts, part_alone, piece_bit, word_kind}
+use Rattle.lay_tree.proofs.nodes.ItemLaws as laws
+use Rattle.lay_tree.proofs.nodes.ItemLaws.{KindView, IsExternCrate, IsImport, IsFileModule, IsModule, IsFunction, IsAlias, IsStruct, IsUnion, IsEnum, IsValue, IsTrait, IsImpl, IsForeign, IsRules, IsCall, kind_view}
+use Rattle.lay_tree.proofs.reader.AliasComplete.{alias_begins}
+use Rattle.lay_tree.proofs.reader.AttrRead.{attributes_complete}
+use Rattle.lay_tree.proofs.reader.Call.{call_complete, end_read}
+use Rattle.lay_tree.proofs.reader.Exact.{Complete, IsRead, Stands}
+use Rattle.lay_tree.proofs.reader.HeadEnds.{semicolon_ends, tail_ends}
+use Rattle.lay_tree.proofs.reader.HeadParts.{body_wheres, brace_ends_wheres, semicolon_ends_wheres, wheres_front, wheres_there}
+use Rattle.lay_tree.proofs.reader.HeadsLevel.{insides_reads}
+use Rattle.lay_tree.proofs.reader.ItemKinds.{body_read, item_none, item_parts, vis_begins}
+use Rattle.lay_tree.proofs.reader.ItemLeads.{kind_front, spelled_as}
+use Rattle.lay_tree.proofs.reader.ItemReads.{HeadsComplete, alias_lead, call_lead, const_lead, enum_lead, extern_crate_lead, foreign_front, foreign_lead, function_lead, impl_lead, import_lead, module_lead, rules_lead, static_lead, struct_lead, trait_lead, union_lead, unsafe_impl_lead, unsafe_lead, unsafe_trait_lead}
+use Rattle.lay_tree.proofs.reader.ItemSound.{KindAt}
+use Rattle.lay_tree.proofs.reader.OutsideExact.{crate_words}
+use Rattle.lay_tree.proofs.reader.PatternsCompletePaths.{PatReads}
+use Rattle.lay_tree.proofs.reader.PatternsFronts.{free_quiet}
 use Rattle.lay_tree.proofs.reader.Tokens.{group_complete}
+use Rattle.lay_tree.proofs.reader.TypesComplete.{and_none}
+use Rattle.lay_tree.proofs.reader.TypesCompleteParts.{flag_complete, keyword_there, literal_complete, one_left}
+use Rattle.lay_tree.proofs.reader.TypesFronts.{Ends}
 use Rattle.lay_tree.proofs.reader.Use.{use_complete}
+use Rattle.lay_tree.proofs.reader.ValueHeads.{value_begins}
+use Rattle.lay_tree.proofs.reader.Vis.{vis_complete, vis_may}
 use Rattle.lay_tree.proofs.reader.Words.{GoodName, name_complete}
-
--- ---- the front of an item
-
--- the keyword that leads a head, and that no more tokens are left than behind it
-abbrev Led : Tokens → Tokens → Type 0
-Led ts rest = (word : List ℕ) × (mid : Tokens) × IsOne Ident word ts mid × (length rest ≤ length mid)
-
-head_keyword : (word : List ℕ) (i f : Form) (depth : ℕ) (ts rest : Tokens) → Spells (I0 (Piece (keyword word ∷ Blank ∷ []) i) f) depth ts rest
-    → (mid end : Tokens) × IsOne Ident word ts mid × Spells i depth mid end × Spells f depth end rest
-head_keyword word i f depth ts rest s = let head = s.1 in (head.0, s.0, before_blank (keyword word) ts head.0 head.1, head.2, s.2)
-
-head_leads : (word : List ℕ) (i f : Form) (depth : ℕ) (ts rest : Tokens) → Spells (I0 (Piece (keyword word ∷ Blank ∷ []) i) f) depth ts rest → Led ts rest
-head_leads word i f depth ts rest s =
-    let h = head_keyword word i f depth ts rest s in
-    let inner = shorter i depth h.0 h.1 h.3 in
-    let behind = shorter f depth h.1 rest h.4 in
-    (word, h.0, h.2, omega (arith, inner, behind))
-
-abbrev module_body : List Attr → List Item → Form
-module_body attrs items = body (Blank ∷ []) [] (map attr_form attrs ++ forms (map about_item items))
-
--- A keyword begins an item, and no attribute.
-keyword_begins : (word : List ℕ) (ts rest : Tokens) → IsOne Ident word ts rest → BeginsItem ts × (begins_attr false ts ≡ false)
-keyword_begins word ts rest o = let f = one_front Ident word ts rest o in ((rw f.1 refl, rw f.1 refl), rw f.1 refl)
-
--- An item begins, and no attribute; fewer tokens are left.
-abbrev Begins : Tokens → Tokens → Type 0
-Begins ts rest = BeginsItem ts × (begins_attr false ts ≡ false) × (length rest < length ts)
-
-led_begins : (ts rest : Tokens) → Led ts rest → Begins ts rest
-led_begins ts rest l =
-    let b = keyword_begins l.0 ts l.1 l.2 in (b.0, b.1, omega (arith, one_shorter Ident l.0 ts l.1 l.2, l.3))
-
-word_begins : (raw : Bool) (text : List ℕ) (ts rest : Tokens) → IsOne (word_kind raw) text ts rest → BeginsItem ts × (begins_attr false ts ≡ false)
-word_begins true text ts rest o = let f = one_front RawIdent text ts rest o in ((rw f.1 refl, rw f.1 refl), rw f.1 refl)
-word_begins false text ts rest o = keyword_begins text ts rest o
-
-colons_begin : (ts : Tokens) → is_op (codes "::") ts ≡ true → BeginsItem ts × (begins_attr false ts ≡ false)
-unfolding op_at
-colons_begin [] h = absurd (cc)
-colons_begin (t ∷ ts) h =
-    let k : t.kind ≡ Punct = punct_is t.kind (op_test is_punct (codes "::") (t ∷ ts) h) in
-    let x = op_text 58 (codes ":") t ts h in
-    ((rw k refl, rw (k, x.1) refl), rw (k, x.1) refl)
-
-call_begins : (c : MacroCall) (depth : ℕ) (ts rest : Tokens) → SpelledCall c depth ts rest → Begins ts rest
-call_begins c depth ts rest s =
-    let b = by (simple_path_front c.path depth ts s.mid s.good s.path) in (
-      b.0,
-      b.1,
-      omega (
-        arith,
-        shorter (simple_path_form c.path) depth ts s.mid s.path,
-        op_shorter 33 [] s.mid s.within s.mark,
-        s.group.less,
-        ap length s.group.after,
-      ),
-    )
-  where
-    by : SimplePathFront ts s.mid → BeginsItem ts × (begins_attr false ts ≡ false)
-    by (OfLead h) = colons_begin ts h
-    by (OfWord raw text at o h) = word_begins raw text ts at o
-    by (OfOne raw text o) = word_begins raw text ts s.mid o
 
 -- what spells a declaration of a macro
 record SpelledRules (n : Name) (g : Group) (depth : ℕ) (ts rest : Tokens) : Type 0 where
@@ -132,7 +95,7 @@ record SpelledRules (n : Name) (g : Group) (depth : ℕ) (ts rest : Tokens) : Ty
   name : IsOne (word_kind n.raw) n.text named end
   rules : Spells (group_form g (end_form g.delim)) depth end rest
 
-rules_parts : (n : Name) (g : Group) (depth : ℕ) (ts rest : Tokens) → Spells (kind_form (ItemKind-F.MacroRules n g)) depth ts rest → SpelledRules n g depth ts rest
+rules_parts : (n : Name) (g : Group) (depth : ℕ) (ts rest : Tokens) → Spells (rules_form n g) depth ts rest → SpelledRules n g depth ts rest
 rules_parts n g depth ts rest s =
     let bits = s.1 in
     let l = leaf_parts n.raw n.text (before_rules g.delim (group_form g (end_form g.delim))) depth s.0 rest s.2 in
@@ -151,234 +114,401 @@ rules_parts n g depth ts rest s =
     unblank Bracket f us s = s
     unblank Brace f us s = let e : us ≡ s.0 = s.1.1 ∙ s.1.2 in subst (λ z. Spells f depth z rest) (sym e) s.2
 
-rules_lead : (n : Name) (g : Group) (depth : ℕ) (ts rest : Tokens) → SpelledRules n g depth ts rest → Led ts rest
-rules_lead n g depth ts rest s = (
-  codes "macro_rules",
-  s.mid,
-  s.word,
-  omega (
-    arith,
-    op_shorter 33 [] s.mid s.named s.mark,
-    one_shorter (word_kind n.raw) n.text s.named s.end s.name,
-    shorter (group_form g (end_form g.delim)) depth s.end rest s.rules,
-  ),
-)
+-- What stands behind a head before its where clause and a `;` may follow a return type, and the type of a value.
+ends_type : (x : Ty) (ts : Tokens) → Ends ts → type_follows Bounds (about_type x) ts ≡ true
+ends_type x ts e = rw (e.quiet.plus, and_none (about_type x).bounded, quiet_follows (about_type x).told.refuses ts (free_quiet ts e.quiet.free e.pattern.rename)) refl
 
-kind_begins : (kind : ItemKind) (depth : ℕ) (ts rest : Tokens) → GoodAt about_kind depth kind ts rest → Begins ts rest
-kind_begins kind depth ts rest g = by kind (kind_view kind) g
-  where
-    by : (kind : ItemKind) → KindView kind → GoodAt about_kind depth kind ts rest → Begins ts rest
-    by _ (IsStruct n) g =
-        led_begins ts rest (head_leads (codes "struct") (leaf_of n.raw n.text Done) (piece semicolon) depth ts rest
-        (subst (λ (F : Facts). Spells F.form depth ts rest) (struct_is n) g.0))
-    by _ (IsModule n attrs items) g =
-        led_begins ts rest (head_leads (codes "mod") (leaf_of n.raw n.text Done) (module_body attrs items) depth ts rest
-        (subst (λ (F : Facts). Spells F.form depth ts rest) (module_is n attrs items) g.0))
-    by _ (IsImport u) g =
-        led_begins ts rest (head_leads (codes "use") (Part (about_use u).form Done) (piece semicolon) depth ts rest
-        (subst (λ (F : Facts). Spells F.form depth ts rest) (import_is u) g.0))
-    by _ (IsRules n rules) g =
-        led_begins ts rest (rules_lead n rules depth ts rest (rules_parts n rules depth ts rest
-        (subst (λ (F : Facts). Spells F.form depth ts rest) (rules_is n rules) g.0)))
-    by _ (IsCall c) g =
-        let s = subst (λ (F : Facts). Spells F.form depth ts rest × (F.good ≡ true)) (call_is c) g in
-        let parts = s.0 in
-        let b = call_begins c depth ts parts.0 (call_complete c depth ts parts.0 (parts.1, s.1, refl)) in
-        (b.0, b.1, omega (arith, b.2, shorter (end_form c.tokens.delim) depth parts.0 rest parts.2))
+ends_output : (x : Option Ty) (ts : Tokens) → Ends ts → output_follows x ts ≡ true
+ends_output None ts e = rw e.quiet.free.arrow refl
+ends_output (Some x) ts e = ends_type x ts e
 
-name_none : (ts : Tokens) → first (λ t. is_opener t.kind) ts ≡ true → name ts ≡ None
-unfolding name
-name_none [] h = refl
-name_none (t ∷ ts) h = by t.kind h
-  where
-    by : (k : Kind) → is_opener k ≡ true → (name_by k t.text >>= (λ (n : Name). let found : Got Name = Some (n, ts) in found)) ≡ None
-    by (Opener d) h = refl
-    by _ h = absurd (cc)
+ends_value : (x : ValueHead) (ts : Tokens) → Ends ts → value_follows x ts ≡ true
+ends_value (value.Const name x) ts e = ends_type x ts e
+ends_value (value.Static mutable name x) ts e = ends_type x ts e
 
--- A macro call begins no declaration of a macro: a group stands behind its `!`.
-no_rules : (c : MacroCall) (depth : ℕ) (ts rest : Tokens) → SpelledCall c depth ts rest → begins_rules ts ≡ false
-no_rules c depth ts rest s = by (simple_path_front c.path depth ts s.mid s.good s.path)
-  where
-    no_mark : (a c : Bool) → a && false && c ≡ false
-    no_mark true c = refl
-    no_mark false c = refl
+-- ---- each kind, where what is within it is read
 
-    no_name : (a b : Bool) → a && b && false ≡ false
-    no_name true true = refl
-    no_name true false = refl
-    no_name false b = refl
+-- It is read by its lead, with which it may stand at the site.
+record KindRead (at : Site) (within : ItemWithin) (depth : ℕ) (k : ItemKind) (ts rest : Tokens) : Type 0 where
+  lead : ItemLead
+  leads : item_lead ts ≡ lead
+  stands : may_stand at lead ≡ true
+  read : IsRead depth (kind_by at within lead) k ts rest
 
-    by : SimplePathFront ts s.mid → begins_rules ts ≡ false
-    by (OfLead h) = rw (op_front (codes "::") ts h).2 refl
-    by (OfWord true text at o h) = rw (one_front RawIdent text ts at o).1 refl
-    by (OfWord false text at o h) =
-        rw ((one_front Ident text ts at o).1, other_op (codes "::") (codes "!") refl at h) (no_mark (bytes_eq text (codes "macro_rules")) (is_some (name (drop 1 at))))
-    by (OfOne true text o) = rw (one_front RawIdent text ts s.mid o).1 refl
-    by (OfOne false text o) =
-        rw ((one_front Ident text ts s.mid o).1, s.mark.1, name_none s.within s.group.begins) (no_name (bytes_eq text (codes "macro_rules")) (is_op (codes "!") s.mid))
+module _ (heads : HeadsComplete) (at : Site) (depth : ℕ) (within : ItemWithin) (inner : PatReads depth within.heads)
+    (items : (s : Site) → Complete (about_item s) depth (within.items s)) (trees : Complete about_use depth within.trees) where
+  -- what ends in a `;`
+  ended_by : (f : Form) (ts rest : Tokens) → Spells (I0 f (piece semicolon)) depth ts rest
+      → (mid : Tokens) × Spells f depth ts mid × IsOne Punct (codes ";") mid rest
+  ended_by f ts rest s = (s.0, s.1, piece_bit (Fixed Punct (codes ";")) depth s.0 rest s.2)
 
--- what is spelled of an item, one level below it
-item_parts : (one : Item) (depth : ℕ) (ts rest : Tokens) → GoodAt about_item (suc depth) one ts rest
-    → (mid : Tokens) × Rows (GoodAt (about_attr false) depth) one.attrs ts mid × GoodAt about_kind depth one.kind mid rest
-item_parts one depth ts rest g =
-    let s = subst (λ (F : Facts). Spells F.form (suc depth) ts rest × (F.good ≡ true)) (item_is one) g in
-    let goods = and_parts (are_attrs false one.attrs) (about_kind one.kind).good s.1 in
-    let inside = s.0 in
-    let b = behind_attrs_rows (map attr_form one.attrs) (Part (about_kind one.kind).form Done) depth ts inside.0 inside.1 in
-    let kind = part_alone (about_kind one.kind).form depth b.0 rest (subst (λ us. Spells (Part (about_kind one.kind).form Done) depth b.0 us) inside.2 b.2) in
-    (b.0, attrs_rows false depth one.attrs ts b.0 b.1 goods.0, (kind, goods.1))
+  extern_crate_read : (x : ExternCrate) (ts rest : Tokens) → KindAt at depth (item.ExternCrate x) ts rest → KindRead at within depth (item.ExternCrate x) ts rest
+  extern_crate_read x ts rest g =
+      let s = spelled_as at depth (item.ExternCrate x) _ ts rest (laws.extern_crate_is x) g in
+      let goods = and_parts (about_extern_crate x).good (in_module at) s.1 in
+      let spelled = s.0 in
+      let b = crate_words (leaf_of x.word.raw x.word.text (rename_form x.renamed)) depth ts spelled.0 spelled.1 in
+      let r = heads.extern_crates x depth ts rest s.0 goods.0 in
+      record { lead = OfExternCrate; leads = extern_crate_lead ts b.0 b.1 b.2 b.3; stands = goods.1; read = (0, omega arith, rw r refl) }
 
-item_none : (one : Item) (ts rest : Tokens) → Spells (about_item one).form zero ts rest → ⊥
-item_none one ts rest s = subst (λ (F : Facts). Spells F.form zero ts rest) (item_is one) s
+  import_made : (u : UseTree) (need : ℕ) (ts mid end rest : Tokens) → IsOne Ident (codes "use") ts mid → within.trees mid ≡ Some ((u, need), end)
+      → IsOne Punct (codes ";") end rest → import_by within ts ≡ Some ((item.Import u, need), rest)
+  unfolding import_by
+  import_made u need ts mid end rest o h e = rw (keyword_there (codes "use") ts mid o, one_left Ident (codes "use") ts mid o, h, mark_passed (codes ";") end rest e) refl
 
-attrs_shorter : (attrs : List Attr) (depth : ℕ) (ts rest : Tokens) → Rows (GoodAt (about_attr false) depth) attrs ts rest → length rest ≤ length ts
-attrs_shorter [] depth ts rest r = omega (arith, ap length r)
-attrs_shorter (a ∷ attrs) depth ts rest r =
-    let one = attr_shorter false a depth ts r.0 r.1 in let more = attrs_shorter attrs depth r.0 rest r.2 in omega (arith, one, more)
+  import_read : (u : UseTree) (ts rest : Tokens) → KindAt at depth (item.Import u) ts rest → KindRead at within depth (item.Import u) ts rest
+  import_read u ts rest g =
+      let s = spelled_as at depth (item.Import u) _ ts rest (laws.import_is u) g in
+      let goods = and_parts (about_use u).good (in_module at) s.1 in
+      let e = ended_by (about_import u).head ts rest s.0 in
+      let head = e.1 in
+      let o : IsOne Ident (codes "use") ts head.0 = before_blank (keyword (codes "use")) ts head.0 head.1 in
+      let spelled = part_alone (about_use u).form depth head.0 e.0 head.2 in
+      let r = trees u head.0 e.0 (spelled, goods.0, quiet_follows (about_use u).refuses e.0 (semicolon_quiet e.0 rest e.2)) in
+      record { lead = OfImport; leads = import_lead ts head.0 o; stands = goods.1; read = (r.0, r.1, import_made u r.0 ts head.0 e.0 rest o r.2 e.2) }
 
-attrs_begin : (attrs : List Attr) (depth : ℕ) (ts rest : Tokens) → Rows (GoodAt (about_attr false) depth) attrs ts rest → BeginsItem rest → BeginsItem ts
-attrs_begin [] depth ts rest r h = (rw r h.0, rw r h.1)
-attrs_begin (a ∷ attrs) depth ts rest r h = outer_begins_item a depth ts r.0 r.1
+  file_module_made : (n : Name) (ts mid end rest : Tokens) → IsOne Ident (codes "mod") ts mid → GoodName n mid end → IsOne Punct (codes ";") end rest
+      → module_by within ts ≡ Some ((item.FileModule n, 0), rest)
+  unfolding module_by
+  file_module_made n ts mid end rest o g e =
+      rw (keyword_there (codes "mod") ts mid o, one_left Ident (codes "mod") ts mid o, name_complete n mid end g, (one_front Punct (codes ";") end rest e).1) refl
 
-item_begins : (depth : ℕ) (one : Item) (ts rest : Tokens) → GoodAt about_item depth one ts rest → BeginsItem ts × (length rest < length ts)
-item_begins zero one ts rest g = absurd (item_none one ts rest g.0)
-item_begins (suc depth) one ts rest g =
-    let p = item_parts one depth ts rest g in
-    let k = kind_begins one.kind depth p.0 rest p.2 in
-    (attrs_begin one.attrs depth ts p.0 p.1 k.0, omega (arith, attrs_shorter one.attrs depth ts p.0 p.1, k.2))
+  file_module_read : (n : Name) (ts rest : Tokens) → KindAt at depth (item.FileModule n) ts rest → KindRead at within depth (item.FileModule n) ts rest
+  file_module_read n ts rest g =
+      let s = spelled_as at depth (item.FileModule n) _ ts rest (laws.file_module_is n) g in
+      let goods = and_parts (is_name n.raw n.text) (in_module at) s.1 in
+      let e = ended_by (module_head n) ts rest s.0 in
+      let head = e.1 in
+      let o : IsOne Ident (codes "mod") ts head.0 = before_blank (keyword (codes "mod")) ts head.0 head.1 in
+      let called = leaf_alone n.raw n.text depth head.0 e.0 head.2 in
+      record {
+        lead = OfModule;
+        leads = module_lead ts head.0 o;
+        stands = goods.1;
+        read = (0, omega arith, file_module_made n ts head.0 e.0 rest o (called, goods.0) e.2);
+      }
 
--- Items begin no inner attribute, where what stands behind them doesn't.
-pub items_begin : (items : List Item) (depth : ℕ) (ts rest : Tokens) → Rows (GoodAt about_item depth) items ts rest → begins_attr true rest ≡ false
-    → begins_attr true ts ≡ false
-items_begin [] depth ts rest r h = rw r h
-items_begin (one ∷ items) depth ts rest r h = let b = (item_begins depth one ts r.0 r.1).0 in b.1
+  module_made : (n : Name) (attrs : List Attr) (members : List Item) (need : ℕ) (ts mid end inside rest : Tokens) → IsOne Ident (codes "mod") ts mid
+      → GoodName n mid end → IsOne (Opener Brace) (opening Brace ∷ []) end inside
+      → item_body within site.Module end ≡ Some (((attrs, members), need), rest) → module_by within ts ≡ Some ((item.Module n attrs members, need), rest)
+  unfolding module_by
+  module_made n attrs members need ts mid end inside rest o g e b =
+      let no : first (is_mark (codes ";")) end ≡ false = rw (one_front (Opener Brace) (opening Brace ∷ []) end inside e).1 refl in
+      rw (keyword_there (codes "mod") ts mid o, one_left Ident (codes "mod") ts mid o, name_complete n mid end g, no, b) refl
 
--- ---- what is spelled is read
+  module_read : (n : Name) (attrs : List Attr) (members : List Item) (ts rest : Tokens) → KindAt at depth (item.Module n attrs members) ts rest
+      → KindRead at within depth (item.Module n attrs members) ts rest
+  module_read n attrs members ts rest g =
+      let s = spelled_as at depth (item.Module n attrs members) _ ts rest (laws.module_is n attrs members) g in
+      let goods = and_parts (about_module n attrs (map told_of_item members)).good (in_module at) s.1 in
+      let g2 = and_parts (is_name n.raw n.text && are_attrs true attrs) (items_good site.Module (map told_of_item members)) goods.0 in
+      let g1 = and_parts (is_name n.raw n.text) (are_attrs true attrs) g2.0 in
+      let spelled = s.0 in
+      let head = spelled.1 in
+      let o : IsOne Ident (codes "mod") ts head.0 = before_blank (keyword (codes "mod")) ts head.0 head.1 in
+      let called = leaf_alone n.raw n.text depth head.0 spelled.0 head.2 in
+      let b = body_read depth within items site.Module true attrs members spelled.0 rest spelled.2 g1.1 g2.1 in
+      let r = b.0 in
+      record {
+        lead = OfModule;
+        leads = module_lead ts head.0 o;
+        stands = goods.1;
+        read = (r.0, r.1, module_made n attrs members r.0 ts head.0 spelled.0 b.1.0 rest o (called, g1.0) b.1.1 r.2);
+      }
 
-brace_ends_items : (ts rest : Tokens) → IsOne (Closer Brace) (closing Brace ∷ []) ts rest → (ends_items ts ≡ true) × (begins_attr true ts ≡ false)
-brace_ends_items ts rest o = let f = one_front (Closer Brace) (closing Brace ∷ []) ts rest o in (rw f.1 refl, rw f.1 refl)
+  function_made : (h : FnHead) (w : Wheres) (last : Bool) (m n : ℕ) (ts mid end rest : Tokens) → fn_head at within.heads ts ≡ Some ((h, m), mid)
+      → wheres within.heads.kinds mid ≡ Some (((w, last), n), end) → IsOne Punct (codes ";") end rest
+      → function_by at within ts ≡ Some ((item.Function h w, max m n), rest)
+  unfolding function_by
+  function_made h w last m n ts mid end rest a b e = rw (a, b, mark_passed (codes ";") end rest e) refl
 
--- an item that ends in what it ends in: anything may follow
-item_follows : (one : Item) (rest : Tokens) → may_follow (about_item one).refuses rest ≡ true
-item_follows one rest = subst (λ (F : Facts). may_follow F.refuses rest ≡ true) (sym (item_is one)) refl
+  function_read : (h : FnHead) (w : Wheres) (ts rest : Tokens) → KindAt at depth (item.Function h w) ts rest → KindRead at within depth (item.Function h w) ts rest
+  function_read h w ts rest g =
+      let s = spelled_as at depth (item.Function h w) _ ts rest (laws.function_is h w) g in
+      let g2 = and_parts (is_fn_head at h && are_predicates w) (may_lack_body at) s.1 in
+      let g1 = and_parts (is_fn_head at h) (are_predicates w) g2.0 in
+      let spelled = s.0 in
+      let clause = spelled.2 in
+      let e : IsOne Punct (codes ";") clause.0 rest = piece_bit (Fixed Punct (codes ";")) depth clause.0 rest clause.2 in
+      let ends = tail_ends w depth spelled.0 clause.0 rest clause.1 e in
+      let f = heads.functions at depth within.heads inner h ts spelled.0 spelled.1 g1.0 (ends_output h.output spelled.0 ends.0) in
+      let fs = map predicate_form w.predicates in
+      let v = wheres_there depth within.heads.kinds inner.kinds w spelled.0 clause.0 (body_wheres fs depth spelled.0 clause.0 clause.1) g1.1 (semicolon_ends_wheres clause.0 rest e) in
+      let r = v.1 in
+      record {
+        lead = OfFunction;
+        leads = function_lead ts (heads.function_begins at h depth ts spelled.0 spelled.1 g1.0);
+        stands = g2.1;
+        read = (max f.0 r.0, omega (arith, f.1, r.1), function_made h w v.0 f.0 r.0 ts spelled.0 clause.0 rest f.2 r.2 e);
+      }
 
--- items up to where they end
-pub items_complete : (depth : ℕ) (within : Tokens → Read Item) → Complete about_item depth within → (items : List Item) (ts rest : Tokens)
-    → Rows (GoodAt about_item depth) items ts rest → ends_items rest ≡ true
-    → (read : List (Item × ℕ)) × (nodes read ≡ items) × (deepest read ≤ depth) × (items_by within ts ≡ Some (read, rest))
-unfolding items_by
-items_complete depth within complete items ts rest r h =
-    nodes_complete about_item depth within more_items (λ one us mid g.
-    let b = item_begins depth one us mid g in (ap not b.0.0, complete one us mid (g.0, g.1, item_follows one mid), b.1)) items ts rest r (ap not h)
+  alias_read : (x : Alias) (ts rest : Tokens) → KindAt at depth (item.Alias x) ts rest → KindRead at within depth (item.Alias x) ts rest
+  alias_read x ts rest g =
+      let s = spelled_as at depth (item.Alias x) _ ts rest (laws.alias_is x) g in
+      let b = alias_begins at x depth ts rest s.0 in
+      let r = heads.aliases at depth within.heads inner x ts rest s.0 s.1 refl in
+      record { lead = OfAlias; leads = alias_lead ts b.0 b.1; stands = refl; read = (r.0, r.1, rw r.2 refl) }
 
-module _ (within : Tokens → Read Item) (tree : Tokens → Read UseTree) where
-  struct_read : (n : Name) (ts named end rest : Tokens) → IsOne Ident (codes "struct") ts named → GoodName n named end → IsOne Punct (codes ";") end rest
-      → kind_by within tree ts ≡ Some ((item.Struct n, 0), rest)
-  unfolding kind_by struct_item
-  struct_read n ts named end rest k g e =
-      rw ((one_front Ident (codes "struct") ts named k).1, name_complete n named end g, mark_passed (codes ";") end rest e) refl
+  -- the word of what has a name and generic parameters
+  called_word : (word : List ℕ) (raw : Bool) (text : List ℕ) (gs : Generics) (f behind : Form) (ts rest : Tokens)
+      → Spells (I0 (called word raw text gs f) behind) depth ts rest
+      → (mid end : Tokens) × IsOne Ident word ts mid × IsOne (word_kind raw) text mid end
+  called_word word raw text gs f behind ts rest s =
+      let head = s.1 in
+      let l = leaf_parts raw text (Part (generics_form gs) f) depth head.0 s.0 head.2 in (head.0, l.0, before_blank (keyword word) ts head.0 head.1, l.1)
 
-  import_read : (u : UseTree) (need : ℕ) (ts named end rest : Tokens) → IsOne Ident (codes "use") ts named → tree named ≡ Some ((u, need), end)
-      → IsOne Punct (codes ";") end rest → kind_by within tree ts ≡ Some ((item.Import u, need), rest)
-  unfolding kind_by import_by
-  import_read u need ts named end rest k h e = rw ((one_front Ident (codes "use") ts named k).1, h, mark_passed (codes ";") end rest e) refl
+  struct_read : (x : Struct) (ts rest : Tokens) → KindAt at depth (item.Struct x) ts rest → KindRead at within depth (item.Struct x) ts rest
+  struct_read x ts rest g =
+      let s = spelled_as at depth (item.Struct x) _ ts rest (laws.struct_is x) g in
+      let goods = and_parts (about_struct x).good (in_module at) s.1 in
+      let w = called_word (codes "struct") x.name.raw x.name.text x.generics (Part (head_fields x.fields) Done) (struct_tail x.wheres x.fields) ts rest s.0 in
+      let r = heads.structs depth within.heads inner x ts rest s.0 goods.0 refl in
+      record { lead = OfStruct; leads = struct_lead ts w.0 w.2; stands = goods.1; read = (r.0, r.1, rw r.2 refl) }
 
-  module_read : (n : Name) (attrs : List Attr) (items : List Item) (read : List (Item × ℕ)) (ts named at inside start end rest : Tokens)
-      → IsOne Ident (codes "mod") ts named → GoodName n named at → IsOne (Opener Brace) (opening Brace ∷ []) at inside
-      → attributes true inside ≡ Some (attrs, start) → items_by within start ≡ Some (read, end) → nodes read ≡ items
-      → IsOne (Closer Brace) (closing Brace ∷ []) end rest → kind_by within tree ts ≡ Some ((item.Module n attrs items, deepest read), rest)
-  unfolding kind_by module_by
-  module_read n attrs items read ts named at inside start end rest k g o a i e c =
-      rw (
-        (one_front Ident (codes "mod") ts named k).1,
-        name_complete n named at g,
-        opener_passed Brace at inside o,
-        a,
-        i,
-        closer_passed Brace end rest c,
-        e,
-      ) refl
+  union_read : (x : Union) (ts rest : Tokens) → KindAt at depth (item.Union x) ts rest → KindRead at within depth (item.Union x) ts rest
+  union_read x ts rest g =
+      let s = spelled_as at depth (item.Union x) _ ts rest (laws.union_is x) g in
+      let goods = and_parts (about_union x).good (in_module at) s.1 in
+      let g2 = and_parts (is_name x.name.raw x.name.text && is_generics x.generics && are_predicates x.wheres) _ goods.0 in
+      let g1 = and_parts (is_name x.name.raw x.name.text && is_generics x.generics) (are_predicates x.wheres) g2.0 in
+      let named = and_parts (is_name x.name.raw x.name.text) (is_generics x.generics) g1.0 in
+      let w = called_word (codes "union") x.name.raw x.name.text x.generics Done (about_union x).tail ts rest s.0 in
+      let r = heads.unions depth within.heads inner x ts rest s.0 goods.0 refl in
+      record { lead = OfUnion; leads = union_lead x.name ts w.0 w.1 w.2 (w.3, named.0); stands = goods.1; read = (r.0, r.1, rw r.2 refl) }
 
-  rules_read : (n : Name) (g : Group) (ts mid named end left rest : Tokens) → IsOne Ident (codes "macro_rules") ts mid → IsOperator (codes "!") mid named
-      → GoodName n named end → group end ≡ Some (g, left) → behind_end g.delim left ≡ Some rest
-      → kind_by within tree ts ≡ Some ((item.MacroRules n g, 0), rest)
-  unfolding kind_by rules_item
-  rules_read n g ts mid named end left rest k o i r e =
-      rw ((one_front Ident (codes "macro_rules") ts mid k).1, o.0, o.1, name_complete n named end i, r, e) refl
+  enum_read : (x : Enum) (ts rest : Tokens) → KindAt at depth (item.Enum x) ts rest → KindRead at within depth (item.Enum x) ts rest
+  enum_read x ts rest g =
+      let s = spelled_as at depth (item.Enum x) _ ts rest (laws.enum_is x) g in
+      let goods = and_parts (about_enum x).good (in_module at) s.1 in
+      let w = called_word (codes "enum") x.name.raw x.name.text x.generics Done (about_enum x).tail ts rest s.0 in
+      let r = heads.enums depth within.heads inner x ts rest s.0 goods.0 refl in
+      record { lead = OfEnum; leads = enum_lead ts w.0 w.2; stands = goods.1; read = (r.0, r.1, rw r.2 refl) }
 
-  call_read : (c : MacroCall) (ts left rest : Tokens) → first (is_keyword (codes "struct")) ts ≡ false → first (is_keyword (codes "mod")) ts ≡ false
-      → first (is_keyword (codes "use")) ts ≡ false → begins_rules ts ≡ false → call ts ≡ Some (c, left) → behind_end c.tokens.delim left ≡ Some rest
-      → kind_by within tree ts ≡ Some ((item.Call c, 0), rest)
-  unfolding kind_by call_item
-  call_read c ts left rest s m u n r e = rw (s, m, u, n, r, e) refl
+  value_made : (x : ValueHead) (need : ℕ) (ts mid rest : Tokens) → value_head within.heads.kinds ts ≡ Some ((x, need), mid) → IsOne Punct (codes ";") mid rest
+      → may_lack_value at x ≡ true → value_by at within ts ≡ Some ((item.Value x, need), rest)
+  unfolding value_by
+  value_made x need ts mid rest v e m = rw (v, mark_passed (codes ";") mid rest e, m) refl
 
-  item_read : (one : Item) (need : ℕ) (ts mid rest : Tokens) → attributes false ts ≡ Some (one.attrs, mid)
-      → kind_by within tree mid ≡ Some ((one.kind, need), rest) → item_by within tree ts ≡ Some ((one, suc need), rest)
-  item_read one need ts mid rest a k = rw (a, k) refl
+  value_lead : (x : ValueHead) (ts rest : Tokens) → Spells (about_value_head x).form depth ts rest → is_value_head x ≡ true → item_lead ts ≡ OfValue
+  value_lead (value.Const g x) ts rest s h = const_lead g x depth ts rest s (and_parts (is_given g) (good_at Bounds (about_type x)) h).0
+  value_lead (value.Static mutable n x) ts rest s h = let b = value_begins (value.Static mutable n x) depth ts rest s in static_lead ts b.0 b.1
 
-  module _ (depth : ℕ) (complete : Complete about_item depth within) (use_reads : Complete about_use depth tree) where
-    kind_complete : (kind : ItemKind) (ts rest : Tokens) → GoodAt about_kind depth kind ts rest → IsRead depth (kind_by within tree) kind ts rest
-    kind_complete kind ts rest g = by kind (kind_view kind) g
-      where
-        by : (kind : ItemKind) → KindView kind → GoodAt about_kind depth kind ts rest → IsRead depth (kind_by within tree) kind ts rest
-        by _ (IsStruct n) g =
-            let s = subst (λ (F : Facts). Spells F.form depth ts rest × (F.good ≡ true)) (struct_is n) g in
-            let h = head_keyword (codes "struct") (leaf_of n.raw n.text Done) (piece semicolon) depth ts rest s.0 in
-            (0, omega arith, struct_read n ts h.0 h.1 rest h.2 (leaf_alone n.raw n.text depth h.0 h.1 h.3, s.1) (piece_bit (punct 59) depth h.1 rest h.4))
-        by _ (IsModule n attrs items) g =
-            let s = subst (λ (F : Facts). Spells F.form depth ts rest × (F.good ≡ true)) (module_is n attrs items) g in
-            let headed = and_parts (is_name n.raw n.text && are_attrs true attrs) (all_good (map about_item items)) s.1 in
-            let named = and_parts (is_name n.raw n.text) (are_attrs true attrs) headed.0 in
-            let h = head_keyword (codes "mod") (leaf_of n.raw n.text Done) (module_body attrs items) depth ts rest s.0 in
-            let b = body_rows (map attr_form attrs ++ forms (map about_item items)) depth h.1 rest h.4 in
-            let a = rows_parts (SpelledAt depth) (map attr_form attrs) (forms (map about_item items)) b.0 b.1 b.3 in
-            let end = brace_ends_items b.1 rest b.4 in
-            let rows = rows_good about_item depth items a.0 b.1 a.2 headed.1 in
-            let no_attr = items_begin items depth a.0 b.1 rows end.1 in
-            let inner = attributes_complete true attrs depth b.0 a.0 (attrs_rows true depth attrs b.0 a.0 a.1 named.1) no_attr in
-            let r = items_complete depth within complete items a.0 b.1 rows end.0 in (
-              deepest r.0,
-              r.2,
-              module_read n attrs items r.0 ts h.0 h.1 b.0 a.0 b.1 rest h.2 (leaf_alone n.raw n.text depth h.0 h.1 h.3, named.0) b.2 inner r.3 r.1 b.4,
-            )
-        by _ (IsImport u) g =
-            let s = subst (λ (F : Facts). Spells F.form depth ts rest × (F.good ≡ true)) (import_is u) g in
-            let h = head_keyword (codes "use") (Part (about_use u).form Done) (piece semicolon) depth ts rest s.0 in
-            let e : IsOne Punct (codes ";") h.1 rest = piece_bit (punct 59) depth h.1 rest h.4 in
-            let spelled = part_alone (about_use u).form depth h.0 h.1 h.3 in
-            let r = use_reads u h.0 h.1 (spelled, s.1, quiet_follows (about_use u).refuses h.1 (semicolon_quiet h.1 rest e)) in
-            (r.0, r.1, import_read u r.0 ts h.0 h.1 rest h.2 r.2 e)
-        by _ (IsRules n g) x =
-            let s = subst (λ (F : Facts). Spells F.form depth ts rest × (F.good ≡ true)) (rules_is n g) x in
-            let goods = and_parts (is_name n.raw n.text) (is_group g) s.1 in
-            let p = rules_parts n g depth ts rest s.0 in
-            let r = group_complete g (end_form g.delim) depth p.end rest p.rules goods.1 in
-            (0, omega arith, rules_read n g ts p.mid p.named p.end r.rest rest p.word p.mark (p.name, goods.0) r.read (end_read g.delim depth r.rest rest r.after))
-        by _ (IsCall c) x =
-            let s = subst (λ (F : Facts). Spells F.form depth ts rest × (F.good ≡ true)) (call_is c) x in
-            let parts = s.0 in
-            let p = call_complete c depth ts parts.0 (parts.1, s.1, refl) in
-            let no : (keyword : List ℕ) → is_path_class (class_of keyword) ≡ false → first (is_keyword keyword) ts ≡ false =
-            λ keyword n. simple_path_no_keyword keyword n c.path depth ts p.mid p.good p.path in (
-              0,
-              omega arith,
-              call_read c ts parts.0 rest (no (codes "struct") refl) (no (codes "mod") refl) (no (codes "use") refl) (no_rules c depth ts parts.0 p) p.read
-                  (end_read c.tokens.delim depth parts.0 rest parts.2),
-            )
+  value_read : (x : ValueHead) (ts rest : Tokens) → KindAt at depth (item.Value x) ts rest → KindRead at within depth (item.Value x) ts rest
+  value_read x ts rest g =
+      let s = spelled_as at depth (item.Value x) _ ts rest (laws.value_is x) g in
+      let goods = and_parts (is_value_head x) (may_lack_value at x) s.1 in
+      let e = ended_by (value_head_form x) ts rest s.0 in
+      let r = heads.values depth within.heads inner x ts e.0 e.1 goods.0 (ends_value x e.0 (semicolon_ends e.0 rest e.2).0) in
+      record { lead = OfValue; leads = value_lead x ts e.0 e.1 goods.0; stands = refl; read = (r.0, r.1, value_made x r.0 ts e.0 rest r.2 e.2 goods.1) }
 
-    item_by_complete : (one : Item) (ts rest : Tokens) → Stands (about_item one) (suc depth) ts rest → IsRead (suc depth) (item_by within tree) one ts rest
-    item_by_complete one ts rest s =
-        let p = item_parts one depth ts rest (s.0, s.1) in
-        let no_attr = (kind_begins one.kind depth p.0 rest p.2).1 in
-        let k = kind_complete one.kind p.0 rest p.2 in
-        (suc k.0, omega (arith, k.1), item_read one k.0 ts p.0 rest (attributes_complete false one.attrs depth ts p.0 p.1 no_attr) k.2)
+  -- a where clause and a body behind a head
+  record Behind (w : Wheres) (attrs : List Attr) (s : Site) (members : List Item) (ts rest : Tokens) : Type 0 where
+    mid : Tokens
+    ends : ends_head ts ≡ true
+    last : Bool
+    clause : IsRead depth (wheres within.heads.kinds) (w, last) ts mid
+    body : IsRead depth (item_body within s) (attrs, members) mid rest
 
-pub item_complete : (depth budget : ℕ) → depth ≤ budget → Complete about_item depth (item_at budget)
+  behind : (w : Wheres) (attrs : List Attr) (s : Site) (members : List Item) (ts rest : Tokens)
+      → Spells (Part (wheres_before_body w) (node.item_body (leads w) attrs (map told_of_item members))) depth ts rest → are_predicates w ≡ true
+      → are_attrs true attrs ≡ true → items_good s (map told_of_item members) ≡ true → Behind w attrs s members ts rest
+  behind w attrs s members ts rest p a b c =
+      let y = body_read depth within items s (leads w) attrs members p.0 rest p.2 b c in
+      let v = wheres_there depth within.heads.kinds inner.kinds w ts p.0 p.1 a (brace_ends_wheres p.0 y.1.0 y.1.1) in
+      record { mid = p.0; ends = ends_there w ts p.0 y.1.0 p.1 y.1.1; last = v.0; clause = v.1; body = y.0 }
+    where
+      ends_there : (w : Wheres) (us mid inside : Tokens) → Spells (wheres_before_body w) depth us mid → IsOne (Opener Brace) (opening Brace ∷ []) mid inside
+          → ends_head us ≡ true
+      ends_there w us mid inside s o = elim (wheres_front (map predicate_form w.predicates) depth us mid s) [
+        | inl e ↦ rw (e, (one_front (Opener Brace) (opening Brace ∷ []) mid inside o).1) refl
+        | inr k ↦ rw (one_front Ident (codes "where") us k.0 k.1).1 refl
+      ]
+
+  trait_made : (h : TraitHead) (flags : Bool × Bool) (w : Wheres) (last : Bool) (attrs : List Attr) (members : List Item) (l m n : ℕ) (ts mid end rest : Tokens)
+      → trait_head within.heads.kinds ts ≡ Some (((h, flags), l), mid) → wheres within.heads.kinds mid ≡ Some (((w, last), m), end)
+      → item_body within site.TraitMember end ≡ Some (((attrs, members), n), rest)
+      → trait_by within ts ≡ Some ((item.Trait h w attrs members, max l (max m n)), rest)
+  unfolding trait_by
+  trait_made h flags w last attrs members l m n ts mid end rest a b c = rw (a, b, c) refl
+
+  trait_read : (h : TraitHead) (w : Wheres) (attrs : List Attr) (members : List Item) (ts rest : Tokens) → KindAt at depth (item.Trait h w attrs members) ts rest
+      → KindRead at within depth (item.Trait h w attrs members) ts rest
+  trait_read h w attrs members ts rest g =
+      let s = spelled_as at depth (item.Trait h w attrs members) _ ts rest (laws.trait_is h w attrs members) g in
+      let g4 = and_parts (about_trait h w attrs (map told_of_item members)).good (in_module at) s.1 in
+      let g3 = and_parts (is_trait_head h && are_predicates w && are_attrs true attrs) (items_good site.TraitMember (map told_of_item members)) g4.0 in
+      let g2 = and_parts (is_trait_head h && are_predicates w) (are_attrs true attrs) g3.0 in
+      let g1 = and_parts (is_trait_head h) (are_predicates w) g2.0 in
+      let spelled = s.0 in
+      let b = behind w attrs site.TraitMember members spelled.0 rest spelled.2 g1.1 g2.1 g3.1 in
+      let t = heads.traits depth within.heads inner h ts spelled.0 spelled.1 g1.0 b.ends in
+      let r = t.1 in
+      let c = b.clause in
+      let y = b.body in
+      record {
+        lead = OfTrait;
+        leads = unsafe_lead h.is_unsafe OfTrait (codes "trait") (Blank ∷ [])
+            (leaf_of h.name.raw h.name.text (Part (generics_form h.generics) (Part (bounded_form h.bounds) Done))) depth ts spelled.0 trait_lead unsafe_trait_lead spelled.1;
+        stands = g4.1;
+        read = (max r.0 (max c.0 y.0), omega (arith, r.1, c.1, y.1), trait_made h t.0 w b.last attrs members r.0 c.0 y.0 ts spelled.0 b.mid rest r.2 c.2 y.2);
+      }
+
+  impl_made : (h : ImplHead) (w : Wheres) (last : Bool) (attrs : List Attr) (members : List Item) (l m n : ℕ) (ts mid end rest : Tokens)
+      → impl_head within.heads.kinds ts ≡ Some ((h, l), mid) → wheres within.heads.kinds mid ≡ Some (((w, last), m), end)
+      → item_body within site.Member end ≡ Some (((attrs, members), n), rest)
+      → impl_by within ts ≡ Some ((item.Impl h w attrs members, max l (max m n)), rest)
+  unfolding impl_by
+  impl_made h w last attrs members l m n ts mid end rest a b c = rw (a, b, c) refl
+
+  impl_read : (h : ImplHead) (w : Wheres) (attrs : List Attr) (members : List Item) (ts rest : Tokens) → KindAt at depth (item.Impl h w attrs members) ts rest
+      → KindRead at within depth (item.Impl h w attrs members) ts rest
+  impl_read h w attrs members ts rest g =
+      let s = spelled_as at depth (item.Impl h w attrs members) _ ts rest (laws.impl_is h w attrs members) g in
+      let g4 = and_parts (about_impl h w attrs (map told_of_item members)).good (in_module at) s.1 in
+      let g3 = and_parts (is_impl_head h && are_predicates w && are_attrs true attrs) (items_good site.Member (map told_of_item members)) g4.0 in
+      let g2 = and_parts (is_impl_head h && are_predicates w) (are_attrs true attrs) g3.0 in
+      let g1 = and_parts (is_impl_head h) (are_predicates w) g2.0 in
+      let spelled = s.0 in
+      let b = behind w attrs site.Member members spelled.0 rest spelled.2 g1.1 g2.1 g3.1 in
+      let r = heads.impls depth within.heads inner h ts spelled.0 spelled.1 g1.0 b.ends in
+      let c = b.clause in
+      let y = b.body in
+      record {
+        lead = OfImpl;
+        leads = unsafe_lead h.is_unsafe OfImpl (codes "impl") []
+            (Part (generics_form h.generics) (Piece (Blank ∷ []) (trait_ref_form h.of (Part (about_type h.ty).told.form Done)))) depth ts spelled.0 impl_lead unsafe_impl_lead spelled.1;
+        stands = g4.1;
+        read = (max r.0 (max c.0 y.0), omega (arith, r.1, c.1, y.1), impl_made h w b.last attrs members r.0 c.0 y.0 ts spelled.0 b.mid rest r.2 c.2 y.2);
+      }
+
+  foreign_made : (is_unsafe : Bool) (abi : Option Literal) (attrs : List Attr) (members : List Item) (n : ℕ) (ts at mid end rest : Tokens)
+      → unsafe_flag ts ≡ (is_unsafe, at) → IsOne Ident (codes "extern") at mid
+      → if_there (first is_string_token mid) (literal is_string_token) mid ≡ Some (abi, end)
+      → item_body within site.Foreign end ≡ Some (((attrs, members), n), rest)
+      → foreign_by within ts ≡ Some ((item.Foreign is_unsafe abi attrs members, n), rest)
+  unfolding foreign_by
+  foreign_made is_unsafe abi attrs members n ts at mid end rest f o l b =
+      rw (f, keyword_there (codes "extern") at mid o, one_left Ident (codes "extern") at mid o, l, b) refl
+
+  abi_there : (abi : Option Literal) (ts mid inside : Tokens) → Spells (foreign_abi abi) depth ts mid → is_abi_name abi ≡ true
+      → IsOne (Opener Brace) (opening Brace ∷ []) mid inside → if_there (first is_string_token ts) (literal is_string_token) ts ≡ Some (abi, mid)
+  abi_there None ts mid inside s g o =
+      let e : ts ≡ mid = s in
+      let no : first is_string_token mid ≡ false = rw (one_front (Opener Brace) (opening Brace ∷ []) mid inside o).1 refl in rw (e, no) refl
+  abi_there (Some l) ts mid inside s g o =
+      let bit : ts ≡ s.0 = behind_blank [] ts s.0 s.1 in
+      let leaf : IsOne l.kind l.text s.0 mid = let t = s.2 in subst (IsOne l.kind l.text s.0) t.2 t.1 in
+      let there : first is_string_token s.0 ≡ true = rw (one_front l.kind l.text s.0 mid leaf).1 g in
+      let r = literal_complete is_string_token l s.0 mid (λ u. g) leaf in
+      rw (bit, there, r.0) refl
+
+  foreign_read : (is_unsafe : Bool) (abi : Option Literal) (attrs : List Attr) (members : List Item) (ts rest : Tokens)
+      → KindAt at depth (item.Foreign is_unsafe abi attrs members) ts rest → KindRead at within depth (item.Foreign is_unsafe abi attrs members) ts rest
+  foreign_read is_unsafe abi attrs members ts rest g =
+      let s = spelled_as at depth (item.Foreign is_unsafe abi attrs members) _ ts rest (laws.foreign_is is_unsafe abi attrs members) g in
+      let g3 = and_parts (about_foreign is_unsafe abi attrs (map told_of_item members)).good (in_module at) s.1 in
+      let g2 = and_parts (is_abi_name abi && are_attrs true attrs) (items_good site.Foreign (map told_of_item members)) g3.0 in
+      let g1 = and_parts (is_abi_name abi) (are_attrs true attrs) g2.0 in
+      let spelled = s.0 in
+      let named : Form = Piece (keyword (codes "extern") ∷ []) (foreign_abi abi) in
+      let b = body_read depth within items site.Foreign true attrs members spelled.0 rest spelled.2 g1.1 g2.1 in
+      let y = b.0 in
+      let extern : (us : Tokens) → Spells named depth us spelled.0 → first (is_keyword (codes "unsafe")) us ≡ false =
+      λ us t. rw (one_front Ident (codes "extern") us t.0 (bit_alone (keyword (codes "extern")) us t.0 t.1)).1 refl in
+      let u = flag_complete (codes "unsafe") is_unsafe named depth ts spelled.0 spelled.1 extern in
+      let words = u.2 in
+      let o : IsOne Ident (codes "extern") u.0 words.0 = bit_alone (keyword (codes "extern")) u.0 words.0 words.1 in
+      let l = abi_there abi words.0 spelled.0 b.1.0 words.2 g1.0 b.1.1 in
+      record {
+        lead = OfForeign;
+        leads = foreign_lead is_unsafe (foreign_abi abi) depth ts spelled.0 spelled.1 (λ us t. foreign_front abi depth us spelled.0 b.1.0 t g1.0 b.1.1);
+        stands = g3.1;
+        read = (y.0, y.1, foreign_made is_unsafe abi attrs members y.0 ts u.0 words.0 spelled.0 rest u.1 o l y.2);
+      }
+
+  rules_made : (n : Name) (g : Group) (ts mid named end left rest : Tokens) → IsOne Ident (codes "macro_rules") ts mid → IsOperator (codes "!") mid named
+      → GoodName n named end → group end ≡ Some (g, left) → behind_end g.delim left ≡ Some rest → rules_item ts ≡ Some ((item.MacroRules n g, 0), rest)
+  unfolding rules_item
+  rules_made n g ts mid named end left rest k o i r e =
+      rw ((one_front Ident (codes "macro_rules") ts mid k).1, o.1, name_complete n named end i, r, e) refl
+
+  rules_read : (n : Name) (rules : Group) (ts rest : Tokens) → KindAt at depth (item.MacroRules n rules) ts rest
+      → KindRead at within depth (item.MacroRules n rules) ts rest
+  rules_read n rules ts rest g =
+      let s = spelled_as at depth (item.MacroRules n rules) _ ts rest (laws.rules_is n rules) g in
+      let g2 = and_parts (is_name n.raw n.text && is_group rules) (in_module at) s.1 in
+      let g1 = and_parts (is_name n.raw n.text) (is_group rules) g2.0 in
+      let p = rules_parts n rules depth ts rest s.0 in
+      let r = group_complete rules (end_form rules.delim) depth p.end rest p.rules g1.1 in
+      record {
+        lead = OfRules;
+        leads = rules_lead n ts p.mid p.named p.end p.word p.mark (p.name, g1.0);
+        stands = g2.1;
+        read = (0, omega arith, rules_made n rules ts p.mid p.named p.end r.rest rest p.word p.mark (p.name, g1.0) r.read (end_read rules.delim depth r.rest rest r.after));
+      }
+
+  call_made : (c : MacroCall) (ts left rest : Tokens) → call ts ≡ Some (c, left) → behind_end c.tokens.delim left ≡ Some rest
+      → call_item ts ≡ Some ((item.Call c, 0), rest)
+  unfolding call_item
+  call_made c ts left rest r e = rw (r, e) refl
+
+  call_read : (c : MacroCall) (ts rest : Tokens) → KindAt at depth (item.Call c) ts rest → KindRead at within depth (item.Call c) ts rest
+  call_read c ts rest g =
+      let s = spelled_as at depth (item.Call c) _ ts rest (laws.call_is c) g in
+      let parts = s.0 in
+      let p = call_complete c depth ts parts.0 (parts.1, s.1, refl) in
+      record {
+        lead = OfCall;
+        leads = call_lead c depth ts parts.0 p;
+        stands = refl;
+        read = (0, omega arith, call_made c ts parts.0 rest p.read (end_read c.tokens.delim depth parts.0 rest parts.2));
+      }
+
+  kind_read : (k : ItemKind) (ts rest : Tokens) → KindAt at depth k ts rest → KindRead at within depth k ts rest
+  kind_read k ts rest g = by k (kind_view k) g
+    where
+      by : (k : ItemKind) → KindView k → KindAt at depth k ts rest → KindRead at within depth k ts rest
+      by _ (IsExternCrate x) g = extern_crate_read x ts rest g
+      by _ (IsImport u) g = import_read u ts rest g
+      by _ (IsFileModule n) g = file_module_read n ts rest g
+      by _ (IsModule n attrs members) g = module_read n attrs members ts rest g
+      by _ (IsFunction h w) g = function_read h w ts rest g
+      by _ (IsAlias x) g = alias_read x ts rest g
+      by _ (IsStruct x) g = struct_read x ts rest g
+      by _ (IsUnion x) g = union_read x ts rest g
+      by _ (IsEnum x) g = enum_read x ts rest g
+      by _ (IsValue x) g = value_read x ts rest g
+      by _ (IsTrait h w attrs members) g = trait_read h w attrs members ts rest g
+      by _ (IsImpl h w attrs members) g = impl_read h w attrs members ts rest g
+      by _ (IsForeign is_unsafe abi attrs members) g = foreign_read is_unsafe abi attrs members ts rest g
+      by _ (IsRules n rules) g = rules_read n rules ts rest g
+      by _ (IsCall c) g = call_read c ts rest g
+
+  kind_complete : (k : ItemKind) (ts rest : Tokens) → KindAt at depth k ts rest → IsRead depth (kind_at at within) k ts rest
+  unfolding kind_at
+  kind_complete k ts rest g = let r = kind_read k ts rest g in let n = r.read in (n.0, n.1, rw (r.leads, r.stands, n.2) refl)
+
+  -- ---- with its attributes and its visibility
+
+  item_made : (one : Item) (need : ℕ) (ts seen mid rest : Tokens) → attributes false ts ≡ Some (one.attrs, seen) → visibility seen ≡ Some (one.vis, mid)
+      → kind_at at within mid ≡ Some ((one.kind, need), rest) → (is_some (told_of_kind one.kind).head || is_inherited one.vis) ≡ true
+      → item_by at within ts ≡ Some ((one, suc need), rest)
+  unfolding item_by
+  item_made one need ts seen mid rest a v k m = rw (a, v, k, m) refl
+
+  item_by_complete : (one : Item) (ts rest : Tokens) → Stands (about_item at one) (suc depth) ts rest → IsRead (suc depth) (item_by at within) one ts rest
+  item_by_complete one ts rest s =
+      let p = item_parts at one depth ts rest (s.0, s.1) in
+      let front = kind_front at one.kind depth p.mid rest p.kind in
+      let begins = vis_begins one.vis depth p.seen p.mid rest p.vis front in
+      let k = kind_complete one.kind p.mid rest p.kind in
+      let v = vis_complete one.vis depth p.seen p.mid p.vis p.good (vis_may one.vis p.mid front.vis front.paren) in
+      (suc k.0, omega (arith, k.1), item_made one k.0 ts p.seen p.mid rest (attributes_complete false one.attrs depth ts p.seen p.attrs begins.1) v k.2 p.may)
+
+pub item_complete : HeadsComplete → (at : Site) (depth budget : ℕ) → depth ≤ budget → Complete (about_item at) depth (item_at at budget)
 unfolding item_at
-item_complete zero budget h one ts rest s = absurd (item_none one ts rest s.0)
-item_complete (suc depth) zero h one ts rest s = absurd (omega arith)
-item_complete (suc depth) (suc budget) h one ts rest s =
-    item_by_complete (item_at budget) (use_at budget) depth (item_complete depth budget (omega arith)) (use_complete depth budget (omega arith)) one ts rest s
-
-pub items_exact : Exact item_at (λ (x : Item). Front (about_item x))
-items_exact = exact about_item item_at item_sound item_complete
+item_complete heads at zero budget h one ts rest s = absurd (item_none at one ts rest s.0)
+item_complete heads at (suc depth) zero h one ts rest s = absurd (omega arith)
+item_complete heads at (suc depth) (suc budget) h one ts rest s =
+    item_by_complete heads at depth (record { items = λ s us. item_at s budget us; trees = use_at budget; heads = insides budget })
+    (insides_reads depth budget (omega arith)) (λ s. item_complete heads s depth budget (omega arith)) (use_complete depth budget (omega arith)) one ts rest s

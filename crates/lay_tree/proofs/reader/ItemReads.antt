@@ -12,17 +12,17 @@ use Rattle.lay_piece.specs.declared.kind.Kind.TheVariants.{Ident, RawIdent, Punc
 use Rattle.lay_token.specs.Delimiters.{is_opener}
 use Rattle.lay_token.specs.Operators.{is_op}
 use Rattle.lay_token.specs.declared.token.Token.{Token}
-use Rattle.lay_form.specs.Form.{Blank, Fixed, Form, Operator, Part, Piece, keyword, semicolon}
+use Rattle.lay_form.specs.Form.{Blank, Fixed, Form, Operator, Part, Piece, keyword, semicolon, Bit}
 use Rattle.lay_form.specs.Notation.{piece}
 use Rattle.lay_form.specs.Spelled.{IsOne, IsOperator, Spells}
 use Rattle.lay_tree.specs.Ahead.{Tokens, first, is_ident, is_keyword, tail}
 use Rattle.lay_tree.specs.Words.{is_path_class, is_string}
 use Rattle.lay_tree.specs.nodes.Functions.{about_fn_head, fn_head_form, is_fn_head}
-use Rattle.lay_tree.specs.nodes.Heads.{about_alias, about_enum, about_extern_crate, about_impl_head, about_struct, about_union, about_value_head, ends_head, headed, is_trait_head, trait_head_form}
-use Rattle.lay_tree.specs.nodes.Types.{is_abi_name}
+use Rattle.lay_tree.specs.nodes.Heads.{about_alias, about_enum, about_extern_crate, about_impl_head, about_struct, about_union, about_value_head, ends_head, headed, is_trait_head, trait_head_form, of_type, unsafe_form}
+use Rattle.lay_tree.specs.nodes.Types.{is_abi_name, is_given}
 use Rattle.lay_tree.specs.reader.Functions.{fn_head}
 use Rattle.lay_tree.specs.reader.Heads.{alias, enum, extern_crate, impl_head, struct, trait_head, union, value_head}
-use Rattle.lay_tree.specs.reader.Item.{ItemLead, OfAlias, OfCall, OfEnum, OfExternCrate, OfForeign, OfFunction, OfImpl, OfImport, OfModule, OfRules, OfStruct, OfTrait, OfUnion, OfValue, begins_function, begins_rules, begins_union, is_string_kind, item_lead, macro_lead, may_stand, skips_abi}
+use Rattle.lay_tree.specs.reader.Item.{ItemLead, OfAlias, OfCall, OfEnum, OfExternCrate, OfForeign, OfFunction, OfImpl, OfImport, OfModule, OfRules, OfStruct, OfTrait, OfUnion, OfValue, begins_function, begins_rules, begins_union, is_string_kind, item_lead, macro_lead, may_stand, skips_abi, skips, skips_name}
 use Rattle.lay_tree.specs.reader.Loops.{Got, ◌>>=◌}
 use Rattle.lay_tree.specs.reader.Patterns.{PatWithin}
 use Rattle.lay_tree.specs.reader.Words.{name, name_by}
@@ -38,14 +38,21 @@ use Rattle.lay_tree.specs.declared.token.Literal.{Literal}
 use Rattle.lay_tree.specs.declared.token.Name.{Name}
 use Rattle.lay_tree.specs.declared.tokens.MacroCall.{MacroCall}
 use Rattle.lay_tree.proofs.Fronts.{one_front, op_front, other_op}
-use Rattle.lay_tree.proofs.Parts.{word_kind}
+use Rattle.lay_tree.proofs.Parts.{word_kind, before_blank, behind_blank, bit_alone}
 use Rattle.lay_tree.proofs.reader.Call.{SpelledCall}
 use Rattle.lay_tree.proofs.reader.Exact.{IsRead}
 use Rattle.lay_tree.proofs.reader.HeadsLevel.{CompleteHead}
 use Rattle.lay_tree.proofs.reader.PatternsCompletePaths.{PatReads}
 use Rattle.lay_tree.proofs.reader.SimplePath.{OfLead, OfOne, OfWord, SimplePathFront, simple_path_front, simple_path_no_keyword}
-use Rattle.lay_tree.proofs.reader.TypesCompleteParts.{one_left}
+use Rattle.lay_tree.proofs.reader.TypesCompleteParts.{one_left, colon_operator}
 use Rattle.lay_tree.proofs.reader.Words.{GoodName, name_complete}
+use Rattle.lay_tree.specs.nodes.Item.{foreign_abi}
+use Rattle.lay_tree.specs.declared.token.GivenName.{GivenName}
+use Rattle.lay_tree.specs.declared.types.Ty.{Ty}
+use Rattle.lay_tree.proofs.reader.Use.{RenameIs}
+use Rattle.lay_tree.proofs.reader.ValueHeads.{const_no_keyword, given_parts}
+use Rattle.lay_tree.specs.declared.token.GivenName.TheVariants as given
+use Rattle.lay_tree.specs.declared.heads.ValueHead.TheVariants as value
 
 -- What is proved of the heads: what stands there is read.
 pub record HeadsComplete : Type 0 where
@@ -228,3 +235,78 @@ pub rules_lead : (n : Name) (ts at mid rest : Tokens) → IsOne Ident (codes "ma
     → item_lead ts ≡ OfRules
 unfolding item_lead
 rules_lead n ts at mid rest o m g = rw ((one_front Ident (codes "macro_rules") ts at o).1, m.0, m.1, name_complete n mid rest g) refl
+
+-- ---- what begins with `const`, `unsafe` or `extern`
+
+-- Behind a constant's name a `:` stands, so `const` begins no function there.
+pub const_lead : (g : GivenName) (x : Ty) (depth : ℕ) (ts rest : Tokens) → Spells (about_value_head (value.Const g x)).form depth ts rest → is_given g ≡ true
+    → item_lead ts ≡ OfValue
+unfolding item_lead
+const_lead g x depth ts rest s good =
+    let o : IsOne Ident (codes "const") ts s.0 = before_blank (keyword (codes "const")) ts s.0 s.1 in
+    let n = given_parts g (of_type x) depth s.0 rest s.2 good in
+    let m = colon_operator n.0 n.2.0 n.2.1 in
+    let clear : (word : List ℕ) → is_path_class (class_of word) ≡ false → first (is_keyword word) s.0 ≡ false =
+    λ word none. subst (λ us. first (is_keyword word) us ≡ false) (one_left Ident (codes "const") ts s.0 o) (const_no_keyword word none g x depth ts rest s good) in
+    rw ((one_front Ident (codes "const") ts s.0 o).1, behind g s.0 n.0 n.1 m.0 clear) refl
+  where
+    at_name : (us vs : Tokens) → tail us ≡ vs → is_op (codes ":") vs ≡ true
+        → ((word : List ℕ) → is_path_class (class_of word) ≡ false → first (is_keyword word) us ≡ false)
+        → first (is_keyword (codes "fn")) (skips_abi (skips (codes "safe") (skips (codes "unsafe") (skips (codes "async") us)))) ≡ false
+    at_name us vs e colon clear =
+        rw (clear (codes "async") refl, clear (codes "unsafe") refl) (by (first (is_keyword (codes "safe")) us) (rw e (op_no_fn (codes ":") vs colon))
+        (rw (clear (codes "extern") refl) (clear (codes "fn") refl)))
+      where
+        by : (b : Bool) → first (is_keyword (codes "fn")) (skips_abi (tail us)) ≡ false → first (is_keyword (codes "fn")) (skips_abi us) ≡ false
+            → first (is_keyword (codes "fn")) (skips_abi (if b then tail us else us)) ≡ false
+        by true h k = h
+        by false h k = k
+
+    behind : (name : GivenName) (us vs : Tokens) → RenameIs name us vs → is_op (codes ":") vs ≡ true
+        → ((word : List ℕ) → is_path_class (class_of word) ≡ false → first (is_keyword word) us ≡ false)
+        → first (is_keyword (codes "fn")) (skips_abi (skips (codes "safe") (skips (codes "unsafe") (skips (codes "async") us)))) ≡ false
+    behind (given.Name n) us vs i colon clear = at_name us vs (one_left (word_kind n.raw) n.text us vs i.0) colon clear
+    behind given.Underscore us vs i colon clear = at_name us vs (one_left kind.Underscore (codes "_") us vs i) colon clear
+
+-- A foreign block begins so: behind `extern` a string or its `{` stands.
+pub record ForeignFront (ts : Tokens) : Type 0 where
+  pub fn : first (is_keyword (codes "fn")) (skips_name ts) ≡ false
+  pub crate : first (is_keyword (codes "crate")) ts ≡ false
+
+pub foreign_front : (abi : Option Literal) (depth : ℕ) (ts mid rest : Tokens) → Spells (foreign_abi abi) depth ts mid → is_abi_name abi ≡ true
+    → IsOne (Opener Brace) (opening Brace ∷ []) mid rest → ForeignFront ts
+foreign_front None depth ts mid rest s g o =
+    let f = one_front (Opener Brace) (opening Brace ∷ []) ts rest (subst (λ us. IsOne (Opener Brace) (opening Brace ∷ []) us rest) (sym s) o) in
+    record { fn = rw f.1 refl; crate = rw f.1 refl }
+foreign_front (Some l) depth ts mid rest s g o =
+    let bit : ts ≡ s.0 = behind_blank [] ts s.0 s.1 in
+    let leaf : IsOne l.kind l.text s.0 mid = let t = s.2 in subst (IsOne l.kind l.text s.0) t.2 t.1 in
+    let k = string_kind l.kind l.text g in
+    let f = one_front l.kind l.text s.0 mid leaf in
+    let e = one_front (Opener Brace) (opening Brace ∷ []) mid rest o in
+    record { fn = rw (bit, f.1, k.0, e.1) refl; crate = rw (bit, f.1, k.1) refl }
+
+pub foreign_lead : (is_unsafe : Bool) (f : Form) (depth : ℕ) (ts rest : Tokens) → Spells (unsafe_form is_unsafe (Piece (keyword (codes "extern") ∷ []) f)) depth ts rest
+    → ((us : Tokens) → Spells f depth us rest → ForeignFront us) → item_lead ts ≡ OfForeign
+unfolding item_lead
+foreign_lead true f depth ts rest s of =
+    let o : IsOne Ident (codes "unsafe") ts s.0 = before_blank (keyword (codes "unsafe")) ts s.0 s.1 in
+    let inner = s.2 in
+    let p : IsOne Ident (codes "extern") s.0 inner.0 = bit_alone (keyword (codes "extern")) s.0 inner.0 inner.1 in
+    let e = of inner.0 inner.2 in
+    rw ((one_front Ident (codes "unsafe") ts s.0 o).1, (one_front Ident (codes "extern") s.0 inner.0 p).1, e.fn) refl
+foreign_lead false f depth ts rest s of =
+    let p : IsOne Ident (codes "extern") ts s.0 = bit_alone (keyword (codes "extern")) ts s.0 s.1 in
+    let e = of s.0 s.2 in
+    rw ((one_front Ident (codes "extern") ts s.0 p).1, e.fn, e.crate) refl
+
+-- what may be `unsafe`: a trait, or an implementation
+pub unsafe_lead : (is_unsafe : Bool) (lead : ItemLead) (word : List ℕ) (bits : List Bit) (f : Form) (depth : ℕ) (ts rest : Tokens)
+    → ((us mid : Tokens) → IsOne Ident word us mid → item_lead us ≡ lead)
+    → ((us at mid : Tokens) → IsOne Ident (codes "unsafe") us at → IsOne Ident word at mid → item_lead us ≡ lead)
+    → Spells (unsafe_form is_unsafe (Piece (keyword word ∷ bits) f)) depth ts rest → item_lead ts ≡ lead
+unsafe_lead true lead word bits f depth ts rest bare marked s =
+    let o : IsOne Ident (codes "unsafe") ts s.0 = before_blank (keyword (codes "unsafe")) ts s.0 s.1 in
+    let inner = s.2 in
+    let p = inner.1 in marked ts s.0 p.0 o p.1
+unsafe_lead false lead word bits f depth ts rest bare marked s = let p = s.1 in bare ts p.0 p.1

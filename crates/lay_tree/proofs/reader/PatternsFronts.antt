@@ -78,7 +78,7 @@ follows_fits Alternatives x ts h =
     let p = and_parts (not (is_op (codes "|") ts)) (single_follows x ts) h in (not-true (is_op (codes "|") ts) p.0, single_parts x ts p.1)
 follows_fits Single x ts h = single_parts x ts h
 
-free_quiet : (ts : Tokens) → Free ts → first (is_keyword (codes "as")) ts ≡ false → Quiet ts
+pub free_quiet : (ts : Tokens) → Free ts → first (is_keyword (codes "as")) ts ≡ false → Quiet ts
 free_quiet ts f r OfRename = r
 free_quiet ts f r OfArgs = rw (f.args, f.colons, f.paren) refl
 free_quiet ts f r OfCodeArgs = rw f.colons refl
