@@ -58,3 +58,4 @@ pub mod FunctionsSound
 pub mod FunctionsStarts
 pub mod FunctionsPatterns
 pub mod FunctionsCompleteParams
+pub mod FunctionsBegins
