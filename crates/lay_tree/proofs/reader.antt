@@ -59,3 +59,4 @@ pub mod FunctionsStarts
 pub mod FunctionsPatterns
 pub mod FunctionsCompleteParams
 pub mod FunctionsBegins
+pub mod FunctionsComplete

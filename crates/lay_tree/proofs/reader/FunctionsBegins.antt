@@ -193,17 +193,28 @@ module _ (h : FnHead) (depth : ℕ) (rest : Tokens) where
           let o : IsOne Ident (codes "fn") us v.0 = before_blank (keyword (codes "fn")) us v.0 v.1 in
           (keyword_other (codes "fn") (codes "extern") refl us v.0 o, rw (one_front Ident (codes "fn") us v.0 o).1 refl)
 
-abi_of : (site : Site) (h : FnHead) → is_fn_head site h ≡ true → is_abi h.abi ≡ true
-abi_of site h g =
+-- ---- what is good of a head
+
+pub record GoodHead (site : Site) (h : FnHead) : Type 0 where
+  pub say : may_say site h.safety ≡ true
+  pub abi : is_abi h.abi ≡ true
+  pub named : is_name h.name.raw h.name.text ≡ true
+  pub generics : is_generics h.generics ≡ true
+  pub params : are_fn_params h.params ≡ true
+  pub output : may_be_type h.output ≡ true
+
+pub good_head : (site : Site) (h : FnHead) → is_fn_head site h ≡ true → GoodHead site h
+good_head site h g =
     let say = may_say site h.safety in
     let named = is_name h.name.raw h.name.text in
     let five = and_parts (say && is_abi h.abi && named && is_generics h.generics && are_fn_params h.params) (may_be_type h.output) g in
     let four = and_parts (say && is_abi h.abi && named && is_generics h.generics) (are_fn_params h.params) five.0 in
     let three = and_parts (say && is_abi h.abi && named) (is_generics h.generics) four.0 in
     let two = and_parts (say && is_abi h.abi) named three.0 in
-    (and_parts say (is_abi h.abi) two.0).1
+    let one = and_parts say (is_abi h.abi) two.0 in
+    record { say = one.0; abi = one.1; named = two.1; generics = three.1; params = four.1; output = five.1 }
 
 -- Behind the words of a head that stand before it stands `fn`.
 pub fn_head_begins : (site : Site) (h : FnHead) (depth : ℕ) (ts rest : Tokens) → Spells (fn_head_form h) depth ts rest → is_fn_head site h ≡ true
     → first (is_keyword (codes "fn")) (behind_qualifiers ts) ≡ true
-fn_head_begins site h depth ts rest s g = (head_parts h depth rest ts s (abi_of site h g)).skipped
+fn_head_begins site h depth ts rest s g = (head_parts h depth rest ts s (good_head site h g).abi).skipped
