@@ -72,3 +72,5 @@ pub mod Restrictions
 pub mod FunctionsStarts
 pub mod FunctionsPatterns
 pub mod FunctionsCompleteParams
+pub mod FunctionsBegins
+pub mod FunctionsComplete

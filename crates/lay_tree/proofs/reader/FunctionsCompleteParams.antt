@@ -1,7 +1,7 @@
 -- Parameters of functions: what is spelled is read, where what is one level deeper is read.
 use Rattle.std.proofs.Common.{◌≡◌, ℕ, ◌≤◌, ◌<◌, max, Bool, true, false, not, ◌&&◌, ◌||◌, List, [], ◌∷◌, map, length, codes, Option, Some, None, inl, inr, refl, sym, ap, subst, ◌∙◌, arith, drop}
 use Rattle.std.specs.List.{list_all}
-use Rattle.std.proofs.lemmas.Bool.{and_from, and_parts}
+use Rattle.std.proofs.lemmas.Bool.{and_from, and_parts, or_right}
 use Rattle.lay_piece.specs.Forms.{closing, opening}
 use Rattle.lay_piece.specs.declared.kind.Delim.TheVariants.{Paren}
 use Rattle.lay_piece.specs.declared.kind.Kind.TheVariants as kind
@@ -160,11 +160,7 @@ module _ (depth : ℕ) (inner : PatWithin) (reads : PatReads depth inner) where
   own_type_read (Some x) ts rest s g e =
       let o = colon_operator ts s.0 s.1 in
       let r = quiet_read depth inner.kinds reads.kinds Bounds x s.0 rest (part_alone (about_type x).told.form depth s.0 rest s.2) g e.ends.quiet in
-      ((r.0, r.1, rw (o.0, o.1, r.2) refl), rw o.0 (or_true (ends_param ts)))
-    where
-      or_true : (b : Bool) → (b || true) ≡ true
-      or_true true = refl
-      or_true false = refl
+      ((r.0, r.1, rw (o.0, o.1, r.2) refl), or_right (ends_param ts) (is_op (codes ":") ts) o.0)
 
   own_self_there : (mutable : Bool) (x : Option Ty) (ts rest : Tokens) → Spells (param_kind_form (param.OwnSelf mutable x)) depth ts rest
       → may_be_type x ≡ true → KindThere (param.OwnSelf mutable x) ts rest
