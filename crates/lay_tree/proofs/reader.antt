@@ -56,3 +56,5 @@ pub mod HeadsLevel
 pub mod HeadParts
 pub mod Vis
 pub mod Restrictions
+pub mod FieldsSound
+pub mod VariantsSound
