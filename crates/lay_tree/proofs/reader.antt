@@ -58,3 +58,4 @@ pub mod Vis
 pub mod Restrictions
 pub mod FieldsSound
 pub mod VariantsSound
+pub mod FieldsComplete
