@@ -74,3 +74,6 @@ pub mod FunctionsPatterns
 pub mod FunctionsCompleteParams
 pub mod FunctionsBegins
 pub mod FunctionsComplete
+pub mod FieldsSound
+pub mod VariantsSound
+pub mod FieldsComplete
