@@ -59,3 +59,4 @@ pub mod HeadEnds
 pub mod AliasSound
 pub mod AliasComplete
 pub mod TraitHeads
+pub mod ImplFronts
