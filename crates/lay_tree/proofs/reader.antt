@@ -77,3 +77,4 @@ pub mod FunctionsComplete
 pub mod FieldsSound
 pub mod VariantsSound
 pub mod FieldsComplete
+pub mod ImplFronts
