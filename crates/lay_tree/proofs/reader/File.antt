@@ -18,13 +18,16 @@ use Rattle.lay_tree.specs.reader.Item.{more_items, items_by, item_at}
 use Rattle.lay_tree.specs.reader.Loops.{◌>>=◌, nodes, deepest}
 use Rattle.lay_tree.specs.declared.attr.Attr.{Attr}
 use Rattle.lay_tree.specs.declared.file.File.{File}
+use Rattle.lay_tree.specs.declared.heads.Site.TheVariants.{Module}
 use Rattle.lay_tree.specs.declared.item.Item.{Item}
 use Rattle.lay_tree.proofs.Parts.{Rows, rows_to, rows_joined, rows_parts, rows_spelled, rows_good, SpelledAt, lines_spelled, lines_rows}
 use Rattle.lay_tree.proofs.Steps.{got_same, same_some, chosen, bind_some}
 use Rattle.lay_tree.proofs.reader.Attr.{attributes_sound, attrs_spelled, attrs_rows}
 use Rattle.lay_tree.proofs.reader.AttrRead.{attributes_complete}
 use Rattle.lay_tree.proofs.reader.Item.{item_sound}
-use Rattle.lay_tree.proofs.reader.ItemRead.{items_begin, items_complete, item_complete}
+use Rattle.lay_tree.proofs.reader.ItemExact.{heads_complete, heads_sound}
+use Rattle.lay_tree.proofs.reader.ItemKinds.{items_begin, items_complete}
+use Rattle.lay_tree.proofs.reader.ItemRead.{item_complete}
 use Rattle.lay_tree.proofs.reader.Needs.{nodes_sound}
 
 none_left : (ts : Tokens) → at_end ts ≡ true → ts ≡ []
@@ -34,33 +37,33 @@ none_left (t ∷ ts) h = absurd (cc)
 -- The parts are spelled with nothing left, and are well formed.
 abbrev GoodFile : ℕ → Tokens → (List Attr × List Item) → Type 0
 GoodFile depth ts file =
-    Spells (lines (map attr_form file.0 ++ forms (map about_item file.1))) depth ts []
-    × ((are_attrs true file.0 && all_good (map about_item file.1)) ≡ true)
+    Spells (lines (map attr_form file.0 ++ forms (map (about_item Module) file.1))) depth ts []
+    × ((are_attrs true file.0 && all_good (map (about_item Module) file.1)) ≡ true)
 
 whole_parts : (depth : ℕ) (ts : Tokens) (attrs : List Attr) (items : List Item) → InText ts
-    → (attributes true ts >>= (λ a. items_by (item_at depth) a.1 >>= (λ i.
+    → (attributes true ts >>= (λ a. items_by (item_at Module depth) a.1 >>= (λ i.
     let found : Option (List Attr × List Item) = if at_end i.1 then Some (a.0, nodes i.0) else None in found))) ≡ Some (attrs, items)
     → GoodFile depth ts (attrs, items)
 unfolding items_by
 whole_parts depth ts attrs items t h =
     let last : List Attr → (List (Item × ℕ) × Tokens) → Option (List Attr × List Item) = λ a i. if at_end i.1 then Some (a, nodes i.0) else None in
-    let b = bind_some (attributes true ts) (λ a. items_by (item_at depth) a.1 >>= last a.0) (attrs, items) h in
-    let c = bind_some (items_by (item_at depth) b.0.1) (last b.0.0) (attrs, items) b.2 in
+    let b = bind_some (attributes true ts) (λ a. items_by (item_at Module depth) a.1 >>= last a.0) (attrs, items) h in
+    let c = bind_some (items_by (item_at Module depth) b.0.1) (last b.0.0) (attrs, items) b.2 in
     let a = attributes_sound true depth ts b.0.0 b.0.1 t b.1 in
     let before = attrs_spelled true depth b.0.0 ts b.0.1 a.0 in
-    let r = nodes_sound about_item depth (item_at depth) (item_sound depth) more_items b.0.1 c.0.0 c.0.1 a.1 c.1 in
+    let r = nodes_sound (about_item Module) depth (item_at Module depth) (item_sound heads_sound Module depth) more_items b.0.1 c.0.0 c.0.1 a.1 c.1 in
     let read = nodes c.0.0 in
-    let behind = rows_spelled about_item (deepest c.0.0) read b.0.1 c.0.1 r.1 in
+    let behind = rows_spelled (about_item Module) (deepest c.0.0) read b.0.1 c.0.1 r.1 in
     elim (chosen (at_end c.0.1) (Some (b.0.0, read)) None (Some (attrs, items)) c.2) [
       | inl g ↦
-          let S : Tokens → Type 0 = λ us. Rows (SpelledAt (deepest c.0.0)) (forms (map about_item read)) b.0.1 us in
+          let S : Tokens → Type 0 = λ us. Rows (SpelledAt (deepest c.0.0)) (forms (map (about_item Module) read)) b.0.1 us in
           let ended = subst S {x = c.0.1} (none_left c.0.1 g.0) behind.0 in
           let up = rows_to (SpelledAt (deepest c.0.0)) (SpelledAt depth) (λ f us mid s. deeper f (deepest c.0.0) depth us mid r.0 s)
-          (forms (map about_item read)) b.0.1 [] ended in
-          let parts = rows_joined (SpelledAt depth) (map attr_form b.0.0) (forms (map about_item read)) ts b.0.1 [] before.0 up in
-          let spelled = lines_spelled (map attr_form b.0.0 ++ forms (map about_item read)) depth ts [] parts in
+          (forms (map (about_item Module) read)) b.0.1 [] ended in
+          let parts = rows_joined (SpelledAt depth) (map attr_form b.0.0) (forms (map (about_item Module) read)) ts b.0.1 [] before.0 up in
+          let spelled = lines_spelled (map attr_form b.0.0 ++ forms (map (about_item Module) read)) depth ts [] parts in
           same_some (GoodFile depth ts) (b.0.0, read) (attrs, items) g.1
-          (spelled, and_from (are_attrs true b.0.0) (all_good (map about_item read)) before.1 behind.1)
+          (spelled, and_from (are_attrs true b.0.0) (all_good (map (about_item Module) read)) before.1 behind.1)
       | inr g ↦ absurd (cc)
     ]
 
@@ -71,21 +74,21 @@ unfolding whole
 whole_sound ts attrs items t h file a i = rw (a, i) (whole_parts top ts attrs items t h)
 
 whole_read : (ts mid : Tokens) (attrs : List Attr) (items : List Item) (read : List (Item × ℕ)) → attributes true ts ≡ Some (attrs, mid)
-    → items_by (item_at top) mid ≡ Some (read, []) → nodes read ≡ items → whole ts ≡ Some (attrs, items)
+    → items_by (item_at Module top) mid ≡ Some (read, []) → nodes read ≡ items → whole ts ≡ Some (attrs, items)
 unfolding whole
 whole_read ts mid attrs items read a i e = rw (a, i, e) refl
 
 -- A normal file that is spelled by them is read.
 pub whole_complete : (file : File) (ts : Tokens) → Spells (form_of_file file) top ts [] → is_normal file ≡ true → whole ts ≡ Some (file.attrs, file.items)
 whole_complete file ts s g =
-    let goods = and_parts (are_attrs true file.attrs) (all_good (map about_item file.items)) g in
-    let a = rows_parts (SpelledAt top) (map attr_form file.attrs) (forms (map about_item file.items)) ts []
-    (lines_rows (map attr_form file.attrs ++ forms (map about_item file.items)) top ts [] s) in
+    let goods = and_parts (are_attrs true file.attrs) (all_good (map (about_item Module) file.items)) g in
+    let a = rows_parts (SpelledAt top) (map attr_form file.attrs) (forms (map (about_item Module) file.items)) ts []
+    (lines_rows (map attr_form file.attrs ++ forms (map (about_item Module) file.items)) top ts [] s) in
     let attrs = attrs_rows true top file.attrs ts a.0 a.1 goods.0 in
-    let items = rows_good about_item top file.items a.0 [] a.2 goods.1 in
-    let r = items_complete top (item_at top) (item_complete top top (omega arith)) file.items a.0 [] items refl in
+    let items = rows_good (about_item Module) top file.items a.0 [] a.2 goods.1 in
+    let r = items_complete Module top (item_at Module top) (item_complete heads_complete Module top top (omega arith)) file.items a.0 [] items refl in
     whole_read ts a.0 file.attrs file.items r.0
-    (attributes_complete true file.attrs top ts a.0 attrs (items_begin file.items top a.0 [] items refl)) r.3 r.1
+    (attributes_complete true file.attrs top ts a.0 attrs (items_begin Module file.items top a.0 [] items refl)) r.3 r.1
 
 -- Tokens spell one file at most.
 pub file_unique : (file other : File) (ts : Tokens) → Spells (form_of_file file) top ts [] → is_normal file ≡ true

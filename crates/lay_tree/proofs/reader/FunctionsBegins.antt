@@ -3,6 +3,7 @@ use Rattle.std.proofs.Common.{◌≡◌, ℕ, Bool, true, false, not, ◌&&◌, 
 use Rattle.std.specs.List.{list_any}
 use Rattle.std.specs.Str.{bytes_eq}
 use Rattle.std.proofs.lemmas.Bool.{and_parts, or_right, false_from_ne_true}
+use Rattle.lay_piece.specs.declared.kind.Kind.TheVariants as kind
 use Rattle.lay_piece.specs.declared.kind.Kind.TheVariants.{Ident}
 use Rattle.lay_piece.specs.declared.kind.Kind.{Kind}
 use Rattle.lay_token.proofs.Deciding.{bytes_self}
@@ -15,7 +16,7 @@ use Rattle.lay_tree.specs.nodes.Functions.{are_fn_params, fn_head_form, is_fn_he
 use Rattle.lay_tree.specs.nodes.Generics.{is_generics}
 use Rattle.lay_tree.specs.nodes.Types as types
 use Rattle.lay_tree.specs.nodes.Types.{abi_form, abi_name, is_abi, is_abi_name, is_const}
-use Rattle.lay_tree.specs.reader.Functions.{async_flag, behind_abi, behind_qualifiers, const_flag, safety_at}
+use Rattle.lay_tree.specs.reader.Functions.{async_flag, behind_abi, behind_qualifiers, behind_string, const_flag, is_string_kind, safety_at}
 use Rattle.lay_tree.specs.reader.Generics.{generics}
 use Rattle.lay_tree.specs.reader.Types.{abi, if_there, is_string_token, output}
 use Rattle.lay_tree.specs.reader.Words.{name}
@@ -57,6 +58,12 @@ word_front word words ts mid o = (word, mid, rw (bytes_self word) refl, o)
 
 front_more : (word : List ℕ) (words : List (List ℕ)) (ts : Tokens) → WordFront words ts → WordFront (word ∷ words) ts
 front_more word words ts f = (f.0, f.1, or_right (bytes_eq f.0 word) (list_any (bytes_eq f.0) words) f.2, f.3)
+
+-- A string is told by its kind, and is no word.
+pub string_kind : (k : Kind) (text : List ℕ) → is_string k text ≡ true → (is_string_kind k ≡ true) × (is_ident k ≡ false)
+string_kind kind.Str text h = (refl, refl)
+string_kind kind.RawStr text h = (refl, refl)
+string_kind _ text h = absurd (cc)
 
 -- ---- the words before the name
 
@@ -134,7 +141,7 @@ module _ (h : FnHead) (depth : ℕ) (rest : Tokens) where
   -- behind `extern` and what it is for stands `fn`
   abi_skipped : (a : Option Abi) (ts : Tokens) → Spells (abi_form a (Piece (keyword (codes "fn") ∷ Blank ∷ []) (signature_form h))) depth ts rest
       → is_abi a ≡ true
-      → first (is_keyword (codes "fn")) (if first (is_keyword (codes "extern")) ts then behind_abi (tail ts) else ts) ≡ true
+      → first (is_keyword (codes "fn")) (behind_abi ts) ≡ true
   abi_skipped None ts s g =
       let o : IsOne Ident (codes "fn") ts s.0 = before_blank (keyword (codes "fn")) ts s.0 s.1 in
       rw (keyword_other (codes "fn") (codes "extern") refl ts s.0 o) (keyword_there (codes "fn") ts s.0 o)
@@ -143,24 +150,16 @@ module _ (h : FnHead) (depth : ℕ) (rest : Tokens) where
       let left = one_left Ident (codes "extern") ts s.0 o in
       rw (keyword_there (codes "extern") ts s.0 o, left) (by a.name s.0 s.2 g)
     where
-      no_word : (k : Kind) (text : List ℕ) → is_string k text ≡ true → (is_ident k && bytes_eq text (codes "fn")) ≡ false
-      no_word Ident text e = absurd (cc)
-      no_word _ text e = refl
-
       by : (n : Option Literal) (us : Tokens) → Spells (types.abi_name n (Piece (keyword (codes "fn") ∷ Blank ∷ []) (signature_form h))) depth us rest
-          → types.is_abi_name n ≡ true → first (is_keyword (codes "fn")) (behind_abi us) ≡ true
-      by None us t e =
-          let o : IsOne Ident (codes "fn") us t.0 = before_blank (keyword (codes "fn")) us t.0 t.1 in
-          let there = keyword_there (codes "fn") us t.0 o in
-          rw there there
+          → types.is_abi_name n ≡ true → first (is_keyword (codes "fn")) (behind_string us) ≡ true
+      by None us t e = rw (one_front Ident (codes "fn") us t.0 (before_blank (keyword (codes "fn")) us t.0 t.1)).1 refl
       by (Some l) us t e =
           let o : IsOne l.kind l.text us t.0 = t.1 in
           let more = t.2 in
           let fn_there = more.2 in
-          let no : first (is_keyword (codes "fn")) us ≡ false = rw ((one_front l.kind l.text us t.0 o).1, no_word l.kind l.text e) refl in
           let same = blank_left t.0 more.0 more.1 in
           let there = keyword_there (codes "fn") more.0 fn_there.0 (before_blank (keyword (codes "fn")) more.0 fn_there.0 fn_there.1) in
-          rw (no, one_left l.kind l.text us t.0 o, same) there
+          rw ((one_front l.kind l.text us t.0 o).1, (string_kind l.kind l.text e).0, same) there
 
   pub head_parts : (ts : Tokens) → Spells (fn_head_form h) depth ts rest → is_abi h.abi ≡ true → HeadParts ts
   head_parts ts s g =

@@ -20,9 +20,9 @@ use Rattle.lay_tree.specs.Words.{is_path_class, is_string}
 use Rattle.lay_tree.specs.nodes.Functions.{about_fn_head, fn_head_form, is_fn_head}
 use Rattle.lay_tree.specs.nodes.Heads.{about_alias, about_enum, about_extern_crate, about_impl_head, about_struct, about_union, about_value_head, ends_head, headed, is_trait_head, trait_head_form, of_type, unsafe_form}
 use Rattle.lay_tree.specs.nodes.Types.{is_abi_name, is_given}
-use Rattle.lay_tree.specs.reader.Functions.{fn_head}
+use Rattle.lay_tree.specs.reader.Functions.{async_flag, behind_abi, behind_string, fn_head, safety_at}
 use Rattle.lay_tree.specs.reader.Heads.{alias, enum, extern_crate, impl_head, struct, trait_head, union, value_head}
-use Rattle.lay_tree.specs.reader.Item.{ItemLead, OfAlias, OfCall, OfEnum, OfExternCrate, OfForeign, OfFunction, OfImpl, OfImport, OfModule, OfRules, OfStruct, OfTrait, OfUnion, OfValue, begins_function, begins_rules, begins_union, is_string_kind, item_lead, macro_lead, may_stand, skips_abi, skips, skips_name}
+use Rattle.lay_tree.specs.reader.Item.{ItemLead, OfAlias, OfCall, OfEnum, OfExternCrate, OfForeign, OfFunction, OfImpl, OfImport, OfModule, OfRules, OfStruct, OfTrait, OfUnion, OfValue, begins_function, begins_rules, begins_union, item_lead, macro_lead, may_stand}
 use Rattle.lay_tree.specs.reader.Loops.{Got, ◌>>=◌}
 use Rattle.lay_tree.specs.reader.Patterns.{PatWithin}
 use Rattle.lay_tree.specs.reader.Words.{name, name_by}
@@ -41,6 +41,9 @@ use Rattle.lay_tree.proofs.Fronts.{one_front, op_front, other_op}
 use Rattle.lay_tree.proofs.Parts.{word_kind, before_blank, behind_blank, bit_alone}
 use Rattle.lay_tree.proofs.reader.Call.{SpelledCall}
 use Rattle.lay_tree.proofs.reader.Exact.{IsRead}
+use Rattle.lay_tree.specs.declared.functions.Safety.{Safety}
+use Rattle.lay_tree.specs.declared.functions.Safety.TheVariants as safety
+use Rattle.lay_tree.proofs.reader.FunctionsBegins.{string_kind}
 use Rattle.lay_tree.proofs.reader.HeadsLevel.{CompleteHead}
 use Rattle.lay_tree.proofs.reader.PatternsCompletePaths.{PatReads}
 use Rattle.lay_tree.proofs.reader.SimplePath.{OfLead, OfOne, OfWord, SimplePathFront, simple_path_front, simple_path_no_keyword}
@@ -125,12 +128,6 @@ pub unsafe_trait_lead : (ts at mid : Tokens) → IsOne Ident (codes "unsafe") ts
 unfolding item_lead
 unsafe_trait_lead ts at mid o p = rw ((one_front Ident (codes "unsafe") ts at o).1, (one_front Ident (codes "trait") at mid p).1) refl
 
--- A string is told by its kind, and no word.
-string_kind : (k : Kind) (text : List ℕ) → is_string k text ≡ true → (is_string_kind k ≡ true) × (is_ident k ≡ false)
-string_kind kind.Str text h = (refl, refl)
-string_kind kind.RawStr text h = (refl, refl)
-string_kind _ text h = absurd (cc)
-
 -- ---- macros
 
 name_none : (ts : Tokens) → first (λ t. is_opener t.kind) ts ≡ true → name ts ≡ None
@@ -184,30 +181,38 @@ no_union c depth ts rest s = by (simple_path_front c.path depth ts s.mid s.good 
     by (OfOne true text o) = rw (one_front RawIdent text ts s.mid o).1 refl
     by (OfOne false text o) = rw ((one_front Ident text ts s.mid o).1, op_no_name (codes "!") s.mid s.mark.0) (none (bytes_eq text (codes "union")))
 
-op_no_fn : (op : List ℕ) (ts : Tokens) → is_op op ts ≡ true → first (is_keyword (codes "fn")) (skips_abi ts) ≡ false
+op_no_fn : (op : List ℕ) (ts : Tokens) → is_op op ts ≡ true → first (is_keyword (codes "fn")) (behind_abi ts) ≡ false
 op_no_fn op ts h = rw (op_front op ts h).2 refl
+
+-- No function begins where neither its words stand nor `safe`, and none behind a `safe` that an operator follows.
+abbrev Clear : Tokens → Type 0
+Clear ts = (word : List ℕ) → is_path_class (class_of word) ≡ false → first (is_keyword word) ts ≡ false
+
+no_fn : (ts : Tokens) → Clear ts → ((b : Bool) → first (is_keyword (codes "safe")) ts ≡ b → b ≡ true → first (is_keyword (codes "fn")) (behind_abi (tail ts)) ≡ false)
+    → first (is_keyword (codes "fn")) (behind_abi (safety_at (async_flag ts).1).1) ≡ false
+no_fn ts clear safe =
+    rw (clear (codes "async") refl, clear (codes "unsafe") refl) (by (first (is_keyword (codes "safe")) ts) refl)
+  where
+    whole : first (is_keyword (codes "fn")) (behind_abi ts) ≡ false
+    whole = rw (clear (codes "extern") refl) (clear (codes "fn") refl)
+
+    by : (b : Bool) → first (is_keyword (codes "safe")) ts ≡ b
+        → (let told : Option Safety × Tokens = if b then (Some safety.Safe, tail ts) else (None, ts) in first (is_keyword (codes "fn")) (behind_abi told.1)) ≡ false
+    by true e = safe true e refl
+    by false e = whole
 
 no_function : (c : MacroCall) (depth : ℕ) (ts rest : Tokens) → SpelledCall c depth ts rest → begins_function ts ≡ false
 no_function c depth ts rest s =
-    let no : (word : List ℕ) → is_path_class (class_of word) ≡ false → first (is_keyword word) ts ≡ false =
-    λ word n. simple_path_no_keyword word n c.path depth ts s.mid s.good s.path in
-    rw (no (codes "const") refl, no (codes "async") refl, no (codes "unsafe") refl) (by (simple_path_front c.path depth ts s.mid s.good s.path) no)
+    let clear : Clear ts = λ word n. simple_path_no_keyword word n c.path depth ts s.mid s.good s.path in
+    rw (clear (codes "const") refl) (no_fn ts clear (λ b e t. by (simple_path_front c.path depth ts s.mid s.good s.path) (e ∙ t)))
   where
-    skipped : (b : Bool) (us vs : Tokens) → first (is_keyword (codes "fn")) (skips_abi us) ≡ false → first (is_keyword (codes "fn")) (skips_abi vs) ≡ false
-        → first (is_keyword (codes "fn")) (skips_abi (if b then us else vs)) ≡ false
-    skipped true us vs h k = h
-    skipped false us vs h k = k
-
-    whole : ((word : List ℕ) → is_path_class (class_of word) ≡ false → first (is_keyword word) ts ≡ false) → first (is_keyword (codes "fn")) (skips_abi ts) ≡ false
-    whole clear = rw (clear (codes "extern") refl) (clear (codes "fn") refl)
-
-    by : SimplePathFront ts s.mid → ((word : List ℕ) → is_path_class (class_of word) ≡ false → first (is_keyword word) ts ≡ false)
-        → first (is_keyword (codes "fn")) (skips_abi (if first (is_keyword (codes "safe")) ts then tail ts else ts)) ≡ false
-    by (OfLead h) clear = rw (op_front (codes "::") ts h).2 refl
-    by (OfWord raw text at o h) clear =
-        skipped (first (is_keyword (codes "safe")) ts) (tail ts) ts (rw (one_left (word_kind raw) text ts at o) (op_no_fn (codes "::") at h)) (whole clear)
-    by (OfOne raw text o) clear =
-        skipped (first (is_keyword (codes "safe")) ts) (tail ts) ts (rw (one_left (word_kind raw) text ts s.mid o) (op_no_fn (codes "!") s.mid s.mark.0)) (whole clear)
+    by : SimplePathFront ts s.mid → first (is_keyword (codes "safe")) ts ≡ true → first (is_keyword (codes "fn")) (behind_abi (tail ts)) ≡ false
+    by (OfLead h) e = absurd (lead_no_safe ts h e)
+      where
+        lead_no_safe : (us : Tokens) → is_op (codes "::") us ≡ true → first (is_keyword (codes "safe")) us ≡ true → ⊥
+        lead_no_safe us h e = absurd (cc (subst (λ vs. first (is_keyword (codes "safe")) vs ≡ true) (op_front (codes "::") us h).2 e))
+    by (OfWord raw text at o h) e = rw (one_left (word_kind raw) text ts at o) (op_no_fn (codes "::") at h)
+    by (OfOne raw text o) e = rw (one_left (word_kind raw) text ts s.mid o) (op_no_fn (codes "!") s.mid s.mark.0)
 
 pub call_lead : (c : MacroCall) (depth : ℕ) (ts rest : Tokens) → SpelledCall c depth ts rest → item_lead ts ≡ OfCall
 unfolding item_lead
@@ -248,29 +253,16 @@ const_lead g x depth ts rest s good =
     let m = colon_operator n.0 n.2.0 n.2.1 in
     let clear : (word : List ℕ) → is_path_class (class_of word) ≡ false → first (is_keyword word) s.0 ≡ false =
     λ word none. subst (λ us. first (is_keyword word) us ≡ false) (one_left Ident (codes "const") ts s.0 o) (const_no_keyword word none g x depth ts rest s good) in
-    rw ((one_front Ident (codes "const") ts s.0 o).1, behind g s.0 n.0 n.1 m.0 clear) refl
+    rw ((one_front Ident (codes "const") ts s.0 o).1, no_fn s.0 clear (λ b e t. behind g s.0 n.0 n.1 m.0)) refl
   where
-    at_name : (us vs : Tokens) → tail us ≡ vs → is_op (codes ":") vs ≡ true
-        → ((word : List ℕ) → is_path_class (class_of word) ≡ false → first (is_keyword word) us ≡ false)
-        → first (is_keyword (codes "fn")) (skips_abi (skips (codes "safe") (skips (codes "unsafe") (skips (codes "async") us)))) ≡ false
-    at_name us vs e colon clear =
-        rw (clear (codes "async") refl, clear (codes "unsafe") refl) (by (first (is_keyword (codes "safe")) us) (rw e (op_no_fn (codes ":") vs colon))
-        (rw (clear (codes "extern") refl) (clear (codes "fn") refl)))
-      where
-        by : (b : Bool) → first (is_keyword (codes "fn")) (skips_abi (tail us)) ≡ false → first (is_keyword (codes "fn")) (skips_abi us) ≡ false
-            → first (is_keyword (codes "fn")) (skips_abi (if b then tail us else us)) ≡ false
-        by true h k = h
-        by false h k = k
-
     behind : (name : GivenName) (us vs : Tokens) → RenameIs name us vs → is_op (codes ":") vs ≡ true
-        → ((word : List ℕ) → is_path_class (class_of word) ≡ false → first (is_keyword word) us ≡ false)
-        → first (is_keyword (codes "fn")) (skips_abi (skips (codes "safe") (skips (codes "unsafe") (skips (codes "async") us)))) ≡ false
-    behind (given.Name n) us vs i colon clear = at_name us vs (one_left (word_kind n.raw) n.text us vs i.0) colon clear
-    behind given.Underscore us vs i colon clear = at_name us vs (one_left kind.Underscore (codes "_") us vs i) colon clear
+        → first (is_keyword (codes "fn")) (behind_abi (tail us)) ≡ false
+    behind (given.Name n) us vs i colon = rw (one_left (word_kind n.raw) n.text us vs i.0) (op_no_fn (codes ":") vs colon)
+    behind given.Underscore us vs i colon = rw (one_left kind.Underscore (codes "_") us vs i) (op_no_fn (codes ":") vs colon)
 
 -- A foreign block begins so: behind `extern` a string or its `{` stands.
 pub record ForeignFront (ts : Tokens) : Type 0 where
-  pub fn : first (is_keyword (codes "fn")) (skips_name ts) ≡ false
+  pub fn : first (is_keyword (codes "fn")) (behind_string ts) ≡ false
   pub crate : first (is_keyword (codes "crate")) ts ≡ false
 
 pub foreign_front : (abi : Option Literal) (depth : ℕ) (ts mid rest : Tokens) → Spells (foreign_abi abi) depth ts mid → is_abi_name abi ≡ true

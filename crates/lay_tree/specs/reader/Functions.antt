@@ -2,6 +2,8 @@
 use Rattle.std.specs.Prelude.{ℕ, zero, suc, max, ◌&&◌, ◌||◌, not, Bool, true, false, if◌then◌else◌, List, drop, codes, Option, Some, None}
 use Rattle.lay_token.specs.Operators.{is_op}
 use Rattle.lay_piece.specs.declared.kind.Delim.TheVariants.{Paren}
+use Rattle.lay_piece.specs.declared.kind.Kind.{Kind}
+use Rattle.lay_piece.specs.declared.kind.Kind.TheVariants as kind
 use Rattle.lay_tree.specs.Ahead.{Tokens, first, tail, is_keyword, is_lifetime, is_mark, opens, closes}
 use Rattle.lay_tree.specs.nodes.Functions.{ends_variadic, may_say, receives_first, varies_last}
 use Rattle.lay_tree.specs.reader.Attr.{attributes}
@@ -124,14 +126,22 @@ async_flag ts = flag (is_keyword (codes "async")) ts
 abbrev pub safety_behind : Tokens → Option Safety × Tokens
 safety_behind ts = safety_at (async_flag (const_flag ts).1).1
 
--- behind `extern`: one token may say what it is for
-abbrev pub behind_abi : Tokens → Tokens
-behind_abi ts = if first (is_keyword (codes "fn")) ts then ts else tail ts
+abbrev pub is_string_kind : Kind → Bool
+is_string_kind kind.Str = true
+is_string_kind kind.RawStr = true
+is_string_kind _ = false
 
--- what stands behind the words before `fn`, where the head of a function stands
+-- the string behind `extern`, if one stands there, left behind
+abbrev pub behind_string : Tokens → Tokens
+behind_string ts = if first (λ t. is_string_kind t.kind) ts then tail ts else ts
+
+-- an ABI, left behind
+abbrev pub behind_abi : Tokens → Tokens
+behind_abi ts = if first (is_keyword (codes "extern")) ts then behind_string (tail ts) else ts
+
+-- the words that may stand before `fn`, left behind
 abbrev pub behind_qualifiers : Tokens → Tokens
-behind_qualifiers ts =
-    if first (is_keyword (codes "extern")) (safety_behind ts).1 then behind_abi (tail (safety_behind ts).1) else (safety_behind ts).1
+behind_qualifiers ts = behind_abi (safety_behind ts).1
 
 abbrev pub head_output : Within → Tokens → Read (Option Ty)
 head_output within ts = if_read (is_op (codes "->") ts) (λ us. within.types Bounds (drop 2 us)) ts

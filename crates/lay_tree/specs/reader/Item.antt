@@ -2,14 +2,11 @@
 use Rattle.std.specs.Prelude.{ℕ, zero, suc, max, not, ◌&&◌, ◌||◌, Bool, true, false, if◌then◌else◌, List, [], ◌∷◌, drop, codes, Option, Some, None, is_some}
 use Rattle.lay_token.specs.Operators.{is_op}
 use Rattle.lay_piece.specs.declared.kind.Delim.TheVariants.{Brace}
-use Rattle.lay_piece.specs.declared.kind.Kind.{Kind}
-use Rattle.lay_piece.specs.declared.kind.Kind.TheVariants as kind
-use Rattle.lay_token.specs.declared.token.Token.{Token}
 use Rattle.lay_tree.specs.Ahead.{Tokens, first, tail, is_keyword, is_mark, opens, closes}
 use Rattle.lay_tree.specs.nodes.Item.{told_of_kind, in_module, is_inherited, may_lack_body, may_lack_value}
 use Rattle.lay_tree.specs.reader.Attr.{attributes}
 use Rattle.lay_tree.specs.reader.Call.{call, behind_end}
-use Rattle.lay_tree.specs.reader.Functions.{fn_head, insides}
+use Rattle.lay_tree.specs.reader.Functions.{behind_qualifiers, fn_head, insides}
 use Rattle.lay_tree.specs.reader.Heads.{alias, enum, extern_crate, impl_head, semicolon, struct, trait_head, union, unsafe_flag, value_head}
 use Rattle.lay_tree.specs.reader.Loops.{Got, Read, ◌>>=◌, passed, nodes, deepest, repeat}
 use Rattle.lay_tree.specs.reader.Patterns.{PatWithin}
@@ -71,25 +68,6 @@ pub data ItemLead : Type 0 where
   OfForeign : ItemLead
   OfRules : ItemLead
   OfCall : ItemLead
-
-abbrev pub skips : List ℕ → Tokens → Tokens
-skips word ts = if first (is_keyword word) ts then tail ts else ts
-
-abbrev pub is_string_kind : Kind → Bool
-is_string_kind kind.Str = true
-is_string_kind kind.RawStr = true
-is_string_kind _ = false
-
--- an ABI, left behind
-abbrev pub skips_name : Tokens → Tokens
-skips_name ts = if first (λ t. is_string_kind t.kind) ts then tail ts else ts
-
-abbrev pub skips_abi : Tokens → Tokens
-skips_abi ts = if first (is_keyword (codes "extern")) ts then skips_name (tail ts) else ts
-
--- what a function may say before its `fn`, left behind
-abbrev pub behind_qualifiers : Tokens → Tokens
-behind_qualifiers ts = skips_abi (skips (codes "safe") (skips (codes "unsafe") (skips (codes "async") (skips (codes "const") ts))))
 
 abbrev pub begins_function : Tokens → Bool
 begins_function ts = first (is_keyword (codes "fn")) (behind_qualifiers ts)
