@@ -60,3 +60,5 @@ pub mod AliasSound
 pub mod AliasComplete
 pub mod TraitHeads
 pub mod ImplFronts
+pub mod ImplHeadsSound
+pub mod ImplHeadsComplete
