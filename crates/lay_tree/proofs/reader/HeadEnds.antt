@@ -91,9 +91,9 @@ opens_front : (d : Delim) (ts : Tokens) → first (opens d) ts ≡ true → (tex
 opens_front d [] h = absurd (cc)
 opens_front d (t ∷ ts) h = (t.text, (opener_kind d t.kind h, refl, refl))
 
-where_body : (ts rest : Tokens) → IsOne Ident (codes "where") ts rest → BeforeBody ts
+where_before : (ts rest : Tokens) → IsOne Ident (codes "where") ts rest → BeforeBody ts
 unfolding lead_at
-where_body ts rest o =
+where_before ts rest o =
     let e = where_ends ts rest o in
     let f = (one_front Ident (codes "where") ts rest o).1 in
     record {
@@ -106,9 +106,9 @@ where_body ts rest o =
       lead = rw f refl;
     }
 
-brace_body : (text : List ℕ) (ts rest : Tokens) → IsOne (Opener Brace) text ts rest → BeforeBody ts
+brace_before : (text : List ℕ) (ts rest : Tokens) → IsOne (Opener Brace) text ts rest → BeforeBody ts
 unfolding lead_at
-brace_body text ts rest o =
+brace_before text ts rest o =
     let f = (one_front (Opener Brace) text ts rest o).1 in
     let quiet : Quiet ts = kind_quiet (Opener Brace) text refl refl ts rest o in
     record {
@@ -123,8 +123,8 @@ brace_body text ts rest o =
 
 pub before_body : (ts : Tokens) → ends_head ts ≡ true → BeforeBody ts
 before_body ts h = elim (or_cases (first (is_keyword (codes "where")) ts) (first (opens Brace) ts) h) [
-  | inl e ↦ where_body ts (tail ts) (keyword_one (codes "where") ts e)
-  | inr e ↦ let o = opens_front Brace ts e in brace_body o.0 ts (tail ts) o.1
+  | inl e ↦ where_before ts (tail ts) (keyword_one (codes "where") ts e)
+  | inr e ↦ let o = opens_front Brace ts e in brace_before o.0 ts (tail ts) o.1
 ]
 
 -- ---- the words that a head begins with
