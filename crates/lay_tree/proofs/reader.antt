@@ -78,3 +78,5 @@ pub mod FieldsSound
 pub mod VariantsSound
 pub mod FieldsComplete
 pub mod ImplFronts
+pub mod ImplHeadsSound
+pub mod ImplHeadsComplete

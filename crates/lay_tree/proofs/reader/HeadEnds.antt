@@ -1,14 +1,14 @@
 -- What stands behind the heads of items, and the words that they begin with.
 use Rattle.std.specs.Str.{bytes_eq}
-use Rattle.std.proofs.Common.{Bool, List, None, [], codes, false, inl, inr, map, refl, subst, sym, true, ℕ, ◌∷◌, ◌≡◌}
+use Rattle.std.proofs.Common.{if◌then◌else◌, Bool, List, None, [], codes, false, inl, inr, map, refl, subst, sym, true, ℕ, ◌∷◌, ◌≡◌, ap}
 use Rattle.std.proofs.lemmas.Bool.{or_cases}
 use Rattle.lay_piece.specs.Chars.{begins}
 use Rattle.lay_piece.specs.declared.kind.Delim.TheVariants.{Brace}
 use Rattle.lay_piece.specs.declared.kind.Delim.{Delim}
 use Rattle.lay_piece.specs.declared.kind.Kind.TheVariants.{Ident, Opener, Punct}
 use Rattle.lay_token.specs.Operators.{is_op}
-use Rattle.lay_form.specs.Form.{Form}
-use Rattle.lay_form.specs.Spelled.{IsOne, Spells}
+use Rattle.lay_form.specs.Form.{Form, Blank, keyword}
+use Rattle.lay_form.specs.Spelled.{IsOne, Spells, AreBits}
 use Rattle.lay_tree.specs.Ahead.{Tokens, first, is_keyword, is_mark, opens, tail}
 use Rattle.lay_tree.specs.Begins.{begins_bound, lead_at}
 use Rattle.lay_tree.specs.Follow.{OfArgs, OfArrow, OfBang, OfCodeArgs, OfColons, OfRename}
@@ -91,9 +91,9 @@ opens_front : (d : Delim) (ts : Tokens) → first (opens d) ts ≡ true → (tex
 opens_front d [] h = absurd (cc)
 opens_front d (t ∷ ts) h = (t.text, (opener_kind d t.kind h, refl, refl))
 
-where_body : (ts rest : Tokens) → IsOne Ident (codes "where") ts rest → BeforeBody ts
+where_before : (ts rest : Tokens) → IsOne Ident (codes "where") ts rest → BeforeBody ts
 unfolding lead_at
-where_body ts rest o =
+where_before ts rest o =
     let e = where_ends ts rest o in
     let f = (one_front Ident (codes "where") ts rest o).1 in
     record {
@@ -106,9 +106,9 @@ where_body ts rest o =
       lead = rw f refl;
     }
 
-brace_body : (text : List ℕ) (ts rest : Tokens) → IsOne (Opener Brace) text ts rest → BeforeBody ts
+brace_before : (text : List ℕ) (ts rest : Tokens) → IsOne (Opener Brace) text ts rest → BeforeBody ts
 unfolding lead_at
-brace_body text ts rest o =
+brace_before text ts rest o =
     let f = (one_front (Opener Brace) text ts rest o).1 in
     let quiet : Quiet ts = kind_quiet (Opener Brace) text refl refl ts rest o in
     record {
@@ -123,18 +123,33 @@ brace_body text ts rest o =
 
 pub before_body : (ts : Tokens) → ends_head ts ≡ true → BeforeBody ts
 before_body ts h = elim (or_cases (first (is_keyword (codes "where")) ts) (first (opens Brace) ts) h) [
-  | inl e ↦ where_body ts (tail ts) (keyword_one (codes "where") ts e)
-  | inr e ↦ let o = opens_front Brace ts e in brace_body o.0 ts (tail ts) o.1
+  | inl e ↦ where_before ts (tail ts) (keyword_one (codes "where") ts e)
+  | inr e ↦ let o = opens_front Brace ts e in brace_before o.0 ts (tail ts) o.1
 ]
 
 -- ---- the words that a head begins with
+
+pub unsafe_bits : (ts : Tokens) → first (is_keyword (codes "unsafe")) ts ≡ true → AreBits (keyword (codes "unsafe") ∷ Blank ∷ []) ts (tail ts)
+unsafe_bits ts e = (tail ts, keyword_one (codes "unsafe") ts e, (tail ts, refl, refl))
 
 -- `unsafe`, if it is there, and a word
 pub record WordFront (is_unsafe : Bool) (word : List ℕ) (ts : Tokens) : Type 0 where
   pub at : Tokens
   pub behind : Tokens
+  pub there : first (is_keyword (codes "unsafe")) ts ≡ is_unsafe
+  pub left : at ≡ (if is_unsafe then tail ts else ts)
   pub flag : unsafe_flag ts ≡ (is_unsafe, at)
   pub one : IsOne Ident word at behind
+
+-- What a flag tells of the tokens.
+flag_tells : (b is_unsafe : Bool) (ts at : Tokens) → ◌≡◌ {A = Bool × Tokens} (if b then (true, tail ts) else (false, ts)) (is_unsafe, at)
+    → (b ≡ is_unsafe) × (at ≡ (if is_unsafe then tail ts else ts))
+flag_tells true is_unsafe ts at e =
+    let flag : true ≡ is_unsafe = ap (λ (z : Bool × Tokens). z.0) e in
+    (flag, subst (λ c. at ≡ (if c then tail ts else ts)) flag (sym (ap (λ (z : Bool × Tokens). z.1) e)))
+flag_tells false is_unsafe ts at e =
+    let flag : false ≡ is_unsafe = ap (λ (z : Bool × Tokens). z.0) e in
+    (flag, subst (λ c. at ≡ (if c then tail ts else ts)) flag (sym (ap (λ (z : Bool × Tokens). z.1) e)))
 
 pub word_front : (is_unsafe : Bool) (word : List ℕ) (f : Form) (depth : ℕ) (ts rest : Tokens) → bytes_eq word (codes "unsafe") ≡ false
     → ((us : Tokens) → Spells f depth us rest → (at : Tokens) × IsOne Ident word us at)
@@ -143,4 +158,5 @@ word_front is_unsafe word f depth ts rest other begins s =
     let u = flag_complete (codes "unsafe") is_unsafe f depth ts rest s
     (λ us t. let b = begins us t in keyword_other word (codes "unsafe") other us b.0 b.1) in
     let b = begins u.0 u.2 in
-    record { at = u.0; behind = b.0; flag = u.1; one = b.1 }
+    let told = flag_tells (first (is_keyword (codes "unsafe")) ts) is_unsafe ts u.0 u.1 in
+    record { at = u.0; behind = b.0; there = told.0; left = told.1; flag = u.1; one = b.1 }

@@ -1,6 +1,6 @@
 -- What the heads of implementations depend on of the front of types and paths: whether a `<` stands there, and whether a
 use Rattle.std.proofs.Common.{Bool, List, None, Option, Some, [], ap, codes, false, inl, inr, map, not, refl, subst, sym, true, ℕ, ◌&&◌, ◌∙◌, ◌∷◌, ◌≡◌}
-use Rattle.std.proofs.lemmas.Bool.{and_from, and_parts, false_from_ne_true}
+use Rattle.std.proofs.lemmas.Bool.{and_from, and_parts}
 use Rattle.lay_piece.specs.declared.kind.Delim.TheVariants.{Paren}
 use Rattle.lay_piece.specs.declared.kind.Kind.TheVariants.{Punct}
 use Rattle.lay_token.specs.Operators.{is_op}
@@ -17,19 +17,18 @@ use Rattle.lay_tree.specs.nodes.Heads.{begins_qualified, is_trait_ref, opens_les
 use Rattle.lay_tree.specs.nodes.SimplePath.{are_simple_words, is_simple_path, simple_path_form, simple_words_form}
 use Rattle.lay_tree.specs.nodes.Types as types
 use Rattle.lay_tree.specs.nodes.Types.{about_args, about_path, about_start, about_type, good_at, in_style, segment_good, segments_form, segments_good, segments_refuse, ty_facts, ArgsFacts, PathFacts, TypeFacts}
-use Rattle.lay_tree.specs.reader.Types.{Within, flag, path, path_start, qualified, segment, chain}
+use Rattle.lay_tree.specs.reader.Types.{Within, path, path_start, segment, chain}
 use Rattle.lay_tree.specs.reader.Words.{word}
 use Rattle.lay_tree.specs.declared.heads.TraitRef.{TraitRef}
 use Rattle.lay_tree.specs.declared.simple_path.SimplePath.{SimplePath}
 use Rattle.lay_tree.specs.declared.token.Word.{Word}
-use Rattle.lay_tree.specs.declared.types.Arg.TheOpen.{PathStart-F, Ty-F}
 use Rattle.lay_tree.specs.declared.types.Arg.TheViews as views
 use Rattle.lay_tree.specs.declared.types.Args.TheVariants as args
 use Rattle.lay_tree.specs.declared.types.Args.{Args}
 use Rattle.lay_tree.specs.declared.types.Path.{Path}
 use Rattle.lay_tree.specs.declared.types.PathStart.TheVariants as start
 use Rattle.lay_tree.specs.declared.types.PathStart.{PathStart}
-use Rattle.lay_tree.specs.declared.types.PathStyle.TheVariants.{Code, Kind as InKind}
+use Rattle.lay_tree.specs.declared.types.PathStyle.TheVariants.{Kind as InKind}
 use Rattle.lay_tree.specs.declared.types.PathStyle.{PathStyle}
 use Rattle.lay_tree.specs.declared.types.Ty.TheVariants as ty
 use Rattle.lay_tree.specs.declared.types.Ty.{Ty}
@@ -39,8 +38,7 @@ use Rattle.lay_tree.proofs.Parts.{bit_alone, bit_piece, leaf_parts, leaf_spelled
 use Rattle.lay_tree.proofs.Steps.{bind_some, chosen, same_some}
 use Rattle.lay_tree.proofs.nodes.TypesLaws.{IsArray, IsBounds, IsCall, IsFunc, IsGlobal, IsInfer, IsLocal, IsNever, IsParen, IsPath, IsPtr, IsQualified, IsRef, IsSlice, IsTuple, PathStartView, TyView, about_segment, args_none_is, path_is, start_global_is, start_local_is, start_qualified_is, start_view, type_call_is, type_path_is, type_view}
 use Rattle.lay_tree.proofs.reader.Call.{bang_operator}
-use Rattle.lay_tree.proofs.reader.TypesBegins.{lead_of, opened, path_goods, path_parts, segments_front, type_begins}
-use Rattle.lay_tree.proofs.reader.TypesComplete.{Reads}
+use Rattle.lay_tree.proofs.reader.TypesBegins.{lead_of, opened, path_goods, path_parts, segments_front, type_begins, lead_no_less}
 use Rattle.lay_tree.proofs.reader.TypesFronts.{Clear, colons_lead, less_lead, op_first, word_lead, word_no_mark}
 use Rattle.lay_tree.proofs.reader.Words.{word_sound}
 
@@ -48,14 +46,14 @@ use Rattle.lay_tree.proofs.reader.Words.{word_sound}
 
 -- ---- a path of words alone, as a path
 
-abbrev bare : List Word → List (Word × Args)
+abbrev pub bare : List Word → List (Word × Args)
 bare ws = map (λ w. (w, args.None)) ws
 
-abbrev start_of : Bool → PathStart
+abbrev pub start_of : Bool → PathStart
 start_of true = start.Global
 start_of false = start.Local
 
-abbrev words_path : SimplePath → Path
+abbrev pub words_path : SimplePath → Path
 words_path p = record { start = start_of p.global; segments = bare p.words }
 
 none_spelled : (depth : ℕ) (ts : Tokens) → Spells (in_style InKind (about_args args.None)).form depth ts ts
@@ -112,12 +110,12 @@ start_good true = ap (λ (F : Facts). F.good) start_global_is
 start_good false = ap (λ (F : Facts). F.good) start_local_is
 
 -- So it is spelled as a path, before a `!`.
-record WordsPath (p : SimplePath) (depth : ℕ) (ts rest : Tokens) : Type 0 where
+pub record WordsPath (p : SimplePath) (depth : ℕ) (ts rest : Tokens) : Type 0 where
   pub spelled : Spells (about_path (words_path p) InKind).form depth ts rest
   pub good : (about_path (words_path p) InKind).good ≡ true
   pub clear : Clear (about_path (words_path p) InKind).refuses rest
 
-words_are_path : (p : SimplePath) (depth : ℕ) (ts rest : Tokens) → Spells (simple_path_form p) depth ts rest → is_simple_path p ≡ true
+pub words_are_path : (p : SimplePath) (depth : ℕ) (ts rest : Tokens) → Spells (simple_path_form p) depth ts rest → is_simple_path p ≡ true
     → is_op (codes "!") rest ≡ true → WordsPath p depth ts rest
 words_are_path p depth ts rest s g h =
     let segments = bare_good p.words g in
@@ -171,10 +169,6 @@ path_less style p depth ts rest s g =
     by _ (IsQualified x of) mid t u k =
         let v = subst (λ (F : Facts). Spells F.form depth ts mid) (start_qualified_is x of) t in
         mark_there ts v.0 (bit_alone types.less ts v.0 v.1) ∙ sym (ap begins_qualified (views.outs-Qualified x of))
-
-lead_no_less : (ts : Tokens) (l : Lead) → (Some OfPath ≡ Some l → ⊥) → lead_at ts ≡ Some l → first (is_mark (codes "<")) ts ≡ false
-lead_no_less ts l differ h =
-    false_from_ne_true (first (is_mark (codes "<")) ts) (λ e. differ (sym (less_lead ts (tail ts) (mark_one (codes "<") ts e)) ∙ h))
 
 words_plain : (leads : Bool) → begins_qualified (views.out-PathStart (start_of leads)) ≡ false
 words_plain true = ap begins_qualified views.outs-Global

@@ -4,9 +4,9 @@ use Rattle.std.proofs.lemmas.Bool.{and_from, and_parts, not-true}
 use Rattle.lay_piece.specs.declared.kind.Kind.TheVariants.{Ident}
 use Rattle.lay_token.specs.Operators.{is_op}
 use Rattle.lay_form.specs.Form.{Blank, Done, Fixed, Form, Operator, Part, Piece, keyword}
-use Rattle.lay_form.specs.Spelled.{AreBits, IsOne, IsOperator, Spells}
+use Rattle.lay_form.specs.Spelled.{IsOne, IsOperator, Spells}
 use Rattle.lay_form.proofs.FormLaws.{deeper as raise}
-use Rattle.lay_tree.specs.Ahead.{first, is_keyword, tail, Tokens}
+use Rattle.lay_tree.specs.Ahead.{is_keyword, Tokens}
 use Rattle.lay_tree.specs.Begins.{begins_bound}
 use Rattle.lay_tree.specs.Follow.{may_follow}
 use Rattle.lay_tree.specs.Words.{is_name, leaf_of}
@@ -17,20 +17,18 @@ use Rattle.lay_tree.specs.reader.Exact.{Exact, InText}
 use Rattle.lay_tree.specs.reader.Functions.{head_at}
 use Rattle.lay_tree.specs.reader.Generics.{generics, met, met_if}
 use Rattle.lay_tree.specs.reader.Heads.{trait_head, unsafe_flag}
-use Rattle.lay_tree.specs.reader.Loops.{Read, passed}
-use Rattle.lay_tree.specs.reader.Patterns.{PatWithin}
+use Rattle.lay_tree.specs.reader.Loops.{passed}
 use Rattle.lay_tree.specs.reader.Types.{Within}
 use Rattle.lay_tree.specs.reader.Words.{name}
 use Rattle.lay_tree.specs.declared.heads.TraitHead.{TraitHead}
 use Rattle.lay_tree.specs.declared.types.Bound.{Bound}
 use Rattle.lay_tree.proofs.Follow.{quiet_follows}
-use Rattle.lay_tree.proofs.Fronts.{keyword_one}
 use Rattle.lay_tree.proofs.Parts.{before_blank, leaf_parts, leaf_spelled, part_alone, piece_bit, word_kind}
 use Rattle.lay_tree.proofs.Steps.{bind_some, same_some}
 use Rattle.lay_tree.proofs.reader.Exact.{IsRead}
 use Rattle.lay_tree.proofs.reader.GenericsComplete.{generics_read}
 use Rattle.lay_tree.proofs.reader.GenericsSound.{MetHeld, generics_sound, met_sound}
-use Rattle.lay_tree.proofs.reader.HeadEnds.{BeforeBody, WordFront, before_body, word_front}
+use Rattle.lay_tree.proofs.reader.HeadEnds.{BeforeBody, WordFront, before_body, word_front, unsafe_bits}
 use Rattle.lay_tree.proofs.reader.HeadParts.{generics_unflagged, generics_way}
 use Rattle.lay_tree.proofs.reader.HeadsLevel.{CompleteHead, SoundHead, Stood, head_exact}
 use Rattle.lay_tree.proofs.reader.Loops.{SoundStep}
@@ -45,9 +43,6 @@ use Rattle.lay_tree.proofs.reader.Words.{name_complete, name_sound}
 
 abbrev pub Flagged : Type 0
 Flagged = TraitHead × (Bool × Bool)
-
-abbrev read_trait : PatWithin → Tokens → Read Flagged
-read_trait w ts = trait_head w.kinds ts
 
 -- ---- what is read is spelled
 
@@ -96,9 +91,6 @@ module _ (budget : ℕ) (within : Within) (sound : SoundWithin budget within) wh
         t,
       )
 
-  unsafe_bits : (ts : Tokens) → first (is_keyword (codes "unsafe")) ts ≡ true → AreBits (keyword (codes "unsafe") ∷ Blank ∷ []) ts (tail ts)
-  unsafe_bits ts e = (tail ts, keyword_one (codes "unsafe") ts e, (tail ts, refl, refl))
-
   trait_good : (x : Flagged) → tells x.1.0 x.0.generics.params ≡ true → tells x.1.1 x.0.bounds ≡ true → is_name x.0.name.raw x.0.name.text ≡ true
       → is_generics x.0.generics ≡ true → are_bounds x.0.bounds ≡ true → (about_trait_head x).good ≡ true
   trait_good x a b c d e = rw (a, b, c, d, e) refl
@@ -139,7 +131,7 @@ module _ (budget : ℕ) (within : Within) (sound : SoundWithin budget within) wh
       same_some (Out (Stood about_trait_head budget) ts) ((flagged, most), b.0.1) (x, rest) b.2
       ((omega (arith, params.0, bounds.within), whole, good, bounds.follows), m.1)
 
-pub trait_heads_sound : SoundHead about_trait_head read_trait
+pub trait_heads_sound : SoundHead about_trait_head (λ w ts. trait_head w.kinds ts)
 trait_heads_sound budget inner sound = trait_sound budget inner.kinds sound.kinds
 
 -- ---- what is spelled is read
@@ -220,11 +212,11 @@ module _ (depth : ℕ) (inner : Within) (reads : Reads depth inner) where
         all_read x ts at w.0 l.0 params.0 rest r.0 b.0 u.1 there (name_complete head.name w.0 l.0 (l.1, g1.0)) r.2 b.2 colon,
       )
 
-pub trait_heads_complete : CompleteHead about_trait_head read_trait
+pub trait_heads_complete : CompleteHead about_trait_head (λ w ts. trait_head w.kinds ts)
 trait_heads_complete depth inner reads x ts rest s g f = trait_read depth inner.kinds reads.kinds x ts rest s g f
 
-pub trait_heads_exact : Exact (head_at read_trait) (λ (x : Flagged). TraitHeadAt x.1.0 x.1.1 x.0)
-trait_heads_exact = head_exact about_trait_head read_trait trait_heads_sound trait_heads_complete
+pub trait_heads_exact : Exact (head_at (λ w ts. trait_head w.kinds ts)) (λ (x : TraitHead × (Bool × Bool)). TraitHeadAt x.1.0 x.1.1 x.0)
+trait_heads_exact = head_exact about_trait_head (λ w ts. trait_head w.kinds ts) trait_heads_sound trait_heads_complete
 
 -- ---- heads of traits within items
 

@@ -15,8 +15,7 @@ use Rattle.lay_tree.specs.nodes.Types.{about_type, given_form, good_at, is_given
 use Rattle.lay_tree.specs.reader.Exact.{Exact, InText}
 use Rattle.lay_tree.specs.reader.Functions.{head_at}
 use Rattle.lay_tree.specs.reader.Heads.{of_type, const_head, static_head, value_head}
-use Rattle.lay_tree.specs.reader.Loops.{Read, passed}
-use Rattle.lay_tree.specs.reader.Patterns.{PatWithin}
+use Rattle.lay_tree.specs.reader.Loops.{passed}
 use Rattle.lay_tree.specs.reader.Types.{Within, flag, operator}
 use Rattle.lay_tree.specs.reader.Words.{given_name, name}
 use Rattle.lay_tree.specs.declared.heads.ValueHead.TheVariants as value
@@ -40,9 +39,6 @@ use Rattle.lay_tree.proofs.reader.TypesSoundLevel.{SoundWithin}
 use Rattle.lay_tree.proofs.reader.TypesSoundParts.{Out, bit_texts, flag_texts, keyword_passed_is, operator_is, flag_leads}
 use Rattle.lay_tree.proofs.reader.Use.{RenameIs, given_name_complete, given_name_is, underscore_complete}
 use Rattle.lay_tree.proofs.reader.Words.{name_complete, name_sound}
-
-abbrev read_head : PatWithin → Tokens → Read ValueHead
-read_head w ts = value_head w.kinds ts
 
 -- ---- a name that is given
 
@@ -129,7 +125,7 @@ module _ (budget : ℕ) (within : Within) (sound : SoundWithin budget within) wh
         static_sound ts b.0 word (bit_texts (keyword (codes "static")) ts b.0 word t) x rest b.2
   ]
 
-pub value_heads_sound : SoundHead about_value_head read_head
+pub value_heads_sound : SoundHead about_value_head (λ w ts. value_head w.kinds ts)
 value_heads_sound budget inner sound = value_sound budget inner.kinds sound.kinds
 
 -- ---- what is spelled is read
@@ -167,11 +163,11 @@ module _ (depth : ℕ) (inner : Within) (reads : Reads depth inner) where
       let left = one_left Ident (codes "static") ts s.0 word in
       (r.0, r.1, rw (other, there, left, m.1, name_complete n m.0 l.0 (l.1, goods.0), r.2) refl)
 
-pub value_heads_complete : CompleteHead about_value_head read_head
+pub value_heads_complete : CompleteHead about_value_head (λ w ts. value_head w.kinds ts)
 value_heads_complete depth inner reads x ts rest s g f = value_read depth inner.kinds reads.kinds x ts rest s g f
 
-pub value_heads_exact : Exact (head_at read_head) (λ (x : ValueHead). ToldFront (by_itself (about_value_head x)))
-value_heads_exact = head_exact about_value_head read_head value_heads_sound value_heads_complete
+pub value_heads_exact : Exact (head_at (λ w ts. value_head w.kinds ts)) (λ (x : ValueHead). ToldFront (by_itself (about_value_head x)))
+value_heads_exact = head_exact about_value_head (λ w ts. value_head w.kinds ts) value_heads_sound value_heads_complete
 
 -- ---- what they begin with
 
