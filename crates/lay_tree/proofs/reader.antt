@@ -59,3 +59,4 @@ pub mod Restrictions
 pub mod FieldsSound
 pub mod VariantsSound
 pub mod FieldsComplete
+pub mod VariantsComplete
