@@ -60,3 +60,4 @@ pub mod FieldsSound
 pub mod VariantsSound
 pub mod FieldsComplete
 pub mod VariantsComplete
+pub mod StructsSound
