@@ -80,3 +80,5 @@ pub mod FieldsComplete
 pub mod ImplFronts
 pub mod ImplHeadsSound
 pub mod ImplHeadsComplete
+pub mod VariantsComplete
+pub mod StructsSound
