@@ -6,3 +6,4 @@ pub mod Item
 pub mod Tokens
 pub mod Types
 pub mod Patterns
+pub mod Heads
