@@ -7,3 +7,4 @@ pub mod Tokens
 pub mod Types
 pub mod Patterns
 pub mod Heads
+pub mod HeadsRead

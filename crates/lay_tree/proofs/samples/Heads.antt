@@ -70,7 +70,7 @@ use Rattle.lay_tree.proofs.samples.Types.{local, local_facts, local_is, B, B_is,
 -- ---- trees
 
 -- a type that is one word
-abbrev ty_of : List ℕ → Ty
+abbrev pub ty_of : List ℕ → Ty
 ty_of text = ty.Path (local text)
 
 abbrev u8 : Ty
@@ -90,13 +90,13 @@ where_B_is_C = record { predicates = predicate.Bounded None B (meeting false fal
 abbrev of_T : Generics
 of_T = record { params = param.Named [] (named (codes "T")) [] None ∷ [] }
 
-abbrev tuple_field_of : Vis → Ty → TupleField
+abbrev pub tuple_field_of : Vis → Ty → TupleField
 tuple_field_of v x = record { attrs = []; vis = v; ty = x }
 
 abbrev field_of : List ℕ → Ty → Field
 field_of text x = record { attrs = []; vis = vis.Inherited; name = named text; ty = x }
 
-abbrev variant_of : List ℕ → Fields → Option (List Listed) → Variant
+abbrev pub variant_of : List ℕ → Fields → Option (List Listed) → Variant
 variant_of text fs discriminant = record {
   attrs = [];
   vis = vis.Inherited;
@@ -105,14 +105,14 @@ variant_of text fs discriminant = record {
   discriminant = discriminant;
 }
 
-abbrev struct_of : Fields → Struct
+abbrev pub struct_of : Fields → Struct
 struct_of fs = record { name = A; generics = no_generics; fields = fs; wheres = no_wheres }
 
-abbrev param_of : ParamKind → Param
+abbrev pub param_of : ParamKind → Param
 param_of kind = record { attrs = []; kind = kind }
 
 -- a function that is only safe or unsafe, if that is said
-abbrev fn_of : Option Safety → List ℕ → List ParamKind → Option Ty → FnHead
+abbrev pub fn_of : Option Safety → List ℕ → List ParamKind → Option Ty → FnHead
 fn_of said text kinds output = record {
   is_const = false;
   is_async = false;
@@ -124,7 +124,7 @@ fn_of said text kinds output = record {
   output = output;
 }
 
-abbrev name_pat : List ℕ → Pat
+abbrev pub name_pat : List ℕ → Pat
 name_pat text = pat.Bind false false (named text) None
 
 abbrev string_C : Literal
