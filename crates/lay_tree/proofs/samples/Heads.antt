@@ -76,10 +76,10 @@ ty_of text = ty.Path (local text)
 abbrev u8 : Ty
 u8 = ty_of (codes "u8")
 
-abbrev seen : Vis → ItemKind → Item
+abbrev pub seen : Vis → ItemKind → Item
 seen v kind = record { attrs = []; vis = v; kind = kind }
 
-abbrev unseen : ItemKind → Item
+abbrev pub unseen : ItemKind → Item
 unseen kind = seen vis.Inherited kind
 
 -- `where B: C`
@@ -87,7 +87,7 @@ abbrev where_B_is_C : Wheres
 where_B_is_C = record { predicates = predicate.Bounded None B (meeting false false (codes "C") ∷ []) ∷ [] }
 
 -- `<T>`
-abbrev of_T : Generics
+abbrev pub of_T : Generics
 of_T = record { params = param.Named [] (named (codes "T")) [] None ∷ [] }
 
 abbrev pub tuple_field_of : Vis → Ty → TupleField

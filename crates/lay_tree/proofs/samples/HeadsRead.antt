@@ -8,13 +8,14 @@ use Rattle.lay_tree.specs.Begins.{lead_at}
 use Rattle.lay_tree.specs.reader.Attr.{attributes}
 use Rattle.lay_tree.specs.reader.Fields.{discriminant, tuple_field, variant, variant_fields}
 use Rattle.lay_tree.specs.reader.Functions.{begins_own_self, begins_ref_self, fn_head, fn_param, fn_params, head_at, insides, own_self, param_kind, ref_self, typed}
-use Rattle.lay_tree.specs.reader.Generics.{generics}
+use Rattle.lay_tree.specs.reader.Generics.{generics, one_param, type_param}
 use Rattle.lay_tree.specs.reader.Heads.{impl_head, struct, trait_ref, value_head}
-use Rattle.lay_tree.specs.reader.Item.{OfForeign, OfFunction, OfValue, item_lead}
-use Rattle.lay_tree.specs.reader.Loops.{repeat_from, repeat, elements_from, elements, open_elements_from, open_elements}
+use Rattle.lay_tree.specs.reader.Item.{OfForeign, OfFunction, OfValue, item_lead, item_at, item_by, kind_at, call_item, foreign_by, item_body, items_by, function_by}
+use Rattle.lay_tree.specs.reader.Call.{call}
+use Rattle.lay_tree.specs.reader.Loops.{Read, repeat_from, repeat, elements_from, elements, open_elements_from, open_elements}
 use Rattle.lay_tree.specs.reader.Patterns.{pat_at, pat_by, path_by, path_pat, bind, single_at}
 use Rattle.lay_tree.specs.reader.SimplePath.{simple_path}
-use Rattle.lay_tree.specs.reader.Tokens.{run, tokens_of}
+use Rattle.lay_tree.specs.reader.Tokens.{run, tokens_of, group}
 use Rattle.lay_tree.specs.reader.Types.{within, path_type, path, chain, segment, args_by, one_bound, meets, paren_type, qualified}
 use Rattle.lay_tree.specs.reader.Vis.{visibility}
 use Rattle.lay_tree.specs.reader.Where.{wheres, type_predicate}
@@ -31,9 +32,19 @@ use Rattle.lay_tree.specs.declared.patterns.Pat.TheVariants as pat
 use Rattle.lay_tree.specs.declared.patterns.PatPlace.TheVariants.{Single}
 use Rattle.lay_tree.specs.declared.token.GivenName.TheVariants as given
 use Rattle.lay_tree.specs.declared.token.Listed.{Listed}
+use Rattle.lay_tree.specs.declared.functions.Param.{Param}
+use Rattle.lay_tree.specs.declared.generics.Generics.{Generics}
+use Rattle.lay_tree.specs.declared.generics.GenericParam.TheVariants as generic
+use Rattle.lay_tree.specs.declared.item.Item.{Item}
+use Rattle.lay_tree.specs.declared.item.ItemKind.TheVariants as item
+use Rattle.lay_tree.specs.declared.tokens.MacroCall.{MacroCall}
+use Rattle.lay_tree.specs.declared.types.Args.TheVariants as args
+use Rattle.lay_tree.specs.declared.types.Path.{Path}
+use Rattle.lay_tree.specs.declared.types.PathStart.TheVariants as start
 use Rattle.lay_tree.specs.declared.types.Ty.TheVariants as ty
 use Rattle.lay_tree.specs.declared.vis.Vis.TheVariants as vis
-use Rattle.lay_tree.proofs.samples.Heads.{fn_of, name_pat, param_of, struct_of, tuple_field_of, ty_of, variant_of}
+use Rattle.lay_tree.proofs.nodes.ItemLaws as items
+use Rattle.lay_tree.proofs.samples.Heads.{fn_of, name_pat, of_T, param_of, seen, struct_of, unseen, tuple_field_of, ty_of, variant_of}
 use Rattle.lay_tree.proofs.samples.Patterns.{lone}
 use Rattle.lay_tree.proofs.samples.Tokens as list
 use Rattle.lay_tree.proofs.samples.Trees.{named, plain, A, a, no_generics, no_wheres, token, word, mark, colons, opens, closes}
@@ -177,8 +188,89 @@ read_never : impl_head (within 1) (word (codes "impl") ∷ mark (codes "!") ∷ 
 unfolding impl_head generics trait_ref within lead_at simple_path path_type path chain repeat repeat_from segment args_by word_reading op_at
 read_never = refl
 
--- `impl<> <A>::B for C {`
-not_qualified : impl_head (within 2) (word (codes "impl") ∷ mark (codes "<") ∷ mark (codes ">") ∷ mark (codes "<") ∷ word (codes "A")
-    ∷ token kind.Punct (codes ">") true ∷ colons (word (codes "B") ∷ word (codes "for") ∷ word (codes "C") ∷ opens Brace ∷ [])) ≡ None
+-- `<A>::B for C {`
+abbrev qualified_for_C : List Token
+qualified_for_C = mark (codes "<") ∷ word (codes "A")
+    ∷ token kind.Punct (codes ">") true ∷ colons (word (codes "B") ∷ word (codes "for") ∷ word (codes "C") ∷ opens Brace ∷ [])
+
+-- `<A>::B`
+abbrev B_of_A : Path
+B_of_A = record { start = start.Qualified (ty_of (codes "A")) None; segments = (plain (codes "B"), args.None) ∷ [] }
+
+abbrev for_C : ImplHead
+for_C = record { is_unsafe = false; generics = of_T; of = Some (record { negative = false; path = B_of_A }); ty = C }
+
+-- It is read behind `impl<T>`,
+read_qualified : impl_head (within 2) (word (codes "impl") ∷ mark (codes "<") ∷ word (codes "T") ∷ token kind.Punct (codes ">") true ∷ qualified_for_C)
+    ≡ Some ((for_C, 1), opens Brace ∷ [])
+unfolding impl_head generics one_param type_param attributes name_reading trait_ref elements elements_from qualified within lead_at simple_path path_type path chain repeat repeat_from segment args_by word_reading op_at
+read_qualified = refl
+
+-- and not behind `impl<>`, which is laid out as nothing,
+not_qualified : impl_head (within 2) (word (codes "impl") ∷ mark (codes "<") ∷ mark (codes ">") ∷ qualified_for_C) ≡ None
 unfolding impl_head generics trait_ref elements elements_from qualified within lead_at simple_path path_type path chain repeat repeat_from segment args_by word_reading op_at
 not_qualified = refl
+
+-- since behind `impl` a `<` opens generic parameters: `::B` is no trait that `C` has, `for` neither, but `impl<A> ::B for C {` is.
+abbrev global_B : Path
+global_B = record { start = start.Global; segments = (plain (codes "B"), args.None) ∷ [] }
+
+abbrev of_A : Generics
+of_A = record { params = generic.Named [] (named (codes "A")) [] None ∷ [] }
+
+read_params : impl_head (within 2) (word (codes "impl") ∷ qualified_for_C)
+    ≡ Some ((record { is_unsafe = false; generics = of_A; of = Some (record { negative = false; path = global_B }); ty = C }, 1), opens Brace ∷ [])
+unfolding impl_head generics one_param type_param attributes name_reading trait_ref elements elements_from within lead_at simple_path path_type path chain repeat repeat_from segment args_by word_reading op_at
+read_params = refl
+
+-- ---- parameters in order
+
+abbrev read_params_of : List Token → Read (List Param)
+read_params_of ts = fn_params (insides 2) (in_parens ts [])
+
+-- `(..., self)` and `(...,)`
+abbrev dots : List Token → List Token
+dots ts = token kind.Punct (codes ".") true ∷ token kind.Punct (codes ".") true ∷ mark (codes ".") ∷ ts
+
+read_variadic : read_params_of (word (codes "self") ∷ comma ∷ dots []) ≡ Some ((param_of (param.OwnSelf false None) ∷ param_of param.Variadic ∷ [], 0), [])
+unfolding fn_params fn_param param_kind own_self attributes open_elements open_elements_from repeat repeat_from op_at
+read_variadic = refl
+
+not_last : read_params_of (dots (comma ∷ word (codes "self") ∷ [])) ≡ None
+unfolding fn_params fn_param param_kind own_self attributes open_elements open_elements_from repeat repeat_from op_at
+not_last = refl
+
+not_with_comma : read_params_of (dots (comma ∷ [])) ≡ None
+unfolding fn_params fn_param param_kind attributes open_elements open_elements_from repeat repeat_from op_at
+not_with_comma = refl
+
+-- ---- items
+
+-- `pub m!();` isn't read, and `m!();` is.
+abbrev m_call : MacroCall
+m_call = record { path = record { global = false; words = plain (codes "m") ∷ [] }; tokens = record { delim = Paren; tokens = [] } }
+
+abbrev call_m : List Token
+call_m = word (codes "m") ∷ mark (codes "!") ∷ in_parens [] (semi ∷ [])
+
+not_seen : item_at Module 1 (word (codes "pub") ∷ call_m) ≡ None
+unfolding item_at item_by kind_at item_lead call_item call group tokens_of run name_reading attributes visibility simple_path repeat repeat_from word_reading op_at
+not_seen = rw (items.call_is m_call) refl
+
+read_unseen : item_at Module 1 call_m ≡ Some ((unseen (item.Call m_call), 1), [])
+unfolding item_at item_by kind_at item_lead call_item call group tokens_of run name_reading attributes visibility simple_path repeat repeat_from word_reading op_at
+read_unseen = rw (items.call_is m_call) refl
+
+-- `extern { fn f(); }`
+abbrev f_item : Item
+f_item = unseen (item.Function (fn_of None (codes "f") [] None) no_wheres)
+
+read_foreign : item_at Module 3 (word (codes "extern") ∷ opens Brace ∷ (fn_f ++ closes Brace ∷ []))
+    ≡ Some ((unseen (item.Foreign false None [] (f_item ∷ [])), 2), [])
+unfolding item_at item_by kind_at item_lead foreign_by item_body items_by function_by fn_head generics fn_params open_elements open_elements_from wheres name_reading attributes visibility repeat repeat_from op_at
+read_foreign = rw (items.function_is (fn_of None (codes "f") [] None) no_wheres, items.foreign_is false None [] (f_item ∷ [])) refl
+
+-- A function without a body stands in no module.
+not_in_module : item_at Module 2 fn_f ≡ None
+unfolding item_at item_by kind_at item_lead attributes visibility repeat repeat_from op_at
+not_in_module = refl
