@@ -83,7 +83,7 @@ abbrev pub unseen : ItemKind → Item
 unseen kind = seen vis.Inherited kind
 
 -- `where B: C`
-abbrev where_B_is_C : Wheres
+abbrev pub where_B_is_C : Wheres
 where_B_is_C = record { predicates = predicate.Bounded None B (meeting false false (codes "C") ∷ []) ∷ [] }
 
 -- `<T>`
@@ -144,7 +144,7 @@ told_is : (v : Vis) (kind : ItemKind) (F : KindFacts) → told_of_kind kind ≡ 
 told_is v kind F e = items.item_is (seen v kind) ∙ ap (λ (k : KindFacts). item_facts (record { attrs = []; vis = v; kind = k })) e
 
 -- `pub(crate) struct A(pub u8, B);`
-abbrev two_fields : Struct
+abbrev pub two_fields : Struct
 two_fields = struct_of (fields.Tuple (tuple_field_of vis.Public u8 ∷ tuple_field_of vis.Inherited B ∷ []))
 
 laid_tuple_struct : laid (about (seen vis.Crate (item.Struct two_fields))) ≡ codes "pub(crate) struct A(pub u8, B);"
@@ -254,7 +254,7 @@ laid_foreign : laid (about (unseen (item.Foreign false (Some string_C) [] (forei
     ≡ codes "extern \"C\" {\n    pub fn a(b: u8, ...) -> u8;\n    static mut C: u8;\n}"
 laid_foreign = ap (λ (f : Form). text_of (document f)) foreign_is
 
-abbrev trait_A : TraitHead
+abbrev pub trait_A : TraitHead
 trait_A = record { is_unsafe = false; name = A; generics = no_generics; bounds = [] }
 
 laid_trait : laid (about (unseen (item.Trait trait_A where_B_is_C [] []))) ≡ codes "trait A where B: C {}"
@@ -282,10 +282,10 @@ abbrev B_of_T : Path
 B_of_T = record { start = start.Local; segments = (plain (codes "B"), args.Angle (arg.Plain (ty_of (codes "T")) ∷ [])) ∷ [] }
 
 -- `type C = D;`
-abbrev C_is_D : Alias
+abbrev pub C_is_D : Alias
 C_is_D = record { name = named (codes "C"); generics = no_generics; bounds = []; ty = Some (ty_of (codes "D")); wheres = no_wheres }
 
-abbrev impl_A_for : ImplHead
+abbrev pub impl_A_for : ImplHead
 impl_A_for = record {
   is_unsafe = false;
   generics = of_T;

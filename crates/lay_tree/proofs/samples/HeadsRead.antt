@@ -5,18 +5,19 @@ use Rattle.lay_piece.specs.declared.kind.Kind.TheVariants as kind
 use Rattle.lay_token.specs.Operators.{op_at}
 use Rattle.lay_token.specs.declared.token.Token.{Token}
 use Rattle.lay_tree.specs.Begins.{lead_at}
+use Rattle.lay_tree.specs.nodes.Fields.{may_lead}
 use Rattle.lay_tree.specs.reader.Attr.{attributes}
-use Rattle.lay_tree.specs.reader.Fields.{discriminant, tuple_field, variant, variant_fields}
+use Rattle.lay_tree.specs.reader.Fields.{tuple_fields, discriminant, tuple_field, variant, variant_fields}
 use Rattle.lay_tree.specs.reader.Functions.{begins_own_self, begins_ref_self, fn_head, fn_param, fn_params, head_at, insides, own_self, param_kind, ref_self, typed}
 use Rattle.lay_tree.specs.reader.Generics.{generics, one_param, type_param}
-use Rattle.lay_tree.specs.reader.Heads.{impl_head, struct, trait_ref, value_head}
-use Rattle.lay_tree.specs.reader.Item.{OfForeign, OfFunction, OfValue, item_lead, item_at, item_by, kind_at, call_item, foreign_by, item_body, items_by, function_by}
+use Rattle.lay_tree.specs.reader.Heads.{alias, trait_head, impl_head, struct, trait_ref, value_head}
+use Rattle.lay_tree.specs.reader.Item.{OfCall, OfImpl, OfUnion, trait_by, impl_by, OfForeign, OfFunction, OfValue, item_lead, item_at, item_by, kind_at, call_item, foreign_by, item_body, items_by, function_by}
 use Rattle.lay_tree.specs.reader.Call.{call}
 use Rattle.lay_tree.specs.reader.Loops.{Read, repeat_from, repeat, elements_from, elements, open_elements_from, open_elements}
 use Rattle.lay_tree.specs.reader.Patterns.{pat_at, pat_by, path_by, path_pat, bind, single_at}
 use Rattle.lay_tree.specs.reader.SimplePath.{simple_path}
 use Rattle.lay_tree.specs.reader.Tokens.{run, tokens_of, group}
-use Rattle.lay_tree.specs.reader.Types.{within, path_type, path, chain, segment, args_by, one_bound, meets, paren_type, qualified}
+use Rattle.lay_tree.specs.reader.Types.{angle, one_arg, within, path_type, path, chain, segment, args_by, one_bound, meets, paren_type, qualified}
 use Rattle.lay_tree.specs.reader.Vis.{visibility}
 use Rattle.lay_tree.specs.reader.Where.{wheres, type_predicate}
 use Rattle.lay_tree.specs.reader.Words.{given_name, name as name_reading, word as word_reading}
@@ -38,13 +39,15 @@ use Rattle.lay_tree.specs.declared.generics.GenericParam.TheVariants as generic
 use Rattle.lay_tree.specs.declared.item.Item.{Item}
 use Rattle.lay_tree.specs.declared.item.ItemKind.TheVariants as item
 use Rattle.lay_tree.specs.declared.tokens.MacroCall.{MacroCall}
+use Rattle.lay_tree.specs.declared.types.Arg.TheViews as views
 use Rattle.lay_tree.specs.declared.types.Args.TheVariants as args
 use Rattle.lay_tree.specs.declared.types.Path.{Path}
 use Rattle.lay_tree.specs.declared.types.PathStart.TheVariants as start
 use Rattle.lay_tree.specs.declared.types.Ty.TheVariants as ty
 use Rattle.lay_tree.specs.declared.vis.Vis.TheVariants as vis
 use Rattle.lay_tree.proofs.nodes.ItemLaws as items
-use Rattle.lay_tree.proofs.samples.Heads.{fn_of, name_pat, of_T, param_of, seen, struct_of, unseen, tuple_field_of, ty_of, variant_of}
+use Rattle.lay_tree.proofs.nodes.TypesLaws as types
+use Rattle.lay_tree.proofs.samples.Heads.{C_is_D, fn_of, impl_A_for, trait_A, two_fields, where_B_is_C, name_pat, of_T, param_of, seen, struct_of, unseen, tuple_field_of, ty_of, variant_of}
 use Rattle.lay_tree.proofs.samples.Patterns.{lone}
 use Rattle.lay_tree.proofs.samples.Tokens as list
 use Rattle.lay_tree.proofs.samples.Trees.{named, plain, A, a, no_generics, no_wheres, token, word, mark, colons, opens, closes}
@@ -78,6 +81,19 @@ read_restricted_in : tuple_field (within 1) (word (codes "pub") ∷ in_parens (w
     ≡ Some ((tuple_field_of (vis.In (record { global = false; words = plain a ∷ [] })) (ty_of (codes "A")), 1), [])
 unfolding tuple_field visibility attributes within lead_at simple_path path_type path chain repeat repeat_from segment args_by word_reading op_at
 read_restricted_in = refl
+
+-- `pub (crate::A)` is of a type in parentheses too.
+abbrev crate_A : Path
+crate_A = record { start = start.Local; segments = (plain (codes "crate"), args.None) ∷ (plain (codes "A"), args.None) ∷ [] }
+
+read_crate_path : tuple_field (within 2) (word (codes "pub") ∷ in_parens (word (codes "crate") ∷ colons (word (codes "A") ∷ [])) [])
+    ≡ Some ((tuple_field_of vis.Public (ty.Paren (ty.Path crate_A)), 2), [])
+unfolding tuple_field visibility attributes paren_type within lead_at simple_path path_type path chain repeat repeat_from segment args_by word_reading op_at
+read_crate_path = rw types.args_none_is refl
+
+-- A type that would restrict it doesn't stand behind `pub`.
+not_restricting : may_lead vis.Public (ty.Paren (ty_of (codes "crate"))) ≡ false
+not_restricting = rw (views.outs-Paren (ty_of (codes "crate")), views.outs-Path (local (codes "crate")), lone (codes "crate")) refl
 
 -- ---- receivers
 
@@ -146,6 +162,36 @@ leads_extern_function : item_lead (word (codes "extern") ∷ fn_f) ≡ OfFunctio
 unfolding item_lead op_at
 leads_extern_function = refl
 
+leads_unsafe_extern : item_lead (word (codes "unsafe") ∷ word (codes "extern") ∷ opens Brace ∷ closes Brace ∷ []) ≡ OfForeign
+unfolding item_lead op_at
+leads_unsafe_extern = refl
+
+leads_unsafe_impl : item_lead (word (codes "unsafe") ∷ word (codes "impl") ∷ word (codes "A") ∷ []) ≡ OfImpl
+unfolding item_lead op_at
+leads_unsafe_impl = refl
+
+-- `union` is a word of its own only before a name.
+leads_union : item_lead (word (codes "union") ∷ word (codes "A") ∷ opens Brace ∷ []) ≡ OfUnion
+unfolding item_lead name_reading
+leads_union = refl
+
+leads_call : item_lead (word (codes "union") ∷ mark (codes "!") ∷ opens Brace ∷ []) ≡ OfCall
+unfolding item_lead name_reading
+leads_call = refl
+
+-- `type C;` stands in a trait, and in no module.
+abbrev type_C : List Token
+type_C = word (codes "type") ∷ word (codes "C") ∷ semi ∷ []
+
+read_no_type : alias TraitMember (within 1) type_C
+    ≡ Some ((record { name = named (codes "C"); generics = no_generics; bounds = []; ty = None; wheres = no_wheres }, 0), [])
+unfolding alias name_reading generics wheres op_at
+read_no_type = refl
+
+not_without_type : alias Module (within 1) type_C ≡ None
+unfolding alias name_reading generics wheres op_at
+not_without_type = refl
+
 -- ---- where clauses and discriminants
 
 -- `struct A where A: C,;`
@@ -211,7 +257,7 @@ not_qualified : impl_head (within 2) (word (codes "impl") ∷ mark (codes "<") �
 unfolding impl_head generics trait_ref elements elements_from qualified within lead_at simple_path path_type path chain repeat repeat_from segment args_by word_reading op_at
 not_qualified = refl
 
--- since behind `impl` a `<` opens generic parameters: `::B` is no trait that `C` has, `for` neither, but `impl<A> ::B for C {` is.
+-- nor behind `impl` alone, where its `<` opens generic parameters: it is `impl<A> ::B for C {`.
 abbrev global_B : Path
 global_B = record { start = start.Global; segments = (plain (codes "B"), args.None) ∷ [] }
 
@@ -274,3 +320,27 @@ read_foreign = rw (items.function_is (fn_of None (codes "f") [] None) no_wheres,
 not_in_module : item_at Module 2 fn_f ≡ None
 unfolding item_at item_by kind_at item_lead attributes visibility repeat repeat_from op_at
 not_in_module = refl
+
+-- ---- whole items
+
+-- `pub(crate)struct A(pub u8,B);`
+read_struct : item_at Module 3 (word (codes "pub") ∷ in_parens (word (codes "crate") ∷ []) (word (codes "struct") ∷ word (codes "A")
+    ∷ in_parens (word (codes "pub") ∷ word (codes "u8") ∷ comma ∷ word (codes "B") ∷ []) (semi ∷ [])))
+    ≡ Some ((seen vis.Crate (item.Struct two_fields), 2), [])
+unfolding item_at item_by kind_at item_lead struct tuple_fields tuple_field elements elements_from generics wheres name_reading attributes visibility within lead_at simple_path path_type path chain repeat repeat_from segment args_by word_reading op_at
+read_struct = rw (items.struct_is two_fields) refl
+
+-- `trait A where B:C,{}`
+read_trait : item_at Module 3 (word (codes "trait") ∷ word (codes "A") ∷ word (codes "where") ∷ word (codes "B") ∷ mark (codes ":")
+    ∷ word (codes "C") ∷ comma ∷ opens Brace ∷ closes Brace ∷ [])
+    ≡ Some ((unseen (item.Trait trait_A where_B_is_C [] []), 2), [])
+unfolding item_at item_by kind_at item_lead trait_by trait_head item_body items_by generics wheres type_predicate one_bound meets open_elements open_elements_from name_reading attributes visibility within lead_at simple_path path_type path chain repeat repeat_from segment args_by word_reading op_at
+read_trait = rw (items.trait_is trait_A where_B_is_C [] []) refl
+
+-- `impl<T>A for B<T>{type C=D;}`
+read_impl : item_at Module 3 (word (codes "impl") ∷ mark (codes "<") ∷ word (codes "T") ∷ mark (codes ">") ∷ word (codes "A") ∷ word (codes "for")
+    ∷ word (codes "B") ∷ mark (codes "<") ∷ word (codes "T") ∷ mark (codes ">") ∷ opens Brace ∷ word (codes "type") ∷ word (codes "C")
+    ∷ mark (codes "=") ∷ word (codes "D") ∷ semi ∷ closes Brace ∷ [])
+    ≡ Some ((unseen (item.Impl impl_A_for no_wheres [] (unseen (item.Alias C_is_D) ∷ [])), 3), [])
+unfolding item_at item_by kind_at item_lead impl_by impl_head trait_ref item_body items_by alias generics one_param type_param elements elements_from angle one_arg wheres name_reading attributes visibility within lead_at simple_path path_type path chain repeat repeat_from segment args_by word_reading op_at
+read_impl = rw (items.alias_is C_is_D, items.impl_is impl_A_for no_wheres [] (unseen (item.Alias C_is_D) ∷ [])) refl
