@@ -1,35 +1,32 @@
--- Samples of the heads of items: how they are laid out, and what is read.
-use Rattle.std.proofs.Common.{◌≡◌, ℕ, Bool, true, false, List, [], ◌∷◌, Option, Some, None, map, codes, ap, ◌∙◌, refl}
-use Rattle.lay_piece.specs.declared.kind.Delim.TheVariants.{Paren, Brace}
+-- Samples of the heads of items: how they are laid out.
+use Rattle.std.proofs.Common.{◌≡◌, ℕ, true, false, List, [], ◌∷◌, Option, Some, None, map, codes, ap, ◌∙◌, refl}
+use Rattle.lay_piece.specs.declared.kind.Delim.TheVariants.{Paren}
 use Rattle.lay_piece.specs.declared.kind.Kind.TheVariants as kind
 use Rattle.lay_layout.specs.Document.{text_of}
 use Rattle.lay_form.specs.Form.{Blank, Operator, Form, Done, Piece, Part, Deeper, keyword, opener, closer, semicolon}
 use Rattle.lay_form.specs.Layout.{document}
 use Rattle.lay_form.specs.Notation as notation
-use Rattle.lay_form.specs.Notation.{I0, piece, body, comma_list, where_body}
+use Rattle.lay_form.specs.Notation.{body, comma_list, I0, piece, where_body}
 use Rattle.lay_tree.specs.Words.{leaf_of}
 use Rattle.lay_tree.specs.nodes.Functions.{mut_word}
 use Rattle.lay_tree.specs.nodes.Generics.{generics_form}
 use Rattle.lay_tree.specs.nodes.Heads.{called}
+use Rattle.lay_tree.specs.nodes.Item.{item_facts, KindFacts, told_of_item, told_of_kind}
+use Rattle.lay_tree.specs.nodes.Patterns.{pat_facts}
+use Rattle.lay_tree.specs.nodes.Types.{about_path, arg_facts, args_facts, bound_facts, bounds_form, colon, equals, idle_colon, literal_form, path_facts, PathFacts, start_facts, ty_facts}
 use Rattle.lay_tree.specs.nodes.Vis.{pub_word}
 use Rattle.lay_tree.specs.nodes.Where.{wheres_before_body, wheres_before_semicolon}
-use Rattle.lay_tree.specs.nodes.Patterns.{pat_facts}
-use Rattle.lay_tree.specs.nodes.Types.{PathFacts, about_path, arg_facts, args_facts, bound_facts, bounds_form, colon, equals, idle_colon, literal_form, path_facts, start_facts, ty_facts}
 use Rattle.lay_tree.specs.tokens.Lists.{token_list}
-use Rattle.lay_tree.specs.declared.types.Arg.TheOpen.{Arg-F, Args-F, Bound-F, PathStart-F, Ty-F}
-use Rattle.lay_tree.specs.declared.patterns.FieldPat.TheOpen.{Pat-F}
-use Rattle.lay_tree.specs.nodes.Item.{ItemFacts, KindFacts, item_facts, told_of_item, told_of_kind}
 use Rattle.lay_tree.specs.declared.fields.Field.{Field}
-use Rattle.lay_tree.specs.declared.fields.Fields.{Fields}
 use Rattle.lay_tree.specs.declared.fields.Fields.TheVariants as fields
+use Rattle.lay_tree.specs.declared.fields.Fields.{Fields}
 use Rattle.lay_tree.specs.declared.fields.TupleField.{TupleField}
 use Rattle.lay_tree.specs.declared.fields.Variant.{Variant}
 use Rattle.lay_tree.specs.declared.functions.FnHead.{FnHead}
 use Rattle.lay_tree.specs.declared.functions.Param.{Param}
-use Rattle.lay_tree.specs.declared.functions.ParamKind.{ParamKind}
 use Rattle.lay_tree.specs.declared.functions.ParamKind.TheVariants as fn_param
+use Rattle.lay_tree.specs.declared.functions.ParamKind.{ParamKind}
 use Rattle.lay_tree.specs.declared.functions.Safety.{Safety}
-use Rattle.lay_tree.specs.declared.functions.Safety.TheVariants as safety
 use Rattle.lay_tree.specs.declared.generics.GenericParam.TheVariants as param
 use Rattle.lay_tree.specs.declared.generics.Generics.{Generics}
 use Rattle.lay_tree.specs.declared.generics.Predicate.TheVariants as predicate
@@ -41,31 +38,33 @@ use Rattle.lay_tree.specs.declared.heads.ImplHead.{ImplHead}
 use Rattle.lay_tree.specs.declared.heads.Struct.{Struct}
 use Rattle.lay_tree.specs.declared.heads.TraitHead.{TraitHead}
 use Rattle.lay_tree.specs.declared.heads.Union.{Union}
-use Rattle.lay_tree.specs.declared.heads.ValueHead.{ValueHead}
 use Rattle.lay_tree.specs.declared.heads.ValueHead.TheVariants as value
+use Rattle.lay_tree.specs.declared.heads.ValueHead.{ValueHead}
 use Rattle.lay_tree.specs.declared.item.Item.{Item}
-use Rattle.lay_tree.specs.declared.item.ItemKind.{ItemKind}
 use Rattle.lay_tree.specs.declared.item.ItemKind.TheVariants as item
-use Rattle.lay_tree.specs.declared.patterns.Pat.{Pat}
+use Rattle.lay_tree.specs.declared.item.ItemKind.{ItemKind}
+use Rattle.lay_tree.specs.declared.patterns.FieldPat.TheOpen.{Pat-F}
 use Rattle.lay_tree.specs.declared.patterns.Pat.TheVariants as pat
+use Rattle.lay_tree.specs.declared.patterns.Pat.{Pat}
 use Rattle.lay_tree.specs.declared.token.GivenName.TheVariants as given
 use Rattle.lay_tree.specs.declared.token.Listed.{Listed}
 use Rattle.lay_tree.specs.declared.token.Literal.{Literal}
+use Rattle.lay_tree.specs.declared.types.Arg.TheOpen.{Arg-F, Args-F, Bound-F, PathStart-F, Ty-F}
 use Rattle.lay_tree.specs.declared.types.Arg.TheVariants as arg
 use Rattle.lay_tree.specs.declared.types.Args.TheVariants as args
 use Rattle.lay_tree.specs.declared.types.Path.{Path}
 use Rattle.lay_tree.specs.declared.types.PathStart.TheVariants as start
 use Rattle.lay_tree.specs.declared.types.PathStyle.TheVariants.{Kind}
-use Rattle.lay_tree.specs.declared.types.Ty.{Ty}
 use Rattle.lay_tree.specs.declared.types.Ty.TheVariants as ty
-use Rattle.lay_tree.specs.declared.vis.Vis.{Vis}
+use Rattle.lay_tree.specs.declared.types.Ty.{Ty}
 use Rattle.lay_tree.specs.declared.vis.Vis.TheVariants as vis
+use Rattle.lay_tree.specs.declared.vis.Vis.{Vis}
 use Rattle.lay_tree.proofs.nodes.ItemLaws as items
 use Rattle.lay_tree.proofs.nodes.PatternsLaws as pats
 use Rattle.lay_tree.proofs.nodes.TypesLaws as types
 use Rattle.lay_tree.proofs.samples.Tokens as list
-use Rattle.lay_tree.proofs.samples.Trees.{named, plain, A, a, b, c, no_generics, no_wheres, about, laid, token, word, mark, colons, opens, closes}
-use Rattle.lay_tree.proofs.samples.Types.{local, local_facts, local_is, B, B_is, C, named_is, meeting, meeting_is}
+use Rattle.lay_tree.proofs.samples.Trees.{named, plain, A, a, b, c, no_generics, no_wheres, about, laid, word, mark}
+use Rattle.lay_tree.proofs.samples.Types.{local, local_facts, local_is, B, B_is, named_is, meeting, meeting_is}
 
 -- ---- trees
 
@@ -127,7 +126,7 @@ fn_of said text kinds output = record {
 abbrev pub name_pat : List ℕ → Pat
 name_pat text = pat.Bind false false (named text) None
 
-abbrev string_C : Literal
+abbrev pub string_C : Literal
 string_C = record { kind = kind.Str; text = codes "\"C\"" }
 
 -- ---- layouts
@@ -161,7 +160,7 @@ laid_union : laid (about (unseen (item.Union one_field))) ≡ codes "union A {\n
 laid_union = rw (told_is vis.Inherited _ _ (items.union_is one_field), named_is (codes "u8")) refl
 
 -- `enum E<T> where T: C { F(T), G { h: u8 }, I = -1 }`
-abbrev three_variants : Enum
+abbrev pub three_variants : Enum
 three_variants = record {
   name = named (codes "E");
   generics = of_T;
@@ -207,16 +206,16 @@ laid_unsafe_extern : laid (about (unseen (item.Foreign true None [] []))) ≡ co
 laid_unsafe_extern = rw (told_is vis.Inherited _ _ (items.foreign_is true None [] [])) refl
 
 -- `pub fn a(b: u8, ...) -> u8;` and `static mut C: u8;`
-abbrev varying : FnHead
+abbrev pub varying : FnHead
 varying = fn_of None a (fn_param.Typed (name_pat b) u8 ∷ fn_param.Variadic ∷ []) (Some u8)
 
-abbrev foreign_function : Item
+abbrev pub foreign_function : Item
 foreign_function = seen vis.Public (item.Function varying no_wheres)
 
-abbrev static_C : ValueHead
+abbrev pub static_C : ValueHead
 static_C = value.Static true (named (codes "C")) u8
 
-abbrev foreign_static : Item
+abbrev pub foreign_static : Item
 foreign_static = unseen (item.Value static_C)
 
 abbrev varying_params : List Form

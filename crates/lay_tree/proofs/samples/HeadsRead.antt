@@ -1,43 +1,46 @@
 -- Samples of what is read of the heads of items.
-use Rattle.std.proofs.Common.{◌≡◌, Bool, true, false, List, [], ◌∷◌, ◌++◌, Option, Some, None, codes, refl}
-use Rattle.lay_piece.specs.declared.kind.Delim.TheVariants.{Paren, Brace}
+use Rattle.std.proofs.Common.{◌≡◌, true, false, List, [], ◌∷◌, ◌++◌, Some, None, codes, refl}
+use Rattle.std.specs.Str.{chars}
+use Rattle.lay_piece.specs.Forms.{after_literal}
+use Rattle.lay_piece.specs.Quoted.{string_step}
+use Rattle.lay_piece.specs.Scan.{run as run_string}
+use Rattle.lay_piece.specs.Value.{adds, string_value}
+use Rattle.lay_piece.specs.declared.kind.Delim.TheVariants.{Brace, Paren}
 use Rattle.lay_piece.specs.declared.kind.Kind.TheVariants as kind
 use Rattle.lay_token.specs.Operators.{op_at}
 use Rattle.lay_token.specs.declared.token.Token.{Token}
 use Rattle.lay_tree.specs.Begins.{lead_at}
 use Rattle.lay_tree.specs.nodes.Fields.{may_lead}
 use Rattle.lay_tree.specs.reader.Attr.{attributes}
-use Rattle.lay_tree.specs.reader.Fields.{tuple_fields, discriminant, tuple_field, variant, variant_fields}
-use Rattle.lay_tree.specs.reader.Functions.{begins_own_self, begins_ref_self, fn_head, fn_param, fn_params, head_at, insides, own_self, param_kind, ref_self, typed}
-use Rattle.lay_tree.specs.reader.Generics.{generics, one_param, type_param}
-use Rattle.lay_tree.specs.reader.Heads.{alias, trait_head, impl_head, struct, trait_ref, value_head}
-use Rattle.lay_tree.specs.reader.Item.{OfCall, OfImpl, OfUnion, trait_by, impl_by, OfForeign, OfFunction, OfValue, item_lead, item_at, item_by, kind_at, call_item, foreign_by, item_body, items_by, function_by}
 use Rattle.lay_tree.specs.reader.Call.{call}
-use Rattle.lay_tree.specs.reader.Loops.{Read, repeat_from, repeat, elements_from, elements, open_elements_from, open_elements}
-use Rattle.lay_tree.specs.reader.Patterns.{pat_at, pat_by, path_by, path_pat, bind, single_at}
+use Rattle.lay_tree.specs.reader.Fields.{discriminant, field, named_fields, tuple_field, tuple_fields, variant, variant_fields, variants}
+use Rattle.lay_tree.specs.reader.Functions.{begins_own_self, fn_head, fn_param, fn_params, insides, own_self, param_kind, ref_self, typed}
+use Rattle.lay_tree.specs.reader.Generics.{generics, one_param, type_param}
+use Rattle.lay_tree.specs.reader.Heads.{alias, enum, impl_head, struct, trait_head, trait_ref, value_head}
+use Rattle.lay_tree.specs.reader.Item.{value_by, call_item, foreign_by, function_by, impl_by, item_at, item_body, item_by, item_lead, items_by, kind_at, OfCall, OfForeign, OfFunction, OfImpl, OfUnion, OfValue, trait_by}
+use Rattle.lay_tree.specs.reader.Loops.{elements, elements_from, open_elements, open_elements_from, Read, repeat, repeat_from}
+use Rattle.lay_tree.specs.reader.Patterns.{bind, pat_by, path_by, path_pat, single_at}
 use Rattle.lay_tree.specs.reader.SimplePath.{simple_path}
-use Rattle.lay_tree.specs.reader.Tokens.{run, tokens_of, group}
-use Rattle.lay_tree.specs.reader.Types.{angle, one_arg, within, path_type, path, chain, segment, args_by, one_bound, meets, paren_type, qualified}
+use Rattle.lay_tree.specs.reader.Tokens.{group, run, tokens_of}
+use Rattle.lay_tree.specs.reader.Types.{angle, literal, args_by, chain, meets, one_arg, one_bound, paren_type, path, path_type, qualified, segment, within}
 use Rattle.lay_tree.specs.reader.Vis.{visibility}
-use Rattle.lay_tree.specs.reader.Where.{wheres, type_predicate}
+use Rattle.lay_tree.specs.reader.Where.{type_predicate, wheres}
 use Rattle.lay_tree.specs.reader.Words.{given_name, name as name_reading, word as word_reading}
 use Rattle.lay_tree.specs.declared.fields.Fields.TheVariants as fields
 use Rattle.lay_tree.specs.declared.functions.FnHead.{FnHead}
+use Rattle.lay_tree.specs.declared.functions.Param.{Param}
 use Rattle.lay_tree.specs.declared.functions.ParamKind.TheVariants as param
 use Rattle.lay_tree.specs.declared.functions.Safety.TheVariants as safety
-use Rattle.lay_tree.specs.declared.heads.ImplHead.{ImplHead}
-use Rattle.lay_tree.specs.declared.heads.Site.TheVariants.{Module, TraitMember, Foreign}
-use Rattle.lay_tree.specs.declared.heads.TraitRef.{TraitRef}
-use Rattle.lay_tree.specs.declared.heads.ValueHead.TheVariants as value
-use Rattle.lay_tree.specs.declared.patterns.Pat.TheVariants as pat
-use Rattle.lay_tree.specs.declared.patterns.PatPlace.TheVariants.{Single}
-use Rattle.lay_tree.specs.declared.token.GivenName.TheVariants as given
-use Rattle.lay_tree.specs.declared.token.Listed.{Listed}
-use Rattle.lay_tree.specs.declared.functions.Param.{Param}
-use Rattle.lay_tree.specs.declared.generics.Generics.{Generics}
 use Rattle.lay_tree.specs.declared.generics.GenericParam.TheVariants as generic
+use Rattle.lay_tree.specs.declared.generics.Generics.{Generics}
+use Rattle.lay_tree.specs.declared.heads.ImplHead.{ImplHead}
+use Rattle.lay_tree.specs.declared.heads.Site.TheVariants.{Foreign, Module, TraitMember}
+use Rattle.lay_tree.specs.declared.heads.ValueHead.TheVariants as value
 use Rattle.lay_tree.specs.declared.item.Item.{Item}
 use Rattle.lay_tree.specs.declared.item.ItemKind.TheVariants as item
+use Rattle.lay_tree.specs.declared.patterns.Pat.TheVariants as pat
+use Rattle.lay_tree.specs.declared.token.GivenName.TheVariants as given
+use Rattle.lay_tree.specs.declared.token.Listed.{Listed}
 use Rattle.lay_tree.specs.declared.tokens.MacroCall.{MacroCall}
 use Rattle.lay_tree.specs.declared.types.Arg.TheViews as views
 use Rattle.lay_tree.specs.declared.types.Args.TheVariants as args
@@ -47,7 +50,7 @@ use Rattle.lay_tree.specs.declared.types.Ty.TheVariants as ty
 use Rattle.lay_tree.specs.declared.vis.Vis.TheVariants as vis
 use Rattle.lay_tree.proofs.nodes.ItemLaws as items
 use Rattle.lay_tree.proofs.nodes.TypesLaws as types
-use Rattle.lay_tree.proofs.samples.Heads.{C_is_D, fn_of, impl_A_for, trait_A, two_fields, where_B_is_C, name_pat, of_T, param_of, seen, struct_of, unseen, tuple_field_of, ty_of, variant_of}
+use Rattle.lay_tree.proofs.samples.Heads.{C_is_D, foreign_function, foreign_static, static_C, string_C, three_variants, varying, fn_of, impl_A_for, trait_A, two_fields, where_B_is_C, name_pat, of_T, param_of, seen, unseen, tuple_field_of, ty_of, variant_of}
 use Rattle.lay_tree.proofs.samples.Patterns.{lone}
 use Rattle.lay_tree.proofs.samples.Tokens as list
 use Rattle.lay_tree.proofs.samples.Trees.{named, plain, A, a, no_generics, no_wheres, token, word, mark, colons, opens, closes}
@@ -344,3 +347,28 @@ read_impl : item_at Module 3 (word (codes "impl") ∷ mark (codes "<") ∷ word 
     ≡ Some ((unseen (item.Impl impl_A_for no_wheres [] (unseen (item.Alias C_is_D) ∷ [])), 3), [])
 unfolding item_at item_by kind_at item_lead impl_by impl_head trait_ref item_body items_by alias generics one_param type_param elements elements_from angle one_arg wheres name_reading attributes visibility within lead_at simple_path path_type path chain repeat repeat_from segment args_by word_reading op_at
 read_impl = rw (items.alias_is C_is_D, items.impl_is impl_A_for no_wheres [] (unseen (item.Alias C_is_D) ∷ [])) refl
+
+-- `enum E<T>where T:C{F(T),G{h:u8},I=-1}`
+read_enum : item_at Module 3 (word (codes "enum") ∷ word (codes "E") ∷ mark (codes "<") ∷ word (codes "T") ∷ mark (codes ">") ∷ word (codes "where")
+    ∷ word (codes "T") ∷ mark (codes ":") ∷ word (codes "C") ∷ opens Brace ∷ word (codes "F") ∷ in_parens (word (codes "T") ∷ []) (comma
+    ∷ word (codes "G") ∷ opens Brace ∷ word (codes "h") ∷ mark (codes ":") ∷ word (codes "u8") ∷ closes Brace ∷ comma
+    ∷ word (codes "I") ∷ mark (codes "=") ∷ mark (codes "-") ∷ token kind.Int (codes "1") false ∷ closes Brace ∷ []))
+    ≡ Some ((unseen (item.Enum three_variants), 2), [])
+unfolding item_at item_by kind_at item_lead enum variants variant variant_fields tuple_fields tuple_field named_fields field discriminant tokens_of run generics one_param type_param wheres type_predicate one_bound meets elements elements_from open_elements open_elements_from name_reading attributes visibility within lead_at simple_path path_type path chain repeat repeat_from segment args_by word_reading op_at
+read_enum = rw (items.enum_is three_variants) refl
+
+-- `extern "C"{pub fn a(b:u8,...)->u8;static mut C:u8;}`
+read_extern_C : item_at Module 3 (word (codes "extern") ∷ token kind.Str (codes "\"C\"") false ∷ opens Brace ∷ word (codes "pub") ∷ word (codes "fn") ∷ word a
+    ∷ in_parens (word (codes "b") ∷ mark (codes ":") ∷ word (codes "u8") ∷ comma ∷ dots [])
+    (token kind.Punct (codes "-") true ∷ mark (codes ">") ∷ word (codes "u8") ∷ semi ∷ word (codes "static") ∷ word (codes "mut")
+    ∷ word (codes "C") ∷ mark (codes ":") ∷ word (codes "u8") ∷ semi ∷ closes Brace ∷ []))
+    ≡ Some ((unseen (item.Foreign false (Some string_C) [] (foreign_function ∷ foreign_static ∷ [])), 3), [])
+unfolding item_at item_by kind_at item_lead foreign_by literal chars after_literal run_string string_step adds string_value item_body items_by function_by fn_head fn_params fn_param param_kind typed single_at pat_by path_pat path_by bind value_by value_head generics wheres open_elements open_elements_from name_reading attributes visibility within lead_at simple_path path_type path chain repeat repeat_from segment args_by word_reading op_at
+read_extern_C =
+    rw (
+      lone (codes "b"),
+      items.function_is varying no_wheres,
+      items.value_is static_C,
+      items.foreign_is false (Some string_C) [] (foreign_function ∷ foreign_static ∷ []),
+    )
+    refl
