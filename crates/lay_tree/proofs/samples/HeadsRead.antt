@@ -62,8 +62,8 @@ in_parens inner ts = opens Paren ∷ (inner ++ closes Paren ∷ ts)
 abbrev comma : Token
 comma = mark (codes ",")
 
-abbrev semi : Token
-semi = mark (codes ";")
+abbrev semicolon : Token
+semicolon = mark (codes ";")
 
 -- ---- visibilities
 
@@ -100,7 +100,7 @@ not_restricting = rw (views.outs-Paren (ty_of (codes "crate")), views.outs-Path 
 
 -- ---- receivers
 
--- `self(a): B,` begins with a pattern.
+-- In `self(a): B,` a pattern begins, and no receiver.
 no_receiver : begins_own_self (word (codes "self") ∷ in_parens (word a ∷ []) (mark (codes ":") ∷ word (codes "B") ∷ comma ∷ [])) ≡ false
 unfolding op_at
 no_receiver = refl
@@ -123,12 +123,12 @@ read_typed_receiver = refl
 
 -- ---- functions, constants and foreign blocks
 
--- `const safe fn f();`
+-- `const safe fn f();` is a function in a foreign block, and `const safe: B;` a constant in a trait.
 abbrev const_safe : List Token → List Token
 const_safe ts = word (codes "const") ∷ word (codes "safe") ∷ ts
 
 abbrev fn_f : List Token
-fn_f = word (codes "fn") ∷ word (codes "f") ∷ in_parens [] (semi ∷ [])
+fn_f = word (codes "fn") ∷ word (codes "f") ∷ in_parens [] (semicolon ∷ [])
 
 leads_function : item_lead (const_safe fn_f) ≡ OfFunction
 unfolding item_lead
@@ -137,22 +137,21 @@ leads_function = refl
 abbrev safe_f : FnHead
 safe_f = record (fn_of (Some safety.Safe) (codes "f") [] None) { is_const = true }
 
-read_safe : fn_head Foreign (insides 1) (const_safe fn_f) ≡ Some ((safe_f, 0), semi ∷ [])
+read_safe : fn_head Foreign (insides 1) (const_safe fn_f) ≡ Some ((safe_f, 0), semicolon ∷ [])
 unfolding fn_head name_reading generics fn_params open_elements open_elements_from op_at
 read_safe = refl
 
--- Only in a foreign block a function is said to be safe.
+-- Elsewhere no function is said to be safe.
 not_safe : fn_head TraitMember (insides 1) (const_safe fn_f) ≡ None
 unfolding fn_head name_reading generics fn_params open_elements open_elements_from op_at
 not_safe = refl
 
--- `const safe: B;`
-leads_value : item_lead (const_safe (mark (codes ":") ∷ word (codes "B") ∷ semi ∷ [])) ≡ OfValue
+leads_value : item_lead (const_safe (mark (codes ":") ∷ word (codes "B") ∷ semicolon ∷ [])) ≡ OfValue
 unfolding item_lead
 leads_value = refl
 
-read_value : value_head (within 1) (const_safe (mark (codes ":") ∷ word (codes "B") ∷ semi ∷ []))
-    ≡ Some ((value.Const (given.Name (named (codes "safe"))) B, 1), semi ∷ [])
+read_value : value_head (within 1) (const_safe (mark (codes ":") ∷ word (codes "B") ∷ semicolon ∷ []))
+    ≡ Some ((value.Const (given.Name (named (codes "safe"))) B, 1), semicolon ∷ [])
 unfolding value_head given_name within lead_at simple_path path_type path chain repeat repeat_from segment args_by word_reading op_at
 read_value = refl
 
@@ -184,7 +183,7 @@ leads_call = refl
 
 -- `type C;` stands in a trait, and in no module.
 abbrev type_C : List Token
-type_C = word (codes "type") ∷ word (codes "C") ∷ semi ∷ []
+type_C = word (codes "type") ∷ word (codes "C") ∷ semicolon ∷ []
 
 read_no_type : alias TraitMember (within 1) type_C
     ≡ Some ((record { name = named (codes "C"); generics = no_generics; bounds = []; ty = None; wheres = no_wheres }, 0), [])
@@ -197,14 +196,14 @@ not_without_type = refl
 
 -- ---- where clauses and discriminants
 
--- `struct A where A: C,;`
+-- `struct A where A: C,;`: the comma is the where clause's.
 read_where_comma : struct (within 2) (word (codes "struct") ∷ word (codes "A") ∷ word (codes "where") ∷ word (codes "A") ∷ mark (codes ":")
-    ∷ word (codes "C") ∷ comma ∷ semi ∷ [])
+    ∷ word (codes "C") ∷ comma ∷ semicolon ∷ [])
     ≡ Some ((record { name = A; generics = no_generics; fields = fields.Unit; wheres = where_A_is (codes "C") }, 1), [])
 unfolding struct name_reading generics wheres open_elements open_elements_from type_predicate one_bound meets within lead_at simple_path path_type path chain repeat repeat_from segment args_by word_reading op_at
 read_where_comma = refl
 
--- `A = (1, 2), B`
+-- `A = (1, 2), B`: a discriminant ends at a comma outside its groups.
 abbrev tuple_of_numbers : List Listed
 tuple_of_numbers = list.opens Paren ∷ list.number (codes "1") ∷ list.mark (codes ",") ∷ list.number (codes "2") ∷ list.closes Paren ∷ []
 
@@ -229,7 +228,7 @@ read_negative : impl_head (within 1) (word (codes "impl") ∷ mark (codes "!") �
 unfolding impl_head generics trait_ref within lead_at simple_path path_type path chain repeat repeat_from segment args_by word_reading op_at
 read_negative = refl
 
--- `impl ! {` is of a type.
+-- `impl ! {` is of the type `!`.
 abbrev of_never : ImplHead
 of_never = record { is_unsafe = false; generics = no_generics; of = None; ty = ty.Never }
 
@@ -277,7 +276,6 @@ read_params = refl
 abbrev read_params_of : List Token → Read (List Param)
 read_params_of ts = fn_params (insides 2) (in_parens ts [])
 
--- `(..., self)` and `(...,)`
 abbrev dots : List Token → List Token
 dots ts = token kind.Punct (codes ".") true ∷ token kind.Punct (codes ".") true ∷ mark (codes ".") ∷ ts
 
@@ -285,6 +283,7 @@ read_variadic : read_params_of (word (codes "self") ∷ comma ∷ dots []) ≡ S
 unfolding fn_params fn_param param_kind own_self attributes open_elements open_elements_from repeat repeat_from op_at
 read_variadic = refl
 
+-- No parameter stands behind `...`, and no comma.
 not_last : read_params_of (dots (comma ∷ word (codes "self") ∷ [])) ≡ None
 unfolding fn_params fn_param param_kind own_self attributes open_elements open_elements_from repeat repeat_from op_at
 not_last = refl
@@ -300,7 +299,7 @@ abbrev m_call : MacroCall
 m_call = record { path = record { global = false; words = plain (codes "m") ∷ [] }; tokens = record { delim = Paren; tokens = [] } }
 
 abbrev call_m : List Token
-call_m = word (codes "m") ∷ mark (codes "!") ∷ in_parens [] (semi ∷ [])
+call_m = word (codes "m") ∷ mark (codes "!") ∷ in_parens [] (semicolon ∷ [])
 
 not_seen : item_at Module 1 (word (codes "pub") ∷ call_m) ≡ None
 unfolding item_at item_by kind_at item_lead call_item call group tokens_of run name_reading attributes visibility simple_path repeat repeat_from word_reading op_at
@@ -328,7 +327,7 @@ not_in_module = refl
 
 -- `pub(crate)struct A(pub u8,B);`
 read_struct : item_at Module 3 (word (codes "pub") ∷ in_parens (word (codes "crate") ∷ []) (word (codes "struct") ∷ word (codes "A")
-    ∷ in_parens (word (codes "pub") ∷ word (codes "u8") ∷ comma ∷ word (codes "B") ∷ []) (semi ∷ [])))
+    ∷ in_parens (word (codes "pub") ∷ word (codes "u8") ∷ comma ∷ word (codes "B") ∷ []) (semicolon ∷ [])))
     ≡ Some ((seen vis.Crate (item.Struct two_fields), 2), [])
 unfolding item_at item_by kind_at item_lead struct tuple_fields tuple_field elements elements_from generics wheres name_reading attributes visibility within lead_at simple_path path_type path chain repeat repeat_from segment args_by word_reading op_at
 read_struct = rw (items.struct_is two_fields) refl
@@ -343,7 +342,7 @@ read_trait = rw (items.trait_is trait_A where_B_is_C [] []) refl
 -- `impl<T>A for B<T>{type C=D;}`
 read_impl : item_at Module 3 (word (codes "impl") ∷ mark (codes "<") ∷ word (codes "T") ∷ mark (codes ">") ∷ word (codes "A") ∷ word (codes "for")
     ∷ word (codes "B") ∷ mark (codes "<") ∷ word (codes "T") ∷ mark (codes ">") ∷ opens Brace ∷ word (codes "type") ∷ word (codes "C")
-    ∷ mark (codes "=") ∷ word (codes "D") ∷ semi ∷ closes Brace ∷ [])
+    ∷ mark (codes "=") ∷ word (codes "D") ∷ semicolon ∷ closes Brace ∷ [])
     ≡ Some ((unseen (item.Impl impl_A_for no_wheres [] (unseen (item.Alias C_is_D) ∷ [])), 3), [])
 unfolding item_at item_by kind_at item_lead impl_by impl_head trait_ref item_body items_by alias generics one_param type_param elements elements_from angle one_arg wheres name_reading attributes visibility within lead_at simple_path path_type path chain repeat repeat_from segment args_by word_reading op_at
 read_impl = rw (items.alias_is C_is_D, items.impl_is impl_A_for no_wheres [] (unseen (item.Alias C_is_D) ∷ [])) refl
@@ -360,8 +359,8 @@ read_enum = rw (items.enum_is three_variants) refl
 -- `extern "C"{pub fn a(b:u8,...)->u8;static mut C:u8;}`
 read_extern_C : item_at Module 3 (word (codes "extern") ∷ token kind.Str (codes "\"C\"") false ∷ opens Brace ∷ word (codes "pub") ∷ word (codes "fn") ∷ word a
     ∷ in_parens (word (codes "b") ∷ mark (codes ":") ∷ word (codes "u8") ∷ comma ∷ dots [])
-    (token kind.Punct (codes "-") true ∷ mark (codes ">") ∷ word (codes "u8") ∷ semi ∷ word (codes "static") ∷ word (codes "mut")
-    ∷ word (codes "C") ∷ mark (codes ":") ∷ word (codes "u8") ∷ semi ∷ closes Brace ∷ []))
+    (token kind.Punct (codes "-") true ∷ mark (codes ">") ∷ word (codes "u8") ∷ semicolon ∷ word (codes "static") ∷ word (codes "mut")
+    ∷ word (codes "C") ∷ mark (codes ":") ∷ word (codes "u8") ∷ semicolon ∷ closes Brace ∷ []))
     ≡ Some ((unseen (item.Foreign false (Some string_C) [] (foreign_function ∷ foreign_static ∷ [])), 3), [])
 unfolding item_at item_by kind_at item_lead foreign_by literal chars after_literal run_string string_step adds string_value item_body items_by function_by fn_head fn_params fn_param param_kind typed single_at pat_by path_pat path_by bind value_by value_head generics wheres open_elements open_elements_from name_reading attributes visibility within lead_at simple_path path_type path chain repeat repeat_from segment args_by word_reading op_at
 read_extern_C =
