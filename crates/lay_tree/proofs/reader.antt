@@ -35,6 +35,8 @@ pub mod ItemReads
 pub mod ItemKinds
 pub mod Item
 pub mod ItemRead
+pub mod ItemExact
+pub mod HeadsExact
 pub mod File
 pub mod TypesFronts
 pub mod TypesOpens
