@@ -61,3 +61,5 @@ pub mod VariantsSound
 pub mod FieldsComplete
 pub mod VariantsComplete
 pub mod StructsSound
+pub mod StructsComplete
+pub mod StructsExact
