@@ -84,3 +84,5 @@ pub mod ImplHeadsSound
 pub mod ImplHeadsComplete
 pub mod VariantsComplete
 pub mod StructsSound
+pub mod StructsComplete
+pub mod StructsExact
