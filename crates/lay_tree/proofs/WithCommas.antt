@@ -52,12 +52,6 @@ blank_spelled true ts = (ts, refl, refl)
 blank_spelled false ts = refl
 
 -- A leading blank is no token.
-with_blank : (lead : Bool) (fs : List Form) (depth : ℕ) (ts rest : Tokens) → Spells (body (blank_if lead) [] fs) depth ts rest
-    → Spells (body (Blank ∷ []) [] fs) depth ts rest
-with_blank true fs depth ts rest s = s
-with_blank false [] depth ts rest s = (s.0, (ts, refl, s.1), s.2)
-with_blank false (f ∷ fs) depth ts rest s = (s.0, (ts, refl, s.1), s.2)
-
 pub list_as_fields : (lead : Bool) (fs : List Form) (depth : ℕ) (ts rest : Tokens) → Spells (comma_list true (opener Brace) (closer Brace) fs) depth ts rest
     → Spells (fields (blank_if lead) fs) depth ts rest
 list_as_fields lead fs depth ts rest s =
@@ -68,5 +62,5 @@ list_as_fields lead fs depth ts rest s =
 pub fields_as_list : (lead : Bool) (fs : List Form) (depth : ℕ) (ts rest : Tokens) → Spells (fields (blank_if lead) fs) depth ts rest
     → Spells (comma_list true (opener Brace) (closer Brace) fs) depth ts rest
 fields_as_list lead fs depth ts rest s =
-    let b = body_rows (with_commas fs) depth ts rest (with_blank lead (with_commas fs) depth ts rest s) in
+    let b = body_rows lead (with_commas fs) depth ts rest s in
     list_spelled Brace fs depth ts b.0 rest b.2 (commas_elements fs depth b.0 b.1 rest b.3 b.4)
