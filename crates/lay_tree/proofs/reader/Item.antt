@@ -133,7 +133,7 @@ is_rules _ = false
 
 -- What isn't chosen for what it is, is chosen for what stands behind it.
 passes : (b : Bool) (x y : ItemLead) → is_rules x ≡ false → (if b then x else y) ≡ OfRules → y ≡ OfRules
-passes true x y n h = absurd (cc (n, ap is_rules h))
+passes true x y n h = absurd (cc n)
 passes false x y n h = h
 
 unsafe_passes : (b c : Bool) → is_rules (if b then OfTrait else (if c then OfImpl else OfForeign)) ≡ false

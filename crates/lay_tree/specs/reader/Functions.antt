@@ -1,5 +1,5 @@
 -- Reading the heads of functions.
-use Rattle.std.specs.Prelude.{ℕ, zero, suc, max, ◌&&◌, ◌||◌, not, Bool, true, false, false, if◌then◌else◌, List, drop, codes, Option, Some, None}
+use Rattle.std.specs.Prelude.{ℕ, zero, suc, max, ◌&&◌, ◌||◌, not, Bool, true, false, if◌then◌else◌, List, drop, codes, Option, Some, None}
 use Rattle.lay_token.specs.Operators.{is_op}
 use Rattle.lay_piece.specs.declared.kind.Delim.TheVariants.{Paren}
 use Rattle.lay_piece.specs.declared.kind.Kind.{Kind}
