@@ -18,6 +18,7 @@ use Rattle.lay_tree.specs.nodes.Generics.{are_bounds, bounded_form, default_form
 use Rattle.lay_tree.specs.nodes.Patterns.{is_self}
 use Rattle.lay_tree.specs.nodes.Types.{about_path, about_type, bounds_follow, colon, deeper, given_form, good_at, is_given, is_there, type_follows}
 use Rattle.lay_tree.specs.nodes.Use.{is_rename, rename_form}
+use Rattle.lay_tree.specs.nodes.Vis.{vis_form}
 use Rattle.lay_tree.specs.nodes.Where.{are_predicates, wheres_before_body, wheres_before_semicolon}
 use Rattle.lay_tree.specs.declared.fields.Fields.{Fields}
 use Rattle.lay_tree.specs.declared.fields.Fields.TheVariants as fields
@@ -48,6 +49,7 @@ use Rattle.lay_tree.specs.declared.types.PathStart.{PathStart}
 use Rattle.lay_tree.specs.declared.types.PathStyle.TheVariants.{Kind}
 use Rattle.lay_tree.specs.declared.types.Ty.{Ty}
 use Rattle.lay_tree.specs.declared.types.TypePlace.TheVariants.{Bounds}
+use Rattle.lay_tree.specs.declared.vis.Vis.{Vis}
 
 -- What is told of what an item is: its head, which the layout keeps in a group of its own, and the rest.
 pub record HeadFacts : Type 0 where
@@ -58,6 +60,10 @@ pub record HeadFacts : Type 0 where
 -- By itself it ends in a `;` or in a `}`, so anything may follow it.
 abbrev pub headed : HeadFacts → Told
 headed x = record { form = notation.I0 x.head x.tail; good = x.good; follows = λ ts. true }
+
+-- a head with a visibility before it
+abbrev pub seen : Vis → HeadFacts → Form
+seen v x = notation.I0 (Part (vis_form v) x.head) x.tail
 
 -- Braces behind a where clause that is there have no leading blank.
 abbrev pub leads : Wheres → Bool
