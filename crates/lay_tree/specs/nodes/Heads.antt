@@ -60,6 +60,10 @@ pub record HeadFacts : Type 0 where
 abbrev pub headed : HeadFacts → Told
 headed x = record { form = notation.I0 x.head x.tail; good = x.good; follows = λ ts. true }
 
+-- a head with a visibility before it
+abbrev pub seen : Vis → HeadFacts → Form
+seen v x = notation.I0 (Part (vis_form v) x.head) x.tail
+
 -- Braces behind a where clause that is there have no leading blank.
 abbrev pub leads : Wheres → Bool
 leads wheres = not (is_there wheres.predicates)
