@@ -49,3 +49,10 @@ pub const_other : (ts : Tokens) → first is_literal_token ts ≡ false
     → const ts ≡ (if first (is_mark (codes "-")) ts then negative (tail ts) else braces ts)
 unfolding const
 const_other ts h = rw h refl
+
+-- ---- lists
+
+pub gathered_lost : {A B : Type 0} (o : Got (List (A × ℕ))) (f : List (A × ℕ) × Tokens → Got B) → gathered o ≡ None
+    → (o >>= f) ≡ None
+gathered_lost None f h = refl
+gathered_lost (Some xs) f h = absurd (cc)

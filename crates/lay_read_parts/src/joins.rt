@@ -14,6 +14,13 @@ pub fn both<A: Drop, B>(first: A, second: Result<B, ReadNone>) -> Result<(A, B),
     }
 }
 
+/// Nothing is read, and what was read before is let go.
+pub fn refused<A: Drop, B>(_before: A) -> Result<B, ReadNone>
+    ensures { result ≡ Err ReadNone.NoReading }
+{
+    Err(ReadNone::NoReading)
+}
+
 /// A list with one more item at its front.
 pub fn prepended<T: Drop>(first: T, others: List<T>) -> Result<List<T>, ReadNone>
     ensures ok { IfOk result (λ list. list ≡ first ∷ others) }

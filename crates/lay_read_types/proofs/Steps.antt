@@ -22,6 +22,7 @@ use Rattle.lay_read_tokens.specs.Answers.{IsFound}
 use Rattle.lay_read_tokens.specs.declared.found.Found.{Found}
 use Rattle.lay_read_tokens.specs.declared.stop.ReadNone.{ReadNone}
 use Rattle.lay_read_parts.specs.Answers.{gathered, literal_if}
+use Rattle.lay_read_parts.proofs.Steps.{gathered_lost}
 
 -- ---- generic arguments
 
@@ -73,11 +74,6 @@ pub found_by : {A : Type 0} (a b : Read A) (r : Result (Found A) ReadNone) (left
     → IsFound a r left
 found_by a b r left e h = rw e h
 
-gathered_lost : {A B : Type 0} (o : Got (List (A × ℕ))) (f : List (A × ℕ) × Tokens → Got B) → gathered o ≡ None
-    → (o >>= f) ≡ None
-gathered_lost None f h = refl
-gathered_lost (Some xs) f h = absurd (cc)
-
 pub angle_lost : (w : Within) (ts mid : Tokens) → first (is_mark (codes "<")) ts ≡ true → mid ≡ tail ts
     → gathered (elements (is_mark (codes ">")) (one_arg w) mid) ≡ None → angle w ts ≡ None
 unfolding angle
@@ -92,13 +88,3 @@ pub short_last : (xs : List (Word × Args)) → length xs < 2 → returns_last x
 short_last [] h = refl
 short_last (x ∷ []) h = refl
 short_last (x ∷ y ∷ xs) h = absurd (omega arith)
-
--- ---- generic parameters
-
-pub generics_lost : (w : Within) (ts mid : Tokens) → first (is_mark (codes "<")) ts ≡ true → mid ≡ tail ts
-    → gathered (elements (is_mark (codes ">")) (one_param w) mid) ≡ None → generics w ts ≡ None
-unfolding generics
-generics_lost w ts mid h e n =
-    let here : gathered (elements (is_mark (codes ">")) (one_param w) (tail ts)) ≡ None =
-    ap (λ us. gathered (elements (is_mark (codes ">")) (one_param w) us)) (sym e) ∙ n in
-    rw h (gathered_lost (elements (is_mark (codes ">")) (one_param w) (tail ts)) _ here)

@@ -8,10 +8,9 @@ ghost use Rattle.lay_tree.specs.reader.Types.{if_read, if_there, within};
 ghost use Rattle.lay_tree.specs.declared.types.TypePlace.TheVariants.{Bounds};
 ghost use Rattle.lay_read_tokens.specs.Answers.{IsFound, IsGot};
 ghost use Rattle.lay_read_parts.specs.Answers.{gathered};
-ghost use Rattle.lay_read_types.specs.Answers.{AreDeeper};
 
-use crate::rules::Rules;
-use lay_read_parts::joins::both;
+use crate::level::Level;
+use lay_read_parts::joins::{both, refused};
 use lay_read_parts::leads::{begins_bound, begins_const, is_at_lifetime};
 use lay_read_parts::loops::{Closer, Part, read_elements};
 use lay_read_parts::parts::{read_const, read_lifetime_behind};
@@ -20,8 +19,9 @@ use lay_read_tokens::found::greater;
 use lay_read_tokens::front::{takes_keyword, takes_mark, takes_op};
 use lay_read_tokens::names::read_name;
 use lay_read_tokens::{Ahead, Found, ReadNone};
+use lay_read_types::{bounds_ahead, type_ahead};
 use lay_token::List;
-use lay_tree::{Attr, Bound, ConstDefault, Constraint, GenericParam, Generics, Ty, TypePlace};
+use lay_tree::{Attr, Bound, ConstDefault, GenericParam, Generics, Ty, TypePlace};
 use std::alloc::Global;
 
 /// Generic parameters, as parts of a list.
@@ -31,18 +31,14 @@ impl Part<GenericParam, ()> for Params {
     ghost reads = { λ depth place ts. reader.one_param (within depth) ts };
 }
 
-impl<
-    F: Fn(Global, &mut Ahead<'_>, TypePlace, u32) -> Result<Found<Ty>, ReadNone>,
-    G: Fn(Global, &mut Ahead<'_>, u32) -> Result<Found<Constraint>, ReadNone>,
-> Rules<F, G> {
+impl Level {
     /// Bounds behind a `:`, none where none begins.
     pub fn met(&self, at: &mut Ahead<'_>) -> Result<Found<List<Bound>>, ReadNone>
-        requires { AreDeeper self.now.depth (F.pre self.now.types) (F.post self.now.types) (G.pre self.now.constraints) (G.post self.now.constraints) }
         ensures read { IsFound (reader.met (within self.now.depth) at.old) result at.new }
         ensures within { IfOk result (λ found. found.need ≤ self.now.depth) }
     {
         if begins_bound(at) {
-            self.all_bounds(at)
+            bounds_ahead(self.alloc, at, self.depth)
         } else {
             Ok(Found {
                 node: List::new(self.alloc),
@@ -53,7 +49,6 @@ impl<
 
     /// What a parameter meets, if anything is said of it.
     fn met_if(&self, at: &mut Ahead<'_>) -> Result<Found<List<Bound>>, ReadNone>
-        requires { AreDeeper self.now.depth (F.pre self.now.types) (F.post self.now.types) (G.pre self.now.constraints) (G.post self.now.constraints) }
         ensures read { IsFound (reader.met_if (within self.now.depth) at.old) result at.new }
         ensures within { IfOk result (λ found. found.need ≤ self.now.depth) }
     {
@@ -69,7 +64,6 @@ impl<
 
     /// What a parameter that is a type is by default, if anything is said of it.
     fn default_type(&self, at: &mut Ahead<'_>) -> Result<Found<Option<Ty>>, ReadNone>
-        requires { AreDeeper self.now.depth (F.pre self.now.types) (F.post self.now.types) (G.pre self.now.constraints) (G.post self.now.constraints) }
         ensures read { IsFound (if_read (is_op (codes "=") at.old) (λ ts. (within self.now.depth).types Bounds (drop 1 ts)) at.old) result at.new }
         ensures within { IfOk result (λ found. found.need ≤ self.now.depth) }
     {
@@ -79,7 +73,7 @@ impl<
                 need: 0,
             });
         }
-        let ty = self.inner(at, TypePlace::Bounds)?;
+        let ty = type_ahead(self.alloc, at, TypePlace::Bounds, self.depth)?;
         Ok(Found {
             node: Some(ty.node),
             need: ty.need,
@@ -93,13 +87,13 @@ impl<
         at: &mut Ahead<'_>,
         attrs: List<Attr>,
     ) -> Result<Found<GenericParam>, ReadNone>
-        requires { AreDeeper self.now.depth (F.pre self.now.types) (F.post self.now.types) (G.pre self.now.constraints) (G.post self.now.constraints) }
         ensures read { IsFound (reader.type_param (within self.now.depth) attrs at.old) result at.new }
         ensures within { IfOk result (λ found. found.need ≤ self.now.depth) }
     {
-        let name = read_name(self.alloc, at)?;
-        let bounds = self.met_if(at)?;
-        let (bounds, default) = both(bounds, self.default_type(at))?;
+        let (attrs, name) = both(attrs, read_name(self.alloc, at))?;
+        let (head, bounds) = both((attrs, name), self.met_if(at))?;
+        let ((head, bounds), default) = both((head, bounds), self.default_type(at))?;
+        let (attrs, name) = head;
         Ok(Found {
             need: greater(bounds.need, default.need),
             node: GenericParam::Named {
@@ -118,16 +112,17 @@ impl<
         at: &mut Ahead<'_>,
         attrs: List<Attr>,
     ) -> Result<Found<GenericParam>, ReadNone>
-        requires { AreDeeper self.now.depth (F.pre self.now.types) (F.post self.now.types) (G.pre self.now.constraints) (G.post self.now.constraints) }
         ensures read { IsFound (reader.const_param (within self.now.depth) attrs at.old) result at.new }
         ensures within { IfOk result (λ found. found.need ≤ self.now.depth) }
     {
-        let name = read_name(self.alloc, at)?;
+        let (attrs, name) = both(attrs, read_name(self.alloc, at))?;
         if !takes_op(at, b":") {
-            return Err(ReadNone::NoReading);
+            return refused((attrs, name));
         }
-        let ty = self.inner(at, TypePlace::Bounds)?;
-        let (ty, default) = both(ty, read_const_default_if(self.alloc, at))?;
+        let place = TypePlace::Bounds;
+        let (head, ty) = both((attrs, name), type_ahead(self.alloc, at, place, self.depth))?;
+        let ((head, ty), default) = both((head, ty), read_const_default_if(self.alloc, at))?;
+        let (attrs, name) = head;
         Ok(Found {
             need: ty.need,
             node: GenericParam::Const {
@@ -142,7 +137,6 @@ impl<
     /// A generic parameter.
     #[tactic(auto, unfolding(lay_tree::specs::reader::Generics::one_param))]
     fn param(&self, at: &mut Ahead<'_>, _place: ()) -> Result<Found<GenericParam>, ReadNone>
-        requires { AreDeeper self.now.depth (F.pre self.now.types) (F.post self.now.types) (G.pre self.now.constraints) (G.post self.now.constraints) }
         ensures read { IsFound (reader.one_param (within self.now.depth) at.old) result at.new }
         ensures within { IfOk result (λ found. found.need ≤ self.now.depth) }
     {
@@ -164,17 +158,16 @@ impl<
     /// Generic parameters behind a `<`, and the `>` behind them.
     #[tactic(auto, using(crate::proofs::Left::one_param_leaves))]
     fn params(&self, at: &mut Ahead<'_>) -> Result<Found<List<GenericParam>>, ReadNone>
-        requires { AreDeeper self.now.depth (F.pre self.now.types) (F.post self.now.types) (G.pre self.now.constraints) (G.post self.now.constraints) }
         ensures read { IsFound (gathered (elements (is_mark (codes ">")) (reader.one_param (within self.now.depth)) at.old)) result at.new }
         ensures within { IfOk result (λ found. found.need ≤ self.now.depth) }
     {
-        read_elements::<Params, Rules<F, G>, GenericParam, (), _>(
+        read_elements::<Params, Level, GenericParam, (), _>(
             self.alloc,
             at,
             self.depth,
             Closer::Angle,
             self,
-            Rules::param,
+            Level::param,
             (),
         )
     }
@@ -182,7 +175,6 @@ impl<
     /// Generic parameters, and whether `<` and `>` are spelled.
     #[tactic(auto, unfolding(lay_tree::specs::reader::Generics::generics))]
     pub fn generics(&self, at: &mut Ahead<'_>) -> Result<Found<(Generics, bool)>, ReadNone>
-        requires { AreDeeper self.now.depth (F.pre self.now.types) (F.post self.now.types) (G.pre self.now.constraints) (G.post self.now.constraints) }
         ensures read { IsFound (reader.generics (within self.now.depth) at.old) result at.new }
         ensures within { IfOk result (λ found. found.need ≤ self.now.depth) }
     {

@@ -6,18 +6,18 @@ ghost use Rattle.lay_tree.specs.reader.Types.{within};
 ghost use Rattle.lay_tree.specs.reader.Where as reader;
 ghost use Rattle.lay_read_tokens.specs.Answers.{IsFound};
 ghost use Rattle.lay_read_parts.specs.Answers.{gathered_open};
-ghost use Rattle.lay_read_types.specs.Answers.{AreDeeper};
 
-use crate::rules::Rules;
-use lay_read_parts::joins::both;
+use crate::level::Level;
+use lay_read_parts::joins::{both, refused};
 use lay_read_parts::leads::is_at_lifetime;
 use lay_read_parts::loops::{Opening, Part, read_open_elements};
 use lay_read_parts::parts::{read_binder_if, read_lifetime, read_lifetimes};
 use lay_read_tokens::found::greater;
 use lay_read_tokens::front::{takes_keyword, takes_op};
 use lay_read_tokens::{Ahead, Found, ReadNone};
+use lay_read_types::type_ahead;
 use lay_token::List;
-use lay_tree::{Constraint, Predicate, Ty, TypePlace, Wheres};
+use lay_tree::{Predicate, Ty, TypePlace, Wheres};
 use std::alloc::Global;
 
 /// Predicates, as parts of a where clause.
@@ -27,23 +27,20 @@ impl Part<Predicate, ()> for Predicates {
     ghost reads = { λ depth place ts. reader.one_predicate (within depth) ts };
 }
 
-impl<
-    F: Fn(Global, &mut Ahead<'_>, TypePlace, u32) -> Result<Found<Ty>, ReadNone>,
-    G: Fn(Global, &mut Ahead<'_>, u32) -> Result<Found<Constraint>, ReadNone>,
-> Rules<F, G> {
+impl Level {
     /// What is said of a type.
     #[tactic(auto, unfolding(lay_tree::specs::reader::Where::type_predicate))]
     fn type_predicate(&self, at: &mut Ahead<'_>) -> Result<Found<Predicate>, ReadNone>
-        requires { AreDeeper self.now.depth (F.pre self.now.types) (F.post self.now.types) (G.pre self.now.constraints) (G.post self.now.constraints) }
         ensures read { IsFound (reader.type_predicate (within self.now.depth) at.old) result at.new }
         ensures within { IfOk result (λ found. found.need ≤ self.now.depth) }
     {
         let binder = read_binder_if(self.alloc, at)?;
-        let ty = self.inner(at, TypePlace::Bounds)?;
+        let place = TypePlace::Bounds;
+        let (binder, ty) = both(binder, type_ahead(self.alloc, at, place, self.depth))?;
         if !takes_op(at, b":") {
-            return Err(ReadNone::NoReading);
+            return refused((binder, ty));
         }
-        let (ty, bounds) = both(ty, self.met(at))?;
+        let ((binder, ty), bounds) = both((binder, ty), self.met(at))?;
         Ok(Found {
             need: greater(ty.need, bounds.need),
             node: Predicate::Bounded {
@@ -57,7 +54,6 @@ impl<
     /// A predicate.
     #[tactic(auto, unfolding(lay_tree::specs::reader::Where::lifetime_predicate))]
     fn predicate(&self, at: &mut Ahead<'_>, _place: ()) -> Result<Found<Predicate>, ReadNone>
-        requires { AreDeeper self.now.depth (F.pre self.now.types) (F.post self.now.types) (G.pre self.now.constraints) (G.post self.now.constraints) }
         ensures read { IsFound (reader.one_predicate (within self.now.depth) at.old) result at.new }
         ensures within { IfOk result (λ found. found.need ≤ self.now.depth) }
     {
@@ -66,9 +62,9 @@ impl<
         }
         let lifetime = read_lifetime(self.alloc, at)?;
         if !takes_op(at, b":") {
-            return Err(ReadNone::NoReading);
+            return refused(lifetime);
         }
-        let bounds = read_lifetimes(self.alloc, at)?;
+        let (lifetime, bounds) = both(lifetime, read_lifetimes(self.alloc, at))?;
         Ok(Found {
             node: Predicate::Region { lifetime, bounds },
             need: 0,
@@ -78,17 +74,16 @@ impl<
     /// Predicates as long as one begins.
     #[tactic(auto, using(crate::proofs::Left::predicate_leaves))]
     fn predicates(&self, at: &mut Ahead<'_>) -> Result<Found<(List<Predicate>, bool)>, ReadNone>
-        requires { AreDeeper self.now.depth (F.pre self.now.types) (F.post self.now.types) (G.pre self.now.constraints) (G.post self.now.constraints) }
         ensures read { IsFound (gathered_open (open_elements begins_predicate (reader.one_predicate (within self.now.depth)) at.old)) result at.new }
         ensures within { IfOk result (λ found. found.need ≤ self.now.depth) }
     {
-        read_open_elements::<Predicates, Rules<F, G>, Predicate, (), _>(
+        read_open_elements::<Predicates, Level, Predicate, (), _>(
             self.alloc,
             at,
             self.depth,
             Opening::Predicate,
             self,
-            Rules::predicate,
+            Level::predicate,
             (),
         )
     }
@@ -96,7 +91,6 @@ impl<
     /// A where clause, and whether its last part is spelled.
     #[tactic(auto, unfolding(lay_tree::specs::reader::Where::wheres))]
     pub fn wheres(&self, at: &mut Ahead<'_>) -> Result<Found<(Wheres, bool)>, ReadNone>
-        requires { AreDeeper self.now.depth (F.pre self.now.types) (F.post self.now.types) (G.pre self.now.constraints) (G.post self.now.constraints) }
         ensures read { IsFound (reader.wheres (within self.now.depth) at.old) result at.new }
         ensures within { IfOk result (λ found. found.need ≤ self.now.depth) }
     {

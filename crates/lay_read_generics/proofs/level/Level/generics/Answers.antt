@@ -6,11 +6,11 @@ use Rattle.lay_tree.specs.reader.Loops.{elements}
 use Rattle.lay_tree.specs.reader.Types.{within}
 use Rattle.lay_read_tokens.proofs.Steps.{lost}
 use Rattle.lay_read_parts.specs.Answers.{gathered}
-use Rattle.lay_read_types.proofs.Steps.{generics_lost}
-use Rattle.lay_read_types.proofs.rules.Rules.generics.Goals as goal
+use Rattle.lay_read_generics.proofs.Steps.{generics_lost}
+use Rattle.lay_read_generics.proofs.level.Level.generics.Goals as goal
 
 pub returns-in_err-params-clause-read : goal.returns-in_err-params-clause-read
-returns-in_err-params-clause-read g c =
+returns-in_err-params-clause-read c =
     let w = within c.args.self.now.depth in
     let ts = c.args.at.now in
     let mid = c.takes_mark.new.at in
