@@ -3,10 +3,10 @@ use Rattle.std.proofs.lemmas.Result.{err_from_is_err_and}
 use Rattle.lay_tree.specs.reader.Types.{chain}
 use Rattle.lay_read_tokens.proofs.Left.{shorter}
 use Rattle.lay_read_tokens.proofs.Steps.{lost}
-use Rattle.lay_read_types.specs.Answers.{joined_by}
-use Rattle.lay_read_types.proofs.Left.{joint_left}
-use Rattle.lay_read_types.proofs.Turning.{chain-start, chain-first, chain-none, chain-step, chain-end}
-use Rattle.lay_read_types.proofs.loops.read_chain.Goals as goal
+use Rattle.lay_read_parts.specs.Answers.{joined_by}
+use Rattle.lay_read_parts.proofs.Left.{joint_left}
+use Rattle.lay_read_parts.proofs.Turning.{chain-start, chain-first, chain-none, chain-step, chain-end}
+use Rattle.lay_read_parts.proofs.loops.read_chain.Goals as goal
 
 pub returns-in_err-node-clause-read : goal.returns-in_err-node-clause-read
 returns-in_err-node-clause-read g c =

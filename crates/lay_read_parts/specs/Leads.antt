@@ -1,7 +1,7 @@
 -- What begins a type, in code.
 use Rattle.lay_tree.specs.Begins as begins
-use Rattle.lay_read_types.specs.declared.leads.Lead.{Lead}
-use Rattle.lay_read_types.specs.declared.leads.Lead.TheVariants as lead
+use Rattle.lay_read_parts.specs.declared.leads.Lead.{Lead}
+use Rattle.lay_read_parts.specs.declared.leads.Lead.TheVariants as lead
 
 abbrev pub told : Lead → begins.Lead
 told lead.Path = begins.OfPath

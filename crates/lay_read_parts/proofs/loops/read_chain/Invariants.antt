@@ -1,7 +1,7 @@
 use Rattle.std.proofs.Common.{◌≤◌, length}
-use Rattle.lay_read_types.specs.Answers.{joined_by}
-use Rattle.lay_read_types.proofs.Turning.{Chained}
-use Rattle.lay_read_types.proofs.loops.read_chain.Given as goal
+use Rattle.lay_read_parts.specs.Answers.{joined_by}
+use Rattle.lay_read_parts.proofs.Turning.{Chained}
+use Rattle.lay_read_parts.proofs.loops.read_chain.Given as goal
 
 abbrev pub invariant-loop-joint : goal.invariant-loop-joint
 invariant-loop-joint g l = record {

@@ -9,7 +9,7 @@ ghost use Rattle.lay_tree.specs.Words as words;
 ghost use Rattle.lay_tree.specs.reader.Functions as functions;
 ghost use Rattle.lay_tree.specs.reader.Patterns as patterns;
 ghost use Rattle.lay_tree.specs.reader.Types as reader;
-ghost use Rattle.lay_read_types.specs.Leads.{told};
+ghost use Rattle.lay_read_parts.specs.Leads.{told};
 
 use lay_read_tokens::Ahead;
 use lay_read_tokens::front::{is_at_closer, is_at_keyword, is_at_mark, is_at_opened, takes_colons};

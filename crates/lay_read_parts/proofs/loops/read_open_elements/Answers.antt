@@ -5,10 +5,10 @@ use Rattle.lay_tree.specs.Ahead.{first, is_mark}
 use Rattle.lay_tree.specs.reader.Loops.{open_elements}
 use Rattle.lay_read_tokens.proofs.Holding.{holding_more}
 use Rattle.lay_read_tokens.proofs.Steps.{lost}
-use Rattle.lay_read_types.specs.Answers.{begins_part}
-use Rattle.lay_read_types.proofs.Left.{behind_shorter}
-use Rattle.lay_read_types.proofs.Turning.{open-start, open-end, open-none, open-last, open-step}
-use Rattle.lay_read_types.proofs.loops.read_open_elements.Goals as goal
+use Rattle.lay_read_parts.specs.Answers.{begins_part}
+use Rattle.lay_read_parts.proofs.Left.{behind_shorter}
+use Rattle.lay_read_parts.proofs.Turning.{open-start, open-end, open-none, open-last, open-step}
+use Rattle.lay_read_parts.proofs.loops.read_open_elements.Goals as goal
 
 pub loop-opening-init : goal.loop-opening-init
 loop-opening-init g c = record {

@@ -2,9 +2,9 @@ use Rattle.std.proofs.Common.{◌≤◌, length}
 use Rattle.lay_tree.specs.reader.Loops.{open_elements_from, open_elements}
 use Rattle.lay_read_tokens.proofs.Holding.{Holding}
 use Rattle.lay_read_tokens.proofs.Turns.{Held}
-use Rattle.lay_read_types.specs.Answers.{begins_part}
-use Rattle.lay_read_types.proofs.Turning.{Turning}
-use Rattle.lay_read_types.proofs.loops.read_open_elements.Given as goal
+use Rattle.lay_read_parts.specs.Answers.{begins_part}
+use Rattle.lay_read_parts.proofs.Turning.{Turning}
+use Rattle.lay_read_parts.proofs.loops.read_open_elements.Given as goal
 
 abbrev pub invariant-loop-opening : goal.invariant-loop-opening
 invariant-loop-opening g l = record {

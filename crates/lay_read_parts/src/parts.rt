@@ -5,7 +5,7 @@ ghost use Rattle.lay_tree.specs.reader.Loops.{elements};
 ghost use Rattle.lay_tree.specs.reader.Exact.{needless};
 ghost use Rattle.lay_tree.specs.reader.Types as reader;
 ghost use Rattle.lay_read_tokens.specs.Answers.{IsFound, IsGot, IsMade};
-ghost use Rattle.lay_read_types.specs.Answers.{literal_if};
+ghost use Rattle.lay_read_parts.specs.Answers.{literal_if};
 
 use crate::leads::{is_at_lifetime, is_at_literal, is_at_number};
 use crate::loops::{Closer, Joint, Part, read_chain, read_elements};

@@ -5,7 +5,7 @@ ghost use Rattle.lay_tree.specs.Ahead.{Tokens, first, tail};
 ghost use Rattle.lay_tree.specs.reader.Loops.{Read, element_end, elements, open_elements};
 ghost use Rattle.lay_tree.specs.reader.Types.{chain};
 ghost use Rattle.lay_read_tokens.specs.Answers.{AreFound, IsFound, IsHeld};
-ghost use Rattle.lay_read_types.specs.Answers.{AreFoundOpen, ReadsParts, begins_part, closed_by, joined_by};
+ghost use Rattle.lay_read_parts.specs.Answers.{AreFoundOpen, ReadsParts, begins_part, closed_by, joined_by};
 
 use crate::leads::{begins_field, begins_fn_param, begins_param, begins_predicate};
 use lay_read_tokens::found::greater;

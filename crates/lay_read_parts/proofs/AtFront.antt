@@ -12,7 +12,7 @@ use Rattle.lay_read_tokens.specs.Answers.{AreLexed, Stopped}
 use Rattle.lay_read_tokens.specs.declared.stop.ReadNone.{ReadNone}
 use Rattle.lay_read_tokens.specs.declared.stop.ReadNone.TheVariants.{NoReading, NoMemory}
 use Rattle.lay_read_tokens.proofs.Lexed.{lexed_in_text}
-use Rattle.lay_read_types.specs.Answers.{IsReadAt}
+use Rattle.lay_read_parts.specs.Answers.{IsReadAt}
 
 -- What stands at the front at a depth stands there at each greater one.
 pub front_deeper : (form : Form) (good : Bool) (follows : Tokens → Bool) (ts : Tokens) (n m depth : ℕ) → m ≤ depth

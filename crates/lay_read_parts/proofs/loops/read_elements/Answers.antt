@@ -5,8 +5,8 @@ use Rattle.lay_read_tokens.proofs.Holding.{holding_more}
 use Rattle.lay_read_tokens.proofs.Left.{element_shorter}
 use Rattle.lay_read_tokens.proofs.Steps.{lost}
 use Rattle.lay_read_tokens.proofs.Turns.{elements-start, elements-end, elements-none, elements-open, elements-step}
-use Rattle.lay_read_types.specs.Answers.{closed_by}
-use Rattle.lay_read_types.proofs.loops.read_elements.Goals as goal
+use Rattle.lay_read_parts.specs.Answers.{closed_by}
+use Rattle.lay_read_parts.proofs.loops.read_elements.Goals as goal
 
 pub loop-closer-init : goal.loop-closer-init
 loop-closer-init g c = record {

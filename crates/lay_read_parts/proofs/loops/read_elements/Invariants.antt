@@ -2,8 +2,8 @@ use Rattle.std.proofs.Common.{◌≤◌, length}
 use Rattle.lay_tree.specs.reader.Loops.{elements_from, elements}
 use Rattle.lay_read_tokens.proofs.Holding.{Holding}
 use Rattle.lay_read_tokens.proofs.Turns.{Turn, Held}
-use Rattle.lay_read_types.specs.Answers.{closed_by}
-use Rattle.lay_read_types.proofs.loops.read_elements.Given as goal
+use Rattle.lay_read_parts.specs.Answers.{closed_by}
+use Rattle.lay_read_parts.proofs.loops.read_elements.Given as goal
 
 abbrev pub invariant-loop-closer : goal.invariant-loop-closer
 invariant-loop-closer g l = record {

@@ -1,7 +1,7 @@
 use Rattle.std.proofs.Common.{sym, ap, ◌∙◌}
 use Rattle.lay_tree.specs.Begins.{lead_of_word}
-use Rattle.lay_read_types.proofs.Steps.{word_lead}
-use Rattle.lay_read_types.proofs.leads.lead_at.Goals as goal
+use Rattle.lay_read_parts.proofs.Steps.{word_lead}
+use Rattle.lay_read_parts.proofs.leads.lead_at.Goals as goal
 
 pub returns-in-Ident : goal.returns-in-Ident
 returns-in-Ident c =

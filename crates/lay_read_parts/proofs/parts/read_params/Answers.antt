@@ -5,8 +5,8 @@ use Rattle.lay_tree.specs.reader.Exact.{needless}
 use Rattle.lay_tree.specs.reader.Loops.{elements}
 use Rattle.lay_tree.specs.reader.Types.{lifetime_param}
 use Rattle.lay_read_tokens.proofs.Steps.{lost}
-use Rattle.lay_read_types.proofs.Free.{params_behind, no_params, some_params}
-use Rattle.lay_read_types.proofs.parts.read_params.Goals as goal
+use Rattle.lay_read_parts.proofs.Free.{params_behind, no_params, some_params}
+use Rattle.lay_read_parts.proofs.parts.read_params.Goals as goal
 
 pub returns-in_err-found : goal.returns-in_err-found
 returns-in_err-found c =
