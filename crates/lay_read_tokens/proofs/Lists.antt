@@ -159,11 +159,11 @@ no_tree left h = rw h refl
 pub tokens_end : (read left : Tokens) → is_balanced (map as_listed read) ≡ true → begins_tree left ≡ false
     → are_laid read ≡ true
     → tokens (read ++ left) ≡ Some (map as_listed read, left)
-tokens_end read left b e l = list_end false (read ++ left) read left (run_over [] read left b) (no_tree left e) l
+tokens_end read left b e l = list_end false (read ++ left) read left (run_over false [] read left b tt) (no_tree left e) l
 
 pub tokens_lost : (read left : Tokens) → is_balanced (map as_listed read) ≡ true → are_laid read ≡ false
     → tokens (read ++ left) ≡ None
-tokens_lost read left b l = list_lost false (read ++ left) read left (run_over [] read left b) l
+tokens_lost read left b l = list_lost false (read ++ left) read left (run_over false [] read left b tt) l
 
 -- ---- token trees, one after the other
 

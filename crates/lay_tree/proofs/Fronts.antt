@@ -35,7 +35,7 @@ only_one kind other only text k o h = subst (λ (one : Option (List ℕ)). IsTex
 
 -- ---- what a test tells
 
-ident_kind : (k : Kind) → is_ident k ≡ true → k ≡ Ident
+pub ident_kind : (k : Kind) → is_ident k ≡ true → k ≡ Ident
 ident_kind Ident h = refl
 ident_kind _ h = absurd (cc)
 
@@ -45,7 +45,7 @@ delim_same Bracket Bracket h = refl
 delim_same Brace Brace h = refl
 delim_same _ _ h = absurd (cc)
 
-opener_kind : (d : Delim) (k : Kind) → is_opener d k ≡ true → k ≡ Opener d
+pub opener_kind : (d : Delim) (k : Kind) → is_opener d k ≡ true → k ≡ Opener d
 opener_kind d (Opener e) h = ap (λ x. Opener x) (delim_same d e h)
 opener_kind d _ h = absurd (cc)
 

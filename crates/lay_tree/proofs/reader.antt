@@ -4,6 +4,7 @@ pub mod Loops
 pub mod Words
 pub mod SimplePath
 pub mod Tokens
+pub mod TokenLists
 pub mod Call
 pub mod Attr
 pub mod AttrRead
@@ -52,3 +53,11 @@ pub mod PatternsComplete
 pub mod TypesExact
 pub mod PatternsExact
 pub mod HeadsLevel
+pub mod HeadParts
+pub mod Vis
+pub mod Restrictions
+pub mod FieldsSound
+pub mod VariantsSound
+pub mod FieldsComplete
+pub mod VariantsComplete
+pub mod StructsSound

@@ -3,5 +3,6 @@ pub mod Balance
 pub mod FromText
 pub mod Decided
 pub mod Grouped
+pub mod Commas
 pub mod Runs
 pub mod Spelling

@@ -26,7 +26,7 @@ use Rattle.lay_tree.specs.reader.Loops.{Got, ◌>>=◌, passed}
 use Rattle.lay_tree.specs.reader.SimplePath.{simple_path}
 use Rattle.lay_tree.specs.reader.Tokens.{tokens, group}
 use Rattle.lay_tree.specs.tokens.Lexed.{is_token_list}
-use Rattle.lay_tree.specs.tokens.Lists.{ended_by, ends_in_line, token_list, group_form}
+use Rattle.lay_tree.specs.tokens.Lists.{group_form}
 use Rattle.lay_tree.specs.tokens.Listing.{is_doc_text, kind_of, text_of, as_listed, listed_by}
 use Rattle.lay_tree.specs.tokens.Pairs as pairs
 use Rattle.lay_tree.specs.tokens.Pairs.{at_start}
@@ -41,13 +41,14 @@ use Rattle.lay_tree.specs.declared.token.Word.{Word}
 use Rattle.lay_tree.specs.declared.token.Listed.{Listed}
 use Rattle.lay_tree.specs.declared.token.Listed.TheVariants as listed
 use Rattle.lay_tree.proofs.InText.{behind, behind_all}
-use Rattle.lay_tree.proofs.Fronts.{lone_text, texts_behind, keyword_one, mark_passed_is, opener_passed_is, closer_passed_is}
+use Rattle.lay_tree.proofs.Fronts.{one_test, lone_text, texts_behind, keyword_one, mark_passed_is, opener_passed_is, closer_passed_is}
 use Rattle.lay_tree.proofs.Parts.{Rows, rows_to, rows_map, rows_of_map, rows_pass, rows_with, GoodAt, SpelledAt, bits_joined, bit_piece, leaf_alone}
 use Rattle.lay_tree.proofs.Steps.{same_some, chosen, bind_some}
 use Rattle.lay_tree.proofs.reader.Loops.{repeat_sound}
 use Rattle.lay_tree.proofs.reader.SimplePath.{simple_path_sound}
-use Rattle.lay_tree.proofs.reader.Tokens.{IsList, tokens_is, list_good, list_row_of, group_sound}
-use Rattle.lay_tree.proofs.token_lists.Spelling.{IsRow, list_spelled}
+use Rattle.lay_tree.proofs.reader.TokenLists.{EndsRun, tokens_held}
+use Rattle.lay_tree.proofs.reader.Tokens.{IsList, tokens_is, list_row_of, group_sound}
+use Rattle.lay_tree.proofs.token_lists.Spelling.{IsRow}
 
 -- ---- what an attribute is called, and what it is given
 
@@ -80,7 +81,7 @@ value_is ts given rest e h =
     let b = bind_some (tokens (drop 1 ts)) (λ us. if is_empty us.0 then None else Some (input.Value us.0, us.1)) (given, rest) h in
     elim (chosen (is_empty b.0.0) None (Some (input.Value b.0.0, b.0.1)) (Some (given, rest)) b.2) [
       | inl g ↦ absurd (cc)
-      | inr g ↦ same_some R (input.Value b.0.0, b.0.1) (given, rest) g.1 (e, g.0, tokens_is (drop 1 ts) b.0.0 b.0.1 b.1)
+      | inr g ↦ same_some R (input.Value b.0.0, b.0.1) (given, rest) g.1 (e, g.0, tokens_is false (drop 1 ts) b.0.0 b.0.1 b.1)
     ]
 
 meta_input_is : (ts : Tokens) (given : MetaInput) (rest : Tokens) → meta_input ts ≡ Some (given, rest) → InputIs given ts rest
@@ -105,7 +106,7 @@ text_listed t = by t.kind
     by _ = refl
 
 -- what stands behind a `=`, which is no point
-behind_equals : (ts : Tokens) → InText ts → is_op (codes "=") ts ≡ true → (j : InText (drop 1 ts)) × (pairs.is_mark (codes ".") j.last ≡ false)
+pub behind_equals : (ts : Tokens) → InText ts → is_op (codes "=") ts ≡ true → (j : InText (drop 1 ts)) × (pairs.is_mark (codes ".") j.last ≡ false)
 unfolding op_at
 behind_equals [] i h = absurd (cc)
 behind_equals (t ∷ ts) i h = (behind t ts i, and_no _ _ (ap (λ z. bytes_eq z (codes ".")) (text_listed t ∙ lone_text 61 t ts h)))
@@ -131,23 +132,13 @@ input_sound : (given : MetaInput) (depth : ℕ) (ts mid rest : Tokens) → InTex
 input_sound input.Bare depth ts mid rest t i c = (rw i (bit_piece (closer Bracket) depth mid rest c), refl)
 input_sound (input.Group g) depth ts mid rest t i c =
     group_sound depth ts g mid (piece (closer Bracket ∷ [])) rest t i (bit_piece (closer Bracket) depth mid rest c)
-input_sound (input.Value us) depth ts mid rest t i c = by mid i.2 c
-  where
-    by : (mid : Tokens) → IsList (drop 1 ts) us mid → IsOne (Closer Bracket) (closing Bracket ∷ []) mid rest → InputStands (input.Value us) depth ts rest
-    by [] l c = absurd c
-    by (last ∷ end) l c =
-        let j = behind_equals ts t i.0 in
-        let good = list_good (drop 1 ts) us last end j.0 j.1 (ap is_closer c.0) l in
-        let row = list_row_of (drop 1 ts) us (last ∷ end) l in
-        let inner = list_spelled us (at_start 0) depth (drop 1 ts) (last ∷ end) good j.0.loose row in
-        let list : Spells (token_list us) depth (drop 1 ts) (last ∷ end) = (last ∷ end, inner, ended (ends_in_line us) depth (last ∷ end)) in (
-          (drop 1 ts, (ts, refl, (drop 1 ts, (i.0, refl), (drop 1 ts, refl, refl))), (last ∷ end, list, bit_piece (closer Bracket) depth (last ∷ end) rest c)),
-          and_from (not (is_empty us)) (is_token_list us) (ap not i.1) good,
-        )
-      where
-        ended : (line : Bool) (depth : ℕ) (ts : Tokens) → Spells (ended_by line) depth ts ts
-        ended true depth ts = refl
-        ended false depth ts = refl
+input_sound (input.Value us) depth ts mid rest t i c =
+    let j = behind_equals ts t i.0 in
+    let shuts : EndsRun false mid = one_test is_closer (Closer Bracket) (closing Bracket ∷ []) mid rest c in
+    let l = tokens_held false depth (drop 1 ts) us mid j.0 j.1 i.2 shuts in (
+      (drop 1 ts, (ts, refl, (drop 1 ts, (i.0, refl), (drop 1 ts, refl, refl))), (mid, l.0, bit_piece (closer Bracket) depth mid rest c)),
+      and_from (not (is_empty us)) (is_token_list us) (ap not i.1) l.1,
+    )
 
 -- ---- documentation that is spelled as an attribute
 
@@ -254,7 +245,7 @@ module _ (inner : Bool) (depth : ℕ) (ts rest : Tokens) where
     made_sound input.Bare t i = plain_sound input.Bare (input_sound input.Bare depth mid end rest t i c) (none (is_doc_path path))
     made_sound (input.Group g) t i = plain_sound (input.Group g) (input_sound (input.Group g) depth mid end rest t i c) (none (is_doc_path path))
     made_sound (input.Value us) t i =
-        named_sound us i.0 (list_row_of (drop 1 mid) us end i.2) (input_sound (input.Value us) depth mid end rest t i c) (is_doc_path path) refl
+        named_sound us i.0 (list_row_of false (drop 1 mid) us end i.2) (input_sound (input.Value us) depth mid end rest t i c) (is_doc_path path) refl
 
 -- ---- attributes, one and many
 

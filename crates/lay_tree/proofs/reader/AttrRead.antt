@@ -24,10 +24,8 @@ use Rattle.lay_tree.specs.reader.Exact.{Exact, needless}
 use Rattle.lay_tree.specs.reader.Item.{ends_items}
 use Rattle.lay_tree.specs.reader.Tokens.{tokens}
 use Rattle.lay_tree.specs.tokens.Lexed.{is_token_list}
-use Rattle.lay_tree.specs.tokens.Lists.{ended_by, ends_in_line}
 use Rattle.lay_tree.specs.tokens.Listing as listing
 use Rattle.lay_tree.specs.tokens.Listing.{is_doc_text, as_listed, listed_by, turned}
-use Rattle.lay_tree.specs.tokens.Pairs.{at_start}
 use Rattle.lay_tree.specs.declared.attr.Attr.{Attr}
 use Rattle.lay_tree.specs.declared.attr.Attr.TheVariants as attr
 use Rattle.lay_tree.specs.declared.attr.MetaInput.{MetaInput}
@@ -42,9 +40,9 @@ use Rattle.lay_tree.proofs.reader.Attr.{flag_same, same_as_itself, attribute_sou
 use Rattle.lay_tree.proofs.reader.Exact.{exact, needless_sound, needless_complete}
 use Rattle.lay_tree.proofs.reader.Loops.{Turn, repeat_complete}
 use Rattle.lay_tree.proofs.reader.SimplePath.{simple_path_no_keyword, simple_path_complete}
-use Rattle.lay_tree.proofs.reader.Tokens.{tokens_there, row_tokens, group_complete}
+use Rattle.lay_tree.proofs.reader.TokenLists.{EndsRun, list_there}
+use Rattle.lay_tree.proofs.reader.Tokens.{tokens_there, group_complete}
 use Rattle.lay_tree.proofs.token_lists.Balance.{balances_turned}
-use Rattle.lay_tree.proofs.token_lists.Spelling.{IsRow, list_row}
 
 -- ---- what an attribute is called, and what it is given
 
@@ -88,18 +86,9 @@ meta_input_complete (input.Value us) depth ts rest s g =
     let goods = and_parts (not (is_empty us)) (is_token_list us) g in
     let inside = s.2 in
     let c : Closes inside.0 rest = piece_bit (closer Bracket) depth inside.0 rest inside.2 in
-    let list = inside.1 in
-    let row = list_row us (at_start 0) depth s.0 list.0 goods.1 list.1 in
-    let read = read_to us s.0 inside.0 rest goods.1 (subst (IsRow us s.0) (ended (ends_in_line us) depth list.0 inside.0 list.2) row) c in
+    let shuts : EndsRun false inside.0 = one_test delimiters.is_closer (Closer Bracket) (closing Bracket ∷ []) inside.0 rest c in
+    let read = list_there false us depth s.0 inside.0 goods.1 tt inside.1 shuts in
     (inside.0, value_complete us ts s.0 inside.0 (not-true (is_empty us) goods.0) o read, c, other_op (codes "=") (codes "::") refl ts o.0)
-  where
-    ended : (line : Bool) (depth : ℕ) (ts rest : Tokens) → Spells (ended_by line) depth ts rest → ts ≡ rest
-    ended true depth ts rest s = s
-    ended false depth ts rest s = s
-
-    read_to : (us : List Listed) (ts mid rest : Tokens) → is_token_list us ≡ true → IsRow us ts mid → Closes mid rest → tokens ts ≡ Some (us, mid)
-    read_to us ts [] rest h r c = absurd c
-    read_to us ts (last ∷ mid) rest h r c = row_tokens us ts last mid h (ap delimiters.is_closer c.0) r
 
 -- ---- what `made` gives
 
@@ -222,8 +211,8 @@ string_read value (t ∷ ts) (last ∷ mid) rest s c =
       held = of.0;
       read =
           ap (λ z. tokens (t ∷ z)) s.1
-          ∙ tokens_there (t ∷ []) (last ∷ mid) (listed.Token t.kind t.text false ∷ []) (λ v. one v ∷ [])
-          (balances_turned [] [] (listed.Token t.kind t.text false) [] k.1) refl (ap delimiters.is_closer c.0);
+          ∙ tokens_there false (t ∷ []) (last ∷ mid) (listed.Token t.kind t.text false ∷ []) (λ v. one v ∷ [])
+          (balances_turned [] [] (listed.Token t.kind t.text false) [] k.1) tt refl (ap delimiters.is_closer c.0);
       some = refl;
       string = of.1;
       is = of.2;

@@ -52,10 +52,10 @@ ends_behind ts e = record { quiet = e.quiet; colon = e.colon; bound = e.bound }
 pub equals_operator : (ts rest : Tokens) → AreBits equals ts rest → IsOperator (codes "=") ts rest
 equals_operator ts rest s = before_blank (Operator (codes "=")) ts rest (behind_blank (Operator (codes "=") ∷ Blank ∷ []) ts rest s)
 
-equals_behind : (ts : Tokens) → is_op (codes "=") ts ≡ true → BehindBounds ts
+pub equals_behind : (ts : Tokens) → is_op (codes "=") ts ≡ true → BehindBounds ts
 equals_behind ts h = record { quiet = equals_quiet ts h; colon = other_op (codes "=") (codes ":") refl ts h; bound = equals_no_bound ts h }
 
-default_behind : (d : Option Ty) (depth : ℕ) (ts rest : Tokens) → Spells (default_form d) depth ts rest → Ends rest → BehindBounds ts
+pub default_behind : (d : Option Ty) (depth : ℕ) (ts rest : Tokens) → Spells (default_form d) depth ts rest → Ends rest → BehindBounds ts
 default_behind None depth ts rest s e = rw s (ends_behind rest e)
 default_behind (Some x) depth ts rest s e = equals_behind ts (equals_operator ts s.0 s.1).0
 
@@ -115,7 +115,7 @@ module _ (depth : ℕ) (inner : Within) (reads : Reads depth inner) where
       let n = r.0 in
       (n.0, n.1, rw (o.0, o.1, r.1, n.2) refl)
 
-  default_read : (d : Option Ty) (ts rest : Tokens) → Spells (default_form d) depth ts rest → is_default d ≡ true → Ends rest
+  pub default_read : (d : Option Ty) (ts rest : Tokens) → Spells (default_form d) depth ts rest → is_default d ≡ true → Ends rest
       → Has (λ us. if_read (is_op (codes "=") us) (λ vs. inner.types Bounds (drop 1 vs)) us) d ts rest
   default_read None ts rest s g e = (0, omega arith, rw s (rw e.equals refl))
   default_read (Some x) ts rest s g e =

@@ -65,7 +65,7 @@ met_held budget (b ∷ bs) n ts rest k e = (
       k.3,
 )
 
-abbrev IsBounded : ℕ → List Bound × ℕ → Tokens → Tokens → Type 0
+abbrev pub IsBounded : ℕ → List Bound × ℕ → Tokens → Tokens → Type 0
 IsBounded budget x ts rest = (x.1 ≤ budget) × Spells (bounded_form x.0) x.1 ts rest × (are_bounds x.0 ≡ true)
 
 bounded_held : (budget : ℕ) (bs : List Bound) (n : ℕ) (ts at rest : Tokens) → IsOperator (codes ":") ts at
@@ -115,7 +115,7 @@ const_default_if ts x rest t h =
     (λ g. (refl, refl)) t x rest h
 
 -- What holds of parameters that are spelled with `<` and `>`, or as nothing, and of what follows them.
-abbrev GoodGenerics : Generics × Bool → Tokens → Type 0
+abbrev pub GoodGenerics : Generics × Bool → Tokens → Type 0
 GoodGenerics x rest =
     (((x.1 || not (is_there x.0.params)) && is_generics x.0) ≡ true) × (generics_follow x.1 rest ≡ true)
 
@@ -127,7 +127,7 @@ module _ (budget : ℕ) (within : Within) (sound : SoundWithin budget within) wh
     | inr g ↦ same_some (Out (MetHeld budget) ts) (([], 0), ts) (x, rest) g.1 ((omega arith, refl, refl, ap not g.0), t)
   ]
 
-  met_if_sound : SoundStep (met_if within) (IsBounded budget)
+  pub met_if_sound : SoundStep (met_if within) (IsBounded budget)
   met_if_sound ts x rest t h = elim (chosen (is_op (codes ":") ts) _ _ _ h) [
     | inl g ↦
         let at = drop 1 ts in
@@ -140,10 +140,10 @@ module _ (budget : ℕ) (within : Within) (sound : SoundWithin budget within) wh
 
   -- ---- parameters
 
-  abbrev IsTypeDefault : Option Ty × ℕ → Tokens → Tokens → Type 0
+  abbrev pub IsTypeDefault : Option Ty × ℕ → Tokens → Tokens → Type 0
   IsTypeDefault x ts rest = (x.1 ≤ budget) × Spells (default_form x.0) x.1 ts rest × (is_default x.0 ≡ true)
 
-  default_sound : (ts : Tokens) (x : Option Ty × ℕ) (rest : Tokens) → InText ts
+  pub default_sound : (ts : Tokens) (x : Option Ty × ℕ) (rest : Tokens) → InText ts
       → if_read (is_op (codes "=") ts) (λ us. within.types Bounds (drop 1 us)) ts ≡ Some (x, rest)
       → Out IsTypeDefault ts (x, rest)
   default_sound ts x rest t h =
@@ -245,7 +245,7 @@ module _ (budget : ℕ) (within : Within) (sound : SoundWithin budget within) wh
       let r = attributes_sound false 0 ts a.0.0 a.0.1 t a.1 in
       param_by_sound ts a.0.0 a.0.1 (λ depth. (attributes_sound false depth ts a.0.0 a.0.1 t a.1).0) r.1 x rest a.2
 
-  generics_sound : SoundStep (generics within) (Deep (λ x. generics_spelled x.1 x.0) GoodGenerics budget)
+  pub generics_sound : SoundStep (generics within) (Deep (λ x. generics_spelled x.1 x.0) GoodGenerics budget)
   unfolding generics
   generics_sound ts x rest t h =
       let P = Deep (λ (y : Generics × Bool). generics_spelled y.1 y.0) GoodGenerics budget in

@@ -13,6 +13,7 @@ use Rattle.lay_piece.specs.declared.kind.Kind.TheVariants.{Punct, Opener, Closer
 use Rattle.lay_token.specs.declared.token.Token.{Token}
 use Rattle.lay_form.specs.Form.{Form}
 use Rattle.lay_form.specs.Spelled.{Spells}
+use Rattle.lay_tree.specs.Ahead as ahead
 use Rattle.lay_tree.specs.Ahead.{Tokens, first, tail, closes}
 use Rattle.lay_tree.specs.reader.Exact.{InText}
 use Rattle.lay_tree.specs.reader.Loops.{Got, ◌>>=◌, passed}
@@ -28,6 +29,7 @@ use Rattle.lay_tree.proofs.Fronts.{closer_kind, passed_first}
 use Rattle.lay_tree.proofs.InText.{only_text, IsText, behind, behind_all, text_one}
 use Rattle.lay_tree.proofs.Steps.{got_same, chosen, bind_some}
 use Rattle.lay_tree.proofs.token_lists.Balance.{same_delim_self, balances_turned, turned_listed}
+use Rattle.lay_tree.proofs.token_lists.Commas.{Commaless, CommaApart, commaless_joined, commaless_none, level_turned, neither}
 use Rattle.lay_tree.proofs.token_lists.Runs.{run_over}
 use Rattle.lay_tree.proofs.token_lists.FromText.{two_rows}
 use Rattle.lay_tree.proofs.token_lists.Grouped.{opener_token, closer_token, flat, list_grouped}
@@ -35,104 +37,120 @@ use Rattle.lay_tree.proofs.token_lists.Spelling.{IsRow, row_joined, row_parts, o
 
 -- ---- a run
 
--- A run stops there: nothing is left, or a closer stands at the front.
-abbrev pub StopsAt : Tokens → Type 0
-StopsAt [] = Unit {0}
-StopsAt (t ∷ ts) = is_closer t.kind ≡ true
+-- A run stops there: nothing is left, or a closer stands at the front, or a comma where the run goes on to one.
+abbrev pub StopsAt : Bool → Tokens → Type 0
+StopsAt to_comma [] = Unit {0}
+StopsAt to_comma (t ∷ ts) = ends_run to_comma [] t ≡ true
 
 -- what a run is
-pub record IsRun (within : List Delim) (ts xs rest : Tokens) : Type 0 where
+pub record IsRun (to_comma : Bool) (within : List Delim) (ts xs rest : Tokens) : Type 0 where
   pub whole : ts ≡ xs ++ rest
   pub balanced : balances within (map as_listed xs) ≡ true
-  pub stops : StopsAt rest
+  pub commaless : Commaless to_comma (length within) (map as_listed xs)
+  pub stops : StopsAt to_comma rest
 
-pub run_is : (within : List Delim) (ts xs rest : Tokens) → run false within ts ≡ Some (xs, rest) → IsRun within ts xs rest
+pub run_is : (to_comma : Bool) (within : List Delim) (ts xs rest : Tokens) → run to_comma within ts ≡ Some (xs, rest) → IsRun to_comma within ts xs rest
 unfolding run
-run_is [] [] xs rest h =
+run_is to_comma [] [] xs rest h =
     let e = got_same [] xs [] rest h in
     record {
       whole = subst (λ z. [] ≡ z ++ rest) e.0 e.1;
       balanced = subst (λ z. balances [] (map as_listed z) ≡ true) e.0 refl;
-      stops = subst StopsAt e.1 tt;
+      commaless = subst (λ z. Commaless to_comma 0 (map as_listed z)) e.0 (commaless_none to_comma 0);
+      stops = subst (StopsAt to_comma) e.1 tt;
     }
-run_is (d ∷ within) [] xs rest h = absurd (cc)
-run_is within (t ∷ ts) xs rest h =
+run_is to_comma (d ∷ within) [] xs rest h = absurd (cc)
+run_is to_comma within (t ∷ ts) xs rest h =
     let go_on : Got (List Token) = goes_on within t in
-    elim (chosen (ends_run false within t) (Some ([], t ∷ ts)) go_on (Some (xs, rest)) (unfolded within t h)) [
+    elim (chosen (ends_run to_comma within t) (Some ([], t ∷ ts)) go_on (Some (xs, rest)) (unfolded within t h)) [
       | inl g ↦
           let e = got_same [] xs (t ∷ ts) rest g.1 in
           let c = closes_there within t g.0 in
           record {
             whole = subst (λ z. t ∷ ts ≡ z ++ rest) e.0 e.1;
             balanced = subst (λ z. balances within (map as_listed z) ≡ true) e.0 (nothing within t g.0);
-            stops = subst StopsAt e.1 c;
+            commaless = subst (λ z. Commaless to_comma (length within) (map as_listed z)) e.0 (commaless_none to_comma (length within));
+            stops = subst (StopsAt to_comma) e.1 c;
           }
       | inr g ↦
-          let b = bind_some (turned t.kind within) (λ more. run false more ts >>= (λ r. Some (t ∷ r.0, r.1))) (xs, rest) g.1 in
-          let c = bind_some (run false b.0 ts) (λ r. Some (t ∷ r.0, r.1)) (xs, rest) b.2 in
+          let b = bind_some (turned t.kind within) (λ more. run to_comma more ts >>= (λ r. Some (t ∷ r.0, r.1))) (xs, rest) g.1 in
+          let c = bind_some (run to_comma b.0 ts) (λ r. Some (t ∷ r.0, r.1)) (xs, rest) b.2 in
           let e = got_same (t ∷ c.0.0) xs c.0.1 rest c.2 in
-          let r = run_is b.0 ts c.0.0 c.0.1 c.1 in
+          let r = run_is to_comma b.0 ts c.0.0 c.0.1 c.1 in
+          let behind = subst (λ n. Commaless to_comma n (map as_listed c.0.0)) (sym (level_turned t.kind within b.0 b.1)) r.commaless in
           record {
             whole = ap (λ z. t ∷ z) r.whole ∙ ap (λ z. z ++ c.0.1) e.0 ∙ ap (λ z. xs ++ z) e.1;
             balanced =
                 subst (λ z. balances within (map as_listed z) ≡ true) e.0
                 (balances_turned within b.0 (as_listed t) (map as_listed c.0.0) (turned_listed t.kind t.text t.joint within ∙ b.1) ∙ r.balanced);
-            stops = subst StopsAt e.1 r.stops;
+            commaless =
+                subst (λ z. Commaless to_comma (length within) (map as_listed z)) e.0
+                (commaless_joined to_comma (length within) t (map as_listed c.0.0) (apart to_comma within t g.0) behind);
+            stops = subst (StopsAt to_comma) e.1 r.stops;
           }
     ]
   where
     goes_on : (within : List Delim) (t : Token) → Got (List Token)
-    goes_on within t = turned t.kind within >>= (λ more. run false more ts >>= (λ r. Some (t ∷ r.0, r.1)))
+    goes_on within t = turned t.kind within >>= (λ more. run to_comma more ts >>= (λ r. Some (t ∷ r.0, r.1)))
 
-    unfolded : (within : List Delim) (t : Token) → run false within (t ∷ ts) ≡ Some (xs, rest)
-        → (if ends_run false within t then Some ([], t ∷ ts) else goes_on within t) ≡ Some (xs, rest)
+    unfolded : (within : List Delim) (t : Token) → run to_comma within (t ∷ ts) ≡ Some (xs, rest)
+        → (if ends_run to_comma within t then Some ([], t ∷ ts) else goes_on within t) ≡ Some (xs, rest)
     unfolded [] t h = h
     unfolded (d ∷ within) t h = h
 
-    closes_there : (within : List Delim) (t : Token) → ends_run false within t ≡ true → is_closer t.kind ≡ true
+    closes_there : (within : List Delim) (t : Token) → ends_run to_comma within t ≡ true → ends_run to_comma [] t ≡ true
     closes_there [] t h = h
     closes_there (d ∷ within) t h = absurd (cc)
 
-    nothing : (within : List Delim) (t : Token) → ends_run false within t ≡ true → balances within [] ≡ true
+    nothing : (within : List Delim) (t : Token) → ends_run to_comma within t ≡ true → balances within [] ≡ true
     nothing [] t h = refl
     nothing (d ∷ within) t h = absurd (cc)
 
-pub run_there : (xs rest : Tokens) → is_balanced (map as_listed xs) ≡ true → StopsAt rest → run false [] (xs ++ rest) ≡ Some (xs, rest)
+    apart : (to_comma : Bool) (within : List Delim) (t : Token) → ends_run to_comma within t ≡ false → CommaApart to_comma (length within) t
+    apart true [] t h = (neither (is_closer t.kind) (ahead.is_mark (codes ",") t) h).1
+    apart true (d ∷ within) t h = refl
+    apart false within t h = tt
+
+pub run_there : (to_comma : Bool) (xs rest : Tokens) → is_balanced (map as_listed xs) ≡ true → Commaless to_comma 0 (map as_listed xs)
+    → StopsAt to_comma rest → run to_comma [] (xs ++ rest) ≡ Some (xs, rest)
 unfolding run
-run_there xs [] b s = run_over [] xs [] b ∙ ap (λ z. Some (z, [])) (append-nil xs)
-run_there xs (t ∷ rest) b s = run_over [] xs (t ∷ rest) b ∙ rw s (ap (λ z. Some (z, t ∷ rest)) (append-nil xs))
+run_there to_comma xs [] b c s = run_over to_comma [] xs [] b c ∙ ap (λ z. Some (z, [])) (append-nil xs)
+run_there to_comma xs (t ∷ rest) b c s = run_over to_comma [] xs (t ∷ rest) b c ∙ rw s (ap (λ z. Some (z, t ∷ rest)) (append-nil xs))
 
 -- ---- a token list
 
 -- what a token list is, read
-pub record IsList (ts : Tokens) (us : List Listed) (rest : Tokens) : Type 0 where
+pub record ListTo (to_comma : Bool) (ts : Tokens) (us : List Listed) (rest : Tokens) : Type 0 where
   pub read : Tokens
-  pub there : IsRun [] ts read rest
+  pub there : IsRun to_comma [] ts read rest
   pub listed : map as_listed read ≡ us
   pub docs : list_all may_be_laid us ≡ true
 
-pub tokens_is : (ts : Tokens) (us : List Listed) (rest : Tokens) → tokens ts ≡ Some (us, rest) → IsList ts us rest
+abbrev pub IsList : Tokens → List Listed → Tokens → Type 0
+IsList = ListTo false
+
+pub tokens_is : (to_comma : Bool) (ts : Tokens) (us : List Listed) (rest : Tokens) → tokens_of to_comma ts ≡ Some (us, rest) → ListTo to_comma ts us rest
 unfolding tokens_of
-tokens_is ts us rest h =
-    let b = bind_some (run false [] ts) (λ r. if list_all may_be_laid (map as_listed r.0) then Some (map as_listed r.0, r.1) else None) (us, rest) h in
+tokens_is to_comma ts us rest h =
+    let b = bind_some (run to_comma [] ts) (λ r. if list_all may_be_laid (map as_listed r.0) then Some (map as_listed r.0, r.1) else None) (us, rest) h in
     let xs = b.0.0 in
     elim (chosen (list_all may_be_laid (map as_listed xs)) (Some (map as_listed xs, b.0.1)) None (Some (us, rest)) b.2) [
       | inl g ↦
           let e = got_same (map as_listed xs) us b.0.1 rest g.1 in
           record {
             read = xs;
-            there = subst (IsRun [] ts xs) e.1 (run_is [] ts xs b.0.1 b.1);
+            there = subst (IsRun to_comma [] ts xs) e.1 (run_is to_comma [] ts xs b.0.1 b.1);
             listed = e.0;
             docs = subst (λ z. list_all may_be_laid z ≡ true) e.0 g.0;
           }
       | inr g ↦ absurd (cc)
     ]
 
-pub tokens_there : (xs rest : Tokens) (us : List Listed) → map as_listed xs ≡ us → is_balanced us ≡ true → list_all may_be_laid us ≡ true
-    → StopsAt rest → tokens (xs ++ rest) ≡ Some (us, rest)
+pub tokens_there : (to_comma : Bool) (xs rest : Tokens) (us : List Listed) → map as_listed xs ≡ us → is_balanced us ≡ true → Commaless to_comma 0 us
+    → list_all may_be_laid us ≡ true → StopsAt to_comma rest → tokens_of to_comma (xs ++ rest) ≡ Some (us, rest)
 unfolding tokens_of
-tokens_there xs rest us e b d s =
-    let r = run_there xs rest (ap is_balanced e ∙ b) s in
+tokens_there to_comma xs rest us e b c d s =
+    let r = run_there to_comma xs rest (ap is_balanced e ∙ b) (subst (Commaless to_comma 0) (sym e) c) s in
     rw (r, e, d) refl
 
 -- Where its last neighbour is no point, nothing before it decides of a list.
@@ -152,13 +170,13 @@ from_start b l (u ∷ us) n f =
     and_from (is_had false u) (fits Nothing (Single u) us) h
     (fits_before Nothing l (Single u) us (sym (ap (λ z. z && is_joint_neighbour l) n)) ∙ a.1)
 
--- Before a closer no token is joint.
-apart_at : (b : Neighbour) (x c : Token) (xs rest : Tokens) → is_closer c.kind ≡ true
+-- Before what ends a run no token is joint.
+apart_at : (to_comma : Bool) (b : Neighbour) (x c : Token) (xs rest : Tokens) → ends_run to_comma [] c ≡ true
     → fits b (Single (as_listed x)) (map as_listed (xs ++ c ∷ rest)) ≡ true → ends_apart (Single (as_listed x)) (map as_listed xs) ≡ true
-apart_at b x c [] rest k f =
+apart_at to_comma b x c [] rest k f =
     let l = Single (as_listed x) in
     let may = not (is_joint_neighbour l) || may_join l (Single (as_listed c)) in
-    no_join (is_joint_neighbour l) _ (no_closer l c k)
+    no_join (is_joint_neighbour l) _ (no_end l c (either to_comma c k))
     (and_parts may _ (and_parts (may && is_had (is_index_place b l) (as_listed c)) _ f).0).0
   where
     no_join : (j m : Bool) → m ≡ false → not j || m ≡ true → not j ≡ true
@@ -170,31 +188,35 @@ apart_at b x c [] rest k f =
     and_false true false c e = refl
     and_false false b c e = refl
 
-    no_closer : (l : Neighbour) (c : Token) → is_closer c.kind ≡ true → may_join l (Single (as_listed c)) ≡ false
-    no_closer l c k = and_false _ _ _ (by c.kind refl)
+    either : (to_comma : Bool) (c : Token) → ends_run to_comma [] c ≡ true → ends_run true [] c ≡ true
+    either true c k = k
+    either false c k = rw k refl
+
+    no_end : (l : Neighbour) (c : Token) → ends_run true [] c ≡ true → may_join l (Single (as_listed c)) ≡ false
+    no_end l c k = and_false _ _ _ (by c.kind k)
       where
-        by : (k : Kind) → c.kind ≡ k
+        by : (k : Kind) → (is_closer k || (is_punct k && bytes_eq c.text (codes ","))) ≡ true
             → is_punct (kind_of (listed_by k c.text c.joint)) && not (is_mark (codes ",") (Single (listed_by k c.text c.joint))
             || is_mark (codes ";") (Single (listed_by k c.text c.joint))) ≡ false
-        by Punct e = let n : is_closer Punct ≡ true = sym (ap is_closer e) ∙ k in absurd (cc)
+        by Punct e = rw e refl
         by (Doc inner block) e = refl
         by _ e = refl
-apart_at b x c (y ∷ xs) rest k f =
+apart_at to_comma b x c (y ∷ xs) rest k f =
     let l = Single (as_listed x) in
     let may = not (is_joint_neighbour l) || may_join l (Single (as_listed y)) in
-    apart_at l y c xs rest k (and_parts (may && is_had (is_index_place b l) (as_listed y)) _ f).1
+    apart_at to_comma l y c xs rest k (and_parts (may && is_had (is_index_place b l) (as_listed y)) _ f).1
 
-apart_before : (b l : Neighbour) (c : Token) (xs rest : Tokens) → is_closer c.kind ≡ true
+apart_before : (to_comma : Bool) (b l : Neighbour) (c : Token) (xs rest : Tokens) → ends_run to_comma [] c ≡ true
     → fits b l (map as_listed (xs ++ c ∷ rest)) ≡ true → ends_apart Nothing (map as_listed xs) ≡ true
-apart_before b l c [] rest k f = refl
-apart_before b l c (x ∷ xs) rest k f =
+apart_before to_comma b l c [] rest k f = refl
+apart_before to_comma b l c (x ∷ xs) rest k f =
     let may = not (is_joint_neighbour l) || may_join l (Single (as_listed x)) in
-    apart_at l x c xs rest k (and_parts (may && is_had (is_index_place b l) (as_listed x)) _ f).1
+    apart_at to_comma l x c xs rest k (and_parts (may && is_had (is_index_place b l) (as_listed x)) _ f).1
 
--- What is read up to a closer, behind what is no point, is a token list.
-pub list_good : (ts : Tokens) (us : List Listed) (c : Token) (rest : Tokens) (i : InText ts) → is_mark (codes ".") i.last ≡ false
-    → is_closer c.kind ≡ true → IsList ts us (c ∷ rest) → is_token_list us ≡ true
-list_good ts us c rest i n k l =
+-- What is read up to a closer or a comma, behind what is no point, is a token list.
+pub list_good : (to_comma : Bool) (ts : Tokens) (us : List Listed) (c : Token) (rest : Tokens) (i : InText ts) → is_mark (codes ".") i.last ≡ false
+    → ends_run to_comma [] c ≡ true → ListTo to_comma ts us (c ∷ rest) → is_token_list us ≡ true
+list_good to_comma ts us c rest i n k l =
     let xs = l.read in
     let fit : fits i.before i.last (map as_listed (xs ++ c ∷ rest)) ≡ true =
     sym (ap (λ z. fits i.before i.last (map as_listed z)) l.there.whole) ∙ i.fit in
@@ -204,7 +226,7 @@ list_good ts us c rest i n k l =
     and_from (fits Nothing Nothing (map as_listed xs) && ends_apart Nothing (map as_listed xs) && is_balanced (map as_listed xs)) _
     (and_from (fits Nothing Nothing (map as_listed xs) && ends_apart Nothing (map as_listed xs)) _
     (and_from (fits Nothing Nothing (map as_listed xs)) _ (from_start i.before i.last (map as_listed xs) n front.front)
-    (apart_before i.before i.last c xs rest k fit)) l.there.balanced)
+    (apart_before to_comma i.before i.last c xs rest k fit)) l.there.balanced)
     (ap (list_all may_be_laid) l.listed ∙ l.docs) in
     subst (λ z. is_token_list z ≡ true) l.listed good
 
@@ -225,17 +247,17 @@ row_read (u ∷ us) [] rest r = absurd r
 row_read (u ∷ us) (t ∷ ts) rest r = let m = row_read us ts rest r.1 in
     record { read = t ∷ m.read; whole = ap (λ z. t ∷ z) m.whole; listed = (λ v. r.0 v ∷ m.listed v) }
 
-pub list_row_of : (ts : Tokens) (us : List Listed) (rest : Tokens) → IsList ts us rest → IsRow us ts rest
-list_row_of ts us rest l =
+pub list_row_of : (to_comma : Bool) (ts : Tokens) (us : List Listed) (rest : Tokens) → ListTo to_comma ts us rest → IsRow us ts rest
+list_row_of to_comma ts us rest l =
     subst (λ z. IsRow z ts rest) l.listed (subst (λ z. IsRow (map as_listed l.read) z rest) (sym l.there.whole) (row_of l.read rest))
 
--- A token list that stands before a closer is read.
-pub row_tokens : (us : List Listed) (ts : Tokens) (c : Token) (rest : Tokens) → is_token_list us ≡ true → is_closer c.kind ≡ true
-    → IsRow us ts (c ∷ rest) → tokens ts ≡ Some (us, c ∷ rest)
-row_tokens us ts c rest h k r =
+-- A token list that stands before a closer is read, or before a comma.
+pub row_tokens : (to_comma : Bool) (us : List Listed) (ts : Tokens) (c : Token) (rest : Tokens) → is_token_list us ≡ true
+    → Commaless to_comma 0 us → ends_run to_comma [] c ≡ true → IsRow us ts (c ∷ rest) → tokens_of to_comma ts ≡ Some (us, c ∷ rest)
+row_tokens to_comma us ts c rest h n k r =
     let p = list_parts us h in
     let m = row_read us ts (c ∷ rest) r in
-    ap tokens m.whole ∙ tokens_there m.read (c ∷ rest) us m.listed p.balanced p.docs k
+    ap (tokens_of to_comma) m.whole ∙ tokens_there to_comma m.read (c ∷ rest) us m.listed p.balanced n p.docs k
 
 -- ---- a group
 
@@ -259,7 +281,7 @@ group_is t ts g rest h = by t.kind refl h
         let c = bind_some (passed (closes d) b.0.1) (λ left. Some (record { delim = d; tokens = b.0.0 }, left)) (g, rest) b.2 in
         let e = got_same (record { delim = d; tokens = b.0.0 }) g c.0 rest c.2 in
         let f = passed_first (closes d) b.0.1 c.0 c.1 in
-        ended d b.0.0 b.0.1 k e.0 (tokens_is ts b.0.0 b.0.1 b.1) f.0 (f.1 ∙ e.1)
+        ended d b.0.0 b.0.1 k e.0 (tokens_is false ts b.0.0 b.0.1 b.1) f.0 (f.1 ∙ e.1)
       where
         ended : (d : Delim) (us : List Listed) (left : Tokens) → t.kind ≡ Opener d → record { delim = d; tokens = us } ≡ g → IsList ts us left
             → first (closes d) left ≡ true → tail left ≡ rest → IsGroup t ts g rest
@@ -300,12 +322,12 @@ group_sound depth (t ∷ ts) g rest f end i h s =
     let r = group_is t ts g rest h in
     let left = behind t ts i in
     let closer : is_closer r.last.kind ≡ true = ap is_closer r.closed in
-    let good = list_good ts g.tokens r.last rest left (no_point t (Opener g.delim) r.opens refl) closer r.list in
+    let good = list_good false ts g.tokens r.last rest left (no_point t (Opener g.delim) r.opens refl) closer r.list in
     let last = behind_all r.list.read (r.last ∷ rest) (subst InText r.list.there.whole left) in
     let row : IsRow (grouped_tokens g.delim (in_groups g.tokens)) (t ∷ ts) rest = (
       opener_listed t ts g.delim i r.opens,
       row_joined (flat (in_groups g.tokens)) (closer_token g.delim ∷ []) ts (r.last ∷ rest) rest
-          (subst (λ z. IsRow z ts (r.last ∷ rest)) (sym (list_grouped g.tokens good).whole) (list_row_of ts g.tokens (r.last ∷ rest) r.list))
+          (subst (λ z. IsRow z ts (r.last ∷ rest)) (sym (list_grouped g.tokens good).whole) (list_row_of false ts g.tokens (r.last ∷ rest) r.list))
           (closer_listed r.last rest g.delim last r.closed, refl),
     ) in (
       enclosed_spelled g.delim (ends_in_line g.tokens) (form_of_grouping (at_start 0) (in_groups g.tokens)) f depth (in_groups g.tokens)
@@ -342,7 +364,7 @@ group_complete g f depth ts end s h =
         let p = row_parts (flat (in_groups g.tokens)) (closer_token g.delim ∷ []) ts rest r.1 in
         let c = closer_there g.delim p.0 rest p.2 in
         let row : IsRow g.tokens ts (c.0 ∷ rest) = subst (λ z. IsRow g.tokens ts z) c.1 (subst (λ z. IsRow z ts p.0) (list_grouped g.tokens h).whole p.1) in
-        let e = row_tokens g.tokens ts c.0 rest h (ap is_closer c.2) row in
+        let e = row_tokens false g.tokens ts c.0 rest h tt (ap is_closer c.2) row in
         let m = row_read g.tokens ts (c.0 ∷ rest) row in
         record {
           rest = rest;

@@ -1,6 +1,6 @@
 -- Each kind of type is read where it is spelled, where what is one level deeper is read; and so is every type, and what is not
 -- counted by itself.
-use Rattle.std.proofs.Common.{◌≡◌, ℕ, zero, suc, ◌≤◌, ◌<◌, max, Bool, true, false, not, ◌&&◌, List, [], ◌∷◌, ◌++◌, map, length, drop, codes, Option, option_map, Some, None, inl, inr, if◌then◌else◌, refl, sym, ap, subst, ◌∙◌, append-nil, arith}
+use Rattle.std.proofs.Common.{◌≡◌, ℕ, zero, suc, ◌≤◌, ◌<◌, max, Bool, true, false, not, ◌&&◌, List, [], ◌∷◌, ◌++◌, map, length, drop, codes, Option, option_map, Some, None, inl, inr, if◌then◌else◌, refl, sym, subst, ◌∙◌, append-nil, arith}
 use Rattle.std.specs.List.{list_all}
 use Rattle.std.specs.Str.{bytes_eq}
 use Rattle.std.proofs.lemmas.Bool.{and_parts, not-true}
@@ -23,8 +23,7 @@ use Rattle.lay_tree.specs.nodes.Facts.{Facts, forms, all_good}
 use Rattle.lay_tree.specs.nodes.Types as types
 use Rattle.lay_tree.specs.nodes.Types.{TypeFacts, PathFacts, good_at, all_types_good, type_follows, output_form, output_good, output_refuses, bounds_form, bounds_good, is_several, binder_form, is_binder, abi_form, is_abi, ty_facts, deeper, tuple_form, pointer_word, ref_lifetime, bounds_word, is_param_name, params_form, dots, about_type, about_path, about_bound, about_constraint, about_func_param}
 use Rattle.lay_tree.specs.tokens.Lexed.{is_token_list}
-use Rattle.lay_tree.specs.tokens.Lists.{token_list, ended_by, ends_in_line}
-use Rattle.lay_tree.specs.tokens.Pairs.{at_start}
+use Rattle.lay_tree.specs.tokens.Lists.{token_list}
 use Rattle.lay_tree.specs.reader.Attr.{begins_attr}
 use Rattle.lay_tree.specs.reader.Loops.{Read, passed, nodes, deepest, elements, open_elements_from, open_elements}
 use Rattle.lay_tree.specs.reader.Tokens.{tokens}
@@ -45,13 +44,13 @@ use Rattle.lay_tree.specs.declared.types.Ty.{Ty}
 use Rattle.lay_tree.specs.declared.types.Ty.TheVariants as ty
 use Rattle.lay_tree.specs.declared.types.TypePlace.{TypePlace}
 use Rattle.lay_tree.specs.declared.types.TypePlace.TheVariants.{Bounds, NoBounds}
-use Rattle.lay_tree.proofs.Fronts.{one_front, one_no_op, op_test, one_shorter, mark_passed, opener_passed, closer_first, closer_passed}
+use Rattle.lay_tree.proofs.Fronts.{one_test, one_front, one_no_op, op_test, one_shorter, mark_passed, opener_passed, closer_first, closer_passed}
 use Rattle.lay_tree.proofs.Parts.{Rows, GoodAt, bit_alone, before_blank, piece_bit, part_alone, word_kind, leaf_parts}
 use Rattle.lay_tree.proofs.nodes.TypesLaws.{TyView, IsPath, IsCall, IsParen, IsTuple, IsNever, IsInfer, IsPtr, IsRef, IsSlice, IsArray, IsFunc, IsBounds, type_view, type_path_is, type_call_is, type_paren_is, type_tuple_is, type_never_is, type_infer_is, type_ptr_is, type_ref_is, type_slice_is, type_array_is, type_func_is, type_bounds_is, func_param_is, path_is}
 use Rattle.lay_tree.proofs.reader.AttrRead.{attributes_complete}
 use Rattle.lay_tree.proofs.reader.Call.{call_complete}
 use Rattle.lay_tree.proofs.reader.Exact.{IsRead}
-use Rattle.lay_tree.proofs.reader.Tokens.{row_tokens}
+use Rattle.lay_tree.proofs.reader.TokenLists.{EndsRun, list_there}
 use Rattle.lay_tree.proofs.reader.TypesBegins.{good_of, lead_of, type_begins}
 use Rattle.lay_tree.proofs.reader.TypesCalls.{path_no_call, call_there}
 use Rattle.lay_tree.proofs.reader.TypesComplete.{Fits, fits_clear, follows_fits, Reads, quiet_read, output_read, TypesRead, type_starts, types_goods}
@@ -59,26 +58,9 @@ use Rattle.lay_tree.proofs.reader.TypesCompleteParts.{keyword_there, one_left, b
 use Rattle.lay_tree.proofs.reader.TypesCompletePaths.{path_read, bounds_read, constraint_read}
 use Rattle.lay_tree.proofs.reader.TypesFronts.{lead_no_closer, lead_no_lifetime, lead_no_keyword, lead_no_attr, lead_no_dots, Clear, Ends, comma_ends, closer_ends, semicolon_quiet}
 use Rattle.lay_tree.proofs.reader.TypesLists.{forms_of, paren_closes, some_read, none_read, LastFollows, Ending, open_read}
-use Rattle.lay_tree.proofs.token_lists.Spelling.{IsRow, list_row}
 
 pub inner_of : (f : Form) (depth : ℕ) (ts rest : Tokens) → Spells (deeper f) (suc depth) ts rest → Spells f depth ts rest
 inner_of f depth ts rest s = subst (λ us. Spells f depth ts us) s.2 s.1
-
--- ---- a token list before a `]`
-
-list_there : (us : List Listed) (depth : ℕ) (ts mid rest : Tokens) → is_token_list us ≡ true → Spells (token_list us) depth ts mid
-    → IsOne (Closer Bracket) (closing Bracket ∷ []) mid rest → tokens ts ≡ Some (us, mid)
-list_there us depth ts mid rest g s o =
-    let row = list_row us (at_start 0) depth ts s.0 g s.1 in
-    read_to mid (subst (IsRow us ts) (ended (ends_in_line us) s.0 s.2) row) o
-  where
-    ended : (line : Bool) (at : Tokens) → Spells (ended_by line) depth at mid → at ≡ mid
-    ended true at t = t
-    ended false at t = t
-
-    read_to : (mid : Tokens) → IsRow us ts mid → IsOne (Closer Bracket) (closing Bracket ∷ []) mid rest → tokens ts ≡ Some (us, mid)
-    read_to [] r c = absurd c
-    read_to (last ∷ mid) r c = row_tokens us ts last mid g (ap delimiters.is_closer c.0) r
 
 -- ---- parameters of function types
 
@@ -290,7 +272,8 @@ module _ (depth : ℕ) (inner : Within) (reads : Reads depth inner) where
       let r = quiet_read depth inner reads Bounds x t.0 mid p.1 good.0 (semicolon_quiet mid q.0 mark) in
       let there : first (is_mark (codes ";")) mid ≡ true = rw (one_front Punct (codes ";") mid q.0 mark).1 refl in
       let left = one_left Punct (codes ";") mid q.0 mark in
-      let listed = list_there us depth q.0 list.0 rest goods.1 list.1 close in
+      let shuts : EndsRun false list.0 = one_test delimiters.is_closer (Closer Bracket) (closing Bracket ∷ []) list.0 rest close in
+      let listed = list_there false us depth q.0 list.0 goods.1 tt list.1 shuts in
       let made = array_by_read r.0 q.0 list.0 listed (closer_passed Bracket list.0 rest close) (not-true (is_empty us) good.1) in
       (suc r.0, omega (arith, r.1), rw (one_left (Opener Bracket) (opening Bracket ∷ []) ts t.0 o, r.2, there, left) made)
     where

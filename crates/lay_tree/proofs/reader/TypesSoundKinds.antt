@@ -32,7 +32,7 @@ use Rattle.lay_tree.specs.reader.Loops.{passed, nodes, deepest, elements}
 use Rattle.lay_tree.specs.reader.Tokens.{tokens}
 use Rattle.lay_tree.specs.reader.Types.{Within, flag, if_there, lifetime, path, begins_call, call_type, path_type, paren_by, paren_type, array_by, bracket_type, reference_type, is_mutable, pointer_type, bounds_by, bounds_type, type_by}
 use Rattle.lay_tree.specs.tokens.Lexed.{is_token_list}
-use Rattle.lay_tree.specs.tokens.Lists.{ended_by, ends_in_line, token_list}
+use Rattle.lay_tree.specs.tokens.Lists.{token_list}
 use Rattle.lay_tree.specs.tokens.Pairs as pairs
 use Rattle.lay_tree.specs.tokens.Pairs.{at_start}
 use Rattle.lay_tree.specs.declared.token.Lifetime.{Lifetime}
@@ -45,20 +45,20 @@ use Rattle.lay_tree.specs.declared.types.Ty.TheVariants as ty
 use Rattle.lay_tree.specs.declared.types.TypePlace.{TypePlace}
 use Rattle.lay_tree.specs.declared.types.TypePlace.TheVariants.{Bounds, NoBounds}
 use Rattle.lay_tree.proofs.Fronts.{texts_behind, closer_kind, keyword_one, mark_one, closes_one, passed_first, mark_passed_is, closer_passed_is}
-use Rattle.lay_tree.proofs.InText.{only_text, IsText, behind, behind_all, text_one}
+use Rattle.lay_tree.proofs.InText.{only_text, IsText, behind, text_one}
 use Rattle.lay_tree.proofs.Steps.{same_some, chosen, bind_some}
 use Rattle.lay_tree.proofs.nodes.TypesLaws.{type_path_is, type_call_is, type_paren_is, type_tuple_is, type_never_is, type_infer_is, type_ptr_is, type_ref_is, type_slice_is, type_array_is, type_bounds_is}
 use Rattle.lay_tree.proofs.reader.Attr.{text_listed}
 use Rattle.lay_tree.proofs.reader.Call.{call_sound}
 use Rattle.lay_tree.proofs.reader.Loops.{SoundStep}
-use Rattle.lay_tree.proofs.reader.Tokens.{IsList, tokens_is, list_good, list_row_of}
+use Rattle.lay_tree.proofs.reader.TokenLists.{EndsRun, tokens_held}
+use Rattle.lay_tree.proofs.reader.Tokens.{tokens_is}
 use Rattle.lay_tree.proofs.reader.TypesSoundBounds.{placed, PlacedHeld, placed_sound}
 use Rattle.lay_tree.proofs.reader.TypesSoundFuncs.{func_sound}
 use Rattle.lay_tree.proofs.reader.TypesSoundNeeds.{list_held}
 use Rattle.lay_tree.proofs.reader.TypesSoundParts.{Out, Leads, bit_texts, flag_leads, flag_texts, if_there_sound, ElementsBy, behind_comma, elements_by, lifetime_sound}
 use Rattle.lay_tree.proofs.reader.TypesSoundLevel.{type_held, shut_held, IsType, TypeHeld, SoundWithin}
 use Rattle.lay_tree.proofs.reader.TypesSoundPaths.{paren_shuts, path_told, type_list, path_sound}
-use Rattle.lay_tree.proofs.token_lists.Spelling.{list_spelled}
 
 -- ---- the first token
 
@@ -173,30 +173,18 @@ semicolon_texts (t ∷ ts) i h =
     and_no true b h = h
     and_no false b h = refl
 
-line_ended : (line : Bool) (depth : ℕ) (ts : Tokens) → Spells (ended_by line) depth ts ts
-line_ended true depth ts = refl
-line_ended false depth ts = refl
-
 -- A list of tokens is spelled behind a `;` and before what closes it.
 length_sound : (d : Delim) (depth : ℕ) (ts : Tokens) (us : List Listed) (mid rest : Tokens) → InText ts
     → first (is_mark (codes ";")) ts ≡ true
     → tokens (tail ts) ≡ Some (us, mid) → passed (closes d) mid ≡ Some rest
     → Spells (token_list us) depth (tail ts) mid × (is_token_list us ≡ true) × InText mid
 length_sound d depth ts us mid rest t m h c =
-    at mid (tokens_is (tail ts) us mid h) (passed_first (closes d) mid rest c).0
+    let j = semicolon_texts ts t m in
+    tokens_held false depth (tail ts) us mid j.0 j.1 (tokens_is false (tail ts) us mid h) (shut mid (passed_first (closes d) mid rest c).0)
   where
-    at : (mid : Tokens) → IsList (tail ts) us mid → first (closes d) mid ≡ true
-        → Spells (token_list us) depth (tail ts) mid × (is_token_list us ≡ true) × InText mid
-    at [] l f = absurd (cc)
-    at (last ∷ end) l f =
-        let j = semicolon_texts ts t m in
-        let good = list_good (tail ts) us last end j.0 j.1 (ap is_closer (closer_kind d last.kind f)) l in
-        let row = list_row_of (tail ts) us (last ∷ end) l in
-        let inner = list_spelled us (at_start 0) depth (tail ts) (last ∷ end) good j.0.loose row in (
-          (last ∷ end, inner, line_ended (ends_in_line us) depth (last ∷ end)),
-          good,
-          behind_all l.read (last ∷ end) (subst InText l.there.whole j.0),
-        )
+    shut : (mid : Tokens) → first (closes d) mid ≡ true → EndsRun false mid
+    shut [] f = absurd (cc)
+    shut (last ∷ end) f = ap is_closer (closer_kind d last.kind f)
 
 pub bracket_shuts : (ts : Tokens) → InText ts → first (closes Bracket) ts ≡ true → IsBit (closer Bracket) ts (tail ts)
 bracket_shuts ts t h = closes_one Bracket ts t h

@@ -108,11 +108,11 @@ binder_left ts b mid h = by (first (is_keyword (codes "for")) ts) refl h
         inl (same_some (λ (z : Option Binder × Tokens). is_some z.0 ≡ true) (Some r.0.0, r.0.1) (b, mid) r.2 refl)
     by false e h = let g = got_same {A = Option Binder} None b ts mid h in inr (sym g.0, g.1, e)
 
-abbrev wheres_form : Wheres × Bool → Form
+abbrev pub wheres_form : Wheres × Bool → Form
 wheres_form x = wheres_spelled x.1 (map predicate_form x.0.predicates)
 
 -- What holds of a where clause that is spelled with its last part or without it, and of what follows it.
-abbrev GoodWheres : Wheres × Bool → Tokens → Type 0
+abbrev pub GoodWheres : Wheres × Bool → Tokens → Type 0
 GoodWheres x rest =
     (are_predicates x.0 ≡ true) × (last_follows x.1 (begins_last_part x.0.predicates) begins_predicate rest ≡ true)
 
@@ -254,7 +254,7 @@ module _ (budget : ℕ) (within : Within) (sound : SoundWithin budget within) wh
         (k.2, follows_last last p.0 (nodes ps) end.0 rest end.2 (last_held p ps at r.0 end.0 r.1 end.1)),
       )
 
-  wheres_sound : SoundStep (wheres within) (Deep wheres_form GoodWheres budget)
+  pub wheres_sound : SoundStep (wheres within) (Deep wheres_form GoodWheres budget)
   unfolding wheres
   wheres_sound ts x rest t h =
       let P = Deep wheres_form GoodWheres budget in
