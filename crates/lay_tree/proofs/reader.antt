@@ -61,3 +61,12 @@ pub mod VariantsSound
 pub mod FieldsComplete
 pub mod VariantsComplete
 pub mod StructsSound
+pub mod OutsideExact
+pub mod ValueHeads
+pub mod HeadEnds
+pub mod AliasSound
+pub mod AliasComplete
+pub mod TraitHeads
+pub mod ImplFronts
+pub mod ImplHeadsSound
+pub mod ImplHeadsComplete

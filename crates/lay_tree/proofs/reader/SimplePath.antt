@@ -129,7 +129,7 @@ simple_paths =
 
 -- ---- the front of a simple path
 
-word_no_keyword : (keyword : List ℕ) → is_path_class (class_of keyword) ≡ false → (raw : Bool) (text : List ℕ) (ts rest : Tokens)
+pub word_no_keyword : (keyword : List ℕ) → is_path_class (class_of keyword) ≡ false → (raw : Bool) (text : List ℕ) (ts rest : Tokens)
     → is_path_word raw text ≡ true → IsOne (word_kind raw) text ts rest → first (is_keyword keyword) ts ≡ false
 word_no_keyword keyword n true text ts rest g o = rw (one_front RawIdent text ts rest o).1 refl
 word_no_keyword keyword n false text ts rest g o =

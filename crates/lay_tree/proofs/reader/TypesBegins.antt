@@ -418,9 +418,12 @@ shift_behind c d cs (t ∷ us) rest s h = false_from_ne_true (begins_op (c ∷ d
     let r : begins_op (d ∷ cs) rest ≡ true = subst (λ vs. begins_op (d ∷ cs) vs ≡ true) s.2 q in
     absurd (cc))
 
-lead_no_less : (ts : Tokens) (l : Lead) → (Some OfPath ≡ Some l → ⊥) → lead_at ts ≡ Some l → begins_op (codes "<=") ts ≡ false
+pub lead_no_less : (ts : Tokens) (l : Lead) → (Some OfPath ≡ Some l → ⊥) → lead_at ts ≡ Some l → first (is_mark (codes "<")) ts ≡ false
 lead_no_less ts l differ h =
-    no_begins 60 (codes "=") ts (false_from_ne_true (first (is_mark (codes "<")) ts) (λ e. differ (sym (less_lead ts (tail ts) (mark_one (codes "<") ts e)) ∙ h)))
+    false_from_ne_true (first (is_mark (codes "<")) ts) (λ e. differ (sym (less_lead ts (tail ts) (mark_one (codes "<") ts e)) ∙ h))
+
+lead_no_shift : (ts : Tokens) (l : Lead) → (Some OfPath ≡ Some l → ⊥) → lead_at ts ≡ Some l → begins_op (codes "<=") ts ≡ false
+lead_no_shift ts l differ h = no_begins 60 (codes "=") ts (lead_no_less ts l differ h)
 
 op_no_less : (ts : Tokens) → is_op (codes "::") ts ≡ true → begins_op (codes "<=") ts ≡ false
 op_no_less ts h = rw (op_first 58 (codes ":") ts h).3 refl
@@ -480,14 +483,14 @@ type_no_shift x place depth ts rest s g = by x (type_view x) s (good_of place (a
         let i = opened (about_call c).form depth ts rest u in
         let w = i.2 in
         simple_no_shift c.path i.0 ts w.0 w.1 (and_parts (is_simple_path c.path) _ (subst (λ (F : TypeFacts). F.told.good ≡ true) (type_call_is c) h)).0
-    by _ (IsParen x) t h l = lead_no_less ts OfParen (λ e. cc) l
-    by _ (IsTuple xs) t h l = lead_no_less ts OfParen (λ e. cc) l
-    by _ IsNever t h l = lead_no_less ts OfNever (λ e. cc) l
-    by _ IsInfer t h l = lead_no_less ts OfInfer (λ e. cc) l
-    by _ (IsPtr m x) t h l = lead_no_less ts OfPointer (λ e. cc) l
-    by _ (IsRef r m x) t h l = lead_no_less ts OfReference (λ e. cc) l
-    by _ (IsSlice x) t h l = lead_no_less ts OfBracket (λ e. cc) l
-    by _ (IsArray x us) t h l = lead_no_less ts OfBracket (λ e. cc) l
-    by _ (IsFunc binder is_unsafe abi params variadic output) t h l = lead_no_less ts OfFunc (λ e. cc) l
-    by _ (IsBounds true bs) t h l = lead_no_less ts OfDyn (λ e. cc) l
-    by _ (IsBounds false bs) t h l = lead_no_less ts OfImpl (λ e. cc) l
+    by _ (IsParen x) t h l = lead_no_shift ts OfParen (λ e. cc) l
+    by _ (IsTuple xs) t h l = lead_no_shift ts OfParen (λ e. cc) l
+    by _ IsNever t h l = lead_no_shift ts OfNever (λ e. cc) l
+    by _ IsInfer t h l = lead_no_shift ts OfInfer (λ e. cc) l
+    by _ (IsPtr m x) t h l = lead_no_shift ts OfPointer (λ e. cc) l
+    by _ (IsRef r m x) t h l = lead_no_shift ts OfReference (λ e. cc) l
+    by _ (IsSlice x) t h l = lead_no_shift ts OfBracket (λ e. cc) l
+    by _ (IsArray x us) t h l = lead_no_shift ts OfBracket (λ e. cc) l
+    by _ (IsFunc binder is_unsafe abi params variadic output) t h l = lead_no_shift ts OfFunc (λ e. cc) l
+    by _ (IsBounds true bs) t h l = lead_no_shift ts OfDyn (λ e. cc) l
+    by _ (IsBounds false bs) t h l = lead_no_shift ts OfImpl (λ e. cc) l

@@ -93,7 +93,7 @@ deeper_parts f g (suc depth) ts rest s = (depth, refl, s.0, s.1, s.2)
 pub deeper_from : (f : Form) (depth least : ℕ) (ts rest : Tokens) → depth ≡ suc least → Spells f least ts rest → Spells (deeper f) depth ts rest
 deeper_from f depth least ts rest e s = subst (λ d. Spells (deeper f) d ts rest) (sym e) (rest, s, refl)
 
-plain_class : (c : Class) → is_plain c ≡ true → is_path_class c ≡ true
+pub plain_class : (c : Class) → is_plain c ≡ true → is_path_class c ≡ true
 plain_class Plain h = refl
 plain_class _ h = absurd (cc)
 

@@ -421,7 +421,7 @@ mark_pattern c bar at point minus none ts rest s n =
       rename = rw f.1 refl;
     }
 
-mark_ends : (c : ℕ) → (124 == c) ≡ false → (64 == c) ≡ false → (46 == c) ≡ false → bytes_eq (c ∷ []) (codes "-") ≡ false → (58 == c) ≡ false → (33 == c) ≡ false → (45 == c) ≡ false → (60 == c) ≡ false → (43 == c) ≡ false → (61 == c) ≡ false
+pub mark_ends : (c : ℕ) → (124 == c) ≡ false → (64 == c) ≡ false → (46 == c) ≡ false → bytes_eq (c ∷ []) (codes "-") ≡ false → (58 == c) ≡ false → (33 == c) ≡ false → (45 == c) ≡ false → (60 == c) ≡ false → (43 == c) ≡ false → (61 == c) ≡ false
     → ((us : Tokens) → is_op (codes "::") us ≡ false → lead_of_punct (c ∷ []) us ≡ None) → bytes_eq (c ∷ []) (codes "?") ≡ false
     → (ts rest : Tokens) → IsOne Punct (c ∷ []) ts rest → Ends ts
 mark_ends c bar at point negative colon bang minus less plus equals none other ts rest s =

@@ -55,7 +55,7 @@ given_leads (given.Name n) ts mid rest i o = (
 given_leads given.Underscore ts mid rest i o =
     ((λ f depth end s. (mid, i, (rest, (rest, o, (rest, refl, refl)), s))), refl)
 
-given_texts : (g : GivenName) (ts mid : Tokens) → RenameIs g ts mid → InText ts → InText mid
+pub given_texts : (g : GivenName) (ts mid : Tokens) → RenameIs g ts mid → InText ts → InText mid
 given_texts (given.Name n) ts mid i t =
     texts_behind ts mid (is_end (types.given_form (given.Name n) Done) 0 ts mid
     (leaf_spelled n.raw n.text Done 0 ts mid mid i.0 refl)) t

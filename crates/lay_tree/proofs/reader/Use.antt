@@ -64,7 +64,7 @@ unfolding given_name
 given_name_is [] r rest t h = absurd (cc)
 given_name_is (t ∷ ts) r rest p h = other_by_kind t.kind t ts r rest (text_one t ts p) h
 
-abbrev GoodRename : ℕ → Option GivenName → Tokens → Tokens → Type 0
+abbrev pub GoodRename : ℕ → Option GivenName → Tokens → Tokens → Type 0
 GoodRename depth r ts rest = Spells (rename_form r) depth ts rest × (is_rename r ≡ true) × (may_follow (refuses_rename r) rest ≡ true)
 
 rename_spelled : (depth : ℕ) (r : GivenName) (ts inside rest : Tokens) → IsOne Ident (codes "as") ts inside → RenameIs r inside rest → GoodRename depth (Some r) ts rest
@@ -72,7 +72,7 @@ rename_spelled depth (given.Name n) ts inside rest k i =
     ((inside, (ts, refl, (inside, k, (inside, refl, refl))), leaf_spelled n.raw n.text Done depth inside rest rest i.0 refl), i.1, refl)
 rename_spelled depth given.Underscore ts inside rest k i = ((inside, (ts, refl, (inside, k, (inside, refl, refl))), (rest, i, refl)), refl, refl)
 
-renamed_sound : (depth : ℕ) (ts : Tokens) (r : Option GivenName) (rest : Tokens) → InText ts → renamed ts ≡ Some (r, rest) → GoodRename depth r ts rest
+pub renamed_sound : (depth : ℕ) (ts : Tokens) (r : Option GivenName) (rest : Tokens) → InText ts → renamed ts ≡ Some (r, rest) → GoodRename depth r ts rest
 unfolding renamed
 renamed_sound depth ts r rest t h =
     let go_on : (GivenName × Tokens) → Got (Option GivenName) = λ m. Some (Some m.0, m.1) in
@@ -185,7 +185,7 @@ as_complete r ts mid rest s h =
     let o : IsOne Ident (codes "as") ts mid = before_blank (keyword (codes "as")) ts mid (behind_blank (keyword (codes "as") ∷ Blank ∷ []) ts mid s) in
     (rw ((one_front Ident (codes "as") ts mid o).1, h) refl, one_no_op (codes "::") Ident (codes "as") ts mid refl o)
 
-rename_complete : (r : Option GivenName) (depth : ℕ) (ts rest : Tokens) → GoodRename depth r ts rest → is_op (codes "::") rest ≡ false
+pub rename_complete : (r : Option GivenName) (depth : ℕ) (ts rest : Tokens) → GoodRename depth r ts rest → is_op (codes "::") rest ≡ false
     → (renamed ts ≡ Some (r, rest)) × (is_op (codes "::") ts ≡ false)
 unfolding renamed
 rename_complete None depth ts rest g h =

@@ -1,22 +1,21 @@
 -- The heads of items, and the items that are heads alone (Rust Reference, "Items").
-use Rattle.std.specs.Prelude.{ℕ, ◌&&◌, ◌||◌, not, Bool, true, false, if◌then◌else◌, List, [], ◌∷◌, map, codes, Option, Some, None, is_some}
+use Rattle.std.specs.Prelude.{ℕ, ◌&&◌, ◌||◌, not, Bool, true, false, List, [], ◌∷◌, map, codes, Option, Some, None, is_some}
 use Rattle.std.specs.List.{list_all}
 use Rattle.lay_piece.specs.declared.kind.Delim.TheVariants.{Brace}
 use Rattle.lay_piece.specs.declared.kind.Kind.TheVariants as kind
 use Rattle.lay_token.specs.Operators.{is_op}
-use Rattle.lay_form.specs.Form.{Bit, Blank, Fixed, Operator, Form, Done, Piece, Part, keyword, semicolon}
+use Rattle.lay_form.specs.Form.{Blank, Fixed, Operator, Form, Done, Piece, Part, keyword, semicolon}
 use Rattle.lay_form.specs.Notation as notation
 use Rattle.lay_form.specs.Notation.{piece, when}
-use Rattle.lay_form.specs.Spelled as spelled
 use Rattle.lay_tree.specs.Ahead.{Tokens, first, is_keyword, opens}
 use Rattle.lay_tree.specs.Begins.{begins_bound}
 use Rattle.lay_tree.specs.Words.{is_name, leaf_of}
-use Rattle.lay_tree.specs.nodes.Facts.{Facts, Told}
-use Rattle.lay_tree.specs.nodes.Fields.{are_fields, blank_if, fields_form, is_field, is_variant, named_form, tuple_form, variant_form}
+use Rattle.lay_tree.specs.nodes.Facts.{Told, ToldFront, by_itself}
+use Rattle.lay_tree.specs.nodes.Fields.{are_fields, blank_if, is_field, is_variant, named_form, tuple_form, variant_form}
 use Rattle.lay_tree.specs.nodes.Functions.{mut_word}
 use Rattle.lay_tree.specs.nodes.Generics.{are_bounds, bounded_form, default_form, generics_follow, generics_form, generics_spelled, is_default, is_generics}
 use Rattle.lay_tree.specs.nodes.Patterns.{is_self}
-use Rattle.lay_tree.specs.nodes.Types.{about_path, about_type, bounds_follow, colon, deeper, given_form, good_at, is_given, is_there, type_follows}
+use Rattle.lay_tree.specs.nodes.Types.{about_path, about_type, bounds_follow, colon, given_form, good_at, is_given, is_there, type_follows}
 use Rattle.lay_tree.specs.nodes.Use.{is_rename, rename_form}
 use Rattle.lay_tree.specs.nodes.Where.{are_predicates, wheres_before_body, wheres_before_semicolon}
 use Rattle.lay_tree.specs.declared.fields.Fields.{Fields}
@@ -181,11 +180,16 @@ bounds_end with_generics with_colon (b ∷ bs) ts = bounds_follow (b ∷ bs) ts
 bounds_end with_generics true [] ts = not (begins_bound ts)
 bounds_end with_generics false [] ts = not (is_op (codes ":") ts) && generics_follow with_generics ts
 
+-- a head that is spelled so
+abbrev pub about_trait_head : TraitHead × (Bool × Bool) → Told
+about_trait_head x = record {
+  form = trait_head_spelled x.1.0 x.1.1 x.0;
+  good = tells x.1.0 x.0.generics.params && tells x.1.1 x.0.bounds && is_trait_head x.0;
+  follows = bounds_end x.1.0 x.1.1 x.0.bounds;
+}
+
 abbrev pub TraitHeadAt : Bool → Bool → TraitHead → Tokens → ℕ → ℕ → Type 0
-TraitHeadAt with_generics with_colon x ts n depth =
-    spelled.Front (deeper (trait_head_spelled with_generics with_colon x))
-    (tells with_generics x.generics.params && tells with_colon x.bounds && is_trait_head x)
-    (bounds_end with_generics with_colon x.bounds) ts n depth
+TraitHeadAt with_generics with_colon x ts n depth = ToldFront (by_itself (about_trait_head (x, (with_generics, with_colon)))) ts n depth
 
 abbrev pub TraitHeadFront : TraitHead → Tokens → ℕ → ℕ → Type 0
 TraitHeadFront x ts n depth = (with_generics : Bool) × (with_colon : Bool) × TraitHeadAt with_generics with_colon x ts n depth
