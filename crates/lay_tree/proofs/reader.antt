@@ -70,3 +70,10 @@ pub mod TraitHeads
 pub mod ImplFronts
 pub mod ImplHeadsSound
 pub mod ImplHeadsComplete
+pub mod FunctionsSoundParams
+pub mod FunctionsSound
+pub mod FunctionsStarts
+pub mod FunctionsPatterns
+pub mod FunctionsCompleteParams
+pub mod FunctionsBegins
+pub mod FunctionsComplete

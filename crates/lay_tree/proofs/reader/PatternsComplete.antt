@@ -126,7 +126,7 @@ module _ (depth : ℕ) (inner : PatWithin) (reads : PatReads depth inner) where
       ended n h k = rw (h, k) refl
 
 -- At depth 0 no pattern is spelled.
-no_depth : (x : Pat) (ts rest : Tokens) → Spells (about_pat x).told.form 0 ts rest → ⊥
+pub no_depth : (x : Pat) (ts rest : Tokens) → Spells (about_pat x).told.form 0 ts rest → ⊥
 no_depth x ts rest = at x (pat_view x)
   where
     by : (x : Pat) (F : PatFacts) → about_pat x ≡ F → (Spells F.told.form 0 ts rest → ⊥) → Spells (about_pat x).told.form 0 ts rest → ⊥

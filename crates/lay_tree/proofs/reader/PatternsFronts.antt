@@ -9,6 +9,7 @@ use Rattle.lay_piece.specs.declared.kind.Kind.{Kind}
 use Rattle.lay_piece.specs.declared.kind.Kind.TheVariants.{Ident, Underscore, Punct, Opener, Closer}
 use Rattle.lay_token.specs.Lexes.{is_punct}
 use Rattle.lay_token.specs.Operators.{is_op}
+use Rattle.lay_token.specs.declared.token.Token.{Token}
 use Rattle.lay_token.proofs.Deciding.{bytes_same}
 use Rattle.lay_form.specs.Spelled.{IsOne}
 use Rattle.lay_tree.specs.Ahead.{Tokens, first, tail, is_ident, is_keyword, is_mark, is_opener, is_closer, opens, closes, opens_args_late}
@@ -100,24 +101,39 @@ pub ends_fits : (place : PatPlace) (x : PatFacts) (ts : Tokens) → Ends ts → 
 ends_fits Alternatives x ts e = (e.pattern.bar, ends_follows x ts e)
 ends_fits Single x ts e = ends_follows x ts e
 
--- A bar may follow every alternative.
-pub bar_follows : (x : PatFacts) (ts : Tokens) → is_op (codes "|") ts ≡ true → Follows x ts
-unfolding lead_at
-bar_follows x ts h =
-    let f = op_first 124 [] ts h in
-    let us : Tokens = record f.0 { kind = Punct; text = 124 ∷ f.2 } ∷ f.1 in
-    let n : is_op (codes "::") us ≡ false = subst (λ vs. is_op (codes "::") vs ≡ false) f.3 (other_op (codes "|") (codes "::") refl ts h) in
-    let g : begins_span_end us ≡ false = rw n refl in
-    let free = op_free (codes "|") refl refl refl refl refl refl ts h in
+-- An operator that no pattern goes on with, and that begins no end of a span, may follow every pattern.
+op_follows : (c : ℕ) (cs : List ℕ) → bytes_eq (c ∷ cs) (codes "::") ≡ false → bytes_eq (c ∷ cs) (codes "!") ≡ false
+    → bytes_eq (c ∷ cs) (codes "->") ≡ false → bytes_eq (c ∷ cs) (codes "<") ≡ false → bytes_eq (c ∷ cs) (codes "<<") ≡ false
+    → bytes_eq (c ∷ cs) (codes "<-") ≡ false → bytes_eq (c ∷ cs) (codes "..") ≡ false → bytes_eq (c ∷ cs) (codes "..=") ≡ false
+    → bytes_eq (c ∷ cs) (codes "@") ≡ false
+    → ((t : Token) (more : List ℕ) (us : Tokens) → let ts : Tokens = record t { kind = Punct; text = c ∷ more } ∷ us in
+    is_op (codes "::") ts ≡ false → begins_span_end ts ≡ false)
+    → (x : PatFacts) (ts : Tokens) → is_op (c ∷ cs) ts ≡ true → Follows x ts
+op_follows c cs colons bang arrow less shift take rest last at no_end x ts h =
+    let f = op_first c cs ts h in
+    let us : Tokens = record f.0 { kind = Punct; text = c ∷ f.2 } ∷ f.1 in
+    let n : is_op (codes "::") us ≡ false =
+    subst (λ vs. is_op (codes "::") vs ≡ false) f.3 (other_op (c ∷ cs) (codes "::") colons ts h) in
+    let free = op_free (c ∷ cs) colons bang arrow less shift take ts h in
     let rename : first (is_keyword (codes "as")) ts ≡ false = rw f.3 refl in
     record {
       paren = free.paren;
-      brace = op_test (is_opener Brace) (codes "|") ts h;
-      dots = rw (other_op (codes "|") (codes "..") refl ts h, other_op (codes "|") (codes "..=") refl ts h) refl;
-      span = λ e. subst (λ vs. begins_span_end vs ≡ false) (sym f.3) g;
-      at = λ e. other_op (codes "|") (codes "@") refl ts h;
+      brace = op_test (is_opener Brace) (c ∷ cs) ts h;
+      dots = rw (other_op (c ∷ cs) (codes "..") rest ts h, other_op (c ∷ cs) (codes "..=") last ts h) refl;
+      span = λ e. subst (λ vs. begins_span_end vs ≡ false) (sym f.3) (no_end f.0 f.2 f.1 n);
+      at = λ e. other_op (c ∷ cs) (codes "@") at ts h;
       refuses = quiet_follows x.told.refuses ts (free_quiet ts free rename);
     }
+
+-- A bar may follow every alternative.
+pub bar_follows : (x : PatFacts) (ts : Tokens) → is_op (codes "|") ts ≡ true → Follows x ts
+unfolding lead_at
+bar_follows = op_follows 124 [] refl refl refl refl refl refl refl refl refl (λ t more us n. rw n refl)
+
+-- So may a `:`, behind which a type stands.
+pub colon_follows : (x : PatFacts) (ts : Tokens) → is_op (codes ":") ts ≡ true → Follows x ts
+unfolding lead_at
+colon_follows = op_follows 58 [] refl refl refl refl refl refl refl refl refl (λ t more us n. rw n refl)
 
 -- In code a path refuses `::` alone.
 pub code_clear : (p : Path) (ts : Tokens) → (about_path p Code).good ≡ true → is_op (codes "::") ts ≡ false → Clear (about_path p Code).refuses ts

@@ -81,6 +81,15 @@ param_name_sound ts x rest t h =
     (given_leads g.0.0 ts g.0.1 at i o, left))
     (λ b. ((λ f depth end s. s), refl)) t x rest h
 
+-- ---- what it is extern for
+
+pub abi_if_sound : (ts : Tokens) (x : Option Abi) (rest : Tokens) → InText ts
+    → if_there (first (is_keyword (codes "extern")) ts) abi ts ≡ Some (x, rest)
+    → Out AbiLeads ts (x, rest)
+abi_if_sound ts x rest t h =
+    if_there_sound AbiLeads abi (first (is_keyword (codes "extern")) ts) ts (λ g y mid e. abi_sound ts y mid t e)
+    (λ g. ((λ f depth end s. s), refl)) t x rest h
+
 -- ---- parameters, and the type
 
 abbrev dots_form : Form
@@ -194,13 +203,6 @@ module _ (budget : ℕ) (within : Within) (sound : SoundWithin budget within) wh
       o.0 ps.0.0.0 ps.0.0.1 ps.0.1 (bit_texts (opener Paren) ts o.0 mark t) ps.1 in
       same_some (Out AreParams ts) (((nodes ps.0.0.0, variadic), deepest ps.0.0.0), c.0) (x, rest) c.2
       (params_held ps.0.0.0 ps.0.0.1 ts o.0 ps.0.1 mark r.0 r.1 variadic refl c.0 c.1)
-
-  abi_if_sound : (ts : Tokens) (x : Option Abi) (rest : Tokens) → InText ts
-      → if_there (first (is_keyword (codes "extern")) ts) abi ts ≡ Some (x, rest)
-      → Out AbiLeads ts (x, rest)
-  abi_if_sound ts x rest t h =
-      if_there_sound AbiLeads abi (first (is_keyword (codes "extern")) ts) ts (λ g y mid e. abi_sound ts y mid t e)
-      (λ g. ((λ f depth end s. s), refl)) t x rest h
 
   pub func_sound : (place : TypePlace) → SoundStep (func_type within) (TypeHeld place (suc budget))
   unfolding func_type

@@ -1,5 +1,5 @@
 -- Reading the heads of functions.
-use Rattle.std.specs.Prelude.{ℕ, zero, suc, max, ◌&&◌, ◌||◌, not, Bool, true, false, if◌then◌else◌, List, drop, codes, Option, Some, None}
+use Rattle.std.specs.Prelude.{ℕ, zero, suc, max, ◌&&◌, ◌||◌, not, Bool, false, if◌then◌else◌, List, drop, codes, Option, Some, None}
 use Rattle.lay_token.specs.Operators.{is_op}
 use Rattle.lay_piece.specs.declared.kind.Delim.TheVariants.{Paren}
 use Rattle.lay_tree.specs.Ahead.{Tokens, first, tail, is_keyword, is_lifetime, is_mark, opens, closes}
@@ -123,6 +123,15 @@ async_flag ts = flag (is_keyword (codes "async")) ts
 -- what stands behind `const` and `async`
 abbrev pub safety_behind : Tokens → Option Safety × Tokens
 safety_behind ts = safety_at (async_flag (const_flag ts).1).1
+
+-- behind `extern`: one token may say what it is for
+abbrev pub behind_abi : Tokens → Tokens
+behind_abi ts = if first (is_keyword (codes "fn")) ts then ts else tail ts
+
+-- what stands behind the words before `fn`, where the head of a function stands
+abbrev pub behind_qualifiers : Tokens → Tokens
+behind_qualifiers ts =
+    if first (is_keyword (codes "extern")) (safety_behind ts).1 then behind_abi (tail (safety_behind ts).1) else (safety_behind ts).1
 
 abbrev pub head_output : Within → Tokens → Read (Option Ty)
 head_output within ts = if_read (is_op (codes "->") ts) (λ us. within.types Bounds (drop 2 us)) ts
