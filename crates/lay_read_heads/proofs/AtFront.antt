@@ -2,15 +2,17 @@
 use Rattle.std.proofs.Common.{◌≡◌, ℕ, suc, ◌+◌, ◌-◌, ◌<◌, Bool, Ok, Err, Some, refl, ap, ◌∙◌, add-one, arith}
 use Rattle.lay_tree.specs.Ahead.{Tokens}
 use Rattle.lay_tree.specs.nodes.Facts.{Told, ToldFront, by_itself}
+use Rattle.lay_tree.specs.nodes.Heads.{TraitHeadFront, about_trait_head}
 use Rattle.lay_tree.specs.reader.Exact.{Exact}
 use Rattle.lay_tree.specs.reader.Functions.{head_at, insides}
 use Rattle.lay_tree.specs.reader.Loops.{Read}
 use Rattle.lay_tree.specs.reader.Patterns.{PatWithin}
+use Rattle.lay_tree.specs.declared.heads.TraitHead.{TraitHead}
 use Rattle.lay_read_tokens.specs.Answers.{AreLexed, Stopped}
 use Rattle.lay_read_tokens.specs.declared.stop.ReadNone.{ReadNone}
 use Rattle.lay_read_tokens.specs.declared.stop.ReadNone.TheVariants.{NoReading, NoMemory}
-use Rattle.lay_read_types.specs.Answers.{IsReadAt}
-use Rattle.lay_read_types.proofs.AtFront.{front_deeper, node_read, none_read}
+use Rattle.lay_read_parts.specs.Answers.{IsReadAt}
+use Rattle.lay_read_parts.proofs.AtFront.{front_deeper, node_read, none_read}
 
 -- ---- over what is one level deeper
 
@@ -50,3 +52,18 @@ module _ {A : Type 0} (about : A → Told) (one : PatWithin → Tokens → Read 
         → IsReadAt depth At ts (Ok x) left
     head_found x need left h =
         node_read (head_at one) At exact lift depth ts l fork e x (suc need) left (found one depth fork some x need left h)
+
+-- ---- heads that tell what they end in
+
+module _ (depth : ℕ) (ts : Tokens) where
+  abbrev Flagged : TraitHead × (Bool × Bool) → Tokens → ℕ → ℕ → Type 0
+  Flagged x = ToldFront (by_itself (about_trait_head x))
+
+  pub trait_found : (x : TraitHead × (Bool × Bool)) (left : Tokens) → IsReadAt depth Flagged ts (Ok x) left
+      → IsReadAt depth TraitHeadFront ts (Ok x.0) left
+  trait_found x left h = (h.0, h.1, (x.1.0, x.1.1, h.2))
+
+  pub trait_none : (none : ReadNone) (left : Tokens) → IsReadAt depth Flagged ts (Err none) left
+      → IsReadAt depth TraitHeadFront ts (Err none) left
+  trait_none NoReading left h = (h.0, λ node n f. h.1 (node, (f.0, f.1)) n f.2)
+  trait_none NoMemory left h = h

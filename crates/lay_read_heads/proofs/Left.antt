@@ -21,7 +21,8 @@ use Rattle.lay_tree.specs.declared.patterns.Pat.{Pat}
 use Rattle.lay_tree.specs.declared.patterns.PatPlace.TheVariants.{Single}
 use Rattle.lay_tree.specs.declared.types.TypePlace.TheVariants.{Bounds}
 use Rattle.lay_read_tokens.proofs.Left.{Left, Leaves, unread, dropped, joined, further, chain, chain_passed, choice, first_read, passed_left, elements_left, name_left, op_read, simple_path_left, list_left, attributes_left}
-use Rattle.lay_read_types.proofs.Left.{operator_left, flag_left, weaker, there_left, read_left, lifetime_left, types_leave}
+use Rattle.lay_read_parts.proofs.Left.{operator_left, flag_left, weaker, there_left, read_left, lifetime_left}
+use Rattle.lay_read_types.proofs.Left.{types_leave}
 use Rattle.lay_read_pats.proofs.Left.{pats_leave}
 
 -- ---- visibilities

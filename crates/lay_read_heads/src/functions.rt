@@ -7,7 +7,7 @@ ghost use Rattle.lay_tree.specs.reader.Functions.{insides};
 ghost use Rattle.lay_tree.specs.reader.Loops.{open_elements};
 ghost use Rattle.lay_tree.specs.reader.Types.{within};
 ghost use Rattle.lay_read_tokens.specs.Answers.{IsFound, IsGot};
-ghost use Rattle.lay_read_types.specs.Answers.{gathered_open};
+ghost use Rattle.lay_read_parts.specs.Answers.{gathered_open};
 ghost use Rattle.lay_read_heads.specs.Answers.{none_receives};
 
 use crate::level::{Level, kept_if, takes_mut, type_if};
@@ -20,10 +20,10 @@ use lay_read_tokens::front::{
 };
 use lay_read_tokens::names::read_name;
 use lay_read_tokens::{Ahead, Found, ReadNone};
-use lay_read_types::leads::is_at_lifetime;
-use lay_read_types::loops::{Opening, Part, read_open_elements};
-use lay_read_types::parts::{read_abi_if, read_lifetime_if};
-use lay_read_types::rules::both;
+use lay_read_parts::leads::is_at_lifetime;
+use lay_read_parts::loops::{Opening, Part, read_open_elements};
+use lay_read_parts::parts::{read_abi_if, read_lifetime_if};
+use lay_read_parts::joins::both;
 use lay_read_types::{generics_ahead, type_ahead};
 use lay_token::{Delim, List};
 use lay_tree::{FnHead, Param, ParamKind, Pat, PatPlace, Safety, Site, Ty, TypePlace};

@@ -16,7 +16,7 @@ use lay_read_tokens::front::{
 };
 use lay_read_tokens::names::{read_given_name, read_name, read_word};
 use lay_read_tokens::{Ahead, Found, ReadNone};
-use lay_read_types::rules::both;
+use lay_read_parts::joins::both;
 use lay_read_types::{generics_ahead, path_ahead, type_ahead, wheres_ahead};
 use lay_token::Delim;
 use lay_tree::{

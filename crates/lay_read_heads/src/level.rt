@@ -9,7 +9,7 @@ ghost use Rattle.lay_read_tokens.specs.Answers.{IsFound};
 
 use lay_read_tokens::front::{takes_keyword, takes_op};
 use lay_read_tokens::{Ahead, Found, ReadNone};
-use lay_read_types::leads::begins_bound;
+use lay_read_parts::leads::begins_bound;
 use lay_read_types::{bounds_ahead, type_ahead};
 use lay_token::List;
 use lay_tree::{Bound, Ty, TypePlace};

@@ -10,6 +10,8 @@ pub mod fields;
 pub mod functions;
 pub mod heads;
 mod level;
+mod reads;
 pub mod vis;
 
-pub use lay_read_types::{ReadNone, read_attr, read_attrs, read_call};
+pub use lay_read_tokens::{ReadNone, read_attr, read_attrs, read_call};
+pub use reads::{read_fn_head, read_impl_head, read_trait_head, read_value_head, read_vis};

@@ -9,7 +9,7 @@ ghost use Rattle.lay_tree.specs.declared.heads.ImplHead.{ImplHead as ImplHeadVal
 ghost use Rattle.lay_tree.specs.declared.heads.ValueHead.{ValueHead as ValueHeadValue};
 ghost use Rattle.lay_tree.specs.declared.vis.Vis.{Vis as VisValue};
 ghost use Rattle.lay_read_tokens.specs.Answers.{AreLexed, IsGot, IsRead};
-ghost use Rattle.lay_read_types.specs.Answers.{IsReadAt};
+ghost use Rattle.lay_read_parts.specs.Answers.{IsReadAt};
 
 use crate::functions::fn_head_ahead;
 use crate::heads::{impl_head_ahead, trait_head_ahead, value_head_ahead};
