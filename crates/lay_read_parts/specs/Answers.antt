@@ -5,6 +5,7 @@ use denote.Ref.{Bor, MutBor}
 use Rattle.lay_token.specs.declared.token.Token.{Token}
 use Rattle.lay_tree.specs.Ahead.{Tokens, closes, is_mark}
 use Rattle.lay_tree.specs.Begins.{begins_predicate}
+use Rattle.lay_tree.specs.reader.Functions.{begins_fn_param}
 use Rattle.lay_tree.specs.reader.Loops.{Got, Read, ◌>>=◌, nodes, deepest}
 use Rattle.lay_tree.specs.reader.Patterns.{begins_field}
 use Rattle.lay_tree.specs.reader.Types.{Within, within, begins_param, named_segments, paren_type, pointer_type, reference_type, bracket_type, bounds_type, begins_call, call_type, path_type}
@@ -56,6 +57,7 @@ abbrev pub begins_part : Opening → Tokens → Bool
 begins_part opening.Param ts = begins_param ts
 begins_part opening.Predicate ts = begins_predicate ts
 begins_part opening.Field ts = begins_field ts
+begins_part opening.FnParam ts = begins_fn_param ts
 
 -- These nodes were read as long as one began, and whether a comma stands behind them, and this is the greatest need.
 abbrev pub AreFoundOpen : {A : Type 0} → List (A × ℕ) × Bool → Found (List A × Bool) → Type 0

@@ -6,6 +6,7 @@ ghost use Rattle.lay_tree.specs.Ahead.{first};
 ghost use Rattle.lay_tree.specs.Ahead as ahead;
 ghost use Rattle.lay_tree.specs.Begins as begins;
 ghost use Rattle.lay_tree.specs.Words as words;
+ghost use Rattle.lay_tree.specs.reader.Functions as functions;
 ghost use Rattle.lay_tree.specs.reader.Patterns as patterns;
 ghost use Rattle.lay_tree.specs.reader.Types as reader;
 ghost use Rattle.lay_read_parts.specs.Leads.{told};
@@ -120,6 +121,13 @@ pub fn begins_param(at: &Ahead<'_>) -> bool
     ensures { result ≡ reader.begins_param at.now }
 {
     !(is_at_closer(at, Delim::Paren) || at.op_is(b"..."))
+}
+
+/// Whether a parameter of a function begins at the front.
+pub fn begins_fn_param(at: &Ahead<'_>) -> bool
+    ensures { result ≡ functions.begins_fn_param at.now }
+{
+    !is_at_closer(at, Delim::Paren)
 }
 
 /// Whether a field in the pattern of a struct begins at the front.

@@ -7,7 +7,7 @@ ghost use Rattle.lay_tree.specs.reader.Types.{chain};
 ghost use Rattle.lay_read_tokens.specs.Answers.{AreFound, IsFound, IsHeld};
 ghost use Rattle.lay_read_parts.specs.Answers.{AreFoundOpen, ReadsParts, begins_part, closed_by, joined_by};
 
-use crate::leads::{begins_field, begins_param, begins_predicate};
+use crate::leads::{begins_field, begins_fn_param, begins_param, begins_predicate};
 use lay_read_tokens::found::greater;
 use lay_read_tokens::front::{
     is_at_closer, is_at_mark, takes_closer, takes_colons, takes_mark, takes_op,
@@ -45,6 +45,8 @@ pub enum Opening {
     Predicate,
     /// The fields in the pattern of a struct.
     Field,
+    /// The parameters of a function.
+    FnParam,
 }
 
 /// How parts are read within a depth and at a place.
@@ -164,6 +166,7 @@ fn goes_on(at: &Ahead<'_>, opening: Opening) -> bool
         Opening::Param => begins_param(at),
         Opening::Predicate => begins_predicate(at),
         Opening::Field => begins_field(at),
+        Opening::FnParam => begins_fn_param(at),
     }
 }
 
