@@ -72,7 +72,6 @@ leads wheres = not (is_there wheres.predicates)
 abbrev pub called : List ℕ → Bool → List ℕ → Generics → Form → Form
 called word raw text generics f = Piece (keyword word ∷ Blank ∷ []) (leaf_of raw text (Part (generics_form generics) f))
 
-
 -- ---- what is outside
 
 -- a name, or `self`
