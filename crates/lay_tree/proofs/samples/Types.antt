@@ -133,7 +133,7 @@ where_A_is text = record { predicates = predicate.Bounded None A (meeting false 
 
 -- ---- what is told of them
 
-abbrev local_facts : List ℕ → PathFacts
+abbrev pub local_facts : List ℕ → PathFacts
 local_facts text = path_facts (record { start = start_facts PathStart-F.Local; segments = (plain text, args_facts Args-F.None) ∷ [] })
 
 pub local_is : (text : List ℕ) → about_path (local text) ≡ local_facts text
