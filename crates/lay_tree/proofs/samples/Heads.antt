@@ -1,6 +1,6 @@
 -- Samples of the heads of items: how they are laid out, and what is read.
-use Rattle.std.proofs.Common.{◌≡◌, ℕ, Bool, true, false, List, [], ◌∷◌, Option, Some, None, map, codes, ap, ◌∙◌, refl}
-use Rattle.lay_piece.specs.declared.kind.Delim.TheVariants.{Paren, Brace}
+use Rattle.std.proofs.Common.{◌≡◌, ℕ, true, false, List, [], ◌∷◌, Option, Some, None, map, codes, ap, ◌∙◌, refl}
+use Rattle.lay_piece.specs.declared.kind.Delim.TheVariants.{Paren}
 use Rattle.lay_piece.specs.declared.kind.Kind.TheVariants as kind
 use Rattle.lay_layout.specs.Document.{text_of}
 use Rattle.lay_form.specs.Form.{Blank, Operator, Form, Done, Piece, Part, Deeper, keyword, opener, closer, semicolon}
@@ -18,7 +18,7 @@ use Rattle.lay_tree.specs.nodes.Types.{PathFacts, about_path, arg_facts, args_fa
 use Rattle.lay_tree.specs.tokens.Lists.{token_list}
 use Rattle.lay_tree.specs.declared.types.Arg.TheOpen.{Arg-F, Args-F, Bound-F, PathStart-F, Ty-F}
 use Rattle.lay_tree.specs.declared.patterns.FieldPat.TheOpen.{Pat-F}
-use Rattle.lay_tree.specs.nodes.Item.{ItemFacts, KindFacts, item_facts, told_of_item, told_of_kind}
+use Rattle.lay_tree.specs.nodes.Item.{KindFacts, item_facts, told_of_item, told_of_kind}
 use Rattle.lay_tree.specs.declared.fields.Field.{Field}
 use Rattle.lay_tree.specs.declared.fields.Fields.{Fields}
 use Rattle.lay_tree.specs.declared.fields.Fields.TheVariants as fields
@@ -29,7 +29,6 @@ use Rattle.lay_tree.specs.declared.functions.Param.{Param}
 use Rattle.lay_tree.specs.declared.functions.ParamKind.{ParamKind}
 use Rattle.lay_tree.specs.declared.functions.ParamKind.TheVariants as fn_param
 use Rattle.lay_tree.specs.declared.functions.Safety.{Safety}
-use Rattle.lay_tree.specs.declared.functions.Safety.TheVariants as safety
 use Rattle.lay_tree.specs.declared.generics.GenericParam.TheVariants as param
 use Rattle.lay_tree.specs.declared.generics.Generics.{Generics}
 use Rattle.lay_tree.specs.declared.generics.Predicate.TheVariants as predicate
@@ -64,8 +63,8 @@ use Rattle.lay_tree.proofs.nodes.ItemLaws as items
 use Rattle.lay_tree.proofs.nodes.PatternsLaws as pats
 use Rattle.lay_tree.proofs.nodes.TypesLaws as types
 use Rattle.lay_tree.proofs.samples.Tokens as list
-use Rattle.lay_tree.proofs.samples.Trees.{named, plain, A, a, b, c, no_generics, no_wheres, about, laid, token, word, mark, colons, opens, closes}
-use Rattle.lay_tree.proofs.samples.Types.{local, local_facts, local_is, B, B_is, C, named_is, meeting, meeting_is}
+use Rattle.lay_tree.proofs.samples.Trees.{named, plain, A, a, b, c, no_generics, no_wheres, about, laid}
+use Rattle.lay_tree.proofs.samples.Types.{local, local_facts, local_is, B, B_is, named_is, meeting, meeting_is}
 
 -- ---- trees
 

@@ -1,5 +1,5 @@
 -- Samples of what is read of the heads of items.
-use Rattle.std.proofs.Common.{◌≡◌, Bool, true, false, List, [], ◌∷◌, ◌++◌, Option, Some, None, codes, refl}
+use Rattle.std.proofs.Common.{◌≡◌, true, false, List, [], ◌∷◌, ◌++◌, Some, None, codes, refl}
 use Rattle.lay_piece.specs.declared.kind.Delim.TheVariants.{Paren, Brace}
 use Rattle.lay_piece.specs.declared.kind.Kind.TheVariants as kind
 use Rattle.lay_token.specs.Operators.{op_at}
@@ -7,12 +7,12 @@ use Rattle.lay_token.specs.declared.token.Token.{Token}
 use Rattle.lay_tree.specs.Begins.{lead_at}
 use Rattle.lay_tree.specs.reader.Attr.{attributes}
 use Rattle.lay_tree.specs.reader.Fields.{discriminant, tuple_field, variant, variant_fields}
-use Rattle.lay_tree.specs.reader.Functions.{begins_own_self, begins_ref_self, fn_head, fn_param, fn_params, head_at, insides, own_self, param_kind, ref_self, typed}
+use Rattle.lay_tree.specs.reader.Functions.{begins_own_self, fn_head, fn_param, fn_params, insides, own_self, param_kind, ref_self, typed}
 use Rattle.lay_tree.specs.reader.Generics.{generics}
 use Rattle.lay_tree.specs.reader.Heads.{impl_head, struct, trait_ref, value_head}
 use Rattle.lay_tree.specs.reader.Item.{OfForeign, OfFunction, OfValue, item_lead}
 use Rattle.lay_tree.specs.reader.Loops.{repeat_from, repeat, elements_from, elements, open_elements_from, open_elements}
-use Rattle.lay_tree.specs.reader.Patterns.{pat_at, pat_by, path_by, path_pat, bind, single_at}
+use Rattle.lay_tree.specs.reader.Patterns.{pat_by, path_by, path_pat, bind, single_at}
 use Rattle.lay_tree.specs.reader.SimplePath.{simple_path}
 use Rattle.lay_tree.specs.reader.Tokens.{run, tokens_of}
 use Rattle.lay_tree.specs.reader.Types.{within, path_type, path, chain, segment, args_by, one_bound, meets, paren_type, qualified}
@@ -24,20 +24,18 @@ use Rattle.lay_tree.specs.declared.functions.FnHead.{FnHead}
 use Rattle.lay_tree.specs.declared.functions.ParamKind.TheVariants as param
 use Rattle.lay_tree.specs.declared.functions.Safety.TheVariants as safety
 use Rattle.lay_tree.specs.declared.heads.ImplHead.{ImplHead}
-use Rattle.lay_tree.specs.declared.heads.Site.TheVariants.{Module, TraitMember, Foreign}
-use Rattle.lay_tree.specs.declared.heads.TraitRef.{TraitRef}
+use Rattle.lay_tree.specs.declared.heads.Site.TheVariants.{TraitMember, Foreign}
 use Rattle.lay_tree.specs.declared.heads.ValueHead.TheVariants as value
 use Rattle.lay_tree.specs.declared.patterns.Pat.TheVariants as pat
-use Rattle.lay_tree.specs.declared.patterns.PatPlace.TheVariants.{Single}
 use Rattle.lay_tree.specs.declared.token.GivenName.TheVariants as given
 use Rattle.lay_tree.specs.declared.token.Listed.{Listed}
 use Rattle.lay_tree.specs.declared.types.Ty.TheVariants as ty
 use Rattle.lay_tree.specs.declared.vis.Vis.TheVariants as vis
-use Rattle.lay_tree.proofs.samples.Heads.{fn_of, name_pat, param_of, struct_of, tuple_field_of, ty_of, variant_of}
+use Rattle.lay_tree.proofs.samples.Heads.{fn_of, name_pat, param_of, tuple_field_of, ty_of, variant_of}
 use Rattle.lay_tree.proofs.samples.Patterns.{lone}
 use Rattle.lay_tree.proofs.samples.Tokens as list
-use Rattle.lay_tree.proofs.samples.Trees.{named, plain, A, a, no_generics, no_wheres, token, word, mark, colons, opens, closes}
-use Rattle.lay_tree.proofs.samples.Types.{local, B, C, where_A_is}
+use Rattle.lay_tree.proofs.samples.Trees.{named, plain, A, a, no_generics, token, word, mark, colons, opens, closes}
+use Rattle.lay_tree.proofs.samples.Types.{local, B, where_A_is}
 
 abbrev in_parens : List Token → List Token → List Token
 in_parens inner ts = opens Paren ∷ (inner ++ closes Paren ∷ ts)
