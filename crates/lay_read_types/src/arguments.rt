@@ -8,12 +8,15 @@ ghost use Rattle.lay_tree.specs.reader.Types as reader;
 ghost use Rattle.lay_tree.specs.reader.Types.{within};
 ghost use Rattle.lay_tree.specs.declared.types.TypePlace.TheVariants.{NoBounds};
 ghost use Rattle.lay_read_tokens.specs.Answers.{IsFound};
-ghost use Rattle.lay_read_types.specs.Answers.{AreDeeper, gathered, named_segment};
+ghost use Rattle.lay_read_parts.specs.Answers.{gathered};
+ghost use Rattle.lay_read_types.specs.Answers.{AreDeeper, named_segment};
 
-use crate::leads::{begins_const, is_at_lifetime, opens_args, opens_args_late};
-use crate::loops::{Closer, Part, read_elements};
-use crate::parts::{read_const, read_lifetime};
-use crate::rules::{Rules, both};
+use crate::paths::into_path;
+use crate::rules::Rules;
+use lay_read_parts::joins::both;
+use lay_read_parts::leads::{begins_const, is_at_lifetime, opens_args, opens_args_late};
+use lay_read_parts::loops::{Closer, Part, read_elements};
+use lay_read_parts::parts::{read_const, read_lifetime};
 use lay_read_tokens::found::greater;
 use lay_read_tokens::front::{is_at_opened, pass_two, takes_mark, takes_opener};
 use lay_read_tokens::names::is_plain;
@@ -207,14 +210,19 @@ fn is_round(args: &Args) -> bool
 fn into_named(ty: Ty) -> Option<(Name, Args)>
     ensures { result ≡ reader.named_type ty }
 {
-    match ty {
-        Ty::Path { path } => match path {
-            Path {
-                start: PathStart::Local,
-                segments,
-            } => into_segment(segments),
-            _ => None,
-        },
+    match into_path(ty) {
+        Some(path) => into_named_path(path),
+        None => None,
+    }
+}
+
+/// The name and the generic arguments that a path is, if it is no more.
+fn into_named_path(path: Path) -> Option<(Name, Args)>
+    ensures { result ≡ reader.named_path path }
+{
+    let Path { start, segments } = path;
+    match start {
+        PathStart::Local => into_segment(segments),
         _ => None,
     }
 }

@@ -5,10 +5,11 @@ ghost use Rattle.lay_tree.specs.reader.Types.{within};
 ghost use Rattle.lay_read_tokens.specs.Answers.{IsFound};
 ghost use Rattle.lay_read_types.specs.Answers.{AreDeeper};
 
-use crate::leads::{begins_const, is_at_lifetime};
-use crate::loops::{Joint, Part, read_chain};
-use crate::parts::{read_binder_if, read_const, read_lifetime};
-use crate::rules::{Rules, prepended};
+use crate::rules::Rules;
+use lay_read_parts::joins::{both, prepended, refused};
+use lay_read_parts::leads::{begins_const, is_at_lifetime};
+use lay_read_parts::loops::{Joint, Part, read_chain};
+use lay_read_parts::parts::{read_binder_if, read_const, read_lifetime};
 use lay_read_tokens::front::{takes_closer, takes_mark, takes_op, takes_opener};
 use lay_read_tokens::{Ahead, Found, ReadNone};
 use lay_token::{Delim, List};
@@ -35,7 +36,7 @@ impl<
     {
         let maybe = takes_mark(at, b"?");
         let binder = read_binder_if(self.alloc, at)?;
-        let path = self.path(at, PathStyle::Kind)?;
+        let (binder, path) = both(binder, self.path(at, PathStyle::Kind))?;
         Ok(Found {
             need: path.need,
             node: Bound::Meets {
@@ -68,7 +69,7 @@ impl<
         if takes_closer(at, Delim::Paren) {
             Ok(bound)
         } else {
-            Err(ReadNone::NoReading)
+            refused(bound)
         }
     }
 

@@ -9,12 +9,14 @@ ghost use Rattle.lay_tree.specs.reader.Types.{within};
 ghost use Rattle.lay_tree.specs.Begins.{lead_at};
 ghost use Rattle.lay_tree.specs.declared.types.TypePlace.TheVariants.{Bounds};
 ghost use Rattle.lay_read_tokens.specs.Answers.{IsFound, IsGot, IsMade};
-ghost use Rattle.lay_read_types.specs.Answers.{AreDeeper, gathered, gathered_open, marked, path_or_call};
+ghost use Rattle.lay_read_parts.specs.Answers.{gathered, gathered_open};
+ghost use Rattle.lay_read_types.specs.Answers.{AreDeeper, marked, path_or_call};
 
-use crate::leads::{Lead, lead_at};
-use crate::loops::{Closer, Opening, Part, read_elements, read_open_elements};
-use crate::parts::{read_abi_if, read_binder_if, read_lifetime_if};
-use crate::rules::{Rules, both, prepended};
+use crate::rules::Rules;
+use lay_read_parts::joins::{both, prepended, refused};
+use lay_read_parts::leads::{Lead, lead_at};
+use lay_read_parts::loops::{Closer, Opening, Part, read_elements, read_open_elements};
+use lay_read_parts::parts::{read_abi_if, read_binder_if, read_lifetime_if};
 use lay_read_tokens::attributes::attrs_ahead;
 use lay_read_tokens::calls::call_ahead;
 use lay_read_tokens::found::greater;
@@ -152,7 +154,7 @@ impl<
             });
         }
         if !takes_mark(at, b",") {
-            return Err(ReadNone::NoReading);
+            return refused(first);
         }
         let (first, more) = both(first, self.paren_types(at))?;
         let elements = prepended(first.node, more.node)?;
@@ -181,7 +183,7 @@ impl<
                 need,
             })
         } else {
-            Err(ReadNone::NoReading)
+            refused(inner)
         }
     }
 
@@ -195,9 +197,9 @@ impl<
     {
         let lifetime = read_lifetime_if(self.alloc, at)?;
         let mutable = takes_keyword(at, b"mut");
-        let found = self.inner(at, TypePlace::NoBounds)?;
+        let (lifetime, found) = both(lifetime, self.inner(at, TypePlace::NoBounds))?;
         let need = found.need + 1;
-        let inner = boxed(self.alloc, found.node)?;
+        let (lifetime, inner) = both(lifetime, boxed(self.alloc, found.node))?;
         Ok(Found {
             node: Ty::Ref {
                 lifetime,
@@ -276,7 +278,7 @@ impl<
     {
         let path = self.path(at, PathStyle::Kind)?;
         if at.op_is(b"!") {
-            return Err(ReadNone::NoReading);
+            return refused(path);
         }
         Ok(Found {
             need: path.need + 1,
@@ -292,8 +294,8 @@ impl<
         ensures within { IfOk result (λ found. found.need ≤ self.now.depth) }
     {
         let attrs = attrs_ahead(self.alloc, at, false)?;
-        let name = read_param_name_if(self.alloc, at)?;
-        let ty = self.inner(at, TypePlace::Bounds)?;
+        let (attrs, name) = both(attrs, read_param_name_if(self.alloc, at))?;
+        let ((attrs, name), ty) = both((attrs, name), self.inner(at, TypePlace::Bounds))?;
         Ok(Found {
             need: ty.need,
             node: FuncParam {
@@ -341,7 +343,7 @@ impl<
                 need,
             })
         } else {
-            Err(ReadNone::NoReading)
+            refused(params)
         }
     }
 
@@ -355,12 +357,13 @@ impl<
     {
         let binder = read_binder_if(self.alloc, at)?;
         let is_unsafe = takes_keyword(at, b"unsafe");
-        let abi = read_abi_if(self.alloc, at)?;
+        let (binder, abi) = both(binder, read_abi_if(self.alloc, at))?;
         if !takes_keyword(at, b"fn") {
-            return Err(ReadNone::NoReading);
+            return refused((binder, abi));
         }
-        let params = self.func_params(at)?;
-        let (params, output) = both(params, self.output(at))?;
+        let (head, params) = both((binder, abi), self.func_params(at))?;
+        let ((head, params), output) = both((head, params), self.output(at))?;
+        let (binder, abi) = head;
         let Found { node, need } = params;
         let (params, variadic) = node;
         Ok(Found {
@@ -396,12 +399,12 @@ fn array(alloc: Global, at: &mut Ahead<'_>, element: Found<Ty>) -> Result<Found<
     ensures read { IsFound (reader.array_by (element.node, element.need) at.old) result at.new }
     ensures within { IfOk result (λ found. found.need ≡ element.need + 1) }
 {
-    let length = read_tokens(alloc, at)?;
+    let (element, length) = both(element, read_tokens(alloc, at))?;
     if !takes_closer(at, Delim::Bracket) || length.as_slice().is_empty() {
-        return Err(ReadNone::NoReading);
+        return refused((element, length));
     }
     let need = element.need + 1;
-    let inner = boxed(alloc, element.node)?;
+    let (length, inner) = both(length, boxed(alloc, element.node))?;
     Ok(Found {
         node: Ty::Array { inner, length },
         need,

@@ -1,13 +1,13 @@
 -- Parts with commas in braces, each on a line of its own, are spelled as a list in braces is.
-use Rattle.std.proofs.Common.{ℕ, Bool, true, false, List, [], ◌∷◌, codes, refl, sym, subst, ◌∙◌}
+use Rattle.std.proofs.Common.{ℕ, Bool, true, List, [], ◌∷◌, codes, refl, sym, subst, ◌∙◌}
 use Rattle.lay_piece.specs.declared.kind.Delim.TheVariants.{Brace}
 use Rattle.lay_piece.specs.declared.kind.Kind.TheVariants.{Punct}
-use Rattle.lay_form.specs.Form.{Blank, Fixed, Form, opener, closer, comma}
-use Rattle.lay_form.specs.Notation.{body, comma_list, fields, with_commas}
-use Rattle.lay_form.specs.Spelled.{IsOne, AreBits, MayBe, Spells}
+use Rattle.lay_form.specs.Form.{Fixed, Form, opener, closer, comma}
+use Rattle.lay_form.specs.Notation.{comma_list, fields, with_commas}
+use Rattle.lay_form.specs.Spelled.{IsOne, MayBe, Spells}
 use Rattle.lay_tree.specs.Ahead.{Tokens}
 use Rattle.lay_tree.specs.nodes.Fields.{blank_if}
-use Rattle.lay_tree.proofs.Parts.{Rows, SpelledAt, Further, Closed, Elements, bit_piece, body_rows, body_spelled, list_elements, list_spelled, piece_bit}
+use Rattle.lay_tree.proofs.Parts.{Closed, Elements, Further, Rows, SpelledAt, bit_piece, body_rows, body_spelled, led_blank, list_elements, list_spelled, piece_bit}
 
 -- an element, those behind it, and the last comma
 abbrev Commas : ℕ → Form → List Form → Tokens → Tokens → Type 0
@@ -47,26 +47,16 @@ commas_elements [] depth ts end rest r c = subst (λ us. Closed Brace us rest) (
 commas_elements (f ∷ fs) depth ts end rest r c =
     let p = commas_parts f fs depth ts end r in (p.0, p.2, (p.1, p.3, (end, p.4, c)))
 
-blank_spelled : (lead : Bool) (ts : Tokens) → AreBits (blank_if lead) ts ts
-blank_spelled true ts = (ts, refl, refl)
-blank_spelled false ts = refl
-
 -- A leading blank is no token.
-with_blank : (lead : Bool) (fs : List Form) (depth : ℕ) (ts rest : Tokens) → Spells (body (blank_if lead) [] fs) depth ts rest
-    → Spells (body (Blank ∷ []) [] fs) depth ts rest
-with_blank true fs depth ts rest s = s
-with_blank false [] depth ts rest s = (s.0, (ts, refl, s.1), s.2)
-with_blank false (f ∷ fs) depth ts rest s = (s.0, (ts, refl, s.1), s.2)
-
 pub list_as_fields : (lead : Bool) (fs : List Form) (depth : ℕ) (ts rest : Tokens) → Spells (comma_list true (opener Brace) (closer Brace) fs) depth ts rest
     → Spells (fields (blank_if lead) fs) depth ts rest
 list_as_fields lead fs depth ts rest s =
     let l = list_elements Brace fs depth ts rest s in
     let c = elements_commas fs depth l.0 rest l.2 in
-    body_spelled (blank_if lead) [] (with_commas fs) depth ts ts l.0 l.0 c.0 rest (blank_spelled lead ts) l.1 refl c.1 c.2
+    body_spelled (blank_if lead) [] (with_commas fs) depth ts ts l.0 l.0 c.0 rest (led_blank lead ts) l.1 refl c.1 c.2
 
 pub fields_as_list : (lead : Bool) (fs : List Form) (depth : ℕ) (ts rest : Tokens) → Spells (fields (blank_if lead) fs) depth ts rest
     → Spells (comma_list true (opener Brace) (closer Brace) fs) depth ts rest
 fields_as_list lead fs depth ts rest s =
-    let b = body_rows (with_commas fs) depth ts rest (with_blank lead (with_commas fs) depth ts rest s) in
+    let b = body_rows lead (with_commas fs) depth ts rest s in
     list_spelled Brace fs depth ts b.0 rest b.2 (commas_elements fs depth b.0 b.1 rest b.3 b.4)

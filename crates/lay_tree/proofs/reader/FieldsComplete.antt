@@ -1,5 +1,5 @@
 -- Fields: what is spelled is read, where what is one level deeper is read.
-use Rattle.std.proofs.Common.{◌≡◌, ℕ, ◌≤◌, ◌<◌, max, Bool, true, false, not, ◌&&◌, List, [], ◌∷◌, map, length, codes, Some, inl, inr, refl, sym, ap, subst, ◌∙◌, arith}
+use Rattle.std.proofs.Common.{◌≡◌, ℕ, ◌≤◌, ◌<◌, Bool, true, false, ◌&&◌, List, [], ◌∷◌, map, length, codes, Some, inl, inr, refl, sym, subst, arith}
 use Rattle.std.specs.List.{list_all}
 use Rattle.std.proofs.lemmas.Bool.{and_parts, not-true}
 use Rattle.lay_piece.specs.Forms.{opening}
@@ -10,7 +10,7 @@ use Rattle.lay_form.specs.Form.{Form, Done, Piece, Part, opener, closer}
 use Rattle.lay_form.specs.Notation.{behind_attrs}
 use Rattle.lay_form.specs.Spelled.{IsOne, IsOperator, Spells}
 use Rattle.lay_form.proofs.FormLaws.{shorter}
-use Rattle.lay_tree.specs.Ahead.{Tokens, first, closes, is_keyword, opens}
+use Rattle.lay_tree.specs.Ahead.{Tokens, first, closes, opens}
 use Rattle.lay_tree.specs.Begins.{Lead, OfPath, lead_at}
 use Rattle.lay_tree.specs.Words.{is_name, leaf_of}
 use Rattle.lay_tree.specs.nodes.Attr.{about_attr, are_attrs, attr_form}
@@ -19,7 +19,7 @@ use Rattle.lay_tree.specs.nodes.Types.{about_type, colon, good_at}
 use Rattle.lay_tree.specs.nodes.Vis.{is_vis, vis_follows, vis_form}
 use Rattle.lay_tree.specs.reader.Attr.{attributes, begins_attr}
 use Rattle.lay_tree.specs.reader.Fields.{field, named_fields, tuple_field, tuple_fields}
-use Rattle.lay_tree.specs.reader.Loops.{Read, deepest, elements, nodes, passed}
+use Rattle.lay_tree.specs.reader.Loops.{deepest, elements, nodes, passed}
 use Rattle.lay_tree.specs.reader.Types.{Within}
 use Rattle.lay_tree.specs.reader.Vis.{visibility}
 use Rattle.lay_tree.specs.declared.attr.Attr.{Attr}
@@ -41,7 +41,7 @@ use Rattle.lay_tree.proofs.reader.Restrictions.{restricts_not}
 use Rattle.lay_tree.proofs.reader.TypesBegins.{lead_of, type_begins}
 use Rattle.lay_tree.proofs.reader.TypesComplete.{Reads, name_is_word, operator_read, quiet_read}
 use Rattle.lay_tree.proofs.reader.TypesCompleteParts.{attrs_front, colon_operator}
-use Rattle.lay_tree.proofs.reader.TypesFronts.{Ends, Quiet, colon_quiet, lead_no_attr, lead_no_closer, lead_no_keyword, path_lead_no_paren, word_lead}
+use Rattle.lay_tree.proofs.reader.TypesFronts.{Ends, Quiet, lead_no_attr, lead_no_closer, lead_no_keyword, path_lead_no_paren, word_lead}
 use Rattle.lay_tree.proofs.reader.TypesLists.{closer_closes, list_read}
 use Rattle.lay_tree.proofs.reader.Vis.{vis_complete, vis_front, vis_may}
 use Rattle.lay_tree.proofs.reader.Words.{name_complete}

@@ -1,5 +1,5 @@
 -- The words before the name of a function, and what its head begins with.
-use Rattle.std.proofs.Common.{◌≡◌, ℕ, Bool, true, false, not, ◌&&◌, ◌||◌, List, [], ◌∷◌, codes, Option, Some, None, if◌then◌else◌, refl, sym, ap, subst, ◌∙◌}
+use Rattle.std.proofs.Common.{◌≡◌, ℕ, Bool, true, false, ◌&&◌, List, [], ◌∷◌, codes, Option, Some, None, refl, sym, subst, ◌∙◌}
 use Rattle.std.specs.List.{list_any}
 use Rattle.std.specs.Str.{bytes_eq}
 use Rattle.std.proofs.lemmas.Bool.{and_parts, or_right, false_from_ne_true}
@@ -15,11 +15,9 @@ use Rattle.lay_tree.specs.Words.{is_name, is_string}
 use Rattle.lay_tree.specs.nodes.Functions.{are_fn_params, fn_head_form, is_fn_head, may_be_type, may_say, safety_form, signature_form}
 use Rattle.lay_tree.specs.nodes.Generics.{is_generics}
 use Rattle.lay_tree.specs.nodes.Types as types
-use Rattle.lay_tree.specs.nodes.Types.{abi_form, abi_name, is_abi, is_abi_name, is_const}
+use Rattle.lay_tree.specs.nodes.Types.{abi_form, is_abi}
 use Rattle.lay_tree.specs.reader.Functions.{async_flag, behind_abi, behind_qualifiers, behind_string, const_flag, is_string_kind, safety_at}
-use Rattle.lay_tree.specs.reader.Generics.{generics}
-use Rattle.lay_tree.specs.reader.Types.{abi, if_there, is_string_token, output}
-use Rattle.lay_tree.specs.reader.Words.{name}
+use Rattle.lay_tree.specs.reader.Types.{abi, if_there, is_string_token}
 use Rattle.lay_tree.specs.declared.functions.FnHead.{FnHead}
 use Rattle.lay_tree.specs.declared.functions.Safety.TheVariants as safety
 use Rattle.lay_tree.specs.declared.functions.Safety.{Safety}
@@ -124,7 +122,7 @@ module _ (h : FnHead) (depth : ℕ) (rest : Tokens) where
       (s.0, rw (no, keyword_there (codes "safe") ts s.0 o, one_left Ident (codes "safe") ts s.0 o) refl, s.2)
 
   -- the words before `fn`, and what stands behind it
-  pub record HeadParts (ts : Tokens) : Type 0 where
+  pub record FnParts (ts : Tokens) : Type 0 where
     pub behind_const : Tokens
     pub behind_async : Tokens
     pub behind_safety : Tokens
@@ -161,8 +159,8 @@ module _ (h : FnHead) (depth : ℕ) (rest : Tokens) where
           let there = keyword_there (codes "fn") more.0 fn_there.0 (before_blank (keyword (codes "fn")) more.0 fn_there.0 fn_there.1) in
           rw ((one_front l.kind l.text us t.0 o).1, (string_kind l.kind l.text e).0, same) there
 
-  pub head_parts : (ts : Tokens) → Spells (fn_head_form h) depth ts rest → is_abi h.abi ≡ true → HeadParts ts
-  head_parts ts s g =
+  pub fn_parts : (ts : Tokens) → Spells (fn_head_form h) depth ts rest → is_abi h.abi ≡ true → FnParts ts
+  fn_parts ts s g =
       let async_words = codes "async" ∷ behind_async_words in
       let c = flag_complete (codes "const") h.is_const (behind_const_form h) depth ts rest s
       (λ us v. front_no_word async_words (codes "const") refl us (async_front us v)) in
@@ -194,7 +192,7 @@ module _ (h : FnHead) (depth : ℕ) (rest : Tokens) where
 
 -- ---- what is good of a head
 
-pub record GoodHead (site : Site) (h : FnHead) : Type 0 where
+pub record GoodFnHead (site : Site) (h : FnHead) : Type 0 where
   pub say : may_say site h.safety ≡ true
   pub abi : is_abi h.abi ≡ true
   pub named : is_name h.name.raw h.name.text ≡ true
@@ -202,8 +200,8 @@ pub record GoodHead (site : Site) (h : FnHead) : Type 0 where
   pub params : are_fn_params h.params ≡ true
   pub output : may_be_type h.output ≡ true
 
-pub good_head : (site : Site) (h : FnHead) → is_fn_head site h ≡ true → GoodHead site h
-good_head site h g =
+pub good_fn_head : (site : Site) (h : FnHead) → is_fn_head site h ≡ true → GoodFnHead site h
+good_fn_head site h g =
     let say = may_say site h.safety in
     let named = is_name h.name.raw h.name.text in
     let five = and_parts (say && is_abi h.abi && named && is_generics h.generics && are_fn_params h.params) (may_be_type h.output) g in
@@ -216,4 +214,4 @@ good_head site h g =
 -- Behind the words of a head that stand before it stands `fn`.
 pub fn_head_begins : (site : Site) (h : FnHead) (depth : ℕ) (ts rest : Tokens) → Spells (fn_head_form h) depth ts rest → is_fn_head site h ≡ true
     → first (is_keyword (codes "fn")) (behind_qualifiers ts) ≡ true
-fn_head_begins site h depth ts rest s g = (head_parts h depth rest ts s (good_head site h g).abi).skipped
+fn_head_begins site h depth ts rest s g = (fn_parts h depth rest ts s (good_fn_head site h g).abi).skipped

@@ -1,53 +1,39 @@
 -- The heads of functions: what is spelled is read; so they are read exactly where they stand.
-use Rattle.std.proofs.Common.{◌≡◌, ℕ, max, Bool, true, false, not, ◌&&◌, List, [], ◌∷◌, codes, Option, Some, None, refl, sym, arith, map}
+use Rattle.std.proofs.Common.{◌≡◌, ℕ, max, true, false, not, [], ◌∷◌, codes, Option, Some, None, refl, arith, map}
 use Rattle.std.proofs.lemmas.Bool.{not-true}
 use Rattle.lay_piece.specs.Forms.{opening}
 use Rattle.lay_piece.specs.declared.kind.Delim.TheVariants.{Paren}
 use Rattle.lay_piece.specs.declared.kind.Kind.TheVariants.{Ident, Opener}
 use Rattle.lay_token.specs.Operators.{is_op}
 use Rattle.lay_form.specs.Form.{Blank, Done, Form, Operator, Part, closer, opener}
-use Rattle.lay_form.specs.Notation.{comma_list}
-use Rattle.lay_form.specs.Spelled.{IsOne, IsOperator, Spells}
+use Rattle.lay_form.specs.Spelled.{IsOperator, Spells}
 use Rattle.lay_tree.specs.Ahead.{Tokens, first, is_mark}
 use Rattle.lay_tree.specs.nodes.Facts.{ToldFront, by_itself}
 use Rattle.lay_tree.specs.nodes.Functions as functions
-use Rattle.lay_tree.specs.nodes.Functions.{about_fn_head, ends_variadic, fn_head_form, fn_param_form, fn_params_form, head_output, may_be_type, output_follows}
+use Rattle.lay_tree.specs.nodes.Functions.{about_fn_head, ends_variadic, fn_param_form, fn_params_form, may_be_type, output_follows}
 use Rattle.lay_tree.specs.nodes.Generics.{generics_form}
-use Rattle.lay_tree.specs.nodes.Types.{about_type, params_form}
+use Rattle.lay_tree.specs.nodes.Types.{about_type}
 use Rattle.lay_tree.specs.reader.Exact.{Exact}
 use Rattle.lay_tree.specs.reader.Functions as reader
 use Rattle.lay_tree.specs.reader.Functions.{fn_head, head_at}
-use Rattle.lay_tree.specs.reader.Generics.{generics}
 use Rattle.lay_tree.specs.reader.Patterns.{PatWithin}
-use Rattle.lay_tree.specs.reader.Types.{abi, const, output}
-use Rattle.lay_tree.specs.reader.Words.{name, word}
 use Rattle.lay_tree.specs.declared.functions.FnHead.{FnHead}
 use Rattle.lay_tree.specs.declared.heads.Site.{Site}
 use Rattle.lay_tree.specs.declared.types.Ty.{Ty}
 use Rattle.lay_tree.specs.declared.types.TypePlace.TheVariants.{Bounds}
 use Rattle.lay_tree.proofs.Fronts.{one_front}
-use Rattle.lay_tree.proofs.InText.{behind}
-use Rattle.lay_tree.proofs.Parts.{before_blank, behind_blank, bit_alone, leaf_parts, part_alone}
+use Rattle.lay_tree.proofs.Parts.{before_blank, behind_blank, leaf_parts, part_alone}
 use Rattle.lay_tree.proofs.reader.Exact.{IsRead}
-use Rattle.lay_tree.proofs.reader.FunctionsBegins.{GoodHead, good_head, head_parts}
+use Rattle.lay_tree.proofs.reader.FunctionsBegins.{good_fn_head, fn_parts}
 use Rattle.lay_tree.proofs.reader.FunctionsCompleteParams.{params_there}
 use Rattle.lay_tree.proofs.reader.FunctionsSound.{fn_head_sound}
 use Rattle.lay_tree.proofs.reader.HeadParts.{generics_there}
 use Rattle.lay_tree.proofs.reader.HeadsLevel.{CompleteHead, head_exact}
 use Rattle.lay_tree.proofs.reader.PatternsCompletePaths.{PatReads}
+use Rattle.lay_tree.proofs.reader.TypesBegins.{list_opens}
 use Rattle.lay_tree.proofs.reader.TypesComplete.{follows_fits}
 use Rattle.lay_tree.proofs.reader.TypesCompleteParts.{keyword_there, one_left}
 use Rattle.lay_tree.proofs.reader.Words.{name_complete}
-
--- A list in parentheses isn't opened by `<`.
-paren_no_less : (may : Bool) (fs : List Form) (depth : ℕ) (ts rest : Tokens) → Spells (comma_list may (opener Paren) (closer Paren) fs) depth ts rest
-    → first (is_mark (codes "<")) ts ≡ false
-paren_no_less may fs depth ts rest s = let l = by fs s in rw (one_front (Opener Paren) (opening Paren ∷ []) ts l.0 l.1).1 refl
-  where
-    by : (fs : List Form) → Spells (comma_list may (opener Paren) (closer Paren) fs) depth ts rest
-        → (at : Tokens) × IsOne (Opener Paren) (opening Paren ∷ []) ts at
-    by [] t = (t.1.0, t.1.1)
-    by (f ∷ fs) t = (t.1.0, bit_alone (opener Paren) ts t.1.0 t.1.1)
 
 module _ (depth : ℕ) (inner : PatWithin) (reads : PatReads depth inner) where
   output_there : (y : Option Ty) (ts rest : Tokens) → Spells (functions.head_output y) depth ts rest → may_be_type y ≡ true
@@ -59,28 +45,27 @@ module _ (depth : ℕ) (inner : PatWithin) (reads : PatReads depth inner) where
       let r = reads.kinds.types Bounds x s.0 rest spelled g (follows_fits Bounds (about_type x) rest f) in
       (r.0, r.1, rw (o.0, o.1, r.2) refl)
 
-  head_there : (site : Site) (h : FnHead) (ts rest : Tokens) → Spells (fn_head_form h) depth ts rest → GoodHead site h
-      → output_follows h.output rest ≡ true → IsRead depth (fn_head site inner) h ts rest
-  unfolding fn_head
-  head_there site h ts rest s g f =
-      let p = head_parts h depth rest ts s g.abi in
-      let params_form : Form = fn_params_form h.params in
-      let l =
-      leaf_parts h.name.raw h.name.text (Part (generics_form h.generics) (Part params_form (Part (functions.head_output h.output) Done))) depth p.behind rest p.signature in
-      let generic = l.2 in
-      let params = generic.2 in
-      let output = part_alone (functions.head_output h.output) depth params.0 rest params.2 in
-      let named = name_complete h.name p.behind l.0 (l.1, g.named) in
-      let no_less = paren_no_less (not (ends_variadic h.params)) (map fn_param_form h.params) depth generic.0 params.0 params.1 in
-      let gs = (generics_there depth inner.kinds reads.kinds h.generics l.0 generic.0 generic.1 g.generics no_less).1 in
-      let ps = params_there depth inner reads h.params generic.0 params.0 params.1 g.params in
-      let y = output_there h.output params.0 rest output g.output f in
-      let there = keyword_there (codes "fn") p.at p.behind p.word in
-      let left = one_left Ident (codes "fn") p.at p.behind p.word in
-      (max gs.0 (max ps.0 y.0), omega (arith, gs.1, ps.1, y.1), rw (p.const, p.async, p.safe, p.extern, there, left, named, gs.2, ps.2, y.2, g.say) refl)
-
+-- What is spelled is read, wherever what is within it is.
 pub fn_head_complete : (site : Site) → CompleteHead (about_fn_head site) (fn_head site)
-fn_head_complete site depth inner reads h ts rest s g f = head_there depth inner reads site h ts rest s (good_head site h g) f
+unfolding fn_head
+fn_head_complete site depth inner reads h ts rest s g f =
+    let k = good_fn_head site h g in
+    let p = fn_parts h depth rest ts s k.abi in
+    let params_form : Form = fn_params_form h.params in
+    let l =
+    leaf_parts h.name.raw h.name.text (Part (generics_form h.generics) (Part params_form (Part (functions.head_output h.output) Done))) depth p.behind rest p.signature in
+    let generic = l.2 in
+    let params = generic.2 in
+    let output = part_alone (functions.head_output h.output) depth params.0 rest params.2 in
+    let named = name_complete h.name p.behind l.0 (l.1, k.named) in
+    let opens = list_opens (not (ends_variadic h.params)) (opener Paren) (closer Paren) (map fn_param_form h.params) depth generic.0 params.0 params.1 in
+    let no_less : first (is_mark (codes "<")) generic.0 ≡ false = rw (one_front (Opener Paren) (opening Paren ∷ []) generic.0 opens.0 opens.1).1 refl in
+    let gs = (generics_there depth inner.kinds reads.kinds h.generics l.0 generic.0 generic.1 k.generics no_less).1 in
+    let ps = params_there depth inner reads h.params generic.0 params.0 params.1 k.params in
+    let y = output_there depth inner reads h.output params.0 rest output k.output f in
+    let there = keyword_there (codes "fn") p.at p.behind p.word in
+    let left = one_left Ident (codes "fn") p.at p.behind p.word in
+    (max gs.0 (max ps.0 y.0), omega (arith, gs.1, ps.1, y.1), rw (p.const, p.async, p.safe, p.extern, there, left, named, gs.2, ps.2, y.2, k.say) refl)
 
 -- So a head is read exactly where it stands.
 pub fn_heads_exact : (site : Site) → Exact (head_at (fn_head site)) (λ (x : FnHead). ToldFront (by_itself (about_fn_head site x)))

@@ -14,11 +14,11 @@ use Rattle.lay_form.specs.Spelled.{IsOne, IsOperator, Spells}
 use Rattle.lay_tree.specs.Ahead.{Tokens, closes, first, is_keyword, is_lifetime, is_mark, tail}
 use Rattle.lay_tree.specs.nodes.Attr.{about_attr, are_attrs}
 use Rattle.lay_tree.specs.nodes.Functions.{are_fn_params, ends_variadic, fn_param_form, fn_params_form, is_fn_param, is_param_kind, may_be_type, mut_word, param_kind_form, receives_first, self_type, self_word, varies_last}
-use Rattle.lay_tree.specs.nodes.Patterns.{about_pat, dots, pat_form, pat_good}
-use Rattle.lay_tree.specs.nodes.Types.{about_type, colon, good_at, ref_lifetime}
+use Rattle.lay_tree.specs.nodes.Patterns.{about_pat, pat_form, pat_good}
+use Rattle.lay_tree.specs.nodes.Types.{about_type, good_at, ref_lifetime}
 use Rattle.lay_tree.specs.reader.Attr.{begins_attr}
 use Rattle.lay_tree.specs.reader.Functions.{are_in_order, begins_fn_param, begins_own_self, begins_ref_self, behind_lifetime, ends_param, fn_param, fn_params, mut_flag, own_self, param_kind, ref_self, typed, typed_by}
-use Rattle.lay_tree.specs.reader.Loops.{Read, deepest, nodes, open_elements, open_elements_from}
+use Rattle.lay_tree.specs.reader.Loops.{Read, deepest, nodes, open_elements}
 use Rattle.lay_tree.specs.reader.Patterns.{PatWithin}
 use Rattle.lay_tree.specs.reader.Types.{if_read, if_there, lifetime}
 use Rattle.lay_tree.specs.declared.functions.Param.{Param}
@@ -43,7 +43,7 @@ use Rattle.lay_tree.proofs.reader.TypesComplete.{and_none, operator_read, quiet_
 use Rattle.lay_tree.proofs.reader.TypesCompleteKinds.{keyword_other}
 use Rattle.lay_tree.proofs.reader.TypesCompleteParts.{attrs_front, blank_left, colon_operator, flag_complete, keyword_there, lifetime_alone, lifetime_complete, one_left, param_attrs_rows}
 use Rattle.lay_tree.proofs.reader.TypesFronts.{Ends, closer_ends, comma_ends, lead_no_dots, op_first}
-use Rattle.lay_tree.proofs.reader.TypesLists.{Ending, LastFollows, open_read}
+use Rattle.lay_tree.proofs.reader.TypesLists.{Ending, last_of_all, open_none, open_read}
 
 -- ---- what stands behind a parameter
 
@@ -282,11 +282,6 @@ module _ (depth : ℕ) (inner : PatWithin) (reads : PatReads depth inner) where
   abbrev Follows : Param → Tokens → Type 0
   Follows p ts = ParamEnds ts
 
-  last_ends : (ps : List Param) (ts : Tokens) → ParamEnds ts → LastFollows Follows ps ts
-  last_ends [] ts e = tt
-  last_ends (p ∷ []) ts e = e
-  last_ends (p ∷ q ∷ ps) ts e = last_ends (q ∷ ps) ts e
-
   abbrev OpenParams : List Param → Bool → Tokens → Tokens → Type 0
   OpenParams ps last ts rest =
       (ys : List (Param × ℕ)) × (nodes ys ≡ ps) × (deepest ys ≤ depth) × (open_elements begins_fn_param (fn_param inner) ts ≡ Some ((ys, last), rest))
@@ -299,8 +294,7 @@ module _ (depth : ℕ) (inner : PatWithin) (reads : PatReads depth inner) where
       last p ps ts mid end rest g one s ending
 
   no_params : (ts : Tokens) → begins_fn_param ts ≡ false → OpenParams [] true ts ts
-  unfolding open_elements open_elements_from
-  no_params ts h = ([], refl, omega arith, rw h refl)
+  no_params ts h = ([], refl, omega arith, open_none begins_fn_param (fn_param inner) ts h)
 
   abbrev Close : Tokens → Tokens → Type 0
   Close ts rest = IsOne (Closer Paren) (closing Paren ∷ []) ts rest
@@ -334,7 +328,7 @@ module _ (depth : ℕ) (inner : PatWithin) (reads : PatReads depth inner) where
       let end = more.0 in
       let close : Close end rest = subst (λ us. Close end us) s.2 (piece_bit (closer Paren) depth end s.0 more.2) in
       let no_comma : first (is_mark (codes ",")) end ≡ false = rw (one_front (Closer Paren) (closing Paren ∷ []) end rest close).1 refl in
-      let r = some_params false p ps inside row.0 end end g row.1 more.1 (refl, no_comma, last_ends (p ∷ ps) end (closer_param end rest close)) in
+      let r = some_params false p ps inside row.0 end end g row.1 more.1 (refl, no_comma, last_of_all ParamEnds (p ∷ ps) end (closer_param end rest close)) in
       params_made (p ∷ ps) false ts inside end rest o r close (in_order (p ∷ ps) false order (and_none (ends_variadic (p ∷ ps))))
   list_there p ps false v ts rest s g order =
       let inside = s.1.0 in
@@ -347,7 +341,7 @@ module _ (depth : ℕ) (inner : PatWithin) (reads : PatReads depth inner) where
       let no_comma : first (is_mark (codes ",")) end ≡ false = rw (one_front (Closer Paren) (closing Paren ∷ []) end rest close).1 refl in
       elim last.1 [
         | inl e ↦
-            let r = some_params false p ps inside row.0 more.0 end g row.1 more.1 (e, no_comma, last_ends (p ∷ ps) end (closer_param end rest close)) in
+            let r = some_params false p ps inside row.0 more.0 end g row.1 more.1 (e, no_comma, last_of_all ParamEnds (p ∷ ps) end (closer_param end rest close)) in
             params_made (p ∷ ps) false ts inside end rest o r close (in_order (p ∷ ps) false order (and_none (ends_variadic (p ∷ ps))))
         | inr b ↦
             let here : IsOne Punct (codes ",") more.0 end = bit_alone (Fixed Punct (codes ",")) more.0 end b in

@@ -1,24 +1,24 @@
 -- The heads of functions: what is read stands there.
-use Rattle.std.proofs.Common.{◌≡◌, ℕ, ◌≤◌, Bool, true, false, not, ◌&&◌, [], ◌∷◌, drop, codes, Option, Some, None, if◌then◌else◌, refl, arith, List, ap, inl, inr, max}
+use Rattle.std.proofs.Common.{◌≡◌, ℕ, ◌≤◌, Bool, true, false, not, ◌&&◌, [], ◌∷◌, drop, codes, Option, Some, None, if◌then◌else◌, refl, arith, ap, inl, inr, max}
 use Rattle.std.proofs.lemmas.Bool.{and_from}
 use Rattle.lay_token.specs.Operators.{is_op}
 use Rattle.lay_form.proofs.FormLaws.{deeper as raise}
 use Rattle.lay_form.specs.Form.{Blank, Done, Fixed, Form, Operator, Part, Piece, keyword}
 use Rattle.lay_form.specs.Notation.{when}
-use Rattle.lay_form.specs.Spelled.{AreBits, IsOperator, Spells}
+use Rattle.lay_form.specs.Spelled.{IsOperator, Spells}
 use Rattle.lay_tree.specs.Ahead.{Tokens, first, is_keyword, tail}
 use Rattle.lay_tree.specs.Words.{is_name}
 use Rattle.lay_tree.specs.nodes.Functions as functions
-use Rattle.lay_tree.specs.nodes.Functions.{about_fn_head, are_fn_params, fn_params_form, is_fn_head, may_be_type, may_say, output_follows, safety_form, signature_form, head_output}
+use Rattle.lay_tree.specs.nodes.Functions.{about_fn_head, are_fn_params, fn_params_form, is_fn_head, may_be_type, may_say, output_follows, safety_form, signature_form}
 use Rattle.lay_tree.specs.nodes.Generics.{generics_form, is_generics}
 use Rattle.lay_tree.specs.nodes.Types.{abi_form, is_abi}
 use Rattle.lay_tree.specs.reader.Exact.{InText}
 use Rattle.lay_tree.specs.reader.Functions as reader
-use Rattle.lay_tree.specs.reader.Functions.{const_flag, async_flag, fn_head, fn_params, safety_at, safety_behind}
+use Rattle.lay_tree.specs.reader.Functions.{const_flag, async_flag, fn_head, fn_params, safety_behind}
 use Rattle.lay_tree.specs.reader.Generics.{generics}
 use Rattle.lay_tree.specs.reader.Loops.{passed}
 use Rattle.lay_tree.specs.reader.Types.{Within, abi, if_there}
-use Rattle.lay_tree.specs.reader.Words.{name, word}
+use Rattle.lay_tree.specs.reader.Words.{name}
 use Rattle.lay_tree.specs.declared.functions.FnHead.{FnHead}
 use Rattle.lay_tree.specs.declared.functions.Safety.TheVariants as safety
 use Rattle.lay_tree.specs.declared.functions.Safety.{Safety}
@@ -28,7 +28,7 @@ use Rattle.lay_tree.specs.declared.types.TypePlace.TheVariants.{Bounds}
 use Rattle.lay_tree.proofs.Fronts.{keyword_one}
 use Rattle.lay_tree.proofs.Parts.{leaf_spelled, word_kind}
 use Rattle.lay_tree.proofs.Steps.{bind_some, chosen, same_some}
-use Rattle.lay_tree.proofs.reader.FunctionsSoundParams.{fn_params_sound}
+use Rattle.lay_tree.proofs.reader.FunctionsSoundParams.{fn_params_sound, word_bits}
 use Rattle.lay_tree.proofs.reader.HeadParts.{generics_held}
 use Rattle.lay_tree.proofs.reader.HeadsLevel.{SoundHead, Stood}
 use Rattle.lay_tree.proofs.reader.Loops.{SoundStep}
@@ -36,12 +36,8 @@ use Rattle.lay_tree.proofs.reader.TypesSoundFuncs.{abi_if_sound}
 use Rattle.lay_tree.proofs.reader.TypesSoundLevel.{SoundWithin}
 use Rattle.lay_tree.proofs.reader.TypesSoundParts.{Leads, Out, bit_texts, flag_leads, flag_texts, if_read_sound, keyword_passed_is}
 use Rattle.lay_tree.proofs.reader.Words.{name_sound}
-use Rattle.lay_tree.proofs.samples.Trees.{b, c}
 
 -- ---- what stands before `fn`
-
-word_bits : (word : List ℕ) (ts : Tokens) → first (is_keyword word) ts ≡ true → AreBits (keyword word ∷ Blank ∷ []) ts (tail ts)
-word_bits word ts e = (tail ts, keyword_one word ts e, (tail ts, refl, refl))
 
 -- what it says of its safety, by the two tests
 abbrev safety_by : Bool → Bool → Tokens → Option Safety × Tokens

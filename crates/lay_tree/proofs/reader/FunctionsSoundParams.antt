@@ -4,7 +4,6 @@ use Rattle.std.specs.List.{list_all}
 use Rattle.std.proofs.lemmas.Bool.{and_from, and_parts}
 use Rattle.lay_piece.specs.declared.kind.Delim.TheVariants.{Paren}
 use Rattle.lay_piece.specs.declared.kind.Kind.TheVariants as kind
-use Rattle.lay_piece.specs.declared.kind.Kind.TheVariants.{Punct}
 use Rattle.lay_token.specs.Operators.{is_op}
 use Rattle.lay_form.proofs.FormLaws.{deeper as raise}
 use Rattle.lay_form.specs.Form.{Blank, Done, Fixed, Form, Operator, Part, Piece, closer, keyword, opener}
@@ -38,7 +37,6 @@ use Rattle.lay_tree.proofs.reader.TypesCompleteParts.{one_left}
 use Rattle.lay_tree.proofs.reader.TypesSoundNeeds.{list_held}
 use Rattle.lay_tree.proofs.reader.TypesSoundOpen.{OpenBy, open_held, open_shut, open_sound, shut_list}
 use Rattle.lay_tree.proofs.reader.TypesSoundParts.{Leads, Out, attrs_good, bit_texts, flag_leads, flag_texts, if_read_sound, if_there_sound, lifetime_sound, operator_is, param_attrs_leads}
-use Rattle.lay_tree.proofs.samples.Trees.{c}
 
 -- ---- what is held of those that are read
 
@@ -65,14 +63,15 @@ lifetime_if_sound ts x rest t h =
     (((λ f depth end r. (mid, (mid, s.0, refl), (mid, (mid, refl, refl), r))), left), s.1))
     (λ b. ((λ f depth end r. r), rw (b, behind_lifetime) refl)) t x rest h
 
-mut_bits : (ts : Tokens) → first (is_keyword (codes "mut")) ts ≡ true → AreBits mut_word ts (tail ts)
-mut_bits ts e = (tail ts, keyword_one (codes "mut") ts e, (tail ts, refl, refl))
+-- a word with a blank behind it
+pub word_bits : (word : List ℕ) (ts : Tokens) → first (is_keyword word) ts ≡ true → AreBits (keyword word ∷ Blank ∷ []) ts (tail ts)
+word_bits word ts e = (tail ts, keyword_one word ts e, (tail ts, refl, refl))
 
 mut_leads : (ts : Tokens) → Leads (when (mut_flag ts).0 mut_word) ts (mut_flag ts).1
-mut_leads ts = flag_leads (is_keyword (codes "mut")) mut_word ts (mut_bits ts)
+mut_leads ts = flag_leads (is_keyword (codes "mut")) mut_word ts (word_bits (codes "mut") ts)
 
 mut_texts : (ts : Tokens) → InText ts → InText (mut_flag ts).1
-mut_texts ts t = flag_texts (is_keyword (codes "mut")) mut_word ts (mut_bits ts) t
+mut_texts ts t = flag_texts (is_keyword (codes "mut")) mut_word ts (word_bits (codes "mut") ts) t
 
 ref_self_sound : (budget : ℕ) (ts : Tokens) (k : ParamKind) (rest : Tokens) → InText ts → begins_ref_self ts ≡ true
     → ref_self (tail ts) ≡ Some (k, rest) → Out (KindHeld budget) ts ((k, 0), rest)

@@ -1,6 +1,6 @@
 -- Generic parameters and where clauses within the heads of items. There the spelling doesn't tell whether a last part
 -- that may be left out is there, and what stands behind begins no such part.
-use Rattle.std.proofs.Common.{◌≡◌, ℕ, ◌≤◌, Bool, true, false, not, ◌||◌, List, [], ◌∷◌, ◌⊎◌, inl, inr, map, codes, refl, ◌∙◌}
+use Rattle.std.proofs.Common.{◌≡◌, ℕ, ◌≤◌, Bool, true, false, not, ◌||◌, List, [], ◌∷◌, ◌⊎◌, inl, inr, map, codes, refl, sym, subst, ◌∙◌}
 use Rattle.std.proofs.lemmas.Bool.{and_parts}
 use Rattle.lay_piece.specs.Forms.{opening}
 use Rattle.lay_piece.specs.declared.kind.Delim.TheVariants.{Brace}
@@ -277,3 +277,13 @@ module _ (depth : ℕ) (inner : Within) (reads : Reads depth inner) where
       let i = r.1 in
       let read = name_complete n s.0 l.0 (l.1, named) in
       (part.0, (i.0, i.1, rw (keyword_there word ts s.0 o, one_left Ident word ts s.0 o, read, i.2) refl), part.2)
+
+  -- The same with nothing behind them.
+  pub called_alone : (word : List ℕ) (n : Name) (g : Generics) (f : Form) (ts rest : Tokens)
+      → Spells (heads.called word n.raw n.text g f) depth ts rest → is_name n.raw n.text ≡ true → is_generics g ≡ true
+      → ((us : Tokens) → Spells f depth us rest → us ≡ rest) → first (is_mark (codes "<")) rest ≡ false
+      → IsRead depth (called inner word) (n, g) ts rest
+  called_alone word n g f ts rest s named good nothing none =
+      let c = called_there word n g f ts rest s named good
+      (λ us t. subst (λ vs. first (is_mark (codes "<")) vs ≡ false) (sym (nothing us t)) none) in
+      subst (λ us. IsRead depth (called inner word) (n, g) ts us) (nothing c.0 c.2) c.1

@@ -19,7 +19,7 @@ use Rattle.lay_tree.specs.nodes.Facts.{Facts, forms, all_good}
 use Rattle.lay_tree.specs.nodes.Patterns.{PatFacts, pat_form, pat_good, rest_form, pat_facts, about_pat, about_field_pat}
 use Rattle.lay_tree.specs.nodes.Types.{about_path, colon}
 use Rattle.lay_tree.specs.reader.Attr.{begins_attr}
-use Rattle.lay_tree.specs.reader.Loops.{passed, nodes, deepest, open_elements_from, open_elements}
+use Rattle.lay_tree.specs.reader.Loops.{passed, nodes, deepest, open_elements}
 use Rattle.lay_tree.specs.reader.Patterns.{PatWithin, index, field_name, field_by, one_field, begins_field, fields, path_by}
 use Rattle.lay_tree.specs.reader.Words.{name}
 use Rattle.lay_tree.specs.declared.attr.Attr.{Attr}
@@ -46,7 +46,7 @@ use Rattle.lay_tree.proofs.reader.TypesComplete.{and_none, operator_read, name_i
 use Rattle.lay_tree.proofs.reader.TypesCompleteKinds.{last_part}
 use Rattle.lay_tree.proofs.reader.TypesCompleteParts.{one_left, colon_operator, attrs_front}
 use Rattle.lay_tree.proofs.reader.TypesFronts.{word_lead, lead_no_attr, Ends, comma_ends, closer_ends}
-use Rattle.lay_tree.proofs.reader.TypesLists.{forms_of, LastFollows, Ending, open_read}
+use Rattle.lay_tree.proofs.reader.TypesLists.{forms_of, last_of_all, Ending, open_none, open_read}
 use Rattle.lay_tree.proofs.reader.Words.{name_complete}
 
 -- ---- names that are bound to the field of that name
@@ -285,8 +285,7 @@ module _ (depth : ℕ) (inner : PatWithin) (reads : PatReads depth inner) where
       (λ y us at o h. comma_ends us at o) last f fs ts mid end rest (sym (list_all-map (λ (x : Facts). x.good) about_field_pat (f ∷ fs)) ∙ g) one s ending
 
   no_fields : (ts : Tokens) → begins_field ts ≡ false → FieldsRead [] true ts ts
-  unfolding open_elements open_elements_from
-  no_fields ts h = ([], refl, omega arith, rw h refl)
+  no_fields ts h = ([], refl, omega arith, open_none begins_field (one_field inner) ts h)
 
   -- fields, and whether a `..` stands behind them
   fields_made : (fs : List FieldPat) (last dotted : Bool) (ts end rest : Tokens) → FieldsRead fs last ts end → (last && is_op (codes "..") end) ≡ dotted
@@ -362,18 +361,13 @@ module _ (depth : ℕ) (inner : PatWithin) (reads : PatReads depth inner) where
       elim last.1 [
         | inl e ↦
             let no_comma : first (is_mark (codes ",")) last.0 ≡ false = rw (one_front (Closer Brace) (closing Brace ∷ []) last.0 rest close).1 refl in
-            let r = some_fields false f fs inside row.0 more.0 last.0 g row.1 more.1 (e, no_comma, last_ends (f ∷ fs) last.0 (closer_ends Brace last.0 rest close)) in
+            let r = some_fields false f fs inside row.0 more.0 last.0 g row.1 more.1 (e, no_comma, last_of_all Ends (f ∷ fs) last.0 (closer_ends Brace last.0 rest close)) in
             (inside, brace_opens ts inside t.1, closed_fields (f ∷ fs) false inside last.0 rest r close)
         | inr b ↦
             let here : IsOne Punct (codes ",") more.0 last.0 = bit_alone (Fixed Punct (codes ",")) more.0 last.0 b in
             let r = some_fields true f fs inside row.0 more.0 last.0 g row.1 more.1 (here, n.0) in
             (inside, brace_opens ts inside t.1, closed_fields (f ∷ fs) true inside last.0 rest r close)
       ]
-    where
-      last_ends : (ys : List FieldPat) (us : Tokens) → Ends us → LastFollows (λ (y : FieldPat) vs. Ends vs) ys us
-      last_ends [] us e = tt
-      last_ends (y ∷ []) us e = e
-      last_ends (y ∷ z ∷ zs) us e = last_ends (z ∷ zs) us e
   fields_read (f ∷ fs) true ts rest s g =
       let inside = s.0 in
       let row = s.2.1 in

@@ -1,7 +1,7 @@
 -- Types that would restrict a `pub` before them: `(crate)`, `(self)` and `(super)`, which are read as what restricts it.
-use Rattle.std.proofs.Common.{◌≡◌, ℕ, suc, Bool, true, false, not, ◌||◌, List, [], ◌∷◌, ◌⊎◌, inl, inr, codes, Option, Some, None, refl, sym, ap, subst, ◌∙◌, arith}
+use Rattle.std.proofs.Common.{◌≡◌, ℕ, suc, true, false, not, ◌||◌, List, [], ◌∷◌, ◌⊎◌, inl, inr, codes, Option, Some, None, refl, sym, ap, subst, ◌∙◌, arith}
 use Rattle.std.specs.Str.{bytes_eq}
-use Rattle.std.proofs.lemmas.Bool.{and_parts, false_from_ne_true, not-true}
+use Rattle.std.proofs.lemmas.Bool.{and_parts, false_from_ne_true, not-true, or_cases, or_right}
 use Rattle.lay_token.specs.Operators.{op_at}
 use Rattle.lay_token.proofs.Deciding.{bytes_same}
 use Rattle.lay_piece.specs.Forms.{opening, closing}
@@ -60,17 +60,15 @@ restricting : (o : Option Word) → restricting_word o ≡ true → RestrictingW
 restricting None h = absurd (cc)
 restricting (Some w) h =
     let p = and_parts (not w.raw) _ h in
-    record {
-      word = w;
-      there = refl;
-      plain = not-true w.raw p.0;
-      one = either (bytes_eq w.text (codes "crate")) _ p.1 (bytes_same w.text (codes "crate"))
-          (λ r. either (bytes_eq w.text (codes "self")) _ r (bytes_same w.text (codes "self")) (bytes_same w.text (codes "super")));
-    }
+    record { word = w; there = refl; plain = not-true w.raw p.0; one = which (or_cases (bytes_eq w.text (codes "crate")) _ p.1) }
   where
-    either : {A B : Type 0} (a b : Bool) → (a || b) ≡ true → (a ≡ true → A) → (b ≡ true → B) → A ⊎ B
-    either true b h f g = inl (f refl)
-    either false b h f g = inr (g h)
+    which : (bytes_eq w.text (codes "crate") ≡ true) ⊎ ((bytes_eq w.text (codes "self") || bytes_eq w.text (codes "super")) ≡ true)
+        → (w.text ≡ codes "crate") ⊎ ((w.text ≡ codes "self") ⊎ (w.text ≡ codes "super"))
+    which (inl e) = inl (bytes_same w.text (codes "crate") e)
+    which (inr e) = elim (or_cases (bytes_eq w.text (codes "self")) (bytes_eq w.text (codes "super")) e) [
+      | inl f ↦ inr (inl (bytes_same w.text (codes "self") f))
+      | inr f ↦ inr (inr (bytes_same w.text (codes "super") f))
+    ]
 
 -- a path that is one word, as a type
 word_there : (p : Path) (w : Word) (depth : ℕ) (ts rest : Tokens) → lone_word p ≡ Some w → Spells (about_type (ty.Path p)).told.form depth ts rest
@@ -81,10 +79,6 @@ word_there p w depth ts rest e s =
     let leaf = leaf_parts w.raw w.text (Part Done Done) i.0 f.0 rest f.2 in
     let one : IsOne (word_kind w.raw) w.text f.0 rest = subst (λ us. IsOne (word_kind w.raw) w.text f.0 us) (part_alone Done i.0 leaf.0 rest leaf.2) leaf.1 in
     subst (λ us. IsOne (word_kind w.raw) w.text us rest) (sym f.1) one
-
-or_second : (a b : Bool) → b ≡ true → (a || b) ≡ true
-or_second true b h = refl
-or_second false b h = h
 
 -- What a restriction is, by its kinds.
 abbrev Layer : Type 0
@@ -118,10 +112,10 @@ restricts_by : (text : List ℕ) (ts : Tokens) → (text ≡ codes "crate") ⊎ 
     → restricts ts ≡ true
 restricts_by text ts (inl e) r = let t = subst (λ w. restricts_to w ts ≡ true) e r in rw t refl
 restricts_by text ts (inr (inl e)) r =
-    let t = subst (λ w. restricts_to w ts ≡ true) e r in or_second (restricts_to (codes "crate") ts) _ (rw t refl)
+    let t = subst (λ w. restricts_to w ts ≡ true) e r in or_right (restricts_to (codes "crate") ts) _ (rw t refl)
 restricts_by text ts (inr (inr e)) r =
     let t = subst (λ w. restricts_to w ts ≡ true) e r in
-    or_second (restricts_to (codes "crate") ts) _ (or_second (restricts_to (codes "self") ts) _ (rw t refl))
+    or_right (restricts_to (codes "crate") ts) _ (or_right (restricts_to (codes "self") ts) _ (rw t refl))
 
 pub restriction_there : (x : Ty) (depth : ℕ) (ts rest : Tokens) → Spells (about_type x).told.form depth ts rest → is_restriction x ≡ true → restricts ts ≡ true
 restriction_there x depth ts rest s h =

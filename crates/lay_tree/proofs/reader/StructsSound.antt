@@ -1,23 +1,21 @@
 -- Structs, unions and enumerations: what is read within a budget stands there, at the depth that it needs.
-use Rattle.std.proofs.Common.{◌≡◌, ℕ, ◌≤◌, max, Bool, true, ◌&&◌, List, [], ◌∷◌, map, codes, Some, inl, inr, refl, arith}
+use Rattle.std.proofs.Common.{◌≡◌, ℕ, max, true, ◌&&◌, map, codes, Some, inl, inr, refl, arith}
 use Rattle.std.specs.List.{list_all}
 use Rattle.std.proofs.lemmas.Bool.{and_from}
 use Rattle.lay_piece.specs.declared.kind.Delim.TheVariants.{Paren, Brace}
 use Rattle.lay_piece.specs.declared.kind.Kind.TheVariants as kind
-use Rattle.lay_form.specs.Form.{Fixed, Form, Done, Part}
+use Rattle.lay_form.specs.Form.{Fixed, Done, Part}
 use Rattle.lay_form.specs.Notation as notation
-use Rattle.lay_form.specs.Spelled.{Spells}
 use Rattle.lay_form.proofs.FormLaws.{deeper as raise}
-use Rattle.lay_tree.specs.Ahead.{Tokens, first, is_mark, opens}
+use Rattle.lay_tree.specs.Ahead.{Tokens, first, opens}
 use Rattle.lay_tree.specs.Words.{is_name}
 use Rattle.lay_tree.specs.nodes.Fields.{blank_if, is_field, is_tuple_field, is_variant, named_form, tuple_form, variant_form}
 use Rattle.lay_tree.specs.nodes.Generics.{is_generics}
 use Rattle.lay_tree.specs.nodes.Heads.{about_enum, about_struct, about_union, headed, leads}
-use Rattle.lay_tree.specs.nodes.Where.{are_predicates, predicate_form, wheres_before_body, wheres_before_semicolon}
+use Rattle.lay_tree.specs.nodes.Where.{are_predicates, predicate_form, wheres_before_body}
 use Rattle.lay_tree.specs.reader.Exact.{InText}
 use Rattle.lay_tree.specs.reader.Fields.{named_fields, tuple_fields, variants}
 use Rattle.lay_tree.specs.reader.Heads.{called, enum, other_struct, semicolon, struct, tuple_struct, union}
-use Rattle.lay_tree.specs.reader.Loops.{Read}
 use Rattle.lay_tree.specs.reader.Types.{Within}
 use Rattle.lay_tree.specs.reader.Where.{wheres}
 use Rattle.lay_tree.specs.declared.fields.Fields.TheVariants as fields

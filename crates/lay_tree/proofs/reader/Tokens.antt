@@ -2,7 +2,7 @@
 use Rattle.std.proofs.Common.{◌≡◌, ℕ, ◌<◌, Bool, true, false, not, ◌&&◌, ◌||◌, List, [], ◌∷◌, ◌++◌, length, map, Some, None, inl, inr, if◌then◌else◌, refl, sym, ap, ◌∙◌, subst, append-nil, length-append, codes, arith}
 use Rattle.std.specs.List.{list_all}
 use Rattle.std.specs.Str.{bytes_eq}
-use Rattle.std.proofs.lemmas.Bool.{and_parts, and_from}
+use Rattle.std.proofs.lemmas.Bool.{and_parts, and_from, or_parts}
 use Rattle.std.proofs.lemmas.List.{map-append}
 use Rattle.lay_token.specs.Delimiters.{is_opener, is_closer}
 use Rattle.lay_piece.specs.Forms.{opening, closing}
@@ -29,7 +29,7 @@ use Rattle.lay_tree.proofs.Fronts.{closer_kind, passed_first}
 use Rattle.lay_tree.proofs.InText.{only_text, IsText, behind, behind_all, text_one}
 use Rattle.lay_tree.proofs.Steps.{got_same, chosen, bind_some}
 use Rattle.lay_tree.proofs.token_lists.Balance.{same_delim_self, balances_turned, turned_listed}
-use Rattle.lay_tree.proofs.token_lists.Commas.{Commaless, CommaApart, commaless_joined, commaless_none, level_turned, neither}
+use Rattle.lay_tree.proofs.token_lists.Commas.{Commaless, CommaApart, commaless_joined, commaless_none, level_turned}
 use Rattle.lay_tree.proofs.token_lists.Runs.{run_over}
 use Rattle.lay_tree.proofs.token_lists.FromText.{two_rows}
 use Rattle.lay_tree.proofs.token_lists.Grouped.{opener_token, closer_token, flat, list_grouped}
@@ -107,7 +107,7 @@ run_is to_comma within (t ∷ ts) xs rest h =
     nothing (d ∷ within) t h = absurd (cc)
 
     apart : (to_comma : Bool) (within : List Delim) (t : Token) → ends_run to_comma within t ≡ false → CommaApart to_comma (length within) t
-    apart true [] t h = (neither (is_closer t.kind) (ahead.is_mark (codes ",") t) h).1
+    apart true [] t h = (or_parts (is_closer t.kind) (ahead.is_mark (codes ",") t) h).1
     apart true (d ∷ within) t h = refl
     apart false within t h = tt
 

@@ -48,10 +48,14 @@ use Rattle.lay_tree.proofs.reader.TypesFronts.{no_other_op, op_first, no_begins,
 
 -- ---- lists and forms
 
+pub list_opens : (may : Bool) (o c : Bit) (fs : List Form) (depth : ℕ) (ts rest : Tokens) → Spells (comma_list may o c fs) depth ts rest
+    → (inside : Tokens) × IsBit o ts inside
+list_opens may o c [] depth ts rest s = (s.1.0, s.1.1)
+list_opens may o c (f ∷ fs) depth ts rest s = (s.1.0, bit_alone o ts s.1.0 s.1.1)
+
 pub list_front : (o c : Bit) (fs : List Form) (depth : ℕ) (ts rest : Tokens) → Spells (comma_list true o c fs) depth ts rest
     → (inside : Tokens) × IsBit o ts inside
-list_front o c [] depth ts rest s = (s.1.0, s.1.1)
-list_front o c (f ∷ fs) depth ts rest s = (s.1.0, bit_alone o ts s.1.0 s.1.1)
+list_front = list_opens true
 
 pub opened : (f : Form) (depth : ℕ) (ts rest : Tokens) → Spells (deeper f) depth ts rest → (least : ℕ) × (depth ≡ suc least) × Spells f least ts rest
 opened f zero ts rest s = absurd s

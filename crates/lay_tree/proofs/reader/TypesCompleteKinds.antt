@@ -25,7 +25,7 @@ use Rattle.lay_tree.specs.nodes.Types.{TypeFacts, PathFacts, good_at, all_types_
 use Rattle.lay_tree.specs.tokens.Lexed.{is_token_list}
 use Rattle.lay_tree.specs.tokens.Lists.{token_list}
 use Rattle.lay_tree.specs.reader.Attr.{begins_attr}
-use Rattle.lay_tree.specs.reader.Loops.{Read, passed, nodes, deepest, elements, open_elements_from, open_elements}
+use Rattle.lay_tree.specs.reader.Loops.{Read, passed, nodes, deepest, elements, open_elements}
 use Rattle.lay_tree.specs.reader.Tokens.{tokens}
 use Rattle.lay_tree.specs.reader.Types.{Within, flag, path, bounds_by, begins_call, path_type, paren_by, paren_type, array_by, bracket_type, reference_type, is_mutable, pointer_type, bounds_type, is_string_token, func_param, begins_param, func_params, func_type, type_by, within, type_at}
 use Rattle.lay_tree.specs.declared.token.GivenName.{GivenName}
@@ -57,7 +57,7 @@ use Rattle.lay_tree.proofs.reader.TypesComplete.{Fits, fits_clear, follows_fits,
 use Rattle.lay_tree.proofs.reader.TypesCompleteParts.{keyword_there, one_left, blank_left, lifetime_complete, lifetime_alone, flag_complete, binder_complete, abi_complete, param_attrs_rows, attrs_front, param_name_complete}
 use Rattle.lay_tree.proofs.reader.TypesCompletePaths.{path_read, bounds_read, constraint_read}
 use Rattle.lay_tree.proofs.reader.TypesFronts.{lead_no_closer, lead_no_lifetime, lead_no_keyword, lead_no_attr, lead_no_dots, Clear, Ends, comma_ends, closer_ends, semicolon_quiet}
-use Rattle.lay_tree.proofs.reader.TypesLists.{forms_of, paren_closes, some_read, none_read, LastFollows, Ending, open_read}
+use Rattle.lay_tree.proofs.reader.TypesLists.{forms_of, paren_closes, some_read, none_read, last_of_all, Ending, open_none, open_read}
 
 pub inner_of : (f : Form) (depth : ℕ) (ts rest : Tokens) → Spells (deeper f) (suc depth) ts rest → Spells f depth ts rest
 inner_of f depth ts rest s = subst (λ us. Spells f depth ts us) s.2 s.1
@@ -407,11 +407,6 @@ module _ (depth : ℕ) (inner : Within) (reads : Reads depth inner) where
   abbrev Follows : FuncParam → Tokens → Type 0
   Follows p ts = Ends ts
 
-  last_ends : (ps : List FuncParam) (ts : Tokens) → Ends ts → LastFollows Follows ps ts
-  last_ends [] ts e = tt
-  last_ends (p ∷ []) ts e = e
-  last_ends (p ∷ q ∷ ps) ts e = last_ends (q ∷ ps) ts e
-
   abbrev OpenParams : List FuncParam → Bool → Tokens → Tokens → Type 0
   OpenParams ps last ts rest =
       (ys : List (FuncParam × ℕ)) × (nodes ys ≡ ps) × (deepest ys ≤ depth) × (open_elements begins_param (func_param inner) ts ≡ Some ((ys, last), rest))
@@ -424,8 +419,7 @@ module _ (depth : ℕ) (inner : Within) (reads : Reads depth inner) where
       (λ q us at o h. comma_ends us at o) last p ps ts mid end rest (sym (list_all-map (λ (F : Facts). F.good) about_func_param (p ∷ ps)) ∙ g) one s ending
 
   no_params : (ts : Tokens) → begins_param ts ≡ false → OpenParams [] true ts ts
-  unfolding open_elements open_elements_from
-  no_params ts h = ([], refl, omega arith, rw h refl)
+  no_params ts h = ([], refl, omega arith, open_none begins_param (func_param inner) ts h)
 
   closer_no_param : (ts rest : Tokens) → IsOne (Closer Paren) (closing Paren ∷ []) ts rest → (begins_param ts ≡ false) × (is_op (codes "...") ts ≡ false)
   closer_no_param ts rest o =
@@ -482,7 +476,7 @@ module _ (depth : ℕ) (inner : Within) (reads : Reads depth inner) where
         | inl e ↦
             let no_comma : first (is_mark (codes ",")) last.0 ≡ false = rw (one_front (Closer Paren) (closing Paren ∷ []) last.0 rest close).1 refl in
             let r =
-            some_params false p ps inside row.0 more.0 last.0 g row.1 more.1 (e, no_comma, last_ends (p ∷ ps) last.0 (closer_ends Paren last.0 rest close)) in
+            some_params false p ps inside row.0 more.0 last.0 g row.1 more.1 (e, no_comma, last_of_all Ends (p ∷ ps) last.0 (closer_ends Paren last.0 rest close)) in
             params_made (p ∷ ps) false false ts inside last.0 rest o r refl passes
         | inr b ↦
             let here : IsOne Punct (codes ",") more.0 last.0 = bit_alone (Fixed Punct (codes ",")) more.0 last.0 b in

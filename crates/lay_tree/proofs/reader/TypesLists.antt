@@ -226,10 +226,21 @@ LastFollows follows [] ts = Unit {0}
 LastFollows follows (x ∷ []) ts = follows x ts
 LastFollows follows (x ∷ y ∷ ys) ts = LastFollows follows (y ∷ ys) ts
 
+-- What may follow every element may follow the last.
+pub last_of_all : {A : Type 0} (P : Tokens → Type 0) (xs : List A) (ts : Tokens) → P ts → LastFollows (λ (x : A) us. P us) xs ts
+last_of_all P [] ts p = tt
+last_of_all P (x ∷ []) ts p = p
+last_of_all P (x ∷ y ∷ ys) ts p = last_of_all P (y ∷ ys) ts p
+
 -- what stands behind the last element, with a comma or without one
 abbrev pub Ending : {A : Type 0} → (Tokens → Bool) → (A → Tokens → Type 0) → Bool → List A → Tokens → Tokens → Type 0
 Ending begins follows true xs ts rest = IsOne Punct (codes ",") ts rest × (begins rest ≡ false)
 Ending begins follows false xs ts rest = (ts ≡ rest) × (first (is_mark (codes ",")) rest ≡ false) × LastFollows follows xs rest
+
+pub open_none : {A : Type 0} (begins : Tokens → Bool) (read : Tokens → Read A) (ts : Tokens) → begins ts ≡ false
+    → open_elements begins read ts ≡ Some (([], true), ts)
+unfolding open_elements open_elements_from
+open_none begins read ts h = rw h refl
 
 module _ {A : Type 0} (begins : Tokens → Bool) (read : Tokens → Read A) (spelling : A → Form) (good : A → Bool) (follows : A → Tokens → Type 0) (depth : ℕ)
     (reads : (x : A) (ts rest : Tokens) → Spells (spelling x) depth ts rest → good x ≡ true → follows x rest → IsRead depth read x ts rest)

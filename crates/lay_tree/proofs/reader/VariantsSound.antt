@@ -1,8 +1,8 @@
 -- Variants of enumerations: what is read within a budget stands there, at the depth that it needs. The tokens of a
 -- discriminant are a token list since a comma or a closer stands behind them, so variants are told as elements of a list.
-use Rattle.std.proofs.Common.{◌≡◌, ℕ, zero, suc, ◌≤◌, Bool, true, false, not, ◌&&◌, ◌||◌, List, [], ◌∷◌, ◌++◌, length, map, drop, codes, Option, Some, None, inl, inr, refl, sym, ap, subst, ◌∙◌, if◌then◌else◌, arith}
+use Rattle.std.proofs.Common.{◌≡◌, ℕ, zero, suc, ◌≤◌, Bool, true, false, not, ◌&&◌, List, [], ◌∷◌, ◌++◌, length, map, drop, codes, Option, Some, None, inl, inr, refl, sym, ap, subst, ◌∙◌, if◌then◌else◌, arith}
 use Rattle.std.specs.List.{list_all}
-use Rattle.std.proofs.lemmas.Bool.{and_from}
+use Rattle.std.proofs.lemmas.Bool.{and_from, or_right}
 use Rattle.lay_piece.specs.declared.kind.Delim.{Delim}
 use Rattle.lay_piece.specs.declared.kind.Delim.TheVariants.{Brace}
 use Rattle.lay_token.specs.Delimiters as delimiters
@@ -70,16 +70,12 @@ elements_before_end closed one ts r h = from_before_end closed one (suc (length 
 end_ends : (d : Delim) (ts next : Tokens) → element_end (closes d) ts ≡ Some next → EndsRun true ts
 end_ends d [] next h = absurd (cc)
 end_ends d (t ∷ ts) next h = elim (chosen (is_mark (codes ",") t) (Some ts) (if closes d t then Some (t ∷ ts) else None) (Some next) h) [
-  | inl g ↦ or_second (delimiters.is_closer t.kind) (is_mark (codes ",") t) g.0
+  | inl g ↦ or_right (delimiters.is_closer t.kind) (is_mark (codes ",") t) g.0
   | inr g ↦ elim (chosen (closes d t) (Some (t ∷ ts)) None (Some next) g.1) [
     | inl f ↦ rw (ap delimiters.is_closer (closer_kind d t.kind f.0)) refl
     | inr f ↦ absurd (cc)
   ]
 ]
-  where
-    or_second : (a b : Bool) → b ≡ true → (a || b) ≡ true
-    or_second true b h = refl
-    or_second false b h = h
 
 -- ---- discriminants
 

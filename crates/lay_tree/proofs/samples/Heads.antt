@@ -63,7 +63,7 @@ use Rattle.lay_tree.proofs.nodes.ItemLaws as items
 use Rattle.lay_tree.proofs.nodes.PatternsLaws as pats
 use Rattle.lay_tree.proofs.nodes.TypesLaws as types
 use Rattle.lay_tree.proofs.samples.Tokens as list
-use Rattle.lay_tree.proofs.samples.Trees.{named, plain, A, a, b, c, no_generics, no_wheres, about, laid, word, mark}
+use Rattle.lay_tree.proofs.samples.Trees.{named, plain, A, a, b, c, no_generics, no_wheres, about, laid}
 use Rattle.lay_tree.proofs.samples.Types.{local, local_facts, local_is, B, B_is, named_is, meeting, meeting_is}
 
 -- ---- trees

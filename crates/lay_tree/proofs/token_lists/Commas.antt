@@ -1,5 +1,6 @@
 -- Commas outside the groups of a list, told token by token.
 use Rattle.std.proofs.Common.{◌≡◌, ℕ, Bool, true, false, ◌&&◌, ◌||◌, List, [], ◌∷◌, codes, length, Some, refl, sym, ap, ◌∙◌}
+use Rattle.std.proofs.lemmas.Bool.{and_right, or_parts}
 use Rattle.lay_piece.specs.declared.kind.Delim.{Delim}
 use Rattle.lay_piece.specs.declared.kind.Kind.{Kind}
 use Rattle.lay_piece.specs.declared.kind.Kind.TheVariants.{Opener, Closer, Doc}
@@ -19,27 +20,19 @@ abbrev pub CommaApart : Bool → ℕ → Token → Type 0
 CommaApart true level t = (is_outside level && is_mark (codes ",") t) ≡ false
 CommaApart false level t = Unit {0}
 
-no_and : (a : Bool) → (a && false) ≡ false
-no_and true = refl
-no_and false = refl
-
 first_comma : (level : ℕ) (t : Token) (us : List Listed)
     → has_comma level (as_listed t ∷ us) ≡ ((is_outside level && is_mark (codes ",") t) || has_comma (level_behind t.kind level) us)
 first_comma level t us = by t.kind
   where
     by : (k : Kind) → has_comma level (listed_by k t.text t.joint ∷ us)
         ≡ ((is_outside level && is_comma k t.text) || has_comma (level_behind k level) us)
-    by (Doc inner block) = sym (ap (λ b. b || has_comma level us) (no_and (is_outside level)))
+    by (Doc inner block) = sym (ap (λ b. b || has_comma level us) (and_right (is_outside level) false refl))
     by _ = refl
-
-pub neither : (a b : Bool) → (a || b) ≡ false → (a ≡ false) × (b ≡ false)
-neither true b h = absurd (cc)
-neither false b h = (refl, h)
 
 pub commaless_parts : (to_comma : Bool) (level : ℕ) (t : Token) (us : List Listed) → Commaless to_comma level (as_listed t ∷ us)
     → CommaApart to_comma level t × Commaless to_comma (level_behind t.kind level) us
 commaless_parts true level t us c =
-    neither (is_outside level && is_mark (codes ",") t) (has_comma (level_behind t.kind level) us) (sym (first_comma level t us) ∙ c)
+    or_parts (is_outside level && is_mark (codes ",") t) (has_comma (level_behind t.kind level) us) (sym (first_comma level t us) ∙ c)
 commaless_parts false level t us c = (tt, tt)
 
 pub commaless_joined : (to_comma : Bool) (level : ℕ) (t : Token) (us : List Listed) → CommaApart to_comma level t

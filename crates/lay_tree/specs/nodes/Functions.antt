@@ -1,5 +1,5 @@
 -- The heads of functions (Rust Reference, "Functions", "External blocks").
-use Rattle.std.specs.Prelude.{ℕ, ◌&&◌, not, Bool, true, false, List, [], ◌∷◌, map, codes, Option, Some, None}
+use Rattle.std.specs.Prelude.{◌&&◌, not, Bool, true, false, List, [], ◌∷◌, map, codes, Option, Some, None}
 use Rattle.std.specs.List.{list_all}
 use Rattle.lay_piece.specs.declared.kind.Delim.TheVariants.{Paren}
 use Rattle.lay_piece.specs.declared.kind.Kind.TheVariants as kind
