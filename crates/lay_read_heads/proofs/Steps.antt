@@ -1,12 +1,21 @@
 -- One step of a reader, from what the readers within it give.
-use Rattle.std.proofs.Common.{◌≡◌, max, if◌then◌else◌, codes, Some, refl}
+use Rattle.std.proofs.Common.{◌≡◌, ◌<◌, max, true, if◌then◌else◌, List, [], ◌∷◌, length, codes, Some, refl, arith}
 use Rattle.lay_piece.specs.declared.kind.Delim.TheVariants.{Paren}
 use Rattle.lay_tree.specs.Ahead.{Tokens, first, opens}
+use Rattle.lay_tree.specs.nodes.Functions.{varies_last}
 use Rattle.lay_tree.specs.reader.Fields.{variants}
 use Rattle.lay_tree.specs.reader.Heads as r
 use Rattle.lay_tree.specs.reader.Loops.{◌>>=◌}
 use Rattle.lay_tree.specs.reader.Types.{Within}
 use Rattle.lay_tree.specs.reader.Where.{wheres}
+use Rattle.lay_tree.specs.declared.functions.Param.{Param}
+
+-- ---- parameters
+
+pub short_varies : (ps : List Param) → length ps < 2 → varies_last ps ≡ true
+short_varies [] h = refl
+short_varies (p ∷ []) h = refl
+short_varies (p ∷ q ∷ ps) h = absurd (omega arith)
 
 -- ---- structs and enumerations, whose names in the code would be keywords
 

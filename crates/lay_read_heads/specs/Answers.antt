@@ -1,21 +1,28 @@
 -- What readers of heads answer.
-use Rattle.std.specs.Prelude.{ℕ, max, not, Bool, if◌then◌else◌, List, drop, Some}
+use Rattle.std.specs.Prelude.{ℕ, max, not, Bool, if◌then◌else◌, List, drop, Some, None}
 use Rattle.std.specs.List.{list_all}
 use Rattle.lay_tree.specs.Ahead.{Tokens}
-use Rattle.lay_tree.specs.nodes.Functions.{is_receiver}
+use Rattle.lay_tree.specs.nodes.Functions.{is_receiver, may_say}
 use Rattle.lay_tree.specs.nodes.Vis.{restricts_in}
 use Rattle.lay_tree.specs.reader.Fields.{named_fields}
+use Rattle.lay_tree.specs.reader.Functions.{fn_params, head_output}
+use Rattle.lay_tree.specs.reader.Generics.{generics}
 use Rattle.lay_tree.specs.reader.Loops.{Got, Read, ◌>>=◌}
+use Rattle.lay_tree.specs.reader.Patterns.{PatWithin}
 use Rattle.lay_tree.specs.reader.Types.{Within}
 use Rattle.lay_tree.specs.reader.Vis.{vis_path}
 use Rattle.lay_tree.specs.declared.fields.Fields.TheVariants as fields
+use Rattle.lay_tree.specs.reader.Words.{name}
+use Rattle.lay_tree.specs.declared.functions.FnHead.{FnHead}
 use Rattle.lay_tree.specs.declared.functions.Param.{Param}
 use Rattle.lay_tree.specs.declared.generics.Generics.{Generics}
 use Rattle.lay_tree.specs.declared.generics.Wheres.{Wheres}
+use Rattle.lay_tree.specs.declared.heads.Site.{Site}
 use Rattle.lay_tree.specs.declared.heads.Struct.{Struct}
 use Rattle.lay_tree.specs.declared.token.Name.{Name}
 use Rattle.lay_tree.specs.declared.vis.Vis.{Vis}
 use Rattle.lay_tree.specs.declared.vis.Vis.TheVariants as vis
+use Rattle.lay_read_heads.specs.declared.functions.Qualifiers.{Qualifiers}
 
 -- what stands behind `pub`, where it is no word in parentheses
 abbrev pub vis_in : Tokens → Got Vis
@@ -29,3 +36,29 @@ abbrev pub named_struct : Within → (Name × Generics) × ℕ → (Wheres × Bo
 named_struct within c w ts = do
   fs ← named_fields within ts
   Some ((record { name = c.0.0; generics = c.0.1; fields = fields.Named fs.0.0; wheres = w.0.0 }, max c.1 (max w.1 fs.0.1)), fs.1)
+
+-- the head of a function, behind its `fn`
+abbrev pub named_fn : Site → PatWithin → Qualifiers → Tokens → Read FnHead
+named_fn site within q ts = do
+  n ← name ts
+  g ← generics within.kinds n.1
+  ps ← fn_params within g.1
+  o ← head_output within.kinds ps.1
+  if may_say site q.safety
+      then Some (
+        (
+          record {
+            is_const = q.is_const;
+            is_async = q.is_async;
+            safety = q.safety;
+            abi = q.abi;
+            name = n.0;
+            generics = g.0.0.0;
+            params = ps.0.0;
+            output = o.0.0;
+          },
+          max g.0.1 (max ps.0.1 o.0.1),
+        ),
+        o.1,
+      )
+      else None
