@@ -193,9 +193,12 @@ fn has_output(args: &Args) -> bool
 fn returns_last(segments: &[(Word, Args)]) -> bool
     ensures { result ≡ reader.returns_last segments.now }
 {
-    match segments {
-        [] => true,
-        [_] => true,
-        [first, _, ..] => !has_output(&first.1) && returns_last(&segments[1..]),
+    let mut rest = segments;
+    while let [segment, behind @ ..] = rest {
+        if !behind.is_empty() && has_output(&segment.1) {
+            return false;
+        }
+        rest = behind;
     }
+    true
 }
