@@ -78,7 +78,3 @@ angle_lost w ts mid h e n =
 
 -- ---- paths
 
-pub short_last : (xs : List (Word × Args)) → length xs < 2 → returns_last xs ≡ true
-short_last [] h = refl
-short_last (x ∷ []) h = refl
-short_last (x ∷ y ∷ xs) h = absurd (omega arith)
