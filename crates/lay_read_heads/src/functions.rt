@@ -8,7 +8,7 @@ ghost use Rattle.lay_tree.specs.reader.Loops.{open_elements};
 ghost use Rattle.lay_tree.specs.reader.Types.{within};
 ghost use Rattle.lay_read_tokens.specs.Answers.{IsFound, IsGot};
 ghost use Rattle.lay_read_parts.specs.Answers.{gathered_open};
-ghost use Rattle.lay_read_heads.specs.Answers.{named_fn, none_receives};
+ghost use Rattle.lay_read_heads.specs.Answers.{closed_params, named_fn, none_receives, qualifiers, with_abi};
 
 use crate::level::{Level, kept_if, takes_flag, type_if};
 use lay_read_parts::joins::both;
@@ -295,8 +295,22 @@ fn are_in_order(params: &[Param], comma: bool) -> bool
     receives_first(params) && varies_last(params) && !(ends_variadic(params) && comma)
 }
 
+/// Parameters, if they stand in order, and the `)` behind them.
+fn closed_params(
+    at: &mut Ahead<'_>,
+    found: Found<(List<Param>, bool)>,
+) -> Result<Found<List<Param>>, ReadNone>
+    ensures read { IsFound (closed_params (found.node, found.need) at.old) result at.new }
+    ensures within { IfOk result (λ params. params.need ≡ found.need) }
+{
+    let Found { node, need } = found;
+    let (params, comma) = node;
+    let keeps = takes_closer(at, Delim::Paren) && are_in_order(params.as_slice(), comma);
+    kept_if(Found { node: params, need }, keeps)
+}
+
 /// The parameters of a function.
-#[tactic(auto, unfolding(lay_tree::specs::reader::Functions::fn_params))]
+#[tactic(auto, using(crate::proofs::Steps::fn_params_is))]
 fn fn_params(alloc: Global, at: &mut Ahead<'_>, depth: u32) -> Result<Found<List<Param>>, ReadNone>
     ensures read { IsFound (reader.fn_params (insides depth) at.old) result at.new }
     ensures within { IfOk result (λ found. found.need ≤ depth) }
@@ -304,10 +318,8 @@ fn fn_params(alloc: Global, at: &mut Ahead<'_>, depth: u32) -> Result<Found<List
     if !takes_opener(at, Delim::Paren) {
         return Err(ReadNone::NoReading);
     }
-    let Found { node, need } = open_params(alloc, at, depth)?;
-    let (params, comma) = node;
-    let keeps = takes_closer(at, Delim::Paren) && are_in_order(params.as_slice(), comma);
-    kept_if(Found { node: params, need }, keeps)
+    let found = open_params(alloc, at, depth)?;
+    closed_params(at, found)
 }
 
 /// A return type, if one stands there.
@@ -392,8 +404,39 @@ fn named_fn(
     )
 }
 
+/// What stands before `fn`, behind what is said of safety, and `fn` itself.
+fn with_abi(
+    alloc: Global,
+    at: &mut Ahead<'_>,
+    is_const: bool,
+    is_async: bool,
+    safety: Option<Safety>,
+) -> Result<Qualifiers, ReadNone>
+    ensures { IsGot (with_abi is_const is_async safety at.old) result at.new }
+{
+    let abi = read_abi_if(alloc, at)?;
+    let keeps = takes_keyword(at, b"fn");
+    let before = Qualifiers {
+        is_const,
+        is_async,
+        safety,
+        abi,
+    };
+    kept_if(before, keeps)
+}
+
+/// What stands before `fn`, and `fn` itself.
+fn read_qualifiers(alloc: Global, at: &mut Ahead<'_>) -> Result<Qualifiers, ReadNone>
+    ensures { IsGot (qualifiers at.old) result at.new }
+{
+    let is_const = takes_flag(at, b"const");
+    let is_async = takes_flag(at, b"async");
+    let safety = take_safety(at);
+    with_abi(alloc, at, is_const, is_async, safety)
+}
+
 /// The head of a function, with what is within it within the depth.
-#[tactic(auto, unfolding(lay_tree::specs::reader::Functions::fn_head))]
+#[tactic(auto, using(crate::proofs::Steps::fn_head_is))]
 pub fn fn_head_ahead(
     alloc: Global,
     at: &mut Ahead<'_>,
@@ -403,18 +446,6 @@ pub fn fn_head_ahead(
     ensures read { IsFound (reader.fn_head site (insides depth) at.old) result at.new }
     ensures within { IfOk result (λ found. found.need ≤ depth) }
 {
-    let is_const = takes_flag(at, b"const");
-    let is_async = takes_flag(at, b"async");
-    let safety = take_safety(at);
-    let abi = read_abi_if(alloc, at)?;
-    if !takes_keyword(at, b"fn") {
-        return Err(ReadNone::NoReading);
-    }
-    let before = Qualifiers {
-        is_const,
-        is_async,
-        safety,
-        abi,
-    };
+    let before = read_qualifiers(alloc, at)?;
     named_fn(alloc, at, site, before, depth)
 }
