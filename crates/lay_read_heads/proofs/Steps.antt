@@ -1,8 +1,7 @@
 -- One step of a reader, from what the readers within it give.
-use Rattle.std.proofs.Common.{◌≡◌, ℕ, ◌<◌, max, Bool, true, false, if◌then◌else◌, List, [], ◌∷◌, length, codes, Option, Some, None, refl, sym, ap, ◌∙◌, arith}
+use Rattle.std.proofs.Common.{◌≡◌, ℕ, max, Bool, true, false, if◌then◌else◌, List, codes, Option, Some, None, refl, sym, ap, ◌∙◌}
 use Rattle.lay_piece.specs.declared.kind.Delim.TheVariants.{Paren}
 use Rattle.lay_tree.specs.Ahead.{Tokens, first, tail, is_keyword, opens, closes}
-use Rattle.lay_tree.specs.nodes.Functions.{varies_last}
 use Rattle.lay_tree.specs.reader.Fields.{variants}
 use Rattle.lay_tree.specs.reader.Functions.{are_in_order, async_flag, begins_fn_param, const_flag, fn_head, fn_param, fn_params, safety_at, safety_behind}
 use Rattle.lay_tree.specs.reader.Heads as r
@@ -19,11 +18,6 @@ use Rattle.lay_read_heads.specs.Answers.{closed_params, named_fn, qualifiers, wi
 use Rattle.lay_read_heads.specs.declared.functions.Qualifiers.{Qualifiers}
 
 -- ---- parameters
-
-pub short_varies : (ps : List Param) → length ps < 2 → varies_last ps ≡ true
-short_varies [] h = refl
-short_varies (p ∷ []) h = refl
-short_varies (p ∷ q ∷ ps) h = absurd (omega arith)
 
 pub fn_params_is : (w : PatWithin) (ts : Tokens) → fn_params w ts
     ≡ (passed (opens Paren) ts >>= (λ inside. gathered_open (open_elements begins_fn_param (fn_param w) inside)

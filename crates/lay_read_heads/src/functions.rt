@@ -250,10 +250,14 @@ fn is_variadic(kind: &ParamKind) -> bool
 fn none_receives(params: &[Param]) -> bool
     ensures { result ≡ none_receives params.now }
 {
-    match params {
-        [] => true,
-        [first, ..] => !is_receiver(&first.kind) && none_receives(&params[1..]),
+    let mut rest = params;
+    while let [param, behind @ ..] = rest {
+        if is_receiver(&param.kind) {
+            return false;
+        }
+        rest = behind;
     }
+    true
 }
 
 /// Whether a receiver stands first alone.
@@ -270,22 +274,28 @@ fn receives_first(params: &[Param]) -> bool
 fn ends_variadic(params: &[Param]) -> bool
     ensures { result ≡ nodes.ends_variadic params.now }
 {
-    match params {
-        [] => false,
-        [last] => is_variadic(&last.kind),
-        [_, _, ..] => ends_variadic(&params[1..]),
+    let mut rest = params;
+    while let [param, behind @ ..] = rest {
+        if behind.is_empty() {
+            return is_variadic(&param.kind);
+        }
+        rest = behind;
     }
+    false
 }
 
 /// Whether none but the last parameter takes further arguments.
 fn varies_last(params: &[Param]) -> bool
     ensures { result ≡ nodes.varies_last params.now }
 {
-    match params {
-        [] => true,
-        [_] => true,
-        [first, _, ..] => !is_variadic(&first.kind) && varies_last(&params[1..]),
+    let mut rest = params;
+    while let [param, behind @ ..] = rest {
+        if !behind.is_empty() && is_variadic(&param.kind) {
+            return false;
+        }
+        rest = behind;
     }
+    true
 }
 
 /// Whether parameters stand in order, and no comma behind one that takes further arguments.
