@@ -11,6 +11,7 @@ ghost use Rattle.lay_read_parts.specs.Answers.{gathered_open};
 ghost use Rattle.lay_read_heads.specs.Answers.{closed_params, named_fn, none_receives, qualifiers, with_abi};
 
 use crate::level::{Level, kept_if, takes_flag, type_if};
+use lay_read_generics::generics_ahead;
 use lay_read_parts::joins::both;
 use lay_read_parts::leads::is_at_lifetime;
 use lay_read_parts::loops::{Opening, Part, read_open_elements};
@@ -24,7 +25,7 @@ use lay_read_tokens::front::{
 };
 use lay_read_tokens::names::read_name;
 use lay_read_tokens::{Ahead, Found, ReadNone};
-use lay_read_types::{generics_ahead, type_ahead};
+use lay_read_types::type_ahead;
 use lay_token::{Delim, List};
 use lay_tree::{Abi, FnHead, Param, ParamKind, Pat, PatPlace, Safety, Site, Ty, TypePlace};
 use std::alloc::Global;

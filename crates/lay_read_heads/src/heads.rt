@@ -11,6 +11,7 @@ ghost use Rattle.lay_read_heads.specs.Answers.{named_struct};
 
 use crate::fields::{named_fields_ahead, tuple_fields_ahead, variants_ahead};
 use crate::level::{kept_if, met_if, takes_flag, type_if};
+use lay_read_generics::{generics_ahead, wheres_ahead};
 use lay_read_parts::joins::both;
 use lay_read_pats::facts::{is_name, is_self};
 use lay_read_tokens::found::greater;
@@ -19,7 +20,7 @@ use lay_read_tokens::front::{
 };
 use lay_read_tokens::names::{read_given_name, read_name, read_word};
 use lay_read_tokens::{Ahead, Found, ReadNone};
-use lay_read_types::{generics_ahead, path_ahead, type_ahead, wheres_ahead};
+use lay_read_types::{path_ahead, type_ahead};
 use lay_token::Delim;
 use lay_tree::{
     Alias, Enum, ExternCrate, Fields, Generics, GivenName, ImplHead, Name, PathStyle, Site, Struct,
