@@ -77,4 +77,3 @@ angle_lost w ts mid h e n =
     rw h (gathered_lost (elements (is_mark (codes ">")) (one_arg w) (tail ts)) _ here)
 
 -- ---- paths
-
