@@ -1,4 +1,4 @@
--- The streams of the heads of traits, implementations, constants and statics, and of the items that are heads alone.
+-- The streams of the heads of traits, of implementations, and of constants and statics.
 use Rattle.std.proofs.Common.{◌≡◌, ℕ, Bool, true, false, cond, List, [], ◌∷◌, ◌++◌, codes, Option, Some, None, refl, sym, ap, ◌∙◌, append_assoc, append-nil}
 use Rattle.lay_layout.specs.declared.layout.Tok.{Tok}
 use Rattle.lay_layout.specs.declared.layout.Tok.TheVariants as tok
@@ -57,15 +57,21 @@ unsafe_word : (is_unsafe : Bool) (f : Form)
     ≡ stream_of (when is_unsafe (keyword (codes "unsafe") ∷ Blank ∷ []) f)
 unsafe_word is_unsafe f = when_more is_unsafe (keyword (codes "unsafe") ∷ Blank ∷ []) (codes "unsafe ") f (λ g. refl)
 
+trait_head_by : (x : TraitHead)
+    → cond x.is_unsafe (tok.Text (codes "unsafe ") ∷ []) []
+    ++ (called_row (codes "trait ") x.name x.generics ++ stream_of (bounded_form x.bounds))
+    ≡ stream_of (trait_head_form x)
+trait_head_by x =
+    let bounds = Part (bounded_form x.bounds) Done in
+    ap (λ (s : List Tok). cond x.is_unsafe (tok.Text (codes "unsafe ") ∷ []) [] ++ s)
+    (called_is (codes "trait") (codes "trait ") x.name x.generics bounds (λ g. refl) (steady_bounds x.bounds))
+    ∙ unsafe_word x.is_unsafe (called (codes "trait") x.name.raw x.name.text x.generics bounds)
+
 pub trait_head_is : (x : TraitHead) (put : List Bound) → put ≡ x.bounds
     → cond x.is_unsafe (tok.Text (codes "unsafe ") ∷ []) []
     ++ (called_row (codes "trait ") x.name x.generics ++ stream_of (bounded_form put))
     ≡ stream_of (trait_head_form x)
-trait_head_is x put e =
-    let bounds = Part (bounded_form x.bounds) Done in
-    rw e (ap (λ (s : List Tok). cond x.is_unsafe (tok.Text (codes "unsafe ") ∷ []) [] ++ s)
-    (called_is (codes "trait") (codes "trait ") x.name x.generics bounds (λ g. refl) (steady_bounds x.bounds))
-    ∙ unsafe_word x.is_unsafe (called (codes "trait") x.name.raw x.name.text x.generics bounds))
+trait_head_is x put e = rw e (trait_head_by x)
 
 abbrev for_word : Form → Form
 for_word f = Piece (Blank ∷ keyword (codes "for") ∷ Blank ∷ []) f

@@ -110,27 +110,6 @@ pub may_close_braces : {S F T : Type 0} {m : Meanings S F} {a b : S} {p q : Resu
 may_close_braces {p} {q} lead es bare is h =
     on_ok q (λ x e. braces_nested lead es bare _ _ is (level_behind p q x h e))
 
--- what opens the braces and what closes them, as it is put
-pub line_first : (lead first : Bool) → first ≡ true
-    → tok.Text (cond lead (codes " {") (codes "{")) ∷ tok.Break (break_of Never) ∷ tok.Begin true (pos 4) ∷
-    tok.Break (break_of (Hard false)) ∷ [] ≡ cond first (fields_opened lead) fields_between
-line_first lead true is = refl
-line_first lead false is = cc
-
-pub line_next : (lead first : Bool) → first ≡ false
-    → tok.Text (codes ",") ∷ tok.Break (break_of (Hard false)) ∷ [] ≡ cond first (fields_opened lead) fields_between
-line_next lead true is = cc
-line_next lead false is = refl
-
-pub bare_closed : (lead bare : Bool) → bare ≡ true
-    → tok.Text (cond lead (codes " {}") (codes "{}")) ∷ [] ≡ fields_closed lead bare
-bare_closed lead true is = refl
-bare_closed lead false is = cc
-
-pub full_closed : (lead bare : Bool) → bare ≡ false → tok.Text (codes ",") ∷ closes ≡ fields_closed lead bare
-full_closed lead true is = cc
-full_closed lead false is = refl
-
 -- ---- what stands behind a visibility, and heads
 
 ends_plain : (v : Vis) → ends_behind_point false (vis_form v) ≡ false

@@ -1,20 +1,15 @@
 -- Forms that are fed alike behind a point and elsewhere.
-use Rattle.std.proofs.Common.{◌≡◌, ℕ, Bool, true, false, List, [], ◌∷◌, ◌++◌, map, Option, Some, None, refl, ap, ◌∙◌}
+use Rattle.std.proofs.Common.{◌≡◌, Bool, true, false, List, [], ◌∷◌, ◌++◌, map, Option, Some, None, refl, ap, ◌∙◌}
 use Rattle.lay_layout.specs.declared.layout.Tok.{Tok}
 use Rattle.lay_piece.specs.declared.kind.Delim.TheVariants.{Paren}
 use Rattle.lay_form.specs.Form.{Form, Part, closer, opener, semicolon}
 use Rattle.lay_form.specs.Layout.{ends_behind_point}
 use Rattle.lay_form.specs.Notation.{comma_list, fields, piece, where_body, where_semicolon}
 use Rattle.lay_form.specs.Stream.{fed, stream_of}
-use Rattle.lay_tree.specs.Words.{leaf_of}
-use Rattle.lay_tree.specs.nodes.Fields.{blank_if, discriminant_form, field_form, fields_form, tuple_field_form}
+use Rattle.lay_tree.specs.nodes.Fields.{blank_if, discriminant_form}
 use Rattle.lay_tree.specs.nodes.Functions.{head_output}
-use Rattle.lay_tree.specs.nodes.Generics.{bounded_form, generics_form}
+use Rattle.lay_tree.specs.nodes.Generics.{bounded_form}
 use Rattle.lay_tree.specs.nodes.Where.{predicate_form, wheres_before_body, wheres_before_semicolon}
-use Rattle.lay_tree.specs.declared.fields.Fields.{Fields}
-use Rattle.lay_tree.specs.declared.fields.Fields.TheVariants as variant
-use Rattle.lay_tree.specs.declared.generics.GenericParam.{GenericParam}
-use Rattle.lay_tree.specs.declared.generics.Generics.{Generics}
 use Rattle.lay_tree.specs.declared.generics.Wheres.{Wheres}
 use Rattle.lay_tree.specs.declared.token.Listed.{Listed}
 use Rattle.lay_tree.specs.declared.types.Bound.{Bound}
@@ -31,18 +26,6 @@ steady_part e f any more q =
     ∙ ap (λ (s : List Tok). s ++ fed (ends_behind_point q e) f []) (any q)
     ∙ ap (λ (s : List Tok). stream_of e ++ s) (more (ends_behind_point q e))
     ∙ part_more e f more
-
-pub steady_leaf : (raw : Bool) (text : List ℕ) (f : Form) → Steady (leaf_of raw text f)
-steady_leaf true text f q = refl
-steady_leaf false text f q = refl
-
-pub steady_generics : (generics : Generics) → Steady (generics_form generics)
-steady_generics generics = by generics.params
-  where
-    by : (ps : List GenericParam) → Steady (generics_form (record { params = ps }))
-    by [] q = refl
-    by (p ∷ ps) true = refl
-    by (p ∷ ps) false = refl
 
 pub steady_bounds : (bounds : List Bound) → Steady (bounded_form bounds)
 steady_bounds [] q = refl
@@ -68,11 +51,6 @@ steady_braces false (e ∷ []) true = refl
 steady_braces true (e ∷ f ∷ es) true = refl
 steady_braces false (e ∷ f ∷ es) true = refl
 steady_braces lead es false = refl
-
-pub steady_fields : (lead : Bool) (x : Fields) → Steady (fields_form lead x)
-steady_fields lead variant.Unit q = refl
-steady_fields lead (variant.Tuple fs) q = steady_parens true (map tuple_field_form fs) q
-steady_fields lead (variant.Named fs) q = steady_braces lead (map field_form fs) q
 
 pub steady_discriminant : (x : Option (List Listed)) → Steady (discriminant_form x)
 steady_discriminant None q = refl
