@@ -35,12 +35,11 @@ impl Level {
         ensures within { IfOk result (λ found. found.need ≤ self.now.depth) }
     {
         let binder = read_binder_if(self.alloc, at)?;
-        let place = TypePlace::Bounds;
-        let (binder, ty) = both(binder, type_ahead(self.alloc, at, place, self.depth))?;
+        let ty = type_ahead(self.alloc, at, TypePlace::Bounds, self.depth)?;
         if !takes_op(at, b":") {
-            return refused((binder, ty));
+            return refused(ty);
         }
-        let ((binder, ty), bounds) = both((binder, ty), self.met(at))?;
+        let (ty, bounds) = both(ty, self.met(at))?;
         Ok(Found {
             need: greater(ty.need, bounds.need),
             node: Predicate::Bounded {

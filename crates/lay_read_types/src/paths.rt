@@ -9,7 +9,7 @@ ghost use Rattle.lay_read_parts.specs.Answers.{gathered};
 ghost use Rattle.lay_read_types.specs.Answers.{AreDeeper};
 
 use crate::rules::Rules;
-use lay_read_parts::joins::{both, refused};
+use lay_read_parts::joins::{both, none_of, refused};
 use lay_read_parts::loops::{Joint, Part, read_chain};
 use lay_read_tokens::found::greater;
 use lay_read_tokens::front::{is_at_mark, takes_colons, takes_keyword, takes_mark};
@@ -173,7 +173,7 @@ pub fn into_path(ty: Ty) -> Option<Path>
 {
     match ty {
         Ty::Path { path } => Some(path),
-        _ => None,
+        other => none_of(other),
     }
 }
 
@@ -193,9 +193,12 @@ fn has_output(args: &Args) -> bool
 fn returns_last(segments: &[(Word, Args)]) -> bool
     ensures { result ≡ reader.returns_last segments.now }
 {
-    match segments {
-        [] => true,
-        [_] => true,
-        [first, _, ..] => !has_output(&first.1) && returns_last(&segments[1..]),
+    let mut rest = segments;
+    while let [segment, behind @ ..] = rest {
+        if !behind.is_empty() && has_output(&segment.1) {
+            return false;
+        }
+        rest = behind;
     }
+    true
 }

@@ -72,10 +72,6 @@ leads wheres = not (is_there wheres.predicates)
 abbrev pub called : List ℕ → Bool → List ℕ → Generics → Form → Form
 called word raw text generics f = Piece (keyword word ∷ Blank ∷ []) (leaf_of raw text (Part (generics_form generics) f))
 
--- a head with a visibility before it
-abbrev pub seen : Vis → HeadFacts → Form
-seen v x = notation.I0 (Part (vis_form v) x.head) x.tail
-
 -- ---- what is outside
 
 -- a name, or `self`

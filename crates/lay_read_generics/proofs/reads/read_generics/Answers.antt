@@ -1,4 +1,4 @@
-use Rattle.std.proofs.Common.{◌≡◌, suc, ◌+◌, ◌<◌, ◌&&◌, ◌||◌, not, Bool, List, map, refl, ◌∙◌, add-one, arith}
+use Rattle.std.proofs.Common.{◌≡◌, suc, ◌<◌, ◌&&◌, ◌||◌, not, Bool, refl, ◌∙◌, arith}
 use Rattle.std.proofs.lemmas.Result.{err_from_is_err_and}
 use Rattle.lay_tree.specs.nodes.Generics.{GenericsAt, generics_follow, generics_spelled, is_generics}
 use Rattle.lay_tree.specs.nodes.Types.{deeper, is_there}

@@ -1,4 +1,4 @@
-use Rattle.std.proofs.Common.{◌≡◌, suc, ◌+◌, ◌<◌, ◌&&◌, ◌||◌, not, Bool, List, map, refl, ◌∙◌, add-one, arith}
+use Rattle.std.proofs.Common.{◌≡◌, suc, ◌<◌, Bool, map, refl, ◌∙◌, arith}
 use Rattle.std.proofs.lemmas.Result.{err_from_is_err_and}
 use Rattle.lay_form.specs.LastParts.{last_follows}
 use Rattle.lay_form.specs.Notation.{wheres_spelled}
