@@ -31,6 +31,13 @@ SOURCES = [
     "mod a { " * 100 + "use b;" + " }" * 100,
     "use " + "{a, " * 100 + "b" + "}" * 100 + ";",
     "struct A;\r\n\r\nstruct B;\r\n",
+    "extern crate self as a; pub mod b; pub(in c::d) type E<'f, G: H = I, const J: K = 1>: L = M where N: O, 'f: 'f;",
+    "pub struct A<B>(#[c] pub D, pub (E)) where F: G; struct H { #[i] pub(super) j: K, l: M } union N where O: { p: Q }",
+    "enum A { #[b] C, D(E, F), G { h: I } = 1 << 2, J = { [k, l] }, }",
+    "unsafe trait A<B>: C + ?D where E: F { #![g] fn h(&'i mut self, #[j] (k, l): M) -> N where O: P; const Q: R; type S: T; u!(); }",
+    "unsafe impl<A> !B<C> for &D where A: B { #![e] type F<G> = H where G: I; }",
+    "unsafe extern \"C\" { pub fn a(b: c, ...) -> d; safe fn e(); static mut f: g; type h; }",
+    "trait A where " + ", ".join("%s: %s" % (LONG.upper(), LONG) for _ in range(5)) + " { fn a(" + ", ".join([LONG + ": b"] * 5) + "); }",
 ]
 
 

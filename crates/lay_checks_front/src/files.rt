@@ -92,6 +92,60 @@ fn files(rt: HostRuntime) {
     }
 }
 
+// Visibilities, and each item that is a head alone.
+#[test]
+fn heads(rt: HostRuntime) {
+    let visibilities = "pub struct A;→pub struct A;\n§\
+        pub(crate)struct A(pub u8,B);→pub(crate) struct A(pub u8, B);\n§\
+        pub(self)use a;pub(super)mod b;→pub(self) use a;\npub(super) mod b;\n§\
+        pub(in a::b)mod c{pub use d;}→pub(in a::b) mod c {\n    pub use d;\n}\n§\
+        struct A(pub(B));→struct A(pub (B));\n";
+    let outside = "extern crate a;→extern crate a;\n§\
+        pub extern crate self as _;→pub extern crate self as _;\n§\
+        mod a;→mod a;\n§\
+        type A<>=B;→type A = B;\n§\
+        type A<B>:C=D where E:F,;→type A<B>: C = D where E: F;\n";
+    let fields = "struct A{}→struct A {}\n§\
+        struct A();→struct A();\n§\
+        struct A where;→struct A;\n§\
+        struct A<B>(B)where B:C;→struct A<B>(B) where B: C;\n§\
+        struct A where B:C{}→struct A where B: C {}\n§\
+        pub struct A{#[b]c:D,pub(super)e:F}→pub struct A {\n    #[b]\n    c: D,\n    pub(super) e: F,\n}\n§\
+        union A{b:u8}→union A {\n    b: u8,\n}\n§\
+        enum A{}→enum A {}\n§\
+        enum A{B{},C(),#[d]E=1<<2,}→enum A {\n    B {},\n    C(),\n    #[d]\n    E = 1 << 2,\n}\n§\
+        enum A<B>where B:C{D{e:F}}→enum A<B> where B: C {\n    D {\n        e: F,\n    },\n}\n";
+    for rows in [visibilities, outside, fields] {
+        for row in rows.split(BETWEEN) {
+            lays(&rt, rt.alloc(), row);
+        }
+    }
+}
+
+// Items within items, which are what their site asks for.
+#[test]
+fn members(rt: HostRuntime) {
+    let traits = "trait A where B:C,{}→trait A where B: C {}\n§\
+        trait C:D{fn e(&self);}→trait C: D {\n    fn e(&self);\n}\n§\
+        pub unsafe trait A<B>:C+D{#![e]type F:G;type H=I;const J:K;m!();}→pub unsafe trait A<B>: C + D {\n    #![e]\n    type F: G;\n    type H = I;\n    const J: K;\n    m!();\n}\n§\
+        trait A{fn a<'b>(&'b mut self,c:D)->E where F:G;}→trait A {\n    fn a<'b>(&'b mut self, c: D) -> E where F: G;\n}\n";
+    let others = "impl<T>A for B<T>{type C=D;}→impl<T> A for B<T> {\n    type C = D;\n}\n§\
+        impl<>A{}→impl A {}\n§\
+        unsafe impl<'a>!A for&'a B where C:D{#![e]}→unsafe impl<'a> !A for &'a B where C: D {\n    #![e]\n}\n§\
+        impl A{m!{}}→impl A {\n    m! {}\n}\n§\
+        extern{}→extern {}\n§\
+        extern \"C\"{pub fn a(b:u8,...)->u8;static mut C:u8;}→extern \"C\" {\n    pub fn a(b: u8, ...) -> u8;\n    static mut C: u8;\n}\n§\
+        unsafe extern r\"C\"{safe fn a();type B;m!();}→unsafe extern r\"C\" {\n    safe fn a();\n    type B;\n    m!();\n}\n";
+    let all =
+        "extern crate a;type B<T>=Vec<T>;trait C:D{fn e(&self);}enum E<T>where T:C{F(T),G{h:u8},I=-1}→\
+        extern crate a;\ntype B<T> = Vec<T>;\ntrait C: D {\n    fn e(&self);\n}\nenum E<T> where T: C {\n    F(T),\n    G {\n        h: u8,\n    },\n    I = -1,\n}\n";
+    for rows in [traits, others, all] {
+        for row in rows.split(BETWEEN) {
+            lays(&rt, rt.alloc(), row);
+        }
+    }
+}
+
 /// The bytes are refused, and nothing is written.
 fn answers(rt: &impl Abort, alloc: Global, given: &[u8], status: Status) {
     assert_eq!(rt; is_run(alloc, given, status, b""), Ok(true), "{status:?}");
@@ -115,7 +169,7 @@ fn refusals(rt: HostRuntime) {
     no_item(
         &rt,
         alloc,
-        "struct A§struct A;struct B§pub struct A;§structA;§struct _;§struct fn;§struct A;;§/// x§#[x]",
+        "struct A§struct A;struct B§pub struct A§structA;§struct _;§struct fn;§struct A;;§/// x§#[x]",
     );
     no_item(
         &rt,
@@ -136,6 +190,16 @@ fn refusals(rt: HostRuntime) {
         &rt,
         alloc,
         "use a::{b,,c};§use a::;§use a: :b;§use a:::b;§use fn::a;",
+    );
+    no_item(
+        &rt,
+        alloc,
+        "fn a();§const A:B;§static A:B;§type A;§trait A{mod b;}§impl A{fn b();}§impl A{type B;}§extern{type A=B;}",
+    );
+    no_item(
+        &rt,
+        alloc,
+        "extern{const A:B;}§pub m!();§pub macro_rules! m{}§struct A(pub(crate));§struct A(B)where C:D{}§union A;§enum A{B=}",
     );
     no_item(
         &rt,

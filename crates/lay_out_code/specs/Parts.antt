@@ -1,32 +1,32 @@
--- The forms of parts that have a function of their own.
-use Rattle.std.specs.Prelude.{Bool, true, false, List, [], ◌∷◌, map}
-use Rattle.lay_form.specs.Form.{Form}
-use Rattle.lay_tree.specs.nodes.Item.{about_item, kind_form}
-use Rattle.lay_tree.specs.declared.attr.Attr.{Attr}
-use Rattle.lay_tree.specs.declared.item.Item.{Item}
-use Rattle.lay_tree.specs.declared.item.ItemKind.TheOpen.{ItemKind-F}
-use Rattle.lay_tree.specs.declared.token.Name.{Name}
-use Rattle.lay_tree.specs.declared.tokens.Group.{Group}
-use Rattle.lay_tree.specs.declared.tokens.MacroCall.{MacroCall}
+-- The streams of heads and of what items are.
+use Rattle.std.specs.Prelude.{Bool, true, false, List, [], ◌∷◌, ◌++◌, codes, pos, Option}
+use Rattle.lay_layout.specs.declared.layout.Tok.{Tok}
+use Rattle.lay_layout.specs.declared.layout.Tok.TheVariants as tok
+use Rattle.lay_form.specs.Form.{Form, Piece, keyword}
+use Rattle.lay_form.specs.Stream.{stream_of}
+use Rattle.lay_tree.specs.nodes.Heads.{unsafe_form}
+use Rattle.lay_tree.specs.nodes.Item.{KindFacts, about_import, foreign_abi, kind_form}
+use Rattle.lay_tree.specs.nodes.Vis.{vis_form}
+use Rattle.lay_tree.specs.declared.token.Literal.{Literal}
 use Rattle.lay_tree.specs.declared.use_tree.UseTree.{UseTree}
+use Rattle.lay_tree.specs.declared.vis.Vis.{Vis}
 
 -- There are none.
 abbrev pub no_forms : List Form → Bool
 no_forms [] = true
 no_forms (f ∷ fs) = false
 
--- each kind of an item without its attributes
-abbrev pub struct_part : Name → Form
-struct_part name = kind_form (ItemKind-F.Struct name)
+-- a head behind its visibility, in a group of its own
+abbrev pub head_row : Vis → Form → List Tok
+head_row v head = tok.Begin false (pos 0) ∷ (stream_of (vis_form v) ++ (stream_of head ++ (tok.End ∷ [])))
 
-abbrev pub module_part : Name → List Attr → List Item → Form
-module_part name attrs items = kind_form (ItemKind-F.Module name attrs (map about_item items))
+-- an item without its attributes
+abbrev pub kind_row : Vis → KindFacts → List Tok
+kind_row v kind = stream_of (kind_form v kind.head kind.tail)
 
-abbrev pub import_part : UseTree → Form
-import_part tree = kind_form (ItemKind-F.Import tree)
+-- the heads of imports and of foreign blocks
+abbrev pub import_head : UseTree → Form
+import_head tree = (about_import tree).head
 
-abbrev pub rules_part : Name → Group → Form
-rules_part name rules = kind_form (ItemKind-F.MacroRules name rules)
-
-abbrev pub call_part : MacroCall → Form
-call_part call = kind_form (ItemKind-F.Call call)
+abbrev pub foreign_head : Bool → Option Literal → Form
+foreign_head is_unsafe abi = unsafe_form is_unsafe (Piece (keyword (codes "extern") ∷ []) (foreign_abi abi))

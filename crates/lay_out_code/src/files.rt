@@ -5,12 +5,11 @@ ghost use Rattle.lay_stream.specs.Fed.{Did};
 ghost use Rattle.lay_form.specs.Notation.{lines};
 ghost use Rattle.lay_form.specs.Stream.{stream_of};
 ghost use Rattle.lay_tree.specs.Out.{behind_shebang, layout_of_file};
-ghost use Rattle.lay_tree.specs.nodes.Facts.{forms};
-ghost use Rattle.lay_tree.specs.nodes.Item.{about_item};
+ghost use Rattle.lay_tree.specs.nodes.Item.{form_of_item};
 
-use crate::attributes::put_attrs;
 use crate::items::put_item;
 use lay_out_tokens::HARD_BREAK;
+use lay_out_types::add_attrs;
 use lay_stream::Emit;
 use lay_text::Text;
 use lay_tree::{File, Item};
@@ -21,7 +20,7 @@ pub fn put_file<E: Emit>(out: &mut E, file: &File) -> Result<(), E::Fault>
     ensures { Did E.meanings out.old (stream (layout_of_file file.now)) result out.new }
 {
     put_shebang(out, &file.shebang)?;
-    put_attrs(out, file.attrs.as_slice())?;
+    add_attrs(out, Ok(()), file.attrs.as_slice())?;
     put_items(out, file.items.as_slice())
 }
 
@@ -45,7 +44,7 @@ fn put_line<E: Emit>(out: &mut E, line: &[u8]) -> Result<(), E::Fault>
 
 /// Items, each with a newline behind it.
 fn put_items<E: Emit>(out: &mut E, items: &[Item]) -> Result<(), E::Fault>
-    ensures { Did E.meanings out.old (stream_of (lines (forms (map about_item items.now)))) result out.new }
+    ensures { Did E.meanings out.old (stream_of (lines (map form_of_item items.now))) result out.new }
 {
     for item in items {
         put_item(out, item)?;

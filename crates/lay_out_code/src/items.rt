@@ -1,181 +1,170 @@
 //! Items.
-ghost use Rattle.std.specs.Prelude.{◌≡◌, [], ◌∷◌, ◌++◌, map, pos, false};
-ghost use Rattle.lay_layout.specs.declared.layout.Tok.TheVariants as tok;
+ghost use Rattle.std.specs.Prelude.{◌≡◌, [], ◌++◌, map};
 ghost use Rattle.lay_stream.specs.Fed.{Did};
-ghost use Rattle.lay_form.specs.Form.{Blank, Done};
 ghost use Rattle.lay_form.specs.Notation.{H, body, each};
 ghost use Rattle.lay_form.specs.Stream.{stream_of};
-ghost use Rattle.lay_tree.specs.Words.{leaf_of};
 ghost use Rattle.lay_tree.specs.nodes.Attr.{attr_form};
-ghost use Rattle.lay_tree.specs.nodes.Call.{before_rules, end_form};
-ghost use Rattle.lay_tree.specs.nodes.Facts.{forms};
-ghost use Rattle.lay_tree.specs.nodes.Item.{about_item, about_kind};
-ghost use Rattle.lay_out_code.specs.Parts.{call_part, import_part, module_part, no_forms, rules_part, struct_part};
+ghost use Rattle.lay_tree.specs.nodes.Fields.{blank_if};
+ghost use Rattle.lay_tree.specs.nodes.Item.{form_of_item, told_of_kind};
+ghost use Rattle.lay_out_types.specs.Calls.{Adds};
+ghost use Rattle.lay_out_code.specs.Parts.{kind_row, no_forms};
 
-use crate::attributes::put_attrs;
-use lay_out_heads::put_use;
-use lay_out_tokens::notation::{close_body, open_body};
-use lay_out_tokens::{HARD_BREAK, put_bare_attr, put_call, put_group, put_word};
-use lay_piece::Delim;
+use crate::calls::{add_alias, add_bare_attr, add_enum, add_extern_crate, add_struct, add_union};
+use crate::heads::{add_clause, add_ended, add_ended_clause, add_foreign_head, add_head};
+use crate::macros::{add_call_item, add_macro_rules};
+use lay_out_heads::calls::add_break;
+use lay_out_heads::items::leads;
+use lay_out_heads::loops::{close_body, open_body};
+use lay_out_tokens::HARD_BREAK;
+use lay_out_types::add_attrs;
+use lay_out_types::calls::add_either;
 use lay_stream::Emit;
-use lay_tree::{Attr, Group, Item, ItemKind, MacroCall, Name, UseTree};
+use lay_tree::{Attr, Item, ItemKind, Vis};
 
 /// Feeds the layout of an item, with its attributes, each on a line of its own.
-#[cycle(put_item)]
 pub fn put_item<E: Emit>(out: &mut E, item: &Item) -> Result<(), E::Fault>
-    ensures { Did E.meanings out.old (stream_of (about_item item.now).form) result out.new }
+    ensures { Did E.meanings out.old (stream_of (form_of_item item.now)) result out.new }
 {
-    put_attrs(out, item.attrs.as_slice())?;
-    put_kind(out, &item.kind)
+    add_item(out, Ok(()), item)
+}
+
+/// An item.
+#[cycle(add_item)]
+fn add_item<E: Emit>(out: &mut E, before: Result<(), E::Fault>, item: &Item) -> Result<(), E::Fault>
+    ensures { Adds E.meanings before out.old (stream_of (form_of_item item.now)) result out.new }
+{
+    let attrs = add_attrs(out, before, item.attrs.as_slice());
+    add_kind(out, attrs, &item.vis, &item.kind)
 }
 
 /// An item without its attributes.
-#[cycle(put_item)]
-fn put_kind<E: Emit>(out: &mut E, kind: &ItemKind) -> Result<(), E::Fault>
-    ensures { Did E.meanings out.old (stream_of (about_kind kind.now).form) result out.new }
+#[cycle(add_item)]
+fn add_kind<E: Emit>(
+    out: &mut E,
+    before: Result<(), E::Fault>,
+    vis: &Vis,
+    kind: &ItemKind,
+) -> Result<(), E::Fault>
+    ensures { Adds E.meanings before out.old (kind_row vis.now (told_of_kind kind.now)) result out.new }
 {
     match kind {
-        ItemKind::Struct { name } => put_struct(out, name),
-        ItemKind::Module { name, attrs, items } => put_module(
-            out,
-            name,
-            attrs.as_slice(),
-            items.as_slice(),
-        ),
-        ItemKind::Import { tree } => put_import(out, tree.get()),
-        ItemKind::MacroRules { name, rules } => put_macro_rules(out, name, rules),
-        ItemKind::Call { call } => put_call_item(out, call),
+        ItemKind::ExternCrate { item } => add_extern_crate(out, before, vis, item),
+        ItemKind::Import { tree } => add_ended(out, before, vis, tree.get()),
+        ItemKind::FileModule { name } => add_ended(out, before, vis, name),
+        ItemKind::Module { name, attrs, items } => {
+            let head = add_head(out, before, vis, name);
+            add_body(out, head, true, attrs.as_slice(), items.as_slice())
+        },
+        ItemKind::Function { head, wheres } => add_ended_clause(out, before, vis, head, wheres),
+        ItemKind::Alias { item } => add_alias(out, before, vis, item),
+        ItemKind::Struct { item } => add_struct(out, before, vis, item),
+        ItemKind::Union { item } => add_union(out, before, vis, item),
+        ItemKind::Enum { item } => add_enum(out, before, vis, item),
+        ItemKind::Value { head } => add_ended(out, before, vis, head),
+        ItemKind::Trait {
+            head,
+            wheres,
+            attrs,
+            items,
+        } => {
+            let clause = add_clause(out, before, vis, head, wheres);
+            add_body(
+                out,
+                clause,
+                leads(wheres),
+                attrs.as_slice(),
+                items.as_slice(),
+            )
+        },
+        ItemKind::Impl {
+            head,
+            wheres,
+            attrs,
+            items,
+        } => {
+            let clause = add_clause(out, before, vis, head, wheres);
+            add_body(
+                out,
+                clause,
+                leads(wheres),
+                attrs.as_slice(),
+                items.as_slice(),
+            )
+        },
+        ItemKind::Foreign {
+            is_unsafe,
+            abi,
+            attrs,
+            items,
+        } => {
+            let head = add_foreign_head(out, before, vis, *is_unsafe, abi);
+            add_body(out, head, true, attrs.as_slice(), items.as_slice())
+        },
+        ItemKind::MacroRules { name, rules } => add_macro_rules(out, before, name, rules),
+        ItemKind::Call { call } => add_call_item(out, before, call),
     }
 }
 
-/// A module.
-#[cycle(put_item)]
-fn put_module<E: Emit>(
+/// Inner attributes and items in braces, each on a line of its own. The braces have a leading blank or not.
+#[cycle(add_item)]
+fn add_body<E: Emit>(
     out: &mut E,
-    name: &Name,
+    before: Result<(), E::Fault>,
+    lead: bool,
     attrs: &[Attr],
     items: &[Item],
 ) -> Result<(), E::Fault>
-    ensures { Did E.meanings out.old (stream_of (module_part name.now attrs.now items.now)) result out.new }
-{
-    put_head(out, b"mod ", name)?;
-    put_body(out, attrs, items)
-}
-
-/// Inner attributes and items in braces, each on a line of its own.
-#[cycle(put_item)]
-fn put_body<E: Emit>(out: &mut E, attrs: &[Attr], items: &[Item]) -> Result<(), E::Fault>
-    ensures { let parts = map attr_form attrs.now ++ forms (map about_item items.now) in
-        Did E.meanings out.old (stream_of (body (Blank ∷ []) [] parts)) result out.new }
+    ensures { let parts = map attr_form attrs.now ++ map form_of_item items.now in
+        Adds E.meanings before out.old (stream_of (body (blank_if lead) [] parts)) result out.new }
 {
     if is_bare(attrs, items) {
-        return out.text(b" {}");
+        return add_either(out, before, lead, b" {}", b"{}");
     }
-    open_body(out)?;
-    put_inner_attrs(out, attrs)?;
-    put_lines(out, items)?;
-    close_body(out)
+    let opened = open_body(out, before, lead);
+    let attrs = add_inner_attrs(out, opened, attrs);
+    let items = add_lines(out, attrs, items);
+    close_body(out, items)
 }
 
 /// Items, each behind a newline.
-#[cycle(put_item)]
-fn put_lines<E: Emit>(out: &mut E, items: &[Item]) -> Result<(), E::Fault>
-    ensures { Did E.meanings out.old (stream_of (each H (forms (map about_item items.now)))) result out.new }
+#[cycle(add_item)]
+fn add_lines<E: Emit>(
+    out: &mut E,
+    before: Result<(), E::Fault>,
+    items: &[Item],
+) -> Result<(), E::Fault>
+    ensures { Adds E.meanings before out.old (stream_of (each H (map form_of_item items.now))) result out.new }
 {
+    let mut done = before;
     for item in items {
-        out.brk(HARD_BREAK)?;
-        put_item(out, item)?;
+        done = add_break(out, done, HARD_BREAK);
+        done = add_item(out, done, item);
     }
-    Ok(())
+    done
+}
+
+/// Attributes, each behind a newline.
+fn add_inner_attrs<E: Emit>(
+    out: &mut E,
+    before: Result<(), E::Fault>,
+    attrs: &[Attr],
+) -> Result<(), E::Fault>
+    ensures { Adds E.meanings before out.old (stream_of (each H (map attr_form attrs.now))) result out.new }
+{
+    let mut done = before;
+    for attr in attrs {
+        done = add_break(out, done, HARD_BREAK);
+        done = add_bare_attr(out, done, attr);
+    }
+    done
 }
 
 /// Whether nothing stands in a body.
 fn is_bare(attrs: &[Attr], items: &[Item]) -> bool
-    ensures { result ≡ no_forms (map attr_form attrs.now ++ forms (map about_item items.now)) }
+    ensures { result ≡ no_forms (map attr_form attrs.now ++ map form_of_item items.now) }
 {
     if !attrs.is_empty() {
         return false;
     }
     items.is_empty()
-}
-
-/// A struct.
-fn put_struct<E: Emit>(out: &mut E, name: &Name) -> Result<(), E::Fault>
-    ensures { Did E.meanings out.old (stream_of (struct_part name.now)) result out.new }
-{
-    put_head(out, b"struct ", name)?;
-    out.text(b";")
-}
-
-/// An import.
-fn put_import<E: Emit>(out: &mut E, tree: &UseTree) -> Result<(), E::Fault>
-    ensures { Did E.meanings out.old (stream_of (import_part tree.now)) result out.new }
-{
-    out.begin(false, 0)?;
-    out.text(b"use ")?;
-    put_use(out, tree)?;
-    out.end()?;
-    out.text(b";")
-}
-
-/// Attributes, each behind a newline.
-fn put_inner_attrs<E: Emit>(out: &mut E, attrs: &[Attr]) -> Result<(), E::Fault>
-    ensures { Did E.meanings out.old (stream_of (each H (map attr_form attrs.now))) result out.new }
-{
-    for attr in attrs {
-        out.brk(HARD_BREAK)?;
-        put_bare_attr(out, attr)?;
-    }
-    Ok(())
-}
-
-/// A macro by its rules.
-fn put_macro_rules<E: Emit>(out: &mut E, name: &Name, rules: &Group) -> Result<(), E::Fault>
-    ensures { Did E.meanings out.old (stream_of (rules_part name.now rules.now)) result out.new }
-{
-    out.text(b"macro_rules! ")?;
-    put_word(out, name.raw, &name.text)?;
-    put_before_rules(out, rules.delim)?;
-    put_group(out, rules)?;
-    put_item_end(out, rules.delim)
-}
-
-/// The blank before rules in braces.
-fn put_before_rules<E: Emit>(out: &mut E, delim: Delim) -> Result<(), E::Fault>
-    ensures { Did E.meanings out.old (stream_of (before_rules delim Done)) result out.new }
-{
-    match delim {
-        Delim::Brace => out.text(b" "),
-        _ => Ok(()),
-    }
-}
-
-/// A macro call as an item.
-fn put_call_item<E: Emit>(out: &mut E, call: &MacroCall) -> Result<(), E::Fault>
-    ensures { Did E.meanings out.old (stream_of (call_part call.now)) result out.new }
-{
-    put_call(out, call)?;
-    put_item_end(out, call.tokens.delim)
-}
-
-/// What ends an item behind a group: nothing behind braces, and else a `;`.
-fn put_item_end<E: Emit>(out: &mut E, delim: Delim) -> Result<(), E::Fault>
-    ensures { Did E.meanings out.old (stream_of (end_form delim)) result out.new }
-{
-    match delim {
-        Delim::Brace => Ok(()),
-        _ => out.text(b";"),
-    }
-}
-
-/// The head of an item that is a keyword, with a blank behind it, and a name.
-fn put_head<E: Emit>(out: &mut E, keyword: &[u8], name: &Name) -> Result<(), E::Fault>
-    ensures { let word = stream_of (leaf_of name.now.raw name.now.text Done) in
-        let head = tok.Begin false (pos 0) ∷ tok.Text keyword.now ∷ (word ++ tok.End ∷ []) in
-        Did E.meanings out.old head result out.new }
-{
-    out.begin(false, 0)?;
-    out.text(keyword)?;
-    put_word(out, name.raw, &name.text)?;
-    out.end()
 }

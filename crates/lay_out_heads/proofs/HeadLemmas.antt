@@ -52,7 +52,7 @@ called_alone word text name generics is =
 
 -- ---- traits and implementations
 
-unsafe_word : (is_unsafe : Bool) (f : Form)
+pub unsafe_word : (is_unsafe : Bool) (f : Form)
     → cond is_unsafe (tok.Text (codes "unsafe ") ∷ []) [] ++ stream_of f
     ≡ stream_of (when is_unsafe (keyword (codes "unsafe") ∷ Blank ∷ []) f)
 unsafe_word is_unsafe f = when_more is_unsafe (keyword (codes "unsafe") ∷ Blank ∷ []) (codes "unsafe ") f (λ g. refl)

@@ -97,7 +97,7 @@ steady_body wheres es =
     steady_part (wheres_before_body wheres) (fields (blank_if (leads wheres)) es) (steady_wheres_body wheres)
     (steady_braces (leads wheres) es)
 
-steady_end : (wheres : Wheres) → Steady (Part (wheres_before_semicolon wheres) (piece semicolon))
+pub steady_end : (wheres : Wheres) → Steady (Part (wheres_before_semicolon wheres) (piece semicolon))
 steady_end wheres =
     steady_part (wheres_before_semicolon wheres) (piece semicolon) (steady_wheres_semicolon wheres) steady_semicolon
 

@@ -1,12 +1,12 @@
 -- The streams of fields in braces, and of a head with what follows it.
-use Rattle.std.proofs.Common.{◌≡◌, ℕ, suc, ◌<◌, Bool, true, false, cond, List, [], ◌∷◌, ◌++◌, codes, pos, refl, sym, ap, ◌∙◌, append_assoc, append-nil, OnOk, Result}
+use Rattle.std.proofs.Common.{◌≡◌, ℕ, suc, ◌<◌, Bool, true, false, List, [], ◌∷◌, ◌++◌, codes, pos, refl, sym, ap, ◌∙◌, append_assoc, append-nil, OnOk, Result}
 use Rattle.lay_layout.specs.Machine.{IsNested, opened}
 use Rattle.lay_layout.specs.declared.layout.Tok.{Tok}
 use Rattle.lay_layout.specs.declared.layout.Tok.TheVariants as tok
 use Rattle.lay_stream.specs.Fed.{Meanings}
 use Rattle.lay_stream.proofs.Calls.{opened_append}
-use Rattle.lay_form.specs.Form.{Form, Done, Hard, Never, Optional, Part, comma}
-use Rattle.lay_form.specs.Layout.{break_of, ends_behind_point}
+use Rattle.lay_form.specs.Form.{Form, Done, Optional, Part, comma}
+use Rattle.lay_form.specs.Layout.{ends_behind_point}
 use Rattle.lay_form.specs.Notation.{H, body, fields, piece, with_commas}
 use Rattle.lay_form.specs.Stream.{fed, stream_of}
 use Rattle.lay_tree.specs.nodes.Fields.{blank_if}
@@ -19,13 +19,10 @@ use Rattle.lay_out_types.specs.Calls.{Adds}
 use Rattle.lay_out_types.specs.Rows.{further, row}
 use Rattle.lay_out_types.proofs.Adding.{level_behind, on_ok}
 use Rattle.lay_out_types.proofs.FormRows.{are_none, each_is, level_form, level_further, one_open, part_more}
-use Rattle.lay_out_heads.specs.FieldRows.{fields_between, fields_closed, fields_opened}
+use Rattle.lay_out_heads.specs.FieldRows.{body_closed, body_opened, fields_between, fields_closed, fields_opened, line}
 use Rattle.lay_out_heads.proofs.Steady.{Steady}
 
 -- ---- parts in braces
-
-abbrev line : List Tok
-line = tok.Break (break_of (Hard false)) ∷ []
 
 comma_is : (e : Form) → stream_of e ++ (tok.Text (codes ",") ∷ []) ≡ stream_of (Part e (piece comma))
 comma_is e = part_more e (piece comma) any
@@ -56,33 +53,26 @@ lines_are e (f ∷ es) =
     ∙ ap (λ (s : List Tok). stream_of e ++ (fields_between ++ s))
     (sym (append_assoc (stream_of f) (further fields_between es) end)))
 
--- what opens braces and what closes them, but for the newline behind the first and the comma before the second
-abbrev opens : Bool → List Tok
-opens lead = tok.Text (cond lead (codes " {") (codes "{")) ∷ tok.Break (break_of Never) ∷ tok.Begin true (pos 4) ∷ []
-
-abbrev closes : List Tok
-closes = tok.Break (break_of (Hard true)) ∷ tok.End ∷ tok.Text (codes "}") ∷ []
-
-body_is : (lead : Bool) (w : Form) (ws : List Form)
-    → stream_of (body (blank_if lead) [] (w ∷ ws)) ≡ opens lead ++ (further line (w ∷ ws) ++ closes)
-body_is true w ws = ap (λ (s : List Tok). opens true ++ s) (each_is H line (λ q f more. refl) (w ∷ ws) false closes)
-body_is false w ws = ap (λ (s : List Tok). opens false ++ s) (each_is H line (λ q f more. refl) (w ∷ ws) false closes)
+pub body_is : (lead : Bool) (w : Form) (ws : List Form)
+    → stream_of (body (blank_if lead) [] (w ∷ ws)) ≡ body_opened lead ++ (further line (w ∷ ws) ++ body_closed)
+body_is true w ws = ap (λ (s : List Tok). body_opened true ++ s) (each_is H line (λ q f more. refl) (w ∷ ws) false body_closed)
+body_is false w ws = ap (λ (s : List Tok). body_opened false ++ s) (each_is H line (λ q f more. refl) (w ∷ ws) false body_closed)
 
 whole : (lead : Bool) (e : Form) (es : List Form)
-    → stream_of (fields (blank_if lead) (e ∷ es)) ≡ opens lead ++ (further line (with_commas (e ∷ es)) ++ closes)
+    → stream_of (fields (blank_if lead) (e ∷ es)) ≡ body_opened lead ++ (further line (with_commas (e ∷ es)) ++ body_closed)
 whole lead e [] = body_is lead (Part e (Optional true comma Done)) []
 whole lead e (f ∷ es) = body_is lead (Part e (piece comma)) (with_commas (f ∷ es))
 
 -- A part, and further ones, up to what closes the braces.
 part_lines : (e : Form) (es : List Form)
-    → further line (with_commas (e ∷ es)) ++ closes
-    ≡ line ++ (stream_of e ++ (further fields_between es ++ (tok.Text (codes ",") ∷ closes)))
+    → further line (with_commas (e ∷ es)) ++ body_closed
+    ≡ line ++ (stream_of e ++ (further fields_between es ++ (tok.Text (codes ",") ∷ body_closed)))
 part_lines e es =
     let end : List Tok = tok.Text (codes ",") ∷ [] in
-    ap (λ (s : List Tok). s ++ closes) (lines_are e es)
+    ap (λ (s : List Tok). s ++ body_closed) (lines_are e es)
     ∙ ap (λ (s : List Tok). line ++ s)
-    (append_assoc (stream_of e) (further fields_between es ++ end) closes
-    ∙ ap (λ (s : List Tok). stream_of e ++ s) (append_assoc (further fields_between es) end closes))
+    (append_assoc (stream_of e) (further fields_between es ++ end) body_closed
+    ∙ ap (λ (s : List Tok). stream_of e ++ s) (append_assoc (further fields_between es) end body_closed))
 
 pub braces_are : (lead : Bool) (es : List Form) (bare : Bool) → bare ≡ are_none es
     → row (fields_opened lead) fields_between es ++ fields_closed lead bare ≡ stream_of (fields (blank_if lead) es)
@@ -91,8 +81,8 @@ braces_are false [] bare is = rw is refl
 braces_are lead (e ∷ es) bare is =
     ap (λ (b : Bool). row (fields_opened lead) fields_between (e ∷ es) ++ fields_closed lead b) is
     ∙ ap (λ (s : List Tok). fields_opened lead ++ s)
-    (append_assoc (stream_of e) (further fields_between es) (tok.Text (codes ",") ∷ closes))
-    ∙ ap (λ (s : List Tok). opens lead ++ s) (sym (part_lines e es))
+    (append_assoc (stream_of e) (further fields_between es) (tok.Text (codes ",") ∷ body_closed))
+    ∙ ap (λ (s : List Tok). body_opened lead ++ s) (sym (part_lines e es))
     ∙ sym (whole lead e es)
 
 braces_nested : (lead : Bool) (es : List Form) (bare : Bool) (n k : ℕ) → bare ≡ are_none es

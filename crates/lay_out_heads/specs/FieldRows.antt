@@ -1,15 +1,25 @@
--- The streams of what stands round fields.
-use Rattle.std.specs.Prelude.{Bool, true, false, cond, List, [], ◌∷◌, codes, pos}
+-- The streams of what stands round bodies and round fields.
+use Rattle.std.specs.Prelude.{Bool, true, false, cond, List, [], ◌∷◌, ◌++◌, codes, pos}
 use Rattle.lay_layout.specs.declared.layout.Tok.{Tok}
 use Rattle.lay_layout.specs.declared.layout.Tok.TheVariants as tok
 use Rattle.lay_form.specs.Form.{Hard, Never}
 use Rattle.lay_form.specs.Layout.{break_of}
 
--- what opens them: a brace, with a leading blank or without it, and a newline
+-- what opens a body: a brace, with a leading blank or without it
+abbrev pub body_opened : Bool → List Tok
+body_opened lead = tok.Text (cond lead (codes " {") (codes "{")) ∷ tok.Break (break_of Never) ∷ tok.Begin true (pos 4) ∷ []
+
+-- what closes it
+abbrev pub body_closed : List Tok
+body_closed = tok.Break (break_of (Hard true)) ∷ tok.End ∷ tok.Text (codes "}") ∷ []
+
+-- a newline
+abbrev pub line : List Tok
+line = tok.Break (break_of (Hard false)) ∷ []
+
+-- what opens fields: a body, and a newline
 abbrev pub fields_opened : Bool → List Tok
-fields_opened lead =
-    tok.Text (cond lead (codes " {") (codes "{")) ∷ tok.Break (break_of Never) ∷ tok.Begin true (pos 4) ∷
-    tok.Break (break_of (Hard false)) ∷ []
+fields_opened lead = body_opened lead ++ line
 
 -- what stands between two of them
 abbrev pub fields_between : List Tok
@@ -19,4 +29,4 @@ fields_between = tok.Text (codes ",") ∷ tok.Break (break_of (Hard false)) ∷ 
 abbrev pub fields_closed : Bool → Bool → List Tok
 fields_closed lead bare =
     cond bare (tok.Text (cond lead (codes " {}") (codes "{}")) ∷ [])
-    (tok.Text (codes ",") ∷ tok.Break (break_of (Hard true)) ∷ tok.End ∷ tok.Text (codes "}") ∷ [])
+    (tok.Text (codes ",") ∷ body_closed)

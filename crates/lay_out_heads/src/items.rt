@@ -35,7 +35,11 @@ pub fn put_struct<E: Emit>(out: &mut E, vis: &Vis, node: &Struct) -> Result<(), 
 }
 
 /// Opens the group that a head has of its own, and feeds the visibility before the head.
-fn open_head<E: Emit>(out: &mut E, before: Result<(), E::Fault>, vis: &Vis) -> Result<(), E::Fault>
+pub fn open_head<E: Emit>(
+    out: &mut E,
+    before: Result<(), E::Fault>,
+    vis: &Vis,
+) -> Result<(), E::Fault>
     ensures { let opened = tok.Begin false (pos 0) ∷ stream_of (vis_form vis.now) in
         Adds E.meanings before out.old opened result out.new }
 {
@@ -98,14 +102,14 @@ fn add_body<E: Emit, P: Part>(
 }
 
 /// Whether braces behind a where clause have a leading blank.
-fn leads(wheres: &Wheres) -> bool
+pub fn leads(wheres: &Wheres) -> bool
     ensures { result ≡ leads wheres.now }
 {
     wheres.predicates.as_slice().is_empty()
 }
 
 /// A where clause, and a `;`.
-fn add_semicolon<E: Emit>(
+pub fn add_semicolon<E: Emit>(
     out: &mut E,
     before: Result<(), E::Fault>,
     wheres: &Wheres,

@@ -5,14 +5,15 @@
 //!
 //! Within the crate a function is told how the calls before it came out, as in [`lay_out_types`], whose functions lay
 //! out what heads are made of. A list and fields in braces are laid out by one loop each, over what their parts are.
+//! What stands round bodies and behind visibilities is laid out for the crates above, too.
 #![tactic(auto)]
 
-mod calls;
+pub mod calls;
 mod fields;
 mod functions;
 mod heads;
-mod items;
-mod loops;
+pub mod items;
+pub mod loops;
 mod uses;
 mod vis;
 

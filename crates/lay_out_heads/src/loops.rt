@@ -1,5 +1,5 @@
-//! The loops over what is laid out one after another, and what stands round it.
-ghost use Rattle.std.specs.Prelude.{cond, map, OnOk};
+//! The loops over what is laid out one after another, and what stands round it and round bodies.
+ghost use Rattle.std.specs.Prelude.{◌<◌, cond, map, OnOk};
 ghost use Rattle.lay_layout.specs.Machine.{IsNested};
 ghost use Rattle.lay_piece.specs.declared.kind.Delim.TheVariants.{Paren};
 ghost use Rattle.lay_form.specs.Form.{Form, closer, opener};
@@ -7,7 +7,7 @@ ghost use Rattle.lay_form.specs.Notation.{comma_list, fields};
 ghost use Rattle.lay_form.specs.Stream.{stream_of};
 ghost use Rattle.lay_tree.specs.nodes.Fields.{blank_if};
 ghost use Rattle.lay_out_types.specs.Calls.{Adds};
-ghost use Rattle.lay_out_heads.specs.FieldRows.{fields_between, fields_closed, fields_opened};
+ghost use Rattle.lay_out_heads.specs.FieldRows.{body_closed, body_opened, fields_between, fields_closed, fields_opened};
 
 use crate::calls::{add_break, add_inside};
 use lay_out_tokens::HARD_BREAK;
@@ -72,10 +72,8 @@ fn add_line<E: Emit>(
     ensures { Adds E.meanings before out.old (cond first (fields_opened lead) fields_between) result out.new }
 {
     if first {
-        let brace = add_either(out, before, lead, b" {", b"{");
-        let never = add_break(out, brace, NEVER_BREAK);
-        let inside = add_inside(out, never);
-        return add_break(out, inside, HARD_BREAK);
+        let body = open_body(out, before, lead);
+        return add_break(out, body, HARD_BREAK);
     }
     let comma = add_text(out, before, b",");
     add_break(out, comma, HARD_BREAK)
@@ -94,8 +92,29 @@ fn close_braces<E: Emit>(
     if bare {
         return add_either(out, before, lead, b" {}", b"{}");
     }
-    let comma = add_text(out, before, b",");
-    let line = add_break(out, comma, CLOSING_HARD_BREAK);
+    let last = add_text(out, before, b",");
+    close_body(out, last)
+}
+
+/// Opens a body. What stands before its brace is measured up to the brace, which has a leading blank or not.
+pub fn open_body<E: Emit>(
+    out: &mut E,
+    before: Result<(), E::Fault>,
+    lead: bool,
+) -> Result<(), E::Fault>
+    ensures { Adds E.meanings before out.old (body_opened lead) result out.new }
+{
+    let brace = add_either(out, before, lead, b" {", b"{");
+    let never = add_break(out, brace, NEVER_BREAK);
+    add_inside(out, never)
+}
+
+/// Closes a body, on a line of its own.
+pub fn close_body<E: Emit>(out: &mut E, before: Result<(), E::Fault>) -> Result<(), E::Fault>
+    requires { OnOk before (0 < E.meanings.groups out.old) }
+    ensures { Adds E.meanings before out.old body_closed result out.new }
+{
+    let line = add_break(out, before, CLOSING_HARD_BREAK);
     let end = add_end(out, line);
     add_text(out, end, b"}")
 }

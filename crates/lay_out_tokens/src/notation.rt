@@ -1,9 +1,9 @@
-//! Breaks, and what opens and closes lists and bodies.
-ghost use Rattle.std.specs.Prelude.{◌<◌, [], ◌∷◌, pos, true, false, codes};
+//! Breaks, and what opens lists.
+ghost use Rattle.std.specs.Prelude.{[], ◌∷◌, pos, true, false};
 ghost use Rattle.lay_layout.specs.declared.layout.Tok.TheVariants as tok;
 ghost use Rattle.lay_stream.specs.Fed.{Did};
-ghost use Rattle.lay_form.specs.Form.{Soft, Hard, Never};
-ghost use Rattle.lay_form.specs.Layout.{break_of, comma_break};
+ghost use Rattle.lay_form.specs.Form.{Soft};
+ghost use Rattle.lay_form.specs.Layout.{break_of};
 
 use lay_stream::Emit;
 use lay_token::{Break, Mark};
@@ -61,27 +61,6 @@ pub const COMMA_CLOSING_BREAK: Break = Break {
     ..SOFT_BREAK
 };
 
-/// Opens a body. What stands before its brace is measured up to the brace.
-pub fn open_body<E: Emit>(out: &mut E) -> Result<(), E::Fault>
-    ensures { Did E.meanings out.old
-        (tok.Text (codes " {") ∷ tok.Break (break_of Never) ∷ tok.Begin true (pos 4) ∷ []) result out.new }
-{
-    out.text(b" {")?;
-    out.brk(NEVER_BREAK)?;
-    out.begin(true, 4)
-}
-
-/// Closes a body, on a line of its own.
-pub fn close_body<E: Emit>(out: &mut E) -> Result<(), E::Fault>
-    requires { 0 < E.meanings.groups out.old }
-    ensures { Did E.meanings out.old
-        (tok.Break (break_of (Hard true)) ∷ tok.End ∷ tok.Text (codes "}") ∷ []) result out.new }
-{
-    out.brk(CLOSING_HARD_BREAK)?;
-    out.end()?;
-    out.text(b"}")
-}
-
 /// Opens a list: its elements stand on one line, or each on its own, one step further in.
 pub fn open_list<E: Emit>(out: &mut E, opener: &[u8]) -> Result<(), E::Fault>
     ensures { Did E.meanings out.old
@@ -90,14 +69,4 @@ pub fn open_list<E: Emit>(out: &mut E, opener: &[u8]) -> Result<(), E::Fault>
     out.begin(true, 4)?;
     out.text(opener)?;
     out.brk(SOFT_BREAK)
-}
-
-/// Closes a list, with a `,` behind its last element where each stands on its own line.
-pub fn close_list<E: Emit>(out: &mut E, closer: &[u8]) -> Result<(), E::Fault>
-    requires { 0 < E.meanings.groups out.old }
-    ensures { Did E.meanings out.old (tok.Break (comma_break 0) ∷ tok.Text closer.now ∷ tok.End ∷ []) result out.new }
-{
-    out.brk(COMMA_CLOSING_BREAK)?;
-    out.text(closer)?;
-    out.end()
 }

@@ -4,9 +4,7 @@ use Rattle.lay_out_heads.proofs.loops.add_line.Goals as goal
 
 pub returns-then-first : goal.returns-then-first
 returns-then-first g c =
-    adds (adds_on c.add_either-brace.ensures
-    (adds_on c.add_break-never.ensures (adds_on c.add_inside-inside.ensures c.add_break.ensures)))
-    (chosen _ _ c.args.first c.if-first.true)
+    adds (adds_on c.open_body-body.ensures c.add_break.ensures) (chosen _ _ c.args.first c.if-first.true)
 
 pub returns : goal.returns
 returns g c =

@@ -7,6 +7,5 @@ returns-then-bare g c = adds c.add_either.ensures (chosen _ _ c.args.bare c.if-b
 
 pub returns : goal.returns
 returns g c =
-    adds (adds_on c.add_text-comma.ensures
-    (adds_on c.add_break-line.ensures (adds_on c.add_end-end.ensures c.add_text.ensures)))
+    adds (adds_on c.add_text-last.ensures c.close_body.ensures)
     (other _ _ c.args.bare c.if-bare.false)
