@@ -10,8 +10,9 @@ pub group_tree : (tokens inside behind : List Token) → Grouped tokens inside b
 group_tree tokens inside behind g = record {
   tree = g.opener ∷ (inside ++ g.closer ∷ []);
   whole = g.whole ∙ ap (λ (s : List Token). g.opener ∷ s) (sym (append_assoc inside (g.closer ∷ []) behind));
-  balanced = (
+  are_tree = (
     Nest g.opener g.balanced.0 g.closer NoTree,
+    refl,
     (g.pair, g.balanced.1, tt),
     ap (λ (s : List Token). g.opener ∷ (s ++ g.closer ∷ [])) g.balanced.2,
   );
@@ -29,7 +30,7 @@ token_tree [] h g = absurd (false≢true h)
 token_tree (t ∷ ts) h g = record {
   tree = t ∷ [];
   whole = refl;
-  balanced = (One t NoTree, (g, not_true _ h, tt), refl);
+  are_tree = (One t NoTree, refl, (g, not_true _ h, tt), refl);
   some = omega arith;
 }
 

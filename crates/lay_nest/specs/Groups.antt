@@ -1,6 +1,6 @@
 -- A group and a token tree at the front of tokens.
-use Rattle.std.specs.Prelude.{◌≡◌, ◌<◌, Bool, false, not, List, [], ◌∷◌, ◌++◌, length, IsTrue}
-use Rattle.lay_token.specs.Delimiters.{Balanced, is_opener, is_closer, is_pair}
+use Rattle.std.specs.Prelude.{◌≡◌, ◌<◌, Bool, true, false, not, List, [], ◌∷◌, ◌++◌, length, IsTrue}
+use Rattle.lay_token.specs.Delimiters.{Balanced, NoTree, One, Nest, Paired, Trees, is_opener, is_closer, is_pair, tokens_of}
 use Rattle.lay_token.specs.declared.token.Token.{Token}
 
 -- The first token is an opener.
@@ -21,9 +21,18 @@ abbrev pub begins_tree : List Token → Bool
 begins_tree [] = false
 begins_tree (t ∷ ts) = not (is_closer t.kind)
 
+abbrev pub is_one : Trees → Bool
+is_one (One token NoTree) = true
+is_one (Nest opener inside closer NoTree) = true
+is_one _ = false
+
+-- The tokens are one token tree: a token that is no delimiter, or a group with its delimiters.
+abbrev pub AreTree : List Token → Type 0
+AreTree tokens = (tree : Trees) × IsTrue (is_one tree) × Paired tree × (tokens ≡ tokens_of tree)
+
 -- The tokens are a token tree and what is behind it.
 pub record BehindTree (tokens behind : List Token) : Type 0 where
   pub tree : List Token
   pub whole : tokens ≡ tree ++ behind
-  pub balanced : Balanced tree
+  pub are_tree : AreTree tree
   pub some : 0 < length tree

@@ -2,8 +2,8 @@
 ghost use Rattle.std.specs.Prelude.{◌≡◌, ◌↔◌, ◌<◌, ◌≤◌, ◌++◌, ◌∷◌, List, IsTrue, length, drop, slice_get, option_copied, MatchOption};
 ghost use Rattle.lay_token.specs.Operators.{is_op};
 ghost use Rattle.lay_nest.specs.Ahead.{SpannedAhead};
-ghost use Rattle.lay_token.specs.Delimiters.{Balanced, is_opener};
-ghost use Rattle.lay_nest.specs.Groups.{BehindTree, Grouped, begins_group, begins_tree};
+ghost use Rattle.lay_token.specs.Delimiters.{is_opener};
+ghost use Rattle.lay_nest.specs.Groups.{AreTree, BehindTree, Grouped, begins_group, begins_tree};
 
 use crate::operator::is_op;
 use lay_token::{Kind, Token};
@@ -97,7 +97,7 @@ impl<'a> Cursor<'a> {
     pub fn tree(&mut self) -> &'a [Token]
         requires { IsTrue (begins_tree self.old) }
         ensures whole { self.old ≡ result.now ++ self.new }
-        ensures balanced { Balanced result.now }
+        ensures tree { AreTree result.now }
         ensures some { 0 < length result.now }
     {
         let tokens = self.as_slice();

@@ -28,7 +28,8 @@ use Rattle.lay_tree.specs.declared.token.Word.{Word}
 use Rattle.lay_tree.specs.declared.types.Path.{Path}
 use Rattle.lay_tree.specs.declared.types.PathStyle.TheVariants.{Code}
 use Rattle.lay_read_tokens.proofs.Left.{Left, Leaves, Passes, unread, dropped, joined, further, chain, chain_passed, choice, first_read, passed_left, elements_left, name_left, call_left, attributes_left}
-use Rattle.lay_read_types.proofs.Left.{flag_left, literal_left, chain_left, open_left, path_left, left_within}
+use Rattle.lay_read_parts.proofs.Left.{flag_left, literal_left, chain_left, open_left}
+use Rattle.lay_read_types.proofs.Left.{path_left, left_within}
 use Rattle.lay_read_pats.specs.Answers.{pats_within}
 
 -- ---- small parts

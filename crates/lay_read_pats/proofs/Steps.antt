@@ -22,8 +22,8 @@ use Rattle.lay_tree.proofs.nodes.PatternsLaws.{PatView, IsOr, IsValue, IsWild, I
 use Rattle.lay_read_tokens.specs.Answers.{AreFound, IsFound, IsHeld, is_underscore, is_underscore_kind}
 use Rattle.lay_read_tokens.specs.declared.found.Found.{Found}
 use Rattle.lay_read_tokens.specs.declared.stop.ReadNone.{ReadNone}
-use Rattle.lay_read_types.specs.Answers.{literal_if}
-use Rattle.lay_read_types.proofs.Steps.{literal_is}
+use Rattle.lay_read_parts.specs.Answers.{literal_if}
+use Rattle.lay_read_parts.proofs.Steps.{literal_is}
 use Rattle.lay_read_pats.specs.Answers.{pats_within, tuple_behind}
 
 -- ---- values

@@ -5,10 +5,10 @@ ghost use Rattle.lay_read_tokens.specs.Answers.{IsFound};
 ghost use Rattle.lay_read_pats.specs.Answers.{ArePats, pats_within};
 
 use crate::rules::PatRules;
+use lay_read_parts::joins::both;
 use lay_read_tokens::front::{is_at_keyword, takes_keyword, takes_op};
 use lay_read_tokens::names::read_name;
 use lay_read_tokens::{Ahead, Found, ReadNone};
-use lay_read_types::rules::both;
 use lay_tree::{Name, Pat, PatPlace};
 use std::alloc::Global;
 

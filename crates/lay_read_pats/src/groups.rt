@@ -10,12 +10,12 @@ ghost use Rattle.lay_read_pats.specs.Answers.{ArePats, paren_of, pats_within, tu
 
 use crate::facts::{is_rest, is_span};
 use crate::rules::PatRules;
+use lay_read_parts::joins::{both, prepended};
+use lay_read_parts::loops::{Closer, Part, read_elements};
 use lay_read_tokens::found::greater;
 use lay_read_tokens::front::{is_at_closer, pass_two, takes_closer, takes_keyword, takes_mark};
 use lay_read_tokens::stop::{boxed, keep};
 use lay_read_tokens::{Ahead, Found, ReadNone};
-use lay_read_types::loops::{Closer, Part, read_elements};
-use lay_read_types::rules::{both, prepended};
 use lay_token::{Delim, List};
 use lay_tree::{Pat, PatPlace};
 use std::alloc::Global;

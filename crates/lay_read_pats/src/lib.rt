@@ -5,7 +5,7 @@
 #![tactic(auto)]
 
 mod binds;
-mod facts;
+pub mod facts;
 mod groups;
 mod kinds;
 mod pats;
@@ -15,4 +15,5 @@ mod structs;
 mod values;
 
 pub use lay_read_types::{ReadNone, read_attr, read_attrs, read_call};
+pub use pats::pat_ahead;
 pub use reads::{read_pat, read_pat_no_alt};

@@ -6,9 +6,9 @@ ghost use Rattle.lay_read_tokens.specs.Answers.{AreFound, IsFound, IsHeld};
 ghost use Rattle.lay_read_pats.specs.Answers.{alternatives_behind};
 
 use crate::rules::PatRules;
+use lay_read_parts::loops::{Joint, Part, read_chain};
 use lay_read_tokens::front::takes_op;
 use lay_read_tokens::{Ahead, Found, ReadNone};
-use lay_read_types::loops::{Joint, Part, read_chain};
 use lay_token::List;
 use lay_tree::{Pat, PatPlace};
 use std::alloc::Global;

@@ -3,7 +3,7 @@ ghost use Rattle.lay_tree.specs.nodes.Patterns.{PatFront, about_pat};
 ghost use Rattle.lay_tree.specs.declared.patterns.Pat.{Pat};
 ghost use Rattle.lay_tree.specs.declared.patterns.PatPlace.TheVariants.{Alternatives, Single};
 ghost use Rattle.lay_read_tokens.specs.Answers.{AreLexed};
-ghost use Rattle.lay_read_types.specs.Answers.{IsReadAt};
+ghost use Rattle.lay_read_parts.specs.Answers.{IsReadAt};
 
 use crate::pats::pat_ahead;
 use lay_nest::Cursor;

@@ -8,15 +8,15 @@ ghost use Rattle.lay_read_pats.specs.Answers.{ArePats, IsTried, full_field, inde
 use crate::facts::{is_name, is_self, is_short, lone_word};
 use crate::rules::PatRules;
 use crate::values::{begins_dots, span};
+use lay_read_parts::joins::both;
+use lay_read_parts::loops::{Opening, Part, read_open_elements};
 use lay_read_tokens::attributes::attrs_ahead;
 use lay_read_tokens::found::greater;
 use lay_read_tokens::front::{pass, pass_two, takes_closer, takes_op, takes_opener};
 use lay_read_tokens::names::{is_at_name, read_name};
 use lay_read_tokens::stop::copy_of;
 use lay_read_tokens::{Ahead, Found, ReadNone};
-use lay_read_types::loops::{Opening, Part, read_open_elements};
 use lay_read_types::path_ahead;
-use lay_read_types::rules::both;
 use lay_token::{Delim, Kind, List, Text};
 use lay_tree::{Attr, FieldPat, Name, Pat, PatPlace, Path, PathStyle, SpanEnd, Word};
 use std::alloc::Global;

@@ -6,13 +6,13 @@ ghost use Rattle.lay_tree.specs.reader.Patterns as reader;
 ghost use Rattle.lay_tree.specs.reader.Types.{within};
 ghost use Rattle.lay_read_tokens.specs.Answers.{IsFound, IsGot};
 
+use lay_read_parts::joins::both;
+use lay_read_parts::leads::{Lead, is_at_literal, is_at_number, lead_at};
+use lay_read_parts::parts::read_literal;
 use lay_read_tokens::found::greater;
 use lay_read_tokens::front::{is_at_mark, pass, pass_two, takes_mark};
 use lay_read_tokens::{Ahead, Found, ReadNone};
-use lay_read_types::leads::{Lead, is_at_literal, is_at_number, lead_at};
-use lay_read_types::parts::read_literal;
 use lay_read_types::path_ahead;
-use lay_read_types::rules::both;
 use lay_tree::{Pat, PatValue, PathStyle, SpanEnd};
 use std::alloc::Global;
 

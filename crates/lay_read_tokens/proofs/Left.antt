@@ -15,7 +15,7 @@ use Rattle.lay_tree.specs.reader.Attr.{begins_group, meta_name, value, meta_inpu
 use Rattle.lay_tree.specs.reader.Call.{behind_bang, call, behind_end}
 use Rattle.lay_tree.specs.reader.Loops.{Got, ◌>>=◌, passed, element_end, repeat_from, repeat, elements_from, elements}
 use Rattle.lay_tree.specs.reader.SimplePath.{begins_colons, further_word, simple_path}
-use Rattle.lay_tree.specs.reader.Tokens.{run, tokens, group}
+use Rattle.lay_tree.specs.reader.Tokens.{run, tokens_of, tokens, group}
 use Rattle.lay_tree.specs.reader.Words.{given_name, name_by, name, word_by, word, global, path_word, begins_path_word, path_words}
 use Rattle.lay_tree.specs.tokens.Lexed.{may_be_laid}
 use Rattle.lay_tree.specs.tokens.Listing.{as_listed, is_doc_text}
@@ -226,10 +226,14 @@ whole_left ts (Some r) h = record {
   fewer = omega (arith, ap length h, length-append r.0 r.1);
 }
 
-pub tokens_left : (ts : Tokens) → Leaves 0 ts (tokens ts)
-unfolding tokens
-tokens_left ts = chain 0 0 0 ts (run [] ts) _ (omega arith) (whole_left ts (run [] ts) (run_whole [] ts))
+pub list_left : (to_comma : Bool) (ts : Tokens) → Leaves 0 ts (tokens_of to_comma ts)
+unfolding tokens_of
+list_left to_comma ts = chain 0 0 0 ts (run to_comma [] ts) _ (omega arith)
+    (whole_left ts (run to_comma [] ts) (run_whole to_comma [] ts))
     (λ r. choice 0 r.1 (list_all may_be_laid (map as_listed r.0)) _ None (λ h. unread r.1) tt)
+
+pub tokens_left : (ts : Tokens) → Leaves 0 ts (tokens ts)
+tokens_left ts = list_left false ts
 
 group_kind_left : (k : Kind) (t : Token) (ts : Tokens) → Leaves 1 (record t { kind = k } ∷ ts)
     (group (record t { kind = k } ∷ ts))

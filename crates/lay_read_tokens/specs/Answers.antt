@@ -1,8 +1,9 @@
 -- What readers ask for and what they answer.
-use Rattle.std.specs.Prelude.{ℕ, ◌≡◌, ◌&&◌, Bool, true, false, if◌then◌else◌, IsTrue, IsFalse, IsUtf8}
+use Rattle.std.specs.Prelude.{ℕ, ◌≡◌, ◌&&◌, not, Bool, true, false, if◌then◌else◌, codes, IsTrue, IsFalse, IsUtf8}
 use Rattle.std.specs.Prelude.{List, [], ◌∷◌, ◌++◌, map, drop, encode_utf8_all, Option, Some, None, Result, Ok, Err}
 use Rattle.std.specs.List.{list_all}
 use Rattle.std.specs.Str.{chars}
+use Rattle.lay_nest.specs.Groups.{begins_tree}
 use Rattle.lay_token.specs.Lexes.{Lexes}
 use Rattle.lay_piece.specs.Value.{value_of}
 use Rattle.lay_piece.specs.declared.kind.Delim.{Delim}
@@ -10,7 +11,7 @@ use Rattle.lay_piece.specs.declared.kind.Delim.TheVariants.{Bracket}
 use Rattle.lay_piece.specs.declared.kind.Kind.{Kind}
 use Rattle.lay_piece.specs.declared.kind.Kind.TheVariants.{Underscore, Opener}
 use Rattle.lay_token.specs.declared.token.Token.{Token}
-use Rattle.lay_tree.specs.Ahead.{Tokens, first, tail, closes}
+use Rattle.lay_tree.specs.Ahead.{Tokens, first, tail, closes, is_mark}
 use Rattle.lay_tree.specs.nodes.Attr.{is_doc_path, is_empty}
 use Rattle.lay_tree.specs.reader.Attr.{meta_input, made}
 use Rattle.lay_tree.specs.reader.Loops.{Got, Read, ◌>>=◌, passed, nodes, deepest}
@@ -119,6 +120,10 @@ abbrev pub AreAdded : List Listed → List Token → Result (Unit {0}) ReadNone 
 AreAdded before tokens (Ok done) now = (now ≡ before ++ map as_listed tokens) × IsTrue (are_laid tokens)
 AreAdded before tokens (Err NoReading) now = IsFalse (are_laid tokens)
 AreAdded before tokens (Err NoMemory) now = Unit {0}
+
+-- A token tree begins that a list goes on to: up to a comma outside its groups, if it is asked for.
+abbrev pub goes_on : Bool → Tokens → Bool
+goes_on to_comma ts = begins_tree ts && not (to_comma && first (is_mark (codes ",")) ts)
 
 -- the delimiter of the opener at the front
 abbrev pub opened_by : Kind → Option Delim

@@ -1,8 +1,7 @@
 //! The tokens ahead.
 ghost use Rattle.std.specs.Prelude.{◌≡◌, ◌↔◌, ◌<◌, ◌≤◌, ◌++◌, IsTrue, IfSome, MatchOption, drop, length, option_copied, slice_get};
 ghost use Rattle.lay_cook.specs.Cooking.{IsString};
-ghost use Rattle.lay_nest.specs.Groups.{Grouped, begins_group, begins_tree};
-ghost use Rattle.lay_token.specs.Delimiters.{Balanced};
+ghost use Rattle.lay_nest.specs.Groups.{AreTree, Grouped, begins_group, begins_tree};
 ghost use Rattle.lay_token.specs.Operators.{is_op};
 ghost use Rattle.lay_read_tokens.specs.Answers.{AreLexed};
 
@@ -103,7 +102,7 @@ impl<'a> Ahead<'a> {
     pub fn tree(&mut self) -> &'a [Token]
         requires { IsTrue (begins_tree self.old) }
         ensures whole { self.old ≡ result.now ++ self.new }
-        ensures balanced { Balanced result.now }
+        ensures tree { AreTree result.now }
         ensures some { 0 < length result.now }
     {
         self.at.tree()

@@ -6,9 +6,10 @@ ghost use Rattle.lay_nest.specs.Groups.{begins_tree};
 ghost use Rattle.lay_tree.specs.reader.Tokens as reader;
 ghost use Rattle.lay_tree.specs.tokens.Listing.{as_listed, is_doc_text};
 ghost use Rattle.lay_tree.specs.declared.token.Listed.TheVariants as listed;
-ghost use Rattle.lay_read_tokens.specs.Answers.{AreAdded, AreListed, IsGot, IsLaid, front_opener};
+ghost use Rattle.lay_read_tokens.specs.Answers.{AreAdded, AreListed, IsGot, IsLaid, front_opener, goes_on};
 
 use crate::ahead::Ahead;
+use crate::front::is_at_mark;
 use crate::stop::{ReadNone, copy_of, keep};
 use lay_token::{Delim, DocForm, Kind, List, Text, Token, doc_form};
 use lay_tree::{Group, Listed, Tokens};
@@ -18,11 +19,32 @@ use std::alloc::Global;
 pub fn read_tokens(alloc: Global, at: &mut Ahead<'_>) -> Result<Tokens, ReadNone>
     ensures { IsGot (reader.tokens at.old) result at.new }
 {
+    read_list(alloc, at, false)
+}
+
+/// The same, up to a comma that stands in no group of it.
+pub fn read_tokens_before_comma(alloc: Global, at: &mut Ahead<'_>) -> Result<Tokens, ReadNone>
+    ensures { IsGot (reader.tokens_before_comma at.old) result at.new }
+{
+    read_list(alloc, at, true)
+}
+
+/// The token list at the front, up to a comma that stands in no group of it, if it is asked for.
+fn read_list(alloc: Global, at: &mut Ahead<'_>, to_comma: bool) -> Result<Tokens, ReadNone>
+    ensures { IsGot (reader.tokens_of to_comma at.old) result at.new }
+{
     let mut list = List::new(alloc);
-    while is_at_tree(at) {
+    while goes_on(at, to_comma) {
         add_tokens(alloc, &mut list, at.tree())?;
     }
     Ok(Tokens::new(list))
+}
+
+/// Whether a token tree begins that a list goes on to.
+fn goes_on(at: &Ahead<'_>, to_comma: bool) -> bool
+    ensures { result ≡ goes_on to_comma at.now }
+{
+    is_at_tree(at) && !(to_comma && is_at_mark(at, b","))
 }
 
 /// Whether a token tree begins at the front.

@@ -5,10 +5,11 @@ ghost use Rattle.lay_tree.specs.reader.Types.{within};
 ghost use Rattle.lay_read_tokens.specs.Answers.{IsFound};
 ghost use Rattle.lay_read_types.specs.Answers.{AreDeeper};
 
-use crate::leads::{begins_const, is_at_lifetime};
-use crate::loops::{Joint, Part, read_chain};
-use crate::parts::{read_binder_if, read_const, read_lifetime};
-use crate::rules::{Rules, prepended};
+use crate::rules::Rules;
+use lay_read_parts::joins::prepended;
+use lay_read_parts::leads::{begins_const, is_at_lifetime};
+use lay_read_parts::loops::{Joint, Part, read_chain};
+use lay_read_parts::parts::{read_binder_if, read_const, read_lifetime};
 use lay_read_tokens::front::{takes_closer, takes_mark, takes_op, takes_opener};
 use lay_read_tokens::{Ahead, Found, ReadNone};
 use lay_token::{Delim, List};

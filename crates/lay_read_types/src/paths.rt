@@ -5,10 +5,12 @@ ghost use Rattle.lay_tree.specs.nodes.Types.{about_args};
 ghost use Rattle.lay_tree.specs.reader.Types as reader;
 ghost use Rattle.lay_tree.specs.reader.Types.{within};
 ghost use Rattle.lay_read_tokens.specs.Answers.{IsFound};
-ghost use Rattle.lay_read_types.specs.Answers.{AreDeeper, gathered};
+ghost use Rattle.lay_read_parts.specs.Answers.{gathered};
+ghost use Rattle.lay_read_types.specs.Answers.{AreDeeper};
 
-use crate::loops::{Joint, Part, read_chain};
-use crate::rules::{Rules, both};
+use crate::rules::Rules;
+use lay_read_parts::joins::both;
+use lay_read_parts::loops::{Joint, Part, read_chain};
 use lay_read_tokens::found::greater;
 use lay_read_tokens::front::{is_at_mark, takes_colons, takes_keyword, takes_mark};
 use lay_read_tokens::names::read_word;

@@ -7,7 +7,7 @@ ghost use Rattle.lay_tree.specs.declared.types.Args.{Args as ArgsValue};
 ghost use Rattle.lay_tree.specs.declared.types.Path.{Path as PathValue};
 ghost use Rattle.lay_tree.specs.declared.types.Ty.{Ty as TyValue};
 ghost use Rattle.lay_read_tokens.specs.Answers.{AreLexed};
-ghost use Rattle.lay_read_types.specs.Answers.{IsReadAt};
+ghost use Rattle.lay_read_parts.specs.Answers.{IsReadAt};
 
 use crate::knot::{args_ahead, bounds_ahead, generics_ahead, path_ahead, type_ahead, wheres_ahead};
 use lay_nest::Cursor;
@@ -32,8 +32,8 @@ pub fn read_type(
     Ok(found.node)
 }
 
-/// The path at the front, in the style and within the depth. What is within stands one level deeper. Where there is none the cursor
-/// stays.
+/// The path at the front, in the style and within the depth. What is within stands one level deeper. Where there is
+/// none the cursor stays.
 pub fn read_path(
     alloc: Global,
     at: &mut Cursor<'_>,
@@ -52,8 +52,8 @@ pub fn read_path(
     Ok(found.node)
 }
 
-/// The generic arguments at the front, in code with their `::`, within the depth. What is within stands one level deeper. Where there is none the cursor
-/// stays.
+/// The generic arguments at the front, in code with their `::`, within the depth. What is within stands one level
+/// deeper. Where there is none the cursor stays.
 pub fn read_args(
     alloc: Global,
     at: &mut Cursor<'_>,
@@ -72,8 +72,8 @@ pub fn read_args(
     Ok(found.node)
 }
 
-/// The bounds at the front, as many as there are, within the depth. What is within stands one level deeper. Where there is none the cursor
-/// stays.
+/// The bounds at the front, as many as there are, within the depth. What is within stands one level deeper. Where
+/// there is none the cursor stays.
 pub fn read_bounds(alloc: Global, at: &mut Cursor<'_>, depth: u32) -> Result<List<Bound>, ReadNone>
     requires { AreLexed at.old }
     ensures { IsReadAt depth BoundsFront at.old result at.new }
@@ -87,8 +87,8 @@ pub fn read_bounds(alloc: Global, at: &mut Cursor<'_>, depth: u32) -> Result<Lis
     Ok(found.node)
 }
 
-/// The generic parameters at the front, within the depth. What is within stands one level deeper. Where there is none the cursor
-/// stays.
+/// The generic parameters at the front, within the depth. What is within stands one level deeper. Where there is
+/// none the cursor stays.
 pub fn read_generics(alloc: Global, at: &mut Cursor<'_>, depth: u32) -> Result<Generics, ReadNone>
     requires { AreLexed at.old }
     ensures { IsReadAt depth GenericsFront at.old result at.new }
@@ -102,8 +102,8 @@ pub fn read_generics(alloc: Global, at: &mut Cursor<'_>, depth: u32) -> Result<G
     Ok(found.node.0)
 }
 
-/// The where clause at the front, within the depth. What is within stands one level deeper. Where there is none the cursor
-/// stays.
+/// The where clause at the front, within the depth. What is within stands one level deeper. Where there is none the
+/// cursor stays.
 pub fn read_wheres(alloc: Global, at: &mut Cursor<'_>, depth: u32) -> Result<Wheres, ReadNone>
     requires { AreLexed at.old }
     ensures { IsReadAt depth WheresFront at.old result at.new }

@@ -1,11 +1,10 @@
 //! What the rules share: how what is one level deeper is read.
-ghost use Rattle.std.specs.Prelude.{◌≡◌, ◌≤◌, ◌∷◌, IfErr, IfOk, MatchResult, Ok, Err};
+ghost use Rattle.std.specs.Prelude.{◌≤◌, IfOk};
 ghost use Rattle.lay_tree.specs.reader.Types.{within};
 ghost use Rattle.lay_read_tokens.specs.Answers.{IsFound};
 ghost use Rattle.lay_read_types.specs.Answers.{AreDeeper};
 
 use lay_read_tokens::{Ahead, Found, ReadNone};
-use lay_token::List;
 use lay_tree::{Constraint, Ty, TypePlace};
 use std::alloc::Global;
 
@@ -40,27 +39,5 @@ impl<
         ensures within { IfOk result (λ found. found.need ≤ self.now.depth) }
     {
         (self.constraints)(self.alloc, at, self.depth)
-    }
-}
-
-/// What was read, and what was read behind it.
-pub fn both<A: Drop, B>(first: A, second: Result<B, ReadNone>) -> Result<(A, B), ReadNone>
-    ensures { MatchResult second (λ b. result ≡ Ok (first, b)) (λ none. result ≡ Err none) }
-{
-    match second {
-        Ok(second) => Ok((first, second)),
-        Err(none) => Err(none),
-    }
-}
-
-/// A list with one more item at its front.
-pub fn prepended<T: Drop>(first: T, others: List<T>) -> Result<List<T>, ReadNone>
-    ensures ok { IfOk result (λ list. list ≡ first ∷ others) }
-    ensures err { IfErr result (λ none. none ≡ ReadNone.NoMemory) }
-{
-    let mut items = others.into_vec();
-    match items.insert(0, first) {
-        Ok(()) => Ok(List::from_vec(items)),
-        Err(_) => Err(ReadNone::NoMemory),
     }
 }

@@ -1,15 +1,13 @@
 -- What is within the heads of items, and heads by themselves, with what is within them one level deeper.
-use Rattle.std.proofs.Common.{◌≡◌, ℕ, zero, suc, ◌≤◌, true, drop, Some, refl, sym, ap, subst, ◌∙◌, arith}
-use Rattle.lay_form.specs.Form.{Form}
+use Rattle.std.proofs.Common.{◌≡◌, ℕ, zero, suc, ◌≤◌, true, drop, Some, refl, arith}
 use Rattle.lay_form.specs.Spelled.{Spells}
 use Rattle.lay_tree.specs.Ahead.{Tokens}
 use Rattle.lay_tree.specs.nodes.Facts.{Told, ToldFront, by_itself}
-use Rattle.lay_tree.specs.nodes.Types.{deeper}
-use Rattle.lay_tree.specs.reader.Exact.{InText, Exact, needless}
+use Rattle.lay_tree.specs.reader.Exact.{Exact, needless}
 use Rattle.lay_tree.specs.reader.Functions.{head_at, insides}
 use Rattle.lay_tree.specs.reader.Loops.{Got, Read}
 use Rattle.lay_tree.specs.reader.Patterns.{PatWithin, single_at}
-use Rattle.lay_tree.proofs.Steps.{same_some, bind_some, read_same}
+use Rattle.lay_tree.proofs.Steps.{same_some, bind_some}
 use Rattle.lay_tree.proofs.reader.Exact.{IsRead}
 use Rattle.lay_tree.proofs.reader.Loops.{SoundStep}
 use Rattle.lay_tree.proofs.reader.PatternsComplete.{place_read, single_reads}

@@ -115,17 +115,18 @@ pub turned_listed : (k : Kind) (text : List ℕ) (joint : Bool) (left : List Del
 turned_listed (Doc inner block) text joint left = refl
 turned_listed _ text joint left = refl
 
-turned_plain : (k : Kind) (left : List Delim) → is_opener k ≡ false → is_closer k ≡ false → turned k left ≡ Some left
+pub turned_plain : (k : Kind) (left : List Delim) → is_opener k ≡ false → is_closer k ≡ false → turned k left ≡ Some left
 turned_plain (Opener d) left o c = cc
 turned_plain (Closer d) left o c = cc
 turned_plain _ left o c = refl
 
-record IsPair (k l : Kind) : Type 0 where
-  delim : Delim
-  opens : k ≡ Opener delim
-  closes : l ≡ Closer delim
+-- An opener, and the closer of its own delimiter.
+pub record IsPair (k l : Kind) : Type 0 where
+  pub delim : Delim
+  pub opens : k ≡ Opener delim
+  pub closes : l ≡ Closer delim
 
-pair_of : (k l : Kind) → is_pair k l ≡ true → IsPair k l
+pub pair_of : (k l : Kind) → is_pair k l ≡ true → IsPair k l
 pair_of (Opener Paren) (Closer Paren) h = record { delim = Paren; opens = refl; closes = refl }
 pair_of (Opener Bracket) (Closer Bracket) h = record { delim = Bracket; opens = refl; closes = refl }
 pair_of (Opener Brace) (Closer Brace) h = record { delim = Brace; opens = refl; closes = refl }
@@ -136,7 +137,7 @@ step_over : (left more : List Delim) (t : Token) (ts : List Token) → turned t.
 step_over left more t ts e =
     balances_turned left more (as_listed t) (map as_listed ts) (turned_listed t.kind t.text t.joint left ∙ e)
 
-turned_closer : (d : Delim) (left : List Delim) → turned (Closer d) (d ∷ left) ≡ Some left
+pub turned_closer : (d : Delim) (left : List Delim) → turned (Closer d) (d ∷ left) ≡ Some left
 turned_closer d left = ap (λ b. cond b (Some left) None) (same_delim_self d)
 
 trees_over : (trees : Trees) (left : List Delim) (ys : List Token) → Paired trees

@@ -1,5 +1,5 @@
 -- Reading fields, and the variants of enumerations.
-use Rattle.std.specs.Prelude.{ℕ, false, if◌then◌else◌, List, drop, codes, Some, None}
+use Rattle.std.specs.Prelude.{false, if◌then◌else◌, List, drop, codes, Some, None}
 use Rattle.lay_token.specs.Operators.{is_op}
 use Rattle.lay_piece.specs.declared.kind.Delim.TheVariants.{Paren, Brace}
 use Rattle.lay_tree.specs.Ahead.{Tokens, first, opens, closes}

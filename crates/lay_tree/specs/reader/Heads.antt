@@ -1,5 +1,5 @@
 -- Reading the heads of items, and the items that are heads alone.
-use Rattle.std.specs.Prelude.{ℕ, max, ◌&&◌, ◌||◌, not, Bool, true, false, if◌then◌else◌, List, [], drop, codes, Option, Some, None}
+use Rattle.std.specs.Prelude.{ℕ, max, ◌&&◌, ◌||◌, not, Bool, if◌then◌else◌, List, drop, codes, Option, Some, None}
 use Rattle.lay_token.specs.Operators.{is_op}
 use Rattle.lay_piece.specs.declared.kind.Delim.TheVariants.{Paren, Brace}
 use Rattle.lay_tree.specs.Ahead.{Tokens, first, tail, is_keyword, is_mark, opens}

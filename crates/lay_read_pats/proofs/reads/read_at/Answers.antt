@@ -4,7 +4,7 @@ use Rattle.lay_tree.specs.nodes.Patterns.{PatFront, about_pat, pat_follows, pat_
 use Rattle.lay_tree.specs.reader.Patterns.{pat_at}
 use Rattle.lay_tree.specs.declared.patterns.Pat.{Pat}
 use Rattle.lay_tree.proofs.reader.PatternsExact.{pats_exact}
-use Rattle.lay_read_types.proofs.AtFront.{front_deeper, node_read, none_read}
+use Rattle.lay_read_parts.proofs.AtFront.{front_deeper, node_read, none_read}
 use Rattle.lay_read_pats.proofs.reads.read_at.Goals as goal
 
 pub returns-in_err-found : goal.returns-in_err-found

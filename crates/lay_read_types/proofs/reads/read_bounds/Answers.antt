@@ -5,7 +5,7 @@ use Rattle.lay_tree.specs.reader.Types.{all_bounds, bounds_at}
 use Rattle.lay_tree.specs.declared.types.Bound.{Bound}
 use Rattle.lay_tree.proofs.reader.TypesExact.{bounds_exact}
 use Rattle.lay_read_tokens.specs.declared.stop.ReadNone.TheVariants.{NoReading}
-use Rattle.lay_read_types.proofs.AtFront.{front_deeper, node_read, none_read, alone_nowhere, alone_stopped, alone_read}
+use Rattle.lay_read_parts.proofs.AtFront.{front_deeper, node_read, none_read, alone_nowhere, alone_stopped, alone_read}
 use Rattle.lay_read_types.proofs.reads.read_bounds.Goals as goal
 
 pub returns-then-depth-eq0 : goal.returns-then-depth-eq0

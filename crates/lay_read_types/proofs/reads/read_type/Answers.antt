@@ -4,7 +4,7 @@ use Rattle.lay_tree.specs.nodes.Types.{TypeFront, about_type, good_at, type_foll
 use Rattle.lay_tree.specs.reader.Types.{type_at}
 use Rattle.lay_tree.specs.declared.types.Ty.{Ty}
 use Rattle.lay_tree.proofs.reader.TypesExact.{types_exact}
-use Rattle.lay_read_types.proofs.AtFront.{front_deeper, node_read, none_read}
+use Rattle.lay_read_parts.proofs.AtFront.{front_deeper, node_read, none_read}
 use Rattle.lay_read_types.proofs.reads.read_type.Goals as goal
 
 pub returns-in_err-found : goal.returns-in_err-found

@@ -9,7 +9,7 @@ use Rattle.lay_tree.specs.reader.Where.{wheres, wheres_at}
 use Rattle.lay_tree.specs.declared.generics.Wheres.{Wheres}
 use Rattle.lay_tree.proofs.reader.TypesExact.{wheres_exact}
 use Rattle.lay_read_tokens.specs.declared.stop.ReadNone.TheVariants.{NoReading}
-use Rattle.lay_read_types.proofs.AtFront.{front_deeper, node_read, none_read, alone_nowhere, alone_stopped, alone_read, either_read, either_none}
+use Rattle.lay_read_parts.proofs.AtFront.{front_deeper, node_read, none_read, alone_nowhere, alone_stopped, alone_read, either_read, either_none}
 use Rattle.lay_read_types.proofs.reads.read_wheres.Goals as goal
 
 pub returns-then-depth-eq0 : goal.returns-then-depth-eq0

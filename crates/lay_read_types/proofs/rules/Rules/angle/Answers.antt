@@ -4,7 +4,7 @@ use Rattle.lay_tree.specs.Ahead.{is_mark}
 use Rattle.lay_tree.specs.reader.Loops.{elements}
 use Rattle.lay_tree.specs.reader.Types.{within, angle, one_arg}
 use Rattle.lay_read_tokens.proofs.Steps.{lost}
-use Rattle.lay_read_types.specs.Answers.{gathered}
+use Rattle.lay_read_parts.specs.Answers.{gathered}
 use Rattle.lay_read_types.proofs.Steps.{angle_lost}
 use Rattle.lay_read_types.proofs.rules.Rules.angle.Goals as goal
 

@@ -5,7 +5,7 @@ use Rattle.lay_tree.specs.reader.Generics.{generics, one_param}
 use Rattle.lay_tree.specs.reader.Loops.{elements}
 use Rattle.lay_tree.specs.reader.Types.{within}
 use Rattle.lay_read_tokens.proofs.Steps.{lost}
-use Rattle.lay_read_types.specs.Answers.{gathered}
+use Rattle.lay_read_parts.specs.Answers.{gathered}
 use Rattle.lay_read_types.proofs.Steps.{generics_lost}
 use Rattle.lay_read_types.proofs.rules.Rules.generics.Goals as goal
 

@@ -1,0 +1,105 @@
+//! What stands at the front of the tokens of a text.
+ghost use Rattle.lay_tree.specs.nodes.Facts.{ToldFront, by_itself};
+ghost use Rattle.lay_tree.specs.nodes.Functions.{about_fn_head};
+ghost use Rattle.lay_tree.specs.nodes.Heads.{TraitHeadFront, about_impl_head, about_value_head};
+ghost use Rattle.lay_tree.specs.nodes.Vis.{about_vis};
+ghost use Rattle.lay_tree.specs.reader.Vis.{visibility};
+ghost use Rattle.lay_tree.specs.declared.functions.FnHead.{FnHead as FnHeadValue};
+ghost use Rattle.lay_tree.specs.declared.heads.ImplHead.{ImplHead as ImplHeadValue};
+ghost use Rattle.lay_tree.specs.declared.heads.ValueHead.{ValueHead as ValueHeadValue};
+ghost use Rattle.lay_tree.specs.declared.vis.Vis.{Vis as VisValue};
+ghost use Rattle.lay_read_tokens.specs.Answers.{AreLexed, IsGot, IsRead};
+ghost use Rattle.lay_read_parts.specs.Answers.{IsReadAt};
+
+use crate::functions::fn_head_ahead;
+use crate::heads::{impl_head_ahead, trait_head_ahead, value_head_ahead};
+use crate::vis::vis_ahead;
+use lay_nest::Cursor;
+use lay_read_tokens::{Ahead, ReadNone};
+use lay_tree::{FnHead, ImplHead, Site, TraitHead, ValueHead, Vis};
+use std::alloc::Global;
+
+/// The visibility at the front, which may be nothing. Where it can't be read the cursor stays.
+pub fn read_vis(alloc: Global, at: &mut Cursor<'_>) -> Result<Vis, ReadNone>
+    requires { AreLexed at.old }
+    ensures got { IsGot (visibility at.old) result at.new }
+    ensures read { IsRead (λ (x : VisValue). ToldFront (about_vis x)) at.old result at.new }
+{
+    let mut ahead = Ahead::new(at.fork());
+    let vis = vis_ahead(alloc, &mut ahead)?;
+    *at = ahead.into_cursor();
+    Ok(vis)
+}
+
+/// The head of a function at the front, as it stands at its site, within the depth. What is within stands one level
+/// deeper. Where there is none the cursor stays.
+pub fn read_fn_head(
+    alloc: Global,
+    at: &mut Cursor<'_>,
+    site: Site,
+    depth: u32,
+) -> Result<FnHead, ReadNone>
+    requires { AreLexed at.old }
+    ensures { IsReadAt depth (λ (x : FnHeadValue). ToldFront (by_itself (about_fn_head site x))) at.old result at.new }
+{
+    if depth == 0 {
+        return Err(ReadNone::NoReading);
+    }
+    let mut ahead = Ahead::new(at.fork());
+    let found = fn_head_ahead(alloc, &mut ahead, site, depth - 1)?;
+    *at = ahead.into_cursor();
+    Ok(found.node)
+}
+
+/// The head of a constant or of a static at the front, within the depth. What is within stands one level deeper. Where
+/// there is none the cursor stays.
+pub fn read_value_head(
+    alloc: Global,
+    at: &mut Cursor<'_>,
+    depth: u32,
+) -> Result<ValueHead, ReadNone>
+    requires { AreLexed at.old }
+    ensures { IsReadAt depth (λ (x : ValueHeadValue). ToldFront (by_itself (about_value_head x))) at.old result at.new }
+{
+    if depth == 0 {
+        return Err(ReadNone::NoReading);
+    }
+    let mut ahead = Ahead::new(at.fork());
+    let found = value_head_ahead(alloc, &mut ahead, depth - 1)?;
+    *at = ahead.into_cursor();
+    Ok(found.node)
+}
+
+/// The head of a trait at the front, within the depth. What is within stands one level deeper. Where there is none the
+/// cursor stays.
+pub fn read_trait_head(
+    alloc: Global,
+    at: &mut Cursor<'_>,
+    depth: u32,
+) -> Result<TraitHead, ReadNone>
+    requires { AreLexed at.old }
+    ensures { IsReadAt depth TraitHeadFront at.old result at.new }
+{
+    if depth == 0 {
+        return Err(ReadNone::NoReading);
+    }
+    let mut ahead = Ahead::new(at.fork());
+    let found = trait_head_ahead(alloc, &mut ahead, depth - 1)?;
+    *at = ahead.into_cursor();
+    Ok(found.node.0)
+}
+
+/// The head of an implementation at the front, within the depth. What is within stands one level deeper. Where there is
+/// none the cursor stays.
+pub fn read_impl_head(alloc: Global, at: &mut Cursor<'_>, depth: u32) -> Result<ImplHead, ReadNone>
+    requires { AreLexed at.old }
+    ensures { IsReadAt depth (λ (x : ImplHeadValue). ToldFront (by_itself (about_impl_head x))) at.old result at.new }
+{
+    if depth == 0 {
+        return Err(ReadNone::NoReading);
+    }
+    let mut ahead = Ahead::new(at.fork());
+    let found = impl_head_ahead(alloc, &mut ahead, depth - 1)?;
+    *at = ahead.into_cursor();
+    Ok(found.node)
+}

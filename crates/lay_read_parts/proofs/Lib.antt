@@ -1,0 +1,5 @@
+pub mod Left
+pub mod Turning
+pub mod Steps
+pub mod Free
+pub mod AtFront

@@ -1,0 +1,90 @@
+-- What loops ask for, and what readers answer.
+use Rattle.std.specs.Prelude.{ℕ, ◌≡◌, ◌≤◌, Bool, true, false, if◌then◌else◌, List, [], ◌∷◌, codes, Option, Some, None, Result, Ok, Err, drop, IfOk}
+use Rattle.std.specs.declared.alloc.Global.{Global}
+use denote.Ref.{Bor, MutBor}
+use Rattle.lay_token.specs.declared.token.Token.{Token}
+use Rattle.lay_tree.specs.Ahead.{Tokens, closes, is_mark}
+use Rattle.lay_tree.specs.Begins.{begins_predicate}
+use Rattle.lay_tree.specs.reader.Functions.{begins_fn_param}
+use Rattle.lay_tree.specs.reader.Loops.{Got, Read, ◌>>=◌, nodes, deepest}
+use Rattle.lay_tree.specs.reader.Patterns.{begins_field}
+use Rattle.lay_tree.specs.reader.Types.{Within, within, begins_param, named_segments, paren_type, pointer_type, reference_type, bracket_type, bounds_type, begins_call, call_type, path_type}
+use Rattle.lay_tree.specs.declared.token.Literal.{Literal}
+use Rattle.lay_tree.specs.declared.token.Name.{Name}
+use Rattle.lay_tree.specs.declared.token.Word.{Word}
+use Rattle.lay_tree.specs.declared.types.Args.{Args}
+use Rattle.lay_tree.specs.declared.types.Constraint.{Constraint}
+use Rattle.lay_tree.specs.declared.types.Ty.{Ty}
+use Rattle.lay_tree.specs.declared.types.Ty.TheVariants as ty
+use Rattle.lay_tree.specs.declared.types.TypePlace.{TypePlace}
+use Rattle.lay_read_tokens.proofs.Left.{Leaves}
+use Rattle.lay_read_tokens.specs.Answers.{IsFound}
+use Rattle.lay_read_tokens.specs.declared.found.Found.{Found}
+use Rattle.lay_read_tokens.specs.declared.stop.ReadNone.{ReadNone}
+use Rattle.lay_read_tokens.specs.declared.stop.ReadNone.TheVariants.{NoReading, NoMemory}
+use Rattle.lay_read_parts.specs.declared.leads.Lead.{Lead}
+use Rattle.lay_read_parts.specs.declared.leads.Lead.TheVariants as lead
+use Rattle.lay_read_parts.specs.declared.loops.Closer.{Closer}
+use Rattle.lay_read_parts.specs.declared.loops.Closer.TheVariants as closer
+use Rattle.lay_read_parts.specs.declared.loops.Joint.{Joint}
+use Rattle.lay_read_parts.specs.declared.loops.Joint.TheVariants as joint
+use Rattle.lay_read_parts.specs.declared.loops.Opening.{Opening}
+use Rattle.lay_read_parts.specs.declared.loops.Opening.TheVariants as opening
+
+-- This function reads such parts at this place, by these rules. Each has a token at least.
+pub record ReadsParts {R X T : Type 0} (depth : ℕ) (rules : R) (place : X) (one : Tokens → Read T)
+    (may_read : Bor R → MutBor Tokens → X → Type 0)
+    (reads : Bor R → MutBor Tokens → X → Result (Found T) ReadNone → MutBor Tokens → Type 0) : Type 0 where
+  pub readable : (by : Bor R) (old : MutBor Tokens) → by.now ≡ rules → may_read by old place
+  pub read : (by : Bor R) (old new : MutBor Tokens) (r : Result (Found T) ReadNone)
+      → reads by old place r new → by.now ≡ rules → IsFound (one old.now) r new.now
+  pub within_read : (by : Bor R) (old new : MutBor Tokens) (r : Result (Found T) ReadNone)
+      → reads by old place r new → by.now ≡ rules → IfOk r (λ found. found.need ≤ depth)
+  pub leaves : (ts : Tokens) → Leaves 1 ts (one ts)
+
+-- ---- what ends a list, stands between its parts, or goes on
+
+abbrev pub closed_by : Closer → Token → Bool
+closed_by (closer.Group delim) t = closes delim t
+closed_by closer.Angle t = is_mark (codes ">") t
+
+abbrev pub joined_by : Joint → List ℕ
+joined_by joint.Plus = codes "+"
+joined_by joint.Colons = codes "::"
+joined_by joint.Bar = codes "|"
+
+abbrev pub begins_part : Opening → Tokens → Bool
+begins_part opening.Param ts = begins_param ts
+begins_part opening.Predicate ts = begins_predicate ts
+begins_part opening.Field ts = begins_field ts
+begins_part opening.FnParam ts = begins_fn_param ts
+
+-- These nodes were read as long as one began, and whether a comma stands behind them, and this is the greatest need.
+abbrev pub AreFoundOpen : {A : Type 0} → List (A × ℕ) × Bool → Found (List A × Bool) → Type 0
+AreFoundOpen read found = (nodes read.0 ≡ found.node.0) × (read.1 ≡ found.node.1) × (deepest read.0 ≡ found.need)
+
+-- ---- literals
+
+-- the first token as a literal, where it passes
+abbrev pub literal_if : Bool → Tokens → Got Literal
+literal_if passes [] = None
+literal_if passes (t ∷ ts) = if passes then Some (record { kind = t.kind; text = t.text }, ts) else None
+
+-- ---- lists
+
+-- the nodes and the greatest need of theirs
+abbrev pub gathered : {A : Type 0} → Got (List (A × ℕ)) → Read (List A)
+gathered got = do xs ← got; Some ((nodes xs.0, deepest xs.0), xs.1)
+
+-- the same of those that nothing closes
+abbrev pub gathered_open : {A : Type 0} → Got (List (A × ℕ) × Bool) → Read (List A × Bool)
+gathered_open got = do xs ← got; Some (((nodes xs.0.0, xs.0.1), deepest xs.0.0), xs.1)
+
+-- ---- what stands at the front
+
+-- What a reader of a node answers. Where it reads one, the node stands at the front at this depth and the cursor moves
+-- past it; where it doesn't, none stands there, or memory ran out, and the cursor stays.
+abbrev pub IsReadAt : {A : Type 0} → ℕ → (A → Tokens → ℕ → ℕ → Type 0) → Tokens → Result A ReadNone → Tokens → Type 0
+IsReadAt depth Front ahead (Ok node) left = (n : ℕ) × (left ≡ drop n ahead) × Front node ahead n depth
+IsReadAt {A} depth Front ahead (Err NoReading) left = (left ≡ ahead) × ((node : A) (n : ℕ) → Front node ahead n depth → ⊥)
+IsReadAt depth Front ahead (Err NoMemory) left = left ≡ ahead

@@ -1,0 +1,269 @@
+//! Lifetimes, literals, binders, constants and ABIs.
+ghost use Rattle.std.specs.Prelude.{◌≡◌, ◌≤◌, codes, IfOk};
+ghost use Rattle.lay_tree.specs.Ahead.{first, is_keyword, is_lifetime, is_mark};
+ghost use Rattle.lay_tree.specs.reader.Loops.{elements};
+ghost use Rattle.lay_tree.specs.reader.Exact.{needless};
+ghost use Rattle.lay_tree.specs.reader.Types as reader;
+ghost use Rattle.lay_read_tokens.specs.Answers.{IsFound, IsGot, IsMade};
+ghost use Rattle.lay_read_parts.specs.Answers.{literal_if};
+
+use crate::leads::{is_at_lifetime, is_at_literal, is_at_number};
+use crate::loops::{Closer, Joint, Part, read_chain, read_elements};
+use lay_cook::{Cooked, cook};
+use lay_read_tokens::attributes::attrs_ahead;
+use lay_read_tokens::front::{
+    pass, takes_closer, takes_keyword, takes_mark, takes_op, takes_opener,
+};
+use lay_read_tokens::stop::copy_of;
+use lay_read_tokens::tokens::read_tokens;
+use lay_read_tokens::{Ahead, Found, ReadNone};
+use lay_token::{Delim, List, NoMemory};
+use lay_tree::{Abi, Attr, Binder, ConstArg, Lifetime, LifetimeParam, Literal};
+use std::alloc::Global;
+
+/// A lifetime.
+#[tactic(auto, unfolding(lay_tree::specs::reader::Types::lifetime))]
+pub fn read_lifetime(alloc: Global, at: &mut Ahead<'_>) -> Result<Lifetime, ReadNone>
+    ensures { IsGot (reader.lifetime at.old) result at.new }
+{
+    let token = match at.peek(0) {
+        Some(token) => token,
+        None => return Err(ReadNone::NoReading),
+    };
+    if !is_at_lifetime(at) {
+        return Err(ReadNone::NoReading);
+    }
+    let text = copy_of(alloc, &token.text)?;
+    pass(at);
+    Ok(Lifetime { text })
+}
+
+/// A lifetime, if one stands at the front.
+pub fn read_lifetime_if(alloc: Global, at: &mut Ahead<'_>) -> Result<Option<Lifetime>, ReadNone>
+    ensures { IsGot (reader.if_there (first is_lifetime at.old) reader.lifetime at.old) result at.new }
+{
+    if !is_at_lifetime(at) {
+        return Ok(None);
+    }
+    let lifetime = read_lifetime(alloc, at)?;
+    Ok(Some(lifetime))
+}
+
+/// Lifetimes, as parts of a chain.
+struct Lifetimes;
+
+impl Part<Lifetime, ()> for Lifetimes {
+    ghost reads = { λ depth place ts. needless reader.lifetime 0 ts };
+}
+
+/// A lifetime, which needs no depth.
+fn free_lifetime(
+    alloc: &Global,
+    at: &mut Ahead<'_>,
+    _place: (),
+) -> Result<Found<Lifetime>, ReadNone>
+    ensures read { IsFound (needless reader.lifetime 0 at.old) result at.new }
+    ensures within { IfOk result (λ found. found.need ≤ 0) }
+{
+    let node = read_lifetime(*alloc, at)?;
+    Ok(Found { node, need: 0 })
+}
+
+/// Lifetimes behind a `:`.
+#[tactic(auto, using(crate::proofs::Left::lifetime_free))]
+pub fn read_lifetimes(alloc: Global, at: &mut Ahead<'_>) -> Result<List<Lifetime>, ReadNone>
+    ensures { IsGot (reader.lifetimes at.old) result at.new }
+{
+    if !is_at_lifetime(at) {
+        return Ok(List::new(alloc));
+    }
+    let found = read_chain::<Lifetimes, Global, Lifetime, (), _>(
+        alloc,
+        at,
+        0,
+        Joint::Plus,
+        &alloc,
+        free_lifetime,
+        (),
+    )?;
+    Ok(found.node)
+}
+
+/// A lifetime that is a parameter, behind its attributes.
+#[tactic(auto, unfolding(lay_tree::specs::reader::Types::lifetime_behind))]
+pub fn read_lifetime_behind(
+    alloc: Global,
+    at: &mut Ahead<'_>,
+    attrs: List<Attr>,
+) -> Result<LifetimeParam, ReadNone>
+    ensures { IsGot (reader.lifetime_behind attrs at.old) result at.new }
+{
+    let lifetime = read_lifetime(alloc, at)?;
+    let bounds = if takes_op(at, b":") {
+        read_lifetimes(alloc, at)?
+    } else {
+        List::new(alloc)
+    };
+    Ok(LifetimeParam {
+        attrs,
+        lifetime,
+        bounds,
+    })
+}
+
+/// A lifetime that is a parameter, with its attributes.
+fn read_lifetime_param(alloc: Global, at: &mut Ahead<'_>) -> Result<LifetimeParam, ReadNone>
+    ensures { IsGot (reader.lifetime_param at.old) result at.new }
+{
+    let attrs = attrs_ahead(alloc, at, false)?;
+    read_lifetime_behind(alloc, at, attrs)
+}
+
+/// Lifetimes that are parameters, as elements of a list.
+struct LifetimeParams;
+
+impl Part<LifetimeParam, ()> for LifetimeParams {
+    ghost reads = { λ depth place ts. needless reader.lifetime_param 0 ts };
+}
+
+/// A lifetime that is a parameter, which needs no depth.
+fn free_param(
+    alloc: &Global,
+    at: &mut Ahead<'_>,
+    _place: (),
+) -> Result<Found<LifetimeParam>, ReadNone>
+    ensures read { IsFound (needless reader.lifetime_param 0 at.old) result at.new }
+    ensures within { IfOk result (λ found. found.need ≤ 0) }
+{
+    let node = read_lifetime_param(*alloc, at)?;
+    Ok(Found { node, need: 0 })
+}
+
+/// The parameters of a binder, behind its `<`.
+#[tactic(auto, using(crate::proofs::Left::param_free))]
+fn read_params(alloc: Global, at: &mut Ahead<'_>) -> Result<List<LifetimeParam>, ReadNone>
+    ensures { IsGot (elements (is_mark (codes ">")) reader.lifetime_param at.old) result at.new }
+{
+    let found = read_elements::<LifetimeParams, Global, LifetimeParam, (), _>(
+        alloc,
+        at,
+        0,
+        Closer::Angle,
+        &alloc,
+        free_param,
+        (),
+    )?;
+    Ok(found.node)
+}
+
+/// A binder, if one stands at the front.
+#[tactic(auto, unfolding(lay_tree::specs::reader::Types::binder))]
+pub fn read_binder_if(alloc: Global, at: &mut Ahead<'_>) -> Result<Option<Binder>, ReadNone>
+    ensures { IsGot (reader.binder_if at.old) result at.new }
+{
+    if !takes_keyword(at, b"for") {
+        return Ok(None);
+    }
+    if !takes_mark(at, b"<") {
+        return Err(ReadNone::NoReading);
+    }
+    let params = read_params(alloc, at)?;
+    Ok(Some(Binder { params }))
+}
+
+/// The first token as a literal, if it passes.
+pub fn read_literal(alloc: Global, at: &mut Ahead<'_>, passes: bool) -> Result<Literal, ReadNone>
+    ensures { IsGot (literal_if passes at.old) result at.new }
+{
+    let token = match at.peek(0) {
+        Some(token) => token,
+        None => return Err(ReadNone::NoReading),
+    };
+    if !passes {
+        return Err(ReadNone::NoReading);
+    }
+    let text = copy_of(alloc, &token.text)?;
+    pass(at);
+    Ok(Literal {
+        kind: token.kind,
+        text,
+    })
+}
+
+/// A generic argument that is a constant.
+#[tactic(auto, using(crate::proofs::Steps::const_literal, crate::proofs::Steps::const_other))]
+pub fn read_const(alloc: Global, at: &mut Ahead<'_>) -> Result<ConstArg, ReadNone>
+    ensures { IsGot (reader.const at.old) result at.new }
+{
+    if is_at_literal(at) {
+        let literal = read_literal(alloc, at, true)?;
+        Ok(ConstArg::Literal(literal))
+    } else if takes_mark(at, b"-") {
+        read_negative(alloc, at)
+    } else {
+        read_braces(alloc, at)
+    }
+}
+
+/// A number, behind its `-`.
+#[tactic(auto, using(crate::proofs::Steps::literal_is))]
+fn read_negative(alloc: Global, at: &mut Ahead<'_>) -> Result<ConstArg, ReadNone>
+    ensures { IsGot (reader.negative at.old) result at.new }
+{
+    let passes = is_at_number(at);
+    let literal = read_literal(alloc, at, passes)?;
+    Ok(ConstArg::Negative(literal))
+}
+
+/// A constant in braces.
+fn read_braces(alloc: Global, at: &mut Ahead<'_>) -> Result<ConstArg, ReadNone>
+    ensures { IsGot (reader.braces at.old) result at.new }
+{
+    if !takes_opener(at, Delim::Brace) {
+        return Err(ReadNone::NoReading);
+    }
+    let tokens = read_tokens(alloc, at)?;
+    if takes_closer(at, Delim::Brace) {
+        Ok(ConstArg::Braces(tokens))
+    } else {
+        Err(ReadNone::NoReading)
+    }
+}
+
+/// Whether a string without suffix stands at the front.
+fn is_at_string(alloc: Global, at: &Ahead<'_>) -> Result<bool, ReadNone>
+    ensures { IsMade (first reader.is_string_token at.now) result }
+{
+    match at.front() {
+        Some(token) => match cook(alloc, token) {
+            Ok(Cooked::Str(_)) => Ok(true),
+            Ok(Cooked::NotText) => Ok(false),
+            Err(NoMemory) => Err(ReadNone::NoMemory),
+        },
+        None => Ok(false),
+    }
+}
+
+/// An ABI, behind `extern`.
+#[tactic(auto, using(crate::proofs::Steps::literal_is))]
+fn read_abi_name(alloc: Global, at: &mut Ahead<'_>) -> Result<Option<Literal>, ReadNone>
+    ensures { IsGot (reader.if_there (first reader.is_string_token at.old) (reader.literal reader.is_string_token) at.old) result at.new }
+{
+    if !is_at_string(alloc, at)? {
+        return Ok(None);
+    }
+    let name = read_literal(alloc, at, true)?;
+    Ok(Some(name))
+}
+
+/// An ABI, if one stands at the front.
+#[tactic(auto, unfolding(lay_tree::specs::reader::Types::abi))]
+pub fn read_abi_if(alloc: Global, at: &mut Ahead<'_>) -> Result<Option<Abi>, ReadNone>
+    ensures { IsGot (reader.if_there (first (is_keyword (codes "extern")) at.old) reader.abi at.old) result at.new }
+{
+    if !takes_keyword(at, b"extern") {
+        return Ok(None);
+    }
+    let name = read_abi_name(alloc, at)?;
+    Ok(Some(Abi { name }))
+}

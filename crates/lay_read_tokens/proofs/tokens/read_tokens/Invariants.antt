@@ -1,9 +1,0 @@
-use Rattle.std.proofs.Common.{length}
-use Rattle.lay_read_tokens.proofs.Lists.{ReadFrom}
-use Rattle.lay_read_tokens.proofs.tokens.read_tokens.Given as goal
-
-abbrev pub invariant-loop-alloc : goal.invariant-loop-alloc
-invariant-loop-alloc l = ReadFrom l.fn.at l.list l.at
-
-abbrev pub decreases-loop-alloc : goal.decreases-loop-alloc
-decreases-loop-alloc l = length l.at
