@@ -6,12 +6,11 @@ use Rattle.lay_piece.specs.declared.kind.Delim.TheVariants.{Paren, Brace}
 use Rattle.lay_piece.specs.declared.kind.Kind.TheVariants.{RawIdent, Doc}
 use Rattle.lay_token.specs.declared.token.Token.{Token}
 use Rattle.lay_form.specs.Depth.{least_depth}
-use Rattle.lay_form.specs.Form.{Done, Piece}
+use Rattle.lay_form.specs.Form.{Form, Done, Piece}
 use Rattle.lay_form.specs.Spelled.{Spells}
 use Rattle.lay_tree.specs.Out.{out}
 use Rattle.lay_tree.specs.nodes.Call.{bang, end_form}
-use Rattle.lay_tree.specs.nodes.Facts.{Facts}
-use Rattle.lay_tree.specs.nodes.Item.{about_item, about_kind}
+use Rattle.lay_tree.specs.nodes.Item.{KindFacts, kind_facts, kind_form, told_of_kind}
 use Rattle.lay_tree.specs.declared.attr.Attr.{Attr}
 use Rattle.lay_tree.specs.declared.attr.Attr.TheVariants as attr
 use Rattle.lay_tree.specs.reader.Call.{call}
@@ -23,14 +22,16 @@ use Rattle.lay_tree.specs.reader.Words.{name, word as word_reading}
 use Rattle.lay_tree.specs.tokens.Lists.{group_form}
 use Rattle.lay_tree.specs.declared.item.Item.{Item}
 use Rattle.lay_tree.specs.declared.item.ItemKind.{ItemKind}
+use Rattle.lay_tree.specs.declared.item.ItemKind.TheOpen.{ItemKind-F}
 use Rattle.lay_tree.specs.declared.item.ItemKind.TheVariants as item
 use Rattle.lay_tree.specs.declared.token.Listed.{Listed}
 use Rattle.lay_tree.specs.declared.tokens.Group.{Group}
 use Rattle.lay_tree.specs.declared.tokens.MacroCall.{MacroCall}
 use Rattle.lay_tree.specs.declared.token.Name.{Name}
+use Rattle.lay_tree.specs.declared.vis.Vis.TheVariants as vis
 use Rattle.lay_tree.proofs.nodes.ItemLaws as items
 use Rattle.lay_tree.proofs.samples.Tokens as list
-use Rattle.lay_tree.proofs.samples.Trees.{named, plain, A, a, b, c, x_doc, item_of, structure, module_of, import_of, word_of, group_of, struct_facts, word_is, group_is, kind_is, struct_is, laid, Spelt, token, word, mark, opens, closes}
+use Rattle.lay_tree.proofs.samples.Trees.{named, plain, A, a, b, c, x_doc, item_of, unit, structure, module_of, import_of, word_of, group_of, struct_facts, about, word_is, group_is, kind_is, struct_is, laid, Spelt, token, word, mark, opens, closes}
 
 -- a raw identifier
 abbrev raw_type : Name
@@ -77,40 +78,40 @@ arguments = list.a ∷ list.joint (codes "&") ∷ list.mark (codes "&") ∷ list
 
 -- ---- layouts
 
-laid_struct : laid (about_item (structure [] A)) ≡ codes "struct A;"
+laid_struct : laid (about (structure [] A)) ≡ codes "struct A;"
 laid_struct = rw (struct_is [] A) refl
 
-laid_raw : laid (about_item (structure [] raw_type)) ≡ codes "struct r#type;"
+laid_raw : laid (about (structure [] raw_type)) ≡ codes "struct r#type;"
 laid_raw = rw (struct_is [] raw_type) refl
 
-laid_documented : laid (about_item (structure (one_doc ∷ []) A)) ≡ codes "/// one\nstruct A;"
+laid_documented : laid (about (structure (one_doc ∷ []) A)) ≡ codes "/// one\nstruct A;"
 unfolding doc_form
 laid_documented = rw (struct_is (one_doc ∷ []) A) refl
 
-laid_empty_module : laid (about_item (module_of [] [])) ≡ codes "mod a {}"
+laid_empty_module : laid (about (module_of [] [])) ≡ codes "mod a {}"
 laid_empty_module = rw (kind_is [] _ _ (items.module_is (named a) [] [])) refl
 
-laid_module : laid (about_item (module_of (x_doc ∷ []) (structure [] A ∷ []))) ≡ codes "mod a {\n    //! x\n    struct A;\n}"
+laid_module : laid (about (module_of (x_doc ∷ []) (structure [] A ∷ []))) ≡ codes "mod a {\n    //! x\n    struct A;\n}"
 unfolding doc_form
 laid_module = rw (kind_is [] _ _ (items.module_is (named a) (x_doc ∷ []) (structure [] A ∷ [])), struct_is [] A) refl
 
-laid_import : laid (about_item (import_of (word_of a None))) ≡ codes "use a;"
+laid_import : laid (about (import_of (word_of a None))) ≡ codes "use a;"
 laid_import = rw (kind_is [] _ _ (items.import_is (word_of a None)), word_is a None) refl
 
-laid_rules : laid (about_item (item_of [] (item.MacroRules m (in_braces rules))))
+laid_rules : laid (about (item_of [] (item.MacroRules m (in_braces rules))))
     ≡ codes "macro_rules! m { () => { 1 }; }"
 laid_rules = rw (kind_is [] _ _ (items.rules_is m (in_braces rules))) refl
 
-laid_rules_end : laid (about_item (item_of [] (item.MacroRules m (in_parens [])))) ≡ codes "macro_rules! m();"
+laid_rules_end : laid (about (item_of [] (item.MacroRules m (in_parens [])))) ≡ codes "macro_rules! m();"
 laid_rules_end = rw (kind_is [] _ _ (items.rules_is m (in_parens []))) refl
 
-laid_call : laid (about_item (call_of (in_braces statements))) ≡ codes "m! { a += b; x.0 }"
+laid_call : laid (about (call_of (in_braces statements))) ≡ codes "m! { a += b; x.0 }"
 laid_call = rw (kind_is [] _ _ (items.call_is (m_call (in_braces statements)))) refl
 
-laid_call_end : laid (about_item (call_of (in_parens arguments))) ≡ codes "m!(a && b, &c, -1, f::<T>(x));"
+laid_call_end : laid (about (call_of (in_parens arguments))) ≡ codes "m!(a && b, &c, -1, f::<T>(x));"
 laid_call_end = rw (kind_is [] _ _ (items.call_is (m_call (in_parens arguments)))) refl
 
-laid_empty_call : laid (about_item (call_of (in_braces []))) ≡ codes "m! {}"
+laid_empty_call : laid (about (call_of (in_braces []))) ≡ codes "m! {}"
 laid_empty_call = rw (kind_is [] _ _ (items.call_is (m_call (in_braces [])))) refl
 
 laid_file : out (record { shebang = Some (codes "#!/bin/sh"); attrs = x_doc ∷ []; items = structure [] A ∷ [] })
@@ -120,46 +121,54 @@ laid_file = rw (struct_is [] A) refl
 
 -- ---- spellings
 
-kind_spelled : (kind : ItemKind) (F : Facts) (ts : List Token) → about_kind kind ≡ F → Spells F.form 255 ts [] → Spelt (about_item (item_of [] kind)) ts
+-- what an item is, by its head, if it has one, and what stands behind it
+abbrev form_of : KindFacts → Form
+form_of F = kind_form vis.Inherited F.head F.tail
+
+kind_spelled : (kind : ItemKind) (F : KindFacts) (ts : List Token) → told_of_kind kind ≡ F → Spells (form_of F) 255 ts []
+    → Spelt (about (item_of [] kind)) ts
 kind_spelled kind F ts e s = rw (kind_is [] kind F e) (_, (_, s, refl), refl)
+
+-- `struct A;`
+unit_spelled : (depth : ℕ) (ts : List Token)
+    → Spells (form_of (kind_facts (ItemKind-F.Struct (unit A)))) depth (word (codes "struct") ∷ word (codes "A") ∷ mark (codes ";") ∷ ts) ts
+unit_spelled depth ts = (
+  _,
+  (_, refl, (_, (_, (refl, refl, refl), (_, refl, refl)), (_, (refl, refl, refl), (_, (_, inl refl, refl), (_, refl, refl))))),
+  (_, (_, inl refl, refl), (_, (_, (refl, refl, refl), refl), refl)),
+)
 
 struct_spelled : (depth : ℕ) (ts : List Token)
     → Spells (struct_facts [] A).form (suc depth) (word (codes "struct") ∷ word (codes "A") ∷ mark (codes ";") ∷ ts) ts
-struct_spelled depth ts =
-    (_, (_, (_, (_, (_, (refl, refl, refl), (_, refl, refl)), (_, (refl, refl, refl), refl)), (_, (_, (refl, refl, refl), refl), refl)), refl), refl)
+struct_spelled depth ts = (_, (_, unit_spelled depth ts, refl), refl)
 
-spelled_struct : Spelt (about_item (structure [] A)) (word (codes "struct") ∷ word (codes "A") ∷ mark (codes ";") ∷ [])
+spelled_struct : Spelt (about (structure [] A)) (word (codes "struct") ∷ word (codes "A") ∷ mark (codes ";") ∷ [])
 spelled_struct = rw (struct_is [] A) (struct_spelled 255 [])
 
-spelled_raw : Spelt (about_item (structure [] raw_type)) (word (codes "struct") ∷ token RawIdent (codes "type") false ∷ mark (codes ";") ∷ [])
+spelled_raw : Spelt (about (structure [] raw_type)) (word (codes "struct") ∷ token RawIdent (codes "type") false ∷ mark (codes ";") ∷ [])
 spelled_raw =
-    kind_spelled _ _ _ (items.struct_is raw_type)
-    (_, (_, (_, (refl, refl, refl), (_, refl, refl)), (_, (refl, refl, refl), refl)), (_, (_, (refl, refl, refl), refl), refl))
-
--- with an attribute
-spelled_documented : Spelt (about_item (structure (one_doc ∷ []) A))
-    (token (Doc false false) (codes " one") false ∷ word (codes "struct") ∷ word (codes "A") ∷ mark (codes ";") ∷ [])
-spelled_documented =
-    rw (struct_is (one_doc ∷ []) A) (
+    kind_spelled _ _ _ (items.struct_is (unit raw_type)) (
       _,
-      (
-        _,
-        (_, inl (false, refl, refl, refl), refl),
-        (_, (_, (_, (_, (refl, refl, refl), (_, refl, refl)), (_, (refl, refl, refl), refl)), (_, (_, (refl, refl, refl), refl), refl)), refl),
-      ),
-      refl,
+      (_, refl, (_, (_, (refl, refl, refl), (_, refl, refl)), (_, (refl, refl, refl), (_, (_, inl refl, refl), (_, refl, refl))))),
+      (_, (_, inl refl, refl), (_, (_, (refl, refl, refl), refl), refl)),
     )
 
-spelled_empty_module : Spelt (about_item (module_of [] [])) (word (codes "mod") ∷ word a ∷ opens Brace ∷ closes Brace ∷ [])
+-- with an attribute
+spelled_documented : Spelt (about (structure (one_doc ∷ []) A))
+    (token (Doc false false) (codes " one") false ∷ word (codes "struct") ∷ word (codes "A") ∷ mark (codes ";") ∷ [])
+spelled_documented =
+    rw (struct_is (one_doc ∷ []) A) (_, (_, (_, inl (false, refl, refl, refl), refl), (_, unit_spelled 255 [], refl)), refl)
+
+spelled_empty_module : Spelt (about (module_of [] [])) (word (codes "mod") ∷ word a ∷ opens Brace ∷ closes Brace ∷ [])
 spelled_empty_module =
     kind_spelled _ _ _ (items.module_is (named a) [] []) (
       _,
-      (_, (_, (refl, refl, refl), (_, refl, refl)), (_, (refl, refl, refl), refl)),
+      (_, refl, (_, (_, (refl, refl, refl), (_, refl, refl)), (_, (refl, refl, refl), refl))),
       (_, (_, refl, (_, (refl, refl, refl), (_, (refl, refl, refl), refl))), refl),
     )
 
 -- with an inner attribute and an item
-spelled_module : Spelt (about_item (module_of (x_doc ∷ []) (structure [] A ∷ [])))
+spelled_module : Spelt (about (module_of (x_doc ∷ []) (structure [] A ∷ [])))
     (word (codes "mod") ∷ word a ∷ opens Brace ∷ token (Doc true true) (codes " x") false
     ∷ word (codes "struct") ∷ word (codes "A") ∷ mark (codes ";") ∷ closes Brace ∷ [])
 spelled_module =
@@ -169,7 +178,7 @@ spelled_module =
         _,
         (
           _,
-          (_, (_, (refl, refl, refl), (_, refl, refl)), (_, (refl, refl, refl), refl)),
+          (_, refl, (_, (_, (refl, refl, refl), (_, refl, refl)), (_, (refl, refl, refl), refl))),
           (
             _,
             (_, refl, (_, (refl, refl, refl), refl)),
@@ -181,7 +190,7 @@ spelled_module =
       refl,
     )
 
-spelled_import : Spelt (about_item (import_of (word_of a None))) (word (codes "use") ∷ word a ∷ mark (codes ";") ∷ [])
+spelled_import : Spelt (about (import_of (word_of a None))) (word (codes "use") ∷ word a ∷ mark (codes ";") ∷ [])
 spelled_import =
     rw (kind_is [] _ _ (items.import_is (word_of a None)), word_is a None) (
       _,
@@ -189,7 +198,7 @@ spelled_import =
         _,
         (
           _,
-          (_, (_, (refl, refl, refl), (_, refl, refl)), (_, (_, (_, (_, (refl, refl, refl), refl), refl), refl), refl)),
+          (_, refl, (_, (_, (refl, refl, refl), (_, refl, refl)), (_, (_, (_, (_, (refl, refl, refl), refl), refl), refl), refl))),
           (_, (_, (refl, refl, refl), refl), refl),
         ),
         refl,
@@ -198,11 +207,11 @@ spelled_import =
     )
 
 -- the same, by the parts of its form
-parts_spelled : (kind : ItemKind) (F : Facts) (ts : List Token) → about_kind kind ≡ F → list.Spelt 255 F.form ts []
-    → Spelt (about_item (item_of [] kind)) ts
+parts_spelled : (kind : ItemKind) (F : KindFacts) (ts : List Token) → told_of_kind kind ≡ F → list.Spelt 255 (form_of F) ts []
+    → Spelt (about (item_of [] kind)) ts
 parts_spelled kind F ts e s = kind_spelled kind F ts e s.spells
 
-spelled_rules : Spelt (about_item (item_of [] (item.MacroRules m (in_braces rules))))
+spelled_rules : Spelt (about (item_of [] (item.MacroRules m (in_braces rules))))
     (word (codes "macro_rules") ∷ mark (codes "!") ∷ word (codes "m") ∷ opens Brace
     ∷ (list.told rules ++ closes Brace ∷ []))
 unfolding op_at
@@ -214,7 +223,7 @@ spelled_rules =
     (list.empty (list.gap (list.next (list.next (list.gap (list.group (list.next list.end) (list.next list.end)))))))
     list.end))))
 
-spelled_rules_end : Spelt (about_item (item_of [] (item.MacroRules m (in_parens []))))
+spelled_rules_end : Spelt (about (item_of [] (item.MacroRules m (in_parens []))))
     (word (codes "macro_rules") ∷ mark (codes "!") ∷ word (codes "m") ∷ opens Paren ∷ closes Paren
     ∷ mark (codes ";") ∷ [])
 unfolding op_at
@@ -227,11 +236,11 @@ spelled_rules_end =
 call_spelled : (tokens : Group) (ts mid : List Token)
     → list.Spelt 255 (Piece (bang tokens.delim) (group_form tokens Done)) ts mid
     → list.Spelt 255 (end_form tokens.delim) mid []
-    → Spelt (about_item (call_of tokens)) (word (codes "m") ∷ ts)
+    → Spelt (about (call_of tokens)) (word (codes "m") ∷ ts)
 call_spelled tokens ts mid s e =
     parts_spelled _ _ _ (items.call_is (m_call tokens)) (list.part (list.part (list.leaf list.end) s) e)
 
-spelled_call : Spelt (about_item (call_of (in_braces statements)))
+spelled_call : Spelt (about (call_of (in_braces statements)))
     (word (codes "m") ∷ mark (codes "!") ∷ opens Brace ∷ (list.told statements ++ closes Brace ∷ []))
 unfolding op_at
 spelled_call =
@@ -243,7 +252,7 @@ spelled_call =
     list.end))
     list.end
 
-spelled_call_end : Spelt (about_item (call_of (in_parens arguments)))
+spelled_call_end : Spelt (about (call_of (in_parens arguments)))
     (word (codes "m") ∷ mark (codes "!") ∷ opens Paren ∷ (list.told arguments ++ closes Paren ∷ mark (codes ";") ∷ []))
 unfolding op_at
 spelled_call_end =
@@ -258,7 +267,7 @@ spelled_call_end =
     list.end))
     (list.fixed list.end)
 
-spelled_empty_call : Spelt (about_item (call_of (in_braces [])))
+spelled_empty_call : Spelt (about (call_of (in_braces [])))
     (word (codes "m") ∷ mark (codes "!") ∷ opens Brace ∷ closes Brace ∷ [])
 unfolding op_at
 spelled_empty_call =
@@ -267,21 +276,21 @@ spelled_empty_call =
 
 -- ---- what they need
 
-a_struct_needs_one : least_depth (about_item (structure [] A)).form ≡ 1
+a_struct_needs_one : least_depth (about (structure [] A)).form ≡ 1
 a_struct_needs_one = rw (struct_is [] A) refl
 
-an_empty_module_needs_one : least_depth (about_item (module_of [] [])).form ≡ 1
+an_empty_module_needs_one : least_depth (about (module_of [] [])).form ≡ 1
 an_empty_module_needs_one = rw (kind_is [] _ _ (items.module_is (named a) [] [])) refl
 
-a_module_needs_two : least_depth (about_item (module_of [] (structure [] A ∷ []))).form ≡ 2
+a_module_needs_two : least_depth (about (module_of [] (structure [] A ∷ []))).form ≡ 2
 a_module_needs_two = rw (kind_is [] _ _ (items.module_is (named a) [] (structure [] A ∷ [])), struct_is [] A) refl
 
 -- an import of a group: the item, the tree, and those in it
-an_import_needs_three : least_depth (about_item (import_of (group_of b c))).form ≡ 3
+an_import_needs_three : least_depth (about (import_of (group_of b c))).form ≡ 3
 an_import_needs_three = rw (kind_is [] _ _ (items.import_is (group_of b c)), group_is b c) refl
 
 -- Token lists need nothing.
-a_call_needs_one : least_depth (about_item (call_of (in_braces statements))).form ≡ 1
+a_call_needs_one : least_depth (about (call_of (in_braces statements))).form ≡ 1
 a_call_needs_one = rw (kind_is [] _ _ (items.call_is (m_call (in_braces statements)))) refl
 
 -- ---- which item it is

@@ -9,10 +9,15 @@ use Rattle.lay_token.specs.declared.token.Token.{Token}
 use Rattle.lay_form.specs.Layout.{document}
 use Rattle.lay_form.specs.Spelled.{Spells}
 use Rattle.lay_tree.specs.nodes.Facts.{Facts}
-use Rattle.lay_tree.specs.nodes.Item.{kind_facts, item_facts, about_item, about_kind}
+use Rattle.lay_tree.specs.nodes.Item.{ItemFacts, KindFacts, about_item, kind_facts, item_facts, told_of_item, told_of_kind}
 use Rattle.lay_tree.specs.nodes.Use.{end_facts, tree_facts, about_use, about_use_end}
 use Rattle.lay_tree.specs.declared.attr.Attr.{Attr}
 use Rattle.lay_tree.specs.declared.attr.Attr.TheVariants as attr
+use Rattle.lay_tree.specs.declared.fields.Fields.TheVariants as fields
+use Rattle.lay_tree.specs.declared.generics.Generics.{Generics}
+use Rattle.lay_tree.specs.declared.generics.Wheres.{Wheres}
+use Rattle.lay_tree.specs.declared.heads.Site.TheVariants.{Module}
+use Rattle.lay_tree.specs.declared.heads.Struct.{Struct}
 use Rattle.lay_tree.specs.declared.item.Item.{Item}
 use Rattle.lay_tree.specs.declared.item.ItemKind.{ItemKind}
 use Rattle.lay_tree.specs.declared.item.ItemKind.TheOpen.{ItemKind-F}
@@ -24,6 +29,7 @@ use Rattle.lay_tree.specs.declared.use_tree.UseEnd.{UseEnd}
 use Rattle.lay_tree.specs.declared.use_tree.UseEnd.TheOpen.{UseEnd-F}
 use Rattle.lay_tree.specs.declared.use_tree.UseEnd.TheVariants as use_end
 use Rattle.lay_tree.specs.declared.use_tree.UseTree.{UseTree}
+use Rattle.lay_tree.specs.declared.vis.Vis.TheVariants as vis
 use Rattle.lay_tree.proofs.nodes.ItemLaws as items
 use Rattle.lay_tree.proofs.nodes.UseLaws as uses
 
@@ -51,10 +57,20 @@ abbrev pub x_doc : Attr
 x_doc = attr.Doc true (codes " x")
 
 abbrev pub item_of : List Attr → ItemKind → Item
-item_of attrs kind = record { attrs = attrs; kind = kind }
+item_of attrs kind = record { attrs = attrs; vis = vis.Inherited; kind = kind }
+
+abbrev pub no_generics : Generics
+no_generics = record { params = [] }
+
+abbrev pub no_wheres : Wheres
+no_wheres = record { predicates = [] }
+
+-- without fields
+abbrev pub unit : Name → Struct
+unit name = record { name = name; generics = no_generics; fields = fields.Unit; wheres = no_wheres }
 
 abbrev pub structure : List Attr → Name → Item
-structure attrs name = item_of attrs (item.Struct name)
+structure attrs name = item_of attrs (item.Struct (unit name))
 
 abbrev pub module_of : List Attr → List Item → Item
 module_of attrs items = item_of [] (item.Module (named a) attrs items)
@@ -83,11 +99,11 @@ word_facts text renamed = tree_facts_of false [] (end_facts (UseEnd-F.Word (plai
 abbrev pub group_facts : List ℕ → List ℕ → Facts
 group_facts one two = tree_facts_of false (plain a ∷ []) (end_facts (UseEnd-F.Group (word_facts one None ∷ word_facts two None ∷ [])))
 
-abbrev pub item_facts_of : List Attr → Facts → Facts
-item_facts_of attrs kind = item_facts (record { attrs = attrs; kind = kind })
+abbrev pub item_facts_of : List Attr → KindFacts → ItemFacts
+item_facts_of attrs kind = item_facts (record { attrs = attrs; vis = vis.Inherited; kind = kind })
 
-abbrev pub struct_facts : List Attr → Name → Facts
-struct_facts attrs name = item_facts_of attrs (kind_facts (ItemKind-F.Struct name))
+abbrev pub struct_facts : List Attr → Name → ItemFacts
+struct_facts attrs name = item_facts_of attrs (kind_facts (ItemKind-F.Struct (unit name)))
 
 pub tree_is : (global : Bool) (path : List Word) (end : UseEnd) (F : Facts) → about_use_end end ≡ F
     → about_use (tree_of global path end) ≡ tree_facts_of global path F
@@ -103,11 +119,16 @@ group_is one two = tree_is false (plain a ∷ []) _ _ (uses.group_is (word_of on
         ≡ end_facts (UseEnd-F.Group (word_facts one None ∷ word_facts two None ∷ []))
     both = rw (word_is one None, word_is two None) refl
 
-pub kind_is : (attrs : List Attr) (kind : ItemKind) (F : Facts) → about_kind kind ≡ F → about_item (item_of attrs kind) ≡ item_facts_of attrs F
+pub kind_is : (attrs : List Attr) (kind : ItemKind) (F : KindFacts) → told_of_kind kind ≡ F
+    → told_of_item (item_of attrs kind) ≡ item_facts_of attrs F
 kind_is attrs kind F e = items.item_is (item_of attrs kind) ∙ ap (item_facts_of attrs) e
 
-pub struct_is : (attrs : List Attr) (name : Name) → about_item (structure attrs name) ≡ struct_facts attrs name
-struct_is attrs name = kind_is attrs _ _ (items.struct_is name)
+pub struct_is : (attrs : List Attr) (name : Name) → told_of_item (structure attrs name) ≡ struct_facts attrs name
+struct_is attrs name = kind_is attrs _ _ (items.struct_is (unit name))
+
+-- what is told of an item in a module
+abbrev pub about : Item → Facts
+about x = about_item Module x
 
 -- ---- layouts and spellings
 

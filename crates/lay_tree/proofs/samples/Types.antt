@@ -62,19 +62,19 @@ use Rattle.lay_tree.proofs.samples.Trees.{named, plain, a, b, laid, token, word,
 abbrev pub local : List ℕ → Path
 local text = record { start = start.Local; segments = (plain text, args.None) ∷ [] }
 
-abbrev A : Ty
+abbrev pub A : Ty
 A = ty.Path (local (codes "A"))
 
 abbrev pub B : Ty
 B = ty.Path (local (codes "B"))
 
-abbrev C : Ty
+abbrev pub C : Ty
 C = ty.Path (local (codes "C"))
 
 abbrev E : Ty
 E = ty.Path (local (codes "E"))
 
-abbrev tick_a : Lifetime
+abbrev pub tick_a : Lifetime
 tick_a = record { text = codes "'a" }
 
 abbrev tick_b : Lifetime
@@ -84,7 +84,7 @@ abbrev one : Literal
 one = record { kind = kind.Int; text = codes "1" }
 
 -- a bound that is one word
-abbrev meeting : Bool → Bool → List ℕ → Bound
+abbrev pub meeting : Bool → Bool → List ℕ → Bound
 meeting parens maybe text = bound.Meets parens maybe None (local text)
 
 -- `A<B>`
@@ -128,7 +128,7 @@ three_params = record {
 }
 
 -- `where A: B`
-abbrev where_A_is : List ℕ → Wheres
+abbrev pub where_A_is : List ℕ → Wheres
 where_A_is text = record { predicates = predicate.Bounded None A (meeting false false text ∷ []) ∷ [] }
 
 -- ---- what is told of them
@@ -139,16 +139,16 @@ local_facts text = path_facts (record { start = start_facts PathStart-F.Local; s
 pub local_is : (text : List ℕ) → about_path (local text) ≡ local_facts text
 local_is text = rw (types.path_is (local text), types.start_local_is, types.args_none_is) refl
 
-named_is : (text : List ℕ) → about_type (ty.Path (local text)) ≡ ty_facts (Ty-F.Path (local_facts text))
+pub named_is : (text : List ℕ) → about_type (ty.Path (local text)) ≡ ty_facts (Ty-F.Path (local_facts text))
 named_is text = types.type_path_is (local text) ∙ ap (λ (p : PathFacts). ty_facts (Ty-F.Path p)) (local_is text)
 
-A_is : about_type A ≡ ty_facts (Ty-F.Path (local_facts (codes "A")))
+pub A_is : about_type A ≡ ty_facts (Ty-F.Path (local_facts (codes "A")))
 A_is = named_is (codes "A")
 
 pub B_is : about_type B ≡ ty_facts (Ty-F.Path (local_facts (codes "B")))
 B_is = named_is (codes "B")
 
-meeting_is : (parens maybe : Bool) (text : List ℕ)
+pub meeting_is : (parens maybe : Bool) (text : List ℕ)
     → about_bound (meeting parens maybe text) ≡ bound_facts (Bound-F.Meets parens maybe None (local_facts text))
 meeting_is parens maybe text =
     types.bound_meets_is parens maybe None (local text)
