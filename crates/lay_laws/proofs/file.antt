@@ -1,5 +1,8 @@
+pub mod FirstItems
 pub mod FirstText
 pub mod Generics
+pub mod ItemHeads
+pub mod Items
 pub mod Nodes
 pub mod OneAnswer
 pub mod PatternKinds

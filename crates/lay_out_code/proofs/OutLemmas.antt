@@ -1,151 +1,42 @@
 -- The streams of forms, part by part.
-use Rattle.std.proofs.Common.{◌≡◌, ◌≢◌, ℕ, ◌-◌, ◌≤◌, ◌<◌, Bool, true, false, List, [], ◌∷◌, ◌++◌, map, length}
-use Rattle.std.proofs.Common.{take, drop, get_or, pos, codes, Option, Some, None}
+use Rattle.std.proofs.Common.{◌≡◌, ◌≢◌, ℕ, Bool, true, false, List, [], ◌∷◌, ◌++◌, map, length}
+use Rattle.std.proofs.Common.{pos, codes, Option, Some, None}
 use Rattle.std.proofs.Common.{refl, sym, ap, ◌∙◌, append_assoc, arith}
 use Rattle.lay_layout.specs.Document.{Document, Empty, stream}
 use Rattle.lay_layout.specs.declared.layout.Tok.{Tok}
 use Rattle.lay_layout.specs.declared.layout.Tok.TheVariants as tok
 use Rattle.lay_piece.specs.declared.kind.Delim.{Delim}
 use Rattle.lay_piece.specs.declared.kind.Delim.TheVariants.{Paren, Bracket, Brace}
-use Rattle.lay_form.specs.Form.{Form, Blank, Part, opener, closer, Soft, Hard, Never, Done, Piece, LastComma, punct}
-use Rattle.lay_form.specs.Layout.{ends_behind_point, break_of, comma_break, document}
-use Rattle.lay_form.specs.Notation.{H, comma_gap, each, piece, comma_list, body, behind_attrs, lines, when}
+use Rattle.lay_form.specs.Form.{Form, Blank, Part, Hard, Never, Done, punct}
+use Rattle.lay_form.specs.Layout.{ends_behind_point, break_of, document}
+use Rattle.lay_form.specs.Notation.{H, each, piece, body, behind_attrs, lines}
 use Rattle.lay_form.specs.Stream.{fed, stream_of}
 use Rattle.lay_form.proofs.StreamLaws.{stream_is}
 use Rattle.lay_tree.specs.Out.{behind_shebang, layout_of_file}
-use Rattle.lay_tree.specs.Words.{colons, leaf_of}
+use Rattle.lay_tree.specs.Words.{leaf_of}
 use Rattle.lay_tree.specs.nodes.Attr.{attr_form}
 use Rattle.lay_tree.specs.nodes.Call.{before_rules, end_form, call_form}
 use Rattle.lay_tree.specs.nodes.Facts.{Facts, forms}
 use Rattle.lay_tree.specs.nodes.File.{form_of_file}
 use Rattle.lay_tree.specs.nodes.Item.{about_item, about_kind}
-use Rattle.lay_tree.specs.nodes.Use.{about_use, about_use_end, rename_form, words_form}
+use Rattle.lay_tree.specs.nodes.Use.{about_use}
 use Rattle.lay_tree.specs.tokens.Lists.{group_form}
 use Rattle.lay_tree.specs.declared.attr.Attr.{Attr}
 use Rattle.lay_tree.specs.declared.file.File.{File}
 use Rattle.lay_tree.specs.declared.item.Item.{Item}
 use Rattle.lay_tree.specs.declared.item.ItemKind.{ItemKind}
 use Rattle.lay_tree.specs.declared.item.ItemKind.TheVariants as item
-use Rattle.lay_tree.specs.declared.token.GivenName.{GivenName}
 use Rattle.lay_tree.specs.declared.token.Name.{Name}
-use Rattle.lay_tree.specs.declared.token.Word.{Word}
 use Rattle.lay_tree.specs.declared.tokens.Group.{Group}
 use Rattle.lay_tree.specs.declared.tokens.MacroCall.{MacroCall}
-use Rattle.lay_tree.specs.declared.use_tree.UseEnd.{UseEnd}
-use Rattle.lay_tree.specs.declared.use_tree.UseEnd.TheVariants as use_end
 use Rattle.lay_tree.specs.declared.use_tree.UseTree.{UseTree}
 use Rattle.lay_tree.proofs.nodes.ItemLaws.{item_is, struct_is, module_is, import_is, rules_is, call_is}
-use Rattle.lay_tree.proofs.nodes.UseLaws.{use_is, word_is, glob_is, group_is}
-use Rattle.lay_out_tokens.proofs.StreamParts.{behind_group_is, fed_more, first_and_rest, leaf_more, leaf_on, when_more}
+use Rattle.lay_out_tokens.proofs.StreamParts.{behind_group_is, fed_more, leaf_more}
 use Rattle.lay_out_code.specs.Parts.{no_forms, struct_part, module_part, import_part, rules_part, call_part}
 
 -- equal facts have equal streams
 same_stream : {x y : Facts} → x ≡ y → stream_of x.form ≡ stream_of y.form
 same_stream e = ap (λ (x : Facts). stream_of x.form) e
-
--- ---- use trees
-
-words_on : (ws : List Word) (f : Form) (more : List Tok)
-    → fed false (words_form ws f) more ≡ fed false (words_form ws Done) (fed false f more)
-words_on [] f more = refl
-words_on (w ∷ ws) f more =
-    leaf_on w.raw w.text (Piece colons (words_form ws f)) more
-    ∙ ap (λ (s : List Tok). fed false (leaf_of w.raw w.text Done) (tok.Text (codes "::") ∷ s)) (words_on ws f more)
-    ∙ sym (leaf_on w.raw w.text (Piece colons (words_form ws Done)) (fed false f more))
-
-words_more : (ws : List Word) (f : Form) → stream_of (words_form ws Done) ++ stream_of f ≡ stream_of (words_form ws f)
-words_more ws f = sym (words_on ws f [] ∙ fed_more false (words_form ws Done) (stream_of f))
-
-pub next_word : (w : Word) (ws : List Word)
-    → stream_of (leaf_of w.raw w.text Done) ++ (tok.Text (codes "::") ∷ stream_of (words_form ws Done))
-    ≡ stream_of (words_form (w ∷ ws) Done)
-next_word w ws = leaf_more w.raw w.text (Piece colons (words_form ws Done))
-
-pub use_parts : (tree : UseTree) (put : List Word) → put ≡ tree.path
-    → stream_of (when tree.global colons Done)
-    ++ (stream_of (words_form put Done) ++ stream_of (about_use_end tree.end).form) ≡ stream_of (about_use tree).form
-use_parts tree put same =
-    let end = Part (about_use_end tree.end).form Done in
-    ap (λ (ws : List Word). stream_of (when tree.global colons Done)
-    ++ (stream_of (words_form ws Done) ++ stream_of (about_use_end tree.end).form)) same
-    ∙ ap (λ (s : List Tok). stream_of (when tree.global colons Done) ++ s) (words_more tree.path end)
-    ∙ when_more tree.global (words_form tree.path end)
-    ∙ sym (same_stream (use_is tree))
-
-pub word_end : (e : UseEnd) (word : Word) (renamed : Option GivenName) → e ≡ use_end.Word word renamed
-    → stream_of (leaf_of word.raw word.text (rename_form renamed)) ≡ stream_of (about_use_end e).form
-word_end e word renamed is =
-    sym (ap (λ (x : UseEnd). stream_of (about_use_end x).form) is ∙ same_stream (word_is word renamed))
-
-pub glob_end : (e : UseEnd) → e ≡ use_end.Glob → tok.Text (codes "*") ∷ [] ≡ stream_of (about_use_end e).form
-glob_end e is = sym (ap (λ (x : UseEnd). stream_of (about_use_end x).form) is ∙ same_stream glob_is)
-
-pub group_end : (e : UseEnd) (trees put : List UseTree) → e ≡ use_end.Group trees → put ≡ trees
-    → stream_of (comma_list true (opener Brace) (closer Brace) (forms (map about_use put)))
-    ≡ stream_of (about_use_end e).form
-group_end e trees put is same =
-    ap (λ (ts : List UseTree). stream_of
-    (comma_list true (opener Brace) (closer Brace) (forms (map about_use ts)))) same
-    ∙ sym (ap (λ (x : UseEnd). stream_of (about_use_end x).form) is ∙ same_stream (group_is trees))
-
--- what a list is behind a text that ends in a point or doesn't
-any_commas : (point : Bool) (es : List Form) (more : List Tok)
-    → fed point (each comma_gap es) more ≡ fed false (each comma_gap es) more
-any_commas true [] more = refl
-any_commas true (e ∷ es) more = refl
-any_commas false es more = refl
-
-pub next_comma : (e : Form) (es : List Form)
-    → tok.Text (codes ",") ∷ tok.Break (break_of (Soft false 1)) ∷ (stream_of e ++ stream_of (each comma_gap es))
-    ≡ stream_of (each comma_gap (e ∷ es))
-next_comma e es =
-    let point = ends_behind_point false e in
-    ap (λ (s : List Tok). tok.Text (codes ",") ∷ tok.Break (break_of (Soft false 1)) ∷ s)
-    (ap (λ (s : List Tok). stream_of e ++ s) (sym (any_commas point es []))
-    ∙ sym (fed_more false e (fed point (each comma_gap es) [])))
-
-brace : (point : Bool) (more : List Tok) → tok.Text (codes "}") ∷ more ≡ fed point (piece (closer Brace ∷ [])) more
-brace true more = refl
-brace false more = refl
-
--- what opens a list, and what closes it
-abbrev pub list_opened : List ℕ → List Tok
-list_opened opener = tok.Begin true (pos 4) ∷ tok.Text opener ∷ tok.Break (break_of (Soft false 0)) ∷ []
-
-abbrev pub list_closed : List ℕ → List Tok
-list_closed closer = tok.Break (comma_break 0) ∷ tok.Text closer ∷ tok.End ∷ []
-
-list_parts : (e : Form) (es : List Form)
-    → list_opened (codes "{") ++ (stream_of e ++ (stream_of (each comma_gap es) ++ list_closed (codes "}")))
-    ≡ stream_of (comma_list true (opener Brace) (closer Brace) (e ∷ es))
-list_parts e es =
-    let point = ends_behind_point false e in
-    let commas = each comma_gap es in
-    let last = LastComma 0 (piece (closer Brace ∷ [])) in
-    let end : List Tok = tok.End ∷ [] in
-    ap (λ (s : List Tok). list_opened (codes "{") ++ s)
-    (ap (λ (s : List Tok). stream_of e ++ s)
-    (ap (λ (s : List Tok). stream_of commas ++ s)
-    (ap (λ (s : List Tok). tok.Break (comma_break 0) ∷ s) (brace (ends_behind_point point commas) end))
-    ∙ sym (fed_more false commas (fed (ends_behind_point point commas) last end))
-    ∙ sym (any_commas point es (fed (ends_behind_point point commas) last end)))
-    ∙ sym (fed_more false e (fed point (Part commas last) end)))
-
-pub no_trees : (trees : List UseTree) → length trees < 1
-    → tok.Text (codes "{}") ∷ [] ≡ stream_of
-    (comma_list true (opener Brace) (closer Brace) (forms (map about_use trees)))
-no_trees [] h = refl
-no_trees (t ∷ trees) h = absurd (omega arith)
-
-pub full_list : (trees : List UseTree) (first : UseTree) → 1 ≤ length trees → first ≡ get_or trees 0 first
-    → list_opened (codes "{") ++ (stream_of (about_use first).form
-    ++ (stream_of (each comma_gap (forms (map about_use (take (length trees - 1) (drop 1 trees)))))
-    ++ list_closed (codes "}")))
-    ≡ stream_of (comma_list true (opener Brace) (closer Brace) (forms (map about_use trees)))
-full_list trees first h is =
-    list_parts (about_use first).form (forms (map about_use (take (length trees - 1) (drop 1 trees))))
-    ∙ ap (λ (ts : List UseTree). stream_of (comma_list true (opener Brace) (closer Brace) (forms (map about_use ts))))
-    (first_and_rest trees first h is)
 
 -- ---- items
 

@@ -13,7 +13,7 @@ ghost use Rattle.lay_tree.specs.nodes.Item.{about_item, about_kind};
 ghost use Rattle.lay_out_code.specs.Parts.{call_part, import_part, module_part, no_forms, rules_part, struct_part};
 
 use crate::attributes::put_attrs;
-use crate::uses::put_use;
+use lay_out_heads::put_use;
 use lay_out_tokens::notation::{close_body, open_body};
 use lay_out_tokens::{HARD_BREAK, put_bare_attr, put_call, put_group, put_word};
 use lay_piece::Delim;

@@ -7,6 +7,5 @@
 mod attributes;
 mod files;
 mod items;
-mod uses;
 
 pub use files::put_file;

@@ -17,6 +17,6 @@ mod words;
 pub use attributes::{put_attr, put_bare_attr};
 pub use calls::put_call;
 pub use notation::HARD_BREAK;
-pub use simple_paths::put_global;
+pub use simple_paths::{put_global, put_simple_path};
 pub use tokens::{put_enclosed, put_group, put_tokens};
 pub use words::{put_either, put_token, put_word};

@@ -84,7 +84,7 @@ pub default_name : (x : Option ConstDefault) (y : ConstDefault) (name : Name) �
     → tok.Text (codes " = ") ∷ stream_of (leaf_of name.raw name.text Done) ≡ stream_of (const_default_form x)
 default_name x y name is same = rw (is, same) refl
 
-default_any : (x : Option Ty) (q : Bool) → fed q (default_form x) [] ≡ stream_of (default_form x)
+pub default_any : (x : Option Ty) (q : Bool) → fed q (default_form x) [] ≡ stream_of (default_form x)
 default_any None q = refl
 default_any (Some x) true = refl
 default_any (Some x) false = refl

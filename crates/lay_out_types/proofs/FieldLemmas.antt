@@ -84,7 +84,7 @@ lines_are (a ∷ attrs) = lines_further (a ∷ attrs)
 pub line_is : (a : Attr) → stream_of (attr_form a) ++ (tok.Break (break_of (Hard false)) ∷ []) ≡ stream_of (attr_line a)
 line_is a = part_more (attr_form a) (H Done) (λ q. refl)
 
-lines_more : (es : List Form) (f : Form)
+pub lines_more : (es : List Form) (f : Form)
     → stream_of (behind_attrs es Done) ++ stream_of f ≡ stream_of (behind_attrs es f)
 lines_more [] f = refl
 lines_more (e ∷ es) f =

@@ -96,7 +96,7 @@ pub fn add_asked<E: Emit>(
 }
 
 /// What a parameter is by default, if it is anything.
-fn add_default<E: Emit>(
+pub fn add_default<E: Emit>(
     out: &mut E,
     before: Result<(), E::Fault>,
     default: &Option<Ty>,

@@ -167,7 +167,7 @@ pub fn add_param_name<E: Emit>(
 }
 
 /// A name that is given, or the `_` of none, and a `:` behind it.
-fn add_given_name<E: Emit>(
+pub fn add_given_name<E: Emit>(
     out: &mut E,
     before: Result<(), E::Fault>,
     name: &GivenName,

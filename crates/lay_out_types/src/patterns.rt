@@ -212,7 +212,7 @@ fn add_field<E: Emit>(
 }
 
 /// Attributes, each with a newline behind it.
-fn add_attrs<E: Emit>(
+pub fn add_attrs<E: Emit>(
     out: &mut E,
     before: Result<(), E::Fault>,
     attrs: &[Attr],
@@ -355,7 +355,7 @@ fn is_rest(pat: &Pat) -> bool
 }
 
 /// What opens alternatives.
-fn add_group<E: Emit>(out: &mut E, before: Result<(), E::Fault>) -> Result<(), E::Fault>
+pub fn add_group<E: Emit>(out: &mut E, before: Result<(), E::Fault>) -> Result<(), E::Fault>
     ensures { Adds E.meanings before out.old (tok.Begin false (pos 0) ∷ []) result out.new }
 {
     before?;

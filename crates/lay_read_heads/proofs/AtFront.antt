@@ -1,5 +1,5 @@
 -- Heads by themselves at the front at a depth, from what is read of them one level deeper.
-use Rattle.std.proofs.Common.{◌≡◌, ℕ, suc, ◌+◌, ◌-◌, ◌<◌, Bool, Ok, Err, Some, refl, ap, ◌∙◌, add-one, arith}
+use Rattle.std.proofs.Common.{◌≡◌, ℕ, suc, ◌-◌, ◌<◌, ◌≤◌, Bool, Some, None, Ok, Err, refl, ap, ◌∙◌, arith}
 use Rattle.lay_tree.specs.Ahead.{Tokens}
 use Rattle.lay_tree.specs.nodes.Facts.{Told, ToldFront, by_itself}
 use Rattle.lay_tree.specs.nodes.Heads.{TraitHeadFront, about_trait_head}

@@ -1,5 +1,5 @@
 -- What reading of the parts of heads leaves: the tokens behind those that are read.
-use Rattle.std.proofs.Common.{◌≡◌, ℕ, ◌&&◌, Bool, [], ◌∷◌, refl, true, false, drop, codes, Some, None, if◌then◌else◌, arith}
+use Rattle.std.proofs.Common.{◌≡◌, ℕ, ◌&&◌, Bool, [], ◌∷◌, refl, true, false, drop, codes, None, arith}
 use Rattle.lay_token.specs.Operators.{is_op}
 use Rattle.lay_piece.specs.declared.kind.Delim.TheVariants.{Paren, Brace}
 use Rattle.lay_tree.specs.Ahead.{Tokens, first, tail, is_keyword, is_lifetime, is_mark, opens, closes}
@@ -9,7 +9,7 @@ use Rattle.lay_tree.specs.reader.Attr.{attributes}
 use Rattle.lay_tree.specs.reader.Fields as fields
 use Rattle.lay_tree.specs.reader.Functions as functions
 use Rattle.lay_tree.specs.reader.Functions.{insides}
-use Rattle.lay_tree.specs.reader.Loops.{Got, Read, passed, elements}
+use Rattle.lay_tree.specs.reader.Loops.{passed, elements}
 use Rattle.lay_tree.specs.reader.Patterns.{pat_at}
 use Rattle.lay_tree.specs.reader.SimplePath.{simple_path}
 use Rattle.lay_tree.specs.reader.Tokens.{tokens_before_comma}

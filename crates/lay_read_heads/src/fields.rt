@@ -11,13 +11,13 @@ ghost use Rattle.lay_read_parts.specs.Answers.{gathered};
 
 use crate::level::Level;
 use crate::vis::vis_ahead;
+use lay_read_parts::joins::both;
+use lay_read_parts::loops::{Closer, Part, read_elements};
 use lay_read_tokens::attributes::attrs_ahead;
 use lay_read_tokens::front::{is_at_opened, takes_op, takes_opener};
 use lay_read_tokens::names::read_name;
 use lay_read_tokens::tokens::read_tokens_before_comma;
 use lay_read_tokens::{Ahead, Found, ReadNone};
-use lay_read_parts::loops::{Closer, Part, read_elements};
-use lay_read_parts::joins::both;
 use lay_read_types::type_ahead;
 use lay_token::{Delim, List};
 use lay_tree::{Field, Fields, Tokens, TupleField, TypePlace, Variant};
@@ -32,11 +32,7 @@ impl Part<TupleField, ()> for TupleFields {
 
 /// A field without a name.
 #[tactic(auto, unfolding(lay_tree::specs::reader::Fields::tuple_field))]
-fn tuple_field(
-    level: &Level,
-    at: &mut Ahead<'_>,
-    _place: (),
-) -> Result<Found<TupleField>, ReadNone>
+fn tuple_field(level: &Level, at: &mut Ahead<'_>, _place: ()) -> Result<Found<TupleField>, ReadNone>
     ensures read { IsFound (reader.tuple_field (within level.now.depth) at.old) result at.new }
     ensures within { IfOk result (λ found. found.need ≤ level.now.depth) }
 {
@@ -164,11 +160,7 @@ pub fn named_fields_ahead(
 
 /// The fields of a variant, if it has any.
 #[tactic(auto, unfolding(lay_tree::specs::reader::Fields::variant_fields))]
-fn variant_fields(
-    alloc: Global,
-    at: &mut Ahead<'_>,
-    depth: u32,
-) -> Result<Found<Fields>, ReadNone>
+fn variant_fields(alloc: Global, at: &mut Ahead<'_>, depth: u32) -> Result<Found<Fields>, ReadNone>
     ensures read { IsFound (reader.variant_fields (within depth) at.old) result at.new }
     ensures within { IfOk result (λ found. found.need ≤ depth) }
 {

@@ -8,9 +8,14 @@ ghost use Rattle.lay_tree.specs.reader.Loops.{open_elements};
 ghost use Rattle.lay_tree.specs.reader.Types.{within};
 ghost use Rattle.lay_read_tokens.specs.Answers.{IsFound, IsGot};
 ghost use Rattle.lay_read_parts.specs.Answers.{gathered_open};
-ghost use Rattle.lay_read_heads.specs.Answers.{none_receives};
+ghost use Rattle.lay_read_heads.specs.Answers.{closed_params, named_fn, none_receives, qualifiers, with_abi};
 
-use crate::level::{Level, kept_if, takes_mut, type_if};
+use crate::level::{Level, kept_if, takes_flag, type_if};
+use lay_read_generics::generics_ahead;
+use lay_read_parts::joins::both;
+use lay_read_parts::leads::is_at_lifetime;
+use lay_read_parts::loops::{Opening, Part, read_open_elements};
+use lay_read_parts::parts::{read_abi_if, read_lifetime_if};
 use lay_read_pats::pat_ahead;
 use lay_read_tokens::attributes::attrs_ahead;
 use lay_read_tokens::found::greater;
@@ -20,13 +25,9 @@ use lay_read_tokens::front::{
 };
 use lay_read_tokens::names::read_name;
 use lay_read_tokens::{Ahead, Found, ReadNone};
-use lay_read_parts::leads::is_at_lifetime;
-use lay_read_parts::loops::{Opening, Part, read_open_elements};
-use lay_read_parts::parts::{read_abi_if, read_lifetime_if};
-use lay_read_parts::joins::both;
-use lay_read_types::{generics_ahead, type_ahead};
+use lay_read_types::type_ahead;
 use lay_token::{Delim, List};
-use lay_tree::{FnHead, Param, ParamKind, Pat, PatPlace, Safety, Site, Ty, TypePlace};
+use lay_tree::{Abi, FnHead, Param, ParamKind, Pat, PatPlace, Safety, Site, Ty, TypePlace};
 use std::alloc::Global;
 
 /// Whether a parameter ends at the front.
@@ -70,7 +71,7 @@ fn begins_ref_self(at: &Ahead<'_>) -> bool
         return false;
     }
     pass_lifetime(&mut behind);
-    takes_mut(&mut behind);
+    takes_flag(&mut behind, b"mut");
     is_self_by_ref(&behind)
 }
 
@@ -79,7 +80,7 @@ fn begins_own_self(at: &Ahead<'_>) -> bool
     ensures { result ≡ reader.begins_own_self at.now }
 {
     let mut behind = at.fork();
-    takes_mut(&mut behind);
+    takes_flag(&mut behind, b"mut");
     is_self_by_itself(&behind)
 }
 
@@ -89,7 +90,7 @@ fn ref_self(alloc: Global, at: &mut Ahead<'_>) -> Result<ParamKind, ReadNone>
     ensures { IsGot (reader.ref_self at.old) result at.new }
 {
     let lifetime = read_lifetime_if(alloc, at)?;
-    let mutable = takes_mut(at);
+    let mutable = takes_flag(at, b"mut");
     pass(at);
     Ok(ParamKind::RefSelf { lifetime, mutable })
 }
@@ -100,7 +101,7 @@ fn own_self(alloc: Global, at: &mut Ahead<'_>, depth: u32) -> Result<Found<Param
     ensures read { IsFound (reader.own_self (within depth) at.old) result at.new }
     ensures within { IfOk result (λ found. found.need ≤ depth) }
 {
-    let mutable = takes_mut(at);
+    let mutable = takes_flag(at, b"mut");
     pass(at);
     let ty = type_if(alloc, at, b":", depth)?;
     Ok(Found {
@@ -250,10 +251,14 @@ fn is_variadic(kind: &ParamKind) -> bool
 fn none_receives(params: &[Param]) -> bool
     ensures { result ≡ none_receives params.now }
 {
-    match params {
-        [] => true,
-        [first, ..] => !is_receiver(&first.kind) && none_receives(&params[1..]),
+    let mut rest = params;
+    while let [param, behind @ ..] = rest {
+        if is_receiver(&param.kind) {
+            return false;
+        }
+        rest = behind;
     }
+    true
 }
 
 /// Whether a receiver stands first alone.
@@ -270,22 +275,28 @@ fn receives_first(params: &[Param]) -> bool
 fn ends_variadic(params: &[Param]) -> bool
     ensures { result ≡ nodes.ends_variadic params.now }
 {
-    match params {
-        [] => false,
-        [last] => is_variadic(&last.kind),
-        [_, _, ..] => ends_variadic(&params[1..]),
+    let mut rest = params;
+    while let [param, behind @ ..] = rest {
+        if behind.is_empty() {
+            return is_variadic(&param.kind);
+        }
+        rest = behind;
     }
+    false
 }
 
 /// Whether none but the last parameter takes further arguments.
 fn varies_last(params: &[Param]) -> bool
     ensures { result ≡ nodes.varies_last params.now }
 {
-    match params {
-        [] => true,
-        [_] => true,
-        [first, _, ..] => !is_variadic(&first.kind) && varies_last(&params[1..]),
+    let mut rest = params;
+    while let [param, behind @ ..] = rest {
+        if !behind.is_empty() && is_variadic(&param.kind) {
+            return false;
+        }
+        rest = behind;
     }
+    true
 }
 
 /// Whether parameters stand in order, and no comma behind one that takes further arguments.
@@ -295,31 +306,35 @@ fn are_in_order(params: &[Param], comma: bool) -> bool
     receives_first(params) && varies_last(params) && !(ends_variadic(params) && comma)
 }
 
-/// The parameters of a function.
-#[tactic(auto, unfolding(lay_tree::specs::reader::Functions::fn_params))]
-fn fn_params(
-    alloc: Global,
+/// Parameters, if they stand in order, and the `)` behind them.
+fn closed_params(
     at: &mut Ahead<'_>,
-    depth: u32,
+    found: Found<(List<Param>, bool)>,
 ) -> Result<Found<List<Param>>, ReadNone>
+    ensures read { IsFound (closed_params (found.node, found.need) at.old) result at.new }
+    ensures within { IfOk result (λ params. params.need ≡ found.need) }
+{
+    let Found { node, need } = found;
+    let (params, comma) = node;
+    let keeps = takes_closer(at, Delim::Paren) && are_in_order(params.as_slice(), comma);
+    kept_if(Found { node: params, need }, keeps)
+}
+
+/// The parameters of a function.
+#[tactic(auto, using(crate::proofs::Steps::fn_params_is))]
+fn fn_params(alloc: Global, at: &mut Ahead<'_>, depth: u32) -> Result<Found<List<Param>>, ReadNone>
     ensures read { IsFound (reader.fn_params (insides depth) at.old) result at.new }
     ensures within { IfOk result (λ found. found.need ≤ depth) }
 {
     if !takes_opener(at, Delim::Paren) {
         return Err(ReadNone::NoReading);
     }
-    let Found { node, need } = open_params(alloc, at, depth)?;
-    let (params, comma) = node;
-    let keeps = takes_closer(at, Delim::Paren) && are_in_order(params.as_slice(), comma);
-    kept_if(Found { node: params, need }, keeps)
+    let found = open_params(alloc, at, depth)?;
+    closed_params(at, found)
 }
 
 /// A return type, if one stands there.
-fn head_output(
-    alloc: Global,
-    at: &mut Ahead<'_>,
-    depth: u32,
-) -> Result<Found<Option<Ty>>, ReadNone>
+fn head_output(alloc: Global, at: &mut Ahead<'_>, depth: u32) -> Result<Found<Option<Ty>>, ReadNone>
     ensures read { IsFound (reader.head_output (within depth) at.old) result at.new }
     ensures within { IfOk result (λ found. found.need ≤ depth) }
 {
@@ -357,8 +372,82 @@ fn may_say(site: Site, safety: Option<Safety>) -> bool
     matches!(site, Site::Foreign) || !matches!(safety, Some(Safety::Safe))
 }
 
+/// What stands before `fn`.
+#[derive(Drop)]
+struct Qualifiers {
+    is_const: bool,
+    is_async: bool,
+    safety: Option<Safety>,
+    abi: Option<Abi>,
+}
+
+/// The head of a function, behind its `fn`.
+fn named_fn(
+    alloc: Global,
+    at: &mut Ahead<'_>,
+    site: Site,
+    before: Qualifiers,
+    depth: u32,
+) -> Result<Found<FnHead>, ReadNone>
+    ensures read { IsFound (named_fn site (insides depth) before at.old) result at.new }
+    ensures within { IfOk result (λ found. found.need ≤ depth) }
+{
+    let name = read_name(alloc, at)?;
+    let generics = generics_ahead(alloc, at, depth)?;
+    let (generics, params) = both(generics, fn_params(alloc, at, depth))?;
+    let ((generics, params), output) = both((generics, params), head_output(alloc, at, depth))?;
+    let keeps = may_say(site, before.safety);
+    kept_if(
+        Found {
+            need: greater(generics.need, greater(params.need, output.need)),
+            node: FnHead {
+                is_const: before.is_const,
+                is_async: before.is_async,
+                safety: before.safety,
+                abi: before.abi,
+                name,
+                generics: generics.node.0,
+                params: params.node,
+                output: output.node,
+            },
+        },
+        keeps,
+    )
+}
+
+/// What stands before `fn`, behind what is said of safety, and `fn` itself.
+fn with_abi(
+    alloc: Global,
+    at: &mut Ahead<'_>,
+    is_const: bool,
+    is_async: bool,
+    safety: Option<Safety>,
+) -> Result<Qualifiers, ReadNone>
+    ensures { IsGot (with_abi is_const is_async safety at.old) result at.new }
+{
+    let abi = read_abi_if(alloc, at)?;
+    let keeps = takes_keyword(at, b"fn");
+    let before = Qualifiers {
+        is_const,
+        is_async,
+        safety,
+        abi,
+    };
+    kept_if(before, keeps)
+}
+
+/// What stands before `fn`, and `fn` itself.
+fn read_qualifiers(alloc: Global, at: &mut Ahead<'_>) -> Result<Qualifiers, ReadNone>
+    ensures { IsGot (qualifiers at.old) result at.new }
+{
+    let is_const = takes_flag(at, b"const");
+    let is_async = takes_flag(at, b"async");
+    let safety = take_safety(at);
+    with_abi(alloc, at, is_const, is_async, safety)
+}
+
 /// The head of a function, with what is within it within the depth.
-#[tactic(auto, unfolding(lay_tree::specs::reader::Functions::fn_head))]
+#[tactic(auto, using(crate::proofs::Steps::fn_head_is))]
 pub fn fn_head_ahead(
     alloc: Global,
     at: &mut Ahead<'_>,
@@ -368,32 +457,6 @@ pub fn fn_head_ahead(
     ensures read { IsFound (reader.fn_head site (insides depth) at.old) result at.new }
     ensures within { IfOk result (λ found. found.need ≤ depth) }
 {
-    let is_const = takes_keyword(at, b"const");
-    let is_async = takes_keyword(at, b"async");
-    let safety = take_safety(at);
-    let abi = read_abi_if(alloc, at)?;
-    if !takes_keyword(at, b"fn") {
-        return Err(ReadNone::NoReading);
-    }
-    let name = read_name(alloc, at)?;
-    let generics = generics_ahead(alloc, at, depth)?;
-    let (generics, params) = both(generics, fn_params(alloc, at, depth))?;
-    let ((generics, params), output) = both((generics, params), head_output(alloc, at, depth))?;
-    let keeps = may_say(site, safety);
-    kept_if(
-        Found {
-            need: greater(generics.need, greater(params.need, output.need)),
-            node: FnHead {
-                is_const,
-                is_async,
-                safety,
-                abi,
-                name,
-                generics: generics.node.0,
-                params: params.node,
-                output: output.node,
-            },
-        },
-        keeps,
-    )
+    let before = read_qualifiers(alloc, at)?;
+    named_fn(alloc, at, site, before, depth)
 }

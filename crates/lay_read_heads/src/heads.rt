@@ -1,6 +1,8 @@
 //! The heads of items, and the items that are heads alone.
-ghost use Rattle.std.specs.Prelude.{◌≡◌, ◌≤◌, IfOk};
+ghost use Rattle.std.specs.Prelude.{◌≡◌, ◌≤◌, ◌||◌, not, codes, IfOk};
+ghost use Rattle.lay_tree.specs.Ahead.{first, is_mark};
 ghost use Rattle.lay_tree.specs.nodes.Heads as nodes;
+ghost use Rattle.lay_tree.specs.nodes.Types.{is_there};
 ghost use Rattle.lay_tree.specs.reader.Heads as reader;
 ghost use Rattle.lay_tree.specs.reader.Types.{within};
 ghost use Rattle.lay_tree.specs.reader.Use.{renamed};
@@ -8,7 +10,9 @@ ghost use Rattle.lay_read_tokens.specs.Answers.{IsFound, IsGot};
 ghost use Rattle.lay_read_heads.specs.Answers.{named_struct};
 
 use crate::fields::{named_fields_ahead, tuple_fields_ahead, variants_ahead};
-use crate::level::{kept_if, met_if, takes_mut, type_if};
+use crate::level::{kept_if, met_if, takes_flag, type_if};
+use lay_read_generics::{generics_ahead, wheres_ahead};
+use lay_read_parts::joins::both;
 use lay_read_pats::facts::{is_name, is_self};
 use lay_read_tokens::found::greater;
 use lay_read_tokens::front::{
@@ -16,8 +20,7 @@ use lay_read_tokens::front::{
 };
 use lay_read_tokens::names::{read_given_name, read_name, read_word};
 use lay_read_tokens::{Ahead, Found, ReadNone};
-use lay_read_parts::joins::both;
-use lay_read_types::{generics_ahead, path_ahead, type_ahead, wheres_ahead};
+use lay_read_types::{path_ahead, type_ahead};
 use lay_token::Delim;
 use lay_tree::{
     Alias, Enum, ExternCrate, Fields, Generics, GivenName, ImplHead, Name, PathStyle, Site, Struct,
@@ -105,8 +108,7 @@ pub fn alias_ahead(
     let named = called(alloc, at, b"type", depth)?;
     let (named, bounds) = both(named, met_if(alloc, at, depth))?;
     let ((named, bounds), ty) = both((named, bounds), type_if(alloc, at, b"=", depth))?;
-    let ((named, bounds, ty), wheres) =
-        both((named, bounds, ty), wheres_ahead(alloc, at, depth))?;
+    let ((named, bounds, ty), wheres) = both((named, bounds, ty), wheres_ahead(alloc, at, depth))?;
     let keeps = takes_mark(at, b";") && may_be_given(site, &ty.node);
     kept_if(
         Found {
@@ -217,8 +219,7 @@ fn named_struct(
     ensures read { IsFound (named_struct (within depth) (named.node, named.need) (wheres.node, wheres.need) at.old) result at.new }
     ensures within { IfOk result (λ found. found.need ≤ depth) }
 {
-    let ((named, wheres), fields) =
-        both((named, wheres), named_fields_ahead(alloc, at, depth))?;
+    let ((named, wheres), fields) = both((named, wheres), named_fields_ahead(alloc, at, depth))?;
     Ok(Found {
         need: greater(named.need, greater(wheres.need, fields.need)),
         node: Struct {
@@ -240,8 +241,7 @@ pub fn union_ahead(alloc: Global, at: &mut Ahead<'_>, depth: u32) -> Result<Foun
 {
     let named = called(alloc, at, b"union", depth)?;
     let (named, wheres) = both(named, wheres_ahead(alloc, at, depth))?;
-    let ((named, wheres), fields) =
-        both((named, wheres), named_fields_ahead(alloc, at, depth))?;
+    let ((named, wheres), fields) = both((named, wheres), named_fields_ahead(alloc, at, depth))?;
     Ok(Found {
         need: greater(named.need, greater(wheres.need, fields.need)),
         node: Union {
@@ -274,11 +274,7 @@ pub fn enum_ahead(alloc: Global, at: &mut Ahead<'_>, depth: u32) -> Result<Found
 }
 
 /// The head of a constant, behind its keyword.
-fn const_head(
-    alloc: Global,
-    at: &mut Ahead<'_>,
-    depth: u32,
-) -> Result<Found<ValueHead>, ReadNone>
+fn const_head(alloc: Global, at: &mut Ahead<'_>, depth: u32) -> Result<Found<ValueHead>, ReadNone>
     ensures read { IsFound (reader.const_head (within depth) at.old) result at.new }
     ensures within { IfOk result (λ found. found.need ≤ depth) }
 {
@@ -294,15 +290,11 @@ fn const_head(
 }
 
 /// The head of a static, behind its keyword.
-fn static_head(
-    alloc: Global,
-    at: &mut Ahead<'_>,
-    depth: u32,
-) -> Result<Found<ValueHead>, ReadNone>
+fn static_head(alloc: Global, at: &mut Ahead<'_>, depth: u32) -> Result<Found<ValueHead>, ReadNone>
     ensures read { IsFound (reader.static_head (within depth) at.old) result at.new }
     ensures within { IfOk result (λ found. found.need ≤ depth) }
 {
-    let mutable = takes_mut(at);
+    let mutable = takes_flag(at, b"mut");
     let name = read_name(alloc, at)?;
     if !takes_op(at, b":") {
         return Err(ReadNone::NoReading);
@@ -337,14 +329,6 @@ pub fn value_head_ahead(
     }
 }
 
-/// Passes `unsafe`, if it stands at the front.
-fn takes_unsafe(at: &mut Ahead<'_>) -> bool
-    ensures found { result ≡ (reader.unsafe_flag at.old).0 }
-    ensures passed { at.new ≡ (reader.unsafe_flag at.old).1 }
-{
-    takes_keyword(at, b"unsafe")
-}
-
 /// The head of a trait, with what is within it within the depth; whether `<` and `>` are spelled; and whether a `:`
 /// stands behind them.
 #[tactic(auto, unfolding(lay_tree::specs::reader::Heads::trait_head))]
@@ -356,7 +340,7 @@ pub fn trait_head_ahead(
     ensures read { IsFound (reader.trait_head (within depth) at.old) result at.new }
     ensures within { IfOk result (λ found. found.need ≤ depth) }
 {
-    let is_unsafe = takes_unsafe(at);
+    let is_unsafe = takes_flag(at, b"unsafe");
     if !takes_keyword(at, b"trait") {
         return Err(ReadNone::NoReading);
     }
@@ -417,6 +401,13 @@ fn ends_head(at: &Ahead<'_>) -> bool
     is_at_keyword(at, b"where") || is_at_opened(at, Delim::Brace)
 }
 
+/// Whether generic parameters are there, or no `<` stands at the front, which would open some.
+fn tells_generics(at: &Ahead<'_>, generics: &Generics) -> bool
+    ensures { result ≡ (is_there generics.now.params || not (first (is_mark (codes "<")) at.now)) }
+{
+    !generics.params.as_slice().is_empty() || !is_at_mark(at, b"<")
+}
+
 /// The head of an implementation, with what is within it within the depth.
 #[tactic(auto, unfolding(lay_tree::specs::reader::Heads::impl_head))]
 pub fn impl_head_ahead(
@@ -427,15 +418,17 @@ pub fn impl_head_ahead(
     ensures read { IsFound (reader.impl_head (within depth) at.old) result at.new }
     ensures within { IfOk result (λ found. found.need ≤ depth) }
 {
-    let is_unsafe = takes_unsafe(at);
+    let is_unsafe = takes_flag(at, b"unsafe");
     if !takes_keyword(at, b"impl") {
         return Err(ReadNone::NoReading);
     }
     let generics = generics_ahead(alloc, at, depth)?;
-    let told = !generics.node.0.params.as_slice().is_empty() || !is_at_mark(at, b"<");
+    let told = tells_generics(at, &generics.node.0);
     let (generics, of) = both(generics, trait_ref(alloc, at, depth))?;
-    let ((generics, of), ty) =
-        both((generics, of), type_ahead(alloc, at, TypePlace::Bounds, depth))?;
+    let ((generics, of), ty) = both(
+        (generics, of),
+        type_ahead(alloc, at, TypePlace::Bounds, depth),
+    )?;
     let keeps = told && ends_head(at);
     kept_if(
         Found {

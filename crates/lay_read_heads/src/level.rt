@@ -1,15 +1,15 @@
 //! What the readers of heads share.
 ghost use Rattle.std.specs.Prelude.{◌≡◌, ◌≤◌, drop, if◌then◌else◌, IfOk, Ok, Err};
 ghost use Rattle.lay_token.specs.Operators.{is_op};
-ghost use Rattle.lay_tree.specs.reader.Functions.{mut_flag};
+ghost use Rattle.lay_tree.specs.Ahead.{is_keyword};
 ghost use Rattle.lay_tree.specs.reader.Generics.{met_if};
-ghost use Rattle.lay_tree.specs.reader.Types.{if_read, within};
+ghost use Rattle.lay_tree.specs.reader.Types.{flag, if_read, within};
 ghost use Rattle.lay_tree.specs.declared.types.TypePlace.TheVariants.{Bounds};
 ghost use Rattle.lay_read_tokens.specs.Answers.{IsFound};
 
+use lay_read_parts::leads::begins_bound;
 use lay_read_tokens::front::{takes_keyword, takes_op};
 use lay_read_tokens::{Ahead, Found, ReadNone};
-use lay_read_parts::leads::begins_bound;
 use lay_read_types::{bounds_ahead, type_ahead};
 use lay_token::List;
 use lay_tree::{Bound, Ty, TypePlace};
@@ -33,12 +33,12 @@ pub fn kept_if<T: Drop>(found: T, keeps: bool) -> Result<T, ReadNone>
     }
 }
 
-/// Passes `mut`, if it stands at the front.
-pub fn takes_mut(at: &mut Ahead<'_>) -> bool
-    ensures found { result ≡ (mut_flag at.old).0 }
-    ensures passed { at.new ≡ (mut_flag at.old).1 }
+/// Passes the keyword, if it stands at the front, and tells whether it did.
+pub fn takes_flag(at: &mut Ahead<'_>, word: &[u8]) -> bool
+    ensures found { result ≡ (flag (is_keyword word.now) at.old).0 }
+    ensures passed { at.new ≡ (flag (is_keyword word.now) at.old).1 }
 {
-    takes_keyword(at, b"mut")
+    takes_keyword(at, word)
 }
 
 /// A type behind an operator of one character, if that stands at the front.
@@ -65,11 +65,7 @@ pub fn type_if(
 }
 
 /// What is met, if anything is said of it: a `:`, and bounds where one begins.
-pub fn met_if(
-    alloc: Global,
-    at: &mut Ahead<'_>,
-    depth: u32,
-) -> Result<Found<List<Bound>>, ReadNone>
+pub fn met_if(alloc: Global, at: &mut Ahead<'_>, depth: u32) -> Result<Found<List<Bound>>, ReadNone>
     ensures read { IsFound (met_if (within depth) at.old) result at.new }
     ensures within { IfOk result (λ found. found.need ≤ depth) }
 {

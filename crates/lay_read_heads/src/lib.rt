@@ -9,7 +9,7 @@
 pub mod fields;
 pub mod functions;
 pub mod heads;
-mod level;
+pub mod level;
 mod reads;
 pub mod vis;
 

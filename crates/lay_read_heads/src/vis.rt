@@ -5,7 +5,9 @@ ghost use Rattle.lay_tree.specs.reader.Vis as reader;
 ghost use Rattle.lay_read_tokens.specs.Answers.{IsGot};
 ghost use Rattle.lay_read_heads.specs.Answers.{vis_in};
 
-use lay_read_tokens::front::{is_at_closer, pass, pass_two, takes_closer, takes_keyword, takes_opener};
+use lay_read_tokens::front::{
+    is_at_closer, pass, pass_two, takes_closer, takes_keyword, takes_opener,
+};
 use lay_read_tokens::simple_paths::read_simple_path;
 use lay_read_tokens::{Ahead, ReadNone};
 use lay_token::Delim;

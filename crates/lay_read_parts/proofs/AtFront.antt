@@ -1,6 +1,5 @@
 -- What is read at the front at a depth, and nothing else.
-use Rattle.std.proofs.Common.{◌≡◌, ℕ, suc, ◌+◌, ◌-◌, ◌<◌, ◌≤◌, Bool, List, drop, Some, None, Ok, Err, Result, refl, sym, ap, ◌∙◌, add-one, arith}
-use Rattle.lay_token.specs.declared.token.Token.{Token}
+use Rattle.std.proofs.Common.{◌≡◌, ℕ, suc, ◌-◌, ◌<◌, ◌≤◌, Bool, drop, Some, None, Ok, Err, refl, sym, ap, ◌∙◌, arith}
 use Rattle.lay_form.specs.Form.{Form}
 use Rattle.lay_form.specs.Spelled as spelled
 use Rattle.lay_form.proofs.FormLaws.{deeper}

@@ -1,12 +1,12 @@
 -- Parts that need no depth, read by the loops of those that do.
-use Rattle.std.proofs.Common.{◌≡◌, ℕ, zero, suc, Bool, true, false, List, [], ◌∷◌, ◌++◌, length, map, drop, codes, Some, None, refl, sym, ap, ◌∙◌, if◌then◌else◌, Option}
+use Rattle.std.proofs.Common.{◌≡◌, ℕ, zero, suc, Bool, true, false, List, [], ◌∷◌, ◌++◌, length, drop, codes, Some, None, refl, sym, ap, ◌∙◌, if◌then◌else◌, Option}
 use Rattle.std.proofs.lemmas.List.{map-append}
 use Rattle.lay_token.specs.Operators.{is_op}
 use Rattle.lay_token.specs.declared.token.Token.{Token}
-use Rattle.lay_tree.specs.Ahead.{Tokens, first, tail, is_mark, is_lifetime, is_keyword}
+use Rattle.lay_tree.specs.Ahead.{Tokens, first, is_mark, is_lifetime}
 use Rattle.lay_tree.specs.reader.Exact.{needless}
-use Rattle.lay_tree.specs.reader.Loops.{Got, Read, ◌>>=◌, nodes, passed, element_end, repeat_from, repeat, elements_from, elements}
-use Rattle.lay_tree.specs.reader.Types.{chain, lifetime, lifetimes, lifetime_param, angled, binder}
+use Rattle.lay_tree.specs.reader.Loops.{Got, Read, ◌>>=◌, nodes, element_end, repeat_from, repeat, elements_from, elements}
+use Rattle.lay_tree.specs.reader.Types.{chain, lifetime, lifetimes, lifetime_param}
 use Rattle.lay_tree.specs.declared.token.Lifetime.{Lifetime}
 use Rattle.lay_tree.specs.declared.types.LifetimeParam.{LifetimeParam}
 

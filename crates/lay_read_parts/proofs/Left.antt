@@ -1,35 +1,18 @@
 -- What reading of lifetimes, literals, binders, constants and lists leaves: the tokens behind those that are read.
-use Rattle.std.proofs.Common.{◌≡◌, ℕ, zero, suc, ◌<◌, ◌≤◌, ◌&&◌, Bool, true, false, List, [], ◌∷◌, ◌++◌, length, drop, codes, Option, Some, None, if◌then◌else◌, ap, arith}
+use Rattle.std.proofs.Common.{◌≡◌, ℕ, zero, suc, ◌<◌, Bool, true, false, List, [], ◌∷◌, length, drop, codes, Some, None, if◌then◌else◌, ap, arith}
 use Rattle.lay_token.specs.Operators.{is_op}
-use Rattle.lay_piece.specs.declared.kind.Delim.TheVariants.{Paren, Bracket, Brace}
+use Rattle.lay_piece.specs.declared.kind.Delim.TheVariants.{Brace}
 use Rattle.lay_token.specs.declared.token.Token.{Token}
 use Rattle.lay_tree.specs.Begins.{is_literal_token}
-use Rattle.lay_tree.specs.Ahead.{Tokens, first, tail, is_keyword, is_mark, is_lifetime, opens, closes, opens_args, opens_args_late}
-use Rattle.lay_tree.specs.Begins.{Lead, OfPath, OfParen, OfNever, OfInfer, OfPointer, OfReference, OfBracket, OfImpl, OfDyn, OfFunc, lead_at, begins_bound, begins_predicate}
-use Rattle.lay_tree.specs.Follow.{begins_there, OfBang}
-use Rattle.lay_tree.specs.nodes.Attr.{is_empty}
+use Rattle.lay_tree.specs.Ahead.{Tokens, first, tail, is_keyword, is_mark, is_lifetime, opens, closes}
 use Rattle.lay_tree.specs.reader.Attr.{attributes}
-use Rattle.lay_tree.specs.reader.Call.{call}
 use Rattle.lay_tree.specs.reader.Exact.{needless}
-use Rattle.lay_tree.specs.reader.Generics as g
-use Rattle.lay_tree.specs.reader.Loops.{Got, Read, ◌>>=◌, passed, nodes, deepest, repeat, elements, behind_open, open_elements_from, open_elements}
+use Rattle.lay_tree.specs.reader.Loops.{Got, Read, passed, repeat, open_elements_from, open_elements}
 use Rattle.lay_tree.specs.reader.Tokens.{tokens}
 use Rattle.lay_tree.specs.reader.Types as r
 use Rattle.lay_tree.specs.reader.Types.{Within, within}
-use Rattle.lay_tree.specs.reader.Where as w
-use Rattle.lay_tree.specs.reader.Words.{word, given_name, name}
 use Rattle.lay_tree.specs.declared.attr.Attr.{Attr}
-use Rattle.lay_tree.specs.declared.token.Name.{Name}
-use Rattle.lay_tree.specs.declared.token.Word.{Word}
-use Rattle.lay_tree.specs.declared.types.Args.{Args}
-use Rattle.lay_tree.specs.declared.types.Path.{Path}
-use Rattle.lay_tree.specs.declared.types.PathStart.{PathStart}
-use Rattle.lay_tree.specs.declared.types.PathStyle.{PathStyle}
-use Rattle.lay_tree.specs.declared.types.PathStyle.TheVariants.{Code, Kind as InKind}
-use Rattle.lay_tree.specs.declared.types.Ty.{Ty}
-use Rattle.lay_tree.specs.declared.types.TypePlace.{TypePlace}
-use Rattle.lay_tree.specs.declared.types.TypePlace.TheVariants.{Bounds, NoBounds}
-use Rattle.lay_read_tokens.proofs.Left.{Left, Leaves, Passes, unread, dropped, one_read, joined, further, chain, chain_passed, choice, first_read, passed_left, op_read, repeat_left, elements_left, name_left, given_name_left, word_left, tokens_left, call_left, attributes_left, shorter}
+use Rattle.lay_read_tokens.proofs.Left.{Left, Leaves, Passes, unread, dropped, one_read, further, chain, chain_passed, choice, first_read, passed_left, repeat_left, elements_left, tokens_left, attributes_left, shorter}
 
 -- ---- small parts
 

@@ -1,6 +1,5 @@
 -- What loops ask for, and what readers answer.
-use Rattle.std.specs.Prelude.{ℕ, ◌≡◌, ◌≤◌, Bool, true, false, if◌then◌else◌, List, [], ◌∷◌, codes, Option, Some, None, Result, Ok, Err, drop, IfOk}
-use Rattle.std.specs.declared.alloc.Global.{Global}
+use Rattle.std.specs.Prelude.{ℕ, ◌≡◌, ◌≤◌, Bool, if◌then◌else◌, List, [], ◌∷◌, codes, Some, None, Result, Ok, Err, drop, IfOk}
 use denote.Ref.{Bor, MutBor}
 use Rattle.lay_token.specs.declared.token.Token.{Token}
 use Rattle.lay_tree.specs.Ahead.{Tokens, closes, is_mark}
@@ -8,22 +7,13 @@ use Rattle.lay_tree.specs.Begins.{begins_predicate}
 use Rattle.lay_tree.specs.reader.Functions.{begins_fn_param}
 use Rattle.lay_tree.specs.reader.Loops.{Got, Read, ◌>>=◌, nodes, deepest}
 use Rattle.lay_tree.specs.reader.Patterns.{begins_field}
-use Rattle.lay_tree.specs.reader.Types.{Within, within, begins_param, named_segments, paren_type, pointer_type, reference_type, bracket_type, bounds_type, begins_call, call_type, path_type}
+use Rattle.lay_tree.specs.reader.Types.{begins_param}
 use Rattle.lay_tree.specs.declared.token.Literal.{Literal}
-use Rattle.lay_tree.specs.declared.token.Name.{Name}
-use Rattle.lay_tree.specs.declared.token.Word.{Word}
-use Rattle.lay_tree.specs.declared.types.Args.{Args}
-use Rattle.lay_tree.specs.declared.types.Constraint.{Constraint}
-use Rattle.lay_tree.specs.declared.types.Ty.{Ty}
-use Rattle.lay_tree.specs.declared.types.Ty.TheVariants as ty
-use Rattle.lay_tree.specs.declared.types.TypePlace.{TypePlace}
 use Rattle.lay_read_tokens.proofs.Left.{Leaves}
 use Rattle.lay_read_tokens.specs.Answers.{IsFound}
 use Rattle.lay_read_tokens.specs.declared.found.Found.{Found}
 use Rattle.lay_read_tokens.specs.declared.stop.ReadNone.{ReadNone}
 use Rattle.lay_read_tokens.specs.declared.stop.ReadNone.TheVariants.{NoReading, NoMemory}
-use Rattle.lay_read_parts.specs.declared.leads.Lead.{Lead}
-use Rattle.lay_read_parts.specs.declared.leads.Lead.TheVariants as lead
 use Rattle.lay_read_parts.specs.declared.loops.Closer.{Closer}
 use Rattle.lay_read_parts.specs.declared.loops.Closer.TheVariants as closer
 use Rattle.lay_read_parts.specs.declared.loops.Joint.{Joint}

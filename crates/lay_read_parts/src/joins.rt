@@ -1,5 +1,5 @@
 //! What was read, put together.
-ghost use Rattle.std.specs.Prelude.{◌≡◌, ◌∷◌, IfErr, IfOk, MatchResult, Ok, Err};
+ghost use Rattle.std.specs.Prelude.{◌≡◌, ◌∷◌, IfErr, IfOk, MatchResult, None, Ok, Err};
 
 use lay_read_tokens::ReadNone;
 use lay_token::List;
@@ -12,6 +12,20 @@ pub fn both<A: Drop, B>(first: A, second: Result<B, ReadNone>) -> Result<(A, B),
         Ok(second) => Ok((first, second)),
         Err(none) => Err(none),
     }
+}
+
+/// Nothing is read, and what was read before is let go.
+pub fn refused<A: Drop, B>(_before: A) -> Result<B, ReadNone>
+    ensures { result ≡ Err ReadNone.NoReading }
+{
+    Err(ReadNone::NoReading)
+}
+
+/// There is none of it, and what there is is let go.
+pub fn none_of<A: Drop, B>(_other: A) -> Option<B>
+    ensures { result ≡ None }
+{
+    None
 }
 
 /// A list with one more item at its front.

@@ -7,6 +7,7 @@ ghost use Rattle.lay_tree.specs.reader.Types as reader;
 ghost use Rattle.lay_read_tokens.specs.Answers.{IsFound, IsGot, IsMade};
 ghost use Rattle.lay_read_parts.specs.Answers.{literal_if};
 
+use crate::joins::{both, refused};
 use crate::leads::{is_at_lifetime, is_at_literal, is_at_number};
 use crate::loops::{Closer, Joint, Part, read_chain, read_elements};
 use lay_cook::{Cooked, cook};
@@ -89,6 +90,17 @@ pub fn read_lifetimes(alloc: Global, at: &mut Ahead<'_>) -> Result<List<Lifetime
     Ok(found.node)
 }
 
+/// What a lifetime outlives, if anything is said of it.
+fn read_outlived(alloc: Global, at: &mut Ahead<'_>) -> Result<List<Lifetime>, ReadNone>
+    ensures { IsGot (reader.outlived at.old) result at.new }
+{
+    if takes_op(at, b":") {
+        read_lifetimes(alloc, at)
+    } else {
+        Ok(List::new(alloc))
+    }
+}
+
 /// A lifetime that is a parameter, behind its attributes.
 #[tactic(auto, unfolding(lay_tree::specs::reader::Types::lifetime_behind))]
 pub fn read_lifetime_behind(
@@ -98,12 +110,8 @@ pub fn read_lifetime_behind(
 ) -> Result<LifetimeParam, ReadNone>
     ensures { IsGot (reader.lifetime_behind attrs at.old) result at.new }
 {
-    let lifetime = read_lifetime(alloc, at)?;
-    let bounds = if takes_op(at, b":") {
-        read_lifetimes(alloc, at)?
-    } else {
-        List::new(alloc)
-    };
+    let (attrs, lifetime) = both(attrs, read_lifetime(alloc, at))?;
+    let ((attrs, lifetime), bounds) = both((attrs, lifetime), read_outlived(alloc, at))?;
     Ok(LifetimeParam {
         attrs,
         lifetime,
@@ -226,7 +234,7 @@ fn read_braces(alloc: Global, at: &mut Ahead<'_>) -> Result<ConstArg, ReadNone>
     if takes_closer(at, Delim::Brace) {
         Ok(ConstArg::Braces(tokens))
     } else {
-        Err(ReadNone::NoReading)
+        refused(tokens)
     }
 }
 

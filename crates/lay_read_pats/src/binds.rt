@@ -5,7 +5,7 @@ ghost use Rattle.lay_read_tokens.specs.Answers.{IsFound};
 ghost use Rattle.lay_read_pats.specs.Answers.{ArePats, pats_within};
 
 use crate::rules::PatRules;
-use lay_read_parts::joins::both;
+use lay_read_parts::joins::{both, refused};
 use lay_read_tokens::front::{is_at_keyword, takes_keyword, takes_op};
 use lay_read_tokens::names::read_name;
 use lay_read_tokens::{Ahead, Found, ReadNone};
@@ -25,7 +25,7 @@ fn bound(at: &Ahead<'_>, found: Found<Pat>) -> Result<Found<Pat>, ReadNone>
     ensures within { IfOk result (λ read. read.need ≡ found.need) }
 {
     if at.op_is(b"::") || at.op_is(b"!") {
-        Err(ReadNone::NoReading)
+        refused(found)
     } else {
         Ok(found)
     }

@@ -10,7 +10,7 @@ ghost use Rattle.lay_read_pats.specs.Answers.{ArePats, paren_of, pats_within, tu
 
 use crate::facts::{is_rest, is_span};
 use crate::rules::PatRules;
-use lay_read_parts::joins::{both, prepended};
+use lay_read_parts::joins::{both, prepended, refused};
 use lay_read_parts::loops::{Closer, Part, read_elements};
 use lay_read_tokens::found::greater;
 use lay_read_tokens::front::{is_at_closer, pass_two, takes_closer, takes_keyword, takes_mark};
@@ -52,7 +52,7 @@ fn paren_of(alloc: Global, at: &Ahead<'_>, found: Found<Pat>) -> Result<Found<Pa
     ensures within { IfOk result (λ paren. paren.need ≡ found.need + 1) }
 {
     if is_rest(&found.node) {
-        return Err(ReadNone::NoReading);
+        return refused(found);
     }
     let need = found.need + 1;
     let inner = boxed(alloc, found.node)?;
@@ -74,7 +74,7 @@ fn tuple_of(
     ensures within { IfOk result (λ tuple. tuple.need ≡ max first.need more.need + 1) }
 {
     if more.node.as_slice().is_empty() && is_rest(&first.node) {
-        return Err(ReadNone::NoReading);
+        return refused((first, more));
     }
     let need = greater(first.need, more.need) + 1;
     let elements = prepended(first.node, more.node)?;
@@ -113,7 +113,7 @@ impl<P: Fn(Global, &mut Ahead<'_>, PatPlace, u32) -> Result<Found<Pat>, ReadNone
         let mutable = takes_keyword(at, b"mut");
         let found = self.inner(at, PatPlace::Single)?;
         if is_span(&found.node) {
-            return Err(ReadNone::NoReading);
+            return refused(found);
         }
         let need = found.need + 1;
         let inner = boxed(self.alloc, found.node)?;
@@ -168,7 +168,7 @@ impl<P: Fn(Global, &mut Ahead<'_>, PatPlace, u32) -> Result<Found<Pat>, ReadNone
     {
         let found = self.inner(at, PatPlace::Single)?;
         if !takes_closer(at, Delim::Paren) {
-            return Err(ReadNone::NoReading);
+            return refused(found);
         }
         let need = found.need + 1;
         let elements = alone(self.alloc, found.node)?;
@@ -189,7 +189,7 @@ impl<P: Fn(Global, &mut Ahead<'_>, PatPlace, u32) -> Result<Found<Pat>, ReadNone
             return paren_of(self.alloc, at, first);
         }
         if !takes_mark(at, b",") {
-            return Err(ReadNone::NoReading);
+            return refused(first);
         }
         let (first, more) = both(first, self.elements(at, Delim::Paren))?;
         tuple_of(at, first, more)

@@ -8,6 +8,7 @@ ghost use Rattle.lay_read_pats.specs.Answers.{ArePats, pats_within};
 use crate::binds::begins_bind;
 use crate::rules::PatRules;
 use crate::values::{begins_dots, begins_value, span, value_pat};
+use lay_read_parts::joins::refused;
 use lay_read_tokens::calls::call_ahead;
 use lay_read_tokens::front::{is_at_opened, takes_mark, takes_opener, takes_underscore};
 use lay_read_tokens::{Ahead, Found, ReadNone};
@@ -44,9 +45,10 @@ impl<P: Fn(Global, &mut Ahead<'_>, PatPlace, u32) -> Result<Found<Pat>, ReadNone
     {
         let found = self.pat_by(at)?;
         if goes_on(at) {
-            return Err(ReadNone::NoReading);
+            refused(found)
+        } else {
+            Ok(found)
         }
-        Ok(found)
     }
 
     /// A pattern, told from what begins it.

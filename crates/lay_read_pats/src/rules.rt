@@ -10,7 +10,7 @@ use lay_tree::{Boxed, Pat, PatPlace};
 use std::alloc::Global;
 
 /// The rules of a level, over the reader of patterns one level deeper, at a place.
-#[derive(Clone, Copy)]
+#[derive(Drop)]
 pub struct PatRules<P> {
     pub alloc: Global,
     /// At this depth what is one level deeper is read.

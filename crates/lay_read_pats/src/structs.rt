@@ -8,7 +8,7 @@ ghost use Rattle.lay_read_pats.specs.Answers.{ArePats, IsTried, full_field, inde
 use crate::facts::{is_name, is_self, is_short, lone_word};
 use crate::rules::PatRules;
 use crate::values::{begins_dots, span};
-use lay_read_parts::joins::both;
+use lay_read_parts::joins::{both, refused};
 use lay_read_parts::loops::{Opening, Part, read_open_elements};
 use lay_read_tokens::attributes::attrs_ahead;
 use lay_read_tokens::found::greater;
@@ -28,7 +28,7 @@ fn plain_path(at: &Ahead<'_>, path: Found<Path>) -> Result<Found<Pat>, ReadNone>
     ensures within { IfOk result (λ found. found.need ≡ path.need + 1) }
 {
     if at.op_is(b"!") {
-        return Err(ReadNone::NoReading);
+        return refused(path);
     }
     Ok(Found {
         node: Pat::Path { path: path.node },
@@ -217,7 +217,7 @@ impl<P: Fn(Global, &mut Ahead<'_>, PatPlace, u32) -> Result<Found<Pat>, ReadNone
             pass_two(at);
         }
         if !takes_closer(at, Delim::Brace) {
-            return Err(ReadNone::NoReading);
+            return refused(fields);
         }
         Ok(Found {
             node: (fields, rest),
@@ -313,7 +313,7 @@ impl<P: Fn(Global, &mut Ahead<'_>, PatPlace, u32) -> Result<Found<Pat>, ReadNone
     {
         let (attrs, found) = both(attrs, self.inner(at, PatPlace::Single))?;
         if !is_short(&found.node) {
-            return Err(ReadNone::NoReading);
+            return refused((attrs, found));
         }
         Ok(Found {
             need: found.need,

@@ -1,27 +1,22 @@
 -- One step of a reader, from what the readers within it give.
-use Rattle.std.proofs.Common.{◌≡◌, ℕ, suc, ◌-◌, ◌<◌, Bool, true, false, refl, if◌then◌else◌, codes, arith, length, is_some, option_map, Result, List, [], ◌∷◌, Option, Some, None, slice_get, sym, ap, ◌∙◌}
-use Rattle.lay_piece.specs.declared.kind.Kind.{Kind}
-use Rattle.lay_piece.specs.declared.kind.Kind.TheVariants as kind
-use Rattle.lay_token.specs.declared.token.Token.{Token}
-use Rattle.lay_tree.specs.Begins.{is_literal_token}
+use Rattle.std.proofs.Common.{◌≡◌, ℕ, suc, ◌-◌, ◌<◌, true, false, refl, codes, arith, length, is_some, option_map, Result, List, [], ◌∷◌, Option, Some, None, sym, ap, ◌∙◌}
 use Rattle.lay_tree.specs.Ahead.{Tokens, first, tail, is_mark}
-use Rattle.lay_tree.specs.Begins.{lead_by, lead_at, lead_of_word}
+use Rattle.lay_tree.specs.Begins.{lead_at}
 use Rattle.lay_tree.specs.nodes.Types.{ArgsFacts, about_args, about_type}
-use Rattle.lay_tree.specs.reader.Generics.{generics, one_param}
-use Rattle.lay_tree.specs.reader.Loops.{Got, Read, ◌>>=◌, elements}
-use Rattle.lay_tree.specs.reader.Types.{Within, within, angle, one_arg, returns_last, type_at, type_by, constraint_by, literal, const, negative, braces}
+use Rattle.lay_tree.specs.reader.Loops.{Read, elements}
+use Rattle.lay_tree.specs.reader.Types.{Within, within, angle, one_arg, returns_last, type_at, type_by, constraint_by}
 use Rattle.lay_tree.specs.declared.token.Word.{Word}
 use Rattle.lay_tree.specs.declared.types.Arg.{Arg}
 use Rattle.lay_tree.specs.declared.types.Args.{Args}
 use Rattle.lay_tree.specs.declared.types.Args.TheVariants as args
-use Rattle.lay_tree.specs.declared.types.ConstArg.TheVariants as const_arg
 use Rattle.lay_tree.specs.declared.types.Ty.{Ty}
 use Rattle.lay_tree.specs.declared.types.TypePlace.{TypePlace}
 use Rattle.lay_tree.proofs.nodes.TypesLaws.{args_none_is, args_angle_is, args_round_is}
 use Rattle.lay_read_tokens.specs.Answers.{IsFound}
 use Rattle.lay_read_tokens.specs.declared.found.Found.{Found}
 use Rattle.lay_read_tokens.specs.declared.stop.ReadNone.{ReadNone}
-use Rattle.lay_read_parts.specs.Answers.{gathered, literal_if}
+use Rattle.lay_read_parts.specs.Answers.{gathered}
+use Rattle.lay_read_parts.proofs.Steps.{gathered_lost}
 
 -- ---- generic arguments
 
@@ -73,11 +68,6 @@ pub found_by : {A : Type 0} (a b : Read A) (r : Result (Found A) ReadNone) (left
     → IsFound a r left
 found_by a b r left e h = rw e h
 
-gathered_lost : {A B : Type 0} (o : Got (List (A × ℕ))) (f : List (A × ℕ) × Tokens → Got B) → gathered o ≡ None
-    → (o >>= f) ≡ None
-gathered_lost None f h = refl
-gathered_lost (Some xs) f h = absurd (cc)
-
 pub angle_lost : (w : Within) (ts mid : Tokens) → first (is_mark (codes "<")) ts ≡ true → mid ≡ tail ts
     → gathered (elements (is_mark (codes ">")) (one_arg w) mid) ≡ None → angle w ts ≡ None
 unfolding angle
@@ -88,17 +78,3 @@ angle_lost w ts mid h e n =
 
 -- ---- paths
 
-pub short_last : (xs : List (Word × Args)) → length xs < 2 → returns_last xs ≡ true
-short_last [] h = refl
-short_last (x ∷ []) h = refl
-short_last (x ∷ y ∷ xs) h = absurd (omega arith)
-
--- ---- generic parameters
-
-pub generics_lost : (w : Within) (ts mid : Tokens) → first (is_mark (codes "<")) ts ≡ true → mid ≡ tail ts
-    → gathered (elements (is_mark (codes ">")) (one_param w) mid) ≡ None → generics w ts ≡ None
-unfolding generics
-generics_lost w ts mid h e n =
-    let here : gathered (elements (is_mark (codes ">")) (one_param w) (tail ts)) ≡ None =
-    ap (λ us. gathered (elements (is_mark (codes ">")) (one_param w) us)) (sym e) ∙ n in
-    rw h (gathered_lost (elements (is_mark (codes ">")) (one_param w) (tail ts)) _ here)

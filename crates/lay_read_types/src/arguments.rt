@@ -11,6 +11,7 @@ ghost use Rattle.lay_read_tokens.specs.Answers.{IsFound};
 ghost use Rattle.lay_read_parts.specs.Answers.{gathered};
 ghost use Rattle.lay_read_types.specs.Answers.{AreDeeper, named_segment};
 
+use crate::paths::into_path;
 use crate::rules::Rules;
 use lay_read_parts::joins::both;
 use lay_read_parts::leads::{begins_const, is_at_lifetime, opens_args, opens_args_late};
@@ -209,14 +210,19 @@ fn is_round(args: &Args) -> bool
 fn into_named(ty: Ty) -> Option<(Name, Args)>
     ensures { result ≡ reader.named_type ty }
 {
-    match ty {
-        Ty::Path { path } => match path {
-            Path {
-                start: PathStart::Local,
-                segments,
-            } => into_segment(segments),
-            _ => None,
-        },
+    match into_path(ty) {
+        Some(path) => into_named_path(path),
+        None => None,
+    }
+}
+
+/// The name and the generic arguments that a path is, if it is no more.
+fn into_named_path(path: Path) -> Option<(Name, Args)>
+    ensures { result ≡ reader.named_path path }
+{
+    let Path { start, segments } = path;
+    match start {
+        PathStart::Local => into_segment(segments),
         _ => None,
     }
 }

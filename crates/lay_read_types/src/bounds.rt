@@ -6,7 +6,7 @@ ghost use Rattle.lay_read_tokens.specs.Answers.{IsFound};
 ghost use Rattle.lay_read_types.specs.Answers.{AreDeeper};
 
 use crate::rules::Rules;
-use lay_read_parts::joins::prepended;
+use lay_read_parts::joins::{both, prepended, refused};
 use lay_read_parts::leads::{begins_const, is_at_lifetime};
 use lay_read_parts::loops::{Joint, Part, read_chain};
 use lay_read_parts::parts::{read_binder_if, read_const, read_lifetime};
@@ -36,7 +36,7 @@ impl<
     {
         let maybe = takes_mark(at, b"?");
         let binder = read_binder_if(self.alloc, at)?;
-        let path = self.path(at, PathStyle::Kind)?;
+        let (binder, path) = both(binder, self.path(at, PathStyle::Kind))?;
         Ok(Found {
             need: path.need,
             node: Bound::Meets {
@@ -69,7 +69,7 @@ impl<
         if takes_closer(at, Delim::Paren) {
             Ok(bound)
         } else {
-            Err(ReadNone::NoReading)
+            refused(bound)
         }
     }
 

@@ -1,14 +1,12 @@
 //! What is read within a depth.
 ghost use Rattle.std.specs.Prelude.{◌≤◌, IfOk};
-ghost use Rattle.lay_tree.specs.reader.Generics.{generics};
 ghost use Rattle.lay_tree.specs.reader.Types.{all_bounds, args_by, path, type_at, within};
-ghost use Rattle.lay_tree.specs.reader.Where.{wheres};
 ghost use Rattle.lay_read_tokens.specs.Answers.{IsFound};
 
 use crate::rules::Rules;
 use lay_read_tokens::{Ahead, Found, ReadNone};
 use lay_token::List;
-use lay_tree::{Args, Bound, Constraint, Generics, Path, PathStyle, Ty, TypePlace, Wheres};
+use lay_tree::{Args, Bound, Constraint, Path, PathStyle, Ty, TypePlace};
 use std::alloc::Global;
 
 /// A type at its place, within a depth.
@@ -110,40 +108,4 @@ pub fn bounds_ahead(
         constraints: constraint_ahead,
     };
     rules.all_bounds(at)
-}
-
-/// Generic parameters, with what is within them within the depth, and whether `<` and `>` are spelled.
-pub fn generics_ahead(
-    alloc: Global,
-    at: &mut Ahead<'_>,
-    depth: u32,
-) -> Result<Found<(Generics, bool)>, ReadNone>
-    ensures read { IsFound (generics (within depth) at.old) result at.new }
-    ensures within { IfOk result (λ found. found.need ≤ depth) }
-{
-    let rules = Rules {
-        alloc,
-        depth,
-        types: type_ahead,
-        constraints: constraint_ahead,
-    };
-    rules.generics(at)
-}
-
-/// A where clause, with what is within it within the depth, and whether its last part is spelled.
-pub fn wheres_ahead(
-    alloc: Global,
-    at: &mut Ahead<'_>,
-    depth: u32,
-) -> Result<Found<(Wheres, bool)>, ReadNone>
-    ensures read { IsFound (wheres (within depth) at.old) result at.new }
-    ensures within { IfOk result (λ found. found.need ≤ depth) }
-{
-    let rules = Rules {
-        alloc,
-        depth,
-        types: type_ahead,
-        constraints: constraint_ahead,
-    };
-    rules.wheres(at)
 }

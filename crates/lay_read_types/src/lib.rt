@@ -1,4 +1,4 @@
-//! From nested tokens to types, paths, generic arguments, bounds, generic parameters and where clauses.
+//! From nested tokens to types, paths, generic arguments and bounds.
 //!
 //! Each reader is proved equal to a function of the tokens ahead that `lay_tree` defines, and that function reads what
 //! is spelled and nothing else.
@@ -6,14 +6,12 @@
 
 mod arguments;
 mod bounds;
-mod generics;
 mod knot;
 mod paths;
 mod reads;
 pub mod rules;
 pub mod types;
-mod wheres;
 
-pub use knot::{args_ahead, bounds_ahead, generics_ahead, path_ahead, type_ahead, wheres_ahead};
+pub use knot::{args_ahead, bounds_ahead, path_ahead, type_ahead};
 pub use lay_read_tokens::{ReadNone, read_attr, read_attrs, read_call};
-pub use reads::{read_args, read_bounds, read_generics, read_path, read_type, read_wheres};
+pub use reads::{read_args, read_bounds, read_path, read_type};

@@ -9,7 +9,7 @@ ghost use Rattle.lay_read_parts.specs.Answers.{gathered};
 ghost use Rattle.lay_read_types.specs.Answers.{AreDeeper};
 
 use crate::rules::Rules;
-use lay_read_parts::joins::both;
+use lay_read_parts::joins::{both, none_of, refused};
 use lay_read_parts::loops::{Joint, Part, read_chain};
 use lay_read_tokens::found::greater;
 use lay_read_tokens::front::{is_at_mark, takes_colons, takes_keyword, takes_mark};
@@ -114,7 +114,7 @@ impl<
         let ty = self.inner(at, TypePlace::Bounds)?;
         let (ty, of) = both(ty, self.trait_if(at))?;
         if !takes_mark(at, b">") || !takes_colons(at) {
-            return Err(ReadNone::NoReading);
+            return refused((ty, of));
         }
         let need = greater(ty.need, of.need);
         let (of, ty) = both(of.node, boxed(self.alloc, ty.node))?;
@@ -155,7 +155,7 @@ impl<
         let start = self.path_start(at)?;
         let (start, segments) = both(start, self.segments(at, style))?;
         if !returns_last(segments.node.as_slice()) {
-            return Err(ReadNone::NoReading);
+            return refused((start, segments));
         }
         Ok(Found {
             need: greater(start.need, segments.need),
@@ -168,12 +168,12 @@ impl<
 }
 
 /// The path that a type is, if it is one.
-fn into_path(ty: Ty) -> Option<Path>
+pub fn into_path(ty: Ty) -> Option<Path>
     ensures { result ≡ reader.as_path ty }
 {
     match ty {
         Ty::Path { path } => Some(path),
-        _ => None,
+        other => none_of(other),
     }
 }
 
@@ -193,9 +193,12 @@ fn has_output(args: &Args) -> bool
 fn returns_last(segments: &[(Word, Args)]) -> bool
     ensures { result ≡ reader.returns_last segments.now }
 {
-    match segments {
-        [] => true,
-        [_] => true,
-        [first, _, ..] => !has_output(&first.1) && returns_last(&segments[1..]),
+    let mut rest = segments;
+    while let [segment, behind @ ..] = rest {
+        if !behind.is_empty() && has_output(&segment.1) {
+            return false;
+        }
+        rest = behind;
     }
+    true
 }

@@ -1,19 +1,17 @@
 //! What stands at the front of the tokens of a text.
 ghost use Rattle.lay_tree.specs.nodes.Facts.{Front};
-ghost use Rattle.lay_tree.specs.nodes.Generics.{GenericsFront};
 ghost use Rattle.lay_tree.specs.nodes.Types.{BoundsFront, TypeFront, about_args, about_path, about_type, alone, in_style};
-ghost use Rattle.lay_tree.specs.nodes.Where.{WheresFront};
 ghost use Rattle.lay_tree.specs.declared.types.Args.{Args as ArgsValue};
 ghost use Rattle.lay_tree.specs.declared.types.Path.{Path as PathValue};
 ghost use Rattle.lay_tree.specs.declared.types.Ty.{Ty as TyValue};
 ghost use Rattle.lay_read_tokens.specs.Answers.{AreLexed};
 ghost use Rattle.lay_read_parts.specs.Answers.{IsReadAt};
 
-use crate::knot::{args_ahead, bounds_ahead, generics_ahead, path_ahead, type_ahead, wheres_ahead};
+use crate::knot::{args_ahead, bounds_ahead, path_ahead, type_ahead};
 use lay_nest::Cursor;
 use lay_read_tokens::{Ahead, ReadNone};
 use lay_token::List;
-use lay_tree::{Args, Bound, Generics, Path, PathStyle, Ty, TypePlace, Wheres};
+use lay_tree::{Args, Bound, Path, PathStyle, Ty, TypePlace};
 use std::alloc::Global;
 
 /// The type at the front, at its place and within the depth. Where there is none the cursor stays.
@@ -85,34 +83,4 @@ pub fn read_bounds(alloc: Global, at: &mut Cursor<'_>, depth: u32) -> Result<Lis
     let found = bounds_ahead(alloc, &mut ahead, depth - 1)?;
     *at = ahead.into_cursor();
     Ok(found.node)
-}
-
-/// The generic parameters at the front, within the depth. What is within stands one level deeper. Where there is
-/// none the cursor stays.
-pub fn read_generics(alloc: Global, at: &mut Cursor<'_>, depth: u32) -> Result<Generics, ReadNone>
-    requires { AreLexed at.old }
-    ensures { IsReadAt depth GenericsFront at.old result at.new }
-{
-    if depth == 0 {
-        return Err(ReadNone::NoReading);
-    }
-    let mut ahead = Ahead::new(at.fork());
-    let found = generics_ahead(alloc, &mut ahead, depth - 1)?;
-    *at = ahead.into_cursor();
-    Ok(found.node.0)
-}
-
-/// The where clause at the front, within the depth. What is within stands one level deeper. Where there is none the
-/// cursor stays.
-pub fn read_wheres(alloc: Global, at: &mut Cursor<'_>, depth: u32) -> Result<Wheres, ReadNone>
-    requires { AreLexed at.old }
-    ensures { IsReadAt depth WheresFront at.old result at.new }
-{
-    if depth == 0 {
-        return Err(ReadNone::NoReading);
-    }
-    let mut ahead = Ahead::new(at.fork());
-    let found = wheres_ahead(alloc, &mut ahead, depth - 1)?;
-    *at = ahead.into_cursor();
-    Ok(found.node.0)
 }

@@ -10,7 +10,7 @@ use std::alloc::Global;
 
 /// The rules of a level, over the readers of what is one level deeper: of types, at a place, and of what is asked of a
 /// name among generic arguments.
-#[derive(Clone, Copy)]
+#[derive(Drop)]
 pub struct Rules<F, G> {
     pub alloc: Global,
     /// At this depth what is one level deeper is read.

@@ -13,7 +13,7 @@ ghost use Rattle.lay_read_parts.specs.Answers.{gathered, gathered_open};
 ghost use Rattle.lay_read_types.specs.Answers.{AreDeeper, marked, path_or_call};
 
 use crate::rules::Rules;
-use lay_read_parts::joins::{both, prepended};
+use lay_read_parts::joins::{both, prepended, refused};
 use lay_read_parts::leads::{Lead, lead_at};
 use lay_read_parts::loops::{Closer, Opening, Part, read_elements, read_open_elements};
 use lay_read_parts::parts::{read_abi_if, read_binder_if, read_lifetime_if};
@@ -154,7 +154,7 @@ impl<
             });
         }
         if !takes_mark(at, b",") {
-            return Err(ReadNone::NoReading);
+            return refused(first);
         }
         let (first, more) = both(first, self.paren_types(at))?;
         let elements = prepended(first.node, more.node)?;
@@ -183,7 +183,7 @@ impl<
                 need,
             })
         } else {
-            Err(ReadNone::NoReading)
+            refused(inner)
         }
     }
 
@@ -197,9 +197,9 @@ impl<
     {
         let lifetime = read_lifetime_if(self.alloc, at)?;
         let mutable = takes_keyword(at, b"mut");
-        let found = self.inner(at, TypePlace::NoBounds)?;
+        let (lifetime, found) = both(lifetime, self.inner(at, TypePlace::NoBounds))?;
         let need = found.need + 1;
-        let inner = boxed(self.alloc, found.node)?;
+        let (lifetime, inner) = both(lifetime, boxed(self.alloc, found.node))?;
         Ok(Found {
             node: Ty::Ref {
                 lifetime,
@@ -278,7 +278,7 @@ impl<
     {
         let path = self.path(at, PathStyle::Kind)?;
         if at.op_is(b"!") {
-            return Err(ReadNone::NoReading);
+            return refused(path);
         }
         Ok(Found {
             need: path.need + 1,
@@ -294,8 +294,8 @@ impl<
         ensures within { IfOk result (λ found. found.need ≤ self.now.depth) }
     {
         let attrs = attrs_ahead(self.alloc, at, false)?;
-        let name = read_param_name_if(self.alloc, at)?;
-        let ty = self.inner(at, TypePlace::Bounds)?;
+        let (attrs, name) = both(attrs, read_param_name_if(self.alloc, at))?;
+        let ((attrs, name), ty) = both((attrs, name), self.inner(at, TypePlace::Bounds))?;
         Ok(Found {
             need: ty.need,
             node: FuncParam {
@@ -343,7 +343,7 @@ impl<
                 need,
             })
         } else {
-            Err(ReadNone::NoReading)
+            refused(params)
         }
     }
 
@@ -357,12 +357,13 @@ impl<
     {
         let binder = read_binder_if(self.alloc, at)?;
         let is_unsafe = takes_keyword(at, b"unsafe");
-        let abi = read_abi_if(self.alloc, at)?;
+        let (binder, abi) = both(binder, read_abi_if(self.alloc, at))?;
         if !takes_keyword(at, b"fn") {
-            return Err(ReadNone::NoReading);
+            return refused((binder, abi));
         }
-        let params = self.func_params(at)?;
-        let (params, output) = both(params, self.output(at))?;
+        let (head, params) = both((binder, abi), self.func_params(at))?;
+        let ((head, params), output) = both((head, params), self.output(at))?;
+        let (binder, abi) = head;
         let Found { node, need } = params;
         let (params, variadic) = node;
         Ok(Found {
@@ -398,12 +399,12 @@ fn array(alloc: Global, at: &mut Ahead<'_>, element: Found<Ty>) -> Result<Found<
     ensures read { IsFound (reader.array_by (element.node, element.need) at.old) result at.new }
     ensures within { IfOk result (λ found. found.need ≡ element.need + 1) }
 {
-    let length = read_tokens(alloc, at)?;
+    let (element, length) = both(element, read_tokens(alloc, at))?;
     if !takes_closer(at, Delim::Bracket) || length.as_slice().is_empty() {
-        return Err(ReadNone::NoReading);
+        return refused((element, length));
     }
     let need = element.need + 1;
-    let inner = boxed(alloc, element.node)?;
+    let (length, inner) = both(length, boxed(alloc, element.node))?;
     Ok(Found {
         node: Ty::Array { inner, length },
         need,

@@ -1,10 +1,10 @@
 -- Parts with commas in braces, each on a line of its own, are spelled as a list in braces is.
-use Rattle.std.proofs.Common.{ℕ, Bool, true, false, List, [], ◌∷◌, codes, refl, sym, subst, ◌∙◌}
+use Rattle.std.proofs.Common.{ℕ, Bool, true, List, [], ◌∷◌, codes, refl, sym, subst, ◌∙◌}
 use Rattle.lay_piece.specs.declared.kind.Delim.TheVariants.{Brace}
 use Rattle.lay_piece.specs.declared.kind.Kind.TheVariants.{Punct}
-use Rattle.lay_form.specs.Form.{Blank, Fixed, Form, opener, closer, comma}
-use Rattle.lay_form.specs.Notation.{body, comma_list, fields, with_commas}
-use Rattle.lay_form.specs.Spelled.{IsOne, AreBits, MayBe, Spells}
+use Rattle.lay_form.specs.Form.{Fixed, Form, opener, closer, comma}
+use Rattle.lay_form.specs.Notation.{comma_list, fields, with_commas}
+use Rattle.lay_form.specs.Spelled.{IsOne, MayBe, Spells}
 use Rattle.lay_tree.specs.Ahead.{Tokens}
 use Rattle.lay_tree.specs.nodes.Fields.{blank_if}
 use Rattle.lay_tree.proofs.Parts.{Closed, Elements, Further, Rows, SpelledAt, bit_piece, body_rows, body_spelled, led_blank, list_elements, list_spelled, piece_bit}

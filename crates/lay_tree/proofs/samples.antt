@@ -6,3 +6,5 @@ pub mod Item
 pub mod Tokens
 pub mod Types
 pub mod Patterns
+pub mod Heads
+pub mod HeadsRead

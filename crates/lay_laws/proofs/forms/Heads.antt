@@ -4,13 +4,13 @@ use Rattle.std.specs.List.{list_all}
 use Rattle.std.proofs.lemmas.Bool.{and_parts}
 use Rattle.lay_form.specs.Form as form
 use Rattle.lay_form.specs.Form.{Bit, Blank, Form, Done, Piece, keyword, opener, closer, semicolon}
-use Rattle.lay_form.specs.Notation.{I0, piece}
+use Rattle.lay_form.specs.Notation.{piece}
 use Rattle.lay_form.specs.Pieces.{are_pieces}
 use Rattle.lay_tree.specs.Words.{is_name, leaf_of}
 use Rattle.lay_tree.specs.nodes.Fields.{are_fields, blank_if, is_field, is_variant}
 use Rattle.lay_tree.specs.nodes.Functions.{mut_word}
 use Rattle.lay_tree.specs.nodes.Generics.{are_bounds, bounded_form, default_form, generics_form, is_default, is_generics}
-use Rattle.lay_tree.specs.nodes.Heads.{HeadFacts, headed, seen, leads, about_extern_crate, may_be_given, about_alias, head_fields, struct_tail, about_struct, about_union, about_enum, of_type, value_head_form, is_value_head, trait_head_form, is_trait_head, trait_ref_form, is_trait_ref, impl_head_form, is_impl_head, opens_less}
+use Rattle.lay_tree.specs.nodes.Heads.{HeadFacts, seen, leads, about_extern_crate, may_be_given, about_alias, head_fields, struct_tail, about_struct, about_union, about_enum, of_type, value_head_form, is_value_head, trait_head_form, is_trait_head, trait_ref_form, is_trait_ref, impl_head_form, is_impl_head, opens_less}
 use Rattle.lay_tree.specs.nodes.Types.{about_path, about_type, good_at, is_given, is_there}
 use Rattle.lay_tree.specs.nodes.Use.{rename_form}
 use Rattle.lay_tree.specs.nodes.Vis.{vis_form}
@@ -53,24 +53,19 @@ pub record HeadPasses (x : HeadFacts) : Type 0 where
   pub head : x.good ≡ true → are_pieces x.head ≡ true → From plain x.head between
   pub tail : x.good ≡ true → are_pieces x.tail ≡ true → From between x.tail plain
 
--- a group of a visibility and a head, and what stands behind it
-pub seen_head : (v : Vis) {i f : Form} {c : Border} (h : Border) → are_pieces (I0 (form.Part (vis_form v) i) f) ≡ true
-    → (are_pieces i ≡ true → From plain i h) → (are_pieces f ≡ true → From h f c)
-    → From plain (I0 (form.Part (vis_form v) i) f) c
-seen_head v {i} {f} h w k l =
-    let p = and_parts (are_pieces (form.Part (vis_form v) i)) (are_pieces f) w in
-    within plain h refl (behind_vis v p.0 k) (l p.1)
-
--- with a visibility, and without one
+-- a group of a visibility and the head, and what stands behind it
 pub seen_passes : (v : Vis) (x : HeadFacts) → HeadPasses x → x.good ≡ true → are_pieces (seen v x) ≡ true
     → From plain (seen v x) plain
-seen_passes v x k g w = seen_head v k.between w (k.head g) (k.tail g)
+seen_passes v x k g w =
+    let p = and_parts (are_pieces (form.Part (vis_form v) x.head)) (are_pieces x.tail) w in
+    within plain k.between refl (behind_vis v p.0 (k.head g)) (k.tail g p.1)
 
-pub headed_passes : (x : HeadFacts) → HeadPasses x → x.good ≡ true → are_pieces (headed x).form ≡ true
-    → From plain (headed x).form plain
-headed_passes x k g w =
-    let p = and_parts (are_pieces x.head) (are_pieces x.tail) w in
-    within plain k.between refl (k.head g p.0) (k.tail g p.1)
+-- of four conditions, each
+pub four_parts : (a b c d : Bool) → a && b && c && d ≡ true → (a ≡ true) × (b ≡ true) × (c ≡ true) × (d ≡ true)
+four_parts a b c d g =
+    let n1 = and_parts (a && b && c) d g in
+    let n2 = and_parts (a && b) c n1.0 in
+    let n3 = and_parts a b n2.0 in (n3.0, n3.1, n2.1, n1.1)
 
 -- a where clause and a `;`
 pub semicolon_tail : {b : Border} (wheres : Wheres) → where_fits b plain ends_predicate ends_predicate ≡ true
@@ -168,41 +163,33 @@ struct_passes x = record {
   between = ends_name;
   head = λ g w.
       let n = parts g in
-      fixed refl (behind_name x.name.raw x.name.text x.generics n.0 w (λ p.
+      fixed refl (behind_name x.name.raw x.name.text x.generics n.1 w (λ p.
       let q = (and_parts (are_pieces (head_fields x.fields)) true p).0 in
-      part ends_name ends_name refl (head_fields_pass x.fields n.1 q) (ends refl)));
-  tail = λ g w. let n = parts g in struct_tail_passes x.wheres x.fields n.2 n.1 w;
+      part ends_name ends_name refl (head_fields_pass x.fields n.2 q) (ends refl)));
+  tail = λ g w. let n = parts g in struct_tail_passes x.wheres x.fields n.3 n.2 w;
 }
   where
     parts : (about_struct x).good ≡ true
-        → (is_generics x.generics ≡ true) × (are_fields x.fields ≡ true) × (are_predicates x.wheres ≡ true)
-    parts g =
-        let n1 = and_parts (is_name x.name.raw x.name.text && is_generics x.generics && are_fields x.fields)
-        (are_predicates x.wheres) g in
-        let n2 = and_parts (is_name x.name.raw x.name.text && is_generics x.generics) (are_fields x.fields) n1.0 in
-        ((and_parts (is_name x.name.raw x.name.text) (is_generics x.generics) n2.0).1, n2.1, n1.1)
-
--- what is good of a name, generic parameters, a where clause, and parts
-braced_parts : (name generics wheres each : Bool) → name && generics && wheres && each ≡ true
-    → (generics ≡ true) × (wheres ≡ true) × (each ≡ true)
-braced_parts name generics wheres each g =
-    let n1 = and_parts (name && generics && wheres) each g in
-    let n2 = and_parts (name && generics) wheres n1.0 in
-    ((and_parts name generics n2.0).1, n2.1, n1.1)
+        → (is_name x.name.raw x.name.text ≡ true) × (is_generics x.generics ≡ true) × (are_fields x.fields ≡ true)
+        × (are_predicates x.wheres ≡ true)
+    parts g = four_parts (is_name x.name.raw x.name.text) (is_generics x.generics) (are_fields x.fields)
+        (are_predicates x.wheres) g
 
 pub union_passes : (x : Union) → HeadPasses (about_union x)
 unfolding tables
 union_passes x = record {
   between = ends_name;
   head = λ g w. let n = parts g in
-      fixed refl (behind_name x.name.raw x.name.text x.generics n.0 w (λ p. ends refl));
+      fixed refl (behind_name x.name.raw x.name.text x.generics n.1 w (λ p. ends refl));
   tail = λ g w. let n = parts g in
-      body_tail x.wheres behind_generics n.1 w (named_passes (leads x.wheres) x.fields (braces_fit (leads x.wheres)) n.2);
+      body_tail x.wheres behind_generics n.2 w
+      (named_passes (leads x.wheres) x.fields (braces_fit (leads x.wheres)) n.3);
 }
   where
     parts : (about_union x).good ≡ true
-        → (is_generics x.generics ≡ true) × (are_predicates x.wheres ≡ true) × (list_all is_field x.fields ≡ true)
-    parts g = braced_parts (is_name x.name.raw x.name.text) (is_generics x.generics) (are_predicates x.wheres)
+        → (is_name x.name.raw x.name.text ≡ true) × (is_generics x.generics ≡ true)
+        × (are_predicates x.wheres ≡ true) × (list_all is_field x.fields ≡ true)
+    parts g = four_parts (is_name x.name.raw x.name.text) (is_generics x.generics) (are_predicates x.wheres)
         (list_all is_field x.fields) g
 
 pub enum_passes : (x : Enum) → HeadPasses (about_enum x)
@@ -210,15 +197,16 @@ unfolding tables
 enum_passes x = record {
   between = ends_name;
   head = λ g w. let n = parts g in
-      fixed refl (behind_name x.name.raw x.name.text x.generics n.0 w (λ p. ends refl));
+      fixed refl (behind_name x.name.raw x.name.text x.generics n.1 w (λ p. ends refl));
   tail = λ g w. let n = parts g in
-      body_tail x.wheres behind_generics n.1 w
-      (variants_pass (leads x.wheres) x.variants (braces_fit (leads x.wheres)) n.2);
+      body_tail x.wheres behind_generics n.2 w
+      (variants_pass (leads x.wheres) x.variants (braces_fit (leads x.wheres)) n.3);
 }
   where
     parts : (about_enum x).good ≡ true
-        → (is_generics x.generics ≡ true) × (are_predicates x.wheres ≡ true) × (list_all is_variant x.variants ≡ true)
-    parts g = braced_parts (is_name x.name.raw x.name.text) (is_generics x.generics) (are_predicates x.wheres)
+        → (is_name x.name.raw x.name.text ≡ true) × (is_generics x.generics ≡ true)
+        × (are_predicates x.wheres ≡ true) × (list_all is_variant x.variants ≡ true)
+    parts g = four_parts (is_name x.name.raw x.name.text) (is_generics x.generics) (are_predicates x.wheres)
         (list_all is_variant x.variants) g
 
 -- ---- constants and statics

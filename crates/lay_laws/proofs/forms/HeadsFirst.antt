@@ -2,14 +2,12 @@
 -- shebang.
 use Rattle.std.proofs.Common.{[], ◌∷◌, Bool, true, false, refl, codes, Option, Some, None}
 use Rattle.lay_layout.specs.Document.{Document}
-use Rattle.lay_form.specs.Form as form
 use Rattle.lay_form.specs.Form.{Blank, Form, Piece, keyword}
 use Rattle.lay_form.specs.Layout.{laid_out}
-use Rattle.lay_form.specs.Notation.{I0, when}
+use Rattle.lay_form.specs.Notation.{when}
 use Rattle.lay_tree.specs.nodes.Functions.{fn_head_form, safety_form, signature_form}
-use Rattle.lay_tree.specs.nodes.Heads.{HeadFacts, headed, seen, about_extern_crate, about_alias, about_struct, about_union, about_enum, value_head_form, unsafe_form, trait_head_form, impl_head_form}
+use Rattle.lay_tree.specs.nodes.Heads.{HeadFacts, seen, about_extern_crate, about_alias, about_struct, about_union, about_enum, value_head_form, unsafe_form, trait_head_form, impl_head_form}
 use Rattle.lay_tree.specs.nodes.Types.{abi_form}
-use Rattle.lay_tree.specs.nodes.Vis.{vis_form}
 use Rattle.lay_tree.specs.declared.functions.FnHead.{FnHead}
 use Rattle.lay_tree.specs.declared.functions.Safety.{Safety}
 use Rattle.lay_tree.specs.declared.functions.Safety.TheVariants as safety
@@ -32,21 +30,15 @@ use Rattle.lay_laws.proofs.file.FirstText.{Fair, first_text, low_fair}
 abbrev pub BeginsFair : Form → Type 0
 BeginsFair f = (d : Document) → Fair (first_text (laid_out false f d))
 
--- ---- behind a visibility, and without one
-
-pub seen_head_fair : (v : Vis) (i f : Form) → BeginsFair i → BeginsFair (I0 (form.Part (vis_form v) i) f)
-seen_head_fair vis.Inherited i f k d = k _
-seen_head_fair vis.Public i f k d = low_fair (codes "pub ") refl (λ r. refl) (λ r. refl)
-seen_head_fair vis.Crate i f k d = low_fair (codes "pub(crate) ") refl (λ r. refl) (λ r. refl)
-seen_head_fair vis.Own i f k d = low_fair (codes "pub(self) ") refl (λ r. refl) (λ r. refl)
-seen_head_fair vis.Super i f k d = low_fair (codes "pub(super) ") refl (λ r. refl) (λ r. refl)
-seen_head_fair (vis.In path) i f k d = low_fair (codes "pub(in ") refl (λ r. refl) (λ r. refl)
+-- ---- behind a visibility
 
 pub seen_fair : (v : Vis) (x : HeadFacts) → BeginsFair x.head → BeginsFair (seen v x)
-seen_fair v x k = seen_head_fair v x.head x.tail k
-
-pub headed_fair : (x : HeadFacts) → BeginsFair x.head → BeginsFair (headed x).form
-headed_fair x k d = k _
+seen_fair vis.Inherited x k d = k _
+seen_fair vis.Public x k d = low_fair (codes "pub ") refl (λ r. refl) (λ r. refl)
+seen_fair vis.Crate x k d = low_fair (codes "pub(crate) ") refl (λ r. refl) (λ r. refl)
+seen_fair vis.Own x k d = low_fair (codes "pub(self) ") refl (λ r. refl) (λ r. refl)
+seen_fair vis.Super x k d = low_fair (codes "pub(super) ") refl (λ r. refl) (λ r. refl)
+seen_fair (vis.In path) x k d = low_fair (codes "pub(in ") refl (λ r. refl) (λ r. refl)
 
 -- ---- items that are heads alone
 

@@ -1,5 +1,5 @@
 -- At most one head of an item and one count of tokens fit at a place.
-use Rattle.std.proofs.Common.{◌≡◌, ℕ, ◌≤◌, Bool, ap, length}
+use Rattle.std.proofs.Common.{◌≡◌, ℕ, Bool, ap}
 use Rattle.lay_tree.specs.Ahead.{Tokens}
 use Rattle.lay_tree.specs.nodes.Facts.{Told, ToldFront, by_itself}
 use Rattle.lay_tree.specs.nodes.Functions.{about_fn_head}
@@ -20,7 +20,6 @@ use Rattle.lay_tree.specs.declared.heads.Struct.{Struct}
 use Rattle.lay_tree.specs.declared.heads.TraitHead.{TraitHead}
 use Rattle.lay_tree.specs.declared.heads.Union.{Union}
 use Rattle.lay_tree.specs.declared.heads.ValueHead.{ValueHead}
-use Rattle.lay_tree.specs.declared.vis.Vis.{Vis}
 use Rattle.lay_tree.proofs.reader.AliasComplete.{aliases_exact}
 use Rattle.lay_tree.proofs.reader.Exact.{one_by_reading}
 use Rattle.lay_tree.proofs.reader.FunctionsComplete.{fn_heads_exact}

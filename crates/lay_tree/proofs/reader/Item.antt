@@ -1,45 +1,37 @@
 -- Items: what is read is spelled.
-use Rattle.std.proofs.Common.{◌≡◌, ℕ, zero, suc, ◌≤◌, Bool, true, false, ◌&&◌, ◌||◌, List, [], ◌∷◌, map, drop, codes, inl, inr, Option, Some, None, if◌then◌else◌, refl, sym, ap, subst, arith}
+use Rattle.std.proofs.Common.{◌≡◌, ℕ, zero, suc, ◌≤◌, Bool, true, false, ◌&&◌, ◌||◌, List, [], ◌∷◌, map, drop, codes, inl, inr, Option, Some, None, if◌then◌else◌, refl, sym, subst, arith}
 use Rattle.std.proofs.lemmas.Bool.{and_parts, and_from}
 use Rattle.std.specs.Prelude.{is_some}
-use Rattle.lay_piece.specs.Forms.{opening}
 use Rattle.lay_token.specs.Operators.{is_op}
 use Rattle.lay_piece.specs.declared.kind.Delim.{Delim}
 use Rattle.lay_piece.specs.declared.kind.Delim.TheVariants.{Paren, Bracket, Brace}
 use Rattle.lay_piece.specs.declared.kind.Kind.TheVariants.{Ident}
 use Rattle.lay_form.specs.Form.{Blank, Operator, Form, Done, Part, keyword}
-use Rattle.lay_form.specs.Notation.{I0}
 use Rattle.lay_form.specs.Spelled.{IsOne, IsOperator, AreBits, Spells}
 use Rattle.lay_form.proofs.FormLaws.{bits_end, is_end, one_end}
 use Rattle.lay_form.proofs.FormLaws.{deeper as raise}
 use Rattle.lay_tree.specs.Ahead.{Tokens, first, tail, is_keyword}
 use Rattle.lay_tree.specs.Words.{is_name}
 use Rattle.lay_tree.specs.nodes.Attr.{are_attrs, attr_form}
-use Rattle.lay_tree.specs.nodes.Call.{about_call, is_group, before_rules, end_form}
-use Rattle.lay_tree.specs.nodes.Item.{KindFacts, about_item, call_item_form, in_module, is_inherited, item_facts, kind_facts, kind_form, may_lack_body, rules_form, told_of_item, told_of_kind}
+use Rattle.lay_tree.specs.nodes.Call.{is_group, before_rules, end_form}
+use Rattle.lay_tree.specs.nodes.Item.{about_item, call_item_form, in_module, is_inherited, kind_facts, kind_form, rules_form, told_of_kind}
 use Rattle.lay_tree.specs.nodes.Use.{about_use}
-use Rattle.lay_tree.specs.nodes.Vis.{about_vis, is_vis, vis_form}
+use Rattle.lay_tree.specs.nodes.Vis.{is_vis, vis_form}
 use Rattle.lay_tree.specs.reader.Attr.{attributes}
 use Rattle.lay_tree.specs.reader.Call.{call, behind_end}
 use Rattle.lay_tree.specs.reader.Exact.{InText}
 use Rattle.lay_tree.specs.reader.Functions.{insides}
 use Rattle.lay_tree.specs.reader.Item.{ItemLead, ItemWithin, OfAlias, OfCall, OfEnum, OfExternCrate, OfForeign, OfFunction, OfImpl, OfImport, OfModule, OfRules, OfStruct, OfTrait, OfUnion, OfValue, begins_function, begins_rules, begins_union, call_item, extern_lead, item_at, item_by, item_lead, kind_at, kind_by, may_stand, rules_item, unsafe_lead}
-use Rattle.lay_tree.specs.reader.Loops.{Read, ◌>>=◌}
 use Rattle.lay_tree.specs.reader.Tokens.{group}
 use Rattle.lay_tree.specs.reader.Use.{use_at}
 use Rattle.lay_tree.specs.reader.Vis.{visibility}
 use Rattle.lay_tree.specs.reader.Words.{name}
 use Rattle.lay_tree.specs.tokens.Lists.{group_form}
-use Rattle.lay_tree.specs.declared.attr.Attr.{Attr}
 use Rattle.lay_tree.specs.declared.heads.Site.{Site}
 use Rattle.lay_tree.specs.declared.item.Item.{Item}
 use Rattle.lay_tree.specs.declared.item.ItemKind.{ItemKind}
 use Rattle.lay_tree.specs.declared.item.ItemKind.TheVariants as item
 use Rattle.lay_tree.specs.declared.item.ItemKind.TheOpen.{ItemKind-F}
-use Rattle.lay_tree.specs.declared.token.Name.{Name}
-use Rattle.lay_tree.specs.declared.tokens.Group.{Group}
-use Rattle.lay_tree.specs.declared.tokens.MacroCall.{MacroCall}
-use Rattle.lay_tree.specs.declared.use_tree.UseTree.{UseTree}
 use Rattle.lay_tree.specs.declared.vis.Vis.{Vis}
 use Rattle.lay_tree.specs.declared.vis.Vis.TheVariants as vis
 use Rattle.lay_tree.proofs.Fronts.{texts_behind, keyword_one}
@@ -51,7 +43,7 @@ use Rattle.lay_tree.proofs.reader.Attr.{attributes_sound, attrs_spelled}
 use Rattle.lay_tree.proofs.reader.Call.{end_spelled, call_sound}
 use Rattle.lay_tree.proofs.reader.Exact.{Stands, Sound}
 use Rattle.lay_tree.proofs.reader.HeadsLevel.{insides_sound}
-use Rattle.lay_tree.proofs.reader.ItemSound.{HeadsSound, KindAt, KindHeld, alias_sound, alone, enum_sound, extern_sound, foreign_sound, function_sound, impl_sound, import_sound, kind_alone, kind_told, module_sound, struct_sound, trait_sound, union_sound, value_sound}
+use Rattle.lay_tree.proofs.reader.ItemSound.{HeadsSound, KindHeld, alias_sound, alone, enum_sound, extern_sound, foreign_sound, function_sound, impl_sound, import_sound, kind_alone, kind_told, module_sound, struct_sound, trait_sound, union_sound, value_sound}
 use Rattle.lay_tree.proofs.reader.Loops.{SoundStep}
 use Rattle.lay_tree.proofs.reader.PatternsSoundLevel.{SoundPatWithin}
 use Rattle.lay_tree.proofs.reader.Tokens.{group_sound}
@@ -111,7 +103,7 @@ rules_sound at budget ts m i t x rest h =
     let good = and_from (is_name n.raw n.text && is_group g) (in_module at) (and_from (is_name n.raw n.text) (is_group g) s.1 p.1) i in
     same_some (Out (KindHeld at budget) ts) ((item.MacroRules n g, 0), e.0) (x, rest) e.2
     (out_texts at budget (item.MacroRules n g, 0) ts e.0 t
-      (omega arith, kind_told at 0 (item.MacroRules n g) (kind_facts (ItemKind-F.MacroRules n g)) ts e.0 (laws.rules_is n g) spelled good))
+    (omega arith, kind_told at 0 (item.MacroRules n g) (kind_facts (ItemKind-F.MacroRules n g)) ts e.0 (laws.rules_is n g) spelled good))
 
 call_item_sound : (at : Site) (budget : ℕ) → SoundStep call_item (KindHeld at budget)
 unfolding call_item
@@ -123,7 +115,7 @@ call_item_sound at budget ts x rest t h =
     let spelled : Spells (call_item_form c) 0 ts e.0 = (b.0.1, s.0, end_spelled c.tokens.delim 0 b.0.1 e.0 e.1) in
     same_some (Out (KindHeld at budget) ts) ((item.Call c, 0), e.0) (x, rest) e.2
     (out_texts at budget (item.Call c, 0) ts e.0 t
-      (omega arith, kind_told at 0 (item.Call c) (kind_facts (ItemKind-F.Call c)) ts e.0 (laws.call_is c) spelled s.1))
+    (omega arith, kind_told at 0 (item.Call c) (kind_facts (ItemKind-F.Call c)) ts e.0 (laws.call_is c) spelled s.1))
 
 -- ---- what an item is
 

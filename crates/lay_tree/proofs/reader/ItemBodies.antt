@@ -1,23 +1,21 @@
 -- Inner attributes and items in braces: what is read is spelled.
-use Rattle.std.proofs.Common.{◌≡◌, ℕ, ◌≤◌, Bool, true, ◌&&◌, List, [], ◌∷◌, ◌++◌, map, Some, refl, sym, ap, subst, ◌∙◌}
-use Rattle.std.specs.List.{list_all}
+use Rattle.std.proofs.Common.{◌≡◌, ℕ, ◌≤◌, Bool, true, ◌&&◌, List, [], ◌∷◌, ◌++◌, map, refl, sym, ap, subst, ◌∙◌}
 use Rattle.lay_piece.specs.Forms.{opening}
 use Rattle.lay_piece.specs.declared.kind.Delim.TheVariants.{Brace}
 use Rattle.lay_piece.specs.declared.kind.Kind.TheVariants.{Opener, Closer}
 use Rattle.lay_piece.specs.Forms.{closing}
 use Rattle.lay_form.specs.Form.{Form}
-use Rattle.lay_form.specs.Spelled.{IsOne, Spells}
+use Rattle.lay_form.specs.Spelled.{Spells}
 use Rattle.lay_form.proofs.FormLaws.{one_end}
 use Rattle.lay_tree.specs.Ahead.{Tokens, opens, closes}
 use Rattle.lay_tree.specs.nodes.Attr.{are_attrs, attr_form}
-use Rattle.lay_tree.specs.nodes.Facts.{Facts, forms, all_good}
+use Rattle.lay_tree.specs.nodes.Facts.{forms, all_good}
 use Rattle.lay_tree.specs.nodes.Fields.{blank_if}
 use Rattle.lay_tree.specs.nodes.Item as node
 use Rattle.lay_tree.specs.nodes.Item.{about_item, item_forms, items_good, told_of_item}
 use Rattle.lay_tree.specs.reader.Attr.{attributes}
-use Rattle.lay_tree.specs.reader.Exact.{InText}
 use Rattle.lay_tree.specs.reader.Item.{ItemWithin, item_body, items_by, more_items}
-use Rattle.lay_tree.specs.reader.Loops.{◌>>=◌, passed, nodes, deepest}
+use Rattle.lay_tree.specs.reader.Loops.{passed, nodes, deepest}
 use Rattle.lay_tree.specs.declared.attr.Attr.{Attr}
 use Rattle.lay_tree.specs.declared.heads.Site.{Site}
 use Rattle.lay_tree.specs.declared.item.Item.{Item}

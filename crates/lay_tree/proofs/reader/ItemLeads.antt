@@ -1,10 +1,7 @@
 -- What an item begins with: its first token, and what it is by it.
-use Rattle.std.proofs.Common.{◌≡◌, ℕ, ◌<◌, ◌≤◌, Bool, true, false, ◌&&◌, List, [], ◌∷◌, length, map, drop, codes, Option, Some, None, refl, sym, ap, subst, arith}
-use Rattle.std.proofs.lemmas.Bool.{and_parts}
-use Rattle.std.specs.Prelude.{is_some}
+use Rattle.std.proofs.Common.{◌≡◌, ℕ, ◌<◌, ◌≤◌, Bool, true, false, List, [], ◌∷◌, length, map, codes, Option, Some, None, refl, ap, subst, arith}
 use Rattle.std.specs.Str.{bytes_eq}
-use Rattle.lay_piece.specs.Word.{class_of}
-use Rattle.lay_piece.specs.declared.kind.Delim.TheVariants.{Paren, Brace}
+use Rattle.lay_piece.specs.declared.kind.Delim.TheVariants.{Paren}
 use Rattle.lay_piece.specs.declared.kind.Kind.TheVariants.{Ident, RawIdent, Punct}
 use Rattle.lay_token.specs.Lexes.{is_punct}
 use Rattle.lay_token.specs.Operators.{is_op, op_at}
@@ -34,13 +31,13 @@ use Rattle.lay_tree.specs.declared.types.Abi.{Abi}
 use Rattle.lay_tree.proofs.nodes.ItemLaws as laws
 use Rattle.lay_tree.proofs.nodes.ItemLaws.{KindView, IsExternCrate, IsImport, IsFileModule, IsModule, IsFunction, IsAlias, IsStruct, IsUnion, IsEnum, IsValue, IsTrait, IsImpl, IsForeign, IsRules, IsCall, kind_view}
 use Rattle.lay_tree.proofs.reader.ItemSound.{KindAt, alone}
-use Rattle.lay_form.specs.Spelled.{AreBits, IsOne, IsOperator, Spells}
+use Rattle.lay_form.specs.Spelled.{IsOne, Spells}
 use Rattle.lay_form.proofs.FormLaws.{bits_end, shorter}
 use Rattle.lay_tree.specs.Ahead.{Tokens, first, is_keyword, opens}
 use Rattle.lay_tree.specs.nodes.SimplePath.{simple_path_form}
 use Rattle.lay_tree.specs.reader.Attr.{begins_attr}
 use Rattle.lay_tree.specs.declared.tokens.MacroCall.{MacroCall}
-use Rattle.lay_tree.proofs.Fronts.{end_shorter, one_front, one_shorter, op_front, op_shorter, op_test, op_text}
+use Rattle.lay_tree.proofs.Fronts.{end_shorter, one_front, one_shorter, op_shorter, op_test, op_text}
 use Rattle.lay_tree.proofs.Parts.{word_kind}
 use Rattle.lay_tree.proofs.reader.AttrRead.{BeginsItem}
 use Rattle.lay_tree.proofs.reader.Call.{SpelledCall, call_complete}
@@ -235,12 +232,12 @@ kind_front at k depth ts rest g = by k (kind_view k) g
     by _ (IsTrait head wheres attrs items) g =
         led_front ts rest (before_tail (trait_head_form head) (about_trait head wheres attrs (map told_of_item items)).tail depth ts rest
         (λ mid t. unsafe_led head.is_unsafe (codes "trait") (Blank ∷ [])
-          (leaf_of head.name.raw head.name.text (Part (generics_form head.generics) (Part (bounded_form head.bounds) Done))) depth ts mid refl t)
+        (leaf_of head.name.raw head.name.text (Part (generics_form head.generics) (Part (bounded_form head.bounds) Done))) depth ts mid refl t)
         (spelled_as at depth (item.Trait head wheres attrs items) _ ts rest (laws.trait_is head wheres attrs items) g).0)
     by _ (IsImpl head wheres attrs items) g =
         led_front ts rest (before_tail (impl_head_form head) (about_impl head wheres attrs (map told_of_item items)).tail depth ts rest
         (λ mid t. unsafe_led head.is_unsafe (codes "impl") []
-          (Part (generics_form head.generics) (Piece (Blank ∷ []) (trait_ref_form head.of (Part (about_type head.ty).told.form Done)))) depth ts mid refl t)
+        (Part (generics_form head.generics) (Piece (Blank ∷ []) (trait_ref_form head.of (Part (about_type head.ty).told.form Done)))) depth ts mid refl t)
         (spelled_as at depth (item.Impl head wheres attrs items) _ ts rest (laws.impl_is head wheres attrs items) g).0)
     by _ (IsForeign is_unsafe abi attrs items) g =
         led_front ts rest (before_tail (unsafe_form is_unsafe (Piece (keyword (codes "extern") ∷ []) (foreign_abi abi)))

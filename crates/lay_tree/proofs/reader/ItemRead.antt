@@ -1,15 +1,15 @@
 -- Items: what is spelled, and well formed, is read.
-use Rattle.std.proofs.Common.{◌≡◌, ℕ, zero, suc, ◌≤◌, max, Bool, true, false, ◌&&◌, ◌||◌, not, List, [], ◌∷◌, map, drop, codes, Option, Some, None, inl, inr, refl, sym, ap, subst, ◌∙◌, arith}
+use Rattle.std.proofs.Common.{◌≡◌, ℕ, zero, suc, ◌≤◌, max, Bool, true, false, ◌&&◌, ◌||◌, List, [], ◌∷◌, map, codes, Option, Some, None, inl, inr, refl, sym, subst, ◌∙◌, arith}
 use Rattle.std.proofs.lemmas.Bool.{and_parts}
 use Rattle.std.specs.Prelude.{is_some}
-use Rattle.lay_piece.specs.Forms.{opening, closing}
+use Rattle.lay_piece.specs.Forms.{opening}
 use Rattle.lay_piece.specs.declared.kind.Delim.{Delim}
 use Rattle.lay_piece.specs.declared.kind.Delim.TheVariants.{Paren, Bracket, Brace}
-use Rattle.lay_piece.specs.declared.kind.Kind.TheVariants.{Ident, Punct, Opener, Closer}
+use Rattle.lay_piece.specs.declared.kind.Kind.TheVariants.{Ident, Punct, Opener}
 use Rattle.lay_form.specs.Form.{Blank, Done, Fixed, Form, Operator, Part, Piece, keyword, semicolon}
 use Rattle.lay_form.specs.Notation.{I0, piece}
 use Rattle.lay_form.specs.Spelled.{IsOne, IsOperator, Spells}
-use Rattle.lay_tree.specs.Ahead.{Tokens, first, is_keyword, is_mark, tail}
+use Rattle.lay_tree.specs.Ahead.{Tokens, first, is_keyword, is_mark}
 use Rattle.lay_tree.specs.Words.{is_name, leaf_of}
 use Rattle.lay_tree.specs.nodes.Attr.{are_attrs}
 use Rattle.lay_tree.specs.nodes.Call.{before_rules, end_form, is_group}

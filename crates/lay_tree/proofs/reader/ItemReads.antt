@@ -1,9 +1,8 @@
 -- What an item is: what is spelled, and well formed, is read, kind by kind.
-use Rattle.std.proofs.Common.{◌≡◌, ℕ, ◌≤◌, max, Bool, true, false, ◌&&◌, ◌||◌, not, List, [], ◌∷◌, ◌++◌, map, drop, codes, Option, Some, None, inl, inr, refl, sym, ap, subst, ◌∙◌, arith}
-use Rattle.std.proofs.lemmas.Bool.{and_parts}
+use Rattle.std.proofs.Common.{◌≡◌, ℕ, Bool, true, false, ◌&&◌, List, [], ◌∷◌, drop, codes, Option, Some, None, refl, sym, subst, ◌∙◌}
 use Rattle.std.specs.Prelude.{if◌then◌else◌, is_some}
 use Rattle.std.specs.Str.{bytes_eq}
-use Rattle.lay_piece.specs.Forms.{opening, closing}
+use Rattle.lay_piece.specs.Forms.{opening}
 use Rattle.lay_piece.specs.Word.{class_of}
 use Rattle.lay_piece.specs.declared.kind.Delim.TheVariants.{Brace}
 use Rattle.lay_piece.specs.declared.kind.Kind.{Kind}
@@ -11,18 +10,16 @@ use Rattle.lay_piece.specs.declared.kind.Kind.TheVariants as kind
 use Rattle.lay_piece.specs.declared.kind.Kind.TheVariants.{Ident, RawIdent, Punct, Opener, Closer}
 use Rattle.lay_token.specs.Delimiters.{is_opener}
 use Rattle.lay_token.specs.Operators.{is_op}
-use Rattle.lay_token.specs.declared.token.Token.{Token}
-use Rattle.lay_form.specs.Form.{Blank, Fixed, Form, Operator, Part, Piece, keyword, semicolon, Bit}
-use Rattle.lay_form.specs.Notation.{piece}
+use Rattle.lay_form.specs.Form.{Form, Piece, keyword, Bit}
 use Rattle.lay_form.specs.Spelled.{IsOne, IsOperator, Spells}
-use Rattle.lay_tree.specs.Ahead.{Tokens, first, is_ident, is_keyword, tail}
-use Rattle.lay_tree.specs.Words.{is_path_class, is_string}
+use Rattle.lay_tree.specs.Ahead.{Tokens, first, is_keyword, tail}
+use Rattle.lay_tree.specs.Words.{is_path_class}
 use Rattle.lay_tree.specs.nodes.Functions.{about_fn_head, fn_head_form, is_fn_head}
 use Rattle.lay_tree.specs.nodes.Heads.{about_alias, about_enum, about_extern_crate, about_impl_head, about_struct, about_union, about_value_head, ends_head, headed, is_trait_head, trait_head_form, of_type, unsafe_form}
 use Rattle.lay_tree.specs.nodes.Types.{is_abi_name, is_given}
 use Rattle.lay_tree.specs.reader.Functions.{async_flag, behind_abi, behind_string, fn_head, safety_at}
 use Rattle.lay_tree.specs.reader.Heads.{alias, enum, extern_crate, impl_head, struct, trait_head, union, value_head}
-use Rattle.lay_tree.specs.reader.Item.{ItemLead, OfAlias, OfCall, OfEnum, OfExternCrate, OfForeign, OfFunction, OfImpl, OfImport, OfModule, OfRules, OfStruct, OfTrait, OfUnion, OfValue, begins_function, begins_rules, begins_union, item_lead, macro_lead, may_stand}
+use Rattle.lay_tree.specs.reader.Item.{ItemLead, OfAlias, OfCall, OfEnum, OfExternCrate, OfForeign, OfFunction, OfImpl, OfImport, OfModule, OfRules, OfStruct, OfTrait, OfUnion, OfValue, begins_function, begins_rules, begins_union, item_lead}
 use Rattle.lay_tree.specs.reader.Loops.{Got, ◌>>=◌}
 use Rattle.lay_tree.specs.reader.Patterns.{PatWithin}
 use Rattle.lay_tree.specs.reader.Words.{name, name_by}

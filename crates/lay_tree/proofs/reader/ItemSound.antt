@@ -1,7 +1,7 @@
 -- What an item is: what is read is spelled, kind by kind.
-use Rattle.std.proofs.Common.{◌≡◌, ℕ, ◌≤◌, max, Bool, true, false, ◌&&◌, List, [], ◌∷◌, map, codes, Option, Some, None, inl, inr, refl, sym, subst, arith}
+use Rattle.std.proofs.Common.{◌≡◌, ℕ, ◌≤◌, max, true, ◌&&◌, List, [], ◌∷◌, map, codes, Option, Some, None, inl, inr, refl, sym, subst, arith}
 use Rattle.std.proofs.lemmas.Bool.{and_from}
-use Rattle.lay_piece.specs.declared.kind.Kind.TheVariants.{Ident, Punct}
+use Rattle.lay_piece.specs.declared.kind.Kind.TheVariants.{Punct}
 use Rattle.lay_form.specs.Form.{Blank, Fixed, Form, Done, Piece, Part, keyword}
 use Rattle.lay_form.specs.Notation.{I0, piece}
 use Rattle.lay_form.specs.Spelled.{AreBits, IsOne, Spells}
@@ -11,10 +11,10 @@ use Rattle.lay_tree.specs.Ahead.{Tokens, first, tail, is_keyword, is_mark}
 use Rattle.lay_tree.specs.Words.{is_string}
 use Rattle.lay_tree.specs.nodes.Attr.{are_attrs}
 use Rattle.lay_tree.specs.nodes.Functions.{about_fn_head, fn_head_form, is_fn_head}
-use Rattle.lay_tree.specs.nodes.Heads.{HeadFacts, about_alias, about_enum, about_extern_crate, about_impl_head, about_struct, about_union, about_value_head, headed, impl_head_form, is_impl_head, is_trait_head, is_value_head, leads, trait_head_form, unsafe_form, value_head_form}
+use Rattle.lay_tree.specs.nodes.Heads.{HeadFacts, about_alias, about_enum, about_extern_crate, about_impl_head, about_struct, about_union, about_value_head, headed, impl_head_form, is_impl_head, is_trait_head, is_value_head, leads, trait_head_form, unsafe_form}
 use Rattle.lay_tree.specs.nodes.Item as node
 use Rattle.lay_tree.specs.nodes.Item.{KindFacts, about_file_module, about_foreign, about_function, about_impl, about_import, about_item, about_module, about_trait, about_value, by_site, foreign_abi, in_module, in_modules, items_good, may_lack_body, may_lack_value, module_head, told_of_item, told_of_kind}
-use Rattle.lay_tree.specs.nodes.Types.{is_abi_name, literal_form}
+use Rattle.lay_tree.specs.nodes.Types.{is_abi_name}
 use Rattle.lay_tree.specs.nodes.Use.{about_use}
 use Rattle.lay_tree.specs.nodes.Where.{are_predicates, predicate_form, wheres_before_body, wheres_before_semicolon}
 use Rattle.lay_tree.specs.reader.Functions.{fn_head}
@@ -27,23 +27,18 @@ use Rattle.lay_tree.specs.reader.Types.{if_there, is_string_token, literal}
 use Rattle.lay_tree.specs.reader.Where.{wheres}
 use Rattle.lay_tree.specs.reader.Words.{name}
 use Rattle.lay_tree.specs.declared.attr.Attr.{Attr}
-use Rattle.lay_tree.specs.declared.functions.FnHead.{FnHead}
 use Rattle.lay_tree.specs.declared.generics.Wheres.{Wheres}
 use Rattle.lay_tree.specs.declared.heads.Alias.{Alias}
 use Rattle.lay_tree.specs.declared.heads.Enum.{Enum}
 use Rattle.lay_tree.specs.declared.heads.ExternCrate.{ExternCrate}
-use Rattle.lay_tree.specs.declared.heads.ImplHead.{ImplHead}
 use Rattle.lay_tree.specs.declared.heads.Site.{Site}
 use Rattle.lay_tree.specs.declared.heads.Site.TheVariants as site
 use Rattle.lay_tree.specs.declared.heads.Struct.{Struct}
-use Rattle.lay_tree.specs.declared.heads.TraitHead.{TraitHead}
 use Rattle.lay_tree.specs.declared.heads.Union.{Union}
-use Rattle.lay_tree.specs.declared.heads.ValueHead.{ValueHead}
 use Rattle.lay_tree.specs.declared.item.Item.{Item}
 use Rattle.lay_tree.specs.declared.item.ItemKind.{ItemKind}
 use Rattle.lay_tree.specs.declared.item.ItemKind.TheVariants as item
 use Rattle.lay_tree.specs.declared.token.Literal.{Literal}
-use Rattle.lay_tree.specs.declared.token.Name.{Name}
 use Rattle.lay_tree.proofs.Fronts.{keyword_one, mark_passed_is, mark_one, texts_behind}
 use Rattle.lay_tree.proofs.Parts.{bit_piece, leaf_spelled, word_kind}
 use Rattle.lay_tree.proofs.Steps.{bind_some, chosen, same_some}
@@ -164,9 +159,10 @@ module _ (heads : HeadsSound) (at : Site) (budget : ℕ) (within : ItemWithin) (
       let spelled : Spells (alone (in_modules (about_import tree))) n ts e.0 =
       (u.0.1, (k.0, (k.0, o, (k.0, refl, refl)), (u.0.1, s.1.0, refl)), bit_piece (Fixed Punct (codes ";")) n u.0.1 e.0 mark) in
       let good = and_from (about_use tree).good (in_module at) s.1.1 m in
-      same_some (Out (KindHeld at budget) ts) ((item.Import tree, n), e.0) (x, rest) e.2
-      ((s.0, kind_told at n (item.Import tree) (in_modules (about_import tree)) ts e.0 (laws.import_is tree) spelled good),
-        bit_texts (Fixed Punct (codes ";")) u.0.1 e.0 mark t2)
+      same_some (Out (KindHeld at budget) ts) ((item.Import tree, n), e.0) (x, rest) e.2 (
+        (s.0, kind_told at n (item.Import tree) (in_modules (about_import tree)) ts e.0 (laws.import_is tree) spelled good),
+        bit_texts (Fixed Punct (codes ";")) u.0.1 e.0 mark t2,
+      )
 
   pub function_sound : may_lack_body at ≡ true → SoundStep (function_by at within) (KindHeld at budget)
   unfolding function_by
@@ -184,9 +180,10 @@ module _ (heads : HeadsSound) (at : Site) (budget : ℕ) (within : ItemWithin) (
       let need = max f.0.0.1 w.0.0.1 in
       let spelled = ended (fn_head_form head) clause f.0.0.1 w.0.0.1 ts f.0.1 w.0.1 e.0 k.1 v.1 mark in
       let good = and_from (is_fn_head at head && are_predicates clause) (may_lack_body at) (and_from (is_fn_head at head) (are_predicates clause) k.2 v.2) m in
-      same_some (Out (KindHeld at budget) ts) ((item.Function head clause, need), e.0) (x, rest) e.2
-      ((omega (arith, k.0, v.0), kind_told at need (item.Function head clause) (by_site (λ s. about_function s head clause)) ts e.0 (laws.function_is head clause) spelled good),
-        bit_texts (Fixed Punct (codes ";")) w.0.1 e.0 mark u.1)
+      same_some (Out (KindHeld at budget) ts) ((item.Function head clause, need), e.0) (x, rest) e.2 (
+        (omega (arith, k.0, v.0), kind_told at need (item.Function head clause) (by_site (λ s. about_function s head clause)) ts e.0 (laws.function_is head clause) spelled good),
+        bit_texts (Fixed Punct (codes ";")) w.0.1 e.0 mark u.1,
+      )
 
   pub value_sound : SoundStep (value_by at within) (KindHeld at budget)
   unfolding value_by
@@ -202,9 +199,10 @@ module _ (heads : HeadsSound) (at : Site) (budget : ℕ) (within : ItemWithin) (
       elim (chosen (may_lack_value at head) (Some ((item.Value head, n), e.0)) None (Some (x, rest)) e.2) [
         | inl g ↦
             let good = and_from (is_value_head head) (may_lack_value at head) k.2 g.0 in
-            same_some (Out (KindHeld at budget) ts) ((item.Value head, n), e.0) (x, rest) g.1
-            ((k.0, kind_told at n (item.Value head) (by_site (λ s. about_value s head)) ts e.0 (laws.value_is head) spelled good),
-              bit_texts (Fixed Punct (codes ";")) v.0.1 e.0 mark s.1)
+            same_some (Out (KindHeld at budget) ts) ((item.Value head, n), e.0) (x, rest) g.1 (
+              (k.0, kind_told at n (item.Value head) (by_site (λ s. about_value s head)) ts e.0 (laws.value_is head) spelled good),
+              bit_texts (Fixed Punct (codes ";")) v.0.1 e.0 mark s.1,
+            )
         | inr g ↦ absurd (cc)
       ]
 
@@ -234,9 +232,10 @@ module _ (heads : HeadsSound) (at : Site) (budget : ℕ) (within : ItemWithin) (
             let spelled : Spells (alone (in_modules (about_file_module called))) 0 ts (tail behind) =
             (behind, head 0, bit_piece (Fixed Punct (codes ";")) 0 behind (tail behind) mark) in
             let good = and_from (about_file_module called).good (in_module at) i.1 m in
-            same_some (Out (KindHeld at budget) ts) ((item.FileModule called, 0), tail behind) (x, rest) g.1
-            ((omega arith, kind_told at 0 (item.FileModule called) (in_modules (about_file_module called)) ts (tail behind) (laws.file_module_is called) spelled good),
-              bit_texts (Fixed Punct (codes ";")) behind (tail behind) mark t2)
+            same_some (Out (KindHeld at budget) ts) ((item.FileModule called, 0), tail behind) (x, rest) g.1 (
+              (omega arith, kind_told at 0 (item.FileModule called) (in_modules (about_file_module called)) ts (tail behind) (laws.file_module_is called) spelled good),
+              bit_texts (Fixed Punct (codes ";")) behind (tail behind) mark t2,
+            )
         | inr g ↦
             let b = bind_some (item_body within site.Module behind) _ _ g.1 in
             let s = body_sound budget within items site.Module behind b.0.0 b.0.1 t2 b.1 in
@@ -250,9 +249,14 @@ module _ (heads : HeadsSound) (at : Site) (budget : ℕ) (within : ItemWithin) (
             let headed = and_from (about_file_module called).good (are_attrs true attrs) i.1 v.1 in
             let all = and_from ((about_file_module called).good && are_attrs true attrs) (items_good site.Module (map told_of_item members)) headed v.2 in
             let good = and_from (about_module called attrs (map told_of_item members)).good (in_module at) all m in
-            same_some (Out (KindHeld at budget) ts) ((item.Module called attrs members, need), b.0.1) (x, rest) b.2
-            ((y.0, kind_told at need (item.Module called attrs members) (in_modules (about_module called attrs (map told_of_item members))) ts b.0.1
-              (laws.module_is called attrs members) spelled good), s.1)
+            same_some (Out (KindHeld at budget) ts) ((item.Module called attrs members, need), b.0.1) (x, rest) b.2 (
+              (
+                y.0,
+                kind_told at need (item.Module called attrs members) (in_modules (about_module called attrs (map told_of_item members))) ts b.0.1
+                    (laws.module_is called attrs members) spelled good,
+              ),
+              s.1,
+            )
       ]
 
   pub trait_sound : in_module at ≡ true → SoundStep (trait_by within) (KindHeld at budget)
@@ -283,9 +287,14 @@ module _ (heads : HeadsSound) (at : Site) (budget : ℕ) (within : ItemWithin) (
       let g2 = and_from (is_trait_head head && are_predicates clause) (are_attrs true attrs) g1 q.1 in
       let g3 = and_from (is_trait_head head && are_predicates clause && are_attrs true attrs) (items_good site.TraitMember (map told_of_item members)) g2 q.2 in
       let good = and_from (about_trait head clause attrs (map told_of_item members)).good (in_module at) g3 m in
-      same_some (Out (KindHeld at budget) ts) ((item.Trait head clause attrs members, need), b.0.1) (x, rest) b.2
-      ((omega (arith, k.0, v.0, y.0), kind_told at need (item.Trait head clause attrs members) (in_modules (about_trait head clause attrs (map told_of_item members)))
-        ts b.0.1 (laws.trait_is head clause attrs members) spelled good), z.1)
+      same_some (Out (KindHeld at budget) ts) ((item.Trait head clause attrs members, need), b.0.1) (x, rest) b.2 (
+        (
+          omega (arith, k.0, v.0, y.0),
+          kind_told at need (item.Trait head clause attrs members) (in_modules (about_trait head clause attrs (map told_of_item members)))
+              ts b.0.1 (laws.trait_is head clause attrs members) spelled good,
+        ),
+        z.1,
+      )
 
   pub impl_sound : in_module at ≡ true → SoundStep (impl_by within) (KindHeld at budget)
   unfolding impl_by
@@ -315,9 +324,14 @@ module _ (heads : HeadsSound) (at : Site) (budget : ℕ) (within : ItemWithin) (
       let g2 = and_from (is_impl_head head && are_predicates clause) (are_attrs true attrs) g1 q.1 in
       let g3 = and_from (is_impl_head head && are_predicates clause && are_attrs true attrs) (items_good site.Member (map told_of_item members)) g2 q.2 in
       let good = and_from (about_impl head clause attrs (map told_of_item members)).good (in_module at) g3 m in
-      same_some (Out (KindHeld at budget) ts) ((item.Impl head clause attrs members, need), b.0.1) (x, rest) b.2
-      ((omega (arith, k.0, v.0, y.0), kind_told at need (item.Impl head clause attrs members) (in_modules (about_impl head clause attrs (map told_of_item members)))
-        ts b.0.1 (laws.impl_is head clause attrs members) spelled good), z.1)
+      same_some (Out (KindHeld at budget) ts) ((item.Impl head clause attrs members, need), b.0.1) (x, rest) b.2 (
+        (
+          omega (arith, k.0, v.0, y.0),
+          kind_told at need (item.Impl head clause attrs members) (in_modules (about_impl head clause attrs (map told_of_item members)))
+              ts b.0.1 (laws.impl_is head clause attrs members) spelled good,
+        ),
+        z.1,
+      )
 
   abbrev Abi : Option Literal → Tokens → Tokens → Type 0
   Abi l us behind = Spells (foreign_abi l) 0 us behind × (is_abi_name l ≡ true)
@@ -327,7 +341,7 @@ module _ (heads : HeadsSound) (at : Site) (budget : ℕ) (within : ItemWithin) (
   abi_there us l behind t h =
       if_there_sound Abi (literal is_string_token) (first is_string_token us) us
       (λ there y mid e. let s = literal_sound is_string us y mid t e in
-        (((us, (us, refl, refl), (mid, s.0.0, refl)), s.0.1), s.1))
+      (((us, (us, refl, refl), (mid, s.0.0, refl)), s.0.1), s.1))
       (λ none. (refl, refl)) t l behind h
 
   pub foreign_sound : in_module at ≡ true → SoundStep (foreign_by within) (KindHeld at budget)
@@ -359,6 +373,11 @@ module _ (heads : HeadsSound) (at : Site) (budget : ℕ) (within : ItemWithin) (
       let g1 = and_from (is_abi_name abi) (are_attrs true attrs) s.0.1 q.1 in
       let g2 = and_from (is_abi_name abi && are_attrs true attrs) (items_good site.Foreign (map told_of_item members)) g1 q.2 in
       let good = and_from (about_foreign is_unsafe abi attrs (map told_of_item members)).good (in_module at) g2 m in
-      same_some (Out (KindHeld at budget) ts) ((item.Foreign is_unsafe abi attrs members, need), b.0.1) (x, rest) b.2
-      ((y.0, kind_told at need (item.Foreign is_unsafe abi attrs members) (in_modules (about_foreign is_unsafe abi attrs (map told_of_item members)))
-        ts b.0.1 (laws.foreign_is is_unsafe abi attrs members) spelled good), z.1)
+      same_some (Out (KindHeld at budget) ts) ((item.Foreign is_unsafe abi attrs members, need), b.0.1) (x, rest) b.2 (
+        (
+          y.0,
+          kind_told at need (item.Foreign is_unsafe abi attrs members) (in_modules (about_foreign is_unsafe abi attrs (map told_of_item members)))
+              ts b.0.1 (laws.foreign_is is_unsafe abi attrs members) spelled good,
+        ),
+        z.1,
+      )

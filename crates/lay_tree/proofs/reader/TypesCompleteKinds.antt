@@ -57,7 +57,7 @@ use Rattle.lay_tree.proofs.reader.TypesComplete.{Fits, fits_clear, follows_fits,
 use Rattle.lay_tree.proofs.reader.TypesCompleteParts.{keyword_there, one_left, blank_left, lifetime_complete, lifetime_alone, flag_complete, binder_complete, abi_complete, param_attrs_rows, attrs_front, param_name_complete}
 use Rattle.lay_tree.proofs.reader.TypesCompletePaths.{path_read, bounds_read, constraint_read}
 use Rattle.lay_tree.proofs.reader.TypesFronts.{lead_no_closer, lead_no_lifetime, lead_no_keyword, lead_no_attr, lead_no_dots, Clear, Ends, comma_ends, closer_ends, semicolon_quiet}
-use Rattle.lay_tree.proofs.reader.TypesLists.{forms_of, paren_closes, some_read, none_read, Ending, open_read, last_of_all, open_none}
+use Rattle.lay_tree.proofs.reader.TypesLists.{forms_of, paren_closes, some_read, none_read, last_of_all, Ending, open_none, open_read}
 
 pub inner_of : (f : Form) (depth : ℕ) (ts rest : Tokens) → Spells (deeper f) (suc depth) ts rest → Spells f depth ts rest
 inner_of f depth ts rest s = subst (λ us. Spells f depth ts us) s.2 s.1

@@ -93,7 +93,7 @@ of_A ts = word (codes "A") ∷ opens Brace ∷ (ts ++ closes Brace ∷ [])
 -- ---- what is told of them
 
 -- The word that a path is.
-lone : (text : List ℕ) → lone_word (local text) ≡ Some (plain text)
+pub lone : (text : List ℕ) → lone_word (local text) ≡ Some (plain text)
 lone text = rw (views.outs-Local, views.outs-None) refl
 
 name_is : (text : List ℕ) → about_pat (bound false false text) ≡ pat_facts (Pat-F.Bind false false (named text) None)

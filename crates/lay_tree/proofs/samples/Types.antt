@@ -62,7 +62,7 @@ use Rattle.lay_tree.proofs.samples.Trees.{named, plain, a, b, laid, token, word,
 abbrev pub local : List ℕ → Path
 local text = record { start = start.Local; segments = (plain text, args.None) ∷ [] }
 
-abbrev pub A : Ty
+abbrev A : Ty
 A = ty.Path (local (codes "A"))
 
 abbrev pub B : Ty
@@ -74,7 +74,7 @@ C = ty.Path (local (codes "C"))
 abbrev E : Ty
 E = ty.Path (local (codes "E"))
 
-abbrev pub tick_a : Lifetime
+abbrev tick_a : Lifetime
 tick_a = record { text = codes "'a" }
 
 abbrev tick_b : Lifetime
@@ -133,7 +133,7 @@ where_A_is text = record { predicates = predicate.Bounded None A (meeting false 
 
 -- ---- what is told of them
 
-abbrev local_facts : List ℕ → PathFacts
+abbrev pub local_facts : List ℕ → PathFacts
 local_facts text = path_facts (record { start = start_facts PathStart-F.Local; segments = (plain text, args_facts Args-F.None) ∷ [] })
 
 pub local_is : (text : List ℕ) → about_path (local text) ≡ local_facts text
@@ -142,7 +142,7 @@ local_is text = rw (types.path_is (local text), types.start_local_is, types.args
 pub named_is : (text : List ℕ) → about_type (ty.Path (local text)) ≡ ty_facts (Ty-F.Path (local_facts text))
 named_is text = types.type_path_is (local text) ∙ ap (λ (p : PathFacts). ty_facts (Ty-F.Path p)) (local_is text)
 
-pub A_is : about_type A ≡ ty_facts (Ty-F.Path (local_facts (codes "A")))
+A_is : about_type A ≡ ty_facts (Ty-F.Path (local_facts (codes "A")))
 A_is = named_is (codes "A")
 
 pub B_is : about_type B ≡ ty_facts (Ty-F.Path (local_facts (codes "B")))

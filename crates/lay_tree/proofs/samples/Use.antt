@@ -46,6 +46,21 @@ laid_no_trees = rw (tree_is false [] _ _ (uses.group_is [])) refl
 laid_trees : laid (about_use (group_of b c)) ≡ codes "a::{b, c}"
 laid_trees = rw (group_is b c) refl
 
+-- `crate::{self as a, *}`
+abbrev self_and_all : UseTree
+self_and_all = tree_of false (plain (codes "crate") ∷ [])
+    (use_end.Group (word_of (codes "self") (Some (given_name.Name (named a))) ∷ tree_of false [] use_end.Glob ∷ []))
+
+laid_self : laid (about_use self_and_all) ≡ codes "crate::{self as a, *}"
+laid_self =
+    rw (
+      tree_is false (plain (codes "crate") ∷ []) _ _
+          (uses.group_is (word_of (codes "self") (Some (given_name.Name (named a))) ∷ tree_of false [] use_end.Glob ∷ [])),
+      word_is (codes "self") (Some (given_name.Name (named a))),
+      tree_is false [] _ _ uses.glob_is,
+    )
+    refl
+
 -- two names that do not fit on one line
 laid_long : laid (about_use (group_of (replicate 48 98) (replicate 48 99)))
     ≡ codes "a::{\n    " ++ (replicate 48 98 ++ (codes ",\n    " ++ (replicate 48 99 ++ codes ",\n}")))

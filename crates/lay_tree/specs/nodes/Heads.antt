@@ -60,6 +60,10 @@ pub record HeadFacts : Type 0 where
 abbrev pub headed : HeadFacts → Told
 headed x = record { form = notation.I0 x.head x.tail; good = x.good; follows = λ ts. true }
 
+-- a head with a visibility before it
+abbrev pub seen : Vis → HeadFacts → Form
+seen v x = notation.I0 (Part (vis_form v) x.head) x.tail
+
 -- Braces behind a where clause that is there have no leading blank.
 abbrev pub leads : Wheres → Bool
 leads wheres = not (is_there wheres.predicates)
@@ -67,10 +71,6 @@ leads wheres = not (is_there wheres.predicates)
 -- what a word and a name begin, with generic parameters behind the name
 abbrev pub called : List ℕ → Bool → List ℕ → Generics → Form → Form
 called word raw text generics f = Piece (keyword word ∷ Blank ∷ []) (leaf_of raw text (Part (generics_form generics) f))
-
--- a head with a visibility before it
-abbrev pub seen : Vis → HeadFacts → Form
-seen v x = notation.I0 (Part (vis_form v) x.head) x.tail
 
 -- ---- what is outside
 

@@ -1,5 +1,5 @@
 -- Reading items.
-use Rattle.std.specs.Prelude.{ℕ, zero, suc, max, not, ◌&&◌, ◌||◌, Bool, true, false, if◌then◌else◌, List, [], ◌∷◌, drop, codes, Option, Some, None, is_some}
+use Rattle.std.specs.Prelude.{ℕ, zero, suc, max, not, ◌&&◌, ◌||◌, Bool, true, false, if◌then◌else◌, List, [], ◌∷◌, drop, codes, Some, None, is_some}
 use Rattle.lay_token.specs.Operators.{is_op}
 use Rattle.lay_piece.specs.declared.kind.Delim.TheVariants.{Brace}
 use Rattle.lay_tree.specs.Ahead.{Tokens, first, tail, is_keyword, is_mark, opens, closes}
@@ -115,7 +115,7 @@ module_by within ts = do
   behind ← passed (is_keyword (codes "mod")) ts
   n ← name behind
   if first (is_mark (codes ";")) n.1 then Some ((item.FileModule n.0, 0), tail n.1)
-    else (do b ← item_body within site.Module n.1; Some ((item.Module n.0 b.0.0.0 b.0.0.1, b.0.1), b.1))
+      else (do b ← item_body within site.Module n.1; Some ((item.Module n.0 b.0.0.0 b.0.0.1, b.0.1), b.1))
 
 unfoldable pub import_by : ItemWithin → Tokens → Read ItemKind
 import_by within ts = do
@@ -204,8 +204,8 @@ item_by at within ts = do
   v ← visibility attrs.1
   kind ← kind_at at within v.1
   if is_some (told_of_kind kind.0.0).head || is_inherited v.0
-    then Some ((record { attrs = attrs.0; vis = v.0; kind = kind.0.0 }, suc kind.0.1), kind.1)
-    else None
+      then Some ((record { attrs = attrs.0; vis = v.0; kind = kind.0.0 }, suc kind.0.1), kind.1)
+      else None
 
 -- an item at a site, within a budget
 unfoldable pub item_at : Site → ℕ → Tokens → Read Item

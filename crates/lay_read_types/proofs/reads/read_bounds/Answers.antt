@@ -1,4 +1,4 @@
-use Rattle.std.proofs.Common.{◌≡◌, suc, ◌+◌, ◌<◌, ◌&&◌, ◌||◌, not, Bool, List, map, refl, ◌∙◌, add-one, arith}
+use Rattle.std.proofs.Common.{◌≡◌, suc, ◌<◌, List, map, refl, ◌∙◌, arith}
 use Rattle.std.proofs.lemmas.Result.{err_from_is_err_and}
 use Rattle.lay_tree.specs.nodes.Types.{BoundsFront, about_bound, bounds_follow, bounds_form, bounds_good, deeper}
 use Rattle.lay_tree.specs.reader.Types.{all_bounds, bounds_at}

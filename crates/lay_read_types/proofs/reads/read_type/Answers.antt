@@ -1,4 +1,4 @@
-use Rattle.std.proofs.Common.{ℕ, ◌∙◌}
+use Rattle.std.proofs.Common.{◌∙◌}
 use Rattle.std.proofs.lemmas.Result.{err_from_is_err_and}
 use Rattle.lay_tree.specs.nodes.Types.{TypeFront, about_type, good_at, type_follows}
 use Rattle.lay_tree.specs.reader.Types.{type_at}

@@ -1,0 +1,5 @@
+use Rattle.lay_out_types.proofs.Adding.{adds_on}
+use Rattle.lay_out_heads.proofs.items.open_head.Goals as goal
+
+pub returns : goal.returns
+returns g c = adds_on c.add_group-group.ensures c.add_vis.ensures

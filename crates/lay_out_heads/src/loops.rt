@@ -1,0 +1,101 @@
+//! The loops over what is laid out one after another, and what stands round it.
+ghost use Rattle.std.specs.Prelude.{cond, map, OnOk};
+ghost use Rattle.lay_layout.specs.Machine.{IsNested};
+ghost use Rattle.lay_piece.specs.declared.kind.Delim.TheVariants.{Paren};
+ghost use Rattle.lay_form.specs.Form.{Form, closer, opener};
+ghost use Rattle.lay_form.specs.Notation.{comma_list, fields};
+ghost use Rattle.lay_form.specs.Stream.{stream_of};
+ghost use Rattle.lay_tree.specs.nodes.Fields.{blank_if};
+ghost use Rattle.lay_out_types.specs.Calls.{Adds};
+ghost use Rattle.lay_out_heads.specs.FieldRows.{fields_between, fields_closed, fields_opened};
+
+use crate::calls::{add_break, add_inside};
+use lay_out_tokens::HARD_BREAK;
+use lay_out_tokens::notation::{CLOSING_HARD_BREAK, NEVER_BREAK};
+use lay_out_types::calls::{add_either, add_text};
+use lay_out_types::lists::{add_close, add_end, add_lead};
+use lay_stream::Emit;
+
+/// What is laid out by itself, wherever it stands.
+pub trait Part {
+    /// The form of which it has the layout.
+    ghost form: { Self → Form };
+
+    /// Its layout.
+    fn add<E: Emit>(&self, out: &mut E, before: Result<(), E::Fault>) -> Result<(), E::Fault>
+        ensures { Adds E.meanings before out.old (stream_of (form self.now)) result out.new };
+}
+
+/// Parts in parentheses, with a `,` between them. Behind the last one a comma may stand or not.
+pub fn add_parens<E: Emit, P: Part>(
+    out: &mut E,
+    before: Result<(), E::Fault>,
+    parts: &[P],
+    may: bool,
+) -> Result<(), E::Fault>
+    ensures { let parens = comma_list may (opener Paren) (closer Paren) (map P.form parts.now) in
+        Adds E.meanings before out.old (stream_of parens) result out.new }
+{
+    let mut done = before;
+    for (index, part) in parts.iter().enumerate() {
+        done = add_lead(out, done, index == 0, b"(");
+        done = part.add(out, done);
+    }
+    add_close(out, done, may, parts.is_empty(), b"()", b")")
+}
+
+/// Parts in braces, each on a line of its own with a `,` behind it. The braces have a leading blank or not.
+pub fn add_braces<E: Emit, P: Part>(
+    out: &mut E,
+    before: Result<(), E::Fault>,
+    parts: &[P],
+    lead: bool,
+) -> Result<(), E::Fault>
+    ensures { let braces = fields (blank_if lead) (map P.form parts.now) in
+        Adds E.meanings before out.old (stream_of braces) result out.new }
+{
+    let mut done = before;
+    for (index, part) in parts.iter().enumerate() {
+        done = add_line(out, done, index == 0, lead);
+        done = part.add(out, done);
+    }
+    close_braces(out, done, parts.is_empty(), lead)
+}
+
+/// What stands before a part in braces: before the first one what opens them, and else a comma; and a newline.
+fn add_line<E: Emit>(
+    out: &mut E,
+    before: Result<(), E::Fault>,
+    first: bool,
+    lead: bool,
+) -> Result<(), E::Fault>
+    ensures { Adds E.meanings before out.old (cond first (fields_opened lead) fields_between) result out.new }
+{
+    if first {
+        let brace = add_either(out, before, lead, b" {", b"{");
+        let never = add_break(out, brace, NEVER_BREAK);
+        let inside = add_inside(out, never);
+        return add_break(out, inside, HARD_BREAK);
+    }
+    let comma = add_text(out, before, b",");
+    add_break(out, comma, HARD_BREAK)
+}
+
+/// What closes the braces, on a line of its own, behind the last `,`. Without parts they are one text.
+fn close_braces<E: Emit>(
+    out: &mut E,
+    before: Result<(), E::Fault>,
+    bare: bool,
+    lead: bool,
+) -> Result<(), E::Fault>
+    requires { OnOk before (IsNested (E.meanings.groups out.old) (fields_closed lead bare)) }
+    ensures { Adds E.meanings before out.old (fields_closed lead bare) result out.new }
+{
+    if bare {
+        return add_either(out, before, lead, b" {}", b"{}");
+    }
+    let comma = add_text(out, before, b",");
+    let line = add_break(out, comma, CLOSING_HARD_BREAK);
+    let end = add_end(out, line);
+    add_text(out, end, b"}")
+}

@@ -1,0 +1,20 @@
+use Rattle.std.proofs.Common.{codes, sym}
+use Rattle.std.proofs.lemmas.Result.{err_from_is_err_and}
+use Rattle.lay_tree.specs.Ahead.{is_mark}
+use Rattle.lay_tree.specs.reader.Generics.{generics, one_param}
+use Rattle.lay_tree.specs.reader.Loops.{elements}
+use Rattle.lay_tree.specs.reader.Types.{within}
+use Rattle.lay_read_tokens.proofs.Steps.{lost}
+use Rattle.lay_read_parts.specs.Answers.{gathered}
+use Rattle.lay_read_generics.proofs.Steps.{generics_lost}
+use Rattle.lay_read_generics.proofs.level.Level.generics.Goals as goal
+
+pub returns-in_err-params-clause-read : goal.returns-in_err-params-clause-read
+returns-in_err-params-clause-read c =
+    let w = within c.args.self.now.depth in
+    let ts = c.args.at.now in
+    let mid = c.takes_mark.new.at in
+    let p = err_from_is_err_and c.from_residual.result c.from_residual.ensures.1 in
+    rw (p.1, p.2) (lost (gathered (elements (is_mark (codes ">")) (one_param w) mid)) (generics w ts)
+    c.in_err-params.field-0.0 c.in_err-params.ensures.read
+    (generics_lost w ts mid (sym c.if-not-takes_mark.ensures.found) c.if-not-takes_mark.ensures.passed))

@@ -1,0 +1,41 @@
+use Rattle.std.proofs.Common.{◌≡◌, suc, ◌<◌, ◌&&◌, ◌||◌, not, Bool, refl, ◌∙◌, arith}
+use Rattle.std.proofs.lemmas.Result.{err_from_is_err_and}
+use Rattle.lay_tree.specs.nodes.Generics.{GenericsAt, generics_follow, generics_spelled, is_generics}
+use Rattle.lay_tree.specs.nodes.Types.{deeper, is_there}
+use Rattle.lay_tree.specs.reader.Generics.{generics, generics_at}
+use Rattle.lay_tree.specs.declared.generics.Generics.{Generics}
+use Rattle.lay_tree.proofs.reader.TypesExact.{generics_exact}
+use Rattle.lay_read_tokens.specs.declared.stop.ReadNone.TheVariants.{NoReading}
+use Rattle.lay_read_parts.proofs.AtFront.{front_deeper, node_read, none_read, alone_nowhere, alone_stopped, alone_read, either_read, either_none}
+use Rattle.lay_read_generics.proofs.reads.read_generics.Goals as goal
+
+pub returns-then-depth-eq0 : goal.returns-then-depth-eq0
+returns-then-depth-eq0 c =
+    let zero : c.args.depth ≡ 0 = omega arith in
+    either_none GenericsAt c.args.depth c.args.at.now NoReading c.args.at.now
+    (none_read generics_at (λ (x : Generics × Bool). GenericsAt x.1 x.0) generics_exact
+    (λ x. front_deeper (deeper (generics_spelled x.1 x.0)) ((x.1 || not (is_there x.0.params)) && is_generics x.0) (generics_follow x.1))
+    c.args.depth c.args.at.now c.requires c.args.at.now refl
+    NoReading (alone_nowhere generics c.args.depth c.args.at.now zero))
+
+pub returns-in_err-found : goal.returns-in_err-found
+returns-in_err-found c =
+    let some : 0 < c.args.depth = omega arith in
+    let p = err_from_is_err_and c.from_residual.result c.from_residual.ensures.1 in
+    rw (p.1, p.2) (either_none GenericsAt c.args.depth c.args.at.now c.in_err-found.field-0.0 c.args.at.now
+    (none_read generics_at (λ (x : Generics × Bool). GenericsAt x.1 x.0) generics_exact
+    (λ x. front_deeper (deeper (generics_spelled x.1 x.0)) ((x.1 || not (is_there x.0.params)) && is_generics x.0) (generics_follow x.1))
+    c.args.depth c.args.at.now c.requires c.new-ahead.result (c.new-ahead.ensures ∙ c.fork.ensures)
+    c.in_err-found.field-0.0 (alone_stopped generics c.args.depth c.new-ahead.result some
+    c.in_err-found.field-0.0 c.in_err-found.ensures.read)))
+
+pub returns : goal.returns
+returns c =
+    let some : 0 < c.args.depth = omega arith in
+    let found = c.in_ok-found.found in
+    rw c.into_cursor.ensures (either_read GenericsAt c.args.depth c.args.at.now found.node.0 found.node.1 c.generics_ahead.new.at
+    (node_read generics_at (λ (x : Generics × Bool). GenericsAt x.1 x.0) generics_exact
+    (λ x. front_deeper (deeper (generics_spelled x.1 x.0)) ((x.1 || not (is_there x.0.params)) && is_generics x.0) (generics_follow x.1))
+    c.args.depth c.args.at.now c.requires c.new-ahead.result (c.new-ahead.ensures ∙ c.fork.ensures)
+    found.node (suc found.need) c.generics_ahead.new.at
+    (alone_read generics c.args.depth c.new-ahead.result some found.node found.need c.generics_ahead.new.at c.in_ok-found.ensures.read)))

@@ -1,0 +1,41 @@
+//! What stands at the front of the tokens of a text.
+ghost use Rattle.lay_tree.specs.nodes.Generics.{GenericsFront};
+ghost use Rattle.lay_tree.specs.nodes.Where.{WheresFront};
+ghost use Rattle.lay_read_tokens.specs.Answers.{AreLexed};
+ghost use Rattle.lay_read_parts.specs.Answers.{IsReadAt};
+
+use crate::level::{generics_ahead, wheres_ahead};
+use lay_nest::Cursor;
+use lay_read_tokens::{Ahead, ReadNone};
+use lay_tree::{Generics, Wheres};
+use std::alloc::Global;
+
+/// The generic parameters at the front, within the depth. What is within stands one level deeper. Where there is
+/// none the cursor stays.
+pub fn read_generics(alloc: Global, at: &mut Cursor<'_>, depth: u32) -> Result<Generics, ReadNone>
+    requires { AreLexed at.old }
+    ensures { IsReadAt depth GenericsFront at.old result at.new }
+{
+    if depth == 0 {
+        return Err(ReadNone::NoReading);
+    }
+    let mut ahead = Ahead::new(at.fork());
+    let found = generics_ahead(alloc, &mut ahead, depth - 1)?;
+    *at = ahead.into_cursor();
+    Ok(found.node.0)
+}
+
+/// The where clause at the front, within the depth. What is within stands one level deeper. Where there is none the
+/// cursor stays.
+pub fn read_wheres(alloc: Global, at: &mut Cursor<'_>, depth: u32) -> Result<Wheres, ReadNone>
+    requires { AreLexed at.old }
+    ensures { IsReadAt depth WheresFront at.old result at.new }
+{
+    if depth == 0 {
+        return Err(ReadNone::NoReading);
+    }
+    let mut ahead = Ahead::new(at.fork());
+    let found = wheres_ahead(alloc, &mut ahead, depth - 1)?;
+    *at = ahead.into_cursor();
+    Ok(found.node.0)
+}
