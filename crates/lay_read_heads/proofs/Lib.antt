@@ -1,3 +1,4 @@
 pub mod Left
+pub mod HeadsLeft
 pub mod Steps
 pub mod AtFront
