@@ -1,5 +1,5 @@
 -- Items up to their bodies, and then their bodies.
-use Rattle.std.proofs.Common.{◌≡◌, ℕ, max, ◌≤◌, Bool, true, false, List, [], Option, Some, None, codes, refl, sym, ap, ◌∙◌, if◌then◌else◌, arith}
+use Rattle.std.proofs.Common.{◌≡◌, ℕ, max, Bool, true, false, List, [], Option, Some, None, codes, refl, sym, ◌∙◌, if◌then◌else◌, arith}
 use Rattle.lay_tree.specs.Ahead.{Tokens, first, tail, is_keyword, is_mark}
 use Rattle.lay_tree.specs.reader.Heads.{alias, enum, extern_crate, impl_head, struct, trait_head, union, unsafe_flag}
 use Rattle.lay_tree.specs.reader.Item as reader
@@ -17,7 +17,6 @@ use Rattle.lay_tree.specs.declared.item.ItemKind.TheVariants as item
 use Rattle.lay_tree.specs.declared.token.Literal.{Literal}
 use Rattle.lay_tree.specs.declared.token.Name.{Name}
 use Rattle.lay_tree.specs.declared.types.Abi.{Abi}
-use Rattle.lay_read_tokens.specs.Answers.{IsFound}
 use Rattle.lay_read_code.specs.Begun.{begun_at, begun_by, finished, foreign_begun, members, node_alone, whole, with_body}
 use Rattle.lay_read_code.specs.declared.begun.Begun.{Begun}
 use Rattle.lay_read_code.specs.declared.begun.Begun.TheVariants as begun
@@ -105,7 +104,7 @@ module _ (at : Site) (within : ItemWithin) where
 
   module_behind : (b : Bool) (n : Name) (ts : Tokens)
       → (let kind : Read ItemKind = if b then Some ((item.FileModule n, 0), tail ts)
-          else (reader.item_body within site.Module ts >>= (λ b. Some ((item.Module n b.0.0.0 b.0.0.1, b.0.1), b.1))) in kind)
+      else (reader.item_body within site.Module ts >>= (λ b. Some ((item.Module n b.0.0.0 b.0.0.1, b.0.1), b.1))) in kind)
       ≡ ((let x : Read Begun = if b then Some ((begun.Whole (item.FileModule n), 0), tail ts) else Some ((begun.Module n, 0), ts) in x) >>= go_on)
   module_behind true n ts = refl
   module_behind false n ts = body_of (λ attrs items. item.Module n attrs items) site.Module ts

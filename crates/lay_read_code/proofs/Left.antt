@@ -1,5 +1,5 @@
 -- What reading of use trees and items leaves: the tokens behind those that are read.
-use Rattle.std.proofs.Common.{◌≡◌, ℕ, zero, suc, ◌||◌, Bool, true, false, List, Option, Some, None, drop, codes, if◌then◌else◌, is_some, arith}
+use Rattle.std.proofs.Common.{ℕ, zero, suc, ◌||◌, true, false, None, drop, codes, is_some, arith}
 use Rattle.lay_token.specs.Operators.{is_op}
 use Rattle.lay_piece.specs.declared.kind.Delim.TheVariants.{Brace}
 use Rattle.lay_tree.specs.Ahead.{Tokens, first, tail, is_keyword, is_mark, opens, closes}
@@ -20,7 +20,6 @@ use Rattle.lay_tree.specs.reader.Where.{wheres}
 use Rattle.lay_tree.specs.reader.Words.{name, word, global, path_words}
 use Rattle.lay_tree.specs.declared.heads.Site.{Site}
 use Rattle.lay_tree.specs.declared.heads.Site.TheVariants as site
-use Rattle.lay_tree.specs.declared.item.Item.{Item}
 use Rattle.lay_tree.specs.declared.use_tree.UseTree.{UseTree}
 use Rattle.lay_read_tokens.proofs.Left.{Leaves, unread, dropped, joined, further, chain, chain_passed, choice, first_read, passed_left, op_read, global_left, repeat_left, elements_left, name_left, word_left, path_words_left, group_left, call_left, end_left, attributes_left}
 use Rattle.lay_read_parts.proofs.Left.{flag_left, literal_left, there_left, weaker}

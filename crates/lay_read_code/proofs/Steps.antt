@@ -1,5 +1,5 @@
 -- One step of a reader, from what the readers within it give.
-use Rattle.std.proofs.Common.{◌≡◌, ℕ, suc, ◌+◌, ◌-◌, ◌<◌, ◌||◌, add-one, Bool, true, false, List, drop, codes, Option, Some, None, Result, Ok, Err, MatchResult, refl, sym, subst, ◌∙◌, ap, if◌then◌else◌, is_some, arith}
+use Rattle.std.proofs.Common.{◌≡◌, ℕ, suc, ◌+◌, ◌-◌, ◌<◌, ◌||◌, add-one, Bool, true, false, List, drop, codes, Some, None, Result, Ok, Err, MatchResult, refl, sym, subst, ◌∙◌, ap, if◌then◌else◌, is_some, arith}
 use Rattle.lay_token.specs.Operators.{is_op}
 use Rattle.lay_piece.specs.declared.kind.Delim.TheVariants.{Brace}
 use Rattle.lay_tree.specs.Ahead.{Tokens, closes}

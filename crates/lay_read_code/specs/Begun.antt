@@ -7,7 +7,6 @@ use Rattle.lay_tree.specs.reader.Heads.{alias, enum, extern_crate, impl_head, st
 use Rattle.lay_tree.specs.reader.Item as reader
 use Rattle.lay_tree.specs.reader.Item.{ItemLead, ItemWithin, OfAlias, OfCall, OfEnum, OfExternCrate, OfForeign, OfFunction, OfImpl, OfImport, OfModule, OfRules, OfStruct, OfTrait, OfUnion, OfValue, item_at}
 use Rattle.lay_tree.specs.reader.Loops.{Read, ◌>>=◌, passed}
-use Rattle.lay_tree.specs.reader.Patterns.{PatWithin}
 use Rattle.lay_tree.specs.reader.Types.{Within, if_there, is_string_token, literal}
 use Rattle.lay_tree.specs.reader.Use.{use_at}
 use Rattle.lay_tree.specs.reader.Where.{wheres}

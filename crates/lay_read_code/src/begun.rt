@@ -13,6 +13,7 @@ ghost use Rattle.lay_read_code.specs.Leads.{told};
 
 use crate::leads::{ItemLead, item_lead, may_stand};
 use crate::uses::read_use;
+use lay_read_generics::wheres_ahead;
 use lay_read_heads::functions::fn_head_ahead;
 use lay_read_heads::heads::{
     alias_ahead, enum_ahead, extern_crate_ahead, impl_head_ahead, struct_ahead, trait_head_ahead,
@@ -28,11 +29,8 @@ use lay_read_tokens::names::read_name;
 use lay_read_tokens::stop::boxed;
 use lay_read_tokens::tokens::read_group;
 use lay_read_tokens::{Ahead, Found, ReadNone};
-use lay_read_generics::wheres_ahead;
 use lay_token::List;
-use lay_tree::{
-    Attr, ImplHead, Item, ItemKind, Literal, Name, Site, TraitHead, ValueHead, Wheres,
-};
+use lay_tree::{Attr, ImplHead, Item, ItemKind, Literal, Name, Site, TraitHead, ValueHead, Wheres};
 use std::alloc::Global;
 
 /// An item up to its body, or the whole item where it has none.

@@ -1,4 +1,4 @@
-use Rattle.std.proofs.Common.{sym, ap, subst, ◌∙◌}
+use Rattle.std.proofs.Common.{sym, subst}
 use Rattle.lay_read_tokens.specs.Answers.{IsFound}
 use Rattle.lay_read_code.specs.Begun.{deeper}
 use Rattle.lay_read_code.specs.Leads.{told}

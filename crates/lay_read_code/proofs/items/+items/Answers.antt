@@ -1,6 +1,5 @@
-use Rattle.std.proofs.Common.{◌≡◌, ◌-◌, ◌<◌, ◌||◌, ◌++◌, ◌∷◌, [], false, refl, sym, ap, ◌∙◌, arith}
+use Rattle.std.proofs.Common.{◌≡◌, ◌-◌, ◌<◌, ◌++◌, ◌∷◌, [], false, refl, sym, arith}
 use Rattle.std.proofs.lemmas.Result.{err_from_is_err_and}
-use Rattle.lay_tree.specs.nodes.Item.{is_inherited}
 use Rattle.lay_tree.specs.reader.Attr.{attributes}
 use Rattle.lay_tree.specs.reader.Item.{more_items, item_at, item_body, items_by, kind_at}
 use Rattle.lay_tree.specs.reader.Vis.{visibility}
@@ -9,7 +8,6 @@ use Rattle.lay_read_code.proofs.Left.{item_left}
 use Rattle.lay_read_tokens.proofs.Steps.{lost}
 use Rattle.lay_read_tokens.proofs.Turns.{repeat-start, repeat-end, repeat-none, repeat-step}
 use Rattle.lay_read_tokens.proofs.Holding.{holding_more}
-use Rattle.lay_read_code.specs.Answers.{has_head}
 use Rattle.lay_read_code.specs.Begun.{begun_at, deeper}
 use Rattle.lay_read_code.proofs.Bodies.{kind_no_body, kind_none, kind_whole, kind_with_body}
 use Rattle.lay_read_code.proofs.Steps.{item_kept, item_no_attrs, item_no_kind, item_no_vis, item_nowhere, second_found, second_stopped}
