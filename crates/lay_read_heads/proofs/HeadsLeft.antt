@@ -1,5 +1,5 @@
 -- What reading of heads leaves: the tokens behind those that are read.
-use Rattle.std.proofs.Common.{◌≡◌, ℕ, ◌&&◌, ◌||◌, not, Bool, true, false, List, drop, codes, Option, Some, None, if◌then◌else◌, arith}
+use Rattle.std.proofs.Common.{ℕ, ◌&&◌, ◌||◌, not, Bool, true, false, List, drop, codes, Option, Some, None, if◌then◌else◌, arith}
 use Rattle.lay_token.specs.Operators.{is_op}
 use Rattle.lay_piece.specs.declared.kind.Delim.TheVariants.{Paren, Brace}
 use Rattle.lay_tree.specs.Ahead.{Tokens, first, tail, is_keyword, is_mark, opens, closes}
@@ -11,7 +11,7 @@ use Rattle.lay_tree.specs.reader.Functions as functions
 use Rattle.lay_tree.specs.reader.Functions.{insides}
 use Rattle.lay_tree.specs.reader.Generics as g
 use Rattle.lay_tree.specs.reader.Heads as heads
-use Rattle.lay_tree.specs.reader.Loops.{Got, Read, passed, nodes, elements, open_elements}
+use Rattle.lay_tree.specs.reader.Loops.{Got, passed, nodes, elements, open_elements}
 use Rattle.lay_tree.specs.reader.Types as r
 use Rattle.lay_tree.specs.reader.Types.{within}
 use Rattle.lay_tree.specs.reader.Use.{renamed}
@@ -153,6 +153,7 @@ module _ (depth : ℕ) where
     where
       mid : Tokens
       mid = (r.flag (is_mark (codes "!")) ts).1
+
       found : (negative : Bool) (o : Got (Path × ℕ)) → Leaves 1 mid o → Leaves 0 ts (heads.trait_found negative ts o)
       found negative None h = unread ts
       found negative (Some p) h = choice 0 ts (first (is_keyword (codes "for")) p.1) _ _
