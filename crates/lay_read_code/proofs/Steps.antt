@@ -1,15 +1,28 @@
 -- One step of a reader, from what the readers within it give.
-use Rattle.std.proofs.Common.{◌≡◌, ℕ, suc, ◌+◌, ◌-◌, ◌<◌, add-one, Bool, true, false, List, drop, codes, Some, None, refl, ◌∙◌, ap, if◌then◌else◌, arith}
+use Rattle.std.proofs.Common.{◌≡◌, ℕ, suc, ◌+◌, ◌-◌, ◌<◌, ◌||◌, add-one, Bool, true, false, List, drop, codes, Some, None, Result, Ok, Err, MatchResult, refl, sym, subst, ◌∙◌, ap, if◌then◌else◌, is_some, arith}
 use Rattle.lay_token.specs.Operators.{is_op}
 use Rattle.lay_piece.specs.declared.kind.Delim.TheVariants.{Brace}
 use Rattle.lay_tree.specs.Ahead.{Tokens, closes}
 use Rattle.lay_tree.specs.reader.Attr.{attributes}
-use Rattle.lay_tree.specs.reader.Item.{kind_by, item_by, item_at}
+use Rattle.lay_tree.specs.reader.Item.{item_at, item_by, kind_at}
 use Rattle.lay_tree.specs.reader.Loops.{Read, ◌>>=◌, nodes, deepest, elements}
 use Rattle.lay_tree.specs.reader.Use.{use_group, use_end_by, ended, use_at}
 use Rattle.lay_tree.specs.reader.Words.{path_words}
 use Rattle.lay_tree.specs.declared.attr.Attr.{Attr}
+use Rattle.lay_tree.specs.reader.Vis.{visibility}
+use Rattle.lay_tree.specs.nodes.Item.{is_inherited, told_of_kind}
+use Rattle.lay_tree.proofs.nodes.ItemLaws as laws
+use Rattle.lay_tree.proofs.nodes.ItemLaws.{KindView, IsExternCrate, IsImport, IsFileModule, IsModule, IsFunction, IsAlias, IsStruct, IsUnion, IsEnum, IsValue, IsTrait, IsImpl, IsForeign, IsRules, IsCall}
+use Rattle.lay_tree.specs.declared.heads.Site.{Site}
+use Rattle.lay_tree.specs.declared.item.Item.{Item}
 use Rattle.lay_tree.specs.declared.item.ItemKind.{ItemKind}
+use Rattle.lay_tree.specs.declared.vis.Vis.{Vis}
+use Rattle.lay_read_tokens.specs.Answers.{IsFound, Stopped}
+use Rattle.lay_read_tokens.specs.declared.found.Found.{Found}
+use Rattle.lay_read_tokens.specs.declared.stop.ReadNone.{ReadNone}
+use Rattle.lay_read_tokens.specs.declared.stop.ReadNone.TheVariants.{NoReading}
+use Rattle.lay_read_code.specs.Answers.{has_head}
+use Rattle.lay_read_code.specs.Begun.{deeper as within_depth}
 use Rattle.lay_tree.specs.declared.token.Word.{Word}
 use Rattle.lay_tree.specs.declared.use_tree.UseEnd.{UseEnd}
 use Rattle.lay_tree.specs.declared.use_tree.UseEnd.TheVariants as use_end
@@ -68,18 +81,81 @@ module _ (depth : ℕ) (ts : Tokens) (flag : Bool) (mid : Tokens) (some : 0 < de
         → use_at depth ts ≡ Some ((record { global = flag; path = words; end = end }, need + 1), rest)
     use_some end need rest h c = use_step ∙ rw (p, h, c, add-one) refl
 
+-- ---- what was found behind something else
+
+module _ {A B : Type 0} (read : Read B) (first : A) (rest : Tokens) where
+  pub second_stopped : (r : Result (Found B) ReadNone) (none : ReadNone)
+      → MatchResult r (λ b. ◌≡◌ {A = Result (A × Found B) ReadNone} (Err none) (Ok (first, b))) (λ e. ◌≡◌ {A = Result (A × Found B) ReadNone} (Err none) (Err e))
+      → IsFound read r rest → Stopped read none
+  second_stopped (Ok b) none m h = absurd (cc)
+  second_stopped (Err e) none m h = let same : none ≡ e = cc in rw same h
+
+  pub second_found : (r : Result (Found B) ReadNone) (a : A) (b : Found B)
+      → MatchResult r (λ x. ◌≡◌ {A = Result (A × Found B) ReadNone} (Ok (a, b)) (Ok (first, x))) (λ e. ◌≡◌ {A = Result (A × Found B) ReadNone} (Ok (a, b)) (Err e))
+      → IsFound read r rest → (a ≡ first) × (read ≡ Some ((b.node, b.need), rest))
+  second_found (Ok x) a b m h =
+      let pair : ◌≡◌ {A = A × Found B} (a, b) (first, x) = cc in
+      (ap (λ p. p.0) pair, rw (ap (λ p. p.1) pair) h)
+  second_found (Err e) a b m h = absurd (cc)
+
 -- ---- items
 
-module _ (depth : ℕ) (ts : Tokens) (some : 0 < depth) where
-  item_step : item_at depth ts ≡ item_by (item_at (depth - 1)) (use_at (depth - 1)) ts
+-- A kind has a head where it is no macro.
+pub headed_is : (kind : ItemKind) → has_head kind ≡ is_some (told_of_kind kind).head
+headed_is kind = by kind (laws.kind_view kind)
+  where
+    by : (k : ItemKind) → KindView k → has_head k ≡ is_some (told_of_kind k).head
+    by _ (IsExternCrate x) = rw (laws.extern_crate_is x) refl
+    by _ (IsImport tree) = rw (laws.import_is tree) refl
+    by _ (IsFileModule name) = rw (laws.file_module_is name) refl
+    by _ (IsModule name attrs items) = rw (laws.module_is name attrs items) refl
+    by _ (IsFunction head wheres) = rw (laws.function_is head wheres) refl
+    by _ (IsAlias x) = rw (laws.alias_is x) refl
+    by _ (IsStruct x) = rw (laws.struct_is x) refl
+    by _ (IsUnion x) = rw (laws.union_is x) refl
+    by _ (IsEnum x) = rw (laws.enum_is x) refl
+    by _ (IsValue head) = rw (laws.value_is head) refl
+    by _ (IsTrait head wheres attrs items) = rw (laws.trait_is head wheres attrs items) refl
+    by _ (IsImpl head wheres attrs items) = rw (laws.impl_is head wheres attrs items) refl
+    by _ (IsForeign is_unsafe abi attrs items) = rw (laws.foreign_is is_unsafe abi attrs items) refl
+    by _ (IsRules name rules) = rw (laws.rules_is name rules) refl
+    by _ (IsCall call) = rw (laws.call_is call) refl
+
+module _ (at : Site) (depth : ℕ) (ts : Tokens) where
+  pub item_nowhere : depth ≡ 0 → item_at at depth ts ≡ None
   unfolding item_at
-  item_step = deeper (λ n. item_at n ts) depth some
+  item_nowhere e = ap (λ n. item_at at n ts) e
 
-  module _ (attrs : List Attr) (mid : Tokens) (a : attributes false ts ≡ Some (attrs, mid)) where
-    pub item_none : kind_by (item_at (depth - 1)) (use_at (depth - 1)) mid ≡ None → item_at depth ts ≡ None
-    item_none k = item_step ∙ rw (a, k) refl
+  module _ (some : 0 < depth) where
+    item_step : item_at at depth ts ≡ item_by at (within_depth (depth - 1)) ts
+    unfolding item_at
+    item_step = deeper (λ n. item_at at n ts) depth some
 
-    pub item_some : (kind : ItemKind) (need : ℕ) (rest : Tokens)
-        → kind_by (item_at (depth - 1)) (use_at (depth - 1)) mid ≡ Some ((kind, need), rest)
-        → item_at depth ts ≡ Some ((record { attrs = attrs; kind = kind }, need + 1), rest)
-    item_some kind need rest k = item_step ∙ rw (a, k, add-one) refl
+    pub item_no_attrs : attributes false ts ≡ None → item_at at depth ts ≡ None
+    unfolding item_by
+    item_no_attrs a = item_step ∙ rw a refl
+
+    module _ (attrs : List Attr) (mid : Tokens) (a : attributes false ts ≡ Some (attrs, mid)) where
+      pub item_no_vis : visibility mid ≡ None → item_at at depth ts ≡ None
+      unfolding item_by
+      item_no_vis v = item_step ∙ rw (a, v) refl
+
+      module _ (vis : Vis) (behind : Tokens) (v : visibility mid ≡ Some (vis, behind)) where
+        pub item_no_kind : kind_at at (within_depth (depth - 1)) behind ≡ None → item_at at depth ts ≡ None
+        unfolding item_by
+        item_no_kind k = item_step ∙ rw (a, v, k) refl
+
+        module _ (kind : ItemKind) (need : ℕ) (rest : Tokens) (k : kind_at at (within_depth (depth - 1)) behind ≡ Some ((kind, need), rest)) where
+          abbrev Made : Found Item
+          Made = record { node = record { attrs = attrs; vis = vis; kind = kind }; need = need + 1 }
+
+          kept_by : (keeps : Bool) → keeps ≡ (is_some (told_of_kind kind).head || is_inherited vis)
+              → IsFound (item_at at depth ts) (let r : Result (Found Item) ReadNone = if keeps then Ok Made else Err NoReading in r) rest
+          unfolding item_by
+          kept_by true e = item_step ∙ rw (a, v, k, sym e, add-one) refl
+          kept_by false e = item_step ∙ rw (a, v, k, sym e) refl
+
+          pub item_kept : (keeps : Bool) → keeps ≡ (has_head kind || is_inherited vis) → (r : Result (Found Item) ReadNone)
+              → r ≡ (if keeps then Ok Made else Err NoReading) → IsFound (item_at at depth ts) r rest
+          item_kept keeps e r h =
+              subst (λ x. IsFound (item_at at depth ts) x rest) (sym h) (kept_by keeps (e ∙ ap (λ b. b || is_inherited vis) (headed_is kind)))

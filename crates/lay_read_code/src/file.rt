@@ -10,7 +10,7 @@ use lay_nest::Nested;
 use lay_read_tokens::attributes::attrs_ahead;
 use lay_read_tokens::{Ahead, ReadNone};
 use lay_token::{FormatError, List, Refusal, Text};
-use lay_tree::{Attr, File, Item};
+use lay_tree::{Attr, File, Item, Site};
 use std::alloc::Global;
 
 /// The items of a file stand at this depth, and those within another item one lower. At 0 nothing is read.
@@ -43,7 +43,7 @@ fn read_whole(alloc: Global, at: &mut Ahead<'_>) -> Result<(List<Attr>, List<Ite
     ensures { IsWhole (whole at.old) result }
 {
     let attrs = attrs_ahead(alloc, at, true)?;
-    let items = read_items(alloc, at, DEPTH)?;
+    let items = read_items(alloc, at, Site::Module, DEPTH)?;
     if at.is_end() {
         Ok((attrs, items.node))
     } else {

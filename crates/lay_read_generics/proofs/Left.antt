@@ -1,10 +1,11 @@
 -- What reading of generic parameters and where clauses leaves: the tokens behind those that are read.
 use Rattle.std.proofs.Common.{ℕ, false, List, drop, codes, arith}
 use Rattle.lay_token.specs.Operators.{is_op}
-use Rattle.lay_tree.specs.Ahead.{Tokens, first, tail, is_keyword, is_lifetime}
-use Rattle.lay_tree.specs.Begins.{begins_bound}
+use Rattle.lay_tree.specs.Ahead.{Tokens, first, tail, is_keyword, is_lifetime, is_mark}
+use Rattle.lay_tree.specs.Begins.{begins_bound, begins_predicate}
 use Rattle.lay_tree.specs.reader.Attr.{attributes}
 use Rattle.lay_tree.specs.reader.Generics as g
+use Rattle.lay_tree.specs.reader.Loops.{open_elements}
 use Rattle.lay_tree.specs.reader.Types as r
 use Rattle.lay_tree.specs.reader.Types.{Within, within}
 use Rattle.lay_tree.specs.reader.Where as w
@@ -12,7 +13,7 @@ use Rattle.lay_tree.specs.reader.Words.{name}
 use Rattle.lay_tree.specs.declared.attr.Attr.{Attr}
 use Rattle.lay_tree.specs.declared.types.TypePlace.TheVariants.{Bounds}
 use Rattle.lay_read_tokens.proofs.Left.{Leaves, unread, dropped, further, chain, chain_passed, choice, first_read, name_left, attributes_left}
-use Rattle.lay_read_parts.proofs.Left.{behind_left, binder_if_left, const_left, lifetime_left, lifetimes_left, operator_left, read_left, there_left, weaker}
+use Rattle.lay_read_parts.proofs.Left.{angled_left, behind_left, binder_if_left, const_left, lifetime_left, lifetimes_left, open_left, operator_left, read_left, there_left, weaker}
 use Rattle.lay_read_types.proofs.Left.{LeftWithin, all_bounds_left, left_within}
 
 const_default_left : (ts : Tokens) → Leaves 1 ts (g.const_default_at ts)
@@ -24,7 +25,7 @@ module _ (deeper : Within) (l : LeftWithin deeper) where
   met_left : (ts : Tokens) → Leaves 0 ts (g.met deeper ts)
   met_left ts = choice 0 ts (begins_bound ts) _ _ (λ h. weaker ts _ (all_bounds_left deeper l ts)) (unread ts)
 
-  met_if_left : (ts : Tokens) → Leaves 0 ts (g.met_if deeper ts)
+  pub met_if_left : (ts : Tokens) → Leaves 0 ts (g.met_if deeper ts)
   met_if_left ts = choice 0 ts (is_op (codes ":") ts) _ _
       (λ h. further 0 0 0 ts (drop 1 ts) _ (omega arith) (dropped 1 ts) (met_left (drop 1 ts))) (unread ts)
 
@@ -79,3 +80,21 @@ one_param_leaves depth ts = one_param_left (within depth) (left_within depth) ts
 
 pub predicate_leaves : (depth : ℕ) (ts : Tokens) → Leaves 1 ts (w.one_predicate (within depth) ts)
 predicate_leaves depth ts = one_predicate_left (within depth) (left_within depth) ts
+
+-- ---- generic parameters and where clauses
+
+module _ (depth : ℕ) where
+  pub generics_left : (ts : Tokens) → Leaves 0 ts (g.generics (within depth) ts)
+  unfolding g.generics
+  generics_left ts = choice 0 ts (first (is_mark (codes "<")) ts) _ _
+      (λ h. chain 0 1 0 ts (r.angled (g.one_param (within depth)) ts) _ (omega arith)
+      (angled_left (g.one_param (within depth)) (one_param_leaves depth) ts) (λ ps. unread ps.1))
+      (unread ts)
+
+  pub wheres_left : (ts : Tokens) → Leaves 0 ts (w.wheres (within depth) ts)
+  unfolding w.wheres
+  wheres_left ts = choice 0 ts (first (is_keyword (codes "where")) ts) _ _
+      (λ h. further 0 1 0 ts (tail ts) _ (omega arith) (first_read (is_keyword (codes "where")) ts h)
+      (chain 0 0 0 (tail ts) (open_elements begins_predicate (w.one_predicate (within depth)) (tail ts)) _ (omega arith)
+      (open_left (w.one_predicate (within depth)) (predicate_leaves depth) begins_predicate (tail ts)) (λ ps. unread ps.1)))
+      (unread ts)

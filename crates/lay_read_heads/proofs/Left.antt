@@ -38,7 +38,7 @@ vis_behind_left ts = choice 0 ts (restricts_to (codes "crate") ts) _ _ (λ h. dr
     (choice 0 ts (restricts_in ts) _ _
     (λ h. further 0 0 0 ts (drop 2 ts) _ (omega arith) (dropped 2 ts) (vis_path_left (drop 2 ts))) (unread ts))))
 
-vis_left : (ts : Tokens) → Leaves 0 ts (vis.visibility ts)
+pub vis_left : (ts : Tokens) → Leaves 0 ts (vis.visibility ts)
 unfolding vis.visibility
 vis_left ts = choice 0 ts (first (is_keyword (codes "pub")) ts) _ _
     (λ h. further 0 1 0 ts (tail ts) _ (omega arith) (first_read (is_keyword (codes "pub")) ts h) (vis_behind_left (tail ts)))
@@ -50,7 +50,7 @@ and_first : (a b : Bool) → (a && b) ≡ true → a ≡ true
 and_first true b h = refl
 and_first false b h = absurd (cc)
 
-tail_left : (ts : Tokens) → Left 0 ts (tail ts)
+pub tail_left : (ts : Tokens) → Left 0 ts (tail ts)
 tail_left [] = unread []
 tail_left (t ∷ ts) = dropped 1 (t ∷ ts)
 
@@ -71,13 +71,13 @@ module _ (depth : ℕ) where
       (λ n. chain_passed 0 0 0 n.1 (r.operator (codes ":") n.1) _ (omega arith) (operator_left (codes ":") n.1)
       (λ at. chain 0 1 0 at (r.type_at Bounds depth at) _ (omega arith) (types_leave depth Bounds at) (λ x. unread x.1)))))
 
-  tuple_fields_left : (ts : Tokens) → Leaves 0 ts (fields.tuple_fields (within depth) ts)
+  pub tuple_fields_left : (ts : Tokens) → Leaves 0 ts (fields.tuple_fields (within depth) ts)
   unfolding fields.tuple_fields
   tuple_fields_left ts = chain_passed 0 1 0 ts (passed (opens Paren) ts) _ (omega arith) (passed_left (opens Paren) ts)
       (λ inside. chain 0 1 0 inside (elements (closes Paren) (fields.tuple_field (within depth)) inside) _ (omega arith)
       (elements_left (fields.tuple_field (within depth)) tuple_field_leaves (closes Paren) inside) (λ xs. unread xs.1))
 
-  named_fields_left : (ts : Tokens) → Leaves 0 ts (fields.named_fields (within depth) ts)
+  pub named_fields_left : (ts : Tokens) → Leaves 0 ts (fields.named_fields (within depth) ts)
   unfolding fields.named_fields
   named_fields_left ts = chain_passed 0 1 0 ts (passed (opens Brace) ts) _ (omega arith) (passed_left (opens Brace) ts)
       (λ inside. chain 0 1 0 inside (elements (closes Brace) (fields.field (within depth)) inside) _ (omega arith)

@@ -1,3 +1,5 @@
 pub mod Left
+pub mod HeadsLeft
 pub mod Steps
 pub mod AtFront
+pub mod AsKinds

@@ -1,9 +1,11 @@
 -- What readers of heads answer.
-use Rattle.std.specs.Prelude.{ℕ, max, not, Bool, if◌then◌else◌, List, drop, codes, Option, Some, None}
+use Rattle.std.specs.Prelude.{ℕ, ◌≡◌, ◌⊎◌, max, not, Bool, if◌then◌else◌, List, drop, codes, Option, Some, None}
 use Rattle.std.specs.List.{list_all}
 use Rattle.lay_piece.specs.declared.kind.Delim.TheVariants.{Paren}
 use Rattle.lay_tree.specs.Ahead.{Tokens, first, is_keyword, closes}
+use Rattle.lay_tree.specs.nodes.Facts.{Told, ToldFront, by_itself}
 use Rattle.lay_tree.specs.nodes.Functions.{is_receiver, may_say}
+use Rattle.lay_tree.specs.nodes.Heads.{about_struct, about_union, headed}
 use Rattle.lay_tree.specs.nodes.Vis.{restricts_in}
 use Rattle.lay_tree.specs.reader.Fields.{named_fields}
 use Rattle.lay_tree.specs.reader.Functions.{are_in_order, async_flag, const_flag, fn_params, head_output, safety_behind}
@@ -21,6 +23,8 @@ use Rattle.lay_tree.specs.declared.generics.Generics.{Generics}
 use Rattle.lay_tree.specs.declared.generics.Wheres.{Wheres}
 use Rattle.lay_tree.specs.declared.heads.Site.{Site}
 use Rattle.lay_tree.specs.declared.heads.Struct.{Struct}
+use Rattle.lay_tree.specs.declared.item.ItemKind.{ItemKind}
+use Rattle.lay_tree.specs.declared.item.ItemKind.TheVariants as item
 use Rattle.lay_tree.specs.declared.token.Name.{Name}
 use Rattle.lay_tree.specs.declared.vis.Vis.{Vis}
 use Rattle.lay_tree.specs.declared.vis.Vis.TheVariants as vis
@@ -81,3 +85,15 @@ named_fn site within q ts = do
         o.1,
       )
       else None
+
+-- ---- what stands at the front, as what an item is
+
+-- The item is such a node, which stands there.
+abbrev pub OfKind : {A : Type 0} → (A → ItemKind) → (A → Told) → ItemKind → Tokens → ℕ → ℕ → Type 0
+OfKind {A} make about k ts n depth = (x : A) × (k ≡ make x) × ToldFront (about x) ts n depth
+
+-- The item is a struct or a union, which stands there by itself.
+abbrev pub StructFront : ItemKind → Tokens → ℕ → ℕ → Type 0
+StructFront k ts n depth =
+    OfKind item.Struct (λ x. by_itself (headed (about_struct x))) k ts n depth
+    ⊎ OfKind item.Union (λ x. by_itself (headed (about_union x))) k ts n depth

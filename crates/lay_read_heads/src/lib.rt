@@ -9,9 +9,11 @@
 pub mod fields;
 pub mod functions;
 pub mod heads;
+mod kinds;
 pub mod level;
 mod reads;
 pub mod vis;
 
+pub use kinds::{read_alias, read_enum, read_extern_crate, read_struct};
 pub use lay_read_tokens::{ReadNone, read_attr, read_attrs, read_call};
 pub use reads::{read_fn_head, read_impl_head, read_trait_head, read_value_head, read_vis};

@@ -1,36 +1,24 @@
-use Rattle.std.proofs.Common.{◌-◌, ◌<◌, ◌++◌, ◌∷◌, [], refl, sym, arith}
+use Rattle.std.proofs.Common.{◌≡◌, ◌-◌, ◌<◌, ◌++◌, ◌∷◌, [], false, refl, sym, arith}
 use Rattle.std.proofs.lemmas.Result.{err_from_is_err_and}
-use Rattle.lay_tree.specs.reader.Item.{more_items, item_at, items_by, kind_by}
-use Rattle.lay_tree.specs.reader.Use.{use_at}
+use Rattle.lay_tree.specs.reader.Attr.{attributes}
+use Rattle.lay_tree.specs.reader.Item.{more_items, item_at, item_body, items_by, kind_at}
+use Rattle.lay_tree.specs.reader.Vis.{visibility}
 use Rattle.lay_read_tokens.proofs.Left.{shorter}
 use Rattle.lay_read_code.proofs.Left.{item_left}
 use Rattle.lay_read_tokens.proofs.Steps.{lost}
-use Rattle.lay_read_code.proofs.Steps.{item_none, item_some}
 use Rattle.lay_read_tokens.proofs.Turns.{repeat-start, repeat-end, repeat-none, repeat-step}
 use Rattle.lay_read_tokens.proofs.Holding.{holding_more}
+use Rattle.lay_read_code.specs.Begun.{begun_at, deeper}
+use Rattle.lay_read_code.proofs.Bodies.{kind_no_body, kind_none, kind_whole, kind_with_body}
+use Rattle.lay_read_code.proofs.Steps.{item_kept, item_no_attrs, item_no_kind, item_no_vis, item_nowhere, second_found, second_stopped}
 use Rattle.lay_read_code.proofs.items.+items.Goals as goal
-
-pub read_item-returns-in_err-kind-clause-read : goal.read_item-returns-in_err-kind-clause-read
-read_item-returns-in_err-kind-clause-read t c =
-    let some : 0 < c.args.depth = omega arith in
-    let p = err_from_is_err_and c.from_residual-in_err-kind.result c.from_residual-in_err-kind.ensures.1 in
-    rw (p.1, p.2) (lost (kind_by (item_at (c.args.depth - 1)) (use_at (c.args.depth - 1)) c.attrs_ahead.new.at)
-    (item_at c.args.depth c.args.at.now)
-    c.in_err-kind.field-0.0 c.in_err-kind.ensures.read
-    (item_none c.args.depth c.args.at.now some c.in_ok-attrs.attrs c.attrs_ahead.new.at c.in_ok-attrs.ensures))
-
-pub read_item-returns-clause-read : goal.read_item-returns-clause-read
-read_item-returns-clause-read t c =
-    let some : 0 < c.args.depth = omega arith in
-    item_some c.args.depth c.args.at.now some c.in_ok-attrs.attrs c.attrs_ahead.new.at c.in_ok-attrs.ensures
-    c.in_ok-kind.kind.node c.in_ok-kind.kind.need c.read_kind.new.at c.in_ok-kind.ensures.read
 
 pub read_items-loop-alloc-init : goal.read_items-loop-alloc-init
 unfolding items_by
 read_items-loop-alloc-init t c = record {
   held = record {
     found = [];
-    turn = repeat-start more_items (item_at c.args.depth) c.args.at.now;
+    turn = repeat-start more_items (item_at c.args.site c.args.depth) c.args.at.now;
     holds =
         (sym c.new-items.ensures, refl);
   };
@@ -39,7 +27,7 @@ read_items-loop-alloc-init t c = record {
 
 pub read_items-returns-in_err-item-clause-read : goal.read_items-returns-in_err-item-clause-read
 read_items-returns-in_err-item-clause-read t c =
-    let within = item_at c.args.depth in
+    let within = item_at c.args.site c.args.depth in
     let whole = items_by within c.args.at.now in
     let held = c.loop-alloc.invariant.held in
     let p = err_from_is_err_and c.from_residual.result c.from_residual.ensures.1 in
@@ -50,22 +38,22 @@ pub read_items-loop-alloc-smaller : goal.read_items-loop-alloc-smaller
 read_items-loop-alloc-smaller t c =
     let ts = c.loop-alloc.at in
     let item = c.in_ok-item.item in
-    shorter ts (item_at c.args.depth ts) (item.node, item.need) c.read_item.new.at (item_left c.args.depth ts)
+    shorter ts (item_at c.args.site c.args.depth ts) (item.node, item.need) c.item_ahead.new.at (item_left c.args.depth c.args.site ts)
     c.in_ok-item.ensures.read
 
 pub read_items-loop-alloc-preserved : goal.read_items-loop-alloc-preserved
 read_items-loop-alloc-preserved t c =
     let ts = c.loop-alloc.at in
-    let within = item_at c.args.depth in
+    let within = item_at c.args.site c.args.depth in
     let held = c.loop-alloc.invariant.held in
     let item = c.in_ok-item.item in
-    let less = shorter ts (within ts) (item.node, item.need) c.read_item.new.at (item_left c.args.depth ts)
+    let less = shorter ts (within ts) (item.node, item.need) c.item_ahead.new.at (item_left c.args.depth c.args.site ts)
     c.in_ok-item.ensures.read in
     record {
       held = record {
         found = held.found ++ (item.node, item.need) ∷ [];
         turn = repeat-step more_items within (items_by within c.args.at.now) held.found ts held.turn
-            (item.node, item.need) c.read_item.new.at
+            (item.node, item.need) c.item_ahead.new.at
             (sym c.loop-alloc-test.ensures) c.in_ok-item.ensures.read less;
         holds = rw (c.in_ok-keep.ensures.ok, c.greater-need.ensures)
             (holding_more c.loop-alloc.items c.loop-alloc.need held.found item.node item.need held.holds);
@@ -75,10 +63,87 @@ read_items-loop-alloc-preserved t c =
 
 pub read_items-returns-clause-read : goal.read_items-returns-clause-read
 read_items-returns-clause-read t c =
-    let within = item_at c.args.depth in
+    let within = item_at c.args.site c.args.depth in
     let held = c.loop-alloc.invariant.held in (
       held.found,
       repeat-end more_items within (items_by within c.args.at.now) held.found c.loop-alloc.at held.turn
           (sym c.loop-alloc-test.ensures),
       held.holds,
     )
+
+-- ---- items
+
+pub item_ahead-returns-then-depth-eq0-clause-read : goal.item_ahead-returns-then-depth-eq0-clause-read
+item_ahead-returns-then-depth-eq0-clause-read t c =
+    let zero : c.args.depth ≡ 0 = omega arith in
+    item_nowhere c.args.site c.args.depth c.args.at.now zero
+
+pub item_ahead-returns-in_err-attrs-clause-read : goal.item_ahead-returns-in_err-attrs-clause-read
+item_ahead-returns-in_err-attrs-clause-read t c =
+    let some : 0 < c.args.depth = omega arith in
+    let p = err_from_is_err_and c.from_residual.result c.from_residual.ensures.1 in
+    rw (p.1, p.2) (lost (attributes false c.args.at.now) (item_at c.args.site c.args.depth c.args.at.now) c.in_err-attrs.field-0.0
+    c.in_err-attrs.ensures (item_no_attrs c.args.site c.args.depth c.args.at.now some))
+
+pub item_ahead-returns-in_err-vis-clause-read : goal.item_ahead-returns-in_err-vis-clause-read
+item_ahead-returns-in_err-vis-clause-read t c =
+    let some : 0 < c.args.depth = omega arith in
+    let p = err_from_is_err_and c.from_residual-in_err-vis.result c.from_residual-in_err-vis.ensures.1 in
+    rw (p.1, p.2) (lost (visibility c.attrs_ahead.new.at) (item_at c.args.site c.args.depth c.args.at.now) c.in_err-vis.field-0.0
+    c.in_err-vis.ensures (item_no_vis c.args.site c.args.depth c.args.at.now some c.in_ok-attrs.attrs c.attrs_ahead.new.at c.in_ok-attrs.ensures))
+
+pub item_ahead-returns-in_err-kind-clause-read : goal.item_ahead-returns-in_err-kind-clause-read
+item_ahead-returns-in_err-kind-clause-read t c =
+    let some : 0 < c.args.depth = omega arith in
+    let p = err_from_is_err_and c.from_residual-in_err-kind.result c.from_residual-in_err-kind.ensures.1 in
+    rw (p.1, p.2) (lost (kind_at c.args.site (deeper (c.args.depth - 1)) c.vis_ahead.new.at) (item_at c.args.site c.args.depth c.args.at.now)
+    c.in_err-kind.field-0.0 c.in_err-kind.ensures.read
+    (item_no_kind c.args.site c.args.depth c.args.at.now some c.in_ok-attrs.attrs c.attrs_ahead.new.at c.in_ok-attrs.ensures
+    c.in_ok-vis.vis c.vis_ahead.new.at c.in_ok-vis.ensures))
+
+pub item_ahead-returns-clause-read : goal.item_ahead-returns-clause-read
+item_ahead-returns-clause-read t c =
+    let some : 0 < c.args.depth = omega arith in
+    let kind = c.in_ok-kind.kind in
+    item_kept c.args.site c.args.depth c.args.at.now some c.in_ok-attrs.attrs c.attrs_ahead.new.at c.in_ok-attrs.ensures
+    c.in_ok-vis.vis c.vis_ahead.new.at c.in_ok-vis.ensures kind.node kind.need c.read_kind.new.at c.in_ok-kind.ensures.read
+    c.may_have-keeps.result c.may_have-keeps.ensures c.kept_if.result c.kept_if.ensures
+
+-- ---- what items are
+
+pub read_kind-returns-in_err-begun-clause-read : goal.read_kind-returns-in_err-begun-clause-read
+read_kind-returns-in_err-begun-clause-read t c =
+    let within = deeper c.args.depth in
+    let p = err_from_is_err_and c.from_residual.result c.from_residual.ensures.1 in
+    rw (p.1, p.2) (lost (begun_at c.args.site within c.args.at.now) (kind_at c.args.site within c.args.at.now)
+    c.in_err-begun.field-0.0 c.in_err-begun.ensures.read (kind_none c.args.site within c.args.at.now))
+
+pub read_kind-returns-in_err-begun-in-Some-clause-read : goal.read_kind-returns-in_err-begun-in-Some-clause-read
+read_kind-returns-in_err-begun-in-Some-clause-read t c =
+    let within = deeper c.args.depth in
+    let begun = c.in_ok-begun.begun in
+    let body = item_body within c.in-Some.inner c.read_begun.new.at in
+    let none = c.in_err-begun-in-Some.field-0.0 in
+    let p = err_from_is_err_and c.from_residual-in_err-begun-in-Some.result c.from_residual-in_err-begun-in-Some.ensures.1 in
+    rw (p.1, p.2) (lost body (kind_at c.args.site within c.args.at.now) none
+    (second_stopped body begun c.read_body.new.at c.read_body.result none c.in_err-begun-in-Some.ensures c.read_body.ensures.read)
+    (kind_no_body c.args.site within c.args.at.now begun.node begun.need c.read_begun.new.at c.in_ok-begun.ensures.read
+    c.in-Some.inner (sym c.in-Some.ensures)))
+
+pub read_kind-returns-in-None-clause-read : goal.read_kind-returns-in-None-clause-read
+read_kind-returns-in-None-clause-read t c =
+    let begun = c.in_ok-begun.begun in
+    rw (c.with_body.ensures, c.new.ensures, c.new-in-None.ensures)
+    (kind_whole c.args.site (deeper c.args.depth) c.args.at.now begun.node begun.need c.read_begun.new.at c.in_ok-begun.ensures.read
+    (sym c.in-None.ensures))
+
+pub read_kind-returns-in_ok-begun-in-Some-clause-read : goal.read_kind-returns-in_ok-begun-in-Some-clause-read
+read_kind-returns-in_ok-begun-in-Some-clause-read t c =
+    let within = deeper c.args.depth in
+    let begun = c.in_ok-begun.begun in
+    let body = c.in_ok-begun-in-Some.body in
+    let found = second_found (item_body within c.in-Some.inner c.read_begun.new.at) begun c.read_body.new.at c.read_body.result
+    c.in_ok-begun-in-Some.begun body c.in_ok-begun-in-Some.ensures c.read_body.ensures.read in
+    rw (c.with_body-in-Some.ensures, c.greater.ensures, found.0)
+    (kind_with_body c.args.site within c.args.at.now begun.node begun.need c.read_begun.new.at c.in_ok-begun.ensures.read
+    c.in-Some.inner (sym c.in-Some.ensures) body.node.0 body.node.1 body.need c.read_body.new.at found.1)

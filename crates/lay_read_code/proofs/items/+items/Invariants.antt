@@ -5,21 +5,21 @@ use Rattle.lay_read_tokens.proofs.Turns.{Turn, Held}
 use Rattle.lay_read_tokens.proofs.Holding.{Holding}
 use Rattle.lay_read_code.proofs.items.+items.Given as goal
 
-abbrev pub decreases-read_item : goal.decreases-read_item
-decreases-read_item l = 4 * l.depth
+abbrev pub decreases-item_ahead : goal.decreases-item_ahead
+decreases-item_ahead l = 4 * l.depth
 
 abbrev pub decreases-read_items : goal.decreases-read_items
 decreases-read_items l = 4 * l.depth + 1
 
-abbrev pub decreases-read_module : goal.decreases-read_module
-decreases-read_module l = 4 * l.depth + 2
+abbrev pub decreases-read_body : goal.decreases-read_body
+decreases-read_body l = 4 * l.depth + 2
 
 abbrev pub decreases-read_kind : goal.decreases-read_kind
 decreases-read_kind l = 4 * l.depth + 3
 
 abbrev pub invariant-read_items-loop-alloc : goal.invariant-read_items-loop-alloc
 invariant-read_items-loop-alloc l = record {
-  held : Held (λ read. Turn (repeat_from more_items (item_at l.depth)) (items_by (item_at l.depth) l.fn.at) read
+  held : Held (λ read. Turn (repeat_from more_items (item_at l.site l.depth)) (items_by (item_at l.site l.depth) l.fn.at) read
       l.at) (Holding l.items l.need);
   within : l.need ≤ l.depth;
 }

@@ -1,0 +1,373 @@
+//! Items up to their bodies.
+ghost use Rattle.std.specs.Prelude.{◌≡◌, ◌≤◌, IfOk};
+ghost use Rattle.lay_tree.specs.nodes.Item as nodes;
+ghost use Rattle.lay_tree.specs.reader.Exact.{needless};
+ghost use Rattle.lay_tree.specs.reader.Heads as heads;
+ghost use Rattle.lay_tree.specs.reader.Item as reader;
+ghost use Rattle.lay_tree.specs.reader.Types.{within};
+ghost use Rattle.lay_tree.specs.declared.item.ItemKind.TheVariants as item;
+ghost use Rattle.lay_read_tokens.specs.Answers.{IsFound};
+ghost use Rattle.lay_read_code.specs.Begun as bodies;
+ghost use Rattle.lay_read_code.specs.Begun.{deeper, node_alone, whole};
+ghost use Rattle.lay_read_code.specs.Leads.{told};
+
+use crate::leads::{ItemLead, item_lead, may_stand};
+use crate::uses::read_use;
+use lay_read_generics::wheres_ahead;
+use lay_read_heads::functions::fn_head_ahead;
+use lay_read_heads::heads::{
+    alias_ahead, enum_ahead, extern_crate_ahead, impl_head_ahead, struct_ahead, trait_head_ahead,
+    union_ahead, value_head_ahead,
+};
+use lay_read_heads::level::{kept_if, takes_flag};
+use lay_read_parts::joins::both;
+use lay_read_parts::parts::read_abi_if;
+use lay_read_tokens::calls::{call_ahead, takes_end};
+use lay_read_tokens::found::greater;
+use lay_read_tokens::front::{pass_two, takes_keyword, takes_mark};
+use lay_read_tokens::names::read_name;
+use lay_read_tokens::stop::boxed;
+use lay_read_tokens::tokens::read_group;
+use lay_read_tokens::{Ahead, Found, ReadNone};
+use lay_token::List;
+use lay_tree::{Attr, ImplHead, Item, ItemKind, Literal, Name, Site, TraitHead, ValueHead, Wheres};
+use std::alloc::Global;
+
+/// An item up to its body, or the whole item where it has none.
+#[derive(Drop)]
+pub enum Begun {
+    Whole {
+        kind: ItemKind,
+    },
+    Module {
+        name: Name,
+    },
+    Trait {
+        head: TraitHead,
+        wheres: Wheres,
+    },
+    Impl {
+        head: ImplHead,
+        wheres: Wheres,
+    },
+    Foreign {
+        is_unsafe: bool,
+        abi: Option<Literal>,
+    },
+}
+
+/// An item at its site up to its body, told from what it begins with. What is within it stands within the depth.
+pub fn read_begun(
+    alloc: Global,
+    at: &mut Ahead<'_>,
+    site: Site,
+    depth: u32,
+) -> Result<Found<Begun>, ReadNone>
+    ensures read { IsFound (bodies.begun_at site (deeper depth) at.old) result at.new }
+    ensures within { IfOk result (λ found. found.need ≤ depth) }
+{
+    let lead = item_lead(at);
+    if may_stand(site, lead) {
+        begun_by(alloc, at, site, lead, depth)
+    } else {
+        Err(ReadNone::NoReading)
+    }
+}
+
+/// An item with this lead, up to its body.
+fn begun_by(
+    alloc: Global,
+    at: &mut Ahead<'_>,
+    site: Site,
+    lead: ItemLead,
+    depth: u32,
+) -> Result<Found<Begun>, ReadNone>
+    ensures read { IsFound (bodies.begun_by site (deeper depth) (told lead) at.old) result at.new }
+    ensures within { IfOk result (λ found. found.need ≤ depth) }
+{
+    match lead {
+        ItemLead::ExternCrate => begin_extern_crate(alloc, at),
+        ItemLead::Import => begin_import(alloc, at, depth),
+        ItemLead::Module => begin_module(alloc, at),
+        ItemLead::Function => begin_function(alloc, at, site, depth),
+        ItemLead::Alias => begin_alias(alloc, at, site, depth),
+        ItemLead::Struct => begin_struct(alloc, at, depth),
+        ItemLead::Union => begin_union(alloc, at, depth),
+        ItemLead::Enum => begin_enum(alloc, at, depth),
+        ItemLead::Value => begin_value(alloc, at, site, depth),
+        ItemLead::Trait => begin_trait(alloc, at, depth),
+        ItemLead::Impl => begin_impl(alloc, at, depth),
+        ItemLead::Foreign => begin_foreign(alloc, at),
+        ItemLead::Rules => begin_rules(alloc, at),
+        ItemLead::Call => begin_call(alloc, at),
+    }
+}
+
+/// An item without a body, which needs this depth.
+fn whole_item(kind: ItemKind, need: u32) -> Found<Begun>
+    ensures node { result.node ≡ Begun.Whole kind }
+    ensures need { result.need ≡ need }
+{
+    Found {
+        node: Begun::Whole { kind },
+        need,
+    }
+}
+
+/// An extern crate declaration.
+fn begin_extern_crate(alloc: Global, at: &mut Ahead<'_>) -> Result<Found<Begun>, ReadNone>
+    ensures read { IsFound (node_alone item.ExternCrate (needless heads.extern_crate 0 at.old)) result at.new }
+    ensures within { IfOk result (λ found. found.need ≡ 0) }
+{
+    let item = extern_crate_ahead(alloc, at)?;
+    Ok(whole_item(ItemKind::ExternCrate { item }, 0))
+}
+
+/// An import.
+#[tactic(auto, unfolding(lay_tree::specs::reader::Item::import_by))]
+fn begin_import(alloc: Global, at: &mut Ahead<'_>, depth: u32) -> Result<Found<Begun>, ReadNone>
+    ensures read { IsFound (whole (reader.import_by (deeper depth) at.old)) result at.new }
+    ensures within { IfOk result (λ found. found.need ≤ depth) }
+{
+    if !takes_keyword(at, b"use") {
+        return Err(ReadNone::NoReading);
+    }
+    let Found { node, need } = read_use(alloc, at, depth)?;
+    let tree = boxed(alloc, node)?;
+    let keeps = takes_mark(at, b";");
+    kept_if(whole_item(ItemKind::Import { tree }, need), keeps)
+}
+
+/// A module in a file of its own, or the head of another.
+fn begin_module(alloc: Global, at: &mut Ahead<'_>) -> Result<Found<Begun>, ReadNone>
+    ensures read { IsFound (bodies.module_begun at.old) result at.new }
+    ensures within { IfOk result (λ found. found.need ≡ 0) }
+{
+    if !takes_keyword(at, b"mod") {
+        return Err(ReadNone::NoReading);
+    }
+    let name = read_name(alloc, at)?;
+    if takes_mark(at, b";") {
+        Ok(whole_item(ItemKind::FileModule { name }, 0))
+    } else {
+        Ok(Found {
+            node: Begun::Module { name },
+            need: 0,
+        })
+    }
+}
+
+/// A function without a body.
+#[tactic(auto, unfolding(lay_tree::specs::reader::Item::function_by))]
+fn begin_function(
+    alloc: Global,
+    at: &mut Ahead<'_>,
+    site: Site,
+    depth: u32,
+) -> Result<Found<Begun>, ReadNone>
+    ensures read { IsFound (whole (reader.function_by site (deeper depth) at.old)) result at.new }
+    ensures within { IfOk result (λ found. found.need ≤ depth) }
+{
+    let head = fn_head_ahead(alloc, at, site, depth)?;
+    let (head, wheres) = both(head, wheres_ahead(alloc, at, depth))?;
+    let keeps = takes_mark(at, b";");
+    let kind = ItemKind::Function {
+        head: head.node,
+        wheres: wheres.node.0,
+    };
+    kept_if(whole_item(kind, greater(head.need, wheres.need)), keeps)
+}
+
+/// A type alias.
+fn begin_alias(
+    alloc: Global,
+    at: &mut Ahead<'_>,
+    site: Site,
+    depth: u32,
+) -> Result<Found<Begun>, ReadNone>
+    ensures read { IsFound (node_alone item.Alias (heads.alias site (within depth) at.old)) result at.new }
+    ensures within { IfOk result (λ found. found.need ≤ depth) }
+{
+    let alias = alias_ahead(alloc, at, site, depth)?;
+    Ok(whole_item(ItemKind::Alias { item: alias.node }, alias.need))
+}
+
+/// A struct.
+fn begin_struct(alloc: Global, at: &mut Ahead<'_>, depth: u32) -> Result<Found<Begun>, ReadNone>
+    ensures read { IsFound (node_alone item.Struct (heads.struct (within depth) at.old)) result at.new }
+    ensures within { IfOk result (λ found. found.need ≤ depth) }
+{
+    let item = struct_ahead(alloc, at, depth)?;
+    Ok(whole_item(ItemKind::Struct { item: item.node }, item.need))
+}
+
+/// A union.
+fn begin_union(alloc: Global, at: &mut Ahead<'_>, depth: u32) -> Result<Found<Begun>, ReadNone>
+    ensures read { IsFound (node_alone item.Union (heads.union (within depth) at.old)) result at.new }
+    ensures within { IfOk result (λ found. found.need ≤ depth) }
+{
+    let item = union_ahead(alloc, at, depth)?;
+    Ok(whole_item(ItemKind::Union { item: item.node }, item.need))
+}
+
+/// An enumeration.
+fn begin_enum(alloc: Global, at: &mut Ahead<'_>, depth: u32) -> Result<Found<Begun>, ReadNone>
+    ensures read { IsFound (node_alone item.Enum (heads.enum (within depth) at.old)) result at.new }
+    ensures within { IfOk result (λ found. found.need ≤ depth) }
+{
+    let item = enum_ahead(alloc, at, depth)?;
+    Ok(whole_item(ItemKind::Enum { item: item.node }, item.need))
+}
+
+/// Whether a constant or a static may lack its value.
+fn may_lack_value(site: Site, head: &ValueHead) -> bool
+    ensures { result ≡ nodes.may_lack_value site head.now }
+{
+    match site {
+        Site::Module => false,
+        Site::Member => false,
+        Site::TraitMember => matches!(head, ValueHead::Const { .. }),
+        Site::Foreign => matches!(head, ValueHead::Static { .. }),
+    }
+}
+
+/// A constant or a static without a value.
+#[tactic(auto, unfolding(lay_tree::specs::reader::Item::value_by))]
+fn begin_value(
+    alloc: Global,
+    at: &mut Ahead<'_>,
+    site: Site,
+    depth: u32,
+) -> Result<Found<Begun>, ReadNone>
+    ensures read { IsFound (whole (reader.value_by site (deeper depth) at.old)) result at.new }
+    ensures within { IfOk result (λ found. found.need ≤ depth) }
+{
+    let head = value_head_ahead(alloc, at, depth)?;
+    let keeps = takes_mark(at, b";") && may_lack_value(site, &head.node);
+    kept_if(
+        whole_item(ItemKind::Value { head: head.node }, head.need),
+        keeps,
+    )
+}
+
+/// A trait, up to its body.
+fn begin_trait(alloc: Global, at: &mut Ahead<'_>, depth: u32) -> Result<Found<Begun>, ReadNone>
+    ensures read { IsFound (bodies.trait_begun (within depth) at.old) result at.new }
+    ensures within { IfOk result (λ found. found.need ≤ depth) }
+{
+    let head = trait_head_ahead(alloc, at, depth)?;
+    let (head, wheres) = both(head, wheres_ahead(alloc, at, depth))?;
+    Ok(Found {
+        need: greater(head.need, wheres.need),
+        node: Begun::Trait {
+            head: head.node.0,
+            wheres: wheres.node.0,
+        },
+    })
+}
+
+/// An implementation, up to its body.
+fn begin_impl(alloc: Global, at: &mut Ahead<'_>, depth: u32) -> Result<Found<Begun>, ReadNone>
+    ensures read { IsFound (bodies.impl_begun (within depth) at.old) result at.new }
+    ensures within { IfOk result (λ found. found.need ≤ depth) }
+{
+    let head = impl_head_ahead(alloc, at, depth)?;
+    let (head, wheres) = both(head, wheres_ahead(alloc, at, depth))?;
+    Ok(Found {
+        need: greater(head.need, wheres.need),
+        node: Begun::Impl {
+            head: head.node,
+            wheres: wheres.node.0,
+        },
+    })
+}
+
+/// A foreign block, up to its body.
+#[tactic(auto, using(crate::proofs::Bodies::foreign_is))]
+fn begin_foreign(alloc: Global, at: &mut Ahead<'_>) -> Result<Found<Begun>, ReadNone>
+    ensures read { IsFound (bodies.foreign_begun at.old) result at.new }
+    ensures within { IfOk result (λ found. found.need ≡ 0) }
+{
+    let is_unsafe = takes_flag(at, b"unsafe");
+    match read_abi_if(alloc, at)? {
+        Some(abi) => Ok(Found {
+            node: Begun::Foreign {
+                is_unsafe,
+                abi: abi.name,
+            },
+            need: 0,
+        }),
+        None => Err(ReadNone::NoReading),
+    }
+}
+
+/// The declaration of a macro. The tokens before its name are known.
+#[tactic(auto, unfolding(lay_tree::specs::reader::Item::rules_item))]
+fn begin_rules(alloc: Global, at: &mut Ahead<'_>) -> Result<Found<Begun>, ReadNone>
+    ensures read { IsFound (whole (reader.rules_item at.old)) result at.new }
+    ensures within { IfOk result (λ found. found.need ≡ 0) }
+{
+    pass_two(at);
+    let name = read_name(alloc, at)?;
+    let rules = read_group(alloc, at)?;
+    if takes_end(at, rules.delim) {
+        Ok(whole_item(ItemKind::MacroRules { name, rules }, 0))
+    } else {
+        Err(ReadNone::NoReading)
+    }
+}
+
+/// A macro call, and what ends it.
+#[tactic(auto, unfolding(lay_tree::specs::reader::Item::call_item))]
+fn begin_call(alloc: Global, at: &mut Ahead<'_>) -> Result<Found<Begun>, ReadNone>
+    ensures read { IsFound (whole (reader.call_item at.old)) result at.new }
+    ensures within { IfOk result (λ found. found.need ≡ 0) }
+{
+    let call = call_ahead(alloc, at)?;
+    if takes_end(at, call.tokens.delim) {
+        Ok(whole_item(ItemKind::Call { call }, 0))
+    } else {
+        Err(ReadNone::NoReading)
+    }
+}
+
+/// The site of what stands in the body, where there is one.
+pub fn members(begun: &Begun) -> Option<Site>
+    ensures { result ≡ bodies.members begun.now }
+{
+    match begun {
+        Begun::Whole { .. } => None,
+        Begun::Module { .. } => Some(Site::Module),
+        Begun::Trait { .. } => Some(Site::TraitMember),
+        Begun::Impl { .. } => Some(Site::Member),
+        Begun::Foreign { .. } => Some(Site::Foreign),
+    }
+}
+
+/// An item with what stands in its body, if it has one.
+pub fn with_body(begun: Begun, attrs: List<Attr>, items: List<Item>) -> ItemKind
+    ensures { result ≡ bodies.with_body begun attrs items }
+{
+    match begun {
+        Begun::Whole { kind } => kind,
+        Begun::Module { name } => ItemKind::Module { name, attrs, items },
+        Begun::Trait { head, wheres } => ItemKind::Trait {
+            head,
+            wheres,
+            attrs,
+            items,
+        },
+        Begun::Impl { head, wheres } => ItemKind::Impl {
+            head,
+            wheres,
+            attrs,
+            items,
+        },
+        Begun::Foreign { is_unsafe, abi } => ItemKind::Foreign {
+            is_unsafe,
+            abi,
+            attrs,
+            items,
+        },
+    }
+}

@@ -1,0 +1,28 @@
+//! What stands at the front of the tokens of a text.
+ghost use Rattle.lay_tree.specs.nodes.Facts.{Front};
+ghost use Rattle.lay_tree.specs.nodes.Item.{about_item};
+ghost use Rattle.lay_tree.specs.declared.item.Item.{Item as ItemValue};
+ghost use Rattle.lay_read_tokens.specs.Answers.{AreLexed};
+ghost use Rattle.lay_read_parts.specs.Answers.{IsReadAt};
+
+use crate::items::item_ahead;
+use lay_nest::Cursor;
+use lay_read_tokens::{Ahead, ReadNone};
+use lay_tree::{Item, Site};
+use std::alloc::Global;
+
+/// The item at the front, at its site and within the depth. Where there is none the cursor stays.
+pub fn read_item(
+    alloc: Global,
+    at: &mut Cursor<'_>,
+    site: Site,
+    depth: u32,
+) -> Result<Item, ReadNone>
+    requires { AreLexed at.old }
+    ensures { IsReadAt depth (λ (x : ItemValue). Front (about_item site x)) at.old result at.new }
+{
+    let mut ahead = Ahead::new(at.fork());
+    let found = item_ahead(alloc, &mut ahead, site, depth)?;
+    *at = ahead.into_cursor();
+    Ok(found.node)
+}

@@ -1,0 +1,102 @@
+//! What stands at the front of the tokens of a text, as what an item is.
+ghost use Rattle.lay_tree.specs.nodes.Facts.{by_itself};
+ghost use Rattle.lay_tree.specs.nodes.Heads.{about_alias, about_enum, about_extern_crate, about_struct, about_union, headed};
+ghost use Rattle.lay_tree.specs.declared.item.ItemKind.TheVariants as item;
+ghost use Rattle.lay_read_tokens.specs.Answers.{AreLexed, IsRead};
+ghost use Rattle.lay_read_parts.specs.Answers.{IsReadAt};
+ghost use Rattle.lay_read_heads.specs.Answers.{OfKind, StructFront};
+
+use crate::heads::{alias_ahead, enum_ahead, extern_crate_ahead, struct_ahead, union_ahead};
+use lay_nest::Cursor;
+use lay_read_tokens::front::is_at_keyword;
+use lay_read_tokens::{Ahead, ReadNone};
+use lay_tree::{ItemKind, Site};
+use std::alloc::Global;
+
+/// The struct or the union at the front, within the depth. What is within stands one level deeper. Where there is none
+/// the cursor stays.
+pub fn read_struct(alloc: Global, at: &mut Cursor<'_>, depth: u32) -> Result<ItemKind, ReadNone>
+    requires { AreLexed at.old }
+    ensures { IsReadAt depth StructFront at.old result at.new }
+{
+    let ahead = Ahead::new(at.fork());
+    if is_at_keyword(&ahead, b"union") {
+        read_union_alone(alloc, at, depth)
+    } else {
+        read_struct_alone(alloc, at, depth)
+    }
+}
+
+/// The struct at the front.
+fn read_struct_alone(alloc: Global, at: &mut Cursor<'_>, depth: u32) -> Result<ItemKind, ReadNone>
+    requires { AreLexed at.old }
+    ensures { IsReadAt depth (OfKind item.Struct (λ x. by_itself (headed (about_struct x)))) at.old result at.new }
+{
+    if depth == 0 {
+        return Err(ReadNone::NoReading);
+    }
+    let mut ahead = Ahead::new(at.fork());
+    let found = struct_ahead(alloc, &mut ahead, depth - 1)?;
+    *at = ahead.into_cursor();
+    Ok(ItemKind::Struct { item: found.node })
+}
+
+/// The union at the front.
+fn read_union_alone(alloc: Global, at: &mut Cursor<'_>, depth: u32) -> Result<ItemKind, ReadNone>
+    requires { AreLexed at.old }
+    ensures { IsReadAt depth (OfKind item.Union (λ x. by_itself (headed (about_union x)))) at.old result at.new }
+{
+    if depth == 0 {
+        return Err(ReadNone::NoReading);
+    }
+    let mut ahead = Ahead::new(at.fork());
+    let found = union_ahead(alloc, &mut ahead, depth - 1)?;
+    *at = ahead.into_cursor();
+    Ok(ItemKind::Union { item: found.node })
+}
+
+/// The enumeration at the front, within the depth. What is within stands one level deeper. Where there is none the cursor
+/// stays.
+pub fn read_enum(alloc: Global, at: &mut Cursor<'_>, depth: u32) -> Result<ItemKind, ReadNone>
+    requires { AreLexed at.old }
+    ensures { IsReadAt depth (OfKind item.Enum (λ x. by_itself (headed (about_enum x)))) at.old result at.new }
+{
+    if depth == 0 {
+        return Err(ReadNone::NoReading);
+    }
+    let mut ahead = Ahead::new(at.fork());
+    let found = enum_ahead(alloc, &mut ahead, depth - 1)?;
+    *at = ahead.into_cursor();
+    Ok(ItemKind::Enum { item: found.node })
+}
+
+/// The type alias at the front, as it stands at its site, within the depth. What is within stands one level deeper. Where
+/// there is none the cursor stays.
+pub fn read_alias(
+    alloc: Global,
+    at: &mut Cursor<'_>,
+    site: Site,
+    depth: u32,
+) -> Result<ItemKind, ReadNone>
+    requires { AreLexed at.old }
+    ensures { IsReadAt depth (OfKind item.Alias (λ x. by_itself (headed (about_alias site x)))) at.old result at.new }
+{
+    if depth == 0 {
+        return Err(ReadNone::NoReading);
+    }
+    let mut ahead = Ahead::new(at.fork());
+    let found = alias_ahead(alloc, &mut ahead, site, depth - 1)?;
+    *at = ahead.into_cursor();
+    Ok(ItemKind::Alias { item: found.node })
+}
+
+/// The extern crate declaration at the front. Where there is none the cursor stays.
+pub fn read_extern_crate(alloc: Global, at: &mut Cursor<'_>) -> Result<ItemKind, ReadNone>
+    requires { AreLexed at.old }
+    ensures { IsRead (OfKind item.ExternCrate (λ x. headed (about_extern_crate x))) at.old result at.new }
+{
+    let mut ahead = Ahead::new(at.fork());
+    let item = extern_crate_ahead(alloc, &mut ahead)?;
+    *at = ahead.into_cursor();
+    Ok(ItemKind::ExternCrate { item })
+}
