@@ -1,9 +1,7 @@
--- What reading of use trees and items leaves: the tokens behind those that are read.
+-- What reading of items leaves: the tokens behind those that are read.
 use Rattle.std.proofs.Common.{ℕ, zero, suc, ◌||◌, true, false, None, drop, codes, is_some, arith}
-use Rattle.lay_token.specs.Operators.{is_op}
 use Rattle.lay_piece.specs.declared.kind.Delim.TheVariants.{Brace}
 use Rattle.lay_tree.specs.Ahead.{Tokens, first, tail, is_keyword, is_mark, opens, closes}
-use Rattle.lay_tree.specs.Follow.{begins_there, OfColons}
 use Rattle.lay_tree.specs.nodes.Item.{is_inherited, may_lack_value, told_of_kind}
 use Rattle.lay_tree.specs.reader.Attr.{attributes}
 use Rattle.lay_tree.specs.reader.Call.{call, behind_end}
@@ -11,52 +9,22 @@ use Rattle.lay_tree.specs.reader.Functions.{fn_head, insides}
 use Rattle.lay_tree.specs.reader.Heads as heads
 use Rattle.lay_tree.specs.reader.Item as item
 use Rattle.lay_tree.specs.reader.Item.{ItemLead, OfAlias, OfCall, OfEnum, OfExternCrate, OfForeign, OfFunction, OfImpl, OfImport, OfModule, OfRules, OfStruct, OfTrait, OfUnion, OfValue}
-use Rattle.lay_tree.specs.reader.Loops.{Read, passed, elements}
+use Rattle.lay_tree.specs.reader.Loops.{passed}
 use Rattle.lay_tree.specs.reader.Tokens.{group}
 use Rattle.lay_tree.specs.reader.Types.{if_there, is_string_token, literal, within}
-use Rattle.lay_tree.specs.reader.Use.{renamed, use_word, use_group, use_end_by, ended, use_by, use_at}
+use Rattle.lay_tree.specs.reader.Use.{use_at}
 use Rattle.lay_tree.specs.reader.Vis.{visibility}
 use Rattle.lay_tree.specs.reader.Where.{wheres}
-use Rattle.lay_tree.specs.reader.Words.{name, word, global, path_words}
+use Rattle.lay_tree.specs.reader.Words.{name}
 use Rattle.lay_tree.specs.declared.heads.Site.{Site}
 use Rattle.lay_tree.specs.declared.heads.Site.TheVariants as site
-use Rattle.lay_tree.specs.declared.use_tree.UseTree.{UseTree}
-use Rattle.lay_read_tokens.proofs.Left.{Leaves, unread, dropped, joined, further, chain, chain_passed, choice, first_read, passed_left, op_read, global_left, repeat_left, elements_left, name_left, word_left, path_words_left, group_left, call_left, end_left, attributes_left}
+use Rattle.lay_read_tokens.proofs.Left.{Leaves, unread, dropped, joined, further, chain, chain_passed, choice, first_read, passed_left, repeat_left, name_left, group_left, call_left, end_left, attributes_left}
 use Rattle.lay_read_parts.proofs.Left.{flag_left, literal_left, there_left, weaker}
 use Rattle.lay_read_heads.proofs.Left.{vis_left}
 use Rattle.lay_read_generics.proofs.Left.{wheres_left}
-use Rattle.lay_read_heads.proofs.HeadsLeft.{alias_left, enum_left, extern_crate_left, fn_head_left, impl_head_left, renamed_left, struct_left, trait_head_left, union_left, value_head_left}
+use Rattle.lay_read_heads.proofs.HeadsLeft.{alias_left, enum_left, extern_crate_left, fn_head_left, impl_head_left, struct_left, trait_head_left, union_left, value_head_left}
 use Rattle.lay_read_code.specs.Begun.{deeper}
-
--- ---- use trees
-
-use_word_left : (ts : Tokens) → Leaves 1 ts (use_word ts)
-use_word_left ts = chain 1 1 0 ts (word ts) _ (omega arith) (word_left ts)
-    (λ w. chain 0 0 0 w.1 (renamed w.1) _ (omega arith) (renamed_left w.1) (λ r. unread r.1))
-
-ended_left : (tree : UseTree × ℕ) (ts : Tokens) → Leaves 0 ts (ended tree ts)
-ended_left tree ts = choice 0 ts (begins_there OfColons ts) None _ (λ h. tt) (unread ts)
-
-module _ (within : Tokens → Read UseTree) (within_left : (ts : Tokens) → Leaves 1 ts (within ts)) where
-  use_group_left : (ts : Tokens) → Leaves 1 ts (use_group within ts)
-  use_group_left ts =
-      chain 1 1 0 ts (elements (closes Brace) within ts) _ (omega arith)
-      (elements_left within within_left (closes Brace) ts) (λ trees. unread trees.1)
-
-  use_end_left : (ts : Tokens) → Leaves 1 ts (use_end_by within ts)
-  use_end_left ts = choice 1 ts (first (opens Brace) ts) _ _
-      (λ h. further 1 1 1 ts (tail ts) _ (omega arith) (first_read (opens Brace) ts h) (use_group_left (tail ts)))
-      (choice 1 ts (is_op (codes "*") ts) _ _ (λ h. op_read (codes "*") 0 ts h) (use_word_left ts))
-
-  use_by_left : (ts : Tokens) → Leaves 1 ts (use_by within ts)
-  use_by_left ts = further 1 0 1 ts (global ts).1 _ (omega arith) (global_left ts)
-      (chain 1 0 1 (global ts).1 (path_words (global ts).1) _ (omega arith) (path_words_left (global ts).1)
-      (λ p. chain 1 1 0 p.1 (use_end_by within p.1) _ (omega arith) (use_end_left p.1) (λ end. ended_left _ end.1)))
-
-pub use_left : (depth : ℕ) (ts : Tokens) → Leaves 1 ts (use_at depth ts)
-unfolding use_at
-use_left zero ts = tt
-use_left (suc depth) ts = use_by_left (use_at depth) (use_left depth) ts
+use Rattle.lay_read_heads.proofs.UseLeft.{use_left}
 
 -- ---- items
 

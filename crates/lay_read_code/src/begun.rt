@@ -12,7 +12,6 @@ ghost use Rattle.lay_read_code.specs.Begun.{deeper, node_alone, whole};
 ghost use Rattle.lay_read_code.specs.Leads.{told};
 
 use crate::leads::{ItemLead, item_lead, may_stand};
-use crate::uses::read_use;
 use lay_read_generics::wheres_ahead;
 use lay_read_heads::functions::fn_head_ahead;
 use lay_read_heads::heads::{
@@ -20,6 +19,7 @@ use lay_read_heads::heads::{
     union_ahead, value_head_ahead,
 };
 use lay_read_heads::level::{kept_if, takes_flag};
+use lay_read_heads::uses::use_ahead;
 use lay_read_parts::joins::both;
 use lay_read_parts::parts::read_abi_if;
 use lay_read_tokens::calls::{call_ahead, takes_end};
@@ -132,7 +132,7 @@ fn begin_import(alloc: Global, at: &mut Ahead<'_>, depth: u32) -> Result<Found<B
     if !takes_keyword(at, b"use") {
         return Err(ReadNone::NoReading);
     }
-    let Found { node, need } = read_use(alloc, at, depth)?;
+    let Found { node, need } = use_ahead(alloc, at, depth)?;
     let tree = boxed(alloc, node)?;
     let keeps = takes_mark(at, b";");
     kept_if(whole_item(ItemKind::Import { tree }, need), keeps)

@@ -12,7 +12,6 @@ mod file;
 mod items;
 mod leads;
 mod reads;
-mod uses;
 
 pub use file::read_file;
 pub use reads::read_item;

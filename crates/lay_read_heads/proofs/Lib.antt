@@ -1,5 +1,7 @@
 pub mod Left
 pub mod HeadsLeft
+pub mod UseLeft
+pub mod UseSteps
 pub mod Steps
 pub mod AtFront
 pub mod AsKinds

@@ -5,12 +5,12 @@ ghost use Rattle.lay_tree.specs.nodes.Heads as nodes;
 ghost use Rattle.lay_tree.specs.nodes.Types.{is_there};
 ghost use Rattle.lay_tree.specs.reader.Heads as reader;
 ghost use Rattle.lay_tree.specs.reader.Types.{within};
-ghost use Rattle.lay_tree.specs.reader.Use.{renamed};
 ghost use Rattle.lay_read_tokens.specs.Answers.{IsFound, IsGot};
 ghost use Rattle.lay_read_heads.specs.Answers.{named_struct};
 
 use crate::fields::{named_fields_ahead, tuple_fields_ahead, variants_ahead};
 use crate::level::{kept_if, met_if, takes_flag, type_if};
+use crate::uses::read_rename;
 use lay_read_generics::{generics_ahead, wheres_ahead};
 use lay_read_parts::joins::both;
 use lay_read_pats::facts::{is_name, is_self};
@@ -23,8 +23,8 @@ use lay_read_tokens::{Ahead, Found, ReadNone};
 use lay_read_types::{path_ahead, type_ahead};
 use lay_token::Delim;
 use lay_tree::{
-    Alias, Enum, ExternCrate, Fields, Generics, GivenName, ImplHead, Name, PathStyle, Site, Struct,
-    TraitHead, TraitRef, Ty, TypePlace, Union, ValueHead, Wheres, Word,
+    Alias, Enum, ExternCrate, Fields, Generics, ImplHead, Name, PathStyle, Site, Struct, TraitHead,
+    TraitRef, Ty, TypePlace, Union, ValueHead, Wheres, Word,
 };
 use std::alloc::Global;
 
@@ -47,18 +47,6 @@ fn called(
         node: (name, node.0),
         need,
     })
-}
-
-/// What follows a word: `as` and another name, or nothing of it.
-#[tactic(auto, unfolding(lay_tree::specs::reader::Use::renamed))]
-fn read_rename(alloc: Global, at: &mut Ahead<'_>) -> Result<Option<GivenName>, ReadNone>
-    ensures { IsGot (renamed at.old) result at.new }
-{
-    if !takes_keyword(at, b"as") {
-        return Ok(None);
-    }
-    let rename = read_given_name(alloc, at)?;
-    Ok(Some(rename))
 }
 
 /// Whether a crate may be called by the word.

@@ -1,22 +1,25 @@
 //! What stands at the front of the tokens of a text.
-ghost use Rattle.lay_tree.specs.nodes.Facts.{ToldFront, by_itself};
+ghost use Rattle.lay_tree.specs.nodes.Facts.{Front, ToldFront, by_itself};
 ghost use Rattle.lay_tree.specs.nodes.Functions.{about_fn_head};
 ghost use Rattle.lay_tree.specs.nodes.Heads.{TraitHeadFront, about_impl_head, about_value_head};
+ghost use Rattle.lay_tree.specs.nodes.Use.{about_use};
 ghost use Rattle.lay_tree.specs.nodes.Vis.{about_vis};
 ghost use Rattle.lay_tree.specs.reader.Vis.{visibility};
 ghost use Rattle.lay_tree.specs.declared.functions.FnHead.{FnHead as FnHeadValue};
 ghost use Rattle.lay_tree.specs.declared.heads.ImplHead.{ImplHead as ImplHeadValue};
 ghost use Rattle.lay_tree.specs.declared.heads.ValueHead.{ValueHead as ValueHeadValue};
+ghost use Rattle.lay_tree.specs.declared.use_tree.UseTree.{UseTree as UseTreeValue};
 ghost use Rattle.lay_tree.specs.declared.vis.Vis.{Vis as VisValue};
 ghost use Rattle.lay_read_tokens.specs.Answers.{AreLexed, IsGot, IsRead};
 ghost use Rattle.lay_read_parts.specs.Answers.{IsReadAt};
 
 use crate::functions::fn_head_ahead;
 use crate::heads::{impl_head_ahead, trait_head_ahead, value_head_ahead};
+use crate::uses::use_ahead;
 use crate::vis::vis_ahead;
 use lay_nest::Cursor;
 use lay_read_tokens::{Ahead, ReadNone};
-use lay_tree::{FnHead, ImplHead, Site, TraitHead, ValueHead, Vis};
+use lay_tree::{FnHead, ImplHead, Site, TraitHead, UseTree, ValueHead, Vis};
 use std::alloc::Global;
 
 /// The visibility at the front, which may be nothing. Where it can't be read the cursor stays.
@@ -100,6 +103,17 @@ pub fn read_impl_head(alloc: Global, at: &mut Cursor<'_>, depth: u32) -> Result<
     }
     let mut ahead = Ahead::new(at.fork());
     let found = impl_head_ahead(alloc, &mut ahead, depth - 1)?;
+    *at = ahead.into_cursor();
+    Ok(found.node)
+}
+
+/// The use tree at the front, within the depth. Where there is none the cursor stays.
+pub fn read_use(alloc: Global, at: &mut Cursor<'_>, depth: u32) -> Result<UseTree, ReadNone>
+    requires { AreLexed at.old }
+    ensures { IsReadAt depth (λ (x : UseTreeValue). Front (about_use x)) at.old result at.new }
+{
+    let mut ahead = Ahead::new(at.fork());
+    let found = use_ahead(alloc, &mut ahead, depth)?;
     *at = ahead.into_cursor();
     Ok(found.node)
 }

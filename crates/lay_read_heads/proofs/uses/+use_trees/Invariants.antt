@@ -5,13 +5,13 @@ use Rattle.lay_tree.specs.reader.Loops.{elements_from, elements}
 use Rattle.lay_tree.specs.reader.Use.{use_at}
 use Rattle.lay_read_tokens.proofs.Turns.{Turn, Held}
 use Rattle.lay_read_tokens.proofs.Holding.{Holding}
-use Rattle.lay_read_code.proofs.uses.+use_trees.Given as goal
+use Rattle.lay_read_heads.proofs.uses.+use_trees.Given as goal
 
 abbrev pub decreases-read_group : goal.decreases-read_group
 decreases-read_group l = 3 * l.depth + 1
 
-abbrev pub decreases-read_use : goal.decreases-read_use
-decreases-read_use l = 3 * l.depth
+abbrev pub decreases-use_ahead : goal.decreases-use_ahead
+decreases-use_ahead l = 3 * l.depth
 
 abbrev pub decreases-read_use_end : goal.decreases-read_use_end
 decreases-read_use_end l = 3 * l.depth + 2

@@ -19,7 +19,7 @@ use std::alloc::Global;
 /// A use tree, within a depth.
 #[cycle(use_trees)]
 #[tactic(auto, unfolding(lay_tree::specs::reader::Use::use_at))]
-pub fn read_use(alloc: Global, at: &mut Ahead<'_>, depth: u32) -> Result<Found<UseTree>, ReadNone>
+pub fn use_ahead(alloc: Global, at: &mut Ahead<'_>, depth: u32) -> Result<Found<UseTree>, ReadNone>
     ensures read { IsFound (reader.use_at depth at.old) result at.new }
     ensures within { IfOk result (λ found. found.need ≤ depth) }
 {
@@ -69,7 +69,7 @@ fn read_group(alloc: Global, at: &mut Ahead<'_>, depth: u32) -> Result<Found<Use
     let mut trees = List::new(alloc);
     let mut need = 0;
     while !takes_closer(at, Delim::Brace) {
-        let tree = read_use(alloc, at, depth)?;
+        let tree = use_ahead(alloc, at, depth)?;
         need = greater(need, tree.need);
         keep(&mut trees, tree.node)?;
         if !takes_element_end(at, Delim::Brace) {
@@ -97,7 +97,7 @@ fn read_use_word(alloc: Global, at: &mut Ahead<'_>) -> Result<Found<UseEnd>, Rea
 
 /// What follows a word: `as` and another name, or nothing of a use tree.
 #[tactic(auto, unfolding(lay_tree::specs::reader::Use::renamed))]
-fn read_rename(alloc: Global, at: &mut Ahead<'_>) -> Result<Option<GivenName>, ReadNone>
+pub fn read_rename(alloc: Global, at: &mut Ahead<'_>) -> Result<Option<GivenName>, ReadNone>
     ensures { IsGot (reader.renamed at.old) result at.new }
 {
     if !takes_keyword(at, b"as") {
