@@ -1,7 +1,10 @@
 -- Names and words (Rust Reference, "Identifiers", "Keywords").
-use Rattle.std.specs.Prelude.{ℕ, Bool, true, false, ◌||◌, List, [], ◌∷◌, codes, is_some}
+use Rattle.std.specs.Prelude.{ℕ, Bool, true, false, cond, ◌||◌, ◌==◌, List, [], ◌∷◌, codes, is_some}
 use Rattle.std.specs.List.{list_all}
 use Rattle.std.specs.Str.{chars, bytes_eq}
+use Rattle.lay_piece.specs.Characters as char
+use Rattle.lay_piece.specs.Chars.{after, is_nil, in_digits}
+use Rattle.lay_piece.specs.Number.{is_bare_int, is_exponent_letter, is_sign}
 use Rattle.lay_piece.specs.Value.{value_of}
 use Rattle.lay_piece.specs.Word.{class_of}
 use Rattle.lay_piece.specs.declared.kind.Kind.{Kind}
@@ -58,6 +61,28 @@ abbrev pub is_number : Kind → Bool
 is_number kind.Int = true
 is_number kind.Float = true
 is_number _ = false
+
+-- ---- numbers without suffix
+
+abbrev pub behind_sign : List ℕ → List ℕ
+behind_sign [] = []
+behind_sign (c ∷ cs) = cond (is_sign c) cs (c ∷ cs)
+
+-- what stands behind an exponent, if there is one
+abbrev pub behind_exponent : List ℕ → List ℕ
+behind_exponent [] = []
+behind_exponent (c ∷ cs) = cond (is_exponent_letter c) (after in_digits (behind_sign cs)) (c ∷ cs)
+
+-- what stands behind a fraction and an exponent, if there are any
+abbrev pub behind_fraction : List ℕ → List ℕ
+behind_fraction [] = []
+behind_fraction (c ∷ cs) = cond (c == char.point) (behind_exponent (after in_digits cs)) (behind_exponent (c ∷ cs))
+
+-- A number has no suffix (Rust Reference, "Number literals").
+abbrev pub is_bare_number : Kind → List ℕ → Bool
+is_bare_number kind.Int text = is_bare_int (chars text)
+is_bare_number kind.Float text = is_nil (behind_fraction (after in_digits (chars text)))
+is_bare_number _ text = false
 
 -- a string without suffix
 abbrev pub is_string : Kind → List ℕ → Bool

@@ -7,6 +7,8 @@ pub mod Types
 pub mod Generics
 pub mod Where
 pub mod Patterns
+pub mod Places
+pub mod Exprs
 pub mod Vis
 pub mod Fields
 pub mod Functions

@@ -12,6 +12,7 @@ pub mod Types
 pub mod Generics
 pub mod Where
 pub mod Patterns
+pub mod Exprs
 pub mod Vis
 pub mod Fields
 pub mod Functions

@@ -10,6 +10,7 @@
 
 pub mod attr;
 pub mod boxed;
+pub mod exprs;
 pub mod fields;
 pub mod file;
 pub mod functions;
@@ -17,6 +18,7 @@ pub mod generics;
 pub mod heads;
 pub mod item;
 mod laws;
+pub mod operators;
 pub mod patterns;
 pub mod simple_path;
 pub mod token;
@@ -27,6 +29,7 @@ pub mod vis;
 
 pub use attr::{Attr, MetaInput, MetaPath};
 pub use boxed::Boxed;
+pub use exprs::{Expr, FieldExpr, Place, Start, Step};
 pub use fields::{Field, Fields, TupleField, Variant};
 pub use file::File;
 pub use functions::{FnHead, Param, ParamKind, Safety};
@@ -36,6 +39,7 @@ pub use heads::{
 };
 pub use item::{Item, ItemKind};
 pub use laws::{node_law, reading_law};
+pub use operators::{Op, Prefix};
 pub use patterns::{FieldPat, Pat, PatPlace, PatValue, SpanEnd};
 pub use simple_path::SimplePath;
 pub use token::{GivenName, Lifetime, Listed, Literal, Name, Word};

@@ -1,0 +1,172 @@
+//! Expressions, and the places where they stand.
+use crate::attr::Attr;
+use crate::boxed::Boxed;
+use crate::operators::{Op, Prefix};
+use crate::token::{Lifetime, Literal, Name};
+use crate::tokens::{MacroCall, Tokens};
+use crate::types::{Arg, Path, Ty};
+use lay_token::{List, Text};
+
+/// Whether an expression begins a statement or the body of an arm, and is the whole of it or a part.
+#[derive(Clone, Copy)]
+pub enum Start {
+    No,
+    Whole,
+    Part,
+}
+
+/// The place where an expression stands.
+#[derive(Clone, Copy)]
+pub struct Place {
+    /// The least level of an expression that may stand here, from 0 to 14.
+    pub level: u8,
+    /// No struct literal may stand here, as in a condition.
+    pub no_struct: bool,
+    pub start: Start,
+    /// An operator follows.
+    pub op_after: bool,
+    /// The operator `<` or `<<` follows.
+    pub lt_after: bool,
+}
+
+/// An expression (Rust Reference, "Expressions"). One within another stands one level deeper.
+#[cycle(exprs)]
+#[derive(Drop)]
+pub enum Expr {
+    /// `1`, `true`, `"a"`
+    Lit {
+        literal: Literal,
+    },
+    /// `a`, `a::B`, `A::<B>::c`
+    Path {
+        path: Path,
+    },
+    /// `_`, on the left of an assignment
+    Underscore,
+    /// `m!(a)`
+    Call {
+        call: MacroCall,
+    },
+    /// `(a)`
+    Paren {
+        inner: Boxed<Expr>,
+    },
+    /// `continue 'a`
+    Continue {
+        label: Option<Lifetime>,
+    },
+    /// `(a, b)`
+    Tuple {
+        elements: List<Expr>,
+    },
+    /// `[a, b]`
+    Array {
+        elements: List<Expr>,
+    },
+    /// `[a; 2]`
+    Repeat {
+        element: Boxed<Expr>,
+        length: Tokens,
+    },
+    /// `A { b: c, 0: d, e, ..f }`, where the base behind `..` may be left out
+    Struct {
+        path: Path,
+        fields: List<FieldExpr>,
+        base: Option<Option<Boxed<Expr>>>,
+    },
+    /// `a + b - c`: operators of one level, and not the first operand's
+    Chain {
+        first: Boxed<Expr>,
+        rest: List<(Op, Expr)>,
+    },
+    /// `a as B as C`, of one type at least
+    Cast {
+        operand: Boxed<Expr>,
+        types: List<Ty>,
+    },
+    /// `-*a`, of one operator at least
+    Unary {
+        prefixes: List<Prefix>,
+        operand: Boxed<Expr>,
+    },
+    /// `a..b`, `a..`, `..=b`, `..`
+    Range {
+        start: Option<Boxed<Expr>>,
+        inclusive: bool,
+        end: Option<Boxed<Expr>>,
+    },
+    /// `a = b += c`, of one target at least
+    Assign {
+        targets: List<(Expr, Op)>,
+        value: Boxed<Expr>,
+    },
+    /// `a.b.0.c::<D>(e)(f)[g]?.await`, of one step at least
+    Postfix {
+        base: Boxed<Expr>,
+        steps: List<Step>,
+    },
+    /// `return a`
+    Return {
+        operand: Option<Boxed<Expr>>,
+    },
+    /// `break 'a b`
+    Break {
+        label: Option<Lifetime>,
+        operand: Option<Boxed<Expr>>,
+    },
+}
+
+/// A field in a struct literal (Rust Reference, "Struct expressions").
+#[cycle(exprs)]
+#[derive(Drop)]
+pub enum FieldExpr {
+    /// `a: b`
+    Named {
+        attrs: List<Attr>,
+        name: Name,
+        value: Expr,
+    },
+    /// `0: b`
+    Numbered {
+        attrs: List<Attr>,
+        index: Text,
+        value: Expr,
+    },
+    /// `a`: the field and its value have this name
+    Short {
+        attrs: List<Attr>,
+        name: Name,
+    },
+}
+
+/// What follows the base of a postfix expression.
+#[cycle(exprs)]
+#[derive(Drop)]
+pub enum Step {
+    /// `.a`
+    Field {
+        name: Name,
+    },
+    /// `.0`
+    TupleIndex {
+        index: Text,
+    },
+    /// `.a::<B>(c)`
+    Method {
+        name: Name,
+        generics: Option<List<Arg>>,
+        args: List<Expr>,
+    },
+    /// `(a, b)`: a call
+    Apply {
+        args: List<Expr>,
+    },
+    /// `[a]`
+    Index {
+        index: Expr,
+    },
+    /// `?`
+    Try,
+    /// `.await`
+    Await,
+}
