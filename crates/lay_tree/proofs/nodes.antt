@@ -3,3 +3,4 @@ pub mod UseLaws
 pub mod ItemLaws
 pub mod TypesLaws
 pub mod PatternsLaws
+pub mod ExprsLaws

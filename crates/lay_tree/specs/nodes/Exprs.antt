@@ -7,7 +7,7 @@ use Rattle.lay_piece.specs.Number.{is_index}
 use Rattle.lay_piece.specs.declared.kind.Delim.{Delim}
 use Rattle.lay_piece.specs.declared.kind.Delim.TheVariants.{Paren, Bracket, Brace}
 use Rattle.lay_piece.specs.declared.kind.Kind.TheVariants as kind
-use Rattle.lay_form.specs.Form.{Bit, Blank, Fixed, Operator, Form, Done, Piece, Leaf, Part, Deeper, punct, keyword, opener, closer, semicolon}
+use Rattle.lay_form.specs.Form.{Bit, Blank, Fixed, Operator, Form, Done, Piece, Leaf, Part, punct, keyword, opener, closer, semicolon}
 use Rattle.lay_form.specs.Notation.{Z, B, N, Z-, C4, I4, piece, comma_list, braces, behind_attrs}
 use Rattle.lay_form.specs.Spelled as spelled
 use Rattle.lay_tree.specs.Ahead.{Tokens, first, is_keyword, is_lifetime, opens}
@@ -33,14 +33,10 @@ use Rattle.lay_tree.specs.declared.operators.Op.{Op}
 use Rattle.lay_tree.specs.declared.operators.Prefix.{Prefix}
 use Rattle.lay_tree.specs.declared.operators.Prefix.TheVariants as before
 use Rattle.lay_tree.specs.declared.token.Lifetime.{Lifetime}
-use Rattle.lay_tree.specs.declared.token.Literal.{Literal}
-use Rattle.lay_tree.specs.declared.token.Name.{Name}
 use Rattle.lay_tree.specs.declared.token.Word.{Word}
-use Rattle.lay_tree.specs.declared.tokens.MacroCall.{MacroCall}
 use Rattle.lay_tree.specs.declared.types.Arg.{Arg}
 use Rattle.lay_tree.specs.declared.types.Path.{Path}
 use Rattle.lay_tree.specs.declared.types.PathStyle.TheVariants.{Code}
-use Rattle.lay_tree.specs.declared.types.Ty.{Ty}
 use Rattle.lay_tree.specs.declared.types.TypePlace.TheVariants.{NoBounds}
 
 -- ---- what an expression ends in

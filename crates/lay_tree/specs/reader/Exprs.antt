@@ -1,5 +1,5 @@
 -- Reading expressions. What begins one is read first, and then each operator behind it, from the strongest on.
-use Rattle.std.specs.Prelude.{ℕ, zero, suc, max, ◌==◌, nat_le, ◌&&◌, ◌||◌, not, Bool, true, false, if◌then◌else◌, List, [], ◌∷◌, length, drop, codes, Option, Some, None, is_some}
+use Rattle.std.specs.Prelude.{ℕ, zero, suc, max, ◌==◌, nat_le, ◌&&◌, not, Bool, true, false, if◌then◌else◌, List, [], ◌∷◌, length, drop, codes, Option, Some, None, is_some}
 use Rattle.std.specs.Str.{chars}
 use Rattle.lay_piece.specs.Number.{is_index}
 use Rattle.lay_piece.specs.declared.kind.Delim.TheVariants.{Paren, Bracket, Brace}
@@ -17,7 +17,7 @@ use Rattle.lay_tree.specs.reader.Call.{call}
 use Rattle.lay_tree.specs.reader.Loops.{Got, Read, ◌>>=◌, passed, nodes, deepest, repeat, elements, open_elements}
 use Rattle.lay_tree.specs.reader.Patterns.{begins_field, index, is_int}
 use Rattle.lay_tree.specs.reader.Tokens.{tokens}
-use Rattle.lay_tree.specs.reader.Types.{Within, angle, angled, begins_call, if_read, if_there, lifetime, literal, one_arg, path, within}
+use Rattle.lay_tree.specs.reader.Types.{Within, angled, begins_call, if_read, if_there, lifetime, literal, one_arg, path, within}
 use Rattle.lay_tree.specs.reader.Words.{name}
 use Rattle.lay_tree.specs.declared.attr.Attr.{Attr}
 use Rattle.lay_tree.specs.declared.exprs.Expr.{Expr}
