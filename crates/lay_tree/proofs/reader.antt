@@ -86,3 +86,5 @@ pub mod FunctionsBegins
 pub mod FunctionsComplete
 pub mod StructsComplete
 pub mod StructsExact
+pub mod ExprSoundLevel
+pub mod ExprReads

@@ -1,0 +1,27 @@
+-- Expressions that are spelled: what is read one level deeper, and what begins an expression.
+use Rattle.std.proofs.Common.{◌≡◌, ℕ, suc, Bool, true, Some}
+use Rattle.lay_form.specs.Spelled.{Spells}
+use Rattle.lay_tree.specs.Ahead.{Tokens}
+use Rattle.lay_tree.specs.Operands.{expr_lead_at}
+use Rattle.lay_tree.specs.nodes.Exprs.{about_expr, follows, placed}
+use Rattle.lay_tree.specs.reader.Exprs.{ExprWithin, head_by}
+use Rattle.lay_tree.specs.reader.Loops.{Read}
+use Rattle.lay_tree.specs.declared.exprs.Expr.{Expr}
+use Rattle.lay_tree.specs.declared.exprs.Place.{Place}
+use Rattle.lay_tree.proofs.reader.Exact.{IsRead}
+use Rattle.lay_tree.proofs.reader.TypesComplete as types
+
+-- What is one level deeper is read.
+pub record ExprReads (depth : ℕ) (within : ExprWithin) : Type 0 where
+  pub exprs : (place : Place) (x : Expr) (ts rest : Tokens) → Spells (about_expr x).form depth ts rest → placed (about_expr x) place ≡ true
+      → follows (about_expr x) place rest ≡ true → IsRead depth (within.exprs place) x ts rest
+  pub kinds : types.Reads depth within.kinds
+
+-- What begins an expression, at the front of the tokens.
+abbrev pub head_at : ExprWithin → Bool → Tokens → Read Expr
+head_at within no_struct ts = head_by within no_struct (expr_lead_at ts) ts
+
+-- It is read as what begins an expression, and told by the first token.
+pub record HeadRead (depth : ℕ) (within : ExprWithin) (no_struct : Bool) (x : Expr) (ts rest : Tokens) : Type 0 where
+  pub lead : expr_lead_at ts ≡ Some (about_expr x).lead
+  pub read : IsRead (suc depth) (head_at within no_struct) x ts rest
