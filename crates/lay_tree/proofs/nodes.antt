@@ -4,3 +4,4 @@ pub mod ItemLaws
 pub mod TypesLaws
 pub mod PatternsLaws
 pub mod ExprsLaws
+pub mod PlacesTable
