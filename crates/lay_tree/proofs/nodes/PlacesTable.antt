@@ -1,20 +1,31 @@
 -- The table of the places of expressions. A place where an operator follows asks that of each expression that ends where
 -- the node ends: the definitions ask it of the node's tail, and the table hands it down to the last child. Here both are
 -- one, kind by kind.
-use Rattle.std.proofs.Common.{◌≡◌, ℕ, suc, ◌==◌, Bool, true, false, not, ◌&&◌, ◌||◌, List, [], ◌∷◌, Option, Some, None, refl, sym, subst}
+use Rattle.std.proofs.Common.{◌≡◌, ℕ, suc, ◌≤◌, ◌==◌, Bool, true, false, not, ◌&&◌, ◌||◌, if◌then◌else◌, List, [], ◌∷◌, ◌++◌, map, Option, Some, None, refl, sym, ap, subst, ◌∙◌, arith}
 use Rattle.std.specs.Prelude.{nat_le}
-use Rattle.std.proofs.lemmas.Bool.{and_parts, and_from}
-use Rattle.lay_tree.specs.Operators.{op_level, is_angle_op}
-use Rattle.lay_tree.specs.nodes.Exprs.{Tail, ExprFacts, is_open, is_typed, may, stands, placed, expr_facts, is_prefix_lead, begins_free, start_placed, targets_placed, is_chain_level, may_chain, operands_placed, tail_of_operands}
-use Rattle.lay_tree.specs.nodes.Places.{plain, before_op, begins, is_part}
-use Rattle.lay_tree.specs.nodes.Types.{is_there}
+use Rattle.std.proofs.lemmas.Bool.{and_parts, and_from, leb-true, le-leb}
+use Rattle.lay_tree.specs.Ahead.{Tokens}
+use Rattle.lay_tree.specs.Follow.{OfBang, OfColons}
+use Rattle.lay_tree.specs.Operators.{op_level, is_angle_op, strength}
+use Rattle.lay_tree.specs.nodes.Exprs.{StepFacts, Tail, ExprFacts, shut, shut_by, is_open, is_typed, is_field, may, stands, placed, root_follows, tail_follows, follows, expr_facts, ends_in_amp, is_prefix_lead, begins_free, start_placed, targets_placed, is_chain_level, may_chain, operands_placed, tail_of_operands, tail_of_steps, lacks_args}
+use Rattle.lay_tree.specs.nodes.Facts.{Facts}
+use Rattle.lay_tree.specs.nodes.Places.{plain, before_op, begins, is_part, is_whole}
+use Rattle.lay_tree.specs.nodes.Types.{ArgsFacts, PathFacts, about_args, about_path, about_start, is_there, path_facts, segment_good, segments_good, segments_refuse}
 use Rattle.lay_tree.specs.declared.exprs.Expr.TheOpen.{Expr-F}
 use Rattle.lay_tree.specs.declared.exprs.Place.{Place}
 use Rattle.lay_tree.specs.declared.exprs.Start.TheVariants as start
 use Rattle.lay_tree.specs.declared.operators.Op.{Op}
 use Rattle.lay_tree.specs.declared.operators.Prefix.{Prefix}
 use Rattle.lay_tree.specs.declared.token.Lifetime.{Lifetime}
+use Rattle.lay_tree.specs.declared.token.Listed.{Listed}
+use Rattle.lay_tree.specs.declared.token.Literal.{Literal}
+use Rattle.lay_tree.specs.declared.token.Word.{Word}
+use Rattle.lay_tree.specs.declared.tokens.MacroCall.{MacroCall}
+use Rattle.lay_tree.specs.declared.types.Args.{Args}
+use Rattle.lay_tree.specs.declared.types.Path.{Path}
+use Rattle.lay_tree.specs.declared.types.PathStyle.TheVariants.{Code}
 use Rattle.lay_tree.specs.declared.types.Ty.{Ty}
+use Rattle.lay_tree.proofs.nodes.TypesLaws.{ArgsView, IsNone, IsAngle, IsRound, args_view, args_none_is, args_angle_is, args_round_is, path_is, about_segment}
 
 abbrev Iff : Type 0 → Type 0 → Type 0
 Iff A B = (A → B) × (B → A)
@@ -279,3 +290,130 @@ module _ (p : Place) where
 
   pub cast_row : (x : ExprFacts) (types : List Ty) → let F = expr_facts (Expr-F.Cast x types) in placed F p ≡ (may F p && F.within p.no_struct (begins p.start))
   cast_row x types = root_row p (expr_facts (Expr-F.Cast x types)) refl refl
+
+  -- ---- the kinds that no operator is asked of
+
+  pub literal_row : (l : Literal) → let F = expr_facts (Expr-F.Lit l) in placed F p ≡ (may F p && F.within p.no_struct (begins p.start))
+  literal_row l = root_row p (expr_facts (Expr-F.Lit l)) refl refl
+
+  pub underscore_row : let F = expr_facts Expr-F.Underscore in placed F p ≡ (may F p && F.within p.no_struct (begins p.start))
+  underscore_row = root_row p (expr_facts Expr-F.Underscore) refl refl
+
+  pub call_row : (c : MacroCall) → let F = expr_facts (Expr-F.Call c) in placed F p ≡ (may F p && F.within p.no_struct (begins p.start))
+  call_row c = root_row p (expr_facts (Expr-F.Call c)) refl refl
+
+  pub paren_row : (x : ExprFacts) → let F = expr_facts (Expr-F.Paren x) in placed F p ≡ (may F p && F.within p.no_struct (begins p.start))
+  paren_row x = root_row p (expr_facts (Expr-F.Paren x)) refl refl
+
+  pub continue_row : (label : Option Lifetime) → let F = expr_facts (Expr-F.Continue label) in placed F p ≡ (may F p && F.within p.no_struct (begins p.start))
+  continue_row label = root_row p (expr_facts (Expr-F.Continue label)) refl refl
+
+  pub tuple_row : (xs : List ExprFacts) → let F = expr_facts (Expr-F.Tuple xs) in placed F p ≡ (may F p && F.within p.no_struct (begins p.start))
+  tuple_row xs = root_row p (expr_facts (Expr-F.Tuple xs)) refl refl
+
+  pub array_row : (xs : List ExprFacts) → let F = expr_facts (Expr-F.Array xs) in placed F p ≡ (may F p && F.within p.no_struct (begins p.start))
+  array_row xs = root_row p (expr_facts (Expr-F.Array xs)) refl refl
+
+  pub repeat_row : (x : ExprFacts) (length : List Listed) → let F = expr_facts (Expr-F.Repeat x length) in placed F p ≡ (may F p && F.within p.no_struct (begins p.start))
+  repeat_row x length = root_row p (expr_facts (Expr-F.Repeat x length)) refl refl
+
+  pub struct_row : (path : Path) (fields : List Facts) (base : Option (Option ExprFacts)) →
+      let F = expr_facts (Expr-F.Struct path fields base) in placed F p ≡ (may F p && F.within p.no_struct (begins p.start))
+  struct_row path fields base = root_row p (expr_facts (Expr-F.Struct path fields base)) refl refl
+
+  pub postfix_row : (x : ExprFacts) (steps : List StepFacts) → let F = expr_facts (Expr-F.Postfix x steps) in placed F p ≡ (may F p && F.within p.no_struct (begins p.start))
+  postfix_row x steps = let t = steps_shut steps in root_row p (expr_facts (Expr-F.Postfix x steps)) t.0 t.1
+    where
+      last : (b : Bool) → (is_open (if b then shut_by (OfColons ∷ []) else shut) ≡ false) × (is_typed (if b then shut_by (OfColons ∷ []) else shut) ≡ false)
+      last true = (refl, refl)
+      last false = (refl, refl)
+
+      steps_shut : (steps : List StepFacts) → (is_open (tail_of_steps steps) ≡ false) × (is_typed (tail_of_steps steps) ≡ false)
+      steps_shut [] = (refl, refl)
+      steps_shut (s ∷ []) = last (is_field s.kind)
+      steps_shut (s ∷ t ∷ more) = steps_shut (t ∷ more)
+
+  -- In code a path refuses no generic arguments, as a type does.
+  pub path_row : (path : Path) → (about_path path Code).good ≡ true →
+      let F = expr_facts (Expr-F.Path path) in placed F p ≡ (may F p && F.within p.no_struct (begins p.start))
+  path_row path good = root_row p (expr_facts (Expr-F.Path path)) refl (code_path path good)
+    where
+      by : (a : Args) → ArgsView a → (about_args a).code.good ≡ true → lacks_args (about_args a).code.refuses ≡ false
+      by _ IsNone h = subst (λ (F : ArgsFacts). lacks_args F.code.refuses ≡ false) (sym args_none_is) refl
+      by _ (IsAngle xs) h = subst (λ (F : ArgsFacts). lacks_args F.code.refuses ≡ false) (sym (args_angle_is xs)) refl
+      by _ (IsRound xs y) h = let e = sym (ap (λ (F : ArgsFacts). F.code.good) (args_round_is xs y)) ∙ h in absurd (cc)
+
+      segments : (ss : List (Word × Args)) → segments_good Code (map about_segment ss) ≡ true → lacks_args (segments_refuse Code (map about_segment ss)) ≡ false
+      segments [] h = absurd (cc)
+      segments (s ∷ []) h = by s.1 (args_view s.1) (and_parts _ (about_args s.1).code.good h).1
+      segments (s ∷ v ∷ more) h =
+          segments (v ∷ more)
+          (and_parts (segment_good Code (about_segment s) && not (about_args s.1).returns) (segments_good Code (map about_segment (v ∷ more))) h).1
+
+      code_path : (path : Path) → (about_path path Code).good ≡ true → is_typed (expr_facts (Expr-F.Path path)).tail ≡ false
+      code_path path g =
+          let e = path_is path in
+          let F = path_facts (record { start = about_start path.start; segments = map about_segment path.segments }) in
+          let goods : (F Code).good ≡ true = sym (ap (λ (x : PathFacts). (x Code).good) e) ∙ g in
+          let here : lacks_args (F Code).refuses ≡ false = segments path.segments (and_parts (about_start path.start).good (segments_good Code (map about_segment path.segments)) goods).1 in
+          subst (λ (x : PathFacts). lacks_args (OfBang ∷ (x Code).refuses) ≡ false) (sym e) here
+
+-- ---- what may follow
+
+-- What goes on with a node, and with the child that ends where it ends, each at its own place.
+module _ (p : Place) (ts : Tokens) where
+  -- where the child stands with the rest as the node's, at a level that is no lower
+  last_follows : (F x : ExprFacts) (level : ℕ) → F.block_like ≡ false → p.level ≤ level
+      → (tail_follows F.tail p.no_struct ts ≡ tail_follows x.tail p.no_struct ts)
+      → Iff (follows F p ts ≡ true) ((nat_le (strength ts) p.level ≡ true) × (follows x (as_node p level) ts ≡ true))
+  last_follows F x level b le same =
+      let root = root_is F b in
+      let child : root_follows x (as_node p level) ts ≡ nat_le (strength ts) level = refl in (
+        (λ h.
+        let s = and_parts (root_follows F p ts) (tail_follows F.tail p.no_struct ts) h in
+        let weak = sym root ∙ s.0 in
+        let less = leb-true (strength ts) p.level weak in
+        (weak, and_from (root_follows x (as_node p level) ts) (tail_follows x.tail p.no_struct ts) (le-leb (strength ts) level (omega (arith, less, le))) (sym same ∙ s.1))),
+        (λ h.
+        let s = and_parts (root_follows x (as_node p level) ts) (tail_follows x.tail p.no_struct ts) h.1 in
+        and_from (root_follows F p ts) (tail_follows F.tail p.no_struct ts) (root ∙ h.0) (same ∙ s.1)),
+      )
+    where
+      no_end : (a : Bool) → (a && false) ≡ false
+      no_end true = refl
+      no_end false = refl
+
+      root_is : (F : ExprFacts) → F.block_like ≡ false → root_follows F p ts ≡ nat_le (strength ts) p.level
+      root_is F b = rw (b, no_end (is_whole p.start)) refl
+
+  pub range_follows : (a : Option ExprFacts) (inclusive : Bool) (x : ExprFacts) → p.level ≤ 1
+      → Iff (follows (expr_facts (Expr-F.Range a inclusive (Some x))) p ts ≡ true)
+      ((nat_le (strength ts) p.level ≡ true) × (follows x (as_node p 2) ts ≡ true))
+  range_follows a inclusive x le = last_follows (expr_facts (Expr-F.Range a inclusive (Some x))) x 2 refl (omega (arith, le)) refl
+
+  pub assign_follows : (targets : List (ExprFacts × Op)) (x : ExprFacts) → p.level ≤ 0
+      → Iff (follows (expr_facts (Expr-F.Assign targets x)) p ts ≡ true)
+      ((nat_le (strength ts) p.level ≡ true) × (follows x (as_node p 1) ts ≡ true))
+  assign_follows targets x le = last_follows (expr_facts (Expr-F.Assign targets x)) x 1 refl (omega (arith, le)) refl
+
+  pub chain_follows : (first : ExprFacts) (more : List (Op × ExprFacts)) (o : Op) (x : ExprFacts) (level : ℕ) → p.level ≤ level
+      → Iff (follows (expr_facts (Expr-F.Chain first (more ++ (o, x) ∷ []))) p ts ≡ true)
+      ((nat_le (strength ts) p.level ≡ true) × (follows x (as_node p (suc level)) ts ≡ true))
+  chain_follows first more o x level le =
+      last_follows (expr_facts (Expr-F.Chain first (more ++ (o, x) ∷ []))) x (suc level) refl (omega (arith, le))
+      (ap (λ (t : Tail). tail_follows t p.no_struct ts) (last more))
+    where
+      last : (more : List (Op × ExprFacts)) → tail_of_operands (more ++ (o, x) ∷ []) ≡ x.tail
+      last [] = refl
+      last (y ∷ []) = refl
+      last (y ∷ z ∷ more) = last (z ∷ more)
+
+  -- A unary expression refuses besides, behind `&` and the path `raw`, what would make it a raw borrow.
+  pub unary_follows : (ps : List Prefix) (x : ExprFacts) → p.level ≤ 12 → (ends_in_amp ps && x.is_raw) ≡ false
+      → Iff (follows (expr_facts (Expr-F.Unary ps x)) p ts ≡ true)
+      ((nat_le (strength ts) p.level ≡ true) × (follows x (as_node p 12) ts ≡ true))
+  unary_follows ps x le not_raw = last_follows (expr_facts (Expr-F.Unary ps x)) x 12 refl le (rw (not_raw, or_no x.tail.raw) refl)
+    where
+      or_no : (b : Bool) → (b || false) ≡ b
+      or_no true = refl
+      or_no false = refl
