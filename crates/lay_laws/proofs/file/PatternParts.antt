@@ -8,7 +8,7 @@ use Rattle.lay_piece.specs.Forms.{is_number_kind}
 use Rattle.lay_piece.specs.declared.kind.Delim.TheVariants.{Paren, Bracket}
 use Rattle.lay_piece.specs.declared.kind.Kind.{Kind}
 use Rattle.lay_piece.specs.declared.kind.Kind.TheVariants as kind
-use Rattle.lay_form.specs.Form.{Bit, Blank, Fixed, Operator, Form, Done, Piece, Leaf, keyword, punct, opener, closer}
+use Rattle.lay_form.specs.Form.{Bit, Blank, Fixed, Form, Done, Piece, Leaf, keyword, punct, opener, closer}
 use Rattle.lay_form.specs.Layout.{token_ends_in_point}
 use Rattle.lay_form.specs.Notation.{when}
 use Rattle.lay_form.specs.Pieces.{is_text_of, are_pieces}
