@@ -82,8 +82,8 @@ const PATS: &str =
     "|Some(x)|None→Some(x) | None§[a,..]→[a, ..]§1→1§-1→-1§-a→no§\"s\"→\"s\"§true→true§_→_§..→..§m!(a)→m!(a)§a::B→a::B§A::<B>::C→A::<B>::C§\
 self→no§Self→Self§ref mut a→ref mut a§a@1|2→a @ 1 | 2§a@(1|2)→a @ (1 | 2)§1..=2→1..=2§1..=→no§..=1→..=1§a::B..→a::B..§..-1→..-1§1. ..2.→1. ..2.§&a→&a§&&mut a→&&mut a§\
 &1..2→no§&(1..2)→&(1..2)§A{b:C|D,0:_,ref e,#[x]f,..}→A {\n    b: C | D,\n    0: _,\n    ref e,\n    #[x]\n    f,\n    ..\n}§A{}→A {}§A{..}→A { .. }§\
-A{a,}→A { a }§A{..,a}→no§A{a@1}→no§A{a::B}→no§A()→A()§A(B,..,)→A(B, ..)§()→()§(a,)→(a,)§(..)→(..)§(..,)→no§(..,a)→(.., a)§(a)→(a)§[]→[]§\
-<A>::B→<A>::B§a!→no§a::b!→no§|→no§a|→no§a||b→no";
+A{a,}→A { a }§A{..,a}→no§A{a@1}→no§A{a::B}→no§A()→A()§A(B,..,)→A(B, ..)§()→()§(a,)→(a,)§(..)→(..)§(|..)→(..)§\
+(..,)→no§(|..,)→no§(..,a)→(.., a)§(a)→(a)§[]→[]§<A>::B→<A>::B§a!→no§a::b!→no§|→no§a|→no§a||b→no";
 
 /// Whether a pattern stands at the front, by what may follow one.
 const FRONTS: &str =

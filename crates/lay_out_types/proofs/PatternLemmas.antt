@@ -308,24 +308,28 @@ comma_any : (q : Bool) → fed q (piece (punct char.comma ∷ closer Paren ∷ [
 comma_any true = refl
 comma_any false = refl
 
+-- a pattern in parentheses, and what closes them
+in_parens : (x : Pat) (close : Form) → ((q : Bool) → fed q close [] ≡ stream_of close)
+    → tok.Text (codes "(") ∷ (told x ++ stream_of close)
+    ≡ stream_of (Piece (opener Paren ∷ []) (Part (pat_form Alternatives (about_pat x)) close))
+in_parens x close any =
+    ap (λ (s : List Tok). tok.Text (codes "(") ∷ s) (part_more (pat_form Alternatives (about_pat x)) close any)
+
 pub paren_pat : (x inner put : Pat) → x ≡ pat.Paren inner → put ≡ inner
     → tok.Text (codes "(") ∷ (told put ++ (tok.Text (codes ")") ∷ [])) ≡ told x
 paren_pat x inner put is e =
-    rw e (ap (λ (s : List Tok). tok.Text (codes "(") ∷ s)
-    (part_more (pat_form Alternatives (about_pat inner)) (piece (closer Paren ∷ [])) paren_any)
+    rw e (in_parens inner (piece (closer Paren ∷ [])) paren_any
     ∙ told_is x (pat.Paren inner) _ is (pat_paren_is inner))
 
-pub rest_single : (x : Pat) (b : Bool) → b ≡ (about_pat x).rest → b ≡ true
-    → tok.Text (codes "(..)") ∷ [] ≡ stream_of (one_form (about_pat x).rest (about_pat x))
-rest_single x b e is = rw (sym e ∙ is) refl
-
-pub one_single : (x : Pat) (b : Bool) → b ≡ (about_pat x).rest → b ≡ false
-    → tok.Text (codes "(") ∷ (told x ++ (tok.Text (codes ",)") ∷ []))
+pub one_single : (x : Pat) (rest : Bool) → rest ≡ (about_pat x).rest
+    → tok.Text (codes "(") ∷ (told x ++ (tok.Text (cond rest (codes ")") (codes ",)")) ∷ []))
     ≡ stream_of (one_form (about_pat x).rest (about_pat x))
-one_single x b e is =
-    ap (λ (s : List Tok). tok.Text (codes "(") ∷ s)
-    (part_more (pat_form Alternatives (about_pat x)) (piece (punct char.comma ∷ closer Paren ∷ [])) comma_any)
-    ∙ ap (λ (r : Bool). stream_of (one_form r (about_pat x))) (sym (sym e ∙ is))
+one_single x rest e = by rest ∙ ap (λ (r : Bool). stream_of (one_form r (about_pat x))) e
+  where
+    by : (r : Bool) → tok.Text (codes "(") ∷ (told x ++ (tok.Text (cond r (codes ")") (codes ",)")) ∷ []))
+        ≡ stream_of (one_form r (about_pat x))
+    by true = in_parens x (piece (closer Paren ∷ [])) paren_any
+    by false = in_parens x (piece (punct char.comma ∷ closer Paren ∷ [])) comma_any
 
 -- ---- which pattern is `..` alone
 

@@ -141,7 +141,7 @@ fn add_pats<E: Emit>(
     add_close(out, done, true, pats.is_empty(), both, closer)
 }
 
-/// The one element of a tuple, with its comma; a `..` alone is one text with its parentheses.
+/// The one element of a tuple, with its comma; a `..` alone has none.
 #[cycle(add_pat)]
 fn add_single<E: Emit>(
     out: &mut E,
@@ -151,12 +151,10 @@ fn add_single<E: Emit>(
     ensures { let told = about_pat element.now in
         Adds E.meanings before out.old (stream_of (one_form told.rest told)) result out.new }
 {
-    if is_rest(element) {
-        return add_text(out, before, b"(..)");
-    }
+    let rest = is_rest(element);
     let opener = add_text(out, before, b"(");
     let element = add_pat(out, opener, element);
-    add_text(out, element, b",)")
+    add_either(out, element, rest, b")", b",)")
 }
 
 /// The fields of a struct in braces, and the `..` behind them.

@@ -228,10 +228,12 @@ module _ (deeper : PatWithin) (l : LeftWithin deeper) where
   tuple_left x [] ts = choice 0 ts (about_pat x.0).rest None _ (λ h. tt) (unread ts)
   tuple_left x (y ∷ more) ts = unread ts
 
+  alone_left : (x : Pat × ℕ) (ts : Tokens) → Leaves 0 ts (p.alone_of x ts)
+  alone_left x ts = choice 0 ts (about_pat x.0).rest _ _ (λ h. unread ts) (unread ts)
+
   paren_by_left : (x : Pat × ℕ) (ts : Tokens) → Leaves 0 ts (p.paren_by deeper x ts)
   paren_by_left x ts = choice 0 ts (first (closes Paren) ts) _ _
-      (λ h. choice 0 ts (about_pat x.0).rest None _ (λ g. tt)
-      (joined 0 1 0 ts (tail ts) (tail ts) (omega arith) (first_read (closes Paren) ts h) (unread (tail ts))))
+      (λ h. further 0 1 0 ts (tail ts) _ (omega arith) (first_read (closes Paren) ts h) (alone_left x (tail ts)))
       (chain_passed 0 1 0 ts (passed (is_mark (codes ",")) ts) _ (omega arith) (passed_left (is_mark (codes ",")) ts)
       (λ behind. chain 0 1 0 behind (elements (closes Paren) (deeper.pats Alternatives) behind) _ (omega arith)
       (elements_of_left (closes Paren) behind) (λ more. tuple_left x more.0 more.1)))
@@ -240,11 +242,8 @@ module _ (deeper : PatWithin) (l : LeftWithin deeper) where
   unfolding p.paren_pat
   paren_left ts = choice 0 ts (first (closes Paren) ts) _ _
       (λ h. joined 0 1 0 ts (tail ts) (tail ts) (omega arith) (first_read (closes Paren) ts h) (unread (tail ts)))
-      (choice 0 ts (p.begins_lone_rest ts) _ _
-      (λ h. chain 0 1 0 ts (deeper.pats Single ts) _ (omega arith) (l.pats Single ts)
-      (λ x. chain_passed 0 1 0 x.1 (passed (closes Paren) x.1) _ (omega arith) (passed_left (closes Paren) x.1) unread))
       (chain 0 1 0 ts (deeper.pats Alternatives ts) _ (omega arith) (l.pats Alternatives ts)
-      (λ x. paren_by_left x.0 x.1)))
+      (λ x. paren_by_left x.0 x.1))
 
   slice_left : (ts : Tokens) → Leaves 0 ts (p.slice_pat deeper ts)
   unfolding p.slice_pat

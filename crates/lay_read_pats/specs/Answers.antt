@@ -56,10 +56,6 @@ word_name w = record { raw = w.raw; text = w.text }
 
 -- ---- in delimiters
 
--- A pattern in parentheses is no `..` alone.
-abbrev pub paren_of : Pat × ℕ → Tokens → Read Pat
-paren_of x ts = if (about_pat x.0).rest then None else Some ((pat.Paren x.0, suc x.1), ts)
-
 -- a tuple of a first element and the others, of which the greatest need is this
 abbrev pub tuple_behind : Pat × ℕ → List Pat → ℕ → Tokens → Read Pat
 tuple_behind x [] need ts = if (about_pat x.0).rest then None else Some ((pat.Tuple (x.0 ∷ []), suc (max x.1 need)), ts)

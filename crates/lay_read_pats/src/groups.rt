@@ -6,14 +6,14 @@ ghost use Rattle.lay_tree.specs.reader.Loops.{elements};
 ghost use Rattle.lay_tree.specs.reader.Patterns as reader;
 ghost use Rattle.lay_tree.specs.reader.Patterns.{pat_at};
 ghost use Rattle.lay_read_tokens.specs.Answers.{AreFound, IsFound, IsHeld, IsMade};
-ghost use Rattle.lay_read_pats.specs.Answers.{ArePats, paren_of, pats_within, tuple_behind};
+ghost use Rattle.lay_read_pats.specs.Answers.{ArePats, pats_within, tuple_behind};
 
 use crate::facts::{is_rest, is_span};
 use crate::rules::PatRules;
 use lay_read_parts::joins::{both, prepended, refused};
 use lay_read_parts::loops::{Closer, Part, read_elements};
 use lay_read_tokens::found::greater;
-use lay_read_tokens::front::{is_at_closer, pass_two, takes_closer, takes_keyword, takes_mark};
+use lay_read_tokens::front::{takes_closer, takes_keyword, takes_mark};
 use lay_read_tokens::stop::{boxed, keep};
 use lay_read_tokens::{Ahead, Found, ReadNone};
 use lay_token::{Delim, List};
@@ -27,17 +27,8 @@ impl Part<Pat, PatPlace> for Elements {
     ghost reads = { λ depth place ts. pat_at place depth ts };
 }
 
-/// Whether a `..` alone and a `)` stand at the front.
-fn begins_lone_rest(at: &Ahead<'_>) -> bool
-    ensures { result ≡ reader.begins_lone_rest at.now }
-{
-    let mut behind = at.fork();
-    pass_two(&mut behind);
-    at.op_is(b"..") && is_at_closer(&behind, Delim::Paren)
-}
-
 /// A list of one pattern.
-fn alone(alloc: Global, pat: Pat) -> Result<List<Pat>, ReadNone>
+fn only(alloc: Global, pat: Pat) -> Result<List<Pat>, ReadNone>
     ensures { IsMade (pat ∷ []) result }
 {
     let mut pats = List::new(alloc);
@@ -45,16 +36,20 @@ fn alone(alloc: Global, pat: Pat) -> Result<List<Pat>, ReadNone>
     Ok(pats)
 }
 
-/// A pattern in parentheses, behind it and the `)`.
-fn paren_of(alloc: Global, at: &Ahead<'_>, found: Found<Pat>) -> Result<Found<Pat>, ReadNone>
+/// A pattern alone in parentheses, behind it and the `)`: `..` is the one element of a tuple.
+fn alone_of(alloc: Global, at: &Ahead<'_>, found: Found<Pat>) -> Result<Found<Pat>, ReadNone>
     requires { found.need + 1 < 2 ^ 32 }
-    ensures read { IsFound (paren_of (found.node, found.need) at.now) result at.now }
-    ensures within { IfOk result (λ paren. paren.need ≡ found.need + 1) }
+    ensures read { IsFound (reader.alone_of (found.node, found.need) at.now) result at.now }
+    ensures within { IfOk result (λ made. made.need ≡ found.need + 1) }
 {
-    if is_rest(&found.node) {
-        return refused(found);
-    }
     let need = found.need + 1;
+    if is_rest(&found.node) {
+        let elements = only(alloc, found.node)?;
+        return Ok(Found {
+            node: Pat::Tuple { elements },
+            need,
+        });
+    }
     let inner = boxed(alloc, found.node)?;
     Ok(Found {
         node: Pat::Paren { inner },
@@ -153,29 +148,8 @@ impl<P: Fn(Global, &mut Ahead<'_>, PatPlace, u32) -> Result<Found<Pat>, ReadNone
                 need: 1,
             });
         }
-        if begins_lone_rest(at) {
-            return self.lone_rest(at);
-        }
         let first = self.inner(at, PatPlace::Alternatives)?;
         self.paren_by(at, first)
-    }
-
-    /// A `..` alone in parentheses, behind the `(`.
-    fn lone_rest(&self, at: &mut Ahead<'_>) -> Result<Found<Pat>, ReadNone>
-        requires { ArePats self.now.depth (P.pre self.now.pats) (P.post self.now.pats) }
-        ensures read { IsFound (reader.lone_rest (pats_within self.now.depth) at.old) result at.new }
-        ensures within { IfOk result (λ found. found.need ≤ self.now.depth + 1) }
-    {
-        let found = self.inner(at, PatPlace::Single)?;
-        if !takes_closer(at, Delim::Paren) {
-            return refused(found);
-        }
-        let need = found.need + 1;
-        let elements = alone(self.alloc, found.node)?;
-        Ok(Found {
-            node: Pat::Tuple { elements },
-            need,
-        })
     }
 
     /// What stands behind a `(` and a pattern.
@@ -186,7 +160,7 @@ impl<P: Fn(Global, &mut Ahead<'_>, PatPlace, u32) -> Result<Found<Pat>, ReadNone
         ensures within { IfOk result (λ found. found.need ≤ self.now.depth + 1) }
     {
         if takes_closer(at, Delim::Paren) {
-            return paren_of(self.alloc, at, first);
+            return alone_of(self.alloc, at, first);
         }
         if !takes_mark(at, b",") {
             return refused(first);

@@ -26,7 +26,6 @@ pub mod PatternsSoundSpans
 pub mod PatternsSoundBinds
 pub mod PatternsSoundFields
 pub mod PatternsSoundKinds
-pub mod PatternsSoundRest
 pub mod PatternsSound
 pub mod ItemBodies
 pub mod ItemSound

@@ -34,7 +34,7 @@ use Rattle.lay_laws.proofs.file.Nodes.{behind_word, behind_raw, ends_line, word,
 use Rattle.lay_laws.proofs.file.TypeParts.{ends_type, ends_arg, leaf_passes, joined_pieces}
 use Rattle.lay_laws.proofs.file.TypeArgs.{Any, Each, Passing, all_pass, words_lead}
 use Rattle.lay_laws.proofs.file.Types.{begins_path, path_passes_at}
-use Rattle.lay_laws.proofs.file.PatternParts.{ends_pat, begins_pat, begins, by_ref, mutably, borrow, wild, enclosed_rest, is_whole, begins_group, begins_span, dots_pass, end_passes, value_passes, call_passes_at}
+use Rattle.lay_laws.proofs.file.PatternParts.{ends_pat, begins_pat, begins, by_ref, mutably, borrow, wild, is_whole, begins_group, begins_span, dots_pass, end_passes, value_passes, call_passes_at}
 
 -- ---- what is told of a pattern
 
@@ -314,15 +314,13 @@ record Groups (b : Border) : Type 0 where
   pub square : list_fits true (opener Bracket) (closer Bracket) b plain ends_pat ends_pat ≡ true
   pub opens : simple b (opener Paren ∷ []) ≡ true
   pub behind : under (beyond b (opener Paren ∷ [])) plain ≡ true
-  pub rest : is_whole b enclosed_rest ≡ true
 
 groups : (b : Border) → begins_group b ≡ true → Groups b
 groups b h =
     let p1 = and_parts (list_fits true (opener Paren) (closer Paren) b plain ends_pat ends_pat) _ h in
     let p2 = and_parts (list_fits true (opener Bracket) (closer Bracket) b plain ends_pat ends_pat) _ p1.1 in
-    let p3 = and_parts (simple b (opener Paren ∷ []) && under (beyond b (opener Paren ∷ [])) plain) _ p2.1 in
-    let p4 = and_parts (simple b (opener Paren ∷ [])) _ p3.0 in
-    record { round = p1.0; square = p2.0; opens = p4.0; behind = p4.1; rest = p3.1 }
+    let p3 = and_parts (simple b (opener Paren ∷ [])) _ p2.1 in
+    record { round = p1.0; square = p2.0; opens = p3.0; behind = p3.1 }
 
 -- one pattern in parentheses, behind which stands what may end it
 enclosed : (b : Border) → Groups b → (x : PatFacts) → PatPasses x → (p : List Bit)
@@ -343,8 +341,7 @@ tuple_passes b s (x ∷ []) k g w = by x.rest w
   where
     by : (rest : Bool) → are_pieces (one_form rest x) ≡ true → From b (one_form rest x) ends_pat
     by true w =
-        let q = and_parts (simple b enclosed_rest) _ s.rest in
-        level b b (under-refl b) (ends (under-refl b)) (fixed q.0 (ends q.1))
+        enclosed b s x k.0 (closer Paren ∷ []) (and_parts (pat_good Alternatives x) true g).0 w refl refl refl
     by false w =
         enclosed b s x k.0 (punct char.comma ∷ closer Paren ∷ []) (and_parts (pat_good Alternatives x) true g).0 w
         refl refl refl

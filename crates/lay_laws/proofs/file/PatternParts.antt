@@ -8,7 +8,7 @@ use Rattle.lay_piece.specs.Forms.{is_number_kind}
 use Rattle.lay_piece.specs.declared.kind.Delim.TheVariants.{Paren, Bracket}
 use Rattle.lay_piece.specs.declared.kind.Kind.{Kind}
 use Rattle.lay_piece.specs.declared.kind.Kind.TheVariants as kind
-use Rattle.lay_form.specs.Form.{Bit, Blank, Fixed, Operator, Form, Done, Piece, Leaf, keyword, punct, opener, closer}
+use Rattle.lay_form.specs.Form.{Bit, Blank, Fixed, Form, Done, Piece, Leaf, keyword, punct, opener, closer}
 use Rattle.lay_form.specs.Layout.{token_ends_in_point}
 use Rattle.lay_form.specs.Notation.{when}
 use Rattle.lay_form.specs.Pieces.{is_text_of, are_pieces}
@@ -102,19 +102,16 @@ begins_borrow b =
 abbrev pub wild : List Bit
 wild = Fixed kind.Underscore (codes "_") ∷ []
 
-abbrev pub enclosed_rest : List Bit
-enclosed_rest = opener Paren ∷ Operator (codes "..") ∷ closer Paren ∷ []
-
 -- a piece that is a pattern
 abbrev pub is_whole : Border → List Bit → Bool
 is_whole b p = simple b p && under (beyond b p) ends_pat
 
--- what stands in brackets: lists of patterns, one pattern, and `..`, which is one text with its parentheses
+-- what stands in brackets: lists of patterns, and one pattern
 abbrev pub begins_group : Border → Bool
 begins_group b =
     list_fits true (opener Paren) (closer Paren) b plain ends_pat ends_pat
     && (list_fits true (opener Bracket) (closer Bracket) b plain ends_pat ends_pat
-    && ((simple b (opener Paren ∷ []) && under (beyond b (opener Paren ∷ [])) plain) && is_whole b enclosed_rest))
+    && (simple b (opener Paren ∷ []) && under (beyond b (opener Paren ∷ [])) plain))
 
 -- A pattern may begin there.
 abbrev pub begins_pat : Border → Bool

@@ -31,7 +31,6 @@ use Rattle.lay_tree.proofs.reader.FunctionsStarts.{GoesOn, PatStart, bind_start,
 use Rattle.lay_tree.proofs.reader.PatternsBegins.{single_begins}
 use Rattle.lay_tree.proofs.reader.PatternsComplete.{no_depth}
 use Rattle.lay_tree.proofs.reader.TypesBegins.{list_front}
-use Rattle.lay_tree.proofs.reader.TypesComplete.{deeper_parts}
 use Rattle.lay_tree.proofs.reader.TypesCompleteKinds.{inner_of}
 use Rattle.lay_tree.proofs.reader.TypesFronts.{no_other_op}
 
@@ -63,10 +62,7 @@ tuple_start [] depth ts rest s = let l = list_front (opener Paren) (closer Paren
 tuple_start (x ∷ []) depth ts rest s = by x.rest s
   where
     by : (r : Bool) → Spells (one_form r x) depth ts rest → PatStart ts
-    by true t =
-        let d = deeper_parts Done (piece (opener Paren ∷ Operator (codes "..") ∷ closer Paren ∷ [])) depth ts rest t in
-        let bits = d.4.1 in
-        opener_start Paren ts bits.0 (subst (λ us. IsOne (Opener Paren) (opening Paren ∷ []) us bits.0) (sym d.3) bits.1)
+    by true t = opener_start Paren ts t.0 (bit_alone (opener Paren) ts t.0 t.1)
     by false t = opener_start Paren ts t.0 (bit_alone (opener Paren) ts t.0 t.1)
 tuple_start (x ∷ y ∷ ys) depth ts rest s =
     let l = list_front (opener Paren) (closer Paren) (pat_forms Alternatives (x ∷ y ∷ ys)) depth ts rest s in opener_start Paren ts l.0 l.1

@@ -14,7 +14,6 @@ use Rattle.lay_tree.proofs.reader.PatternsComplete.{place_read, single_reads}
 use Rattle.lay_tree.proofs.reader.PatternsCompletePaths.{PatReads}
 use Rattle.lay_tree.proofs.reader.PatternsSound.{pat_at_sound}
 use Rattle.lay_tree.proofs.reader.PatternsSoundLevel.{SoundPatWithin}
-use Rattle.lay_tree.proofs.reader.PatternsSoundRest.{rest_alone}
 use Rattle.lay_tree.proofs.reader.TypesCompleteKinds.{inner_of, within_reads}
 use Rattle.lay_tree.proofs.reader.TypesSound.{counted_sound, within_sound}
 use Rattle.lay_tree.proofs.reader.TypesSoundParts.{Out}
@@ -25,7 +24,6 @@ pub insides_sound : (budget : ℕ) → SoundPatWithin budget (insides budget)
 insides_sound budget = record {
   pats = λ place. pat_at_sound place budget;
   kinds = within_sound budget;
-  rest = rest_alone budget;
 }
 
 pub insides_reads : (depth budget : ℕ) → depth ≤ budget → PatReads depth (insides budget)

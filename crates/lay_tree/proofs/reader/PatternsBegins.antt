@@ -18,7 +18,7 @@ use Rattle.lay_tree.specs.nodes.Call.{about_call}
 use Rattle.lay_tree.specs.nodes.Facts.{forms}
 use Rattle.lay_tree.specs.nodes.Patterns.{PatFacts, pat_form, pat_good, pat_forms, all_pats_good, value_form, dots, first_end, last_end, may_end, has_ends, bound_form, bound_good, rest_form, tuple_form, one_form, pat_facts, about_pat, about_field_pat}
 use Rattle.lay_tree.specs.nodes.Types.{about_path, is_several, joined}
-use Rattle.lay_tree.specs.reader.Patterns.{begins_lone_rest, behind_bar}
+use Rattle.lay_tree.specs.reader.Patterns.{behind_bar}
 use Rattle.lay_tree.specs.declared.patterns.FieldPat.TheOpen.{Pat-F}
 use Rattle.lay_tree.specs.declared.patterns.Pat.{Pat}
 use Rattle.lay_tree.specs.declared.patterns.Pat.TheVariants as pat
@@ -34,7 +34,7 @@ use Rattle.lay_tree.proofs.nodes.PatternsLaws.{PatView, IsOr, IsValue, IsWild, I
 use Rattle.lay_tree.proofs.reader.PatternsFronts.{Front, lead_front, kind_front, mark_front, Begun, front_begun}
 use Rattle.lay_tree.proofs.reader.PatternsParts.{value_complete, end_front}
 use Rattle.lay_tree.proofs.reader.TypesBegins.{opened, path_begins, call_begins}
-use Rattle.lay_tree.proofs.reader.TypesComplete.{deeper_parts, and_none, name_is_word}
+use Rattle.lay_tree.proofs.reader.TypesComplete.{name_is_word}
 use Rattle.lay_tree.proofs.reader.TypesFronts.{word_lead}
 
 abbrev pub bar : Form → Form
@@ -99,12 +99,10 @@ module _ (depth : ℕ) (ts rest : Tokens) where
       by false true i =
           let t = i.2 in
           let o : IsOne Ident (codes "mut") ts t.0 = before_blank (keyword (codes "mut")) ts t.0 t.1 in
-          let no : is_op (codes "..") ts ≡ false = one_no_op (codes "..") Ident (codes "mut") ts t.0 refl o in
           record {
             bar = one_no_op (codes "|") Ident (codes "mut") ts t.0 refl o;
             closer = λ d. one_test (is_closer d) Ident (codes "mut") ts t.0 o;
             mut = λ h. absurd (cc);
-            lone = λ h. rw no refl;
             less = omega (arith, one_shorter Ident (codes "mut") ts t.0 o, shorter named i.0 t.0 rest t.2);
           }
       by false false i =
@@ -115,42 +113,35 @@ module _ (depth : ℕ) (ts rest : Tokens) where
 
   -- a pattern that begins with `..` or `..=`
   dots_begin : (F : PatFacts) (cs : List ℕ) (mid : Tokens) → bytes_eq (46 ∷ cs) (codes "|") ≡ false → IsOperator (46 ∷ cs) ts mid → length rest ≤ length mid
-      → ((F.rest && first (closes Paren) rest) ≡ false → begins_lone_rest ts ≡ false) → Begun F ts rest
-  dots_begin F cs mid other o le lone = record {
+      → Begun F ts rest
+  dots_begin F cs mid other o le = record {
     bar = other_op (46 ∷ cs) (codes "|") other ts o.0;
     closer = λ d. op_test (is_closer d) (46 ∷ cs) ts o.0;
     mut = λ h. rw (op_front (46 ∷ cs) ts o.0).2 refl;
-    lone = lone;
     less = omega (arith, op_shorter 46 cs ts mid o, le);
   }
 
   span_begins : (start : Option SpanEnd) (inclusive : Bool) (end : Option SpanEnd) → Begins (pat_facts (Pat-F.Span start inclusive end))
   span_begins start inclusive end s g =
-      let good = (and_parts _ true g).0 in
-      let goods = and_parts (has_ends start inclusive end && may_end start) (may_end end) good in
-      let first_goods = and_parts (has_ends start inclusive end) (may_end start) goods.0 in
-      by start inclusive end (opened (first_end start (Piece (dots inclusive) (last_end end))) depth ts rest s) first_goods.0 first_goods.1 goods.1
+      let goods = and_parts (has_ends start inclusive end && may_end start) (may_end end) (and_parts _ true g).0 in
+      let good = (and_parts (has_ends start inclusive end) (may_end start) goods.0).1 in
+      by start inclusive end (opened (first_end start (Piece (dots inclusive) (last_end end))) depth ts rest s) good
     where
       by : (start : Option SpanEnd) (inclusive : Bool) (end : Option SpanEnd) → (least : ℕ) × (depth ≡ suc least)
-          × Spells (first_end start (Piece (dots inclusive) (last_end end))) least ts rest → has_ends start inclusive end ≡ true → may_end start ≡ true
-          → may_end end ≡ true → Begun (pat_facts (Pat-F.Span start inclusive end)) ts rest
-      by (Some e) inclusive end i h k m =
+          × Spells (first_end start (Piece (dots inclusive) (last_end end))) least ts rest → may_end start ≡ true
+          → Begun (pat_facts (Pat-F.Span start inclusive end)) ts rest
+      by (Some e) inclusive end i g =
           let t = i.2 in
-          let f = end_front e i.0 ts t.0 t.1 k in
+          let f = end_front e i.0 ts t.0 t.1 g in
           fixed_begins (pat_facts (Pat-F.Span (Some e) inclusive end)) t.0 f.front f.less (shorter (Piece (dots inclusive) (last_end end)) i.0 t.0 rest t.2)
-      by None true end i h k m =
+      by None true end i g =
           let t = i.2 in
           let o : IsOperator (codes "..=") ts t.0 = bit_alone (Operator (codes "..=")) ts t.0 t.1 in
-          let no : is_op (codes "..") ts ≡ false = other_op (codes "..=") (codes "..") refl ts o.0 in
-          dots_begin (pat_facts (Pat-F.Span None true end)) (codes ".=") t.0 refl o (shorter (last_end end) i.0 t.0 rest t.2) (λ u. rw no refl)
-      by None false None i h k m = absurd (cc)
-      by None false (Some e) i h k m =
+          dots_begin (pat_facts (Pat-F.Span None true end)) (codes ".=") t.0 refl o (shorter (last_end end) i.0 t.0 rest t.2)
+      by None false end i g =
           let t = i.2 in
           let o : IsOperator (codes "..") ts t.0 = bit_alone (Operator (codes "..")) ts t.0 t.1 in
-          let p = t.2 in
-          let f = end_front e i.0 t.0 p.0 p.1 m in
-          dots_begin (pat_facts (Pat-F.Span None false (Some e))) (codes ".") t.0 refl o (shorter (last_end (Some e)) i.0 t.0 rest t.2)
-          (λ u. rw (o.0, o.1, f.front.closer Paren) refl)
+          dots_begin (pat_facts (Pat-F.Span None false end)) (codes ".") t.0 refl o (shorter (last_end end) i.0 t.0 rest t.2)
 
   tuple_begins : (xs : List Pat) → Begins (pat_facts (Pat-F.Tuple (map about_pat xs)))
   tuple_begins xs s g =
@@ -158,18 +149,14 @@ module _ (depth : ℕ) (ts rest : Tokens) where
       let b = by xs i.0 i.2 in
       front_begun (pat_facts (Pat-F.Tuple (map about_pat xs))) ts rest b.0 b.1
     where
-      one : (r : Bool) (x : PatFacts) (least : ℕ) → Spells (one_form r x) least ts rest → Front ts × (length rest < length ts)
-      one true x least t =
-          let f : Form = piece (opener Paren ∷ Operator (codes "..") ∷ closer Paren ∷ []) in
-          let d = deeper_parts Done f least ts rest t in
-          let bits = d.4.1 in
-          let o : IsOne (Opener Paren) (opening Paren ∷ []) ts bits.0 = subst (λ us. IsOne (Opener Paren) (opening Paren ∷ []) us bits.0) (sym d.3) bits.1 in
-          let le = shorter (piece (Operator (codes "..") ∷ closer Paren ∷ [])) least bits.0 rest (d.4.0, bits.2, d.4.2) in
-          (opener_front Paren ts bits.0 o, omega (arith, one_shorter (Opener Paren) (opening Paren ∷ []) ts bits.0 o, le))
-      one false x least t =
+      behind_opener : (f : Form) (least : ℕ) → Spells (Piece (opener Paren ∷ []) f) least ts rest → Front ts × (length rest < length ts)
+      behind_opener f least t =
           let o : IsOne (Opener Paren) (opening Paren ∷ []) ts t.0 = bit_alone (opener Paren) ts t.0 t.1 in
-          let le = shorter (Part (pat_form Alternatives x) (piece (punct 44 ∷ closer Paren ∷ []))) least t.0 rest t.2 in
-          (opener_front Paren ts t.0 o, omega (arith, one_shorter (Opener Paren) (opening Paren ∷ []) ts t.0 o, le))
+          (opener_front Paren ts t.0 o, omega (arith, one_shorter (Opener Paren) (opening Paren ∷ []) ts t.0 o, shorter f least t.0 rest t.2))
+
+      one : (r : Bool) (x : PatFacts) (least : ℕ) → Spells (one_form r x) least ts rest → Front ts × (length rest < length ts)
+      one true x least t = behind_opener (Part (pat_form Alternatives x) (piece (closer Paren ∷ []))) least t
+      one false x least t = behind_opener (Part (pat_form Alternatives x) (piece (punct 44 ∷ closer Paren ∷ []))) least t
 
       by : (xs : List Pat) (least : ℕ) → Spells (tuple_form (map about_pat xs)) least ts rest → Front ts × (length rest < length ts)
       by [] least t = list_begins Paren [] least ts rest t
@@ -194,7 +181,7 @@ module _ (depth : ℕ) (ts rest : Tokens) where
       (λ s g.
       let i = opened (piece (Operator (codes "..") ∷ [])) depth ts rest s in
       let o : IsOperator (codes "..") ts rest = piece_bit (Operator (codes "..")) i.0 ts rest i.2 in
-      dots_begin (pat_facts Pat-F.Rest) (codes ".") rest refl o (omega arith) (λ h. rw (o.0, o.1, h) refl))
+      dots_begin (pat_facts Pat-F.Rest) (codes ".") rest refl o (omega arith))
   begins _ (IsCall c) = told_begins (pat.Call c) (pat_facts (Pat-F.Call c)) (pat_call_is c)
       (λ s g.
       let i = opened (about_call c).form depth ts rest s in
@@ -252,47 +239,40 @@ single_begins x depth ts rest s g = begins depth ts rest x (pat_view x) s g
 -- ---- alternatives
 
 -- What no pattern begins with where alternatives may stand.
-pub record Starts (x : PatFacts) (ts rest : Tokens) : Type 0 where
+pub record Starts (ts rest : Tokens) : Type 0 where
   pub closer : (d : Delim) → first (closes d) ts ≡ false
-  pub lone : (x.rest && first (closes Paren) rest) ≡ false → begins_lone_rest ts ≡ false
   pub less : length rest < length ts
 
-begun_starts : (x : PatFacts) (ts rest : Tokens) → Begun x ts rest → Starts x ts rest
-begun_starts x ts rest b = record { closer = b.closer; lone = b.lone; less = b.less }
+begun_starts : (x : PatFacts) (ts rest : Tokens) → Begun x ts rest → Starts ts rest
+begun_starts x ts rest b = record { closer = b.closer; less = b.less }
 
 pub all_begin : (x : Pat) (depth : ℕ) (ts rest : Tokens) → Spells (about_pat x).told.form depth ts rest → (about_pat x).told.good ≡ true
-    → (is_op (codes "|") ts ≡ false) × Starts (about_pat x) ts rest
+    → (is_op (codes "|") ts ≡ false) × Starts ts rest
 all_begin x depth ts rest s g = at x (pat_view x) s g
   where
     one : (x : Pat) → (about_pat x).several ≡ false → Spells (about_pat x).told.form depth ts rest → (about_pat x).told.good ≡ true
-        → (is_op (codes "|") ts ≡ false) × Starts (about_pat x) ts rest
+        → (is_op (codes "|") ts ≡ false) × Starts ts rest
     one x n t h = let b = single_begins x depth ts rest t (rw (h, n) refl) in (b.bar, begun_starts (about_pat x) ts rest b)
 
     or : (xs : List Pat) → Spells (pat_facts (Pat-F.Or (map about_pat xs))).told.form depth ts rest
         → (is_several (map about_pat xs) && all_pats_good Single (map about_pat xs)) ≡ true
-        → (is_op (codes "|") ts ≡ false) × Starts (pat_facts (Pat-F.Or (map about_pat xs))) ts rest
+        → (is_op (codes "|") ts ≡ false) × Starts ts rest
     or [] t h = absurd (cc)
     or (y ∷ []) t h = absurd (cc)
     or (y ∷ z ∷ more) t h =
         let i = opened (Part (joined bar (pat_forms Single (map about_pat (y ∷ z ∷ more)))) Done) depth ts rest t in
         let row = i.2.1 in
         let next = row.2 in
-        let o : IsOperator (codes "|") row.0 next.0 = before_blank (Operator (codes "|")) row.0 next.0 next.1 in
         let b = single_begins y i.0 ts row.0 row.1 (and_parts (pat_good Single (about_pat y)) _ h).0 in
-        let no_close : first (closes Paren) row.0 ≡ false = op_test (is_closer Paren) (codes "|") row.0 o.0 in
         let le = shorter (each bar (pat_forms Single (map about_pat (z ∷ more)))) i.0 row.0 i.2.0 next in (
           b.bar,
-          record {
-            closer = b.closer;
-            lone = λ u. b.lone (rw no_close (and_none (about_pat y).rest));
-            less = omega (arith, b.less, le, ap length i.2.2);
-          },
+          record { closer = b.closer; less = omega (arith, b.less, le, ap length i.2.2) },
         )
 
     at : (x : Pat) → PatView x → Spells (about_pat x).told.form depth ts rest → (about_pat x).told.good ≡ true
-        → (is_op (codes "|") ts ≡ false) × Starts (about_pat x) ts rest
+        → (is_op (codes "|") ts ≡ false) × Starts ts rest
     at _ (IsOr xs) =
-        subst (λ (F : PatFacts). Spells F.told.form depth ts rest → F.told.good ≡ true → (is_op (codes "|") ts ≡ false) × Starts F ts rest)
+        subst (λ (F : PatFacts). Spells F.told.form depth ts rest → F.told.good ≡ true → (is_op (codes "|") ts ≡ false) × Starts ts rest)
         (sym (pat_or_is xs)) (or xs)
     at _ (IsValue v) = one (pat.Value v) (ap (λ (F : PatFacts). F.several) (pat_value_is v))
     at _ IsWild = one pat.Wild (ap (λ (F : PatFacts). F.several) pat_wild_is)
@@ -324,7 +304,7 @@ bar_parts x depth ts rest s g =
 
 -- a pattern at a place
 pub starts : (place : PatPlace) (x : Pat) (depth : ℕ) (ts rest : Tokens) → Spells (pat_form place (about_pat x)) depth ts rest
-    → pat_good place (about_pat x) ≡ true → Starts (about_pat x) ts rest
+    → pat_good place (about_pat x) ≡ true → Starts ts rest
 starts Single x depth ts rest s g = begun_starts (about_pat x) ts rest (single_begins x depth ts rest s g)
 starts Alternatives x depth ts rest s g =
     let t = part_alone (about_pat x).told.form depth s.0 rest s.2 in
@@ -333,10 +313,5 @@ starts Alternatives x depth ts rest s g =
       | inl e ↦ rw e b
       | inr c ↦
           let o : IsOperator (codes "|") ts s.0 = bit_alone (Operator (codes "|")) ts s.0 c in
-          let no : is_op (codes "..") ts ≡ false = other_op (codes "|") (codes "..") refl ts o.0 in
-          record {
-            closer = λ d. op_test (is_closer d) (codes "|") ts o.0;
-            lone = λ h. rw no refl;
-            less = omega (arith, b.less, op_shorter 124 [] ts s.0 o);
-          }
+          record { closer = λ d. op_test (is_closer d) (codes "|") ts o.0; less = omega (arith, b.less, op_shorter 124 [] ts s.0 o) }
     ]

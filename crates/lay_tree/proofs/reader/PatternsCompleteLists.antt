@@ -8,66 +8,30 @@ use Rattle.lay_piece.specs.declared.kind.Delim.{Delim}
 use Rattle.lay_piece.specs.declared.kind.Delim.TheVariants.{Paren, Bracket}
 use Rattle.lay_piece.specs.declared.kind.Kind.TheVariants.{Punct, Opener, Closer}
 use Rattle.lay_token.specs.Operators.{is_op}
-use Rattle.lay_form.specs.Form.{Bit, Fixed, Operator, Form, Done, Piece, Part, opener, closer}
+use Rattle.lay_form.specs.Form.{Bit, Fixed, Form, Piece, Part, opener, closer}
 use Rattle.lay_form.specs.Notation.{piece, comma_list}
-use Rattle.lay_form.specs.Spelled.{IsOne, IsBit, IsOperator, Spells}
-use Rattle.lay_tree.specs.Ahead.{Tokens, first, tail, is_mark, is_closer, opens, closes}
+use Rattle.lay_form.specs.Spelled.{IsOne, IsBit, Spells}
+use Rattle.lay_tree.specs.Ahead.{Tokens, first, tail, is_mark, opens, closes}
 use Rattle.lay_tree.specs.Begins.{begins_value}
 use Rattle.lay_tree.specs.Follow.{begins_dots}
-use Rattle.lay_tree.specs.nodes.Patterns.{PatFacts, pat_form, pat_good, pat_forms, all_pats_good, tuple_form, one_form, pat_facts, about_pat}
+use Rattle.lay_tree.specs.nodes.Patterns.{pat_form, pat_good, pat_forms, all_pats_good, tuple_form, one_form, about_pat}
 use Rattle.lay_tree.specs.nodes.Types.{about_path}
 use Rattle.lay_tree.specs.reader.Loops.{Read, nodes, deepest, elements}
-use Rattle.lay_tree.specs.reader.Patterns.{PatWithin, begins_lone_rest, tuple_of, paren_by, paren_pat, slice_pat, is_underscore, path_by, pat_by}
-use Rattle.lay_tree.specs.declared.patterns.FieldPat.TheOpen.{Pat-F}
+use Rattle.lay_tree.specs.reader.Patterns.{PatWithin, alone_of, tuple_of, paren_by, paren_pat, slice_pat, is_underscore, path_by, pat_by}
 use Rattle.lay_tree.specs.declared.patterns.Pat.{Pat}
 use Rattle.lay_tree.specs.declared.patterns.Pat.TheVariants as pat
-use Rattle.lay_tree.specs.declared.patterns.PatPlace.TheVariants.{Alternatives, Single}
+use Rattle.lay_tree.specs.declared.patterns.PatPlace.TheVariants.{Alternatives}
 use Rattle.lay_tree.specs.declared.types.Path.{Path}
 use Rattle.lay_tree.specs.declared.types.PathStyle.TheVariants.{Code}
-use Rattle.lay_tree.proofs.Fronts.{one_front, one_no_op, op_test, mark_passed, closer_first, closer_passed}
+use Rattle.lay_tree.proofs.Fronts.{one_front, one_no_op, mark_passed, closer_first}
 use Rattle.lay_tree.proofs.Parts.{bit_alone, piece_bit}
-use Rattle.lay_tree.proofs.nodes.PatternsLaws.{PatView, IsOr, IsValue, IsWild, IsRest, IsCall, IsPath, IsBind, IsSpan, IsRef, IsStruct, IsTupleStruct, IsTuple, IsParen, IsSlice, pat_view, pat_or_is, pat_value_is, pat_wild_is, pat_rest_is, pat_call_is, pat_path_is, pat_bind_is, pat_span_is, pat_ref_is, pat_struct_is, pat_tuple_struct_is, pat_tuple_is, pat_paren_is, pat_slice_is}
 use Rattle.lay_tree.proofs.reader.Exact.{IsRead}
 use Rattle.lay_tree.proofs.reader.PatternsBegins.{starts}
 use Rattle.lay_tree.proofs.reader.PatternsCompletePaths.{PatReads, Made, path_there}
 use Rattle.lay_tree.proofs.reader.PatternsFronts.{ends_fits}
-use Rattle.lay_tree.proofs.reader.TypesComplete.{and_none, deeper_parts}
 use Rattle.lay_tree.proofs.reader.TypesCompleteParts.{one_left}
 use Rattle.lay_tree.proofs.reader.TypesFronts.{Ends, comma_ends, closer_ends}
 use Rattle.lay_tree.proofs.reader.TypesLists.{forms_of, closer_closes, some_read, none_read, list_read}
-
--- A pattern that is told to be `..` alone is.
-rest_is : (x : Pat) → (about_pat x).rest ≡ true → x ≡ pat.Rest
-rest_is x h = at x (pat_view x) h
-  where
-    no : (x : Pat) → (about_pat x).rest ≡ false → (about_pat x).rest ≡ true → x ≡ pat.Rest
-    no x n k = let e = sym n ∙ k in absurd (cc)
-
-    at : (x : Pat) → PatView x → (about_pat x).rest ≡ true → x ≡ pat.Rest
-    at _ IsRest k = refl
-    at _ (IsOr xs) k = no (pat.Or xs) (ap (λ (F : PatFacts). F.rest) (pat_or_is xs)) k
-    at _ (IsValue v) k = no (pat.Value v) (ap (λ (F : PatFacts). F.rest) (pat_value_is v)) k
-    at _ IsWild k = no pat.Wild (ap (λ (F : PatFacts). F.rest) pat_wild_is) k
-    at _ (IsCall c) k = no (pat.Call c) (ap (λ (F : PatFacts). F.rest) (pat_call_is c)) k
-    at _ (IsPath p) k = no (pat.Path p) (ap (λ (F : PatFacts). F.rest) (pat_path_is p)) k
-    at _ (IsBind r m n of) k = no (pat.Bind r m n of) (ap (λ (F : PatFacts). F.rest) (pat_bind_is r m n of)) k
-    at _ (IsSpan a i e) k = no (pat.Span a i e) (ap (λ (F : PatFacts). F.rest) (pat_span_is a i e)) k
-    at _ (IsRef m y) k = no (pat.Ref m y) (ap (λ (F : PatFacts). F.rest) (pat_ref_is m y)) k
-    at _ (IsStruct p fs d) k = no (pat.Struct p fs d) (ap (λ (F : PatFacts). F.rest) (pat_struct_is p fs d)) k
-    at _ (IsTupleStruct p xs) k = no (pat.TupleStruct p xs) (ap (λ (F : PatFacts). F.rest) (pat_tuple_struct_is p xs)) k
-    at _ (IsTuple xs) k = no (pat.Tuple xs) (ap (λ (F : PatFacts). F.rest) (pat_tuple_is xs)) k
-    at _ (IsParen y) k = no (pat.Paren y) (ap (λ (F : PatFacts). F.rest) (pat_paren_is y)) k
-    at _ (IsSlice xs) k = no (pat.Slice xs) (ap (λ (F : PatFacts). F.rest) (pat_slice_is xs)) k
-
-rest_spelled : (x : Pat) (depth least : ℕ) (ts rest : Tokens) → (about_pat x).rest ≡ true → depth ≡ suc least → IsOperator (codes "..") ts rest
-    → Spells (about_pat x).told.form depth ts rest
-rest_spelled x depth least ts rest h e o =
-    let here : Spells (pat_facts Pat-F.Rest).told.form (suc least) ts rest = (rest, (rest, (rest, o, refl), refl), refl) in
-    let told : about_pat x ≡ pat_facts Pat-F.Rest = ap about_pat (rest_is x h) ∙ pat_rest_is in
-    subst (λ (F : PatFacts). Spells F.told.form depth ts rest) (sym told) (subst (λ n. Spells (pat_facts Pat-F.Rest).told.form n ts rest) (sym e) here)
-
-rest_single : (x : Pat) → (about_pat x).rest ≡ true → pat_good Single (about_pat x) ≡ true
-rest_single x h = ap (λ (F : PatFacts). pat_good Single F) (ap about_pat (rest_is x h) ∙ pat_rest_is)
 
 many_of : (x : Pat) (n : ℕ) (y : Pat) (more : List Pat) (ys : List (Pat × ℕ)) (ts : Tokens) → nodes ys ≡ y ∷ more
     → tuple_of (x, n) ys ts ≡ Some ((pat.Tuple (x ∷ y ∷ more), suc (max n (deepest ys))), ts)
@@ -166,14 +130,15 @@ module _ (depth : ℕ) (inner : PatWithin) (reads : PatReads depth inner) where
 
   -- ---- in parentheses
 
-  paren_open : (x : Pat) (n : ℕ) (ts mid : Tokens) (r : Read Pat) → first (closes Paren) ts ≡ false → begins_lone_rest ts ≡ false
+  paren_open : (x : Pat) (n : ℕ) (ts mid : Tokens) (r : Read Pat) → first (closes Paren) ts ≡ false
       → inner.pats Alternatives ts ≡ Some ((x, n), mid) → paren_by inner (x, n) mid ≡ r → paren_pat inner ts ≡ r
   unfolding paren_pat
-  paren_open x n ts mid r no_close no_rest h e = rw (no_close, no_rest, h) e
+  paren_open x n ts mid r no_close h e = rw (no_close, h) e
 
-  pub paren_made : (x : Pat) (ts rest : Tokens) → Spells (Piece (opener Paren ∷ []) (Part (Spelling x) (piece (closer Paren ∷ [])))) depth ts rest
-      → Good x ≡ true → (about_pat x).rest ≡ false → Made depth inner reads (pat.Paren x) ts rest
-  paren_made x ts rest t g n =
+  -- a pattern alone, of which this one is made
+  alone_made : (x made : Pat) (ts rest : Tokens) → Spells (Piece (opener Paren ∷ []) (Part (Spelling x) (piece (closer Paren ∷ [])))) depth ts rest
+      → Good x ≡ true → ((n : ℕ) → alone_of (x, n) rest ≡ Some ((made, suc n), rest)) → Made depth inner reads made ts rest
+  alone_made x made ts rest t g h =
       let inside = t.0 in
       let o : IsOne (Opener Paren) (opening Paren ∷ []) ts inside = bit_alone (opener Paren) ts inside t.1 in
       let p = t.2 in
@@ -181,45 +146,21 @@ module _ (depth : ℕ) (inner : PatWithin) (reads : PatReads depth inner) where
       let close : IsOne (Closer Paren) (closing Paren ∷ []) mid rest = piece_bit (closer Paren) depth mid rest p.2 in
       let r = element_read x inside mid p.1 g (closer_ends Paren mid rest close) in
       let b = starts Alternatives x depth inside mid p.1 g in
-      let lone = b.lone (rw n refl) in
-      (suc r.0, omega (arith, r.1), paren_there ts inside o ∙ paren_open x r.0 inside mid _ (b.closer Paren) lone r.2 (by r.0 mid (closer_first Paren mid rest close)))
+      (suc r.0, omega (arith, r.1), paren_there ts inside o ∙ paren_open x r.0 inside mid _ (b.closer Paren) r.2 (by r.0 mid (closer_first Paren mid rest close)))
     where
       by : (k : ℕ) (mid : Tokens) → (first (closes Paren) mid ≡ true) × (tail mid ≡ rest)
-          → paren_by inner (x, k) mid ≡ Some ((pat.Paren x, suc k), rest)
-      by k mid c = rw (c.0, n, c.1) refl
+          → paren_by inner (x, k) mid ≡ Some ((made, suc k), rest)
+      by k mid c = rw (c.0, c.1) (h k)
+
+  pub paren_made : (x : Pat) (ts rest : Tokens) → Spells (Piece (opener Paren ∷ []) (Part (Spelling x) (piece (closer Paren ∷ [])))) depth ts rest
+      → Good x ≡ true → (about_pat x).rest ≡ false → Made depth inner reads (pat.Paren x) ts rest
+  paren_made x ts rest t g n = alone_made x (pat.Paren x) ts rest t g (λ k. rw n refl)
 
   comma_by : (x : Pat) (n : ℕ) (mid behind rest : Tokens) (ys : List (Pat × ℕ)) (r : Read Pat) → IsOne Punct (codes ",") mid behind
       → elements (closes Paren) (inner.pats Alternatives) behind ≡ Some (ys, rest) → tuple_of (x, n) ys rest ≡ r → paren_by inner (x, n) mid ≡ r
   comma_by x n mid behind rest ys r o h e =
       let no_close : first (closes Paren) mid ≡ false = rw (one_front Punct (codes ",") mid behind o).1 refl in
       rw (no_close, mark_passed (codes ",") mid behind o, h) e
-
-  -- `..` alone
-  lone_made : (x : Pat) (ts rest : Tokens) → Spells (one_form true (about_pat x)) depth ts rest → (about_pat x).rest ≡ true
-      → Made depth inner reads (pat.Tuple (x ∷ [])) ts rest
-  unfolding paren_pat
-  lone_made x ts rest t h =
-      let d = deeper_parts Done (piece (opener Paren ∷ Operator (codes "..") ∷ closer Paren ∷ [])) depth ts rest t in
-      let bits = d.4.1 in
-      let inside = bits.0 in
-      let more = bits.2 in
-      let mid = more.0 in
-      let last = more.2 in
-      let o : IsOne (Opener Paren) (opening Paren ∷ []) ts inside = subst (λ us. IsOne (Opener Paren) (opening Paren ∷ []) us inside) (sym d.3) bits.1 in
-      let dots : IsOperator (codes "..") inside mid = more.1 in
-      let close : IsOne (Closer Paren) (closing Paren ∷ []) mid rest =
-      subst (λ us. IsOne (Closer Paren) (closing Paren ∷ []) mid us) d.4.2 (bit_alone (closer Paren) mid d.4.0 last) in
-      let r =
-      reads.pats Single x inside mid (rest_spelled x depth d.0 inside mid h d.1 dots) (rest_single x h)
-      (ends_fits Single (about_pat x) mid (closer_ends Paren mid rest close)) in
-      (suc r.0, omega (arith, r.1), paren_there ts inside o ∙ by r.0 inside mid dots close r.2)
-    where
-      by : (k : ℕ) (inside mid : Tokens) → IsOperator (codes "..") inside mid → IsOne (Closer Paren) (closing Paren ∷ []) mid rest
-          → inner.pats Single inside ≡ Some ((x, k), mid) → paren_pat inner inside ≡ Some ((pat.Tuple (x ∷ []), suc k), rest)
-      by k inside mid dots close e =
-          let no_close : first (closes Paren) inside ≡ false = op_test (is_closer Paren) (codes "..") inside dots.0 in
-          let lone : begins_lone_rest inside ≡ true = rw (dots.0, dots.1, (closer_first Paren mid rest close).0) refl in
-          rw (no_close, lone, e, closer_passed Paren mid rest close) refl
 
   one_made : (x : Pat) (ts rest : Tokens) → Spells (one_form false (about_pat x)) depth ts rest → Good x ≡ true → (about_pat x).rest ≡ false
       → Made depth inner reads (pat.Tuple (x ∷ [])) ts rest
@@ -238,7 +179,7 @@ module _ (depth : ℕ) (inner : PatWithin) (reads : PatReads depth inner) where
         suc r.0,
         omega (arith, r.1),
         paren_there ts inside o
-            ∙ paren_open x r.0 inside mid _ (b.closer Paren) (b.lone (rw n refl)) r.2
+            ∙ paren_open x r.0 inside mid _ (b.closer Paren) r.2
             (comma_by x r.0 mid bits.0 rest none.0 _ comma_there none.3 (alone r.0 none.0 none.1)),
       )
     where
@@ -260,7 +201,7 @@ module _ (depth : ℕ) (inner : PatWithin) (reads : PatReads depth inner) where
   tuple_made (x ∷ []) ts rest t g = by (about_pat x).rest refl t
     where
       by : (r : Bool) → (about_pat x).rest ≡ r → Spells (one_form r (about_pat x)) depth ts rest → Made depth inner reads (pat.Tuple (x ∷ [])) ts rest
-      by true e u = lone_made x ts rest u e
+      by true e u = alone_made x (pat.Tuple (x ∷ [])) ts rest u (and_parts (Good x) true g).0 (λ k. rw e refl)
       by false e u = one_made x ts rest u (and_parts (Good x) true g).0 e
   tuple_made (x ∷ y ∷ ys) ts rest u g =
       let t =
@@ -282,9 +223,7 @@ module _ (depth : ℕ) (inner : PatWithin) (reads : PatReads depth inner) where
       part.0 more.0 rest goods.1 part.1 part.2 (last.0, last.1, close) in
       let r = element_read x inside mid row.1 goods.0 (comma_ends mid next.0 comma_there) in
       let b = starts Alternatives x depth inside mid row.1 goods.0 in
-      let no_close : first (closes Paren) mid ≡ false = rw (one_front Punct (codes ",") mid next.0 comma_there).1 refl in
-      let lone = b.lone (rw no_close (and_none (about_pat x).rest)) in
       let made =
-      paren_open x r.0 inside mid (Some ((pat.Tuple (x ∷ y ∷ ys), suc (max r.0 (deepest n.0))), rest)) (b.closer Paren) lone r.2
+      paren_open x r.0 inside mid (Some ((pat.Tuple (x ∷ y ∷ ys), suc (max r.0 (deepest n.0))), rest)) (b.closer Paren) r.2
       (comma_by x r.0 mid next.0 rest n.0 (Some ((pat.Tuple (x ∷ y ∷ ys), suc (max r.0 (deepest n.0))), rest)) comma_there n.3 (many_of x r.0 y ys n.0 rest n.1)) in
       (suc (max r.0 (deepest n.0)), omega (arith, r.1, n.2), paren_there ts inside o ∙ made)

@@ -18,7 +18,7 @@ use Rattle.lay_tree.specs.Follow.{OfRename, OfArgs, OfCodeArgs, OfArrow, OfColon
 use Rattle.lay_tree.specs.Words.{is_literal}
 use Rattle.lay_tree.specs.nodes.Patterns.{PatFacts, single_follows, pat_follows}
 use Rattle.lay_tree.specs.nodes.Types.{ArgsFacts, PathFacts, segment_good, segments_good, segments_refuse, about_path, about_args}
-use Rattle.lay_tree.specs.reader.Patterns.{is_underscore_kind, is_underscore, begins_bind, begins_lone_rest}
+use Rattle.lay_tree.specs.reader.Patterns.{is_underscore_kind, is_underscore, begins_bind}
 use Rattle.lay_tree.specs.declared.patterns.PatPlace.{PatPlace}
 use Rattle.lay_tree.specs.declared.patterns.PatPlace.TheVariants.{Alternatives, Single}
 use Rattle.lay_tree.specs.declared.token.Word.{Word}
@@ -212,11 +212,10 @@ pub record Begun (x : PatFacts) (ts rest : Tokens) : Type 0 where
   pub bar : is_op (codes "|") ts ≡ false
   pub closer : (d : Delim) → first (closes d) ts ≡ false
   pub mut : x.begins_mut ≡ false → first (is_keyword (codes "mut")) ts ≡ false
-  pub lone : (x.rest && first (closes Paren) rest) ≡ false → begins_lone_rest ts ≡ false
   pub less : length rest < length ts
 
 pub front_begun : (x : PatFacts) (ts rest : Tokens) → Front ts → length rest < length ts → Begun x ts rest
-front_begun x ts rest f less = record { bar = f.bar; closer = f.closer; mut = λ h. f.mut; lone = λ h. rw f.dots refl; less = less }
+front_begun x ts rest f less = record { bar = f.bar; closer = f.closer; mut = λ h. f.mut; less = less }
 
 -- ---- paths
 

@@ -24,7 +24,6 @@ use Rattle.lay_tree.proofs.nodes.PatternsLaws.{pat_or_is}
 use Rattle.lay_tree.proofs.reader.Loops.{SoundStep}
 use Rattle.lay_tree.proofs.reader.PatternsSoundKinds.{single_by_sound}
 use Rattle.lay_tree.proofs.reader.PatternsSoundLevel.{SoundPatWithin, PatHeld, pat_list}
-use Rattle.lay_tree.proofs.reader.PatternsSoundRest.{rest_alone}
 use Rattle.lay_tree.proofs.reader.TypesSound.{counted_sound, within_sound}
 use Rattle.lay_tree.proofs.reader.TypesSoundNeeds.{chained}
 use Rattle.lay_tree.proofs.reader.TypesSoundParts.{Out, bit_texts, BehindOp, Chain, chain_sound}
@@ -142,7 +141,6 @@ single_at_sound (suc budget) ts x rest t h =
     let sound : SoundPatWithin budget inner = record {
       pats = λ place. pat_in_sound budget (single_at budget) (single_at_sound budget) place;
       kinds = within_sound budget;
-      rest = rest_alone budget;
     } in
     single_by_sound budget inner sound ts x rest t h
 

@@ -1,13 +1,12 @@
 -- Patterns, kind by kind: what is read stands there, where what is one level deeper is read so.
-use Rattle.std.proofs.Common.{◌≡◌, ℕ, zero, suc, Bool, true, false, not, ◌&&◌, ◌||◌, List, [], ◌∷◌, inl, inr, map, drop, codes, option_map, Some, None, refl, sym, ap, subst, ◌∙◌, arith}
-use Rattle.std.proofs.lemmas.Bool.{and_parts, and_from}
+use Rattle.std.proofs.Common.{◌≡◌, ℕ, zero, suc, Bool, true, false, not, ◌&&◌, ◌||◌, List, [], ◌∷◌, inl, inr, map, codes, option_map, Some, None, refl, sym, ap, subst, ◌∙◌, arith}
+use Rattle.std.proofs.lemmas.Bool.{and_from}
 use Rattle.lay_piece.specs.declared.kind.Delim.TheVariants.{Paren, Bracket}
 use Rattle.lay_piece.specs.declared.kind.Kind.{Kind}
 use Rattle.lay_piece.specs.declared.kind.Kind.TheVariants as kind
-use Rattle.lay_token.specs.Operators.{is_op}
-use Rattle.lay_form.specs.Form.{Blank, Fixed, Operator, Form, Done, Piece, Part, Deeper, keyword, opener, closer}
+use Rattle.lay_form.specs.Form.{Blank, Fixed, Form, Done, Piece, Part, keyword, opener, closer}
 use Rattle.lay_form.specs.Notation.{piece, comma_list}
-use Rattle.lay_form.specs.Spelled.{IsOne, IsOperator, IsBit, AreBits, Spells}
+use Rattle.lay_form.specs.Spelled.{IsOne, IsBit, AreBits, Spells}
 use Rattle.lay_form.proofs.FormLaws.{is_end}
 use Rattle.lay_tree.specs.Ahead.{Tokens, first, tail, is_keyword, is_mark, opens, closes}
 use Rattle.lay_tree.specs.Begins.{begins_value}
@@ -19,13 +18,13 @@ use Rattle.lay_tree.specs.nodes.Types as types
 use Rattle.lay_tree.specs.reader.Call.{call}
 use Rattle.lay_tree.specs.reader.Exact.{InText}
 use Rattle.lay_tree.specs.reader.Loops.{passed, nodes, deepest, elements}
-use Rattle.lay_tree.specs.reader.Patterns.{PatWithin, begins_bind, begins_lone_rest, call_pat, is_underscore, is_underscore_kind, lone_rest, paren_by, paren_pat, pat_by, ref_pat, single_by, slice_pat, tuple_of, word_led}
+use Rattle.lay_tree.specs.reader.Patterns.{PatWithin, alone_of, begins_bind, call_pat, is_underscore, is_underscore_kind, paren_by, paren_pat, pat_by, ref_pat, single_by, slice_pat, tuple_of, word_led}
 use Rattle.lay_tree.specs.reader.Types.{begins_call, flag}
 use Rattle.lay_tree.specs.declared.patterns.FieldPat.TheOpen.{Pat-F}
 use Rattle.lay_tree.specs.declared.patterns.Pat.{Pat}
 use Rattle.lay_tree.specs.declared.patterns.Pat.TheVariants as pat
 use Rattle.lay_tree.specs.declared.patterns.PatPlace.TheVariants.{Alternatives, Single}
-use Rattle.lay_tree.proofs.Fronts.{texts_behind, keyword_one, mark_one, opens_one, closes_one, one_front, mark_passed_is, closer_passed_is}
+use Rattle.lay_tree.proofs.Fronts.{texts_behind, keyword_one, mark_one, opens_one, closes_one, one_front, mark_passed_is}
 use Rattle.lay_tree.proofs.Steps.{same_some, chosen, bind_some}
 use Rattle.lay_tree.proofs.nodes.PatternsLaws.{PatView, IsOr, IsValue, IsWild, IsRest, IsCall, IsPath, IsBind, IsSpan, IsRef, IsStruct, IsTupleStruct, IsTuple, IsParen, IsSlice, pat_view, pat_or_is, pat_value_is, pat_wild_is, pat_rest_is, pat_call_is, pat_path_is, pat_bind_is, pat_span_is, pat_ref_is, pat_struct_is, pat_tuple_struct_is, pat_tuple_is, pat_paren_is, pat_slice_is}
 use Rattle.lay_tree.proofs.reader.Call.{call_sound}
@@ -204,26 +203,39 @@ module _ (budget : ℕ) (within : PatWithin) (sound : SoundPatWithin budget with
         t,
       )
 
+  alone_of_sound : (ts inside : Tokens) (y : Pat × ℕ) (mid at : Tokens) → IsBit (opener Paren) ts inside
+      → PatHeld Alternatives budget y inside mid → IsBit (closer Paren) mid at → InText at → (x : Pat × ℕ)
+      (rest : Tokens) → alone_of y at ≡ Some (x, rest) → OpenStep ts x rest
+  alone_of_sound ts inside y mid at o s c t x rest h =
+      let told = about_pat y.0 in
+      let spelled : Spells (paren_form told) y.1 ts at =
+      (inside, (inside, o, refl), (mid, s.1, (at, (at, c, refl), refl))) in
+      elim (chosen told.rest _ _ _ h) [
+        | inl g ↦
+            let tuple : Spells (tuple_form (told ∷ [])) y.1 ts at =
+            subst (λ b. Spells (one_form b told) y.1 ts at) (sym g.0) spelled in
+            same_some (Out (PatOpen (suc budget)) ts) ((pat.Tuple (y.0 ∷ []), suc y.1), at) (x, rest) g.1 (
+              shut_open budget (about_pat (pat.Tuple (y.0 ∷ []))) (tuple_form (told ∷ []))
+                  (all_pats_good Alternatives (told ∷ [])) y.1 ts at (pat_tuple_is (y.0 ∷ [])) s.0 tuple
+                  (and_from (pat_good Alternatives told) true s.2 refl),
+              t,
+            )
+        | inr g ↦
+            same_some (Out (PatOpen (suc budget)) ts) ((pat.Paren y.0, suc y.1), at) (x, rest) g.1 (
+              shut_open budget (about_pat (pat.Paren y.0)) (paren_form told)
+                  (pat_good Alternatives told && not told.rest) y.1 ts at (pat_paren_is y.0) s.0 spelled
+                  (and_from (pat_good Alternatives told) (not told.rest) s.2 (ap not g.0)),
+              t,
+            )
+      ]
+
   paren_by_sound : (ts inside : Tokens) (y : Pat × ℕ) (mid : Tokens) → IsBit (opener Paren) ts inside
       → PatHeld Alternatives budget y inside mid → InText mid → (x : Pat × ℕ) (rest : Tokens)
       → paren_by within y mid ≡ Some (x, rest) → OpenStep ts x rest
   paren_by_sound ts inside y mid o s t x rest h = elim (chosen (first (closes Paren) mid) _ _ _ h) [
     | inl g ↦
         let c = closes_one Paren mid t g.0 in
-        let end = tail mid in
-        let told = about_pat y.0 in
-        elim (chosen told.rest _ _ _ g.1) [
-          | inl f ↦ absurd (cc f.1)
-          | inr f ↦
-              let spelled : Spells (paren_form told) y.1 ts end =
-              (inside, (inside, o, refl), (mid, s.1, (end, (end, c, refl), refl))) in
-              same_some (Out (PatOpen (suc budget)) ts) ((pat.Paren y.0, suc y.1), end) (x, rest) f.1 (
-                shut_open budget (about_pat (pat.Paren y.0)) (paren_form told)
-                    (pat_good Alternatives told && not told.rest) y.1 ts end (pat_paren_is y.0) s.0 spelled
-                    (and_from (pat_good Alternatives told) (not told.rest) s.2 (ap not f.0)),
-                bit_texts (closer Paren) mid end c t,
-              )
-        ]
+        alone_of_sound ts inside y mid (tail mid) o s c (bit_texts (closer Paren) mid (tail mid) c t) x rest g.1
     | inr g ↦
         let k = bind_some (passed (is_mark (codes ",")) mid) _ _ g.1 in
         let more = bind_some (elements (closes Paren) (within.pats Alternatives) k.0) _ _ k.2 in
@@ -233,34 +245,6 @@ module _ (budget : ℕ) (within : PatWithin) (sound : SoundPatWithin budget with
         (bit_texts (Fixed kind.Punct (codes ",")) mid k.0 comma t) more.1 in
         tuple_of_sound ts inside y mid k.0 o s comma more.0.0 more.0.1 e.0 e.1 x rest more.2
   ]
-
-  -- `..` alone
-  lone_sound : (ts inside : Tokens) → IsBit (opener Paren) ts inside → InText inside → begins_lone_rest inside ≡ true
-      → (x : Pat × ℕ) (rest : Tokens) → lone_rest within inside ≡ Some (x, rest) → OpenStep ts x rest
-  lone_sound ts inside o t b x rest h =
-      let y = bind_some (within.pats Single inside) _ _ h in
-      let c = bind_some (passed (closes Paren) y.0.1) _ _ y.2 in
-      let s = sound.pats Single inside y.0.0 y.0.1 t y.1 in
-      let r = sound.rest inside y.0.0 y.0.1 b y.1 in
-      let shut = closer_passed_is Paren y.0.1 c.0 s.1 c.1 in
-      let dots : IsOperator (codes "..") inside y.0.1 =
-      ((and_parts (is_op (codes "..") inside) (first (closes Paren) (drop 2 inside)) b).0, r.2) in
-      let F : Form = piece (opener Paren ∷ Operator (codes "..") ∷ closer Paren ∷ []) in
-      let one : Spells (Deeper Done F) 1 ts c.0 =
-      (ts, refl, (c.0, (inside, o, (y.0.1, dots, (c.0, shut, refl))), refl)) in
-      let told = ap about_pat r.0 ∙ pat_rest_is in
-      let T = tuple_form (about_pat y.0.0.0 ∷ []) in
-      let spelled : Spells T y.0.0.1 ts c.0 =
-      subst (λ n. Spells T n ts c.0) (sym r.1)
-      (subst (λ (z : PatFacts). Spells (tuple_form (z ∷ [])) 1 ts c.0) (sym told) one) in
-      same_some (Out (PatOpen (suc budget)) ts) ((pat.Tuple (y.0.0.0 ∷ []), suc y.0.0.1), c.0) (x, rest) c.2 (
-        shut_open budget (about_pat (pat.Tuple (y.0.0.0 ∷ []))) T
-            (all_pats_good Alternatives (about_pat y.0.0.0 ∷ [])) y.0.0.1 ts c.0 (pat_tuple_is (y.0.0.0 ∷ [])) s.0.0
-            spelled
-            (and_from (about_pat y.0.0.0).told.good true
-            (and_parts (about_pat y.0.0.0).told.good (not (about_pat y.0.0.0).several) s.0.2).0 refl),
-        bit_texts (closer Paren) y.0.1 c.0 shut s.1,
-      )
 
   paren_sound : (ts inside : Tokens) → IsBit (opener Paren) ts inside → InText inside → (x : Pat × ℕ) (rest : Tokens)
       → paren_pat within inside ≡ Some (x, rest) → OpenStep ts x rest
@@ -275,13 +259,10 @@ module _ (budget : ℕ) (within : PatWithin) (sound : SoundPatWithin budget with
               spelled refl,
           bit_texts (closer Paren) inside end c t,
         )
-    | inr g ↦ elim (chosen (begins_lone_rest inside) _ _ _ g.1) [
-      | inl f ↦ lone_sound ts inside o t f.0 x rest f.1
-      | inr f ↦
-          let y = bind_some (within.pats Alternatives inside) _ _ f.1 in
-          let s = sound.pats Alternatives inside y.0.0 y.0.1 t y.1 in
-          paren_by_sound ts inside y.0.0 y.0.1 o s.0 s.1 x rest y.2
-    ]
+    | inr g ↦
+        let y = bind_some (within.pats Alternatives inside) _ _ g.1 in
+        let s = sound.pats Alternatives inside y.0.0 y.0.1 t y.1 in
+        paren_by_sound ts inside y.0.0 y.0.1 o s.0 s.1 x rest y.2
   ]
 
   -- ---- brackets

@@ -1,5 +1,5 @@
 -- Patterns at their places: what is held of those that are read, one level deeper and at their own level.
-use Rattle.std.proofs.Common.{◌≡◌, ℕ, suc, ◌≤◌, Bool, true, false, not, ◌&&◌, List, [], ◌∷◌, map, drop, codes, Some, refl, sym, ap, subst, arith}
+use Rattle.std.proofs.Common.{◌≡◌, ℕ, suc, ◌≤◌, Bool, true, false, not, ◌&&◌, List, [], ◌∷◌, map, codes, refl, sym, ap, subst, arith}
 use Rattle.std.specs.List.{list_all}
 use Rattle.std.proofs.lemmas.Bool.{and_parts, and_from}
 use Rattle.std.proofs.lemmas.List.Folds.{list_all-map}
@@ -10,9 +10,8 @@ use Rattle.lay_tree.specs.Ahead.{Tokens}
 use Rattle.lay_tree.specs.Begins.{begins_span_end}
 use Rattle.lay_tree.specs.Follow.{goes_on_pattern, may_follow}
 use Rattle.lay_tree.specs.nodes.Patterns.{PatFacts, about_pat, all_pats_good, pat_follows, pat_form, pat_forms, pat_good, shut_pat, single_follows}
-use Rattle.lay_tree.specs.reader.Patterns.{PatWithin, begins_lone_rest}
+use Rattle.lay_tree.specs.reader.Patterns.{PatWithin}
 use Rattle.lay_tree.specs.declared.patterns.Pat.{Pat}
-use Rattle.lay_tree.specs.declared.patterns.Pat.TheVariants as pat
 use Rattle.lay_tree.specs.declared.patterns.PatPlace.{PatPlace}
 use Rattle.lay_tree.specs.declared.patterns.PatPlace.TheVariants.{Alternatives, Single}
 use Rattle.lay_tree.proofs.reader.Loops.{SoundStep}
@@ -28,12 +27,10 @@ IsPat place budget x n ts rest =
 abbrev pub PatHeld : PatPlace → ℕ → Pat × ℕ → Tokens → Tokens → Type 0
 PatHeld place budget x ts rest = IsPat place budget (about_pat x.0) x.1 ts rest
 
--- What is read one level deeper stands there within the budget, and a `..` before a `)` is read as a rest alone.
+-- What is read one level deeper stands there within the budget.
 pub record SoundPatWithin (budget : ℕ) (within : PatWithin) : Type 0 where
   pub pats : (place : PatPlace) → SoundStep (within.pats place) (PatHeld place budget)
   pub kinds : SoundWithin budget within.kinds
-  pub rest : (ts : Tokens) (x : Pat × ℕ) (left : Tokens) → begins_lone_rest ts ≡ true
-      → within.pats Single ts ≡ Some (x, left) → (x.0 ≡ pat.Rest) × (x.1 ≡ 1) × (drop 2 ts ≡ left)
 
 -- the forms of patterns at a place, and the test of all of them
 pub pat_list : (place : PatPlace) (xs : List Pat)

@@ -451,22 +451,25 @@ read_or_in_parens : pat_at Single 3 (in_parens (mark (codes "|") ∷ word a ∷ 
 unfolding single_at pat_by simple_path path_pat path_by bind path chain segment args_by repeat repeat_from word_reading op_at paren_pat
 read_or_in_parens = rw (lone a, lone b, pats.pat_or_is (name_a ∷ name_b ∷ [])) refl
 
--- `..` alone in parentheses is a tuple, without a comma and without a bar.
+-- `..` alone in parentheses is a tuple, also behind a bar,
 read_rest_in_parens : pat_at Single 2 (in_parens (dots [])) ≡ Some ((pat.Tuple (pat.Rest ∷ []), 2), [])
-unfolding single_at pat_by span op_at lead_at paren_pat
-read_rest_in_parens = refl
+unfolding single_at pat_by span op_at lead_at paren_pat chain repeat repeat_from
+read_rest_in_parens = rw pats.pat_rest_is refl
 
+read_rest_behind_bar : pat_at Single 2 (in_parens (mark (codes "|") ∷ dots []))
+    ≡ Some ((pat.Tuple (pat.Rest ∷ []), 2), [])
+unfolding single_at pat_by span op_at lead_at paren_pat chain repeat repeat_from
+read_rest_behind_bar = rw pats.pat_rest_is refl
+
+-- one level above it,
 not_rest_within_one : pat_at Single 1 (in_parens (dots [])) ≡ None
-unfolding single_at pat_by op_at paren_pat
+unfolding single_at pat_by op_at paren_pat chain repeat repeat_from
 not_rest_within_one = refl
 
+-- and without a comma.
 not_rest_with_comma : pat_at Single 2 (in_parens (dots (mark (codes ",") ∷ []))) ≡ None
 unfolding single_at pat_by span op_at lead_at paren_pat elements elements_from chain repeat repeat_from
 not_rest_with_comma = rw pats.pat_rest_is refl
-
-not_rest_behind_bar : pat_at Single 2 (in_parens (mark (codes "|") ∷ dots [])) ≡ None
-unfolding single_at pat_by span op_at lead_at paren_pat chain repeat repeat_from
-not_rest_behind_bar = rw pats.pat_rest_is refl
 
 read_slice : pat_at Single 2 (opens Bracket ∷ word a ∷ mark (codes ",") ∷ dots (closes Bracket ∷ []))
     ≡ Some ((pat.Slice (name_a ∷ pat.Rest ∷ []), 2), [])

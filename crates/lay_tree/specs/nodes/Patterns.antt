@@ -6,7 +6,7 @@ use Rattle.lay_piece.specs.Characters as char
 use Rattle.lay_piece.specs.declared.kind.Delim.TheVariants.{Paren, Bracket}
 use Rattle.lay_piece.specs.declared.kind.Kind.TheVariants as kind
 use Rattle.lay_token.specs.Operators.{is_op}
-use Rattle.lay_form.specs.Form.{Bit, Blank, Fixed, Operator, Form, Done, Piece, Leaf, Part, Deeper, Optional, punct, keyword, opener, closer}
+use Rattle.lay_form.specs.Form.{Bit, Blank, Fixed, Operator, Form, Done, Piece, Leaf, Part, Optional, punct, keyword, opener, closer}
 use Rattle.lay_form.specs.Notation.{B, I0, piece, when, comma_list, braces, behind_attrs}
 use Rattle.lay_form.specs.Spelled as spelled
 use Rattle.lay_tree.specs.Ahead.{Tokens}
@@ -199,9 +199,9 @@ abbrev pub bound_lacks_bound : Option PatFacts → Bool
 bound_lacks_bound None = true
 bound_lacks_bound (Some x) = x.lacks_bound
 
--- One element has its comma, but `..` alone is one text with its parentheses, within which it stands one level deeper.
+-- One element has its comma, but `..` alone has none.
 abbrev pub one_form : Bool → PatFacts → Form
-one_form true x = Deeper Done (piece (opener Paren ∷ Operator (codes "..") ∷ closer Paren ∷ []))
+one_form true x = Piece (opener Paren ∷ []) (Part (pat_form Alternatives x) (piece (closer Paren ∷ [])))
 one_form false x = Piece (opener Paren ∷ []) (Part (pat_form Alternatives x) (piece (punct char.comma ∷ closer Paren ∷ [])))
 
 abbrev pub tuple_form : List PatFacts → Form

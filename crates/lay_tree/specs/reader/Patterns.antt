@@ -176,15 +176,9 @@ ref_pat within ts = do
   x ← within.pats Single (flag (is_keyword (codes "mut")) ts).1
   if (about_pat x.0.0).span then None else Some ((pat.Ref (flag (is_keyword (codes "mut")) ts).0 x.0.0, suc x.0.1), x.1)
 
--- `..` alone in parentheses, behind the `(`
-abbrev pub begins_lone_rest : Tokens → Bool
-begins_lone_rest ts = is_op (codes "..") ts && first (closes Paren) (drop 2 ts)
-
-abbrev pub lone_rest : PatWithin → Tokens → Read Pat
-lone_rest within ts = do
-  x ← within.pats Single ts
-  rest ← passed (closes Paren) x.1
-  Some ((pat.Tuple (x.0.0 ∷ []), suc x.0.1), rest)
+-- A pattern alone in parentheses: `..` is the one element of a tuple.
+abbrev pub alone_of : Pat × ℕ → Tokens → Read Pat
+alone_of x ts = if (about_pat x.0).rest then Some ((pat.Tuple (x.0 ∷ []), suc x.1), ts) else Some ((pat.Paren x.0, suc x.1), ts)
 
 -- A tuple of one element that is `..` has no comma.
 abbrev pub tuple_of : Pat × ℕ → List (Pat × ℕ) → Tokens → Read Pat
@@ -194,7 +188,7 @@ tuple_of x (y ∷ more) ts = Some ((pat.Tuple (x.0 ∷ nodes (y ∷ more)), suc 
 -- what stands behind a `(` and a pattern
 abbrev pub paren_by : PatWithin → Pat × ℕ → Tokens → Read Pat
 paren_by within x ts =
-    if first (closes Paren) ts then (if (about_pat x.0).rest then None else Some ((pat.Paren x.0, suc x.1), tail ts))
+    if first (closes Paren) ts then alone_of x (tail ts)
     else (do
       behind ← passed (is_mark (codes ",")) ts
       more ← elements (closes Paren) (within.pats Alternatives) behind
@@ -204,8 +198,7 @@ paren_by within x ts =
 unfoldable pub paren_pat : PatWithin → Tokens → Read Pat
 paren_pat within ts =
     if first (closes Paren) ts then Some ((pat.Tuple [], 1), tail ts)
-    else (if begins_lone_rest ts then lone_rest within ts
-    else (do x ← within.pats Alternatives ts; paren_by within x.0 x.1))
+    else (do x ← within.pats Alternatives ts; paren_by within x.0 x.1)
 
 -- what stands behind a `[`
 unfoldable pub slice_pat : PatWithin → Tokens → Read Pat

@@ -99,14 +99,10 @@ add_pats-returns g t c =
     ∙ ap (λ (b : _). row (list_opened c.args.opener.now) comma_between (map pat_told c.args.pats.now)
     ++ list_closed true b c.args.both.now c.args.closer.now) c.is_empty.ensures)
 
-pub add_single-returns-then-is_rest : goal.add_single-returns-then-is_rest
-add_single-returns-then-is_rest g t c =
-    adds c.add_text.ensures (of.rest_single c.args.element.now _ c.is_rest.ensures c.if-is_rest.true)
-
 pub add_single-returns : goal.add_single-returns
 add_single-returns g t c =
-    adds (adds_on c.add_text-opener.ensures (adds_on c.add_pat-element.ensures c.add_text-2.ensures))
-    (of.one_single c.args.element.now _ c.is_rest.ensures c.if-is_rest.false)
+    adds (adds_on c.add_text-opener.ensures (adds_on c.add_pat-element.ensures c.add_either.ensures))
+    (of.one_single c.args.element.now _ c.is_rest-rest.ensures)
 
 pub add_pat-returns-in-Or : goal.add_pat-returns-in-Or
 add_pat-returns-in-Or g t c =
