@@ -89,3 +89,4 @@ pub mod StructsExact
 pub mod ExprSoundLevel
 pub mod ExprReads
 pub mod ExprHeads
+pub mod ExprLeads
