@@ -90,3 +90,4 @@ pub mod ExprSoundLevel
 pub mod ExprReads
 pub mod ExprHeads
 pub mod ExprLeads
+pub mod ExprFronts
