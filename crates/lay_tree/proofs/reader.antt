@@ -91,3 +91,4 @@ pub mod ExprReads
 pub mod ExprHeads
 pub mod ExprLeads
 pub mod ExprFronts
+pub mod ExprQuiet
