@@ -9,7 +9,7 @@ use Rattle.lay_piece.specs.declared.kind.Kind.TheVariants.{Punct, Opener, Closer
 use Rattle.lay_token.specs.Operators.{op_at, is_op_of, is_op}
 use Rattle.lay_form.specs.Spelled.{IsOne}
 use Rattle.lay_tree.specs.Ahead.{Tokens, first, is_keyword, is_lifetime, opens}
-use Rattle.lay_tree.specs.Follow.{OfRename, OfArgs, OfCodeArgs, OfArrow, OfColons, OfBang}
+use Rattle.lay_tree.specs.Follow.{may_follow, OfRename, OfArgs, OfCodeArgs, OfArrow, OfColons, OfBang}
 use Rattle.lay_tree.specs.Operands.{begins_operand}
 use Rattle.lay_tree.specs.Operators.{all_ops, named, binary, is_dot_or_try, begins_step, strength_by, strength}
 use Rattle.lay_tree.specs.declared.exprs.Place.{Place}
@@ -30,6 +30,31 @@ pub record ExprEnds (no_struct : Bool) (ts : Tokens) : Type 0 where
   pub pointer : begins_pointer ts ≡ false
   pub quiet : Quiet ts
 
+-- ---- what may follow what an expression ends in, test by test
+
+pub record TailFits (t : Tail) (no_struct : Bool) (ts : Tokens) : Type 0 where
+  pub all : (not t.takes_all || strength ts == 0) ≡ true
+  pub bare : not (t.bare && begins_operand no_struct ts) ≡ true
+  pub path : not (t.path && (not no_struct && first (opens Brace) ts)) ≡ true
+  pub label : not (t.unlabelled && first is_lifetime ts) ≡ true
+  pub raw : not (t.raw && begins_pointer ts) ≡ true
+  pub refuses : may_follow t.refuses ts ≡ true
+
+six : (a b c d e f : Bool) → (a && b && c && d && e && f) ≡ true
+    → (a ≡ true) × (b ≡ true) × (c ≡ true) × (d ≡ true) × (e ≡ true) × (f ≡ true)
+six true true true true true true h = (h, h, h, h, h, h)
+six _ _ _ _ _ _ h = absurd (cc)
+
+pub tail_fits : (t : Tail) (no_struct : Bool) (ts : Tokens) → tail_follows t no_struct ts ≡ true → TailFits t no_struct ts
+tail_fits t no_struct ts h =
+    let p =
+    six (not t.takes_all || strength ts == 0) (not (t.bare && begins_operand no_struct ts)) (not (t.path && (not no_struct && first (opens Brace) ts)))
+    (not (t.unlabelled && first is_lifetime ts)) (not (t.raw && begins_pointer ts)) (may_follow t.refuses ts) h in
+    record { all = p.0; bare = p.1; path = p.2; label = p.3; raw = p.4; refuses = p.5 }
+
+pub fits_tail : (t : Tail) (no_struct : Bool) (ts : Tokens) → TailFits t no_struct ts → tail_follows t no_struct ts ≡ true
+fits_tail t no_struct ts f = rw (f.all, f.bare, f.path, f.label, f.raw) f.refuses
+
 -- ---- it may follow every expression
 
 not_both : (a b : Bool) → b ≡ false → not (a && b) ≡ true
@@ -37,13 +62,14 @@ not_both true b e = rw e refl
 not_both false b e = refl
 
 pub ends_tail : (t : Tail) (no_struct : Bool) (ts : Tokens) → ExprEnds no_struct ts → tail_follows t no_struct ts ≡ true
-ends_tail t no_struct ts e =
-    let all : (not t.takes_all || strength ts == 0) ≡ true = rw e.weak (or_true (not t.takes_all)) in
-    let bare = not_both t.bare (begins_operand no_struct ts) e.operand in
-    let path = not_both t.path (not no_struct && first (opens Brace) ts) e.brace in
-    let label = not_both t.unlabelled (first is_lifetime ts) e.lifetime in
-    let raw = not_both t.raw (begins_pointer ts) e.pointer in
-    rw (all, bare, path, label, raw) (quiet_follows t.refuses ts e.quiet)
+ends_tail t no_struct ts e = fits_tail t no_struct ts (record {
+  all = rw e.weak (or_true (not t.takes_all));
+  bare = not_both t.bare (begins_operand no_struct ts) e.operand;
+  path = not_both t.path (not no_struct && first (opens Brace) ts) e.brace;
+  label = not_both t.unlabelled (first is_lifetime ts) e.lifetime;
+  raw = not_both t.raw (begins_pointer ts) e.pointer;
+  refuses = quiet_follows t.refuses ts e.quiet;
+})
   where
     or_true : (a : Bool) → (a || true) ≡ true
     or_true true = refl
