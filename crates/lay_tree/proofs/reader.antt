@@ -92,3 +92,4 @@ pub mod ExprHeads
 pub mod ExprLeads
 pub mod ExprFronts
 pub mod ExprQuiet
+pub mod ExprHeadsWords
