@@ -93,3 +93,4 @@ pub mod ExprLeads
 pub mod ExprFronts
 pub mod ExprQuiet
 pub mod ExprHeadsWords
+pub mod ExprHeadsJumps
