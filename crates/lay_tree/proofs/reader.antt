@@ -94,3 +94,4 @@ pub mod ExprFronts
 pub mod ExprQuiet
 pub mod ExprHeadsWords
 pub mod ExprHeadsJumps
+pub mod ExprHeadsLists
