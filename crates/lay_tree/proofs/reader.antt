@@ -95,3 +95,4 @@ pub mod ExprQuiet
 pub mod ExprHeadsWords
 pub mod ExprHeadsJumps
 pub mod ExprHeadsLists
+pub mod ExprHeadsRaw
