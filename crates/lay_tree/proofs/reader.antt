@@ -88,4 +88,9 @@ pub mod StructsComplete
 pub mod StructsExact
 pub mod ExprSoundLevel
 pub mod ExprReads
+pub mod ExprHeads
+pub mod ExprLeads
+pub mod ExprFronts
 pub mod ExprOperators
+pub mod ExprOperatorsLoops
+pub mod ExprSteps
