@@ -24,7 +24,7 @@ use Rattle.lay_tree.specs.nodes.Places.{FREE}
 use Rattle.lay_tree.specs.nodes.Types.{ArgsFacts, angle_form, about_arg, about_args}
 use Rattle.lay_tree.specs.reader.Exprs.{ExprWithin, free_elements, method_by, generics_by, member_by, is_index_token, dot_step, one_step, begins_tuple_index}
 use Rattle.lay_tree.specs.reader.Loops.{Got, Read, ◌>>=◌, passed, nodes, deepest, elements}
-use Rattle.lay_tree.specs.reader.Types.{Within, angled, one_arg, literal, no_args, args_by}
+use Rattle.lay_tree.specs.reader.Types.{Within, angle, angled, one_arg, literal, no_args, args_by}
 use Rattle.lay_tree.specs.reader.Words.{name}
 use Rattle.lay_tree.specs.declared.exprs.Expr.{Expr}
 use Rattle.lay_tree.specs.declared.exprs.Expr.TheOpen.{Step-F}
@@ -52,6 +52,7 @@ use Rattle.lay_tree.proofs.reader.Needs.{list_complete}
 use Rattle.lay_tree.proofs.reader.TypesBegins.{list_front, list_opens}
 use Rattle.lay_tree.proofs.reader.TypesComplete.{Reads, args_read}
 use Rattle.lay_tree.proofs.reader.TypesCompleteParts.{literal_complete}
+use Rattle.lay_tree.proofs.reader.TypesFronts.{Clear}
 use Rattle.lay_tree.proofs.reader.TypesLists.{forms_of}
 use Rattle.lay_tree.proofs.reader.Words.{GoodName, name_complete}
 
@@ -178,6 +179,29 @@ step_begun s depth ts rest t = at s (step_view s) t
 abbrev free_facts : Expr → Facts
 free_facts x = record { form = (about_expr x).form; good = placed (about_expr x) FREE; refuses = [] }
 
+-- Generic arguments that are read in code are angled ones behind a `::`.
+late_parts : (within : Within) (xs : List Arg) (need : ℕ) (ts rest : Tokens) → args_by within Code ts ≡ Some ((args.Angle xs, need), rest)
+    → (opens_args_late ts ≡ true) × (ys : List (Arg × ℕ)) × (angled (one_arg within) (drop 2 ts) ≡ Some (ys, rest)) × (nodes ys ≡ xs) × (deepest ys ≡ need)
+unfolding args_by angle
+late_parts within xs need ts rest h =
+    elim (chosen (opens_args_late ts) (angle within (drop 2 ts)) (no_args ts) (Some ((args.Angle xs, need), rest)) h) [
+      | inl g ↦
+          let go_on : List (Arg × ℕ) × Tokens → Read Args = λ ys. Some ((args.Angle (nodes ys.0), deepest ys.0), ys.1) in
+          let b = bind_some (angled (one_arg within) (drop 2 ts)) go_on ((args.Angle xs, need), rest) g.1 in
+          let e = read_same (args.Angle (nodes b.0.0)) (args.Angle xs) (deepest b.0.0) need b.0.1 rest b.2 in
+          let left : angled (one_arg within) (drop 2 ts) ≡ Some (b.0.0, rest) = b.1 ∙ ap (λ (us : Tokens). let found : Got (List (Arg × ℕ)) = Some (b.0.0, us) in found) e.2 in
+          (g.0, b.0.0, left, angle_same (nodes b.0.0) xs e.0, e.1)
+      | inr g ↦
+          let e = read_same args.None (args.Angle xs) 0 need ts rest g.1 in
+          absurd (no_angle xs e.0)
+    ]
+  where
+    angle_same : (ys zs : List Arg) → args.Angle ys ≡ args.Angle zs → ys ≡ zs
+    angle_same ys zs e = cc (sym (views.outs-Angle ys) ∙ ap views.out-Args e ∙ views.outs-Angle zs)
+
+    no_angle : (ys : List Arg) → args.None ≡ args.Angle ys → ⊥
+    no_angle ys e = let f = sym views.outs-None ∙ ap views.out-Args e ∙ views.outs-Angle ys in absurd (cc)
+
 module _ (quiet : (x : ExprFacts) (d : Delim) (ts : Tokens) → Ends d ts → follows x FREE ts ≡ true) (depth : ℕ) (within : ExprWithin)
     (reads : ExprReads depth within) where
   free_read : (x : Expr) (d : Delim) (ts rest : Tokens) → GoodAt free_facts depth x ts rest → Ends d rest
@@ -203,3 +227,143 @@ module _ (quiet : (x : ExprFacts) (d : Delim) (ts : Tokens) → Ends d ts → fo
   abbrev pub Behind : StepKind → Tokens → Type 0
   Behind OfField ts = (first (opens Paren) ts ≡ false) × (is_op (codes "::") ts ≡ false)
   Behind _ ts = Unit {0}
+
+  dotted : (ts at : Tokens) → IsOperator (codes ".") ts at → one_step within ts ≡ dot_step within at
+  unfolding one_step
+  dotted ts at o = rw (o.0, o.1) refl
+
+  named : (n : Name) (ts at : Tokens) → GoodName n ts at → dot_step within ts ≡ member_by within n at
+  unfolding dot_step
+  named n ts at g = rw (name_no_await n ts at g, name_no_index n.raw n.text ts at g.0, name_complete n ts at g) refl
+
+  field_read : (n : Name) (ts at rest : Tokens) → IsOperator (codes ".") ts at → GoodName n at rest → Behind OfField rest
+      → one_step within ts ≡ Some ((step.Field n, 0), rest)
+  field_read n ts at rest o g b = dotted ts at o ∙ named n at rest g ∙ (rw (b.0, b.1) refl)
+
+  index_read : (i : List ℕ) (ts at rest : Tokens) → IsOperator (codes ".") ts at → IsOne Int i at rest → is_index (chars i) ≡ true
+      → one_step within ts ≡ Some ((step.TupleIndex i, 0), rest)
+  unfolding dot_step
+  index_read i ts at rest o one g =
+      let l = literal_complete is_index_token (record { kind = Int; text = i }) at rest (λ t. g) one in
+      let no_await : first (is_keyword (codes "await")) at ≡ false = rw (one_front Int i at rest one).1 refl in
+      dotted ts at o ∙ (rw (no_await, l.1, l.0) refl)
+
+  await_read : (ts at rest : Tokens) → IsOperator (codes ".") ts at → IsOne Ident (codes "await") at rest → one_step within ts ≡ Some ((step.Await, 0), rest)
+  unfolding dot_step
+  await_read ts at rest o one =
+      let f = (one_front Ident (codes "await") at rest one).1 in
+      let there : first (is_keyword (codes "await")) at ≡ true = rw f refl in
+      let left : tail at ≡ rest = rw f refl in
+      dotted ts at o ∙ (rw (there, left) refl)
+
+  try_read : (ts rest : Tokens) → IsOperator (codes "?") ts rest → one_step within ts ≡ Some ((step.Try, 0), rest)
+  unfolding one_step
+  try_read ts rest o = rw (other_op (codes "?") (codes ".") refl ts o.0, o.0, o.1) refl
+
+  method_read : (n : Name) (generics : Option (List Arg)) (xs : List Expr) (more need : ℕ) (ts inside rest : Tokens)
+      → IsOne (Opener Paren) (opening Paren ∷ []) ts inside → free_elements within (closes Paren) inside ≡ Some ((xs, need), rest)
+      → method_by within n generics more ts ≡ Some ((step.Method n generics xs, max more need), rest)
+  method_read n generics xs more need ts inside rest o r = rw (opener_passed Paren ts inside o, r) refl
+
+  plain_method : (n : Name) (xs : List Expr) (need : ℕ) (ts at behind inside rest : Tokens) → IsOperator (codes ".") ts at → GoodName n at behind
+      → IsOne (Opener Paren) (opening Paren ∷ []) behind inside → free_elements within (closes Paren) inside ≡ Some ((xs, need), rest)
+      → one_step within ts ≡ Some ((step.Method n None xs, max 0 need), rest)
+  plain_method n xs need ts at behind inside rest o g p r =
+      let there : first (opens Paren) behind ≡ true = rw (one_front (Opener Paren) (opening Paren ∷ []) behind inside p).1 refl in
+      let plain : member_by within n behind ≡ method_by within n None 0 behind = rw there refl in
+      dotted ts at o ∙ named n at behind g ∙ plain ∙ method_read n None xs 0 need behind inside rest p r
+
+  generic_method : (n : Name) (gs : List Arg) (xs : List Expr) (most need : ℕ) (ts at behind beyond inside rest : Tokens) → IsOperator (codes ".") ts at
+      → GoodName n at behind → is_op (codes "::") behind ≡ true → args_by within.kinds Code behind ≡ Some ((args.Angle gs, most), beyond)
+      → IsOne (Opener Paren) (opening Paren ∷ []) beyond inside → free_elements within (closes Paren) inside ≡ Some ((xs, need), rest)
+      → one_step within ts ≡ Some ((step.Method n (Some gs) xs, max most need), rest)
+  generic_method n gs xs most need ts at behind beyond inside rest o g c a p r =
+      let l = late_parts within.kinds gs most behind beyond a in
+      let no_paren : first (opens Paren) behind ≡ false = op_test (is_opener Paren) (codes "::") behind c in
+      dotted ts at o ∙ named n at behind g
+      ∙ (rw (no_paren, l.0, l.2, l.3, l.4) (method_read n (Some gs) xs most need beyond inside rest p r))
+
+  call_read : (xs : List Expr) (need : ℕ) (ts inside rest : Tokens) → IsOne (Opener Paren) (opening Paren ∷ []) ts inside
+      → free_elements within (closes Paren) inside ≡ Some ((xs, need), rest) → one_step within ts ≡ Some ((step.Apply xs, need), rest)
+  unfolding one_step
+  call_read xs need ts inside rest o r =
+      let no : (op : List ℕ) → is_op op ts ≡ false = λ op. one_no_op op (Opener Paren) (opening Paren ∷ []) ts inside refl o in
+      let f = (one_front (Opener Paren) (opening Paren ∷ []) ts inside o).1 in
+      let there : first (opens Paren) ts ≡ true = rw f refl in
+      let left : tail ts ≡ inside = rw f refl in
+      rw (no (codes "."), no (codes "?"), there, left, r) refl
+
+  subscript_read : (x : Expr) (need : ℕ) (ts inside end rest : Tokens) → IsOne (Opener Bracket) (opening Bracket ∷ []) ts inside
+      → within.exprs FREE inside ≡ Some ((x, need), end) → IsOne (Closer Bracket) (closing Bracket ∷ []) end rest
+      → one_step within ts ≡ Some ((step.Index x, need), rest)
+  unfolding one_step
+  subscript_read x need ts inside end rest o r c =
+      let no : (op : List ℕ) → is_op op ts ≡ false = λ op. one_no_op op (Opener Bracket) (opening Bracket ∷ []) ts inside refl o in
+      let no_paren : first (opens Paren) ts ≡ false = rw (one_front (Opener Bracket) (opening Bracket ∷ []) ts inside o).1 refl in
+      rw (no (codes "."), no (codes "?"), no_paren, opener_passed Bracket ts inside o, r, closer_passed Bracket end rest c) refl
+
+  -- A step that is spelled, and behind which nothing stands that would make another of it, is read.
+  pub step_read : (s : Step) (ts rest : Tokens) → Spells (about_step s).form depth ts rest → (about_step s).good ≡ true → Behind (about_step s).kind rest
+      → IsRead depth (one_step within) s ts rest
+  step_read s ts rest = at s (step_view s)
+    where
+      Told : Step → StepFacts → Type 0
+      Told s F = Spells F.form depth ts rest → F.good ≡ true → Behind F.kind rest → IsRead depth (one_step within) s ts rest
+
+      told : (s : Step) (F : StepFacts) → about_step s ≡ F → Told s F → Told s (about_step s)
+      told s F e f = subst (Told s) (sym e) f
+
+      at : (s : Step) → StepView s → Told s (about_step s)
+      at _ (IsFieldStep n) = told (step.Field n) (step_facts (Step-F.Field n)) (step_field_is n) (λ u g b.
+          let o : IsOperator (codes ".") ts u.0 = bit_alone (Operator (codes ".")) ts u.0 u.1 in
+          (0, omega arith, field_read n ts u.0 rest o (leaf_alone n.raw n.text depth u.0 rest u.2, g) b))
+      at _ (IsTupleIndexStep i) = told (step.TupleIndex i) (step_facts (Step-F.TupleIndex i)) (step_tuple_index_is i) (λ u g b.
+          let o : IsOperator (codes ".") ts u.0 = bit_alone (Operator (codes ".")) ts u.0 u.1 in
+          let behind = u.2 in
+          (0, omega arith, index_read i ts u.0 rest o (subst (λ us. IsOne Int i u.0 us) behind.2 behind.1) g))
+      at _ (IsMethodStep n None xs) = told (step.Method n None xs) (step_facts (Step-F.Method n None (map about_expr xs))) (step_method_is n None xs) (λ u g b.
+          let o : IsOperator (codes ".") ts u.0 = bit_alone (Operator (codes ".")) ts u.0 u.1 in
+          let l = leaf_parts n.raw n.text (Part (args_form (map about_expr xs)) Done) depth u.0 rest u.2 in
+          let g2 = and_parts (is_name n.raw n.text && true) (all_free (map about_expr xs)) g in
+          let g1 = and_parts (is_name n.raw n.text) true g2.0 in
+          let a = free_args xs l.0 rest (part_alone (args_form (map about_expr xs)) depth l.0 rest l.2) g2.1 in
+          let r = a.2 in
+          (max 0 r.0, omega (arith, r.1), plain_method n xs r.0 ts u.0 l.0 a.0 rest o (l.1, g1.0) a.1 r.2))
+      at _ (IsMethodStep n (Some gs) xs) = told (step.Method n (Some gs) xs) (step_facts (Step-F.Method n (Some gs) (map about_expr xs))) (step_method_is n (Some gs) xs) (λ u g b.
+          let o : IsOperator (codes ".") ts u.0 = bit_alone (Operator (codes ".")) ts u.0 u.1 in
+          let f : Form = generics_form (Some gs) (Part (args_form (map about_expr xs)) Done) in
+          let l = leaf_parts n.raw n.text f depth u.0 rest u.2 in
+          let behind = l.2 in
+          let c : IsOperator (codes "::") l.0 behind.0 = bit_alone (Operator (codes "::")) l.0 behind.0 behind.1 in
+          let angles = behind.2 in
+          let beyond = angles.0 in
+          let g2 = and_parts (is_name n.raw n.text && all_good (map about_arg gs)) (all_free (map about_expr xs)) g in
+          let g1 = and_parts (is_name n.raw n.text) (all_good (map about_arg gs)) g2.0 in
+          let spelled = subst (λ (F : ArgsFacts). Spells F.code.form depth l.0 beyond) (sym (args_angle_is gs)) (behind.0, behind.1, angles.1) in
+          let good = subst (λ (F : ArgsFacts). F.code.good ≡ true) (sym (args_angle_is gs)) g1.1 in
+          let clear = subst (λ (F : ArgsFacts). Clear F.code.refuses beyond) (sym (args_angle_is gs)) refl in
+          let t = args_read depth within.kinds reads.kinds Code (args.Angle gs) l.0 beyond spelled good clear in
+          let a = free_args xs beyond rest (part_alone (args_form (map about_expr xs)) depth beyond rest angles.2) g2.1 in
+          let r = a.2 in
+          (max t.0 r.0, omega (arith, t.1, r.1), generic_method n gs xs t.0 r.0 ts u.0 l.0 beyond a.0 rest o (l.1, g1.0) c.0 t.2 a.1 r.2))
+      at _ (IsApplyStep xs) = told (step.Apply xs) (step_facts (Step-F.Apply (map about_expr xs))) (step_apply_is xs) (λ u g b.
+          let a = free_args xs ts rest u g in
+          let r = a.2 in
+          (r.0, r.1, call_read xs r.0 ts a.0 rest a.1 r.2))
+      at _ (IsIndexStep x) = told (step.Index x) (step_facts (Step-F.Index (about_expr x))) (step_index_is x) (λ u g b.
+          let inside = u.1.0 in
+          let o : IsOne (Opener Bracket) (opening Bracket ∷ []) ts inside = bit_alone (opener Bracket) ts inside u.1.1 in
+          let part = u.1.2 in
+          let end = part.0 in
+          let c : IsOne (Closer Bracket) (closing Bracket ∷ []) end rest =
+          subst (λ us. IsOne (Closer Bracket) (closing Bracket ∷ []) end us) u.2 (piece_bit (closer Bracket) depth end u.0 part.2) in
+          let r = reads.exprs FREE x inside end part.1 g (quiet (about_expr x) Bracket end (rest, inr c)) in
+          (r.0, r.1, subscript_read x r.0 ts inside end rest o r.2 c))
+      at _ IsTryStep = told step.Try (step_facts Step-F.Try) step_try_is (λ u g b.
+          let o : IsOperator (codes "?") ts rest = piece_bit (Operator (codes "?")) depth ts rest u in
+          (0, omega arith, try_read ts rest o))
+      at _ IsAwaitStep = told step.Await (step_facts Step-F.Await) step_await_is (λ u g b.
+          let bits = u.1 in
+          let one : IsOne Ident (codes "await") bits.0 rest =
+          subst (λ us. IsOne Ident (codes "await") bits.0 us) u.2 (bit_alone (keyword (codes "await")) bits.0 u.0 bits.2) in
+          (0, omega arith, await_read ts bits.0 rest bits.1 one))
