@@ -91,6 +91,7 @@ pub mod ExprReads
 pub mod ExprHeads
 pub mod ExprLeads
 pub mod ExprFronts
+pub mod ExprQuiet
 pub mod ExprOperators
 pub mod ExprOperatorsLoops
 pub mod ExprSteps

@@ -21,6 +21,7 @@ use Rattle.lay_tree.specs.declared.operators.Op.{Op}
 use Rattle.lay_tree.specs.declared.operators.Op.TheVariants as op
 use Rattle.lay_tree.proofs.Fronts.{keyword_one, one_front, op_front, op_test, op_shorter, opener_kind, other_op}
 use Rattle.lay_tree.proofs.Steps.{chosen, bind_some}
+use Rattle.lay_tree.proofs.reader.TypesComplete.{and_none}
 
 -- ---- operators by their texts
 
@@ -327,10 +328,6 @@ op_follows (b ∷ bs) ts o h a =
     one OfArrow g = i.arrow
     one OfColons g = i.colons
     one OfBang g = i.bang
-
-and_none : (a : Bool) → (a && false) ≡ false
-and_none true = refl
-and_none false = refl
 
 tail_inner : (t : Tail) (no_struct : Bool) (ts : Tokens) → Inner ts → is_open t ≡ false → may_follow t.refuses ts ≡ true → tail_follows t no_struct ts ≡ true
 tail_inner t no_struct ts i shut f =

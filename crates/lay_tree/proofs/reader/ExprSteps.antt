@@ -1,8 +1,8 @@
 -- Steps behind a base: each is read where it is spelled, and told by its first token.
-use Rattle.std.proofs.Common.{◌≡◌, ℕ, ◌≤◌, ◌<◌, max, Bool, true, false, not, ◌&&◌, ◌||◌, List, [], ◌∷◌, map, length, drop, codes, Option, Some, None, inl, inr, refl, sym, ap, subst, ◌∙◌, arith, if◌then◌else◌}
+use Rattle.std.proofs.Common.{◌≡◌, ℕ, suc, ◌≤◌, ◌<◌, max, Bool, true, false, not, ◌&&◌, ◌||◌, List, [], ◌∷◌, map, length, drop, codes, Option, Some, None, inl, inr, refl, sym, ap, subst, ◌∙◌, arith, if◌then◌else◌, nat_le}
 use Rattle.std.specs.List.{list_all}
 use Rattle.std.specs.Str.{chars}
-use Rattle.std.proofs.lemmas.Bool.{and_parts, false_from_ne_true}
+use Rattle.std.proofs.lemmas.Bool.{and_parts, or_parts, not-true, false_from_ne_true}
 use Rattle.std.proofs.lemmas.List.Folds.{list_all-map}
 use Rattle.lay_piece.specs.Forms.{opening, closing}
 use Rattle.lay_piece.specs.Number.{is_index}
@@ -18,16 +18,18 @@ use Rattle.lay_form.proofs.FormLaws.{shorter}
 use Rattle.lay_tree.specs.Ahead.{Tokens, first, tail, is_keyword, is_opener, opens, closes, opens_args_late}
 use Rattle.lay_tree.specs.Operators.{is_dot_or_try, begins_step}
 use Rattle.lay_tree.specs.Words.{is_plain, is_name, leaf_of, colons}
-use Rattle.lay_tree.specs.nodes.Exprs.{ExprFacts, StepKind, OfField, OfTupleIndex, OfMethod, OfCall, OfIndex, OfTry, OfAwait, StepFacts, placed, follows, expr_forms, all_free, is_tuple_index, is_call, is_dotted, generics_form, are_generics, args_form, step_facts, about_expr, about_step}
+use Rattle.lay_tree.specs.Follow.{may_follow}
+use Rattle.lay_tree.specs.nodes.Exprs.{ExprFacts, StepKind, OfField, OfTupleIndex, OfMethod, OfCall, OfIndex, OfTry, OfAwait, StepFacts, placed, follows, expr_forms, all_free, is_field, is_tuple_index, is_method, is_call, is_dotted, generics_form, args_form, are_steps, tail_of_steps, methods, break_if, steps_form, group_if, postfix_form, step_facts, about_expr, about_step}
 use Rattle.lay_tree.specs.nodes.Facts.{Facts, all_good, forms}
 use Rattle.lay_tree.specs.nodes.Places.{FREE}
 use Rattle.lay_tree.specs.nodes.Types.{ArgsFacts, angle_form, about_arg, about_args}
-use Rattle.lay_tree.specs.reader.Exprs.{ExprWithin, free_elements, method_by, generics_by, member_by, is_index_token, dot_step, one_step, begins_tuple_index}
+use Rattle.lay_tree.specs.reader.Exprs.{ExprWithin, free_elements, method_by, member_by, is_index_token, dot_step, one_step, begins_tuple_index, postfix_expr}
 use Rattle.lay_tree.specs.reader.Loops.{Got, Read, ◌>>=◌, passed, nodes, deepest, elements}
 use Rattle.lay_tree.specs.reader.Types.{Within, angle, angled, one_arg, literal, no_args, args_by}
 use Rattle.lay_tree.specs.reader.Words.{name}
 use Rattle.lay_tree.specs.declared.exprs.Expr.{Expr}
 use Rattle.lay_tree.specs.declared.exprs.Expr.TheOpen.{Step-F}
+use Rattle.lay_tree.specs.declared.exprs.Expr.TheVariants as expr
 use Rattle.lay_tree.specs.declared.exprs.Step.{Step}
 use Rattle.lay_tree.specs.declared.exprs.Step.TheVariants as step
 use Rattle.lay_tree.specs.declared.token.Name.{Name}
@@ -38,7 +40,7 @@ use Rattle.lay_tree.specs.declared.types.Args.{Args}
 use Rattle.lay_tree.specs.declared.types.Args.TheVariants as args
 use Rattle.lay_tree.specs.declared.types.PathStyle.TheVariants.{Code}
 use Rattle.lay_tree.proofs.Fronts.{keyword_one, one_front, one_test, one_no_op, one_shorter, op_shorter, op_test, other_op, opener_passed, closer_passed, opener_kind}
-use Rattle.lay_tree.proofs.Parts.{bit_alone, piece_bit, part_alone, word_kind, leaf_alone, leaf_parts, SpelledAt, GoodAt}
+use Rattle.lay_tree.proofs.Parts.{bit_alone, piece_bit, part_alone, word_kind, leaf_alone, leaf_parts, Rows, SpelledAt, GoodAt}
 use Rattle.lay_tree.proofs.Steps.{chosen, bind_some, read_same}
 use Rattle.lay_tree.proofs.nodes.ExprsLaws.{StepView, IsFieldStep, IsTupleIndexStep, IsMethodStep, IsApplyStep, IsIndexStep, IsTryStep, IsAwaitStep, step_view, step_field_is, step_tuple_index_is, step_method_is, step_apply_is, step_index_is, step_try_is, step_await_is}
 use Rattle.lay_tree.proofs.nodes.TypesLaws.{args_angle_is}
@@ -46,6 +48,8 @@ use Rattle.lay_tree.proofs.reader.Exact.{IsRead}
 use Rattle.lay_tree.proofs.reader.ExprFronts.{placed_begins}
 use Rattle.lay_tree.proofs.reader.ExprLeads.{expr_no_closer}
 use Rattle.lay_tree.proofs.reader.ExprOperators.{dot_front, try_front, paren_front, bracket_front, opener_no_dot}
+use Rattle.lay_tree.proofs.reader.ExprOperatorsLoops.{NodeTurn, nodes_repeat}
+use Rattle.lay_tree.proofs.reader.ExprQuiet.{ends_follow, comma_ends_expr, closer_ends_expr}
 use Rattle.lay_tree.proofs.reader.ExprReads.{ExprReads}
 use Rattle.lay_tree.proofs.reader.Loops.{Ends}
 use Rattle.lay_tree.proofs.reader.Needs.{list_complete}
@@ -173,6 +177,11 @@ step_begun s depth ts rest t = at s (step_view s) t
         dot_begun (step_facts Step-F.Await) ts bits.0 rest refl bits.1 (λ e. rw (one_front Ident (codes "await") bits.0 u.0 one).1 refl)
         (omega (arith, one_shorter Ident (codes "await") bits.0 u.0 one, ap length u.2)))
 
+-- What stands behind a field is no call, and no `::`.
+abbrev pub Behind : StepKind → Tokens → Type 0
+Behind OfField ts = (first (opens Paren) ts ≡ false) × (is_op (codes "::") ts ≡ false)
+Behind _ ts = Unit {0}
+
 -- ---- expressions in delimiters
 
 -- what is told of an expression where nothing is asked
@@ -202,13 +211,17 @@ late_parts within xs need ts rest h =
     no_angle : (ys : List Arg) → args.None ≡ args.Angle ys → ⊥
     no_angle ys e = let f = sym views.outs-None ∙ ap views.out-Args e ∙ views.outs-Angle ys in absurd (cc)
 
-module _ (quiet : (x : ExprFacts) (d : Delim) (ts : Tokens) → Ends d ts → follows x FREE ts ≡ true) (depth : ℕ) (within : ExprWithin)
-    (reads : ExprReads depth within) where
+-- What ends an element of a list may follow it.
+free_follows : (x : ExprFacts) (d : Delim) (ts : Tokens) → Ends d ts → follows x FREE ts ≡ true
+free_follows x d ts (rest, inl o) = ends_follow x FREE ts (comma_ends_expr false ts rest o)
+free_follows x d ts (rest, inr o) = ends_follow x FREE ts (closer_ends_expr false d ts rest o)
+
+module _ (depth : ℕ) (within : ExprWithin) (reads : ExprReads depth within) where
   free_read : (x : Expr) (d : Delim) (ts rest : Tokens) → GoodAt free_facts depth x ts rest → Ends d rest
       → (first (closes d) ts ≡ false) × IsRead depth (within.exprs FREE) x ts rest × (length rest < length ts)
   free_read x d ts rest g e =
       let b = placed_begins x FREE depth ts rest g.0 g.1 in
-      (expr_no_closer d ts (about_expr x).lead b.lead, reads.exprs FREE x ts rest g.0 g.1 (quiet (about_expr x) d rest e), b.less)
+      (expr_no_closer d ts (about_expr x).lead b.lead, reads.exprs FREE x ts rest g.0 g.1 (free_follows (about_expr x) d rest e), b.less)
 
   pub free_args : (xs : List Expr) (ts rest : Tokens) → Spells (args_form (map about_expr xs)) depth ts rest → all_free (map about_expr xs) ≡ true
       → (inside : Tokens) × IsOne (Opener Paren) (opening Paren ∷ []) ts inside × IsRead depth (free_elements within (closes Paren)) xs inside rest
@@ -222,11 +235,6 @@ module _ (quiet : (x : ExprFacts) (d : Delim) (ts : Tokens) → Ends d ts → fo
       (l.0, l.1, (deepest l.2, l.4, rw (l.5, l.3) refl))
 
   -- ---- steps
-
-  -- What stands behind a field is no call, and no `::`.
-  abbrev pub Behind : StepKind → Tokens → Type 0
-  Behind OfField ts = (first (opens Paren) ts ≡ false) × (is_op (codes "::") ts ≡ false)
-  Behind _ ts = Unit {0}
 
   dotted : (ts at : Tokens) → IsOperator (codes ".") ts at → one_step within ts ≡ dot_step within at
   unfolding one_step
@@ -357,7 +365,7 @@ module _ (quiet : (x : ExprFacts) (d : Delim) (ts : Tokens) → Ends d ts → fo
           let end = part.0 in
           let c : IsOne (Closer Bracket) (closing Bracket ∷ []) end rest =
           subst (λ us. IsOne (Closer Bracket) (closing Bracket ∷ []) end us) u.2 (piece_bit (closer Bracket) depth end u.0 part.2) in
-          let r = reads.exprs FREE x inside end part.1 g (quiet (about_expr x) Bracket end (rest, inr c)) in
+          let r = reads.exprs FREE x inside end part.1 g (free_follows (about_expr x) Bracket end (rest, inr c)) in
           (r.0, r.1, subscript_read x r.0 ts inside end rest o r.2 c))
       at _ IsTryStep = told step.Try (step_facts Step-F.Try) step_try_is (λ u g b.
           let o : IsOperator (codes "?") ts rest = piece_bit (Operator (codes "?")) depth ts rest u in
@@ -367,3 +375,98 @@ module _ (quiet : (x : ExprFacts) (d : Delim) (ts : Tokens) → Ends d ts → fo
           let one : IsOne Ident (codes "await") bits.0 rest =
           subst (λ us. IsOne Ident (codes "await") bits.0 us) u.2 (bit_alone (keyword (codes "await")) bits.0 u.0 bits.2) in
           (0, omega arith, await_read ts bits.0 rest bits.1 one))
+
+  -- ---- all steps of a base
+
+  -- a step behind which another stands
+  behind_step : (x : StepFacts) (y : StepFacts) (ts rest : Tokens) → not (is_field x.kind && is_call y.kind) ≡ true → StepBegun y ts rest → Behind x.kind ts
+  behind_step x y ts rest h b = by x.kind h
+    where
+      by : (k : StepKind) → not (is_field k && is_call y.kind) ≡ true → Behind k ts
+      by OfField h = (b.paren (not-true (is_call y.kind) h), b.colons)
+      by OfTupleIndex h = tt
+      by OfMethod h = tt
+      by OfCall h = tt
+      by OfIndex h = tt
+      by OfTry h = tt
+      by OfAwait h = tt
+
+  -- the last step
+  behind_last : (k : StepKind) (ts : Tokens) → begins_step ts ≡ false → may_follow (tail_of_steps (record { kind = k; form = Done; good = true } ∷ [])).refuses ts ≡ true
+      → Behind k ts
+  behind_last OfField ts n f =
+      let colons = not-true (is_op (codes "::") ts) (and_parts (not (is_op (codes "::") ts)) true f).0 in
+      let openers = or_parts (is_dot_or_try ts) (first (opens Paren) ts || first (opens Bracket) ts) n in
+      ((or_parts (first (opens Paren) ts) (first (opens Bracket) ts) openers.1).0, colons)
+  behind_last OfTupleIndex ts n f = tt
+  behind_last OfMethod ts n f = tt
+  behind_last OfCall ts n f = tt
+  behind_last OfIndex ts n f = tt
+  behind_last OfTry ts n f = tt
+  behind_last OfAwait ts n f = tt
+
+  abbrev StepRows : List Step → Tokens → Tokens → Type 0
+  StepRows ss ts rest = Rows (λ s. SpelledAt depth (about_step s).form) ss ts rest
+
+  abbrev StepTurn : Step → Tokens → Tokens → Type 0
+  StepTurn = NodeTurn begins_step (one_step within) depth
+
+  step_turn : (s : Step) (ts rest : Tokens) → Spells (about_step s).form depth ts rest → (about_step s).good ≡ true → Behind (about_step s).kind rest → StepTurn s ts rest
+  step_turn s ts rest t g b =
+      let begun = step_begun s depth ts rest t in
+      let r = step_read s ts rest t g b in
+      (r.0, r.1, (begun.begins, r.2, begun.less))
+
+  step_turns : (s : Step) (ss : List Step) (ts rest : Tokens) → StepRows (s ∷ ss) ts rest → are_steps (map about_step (s ∷ ss)) ≡ true → begins_step rest ≡ false
+      → may_follow (tail_of_steps (map about_step (s ∷ ss))).refuses rest ≡ true → Rows StepTurn (s ∷ ss) ts rest
+  step_turns s [] ts rest r g n f =
+      let behind = behind_last (about_step s).kind rest n f in
+      (r.0, step_turn s ts r.0 r.1 g (subst (Behind (about_step s).kind) (sym r.2) behind), r.2)
+  step_turns s (t ∷ more) ts rest r g n f =
+      let next = r.2 in
+      let g2 = and_parts ((about_step s).good && not (is_field (about_step s).kind && is_call (about_step t).kind)) (are_steps (map about_step (t ∷ more))) g in
+      let g1 = and_parts (about_step s).good (not (is_field (about_step s).kind && is_call (about_step t).kind)) g2.0 in
+      let behind = behind_step (about_step s) (about_step t) r.0 next.0 g1.1 (step_begun t depth r.0 next.0 next.1) in
+      (r.0, step_turn s ts r.0 r.1 g1.0 behind, step_turns t more r.0 rest next g2.1 n f)
+
+  unbroken : (b : Bool) (f : Form) (ts rest : Tokens) → Spells (break_if b f) depth ts rest → Spells f depth ts rest
+  unbroken true f ts rest s = s
+  unbroken false f ts rest s = s
+
+  -- A break between steps spells nothing.
+  steps_spelled : (several behind : Bool) (ss : List Step) (ts rest : Tokens) → Spells (steps_form several behind (map about_step ss)) depth ts rest → StepRows ss ts rest
+  steps_spelled several behind [] ts rest s = s
+  steps_spelled several behind (x ∷ ss) ts rest s =
+      let next = behind || is_method (about_step x).kind in
+      let f : Form = Part (about_step x).form (steps_form several next (map about_step ss)) in
+      let u = unbroken (several && (behind && is_method (about_step x).kind)) f ts rest s in
+      (u.0, u.1, steps_spelled several next ss u.0 rest u.2)
+
+  ungrouped : (b : Bool) (f : Form) (ts rest : Tokens) → Spells (group_if b f) depth ts rest → Spells f depth ts rest
+  ungrouped true f ts rest s = subst (λ us. Spells f depth ts us) s.2 s.1
+  ungrouped false f ts rest s = s
+
+  -- A base and its steps are spelled one behind the other, in a group or not.
+  pub postfix_parts : (x : Expr) (ss : List Step) (ts rest : Tokens) → Spells (postfix_form (about_expr x) (map about_step ss)) depth ts rest
+      → (mid : Tokens) × Spells (about_expr x).form depth ts mid × StepRows ss mid rest
+  postfix_parts x ss ts rest s =
+      let several = nat_le 2 (methods (map about_step ss)) in
+      let u = ungrouped several (Part (about_expr x).form (steps_form several false (map about_step ss))) ts rest s in
+      (u.0, u.1, steps_spelled several false ss u.0 rest u.2)
+
+  number_apart : (a i b : Bool) → not (a && i) ≡ true → (i ≡ false → b ≡ false) → (a && b) ≡ false
+  number_apart true true b n h = absurd (cc)
+  number_apart true false b n h = h refl
+  number_apart false i b n h = refl
+
+  -- Behind a base, steps that are spelled are read, as long as they are.
+  pub postfix_read : (x : Expr) (s : Step) (ss : List Step) (ts rest : Tokens) → StepRows (s ∷ ss) ts rest → are_steps (map about_step (s ∷ ss)) ≡ true
+      → not ((about_expr x).is_number && is_tuple_index (about_step s).kind) ≡ true → begins_step rest ≡ false
+      → may_follow (tail_of_steps (map about_step (s ∷ ss))).refuses rest ≡ true
+      → (m : ℕ) × (m ≤ depth) × ((n : ℕ) → postfix_expr within (x, n) ts ≡ Some ((expr.Postfix x (s ∷ ss), suc (max n m)), rest))
+  unfolding postfix_expr
+  postfix_read x s ss ts rest r g number n f =
+      let begun = step_begun s depth ts r.0 r.1 in
+      let apart = number_apart (about_expr x).is_number (is_tuple_index (about_step s).kind) (begins_tuple_index ts) number begun.index in
+      let l = nodes_repeat begins_step (one_step within) depth (s ∷ ss) ts rest (step_turns s ss ts rest r g n f) n in
+      (deepest l.0, l.2, λ k. rw (apart, l.3, l.1) refl)
