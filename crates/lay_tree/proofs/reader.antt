@@ -95,3 +95,4 @@ pub mod ExprQuiet
 pub mod ExprOperators
 pub mod ExprOperatorsLoops
 pub mod ExprSteps
+pub mod ExprOperatorsTails
