@@ -96,3 +96,7 @@ pub mod ExprHeadsWords
 pub mod ExprHeadsJumps
 pub mod ExprHeadsLists
 pub mod ExprHeadsRaw
+pub mod ExprOperators
+pub mod ExprOperatorsLoops
+pub mod ExprSteps
+pub mod ExprOperatorsTails
