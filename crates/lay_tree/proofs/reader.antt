@@ -87,3 +87,15 @@ pub mod StructsComplete
 pub mod StructsExact
 pub mod ExprSoundLevel
 pub mod ExprReads
+pub mod ExprHeads
+pub mod ExprLeads
+pub mod ExprFronts
+pub mod ExprQuiet
+pub mod ExprHeadsWords
+pub mod ExprHeadsJumps
+pub mod ExprHeadsLists
+pub mod ExprHeadsRaw
+pub mod ExprOperators
+pub mod ExprOperatorsLoops
+pub mod ExprSteps
+pub mod ExprOperatorsTails
