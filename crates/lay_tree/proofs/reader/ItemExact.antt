@@ -53,7 +53,7 @@ heads_complete = record {
 }
 
 pub items_exact : (at : Site) → Exact (item_at at) (λ (x : Item). Front (about_item at x))
-items_exact at = exact (about_item at) (item_at at) (item_sound heads_sound at) (item_complete heads_complete at)
+items_exact at = exact (about_item at) (item_at at) (item_sound heads_sound values_sound at) (item_complete heads_complete values_complete at)
 
 -- So at most one item and one count of tokens fit.
 pub one_item : (at : Site) (node other : Item) (ts : Tokens) (n m depth : ℕ) → Front (about_item at node) ts n depth → Front (about_item at other) ts m depth
