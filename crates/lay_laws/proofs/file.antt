@@ -1,3 +1,4 @@
+pub mod ExprParts
 pub mod FirstItems
 pub mod FirstText
 pub mod Generics

@@ -68,7 +68,7 @@ slice_pass x k = record {
 }
 
 -- a token list may have ended, and a `]` ends the array
-ends_array : (line : Bool) → On (Some (Bracket ∷ [])) (list_end line) (piece (closer Bracket ∷ [])) ends_type
+pub ends_array : (line : Bool) → On (Some (Bracket ∷ [])) (list_end line) (piece (closer Bracket ∷ [])) ends_type
 unfolding tables
 ends_array true = fixed refl (ends refl)
 ends_array false = fixed refl (ends refl)
