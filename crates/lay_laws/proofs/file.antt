@@ -1,4 +1,6 @@
 pub mod ExprParts
+pub mod ExprPlaces
+pub mod ExprSteps
 pub mod FirstItems
 pub mod FirstText
 pub mod Generics
