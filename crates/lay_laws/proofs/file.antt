@@ -1,3 +1,4 @@
+pub mod ExprKinds
 pub mod ExprParts
 pub mod ExprPlaces
 pub mod ExprSteps

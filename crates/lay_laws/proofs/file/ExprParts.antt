@@ -1,8 +1,9 @@
 -- Where expressions begin and end, and what of a form begins with an expression. An expression may begin with a word, a
 -- literal, an operator, `..`, `(`, `[`, `<`, `::` or `_`, so the borders before it are named by a test. A `..` that
 -- follows a point gets a blank, so the flag for a text that ends in a point is part of it.
-use Rattle.std.proofs.Common.{◌≡◌, ℕ, nat_le, List, [], ◌∷◌, Bool, true, false, cond, not, ◌&&◌, ◌||◌, sym, refl, subst, codes, arith}
+use Rattle.std.proofs.Common.{◌≡◌, ℕ, nat_le, List, [], ◌∷◌, Bool, true, false, cond, not, ◌&&◌, ◌||◌, sym, refl, subst, codes, arith, Option}
 use Rattle.std.proofs.lemmas.Bool.{and_parts, and_from, or_left, or_right, leb-true, le-leb}
+use Rattle.lay_piece.specs.declared.kind.Delim.{Delim}
 use Rattle.lay_piece.specs.declared.kind.Delim.TheVariants.{Paren, Bracket}
 use Rattle.lay_piece.specs.declared.kind.Kind.TheVariants as kind
 use Rattle.lay_form.specs.Form as form
@@ -23,7 +24,7 @@ use Rattle.lay_laws.proofs.borders.Border.{Other, Border, Spot, Clear, At, beyon
 use Rattle.lay_laws.proofs.borders.Move.{under}
 use Rattle.lay_laws.proofs.forms.Opened.{even}
 use Rattle.lay_laws.proofs.forms.Passes.{Passes, plain, stands, piece_passes}
-use Rattle.lay_laws.proofs.forms.Rules.{tables, From, under-refl, to_wider, fixed, dotted, breaks, simple, list_fits}
+use Rattle.lay_laws.proofs.forms.Rules.{tables, On, From, under-refl, to_wider, fixed, dotted, breaks, simple, list_fits}
 use Rattle.lay_laws.proofs.file.PatternParts.{literals_lead, begins_call, wild}
 use Rattle.lay_laws.proofs.file.Types.{begins_path}
 
@@ -125,8 +126,9 @@ clear_is b h = at b.needs b.spot h
     at [] _ h = cc
     at (n ∷ ns) o h = cc
 
-pub from_clear : (b : Border) {f : Form} {c : Border} → is_clear b ≡ true → From plain f c → From b f c
-from_clear b {f} {c} h k = subst (λ z. From z f c) (clear_is b h) k
+pub from_clear : {o : Option (List Delim)} (b : Border) {f : Form} {c : Border} → is_clear b ≡ true → On o plain f c
+    → On o b f c
+from_clear {o} b {f} {c} h k = subst (λ z. On o z f c) (clear_is b h) k
 
 abbrev pub gap : List Bit
 gap = Blank ∷ []

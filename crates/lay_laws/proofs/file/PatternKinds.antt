@@ -253,7 +253,7 @@ ref_pass mutable x k = record {
 
 -- ---- structs, tuples and slices
 
-braces_pieces : (may : Bool) (es : List Form) → are_pieces (braces may es) ≡ true → list_all are_pieces es ≡ true
+pub braces_pieces : (may : Bool) (es : List Form) → are_pieces (braces may es) ≡ true → list_all are_pieces es ≡ true
 braces_pieces may [] w = refl
 braces_pieces may (e ∷ es) w =
     let p = and_parts (are_pieces e) _ (and_parts
