@@ -51,17 +51,13 @@ use Rattle.lay_laws.proofs.file.TypeKinds.{deep_pieces, ends_array}
 use Rattle.lay_laws.proofs.file.Types.{type_passes, path_passes_at}
 use Rattle.lay_laws.proofs.file.PatternParts.{wild, leaf_from, call_passes_at}
 use Rattle.lay_laws.proofs.file.PatternKinds.{braces_pieces}
-use Rattle.lay_laws.proofs.file.ExprParts.{ends_base, ends_operand, ends_expr, ends_by, ends_wide, ends_any, operand_under, base_under, Behind, always, in_both, behind_wider, deep, first_part, in_group, is_clear, from_clear, gap, may_lack, begins_word, return_word, break_word, continue_word, begins_by, prefix_at, opens_by, begins_operand, Begins, begins, begins_dots, begins_range, begins_at, operand_begins, any_begins, begins_plain, ranges_behind_operand, begins_based, operator_passes, operator_broken}
+use Rattle.lay_laws.proofs.file.ExprParts.{ends_base, ends_operand, ends_expr, ends_by, ends_wide, ends_any, operand_under, base_under, Behind, always, in_both, behind_wider, deep, shut_deep, first_part, in_group, is_clear, from_clear, gap, may_lack, begins_word, return_word, break_word, continue_word, begins_by, prefix_at, opens_by, begins_operand, Begins, begins, begins_dots, begins_range, begins_at, operand_begins, any_begins, begins_plain, ranges_behind_operand, begins_based, operator_passes, operator_broken}
 use Rattle.lay_laws.proofs.file.ExprPlaces.{ends_of, ExprPasses, stands_at, operand_at, is_whole_before, inner_expr, inner_operand, free_expr, frees_pass}
 use Rattle.lay_laws.proofs.file.ExprSteps.{StepPasses, steps_pass}
 
 -- what begins where an operand may
 starting : (v : Bool) (level : ℕ) (b : Border) → begins_at v level b ≡ true → Begins b
 starting v level b h = begins b (and_parts (begins_operand b) _ h).0
-
--- one level deeper, where an expression ends behind which a tuple index may stand
-shut : {v : Bool} {b : Border} {f : Form} → From b f ends_base → Behind v b (deeper f) ends_base
-shut k = deep (under-refl ends_base) (always k)
 
 -- ---- literals, paths and calls
 
@@ -114,7 +110,7 @@ pub underscore_pass : ExprPasses (expr_facts Expr-F.Underscore)
 underscore_pass = record {
   go = λ v b h no_struct first g w.
       let q = and_parts (simple b wild) _ (starting v 14 b h).wilds in
-      shut (fixed q.0 (ends q.1));
+      shut_deep (fixed q.0 (ends q.1));
 }
 
 pub call_pass : (call : MacroCall) → ExprPasses (expr_facts (Expr-F.Call call))
@@ -139,7 +135,7 @@ paren_pass x k = record {
   go = λ v b h no_struct first g w.
       let e = Piece (opener Paren ∷ []) (form.Part x.form (piece (closer Paren ∷ []))) in
       let p = (and_parts (are_pieces x.form) true (deep_pieces e w)).0 in
-      shut (enclosed b (opener Paren) (starting v 14 b h).opens_round x k g p (fixed refl (ends refl)));
+      shut_deep (enclosed b (opener Paren) (starting v 14 b h).opens_round x k g p (fixed refl (ends refl)));
 }
 
 tuple_passes : (b : Border) → Begins b → (xs : List ExprFacts) → Each ExprPasses xs → all_free xs ≡ true
@@ -157,7 +153,7 @@ tuple_passes b s (x ∷ y ∷ xs) k g w =
 pub tuple_pass : (xs : List ExprFacts) → Each ExprPasses xs → ExprPasses (expr_facts (Expr-F.Tuple xs))
 tuple_pass xs k = record {
   go = λ v b h no_struct first g w.
-      shut (tuple_passes b (starting v 14 b h) xs k g (deep_pieces (tuple_form xs) w));
+      shut_deep (tuple_passes b (starting v 14 b h) xs k g (deep_pieces (tuple_form xs) w));
 }
 
 pub array_pass : (xs : List ExprFacts) → Each ExprPasses xs → ExprPasses (expr_facts (Expr-F.Array xs))
@@ -165,7 +161,7 @@ array_pass xs k = record {
   go = λ v b h no_struct first g w.
       let es = expr_forms xs in
       let p = deep_pieces (comma_list true (opener Bracket) (closer Bracket) es) w in
-      shut (list true (opener Bracket) (closer Bracket) es plain ends_expr (starting v 14 b h).square
+      shut_deep (list true (opener Bracket) (closer Bracket) es plain ends_expr (starting v 14 b h).square
       (frees_pass xs k g (list_pieces true (opener Bracket) (closer Bracket) es p)));
 }
 
@@ -176,7 +172,7 @@ repeat_pass x length k = record {
       let n = and_parts (placed x FREE && not (is_empty length)) (is_token_list length) g in
       let e = Piece (semicolon ++ Blank ∷ []) (form.Part (token_list length) (piece (closer Bracket ∷ []))) in
       let p = and_parts (are_pieces x.form) _ (deep_pieces (Piece (opener Bracket ∷ []) (form.Part x.form e)) w) in
-      shut (enclosed b (opener Bracket) (starting v 14 b h).opens_square x k (and_parts (placed x FREE) _ n.0).0 p.0
+      shut_deep (enclosed b (opener Bracket) (starting v 14 b h).opens_square x k (and_parts (placed x FREE) _ n.0).0 p.0
       (listed length n.1 refl (λ v. refl) refl (wider refl (ends_array (ends_in_line length)))));
 }
 
@@ -223,7 +219,7 @@ struct_pass path fields base k l = record {
       let p = and_parts (are_pieces (about_path path Code).form) (are_pieces (braces may es))
       (deep_pieces (struct_form path fields base) w) in
       let q = both_pieces (forms fields) (base_form base) (braces_pieces may es p.1) in
-      shut (part b ends_type (under-refl b) ((path_from b (starting v 14 b h) path).go n2.0 p.0)
+      shut_deep (part b ends_type (under-refl b) ((path_from b (starting v 14 b h) path).go n2.0 p.0)
       (bracing may es plain ends_expr (fields_fit may)
       (both_all plain ends_expr (forms fields) (base_form base) (all_pass plain ends_expr fields k n2.1 q.0)
       (base_passes base l n1.1 q.1))));

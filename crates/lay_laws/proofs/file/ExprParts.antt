@@ -96,6 +96,11 @@ behind_wider {v} {b} {c} {z} {f} u k = record { now = to_wider even v f b c z u 
 pub deep : {v : Bool} {b c z : Border} {f : Form} → under c z ≡ true → Behind v b f c → Behind v b (deeper f) z
 deep {v} {b} {c} u k = record { now = (b, c, under-refl b, k.now, u) }
 
+-- the same, where an expression ends behind which a tuple index may stand
+pub shut_deep : {v : Bool} {b : Border} {f : Form} → From b f ends_base → Behind v b (deeper f) ends_base
+shut_deep k = deep (under-refl ends_base) (always k)
+
+-- The first part of a form stands where the form does, and so does what begins a group.
 pub first_part : {v : Bool} {b c z : Border} {i f : Form} → Behind v b i c → From c f z
     → Behind v b (form.Part i f) z
 first_part {v} {b} {c} k l = record { now = (b, c, under-refl b, k.now, l.go _) }

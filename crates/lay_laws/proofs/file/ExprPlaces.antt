@@ -30,12 +30,12 @@ pub record ExprPasses (x : ExprFacts) : Type 0 where
 -- ---- in its place
 
 -- what a place says of the expression that stands in it
-record IsPlaced (x : ExprFacts) (p : Place) : Type 0 where
+pub record IsPlaced (x : ExprFacts) (p : Place) : Type 0 where
   pub level : nat_le p.level x.level ≡ true
   pub shut : not (p.op_after && is_open x.tail) ≡ true
   pub inside : x.within p.no_struct (place.begins p.start) ≡ true
 
-is_placed : (x : ExprFacts) (p : Place) → placed x p ≡ true → IsPlaced x p
+pub is_placed : (x : ExprFacts) (p : Place) → placed x p ≡ true → IsPlaced x p
 is_placed x p g =
     let q = and_parts (stands x p) _ g in
     let q1 = and_parts _ (not (p.no_struct && x.is_struct)) q.0 in
