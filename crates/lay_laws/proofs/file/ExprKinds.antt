@@ -1,10 +1,8 @@
 -- Expressions pass, kind by kind, of what is told of them, given that the expressions within them pass.
-use Rattle.std.proofs.Common.{◌≡◌, ℕ, suc, nat_le, List, [], ◌∷◌, ◌++◌, Bool, true, false, cond, not, ◌&&◌, ◌||◌, sym, refl, subst, map, codes, Option, Some, None, is_some}
+use Rattle.std.proofs.Common.{◌≡◌, ℕ, List, [], ◌∷◌, ◌++◌, Bool, true, false, cond, not, ◌&&◌, refl, Option, Some, None, is_some}
 use Rattle.std.specs.List.{list_all}
-use Rattle.std.specs.Prelude.{◌==◌}
 use Rattle.std.specs.Str.{chars}
-use Rattle.std.proofs.lemmas.Bool.{and_parts, and_from}
-use Rattle.lay_piece.specs.Characters as char
+use Rattle.std.proofs.lemmas.Bool.{and_parts}
 use Rattle.lay_piece.specs.Number.{is_bare_int}
 use Rattle.lay_piece.specs.declared.kind.Delim.TheVariants.{Paren, Bracket}
 use Rattle.lay_piece.specs.declared.kind.Kind.{Kind}
@@ -12,48 +10,40 @@ use Rattle.lay_piece.specs.declared.kind.Kind.TheVariants as kind
 use Rattle.lay_form.specs.Form as form
 use Rattle.lay_form.specs.Form.{Bit, Blank, Operator, Form, Done, Piece, Leaf, punct, opener, closer, comma, semicolon}
 use Rattle.lay_form.specs.Layout.{led}
-use Rattle.lay_form.specs.Notation.{N, piece, braces, comma_list}
+use Rattle.lay_form.specs.Notation.{piece, braces, comma_list}
 use Rattle.lay_form.specs.Pieces.{is_text_of, are_pieces}
-use Rattle.lay_tree.specs.Operators.{op_text, op_level, is_angle_op}
 use Rattle.lay_tree.specs.Words.{is_literal, is_bare_number}
 use Rattle.lay_tree.specs.nodes.Attr.{is_empty}
 use Rattle.lay_tree.specs.nodes.Call.{about_call}
-use Rattle.lay_tree.specs.nodes.Exprs.{ExprFacts, StepFacts, placed, expr_forms, all_free, expr_facts, is_tuple_index, first_step, methods, are_steps, steps_form, group_if, postfix_form, tuple_form, base_form, base_placed, struct_form, operands_form, operands_placed, operand_place, tail_of_operands, level_of_chain, next_is_angle, is_chain_level, may_chain, types_form, types_good, prefix_bits, prefixes_form, end_form, end_placed, begins_free, start_placed, tail_of_end, targets_form, targets_placed, label_form, operand_form, operand_placed, tail_of_jump, break_placed, tail_of_steps, is_prefix_lead, inside}
+use Rattle.lay_tree.specs.nodes.Exprs.{ExprFacts, placed, expr_forms, all_free, expr_facts, tuple_form, base_form, base_placed, struct_form}
 use Rattle.lay_tree.specs.nodes.Facts.{Facts, forms, all_good}
 use Rattle.lay_tree.specs.nodes.Patterns.{dots}
-use Rattle.lay_tree.specs.nodes.Places as place
-use Rattle.lay_tree.specs.nodes.Places.{FREE, before_op}
-use Rattle.lay_tree.specs.nodes.Types.{TypeFacts, about_path, about_type, deeper, is_there, lifetime_form, literal_form, type_forms}
+use Rattle.lay_tree.specs.nodes.Places.{FREE}
+use Rattle.lay_tree.specs.nodes.Types.{about_path, literal_form}
 use Rattle.lay_tree.specs.tokens.Lexed.{is_token_list}
 use Rattle.lay_tree.specs.tokens.Lists.{token_list, ends_in_line}
 use Rattle.lay_tree.specs.declared.exprs.Expr.TheOpen.{Expr-F}
-use Rattle.lay_tree.specs.declared.operators.Op.{Op}
-use Rattle.lay_tree.specs.declared.operators.Op.TheVariants as op
-use Rattle.lay_tree.specs.declared.operators.Prefix.{Prefix}
-use Rattle.lay_tree.specs.declared.token.Lifetime.{Lifetime}
 use Rattle.lay_tree.specs.declared.token.Listed.{Listed}
 use Rattle.lay_tree.specs.declared.token.Literal.{Literal}
 use Rattle.lay_tree.specs.declared.tokens.MacroCall.{MacroCall}
 use Rattle.lay_tree.specs.declared.types.Path.{Path}
 use Rattle.lay_tree.specs.declared.types.PathStyle.TheVariants.{Code}
-use Rattle.lay_tree.specs.declared.types.Ty.{Ty}
 use Rattle.lay_laws.proofs.borders.Need as need
 use Rattle.lay_laws.proofs.borders.Border.{Other, Border, At, beyond}
 use Rattle.lay_laws.proofs.borders.Move.{under}
 use Rattle.lay_laws.proofs.forms.Opened.{bits_open, even}
-use Rattle.lay_laws.proofs.forms.Passes.{Passes, plain, piece_passes}
-use Rattle.lay_laws.proofs.forms.Rules.{tables, On, From, All, under-refl, under-trans, wider, ends, simple, fixed, dotted, breaks, part, list_fits, list, braces_fit, bracing}
+use Rattle.lay_laws.proofs.forms.Passes.{Passes, plain}
+use Rattle.lay_laws.proofs.forms.Rules.{tables, On, From, All, under-refl, wider, ends, simple, fixed, dotted, part, list, braces_fit, bracing}
 use Rattle.lay_laws.proofs.tokens.Within.{listed}
 use Rattle.lay_laws.proofs.file.Nodes.{list_pieces, both_pieces, both_all}
-use Rattle.lay_laws.proofs.file.TypeParts.{ends_lifetime, ends_type, leaf_passes, literal_passes, lifetime_passes}
+use Rattle.lay_laws.proofs.file.TypeParts.{ends_type, leaf_passes}
 use Rattle.lay_laws.proofs.file.TypeArgs.{Any, Each, Passing, all_pass}
 use Rattle.lay_laws.proofs.file.TypeKinds.{deep_pieces, ends_array}
-use Rattle.lay_laws.proofs.file.Types.{type_passes, path_passes_at}
+use Rattle.lay_laws.proofs.file.Types.{path_passes_at}
 use Rattle.lay_laws.proofs.file.PatternParts.{wild, leaf_from, call_passes_at}
 use Rattle.lay_laws.proofs.file.PatternKinds.{braces_pieces}
-use Rattle.lay_laws.proofs.file.ExprParts.{ends_base, ends_operand, ends_expr, ends_by, ends_wide, ends_any, operand_under, base_under, Behind, always, in_both, behind_wider, deep, shut_deep, first_part, in_group, is_clear, from_clear, gap, may_lack, begins_word, return_word, break_word, continue_word, begins_by, prefix_at, opens_by, begins_operand, Begins, begins, begins_dots, begins_range, begins_at, operand_begins, any_begins, begins_plain, ranges_behind_operand, begins_based, operator_passes, operator_broken}
-use Rattle.lay_laws.proofs.file.ExprPlaces.{ends_of, ExprPasses, stands_at, operand_at, is_whole_before, inner_expr, inner_operand, free_expr, frees_pass}
-use Rattle.lay_laws.proofs.file.ExprSteps.{StepPasses, steps_pass}
+use Rattle.lay_laws.proofs.file.ExprParts.{ends_base, ends_expr, ends_by, ends_any, Behind, always, behind_wider, deep, shut_deep, from_clear, opens_by, begins_operand, Begins, begins, begins_at, begins_based}
+use Rattle.lay_laws.proofs.file.ExprPlaces.{ExprPasses, stands_at, free_expr, frees_pass}
 
 -- what begins where an operand may
 starting : (v : Bool) (level : ℕ) (b : Border) → begins_at v level b ≡ true → Begins b

@@ -1,14 +1,14 @@
 -- Expressions of operators, steps and jumps pass, kind by kind, of what is told of them, given that their operands pass.
-use Rattle.std.proofs.Common.{◌≡◌, ℕ, suc, nat_le, List, [], ◌∷◌, Bool, true, false, not, ◌&&◌, ◌||◌, sym, refl, subst, map, arith, Option, Some, None, is_some}
+use Rattle.std.proofs.Common.{◌≡◌, ℕ, suc, nat_le, List, [], ◌∷◌, Bool, true, false, not, ◌&&◌, ◌||◌, refl, subst, map, arith, Option, Some, None}
 use Rattle.std.specs.Prelude.{◌==◌}
-use Rattle.std.proofs.lemmas.Bool.{and_parts, and_from, le-leb}
+use Rattle.std.proofs.lemmas.Bool.{and_parts, le-leb}
 use Rattle.lay_form.specs.Form as form
 use Rattle.lay_form.specs.Form.{Blank, Operator, Form, Done, Piece}
 use Rattle.lay_form.specs.Layout.{led}
 use Rattle.lay_form.specs.Notation.{I4, N}
 use Rattle.lay_form.specs.Pieces.{are_pieces}
 use Rattle.lay_tree.specs.Operators.{op_text, op_level, is_angle_op}
-use Rattle.lay_tree.specs.nodes.Exprs.{ExprFacts, StepFacts, placed, expr_facts, is_dotted, is_tuple_index, first_step, methods, are_steps, steps_form, group_if, postfix_form, operands_form, operands_placed, operand_place, tail_of_operands, is_chain_level, may_chain, types_form, types_good, prefix_bits, prefixes_form, end_form, end_placed, begins_free, start_placed, tail_of_end, targets_form, targets_placed, label_form, operand_form, operand_placed, tail_of_jump, break_placed, tail_of_steps, is_prefix_lead, inside}
+use Rattle.lay_tree.specs.nodes.Exprs.{ExprFacts, StepFacts, placed, expr_facts, is_dotted, is_tuple_index, first_step, methods, are_steps, steps_form, group_if, operands_form, operands_placed, tail_of_operands, is_chain_level, may_chain, types_form, types_good, prefix_bits, prefixes_form, end_form, end_placed, tail_of_end, targets_form, targets_placed, label_form, operand_form, operand_placed, tail_of_jump, break_placed}
 use Rattle.lay_tree.specs.nodes.Patterns.{dots}
 use Rattle.lay_tree.specs.nodes.Places as place
 use Rattle.lay_tree.specs.nodes.Places.{before_op}
@@ -26,11 +26,11 @@ use Rattle.lay_laws.proofs.borders.Move.{under}
 use Rattle.lay_laws.proofs.forms.Opened.{bits_open, even}
 use Rattle.lay_laws.proofs.forms.Passes.{plain, piece_passes}
 use Rattle.lay_laws.proofs.forms.Rules.{tables, On, From, under-refl, under-trans, wider, ends, simple, fixed, breaks, part}
-use Rattle.lay_laws.proofs.file.TypeParts.{ends_lifetime, ends_type, lifetime_passes}
+use Rattle.lay_laws.proofs.file.TypeParts.{ends_lifetime, lifetime_passes}
 use Rattle.lay_laws.proofs.file.TypeArgs.{Any, Each}
 use Rattle.lay_laws.proofs.file.TypeKinds.{deep_pieces}
 use Rattle.lay_laws.proofs.file.Types.{type_passes}
-use Rattle.lay_laws.proofs.file.ExprParts.{ends_base, ends_operand, ends_expr, ends_by, ends_wide, ends_shut, operand_under, Behind, always, in_both, behind_wider, deep, shut_deep, first_part, in_group, is_clear, from_clear, gap, may_lack, begins_word, return_word, break_word, continue_word, begins_prefix, prefix_at, begins_operand, Begins, begins, begins_dots, begins_range, begins_at, higher, operand_begins, ranges_behind_operand, operator_passes, operator_broken}
+use Rattle.lay_laws.proofs.file.ExprParts.{ends_base, ends_operand, ends_expr, ends_by, ends_wide, operand_under, Behind, always, in_both, behind_wider, deep, shut_deep, first_part, in_group, from_clear, gap, may_lack, return_word, break_word, continue_word, begins_prefix, prefix_at, begins_operand, begins, begins_dots, begins_range, higher, operand_begins, ranges_behind_operand, operator_passes, operator_broken}
 use Rattle.lay_laws.proofs.file.ExprPlaces.{ends_of, ExprPasses, is_placed, stands_at, operand_at, is_whole_before, inner_expr, inner_operand}
 use Rattle.lay_laws.proofs.file.ExprSteps.{StepPasses, steps_pass}
 

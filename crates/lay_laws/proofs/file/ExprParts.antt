@@ -1,11 +1,10 @@
 -- Where expressions begin and end, and what of a form begins with an expression. An expression may begin with a word, a
 -- literal, an operator, `..`, `(`, `[`, `<`, `::` or `_`, so the borders before it are named by a test. A `..` that
 -- follows a point gets a blank, so the flag for a text that ends in a point is part of it.
-use Rattle.std.proofs.Common.{◌≡◌, ℕ, nat_le, List, [], ◌∷◌, Bool, true, false, cond, not, ◌&&◌, ◌||◌, sym, refl, subst, codes, arith, Option}
+use Rattle.std.proofs.Common.{◌≡◌, ℕ, nat_le, List, [], ◌∷◌, Bool, true, false, ◌&&◌, ◌||◌, refl, subst, codes, arith, Option}
 use Rattle.std.proofs.lemmas.Bool.{and_parts, and_from, or_left, or_right, leb-true, le-leb}
 use Rattle.lay_piece.specs.declared.kind.Delim.{Delim}
 use Rattle.lay_piece.specs.declared.kind.Delim.TheVariants.{Paren, Bracket}
-use Rattle.lay_piece.specs.declared.kind.Kind.TheVariants as kind
 use Rattle.lay_form.specs.Form as form
 use Rattle.lay_form.specs.Form.{Bit, Blank, Fixed, Operator, Form, Done, Piece, Leaf, Group, keyword, opener, closer}
 use Rattle.lay_form.specs.Layout.{led}

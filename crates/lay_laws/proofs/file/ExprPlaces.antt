@@ -5,7 +5,7 @@ use Rattle.std.proofs.lemmas.Bool.{and_parts}
 use Rattle.lay_piece.specs.declared.kind.Delim.TheVariants.{Paren}
 use Rattle.lay_form.specs.Form.{opener, closer}
 use Rattle.lay_form.specs.Pieces.{are_pieces}
-use Rattle.lay_tree.specs.nodes.Exprs.{Tail, is_open, ExprFacts, stands, placed, expr_forms, all_free, args_form}
+use Rattle.lay_tree.specs.nodes.Exprs.{is_open, ExprFacts, stands, placed, expr_forms, all_free, args_form}
 use Rattle.lay_tree.specs.nodes.Places as place
 use Rattle.lay_tree.specs.nodes.Places.{FREE, before_op}
 use Rattle.lay_tree.specs.declared.exprs.Place.{Place}

@@ -1,19 +1,15 @@
 -- Steps behind the base of a postfix expression pass, and fields of struct literals, given that the expressions within
 -- them pass.
-use Rattle.std.proofs.Common.{◌≡◌, ℕ, List, [], ◌∷◌, Bool, true, false, cond, not, ◌&&◌, ◌||◌, sym, refl, ap, ◌∙◌, codes, map, Option, Some, None}
-use Rattle.std.specs.List.{list_all}
-use Rattle.std.specs.Str.{chars}
+use Rattle.std.proofs.Common.{◌≡◌, ℕ, List, [], ◌∷◌, Bool, true, false, not, ◌&&◌, ◌||◌, refl, map, Option, Some, None}
 use Rattle.std.proofs.lemmas.Bool.{and_parts, and_from}
-use Rattle.lay_piece.specs.Number.{is_index}
-use Rattle.lay_piece.specs.declared.kind.Delim.TheVariants.{Bracket}
 use Rattle.lay_piece.specs.declared.kind.Kind.TheVariants as kind
 use Rattle.lay_form.specs.Form as form
 use Rattle.lay_form.specs.Form.{Form, Done, Piece, Leaf, opener, closer}
 use Rattle.lay_form.specs.Pieces.{is_text_of, are_pieces}
 use Rattle.lay_tree.specs.Words.{is_name, leaf_of}
 use Rattle.lay_tree.specs.nodes.Attr.{are_attrs, attr_form}
-use Rattle.lay_tree.specs.nodes.Exprs.{ExprFacts, placed, all_free, StepKind, StepFacts, OfField, is_field, is_tuple_index, is_method, is_call, generics_form, are_generics, args_form, step_facts, are_steps, first_step, break_if, steps_form, field_facts}
-use Rattle.lay_tree.specs.nodes.Facts.{Facts, forms}
+use Rattle.lay_tree.specs.nodes.Exprs.{ExprFacts, placed, all_free, StepKind, StepFacts, is_field, is_tuple_index, is_method, is_call, generics_form, are_generics, args_form, step_facts, are_steps, first_step, break_if, steps_form, field_facts}
+use Rattle.lay_tree.specs.nodes.Facts.{forms}
 use Rattle.lay_tree.specs.nodes.Places.{FREE}
 use Rattle.lay_tree.specs.nodes.Types.{less, greater, angle_form, about_arg, colon}
 use Rattle.lay_tree.specs.declared.attr.Attr.{Attr}
@@ -23,7 +19,7 @@ use Rattle.lay_tree.specs.declared.types.Arg.{Arg}
 use Rattle.lay_laws.proofs.borders.Border.{Border, Point, At}
 use Rattle.lay_laws.proofs.borders.Move.{under}
 use Rattle.lay_laws.proofs.forms.Passes.{plain, fits}
-use Rattle.lay_laws.proofs.forms.Rules.{tables, From, under-refl, ends, fixed, dotted, tree_token, breaks, within, part, with_outer, list_fits, list}
+use Rattle.lay_laws.proofs.forms.Rules.{tables, From, ends, fixed, dotted, tree_token, breaks, within, part, with_outer, list_fits, list}
 use Rattle.lay_laws.proofs.texts.Laid.{raw}
 use Rattle.lay_laws.proofs.texts.LaidTokens.{text_laid}
 use Rattle.lay_laws.proofs.file.Nodes.{behind_word, behind_raw, start_path, ends_line, word, rest_pieces, list_pieces, outer_pieces, attrs_pass}

@@ -1,14 +1,12 @@
 -- Expressions pass, by the induction of their family, with fields of struct literals and steps: at each place, from each
 -- border where an expression may begin to the end of one.
-use Rattle.std.proofs.Common.{◌≡◌, ℕ, List, [], ◌∷◌, ◌&&◌, Bool, true, sym, refl, subst, codes, map, Option, Some, None}
+use Rattle.std.proofs.Common.{◌≡◌, List, [], ◌∷◌, Bool, true, sym, refl, subst, codes, map, Option, Some, None}
 use Rattle.std.specs.List.{list_all}
-use Rattle.std.proofs.lemmas.Bool.{and_parts}
 use Rattle.lay_piece.specs.declared.kind.Delim.TheVariants.{Paren, Bracket, Brace}
 use Rattle.lay_piece.specs.declared.kind.Kind.TheVariants as kind
 use Rattle.lay_form.specs.Form.{Bit, Blank, Fixed, Operator, keyword, opener, closer, comma, semicolon}
 use Rattle.lay_form.specs.Pieces.{are_pieces}
-use Rattle.lay_tree.specs.nodes.Exprs.{ExprFacts, StepFacts, placed, about_expr, about_field_expr, about_step}
-use Rattle.lay_tree.specs.nodes.Facts.{Facts}
+use Rattle.lay_tree.specs.nodes.Exprs.{placed, about_expr, about_field_expr, about_step}
 use Rattle.lay_tree.specs.nodes.Types.{colon, equals}
 use Rattle.lay_tree.specs.declared.exprs.Expr.{Expr}
 use Rattle.lay_tree.specs.declared.exprs.Expr.TheFolds as expr_fold
@@ -24,7 +22,7 @@ use Rattle.lay_laws.proofs.forms.Passes.{plain}
 use Rattle.lay_laws.proofs.forms.Rules.{tables, From, wider}
 use Rattle.lay_laws.proofs.file.TypeArgs.{Each, Passing}
 use Rattle.lay_laws.proofs.file.Types.{frees}
-use Rattle.lay_laws.proofs.file.ExprParts.{ends_base, ends_operand, ends_expr, ends_any, begins_expr, any_begins, in_both}
+use Rattle.lay_laws.proofs.file.ExprParts.{ends_expr, ends_any, begins_expr, any_begins, in_both}
 use Rattle.lay_laws.proofs.file.ExprPlaces.{ExprPasses, stands_at}
 use Rattle.lay_laws.proofs.file.ExprSteps.{StepPasses, field_step_pass, tuple_index_pass, method_pass, apply_pass, index_step_pass, try_pass, await_pass, named_pass, numbered_pass, short_pass}
 use Rattle.lay_laws.proofs.file.ExprKinds.{literal_pass, path_pass, underscore_pass, call_pass, paren_pass, tuple_pass, array_pass, repeat_pass, struct_pass}
