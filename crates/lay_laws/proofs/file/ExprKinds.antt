@@ -51,6 +51,7 @@ starting v level b h = begins b (and_parts (begins_operand b) _ h).0
 
 -- ---- literals, paths and calls
 
+-- where a number ends, with a suffix or without one
 int_ends : (bare : Bool)
     → under (record { needs = cond bare (need.IntBare ∷ []) (need.Number ∷ []); spot = At Other }) (ends_by false (not bare))
     ≡ true
@@ -128,6 +129,7 @@ paren_pass x k = record {
       shut_deep (enclosed b (opener Paren) (starting v 14 b h).opens_round x k g p (fixed refl (ends refl)));
 }
 
+-- none, one with a comma behind it, or several
 tuple_passes : (b : Border) → Begins b → (xs : List ExprFacts) → Each ExprPasses xs → all_free xs ≡ true
     → are_pieces (tuple_form xs) ≡ true → From b (tuple_form xs) ends_base
 unfolding tables
@@ -178,6 +180,7 @@ based v x k g w =
     behind_wider (ends_any x.tail.bare _)
     (stands_at x k FREE g w true (beyond plain (led v (dots false))) (begins_based v))
 
+-- a base, if there is one
 base_passes : (base : Option (Option ExprFacts)) → BasePasses base → base_placed base ≡ true
     → list_all are_pieces (base_form base) ≡ true → All plain (base_form base) ends_expr
 unfolding tables

@@ -30,7 +30,7 @@ use Rattle.lay_laws.proofs.file.TypeParts.{ends_lifetime, lifetime_passes}
 use Rattle.lay_laws.proofs.file.TypeArgs.{Any, Each}
 use Rattle.lay_laws.proofs.file.TypeKinds.{deep_pieces}
 use Rattle.lay_laws.proofs.file.Types.{type_passes}
-use Rattle.lay_laws.proofs.file.ExprParts.{ends_base, ends_operand, ends_expr, ends_by, ends_wide, operand_under, Behind, always, in_both, behind_wider, deep, shut_deep, first_part, in_group, from_clear, gap, may_lack, return_word, break_word, continue_word, begins_prefix, prefix_at, begins_operand, begins, begins_dots, begins_range, higher, operand_begins, ranges_behind_operand, operator_passes, operator_broken}
+use Rattle.lay_laws.proofs.file.ExprParts.{ends_base, ends_operand, ends_expr, ends_by, ends_wide, operand_under, Behind, always, in_both, behind_wider, deep, shut_deep, first_part, in_group, from_clear, gap, may_lack_operand, return_word, break_word, continue_word, begins_prefix, prefix_at, begins_operand, begins, begins_dots, begins_range, higher, operand_begins, ranges_behind_operand, operator_passes, operator_broken}
 use Rattle.lay_laws.proofs.file.ExprPlaces.{ends_of, ExprPasses, is_placed, stands_at, operand_at, is_whole_before, inner_expr, inner_operand}
 use Rattle.lay_laws.proofs.file.ExprSteps.{StepPasses, steps_pass}
 
@@ -91,6 +91,7 @@ chain_pass x (y ∷ more) k l = record {
 
 -- ---- casts
 
+-- the types that an operand is cast to
 types_pass : (types : List Ty) → types_good (map about_type types) ≡ true
     → are_pieces (types_form (map about_type types)) ≡ true
     → From ends_operand (types_form (map about_type types)) ends_operand
@@ -121,6 +122,7 @@ prefix_even : (p : Prefix) → even ≡ bits_open even (prefix_bits p)
 prefix_even before.Neg = refl
 prefix_even _ = refl
 
+-- an operator, where an operand may begin
 prefixed : (b : Border) → begins_prefix b ≡ true → (p : Prefix) {f : Form} {c : Border} → From plain f c
     → From b (Piece (prefix_bits p) f) c
 prefixed b h p {f} {c} k =
@@ -128,6 +130,7 @@ prefixed b h p {f} {c} k =
     fixed q.0 (subst (λ o. On o (beyond b (prefix_bits p)) f c) (prefix_even p)
     (from_clear (beyond b (prefix_bits p)) q.1 k))
 
+-- operators side by side
 prefixes_pass : (ps : List Prefix) {f : Form} {c : Border} → From plain f c → From plain (prefixes_form ps f) c
 unfolding tables
 prefixes_pass [] k = k
@@ -151,6 +154,7 @@ unary_pass (p ∷ ps) x k = record {
 
 -- ---- ranges
 
+-- `..` or `..=`, with the blank that it gets behind a point
 dotted_behind : {v : Bool} {b c : Border} {f : Form} (inclusive : Bool) → piece_passes v b (dots inclusive) ≡ true
     → From (beyond b (led v (dots inclusive))) f c → Behind v b (Piece (dots inclusive) f) c
 dotted_behind true h k = record { now = (h, k.go _) }
@@ -217,6 +221,7 @@ assigned : (x : ExprFacts × Op) {f : Form} {c : Border} → From plain f c → 
 unfolding tables
 assigned x k = fixed refl (operator_passes x.1 (breaks refl k))
 
+-- targets with their operators, and what is assigned
 targets_pass : (targets : List (ExprFacts × Op)) → Each TargetPasses targets → (no_struct : Bool)
     → targets_placed targets no_struct false ≡ true → {f : Form} → are_pieces (targets_form targets f) ≡ true
     → {c : Border} → From plain f c → From plain (targets_form targets f) c
@@ -254,6 +259,7 @@ assign_pass (y ∷ more) x k l = record {
 
 -- ---- steps
 
+-- several methods are a group
 grouped_behind : {v : Bool} {b c : Border} {f : Form} (is_group : Bool) → Behind v b f c → Behind v b (group_if is_group f) c
 grouped_behind true k = in_group k
 grouped_behind false k = k
@@ -299,7 +305,7 @@ postfix_pass x steps k l = record {
 -- ---- jumps
 
 -- what stands behind a word that needs no operand
-operand_passes : (b : Border) → may_lack b ≡ true → (x : Option ExprFacts) → Any ExprPasses x → (no_struct : Bool)
+operand_passes : (b : Border) → may_lack_operand b ≡ true → (x : Option ExprFacts) → Any ExprPasses x → (no_struct : Bool)
     → operand_placed x no_struct ≡ true → are_pieces (operand_form x) ≡ true
     → From b (operand_form x) (ends_by (tail_of_jump x).bare false)
 operand_passes b h None k no_struct g w =
@@ -312,7 +318,7 @@ operand_passes b h (Some x) k no_struct g w =
     (part plain (ends_of x) (under-refl plain) i (ends (ends_wide x.tail.bare _))))
 
 -- a label, if there is one, and what follows it
-label_passes : (b : Border) → may_lack b ≡ true → (label : Option Lifetime) {f : Form} {c : Border}
+label_passes : (b : Border) → may_lack_operand b ≡ true → (label : Option Lifetime) {f : Form} {c : Border}
     → are_pieces (label_form label f) ≡ true → From b f c → From ends_lifetime f c → From b (label_form label f) c
 label_passes b h None w k l = k
 label_passes b h (Some x) w k l =
@@ -324,7 +330,8 @@ label_pieces : (label : Option Lifetime) (f : Form) → are_pieces (label_form l
 label_pieces None f w = w
 label_pieces (Some x) f w = (and_parts (are_pieces (lifetime_form x)) (are_pieces f) w).1
 
-lifetime_may_lack : may_lack ends_lifetime ≡ true
+-- a label needs no operand behind it
+lifetime_may_lack : may_lack_operand ends_lifetime ≡ true
 unfolding tables
 lifetime_may_lack = refl
 

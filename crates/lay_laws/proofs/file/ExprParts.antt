@@ -51,6 +51,7 @@ ends_by true base = ends_expr
 ends_by false true = ends_base
 ends_by false false = ends_operand
 
+-- Each of these asks for no more than the next: where a tuple index may stand, where none may, and where any may end.
 pub ends_wide : (bare base : Bool) → under (ends_by bare base) (ends_by bare false) ≡ true
 ends_wide true base = refl
 ends_wide false true = refl
@@ -61,6 +62,7 @@ ends_any true base = refl
 ends_any false true = refl
 ends_any false false = refl
 
+-- What lacks no operand ends as an operand does.
 pub ends_shut : (bare base : Bool) → bare ≡ false → under (ends_by bare base) ends_operand ≡ true
 ends_shut true base h = cc
 ends_shut false true h = refl
@@ -69,11 +71,6 @@ ends_shut false false h = refl
 pub operand_under : (bare : Bool) → under ends_operand (ends_by bare false) ≡ true
 operand_under true = refl
 operand_under false = refl
-
-pub base_under : (bare base : Bool) → under ends_base (ends_by bare base) ≡ true
-base_under true base = refl
-base_under false true = refl
-base_under false false = refl
 
 -- ---- forms behind a text that ends in a point, or in none
 
@@ -85,6 +82,7 @@ pub record Behind (v : Bool) (b : Border) (f : Form) (c : Border) : Type 0 where
 pub always : {v : Bool} {b c : Border} {f : Form} → From b f c → Behind v b f c
 always {v} k = record { now = k.go v }
 
+-- in both cases, so whatever stands before
 pub in_both : {b c : Border} {f : Form} → ((v : Bool) → Behind v b f c) → From b f c
 in_both k = record { go = λ v. (k v).now }
 
@@ -122,6 +120,7 @@ asks_none (n ∷ ns) = false
 abbrev pub is_clear : Border → Bool
 is_clear b = asks_none b.needs && is_other b.spot
 
+-- Then it is where nothing is asked.
 pub clear_is : (b : Border) → is_clear b ≡ true → plain ≡ b
 clear_is b h = at b.needs b.spot h
   where
@@ -138,11 +137,11 @@ abbrev pub gap : List Bit
 gap = Blank ∷ []
 
 -- A word that needs no operand may have ended, and one may stand behind it.
-abbrev pub may_lack : Border → Bool
-may_lack b = under b ends_base && (simple b gap && is_clear (beyond b gap))
+abbrev pub may_lack_operand : Border → Bool
+may_lack_operand b = under b ends_base && (simple b gap && is_clear (beyond b gap))
 
 abbrev pub begins_word : Border → List Bit → Bool
-begins_word b p = simple b p && may_lack (beyond b p)
+begins_word b p = simple b p && may_lack_operand (beyond b p)
 
 abbrev pub return_word : List Bit
 return_word = keyword (codes "return") ∷ []
@@ -168,6 +167,7 @@ begins_prefix b =
     && (begins_by b before.Amp
     && (begins_by b before.AmpMut && (begins_by b before.RawConst && begins_by b before.RawMut)))))
 
+-- each of them
 pub prefix_at : (b : Border) → begins_prefix b ≡ true → (p : Prefix) → begins_by b p ≡ true
 prefix_at b h p =
     let h1 = and_parts (begins_by b before.Neg) _ h in
@@ -269,6 +269,7 @@ begins_at v level b = begins_operand b && (nat_le 2 level || begins_range v b)
 abbrev pub begins_expr : Border → Bool
 begins_expr b = begins_operand b && (begins_range false b && begins_range true b)
 
+-- a level from 2 on, and one as high
 two_higher : (l m : ℕ) → nat_le l m ≡ true → nat_le 2 l ≡ true → nat_le 2 m ≡ true
 two_higher l m h g =
     let a = leb-true l m h in
@@ -300,6 +301,7 @@ any_begins v b l h =
     at false h k = h
     at true h k = k
 
+-- one may begin where nothing is asked
 pub begins_plain : begins_expr plain ≡ true
 unfolding tables
 begins_plain = refl
@@ -318,7 +320,7 @@ begins_based false = refl
 
 -- ---- operators between operands
 
--- an operator, with the blank that it may get, and a blank
+-- an operator, with the blank that it may get, and a blank behind it
 abbrev op_fits : Op → Bool
 op_fits o =
     let p = Operator (op_text o) ∷ [] in
@@ -326,15 +328,18 @@ op_fits o =
     && ((simple (beyond plain p) gap && is_clear (beyond (beyond plain p) gap))
     && (simple (beyond plain (Blank ∷ p)) gap && is_clear (beyond (beyond plain (Blank ∷ p)) gap)))
 
+-- Each operator fits where nothing is asked.
 ops_fit : (o : Op) → op_fits o ≡ true
 unfolding tables
 ops_fit op.Set = refl
 ops_fit _ = refl
 
+-- a blank, behind which nothing is asked
 behind_gap : (b : Border) → simple b gap && is_clear (beyond b gap) ≡ true → {f : Form} {c : Border} → From plain f c
     → From b (Piece gap f) c
 behind_gap b h k = let q = and_parts (simple b gap) _ h in fixed q.0 (from_clear (beyond b gap) q.1 k)
 
+-- an operator, and an operand behind it
 pub operator_passes : (o : Op) {f : Form} {c : Border} → From plain f c
     → From plain (Piece (Operator (op_text o) ∷ []) (Piece gap f)) c
 operator_passes o k =

@@ -44,13 +44,14 @@ is_placed x p g =
     let q4 = and_parts (nat_le p.level x.level) _ q3.0 in
     record { level = q4.0; shut = q4.1; inside = q.1 }
 
--- where an expression of the place's level may begin
+-- It passes where an expression of the place's level may begin.
 pub stands_at : (x : ExprFacts) → ExprPasses x → (p : Place) → placed x p ≡ true → are_pieces x.form ≡ true → (v : Bool)
     (b : Border) → begins_at v p.level b ≡ true → Behind v b x.form (ends_of x)
 stands_at x k p g w v b h =
     let q = is_placed x p g in
     k.go v b (higher v b p.level x.level q.level h) p.no_struct (place.begins p.start) q.inside w
 
+-- what an operator may follow lacks no operand
 no_bare : (takes_all bare : Bool) → not (takes_all || bare) ≡ true → bare ≡ false
 no_bare true bare h = cc
 no_bare false true h = cc
@@ -62,6 +63,7 @@ pub is_whole_before : (x : ExprFacts) (level : ℕ) (no_struct first angle : Boo
 is_whole_before x level no_struct first angle g =
     no_bare x.tail.takes_all x.tail.bare (is_placed x (before_op level no_struct first angle) g).shut
 
+-- So it ends as an operand does.
 pub operand_at : (x : ExprFacts) → ExprPasses x → (level : ℕ) (no_struct first angle : Bool)
     → placed x (before_op level no_struct first angle) ≡ true → are_pieces x.form ≡ true → (v : Bool) (b : Border)
     → begins_at v level b ≡ true → Behind v b x.form ends_operand
@@ -74,6 +76,7 @@ pub inner_expr : (x : ExprFacts) → ExprPasses x → (p : Place) → placed x p
     → From plain x.form (ends_of x)
 inner_expr x k p g w = in_both (λ v. stands_at x k p g w v plain (any_begins v plain p.level begins_plain))
 
+-- the same before an operator
 pub inner_operand : (x : ExprFacts) → ExprPasses x → (level : ℕ) (no_struct first angle : Bool)
     → placed x (before_op level no_struct first angle) ≡ true → are_pieces x.form ≡ true
     → From plain x.form ends_operand
@@ -85,6 +88,7 @@ pub free_expr : (x : ExprFacts) → ExprPasses x → placed x FREE ≡ true → 
     → From plain x.form ends_expr
 free_expr x k g w = wider (ends_any x.tail.bare _) (inner_expr x k FREE g w)
 
+-- each of a list
 pub frees_pass : (xs : List ExprFacts) → Each ExprPasses xs → all_free xs ≡ true
     → list_all are_pieces (expr_forms xs) ≡ true → All plain (expr_forms xs) ends_expr
 frees_pass [] k g w = tt

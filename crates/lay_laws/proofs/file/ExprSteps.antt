@@ -40,6 +40,7 @@ pub record StepPasses (s : StepFacts) : Type 0 where
 
 -- ---- kinds of steps
 
+-- a field
 pub field_step_pass : (name : Name) → StepPasses (step_facts (Step-F.Field name))
 unfolding tables
 field_step_pass name = record {
@@ -48,6 +49,7 @@ field_step_pass name = record {
       (word name.raw name.text refl w (ends refl) (ends refl));
 }
 
+-- a tuple index, behind whose point a number is an index
 pub tuple_index_pass : (index : List ℕ) → StepPasses (step_facts (Step-F.TupleIndex index))
 unfolding tables
 tuple_index_pass index = record {
@@ -81,6 +83,7 @@ generics_pass (Some args) {f} g w k =
     (part ends_operand ends_base refl k (ends refl)) in
     (fixed refl z, fixed refl z)
 
+-- the arguments behind them are made of pieces
 generics_pieces : (generics : Option (List Arg)) (f : Form) → are_pieces (generics_form generics (form.Part f Done)) ≡ true
     → are_pieces f ≡ true
 generics_pieces None f w = (and_parts (are_pieces f) true w).0
@@ -125,6 +128,7 @@ await_pass = record { go = λ g w. dotted refl (ends refl) (ends refl) }
 
 -- ---- steps one behind the other
 
+-- The first is good, and so are those behind it.
 step_parts : (s : StepFacts) (more : List StepFacts) → are_steps (s ∷ more) ≡ true
     → (s.good ≡ true) × (are_steps more ≡ true)
 step_parts s [] g = (g, refl)
@@ -143,6 +147,7 @@ broken_pieces : (is_broken : Bool) (f : Form) → are_pieces (break_if is_broken
 broken_pieces true f w = w
 broken_pieces false f w = w
 
+-- A step begins behind a base, where it isn't a tuple index behind a number without suffix.
 starts : (base index : Bool) → base || not index ≡ true → under (ends_by false base) (ends_by false index) ≡ true
 starts true true h = refl
 starts true false h = refl

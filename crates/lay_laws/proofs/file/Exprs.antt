@@ -1,6 +1,6 @@
 -- Expressions pass, by the induction of their family, with fields of struct literals and steps: at each place, from each
 -- border where an expression may begin to the end of one.
-use Rattle.std.proofs.Common.{◌≡◌, List, [], ◌∷◌, Bool, true, sym, refl, subst, codes, map, Option, Some, None}
+use Rattle.std.proofs.Common.{◌≡◌, List, [], ◌∷◌, Bool, true, refl, subst, codes, map, Option, Some, None}
 use Rattle.std.specs.List.{list_all}
 use Rattle.lay_piece.specs.declared.kind.Delim.TheVariants.{Paren, Bracket, Brace}
 use Rattle.lay_piece.specs.declared.kind.Kind.TheVariants as kind
@@ -21,7 +21,7 @@ use Rattle.lay_laws.proofs.borders.Border.{Border, beyond}
 use Rattle.lay_laws.proofs.forms.Passes.{plain}
 use Rattle.lay_laws.proofs.forms.Rules.{tables, From, wider}
 use Rattle.lay_laws.proofs.file.TypeArgs.{Each, Passing}
-use Rattle.lay_laws.proofs.file.Types.{frees}
+use Rattle.lay_laws.proofs.file.Types.{frees, kept, told}
 use Rattle.lay_laws.proofs.file.ExprParts.{ends_expr, ends_any, begins_expr, any_begins, in_both}
 use Rattle.lay_laws.proofs.file.ExprPlaces.{ExprPasses, stands_at}
 use Rattle.lay_laws.proofs.file.ExprSteps.{StepPasses, field_step_pass, tuple_index_pass, method_pass, apply_pass, index_step_pass, try_pass, await_pass, named_pass, numbered_pass, short_pass}
@@ -59,15 +59,6 @@ field_layer y =
 
 abbrev step_layer : Step-F KeptExpr KeptField KeptStep → Step-F Expr FieldExpr Step
 step_layer y = expr_fold.map-Step KeptExpr KeptField KeptStep Expr FieldExpr Step (λ y. y.0) (λ y. y.0) (λ y. y.0) y
-
-kept : {A B : Type 0} (P : B → Type 0) (about : A → B) (ys : List ((x : A) × P (about x)))
-    → Each P (map about (map (λ (y : (x : A) × P (about x)). y.0) ys))
-kept P about [] = tt
-kept P about (y ∷ ys) = (y.1, kept P about ys)
-
--- from what is told of a node to the node
-told : {A B : Type 0} (P : B → Type 0) (about : A → B) {x y : A} {f : B} → y ≡ x → about x ≡ f → P f → P (about y)
-told P about same is k = subst (λ z. P (about z)) (sym same) (subst P (sym is) k)
 
 abbrev exprs_of : List KeptExpr → List Expr
 exprs_of ys = map (λ (y : KeptExpr). y.0) ys

@@ -33,6 +33,7 @@ use Rattle.lay_laws.proofs.forms.Rules.{tables, From, All, Leads, under-refl, wi
 use Rattle.lay_laws.proofs.file.Nodes.{behind_word, behind_raw, ends_line, word, rest_pieces, when_pieces, each_pieces, list_pieces, both_pieces, both_all, outer_pieces, attrs_pass}
 use Rattle.lay_laws.proofs.file.TypeParts.{ends_type, ends_arg, int_passes, joined_pieces}
 use Rattle.lay_laws.proofs.file.TypeArgs.{Any, Each, Passing, all_pass, words_lead}
+use Rattle.lay_laws.proofs.file.TypeKinds.{deep_pieces}
 use Rattle.lay_laws.proofs.file.Types.{begins_path, path_passes_at}
 use Rattle.lay_laws.proofs.file.PatternParts.{ends_pat, begins_pat, begins, by_ref, mutably, borrow, wild, enclosed_rest, is_whole, begins_group, begins_span, dots_pass, end_passes, value_passes, call_passes_at}
 
@@ -72,9 +73,6 @@ pats_pass place (x ∷ xs) k g w =
 -- one level deeper
 deep : {f : Form} {b : Border} → From b f ends_pat → From b (deeper f) ends_pat
 deep {f} {b} k = level b ends_pat (under-refl b) k (ends refl)
-
-deep_pieces : (f : Form) → are_pieces (deeper f) ≡ true → are_pieces f ≡ true
-deep_pieces f w = (and_parts (are_pieces f) true w).0
 
 -- ---- alternatives
 
