@@ -1,3 +1,9 @@
+pub mod ExprKinds
+pub mod ExprOperands
+pub mod ExprParts
+pub mod ExprPlaces
+pub mod ExprSteps
+pub mod Exprs
 pub mod FirstItems
 pub mod FirstText
 pub mod Generics

@@ -31,8 +31,9 @@ use Rattle.lay_laws.proofs.forms.Opened.{bits_open, is_even, even}
 use Rattle.lay_laws.proofs.forms.Passes.{plain}
 use Rattle.lay_laws.proofs.forms.Rules.{tables, From, All, Leads, under-refl, wider, ends, simple, fixed, dotted, breaks, within, part, level, left_out, each_part, with_outer, list_fits, list, braces_fit, bracing}
 use Rattle.lay_laws.proofs.file.Nodes.{behind_word, behind_raw, ends_line, word, rest_pieces, when_pieces, each_pieces, list_pieces, both_pieces, both_all, outer_pieces, attrs_pass}
-use Rattle.lay_laws.proofs.file.TypeParts.{ends_type, ends_arg, leaf_passes, joined_pieces}
+use Rattle.lay_laws.proofs.file.TypeParts.{ends_type, ends_arg, int_passes, joined_pieces}
 use Rattle.lay_laws.proofs.file.TypeArgs.{Any, Each, Passing, all_pass, words_lead}
+use Rattle.lay_laws.proofs.file.TypeKinds.{deep_pieces}
 use Rattle.lay_laws.proofs.file.Types.{begins_path, path_passes_at}
 use Rattle.lay_laws.proofs.file.PatternParts.{ends_pat, begins_pat, begins, by_ref, mutably, borrow, wild, is_whole, begins_group, begins_span, dots_pass, end_passes, value_passes, call_passes_at}
 
@@ -72,9 +73,6 @@ pats_pass place (x ∷ xs) k g w =
 -- one level deeper
 deep : {f : Form} {b : Border} → From b f ends_pat → From b (deeper f) ends_pat
 deep {f} {b} k = level b ends_pat (under-refl b) k (ends refl)
-
-deep_pieces : (f : Form) → are_pieces (deeper f) ≡ true → are_pieces f ≡ true
-deep_pieces f w = (and_parts (are_pieces f) true w).0
 
 -- ---- alternatives
 
@@ -253,7 +251,7 @@ ref_pass mutable x k = record {
 
 -- ---- structs, tuples and slices
 
-braces_pieces : (may : Bool) (es : List Form) → are_pieces (braces may es) ≡ true → list_all are_pieces es ≡ true
+pub braces_pieces : (may : Bool) (es : List Form) → are_pieces (braces may es) ≡ true → list_all are_pieces es ≡ true
 braces_pieces may [] w = refl
 braces_pieces may (e ∷ es) w =
     let p = and_parts (are_pieces e) _ (and_parts
@@ -408,9 +406,8 @@ index_pass attrs index x k = record {
       let q = outer_pieces es (Leaf kind.Int index e) w in
       let r = and_parts (is_text_of kind.Int index) _ q.1 in
       let p = (and_parts (are_pieces (pat_form Alternatives x)) true r.1).0 in
-      with_outer es ends_line refl (attrs_pass false attrs n.0 q.0)
-      (leaf_passes kind.Int index refl r.0
-      (fixed refl (part plain ends_pat refl (inner Alternatives x k n.1 p) (ends refl))));
+      let z = part plain ends_pat refl (inner Alternatives x k n.1 p) (ends refl) in
+      with_outer es ends_line refl (attrs_pass false attrs n.0 q.0) (int_passes index r.0 (fixed refl z) (fixed refl z));
 }
 
 pub short_pass : (attrs : List Attr) (x : PatFacts) → PatPasses x

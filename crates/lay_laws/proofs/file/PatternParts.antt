@@ -181,7 +181,7 @@ clear_index (At Point) h = cc
 clear_index (At Far) h = cc
 
 -- A token that passes from where nothing is asked passes from where literals lead.
-leaf_from : {k : Kind} {t : List ℕ} {f : Form} {c : Border} (b : Border) → literals_lead b ≡ true
+pub leaf_from : {k : Kind} {t : List ℕ} {f : Form} {c : Border} (b : Border) → literals_lead b ≡ true
     → From plain (Leaf k t f) c → From b (Leaf k t f) c
 leaf_from {k} {t} {f} {c} b h p = record {
   go = λ v.

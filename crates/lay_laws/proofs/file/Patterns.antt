@@ -1,6 +1,6 @@
 -- Patterns pass, by the induction of their family: at each place, from each border where a pattern may begin to the end
 -- of one.
-use Rattle.std.proofs.Common.{◌≡◌, List, [], ◌∷◌, true, sym, refl, subst, codes, map, Some, None}
+use Rattle.std.proofs.Common.{◌≡◌, List, [], ◌∷◌, true, refl, subst, codes, map, Some, None}
 use Rattle.std.specs.List.{list_all}
 use Rattle.lay_piece.specs.declared.kind.Delim.TheVariants.{Paren, Bracket, Brace}
 use Rattle.lay_piece.specs.declared.kind.Kind.TheVariants as kind
@@ -18,8 +18,8 @@ use Rattle.lay_tree.proofs.nodes.PatternsLaws as laws
 use Rattle.lay_laws.proofs.borders.Border.{Border, beyond}
 use Rattle.lay_laws.proofs.forms.Passes.{plain}
 use Rattle.lay_laws.proofs.forms.Rules.{tables, From}
-use Rattle.lay_laws.proofs.file.TypeArgs.{Each, Passing}
-use Rattle.lay_laws.proofs.file.Types.{frees}
+use Rattle.lay_laws.proofs.file.TypeArgs.{Passing}
+use Rattle.lay_laws.proofs.file.Types.{frees, kept, told}
 use Rattle.lay_laws.proofs.file.PatternParts.{ends_pat, begins_pat}
 use Rattle.lay_laws.proofs.file.PatternKinds.{PatPasses, placed, or_pass, value_pass, wild_pass, rest_pass, call_pass, path_pass, bind_pass, span_pass, ref_pass, struct_pass, tuple_struct_pass, tuple_pass, paren_pass, slice_pass, named_pass, index_pass, short_pass}
 
@@ -44,15 +44,6 @@ field_layer y = pat_fold.map-FieldPat KeptField KeptPat FieldPat Pat (λ y. y.0)
 
 abbrev pat_layer : Pat-F KeptField KeptPat → Pat-F FieldPat Pat
 pat_layer y = pat_fold.map-Pat KeptField KeptPat FieldPat Pat (λ y. y.0) (λ y. y.0) y
-
-kept : {A B : Type 0} (P : B → Type 0) (about : A → B) (ys : List ((x : A) × P (about x)))
-    → Each P (map about (map (λ (y : (x : A) × P (about x)). y.0) ys))
-kept P about [] = tt
-kept P about (y ∷ ys) = (y.1, kept P about ys)
-
--- from what is told of a node to the node
-told : {A B : Type 0} (P : B → Type 0) (about : A → B) {x y : A} {f : B} → y ≡ x → about x ≡ f → P f → P (about y)
-told P about same is k = subst (λ z. P (about z)) (sym same) (subst P (sym is) k)
 
 abbrev pats_of : List KeptPat → List Pat
 pats_of ys = map (λ (y : KeptPat). y.0) ys

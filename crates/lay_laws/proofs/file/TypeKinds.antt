@@ -38,7 +38,7 @@ use Rattle.lay_laws.proofs.file.TypeArgs.{Any, Each, Passing, PathPasses, TypePa
 deep : {f : Form} {c : Border} → under ends_type c ≡ true → From plain f ends_type → From plain (deeper f) c
 deep u k = level plain ends_type refl k (ends u)
 
-deep_pieces : (f : Form) → are_pieces (deeper f) ≡ true → are_pieces f ≡ true
+pub deep_pieces : (f : Form) → are_pieces (deeper f) ≡ true → are_pieces f ≡ true
 deep_pieces f w = (and_parts (are_pieces f) true w).0
 
 pub path_type_pass : (path : PathFacts) → PathPasses path → TypePasses (ty_facts (Ty-F.Path path))
@@ -68,7 +68,7 @@ slice_pass x k = record {
 }
 
 -- a token list may have ended, and a `]` ends the array
-ends_array : (line : Bool) → On (Some (Bracket ∷ [])) (list_end line) (piece (closer Bracket ∷ [])) ends_type
+pub ends_array : (line : Bool) → On (Some (Bracket ∷ [])) (list_end line) (piece (closer Bracket ∷ [])) ends_type
 unfolding tables
 ends_array true = fixed refl (ends refl)
 ends_array false = fixed refl (ends refl)

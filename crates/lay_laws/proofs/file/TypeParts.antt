@@ -2,7 +2,9 @@
 -- ABIs. Each passes from a border that asks for nothing to the one that is named.
 use Rattle.std.proofs.Common.{◌≡◌, ℕ, List, [], ◌∷◌, Bool, true, false, cond, ◌||◌, not, refl, codes, map, Option, Some, None}
 use Rattle.std.specs.List.{list_all}
+use Rattle.std.specs.Str.{chars}
 use Rattle.std.proofs.lemmas.Bool.{and_parts, and_from}
+use Rattle.lay_piece.specs.Number.{is_bare_int}
 use Rattle.lay_piece.specs.declared.kind.Delim.{Delim}
 use Rattle.lay_piece.specs.declared.kind.Delim.TheVariants.{Brace}
 use Rattle.lay_piece.specs.declared.kind.Kind.{Kind}
@@ -72,6 +74,22 @@ joined_pieces lead same (e ∷ es) w =
 pub leaf_passes : {o : Option (List Delim)} (k : Kind) (t : List ℕ) {f : Form} {c : Border} → is_leaf_kind k ≡ true
     → is_text_of k t ≡ true → On o (behind_leaf plain k t) f c → On o plain (Leaf k t f) c
 leaf_passes k t l h k' = tree_token (and_from (is_leaf_kind k) true l refl) (fits_known k t l h) k'
+
+-- an Int without suffix may have ended, and one with a suffix
+abbrev pub behind_int : Border
+behind_int = record { needs = need.IntBare ∷ []; spot = At Other }
+
+abbrev pub behind_number : Border
+behind_number = record { needs = need.Number ∷ []; spot = At Other }
+
+pub int_passes : (t : List ℕ) {f : Form} {c : Border} → is_text_of kind.Int t ≡ true → From behind_int f c
+    → From behind_number f c → From plain (Leaf kind.Int t f) c
+int_passes t {f} {c} w k l = leaf_passes kind.Int t refl w (by (is_bare_int (chars t)))
+  where
+    by : (bare : Bool)
+        → From (record { needs = cond bare (need.IntBare ∷ []) (need.Number ∷ []); spot = At Other }) f c
+    by true = k
+    by false = l
 
 pub lifetime_passes : (l : Lifetime) → are_pieces (lifetime_form l) ≡ true → From plain (lifetime_form l) ends_lifetime
 lifetime_passes l w =
@@ -195,7 +213,7 @@ literal_passes kind.ByteStr t h w = leaf_passes kind.ByteStr t refl w (ends refl
 literal_passes kind.RawByteStr t h w = leaf_passes kind.RawByteStr t refl w (ends refl)
 literal_passes kind.CStr t h w = leaf_passes kind.CStr t refl w (ends refl)
 literal_passes kind.RawCStr t h w = leaf_passes kind.RawCStr t refl w (ends refl)
-literal_passes kind.Int t h w = leaf_passes kind.Int t refl w (ends refl)
+literal_passes kind.Int t h w = int_passes t w (ends refl) (ends refl)
 literal_passes kind.Float t h w = leaf_passes kind.Float t refl w (ends refl)
 literal_passes _ t h w = cc
 

@@ -132,7 +132,8 @@ path_layer y = type_fold.map-Path KeptArg KeptArgs KeptBound KeptConstraint Kept
     Arg Args Bound Constraint PathStart Ty FuncParam Path
     (λ y. y.0) (λ y. y.0) (λ y. y.0) (λ y. y.0) (λ y. y.0) (λ y. y.0) (λ y. y.0) (λ y. y.0) y
 
-kept : {A B : Type 0} (P : B → Type 0) (about : A → B) (ys : List ((x : A) × P (about x)))
+-- each of a list of nodes that pass
+pub kept : {A B : Type 0} (P : B → Type 0) (about : A → B) (ys : List ((x : A) × P (about x)))
     → Each P (map about (map (λ (y : (x : A) × P (about x)). y.0) ys))
 kept P about [] = tt
 kept P about (y ∷ ys) = (y.1, kept P about ys)
@@ -143,7 +144,7 @@ kept_segments [] = tt
 kept_segments (y ∷ ys) = (y.1.1, kept_segments ys)
 
 -- from what is told of a node to the node
-told : {A B : Type 0} (P : B → Type 0) (about : A → B) {x y : A} {f : B} → y ≡ x → about x ≡ f → P f → P (about y)
+pub told : {A B : Type 0} (P : B → Type 0) (about : A → B) {x y : A} {f : B} → y ≡ x → about x ≡ f → P f → P (about y)
 told P about same is k = subst (λ z. P (about z)) (sym same) (subst P (sym is) k)
 
 abbrev types_of : List KeptType → List Ty
