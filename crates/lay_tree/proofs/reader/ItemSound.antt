@@ -1,9 +1,9 @@
 -- What an item is: what is read is spelled, kind by kind.
-use Rattle.std.proofs.Common.{◌≡◌, ℕ, ◌≤◌, max, true, ◌&&◌, List, [], ◌∷◌, map, codes, Option, Some, None, inl, inr, refl, sym, subst, arith, drop}
+use Rattle.std.proofs.Common.{◌≡◌, ℕ, ◌≤◌, max, true, ◌&&◌, List, [], ◌∷◌, map, codes, Option, Some, None, inl, inr, refl, sym, subst, arith, drop, is_some}
 use Rattle.std.proofs.lemmas.Bool.{and_from}
 use Rattle.lay_piece.specs.declared.kind.Kind.TheVariants.{Punct}
 use Rattle.lay_token.specs.Operators.{is_op}
-use Rattle.lay_form.specs.Form.{Blank, Fixed, Form, Done, Piece, Part, keyword}
+use Rattle.lay_form.specs.Form.{Blank, Fixed, Form, Done, Piece, Part, keyword, Operator}
 use Rattle.lay_form.specs.Notation.{I0, piece}
 use Rattle.lay_form.specs.Spelled.{AreBits, IsOne, Spells, IsOperator}
 use Rattle.lay_form.proofs.FormLaws.{is_end}
