@@ -88,3 +88,4 @@ pub mod StructsComplete
 pub mod StructsExact
 pub mod ExprSoundLevel
 pub mod ExprReads
+pub mod ExprSoundLeads
