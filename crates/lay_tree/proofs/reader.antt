@@ -89,3 +89,6 @@ pub mod StructsExact
 pub mod ExprSoundLevel
 pub mod ExprReads
 pub mod ExprSoundLeads
+pub mod ExprSoundFirst
+pub mod ExprSoundLists
+pub mod ExprSoundHeads
