@@ -92,3 +92,4 @@ pub mod ExprSoundLeads
 pub mod ExprSoundFirst
 pub mod ExprSoundLists
 pub mod ExprSoundHeads
+pub mod ExprSoundStructs
