@@ -93,3 +93,4 @@ pub mod ExprSoundFirst
 pub mod ExprSoundLists
 pub mod ExprSoundHeads
 pub mod ExprSoundStructs
+pub mod ExprSoundPrefixes

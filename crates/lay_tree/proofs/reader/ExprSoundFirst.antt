@@ -24,44 +24,45 @@ use Rattle.lay_tree.proofs.reader.TypesSoundKinds.{only_first}
 abbrev prefix_texts : List (List ℕ)
 prefix_texts = codes "-" ∷ codes "*" ∷ codes "!" ∷ codes "&" ∷ []
 
-abbrev LeadIs : ExprLead → Kind → List ℕ → Type 0
-LeadIs ByUnderscore k text = k ≡ kind.Underscore
-LeadIs ByLabel k text = k ≡ kind.Lifetime
-LeadIs ByParen k text = k ≡ kind.Opener Paren
-LeadIs ByBracket k text = k ≡ kind.Opener Bracket
-LeadIs ByPrefix k text = (k ≡ kind.Punct) × (is_of prefix_texts text ≡ true)
-LeadIs ByContinue k text = (k ≡ kind.Ident) × (text ≡ codes "continue")
-LeadIs ByBreak k text = (k ≡ kind.Ident) × (text ≡ codes "break")
-LeadIs ByReturn k text = (k ≡ kind.Ident) × (text ≡ codes "return")
-LeadIs _ k text = Unit {0}
+abbrev LeadIs : ExprLead → Kind → List ℕ → Tokens → Type 0
+LeadIs ByUnderscore k text ts = k ≡ kind.Underscore
+LeadIs ByLabel k text ts = k ≡ kind.Lifetime
+LeadIs ByParen k text ts = k ≡ kind.Opener Paren
+LeadIs ByBracket k text ts = k ≡ kind.Opener Bracket
+LeadIs ByPrefix k text ts = (k ≡ kind.Punct) × (is_of prefix_texts text ≡ true)
+LeadIs ByRange k text ts = begins_dots ts ≡ true
+LeadIs ByContinue k text ts = (k ≡ kind.Ident) × (text ≡ codes "continue")
+LeadIs ByBreak k text ts = (k ≡ kind.Ident) × (text ≡ codes "break")
+LeadIs ByReturn k text ts = (k ≡ kind.Ident) × (text ≡ codes "return")
+LeadIs _ k text ts = Unit {0}
 
-abbrev Leads : Kind → List ℕ → Option ExprLead → Type 0
-Leads k text None = Unit {0}
-Leads k text (Some lead) = LeadIs lead k text
+abbrev Leads : Kind → List ℕ → Tokens → Option ExprLead → Type 0
+Leads k text ts None = Unit {0}
+Leads k text ts (Some lead) = LeadIs lead k text ts
 
 -- what both have that are chosen from
 either : (P : Option ExprLead → Type 0) (b : Bool) (x y : Option ExprLead) → (b ≡ true → P x) → P y → P (if b then x else y)
 either P true x y f g = f refl
 either P false x y f g = g
 
-word_leads : (text : List ℕ) (ts : Tokens) → Leads kind.Ident text (expr_lead_of_word text ts)
-word_leads text ts =
-    let by = either (Leads kind.Ident text) in
+word_leads : (text : List ℕ) (ts us : Tokens) → Leads kind.Ident text us (expr_lead_of_word text ts)
+word_leads text ts us =
+    let by = either (Leads kind.Ident text us) in
     by (is_path_class (class_of text)) _ _ (λ e. tt) (by (is_literal kind.Ident text) _ _ (λ e. tt)
     (by (bytes_eq text (codes "continue")) _ _ (λ e. (refl, bytes_same text (codes "continue") e))
     (by (bytes_eq text (codes "break")) _ _ (λ e. (refl, bytes_same text (codes "break") e))
     (by (bytes_eq text (codes "return")) _ _ (λ e. (refl, bytes_same text (codes "return") e))
     (by (bytes_eq text (codes "move")) _ _ (λ e. tt) (by (is_block_word text ts) (Some ByBlockWord) None (λ e. tt) tt))))))
 
-punct_leads : (text : List ℕ) (ts : Tokens) → Leads kind.Punct text (expr_lead_of_punct text ts)
+punct_leads : (text : List ℕ) (ts : Tokens) → Leads kind.Punct text ts (expr_lead_of_punct text ts)
 punct_leads text ts =
-    let by = either (Leads kind.Punct text) in
+    let by = either (Leads kind.Punct text ts) in
     by (is_of prefix_texts text) _ _ (λ e. (refl, e)) (by (bytes_eq text (codes "|")) _ _ (λ e. tt)
     (by (bytes_eq text (codes "<") || is_op (codes "::") ts) _ _ (λ e. tt)
-    (by (begins_dots ts) (Some ByRange) None (λ e. tt) tt)))
+    (by (begins_dots ts) (Some ByRange) None (λ e. e) tt)))
 
-lead_text : (k : Kind) (text : List ℕ) (ts : Tokens) → Leads k text (expr_lead_by k text ts)
-lead_text kind.Ident text ts = word_leads text (tail ts)
+lead_text : (k : Kind) (text : List ℕ) (ts : Tokens) → Leads k text ts (expr_lead_by k text ts)
+lead_text kind.Ident text ts = word_leads text (tail ts) ts
 lead_text kind.Punct text ts = punct_leads text ts
 lead_text kind.Underscore text ts = refl
 lead_text kind.Lifetime text ts = refl
@@ -75,12 +76,12 @@ lead_text _ text ts = tt
 -- the first token of what has the lead
 abbrev FirstIs : ExprLead → Tokens → Type 0
 FirstIs lead [] = ⊥
-FirstIs lead (t ∷ ts) = LeadIs lead t.kind t.text
+FirstIs lead (t ∷ ts) = LeadIs lead t.kind t.text (t ∷ ts)
 
 first_is : (lead : ExprLead) (ts : Tokens) → expr_lead_at ts ≡ Some lead → FirstIs lead ts
 unfolding expr_lead_at
 first_is lead [] h = absurd (cc h)
-first_is lead (t ∷ ts) h = subst (Leads t.kind t.text) h (lead_text t.kind t.text (t ∷ ts))
+first_is lead (t ∷ ts) h = subst (Leads t.kind t.text (t ∷ ts)) h (lead_text t.kind t.text (t ∷ ts))
 
 pub paren_first : (ts : Tokens) → InText ts → expr_lead_at ts ≡ Some ByParen → IsBit (opener Paren) ts (tail ts)
 paren_first [] i h = absurd (first_is ByParen [] h)
@@ -106,6 +107,10 @@ break_first (t ∷ ts) h = let f = first_is ByBreak (t ∷ ts) h in (f.0, f.1, r
 pub return_first : (ts : Tokens) → expr_lead_at ts ≡ Some ByReturn → IsOne kind.Ident (codes "return") ts (tail ts)
 return_first [] h = absurd (first_is ByReturn [] h)
 return_first (t ∷ ts) h = let f = first_is ByReturn (t ∷ ts) h in (f.0, f.1, refl)
+
+pub range_first : (ts : Tokens) → expr_lead_at ts ≡ Some ByRange → begins_dots ts ≡ true
+range_first [] h = absurd (first_is ByRange [] h)
+range_first (t ∷ ts) h = first_is ByRange (t ∷ ts) h
 
 -- ---- what doesn't begin there
 

@@ -33,7 +33,7 @@ use Rattle.lay_tree.proofs.nodes.ExprsLaws.{expr_array_is, expr_break_is, expr_c
 use Rattle.lay_tree.proofs.reader.Call.{call_sound}
 use Rattle.lay_tree.proofs.reader.ExprSoundLeads.{LedWithin}
 use Rattle.lay_tree.proofs.reader.ExprSoundFirst.{no_label}
-use Rattle.lay_tree.proofs.reader.ExprSoundLevel.{ExprHeld, LeftHeld, SoundExprWithin, all_taken, made, root_held, tail_held}
+use Rattle.lay_tree.proofs.reader.ExprSoundLevel.{ExprHeld, LeftHeld, SoundExprWithin, all_taken, bare_follows, made, root_held, tail_held}
 use Rattle.lay_tree.proofs.reader.ExprSoundLists.{FreeRow, OperandHeld, free_sound, operand_sound, row_spelled}
 use Rattle.lay_tree.proofs.reader.Loops.{SoundStep}
 use Rattle.lay_tree.proofs.reader.TypesSoundKinds.{length_sound}
@@ -253,10 +253,6 @@ module _ (no_struct starts : Bool) where
 
     -- ---- jumps
 
-    lacking : (b : Bool) → b ≡ false → (not b && true && true && true && true) ≡ true
-    lacking false h = refl
-    lacking true h = absurd (cc h)
-
     -- Behind an operand that is read at level 0 no operator follows.
     none_follows : (x : Expr × ℕ) (ts rest : Tokens) → ExprHeld (plain 0 no_struct) budget x ts rest → strength rest ≡ 0
     none_follows x ts rest s =
@@ -273,7 +269,7 @@ module _ (no_struct starts : Bool) where
         → OperandHeld budget within sound 0 no_struct y need at rest → Left (expr.Return y, suc need) ts rest
     return_held None need ts at rest o k =
         made no_struct starts (about_expr (expr.Return None)) (Expr-F.Return None) need ts rest (expr_return_is None)
-        (at, (at, o, refl), k.0) refl (lacking (begins_operand no_struct rest) k.1)
+        (at, (at, o, refl), k.0) refl (bare_follows no_struct rest k.1)
     return_held (Some y) need ts at rest o k =
         let told = about_expr y in
         made no_struct starts (about_expr (expr.Return (Some y))) (Expr-F.Return (Some told)) need ts rest (expr_return_is (Some y))
@@ -287,7 +283,7 @@ module _ (no_struct starts : Bool) where
     break_held label None need ts at mid rest o l k =
         made no_struct starts (about_expr (expr.Break label None)) (Expr-F.Break label None) need ts rest (expr_break_is label None)
         (at, (at, o, refl), label_leads label Done need at mid rest l k.0) (placed_bare label)
-        (lacking (begins_operand no_struct rest) k.1)
+        (bare_follows no_struct rest k.1)
       where
         placed_bare : (label : Option Lifetime) → (true && break_placed label None) ≡ true
         placed_bare None = refl
