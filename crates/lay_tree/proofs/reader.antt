@@ -94,3 +94,4 @@ pub mod ExprSoundLists
 pub mod ExprSoundHeads
 pub mod ExprSoundStructs
 pub mod ExprSoundPrefixes
+pub mod ExprSoundHead
