@@ -95,3 +95,4 @@ pub mod ExprSoundHeads
 pub mod ExprSoundStructs
 pub mod ExprSoundPrefixes
 pub mod ExprSoundHead
+pub mod ExprSoundOperators

@@ -106,7 +106,7 @@ last_list form last_form depth (f ∷ fs) true ts inside end at rest o r e s c =
     let all = rows_joined P (map form fs) (last_form ∷ []) r.0 behind.0 at parts one in
     shut_braces (form f) (map form fs ++ last_form ∷ []) depth ts inside r.0 at rest o r.1 all c
 
-int_kind : (k : Kind) → is_int k ≡ true → k ≡ kind.Int
+pub int_kind : (k : Kind) → is_int k ≡ true → k ≡ kind.Int
 int_kind kind.Int h = refl
 int_kind _ h = absurd (cc)
 
