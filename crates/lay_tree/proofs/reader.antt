@@ -96,3 +96,4 @@ pub mod ExprSoundStructs
 pub mod ExprSoundPrefixes
 pub mod ExprSoundHead
 pub mod ExprSoundOperators
+pub mod ExprSoundSteps

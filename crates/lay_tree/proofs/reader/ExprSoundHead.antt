@@ -1,10 +1,9 @@
 -- What begins an expression, by its lead: what is read stands there, where what is one level deeper is read so.
 use Rattle.std.proofs.Common.{◌≡◌, ℕ, Bool, codes, inl, inr, Option, Some, None, refl}
 use Rattle.lay_piece.specs.declared.kind.Delim.TheVariants.{Paren, Bracket}
-use Rattle.lay_form.specs.Form.{closer, keyword, opener}
+use Rattle.lay_form.specs.Form.{keyword, opener}
 use Rattle.lay_tree.specs.Ahead.{Tokens, tail}
 use Rattle.lay_tree.specs.Operands.{ExprLead, ByLiteral, ByPath, ByUnderscore, ByLabel, ByParen, ByBracket, ByBrace, ByPrefix, ByRange, ByContinue, ByBreak, ByReturn, ByBlockWord, ByClosure, expr_lead_at}
-use Rattle.lay_tree.specs.reader.Exact.{InText}
 use Rattle.lay_tree.specs.reader.Exprs.{ExprWithin, head_by}
 use Rattle.lay_tree.specs.reader.Types.{begins_call}
 use Rattle.lay_tree.specs.declared.exprs.Expr.{Expr}

@@ -9,7 +9,6 @@ use Rattle.lay_form.specs.Spelled.{IsBit, IsOne, Spells}
 use Rattle.lay_form.proofs.FormLaws.{deeper as raise, is_end}
 use Rattle.lay_tree.specs.Ahead.{Tokens, first, tail, closes, is_lifetime, is_mark}
 use Rattle.lay_tree.specs.Begins.{is_literal_token}
-use Rattle.lay_tree.specs.Operands.{begins_operand}
 use Rattle.lay_tree.specs.Operators.{strength}
 use Rattle.lay_tree.specs.Words.{is_literal}
 use Rattle.lay_tree.specs.nodes.Attr.{is_empty}

@@ -1,5 +1,5 @@
 -- What the strength of the tokens ahead tells of them: an operator between operands, `as`, or a postfix step.
-use Rattle.std.proofs.Common.{◌≡◌, ℕ, suc, ◌≤◌, Bool, true, false, List, [], ◌∷◌, inl, inr, codes, Option, Some, None, refl, sym, ap, subst, ◌∙◌, arith}
+use Rattle.std.proofs.Common.{◌≡◌, ℕ, suc, ◌≤◌, true, false, List, [], ◌∷◌, inl, inr, codes, Option, Some, None, refl, ap, arith}
 use Rattle.std.specs.Str.{bytes_eq}
 use Rattle.std.specs.Prelude.{option_and_then}
 use Rattle.lay_token.specs.Operators.{is_op, is_op_of, op_at}

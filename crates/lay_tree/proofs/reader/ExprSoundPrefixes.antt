@@ -1,7 +1,7 @@
 -- Prefix operators and their operand, and ranges: what is read stands there, where what is one level deeper is read so.
-use Rattle.std.proofs.Common.{◌≡◌, ℕ, zero, suc, ◌≤◌, max, Bool, true, false, not, ◌&&◌, ◌||◌, List, [], ◌∷◌, inl, inr, map, drop, codes, Option, option_map, Some, None, is_some, if◌then◌else◌, refl, sym, ap, subst, ◌∙◌, arith}
+use Rattle.std.proofs.Common.{◌≡◌, ℕ, zero, suc, ◌≤◌, max, Bool, true, false, not, ◌&&◌, ◌||◌, List, [], ◌∷◌, inl, inr, drop, codes, Option, option_map, Some, None, is_some, if◌then◌else◌, refl, sym, ap, subst, ◌∙◌, arith}
 use Rattle.std.specs.Str.{bytes_eq}
-use Rattle.std.proofs.lemmas.Bool.{and_parts, and_from, or_parts}
+use Rattle.std.proofs.lemmas.Bool.{and_parts, and_from}
 use Rattle.lay_piece.specs.declared.kind.Kind.{Kind}
 use Rattle.lay_piece.specs.declared.kind.Kind.TheVariants as kind
 use Rattle.lay_token.specs.Lexes.{is_punct}
@@ -13,7 +13,7 @@ use Rattle.lay_form.specs.Spelled.{AreBits, IsOne, IsOperator, Spells}
 use Rattle.lay_form.proofs.FormLaws.{bits_end, deeper as raise}
 use Rattle.lay_tree.specs.Ahead.{Tokens, first, tail, is_keyword}
 use Rattle.lay_tree.specs.Follow.{begins_dots}
-use Rattle.lay_tree.specs.Operands.{ByPrefix, begins_operand, expr_lead_at}
+use Rattle.lay_tree.specs.Operands.{ByPrefix, expr_lead_at}
 use Rattle.lay_tree.specs.Operators.{amp_by, prefix, prefix_by, prefix_length, raw_by}
 use Rattle.lay_tree.specs.nodes.Exprs.{ExprFacts, StepFacts, about_expr, begins_free, begins_pointer, end_placed, ends_in_amp, expr_facts, is_amp, is_prefix_lead, is_raw_path, is_raw_word, placed, prefix_bits, prefixes_form, start_placed, tail_follows, tail_of_end}
 use Rattle.lay_tree.specs.nodes.Exprs as exprs

@@ -9,16 +9,16 @@ use Rattle.lay_form.specs.Notation.{behind_attrs, braces}
 use Rattle.lay_form.specs.Spelled.{IsBit, IsOperator, Spells}
 use Rattle.lay_form.proofs.FormLaws.{deeper as raise}
 use Rattle.lay_tree.specs.Ahead.{Tokens, first, tail, closes, opens}
-use Rattle.lay_tree.specs.Follow.{Begin, OfBang, may_follow}
+use Rattle.lay_tree.specs.Follow.{OfBang, may_follow}
 use Rattle.lay_tree.specs.Words.{is_name, leaf_of}
 use Rattle.lay_tree.specs.nodes.Attr.{about_attr, are_attrs, attr_form}
-use Rattle.lay_tree.specs.nodes.Exprs.{ExprFacts, about_expr, about_field_expr, base_form, base_placed, field_facts, placed, shut_by, struct_form, tail_follows}
-use Rattle.lay_tree.specs.nodes.Facts.{all_good, forms}
+use Rattle.lay_tree.specs.nodes.Exprs.{ExprFacts, about_expr, about_field_expr, base_form, base_placed, field_facts, placed, struct_form}
+use Rattle.lay_tree.specs.nodes.Facts.{all_good}
 use Rattle.lay_tree.specs.nodes.Places.{FREE}
 use Rattle.lay_tree.specs.nodes.Types.{colon}
 use Rattle.lay_tree.specs.reader.Attr.{attributes}
 use Rattle.lay_tree.specs.reader.Exact.{InText}
-use Rattle.lay_tree.specs.reader.Exprs.{ExprWithin, base, base_by, field_by, named_field, one_field, path_by, path_expr, struct_expr}
+use Rattle.lay_tree.specs.reader.Exprs.{ExprWithin, base, field_by, named_field, one_field, path_expr, struct_expr}
 use Rattle.lay_tree.specs.reader.Loops.{Got, deepest, nodes, open_elements, passed}
 use Rattle.lay_tree.specs.reader.Patterns.{begins_field, index}
 use Rattle.lay_tree.specs.reader.Types.{path}
