@@ -97,3 +97,4 @@ pub mod ExprSoundPrefixes
 pub mod ExprSoundHead
 pub mod ExprSoundOperators
 pub mod ExprSoundSteps
+pub mod ExprSoundOperands
