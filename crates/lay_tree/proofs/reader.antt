@@ -98,3 +98,4 @@ pub mod ExprSoundHead
 pub mod ExprSoundOperators
 pub mod ExprSoundSteps
 pub mod ExprSoundOperands
+pub mod ExprSoundStages
