@@ -99,3 +99,4 @@ pub mod ExprSoundOperators
 pub mod ExprSoundSteps
 pub mod ExprSoundOperands
 pub mod ExprSoundStages
+pub mod ExprSound

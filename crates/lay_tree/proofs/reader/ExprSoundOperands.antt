@@ -1,13 +1,13 @@
 -- Operators and their operands behind an expression: what is read stands there, where what is one level deeper is read so.
-use Rattle.std.proofs.Common.{◌≡◌, ℕ, suc, ◌≤◌, max, Bool, true, false, not, ◌&&◌, List, [], ◌∷◌, inl, inr, length, map, drop, Option, Some, refl, sym, ap, subst, ◌∙◌, arith}
+use Rattle.std.proofs.Common.{◌≡◌, ℕ, suc, ◌≤◌, max, Bool, true, false, not, ◌&&◌, List, [], ◌∷◌, inl, inr, length, map, drop, Some, refl, sym, ap, subst, ◌∙◌, arith}
 use Rattle.std.specs.Prelude.{◌==◌}
 use Rattle.std.proofs.lemmas.Bool.{and_parts, and_from, eq-eqb, eqb-true}
-use Rattle.lay_form.specs.Form.{Form, Operator, Done, Part}
-use Rattle.lay_form.specs.Spelled.{IsOperator, Spells}
+use Rattle.lay_form.specs.Form.{Operator, Done, Part}
+use Rattle.lay_form.specs.Spelled.{Spells}
 use Rattle.lay_form.proofs.FormLaws.{deeper as raise}
 use Rattle.lay_tree.specs.Ahead.{Tokens}
 use Rattle.lay_tree.specs.Operators.{angle_by, binary, is_angle, is_angle_op, op_level, op_text, strength}
-use Rattle.lay_tree.specs.nodes.Exprs.{ExprFacts, about_expr, chain_placed, is_chain_level, level_of_chain, may_chain, next_is_angle, operand_place, operands_form, operands_placed, placed, stands, tail_follows, tail_of_operands, targets_form, targets_placed}
+use Rattle.lay_tree.specs.nodes.Exprs.{ExprFacts, about_expr, is_chain_level, level_of_chain, may_chain, next_is_angle, operands_form, operands_placed, placed, stands, tail_follows, tail_of_operands, targets_form, targets_placed}
 use Rattle.lay_tree.specs.nodes.Places.{before_op, plain}
 use Rattle.lay_tree.specs.nodes.Types.{is_there}
 use Rattle.lay_tree.specs.reader.Exact.{InText}

@@ -1,17 +1,17 @@
 -- Casts, ranges with a first end, and postfix steps behind an expression: what is read stands there, where what is one level
 -- deeper is read so.
-use Rattle.std.proofs.Common.{◌≡◌, ℕ, suc, ◌≤◌, max, Bool, true, false, not, ◌&&◌, ◌||◌, List, [], ◌∷◌, inl, inr, map, codes, Option, Some, refl, sym, ap, subst, ◌∙◌, arith}
+use Rattle.std.proofs.Common.{◌≡◌, ℕ, suc, ◌≤◌, max, Bool, true, false, not, ◌&&◌, ◌||◌, List, [], ◌∷◌, inl, inr, map, codes, Some, refl, sym, subst, ◌∙◌, arith}
 use Rattle.std.specs.Prelude.{nat_le}
-use Rattle.std.proofs.lemmas.Bool.{and_parts, and_from, leb-true}
+use Rattle.std.proofs.lemmas.Bool.{and_from, leb-true}
 use Rattle.lay_piece.specs.declared.kind.Kind.TheVariants as kind
 use Rattle.lay_token.specs.Operators.{is_op}
-use Rattle.lay_form.specs.Form.{Part, keyword}
+use Rattle.lay_form.specs.Form.{keyword}
 use Rattle.lay_form.specs.Spelled.{IsOne, Spells}
 use Rattle.lay_form.proofs.FormLaws.{deeper as raise}
 use Rattle.lay_tree.specs.Ahead.{Tokens, first, is_keyword}
 use Rattle.lay_tree.specs.Follow.{begins_dots, may_follow}
 use Rattle.lay_tree.specs.Operators.{begins_step, is_angle, is_dot_or_try, op_level, op_text, strength}
-use Rattle.lay_tree.specs.nodes.Exprs.{ExprFacts, StepFacts, about_expr, are_steps, first_step, is_dotted, is_tuple_index, level_of, level_of_chain, placed, stands, type_refuses, types_form, types_good, within_of}
+use Rattle.lay_tree.specs.nodes.Exprs.{ExprFacts, StepFacts, about_expr, are_steps, first_step, is_dotted, is_tuple_index, level_of, placed, stands, type_refuses, types_form, types_good, within_of}
 use Rattle.lay_tree.specs.nodes.Facts.{Facts}
 use Rattle.lay_tree.specs.nodes.Places.{before_op}
 use Rattle.lay_tree.specs.nodes.Types.{about_type, good_at, is_there}
@@ -32,7 +32,7 @@ use Rattle.lay_tree.proofs.reader.ExprSoundLeads.{LedWithin}
 use Rattle.lay_tree.proofs.reader.ExprSoundLevel.{LeftHeld, SoundExprWithin, layer_of, made}
 use Rattle.lay_tree.proofs.reader.ExprSoundOperands.{left_placed, no_angle}
 use Rattle.lay_tree.proofs.reader.ExprSoundOperators.{binary_op, goes_as, goes_op, goes_step, op_low}
-use Rattle.lay_tree.proofs.reader.ExprSoundPrefixes.{StartHeld, range_sound, rows_there}
+use Rattle.lay_tree.proofs.reader.ExprSoundPrefixes.{range_sound, rows_there}
 use Rattle.lay_tree.proofs.reader.ExprSoundSteps.{StepHeld, postfix_spelled, step_sound, steps_begin, steps_end, steps_good, steps_number, steps_there, told_steps}
 use Rattle.lay_tree.proofs.reader.Loops.{repeat_sound}
 use Rattle.lay_tree.proofs.reader.TypesSoundLevel.{TypeHeld}
