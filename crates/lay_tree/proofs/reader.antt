@@ -99,3 +99,15 @@ pub mod ExprOperators
 pub mod ExprOperatorsLoops
 pub mod ExprSteps
 pub mod ExprOperatorsTails
+pub mod ExprSoundLeads
+pub mod ExprSoundFirst
+pub mod ExprSoundLists
+pub mod ExprSoundHeads
+pub mod ExprSoundStructs
+pub mod ExprSoundPrefixes
+pub mod ExprSoundHead
+pub mod ExprSoundOperators
+pub mod ExprSoundSteps
+pub mod ExprSoundOperands
+pub mod ExprSoundStages
+pub mod ExprSound
