@@ -96,6 +96,7 @@ pub mod ExprHeadsWords
 pub mod ExprHeadsJumps
 pub mod ExprHeadsLists
 pub mod ExprHeadsRaw
+pub mod ExprHeadsUnary
 pub mod ExprOperators
 pub mod ExprOperatorsLoops
 pub mod ExprSteps

@@ -216,7 +216,7 @@ steps_no_pointer several (x ∷ ss) depth ts rest g s =
     unbroken false f s = s
 
 -- An expression stands at a level no less than the place's.
-stands_level : (x : ExprFacts) (place : Place) → stands x place ≡ true → nat_le place.level x.level ≡ true
+pub stands_level : (x : ExprFacts) (place : Place) → stands x place ≡ true → nat_le place.level x.level ≡ true
 stands_level x place h = first_of (nat_le place.level x.level) _ _ _ _ h
   where
     first_of : (a b c d e : Bool) → (a && b && c && d && e) ≡ true → a ≡ true
