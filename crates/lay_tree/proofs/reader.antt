@@ -97,6 +97,7 @@ pub mod ExprHeadsJumps
 pub mod ExprHeadsLists
 pub mod ExprHeadsRaw
 pub mod ExprHeadsUnary
+pub mod ExprHeadsStruct
 pub mod ExprOperators
 pub mod ExprOperatorsLoops
 pub mod ExprSteps
