@@ -95,6 +95,8 @@ pub mod ExprHeadsWords
 pub mod ExprHeadsJumps
 pub mod ExprHeadsLists
 pub mod ExprHeadsRaw
+pub mod ExprHeadsUnary
+pub mod ExprHeadsStruct
 pub mod ExprOperators
 pub mod ExprOperatorsLoops
 pub mod ExprSteps
