@@ -96,3 +96,4 @@ pub mod ExprOperators
 pub mod ExprOperatorsLoops
 pub mod ExprSteps
 pub mod ExprOperatorsTails
+pub mod ExprOperatorsRows
