@@ -92,8 +92,11 @@ pub mod ExprHeads
 pub mod ExprLeads
 pub mod ExprFronts
 pub mod ExprQuiet
+pub mod ExprHeadsWords
+pub mod ExprHeadsJumps
 pub mod ExprOperators
 pub mod ExprOperatorsLoops
 pub mod ExprSteps
 pub mod ExprOperatorsTails
 pub mod ExprOperatorsRows
+pub mod ExprClimb
