@@ -100,3 +100,4 @@ pub mod ExprSteps
 pub mod ExprOperatorsTails
 pub mod ExprOperatorsRows
 pub mod ExprClimb
+pub mod ExprClimbKinds

@@ -197,7 +197,7 @@ target_parts no_struct first y ys w =
     record { level = q.0; target = q.1; more = p.1 }
 
 -- An operator of level 0 is neither `<` nor `<<`.
-set_no_angle : (o : Op) → (op_level o == 0) ≡ true → is_angle_op o ≡ false
+pub set_no_angle : (o : Op) → (op_level o == 0) ≡ true → is_angle_op o ≡ false
 set_no_angle op.Less h = absurd (cc)
 set_no_angle op.Shl h = absurd (cc)
 set_no_angle _ h = refl
