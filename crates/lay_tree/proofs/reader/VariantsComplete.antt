@@ -41,7 +41,7 @@ use Rattle.lay_tree.proofs.reader.Words.{name_complete}
 
 -- ---- elements of a list in delimiters, by what ends them
 
-elements_of_map : {A B : Type 0} (d : Delim) (f : A → B) (P : B → Tokens → Tokens → Type 0) (xs : List A) (ts rest : Tokens)
+pub elements_of_map : {A B : Type 0} (d : Delim) (f : A → B) (P : B → Tokens → Tokens → Type 0) (xs : List A) (ts rest : Tokens)
     → Elements d P (map f xs) ts rest → Elements d (λ x. P (f x)) xs ts rest
 elements_of_map d f P [] ts rest r = r
 elements_of_map d f P (x ∷ xs) ts rest r = let b = r.2 in (r.0, r.1, (b.0, rows_of_map f (Further P) xs r.0 b.0 b.1, b.2))
@@ -49,7 +49,7 @@ elements_of_map d f P (x ∷ xs) ts rest r = let b = r.2 in (r.0, r.1, (b.0, row
 module _ {A : Type 0} (d : Delim) (form : A → Form) (good : A → Bool) (depth : ℕ) (one : Tokens → Read A)
     (reads : (x : A) (ts mid : Tokens) → Spells (form x) depth ts mid → good x ≡ true → loops.Ends d mid → IsRead depth one x ts mid)
     (begins : (x : A) (ts mid : Tokens) → Spells (form x) depth ts mid → good x ≡ true → (first (closes d) ts ≡ false) × (length mid < length ts)) where
-  abbrev Stands : A → Tokens → Tokens → Type 0
+  abbrev pub Stands : A → Tokens → Tokens → Type 0
   Stands x ts rest = SpelledAt depth (form x) ts rest
 
   one_read : (x : A) (ts mid : Tokens) → Ended d Stands x ts mid → good x ≡ true → (y : A × ℕ) × (y.0 ≡ x) × (y.1 ≤ depth) × Element d one y ts mid
@@ -72,7 +72,7 @@ module _ {A : Type 0} (d : Delim) (form : A → Form) (good : A → Bool) (depth
         (r.0, (row.0, row.1, y.3), more.3),
       )
 
-  list_read : (xs : List A) (ts rest : Tokens) → list_all good xs ≡ true → Elements d Stands xs ts rest
+  pub list_read : (xs : List A) (ts rest : Tokens) → list_all good xs ≡ true → Elements d Stands xs ts rest
       → (ys : List (A × ℕ)) × (nodes ys ≡ xs) × (deepest ys ≤ depth) × (elements (closes d) one ts ≡ Some (ys, rest))
   list_read [] ts rest g r = ([], refl, omega arith, elements_complete one d [] ts rest r)
   list_read (x ∷ xs) ts rest g r =
