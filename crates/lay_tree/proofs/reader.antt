@@ -94,12 +94,12 @@ pub mod ExprFronts
 pub mod ExprQuiet
 pub mod ExprOperators
 pub mod ExprOperatorsLoops
-pub mod ExprSteps
-pub mod ExprOperatorsTails
-pub mod ExprOperatorsRows
 pub mod ExprHeadsWords
 pub mod ExprHeadsJumps
 pub mod ExprHeadsLists
+pub mod ExprSteps
+pub mod ExprOperatorsTails
+pub mod ExprOperatorsRows
 pub mod ExprHeadsRaw
 pub mod ExprHeadsUnary
 pub mod ExprClimb

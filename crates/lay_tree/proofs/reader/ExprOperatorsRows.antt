@@ -25,6 +25,7 @@ use Rattle.lay_tree.proofs.Fronts.{one_front, one_shorter}
 use Rattle.lay_tree.proofs.Parts.{Rows, bit_alone, behind_blank, before_blank}
 use Rattle.lay_tree.proofs.nodes.ExprsLaws.{behind_op, before_op as target_of}
 use Rattle.lay_tree.proofs.reader.Exact.{IsRead}
+use Rattle.lay_tree.proofs.reader.ExprHeadsJumps.{plain_follows}
 use Rattle.lay_tree.proofs.reader.ExprOperators.{AtOp, at_op, not_at_level, no_as, as_there, op_tail}
 use Rattle.lay_tree.proofs.reader.ExprOperatorsLoops.{NodeTurn, NodesRead, nodes_repeat}
 use Rattle.lay_tree.proofs.reader.ExprOperatorsTails.{BeforeOp, before_parts}
@@ -50,10 +51,6 @@ before_plain x level no_struct angle w =
     let p = and_parts (stands x (before_op level no_struct false angle)) (x.within no_struct false) w in
     let b = before_parts x level no_struct false angle p.0 in
     rw (b.high, b.struct_free) p.1
-
-pub plain_follows : (x : ExprFacts) (level : ℕ) (no_struct : Bool) (ts : Tokens) → strength ts ≤ level → tail_follows x.tail no_struct ts ≡ true
-    → follows x (plain level no_struct) ts ≡ true
-plain_follows x level no_struct ts s t = rw (le-leb (strength ts) level s) t
 
 -- ---- an operator and the operand behind it
 
@@ -105,7 +102,7 @@ module _ (depth : ℕ) (within : ExprWithin) (reads : ExprReads depth within) (l
       let q = and_parts (op_level y.0 == level) (placed (about_expr y.1) (plain (suc level) no_struct)) p.0 in
       let spelled : OperandSpelled depth y ts rest = subst (λ us. OperandSpelled depth y ts us) r.2 r.1 in
       let ends : operand_ends level no_struct (about_expr y.1) rest ≡ true = rw (not_at_level level rest s) refl in
-      (rest, operand_turn y ts rest q.0 spelled q.1 (plain_follows (about_expr y.1) (suc level) no_struct rest (omega (arith, s)) t) ends, refl)
+      (rest, operand_turn y ts rest q.0 spelled q.1 (plain_follows (about_expr y.1) (suc level) no_struct rest (le-leb (strength rest) (suc level) (omega (arith, s))) t) ends, refl)
   operand_turns y (z ∷ more) ts rest r w c s t =
       let F = about_expr y.1 in
       let next = r.2 in
@@ -126,7 +123,7 @@ module _ (depth : ℕ) (within : ExprWithin) (reads : ExprReads depth within) (l
       let here = subst (λ d. stands F (before_op (suc level) no_struct false d) ≡ true) (sym angle) there in
       let ends : operand_ends level no_struct F mid ≡ true =
       rw (eq-eqb (strength mid) (suc level) a.strength) (and_from (not (level == 4)) (stands F (before_op (suc level) no_struct false (is_angle mid))) c here) in
-      let follow = plain_follows F (suc level) no_struct mid (omega (arith, a.strength)) tail in
+      let follow = plain_follows F (suc level) no_struct mid (le-leb (strength mid) (suc level) (omega (arith, a.strength))) tail in
       (mid, operand_turn y ts mid q.0 r.1 (before_plain F (suc level) no_struct (is_angle_op z.0) q.1) follow ends,
       operand_turns z more mid rest next p.1 (chain_on more c) s t)
     where
