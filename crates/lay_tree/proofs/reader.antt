@@ -113,3 +113,7 @@ pub mod ExprSoundSteps
 pub mod ExprSoundOperands
 pub mod ExprSoundStages
 pub mod ExprSound
+pub mod ExprOperatorsRows
+pub mod ExprClimb
+pub mod ExprClimbKinds
+pub mod ExprComplete

@@ -1,10 +1,10 @@
 -- What goes on with an expression: operators between operands, `as`, and the first tokens of steps. Each has its strength,
 -- and stands at a front that nothing else begins.
 use Rattle.std.proofs.Common.{◌≡◌, ℕ, suc, ◌≤◌, ◌<◌, Bool, true, false, not, ◌&&◌, ◌||◌, List, [], ◌∷◌, length, drop, codes, Option, Some, None, ◌⊎◌, inl, inr, refl, sym, ap, subst, ◌∙◌, arith}
-use Rattle.std.specs.Prelude.{◌==◌}
+use Rattle.std.specs.Prelude.{◌==◌, nat_le, if◌then◌else◌}
 use Rattle.std.specs.List.{list_all}
 use Rattle.std.specs.Str.{bytes_eq}
-use Rattle.std.proofs.lemmas.Bool.{and_parts, not-true, or_parts, or_cases, or_left, or_right, eqb-true, ne_eqb, false_from_ne_true}
+use Rattle.std.proofs.lemmas.Bool.{and_parts, not-true, or_parts, or_cases, or_left, or_right, eqb-true, ne_eqb, leb-true, false_from_ne_true}
 use Rattle.lay_piece.specs.declared.kind.Delim.{Delim}
 use Rattle.lay_piece.specs.declared.kind.Delim.TheVariants.{Paren, Bracket, Brace}
 use Rattle.lay_piece.specs.declared.kind.Kind.{Kind}
@@ -14,7 +14,7 @@ use Rattle.lay_token.proofs.Deciding.{bytes_same, bytes_self}
 use Rattle.lay_form.specs.Spelled.{IsOne, IsOperator}
 use Rattle.lay_tree.specs.Ahead.{Tokens, first, tail, is_keyword, is_lifetime, is_lifetime_kind, is_opener, opens, opens_args}
 use Rattle.lay_tree.specs.Follow.{Begin, OfRename, OfArgs, OfCodeArgs, OfArrow, OfColons, OfBang, begins_there, may_follow}
-use Rattle.lay_tree.specs.Operators.{op_text, op_level, all_ops, named, binary, is_dot_or_try, begins_step, angle_by, is_angle, is_angle_op, strength}
+use Rattle.lay_tree.specs.Operators.{op_text, op_level, all_ops, named, binary, is_dot_or_try, begins_step, angle_by, is_angle, is_angle_op, strength_by, strength}
 use Rattle.lay_tree.specs.nodes.Exprs.{Tail, is_open, is_args, lacks_args, is_typed, begins_pointer, tail_follows}
 use Rattle.lay_tree.specs.nodes.Types.{is_there}
 use Rattle.lay_tree.specs.declared.operators.Op.{Op}
@@ -205,6 +205,20 @@ no_as ts le = false_from_ne_true (first (is_keyword (codes "as")) ts) (λ e.
 
 pub not_at_level : (level : ℕ) (ts : Tokens) → strength ts ≤ level → (strength ts == suc level) ≡ false
 not_at_level level ts le = ne_eqb (strength ts) (suc level) (λ e. absurd (omega (arith, le, e)))
+
+-- No tokens go on more strongly than a step.
+pub strength_most : (ts : Tokens) → strength ts ≤ 14
+unfolding strength
+strength_most ts = by (binary ts) refl
+  where
+    other : (a s : Bool) → (if a then 12 else (if s then 14 else 0)) ≤ 14
+    other true s = omega arith
+    other false true = omega arith
+    other false false = omega arith
+
+    by : (found : Option Op) → binary ts ≡ found → strength_by found ts ≤ 14
+    by (Some o) e = let low = leb-true (op_level o) 10 (binary_all (λ x. nat_le (op_level x) 10) refl ts o e) in omega (arith, low)
+    by None e = other (first (is_keyword (codes "as")) ts) (begins_step ts)
 
 -- ---- what goes on may follow what isn't open at its end
 

@@ -47,6 +47,7 @@ use Rattle.lay_tree.proofs.nodes.TypesLaws.{args_angle_is}
 use Rattle.lay_tree.proofs.reader.Exact.{IsRead}
 use Rattle.lay_tree.proofs.reader.ExprFronts.{placed_begins}
 use Rattle.lay_tree.proofs.reader.ExprLeads.{expr_no_closer}
+use Rattle.lay_tree.proofs.reader.ExprHeadsLists.{free_read, free_elements_read}
 use Rattle.lay_tree.proofs.reader.ExprOperators.{dot_front, try_front, paren_front, bracket_front, opener_no_dot}
 use Rattle.lay_tree.proofs.reader.ExprOperatorsLoops.{NodeTurn, nodes_repeat}
 use Rattle.lay_tree.proofs.reader.ExprQuiet.{ends_follow, comma_ends_expr, closer_ends_expr}
@@ -182,11 +183,7 @@ abbrev pub Behind : StepKind → Tokens → Type 0
 Behind OfField ts = (first (opens Paren) ts ≡ false) × (is_op (codes "::") ts ≡ false)
 Behind _ ts = Unit {0}
 
--- ---- expressions in delimiters
-
--- what is told of an expression where nothing is asked
-abbrev free_facts : Expr → Facts
-free_facts x = record { form = (about_expr x).form; good = placed (about_expr x) FREE; refuses = [] }
+-- ---- what is read
 
 -- Generic arguments that are read in code are angled ones behind a `::`.
 late_parts : (within : Within) (xs : List Arg) (need : ℕ) (ts rest : Tokens) → args_by within Code ts ≡ Some ((args.Angle xs, need), rest)
@@ -211,31 +208,7 @@ late_parts within xs need ts rest h =
     no_angle : (ys : List Arg) → args.None ≡ args.Angle ys → ⊥
     no_angle ys e = let f = sym views.outs-None ∙ ap views.out-Args e ∙ views.outs-Angle ys in absurd (cc)
 
--- What ends an element of a list may follow it.
-free_follows : (x : ExprFacts) (d : Delim) (ts : Tokens) → Ends d ts → follows x FREE ts ≡ true
-free_follows x d ts (rest, inl o) = ends_follow x FREE ts (comma_ends_expr false ts rest o)
-free_follows x d ts (rest, inr o) = ends_follow x FREE ts (closer_ends_expr false d ts rest o)
-
 module _ (depth : ℕ) (within : ExprWithin) (reads : ExprReads depth within) where
-  free_read : (x : Expr) (d : Delim) (ts rest : Tokens) → GoodAt free_facts depth x ts rest → Ends d rest
-      → (first (closes d) ts ≡ false) × IsRead depth (within.exprs FREE) x ts rest × (length rest < length ts)
-  free_read x d ts rest g e =
-      let b = placed_begins x FREE depth ts rest g.0 g.1 in
-      (expr_no_closer d ts (about_expr x).lead b.lead, reads.exprs FREE x ts rest g.0 g.1 (free_follows (about_expr x) d rest e), b.less)
-
-  pub free_args : (xs : List Expr) (ts rest : Tokens) → Spells (args_form (map about_expr xs)) depth ts rest → all_free (map about_expr xs) ≡ true
-      → (inside : Tokens) × IsOne (Opener Paren) (opening Paren ∷ []) ts inside × IsRead depth (free_elements within (closes Paren)) xs inside rest
-  free_args xs ts rest s g =
-      let same : expr_forms (map about_expr xs) ≡ forms (map free_facts xs) =
-      forms_of (λ (x : ExprFacts). x.form) about_expr xs ∙ sym (forms_of (λ (x : Facts). x.form) free_facts xs) in
-      let goods : all_good (map free_facts xs) ≡ true =
-      list_all-map (λ (x : Facts). x.good) free_facts xs ∙ (sym (list_all-map (λ (x : ExprFacts). placed x FREE) about_expr xs) ∙ g) in
-      let l = list_complete free_facts depth (within.exprs FREE) Paren (λ x us end t e. free_read x Paren us end t e) xs ts rest
-      (subst (λ fs. Spells (comma_list true (opener Paren) (closer Paren) fs) depth ts rest) same s) goods in
-      (l.0, l.1, (deepest l.2, l.4, rw (l.5, l.3) refl))
-
-  -- ---- steps
-
   dotted : (ts at : Tokens) → IsOperator (codes ".") ts at → one_step within ts ≡ dot_step within at
   unfolding one_step
   dotted ts at o = rw (o.0, o.1) refl
@@ -334,7 +307,7 @@ module _ (depth : ℕ) (within : ExprWithin) (reads : ExprReads depth within) wh
           let l = leaf_parts n.raw n.text (Part (args_form (map about_expr xs)) Done) depth u.0 rest u.2 in
           let g2 = and_parts (is_name n.raw n.text && true) (all_free (map about_expr xs)) g in
           let g1 = and_parts (is_name n.raw n.text) true g2.0 in
-          let a = free_args xs l.0 rest (part_alone (args_form (map about_expr xs)) depth l.0 rest l.2) g2.1 in
+          let a = free_elements_read depth within reads Paren xs l.0 rest g2.1 (part_alone (args_form (map about_expr xs)) depth l.0 rest l.2) in
           let r = a.2 in
           (max 0 r.0, omega (arith, r.1), plain_method n xs r.0 ts u.0 l.0 a.0 rest o (l.1, g1.0) a.1 r.2))
       at _ (IsMethodStep n (Some gs) xs) = told (step.Method n (Some gs) xs) (step_facts (Step-F.Method n (Some gs) (map about_expr xs))) (step_method_is n (Some gs) xs) (λ u g b.
@@ -351,11 +324,11 @@ module _ (depth : ℕ) (within : ExprWithin) (reads : ExprReads depth within) wh
           let good = subst (λ (F : ArgsFacts). F.code.good ≡ true) (sym (args_angle_is gs)) g1.1 in
           let clear = subst (λ (F : ArgsFacts). Clear F.code.refuses beyond) (sym (args_angle_is gs)) refl in
           let t = args_read depth within.kinds reads.kinds Code (args.Angle gs) l.0 beyond spelled good clear in
-          let a = free_args xs beyond rest (part_alone (args_form (map about_expr xs)) depth beyond rest angles.2) g2.1 in
+          let a = free_elements_read depth within reads Paren xs beyond rest g2.1 (part_alone (args_form (map about_expr xs)) depth beyond rest angles.2) in
           let r = a.2 in
           (max t.0 r.0, omega (arith, t.1, r.1), generic_method n gs xs t.0 r.0 ts u.0 l.0 beyond a.0 rest o (l.1, g1.0) c.0 t.2 a.1 r.2))
       at _ (IsApplyStep xs) = told (step.Apply xs) (step_facts (Step-F.Apply (map about_expr xs))) (step_apply_is xs) (λ u g b.
-          let a = free_args xs ts rest u g in
+          let a = free_elements_read depth within reads Paren xs ts rest g u in
           let r = a.2 in
           (r.0, r.1, call_read xs r.0 ts a.0 rest a.1 r.2))
       at _ (IsIndexStep x) = told (step.Index x) (step_facts (Step-F.Index (about_expr x))) (step_index_is x) (λ u g b.
@@ -365,7 +338,7 @@ module _ (depth : ℕ) (within : ExprWithin) (reads : ExprReads depth within) wh
           let end = part.0 in
           let c : IsOne (Closer Bracket) (closing Bracket ∷ []) end rest =
           subst (λ us. IsOne (Closer Bracket) (closing Bracket ∷ []) end us) u.2 (piece_bit (closer Bracket) depth end u.0 part.2) in
-          let r = reads.exprs FREE x inside end part.1 g (free_follows (about_expr x) Bracket end (rest, inr c)) in
+          let r = free_read depth within reads x inside end part.1 g (closer_ends_expr false Bracket end rest c) in
           (r.0, r.1, subscript_read x r.0 ts inside end rest o r.2 c))
       at _ IsTryStep = told step.Try (step_facts Step-F.Try) step_try_is (λ u g b.
           let o : IsOperator (codes "?") ts rest = piece_bit (Operator (codes "?")) depth ts rest u in

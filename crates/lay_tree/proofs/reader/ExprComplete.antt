@@ -1,0 +1,194 @@
+-- Every expression is read where it is spelled, in its place, at each budget from its depth on.
+use Rattle.std.proofs.Common.{◌≡◌, ℕ, zero, suc, ◌≤◌, Bool, true, false, not, ◌&&◌, nat_le, List, map, Option, option_map, Some, None, if◌then◌else◌, refl, sym, ap, subst, ◌∙◌, arith, le-leb, leb-true}
+use Rattle.std.proofs.lemmas.Bool.{and_parts}
+use Rattle.lay_form.specs.Spelled.{Spells}
+use Rattle.lay_tree.specs.Ahead.{Tokens}
+use Rattle.lay_tree.specs.Operands.{expr_lead_at}
+use Rattle.lay_tree.specs.Operators.{is_dot_or_try, strength}
+use Rattle.lay_tree.specs.nodes.Exprs.{ExprFacts, StepFacts, stands, placed, root_follows, follows, tail_follows, level_of, is_block_like, expr_facts, about_expr, about_field_expr, about_step}
+use Rattle.lay_tree.specs.nodes.Facts.{Facts}
+use Rattle.lay_tree.specs.nodes.Places.{begins, is_whole}
+use Rattle.lay_tree.specs.reader.Exprs.{ExprWithin, head_by, climb, is_ended, accepted, expr_by, expr_in}
+use Rattle.lay_tree.specs.reader.Types as types
+use Rattle.lay_tree.specs.declared.exprs.Expr.{Expr}
+use Rattle.lay_tree.specs.declared.exprs.Expr.TheOpen.{Expr-F}
+use Rattle.lay_tree.specs.declared.exprs.Expr.TheVariants as expr
+use Rattle.lay_tree.specs.declared.exprs.FieldExpr.{FieldExpr}
+use Rattle.lay_tree.specs.declared.exprs.Place.{Place}
+use Rattle.lay_tree.specs.declared.types.Path.{Path}
+use Rattle.lay_tree.proofs.nodes.ExprsLaws.{ExprView, IsLit, IsPath, IsUnderscore, IsCall, IsParen, IsContinue, IsTuple, IsArray, IsRepeat, IsStruct, IsChain, IsCast, IsUnary, IsRange, IsAssign, IsPostfix, IsReturn, IsBreak, expr_view, behind_op, before_op as target_of, expr_lit_is, expr_path_is, expr_underscore_is, expr_call_is, expr_paren_is, expr_continue_is, expr_tuple_is, expr_array_is, expr_repeat_is, expr_struct_is, expr_chain_is, expr_cast_is, expr_unary_is, expr_range_is, expr_assign_is, expr_postfix_is, expr_return_is, expr_break_is}
+use Rattle.lay_tree.proofs.reader.Exact.{IsRead}
+use Rattle.lay_tree.proofs.reader.ExprClimb.{Reach, Known, Reaches, climb_ends, headed}
+use Rattle.lay_tree.proofs.reader.ExprClimbKinds.{chain_reached, cast_reached, range_reached, assign_reached, postfix_reached}
+use Rattle.lay_tree.proofs.reader.ExprFronts.{no_depth}
+use Rattle.lay_tree.proofs.reader.ExprHeads.{Headed, IsHead}
+use Rattle.lay_tree.proofs.reader.ExprHeadsJumps.{return_head, break_head, range_head}
+use Rattle.lay_tree.proofs.reader.ExprHeadsLists.{paren_head, tuple_head, array_head, repeat_head}
+use Rattle.lay_tree.proofs.reader.ExprHeadsUnary.{unary_head}
+use Rattle.lay_tree.proofs.reader.ExprHeadsWords.{lit_head, underscore_head, call_head, path_head, continue_head}
+use Rattle.lay_tree.proofs.reader.ExprOperators.{strength_most}
+use Rattle.lay_tree.proofs.reader.ExprOperatorsTails.{stands_parts}
+use Rattle.lay_tree.proofs.reader.ExprReads.{ExprReads, head_at}
+use Rattle.lay_tree.proofs.reader.TypesCompleteKinds.{within_reads}
+
+abbrev StructHeads : Type 0
+StructHeads = (depth : ℕ) (within : ExprWithin) → ExprReads depth within → (path : Path) (fields : List FieldExpr) (base : Option (Option Expr))
+    → IsHead depth within (expr.Struct path fields base)
+
+module _ (struct_head : StructHeads) (most : ℕ) (within : ExprWithin) (reads : (depth : ℕ) → depth ≤ most → ExprReads depth within) (place : Place) where
+  -- ---- every expression is reached
+
+  module _ (depth : ℕ) (le : depth ≤ most) (reaches : Reaches within place depth) where
+    abbrev Reached : Expr → Type 0
+    Reached x = (level : ℕ) (first : Bool) (ts mid : Tokens) → Known within place level (suc depth) (about_expr x) first ts mid → Reach within place level (suc depth) x ts mid
+
+    -- what begins an expression, by itself
+    alone : (x : Expr) (F : Expr-F ExprFacts Facts StepFacts) → about_expr x ≡ expr_facts F → nat_le (level_of F) 14 ≡ true → IsHead depth within x → Reached x
+    alone x F e top h level first ts mid k =
+        headed within place x level depth first ts mid h (subst (λ (G : ExprFacts). nat_le G.level 14 ≡ true) (sym e) top) k
+
+    here : ExprReads depth within
+    here = reads depth le
+
+    reached : (x : Expr) → ExprView x → Reached x
+    reached _ (IsLit l) = alone (expr.Lit l) (Expr-F.Lit l) (expr_lit_is l) refl (lit_head depth within here l)
+    reached _ (IsPath path) = alone (expr.Path path) (Expr-F.Path path) (expr_path_is path) refl (path_head depth within here path)
+    reached _ IsUnderscore = alone expr.Underscore Expr-F.Underscore expr_underscore_is refl (underscore_head depth within here)
+    reached _ (IsCall call) = alone (expr.Call call) (Expr-F.Call call) (expr_call_is call) refl (call_head depth within here call)
+    reached _ (IsParen x) = alone (expr.Paren x) (Expr-F.Paren (about_expr x)) (expr_paren_is x) refl (paren_head depth within here x)
+    reached _ (IsContinue label) = alone (expr.Continue label) (Expr-F.Continue label) (expr_continue_is label) refl (continue_head depth within here label)
+    reached _ (IsTuple xs) = alone (expr.Tuple xs) (Expr-F.Tuple (map about_expr xs)) (expr_tuple_is xs) refl (tuple_head depth within here xs)
+    reached _ (IsArray xs) = alone (expr.Array xs) (Expr-F.Array (map about_expr xs)) (expr_array_is xs) refl (array_head depth within here xs)
+    reached _ (IsRepeat x us) = alone (expr.Repeat x us) (Expr-F.Repeat (about_expr x) us) (expr_repeat_is x us) refl (repeat_head depth within here x us)
+    reached _ (IsStruct path fields base) =
+        alone (expr.Struct path fields base) (Expr-F.Struct path (map about_field_expr fields) (option_map (option_map about_expr) base))
+        (expr_struct_is path fields base) refl (struct_head depth within here path fields base)
+    reached _ (IsChain x more) = chain_reached within place depth here reaches x more
+    reached _ (IsCast x types) = cast_reached within place depth here reaches x types
+    reached _ (IsUnary ps x) = alone (expr.Unary ps x) (Expr-F.Unary ps (about_expr x)) (expr_unary_is ps x) refl (unary_head depth within here ps x)
+    reached _ (IsRange None inclusive end) =
+        alone (expr.Range None inclusive end) (Expr-F.Range None inclusive (option_map about_expr end)) (expr_range_is None inclusive end) refl
+        (range_head depth within here inclusive end)
+    reached _ (IsRange (Some x) inclusive end) = range_reached within place depth here reaches x inclusive end
+    reached _ (IsAssign targets x) = assign_reached within place depth here reaches targets x
+    reached _ (IsPostfix x steps) = postfix_reached within place depth here reaches x steps
+    reached _ (IsReturn x) = alone (expr.Return x) (Expr-F.Return (option_map about_expr x)) (expr_return_is x) refl (return_head depth within here x)
+    reached _ (IsBreak label x) =
+        alone (expr.Break label x) (Expr-F.Break label (option_map about_expr x)) (expr_break_is label x) refl (break_head depth within here label x)
+
+    -- What is block-like is what begins an expression, of the highest level.
+    abbrev BlockLike : Expr → Type 0
+    BlockLike x = (about_expr x).block_like ≡ true → IsHead depth within x × (nat_le 14 (about_expr x).level ≡ true)
+
+    other : (x : Expr) (F : Expr-F ExprFacts Facts StepFacts) → about_expr x ≡ expr_facts F → is_block_like F ≡ false → BlockLike x
+    other x F e n b = let f = sym n ∙ sym (ap (λ (G : ExprFacts). G.block_like) e) ∙ b in absurd (cc)
+
+    block_like : (x : Expr) → ExprView x → BlockLike x
+    block_like _ (IsCall call) = λ b. (call_head depth within here call, subst (λ (G : ExprFacts). nat_le 14 G.level ≡ true) (sym (expr_call_is call)) refl)
+    block_like _ (IsLit l) = other (expr.Lit l) (Expr-F.Lit l) (expr_lit_is l) refl
+    block_like _ (IsPath path) = other (expr.Path path) (Expr-F.Path path) (expr_path_is path) refl
+    block_like _ IsUnderscore = other expr.Underscore Expr-F.Underscore expr_underscore_is refl
+    block_like _ (IsParen x) = other (expr.Paren x) (Expr-F.Paren (about_expr x)) (expr_paren_is x) refl
+    block_like _ (IsContinue label) = other (expr.Continue label) (Expr-F.Continue label) (expr_continue_is label) refl
+    block_like _ (IsTuple xs) = other (expr.Tuple xs) (Expr-F.Tuple (map about_expr xs)) (expr_tuple_is xs) refl
+    block_like _ (IsArray xs) = other (expr.Array xs) (Expr-F.Array (map about_expr xs)) (expr_array_is xs) refl
+    block_like _ (IsRepeat x us) = other (expr.Repeat x us) (Expr-F.Repeat (about_expr x) us) (expr_repeat_is x us) refl
+    block_like _ (IsStruct path fields base) =
+        other (expr.Struct path fields base) (Expr-F.Struct path (map about_field_expr fields) (option_map (option_map about_expr) base))
+        (expr_struct_is path fields base) refl
+    block_like _ (IsChain x more) = other (expr.Chain x more) (Expr-F.Chain (about_expr x) (map behind_op more)) (expr_chain_is x more) refl
+    block_like _ (IsCast x types) = other (expr.Cast x types) (Expr-F.Cast (about_expr x) types) (expr_cast_is x types) refl
+    block_like _ (IsUnary ps x) = other (expr.Unary ps x) (Expr-F.Unary ps (about_expr x)) (expr_unary_is ps x) refl
+    block_like _ (IsRange start inclusive end) =
+        other (expr.Range start inclusive end) (Expr-F.Range (option_map about_expr start) inclusive (option_map about_expr end))
+        (expr_range_is start inclusive end) refl
+    block_like _ (IsAssign targets x) = other (expr.Assign targets x) (Expr-F.Assign (map target_of targets) (about_expr x)) (expr_assign_is targets x) refl
+    block_like _ (IsPostfix x steps) = other (expr.Postfix x steps) (Expr-F.Postfix (about_expr x) (map about_step steps)) (expr_postfix_is x steps) refl
+    block_like _ (IsReturn x) = other (expr.Return x) (Expr-F.Return (option_map about_expr x)) (expr_return_is x) refl
+    block_like _ (IsBreak label x) = other (expr.Break label x) (Expr-F.Break label (option_map about_expr x)) (expr_break_is label x) refl
+
+  all_reached : (depth : ℕ) → depth ≤ suc most → Reaches within place depth
+  all_reached zero le x level first ts mid k = absurd (no_depth x ts mid k.spelled)
+  all_reached (suc depth) le x level first ts mid k =
+      reached depth (omega (arith, le)) (all_reached depth (omega (arith, le))) x (expr_view x) level first ts mid k
+
+  -- ---- the whole
+
+  -- reading that ends with what begins the expression
+  ended_read : (budget : ℕ) (x : Expr) (n : ℕ) (ts rest : Tokens) → head_at within place.no_struct ts ≡ Some ((x, n), rest)
+      → is_ended place (about_expr x) rest ≡ true → accepted budget place (x, n) rest ≡ Some ((x, n), rest)
+      → expr_by within budget place ts ≡ Some ((x, n), rest)
+  unfolding expr_by
+  ended_read budget x n ts rest h i a = rw (h, i, a) refl
+
+  -- reading that climbs from there
+  climbed_read : (budget : ℕ) (h : Expr × ℕ) (x : Expr) (n : ℕ) (ts at rest : Tokens) → head_at within place.no_struct ts ≡ Some (h, at)
+      → is_ended place (about_expr h.0) at ≡ false → climb within place 14 h at ≡ Some ((x, n), rest)
+      → accepted budget place (x, n) rest ≡ Some ((x, n), rest) → expr_by within budget place ts ≡ Some ((x, n), rest)
+  unfolding expr_by
+  climbed_read budget h x n ts at rest g i k a = rw (g, i, k, a) refl
+
+  accept : (budget : ℕ) (x : Expr) (n : ℕ) (rest : Tokens) → stands (about_expr x) place ≡ true → root_follows (about_expr x) place rest ≡ true → n ≤ budget
+      → accepted budget place (x, n) rest ≡ Some ((x, n), rest)
+  accept budget x n rest m r le = rw (m, r, le-leb n budget le) refl
+
+  read_one : (depth : ℕ) → depth ≤ most → (x : Expr) (ts rest : Tokens) → Spells (about_expr x).form (suc depth) ts rest → placed (about_expr x) place ≡ true
+      → follows (about_expr x) place rest ≡ true → IsRead (suc depth) (expr_by within (suc most) place) x ts rest
+  read_one depth le x ts rest s w f =
+      let F = about_expr x in
+      let p = and_parts (stands F place) (F.within place.no_struct (begins place.start)) w in
+      let q = and_parts (root_follows F place rest) (tail_follows F.tail place.no_struct rest) f in
+      by (is_whole place.start && F.block_like) refl p.0 p.1 q.0 q.1
+    where
+      by : (b : Bool) → (is_whole place.start && (about_expr x).block_like) ≡ b → stands (about_expr x) place ≡ true
+          → (about_expr x).within place.no_struct (begins place.start) ≡ true → root_follows (about_expr x) place rest ≡ true
+          → tail_follows (about_expr x).tail place.no_struct rest ≡ true → IsRead (suc depth) (expr_by within (suc most) place) x ts rest
+      by true b m v r t =
+          let parts = and_parts (is_whole place.start) (about_expr x).block_like b in
+          let no_dot : not (is_dot_or_try rest) ≡ true = sym (rw b refl) ∙ r in
+          let h = block_like depth le (all_reached depth (omega (arith, le))) x (expr_view x) parts.1 in
+          let top = leb-true 14 (about_expr x).level h.1 in
+          let here : Headed depth x place.no_struct (begins place.start) ts rest = record {
+            spelled = s;
+            inside = v;
+            struct_free = (stands_parts (about_expr x) place m).struct_free;
+            tail = t;
+            weak = le-leb (strength rest) (about_expr x).level (omega (arith, strength_most rest, top));
+          } in
+          let n = (h.0 place.no_struct (begins place.start) ts rest here).read in
+          let ended : is_ended place (about_expr x) rest ≡ true = rw (b, no_dot) refl in
+          (n.0, n.1, ended_read (suc most) x n.0 ts rest n.2 ended (accept (suc most) x n.0 rest m r (omega (arith, n.1, le))))
+      by false b m v r t =
+          let weak : nat_le (strength rest) place.level ≡ true = sym (rw b refl) ∙ r in
+          let known : Known within place place.level (suc depth) (about_expr x) (begins place.start) ts rest = record {
+            allowed = omega arith;
+            high = (stands_parts (about_expr x) place m).level;
+            starts = λ e. refl;
+            goes_on = rw b refl;
+            spelled = s;
+            inside = v;
+            weak = leb-true (strength rest) place.level weak;
+            tail = t;
+            struct_free = (stands_parts (about_expr x) place m).struct_free;
+          } in
+          let h = all_reached (suc depth) (omega (arith, le)) x place.level (begins place.start) ts rest known in
+          let climbs = h.climbs ∙ climb_ends within place place.level (x, h.need) rest (omega arith) in
+          (h.need, h.least, climbed_read (suc most) h.head x h.need ts h.behind rest h.read h.goes_on climbs
+          (accept (suc most) x h.need rest m r (omega (arith, h.least, le))))
+
+module _ (struct_head : StructHeads) where
+  exprs_read : (depth budget : ℕ) → depth ≤ budget → ExprReads depth (record { exprs = expr_in budget; kinds = types.within budget })
+  unfolding expr_in
+  exprs_read zero budget h = record { exprs = λ place x ts rest s w f. absurd (no_depth x ts rest s); kinds = within_reads zero budget h }
+  exprs_read (suc depth) zero h = absurd (omega arith)
+  exprs_read (suc depth) (suc budget) h = record {
+    exprs = λ place x ts rest s w f.
+        read_one struct_head budget (record { exprs = expr_in budget; kinds = types.within budget }) (λ d le. exprs_read d budget le) place depth
+        (omega (arith, h)) x ts rest s w f;
+    kinds = within_reads (suc depth) (suc budget) h;
+  }
+
+  -- An expression that stands there is read.
+  pub expr_read : (place : Place) (x : Expr) (depth budget : ℕ) (ts rest : Tokens) → depth ≤ budget → Spells (about_expr x).form depth ts rest
+      → placed (about_expr x) place ≡ true → follows (about_expr x) place rest ≡ true → IsRead depth (expr_in budget place) x ts rest
+  expr_read place x depth budget ts rest h s w f = (exprs_read depth budget h).exprs place x ts rest s w f
