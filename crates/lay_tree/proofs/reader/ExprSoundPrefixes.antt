@@ -8,7 +8,7 @@ use Rattle.lay_token.specs.Lexes.{is_punct}
 use Rattle.lay_token.specs.Operators.{is_op}
 use Rattle.lay_token.specs.declared.token.Token.{Token}
 use Rattle.lay_token.proofs.Deciding.{bytes_same}
-use Rattle.lay_form.specs.Form.{Form, Operator, Done, Part, Piece}
+use Rattle.lay_form.specs.Form.{Blank, Fixed, Form, Operator, Done, Part, Piece, keyword}
 use Rattle.lay_form.specs.Spelled.{AreBits, IsOne, IsOperator, Spells}
 use Rattle.lay_form.proofs.FormLaws.{bits_end, deeper as raise}
 use Rattle.lay_tree.specs.Ahead.{Tokens, first, tail, is_keyword}
@@ -72,21 +72,18 @@ module _ (t : Token) (ts : Tokens) (k : t.kind ≡ kind.Punct) where
   raw_named e r =
       by (first (is_keyword (codes "const")) (tail ts)) (first (is_keyword (codes "mut")) (tail ts)) refl refl
     where
-      raw : IsOne kind.Ident (codes "raw") ts (tail ts)
-      raw = keyword_one (codes "raw") ts r
+      raw_bits : (word : List ℕ) → first (is_keyword word) (tail ts) ≡ true
+          → AreBits (Fixed kind.Punct (codes "&") ∷ keyword (codes "raw") ∷ Blank ∷ keyword word ∷ Blank ∷ []) (t ∷ ts) (drop 2 ts)
+      raw_bits word f =
+          let at = tail ts in
+          let last : AreBits (keyword word ∷ Blank ∷ []) at (drop 2 ts) =
+          (tail at, keyword_one word at f, (tail at, refl, tails_drop ts)) in
+          (ts, (k, e, refl), (at, keyword_one (codes "raw") ts r, (at, refl, last)))
 
       by : (a b : Bool) → first (is_keyword (codes "const")) (tail ts) ≡ a → first (is_keyword (codes "mut")) (tail ts) ≡ b
           → Named (t ∷ ts) (if a then before.RawConst else (if b then before.RawMut else before.Amp))
-      by true b f g = (
-        (ts, (k, e, refl), (tail ts, raw, (tail ts, refl,
-         (tail (tail ts), keyword_one (codes "const") (tail ts) f, (tail (tail ts), refl, tails_drop ts))))),
-        λ a. absurd (cc a),
-      )
-      by false true f g = (
-        (ts, (k, e, refl), (tail ts, raw, (tail ts, refl,
-         (tail (tail ts), keyword_one (codes "mut") (tail ts) g, (tail (tail ts), refl, tails_drop ts))))),
-        λ a. absurd (cc a),
-      )
+      by true b f g = (raw_bits (codes "const") f, λ a. absurd (cc a))
+      by false true f g = (raw_bits (codes "mut") g, λ a. absurd (cc a))
       by false false f g = ((ts, (k, e, refl), refl), λ a b. rw (f, g) refl)
 
   -- what stands behind `&`
@@ -102,20 +99,34 @@ module _ (t : Token) (ts : Tokens) (k : t.kind ≡ kind.Punct) where
       by false true f g = raw_named e g
       by false false f g = ((ts, (k, e, refl), refl), λ a b. absurd (cc (sym g ∙ b)))
 
+  -- an operator of one character
+  lone_named : (p : Prefix) (text : List ℕ) → prefix_bits p ≡ Fixed kind.Punct text ∷ [] → prefix_length p ≡ 1 → is_amp p ≡ false
+      → t.text ≡ text → Named (t ∷ ts) p
+  lone_named p text bits one plain e =
+      let here : AreBits (Fixed kind.Punct text ∷ []) (t ∷ ts) ts = (ts, (k, e, refl), refl) in (
+        subst (λ bs. AreBits bs (t ∷ ts) (drop (prefix_length p) (t ∷ ts))) (sym bits)
+            (subst (λ n. AreBits (Fixed kind.Punct text ∷ []) (t ∷ ts) (drop n (t ∷ ts))) (sym one) here),
+        λ a. absurd (cc (sym plain ∙ a)),
+      )
+
   named : (p : Prefix) → prefix_by t.text ts ≡ Some p → Named (t ∷ ts) p
-  named p h = elim (chosen (bytes_eq t.text (codes "-")) _ _ _ h) [
-    | inl g ↦ same_some (Named (t ∷ ts)) before.Neg p g.1 ((ts, (k, bytes_same t.text (codes "-") g.0, refl), refl), λ a. absurd (cc a))
-    | inr g ↦ elim (chosen (bytes_eq t.text (codes "*")) _ _ _ g.1) [
-      | inl f ↦ same_some (Named (t ∷ ts)) before.Deref p f.1 ((ts, (k, bytes_same t.text (codes "*") f.0, refl), refl), λ a. absurd (cc a))
-      | inr f ↦ elim (chosen (bytes_eq t.text (codes "!")) _ _ _ f.1) [
-        | inl e ↦ same_some (Named (t ∷ ts)) before.Bang p e.1 ((ts, (k, bytes_same t.text (codes "!") e.0, refl), refl), λ a. absurd (cc a))
-        | inr e ↦ elim (chosen (bytes_eq t.text (codes "&")) _ _ _ e.1) [
-          | inl d ↦ same_some (Named (t ∷ ts)) (amp_by ts) p d.1 (amp_named (bytes_same t.text (codes "&") d.0))
-          | inr d ↦ absurd (cc d.1)
+  named p h =
+      let lone : (q : Prefix) (text : List ℕ) → prefix_bits q ≡ Fixed kind.Punct text ∷ [] → prefix_length q ≡ 1 → is_amp q ≡ false
+      → bytes_eq t.text text ≡ true → Some q ≡ Some p → Named (t ∷ ts) p =
+      λ q text a b c d e. same_some (Named (t ∷ ts)) q p e (lone_named q text a b c (bytes_same t.text text d)) in
+      elim (chosen (bytes_eq t.text (codes "-")) _ _ _ h) [
+        | inl g ↦ lone before.Neg (codes "-") refl refl refl g.0 g.1
+        | inr g ↦ elim (chosen (bytes_eq t.text (codes "*")) _ _ _ g.1) [
+          | inl f ↦ lone before.Deref (codes "*") refl refl refl f.0 f.1
+          | inr f ↦ elim (chosen (bytes_eq t.text (codes "!")) _ _ _ f.1) [
+            | inl e ↦ lone before.Bang (codes "!") refl refl refl e.0 e.1
+            | inr e ↦ elim (chosen (bytes_eq t.text (codes "&")) _ _ _ e.1) [
+              | inl d ↦ same_some (Named (t ∷ ts)) (amp_by ts) p d.1 (amp_named (bytes_same t.text (codes "&") d.0))
+              | inr d ↦ absurd (cc d.1)
+            ]
+          ]
         ]
       ]
-    ]
-  ]
 
 punct_kind : (k : Kind) → is_punct k ≡ true → k ≡ kind.Punct
 punct_kind kind.Punct h = refl
@@ -200,6 +211,7 @@ module _ (no_struct starts : Bool) (budget : ℕ) (within : ExprWithin) (sound :
   abbrev Left : Expr × ℕ → Tokens → Tokens → Type 0
   Left = LeftHeld no_struct starts
 
+  -- prefix operators and their operand
   pub unary_head : (ts : Tokens) → expr_lead_at ts ≡ Some ByPrefix → InText ts → (x : Expr × ℕ) (rest : Tokens)
       → unary_expr within no_struct ts ≡ Some (x, rest) → Out Left ts (x, rest)
   unfolding unary_expr
