@@ -47,17 +47,20 @@ abbrev Begun : ExprLead → Tokens → Tokens → Type 0
 Begun l ts rest = (expr_lead_at ts ≡ Some l) × (length rest < length ts)
 
 -- one token of which the kind and the text tell the lead
-one_begins : (k : Kind) (text : List ℕ) (l : ExprLead) → ((us : Tokens) → expr_lead_by k text us ≡ Some l) → (f : Form) (depth : ℕ) (ts mid rest : Tokens)
+one_begins : (k : Kind) (text : List ℕ) (l : ExprLead) → ((us : Tokens) → expr_lead_by k text us ≡ Some l)
+    → (f : Form) (depth : ℕ) (ts mid rest : Tokens)
     → IsOne k text ts mid → Spells f depth mid rest → Begun l ts rest
 one_begins k text l is f depth ts mid rest o s =
     (lone_lead k text l is ts mid o, omega (arith, one_shorter k text ts mid o, shorter f depth mid rest s))
 
 -- a first token behind which nothing of the piece stands
-bit_begins : (k : Kind) (text : List ℕ) (l : ExprLead) → ((us : Tokens) → expr_lead_by k text us ≡ Some l) → (f : Form) (depth : ℕ) (ts rest : Tokens)
+bit_begins : (k : Kind) (text : List ℕ) (l : ExprLead) → ((us : Tokens) → expr_lead_by k text us ≡ Some l)
+    → (f : Form) (depth : ℕ) (ts rest : Tokens)
     → Spells (Piece (Fixed k text ∷ []) f) depth ts rest → Begun l ts rest
 bit_begins k text l is f depth ts rest s = one_begins k text l is f depth ts s.0 rest (bit_alone (Fixed k text) ts s.0 s.1) s.2
 
-list_begins : (k : Kind) (text : List ℕ) (l : ExprLead) → ((us : Tokens) → expr_lead_by k text us ≡ Some l) → (c : Bit) (fs : List Form) (depth : ℕ) (ts rest : Tokens)
+list_begins : (k : Kind) (text : List ℕ) (l : ExprLead) → ((us : Tokens) → expr_lead_by k text us ≡ Some l)
+    → (c : Bit) (fs : List Form) (depth : ℕ) (ts rest : Tokens)
     → Spells (comma_list true (Fixed k text) c fs) depth ts rest → Begun l ts rest
 list_begins k text l is c [] depth ts rest s = one_begins k text l is (piece (c ∷ [])) depth ts s.1.0 rest s.1.1 (s.0, s.1.2, s.2)
 list_begins k text l is c (f ∷ fs) depth ts rest s =
@@ -72,10 +75,12 @@ tuple_begins (x ∷ y ∷ xs) depth ts rest s =
     list_begins (Opener Paren) (opening Paren ∷ []) ByParen (λ us. refl) (closer Paren) (expr_forms (x ∷ y ∷ xs)) depth ts rest s
 
 -- an operator before its operand
-prefix_begins : (p : Prefix) (f : Form) (depth : ℕ) (ts rest : Tokens) → Spells (Piece (prefix_bits p) f) depth ts rest → Begun ByPrefix ts rest
+prefix_begins : (p : Prefix) (f : Form) (depth : ℕ) (ts rest : Tokens) → Spells (Piece (prefix_bits p) f) depth ts rest
+    → Begun ByPrefix ts rest
 prefix_begins p f depth ts rest s = by p s.1
   where
-    made : (text : List ℕ) → ((us : Tokens) → expr_lead_by Punct text us ≡ Some ByPrefix) → (bs : List Bit) → AreBits (Fixed Punct text ∷ bs) ts s.0 → Begun ByPrefix ts rest
+    made : (text : List ℕ) → ((us : Tokens) → expr_lead_by Punct text us ≡ Some ByPrefix) → (bs : List Bit)
+        → AreBits (Fixed Punct text ∷ bs) ts s.0 → Begun ByPrefix ts rest
     made text is bs b = one_begins Punct text ByPrefix is (Piece bs f) depth ts b.0 rest b.1 (s.0, b.2, s.2)
 
     by : (p : Prefix) → AreBits (prefix_bits p) ts s.0 → Begun ByPrefix ts rest
@@ -87,7 +92,8 @@ prefix_begins p f depth ts rest s = by p s.1
     by before.RawConst b = made (codes "&") (λ us. refl) (keyword (codes "raw") ∷ Blank ∷ keyword (codes "const") ∷ Blank ∷ []) b
     by before.RawMut b = made (codes "&") (λ us. refl) (keyword (codes "raw") ∷ Blank ∷ keyword (codes "mut") ∷ Blank ∷ []) b
 
-range_begins : (inclusive : Bool) (f : Form) (depth : ℕ) (ts rest : Tokens) → Spells (Piece (dots inclusive) f) depth ts rest → Begun ByRange ts rest
+range_begins : (inclusive : Bool) (f : Form) (depth : ℕ) (ts rest : Tokens) → Spells (Piece (dots inclusive) f) depth ts rest
+    → Begun ByRange ts rest
 range_begins inclusive f depth ts rest s = (range_lead inclusive ts s.0 s.1, by inclusive s.1)
   where
     by : (inclusive : Bool) → AreBits (dots inclusive) ts s.0 → length rest < length ts
@@ -117,12 +123,17 @@ no_depth x ts rest s = by x (expr_view x) s
     by _ (IsTuple xs) = none (expr.Tuple xs) (Expr-F.Tuple (map about_expr xs)) (expr_tuple_is xs)
     by _ (IsArray xs) = none (expr.Array xs) (Expr-F.Array (map about_expr xs)) (expr_array_is xs)
     by _ (IsRepeat x us) = none (expr.Repeat x us) (Expr-F.Repeat (about_expr x) us) (expr_repeat_is x us)
-    by _ (IsStruct path fields base) = none (expr.Struct path fields base) (Expr-F.Struct path (map about_field_expr fields) (option_map (option_map about_expr) base)) (expr_struct_is path fields base)
+    by _ (IsStruct path fields base) =
+        none (expr.Struct path fields base) (Expr-F.Struct path (map about_field_expr fields) (option_map (option_map about_expr) base))
+        (expr_struct_is path fields base)
     by _ (IsChain x more) = none (expr.Chain x more) (Expr-F.Chain (about_expr x) (map behind_op more)) (expr_chain_is x more)
     by _ (IsCast x types) = none (expr.Cast x types) (Expr-F.Cast (about_expr x) types) (expr_cast_is x types)
     by _ (IsUnary ps x) = none (expr.Unary ps x) (Expr-F.Unary ps (about_expr x)) (expr_unary_is ps x)
-    by _ (IsRange start inclusive end) = none (expr.Range start inclusive end) (Expr-F.Range (option_map about_expr start) inclusive (option_map about_expr end)) (expr_range_is start inclusive end)
-    by _ (IsAssign targets x) = none (expr.Assign targets x) (Expr-F.Assign (map target_of targets) (about_expr x)) (expr_assign_is targets x)
+    by _ (IsRange start inclusive end) =
+        none (expr.Range start inclusive end) (Expr-F.Range (option_map about_expr start) inclusive (option_map about_expr end))
+        (expr_range_is start inclusive end)
+    by _ (IsAssign targets x) = none (expr.Assign targets x) (Expr-F.Assign (map target_of targets) (about_expr x))
+        (expr_assign_is targets x)
     by _ (IsPostfix x steps) = none (expr.Postfix x steps) (Expr-F.Postfix (about_expr x) (map about_step steps)) (expr_postfix_is x steps)
     by _ (IsReturn x) = none (expr.Return x) (Expr-F.Return (option_map about_expr x)) (expr_return_is x)
     by _ (IsBreak label x) = none (expr.Break label x) (Expr-F.Break label (option_map about_expr x)) (expr_break_is label x)
@@ -149,7 +160,8 @@ module _ (depth : ℕ) (ih : AllBegin depth) (no_struct first : Bool) (ts rest :
       let b = ih x place.no_struct (begins place.start) ts s.0 s.1 (placed_within (about_expr x) place w) in
       (b.0, omega (arith, b.1, shorter f depth s.0 rest s.2))
 
-  path_begun : (p : Path) (mid : Tokens) → Spells (about_path p Code).form depth ts mid → (about_path p Code).good ≡ true → Begun ByPath ts mid
+  path_begun : (p : Path) (mid : Tokens) → Spells (about_path p Code).form depth ts mid → (about_path p Code).good ≡ true
+      → Begun ByPath ts mid
   path_begun p mid s g = let b = path_begins Code p depth ts mid s g in (path_lead ts b.lead, b.less)
 
   chain_begun : (x : Expr) (more : List (Op × Expr)) → Begins (about_expr (expr.Chain x more))
@@ -157,7 +169,8 @@ module _ (depth : ℕ) (ih : AllBegin depth) (no_struct first : Bool) (ts rest :
       let os = map behind_op more in
       let level = level_of_chain os in
       let place = before_op (suc level) no_struct first (next_is_angle os) in
-      let w4 = and_parts (is_chain_level level && may_chain level os && placed (about_expr x) place) (operands_placed level no_struct os) w in
+      let w4 = and_parts (is_chain_level level && may_chain level os && placed (about_expr x) place)
+      (operands_placed level no_struct os) w in
       let w3 = and_parts (is_chain_level level && may_chain level os) (placed (about_expr x) place) w4.0 in
       led x place (operands_form os) w3.1 (subst (λ us. Spells (Part (about_expr x).form (operands_form os)) depth ts us) s.2 s.1))
 
@@ -168,7 +181,8 @@ module _ (depth : ℕ) (ih : AllBegin depth) (no_struct first : Bool) (ts rest :
       led x place (types_form (map about_type types)) (and_parts (is_there types) (placed (about_expr x) place) w2.0).1 s)
 
   postfix_begun : (x : Expr) (steps : List Step) → Begins (about_expr (expr.Postfix x steps))
-  postfix_begun x steps = told (expr.Postfix x steps) (Expr-F.Postfix (about_expr x) (map about_step steps)) (expr_postfix_is x steps) (λ s w.
+  postfix_begun x steps = told (expr.Postfix x steps) (Expr-F.Postfix (about_expr x) (map about_step steps)) (expr_postfix_is x steps)
+      (λ s w.
       let F = about_expr x in
       let ss = map about_step steps in
       let several = nat_le 2 (methods ss) in
@@ -182,21 +196,27 @@ module _ (depth : ℕ) (ih : AllBegin depth) (no_struct first : Bool) (ts rest :
       ungrouped false f s = s
 
   range_begun : (start : Option Expr) (inclusive : Bool) (end : Option Expr) → Begins (about_expr (expr.Range start inclusive end))
-  range_begun None inclusive end = told (expr.Range None inclusive end) (Expr-F.Range None inclusive (option_map about_expr end)) (expr_range_is None inclusive end) (λ s w.
+  range_begun None inclusive end =
+      told (expr.Range None inclusive end) (Expr-F.Range None inclusive (option_map about_expr end)) (expr_range_is None inclusive end)
+      (λ s w.
       range_begins inclusive (end_form (option_map about_expr end) Done) depth ts rest s)
-  range_begun (Some x) inclusive end = told (expr.Range (Some x) inclusive end) (Expr-F.Range (Some (about_expr x)) inclusive (option_map about_expr end)) (expr_range_is (Some x) inclusive end) (λ s w.
+  range_begun (Some x) inclusive end =
+      told (expr.Range (Some x) inclusive end) (Expr-F.Range (Some (about_expr x)) inclusive (option_map about_expr end))
+      (expr_range_is (Some x) inclusive end) (λ s w.
       let place = before_op 2 no_struct first false in
       led x place (Piece (dots inclusive) (end_form (option_map about_expr end) Done))
       (and_parts (placed (about_expr x) place) (end_placed (option_map about_expr end) inclusive no_struct) w).0 s)
 
   assign_begun : (targets : List (Expr × Op)) (x : Expr) → Begins (about_expr (expr.Assign targets x))
   assign_begun [] x = told (expr.Assign [] x) (Expr-F.Assign [] (about_expr x)) (expr_assign_is [] x) (λ s w. absurd (cc))
-  assign_begun (y ∷ ys) x = told (expr.Assign (y ∷ ys) x) (Expr-F.Assign (map target_of (y ∷ ys)) (about_expr x)) (expr_assign_is (y ∷ ys) x) (λ s w.
+  assign_begun (y ∷ ys) x = told (expr.Assign (y ∷ ys) x) (Expr-F.Assign (map target_of (y ∷ ys)) (about_expr x))
+      (expr_assign_is (y ∷ ys) x) (λ s w.
       let place = before_op 1 no_struct first false in
       let more = map target_of ys in
       let t = (and_parts (targets_placed (map target_of (y ∷ ys)) no_struct first) (placed (about_expr x) (plain 1 no_struct)) w).0 in
       let p = (and_parts ((op_level y.1 == 0) && placed (about_expr y.0) place) (targets_placed more no_struct false) t).0 in
-      let behind : Form = Piece (Blank ∷ []) (Piece (Operator (op_text y.1) ∷ []) (Piece (Blank ∷ []) (N (targets_form more (Part (about_expr x).form Done))))) in
+      let behind : Form = Piece (Blank ∷ [])
+      (Piece (Operator (op_text y.1) ∷ []) (Piece (Blank ∷ []) (N (targets_form more (Part (about_expr x).form Done))))) in
       led y.0 place behind (and_parts (op_level y.1 == 0) (placed (about_expr y.0) place) p).1 s)
 
   unary_begun : (ps : List Prefix) (x : Expr) → Begins (about_expr (expr.Unary ps x))
@@ -208,19 +228,26 @@ module _ (depth : ℕ) (ih : AllBegin depth) (no_struct first : Bool) (ts rest :
   begun _ (IsLit l) = told (expr.Lit l) (Expr-F.Lit l) (expr_lit_is l) (λ s w.
       (literal_lead l.kind l.text ts s.0 w s.1, omega (arith, one_shorter l.kind l.text ts s.0 s.1, ap length s.2)))
   begun _ (IsPath path) = told (expr.Path path) (Expr-F.Path path) (expr_path_is path) (λ s w. path_begun path rest s w)
-  begun _ IsUnderscore = told expr.Underscore Expr-F.Underscore expr_underscore_is (λ s w. bit_begins Underscore (codes "_") ByUnderscore (λ us. refl) Done depth ts rest s)
-  begun _ (IsCall call) = told (expr.Call call) (Expr-F.Call call) (expr_call_is call) (λ s w. let b = call_begins call depth ts rest s w in (path_lead ts b.lead, b.less))
+  begun _ IsUnderscore = told expr.Underscore Expr-F.Underscore expr_underscore_is
+      (λ s w. bit_begins Underscore (codes "_") ByUnderscore (λ us. refl) Done depth ts rest s)
+  begun _ (IsCall call) = told (expr.Call call) (Expr-F.Call call) (expr_call_is call)
+      (λ s w. let b = call_begins call depth ts rest s w in (path_lead ts b.lead, b.less))
   begun _ (IsParen x) = told (expr.Paren x) (Expr-F.Paren (about_expr x)) (expr_paren_is x) (λ s w.
-      bit_begins (Opener Paren) (opening Paren ∷ []) ByParen (λ us. refl) (Part (about_expr x).form (piece (closer Paren ∷ []))) depth ts rest s)
+      bit_begins (Opener Paren) (opening Paren ∷ []) ByParen (λ us. refl)
+      (Part (about_expr x).form (piece (closer Paren ∷ []))) depth ts rest s)
   begun _ (IsContinue label) = told (expr.Continue label) (Expr-F.Continue label) (expr_continue_is label) (λ s w.
       bit_begins Ident (codes "continue") ByContinue (λ us. refl) (label_form label Done) depth ts rest s)
-  begun _ (IsTuple xs) = told (expr.Tuple xs) (Expr-F.Tuple (map about_expr xs)) (expr_tuple_is xs) (λ s w. tuple_begins (map about_expr xs) depth ts rest s)
+  begun _ (IsTuple xs) = told (expr.Tuple xs) (Expr-F.Tuple (map about_expr xs)) (expr_tuple_is xs)
+      (λ s w. tuple_begins (map about_expr xs) depth ts rest s)
   begun _ (IsArray xs) = told (expr.Array xs) (Expr-F.Array (map about_expr xs)) (expr_array_is xs) (λ s w.
-      list_begins (Opener Bracket) (opening Bracket ∷ []) ByBracket (λ us. refl) (closer Bracket) (expr_forms (map about_expr xs)) depth ts rest s)
+      list_begins (Opener Bracket) (opening Bracket ∷ []) ByBracket (λ us. refl) (closer Bracket)
+      (expr_forms (map about_expr xs)) depth ts rest s)
   begun _ (IsRepeat x us) = told (expr.Repeat x us) (Expr-F.Repeat (about_expr x) us) (expr_repeat_is x us) (λ s w.
       let f : Form = Part (about_expr x).form (Piece (semicolon ++ Blank ∷ []) (Part (token_list us) (piece (closer Bracket ∷ [])))) in
       bit_begins (Opener Bracket) (opening Bracket ∷ []) ByBracket (λ vs. refl) f depth ts rest s)
-  begun _ (IsStruct path fields base) = told (expr.Struct path fields base) (Expr-F.Struct path (map about_field_expr fields) (option_map (option_map about_expr) base)) (expr_struct_is path fields base) (λ s w.
+  begun _ (IsStruct path fields base) =
+      told (expr.Struct path fields base) (Expr-F.Struct path (map about_field_expr fields) (option_map (option_map about_expr) base))
+      (expr_struct_is path fields base) (λ s w.
       let fs = map about_field_expr fields in
       let b = option_map (option_map about_expr) base in
       let w2 = and_parts ((about_path path Code).good && all_good fs) (base_placed b) w in

@@ -26,7 +26,8 @@ pub record Headed (depth : ℕ) (x : Expr) (no_struct first : Bool) (ts rest : T
 
 -- Where that holds, it is read as what begins an expression.
 abbrev pub IsHead : ℕ → ExprWithin → Expr → Type 0
-IsHead depth within x = (no_struct first : Bool) (ts rest : Tokens) → Headed depth x no_struct first ts rest → HeadRead depth within no_struct x ts rest
+IsHead depth within x = (no_struct first : Bool)
+    (ts rest : Tokens) → Headed depth x no_struct first ts rest → HeadRead depth within no_struct x ts rest
 
 -- ---- by the layer of a kind
 
@@ -45,8 +46,10 @@ pub head_of : (depth : ℕ) (within : ExprWithin) (x : Expr) (F : Expr-F ExprFac
 head_of depth within x F e read no_struct first ts rest h =
     let begun = (expr_begins x no_struct first (suc depth) ts rest h.spelled h.inside).lead in
     let lead : expr_lead_at ts ≡ Some (lead_of F) = begun ∙ ap (λ (G : ExprFacts). Some G.lead) e in
-    let spelled : Spells (deeper (inside F)) (suc depth) ts rest = subst (λ (G : ExprFacts). Spells G.form (suc depth) ts rest) e h.spelled in
-    let tail : tail_follows (tail_of F) no_struct rest ≡ true = subst (λ (G : ExprFacts). tail_follows G.tail no_struct rest ≡ true) e h.tail in
+    let spelled : Spells (deeper (inside F)) (suc depth) ts rest =
+    subst (λ (G : ExprFacts). Spells G.form (suc depth) ts rest) e h.spelled in
+    let tail : tail_follows (tail_of F) no_struct rest ≡ true =
+    subst (λ (G : ExprFacts). tail_follows G.tail no_struct rest ≡ true) e h.tail in
     let r =
     read no_struct first ts rest (record {
       spelled = subst (λ us. Spells (inside F) depth ts us) spelled.2 spelled.1;

@@ -31,7 +31,8 @@ use Rattle.lay_tree.proofs.reader.ExprReads.{ExprReads}
 use Rattle.lay_tree.proofs.reader.TypesCompleteParts.{one_left, blank_left}
 
 -- what is left behind an operand, in a plain place
-pub plain_follows : (x : ExprFacts) (level : ℕ) (no_struct : Bool) (ts : Tokens) → nat_le (strength ts) level ≡ true → tail_follows x.tail no_struct ts ≡ true
+pub plain_follows : (x : ExprFacts) (level : ℕ) (no_struct : Bool) (ts : Tokens) → nat_le (strength ts) level ≡ true
+    → tail_follows x.tail no_struct ts ≡ true
     → follows x (plain level no_struct) ts ≡ true
 plain_follows x level no_struct ts weak tail = rw (weak, tail) refl
 
@@ -41,7 +42,15 @@ none_follows : (t : Tail) (no_struct : Bool) (ts : Tokens) → TailFits (record 
 none_follows t no_struct ts f =
     let none : strength ts ≡ 0 = eqb-true (strength ts) 0 f.all in (
       le-leb (strength ts) 0 (omega (arith, none)),
-      fits_tail t no_struct ts (record { all = or_true (not t.takes_all) f.all; bare = f.bare; path = f.path; label = f.label; raw = f.raw; refuses = f.refuses }),
+      fits_tail t no_struct ts (record {
+        all = or_true (not t.takes_all) f.all;
+        bare = f.bare;
+        path = f.path;
+        label = f.label;
+        raw =
+            f.raw;
+        refuses = f.refuses;
+      }),
     )
   where
     or_true : (a : Bool) → (strength ts == 0) ≡ true → (a || strength ts == 0) ≡ true
@@ -68,7 +77,8 @@ no_operand_label no_struct ts h = false_from_ne_true (first is_lifetime ts) (λ 
 module _ (depth : ℕ) (within : ExprWithin) (reads : ExprReads depth within) where
   -- ---- operands
 
-  no_operand : (level : ℕ) (no_struct : Bool) (ts : Tokens) → begins_operand no_struct ts ≡ false → IsRead depth (operand_if within level no_struct) None ts ts
+  no_operand : (level : ℕ) (no_struct : Bool) (ts : Tokens) → begins_operand no_struct ts ≡ false
+      → IsRead depth (operand_if within level no_struct) None ts ts
   no_operand level no_struct ts h = (0, omega arith, rw h refl)
 
   some_operand : (level : ℕ) (no_struct : Bool) (x : Expr) (ts rest : Tokens) → Spells (about_expr x).form depth ts rest
@@ -90,11 +100,13 @@ module _ (depth : ℕ) (within : ExprWithin) (reads : ExprReads depth within) wh
   jump_operand (Some x) no_struct ts rest s g f =
       let behind = none_follows (about_expr x).tail no_struct rest f in
       let here = part_alone (about_expr x).form depth s.0 rest s.2 in
-      some_operand 0 no_struct x ts rest (subst (λ us. Spells (about_expr x).form depth us rest) (sym (blank_left ts s.0 s.1)) here) g behind.0 behind.1
+      some_operand 0 no_struct x ts rest
+      (subst (λ us. Spells (about_expr x).form depth us rest) (sym (blank_left ts s.0 s.1)) here) g behind.0 behind.1
 
   pub return_head : (x : Option Expr) → IsHead depth within (expr.Return x)
   unfolding return_expr
-  return_head x = head_of depth within (expr.Return x) (Expr-F.Return (option_map about_expr x)) (expr_return_is x) (λ no_struct first_flag ts rest h.
+  return_head x = head_of depth within (expr.Return x) (Expr-F.Return (option_map about_expr x)) (expr_return_is x)
+      (λ no_struct first_flag ts rest h.
       let s = h.spelled in
       let left = one_left Ident (codes "return") ts s.0 (bit_alone (keyword (codes "return")) ts s.0 s.1) in
       let r = jump_operand x no_struct s.0 rest s.2 h.inside h.tail in
@@ -107,7 +119,8 @@ module _ (depth : ℕ) (within : ExprWithin) (reads : ExprReads depth within) wh
       let s = h.spelled in
       let goods = and_parts (operand_placed (option_map about_expr x) no_struct) (break_placed label (option_map about_expr x)) h.inside in
       let left = one_left Ident (codes "break") ts s.0 (bit_alone (keyword (codes "break")) ts s.0 s.1) in
-      let l = label_read label (operand_form (option_map about_expr x)) depth s.0 rest s.2 (λ e. bare label x no_struct s.0 rest e s.2 goods.0 goods.1 h.tail) in
+      let l = label_read label (operand_form (option_map about_expr x)) depth s.0 rest s.2
+      (λ e. bare label x no_struct s.0 rest e s.2 goods.0 goods.1 h.tail) in
       let r = jump_operand x no_struct l.0 rest l.2 goods.0 h.tail in
       (suc r.0, omega (arith, r.1), rw (left, l.1, r.2) refl))
     where
@@ -126,8 +139,10 @@ module _ (depth : ℕ) (within : ExprWithin) (reads : ExprReads depth within) wh
 
   -- ---- ranges
 
-  end_read : (inclusive : Bool) (end : Option Expr) (no_struct : Bool) (ts rest : Tokens) → Spells (end_form (option_map about_expr end) Done) depth ts rest
-      → end_placed (option_map about_expr end) inclusive no_struct ≡ true → TailFits (tail_of_end (option_map about_expr end)) no_struct rest
+  end_read : (inclusive : Bool) (end : Option Expr) (no_struct : Bool) (ts rest : Tokens)
+      → Spells (end_form (option_map about_expr end) Done) depth ts rest
+      → end_placed (option_map about_expr end) inclusive no_struct ≡ true
+      → TailFits (tail_of_end (option_map about_expr end)) no_struct rest
       → nat_le (strength rest) 1 ≡ true → IsRead depth (operand_if within 2 no_struct) end ts rest
   end_read inclusive None no_struct ts rest s g f weak =
       let n = no_operand 2 no_struct rest (not-true (begins_operand no_struct rest) f.bare) in rw s n
@@ -137,10 +152,13 @@ module _ (depth : ℕ) (within : ExprWithin) (reads : ExprReads depth within) wh
       (fits_tail (about_expr x).tail no_struct rest f)
 
   -- the operator of a range and its end, behind a start that needs so much or none
-  pub range_read : (start : Option Expr) (need : ℕ) → need ≤ depth → (inclusive : Bool) (end : Option Expr) (no_struct : Bool) (ts rest : Tokens)
+  pub range_read : (start : Option Expr) (need : ℕ) → need ≤ depth
+      → (inclusive : Bool) (end : Option Expr) (no_struct : Bool) (ts rest : Tokens)
       → Spells (Piece (dots inclusive) (end_form (option_map about_expr end) Done)) depth ts rest
-      → end_placed (option_map about_expr end) inclusive no_struct ≡ true → TailFits (tail_of_end (option_map about_expr end)) no_struct rest
-      → nat_le (strength rest) 1 ≡ true → IsRead (suc depth) (range_expr within no_struct start need) (expr.Range start inclusive end) ts rest
+      → end_placed (option_map about_expr end) inclusive no_struct ≡ true
+      → TailFits (tail_of_end (option_map about_expr end)) no_struct rest
+      → nat_le (strength rest) 1 ≡ true
+      → IsRead (suc depth) (range_expr within no_struct start need) (expr.Range start inclusive end) ts rest
   unfolding range_expr
   range_read start need le true end no_struct ts rest s g f weak =
       let o : IsOperator (codes "..=") ts s.0 = bit_alone (Operator (codes "..=")) ts s.0 s.1 in
@@ -159,5 +177,6 @@ module _ (depth : ℕ) (within : ExprWithin) (reads : ExprReads depth within) wh
   -- a range without a start
   pub range_head : (inclusive : Bool) (end : Option Expr) → IsHead depth within (expr.Range None inclusive end)
   range_head inclusive end =
-      head_of depth within (expr.Range None inclusive end) (Expr-F.Range None inclusive (option_map about_expr end)) (expr_range_is None inclusive end)
+      head_of depth within (expr.Range None inclusive end) (Expr-F.Range None inclusive (option_map about_expr end))
+      (expr_range_is None inclusive end)
       (λ no_struct first_flag ts rest h. range_read None 0 (omega arith) inclusive end no_struct ts rest h.spelled h.inside h.tail h.weak)

@@ -63,17 +63,20 @@ module _ (depth : ℕ) (within : ExprWithin) (reads : ExprReads depth within) wh
 
   -- ---- what stands within delimiters
 
-  pub free_read : (x : Expr) (ts rest : Tokens) → Here x ts rest → Free x ≡ true → ExprEnds false rest → IsRead depth (within.exprs FREE) x ts rest
+  pub free_read : (x : Expr) (ts rest : Tokens) → Here x ts rest → Free x ≡ true → ExprEnds false rest
+      → IsRead depth (within.exprs FREE) x ts rest
   free_read x ts rest s g e = reads.exprs FREE x ts rest s g (ends_follow (about_expr x) FREE rest e)
 
-  free_starts : (d : Delim) (x : Expr) (ts rest : Tokens) → Here x ts rest → Free x ≡ true → (first (closes d) ts ≡ false) × (length rest < length ts)
+  free_starts : (d : Delim) (x : Expr) (ts rest : Tokens) → Here x ts rest → Free x ≡ true
+      → (first (closes d) ts ≡ false) × (length rest < length ts)
   free_starts d x ts rest s g =
       let b = placed_begins x FREE depth ts rest s g in (expr_no_closer d ts (about_expr x).lead b.lead, b.less)
 
   elements_read : (d : Delim) (xs : List Expr) (ts rest : Tokens) → list_all Free xs ≡ true → Elements d Here xs ts rest
       → IsRead depth (free_elements within (closes d)) xs ts rest
   elements_read d xs ts rest g r =
-      let one : (x : Expr) (us mid : Tokens) → Here x us mid → Free x ≡ true → loops.Ends d mid → IsRead depth (within.exprs FREE) x us mid =
+      let one : (x : Expr) (us mid : Tokens) → Here x us mid → Free x ≡ true → loops.Ends d mid → IsRead depth
+      (within.exprs FREE) x us mid =
       λ x us mid s f e. free_read x us mid s f (element_ends_expr false d mid e) in
       let l = list_read d Form_of Free depth (within.exprs FREE) one (free_starts d) xs ts rest g r in
       (deepest l.0, l.2, made l.0 l.1 l.3)
@@ -86,10 +89,12 @@ module _ (depth : ℕ) (within : ExprWithin) (reads : ExprReads depth within) wh
   all_free_of xs g = sym (list_all-map (λ (x : ExprFacts). placed x FREE) about_expr xs) ∙ g
 
   -- the elements of a list, behind what opens it
-  pub opened_elements : (d : Delim) (xs : List Expr) (ts rest : Tokens) → Spells (comma_list true (opener d) (closer d) (expr_forms (map about_expr xs))) depth ts rest
+  pub opened_elements : (d : Delim) (xs : List Expr) (ts rest : Tokens)
+      → Spells (comma_list true (opener d) (closer d) (expr_forms (map about_expr xs))) depth ts rest
       → (inside : Tokens) × IsOne (Opener d) (opening d ∷ []) ts inside × Elements d Here xs inside rest
   opened_elements d xs ts rest s =
-      let t = subst (λ fs. Spells (comma_list true (opener d) (closer d) fs) depth ts rest) (forms_of (λ (x : ExprFacts). x.form) about_expr xs) s in
+      let t = subst (λ fs. Spells (comma_list true (opener d) (closer d) fs) depth ts rest)
+      (forms_of (λ (x : ExprFacts). x.form) about_expr xs) s in
       let l = list_elements d (map Form_of xs) depth ts rest t in
       (l.0, l.1, elements_of_map d Form_of (SpelledAt depth) xs l.0 rest l.2)
 
@@ -102,7 +107,8 @@ module _ (depth : ℕ) (within : ExprWithin) (reads : ExprReads depth within) wh
 
   -- ---- parentheses
 
-  paren_there : (x : Expr) (ts mid rest : Tokens) → Here x ts mid → Free x ≡ true → Closed Paren mid rest → IsRead (suc depth) (paren_expr within) (expr.Paren x) ts rest
+  paren_there : (x : Expr) (ts mid rest : Tokens) → Here x ts mid → Free x ≡ true → Closed Paren mid rest
+      → IsRead (suc depth) (paren_expr within) (expr.Paren x) ts rest
   unfolding paren_expr
   paren_there x ts mid rest s g o =
       let no_close = (free_starts Paren x ts mid s g).0 in
@@ -119,7 +125,8 @@ module _ (depth : ℕ) (within : ExprWithin) (reads : ExprReads depth within) wh
       (r.0, r.1, rw left r.2))
 
   -- an element, a comma and the further ones
-  tuple_there : (x : Expr) (xs : List Expr) (ts mid next rest : Tokens) → Here x ts mid → list_all Free (x ∷ xs) ≡ true → IsOne Punct (codes ",") mid next
+  tuple_there : (x : Expr) (xs : List Expr) (ts mid next rest : Tokens) → Here x ts mid → list_all Free (x ∷ xs) ≡ true
+      → IsOne Punct (codes ",") mid next
       → Elements Paren Here xs next rest → IsRead (suc depth) (paren_expr within) (expr.Tuple (x ∷ xs)) ts rest
   unfolding paren_expr
   tuple_there x xs ts mid next rest s g o more =
@@ -142,7 +149,8 @@ module _ (depth : ℕ) (within : ExprWithin) (reads : ExprReads depth within) wh
           → IsRead (suc depth) (paren_expr within) (expr.Tuple xs) inside rest → Read_as xs ts rest
       behind xs ts inside rest o r = (r.0, r.1, rw (one_left (Opener Paren) (opening Paren ∷ []) ts inside o) r.2)
 
-      by : (xs : List Expr) (ts rest : Tokens) → Spells (tuple_form (map about_expr xs)) depth ts rest → list_all Free xs ≡ true → Read_as xs ts rest
+      by : (xs : List Expr) (ts rest : Tokens) → Spells (tuple_form (map about_expr xs)) depth ts rest → list_all Free xs ≡ true
+          → Read_as xs ts rest
       by [] ts rest s g =
           let l = opened_elements Paren [] ts rest s in
           let c = closer_first Paren l.0 rest l.2 in
@@ -150,7 +158,8 @@ module _ (depth : ℕ) (within : ExprWithin) (reads : ExprReads depth within) wh
       by (x ∷ []) ts rest s g =
           let p = s.2 in
           let bits = p.2.1 in
-          let close : Closed Paren bits.0 rest = subst (λ us. Closed Paren bits.0 us) p.2.2 (bit_alone (closer Paren) bits.0 p.2.0 bits.2) in
+          let close : Closed Paren bits.0 rest =
+          subst (λ us. Closed Paren bits.0 us) p.2.2 (bit_alone (closer Paren) bits.0 p.2.0 bits.2) in
           behind (x ∷ []) ts s.0 rest (bit_alone (opener Paren) ts s.0 s.1) (tuple_there x [] s.0 p.0 bits.0 rest p.1 g bits.1 close)
       by (x ∷ y ∷ ys) ts rest s g =
           let l = opened_elements Paren (x ∷ y ∷ ys) ts rest s in
@@ -172,7 +181,8 @@ module _ (depth : ℕ) (within : ExprWithin) (reads : ExprReads depth within) wh
       let c = closer_first Bracket mid rest o in
       (suc r.0, omega (arith, r.1), rw (no_close, r.2, no_mark, c.0, c.1) refl)
 
-  many_there : (x : Expr) (xs : List Expr) (ts mid next rest : Tokens) → Here x ts mid → list_all Free (x ∷ xs) ≡ true → IsOne Punct (codes ",") mid next
+  many_there : (x : Expr) (xs : List Expr) (ts mid next rest : Tokens) → Here x ts mid → list_all Free (x ∷ xs) ≡ true
+      → IsOne Punct (codes ",") mid next
       → Elements Bracket Here xs next rest → IsRead (suc depth) (bracket_expr within) (expr.Array (x ∷ xs)) ts rest
   unfolding bracket_expr
   many_there x xs ts mid next rest s g o more =
@@ -195,18 +205,21 @@ module _ (depth : ℕ) (within : ExprWithin) (reads : ExprReads depth within) wh
   ]
 
   pub array_head : (xs : List Expr) → IsHead depth within (expr.Array xs)
-  array_head xs = head_of depth within (expr.Array xs) (Expr-F.Array (map about_expr xs)) (expr_array_is xs) (λ no_struct first_flag ts rest h.
+  array_head xs = head_of depth within (expr.Array xs) (Expr-F.Array (map about_expr xs)) (expr_array_is xs)
+      (λ no_struct first_flag ts rest h.
       let l = opened_elements Bracket xs ts rest h.spelled in
       let r = array_there xs l.0 rest (all_free_of xs h.inside) l.2 in
       (r.0, r.1, rw (one_left (Opener Bracket) (opening Bracket ∷ []) ts l.0 l.1) r.2))
 
-  length_read : (x : Expr) (us : List Listed) (n : ℕ) (ts mid rest : Tokens) → tokens ts ≡ Some (us, mid) → passed (closes Bracket) mid ≡ Some rest
+  length_read : (x : Expr) (us : List Listed) (n : ℕ) (ts mid rest : Tokens) → tokens ts ≡ Some (us, mid)
+      → passed (closes Bracket) mid ≡ Some rest
       → is_empty us ≡ false → repeat_by (x, n) ts ≡ Some ((expr.Repeat x us, suc n), rest)
   length_read x us n ts mid rest h c some = rw (h, c, some) refl
 
   pub repeat_head : (x : Expr) (us : List Listed) → IsHead depth within (expr.Repeat x us)
   unfolding bracket_expr
-  repeat_head x us = head_of depth within (expr.Repeat x us) (Expr-F.Repeat (about_expr x) us) (expr_repeat_is x us) (λ no_struct first_flag ts rest h.
+  repeat_head x us = head_of depth within (expr.Repeat x us) (Expr-F.Repeat (about_expr x) us) (expr_repeat_is x us)
+      (λ no_struct first_flag ts rest h.
       let s = h.spelled in
       let goods = and_parts (Free x && not (is_empty us)) (is_token_list us) h.inside in
       let good = and_parts (Free x) (not (is_empty us)) goods.0 in

@@ -68,7 +68,8 @@ op_no_raw op ts h = rw (op_front op ts h).2 refl
 word_is_raw : (raw : Bool) (text : List ℕ) (ts rest : Tokens) → IsOne (word_kind raw) text ts rest → begins_raw ts ≡ true
     → (not raw && bytes_eq text (codes "raw")) ≡ true
 word_is_raw true text ts rest o h = let n : begins_raw ts ≡ false = rw (one_front RawIdent text ts rest o).1 refl in absurd (cc)
-word_is_raw false text ts rest o h = let n : begins_raw ts ≡ bytes_eq text (codes "raw") = rw (one_front Ident text ts rest o).1 refl in sym n ∙ h
+word_is_raw false text ts rest o h = let n : begins_raw ts ≡ bytes_eq text (codes "raw") = rw (one_front Ident text ts rest o).1 refl in
+    sym n ∙ h
 
 -- ---- paths
 
@@ -104,11 +105,13 @@ raw_segment : (s : Word × Args) → (not s.0.raw && bytes_eq s.0.text (codes "r
 raw_segment s w n = rw n w
 
 segments_raw : (ss : List (Word × Args)) (depth : ℕ) (ts rest : Tokens) → segments_good Code (map about_segment ss) ≡ true
-    → Spells (segments_form Code (map about_segment ss)) depth ts rest → begins_raw ts ≡ true → RawAlone (is_raw_word (lone_segment ss)) ts rest
+    → Spells (segments_form Code (map about_segment ss)) depth ts rest → begins_raw ts ≡ true
+    → RawAlone (is_raw_word (lone_segment ss)) ts rest
 segments_raw [] depth ts rest g s h = absurd (cc)
 segments_raw (w ∷ []) depth ts rest g s h =
     let l = leaf_parts w.0.raw w.0.text (Part (about_args w.1).code.form Done) depth ts rest s in
-    let a = args_behind w.1 depth l.0 rest (part_alone (about_args w.1).code.form depth l.0 rest l.2) (and_parts _ (about_args w.1).code.good g).1 in
+    let a = args_behind w.1 depth l.0 rest (part_alone (about_args w.1).code.form depth l.0 rest l.2)
+    (and_parts _ (about_args w.1).code.good g).1 in
     word_alone (is_raw_word (lone_segment (w ∷ []))) w.0.raw w.0.text ts l.0 rest l.1 (elim a [
       | inl n ↦ inl n
       | inr e ↦ inr (raw_segment w (word_is_raw w.0.raw w.0.text ts l.0 l.1 h) e.0, e.1)
@@ -117,7 +120,8 @@ segments_raw (w ∷ v ∷ more) depth ts rest g s h =
     let next : Form = Piece colons (segments_form Code (map about_segment (v ∷ more))) in
     let l = leaf_parts w.0.raw w.0.text (Part (about_args w.1).code.form next) depth ts rest s in
     let p = l.2 in
-    let goods = and_parts (segment_good Code (about_segment w) && not (about_args w.1).returns) (segments_good Code (map about_segment (v ∷ more))) g in
+    let goods = and_parts (segment_good Code (about_segment w) && not (about_args w.1).returns)
+    (segments_good Code (map about_segment (v ∷ more))) g in
     let kept = and_parts (segment_good Code (about_segment w)) (not (about_args w.1).returns) goods.0 in
     let good = (and_parts (is_path_word w.0.raw w.0.text) (about_args w.1).code.good kept.0).1 in
     let colons_there = colons_behind (segments_form Code (map about_segment (v ∷ more))) depth p.0 rest p.2 in
@@ -131,13 +135,15 @@ pub path_raw : (p : Path) (depth : ℕ) (ts rest : Tokens) → Spells (about_pat
 path_raw p depth ts rest s g h =
     let t = path_parts Code p depth ts rest s in
     let goods = path_goods Code p g in
-    by p.start (start_view p.start) t.0 t.1 (λ e. segments_raw p.segments depth t.0 rest goods.1 t.2 (subst (λ us. begins_raw us ≡ true) e h))
+    by p.start (start_view p.start) t.0 t.1
+    (λ e. segments_raw p.segments depth t.0 rest goods.1 t.2 (subst (λ us. begins_raw us ≡ true) e h))
   where
     told : Bool → Option Word
     told b = if b then lone_segment p.segments else None
 
     by : (b : PathStart) → PathStartView b → (mid : Tokens) → Spells (about_start b).form depth ts mid
-        → (ts ≡ mid → RawAlone (is_raw_word (lone_segment p.segments)) mid rest) → RawAlone (is_raw_word (told (starts_plain (views.out-PathStart b)))) ts rest
+        → (ts ≡ mid → RawAlone (is_raw_word (lone_segment p.segments)) mid rest)
+        → RawAlone (is_raw_word (told (starts_plain (views.out-PathStart b)))) ts rest
     by _ IsLocal mid t f =
         let e : ts ≡ mid = subst (λ (F : Facts). Spells F.form depth ts mid) start_local_is t in
         let local : starts_plain (views.out-PathStart start.Local) ≡ true = ap starts_plain views.outs-Local in
@@ -155,11 +161,13 @@ path_raw p depth ts rest s g h =
         absurd (cc)
 
 -- a path of words alone, behind which something else stands
-simple_raw : (p : SimplePath) (depth : ℕ) (ts rest : Tokens) → is_simple_path p ≡ true → Spells (simple_path_form p) depth ts rest → begins_raw ts ≡ true
+simple_raw : (p : SimplePath) (depth : ℕ) (ts rest : Tokens) → is_simple_path p ≡ true → Spells (simple_path_form p) depth ts rest
+    → begins_raw ts ≡ true
     → begins_pointer rest ≡ false → begins_pointer (tail ts) ≡ false
 simple_raw p depth ts rest g s h n = at p.global p.words g s
   where
-    at : (leads : Bool) (words : List Word) → are_simple_words words ≡ true → Spells (when leads colons (simple_words_form words Done)) depth ts rest
+    at : (leads : Bool) (words : List Word) → are_simple_words words ≡ true
+        → Spells (when leads colons (simple_words_form words Done)) depth ts rest
         → begins_pointer (tail ts) ≡ false
     at leads [] g s = absurd (cc)
     at true (one ∷ more) g s =
@@ -172,7 +180,8 @@ simple_raw p depth ts rest g s h n = at p.global p.words g s
         let l = leaf_parts one.raw one.text (Piece colons (simple_words_form (two ∷ more) Done)) depth ts rest s in
         rw (one_left (word_kind one.raw) one.text ts l.0 l.1) (colons_behind (simple_words_form (two ∷ more) Done) depth l.0 rest l.2)
 
-call_raw : (c : MacroCall) (depth : ℕ) (ts rest : Tokens) → Spells (about_call c).form depth ts rest → (about_call c).good ≡ true → begins_raw ts ≡ true
+call_raw : (c : MacroCall) (depth : ℕ) (ts rest : Tokens) → Spells (about_call c).form depth ts rest → (about_call c).good ≡ true
+    → begins_raw ts ≡ true
     → begins_pointer (tail ts) ≡ false
 call_raw c depth ts rest s g h =
     let o = bang_operator c.tokens.delim s.0 s.2.0 s.2.1 in
@@ -224,7 +233,8 @@ stands_level x place h = first_of (nat_le place.level x.level) _ _ _ _ h
     first_of _ _ _ _ _ h = absurd (cc)
 
 abbrev AllRaw : ℕ → Type 0
-AllRaw depth = (x : Expr) (no_struct first : Bool) (ts rest : Tokens) → Spells (about_expr x).form depth ts rest → (about_expr x).within no_struct first ≡ true
+AllRaw depth = (x : Expr) (no_struct first : Bool) (ts rest : Tokens) → Spells (about_expr x).form depth ts rest →
+    (about_expr x).within no_struct first ≡ true
     → nat_le 12 (about_expr x).level ≡ true → begins_raw ts ≡ true → RawAlone (about_expr x).is_raw ts rest
 
 module _ (depth : ℕ) (ih : AllRaw depth) (no_struct first_flag : Bool) (ts rest : Tokens) (raw : begins_raw ts ≡ true) where
@@ -233,18 +243,21 @@ module _ (depth : ℕ) (ih : AllRaw depth) (no_struct first_flag : Bool) (ts res
       → RawAlone F.is_raw ts rest
 
   told : (x : Expr) (F : Expr-F ExprFacts Facts StepFacts) → about_expr x ≡ expr_facts F
-      → (Spells (inside F) depth ts rest → within_of F no_struct first_flag ≡ true → nat_le 12 (level_of F) ≡ true → Some ByPath ≡ Some (lead_of F)
+      → (Spells (inside F) depth ts rest → within_of F no_struct first_flag ≡ true → nat_le 12 (level_of F) ≡ true → Some ByPath ≡ Some
+      (lead_of F)
       → RawAlone (is_raw_path F) ts rest) → Raw (about_expr x)
   told x F e f = subst Raw (sym e) (λ s w l b. f (subst (λ us. Spells (inside F) depth ts us) s.2 s.1) w l b)
 
-  struct_raw : (p : Path) (fs : List Form) (may : Bool) (mid : Tokens) → Spells (about_path p Code).form depth ts mid → (about_path p Code).good ≡ true
+  struct_raw : (p : Path) (fs : List Form) (may : Bool) (mid : Tokens) → Spells (about_path p Code).form depth ts mid
+      → (about_path p Code).good ≡ true
       → Spells (braces may fs) depth mid rest → begins_pointer (tail ts) ≡ false
   struct_raw p fs may mid s g b = elim (path_raw p depth ts mid s g raw) [
     | inl n ↦ n
     | inr e ↦ let o = opened fs b in rw e.1 (opener_no_pointer Brace mid o.0 o.1)
   ]
     where
-      opened : (fs : List Form) → Spells (braces may fs) depth mid rest → (inner : Tokens) × IsOne (Opener Brace) (opening Brace ∷ []) mid inner
+      opened : (fs : List Form) → Spells (braces may fs) depth mid rest
+          → (inner : Tokens) × IsOne (Opener Brace) (opening Brace ∷ []) mid inner
       opened [] b = let c = behind_blank (opener Brace ∷ closer Brace ∷ []) mid b.0 b.1 in (c.0, c.1)
       opened (f ∷ fs) b = (b.0, bit_alone (opener Brace) mid b.0 (behind_blank (opener Brace ∷ []) mid b.0 b.1))
 
@@ -258,8 +271,10 @@ module _ (depth : ℕ) (ih : AllRaw depth) (no_struct first_flag : Bool) (ts res
       let w2 = and_parts (is_there gs && are_steps gs) (not (F.is_number && first_step is_tuple_index gs)) w1.0 in
       let there = (and_parts (is_there gs) (are_steps gs) w2.0).0 in
       let t = ungrouped several (Part F.form (steps_form several false gs)) s in
-      let top = leb-true 14 F.level (stands_level F place (and_parts (stands F place) (F.within place.no_struct (begins place.start)) w1.1).0) in
-      inl (elim (ih x place.no_struct (begins place.start) ts t.0 t.1 (placed_within F place w1.1) (le-leb 12 F.level (omega (arith, top))) raw) [
+      let top = leb-true 14 F.level (stands_level F place
+      (and_parts (stands F place) (F.within place.no_struct (begins place.start)) w1.1).0) in
+      inl (elim (ih x place.no_struct (begins place.start) ts t.0 t.1 (placed_within F place w1.1)
+      (le-leb 12 F.level (omega (arith, top))) raw) [
         | inl n ↦ n
         | inr e ↦ rw e.1 (steps_no_pointer several ss depth t.0 rest there t.2)
       ]))
@@ -273,7 +288,8 @@ module _ (depth : ℕ) (ih : AllRaw depth) (no_struct first_flag : Bool) (ts res
       let os = map behind_op more in
       let level = level_of_chain os in
       let place = before_op (suc level) no_struct first_flag (next_is_angle os) in
-      let w4 = and_parts (is_chain_level level && may_chain level os && placed (about_expr x) place) (operands_placed level no_struct os) w in
+      let w4 = and_parts (is_chain_level level && may_chain level os && placed (about_expr x) place)
+      (operands_placed level no_struct os) w in
       let w3 = and_parts (is_chain_level level && may_chain level os) (placed (about_expr x) place) w4.0 in
       let w2 = and_parts (is_chain_level level) (may_chain level os) w3.0 in
       let high = leb-true level 10 (and_parts (nat_le 2 level) (nat_le level 10) w2.0).1 in
@@ -304,10 +320,12 @@ module _ (depth : ℕ) (ih : AllRaw depth) (no_struct first_flag : Bool) (ts res
       told (expr.Range start inclusive end) (Expr-F.Range (option_map about_expr start) inclusive (option_map about_expr end))
       (expr_range_is start inclusive end) (λ s w n b. absurd (cc))
   raw_view _ (IsAssign targets x) =
-      told (expr.Assign targets x) (Expr-F.Assign (map target_of targets) (about_expr x)) (expr_assign_is targets x) (λ s w n b. absurd (cc))
+      told (expr.Assign targets x) (Expr-F.Assign (map target_of targets) (about_expr x)) (expr_assign_is targets x)
+      (λ s w n b. absurd (cc))
   raw_view _ (IsPostfix x ss) = postfix_raw x ss
   raw_view _ (IsReturn x) = told (expr.Return x) (Expr-F.Return (option_map about_expr x)) (expr_return_is x) (λ s w n b. absurd (cc))
-  raw_view _ (IsBreak label x) = told (expr.Break label x) (Expr-F.Break label (option_map about_expr x)) (expr_break_is label x) (λ s w n b. absurd (cc))
+  raw_view _ (IsBreak label x) =
+      told (expr.Break label x) (Expr-F.Break label (option_map about_expr x)) (expr_break_is label x) (λ s w n b. absurd (cc))
 
 -- An operand of a prefix operator that begins with the word `raw` is that path, or something else stands behind the word.
 pub expr_raw : (depth : ℕ) → AllRaw depth

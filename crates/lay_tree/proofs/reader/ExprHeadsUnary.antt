@@ -41,7 +41,8 @@ abbrev IsPrefix : Prefix → Tokens → Tokens → Type 0
 IsPrefix p ts rest = (prefix ts ≡ Some p) × (drop (prefix_length p) ts ≡ rest) × (length rest < length ts)
 
 -- one character
-char_prefix : (p : Prefix) (c : ℕ) (ts rest : Tokens) → ((us : Tokens) → prefix_by (c ∷ []) us ≡ Some p) → prefix_length p ≡ 1 → IsOne Punct (c ∷ []) ts rest
+char_prefix : (p : Prefix) (c : ℕ) (ts rest : Tokens) → ((us : Tokens) → prefix_by (c ∷ []) us ≡ Some p) → prefix_length p ≡ 1
+    → IsOne Punct (c ∷ []) ts rest
     → IsPrefix p ts rest
 unfolding prefix
 char_prefix p c ts rest is one o =
@@ -55,7 +56,8 @@ unfolding prefix
 amp_prefix p ts at o e = rw (one_front Punct (codes "&") ts at o).1 (rw e refl)
 
 -- `&raw` and a word
-raw_prefix : (p : Prefix) (word : List ℕ) (ts rest : Tokens) → ((t : Token) (us : Tokens) → raw_by (record t { kind = Ident; text = word } ∷ us) ≡ p)
+raw_prefix : (p : Prefix) (word : List ℕ) (ts rest : Tokens)
+    → ((t : Token) (us : Tokens) → raw_by (record t { kind = Ident; text = word } ∷ us) ≡ p)
     → prefix_length p ≡ 3
     → AreBits (Fixed Punct (codes "&") ∷ keyword (codes "raw") ∷ Blank ∷ keyword word ∷ Blank ∷ []) ts rest → IsPrefix p ts rest
 raw_prefix p word ts rest is three b =
@@ -63,7 +65,8 @@ raw_prefix p word ts rest is three b =
     let o : IsOne Punct (codes "&") ts at = b.1 in
     let behind = b.2 in
     let w : IsOne Ident (codes "raw") at behind.0 = behind.1 in
-    let last : IsOne Ident word behind.0 rest = before_blank (keyword word) behind.0 rest (behind_blank (keyword word ∷ Blank ∷ []) behind.0 rest behind.2) in
+    let last : IsOne Ident word behind.0 rest =
+    before_blank (keyword word) behind.0 rest (behind_blank (keyword word ∷ Blank ∷ []) behind.0 rest behind.2) in
     let f = one_front Ident word behind.0 rest last in
     let g = (one_front Ident (codes "raw") at behind.0 w).1 in
     let named : raw_by behind.0 ≡ p = rw f.1 (is f.0 rest) in
@@ -71,23 +74,39 @@ raw_prefix p word ts rest is three b =
     let left : drop 3 ts ≡ rest = rw (one_front Punct (codes "&") ts at o).1 (rw g (rw f.1 refl)) in (
       amp_prefix p ts at o amp,
       rw three left,
-      omega (arith, one_shorter Punct (codes "&") ts at o, one_shorter Ident (codes "raw") at behind.0 w, one_shorter Ident word behind.0 rest last),
+      omega (
+        arith,
+        one_shorter Punct (codes "&") ts at o,
+        one_shorter Ident
+            (codes "raw") at behind.0 w,
+        one_shorter Ident word behind.0 rest last,
+      ),
     )
 
 prefix_read : (p : Prefix) (ts rest : Tokens) → AreBits (prefix_bits p) ts rest → Stops p rest → IsPrefix p ts rest
 prefix_read before.Neg ts rest b stops = char_prefix before.Neg 45 ts rest (λ us. refl) refl (bit_alone (Fixed Punct (codes "-")) ts rest b)
-prefix_read before.Deref ts rest b stops = char_prefix before.Deref 42 ts rest (λ us. refl) refl (bit_alone (Fixed Punct (codes "*")) ts rest b)
-prefix_read before.Bang ts rest b stops = char_prefix before.Bang 33 ts rest (λ us. refl) refl (bit_alone (Fixed Punct (codes "!")) ts rest b)
+prefix_read before.Deref ts rest b stops =
+    char_prefix before.Deref 42 ts rest (λ us. refl) refl (bit_alone (Fixed Punct (codes "*")) ts rest b)
+prefix_read before.Bang ts rest b stops =
+    char_prefix before.Bang 33 ts rest (λ us. refl) refl (bit_alone (Fixed Punct (codes "!")) ts rest b)
 prefix_read before.Amp ts rest b stops =
-    let o : IsOne Punct (codes "&") ts rest = bit_alone (Fixed Punct (codes "&")) ts rest b in
-    (amp_prefix before.Amp ts rest o (stops refl), rw (one_front Punct (codes "&") ts rest o).1 refl, one_shorter Punct (codes "&") ts rest o)
+    let o : IsOne Punct (codes "&") ts rest = bit_alone (Fixed Punct (codes "&")) ts rest b in (
+      amp_prefix before.Amp ts rest o (stops refl),
+      rw (one_front Punct (codes "&") ts rest o).1 refl,
+      one_shorter Punct
+          (codes "&") ts rest o,
+    )
 prefix_read before.AmpMut ts rest b stops =
     let o : IsOne Punct (codes "&") ts b.0 = b.1 in
     let m : IsOne Ident (codes "mut") b.0 rest = before_blank (keyword (codes "mut")) b.0 rest b.2 in
     let f = (one_front Ident (codes "mut") b.0 rest m).1 in
     let is : amp_by b.0 ≡ before.AmpMut = rw f refl in
-    let left : drop 2 ts ≡ rest = rw (one_front Punct (codes "&") ts b.0 o).1 (rw f refl) in
-    (amp_prefix before.AmpMut ts b.0 o is, left, omega (arith, one_shorter Punct (codes "&") ts b.0 o, one_shorter Ident (codes "mut") b.0 rest m))
+    let left : drop 2 ts ≡ rest = rw (one_front Punct (codes "&") ts b.0 o).1 (rw f refl) in (
+      amp_prefix before.AmpMut ts b.0 o is,
+      left,
+      omega
+          (arith, one_shorter Punct (codes "&") ts b.0 o, one_shorter Ident (codes "mut") b.0 rest m),
+    )
 prefix_read before.RawConst ts rest b stops = raw_prefix before.RawConst (codes "const") ts rest (λ t us. refl) refl b
 prefix_read before.RawMut ts rest b stops = raw_prefix before.RawMut (codes "mut") ts rest (λ t us. refl) refl b
 
@@ -130,7 +149,8 @@ prefix_rows (p ∷ q ∷ ps) f depth ts rest s stops =
 -- ---- the operand
 
 -- the tail of the operand, which the operators before it only add to
-operand_fits : (t : Tail) (more no_struct : Bool) (ts : Tokens) → TailFits (record t { raw = t.raw || more }) no_struct ts → TailFits t no_struct ts
+operand_fits : (t : Tail) (more no_struct : Bool) (ts : Tokens) → TailFits (record t { raw = t.raw || more }) no_struct ts
+    → TailFits t no_struct ts
 operand_fits t more no_struct ts f =
     record { all = f.all; bare = f.bare; path = f.path; label = f.label; raw = less t.raw f.raw; refuses = f.refuses }
   where
@@ -140,7 +160,8 @@ operand_fits t more no_struct ts f =
 
 -- Behind a `&` that ends the operators stands no more of it.
 operand_stops : (x : Expr) (no_struct : Bool) (depth : ℕ) (ts rest : Tokens) → Spells (about_expr x).form depth ts rest
-    → placed (about_expr x) (plain 12 no_struct) ≡ true → ((about_expr x).is_raw ≡ true → begins_pointer rest ≡ false) → amp_by ts ≡ before.Amp
+    → placed (about_expr x) (plain 12 no_struct) ≡ true → ((about_expr x).is_raw ≡ true → begins_pointer rest ≡ false)
+    → amp_by ts ≡ before.Amp
 operand_stops x no_struct depth ts rest s g alone = elim (cases_Bool (begins_raw ts)) [
   | inl e ↦ by e (elim (expr_raw depth x no_struct false ts rest s (placed_within F place g) high e) [
     | inl n ↦ n
@@ -168,8 +189,10 @@ operand_stops x no_struct depth ts rest s g alone = elim (cases_Bool (begins_raw
         rw (no_mut, e, a, b) refl
 
 module _ (depth : ℕ) (within : ExprWithin) (reads : ExprReads depth within) where
-  unary_there : (ps : List Prefix) (x : Expr) (no_struct : Bool) (ts mid rest : Tokens) → Rows PrefixTurn ps ts mid → Spells (about_expr x).form depth mid rest
-      → placed (about_expr x) (plain 12 no_struct) ≡ true → not (is_prefix_lead (about_expr x).lead) ≡ true → nat_le (strength rest) 12 ≡ true
+  unary_there : (ps : List Prefix) (x : Expr) (no_struct : Bool) (ts mid rest : Tokens) → Rows PrefixTurn ps ts mid
+      → Spells (about_expr x).form depth mid rest
+      → placed (about_expr x) (plain 12 no_struct) ≡ true → not (is_prefix_lead (about_expr x).lead) ≡ true
+      → nat_le (strength rest) 12 ≡ true
       → tail_follows (about_expr x).tail no_struct rest ≡ true → IsRead (suc depth) (unary_expr within no_struct) (expr.Unary ps x) ts rest
   unfolding unary_expr
   unary_there ps x no_struct ts mid rest rows s g lead weak tail =
@@ -180,18 +203,22 @@ module _ (depth : ℕ) (within : ExprWithin) (reads : ExprReads depth within) wh
       (suc r.0, omega (arith, r.1), rw (prefixes, r.2) refl)
 
   pub unary_head : (ps : List Prefix) (x : Expr) → IsHead depth within (expr.Unary ps x)
-  unary_head ps x = head_of depth within (expr.Unary ps x) (Expr-F.Unary ps (about_expr x)) (expr_unary_is ps x) (λ no_struct first_flag ts rest h.
+  unary_head ps x = head_of depth within (expr.Unary ps x) (Expr-F.Unary ps (about_expr x)) (expr_unary_is ps x)
+      (λ no_struct first_flag ts rest h.
       let F = about_expr x in
       let place = plain 12 no_struct in
       let goods = and_parts (is_there ps && placed F place) (not (is_prefix_lead F.lead)) h.inside in
       let good = (and_parts (is_there ps) (placed F place) goods.0).1 in
       let fits = operand_fits F.tail (ends_in_amp ps && F.is_raw) no_struct rest h.tail in
       let stops : (us : Tokens) → Spells (Part F.form Done) depth us rest → ends_in_amp ps ≡ true → amp_by us ≡ before.Amp =
-      λ us s e. operand_stops x no_struct depth us rest (part_alone F.form depth us rest s) good (λ k. pointer_none F.tail.raw (ends_in_amp ps) F.is_raw rest e k h.tail.raw) in
+      λ us s e. operand_stops x no_struct depth us rest (part_alone F.form depth us rest s) good
+      (λ k. pointer_none F.tail.raw (ends_in_amp ps) F.is_raw rest e k h.tail.raw) in
       let r = prefix_rows ps (Part F.form Done) depth ts rest h.spelled stops in
-      unary_there ps x no_struct ts r.0 rest r.1 (part_alone F.form depth r.0 rest r.2) good goods.1 h.weak (fits_tail F.tail no_struct rest fits))
+      unary_there ps x no_struct ts r.0 rest r.1 (part_alone F.form depth r.0 rest r.2) good goods.1 h.weak
+      (fits_tail F.tail no_struct rest fits))
     where
-      pointer_none : (a b c : Bool) (us : Tokens) → b ≡ true → c ≡ true → not ((a || (b && c)) && begins_pointer us) ≡ true → begins_pointer us ≡ false
+      pointer_none : (a b c : Bool) (us : Tokens) → b ≡ true → c ≡ true → not ((a || (b && c)) && begins_pointer us) ≡ true
+          → begins_pointer us ≡ false
       pointer_none true true true us e k h = not-true (begins_pointer us) h
       pointer_none false true true us e k h = not-true (begins_pointer us) h
       pointer_none a true false us e k h = absurd (cc)

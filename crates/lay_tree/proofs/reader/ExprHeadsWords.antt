@@ -37,7 +37,8 @@ use Rattle.lay_tree.proofs.reader.TypesFronts.{follows_clear}
 
 -- It is read, and what stands behind it is spelled.
 pub label_read : (label : Option Lifetime) (f : Form) (depth : ℕ) (ts rest : Tokens) → Spells (label_form label f) depth ts rest
-    → (label ≡ None → first is_lifetime ts ≡ false) → (mid : Tokens) × (if_there (first is_lifetime ts) lifetime ts ≡ Some (label, mid)) × Spells f depth mid rest
+    → (label ≡ None → first is_lifetime ts ≡ false)
+    → (mid : Tokens) × (if_there (first is_lifetime ts) lifetime ts ≡ Some (label, mid)) × Spells f depth mid rest
 label_read None f depth ts rest s none = (ts, rw (none refl) refl, s)
 label_read (Some l) f depth ts rest s none =
     let part = s.2 in
@@ -65,8 +66,10 @@ module _ (depth : ℕ) (within : ExprWithin) (reads : ExprReads depth within) wh
 
   -- ---- paths
 
-  path_there : (p : Path) (no_struct : Bool) (ts rest : Tokens) → Spells (about_path p Code).form depth ts rest → (about_path p Code).good ≡ true
-      → may_follow (about_path p Code).refuses rest ≡ true → is_op (codes "!") rest ≡ false → (not no_struct && first (opens Brace) rest) ≡ false
+  path_there : (p : Path) (no_struct : Bool) (ts rest : Tokens) → Spells (about_path p Code).form depth ts rest
+      → (about_path p Code).good ≡ true
+      → may_follow (about_path p Code).refuses rest ≡ true → is_op (codes "!") rest ≡ false
+      → (not no_struct && first (opens Brace) rest) ≡ false
       → IsRead (suc depth) (head_by within no_struct (Some ByPath)) (expr.Path p) ts rest
   unfolding path_expr
   path_there p no_struct ts rest s g f bang brace =
@@ -86,12 +89,14 @@ module _ (depth : ℕ) (within : ExprWithin) (reads : ExprReads depth within) wh
 
   pub continue_head : (label : Option Lifetime) → IsHead depth within (expr.Continue label)
   unfolding continue_expr
-  continue_head label = head_of depth within (expr.Continue label) (Expr-F.Continue label) (expr_continue_is label) (λ no_struct first_flag ts rest h.
+  continue_head label = head_of depth within (expr.Continue label) (Expr-F.Continue label) (expr_continue_is label)
+      (λ no_struct first_flag ts rest h.
       let s = h.spelled in
       let left = one_left kind.Ident (codes "continue") ts s.0 (bit_alone (keyword (codes "continue")) ts s.0 s.1) in
       let r = label_read label Done depth s.0 rest s.2 (λ e. bare label s.0 rest e s.2 h.tail.label) in
       (1, omega arith, rw (left, r.1, r.2) refl))
     where
-      bare : (label : Option Lifetime) (mid rest : Tokens) → label ≡ None → Spells (label_form label Done) depth mid rest → not (not (is_some label) && first is_lifetime rest) ≡ true → first is_lifetime mid ≡ false
+      bare : (label : Option Lifetime) (mid rest : Tokens) → label ≡ None → Spells (label_form label Done) depth mid rest
+          → not (not (is_some label) && first is_lifetime rest) ≡ true → first is_lifetime mid ≡ false
       bare None mid rest e s h = rw s (not-true (first is_lifetime rest) h)
       bare (Some l) mid rest e s h = absurd (cc)

@@ -34,7 +34,8 @@ one_lead k text [] rest s = absurd s
 one_lead k text (t ∷ ts) rest s = ap (λ (j : Kind). expr_lead_by j t.text (t ∷ ts)) s.0 ∙ ap (λ (w : List ℕ). expr_lead_by k w (t ∷ ts)) s.1
 
 -- where the kind and the text alone tell it
-pub lone_lead : (k : Kind) (text : List ℕ) (l : ExprLead) → ((us : Tokens) → expr_lead_by k text us ≡ Some l) → (ts rest : Tokens) → IsOne k text ts rest
+pub lone_lead : (k : Kind) (text : List ℕ) (l : ExprLead) → ((us : Tokens) → expr_lead_by k text us ≡ Some l) → (ts rest : Tokens)
+    → IsOne k text ts rest
     → expr_lead_at ts ≡ Some l
 lone_lead k text l is ts rest s = one_lead k text ts rest s ∙ is ts
 
@@ -53,7 +54,8 @@ literal_by (Closer d) text ts h = absurd (cc)
 literal_by (Doc inner block) text ts h = absurd (cc)
 literal_by _ text ts h = refl
 
-pub literal_lead : (k : Kind) (text : List ℕ) (ts rest : Tokens) → is_literal k text ≡ true → IsOne k text ts rest → expr_lead_at ts ≡ Some ByLiteral
+pub literal_lead : (k : Kind) (text : List ℕ) (ts rest : Tokens) → is_literal k text ≡ true → IsOne k text ts rest
+    → expr_lead_at ts ≡ Some ByLiteral
 literal_lead k text ts rest g s = one_lead k text ts rest s ∙ literal_by k text ts g
 
 colons_lead : (ts : Tokens) → is_op (codes "::") ts ≡ true → expr_lead_at ts ≡ Some ByPath
@@ -78,19 +80,22 @@ word_path text h = elim (cases_Bool (is_path_class (class_of text))) [
     by false false true e = cc
     by false false false e = cc
 
-punct_path : (text : List ℕ) (ts : Tokens) → is_op (codes "::") ts ≡ false → lead_of_punct text ts ≡ Some OfPath → expr_lead_of_punct text ts ≡ Some ByPath
+punct_path : (text : List ℕ) (ts : Tokens) → is_op (codes "::") ts ≡ false → lead_of_punct text ts ≡ Some OfPath
+    → expr_lead_of_punct text ts ≡ Some ByPath
 punct_path text ts n h = elim (cases_Bool (bytes_eq text (codes "<"))) [
   | inl e ↦ rw (bytes_same text (codes "<") e) refl
   | inr e ↦ absurd (by (bytes_eq text (codes "!")) (bytes_eq text (codes "*")) (bytes_eq text (codes "&")) (sym (rw (e, n) refl) ∙ h))
 ]
   where
-    by : (a b c : Bool) → (if a then Some OfNever else (if b then Some OfPointer else (if c then Some OfReference else None))) ≡ Some OfPath → ⊥
+    by : (a b c : Bool) → (if a then Some OfNever else
+        (if b then Some OfPointer else (if c then Some OfReference else None))) ≡ Some OfPath → ⊥
     by true b c e = cc
     by false true c e = cc
     by false false true e = cc
     by false false false e = cc
 
-path_by : (k : Kind) (text : List ℕ) (ts : Tokens) → is_op (codes "::") ts ≡ false → lead_by k text ts ≡ Some OfPath → expr_lead_by k text ts ≡ Some ByPath
+path_by : (k : Kind) (text : List ℕ) (ts : Tokens) → is_op (codes "::") ts ≡ false → lead_by k text ts ≡ Some OfPath
+    → expr_lead_by k text ts ≡ Some ByPath
 path_by Ident text ts n h = rw (word_path text h) refl
 path_by RawIdent text ts n h = refl
 path_by Punct text ts n h = punct_path text ts n h
@@ -110,7 +115,8 @@ path_lead ts h = elim (cases_Bool (is_op (codes "::") ts)) [
     by (u ∷ us) n g = path_by u.kind u.text (u ∷ us) n g
 
 -- `..` or `..=`
-dots_lead : (cs : List ℕ) → bytes_eq (46 ∷ cs) (codes "::") ≡ false → (ts : Tokens) → is_op (46 ∷ cs) ts ≡ true → begins_dots ts ≡ true → expr_lead_at ts ≡ Some ByRange
+dots_lead : (cs : List ℕ) → bytes_eq (46 ∷ cs) (codes "::") ≡ false → (ts : Tokens) → is_op (46 ∷ cs) ts ≡ true → begins_dots ts ≡ true
+    → expr_lead_at ts ≡ Some ByRange
 unfolding expr_lead_at
 dots_lead cs other ts h d =
     let f = op_first 46 cs ts h in
@@ -168,7 +174,8 @@ pub expr_no_semicolon : (ts : Tokens) (l : ExprLead) → expr_lead_at ts ≡ Som
 expr_no_semicolon ts l h = no_lead (first (is_mark (codes ";")) ts) ts l h (λ e. semicolon_lead ts (tail ts) (mark_one (codes ";") ts e))
 
 -- a word that begins no expression, whatever follows it
-pub expr_no_keyword : (word : List ℕ) → ((us : Tokens) → expr_lead_of_word word us ≡ None) → (ts : Tokens) (l : ExprLead) → expr_lead_at ts ≡ Some l
+pub expr_no_keyword : (word : List ℕ) → ((us : Tokens) → expr_lead_of_word word us ≡ None) → (ts : Tokens) (l : ExprLead)
+    → expr_lead_at ts ≡ Some l
     → first (is_keyword word) ts ≡ false
 expr_no_keyword word none ts l h =
     no_lead (first (is_keyword word) ts) ts l h (λ e. one_lead Ident word ts (tail ts) (keyword_one word ts e) ∙ none (tail ts))
@@ -206,7 +213,9 @@ unfolding prefix expr_lead_at
 prefix_lead [] h = absurd (cc)
 prefix_lead (t ∷ ts) h = by t.kind h
   where
-    text_lead : (a b c d : Bool) (us : Tokens) → is_some (if a then Some before.Neg else (if b then Some before.Deref else (if c then Some before.Bang else (if d then Some (amp_by us) else None)))) ≡ true
+    text_lead : (a b c d : Bool) (us : Tokens)
+        → is_some (if a then Some before.Neg else
+        (if b then Some before.Deref else (if c then Some before.Bang else (if d then Some (amp_by us) else None)))) ≡ true
         → (a || (b || (c || (d || false)))) ≡ true
     text_lead true b c d us e = refl
     text_lead false true c d us e = refl
@@ -216,7 +225,8 @@ prefix_lead (t ∷ ts) h = by t.kind h
 
     by : (k : Kind) → is_some (if is_punct k then prefix_by t.text ts else None) ≡ true → expr_lead_by k t.text (t ∷ ts) ≡ Some ByPrefix
     by Punct e =
-        rw (text_lead (bytes_eq t.text (codes "-")) (bytes_eq t.text (codes "*")) (bytes_eq t.text (codes "!")) (bytes_eq t.text (codes "&")) ts e) refl
+        rw (text_lead (bytes_eq t.text (codes "-")) (bytes_eq t.text (codes "*")) (bytes_eq t.text (codes "!"))
+        (bytes_eq t.text (codes "&")) ts e) refl
     by _ e = absurd (cc)
 
 pub lead_no_prefix : (ts : Tokens) (l : ExprLead) → expr_lead_at ts ≡ Some l → not (is_prefix_lead l) ≡ true → is_some (prefix ts) ≡ false

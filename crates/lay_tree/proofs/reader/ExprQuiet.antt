@@ -48,7 +48,8 @@ six _ _ _ _ _ _ h = absurd (cc)
 pub tail_fits : (t : Tail) (no_struct : Bool) (ts : Tokens) → tail_follows t no_struct ts ≡ true → TailFits t no_struct ts
 tail_fits t no_struct ts h =
     let p =
-    six (not t.takes_all || strength ts == 0) (not (t.bare && begins_operand no_struct ts)) (not (t.path && (not no_struct && first (opens Brace) ts)))
+    six (not t.takes_all || strength ts == 0) (not (t.bare && begins_operand no_struct ts))
+    (not (t.path && (not no_struct && first (opens Brace) ts)))
     (not (t.unlabelled && first is_lifetime ts)) (not (t.raw && begins_pointer ts)) (may_follow t.refuses ts) h in
     record { all = p.0; bare = p.1; path = p.2; label = p.3; raw = p.4; refuses = p.5 }
 
@@ -102,8 +103,10 @@ ends_follow x place ts e =
 
 -- ---- what stands there
 
-none_weak : (found : Option (List ℕ)) (ts : Tokens) → op_at ts ≡ found → option_and_then (named all_ops) found ≡ None → is_op_of (codes ".") found ≡ false
-    → is_op_of (codes "?") found ≡ false → first (is_keyword (codes "as")) ts ≡ false → (first (opens Paren) ts || first (opens Bracket) ts) ≡ false
+none_weak : (found : Option (List ℕ)) (ts : Tokens) → op_at ts ≡ found → option_and_then (named all_ops) found ≡ None
+    → is_op_of (codes ".") found ≡ false
+    → is_op_of (codes "?") found ≡ false → first (is_keyword (codes "as")) ts ≡ false
+    → (first (opens Paren) ts || first (opens Bracket) ts) ≡ false
     → strength ts ≡ 0
 unfolding strength binary
 none_weak found ts e op point question no_as no_open =
