@@ -1,14 +1,13 @@
 -- Every expression is read where it is spelled, in its place, at each budget from its depth on.
-use Rattle.std.proofs.Common.{◌≡◌, ℕ, zero, suc, ◌≤◌, Bool, true, false, not, ◌&&◌, nat_le, List, map, Option, option_map, Some, None, if◌then◌else◌, refl, sym, ap, subst, ◌∙◌, arith, le-leb, leb-true}
+use Rattle.std.proofs.Common.{◌≡◌, ℕ, zero, suc, ◌≤◌, Bool, true, false, not, ◌&&◌, nat_le, List, map, Option, option_map, Some, None, refl, sym, ap, subst, ◌∙◌, arith, le-leb, leb-true}
 use Rattle.std.proofs.lemmas.Bool.{and_parts}
 use Rattle.lay_form.specs.Spelled.{Spells}
 use Rattle.lay_tree.specs.Ahead.{Tokens}
-use Rattle.lay_tree.specs.Operands.{expr_lead_at}
 use Rattle.lay_tree.specs.Operators.{is_dot_or_try, strength}
 use Rattle.lay_tree.specs.nodes.Exprs.{ExprFacts, StepFacts, stands, placed, root_follows, follows, tail_follows, level_of, is_block_like, expr_facts, about_expr, about_field_expr, about_step}
 use Rattle.lay_tree.specs.nodes.Facts.{Facts}
 use Rattle.lay_tree.specs.nodes.Places.{begins, is_whole}
-use Rattle.lay_tree.specs.reader.Exprs.{ExprWithin, head_by, climb, is_ended, accepted, expr_by, expr_in}
+use Rattle.lay_tree.specs.reader.Exprs.{ExprWithin, climb, is_ended, accepted, expr_by, expr_in}
 use Rattle.lay_tree.specs.reader.Types as types
 use Rattle.lay_tree.specs.declared.exprs.Expr.{Expr}
 use Rattle.lay_tree.specs.declared.exprs.Expr.TheOpen.{Expr-F}
@@ -172,9 +171,12 @@ module _ (struct_head : StructHeads) (most : ℕ) (within : ExprWithin) (reads :
             struct_free = (stands_parts (about_expr x) place m).struct_free;
           } in
           let h = all_reached (suc depth) (omega (arith, le)) x place.level (begins place.start) ts rest known in
-          let climbs = h.climbs ∙ climb_ends within place place.level (x, h.need) rest (omega arith) in
-          (h.need, h.least, climbed_read (suc most) h.head x h.need ts h.behind rest h.read h.goes_on climbs
-          (accept (suc most) x h.need rest m r (omega (arith, h.least, le))))
+          let climbs = h.climbs ∙ climb_ends within place place.level (x, h.need) rest (omega arith) in (
+            h.need,
+            h.least,
+            climbed_read (suc most) h.head x h.need ts h.behind rest h.read h.goes_on climbs
+                (accept (suc most) x h.need rest m r (omega (arith, h.least, le))),
+          )
 
 module _ (struct_head : StructHeads) where
   exprs_read : (depth budget : ℕ) → depth ≤ budget → ExprReads depth (record { exprs = expr_in budget; kinds = types.within budget })
