@@ -88,6 +88,18 @@ pub mod StructsComplete
 pub mod StructsExact
 pub mod ExprSoundLevel
 pub mod ExprReads
+pub mod ExprSoundLeads
+pub mod ExprSoundFirst
+pub mod ExprSoundLists
+pub mod ExprSoundHeads
+pub mod ExprSoundStructs
+pub mod ExprSoundPrefixes
+pub mod ExprSoundHead
+pub mod ExprSoundOperators
+pub mod ExprSoundSteps
+pub mod ExprSoundOperands
+pub mod ExprSoundStages
+pub mod ExprSound
 pub mod ExprHeads
 pub mod ExprLeads
 pub mod ExprFronts
@@ -102,6 +114,8 @@ pub mod ExprOperatorsTails
 pub mod ExprOperatorsRows
 pub mod ExprHeadsRaw
 pub mod ExprHeadsUnary
+pub mod ExprHeadsStruct
 pub mod ExprClimb
 pub mod ExprClimbKinds
 pub mod ExprComplete
+pub mod ExprExact

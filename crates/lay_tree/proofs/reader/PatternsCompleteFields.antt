@@ -82,12 +82,12 @@ short_bind x h = at x (pat_view x) h
 
 -- ---- what a field begins with, behind its attributes
 
-record FieldFront (ts : Tokens) : Type 0 where
+pub record FieldFront (ts : Tokens) : Type 0 where
   pub attr : begins_attr false ts ≡ false
   pub brace : first (closes Brace) ts ≡ false
   pub rest : is_op (codes "..") ts ≡ false
 
-word_front : (raw : Bool) (text : List ℕ) (ts rest : Tokens) → IsOne (word_kind raw) text ts rest → is_name raw text ≡ true → FieldFront ts
+pub word_front : (raw : Bool) (text : List ℕ) (ts rest : Tokens) → IsOne (word_kind raw) text ts rest → is_name raw text ≡ true → FieldFront ts
 word_front raw text ts rest o g =
     let l = word_lead raw text ts rest o (name_is_word raw text g) in
     let f = lead_front ts OfPath l in
@@ -98,7 +98,7 @@ keyword_front word ts rest o =
     let f = (one_front Ident word ts rest o).1 in
     record { attr = rw f refl; brace = rw f refl; rest = one_no_op (codes "..") Ident word ts rest refl o }
 
-word_no_index : (raw : Bool) (text : List ℕ) (ts rest : Tokens) → IsOne (word_kind raw) text ts rest → index ts ≡ None
+pub word_no_index : (raw : Bool) (text : List ℕ) (ts rest : Tokens) → IsOne (word_kind raw) text ts rest → index ts ≡ None
 word_no_index true text ts rest o = rw (one_front RawIdent text ts rest o).1 refl
 word_no_index false text ts rest o = rw (one_front Ident text ts rest o).1 refl
 

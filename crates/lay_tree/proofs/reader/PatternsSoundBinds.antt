@@ -87,7 +87,7 @@ lone_path p w h = elim (chosen (starts_plain (views.out-PathStart p.start)) _ _ 
 ]
 
 -- The word stands there.
-word_there : (p : Path) (w : Word) (n : ℕ) (ts rest : Tokens) → lone_word p ≡ Some w
+pub word_there : (p : Path) (w : Word) (n : ℕ) (ts rest : Tokens) → lone_word p ≡ Some w
     → Spells (path_told Code p).form n ts rest → IsOne (word_kind w.raw) w.text ts rest
 word_there p w n ts rest e s =
     let f = subst (λ (z : types.PathFacts). Spells (z Code).form n ts rest) (lone_path p w e) s in

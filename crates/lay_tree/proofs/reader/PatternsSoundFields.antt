@@ -54,7 +54,7 @@ use Rattle.lay_tree.proofs.reader.Words.{name_sound}
 -- ---- parts in braces
 
 -- Parts in braces are spelled, and a comma may stand behind the last.
-braces_by : {A : Type 0} (form : A → Form) (depth : ℕ) (xs : List A) (ts inside rest : Tokens)
+pub braces_by : {A : Type 0} (form : A → Form) (depth : ℕ) (xs : List A) (ts inside rest : Tokens)
     → IsBit (opener Brace) ts inside → ElementsBy (closer Brace) (λ x. SpelledAt depth (form x)) xs inside rest
     → Spells (braces true (map form xs)) depth ts rest
 braces_by form depth [] ts inside rest o r = (rest, (ts, refl, (inside, o, (rest, r, refl))), refl)
@@ -88,36 +88,33 @@ dots_form = piece (Operator (codes "..") ∷ [])
 abbrev form_of_field : FieldPat → Form
 form_of_field f = (about_field_pat f).form
 
--- fields with `..` behind them
-rest_list : (depth : ℕ) (fs : List FieldPat) (last : Bool) (ts inside end rest : Tokens)
-    → IsBit (opener Brace) ts inside → OpenBy begins_field (λ f. SpelledAt depth (form_of_field f)) fs last inside end
-    → last ≡ true → IsOperator (codes "..") end (drop 2 end) → IsBit (closer Brace) (drop 2 end) rest
-    → Spells (braces false (map form_of_field fs ++ dots_form ∷ [])) depth ts rest
-rest_list depth [] last ts inside end rest o r e d c =
-    let at = drop 2 end in
-    let behind : Spells dots_form depth inside at =
-    subst (λ us. Spells dots_form depth us at) (sym r.1) (bit_piece (Operator (codes "..")) depth end at d) in
-    shut_braces dots_form [] depth ts inside at at rest o behind refl c
-rest_list depth (f ∷ fs) false ts inside end rest o r e d c = absurd (cc)
-rest_list depth (f ∷ fs) true ts inside end rest o r e d c =
-    let at = drop 2 end in
+-- parts with one more behind them, behind which no comma may stand
+pub last_list : {A : Type 0} (form : A → Form) (last_form : Form) (depth : ℕ) (fs : List A) (last : Bool)
+    (ts inside end at rest : Tokens) → IsBit (opener Brace) ts inside
+    → OpenBy begins_field (λ f. SpelledAt depth (form f)) fs last inside end → last ≡ true
+    → Spells last_form depth end at → IsBit (closer Brace) at rest
+    → Spells (braces false (map form fs ++ last_form ∷ [])) depth ts rest
+last_list form last_form depth [] last ts inside end at rest o r e s c =
+    let behind : Spells last_form depth inside at = subst (λ us. Spells last_form depth us at) (sym r.1) s in
+    shut_braces last_form [] depth ts inside at at rest o behind refl c
+last_list form last_form depth (f ∷ fs) false ts inside end at rest o r e s c = absurd (cc)
+last_list form last_form depth (f ∷ fs) true ts inside end at rest o r e s c =
     let behind = r.2 in
     let P = Further (SpelledAt depth) in
-    let parts = rows_map form_of_field P fs r.0 behind.0 behind.1 in
-    let dots : Rows P (dots_form ∷ []) behind.0 at =
-    (at, (end, behind.2.0, bit_piece (Operator (codes "..")) depth end at d), refl) in
-    let all = rows_joined P (map form_of_field fs) (dots_form ∷ []) r.0 behind.0 at parts dots in
-    shut_braces (form_of_field f) (map form_of_field fs ++ dots_form ∷ []) depth ts inside r.0 at rest o r.1 all c
+    let parts = rows_map form P fs r.0 behind.0 behind.1 in
+    let one : Rows P (last_form ∷ []) behind.0 at = (at, (end, behind.2.0, s), refl) in
+    let all = rows_joined P (map form fs) (last_form ∷ []) r.0 behind.0 at parts one in
+    shut_braces (form f) (map form fs ++ last_form ∷ []) depth ts inside r.0 at rest o r.1 all c
 
-int_kind : (k : Kind) → is_int k ≡ true → k ≡ kind.Int
+pub int_kind : (k : Kind) → is_int k ≡ true → k ≡ kind.Int
 int_kind kind.Int h = refl
 int_kind _ h = absurd (cc)
 
 -- A number and a `:` stand there.
-abbrev IsIndex : List ℕ → Tokens → Tokens → Type 0
+abbrev pub IsIndex : List ℕ → Tokens → Tokens → Type 0
 IsIndex text ts rest = (at : Tokens) × IsOne kind.Int text ts at × IsOperator (codes ":") at rest
 
-index_sound : SoundStep index IsIndex
+pub index_sound : SoundStep index IsIndex
 index_sound [] x rest t h = absurd (cc)
 index_sound (u ∷ us) x rest t h = elim (chosen (is_int u.kind && is_op (codes ":") us) _ _ _ h) [
   | inl g ↦
@@ -266,7 +263,8 @@ module _ (budget : ℕ) (within : PatWithin) (sound : SoundPatWithin budget with
       let k = open_held begins_field budget form_of_field (λ f. (about_field_pat f).good) FieldHeld
       (λ f us mid s. (s.0, s.1.0, s.1.1)) fs last inside end r in
       let gs = nodes fs in
-      let list = rest_list (deepest fs) gs last ts inside end rest o k.0 both.0 d c in (
+      let dots = bit_piece (Operator (codes "..")) (deepest fs) end at d in
+      let list = last_list form_of_field dots_form (deepest fs) gs last ts inside end at rest o k.0 both.0 dots c in (
         (
           k.1,
           subst (λ es. Spells (braces false (es ++ dots_form ∷ [])) (deepest fs) ts rest)

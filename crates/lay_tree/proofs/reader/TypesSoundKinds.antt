@@ -174,7 +174,7 @@ semicolon_texts (t ∷ ts) i h =
     and_no false b h = refl
 
 -- A list of tokens is spelled behind a `;` and before what closes it.
-length_sound : (d : Delim) (depth : ℕ) (ts : Tokens) (us : List Listed) (mid rest : Tokens) → InText ts
+pub length_sound : (d : Delim) (depth : ℕ) (ts : Tokens) (us : List Listed) (mid rest : Tokens) → InText ts
     → first (is_mark (codes ";")) ts ≡ true
     → tokens (tail ts) ≡ Some (us, mid) → passed (closes d) mid ≡ Some rest
     → Spells (token_list us) depth (tail ts) mid × (is_token_list us ≡ true) × InText mid

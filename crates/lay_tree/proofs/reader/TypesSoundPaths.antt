@@ -273,7 +273,23 @@ module _ (budget : ℕ) (within : Within) (sound : SoundWithin budget within) wh
     ]
   ]
 
-  -- arguments in `<` and `>`
+  -- Arguments in `<` and `>` are spelled, at their greatest need, and well formed.
+  pub angled_sound : (ts : Tokens) (xs : List (Arg × ℕ)) (rest : Tokens) → InText ts
+      → angled (one_arg within) ts ≡ Some (xs, rest)
+      → (deepest xs ≤ budget) × Spells (angle_form (map about_arg (nodes xs))) (deepest xs) ts rest
+      × (all_good (map about_arg (nodes xs)) ≡ true) × InText rest
+  angled_sound ts xs rest t h =
+      let o = bind_some (passed (is_mark (codes "<")) ts) _ _ h in
+      let mark = mark_passed_is (codes "<") ts o.0 o.1 in
+      let l = listed budget (λ y. (about_arg y).form) (λ y. (about_arg y).good) (Held about_arg budget)
+      (λ y us mid s. (s.0, s.1.0, s.1.1))
+      (is_mark (codes ">")) less greater greater_shuts (one_arg within) arg_sound ts o.0 xs rest mark
+      (bit_texts less ts o.0 mark t) o.2 in
+      let ys = nodes xs in
+      let list : Spells (angle_form (map about_arg ys)) (deepest xs) ts rest =
+      subst (λ fs. Spells (comma_list true less greater fs) (deepest xs) ts rest) (sym (forms_of about_arg ys)) l.1 in
+      (l.0, list, goods_of about_arg ys ∙ l.2, l.3)
+
   abbrev IsAngle : Args × ℕ → Tokens → Tokens → Type 0
   IsAngle x ts rest =
       (xs : List Arg) × (x.0 ≡ args.Angle xs) × (x.1 ≤ budget) × Spells (angle_form (map about_arg xs)) x.1 ts rest
@@ -283,18 +299,9 @@ module _ (budget : ℕ) (within : Within) (sound : SoundWithin budget within) wh
   unfolding angle
   angle_sound ts x rest t h =
       let xs = bind_some (angled (one_arg within) ts) _ _ h in
-      let o = bind_some (passed (is_mark (codes "<")) ts) _ _ xs.1 in
-      let mark = mark_passed_is (codes "<") ts o.0 o.1 in
-      let l = listed budget (λ y. (about_arg y).form) (λ y. (about_arg y).good) (Held about_arg budget)
-      (λ y us mid s. (s.0, s.1.0, s.1.1))
-      (is_mark (codes ">")) less greater greater_shuts (one_arg within) arg_sound ts o.0 xs.0.0 xs.0.1 mark
-      (bit_texts less ts o.0 mark t) o.2 in
-      let ys = nodes xs.0.0 in
-      let list : Spells (angle_form (map about_arg ys)) (deepest xs.0.0) ts xs.0.1 =
-      subst (λ fs. Spells (comma_list true less greater fs) (deepest xs.0.0) ts xs.0.1) (sym (forms_of about_arg ys))
-      l.1 in
-      same_some (Out IsAngle ts) ((args.Angle ys, deepest xs.0.0), xs.0.1) (x, rest) xs.2
-      ((ys, refl, l.0, list, goods_of about_arg ys ∙ l.2), l.3)
+      let l = angled_sound ts xs.0.0 xs.0.1 t xs.1 in
+      same_some (Out IsAngle ts) ((args.Angle (nodes xs.0.0), deepest xs.0.0), xs.0.1) (x, rest) xs.2
+      ((nodes xs.0.0, refl, l.0, l.1, l.2), l.3)
 
   abbrev ColonsBefore : PathStyle → Tokens → Tokens → Type 0
   ColonsBefore Code ts at = AreBits colons ts at

@@ -1,0 +1,63 @@
+-- What begins an expression, by its lead: what is read stands there, where what is one level deeper is read so.
+use Rattle.std.proofs.Common.{◌≡◌, ℕ, Bool, codes, inl, inr, Option, Some, None, refl}
+use Rattle.lay_piece.specs.declared.kind.Delim.TheVariants.{Paren, Bracket}
+use Rattle.lay_form.specs.Form.{keyword, opener}
+use Rattle.lay_tree.specs.Ahead.{Tokens, tail}
+use Rattle.lay_tree.specs.Operands.{ExprLead, ByLiteral, ByPath, ByUnderscore, ByLabel, ByParen, ByBracket, ByBrace, ByPrefix, ByRange, ByContinue, ByBreak, ByReturn, ByBlockWord, ByClosure, expr_lead_at}
+use Rattle.lay_tree.specs.reader.Exprs.{ExprWithin, head_by}
+use Rattle.lay_tree.specs.reader.Types.{begins_call}
+use Rattle.lay_tree.specs.declared.exprs.Expr.{Expr}
+use Rattle.lay_tree.specs.declared.exprs.Expr.TheVariants as expr
+use Rattle.lay_tree.proofs.Steps.{same_some, chosen}
+use Rattle.lay_tree.proofs.reader.ExprSoundFirst.{bracket_first, break_first, continue_first, paren_first, range_first, return_first, underscore_first}
+use Rattle.lay_tree.proofs.reader.ExprSoundHeads.{bracket_head, break_head, call_head, continue_head, literal_head, paren_head, return_head, underscore_head}
+use Rattle.lay_tree.proofs.reader.ExprSoundLeads.{LedWithin}
+use Rattle.lay_tree.proofs.reader.ExprSoundLevel.{LeftHeld, SoundExprWithin}
+use Rattle.lay_tree.proofs.reader.ExprSoundPrefixes.{range_sound, unary_head}
+use Rattle.lay_tree.proofs.reader.ExprSoundStructs.{path_head}
+use Rattle.lay_tree.proofs.reader.Loops.{SoundStep}
+use Rattle.lay_tree.proofs.reader.TypesSoundParts.{Out, bit_texts}
+
+module _ (budget : ℕ) (within : ExprWithin) (sound : SoundExprWithin budget within) (led : LedWithin within)
+    (no_struct starts : Bool) where
+  abbrev Left : Expr × ℕ → Tokens → Tokens → Type 0
+  Left = LeftHeld no_struct starts
+
+  pub head_sound : SoundStep (λ us. head_by within no_struct (expr_lead_at us) us) Left
+  head_sound ts x rest t h = by (expr_lead_at ts) refl h
+    where
+      by : (lead : Option ExprLead) → expr_lead_at ts ≡ lead → head_by within no_struct lead ts ≡ Some (x, rest)
+          → Out Left ts (x, rest)
+      by None e h = absurd (cc h)
+      by (Some ByLiteral) e h = literal_head no_struct starts ts x rest t h
+      by (Some ByPath) e h = elim (chosen (begins_call ts) _ _ _ h) [
+        | inl g ↦ call_head no_struct starts ts x rest t g.1
+        | inr g ↦ path_head budget within sound no_struct starts ts x rest t g.1
+      ]
+      by (Some ByUnderscore) e h =
+          same_some (Out Left ts) ((expr.Underscore, 1), tail ts) (x, rest) h
+          (underscore_head no_struct starts ts (tail ts) (underscore_first ts t e) t)
+      by (Some ByParen) e h =
+          let o = paren_first ts t e in
+          paren_head no_struct starts budget within sound ts (tail ts) o (bit_texts (opener Paren) ts (tail ts) o t) x rest h
+      by (Some ByBracket) e h =
+          let o = bracket_first ts t e in
+          bracket_head no_struct starts budget within sound ts (tail ts) o (bit_texts (opener Bracket) ts (tail ts) o t) x rest h
+      by (Some ByPrefix) e h = unary_head no_struct starts budget within sound led ts e t x rest h
+      by (Some ByRange) e h =
+          range_sound no_struct starts budget within sound led None 0 ts ts refl (range_first ts e) t x rest h
+      by (Some ByContinue) e h =
+          let o = continue_first ts e in
+          continue_head no_struct starts ts (tail ts) o (bit_texts (keyword (codes "continue")) ts (tail ts) o t) x rest h
+      by (Some ByBreak) e h =
+          let o = break_first ts e in
+          break_head no_struct starts budget within sound led ts (tail ts) o (bit_texts (keyword (codes "break")) ts (tail ts) o t)
+          x rest h
+      by (Some ByReturn) e h =
+          let o = return_first ts e in
+          return_head no_struct starts budget within sound led ts (tail ts) o (bit_texts (keyword (codes "return")) ts (tail ts) o t)
+          x rest h
+      by (Some ByLabel) e h = absurd (cc h)
+      by (Some ByBrace) e h = absurd (cc h)
+      by (Some ByBlockWord) e h = absurd (cc h)
+      by (Some ByClosure) e h = absurd (cc h)
