@@ -1,20 +1,15 @@
 -- Reading gets from what begins an expression to the expression itself, operator by operator, from the strongest on.
-use Rattle.std.proofs.Common.{◌≡◌, ℕ, zero, suc, ◌≤◌, max, Bool, true, false, not, ◌&&◌, nat_le, List, [], ◌∷◌, map, length, codes, Option, option_map, Some, None, if◌then◌else◌, refl, sym, ap, subst, ◌∙◌, arith, le-leb, eqb-true, eq-eqb, ne_eqb, leb-true}
+use Rattle.std.proofs.Common.{◌≡◌, ℕ, zero, suc, ◌≤◌, Bool, true, false, not, ◌&&◌, nat_le, Some, None, if◌then◌else◌, refl, sym, ap, subst, ◌∙◌, arith, le-leb, eq-eqb, leb-true}
 use Rattle.std.specs.Prelude.{◌==◌}
 use Rattle.std.proofs.lemmas.Bool.{and_parts, lt-leb, leb-false}
-use Rattle.lay_piece.specs.declared.kind.Kind.TheVariants.{Ident}
-use Rattle.lay_form.specs.Form.{Operator, Form, Done, Piece, Part}
-use Rattle.lay_form.specs.Spelled.{IsOne, IsOperator, Spells}
+use Rattle.lay_form.specs.Spelled.{Spells}
 use Rattle.lay_tree.specs.Ahead.{Tokens}
-use Rattle.lay_tree.specs.Operators.{op_text, op_level, binary, angle_by, is_angle, is_angle_op, is_dot_or_try, begins_step, strength}
-use Rattle.lay_tree.specs.nodes.Exprs.{ExprFacts, StepFacts, Tail, stands, placed, tail_follows, about_expr, about_field_expr, about_step, expr_facts, inside, level_of, within_of}
-use Rattle.lay_tree.specs.nodes.Facts.{Facts}
+use Rattle.lay_tree.specs.Operators.{is_angle, is_dot_or_try, strength}
+use Rattle.lay_tree.specs.nodes.Exprs.{ExprFacts, stands, placed, tail_follows, about_expr}
 use Rattle.lay_tree.specs.nodes.Places.{begins, is_whole, part_if, before_op}
 use Rattle.lay_tree.specs.reader.Exprs.{ExprWithin, stage, left_place, climb, is_ended}
-use Rattle.lay_tree.specs.reader.Loops.{Read, ◌>>=◌}
+use Rattle.lay_tree.specs.reader.Loops.{◌>>=◌}
 use Rattle.lay_tree.specs.declared.exprs.Expr.{Expr}
-use Rattle.lay_tree.specs.declared.exprs.Expr.TheOpen.{Expr-F}
-use Rattle.lay_tree.specs.declared.exprs.Expr.TheVariants as expr
 use Rattle.lay_tree.specs.declared.exprs.Place.{Place}
 use Rattle.lay_tree.specs.declared.exprs.Start.{Start}
 use Rattle.lay_tree.specs.declared.exprs.Start.TheVariants as start
@@ -48,10 +43,10 @@ module _ (within : ExprWithin) (place : Place) where
 
       by : (b : Bool)
           → (if b && strength ts == suc level then
-              (if stands (about_expr lhs.0) (left_place place level ts) then
-                stage within level place.no_struct lhs ts >>= (λ x. climb within place level x.0 x.1)
-              else None)
-            else climb within place level lhs ts) ≡ climb within place level lhs ts
+          (if stands (about_expr lhs.0) (left_place place level ts) then
+          stage within level place.no_struct lhs ts >>= (λ x. climb within place level x.0 x.1)
+          else None)
+          else climb within place level lhs ts) ≡ climb within place level lhs ts
       by true = rw no refl
       by false = refl
 

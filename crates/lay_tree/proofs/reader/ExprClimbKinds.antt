@@ -1,19 +1,18 @@
 -- What operators go on with is reached from the operand before them, kind by kind.
-use Rattle.std.proofs.Common.{◌≡◌, ℕ, zero, suc, ◌≤◌, max, Bool, true, false, not, ◌&&◌, nat_le, List, [], ◌∷◌, map, length, codes, Option, option_map, Some, None, if◌then◌else◌, refl, sym, ap, subst, ◌∙◌, arith, le-leb, eq-eqb, ne_eqb, leb-true}
+use Rattle.std.proofs.Common.{◌≡◌, ℕ, zero, suc, ◌≤◌, max, Bool, true, false, not, ◌&&◌, nat_le, List, [], ◌∷◌, map, codes, Option, option_map, Some, refl, sym, ap, subst, ◌∙◌, arith, le-leb, eq-eqb, ne_eqb, leb-true}
 use Rattle.std.specs.Prelude.{◌==◌}
-use Rattle.std.proofs.lemmas.Bool.{and_parts, not-true, lt-leb}
-use Rattle.lay_form.specs.Form.{Operator, Form, Done, Piece, Part}
-use Rattle.lay_form.specs.Spelled.{IsOperator, Spells}
+use Rattle.std.proofs.lemmas.Bool.{and_parts, lt-leb}
+use Rattle.lay_form.specs.Form.{Operator, Form, Done, Piece}
+use Rattle.lay_form.specs.Spelled.{Spells}
 use Rattle.lay_tree.specs.Ahead.{Tokens}
-use Rattle.lay_tree.specs.Follow.{may_follow}
-use Rattle.lay_tree.specs.Operators.{op_text, op_level, angle_by, is_angle, is_angle_op, is_dot_or_try, strength}
-use Rattle.lay_tree.specs.nodes.Exprs.{ExprFacts, StepFacts, Tail, placed, tail_follows, operands_form, targets_form, end_form, level_of_chain, next_is_angle, is_chain_level, may_chain, operands_placed, targets_placed, end_placed, first_step, is_tuple_index, is_dotted, are_steps, types_good, tail_of_end, tail_of_steps, inside, level_of, tail_of, within_of, expr_facts, about_expr, about_step}
+use Rattle.lay_tree.specs.Operators.{op_level, angle_by, is_angle, is_angle_op, is_dot_or_try, strength}
+use Rattle.lay_tree.specs.nodes.Exprs.{ExprFacts, StepFacts, Tail, placed, tail_follows, operands_form, end_form, is_chain_level, may_chain, operands_placed, targets_placed, end_placed, is_tuple_index, is_dotted, are_steps, types_good, tail_of_end, tail_of_steps, inside, tail_of, expr_facts, about_expr, about_step}
 use Rattle.lay_tree.specs.nodes.Facts.{Facts}
 use Rattle.lay_tree.specs.nodes.Patterns.{dots}
 use Rattle.lay_tree.specs.nodes.Places.{plain, begins, part_if, before_op}
 use Rattle.lay_tree.specs.nodes.Types.{about_type, is_there}
-use Rattle.lay_tree.specs.reader.Exprs.{ExprWithin, targets_of, value_of, operands, chain_expr, assign_expr, one_type, cast_expr, stage}
-use Rattle.lay_tree.specs.reader.Loops.{Got, Read, nodes, deepest, repeat}
+use Rattle.lay_tree.specs.reader.Exprs.{ExprWithin, operands, chain_expr, assign_expr, one_type, cast_expr, stage}
+use Rattle.lay_tree.specs.reader.Loops.{nodes, deepest, repeat}
 use Rattle.lay_tree.specs.declared.exprs.Expr.{Expr}
 use Rattle.lay_tree.specs.declared.exprs.Expr.TheOpen.{Expr-F}
 use Rattle.lay_tree.specs.declared.exprs.Expr.TheVariants as expr
@@ -28,10 +27,10 @@ use Rattle.lay_tree.proofs.reader.ExprClimb.{Reach, Known, Reaches, Operand, rea
 use Rattle.lay_tree.proofs.reader.ExprHeadsJumps.{range_read}
 use Rattle.lay_tree.proofs.reader.ExprOperators.{AtOp, at_op, as_strength, as_binary, as_tail, step_there, step_tail, no_step}
 use Rattle.lay_tree.proofs.reader.ExprOperatorsRows.{before_tail, operands_spelled, operands_read, first_of, row_of, row_targets, row_spelled, target_parts, set_no_angle, row_placed, row_tail, row_chains, is_as, types_spelled, types_read}
-use Rattle.lay_tree.proofs.reader.ExprOperatorsTails.{BeforeOp, before_parts, high_refuses}
-use Rattle.lay_tree.proofs.reader.ExprQuiet.{TailFits, tail_fits}
+use Rattle.lay_tree.proofs.reader.ExprOperatorsTails.{before_parts, high_refuses}
+use Rattle.lay_tree.proofs.reader.ExprQuiet.{tail_fits}
 use Rattle.lay_tree.proofs.reader.ExprReads.{ExprReads}
-use Rattle.lay_tree.proofs.reader.ExprSteps.{StepBegun, step_begun, postfix_parts, postfix_read}
+use Rattle.lay_tree.proofs.reader.ExprSteps.{step_begun, postfix_parts, postfix_read}
 
 -- Behind an operator that is no step, what begins a statement begins a part of it.
 starts_on : (first begins step dot : Bool) → step ≡ false → first ≡ begins → first ≡ (begins && not (step && dot))

@@ -1,21 +1,18 @@
 -- Every expression is read where it is spelled, in its place, at each budget from its depth on.
-use Rattle.std.proofs.Common.{◌≡◌, ℕ, zero, suc, ◌≤◌, Bool, true, false, not, ◌&&◌, nat_le, List, map, Option, option_map, Some, None, if◌then◌else◌, refl, sym, ap, subst, ◌∙◌, arith, le-leb, leb-true}
+use Rattle.std.proofs.Common.{◌≡◌, ℕ, zero, suc, ◌≤◌, Bool, true, false, not, ◌&&◌, nat_le, List, map, Option, option_map, Some, None, refl, sym, ap, subst, ◌∙◌, arith, le-leb, leb-true}
 use Rattle.std.proofs.lemmas.Bool.{and_parts}
 use Rattle.lay_form.specs.Spelled.{Spells}
 use Rattle.lay_tree.specs.Ahead.{Tokens}
-use Rattle.lay_tree.specs.Operands.{expr_lead_at}
 use Rattle.lay_tree.specs.Operators.{is_dot_or_try, strength}
 use Rattle.lay_tree.specs.nodes.Exprs.{ExprFacts, StepFacts, stands, placed, root_follows, follows, tail_follows, level_of, is_block_like, expr_facts, about_expr, about_field_expr, about_step}
 use Rattle.lay_tree.specs.nodes.Facts.{Facts}
 use Rattle.lay_tree.specs.nodes.Places.{begins, is_whole}
-use Rattle.lay_tree.specs.reader.Exprs.{ExprWithin, head_by, climb, is_ended, accepted, expr_by, expr_in}
+use Rattle.lay_tree.specs.reader.Exprs.{ExprWithin, climb, is_ended, accepted, expr_by, expr_in}
 use Rattle.lay_tree.specs.reader.Types as types
 use Rattle.lay_tree.specs.declared.exprs.Expr.{Expr}
 use Rattle.lay_tree.specs.declared.exprs.Expr.TheOpen.{Expr-F}
 use Rattle.lay_tree.specs.declared.exprs.Expr.TheVariants as expr
-use Rattle.lay_tree.specs.declared.exprs.FieldExpr.{FieldExpr}
 use Rattle.lay_tree.specs.declared.exprs.Place.{Place}
-use Rattle.lay_tree.specs.declared.types.Path.{Path}
 use Rattle.lay_tree.proofs.nodes.ExprsLaws.{ExprView, IsLit, IsPath, IsUnderscore, IsCall, IsParen, IsContinue, IsTuple, IsArray, IsRepeat, IsStruct, IsChain, IsCast, IsUnary, IsRange, IsAssign, IsPostfix, IsReturn, IsBreak, expr_view, behind_op, before_op as target_of, expr_lit_is, expr_path_is, expr_underscore_is, expr_call_is, expr_paren_is, expr_continue_is, expr_tuple_is, expr_array_is, expr_repeat_is, expr_struct_is, expr_chain_is, expr_cast_is, expr_unary_is, expr_range_is, expr_assign_is, expr_postfix_is, expr_return_is, expr_break_is}
 use Rattle.lay_tree.proofs.reader.Exact.{IsRead}
 use Rattle.lay_tree.proofs.reader.ExprClimb.{Reach, Known, Reaches, climb_ends, headed}
@@ -24,6 +21,7 @@ use Rattle.lay_tree.proofs.reader.ExprFronts.{no_depth}
 use Rattle.lay_tree.proofs.reader.ExprHeads.{Headed, IsHead}
 use Rattle.lay_tree.proofs.reader.ExprHeadsJumps.{return_head, break_head, range_head}
 use Rattle.lay_tree.proofs.reader.ExprHeadsLists.{paren_head, tuple_head, array_head, repeat_head}
+use Rattle.lay_tree.proofs.reader.ExprHeadsStruct.{struct_head}
 use Rattle.lay_tree.proofs.reader.ExprHeadsUnary.{unary_head}
 use Rattle.lay_tree.proofs.reader.ExprHeadsWords.{lit_head, underscore_head, call_head, path_head, continue_head}
 use Rattle.lay_tree.proofs.reader.ExprOperators.{strength_most}
@@ -31,11 +29,7 @@ use Rattle.lay_tree.proofs.reader.ExprOperatorsTails.{stands_parts}
 use Rattle.lay_tree.proofs.reader.ExprReads.{ExprReads, head_at}
 use Rattle.lay_tree.proofs.reader.TypesCompleteKinds.{within_reads}
 
-abbrev StructHeads : Type 0
-StructHeads = (depth : ℕ) (within : ExprWithin) → ExprReads depth within → (path : Path) (fields : List FieldExpr) (base : Option (Option Expr))
-    → IsHead depth within (expr.Struct path fields base)
-
-module _ (struct_head : StructHeads) (most : ℕ) (within : ExprWithin) (reads : (depth : ℕ) → depth ≤ most → ExprReads depth within) (place : Place) where
+module _ (most : ℕ) (within : ExprWithin) (reads : (depth : ℕ) → depth ≤ most → ExprReads depth within) (place : Place) where
   -- ---- every expression is reached
 
   module _ (depth : ℕ) (le : depth ≤ most) (reaches : Reaches within place depth) where
@@ -172,23 +166,25 @@ module _ (struct_head : StructHeads) (most : ℕ) (within : ExprWithin) (reads :
             struct_free = (stands_parts (about_expr x) place m).struct_free;
           } in
           let h = all_reached (suc depth) (omega (arith, le)) x place.level (begins place.start) ts rest known in
-          let climbs = h.climbs ∙ climb_ends within place place.level (x, h.need) rest (omega arith) in
-          (h.need, h.least, climbed_read (suc most) h.head x h.need ts h.behind rest h.read h.goes_on climbs
-          (accept (suc most) x h.need rest m r (omega (arith, h.least, le))))
+          let climbs = h.climbs ∙ climb_ends within place place.level (x, h.need) rest (omega arith) in (
+            h.need,
+            h.least,
+            climbed_read (suc most) h.head x h.need ts h.behind rest h.read h.goes_on climbs
+                (accept (suc most) x h.need rest m r (omega (arith, h.least, le))),
+          )
 
-module _ (struct_head : StructHeads) where
-  exprs_read : (depth budget : ℕ) → depth ≤ budget → ExprReads depth (record { exprs = expr_in budget; kinds = types.within budget })
-  unfolding expr_in
-  exprs_read zero budget h = record { exprs = λ place x ts rest s w f. absurd (no_depth x ts rest s); kinds = within_reads zero budget h }
-  exprs_read (suc depth) zero h = absurd (omega arith)
-  exprs_read (suc depth) (suc budget) h = record {
-    exprs = λ place x ts rest s w f.
-        read_one struct_head budget (record { exprs = expr_in budget; kinds = types.within budget }) (λ d le. exprs_read d budget le) place depth
-        (omega (arith, h)) x ts rest s w f;
-    kinds = within_reads (suc depth) (suc budget) h;
-  }
+exprs_read : (depth budget : ℕ) → depth ≤ budget → ExprReads depth (record { exprs = expr_in budget; kinds = types.within budget })
+unfolding expr_in
+exprs_read zero budget h = record { exprs = λ place x ts rest s w f. absurd (no_depth x ts rest s); kinds = within_reads zero budget h }
+exprs_read (suc depth) zero h = absurd (omega arith)
+exprs_read (suc depth) (suc budget) h = record {
+  exprs = λ place x ts rest s w f.
+      read_one budget (record { exprs = expr_in budget; kinds = types.within budget }) (λ d le. exprs_read d budget le) place depth
+      (omega (arith, h)) x ts rest s w f;
+  kinds = within_reads (suc depth) (suc budget) h;
+}
 
-  -- An expression that stands there is read.
-  pub expr_read : (place : Place) (x : Expr) (depth budget : ℕ) (ts rest : Tokens) → depth ≤ budget → Spells (about_expr x).form depth ts rest
-      → placed (about_expr x) place ≡ true → follows (about_expr x) place rest ≡ true → IsRead depth (expr_in budget place) x ts rest
-  expr_read place x depth budget ts rest h s w f = (exprs_read depth budget h).exprs place x ts rest s w f
+-- An expression that stands there is read.
+pub expr_read : (place : Place) (x : Expr) (depth budget : ℕ) (ts rest : Tokens) → depth ≤ budget → Spells (about_expr x).form depth ts rest
+    → placed (about_expr x) place ≡ true → follows (about_expr x) place rest ≡ true → IsRead depth (expr_in budget place) x ts rest
+expr_read place x depth budget ts rest h s w f = (exprs_read depth budget h).exprs place x ts rest s w f

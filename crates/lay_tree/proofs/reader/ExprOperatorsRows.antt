@@ -1,8 +1,7 @@
 -- Operators and the operands behind them, and types behind `as`: what is spelled is read.
-use Rattle.std.proofs.Common.{◌≡◌, ℕ, suc, ◌≤◌, ◌<◌, max, Bool, true, false, not, ◌&&◌, nat_le, List, [], ◌∷◌, map, length, drop, codes, Some, if◌then◌else◌, refl, sym, ap, subst, ◌∙◌, arith, le-leb, eqb-true, eq-eqb}
+use Rattle.std.proofs.Common.{◌≡◌, ℕ, suc, ◌≤◌, Bool, true, false, not, ◌&&◌, List, [], ◌∷◌, map, codes, Some, refl, sym, ap, subst, arith, le-leb, eq-eqb}
 use Rattle.std.specs.Prelude.{◌==◌}
-use Rattle.std.specs.List.{list_all}
-use Rattle.std.proofs.lemmas.Bool.{and_parts, and_from, cases_Bool}
+use Rattle.std.proofs.lemmas.Bool.{and_parts, and_from}
 use Rattle.lay_piece.specs.declared.kind.Kind.TheVariants.{Ident}
 use Rattle.lay_form.specs.Form.{Blank, Operator, Form, Done, Part, keyword}
 use Rattle.lay_form.specs.Spelled.{IsOne, IsOperator, Spells}
@@ -10,13 +9,12 @@ use Rattle.lay_form.proofs.FormLaws.{shorter}
 use Rattle.lay_tree.specs.Ahead.{Tokens, first, is_keyword}
 use Rattle.lay_tree.specs.Follow.{may_follow}
 use Rattle.lay_tree.specs.Operators.{op_text, op_level, binary, angle_by, is_angle, is_angle_op, strength}
-use Rattle.lay_tree.specs.nodes.Exprs.{ExprFacts, Tail, is_typed, stands, placed, follows, root_follows, tail_follows, operands_form, types_form, targets_form, operand_place, operands_placed, may_chain, targets_placed, tail_of_operands, type_refuses, types_good, about_expr}
-use Rattle.lay_tree.specs.nodes.Places.{plain, begins, before_op}
-use Rattle.lay_tree.specs.nodes.Types.{TypeFacts, about_type, good_at}
+use Rattle.lay_tree.specs.nodes.Exprs.{ExprFacts, is_typed, stands, placed, follows, tail_follows, operands_form, types_form, targets_form, operand_place, operands_placed, may_chain, targets_placed, tail_of_operands, type_refuses, types_good, about_expr}
+use Rattle.lay_tree.specs.nodes.Places.{plain, before_op}
+use Rattle.lay_tree.specs.nodes.Types.{about_type, good_at}
 use Rattle.lay_tree.specs.reader.Exprs.{ExprWithin, operand_ends, operand, operands, targets_of, value_of, one_type}
-use Rattle.lay_tree.specs.reader.Loops.{Read, ◌>>=◌, passed, nodes, deepest, repeat}
+use Rattle.lay_tree.specs.reader.Loops.{nodes, deepest}
 use Rattle.lay_tree.specs.declared.exprs.Expr.{Expr}
-use Rattle.lay_tree.specs.declared.exprs.Place.{Place}
 use Rattle.lay_tree.specs.declared.operators.Op.{Op}
 use Rattle.lay_tree.specs.declared.operators.Op.TheVariants as op
 use Rattle.lay_tree.specs.declared.types.Ty.{Ty}
@@ -24,7 +22,6 @@ use Rattle.lay_tree.specs.declared.types.TypePlace.TheVariants.{NoBounds}
 use Rattle.lay_tree.proofs.Fronts.{one_front, one_shorter}
 use Rattle.lay_tree.proofs.Parts.{Rows, bit_alone, behind_blank, before_blank}
 use Rattle.lay_tree.proofs.nodes.ExprsLaws.{behind_op, before_op as target_of}
-use Rattle.lay_tree.proofs.reader.Exact.{IsRead}
 use Rattle.lay_tree.proofs.reader.ExprHeadsJumps.{plain_follows}
 use Rattle.lay_tree.proofs.reader.ExprOperators.{AtOp, at_op, not_at_level, no_as, as_there, op_tail}
 use Rattle.lay_tree.proofs.reader.ExprOperatorsLoops.{NodeTurn, NodesRead, nodes_repeat}
@@ -65,9 +62,11 @@ operands_spelled depth (y ∷ ys) ts rest s =
     let at = s.0 in
     let blank = s.2 in
     let operand = blank.2 in
-    let here = blank_left at blank.0 blank.1 in
-    (operand.0, (at, bit_alone (Operator (op_text y.0)) ts at s.1, subst (λ us. Spells (about_expr y.1).form depth us operand.0) (sym here) operand.1),
-    operands_spelled depth ys operand.0 rest operand.2)
+    let here = blank_left at blank.0 blank.1 in (
+      operand.0,
+      (at, bit_alone (Operator (op_text y.0)) ts at s.1, subst (λ us. Spells (about_expr y.1).form depth us operand.0) (sym here) operand.1),
+      operands_spelled depth ys operand.0 rest operand.2,
+    )
 
 -- an operator of a level, or none
 abbrev pub at_level : ℕ → Tokens → Bool
@@ -89,9 +88,15 @@ module _ (depth : ℕ) (within : ExprWithin) (reads : ExprReads depth within) (l
   operand_turn y ts mid l s w f e =
       let at = s.0 in
       let a = at_op level y.0 ts at l s.1 in
-      let r = reads.exprs (plain (suc level) no_struct) y.1 at mid s.2 w f in
-      (r.0, r.1, (eq-eqb (strength ts) (suc level) a.strength, operand_read y ts at mid r.0 a r.2 e,
-      omega (arith, a.less, shorter (about_expr y.1).form depth at mid s.2)))
+      let r = reads.exprs (plain (suc level) no_struct) y.1 at mid s.2 w f in (
+        r.0,
+        r.1,
+        (
+          eq-eqb (strength ts) (suc level) a.strength,
+          operand_read y ts at mid r.0 a r.2 e,
+          omega (arith, a.less, shorter (about_expr y.1).form depth at mid s.2),
+        ),
+      )
 
   pub operand_turns : (y : Op × Expr) (ys : List (Op × Expr)) (ts rest : Tokens) → Rows (OperandSpelled depth) (y ∷ ys) ts rest
       → operands_placed level no_struct (map behind_op (y ∷ ys)) ≡ true → may_chain level (map behind_op (y ∷ ys)) ≡ true
@@ -123,9 +128,11 @@ module _ (depth : ℕ) (within : ExprWithin) (reads : ExprReads depth within) (l
       let here = subst (λ d. stands F (before_op (suc level) no_struct false d) ≡ true) (sym angle) there in
       let ends : operand_ends level no_struct F mid ≡ true =
       rw (eq-eqb (strength mid) (suc level) a.strength) (and_from (not (level == 4)) (stands F (before_op (suc level) no_struct false (is_angle mid))) c here) in
-      let follow = plain_follows F (suc level) no_struct mid (le-leb (strength mid) (suc level) (omega (arith, a.strength))) tail in
-      (mid, operand_turn y ts mid q.0 r.1 (before_plain F (suc level) no_struct (is_angle_op z.0) q.1) follow ends,
-      operand_turns z more mid rest next p.1 (chain_on more c) s t)
+      let follow = plain_follows F (suc level) no_struct mid (le-leb (strength mid) (suc level) (omega (arith, a.strength))) tail in (
+        mid,
+        operand_turn y ts mid q.0 r.1 (before_plain F (suc level) no_struct (is_angle_op z.0) q.1) follow ends,
+        operand_turns z more mid rest next p.1 (chain_on more c) s t,
+      )
     where
       chain_on : (xs : List (Op × Expr)) → not (level == 4) ≡ true → may_chain level (map behind_op (z ∷ xs)) ≡ true
       chain_on [] h = refl
@@ -244,9 +251,15 @@ module _ (depth : ℕ) (within : ExprWithin) (reads : ExprReads depth within) wh
   type_turn : (x : Ty) (ts mid : Tokens) → TypeSpelled depth x ts mid → good_at NoBounds (about_type x) ≡ true → Clear (about_type x).told.refuses mid → TypeTurn x ts mid
   type_turn x ts mid s g f =
       let at = s.0 in
-      let r = reads.kinds.types NoBounds x at mid s.2 g f in
-      (r.0, r.1, (as_there ts at s.1, type_read x r.0 ts at mid s.1 r.2,
-      omega (arith, one_shorter Ident (codes "as") ts at s.1, shorter (about_type x).told.form depth at mid s.2)))
+      let r = reads.kinds.types NoBounds x at mid s.2 g f in (
+        r.0,
+        r.1,
+        (
+          as_there ts at s.1,
+          type_read x r.0 ts at mid s.1 r.2,
+          omega (arith, one_shorter Ident (codes "as") ts at s.1, shorter (about_type x).told.form depth at mid s.2),
+        ),
+      )
 
   type_turns : (x : Ty) (xs : List Ty) (ts rest : Tokens) → Rows (TypeSpelled depth) (x ∷ xs) ts rest → types_good (map about_type (x ∷ xs)) ≡ true
       → may_follow (type_refuses (map about_type (x ∷ xs))) rest ≡ true → Rows TypeTurn (x ∷ xs) ts rest

@@ -1,11 +1,9 @@
 -- What an operand ends in: an expression of level 12 or more that isn't open at its end ends as paths and fields do.
 use Rattle.std.proofs.Common.{◌≡◌, ℕ, zero, suc, Bool, true, false, not, ◌&&◌, nat_le, List, [], ◌∷◌, map, Option, option_map, Some, None, refl, sym, ap, subst, ◌∙◌, arith}
-use Rattle.std.specs.List.{list_all}
 use Rattle.std.proofs.lemmas.Bool.{and_parts, or_parts, not-true, leb-true}
 use Rattle.lay_form.specs.Form.{Done, Part}
 use Rattle.lay_form.specs.Spelled.{Spells}
 use Rattle.lay_tree.specs.Ahead.{Tokens}
-use Rattle.lay_tree.specs.Follow.{Begin}
 use Rattle.lay_tree.specs.nodes.Exprs.{ExprFacts, StepFacts, Tail, is_open, is_typed, placed, stands, StepKind, OfField, tail_of_steps, tail_of_jump, prefixes_form, level_of_chain, next_is_angle, is_chain_level, may_chain, operands_placed, is_prefix_lead, inside, level_of, tail_of, within_of, expr_facts, about_expr, about_field_expr, about_step}
 use Rattle.lay_tree.specs.nodes.Facts.{Facts}
 use Rattle.lay_tree.specs.nodes.Places.{plain, is_part, part_if, before_op}

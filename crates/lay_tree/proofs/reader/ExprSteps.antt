@@ -1,9 +1,7 @@
 -- Steps behind a base: each is read where it is spelled, and told by its first token.
-use Rattle.std.proofs.Common.{◌≡◌, ℕ, suc, ◌≤◌, ◌<◌, max, Bool, true, false, not, ◌&&◌, ◌||◌, List, [], ◌∷◌, map, length, drop, codes, Option, Some, None, inl, inr, refl, sym, ap, subst, ◌∙◌, arith, if◌then◌else◌, nat_le}
-use Rattle.std.specs.List.{list_all}
+use Rattle.std.proofs.Common.{◌≡◌, ℕ, suc, ◌≤◌, ◌<◌, max, Bool, true, false, not, ◌&&◌, ◌||◌, List, [], ◌∷◌, map, length, drop, codes, Option, Some, None, inl, inr, refl, sym, ap, subst, ◌∙◌, arith, nat_le}
 use Rattle.std.specs.Str.{chars}
 use Rattle.std.proofs.lemmas.Bool.{and_parts, or_parts, not-true, false_from_ne_true}
-use Rattle.std.proofs.lemmas.List.Folds.{list_all-map}
 use Rattle.lay_piece.specs.Forms.{opening, closing}
 use Rattle.lay_piece.specs.Number.{is_index}
 use Rattle.lay_piece.specs.Word.{class_of}
@@ -12,21 +10,20 @@ use Rattle.lay_piece.specs.declared.kind.Delim.TheVariants.{Paren, Bracket}
 use Rattle.lay_piece.specs.declared.kind.Kind.TheVariants.{Ident, RawIdent, Int, Opener, Closer}
 use Rattle.lay_token.specs.Operators.{is_op}
 use Rattle.lay_form.specs.Form.{Operator, Form, Done, Part, keyword, opener, closer}
-use Rattle.lay_form.specs.Notation.{Z, Z-, piece, each, comma_gap, last_break, comma_list}
+use Rattle.lay_form.specs.Notation.{Z, Z-, piece, each, comma_gap, last_break}
 use Rattle.lay_form.specs.Spelled.{IsOne, IsOperator, Spells}
 use Rattle.lay_form.proofs.FormLaws.{shorter}
 use Rattle.lay_tree.specs.Ahead.{Tokens, first, tail, is_keyword, is_opener, opens, closes, opens_args_late}
 use Rattle.lay_tree.specs.Operators.{is_dot_or_try, begins_step}
-use Rattle.lay_tree.specs.Words.{is_plain, is_name, leaf_of, colons}
+use Rattle.lay_tree.specs.Words.{is_plain, is_name, leaf_of}
 use Rattle.lay_tree.specs.Follow.{may_follow}
-use Rattle.lay_tree.specs.nodes.Exprs.{ExprFacts, StepKind, OfField, OfTupleIndex, OfMethod, OfCall, OfIndex, OfTry, OfAwait, StepFacts, placed, follows, expr_forms, all_free, is_field, is_tuple_index, is_method, is_call, is_dotted, generics_form, args_form, are_steps, tail_of_steps, methods, break_if, steps_form, group_if, postfix_form, step_facts, about_expr, about_step}
-use Rattle.lay_tree.specs.nodes.Facts.{Facts, all_good, forms}
+use Rattle.lay_tree.specs.nodes.Exprs.{ExprFacts, StepKind, OfField, OfTupleIndex, OfMethod, OfCall, OfIndex, OfTry, OfAwait, StepFacts, expr_forms, all_free, is_field, is_tuple_index, is_method, is_call, is_dotted, generics_form, args_form, are_steps, tail_of_steps, methods, break_if, steps_form, group_if, postfix_form, step_facts, about_expr, about_step}
+use Rattle.lay_tree.specs.nodes.Facts.{all_good}
 use Rattle.lay_tree.specs.nodes.Places.{FREE}
-use Rattle.lay_tree.specs.nodes.Types.{ArgsFacts, angle_form, about_arg, about_args}
+use Rattle.lay_tree.specs.nodes.Types.{ArgsFacts, about_arg}
 use Rattle.lay_tree.specs.reader.Exprs.{ExprWithin, free_elements, method_by, member_by, is_index_token, dot_step, one_step, begins_tuple_index, postfix_expr}
-use Rattle.lay_tree.specs.reader.Loops.{Got, Read, ◌>>=◌, passed, nodes, deepest, elements}
-use Rattle.lay_tree.specs.reader.Types.{Within, angle, angled, one_arg, literal, no_args, args_by}
-use Rattle.lay_tree.specs.reader.Words.{name}
+use Rattle.lay_tree.specs.reader.Loops.{Got, Read, nodes, deepest}
+use Rattle.lay_tree.specs.reader.Types.{Within, angle, angled, one_arg, no_args, args_by}
 use Rattle.lay_tree.specs.declared.exprs.Expr.{Expr}
 use Rattle.lay_tree.specs.declared.exprs.Expr.TheOpen.{Step-F}
 use Rattle.lay_tree.specs.declared.exprs.Expr.TheVariants as expr
@@ -34,31 +31,24 @@ use Rattle.lay_tree.specs.declared.exprs.Step.{Step}
 use Rattle.lay_tree.specs.declared.exprs.Step.TheVariants as step
 use Rattle.lay_tree.specs.declared.token.Name.{Name}
 use Rattle.lay_tree.specs.declared.types.Arg.{Arg}
-use Rattle.lay_tree.specs.declared.types.Arg.TheOpen.{Args-F}
 use Rattle.lay_tree.specs.declared.types.Arg.TheViews as views
 use Rattle.lay_tree.specs.declared.types.Args.{Args}
 use Rattle.lay_tree.specs.declared.types.Args.TheVariants as args
 use Rattle.lay_tree.specs.declared.types.PathStyle.TheVariants.{Code}
-use Rattle.lay_tree.proofs.Fronts.{keyword_one, one_front, one_test, one_no_op, one_shorter, op_shorter, op_test, other_op, opener_passed, closer_passed, opener_kind}
-use Rattle.lay_tree.proofs.Parts.{bit_alone, piece_bit, part_alone, word_kind, leaf_alone, leaf_parts, Rows, SpelledAt, GoodAt}
+use Rattle.lay_tree.proofs.Fronts.{keyword_one, one_front, one_no_op, one_shorter, op_shorter, op_test, other_op, opener_passed, closer_passed}
+use Rattle.lay_tree.proofs.Parts.{bit_alone, piece_bit, part_alone, word_kind, leaf_alone, leaf_parts, Rows, SpelledAt}
 use Rattle.lay_tree.proofs.Steps.{chosen, bind_some, read_same}
 use Rattle.lay_tree.proofs.nodes.ExprsLaws.{StepView, IsFieldStep, IsTupleIndexStep, IsMethodStep, IsApplyStep, IsIndexStep, IsTryStep, IsAwaitStep, step_view, step_field_is, step_tuple_index_is, step_method_is, step_apply_is, step_index_is, step_try_is, step_await_is}
 use Rattle.lay_tree.proofs.nodes.TypesLaws.{args_angle_is}
 use Rattle.lay_tree.proofs.reader.Exact.{IsRead}
-use Rattle.lay_tree.proofs.reader.ExprFronts.{placed_begins}
-use Rattle.lay_tree.proofs.reader.ExprLeads.{expr_no_closer}
 use Rattle.lay_tree.proofs.reader.ExprHeadsLists.{free_read, free_elements_read}
-use Rattle.lay_tree.proofs.reader.ExprOperators.{dot_front, try_front, paren_front, bracket_front, opener_no_dot}
+use Rattle.lay_tree.proofs.reader.ExprOperators.{dot_front, try_front, paren_front, bracket_front}
 use Rattle.lay_tree.proofs.reader.ExprOperatorsLoops.{NodeTurn, nodes_repeat}
-use Rattle.lay_tree.proofs.reader.ExprQuiet.{ends_follow, comma_ends_expr, closer_ends_expr}
+use Rattle.lay_tree.proofs.reader.ExprQuiet.{closer_ends_expr}
 use Rattle.lay_tree.proofs.reader.ExprReads.{ExprReads}
-use Rattle.lay_tree.proofs.reader.Loops.{Ends}
-use Rattle.lay_tree.proofs.reader.Needs.{list_complete}
-use Rattle.lay_tree.proofs.reader.TypesBegins.{list_front, list_opens}
-use Rattle.lay_tree.proofs.reader.TypesComplete.{Reads, args_read}
+use Rattle.lay_tree.proofs.reader.TypesComplete.{args_read}
 use Rattle.lay_tree.proofs.reader.TypesCompleteParts.{literal_complete}
 use Rattle.lay_tree.proofs.reader.TypesFronts.{Clear}
-use Rattle.lay_tree.proofs.reader.TypesLists.{forms_of}
 use Rattle.lay_tree.proofs.reader.Words.{GoodName, name_complete}
 
 -- ---- how a step begins
