@@ -4,6 +4,7 @@ ghost use Rattle.lay_token.specs.declared.token.Token.{Token};
 ghost use Rattle.lay_tree.specs.Reading.{SpellsFile};
 ghost use Rattle.lay_tree.specs.nodes.Attr.{about_attr};
 ghost use Rattle.lay_tree.specs.nodes.Call.{about_call, about_group};
+ghost use Rattle.lay_tree.specs.nodes.Exprs.{ExprFront, about_expr};
 ghost use Rattle.lay_tree.specs.nodes.Facts.{Front, ToldFront, by_itself};
 ghost use Rattle.lay_tree.specs.nodes.Functions.{about_fn_head};
 ghost use Rattle.lay_tree.specs.nodes.Generics.{GenericsAt, GenericsFront};
@@ -18,6 +19,7 @@ ghost use Rattle.lay_tree.specs.nodes.Where.{WheresAt, WheresFront};
 ghost use Rattle.lay_tree.specs.reader.Attr.{attribute};
 ghost use Rattle.lay_tree.specs.reader.Call.{call};
 ghost use Rattle.lay_tree.specs.reader.Exact.{Exact, needless};
+ghost use Rattle.lay_tree.specs.reader.Exprs.{expr_at};
 ghost use Rattle.lay_tree.specs.reader.Functions.{fn_head, head_at};
 ghost use Rattle.lay_tree.specs.reader.Generics.{generics_at};
 ghost use Rattle.lay_tree.specs.reader.Heads.{alias, enum, extern_crate, impl_head, struct, trait_head, union, value_head};
@@ -30,6 +32,8 @@ ghost use Rattle.lay_tree.specs.reader.Use.{use_at};
 ghost use Rattle.lay_tree.specs.reader.Vis.{visibility};
 ghost use Rattle.lay_tree.specs.reader.Where.{wheres_at};
 ghost use Rattle.lay_tree.specs.declared.attr.Attr.{Attr};
+ghost use Rattle.lay_tree.specs.declared.exprs.Expr.{Expr};
+ghost use Rattle.lay_tree.specs.declared.exprs.Place.{Place};
 ghost use Rattle.lay_tree.specs.declared.file.File.{File};
 ghost use Rattle.lay_tree.specs.declared.functions.FnHead.{FnHead};
 ghost use Rattle.lay_tree.specs.declared.generics.Generics.{Generics};
@@ -71,6 +75,7 @@ pub fn reading_law()
     ensures generics { Exact generics_at (λ (x : Generics × Bool). GenericsAt x.1 x.0) }
     ensures wheres { Exact wheres_at (λ (x : Wheres × Bool). WheresAt x.1 x.0) }
     ensures pats { (place : PatPlace) → Exact (pat_at place) (λ (x : Pat). PatFront place (about_pat x)) }
+    ensures exprs { (place : Place) → Exact (expr_at place) (λ (x : Expr). ExprFront place (about_expr x)) }
     ensures use_trees { Exact use_at (λ (x : UseTree). Front (about_use x)) }
     ensures visibilities { Exact (needless visibility) (λ (x : Vis). ToldFront (about_vis x)) }
     ensures extern_crates { Exact (needless extern_crate) (λ (x : ExternCrate). ToldFront (headed (about_extern_crate x))) }
@@ -111,6 +116,8 @@ pub fn node_law()
         → WheresFront node ts n depth → WheresFront other ts m depth → (node ≡ other) × (n ≡ m) }
     ensures one_pat { (node other : Pat) (place : PatPlace) (ts : List Token) (n m depth : ℕ)
         → PatFront place (about_pat node) ts n depth → PatFront place (about_pat other) ts m depth → (node ≡ other) × (n ≡ m) }
+    ensures one_expr { (node other : Expr) (place : Place) (ts : List Token) (n m depth : ℕ)
+        → ExprFront place (about_expr node) ts n depth → ExprFront place (about_expr other) ts m depth → (node ≡ other) × (n ≡ m) }
     ensures one_use { (node other : UseTree) (ts : List Token) (n m depth : ℕ)
         → Front (about_use node) ts n depth → Front (about_use other) ts m depth → (node ≡ other) × (n ≡ m) }
     ensures one_vis { (node other : Vis) (ts : List Token) (n m depth : ℕ)

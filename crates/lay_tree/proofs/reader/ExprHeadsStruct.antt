@@ -99,29 +99,18 @@ module _ (depth : ℕ) (within : ExprWithin) (reads : ExprReads depth within) wh
       → field_by within attrs (index ts) ts ≡ Some ((field.Short attrs n, 0), rest)
   short_by attrs n ts rest i h c = rw (i, h, c) refl
 
-<<<<<<< HEAD
   attrs_parts : (attrs : List Attr) (f : Form) (ts rest : Tokens) → Spells (behind_attrs (map attr_form attrs) f) depth ts rest
       → are_attrs false attrs ≡ true
-=======
-  attrs_parts : (attrs : List Attr) (f : Form) (ts rest : Tokens) → Spells (behind_attrs (map attr_form attrs) f) depth ts rest → are_attrs false attrs ≡ true
->>>>>>> 9f9b27265cfa35f68b75dce59910682b424f9be5
       → (mid : Tokens) × Rows (GoodAt (about_attr false) depth) attrs ts mid × Spells f depth mid rest
   attrs_parts attrs f ts rest s g =
       let r = behind_attrs_rows (map attr_form attrs) f depth ts rest s in (r.0, attrs_rows false depth attrs ts r.0 r.1 g, r.2)
 
-<<<<<<< HEAD
   field_parts : (f : FieldExpr) (ts rest : Tokens) → Spells (about_field_expr f).form depth ts rest → (about_field_expr f).good ≡ true
       → FieldParts f ts rest
   field_parts f ts rest s g = by f (field_expr_view f) s g
     where
       by : (f : FieldExpr) → FieldExprView f → Spells (about_field_expr f).form depth ts rest → (about_field_expr f).good ≡ true
           → FieldParts f ts rest
-=======
-  field_parts : (f : FieldExpr) (ts rest : Tokens) → Spells (about_field_expr f).form depth ts rest → (about_field_expr f).good ≡ true → FieldParts f ts rest
-  field_parts f ts rest s g = by f (field_expr_view f) s g
-    where
-      by : (f : FieldExpr) → FieldExprView f → Spells (about_field_expr f).form depth ts rest → (about_field_expr f).good ≡ true → FieldParts f ts rest
->>>>>>> 9f9b27265cfa35f68b75dce59910682b424f9be5
       by _ (IsNamed attrs n x) t h =
           let u = subst (λ (F : Facts). Spells F.form depth ts rest) (field_expr_named_is attrs n x) t in
           let good = subst (λ (F : Facts). F.good ≡ true) (field_expr_named_is attrs n x) h in
@@ -138,17 +127,12 @@ module _ (depth : ℕ) (within : ExprWithin) (reads : ExprReads depth within) wh
             less = omega (arith, one_shorter (word_kind n.raw) n.text mid l.0 l.1, shorter (value_form x) depth l.0 rest l.2);
             read = λ e.
                 let v = value_read x l.0 rest l.2 goods.1 e in
-<<<<<<< HEAD
                 let one = v.2 in (
                   one.0,
                   one.1,
                   named_by attrs n x one.0 mid l.0 v.0 rest (word_no_index n.raw n.text mid l.0 l.1)
                       (name_complete n mid l.0 (l.1, named.1)) v.1 one.2,
                 );
-=======
-                let one = v.2 in
-                (one.0, one.1, named_by attrs n x one.0 mid l.0 v.0 rest (word_no_index n.raw n.text mid l.0 l.1) (name_complete n mid l.0 (l.1, named.1)) v.1 one.2);
->>>>>>> 9f9b27265cfa35f68b75dce59910682b424f9be5
           }
       by _ (IsNumbered attrs number x) t h =
           let u = subst (λ (F : Facts). Spells F.form depth ts rest) (field_expr_numbered_is attrs number x) t in
@@ -183,7 +167,6 @@ module _ (depth : ℕ) (within : ExprWithin) (reads : ExprReads depth within) wh
             rows = r.1;
             front = word_front n.raw n.text mid rest o goods.1;
             less = one_shorter (word_kind n.raw) n.text mid rest o;
-<<<<<<< HEAD
             read = λ e. (
               0,
               omega arith,
@@ -194,12 +177,6 @@ module _ (depth : ℕ) (within : ExprWithin) (reads : ExprReads depth within) wh
 
   field_read : (f : FieldExpr) (ts rest : Tokens) → Spells (about_field_expr f).form depth ts rest → (about_field_expr f).good ≡ true
       → Ends Brace rest
-=======
-            read = λ e. (0, omega arith, short_by attrs n mid rest (word_no_index n.raw n.text mid rest o) (name_complete n mid rest (o, goods.1)) (ends_no_colon rest e));
-          }
-
-  field_read : (f : FieldExpr) (ts rest : Tokens) → Spells (about_field_expr f).form depth ts rest → (about_field_expr f).good ≡ true → Ends Brace rest
->>>>>>> 9f9b27265cfa35f68b75dce59910682b424f9be5
       → IsRead depth (one_field within) f ts rest
   unfolding one_field
   field_read f ts rest s g e =
@@ -220,7 +197,6 @@ module _ (depth : ℕ) (within : ExprWithin) (reads : ExprReads depth within) wh
   FieldsRead fs last ts rest = (ys : List (FieldExpr × ℕ)) × (nodes ys ≡ fs) × (deepest ys ≤ depth)
       × (open_elements begins_field (one_field within) ts ≡ Some ((ys, last), rest))
 
-<<<<<<< HEAD
   some_fields : (last : Bool) (f : FieldExpr) (fs : List FieldExpr) (ts mid end rest : Tokens)
       → all_good (map about_field_expr (f ∷ fs)) ≡ true
       → Spells (about_field_expr f).form depth ts mid → Spells (each comma_gap (map (λ y. (about_field_expr y).form) fs)) depth mid end
@@ -230,14 +206,6 @@ module _ (depth : ℕ) (within : ExprWithin) (reads : ExprReads depth within) wh
       (λ y us. Ends Brace us) depth field_read field_starts
       (λ y us at o h. (at, inl o)) last f fs ts mid end rest
       (sym (list_all-map (λ (x : Facts). x.good) about_field_expr (f ∷ fs)) ∙ g) one s ending
-=======
-  some_fields : (last : Bool) (f : FieldExpr) (fs : List FieldExpr) (ts mid end rest : Tokens) → all_good (map about_field_expr (f ∷ fs)) ≡ true
-      → Spells (about_field_expr f).form depth ts mid → Spells (each comma_gap (map (λ y. (about_field_expr y).form) fs)) depth mid end
-      → Ending begins_field (λ (y : FieldExpr) us. Ends Brace us) last (f ∷ fs) end rest → FieldsRead (f ∷ fs) last ts rest
-  some_fields last f fs ts mid end rest g one s ending =
-      open_read begins_field (one_field within) (λ y. (about_field_expr y).form) (λ y. (about_field_expr y).good) (λ y us. Ends Brace us) depth field_read field_starts
-      (λ y us at o h. (at, inl o)) last f fs ts mid end rest (sym (list_all-map (λ (x : Facts). x.good) about_field_expr (f ∷ fs)) ∙ g) one s ending
->>>>>>> 9f9b27265cfa35f68b75dce59910682b424f9be5
 
   no_fields : (ts : Tokens) → begins_field ts ≡ false → FieldsRead [] true ts ts
   no_fields ts h = ([], refl, omega arith, open_none begins_field (one_field within) ts h)
@@ -249,15 +217,11 @@ module _ (depth : ℕ) (within : ExprWithin) (reads : ExprReads depth within) wh
   BaseRead b last ts rest = IsRead depth (base within last) b ts rest
 
   close_no_field : (ts rest : Tokens) → Closed Brace ts rest → (begins_field ts ≡ false) × (is_op (codes "..") ts ≡ false)
-<<<<<<< HEAD
   close_no_field ts rest o = (
     rw (closer_first Brace ts rest o).0 refl,
     one_no_op (codes "..") (Closer Brace)
         (closing Brace ∷ []) ts rest refl o,
   )
-=======
-  close_no_field ts rest o = (rw (closer_first Brace ts rest o).0 refl, one_no_op (codes "..") (Closer Brace) (closing Brace ∷ []) ts rest refl o)
->>>>>>> 9f9b27265cfa35f68b75dce59910682b424f9be5
 
   dots_no_field : (ts : Tokens) → is_op (codes "..") ts ≡ true → begins_field ts ≡ false
   dots_no_field ts h = rw (h, or_true (first (closes Brace) ts)) refl
@@ -281,12 +245,8 @@ module _ (depth : ℕ) (within : ExprWithin) (reads : ExprReads depth within) wh
   base_is (Some x) = refl
 
   some_base : (x : Option Expr) (ts at rest : Tokens) → Spells (dotted_form (option_map about_expr x)) depth ts at
-<<<<<<< HEAD
       → base_placed (Some (option_map about_expr x)) ≡ true → Closed Brace at rest
       → (is_op (codes "..") ts ≡ true) × BaseRead (Some x) true ts at
-=======
-      → base_placed (Some (option_map about_expr x)) ≡ true → Closed Brace at rest → (is_op (codes "..") ts ≡ true) × BaseRead (Some x) true ts at
->>>>>>> 9f9b27265cfa35f68b75dce59910682b424f9be5
   unfolding base
   some_base None ts at rest s g o =
       let d : IsOperator (codes "..") ts at = piece_bit (Operator (codes "..")) depth ts at s in
@@ -305,12 +265,8 @@ module _ (depth : ℕ) (within : ExprWithin) (reads : ExprReads depth within) wh
   InBraces fs b ts rest = (inside : Tokens) × IsOne (Opener Brace) (opening Brace ∷ []) ts inside
       × ((p : Path) (n : ℕ) → n ≤ depth → IsRead (suc depth) (struct_expr within (p, n)) (expr.Struct p fs b) inside rest)
 
-<<<<<<< HEAD
   braces_made : (fs : List FieldExpr) (b : Option (Option Expr)) (last : Bool) (ts end at rest : Tokens) → FieldsRead fs last ts end
       → BaseRead b last end at
-=======
-  braces_made : (fs : List FieldExpr) (b : Option (Option Expr)) (last : Bool) (ts end at rest : Tokens) → FieldsRead fs last ts end → BaseRead b last end at
->>>>>>> 9f9b27265cfa35f68b75dce59910682b424f9be5
       → Closed Brace at rest → (p : Path) (n : ℕ) → n ≤ depth → IsRead (suc depth) (struct_expr within (p, n)) (expr.Struct p fs b) ts rest
   unfolding struct_expr
   braces_made fs b last ts end at rest f r o p n le =
@@ -326,27 +282,18 @@ module _ (depth : ℕ) (within : ExprWithin) (reads : ExprReads depth within) wh
   abbrev field_forms : List FieldExpr → List Form
   field_forms fs = map (λ (y : FieldExpr). (about_field_expr y).form) fs
 
-<<<<<<< HEAD
   without_base : (fs : List FieldExpr) (ts rest : Tokens) → Spells (braces true (field_forms fs)) depth ts rest
       → all_good (map about_field_expr fs) ≡ true
-=======
-  without_base : (fs : List FieldExpr) (ts rest : Tokens) → Spells (braces true (field_forms fs)) depth ts rest → all_good (map about_field_expr fs) ≡ true
->>>>>>> 9f9b27265cfa35f68b75dce59910682b424f9be5
       → InBraces fs None ts rest
   without_base [] ts rest s g =
       let bits = behind_blank (opener Brace ∷ closer Brace ∷ []) ts s.0 s.1 in
       let inside = bits.0 in
-<<<<<<< HEAD
       let close : Closed Brace inside rest = subst (λ us. Closed Brace inside us) s.2 (bit_alone (closer Brace) inside s.0 bits.2) in (
         inside,
         bits.1,
         braces_made [] None true inside inside inside rest (no_fields inside (close_no_field inside rest close).0)
             (no_base true inside rest close) close,
       )
-=======
-      let close : Closed Brace inside rest = subst (λ us. Closed Brace inside us) s.2 (bit_alone (closer Brace) inside s.0 bits.2) in
-      (inside, bits.1, braces_made [] None true inside inside inside rest (no_fields inside (close_no_field inside rest close).0) (no_base true inside rest close) close)
->>>>>>> 9f9b27265cfa35f68b75dce59910682b424f9be5
   without_base (f ∷ fs) ts rest s g =
       let inside = s.0 in
       let row = s.2.1 in
@@ -357,7 +304,6 @@ module _ (depth : ℕ) (within : ExprWithin) (reads : ExprReads depth within) wh
       let n = close_no_field last.0 rest close in
       elim last.1 [
         | inl e ↦
-<<<<<<< HEAD
             let no_comma : first (is_mark (codes ",")) last.0 ≡ false =
             rw (one_front (Closer Brace) (closing Brace ∷ []) last.0 rest close).1 refl in
             let r = some_fields false f fs inside row.0 more.0 last.0 g row.1 more.1
@@ -375,15 +321,6 @@ module _ (depth : ℕ) (within : ExprWithin) (reads : ExprReads depth within) wh
               braces_made (f ∷ fs) None true inside last.0 last.0 rest r
                   (no_base true last.0 rest close) close,
             )
-=======
-            let no_comma : first (is_mark (codes ",")) last.0 ≡ false = rw (one_front (Closer Brace) (closing Brace ∷ []) last.0 rest close).1 refl in
-            let r = some_fields false f fs inside row.0 more.0 last.0 g row.1 more.1 (e, no_comma, last_of_all (Ends Brace) (f ∷ fs) last.0 (rest, inr close)) in
-            (inside, brace_opens ts inside s.1, braces_made (f ∷ fs) None false inside last.0 last.0 rest r (no_base false last.0 rest close) close)
-        | inr b ↦
-            let here : IsOne Punct (codes ",") more.0 last.0 = bit_alone (Fixed Punct (codes ",")) more.0 last.0 b in
-            let r = some_fields true f fs inside row.0 more.0 last.0 g row.1 more.1 (here, n.0) in
-            (inside, brace_opens ts inside s.1, braces_made (f ∷ fs) None true inside last.0 last.0 rest r (no_base true last.0 rest close) close)
->>>>>>> 9f9b27265cfa35f68b75dce59910682b424f9be5
       ]
 
   with_base : (fs : List FieldExpr) (x : Option Expr) (ts rest : Tokens)
@@ -395,7 +332,6 @@ module _ (depth : ℕ) (within : ExprWithin) (reads : ExprReads depth within) wh
       let at = row.0 in
       let more = row.2 in
       let end = s.2.0 in
-<<<<<<< HEAD
       let close : Closed Brace at rest =
       subst (λ us. Closed Brace us rest) (sym (more.1 ∙ more.2)) (piece_bit (closer Brace) depth end rest s.2.2) in
       let b = some_base x inside at rest row.1 k close in (
@@ -404,63 +340,40 @@ module _ (depth : ℕ) (within : ExprWithin) (reads : ExprReads depth within) wh
         braces_made [] (Some x) true inside inside at rest
             (no_fields inside (dots_no_field inside b.0)) b.1 close,
       )
-=======
-      let close : Closed Brace at rest = subst (λ us. Closed Brace us rest) (sym (more.1 ∙ more.2)) (piece_bit (closer Brace) depth end rest s.2.2) in
-      let b = some_base x inside at rest row.1 k close in
-      (inside, brace_opens ts inside s.1, braces_made [] (Some x) true inside inside at rest (no_fields inside (dots_no_field inside b.0)) b.1 close)
->>>>>>> 9f9b27265cfa35f68b75dce59910682b424f9be5
   with_base (f ∷ fs) x ts rest s g k =
       let inside = s.0 in
       let row = s.2.1 in
       let more = row.2 in
       let end = s.2.0 in
       let l = last_part (field_forms fs) (dotted_form (option_map about_expr x)) depth row.0 more.0 more.1 in
-<<<<<<< HEAD
       let close : Closed Brace more.0 rest =
       subst (λ us. Closed Brace us rest) (sym more.2) (piece_bit (closer Brace) depth end rest s.2.2) in
-=======
-      let close : Closed Brace more.0 rest = subst (λ us. Closed Brace us rest) (sym more.2) (piece_bit (closer Brace) depth end rest s.2.2) in
->>>>>>> 9f9b27265cfa35f68b75dce59910682b424f9be5
       let b = some_base x l.1 more.0 rest l.4 k close in
       let r = some_fields true f fs inside row.0 l.0 l.1 g row.1 l.2 (l.3, dots_no_field l.1 b.0) in
       (inside, brace_opens ts inside s.1, braces_made (f ∷ fs) (Some x) true inside l.1 more.0 rest r b.1 close)
 
   in_braces : (fs : List FieldExpr) (b : Option (Option Expr)) (ts rest : Tokens)
-<<<<<<< HEAD
       → Spells (braces (not (is_some (option_map (option_map about_expr) b)))
       (map (λ (F : Facts). F.form) (map about_field_expr fs) ++ base_form (option_map (option_map about_expr) b))) depth ts rest
-=======
-      → Spells (braces (not (is_some (option_map (option_map about_expr) b))) (map (λ (F : Facts). F.form) (map about_field_expr fs) ++ base_form (option_map (option_map about_expr) b))) depth ts rest
->>>>>>> 9f9b27265cfa35f68b75dce59910682b424f9be5
       → all_good (map about_field_expr fs) ≡ true → base_placed (option_map (option_map about_expr) b) ≡ true → InBraces fs b ts rest
   in_braces fs None ts rest s g k =
       let same : (map (λ (F : Facts). F.form) (map about_field_expr fs) ++ []) ≡ field_forms fs =
       append-nil (map (λ (F : Facts). F.form) (map about_field_expr fs)) ∙ forms_of (λ (F : Facts). F.form) about_field_expr fs in
       without_base fs ts rest (subst (λ hs. Spells (braces true hs) depth ts rest) same s) g
   in_braces fs (Some x) ts rest s g k =
-<<<<<<< HEAD
       let same : (map (λ (F : Facts). F.form) (map about_field_expr fs) ++ base_form
       (Some (option_map about_expr x))) ≡ field_forms fs ++ dotted_form (option_map about_expr x) ∷ [] =
       rw (base_is (option_map about_expr x))
       (ap (λ hs. hs ++ dotted_form (option_map about_expr x) ∷ []) (forms_of (λ (F : Facts). F.form) about_field_expr fs)) in
-=======
-      let same : (map (λ (F : Facts). F.form) (map about_field_expr fs) ++ base_form (Some (option_map about_expr x))) ≡ field_forms fs ++ dotted_form (option_map about_expr x) ∷ [] =
-      rw (base_is (option_map about_expr x)) (ap (λ hs. hs ++ dotted_form (option_map about_expr x) ∷ []) (forms_of (λ (F : Facts). F.form) about_field_expr fs)) in
->>>>>>> 9f9b27265cfa35f68b75dce59910682b424f9be5
       with_base fs x ts rest (subst (λ hs. Spells (braces false hs) depth ts rest) same s) g k
 
   -- ---- struct literals
 
   -- A path before a `{` is read, and what the braces hold behind it, where a struct literal may stand.
-<<<<<<< HEAD
   struct_there : (p : Path) (fs : List FieldExpr) (b : Option (Option Expr)) (ts mid rest : Tokens)
       → Spells (about_path p Code).form depth ts mid
       → (about_path p Code).good ≡ true → InBraces fs b mid rest
       → IsRead (suc depth) (head_by within false (Some ByPath)) (expr.Struct p fs b) ts rest
-=======
-  struct_there : (p : Path) (fs : List FieldExpr) (b : Option (Option Expr)) (ts mid rest : Tokens) → Spells (about_path p Code).form depth ts mid
-      → (about_path p Code).good ≡ true → InBraces fs b mid rest → IsRead (suc depth) (head_by within false (Some ByPath)) (expr.Struct p fs b) ts rest
->>>>>>> 9f9b27265cfa35f68b75dce59910682b424f9be5
   unfolding path_expr
   struct_there p fs b ts mid rest s g l =
       let o : IsOne (Opener Brace) (opening Brace ∷ []) mid l.0 = l.1 in

@@ -83,10 +83,7 @@ unfolding expr_lead_at
 first_is lead [] h = absurd (cc h)
 first_is lead (t ∷ ts) h = subst (Leads t.kind t.text (t ∷ ts)) h (lead_text t.kind t.text (t ∷ ts))
 
-<<<<<<< HEAD
 -- What each of these leads begins has its token at the front.
-=======
->>>>>>> 9f9b27265cfa35f68b75dce59910682b424f9be5
 pub paren_first : (ts : Tokens) → InText ts → expr_lead_at ts ≡ Some ByParen → IsBit (opener Paren) ts (tail ts)
 paren_first [] i h = absurd (first_is ByParen [] h)
 paren_first (t ∷ ts) i h = only_first (kind.Opener Paren) (opening Paren ∷ []) refl t ts i (first_is ByParen (t ∷ ts) h)

@@ -23,10 +23,7 @@ module _ (budget : ℕ) (within : ExprWithin) (sound : SoundExprWithin budget wi
   abbrev Left : Expr × ℕ → Tokens → Tokens → Type 0
   Left = LeftHeld no_struct starts
 
-<<<<<<< HEAD
   -- What begins an expression stands there as it is read, and operators may go on with it.
-=======
->>>>>>> 9f9b27265cfa35f68b75dce59910682b424f9be5
   pub head_sound : SoundStep (λ us. head_by within no_struct (expr_lead_at us) us) Left
   head_sound ts x rest t h = by (expr_lead_at ts) refl h
     where

@@ -42,10 +42,7 @@ module _ (no_struct starts : Bool) where
   abbrev Left : Expr × ℕ → Tokens → Tokens → Type 0
   Left = LeftHeld no_struct starts
 
-<<<<<<< HEAD
   -- a literal
-=======
->>>>>>> 9f9b27265cfa35f68b75dce59910682b424f9be5
   pub literal_head : SoundStep literal_expr Left
   literal_head ts x rest t h =
       let l = bind_some (literal is_literal_token ts) _ _ h in
@@ -56,10 +53,7 @@ module _ (no_struct starts : Bool) where
         s.1,
       )
 
-<<<<<<< HEAD
   -- a macro call
-=======
->>>>>>> 9f9b27265cfa35f68b75dce59910682b424f9be5
   pub call_head : SoundStep call_expr Left
   call_head ts x rest t h =
       let c = bind_some (call ts) _ _ h in
@@ -69,10 +63,7 @@ module _ (no_struct starts : Bool) where
         texts_behind ts c.0.1 (is_end (about_call c.0.0).form 0 ts c.0.1 s.0) t,
       )
 
-<<<<<<< HEAD
   -- `_`
-=======
->>>>>>> 9f9b27265cfa35f68b75dce59910682b424f9be5
   pub underscore_head : (ts at : Tokens) → IsOne kind.Underscore (codes "_") ts at → InText ts
       → Out Left ts ((expr.Underscore, 1), at)
   underscore_head ts at o t = (
@@ -112,10 +103,7 @@ module _ (no_struct starts : Bool) where
       made no_struct starts (about_expr (expr.Continue (Some l))) (Expr-F.Continue (Some l)) 0 ts rest (expr_continue_is (Some l))
       (at, (at, o, refl), label_leads (Some l) Done 0 at rest rest k refl) refl refl
 
-<<<<<<< HEAD
   -- `continue`, with a label or not
-=======
->>>>>>> 9f9b27265cfa35f68b75dce59910682b424f9be5
   pub continue_head : (ts at : Tokens) → IsOne kind.Ident (codes "continue") ts at → InText at → (x : Expr × ℕ) (rest : Tokens)
       → continue_expr at ≡ Some (x, rest) → Out Left ts (x, rest)
   unfolding continue_expr
@@ -147,10 +135,7 @@ module _ (no_struct starts : Bool) where
         made no_struct starts (about_expr (expr.Tuple (nodes all))) (Expr-F.Tuple (map about_expr (nodes all))) (deepest all) ts
         rest (expr_tuple_is (nodes all)) l.0 l.1 refl
 
-<<<<<<< HEAD
     -- what a `(` begins
-=======
->>>>>>> 9f9b27265cfa35f68b75dce59910682b424f9be5
     pub paren_head : (ts inside : Tokens) → IsBit (opener Paren) ts inside → InText inside → (x : Expr × ℕ) (rest : Tokens)
         → paren_expr within inside ≡ Some (x, rest) → Out Left ts (x, rest)
     unfolding paren_expr
@@ -228,10 +213,7 @@ module _ (no_struct starts : Bool) where
         made no_struct starts (about_expr (expr.Array (nodes xs))) (Expr-F.Array (map about_expr (nodes xs))) (deepest xs) ts rest
         (expr_array_is (nodes xs)) l.0 l.1 refl
 
-<<<<<<< HEAD
     -- what a `[` begins
-=======
->>>>>>> 9f9b27265cfa35f68b75dce59910682b424f9be5
     pub bracket_head : (ts inside : Tokens) → IsBit (opener Bracket) ts inside → InText inside → (x : Expr × ℕ) (rest : Tokens)
         → bracket_expr within inside ≡ Some (x, rest) → Out Left ts (x, rest)
     unfolding bracket_expr
@@ -325,10 +307,7 @@ module _ (no_struct starts : Bool) where
         free None l = no_label mid (about_expr y).lead k.2 l.1
         free (Some l) i = refl
 
-<<<<<<< HEAD
     -- `return`, with an operand or not
-=======
->>>>>>> 9f9b27265cfa35f68b75dce59910682b424f9be5
     pub return_head : (led : LedWithin within) (ts at : Tokens) → IsOne kind.Ident (codes "return") ts at → InText at
         → (x : Expr × ℕ) (rest : Tokens) → return_expr within no_struct at ≡ Some (x, rest) → Out Left ts (x, rest)
     unfolding return_expr
@@ -338,10 +317,7 @@ module _ (no_struct starts : Bool) where
         same_some (Out Left ts) ((expr.Return y.0.0.0, suc y.0.0.1), y.0.1) (x, rest) y.2
         (return_held y.0.0.0 y.0.0.1 ts at y.0.1 o s.0, s.1)
 
-<<<<<<< HEAD
     -- `break`, with a label and an operand or not
-=======
->>>>>>> 9f9b27265cfa35f68b75dce59910682b424f9be5
     pub break_head : (led : LedWithin within) (ts at : Tokens) → IsOne kind.Ident (codes "break") ts at → InText at
         → (x : Expr × ℕ) (rest : Tokens) → break_expr within no_struct at ≡ Some (x, rest) → Out Left ts (x, rest)
     unfolding break_expr

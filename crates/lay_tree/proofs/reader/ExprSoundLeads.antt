@@ -257,13 +257,9 @@ module _ (within : ExprWithin) where
       let begun = head_led place.no_struct (expr_lead_at ts) ts y.0 y.1 in
       let same = climbed_led place y.0.0 y.0.1 x.0 x.1 in
       elim (chosen (stands told place && root_follows told place x.0.1 && nat_le x.0.0.1 budget) _ _ _ x.2) [
-<<<<<<< HEAD
         | inl g ↦
             same_some (λ (s : (Expr × ℕ) × Tokens). expr_lead_at ts ≡ Some (about_expr s.0.0).lead) x.0 r g.1
             (begun ∙ ap Some (sym same))
-=======
-        | inl g ↦ same_some (λ (s : (Expr × ℕ) × Tokens). expr_lead_at ts ≡ Some (about_expr s.0.0).lead) x.0 r g.1 (begun ∙ ap Some (sym same))
->>>>>>> 9f9b27265cfa35f68b75dce59910682b424f9be5
         | inr g ↦ absurd (cc g.1)
       ]
 
@@ -272,10 +268,7 @@ abbrev pub LedWithin : ExprWithin → Type 0
 LedWithin within = (place : Place) (ts : Tokens) (r : (Expr × ℕ) × Tokens) → within.exprs place ts ≡ Some r
     → expr_lead_at ts ≡ Some (about_expr r.0.0).lead
 
-<<<<<<< HEAD
 -- What is read within a budget has the lead that the tokens begin with.
-=======
->>>>>>> 9f9b27265cfa35f68b75dce59910682b424f9be5
 pub expr_in_led : (budget : ℕ) (place : Place) (ts : Tokens) (r : (Expr × ℕ) × Tokens) → expr_in budget place ts ≡ Some r
     → expr_lead_at ts ≡ Some (about_expr r.0.0).lead
 unfolding expr_in

@@ -43,10 +43,7 @@ LeftHeld no_struct first x ts rest = IsLeft no_struct first (about_expr x.0) x.1
 
 -- ---- parts of what is held
 
-<<<<<<< HEAD
 -- what is held of what follows its root, of what follows what it ends in, and of what is within it
-=======
->>>>>>> 9f9b27265cfa35f68b75dce59910682b424f9be5
 pub root_held : (place : Place) (budget : ℕ) (x : ExprFacts) (n : ℕ) (ts rest : Tokens) → IsExpr place budget x n ts rest
     → root_follows x place rest ≡ true
 root_held place budget x n ts rest s = (and_parts (root_follows x place rest) (tail_follows x.tail place.no_struct rest) s.3).0

@@ -32,10 +32,7 @@ module _ (budget : ℕ) (within : ExprWithin) (sound : SoundExprWithin budget wi
   abbrev pub FreeList : Delim → List Expr × ℕ → Tokens → Tokens → Type 0
   FreeList d x ts rest = (xs : List (Expr × ℕ)) × (◌≡◌ {A = List Expr × ℕ} (nodes xs, deepest xs) x) × FreeRow d xs ts rest
 
-<<<<<<< HEAD
   -- What is read in delimiters stands there.
-=======
->>>>>>> 9f9b27265cfa35f68b75dce59910682b424f9be5
   pub free_sound : (d : Delim) → SoundStep (free_elements within (closes d)) (FreeList d)
   free_sound d ts x rest t h =
       let xs = bind_some (elements (closes d) (within.exprs FREE) ts) _ _ h in
@@ -49,10 +46,7 @@ module _ (budget : ℕ) (within : ExprWithin) (sound : SoundExprWithin budget wi
       Spells (comma_list true (opener d) (closer d) (expr_forms (map about_expr x.0))) x.1 ts rest
       × (all_free (map about_expr x.0) ≡ true)
 
-<<<<<<< HEAD
   -- Expressions in a row are spelled in their delimiters.
-=======
->>>>>>> 9f9b27265cfa35f68b75dce59910682b424f9be5
   pub row_spelled : (d : Delim) (xs : List (Expr × ℕ)) (ts inside rest : Tokens) → IsBit (opener d) ts inside
       → FreeRow d xs inside rest → FreeSpelled d (nodes xs, deepest xs) ts rest
   row_spelled d xs ts inside rest o r =
@@ -83,10 +77,7 @@ module _ (budget : ℕ) (within : ExprWithin) (sound : SoundExprWithin budget wi
   lead_free true ByBrace h = absurd (cc h)
   lead_free true _ h = refl
 
-<<<<<<< HEAD
   -- An operand that may be left out stands there as it is read.
-=======
->>>>>>> 9f9b27265cfa35f68b75dce59910682b424f9be5
   pub operand_sound : (led : LedWithin within) (level : ℕ) (no_struct : Bool) (ts : Tokens) (x : Option Expr × ℕ) (rest : Tokens)
       → InText ts → operand_if within level no_struct ts ≡ Some (x, rest)
       → Out (λ (y : Option Expr × ℕ). OperandHeld level no_struct y.0 y.1) ts (x, rest)

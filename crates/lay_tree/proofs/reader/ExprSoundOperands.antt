@@ -108,12 +108,8 @@ module _ (budget : ℕ) (within : ExprWithin) (sound : SoundExprWithin budget wi
       rw (eq-eqb (strength mid) (suc level) s.strong) refl in
       let both = and_parts (not (level == 4)) ends (sym e ∙ r.ended) in
       let stood = subst (λ b. stands told (before_op (suc level) no_struct false b) ≡ true) (angle_is y mid rest s) both.1 in
-<<<<<<< HEAD
       let inner = within_held told (plain (suc level) no_struct) r.held.2 in
       (both.0, left_placed told (suc level) no_struct false (is_angle_op y.0.0) stood inner)
-=======
-      (both.0, left_placed told (suc level) no_struct false (is_angle_op y.0.0) stood (within_held told (plain (suc level) no_struct) r.held.2))
->>>>>>> 9f9b27265cfa35f68b75dce59910682b424f9be5
 
   operands_good : (xs : List ((Op × Expr) × ℕ)) (ts rest : Tokens) → Rows OperandRow xs ts rest
       → operands_placed level no_struct (told_operands xs) ≡ true
@@ -158,10 +154,7 @@ module _ (budget : ℕ) (within : ExprWithin) (sound : SoundExprWithin budget wi
 
   -- ---- chains
 
-<<<<<<< HEAD
   -- operators of one level and their operands behind a first
-=======
->>>>>>> 9f9b27265cfa35f68b75dce59910682b424f9be5
   pub chain_stage : (level : ℕ) → is_chain_level level ≡ true → (lhs : Expr × ℕ) (begun ts : Tokens) → Left lhs begun ts
       → stands (about_expr lhs.0) (before_op (suc level) no_struct starts (is_angle ts)) ≡ true → strength ts ≡ suc level → InText ts
       → (x : Expr × ℕ) (rest : Tokens) → chain_expr within level no_struct lhs ts ≡ Some (x, rest) → Out Left begun (x, rest)
@@ -187,16 +180,11 @@ module _ (budget : ℕ) (within : ExprWithin) (sound : SoundExprWithin budget wi
       (operands_good budget within sound level no_struct xs ts end r.0) in
       let told_good : W (level_of_chain all) (next_is_angle all) ≡ true =
       subst (λ n. W n (next_is_angle all) ≡ true) (sym l.0) (subst (λ a. W level a ≡ true) (sym l.1) good) in
-<<<<<<< HEAD
       let spelled : Spells (Part told.form (operands_form all)) most begun end = (
         ts,
         raise told.form lhs.1 most begun ts (omega arith) k.0,
         operands_spelled budget within sound level no_struct most xs ts end (omega arith) r.0,
       ) in
-=======
-      let spelled : Spells (Part told.form (operands_form all)) most begun end =
-      (ts, raise told.form lhs.1 most begun ts (omega arith) k.0, operands_spelled budget within sound level no_struct most xs ts end (omega arith) r.0) in
->>>>>>> 9f9b27265cfa35f68b75dce59910682b424f9be5
       same_some (Out Left begun) ((expr.Chain lhs.0 (nodes xs), suc most), end) (x, rest) more.2 (
         made no_struct starts (about_expr (expr.Chain lhs.0 (nodes xs))) (Expr-F.Chain told all) most begun end
             (expr_chain_is lhs.0 (nodes xs)) (end, spelled, refl) told_good
@@ -263,12 +251,8 @@ module _ (budget : ℕ) (within : ExprWithin) (sound : SoundExprWithin budget wi
   value_good x (y ∷ []) ts rest r h =
       let told = about_expr y.0.1 in
       let at = drop (length (op_text y.0.0)) ts in
-<<<<<<< HEAD
       let ends = tail_held (plain 1 no_struct) budget told y.1 at r.0 r.1.held in
       (r.1.held.2, subst (λ us. tail_follows told.tail no_struct us ≡ true) r.2 ends)
-=======
-      (r.1.held.2, subst (λ us. tail_follows told.tail no_struct us ≡ true) r.2 (tail_held (plain 1 no_struct) budget told y.1 at r.0 r.1.held))
->>>>>>> 9f9b27265cfa35f68b75dce59910682b424f9be5
   value_good x (y ∷ z ∷ ys) ts rest r h = value_good y.0.1 (z ∷ ys) r.0 rest r.2 refl
 
   targets_there : (x : Expr) (ys : List ((Op × Expr) × ℕ)) → is_there ys ≡ true → is_there (told_targets x ys) ≡ true
@@ -281,10 +265,7 @@ module _ (budget : ℕ) (within : ExprWithin) (sound : SoundExprWithin budget wi
       let g = goes_op ts level h (λ e. omega (arith, le, e)) (λ e. omega (arith, le, e)) in
       ap angle_by g.1 ∙ low_no_angle g.0 (omega (arith, le, g.2))
 
-<<<<<<< HEAD
   -- targets and a value behind a first target
-=======
->>>>>>> 9f9b27265cfa35f68b75dce59910682b424f9be5
   pub assign_stage : (lhs : Expr × ℕ) (begun ts : Tokens) → Left lhs begun ts
       → stands (about_expr lhs.0) (before_op 1 no_struct starts (is_angle ts)) ≡ true → strength ts ≡ 1 → InText ts
       → (x : Expr × ℕ) (rest : Tokens) → assign_expr within no_struct lhs ts ≡ Some (x, rest) → Out Left begun (x, rest)

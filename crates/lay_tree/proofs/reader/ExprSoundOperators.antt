@@ -9,10 +9,7 @@ use Rattle.lay_tree.specs.declared.operators.Op.{Op}
 use Rattle.lay_tree.specs.declared.operators.Op.TheVariants as op
 use Rattle.lay_tree.proofs.Steps.{same_some, chosen}
 
-<<<<<<< HEAD
 -- No operator is of a level above 10.
-=======
->>>>>>> 9f9b27265cfa35f68b75dce59910682b424f9be5
 pub op_low : (o : Op) → op_level o ≤ 10
 op_low op.Set = omega arith
 op_low op.Upto = omega arith
@@ -53,10 +50,7 @@ binary_op ts o h = by (op_at ts) h
     by None h = absurd (cc h)
     by (Some text) h = named_text all_ops text o h
 
-<<<<<<< HEAD
 -- how strongly an operator goes on
-=======
->>>>>>> 9f9b27265cfa35f68b75dce59910682b424f9be5
 pub op_strength : (ts : Tokens) (o : Op) → binary ts ≡ Some o → strength ts ≡ suc (op_level o)
 unfolding strength
 op_strength ts o h = ap (λ found. strength_by found ts) h
@@ -81,10 +75,7 @@ goes_on ts level h = by (binary ts) refl h
       ]
     ]
 
-<<<<<<< HEAD
 -- Off the levels of `as` and of steps an operator goes on.
-=======
->>>>>>> 9f9b27265cfa35f68b75dce59910682b424f9be5
 pub goes_op : (ts : Tokens) (level : ℕ) → strength ts ≡ suc level → (level ≡ 11 → ⊥) → (level ≡ 13 → ⊥)
     → (o : Op) × (binary ts ≡ Some o) × (op_level o ≡ level)
 goes_op ts level h a b = elim (goes_on ts level h) [
@@ -93,10 +84,7 @@ goes_op ts level h a b = elim (goes_on ts level h) [
   | ByStep e f l ↦ absurd (b l)
 ]
 
-<<<<<<< HEAD
 -- `as` goes on at its level alone.
-=======
->>>>>>> 9f9b27265cfa35f68b75dce59910682b424f9be5
 pub goes_as : (ts : Tokens) → strength ts ≡ 12 → (first (is_keyword (codes "as")) ts ≡ true) × (is_angle ts ≡ false)
 goes_as ts h = elim (goes_on ts 11 h) [
   | ByOp o e l ↦ absurd (omega (arith, l, op_low o))
@@ -104,10 +92,7 @@ goes_as ts h = elim (goes_on ts 11 h) [
   | ByStep e f l ↦ absurd (omega (arith, l))
 ]
 
-<<<<<<< HEAD
 -- A step goes on at its level alone.
-=======
->>>>>>> 9f9b27265cfa35f68b75dce59910682b424f9be5
 pub goes_step : (ts : Tokens) → strength ts ≡ 14 → (begins_step ts ≡ true) × (is_angle ts ≡ false)
 goes_step ts h = elim (goes_on ts 13 h) [
   | ByOp o e l ↦ absurd (omega (arith, l, op_low o))

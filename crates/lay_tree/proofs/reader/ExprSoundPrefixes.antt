@@ -8,11 +8,7 @@ use Rattle.lay_token.specs.Lexes.{is_punct}
 use Rattle.lay_token.specs.Operators.{is_op}
 use Rattle.lay_token.specs.declared.token.Token.{Token}
 use Rattle.lay_token.proofs.Deciding.{bytes_same}
-<<<<<<< HEAD
 use Rattle.lay_form.specs.Form.{Blank, Fixed, Form, Operator, Done, Part, Piece, keyword}
-=======
-use Rattle.lay_form.specs.Form.{Form, Operator, Done, Part, Piece}
->>>>>>> 9f9b27265cfa35f68b75dce59910682b424f9be5
 use Rattle.lay_form.specs.Spelled.{AreBits, IsOne, IsOperator, Spells}
 use Rattle.lay_form.proofs.FormLaws.{bits_end, deeper as raise}
 use Rattle.lay_tree.specs.Ahead.{Tokens, first, tail, is_keyword}
@@ -76,7 +72,6 @@ module _ (t : Token) (ts : Tokens) (k : t.kind ≡ kind.Punct) where
   raw_named e r =
       by (first (is_keyword (codes "const")) (tail ts)) (first (is_keyword (codes "mut")) (tail ts)) refl refl
     where
-<<<<<<< HEAD
       raw_bits : (word : List ℕ) → first (is_keyword word) (tail ts) ≡ true
           → AreBits (Fixed kind.Punct (codes "&") ∷ keyword (codes "raw") ∷ Blank ∷ keyword word ∷ Blank ∷ []) (t ∷ ts) (drop 2 ts)
       raw_bits word f =
@@ -89,23 +84,6 @@ module _ (t : Token) (ts : Tokens) (k : t.kind ≡ kind.Punct) where
           → Named (t ∷ ts) (if a then before.RawConst else (if b then before.RawMut else before.Amp))
       by true b f g = (raw_bits (codes "const") f, λ a. absurd (cc a))
       by false true f g = (raw_bits (codes "mut") g, λ a. absurd (cc a))
-=======
-      raw : IsOne kind.Ident (codes "raw") ts (tail ts)
-      raw = keyword_one (codes "raw") ts r
-
-      by : (a b : Bool) → first (is_keyword (codes "const")) (tail ts) ≡ a → first (is_keyword (codes "mut")) (tail ts) ≡ b
-          → Named (t ∷ ts) (if a then before.RawConst else (if b then before.RawMut else before.Amp))
-      by true b f g = (
-        (ts, (k, e, refl), (tail ts, raw, (tail ts, refl,
-         (tail (tail ts), keyword_one (codes "const") (tail ts) f, (tail (tail ts), refl, tails_drop ts))))),
-        λ a. absurd (cc a),
-      )
-      by false true f g = (
-        (ts, (k, e, refl), (tail ts, raw, (tail ts, refl,
-         (tail (tail ts), keyword_one (codes "mut") (tail ts) g, (tail (tail ts), refl, tails_drop ts))))),
-        λ a. absurd (cc a),
-      )
->>>>>>> 9f9b27265cfa35f68b75dce59910682b424f9be5
       by false false f g = ((ts, (k, e, refl), refl), λ a b. rw (f, g) refl)
 
   -- what stands behind `&`
@@ -121,7 +99,6 @@ module _ (t : Token) (ts : Tokens) (k : t.kind ≡ kind.Punct) where
       by false true f g = raw_named e g
       by false false f g = ((ts, (k, e, refl), refl), λ a b. absurd (cc (sym g ∙ b)))
 
-<<<<<<< HEAD
   -- an operator of one character
   lone_named : (p : Prefix) (text : List ℕ) → prefix_bits p ≡ Fixed kind.Punct text ∷ [] → prefix_length p ≡ 1 → is_amp p ≡ false
       → t.text ≡ text → Named (t ∷ ts) p
@@ -150,22 +127,6 @@ module _ (t : Token) (ts : Tokens) (k : t.kind ≡ kind.Punct) where
           ]
         ]
       ]
-=======
-  named : (p : Prefix) → prefix_by t.text ts ≡ Some p → Named (t ∷ ts) p
-  named p h = elim (chosen (bytes_eq t.text (codes "-")) _ _ _ h) [
-    | inl g ↦ same_some (Named (t ∷ ts)) before.Neg p g.1 ((ts, (k, bytes_same t.text (codes "-") g.0, refl), refl), λ a. absurd (cc a))
-    | inr g ↦ elim (chosen (bytes_eq t.text (codes "*")) _ _ _ g.1) [
-      | inl f ↦ same_some (Named (t ∷ ts)) before.Deref p f.1 ((ts, (k, bytes_same t.text (codes "*") f.0, refl), refl), λ a. absurd (cc a))
-      | inr f ↦ elim (chosen (bytes_eq t.text (codes "!")) _ _ _ f.1) [
-        | inl e ↦ same_some (Named (t ∷ ts)) before.Bang p e.1 ((ts, (k, bytes_same t.text (codes "!") e.0, refl), refl), λ a. absurd (cc a))
-        | inr e ↦ elim (chosen (bytes_eq t.text (codes "&")) _ _ _ e.1) [
-          | inl d ↦ same_some (Named (t ∷ ts)) (amp_by ts) p d.1 (amp_named (bytes_same t.text (codes "&") d.0))
-          | inr d ↦ absurd (cc d.1)
-        ]
-      ]
-    ]
-  ]
->>>>>>> 9f9b27265cfa35f68b75dce59910682b424f9be5
 
 punct_kind : (k : Kind) → is_punct k ≡ true → k ≡ kind.Punct
 punct_kind kind.Punct h = refl
@@ -250,10 +211,7 @@ module _ (no_struct starts : Bool) (budget : ℕ) (within : ExprWithin) (sound :
   abbrev Left : Expr × ℕ → Tokens → Tokens → Type 0
   Left = LeftHeld no_struct starts
 
-<<<<<<< HEAD
   -- prefix operators and their operand
-=======
->>>>>>> 9f9b27265cfa35f68b75dce59910682b424f9be5
   pub unary_head : (ts : Tokens) → expr_lead_at ts ≡ Some ByPrefix → InText ts → (x : Expr × ℕ) (rest : Tokens)
       → unary_expr within no_struct ts ≡ Some (x, rest) → Out Left ts (x, rest)
   unfolding unary_expr

@@ -86,10 +86,7 @@ module _ (budget : ℕ) (within : ExprWithin) (sound : SoundExprWithin budget wi
   abbrev Left : Expr × ℕ → Tokens → Tokens → Type 0
   Left = LeftHeld no_struct starts
 
-<<<<<<< HEAD
   -- postfix steps behind a base
-=======
->>>>>>> 9f9b27265cfa35f68b75dce59910682b424f9be5
   pub postfix_stage : (lhs : Expr × ℕ) (begun ts : Tokens) → Left lhs begun ts
       → stands (about_expr lhs.0) (before_op 14 no_struct (starts && not (is_dot_or_try ts)) (is_angle ts)) ≡ true
       → strength ts ≡ 14 → InText ts → (x : Expr × ℕ) (rest : Tokens) → postfix_expr within lhs ts ≡ Some (x, rest)
@@ -169,10 +166,7 @@ module _ (budget : ℕ) (within : ExprWithin) (sound : SoundExprWithin budget wi
   types_there [] h = absurd (cc h)
   types_there (x ∷ xs) h = refl
 
-<<<<<<< HEAD
   -- types that an expression is cast to
-=======
->>>>>>> 9f9b27265cfa35f68b75dce59910682b424f9be5
   pub cast_stage : (lhs : Expr × ℕ) (begun ts : Tokens) → Left lhs begun ts
       → stands (about_expr lhs.0) (before_op 12 no_struct starts (is_angle ts)) ≡ true → strength ts ≡ 12 → InText ts
       → (x : Expr × ℕ) (rest : Tokens) → cast_expr within lhs ts ≡ Some (x, rest) → Out Left begun (x, rest)
@@ -210,10 +204,7 @@ module _ (budget : ℕ) (within : ExprWithin) (sound : SoundExprWithin budget wi
       either false = refl
   range_op _ ts l h = absurd (cc l)
 
-<<<<<<< HEAD
   -- a range behind its first end
-=======
->>>>>>> 9f9b27265cfa35f68b75dce59910682b424f9be5
   pub range_stage : (led : LedWithin within) (lhs : Expr × ℕ) (begun ts : Tokens) → Left lhs begun ts
       → stands (about_expr lhs.0) (before_op 2 no_struct starts (is_angle ts)) ≡ true → strength ts ≡ 2 → InText ts
       → (x : Expr × ℕ) (rest : Tokens) → range_expr within no_struct (Some lhs.0) lhs.1 ts ≡ Some (x, rest)

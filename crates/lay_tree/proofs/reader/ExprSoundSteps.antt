@@ -247,10 +247,7 @@ module _ (budget : ℕ) (within : ExprWithin) (sound : SoundExprWithin budget wi
 
   -- ---- any
 
-<<<<<<< HEAD
   -- A step stands there as it is read.
-=======
->>>>>>> 9f9b27265cfa35f68b75dce59910682b424f9be5
   pub step_sound : SoundStep (one_step within) StepHeld
   unfolding one_step
   step_sound ts x rest t h = elim (chosen (is_op (codes ".") ts) _ _ _ h) [
@@ -288,10 +285,7 @@ module _ (budget : ℕ) (within : ExprWithin) (sound : SoundExprWithin budget wi
 
 -- ---- all of them
 
-<<<<<<< HEAD
 -- what is told of steps that were read
-=======
->>>>>>> 9f9b27265cfa35f68b75dce59910682b424f9be5
 abbrev pub told_steps : List (Step × ℕ) → List StepFacts
 told_steps xs = map about_step (nodes xs)
 
@@ -317,10 +311,7 @@ group_spelled : (b : Bool) (f : Form) (n : ℕ) (ts rest : Tokens) → Spells f 
 group_spelled true f n ts rest s = (rest, s, refl)
 group_spelled false f n ts rest s = s
 
-<<<<<<< HEAD
 -- A base and its steps are spelled at the greatest need of theirs.
-=======
->>>>>>> 9f9b27265cfa35f68b75dce59910682b424f9be5
 pub postfix_spelled : (x : ExprFacts) (xs : List (Step × ℕ)) (n most : ℕ) (ts mid rest : Tokens) → n ≤ most → deepest xs ≤ most
     → Spells x.form n ts mid → Rows StepHeld xs mid rest → Spells (postfix_form x (told_steps xs)) most ts rest
 postfix_spelled x xs n most ts mid rest le less s r =
@@ -334,10 +325,7 @@ no_call true true paren f g = absurd (cc (sym (f refl) ∙ g refl))
 no_call true false paren f g = refl
 no_call false call paren f g = refl
 
-<<<<<<< HEAD
 -- They are well formed, and no call stands directly behind a field.
-=======
->>>>>>> 9f9b27265cfa35f68b75dce59910682b424f9be5
 pub steps_good : (xs : List (Step × ℕ)) (ts rest : Tokens) → Rows StepHeld xs ts rest → are_steps (told_steps xs) ≡ true
 steps_good [] ts rest r = refl
 steps_good (x ∷ []) ts rest r = r.1.good
@@ -354,10 +342,7 @@ pub steps_begin : (xs : List (Step × ℕ)) (ts rest : Tokens) → Rows StepHeld
 steps_begin [] ts rest r h = absurd (cc h)
 steps_begin (x ∷ xs) ts rest r h = r.1.dotted
 
-<<<<<<< HEAD
 -- Where the first is a tuple index, one begins there.
-=======
->>>>>>> 9f9b27265cfa35f68b75dce59910682b424f9be5
 pub steps_number : (xs : List (Step × ℕ)) (ts rest : Tokens) → Rows StepHeld xs ts rest
     → first_step is_tuple_index (told_steps xs) ≡ true → begins_tuple_index ts ≡ true
 steps_number [] ts rest r h = absurd (cc h)

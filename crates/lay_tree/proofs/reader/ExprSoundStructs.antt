@@ -98,7 +98,6 @@ module _ (budget : ℕ) (within : ExprWithin) (sound : SoundExprWithin budget wi
               let behind : Form = Piece colon (Part told.form Done) in
               let leaf = leaf_spelled raw text behind need at mid end i.0 (after, (after, o, (after, refl, refl)), (end, s.0.1, refl)) in
               let F = field_facts (FieldExpr-F.Named attrs n told) in
-<<<<<<< HEAD
               let there : Stands F need ts end = (
                 led (leaf_of raw text behind) need end leaf,
                 and_from (are_attrs false attrs && is_name raw text) (placed told FREE) names s.0.2,
@@ -113,15 +112,6 @@ module _ (budget : ℕ) (within : ExprWithin) (sound : SoundExprWithin budget wi
               let F = field_facts (FieldExpr-F.Short attrs n) in
               let leaf = leaf_spelled raw text Done 0 at mid mid i.0 refl in
               let there : Stands F 0 ts mid = (led (leaf_of raw text Done) 0 mid leaf, names, refl) in
-=======
-              let there : Stands F need ts end =
-              (led (leaf_of raw text behind) need end leaf, and_from (are_attrs false attrs && is_name raw text) (placed told FREE) names s.0.2, refl) in
-              same_some (Out FieldHeld ts) ((field.Named attrs n inner, need), end) (x, rest) y.2
-              (held (about_field_expr (field.Named attrs n inner)) F budget need ts end (field_expr_named_is attrs n inner) s.0.0 there, s.1)
-          | inr g ↦
-              let F = field_facts (FieldExpr-F.Short attrs n) in
-              let there : Stands F 0 ts mid = (led (leaf_of raw text Done) 0 mid (leaf_spelled raw text Done 0 at mid mid i.0 refl), names, refl) in
->>>>>>> 9f9b27265cfa35f68b75dce59910682b424f9be5
               same_some (Out FieldHeld ts) ((field.Short attrs n, 0), mid) (x, rest) g.1
               (held (about_field_expr (field.Short attrs n)) F budget 0 ts mid (field_expr_short_is attrs n) (omega arith) there, left)
         ]
@@ -144,16 +134,11 @@ module _ (budget : ℕ) (within : ExprWithin) (sound : SoundExprWithin budget wi
         let form = led (Leaf kind.Int n.0 behind) need end
         (c.0, c.1, (n.1, (n.1, c.2, (n.1, refl, refl)), (end, s.0.1, refl))) in
         let there : Stands F need ts end = (form, and_from (are_attrs false attrs) (placed told FREE) are s.0.2, refl) in
-<<<<<<< HEAD
         same_some (Out FieldHeld ts) ((field.Numbered attrs n.0 inner, need), end) (x, rest) y.2 (
           held (about_field_expr (field.Numbered attrs n.0 inner)) F budget need ts end (field_expr_numbered_is attrs n.0 inner)
               s.0.0 there,
           s.1,
         )
-=======
-        same_some (Out FieldHeld ts) ((field.Numbered attrs n.0 inner, need), end) (x, rest) y.2
-        (held (about_field_expr (field.Numbered attrs n.0 inner)) F budget need ts end (field_expr_numbered_is attrs n.0 inner) s.0.0 there, s.1)
->>>>>>> 9f9b27265cfa35f68b75dce59910682b424f9be5
 
   field_sound : SoundStep (one_field within) FieldHeld
   unfolding one_field
@@ -280,10 +265,7 @@ module _ (budget : ℕ) (within : ExprWithin) (sound : SoundExprWithin budget wi
     path_follows true c e f = absurd (cc e)
     path_follows false false e f = absurd (cc f)
 
-<<<<<<< HEAD
     -- a path, or a struct literal
-=======
->>>>>>> 9f9b27265cfa35f68b75dce59910682b424f9be5
     pub path_head : SoundStep (path_expr within no_struct) Left
     unfolding path_expr
     path_head ts x rest t h =

@@ -13,7 +13,6 @@ use Rattle.lay_tree.proofs.reader.AliasComplete.{aliases_complete}
 use Rattle.lay_tree.proofs.reader.AliasSound.{aliases_sound}
 use Rattle.lay_tree.proofs.reader.Exact.{exact, one_at_most}
 use Rattle.lay_tree.proofs.reader.ExprComplete.{expr_read}
-use Rattle.lay_tree.proofs.reader.ExprHeadsStruct.{struct_head}
 use Rattle.lay_tree.proofs.reader.ExprSound.{expr_in_sound}
 use Rattle.lay_tree.proofs.reader.ExprSoundLevel.{ExprHeld}
 use Rattle.lay_tree.proofs.reader.FunctionsBegins.{fn_head_begins}
@@ -64,8 +63,7 @@ pub values_sound : (budget : ℕ) → SoundStep (expr_at FREE budget) (ExprHeld 
 values_sound budget = expr_in_sound budget FREE
 
 pub values_complete : ValuesComplete
-values_complete x depth budget ts rest =
-    expr_read (λ d w r p f b. struct_head d w r p f b) FREE x depth budget ts rest
+values_complete x depth budget ts rest = expr_read FREE x depth budget ts rest
 
 pub items_exact : (at : Site) → Exact (item_at at) (λ (x : Item). Front (about_item at x))
 items_exact at = exact (about_item at) (item_at at) (item_sound heads_sound values_sound at) (item_complete heads_complete values_complete at)

@@ -11,6 +11,7 @@ use Rattle.lay_tree.specs.reader.Use.{use_at}
 use Rattle.lay_tree.proofs.reader.AttrRead.{attrs_exact}
 use Rattle.lay_tree.proofs.reader.Call.{groups, calls}
 use Rattle.lay_tree.proofs.reader.Exact.{one_at_most}
+use Rattle.lay_tree.proofs.reader.ExprExact.{one_expr}
 use Rattle.lay_tree.proofs.reader.File.{one_file}
 use Rattle.lay_tree.proofs.reader.HeadsExact.{one_alias, one_enum, one_extern_crate, one_fn_head, one_impl_head, one_struct, one_trait_head, one_union, one_value_head, one_vis}
 use Rattle.lay_tree.proofs.reader.ItemExact.{one_item}
@@ -33,6 +34,7 @@ returns c = record {
   one_generics = one_generics;
   one_wheres = one_wheres;
   one_pat = λ node other place. one_pat place node other;
+  one_expr = λ node other place. one_expr place node other;
   one_use = one_at_most about_use use_at use_trees;
   one_vis = one_vis;
   one_extern_crate = one_extern_crate;

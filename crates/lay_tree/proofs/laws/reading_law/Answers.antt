@@ -1,6 +1,7 @@
 use Rattle.lay_tree.proofs.reader.AttrRead.{attrs_exact}
 use Rattle.lay_tree.proofs.reader.Call.{groups, calls}
 use Rattle.lay_tree.proofs.reader.AliasComplete.{aliases_exact}
+use Rattle.lay_tree.proofs.reader.ExprExact.{exprs_exact}
 use Rattle.lay_tree.proofs.reader.FunctionsComplete.{fn_heads_exact}
 use Rattle.lay_tree.proofs.reader.ImplHeadsComplete.{impl_heads_exact}
 use Rattle.lay_tree.proofs.reader.ItemExact.{items_exact}
@@ -28,6 +29,7 @@ returns c = record {
   generics = generics_exact;
   wheres = wheres_exact;
   pats = pats_exact;
+  exprs = exprs_exact;
   use_trees = use_trees;
   visibilities = vis_exact;
   extern_crates = extern_crates_exact;
