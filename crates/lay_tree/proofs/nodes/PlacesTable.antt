@@ -157,15 +157,15 @@ module _ (p : Place) where
       let down = stands_down p F x 12 refl refl refl refl refl refl in
       let up = stands_up p F x 12 refl refl refl refl refl refl in (
         (λ h.
-        let s = and_parts (stands F p) (F.within p.no_struct (begins p.start)) h in
-        let w = and_parts (is_there ps && placed x (plain 12 p.no_struct)) (not (is_prefix_lead x.lead)) s.1 in
-        let v = and_parts (is_there ps) (placed x (plain 12 p.no_struct)) w.0 in
-        let c = down s.0 v.1 in (c.0, v.0, c.1, w.1)),
+            let s = and_parts (stands F p) (F.within p.no_struct (begins p.start)) h in
+            let w = and_parts (is_there ps && placed x (plain 12 p.no_struct)) (not (is_prefix_lead x.lead)) s.1 in
+            let v = and_parts (is_there ps) (placed x (plain 12 p.no_struct)) w.0 in
+            let c = down s.0 v.1 in (c.0, v.0, c.1, w.1)),
         (λ t.
-        let c = up (t.0, t.2) in
-        and_from (stands F p) (F.within p.no_struct (begins p.start)) c.0
-        (and_from (is_there ps && placed x (plain 12 p.no_struct)) (not (is_prefix_lead x.lead))
-        (and_from (is_there ps) (placed x (plain 12 p.no_struct)) t.1 c.1) t.3)),
+            let c = up (t.0, t.2) in
+            and_from (stands F p) (F.within p.no_struct (begins p.start)) c.0
+            (and_from (is_there ps && placed x (plain 12 p.no_struct)) (not (is_prefix_lead x.lead))
+            (and_from (is_there ps) (placed x (plain 12 p.no_struct)) t.1 c.1) t.3)),
       )
 
   -- Range: the end at 2, with the rest as the node's
@@ -179,14 +179,14 @@ module _ (p : Place) where
       let down = stands_down p F x 2 refl refl refl refl refl refl in
       let up = stands_up p F x 2 refl refl refl refl refl refl in (
         (λ h.
-        let s = and_parts (stands F p) (F.within p.no_struct (begins p.start)) h in
-        let w = and_parts begun ended s.1 in
-        let v = and_parts (placed x (plain 2 p.no_struct)) (begins_free p.no_struct x) w.1 in
-        let c = down s.0 v.0 in (c.0, w.0, c.1, v.1)),
+            let s = and_parts (stands F p) (F.within p.no_struct (begins p.start)) h in
+            let w = and_parts begun ended s.1 in
+            let v = and_parts (placed x (plain 2 p.no_struct)) (begins_free p.no_struct x) w.1 in
+            let c = down s.0 v.0 in (c.0, w.0, c.1, v.1)),
         (λ t.
-        let c = up (t.0, t.2) in
-        and_from (stands F p) (F.within p.no_struct (begins p.start)) c.0
-        (and_from begun ended t.1 (and_from (placed x (plain 2 p.no_struct)) (begins_free p.no_struct x) c.1 t.3))),
+            let c = up (t.0, t.2) in
+            and_from (stands F p) (F.within p.no_struct (begins p.start)) c.0
+            (and_from begun ended t.1 (and_from (placed x (plain 2 p.no_struct)) (begins_free p.no_struct x) c.1 t.3))),
       )
 
   -- Assign: the value at 1, with the rest as the node's
@@ -199,14 +199,14 @@ module _ (p : Place) where
       let down = stands_down p F x 1 refl refl refl refl refl refl in
       let up = stands_up p F x 1 refl refl refl refl refl refl in (
         (λ h.
-        let s = and_parts (stands F p) (F.within p.no_struct (begins p.start)) h in
-        let w = and_parts (is_there targets && before) (placed x (plain 1 p.no_struct)) s.1 in
-        let v = and_parts (is_there targets) before w.0 in
-        let c = down s.0 w.1 in (c.0, v.0, v.1, c.1)),
+            let s = and_parts (stands F p) (F.within p.no_struct (begins p.start)) h in
+            let w = and_parts (is_there targets && before) (placed x (plain 1 p.no_struct)) s.1 in
+            let v = and_parts (is_there targets) before w.0 in
+            let c = down s.0 w.1 in (c.0, v.0, v.1, c.1)),
         (λ t.
-        let c = up (t.0, t.3) in
-        and_from (stands F p) (F.within p.no_struct (begins p.start)) c.0
-        (and_from (is_there targets && before) (placed x (plain 1 p.no_struct)) (and_from (is_there targets) before t.1 t.2) c.1)),
+            let c = up (t.0, t.3) in
+            and_from (stands F p) (F.within p.no_struct (begins p.start)) c.0
+            (and_from (is_there targets && before) (placed x (plain 1 p.no_struct)) (and_from (is_there targets) before t.1 t.2) c.1)),
       )
 
   -- Chain: the operands behind the first, the last of them with the rest as the node's
@@ -255,22 +255,22 @@ module _ (p : Place) where
       let others = operands_placed level p.no_struct os in
       let t = tail_of_operands os in (
         (λ h.
-        let s = and_parts (stands F p) (F.within p.no_struct (begins p.start)) h in
-        let a = and_parts (is_chain_level level && may_chain level os && first) others s.1 in
-        let b = and_parts (is_chain_level level && may_chain level os) first a.0 in
-        let c = and_parts (is_chain_level level) (may_chain level os) b.0 in
-        let r = rules_of p F (is_open t) (is_typed t) s.0 in
-        let root : Rules p F false false =
-        record { level = r.level; operator = and_false p.op_after; angle = and_false p.lt_after; part = r.part; literal = r.literal } in
-        (of_rules p F false false root, c.0, c.1, b.1, others_down level os a.1 (r.operator, r.angle))),
+            let s = and_parts (stands F p) (F.within p.no_struct (begins p.start)) h in
+            let a = and_parts (is_chain_level level && may_chain level os && first) others s.1 in
+            let b = and_parts (is_chain_level level && may_chain level os) first a.0 in
+            let c = and_parts (is_chain_level level) (may_chain level os) b.0 in
+            let r = rules_of p F (is_open t) (is_typed t) s.0 in
+            let root : Rules p F false false =
+            record { level = r.level; operator = and_false p.op_after; angle = and_false p.lt_after; part = r.part; literal = r.literal } in
+            (of_rules p F false false root, c.0, c.1, b.1, others_down level os a.1 (r.operator, r.angle))),
         (λ u.
-        let r = rules_of p F false false u.0 in
-        let v = others_up level o more u.4 in
-        let there : Rules p F (is_open t) (is_typed t) =
-        record { level = r.level; operator = v.1.0; angle = v.1.1; part = r.part; literal = r.literal } in
-        and_from (stands F p) (F.within p.no_struct (begins p.start)) (of_rules p F (is_open t) (is_typed t) there)
-        (and_from (is_chain_level level && may_chain level os && first) others
-        (and_from (is_chain_level level && may_chain level os) first (and_from (is_chain_level level) (may_chain level os) u.1 u.2) u.3) v.0)),
+            let r = rules_of p F false false u.0 in
+            let v = others_up level o more u.4 in
+            let there : Rules p F (is_open t) (is_typed t) =
+            record { level = r.level; operator = v.1.0; angle = v.1.1; part = r.part; literal = r.literal } in
+            and_from (stands F p) (F.within p.no_struct (begins p.start)) (of_rules p F (is_open t) (is_typed t) there)
+            (and_from (is_chain_level level && may_chain level os && first) others
+            (and_from (is_chain_level level && may_chain level os) first (and_from (is_chain_level level) (may_chain level os) u.1 u.2) u.3) v.0)),
       )
 
   -- ---- the other kinds that may be open at their end
@@ -370,13 +370,13 @@ module _ (p : Place) (ts : Tokens) where
       let root = root_is F b in
       let child : root_follows x (as_node p level) ts ≡ nat_le (strength ts) level = refl in (
         (λ h.
-        let s = and_parts (root_follows F p ts) (tail_follows F.tail p.no_struct ts) h in
-        let weak = sym root ∙ s.0 in
-        let less = leb-true (strength ts) p.level weak in
-        (weak, and_from (root_follows x (as_node p level) ts) (tail_follows x.tail p.no_struct ts) (le-leb (strength ts) level (omega (arith, less, le))) (sym same ∙ s.1))),
+            let s = and_parts (root_follows F p ts) (tail_follows F.tail p.no_struct ts) h in
+            let weak = sym root ∙ s.0 in
+            let less = leb-true (strength ts) p.level weak in
+            (weak, and_from (root_follows x (as_node p level) ts) (tail_follows x.tail p.no_struct ts) (le-leb (strength ts) level (omega (arith, less, le))) (sym same ∙ s.1))),
         (λ h.
-        let s = and_parts (root_follows x (as_node p level) ts) (tail_follows x.tail p.no_struct ts) h.1 in
-        and_from (root_follows F p ts) (tail_follows F.tail p.no_struct ts) (root ∙ h.0) (same ∙ s.1)),
+            let s = and_parts (root_follows x (as_node p level) ts) (tail_follows x.tail p.no_struct ts) h.1 in
+            and_from (root_follows F p ts) (tail_follows F.tail p.no_struct ts) (root ∙ h.0) (same ∙ s.1)),
       )
     where
       no_end : (a : Bool) → (a && false) ≡ false

@@ -309,9 +309,9 @@ unfoldable pub climb : ExprWithin → Place → ℕ → Expr × ℕ → Tokens �
 climb within place zero lhs ts = Some (lhs, ts)
 climb within place (suc level) lhs ts =
     if nat_le place.level level && strength ts == suc level then
-      (if stands (about_expr lhs.0) (left_place place level ts) then
-        (do x ← stage within level place.no_struct lhs ts; climb within place level x.0 x.1)
-      else None)
+    (if stands (about_expr lhs.0) (left_place place level ts) then
+    (do x ← stage within level place.no_struct lhs ts; climb within place level x.0 x.1)
+    else None)
     else climb within place level lhs ts
 
 -- At the start of a statement nothing but `.` and `?` goes on with what ends it.
