@@ -71,16 +71,19 @@ lifetime_operand no_struct (t ∷ ts) h = lead_operand no_struct (t ∷ ts) ByLa
     not_brace true = refl
     not_brace false = refl
 
+-- Where no operand begins, no lifetime stands.
 no_operand_label : (no_struct : Bool) (ts : Tokens) → begins_operand no_struct ts ≡ false → first is_lifetime ts ≡ false
 no_operand_label no_struct ts h = false_from_ne_true (first is_lifetime ts) (λ e. let g = lifetime_operand no_struct ts e in absurd (cc))
 
 module _ (depth : ℕ) (within : ExprWithin) (reads : ExprReads depth within) where
   -- ---- operands
 
+  -- one that is left out
   no_operand : (level : ℕ) (no_struct : Bool) (ts : Tokens) → begins_operand no_struct ts ≡ false
       → IsRead depth (operand_if within level no_struct) None ts ts
   no_operand level no_struct ts h = (0, omega arith, rw h refl)
 
+  -- one that is there
   some_operand : (level : ℕ) (no_struct : Bool) (x : Expr) (ts rest : Tokens) → Spells (about_expr x).form depth ts rest
       → (placed (about_expr x) (plain level no_struct) && begins_free no_struct (about_expr x)) ≡ true → nat_le (strength rest) level ≡ true
       → tail_follows (about_expr x).tail no_struct rest ≡ true → IsRead depth (operand_if within level no_struct) (Some x) ts rest
@@ -92,6 +95,7 @@ module _ (depth : ℕ) (within : ExprWithin) (reads : ExprReads depth within) wh
       let r = reads.exprs place x ts rest s goods.0 (plain_follows (about_expr x) level no_struct rest weak tail) in
       (r.0, r.1, rw (there, r.2) refl)
 
+  -- the operand of a `return` or of a `break`
   jump_operand : (x : Option Expr) (no_struct : Bool) (ts rest : Tokens) → Spells (operand_form (option_map about_expr x)) depth ts rest
       → operand_placed (option_map about_expr x) no_struct ≡ true → TailFits (tail_of_jump (option_map about_expr x)) no_struct rest
       → IsRead depth (operand_if within 0 no_struct) x ts rest
@@ -103,6 +107,7 @@ module _ (depth : ℕ) (within : ExprWithin) (reads : ExprReads depth within) wh
       some_operand 0 no_struct x ts rest
       (subst (λ us. Spells (about_expr x).form depth us rest) (sym (blank_left ts s.0 s.1)) here) g behind.0 behind.1
 
+  -- `return`
   pub return_head : (x : Option Expr) → IsHead depth within (expr.Return x)
   unfolding return_expr
   return_head x = head_of depth within (expr.Return x) (Expr-F.Return (option_map about_expr x)) (expr_return_is x)
@@ -112,6 +117,7 @@ module _ (depth : ℕ) (within : ExprWithin) (reads : ExprReads depth within) wh
       let r = jump_operand x no_struct s.0 rest s.2 h.inside h.tail in
       (suc r.0, omega (arith, r.1), rw (left, r.2) refl))
 
+  -- `break`
   pub break_head : (label : Option Label) (x : Option Expr) → IsHead depth within (expr.Break label x)
   unfolding break_expr
   break_head label x = head_of depth within (expr.Break label x) (Expr-F.Break label (option_map about_expr x)) (expr_break_is label x)
@@ -139,6 +145,7 @@ module _ (depth : ℕ) (within : ExprWithin) (reads : ExprReads depth within) wh
 
   -- ---- ranges
 
+  -- the end of a range
   end_read : (inclusive : Bool) (end : Option Expr) (no_struct : Bool) (ts rest : Tokens)
       → Spells (end_form (option_map about_expr end) Done) depth ts rest
       → end_placed (option_map about_expr end) inclusive no_struct ≡ true

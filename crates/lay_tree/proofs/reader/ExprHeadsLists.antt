@@ -63,15 +63,18 @@ module _ (depth : ℕ) (within : ExprWithin) (reads : ExprReads depth within) wh
 
   -- ---- what stands within delimiters
 
+  -- An expression that ends there is read.
   pub free_read : (x : Expr) (ts rest : Tokens) → Here x ts rest → Free x ≡ true → ExprEnds false rest
       → IsRead depth (within.exprs FREE) x ts rest
   free_read x ts rest s g e = reads.exprs FREE x ts rest s g (ends_follow (about_expr x) FREE rest e)
 
+  -- It begins with nothing that closes a list.
   free_starts : (d : Delim) (x : Expr) (ts rest : Tokens) → Here x ts rest → Free x ≡ true
       → (first (closes d) ts ≡ false) × (length rest < length ts)
   free_starts d x ts rest s g =
       let b = placed_begins x FREE depth ts rest s g in (expr_no_closer d ts (about_expr x).lead b.lead, b.less)
 
+  -- elements and what closes them
   elements_read : (d : Delim) (xs : List Expr) (ts rest : Tokens) → list_all Free xs ≡ true → Elements d Here xs ts rest
       → IsRead depth (free_elements within (closes d)) xs ts rest
   elements_read d xs ts rest g r =
@@ -85,6 +88,7 @@ module _ (depth : ℕ) (within : ExprWithin) (reads : ExprReads depth within) wh
           → free_elements within (closes d) ts ≡ Some ((xs, deepest ys), rest)
       made ys e h = rw (h, e) refl
 
+  -- All of them stand in their places.
   all_free_of : (xs : List Expr) → all_free (map about_expr xs) ≡ true → list_all Free xs ≡ true
   all_free_of xs g = sym (list_all-map (λ (x : ExprFacts). placed x FREE) about_expr xs) ∙ g
 
@@ -107,6 +111,7 @@ module _ (depth : ℕ) (within : ExprWithin) (reads : ExprReads depth within) wh
 
   -- ---- parentheses
 
+  -- one expression and what closes it
   paren_there : (x : Expr) (ts mid rest : Tokens) → Here x ts mid → Free x ≡ true → Closed Paren mid rest
       → IsRead (suc depth) (paren_expr within) (expr.Paren x) ts rest
   unfolding paren_expr
@@ -116,6 +121,7 @@ module _ (depth : ℕ) (within : ExprWithin) (reads : ExprReads depth within) wh
       let c = closer_first Paren mid rest o in
       (suc r.0, omega (arith, r.1), rw (no_close, r.2, c.0, c.1) refl)
 
+  -- an expression in parentheses
   pub paren_head : (x : Expr) → IsHead depth within (expr.Paren x)
   paren_head x = head_of depth within (expr.Paren x) (Expr-F.Paren (about_expr x)) (expr_paren_is x) (λ no_struct first_flag ts rest h.
       let s = h.spelled in
@@ -137,6 +143,7 @@ module _ (depth : ℕ) (within : ExprWithin) (reads : ExprReads depth within) wh
       let l = elements_read Paren xs next rest goods.1 more in
       (suc (max r.0 l.0), omega (arith, r.1, l.1), rw (no_close, r.2, other, mark_passed (codes ",") mid next o, l.2) refl)
 
+  -- a tuple
   pub tuple_head : (xs : List Expr) → IsHead depth within (expr.Tuple xs)
   unfolding paren_expr
   tuple_head xs = head_of depth within (expr.Tuple xs) (Expr-F.Tuple (map about_expr xs)) (expr_tuple_is xs)
@@ -171,6 +178,7 @@ module _ (depth : ℕ) (within : ExprWithin) (reads : ExprReads depth within) wh
 
   -- ---- brackets
 
+  -- one element without a comma
   one_there : (x : Expr) (ts mid rest : Tokens) → Here x ts mid → Free x ≡ true → Closed Bracket mid rest
       → IsRead (suc depth) (bracket_expr within) (expr.Array (x ∷ [])) ts rest
   unfolding bracket_expr
@@ -181,6 +189,7 @@ module _ (depth : ℕ) (within : ExprWithin) (reads : ExprReads depth within) wh
       let c = closer_first Bracket mid rest o in
       (suc r.0, omega (arith, r.1), rw (no_close, r.2, no_mark, c.0, c.1) refl)
 
+  -- an element, a comma and the further ones
   many_there : (x : Expr) (xs : List Expr) (ts mid next rest : Tokens) → Here x ts mid → list_all Free (x ∷ xs) ≡ true
       → IsOne Punct (codes ",") mid next
       → Elements Bracket Here xs next rest → IsRead (suc depth) (bracket_expr within) (expr.Array (x ∷ xs)) ts rest
@@ -195,6 +204,7 @@ module _ (depth : ℕ) (within : ExprWithin) (reads : ExprReads depth within) wh
       let l = elements_read Bracket xs next rest goods.1 more in
       (suc (max r.0 l.0), omega (arith, r.1, l.1), rw (no_close, r.2, no_mark, other, mark_passed (codes ",") mid next o, l.2) refl)
 
+  -- the elements of an array
   array_there : (xs : List Expr) (ts rest : Tokens) → list_all Free xs ≡ true → Elements Bracket Here xs ts rest
       → IsRead (suc depth) (bracket_expr within) (expr.Array xs) ts rest
   unfolding bracket_expr
@@ -204,6 +214,7 @@ module _ (depth : ℕ) (within : ExprWithin) (reads : ExprReads depth within) wh
     | inr m ↦ many_there x xs ts r.0 m.0 rest r.1 g m.1 m.2
   ]
 
+  -- an array
   pub array_head : (xs : List Expr) → IsHead depth within (expr.Array xs)
   array_head xs = head_of depth within (expr.Array xs) (Expr-F.Array (map about_expr xs)) (expr_array_is xs)
       (λ no_struct first_flag ts rest h.
@@ -211,11 +222,13 @@ module _ (depth : ℕ) (within : ExprWithin) (reads : ExprReads depth within) wh
       let r = array_there xs l.0 rest (all_free_of xs h.inside) l.2 in
       (r.0, r.1, rw (one_left (Opener Bracket) (opening Bracket ∷ []) ts l.0 l.1) r.2))
 
+  -- a length
   length_read : (x : Expr) (us : List Listed) (n : ℕ) (ts mid rest : Tokens) → tokens ts ≡ Some (us, mid)
       → passed (closes Bracket) mid ≡ Some rest
       → is_empty us ≡ false → repeat_by (x, n) ts ≡ Some ((expr.Repeat x us, suc n), rest)
   length_read x us n ts mid rest h c some = rw (h, c, some) refl
 
+  -- an element and how often it is repeated
   pub repeat_head : (x : Expr) (us : List Listed) → IsHead depth within (expr.Repeat x us)
   unfolding bracket_expr
   repeat_head x us = head_of depth within (expr.Repeat x us) (Expr-F.Repeat (about_expr x) us) (expr_repeat_is x us)

@@ -104,6 +104,7 @@ raw_segment : (s : Word × Args) → (not s.0.raw && bytes_eq s.0.text (codes "r
     → is_raw_word (lone_segment (s ∷ [])) ≡ true
 raw_segment s w n = rw n w
 
+-- the segments of a path
 segments_raw : (ss : List (Word × Args)) (depth : ℕ) (ts rest : Tokens) → segments_good Code (map about_segment ss) ≡ true
     → Spells (segments_form Code (map about_segment ss)) depth ts rest → begins_raw ts ≡ true
     → RawAlone (is_raw_word (lone_segment ss)) ts rest
@@ -130,6 +131,7 @@ segments_raw (w ∷ v ∷ more) depth ts rest g s h =
       | inr e ↦ inl (rw e.1 colons_there)
     ])
 
+-- a path
 pub path_raw : (p : Path) (depth : ℕ) (ts rest : Tokens) → Spells (about_path p Code).form depth ts rest → (about_path p Code).good ≡ true
     → begins_raw ts ≡ true → RawAlone (is_raw_word (lone_word p)) ts rest
 path_raw p depth ts rest s g h =
@@ -180,6 +182,7 @@ simple_raw p depth ts rest g s h n = at p.global p.words g s
         let l = leaf_parts one.raw one.text (Piece colons (simple_words_form (two ∷ more) Done)) depth ts rest s in
         rw (one_left (word_kind one.raw) one.text ts l.0 l.1) (colons_behind (simple_words_form (two ∷ more) Done) depth l.0 rest l.2)
 
+-- a macro call, whose path is followed by `!`
 call_raw : (c : MacroCall) (depth : ℕ) (ts rest : Tokens) → Spells (about_call c).form depth ts rest → (about_call c).good ≡ true
     → begins_raw ts ≡ true
     → begins_pointer (tail ts) ≡ false
@@ -189,6 +192,7 @@ call_raw c depth ts rest s g h =
 
 -- ---- expressions
 
+-- No step begins with a word.
 step_no_pointer : (ts : Tokens) → begins_step ts ≡ true → begins_pointer ts ≡ false
 step_no_pointer [] h = refl
 step_no_pointer (t ∷ ts) h = by t.kind refl
@@ -248,6 +252,7 @@ module _ (depth : ℕ) (ih : AllRaw depth) (no_struct first_flag : Bool) (ts res
       → RawAlone (is_raw_path F) ts rest) → Raw (about_expr x)
   told x F e f = subst Raw (sym e) (λ s w l b. f (subst (λ us. Spells (inside F) depth ts us) s.2 s.1) w l b)
 
+  -- a struct literal, whose path is followed by `{`
   struct_raw : (p : Path) (fs : List Form) (may : Bool) (mid : Tokens) → Spells (about_path p Code).form depth ts mid
       → (about_path p Code).good ≡ true
       → Spells (braces may fs) depth mid rest → begins_pointer (tail ts) ≡ false
@@ -261,6 +266,7 @@ module _ (depth : ℕ) (ih : AllRaw depth) (no_struct first_flag : Bool) (ts res
       opened [] b = let c = behind_blank (opener Brace ∷ closer Brace ∷ []) mid b.0 b.1 in (c.0, c.1)
       opened (f ∷ fs) b = (b.0, bit_alone (opener Brace) mid b.0 (behind_blank (opener Brace ∷ []) mid b.0 b.1))
 
+  -- steps behind a base
   postfix_raw : (x : Expr) (ss : List Step) → Raw (about_expr (expr.Postfix x ss))
   postfix_raw x ss = told (expr.Postfix x ss) (Expr-F.Postfix (about_expr x) (map about_step ss)) (expr_postfix_is x ss) (λ s w l b.
       let F = about_expr x in
@@ -283,6 +289,7 @@ module _ (depth : ℕ) (ih : AllRaw depth) (no_struct first_flag : Bool) (ts res
       ungrouped true f s = subst (λ us. Spells f depth ts us) s.2 s.1
       ungrouped false f s = s
 
+  -- Operators between operands are of lower levels.
   chain_raw : (x : Expr) (more : List (Op × Expr)) → Raw (about_expr (expr.Chain x more))
   chain_raw x more = told (expr.Chain x more) (Expr-F.Chain (about_expr x) (map behind_op more)) (expr_chain_is x more) (λ s w l b.
       let os = map behind_op more in
@@ -296,6 +303,7 @@ module _ (depth : ℕ) (ih : AllRaw depth) (no_struct first_flag : Bool) (ts res
       let low = leb-true 12 level l in
       absurd (omega (arith, high, low)))
 
+  -- each kind
   raw_view : (x : Expr) → ExprView x → Raw (about_expr x)
   raw_view _ (IsLit l) = told (expr.Lit l) (Expr-F.Lit l) (expr_lit_is l) (λ s w n b. absurd (cc))
   raw_view _ (IsPath p) = told (expr.Path p) (Expr-F.Path p) (expr_path_is p) (λ s w n b. path_raw p depth ts rest s w raw)

@@ -105,6 +105,7 @@ module _ (depth : ℕ) (within : ExprWithin) (reads : ExprReads depth within) wh
   attrs_parts attrs f ts rest s g =
       let r = behind_attrs_rows (map attr_form attrs) f depth ts rest s in (r.0, attrs_rows false depth attrs ts r.0 r.1 g, r.2)
 
+  -- Attributes, and a field of one of the three kinds.
   field_parts : (f : FieldExpr) (ts rest : Tokens) → Spells (about_field_expr f).form depth ts rest → (about_field_expr f).good ≡ true
       → FieldParts f ts rest
   field_parts f ts rest s g = by f (field_expr_view f) s g
@@ -175,6 +176,7 @@ module _ (depth : ℕ) (within : ExprWithin) (reads : ExprReads depth within) wh
             );
           }
 
+  -- A field is read where it is spelled.
   field_read : (f : FieldExpr) (ts rest : Tokens) → Spells (about_field_expr f).form depth ts rest → (about_field_expr f).good ≡ true
       → Ends Brace rest
       → IsRead depth (one_field within) f ts rest
@@ -184,6 +186,7 @@ module _ (depth : ℕ) (within : ExprWithin) (reads : ExprReads depth within) wh
       let r = p.read e in
       (r.0, r.1, rw (attributes_complete false p.attrs depth ts p.mid p.rows p.front.attr) r.2)
 
+  -- It begins as a field does.
   field_starts : (f : FieldExpr) (ts rest : Tokens) → Spells (about_field_expr f).form depth ts rest → (about_field_expr f).good ≡ true
       → (begins_field ts ≡ true) × (length rest < length ts)
   field_starts f ts rest s g =
@@ -197,6 +200,7 @@ module _ (depth : ℕ) (within : ExprWithin) (reads : ExprReads depth within) wh
   FieldsRead fs last ts rest = (ys : List (FieldExpr × ℕ)) × (nodes ys ≡ fs) × (deepest ys ≤ depth)
       × (open_elements begins_field (one_field within) ts ≡ Some ((ys, last), rest))
 
+  -- fields with commas
   some_fields : (last : Bool) (f : FieldExpr) (fs : List FieldExpr) (ts mid end rest : Tokens)
       → all_good (map about_field_expr (f ∷ fs)) ≡ true
       → Spells (about_field_expr f).form depth ts mid → Spells (each comma_gap (map (λ y. (about_field_expr y).form) fs)) depth mid end
@@ -230,6 +234,7 @@ module _ (depth : ℕ) (within : ExprWithin) (reads : ExprReads depth within) wh
       or_true true = refl
       or_true false = refl
 
+  -- no base before the `}`
   no_base : (last : Bool) (ts rest : Tokens) → Closed Brace ts rest → BaseRead None last ts ts
   unfolding base
   no_base last ts rest o =
@@ -244,6 +249,7 @@ module _ (depth : ℕ) (within : ExprWithin) (reads : ExprReads depth within) wh
   base_is None = refl
   base_is (Some x) = refl
 
+  -- `..`, and a base or none, before the `}`
   some_base : (x : Option Expr) (ts at rest : Tokens) → Spells (dotted_form (option_map about_expr x)) depth ts at
       → base_placed (Some (option_map about_expr x)) ≡ true → Closed Brace at rest
       → (is_op (codes "..") ts ≡ true) × BaseRead (Some x) true ts at
@@ -265,6 +271,7 @@ module _ (depth : ℕ) (within : ExprWithin) (reads : ExprReads depth within) wh
   InBraces fs b ts rest = (inside : Tokens) × IsOne (Opener Brace) (opening Brace ∷ []) ts inside
       × ((p : Path) (n : ℕ) → n ≤ depth → IsRead (suc depth) (struct_expr within (p, n)) (expr.Struct p fs b) inside rest)
 
+  -- fields, a base or none, and the `}`
   braces_made : (fs : List FieldExpr) (b : Option (Option Expr)) (last : Bool) (ts end at rest : Tokens) → FieldsRead fs last ts end
       → BaseRead b last end at
       → Closed Brace at rest → (p : Path) (n : ℕ) → n ≤ depth → IsRead (suc depth) (struct_expr within (p, n)) (expr.Struct p fs b) ts rest
@@ -282,6 +289,7 @@ module _ (depth : ℕ) (within : ExprWithin) (reads : ExprReads depth within) wh
   abbrev field_forms : List FieldExpr → List Form
   field_forms fs = map (λ (y : FieldExpr). (about_field_expr y).form) fs
 
+  -- fields alone
   without_base : (fs : List FieldExpr) (ts rest : Tokens) → Spells (braces true (field_forms fs)) depth ts rest
       → all_good (map about_field_expr fs) ≡ true
       → InBraces fs None ts rest
@@ -323,6 +331,7 @@ module _ (depth : ℕ) (within : ExprWithin) (reads : ExprReads depth within) wh
             )
       ]
 
+  -- fields and a `..` behind them
   with_base : (fs : List FieldExpr) (x : Option Expr) (ts rest : Tokens)
       → Spells (braces false (field_forms fs ++ dotted_form (option_map about_expr x) ∷ [])) depth ts rest
       → all_good (map about_field_expr fs) ≡ true → base_placed (Some (option_map about_expr x)) ≡ true → InBraces fs (Some x) ts rest
@@ -352,6 +361,7 @@ module _ (depth : ℕ) (within : ExprWithin) (reads : ExprReads depth within) wh
       let r = some_fields true f fs inside row.0 l.0 l.1 g row.1 l.2 (l.3, dots_no_field l.1 b.0) in
       (inside, brace_opens ts inside s.1, braces_made (f ∷ fs) (Some x) true inside l.1 more.0 rest r b.1 close)
 
+  -- what stands in the braces
   in_braces : (fs : List FieldExpr) (b : Option (Option Expr)) (ts rest : Tokens)
       → Spells (braces (not (is_some (option_map (option_map about_expr) b)))
       (map (λ (F : Facts). F.form) (map about_field_expr fs) ++ base_form (option_map (option_map about_expr) b))) depth ts rest
@@ -385,6 +395,7 @@ module _ (depth : ℕ) (within : ExprWithin) (reads : ExprReads depth within) wh
       let r = l.2 p path.0 path.1 in
       (r.0, r.1, rw (no_call, path.2, there, one_left (Opener Brace) (opening Brace ∷ []) mid l.0 o) r.2)
 
+  -- a struct literal
   pub struct_head : (p : Path) (fs : List FieldExpr) (b : Option (Option Expr)) → IsHead depth within (expr.Struct p fs b)
   struct_head p fs b =
       let fields = map about_field_expr fs in

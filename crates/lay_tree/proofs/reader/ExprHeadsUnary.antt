@@ -83,6 +83,7 @@ raw_prefix p word ts rest is three b =
       ),
     )
 
+-- An operator is read where it is spelled.
 prefix_read : (p : Prefix) (ts rest : Tokens) → AreBits (prefix_bits p) ts rest → Stops p rest → IsPrefix p ts rest
 prefix_read before.Neg ts rest b stops = char_prefix before.Neg 45 ts rest (λ us. refl) refl (bit_alone (Fixed Punct (codes "-")) ts rest b)
 prefix_read before.Deref ts rest b stops =
@@ -134,6 +135,7 @@ PrefixTurn = Turn (λ us. is_some (prefix us)) one_prefix
 prefix_turn : (p : Prefix) (ts rest : Tokens) → IsPrefix p ts rest → PrefixTurn p ts rest
 prefix_turn p ts rest r = (rw r.0 refl, rw (r.0, r.1) refl, r.2)
 
+-- The operators are read one by one, up to the operand.
 prefix_rows : (ps : List Prefix) (f : Form) (depth : ℕ) (ts rest : Tokens) → Spells (prefixes_form ps f) depth ts rest
     → ((us : Tokens) → Spells f depth us rest → ends_in_amp ps ≡ true → amp_by us ≡ before.Amp)
     → (mid : Tokens) × Rows PrefixTurn ps ts mid × Spells f depth mid rest
@@ -189,6 +191,7 @@ operand_stops x no_struct depth ts rest s g alone = elim (cases_Bool (begins_raw
         rw (no_mut, e, a, b) refl
 
 module _ (depth : ℕ) (within : ExprWithin) (reads : ExprReads depth within) where
+  -- operators and an operand behind them
   unary_there : (ps : List Prefix) (x : Expr) (no_struct : Bool) (ts mid rest : Tokens) → Rows PrefixTurn ps ts mid
       → Spells (about_expr x).form depth mid rest
       → placed (about_expr x) (plain 12 no_struct) ≡ true → not (is_prefix_lead (about_expr x).lead) ≡ true
@@ -202,6 +205,7 @@ module _ (depth : ℕ) (within : ExprWithin) (reads : ExprReads depth within) wh
       let r = reads.exprs (plain 12 no_struct) x mid rest s g (plain_follows (about_expr x) 12 no_struct rest weak tail) in
       (suc r.0, omega (arith, r.1), rw (prefixes, r.2) refl)
 
+  -- a unary expression
   pub unary_head : (ps : List Prefix) (x : Expr) → IsHead depth within (expr.Unary ps x)
   unary_head ps x = head_of depth within (expr.Unary ps x) (Expr-F.Unary ps (about_expr x)) (expr_unary_is ps x)
       (λ no_struct first_flag ts rest h.

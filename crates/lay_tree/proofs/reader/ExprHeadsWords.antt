@@ -47,17 +47,20 @@ label_read (Some l) f depth ts rest s none =
     (part.0, subst (λ us. if_there (first is_lifetime us) lifetime us ≡ Some (Some l, part.0)) (sym (blank_left ts s.0 s.1)) read, part.2)
 
 module _ (depth : ℕ) (within : ExprWithin) (reads : ExprReads depth within) where
+  -- a literal
   pub lit_head : (l : Literal) → IsHead depth within (expr.Lit l)
   lit_head l = head_of depth within (expr.Lit l) (Expr-F.Lit l) (expr_lit_is l) (λ no_struct first_flag ts rest h.
       let o = one_alone l.kind l.text ts h.spelled.0 rest h.spelled.1 h.spelled.2 in
       let r = literal_complete is_literal_token l ts rest (λ t. h.inside) o in
       (1, omega arith, rw r.0 refl))
 
+  -- `_`
   pub underscore_head : IsHead depth within expr.Underscore
   underscore_head = head_of depth within expr.Underscore Expr-F.Underscore expr_underscore_is (λ no_struct first_flag ts rest h.
       let o : IsOne kind.Underscore (codes "_") ts rest = piece_bit (Fixed kind.Underscore (codes "_")) depth ts rest h.spelled in
       (1, omega arith, rw (one_left kind.Underscore (codes "_") ts rest o) refl))
 
+  -- a macro call
   pub call_head : (c : MacroCall) → IsHead depth within (expr.Call c)
   call_head c = head_of depth within (expr.Call c) (Expr-F.Call c) (expr_call_is c) (λ no_struct first_flag ts rest h.
       let there = call_there c depth ts rest h.spelled h.inside in
@@ -66,6 +69,7 @@ module _ (depth : ℕ) (within : ExprWithin) (reads : ExprReads depth within) wh
 
   -- ---- paths
 
+  -- A path is read where neither a `!` nor the `{` of a struct literal follows it.
   path_there : (p : Path) (no_struct : Bool) (ts rest : Tokens) → Spells (about_path p Code).form depth ts rest
       → (about_path p Code).good ≡ true
       → may_follow (about_path p Code).refuses rest ≡ true → is_op (codes "!") rest ≡ false
@@ -79,6 +83,7 @@ module _ (depth : ℕ) (within : ExprWithin) (reads : ExprReads depth within) wh
       let r = path_read depth within.kinds reads.kinds Code p ts rest s g (follows_clear (about_path p Code).refuses rest f) in
       (suc r.0, omega (arith, r.1), rw (no_call, r.2, brace, bang) refl)
 
+  -- a path
   pub path_head : (p : Path) → IsHead depth within (expr.Path p)
   path_head p = head_of depth within (expr.Path p) (Expr-F.Path p) (expr_path_is p) (λ no_struct first_flag ts rest h.
       let refuses = and_parts (not (is_op (codes "!") rest)) (may_follow (about_path p Code).refuses rest) h.tail.refuses in
@@ -87,6 +92,7 @@ module _ (depth : ℕ) (within : ExprWithin) (reads : ExprReads depth within) wh
 
   -- ---- `continue`
 
+  -- `continue`, with a label or without one
   pub continue_head : (label : Option Lifetime) → IsHead depth within (expr.Continue label)
   unfolding continue_expr
   continue_head label = head_of depth within (expr.Continue label) (Expr-F.Continue label) (expr_continue_is label)
