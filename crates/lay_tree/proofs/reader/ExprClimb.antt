@@ -34,7 +34,8 @@ module _ (within : ExprWithin) (place : Place) where
   climb_taken level x y n m ts mid le s g h = rw (le-leb place.level level le, eq-eqb (strength ts) (suc level) s, g, h) refl
 
   -- A level of which no operator follows is passed.
-  climb_passed : (level : ℕ) (lhs : Expr × ℕ) (ts : Tokens) → strength ts ≤ level → climb within place (suc level) lhs ts ≡ climb within place level lhs ts
+  climb_passed : (level : ℕ) (lhs : Expr × ℕ) (ts : Tokens) → strength ts ≤ level
+      → climb within place (suc level) lhs ts ≡ climb within place level lhs ts
   unfolding climb
   climb_passed level lhs ts le = by (nat_le place.level level)
     where
@@ -63,7 +64,8 @@ module _ (within : ExprWithin) (place : Place) where
   climb_skips : (level least : ℕ) (lhs : Expr × ℕ) (ts : Tokens) → least ≤ level → strength ts ≤ least
       → climb within place level lhs ts ≡ climb within place least lhs ts
   climb_skips zero least lhs ts le s = let same : zero ≡ least = omega (arith, le) in ap (λ i. climb within place i lhs ts) same
-  climb_skips (suc level) least lhs ts le s = skip_by level least lhs ts le s (λ less. climb_skips level least lhs ts less s) (nat_le least level) refl
+  climb_skips (suc level) least lhs ts le s =
+      skip_by level least lhs ts le s (λ less. climb_skips level least lhs ts less s) (nat_le least level) refl
 
   -- Levels that the place doesn't allow end it.
   pub climb_ends : (level : ℕ) (lhs : Expr × ℕ) (ts : Tokens) → level ≤ place.level → climb within place level lhs ts ≡ Some (lhs, ts)
@@ -97,7 +99,8 @@ module _ (within : ExprWithin) (place : Place) where
     pub struct_free : not (place.no_struct && x.is_struct) ≡ true
 
   abbrev pub Reaches : ℕ → Type 0
-  Reaches depth = (x : Expr) (level : ℕ) (first : Bool) (ts mid : Tokens) → Known level depth (about_expr x) first ts mid → Reach level depth x ts mid
+  Reaches depth =
+      (x : Expr) (level : ℕ) (first : Bool) (ts mid : Tokens) → Known level depth (about_expr x) first ts mid → Reach level depth x ts mid
 
   -- ---- by what begins it
 
@@ -128,7 +131,8 @@ module _ (within : ExprWithin) (place : Place) where
   -- ---- by an operator behind an operand
 
   -- Where an operand is reached, so is what an operator of its level makes of it.
-  pub reach_on : (x y : Expr) (operator level depth : ℕ) (ts mid rest : Tokens) → Reach (suc operator) depth x ts mid → place.level ≤ level → level ≤ operator
+  pub reach_on : (x y : Expr) (operator level depth : ℕ) (ts mid rest : Tokens) → Reach (suc operator) depth x ts mid
+      → place.level ≤ level → level ≤ operator
       → strength rest ≤ level → strength mid ≡ suc operator → stands (about_expr x) (left_place place operator mid) ≡ true
       → ((n : ℕ) → n ≤ depth → (m : ℕ) × (m ≤ suc depth) × (stage within operator place.no_struct (x, n) mid ≡ Some ((y, m), rest)))
       → Reach level (suc depth) y ts rest
@@ -165,7 +169,8 @@ module _ (within : ExprWithin) (place : Place) where
     pub angled : is_angle mid ≡ angle
     pub tail : tail_follows (about_expr x).tail place.no_struct mid ≡ true
 
-  module _ (depth : ℕ) (reaches : Reaches depth) (operator : ℕ) (x : Expr) (first angle : Bool) (ts mid : Tokens) (o : Operand operator depth x first angle ts mid) where
+  module _ (depth : ℕ) (reaches : Reaches depth) (operator : ℕ) (x : Expr) (first angle : Bool) (ts mid : Tokens)
+      (o : Operand operator depth x first angle ts mid) where
     stand : stands (about_expr x) (before_op (suc operator) place.no_struct first angle) ≡ true
     stand = (and_parts _ ((about_expr x).within place.no_struct (begins (part_if first))) o.there).0
 
@@ -175,7 +180,8 @@ module _ (within : ExprWithin) (place : Place) where
     operand_goes_on : is_ended place (about_expr x) mid ≡ false
     operand_goes_on = unended place.start (about_expr x).block_like (is_dot_or_try mid) (λ b d. parts.part (o.starts ∙ open_start b d))
       where
-        open_start : begins place.start ≡ true → is_dot_or_try mid ≡ false → (begins place.start && not (operator == 13 && is_dot_or_try mid)) ≡ true
+        open_start : begins place.start ≡ true → is_dot_or_try mid ≡ false
+            → (begins place.start && not (operator == 13 && is_dot_or_try mid)) ≡ true
         open_start b d = rw (b, d, and_none (operator == 13)) refl
 
     pub operand_reached : Reach (suc operator) depth x ts mid
@@ -195,4 +201,5 @@ module _ (within : ExprWithin) (place : Place) where
     pub operand_stands : stands (about_expr x) (left_place place operator mid) ≡ true
     operand_stands =
         let At : Bool → Bool → Type 0 = λ b a. stands (about_expr x) (before_op (suc operator) place.no_struct b a) ≡ true in
-        subst (λ a. At (begins place.start && not (operator == 13 && is_dot_or_try mid)) a) (sym o.angled) (subst (λ b. At b angle) o.starts stand)
+        subst (λ a. At (begins place.start && not (operator == 13 && is_dot_or_try mid)) a) (sym o.angled)
+        (subst (λ b. At b angle) o.starts stand)

@@ -43,17 +43,21 @@ starts_on false true false dot n e = absurd (cc)
 module _ (within : ExprWithin) (place : Place) (depth : ℕ) (reads : ExprReads depth within) (reaches : Reaches within place depth) where
   -- an expression of which this is told is reached
   abbrev By : Expr → ExprFacts → Type 0
-  By x F = (level : ℕ) (first : Bool) (ts mid : Tokens) → Known within place level (suc depth) F first ts mid → Reach within place level (suc depth) x ts mid
+  By x F =
+      (level : ℕ) (first : Bool) (ts mid : Tokens) → Known within place level (suc depth) F first ts mid
+      → Reach within place level (suc depth) x ts mid
 
   told : (x : Expr) (F : Expr-F ExprFacts Facts StepFacts) → about_expr x ≡ expr_facts F → By x (expr_facts F) → By x (about_expr x)
   told x F e f = subst (By x) (sym e) f
 
   -- what is spelled within a level
-  layer : (F : Expr-F ExprFacts Facts StepFacts) (ts mid : Tokens) → Spells (expr_facts F).form (suc depth) ts mid → Spells (inside F) depth ts mid
+  layer : (F : Expr-F ExprFacts Facts StepFacts) (ts mid : Tokens) → Spells (expr_facts F).form (suc depth) ts mid
+      → Spells (inside F) depth ts mid
   layer F ts mid s = subst (λ us. Spells (inside F) depth ts us) s.2 s.1
 
   -- an operand before an operator that is no step
-  before_operator : (operator : ℕ) (x : Expr) (first angle : Bool) (ts mid : Tokens) → place.level ≤ operator → (operator == 13) ≡ false → first ≡ begins place.start
+  before_operator : (operator : ℕ) (x : Expr) (first angle : Bool) (ts mid : Tokens) → place.level ≤ operator → (operator == 13) ≡ false
+      → first ≡ begins place.start
       → placed (about_expr x) (before_op (suc operator) place.no_struct first angle) ≡ true → Spells (about_expr x).form depth ts mid
       → strength mid ≡ suc operator → is_angle mid ≡ angle → tail_follows (about_expr x).tail place.no_struct mid ≡ true
       → Operand within place operator depth x first angle ts mid
@@ -69,12 +73,14 @@ module _ (within : ExprWithin) (place : Place) (depth : ℕ) (reads : ExprReads 
   }
 
   -- What an operator makes of the operand before it is reached.
-  made_reached : (operator : ℕ) (x y : Expr) (level : ℕ) (first angle : Bool) (ts at mid : Tokens) → Operand within place operator depth x first angle ts at
+  made_reached : (operator : ℕ) (x y : Expr) (level : ℕ) (first angle : Bool) (ts at mid : Tokens)
+      → Operand within place operator depth x first angle ts at
       → place.level ≤ level → level ≤ operator → strength mid ≤ level
       → ((n : ℕ) → n ≤ depth → (m : ℕ) × (m ≤ suc depth) × (stage within operator place.no_struct (x, n) at ≡ Some ((y, m), mid)))
       → Reach within place level (suc depth) y ts mid
   made_reached operator x y level first angle ts at mid o allowed le weak made =
-      reach_on within place x y operator level depth ts at mid (operand_reached within place depth reaches operator x first angle ts at o) allowed le weak o.next
+      reach_on within place x y operator level depth ts at mid
+      (operand_reached within place depth reaches operator x first angle ts at o) allowed le weak o.next
       (operand_stands within place depth reaches operator x first angle ts at o) made
 
   -- ---- chains
@@ -90,7 +96,8 @@ module _ (within : ExprWithin) (place : Place) (depth : ℕ) (reads : ExprReads 
       let no_steps : (level == 13) ≡ false = ne_eqb level 13 (λ f. absurd (omega (arith, le, f))) in
       rw (no_cast, no_steps) refl
 
-  chain_made : (level : ℕ) (x : Expr) (n : ℕ) (ys : List (Op × Expr)) (found : List ((Op × Expr) × ℕ)) (ts rest : Tokens) → is_chain_level level ≡ true
+  chain_made : (level : ℕ) (x : Expr) (n : ℕ) (ys : List (Op × Expr)) (found : List ((Op × Expr) × ℕ)) (ts rest : Tokens)
+      → is_chain_level level ≡ true
       → nodes found ≡ ys → operands within level place.no_struct ts ≡ Some (found, rest)
       → stage within level place.no_struct (x, n) ts ≡ Some ((expr.Chain x ys, suc (max n (deepest found))), rest)
   unfolding chain_expr
@@ -98,7 +105,9 @@ module _ (within : ExprWithin) (place : Place) (depth : ℕ) (reads : ExprReads 
 
   pub chain_reached : (x : Expr) (ys : List (Op × Expr)) → By (expr.Chain x ys) (about_expr (expr.Chain x ys))
   chain_reached x [] = told (expr.Chain x []) (Expr-F.Chain (about_expr x) []) (expr_chain_is x []) (λ level first ts mid k. absurd (cc))
-  chain_reached x (y ∷ ys) = told (expr.Chain x (y ∷ ys)) (Expr-F.Chain (about_expr x) (map behind_op (y ∷ ys))) (expr_chain_is x (y ∷ ys)) (λ level first ts mid k.
+  chain_reached x (y ∷ ys) =
+      told (expr.Chain x (y ∷ ys)) (Expr-F.Chain (about_expr x) (map behind_op (y ∷ ys))) (expr_chain_is x (y ∷ ys))
+      (λ level first ts mid k.
       let F = about_expr x in
       let os = map behind_op (y ∷ ys) in
       let operator = op_level y.0 in
@@ -108,7 +117,9 @@ module _ (within : ExprWithin) (place : Place) (depth : ℕ) (reads : ExprReads 
       let parts = t.1 in
       let at = parts.0 in
       let rows = operands_spelled depth (y ∷ ys) at mid (subst (λ us. Spells (operands_form os) depth at us) t.2 parts.2) in
-      let w3 = and_parts (is_chain_level operator && may_chain operator os && placed F asked) (operands_placed operator place.no_struct os) k.inside in
+      let w3 =
+      and_parts (is_chain_level operator && may_chain operator os && placed F asked)
+      (operands_placed operator place.no_struct os) k.inside in
       let w2 = and_parts (is_chain_level operator && may_chain operator os) (placed F asked) w3.0 in
       let w1 = and_parts (is_chain_level operator) (may_chain operator os) w2.0 in
       let most = leb-true operator 10 (and_parts (nat_le 2 operator) (nat_le operator 10) w1.0).1 in
@@ -116,7 +127,8 @@ module _ (within : ExprWithin) (place : Place) (depth : ℕ) (reads : ExprReads 
       let sign = rows.1 in
       let a = at_op operator y.0 at sign.0 (eq-eqb operator operator refl) sign.1 in
       let angled : is_angle at ≡ angle = ap angle_by a.binary in
-      let b = before_parts F (suc operator) place.no_struct first angle (and_parts _ (F.within place.no_struct (begins (part_if first))) w2.1).0 in
+      let b =
+      before_parts F (suc operator) place.no_struct first angle (and_parts _ (F.within place.no_struct (begins (part_if first))) w2.1).0 in
       let tail = before_tail F (suc operator) place.no_struct first angle b at y.0 a.binary angled in
       let off : (operator == 13) ≡ false = ne_eqb operator 13 (λ f. absurd (omega (arith, most, f))) in
       let starts = k.starts (lt-leb 14 operator (omega (arith, most))) in
@@ -135,7 +147,8 @@ module _ (within : ExprWithin) (place : Place) (depth : ℕ) (reads : ExprReads 
 
   pub cast_reached : (x : Expr) (xs : List Ty) → By (expr.Cast x xs) (about_expr (expr.Cast x xs))
   cast_reached x [] = told (expr.Cast x []) (Expr-F.Cast (about_expr x) []) (expr_cast_is x []) (λ level first ts mid k. absurd (cc))
-  cast_reached x (y ∷ ys) = told (expr.Cast x (y ∷ ys)) (Expr-F.Cast (about_expr x) (y ∷ ys)) (expr_cast_is x (y ∷ ys)) (λ level first ts mid k.
+  cast_reached x (y ∷ ys) =
+      told (expr.Cast x (y ∷ ys)) (Expr-F.Cast (about_expr x) (y ∷ ys)) (expr_cast_is x (y ∷ ys)) (λ level first ts mid k.
       let F = about_expr x in
       let types = map about_type (y ∷ ys) in
       let asked = before_op 12 place.no_struct first false in
@@ -151,7 +164,9 @@ module _ (within : ExprWithin) (place : Place) (depth : ℕ) (reads : ExprReads 
       let tail = as_tail F.tail place.no_struct at sign.0 sign.1 b.shut refuses in
       let angled : is_angle at ≡ false = ap angle_by (as_binary at sign.0 sign.1) in
       let le = leb-true level 11 k.high in
-      let o = before_operator 11 x first false ts at (omega (arith, k.allowed, le)) refl (k.starts refl) w1.1 t.1 (as_strength at sign.0 sign.1) angled tail in
+      let o =
+      before_operator 11 x first false ts at (omega (arith, k.allowed, le)) refl (k.starts refl) w1.1 t.1
+      (as_strength at sign.0 sign.1) angled tail in
       let follow = (tail_fits (tail_of (Expr-F.Cast F (y ∷ ys))) place.no_struct mid k.tail).refuses in
       let found = types_read depth within reads y ys at mid rows w2.1 (omega (arith, k.weak, le)) follow in
       made_reached 11 x (expr.Cast x (y ∷ ys)) level first false ts at mid o k.allowed le k.weak (λ n h.
@@ -163,7 +178,8 @@ module _ (within : ExprWithin) (place : Place) (depth : ℕ) (reads : ExprReads 
   dots_op true = op.UptoEq
   dots_op false = op.Upto
 
-  dots_at : (inclusive : Bool) (f : Form) (at mid : Tokens) → Spells (Piece (dots inclusive) f) depth at mid → (behind : Tokens) × AtOp 1 (dots_op inclusive) at behind
+  dots_at : (inclusive : Bool) (f : Form) (at mid : Tokens) → Spells (Piece (dots inclusive) f) depth at mid
+      → (behind : Tokens) × AtOp 1 (dots_op inclusive) at behind
   unfolding dots_op
   dots_at true f at mid s = (s.0, at_op 1 op.UptoEq at s.0 refl (bit_alone (Operator (codes "..=")) at s.0 s.1))
   dots_at false f at mid s = (s.0, at_op 1 op.Upto at s.0 refl (bit_alone (Operator (codes "..")) at s.0 s.1))
@@ -173,9 +189,11 @@ module _ (within : ExprWithin) (place : Place) (depth : ℕ) (reads : ExprReads 
   dots_no_angle true = refl
   dots_no_angle false = refl
 
-  pub range_reached : (x : Expr) (inclusive : Bool) (end : Option Expr) → By (expr.Range (Some x) inclusive end) (about_expr (expr.Range (Some x) inclusive end))
+  pub range_reached : (x : Expr) (inclusive : Bool) (end : Option Expr)
+      → By (expr.Range (Some x) inclusive end) (about_expr (expr.Range (Some x) inclusive end))
   range_reached x inclusive end =
-      told (expr.Range (Some x) inclusive end) (Expr-F.Range (Some (about_expr x)) inclusive (option_map about_expr end)) (expr_range_is (Some x) inclusive end) (λ level first ts mid k.
+      told (expr.Range (Some x) inclusive end) (Expr-F.Range (Some (about_expr x)) inclusive (option_map about_expr end))
+      (expr_range_is (Some x) inclusive end) (λ level first ts mid k.
       let F = about_expr x in
       let E = option_map about_expr end in
       let asked = before_op 2 place.no_struct first false in
@@ -191,7 +209,8 @@ module _ (within : ExprWithin) (place : Place) (depth : ℕ) (reads : ExprReads 
       let o = before_operator 1 x first false ts at (omega (arith, k.allowed, le)) refl (k.starts refl) w1.0 t.1 a.strength angled tail in
       let follow = tail_fits (tail_of_end E) place.no_struct mid k.tail in
       made_reached 1 x (expr.Range (Some x) inclusive end) level first false ts at mid o k.allowed le k.weak (λ n h.
-      range_read depth within reads (Some x) n h inclusive end place.no_struct at mid t.2 w1.1 follow (le-leb (strength mid) 1 (omega (arith, k.weak, le)))))
+      range_read depth within reads (Some x) n h inclusive end place.no_struct at mid t.2 w1.1 follow
+      (le-leb (strength mid) 1 (omega (arith, k.weak, le)))))
 
   -- ---- assignments
 
@@ -204,15 +223,19 @@ module _ (within : ExprWithin) (place : Place) (depth : ℕ) (reads : ExprReads 
       rw (r, same, back.0, back.1) refl
 
   pub assign_reached : (targets : List (Expr × Op)) (x : Expr) → By (expr.Assign targets x) (about_expr (expr.Assign targets x))
-  assign_reached [] x = told (expr.Assign [] x) (Expr-F.Assign [] (about_expr x)) (expr_assign_is [] x) (λ level first ts mid k. absurd (cc))
+  assign_reached [] x =
+      told (expr.Assign [] x) (Expr-F.Assign [] (about_expr x)) (expr_assign_is [] x) (λ level first ts mid k. absurd (cc))
   assign_reached (y ∷ more) x =
-      told (expr.Assign (y ∷ more) x) (Expr-F.Assign (map target_of (y ∷ more)) (about_expr x)) (expr_assign_is (y ∷ more) x) (λ level first ts mid k.
+      told (expr.Assign (y ∷ more) x) (Expr-F.Assign (map target_of (y ∷ more)) (about_expr x)) (expr_assign_is (y ∷ more) x)
+      (λ level first ts mid k.
       let F = about_expr y.0 in
       let targets = map target_of (y ∷ more) in
       let t = row_spelled depth y more x ts mid (layer (Expr-F.Assign targets (about_expr x)) ts mid k.spelled) in
       let at = t.0 in
       let sign = t.2.1 in
-      let w2 = and_parts (is_there targets && targets_placed targets place.no_struct first) (placed (about_expr x) (plain 1 place.no_struct)) k.inside in
+      let w2 =
+      and_parts (is_there targets && targets_placed targets place.no_struct first)
+      (placed (about_expr x) (plain 1 place.no_struct)) k.inside in
       let w1 = and_parts (is_there targets) (targets_placed targets place.no_struct first) w2.0 in
       let p = target_parts place.no_struct first y more w1.1 in
       let a = at_op 0 y.1 at sign.0 p.level sign.1 in
@@ -220,7 +243,8 @@ module _ (within : ExprWithin) (place : Place) (depth : ℕ) (reads : ExprReads 
       let angled : is_angle at ≡ false = ap angle_by a.binary ∙ set_no_angle y.1 p.level in
       let tail = before_tail F 1 place.no_struct first false b at y.1 a.binary angled in
       let le = leb-true level 0 k.high in
-      let o = before_operator 0 y.0 first false ts at (omega (arith, k.allowed, le)) refl (k.starts refl) p.target t.1 a.strength angled tail in
+      let o =
+      before_operator 0 y.0 first false ts at (omega (arith, k.allowed, le)) refl (k.starts refl) p.target t.1 a.strength angled tail in
       let follow = subst (λ (z : Tail). tail_follows z place.no_struct mid ≡ true) (sym (row_tail y more x)) k.tail in
       let found = operands_read depth within reads 0 place.no_struct (y.1, first_of more x) (row_of more x) at mid t.2
       (row_placed place.no_struct first y more x w1.1 w2.1) (row_chains y more x) (omega (arith, k.weak, le)) follow in
@@ -230,8 +254,11 @@ module _ (within : ExprWithin) (place : Place) (depth : ℕ) (reads : ExprReads 
   -- ---- steps
 
   pub postfix_reached : (x : Expr) (ss : List Step) → By (expr.Postfix x ss) (about_expr (expr.Postfix x ss))
-  postfix_reached x [] = told (expr.Postfix x []) (Expr-F.Postfix (about_expr x) []) (expr_postfix_is x []) (λ level first ts mid k. absurd (cc))
-  postfix_reached x (s ∷ ss) = told (expr.Postfix x (s ∷ ss)) (Expr-F.Postfix (about_expr x) (map about_step (s ∷ ss))) (expr_postfix_is x (s ∷ ss)) (λ level first ts mid k.
+  postfix_reached x [] =
+      told (expr.Postfix x []) (Expr-F.Postfix (about_expr x) []) (expr_postfix_is x []) (λ level first ts mid k. absurd (cc))
+  postfix_reached x (s ∷ ss) =
+      told (expr.Postfix x (s ∷ ss)) (Expr-F.Postfix (about_expr x) (map about_step (s ∷ ss))) (expr_postfix_is x (s ∷ ss))
+      (λ level first ts mid k.
       let F = about_expr x in
       let fs = map about_step (s ∷ ss) in
       let part = first && not (is_dotted (about_step s).kind) in
@@ -253,7 +280,8 @@ module _ (within : ExprWithin) (place : Place) (depth : ℕ) (reads : ExprReads 
       let o : Operand within place 13 depth x part false ts at = record {
         allowed = omega (arith, k.allowed, le);
         whole = λ e. let g = sym e ∙ b.high in absurd (cc);
-        starts = ap (λ c. c && not (is_dotted (about_step s).kind)) (k.starts refl) ∙ ap (λ c. begins place.start && not c) (sym begun.dotted);
+        starts = ap (λ c. c && not (is_dotted (about_step s).kind)) (k.starts refl) ∙ ap (λ c. begins place.start && not c)
+            (sym begun.dotted);
         there = w3.1;
         spelled = t.1;
         next = f.strength;

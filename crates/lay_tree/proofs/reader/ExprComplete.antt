@@ -34,10 +34,13 @@ module _ (most : ℕ) (within : ExprWithin) (reads : (depth : ℕ) → depth ≤
 
   module _ (depth : ℕ) (le : depth ≤ most) (reaches : Reaches within place depth) where
     abbrev Reached : Expr → Type 0
-    Reached x = (level : ℕ) (first : Bool) (ts mid : Tokens) → Known within place level (suc depth) (about_expr x) first ts mid → Reach within place level (suc depth) x ts mid
+    Reached x =
+        (level : ℕ) (first : Bool) (ts mid : Tokens) → Known within place level (suc depth) (about_expr x) first ts mid
+        → Reach within place level (suc depth) x ts mid
 
     -- what begins an expression, by itself
-    alone : (x : Expr) (F : Expr-F ExprFacts Facts StepFacts) → about_expr x ≡ expr_facts F → nat_le (level_of F) 14 ≡ true → IsHead depth within x → Reached x
+    alone : (x : Expr) (F : Expr-F ExprFacts Facts StepFacts) → about_expr x ≡ expr_facts F → nat_le (level_of F) 14 ≡ true
+        → IsHead depth within x → Reached x
     alone x F e top h level first ts mid k =
         headed within place x level depth first ts mid h (subst (λ (G : ExprFacts). nat_le G.level 14 ≡ true) (sym e) top) k
 
@@ -50,25 +53,33 @@ module _ (most : ℕ) (within : ExprWithin) (reads : (depth : ℕ) → depth ≤
     reached _ IsUnderscore = alone expr.Underscore Expr-F.Underscore expr_underscore_is refl (underscore_head depth within here)
     reached _ (IsCall call) = alone (expr.Call call) (Expr-F.Call call) (expr_call_is call) refl (call_head depth within here call)
     reached _ (IsParen x) = alone (expr.Paren x) (Expr-F.Paren (about_expr x)) (expr_paren_is x) refl (paren_head depth within here x)
-    reached _ (IsContinue label) = alone (expr.Continue label) (Expr-F.Continue label) (expr_continue_is label) refl (continue_head depth within here label)
-    reached _ (IsTuple xs) = alone (expr.Tuple xs) (Expr-F.Tuple (map about_expr xs)) (expr_tuple_is xs) refl (tuple_head depth within here xs)
-    reached _ (IsArray xs) = alone (expr.Array xs) (Expr-F.Array (map about_expr xs)) (expr_array_is xs) refl (array_head depth within here xs)
-    reached _ (IsRepeat x us) = alone (expr.Repeat x us) (Expr-F.Repeat (about_expr x) us) (expr_repeat_is x us) refl (repeat_head depth within here x us)
+    reached _ (IsContinue label) =
+        alone (expr.Continue label) (Expr-F.Continue label) (expr_continue_is label) refl (continue_head depth within here label)
+    reached _ (IsTuple xs) =
+        alone (expr.Tuple xs) (Expr-F.Tuple (map about_expr xs)) (expr_tuple_is xs) refl (tuple_head depth within here xs)
+    reached _ (IsArray xs) =
+        alone (expr.Array xs) (Expr-F.Array (map about_expr xs)) (expr_array_is xs) refl (array_head depth within here xs)
+    reached _ (IsRepeat x us) =
+        alone (expr.Repeat x us) (Expr-F.Repeat (about_expr x) us) (expr_repeat_is x us) refl (repeat_head depth within here x us)
     reached _ (IsStruct path fields base) =
         alone (expr.Struct path fields base) (Expr-F.Struct path (map about_field_expr fields) (option_map (option_map about_expr) base))
         (expr_struct_is path fields base) refl (struct_head depth within here path fields base)
     reached _ (IsChain x more) = chain_reached within place depth here reaches x more
     reached _ (IsCast x types) = cast_reached within place depth here reaches x types
-    reached _ (IsUnary ps x) = alone (expr.Unary ps x) (Expr-F.Unary ps (about_expr x)) (expr_unary_is ps x) refl (unary_head depth within here ps x)
+    reached _ (IsUnary ps x) =
+        alone (expr.Unary ps x) (Expr-F.Unary ps (about_expr x)) (expr_unary_is ps x) refl (unary_head depth within here ps x)
     reached _ (IsRange None inclusive end) =
-        alone (expr.Range None inclusive end) (Expr-F.Range None inclusive (option_map about_expr end)) (expr_range_is None inclusive end) refl
+        alone (expr.Range None inclusive end) (Expr-F.Range None inclusive (option_map about_expr end))
+        (expr_range_is None inclusive end) refl
         (range_head depth within here inclusive end)
     reached _ (IsRange (Some x) inclusive end) = range_reached within place depth here reaches x inclusive end
     reached _ (IsAssign targets x) = assign_reached within place depth here reaches targets x
     reached _ (IsPostfix x steps) = postfix_reached within place depth here reaches x steps
-    reached _ (IsReturn x) = alone (expr.Return x) (Expr-F.Return (option_map about_expr x)) (expr_return_is x) refl (return_head depth within here x)
+    reached _ (IsReturn x) =
+        alone (expr.Return x) (Expr-F.Return (option_map about_expr x)) (expr_return_is x) refl (return_head depth within here x)
     reached _ (IsBreak label x) =
-        alone (expr.Break label x) (Expr-F.Break label (option_map about_expr x)) (expr_break_is label x) refl (break_head depth within here label x)
+        alone (expr.Break label x) (Expr-F.Break label (option_map about_expr x)) (expr_break_is label x) refl
+        (break_head depth within here label x)
 
     -- What is block-like is what begins an expression, of the highest level.
     abbrev BlockLike : Expr → Type 0
@@ -78,7 +89,8 @@ module _ (most : ℕ) (within : ExprWithin) (reads : (depth : ℕ) → depth ≤
     other x F e n b = let f = sym n ∙ sym (ap (λ (G : ExprFacts). G.block_like) e) ∙ b in absurd (cc)
 
     block_like : (x : Expr) → ExprView x → BlockLike x
-    block_like _ (IsCall call) = λ b. (call_head depth within here call, subst (λ (G : ExprFacts). nat_le 14 G.level ≡ true) (sym (expr_call_is call)) refl)
+    block_like _ (IsCall call) =
+        λ b. (call_head depth within here call, subst (λ (G : ExprFacts). nat_le 14 G.level ≡ true) (sym (expr_call_is call)) refl)
     block_like _ (IsLit l) = other (expr.Lit l) (Expr-F.Lit l) (expr_lit_is l) refl
     block_like _ (IsPath path) = other (expr.Path path) (Expr-F.Path path) (expr_path_is path) refl
     block_like _ IsUnderscore = other expr.Underscore Expr-F.Underscore expr_underscore_is refl
@@ -96,8 +108,10 @@ module _ (most : ℕ) (within : ExprWithin) (reads : (depth : ℕ) → depth ≤
     block_like _ (IsRange start inclusive end) =
         other (expr.Range start inclusive end) (Expr-F.Range (option_map about_expr start) inclusive (option_map about_expr end))
         (expr_range_is start inclusive end) refl
-    block_like _ (IsAssign targets x) = other (expr.Assign targets x) (Expr-F.Assign (map target_of targets) (about_expr x)) (expr_assign_is targets x) refl
-    block_like _ (IsPostfix x steps) = other (expr.Postfix x steps) (Expr-F.Postfix (about_expr x) (map about_step steps)) (expr_postfix_is x steps) refl
+    block_like _ (IsAssign targets x) =
+        other (expr.Assign targets x) (Expr-F.Assign (map target_of targets) (about_expr x)) (expr_assign_is targets x) refl
+    block_like _ (IsPostfix x steps) =
+        other (expr.Postfix x steps) (Expr-F.Postfix (about_expr x) (map about_step steps)) (expr_postfix_is x steps) refl
     block_like _ (IsReturn x) = other (expr.Return x) (Expr-F.Return (option_map about_expr x)) (expr_return_is x) refl
     block_like _ (IsBreak label x) = other (expr.Break label x) (Expr-F.Break label (option_map about_expr x)) (expr_break_is label x) refl
 
@@ -122,11 +136,13 @@ module _ (most : ℕ) (within : ExprWithin) (reads : (depth : ℕ) → depth ≤
   unfolding expr_by
   climbed_read budget h x n ts at rest g i k a = rw (g, i, k, a) refl
 
-  accept : (budget : ℕ) (x : Expr) (n : ℕ) (rest : Tokens) → stands (about_expr x) place ≡ true → root_follows (about_expr x) place rest ≡ true → n ≤ budget
+  accept : (budget : ℕ) (x : Expr) (n : ℕ) (rest : Tokens) → stands (about_expr x) place ≡ true
+      → root_follows (about_expr x) place rest ≡ true → n ≤ budget
       → accepted budget place (x, n) rest ≡ Some ((x, n), rest)
   accept budget x n rest m r le = rw (m, r, le-leb n budget le) refl
 
-  read_one : (depth : ℕ) → depth ≤ most → (x : Expr) (ts rest : Tokens) → Spells (about_expr x).form (suc depth) ts rest → placed (about_expr x) place ≡ true
+  read_one : (depth : ℕ) → depth ≤ most → (x : Expr) (ts rest : Tokens) → Spells (about_expr x).form (suc depth) ts rest
+      → placed (about_expr x) place ≡ true
       → follows (about_expr x) place rest ≡ true → IsRead (suc depth) (expr_by within (suc most) place) x ts rest
   read_one depth le x ts rest s w f =
       let F = about_expr x in

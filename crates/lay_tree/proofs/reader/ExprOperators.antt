@@ -71,7 +71,8 @@ unfolding binary
 binary_all p g ts o h = let b = bind_some (op_at ts) (named all_ops) o h in named_all p all_ops b.0 o g b.2
 
 -- What is the text of no operator isn't spelled where one stands.
-pub binary_no : (text : List ℕ) → list_all (λ o. not (bytes_eq text (op_text o))) all_ops ≡ true → (ts : Tokens) (o : Op) → binary ts ≡ Some o
+pub binary_no : (text : List ℕ) → list_all (λ o. not (bytes_eq text (op_text o))) all_ops ≡ true → (ts : Tokens) (o : Op)
+    → binary ts ≡ Some o
     → is_op text ts ≡ false
 binary_no text g ts o h =
     let n = binary_all (λ x. not (bytes_eq text (op_text x))) g ts o h in
@@ -110,7 +111,12 @@ pub record AtOp (level : ℕ) (o : Op) (ts at : Tokens) : Type 0 where
 pub at_op : (level : ℕ) (o : Op) (ts at : Tokens) → (op_level o == level) ≡ true → IsOperator (op_text o) ts at → AtOp level o ts at
 at_op level o ts at l s =
     let b = op_binary o ts s.0 in
-    record { binary = b; strength = op_strength o ts b ∙ ap suc (eqb-true (op_level o) level l); left = s.1; less = text_shorter (op_text o) (some_text o) ts at s }
+    record {
+      binary = b;
+      strength = op_strength o ts b ∙ ap suc (eqb-true (op_level o) level l);
+      left = s.1;
+      less = text_shorter (op_text o) (some_text o) ts at s;
+    }
 
 -- ---- `as` and steps
 
@@ -147,7 +153,8 @@ dot_front ts h = step_front ts (no_binary (codes ".") ts h refl) (op_no_as (code
 pub try_front : (ts : Tokens) → is_op (codes "?") ts ≡ true → StepFront ts
 try_front ts h =
     let dotted : is_dot_or_try ts ≡ true = or_right (is_op (codes ".") ts) (is_op (codes "?") ts) h in
-    step_front ts (no_binary (codes "?") ts h refl) (op_no_as (codes "?") ts h) (or_left (is_dot_or_try ts) (first (opens Paren) ts || first (opens Bracket) ts) dotted)
+    step_front ts (no_binary (codes "?") ts h refl) (op_no_as (codes "?") ts h)
+    (or_left (is_dot_or_try ts) (first (opens Paren) ts || first (opens Bracket) ts) dotted)
 
 opener_no_op : (d : Delim) (ts : Tokens) → first (opens d) ts ≡ true → op_at ts ≡ None
 unfolding op_at
@@ -162,9 +169,11 @@ opener_no_as : (d : Delim) (ts : Tokens) → first (opens d) ts ≡ true → fir
 opener_no_as d [] h = absurd (cc)
 opener_no_as d (t ∷ ts) h = rw (opener_kind d t.kind h) refl
 
-opens_step : (d : Delim) (ts : Tokens) → first (opens d) ts ≡ true → (first (opens Paren) ts || first (opens Bracket) ts) ≡ true → StepFront ts
+opens_step : (d : Delim) (ts : Tokens) → first (opens d) ts ≡ true → (first (opens Paren) ts || first (opens Bracket) ts) ≡ true
+    → StepFront ts
 opens_step d ts h g =
-    step_front ts (none_binary ts (opener_no_op d ts h)) (opener_no_as d ts h) (or_right (is_dot_or_try ts) (first (opens Paren) ts || first (opens Bracket) ts) g)
+    step_front ts (none_binary ts (opener_no_op d ts h)) (opener_no_as d ts h)
+    (or_right (is_dot_or_try ts) (first (opens Paren) ts || first (opens Bracket) ts) g)
 
 pub paren_front : (ts : Tokens) → first (opens Paren) ts ≡ true → StepFront ts
 paren_front ts h = opens_step Paren ts h (or_left (first (opens Paren) ts) (first (opens Bracket) ts) h)
@@ -178,7 +187,8 @@ opener_no_dot d ts h = rw (opener_no_op d ts h) refl
 
 -- one of the four
 pub step_cases : (ts : Tokens) → begins_step ts ≡ true
-    → (is_op (codes ".") ts ≡ true) ⊎ ((is_op (codes "?") ts ≡ true) ⊎ ((first (opens Paren) ts ≡ true) ⊎ (first (opens Bracket) ts ≡ true)))
+    → (is_op (codes ".") ts ≡ true)
+    ⊎ ((is_op (codes "?") ts ≡ true) ⊎ ((first (opens Paren) ts ≡ true) ⊎ (first (opens Bracket) ts ≡ true)))
 step_cases ts h = elim (or_cases (is_dot_or_try ts) (first (opens Paren) ts || first (opens Bracket) ts) h) [
   | inl d ↦ elim (or_cases (is_op (codes ".") ts) (is_op (codes "?") ts) d) [ inl a ↦ inl a | inr b ↦ inr (inl b) ]
   | inr o ↦ elim (or_cases (first (opens Paren) ts) (first (opens Bracket) ts) o) [ inl a ↦ inr (inr (inl a)) | inr b ↦ inr (inr (inr b)) ]
@@ -261,7 +271,14 @@ as_inner : (ts rest : Tokens) → IsOne Ident (codes "as") ts rest → Inner ts
 as_inner ts rest s =
     let f = (one_front Ident (codes "as") ts rest s).1 in
     let none = as_no_op ts rest s in
-    record { brace = rw f refl; lifetime = rw f refl; pointer = rw f refl; colons = rw none refl; bang = rw none refl; arrow = rw none refl }
+    record {
+      brace = rw f refl;
+      lifetime = rw f refl;
+      pointer = rw f refl;
+      colons = rw none refl;
+      bang = rw none refl;
+      arrow = rw none refl;
+    }
 
 opener_inner : (d : Delim) → is_opener Brace (Opener d) ≡ false → (ts : Tokens) → first (opens d) ts ≡ true → Inner ts
 opener_inner d other ts h = record {
@@ -317,14 +334,18 @@ path_follows (b ∷ bs) ts i h =
 op_no_args : (ts : Tokens) (o : Op) → binary ts ≡ Some o → is_angle ts ≡ false → opens_args ts ≡ false
 op_no_args ts o h a =
     let angle : is_angle_op o ≡ false = sym (ap angle_by h) ∙ a in
-    let other = binary_all (λ x. is_angle_op x || not (bytes_eq (codes "<") (op_text x) || bytes_eq (codes "<<") (op_text x))) refl ts o h in
-    let none = or_parts (bytes_eq (codes "<") (op_text o)) (bytes_eq (codes "<<") (op_text o)) (not-true _ (ap (λ b. b || not (bytes_eq (codes "<") (op_text o) || bytes_eq (codes "<<") (op_text o))) (sym angle) ∙ other)) in
+    let other =
+    binary_all (λ x. is_angle_op x || not (bytes_eq (codes "<") (op_text x) || bytes_eq (codes "<<") (op_text x))) refl ts o h in
+    let none =
+    or_parts (bytes_eq (codes "<") (op_text o)) (bytes_eq (codes "<<") (op_text o))
+    (not-true _ (ap (λ b. b || not (bytes_eq (codes "<") (op_text o) || bytes_eq (codes "<<") (op_text o))) (sym angle) ∙ other)) in
     let at = binary_at ts o h in
     let less : is_op (codes "<") ts ≡ false = rw at none.0 in
     let shift : is_op (codes "<<") ts ≡ false = rw at none.1 in
     rw (less, shift, binary_no (codes "<-") refl ts o h) refl
 
-op_follows : (bs : List Begin) (ts : Tokens) (o : Op) → binary ts ≡ Some o → (lacks_args bs ≡ true → is_angle ts ≡ false) → may_follow bs ts ≡ true
+op_follows : (bs : List Begin) (ts : Tokens) (o : Op) → binary ts ≡ Some o → (lacks_args bs ≡ true → is_angle ts ≡ false)
+    → may_follow bs ts ≡ true
 op_follows [] ts o h a = refl
 op_follows (b ∷ bs) ts o h a =
     rw (one b (λ e. a (or_left (is_args b) (lacks_args bs) e)), op_follows bs ts o h (λ e. a (or_right (is_args b) (lacks_args bs) e))) refl
@@ -343,20 +364,23 @@ op_follows (b ∷ bs) ts o h a =
     one OfColons g = i.colons
     one OfBang g = i.bang
 
-tail_inner : (t : Tail) (no_struct : Bool) (ts : Tokens) → Inner ts → is_open t ≡ false → may_follow t.refuses ts ≡ true → tail_follows t no_struct ts ≡ true
+tail_inner : (t : Tail) (no_struct : Bool) (ts : Tokens) → Inner ts → is_open t ≡ false → may_follow t.refuses ts ≡ true
+    → tail_follows t no_struct ts ≡ true
 tail_inner t no_struct ts i shut f =
     let n = or_parts t.takes_all t.bare shut in
     rw (n.0, n.1, i.brace, i.lifetime, i.pointer, f, and_none (not no_struct), and_none t.path, and_none t.unlabelled, and_none t.raw) refl
 
 -- An operator may follow what it ends in, where that isn't open; `<` and `<<` not a type that is open at its end.
-pub op_tail : (t : Tail) (no_struct : Bool) (ts : Tokens) (o : Op) → binary ts ≡ Some o → is_open t ≡ false → (is_typed t ≡ true → is_angle ts ≡ false)
+pub op_tail : (t : Tail) (no_struct : Bool) (ts : Tokens) (o : Op) → binary ts ≡ Some o → is_open t ≡ false
+    → (is_typed t ≡ true → is_angle ts ≡ false)
     → tail_follows t no_struct ts ≡ true
 op_tail t no_struct ts o h shut angle =
     let n = or_parts t.takes_all t.bare shut in
     tail_inner t no_struct ts (op_inner ts o h) shut (op_follows t.refuses ts o h (λ e. angle (rw (n.0, e) refl)))
 
 -- `as` and steps may follow what ends in a path or a field.
-pub as_tail : (t : Tail) (no_struct : Bool) (ts rest : Tokens) → IsOne Ident (codes "as") ts rest → is_open t ≡ false → path_refuses t.refuses ≡ true
+pub as_tail : (t : Tail) (no_struct : Bool) (ts rest : Tokens) → IsOne Ident (codes "as") ts rest → is_open t ≡ false
+    → path_refuses t.refuses ≡ true
     → tail_follows t no_struct ts ≡ true
 as_tail t no_struct ts rest s shut p = let i = as_inner ts rest s in tail_inner t no_struct ts i shut (path_follows t.refuses ts i p)
 

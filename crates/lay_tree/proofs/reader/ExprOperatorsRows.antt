@@ -43,7 +43,8 @@ before_tail x level no_struct first angle b ts o h a = op_tail x.tail no_struct 
     by false e f t = e
 
 -- What stands before an operator stands where none follows.
-before_plain : (x : ExprFacts) (level : ℕ) (no_struct angle : Bool) → placed x (before_op level no_struct false angle) ≡ true → placed x (plain level no_struct) ≡ true
+before_plain : (x : ExprFacts) (level : ℕ) (no_struct angle : Bool) → placed x (before_op level no_struct false angle) ≡ true
+    → placed x (plain level no_struct) ≡ true
 before_plain x level no_struct angle w =
     let p = and_parts (stands x (before_op level no_struct false angle)) (x.within no_struct false) w in
     let b = before_parts x level no_struct false angle p.0 in
@@ -64,7 +65,12 @@ operands_spelled depth (y ∷ ys) ts rest s =
     let operand = blank.2 in
     let here = blank_left at blank.0 blank.1 in (
       operand.0,
-      (at, bit_alone (Operator (op_text y.0)) ts at s.1, subst (λ us. Spells (about_expr y.1).form depth us operand.0) (sym here) operand.1),
+      (
+        at,
+        bit_alone (Operator (op_text y.0)) ts at s.1,
+        subst (λ us. Spells (about_expr y.1).form depth us operand.0)
+            (sym here) operand.1,
+      ),
       operands_spelled depth ys operand.0 rest operand.2,
     )
 
@@ -73,7 +79,8 @@ abbrev pub at_level : ℕ → Tokens → Bool
 at_level level ts = strength ts == suc level
 
 module _ (depth : ℕ) (within : ExprWithin) (reads : ExprReads depth within) (level : ℕ) (no_struct : Bool) where
-  operand_read : (y : Op × Expr) (ts at mid : Tokens) (need : ℕ) → AtOp level y.0 ts at → within.exprs (plain (suc level) no_struct) at ≡ Some ((y.1, need), mid)
+  operand_read : (y : Op × Expr) (ts at mid : Tokens) (need : ℕ) → AtOp level y.0 ts at
+      → within.exprs (plain (suc level) no_struct) at ≡ Some ((y.1, need), mid)
       → operand_ends level no_struct (about_expr y.1) mid ≡ true → operand within level no_struct ts ≡ Some ((y, need), mid)
   unfolding operand
   operand_read y ts at mid need a r e = rw (a.binary, a.left, r, e) refl
@@ -106,8 +113,12 @@ module _ (depth : ℕ) (within : ExprWithin) (reads : ExprReads depth within) (l
       let p = and_parts ((op_level y.0 == level) && placed (about_expr y.1) (plain (suc level) no_struct)) true w in
       let q = and_parts (op_level y.0 == level) (placed (about_expr y.1) (plain (suc level) no_struct)) p.0 in
       let spelled : OperandSpelled depth y ts rest = subst (λ us. OperandSpelled depth y ts us) r.2 r.1 in
-      let ends : operand_ends level no_struct (about_expr y.1) rest ≡ true = rw (not_at_level level rest s) refl in
-      (rest, operand_turn y ts rest q.0 spelled q.1 (plain_follows (about_expr y.1) (suc level) no_struct rest (le-leb (strength rest) (suc level) (omega (arith, s))) t) ends, refl)
+      let ends : operand_ends level no_struct (about_expr y.1) rest ≡ true = rw (not_at_level level rest s) refl in (
+        rest,
+        operand_turn y ts rest q.0 spelled q.1
+            (plain_follows (about_expr y.1) (suc level) no_struct rest (le-leb (strength rest) (suc level) (omega (arith, s))) t) ends,
+        refl,
+      )
   operand_turns y (z ∷ more) ts rest r w c s t =
       let F = about_expr y.1 in
       let next = r.2 in
@@ -118,7 +129,9 @@ module _ (depth : ℕ) (within : ExprWithin) (reads : ExprReads depth within) (l
       let q = and_parts (op_level y.0 == level) (placed F place) p.0 in
       let operands_more = operands_placed level no_struct (map behind_op more) in
       let head = (op_level z.0 == level) && placed (about_expr z.1) (operand_place level no_struct (map behind_op more)) in
-      let l = and_parts (op_level z.0 == level) (placed (about_expr z.1) (operand_place level no_struct (map behind_op more))) (and_parts head operands_more p.1).0 in
+      let l =
+      and_parts (op_level z.0 == level) (placed (about_expr z.1) (operand_place level no_struct (map behind_op more)))
+      (and_parts head operands_more p.1).0 in
       let spelled = next.1 in
       let a = at_op level z.0 mid spelled.0 l.0 spelled.1 in
       let angle : is_angle mid ≡ is_angle_op z.0 = ap angle_by a.binary in
@@ -127,7 +140,8 @@ module _ (depth : ℕ) (within : ExprWithin) (reads : ExprReads depth within) (l
       let tail = before_tail F (suc level) no_struct false (is_angle_op z.0) b mid z.0 a.binary angle in
       let here = subst (λ d. stands F (before_op (suc level) no_struct false d) ≡ true) (sym angle) there in
       let ends : operand_ends level no_struct F mid ≡ true =
-      rw (eq-eqb (strength mid) (suc level) a.strength) (and_from (not (level == 4)) (stands F (before_op (suc level) no_struct false (is_angle mid))) c here) in
+      rw (eq-eqb (strength mid) (suc level) a.strength)
+      (and_from (not (level == 4)) (stands F (before_op (suc level) no_struct false (is_angle mid))) c here) in
       let follow = plain_follows F (suc level) no_struct mid (le-leb (strength mid) (suc level) (omega (arith, a.strength))) tail in (
         mid,
         operand_turn y ts mid q.0 r.1 (before_plain F (suc level) no_struct (is_angle_op z.0) q.1) follow ends,
@@ -142,10 +156,12 @@ module _ (depth : ℕ) (within : ExprWithin) (reads : ExprReads depth within) (l
   pub operands_read : (y : Op × Expr) (ys : List (Op × Expr)) (ts rest : Tokens) → Rows (OperandSpelled depth) (y ∷ ys) ts rest
       → operands_placed level no_struct (map behind_op (y ∷ ys)) ≡ true → may_chain level (map behind_op (y ∷ ys)) ≡ true
       → strength rest ≤ level → tail_follows (tail_of_operands (map behind_op (y ∷ ys))) no_struct rest ≡ true
-      → (found : List ((Op × Expr) × ℕ)) × (nodes found ≡ y ∷ ys) × (deepest found ≤ depth) × (operands within level no_struct ts ≡ Some (found, rest))
+      → (found : List ((Op × Expr) × ℕ)) × (nodes found ≡ y ∷ ys) × (deepest found ≤ depth)
+      × (operands within level no_struct ts ≡ Some (found, rest))
   unfolding operands
   operands_read y ys ts rest r w c s t =
-      nodes_repeat (at_level level) (operand within level no_struct) depth (y ∷ ys) ts rest (operand_turns y ys ts rest r w c s t) (not_at_level level rest s)
+      nodes_repeat (at_level level) (operand within level no_struct) depth (y ∷ ys) ts rest (operand_turns y ys ts rest r w c s t)
+      (not_at_level level rest s)
 
 -- ---- targets and a value, as operands with operators between them
 
@@ -158,19 +174,23 @@ abbrev pub row_of : List (Expr × Op) → Expr → List (Op × Expr)
 row_of [] x = []
 row_of (z ∷ more) x = (z.1, first_of more x) ∷ row_of more x
 
-pub row_targets : (more : List (Expr × Op)) (x : Expr) → (targets_of (first_of more x) (row_of more x) ≡ more) × (value_of (first_of more x) (row_of more x) ≡ x)
+pub row_targets : (more : List (Expr × Op)) (x : Expr)
+    → (targets_of (first_of more x) (row_of more x) ≡ more) × (value_of (first_of more x) (row_of more x) ≡ x)
 row_targets [] x = (refl, refl)
 row_targets (z ∷ more) x = let r = row_targets more x in (ap (λ zs. z ∷ zs) r.0, r.1)
 
 -- a target, its operator and what stands behind it
-target_spelled : (depth : ℕ) (y : Expr × Op) (more : List (Expr × Op)) (f : Form) (ts rest : Tokens) → Spells (targets_form (map target_of (y ∷ more)) f) depth ts rest
-    → (mid at : Tokens) × Spells (about_expr y.0).form depth ts mid × IsOperator (op_text y.1) mid at × Spells (targets_form (map target_of more) f) depth at rest
+target_spelled : (depth : ℕ) (y : Expr × Op) (more : List (Expr × Op)) (f : Form) (ts rest : Tokens)
+    → Spells (targets_form (map target_of (y ∷ more)) f) depth ts rest
+    → (mid at : Tokens) × Spells (about_expr y.0).form depth ts mid × IsOperator (op_text y.1) mid at
+    × Spells (targets_form (map target_of more) f) depth at rest
 target_spelled depth y more f ts rest s =
     let blank = s.2 in
     let sign = blank.2 in
     let gap = sign.2 in
     let o : IsOperator (op_text y.1) blank.0 sign.0 = bit_alone (Operator (op_text y.1)) blank.0 sign.0 sign.1 in
-    let before : IsOperator (op_text y.1) s.0 sign.0 = subst (λ us. IsOperator (op_text y.1) us sign.0) (sym (blank_left s.0 blank.0 blank.1)) o in
+    let before : IsOperator (op_text y.1) s.0 sign.0 =
+    subst (λ us. IsOperator (op_text y.1) us sign.0) (sym (blank_left s.0 blank.0 blank.1)) o in
     let there : IsOperator (op_text y.1) s.0 gap.0 = subst (λ us. IsOperator (op_text y.1) s.0 us) (blank_left sign.0 gap.0 gap.1) before in
     (s.0, gap.0, s.1, there, gap.2)
 
@@ -192,7 +212,8 @@ pub record TargetParts (no_struct first : Bool) (y : Expr × Op) (ys : List (Exp
   pub target : placed (about_expr y.0) (before_op 1 no_struct first false) ≡ true
   pub more : targets_placed (map target_of ys) no_struct false ≡ true
 
-pub target_parts : (no_struct first : Bool) (y : Expr × Op) (ys : List (Expr × Op)) → targets_placed (map target_of (y ∷ ys)) no_struct first ≡ true
+pub target_parts : (no_struct first : Bool) (y : Expr × Op) (ys : List (Expr × Op))
+    → targets_placed (map target_of (y ∷ ys)) no_struct first ≡ true
     → TargetParts no_struct first y ys
 target_parts no_struct first y ys w =
     let place = before_op 1 no_struct first false in
@@ -206,7 +227,8 @@ set_no_angle op.Less h = absurd (cc)
 set_no_angle op.Shl h = absurd (cc)
 set_no_angle _ h = refl
 
-pub row_placed : (no_struct first : Bool) (y : Expr × Op) (more : List (Expr × Op)) (x : Expr) → targets_placed (map target_of (y ∷ more)) no_struct first ≡ true
+pub row_placed : (no_struct first : Bool) (y : Expr × Op) (more : List (Expr × Op)) (x : Expr)
+    → targets_placed (map target_of (y ∷ more)) no_struct first ≡ true
     → placed (about_expr x) (plain 1 no_struct) ≡ true → operands_placed 0 no_struct (map behind_op (row_of (y ∷ more) x)) ≡ true
 row_placed no_struct first y [] x w v = rw ((target_parts no_struct first y [] w).level, v) refl
 row_placed no_struct first y (z ∷ more) x w v =
@@ -215,7 +237,8 @@ row_placed no_struct first y (z ∷ more) x w v =
     let angle = set_no_angle z.1 q.level in
     rw (p.level, angle, q.target) (row_placed no_struct false z more x p.more v)
 
-pub row_tail : (y : Expr × Op) (more : List (Expr × Op)) (x : Expr) → tail_of_operands (map behind_op (row_of (y ∷ more) x)) ≡ (about_expr x).tail
+pub row_tail : (y : Expr × Op) (more : List (Expr × Op)) (x : Expr)
+    → tail_of_operands (map behind_op (row_of (y ∷ more) x)) ≡ (about_expr x).tail
 row_tail y [] x = refl
 row_tail y (z ∷ more) x = row_tail z more x
 
@@ -229,10 +252,12 @@ row_chains y (z ∷ more) x = refl
 abbrev pub TypeSpelled : ℕ → Ty → Tokens → Tokens → Type 0
 TypeSpelled depth x ts mid = (at : Tokens) × IsOne Ident (codes "as") ts at × Spells (about_type x).told.form depth at mid
 
-pub types_spelled : (depth : ℕ) (xs : List Ty) (ts rest : Tokens) → Spells (types_form (map about_type xs)) depth ts rest → Rows (TypeSpelled depth) xs ts rest
+pub types_spelled : (depth : ℕ) (xs : List Ty) (ts rest : Tokens) → Spells (types_form (map about_type xs)) depth ts rest
+    → Rows (TypeSpelled depth) xs ts rest
 types_spelled depth [] ts rest s = s
 types_spelled depth (x ∷ xs) ts rest s =
-    let o : IsOne Ident (codes "as") ts s.0 = before_blank (keyword (codes "as")) ts s.0 (behind_blank (keyword (codes "as") ∷ Blank ∷ []) ts s.0 s.1) in
+    let o : IsOne Ident (codes "as") ts s.0 =
+    before_blank (keyword (codes "as")) ts s.0 (behind_blank (keyword (codes "as") ∷ Blank ∷ []) ts s.0 s.1) in
     let part = s.2 in
     (part.0, (s.0, o, part.1), types_spelled depth xs part.0 rest part.2)
 
@@ -240,7 +265,8 @@ abbrev pub is_as : Tokens → Bool
 is_as = first (is_keyword (codes "as"))
 
 module _ (depth : ℕ) (within : ExprWithin) (reads : ExprReads depth within) where
-  type_read : (x : Ty) (need : ℕ) (ts at mid : Tokens) → IsOne Ident (codes "as") ts at → within.kinds.types NoBounds at ≡ Some ((x, need), mid)
+  type_read : (x : Ty) (need : ℕ) (ts at mid : Tokens) → IsOne Ident (codes "as") ts at
+      → within.kinds.types NoBounds at ≡ Some ((x, need), mid)
       → one_type within ts ≡ Some ((x, need), mid)
   unfolding one_type
   type_read x need ts at mid o r = rw ((one_front Ident (codes "as") ts at o).1, r) refl
@@ -248,7 +274,8 @@ module _ (depth : ℕ) (within : ExprWithin) (reads : ExprReads depth within) wh
   abbrev TypeTurn : Ty → Tokens → Tokens → Type 0
   TypeTurn = NodeTurn is_as (one_type within) depth
 
-  type_turn : (x : Ty) (ts mid : Tokens) → TypeSpelled depth x ts mid → good_at NoBounds (about_type x) ≡ true → Clear (about_type x).told.refuses mid → TypeTurn x ts mid
+  type_turn : (x : Ty) (ts mid : Tokens) → TypeSpelled depth x ts mid → good_at NoBounds (about_type x) ≡ true
+      → Clear (about_type x).told.refuses mid → TypeTurn x ts mid
   type_turn x ts mid s g f =
       let at = s.0 in
       let r = reads.kinds.types NoBounds x at mid s.2 g f in (
@@ -261,7 +288,8 @@ module _ (depth : ℕ) (within : ExprWithin) (reads : ExprReads depth within) wh
         ),
       )
 
-  type_turns : (x : Ty) (xs : List Ty) (ts rest : Tokens) → Rows (TypeSpelled depth) (x ∷ xs) ts rest → types_good (map about_type (x ∷ xs)) ≡ true
+  type_turns : (x : Ty) (xs : List Ty) (ts rest : Tokens) → Rows (TypeSpelled depth) (x ∷ xs) ts rest
+      → types_good (map about_type (x ∷ xs)) ≡ true
       → may_follow (type_refuses (map about_type (x ∷ xs))) rest ≡ true → Rows TypeTurn (x ∷ xs) ts rest
   type_turns x [] ts rest r g f =
       let good = (and_parts (good_at NoBounds (about_type x)) true g).0 in
@@ -275,7 +303,9 @@ module _ (depth : ℕ) (within : ExprWithin) (reads : ExprReads depth within) wh
       (r.0, type_turn x ts r.0 r.1 goods.0 (quiet_fits NoBounds (about_type x) r.0 quiet), type_turns y more r.0 rest next goods.1 f)
 
   -- Types behind `as` that are spelled are read, as long as they are.
-  pub types_read : (x : Ty) (xs : List Ty) (ts rest : Tokens) → Rows (TypeSpelled depth) (x ∷ xs) ts rest → types_good (map about_type (x ∷ xs)) ≡ true
+  pub types_read : (x : Ty) (xs : List Ty) (ts rest : Tokens) → Rows (TypeSpelled depth) (x ∷ xs) ts rest
+      → types_good (map about_type (x ∷ xs)) ≡ true
       → strength rest ≤ 11 → may_follow (type_refuses (map about_type (x ∷ xs))) rest ≡ true
       → NodesRead is_as (one_type within) depth (x ∷ xs) ts rest
-  types_read x xs ts rest r g s f = nodes_repeat is_as (one_type within) depth (x ∷ xs) ts rest (type_turns x xs ts rest r g f) (no_as rest s)
+  types_read x xs ts rest r g s f =
+      nodes_repeat is_as (one_type within) depth (x ∷ xs) ts rest (type_turns x xs ts rest r g f) (no_as rest s)

@@ -27,7 +27,8 @@ use Rattle.lay_tree.proofs.reader.TypesBegins.{path_goods}
 
 -- In code a path refuses `::` and generic arguments alone.
 code_refuses : (p : Path) → (about_path p Code).good ≡ true → path_refuses (about_path p Code).refuses ≡ true
-code_refuses p g = subst (λ (F : PathFacts). path_refuses (F Code).refuses ≡ true) (sym (path_is p)) (segments p.segments (path_goods Code p g).1)
+code_refuses p g =
+    subst (λ (F : PathFacts). path_refuses (F Code).refuses ≡ true) (sym (path_is p)) (segments p.segments (path_goods Code p g).1)
   where
     by : (a : Args) → ArgsView a → (about_args a).code.good ≡ true → path_refuses (about_args a).code.refuses ≡ true
     by _ IsNone h = subst (λ (F : ArgsFacts). path_refuses F.code.refuses ≡ true) (sym args_none_is) refl
@@ -40,7 +41,8 @@ code_refuses p g = subst (λ (F : PathFacts). path_refuses (F Code).refuses ≡ 
     segments (s ∷ []) h = by s.1 (args_view s.1) (and_parts _ (about_args s.1).code.good h).1
     segments (s ∷ v ∷ more) h =
         segments (v ∷ more)
-        (and_parts (segment_good Code (about_segment s) && not (about_args s.1).returns) (segments_good Code (map about_segment (v ∷ more))) h).1
+        (and_parts (segment_good Code (about_segment s) && not (about_args s.1).returns)
+        (segments_good Code (map about_segment (v ∷ more))) h).1
 
 steps_refuse : (ss : List StepFacts) → path_refuses (tail_of_steps ss).refuses ≡ true
 steps_refuse [] = refl
@@ -76,7 +78,9 @@ abbrev EndsAsPath : ExprFacts → Type 0
 EndsAsPath F = nat_le 12 F.level ≡ true → F.tail.takes_all ≡ false → path_refuses F.tail.refuses ≡ true
 
 abbrev AllEnd : ℕ → Type 0
-AllEnd depth = (x : Expr) (no_struct first : Bool) (ts rest : Tokens) → Spells (about_expr x).form depth ts rest → (about_expr x).within no_struct first ≡ true
+AllEnd depth =
+    (x : Expr) (no_struct first : Bool) (ts rest : Tokens) → Spells (about_expr x).form depth ts rest
+    → (about_expr x).within no_struct first ≡ true
     → EndsAsPath (about_expr x)
 
 module _ (depth : ℕ) (ih : AllEnd depth) (no_struct first : Bool) (ts rest : Tokens) where
@@ -97,7 +101,8 @@ module _ (depth : ℕ) (ih : AllEnd depth) (no_struct first : Bool) (ts rest : T
       let os = map behind_op more in
       let level = level_of_chain os in
       let place = before_op (suc level) no_struct first (next_is_angle os) in
-      let w4 = and_parts (is_chain_level level && may_chain level os && placed (about_expr x) place) (operands_placed level no_struct os) w in
+      let w4 =
+      and_parts (is_chain_level level && may_chain level os && placed (about_expr x) place) (operands_placed level no_struct os) w in
       let w3 = and_parts (is_chain_level level && may_chain level os) (placed (about_expr x) place) w4.0 in
       let w2 = and_parts (is_chain_level level) (may_chain level os) w3.0 in
       let most = leb-true level 10 (and_parts (nat_le 2 level) (nat_le level 10) w2.0).1 in
@@ -114,14 +119,17 @@ module _ (depth : ℕ) (ih : AllEnd depth) (no_struct first : Bool) (ts rest : T
       ih x no_struct false u.0 rest u.1 p.1 (stands_parts F (plain 12 no_struct) p.0).level t)
 
   -- an expression that ends in a delimiter, or in nothing that refuses what follows
-  shut_end : (x : Expr) (F : Expr-F ExprFacts Facts StepFacts) → about_expr x ≡ expr_facts F → path_refuses (tail_of F).refuses ≡ true → EndsBy (about_expr x)
+  shut_end : (x : Expr) (F : Expr-F ExprFacts Facts StepFacts) → about_expr x ≡ expr_facts F → path_refuses (tail_of F).refuses ≡ true
+      → EndsBy (about_expr x)
   shut_end x F e g = told x F e (λ s w l t. g)
 
   -- one of a lower level
-  low_end : (x : Expr) (F : Expr-F ExprFacts Facts StepFacts) → about_expr x ≡ expr_facts F → nat_le 12 (level_of F) ≡ false → EndsBy (about_expr x)
+  low_end : (x : Expr) (F : Expr-F ExprFacts Facts StepFacts) → about_expr x ≡ expr_facts F → nat_le 12 (level_of F) ≡ false
+      → EndsBy (about_expr x)
   low_end x F e low = told x F e (λ s w l t. let f = sym low ∙ l in absurd (cc))
 
-  jump_end : (x : Expr) (F : Expr-F ExprFacts Facts StepFacts) → about_expr x ≡ expr_facts F → (y : Option ExprFacts) → tail_of F ≡ tail_of_jump y → EndsBy (about_expr x)
+  jump_end : (x : Expr) (F : Expr-F ExprFacts Facts StepFacts) → about_expr x ≡ expr_facts F → (y : Option ExprFacts)
+      → tail_of F ≡ tail_of_jump y → EndsBy (about_expr x)
   jump_end x F e None j = told x F e (λ s w l t. subst (λ (z : Tail). path_refuses z.refuses ≡ true) (sym j) refl)
   jump_end x F e (Some y) j = told x F e (λ s w l t. let f = ap (λ (z : Tail). z.takes_all) (sym j) ∙ t in absurd (cc))
 
@@ -144,11 +152,14 @@ module _ (depth : ℕ) (ih : AllEnd depth) (no_struct first : Bool) (ts rest : T
   ends _ (IsRange start inclusive end) =
       low_end (expr.Range start inclusive end) (Expr-F.Range (option_map about_expr start) inclusive (option_map about_expr end))
       (expr_range_is start inclusive end) refl
-  ends _ (IsAssign targets x) = low_end (expr.Assign targets x) (Expr-F.Assign (map target_of targets) (about_expr x)) (expr_assign_is targets x) refl
+  ends _ (IsAssign targets x) =
+      low_end (expr.Assign targets x) (Expr-F.Assign (map target_of targets) (about_expr x)) (expr_assign_is targets x) refl
   ends _ (IsPostfix x steps) =
-      shut_end (expr.Postfix x steps) (Expr-F.Postfix (about_expr x) (map about_step steps)) (expr_postfix_is x steps) (steps_refuse (map about_step steps))
+      shut_end (expr.Postfix x steps) (Expr-F.Postfix (about_expr x) (map about_step steps)) (expr_postfix_is x steps)
+      (steps_refuse (map about_step steps))
   ends _ (IsReturn x) = jump_end (expr.Return x) (Expr-F.Return (option_map about_expr x)) (expr_return_is x) (option_map about_expr x) refl
-  ends _ (IsBreak label x) = jump_end (expr.Break label x) (Expr-F.Break label (option_map about_expr x)) (expr_break_is label x) (option_map about_expr x) refl
+  ends _ (IsBreak label x) =
+      jump_end (expr.Break label x) (Expr-F.Break label (option_map about_expr x)) (expr_break_is label x) (option_map about_expr x) refl
 
 all_end : (depth : ℕ) → AllEnd depth
 all_end zero x no_struct first ts rest s w = absurd (no_depth x ts rest s)

@@ -75,7 +75,8 @@ dot_begun x ts at rest d o index le = record {
 }
 
 -- behind a delimiter
-opener_begun : (x : StepFacts) (d : Delim) (ts at rest : Tokens) → is_dotted x.kind ≡ false → begins_step ts ≡ true → (is_call x.kind ≡ false → first (opens Paren) ts ≡ false)
+opener_begun : (x : StepFacts) (d : Delim) (ts at rest : Tokens) → is_dotted x.kind ≡ false → begins_step ts ≡ true
+    → (is_call x.kind ≡ false → first (opens Paren) ts ≡ false)
     → IsOne (Opener d) (opening d ∷ []) ts at → length rest ≤ length at → StepBegun x ts rest
 opener_begun x d ts at rest n begins paren o le =
     let no : (op : List ℕ) → is_op op ts ≡ false = λ op. one_no_op op (Opener d) (opening d ∷ []) ts at refl o in
@@ -95,7 +96,9 @@ name_no_await n ts rest g = by n.raw g.0 g.1
     by true o h = rw (one_front RawIdent n.text ts rest o).1 refl
     by false o h = false_from_ne_true (first (is_keyword (codes "await")) ts) (λ e.
         let f = one_front Ident n.text ts rest o in
-        let k = keyword_one (codes "await") (record f.0 { kind = Ident; text = n.text } ∷ rest) (subst (λ us. first (is_keyword (codes "await")) us ≡ true) f.1 e) in
+        let k =
+        keyword_one (codes "await") (record f.0 { kind = Ident; text = n.text } ∷ rest)
+        (subst (λ us. first (is_keyword (codes "await")) us ≡ true) f.1 e) in
         let p : is_plain (class_of (codes "await")) ≡ true = subst (λ w. is_plain (class_of w) ≡ true) k.1 h in
         absurd (cc))
 
@@ -104,7 +107,8 @@ name_no_index true text ts rest o = rw (one_front RawIdent text ts rest o).1 ref
 name_no_index false text ts rest o = rw (one_front Ident text ts rest o).1 refl
 
 -- what begins with `.` and a word
-word_begun : (x : StepFacts) (raw : Bool) (text : List ℕ) (f : Form) (depth : ℕ) (ts at rest : Tokens) → is_dotted x.kind ≡ true → IsOperator (codes ".") ts at
+word_begun : (x : StepFacts) (raw : Bool) (text : List ℕ) (f : Form) (depth : ℕ) (ts at rest : Tokens) → is_dotted x.kind ≡ true
+    → IsOperator (codes ".") ts at
     → Spells (leaf_of raw text f) depth at rest → StepBegun x ts rest
 word_begun x raw text f depth ts at rest d o s =
     let l = leaf_parts raw text f depth at rest s in
@@ -137,19 +141,23 @@ step_begun s depth ts rest t = at s (step_view s) t
         let behind = u.2 in
         dot_begun (step_facts (Step-F.TupleIndex i)) ts u.0 rest refl (bit_alone (Operator (codes ".")) ts u.0 u.1) (λ e. absurd (cc))
         (omega (arith, one_shorter Int i u.0 behind.0 behind.1, ap length behind.2)))
-    at _ (IsMethodStep n generics xs) = told (step.Method n generics xs) (step_facts (Step-F.Method n generics (map about_expr xs))) (step_method_is n generics xs) (λ u.
+    at _ (IsMethodStep n generics xs) =
+        told (step.Method n generics xs) (step_facts (Step-F.Method n generics (map about_expr xs))) (step_method_is n generics xs) (λ u.
         let f : Form = generics_form generics (Part (args_form (map about_expr xs)) Done) in
-        word_begun (step_facts (Step-F.Method n generics (map about_expr xs))) n.raw n.text f depth ts u.0 rest refl (bit_alone (Operator (codes ".")) ts u.0 u.1) u.2)
+        word_begun (step_facts (Step-F.Method n generics (map about_expr xs))) n.raw n.text f depth ts u.0 rest refl
+        (bit_alone (Operator (codes ".")) ts u.0 u.1) u.2)
     at _ (IsApplyStep xs) = told (step.Apply xs) (step_facts (Step-F.Apply (map about_expr xs))) (step_apply_is xs) (λ u.
         let o = args_open (map about_expr xs) depth ts rest u in
         let paren : first (opens Paren) ts ≡ true = rw (one_front (Opener Paren) (opening Paren ∷ []) ts o.0 o.1).1 refl in
-        opener_begun (step_facts (Step-F.Apply (map about_expr xs))) Paren ts o.0 rest refl (paren_front ts paren).begins (λ e. absurd (cc)) o.1 o.2)
+        opener_begun (step_facts (Step-F.Apply (map about_expr xs))) Paren ts o.0 rest refl (paren_front ts paren).begins
+        (λ e. absurd (cc)) o.1 o.2)
     at _ (IsIndexStep x) = told (step.Index x) (step_facts (Step-F.Index (about_expr x))) (step_index_is x) (λ u.
         let o : IsOne (Opener Bracket) (opening Bracket ∷ []) ts u.1.0 = bit_alone (opener Bracket) ts u.1.0 u.1.1 in
         let f = (one_front (Opener Bracket) (opening Bracket ∷ []) ts u.1.0 o).1 in
         let bracket : first (opens Bracket) ts ≡ true = rw f refl in
         let inner : Form = Z (Part (about_expr x).form (Z- (piece (closer Bracket ∷ [])))) in
-        opener_begun (step_facts (Step-F.Index (about_expr x))) Bracket ts u.1.0 rest refl (bracket_front ts bracket).begins (λ e. rw f refl) o
+        opener_begun (step_facts (Step-F.Index (about_expr x))) Bracket ts u.1.0 rest refl (bracket_front ts bracket).begins
+        (λ e. rw f refl) o
         (omega (arith, shorter inner depth u.1.0 u.0 u.1.2, ap length u.2)))
     at _ IsTryStep = told step.Try (step_facts Step-F.Try) step_try_is (λ u.
         let o : IsOperator (codes "?") ts rest = piece_bit (Operator (codes "?")) depth ts rest u in
@@ -177,7 +185,8 @@ Behind _ ts = Unit {0}
 
 -- Generic arguments that are read in code are angled ones behind a `::`.
 late_parts : (within : Within) (xs : List Arg) (need : ℕ) (ts rest : Tokens) → args_by within Code ts ≡ Some ((args.Angle xs, need), rest)
-    → (opens_args_late ts ≡ true) × (ys : List (Arg × ℕ)) × (angled (one_arg within) (drop 2 ts) ≡ Some (ys, rest)) × (nodes ys ≡ xs) × (deepest ys ≡ need)
+    → (opens_args_late ts ≡ true) × (ys : List (Arg × ℕ)) × (angled (one_arg within) (drop 2 ts) ≡ Some (ys, rest)) × (nodes ys ≡ xs)
+    × (deepest ys ≡ need)
 unfolding args_by angle
 late_parts within xs need ts rest h =
     elim (chosen (opens_args_late ts) (angle within (drop 2 ts)) (no_args ts) (Some ((args.Angle xs, need), rest)) h) [
@@ -185,7 +194,8 @@ late_parts within xs need ts rest h =
           let go_on : List (Arg × ℕ) × Tokens → Read Args = λ ys. Some ((args.Angle (nodes ys.0), deepest ys.0), ys.1) in
           let b = bind_some (angled (one_arg within) (drop 2 ts)) go_on ((args.Angle xs, need), rest) g.1 in
           let e = read_same (args.Angle (nodes b.0.0)) (args.Angle xs) (deepest b.0.0) need b.0.1 rest b.2 in
-          let left : angled (one_arg within) (drop 2 ts) ≡ Some (b.0.0, rest) = b.1 ∙ ap (λ (us : Tokens). let found : Got (List (Arg × ℕ)) = Some (b.0.0, us) in found) e.2 in
+          let left : angled (one_arg within) (drop 2 ts) ≡ Some (b.0.0, rest) =
+          b.1 ∙ ap (λ (us : Tokens). let found : Got (List (Arg × ℕ)) = Some (b.0.0, us) in found) e.2 in
           (g.0, b.0.0, left, angle_same (nodes b.0.0) xs e.0, e.1)
       | inr g ↦
           let e = read_same args.None (args.Angle xs) 0 need ts rest g.1 in
@@ -219,7 +229,8 @@ module _ (depth : ℕ) (within : ExprWithin) (reads : ExprReads depth within) wh
       let no_await : first (is_keyword (codes "await")) at ≡ false = rw (one_front Int i at rest one).1 refl in
       dotted ts at o ∙ (rw (no_await, l.1, l.0) refl)
 
-  await_read : (ts at rest : Tokens) → IsOperator (codes ".") ts at → IsOne Ident (codes "await") at rest → one_step within ts ≡ Some ((step.Await, 0), rest)
+  await_read : (ts at rest : Tokens) → IsOperator (codes ".") ts at → IsOne Ident (codes "await") at rest
+      → one_step within ts ≡ Some ((step.Await, 0), rest)
   unfolding dot_step
   await_read ts at rest o one =
       let f = (one_front Ident (codes "await") at rest one).1 in
@@ -236,7 +247,8 @@ module _ (depth : ℕ) (within : ExprWithin) (reads : ExprReads depth within) wh
       → method_by within n generics more ts ≡ Some ((step.Method n generics xs, max more need), rest)
   method_read n generics xs more need ts inside rest o r = rw (opener_passed Paren ts inside o, r) refl
 
-  plain_method : (n : Name) (xs : List Expr) (need : ℕ) (ts at behind inside rest : Tokens) → IsOperator (codes ".") ts at → GoodName n at behind
+  plain_method : (n : Name) (xs : List Expr) (need : ℕ) (ts at behind inside rest : Tokens) → IsOperator (codes ".") ts at
+      → GoodName n at behind
       → IsOne (Opener Paren) (opening Paren ∷ []) behind inside → free_elements within (closes Paren) inside ≡ Some ((xs, need), rest)
       → one_step within ts ≡ Some ((step.Method n None xs, max 0 need), rest)
   plain_method n xs need ts at behind inside rest o g p r =
@@ -244,7 +256,8 @@ module _ (depth : ℕ) (within : ExprWithin) (reads : ExprReads depth within) wh
       let plain : member_by within n behind ≡ method_by within n None 0 behind = rw there refl in
       dotted ts at o ∙ named n at behind g ∙ plain ∙ method_read n None xs 0 need behind inside rest p r
 
-  generic_method : (n : Name) (gs : List Arg) (xs : List Expr) (most need : ℕ) (ts at behind beyond inside rest : Tokens) → IsOperator (codes ".") ts at
+  generic_method : (n : Name) (gs : List Arg) (xs : List Expr) (most need : ℕ) (ts at behind beyond inside rest : Tokens)
+      → IsOperator (codes ".") ts at
       → GoodName n at behind → is_op (codes "::") behind ≡ true → args_by within.kinds Code behind ≡ Some ((args.Angle gs, most), beyond)
       → IsOne (Opener Paren) (opening Paren ∷ []) beyond inside → free_elements within (closes Paren) inside ≡ Some ((xs, need), rest)
       → one_step within ts ≡ Some ((step.Method n (Some gs) xs, max most need), rest)
@@ -274,7 +287,8 @@ module _ (depth : ℕ) (within : ExprWithin) (reads : ExprReads depth within) wh
       rw (no (codes "."), no (codes "?"), no_paren, opener_passed Bracket ts inside o, r, closer_passed Bracket end rest c) refl
 
   -- A step that is spelled, and behind which nothing stands that would make another of it, is read.
-  pub step_read : (s : Step) (ts rest : Tokens) → Spells (about_step s).form depth ts rest → (about_step s).good ≡ true → Behind (about_step s).kind rest
+  pub step_read : (s : Step) (ts rest : Tokens) → Spells (about_step s).form depth ts rest → (about_step s).good ≡ true
+      → Behind (about_step s).kind rest
       → IsRead depth (one_step within) s ts rest
   step_read s ts rest = at s (step_view s)
     where
@@ -292,15 +306,19 @@ module _ (depth : ℕ) (within : ExprWithin) (reads : ExprReads depth within) wh
           let o : IsOperator (codes ".") ts u.0 = bit_alone (Operator (codes ".")) ts u.0 u.1 in
           let behind = u.2 in
           (0, omega arith, index_read i ts u.0 rest o (subst (λ us. IsOne Int i u.0 us) behind.2 behind.1) g))
-      at _ (IsMethodStep n None xs) = told (step.Method n None xs) (step_facts (Step-F.Method n None (map about_expr xs))) (step_method_is n None xs) (λ u g b.
+      at _ (IsMethodStep n None xs) =
+          told (step.Method n None xs) (step_facts (Step-F.Method n None (map about_expr xs))) (step_method_is n None xs) (λ u g b.
           let o : IsOperator (codes ".") ts u.0 = bit_alone (Operator (codes ".")) ts u.0 u.1 in
           let l = leaf_parts n.raw n.text (Part (args_form (map about_expr xs)) Done) depth u.0 rest u.2 in
           let g2 = and_parts (is_name n.raw n.text && true) (all_free (map about_expr xs)) g in
           let g1 = and_parts (is_name n.raw n.text) true g2.0 in
-          let a = free_elements_read depth within reads Paren xs l.0 rest g2.1 (part_alone (args_form (map about_expr xs)) depth l.0 rest l.2) in
+          let a =
+          free_elements_read depth within reads Paren xs l.0 rest g2.1 (part_alone (args_form (map about_expr xs)) depth l.0 rest l.2) in
           let r = a.2 in
           (max 0 r.0, omega (arith, r.1), plain_method n xs r.0 ts u.0 l.0 a.0 rest o (l.1, g1.0) a.1 r.2))
-      at _ (IsMethodStep n (Some gs) xs) = told (step.Method n (Some gs) xs) (step_facts (Step-F.Method n (Some gs) (map about_expr xs))) (step_method_is n (Some gs) xs) (λ u g b.
+      at _ (IsMethodStep n (Some gs) xs) =
+          told (step.Method n (Some gs) xs) (step_facts (Step-F.Method n (Some gs) (map about_expr xs))) (step_method_is n (Some gs) xs)
+          (λ u g b.
           let o : IsOperator (codes ".") ts u.0 = bit_alone (Operator (codes ".")) ts u.0 u.1 in
           let f : Form = generics_form (Some gs) (Part (args_form (map about_expr xs)) Done) in
           let l = leaf_parts n.raw n.text f depth u.0 rest u.2 in
@@ -310,11 +328,14 @@ module _ (depth : ℕ) (within : ExprWithin) (reads : ExprReads depth within) wh
           let beyond = angles.0 in
           let g2 = and_parts (is_name n.raw n.text && all_good (map about_arg gs)) (all_free (map about_expr xs)) g in
           let g1 = and_parts (is_name n.raw n.text) (all_good (map about_arg gs)) g2.0 in
-          let spelled = subst (λ (F : ArgsFacts). Spells F.code.form depth l.0 beyond) (sym (args_angle_is gs)) (behind.0, behind.1, angles.1) in
+          let spelled =
+          subst (λ (F : ArgsFacts). Spells F.code.form depth l.0 beyond) (sym (args_angle_is gs)) (behind.0, behind.1, angles.1) in
           let good = subst (λ (F : ArgsFacts). F.code.good ≡ true) (sym (args_angle_is gs)) g1.1 in
           let clear = subst (λ (F : ArgsFacts). Clear F.code.refuses beyond) (sym (args_angle_is gs)) refl in
           let t = args_read depth within.kinds reads.kinds Code (args.Angle gs) l.0 beyond spelled good clear in
-          let a = free_elements_read depth within reads Paren xs beyond rest g2.1 (part_alone (args_form (map about_expr xs)) depth beyond rest angles.2) in
+          let a =
+          free_elements_read depth within reads Paren xs beyond rest g2.1
+          (part_alone (args_form (map about_expr xs)) depth beyond rest angles.2) in
           let r = a.2 in
           (max t.0 r.0, omega (arith, t.1, r.1), generic_method n gs xs t.0 r.0 ts u.0 l.0 beyond a.0 rest o (l.1, g1.0) c.0 t.2 a.1 r.2))
       at _ (IsApplyStep xs) = told (step.Apply xs) (step_facts (Step-F.Apply (map about_expr xs))) (step_apply_is xs) (λ u g b.
@@ -342,7 +363,8 @@ module _ (depth : ℕ) (within : ExprWithin) (reads : ExprReads depth within) wh
   -- ---- all steps of a base
 
   -- a step behind which another stands
-  behind_step : (x : StepFacts) (y : StepFacts) (ts rest : Tokens) → not (is_field x.kind && is_call y.kind) ≡ true → StepBegun y ts rest → Behind x.kind ts
+  behind_step : (x : StepFacts) (y : StepFacts) (ts rest : Tokens) → not (is_field x.kind && is_call y.kind) ≡ true
+      → StepBegun y ts rest → Behind x.kind ts
   behind_step x y ts rest h b = by x.kind h
     where
       by : (k : StepKind) → not (is_field k && is_call y.kind) ≡ true → Behind k ts
@@ -355,7 +377,8 @@ module _ (depth : ℕ) (within : ExprWithin) (reads : ExprReads depth within) wh
       by OfAwait h = tt
 
   -- the last step
-  behind_last : (k : StepKind) (ts : Tokens) → begins_step ts ≡ false → may_follow (tail_of_steps (record { kind = k; form = Done; good = true } ∷ [])).refuses ts ≡ true
+  behind_last : (k : StepKind) (ts : Tokens) → begins_step ts ≡ false
+      → may_follow (tail_of_steps (record { kind = k; form = Done; good = true } ∷ [])).refuses ts ≡ true
       → Behind k ts
   behind_last OfField ts n f =
       let colons = not-true (is_op (codes "::") ts) (and_parts (not (is_op (codes "::") ts)) true f).0 in
@@ -374,20 +397,24 @@ module _ (depth : ℕ) (within : ExprWithin) (reads : ExprReads depth within) wh
   abbrev StepTurn : Step → Tokens → Tokens → Type 0
   StepTurn = NodeTurn begins_step (one_step within) depth
 
-  step_turn : (s : Step) (ts rest : Tokens) → Spells (about_step s).form depth ts rest → (about_step s).good ≡ true → Behind (about_step s).kind rest → StepTurn s ts rest
+  step_turn : (s : Step) (ts rest : Tokens) → Spells (about_step s).form depth ts rest → (about_step s).good ≡ true
+      → Behind (about_step s).kind rest → StepTurn s ts rest
   step_turn s ts rest t g b =
       let begun = step_begun s depth ts rest t in
       let r = step_read s ts rest t g b in
       (r.0, r.1, (begun.begins, r.2, begun.less))
 
-  step_turns : (s : Step) (ss : List Step) (ts rest : Tokens) → StepRows (s ∷ ss) ts rest → are_steps (map about_step (s ∷ ss)) ≡ true → begins_step rest ≡ false
+  step_turns : (s : Step) (ss : List Step) (ts rest : Tokens) → StepRows (s ∷ ss) ts rest → are_steps (map about_step (s ∷ ss)) ≡ true
+      → begins_step rest ≡ false
       → may_follow (tail_of_steps (map about_step (s ∷ ss))).refuses rest ≡ true → Rows StepTurn (s ∷ ss) ts rest
   step_turns s [] ts rest r g n f =
       let behind = behind_last (about_step s).kind rest n f in
       (r.0, step_turn s ts r.0 r.1 g (subst (Behind (about_step s).kind) (sym r.2) behind), r.2)
   step_turns s (t ∷ more) ts rest r g n f =
       let next = r.2 in
-      let g2 = and_parts ((about_step s).good && not (is_field (about_step s).kind && is_call (about_step t).kind)) (are_steps (map about_step (t ∷ more))) g in
+      let g2 =
+      and_parts ((about_step s).good && not (is_field (about_step s).kind && is_call (about_step t).kind))
+      (are_steps (map about_step (t ∷ more))) g in
       let g1 = and_parts (about_step s).good (not (is_field (about_step s).kind && is_call (about_step t).kind)) g2.0 in
       let behind = behind_step (about_step s) (about_step t) r.0 next.0 g1.1 (step_begun t depth r.0 next.0 next.1) in
       (r.0, step_turn s ts r.0 r.1 g1.0 behind, step_turns t more r.0 rest next g2.1 n f)
@@ -397,7 +424,8 @@ module _ (depth : ℕ) (within : ExprWithin) (reads : ExprReads depth within) wh
   unbroken false f ts rest s = s
 
   -- A break between steps spells nothing.
-  steps_spelled : (several behind : Bool) (ss : List Step) (ts rest : Tokens) → Spells (steps_form several behind (map about_step ss)) depth ts rest → StepRows ss ts rest
+  steps_spelled : (several behind : Bool) (ss : List Step) (ts rest : Tokens)
+      → Spells (steps_form several behind (map about_step ss)) depth ts rest → StepRows ss ts rest
   steps_spelled several behind [] ts rest s = s
   steps_spelled several behind (x ∷ ss) ts rest s =
       let next = behind || is_method (about_step x).kind in
@@ -410,7 +438,8 @@ module _ (depth : ℕ) (within : ExprWithin) (reads : ExprReads depth within) wh
   ungrouped false f ts rest s = s
 
   -- A base and its steps are spelled one behind the other, in a group or not.
-  pub postfix_parts : (x : Expr) (ss : List Step) (ts rest : Tokens) → Spells (postfix_form (about_expr x) (map about_step ss)) depth ts rest
+  pub postfix_parts : (x : Expr) (ss : List Step) (ts rest : Tokens)
+      → Spells (postfix_form (about_expr x) (map about_step ss)) depth ts rest
       → (mid : Tokens) × Spells (about_expr x).form depth ts mid × StepRows ss mid rest
   postfix_parts x ss ts rest s =
       let several = nat_le 2 (methods (map about_step ss)) in
@@ -423,7 +452,8 @@ module _ (depth : ℕ) (within : ExprWithin) (reads : ExprReads depth within) wh
   number_apart false i b n h = refl
 
   -- Behind a base, steps that are spelled are read, as long as they are.
-  pub postfix_read : (x : Expr) (s : Step) (ss : List Step) (ts rest : Tokens) → StepRows (s ∷ ss) ts rest → are_steps (map about_step (s ∷ ss)) ≡ true
+  pub postfix_read : (x : Expr) (s : Step) (ss : List Step) (ts rest : Tokens) → StepRows (s ∷ ss) ts rest
+      → are_steps (map about_step (s ∷ ss)) ≡ true
       → not ((about_expr x).is_number && is_tuple_index (about_step s).kind) ≡ true → begins_step rest ≡ false
       → may_follow (tail_of_steps (map about_step (s ∷ ss))).refuses rest ≡ true
       → (m : ℕ) × (m ≤ depth) × ((n : ℕ) → postfix_expr within (x, n) ts ≡ Some ((expr.Postfix x (s ∷ ss), suc (max n m)), rest))
