@@ -6,5 +6,7 @@ pub mod Item
 pub mod Tokens
 pub mod Types
 pub mod Patterns
+pub mod Exprs
+pub mod ExprHeads
 pub mod Heads
 pub mod HeadsRead

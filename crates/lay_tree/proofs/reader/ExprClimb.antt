@@ -19,6 +19,7 @@ use Rattle.lay_tree.proofs.reader.ExprOperatorsTails.{BeforeOp, before_parts}
 use Rattle.lay_tree.proofs.reader.ExprReads.{head_at}
 use Rattle.lay_tree.proofs.reader.TypesComplete.{and_none}
 
+-- A part of what begins a statement begins one.
 part_begins : (b : Bool) → begins (part_if b) ≡ b
 part_begins true = refl
 part_begins false = refl
@@ -51,6 +52,7 @@ module _ (within : ExprWithin) (place : Place) where
       by true = rw no refl
       by false = refl
 
+  -- a level at a time
   skip_by : (level least : ℕ) (lhs : Expr × ℕ) (ts : Tokens) → least ≤ suc level → strength ts ≤ least
       → (least ≤ level → climb within place level lhs ts ≡ climb within place least lhs ts)
       → (b : Bool) → nat_le least level ≡ b → climb within place (suc level) lhs ts ≡ climb within place least lhs ts
@@ -98,6 +100,7 @@ module _ (within : ExprWithin) (place : Place) where
     pub tail : tail_follows x.tail place.no_struct mid ≡ true
     pub struct_free : not (place.no_struct && x.is_struct) ≡ true
 
+  -- all expressions that are spelled at a depth are reached
   abbrev pub Reaches : ℕ → Type 0
   Reaches depth =
       (x : Expr) (level : ℕ) (first : Bool) (ts mid : Tokens) → Known level depth (about_expr x) first ts mid → Reach level depth x ts mid
@@ -171,12 +174,15 @@ module _ (within : ExprWithin) (place : Place) where
 
   module _ (depth : ℕ) (reaches : Reaches depth) (operator : ℕ) (x : Expr) (first angle : Bool) (ts mid : Tokens)
       (o : Operand operator depth x first angle ts mid) where
+    -- it stands before the operator
     stand : stands (about_expr x) (before_op (suc operator) place.no_struct first angle) ≡ true
     stand = (and_parts _ ((about_expr x).within place.no_struct (begins (part_if first))) o.there).0
 
+    -- what that says
     parts : BeforeOp (about_expr x) (suc operator) place.no_struct first angle
     parts = before_parts (about_expr x) (suc operator) place.no_struct first angle stand
 
+    -- An operator goes on with it, also at the start of a statement.
     operand_goes_on : is_ended place (about_expr x) mid ≡ false
     operand_goes_on = unended place.start (about_expr x).block_like (is_dot_or_try mid) (λ b d. parts.part (o.starts ∙ open_start b d))
       where
@@ -184,6 +190,7 @@ module _ (within : ExprWithin) (place : Place) where
             → (begins place.start && not (operator == 13 && is_dot_or_try mid)) ≡ true
         open_start b d = rw (b, d, and_none (operator == 13)) refl
 
+    -- An operand is reached.
     pub operand_reached : Reach (suc operator) depth x ts mid
     operand_reached = reaches x (suc operator) first ts mid (record {
       allowed = omega (arith, o.allowed);
@@ -198,6 +205,7 @@ module _ (within : ExprWithin) (place : Place) where
       struct_free = parts.struct_free;
     })
 
+    -- It stands where the operator finds it.
     pub operand_stands : stands (about_expr x) (left_place place operator mid) ≡ true
     operand_stands =
         let At : Bool → Bool → Type 0 = λ b a. stands (about_expr x) (before_op (suc operator) place.no_struct b a) ≡ true in

@@ -47,6 +47,7 @@ module _ (within : ExprWithin) (place : Place) (depth : ℕ) (reads : ExprReads 
       (level : ℕ) (first : Bool) (ts mid : Tokens) → Known within place level (suc depth) F first ts mid
       → Reach within place level (suc depth) x ts mid
 
+  -- by the layer of its kind
   told : (x : Expr) (F : Expr-F ExprFacts Facts StepFacts) → about_expr x ≡ expr_facts F → By x (expr_facts F) → By x (about_expr x)
   told x F e f = subst (By x) (sym e) f
 
@@ -85,6 +86,7 @@ module _ (within : ExprWithin) (place : Place) (depth : ℕ) (reads : ExprReads 
 
   -- ---- chains
 
+  -- what operators of the levels of chains make
   stage_chain : (level : ℕ) (lhs : Expr × ℕ) (ts : Tokens) → is_chain_level level ≡ true
       → stage within level place.no_struct lhs ts ≡ chain_expr within level place.no_struct lhs ts
   stage_chain zero lhs ts h = absurd (cc)
@@ -96,6 +98,7 @@ module _ (within : ExprWithin) (place : Place) (depth : ℕ) (reads : ExprReads 
       let no_steps : (level == 13) ≡ false = ne_eqb level 13 (λ f. absurd (omega (arith, le, f))) in
       rw (no_cast, no_steps) refl
 
+  -- a chain
   chain_made : (level : ℕ) (x : Expr) (n : ℕ) (ys : List (Op × Expr)) (found : List ((Op × Expr) × ℕ)) (ts rest : Tokens)
       → is_chain_level level ≡ true
       → nodes found ≡ ys → operands within level place.no_struct ts ≡ Some (found, rest)
@@ -103,6 +106,7 @@ module _ (within : ExprWithin) (place : Place) (depth : ℕ) (reads : ExprReads 
   unfolding chain_expr
   chain_made level x n ys found ts rest c same r = stage_chain level (x, n) ts c ∙ (rw (r, same) refl)
 
+  -- A chain is reached from its first operand.
   pub chain_reached : (x : Expr) (ys : List (Op × Expr)) → By (expr.Chain x ys) (about_expr (expr.Chain x ys))
   chain_reached x [] = told (expr.Chain x []) (Expr-F.Chain (about_expr x) []) (expr_chain_is x []) (λ level first ts mid k. absurd (cc))
   chain_reached x (y ∷ ys) =
@@ -139,12 +143,14 @@ module _ (within : ExprWithin) (place : Place) (depth : ℕ) (reads : ExprReads 
 
   -- ---- casts
 
+  -- a cast
   cast_made : (x : Expr) (n : ℕ) (xs : List Ty) (found : List (Ty × ℕ)) (ts rest : Tokens) → nodes found ≡ xs
       → repeat is_as (one_type within) ts ≡ Some (found, rest)
       → stage within 11 place.no_struct (x, n) ts ≡ Some ((expr.Cast x xs, suc (max n (deepest found))), rest)
   unfolding cast_expr
   cast_made x n xs found ts rest same r = rw (r, same) refl
 
+  -- A cast is reached from its operand.
   pub cast_reached : (x : Expr) (xs : List Ty) → By (expr.Cast x xs) (about_expr (expr.Cast x xs))
   cast_reached x [] = told (expr.Cast x []) (Expr-F.Cast (about_expr x) []) (expr_cast_is x []) (λ level first ts mid k. absurd (cc))
   cast_reached x (y ∷ ys) =
@@ -174,21 +180,25 @@ module _ (within : ExprWithin) (place : Place) (depth : ℕ) (reads : ExprReads 
 
   -- ---- ranges with a start
 
+  -- the operator of a range
   dots_op : Bool → Op
   dots_op true = op.UptoEq
   dots_op false = op.Upto
 
+  -- It stands behind the start.
   dots_at : (inclusive : Bool) (f : Form) (at mid : Tokens) → Spells (Piece (dots inclusive) f) depth at mid
       → (behind : Tokens) × AtOp 1 (dots_op inclusive) at behind
   unfolding dots_op
   dots_at true f at mid s = (s.0, at_op 1 op.UptoEq at s.0 refl (bit_alone (Operator (codes "..=")) at s.0 s.1))
   dots_at false f at mid s = (s.0, at_op 1 op.Upto at s.0 refl (bit_alone (Operator (codes "..")) at s.0 s.1))
 
+  -- It is neither `<` nor `<<`.
   dots_no_angle : (inclusive : Bool) → is_angle_op (dots_op inclusive) ≡ false
   unfolding dots_op
   dots_no_angle true = refl
   dots_no_angle false = refl
 
+  -- A range is reached from its start.
   pub range_reached : (x : Expr) (inclusive : Bool) (end : Option Expr)
       → By (expr.Range (Some x) inclusive end) (about_expr (expr.Range (Some x) inclusive end))
   range_reached x inclusive end =
@@ -214,6 +224,7 @@ module _ (within : ExprWithin) (place : Place) (depth : ℕ) (reads : ExprReads 
 
   -- ---- assignments
 
+  -- an assignment
   assign_made : (y : Expr × Op) (more : List (Expr × Op)) (x : Expr) (n : ℕ) (found : List ((Op × Expr) × ℕ)) (ts rest : Tokens)
       → nodes found ≡ row_of (y ∷ more) x → operands within 0 place.no_struct ts ≡ Some (found, rest)
       → stage within 0 place.no_struct (y.0, n) ts ≡ Some ((expr.Assign (y ∷ more) x, suc (max n (deepest found))), rest)
@@ -222,6 +233,7 @@ module _ (within : ExprWithin) (place : Place) (depth : ℕ) (reads : ExprReads 
       let back = row_targets more x in
       rw (r, same, back.0, back.1) refl
 
+  -- An assignment is reached from its first target.
   pub assign_reached : (targets : List (Expr × Op)) (x : Expr) → By (expr.Assign targets x) (about_expr (expr.Assign targets x))
   assign_reached [] x =
       told (expr.Assign [] x) (Expr-F.Assign [] (about_expr x)) (expr_assign_is [] x) (λ level first ts mid k. absurd (cc))
@@ -253,6 +265,7 @@ module _ (within : ExprWithin) (place : Place) (depth : ℕ) (reads : ExprReads 
 
   -- ---- steps
 
+  -- Steps are reached from their base.
   pub postfix_reached : (x : Expr) (ss : List Step) → By (expr.Postfix x ss) (about_expr (expr.Postfix x ss))
   postfix_reached x [] =
       told (expr.Postfix x []) (Expr-F.Postfix (about_expr x) []) (expr_postfix_is x []) (λ level first ts mid k. absurd (cc))

@@ -33,6 +33,7 @@ module _ (most : ℕ) (within : ExprWithin) (reads : (depth : ℕ) → depth ≤
   -- ---- every expression is reached
 
   module _ (depth : ℕ) (le : depth ≤ most) (reaches : Reaches within place depth) where
+    -- an expression is reached, one level deeper
     abbrev Reached : Expr → Type 0
     Reached x =
         (level : ℕ) (first : Bool) (ts mid : Tokens) → Known within place level (suc depth) (about_expr x) first ts mid
@@ -44,9 +45,11 @@ module _ (most : ℕ) (within : ExprWithin) (reads : (depth : ℕ) → depth ≤
     alone x F e top h level first ts mid k =
         headed within place x level depth first ts mid h (subst (λ (G : ExprFacts). nat_le G.level 14 ≡ true) (sym e) top) k
 
+    -- what is within it is read
     here : ExprReads depth within
     here = reads depth le
 
+    -- kind by kind
     reached : (x : Expr) → ExprView x → Reached x
     reached _ (IsLit l) = alone (expr.Lit l) (Expr-F.Lit l) (expr_lit_is l) refl (lit_head depth within here l)
     reached _ (IsPath path) = alone (expr.Path path) (Expr-F.Path path) (expr_path_is path) refl (path_head depth within here path)
@@ -85,9 +88,11 @@ module _ (most : ℕ) (within : ExprWithin) (reads : (depth : ℕ) → depth ≤
     abbrev BlockLike : Expr → Type 0
     BlockLike x = (about_expr x).block_like ≡ true → IsHead depth within x × (nat_le 14 (about_expr x).level ≡ true)
 
+    -- a kind that isn't block-like
     other : (x : Expr) (F : Expr-F ExprFacts Facts StepFacts) → about_expr x ≡ expr_facts F → is_block_like F ≡ false → BlockLike x
     other x F e n b = let f = sym n ∙ sym (ap (λ (G : ExprFacts). G.block_like) e) ∙ b in absurd (cc)
 
+    -- kind by kind
     block_like : (x : Expr) → ExprView x → BlockLike x
     block_like _ (IsCall call) =
         λ b. (call_head depth within here call, subst (λ (G : ExprFacts). nat_le 14 G.level ≡ true) (sym (expr_call_is call)) refl)
@@ -115,6 +120,7 @@ module _ (most : ℕ) (within : ExprWithin) (reads : (depth : ℕ) → depth ≤
     block_like _ (IsReturn x) = other (expr.Return x) (Expr-F.Return (option_map about_expr x)) (expr_return_is x) refl
     block_like _ (IsBreak label x) = other (expr.Break label x) (Expr-F.Break label (option_map about_expr x)) (expr_break_is label x) refl
 
+  -- So all expressions are reached.
   all_reached : (depth : ℕ) → depth ≤ suc most → Reaches within place depth
   all_reached zero le x level first ts mid k = absurd (no_depth x ts mid k.spelled)
   all_reached (suc depth) le x level first ts mid k =
@@ -136,11 +142,13 @@ module _ (most : ℕ) (within : ExprWithin) (reads : (depth : ℕ) → depth ≤
   unfolding expr_by
   climbed_read budget h x n ts at rest g i k a = rw (g, i, k, a) refl
 
+  -- What stands in its place, within the budget, is accepted.
   accept : (budget : ℕ) (x : Expr) (n : ℕ) (rest : Tokens) → stands (about_expr x) place ≡ true
       → root_follows (about_expr x) place rest ≡ true → n ≤ budget
       → accepted budget place (x, n) rest ≡ Some ((x, n), rest)
   accept budget x n rest m r le = rw (m, r, le-leb n budget le) refl
 
+  -- an expression with what is within it read at every lower depth
   read_one : (depth : ℕ) → depth ≤ most → (x : Expr) (ts rest : Tokens) → Spells (about_expr x).form (suc depth) ts rest
       → placed (about_expr x) place ≡ true
       → follows (about_expr x) place rest ≡ true → IsRead (suc depth) (expr_by within (suc most) place) x ts rest
@@ -189,6 +197,7 @@ module _ (most : ℕ) (within : ExprWithin) (reads : (depth : ℕ) → depth ≤
                 (accept (suc most) x h.need rest m r (omega (arith, h.least, le))),
           )
 
+-- Within a budget, all that is spelled at no greater a depth is read.
 exprs_read : (depth budget : ℕ) → depth ≤ budget → ExprReads depth (record { exprs = expr_in budget; kinds = types.within budget })
 unfolding expr_in
 exprs_read zero budget h = record { exprs = λ place x ts rest s w f. absurd (no_depth x ts rest s); kinds = within_reads zero budget h }

@@ -10,6 +10,7 @@ use Rattle.lay_tree.proofs.reader.Exact.{one_by_reading}
 use Rattle.lay_tree.proofs.reader.ExprComplete.{expr_read}
 use Rattle.lay_tree.proofs.reader.ExprSound.{exprs_stand}
 
+-- What is read stands there, and what stands there is read.
 pub exprs_exact : (place : Place) → Exact (expr_at place) (λ (x : Expr). ExprFront place (about_expr x))
 exprs_exact place = record {
   sound = exprs_stand place;

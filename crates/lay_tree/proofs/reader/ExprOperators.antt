@@ -1,16 +1,16 @@
 -- What goes on with an expression: operators between operands, `as`, and the first tokens of steps. Each has its strength,
 -- and stands at a front that nothing else begins.
 use Rattle.std.proofs.Common.{◌≡◌, ℕ, suc, ◌≤◌, ◌<◌, Bool, true, false, not, ◌||◌, List, [], ◌∷◌, length, drop, codes, Option, Some, None, ◌⊎◌, inl, inr, refl, sym, ap, subst, ◌∙◌, arith}
-use Rattle.std.specs.Prelude.{◌==◌, nat_le, if◌then◌else◌}
+use Rattle.std.specs.Prelude.{◌==◌, if◌then◌else◌}
 use Rattle.std.specs.List.{list_all}
 use Rattle.std.specs.Str.{bytes_eq}
-use Rattle.std.proofs.lemmas.Bool.{and_parts, not-true, or_parts, or_cases, or_left, or_right, eqb-true, ne_eqb, leb-true, false_from_ne_true}
+use Rattle.std.proofs.lemmas.Bool.{and_parts, not-true, or_parts, or_cases, or_left, or_right, eqb-true, ne_eqb, false_from_ne_true}
 use Rattle.lay_piece.specs.declared.kind.Delim.{Delim}
 use Rattle.lay_piece.specs.declared.kind.Delim.TheVariants.{Paren, Bracket, Brace}
 use Rattle.lay_piece.specs.declared.kind.Kind.{Kind}
 use Rattle.lay_piece.specs.declared.kind.Kind.TheVariants.{Ident, Opener}
 use Rattle.lay_token.specs.Operators.{op_at, is_op_of, is_op}
-use Rattle.lay_token.proofs.Deciding.{bytes_same, bytes_self}
+use Rattle.lay_token.proofs.Deciding.{bytes_same}
 use Rattle.lay_form.specs.Spelled.{IsOne, IsOperator}
 use Rattle.lay_tree.specs.Ahead.{Tokens, first, tail, is_keyword, is_lifetime, is_lifetime_kind, is_opener, opens, opens_args}
 use Rattle.lay_tree.specs.Follow.{Begin, OfRename, OfArgs, OfCodeArgs, OfArrow, OfColons, OfBang, begins_there, may_follow}
@@ -21,17 +21,21 @@ use Rattle.lay_tree.specs.declared.operators.Op.{Op}
 use Rattle.lay_tree.specs.declared.operators.Op.TheVariants as op
 use Rattle.lay_tree.proofs.Fronts.{keyword_one, one_front, op_front, op_test, op_shorter, opener_kind, other_op}
 use Rattle.lay_tree.proofs.Steps.{chosen, bind_some}
+use Rattle.lay_tree.proofs.reader.ExprSoundOperators.{op_low, binary_op, op_strength}
 use Rattle.lay_tree.proofs.reader.TypesComplete.{and_none}
 
 -- ---- operators by their texts
 
+-- the operator that a test tells
 at_of : (text : List ℕ) (found : Option (List ℕ)) → is_op_of text found ≡ true → found ≡ Some text
 at_of text None h = absurd (cc)
 at_of text (Some other) h = ap Some (sym (bytes_same text other h))
 
+-- What is spelled as an operator is the operator at the front.
 pub op_is_at : (text : List ℕ) (ts : Tokens) → is_op text ts ≡ true → op_at ts ≡ Some text
 op_is_at text ts h = at_of text (op_at ts) h
 
+-- The text of an operator names it.
 named_op : (o : Op) → named all_ops (op_text o) ≡ Some o
 named_op op.Set = refl
 named_op _ = refl
@@ -41,20 +45,9 @@ pub op_binary : (o : Op) (ts : Tokens) → is_op (op_text o) ts ≡ true → bin
 unfolding binary
 op_binary o ts h = rw (op_is_at (op_text o) ts h) (named_op o)
 
-named_is : (ops : List Op) (text : List ℕ) (o : Op) → named ops text ≡ Some o → text ≡ op_text o
-named_is [] text o h = absurd (cc)
-named_is (x ∷ ops) text o h = elim (chosen (bytes_eq (op_text x) text) (Some x) (named ops text) (Some o) h) [
-  | inl g ↦ let e : x ≡ o = cc g.1 in sym (bytes_same (op_text x) text g.0) ∙ ap op_text e
-  | inr g ↦ named_is ops text o g.1
-]
-
-pub binary_at : (ts : Tokens) (o : Op) → binary ts ≡ Some o → op_at ts ≡ Some (op_text o)
-unfolding binary
-binary_at ts o h = let b = bind_some (op_at ts) (named all_ops) o h in b.1 ∙ ap Some (named_is all_ops b.0 o b.2)
-
--- The operator at the front is spelled there.
-pub binary_op : (ts : Tokens) (o : Op) → binary ts ≡ Some o → is_op (op_text o) ts ≡ true
-binary_op ts o h = rw (binary_at ts o h) (bytes_self (op_text o))
+-- The operator between operands at the front is the operator at the front.
+binary_at : (ts : Tokens) (o : Op) → binary ts ≡ Some o → op_at ts ≡ Some (op_text o)
+binary_at ts o h = op_is_at (op_text o) ts (binary_op ts o h)
 
 -- What holds of all operators holds of the one at the front.
 named_all : (p : Op → Bool) (ops : List Op) (text : List ℕ) (o : Op) → list_all p ops ≡ true → named ops text ≡ Some o → p o ≡ true
@@ -66,6 +59,7 @@ named_all p (x ∷ ops) text o g h =
       | inr f ↦ named_all p ops text o parts.1 f.1
     ]
 
+-- the same of the operator at the front
 pub binary_all : (p : Op → Bool) → list_all p all_ops ≡ true → (ts : Tokens) (o : Op) → binary ts ≡ Some o → p o ≡ true
 unfolding binary
 binary_all p g ts o h = let b = bind_some (op_at ts) (named all_ops) o h in named_all p all_ops b.0 o g b.2
@@ -83,23 +77,22 @@ pub no_binary : (text : List ℕ) (ts : Tokens) → is_op text ts ≡ true → n
 unfolding binary
 no_binary text ts h n = rw (op_is_at text ts h) n
 
+-- Where no operator stands, none does between operands.
 pub none_binary : (ts : Tokens) → op_at ts ≡ None → binary ts ≡ None
 unfolding binary
 none_binary ts h = rw h refl
 
 -- ---- an operator between operands, spelled
 
+-- An operator has a character at least.
 some_text : (o : Op) → is_there (op_text o) ≡ true
 some_text op.Set = refl
 some_text _ = refl
 
+-- Behind an operator fewer tokens are left.
 text_shorter : (text : List ℕ) → is_there text ≡ true → (ts rest : Tokens) → IsOperator text ts rest → length rest < length ts
 text_shorter [] g ts rest s = absurd (cc)
 text_shorter (c ∷ cs) g ts rest s = op_shorter c cs ts rest s
-
-pub op_strength : (o : Op) (ts : Tokens) → binary ts ≡ Some o → strength ts ≡ suc (op_level o)
-unfolding strength
-op_strength o ts h = rw h refl
 
 -- An operator of this level is spelled, and the rest stands behind it.
 pub record AtOp (level : ℕ) (o : Op) (ts at : Tokens) : Type 0 where
@@ -108,12 +101,13 @@ pub record AtOp (level : ℕ) (o : Op) (ts at : Tokens) : Type 0 where
   pub left : drop (length (op_text o)) ts ≡ at
   pub less : length at < length ts
 
+-- An operator of the level that is spelled is read so.
 pub at_op : (level : ℕ) (o : Op) (ts at : Tokens) → (op_level o == level) ≡ true → IsOperator (op_text o) ts at → AtOp level o ts at
 at_op level o ts at l s =
     let b = op_binary o ts s.0 in
     record {
       binary = b;
-      strength = op_strength o ts b ∙ ap suc (eqb-true (op_level o) level l);
+      strength = op_strength ts o b ∙ ap suc (eqb-true (op_level o) level l);
       left = s.1;
       less = text_shorter (op_text o) (some_text o) ts at s;
     }
@@ -126,36 +120,45 @@ pub record StepFront (ts : Tokens) : Type 0 where
   pub binary : binary ts ≡ None
   pub begins : begins_step ts ≡ true
 
+-- `as` is no operator.
 as_no_op : (ts rest : Tokens) → IsOne Ident (codes "as") ts rest → op_at ts ≡ None
 unfolding op_at
 as_no_op ts rest s = rw (one_front Ident (codes "as") ts rest s).1 refl
 
+-- nor one between operands
 pub as_binary : (ts rest : Tokens) → IsOne Ident (codes "as") ts rest → binary ts ≡ None
 as_binary ts rest s = none_binary ts (as_no_op ts rest s)
 
+-- `as` stands where it is spelled.
 pub as_there : (ts rest : Tokens) → IsOne Ident (codes "as") ts rest → first (is_keyword (codes "as")) ts ≡ true
 as_there ts rest s = rw (one_front Ident (codes "as") ts rest s).1 refl
 
+-- `as` goes on at its level.
 pub as_strength : (ts rest : Tokens) → IsOne Ident (codes "as") ts rest → strength ts ≡ 12
 unfolding strength
 as_strength ts rest s = rw (as_binary ts rest s, as_there ts rest s) refl
 
+-- A step goes on where neither an operator nor `as` does.
 step_front : (ts : Tokens) → binary ts ≡ None → first (is_keyword (codes "as")) ts ≡ false → begins_step ts ≡ true → StepFront ts
 unfolding strength
 step_front ts n a s = record { strength = rw (n, a, s) refl; binary = n; begins = s }
 
+-- An operator is no word.
 op_no_as : (text : List ℕ) (ts : Tokens) → is_op text ts ≡ true → first (is_keyword (codes "as")) ts ≡ false
 op_no_as text ts h = rw (op_front text ts h).2 refl
 
+-- the first tokens of steps: `.`
 pub dot_front : (ts : Tokens) → is_op (codes ".") ts ≡ true → StepFront ts
 dot_front ts h = step_front ts (no_binary (codes ".") ts h refl) (op_no_as (codes ".") ts h) (rw h refl)
 
+-- `?`
 pub try_front : (ts : Tokens) → is_op (codes "?") ts ≡ true → StepFront ts
 try_front ts h =
     let dotted : is_dot_or_try ts ≡ true = or_right (is_op (codes ".") ts) (is_op (codes "?") ts) h in
     step_front ts (no_binary (codes "?") ts h refl) (op_no_as (codes "?") ts h)
     (or_left (is_dot_or_try ts) (first (opens Paren) ts || first (opens Bracket) ts) dotted)
 
+-- A delimiter is no operator.
 opener_no_op : (d : Delim) (ts : Tokens) → first (opens d) ts ≡ true → op_at ts ≡ None
 unfolding op_at
 opener_no_op d [] h = absurd (cc)
@@ -165,19 +168,23 @@ opener_no_op d (t ∷ ts) h =
     let none : op_at us ≡ None = refl in
     subst (λ vs. op_at vs ≡ None) (sym e) none
 
+-- nor a word
 opener_no_as : (d : Delim) (ts : Tokens) → first (opens d) ts ≡ true → first (is_keyword (codes "as")) ts ≡ false
 opener_no_as d [] h = absurd (cc)
 opener_no_as d (t ∷ ts) h = rw (opener_kind d t.kind h) refl
 
+-- a delimiter that a step begins with
 opens_step : (d : Delim) (ts : Tokens) → first (opens d) ts ≡ true → (first (opens Paren) ts || first (opens Bracket) ts) ≡ true
     → StepFront ts
 opens_step d ts h g =
     step_front ts (none_binary ts (opener_no_op d ts h)) (opener_no_as d ts h)
     (or_right (is_dot_or_try ts) (first (opens Paren) ts || first (opens Bracket) ts) g)
 
+-- `(`
 pub paren_front : (ts : Tokens) → first (opens Paren) ts ≡ true → StepFront ts
 paren_front ts h = opens_step Paren ts h (or_left (first (opens Paren) ts) (first (opens Bracket) ts) h)
 
+-- `[`
 pub bracket_front : (ts : Tokens) → first (opens Bracket) ts ≡ true → StepFront ts
 bracket_front ts h = opens_step Bracket ts h (or_right (first (opens Paren) ts) (first (opens Bracket) ts) h)
 
@@ -194,6 +201,7 @@ step_cases ts h = elim (or_cases (is_dot_or_try ts) (first (opens Paren) ts || f
   | inr o ↦ elim (or_cases (first (opens Paren) ts) (first (opens Bracket) ts) o) [ inl a ↦ inr (inr (inl a)) | inr b ↦ inr (inr (inr b)) ]
 ]
 
+-- Each of them goes on at the level of steps.
 pub step_there : (ts : Tokens) → begins_step ts ≡ true → StepFront ts
 step_there ts h = elim (step_cases ts h) [
   | inl d ↦ dot_front ts d
@@ -209,10 +217,12 @@ step_there ts h = elim (step_cases ts h) [
 pub no_step : (ts : Tokens) → strength ts ≤ 13 → begins_step ts ≡ false
 no_step ts le = false_from_ne_true (begins_step ts) (λ e. let f = (step_there ts e).strength in absurd (omega (arith, le, f)))
 
+-- the same of `as`
 pub no_as : (ts : Tokens) → strength ts ≤ 11 → first (is_keyword (codes "as")) ts ≡ false
 no_as ts le = false_from_ne_true (first (is_keyword (codes "as")) ts) (λ e.
     let f = as_strength ts (tail ts) (keyword_one (codes "as") ts e) in absurd (omega (arith, le, f)))
 
+-- and of an operator of the level
 pub not_at_level : (level : ℕ) (ts : Tokens) → strength ts ≤ level → (strength ts == suc level) ≡ false
 not_at_level level ts le = ne_eqb (strength ts) (suc level) (λ e. absurd (omega (arith, le, e)))
 
@@ -227,7 +237,7 @@ strength_most ts = by (binary ts) refl
     other false false = omega arith
 
     by : (found : Option Op) → binary ts ≡ found → strength_by found ts ≤ 14
-    by (Some o) e = let low = leb-true (op_level o) 10 (binary_all (λ x. nat_le (op_level x) 10) refl ts o e) in omega (arith, low)
+    by (Some o) e = omega (arith, op_low o)
     by None e = other (first (is_keyword (codes "as")) ts) (begins_step ts)
 
 -- ---- what goes on may follow what isn't open at its end
@@ -241,9 +251,11 @@ record Inner (ts : Tokens) : Type 0 where
   bang : is_op (codes "!") ts ≡ false
   arrow : is_op (codes "->") ts ≡ false
 
+-- An operator is neither `const` nor `mut`.
 op_pointer : (text : List ℕ) (ts : Tokens) → is_op text ts ≡ true → begins_pointer ts ≡ false
 op_pointer text ts h = rw (op_front text ts h).2 refl
 
+-- an operator between operands
 op_inner : (ts : Tokens) (o : Op) → binary ts ≡ Some o → Inner ts
 op_inner ts o h =
     let there = binary_op ts o h in
@@ -256,6 +268,7 @@ op_inner ts o h =
       arrow = binary_no (codes "->") refl ts o h;
     }
 
+-- another operator
 text_inner : (text : List ℕ) → bytes_eq text (codes "::") ≡ false → bytes_eq text (codes "!") ≡ false → bytes_eq text (codes "->") ≡ false
     → (ts : Tokens) → is_op text ts ≡ true → Inner ts
 text_inner text a b c ts h = record {
@@ -267,6 +280,7 @@ text_inner text a b c ts h = record {
   arrow = other_op text (codes "->") c ts h;
 }
 
+-- `as`
 as_inner : (ts rest : Tokens) → IsOne Ident (codes "as") ts rest → Inner ts
 as_inner ts rest s =
     let f = (one_front Ident (codes "as") ts rest s).1 in
@@ -280,6 +294,7 @@ as_inner ts rest s =
       arrow = rw none refl;
     }
 
+-- a delimiter
 opener_inner : (d : Delim) → is_opener Brace (Opener d) ≡ false → (ts : Tokens) → first (opens d) ts ≡ true → Inner ts
 opener_inner d other ts h = record {
   brace = kind_test (is_opener Brace) ts h other;
@@ -298,6 +313,7 @@ opener_inner d other ts h = record {
     no_pointer [] g = refl
     no_pointer (t ∷ us) g = rw (opener_kind d t.kind g) refl
 
+-- a step
 step_inner : (ts : Tokens) → begins_step ts ≡ true → Inner ts
 step_inner ts h = elim (step_cases ts h) [
   | inl d ↦ text_inner (codes ".") refl refl refl ts d
@@ -314,9 +330,11 @@ is_path_begin OfBang = true
 is_path_begin OfCodeArgs = true
 is_path_begin _ = false
 
+-- all of these
 abbrev pub path_refuses : List Begin → Bool
 path_refuses bs = list_all is_path_begin bs
 
+-- What refuses no more may stand before what goes on.
 path_follows : (bs : List Begin) (ts : Tokens) → Inner ts → path_refuses bs ≡ true → may_follow bs ts ≡ true
 path_follows [] ts i h = refl
 path_follows (b ∷ bs) ts i h =
@@ -344,6 +362,7 @@ op_no_args ts o h a =
     let shift : is_op (codes "<<") ts ≡ false = rw at none.1 in
     rw (less, shift, binary_no (codes "<-") refl ts o h) refl
 
+-- An operator may follow what refuses anything, where generic arguments are refused if it is neither `<` nor `<<`.
 op_follows : (bs : List Begin) (ts : Tokens) (o : Op) → binary ts ≡ Some o → (lacks_args bs ≡ true → is_angle ts ≡ false)
     → may_follow bs ts ≡ true
 op_follows [] ts o h a = refl
@@ -364,6 +383,7 @@ op_follows (b ∷ bs) ts o h a =
     one OfColons g = i.colons
     one OfBang g = i.bang
 
+-- What goes on may follow a tail that isn't open, where the tail doesn't refuse it.
 tail_inner : (t : Tail) (no_struct : Bool) (ts : Tokens) → Inner ts → is_open t ≡ false → may_follow t.refuses ts ≡ true
     → tail_follows t no_struct ts ≡ true
 tail_inner t no_struct ts i shut f =
@@ -384,6 +404,7 @@ pub as_tail : (t : Tail) (no_struct : Bool) (ts rest : Tokens) → IsOne Ident (
     → tail_follows t no_struct ts ≡ true
 as_tail t no_struct ts rest s shut p = let i = as_inner ts rest s in tail_inner t no_struct ts i shut (path_follows t.refuses ts i p)
 
+-- the same of a step
 pub step_tail : (t : Tail) (no_struct : Bool) (ts : Tokens) → begins_step ts ≡ true → is_open t ≡ false → path_refuses t.refuses ≡ true
     → tail_follows t no_struct ts ≡ true
 step_tail t no_struct ts h shut p = let i = step_inner ts h in tail_inner t no_struct ts i shut (path_follows t.refuses ts i p)

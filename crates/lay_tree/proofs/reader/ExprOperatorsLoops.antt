@@ -14,6 +14,7 @@ module _ {A : Type 0} (more : Tokens → Bool) (read : Tokens → Read A) (depth
   abbrev pub NodesRead : List A → Tokens → Tokens → Type 0
   NodesRead xs ts rest = (ys : List (A × ℕ)) × (nodes ys ≡ xs) × (deepest ys ≤ depth) × (repeat more read ts ≡ Some (ys, rest))
 
+  -- turns that read nodes, with their needs
   turns_needs : (xs : List A) (ts rest : Tokens) → Rows (NodeTurn more read depth) xs ts rest
       → (ys : List (A × ℕ)) × (nodes ys ≡ xs) × (deepest ys ≤ depth) × Rows (Turn more read) ys ts rest
   turns_needs [] ts rest r = ([], refl, omega arith, r)
@@ -22,6 +23,7 @@ module _ {A : Type 0} (more : Tokens → Bool) (read : Tokens → Read A) (depth
       let s = turns_needs xs r.0 rest r.2 in
       ((x, turn.0) ∷ s.0, ap (λ l. x ∷ l) s.1, omega (arith, turn.1, s.2), (r.0, turn.2, s.3))
 
+  -- Nodes that are read one behind the other, up to where the loop doesn't go on, are what the loop reads.
   pub nodes_repeat : (xs : List A) (ts rest : Tokens) → Rows (NodeTurn more read depth) xs ts rest → more rest ≡ false
       → NodesRead xs ts rest
   nodes_repeat xs ts rest r h =

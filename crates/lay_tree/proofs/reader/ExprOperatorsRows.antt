@@ -1,5 +1,5 @@
 -- Operators and the operands behind them, and types behind `as`: what is spelled is read.
-use Rattle.std.proofs.Common.{◌≡◌, ℕ, suc, ◌≤◌, Bool, true, false, not, ◌&&◌, List, [], ◌∷◌, map, codes, Some, refl, sym, ap, subst, arith, le-leb, eq-eqb}
+use Rattle.std.proofs.Common.{◌≡◌, ℕ, suc, ◌≤◌, Bool, true, false, not, ◌&&◌, List, [], ◌∷◌, map, codes, Some, refl, sym, ap, subst, arith, le-leb, eqb-true, eq-eqb}
 use Rattle.std.specs.Prelude.{◌==◌}
 use Rattle.std.proofs.lemmas.Bool.{and_parts, and_from}
 use Rattle.lay_piece.specs.declared.kind.Kind.TheVariants.{Ident}
@@ -16,7 +16,6 @@ use Rattle.lay_tree.specs.reader.Exprs.{ExprWithin, operand_ends, operand, opera
 use Rattle.lay_tree.specs.reader.Loops.{nodes, deepest}
 use Rattle.lay_tree.specs.declared.exprs.Expr.{Expr}
 use Rattle.lay_tree.specs.declared.operators.Op.{Op}
-use Rattle.lay_tree.specs.declared.operators.Op.TheVariants as op
 use Rattle.lay_tree.specs.declared.types.Ty.{Ty}
 use Rattle.lay_tree.specs.declared.types.TypePlace.TheVariants.{NoBounds}
 use Rattle.lay_tree.proofs.Fronts.{one_front, one_shorter}
@@ -27,6 +26,7 @@ use Rattle.lay_tree.proofs.reader.ExprOperators.{AtOp, at_op, not_at_level, no_a
 use Rattle.lay_tree.proofs.reader.ExprOperatorsLoops.{NodeTurn, NodesRead, nodes_repeat}
 use Rattle.lay_tree.proofs.reader.ExprOperatorsTails.{BeforeOp, before_parts}
 use Rattle.lay_tree.proofs.reader.ExprReads.{ExprReads}
+use Rattle.lay_tree.proofs.reader.ExprSoundOperators.{low_no_angle}
 use Rattle.lay_tree.proofs.reader.TypesComplete.{quiet_fits}
 use Rattle.lay_tree.proofs.reader.TypesCompleteParts.{blank_left}
 use Rattle.lay_tree.proofs.reader.TypesFronts.{Clear, follows_clear, as_quiet}
@@ -56,6 +56,7 @@ before_plain x level no_struct angle w =
 abbrev pub OperandSpelled : ℕ → Op × Expr → Tokens → Tokens → Type 0
 OperandSpelled depth y ts mid = (at : Tokens) × IsOperator (op_text y.0) ts at × Spells (about_expr y.1).form depth at mid
 
+-- Operators and operands are spelled one behind the other.
 pub operands_spelled : (depth : ℕ) (ys : List (Op × Expr)) (ts rest : Tokens) → Spells (operands_form (map behind_op ys)) depth ts rest
     → Rows (OperandSpelled depth) ys ts rest
 operands_spelled depth [] ts rest s = s
@@ -79,12 +80,14 @@ abbrev pub at_level : ℕ → Tokens → Bool
 at_level level ts = strength ts == suc level
 
 module _ (depth : ℕ) (within : ExprWithin) (reads : ExprReads depth within) (level : ℕ) (no_struct : Bool) where
+  -- an operator and the operand behind it, read
   operand_read : (y : Op × Expr) (ts at mid : Tokens) (need : ℕ) → AtOp level y.0 ts at
       → within.exprs (plain (suc level) no_struct) at ≡ Some ((y.1, need), mid)
       → operand_ends level no_struct (about_expr y.1) mid ≡ true → operand within level no_struct ts ≡ Some ((y, need), mid)
   unfolding operand
   operand_read y ts at mid need a r e = rw (a.binary, a.left, r, e) refl
 
+  -- the same as a turn
   abbrev OperandTurn : Op × Expr → Tokens → Tokens → Type 0
   OperandTurn = NodeTurn (at_level level) (operand within level no_struct) depth
 
@@ -105,6 +108,7 @@ module _ (depth : ℕ) (within : ExprWithin) (reads : ExprReads depth within) (l
         ),
       )
 
+  -- Operands stand each before the next operator, and the last before what is left.
   pub operand_turns : (y : Op × Expr) (ys : List (Op × Expr)) (ts rest : Tokens) → Rows (OperandSpelled depth) (y ∷ ys) ts rest
       → operands_placed level no_struct (map behind_op (y ∷ ys)) ≡ true → may_chain level (map behind_op (y ∷ ys)) ≡ true
       → strength rest ≤ level → tail_follows (tail_of_operands (map behind_op (y ∷ ys))) no_struct rest ≡ true
@@ -170,10 +174,12 @@ abbrev pub first_of : List (Expr × Op) → Expr → Expr
 first_of [] x = x
 first_of (z ∷ more) x = z.0
 
+-- the operators and the operands behind them
 abbrev pub row_of : List (Expr × Op) → Expr → List (Op × Expr)
 row_of [] x = []
 row_of (z ∷ more) x = (z.1, first_of more x) ∷ row_of more x
 
+-- The targets and the value are those again.
 pub row_targets : (more : List (Expr × Op)) (x : Expr)
     → (targets_of (first_of more x) (row_of more x) ≡ more) × (value_of (first_of more x) (row_of more x) ≡ x)
 row_targets [] x = (refl, refl)
@@ -194,6 +200,7 @@ target_spelled depth y more f ts rest s =
     let there : IsOperator (op_text y.1) s.0 gap.0 = subst (λ us. IsOperator (op_text y.1) s.0 us) (blank_left sign.0 gap.0 gap.1) before in
     (s.0, gap.0, s.1, there, gap.2)
 
+-- They are spelled as operands are.
 pub row_spelled : (depth : ℕ) (y : Expr × Op) (more : List (Expr × Op)) (x : Expr) (ts rest : Tokens)
     → Spells (targets_form (map target_of (y ∷ more)) (Part (about_expr x).form Done)) depth ts rest
     → (mid : Tokens) × Spells (about_expr y.0).form depth ts mid × Rows (OperandSpelled depth) (row_of (y ∷ more) x) mid rest
@@ -212,6 +219,7 @@ pub record TargetParts (no_struct first : Bool) (y : Expr × Op) (ys : List (Exp
   pub target : placed (about_expr y.0) (before_op 1 no_struct first false) ≡ true
   pub more : targets_placed (map target_of ys) no_struct false ≡ true
 
+-- of a target, and of those behind it
 pub target_parts : (no_struct first : Bool) (y : Expr × Op) (ys : List (Expr × Op))
     → targets_placed (map target_of (y ∷ ys)) no_struct first ≡ true
     → TargetParts no_struct first y ys
@@ -223,10 +231,9 @@ target_parts no_struct first y ys w =
 
 -- An operator of level 0 is neither `<` nor `<<`.
 pub set_no_angle : (o : Op) → (op_level o == 0) ≡ true → is_angle_op o ≡ false
-set_no_angle op.Less h = absurd (cc)
-set_no_angle op.Shl h = absurd (cc)
-set_no_angle _ h = refl
+set_no_angle o h = low_no_angle o (omega (arith, eqb-true (op_level o) 0 h))
 
+-- They stand in the places of operands.
 pub row_placed : (no_struct first : Bool) (y : Expr × Op) (more : List (Expr × Op)) (x : Expr)
     → targets_placed (map target_of (y ∷ more)) no_struct first ≡ true
     → placed (about_expr x) (plain 1 no_struct) ≡ true → operands_placed 0 no_struct (map behind_op (row_of (y ∷ more) x)) ≡ true
@@ -237,6 +244,7 @@ row_placed no_struct first y (z ∷ more) x w v =
     let angle = set_no_angle z.1 q.level in
     rw (p.level, angle, q.target) (row_placed no_struct false z more x p.more v)
 
+-- They end as the value does.
 pub row_tail : (y : Expr × Op) (more : List (Expr × Op)) (x : Expr)
     → tail_of_operands (map behind_op (row_of (y ∷ more) x)) ≡ (about_expr x).tail
 row_tail y [] x = refl
@@ -249,9 +257,11 @@ row_chains y (z ∷ more) x = refl
 
 -- ---- types
 
+-- `as` is spelled, and the type behind it.
 abbrev pub TypeSpelled : ℕ → Ty → Tokens → Tokens → Type 0
 TypeSpelled depth x ts mid = (at : Tokens) × IsOne Ident (codes "as") ts at × Spells (about_type x).told.form depth at mid
 
+-- Types are spelled one behind the other.
 pub types_spelled : (depth : ℕ) (xs : List Ty) (ts rest : Tokens) → Spells (types_form (map about_type xs)) depth ts rest
     → Rows (TypeSpelled depth) xs ts rest
 types_spelled depth [] ts rest s = s
@@ -261,19 +271,23 @@ types_spelled depth (x ∷ xs) ts rest s =
     let part = s.2 in
     (part.0, (s.0, o, part.1), types_spelled depth xs part.0 rest part.2)
 
+-- whether `as` stands there
 abbrev pub is_as : Tokens → Bool
 is_as = first (is_keyword (codes "as"))
 
 module _ (depth : ℕ) (within : ExprWithin) (reads : ExprReads depth within) where
+  -- a type behind `as`, read
   type_read : (x : Ty) (need : ℕ) (ts at mid : Tokens) → IsOne Ident (codes "as") ts at
       → within.kinds.types NoBounds at ≡ Some ((x, need), mid)
       → one_type within ts ≡ Some ((x, need), mid)
   unfolding one_type
   type_read x need ts at mid o r = rw ((one_front Ident (codes "as") ts at o).1, r) refl
 
+  -- the same as a turn
   abbrev TypeTurn : Ty → Tokens → Tokens → Type 0
   TypeTurn = NodeTurn is_as (one_type within) depth
 
+  -- a type that is spelled is read in its turn
   type_turn : (x : Ty) (ts mid : Tokens) → TypeSpelled depth x ts mid → good_at NoBounds (about_type x) ≡ true
       → Clear (about_type x).told.refuses mid → TypeTurn x ts mid
   type_turn x ts mid s g f =
@@ -288,6 +302,7 @@ module _ (depth : ℕ) (within : ExprWithin) (reads : ExprReads depth within) wh
         ),
       )
 
+  -- so are all of them
   type_turns : (x : Ty) (xs : List Ty) (ts rest : Tokens) → Rows (TypeSpelled depth) (x ∷ xs) ts rest
       → types_good (map about_type (x ∷ xs)) ≡ true
       → may_follow (type_refuses (map about_type (x ∷ xs))) rest ≡ true → Rows TypeTurn (x ∷ xs) ts rest

@@ -44,6 +44,7 @@ code_refuses p g =
         (and_parts (segment_good Code (about_segment s) && not (about_args s.1).returns)
         (segments_good Code (map about_segment (v ∷ more))) h).1
 
+-- A field at the end refuses `::` alone, and other steps nothing.
 steps_refuse : (ss : List StepFacts) → path_refuses (tail_of_steps ss).refuses ≡ true
 steps_refuse [] = refl
 steps_refuse (s ∷ []) = by s.kind
@@ -61,6 +62,7 @@ pub record StandsParts (x : ExprFacts) (place : Place) : Type 0 where
   pub part : not (is_part place.start && x.block_like) ≡ true
   pub struct_free : not (place.no_struct && x.is_struct) ≡ true
 
+-- what it is to stand in a place
 pub stands_parts : (x : ExprFacts) (place : Place) → stands x place ≡ true → StandsParts x place
 stands_parts x place h =
     let level = nat_le place.level x.level in
@@ -77,6 +79,7 @@ stands_parts x place h =
 abbrev EndsAsPath : ExprFacts → Type 0
 EndsAsPath F = nat_le 12 F.level ≡ true → F.tail.takes_all ≡ false → path_refuses F.tail.refuses ≡ true
 
+-- all expressions that are spelled at a depth do
 abbrev AllEnd : ℕ → Type 0
 AllEnd depth =
     (x : Expr) (no_struct first : Bool) (ts rest : Tokens) → Spells (about_expr x).form depth ts rest
@@ -84,18 +87,22 @@ AllEnd depth =
     → EndsAsPath (about_expr x)
 
 module _ (depth : ℕ) (ih : AllEnd depth) (no_struct first : Bool) (ts rest : Tokens) where
+  -- an expression of which this is told does, one level deeper
   abbrev EndsBy : ExprFacts → Type 0
   EndsBy F = Spells F.form (suc depth) ts rest → F.within no_struct first ≡ true → EndsAsPath F
 
+  -- by the layer of its kind
   told : (x : Expr) (F : Expr-F ExprFacts Facts StepFacts) → about_expr x ≡ expr_facts F
       → (Spells (inside F) depth ts rest → within_of F no_struct first ≡ true → EndsAsPath (expr_facts F)) → EndsBy (about_expr x)
   told x F e f = subst EndsBy (sym e) (λ s w. f (subst (λ us. Spells (inside F) depth ts us) s.2 s.1) w)
 
+  -- the operand behind operators before it
   prefixes_end : (ps : List Prefix) (x : Expr) (us : Tokens) → Spells (prefixes_form ps (Part (about_expr x).form Done)) depth us rest
       → (at : Tokens) × Spells (about_expr x).form depth at rest
   prefixes_end [] x us s = (us, part_alone (about_expr x).form depth us rest s)
   prefixes_end (p ∷ ps) x us s = prefixes_end ps x s.0 s.2
 
+  -- Chains are of lower levels.
   chain_end : (x : Expr) (more : List (Op × Expr)) → EndsBy (about_expr (expr.Chain x more))
   chain_end x more = told (expr.Chain x more) (Expr-F.Chain (about_expr x) (map behind_op more)) (expr_chain_is x more) (λ s w l t.
       let os = map behind_op more in
@@ -109,6 +116,7 @@ module _ (depth : ℕ) (ih : AllEnd depth) (no_struct first : Bool) (ts rest : T
       let least = leb-true 12 level l in
       absurd (omega (arith, most, least)))
 
+  -- A unary expression ends as its operand does.
   unary_end : (ps : List Prefix) (x : Expr) → EndsBy (about_expr (expr.Unary ps x))
   unary_end ps x = told (expr.Unary ps x) (Expr-F.Unary ps (about_expr x)) (expr_unary_is ps x) (λ s w l t.
       let F = about_expr x in
@@ -128,11 +136,13 @@ module _ (depth : ℕ) (ih : AllEnd depth) (no_struct first : Bool) (ts rest : T
       → EndsBy (about_expr x)
   low_end x F e low = told x F e (λ s w l t. let f = sym low ∙ l in absurd (cc))
 
+  -- What `return` and `break` hand back takes all operators.
   jump_end : (x : Expr) (F : Expr-F ExprFacts Facts StepFacts) → about_expr x ≡ expr_facts F → (y : Option ExprFacts)
       → tail_of F ≡ tail_of_jump y → EndsBy (about_expr x)
   jump_end x F e None j = told x F e (λ s w l t. subst (λ (z : Tail). path_refuses z.refuses ≡ true) (sym j) refl)
   jump_end x F e (Some y) j = told x F e (λ s w l t. let f = ap (λ (z : Tail). z.takes_all) (sym j) ∙ t in absurd (cc))
 
+  -- kind by kind
   ends : (x : Expr) → ExprView x → EndsBy (about_expr x)
   ends _ (IsLit l) = shut_end (expr.Lit l) (Expr-F.Lit l) (expr_lit_is l) refl
   ends _ (IsPath path) = told (expr.Path path) (Expr-F.Path path) (expr_path_is path) (λ s w l t. code_refuses path w)
@@ -161,6 +171,7 @@ module _ (depth : ℕ) (ih : AllEnd depth) (no_struct first : Bool) (ts rest : T
   ends _ (IsBreak label x) =
       jump_end (expr.Break label x) (Expr-F.Break label (option_map about_expr x)) (expr_break_is label x) (option_map about_expr x) refl
 
+-- and so at every depth
 all_end : (depth : ℕ) → AllEnd depth
 all_end zero x no_struct first ts rest s w = absurd (no_depth x ts rest s)
 all_end (suc depth) x no_struct first ts rest s w = ends depth (all_end depth) no_struct first ts rest x (expr_view x) s w
@@ -183,6 +194,7 @@ pub record BeforeOp (x : ExprFacts) (level : ℕ) (no_struct first angle : Bool)
   pub part : first ≡ true → x.block_like ≡ false
   pub struct_free : not (no_struct && x.is_struct) ≡ true
 
+-- what it is to stand before an operator
 pub before_parts : (x : ExprFacts) (level : ℕ) (no_struct first angle : Bool) → stands x (before_op level no_struct first angle) ≡ true
     → BeforeOp x level no_struct first angle
 before_parts x level no_struct first angle h =

@@ -56,6 +56,7 @@ use Rattle.lay_tree.proofs.reader.Words.{GoodName, name_complete}
 -- A step of which this is told stands in front of what is left.
 pub record StepBegun (x : StepFacts) (ts rest : Tokens) : Type 0 where
   pub begins : begins_step ts ≡ true
+  -- what stands behind a `.`
   pub dotted : is_dot_or_try ts ≡ is_dotted x.kind
   pub paren : is_call x.kind ≡ false → first (opens Paren) ts ≡ false
   pub colons : is_op (codes "::") ts ≡ false
@@ -89,6 +90,7 @@ opener_begun x d ts at rest n begins paren o le =
       less = omega (arith, one_shorter (Opener d) (opening d ∷ []) ts at o, le);
     }
 
+-- No name is `await`.
 name_no_await : (n : Name) (ts rest : Tokens) → GoodName n ts rest → first (is_keyword (codes "await")) ts ≡ false
 name_no_await n ts rest g = by n.raw g.0 g.1
   where
@@ -102,6 +104,7 @@ name_no_await n ts rest g = by n.raw g.0 g.1
         let p : is_plain (class_of (codes "await")) ≡ true = subst (λ w. is_plain (class_of w) ≡ true) k.1 h in
         absurd (cc))
 
+-- No word is a tuple index.
 name_no_index : (raw : Bool) (text : List ℕ) (ts rest : Tokens) → IsOne (word_kind raw) text ts rest → first is_index_token ts ≡ false
 name_no_index true text ts rest o = rw (one_front RawIdent text ts rest o).1 refl
 name_no_index false text ts rest o = rw (one_front Ident text ts rest o).1 refl
@@ -115,6 +118,7 @@ word_begun x raw text f depth ts at rest d o s =
     dot_begun x ts at rest d o (λ e. name_no_index raw text at l.0 l.1)
     (omega (arith, one_shorter (word_kind raw) text at l.0 l.1, shorter f depth l.0 rest l.2))
 
+-- Arguments begin with `(`.
 args_open : (xs : List ExprFacts) (depth : ℕ) (ts rest : Tokens) → Spells (args_form xs) depth ts rest
     → (at : Tokens) × IsOne (Opener Paren) (opening Paren ∷ []) ts at × (length rest ≤ length at)
 args_open [] depth ts rest s =
@@ -213,14 +217,17 @@ module _ (depth : ℕ) (within : ExprWithin) (reads : ExprReads depth within) wh
   unfolding one_step
   dotted ts at o = rw (o.0, o.1) refl
 
+  -- what stands behind a `.` and a name
   named : (n : Name) (ts at : Tokens) → GoodName n ts at → dot_step within ts ≡ member_by within n at
   unfolding dot_step
   named n ts at g = rw (name_no_await n ts at g, name_no_index n.raw n.text ts at g.0, name_complete n ts at g) refl
 
+  -- a field
   field_read : (n : Name) (ts at rest : Tokens) → IsOperator (codes ".") ts at → GoodName n at rest → Behind OfField rest
       → one_step within ts ≡ Some ((step.Field n, 0), rest)
   field_read n ts at rest o g b = dotted ts at o ∙ named n at rest g ∙ (rw (b.0, b.1) refl)
 
+  -- a tuple index
   index_read : (i : List ℕ) (ts at rest : Tokens) → IsOperator (codes ".") ts at → IsOne Int i at rest → is_index (chars i) ≡ true
       → one_step within ts ≡ Some ((step.TupleIndex i, 0), rest)
   unfolding dot_step
@@ -229,6 +236,7 @@ module _ (depth : ℕ) (within : ExprWithin) (reads : ExprReads depth within) wh
       let no_await : first (is_keyword (codes "await")) at ≡ false = rw (one_front Int i at rest one).1 refl in
       dotted ts at o ∙ (rw (no_await, l.1, l.0) refl)
 
+  -- `.await`
   await_read : (ts at rest : Tokens) → IsOperator (codes ".") ts at → IsOne Ident (codes "await") at rest
       → one_step within ts ≡ Some ((step.Await, 0), rest)
   unfolding dot_step
@@ -238,15 +246,18 @@ module _ (depth : ℕ) (within : ExprWithin) (reads : ExprReads depth within) wh
       let left : tail at ≡ rest = rw f refl in
       dotted ts at o ∙ (rw (there, left) refl)
 
+  -- `?`
   try_read : (ts rest : Tokens) → IsOperator (codes "?") ts rest → one_step within ts ≡ Some ((step.Try, 0), rest)
   unfolding one_step
   try_read ts rest o = rw (other_op (codes "?") (codes ".") refl ts o.0, o.0, o.1) refl
 
+  -- arguments of a method
   method_read : (n : Name) (generics : Option (List Arg)) (xs : List Expr) (more need : ℕ) (ts inside rest : Tokens)
       → IsOne (Opener Paren) (opening Paren ∷ []) ts inside → free_elements within (closes Paren) inside ≡ Some ((xs, need), rest)
       → method_by within n generics more ts ≡ Some ((step.Method n generics xs, max more need), rest)
   method_read n generics xs more need ts inside rest o r = rw (opener_passed Paren ts inside o, r) refl
 
+  -- a method without generic arguments
   plain_method : (n : Name) (xs : List Expr) (need : ℕ) (ts at behind inside rest : Tokens) → IsOperator (codes ".") ts at
       → GoodName n at behind
       → IsOne (Opener Paren) (opening Paren ∷ []) behind inside → free_elements within (closes Paren) inside ≡ Some ((xs, need), rest)
@@ -256,6 +267,7 @@ module _ (depth : ℕ) (within : ExprWithin) (reads : ExprReads depth within) wh
       let plain : member_by within n behind ≡ method_by within n None 0 behind = rw there refl in
       dotted ts at o ∙ named n at behind g ∙ plain ∙ method_read n None xs 0 need behind inside rest p r
 
+  -- a method with generic arguments
   generic_method : (n : Name) (gs : List Arg) (xs : List Expr) (most need : ℕ) (ts at behind beyond inside rest : Tokens)
       → IsOperator (codes ".") ts at
       → GoodName n at behind → is_op (codes "::") behind ≡ true → args_by within.kinds Code behind ≡ Some ((args.Angle gs, most), beyond)
@@ -267,6 +279,7 @@ module _ (depth : ℕ) (within : ExprWithin) (reads : ExprReads depth within) wh
       dotted ts at o ∙ named n at behind g
       ∙ (rw (no_paren, l.0, l.2, l.3, l.4) (method_read n (Some gs) xs most need beyond inside rest p r))
 
+  -- a call
   call_read : (xs : List Expr) (need : ℕ) (ts inside rest : Tokens) → IsOne (Opener Paren) (opening Paren ∷ []) ts inside
       → free_elements within (closes Paren) inside ≡ Some ((xs, need), rest) → one_step within ts ≡ Some ((step.Apply xs, need), rest)
   unfolding one_step
@@ -277,6 +290,7 @@ module _ (depth : ℕ) (within : ExprWithin) (reads : ExprReads depth within) wh
       let left : tail ts ≡ inside = rw f refl in
       rw (no (codes "."), no (codes "?"), there, left, r) refl
 
+  -- an index in brackets
   subscript_read : (x : Expr) (need : ℕ) (ts inside end rest : Tokens) → IsOne (Opener Bracket) (opening Bracket ∷ []) ts inside
       → within.exprs FREE inside ≡ Some ((x, need), end) → IsOne (Closer Bracket) (closing Bracket ∷ []) end rest
       → one_step within ts ≡ Some ((step.Index x, need), rest)
@@ -391,12 +405,15 @@ module _ (depth : ℕ) (within : ExprWithin) (reads : ExprReads depth within) wh
   behind_last OfTry ts n f = tt
   behind_last OfAwait ts n f = tt
 
+  -- steps, spelled one behind the other
   abbrev StepRows : List Step → Tokens → Tokens → Type 0
   StepRows ss ts rest = Rows (λ s. SpelledAt depth (about_step s).form) ss ts rest
 
+  -- a step, read in its turn
   abbrev StepTurn : Step → Tokens → Tokens → Type 0
   StepTurn = NodeTurn begins_step (one_step within) depth
 
+  -- a step that is spelled is read in its turn
   step_turn : (s : Step) (ts rest : Tokens) → Spells (about_step s).form depth ts rest → (about_step s).good ≡ true
       → Behind (about_step s).kind rest → StepTurn s ts rest
   step_turn s ts rest t g b =
@@ -404,6 +421,7 @@ module _ (depth : ℕ) (within : ExprWithin) (reads : ExprReads depth within) wh
       let r = step_read s ts rest t g b in
       (r.0, r.1, (begun.begins, r.2, begun.less))
 
+  -- so are all of them
   step_turns : (s : Step) (ss : List Step) (ts rest : Tokens) → StepRows (s ∷ ss) ts rest → are_steps (map about_step (s ∷ ss)) ≡ true
       → begins_step rest ≡ false
       → may_follow (tail_of_steps (map about_step (s ∷ ss))).refuses rest ≡ true → Rows StepTurn (s ∷ ss) ts rest
@@ -419,6 +437,7 @@ module _ (depth : ℕ) (within : ExprWithin) (reads : ExprReads depth within) wh
       let behind = behind_step (about_step s) (about_step t) r.0 next.0 g1.1 (step_begun t depth r.0 next.0 next.1) in
       (r.0, step_turn s ts r.0 r.1 g1.0 behind, step_turns t more r.0 rest next g2.1 n f)
 
+  -- A break spells nothing.
   unbroken : (b : Bool) (f : Form) (ts rest : Tokens) → Spells (break_if b f) depth ts rest → Spells f depth ts rest
   unbroken true f ts rest s = s
   unbroken false f ts rest s = s
@@ -433,6 +452,7 @@ module _ (depth : ℕ) (within : ExprWithin) (reads : ExprReads depth within) wh
       let u = unbroken (several && (behind && is_method (about_step x).kind)) f ts rest s in
       (u.0, u.1, steps_spelled several next ss u.0 rest u.2)
 
+  -- Nor does a group.
   ungrouped : (b : Bool) (f : Form) (ts rest : Tokens) → Spells (group_if b f) depth ts rest → Spells f depth ts rest
   ungrouped true f ts rest s = subst (λ us. Spells f depth ts us) s.2 s.1
   ungrouped false f ts rest s = s
@@ -446,6 +466,7 @@ module _ (depth : ℕ) (within : ExprWithin) (reads : ExprReads depth within) wh
       let u = ungrouped several (Part (about_expr x).form (steps_form several false (map about_step ss))) ts rest s in
       (u.0, u.1, steps_spelled several false ss u.0 rest u.2)
 
+  -- A tuple index doesn't stand directly behind a number without suffix.
   number_apart : (a i b : Bool) → not (a && i) ≡ true → (i ≡ false → b ≡ false) → (a && b) ≡ false
   number_apart true true b n h = absurd (cc)
   number_apart true false b n h = h refl
