@@ -1,0 +1,5 @@
+pub mod ExprEnds
+pub mod FirstCharacter
+pub mod Last
+pub mod RootFacts
+pub mod TypeEnds

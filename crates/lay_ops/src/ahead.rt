@@ -1,0 +1,89 @@
+//! Operators and operands at the front of what a reader has ahead.
+ghost use Rattle.std.specs.Prelude.{◌≡◌, None, option_map};
+ghost use Rattle.lay_tree.specs.Operands as operands;
+ghost use Rattle.lay_tree.specs.Operators as operators;
+ghost use Rattle.lay_ops.specs.Leads.{told};
+
+use crate::operands::{ExprLead, is_operand_lead};
+use crate::operators::op_level;
+use lay_read_tokens::Ahead;
+use lay_read_tokens::front::{is_at_keyword, is_at_opened};
+use lay_token::Delim;
+use lay_tree::{Op, Prefix};
+
+/// The operator between operands at the front, if there is one.
+pub fn binary(at: &Ahead<'_>) -> Option<Op>
+    ensures { result ≡ operators.binary at.now }
+{
+    let cursor = at.fork().into_cursor();
+    crate::operators::binary(&cursor)
+}
+
+/// The operator before an operand at the front, if there is one.
+pub fn prefix(at: &Ahead<'_>) -> Option<Prefix>
+    ensures { result ≡ operators.prefix at.now }
+{
+    let cursor = at.fork().into_cursor();
+    crate::operators::prefix(&cursor)
+}
+
+/// What the tokens ahead begin, if it is an expression.
+pub fn expr_lead_at(at: &Ahead<'_>) -> Option<ExprLead>
+    ensures { option_map told result ≡ operands.expr_lead_at at.now }
+{
+    let cursor = at.fork().into_cursor();
+    crate::operands::expr_lead_at(&cursor)
+}
+
+/// Whether an operand begins at the front, where no struct literal may stand or where one may.
+pub fn begins_operand(at: &Ahead<'_>, no_struct: bool) -> bool
+    ensures { result ≡ operands.begins_operand no_struct at.now }
+{
+    is_operand_lead(expr_lead_at(at), no_struct)
+}
+
+/// Whether `.` or `?` stands at the front, which go on with an expression even where nothing else does.
+pub fn is_dot_or_try(at: &Ahead<'_>) -> bool
+    ensures { result ≡ operators.is_dot_or_try at.now }
+{
+    at.op_is(b".") || at.op_is(b"?")
+}
+
+/// Whether a postfix step begins at the front.
+pub fn begins_step(at: &Ahead<'_>) -> bool
+    ensures { result ≡ operators.begins_step at.now }
+{
+    is_dot_or_try(at) || is_at_opened(at, Delim::Paren) || is_at_opened(at, Delim::Bracket)
+}
+
+/// Whether `<` or `<<` stands at the front, which would open the generic arguments of a type before it.
+pub fn is_angle(at: &Ahead<'_>) -> bool
+    ensures { result ≡ operators.is_angle at.now }
+{
+    matches!(binary(at), Some(Op::Less | Op::Shl))
+}
+
+/// How strongly the tokens ahead go on with an expression: 0 where they don't, and else one more than the level of the
+/// operator, of `as` or of the postfix step.
+#[tactic(auto, unfolding(lay_tree::specs::Operators::strength))]
+pub fn strength(at: &Ahead<'_>) -> u8
+    ensures { result ≡ operators.strength at.now }
+{
+    match binary(at) {
+        Some(op) => op_level(op) + 1,
+        None => strength_without_op(at),
+    }
+}
+
+/// The same where no operator stands at the front.
+fn strength_without_op(at: &Ahead<'_>) -> u8
+    ensures { result ≡ operators.strength_by None at.now }
+{
+    if is_at_keyword(at, b"as") {
+        12
+    } else if begins_step(at) {
+        14
+    } else {
+        0
+    }
+}

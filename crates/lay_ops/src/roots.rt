@@ -1,0 +1,99 @@
+//! What is told of an expression by its root.
+ghost use Rattle.std.specs.Prelude.{◌≡◌, map};
+ghost use Rattle.lay_tree.specs.nodes.Exprs.{about_expr, is_brace, lacks_args, type_refuses};
+ghost use Rattle.lay_tree.specs.nodes.Types.{about_type};
+ghost use Rattle.lay_ops.specs.RootFacts.{first_level};
+
+use crate::operators::op_level;
+use crate::type_ends::type_lacks_args;
+use lay_token::Delim;
+use lay_tree::{Expr, Op, Ty};
+
+/// The level of an expression, from 0 of an assignment to 14 of what is no operator's.
+#[tactic(auto, using(crate::proofs::RootFacts::level_is))]
+pub fn level(expr: &Expr) -> u8
+    ensures { result ≡ (about_expr expr.now).level }
+{
+    match expr {
+        Expr::Assign { .. } => 0,
+        Expr::Range { .. } => 1,
+        Expr::Chain { rest, .. } => first_level(rest.as_slice()),
+        Expr::Cast { .. } => 11,
+        Expr::Unary { .. } | Expr::Return { .. } | Expr::Break { .. } => 12,
+        Expr::Postfix { .. } => 13,
+        _ => 14,
+    }
+}
+
+/// The level of the operators of a chain.
+fn first_level(rest: &[(Op, Expr)]) -> u8
+    ensures { result ≡ first_level rest.now }
+{
+    match rest {
+        [(op, _), ..] => op_level(*op),
+        [] => 0,
+    }
+}
+
+/// Whether it is a `return` or a `break`.
+#[tactic(auto, using(crate::proofs::RootFacts::jumps_is))]
+pub fn is_jump(expr: &Expr) -> bool
+    ensures { result ≡ (about_expr expr.now).jumps }
+{
+    matches!(expr, Expr::Return { .. } | Expr::Break { .. })
+}
+
+/// Whether it is a range without an end.
+#[tactic(auto, using(crate::proofs::RootFacts::endless_is))]
+pub fn is_endless(expr: &Expr) -> bool
+    ensures { result ≡ (about_expr expr.now).endless }
+{
+    matches!(expr, Expr::Range { end: None, .. })
+}
+
+/// Whether it is a cast to a type that lacks generic arguments at its end.
+#[tactic(auto, using(crate::proofs::RootFacts::typed_is))]
+pub fn is_typed_cast(expr: &Expr) -> bool
+    ensures { result ≡ (about_expr expr.now).typed }
+{
+    match expr {
+        Expr::Cast { types, .. } => last_lacks_args(types.as_slice()),
+        _ => false,
+    }
+}
+
+/// Whether the last of the types lacks generic arguments at its end.
+pub fn last_lacks_args(types: &[Ty]) -> bool
+    ensures { result ≡ lacks_args (type_refuses (map about_type types.now)) }
+{
+    match types.last() {
+        Some(ty) => type_lacks_args(ty),
+        None => false,
+    }
+}
+
+/// Whether it is a struct literal.
+#[tactic(auto, using(crate::proofs::RootFacts::is_struct_is))]
+pub fn is_struct(expr: &Expr) -> bool
+    ensures { result ≡ (about_expr expr.now).is_struct }
+{
+    matches!(expr, Expr::Struct { .. })
+}
+
+/// Whether it ends a statement without a `;`: a macro call in braces.
+#[tactic(auto, using(crate::proofs::RootFacts::block_like_is))]
+pub fn is_block_like(expr: &Expr) -> bool
+    ensures { result ≡ (about_expr expr.now).block_like }
+{
+    match expr {
+        Expr::Call { call } => is_brace(call.tokens.delim),
+        _ => false,
+    }
+}
+
+/// Whether the delimiter is a brace.
+fn is_brace(delim: Delim) -> bool
+    ensures { result ≡ is_brace delim }
+{
+    matches!(delim, Delim::Brace)
+}
