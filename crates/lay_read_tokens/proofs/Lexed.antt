@@ -1,5 +1,5 @@
 -- Tokens of a text: they are pieces of their kinds, and so are those of each part of them.
-use Rattle.std.proofs.Common.{◌≡◌, ℕ, ◌&&◌, Bool, true, false, cond, List, [], ◌∷◌, ◌++◌, Option, Some, None, IfSome, slice_get, Bor, option_copied, refl, sym, ap, ◌∙◌, subst, append_assoc}
+use Rattle.std.proofs.Common.{◌≡◌, ℕ, ◌&&◌, Bool, true, false, cond, List, [], ◌∷◌, ◌++◌, Option, Some, None, IfSome, IsUtf8, slice_get, Bor, option_copied, refl, sym, ap, ◌∙◌, subst, append_assoc}
 use Rattle.std.specs.Str.{chars, is_utf8}
 use Rattle.std.proofs.lemmas.Bool.{and_parts}
 use Rattle.std.proofs.lemmas.List.Folds.{list_all-append}
@@ -14,6 +14,7 @@ use Rattle.lay_form.specs.Pieces.{is_text_of}
 use Rattle.lay_tree.specs.reader.Exact.{InText}
 use Rattle.lay_tree.specs.tokens.Texts.{are_texts}
 use Rattle.lay_tree.proofs.LexedPieces.{lexed_pieces}
+use Rattle.lay_tree.proofs.Pieces.{piece_utf8}
 use Rattle.lay_tree.proofs.token_lists.FromText.{in_text}
 use Rattle.lay_read_tokens.specs.Answers.{AreLexed}
 
@@ -75,6 +76,16 @@ token_string t h = record {
   string = λ e. str_piece t.text (ap (λ k. is_text_of k t.text) (sym e) ∙ h);
   raw = λ e. raw_piece t.text (ap (λ k. is_text_of k t.text) (sym e) ∙ h);
 }
+
+-- The text of the token at the front is UTF-8.
+pub front_utf8 : (ts : List Token) (o : Option (Bor Token)) → option_copied o ≡ slice_get ts 0 → are_texts ts ≡ true
+    → IfSome o (λ t. IsUtf8 t.now.text)
+front_utf8 ts None e h = tt
+front_utf8 [] (Some u) e h = absurd (cc)
+front_utf8 (t ∷ ts) (Some u) e h =
+    let same : t ≡ u.now = cc in
+    let text = piece_utf8 t.kind t.text (and_parts (is_text_of t.kind t.text) (are_texts ts) h).0 in
+    IsUtf8-from_is_utf8 u.now.text (subst (λ (v : Token). is_utf8 v.text ≡ true) same text)
 
 -- The token at the front is a piece of its kind, where it is a string.
 pub front_string : (ts : List Token) (o : Option (Bor Token)) → option_copied o ≡ slice_get ts 0 → are_texts ts ≡ true

@@ -1,5 +1,5 @@
 //! The tokens ahead.
-ghost use Rattle.std.specs.Prelude.{◌≡◌, ◌↔◌, ◌<◌, ◌≤◌, ◌++◌, IsTrue, IfSome, MatchOption, drop, length, option_copied, slice_get};
+ghost use Rattle.std.specs.Prelude.{◌≡◌, ◌↔◌, ◌<◌, ◌≤◌, ◌++◌, IsTrue, IsUtf8, IfSome, MatchOption, drop, length, option_copied, slice_get};
 ghost use Rattle.lay_cook.specs.Cooking.{IsString};
 ghost use Rattle.lay_nest.specs.Groups.{AreTree, Grouped, begins_group, begins_tree};
 ghost use Rattle.lay_token.specs.Operators.{is_op};
@@ -58,9 +58,10 @@ impl<'a> Ahead<'a> {
         self.at.peek(ahead)
     }
 
-    /// The token at the front, which is a piece of its kind where it is a string.
+    /// The token at the front, whose text is UTF-8, and which is a piece of its kind where it is a string.
     pub fn front(&self) -> Option<&'a Token>
         ensures token { option_copied result ≡ slice_get self.now 0 }
+        ensures text { IfSome result (λ token. IsUtf8 token.now.text) }
         ensures string { IfSome result (λ token. IsString token.now) }
     {
         self.at.peek(0)
