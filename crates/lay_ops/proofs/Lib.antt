@@ -1,3 +1,4 @@
+pub mod BareNumbers
 pub mod ExprEnds
 pub mod FirstCharacter
 pub mod Last

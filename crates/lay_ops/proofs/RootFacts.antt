@@ -11,6 +11,7 @@ use Rattle.lay_tree.specs.declared.exprs.Expr.TheViews as views
 use Rattle.lay_tree.specs.declared.exprs.FieldExpr.{FieldExpr}
 use Rattle.lay_tree.specs.declared.exprs.Step.{Step}
 use Rattle.lay_tree.specs.declared.operators.Op.{Op}
+use Rattle.lay_tree.specs.declared.token.Literal.{Literal}
 use Rattle.lay_tree.specs.declared.tokens.MacroCall.{MacroCall}
 use Rattle.lay_tree.specs.declared.types.Ty.{Ty}
 use Rattle.lay_tree.proofs.nodes.ExprsLaws as laws
@@ -123,3 +124,7 @@ types_last (x ∷ y ∷ more) t h = types_last (y ∷ more) t h
 pub of_types : (types : List Ty) (t : Ty) → Some t ≡ slice_get types (length types - 1)
     → lacks_args (about_type t).told.refuses ≡ lacks_args (type_refuses (map about_type types))
 of_types types t h = ap lacks_args (types_last types t (h ∙ last_is types))
+
+pub of_literal : (x : Expr) (literal : Literal) → x ≡ expr.Lit literal
+    → is_bare_number literal.kind literal.text ≡ (about_expr x).is_number
+of_literal x literal is = rw (is, laws.expr_lit_is literal) refl

@@ -1,3 +1,4 @@
 pub mod Ends
 pub mod Leads
+pub mod Numbers
 pub mod RootFacts

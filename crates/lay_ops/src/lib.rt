@@ -1,18 +1,22 @@
 //! Operators, and the places of expressions.
 //!
-//! Which operator the tokens ahead begin with, how strongly they go on with an expression, and where an expression that
-//! was read may stand. Each call is proved equal to the definition of `lay_tree`, and none takes memory. Where an
-//! expression ends is found along its right edge by a loop, so no depth of an expression is one of the stack.
+//! Which operator the tokens ahead begin with, how strongly they go on with an expression, what begins one, and where an
+//! expression may stand. Each call is proved equal to the definition of `lay_tree`, and none takes memory. The calls here
+//! take a cursor, which may be over any tokens; [`ahead`] has the same for readers. What an expression ends in is found
+//! along its right edge by a loop, so that a deep one needs no deep stack.
 #![tactic(auto)]
 
 pub mod ahead;
 mod expr_ends;
+mod numbers;
 pub mod operands;
 pub mod operators;
-pub mod places;
-pub mod roots;
-pub mod type_ends;
+mod places;
+mod roots;
+mod type_ends;
 
+pub use numbers::is_number;
 pub use operands::begins_operand;
 pub use operators::{binary, prefix};
 pub use places::{may, stands};
+pub use roots::{is_block_like, level};

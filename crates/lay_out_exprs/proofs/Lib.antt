@@ -1,0 +1,6 @@
+pub mod Turns
+pub mod Feeds
+pub mod ExprLemmas
+pub mod StepLemmas
+pub mod StructLemmas
+pub mod PointLemmas

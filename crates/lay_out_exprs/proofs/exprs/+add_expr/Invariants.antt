@@ -1,0 +1,39 @@
+use Rattle.std.proofs.Common.{[], false, drop, map, take}
+use Rattle.lay_form.specs.Form.{Done}
+use Rattle.lay_form.specs.Stream.{fed, stream_of}
+use Rattle.lay_tree.specs.nodes.Exprs.{about_step, operands_form, steps_form, targets_form}
+use Rattle.lay_out_types.specs.Calls.{Adds}
+use Rattle.lay_out_types.specs.PatternRows.{braces_opened}
+use Rattle.lay_out_types.specs.Rows.{comma_between, list_opened, row}
+use Rattle.lay_out_exprs.specs.Parts.{before_op, behind_op, expr_told, field_told}
+use Rattle.lay_out_exprs.proofs.Turns.{SoFar}
+use Rattle.lay_out_exprs.proofs.exprs.+add_expr.Given as goal
+
+-- the elements so far are put
+abbrev pub invariant-add_exprs-loop-index : goal.invariant-add_exprs-loop-index
+invariant-add_exprs-loop-index g l =
+    Adds g.E.Emit.meanings l.fn.before l.fn.out
+    (row (list_opened l.opener) comma_between (map expr_told (take l.index l.exprs))) l.done l.out
+
+abbrev pub invariant-add_fields-loop-index : goal.invariant-add_fields-loop-index
+invariant-add_fields-loop-index g l =
+    Adds g.E.Emit.meanings l.fn.before l.fn.out
+    (row braces_opened comma_between (map field_told (take l.index l.fields))) l.done l.out
+
+-- what is put so far, and what is left, are all
+abbrev pub invariant-add_operands-loop-op : goal.invariant-add_operands-loop-op
+invariant-add_operands-loop-op g l =
+    SoFar g.E.Emit.meanings l.fn.before l.fn.out (stream_of (operands_form (map behind_op (drop l.op-index l.operands))))
+    (stream_of (operands_form (map behind_op l.operands))) l.done l.out
+
+abbrev pub invariant-add_targets-loop-target : goal.invariant-add_targets-loop-target
+invariant-add_targets-loop-target g l =
+    SoFar g.E.Emit.meanings l.fn.before l.fn.out
+    (fed l.point (targets_form (map before_op (drop l.target-index l.targets)) Done) [])
+    (fed l.fn.point (targets_form (map before_op l.targets) Done) []) l.done l.out
+
+abbrev pub invariant-add_steps-loop-step : goal.invariant-add_steps-loop-step
+invariant-add_steps-loop-step g l =
+    SoFar g.E.Emit.meanings l.fn.before l.fn.out
+    (fed l.point (steps_form l.several l.behind (map about_step (drop l.step-index l.steps))) [])
+    (fed l.fn.point (steps_form l.several false (map about_step l.steps)) []) l.done l.out

@@ -1,0 +1,169 @@
+//! Operators, casts and labels.
+ghost use Rattle.std.specs.Prelude.{◌≡◌, [], ◌∷◌, map, codes, false};
+ghost use Rattle.lay_layout.specs.declared.layout.Tok.TheVariants as tok;
+ghost use Rattle.lay_form.specs.Form.{Done, Never, Soft};
+ghost use Rattle.lay_form.specs.Layout.{break_of, led, text_of_bits};
+ghost use Rattle.lay_form.specs.Stream.{stream_of};
+ghost use Rattle.lay_tree.specs.Operators.{op_text};
+ghost use Rattle.lay_tree.specs.nodes.Exprs.{label_form, prefix_bits, types_form};
+ghost use Rattle.lay_tree.specs.nodes.Patterns.{dots};
+ghost use Rattle.lay_tree.specs.nodes.Types.{about_type};
+ghost use Rattle.lay_out_exprs.specs.Parts.{prefix_texts};
+ghost use Rattle.lay_out_types.specs.Calls.{Adds};
+
+use lay_out_tokens::notation::{NEVER_BREAK, SPACE_BREAK};
+use lay_out_types::add_type;
+use lay_out_types::calls::{add_either, add_text};
+use lay_stream::Emit;
+use lay_tree::{Lifetime, Op, Prefix, Ty};
+
+/// What stands between two operands: a break, the operator and a blank.
+pub fn add_operator<E: Emit>(
+    out: &mut E,
+    before: Result<(), E::Fault>,
+    op: Op,
+) -> Result<(), E::Fault>
+    ensures { Adds E.meanings before out.old
+        (tok.Break (break_of (Soft false 1)) ∷ tok.Text (op_text op) ∷ tok.Text (codes " ") ∷ []) result out.new }
+{
+    before?;
+    out.brk(SPACE_BREAK)?;
+    out.text(op_text(op))?;
+    out.text(b" ")
+}
+
+/// What stands between the target of an assignment and its value: the operator between blanks, and a place where a
+/// measure ends.
+pub fn add_assignment<E: Emit>(
+    out: &mut E,
+    before: Result<(), E::Fault>,
+    op: Op,
+) -> Result<(), E::Fault>
+    ensures { Adds E.meanings before out.old
+        (tok.Text (codes " ") ∷ tok.Text (op_text op) ∷ tok.Text (codes " ") ∷ tok.Break (break_of Never) ∷ [])
+        result out.new }
+{
+    before?;
+    out.text(b" ")?;
+    out.text(op_text(op))?;
+    out.text(b" ")?;
+    out.brk(NEVER_BREAK)
+}
+
+/// The text of an operator between operands.
+fn op_text(op: Op) -> &'static [u8]
+    ensures { result.now ≡ op_text op }
+{
+    match op {
+        Op::Set => b"=",
+        Op::AddSet => b"+=",
+        Op::SubSet => b"-=",
+        Op::MulSet => b"*=",
+        Op::DivSet => b"/=",
+        Op::RemSet => b"%=",
+        Op::XorSet => b"^=",
+        Op::AndSet => b"&=",
+        Op::OrSet => b"|=",
+        Op::ShlSet => b"<<=",
+        Op::ShrSet => b">>=",
+        Op::Upto => b"..",
+        Op::UptoEq => b"..=",
+        Op::OrOr => b"||",
+        Op::AndAnd => b"&&",
+        Op::EqEq => b"==",
+        Op::Differ => b"!=",
+        Op::Less => b"<",
+        Op::Greater => b">",
+        Op::LessEq => b"<=",
+        Op::GreaterEq => b">=",
+        Op::BitOr => b"|",
+        Op::BitXor => b"^",
+        Op::BitAnd => b"&",
+        Op::Shl => b"<<",
+        Op::Shr => b">>",
+        Op::Add => b"+",
+        Op::Sub => b"-",
+        Op::Mul => b"*",
+        Op::Div => b"/",
+        Op::Rem => b"%",
+    }
+}
+
+/// The operators before an operand.
+pub fn add_prefixes<E: Emit>(
+    out: &mut E,
+    before: Result<(), E::Fault>,
+    prefixes: &[Prefix],
+) -> Result<(), E::Fault>
+    ensures { Adds E.meanings before out.old (prefix_texts prefixes.now) result out.new }
+{
+    let mut done = before;
+    for prefix in prefixes {
+        done = add_text(out, done, prefix_text(*prefix));
+    }
+    done
+}
+
+/// The text of an operator before an operand, with the blank behind its last word.
+fn prefix_text(prefix: Prefix) -> &'static [u8]
+    ensures { result.now ≡ text_of_bits (prefix_bits prefix) }
+{
+    match prefix {
+        Prefix::Neg => b"-",
+        Prefix::Deref => b"*",
+        Prefix::Bang => b"!",
+        Prefix::Amp => b"&",
+        Prefix::AmpMut => b"&mut ",
+        Prefix::RawConst => b"&raw const ",
+        Prefix::RawMut => b"&raw mut ",
+    }
+}
+
+/// The types that an operand is cast to, each behind its `as`.
+pub fn add_casts<E: Emit>(
+    out: &mut E,
+    before: Result<(), E::Fault>,
+    types: &[Ty],
+) -> Result<(), E::Fault>
+    ensures { Adds E.meanings before out.old (stream_of (types_form (map about_type types.now))) result out.new }
+{
+    let mut done = before;
+    for ty in types {
+        done = add_text(out, done, b" as ");
+        done = add_type(out, done, ty);
+    }
+    done
+}
+
+/// The `..` or `..=` of a range, with a blank before it where a point stands before it.
+pub fn add_dots<E: Emit>(
+    out: &mut E,
+    before: Result<(), E::Fault>,
+    point: bool,
+    inclusive: bool,
+) -> Result<(), E::Fault>
+    ensures { let text = text_of_bits (led point (dots inclusive)) in
+        Adds E.meanings before out.old (tok.Text text ∷ []) result out.new }
+{
+    if point {
+        return add_either(out, before, inclusive, b" ..=", b" ..");
+    }
+    add_either(out, before, inclusive, b"..=", b"..")
+}
+
+/// A label behind `continue` or `break`, if there is one.
+pub fn add_label<E: Emit>(
+    out: &mut E,
+    before: Result<(), E::Fault>,
+    label: &Option<Lifetime>,
+) -> Result<(), E::Fault>
+    ensures { Adds E.meanings before out.old (stream_of (label_form label.now Done)) result out.new }
+{
+    match label {
+        None => before,
+        Some(label) => {
+            let blank = add_text(out, before, b" ");
+            add_text(out, blank, label.text.as_bytes())
+        },
+    }
+}

@@ -1,0 +1,89 @@
+//! Which expressions end in a point: the last one of a number, or a `..`.
+ghost use Rattle.std.specs.Prelude.{◌≡◌, true, option_map};
+ghost use Rattle.lay_piece.specs.Number.{ends_in_point};
+ghost use Rattle.lay_form.specs.Form.{Done};
+ghost use Rattle.lay_form.specs.Layout.{ends_behind_point, token_ends_in_point};
+ghost use Rattle.lay_tree.specs.nodes.Exprs.{about_expr, end_form};
+ghost use Rattle.lay_tree.specs.nodes.Types.{about_path};
+ghost use Rattle.lay_tree.specs.declared.types.PathStyle.TheVariants.{Code};
+
+use crate::flags::both;
+use lay_piece::Kind;
+use lay_tree::{Boxed, Expr, Literal, Path, PathStart};
+
+/// Whether an expression ends in a point. The flag says that one stands before it: what is empty, as nothing is that was
+/// read, leaves that point at the end.
+#[cycle(ends_in_point)]
+pub fn ends_in_point(point: bool, node: &Expr) -> bool
+    ensures { result ≡ ends_behind_point point (about_expr node.now).form }
+{
+    match node {
+        Expr::Lit { literal } => is_pointed(literal),
+        Expr::Path { path } => both(point, is_nothing(path)),
+        Expr::Chain { first, rest } => match rest.as_slice() {
+            [] => ends_in_point(point, first.get()),
+            [.., (_, operand)] => ends_in_point(false, operand),
+        },
+        Expr::Cast { operand, types } => {
+            types.as_slice().is_empty() && ends_in_point(point, operand.get())
+        },
+        Expr::Unary { prefixes, operand } => {
+            ends_in_point(both(point, prefixes.as_slice().is_empty()), operand.get())
+        },
+        Expr::Range { inclusive, end, .. } => operand_ends_in_point(!*inclusive, end),
+        Expr::Assign { targets, value } => {
+            ends_in_point(both(point, targets.as_slice().is_empty()), value.get())
+        },
+        Expr::Postfix { base, steps } => {
+            steps.as_slice().is_empty() && ends_in_point(point, base.get())
+        },
+        Expr::Return { operand } => operand_ends_in_point(false, operand),
+        Expr::Break { operand, .. } => operand_ends_in_point(false, operand),
+        _ => false,
+    }
+}
+
+/// Whether an operand that may be left out ends in a point.
+#[cycle(ends_in_point)]
+pub fn operand_ends_in_point(point: bool, operand: &Option<Boxed<Expr>>) -> bool
+    ensures { result ≡ ends_behind_point point (end_form (option_map about_expr operand.now) Done) }
+{
+    match operand {
+        None => point,
+        Some(operand) => ends_in_point(point, operand.get()),
+    }
+}
+
+/// Whether a path is nothing at all, so that a point before it stands at its end.
+fn is_nothing(path: &Path) -> bool
+    ensures { result ≡ ends_behind_point true (about_path path.now Code).form }
+{
+    match &path.start {
+        PathStart::Local => path.segments.as_slice().is_empty(),
+        _ => false,
+    }
+}
+
+/// Whether a literal is a number that ends in its point.
+fn is_pointed(literal: &Literal) -> bool
+    ensures { result ≡ token_ends_in_point literal.now.kind literal.now.text }
+{
+    match literal.kind {
+        Kind::Float => is_digits_and_point(literal.text.as_bytes()),
+        _ => false,
+    }
+}
+
+/// Whether a text is digits, with `_` among them, and a point behind them.
+fn is_digits_and_point(text: &[u8]) -> bool
+    ensures { result ≡ ends_in_point text.now }
+{
+    let mut rest = text;
+    while let [byte, tail @ ..] = rest {
+        if !(byte.is_ascii_digit() || *byte == b'_') {
+            return *byte == b'.' && tail.is_empty();
+        }
+        rest = tail;
+    }
+    false
+}
