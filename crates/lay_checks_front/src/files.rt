@@ -146,40 +146,6 @@ fn members(rt: HostRuntime) {
     }
 }
 
-// Constants and statics with values: each kind of expression, and what decides between kinds.
-#[test]
-fn values(rt: HostRuntime) {
-    let worked = "const A:T=x.0.1+1. .max(2.);→const A: T = x.0.1 + 1. .max(2.);\n§\
-        const A:T=a.b(c).d(e);→const A: T = a.b(c).d(e);\n§\
-        const A:T=a& &b;→const A: T = a & &b;\n§\
-        const A:T=-(a as u8)..;→const A: T = -(a as u8)..;\n§\
-        const A:T=S{a:1,b,..c};→const A: T = S { a: 1, b, ..c };\n§\
-        const A:T=[0;3][1]?;→const A: T = [0; 3][1]?;\n§\
-        const A:bool=(a as u8)<b;→const A: bool = (a as u8) < b;\n§\
-        const A:bool=a as u8<=b;→const A: bool = a as u8 <= b;\n§\
-        mod a{mod b{mod c{mod d{/** p\nq */const S:&str=r\"x\ny\";}}}}→mod a {\n    mod b {\n        mod c {\n            mod d {\n                /** p\nq */\n                const S: &str = r\"x\ny\";\n            }\n        }\n    }\n}\n";
-    let operators = "static mut A:T=a=b+=c;→static mut A: T = a = b += c;\n§\
-        const A:T=a||b&&c==d|e^f&g<<h+i*j as T;→const A: T = a || b && c == d | e ^ f & g << h + i * j as T;\n§\
-        const A:T=-!*&&mut&raw const&raw mut a;→const A: T = -!*&&mut &raw const &raw mut a;\n§\
-        const A:T=(..,..=a,a..,a..b);→const A: T = (.., ..=a, a.., a..b);\n§\
-        const A:T=a as B as C<D>;→const A: T = a as B as C<D>;\n§\
-        const A:B<C>=return break'a continue'b;→const A: B<C> = return break 'a continue 'b;\n§\
-        const A:T=(a||return b,a||break);→const A: T = (a || return b, a || break);\n";
-    let others = "const A:T=((),(a,),(a,b),[],[a,b],[a;b+c]);→const A: T = ((), (a,), (a, b), [], [a, b], [a; b + c]);\n§\
-        const A:T=a.b.0.c::<D>(e)(f)[g]?.await;→const A: T = a.b.0.c::<D>(e)(f)[g]?.await;\n§\
-        const A:T=a::<B>::c{#[d]0:e,f}.g;→const A: T = a::<B>::c {\n    #[d]\n    0: e,\n    f,\n}.g;\n§\
-        const A:T=S{..};→const A: T = S { .. };\n§\
-        const _:T=_;→const _: T = _;\n§\
-        const A:T=m!{a}.b;→const A: T = m! { a }.b;\n§\
-        trait A{const B:C=1;}impl A{const B:C=2;}→trait A {\n    const B: C = 1;\n}\nimpl A {\n    const B: C = 2;\n}\n";
-    let broken = "const A:T=first_of_them.second_of_them(a_long_argument).third_of_them(another_long_argument);→const A: T = first_of_them.second_of_them(a_long_argument)\n    .third_of_them(another_long_argument);\n";
-    for rows in [worked, operators, others, broken] {
-        for row in rows.split(BETWEEN) {
-            lays(&rt, rt.alloc(), row);
-        }
-    }
-}
-
 /// The bytes are refused, and nothing is written.
 fn answers(rt: &impl Abort, alloc: Global, given: &[u8], status: Status) {
     assert_eq!(rt; is_run(alloc, given, status, b""), Ok(true), "{status:?}");
@@ -239,21 +205,6 @@ fn refusals(rt: HostRuntime) {
         &rt,
         alloc,
         "m!()§m!{};§m!§m{}§m!a{}§macro_rules! m()§macro_rules! fn{}§fn!{}§r#m!{}m![]",
-    );
-    no_item(
-        &rt,
-        alloc,
-        "const A:bool=a==b==c;§const A:bool=a as u8<b;§const A:bool=a<-b;§const A:T=a..b..c;§const A:T=a..+b;§const A:T=;",
-    );
-    no_item(
-        &rt,
-        alloc,
-        "const A:T=return+a..;§const A:T=-return+a;§const A:T=1 .0;§const A:T=a!;§const A:T=a::<B>::;§const A:T=&raw const;",
-    );
-    no_item(
-        &rt,
-        alloc,
-        "extern{static A:B=1;}§impl A{static B:C=1;}§trait A{static B:C=1;}§const A:T=..=;§const A:T=S{a b};§const A:T=S{..a,};",
     );
     answers(
         &rt,

@@ -10,9 +10,7 @@ ghost use Rattle.lay_out_types.specs.Calls.{Adds};
 ghost use Rattle.lay_out_code.specs.Parts.{kind_row, no_forms};
 
 use crate::calls::{add_alias, add_bare_attr, add_enum, add_extern_crate, add_struct, add_union};
-use crate::heads::{
-    add_clause, add_ended, add_ended_clause, add_foreign_head, add_head, add_valued,
-};
+use crate::heads::{add_clause, add_ended, add_ended_clause, add_foreign_head, add_head};
 use crate::macros::{add_call_item, add_macro_rules};
 use lay_out_heads::calls::add_break;
 use lay_out_heads::items::leads;
@@ -62,7 +60,7 @@ fn add_kind<E: Emit>(
         ItemKind::Struct { item } => add_struct(out, before, vis, item),
         ItemKind::Union { item } => add_union(out, before, vis, item),
         ItemKind::Enum { item } => add_enum(out, before, vis, item),
-        ItemKind::Value { head, value } => add_valued(out, before, vis, head, value),
+        ItemKind::Value { head } => add_ended(out, before, vis, head),
         ItemKind::Trait {
             head,
             wheres,

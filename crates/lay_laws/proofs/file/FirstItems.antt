@@ -46,8 +46,8 @@ layer_fair (ItemKind-F.Alias x) =
 layer_fair (ItemKind-F.Struct x) = in_modules_fair (about_struct x) (struct_fair x)
 layer_fair (ItemKind-F.Union x) = in_modules_fair (about_union x) (union_fair x)
 layer_fair (ItemKind-F.Enum x) = in_modules_fair (about_enum x) (enum_fair x)
-layer_fair (ItemKind-F.Value head value) =
-    record { go = λ v w. seen_fair v (about_value site.Module head value) (λ d. value_head_fair head _) }
+layer_fair (ItemKind-F.Value head) =
+    record { go = λ v w. seen_fair v (about_value site.Module head) (value_head_fair head) }
 layer_fair (ItemKind-F.Trait head wheres attrs items) =
     in_modules_fair (about_trait head wheres attrs items) (trait_head_fair head)
 layer_fair (ItemKind-F.Impl head wheres attrs items) =
