@@ -18,6 +18,9 @@ mod types;
 mod wheres;
 
 pub use generics::{add_asked, add_default, put_generics};
-pub use patterns::{add_attrs, add_group, add_pat, put_pat};
-pub use types::{add_path, add_type, put_args, put_bounds, put_path, put_type};
+pub use patterns::{
+    add_attrs, add_brace, add_closing_brace, add_dots_behind, add_group, add_pat, is_pointed,
+    put_pat,
+};
+pub use types::{add_angles, add_path, add_type, put_args, put_bounds, put_path, put_type};
 pub use wheres::put_wheres;

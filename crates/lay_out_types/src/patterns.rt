@@ -282,7 +282,7 @@ fn add_dots<E: Emit>(
 }
 
 /// A `..` or `..=`, with a blank before it where it would stand directly behind the point of a number.
-fn add_dots_behind<E: Emit>(
+pub fn add_dots_behind<E: Emit>(
     out: &mut E,
     before: Result<(), E::Fault>,
     inclusive: bool,
@@ -322,7 +322,7 @@ fn ends_in_point(end: &SpanEnd) -> bool
 }
 
 /// Whether a literal is a number that ends in its point.
-fn is_pointed(literal: &Literal) -> bool
+pub fn is_pointed(literal: &Literal) -> bool
     ensures { result ≡ token_ends_in_point literal.now.kind literal.now.text }
 {
     match literal.kind {
@@ -373,7 +373,7 @@ fn add_bar<E: Emit>(out: &mut E, before: Result<(), E::Fault>, first: bool) -> R
 }
 
 /// What stands before a field: before the first one what opens the braces, and else a comma.
-fn add_brace<E: Emit>(
+pub fn add_brace<E: Emit>(
     out: &mut E,
     before: Result<(), E::Fault>,
     first: bool,
@@ -392,7 +392,7 @@ fn add_brace<E: Emit>(
 
 /// What closes the braces, with a `,` behind the last field where each stands on its own line and one may stand there.
 /// Without fields they are one text.
-fn add_closing_brace<E: Emit>(
+pub fn add_closing_brace<E: Emit>(
     out: &mut E,
     before: Result<(), E::Fault>,
     may: bool,

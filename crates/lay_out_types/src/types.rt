@@ -121,7 +121,7 @@ pub fn add_args<E: Emit>(
 
 /// Generic arguments in `<` and `>`.
 #[cycle(add_type)]
-fn add_angles<E: Emit>(
+pub fn add_angles<E: Emit>(
     out: &mut E,
     before: Result<(), E::Fault>,
     args: &[Arg],
