@@ -11,19 +11,16 @@ ghost use Rattle.lay_out_types.specs.Calls.{Adds};
 ghost use Rattle.lay_out_types.specs.PatternRows.{braces_opened};
 ghost use Rattle.lay_out_types.specs.Rows.{comma_between, list_closed, list_opened, row};
 
-use crate::braces::{add_brace, add_closing_brace};
 use crate::flags::{both, either};
 use crate::generics::add_generics;
-use crate::operators::{
-    add_assignment, add_casts, add_dots, add_label, add_operator, add_prefixes,
-};
+use crate::operators::{add_assignment, add_casts, add_label, add_operator, add_prefixes};
 use crate::points::{ends_in_point, operand_ends_in_point};
 use crate::steps::{
     add_step_break, add_steps_end, add_steps_start, are_several_methods, is_method,
 };
 use lay_out_types::calls::{add_call, add_either, add_literal, add_text, add_tokens, add_word};
 use lay_out_types::lists::{add_begin, add_close, add_end, add_lead};
-use lay_out_types::{add_attrs, add_path};
+use lay_out_types::{add_attrs, add_brace, add_closing_brace, add_dots_behind, add_path};
 use lay_stream::Emit;
 use lay_tree::{Boxed, Expr, FieldExpr, Op, PathStyle, Step};
 
@@ -102,7 +99,7 @@ pub fn add_expr<E: Emit>(
             end,
         } => {
             let first = add_optional(out, before, point, start);
-            let dots = add_dots(out, first, operand_ends_in_point(point, start), *inclusive);
+            let dots = add_dots_behind(out, first, *inclusive, operand_ends_in_point(point, start));
             add_optional(out, dots, !*inclusive, end)
         },
         Expr::Assign { targets, value } => {

@@ -9,7 +9,6 @@
 //! stands before its part, and the module `points` tells which expressions end in one.
 #![tactic(auto)]
 
-mod braces;
 mod exprs;
 mod flags;
 mod generics;

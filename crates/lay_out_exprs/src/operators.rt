@@ -2,18 +2,17 @@
 ghost use Rattle.std.specs.Prelude.{◌≡◌, [], ◌∷◌, map, codes, false};
 ghost use Rattle.lay_layout.specs.declared.layout.Tok.TheVariants as tok;
 ghost use Rattle.lay_form.specs.Form.{Done, Never, Soft};
-ghost use Rattle.lay_form.specs.Layout.{break_of, led, text_of_bits};
+ghost use Rattle.lay_form.specs.Layout.{break_of, text_of_bits};
 ghost use Rattle.lay_form.specs.Stream.{stream_of};
 ghost use Rattle.lay_tree.specs.Operators.{op_text};
 ghost use Rattle.lay_tree.specs.nodes.Exprs.{label_form, prefix_bits, types_form};
-ghost use Rattle.lay_tree.specs.nodes.Patterns.{dots};
 ghost use Rattle.lay_tree.specs.nodes.Types.{about_type};
 ghost use Rattle.lay_out_exprs.specs.Parts.{prefix_texts};
 ghost use Rattle.lay_out_types.specs.Calls.{Adds};
 
 use lay_out_tokens::notation::{NEVER_BREAK, SPACE_BREAK};
 use lay_out_types::add_type;
-use lay_out_types::calls::{add_either, add_text};
+use lay_out_types::calls::add_text;
 use lay_stream::Emit;
 use lay_tree::{Lifetime, Op, Prefix, Ty};
 
@@ -133,22 +132,6 @@ pub fn add_casts<E: Emit>(
         done = add_type(out, done, ty);
     }
     done
-}
-
-/// The `..` or `..=` of a range, with a blank before it where a point stands before it.
-pub fn add_dots<E: Emit>(
-    out: &mut E,
-    before: Result<(), E::Fault>,
-    point: bool,
-    inclusive: bool,
-) -> Result<(), E::Fault>
-    ensures { let text = text_of_bits (led point (dots inclusive)) in
-        Adds E.meanings before out.old (tok.Text text ∷ []) result out.new }
-{
-    if point {
-        return add_either(out, before, inclusive, b" ..=", b" ..");
-    }
-    add_either(out, before, inclusive, b"..=", b"..")
 }
 
 /// A label behind `continue` or `break`, if there is one.

@@ -1,15 +1,14 @@
 //! Which expressions end in a point: the last one of a number, or a `..`.
 ghost use Rattle.std.specs.Prelude.{◌≡◌, true, option_map};
-ghost use Rattle.lay_piece.specs.Number.{ends_in_point};
 ghost use Rattle.lay_form.specs.Form.{Done};
-ghost use Rattle.lay_form.specs.Layout.{ends_behind_point, token_ends_in_point};
+ghost use Rattle.lay_form.specs.Layout.{ends_behind_point};
 ghost use Rattle.lay_tree.specs.nodes.Exprs.{about_expr, end_form};
 ghost use Rattle.lay_tree.specs.nodes.Types.{about_path};
 ghost use Rattle.lay_tree.specs.declared.types.PathStyle.TheVariants.{Code};
 
 use crate::flags::both;
-use lay_piece::Kind;
-use lay_tree::{Boxed, Expr, Literal, Path, PathStart};
+use lay_out_types::is_pointed;
+use lay_tree::{Boxed, Expr, Path, PathStart};
 
 /// Whether an expression ends in a point. The flag says that one stands before it: what is empty, as nothing is that was
 /// read, leaves that point at the end.
@@ -62,28 +61,4 @@ fn is_nothing(path: &Path) -> bool
         PathStart::Local => path.segments.as_slice().is_empty(),
         _ => false,
     }
-}
-
-/// Whether a literal is a number that ends in its point.
-fn is_pointed(literal: &Literal) -> bool
-    ensures { result ≡ token_ends_in_point literal.now.kind literal.now.text }
-{
-    match literal.kind {
-        Kind::Float => is_digits_and_point(literal.text.as_bytes()),
-        _ => false,
-    }
-}
-
-/// Whether a text is digits, with `_` among them, and a point behind them.
-fn is_digits_and_point(text: &[u8]) -> bool
-    ensures { result ≡ ends_in_point text.now }
-{
-    let mut rest = text;
-    while let [byte, tail @ ..] = rest {
-        if !(byte.is_ascii_digit() || *byte == b'_') {
-            return *byte == b'.' && tail.is_empty();
-        }
-        rest = tail;
-    }
-    false
 }

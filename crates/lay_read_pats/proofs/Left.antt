@@ -45,7 +45,7 @@ value_left ts = choice 1 ts (first (is_mark (codes "-")) ts) _ _
 call_pat_left : (ts : Tokens) → Leaves 1 ts (p.call_pat ts)
 call_pat_left ts = chain 1 1 0 ts (call ts) _ (omega arith) (call_left ts) (λ c. unread c.1)
 
-index_left : (ts : Tokens) → Leaves 0 ts (p.index ts)
+pub index_left : (ts : Tokens) → Leaves 0 ts (p.index ts)
 index_left [] = tt
 index_left (t ∷ ts) = choice 0 (t ∷ ts) (p.is_int t.kind && is_op (codes ":") ts) _ None (λ h. dropped 2 (t ∷ ts)) tt
 

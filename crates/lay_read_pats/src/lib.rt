@@ -11,7 +11,7 @@ mod kinds;
 mod pats;
 mod reads;
 mod rules;
-mod structs;
+pub mod structs;
 mod values;
 
 pub use lay_read_types::{ReadNone, read_attr, read_attrs, read_call};

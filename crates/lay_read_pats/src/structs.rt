@@ -51,7 +51,7 @@ fn is_at_index(at: &Ahead<'_>) -> bool
 }
 
 /// The number that a field is called by, and the `:` behind it, if they stand at the front.
-fn read_index_if(alloc: Global, at: &mut Ahead<'_>) -> Result<Option<Text>, ReadNone>
+pub fn read_index_if(alloc: Global, at: &mut Ahead<'_>) -> Result<Option<Text>, ReadNone>
     ensures { IsTried (reader.index at.old) at.old result at.new }
 {
     let found = is_at_index(at);

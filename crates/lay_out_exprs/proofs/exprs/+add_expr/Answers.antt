@@ -272,7 +272,7 @@ add_expr-returns-in-Cast g t c =
 
 pub add_expr-returns-in-Range : goal.add_expr-returns-in-Range
 add_expr-returns-in-Range g t c =
-    adds (adds_on c.add_optional-first.ensures (adds_on c.add_dots-dots.ensures c.add_optional.ensures))
+    adds (adds_on c.add_optional-first.ensures (adds_on c.add_dots_behind-dots.ensures c.add_optional.ensures))
     (of.range_expr c.args.point _ c.in-Range.start c.in-Range.inclusive c.in-Range.end _ c.in-Range.is
     c.operand_ends_in_point.ensures)
 

@@ -1,0 +1,4 @@
+pub mod Left
+pub mod Steps
+pub mod Digits
+mod Climbing

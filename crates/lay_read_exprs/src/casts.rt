@@ -1,0 +1,78 @@
+//! Casts.
+ghost use Rattle.std.specs.Prelude.{◌≡◌, ◌+◌, ◌≤◌, codes, IfOk};
+ghost use Rattle.lay_tree.specs.Ahead.{first, is_keyword};
+ghost use Rattle.lay_tree.specs.reader.Exprs as reader;
+ghost use Rattle.lay_tree.specs.reader.Loops.{repeat};
+ghost use Rattle.lay_read_tokens.specs.Answers.{AreFound, IsFound, IsHeld};
+ghost use Rattle.lay_read_exprs.specs.Answers.{AreExprs, exprs_within};
+
+use crate::loops::{Going, read_parts};
+use crate::rules::ExprRules;
+use lay_read_parts::joins::both;
+use lay_read_parts::loops::Part;
+use lay_read_tokens::found::greater;
+use lay_read_tokens::front::takes_keyword;
+use lay_read_tokens::stop::boxed;
+use lay_read_tokens::{Ahead, Found, ReadNone};
+use lay_read_types::type_ahead;
+use lay_token::List;
+use lay_tree::{Expr, Place, Ty, TypePlace};
+use std::alloc::Global;
+
+/// Types behind `as`, as parts that stand one behind another.
+pub struct Types;
+
+impl Part<Ty, ()> for Types {
+    ghost reads = { λ depth place ts. reader.one_type (exprs_within depth) ts };
+}
+
+impl<P: Fn(Global, &mut Ahead<'_>, Place, u32) -> Result<Found<Expr>, ReadNone>> ExprRules<P> {
+    /// Types, as long as an `as` stands at the front.
+    #[tactic(auto, using(crate::proofs::Left::type_leaves))]
+    fn types(&self, at: &mut Ahead<'_>) -> Result<Found<List<Ty>>, ReadNone>
+        requires { AreExprs self.now.depth (P.pre self.now.exprs) (P.post self.now.exprs) }
+        ensures read { IsHeld AreFound (repeat (first (is_keyword (codes "as"))) (reader.one_type (exprs_within self.now.depth)) at.old) result at.new }
+        ensures within { IfOk result (λ found. found.need ≤ self.now.depth) }
+    {
+        read_parts::<Types, ExprRules<P>, Ty, (), _>(
+            self.alloc,
+            at,
+            self.depth,
+            Going::Types,
+            self,
+            ExprRules::one_type,
+            (),
+        )
+    }
+
+    /// A type behind its `as`.
+    #[tactic(auto, unfolding(lay_tree::specs::reader::Exprs::one_type))]
+    fn one_type(&self, at: &mut Ahead<'_>, _place: ()) -> Result<Found<Ty>, ReadNone>
+        requires { AreExprs self.now.depth (P.pre self.now.exprs) (P.post self.now.exprs) }
+        ensures read { IsFound (reader.one_type (exprs_within self.now.depth) at.old) result at.new }
+        ensures within { IfOk result (λ found. found.need ≤ self.now.depth) }
+    {
+        if takes_keyword(at, b"as") {
+            type_ahead(self.alloc, at, TypePlace::NoBounds, self.depth)
+        } else {
+            Err(ReadNone::NoReading)
+        }
+    }
+
+    /// An expression with types behind it.
+    #[tactic(auto, unfolding(lay_tree::specs::reader::Exprs::cast_expr))]
+    pub fn cast_expr(&self, at: &mut Ahead<'_>, lhs: Found<Expr>) -> Result<Found<Expr>, ReadNone>
+        requires deeper { AreExprs self.now.depth (P.pre self.now.exprs) (P.post self.now.exprs) }
+        requires within { lhs.need ≤ self.now.depth }
+        ensures read { IsFound (reader.cast_expr (exprs_within self.now.depth) (lhs.node, lhs.need) at.old) result at.new }
+        ensures within { IfOk result (λ found. found.need ≤ self.now.depth + 1) }
+    {
+        let (lhs, found) = both(lhs, self.types(at))?;
+        let need = greater(lhs.need, found.need) + 1;
+        let (types, operand) = both(found.node, boxed(self.alloc, lhs.node))?;
+        Ok(Found {
+            node: Expr::Cast { operand, types },
+            need,
+        })
+    }
+}

@@ -1,0 +1,186 @@
+//! Expressions: what begins one, and the operators behind it, from the strongest on.
+ghost use Rattle.std.specs.Prelude.{◌≡◌, ◌+◌, ◌<◌, ◌≤◌, nat_le, nat_lt, ◌&&◌, Some, IfOk};
+ghost use Rattle.lay_tree.specs.Operators as operators;
+ghost use Rattle.lay_tree.specs.nodes.Exprs as nodes;
+ghost use Rattle.lay_tree.specs.nodes.Exprs.{about_expr};
+ghost use Rattle.lay_tree.specs.nodes.Places as places;
+ghost use Rattle.lay_tree.specs.reader.Exprs as reader;
+ghost use Rattle.lay_read_tokens.specs.Answers.{IsFound};
+ghost use Rattle.lay_read_exprs.specs.Answers.{AreExprs, climb_once, climbed, exprs_within};
+
+use crate::places::before_op;
+use crate::rules::ExprRules;
+use lay_ops::ahead::{is_angle, is_dot_or_try, strength};
+use lay_ops::{is_block_like, stands};
+use lay_read_parts::joins::refused;
+use lay_read_tokens::stop::boxed;
+use lay_read_tokens::{Ahead, Found, ReadNone};
+use lay_tree::{Expr, Place, Start};
+use std::alloc::Global;
+
+/// Whether an expression begins a statement or the body of an arm.
+fn begins(start: Start) -> bool
+    ensures { result ≡ places.begins start }
+{
+    !matches!(start, Start::No)
+}
+
+/// Whether an expression is the whole of a statement or of the body of an arm.
+fn is_whole(start: Start) -> bool
+    ensures { result ≡ places.is_whole start }
+{
+    matches!(start, Start::Whole)
+}
+
+/// Where the expression before an operator of this level stands.
+fn left_place(at: &Ahead<'_>, place: Place, level: u8) -> Place
+    requires { level < 14 }
+    ensures { result ≡ reader.left_place place level at.now }
+{
+    let first = begins(place.start) && !(level == 13 && is_dot_or_try(at));
+    before_op(level + 1, place.no_struct, first, is_angle(at))
+}
+
+/// Whether nothing but `.` and `?` goes on with an expression, and neither stands at the front.
+fn is_ended(at: &Ahead<'_>, place: Place, expr: &Expr) -> bool
+    ensures { result ≡ reader.is_ended place (about_expr expr.now) at.now }
+{
+    is_whole(place.start) && is_block_like(expr) && !is_dot_or_try(at)
+}
+
+/// Whether what is ahead may follow the root of an expression.
+fn root_follows(at: &Ahead<'_>, place: Place, expr: &Expr) -> bool
+    ensures { result ≡ nodes.root_follows (about_expr expr.now) place at.now }
+{
+    if is_whole(place.start) && is_block_like(expr) {
+        !is_dot_or_try(at)
+    } else {
+        strength(at) <= place.level
+    }
+}
+
+/// The expression, if it may stand at the place, what is ahead may follow it, and it is within the budget.
+fn accepted(
+    at: &Ahead<'_>,
+    place: Place,
+    found: Found<Expr>,
+    budget: u32,
+) -> Result<Found<Expr>, ReadNone>
+    ensures read { IsFound (reader.accepted budget place (found.node, found.need) at.now) result at.now }
+    ensures within { IfOk result (λ read. read.need ≤ budget) }
+{
+    let passes = stands(&found.node, place)
+        && root_follows(at, place, &found.node)
+        && found.need <= budget;
+    if passes { Ok(found) } else { refused(found) }
+}
+
+/// Whether an operator that the place allows goes on, below the level that is reached.
+fn goes_on(at: &Ahead<'_>, place: Place, reached: u8) -> bool
+    ensures { result ≡ (nat_lt place.level (operators.strength at.now) && nat_le (operators.strength at.now) reached) }
+{
+    let strength = strength(at);
+    place.level < strength && strength <= reached
+}
+
+impl<P: Fn(Global, &mut Ahead<'_>, Place, u32) -> Result<Found<Expr>, ReadNone>> ExprRules<P> {
+    /// An expression at a place, with what is within it one level deeper.
+    #[tactic(auto, unfolding(lay_tree::specs::reader::Exprs::expr_by))]
+    pub fn expr_by(&self, at: &mut Ahead<'_>, place: Place) -> Result<Found<Expr>, ReadNone>
+        requires { AreExprs self.now.depth (P.pre self.now.exprs) (P.post self.now.exprs) }
+        ensures read { IsFound (reader.expr_by (exprs_within self.now.depth) (self.now.depth + 1) place at.old) result at.new }
+        ensures within { IfOk result (λ found. found.need ≤ self.now.depth + 1) }
+    {
+        let head = self.head(at, place.no_struct)?;
+        if is_ended(at, place, &head.node) {
+            accepted(at, place, head, self.depth + 1)
+        } else {
+            self.climb(at, place, head)
+        }
+    }
+
+    /// The operators behind an expression that the place allows, from the strongest on.
+    fn climb(
+        &self,
+        at: &mut Ahead<'_>,
+        place: Place,
+        head: Found<Expr>,
+    ) -> Result<Found<Expr>, ReadNone>
+        requires deeper { AreExprs self.now.depth (P.pre self.now.exprs) (P.post self.now.exprs) }
+        requires within { head.need ≤ self.now.depth + 1 }
+        ensures read { IsFound (climbed (exprs_within self.now.depth) (self.now.depth + 1) place 14 (head.node, head.need) at.old) result at.new }
+        ensures within { IfOk result (λ found. found.need ≤ self.now.depth + 1) }
+    {
+        let mut lhs = head;
+        let mut reached = 14;
+        while goes_on(at, place, reached) {
+            reached = strength(at) - 1;
+            lhs = self.climb_once(at, place, reached, lhs)?;
+        }
+        accepted(at, place, lhs, self.depth + 1)
+    }
+
+    /// What the operator of the level at the front makes of the expression before it, if that may stand there, and what
+    /// is made needn't be deeper than may be.
+    fn climb_once(
+        &self,
+        at: &mut Ahead<'_>,
+        place: Place,
+        level: u8,
+        lhs: Found<Expr>,
+    ) -> Result<Found<Expr>, ReadNone>
+        requires deeper { AreExprs self.now.depth (P.pre self.now.exprs) (P.post self.now.exprs) }
+        requires level { level < 14 }
+        ensures read { IsFound (climb_once (exprs_within self.now.depth) (self.now.depth + 1) place level (lhs.node, lhs.need) at.old) result at.new }
+        ensures within { IfOk result (λ found. found.need ≤ self.now.depth + 1) }
+    {
+        if lhs.need > self.depth || !stands(&lhs.node, left_place(at, place, level)) {
+            return refused(lhs);
+        }
+        self.stage(at, level, place.no_struct, lhs)
+    }
+
+    /// What an operator of the level makes of the expression before it.
+    fn stage(
+        &self,
+        at: &mut Ahead<'_>,
+        level: u8,
+        no_struct: bool,
+        lhs: Found<Expr>,
+    ) -> Result<Found<Expr>, ReadNone>
+        requires deeper { AreExprs self.now.depth (P.pre self.now.exprs) (P.post self.now.exprs) }
+        requires level { level < 14 }
+        requires within { lhs.need ≤ self.now.depth }
+        ensures read { IsFound (reader.stage (exprs_within self.now.depth) level no_struct (lhs.node, lhs.need) at.old) result at.new }
+        ensures within { IfOk result (λ found. found.need ≤ self.now.depth + 1) }
+    {
+        match level {
+            0 => self.assign_expr(at, no_struct, lhs),
+            1 => self.range_from(at, no_struct, lhs),
+            11 => self.cast_expr(at, lhs),
+            13 => self.postfix_expr(at, lhs),
+            _ => self.chain_expr(at, level, no_struct, lhs),
+        }
+    }
+
+    /// A range from an expression on.
+    fn range_from(
+        &self,
+        at: &mut Ahead<'_>,
+        no_struct: bool,
+        start: Found<Expr>,
+    ) -> Result<Found<Expr>, ReadNone>
+        requires deeper { AreExprs self.now.depth (P.pre self.now.exprs) (P.post self.now.exprs) }
+        requires within { start.need ≤ self.now.depth }
+        ensures read { IsFound (reader.range_expr (exprs_within self.now.depth) no_struct (Some start.node) start.need at.old) result at.new }
+        ensures within { IfOk result (λ found. found.need ≤ self.now.depth + 1) }
+    {
+        let need = start.need;
+        let node = boxed(self.alloc, start.node)?;
+        let start = Found {
+            node: Some(node),
+            need,
+        };
+        self.range_expr(at, no_struct, start)
+    }
+}

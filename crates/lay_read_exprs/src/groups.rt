@@ -1,0 +1,165 @@
+//! Expressions in delimiters.
+ghost use Rattle.std.specs.Prelude.{◌≡◌, ◌+◌, ◌^◌, ◌<◌, ◌≤◌, IfOk};
+ghost use Rattle.lay_tree.specs.Ahead.{closes};
+ghost use Rattle.lay_tree.specs.reader.Exprs as reader;
+ghost use Rattle.lay_tree.specs.reader.Exprs.{expr_at};
+ghost use Rattle.lay_read_tokens.specs.Answers.{IsFound};
+ghost use Rattle.lay_read_exprs.specs.Answers.{AreExprs, array_by, exprs_within};
+
+use crate::places::FREE;
+use crate::rules::ExprRules;
+use lay_read_parts::joins::{both, prepended, refused};
+use lay_read_parts::loops::{Closer, Part, read_elements};
+use lay_read_tokens::found::greater;
+use lay_read_tokens::front::{takes_closer, takes_mark};
+use lay_read_tokens::stop::boxed;
+use lay_read_tokens::tokens::read_tokens;
+use lay_read_tokens::{Ahead, Found, ReadNone};
+use lay_token::{Delim, List};
+use lay_tree::{Expr, Place};
+use std::alloc::Global;
+
+/// Expressions one level deeper, as elements of a list.
+pub struct Elements;
+
+impl Part<Expr, Place> for Elements {
+    ghost reads = { λ depth place ts. expr_at place depth ts };
+}
+
+/// How often an expression stands in an array, behind the `;`.
+fn repeat_by(
+    alloc: Global,
+    at: &mut Ahead<'_>,
+    element: Found<Expr>,
+) -> Result<Found<Expr>, ReadNone>
+    requires { element.need + 1 < 2 ^ 32 }
+    ensures read { IsFound (reader.repeat_by (element.node, element.need) at.old) result at.new }
+    ensures within { IfOk result (λ found. found.need ≡ element.need + 1) }
+{
+    let (element, length) = both(element, read_tokens(alloc, at))?;
+    if !takes_closer(at, Delim::Bracket) || length.as_slice().is_empty() {
+        return refused((element, length));
+    }
+    let need = element.need + 1;
+    let (length, element) = both(length, boxed(alloc, element.node))?;
+    Ok(Found {
+        node: Expr::Repeat { element, length },
+        need,
+    })
+}
+
+impl<P: Fn(Global, &mut Ahead<'_>, Place, u32) -> Result<Found<Expr>, ReadNone>> ExprRules<P> {
+    /// Expressions with commas, and the closing delimiter behind them.
+    #[tactic(auto, using(crate::proofs::Left::exprs_leave))]
+    pub fn free_elements(
+        &self,
+        at: &mut Ahead<'_>,
+        delim: Delim,
+    ) -> Result<Found<List<Expr>>, ReadNone>
+        requires { AreExprs self.now.depth (P.pre self.now.exprs) (P.post self.now.exprs) }
+        ensures read { IsFound (reader.free_elements (exprs_within self.now.depth) (closes delim) at.old) result at.new }
+        ensures within { IfOk result (λ found. found.need ≤ self.now.depth) }
+    {
+        read_elements::<Elements, ExprRules<P>, Expr, Place, _>(
+            self.alloc,
+            at,
+            self.depth,
+            Closer::Group(delim),
+            self,
+            ExprRules::inner,
+            FREE,
+        )
+    }
+
+    /// What stands behind a `(`.
+    #[tactic(auto, unfolding(lay_tree::specs::reader::Exprs::paren_expr))]
+    pub fn paren_expr(&self, at: &mut Ahead<'_>) -> Result<Found<Expr>, ReadNone>
+        requires { AreExprs self.now.depth (P.pre self.now.exprs) (P.post self.now.exprs) }
+        ensures read { IsFound (reader.paren_expr (exprs_within self.now.depth) at.old) result at.new }
+        ensures within { IfOk result (λ found. found.need ≤ self.now.depth + 1) }
+    {
+        if takes_closer(at, Delim::Paren) {
+            return Ok(Found {
+                node: Expr::Tuple {
+                    elements: List::new(self.alloc),
+                },
+                need: 1,
+            });
+        }
+        let first = self.inner(at, FREE)?;
+        self.paren_by(at, first)
+    }
+
+    /// What stands behind a `(` and an expression.
+    fn paren_by(&self, at: &mut Ahead<'_>, first: Found<Expr>) -> Result<Found<Expr>, ReadNone>
+        requires deeper { AreExprs self.now.depth (P.pre self.now.exprs) (P.post self.now.exprs) }
+        requires within { first.need ≤ self.now.depth }
+        ensures read { IsFound (reader.paren_by (exprs_within self.now.depth) (first.node, first.need) at.old) result at.new }
+        ensures within { IfOk result (λ found. found.need ≤ self.now.depth + 1) }
+    {
+        if takes_closer(at, Delim::Paren) {
+            let inner = boxed(self.alloc, first.node)?;
+            return Ok(Found {
+                node: Expr::Paren { inner },
+                need: first.need + 1,
+            });
+        }
+        if !takes_mark(at, b",") {
+            return refused(first);
+        }
+        let (first, more) = both(first, self.free_elements(at, Delim::Paren))?;
+        let elements = prepended(first.node, more.node)?;
+        Ok(Found {
+            node: Expr::Tuple { elements },
+            need: greater(first.need, more.need) + 1,
+        })
+    }
+
+    /// What stands behind a `[`.
+    #[tactic(auto, unfolding(lay_tree::specs::reader::Exprs::bracket_expr))]
+    pub fn bracket_expr(&self, at: &mut Ahead<'_>) -> Result<Found<Expr>, ReadNone>
+        requires { AreExprs self.now.depth (P.pre self.now.exprs) (P.post self.now.exprs) }
+        ensures read { IsFound (reader.bracket_expr (exprs_within self.now.depth) at.old) result at.new }
+        ensures within { IfOk result (λ found. found.need ≤ self.now.depth + 1) }
+    {
+        if takes_closer(at, Delim::Bracket) {
+            return Ok(Found {
+                node: Expr::Array {
+                    elements: List::new(self.alloc),
+                },
+                need: 1,
+            });
+        }
+        let first = self.inner(at, FREE)?;
+        if takes_mark(at, b";") {
+            repeat_by(self.alloc, at, first)
+        } else {
+            self.array_by(at, first)
+        }
+    }
+
+    /// What stands behind a `[` and an expression, where it is no `;`.
+    fn array_by(&self, at: &mut Ahead<'_>, first: Found<Expr>) -> Result<Found<Expr>, ReadNone>
+        requires deeper { AreExprs self.now.depth (P.pre self.now.exprs) (P.post self.now.exprs) }
+        requires within { first.need ≤ self.now.depth }
+        ensures read { IsFound (array_by (exprs_within self.now.depth) (first.node, first.need) at.old) result at.new }
+        ensures within { IfOk result (λ found. found.need ≤ self.now.depth + 1) }
+    {
+        if takes_closer(at, Delim::Bracket) {
+            let elements = prepended(first.node, List::new(self.alloc))?;
+            return Ok(Found {
+                node: Expr::Array { elements },
+                need: first.need + 1,
+            });
+        }
+        if !takes_mark(at, b",") {
+            return refused(first);
+        }
+        let (first, more) = both(first, self.free_elements(at, Delim::Bracket))?;
+        let elements = prepended(first.node, more.node)?;
+        Ok(Found {
+            node: Expr::Array { elements },
+            need: greater(first.need, more.need) + 1,
+        })
+    }
+}

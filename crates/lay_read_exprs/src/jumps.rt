@@ -1,0 +1,87 @@
+//! What stands behind `continue`, `break` and `return`.
+ghost use Rattle.std.specs.Prelude.{◌≡◌, ◌+◌, ◌≤◌, IfOk};
+ghost use Rattle.lay_tree.specs.reader.Exprs as reader;
+ghost use Rattle.lay_read_tokens.specs.Answers.{IsFound};
+ghost use Rattle.lay_read_exprs.specs.Answers.{AreExprs, exprs_within};
+
+use crate::places::plain;
+use crate::rules::ExprRules;
+use lay_ops::ahead::begins_operand;
+use lay_read_parts::joins::both;
+use lay_read_parts::parts::read_lifetime_if;
+use lay_read_tokens::{Ahead, Found, ReadNone};
+use lay_tree::{Boxed, Expr, Place};
+use std::alloc::Global;
+
+/// What stands behind `continue`.
+#[tactic(auto, unfolding(lay_tree::specs::reader::Exprs::continue_expr))]
+pub fn continue_expr(alloc: Global, at: &mut Ahead<'_>) -> Result<Found<Expr>, ReadNone>
+    ensures read { IsFound (reader.continue_expr at.old) result at.new }
+    ensures within { IfOk result (λ found. found.need ≡ 1) }
+{
+    let label = read_lifetime_if(alloc, at)?;
+    Ok(Found {
+        node: Expr::Continue { label },
+        need: 1,
+    })
+}
+
+impl<P: Fn(Global, &mut Ahead<'_>, Place, u32) -> Result<Found<Expr>, ReadNone>> ExprRules<P> {
+    /// An operand at a level, if one begins.
+    pub fn operand_if(
+        &self,
+        at: &mut Ahead<'_>,
+        level: u8,
+        no_struct: bool,
+    ) -> Result<Found<Option<Boxed<Expr>>>, ReadNone>
+        requires { AreExprs self.now.depth (P.pre self.now.exprs) (P.post self.now.exprs) }
+        ensures read { IsFound (reader.operand_if (exprs_within self.now.depth) level no_struct at.old) result at.new }
+        ensures within { IfOk result (λ found. found.need ≤ self.now.depth) }
+    {
+        if !begins_operand(at, no_struct) {
+            return Ok(Found {
+                node: None,
+                need: 0,
+            });
+        }
+        let found = self.boxed_inner(at, plain(level, no_struct))?;
+        Ok(Found {
+            node: Some(found.node),
+            need: found.need,
+        })
+    }
+
+    /// What stands behind `return`.
+    #[tactic(auto, unfolding(lay_tree::specs::reader::Exprs::return_expr))]
+    pub fn return_expr(&self, at: &mut Ahead<'_>, no_struct: bool) -> Result<Found<Expr>, ReadNone>
+        requires { AreExprs self.now.depth (P.pre self.now.exprs) (P.post self.now.exprs) }
+        ensures read { IsFound (reader.return_expr (exprs_within self.now.depth) no_struct at.old) result at.new }
+        ensures within { IfOk result (λ found. found.need ≤ self.now.depth + 1) }
+    {
+        let found = self.operand_if(at, 0, no_struct)?;
+        Ok(Found {
+            node: Expr::Return {
+                operand: found.node,
+            },
+            need: found.need + 1,
+        })
+    }
+
+    /// What stands behind `break`.
+    #[tactic(auto, unfolding(lay_tree::specs::reader::Exprs::break_expr))]
+    pub fn break_expr(&self, at: &mut Ahead<'_>, no_struct: bool) -> Result<Found<Expr>, ReadNone>
+        requires { AreExprs self.now.depth (P.pre self.now.exprs) (P.post self.now.exprs) }
+        ensures read { IsFound (reader.break_expr (exprs_within self.now.depth) no_struct at.old) result at.new }
+        ensures within { IfOk result (λ found. found.need ≤ self.now.depth + 1) }
+    {
+        let label = read_lifetime_if(self.alloc, at)?;
+        let (label, found) = both(label, self.operand_if(at, 0, no_struct))?;
+        Ok(Found {
+            node: Expr::Break {
+                label,
+                operand: found.node,
+            },
+            need: found.need + 1,
+        })
+    }
+}

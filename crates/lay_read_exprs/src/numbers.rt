@@ -1,0 +1,54 @@
+//! Numbers, and the indices of tuples.
+ghost use Rattle.std.specs.Prelude.{◌≡◌, IsUtf8};
+ghost use Rattle.std.specs.Char.{is_ascii_digit};
+ghost use Rattle.std.specs.List.{list_all};
+ghost use Rattle.std.specs.Str.{chars};
+ghost use Rattle.lay_piece.specs.Number.{is_index};
+ghost use Rattle.lay_tree.specs.Ahead.{first};
+ghost use Rattle.lay_tree.specs.reader.Exprs as reader;
+
+use lay_read_tokens::Ahead;
+use lay_read_tokens::front::takes_op;
+use lay_token::Kind;
+
+/// Whether the index of a tuple stands at the front.
+pub fn is_at_tuple_index(at: &Ahead<'_>) -> bool
+    ensures { result ≡ first reader.is_index_token at.now }
+{
+    match at.front() {
+        Some(token) => matches!(token.kind, Kind::Int) && is_index(token.text.as_bytes()),
+        None => false,
+    }
+}
+
+/// Whether a `.` and the index of a tuple stand at the front.
+pub fn begins_tuple_index(at: &Ahead<'_>) -> bool
+    ensures { result ≡ reader.begins_tuple_index at.now }
+{
+    let mut behind = at.fork();
+    takes_op(&mut behind, b".") && is_at_tuple_index(&behind)
+}
+
+/// Whether the text is digits and nothing more.
+#[tactic(auto, using(crate::proofs::Digits::index_chars, crate::proofs::Digits::index_some))]
+fn is_index(text: &[u8]) -> bool
+    requires { IsUtf8 text.now }
+    ensures { result ≡ is_index (chars text.now) }
+{
+    match text {
+        [] => false,
+        _ => are_digits(text),
+    }
+}
+
+/// Whether each byte is a digit.
+fn are_digits(text: &[u8]) -> bool
+    ensures { result ≡ list_all is_ascii_digit text.now }
+{
+    for byte in text {
+        if !byte.is_ascii_digit() {
+            return false;
+        }
+    }
+    true
+}

@@ -1,0 +1,120 @@
+//! Operators of one level, and the operands behind them.
+ghost use Rattle.std.specs.Prelude.{◌≡◌, ◌+◌, ◌<◌, ◌≤◌, IfOk};
+ghost use Rattle.lay_tree.specs.nodes.Exprs.{about_expr};
+ghost use Rattle.lay_tree.specs.nodes.Places as places;
+ghost use Rattle.lay_tree.specs.reader.Exprs as reader;
+ghost use Rattle.lay_read_tokens.specs.Answers.{AreFound, IsFound, IsHeld};
+ghost use Rattle.lay_read_exprs.specs.Answers.{AreExprs, exprs_within};
+
+use crate::loops::{Going, read_parts};
+use crate::places::{before_op, plain};
+use crate::prefixes::pass_tokens;
+use crate::rules::ExprRules;
+use lay_ops::ahead::{binary, is_angle, strength};
+use lay_ops::operators::op_text;
+use lay_ops::stands;
+use lay_read_parts::joins::{both, refused};
+use lay_read_parts::loops::Part;
+use lay_read_tokens::found::greater;
+use lay_read_tokens::stop::boxed;
+use lay_read_tokens::{Ahead, Found, ReadNone};
+use lay_token::List;
+use lay_tree::{Expr, Op, Place};
+use std::alloc::Global;
+
+/// Operators and their operands, as parts that stand one behind another.
+pub struct Operands;
+
+impl Part<(Op, Expr), (u8, bool)> for Operands {
+    ghost reads = { λ depth place ts. reader.operand (exprs_within depth) place.0 place.1 ts };
+}
+
+/// Whether an operand of the level may end where the tokens ahead stand.
+fn operand_ends(at: &Ahead<'_>, operand: &Expr, level: u8, no_struct: bool) -> bool
+    requires { level < 14 }
+    ensures { result ≡ reader.operand_ends level no_struct (about_expr operand.now) at.now }
+{
+    if strength(at) == level + 1 {
+        level != 4
+            && stands(
+                operand,
+                before_op(level + 1, no_struct, false, is_angle(at)),
+            )
+    } else {
+        true
+    }
+}
+
+impl<P: Fn(Global, &mut Ahead<'_>, Place, u32) -> Result<Found<Expr>, ReadNone>> ExprRules<P> {
+    /// Operators of a level and their operands, as long as one begins.
+    #[tactic(auto, unfolding(lay_tree::specs::reader::Exprs::operands), using(crate::proofs::Left::operand_leaves))]
+    pub fn operands(
+        &self,
+        at: &mut Ahead<'_>,
+        level: u8,
+        no_struct: bool,
+    ) -> Result<Found<List<(Op, Expr)>>, ReadNone>
+        requires deeper { AreExprs self.now.depth (P.pre self.now.exprs) (P.post self.now.exprs) }
+        requires level { level < 14 }
+        ensures read { IsHeld AreFound (reader.operands (exprs_within self.now.depth) level no_struct at.old) result at.new }
+        ensures within { IfOk result (λ found. found.need ≤ self.now.depth) }
+    {
+        read_parts::<Operands, ExprRules<P>, (Op, Expr), (u8, bool), _>(
+            self.alloc,
+            at,
+            self.depth,
+            Going::Operands(level),
+            self,
+            ExprRules::operand,
+            (level, no_struct),
+        )
+    }
+
+    /// An operator of a level, and its operand.
+    #[tactic(auto, unfolding(lay_tree::specs::reader::Exprs::operand))]
+    fn operand(&self, at: &mut Ahead<'_>, place: (u8, bool)) -> Result<Found<(Op, Expr)>, ReadNone>
+        requires deeper { AreExprs self.now.depth (P.pre self.now.exprs) (P.post self.now.exprs) }
+        requires level { place.0 < 14 }
+        ensures read { IsFound (reader.operand (exprs_within self.now.depth) place.0 place.1 at.old) result at.new }
+        ensures within { IfOk result (λ found. found.need ≤ self.now.depth) }
+    {
+        let (level, no_struct) = place;
+        let op = match binary(at) {
+            Some(op) => op,
+            None => return Err(ReadNone::NoReading),
+        };
+        pass_tokens(at, op_text(op).len());
+        let found = self.inner(at, plain(level + 1, no_struct))?;
+        if !operand_ends(at, &found.node, level, no_struct) {
+            return refused(found);
+        }
+        Ok(Found {
+            need: found.need,
+            node: (op, found.node),
+        })
+    }
+
+    /// An expression with operators of a level behind it.
+    #[tactic(auto, unfolding(lay_tree::specs::reader::Exprs::chain_expr))]
+    pub fn chain_expr(
+        &self,
+        at: &mut Ahead<'_>,
+        level: u8,
+        no_struct: bool,
+        lhs: Found<Expr>,
+    ) -> Result<Found<Expr>, ReadNone>
+        requires deeper { AreExprs self.now.depth (P.pre self.now.exprs) (P.post self.now.exprs) }
+        requires level { level < 14 }
+        requires within { lhs.need ≤ self.now.depth }
+        ensures read { IsFound (reader.chain_expr (exprs_within self.now.depth) level no_struct (lhs.node, lhs.need) at.old) result at.new }
+        ensures within { IfOk result (λ found. found.need ≤ self.now.depth + 1) }
+    {
+        let (lhs, more) = both(lhs, self.operands(at, level, no_struct))?;
+        let need = greater(lhs.need, more.need) + 1;
+        let (rest, first) = both(more.node, boxed(self.alloc, lhs.node))?;
+        Ok(Found {
+            node: Expr::Chain { first, rest },
+            need,
+        })
+    }
+}

@@ -1,0 +1,89 @@
+//! What begins with a path.
+ghost use Rattle.std.specs.Prelude.{◌≡◌, ◌+◌, ◌^◌, ◌<◌, ◌≤◌, IfOk};
+ghost use Rattle.lay_tree.specs.reader.Exprs as reader;
+ghost use Rattle.lay_read_tokens.specs.Answers.{IsFound};
+ghost use Rattle.lay_read_exprs.specs.Answers.{AreExprs, exprs_within, path_or_call, plain_path};
+
+use crate::rules::ExprRules;
+use lay_read_parts::joins::refused;
+use lay_read_tokens::calls::call_ahead;
+use lay_read_tokens::front::{is_at_opened, pass};
+use lay_read_tokens::{Ahead, Found, ReadNone};
+use lay_read_types::path_ahead;
+use lay_read_types::types::begins_call;
+use lay_token::Delim;
+use lay_tree::{Expr, Path, PathStyle, Place};
+use std::alloc::Global;
+
+/// A macro call that is an expression.
+fn call_expr(alloc: Global, at: &mut Ahead<'_>) -> Result<Found<Expr>, ReadNone>
+    ensures read { IsFound (reader.call_expr at.old) result at.new }
+    ensures within { IfOk result (λ found. found.need ≡ 1) }
+{
+    let call = call_ahead(alloc, at)?;
+    Ok(Found {
+        node: Expr::Call { call },
+        need: 1,
+    })
+}
+
+/// A path that is an expression, if no `!` stands behind it.
+fn plain_path(at: &Ahead<'_>, path: Found<Path>) -> Result<Found<Expr>, ReadNone>
+    requires { path.need + 1 < 2 ^ 32 }
+    ensures read { IsFound (plain_path (path.node, path.need) at.now) result at.now }
+    ensures within { IfOk result (λ found. found.need ≡ path.need + 1) }
+{
+    if at.op_is(b"!") {
+        return refused(path);
+    }
+    Ok(Found {
+        node: Expr::Path { path: path.node },
+        need: path.need + 1,
+    })
+}
+
+impl<P: Fn(Global, &mut Ahead<'_>, Place, u32) -> Result<Found<Expr>, ReadNone>> ExprRules<P> {
+    /// A macro call, or what begins with a path.
+    pub fn path_or_call(&self, at: &mut Ahead<'_>, no_struct: bool) -> Result<Found<Expr>, ReadNone>
+        requires { AreExprs self.now.depth (P.pre self.now.exprs) (P.post self.now.exprs) }
+        ensures read { IsFound (path_or_call (exprs_within self.now.depth) no_struct at.old) result at.new }
+        ensures within { IfOk result (λ found. found.need ≤ self.now.depth + 1) }
+    {
+        if begins_call(self.alloc, at)? {
+            call_expr(self.alloc, at)
+        } else {
+            self.path_expr(at, no_struct)
+        }
+    }
+
+    /// A path, and what stands behind it.
+    #[tactic(auto, unfolding(lay_tree::specs::reader::Exprs::path_expr))]
+    fn path_expr(&self, at: &mut Ahead<'_>, no_struct: bool) -> Result<Found<Expr>, ReadNone>
+        requires { AreExprs self.now.depth (P.pre self.now.exprs) (P.post self.now.exprs) }
+        ensures read { IsFound (reader.path_expr (exprs_within self.now.depth) no_struct at.old) result at.new }
+        ensures within { IfOk result (λ found. found.need ≤ self.now.depth + 1) }
+    {
+        let path = path_ahead(self.alloc, at, PathStyle::Code, self.depth)?;
+        self.path_by(at, no_struct, path)
+    }
+
+    /// What stands behind a path.
+    fn path_by(
+        &self,
+        at: &mut Ahead<'_>,
+        no_struct: bool,
+        path: Found<Path>,
+    ) -> Result<Found<Expr>, ReadNone>
+        requires deeper { AreExprs self.now.depth (P.pre self.now.exprs) (P.post self.now.exprs) }
+        requires within { path.need ≤ self.now.depth }
+        ensures read { IsFound (reader.path_by (exprs_within self.now.depth) no_struct (path.node, path.need) at.old) result at.new }
+        ensures within { IfOk result (λ found. found.need ≤ self.now.depth + 1) }
+    {
+        if !no_struct && is_at_opened(at, Delim::Brace) {
+            pass(at);
+            self.struct_expr(at, path)
+        } else {
+            plain_path(at, path)
+        }
+    }
+}

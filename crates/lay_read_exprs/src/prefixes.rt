@@ -1,0 +1,61 @@
+//! Operators before an operand.
+ghost use Rattle.std.specs.Prelude.{◌≡◌, ◌+◌, ◌≤◌, drop, is_some, IfOk};
+ghost use Rattle.lay_tree.specs.Operators as operators;
+ghost use Rattle.lay_tree.specs.reader.Exprs as reader;
+ghost use Rattle.lay_tree.specs.reader.Loops.{repeat};
+ghost use Rattle.lay_read_tokens.specs.Answers.{IsFound, IsGot};
+ghost use Rattle.lay_read_exprs.specs.Answers.{AreExprs, exprs_within};
+
+use crate::places::plain;
+use crate::rules::ExprRules;
+use lay_ops::ahead::prefix;
+use lay_ops::operators::prefix_length;
+use lay_read_parts::joins::both;
+use lay_read_tokens::front::pass;
+use lay_read_tokens::stop::keep;
+use lay_read_tokens::{Ahead, Found, ReadNone};
+use lay_token::List;
+use lay_tree::{Expr, Place, Prefix};
+use std::alloc::Global;
+
+/// Passes so many tokens, or all there are.
+#[tactic(auto, using(crate::proofs::Steps::tail_dropped))]
+pub fn pass_tokens(at: &mut Ahead<'_>, count: usize)
+    ensures { at.new ≡ drop count at.old }
+{
+    for _passed in 0..count {
+        pass(at);
+    }
+}
+
+/// Operators before an operand, as long as one stands at the front.
+fn read_prefixes(alloc: Global, at: &mut Ahead<'_>) -> Result<List<Prefix>, ReadNone>
+    ensures { IsGot (repeat (λ us. is_some (operators.prefix us)) reader.one_prefix at.old) result at.new }
+{
+    let mut prefixes = List::new(alloc);
+    while let Some(one) = prefix(at) {
+        pass_tokens(at, prefix_length(one));
+        keep(&mut prefixes, one)?;
+    }
+    Ok(prefixes)
+}
+
+impl<P: Fn(Global, &mut Ahead<'_>, Place, u32) -> Result<Found<Expr>, ReadNone>> ExprRules<P> {
+    /// Operators, and the operand behind them.
+    #[tactic(auto, unfolding(lay_tree::specs::reader::Exprs::unary_expr))]
+    pub fn unary_expr(&self, at: &mut Ahead<'_>, no_struct: bool) -> Result<Found<Expr>, ReadNone>
+        requires { AreExprs self.now.depth (P.pre self.now.exprs) (P.post self.now.exprs) }
+        ensures read { IsFound (reader.unary_expr (exprs_within self.now.depth) no_struct at.old) result at.new }
+        ensures within { IfOk result (λ found. found.need ≤ self.now.depth + 1) }
+    {
+        let prefixes = read_prefixes(self.alloc, at)?;
+        let (prefixes, found) = both(prefixes, self.boxed_inner(at, plain(12, no_struct)))?;
+        Ok(Found {
+            node: Expr::Unary {
+                prefixes,
+                operand: found.node,
+            },
+            need: found.need + 1,
+        })
+    }
+}

@@ -1,0 +1,48 @@
+//! The rules of a level, and how what is one level deeper is read.
+ghost use Rattle.std.specs.Prelude.{◌≡◌, ◌≤◌, IfOk};
+ghost use Rattle.lay_tree.specs.reader.Exprs.{expr_at};
+ghost use Rattle.lay_read_tokens.specs.Answers.{IsFound};
+ghost use Rattle.lay_read_exprs.specs.Answers.{AreExprs};
+
+use lay_read_tokens::stop::boxed;
+use lay_read_tokens::{Ahead, Found, ReadNone};
+use lay_tree::{Boxed, Expr, Place};
+use std::alloc::Global;
+
+/// The rules of a level, over the reader of expressions one level deeper, at a place.
+#[derive(Drop)]
+pub struct ExprRules<P> {
+    pub alloc: Global,
+    /// At this depth what is one level deeper is read.
+    pub depth: u32,
+    pub exprs: P,
+}
+
+impl<P: Fn(Global, &mut Ahead<'_>, Place, u32) -> Result<Found<Expr>, ReadNone>> ExprRules<P> {
+    /// An expression one level deeper.
+    pub fn inner(&self, at: &mut Ahead<'_>, place: Place) -> Result<Found<Expr>, ReadNone>
+        requires { AreExprs self.now.depth (P.pre self.now.exprs) (P.post self.now.exprs) }
+        ensures read { IsFound (expr_at place self.now.depth at.old) result at.new }
+        ensures within { IfOk result (λ found. found.need ≤ self.now.depth) }
+    {
+        (self.exprs)(self.alloc, at, place, self.depth)
+    }
+
+    /// The same in a box.
+    pub fn boxed_inner(
+        &self,
+        at: &mut Ahead<'_>,
+        place: Place,
+    ) -> Result<Found<Boxed<Expr>>, ReadNone>
+        requires { AreExprs self.now.depth (P.pre self.now.exprs) (P.post self.now.exprs) }
+        ensures read { IsFound (expr_at place self.now.depth at.old) result at.new }
+        ensures within { IfOk result (λ found. found.need ≤ self.now.depth) }
+    {
+        let found = self.inner(at, place)?;
+        let node = boxed(self.alloc, found.node)?;
+        Ok(Found {
+            node,
+            need: found.need,
+        })
+    }
+}

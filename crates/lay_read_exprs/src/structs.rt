@@ -1,0 +1,194 @@
+//! Struct literals.
+ghost use Rattle.std.specs.Prelude.{◌≡◌, ◌+◌, ◌≤◌, None, IfOk};
+ghost use Rattle.lay_tree.specs.reader.Exprs as reader;
+ghost use Rattle.lay_read_tokens.specs.Answers.{IsFound};
+ghost use Rattle.lay_read_exprs.specs.Answers.{AreExprs, exprs_within, numbered_field, struct_by};
+
+use crate::places::FREE;
+use crate::rules::ExprRules;
+use lay_read_parts::joins::{both, refused};
+use lay_read_parts::loops::{Opening, Part, read_open_elements};
+use lay_read_pats::structs::read_index_if;
+use lay_read_tokens::attributes::attrs_ahead;
+use lay_read_tokens::found::greater;
+use lay_read_tokens::front::{is_at_closer, pass_two, takes_closer, takes_op};
+use lay_read_tokens::names::read_name;
+use lay_read_tokens::{Ahead, Found, ReadNone};
+use lay_token::{Delim, List, Text};
+use lay_tree::{Attr, Boxed, Expr, FieldExpr, Name, Path, Place};
+use std::alloc::Global;
+
+/// Fields, as elements of a struct literal.
+pub struct Fields;
+
+impl Part<FieldExpr, ()> for Fields {
+    ghost reads = { λ depth place ts. reader.one_field (exprs_within depth) ts };
+}
+
+impl<P: Fn(Global, &mut Ahead<'_>, Place, u32) -> Result<Found<Expr>, ReadNone>> ExprRules<P> {
+    /// Fields in braces, behind a path and the `{`.
+    #[tactic(auto, unfolding(lay_tree::specs::reader::Exprs::struct_expr), using(crate::proofs::Left::field_leaves))]
+    pub fn struct_expr(
+        &self,
+        at: &mut Ahead<'_>,
+        path: Found<Path>,
+    ) -> Result<Found<Expr>, ReadNone>
+        requires deeper { AreExprs self.now.depth (P.pre self.now.exprs) (P.post self.now.exprs) }
+        requires within { path.need ≤ self.now.depth }
+        ensures read { IsFound (reader.struct_expr (exprs_within self.now.depth) (path.node, path.need) at.old) result at.new }
+        ensures within { IfOk result (λ found. found.need ≤ self.now.depth + 1) }
+    {
+        let (path, found) = both(
+            path,
+            read_open_elements::<Fields, ExprRules<P>, FieldExpr, (), _>(
+                self.alloc,
+                at,
+                self.depth,
+                Opening::Field,
+                self,
+                ExprRules::one_field,
+                (),
+            ),
+        )?;
+        self.struct_by(at, path, found)
+    }
+
+    /// What stands behind the fields, of which it is known whether they ended.
+    fn struct_by(
+        &self,
+        at: &mut Ahead<'_>,
+        path: Found<Path>,
+        found: Found<(List<FieldExpr>, bool)>,
+    ) -> Result<Found<Expr>, ReadNone>
+        requires deeper { AreExprs self.now.depth (P.pre self.now.exprs) (P.post self.now.exprs) }
+        requires within { path.need ≤ self.now.depth }
+        requires fields_within { found.need ≤ self.now.depth }
+        ensures read { IsFound (struct_by (exprs_within self.now.depth) (path.node, path.need) (found.node, found.need) at.old) result at.new }
+        ensures within { IfOk result (λ found. found.need ≤ self.now.depth + 1) }
+    {
+        let Found { node, need } = found;
+        let (fields, ended) = node;
+        let ((path, fields), base) = both((path, fields), self.base(at, ended))?;
+        if !takes_closer(at, Delim::Brace) {
+            return refused((path, (fields, base)));
+        }
+        Ok(Found {
+            need: greater(path.need, greater(need, base.need)) + 1,
+            node: Expr::Struct {
+                path: path.node,
+                fields,
+                base: base.node,
+            },
+        })
+    }
+
+    /// A base, if the fields ended and a `..` stands behind them.
+    #[tactic(auto, unfolding(lay_tree::specs::reader::Exprs::base))]
+    fn base(
+        &self,
+        at: &mut Ahead<'_>,
+        ended: bool,
+    ) -> Result<Found<Option<Option<Boxed<Expr>>>>, ReadNone>
+        requires { AreExprs self.now.depth (P.pre self.now.exprs) (P.post self.now.exprs) }
+        ensures read { IsFound (reader.base (exprs_within self.now.depth) ended at.old) result at.new }
+        ensures within { IfOk result (λ found. found.need ≤ self.now.depth) }
+    {
+        if !(ended && at.op_is(b"..")) {
+            return Ok(Found {
+                node: None,
+                need: 0,
+            });
+        }
+        pass_two(at);
+        if is_at_closer(at, Delim::Brace) {
+            return Ok(Found {
+                node: Some(None),
+                need: 0,
+            });
+        }
+        let found = self.boxed_inner(at, FREE)?;
+        Ok(Found {
+            node: Some(Some(found.node)),
+            need: found.need,
+        })
+    }
+
+    /// A field, with its attributes.
+    #[tactic(auto, unfolding(lay_tree::specs::reader::Exprs::one_field))]
+    fn one_field(&self, at: &mut Ahead<'_>, _place: ()) -> Result<Found<FieldExpr>, ReadNone>
+        requires { AreExprs self.now.depth (P.pre self.now.exprs) (P.post self.now.exprs) }
+        ensures read { IsFound (reader.one_field (exprs_within self.now.depth) at.old) result at.new }
+        ensures within { IfOk result (λ found. found.need ≤ self.now.depth) }
+    {
+        let attrs = attrs_ahead(self.alloc, at, false)?;
+        let (attrs, index) = both(attrs, read_index_if(self.alloc, at))?;
+        match index {
+            Some(index) => self.numbered_field(at, attrs, index),
+            None => self.worded_field(at, attrs),
+        }
+    }
+
+    /// A field behind its number and the `:`.
+    fn numbered_field(
+        &self,
+        at: &mut Ahead<'_>,
+        attrs: List<Attr>,
+        index: Text,
+    ) -> Result<Found<FieldExpr>, ReadNone>
+        requires { AreExprs self.now.depth (P.pre self.now.exprs) (P.post self.now.exprs) }
+        ensures read { IsFound (numbered_field (exprs_within self.now.depth) attrs index at.old) result at.new }
+        ensures within { IfOk result (λ found. found.need ≤ self.now.depth) }
+    {
+        let ((attrs, index), found) = both((attrs, index), self.inner(at, FREE))?;
+        Ok(Found {
+            need: found.need,
+            node: FieldExpr::Numbered {
+                attrs,
+                index,
+                value: found.node,
+            },
+        })
+    }
+
+    /// A field that is called by its name, behind its attributes.
+    fn worded_field(
+        &self,
+        at: &mut Ahead<'_>,
+        attrs: List<Attr>,
+    ) -> Result<Found<FieldExpr>, ReadNone>
+        requires { AreExprs self.now.depth (P.pre self.now.exprs) (P.post self.now.exprs) }
+        ensures read { IsFound (reader.field_by (exprs_within self.now.depth) attrs None at.old) result at.new }
+        ensures within { IfOk result (λ found. found.need ≤ self.now.depth) }
+    {
+        let (attrs, name) = both(attrs, read_name(self.alloc, at))?;
+        self.named_field(at, attrs, name)
+    }
+
+    /// A field behind its name.
+    fn named_field(
+        &self,
+        at: &mut Ahead<'_>,
+        attrs: List<Attr>,
+        name: Name,
+    ) -> Result<Found<FieldExpr>, ReadNone>
+        requires { AreExprs self.now.depth (P.pre self.now.exprs) (P.post self.now.exprs) }
+        ensures read { IsFound (reader.named_field (exprs_within self.now.depth) attrs name at.old) result at.new }
+        ensures within { IfOk result (λ found. found.need ≤ self.now.depth) }
+    {
+        if !takes_op(at, b":") {
+            return Ok(Found {
+                node: FieldExpr::Short { attrs, name },
+                need: 0,
+            });
+        }
+        let ((attrs, name), found) = both((attrs, name), self.inner(at, FREE))?;
+        Ok(Found {
+            need: found.need,
+            node: FieldExpr::Named {
+                attrs,
+                name,
+                value: found.node,
+            },
+        })
+    }
+}
