@@ -290,11 +290,6 @@ some_steps_behind q x base steps more is f some =
 
 -- ---- jumps
 
--- an operand that is there
-pub some_point : (q : Bool) (operand : Option Expr) (x put : Expr) (b : Bool) → operand ≡ Some x → put ≡ x → b ≡ ends q put
-    → b ≡ ends_behind_point q (end_form (option_map about_expr operand) Done)
-some_point q operand x put b is e h = rw is (h ∙ ap (ends q) e)
-
 -- The blank before an operand does not count.
 operand_ends : (q : Bool) (operand : Option ExprFacts)
     → ends_behind_point false (end_form operand Done) ≡ ends_behind_point false (operand_form operand)

@@ -17,11 +17,6 @@ pub nothing_yet : {S F T : Type 0} {m : Meanings S F} {a : S} {p : Result T F} {
     → SoFar m p a left all p a
 nothing_yet e = record { put = []; is_put = adds_nothing; whole = e }
 
--- something is put before the loop
-pub begun : {S F T : Type 0} {m : Meanings S F} {a b : S} {p q : Result T F} {put left all : List Tok}
-    → Adds m p a put q b → put ++ left ≡ all → SoFar m p a left all q b
-begun {put} h e = record { put = put; is_put = h; whole = e }
-
 -- what one turn puts
 pub one_turn : {S F T : Type 0} {m : Meanings S F} {a b c : S} {p q r : Result T F} {put rest left all : List Tok}
     → SoFar m p a left all q b → Adds m q b put r c → put ++ rest ≡ left → SoFar m p a rest all r c
@@ -35,8 +30,3 @@ one_turn {put} {rest} h k e = record {
 pub all_put : {S F T : Type 0} {m : Meanings S F} {a b : S} {p q : Result T F} {left all : List Tok}
     → SoFar m p a left all q b → [] ≡ left → Adds m p a all q b
 all_put h e = adds h.is_put (sym (append-nil h.put) ∙ ap (λ (s : List Tok). h.put ++ s) e ∙ h.whole)
-
--- what is left is put behind the loop
-pub last_put : {S F T : Type 0} {m : Meanings S F} {a b c : S} {p q r : Result T F} {put left all : List Tok}
-    → SoFar m p a left all q b → Adds m q b put r c → put ≡ left → Adds m p a all r c
-last_put h k e = adds (adds_on h.is_put k) (ap (λ (s : List Tok). h.put ++ s) e ∙ h.whole)
