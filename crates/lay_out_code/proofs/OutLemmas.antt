@@ -6,26 +6,29 @@ use Rattle.lay_layout.specs.declared.layout.Tok.{Tok}
 use Rattle.lay_layout.specs.declared.layout.Tok.TheVariants as tok
 use Rattle.lay_stream.specs.Fed.{Meanings}
 use Rattle.lay_stream.proofs.Calls.{opened_append}
-use Rattle.lay_form.specs.Form.{Form, Done, Hard, Part}
+use Rattle.lay_form.specs.Form.{Form, Done, Hard, Part, Never}
 use Rattle.lay_form.specs.Layout.{break_of, document}
 use Rattle.lay_form.specs.Notation.{H, behind_attrs, body, each, lines}
 use Rattle.lay_form.specs.Stream.{stream_of}
 use Rattle.lay_form.proofs.StreamLaws.{stream_is}
+use Rattle.lay_node.specs.nodes.Attr.{attr_form}
+use Rattle.lay_node.specs.nodes.Fields.{blank_if}
+use Rattle.lay_node.specs.nodes.Heads.{HeadFacts, leads, seen, value_head_form}
+use Rattle.lay_node.specs.nodes.Vis.{vis_form}
+use Rattle.lay_node.specs.nodes.Where.{wheres_before_body}
+use Rattle.lay_node.specs.declared.attr.Attr.{Attr}
+use Rattle.lay_node.specs.declared.generics.Wheres.{Wheres}
+use Rattle.lay_node.specs.declared.heads.Site.TheVariants.{Module}
+use Rattle.lay_node.specs.declared.heads.ValueHead.{ValueHead}
+use Rattle.lay_node.specs.declared.vis.Vis.{Vis}
 use Rattle.lay_tree.specs.Out.{behind_shebang, layout_of_file}
-use Rattle.lay_tree.specs.nodes.Attr.{attr_form}
-use Rattle.lay_tree.specs.nodes.Fields.{blank_if}
+use Rattle.lay_tree.specs.nodes.Exprs.{about_expr}
 use Rattle.lay_tree.specs.nodes.File.{form_of_file}
-use Rattle.lay_tree.specs.nodes.Heads.{HeadFacts, leads, seen}
-use Rattle.lay_tree.specs.nodes.Item.{ItemFacts, KindFacts, about_item, form_of_item, item_body, item_forms, kind_form, told_of_item, told_of_kind}
-use Rattle.lay_tree.specs.nodes.Vis.{vis_form}
-use Rattle.lay_tree.specs.nodes.Where.{wheres_before_body}
-use Rattle.lay_tree.specs.declared.attr.Attr.{Attr}
+use Rattle.lay_tree.specs.nodes.Item.{ItemFacts, KindFacts, about_item, form_of_item, item_body, item_forms, kind_form, told_of_item, told_of_kind, value_form}
+use Rattle.lay_tree.specs.declared.exprs.Expr.{Expr}
 use Rattle.lay_tree.specs.declared.file.File.{File}
-use Rattle.lay_tree.specs.declared.generics.Wheres.{Wheres}
-use Rattle.lay_tree.specs.declared.heads.Site.TheVariants.{Module}
 use Rattle.lay_tree.specs.declared.item.Item.{Item}
 use Rattle.lay_tree.specs.declared.item.ItemKind.{ItemKind}
-use Rattle.lay_tree.specs.declared.vis.Vis.{Vis}
 use Rattle.lay_tree.proofs.nodes.ItemLaws.{item_is}
 use Rattle.lay_out_tokens.proofs.StreamParts.{fed_more}
 use Rattle.lay_out_types.specs.Calls.{Adds}
@@ -132,6 +135,22 @@ headed v x any =
     (append_assoc (stream_of (vis_form v)) (stream_of x.head ++ end) (stream_of x.tail)
     ∙ ap (λ (s : List Tok). stream_of (vis_form v) ++ s) (append_assoc (stream_of x.head) end (stream_of x.tail)))
     ∙ seen_is v x any
+
+steady_value : (value : Option Expr) → Steady (value_form value)
+steady_value None q = refl
+steady_value (Some x) true = refl
+steady_value (Some x) false = refl
+
+-- The head of a constant or a static, and its value.
+pub valued_head : (head : ValueHead) (value : Option Expr)
+    → stream_of (value_head_form head) ++ stream_of (value_form value)
+    ≡ stream_of (Part (value_head_form head) (value_form value))
+valued_head head value = part_more (value_head_form head) (value_form value) (steady_value value)
+
+-- A value that is there, behind its `=`.
+pub some_value : (value : Option Expr) (x : Expr) → value ≡ Some x
+    → tok.Text (codes " = ") ∷ tok.Break (break_of Never) ∷ stream_of (about_expr x).form ≡ stream_of (value_form value)
+some_value value x is = rw is refl
 
 -- an item that is of this kind
 pub kind_of : {k made : ItemKind} {x : KindFacts} (v : Vis) → k ≡ made → told_of_kind made ≡ x

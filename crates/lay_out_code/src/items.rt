@@ -3,14 +3,16 @@ ghost use Rattle.std.specs.Prelude.{◌≡◌, [], ◌++◌, map};
 ghost use Rattle.lay_stream.specs.Fed.{Did};
 ghost use Rattle.lay_form.specs.Notation.{H, body, each};
 ghost use Rattle.lay_form.specs.Stream.{stream_of};
-ghost use Rattle.lay_tree.specs.nodes.Attr.{attr_form};
-ghost use Rattle.lay_tree.specs.nodes.Fields.{blank_if};
+ghost use Rattle.lay_node.specs.nodes.Attr.{attr_form};
+ghost use Rattle.lay_node.specs.nodes.Fields.{blank_if};
 ghost use Rattle.lay_tree.specs.nodes.Item.{form_of_item, told_of_kind};
 ghost use Rattle.lay_out_types.specs.Calls.{Adds};
 ghost use Rattle.lay_out_code.specs.Parts.{kind_row, no_forms};
 
 use crate::calls::{add_alias, add_bare_attr, add_enum, add_extern_crate, add_struct, add_union};
-use crate::heads::{add_clause, add_ended, add_ended_clause, add_foreign_head, add_head};
+use crate::heads::{
+    add_clause, add_ended, add_ended_clause, add_foreign_head, add_head, add_valued,
+};
 use crate::macros::{add_call_item, add_macro_rules};
 use lay_out_heads::calls::add_break;
 use lay_out_heads::items::leads;
@@ -60,7 +62,7 @@ fn add_kind<E: Emit>(
         ItemKind::Struct { item } => add_struct(out, before, vis, item),
         ItemKind::Union { item } => add_union(out, before, vis, item),
         ItemKind::Enum { item } => add_enum(out, before, vis, item),
-        ItemKind::Value { head } => add_ended(out, before, vis, head),
+        ItemKind::Value { head, value } => add_valued(out, before, vis, head, value),
         ItemKind::Trait {
             head,
             wheres,

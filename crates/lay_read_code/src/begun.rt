@@ -1,36 +1,43 @@
 //! Items up to their bodies.
-ghost use Rattle.std.specs.Prelude.{◌≡◌, ◌≤◌, IfOk};
+ghost use Rattle.std.specs.Prelude.{◌≡◌, ◌≤◌, codes, drop, IfOk};
+ghost use Rattle.lay_token.specs.Operators.{is_op};
+ghost use Rattle.lay_node.specs.reader.Exact.{needless};
+ghost use Rattle.lay_node.specs.reader.Heads as heads;
+ghost use Rattle.lay_node.specs.reader.Types.{if_read, within};
 ghost use Rattle.lay_tree.specs.nodes.Item as nodes;
-ghost use Rattle.lay_tree.specs.reader.Exact.{needless};
-ghost use Rattle.lay_tree.specs.reader.Heads as heads;
+ghost use Rattle.lay_tree.specs.nodes.Places.{FREE as free};
+ghost use Rattle.lay_tree.specs.reader.Exprs.{expr_at};
 ghost use Rattle.lay_tree.specs.reader.Item as reader;
-ghost use Rattle.lay_tree.specs.reader.Types.{within};
 ghost use Rattle.lay_tree.specs.declared.item.ItemKind.TheVariants as item;
 ghost use Rattle.lay_read_tokens.specs.Answers.{IsFound};
 ghost use Rattle.lay_read_code.specs.Begun as bodies;
 ghost use Rattle.lay_read_code.specs.Begun.{deeper, node_alone, whole};
 ghost use Rattle.lay_read_code.specs.Leads.{told};
 
+use crate::exprs::expr_ahead;
 use crate::leads::{ItemLead, item_lead, may_stand};
-use lay_read_generics::wheres_ahead;
-use lay_read_heads::functions::fn_head_ahead;
-use lay_read_heads::heads::{
+use lay_head_rules::functions::fn_head_ahead;
+use lay_head_rules::heads::{
     alias_ahead, enum_ahead, extern_crate_ahead, impl_head_ahead, struct_ahead, trait_head_ahead,
     union_ahead, value_head_ahead,
 };
-use lay_read_heads::level::{kept_if, takes_flag};
-use lay_read_heads::uses::use_ahead;
+use lay_head_rules::level::{kept_if, takes_flag};
+use lay_head_rules::uses::use_ahead;
+use lay_read_exprs::places::FREE;
+use lay_read_generics::wheres_ahead;
 use lay_read_parts::joins::both;
 use lay_read_parts::parts::read_abi_if;
 use lay_read_tokens::calls::{call_ahead, takes_end};
 use lay_read_tokens::found::greater;
-use lay_read_tokens::front::{pass_two, takes_keyword, takes_mark};
+use lay_read_tokens::front::{pass_two, takes_keyword, takes_mark, takes_op};
 use lay_read_tokens::names::read_name;
 use lay_read_tokens::stop::boxed;
 use lay_read_tokens::tokens::read_group;
 use lay_read_tokens::{Ahead, Found, ReadNone};
 use lay_token::List;
-use lay_tree::{Attr, ImplHead, Item, ItemKind, Literal, Name, Site, TraitHead, ValueHead, Wheres};
+use lay_tree::{
+    Attr, Expr, ImplHead, Item, ItemKind, Literal, Name, Site, TraitHead, ValueHead, Wheres,
+};
 use std::alloc::Global;
 
 /// An item up to its body, or the whole item where it has none.
@@ -219,19 +226,38 @@ fn begin_enum(alloc: Global, at: &mut Ahead<'_>, depth: u32) -> Result<Found<Beg
     Ok(whole_item(ItemKind::Enum { item: item.node }, item.need))
 }
 
-/// Whether a constant or a static may lack its value.
-fn may_lack_value(site: Site, head: &ValueHead) -> bool
-    ensures { result ≡ nodes.may_lack_value site head.now }
+/// Whether a constant or a static may have a value, or may lack it.
+fn may_be_valued(site: Site, head: &ValueHead, valued: bool) -> bool
+    ensures { result ≡ nodes.may_be_valued site head.now valued }
 {
-    match site {
-        Site::Module => false,
-        Site::Member => false,
-        Site::TraitMember => matches!(head, ValueHead::Const { .. }),
-        Site::Foreign => matches!(head, ValueHead::Static { .. }),
+    let constant = matches!(head, ValueHead::Const { .. });
+    match (site, valued) {
+        (Site::Module, valued) => valued,
+        (Site::Member, valued) => valued && constant,
+        (Site::TraitMember, _) => constant,
+        (Site::Foreign, valued) => !valued && !constant,
     }
 }
 
-/// A constant or a static without a value.
+/// A value, if one stands there.
+fn value_if(alloc: Global, at: &mut Ahead<'_>, depth: u32) -> Result<Found<Option<Expr>>, ReadNone>
+    ensures read { IsFound (if_read (is_op (codes "=") at.old) (λ ts. expr_at free depth (drop 1 ts)) at.old) result at.new }
+    ensures within { IfOk result (λ found. found.need ≤ depth) }
+{
+    if !takes_op(at, b"=") {
+        return Ok(Found {
+            node: None,
+            need: 0,
+        });
+    }
+    let value = expr_ahead(alloc, at, FREE, depth)?;
+    Ok(Found {
+        node: Some(value.node),
+        need: value.need,
+    })
+}
+
+/// A constant or a static, with its value if it has one.
 #[tactic(auto, unfolding(lay_tree::specs::reader::Item::value_by))]
 fn begin_value(
     alloc: Global,
@@ -243,9 +269,17 @@ fn begin_value(
     ensures within { IfOk result (λ found. found.need ≤ depth) }
 {
     let head = value_head_ahead(alloc, at, depth)?;
-    let keeps = takes_mark(at, b";") && may_lack_value(site, &head.node);
+    let (head, value) = both(head, value_if(alloc, at, depth))?;
+    let ended = takes_mark(at, b";");
+    let keeps = ended && may_be_valued(site, &head.node, value.node.is_some());
     kept_if(
-        whole_item(ItemKind::Value { head: head.node }, head.need),
+        whole_item(
+            ItemKind::Value {
+                head: head.node,
+                value: value.node,
+            },
+            greater(head.need, value.need),
+        ),
         keeps,
     )
 }

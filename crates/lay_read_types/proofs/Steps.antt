@@ -1,17 +1,17 @@
 -- One step of a reader, from what the readers within it give.
 use Rattle.std.proofs.Common.{◌≡◌, ℕ, suc, ◌-◌, ◌<◌, true, false, refl, codes, arith, length, is_some, option_map, Result, List, [], ◌∷◌, Option, Some, None, sym, ap, ◌∙◌}
-use Rattle.lay_tree.specs.Ahead.{Tokens, first, tail, is_mark}
-use Rattle.lay_tree.specs.Begins.{lead_at}
-use Rattle.lay_tree.specs.nodes.Types.{ArgsFacts, about_args, about_type}
-use Rattle.lay_tree.specs.reader.Loops.{Read, elements}
-use Rattle.lay_tree.specs.reader.Types.{Within, within, angle, one_arg, returns_last, type_at, type_by, constraint_by}
-use Rattle.lay_tree.specs.declared.token.Word.{Word}
-use Rattle.lay_tree.specs.declared.types.Arg.{Arg}
-use Rattle.lay_tree.specs.declared.types.Args.{Args}
-use Rattle.lay_tree.specs.declared.types.Args.TheVariants as args
-use Rattle.lay_tree.specs.declared.types.Ty.{Ty}
-use Rattle.lay_tree.specs.declared.types.TypePlace.{TypePlace}
-use Rattle.lay_tree.proofs.nodes.TypesLaws.{args_none_is, args_angle_is, args_round_is}
+use Rattle.lay_node.specs.Ahead.{Tokens, first, tail, is_mark}
+use Rattle.lay_node.specs.Begins.{lead_at}
+use Rattle.lay_node.specs.nodes.Types.{ArgsFacts, about_args, about_type}
+use Rattle.lay_node.specs.reader.Loops.{Read, elements}
+use Rattle.lay_node.specs.reader.Types.{Within, within, angle, one_arg, returns_last, type_at, type_by, constraint_by}
+use Rattle.lay_node.specs.declared.token.Word.{Word}
+use Rattle.lay_node.specs.declared.types.Arg.{Arg}
+use Rattle.lay_node.specs.declared.types.Args.{Args}
+use Rattle.lay_node.specs.declared.types.Args.TheVariants as args
+use Rattle.lay_node.specs.declared.types.Ty.{Ty}
+use Rattle.lay_node.specs.declared.types.TypePlace.{TypePlace}
+use Rattle.lay_node.proofs.nodes.TypesLaws.{args_none_is, args_angle_is, args_round_is}
 use Rattle.lay_read_tokens.specs.Answers.{IsFound}
 use Rattle.lay_read_tokens.specs.declared.found.Found.{Found}
 use Rattle.lay_read_tokens.specs.declared.stop.ReadNone.{ReadNone}
@@ -44,8 +44,9 @@ returns_round inputs output = ap (λ (a : ArgsFacts). a.returns) (args_round_is 
 
 -- ---- within a depth
 
-deeper : {X : Type 0} (f : ℕ → X) (n : ℕ) → 0 < n → f n ≡ f (suc (n - 1))
-deeper f n some = let e : n ≡ suc (n - 1) = omega arith in ap f e
+-- what is told of a depth that is no zero
+pub above_zero : {X : Type 0} (f : ℕ → X) (n : ℕ) → 0 < n → f n ≡ f (suc (n - 1))
+above_zero f n some = let e : n ≡ suc (n - 1) = omega arith in ap f e
 
 pub type_none : (place : TypePlace) (n : ℕ) (ts : Tokens) → n ≡ 0 → type_at place n ts ≡ None
 unfolding within
@@ -58,11 +59,11 @@ asked_none n ts e = ap (λ (k : ℕ). (within k).constraints ts) e
 pub type_deeper : (place : TypePlace) (n : ℕ) (ts : Tokens) → 0 < n
     → type_at place n ts ≡ type_by (within (n - 1)) place (lead_at ts) ts
 unfolding within
-type_deeper place n ts some = deeper (λ (k : ℕ). type_at place k ts) n some
+type_deeper place n ts some = above_zero (λ (k : ℕ). type_at place k ts) n some
 
 pub asked_deeper : (n : ℕ) (ts : Tokens) → 0 < n → (within n).constraints ts ≡ constraint_by (within (n - 1)) ts
 unfolding within
-asked_deeper n ts some = deeper (λ (k : ℕ). (within k).constraints ts) n some
+asked_deeper n ts some = above_zero (λ (k : ℕ). (within k).constraints ts) n some
 
 pub found_by : {A : Type 0} (a b : Read A) (r : Result (Found A) ReadNone) (left : Tokens) → a ≡ b → IsFound b r left
     → IsFound a r left

@@ -1,13 +1,9 @@
 //! Items.
-use crate::attr::Attr;
-use crate::boxed::Boxed;
-use crate::functions::FnHead;
-use crate::generics::Wheres;
-use crate::heads::{Alias, Enum, ExternCrate, ImplHead, Struct, TraitHead, Union, ValueHead};
-use crate::token::{Literal, Name};
-use crate::tokens::{Group, MacroCall};
-use crate::use_tree::UseTree;
-use crate::vis::Vis;
+use crate::exprs::Expr;
+use lay_node::{
+    Alias, Attr, Boxed, Enum, ExternCrate, FnHead, Group, ImplHead, Literal, MacroCall, Name,
+    Struct, TraitHead, Union, UseTree, ValueHead, Vis, Wheres,
+};
 use lay_token::List;
 
 /// An item with its outer attributes (Rust Reference, "Items"). One within another stands one level deeper.
@@ -63,9 +59,10 @@ pub enum ItemKind {
     Enum {
         item: Enum,
     },
-    /// `const A: B;` or `static A: B;`
+    /// `const A: B = c;` or `static A: B;`
     Value {
         head: ValueHead,
+        value: Option<Expr>,
     },
     /// `trait A { fn b(); }`, with its inner attributes and its members
     Trait {

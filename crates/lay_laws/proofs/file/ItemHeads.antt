@@ -1,33 +1,38 @@
 -- What items consist of passes: each head, and what stands behind it, given that the items within pass.
-use Rattle.std.proofs.Common.{◌≡◌, List, [], ◌∷◌, ◌++◌, Bool, true, ◌&&◌, refl, codes, map, Option, Some, None}
+use Rattle.std.proofs.Common.{◌≡◌, List, [], ◌∷◌, ◌++◌, Bool, true, ◌&&◌, refl, codes, map, Option, Some, None, is_some}
 use Rattle.std.specs.List.{list_all}
 use Rattle.std.proofs.lemmas.Bool.{and_parts}
 use Rattle.lay_form.specs.Form as form
-use Rattle.lay_form.specs.Form.{Blank, Form, Done, Piece, keyword, semicolon}
+use Rattle.lay_form.specs.Form.{Blank, Form, Done, Piece, keyword, semicolon, Part}
 use Rattle.lay_form.specs.Pieces.{is_text_of, are_pieces}
-use Rattle.lay_tree.specs.Words.{is_name}
-use Rattle.lay_tree.specs.nodes.Attr.{are_attrs, attr_form}
-use Rattle.lay_tree.specs.nodes.Fields.{blank_if}
-use Rattle.lay_tree.specs.nodes.Functions.{is_fn_head}
-use Rattle.lay_tree.specs.nodes.Heads.{leads, is_value_head, is_trait_head, is_impl_head}
-use Rattle.lay_tree.specs.nodes.Item.{ItemFacts, about_file_module, about_foreign, about_function, about_impl, about_import, about_module, about_trait, about_value, foreign_abi, item_body, item_forms, items_good, may_lack_body, may_lack_value, module_head}
-use Rattle.lay_tree.specs.nodes.Types.{is_abi_name}
-use Rattle.lay_tree.specs.nodes.Use.{about_use}
-use Rattle.lay_tree.specs.nodes.Where.{are_predicates, wheres_before_body}
-use Rattle.lay_tree.specs.declared.attr.Attr.{Attr}
-use Rattle.lay_tree.specs.declared.functions.FnHead.{FnHead}
-use Rattle.lay_tree.specs.declared.generics.Wheres.{Wheres}
-use Rattle.lay_tree.specs.declared.heads.ImplHead.{ImplHead}
-use Rattle.lay_tree.specs.declared.heads.Site.{Site}
-use Rattle.lay_tree.specs.declared.heads.Site.TheVariants as site
-use Rattle.lay_tree.specs.declared.heads.TraitHead.{TraitHead}
-use Rattle.lay_tree.specs.declared.heads.ValueHead.{ValueHead}
-use Rattle.lay_tree.specs.declared.token.Literal.{Literal}
-use Rattle.lay_tree.specs.declared.token.Name.{Name}
-use Rattle.lay_tree.specs.declared.use_tree.UseTree.{UseTree}
+use Rattle.lay_node.specs.Words.{is_name}
+use Rattle.lay_node.specs.nodes.Attr.{are_attrs, attr_form}
+use Rattle.lay_node.specs.nodes.Fields.{blank_if}
+use Rattle.lay_node.specs.nodes.Functions.{is_fn_head}
+use Rattle.lay_node.specs.nodes.Heads.{leads, is_value_head, is_trait_head, is_impl_head, value_head_form}
+use Rattle.lay_node.specs.nodes.Types.{is_abi_name}
+use Rattle.lay_node.specs.nodes.Use.{about_use}
+use Rattle.lay_node.specs.nodes.Where.{are_predicates, wheres_before_body}
+use Rattle.lay_node.specs.declared.attr.Attr.{Attr}
+use Rattle.lay_node.specs.declared.functions.FnHead.{FnHead}
+use Rattle.lay_node.specs.declared.generics.Wheres.{Wheres}
+use Rattle.lay_node.specs.declared.heads.ImplHead.{ImplHead}
+use Rattle.lay_node.specs.declared.heads.Site.{Site}
+use Rattle.lay_node.specs.declared.heads.Site.TheVariants as site
+use Rattle.lay_node.specs.declared.heads.TraitHead.{TraitHead}
+use Rattle.lay_node.specs.declared.heads.ValueHead.{ValueHead}
+use Rattle.lay_node.specs.declared.token.Literal.{Literal}
+use Rattle.lay_node.specs.declared.token.Name.{Name}
+use Rattle.lay_node.specs.declared.use_tree.UseTree.{UseTree}
+use Rattle.lay_tree.specs.nodes.Exprs.{about_expr}
+use Rattle.lay_tree.specs.nodes.Item.{ItemFacts, about_file_module, about_foreign, about_function, about_impl, about_import, about_module, about_trait, about_value, foreign_abi, item_body, item_forms, items_good, may_lack_body, may_lack_value, module_head, may_be_valued, value_form, value_placed}
+use Rattle.lay_tree.specs.nodes.Places.{FREE}
+use Rattle.lay_tree.specs.declared.exprs.Expr.{Expr}
 use Rattle.lay_laws.proofs.borders.Border.{Border}
+use Rattle.lay_laws.proofs.file.ExprParts.{ends_expr, begins_plain}
+use Rattle.lay_laws.proofs.file.Exprs.{expr_passes_at}
 use Rattle.lay_laws.proofs.forms.Passes.{plain}
-use Rattle.lay_laws.proofs.forms.Rules.{tables, From, All, ends, fixed, part, body_fits, braced}
+use Rattle.lay_laws.proofs.forms.Rules.{tables, From, All, ends, fixed, part, body_fits, braced, breaks}
 use Rattle.lay_laws.proofs.file.Nodes.{ends_name, ends_line, ends_use, start_path, behind_word, word, both_pieces, both_all, attrs_pass, use_passes, when_pieces, body_pieces}
 use Rattle.lay_laws.proofs.file.TypeParts.{ends_type, ends_arg, string_literal_passes}
 use Rattle.lay_laws.proofs.file.TypeKinds.{unsafe_passes}
@@ -103,13 +108,30 @@ function_passes place head wheres = record {
         let n = and_parts (is_fn_head place head && are_predicates wheres) (may_lack_body place) g in
         and_parts (is_fn_head place head) (are_predicates wheres) n.0
 
-pub value_passes : (place : Site) (head : ValueHead) → HeadPasses (about_value place head)
+-- a value behind the type of what has it
+value_form_passes : (value : Option Expr) → value_placed value ≡ true → are_pieces (value_form value) ≡ true
+    → From ends_type (value_form value) ends_expr
 unfolding tables
-value_passes place head = record {
-  between = ends_type;
-  head = λ g w. value_head_passes head (and_parts (is_value_head head) (may_lack_value place head) g).0 w;
+value_form_passes None g w = ends refl
+value_form_passes (Some x) g w =
+    let p = (and_parts (are_pieces (about_expr x).form) true w).0 in
+    fixed refl (breaks refl (part plain ends_expr refl (expr_passes_at plain begins_plain FREE x g p) (ends refl)))
+
+pub value_passes : (place : Site) (head : ValueHead) (value : Option Expr) → HeadPasses (about_value place head value)
+unfolding tables
+value_passes place head value = record {
+  between = ends_expr;
+  head = λ g w.
+      let n = parts g in
+      let p = and_parts (are_pieces (value_head_form head)) (are_pieces (value_form value)) w in
+      part plain ends_type refl (value_head_passes head n.0 p.0) (value_form_passes value n.1 p.1);
   tail = λ g w. fixed refl (ends refl);
 }
+  where
+    parts : (about_value place head value).good ≡ true → (is_value_head head ≡ true) × (value_placed value ≡ true)
+    parts g =
+        let n = and_parts (is_value_head head && may_be_valued place head (is_some value)) (value_placed value) g in
+        ((and_parts (is_value_head head) (may_be_valued place head (is_some value)) n.0).0, n.1)
 
 -- ---- traits and implementations
 
