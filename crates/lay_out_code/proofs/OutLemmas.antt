@@ -133,6 +133,22 @@ headed v x any =
     ∙ ap (λ (s : List Tok). stream_of (vis_form v) ++ s) (append_assoc (stream_of x.head) end (stream_of x.tail)))
     ∙ seen_is v x any
 
+steady_value : (value : Option Expr) → Steady (value_form value)
+steady_value None q = refl
+steady_value (Some x) true = refl
+steady_value (Some x) false = refl
+
+-- The head of a constant or a static, and its value.
+pub valued_head : (head : ValueHead) (value : Option Expr)
+    → stream_of (value_head_form head) ++ stream_of (value_form value)
+    ≡ stream_of (Part (value_head_form head) (value_form value))
+valued_head head value = part_more (value_head_form head) (value_form value) (steady_value value)
+
+-- A value that is there, behind its `=`.
+pub some_value : (value : Option Expr) (x : Expr) → value ≡ Some x
+    → tok.Text (codes " = ") ∷ tok.Break (break_of Never) ∷ stream_of (about_expr x).form ≡ stream_of (value_form value)
+some_value value x is = rw is refl
+
 -- an item that is of this kind
 pub kind_of : {k made : ItemKind} {x : KindFacts} (v : Vis) → k ≡ made → told_of_kind made ≡ x
     → kind_row v x ≡ kind_row v (told_of_kind k)

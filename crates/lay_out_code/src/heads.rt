@@ -87,6 +87,42 @@ pub fn add_clause<E: Emit, H: Head>(
     add_wheres(out, head, wheres, true)
 }
 
+/// A constant or a static, and a `;`.
+pub fn add_valued<E: Emit>(
+    out: &mut E,
+    before: Result<(), E::Fault>,
+    vis: &Vis,
+    head: &ValueHead,
+    value: &Option<Expr>,
+) -> Result<(), E::Fault>
+    ensures { Adds E.meanings before out.old
+        (head_row vis.now (Part (value_head_form head.now) (value_form value.now)) ++ stream_of (piece semicolon)) result out.new }
+{
+    let opened = open_head(out, before, vis);
+    let head = head.add(out, opened);
+    let value = add_value(out, head, value);
+    let whole = add_end(out, value);
+    add_text(out, whole, b";")
+}
+
+/// A value, if there is one, behind its `=`.
+fn add_value<E: Emit>(
+    out: &mut E,
+    before: Result<(), E::Fault>,
+    value: &Option<Expr>,
+) -> Result<(), E::Fault>
+    ensures { Adds E.meanings before out.old (stream_of (value_form value.now)) result out.new }
+{
+    match value {
+        None => before,
+        Some(expr) => {
+            let equals = add_text(out, before, b" = ");
+            let lead = add_break(out, equals, NEVER_BREAK);
+            add_expr(out, lead, false, expr)
+        },
+    }
+}
+
 impl Head for UseTree {
     ghost form = { import_head };
 

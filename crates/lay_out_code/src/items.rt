@@ -60,7 +60,7 @@ fn add_kind<E: Emit>(
         ItemKind::Struct { item } => add_struct(out, before, vis, item),
         ItemKind::Union { item } => add_union(out, before, vis, item),
         ItemKind::Enum { item } => add_enum(out, before, vis, item),
-        ItemKind::Value { head } => add_ended(out, before, vis, head),
+        ItemKind::Value { head, value } => add_valued(out, before, vis, head, value),
         ItemKind::Trait {
             head,
             wheres,

@@ -53,11 +53,17 @@ function_left at depth ts = chain 1 1 0 ts (fn_head at (insides depth) ts) _ (om
     (λ h. chain 0 0 0 h.1 (wheres (within depth) h.1) _ (omega arith) (wheres_left depth h.1)
     (λ w. chain_passed 0 1 0 w.1 (heads.semicolon w.1) _ (omega arith) (passed_left (is_mark (codes ";")) w.1) unread))
 
+value_if_left : (depth : ℕ) (ts : Tokens) → Leaves 0 ts (if_read (is_op (codes "=") ts) (λ us. expr_at FREE depth (drop 1 us)) ts)
+value_if_left depth ts =
+    read_left (is_op (codes "=") ts) (λ us. expr_at FREE depth (drop 1 us)) ts
+    (further 0 0 1 ts (drop 1 ts) (expr_at FREE depth (drop 1 ts)) (omega arith) (dropped 1 ts) (exprs_leave depth FREE (drop 1 ts)))
+
 value_left : (at : Site) (depth : ℕ) (ts : Tokens) → Leaves 1 ts (item.value_by at (deeper depth) ts)
 unfolding item.value_by
 value_left at depth ts = chain 1 1 0 ts (heads.value_head (within depth) ts) _ (omega arith) (value_head_left depth ts)
-    (λ h. chain_passed 0 1 0 h.1 (heads.semicolon h.1) _ (omega arith) (passed_left (is_mark (codes ";")) h.1)
-    (λ rest. choice 0 rest (may_lack_value at h.0.0) _ None (λ e. unread rest) tt))
+    (λ h. chain 0 0 0 h.1 (if_read (is_op (codes "=") h.1) (λ us. expr_at FREE depth (drop 1 us)) h.1) _ (omega arith) (value_if_left depth h.1)
+    (λ v. chain_passed 0 1 0 v.1 (heads.semicolon v.1) _ (omega arith) (passed_left (is_mark (codes ";")) v.1)
+    (λ rest. choice 0 rest (may_be_valued at h.0.0 (is_some v.0.0)) _ None (λ e. unread rest) tt)))
 
 module _ (depth : ℕ) (items_left : (at : Site) (ts : Tokens) → Leaves 1 ts (item.item_at at depth ts)) where
   body_left : (at : Site) (ts : Tokens) → Leaves 0 ts (item.item_body (deeper depth) at ts)

@@ -22,7 +22,7 @@ use Rattle.lay_read_code.specs.declared.begun.Begun.TheVariants as begun
 
 -- how what is one level deeper is read within a depth
 abbrev pub deeper : ℕ → ItemWithin
-deeper depth = record { items = λ s ts. item_at s depth ts; trees = use_at depth; heads = insides depth }
+deeper depth = record { items = λ s ts. item_at s depth ts; trees = use_at depth; heads = insides depth; exprs = expr_at FREE depth }
 
 -- ---- items up to their bodies
 

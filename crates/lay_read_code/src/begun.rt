@@ -219,19 +219,38 @@ fn begin_enum(alloc: Global, at: &mut Ahead<'_>, depth: u32) -> Result<Found<Beg
     Ok(whole_item(ItemKind::Enum { item: item.node }, item.need))
 }
 
-/// Whether a constant or a static may lack its value.
-fn may_lack_value(site: Site, head: &ValueHead) -> bool
-    ensures { result ≡ nodes.may_lack_value site head.now }
+/// Whether a constant or a static may have a value, or may lack it.
+fn may_be_valued(site: Site, head: &ValueHead, valued: bool) -> bool
+    ensures { result ≡ nodes.may_be_valued site head.now valued }
 {
-    match site {
-        Site::Module => false,
-        Site::Member => false,
-        Site::TraitMember => matches!(head, ValueHead::Const { .. }),
-        Site::Foreign => matches!(head, ValueHead::Static { .. }),
+    let constant = matches!(head, ValueHead::Const { .. });
+    match (site, valued) {
+        (Site::Module, valued) => valued,
+        (Site::Member, valued) => valued && constant,
+        (Site::TraitMember, _) => constant,
+        (Site::Foreign, valued) => !valued && !constant,
     }
 }
 
-/// A constant or a static without a value.
+/// A value, if one stands there.
+fn value_if(alloc: Global, at: &mut Ahead<'_>, depth: u32) -> Result<Found<Option<Expr>>, ReadNone>
+    ensures read { IsFound (if_read (is_op (codes "=") at.old) (λ ts. expr_at free depth (drop 1 ts)) at.old) result at.new }
+    ensures within { IfOk result (λ found. found.need ≤ depth) }
+{
+    if !takes_op(at, b"=") {
+        return Ok(Found {
+            node: None,
+            need: 0,
+        });
+    }
+    let value = expr_ahead(alloc, at, FREE, depth)?;
+    Ok(Found {
+        node: Some(value.node),
+        need: value.need,
+    })
+}
+
+/// A constant or a static, with its value if it has one.
 #[tactic(auto, unfolding(lay_tree::specs::reader::Item::value_by))]
 fn begin_value(
     alloc: Global,
@@ -243,9 +262,17 @@ fn begin_value(
     ensures within { IfOk result (λ found. found.need ≤ depth) }
 {
     let head = value_head_ahead(alloc, at, depth)?;
-    let keeps = takes_mark(at, b";") && may_lack_value(site, &head.node);
+    let (head, value) = both(head, value_if(alloc, at, depth))?;
+    let ended = takes_mark(at, b";");
+    let keeps = ended && may_be_valued(site, &head.node, value.node.is_some());
     kept_if(
-        whole_item(ItemKind::Value { head: head.node }, head.need),
+        whole_item(
+            ItemKind::Value {
+                head: head.node,
+                value: value.node,
+            },
+            greater(head.need, value.need),
+        ),
         keeps,
     )
 }

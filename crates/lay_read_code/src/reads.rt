@@ -11,6 +11,22 @@ use lay_read_tokens::{Ahead, ReadNone};
 use lay_tree::{Item, Site};
 use std::alloc::Global;
 
+/// The expression at the front, at its place and within the depth. Where there is none the cursor stays.
+pub fn read_expr(
+    alloc: Global,
+    at: &mut Cursor<'_>,
+    place: Place,
+    depth: u32,
+) -> Result<Expr, ReadNone>
+    requires { AreLexed at.old }
+    ensures { IsReadAt depth (λ (x : ExprValue). ExprFront place (about_expr x)) at.old result at.new }
+{
+    let mut ahead = Ahead::new(at.fork());
+    let found = expr_ahead(alloc, &mut ahead, place, depth)?;
+    *at = ahead.into_cursor();
+    Ok(found.node)
+}
+
 /// The item at the front, at its site and within the depth. Where there is none the cursor stays.
 pub fn read_item(
     alloc: Global,

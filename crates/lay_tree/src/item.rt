@@ -1,6 +1,7 @@
 //! Items.
 use crate::attr::Attr;
 use crate::boxed::Boxed;
+use crate::exprs::Expr;
 use crate::functions::FnHead;
 use crate::generics::Wheres;
 use crate::heads::{Alias, Enum, ExternCrate, ImplHead, Struct, TraitHead, Union, ValueHead};
@@ -63,9 +64,10 @@ pub enum ItemKind {
     Enum {
         item: Enum,
     },
-    /// `const A: B;` or `static A: B;`
+    /// `const A: B = c;` or `static A: B;`
     Value {
         head: ValueHead,
+        value: Option<Expr>,
     },
     /// `trait A { fn b(); }`, with its inner attributes and its members
     Trait {

@@ -103,13 +103,30 @@ function_passes place head wheres = record {
         let n = and_parts (is_fn_head place head && are_predicates wheres) (may_lack_body place) g in
         and_parts (is_fn_head place head) (are_predicates wheres) n.0
 
-pub value_passes : (place : Site) (head : ValueHead) → HeadPasses (about_value place head)
+-- a value behind the type of what has it
+value_form_passes : (value : Option Expr) → value_placed value ≡ true → are_pieces (value_form value) ≡ true
+    → From ends_type (value_form value) ends_expr
 unfolding tables
-value_passes place head = record {
-  between = ends_type;
-  head = λ g w. value_head_passes head (and_parts (is_value_head head) (may_lack_value place head) g).0 w;
+value_form_passes None g w = ends refl
+value_form_passes (Some x) g w =
+    let p = (and_parts (are_pieces (about_expr x).form) true w).0 in
+    fixed refl (breaks refl (part plain ends_expr refl (expr_passes_at plain begins_plain FREE x g p) (ends refl)))
+
+pub value_passes : (place : Site) (head : ValueHead) (value : Option Expr) → HeadPasses (about_value place head value)
+unfolding tables
+value_passes place head value = record {
+  between = ends_expr;
+  head = λ g w.
+      let n = parts g in
+      let p = and_parts (are_pieces (value_head_form head)) (are_pieces (value_form value)) w in
+      part plain ends_type refl (value_head_passes head n.0 p.0) (value_form_passes value n.1 p.1);
   tail = λ g w. fixed refl (ends refl);
 }
+  where
+    parts : (about_value place head value).good ≡ true → (is_value_head head ≡ true) × (value_placed value ≡ true)
+    parts g =
+        let n = and_parts (is_value_head head && may_be_valued place head (is_some value)) (value_placed value) g in
+        ((and_parts (is_value_head head) (may_be_valued place head (is_some value)) n.0).0, n.1)
 
 -- ---- traits and implementations
 

@@ -2,6 +2,7 @@
 use Rattle.std.proofs.Common.{◌≡◌, Bool, List, Option, map, sym, ap, ◌∙◌, subst}
 use Rattle.lay_tree.specs.nodes.Item.{KindFacts, ItemFacts, kind_facts, item_facts, told_of_item, told_of_kind}
 use Rattle.lay_tree.specs.declared.attr.Attr.{Attr}
+use Rattle.lay_tree.specs.declared.exprs.Expr.{Expr}
 use Rattle.lay_tree.specs.declared.functions.FnHead.{FnHead}
 use Rattle.lay_tree.specs.declared.generics.Wheres.{Wheres}
 use Rattle.lay_tree.specs.declared.heads.Alias.{Alias}
@@ -35,7 +36,7 @@ pub data KindView : ItemKind → Type 0 where
   IsStruct : (x : Struct) → KindView (item.Struct x)
   IsUnion : (x : Union) → KindView (item.Union x)
   IsEnum : (x : Enum) → KindView (item.Enum x)
-  IsValue : (head : ValueHead) → KindView (item.Value head)
+  IsValue : (head : ValueHead) (value : Option Expr) → KindView (item.Value head value)
   IsTrait : (head : TraitHead) (wheres : Wheres) (attrs : List Attr) (items : List Item) → KindView (item.Trait head wheres attrs items)
   IsImpl : (head : ImplHead) (wheres : Wheres) (attrs : List Attr) (items : List Item) → KindView (item.Impl head wheres attrs items)
   IsForeign : (is_unsafe : Bool) (abi : Option Literal) (attrs : List Attr) (items : List Item) → KindView (item.Foreign is_unsafe abi attrs items)
@@ -52,7 +53,7 @@ kind_layer (ItemKind-F.Alias x) = subst KindView (sym (rolls-Alias x)) (IsAlias 
 kind_layer (ItemKind-F.Struct x) = subst KindView (sym (rolls-Struct x)) (IsStruct x)
 kind_layer (ItemKind-F.Union x) = subst KindView (sym (rolls-Union x)) (IsUnion x)
 kind_layer (ItemKind-F.Enum x) = subst KindView (sym (rolls-Enum x)) (IsEnum x)
-kind_layer (ItemKind-F.Value head) = subst KindView (sym (rolls-Value head)) (IsValue head)
+kind_layer (ItemKind-F.Value head value) = subst KindView (sym (rolls-Value head value)) (IsValue head value)
 kind_layer (ItemKind-F.Trait head wheres attrs items) = subst KindView (sym (rolls-Trait head wheres attrs items)) (IsTrait head wheres attrs items)
 kind_layer (ItemKind-F.Impl head wheres attrs items) = subst KindView (sym (rolls-Impl head wheres attrs items)) (IsImpl head wheres attrs items)
 kind_layer (ItemKind-F.Foreign is_unsafe abi attrs items) = subst KindView (sym (rolls-Foreign is_unsafe abi attrs items)) (IsForeign is_unsafe abi attrs items)
@@ -111,10 +112,10 @@ unfolding told_of_kind
 enum_is x =
     ap told_of_kind (sym (rolls-Enum x)) ∙ fold-roll-ItemKind KindFacts ItemFacts kind_facts item_facts (ItemKind-F.Enum x)
 
-pub value_is : (head : ValueHead) → told_of_kind (item.Value head) ≡ kind_facts (ItemKind-F.Value head)
+pub value_is : (head : ValueHead) (value : Option Expr) → told_of_kind (item.Value head value) ≡ kind_facts (ItemKind-F.Value head value)
 unfolding told_of_kind
-value_is head =
-    ap told_of_kind (sym (rolls-Value head)) ∙ fold-roll-ItemKind KindFacts ItemFacts kind_facts item_facts (ItemKind-F.Value head)
+value_is head value =
+    ap told_of_kind (sym (rolls-Value head value)) ∙ fold-roll-ItemKind KindFacts ItemFacts kind_facts item_facts (ItemKind-F.Value head value)
 
 pub trait_is : (head : TraitHead) (wheres : Wheres) (attrs : List Attr) (items : List Item) → told_of_kind (item.Trait head wheres attrs items) ≡ kind_facts (ItemKind-F.Trait head wheres attrs (map told_of_item items))
 unfolding told_of_item told_of_kind

@@ -25,7 +25,7 @@ use Rattle.lay_tree.proofs.Steps.{got_same, same_some, chosen, bind_some}
 use Rattle.lay_tree.proofs.reader.Attr.{attributes_sound, attrs_spelled, attrs_rows}
 use Rattle.lay_tree.proofs.reader.AttrRead.{attributes_complete}
 use Rattle.lay_tree.proofs.reader.Item.{item_sound}
-use Rattle.lay_tree.proofs.reader.ItemExact.{heads_complete, heads_sound}
+use Rattle.lay_tree.proofs.reader.ItemExact.{heads_complete, heads_sound, values_sound, values_complete}
 use Rattle.lay_tree.proofs.reader.ItemKinds.{items_begin, items_complete}
 use Rattle.lay_tree.proofs.reader.ItemRead.{item_complete}
 use Rattle.lay_tree.proofs.reader.Needs.{nodes_sound}
@@ -51,7 +51,7 @@ whole_parts depth ts attrs items t h =
     let c = bind_some (items_by (item_at Module depth) b.0.1) (last b.0.0) (attrs, items) b.2 in
     let a = attributes_sound true depth ts b.0.0 b.0.1 t b.1 in
     let before = attrs_spelled true depth b.0.0 ts b.0.1 a.0 in
-    let r = nodes_sound (about_item Module) depth (item_at Module depth) (item_sound heads_sound Module depth) more_items b.0.1 c.0.0 c.0.1 a.1 c.1 in
+    let r = nodes_sound (about_item Module) depth (item_at Module depth) (item_sound heads_sound values_sound Module depth) more_items b.0.1 c.0.0 c.0.1 a.1 c.1 in
     let read = nodes c.0.0 in
     let behind = rows_spelled (about_item Module) (deepest c.0.0) read b.0.1 c.0.1 r.1 in
     elim (chosen (at_end c.0.1) (Some (b.0.0, read)) None (Some (attrs, items)) c.2) [
@@ -86,7 +86,7 @@ whole_complete file ts s g =
     (lines_rows (map attr_form file.attrs ++ forms (map (about_item Module) file.items)) top ts [] s) in
     let attrs = attrs_rows true top file.attrs ts a.0 a.1 goods.0 in
     let items = rows_good (about_item Module) top file.items a.0 [] a.2 goods.1 in
-    let r = items_complete Module top (item_at Module top) (item_complete heads_complete Module top top (omega arith)) file.items a.0 [] items refl in
+    let r = items_complete Module top (item_at Module top) (item_complete heads_complete values_complete Module top top (omega arith)) file.items a.0 [] items refl in
     whole_read ts a.0 file.attrs file.items r.0
     (attributes_complete true file.attrs top ts a.0 attrs (items_begin Module file.items top a.0 [] items refl)) r.3 r.1
 

@@ -15,11 +15,13 @@ use Rattle.lay_tree.specs.Words.{is_name}
 use Rattle.lay_tree.specs.nodes.Attr.{are_attrs, attr_form}
 use Rattle.lay_tree.specs.nodes.Call.{is_group, before_rules, end_form}
 use Rattle.lay_tree.specs.nodes.Item.{about_item, call_item_form, in_module, is_inherited, kind_facts, kind_form, rules_form, told_of_kind}
+use Rattle.lay_tree.specs.nodes.Places.{FREE}
 use Rattle.lay_tree.specs.nodes.Use.{about_use}
 use Rattle.lay_tree.specs.nodes.Vis.{is_vis, vis_form}
 use Rattle.lay_tree.specs.reader.Attr.{attributes}
 use Rattle.lay_tree.specs.reader.Call.{call, behind_end}
 use Rattle.lay_tree.specs.reader.Exact.{InText}
+use Rattle.lay_tree.specs.reader.Exprs.{expr_at}
 use Rattle.lay_tree.specs.reader.Functions.{insides}
 use Rattle.lay_tree.specs.reader.Item.{ItemLead, ItemWithin, OfAlias, OfCall, OfEnum, OfExternCrate, OfForeign, OfFunction, OfImpl, OfImport, OfModule, OfRules, OfStruct, OfTrait, OfUnion, OfValue, begins_function, begins_rules, begins_union, call_item, extern_lead, item_at, item_by, item_lead, kind_at, kind_by, may_stand, rules_item, unsafe_lead}
 use Rattle.lay_tree.specs.reader.Tokens.{group}
@@ -42,6 +44,7 @@ use Rattle.lay_tree.proofs.nodes.ItemLaws.{item_is}
 use Rattle.lay_tree.proofs.reader.Attr.{attributes_sound, attrs_spelled}
 use Rattle.lay_tree.proofs.reader.Call.{end_spelled, call_sound}
 use Rattle.lay_tree.proofs.reader.Exact.{Stands, Sound}
+use Rattle.lay_tree.proofs.reader.ExprSoundLevel.{ExprHeld}
 use Rattle.lay_tree.proofs.reader.HeadsLevel.{insides_sound}
 use Rattle.lay_tree.proofs.reader.ItemSound.{HeadsSound, KindHeld, alias_sound, alone, enum_sound, extern_sound, foreign_sound, function_sound, impl_sound, import_sound, kind_alone, kind_told, module_sound, struct_sound, trait_sound, union_sound, value_sound}
 use Rattle.lay_tree.proofs.reader.Loops.{SoundStep}
@@ -162,7 +165,8 @@ rules_begin ts h =
     call_is_none (begins_rules ts) (passes (begins_union ts) OfUnion _ refl h12)
 
 module _ (heads : HeadsSound) (at : Site) (budget : ℕ) (within : ItemWithin) (inner : SoundPatWithin budget within.heads)
-    (items : (s : Site) → Sound (about_item s) budget (within.items s)) (trees : Sound about_use budget within.trees) where
+    (items : (s : Site) → Sound (about_item s) budget (within.items s)) (trees : Sound about_use budget within.trees)
+    (values : SoundStep within.exprs (ExprHeld FREE budget)) where
   by_lead : (lead : ItemLead) → may_stand at lead ≡ true → (ts : Tokens) → item_lead ts ≡ lead → (x : ItemKind × ℕ) (rest : Tokens) → InText ts
       → kind_by at within lead ts ≡ Some (x, rest) → Out (KindHeld at budget) ts (x, rest)
   by_lead OfExternCrate m ts l x rest t h = extern_sound heads at budget within inner items trees m ts x rest t h
@@ -173,7 +177,7 @@ module _ (heads : HeadsSound) (at : Site) (budget : ℕ) (within : ItemWithin) (
   by_lead OfStruct m ts l x rest t h = struct_sound heads at budget within inner items trees m ts x rest t h
   by_lead OfUnion m ts l x rest t h = union_sound heads at budget within inner items trees m ts x rest t h
   by_lead OfEnum m ts l x rest t h = enum_sound heads at budget within inner items trees m ts x rest t h
-  by_lead OfValue m ts l x rest t h = value_sound heads at budget within inner items trees ts x rest t h
+  by_lead OfValue m ts l x rest t h = value_sound heads at budget within inner items trees values ts x rest t h
   by_lead OfTrait m ts l x rest t h = trait_sound heads at budget within inner items trees m ts x rest t h
   by_lead OfImpl m ts l x rest t h = impl_sound heads at budget within inner items trees m ts x rest t h
   by_lead OfForeign m ts l x rest t h = foreign_sound heads at budget within inner items trees m ts x rest t h
@@ -201,7 +205,8 @@ led vis.Super None behind depth ts mid rest g s k = absurd (cc)
 led (vis.In path) None behind depth ts mid rest g s k = absurd (cc)
 
 module _ (heads : HeadsSound) (at : Site) (budget : ℕ) (within : ItemWithin) (inner : SoundPatWithin budget within.heads)
-    (items : (s : Site) → Sound (about_item s) budget (within.items s)) (trees : Sound about_use budget within.trees) where
+    (items : (s : Site) → Sound (about_item s) budget (within.items s)) (trees : Sound about_use budget within.trees)
+    (values : SoundStep within.exprs (ExprHeld FREE budget)) where
   item_by_sound : Sound (about_item at) (suc budget) (item_by at within)
   unfolding item_by
   item_by_sound ts one need rest t h =
@@ -215,7 +220,7 @@ module _ (heads : HeadsSound) (at : Site) (budget : ℕ) (within : ItemWithin) (
       let K = told_of_kind kind in
       let inner_attrs = attributes_sound false n ts attrs a.0.1 t a.1 in
       let w = vis_sound a.0.1 seen v.0.1 inner_attrs.1 v.1 in
-      let s = kind_sound heads at budget within inner items trees v.0.1 k.0.0 k.0.1 w.1 k.1 in
+      let s = kind_sound heads at budget within inner items trees values v.0.1 k.0.0 k.0.1 w.1 k.1 in
       let held = s.0 in
       let made : Item = record { attrs = attrs; vis = seen; kind = kind } in
       let may = is_some K.head || is_inherited seen in
@@ -235,9 +240,13 @@ module _ (heads : HeadsSound) (at : Site) (budget : ℕ) (within : ItemWithin) (
         | inr g ↦ absurd (cc)
       ]
 
-pub item_sound : HeadsSound → (at : Site) (budget : ℕ) → Sound (about_item at) budget (item_at at budget)
+-- What is proved of expressions: what is read free stands there.
+abbrev pub ValuesSound : Type 0
+ValuesSound = (budget : ℕ) → SoundStep (expr_at FREE budget) (ExprHeld FREE budget)
+
+pub item_sound : HeadsSound → ValuesSound → (at : Site) (budget : ℕ) → Sound (about_item at) budget (item_at at budget)
 unfolding item_at
-item_sound heads at zero ts one need rest t h = absurd (cc)
-item_sound heads at (suc budget) ts one need rest t h =
-    item_by_sound heads at budget (record { items = λ s us. item_at s budget us; trees = use_at budget; heads = insides budget }) (insides_sound budget)
-    (λ s. item_sound heads s budget) (use_sound budget) ts one need rest t h
+item_sound heads values at zero ts one need rest t h = absurd (cc)
+item_sound heads values at (suc budget) ts one need rest t h =
+    item_by_sound heads at budget (record { items = λ s us. item_at s budget us; trees = use_at budget; heads = insides budget; exprs = expr_at FREE budget })
+    (insides_sound budget) (λ s. item_sound heads values s budget) (use_sound budget) (values budget) ts one need rest t h

@@ -3,6 +3,7 @@ use Rattle.std.proofs.Common.{◌≡◌, ℕ, refl}
 use Rattle.lay_tree.specs.Ahead.{Tokens}
 use Rattle.lay_tree.specs.nodes.Facts.{Front}
 use Rattle.lay_tree.specs.nodes.Item.{about_item}
+use Rattle.lay_tree.specs.nodes.Places.{FREE}
 use Rattle.lay_tree.specs.reader.Exact.{Exact}
 use Rattle.lay_tree.specs.reader.Item.{item_at}
 use Rattle.lay_tree.specs.declared.heads.Site.{Site}
@@ -10,13 +11,15 @@ use Rattle.lay_tree.specs.declared.item.Item.{Item}
 use Rattle.lay_tree.proofs.reader.AliasComplete.{aliases_complete}
 use Rattle.lay_tree.proofs.reader.AliasSound.{aliases_sound}
 use Rattle.lay_tree.proofs.reader.Exact.{exact, one_at_most}
+use Rattle.lay_tree.proofs.reader.ExprComplete.{expr_read}
+use Rattle.lay_tree.proofs.reader.ExprSound.{expr_in_sound}
 use Rattle.lay_tree.proofs.reader.FunctionsBegins.{fn_head_begins}
 use Rattle.lay_tree.proofs.reader.FunctionsComplete.{fn_head_complete}
 use Rattle.lay_tree.proofs.reader.FunctionsSound.{fn_head_sound}
 use Rattle.lay_tree.proofs.reader.ImplHeadsComplete.{impl_heads_complete}
 use Rattle.lay_tree.proofs.reader.ImplHeadsSound.{impl_heads_sound}
-use Rattle.lay_tree.proofs.reader.Item.{item_sound}
-use Rattle.lay_tree.proofs.reader.ItemRead.{item_complete}
+use Rattle.lay_tree.proofs.reader.Item.{item_sound, ValuesSound}
+use Rattle.lay_tree.proofs.reader.ItemRead.{item_complete, ValuesComplete}
 use Rattle.lay_tree.proofs.reader.ItemReads.{HeadsComplete}
 use Rattle.lay_tree.proofs.reader.ItemSound.{HeadsSound}
 use Rattle.lay_tree.proofs.reader.OutsideExact.{extern_crate_complete, extern_crate_sound}
@@ -52,8 +55,15 @@ heads_complete = record {
   traits = λ depth inner reads. trait_there depth inner.kinds reads.kinds;
 }
 
+-- What is read of values stands there, and what stands there is read.
+pub values_sound : ValuesSound
+values_sound budget = expr_in_sound budget FREE
+
+pub values_complete : ValuesComplete
+values_complete x depth budget ts rest = expr_read FREE x depth budget ts rest
+
 pub items_exact : (at : Site) → Exact (item_at at) (λ (x : Item). Front (about_item at x))
-items_exact at = exact (about_item at) (item_at at) (item_sound heads_sound at) (item_complete heads_complete at)
+items_exact at = exact (about_item at) (item_at at) (item_sound heads_sound values_sound at) (item_complete heads_complete values_complete at)
 
 -- So at most one item and one count of tokens fit.
 pub one_item : (at : Site) (node other : Item) (ts : Tokens) (n m depth : ℕ) → Front (about_item at node) ts n depth → Front (about_item at other) ts m depth

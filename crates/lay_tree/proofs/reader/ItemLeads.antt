@@ -13,7 +13,7 @@ use Rattle.lay_tree.specs.nodes.Call.{before_rules, end_form}
 use Rattle.lay_tree.specs.nodes.Functions.{fn_head_form, mut_word, safety_form, signature_form}
 use Rattle.lay_tree.specs.nodes.Generics.{bounded_form, default_form, generics_form}
 use Rattle.lay_tree.specs.nodes.Heads.{about_enum, about_union, called, head_fields, impl_head_form, of_type, struct_tail, trait_head_form, trait_ref_form, unsafe_form, value_head_form}
-use Rattle.lay_tree.specs.nodes.Item.{KindFacts, about_impl, about_trait, foreign_abi, item_body, told_of_item, told_of_kind}
+use Rattle.lay_tree.specs.nodes.Item.{KindFacts, about_impl, about_trait, foreign_abi, item_body, told_of_item, told_of_kind, value_form}
 use Rattle.lay_tree.specs.nodes.Types.{abi_form, abi_name, about_type, given_form}
 use Rattle.lay_tree.specs.nodes.Use.{about_use, rename_form}
 use Rattle.lay_tree.specs.nodes.Where.{wheres_before_semicolon}
@@ -226,9 +226,10 @@ kind_front at k depth ts rest g = by k (kind_view k) g
     by _ (IsEnum x) g =
         called_led (codes "enum") x.name.raw x.name.text x.generics Done (about_enum x).tail depth ts rest refl
         (spelled_as at depth (item.Enum x) _ ts rest (laws.enum_is x) g).0
-    by _ (IsValue head) g =
-        led_front ts rest (before_tail (value_head_form head) (piece semicolon) depth ts rest (λ mid t. value_led head depth ts mid t)
-        (spelled_as at depth (item.Value head) _ ts rest (laws.value_is head) g).0)
+    by _ (IsValue head value) g =
+        led_front ts rest (before_tail (Part (value_head_form head) (value_form value)) (piece semicolon) depth ts rest
+        (λ mid t. before_tail (value_head_form head) (value_form value) depth ts mid (λ end u. value_led head depth ts end u) t)
+        (spelled_as at depth (item.Value head value) _ ts rest (laws.value_is head value) g).0)
     by _ (IsTrait head wheres attrs items) g =
         led_front ts rest (before_tail (trait_head_form head) (about_trait head wheres attrs (map told_of_item items)).tail depth ts rest
         (λ mid t. unsafe_led head.is_unsafe (codes "trait") (Blank ∷ [])

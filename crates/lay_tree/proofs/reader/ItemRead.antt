@@ -1,5 +1,5 @@
 -- Items: what is spelled, and well formed, is read.
-use Rattle.std.proofs.Common.{◌≡◌, ℕ, zero, suc, ◌≤◌, max, Bool, true, false, ◌&&◌, ◌||◌, List, [], ◌∷◌, map, codes, Option, Some, None, inl, inr, refl, sym, subst, ◌∙◌, arith}
+use Rattle.std.proofs.Common.{◌≡◌, ℕ, zero, suc, ◌≤◌, max, Bool, true, false, ◌&&◌, ◌||◌, List, [], ◌∷◌, map, codes, Option, Some, None, inl, inr, refl, sym, subst, ◌∙◌, arith, drop}
 use Rattle.std.proofs.lemmas.Bool.{and_parts}
 use Rattle.std.specs.Prelude.{is_some}
 use Rattle.lay_piece.specs.Forms.{opening}
@@ -13,26 +13,30 @@ use Rattle.lay_tree.specs.Ahead.{Tokens, first, is_keyword, is_mark}
 use Rattle.lay_tree.specs.Words.{is_name, leaf_of}
 use Rattle.lay_tree.specs.nodes.Attr.{are_attrs}
 use Rattle.lay_tree.specs.nodes.Call.{before_rules, end_form, is_group}
+use Rattle.lay_tree.specs.nodes.Exprs.{placed, about_expr, follows}
 use Rattle.lay_tree.specs.nodes.Functions.{is_fn_head, output_follows}
 use Rattle.lay_tree.specs.nodes.Generics.{bounded_form, generics_form, is_generics}
 use Rattle.lay_tree.specs.nodes.Heads.{about_enum, about_extern_crate, about_struct, about_union, about_value_head, called, ends_head, head_fields, is_impl_head, is_trait_head, is_value_head, leads, struct_tail, trait_ref_form, value_follows, value_head_form}
 use Rattle.lay_tree.specs.nodes.Item as node
-use Rattle.lay_tree.specs.nodes.Item.{about_foreign, about_impl, about_import, about_item, about_module, about_trait, foreign_abi, in_module, is_inherited, items_good, may_lack_body, may_lack_value, module_head, rules_form, told_of_item, told_of_kind}
+use Rattle.lay_tree.specs.nodes.Item.{about_foreign, about_impl, about_import, about_item, about_module, about_trait, foreign_abi, in_module, is_inherited, items_good, may_lack_body, may_lack_value, module_head, rules_form, told_of_item, told_of_kind, value_form, value_placed, may_be_valued}
+use Rattle.lay_tree.specs.nodes.Places.{FREE}
 use Rattle.lay_tree.specs.nodes.Types.{about_type, good_at, is_abi_name, is_given, type_follows}
 use Rattle.lay_tree.specs.nodes.Use.{about_use, rename_form}
 use Rattle.lay_tree.specs.nodes.Where.{are_predicates, predicate_form, wheres_before_body}
 use Rattle.lay_tree.specs.reader.Attr.{attributes}
 use Rattle.lay_tree.specs.reader.Call.{behind_end, call}
+use Rattle.lay_tree.specs.reader.Exprs.{expr_at}
 use Rattle.lay_tree.specs.reader.Functions.{fn_head, insides}
 use Rattle.lay_tree.specs.reader.Heads.{impl_head, trait_head, unsafe_flag, value_head}
 use Rattle.lay_tree.specs.reader.Item.{ItemLead, ItemWithin, OfAlias, OfCall, OfEnum, OfExternCrate, OfForeign, OfFunction, OfImpl, OfImport, OfModule, OfRules, OfStruct, OfTrait, OfUnion, OfValue, call_item, foreign_by, function_by, impl_by, import_by, item_at, item_body, item_by, item_lead, kind_at, kind_by, may_stand, module_by, rules_item, trait_by, value_by}
 use Rattle.lay_tree.specs.reader.Tokens.{group}
-use Rattle.lay_tree.specs.reader.Types.{if_there, is_string_token, literal}
+use Rattle.lay_tree.specs.reader.Types.{if_there, is_string_token, literal, if_read}
 use Rattle.lay_tree.specs.reader.Use.{use_at}
 use Rattle.lay_tree.specs.reader.Vis.{visibility}
 use Rattle.lay_tree.specs.reader.Where.{wheres}
 use Rattle.lay_tree.specs.tokens.Lists.{group_form}
 use Rattle.lay_tree.specs.declared.attr.Attr.{Attr}
+use Rattle.lay_tree.specs.declared.exprs.Expr.{Expr}
 use Rattle.lay_tree.specs.declared.functions.FnHead.{FnHead}
 use Rattle.lay_tree.specs.declared.generics.Generics.{Generics}
 use Rattle.lay_tree.specs.declared.generics.Wheres.{Wheres}
@@ -66,6 +70,8 @@ use Rattle.lay_tree.proofs.reader.AliasComplete.{alias_begins}
 use Rattle.lay_tree.proofs.reader.AttrRead.{attributes_complete}
 use Rattle.lay_tree.proofs.reader.Call.{call_complete, end_read}
 use Rattle.lay_tree.proofs.reader.Exact.{Complete, IsRead, Stands}
+use Rattle.lay_tree.proofs.reader.ExprQuiet.{ends_follow, semicolon_ends_expr}
+use Rattle.lay_tree.proofs.reader.GenericsComplete.{equals_operator}
 use Rattle.lay_tree.proofs.reader.HeadEnds.{semicolon_ends, tail_ends}
 use Rattle.lay_tree.proofs.reader.HeadParts.{body_wheres, brace_ends_wheres, semicolon_ends_wheres, wheres_front, wheres_there}
 use Rattle.lay_tree.proofs.reader.HeadsLevel.{insides_reads}
@@ -79,11 +85,12 @@ use Rattle.lay_tree.proofs.reader.PatternsFronts.{free_quiet}
 use Rattle.lay_tree.proofs.reader.Tokens.{group_complete}
 use Rattle.lay_tree.proofs.reader.TypesComplete.{and_none}
 use Rattle.lay_tree.proofs.reader.TypesCompleteParts.{flag_complete, keyword_there, literal_complete, one_left}
-use Rattle.lay_tree.proofs.reader.TypesFronts.{Ends}
+use Rattle.lay_tree.proofs.reader.TypesFronts.{Ends, equals_quiet, op_first, Quiet}
 use Rattle.lay_tree.proofs.reader.Use.{use_complete}
 use Rattle.lay_tree.proofs.reader.ValueHeads.{value_begins}
 use Rattle.lay_tree.proofs.reader.Vis.{vis_complete, vis_may}
 use Rattle.lay_tree.proofs.reader.Words.{GoodName, name_complete}
+use Rattle.lay_token.specs.Operators.{is_op}
 
 -- what spells a declaration of a macro
 record SpelledRules (n : Name) (g : Group) (depth : ℕ) (ts rest : Tokens) : Type 0 where
@@ -115,16 +122,19 @@ rules_parts n g depth ts rest s =
     unblank Brace f us s = let e : us ≡ s.0 = s.1.1 ∙ s.1.2 in subst (λ z. Spells f depth z rest) (sym e) s.2
 
 -- What stands behind a head before its where clause and a `;` may follow a return type, and the type of a value.
+quiet_type : (x : Ty) (ts : Tokens) → Quiet ts → first (is_keyword (codes "as")) ts ≡ false → type_follows Bounds (about_type x) ts ≡ true
+quiet_type x ts q r = rw (q.plus, and_none (about_type x).bounded, quiet_follows (about_type x).told.refuses ts (free_quiet ts q.free r)) refl
+
 ends_type : (x : Ty) (ts : Tokens) → Ends ts → type_follows Bounds (about_type x) ts ≡ true
-ends_type x ts e = rw (e.quiet.plus, and_none (about_type x).bounded, quiet_follows (about_type x).told.refuses ts (free_quiet ts e.quiet.free e.pattern.rename)) refl
+ends_type x ts e = quiet_type x ts e.quiet e.pattern.rename
 
 ends_output : (x : Option Ty) (ts : Tokens) → Ends ts → output_follows x ts ≡ true
 ends_output None ts e = rw e.quiet.free.arrow refl
 ends_output (Some x) ts e = ends_type x ts e
 
-ends_value : (x : ValueHead) (ts : Tokens) → Ends ts → value_follows x ts ≡ true
-ends_value (value.Const name x) ts e = ends_type x ts e
-ends_value (value.Static mutable name x) ts e = ends_type x ts e
+quiet_value : (x : ValueHead) (ts : Tokens) → Quiet ts → first (is_keyword (codes "as")) ts ≡ false → value_follows x ts ≡ true
+quiet_value (value.Const name x) ts q r = quiet_type x ts q r
+quiet_value (value.Static mutable name x) ts q r = quiet_type x ts q r
 
 -- ---- each kind, where what is within it is read
 
@@ -136,7 +146,9 @@ record KindRead (at : Site) (within : ItemWithin) (depth : ℕ) (k : ItemKind) (
   read : IsRead depth (kind_by at within lead) k ts rest
 
 module _ (heads : HeadsComplete) (at : Site) (depth : ℕ) (within : ItemWithin) (inner : PatReads depth within.heads)
-    (items : (s : Site) → Complete (about_item s) depth (within.items s)) (trees : Complete about_use depth within.trees) where
+    (items : (s : Site) → Complete (about_item s) depth (within.items s)) (trees : Complete about_use depth within.trees)
+    (values : (x : Expr) (ts rest : Tokens) → Spells (about_expr x).form depth ts rest → placed (about_expr x) FREE ≡ true
+    → follows (about_expr x) FREE rest ≡ true → IsRead depth within.exprs x ts rest) where
   -- what ends in a `;`
   ended_by : (f : Form) (ts rest : Tokens) → Spells (I0 f (piece semicolon)) depth ts rest
       → (mid : Tokens) × Spells f depth ts mid × IsOne Punct (codes ";") mid rest
@@ -284,22 +296,46 @@ module _ (heads : HeadsComplete) (at : Site) (depth : ℕ) (within : ItemWithin)
       let r = heads.enums depth within.heads inner x ts rest s.0 goods.0 refl in
       record { lead = OfEnum; leads = enum_lead ts w.0 w.2; stands = goods.1; read = (r.0, r.1, rw r.2 refl) }
 
-  value_made : (x : ValueHead) (need : ℕ) (ts mid rest : Tokens) → value_head within.heads.kinds ts ≡ Some ((x, need), mid) → IsOne Punct (codes ";") mid rest
-      → may_lack_value at x ≡ true → value_by at within ts ≡ Some ((item.Value x, need), rest)
+  value_made : (x : ValueHead) (value : Option Expr) (need more : ℕ) (ts mid end rest : Tokens) → value_head within.heads.kinds ts ≡ Some ((x, need), mid)
+      → if_read (is_op (codes "=") mid) (λ us. within.exprs (drop 1 us)) mid ≡ Some ((value, more), end) → IsOne Punct (codes ";") end rest
+      → may_be_valued at x (is_some value) ≡ true → value_by at within ts ≡ Some ((item.Value x value, max need more), rest)
   unfolding value_by
-  value_made x need ts mid rest v e m = rw (v, mark_passed (codes ";") mid rest e, m) refl
+  value_made x value need more ts mid end rest v w e m = rw (v, w, mark_passed (codes ";") end rest e, m) refl
+
+  -- A value is read behind the type, which it may follow as what ends the item may.
+  value_there : (x : ValueHead) (value : Option Expr) (ts end rest : Tokens)
+      → Spells (value_form value) depth ts end → value_placed value ≡ true → IsOne Punct (codes ";") end rest
+      → (value_follows x ts ≡ true) × IsRead depth (λ us. if_read (is_op (codes "=") us) (λ vs. within.exprs (drop 1 vs)) us) value ts end
+  value_there x None ts end rest s g o =
+      let e : Ends end = (semicolon_ends end rest o).0 in
+      (quiet_value x ts (subst Quiet (sym s) e.quiet) (rw s e.pattern.rename), (0, omega arith, rw s (rw e.equals refl)))
+  value_there x (Some y) ts end rest s g o =
+      let q = equals_operator ts s.0 s.1 in
+      let spelled = part_alone (about_expr y).form depth s.0 end s.2 in
+      let r = values y s.0 end spelled g (ends_follow (about_expr y) FREE end (semicolon_ends_expr false end rest o)) in
+      (quiet_value x ts (equals_quiet ts q.0) (rw (op_first 61 [] ts q.0).3 refl), (r.0, r.1, rw (q.0, q.1, r.2) refl))
 
   value_lead : (x : ValueHead) (ts rest : Tokens) → Spells (about_value_head x).form depth ts rest → is_value_head x ≡ true → item_lead ts ≡ OfValue
   value_lead (value.Const g x) ts rest s h = const_lead g x depth ts rest s (and_parts (is_given g) (good_at Bounds (about_type x)) h).0
   value_lead (value.Static mutable n x) ts rest s h = let b = value_begins (value.Static mutable n x) depth ts rest s in static_lead ts b.0 b.1
 
-  value_read : (x : ValueHead) (ts rest : Tokens) → KindAt at depth (item.Value x) ts rest → KindRead at within depth (item.Value x) ts rest
-  value_read x ts rest g =
-      let s = spelled_as at depth (item.Value x) _ ts rest (laws.value_is x) g in
-      let goods = and_parts (is_value_head x) (may_lack_value at x) s.1 in
-      let e = ended_by (value_head_form x) ts rest s.0 in
-      let r = heads.values depth within.heads inner x ts e.0 e.1 goods.0 (ends_value x e.0 (semicolon_ends e.0 rest e.2).0) in
-      record { lead = OfValue; leads = value_lead x ts e.0 e.1 goods.0; stands = refl; read = (r.0, r.1, value_made x r.0 ts e.0 rest r.2 e.2 goods.1) }
+  value_read : (x : ValueHead) (value : Option Expr) (ts rest : Tokens) → KindAt at depth (item.Value x value) ts rest
+      → KindRead at within depth (item.Value x value) ts rest
+  value_read x value ts rest g =
+      let s = spelled_as at depth (item.Value x value) _ ts rest (laws.value_is x value) g in
+      let whole = and_parts (is_value_head x && may_be_valued at x (is_some value)) (value_placed value) s.1 in
+      let goods = and_parts (is_value_head x) (may_be_valued at x (is_some value)) whole.0 in
+      let e = ended_by (Part (value_head_form x) (value_form value)) ts rest s.0 in
+      let head = e.1 in
+      let v = value_there x value head.0 e.0 rest head.2 whole.1 e.2 in
+      let r = heads.values depth within.heads inner x ts head.0 head.1 goods.0 v.0 in
+      let w = v.1 in
+      record {
+        lead = OfValue;
+        leads = value_lead x ts head.0 head.1 goods.0;
+        stands = refl;
+        read = (max r.0 w.0, omega (arith, r.1, w.1), value_made x value r.0 w.0 ts head.0 e.0 rest r.2 w.2 e.2 goods.1);
+      }
 
   -- a where clause and a body behind a head
   record Behind (w : Wheres) (attrs : List Attr) (s : Site) (members : List Item) (ts rest : Tokens) : Type 0 where
@@ -477,7 +513,7 @@ module _ (heads : HeadsComplete) (at : Site) (depth : ℕ) (within : ItemWithin)
       by _ (IsStruct x) g = struct_read x ts rest g
       by _ (IsUnion x) g = union_read x ts rest g
       by _ (IsEnum x) g = enum_read x ts rest g
-      by _ (IsValue x) g = value_read x ts rest g
+      by _ (IsValue x value) g = value_read x value ts rest g
       by _ (IsTrait h w attrs members) g = trait_read h w attrs members ts rest g
       by _ (IsImpl h w attrs members) g = impl_read h w attrs members ts rest g
       by _ (IsForeign is_unsafe abi attrs members) g = foreign_read is_unsafe abi attrs members ts rest g
@@ -505,10 +541,16 @@ module _ (heads : HeadsComplete) (at : Site) (depth : ℕ) (within : ItemWithin)
       let v = vis_complete one.vis depth p.seen p.mid p.vis p.good (vis_may one.vis p.mid front.vis front.paren) in
       (suc k.0, omega (arith, k.1), item_made one k.0 ts p.seen p.mid rest (attributes_complete false one.attrs depth ts p.seen p.attrs begins.1) v k.2 p.may)
 
-pub item_complete : HeadsComplete → (at : Site) (depth budget : ℕ) → depth ≤ budget → Complete (about_item at) depth (item_at at budget)
+-- What is proved of expressions: what stands there free is read.
+abbrev pub ValuesComplete : Type 0
+ValuesComplete = (x : Expr) (depth budget : ℕ) (ts rest : Tokens) → depth ≤ budget → Spells (about_expr x).form depth ts rest
+    → placed (about_expr x) FREE ≡ true → follows (about_expr x) FREE rest ≡ true → IsRead depth (expr_at FREE budget) x ts rest
+
+pub item_complete : HeadsComplete → ValuesComplete → (at : Site) (depth budget : ℕ) → depth ≤ budget → Complete (about_item at) depth (item_at at budget)
 unfolding item_at
-item_complete heads at zero budget h one ts rest s = absurd (item_none at one ts rest s.0)
-item_complete heads at (suc depth) zero h one ts rest s = absurd (omega arith)
-item_complete heads at (suc depth) (suc budget) h one ts rest s =
-    item_by_complete heads at depth (record { items = λ s us. item_at s budget us; trees = use_at budget; heads = insides budget })
-    (insides_reads depth budget (omega arith)) (λ s. item_complete heads s depth budget (omega arith)) (use_complete depth budget (omega arith)) one ts rest s
+item_complete heads values at zero budget h one ts rest s = absurd (item_none at one ts rest s.0)
+item_complete heads values at (suc depth) zero h one ts rest s = absurd (omega arith)
+item_complete heads values at (suc depth) (suc budget) h one ts rest s =
+    item_by_complete heads at depth (record { items = λ s us. item_at s budget us; trees = use_at budget; heads = insides budget; exprs = expr_at FREE budget })
+    (insides_reads depth budget (omega arith)) (λ s. item_complete heads values s depth budget (omega arith)) (use_complete depth budget (omega arith))
+    (λ x us left s g f. values x depth budget us left (omega arith) s g f) one ts rest s

@@ -1,19 +1,21 @@
 -- What an item is: what is read is spelled, kind by kind.
-use Rattle.std.proofs.Common.{◌≡◌, ℕ, ◌≤◌, max, true, ◌&&◌, List, [], ◌∷◌, map, codes, Option, Some, None, inl, inr, refl, sym, subst, arith}
+use Rattle.std.proofs.Common.{◌≡◌, ℕ, ◌≤◌, max, true, ◌&&◌, List, [], ◌∷◌, map, codes, Option, Some, None, inl, inr, refl, sym, subst, arith, drop, zero, false, is_some}
 use Rattle.std.proofs.lemmas.Bool.{and_from}
 use Rattle.lay_piece.specs.declared.kind.Kind.TheVariants.{Punct}
-use Rattle.lay_form.specs.Form.{Blank, Fixed, Form, Done, Piece, Part, keyword}
+use Rattle.lay_form.specs.Form.{Blank, Fixed, Form, Done, Piece, Part, keyword, Operator}
 use Rattle.lay_form.specs.Notation.{I0, piece}
-use Rattle.lay_form.specs.Spelled.{AreBits, IsOne, Spells}
+use Rattle.lay_form.specs.Spelled.{AreBits, IsOne, Spells, IsOperator}
 use Rattle.lay_form.proofs.FormLaws.{is_end}
 use Rattle.lay_form.proofs.FormLaws.{deeper as raise}
 use Rattle.lay_tree.specs.Ahead.{Tokens, first, tail, is_keyword, is_mark}
 use Rattle.lay_tree.specs.Words.{is_string}
 use Rattle.lay_tree.specs.nodes.Attr.{are_attrs}
+use Rattle.lay_tree.specs.nodes.Exprs.{placed, about_expr}
 use Rattle.lay_tree.specs.nodes.Functions.{about_fn_head, fn_head_form, is_fn_head}
-use Rattle.lay_tree.specs.nodes.Heads.{HeadFacts, about_alias, about_enum, about_extern_crate, about_impl_head, about_struct, about_union, about_value_head, headed, impl_head_form, is_impl_head, is_trait_head, is_value_head, leads, trait_head_form, unsafe_form}
+use Rattle.lay_tree.specs.nodes.Heads.{HeadFacts, about_alias, about_enum, about_extern_crate, about_impl_head, about_struct, about_union, about_value_head, headed, impl_head_form, is_impl_head, is_trait_head, is_value_head, leads, trait_head_form, unsafe_form, value_head_form}
 use Rattle.lay_tree.specs.nodes.Item as node
-use Rattle.lay_tree.specs.nodes.Item.{KindFacts, about_file_module, about_foreign, about_function, about_impl, about_import, about_item, about_module, about_trait, about_value, by_site, foreign_abi, in_module, in_modules, items_good, may_lack_body, may_lack_value, module_head, told_of_item, told_of_kind}
+use Rattle.lay_tree.specs.nodes.Item.{KindFacts, about_file_module, about_foreign, about_function, about_impl, about_import, about_item, about_module, about_trait, about_value, by_site, foreign_abi, in_module, in_modules, items_good, may_lack_body, may_lack_value, module_head, told_of_item, told_of_kind, value_form, value_placed, may_be_valued}
+use Rattle.lay_tree.specs.nodes.Places.{FREE}
 use Rattle.lay_tree.specs.nodes.Types.{is_abi_name}
 use Rattle.lay_tree.specs.nodes.Use.{about_use}
 use Rattle.lay_tree.specs.nodes.Where.{are_predicates, predicate_form, wheres_before_body, wheres_before_semicolon}
@@ -23,10 +25,11 @@ use Rattle.lay_tree.specs.reader.Exact.{InText}
 use Rattle.lay_tree.specs.reader.Item.{ItemWithin, foreign_by, function_by, impl_by, import_by, item_body, module_by, trait_by, value_by}
 use Rattle.lay_tree.specs.reader.Loops.{Read, ◌>>=◌, passed}
 use Rattle.lay_tree.specs.reader.Patterns.{PatWithin}
-use Rattle.lay_tree.specs.reader.Types.{if_there, is_string_token, literal}
+use Rattle.lay_tree.specs.reader.Types.{if_there, is_string_token, literal, if_read}
 use Rattle.lay_tree.specs.reader.Where.{wheres}
 use Rattle.lay_tree.specs.reader.Words.{name}
 use Rattle.lay_tree.specs.declared.attr.Attr.{Attr}
+use Rattle.lay_tree.specs.declared.exprs.Expr.{Expr}
 use Rattle.lay_tree.specs.declared.generics.Wheres.{Wheres}
 use Rattle.lay_tree.specs.declared.heads.Alias.{Alias}
 use Rattle.lay_tree.specs.declared.heads.Enum.{Enum}
@@ -44,13 +47,15 @@ use Rattle.lay_tree.proofs.Parts.{bit_piece, leaf_spelled, word_kind}
 use Rattle.lay_tree.proofs.Steps.{bind_some, chosen, same_some}
 use Rattle.lay_tree.proofs.nodes.ItemLaws as laws
 use Rattle.lay_tree.proofs.reader.Exact.{Sound}
+use Rattle.lay_tree.proofs.reader.ExprSoundLevel.{ExprHeld}
 use Rattle.lay_tree.proofs.reader.HeadParts.{semicolon_wheres, wheres_held}
 use Rattle.lay_tree.proofs.reader.HeadsLevel.{SoundHead, StoodFree}
 use Rattle.lay_tree.proofs.reader.ItemBodies.{body_sound}
 use Rattle.lay_tree.proofs.reader.Loops.{SoundStep}
 use Rattle.lay_tree.proofs.reader.PatternsSoundLevel.{SoundPatWithin}
-use Rattle.lay_tree.proofs.reader.TypesSoundParts.{Out, bit_texts, flag_leads, flag_texts, if_there_sound, keyword_passed_is, literal_sound}
+use Rattle.lay_tree.proofs.reader.TypesSoundParts.{Out, bit_texts, flag_leads, flag_texts, if_there_sound, keyword_passed_is, literal_sound, if_read_sound}
 use Rattle.lay_tree.proofs.reader.Words.{name_sound}
+use Rattle.lay_token.specs.Operators.{is_op}
 
 -- What is proved of the heads: what is read of them stands there.
 pub record HeadsSound : Type 0 where
@@ -185,23 +190,49 @@ module _ (heads : HeadsSound) (at : Site) (budget : ℕ) (within : ItemWithin) (
         bit_texts (Fixed Punct (codes ";")) w.0.1 e.0 mark u.1,
       )
 
-  pub value_sound : SoundStep (value_by at within) (KindHeld at budget)
+  -- the value of a constant or of a static, if it has one
+  abbrev ValueHeld : Option Expr × ℕ → Tokens → Tokens → Type 0
+  ValueHeld x ts rest = (x.1 ≤ budget) × Spells (value_form x.0) x.1 ts rest × (value_placed x.0 ≡ true)
+
+  value_if_sound : SoundStep within.exprs (ExprHeld FREE budget) → (ts : Tokens) (x : Option Expr × ℕ) (rest : Tokens) → InText ts
+      → if_read (is_op (codes "=") ts) (λ us. within.exprs (drop 1 us)) ts ≡ Some (x, rest) → Out ValueHeld ts (x, rest)
+  value_if_sound values ts x rest t h =
+      if_read_sound ValueHeld (λ us. within.exprs (drop 1 us)) (is_op (codes "=") ts) ts
+      (λ b y mid e.
+      let at = drop 1 ts in
+      let o : IsOperator (codes "=") ts at = (b, refl) in
+      let s = values at y mid (bit_texts (Operator (codes "=")) ts at o t) e in
+      ((s.0.0, (at, (ts, refl, (at, o, (at, refl, refl))), (mid, s.0.1, refl)), s.0.2), s.1))
+      (λ b. (omega arith, refl, refl)) t x rest h
+
+  pub value_sound : SoundStep within.exprs (ExprHeld FREE budget) → SoundStep (value_by at within) (KindHeld at budget)
   unfolding value_by
-  value_sound ts x rest t h =
+  value_sound values ts x rest t h =
       let v = bind_some (value_head within.heads.kinds ts) _ _ h in
-      let e = bind_some (semicolon v.0.1) _ _ v.2 in
+      let w = bind_some (if_read (is_op (codes "=") v.0.1) (λ us. within.exprs (drop 1 us)) v.0.1) _ _ v.2 in
+      let e = bind_some (semicolon w.0.1) _ _ w.2 in
       let s = heads.values budget within.heads inner ts v.0.0 v.0.1 t v.1 in
+      let u = value_if_sound values v.0.1 w.0.0 w.0.1 s.1 w.1 in
       let k = s.0 in
-      let mark = mark_passed_is (codes ";") v.0.1 e.0 e.1 in
+      let q = u.0 in
+      let mark = mark_passed_is (codes ";") w.0.1 e.0 e.1 in
       let head = v.0.0.0 in
-      let n = v.0.0.1 in
-      let spelled : Spells (alone (by_site (λ s. about_value s head))) n ts e.0 = (v.0.1, k.1, bit_piece (Fixed Punct (codes ";")) n v.0.1 e.0 mark) in
-      elim (chosen (may_lack_value at head) (Some ((item.Value head, n), e.0)) None (Some (x, rest)) e.2) [
+      let value = w.0.0.0 in
+      let need = max v.0.0.1 w.0.0.1 in
+      let inside : Spells (Part (value_head_form head) (value_form value)) need ts w.0.1 = (
+        v.0.1,
+        raise (value_head_form head) v.0.0.1 need ts v.0.1 (omega arith) k.1,
+        raise (value_form value) w.0.0.1 need v.0.1 w.0.1 (omega arith) q.1,
+      ) in
+      let spelled : Spells (alone (by_site (λ s. about_value s head value))) need ts e.0 =
+      (w.0.1, inside, bit_piece (Fixed Punct (codes ";")) need w.0.1 e.0 mark) in
+      elim (chosen (may_be_valued at head (is_some value)) (Some ((item.Value head value, need), e.0)) None (Some (x, rest)) e.2) [
         | inl g ↦
-            let good = and_from (is_value_head head) (may_lack_value at head) k.2 g.0 in
-            same_some (Out (KindHeld at budget) ts) ((item.Value head, n), e.0) (x, rest) g.1 (
-              (k.0, kind_told at n (item.Value head) (by_site (λ s. about_value s head)) ts e.0 (laws.value_is head) spelled good),
-              bit_texts (Fixed Punct (codes ";")) v.0.1 e.0 mark s.1,
+            let good = and_from (is_value_head head && may_be_valued at head (is_some value)) (value_placed value)
+            (and_from (is_value_head head) (may_be_valued at head (is_some value)) k.2 g.0) q.2 in
+            same_some (Out (KindHeld at budget) ts) ((item.Value head value, need), e.0) (x, rest) g.1 (
+              (omega (arith, k.0, q.0), kind_told at need (item.Value head value) (by_site (λ s. about_value s head value)) ts e.0 (laws.value_is head value) spelled good),
+              bit_texts (Fixed Punct (codes ";")) w.0.1 e.0 mark u.1,
             )
         | inr g ↦ absurd (cc)
       ]

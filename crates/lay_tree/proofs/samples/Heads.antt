@@ -216,7 +216,7 @@ abbrev pub static_C : ValueHead
 static_C = value.Static true (named (codes "C")) u8
 
 abbrev pub foreign_static : Item
-foreign_static = unseen (item.Value static_C)
+foreign_static = unseen (item.Value static_C None)
 
 abbrev varying_params : List Form
 varying_params = Part (Part (pat_facts (Pat-F.Bind false false (named b) None)).told.form (Piece colon (Part (type_form (codes "u8")) Done))) Done
@@ -233,11 +233,11 @@ varying_is =
     rw (told_is vis.Public _ _ (items.function_is varying no_wheres), named_is (codes "u8"), pats.pat_bind_is false false (named b) None) refl
 
 abbrev static_form : Form
-static_form = headed (Piece (keyword (codes "static") ∷ Blank ∷ []) (Piece mut_word (leaf_of false (codes "C") (Piece colon (Part (type_form (codes "u8")) Done)))))
+static_form = headed (Part (Piece (keyword (codes "static") ∷ Blank ∷ []) (Piece mut_word (leaf_of false (codes "C") (Piece colon (Part (type_form (codes "u8")) Done))))) Done)
     (piece semicolon)
 
 static_is : (about foreign_static).form ≡ static_form
-static_is = rw (told_is vis.Inherited _ _ (items.value_is static_C), named_is (codes "u8")) refl
+static_is = rw (told_is vis.Inherited _ _ (items.value_is static_C None), named_is (codes "u8")) refl
 
 foreign_is : (about (unseen (item.Foreign false (Some string_C) [] (foreign_function ∷ foreign_static ∷ [])))).form
     ≡ headed (Piece (keyword (codes "extern") ∷ []) (Piece (Blank ∷ []) (literal_form string_C Done))) (body (Blank ∷ []) [] (varying_form ∷ static_form ∷ []))

@@ -367,7 +367,7 @@ read_extern_C =
     rw (
       lone (codes "b"),
       items.function_is varying no_wheres,
-      items.value_is static_C,
+      items.value_is static_C None,
       items.foreign_is false (Some string_C) [] (foreign_function ∷ foreign_static ∷ []),
     )
     refl

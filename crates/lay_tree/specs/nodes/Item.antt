@@ -2,20 +2,23 @@
 use Rattle.std.specs.Prelude.{Bool, true, false, ◌&&◌, ◌||◌, List, [], ◌∷◌, ◌++◌, map, codes, Option, Some, None, is_some}
 use Rattle.std.specs.List.{list_all}
 use Rattle.lay_form.specs.Form.{Blank, Operator, Form, Done, Piece, Part, Deeper, keyword, semicolon}
-use Rattle.lay_form.specs.Notation.{I0, piece, body, behind_attrs}
+use Rattle.lay_form.specs.Notation.{I0, piece, body, behind_attrs, N}
 use Rattle.lay_tree.specs.Words.{is_name, leaf_of}
 use Rattle.lay_tree.specs.nodes.Attr.{are_attrs, attr_form}
 use Rattle.lay_tree.specs.nodes.Call.{is_group, before_rules, end_form, about_call}
+use Rattle.lay_tree.specs.nodes.Exprs.{about_expr, placed}
 use Rattle.lay_tree.specs.nodes.Facts.{Facts}
 use Rattle.lay_tree.specs.nodes.Fields.{blank_if}
 use Rattle.lay_tree.specs.nodes.Functions.{fn_head_form, is_fn_head}
 use Rattle.lay_tree.specs.nodes.Heads.{HeadFacts, about_alias, about_enum, about_extern_crate, about_struct, about_union, impl_head_form, is_impl_head, is_trait_head, is_value_head, leads, trait_head_form, unsafe_form, value_head_form}
-use Rattle.lay_tree.specs.nodes.Types.{is_abi_name, literal_form}
+use Rattle.lay_tree.specs.nodes.Places.{FREE}
+use Rattle.lay_tree.specs.nodes.Types.{is_abi_name, literal_form, equals}
 use Rattle.lay_tree.specs.nodes.Use.{about_use}
 use Rattle.lay_tree.specs.nodes.Vis.{is_vis, vis_form}
 use Rattle.lay_tree.specs.nodes.Where.{are_predicates, wheres_before_body, wheres_before_semicolon}
 use Rattle.lay_tree.specs.tokens.Lists.{group_form}
 use Rattle.lay_tree.specs.declared.attr.Attr.{Attr}
+use Rattle.lay_tree.specs.declared.exprs.Expr.{Expr}
 use Rattle.lay_tree.specs.declared.functions.FnHead.{FnHead}
 use Rattle.lay_tree.specs.declared.generics.Wheres.{Wheres}
 use Rattle.lay_tree.specs.declared.heads.ImplHead.{ImplHead}
@@ -53,6 +56,18 @@ abbrev pub may_lack_value : Site → ValueHead → Bool
 may_lack_value site.TraitMember (value.Const name x) = true
 may_lack_value site.Foreign (value.Static mutable name x) = true
 may_lack_value _ _ = false
+
+-- It may have one but in a foreign block, and a static in a module alone.
+abbrev pub may_have_value : Site → ValueHead → Bool
+may_have_value site.Module head = true
+may_have_value site.Foreign head = false
+may_have_value _ (value.Const name x) = true
+may_have_value _ (value.Static mutable name x) = false
+
+-- The flag says that it has one.
+abbrev pub may_be_valued : Site → ValueHead → Bool → Bool
+may_be_valued site head true = may_have_value site head
+may_be_valued site head false = may_lack_value site head
 
 -- ---- what is told of an item, and of what it is
 
@@ -110,8 +125,20 @@ about_function site head wheres = record {
   good = is_fn_head site head && are_predicates wheres && may_lack_body site;
 }
 
-abbrev pub about_value : Site → ValueHead → HeadFacts
-about_value site head = record { head = value_head_form head; tail = piece semicolon; good = is_value_head head && may_lack_value site head }
+abbrev pub value_form : Option Expr → Form
+value_form None = Done
+value_form (Some x) = Piece equals (N (Part (about_expr x).form Done))
+
+abbrev pub value_placed : Option Expr → Bool
+value_placed None = true
+value_placed (Some x) = placed (about_expr x) FREE
+
+abbrev pub about_value : Site → ValueHead → Option Expr → HeadFacts
+about_value site head value = record {
+  head = Part (value_head_form head) (value_form value);
+  tail = piece semicolon;
+  good = is_value_head head && may_be_valued site head (is_some value) && value_placed value;
+}
 
 abbrev pub about_trait : TraitHead → Wheres → List Attr → List ItemFacts → HeadFacts
 about_trait head wheres attrs items = record {
@@ -167,7 +194,7 @@ kind_facts (ItemKind-F.Alias x) = by_site (λ site. about_alias site x)
 kind_facts (ItemKind-F.Struct x) = in_modules (about_struct x)
 kind_facts (ItemKind-F.Union x) = in_modules (about_union x)
 kind_facts (ItemKind-F.Enum x) = in_modules (about_enum x)
-kind_facts (ItemKind-F.Value head) = by_site (λ site. about_value site head)
+kind_facts (ItemKind-F.Value head value) = by_site (λ site. about_value site head value)
 kind_facts (ItemKind-F.Trait head wheres attrs items) = in_modules (about_trait head wheres attrs items)
 kind_facts (ItemKind-F.Impl head wheres attrs items) = in_modules (about_impl head wheres attrs items)
 kind_facts (ItemKind-F.Foreign is_unsafe abi attrs items) = in_modules (about_foreign is_unsafe abi attrs items)

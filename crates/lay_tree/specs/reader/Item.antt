@@ -3,20 +3,23 @@ use Rattle.std.specs.Prelude.{ℕ, zero, suc, max, not, ◌&&◌, ◌||◌, Bool
 use Rattle.lay_token.specs.Operators.{is_op}
 use Rattle.lay_piece.specs.declared.kind.Delim.TheVariants.{Brace}
 use Rattle.lay_tree.specs.Ahead.{Tokens, first, tail, is_keyword, is_mark, opens, closes}
-use Rattle.lay_tree.specs.nodes.Item.{told_of_kind, in_module, is_inherited, may_lack_body, may_lack_value}
+use Rattle.lay_tree.specs.nodes.Item.{told_of_kind, in_module, is_inherited, may_be_valued, may_lack_body}
+use Rattle.lay_tree.specs.nodes.Places.{FREE}
 use Rattle.lay_tree.specs.reader.Attr.{attributes}
 use Rattle.lay_tree.specs.reader.Call.{call, behind_end}
+use Rattle.lay_tree.specs.reader.Exprs.{expr_at}
 use Rattle.lay_tree.specs.reader.Functions.{behind_qualifiers, fn_head, insides}
 use Rattle.lay_tree.specs.reader.Heads.{alias, enum, extern_crate, impl_head, semicolon, struct, trait_head, union, unsafe_flag, value_head}
 use Rattle.lay_tree.specs.reader.Loops.{Got, Read, ◌>>=◌, passed, nodes, deepest, repeat}
 use Rattle.lay_tree.specs.reader.Patterns.{PatWithin}
 use Rattle.lay_tree.specs.reader.Tokens.{group}
-use Rattle.lay_tree.specs.reader.Types.{if_there, is_string_token, literal}
+use Rattle.lay_tree.specs.reader.Types.{if_there, is_string_token, literal, if_read}
 use Rattle.lay_tree.specs.reader.Use.{use_at}
 use Rattle.lay_tree.specs.reader.Vis.{visibility}
 use Rattle.lay_tree.specs.reader.Where.{wheres}
 use Rattle.lay_tree.specs.reader.Words.{name}
 use Rattle.lay_tree.specs.declared.attr.Attr.{Attr}
+use Rattle.lay_tree.specs.declared.exprs.Expr.{Expr}
 use Rattle.lay_tree.specs.declared.heads.Site.{Site}
 use Rattle.lay_tree.specs.declared.heads.Site.TheVariants as site
 use Rattle.lay_tree.specs.declared.item.Item.{Item}
@@ -36,11 +39,12 @@ more_items ts = not (ends_items ts)
 unfoldable pub items_by : (Tokens → Read Item) → Tokens → Got (List (Item × ℕ))
 items_by one ts = repeat more_items one ts
 
--- How what is one level deeper is read: items at a site, use trees, and what is within heads.
+-- How what is one level deeper is read: items at a site, use trees, what is within heads, and values.
 pub record ItemWithin : Type 0 where
   pub items : Site → Tokens → Read Item
   pub trees : Tokens → Read UseTree
   pub heads : PatWithin
+  pub exprs : Tokens → Read Expr
 
 -- inner attributes and items at a site, in braces
 unfoldable pub item_body : ItemWithin → Site → Tokens → Read (List Attr × List Item)
@@ -134,8 +138,9 @@ function_by at within ts = do
 unfoldable pub value_by : Site → ItemWithin → Tokens → Read ItemKind
 value_by at within ts = do
   h ← value_head within.heads.kinds ts
-  rest ← semicolon h.1
-  if may_lack_value at h.0.0 then Some ((item.Value h.0.0, h.0.1), rest) else None
+  v ← if_read (is_op (codes "=") h.1) (λ us. within.exprs (drop 1 us)) h.1
+  rest ← semicolon v.1
+  if may_be_valued at h.0.0 (is_some v.0.0) then Some ((item.Value h.0.0 v.0.0, max h.0.1 v.0.1), rest) else None
 
 unfoldable pub trait_by : ItemWithin → Tokens → Read ItemKind
 trait_by within ts = do
@@ -211,4 +216,4 @@ item_by at within ts = do
 unfoldable pub item_at : Site → ℕ → Tokens → Read Item
 item_at at zero ts = None
 item_at at (suc budget) ts =
-    item_by at (record { items = λ s us. item_at s budget us; trees = use_at budget; heads = insides budget }) ts
+    item_by at (record { items = λ s us. item_at s budget us; trees = use_at budget; heads = insides budget; exprs = expr_at FREE budget }) ts

@@ -66,9 +66,9 @@ add_kind-returns-in-Enum g t c = adds c.add_enum.ensures (kind_of c.args.vis.now
 
 pub add_kind-returns-in-Value : goal.add_kind-returns-in-Value
 add_kind-returns-in-Value g t c =
-    adds c.add_ended-in-Value.ensures
-    (headed c.args.vis.now (about_value Module c.in-Value.head) steady_semicolon
-    ∙ kind_of c.args.vis.now c.in-Value.is (value_is _))
+    adds c.add_valued.ensures
+    (headed c.args.vis.now (about_value Module c.in-Value.head c.in-Value.value) steady_semicolon
+    ∙ kind_of c.args.vis.now c.in-Value.is (value_is _ _))
 
 pub add_kind-returns-in-Trait : goal.add_kind-returns-in-Trait
 add_kind-returns-in-Trait g t c =

@@ -1,0 +1,17 @@
+pub returns-in_err-found : goal.returns-in_err-found
+returns-in_err-found c =
+    let place = c.args.place in
+    let p = err_from_is_err_and c.from_residual.result c.from_residual.ensures.1 in
+    rw (p.1, p.2) (none_read (expr_at place) (λ (x : Expr). ExprFront place (about_expr x)) (exprs_exact place)
+    (λ x. front_deeper (about_expr x).form (placed (about_expr x) place) (follows (about_expr x) place))
+    c.args.depth c.args.at.now c.requires c.new-ahead.result (c.new-ahead.ensures ∙ c.fork.ensures)
+    c.in_err-found.field-0.0 c.in_err-found.ensures.read)
+
+pub returns : goal.returns
+returns c =
+    let place = c.args.place in
+    let found = c.in_ok-found.found in
+    rw c.into_cursor.ensures (node_read (expr_at place) (λ (x : Expr). ExprFront place (about_expr x)) (exprs_exact place)
+    (λ x. front_deeper (about_expr x).form (placed (about_expr x) place) (follows (about_expr x) place))
+    c.args.depth c.args.at.now c.requires c.new-ahead.result (c.new-ahead.ensures ∙ c.fork.ensures)
+    found.node found.need c.expr_ahead.new.at c.in_ok-found.ensures.read)
