@@ -6,23 +6,26 @@ use Rattle.lay_layout.specs.declared.layout.Tok.{Tok}
 use Rattle.lay_layout.specs.declared.layout.Tok.TheVariants as tok
 use Rattle.lay_stream.specs.Fed.{Meanings}
 use Rattle.lay_stream.proofs.Calls.{opened_append}
-use Rattle.lay_form.specs.Form.{Form, Done, Hard, Part}
+use Rattle.lay_form.specs.Form.{Form, Done, Hard, Part, Never}
 use Rattle.lay_form.specs.Layout.{break_of, document}
 use Rattle.lay_form.specs.Notation.{H, behind_attrs, body, each, lines}
 use Rattle.lay_form.specs.Stream.{stream_of}
 use Rattle.lay_form.proofs.StreamLaws.{stream_is}
 use Rattle.lay_tree.specs.Out.{behind_shebang, layout_of_file}
 use Rattle.lay_tree.specs.nodes.Attr.{attr_form}
+use Rattle.lay_tree.specs.nodes.Exprs.{about_expr}
 use Rattle.lay_tree.specs.nodes.Fields.{blank_if}
 use Rattle.lay_tree.specs.nodes.File.{form_of_file}
-use Rattle.lay_tree.specs.nodes.Heads.{HeadFacts, leads, seen}
-use Rattle.lay_tree.specs.nodes.Item.{ItemFacts, KindFacts, about_item, form_of_item, item_body, item_forms, kind_form, told_of_item, told_of_kind}
+use Rattle.lay_tree.specs.nodes.Heads.{HeadFacts, leads, seen, value_head_form}
+use Rattle.lay_tree.specs.nodes.Item.{ItemFacts, KindFacts, about_item, form_of_item, item_body, item_forms, kind_form, told_of_item, told_of_kind, value_form}
 use Rattle.lay_tree.specs.nodes.Vis.{vis_form}
 use Rattle.lay_tree.specs.nodes.Where.{wheres_before_body}
 use Rattle.lay_tree.specs.declared.attr.Attr.{Attr}
+use Rattle.lay_tree.specs.declared.exprs.Expr.{Expr}
 use Rattle.lay_tree.specs.declared.file.File.{File}
 use Rattle.lay_tree.specs.declared.generics.Wheres.{Wheres}
 use Rattle.lay_tree.specs.declared.heads.Site.TheVariants.{Module}
+use Rattle.lay_tree.specs.declared.heads.ValueHead.{ValueHead}
 use Rattle.lay_tree.specs.declared.item.Item.{Item}
 use Rattle.lay_tree.specs.declared.item.ItemKind.{ItemKind}
 use Rattle.lay_tree.specs.declared.vis.Vis.{Vis}

@@ -10,7 +10,9 @@ ghost use Rattle.lay_out_types.specs.Calls.{Adds};
 ghost use Rattle.lay_out_code.specs.Parts.{kind_row, no_forms};
 
 use crate::calls::{add_alias, add_bare_attr, add_enum, add_extern_crate, add_struct, add_union};
-use crate::heads::{add_clause, add_ended, add_ended_clause, add_foreign_head, add_head};
+use crate::heads::{
+    add_clause, add_ended, add_ended_clause, add_foreign_head, add_head, add_valued,
+};
 use crate::macros::{add_call_item, add_macro_rules};
 use lay_out_heads::calls::add_break;
 use lay_out_heads::items::leads;

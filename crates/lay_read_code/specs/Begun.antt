@@ -1,7 +1,9 @@
 -- Items up to their bodies, and what the bodies make of them.
 use Rattle.std.specs.Prelude.{ℕ, max, if◌then◌else◌, List, [], codes, Option, Some, None}
 use Rattle.lay_tree.specs.Ahead.{Tokens, first, tail, is_keyword, is_mark}
+use Rattle.lay_tree.specs.nodes.Places.{FREE}
 use Rattle.lay_tree.specs.reader.Exact.{needless}
+use Rattle.lay_tree.specs.reader.Exprs.{expr_at}
 use Rattle.lay_tree.specs.reader.Functions.{insides}
 use Rattle.lay_tree.specs.reader.Heads.{alias, enum, extern_crate, impl_head, struct, trait_head, union, unsafe_flag}
 use Rattle.lay_tree.specs.reader.Item as reader

@@ -1,17 +1,22 @@
 //! Items up to their bodies.
-ghost use Rattle.std.specs.Prelude.{◌≡◌, ◌≤◌, IfOk};
+ghost use Rattle.std.specs.Prelude.{◌≡◌, ◌≤◌, codes, drop, IfOk};
+ghost use Rattle.lay_token.specs.Operators.{is_op};
 ghost use Rattle.lay_tree.specs.nodes.Item as nodes;
+ghost use Rattle.lay_tree.specs.nodes.Places.{FREE as free};
 ghost use Rattle.lay_tree.specs.reader.Exact.{needless};
+ghost use Rattle.lay_tree.specs.reader.Exprs.{expr_at};
 ghost use Rattle.lay_tree.specs.reader.Heads as heads;
 ghost use Rattle.lay_tree.specs.reader.Item as reader;
-ghost use Rattle.lay_tree.specs.reader.Types.{within};
+ghost use Rattle.lay_tree.specs.reader.Types.{if_read, within};
 ghost use Rattle.lay_tree.specs.declared.item.ItemKind.TheVariants as item;
 ghost use Rattle.lay_read_tokens.specs.Answers.{IsFound};
 ghost use Rattle.lay_read_code.specs.Begun as bodies;
 ghost use Rattle.lay_read_code.specs.Begun.{deeper, node_alone, whole};
 ghost use Rattle.lay_read_code.specs.Leads.{told};
 
+use crate::exprs::expr_ahead;
 use crate::leads::{ItemLead, item_lead, may_stand};
+use lay_read_exprs::places::FREE;
 use lay_read_generics::wheres_ahead;
 use lay_read_heads::functions::fn_head_ahead;
 use lay_read_heads::heads::{
@@ -24,13 +29,15 @@ use lay_read_parts::joins::both;
 use lay_read_parts::parts::read_abi_if;
 use lay_read_tokens::calls::{call_ahead, takes_end};
 use lay_read_tokens::found::greater;
-use lay_read_tokens::front::{pass_two, takes_keyword, takes_mark};
+use lay_read_tokens::front::{pass_two, takes_keyword, takes_mark, takes_op};
 use lay_read_tokens::names::read_name;
 use lay_read_tokens::stop::boxed;
 use lay_read_tokens::tokens::read_group;
 use lay_read_tokens::{Ahead, Found, ReadNone};
 use lay_token::List;
-use lay_tree::{Attr, ImplHead, Item, ItemKind, Literal, Name, Site, TraitHead, ValueHead, Wheres};
+use lay_tree::{
+    Attr, Expr, ImplHead, Item, ItemKind, Literal, Name, Site, TraitHead, ValueHead, Wheres,
+};
 use std::alloc::Global;
 
 /// An item up to its body, or the whole item where it has none.

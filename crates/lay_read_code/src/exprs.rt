@@ -1,5 +1,12 @@
 //! The knot of expressions.
+ghost use Rattle.std.specs.Prelude.{◌≤◌, IfOk};
+ghost use Rattle.lay_tree.specs.reader.Exprs.{expr_at};
+ghost use Rattle.lay_read_tokens.specs.Answers.{IsFound};
 
+use lay_read_exprs::ExprRules;
+use lay_read_tokens::{Ahead, Found, ReadNone};
+use lay_tree::{Expr, Place};
+use std::alloc::Global;
 
 /// An expression at its place, within a depth. Recursion goes one level deeper alone.
 #[cycle(exprs)]

@@ -1,14 +1,17 @@
 //! What stands at the front of the tokens of a text.
+ghost use Rattle.lay_tree.specs.nodes.Exprs.{ExprFront, about_expr};
 ghost use Rattle.lay_tree.specs.nodes.Facts.{Front};
 ghost use Rattle.lay_tree.specs.nodes.Item.{about_item};
+ghost use Rattle.lay_tree.specs.declared.exprs.Expr.{Expr as ExprValue};
 ghost use Rattle.lay_tree.specs.declared.item.Item.{Item as ItemValue};
 ghost use Rattle.lay_read_tokens.specs.Answers.{AreLexed};
 ghost use Rattle.lay_read_parts.specs.Answers.{IsReadAt};
 
+use crate::exprs::expr_ahead;
 use crate::items::item_ahead;
 use lay_nest::Cursor;
 use lay_read_tokens::{Ahead, ReadNone};
-use lay_tree::{Item, Site};
+use lay_tree::{Expr, Item, Place, Site};
 use std::alloc::Global;
 
 /// The expression at the front, at its place and within the depth. Where there is none the cursor stays.

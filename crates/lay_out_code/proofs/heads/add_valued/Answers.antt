@@ -1,3 +1,11 @@
+use Rattle.lay_form.specs.Form.{Part}
+use Rattle.lay_tree.specs.nodes.Heads.{value_head_form}
+use Rattle.lay_tree.specs.nodes.Item.{value_form}
+use Rattle.lay_out_types.proofs.Adding.{adds, adds_on}
+use Rattle.lay_out_heads.proofs.Rows.{may_end_head}
+use Rattle.lay_out_code.proofs.OutLemmas.{valued_head}
+use Rattle.lay_out_code.proofs.heads.add_valued.Goals as goal
+
 pub add_end-requires : goal.add_end-requires
 add_end-requires g c =
     may_end_head c.args.vis.now (Part (value_head_form c.args.head.now) (value_form c.args.value.now))

@@ -1,3 +1,12 @@
+use Rattle.std.proofs.Common.{◌∙◌}
+use Rattle.std.proofs.lemmas.Result.{err_from_is_err_and}
+use Rattle.lay_tree.specs.nodes.Exprs.{ExprFront, about_expr, follows, placed}
+use Rattle.lay_tree.specs.reader.Exprs.{expr_at}
+use Rattle.lay_tree.specs.declared.exprs.Expr.{Expr}
+use Rattle.lay_tree.proofs.reader.ExprExact.{exprs_exact}
+use Rattle.lay_read_parts.proofs.AtFront.{front_deeper, node_read, none_read}
+use Rattle.lay_read_code.proofs.reads.read_expr.Goals as goal
+
 pub returns-in_err-found : goal.returns-in_err-found
 returns-in_err-found c =
     let place = c.args.place in
