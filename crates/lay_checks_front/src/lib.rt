@@ -8,3 +8,5 @@ mod command;
 mod files;
 #[cfg(test)]
 mod runs;
+#[cfg(test)]
+mod values;
