@@ -11,7 +11,7 @@ use Rattle.lay_tree.specs.nodes.Call.{call_form, end_form}
 use Rattle.lay_tree.specs.nodes.Facts.{forms}
 use Rattle.lay_tree.specs.nodes.File.{form_of_file}
 use Rattle.lay_tree.specs.nodes.Heads.{HeadFacts, about_alias, about_enum, about_extern_crate, about_struct, about_union}
-use Rattle.lay_tree.specs.nodes.Item.{ItemFacts, KindFacts, about_file_module, about_foreign, about_function, about_impl, about_import, about_item, about_module, about_trait, about_value, in_modules, item_facts, kind_facts, kind_form, told_of_item, told_of_kind}
+use Rattle.lay_tree.specs.nodes.Item.{ItemFacts, KindFacts, about_file_module, about_foreign, about_function, about_impl, about_import, about_item, about_module, about_trait, about_value, in_modules, item_facts, kind_facts, kind_form, told_of_item, told_of_kind, value_form}
 use Rattle.lay_tree.specs.declared.attr.Attr.{Attr}
 use Rattle.lay_tree.specs.declared.file.File.{File}
 use Rattle.lay_tree.specs.declared.heads.Site.TheVariants as site
@@ -46,8 +46,8 @@ layer_fair (ItemKind-F.Alias x) =
 layer_fair (ItemKind-F.Struct x) = in_modules_fair (about_struct x) (struct_fair x)
 layer_fair (ItemKind-F.Union x) = in_modules_fair (about_union x) (union_fair x)
 layer_fair (ItemKind-F.Enum x) = in_modules_fair (about_enum x) (enum_fair x)
-layer_fair (ItemKind-F.Value head) =
-    record { go = λ v w. seen_fair v (about_value site.Module head) (value_head_fair head) }
+layer_fair (ItemKind-F.Value head value) =
+    record { go = λ v w. seen_fair v (about_value site.Module head value) (value_head_fair head (value_form value)) }
 layer_fair (ItemKind-F.Trait head wheres attrs items) =
     in_modules_fair (about_trait head wheres attrs items) (trait_head_fair head)
 layer_fair (ItemKind-F.Impl head wheres attrs items) =

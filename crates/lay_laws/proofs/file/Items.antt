@@ -142,8 +142,8 @@ layer_passes (ItemKind-F.Alias x) = by_site_passes (λ place. about_alias place 
 layer_passes (ItemKind-F.Struct x) = in_modules_pass (about_struct x) (struct_passes x)
 layer_passes (ItemKind-F.Union x) = in_modules_pass (about_union x) (union_passes x)
 layer_passes (ItemKind-F.Enum x) = in_modules_pass (about_enum x) (enum_passes x)
-layer_passes (ItemKind-F.Value head) =
-    by_site_passes (λ place. about_value place head) (λ place. value_passes place head)
+layer_passes (ItemKind-F.Value head value) =
+    by_site_passes (λ place. about_value place head value) (λ place. value_passes place head value)
 layer_passes (ItemKind-F.Trait head wheres attrs ys) =
     in_modules_pass (about_trait head wheres attrs (told_of ys))
     (trait_passes head wheres attrs (told_of ys) (items_of site.TraitMember ys))

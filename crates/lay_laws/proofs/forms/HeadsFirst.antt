@@ -2,7 +2,7 @@
 -- shebang.
 use Rattle.std.proofs.Common.{[], ◌∷◌, Bool, true, false, refl, codes, Option, Some, None}
 use Rattle.lay_layout.specs.Document.{Document}
-use Rattle.lay_form.specs.Form.{Blank, Form, Piece, keyword}
+use Rattle.lay_form.specs.Form.{Blank, Form, Piece, keyword, Part}
 use Rattle.lay_form.specs.Layout.{laid_out}
 use Rattle.lay_form.specs.Notation.{when}
 use Rattle.lay_tree.specs.nodes.Functions.{fn_head_form, safety_form, signature_form}
@@ -59,9 +59,9 @@ enum_fair x d = low_fair (codes "enum ") refl (λ r. refl) (λ r. refl)
 
 -- ---- other heads
 
-pub value_head_fair : (x : ValueHead) → BeginsFair (value_head_form x)
-value_head_fair (value.Const name x) d = low_fair (codes "const ") refl (λ r. refl) (λ r. refl)
-value_head_fair (value.Static mutable name x) d = low_fair (codes "static ") refl (λ r. refl) (λ r. refl)
+pub value_head_fair : (x : ValueHead) (behind : Form) → BeginsFair (Part (value_head_form x) behind)
+value_head_fair (value.Const name x) behind d = low_fair (codes "const ") refl (λ r. refl) (λ r. refl)
+value_head_fair (value.Static mutable name x) behind d = low_fair (codes "static ") refl (λ r. refl) (λ r. refl)
 
 pub unsafe_fair : (is_unsafe : Bool) (f : Form) → BeginsFair f → BeginsFair (unsafe_form is_unsafe f)
 unsafe_fair true f k d = low_fair (codes "unsafe ") refl (λ r. refl) (λ r. refl)
