@@ -27,8 +27,8 @@ mod kinds;
 
 use kinds::{Call, laid_out};
 use lay_given::repeated;
+use lay_node::TypePlace;
 use lay_text::NoMemory;
-use lay_tree::TypePlace;
 use std::alloc::Global;
 use std::io::Print;
 use std::rt::Clock;

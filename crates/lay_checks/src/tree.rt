@@ -1,8 +1,8 @@
 //! Boxes of a type that holds boxes of its own.
 ghost use Rattle.std.specs.Prelude.{◌≡◌, IfOk};
 
+use lay_node::Boxed;
 use lay_token::NoMemory;
-use lay_tree::Boxed;
 use std::alloc::Global;
 use std::test::Fail;
 

@@ -72,7 +72,8 @@ fn operators(rt: HostRuntime) -> Result<(), Fail> {
         -(a as u8)..→-(a as u8)..§\
         &raw const a as *const u8→&raw const a as *const u8";
     lays(&rt, alloc, casts)?;
-    let others = "!!a→!!a§& &a→&&a§&mut&a→&mut &a§&raw const&raw mut a→&raw const &raw mut a§&raw()→&raw()§\
+    let others =
+        "!!a→!!a§& &a→&&a§&mut&a→&mut &a§&raw const&raw mut a→&raw const &raw mut a§&raw()→&raw()§\
         *raw→*raw§-return→-return§-1. .a()→-1. .a()§\
         ..→..§a..=b→a..=b§a+b..c+d→a + b..c + d§1. ..2.→1. ..2.§return..b→return ..b§(a..b)..c→(a..b)..c§..::b→..::b§\
         a=b..=c=d→a = b..=c = d§a+=b-=c→a += b -= c§_=a→_ = a§a as B<C<D>>=e→a as B<C<D>> = e§a==b=c→a == b = c";
@@ -150,7 +151,8 @@ fn sites(rt: HostRuntime) -> Result<(), Fail> {
         assert!(rt; run, "{given}");
     }
     let refused = Status::Refused(Refusal::NoItem { at: 0 });
-    let texts = "const A:B;§static A:B;§impl A{const B:C;}§impl A{static B:C=d;}§trait A{static B:C=d;}§extern{static A:B=c;}§\
+    let texts =
+        "const A:B;§static A:B;§impl A{const B:C;}§impl A{static B:C=d;}§trait A{static B:C=d;}§extern{static A:B=c;}§\
         extern{const A:B=c;}§const A:B=;§const A:B=c§const A=c;§const A:B==c;";
     for text in texts.split(BETWEEN) {
         assert!(rt; is_run(alloc, text.as_bytes(), refused, b"")?, "{text}");
@@ -186,11 +188,23 @@ fn depths(rt: HostRuntime) -> Result<(), Fail> {
         ("a=b+(", ")", 84),
         ("a+(b*(", "))", 63),
     ] {
-        assert_eq!(rt; within(alloc, before, after, most)?, Status::Done, "{before}");
-        assert_eq!(rt; within(alloc, before, after, most + 1)?, refused, "{before}");
+        assert_eq!(rt;
+            within(alloc, before, after, most)?,
+            Status::Done,
+            "{before}"
+        );
+        assert_eq!(rt;
+            within(alloc, before, after, most + 1)?,
+            refused,
+            "{before}"
+        );
     }
     for (before, after) in [("1+", ""), ("a=", ""), ("-", ""), ("", "?"), ("", " as B")] {
-        assert_eq!(rt; within(alloc, before, after, 300)?, Status::Done, "{before}{after}");
+        assert_eq!(rt;
+            within(alloc, before, after, 300)?,
+            Status::Done,
+            "{before}{after}"
+        );
     }
     Ok(())
 }

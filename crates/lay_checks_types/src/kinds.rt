@@ -5,6 +5,9 @@ ghost use Rattle.lay_read_tokens.specs.Answers.{AreLexed};
 
 use lay_lex::{lex, normalise};
 use lay_nest::{Nested, nest};
+use lay_node::{
+    Args, Attr, Bound, Generics, MacroCall, Pat, Path, PathStyle, Ty, TypePlace, Wheres,
+};
 use lay_out_tokens::{put_attr, put_call};
 use lay_out_types::{put_args, put_bounds, put_generics, put_pat, put_path, put_type, put_wheres};
 use lay_read_generics::{read_generics, read_wheres};
@@ -14,9 +17,6 @@ use lay_read_types::{read_args, read_bounds, read_path, read_type};
 use lay_stream::{Stream, plain};
 use lay_text::Text;
 use lay_token::FormatError;
-use lay_tree::{
-    Args, Attr, Bound, Generics, MacroCall, Pat, Path, PathStyle, Ty, TypePlace, Wheres,
-};
 use std::alloc::Global;
 
 /// What reads and prints a text.

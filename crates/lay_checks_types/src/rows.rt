@@ -1,7 +1,7 @@
 //! Rows worked out by hand from the rules of the grammar and of its layout.
 use crate::kinds::{Call, begins_pat, printed, stays};
 use lay_given::{BETWEEN, parts};
-use lay_tree::{PathStyle, TypePlace};
+use lay_node::{PathStyle, TypePlace};
 use std::alloc::Global;
 use std::process::Abort;
 

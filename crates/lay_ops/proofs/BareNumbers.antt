@@ -9,7 +9,7 @@ use Rattle.lay_piece.specs.Chars.{after, in_digits, in_hex, is_nil}
 use Rattle.lay_piece.specs.Number.{is_bare_int, is_exponent_letter, is_sign}
 use Rattle.lay_piece.specs.declared.kind.Kind.{Kind}
 use Rattle.lay_piece.specs.declared.kind.Kind.TheVariants as kind
-use Rattle.lay_tree.specs.Words.{behind_exponent, behind_fraction, behind_sign, is_bare_number}
+use Rattle.lay_node.specs.Words.{behind_exponent, behind_fraction, behind_sign, is_bare_number}
 use Rattle.lay_ops.specs.Numbers.{IsSplit, exponent, run}
 use Rattle.lay_ops.specs.declared.numbers.Reading.TheVariants as read
 

@@ -1,8 +1,11 @@
 -- What expressions end in, kind by kind.
 use Rattle.std.proofs.Common.{◌≡◌, ◌-◌, length, Bool, true, false, List, [], ◌∷◌, map, Option, Some, None, refl, sym, ap, ◌∙◌}
 use Rattle.std.specs.Prelude.{slice_get}
+use Rattle.lay_node.specs.nodes.Types.{about_path, about_type}
+use Rattle.lay_node.specs.declared.types.Path.{Path}
+use Rattle.lay_node.specs.declared.types.PathStyle.TheVariants.{Code}
+use Rattle.lay_node.specs.declared.types.Ty.{Ty}
 use Rattle.lay_tree.specs.nodes.Exprs.{ExprFacts, StepFacts, Tail, about_expr, about_step, is_field, is_open, is_typed, lacks_args, shut, tail_of_operands, tail_of_steps, type_refuses}
-use Rattle.lay_tree.specs.nodes.Types.{about_path, about_type}
 use Rattle.lay_tree.specs.declared.exprs.Expr.{Expr}
 use Rattle.lay_tree.specs.declared.exprs.Expr.TheOpen.{Expr-F}
 use Rattle.lay_tree.specs.declared.exprs.Expr.TheVariants as expr
@@ -11,9 +14,6 @@ use Rattle.lay_tree.specs.declared.exprs.FieldExpr.{FieldExpr}
 use Rattle.lay_tree.specs.declared.exprs.Step.{Step}
 use Rattle.lay_tree.specs.declared.operators.Op.{Op}
 use Rattle.lay_tree.specs.declared.operators.Prefix.{Prefix}
-use Rattle.lay_tree.specs.declared.types.Path.{Path}
-use Rattle.lay_tree.specs.declared.types.PathStyle.TheVariants.{Code}
-use Rattle.lay_tree.specs.declared.types.Ty.{Ty}
 use Rattle.lay_tree.proofs.nodes.ExprsLaws as laws
 use Rattle.lay_ops.proofs.Last.{last, last_is, no_last}
 

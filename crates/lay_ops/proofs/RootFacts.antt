@@ -1,9 +1,12 @@
 -- What is told of an expression by its root, kind by kind.
 use Rattle.std.proofs.Common.{◌≡◌, ℕ, Bool, true, false, not, List, [], ◌∷◌, map, Some, None, is_some, length, ◌-◌, refl, sym, ap, ◌∙◌}
 use Rattle.std.specs.Prelude.{slice_get}
+use Rattle.lay_node.specs.nodes.Types.{about_type}
+use Rattle.lay_node.specs.Words.{is_bare_number}
+use Rattle.lay_node.specs.declared.token.Literal.{Literal}
+use Rattle.lay_node.specs.declared.tokens.MacroCall.{MacroCall}
+use Rattle.lay_node.specs.declared.types.Ty.{Ty}
 use Rattle.lay_tree.specs.nodes.Exprs.{ExprFacts, about_expr, is_brace, lacks_args, level_of_chain, type_refuses}
-use Rattle.lay_tree.specs.nodes.Types.{about_type}
-use Rattle.lay_tree.specs.Words.{is_bare_number}
 use Rattle.lay_tree.specs.declared.exprs.Expr.{Expr}
 use Rattle.lay_tree.specs.declared.exprs.Expr.TheOpen.{Expr-F}
 use Rattle.lay_tree.specs.declared.exprs.Expr.TheVariants as expr
@@ -11,9 +14,6 @@ use Rattle.lay_tree.specs.declared.exprs.Expr.TheViews as views
 use Rattle.lay_tree.specs.declared.exprs.FieldExpr.{FieldExpr}
 use Rattle.lay_tree.specs.declared.exprs.Step.{Step}
 use Rattle.lay_tree.specs.declared.operators.Op.{Op}
-use Rattle.lay_tree.specs.declared.token.Literal.{Literal}
-use Rattle.lay_tree.specs.declared.tokens.MacroCall.{MacroCall}
-use Rattle.lay_tree.specs.declared.types.Ty.{Ty}
 use Rattle.lay_tree.proofs.nodes.ExprsLaws as laws
 use Rattle.lay_ops.proofs.Last.{last, last_is}
 use Rattle.lay_ops.specs.RootFacts.{first_level}

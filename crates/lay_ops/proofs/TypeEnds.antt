@@ -1,26 +1,26 @@
 -- What types lack at their ends, kind by kind.
 use Rattle.std.proofs.Common.{◌≡◌, ◌-◌, Bool, true, false, List, [], ◌∷◌, length, map, Option, Some, None, option_map, refl, sym, ap, ◌∙◌}
 use Rattle.std.specs.Prelude.{slice_get}
+use Rattle.lay_node.specs.nodes.Types.{PathFacts, TypeFacts, about_args, about_bound, about_path, about_type, in_style, last_refuses, output_refuses, segments_refuse}
+use Rattle.lay_node.specs.declared.token.Lifetime.{Lifetime}
+use Rattle.lay_node.specs.declared.token.Word.{Word}
+use Rattle.lay_node.specs.declared.types.Arg.{Arg}
+use Rattle.lay_node.specs.declared.types.Arg.TheOpen.{Args-F, Bound-F, Ty-F}
+use Rattle.lay_node.specs.declared.types.Arg.TheViews as views
+use Rattle.lay_node.specs.declared.types.Args.{Args}
+use Rattle.lay_node.specs.declared.types.Binder.{Binder}
+use Rattle.lay_node.specs.declared.types.Bound.{Bound}
+use Rattle.lay_node.specs.declared.types.Bound.TheVariants as bound
+use Rattle.lay_node.specs.declared.types.Constraint.{Constraint}
+use Rattle.lay_node.specs.declared.types.FuncParam.{FuncParam}
+use Rattle.lay_node.specs.declared.types.Path.{Path}
+use Rattle.lay_node.specs.declared.types.PathStart.{PathStart}
+use Rattle.lay_node.specs.declared.types.PathStyle.{PathStyle}
+use Rattle.lay_node.specs.declared.types.PathStyle.TheVariants.{Kind}
+use Rattle.lay_node.specs.declared.types.Ty.{Ty}
+use Rattle.lay_node.specs.declared.types.Ty.TheVariants as ty
+use Rattle.lay_node.proofs.nodes.TypesLaws as laws
 use Rattle.lay_tree.specs.nodes.Exprs.{lacks_args}
-use Rattle.lay_tree.specs.nodes.Types.{PathFacts, TypeFacts, about_args, about_bound, about_path, about_type, in_style, last_refuses, output_refuses, segments_refuse}
-use Rattle.lay_tree.specs.declared.token.Lifetime.{Lifetime}
-use Rattle.lay_tree.specs.declared.token.Word.{Word}
-use Rattle.lay_tree.specs.declared.types.Arg.{Arg}
-use Rattle.lay_tree.specs.declared.types.Arg.TheOpen.{Args-F, Bound-F, Ty-F}
-use Rattle.lay_tree.specs.declared.types.Arg.TheViews as views
-use Rattle.lay_tree.specs.declared.types.Args.{Args}
-use Rattle.lay_tree.specs.declared.types.Binder.{Binder}
-use Rattle.lay_tree.specs.declared.types.Bound.{Bound}
-use Rattle.lay_tree.specs.declared.types.Bound.TheVariants as bound
-use Rattle.lay_tree.specs.declared.types.Constraint.{Constraint}
-use Rattle.lay_tree.specs.declared.types.FuncParam.{FuncParam}
-use Rattle.lay_tree.specs.declared.types.Path.{Path}
-use Rattle.lay_tree.specs.declared.types.PathStart.{PathStart}
-use Rattle.lay_tree.specs.declared.types.PathStyle.{PathStyle}
-use Rattle.lay_tree.specs.declared.types.PathStyle.TheVariants.{Kind}
-use Rattle.lay_tree.specs.declared.types.Ty.{Ty}
-use Rattle.lay_tree.specs.declared.types.Ty.TheVariants as ty
-use Rattle.lay_tree.proofs.nodes.TypesLaws as laws
 use Rattle.lay_ops.proofs.Last.{last, last_is, no_last}
 
 -- ---- the last of several

@@ -2,8 +2,8 @@
 ghost use Rattle.std.specs.Prelude.{◌≡◌, if◌then◌else◌, codes, Some, None, option_map};
 ghost use Rattle.lay_token.specs.Operators.{is_op};
 ghost use Rattle.lay_piece.specs.declared.kind.Delim.TheVariants.{Brace};
-ghost use Rattle.lay_tree.specs.Ahead.{first, opens, tail};
-ghost use Rattle.lay_tree.specs.Follow.{begins_dots};
+ghost use Rattle.lay_node.specs.Ahead.{first, opens, tail};
+ghost use Rattle.lay_node.specs.Follow.{begins_dots};
 ghost use Rattle.lay_tree.specs.Operands as operands;
 ghost use Rattle.lay_ops.specs.Leads.{block_words, told};
 

@@ -1,8 +1,8 @@
 //! The operators at the front of tokens.
 ghost use Rattle.std.specs.Prelude.{◌≡◌, ◌∷◌, [], drop, option_and_then};
 ghost use Rattle.lay_token.specs.Operators.{op_at};
-ghost use Rattle.lay_tree.specs.Ahead as ahead;
-ghost use Rattle.lay_tree.specs.Ahead.{first};
+ghost use Rattle.lay_node.specs.Ahead as ahead;
+ghost use Rattle.lay_node.specs.Ahead.{first};
 ghost use Rattle.lay_tree.specs.Operators as operators;
 ghost use Rattle.lay_ops.specs.Leads.{led_by};
 

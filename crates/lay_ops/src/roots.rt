@@ -1,7 +1,7 @@
 //! What is told of an expression by its root.
 ghost use Rattle.std.specs.Prelude.{◌≡◌, map};
+ghost use Rattle.lay_node.specs.nodes.Types.{about_type};
 ghost use Rattle.lay_tree.specs.nodes.Exprs.{about_expr, is_brace, lacks_args, type_refuses};
-ghost use Rattle.lay_tree.specs.nodes.Types.{about_type};
 ghost use Rattle.lay_ops.specs.RootFacts.{first_level};
 
 use crate::operators::op_level;

@@ -1,12 +1,12 @@
 //! What types end in, found along their right edge.
 ghost use Rattle.std.specs.Prelude.{◌≡◌, ◌<◌};
+ghost use Rattle.lay_node.specs.nodes.Types.{about_args, about_bound, about_path, about_type};
+ghost use Rattle.lay_node.specs.declared.types.Args.{size-Args};
+ghost use Rattle.lay_node.specs.declared.types.Bound.{size-Bound};
+ghost use Rattle.lay_node.specs.declared.types.Path.{size-Path};
+ghost use Rattle.lay_node.specs.declared.types.PathStyle.TheVariants.{Code, Kind};
+ghost use Rattle.lay_node.specs.declared.types.Ty.{size-Ty};
 ghost use Rattle.lay_tree.specs.nodes.Exprs.{lacks_args};
-ghost use Rattle.lay_tree.specs.nodes.Types.{about_args, about_bound, about_path, about_type};
-ghost use Rattle.lay_tree.specs.declared.types.Args.{size-Args};
-ghost use Rattle.lay_tree.specs.declared.types.Bound.{size-Bound};
-ghost use Rattle.lay_tree.specs.declared.types.Path.{size-Path};
-ghost use Rattle.lay_tree.specs.declared.types.PathStyle.TheVariants.{Code, Kind};
-ghost use Rattle.lay_tree.specs.declared.types.Ty.{size-Ty};
 ghost use Rattle.lay_ops.specs.Ends.{IfIn, lacks};
 
 use lay_tree::{Args, Bound, Path, Ty};

@@ -6,15 +6,15 @@ use Rattle.lay_piece.specs.declared.kind.Delim.{Delim}
 use Rattle.lay_piece.specs.declared.kind.Delim.TheVariants.{Paren, Bracket, Brace}
 use Rattle.lay_form.specs.Form.{Form, Done, Piece, keyword}
 use Rattle.lay_form.specs.Stream.{stream_of}
-use Rattle.lay_tree.specs.Words.{leaf_of}
-use Rattle.lay_tree.specs.nodes.Call.{before_rules, end_form, call_form}
+use Rattle.lay_node.specs.Words.{leaf_of}
+use Rattle.lay_node.specs.nodes.Call.{before_rules, end_form, call_form}
+use Rattle.lay_node.specs.nodes.Types.{literal_form}
+use Rattle.lay_node.specs.tokens.Lists.{group_form}
+use Rattle.lay_node.specs.declared.token.Literal.{Literal}
+use Rattle.lay_node.specs.declared.token.Name.{Name}
+use Rattle.lay_node.specs.declared.tokens.Group.{Group}
+use Rattle.lay_node.specs.declared.tokens.MacroCall.{MacroCall}
 use Rattle.lay_tree.specs.nodes.Item.{call_item_form, foreign_abi, rules_form}
-use Rattle.lay_tree.specs.nodes.Types.{literal_form}
-use Rattle.lay_tree.specs.tokens.Lists.{group_form}
-use Rattle.lay_tree.specs.declared.token.Literal.{Literal}
-use Rattle.lay_tree.specs.declared.token.Name.{Name}
-use Rattle.lay_tree.specs.declared.tokens.Group.{Group}
-use Rattle.lay_tree.specs.declared.tokens.MacroCall.{MacroCall}
 use Rattle.lay_out_tokens.proofs.StreamParts.{behind_group_is, leaf_more}
 use Rattle.lay_out_types.proofs.FormRows.{part_more}
 use Rattle.lay_out_heads.proofs.HeadLemmas.{unsafe_word}

@@ -11,24 +11,24 @@ use Rattle.lay_form.specs.Layout.{break_of, document}
 use Rattle.lay_form.specs.Notation.{H, behind_attrs, body, each, lines}
 use Rattle.lay_form.specs.Stream.{stream_of}
 use Rattle.lay_form.proofs.StreamLaws.{stream_is}
+use Rattle.lay_node.specs.nodes.Attr.{attr_form}
+use Rattle.lay_node.specs.nodes.Fields.{blank_if}
+use Rattle.lay_node.specs.nodes.Heads.{HeadFacts, leads, seen, value_head_form}
+use Rattle.lay_node.specs.nodes.Vis.{vis_form}
+use Rattle.lay_node.specs.nodes.Where.{wheres_before_body}
+use Rattle.lay_node.specs.declared.attr.Attr.{Attr}
+use Rattle.lay_node.specs.declared.generics.Wheres.{Wheres}
+use Rattle.lay_node.specs.declared.heads.Site.TheVariants.{Module}
+use Rattle.lay_node.specs.declared.heads.ValueHead.{ValueHead}
+use Rattle.lay_node.specs.declared.vis.Vis.{Vis}
 use Rattle.lay_tree.specs.Out.{behind_shebang, layout_of_file}
-use Rattle.lay_tree.specs.nodes.Attr.{attr_form}
 use Rattle.lay_tree.specs.nodes.Exprs.{about_expr}
-use Rattle.lay_tree.specs.nodes.Fields.{blank_if}
 use Rattle.lay_tree.specs.nodes.File.{form_of_file}
-use Rattle.lay_tree.specs.nodes.Heads.{HeadFacts, leads, seen, value_head_form}
 use Rattle.lay_tree.specs.nodes.Item.{ItemFacts, KindFacts, about_item, form_of_item, item_body, item_forms, kind_form, told_of_item, told_of_kind, value_form}
-use Rattle.lay_tree.specs.nodes.Vis.{vis_form}
-use Rattle.lay_tree.specs.nodes.Where.{wheres_before_body}
-use Rattle.lay_tree.specs.declared.attr.Attr.{Attr}
 use Rattle.lay_tree.specs.declared.exprs.Expr.{Expr}
 use Rattle.lay_tree.specs.declared.file.File.{File}
-use Rattle.lay_tree.specs.declared.generics.Wheres.{Wheres}
-use Rattle.lay_tree.specs.declared.heads.Site.TheVariants.{Module}
-use Rattle.lay_tree.specs.declared.heads.ValueHead.{ValueHead}
 use Rattle.lay_tree.specs.declared.item.Item.{Item}
 use Rattle.lay_tree.specs.declared.item.ItemKind.{ItemKind}
-use Rattle.lay_tree.specs.declared.vis.Vis.{Vis}
 use Rattle.lay_tree.proofs.nodes.ItemLaws.{item_is}
 use Rattle.lay_out_tokens.proofs.StreamParts.{fed_more}
 use Rattle.lay_out_types.specs.Calls.{Adds}

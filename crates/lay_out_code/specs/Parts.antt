@@ -4,12 +4,12 @@ use Rattle.lay_layout.specs.declared.layout.Tok.{Tok}
 use Rattle.lay_layout.specs.declared.layout.Tok.TheVariants as tok
 use Rattle.lay_form.specs.Form.{Form, Piece, keyword}
 use Rattle.lay_form.specs.Stream.{stream_of}
-use Rattle.lay_tree.specs.nodes.Heads.{unsafe_form}
+use Rattle.lay_node.specs.nodes.Heads.{unsafe_form}
+use Rattle.lay_node.specs.nodes.Vis.{vis_form}
+use Rattle.lay_node.specs.declared.token.Literal.{Literal}
+use Rattle.lay_node.specs.declared.use_tree.UseTree.{UseTree}
+use Rattle.lay_node.specs.declared.vis.Vis.{Vis}
 use Rattle.lay_tree.specs.nodes.Item.{KindFacts, about_import, foreign_abi, kind_form}
-use Rattle.lay_tree.specs.nodes.Vis.{vis_form}
-use Rattle.lay_tree.specs.declared.token.Literal.{Literal}
-use Rattle.lay_tree.specs.declared.use_tree.UseTree.{UseTree}
-use Rattle.lay_tree.specs.declared.vis.Vis.{Vis}
 
 -- There are none.
 abbrev pub no_forms : List Form → Bool

@@ -1,11 +1,11 @@
 //! Attributes, groups, use trees and the items that are heads alone, behind what was fed before.
 ghost use Rattle.lay_form.specs.Form.{Done};
 ghost use Rattle.lay_form.specs.Stream.{stream_of};
-ghost use Rattle.lay_tree.specs.nodes.Attr.{attr_form};
-ghost use Rattle.lay_tree.specs.nodes.Heads.{about_alias, about_enum, about_extern_crate, about_struct, about_union, seen};
-ghost use Rattle.lay_tree.specs.nodes.Use.{about_use};
-ghost use Rattle.lay_tree.specs.tokens.Lists.{group_form};
-ghost use Rattle.lay_tree.specs.declared.heads.Site.TheVariants.{Module};
+ghost use Rattle.lay_node.specs.nodes.Attr.{attr_form};
+ghost use Rattle.lay_node.specs.nodes.Heads.{about_alias, about_enum, about_extern_crate, about_struct, about_union, seen};
+ghost use Rattle.lay_node.specs.nodes.Use.{about_use};
+ghost use Rattle.lay_node.specs.tokens.Lists.{group_form};
+ghost use Rattle.lay_node.specs.declared.heads.Site.TheVariants.{Module};
 ghost use Rattle.lay_out_types.specs.Calls.{Adds};
 
 use lay_out_heads::{put_alias, put_enum, put_extern_crate, put_struct, put_union, put_use};

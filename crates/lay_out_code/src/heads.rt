@@ -3,10 +3,10 @@ ghost use Rattle.std.specs.Prelude.{◌++◌};
 ghost use Rattle.lay_form.specs.Form.{Form, Part, semicolon};
 ghost use Rattle.lay_form.specs.Notation.{piece};
 ghost use Rattle.lay_form.specs.Stream.{stream_of};
-ghost use Rattle.lay_tree.specs.nodes.Functions.{fn_head_form};
-ghost use Rattle.lay_tree.specs.nodes.Heads.{impl_head_form, trait_head_form, value_head_form};
+ghost use Rattle.lay_node.specs.nodes.Functions.{fn_head_form};
+ghost use Rattle.lay_node.specs.nodes.Heads.{impl_head_form, trait_head_form, value_head_form};
+ghost use Rattle.lay_node.specs.nodes.Where.{wheres_before_body, wheres_before_semicolon};
 ghost use Rattle.lay_tree.specs.nodes.Item.{foreign_abi, module_head, value_form};
-ghost use Rattle.lay_tree.specs.nodes.Where.{wheres_before_body, wheres_before_semicolon};
 ghost use Rattle.lay_out_types.specs.Calls.{Adds};
 ghost use Rattle.lay_out_code.specs.Parts.{foreign_head, head_row, import_head};
 
@@ -19,9 +19,7 @@ use lay_out_tokens::notation::NEVER_BREAK;
 use lay_out_types::calls::{add_if, add_literal, add_text, add_word};
 use lay_out_types::lists::add_end;
 use lay_stream::Emit;
-use lay_tree::{
-    Expr, FnHead, ImplHead, Literal, Name, TraitHead, UseTree, ValueHead, Vis, Wheres,
-};
+use lay_tree::{Expr, FnHead, ImplHead, Literal, Name, TraitHead, UseTree, ValueHead, Vis, Wheres};
 
 /// What an item begins with behind its visibility.
 pub trait Head {

@@ -1,7 +1,7 @@
 //! The macros among items, which have no head.
 ghost use Rattle.lay_form.specs.Form.{Done};
 ghost use Rattle.lay_form.specs.Stream.{stream_of};
-ghost use Rattle.lay_tree.specs.nodes.Call.{before_rules, end_form};
+ghost use Rattle.lay_node.specs.nodes.Call.{before_rules, end_form};
 ghost use Rattle.lay_tree.specs.nodes.Item.{call_item_form, rules_form};
 ghost use Rattle.lay_out_types.specs.Calls.{Adds};
 

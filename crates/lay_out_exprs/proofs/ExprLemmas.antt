@@ -9,25 +9,25 @@ use Rattle.lay_form.specs.Form.{Form, Blank, Done, Piece, Part, punct, opener, c
 use Rattle.lay_form.specs.Layout.{ends_behind_point, led, text_of_bits}
 use Rattle.lay_form.specs.Notation.{comma_list, piece, when}
 use Rattle.lay_form.specs.Stream.{fed, stream_of}
-use Rattle.lay_tree.specs.Words.{colons, leaf_of}
-use Rattle.lay_tree.specs.nodes.Call.{bang, call_form}
+use Rattle.lay_node.specs.Words.{colons, leaf_of}
+use Rattle.lay_node.specs.nodes.Call.{bang, call_form}
+use Rattle.lay_node.specs.nodes.Patterns.{dots}
+use Rattle.lay_node.specs.nodes.SimplePath.{simple_words_form}
+use Rattle.lay_node.specs.nodes.Types.{TypeFacts, about_path, about_type, literal_form}
+use Rattle.lay_node.specs.tokens.Lists.{group_form, token_list}
+use Rattle.lay_node.specs.declared.token.Lifetime.{Lifetime}
+use Rattle.lay_node.specs.declared.token.Listed.{Listed}
+use Rattle.lay_node.specs.declared.token.Literal.{Literal}
+use Rattle.lay_node.specs.declared.token.Word.{Word}
+use Rattle.lay_node.specs.declared.tokens.MacroCall.{MacroCall}
+use Rattle.lay_node.specs.declared.types.Path.{Path}
+use Rattle.lay_node.specs.declared.types.PathStyle.TheVariants.{Code}
+use Rattle.lay_node.specs.declared.types.Ty.{Ty}
 use Rattle.lay_tree.specs.nodes.Exprs.{ExprFacts, about_expr, args_form, end_form, expr_forms, label_form, operand_form, operands_form, tuple_form, types_form}
-use Rattle.lay_tree.specs.nodes.Patterns.{dots}
-use Rattle.lay_tree.specs.nodes.SimplePath.{simple_words_form}
-use Rattle.lay_tree.specs.nodes.Types.{TypeFacts, about_path, about_type, literal_form}
-use Rattle.lay_tree.specs.tokens.Lists.{group_form, token_list}
 use Rattle.lay_tree.specs.declared.exprs.Expr.{Expr}
 use Rattle.lay_tree.specs.declared.exprs.Expr.TheVariants as expr
 use Rattle.lay_tree.specs.declared.operators.Op.{Op}
 use Rattle.lay_tree.specs.declared.operators.Prefix.{Prefix}
-use Rattle.lay_tree.specs.declared.token.Lifetime.{Lifetime}
-use Rattle.lay_tree.specs.declared.token.Listed.{Listed}
-use Rattle.lay_tree.specs.declared.token.Literal.{Literal}
-use Rattle.lay_tree.specs.declared.token.Word.{Word}
-use Rattle.lay_tree.specs.declared.tokens.MacroCall.{MacroCall}
-use Rattle.lay_tree.specs.declared.types.Path.{Path}
-use Rattle.lay_tree.specs.declared.types.PathStyle.TheVariants.{Code}
-use Rattle.lay_tree.specs.declared.types.Ty.{Ty}
 use Rattle.lay_tree.proofs.nodes.ExprsLaws.{expr_array_is, expr_break_is, expr_call_is, expr_cast_is, expr_chain_is, expr_continue_is, expr_lit_is, expr_paren_is, expr_path_is, expr_range_is, expr_repeat_is, expr_return_is, expr_tuple_is, expr_unary_is, expr_underscore_is}
 use Rattle.lay_out_tokens.proofs.StreamParts.{fed_more}
 use Rattle.lay_out_types.specs.Rows.{comma_between, list_closed, list_opened, row}

@@ -6,35 +6,35 @@ use Rattle.lay_piece.specs.declared.kind.Delim.TheVariants.{Paren, Bracket, Brac
 use Rattle.lay_form.specs.Form.{Form, Done, Part, Piece, opener, closer}
 use Rattle.lay_form.specs.Layout.{bits_end_in_point, ends_behind_point, token_ends_in_point}
 use Rattle.lay_form.specs.Notation.{braces, comma_list}
-use Rattle.lay_tree.specs.Words.{leaf_of}
-use Rattle.lay_tree.specs.nodes.Call.{bang, call_form}
+use Rattle.lay_node.specs.Words.{leaf_of}
+use Rattle.lay_node.specs.nodes.Call.{bang, call_form}
+use Rattle.lay_node.specs.nodes.Facts.{Facts}
+use Rattle.lay_node.specs.nodes.Patterns.{dots}
+use Rattle.lay_node.specs.nodes.Types.{ArgsFacts, PathFacts, TypeFacts, about_args, about_path, about_start, about_type, in_style, segments_form}
+use Rattle.lay_node.specs.tokens.Lists.{group_form}
+use Rattle.lay_node.specs.declared.patterns.SpanEnd.TheVariants as span_end
+use Rattle.lay_node.specs.declared.token.Lifetime.{Lifetime}
+use Rattle.lay_node.specs.declared.token.Literal.{Literal}
+use Rattle.lay_node.specs.declared.token.Word.{Word}
+use Rattle.lay_node.specs.declared.tokens.MacroCall.{MacroCall}
+use Rattle.lay_node.specs.declared.types.Arg.TheViews as views
+use Rattle.lay_node.specs.declared.types.Args.{Args}
+use Rattle.lay_node.specs.declared.types.Args.TheVariants as args
+use Rattle.lay_node.specs.declared.types.Path.{Path}
+use Rattle.lay_node.specs.declared.types.PathStart.{PathStart}
+use Rattle.lay_node.specs.declared.types.PathStart.TheVariants as start
+use Rattle.lay_node.specs.declared.types.PathStyle.TheVariants.{Code}
+use Rattle.lay_node.specs.declared.types.Ty.{Ty}
+use Rattle.lay_node.specs.declared.types.Ty.TheVariants as ty
+use Rattle.lay_node.proofs.nodes.TypesLaws.{IsGlobal, IsLocal, IsQualified, PathStartView, about_segment, args_round_is, path_is, start_global_is, start_local_is, start_qualified_is, start_view, type_call_is}
 use Rattle.lay_tree.specs.nodes.Exprs.{ExprFacts, about_expr, about_field_expr, about_step, base_form, break_if, end_form, expr_forms, group_if, is_method, label_form, methods, operand_form, operands_form, prefix_bits, prefixes_form, steps_form, targets_form, tuple_form, types_form}
-use Rattle.lay_tree.specs.nodes.Facts.{Facts}
-use Rattle.lay_tree.specs.nodes.Patterns.{dots}
-use Rattle.lay_tree.specs.nodes.Types.{ArgsFacts, PathFacts, TypeFacts, about_args, about_path, about_start, about_type, in_style, segments_form}
-use Rattle.lay_tree.specs.tokens.Lists.{group_form}
 use Rattle.lay_tree.specs.declared.exprs.Expr.{Expr}
 use Rattle.lay_tree.specs.declared.exprs.Expr.TheVariants as expr
 use Rattle.lay_tree.specs.declared.exprs.Step.{Step}
 use Rattle.lay_tree.specs.declared.operators.Op.{Op}
 use Rattle.lay_tree.specs.declared.operators.Prefix.{Prefix}
 use Rattle.lay_tree.specs.declared.operators.Prefix.TheVariants as prefix
-use Rattle.lay_tree.specs.declared.patterns.SpanEnd.TheVariants as span_end
-use Rattle.lay_tree.specs.declared.token.Lifetime.{Lifetime}
-use Rattle.lay_tree.specs.declared.token.Literal.{Literal}
-use Rattle.lay_tree.specs.declared.token.Word.{Word}
-use Rattle.lay_tree.specs.declared.tokens.MacroCall.{MacroCall}
-use Rattle.lay_tree.specs.declared.types.Arg.TheViews as views
-use Rattle.lay_tree.specs.declared.types.Args.{Args}
-use Rattle.lay_tree.specs.declared.types.Args.TheVariants as args
-use Rattle.lay_tree.specs.declared.types.Path.{Path}
-use Rattle.lay_tree.specs.declared.types.PathStart.{PathStart}
-use Rattle.lay_tree.specs.declared.types.PathStart.TheVariants as start
-use Rattle.lay_tree.specs.declared.types.PathStyle.TheVariants.{Code}
-use Rattle.lay_tree.specs.declared.types.Ty.{Ty}
-use Rattle.lay_tree.specs.declared.types.Ty.TheVariants as ty
 use Rattle.lay_tree.proofs.nodes.ExprsLaws.{ExprView, IsArray, IsAssign, IsBreak, IsCall, IsCast, IsChain, IsContinue, IsLit, IsParen, IsPath, IsPostfix, IsRange, IsRepeat, IsReturn, IsStruct, IsTuple, IsUnary, IsUnderscore, expr_array_is, expr_assign_is, expr_break_is, expr_call_is, expr_cast_is, expr_chain_is, expr_continue_is, expr_lit_is, expr_paren_is, expr_path_is, expr_postfix_is, expr_range_is, expr_repeat_is, expr_return_is, expr_struct_is, expr_tuple_is, expr_unary_is, expr_underscore_is, expr_view}
-use Rattle.lay_tree.proofs.nodes.TypesLaws.{IsGlobal, IsLocal, IsQualified, PathStartView, about_segment, args_round_is, path_is, start_global_is, start_local_is, start_qualified_is, start_view, type_call_is}
 use Rattle.lay_out_types.proofs.PathPoints.{path_point}
 use Rattle.lay_out_exprs.specs.Parts.{base_facts, before_op, behind_op, expr_told}
 use Rattle.lay_out_exprs.proofs.Feeds.{no_point}

@@ -8,19 +8,19 @@ use Rattle.lay_stream.specs.Fed.{Meanings}
 use Rattle.lay_form.specs.Form.{Form, Operator, Done, Leaf, Part, Piece}
 use Rattle.lay_form.specs.Notation.{behind_attrs, braces}
 use Rattle.lay_form.specs.Stream.{fed, stream_of}
-use Rattle.lay_tree.specs.Words.{leaf_of}
-use Rattle.lay_tree.specs.nodes.Attr.{attr_form}
+use Rattle.lay_node.specs.Words.{leaf_of}
+use Rattle.lay_node.specs.nodes.Attr.{attr_form}
+use Rattle.lay_node.specs.nodes.Facts.{Facts}
+use Rattle.lay_node.specs.nodes.Types.{about_path, colon}
+use Rattle.lay_node.specs.declared.attr.Attr.{Attr}
+use Rattle.lay_node.specs.declared.token.Name.{Name}
+use Rattle.lay_node.specs.declared.types.Path.{Path}
+use Rattle.lay_node.specs.declared.types.PathStyle.TheVariants.{Code}
 use Rattle.lay_tree.specs.nodes.Exprs.{about_expr, about_field_expr, base_form, end_form}
-use Rattle.lay_tree.specs.nodes.Facts.{Facts}
-use Rattle.lay_tree.specs.nodes.Types.{about_path, colon}
-use Rattle.lay_tree.specs.declared.attr.Attr.{Attr}
 use Rattle.lay_tree.specs.declared.exprs.Expr.{Expr}
 use Rattle.lay_tree.specs.declared.exprs.Expr.TheVariants as expr
 use Rattle.lay_tree.specs.declared.exprs.FieldExpr.{FieldExpr}
 use Rattle.lay_tree.specs.declared.exprs.FieldExpr.TheVariants as field
-use Rattle.lay_tree.specs.declared.token.Name.{Name}
-use Rattle.lay_tree.specs.declared.types.Path.{Path}
-use Rattle.lay_tree.specs.declared.types.PathStyle.TheVariants.{Code}
 use Rattle.lay_tree.proofs.nodes.ExprsLaws.{expr_struct_is, field_expr_named_is, field_expr_numbered_is, field_expr_short_is}
 use Rattle.lay_out_tokens.proofs.StreamParts.{leaf_more}
 use Rattle.lay_out_types.specs.Calls.{Adds}

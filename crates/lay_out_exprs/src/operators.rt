@@ -4,9 +4,9 @@ ghost use Rattle.lay_layout.specs.declared.layout.Tok.TheVariants as tok;
 ghost use Rattle.lay_form.specs.Form.{Done, Never, Soft};
 ghost use Rattle.lay_form.specs.Layout.{break_of, text_of_bits};
 ghost use Rattle.lay_form.specs.Stream.{stream_of};
+ghost use Rattle.lay_node.specs.nodes.Types.{about_type};
 ghost use Rattle.lay_tree.specs.Operators.{op_text};
 ghost use Rattle.lay_tree.specs.nodes.Exprs.{label_form, prefix_bits, types_form};
-ghost use Rattle.lay_tree.specs.nodes.Types.{about_type};
 ghost use Rattle.lay_out_exprs.specs.Parts.{prefix_texts};
 ghost use Rattle.lay_out_types.specs.Calls.{Adds};
 

@@ -2,9 +2,9 @@
 ghost use Rattle.std.specs.Prelude.{◌≡◌, true, option_map};
 ghost use Rattle.lay_form.specs.Form.{Done};
 ghost use Rattle.lay_form.specs.Layout.{ends_behind_point};
+ghost use Rattle.lay_node.specs.nodes.Types.{about_path};
+ghost use Rattle.lay_node.specs.declared.types.PathStyle.TheVariants.{Code};
 ghost use Rattle.lay_tree.specs.nodes.Exprs.{about_expr, end_form};
-ghost use Rattle.lay_tree.specs.nodes.Types.{about_path};
-ghost use Rattle.lay_tree.specs.declared.types.PathStyle.TheVariants.{Code};
 
 use crate::flags::both;
 use lay_out_types::is_pointed;

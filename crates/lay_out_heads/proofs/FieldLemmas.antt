@@ -6,21 +6,21 @@ use Rattle.lay_piece.specs.declared.kind.Delim.TheVariants.{Paren}
 use Rattle.lay_form.specs.Form.{Form, Blank, Done, Part, Piece, closer}
 use Rattle.lay_form.specs.Notation.{behind_attrs, piece}
 use Rattle.lay_form.specs.Stream.{stream_of}
-use Rattle.lay_tree.specs.Words.{leaf_of}
-use Rattle.lay_tree.specs.nodes.Attr.{attr_form}
-use Rattle.lay_tree.specs.nodes.Fields.{discriminant_form, field_form, fields_form, tuple_field_form, variant_form}
-use Rattle.lay_tree.specs.nodes.SimplePath.{simple_path_form}
-use Rattle.lay_tree.specs.nodes.Types.{about_type, colon}
-use Rattle.lay_tree.specs.nodes.Vis.{vis_form}
-use Rattle.lay_tree.specs.tokens.Lists.{token_list}
-use Rattle.lay_tree.specs.declared.attr.Attr.{Attr}
-use Rattle.lay_tree.specs.declared.fields.Field.{Field}
-use Rattle.lay_tree.specs.declared.fields.TupleField.{TupleField}
-use Rattle.lay_tree.specs.declared.fields.Variant.{Variant}
-use Rattle.lay_tree.specs.declared.simple_path.SimplePath.{SimplePath}
-use Rattle.lay_tree.specs.declared.token.Listed.{Listed}
-use Rattle.lay_tree.specs.declared.vis.Vis.{Vis}
-use Rattle.lay_tree.specs.declared.vis.Vis.TheVariants as vis
+use Rattle.lay_node.specs.Words.{leaf_of}
+use Rattle.lay_node.specs.nodes.Attr.{attr_form}
+use Rattle.lay_node.specs.nodes.Fields.{discriminant_form, field_form, fields_form, tuple_field_form, variant_form}
+use Rattle.lay_node.specs.nodes.SimplePath.{simple_path_form}
+use Rattle.lay_node.specs.nodes.Types.{about_type, colon}
+use Rattle.lay_node.specs.nodes.Vis.{vis_form}
+use Rattle.lay_node.specs.tokens.Lists.{token_list}
+use Rattle.lay_node.specs.declared.attr.Attr.{Attr}
+use Rattle.lay_node.specs.declared.fields.Field.{Field}
+use Rattle.lay_node.specs.declared.fields.TupleField.{TupleField}
+use Rattle.lay_node.specs.declared.fields.Variant.{Variant}
+use Rattle.lay_node.specs.declared.simple_path.SimplePath.{SimplePath}
+use Rattle.lay_node.specs.declared.token.Listed.{Listed}
+use Rattle.lay_node.specs.declared.vis.Vis.{Vis}
+use Rattle.lay_node.specs.declared.vis.Vis.TheVariants as vis
 use Rattle.lay_out_tokens.proofs.StreamParts.{leaf_more}
 use Rattle.lay_out_types.proofs.FieldLemmas.{lines_more}
 use Rattle.lay_out_types.proofs.FormRows.{part_more}

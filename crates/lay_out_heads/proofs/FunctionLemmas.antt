@@ -6,21 +6,21 @@ use Rattle.lay_piece.specs.declared.kind.Kind.TheVariants as kind
 use Rattle.lay_form.specs.Form.{Form, Blank, Done, Fixed, Operator, Part, Piece, keyword}
 use Rattle.lay_form.specs.Notation.{piece, when}
 use Rattle.lay_form.specs.Stream.{stream_of}
-use Rattle.lay_tree.specs.Words.{leaf_of}
-use Rattle.lay_tree.specs.nodes.Functions.{ends_variadic, fn_head_form, fn_param_form, fn_params_form, head_output, is_variadic, mut_word, param_kind_form, safety_form, self_type, self_word, signature_form}
-use Rattle.lay_tree.specs.nodes.Generics.{generics_form}
-use Rattle.lay_tree.specs.nodes.Patterns.{about_pat}
-use Rattle.lay_tree.specs.nodes.Types.{abi_form, about_type, colon, param_attrs, ref_lifetime}
-use Rattle.lay_tree.specs.declared.attr.Attr.{Attr}
-use Rattle.lay_tree.specs.declared.functions.FnHead.{FnHead}
-use Rattle.lay_tree.specs.declared.functions.Param.{Param}
-use Rattle.lay_tree.specs.declared.functions.ParamKind.{ParamKind}
-use Rattle.lay_tree.specs.declared.functions.ParamKind.TheVariants as param
-use Rattle.lay_tree.specs.declared.functions.Safety.{Safety}
-use Rattle.lay_tree.specs.declared.functions.Safety.TheVariants as safety
-use Rattle.lay_tree.specs.declared.patterns.Pat.{Pat}
-use Rattle.lay_tree.specs.declared.token.Lifetime.{Lifetime}
-use Rattle.lay_tree.specs.declared.types.Ty.{Ty}
+use Rattle.lay_node.specs.Words.{leaf_of}
+use Rattle.lay_node.specs.nodes.Functions.{ends_variadic, fn_head_form, fn_param_form, fn_params_form, head_output, is_variadic, mut_word, param_kind_form, safety_form, self_type, self_word, signature_form}
+use Rattle.lay_node.specs.nodes.Generics.{generics_form}
+use Rattle.lay_node.specs.nodes.Patterns.{about_pat}
+use Rattle.lay_node.specs.nodes.Types.{abi_form, about_type, colon, param_attrs, ref_lifetime}
+use Rattle.lay_node.specs.declared.attr.Attr.{Attr}
+use Rattle.lay_node.specs.declared.functions.FnHead.{FnHead}
+use Rattle.lay_node.specs.declared.functions.Param.{Param}
+use Rattle.lay_node.specs.declared.functions.ParamKind.{ParamKind}
+use Rattle.lay_node.specs.declared.functions.ParamKind.TheVariants as param
+use Rattle.lay_node.specs.declared.functions.Safety.{Safety}
+use Rattle.lay_node.specs.declared.functions.Safety.TheVariants as safety
+use Rattle.lay_node.specs.declared.patterns.Pat.{Pat}
+use Rattle.lay_node.specs.declared.token.Lifetime.{Lifetime}
+use Rattle.lay_node.specs.declared.types.Ty.{Ty}
 use Rattle.lay_out_tokens.proofs.StreamParts.{leaf_more}
 use Rattle.lay_out_types.proofs.FormRows.{part_more}
 use Rattle.lay_out_types.proofs.PartLemmas.{abi_more, attrs_more, reference_more}

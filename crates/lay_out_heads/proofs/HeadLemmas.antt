@@ -6,22 +6,22 @@ use Rattle.lay_piece.specs.declared.kind.Kind.TheVariants as kind
 use Rattle.lay_form.specs.Form.{Form, Blank, Done, Fixed, Part, Piece, keyword}
 use Rattle.lay_form.specs.Notation.{when}
 use Rattle.lay_form.specs.Stream.{stream_of}
-use Rattle.lay_tree.specs.Words.{leaf_of}
-use Rattle.lay_tree.specs.nodes.Functions.{mut_word}
-use Rattle.lay_tree.specs.nodes.Generics.{bounded_form, generics_form}
-use Rattle.lay_tree.specs.nodes.Heads.{called, impl_head_form, trait_head_form, trait_ref_form, value_head_form}
-use Rattle.lay_tree.specs.nodes.Types.{about_path, about_type, colon, param_name}
-use Rattle.lay_tree.specs.declared.generics.Generics.{Generics}
-use Rattle.lay_tree.specs.declared.heads.ImplHead.{ImplHead}
-use Rattle.lay_tree.specs.declared.heads.TraitHead.{TraitHead}
-use Rattle.lay_tree.specs.declared.heads.TraitRef.{TraitRef}
-use Rattle.lay_tree.specs.declared.heads.ValueHead.{ValueHead}
-use Rattle.lay_tree.specs.declared.heads.ValueHead.TheVariants as value
-use Rattle.lay_tree.specs.declared.token.GivenName.{GivenName}
-use Rattle.lay_tree.specs.declared.token.Name.{Name}
-use Rattle.lay_tree.specs.declared.types.Bound.{Bound}
-use Rattle.lay_tree.specs.declared.types.PathStyle.TheVariants.{Kind}
-use Rattle.lay_tree.specs.declared.types.Ty.{Ty}
+use Rattle.lay_node.specs.Words.{leaf_of}
+use Rattle.lay_node.specs.nodes.Functions.{mut_word}
+use Rattle.lay_node.specs.nodes.Generics.{bounded_form, generics_form}
+use Rattle.lay_node.specs.nodes.Heads.{called, impl_head_form, trait_head_form, trait_ref_form, value_head_form}
+use Rattle.lay_node.specs.nodes.Types.{about_path, about_type, colon, param_name}
+use Rattle.lay_node.specs.declared.generics.Generics.{Generics}
+use Rattle.lay_node.specs.declared.heads.ImplHead.{ImplHead}
+use Rattle.lay_node.specs.declared.heads.TraitHead.{TraitHead}
+use Rattle.lay_node.specs.declared.heads.TraitRef.{TraitRef}
+use Rattle.lay_node.specs.declared.heads.ValueHead.{ValueHead}
+use Rattle.lay_node.specs.declared.heads.ValueHead.TheVariants as value
+use Rattle.lay_node.specs.declared.token.GivenName.{GivenName}
+use Rattle.lay_node.specs.declared.token.Name.{Name}
+use Rattle.lay_node.specs.declared.types.Bound.{Bound}
+use Rattle.lay_node.specs.declared.types.PathStyle.TheVariants.{Kind}
+use Rattle.lay_node.specs.declared.types.Ty.{Ty}
 use Rattle.lay_out_tokens.proofs.StreamParts.{leaf_more}
 use Rattle.lay_out_types.proofs.FormRows.{part_more}
 use Rattle.lay_out_types.proofs.PartLemmas.{param_name_more}

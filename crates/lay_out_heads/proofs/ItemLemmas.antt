@@ -6,29 +6,29 @@ use Rattle.lay_layout.specs.declared.layout.Tok.TheVariants as tok
 use Rattle.lay_form.specs.Form.{Form, Done, Part, semicolon}
 use Rattle.lay_form.specs.Notation.{fields, piece}
 use Rattle.lay_form.specs.Stream.{stream_of}
-use Rattle.lay_tree.specs.Words.{leaf_of}
-use Rattle.lay_tree.specs.nodes.Fields.{blank_if, field_form, named_form, tuple_form, variant_form}
-use Rattle.lay_tree.specs.nodes.Generics.{bounded_form, default_form}
-use Rattle.lay_tree.specs.nodes.Heads.{about_alias, about_enum, about_extern_crate, about_struct, about_union, head_fields, leads, seen, struct_tail}
-use Rattle.lay_tree.specs.nodes.Use.{rename_form}
-use Rattle.lay_tree.specs.nodes.Vis.{vis_form}
-use Rattle.lay_tree.specs.nodes.Where.{wheres_before_body, wheres_before_semicolon}
-use Rattle.lay_tree.specs.declared.fields.Field.{Field}
-use Rattle.lay_tree.specs.declared.fields.Fields.{Fields}
-use Rattle.lay_tree.specs.declared.fields.Fields.TheVariants as variant
-use Rattle.lay_tree.specs.declared.fields.TupleField.{TupleField}
-use Rattle.lay_tree.specs.declared.fields.Variant.{Variant}
-use Rattle.lay_tree.specs.declared.generics.Predicate.{Predicate}
-use Rattle.lay_tree.specs.declared.generics.Wheres.{Wheres}
-use Rattle.lay_tree.specs.declared.heads.Alias.{Alias}
-use Rattle.lay_tree.specs.declared.heads.Enum.{Enum}
-use Rattle.lay_tree.specs.declared.heads.ExternCrate.{ExternCrate}
-use Rattle.lay_tree.specs.declared.heads.Site.{Site}
-use Rattle.lay_tree.specs.declared.heads.Site.TheVariants as place
-use Rattle.lay_tree.specs.declared.heads.Struct.{Struct}
-use Rattle.lay_tree.specs.declared.heads.Union.{Union}
-use Rattle.lay_tree.specs.declared.types.Bound.{Bound}
-use Rattle.lay_tree.specs.declared.vis.Vis.{Vis}
+use Rattle.lay_node.specs.Words.{leaf_of}
+use Rattle.lay_node.specs.nodes.Fields.{blank_if, field_form, named_form, tuple_form, variant_form}
+use Rattle.lay_node.specs.nodes.Generics.{bounded_form, default_form}
+use Rattle.lay_node.specs.nodes.Heads.{about_alias, about_enum, about_extern_crate, about_struct, about_union, head_fields, leads, seen, struct_tail}
+use Rattle.lay_node.specs.nodes.Use.{rename_form}
+use Rattle.lay_node.specs.nodes.Vis.{vis_form}
+use Rattle.lay_node.specs.nodes.Where.{wheres_before_body, wheres_before_semicolon}
+use Rattle.lay_node.specs.declared.fields.Field.{Field}
+use Rattle.lay_node.specs.declared.fields.Fields.{Fields}
+use Rattle.lay_node.specs.declared.fields.Fields.TheVariants as variant
+use Rattle.lay_node.specs.declared.fields.TupleField.{TupleField}
+use Rattle.lay_node.specs.declared.fields.Variant.{Variant}
+use Rattle.lay_node.specs.declared.generics.Predicate.{Predicate}
+use Rattle.lay_node.specs.declared.generics.Wheres.{Wheres}
+use Rattle.lay_node.specs.declared.heads.Alias.{Alias}
+use Rattle.lay_node.specs.declared.heads.Enum.{Enum}
+use Rattle.lay_node.specs.declared.heads.ExternCrate.{ExternCrate}
+use Rattle.lay_node.specs.declared.heads.Site.{Site}
+use Rattle.lay_node.specs.declared.heads.Site.TheVariants as place
+use Rattle.lay_node.specs.declared.heads.Struct.{Struct}
+use Rattle.lay_node.specs.declared.heads.Union.{Union}
+use Rattle.lay_node.specs.declared.types.Bound.{Bound}
+use Rattle.lay_node.specs.declared.vis.Vis.{Vis}
 use Rattle.lay_out_tokens.proofs.StreamParts.{leaf_more}
 use Rattle.lay_out_types.proofs.ClauseLemmas.{default_any}
 use Rattle.lay_out_types.proofs.FormRows.{part_more}

@@ -9,11 +9,11 @@ use Rattle.lay_form.specs.Form.{Form, Done, Optional, Part, comma}
 use Rattle.lay_form.specs.Layout.{ends_behind_point}
 use Rattle.lay_form.specs.Notation.{H, body, fields, piece, with_commas}
 use Rattle.lay_form.specs.Stream.{fed, stream_of}
-use Rattle.lay_tree.specs.nodes.Fields.{blank_if}
-use Rattle.lay_tree.specs.nodes.Heads.{HeadFacts, seen}
-use Rattle.lay_tree.specs.nodes.Vis.{vis_form}
-use Rattle.lay_tree.specs.declared.vis.Vis.{Vis}
-use Rattle.lay_tree.specs.declared.vis.Vis.TheVariants as vis
+use Rattle.lay_node.specs.nodes.Fields.{blank_if}
+use Rattle.lay_node.specs.nodes.Heads.{HeadFacts, seen}
+use Rattle.lay_node.specs.nodes.Vis.{vis_form}
+use Rattle.lay_node.specs.declared.vis.Vis.{Vis}
+use Rattle.lay_node.specs.declared.vis.Vis.TheVariants as vis
 use Rattle.lay_out_tokens.proofs.StreamParts.{fed_more}
 use Rattle.lay_out_types.specs.Calls.{Adds}
 use Rattle.lay_out_types.specs.Rows.{further, row}

@@ -6,14 +6,14 @@ use Rattle.lay_form.specs.Form.{Form, Part, closer, opener, semicolon}
 use Rattle.lay_form.specs.Layout.{ends_behind_point}
 use Rattle.lay_form.specs.Notation.{comma_list, fields, piece, where_body, where_semicolon}
 use Rattle.lay_form.specs.Stream.{fed, stream_of}
-use Rattle.lay_tree.specs.nodes.Fields.{blank_if, discriminant_form}
-use Rattle.lay_tree.specs.nodes.Functions.{head_output}
-use Rattle.lay_tree.specs.nodes.Generics.{bounded_form}
-use Rattle.lay_tree.specs.nodes.Where.{predicate_form, wheres_before_body, wheres_before_semicolon}
-use Rattle.lay_tree.specs.declared.generics.Wheres.{Wheres}
-use Rattle.lay_tree.specs.declared.token.Listed.{Listed}
-use Rattle.lay_tree.specs.declared.types.Bound.{Bound}
-use Rattle.lay_tree.specs.declared.types.Ty.{Ty}
+use Rattle.lay_node.specs.nodes.Fields.{blank_if, discriminant_form}
+use Rattle.lay_node.specs.nodes.Functions.{head_output}
+use Rattle.lay_node.specs.nodes.Generics.{bounded_form}
+use Rattle.lay_node.specs.nodes.Where.{predicate_form, wheres_before_body, wheres_before_semicolon}
+use Rattle.lay_node.specs.declared.generics.Wheres.{Wheres}
+use Rattle.lay_node.specs.declared.token.Listed.{Listed}
+use Rattle.lay_node.specs.declared.types.Bound.{Bound}
+use Rattle.lay_node.specs.declared.types.Ty.{Ty}
 use Rattle.lay_out_tokens.proofs.StreamParts.{fed_more}
 use Rattle.lay_out_types.proofs.FormRows.{part_more}
 

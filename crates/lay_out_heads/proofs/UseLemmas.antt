@@ -6,17 +6,17 @@ use Rattle.lay_piece.specs.declared.kind.Delim.TheVariants.{Brace}
 use Rattle.lay_form.specs.Form.{Form, Done, Part, Piece, closer, opener}
 use Rattle.lay_form.specs.Notation.{comma_list, piece}
 use Rattle.lay_form.specs.Stream.{fed, stream_of}
-use Rattle.lay_tree.specs.Words.{colons, leaf_of}
-use Rattle.lay_tree.specs.nodes.Facts.{Facts, forms}
-use Rattle.lay_tree.specs.nodes.Use.{about_use, about_use_end, rename_form, words_form}
-use Rattle.lay_tree.specs.declared.token.GivenName.{GivenName}
-use Rattle.lay_tree.specs.declared.token.GivenName.TheVariants as given
-use Rattle.lay_tree.specs.declared.token.Name.{Name}
-use Rattle.lay_tree.specs.declared.token.Word.{Word}
-use Rattle.lay_tree.specs.declared.use_tree.UseEnd.{UseEnd}
-use Rattle.lay_tree.specs.declared.use_tree.UseEnd.TheVariants as use_end
-use Rattle.lay_tree.specs.declared.use_tree.UseTree.{UseTree}
-use Rattle.lay_tree.proofs.nodes.UseLaws.{glob_is, group_is, use_is, word_is}
+use Rattle.lay_node.specs.Words.{colons, leaf_of}
+use Rattle.lay_node.specs.nodes.Facts.{Facts, forms}
+use Rattle.lay_node.specs.nodes.Use.{about_use, about_use_end, rename_form, words_form}
+use Rattle.lay_node.specs.declared.token.GivenName.{GivenName}
+use Rattle.lay_node.specs.declared.token.GivenName.TheVariants as given
+use Rattle.lay_node.specs.declared.token.Name.{Name}
+use Rattle.lay_node.specs.declared.token.Word.{Word}
+use Rattle.lay_node.specs.declared.use_tree.UseEnd.{UseEnd}
+use Rattle.lay_node.specs.declared.use_tree.UseEnd.TheVariants as use_end
+use Rattle.lay_node.specs.declared.use_tree.UseTree.{UseTree}
+use Rattle.lay_node.proofs.nodes.UseLaws.{glob_is, group_is, use_is, word_is}
 use Rattle.lay_out_tokens.proofs.StreamParts.{leaf_more}
 use Rattle.lay_out_types.specs.Rows.{comma_between, further, list_closed, list_opened, row}
 use Rattle.lay_out_types.proofs.FormRows.{are_none, list_is}

@@ -4,11 +4,11 @@ use Rattle.lay_layout.specs.declared.layout.Tok.{Tok}
 use Rattle.lay_layout.specs.declared.layout.Tok.TheVariants as tok
 use Rattle.lay_form.specs.Form.{Form, Done, Piece}
 use Rattle.lay_form.specs.Stream.{stream_of}
-use Rattle.lay_tree.specs.Words.{colons, leaf_of}
-use Rattle.lay_tree.specs.nodes.Generics.{generics_form}
-use Rattle.lay_tree.specs.declared.generics.Generics.{Generics}
-use Rattle.lay_tree.specs.declared.token.Name.{Name}
-use Rattle.lay_tree.specs.declared.token.Word.{Word}
+use Rattle.lay_node.specs.Words.{colons, leaf_of}
+use Rattle.lay_node.specs.nodes.Generics.{generics_form}
+use Rattle.lay_node.specs.declared.generics.Generics.{Generics}
+use Rattle.lay_node.specs.declared.token.Name.{Name}
+use Rattle.lay_node.specs.declared.token.Word.{Word}
 
 -- a text, a name, and generic parameters
 abbrev pub called_row : List ℕ → Name → Generics → List Tok

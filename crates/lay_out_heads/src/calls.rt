@@ -2,16 +2,16 @@
 ghost use Rattle.std.specs.Prelude.{[], ◌∷◌, cond, pos, true};
 ghost use Rattle.lay_layout.specs.declared.layout.Tok.TheVariants as tok;
 ghost use Rattle.lay_form.specs.Stream.{stream_of};
-ghost use Rattle.lay_tree.specs.nodes.Generics.{generics_form};
-ghost use Rattle.lay_tree.specs.nodes.SimplePath.{simple_path_form};
-ghost use Rattle.lay_tree.specs.nodes.Where.{wheres_before_body, wheres_before_semicolon};
+ghost use Rattle.lay_node.specs.nodes.Generics.{generics_form};
+ghost use Rattle.lay_node.specs.nodes.SimplePath.{simple_path_form};
+ghost use Rattle.lay_node.specs.nodes.Where.{wheres_before_body, wheres_before_semicolon};
 ghost use Rattle.lay_out_types.specs.Calls.{Adds};
 
 use lay_layout::Break;
+use lay_node::{Generics, SimplePath, Wheres};
 use lay_out_tokens::put_simple_path;
 use lay_out_types::{put_generics, put_wheres};
 use lay_stream::Emit;
-use lay_tree::{Generics, SimplePath, Wheres};
 
 /// A break.
 pub fn add_break<E: Emit>(

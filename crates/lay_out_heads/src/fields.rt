@@ -1,15 +1,15 @@
 //! Fields, and the variants of enumerations.
 ghost use Rattle.lay_stream.specs.Fed.{Did};
 ghost use Rattle.lay_form.specs.Stream.{stream_of};
-ghost use Rattle.lay_tree.specs.nodes.Fields.{discriminant_form, field_form, fields_form, tuple_field_form, variant_form};
+ghost use Rattle.lay_node.specs.nodes.Fields.{discriminant_form, field_form, fields_form, tuple_field_form, variant_form};
 ghost use Rattle.lay_out_types.specs.Calls.{Adds};
 
 use crate::loops::{Part, add_braces, add_parens};
 use crate::vis::add_vis;
+use lay_node::{Field, Fields, Tokens, TupleField, Variant};
 use lay_out_types::calls::{add_text, add_tokens, add_word};
 use lay_out_types::{add_attrs, add_type};
 use lay_stream::Emit;
-use lay_tree::{Field, Fields, Tokens, TupleField, Variant};
 
 /// Feeds the layout of fields: in parentheses, or in braces with a leading blank or without it. It is nothing without
 /// fields.

@@ -3,17 +3,17 @@ ghost use Rattle.std.specs.Prelude.{◌≡◌};
 ghost use Rattle.lay_form.specs.Form.{Done};
 ghost use Rattle.lay_stream.specs.Fed.{Did};
 ghost use Rattle.lay_form.specs.Stream.{stream_of};
-ghost use Rattle.lay_tree.specs.nodes.Functions.{ends_variadic, fn_head_form, fn_param_form, fn_params_form, head_output};
-ghost use Rattle.lay_tree.specs.nodes.Functions.{is_variadic, param_kind_form, safety_form, self_type, signature_form};
+ghost use Rattle.lay_node.specs.nodes.Functions.{ends_variadic, fn_head_form, fn_param_form, fn_params_form, head_output};
+ghost use Rattle.lay_node.specs.nodes.Functions.{is_variadic, param_kind_form, safety_form, self_type, signature_form};
 ghost use Rattle.lay_out_types.specs.Calls.{Adds};
 
 use crate::calls::add_generics;
 use crate::loops::{Part, add_parens};
+use lay_node::{FnHead, Param, ParamKind, Safety, Ty};
 use lay_out_types::calls::{add_if, add_text, add_word};
 use lay_out_types::parts::{add_abi, add_param_attrs, add_reference};
 use lay_out_types::{add_pat, add_type};
 use lay_stream::Emit;
-use lay_tree::{FnHead, Param, ParamKind, Safety, Ty};
 
 /// Feeds the layout of the head of a function.
 pub fn put_fn_head<E: Emit>(out: &mut E, head: &FnHead) -> Result<(), E::Fault>

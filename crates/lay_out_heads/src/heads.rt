@@ -2,16 +2,16 @@
 ghost use Rattle.lay_form.specs.Form.{Done};
 ghost use Rattle.lay_stream.specs.Fed.{Did};
 ghost use Rattle.lay_form.specs.Stream.{stream_of};
-ghost use Rattle.lay_tree.specs.nodes.Heads.{impl_head_form, trait_head_form, trait_ref_form, value_head_form};
+ghost use Rattle.lay_node.specs.nodes.Heads.{impl_head_form, trait_head_form, trait_ref_form, value_head_form};
 ghost use Rattle.lay_out_types.specs.Calls.{Adds};
 ghost use Rattle.lay_out_heads.specs.HeadRows.{called_row};
 
 use crate::calls::add_generics;
+use lay_node::{Generics, ImplHead, Name, PathStyle, TraitHead, TraitRef, ValueHead};
 use lay_out_types::calls::{add_if, add_text, add_word};
 use lay_out_types::parts::add_given_name;
 use lay_out_types::{add_asked, add_path, add_type};
 use lay_stream::Emit;
-use lay_tree::{Generics, ImplHead, Name, PathStyle, TraitHead, TraitRef, ValueHead};
 
 /// Feeds the layout of the head of a trait.
 pub fn put_trait_head<E: Emit>(out: &mut E, head: &TraitHead) -> Result<(), E::Fault>

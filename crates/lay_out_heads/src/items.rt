@@ -5,12 +5,12 @@ ghost use Rattle.lay_stream.specs.Fed.{Did};
 ghost use Rattle.lay_form.specs.Form.{Part as PartOf, semicolon};
 ghost use Rattle.lay_form.specs.Notation.{fields, piece};
 ghost use Rattle.lay_form.specs.Stream.{stream_of};
-ghost use Rattle.lay_tree.specs.nodes.Fields.{blank_if};
-ghost use Rattle.lay_tree.specs.nodes.Heads.{about_alias, about_enum, about_extern_crate, about_struct, about_union};
-ghost use Rattle.lay_tree.specs.nodes.Heads.{head_fields, leads, seen, struct_tail};
-ghost use Rattle.lay_tree.specs.nodes.Vis.{vis_form};
-ghost use Rattle.lay_tree.specs.nodes.Where.{wheres_before_body, wheres_before_semicolon};
-ghost use Rattle.lay_tree.specs.declared.heads.Site.{Site};
+ghost use Rattle.lay_node.specs.nodes.Fields.{blank_if};
+ghost use Rattle.lay_node.specs.nodes.Heads.{about_alias, about_enum, about_extern_crate, about_struct, about_union};
+ghost use Rattle.lay_node.specs.nodes.Heads.{head_fields, leads, seen, struct_tail};
+ghost use Rattle.lay_node.specs.nodes.Vis.{vis_form};
+ghost use Rattle.lay_node.specs.nodes.Where.{wheres_before_body, wheres_before_semicolon};
+ghost use Rattle.lay_node.specs.declared.heads.Site.{Site};
 ghost use Rattle.lay_out_types.specs.Calls.{Adds};
 
 use crate::calls::add_wheres;
@@ -18,11 +18,11 @@ use crate::heads::add_called;
 use crate::loops::{Part, add_braces, add_parens};
 use crate::uses::add_rename;
 use crate::vis::add_vis;
+use lay_node::{Alias, Enum, ExternCrate, Fields, Struct, Union, Vis, Wheres};
 use lay_out_types::calls::{add_text, add_word};
 use lay_out_types::lists::add_end;
 use lay_out_types::{add_asked, add_default, add_group};
 use lay_stream::Emit;
-use lay_tree::{Alias, Enum, ExternCrate, Fields, Struct, Union, Vis, Wheres};
 
 /// Feeds the layout of a struct.
 pub fn put_struct<E: Emit>(out: &mut E, vis: &Vis, node: &Struct) -> Result<(), E::Fault>

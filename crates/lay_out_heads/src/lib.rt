@@ -1,6 +1,6 @@
 //! How visibilities, fields, the heads of items, the items that are heads alone, and use trees are laid out.
 //!
-//! Each public call appends to an [`Emit`](lay_stream::Emit) exactly the stream of the form that `lay_tree` gives to
+//! Each public call appends to an [`Emit`](lay_stream::Emit) exactly the stream of the form that `lay_node` gives to
 //! its node, or stops where the `Emit` does.
 //!
 //! Within the crate a function is told how the calls before it came out, as in [`lay_out_types`], whose functions lay

@@ -5,7 +5,7 @@ ghost use Rattle.lay_piece.specs.declared.kind.Delim.TheVariants.{Paren};
 ghost use Rattle.lay_form.specs.Form.{Form, closer, opener};
 ghost use Rattle.lay_form.specs.Notation.{comma_list, fields};
 ghost use Rattle.lay_form.specs.Stream.{stream_of};
-ghost use Rattle.lay_tree.specs.nodes.Fields.{blank_if};
+ghost use Rattle.lay_node.specs.nodes.Fields.{blank_if};
 ghost use Rattle.lay_out_types.specs.Calls.{Adds};
 ghost use Rattle.lay_out_heads.specs.FieldRows.{body_closed, body_opened, fields_between, fields_closed, fields_opened};
 

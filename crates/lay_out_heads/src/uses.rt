@@ -5,14 +5,14 @@ ghost use Rattle.lay_piece.specs.declared.kind.Delim.TheVariants.{Brace};
 ghost use Rattle.lay_form.specs.Form.{Done, closer, opener};
 ghost use Rattle.lay_form.specs.Notation.{comma_list};
 ghost use Rattle.lay_form.specs.Stream.{stream_of};
-ghost use Rattle.lay_tree.specs.nodes.Facts.{forms};
-ghost use Rattle.lay_tree.specs.nodes.Use.{about_use, about_use_end, rename_form, words_form};
+ghost use Rattle.lay_node.specs.nodes.Facts.{forms};
+ghost use Rattle.lay_node.specs.nodes.Use.{about_use, about_use_end, rename_form, words_form};
 ghost use Rattle.lay_out_types.specs.Calls.{Adds};
 
+use lay_node::{GivenName, UseEnd, UseTree, Word};
 use lay_out_types::calls::{add_if, add_text, add_word};
 use lay_out_types::lists::{add_close, add_lead};
 use lay_stream::Emit;
-use lay_tree::{GivenName, UseEnd, UseTree, Word};
 
 /// Feeds the layout of a use tree.
 pub fn put_use<E: Emit>(out: &mut E, tree: &UseTree) -> Result<(), E::Fault>

@@ -1,13 +1,13 @@
 //! Visibilities.
 ghost use Rattle.lay_stream.specs.Fed.{Did};
 ghost use Rattle.lay_form.specs.Stream.{stream_of};
-ghost use Rattle.lay_tree.specs.nodes.Vis.{vis_form};
+ghost use Rattle.lay_node.specs.nodes.Vis.{vis_form};
 ghost use Rattle.lay_out_types.specs.Calls.{Adds};
 
 use crate::calls::add_simple_path;
+use lay_node::Vis;
 use lay_out_types::calls::add_text;
 use lay_stream::Emit;
-use lay_tree::Vis;
 
 /// Feeds the layout of a visibility, with a blank behind it; nothing where none is said.
 pub fn put_vis<E: Emit>(out: &mut E, vis: &Vis) -> Result<(), E::Fault>

@@ -2,11 +2,11 @@
 use Rattle.std.proofs.Common.{◌≡◌, Bool, true, false, cond, not, ◌&&◌, ◌||◌, List, drop, ℕ, codes, refl, sym}
 use Rattle.std.specs.Str.{bytes_eq}
 use Rattle.lay_token.specs.Lexes.{is_punct}
-use Rattle.lay_tree.specs.tokens.Listing.{kind_of, text_of}
-use Rattle.lay_tree.specs.tokens.Pairs.{Neighbour, Nothing, Single, Enclosed, Seen, Separation, NoBreak, SoftBreak}
-use Rattle.lay_tree.specs.tokens.Pairs.{first_row, rows, is_mark, is_joint_mark, is_joint_neighbour, is_punct_neighbour}
-use Rattle.lay_tree.specs.tokens.Pairs.{is_any_word, is_number, is_free_word, is_keyword, is_nothing, is_brace}
-use Rattle.lay_tree.specs.tokens.Pairs.{is_bracket}
+use Rattle.lay_node.specs.tokens.Listing.{kind_of, text_of}
+use Rattle.lay_node.specs.tokens.Pairs.{Neighbour, Nothing, Single, Enclosed, Seen, Separation, NoBreak, SoftBreak}
+use Rattle.lay_node.specs.tokens.Pairs.{first_row, rows, is_mark, is_joint_mark, is_joint_neighbour, is_punct_neighbour}
+use Rattle.lay_node.specs.tokens.Pairs.{is_any_word, is_number, is_free_word, is_keyword, is_nothing, is_brace}
+use Rattle.lay_node.specs.tokens.Pairs.{is_bracket}
 
 pub and_false : (a b : Bool) → a ≡ false → (a && b) ≡ false
 and_false true b h = cc

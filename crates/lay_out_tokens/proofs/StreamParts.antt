@@ -20,23 +20,23 @@ use Rattle.lay_form.specs.Layout.{break_of, document, ends_behind_point, text_of
 use Rattle.lay_form.specs.Notation.{H, piece, when}
 use Rattle.lay_form.specs.Stream.{fed, feed_doc, feed_text, stream_of}
 use Rattle.lay_form.proofs.StreamLaws.{laid_fed, stream_is}
-use Rattle.lay_tree.specs.Words.{colons, leaf_of}
-use Rattle.lay_tree.specs.nodes.Attr.{attr_form, attr_part, behind_attr, is_inner, is_line, input_form, meta_path_form}
-use Rattle.lay_tree.specs.nodes.Call.{bang, call_form}
-use Rattle.lay_tree.specs.nodes.SimplePath.{simple_path_form, simple_words_form}
-use Rattle.lay_tree.specs.tokens.Lists.{enclosed_form, ended_by, ends_in_line, form_of_grouping, group_form, token_list}
-use Rattle.lay_tree.specs.tokens.Listing.{Grouping, NoMore, in_groups}
-use Rattle.lay_tree.specs.tokens.Pairs.{at_start}
-use Rattle.lay_tree.specs.declared.attr.Attr.{Attr}
-use Rattle.lay_tree.specs.declared.attr.Attr.TheVariants as attr
-use Rattle.lay_tree.specs.declared.attr.MetaInput.{MetaInput}
-use Rattle.lay_tree.specs.declared.attr.MetaInput.TheVariants as input
-use Rattle.lay_tree.specs.declared.attr.MetaPath.{MetaPath}
-use Rattle.lay_tree.specs.declared.simple_path.SimplePath.{SimplePath}
-use Rattle.lay_tree.specs.declared.token.Listed.{Listed}
-use Rattle.lay_tree.specs.declared.token.Word.{Word}
-use Rattle.lay_tree.specs.declared.tokens.Group.{Group}
-use Rattle.lay_tree.specs.declared.tokens.MacroCall.{MacroCall}
+use Rattle.lay_node.specs.Words.{colons, leaf_of}
+use Rattle.lay_node.specs.nodes.Attr.{attr_form, attr_part, behind_attr, is_inner, is_line, input_form, meta_path_form}
+use Rattle.lay_node.specs.nodes.Call.{bang, call_form}
+use Rattle.lay_node.specs.nodes.SimplePath.{simple_path_form, simple_words_form}
+use Rattle.lay_node.specs.tokens.Lists.{enclosed_form, ended_by, ends_in_line, form_of_grouping, group_form, token_list}
+use Rattle.lay_node.specs.tokens.Listing.{Grouping, NoMore, in_groups}
+use Rattle.lay_node.specs.tokens.Pairs.{at_start}
+use Rattle.lay_node.specs.declared.attr.Attr.{Attr}
+use Rattle.lay_node.specs.declared.attr.Attr.TheVariants as attr
+use Rattle.lay_node.specs.declared.attr.MetaInput.{MetaInput}
+use Rattle.lay_node.specs.declared.attr.MetaInput.TheVariants as input
+use Rattle.lay_node.specs.declared.attr.MetaPath.{MetaPath}
+use Rattle.lay_node.specs.declared.simple_path.SimplePath.{SimplePath}
+use Rattle.lay_node.specs.declared.token.Listed.{Listed}
+use Rattle.lay_node.specs.declared.token.Word.{Word}
+use Rattle.lay_node.specs.declared.tokens.Group.{Group}
+use Rattle.lay_node.specs.declared.tokens.MacroCall.{MacroCall}
 use Rattle.lay_out_tokens.specs.Fed as feeds
 use Rattle.lay_out_tokens.specs.Fed.{opening_space, closing_space}
 use Rattle.lay_out_tokens.specs.Parts.{further_words}

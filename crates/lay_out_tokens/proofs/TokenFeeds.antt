@@ -13,15 +13,15 @@ use Rattle.lay_form.specs.Form.{Form, Done, Part}
 use Rattle.lay_form.specs.Layout.{document, token_ends_in_point}
 use Rattle.lay_form.specs.Stream.{fed, feed_doc, stream_of}
 use Rattle.lay_form.proofs.StreamLaws.{stream_is}
-use Rattle.lay_tree.specs.Ahead.{same_delim}
-use Rattle.lay_tree.specs.tokens.Lists.{enclosed_form, ends_in_line, form_of_grouping, group_form}
-use Rattle.lay_tree.specs.tokens.Listing.{balances, turned, is_balanced, kind_of, listed_form, enclosed, Nested, nested}
-use Rattle.lay_tree.specs.tokens.Listing.{nested_by, in_groups, Grouping, NoMore, OneToken, OneGroup}
-use Rattle.lay_tree.specs.tokens.Pairs.{Separation, NoBreak, SoftBreak, HardBreak, Seen, Single, Enclosed, is_nothing}
-use Rattle.lay_tree.specs.tokens.Pairs.{is_line_doc, between, leads, seen_token, at_start, behind_group, seen_all}
-use Rattle.lay_tree.specs.declared.token.Listed.{Listed}
-use Rattle.lay_tree.specs.declared.token.Listed.TheVariants as listed
-use Rattle.lay_tree.specs.declared.tokens.Group.{Group}
+use Rattle.lay_node.specs.Ahead.{same_delim}
+use Rattle.lay_node.specs.tokens.Lists.{enclosed_form, ends_in_line, form_of_grouping, group_form}
+use Rattle.lay_node.specs.tokens.Listing.{balances, turned, is_balanced, kind_of, listed_form, enclosed, Nested, nested}
+use Rattle.lay_node.specs.tokens.Listing.{nested_by, in_groups, Grouping, NoMore, OneToken, OneGroup}
+use Rattle.lay_node.specs.tokens.Pairs.{Separation, NoBreak, SoftBreak, HardBreak, Seen, Single, Enclosed, is_nothing}
+use Rattle.lay_node.specs.tokens.Pairs.{is_line_doc, between, leads, seen_token, at_start, behind_group, seen_all}
+use Rattle.lay_node.specs.declared.token.Listed.{Listed}
+use Rattle.lay_node.specs.declared.token.Listed.TheVariants as listed
+use Rattle.lay_node.specs.declared.tokens.Group.{Group}
 use Rattle.lay_out_tokens.specs.Fed as feeds
 use Rattle.lay_out_tokens.specs.Fed.{fed_gap, empty_group, opened, fed_opener, fed_closer, closes_at_once, fed_by}
 use Rattle.lay_token.specs.Delimiters.{is_closer}

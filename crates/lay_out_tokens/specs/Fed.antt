@@ -11,10 +11,10 @@ use Rattle.lay_token.specs.Delimiters.{is_closer}
 use Rattle.lay_form.specs.Form.{Space, Soft, Hard, Done}
 use Rattle.lay_form.specs.Layout.{break_of}
 use Rattle.lay_form.specs.Stream.{stream_of}
-use Rattle.lay_tree.specs.tokens.Listing.{kind_of, listed_form}
-use Rattle.lay_tree.specs.tokens.Pairs.{Separation, NoBreak, SoftBreak, HardBreak, Seen, Single, Enclosed, is_nothing}
-use Rattle.lay_tree.specs.tokens.Pairs.{is_line_doc, between, seen_token, at_start, behind_group}
-use Rattle.lay_tree.specs.declared.token.Listed.{Listed}
+use Rattle.lay_node.specs.tokens.Listing.{kind_of, listed_form}
+use Rattle.lay_node.specs.tokens.Pairs.{Separation, NoBreak, SoftBreak, HardBreak, Seen, Single, Enclosed, is_nothing}
+use Rattle.lay_node.specs.tokens.Pairs.{is_line_doc, between, seen_token, at_start, behind_group}
+use Rattle.lay_node.specs.declared.token.Listed.{Listed}
 
 abbrev pub fed_gap : Separation → List Tok
 fed_gap NoBreak = []

@@ -1,5 +1,5 @@
 -- What the neighbours of the code stand for.
-use Rattle.lay_tree.specs.tokens.Pairs as pairs
+use Rattle.lay_node.specs.tokens.Pairs as pairs
 use Rattle.lay_out_tokens.specs.declared.neighbours.Neighbour.{Neighbour}
 use Rattle.lay_out_tokens.specs.declared.neighbours.Neighbour.TheVariants as neighbour
 use Rattle.lay_out_tokens.specs.declared.separation.Seen.{Seen}

@@ -2,10 +2,10 @@
 use Rattle.std.specs.Prelude.{List, [], ◌∷◌}
 use Rattle.lay_piece.specs.declared.kind.Delim.{Delim}
 use Rattle.lay_form.specs.Form.{Form, Done, Piece}
-use Rattle.lay_tree.specs.Words.{leaf_of, colons}
-use Rattle.lay_tree.specs.tokens.Lists.{group_form}
-use Rattle.lay_tree.specs.declared.token.Listed.{Listed}
-use Rattle.lay_tree.specs.declared.token.Word.{Word}
+use Rattle.lay_node.specs.Words.{leaf_of, colons}
+use Rattle.lay_node.specs.tokens.Lists.{group_form}
+use Rattle.lay_node.specs.declared.token.Listed.{Listed}
+use Rattle.lay_node.specs.declared.token.Word.{Word}
 
 -- the words of a simple path behind its first, each with a `::` before it
 abbrev pub further_words : List Word → Form

@@ -4,17 +4,17 @@ ghost use Rattle.lay_layout.specs.declared.layout.Tok.TheVariants as tok;
 ghost use Rattle.lay_stream.specs.Fed.{Did};
 ghost use Rattle.lay_form.specs.Form.{Done};
 ghost use Rattle.lay_form.specs.Stream.{stream_of};
-ghost use Rattle.lay_tree.specs.nodes.Attr.{attr_form, attr_part, behind_attr, input_form, is_inner, is_line};
-ghost use Rattle.lay_tree.specs.nodes.Attr.{meta_path_form};
-ghost use Rattle.lay_tree.specs.declared.attr.Attr.TheVariants as attr;
-ghost use Rattle.lay_tree.specs.declared.attr.MetaInput.TheVariants as input;
+ghost use Rattle.lay_node.specs.nodes.Attr.{attr_form, attr_part, behind_attr, input_form, is_inner, is_line};
+ghost use Rattle.lay_node.specs.nodes.Attr.{meta_path_form};
+ghost use Rattle.lay_node.specs.declared.attr.Attr.TheVariants as attr;
+ghost use Rattle.lay_node.specs.declared.attr.MetaInput.TheVariants as input;
 
 use crate::notation::HARD_BREAK;
 use crate::simple_paths::put_simple_path;
 use crate::tokens::{put_group, put_tokens};
 use crate::words::{is_block, put_doc, put_either};
+use lay_node::{Attr, MetaInput, MetaPath, Tokens};
 use lay_stream::Emit;
-use lay_tree::{Attr, MetaInput, MetaPath, Tokens};
 
 /// Feeds the layout of an attribute within other parts: an inner one alone; an outer one and a newline, where one is
 /// wanted or it is documentation on a line, or else a blank.

@@ -4,13 +4,13 @@ ghost use Rattle.lay_layout.specs.declared.layout.Tok.TheVariants as tok;
 ghost use Rattle.lay_stream.specs.Fed.{Did};
 ghost use Rattle.lay_form.specs.Layout.{text_of_bits};
 ghost use Rattle.lay_form.specs.Stream.{stream_of};
-ghost use Rattle.lay_tree.specs.nodes.Call.{bang, call_form};
+ghost use Rattle.lay_node.specs.nodes.Call.{bang, call_form};
 
 use crate::simple_paths::put_simple_path;
 use crate::tokens::put_group;
+use lay_node::MacroCall;
 use lay_stream::Emit;
 use lay_token::Delim;
-use lay_tree::MacroCall;
 
 /// Feeds the layout of a macro call.
 pub fn put_call<E: Emit>(out: &mut E, call: &MacroCall) -> Result<(), E::Fault>

@@ -5,13 +5,13 @@ ghost use Rattle.std.specs.List.{list_all};
 ghost use Rattle.std.specs.Str.{bytes_eq};
 ghost use Rattle.lay_token.specs.Lexes.{is_punct};
 ghost use Rattle.lay_piece.specs.Number.{is_index};
-ghost use Rattle.lay_tree.specs.tokens.Listing as listing;
-ghost use Rattle.lay_tree.specs.tokens.Pairs as pairs;
+ghost use Rattle.lay_node.specs.tokens.Listing as listing;
+ghost use Rattle.lay_node.specs.tokens.Pairs as pairs;
 ghost use Rattle.lay_out_tokens.specs.Neighbours.{neighbour_of};
 
 use crate::words::is_block;
+use lay_node::Listed;
 use lay_token::{Class, Delim, Kind, word_class};
-use lay_tree::Listed;
 
 /// A neighbour of a place: none, a single token, or a group in delimiters.
 #[derive(Clone, Copy)]

@@ -1,15 +1,15 @@
 //! What stands between two neighbours of a token list.
 ghost use Rattle.std.specs.Prelude.{◌≡◌, ◌&&◌, ◌||◌, ◌<◌, ◌≤◌, ◌+◌, not, drop, codes, true};
-ghost use Rattle.lay_tree.specs.tokens.Pairs as pairs;
-ghost use Rattle.lay_tree.specs.tokens.Pairs.{ends_turbofish, is_any_word, is_brace, is_bracket, is_free_word};
-ghost use Rattle.lay_tree.specs.tokens.Pairs.{is_joint_mark, is_joint_neighbour, is_keyword, is_mark, is_nothing};
-ghost use Rattle.lay_tree.specs.tokens.Pairs.{is_number, is_paren, is_positive, is_punct_neighbour, opens_turbofish};
+ghost use Rattle.lay_node.specs.tokens.Pairs as pairs;
+ghost use Rattle.lay_node.specs.tokens.Pairs.{ends_turbofish, is_any_word, is_brace, is_bracket, is_free_word};
+ghost use Rattle.lay_node.specs.tokens.Pairs.{is_joint_mark, is_joint_neighbour, is_keyword, is_mark, is_nothing};
+ghost use Rattle.lay_node.specs.tokens.Pairs.{is_number, is_paren, is_positive, is_punct_neighbour, opens_turbofish};
 ghost use Rattle.lay_out_tokens.specs.Fed.{seen_behind};
 ghost use Rattle.lay_out_tokens.specs.Neighbours.{neighbour_of, seen_of, separation_of};
 
 use crate::neighbours::{Neighbour, kind_of};
+use lay_node::Listed;
 use lay_token::{Delim, Kind};
-use lay_tree::Listed;
 
 /// What stands before a place of a token list.
 #[derive(Clone, Copy)]

@@ -3,13 +3,13 @@ ghost use Rattle.lay_stream.specs.Fed.{Did};
 ghost use Rattle.lay_form.specs.Form.{Done};
 ghost use Rattle.lay_form.specs.Notation.{when};
 ghost use Rattle.lay_form.specs.Stream.{stream_of};
-ghost use Rattle.lay_tree.specs.Words.{colons, leaf_of};
-ghost use Rattle.lay_tree.specs.nodes.SimplePath.{simple_path_form, simple_words_form};
+ghost use Rattle.lay_node.specs.Words.{colons, leaf_of};
+ghost use Rattle.lay_node.specs.nodes.SimplePath.{simple_path_form, simple_words_form};
 ghost use Rattle.lay_out_tokens.specs.Parts.{further_words};
 
 use crate::words::put_word;
+use lay_node::{SimplePath, Word};
 use lay_stream::Emit;
-use lay_tree::{SimplePath, Word};
 
 /// A simple path.
 pub fn put_simple_path<E: Emit>(out: &mut E, path: &SimplePath) -> Result<(), E::Fault>

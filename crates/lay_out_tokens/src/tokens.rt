@@ -7,10 +7,10 @@ ghost use Rattle.lay_stream.specs.Fed.{Did};
 ghost use Rattle.lay_form.specs.Form.{Done};
 ghost use Rattle.lay_form.specs.Layout.{break_of};
 ghost use Rattle.lay_form.specs.Stream.{stream_of};
-ghost use Rattle.lay_tree.specs.tokens.Lists.{ended_by, ends_in_line, form_of_grouping, group_form, token_list};
-ghost use Rattle.lay_tree.specs.tokens.Listing.{in_groups, is_balanced, listed_form};
-ghost use Rattle.lay_tree.specs.tokens.Pairs.{at_start};
-ghost use Rattle.lay_tree.specs.tokens.Pairs as pairs;
+ghost use Rattle.lay_node.specs.tokens.Lists.{ended_by, ends_in_line, form_of_grouping, group_form, token_list};
+ghost use Rattle.lay_node.specs.tokens.Listing.{in_groups, is_balanced, listed_form};
+ghost use Rattle.lay_node.specs.tokens.Pairs.{at_start};
+ghost use Rattle.lay_node.specs.tokens.Pairs as pairs;
 ghost use Rattle.lay_out_tokens.specs.Fed.{closed, closes_at_once, closing_space, empty_group, fed_closer, fed_gap};
 ghost use Rattle.lay_out_tokens.specs.Fed.{fed_opener, fed_token, opened, opening_space};
 ghost use Rattle.lay_out_tokens.specs.Neighbours.{neighbour_of, seen_of, separation_of};
@@ -23,9 +23,9 @@ use crate::notation::{
 };
 use crate::separation::{Seen, Separation, between};
 use crate::words::{put_doc, put_token};
+use lay_node::{Group, Listed, Tokens};
 use lay_stream::Emit;
 use lay_token::{Break, Delim, Kind};
-use lay_tree::{Group, Listed, Tokens};
 
 /// Feeds the layout of a token list.
 pub fn put_tokens<E: Emit>(out: &mut E, tokens: &Tokens) -> Result<(), E::Fault>

@@ -6,7 +6,7 @@ ghost use Rattle.lay_stream.specs.Fed.{Did};
 ghost use Rattle.lay_form.specs.Form.{Done, Leaf};
 ghost use Rattle.lay_form.specs.Layout.{is_block};
 ghost use Rattle.lay_form.specs.Stream.{feed_doc, feed_text, stream_of};
-ghost use Rattle.lay_tree.specs.Words.{leaf_of};
+ghost use Rattle.lay_node.specs.Words.{leaf_of};
 
 use lay_stream::Emit;
 use lay_token::{DocForm, Kind, Text, doc_form};

@@ -7,26 +7,26 @@ use Rattle.lay_layout.specs.declared.layout.Tok.TheVariants as tok
 use Rattle.lay_form.specs.Form.{Blank, Done, Piece, Part, keyword}
 use Rattle.lay_form.specs.Notation.{comma_list}
 use Rattle.lay_form.specs.Stream.{fed, stream_of}
-use Rattle.lay_tree.specs.Words.{leaf_of}
-use Rattle.lay_tree.specs.nodes.Generics.{bounded_form, const_default_form, default_form, generics_form, param_form}
-use Rattle.lay_tree.specs.nodes.Types.{about_bound, about_type, binder_form, bounds_form, colon, const_form, greater}
-use Rattle.lay_tree.specs.nodes.Types.{less, outlived_form, param_attrs}
-use Rattle.lay_tree.specs.nodes.Where.{meets_form, predicate_form, wheres_before_body, wheres_before_semicolon}
-use Rattle.lay_tree.specs.declared.attr.Attr.{Attr}
-use Rattle.lay_tree.specs.declared.generics.ConstDefault.{ConstDefault}
-use Rattle.lay_tree.specs.declared.generics.ConstDefault.TheVariants as const_default
-use Rattle.lay_tree.specs.declared.generics.GenericParam.{GenericParam}
-use Rattle.lay_tree.specs.declared.generics.GenericParam.TheVariants as param
-use Rattle.lay_tree.specs.declared.generics.Generics.{Generics}
-use Rattle.lay_tree.specs.declared.generics.Predicate.{Predicate}
-use Rattle.lay_tree.specs.declared.generics.Predicate.TheVariants as predicate
-use Rattle.lay_tree.specs.declared.generics.Wheres.{Wheres}
-use Rattle.lay_tree.specs.declared.token.Lifetime.{Lifetime}
-use Rattle.lay_tree.specs.declared.token.Name.{Name}
-use Rattle.lay_tree.specs.declared.types.Binder.{Binder}
-use Rattle.lay_tree.specs.declared.types.Bound.{Bound}
-use Rattle.lay_tree.specs.declared.types.ConstArg.{ConstArg}
-use Rattle.lay_tree.specs.declared.types.Ty.{Ty}
+use Rattle.lay_node.specs.Words.{leaf_of}
+use Rattle.lay_node.specs.nodes.Generics.{bounded_form, const_default_form, default_form, generics_form, param_form}
+use Rattle.lay_node.specs.nodes.Types.{about_bound, about_type, binder_form, bounds_form, colon, const_form, greater}
+use Rattle.lay_node.specs.nodes.Types.{less, outlived_form, param_attrs}
+use Rattle.lay_node.specs.nodes.Where.{meets_form, predicate_form, wheres_before_body, wheres_before_semicolon}
+use Rattle.lay_node.specs.declared.attr.Attr.{Attr}
+use Rattle.lay_node.specs.declared.generics.ConstDefault.{ConstDefault}
+use Rattle.lay_node.specs.declared.generics.ConstDefault.TheVariants as const_default
+use Rattle.lay_node.specs.declared.generics.GenericParam.{GenericParam}
+use Rattle.lay_node.specs.declared.generics.GenericParam.TheVariants as param
+use Rattle.lay_node.specs.declared.generics.Generics.{Generics}
+use Rattle.lay_node.specs.declared.generics.Predicate.{Predicate}
+use Rattle.lay_node.specs.declared.generics.Predicate.TheVariants as predicate
+use Rattle.lay_node.specs.declared.generics.Wheres.{Wheres}
+use Rattle.lay_node.specs.declared.token.Lifetime.{Lifetime}
+use Rattle.lay_node.specs.declared.token.Name.{Name}
+use Rattle.lay_node.specs.declared.types.Binder.{Binder}
+use Rattle.lay_node.specs.declared.types.Bound.{Bound}
+use Rattle.lay_node.specs.declared.types.ConstArg.{ConstArg}
+use Rattle.lay_node.specs.declared.types.Ty.{Ty}
 use Rattle.lay_out_tokens.proofs.StreamParts.{leaf_more}
 use Rattle.lay_out_types.specs.Rows.{comma_between, row, wheres_closed, wheres_opened}
 use Rattle.lay_out_types.proofs.FormRows.{are_none, part_more, predicates_are}

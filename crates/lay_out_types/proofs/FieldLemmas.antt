@@ -13,21 +13,21 @@ use Rattle.lay_form.specs.Layout.{break_of, ends_behind_point}
 use Rattle.lay_form.specs.Notation.{B, H, I0, behind_attrs, braces, comma_gap, each, piece}
 use Rattle.lay_form.specs.Notation as notation
 use Rattle.lay_form.specs.Stream.{fed, stream_of}
-use Rattle.lay_tree.specs.Words.{leaf_of}
-use Rattle.lay_tree.specs.nodes.Attr.{attr_form}
-use Rattle.lay_tree.specs.nodes.Facts.{Facts, forms}
-use Rattle.lay_tree.specs.nodes.Patterns.{about_field_pat, about_pat, pat_form, rest_form}
-use Rattle.lay_tree.specs.nodes.Types.{about_path, colon, joined}
-use Rattle.lay_tree.specs.declared.attr.Attr.{Attr}
-use Rattle.lay_tree.specs.declared.patterns.FieldPat.{FieldPat}
-use Rattle.lay_tree.specs.declared.patterns.FieldPat.TheVariants as field
-use Rattle.lay_tree.specs.declared.patterns.Pat.{Pat}
-use Rattle.lay_tree.specs.declared.patterns.Pat.TheVariants as pat
-use Rattle.lay_tree.specs.declared.patterns.PatPlace.TheVariants.{Alternatives, Single}
-use Rattle.lay_tree.specs.declared.token.Name.{Name}
-use Rattle.lay_tree.specs.declared.types.Path.{Path}
-use Rattle.lay_tree.specs.declared.types.PathStyle.TheVariants.{Code}
-use Rattle.lay_tree.proofs.nodes.PatternsLaws.{field_index_is, field_named_is, field_short_is, pat_struct_is}
+use Rattle.lay_node.specs.Words.{leaf_of}
+use Rattle.lay_node.specs.nodes.Attr.{attr_form}
+use Rattle.lay_node.specs.nodes.Facts.{Facts, forms}
+use Rattle.lay_node.specs.nodes.Patterns.{about_field_pat, about_pat, pat_form, rest_form}
+use Rattle.lay_node.specs.nodes.Types.{about_path, colon, joined}
+use Rattle.lay_node.specs.declared.attr.Attr.{Attr}
+use Rattle.lay_node.specs.declared.patterns.FieldPat.{FieldPat}
+use Rattle.lay_node.specs.declared.patterns.FieldPat.TheVariants as field
+use Rattle.lay_node.specs.declared.patterns.Pat.{Pat}
+use Rattle.lay_node.specs.declared.patterns.Pat.TheVariants as pat
+use Rattle.lay_node.specs.declared.patterns.PatPlace.TheVariants.{Alternatives, Single}
+use Rattle.lay_node.specs.declared.token.Name.{Name}
+use Rattle.lay_node.specs.declared.types.Path.{Path}
+use Rattle.lay_node.specs.declared.types.PathStyle.TheVariants.{Code}
+use Rattle.lay_node.proofs.nodes.PatternsLaws.{field_index_is, field_named_is, field_short_is, pat_struct_is}
 use Rattle.lay_out_tokens.proofs.StreamParts.{fed_more, leaf_more}
 use Rattle.lay_out_types.specs.Calls.{Adds}
 use Rattle.lay_out_types.specs.PatternRows.{attr_line, bar_between, bar_lead, braces_closed, braces_opened, closing_break, field_told, fields_form}

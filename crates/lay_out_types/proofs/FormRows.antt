@@ -16,7 +16,7 @@ use Rattle.lay_form.specs.Notation.{where_semicolon}
 use Rattle.lay_form.specs.Notation as notation
 use Rattle.lay_form.specs.Stream.{fed, stream_of}
 use Rattle.lay_form.proofs.StreamLaws.{stream_is}
-use Rattle.lay_tree.specs.nodes.Types.{joined}
+use Rattle.lay_node.specs.nodes.Types.{joined}
 use Rattle.lay_out_tokens.proofs.StreamParts.{fed_more}
 use Rattle.lay_out_types.specs.Calls.{Adds}
 use Rattle.lay_out_types.specs.Rows.{comma_between, further, last_break, list_closed, list_opened, plus_between, row}

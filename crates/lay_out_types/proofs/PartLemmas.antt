@@ -10,26 +10,26 @@ use Rattle.lay_form.specs.Form.{Form, Blank, Fixed, Operator, Done, Part, Piece,
 use Rattle.lay_form.specs.Layout.{ends_behind_point}
 use Rattle.lay_form.specs.Notation.{H, comma_list, each, piece}
 use Rattle.lay_form.specs.Stream.{fed, stream_of}
-use Rattle.lay_tree.specs.nodes.Attr.{attr_form, attr_part, behind_attr, is_inner, is_line}
-use Rattle.lay_tree.specs.Words.{leaf_of}
-use Rattle.lay_tree.specs.nodes.Types.{abi_form, abi_name, binder_form, colon, const_form, greater, less, lifetime_form}
-use Rattle.lay_tree.specs.nodes.Types.{lifetime_param_form, literal_form, outlived_form, param_attrs, param_name}
-use Rattle.lay_tree.specs.nodes.Types.{ref_lifetime}
-use Rattle.lay_tree.specs.tokens.Lists.{enclosed_form}
-use Rattle.lay_tree.specs.tokens.Listing.{Grouping, NoMore, in_groups}
-use Rattle.lay_tree.specs.declared.attr.Attr.{Attr}
-use Rattle.lay_tree.specs.declared.attr.Attr.TheVariants as attr
-use Rattle.lay_tree.specs.declared.attr.MetaInput.TheVariants as input
-use Rattle.lay_tree.specs.declared.token.GivenName.{GivenName}
-use Rattle.lay_tree.specs.declared.token.GivenName.TheVariants as given
-use Rattle.lay_tree.specs.declared.token.Lifetime.{Lifetime}
-use Rattle.lay_tree.specs.declared.token.Literal.{Literal}
-use Rattle.lay_tree.specs.declared.token.Name.{Name}
-use Rattle.lay_tree.specs.declared.types.Abi.{Abi}
-use Rattle.lay_tree.specs.declared.types.Binder.{Binder}
-use Rattle.lay_tree.specs.declared.types.ConstArg.{ConstArg}
-use Rattle.lay_tree.specs.declared.types.ConstArg.TheVariants as const_arg
-use Rattle.lay_tree.specs.declared.types.LifetimeParam.{LifetimeParam}
+use Rattle.lay_node.specs.nodes.Attr.{attr_form, attr_part, behind_attr, is_inner, is_line}
+use Rattle.lay_node.specs.Words.{leaf_of}
+use Rattle.lay_node.specs.nodes.Types.{abi_form, abi_name, binder_form, colon, const_form, greater, less, lifetime_form}
+use Rattle.lay_node.specs.nodes.Types.{lifetime_param_form, literal_form, outlived_form, param_attrs, param_name}
+use Rattle.lay_node.specs.nodes.Types.{ref_lifetime}
+use Rattle.lay_node.specs.tokens.Lists.{enclosed_form}
+use Rattle.lay_node.specs.tokens.Listing.{Grouping, NoMore, in_groups}
+use Rattle.lay_node.specs.declared.attr.Attr.{Attr}
+use Rattle.lay_node.specs.declared.attr.Attr.TheVariants as attr
+use Rattle.lay_node.specs.declared.attr.MetaInput.TheVariants as input
+use Rattle.lay_node.specs.declared.token.GivenName.{GivenName}
+use Rattle.lay_node.specs.declared.token.GivenName.TheVariants as given
+use Rattle.lay_node.specs.declared.token.Lifetime.{Lifetime}
+use Rattle.lay_node.specs.declared.token.Literal.{Literal}
+use Rattle.lay_node.specs.declared.token.Name.{Name}
+use Rattle.lay_node.specs.declared.types.Abi.{Abi}
+use Rattle.lay_node.specs.declared.types.Binder.{Binder}
+use Rattle.lay_node.specs.declared.types.ConstArg.{ConstArg}
+use Rattle.lay_node.specs.declared.types.ConstArg.TheVariants as const_arg
+use Rattle.lay_node.specs.declared.types.LifetimeParam.{LifetimeParam}
 use Rattle.lay_out_tokens.proofs.StreamParts.{fed_more, leaf_more}
 use Rattle.lay_out_types.specs.Rows.{comma_between, further, list_closed, list_opened, row}
 use Rattle.lay_out_types.proofs.FormRows.{are_none, list_is, part_more}

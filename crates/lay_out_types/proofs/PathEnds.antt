@@ -2,12 +2,12 @@
 use Rattle.std.proofs.Common.{◌≡◌, Bool, true, false, [], map, refl, sym, subst}
 use Rattle.lay_form.specs.Form.{Form, Part}
 use Rattle.lay_form.specs.Stream.{fed, stream_of}
-use Rattle.lay_tree.specs.nodes.Facts.{Facts}
-use Rattle.lay_tree.specs.nodes.Types.{PathFacts, about_path, about_start, segments_form}
-use Rattle.lay_tree.specs.declared.types.Path.{Path}
-use Rattle.lay_tree.specs.declared.types.PathStart.{PathStart}
-use Rattle.lay_tree.specs.declared.types.PathStyle.TheVariants.{Code}
-use Rattle.lay_tree.proofs.nodes.TypesLaws.{IsGlobal, IsLocal, IsQualified, PathStartView, about_segment, path_is, start_global_is, start_local_is, start_qualified_is, start_view}
+use Rattle.lay_node.specs.nodes.Facts.{Facts}
+use Rattle.lay_node.specs.nodes.Types.{PathFacts, about_path, about_start, segments_form}
+use Rattle.lay_node.specs.declared.types.Path.{Path}
+use Rattle.lay_node.specs.declared.types.PathStart.{PathStart}
+use Rattle.lay_node.specs.declared.types.PathStyle.TheVariants.{Code}
+use Rattle.lay_node.proofs.nodes.TypesLaws.{IsGlobal, IsLocal, IsQualified, PathStartView, about_segment, path_is, start_global_is, start_local_is, start_qualified_is, start_view}
 use Rattle.lay_out_types.proofs.TypeLemmas.{segments_any}
 
 -- Behind a point a path is fed as anywhere.

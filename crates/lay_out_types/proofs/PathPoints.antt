@@ -6,35 +6,35 @@ use Rattle.lay_piece.specs.declared.kind.Delim.TheVariants.{Paren, Bracket, Brac
 use Rattle.lay_form.specs.Form.{Form, Blank, Operator, Done, Piece, Part, keyword, opener, closer}
 use Rattle.lay_form.specs.Layout.{ends_behind_point}
 use Rattle.lay_form.specs.Notation.{B, comma_list, each, when}
-use Rattle.lay_tree.specs.Words.{leaf_of}
-use Rattle.lay_tree.specs.nodes.Call.{bang}
-use Rattle.lay_tree.specs.nodes.Facts.{Facts, forms}
-use Rattle.lay_tree.specs.nodes.Patterns.{end_form}
-use Rattle.lay_tree.specs.nodes.Types.{ArgsFacts, PathFacts, TypeFacts, abi_form, about_arg, about_args, about_bound, about_path, about_start, about_type, binder_form, dots, greater, in_style, joined, less, output_form, params_form, segments_form, ty_facts}
-use Rattle.lay_tree.specs.tokens.Lists.{enclosed_form, ends_in_line, form_of_grouping, group_form}
-use Rattle.lay_tree.specs.tokens.Listing.{Grouping, NoMore, in_groups}
-use Rattle.lay_tree.specs.tokens.Pairs.{at_start}
-use Rattle.lay_tree.specs.declared.patterns.SpanEnd.{SpanEnd}
-use Rattle.lay_tree.specs.declared.patterns.SpanEnd.TheVariants as span_end
-use Rattle.lay_tree.specs.declared.token.Word.{Word}
-use Rattle.lay_tree.specs.declared.tokens.Group.{Group}
-use Rattle.lay_tree.specs.declared.types.Abi.{Abi}
-use Rattle.lay_tree.specs.declared.types.Arg.{Arg}
-use Rattle.lay_tree.specs.declared.types.Arg.TheFolds as type_fold
-use Rattle.lay_tree.specs.declared.types.Arg.TheOpen.{Args-F, Bound-F, Ty-F, Path-F}
-use Rattle.lay_tree.specs.declared.types.Arg.TheViews as views
-use Rattle.lay_tree.specs.declared.types.Args.{Args}
-use Rattle.lay_tree.specs.declared.types.Binder.{Binder}
-use Rattle.lay_tree.specs.declared.types.Bound.{Bound}
-use Rattle.lay_tree.specs.declared.types.Constraint.{Constraint}
-use Rattle.lay_tree.specs.declared.types.FuncParam.{FuncParam}
-use Rattle.lay_tree.specs.declared.types.Path.{Path}
-use Rattle.lay_tree.specs.declared.types.PathStart.{PathStart}
-use Rattle.lay_tree.specs.declared.types.PathStyle.{PathStyle}
-use Rattle.lay_tree.specs.declared.types.PathStyle.TheVariants.{Code, Kind}
-use Rattle.lay_tree.specs.declared.types.Ty.{Ty}
-use Rattle.lay_tree.proofs.nodes.TypesLaws as laws
-use Rattle.lay_tree.proofs.nodes.TypesLaws.{about_segment}
+use Rattle.lay_node.specs.Words.{leaf_of}
+use Rattle.lay_node.specs.nodes.Call.{bang}
+use Rattle.lay_node.specs.nodes.Facts.{Facts, forms}
+use Rattle.lay_node.specs.nodes.Patterns.{end_form}
+use Rattle.lay_node.specs.nodes.Types.{ArgsFacts, PathFacts, TypeFacts, abi_form, about_arg, about_args, about_bound, about_path, about_start, about_type, binder_form, dots, greater, in_style, joined, less, output_form, params_form, segments_form, ty_facts}
+use Rattle.lay_node.specs.tokens.Lists.{enclosed_form, ends_in_line, form_of_grouping, group_form}
+use Rattle.lay_node.specs.tokens.Listing.{Grouping, NoMore, in_groups}
+use Rattle.lay_node.specs.tokens.Pairs.{at_start}
+use Rattle.lay_node.specs.declared.patterns.SpanEnd.{SpanEnd}
+use Rattle.lay_node.specs.declared.patterns.SpanEnd.TheVariants as span_end
+use Rattle.lay_node.specs.declared.token.Word.{Word}
+use Rattle.lay_node.specs.declared.tokens.Group.{Group}
+use Rattle.lay_node.specs.declared.types.Abi.{Abi}
+use Rattle.lay_node.specs.declared.types.Arg.{Arg}
+use Rattle.lay_node.specs.declared.types.Arg.TheFolds as type_fold
+use Rattle.lay_node.specs.declared.types.Arg.TheOpen.{Args-F, Bound-F, Ty-F, Path-F}
+use Rattle.lay_node.specs.declared.types.Arg.TheViews as views
+use Rattle.lay_node.specs.declared.types.Args.{Args}
+use Rattle.lay_node.specs.declared.types.Binder.{Binder}
+use Rattle.lay_node.specs.declared.types.Bound.{Bound}
+use Rattle.lay_node.specs.declared.types.Constraint.{Constraint}
+use Rattle.lay_node.specs.declared.types.FuncParam.{FuncParam}
+use Rattle.lay_node.specs.declared.types.Path.{Path}
+use Rattle.lay_node.specs.declared.types.PathStart.{PathStart}
+use Rattle.lay_node.specs.declared.types.PathStyle.{PathStyle}
+use Rattle.lay_node.specs.declared.types.PathStyle.TheVariants.{Code, Kind}
+use Rattle.lay_node.specs.declared.types.Ty.{Ty}
+use Rattle.lay_node.proofs.nodes.TypesLaws as laws
+use Rattle.lay_node.proofs.nodes.TypesLaws.{about_segment}
 
 -- ---- forms
 

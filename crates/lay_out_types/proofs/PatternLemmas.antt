@@ -8,21 +8,21 @@ use Rattle.lay_form.specs.Form.{Form, Blank, Done, Piece, Part, punct, keyword, 
 use Rattle.lay_form.specs.Layout.{ends_behind_point, led, text_of_bits, token_ends_in_point}
 use Rattle.lay_form.specs.Notation.{I0, comma_list, piece, when}
 use Rattle.lay_form.specs.Stream.{fed, stream_of}
-use Rattle.lay_tree.specs.Words.{leaf_of}
-use Rattle.lay_tree.specs.nodes.Call.{call_form}
-use Rattle.lay_tree.specs.nodes.Patterns.{PatFacts, about_pat, bound_form, dots, end_form, first_end, last_end, one_form, pat_form, pat_forms, value_form}
-use Rattle.lay_tree.specs.nodes.Types.{about_path, joined, literal_form}
-use Rattle.lay_tree.specs.declared.patterns.Pat.{Pat}
-use Rattle.lay_tree.specs.declared.patterns.Pat.TheVariants as pat
-use Rattle.lay_tree.specs.declared.patterns.PatPlace.TheVariants.{Alternatives, Single}
-use Rattle.lay_tree.specs.declared.patterns.PatValue.{PatValue}
-use Rattle.lay_tree.specs.declared.patterns.SpanEnd.{SpanEnd}
-use Rattle.lay_tree.specs.declared.patterns.SpanEnd.TheVariants as span_end
-use Rattle.lay_tree.specs.declared.token.Name.{Name}
-use Rattle.lay_tree.specs.declared.tokens.MacroCall.{MacroCall}
-use Rattle.lay_tree.specs.declared.types.Path.{Path}
-use Rattle.lay_tree.specs.declared.types.PathStyle.TheVariants.{Code}
-use Rattle.lay_tree.proofs.nodes.PatternsLaws.{IsBind, IsCall, IsOr, IsParen, IsPath, IsRef, IsRest, IsSlice, IsSpan, IsStruct, IsTuple, IsTupleStruct, IsValue, IsWild, PatView, pat_bind_is, pat_call_is, pat_or_is, pat_paren_is, pat_path_is, pat_ref_is, pat_rest_is, pat_slice_is, pat_span_is, pat_struct_is, pat_tuple_is, pat_tuple_struct_is, pat_value_is, pat_view, pat_wild_is}
+use Rattle.lay_node.specs.Words.{leaf_of}
+use Rattle.lay_node.specs.nodes.Call.{call_form}
+use Rattle.lay_node.specs.nodes.Patterns.{PatFacts, about_pat, bound_form, dots, end_form, first_end, last_end, one_form, pat_form, pat_forms, value_form}
+use Rattle.lay_node.specs.nodes.Types.{about_path, joined, literal_form}
+use Rattle.lay_node.specs.declared.patterns.Pat.{Pat}
+use Rattle.lay_node.specs.declared.patterns.Pat.TheVariants as pat
+use Rattle.lay_node.specs.declared.patterns.PatPlace.TheVariants.{Alternatives, Single}
+use Rattle.lay_node.specs.declared.patterns.PatValue.{PatValue}
+use Rattle.lay_node.specs.declared.patterns.SpanEnd.{SpanEnd}
+use Rattle.lay_node.specs.declared.patterns.SpanEnd.TheVariants as span_end
+use Rattle.lay_node.specs.declared.token.Name.{Name}
+use Rattle.lay_node.specs.declared.tokens.MacroCall.{MacroCall}
+use Rattle.lay_node.specs.declared.types.Path.{Path}
+use Rattle.lay_node.specs.declared.types.PathStyle.TheVariants.{Code}
+use Rattle.lay_node.proofs.nodes.PatternsLaws.{IsBind, IsCall, IsOr, IsParen, IsPath, IsRef, IsRest, IsSlice, IsSpan, IsStruct, IsTuple, IsTupleStruct, IsValue, IsWild, PatView, pat_bind_is, pat_call_is, pat_or_is, pat_paren_is, pat_path_is, pat_ref_is, pat_rest_is, pat_slice_is, pat_span_is, pat_struct_is, pat_tuple_is, pat_tuple_struct_is, pat_value_is, pat_view, pat_wild_is}
 use Rattle.lay_out_tokens.proofs.StreamParts.{fed_more, leaf_more}
 use Rattle.lay_out_types.specs.PatternRows.{alternatives_form, bar_lead, pat_told}
 use Rattle.lay_out_types.specs.Rows.{comma_between, further, list_closed, list_opened, row}

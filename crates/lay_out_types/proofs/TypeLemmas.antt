@@ -11,50 +11,50 @@ use Rattle.lay_form.specs.Form.{Bit, Blank, Fixed, Operator, Form, Done, Piece, 
 use Rattle.lay_form.specs.Form.{semicolon}
 use Rattle.lay_form.specs.Notation.{B, I4, comma_list, piece, when}
 use Rattle.lay_form.specs.Stream.{fed, stream_of}
-use Rattle.lay_tree.specs.Words.{colons, leaf_of}
-use Rattle.lay_tree.specs.nodes.Call.{call_form}
-use Rattle.lay_tree.specs.nodes.Facts.{Facts, forms}
-use Rattle.lay_tree.specs.nodes.Types.{PathFacts, TypeFacts, ArgsFacts, about_arg, about_args, about_bound}
-use Rattle.lay_tree.specs.nodes.Types.{about_constraint, about_func_param, about_path, about_start, about_type}
-use Rattle.lay_tree.specs.nodes.Types.{args_facts, abi_form, angle_form, binder_form, bounds_form, colon, const_form}
-use Rattle.lay_tree.specs.nodes.Types.{dots, equals, greater, joined, less, in_style, meets_form, output_form}
-use Rattle.lay_tree.specs.nodes.Types.{param_attrs, param_name, params_form, ref_lifetime, segment_form, segments_form}
-use Rattle.lay_tree.specs.nodes.Types.{type_forms}
-use Rattle.lay_tree.specs.tokens.Lists.{token_list}
-use Rattle.lay_tree.specs.declared.attr.Attr.{Attr}
-use Rattle.lay_tree.specs.declared.token.Lifetime.{Lifetime}
-use Rattle.lay_tree.specs.declared.token.Listed.{Listed}
-use Rattle.lay_tree.specs.declared.token.Name.{Name}
-use Rattle.lay_tree.specs.declared.token.Word.{Word}
-use Rattle.lay_tree.specs.declared.tokens.MacroCall.{MacroCall}
-use Rattle.lay_tree.specs.declared.types.Abi.{Abi}
-use Rattle.lay_tree.specs.declared.types.Arg.{Arg}
-use Rattle.lay_tree.specs.declared.types.Arg.TheOpen.{Args-F}
-use Rattle.lay_tree.specs.declared.types.Arg.TheVariants as arg
-use Rattle.lay_tree.specs.declared.types.Args.{Args}
-use Rattle.lay_tree.specs.declared.types.Args.TheVariants as args
-use Rattle.lay_tree.specs.declared.types.Binder.{Binder}
-use Rattle.lay_tree.specs.declared.types.Bound.{Bound}
-use Rattle.lay_tree.specs.declared.types.Bound.TheVariants as bound
-use Rattle.lay_tree.specs.declared.types.ConstArg.{ConstArg}
-use Rattle.lay_tree.specs.declared.types.Constraint.{Constraint}
-use Rattle.lay_tree.specs.declared.types.Constraint.TheVariants as constraint
-use Rattle.lay_tree.specs.declared.types.FuncParam.{FuncParam}
-use Rattle.lay_tree.specs.declared.types.Path.{Path}
-use Rattle.lay_tree.specs.declared.types.PathStart.{PathStart}
-use Rattle.lay_tree.specs.declared.types.PathStart.TheVariants as start
-use Rattle.lay_tree.specs.declared.types.PathStyle.{PathStyle}
-use Rattle.lay_tree.specs.declared.types.PathStyle.TheVariants.{Code, Kind}
-use Rattle.lay_tree.specs.declared.types.Ty.{Ty}
-use Rattle.lay_tree.specs.declared.types.Ty.TheVariants as ty
-use Rattle.lay_tree.proofs.nodes.TypesLaws.{ConstraintView, IsEqual, IsEqualConst, IsLimit, about_segment}
-use Rattle.lay_tree.proofs.nodes.TypesLaws.{constraint_view, arg_const_is, arg_named_is, arg_plain_is, arg_region_is}
-use Rattle.lay_tree.proofs.nodes.TypesLaws.{args_angle_is, args_none_is, args_round_is, bound_meets_is}
-use Rattle.lay_tree.proofs.nodes.TypesLaws.{bound_outlives_is, constraint_equal_const_is, constraint_equal_is}
-use Rattle.lay_tree.proofs.nodes.TypesLaws.{constraint_limit_is, func_param_is, path_is, start_global_is}
-use Rattle.lay_tree.proofs.nodes.TypesLaws.{start_local_is, start_qualified_is, type_array_is, type_bounds_is}
-use Rattle.lay_tree.proofs.nodes.TypesLaws.{type_call_is, type_func_is, type_infer_is, type_never_is, type_paren_is}
-use Rattle.lay_tree.proofs.nodes.TypesLaws.{type_path_is, type_ptr_is, type_ref_is, type_slice_is, type_tuple_is}
+use Rattle.lay_node.specs.Words.{colons, leaf_of}
+use Rattle.lay_node.specs.nodes.Call.{call_form}
+use Rattle.lay_node.specs.nodes.Facts.{Facts, forms}
+use Rattle.lay_node.specs.nodes.Types.{PathFacts, TypeFacts, ArgsFacts, about_arg, about_args, about_bound}
+use Rattle.lay_node.specs.nodes.Types.{about_constraint, about_func_param, about_path, about_start, about_type}
+use Rattle.lay_node.specs.nodes.Types.{args_facts, abi_form, angle_form, binder_form, bounds_form, colon, const_form}
+use Rattle.lay_node.specs.nodes.Types.{dots, equals, greater, joined, less, in_style, meets_form, output_form}
+use Rattle.lay_node.specs.nodes.Types.{param_attrs, param_name, params_form, ref_lifetime, segment_form, segments_form}
+use Rattle.lay_node.specs.nodes.Types.{type_forms}
+use Rattle.lay_node.specs.tokens.Lists.{token_list}
+use Rattle.lay_node.specs.declared.attr.Attr.{Attr}
+use Rattle.lay_node.specs.declared.token.Lifetime.{Lifetime}
+use Rattle.lay_node.specs.declared.token.Listed.{Listed}
+use Rattle.lay_node.specs.declared.token.Name.{Name}
+use Rattle.lay_node.specs.declared.token.Word.{Word}
+use Rattle.lay_node.specs.declared.tokens.MacroCall.{MacroCall}
+use Rattle.lay_node.specs.declared.types.Abi.{Abi}
+use Rattle.lay_node.specs.declared.types.Arg.{Arg}
+use Rattle.lay_node.specs.declared.types.Arg.TheOpen.{Args-F}
+use Rattle.lay_node.specs.declared.types.Arg.TheVariants as arg
+use Rattle.lay_node.specs.declared.types.Args.{Args}
+use Rattle.lay_node.specs.declared.types.Args.TheVariants as args
+use Rattle.lay_node.specs.declared.types.Binder.{Binder}
+use Rattle.lay_node.specs.declared.types.Bound.{Bound}
+use Rattle.lay_node.specs.declared.types.Bound.TheVariants as bound
+use Rattle.lay_node.specs.declared.types.ConstArg.{ConstArg}
+use Rattle.lay_node.specs.declared.types.Constraint.{Constraint}
+use Rattle.lay_node.specs.declared.types.Constraint.TheVariants as constraint
+use Rattle.lay_node.specs.declared.types.FuncParam.{FuncParam}
+use Rattle.lay_node.specs.declared.types.Path.{Path}
+use Rattle.lay_node.specs.declared.types.PathStart.{PathStart}
+use Rattle.lay_node.specs.declared.types.PathStart.TheVariants as start
+use Rattle.lay_node.specs.declared.types.PathStyle.{PathStyle}
+use Rattle.lay_node.specs.declared.types.PathStyle.TheVariants.{Code, Kind}
+use Rattle.lay_node.specs.declared.types.Ty.{Ty}
+use Rattle.lay_node.specs.declared.types.Ty.TheVariants as ty
+use Rattle.lay_node.proofs.nodes.TypesLaws.{ConstraintView, IsEqual, IsEqualConst, IsLimit, about_segment}
+use Rattle.lay_node.proofs.nodes.TypesLaws.{constraint_view, arg_const_is, arg_named_is, arg_plain_is, arg_region_is}
+use Rattle.lay_node.proofs.nodes.TypesLaws.{args_angle_is, args_none_is, args_round_is, bound_meets_is}
+use Rattle.lay_node.proofs.nodes.TypesLaws.{bound_outlives_is, constraint_equal_const_is, constraint_equal_is}
+use Rattle.lay_node.proofs.nodes.TypesLaws.{constraint_limit_is, func_param_is, path_is, start_global_is}
+use Rattle.lay_node.proofs.nodes.TypesLaws.{start_local_is, start_qualified_is, type_array_is, type_bounds_is}
+use Rattle.lay_node.proofs.nodes.TypesLaws.{type_call_is, type_func_is, type_infer_is, type_never_is, type_paren_is}
+use Rattle.lay_node.proofs.nodes.TypesLaws.{type_path_is, type_ptr_is, type_ref_is, type_slice_is, type_tuple_is}
 use Rattle.lay_out_tokens.proofs.StreamParts.{leaf_more}
 use Rattle.lay_out_types.specs.Rows.{comma_between, further, list_closed, list_opened, plus_between, row}
 use Rattle.lay_out_types.proofs.FormRows.{are_none, bounds_are, list_is, one_there, part_more, row_end}

@@ -6,12 +6,12 @@ use Rattle.lay_layout.specs.declared.layout.Tok.TheVariants as tok
 use Rattle.lay_form.specs.Form.{Form, Blank, Operator, Done, Piece, Part, Soft}
 use Rattle.lay_form.specs.Layout.{break_of, comma_break}
 use Rattle.lay_form.specs.Notation.{B, H, I0, braces}
-use Rattle.lay_tree.specs.nodes.Attr.{attr_form}
-use Rattle.lay_tree.specs.nodes.Patterns.{about_field_pat, about_pat, rest_form}
-use Rattle.lay_tree.specs.nodes.Types.{joined}
-use Rattle.lay_tree.specs.declared.attr.Attr.{Attr}
-use Rattle.lay_tree.specs.declared.patterns.FieldPat.{FieldPat}
-use Rattle.lay_tree.specs.declared.patterns.Pat.{Pat}
+use Rattle.lay_node.specs.nodes.Attr.{attr_form}
+use Rattle.lay_node.specs.nodes.Patterns.{about_field_pat, about_pat, rest_form}
+use Rattle.lay_node.specs.nodes.Types.{joined}
+use Rattle.lay_node.specs.declared.attr.Attr.{Attr}
+use Rattle.lay_node.specs.declared.patterns.FieldPat.{FieldPat}
+use Rattle.lay_node.specs.declared.patterns.Pat.{Pat}
 
 -- the forms of a pattern and of a field
 abbrev pub pat_told : Pat → Form

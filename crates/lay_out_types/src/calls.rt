@@ -4,19 +4,19 @@ ghost use Rattle.lay_layout.specs.declared.layout.Tok.TheVariants as tok;
 ghost use Rattle.lay_piece.specs.declared.kind.Delim.TheVariants.{Brace};
 ghost use Rattle.lay_form.specs.Form.{Done};
 ghost use Rattle.lay_form.specs.Stream.{stream_of};
-ghost use Rattle.lay_tree.specs.Words.{leaf_of};
-ghost use Rattle.lay_tree.specs.nodes.Attr.{attr_part};
-ghost use Rattle.lay_tree.specs.nodes.Call.{call_form};
-ghost use Rattle.lay_tree.specs.nodes.Types.{literal_form};
-ghost use Rattle.lay_tree.specs.tokens.Lists.{token_list};
+ghost use Rattle.lay_node.specs.Words.{leaf_of};
+ghost use Rattle.lay_node.specs.nodes.Attr.{attr_part};
+ghost use Rattle.lay_node.specs.nodes.Call.{call_form};
+ghost use Rattle.lay_node.specs.nodes.Types.{literal_form};
+ghost use Rattle.lay_node.specs.tokens.Lists.{token_list};
 ghost use Rattle.lay_out_tokens.specs.Parts.{enclosed};
 ghost use Rattle.lay_out_types.specs.Calls.{Adds};
 
+use lay_node::{Attr, Literal, MacroCall, Tokens};
 use lay_out_tokens::{put_attr, put_call, put_enclosed, put_token, put_tokens, put_word};
 use lay_piece::Delim;
 use lay_stream::Emit;
 use lay_text::Text;
-use lay_tree::{Attr, Literal, MacroCall, Tokens};
 
 /// A text.
 pub fn add_text<E: Emit>(

@@ -3,17 +3,17 @@ ghost use Rattle.std.specs.Prelude.{map, true};
 ghost use Rattle.lay_stream.specs.Fed.{Did};
 ghost use Rattle.lay_form.specs.Notation.{comma_list};
 ghost use Rattle.lay_form.specs.Stream.{stream_of};
-ghost use Rattle.lay_tree.specs.nodes.Generics.{bounded_form, const_default_form, default_form, generics_form};
-ghost use Rattle.lay_tree.specs.nodes.Generics.{param_form};
-ghost use Rattle.lay_tree.specs.nodes.Types.{greater, less};
+ghost use Rattle.lay_node.specs.nodes.Generics.{bounded_form, const_default_form, default_form, generics_form};
+ghost use Rattle.lay_node.specs.nodes.Generics.{param_form};
+ghost use Rattle.lay_node.specs.nodes.Types.{greater, less};
 ghost use Rattle.lay_out_types.specs.Calls.{Adds};
 
 use crate::calls::{add_text, add_word};
 use crate::lists::{add_close, add_lead};
 use crate::parts::{add_const, add_lifetime_param, add_param_attrs};
 use crate::types::{add_bounds, add_type};
+use lay_node::{Bound, ConstDefault, GenericParam, Generics, Ty};
 use lay_stream::Emit;
-use lay_tree::{Bound, ConstDefault, GenericParam, Generics, Ty};
 
 /// Feeds the layout of generic parameters: nothing where there are none.
 pub fn put_generics<E: Emit>(out: &mut E, generics: &Generics) -> Result<(), E::Fault>

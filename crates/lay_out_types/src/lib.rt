@@ -2,7 +2,7 @@
 //! laid out.
 //!
 //! A call whose name begins with `put` appends to an [`Emit`](lay_stream::Emit) exactly the stream of the form that
-//! `lay_tree` gives to its node, or stops where the `Emit` does.
+//! `lay_node` gives to its node, or stops where the `Emit` does.
 //!
 //! A function whose name begins with `add` is told how the calls before it came out, and answers how all of them did:
 //! behind a fault it feeds nothing, and hands the fault on. So what a function says is the row of its parts, and no part

@@ -4,14 +4,14 @@ ghost use Rattle.lay_piece.specs.declared.kind.Kind.TheVariants as kind;
 ghost use Rattle.lay_form.specs.Form.{Done, Fixed, Piece};
 ghost use Rattle.lay_form.specs.Notation.{comma_list};
 ghost use Rattle.lay_form.specs.Stream.{stream_of};
-ghost use Rattle.lay_tree.specs.nodes.Types.{abi_form, binder_form, const_form, greater, less, lifetime_param_form};
-ghost use Rattle.lay_tree.specs.nodes.Types.{outlived_form, param_attrs, param_name, ref_lifetime};
+ghost use Rattle.lay_node.specs.nodes.Types.{abi_form, binder_form, const_form, greater, less, lifetime_param_form};
+ghost use Rattle.lay_node.specs.nodes.Types.{outlived_form, param_attrs, param_name, ref_lifetime};
 ghost use Rattle.lay_out_types.specs.Calls.{Adds};
 
 use crate::calls::{add_attr, add_braces, add_either, add_literal, add_text, add_word};
 use crate::lists::{add_close, add_lead};
+use lay_node::{Abi, Attr, Binder, ConstArg, GivenName, Lifetime, LifetimeParam};
 use lay_stream::Emit;
-use lay_tree::{Abi, Attr, Binder, ConstArg, GivenName, Lifetime, LifetimeParam};
 
 /// Attributes of a parameter.
 pub fn add_param_attrs<E: Emit>(

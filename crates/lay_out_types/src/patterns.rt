@@ -8,8 +8,8 @@ ghost use Rattle.lay_form.specs.Form.{Done};
 ghost use Rattle.lay_form.specs.Layout.{ends_behind_point, led, text_of_bits, token_ends_in_point};
 ghost use Rattle.lay_form.specs.Notation.{behind_attrs, piece};
 ghost use Rattle.lay_form.specs.Stream.{stream_of};
-ghost use Rattle.lay_tree.specs.nodes.Attr.{attr_form};
-ghost use Rattle.lay_tree.specs.nodes.Patterns.{about_field_pat, about_pat, dots, end_form, first_end, last_end, one_form, value_form};
+ghost use Rattle.lay_node.specs.nodes.Attr.{attr_form};
+ghost use Rattle.lay_node.specs.nodes.Patterns.{about_field_pat, about_pat, dots, end_form, first_end, last_end, one_form, value_form};
 ghost use Rattle.lay_out_types.specs.Calls.{Adds};
 ghost use Rattle.lay_out_types.specs.PatternRows.{alternatives_form, bar_between, braces_closed, braces_opened, closing_break};
 ghost use Rattle.lay_out_types.specs.PatternRows.{attr_line, fields_form, pat_told};
@@ -19,11 +19,11 @@ use crate::calls::{add_call, add_either, add_if, add_literal, add_text, add_word
 use crate::lists::{COMMA_CLOSING_SPACE_BREAK, add_close, add_end, add_lead};
 use crate::types::add_path;
 use lay_layout::Break;
+use lay_node::{Attr, FieldPat, Literal, Pat, PatValue, PathStyle, SpanEnd};
 use lay_out_tokens::notation::{CLOSING_SPACE_BREAK, SPACE_BREAK};
 use lay_out_tokens::{HARD_BREAK, put_bare_attr};
 use lay_piece::Kind;
 use lay_stream::Emit;
-use lay_tree::{Attr, FieldPat, Literal, Pat, PatValue, PathStyle, SpanEnd};
 
 /// Feeds the layout of a pattern.
 pub fn put_pat<E: Emit>(out: &mut E, pat: &Pat) -> Result<(), E::Fault>

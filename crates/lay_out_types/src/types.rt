@@ -5,9 +5,9 @@ ghost use Rattle.lay_form.specs.Form.{opener, closer};
 ghost use Rattle.lay_form.specs.Notation.{comma_list};
 ghost use Rattle.lay_form.specs.Stream.{stream_of};
 ghost use Rattle.lay_piece.specs.declared.kind.Delim.TheVariants.{Paren};
-ghost use Rattle.lay_tree.specs.nodes.Types.{about_arg, about_args, about_bound, about_constraint, about_func_param};
-ghost use Rattle.lay_tree.specs.nodes.Types.{about_path, about_start, about_type, angle_form, bounds_form, in_style};
-ghost use Rattle.lay_tree.specs.nodes.Types.{output_form, params_form, type_forms};
+ghost use Rattle.lay_node.specs.nodes.Types.{about_arg, about_args, about_bound, about_constraint, about_func_param};
+ghost use Rattle.lay_node.specs.nodes.Types.{about_path, about_start, about_type, angle_form, bounds_form, in_style};
+ghost use Rattle.lay_node.specs.nodes.Types.{output_form, params_form, type_forms};
 ghost use Rattle.lay_out_types.specs.Calls.{Adds};
 
 use crate::calls::{add_call, add_either, add_if, add_text, add_tokens, add_word};
@@ -15,8 +15,8 @@ use crate::lists::{add_begin, add_close, add_end, add_lead, add_plus};
 use crate::parts::{
     add_abi, add_binder, add_const, add_param_attrs, add_param_name, add_reference,
 };
+use lay_node::{Arg, Args, Bound, Boxed, Constraint, FuncParam, Path, PathStart, PathStyle, Ty};
 use lay_stream::Emit;
-use lay_tree::{Arg, Args, Bound, Boxed, Constraint, FuncParam, Path, PathStart, PathStyle, Ty};
 
 /// Feeds the layout of a path.
 pub fn put_path<E: Emit>(out: &mut E, path: &Path, style: PathStyle) -> Result<(), E::Fault>

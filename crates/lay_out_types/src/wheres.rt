@@ -2,7 +2,7 @@
 ghost use Rattle.std.specs.Prelude.{cond};
 ghost use Rattle.lay_stream.specs.Fed.{Did};
 ghost use Rattle.lay_form.specs.Stream.{stream_of};
-ghost use Rattle.lay_tree.specs.nodes.Where.{predicate_form, wheres_before_body, wheres_before_semicolon};
+ghost use Rattle.lay_node.specs.nodes.Where.{predicate_form, wheres_before_body, wheres_before_semicolon};
 ghost use Rattle.lay_out_types.specs.Calls.{Adds};
 
 use crate::calls::add_text;
@@ -10,8 +10,8 @@ use crate::generics::add_asked;
 use crate::lists::{add_predicates_close, add_predicates_lead};
 use crate::parts::{add_binder, add_outlived};
 use crate::types::add_type;
+use lay_node::{Predicate, Wheres};
 use lay_stream::Emit;
-use lay_tree::{Predicate, Wheres};
 
 /// Feeds the layout of a where clause: before a body, or else before a `;`. It is nothing without predicates.
 pub fn put_wheres<E: Emit>(out: &mut E, wheres: &Wheres, body: bool) -> Result<(), E::Fault>

@@ -1,22 +1,22 @@
 -- Items up to their bodies, and then their bodies.
 use Rattle.std.proofs.Common.{◌≡◌, ℕ, max, Bool, true, false, List, [], Option, Some, None, codes, refl, sym, ◌∙◌, if◌then◌else◌, arith}
-use Rattle.lay_tree.specs.Ahead.{Tokens, first, tail, is_keyword, is_mark}
-use Rattle.lay_tree.specs.reader.Heads.{alias, enum, extern_crate, impl_head, struct, trait_head, union, unsafe_flag}
+use Rattle.lay_node.specs.Ahead.{Tokens, first, tail, is_keyword, is_mark}
+use Rattle.lay_node.specs.reader.Heads.{alias, enum, extern_crate, impl_head, struct, trait_head, union, unsafe_flag}
+use Rattle.lay_node.specs.reader.Loops.{Got, Read, ◌>>=◌, passed}
+use Rattle.lay_node.specs.reader.Types.{abi, if_there, is_string_token, literal}
+use Rattle.lay_node.specs.reader.Where.{wheres}
+use Rattle.lay_node.specs.reader.Words.{name}
+use Rattle.lay_node.specs.declared.attr.Attr.{Attr}
+use Rattle.lay_node.specs.declared.heads.Site.{Site}
+use Rattle.lay_node.specs.declared.heads.Site.TheVariants as site
+use Rattle.lay_node.specs.declared.token.Literal.{Literal}
+use Rattle.lay_node.specs.declared.token.Name.{Name}
+use Rattle.lay_node.specs.declared.types.Abi.{Abi}
 use Rattle.lay_tree.specs.reader.Item as reader
 use Rattle.lay_tree.specs.reader.Item.{ItemLead, ItemWithin, OfAlias, OfCall, OfEnum, OfExternCrate, OfForeign, OfFunction, OfImpl, OfImport, OfModule, OfRules, OfStruct, OfTrait, OfUnion, OfValue}
-use Rattle.lay_tree.specs.reader.Loops.{Got, Read, ◌>>=◌, passed}
-use Rattle.lay_tree.specs.reader.Types.{abi, if_there, is_string_token, literal}
-use Rattle.lay_tree.specs.reader.Where.{wheres}
-use Rattle.lay_tree.specs.reader.Words.{name}
-use Rattle.lay_tree.specs.declared.attr.Attr.{Attr}
-use Rattle.lay_tree.specs.declared.heads.Site.{Site}
-use Rattle.lay_tree.specs.declared.heads.Site.TheVariants as site
 use Rattle.lay_tree.specs.declared.item.Item.{Item}
 use Rattle.lay_tree.specs.declared.item.ItemKind.{ItemKind}
 use Rattle.lay_tree.specs.declared.item.ItemKind.TheVariants as item
-use Rattle.lay_tree.specs.declared.token.Literal.{Literal}
-use Rattle.lay_tree.specs.declared.token.Name.{Name}
-use Rattle.lay_tree.specs.declared.types.Abi.{Abi}
 use Rattle.lay_read_code.specs.Begun.{begun_at, begun_by, finished, foreign_begun, members, node_alone, whole, with_body}
 use Rattle.lay_read_code.specs.declared.begun.Begun.{Begun}
 use Rattle.lay_read_code.specs.declared.begun.Begun.TheVariants as begun

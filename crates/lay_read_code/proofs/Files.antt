@@ -1,14 +1,14 @@
 -- Files: what is read is spelled, and what is spelled is read.
 use Rattle.std.proofs.Common.{◌≡◌, ℕ, List, [], Option, Some, None, refl, IsTrue}
 use Rattle.lay_token.specs.declared.token.Token.{Token}
+use Rattle.lay_node.specs.declared.attr.Attr.{Attr}
+use Rattle.lay_node.proofs.Pieces.{pieces_spelled}
 use Rattle.lay_tree.specs.Reading.{SpellsFile, top}
 use Rattle.lay_tree.specs.Written.{is_good_shebang}
 use Rattle.lay_tree.specs.nodes.File.{form_of_file}
 use Rattle.lay_tree.specs.reader.File.{whole}
-use Rattle.lay_tree.specs.declared.attr.Attr.{Attr}
 use Rattle.lay_tree.specs.declared.file.File.{File}
 use Rattle.lay_tree.specs.declared.item.Item.{Item}
-use Rattle.lay_tree.proofs.Pieces.{pieces_spelled}
 use Rattle.lay_tree.proofs.reader.File.{whole_sound, whole_complete}
 use Rattle.lay_read_tokens.specs.Answers.{AreLexed}
 use Rattle.lay_read_tokens.proofs.Lexed.{lexed_in_text, lexed_texts}

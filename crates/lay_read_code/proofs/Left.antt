@@ -1,32 +1,32 @@
 -- What reading of items leaves: the tokens behind those that are read.
 use Rattle.std.proofs.Common.{ℕ, zero, suc, ◌||◌, true, false, None, drop, codes, is_some, arith}
 use Rattle.lay_piece.specs.declared.kind.Delim.TheVariants.{Brace}
-use Rattle.lay_tree.specs.Ahead.{Tokens, first, tail, is_keyword, is_mark, opens, closes}
+use Rattle.lay_node.specs.Ahead.{Tokens, first, tail, is_keyword, is_mark, opens, closes, more_items}
+use Rattle.lay_node.specs.reader.Attr.{attributes}
+use Rattle.lay_node.specs.reader.Call.{call, behind_end}
+use Rattle.lay_node.specs.reader.Functions.{fn_head, insides}
+use Rattle.lay_node.specs.reader.Heads as heads
+use Rattle.lay_node.specs.reader.Loops.{passed}
+use Rattle.lay_node.specs.reader.Tokens.{group}
+use Rattle.lay_node.specs.reader.Types.{if_there, is_string_token, literal, within, if_read}
+use Rattle.lay_node.specs.reader.Use.{use_at}
+use Rattle.lay_node.specs.reader.Vis.{visibility}
+use Rattle.lay_node.specs.reader.Where.{wheres}
+use Rattle.lay_node.specs.reader.Words.{name}
+use Rattle.lay_node.specs.declared.heads.Site.{Site}
+use Rattle.lay_node.specs.declared.heads.Site.TheVariants as site
 use Rattle.lay_tree.specs.nodes.Item.{is_inherited, may_be_valued, told_of_kind}
 use Rattle.lay_tree.specs.nodes.Places.{FREE}
-use Rattle.lay_tree.specs.reader.Attr.{attributes}
-use Rattle.lay_tree.specs.reader.Call.{call, behind_end}
 use Rattle.lay_tree.specs.reader.Exprs.{expr_at}
-use Rattle.lay_tree.specs.reader.Functions.{fn_head, insides}
-use Rattle.lay_tree.specs.reader.Heads as heads
 use Rattle.lay_tree.specs.reader.Item as item
 use Rattle.lay_tree.specs.reader.Item.{ItemLead, OfAlias, OfCall, OfEnum, OfExternCrate, OfForeign, OfFunction, OfImpl, OfImport, OfModule, OfRules, OfStruct, OfTrait, OfUnion, OfValue}
-use Rattle.lay_tree.specs.reader.Loops.{passed}
-use Rattle.lay_tree.specs.reader.Tokens.{group}
-use Rattle.lay_tree.specs.reader.Types.{if_there, is_string_token, literal, within, if_read}
-use Rattle.lay_tree.specs.reader.Use.{use_at}
-use Rattle.lay_tree.specs.reader.Vis.{visibility}
-use Rattle.lay_tree.specs.reader.Where.{wheres}
-use Rattle.lay_tree.specs.reader.Words.{name}
-use Rattle.lay_tree.specs.declared.heads.Site.{Site}
-use Rattle.lay_tree.specs.declared.heads.Site.TheVariants as site
 use Rattle.lay_read_tokens.proofs.Left.{Leaves, unread, dropped, joined, further, chain, chain_passed, choice, first_read, passed_left, repeat_left, name_left, group_left, call_left, end_left, attributes_left}
 use Rattle.lay_read_parts.proofs.Left.{flag_left, literal_left, there_left, weaker, read_left}
-use Rattle.lay_read_heads.proofs.Left.{vis_left}
+use Rattle.lay_head_rules.proofs.Left.{vis_left}
 use Rattle.lay_read_generics.proofs.Left.{wheres_left}
-use Rattle.lay_read_heads.proofs.HeadsLeft.{alias_left, enum_left, extern_crate_left, fn_head_left, impl_head_left, struct_left, trait_head_left, union_left, value_head_left}
+use Rattle.lay_head_rules.proofs.HeadsLeft.{alias_left, enum_left, extern_crate_left, fn_head_left, impl_head_left, struct_left, trait_head_left, union_left, value_head_left}
 use Rattle.lay_read_code.specs.Begun.{deeper}
-use Rattle.lay_read_heads.proofs.UseLeft.{use_left}
+use Rattle.lay_head_rules.proofs.UseLeft.{use_left}
 use Rattle.lay_token.specs.Operators.{is_op}
 use Rattle.lay_read_exprs.proofs.Left.{exprs_leave}
 
@@ -75,7 +75,7 @@ module _ (depth : ℕ) (items_left : (at : Site) (ts : Tokens) → Leaves 1 ts (
   body_left at ts = chain_passed 0 1 0 ts (passed (opens Brace) ts) _ (omega arith) (passed_left (opens Brace) ts)
       (λ inside. chain 0 0 0 inside (attributes true inside) _ (omega arith) (attributes_left true inside)
       (λ attrs. chain 0 0 0 attrs.1 (item.items_by (item.item_at at depth) attrs.1) _ (omega arith)
-      (repeat_left (item.item_at at depth) (items_left at) item.more_items attrs.1)
+      (repeat_left (item.item_at at depth) (items_left at) more_items attrs.1)
       (λ items. chain_passed 0 1 0 items.1 (passed (closes Brace) items.1) _ (omega arith)
       (passed_left (closes Brace) items.1) unread)))
 

@@ -1,25 +1,25 @@
 -- One step of a reader, from what the readers within it give.
 use Rattle.std.proofs.Common.{◌≡◌, ℕ, ◌+◌, ◌-◌, ◌<◌, ◌||◌, add-one, Bool, true, false, List, Some, None, Result, Ok, Err, MatchResult, refl, sym, subst, ◌∙◌, ap, if◌then◌else◌, is_some}
-use Rattle.lay_tree.specs.Ahead.{Tokens}
-use Rattle.lay_tree.specs.reader.Attr.{attributes}
+use Rattle.lay_node.specs.Ahead.{Tokens}
+use Rattle.lay_node.specs.reader.Attr.{attributes}
+use Rattle.lay_node.specs.reader.Loops.{Read}
+use Rattle.lay_node.specs.declared.attr.Attr.{Attr}
+use Rattle.lay_node.specs.reader.Vis.{visibility}
+use Rattle.lay_node.specs.declared.heads.Site.{Site}
+use Rattle.lay_node.specs.declared.vis.Vis.{Vis}
 use Rattle.lay_tree.specs.reader.Item.{item_at, item_by, kind_at}
-use Rattle.lay_tree.specs.reader.Loops.{Read}
-use Rattle.lay_tree.specs.declared.attr.Attr.{Attr}
-use Rattle.lay_tree.specs.reader.Vis.{visibility}
 use Rattle.lay_tree.specs.nodes.Item.{is_inherited, told_of_kind}
 use Rattle.lay_tree.proofs.nodes.ItemLaws as laws
 use Rattle.lay_tree.proofs.nodes.ItemLaws.{KindView, IsExternCrate, IsImport, IsFileModule, IsModule, IsFunction, IsAlias, IsStruct, IsUnion, IsEnum, IsValue, IsTrait, IsImpl, IsForeign, IsRules, IsCall}
-use Rattle.lay_tree.specs.declared.heads.Site.{Site}
 use Rattle.lay_tree.specs.declared.item.Item.{Item}
 use Rattle.lay_tree.specs.declared.item.ItemKind.{ItemKind}
-use Rattle.lay_tree.specs.declared.vis.Vis.{Vis}
 use Rattle.lay_read_tokens.specs.Answers.{IsFound, Stopped}
 use Rattle.lay_read_tokens.specs.declared.found.Found.{Found}
 use Rattle.lay_read_tokens.specs.declared.stop.ReadNone.{ReadNone}
 use Rattle.lay_read_tokens.specs.declared.stop.ReadNone.TheVariants.{NoReading}
 use Rattle.lay_read_code.specs.Answers.{has_head}
 use Rattle.lay_read_code.specs.Begun.{deeper as within_depth}
-use Rattle.lay_read_heads.proofs.UseSteps.{deeper}
+use Rattle.lay_head_rules.proofs.UseSteps.{deeper}
 
 -- ---- what was found behind something else
 

@@ -1,21 +1,21 @@
 -- Items up to their bodies, and what the bodies make of them.
 use Rattle.std.specs.Prelude.{ℕ, max, if◌then◌else◌, List, [], codes, Option, Some, None}
-use Rattle.lay_tree.specs.Ahead.{Tokens, first, tail, is_keyword, is_mark}
+use Rattle.lay_node.specs.Ahead.{Tokens, first, tail, is_keyword, is_mark}
+use Rattle.lay_node.specs.reader.Exact.{needless}
+use Rattle.lay_node.specs.reader.Functions.{insides}
+use Rattle.lay_node.specs.reader.Heads.{alias, enum, extern_crate, impl_head, struct, trait_head, union, unsafe_flag}
+use Rattle.lay_node.specs.reader.Loops.{Read, ◌>>=◌, passed}
+use Rattle.lay_node.specs.reader.Types.{Within, if_there, is_string_token, literal}
+use Rattle.lay_node.specs.reader.Use.{use_at}
+use Rattle.lay_node.specs.reader.Where.{wheres}
+use Rattle.lay_node.specs.reader.Words.{name}
+use Rattle.lay_node.specs.declared.attr.Attr.{Attr}
+use Rattle.lay_node.specs.declared.heads.Site.{Site}
+use Rattle.lay_node.specs.declared.heads.Site.TheVariants as site
 use Rattle.lay_tree.specs.nodes.Places.{FREE}
-use Rattle.lay_tree.specs.reader.Exact.{needless}
 use Rattle.lay_tree.specs.reader.Exprs.{expr_at}
-use Rattle.lay_tree.specs.reader.Functions.{insides}
-use Rattle.lay_tree.specs.reader.Heads.{alias, enum, extern_crate, impl_head, struct, trait_head, union, unsafe_flag}
 use Rattle.lay_tree.specs.reader.Item as reader
 use Rattle.lay_tree.specs.reader.Item.{ItemLead, ItemWithin, OfAlias, OfCall, OfEnum, OfExternCrate, OfForeign, OfFunction, OfImpl, OfImport, OfModule, OfRules, OfStruct, OfTrait, OfUnion, OfValue, item_at}
-use Rattle.lay_tree.specs.reader.Loops.{Read, ◌>>=◌, passed}
-use Rattle.lay_tree.specs.reader.Types.{Within, if_there, is_string_token, literal}
-use Rattle.lay_tree.specs.reader.Use.{use_at}
-use Rattle.lay_tree.specs.reader.Where.{wheres}
-use Rattle.lay_tree.specs.reader.Words.{name}
-use Rattle.lay_tree.specs.declared.attr.Attr.{Attr}
-use Rattle.lay_tree.specs.declared.heads.Site.{Site}
-use Rattle.lay_tree.specs.declared.heads.Site.TheVariants as site
 use Rattle.lay_tree.specs.declared.item.Item.{Item}
 use Rattle.lay_tree.specs.declared.item.ItemKind.{ItemKind}
 use Rattle.lay_tree.specs.declared.item.ItemKind.TheVariants as item

@@ -1,7 +1,7 @@
 -- What an item begins with, in code.
 use Rattle.std.specs.Prelude.{ℕ, ◌||◌, Bool, if◌then◌else◌, List, codes}
 use Rattle.std.specs.Str.{bytes_eq}
-use Rattle.lay_tree.specs.Ahead.{Tokens, tail}
+use Rattle.lay_node.specs.Ahead.{Tokens, tail}
 use Rattle.lay_tree.specs.reader.Item as item
 use Rattle.lay_tree.specs.reader.Item.{ItemLead}
 use Rattle.lay_read_code.specs.declared.leads.ItemLead.{ItemLead as Lead}

@@ -1,13 +1,13 @@
 //! Items up to their bodies.
 ghost use Rattle.std.specs.Prelude.{◌≡◌, ◌≤◌, codes, drop, IfOk};
 ghost use Rattle.lay_token.specs.Operators.{is_op};
+ghost use Rattle.lay_node.specs.reader.Exact.{needless};
+ghost use Rattle.lay_node.specs.reader.Heads as heads;
+ghost use Rattle.lay_node.specs.reader.Types.{if_read, within};
 ghost use Rattle.lay_tree.specs.nodes.Item as nodes;
 ghost use Rattle.lay_tree.specs.nodes.Places.{FREE as free};
-ghost use Rattle.lay_tree.specs.reader.Exact.{needless};
 ghost use Rattle.lay_tree.specs.reader.Exprs.{expr_at};
-ghost use Rattle.lay_tree.specs.reader.Heads as heads;
 ghost use Rattle.lay_tree.specs.reader.Item as reader;
-ghost use Rattle.lay_tree.specs.reader.Types.{if_read, within};
 ghost use Rattle.lay_tree.specs.declared.item.ItemKind.TheVariants as item;
 ghost use Rattle.lay_read_tokens.specs.Answers.{IsFound};
 ghost use Rattle.lay_read_code.specs.Begun as bodies;
@@ -16,15 +16,15 @@ ghost use Rattle.lay_read_code.specs.Leads.{told};
 
 use crate::exprs::expr_ahead;
 use crate::leads::{ItemLead, item_lead, may_stand};
-use lay_read_exprs::places::FREE;
-use lay_read_generics::wheres_ahead;
-use lay_read_heads::functions::fn_head_ahead;
-use lay_read_heads::heads::{
+use lay_head_rules::functions::fn_head_ahead;
+use lay_head_rules::heads::{
     alias_ahead, enum_ahead, extern_crate_ahead, impl_head_ahead, struct_ahead, trait_head_ahead,
     union_ahead, value_head_ahead,
 };
-use lay_read_heads::level::{kept_if, takes_flag};
-use lay_read_heads::uses::use_ahead;
+use lay_head_rules::level::{kept_if, takes_flag};
+use lay_head_rules::uses::use_ahead;
+use lay_read_exprs::places::FREE;
+use lay_read_generics::wheres_ahead;
 use lay_read_parts::joins::both;
 use lay_read_parts::parts::read_abi_if;
 use lay_read_tokens::calls::{call_ahead, takes_end};

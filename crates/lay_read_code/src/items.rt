@@ -7,8 +7,8 @@ ghost use Rattle.lay_read_code.specs.Answers.{has_head};
 ghost use Rattle.lay_read_code.specs.Begun.{deeper};
 
 use crate::begun::{members, read_begun, with_body};
-use lay_read_heads::level::kept_if;
-use lay_read_heads::vis::vis_ahead;
+use lay_head_rules::level::kept_if;
+use lay_head_rules::vis::vis_ahead;
 use lay_read_parts::joins::both;
 use lay_read_tokens::attributes::attrs_ahead;
 use lay_read_tokens::found::greater;

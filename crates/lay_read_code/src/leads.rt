@@ -1,12 +1,12 @@
 //! What an item begins with.
 ghost use Rattle.std.specs.Prelude.{◌≡◌};
-ghost use Rattle.lay_tree.specs.Ahead.{first, tail};
+ghost use Rattle.lay_node.specs.Ahead.{first, tail};
+ghost use Rattle.lay_node.specs.reader.Functions as functions;
 ghost use Rattle.lay_tree.specs.nodes.Item.{in_module, may_lack_body};
-ghost use Rattle.lay_tree.specs.reader.Functions as functions;
 ghost use Rattle.lay_tree.specs.reader.Item as reader;
 ghost use Rattle.lay_read_code.specs.Leads.{led_by, lead_of_word, may_lead_function, told};
 
-use lay_read_heads::level::takes_flag;
+use lay_head_rules::level::takes_flag;
 use lay_read_tokens::Ahead;
 use lay_read_tokens::front::{is_at_keyword, pass, takes_keyword, takes_op};
 use lay_read_tokens::names::is_at_name;

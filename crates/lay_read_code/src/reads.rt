@@ -1,6 +1,6 @@
 //! What stands at the front of the tokens of a text.
+ghost use Rattle.lay_node.specs.nodes.Facts.{Front};
 ghost use Rattle.lay_tree.specs.nodes.Exprs.{ExprFront, about_expr};
-ghost use Rattle.lay_tree.specs.nodes.Facts.{Front};
 ghost use Rattle.lay_tree.specs.nodes.Item.{about_item};
 ghost use Rattle.lay_tree.specs.declared.exprs.Expr.{Expr as ExprValue};
 ghost use Rattle.lay_tree.specs.declared.item.Item.{Item as ItemValue};

@@ -3,12 +3,12 @@ use Rattle.std.proofs.Common.{◌≡◌, ℕ, zero, suc, ◌<◌, ◌≤◌, ◌
 use Rattle.std.proofs.lemmas.Bool.{and_parts}
 use Rattle.std.proofs.lemmas.Bool.Decides.{nat_tests}
 use Rattle.lay_token.specs.Operators.{is_op}
-use Rattle.lay_tree.specs.Ahead.{Tokens, first, is_keyword}
+use Rattle.lay_node.specs.Ahead.{Tokens, first, is_keyword}
+use Rattle.lay_node.specs.reader.Loops.{Got, Read, ◌>>=◌, repeat}
 use Rattle.lay_tree.specs.Operators.{begins_step, strength}
 use Rattle.lay_tree.specs.nodes.Exprs.{stands, root_follows, about_expr}
 use Rattle.lay_tree.specs.reader.Exprs as r
 use Rattle.lay_tree.specs.reader.Exprs.{ExprWithin, accepted, climb, left_place, stage}
-use Rattle.lay_tree.specs.reader.Loops.{Got, Read, ◌>>=◌, repeat}
 use Rattle.lay_tree.specs.declared.exprs.Expr.{Expr}
 use Rattle.lay_tree.specs.declared.exprs.Place.{Place}
 use Rattle.lay_read_exprs.specs.Answers.{climb_once, climbed}

@@ -4,32 +4,32 @@ use Rattle.std.proofs.lemmas.List.{length-drop}
 use Rattle.lay_piece.specs.declared.kind.Delim.TheVariants.{Paren, Bracket, Brace}
 use Rattle.lay_token.specs.Operators.{is_op}
 use Rattle.lay_token.specs.declared.token.Token.{Token}
-use Rattle.lay_tree.specs.Ahead.{Tokens, first, tail, is_keyword, is_lifetime, is_mark, opens, closes, opens_args_late}
-use Rattle.lay_tree.specs.Begins.{is_literal_token}
+use Rattle.lay_node.specs.Ahead.{Tokens, first, tail, is_keyword, is_lifetime, is_mark, opens, closes, opens_args_late}
+use Rattle.lay_node.specs.Begins.{is_literal_token}
+use Rattle.lay_node.specs.nodes.Attr.{is_empty}
+use Rattle.lay_node.specs.reader.Attr.{attributes}
+use Rattle.lay_node.specs.reader.Call.{call}
+use Rattle.lay_node.specs.reader.Loops.{Got, ◌>>=◌, passed, nodes, deepest, repeat, elements, open_elements}
+use Rattle.lay_node.specs.reader.Patterns.{begins_field, index}
+use Rattle.lay_node.specs.reader.Tokens.{tokens}
+use Rattle.lay_node.specs.reader.Types.{angled, begins_call, if_there, lifetime, literal, one_arg, path}
+use Rattle.lay_node.specs.reader.Words.{name}
+use Rattle.lay_node.specs.declared.attr.Attr.{Attr}
+use Rattle.lay_node.specs.declared.token.Name.{Name}
+use Rattle.lay_node.specs.declared.types.Arg.{Arg}
+use Rattle.lay_node.specs.declared.types.Path.{Path}
+use Rattle.lay_node.specs.declared.types.PathStyle.TheVariants.{Code}
+use Rattle.lay_node.specs.declared.types.TypePlace.TheVariants.{NoBounds}
 use Rattle.lay_tree.specs.Operands.{ExprLead, ByLiteral, ByPath, ByUnderscore, ByParen, ByBracket, ByPrefix, ByRange, ByContinue, ByBreak, ByReturn, expr_lead_at, begins_operand}
 use Rattle.lay_tree.specs.Operators.{op_text, binary, prefix, prefix_length, begins_step, strength}
-use Rattle.lay_tree.specs.nodes.Attr.{is_empty}
 use Rattle.lay_tree.specs.nodes.Exprs.{stands, root_follows, about_expr}
 use Rattle.lay_tree.specs.nodes.Places.{plain, FREE}
-use Rattle.lay_tree.specs.reader.Attr.{attributes}
-use Rattle.lay_tree.specs.reader.Call.{call}
 use Rattle.lay_tree.specs.reader.Exprs as r
 use Rattle.lay_tree.specs.reader.Exprs.{ExprWithin, expr_at}
-use Rattle.lay_tree.specs.reader.Loops.{Got, ◌>>=◌, passed, nodes, deepest, repeat, elements, open_elements}
-use Rattle.lay_tree.specs.reader.Patterns.{begins_field, index}
-use Rattle.lay_tree.specs.reader.Tokens.{tokens}
-use Rattle.lay_tree.specs.reader.Types.{angled, begins_call, if_there, lifetime, literal, one_arg, path}
-use Rattle.lay_tree.specs.reader.Words.{name}
-use Rattle.lay_tree.specs.declared.attr.Attr.{Attr}
 use Rattle.lay_tree.specs.declared.exprs.Expr.{Expr}
 use Rattle.lay_tree.specs.declared.exprs.Place.{Place}
 use Rattle.lay_tree.specs.declared.operators.Prefix.{Prefix}
 use Rattle.lay_tree.specs.declared.operators.Prefix.TheVariants as before
-use Rattle.lay_tree.specs.declared.token.Name.{Name}
-use Rattle.lay_tree.specs.declared.types.Arg.{Arg}
-use Rattle.lay_tree.specs.declared.types.Path.{Path}
-use Rattle.lay_tree.specs.declared.types.PathStyle.TheVariants.{Code}
-use Rattle.lay_tree.specs.declared.types.TypePlace.TheVariants.{NoBounds}
 use Rattle.lay_read_tokens.proofs.Left.{Left, Leaves, unread, dropped, one_read, further, chain, chain_passed, choice, first_read, passed_left, op_read, repeat_left, elements_left, name_left, tokens_left, call_left, attributes_left}
 use Rattle.lay_read_parts.proofs.Left.{weaker, there_left, read_left, lifetime_left, literal_left, angled_left, open_left}
 use Rattle.lay_read_types.proofs.Left.{LeftWithin, one_arg_left, path_left, left_within}

@@ -1,7 +1,7 @@
 -- One step of a reader, from what the readers within it give.
 use Rattle.std.proofs.Common.{◌≡◌, ℕ, suc, ◌+◌, Bool, true, false, [], ◌∷◌, length, drop, Some, None, refl, sym, ap, ◌∙◌, arith}
 use Rattle.std.proofs.lemmas.List.{drop-drop}
-use Rattle.lay_tree.specs.Ahead.{Tokens, tail}
+use Rattle.lay_node.specs.Ahead.{Tokens, tail}
 use Rattle.lay_tree.specs.Operators.{op_text, binary, prefix, prefix_length}
 use Rattle.lay_tree.specs.nodes.Exprs.{about_expr}
 use Rattle.lay_tree.specs.nodes.Places.{plain}

@@ -4,21 +4,21 @@ use Rattle.std.specs.declared.alloc.Global.{Global}
 use denote.Ref.{MutBor}
 use Rattle.lay_piece.specs.declared.kind.Delim.TheVariants.{Bracket, Brace}
 use Rattle.lay_token.specs.Operators.{is_op}
-use Rattle.lay_tree.specs.Ahead.{Tokens, first, tail, is_mark, opens, closes}
+use Rattle.lay_node.specs.Ahead.{Tokens, first, tail, is_mark, opens, closes}
+use Rattle.lay_node.specs.reader.Loops.{Got, Read, ◌>>=◌, passed, repeat}
+use Rattle.lay_node.specs.reader.Types.{Within, angled, begins_call, one_arg, within}
+use Rattle.lay_node.specs.declared.attr.Attr.{Attr}
+use Rattle.lay_node.specs.declared.token.Name.{Name}
+use Rattle.lay_node.specs.declared.types.Arg.{Arg}
+use Rattle.lay_node.specs.declared.types.Path.{Path}
 use Rattle.lay_tree.specs.nodes.Exprs.{stands, about_expr}
 use Rattle.lay_tree.specs.reader.Exprs.{ExprWithin, accepted, base, bracket_expr, break_expr, call_expr, climb, continue_expr, expr_at, field_by, free_elements, generics_by, index_step, left_place, one_step, paren_expr, path_expr, return_expr, stage}
 use Rattle.lay_tree.specs.Operators.{begins_step}
-use Rattle.lay_tree.specs.reader.Loops.{Got, Read, ◌>>=◌, passed, repeat}
-use Rattle.lay_tree.specs.reader.Types.{Within, angled, begins_call, one_arg, within}
-use Rattle.lay_tree.specs.declared.attr.Attr.{Attr}
 use Rattle.lay_tree.specs.declared.exprs.Expr.{Expr}
 use Rattle.lay_tree.specs.declared.exprs.Expr.TheVariants as expr
 use Rattle.lay_tree.specs.declared.exprs.FieldExpr.{FieldExpr}
 use Rattle.lay_tree.specs.declared.exprs.Place.{Place}
 use Rattle.lay_tree.specs.declared.exprs.Step.{Step}
-use Rattle.lay_tree.specs.declared.token.Name.{Name}
-use Rattle.lay_tree.specs.declared.types.Arg.{Arg}
-use Rattle.lay_tree.specs.declared.types.Path.{Path}
 use Rattle.lay_ops.specs.declared.operands.ExprLead.{ExprLead}
 use Rattle.lay_ops.specs.declared.operands.ExprLead.TheVariants as lead
 use Rattle.lay_read_tokens.specs.Answers.{IsFound}

@@ -1,6 +1,6 @@
 -- What goes on as long as a part of it begins, in code.
 use Rattle.std.specs.Prelude.{suc, ◌==◌, Bool, codes}
-use Rattle.lay_tree.specs.Ahead.{Tokens, first, is_keyword}
+use Rattle.lay_node.specs.Ahead.{Tokens, first, is_keyword}
 use Rattle.lay_tree.specs.Operators.{begins_step, strength}
 use Rattle.lay_read_exprs.specs.declared.loops.Going.{Going}
 use Rattle.lay_read_exprs.specs.declared.loops.Going.TheVariants as going

@@ -1,8 +1,8 @@
 //! Casts.
 ghost use Rattle.std.specs.Prelude.{◌≡◌, ◌+◌, ◌≤◌, codes, IfOk};
-ghost use Rattle.lay_tree.specs.Ahead.{first, is_keyword};
+ghost use Rattle.lay_node.specs.Ahead.{first, is_keyword};
+ghost use Rattle.lay_node.specs.reader.Loops.{repeat};
 ghost use Rattle.lay_tree.specs.reader.Exprs as reader;
-ghost use Rattle.lay_tree.specs.reader.Loops.{repeat};
 ghost use Rattle.lay_read_tokens.specs.Answers.{AreFound, IsFound, IsHeld};
 ghost use Rattle.lay_read_exprs.specs.Answers.{AreExprs, exprs_within};
 

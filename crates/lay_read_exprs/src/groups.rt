@@ -1,6 +1,6 @@
 //! Expressions in delimiters.
 ghost use Rattle.std.specs.Prelude.{◌≡◌, ◌+◌, ◌^◌, ◌<◌, ◌≤◌, IfOk};
-ghost use Rattle.lay_tree.specs.Ahead.{closes};
+ghost use Rattle.lay_node.specs.Ahead.{closes};
 ghost use Rattle.lay_tree.specs.reader.Exprs as reader;
 ghost use Rattle.lay_tree.specs.reader.Exprs.{expr_at};
 ghost use Rattle.lay_read_tokens.specs.Answers.{IsFound};

@@ -1,6 +1,6 @@
 //! The loop of parts that stand one behind another, over a function that reads one of them.
 ghost use Rattle.std.specs.Prelude.{◌≡◌, ◌≤◌, IfOk};
-ghost use Rattle.lay_tree.specs.reader.Loops.{repeat};
+ghost use Rattle.lay_node.specs.reader.Loops.{repeat};
 ghost use Rattle.lay_read_tokens.specs.Answers.{AreFound, IsHeld};
 ghost use Rattle.lay_read_parts.specs.Answers.{ReadsParts};
 ghost use Rattle.lay_read_exprs.specs.Loops.{goes_on};

@@ -1,8 +1,8 @@
 //! Postfix steps.
 ghost use Rattle.std.specs.Prelude.{◌≡◌, ◌+◌, ◌≤◌, true, IfOk};
-ghost use Rattle.lay_tree.specs.Ahead.{opens_args_late};
+ghost use Rattle.lay_node.specs.Ahead.{opens_args_late};
+ghost use Rattle.lay_node.specs.reader.Types.{within};
 ghost use Rattle.lay_tree.specs.reader.Exprs as reader;
-ghost use Rattle.lay_tree.specs.reader.Types.{within};
 ghost use Rattle.lay_read_tokens.specs.Answers.{AreFound, IsFound, IsHeld};
 ghost use Rattle.lay_read_exprs.specs.Answers.{AreExprs, bracket_step, exprs_within, generic_method, late_args, steps};
 
@@ -33,7 +33,7 @@ impl Part<Step, ()> for Steps {
 }
 
 /// The generic arguments behind a `::`.
-#[tactic(auto, unfolding(lay_tree::specs::reader::Types::args_by, lay_tree::specs::reader::Types::angle))]
+#[tactic(auto, unfolding(lay_node::specs::reader::Types::args_by, lay_node::specs::reader::Types::angle))]
 fn read_late_args(
     alloc: Global,
     at: &mut Ahead<'_>,

@@ -1,8 +1,8 @@
 //! Operators before an operand.
 ghost use Rattle.std.specs.Prelude.{◌≡◌, ◌+◌, ◌≤◌, drop, is_some, IfOk};
+ghost use Rattle.lay_node.specs.reader.Loops.{repeat};
 ghost use Rattle.lay_tree.specs.Operators as operators;
 ghost use Rattle.lay_tree.specs.reader.Exprs as reader;
-ghost use Rattle.lay_tree.specs.reader.Loops.{repeat};
 ghost use Rattle.lay_read_tokens.specs.Answers.{IsFound, IsGot};
 ghost use Rattle.lay_read_exprs.specs.Answers.{AreExprs, exprs_within};
 

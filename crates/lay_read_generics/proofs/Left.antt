@@ -1,17 +1,17 @@
 -- What reading of generic parameters and where clauses leaves: the tokens behind those that are read.
 use Rattle.std.proofs.Common.{ℕ, false, List, drop, codes, arith}
 use Rattle.lay_token.specs.Operators.{is_op}
-use Rattle.lay_tree.specs.Ahead.{Tokens, first, tail, is_keyword, is_lifetime, is_mark}
-use Rattle.lay_tree.specs.Begins.{begins_bound, begins_predicate}
-use Rattle.lay_tree.specs.reader.Attr.{attributes}
-use Rattle.lay_tree.specs.reader.Generics as g
-use Rattle.lay_tree.specs.reader.Loops.{open_elements}
-use Rattle.lay_tree.specs.reader.Types as r
-use Rattle.lay_tree.specs.reader.Types.{Within, within}
-use Rattle.lay_tree.specs.reader.Where as w
-use Rattle.lay_tree.specs.reader.Words.{name}
-use Rattle.lay_tree.specs.declared.attr.Attr.{Attr}
-use Rattle.lay_tree.specs.declared.types.TypePlace.TheVariants.{Bounds}
+use Rattle.lay_node.specs.Ahead.{Tokens, first, tail, is_keyword, is_lifetime, is_mark}
+use Rattle.lay_node.specs.Begins.{begins_bound, begins_predicate}
+use Rattle.lay_node.specs.reader.Attr.{attributes}
+use Rattle.lay_node.specs.reader.Generics as g
+use Rattle.lay_node.specs.reader.Loops.{open_elements}
+use Rattle.lay_node.specs.reader.Types as r
+use Rattle.lay_node.specs.reader.Types.{Within, within}
+use Rattle.lay_node.specs.reader.Where as w
+use Rattle.lay_node.specs.reader.Words.{name}
+use Rattle.lay_node.specs.declared.attr.Attr.{Attr}
+use Rattle.lay_node.specs.declared.types.TypePlace.TheVariants.{Bounds}
 use Rattle.lay_read_tokens.proofs.Left.{Leaves, unread, dropped, further, chain, chain_passed, choice, first_read, name_left, attributes_left}
 use Rattle.lay_read_parts.proofs.Left.{angled_left, behind_left, binder_if_left, const_left, lifetime_left, lifetimes_left, open_left, operator_left, read_left, there_left, weaker}
 use Rattle.lay_read_types.proofs.Left.{LeftWithin, all_bounds_left, left_within}

@@ -1,9 +1,9 @@
 -- One step of a reader, from what the readers within it give.
 use Rattle.std.proofs.Common.{◌≡◌, true, codes, None, sym, ap, ◌∙◌}
-use Rattle.lay_tree.specs.Ahead.{Tokens, first, tail, is_mark}
-use Rattle.lay_tree.specs.reader.Generics.{generics, one_param}
-use Rattle.lay_tree.specs.reader.Loops.{elements}
-use Rattle.lay_tree.specs.reader.Types.{Within}
+use Rattle.lay_node.specs.Ahead.{Tokens, first, tail, is_mark}
+use Rattle.lay_node.specs.reader.Generics.{generics, one_param}
+use Rattle.lay_node.specs.reader.Loops.{elements}
+use Rattle.lay_node.specs.reader.Types.{Within}
 use Rattle.lay_read_parts.specs.Answers.{gathered}
 use Rattle.lay_read_parts.proofs.Steps.{gathered_lost}
 

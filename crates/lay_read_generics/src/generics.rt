@@ -1,15 +1,16 @@
 //! Generic parameters.
 ghost use Rattle.std.specs.Prelude.{◌≡◌, ◌≤◌, codes, drop, IfOk};
 ghost use Rattle.lay_token.specs.Operators.{is_op};
-ghost use Rattle.lay_tree.specs.Ahead.{is_mark};
-ghost use Rattle.lay_tree.specs.reader.Generics as reader;
-ghost use Rattle.lay_tree.specs.reader.Loops.{elements};
-ghost use Rattle.lay_tree.specs.reader.Types.{if_read, if_there, within};
-ghost use Rattle.lay_tree.specs.declared.types.TypePlace.TheVariants.{Bounds};
+ghost use Rattle.lay_node.specs.Ahead.{is_mark};
+ghost use Rattle.lay_node.specs.reader.Generics as reader;
+ghost use Rattle.lay_node.specs.reader.Loops.{elements};
+ghost use Rattle.lay_node.specs.reader.Types.{if_read, if_there, within};
+ghost use Rattle.lay_node.specs.declared.types.TypePlace.TheVariants.{Bounds};
 ghost use Rattle.lay_read_tokens.specs.Answers.{IsFound, IsGot};
 ghost use Rattle.lay_read_parts.specs.Answers.{gathered};
 
 use crate::level::Level;
+use lay_node::{Attr, Bound, ConstDefault, GenericParam, Generics, Ty, TypePlace};
 use lay_read_parts::joins::{both, refused};
 use lay_read_parts::leads::{begins_bound, begins_const, is_at_lifetime};
 use lay_read_parts::loops::{Closer, Part, read_elements};
@@ -21,7 +22,6 @@ use lay_read_tokens::names::read_name;
 use lay_read_tokens::{Ahead, Found, ReadNone};
 use lay_read_types::{bounds_ahead, type_ahead};
 use lay_token::List;
-use lay_tree::{Attr, Bound, ConstDefault, GenericParam, Generics, Ty, TypePlace};
 use std::alloc::Global;
 
 /// Generic parameters, as parts of a list.
@@ -81,7 +81,7 @@ impl Level {
     }
 
     /// A parameter that is a type, behind its attributes.
-    #[tactic(auto, unfolding(lay_tree::specs::reader::Generics::type_param))]
+    #[tactic(auto, unfolding(lay_node::specs::reader::Generics::type_param))]
     fn type_param(
         &self,
         at: &mut Ahead<'_>,
@@ -106,7 +106,7 @@ impl Level {
     }
 
     /// A parameter that is a constant, behind its keyword.
-    #[tactic(auto, unfolding(lay_tree::specs::reader::Generics::const_param))]
+    #[tactic(auto, unfolding(lay_node::specs::reader::Generics::const_param))]
     fn const_param(
         &self,
         at: &mut Ahead<'_>,
@@ -135,7 +135,7 @@ impl Level {
     }
 
     /// A generic parameter.
-    #[tactic(auto, unfolding(lay_tree::specs::reader::Generics::one_param))]
+    #[tactic(auto, unfolding(lay_node::specs::reader::Generics::one_param))]
     fn param(&self, at: &mut Ahead<'_>, _place: ()) -> Result<Found<GenericParam>, ReadNone>
         ensures read { IsFound (reader.one_param (within self.now.depth) at.old) result at.new }
         ensures within { IfOk result (λ found. found.need ≤ self.now.depth) }
@@ -173,7 +173,7 @@ impl Level {
     }
 
     /// Generic parameters, and whether `<` and `>` are spelled.
-    #[tactic(auto, unfolding(lay_tree::specs::reader::Generics::generics))]
+    #[tactic(auto, unfolding(lay_node::specs::reader::Generics::generics))]
     pub fn generics(&self, at: &mut Ahead<'_>) -> Result<Found<(Generics, bool)>, ReadNone>
         ensures read { IsFound (reader.generics (within self.now.depth) at.old) result at.new }
         ensures within { IfOk result (λ found. found.need ≤ self.now.depth) }

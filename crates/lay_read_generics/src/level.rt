@@ -1,12 +1,12 @@
 //! What is read within a depth.
 ghost use Rattle.std.specs.Prelude.{◌≤◌, IfOk};
-ghost use Rattle.lay_tree.specs.reader.Generics.{generics};
-ghost use Rattle.lay_tree.specs.reader.Types.{within};
-ghost use Rattle.lay_tree.specs.reader.Where.{wheres};
+ghost use Rattle.lay_node.specs.reader.Generics.{generics};
+ghost use Rattle.lay_node.specs.reader.Types.{within};
+ghost use Rattle.lay_node.specs.reader.Where.{wheres};
 ghost use Rattle.lay_read_tokens.specs.Answers.{IsFound};
 
+use lay_node::{Generics, Wheres};
 use lay_read_tokens::{Ahead, Found, ReadNone};
-use lay_tree::{Generics, Wheres};
 use std::alloc::Global;
 
 /// A depth, within which parameters and predicates are read.

@@ -1,13 +1,13 @@
 //! What stands at the front of the tokens of a text.
-ghost use Rattle.lay_tree.specs.nodes.Generics.{GenericsFront};
-ghost use Rattle.lay_tree.specs.nodes.Where.{WheresFront};
+ghost use Rattle.lay_node.specs.nodes.Generics.{GenericsFront};
+ghost use Rattle.lay_node.specs.nodes.Where.{WheresFront};
 ghost use Rattle.lay_read_tokens.specs.Answers.{AreLexed};
 ghost use Rattle.lay_read_parts.specs.Answers.{IsReadAt};
 
 use crate::level::{generics_ahead, wheres_ahead};
 use lay_nest::Cursor;
+use lay_node::{Generics, Wheres};
 use lay_read_tokens::{Ahead, ReadNone};
-use lay_tree::{Generics, Wheres};
 use std::alloc::Global;
 
 /// The generic parameters at the front, within the depth. What is within stands one level deeper. Where there is

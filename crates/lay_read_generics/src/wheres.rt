@@ -1,13 +1,14 @@
 //! Where clauses.
 ghost use Rattle.std.specs.Prelude.{◌≤◌, IfOk};
-ghost use Rattle.lay_tree.specs.Begins.{begins_predicate};
-ghost use Rattle.lay_tree.specs.reader.Loops.{open_elements};
-ghost use Rattle.lay_tree.specs.reader.Types.{within};
-ghost use Rattle.lay_tree.specs.reader.Where as reader;
+ghost use Rattle.lay_node.specs.Begins.{begins_predicate};
+ghost use Rattle.lay_node.specs.reader.Loops.{open_elements};
+ghost use Rattle.lay_node.specs.reader.Types.{within};
+ghost use Rattle.lay_node.specs.reader.Where as reader;
 ghost use Rattle.lay_read_tokens.specs.Answers.{IsFound};
 ghost use Rattle.lay_read_parts.specs.Answers.{gathered_open};
 
 use crate::level::Level;
+use lay_node::{Predicate, Ty, TypePlace, Wheres};
 use lay_read_parts::joins::{both, refused};
 use lay_read_parts::leads::is_at_lifetime;
 use lay_read_parts::loops::{Opening, Part, read_open_elements};
@@ -17,7 +18,6 @@ use lay_read_tokens::front::{takes_keyword, takes_op};
 use lay_read_tokens::{Ahead, Found, ReadNone};
 use lay_read_types::type_ahead;
 use lay_token::List;
-use lay_tree::{Predicate, Ty, TypePlace, Wheres};
 use std::alloc::Global;
 
 /// Predicates, as parts of a where clause.
@@ -29,7 +29,7 @@ impl Part<Predicate, ()> for Predicates {
 
 impl Level {
     /// What is said of a type.
-    #[tactic(auto, unfolding(lay_tree::specs::reader::Where::type_predicate))]
+    #[tactic(auto, unfolding(lay_node::specs::reader::Where::type_predicate))]
     fn type_predicate(&self, at: &mut Ahead<'_>) -> Result<Found<Predicate>, ReadNone>
         ensures read { IsFound (reader.type_predicate (within self.now.depth) at.old) result at.new }
         ensures within { IfOk result (λ found. found.need ≤ self.now.depth) }
@@ -51,7 +51,7 @@ impl Level {
     }
 
     /// A predicate.
-    #[tactic(auto, unfolding(lay_tree::specs::reader::Where::lifetime_predicate))]
+    #[tactic(auto, unfolding(lay_node::specs::reader::Where::lifetime_predicate))]
     fn predicate(&self, at: &mut Ahead<'_>, _place: ()) -> Result<Found<Predicate>, ReadNone>
         ensures read { IsFound (reader.one_predicate (within self.now.depth) at.old) result at.new }
         ensures within { IfOk result (λ found. found.need ≤ self.now.depth) }
@@ -88,7 +88,7 @@ impl Level {
     }
 
     /// A where clause, and whether its last part is spelled.
-    #[tactic(auto, unfolding(lay_tree::specs::reader::Where::wheres))]
+    #[tactic(auto, unfolding(lay_node::specs::reader::Where::wheres))]
     pub fn wheres(&self, at: &mut Ahead<'_>) -> Result<Found<(Wheres, bool)>, ReadNone>
         ensures read { IsFound (reader.wheres (within self.now.depth) at.old) result at.new }
         ensures within { IfOk result (λ found. found.need ≤ self.now.depth) }

@@ -4,18 +4,18 @@ use Rattle.std.proofs.lemmas.Bool.{and_parts}
 use Rattle.lay_token.specs.declared.token.Token.{Token}
 use Rattle.lay_token.proofs.Deciding.{bytes_same}
 use Rattle.std.specs.Str.{bytes_eq}
-use Rattle.lay_tree.specs.Ahead.{Tokens, first, is_ident, is_keyword}
-use Rattle.lay_tree.specs.nodes.Facts.{Told, ToldFront, by_itself}
-use Rattle.lay_tree.specs.nodes.Heads.{about_struct, about_union, headed}
-use Rattle.lay_tree.specs.reader.Exact.{Exact}
-use Rattle.lay_tree.specs.reader.Functions.{head_at, insides}
-use Rattle.lay_tree.specs.reader.Heads.{struct, union}
-use Rattle.lay_tree.specs.reader.Loops.{Read}
-use Rattle.lay_tree.specs.reader.Patterns.{PatWithin}
-use Rattle.lay_tree.specs.reader.Types.{Within}
+use Rattle.lay_node.specs.Ahead.{Tokens, first, is_ident, is_keyword}
+use Rattle.lay_node.specs.nodes.Facts.{Told, ToldFront, by_itself}
+use Rattle.lay_node.specs.nodes.Heads.{about_struct, about_union, headed}
+use Rattle.lay_node.specs.reader.Exact.{Exact}
+use Rattle.lay_node.specs.reader.Functions.{head_at, insides}
+use Rattle.lay_node.specs.reader.Heads.{struct, union}
+use Rattle.lay_node.specs.reader.Loops.{Read}
+use Rattle.lay_node.specs.reader.Patterns.{PatWithin}
+use Rattle.lay_node.specs.reader.Types.{Within}
+use Rattle.lay_node.proofs.reader.StructsExact.{structs_exact, unions_exact}
 use Rattle.lay_tree.specs.declared.item.ItemKind.{ItemKind}
 use Rattle.lay_tree.specs.declared.item.ItemKind.TheVariants as item
-use Rattle.lay_tree.proofs.reader.StructsExact.{structs_exact, unions_exact}
 use Rattle.lay_read_tokens.specs.Answers.{AreLexed, IsRead, Stopped}
 use Rattle.lay_read_tokens.specs.declared.stop.ReadNone.{ReadNone}
 use Rattle.lay_read_tokens.specs.declared.stop.ReadNone.TheVariants.{NoReading, NoMemory}

@@ -1,13 +1,13 @@
 -- Heads by themselves at the front at a depth, from what is read of them one level deeper.
 use Rattle.std.proofs.Common.{◌≡◌, ℕ, suc, ◌-◌, ◌<◌, ◌≤◌, Bool, Some, None, Ok, Err, refl, ap, ◌∙◌, arith}
-use Rattle.lay_tree.specs.Ahead.{Tokens}
-use Rattle.lay_tree.specs.nodes.Facts.{Told, ToldFront, by_itself}
-use Rattle.lay_tree.specs.nodes.Heads.{TraitHeadFront, about_trait_head}
-use Rattle.lay_tree.specs.reader.Exact.{Exact}
-use Rattle.lay_tree.specs.reader.Functions.{head_at, insides}
-use Rattle.lay_tree.specs.reader.Loops.{Read}
-use Rattle.lay_tree.specs.reader.Patterns.{PatWithin}
-use Rattle.lay_tree.specs.declared.heads.TraitHead.{TraitHead}
+use Rattle.lay_node.specs.Ahead.{Tokens}
+use Rattle.lay_node.specs.nodes.Facts.{Told, ToldFront, by_itself}
+use Rattle.lay_node.specs.nodes.Heads.{TraitHeadFront, about_trait_head}
+use Rattle.lay_node.specs.reader.Exact.{Exact}
+use Rattle.lay_node.specs.reader.Functions.{head_at, insides}
+use Rattle.lay_node.specs.reader.Loops.{Read}
+use Rattle.lay_node.specs.reader.Patterns.{PatWithin}
+use Rattle.lay_node.specs.declared.heads.TraitHead.{TraitHead}
 use Rattle.lay_read_tokens.specs.Answers.{AreLexed, Stopped}
 use Rattle.lay_read_tokens.specs.declared.stop.ReadNone.{ReadNone}
 use Rattle.lay_read_tokens.specs.declared.stop.ReadNone.TheVariants.{NoReading, NoMemory}

@@ -1,7 +1,2 @@
-pub mod Left
-pub mod HeadsLeft
-pub mod UseLeft
-pub mod UseSteps
-pub mod Steps
 pub mod AtFront
 pub mod AsKinds

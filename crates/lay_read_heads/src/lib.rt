@@ -1,19 +1,11 @@
-//! From nested tokens to the heads of items: visibilities, fields, use trees, the heads of functions, and the items that
-//! are heads alone.
+//! From nested tokens to the heads of items: visibilities, use trees, the heads of functions, of constants, traits and
+//! impls, and the items that are heads alone.
 //!
-//! Each reader is proved equal to a function of the tokens ahead that `lay_tree` defines, and that function reads what
-//! is spelled and nothing else. Types, patterns and all else with nodes within it come from the crates below, so each
-//! reader here is given the depth of what is within it.
+//! Each call reads exactly what stands at the front of the tokens, by the rules of `lay_head_rules`.
 #![tactic(auto)]
 
-pub mod fields;
-pub mod functions;
-pub mod heads;
 mod kinds;
-pub mod level;
 mod reads;
-pub mod uses;
-pub mod vis;
 
 pub use kinds::{read_alias, read_enum, read_extern_crate, read_struct};
 pub use lay_read_tokens::{ReadNone, read_attr, read_attrs, read_call};

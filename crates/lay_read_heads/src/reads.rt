@@ -1,22 +1,22 @@
 //! What stands at the front of the tokens of a text.
-ghost use Rattle.lay_tree.specs.nodes.Facts.{Front, ToldFront, by_itself};
-ghost use Rattle.lay_tree.specs.nodes.Functions.{about_fn_head};
-ghost use Rattle.lay_tree.specs.nodes.Heads.{TraitHeadFront, about_impl_head, about_value_head};
-ghost use Rattle.lay_tree.specs.nodes.Use.{about_use};
-ghost use Rattle.lay_tree.specs.nodes.Vis.{about_vis};
-ghost use Rattle.lay_tree.specs.reader.Vis.{visibility};
-ghost use Rattle.lay_tree.specs.declared.functions.FnHead.{FnHead as FnHeadValue};
-ghost use Rattle.lay_tree.specs.declared.heads.ImplHead.{ImplHead as ImplHeadValue};
-ghost use Rattle.lay_tree.specs.declared.heads.ValueHead.{ValueHead as ValueHeadValue};
-ghost use Rattle.lay_tree.specs.declared.use_tree.UseTree.{UseTree as UseTreeValue};
-ghost use Rattle.lay_tree.specs.declared.vis.Vis.{Vis as VisValue};
+ghost use Rattle.lay_node.specs.nodes.Facts.{Front, ToldFront, by_itself};
+ghost use Rattle.lay_node.specs.nodes.Functions.{about_fn_head};
+ghost use Rattle.lay_node.specs.nodes.Heads.{TraitHeadFront, about_impl_head, about_value_head};
+ghost use Rattle.lay_node.specs.nodes.Use.{about_use};
+ghost use Rattle.lay_node.specs.nodes.Vis.{about_vis};
+ghost use Rattle.lay_node.specs.reader.Vis.{visibility};
+ghost use Rattle.lay_node.specs.declared.functions.FnHead.{FnHead as FnHeadValue};
+ghost use Rattle.lay_node.specs.declared.heads.ImplHead.{ImplHead as ImplHeadValue};
+ghost use Rattle.lay_node.specs.declared.heads.ValueHead.{ValueHead as ValueHeadValue};
+ghost use Rattle.lay_node.specs.declared.use_tree.UseTree.{UseTree as UseTreeValue};
+ghost use Rattle.lay_node.specs.declared.vis.Vis.{Vis as VisValue};
 ghost use Rattle.lay_read_tokens.specs.Answers.{AreLexed, IsGot, IsRead};
 ghost use Rattle.lay_read_parts.specs.Answers.{IsReadAt};
 
-use crate::functions::fn_head_ahead;
-use crate::heads::{impl_head_ahead, trait_head_ahead, value_head_ahead};
-use crate::uses::use_ahead;
-use crate::vis::vis_ahead;
+use lay_head_rules::functions::fn_head_ahead;
+use lay_head_rules::heads::{impl_head_ahead, trait_head_ahead, value_head_ahead};
+use lay_head_rules::uses::use_ahead;
+use lay_head_rules::vis::vis_ahead;
 use lay_nest::Cursor;
 use lay_read_tokens::{Ahead, ReadNone};
 use lay_tree::{FnHead, ImplHead, Site, TraitHead, UseTree, ValueHead, Vis};

@@ -3,10 +3,10 @@ use Rattle.std.proofs.Common.{◌≡◌, ℕ, suc, ◌-◌, ◌<◌, ◌≤◌, 
 use Rattle.lay_form.specs.Form.{Form}
 use Rattle.lay_form.specs.Spelled as spelled
 use Rattle.lay_form.proofs.FormLaws.{deeper}
-use Rattle.lay_tree.specs.Ahead.{Tokens}
-use Rattle.lay_tree.specs.reader.Exact.{Exact}
-use Rattle.lay_tree.specs.reader.Loops.{Read}
-use Rattle.lay_tree.specs.reader.Types.{Within, within, alone_at}
+use Rattle.lay_node.specs.Ahead.{Tokens}
+use Rattle.lay_node.specs.reader.Exact.{Exact}
+use Rattle.lay_node.specs.reader.Loops.{Read}
+use Rattle.lay_node.specs.reader.Types.{Within, within, alone_at}
 use Rattle.lay_read_tokens.specs.Answers.{AreLexed, Stopped}
 use Rattle.lay_read_tokens.specs.declared.stop.ReadNone.{ReadNone}
 use Rattle.lay_read_tokens.specs.declared.stop.ReadNone.TheVariants.{NoReading, NoMemory}

@@ -3,12 +3,12 @@ use Rattle.std.proofs.Common.{◌≡◌, ℕ, zero, suc, Bool, true, false, List
 use Rattle.std.proofs.lemmas.List.{map-append}
 use Rattle.lay_token.specs.Operators.{is_op}
 use Rattle.lay_token.specs.declared.token.Token.{Token}
-use Rattle.lay_tree.specs.Ahead.{Tokens, first, is_mark, is_lifetime}
-use Rattle.lay_tree.specs.reader.Exact.{needless}
-use Rattle.lay_tree.specs.reader.Loops.{Got, Read, ◌>>=◌, nodes, element_end, repeat_from, repeat, elements_from, elements}
-use Rattle.lay_tree.specs.reader.Types.{chain, lifetime, lifetimes, lifetime_param}
-use Rattle.lay_tree.specs.declared.token.Lifetime.{Lifetime}
-use Rattle.lay_tree.specs.declared.types.LifetimeParam.{LifetimeParam}
+use Rattle.lay_node.specs.Ahead.{Tokens, first, is_mark, is_lifetime}
+use Rattle.lay_node.specs.reader.Exact.{needless}
+use Rattle.lay_node.specs.reader.Loops.{Got, Read, ◌>>=◌, nodes, element_end, repeat_from, repeat, elements_from, elements}
+use Rattle.lay_node.specs.reader.Types.{chain, lifetime, lifetimes, lifetime_param}
+use Rattle.lay_node.specs.declared.token.Lifetime.{Lifetime}
+use Rattle.lay_node.specs.declared.types.LifetimeParam.{LifetimeParam}
 
 -- the parts alone
 abbrev bare : {A : Type 0} → List (A × ℕ) × Tokens → Got (List A)

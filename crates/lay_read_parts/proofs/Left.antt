@@ -3,15 +3,15 @@ use Rattle.std.proofs.Common.{◌≡◌, ℕ, zero, suc, ◌<◌, Bool, true, fa
 use Rattle.lay_token.specs.Operators.{is_op}
 use Rattle.lay_piece.specs.declared.kind.Delim.TheVariants.{Brace}
 use Rattle.lay_token.specs.declared.token.Token.{Token}
-use Rattle.lay_tree.specs.Begins.{is_literal_token}
-use Rattle.lay_tree.specs.Ahead.{Tokens, first, tail, is_keyword, is_mark, is_lifetime, opens, closes}
-use Rattle.lay_tree.specs.reader.Attr.{attributes}
-use Rattle.lay_tree.specs.reader.Exact.{needless}
-use Rattle.lay_tree.specs.reader.Loops.{Got, Read, passed, repeat, open_elements_from, open_elements}
-use Rattle.lay_tree.specs.reader.Tokens.{tokens}
-use Rattle.lay_tree.specs.reader.Types as r
-use Rattle.lay_tree.specs.reader.Types.{Within, within}
-use Rattle.lay_tree.specs.declared.attr.Attr.{Attr}
+use Rattle.lay_node.specs.Begins.{is_literal_token}
+use Rattle.lay_node.specs.Ahead.{Tokens, first, tail, is_keyword, is_mark, is_lifetime, opens, closes}
+use Rattle.lay_node.specs.reader.Attr.{attributes}
+use Rattle.lay_node.specs.reader.Exact.{needless}
+use Rattle.lay_node.specs.reader.Loops.{Got, Read, passed, repeat, open_elements_from, open_elements}
+use Rattle.lay_node.specs.reader.Tokens.{tokens}
+use Rattle.lay_node.specs.reader.Types as r
+use Rattle.lay_node.specs.reader.Types.{Within, within}
+use Rattle.lay_node.specs.declared.attr.Attr.{Attr}
 use Rattle.lay_read_tokens.proofs.Left.{Left, Leaves, Passes, unread, dropped, one_read, further, chain, chain_passed, choice, first_read, passed_left, repeat_left, elements_left, tokens_left, attributes_left, shorter}
 
 -- ---- small parts

@@ -3,12 +3,12 @@ use Rattle.std.proofs.Common.{◌≡◌, ℕ, Bool, true, false, refl, if◌then
 use Rattle.lay_piece.specs.declared.kind.Kind.{Kind}
 use Rattle.lay_piece.specs.declared.kind.Kind.TheVariants as kind
 use Rattle.lay_token.specs.declared.token.Token.{Token}
-use Rattle.lay_tree.specs.Begins.{is_literal_token}
-use Rattle.lay_tree.specs.Ahead.{Tokens, first, tail, is_mark}
-use Rattle.lay_tree.specs.Begins.{lead_by, lead_at, lead_of_word}
-use Rattle.lay_tree.specs.reader.Loops.{Got, ◌>>=◌}
-use Rattle.lay_tree.specs.reader.Types.{literal, const, negative, braces}
-use Rattle.lay_tree.specs.declared.types.ConstArg.TheVariants as const_arg
+use Rattle.lay_node.specs.Begins.{is_literal_token}
+use Rattle.lay_node.specs.Ahead.{Tokens, first, tail, is_mark}
+use Rattle.lay_node.specs.Begins.{lead_by, lead_at, lead_of_word}
+use Rattle.lay_node.specs.reader.Loops.{Got, ◌>>=◌}
+use Rattle.lay_node.specs.reader.Types.{literal, const, negative, braces}
+use Rattle.lay_node.specs.declared.types.ConstArg.TheVariants as const_arg
 use Rattle.lay_read_parts.specs.Answers.{gathered, literal_if}
 
 -- ---- what begins a type

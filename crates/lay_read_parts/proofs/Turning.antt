@@ -1,9 +1,9 @@
 -- The loops of the rules, turn by turn, with what they hold.
 use Rattle.std.proofs.Common.{◌≡◌, ℕ, zero, suc, ◌<◌, ◌≤◌, max, Bool, true, false, List, [], ◌∷◌, ◌++◌, length, drop, codes, Some, None, refl, sym, ap, ◌∙◌, arith}
 use Rattle.lay_token.specs.Operators.{is_op}
-use Rattle.lay_tree.specs.Ahead.{Tokens, first, tail, is_mark}
-use Rattle.lay_tree.specs.reader.Loops.{Got, Read, repeat_from, repeat, open_elements_from, open_elements}
-use Rattle.lay_tree.specs.reader.Types.{chain}
+use Rattle.lay_node.specs.Ahead.{Tokens, first, tail, is_mark}
+use Rattle.lay_node.specs.reader.Loops.{Got, Read, repeat_from, repeat, open_elements_from, open_elements}
+use Rattle.lay_node.specs.reader.Types.{chain}
 use Rattle.lay_read_tokens.proofs.Holding.{Holding, holding_more}
 use Rattle.lay_read_tokens.proofs.Turns.{Turn, Held, repeat-start, repeat-end, repeat-none, repeat-step}
 

@@ -2,13 +2,13 @@
 use Rattle.std.specs.Prelude.{ℕ, ◌≡◌, ◌≤◌, Bool, if◌then◌else◌, List, [], ◌∷◌, codes, Some, None, Result, Ok, Err, drop, IfOk}
 use denote.Ref.{Bor, MutBor}
 use Rattle.lay_token.specs.declared.token.Token.{Token}
-use Rattle.lay_tree.specs.Ahead.{Tokens, closes, is_mark}
-use Rattle.lay_tree.specs.Begins.{begins_predicate}
-use Rattle.lay_tree.specs.reader.Functions.{begins_fn_param}
-use Rattle.lay_tree.specs.reader.Loops.{Got, Read, ◌>>=◌, nodes, deepest}
-use Rattle.lay_tree.specs.reader.Patterns.{begins_field}
-use Rattle.lay_tree.specs.reader.Types.{begins_param}
-use Rattle.lay_tree.specs.declared.token.Literal.{Literal}
+use Rattle.lay_node.specs.Ahead.{Tokens, closes, is_mark}
+use Rattle.lay_node.specs.Begins.{begins_predicate}
+use Rattle.lay_node.specs.reader.Functions.{begins_fn_param}
+use Rattle.lay_node.specs.reader.Loops.{Got, Read, ◌>>=◌, nodes, deepest}
+use Rattle.lay_node.specs.reader.Patterns.{begins_field}
+use Rattle.lay_node.specs.reader.Types.{begins_param}
+use Rattle.lay_node.specs.declared.token.Literal.{Literal}
 use Rattle.lay_read_tokens.proofs.Left.{Leaves}
 use Rattle.lay_read_tokens.specs.Answers.{IsFound}
 use Rattle.lay_read_tokens.specs.declared.found.Found.{Found}

@@ -1,5 +1,5 @@
 -- What begins a type, in code.
-use Rattle.lay_tree.specs.Begins as begins
+use Rattle.lay_node.specs.Begins as begins
 use Rattle.lay_read_parts.specs.declared.leads.Lead.{Lead}
 use Rattle.lay_read_parts.specs.declared.leads.Lead.TheVariants as lead
 

@@ -1,14 +1,14 @@
 //! What the tokens ahead begin.
 ghost use Rattle.std.specs.Prelude.{◌≡◌, option_map};
 ghost use Rattle.lay_piece.specs.Word.{class_of};
-ghost use Rattle.lay_tree.specs.Begins.{is_literal_token};
-ghost use Rattle.lay_tree.specs.Ahead.{first};
-ghost use Rattle.lay_tree.specs.Ahead as ahead;
-ghost use Rattle.lay_tree.specs.Begins as begins;
-ghost use Rattle.lay_tree.specs.Words as words;
-ghost use Rattle.lay_tree.specs.reader.Functions as functions;
-ghost use Rattle.lay_tree.specs.reader.Patterns as patterns;
-ghost use Rattle.lay_tree.specs.reader.Types as reader;
+ghost use Rattle.lay_node.specs.Begins.{is_literal_token};
+ghost use Rattle.lay_node.specs.Ahead.{first};
+ghost use Rattle.lay_node.specs.Ahead as ahead;
+ghost use Rattle.lay_node.specs.Begins as begins;
+ghost use Rattle.lay_node.specs.Words as words;
+ghost use Rattle.lay_node.specs.reader.Functions as functions;
+ghost use Rattle.lay_node.specs.reader.Patterns as patterns;
+ghost use Rattle.lay_node.specs.reader.Types as reader;
 ghost use Rattle.lay_read_parts.specs.Leads.{told};
 
 use lay_read_tokens::Ahead;
@@ -32,7 +32,7 @@ pub enum Lead {
 }
 
 /// What the tokens ahead begin, if it is a type.
-#[tactic(auto, unfolding(lay_tree::specs::Begins::lead_at))]
+#[tactic(auto, unfolding(lay_node::specs::Begins::lead_at))]
 pub fn lead_at(at: &Ahead<'_>) -> Option<Lead>
     ensures { option_map told result ≡ begins.lead_at at.now }
 {

@@ -1,9 +1,9 @@
 //! The loops of all rules, over a function that reads one part.
 ghost use Rattle.std.specs.Prelude.{◌≡◌, ◌≤◌, ℕ, if◌then◌else◌, drop, length, IfOk, Some, None};
 ghost use Rattle.lay_token.specs.Operators.{is_op};
-ghost use Rattle.lay_tree.specs.Ahead.{Tokens, first, tail};
-ghost use Rattle.lay_tree.specs.reader.Loops.{Read, element_end, elements, open_elements};
-ghost use Rattle.lay_tree.specs.reader.Types.{chain};
+ghost use Rattle.lay_node.specs.Ahead.{Tokens, first, tail};
+ghost use Rattle.lay_node.specs.reader.Loops.{Read, element_end, elements, open_elements};
+ghost use Rattle.lay_node.specs.reader.Types.{chain};
 ghost use Rattle.lay_read_tokens.specs.Answers.{AreFound, IsFound, IsHeld};
 ghost use Rattle.lay_read_parts.specs.Answers.{AreFoundOpen, ReadsParts, begins_part, closed_by, joined_by};
 

@@ -1,9 +1,9 @@
 //! Lifetimes, literals, binders, constants and ABIs.
 ghost use Rattle.std.specs.Prelude.{◌≡◌, ◌≤◌, codes, IfOk};
-ghost use Rattle.lay_tree.specs.Ahead.{first, is_keyword, is_lifetime, is_mark};
-ghost use Rattle.lay_tree.specs.reader.Loops.{elements};
-ghost use Rattle.lay_tree.specs.reader.Exact.{needless};
-ghost use Rattle.lay_tree.specs.reader.Types as reader;
+ghost use Rattle.lay_node.specs.Ahead.{first, is_keyword, is_lifetime, is_mark};
+ghost use Rattle.lay_node.specs.reader.Loops.{elements};
+ghost use Rattle.lay_node.specs.reader.Exact.{needless};
+ghost use Rattle.lay_node.specs.reader.Types as reader;
 ghost use Rattle.lay_read_tokens.specs.Answers.{IsFound, IsGot, IsMade};
 ghost use Rattle.lay_read_parts.specs.Answers.{literal_if};
 
@@ -11,6 +11,7 @@ use crate::joins::{both, refused};
 use crate::leads::{is_at_lifetime, is_at_literal, is_at_number};
 use crate::loops::{Closer, Joint, Part, read_chain, read_elements};
 use lay_cook::{Cooked, cook};
+use lay_node::{Abi, Attr, Binder, ConstArg, Lifetime, LifetimeParam, Literal};
 use lay_read_tokens::attributes::attrs_ahead;
 use lay_read_tokens::front::{
     pass, takes_closer, takes_keyword, takes_mark, takes_op, takes_opener,
@@ -19,11 +20,10 @@ use lay_read_tokens::stop::copy_of;
 use lay_read_tokens::tokens::read_tokens;
 use lay_read_tokens::{Ahead, Found, ReadNone};
 use lay_token::{Delim, List, NoMemory};
-use lay_tree::{Abi, Attr, Binder, ConstArg, Lifetime, LifetimeParam, Literal};
 use std::alloc::Global;
 
 /// A lifetime.
-#[tactic(auto, unfolding(lay_tree::specs::reader::Types::lifetime))]
+#[tactic(auto, unfolding(lay_node::specs::reader::Types::lifetime))]
 pub fn read_lifetime(alloc: Global, at: &mut Ahead<'_>) -> Result<Lifetime, ReadNone>
     ensures { IsGot (reader.lifetime at.old) result at.new }
 {
@@ -102,7 +102,7 @@ fn read_outlived(alloc: Global, at: &mut Ahead<'_>) -> Result<List<Lifetime>, Re
 }
 
 /// A lifetime that is a parameter, behind its attributes.
-#[tactic(auto, unfolding(lay_tree::specs::reader::Types::lifetime_behind))]
+#[tactic(auto, unfolding(lay_node::specs::reader::Types::lifetime_behind))]
 pub fn read_lifetime_behind(
     alloc: Global,
     at: &mut Ahead<'_>,
@@ -165,7 +165,7 @@ fn read_params(alloc: Global, at: &mut Ahead<'_>) -> Result<List<LifetimeParam>,
 }
 
 /// A binder, if one stands at the front.
-#[tactic(auto, unfolding(lay_tree::specs::reader::Types::binder))]
+#[tactic(auto, unfolding(lay_node::specs::reader::Types::binder))]
 pub fn read_binder_if(alloc: Global, at: &mut Ahead<'_>) -> Result<Option<Binder>, ReadNone>
     ensures { IsGot (reader.binder_if at.old) result at.new }
 {
@@ -265,7 +265,7 @@ fn read_abi_name(alloc: Global, at: &mut Ahead<'_>) -> Result<Option<Literal>, R
 }
 
 /// An ABI, if one stands at the front.
-#[tactic(auto, unfolding(lay_tree::specs::reader::Types::abi))]
+#[tactic(auto, unfolding(lay_node::specs::reader::Types::abi))]
 pub fn read_abi_if(alloc: Global, at: &mut Ahead<'_>) -> Result<Option<Abi>, ReadNone>
     ensures { IsGot (reader.if_there (first (is_keyword (codes "extern")) at.old) reader.abi at.old) result at.new }
 {

@@ -4,29 +4,29 @@ use Rattle.std.proofs.lemmas.List.{length-drop}
 use Rattle.lay_token.specs.Operators.{op_at, is_op}
 use Rattle.lay_piece.specs.declared.kind.Delim.TheVariants.{Paren, Bracket, Brace}
 use Rattle.lay_token.specs.declared.token.Token.{Token}
-use Rattle.lay_tree.specs.Ahead.{Tokens, first, tail, is_keyword, is_mark, opens, closes}
-use Rattle.lay_tree.specs.Begins.{begins_span_end, begins_value, is_literal_token}
-use Rattle.lay_tree.specs.Follow.{begins_dots, goes_on_pattern}
-use Rattle.lay_tree.specs.Words.{is_name}
-use Rattle.lay_tree.specs.nodes.Patterns.{about_pat, is_self}
-use Rattle.lay_tree.specs.nodes.Types.{lone_word}
-use Rattle.lay_tree.specs.reader.Attr.{attributes}
-use Rattle.lay_tree.specs.reader.Call.{call}
-use Rattle.lay_tree.specs.reader.Loops.{Got, Read, passed, deepest, elements, open_elements}
-use Rattle.lay_tree.specs.reader.Patterns as p
-use Rattle.lay_tree.specs.reader.Patterns.{PatWithin}
-use Rattle.lay_tree.specs.reader.Types as r
-use Rattle.lay_tree.specs.reader.Types.{begins_call, flag, literal, within}
-use Rattle.lay_tree.specs.reader.Words.{name}
-use Rattle.lay_tree.specs.declared.attr.Attr.{Attr}
-use Rattle.lay_tree.specs.declared.patterns.Pat.{Pat}
-use Rattle.lay_tree.specs.declared.patterns.PatPlace.{PatPlace}
-use Rattle.lay_tree.specs.declared.patterns.PatPlace.TheVariants.{Alternatives, Single}
-use Rattle.lay_tree.specs.declared.patterns.SpanEnd.{SpanEnd}
-use Rattle.lay_tree.specs.declared.token.Name.{Name}
-use Rattle.lay_tree.specs.declared.token.Word.{Word}
-use Rattle.lay_tree.specs.declared.types.Path.{Path}
-use Rattle.lay_tree.specs.declared.types.PathStyle.TheVariants.{Code}
+use Rattle.lay_node.specs.Ahead.{Tokens, first, tail, is_keyword, is_mark, opens, closes}
+use Rattle.lay_node.specs.Begins.{begins_span_end, begins_value, is_literal_token}
+use Rattle.lay_node.specs.Follow.{begins_dots, goes_on_pattern}
+use Rattle.lay_node.specs.Words.{is_name}
+use Rattle.lay_node.specs.nodes.Patterns.{about_pat, is_self}
+use Rattle.lay_node.specs.nodes.Types.{lone_word}
+use Rattle.lay_node.specs.reader.Attr.{attributes}
+use Rattle.lay_node.specs.reader.Call.{call}
+use Rattle.lay_node.specs.reader.Loops.{Got, Read, passed, deepest, elements, open_elements}
+use Rattle.lay_node.specs.reader.Patterns as p
+use Rattle.lay_node.specs.reader.Patterns.{PatWithin}
+use Rattle.lay_node.specs.reader.Types as r
+use Rattle.lay_node.specs.reader.Types.{begins_call, flag, literal, within}
+use Rattle.lay_node.specs.reader.Words.{name}
+use Rattle.lay_node.specs.declared.attr.Attr.{Attr}
+use Rattle.lay_node.specs.declared.patterns.Pat.{Pat}
+use Rattle.lay_node.specs.declared.patterns.PatPlace.{PatPlace}
+use Rattle.lay_node.specs.declared.patterns.PatPlace.TheVariants.{Alternatives, Single}
+use Rattle.lay_node.specs.declared.patterns.SpanEnd.{SpanEnd}
+use Rattle.lay_node.specs.declared.token.Name.{Name}
+use Rattle.lay_node.specs.declared.token.Word.{Word}
+use Rattle.lay_node.specs.declared.types.Path.{Path}
+use Rattle.lay_node.specs.declared.types.PathStyle.TheVariants.{Code}
 use Rattle.lay_read_tokens.proofs.Left.{Left, Leaves, Passes, unread, dropped, joined, further, chain, chain_passed, choice, first_read, passed_left, elements_left, name_left, call_left, attributes_left}
 use Rattle.lay_read_parts.proofs.Left.{flag_left, literal_left, chain_left, open_left}
 use Rattle.lay_read_types.proofs.Left.{path_left, left_within}

@@ -4,21 +4,21 @@ use Rattle.lay_piece.specs.declared.kind.Delim.TheVariants.{Paren}
 use Rattle.lay_piece.specs.declared.kind.Kind.{Kind}
 use Rattle.lay_piece.specs.declared.kind.Kind.TheVariants as kind
 use Rattle.lay_token.specs.declared.token.Token.{Token}
-use Rattle.lay_tree.specs.Ahead.{Tokens, first, tail, is_mark, closes}
-use Rattle.lay_tree.specs.Begins.{is_literal_token}
-use Rattle.lay_tree.specs.nodes.Patterns.{PatFacts, about_pat}
-use Rattle.lay_tree.specs.reader.Loops.{Read, ◌>>=◌, nodes, deepest, elements}
-use Rattle.lay_tree.specs.reader.Patterns as r
-use Rattle.lay_tree.specs.reader.Patterns.{PatWithin}
-use Rattle.lay_tree.specs.reader.Types.{flag}
-use Rattle.lay_tree.specs.declared.patterns.FieldPat.{FieldPat}
-use Rattle.lay_tree.specs.declared.patterns.FieldPat.TheOpen.{Pat-F}
-use Rattle.lay_tree.specs.declared.patterns.FieldPat.TheViews as views
-use Rattle.lay_tree.specs.declared.patterns.Pat.{Pat}
-use Rattle.lay_tree.specs.declared.patterns.Pat.TheVariants as pat
-use Rattle.lay_tree.specs.declared.patterns.PatPlace.TheVariants.{Alternatives}
-use Rattle.lay_tree.specs.declared.token.Name.{Name}
-use Rattle.lay_tree.proofs.nodes.PatternsLaws.{PatView, IsOr, IsValue, IsWild, IsRest, IsCall, IsPath, IsBind, IsSpan, IsRef, IsStruct, IsTupleStruct, IsTuple, IsParen, IsSlice, pat_view, pat_or_is, pat_value_is, pat_wild_is, pat_rest_is, pat_call_is, pat_path_is, pat_bind_is, pat_span_is, pat_ref_is, pat_struct_is, pat_tuple_struct_is, pat_tuple_is, pat_paren_is, pat_slice_is}
+use Rattle.lay_node.specs.Ahead.{Tokens, first, tail, is_mark, closes}
+use Rattle.lay_node.specs.Begins.{is_literal_token}
+use Rattle.lay_node.specs.nodes.Patterns.{PatFacts, about_pat}
+use Rattle.lay_node.specs.reader.Loops.{Read, ◌>>=◌, nodes, deepest, elements}
+use Rattle.lay_node.specs.reader.Patterns as r
+use Rattle.lay_node.specs.reader.Patterns.{PatWithin}
+use Rattle.lay_node.specs.reader.Types.{flag}
+use Rattle.lay_node.specs.declared.patterns.FieldPat.{FieldPat}
+use Rattle.lay_node.specs.declared.patterns.FieldPat.TheOpen.{Pat-F}
+use Rattle.lay_node.specs.declared.patterns.FieldPat.TheViews as views
+use Rattle.lay_node.specs.declared.patterns.Pat.{Pat}
+use Rattle.lay_node.specs.declared.patterns.Pat.TheVariants as pat
+use Rattle.lay_node.specs.declared.patterns.PatPlace.TheVariants.{Alternatives}
+use Rattle.lay_node.specs.declared.token.Name.{Name}
+use Rattle.lay_node.proofs.nodes.PatternsLaws.{PatView, IsOr, IsValue, IsWild, IsRest, IsCall, IsPath, IsBind, IsSpan, IsRef, IsStruct, IsTupleStruct, IsTuple, IsParen, IsSlice, pat_view, pat_or_is, pat_value_is, pat_wild_is, pat_rest_is, pat_call_is, pat_path_is, pat_bind_is, pat_span_is, pat_ref_is, pat_struct_is, pat_tuple_struct_is, pat_tuple_is, pat_paren_is, pat_slice_is}
 use Rattle.lay_read_tokens.specs.Answers.{AreFound, IsFound, IsHeld, is_underscore, is_underscore_kind}
 use Rattle.lay_read_tokens.specs.declared.found.Found.{Found}
 use Rattle.lay_read_tokens.specs.declared.stop.ReadNone.{ReadNone}

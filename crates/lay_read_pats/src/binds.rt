@@ -1,15 +1,15 @@
 //! Names that are bound.
 ghost use Rattle.std.specs.Prelude.{◌≡◌, ◌+◌, ◌≤◌, IfOk};
-ghost use Rattle.lay_tree.specs.reader.Patterns as reader;
+ghost use Rattle.lay_node.specs.reader.Patterns as reader;
 ghost use Rattle.lay_read_tokens.specs.Answers.{IsFound};
 ghost use Rattle.lay_read_pats.specs.Answers.{ArePats, pats_within};
 
 use crate::rules::PatRules;
+use lay_node::{Name, Pat, PatPlace};
 use lay_read_parts::joins::{both, refused};
 use lay_read_tokens::front::{is_at_keyword, takes_keyword, takes_op};
 use lay_read_tokens::names::read_name;
 use lay_read_tokens::{Ahead, Found, ReadNone};
-use lay_tree::{Name, Pat, PatPlace};
 use std::alloc::Global;
 
 /// Whether a name behind `ref` or `mut` begins at the front.
@@ -33,7 +33,7 @@ fn bound(at: &Ahead<'_>, found: Found<Pat>) -> Result<Found<Pat>, ReadNone>
 
 impl<P: Fn(Global, &mut Ahead<'_>, PatPlace, u32) -> Result<Found<Pat>, ReadNone>> PatRules<P> {
     /// What a name is bound to, behind it.
-    #[tactic(auto, unfolding(lay_tree::specs::reader::Patterns::bind))]
+    #[tactic(auto, unfolding(lay_node::specs::reader::Patterns::bind))]
     pub fn bind(
         &self,
         at: &mut Ahead<'_>,
@@ -72,7 +72,7 @@ impl<P: Fn(Global, &mut Ahead<'_>, PatPlace, u32) -> Result<Found<Pat>, ReadNone
     }
 
     /// A name behind `ref` or `mut`, or both.
-    #[tactic(auto, unfolding(lay_tree::specs::reader::Patterns::marked_bind), using(crate::proofs::Steps::flag_found, crate::proofs::Steps::flag_rest))]
+    #[tactic(auto, unfolding(lay_node::specs::reader::Patterns::marked_bind), using(crate::proofs::Steps::flag_found, crate::proofs::Steps::flag_rest))]
     pub fn marked_bind(&self, at: &mut Ahead<'_>) -> Result<Found<Pat>, ReadNone>
         requires { ArePats self.now.depth (P.pre self.now.pats) (P.post self.now.pats) }
         ensures read { IsFound (reader.marked_bind (pats_within self.now.depth) at.old) result at.new }

@@ -1,12 +1,12 @@
 //! What the rules ask of a pattern or a path that was read.
 ghost use Rattle.std.specs.Prelude.{◌≡◌, option_copied};
-ghost use Rattle.lay_tree.specs.Words as words;
-ghost use Rattle.lay_tree.specs.nodes.Patterns as nodes;
-ghost use Rattle.lay_tree.specs.nodes.Patterns.{about_pat};
-ghost use Rattle.lay_tree.specs.nodes.Types as types;
+ghost use Rattle.lay_node.specs.Words as words;
+ghost use Rattle.lay_node.specs.nodes.Patterns as nodes;
+ghost use Rattle.lay_node.specs.nodes.Patterns.{about_pat};
+ghost use Rattle.lay_node.specs.nodes.Types as types;
 
+use lay_node::{Args, Pat, Path, PathStart, Word};
 use lay_token::word::{Class, word_class};
-use lay_tree::{Args, Pat, Path, PathStart, Word};
 
 /// Whether the pattern is a name that is bound, with nothing behind it.
 #[tactic(auto, using(crate::proofs::Steps::short_is))]

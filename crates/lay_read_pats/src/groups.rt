@@ -1,15 +1,16 @@
 //! Patterns in delimiters, and references.
 ghost use Rattle.std.specs.Prelude.{◌≡◌, ◌+◌, ◌^◌, ◌<◌, ◌≤◌, ◌∷◌, [], max, IfOk};
-ghost use Rattle.lay_tree.specs.Ahead.{closes};
-ghost use Rattle.lay_tree.specs.declared.patterns.PatPlace.TheVariants.{Alternatives};
-ghost use Rattle.lay_tree.specs.reader.Loops.{elements};
-ghost use Rattle.lay_tree.specs.reader.Patterns as reader;
-ghost use Rattle.lay_tree.specs.reader.Patterns.{pat_at};
+ghost use Rattle.lay_node.specs.Ahead.{closes};
+ghost use Rattle.lay_node.specs.declared.patterns.PatPlace.TheVariants.{Alternatives};
+ghost use Rattle.lay_node.specs.reader.Loops.{elements};
+ghost use Rattle.lay_node.specs.reader.Patterns as reader;
+ghost use Rattle.lay_node.specs.reader.Patterns.{pat_at};
 ghost use Rattle.lay_read_tokens.specs.Answers.{AreFound, IsFound, IsHeld, IsMade};
 ghost use Rattle.lay_read_pats.specs.Answers.{ArePats, pats_within, tuple_behind};
 
 use crate::facts::{is_rest, is_span};
 use crate::rules::PatRules;
+use lay_node::{Pat, PatPlace};
 use lay_read_parts::joins::{both, prepended, refused};
 use lay_read_parts::loops::{Closer, Part, read_elements};
 use lay_read_tokens::found::greater;
@@ -17,7 +18,6 @@ use lay_read_tokens::front::{takes_closer, takes_keyword, takes_mark};
 use lay_read_tokens::stop::{boxed, keep};
 use lay_read_tokens::{Ahead, Found, ReadNone};
 use lay_token::{Delim, List};
-use lay_tree::{Pat, PatPlace};
 use std::alloc::Global;
 
 /// Patterns one level deeper, as elements of a list.
@@ -99,7 +99,7 @@ impl<P: Fn(Global, &mut Ahead<'_>, PatPlace, u32) -> Result<Found<Pat>, ReadNone
     }
 
     /// What stands behind a `&`.
-    #[tactic(auto, unfolding(lay_tree::specs::reader::Patterns::ref_pat), using(crate::proofs::Steps::flag_found, crate::proofs::Steps::flag_rest))]
+    #[tactic(auto, unfolding(lay_node::specs::reader::Patterns::ref_pat), using(crate::proofs::Steps::flag_found, crate::proofs::Steps::flag_rest))]
     pub fn ref_pat(&self, at: &mut Ahead<'_>) -> Result<Found<Pat>, ReadNone>
         requires { ArePats self.now.depth (P.pre self.now.pats) (P.post self.now.pats) }
         ensures read { IsFound (reader.ref_pat (pats_within self.now.depth) at.old) result at.new }
@@ -119,7 +119,7 @@ impl<P: Fn(Global, &mut Ahead<'_>, PatPlace, u32) -> Result<Found<Pat>, ReadNone
     }
 
     /// What stands behind a `[`.
-    #[tactic(auto, unfolding(lay_tree::specs::reader::Patterns::slice_pat))]
+    #[tactic(auto, unfolding(lay_node::specs::reader::Patterns::slice_pat))]
     pub fn slice_pat(&self, at: &mut Ahead<'_>) -> Result<Found<Pat>, ReadNone>
         requires { ArePats self.now.depth (P.pre self.now.pats) (P.post self.now.pats) }
         ensures read { IsFound (reader.slice_pat (pats_within self.now.depth) at.old) result at.new }
@@ -135,7 +135,7 @@ impl<P: Fn(Global, &mut Ahead<'_>, PatPlace, u32) -> Result<Found<Pat>, ReadNone
     }
 
     /// What stands behind a `(`.
-    #[tactic(auto, unfolding(lay_tree::specs::reader::Patterns::paren_pat))]
+    #[tactic(auto, unfolding(lay_node::specs::reader::Patterns::paren_pat))]
     pub fn paren_pat(&self, at: &mut Ahead<'_>) -> Result<Found<Pat>, ReadNone>
         requires { ArePats self.now.depth (P.pre self.now.pats) (P.post self.now.pats) }
         ensures read { IsFound (reader.paren_pat (pats_within self.now.depth) at.old) result at.new }

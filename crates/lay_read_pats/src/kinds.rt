@@ -1,20 +1,20 @@
 //! Each kind of pattern, told from what begins it.
 ghost use Rattle.std.specs.Prelude.{◌≡◌, ◌+◌, ◌≤◌, IfOk};
-ghost use Rattle.lay_tree.specs.Follow as follow;
-ghost use Rattle.lay_tree.specs.reader.Patterns as reader;
+ghost use Rattle.lay_node.specs.Follow as follow;
+ghost use Rattle.lay_node.specs.reader.Patterns as reader;
 ghost use Rattle.lay_read_tokens.specs.Answers.{IsFound};
 ghost use Rattle.lay_read_pats.specs.Answers.{ArePats, pats_within};
 
 use crate::binds::begins_bind;
 use crate::rules::PatRules;
 use crate::values::{begins_dots, begins_value, span, value_pat};
+use lay_node::{Pat, PatPlace};
 use lay_read_parts::joins::refused;
 use lay_read_tokens::calls::call_ahead;
 use lay_read_tokens::front::{is_at_opened, takes_mark, takes_opener, takes_underscore};
 use lay_read_tokens::{Ahead, Found, ReadNone};
 use lay_read_types::types::begins_call;
 use lay_token::Delim;
-use lay_tree::{Pat, PatPlace};
 use std::alloc::Global;
 
 /// A macro call that is a pattern.
@@ -52,7 +52,7 @@ impl<P: Fn(Global, &mut Ahead<'_>, PatPlace, u32) -> Result<Found<Pat>, ReadNone
     }
 
     /// A pattern, told from what begins it.
-    #[tactic(auto, unfolding(lay_tree::specs::reader::Patterns::pat_by), using(crate::proofs::Steps::underscore_is))]
+    #[tactic(auto, unfolding(lay_node::specs::reader::Patterns::pat_by), using(crate::proofs::Steps::underscore_is))]
     fn pat_by(&self, at: &mut Ahead<'_>) -> Result<Found<Pat>, ReadNone>
         requires { ArePats self.now.depth (P.pre self.now.pats) (P.post self.now.pats) }
         ensures read { IsFound (reader.pat_by (pats_within self.now.depth) at.old) result at.new }

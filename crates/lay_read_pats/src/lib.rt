@@ -1,6 +1,6 @@
 //! From nested tokens to patterns.
 //!
-//! Each reader is proved equal to a function of the tokens ahead that `lay_tree` defines, and that function reads what
+//! Each reader is proved equal to a function of the tokens ahead that `lay_node` defines, and that function reads what
 //! is spelled and nothing else.
 #![tactic(auto)]
 

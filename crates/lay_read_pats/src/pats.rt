@@ -1,16 +1,16 @@
 //! Patterns at their places.
 ghost use Rattle.std.specs.Prelude.{◌≡◌, ◌≤◌, codes, IfOk};
-ghost use Rattle.lay_tree.specs.reader.Patterns.{pat_at, single_at};
-ghost use Rattle.lay_tree.specs.reader.Types.{chain};
+ghost use Rattle.lay_node.specs.reader.Patterns.{pat_at, single_at};
+ghost use Rattle.lay_node.specs.reader.Types.{chain};
 ghost use Rattle.lay_read_tokens.specs.Answers.{AreFound, IsFound, IsHeld};
 ghost use Rattle.lay_read_pats.specs.Answers.{alternatives_behind};
 
 use crate::rules::PatRules;
+use lay_node::{Pat, PatPlace};
 use lay_read_parts::loops::{Joint, Part, read_chain};
 use lay_read_tokens::front::takes_op;
 use lay_read_tokens::{Ahead, Found, ReadNone};
 use lay_token::List;
-use lay_tree::{Pat, PatPlace};
 use std::alloc::Global;
 
 /// A depth, at which alternatives are read.
@@ -50,7 +50,7 @@ pub fn pat_ahead(
 
 /// A pattern without alternatives, within a depth.
 #[cycle(pats)]
-#[tactic(auto, unfolding(lay_tree::specs::reader::Patterns::single_at))]
+#[tactic(auto, unfolding(lay_node::specs::reader::Patterns::single_at))]
 pub fn single_ahead(alloc: Global, at: &mut Ahead<'_>, depth: u32) -> Result<Found<Pat>, ReadNone>
     ensures read { IsFound (single_at depth at.old) result at.new }
     ensures within { IfOk result (λ found. found.need ≤ depth) }

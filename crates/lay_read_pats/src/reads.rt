@@ -1,14 +1,14 @@
 //! The pattern at a cursor.
-ghost use Rattle.lay_tree.specs.nodes.Patterns.{PatFront, about_pat};
-ghost use Rattle.lay_tree.specs.declared.patterns.Pat.{Pat};
-ghost use Rattle.lay_tree.specs.declared.patterns.PatPlace.TheVariants.{Alternatives, Single};
+ghost use Rattle.lay_node.specs.nodes.Patterns.{PatFront, about_pat};
+ghost use Rattle.lay_node.specs.declared.patterns.Pat.{Pat};
+ghost use Rattle.lay_node.specs.declared.patterns.PatPlace.TheVariants.{Alternatives, Single};
 ghost use Rattle.lay_read_tokens.specs.Answers.{AreLexed};
 ghost use Rattle.lay_read_parts.specs.Answers.{IsReadAt};
 
 use crate::pats::pat_ahead;
 use lay_nest::Cursor;
+use lay_node::{Pat, PatPlace};
 use lay_read_tokens::{Ahead, ReadNone};
-use lay_tree::{Pat, PatPlace};
 use std::alloc::Global;
 
 /// The pattern at the front, which may be several alternatives, within a depth. Where there is none the cursor stays.

@@ -1,12 +1,12 @@
 //! The rules of a level, and how what is one level deeper is read.
 ghost use Rattle.std.specs.Prelude.{◌≡◌, ◌≤◌, IfOk};
-ghost use Rattle.lay_tree.specs.reader.Patterns.{pat_at};
+ghost use Rattle.lay_node.specs.reader.Patterns.{pat_at};
 ghost use Rattle.lay_read_tokens.specs.Answers.{IsFound};
 ghost use Rattle.lay_read_pats.specs.Answers.{ArePats};
 
+use lay_node::{Boxed, Pat, PatPlace};
 use lay_read_tokens::stop::boxed;
 use lay_read_tokens::{Ahead, Found, ReadNone};
-use lay_tree::{Boxed, Pat, PatPlace};
 use std::alloc::Global;
 
 /// The rules of a level, over the reader of patterns one level deeper, at a place.

@@ -1,13 +1,14 @@
 //! What begins with a path.
 ghost use Rattle.std.specs.Prelude.{◌≡◌, ◌+◌, ◌^◌, ◌<◌, ◌≤◌, false, IfOk, is_some};
-ghost use Rattle.lay_tree.specs.nodes.Types as types;
-ghost use Rattle.lay_tree.specs.reader.Patterns as reader;
+ghost use Rattle.lay_node.specs.nodes.Types as types;
+ghost use Rattle.lay_node.specs.reader.Patterns as reader;
 ghost use Rattle.lay_read_tokens.specs.Answers.{IsFound};
 ghost use Rattle.lay_read_pats.specs.Answers.{ArePats, IsTried, full_field, index_field, pats_within, word_name};
 
 use crate::facts::{is_name, is_self, is_short, lone_word};
 use crate::rules::PatRules;
 use crate::values::{begins_dots, span};
+use lay_node::{Attr, FieldPat, Name, Pat, PatPlace, Path, PathStyle, SpanEnd, Word};
 use lay_read_parts::joins::{both, refused};
 use lay_read_parts::loops::{Opening, Part, read_open_elements};
 use lay_read_tokens::attributes::attrs_ahead;
@@ -18,7 +19,6 @@ use lay_read_tokens::stop::copy_of;
 use lay_read_tokens::{Ahead, Found, ReadNone};
 use lay_read_types::path_ahead;
 use lay_token::{Delim, Kind, List, Text};
-use lay_tree::{Attr, FieldPat, Name, Pat, PatPlace, Path, PathStyle, SpanEnd, Word};
 use std::alloc::Global;
 
 /// A path that is a pattern, if no `!` stands behind it.
@@ -66,7 +66,7 @@ pub fn read_index_if(alloc: Global, at: &mut Ahead<'_>) -> Result<Option<Text>, 
 }
 
 /// Whether a name and a `:` behind it stand at the front.
-#[tactic(auto, unfolding(lay_tree::specs::reader::Words::name))]
+#[tactic(auto, unfolding(lay_node::specs::reader::Words::name))]
 fn is_at_field_name(at: &Ahead<'_>) -> bool
     ensures { result ≡ is_some (reader.field_name at.now) }
 {
@@ -96,7 +96,7 @@ impl Part<FieldPat, ()> for Fields {
 
 impl<P: Fn(Global, &mut Ahead<'_>, PatPlace, u32) -> Result<Found<Pat>, ReadNone>> PatRules<P> {
     /// A path, and what stands behind it.
-    #[tactic(auto, unfolding(lay_tree::specs::reader::Patterns::path_pat))]
+    #[tactic(auto, unfolding(lay_node::specs::reader::Patterns::path_pat))]
     pub fn path_pat(&self, at: &mut Ahead<'_>) -> Result<Found<Pat>, ReadNone>
         requires { ArePats self.now.depth (P.pre self.now.pats) (P.post self.now.pats) }
         ensures read { IsFound (reader.path_pat (pats_within self.now.depth) at.old) result at.new }
@@ -107,7 +107,7 @@ impl<P: Fn(Global, &mut Ahead<'_>, PatPlace, u32) -> Result<Found<Pat>, ReadNone
     }
 
     /// What stands behind a path.
-    #[tactic(auto, unfolding(lay_tree::specs::reader::Patterns::path_by))]
+    #[tactic(auto, unfolding(lay_node::specs::reader::Patterns::path_by))]
     fn path_by(&self, at: &mut Ahead<'_>, path: Found<Path>) -> Result<Found<Pat>, ReadNone>
         requires deeper { ArePats self.now.depth (P.pre self.now.pats) (P.post self.now.pats) }
         requires within { path.need ≤ self.now.depth }
@@ -195,7 +195,7 @@ impl<P: Fn(Global, &mut Ahead<'_>, PatPlace, u32) -> Result<Found<Pat>, ReadNone
     }
 
     /// Fields behind a `{`, and whether a `..` stands behind them.
-    #[tactic(auto, unfolding(lay_tree::specs::reader::Patterns::fields), using(crate::proofs::Left::field_leaves))]
+    #[tactic(auto, unfolding(lay_node::specs::reader::Patterns::fields), using(crate::proofs::Left::field_leaves))]
     fn fields(&self, at: &mut Ahead<'_>) -> Result<Found<(List<FieldPat>, bool)>, ReadNone>
         requires { ArePats self.now.depth (P.pre self.now.pats) (P.post self.now.pats) }
         ensures read { IsFound (reader.fields (pats_within self.now.depth) at.old) result at.new }
@@ -226,7 +226,7 @@ impl<P: Fn(Global, &mut Ahead<'_>, PatPlace, u32) -> Result<Found<Pat>, ReadNone
     }
 
     /// A field, with its attributes.
-    #[tactic(auto, unfolding(lay_tree::specs::reader::Patterns::one_field))]
+    #[tactic(auto, unfolding(lay_node::specs::reader::Patterns::one_field))]
     fn one_field(&self, at: &mut Ahead<'_>, _place: ()) -> Result<Found<FieldPat>, ReadNone>
         requires { ArePats self.now.depth (P.pre self.now.pats) (P.post self.now.pats) }
         ensures read { IsFound (reader.one_field (pats_within self.now.depth) at.old) result at.new }

@@ -1,11 +1,12 @@
 //! Values, and spans of them.
 ghost use Rattle.std.specs.Prelude.{◌≡◌, ◌+◌, ◌^◌, ◌<◌, ◌≤◌, drop, IfOk};
-ghost use Rattle.lay_tree.specs.Begins as begins;
-ghost use Rattle.lay_tree.specs.Follow as follow;
-ghost use Rattle.lay_tree.specs.reader.Patterns as reader;
-ghost use Rattle.lay_tree.specs.reader.Types.{within};
+ghost use Rattle.lay_node.specs.Begins as begins;
+ghost use Rattle.lay_node.specs.Follow as follow;
+ghost use Rattle.lay_node.specs.reader.Patterns as reader;
+ghost use Rattle.lay_node.specs.reader.Types.{within};
 ghost use Rattle.lay_read_tokens.specs.Answers.{IsFound, IsGot};
 
+use lay_node::{Pat, PatValue, PathStyle, SpanEnd};
 use lay_read_parts::joins::both;
 use lay_read_parts::leads::{Lead, is_at_literal, is_at_number, lead_at};
 use lay_read_parts::parts::read_literal;
@@ -13,7 +14,6 @@ use lay_read_tokens::found::greater;
 use lay_read_tokens::front::{is_at_mark, pass, pass_two, takes_mark};
 use lay_read_tokens::{Ahead, Found, ReadNone};
 use lay_read_types::path_ahead;
-use lay_tree::{Pat, PatValue, PathStyle, SpanEnd};
 use std::alloc::Global;
 
 /// Whether the `..` or `..=` of a span stands at the front.
@@ -68,7 +68,7 @@ fn read_value(alloc: Global, at: &mut Ahead<'_>) -> Result<PatValue, ReadNone>
 }
 
 /// An end of a span.
-#[tactic(auto, unfolding(lay_tree::specs::reader::Patterns::one_end))]
+#[tactic(auto, unfolding(lay_node::specs::reader::Patterns::one_end))]
 fn one_end(alloc: Global, at: &mut Ahead<'_>, depth: u32) -> Result<Found<SpanEnd>, ReadNone>
     ensures read { IsFound (reader.one_end (within depth) at.old) result at.new }
     ensures within { IfOk result (λ found. found.need ≤ depth) }
@@ -136,7 +136,7 @@ fn open_span(at: &Ahead<'_>, start: Found<Option<SpanEnd>>) -> Result<Found<Pat>
 }
 
 /// A span, or a rest, from its `..` or `..=` on.
-#[tactic(auto, unfolding(lay_tree::specs::reader::Patterns::span))]
+#[tactic(auto, unfolding(lay_node::specs::reader::Patterns::span))]
 pub fn span(
     alloc: Global,
     at: &mut Ahead<'_>,
@@ -161,7 +161,7 @@ pub fn span(
 }
 
 /// A value, or a span that it begins.
-#[tactic(auto, unfolding(lay_tree::specs::reader::Patterns::value_pat))]
+#[tactic(auto, unfolding(lay_node::specs::reader::Patterns::value_pat))]
 pub fn value_pat(alloc: Global, at: &mut Ahead<'_>, depth: u32) -> Result<Found<Pat>, ReadNone>
     requires { depth + 1 < 2 ^ 32 }
     ensures read { IsFound (reader.value_pat (within depth) at.old) result at.new }

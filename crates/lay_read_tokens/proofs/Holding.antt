@@ -1,7 +1,7 @@
 -- What the loops of nodes with nodes within them hold.
 use Rattle.std.proofs.Common.{◌≡◌, ℕ, max, List, [], ◌∷◌, ◌++◌, ap, ◌∙◌, arith}
 use Rattle.std.proofs.lemmas.List.{map-append}
-use Rattle.lay_tree.specs.reader.Loops.{deepest}
+use Rattle.lay_node.specs.reader.Loops.{deepest}
 use Rattle.lay_read_tokens.specs.Answers.{AreFound}
 
 -- nodes, and the greatest need of theirs

@@ -9,19 +9,19 @@ use Rattle.lay_piece.specs.declared.kind.Delim.TheVariants.{Bracket, Brace}
 use Rattle.lay_piece.specs.declared.kind.Kind.{Kind}
 use Rattle.lay_piece.specs.declared.kind.Kind.TheVariants.{Underscore, Opener}
 use Rattle.lay_token.specs.declared.token.Token.{Token}
-use Rattle.lay_tree.specs.Ahead.{Tokens, first, tail, is_keyword, is_mark, opens, closes}
-use Rattle.lay_tree.specs.nodes.Attr.{is_empty}
-use Rattle.lay_tree.specs.reader.Attr.{begins_group, meta_name, value, meta_input, behind_opening, meta_attr, doc_attr, is_doc, attribute, begins_attr, attributes}
-use Rattle.lay_tree.specs.reader.Call.{behind_bang, call, behind_end}
-use Rattle.lay_tree.specs.reader.Loops.{Got, ◌>>=◌, passed, element_end, repeat_from, repeat, elements_from, elements}
-use Rattle.lay_tree.specs.reader.SimplePath.{begins_colons, further_word, simple_path}
-use Rattle.lay_tree.specs.reader.Tokens.{run, tokens_of, tokens, group}
-use Rattle.lay_tree.specs.reader.Words.{given_name, name_by, name, word_by, word, global, path_word, begins_path_word, path_words}
-use Rattle.lay_tree.specs.tokens.Lexed.{may_be_laid}
-use Rattle.lay_tree.specs.tokens.Listing.{as_listed, is_doc_text}
-use Rattle.lay_tree.specs.declared.token.GivenName.TheVariants as given
-use Rattle.lay_tree.specs.declared.token.Name.{Name}
-use Rattle.lay_tree.specs.declared.token.Word.{Word}
+use Rattle.lay_node.specs.Ahead.{Tokens, first, tail, is_keyword, is_mark, opens, closes}
+use Rattle.lay_node.specs.nodes.Attr.{is_empty}
+use Rattle.lay_node.specs.reader.Attr.{begins_group, meta_name, value, meta_input, behind_opening, meta_attr, doc_attr, is_doc, attribute, begins_attr, attributes}
+use Rattle.lay_node.specs.reader.Call.{behind_bang, call, behind_end}
+use Rattle.lay_node.specs.reader.Loops.{Got, ◌>>=◌, passed, element_end, repeat_from, repeat, elements_from, elements}
+use Rattle.lay_node.specs.reader.SimplePath.{begins_colons, further_word, simple_path}
+use Rattle.lay_node.specs.reader.Tokens.{run, tokens_of, tokens, group}
+use Rattle.lay_node.specs.reader.Words.{given_name, name_by, name, word_by, word, global, path_word, begins_path_word, path_words}
+use Rattle.lay_node.specs.tokens.Lexed.{may_be_laid}
+use Rattle.lay_node.specs.tokens.Listing.{as_listed, is_doc_text}
+use Rattle.lay_node.specs.declared.token.GivenName.TheVariants as given
+use Rattle.lay_node.specs.declared.token.Name.{Name}
+use Rattle.lay_node.specs.declared.token.Word.{Word}
 use Rattle.lay_read_tokens.proofs.Lists.{Whole, run_whole}
 
 -- The rest stands behind at least n tokens.

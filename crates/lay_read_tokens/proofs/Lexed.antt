@@ -11,11 +11,11 @@ use Rattle.lay_piece.specs.declared.kind.Kind.TheVariants.{Str, RawStr}
 use Rattle.lay_token.specs.declared.token.Token.{Token}
 use Rattle.lay_cook.specs.Cooking.{IsPiece, IsString}
 use Rattle.lay_form.specs.Pieces.{is_text_of}
-use Rattle.lay_tree.specs.reader.Exact.{InText}
-use Rattle.lay_tree.specs.tokens.Texts.{are_texts}
-use Rattle.lay_tree.proofs.LexedPieces.{lexed_pieces}
-use Rattle.lay_tree.proofs.Pieces.{piece_utf8}
-use Rattle.lay_tree.proofs.token_lists.FromText.{in_text}
+use Rattle.lay_node.specs.reader.Exact.{InText}
+use Rattle.lay_node.specs.tokens.Texts.{are_texts}
+use Rattle.lay_node.proofs.LexedPieces.{lexed_pieces}
+use Rattle.lay_node.proofs.Pieces.{piece_utf8}
+use Rattle.lay_node.proofs.token_lists.FromText.{in_text}
 use Rattle.lay_read_tokens.specs.Answers.{AreLexed}
 
 -- They stand in a row in a text.

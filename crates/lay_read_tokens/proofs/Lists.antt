@@ -13,16 +13,16 @@ use Rattle.lay_piece.specs.declared.kind.Kind.TheVariants.{Opener, Closer}
 use Rattle.lay_token.specs.declared.token.Token.{Token}
 use Rattle.lay_nest.specs.Groups.{AreTree, Grouped, begins_group, begins_tree, is_one}
 use Rattle.lay_nest.proofs.Delimiters.{pair_closer}
-use Rattle.lay_tree.specs.Ahead as ahead
-use Rattle.lay_tree.specs.Ahead.{Tokens, closes, is_mark}
-use Rattle.lay_tree.specs.reader.Loops.{Got, ◌>>=◌, passed}
-use Rattle.lay_tree.specs.reader.Tokens.{ends_run, run, tokens_of, tokens, group}
-use Rattle.lay_tree.specs.tokens.Lexed.{may_be_laid}
-use Rattle.lay_tree.specs.tokens.Listing.{as_listed, turned, is_balanced}
-use Rattle.lay_tree.specs.declared.token.Listed.{Listed}
-use Rattle.lay_tree.specs.declared.tokens.Group.{Group}
-use Rattle.lay_tree.proofs.token_lists.Balance.{balanced_behind, balanced_listed, pair_of, turned_closer, turned_plain}
-use Rattle.lay_tree.proofs.token_lists.Runs.{onto, onto_none, onto_both, run_over, run_inside, run_turned}
+use Rattle.lay_node.specs.Ahead as ahead
+use Rattle.lay_node.specs.Ahead.{Tokens, closes, is_mark}
+use Rattle.lay_node.specs.reader.Loops.{Got, ◌>>=◌, passed}
+use Rattle.lay_node.specs.reader.Tokens.{ends_run, run, tokens_of, tokens, group}
+use Rattle.lay_node.specs.tokens.Lexed.{may_be_laid}
+use Rattle.lay_node.specs.tokens.Listing.{as_listed, turned, is_balanced}
+use Rattle.lay_node.specs.declared.token.Listed.{Listed}
+use Rattle.lay_node.specs.declared.tokens.Group.{Group}
+use Rattle.lay_node.proofs.token_lists.Balance.{balanced_behind, balanced_listed, pair_of, turned_closer, turned_plain}
+use Rattle.lay_node.proofs.token_lists.Runs.{onto, onto_none, onto_both, run_over, run_inside, run_turned}
 use Rattle.lay_read_tokens.specs.Answers.{Stopped, IsLaid, AreListed, AreAdded, are_laid, goes_on, opened_by, front_opener}
 use Rattle.lay_read_tokens.specs.declared.stop.ReadNone.{ReadNone}
 use Rattle.lay_read_tokens.specs.declared.stop.ReadNone.TheVariants.{NoReading, NoMemory}

@@ -10,27 +10,27 @@ use Rattle.lay_piece.specs.declared.kind.Delim.TheVariants.{Bracket}
 use Rattle.lay_piece.specs.declared.kind.Kind.{Kind}
 use Rattle.lay_piece.specs.declared.kind.Kind.TheVariants.{Str, RawStr, Underscore, Closer, Doc}
 use Rattle.lay_token.specs.declared.token.Token.{Token}
-use Rattle.lay_tree.specs.Ahead as ahead
-use Rattle.lay_tree.specs.Ahead.{Tokens, first, tail, closes}
-use Rattle.lay_tree.specs.nodes.Attr.{is_doc_path, is_empty, string_of}
-use Rattle.lay_tree.specs.reader.Attr.{begins_group, value, grouped, meta_input, doc_or, made}
-use Rattle.lay_tree.specs.reader.Exact.{Exact, needless}
-use Rattle.lay_tree.specs.reader.Loops.{Got, ◌>>=◌}
-use Rattle.lay_tree.specs.reader.Tokens.{tokens, group}
-use Rattle.lay_tree.specs.reader.Words.{given_name, name_by, name}
-use Rattle.lay_tree.specs.tokens.Lexed.{may_be_laid}
-use Rattle.lay_tree.specs.tokens.Listing.{listed_by, as_listed, is_balanced, is_doc_text}
-use Rattle.lay_tree.specs.declared.attr.Attr.{Attr}
-use Rattle.lay_tree.specs.declared.attr.Attr.TheVariants as attr
-use Rattle.lay_tree.specs.declared.attr.MetaInput.{MetaInput}
-use Rattle.lay_tree.specs.declared.attr.MetaInput.TheVariants as input
-use Rattle.lay_tree.specs.declared.attr.MetaPath.{MetaPath}
-use Rattle.lay_tree.specs.declared.token.GivenName.{GivenName}
-use Rattle.lay_tree.specs.declared.token.GivenName.TheVariants as given
-use Rattle.lay_tree.specs.declared.token.Listed.{Listed}
-use Rattle.lay_tree.specs.declared.token.Listed.TheVariants as listed
-use Rattle.lay_tree.specs.declared.token.Name.{Name}
-use Rattle.lay_tree.specs.declared.tokens.Group.{Group}
+use Rattle.lay_node.specs.Ahead as ahead
+use Rattle.lay_node.specs.Ahead.{Tokens, first, tail, closes}
+use Rattle.lay_node.specs.nodes.Attr.{is_doc_path, is_empty, string_of}
+use Rattle.lay_node.specs.reader.Attr.{begins_group, value, grouped, meta_input, doc_or, made}
+use Rattle.lay_node.specs.reader.Exact.{Exact, needless}
+use Rattle.lay_node.specs.reader.Loops.{Got, ◌>>=◌}
+use Rattle.lay_node.specs.reader.Tokens.{tokens, group}
+use Rattle.lay_node.specs.reader.Words.{given_name, name_by, name}
+use Rattle.lay_node.specs.tokens.Lexed.{may_be_laid}
+use Rattle.lay_node.specs.tokens.Listing.{listed_by, as_listed, is_balanced, is_doc_text}
+use Rattle.lay_node.specs.declared.attr.Attr.{Attr}
+use Rattle.lay_node.specs.declared.attr.Attr.TheVariants as attr
+use Rattle.lay_node.specs.declared.attr.MetaInput.{MetaInput}
+use Rattle.lay_node.specs.declared.attr.MetaInput.TheVariants as input
+use Rattle.lay_node.specs.declared.attr.MetaPath.{MetaPath}
+use Rattle.lay_node.specs.declared.token.GivenName.{GivenName}
+use Rattle.lay_node.specs.declared.token.GivenName.TheVariants as given
+use Rattle.lay_node.specs.declared.token.Listed.{Listed}
+use Rattle.lay_node.specs.declared.token.Listed.TheVariants as listed
+use Rattle.lay_node.specs.declared.token.Name.{Name}
+use Rattle.lay_node.specs.declared.tokens.Group.{Group}
 use Rattle.lay_read_tokens.specs.Answers.{AreLexed, IsGot, IsRead, Stopped, is_underscore, is_underscore_kind, closed, meta_rest, value_behind, meta_closed, doc_text, front_doc, doc_value}
 use Rattle.lay_read_tokens.specs.declared.stop.ReadNone.{ReadNone}
 use Rattle.lay_read_tokens.specs.declared.stop.ReadNone.TheVariants.{NoReading, NoMemory}

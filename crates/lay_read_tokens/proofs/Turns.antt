@@ -2,8 +2,8 @@
 -- found.
 use Rattle.std.proofs.Common.{◌≡◌, ℕ, zero, suc, ◌<◌, ◌≤◌, Bool, true, false, List, [], ◌∷◌, ◌++◌, length, Some, None, refl, ◌∙◌, arith}
 use Rattle.lay_token.specs.declared.token.Token.{Token}
-use Rattle.lay_tree.specs.Ahead.{Tokens, first, tail}
-use Rattle.lay_tree.specs.reader.Loops.{Got, element_end, repeat_from, repeat, elements_from, elements}
+use Rattle.lay_node.specs.Ahead.{Tokens, first, tail}
+use Rattle.lay_node.specs.reader.Loops.{Got, element_end, repeat_from, repeat, elements_from, elements}
 
 -- So many turns after this one suffice, and make this of what is found.
 pub record Turn {A : Type 0} (turns_make : ℕ → List A → Tokens → Got (List A)) (whole : Got (List A))

@@ -11,21 +11,21 @@ use Rattle.lay_piece.specs.declared.kind.Delim.TheVariants.{Bracket}
 use Rattle.lay_piece.specs.declared.kind.Kind.{Kind}
 use Rattle.lay_piece.specs.declared.kind.Kind.TheVariants.{Underscore, Opener}
 use Rattle.lay_token.specs.declared.token.Token.{Token}
-use Rattle.lay_tree.specs.Ahead.{Tokens, first, tail, closes, is_mark}
-use Rattle.lay_tree.specs.nodes.Attr.{is_doc_path, is_empty}
-use Rattle.lay_tree.specs.reader.Attr.{meta_input, made}
-use Rattle.lay_tree.specs.reader.Loops.{Got, Read, ◌>>=◌, passed, nodes, deepest}
-use Rattle.lay_tree.specs.reader.Tokens as reader
-use Rattle.lay_tree.specs.tokens.Lexed.{may_be_laid}
-use Rattle.lay_tree.specs.tokens.Listing.{as_listed, is_doc_text}
-use Rattle.lay_tree.specs.declared.attr.Attr.{Attr}
-use Rattle.lay_tree.specs.declared.attr.Attr.TheVariants as attr
-use Rattle.lay_tree.specs.declared.attr.MetaInput.{MetaInput}
-use Rattle.lay_tree.specs.declared.attr.MetaInput.TheVariants as input
-use Rattle.lay_tree.specs.declared.attr.MetaPath.{MetaPath}
-use Rattle.lay_tree.specs.declared.token.Listed.{Listed}
-use Rattle.lay_tree.specs.declared.token.Name.{Name}
-use Rattle.lay_tree.specs.declared.token.Word.{Word}
+use Rattle.lay_node.specs.Ahead.{Tokens, first, tail, closes, is_mark}
+use Rattle.lay_node.specs.nodes.Attr.{is_doc_path, is_empty}
+use Rattle.lay_node.specs.reader.Attr.{meta_input, made}
+use Rattle.lay_node.specs.reader.Loops.{Got, Read, ◌>>=◌, passed, nodes, deepest}
+use Rattle.lay_node.specs.reader.Tokens as reader
+use Rattle.lay_node.specs.tokens.Lexed.{may_be_laid}
+use Rattle.lay_node.specs.tokens.Listing.{as_listed, is_doc_text}
+use Rattle.lay_node.specs.declared.attr.Attr.{Attr}
+use Rattle.lay_node.specs.declared.attr.Attr.TheVariants as attr
+use Rattle.lay_node.specs.declared.attr.MetaInput.{MetaInput}
+use Rattle.lay_node.specs.declared.attr.MetaInput.TheVariants as input
+use Rattle.lay_node.specs.declared.attr.MetaPath.{MetaPath}
+use Rattle.lay_node.specs.declared.token.Listed.{Listed}
+use Rattle.lay_node.specs.declared.token.Name.{Name}
+use Rattle.lay_node.specs.declared.token.Word.{Word}
 use Rattle.lay_read_tokens.specs.declared.found.Found.{Found}
 use Rattle.lay_read_tokens.specs.declared.stop.ReadNone.{ReadNone}
 use Rattle.lay_read_tokens.specs.declared.stop.ReadNone.TheVariants.{NoReading, NoMemory}

@@ -18,7 +18,7 @@ pub struct Ahead<'a> {
 impl<'a> Model for Ahead<'a> {
     ghost use Rattle.std.specs.Prelude.{IsTrue, List as Items};
     ghost use Rattle.lay_token.specs.declared.token.Token.{Token as TokenValue};
-    ghost use Rattle.lay_tree.specs.tokens.Texts.{are_texts};
+    ghost use Rattle.lay_node.specs.tokens.Texts.{are_texts};
 
     ghost Value = { Items TokenValue };
 

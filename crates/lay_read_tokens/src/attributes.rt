@@ -4,11 +4,11 @@ ghost use Rattle.std.specs.Str.{chars};
 ghost use Rattle.lay_cook.specs.Cooking.{IsString};
 ghost use Rattle.lay_piece.specs.Value.{value_of};
 ghost use Rattle.lay_piece.specs.declared.kind.Delim.TheVariants.{Bracket};
-ghost use Rattle.lay_tree.specs.Ahead.{closes, first, tail};
-ghost use Rattle.lay_tree.specs.nodes.Attr.{about_attr, is_doc_path};
-ghost use Rattle.lay_tree.specs.nodes.Facts.{Front};
-ghost use Rattle.lay_tree.specs.reader.Attr as reader;
-ghost use Rattle.lay_tree.specs.declared.attr.Attr.{Attr};
+ghost use Rattle.lay_node.specs.Ahead.{closes, first, tail};
+ghost use Rattle.lay_node.specs.nodes.Attr.{about_attr, is_doc_path};
+ghost use Rattle.lay_node.specs.nodes.Facts.{Front};
+ghost use Rattle.lay_node.specs.reader.Attr as reader;
+ghost use Rattle.lay_node.specs.declared.attr.Attr.{Attr};
 ghost use Rattle.lay_read_tokens.specs.Answers.{AreLexed, IsGot, IsMade, IsRead, doc_text, doc_value, front_doc};
 ghost use Rattle.lay_read_tokens.specs.Answers.{closed, meta_closed, meta_rest, value_behind};
 
@@ -22,8 +22,8 @@ use crate::stop::{ReadNone, copy_of, keep};
 use crate::tokens::{is_doc_text, read_group, read_tokens};
 use lay_cook::{Cooked, cook};
 use lay_nest::Cursor;
+use lay_node::{Attr, MetaInput, MetaPath};
 use lay_token::{Delim, Kind, List, NoMemory, Text, Token};
-use lay_tree::{Attr, MetaInput, MetaPath};
 use std::alloc::Global;
 
 /// The attributes at the front: inner ones, or outer ones. Where one can't be read the cursor stays.
@@ -81,7 +81,7 @@ fn begins_attr(at: &Ahead<'_>, inner: bool) -> bool
 }
 
 /// The attribute at the front. Where there is none the cursor may stand anywhere.
-#[tactic(auto, unfolding(lay_tree::specs::reader::Attr::attribute))]
+#[tactic(auto, unfolding(lay_node::specs::reader::Attr::attribute))]
 fn attr_ahead(alloc: Global, at: &mut Ahead<'_>, inner: bool) -> Result<Attr, ReadNone>
     ensures { IsGot (reader.attribute inner at.old) result at.new }
 {
@@ -106,7 +106,7 @@ fn is_at_doc(at: &Ahead<'_>, inner: bool) -> bool
 }
 
 /// Documentation at the front, spelled as a comment.
-#[tactic(auto, unfolding(lay_tree::specs::reader::Attr::doc_attr))]
+#[tactic(auto, unfolding(lay_node::specs::reader::Attr::doc_attr))]
 fn read_doc(alloc: Global, at: &mut Ahead<'_>, inner: bool) -> Result<Attr, ReadNone>
     ensures { IsGot (reader.doc_attr inner at.old) result at.new }
 {
@@ -123,7 +123,7 @@ fn read_doc(alloc: Global, at: &mut Ahead<'_>, inner: bool) -> Result<Attr, Read
 }
 
 /// An attribute in brackets.
-#[tactic(auto, unfolding(lay_tree::specs::reader::Attr::meta_attr))]
+#[tactic(auto, unfolding(lay_node::specs::reader::Attr::meta_attr))]
 fn read_meta(alloc: Global, at: &mut Ahead<'_>, inner: bool) -> Result<Attr, ReadNone>
     ensures { IsGot (reader.meta_attr inner at.old) result at.new }
 {
@@ -148,7 +148,7 @@ fn takes_opening(at: &mut Ahead<'_>, inner: bool) -> bool
 }
 
 /// What an attribute is called.
-#[tactic(auto, unfolding(lay_tree::specs::reader::Attr::meta_name))]
+#[tactic(auto, unfolding(lay_node::specs::reader::Attr::meta_name))]
 fn read_meta_path(alloc: Global, at: &mut Ahead<'_>) -> Result<MetaPath, ReadNone>
     ensures { IsGot (reader.meta_name at.old) result at.new }
 {

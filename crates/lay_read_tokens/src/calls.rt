@@ -1,9 +1,9 @@
 //! Macro calls.
 ghost use Rattle.std.specs.Prelude.{◌≡◌, if◌then◌else◌, Some, None};
-ghost use Rattle.lay_tree.specs.reader.Call as reader;
-ghost use Rattle.lay_tree.specs.nodes.Call.{about_call};
-ghost use Rattle.lay_tree.specs.nodes.Facts.{Front};
-ghost use Rattle.lay_tree.specs.declared.tokens.MacroCall.{MacroCall};
+ghost use Rattle.lay_node.specs.reader.Call as reader;
+ghost use Rattle.lay_node.specs.nodes.Call.{about_call};
+ghost use Rattle.lay_node.specs.nodes.Facts.{Front};
+ghost use Rattle.lay_node.specs.declared.tokens.MacroCall.{MacroCall};
 ghost use Rattle.lay_read_tokens.specs.Answers.{AreLexed, IsGot, IsRead};
 
 use crate::ahead::Ahead;
@@ -12,8 +12,8 @@ use crate::simple_paths::read_simple_path;
 use crate::stop::ReadNone;
 use crate::tokens::read_group;
 use lay_nest::Cursor;
+use lay_node::MacroCall;
 use lay_token::Delim;
-use lay_tree::MacroCall;
 use std::alloc::Global;
 
 /// The macro call at the front. Where there is none the cursor stays.
@@ -29,7 +29,7 @@ pub fn read_call(alloc: Global, at: &mut Cursor<'_>) -> Result<MacroCall, ReadNo
 }
 
 /// The macro call at the front. Where there is none the cursor may stand anywhere.
-#[tactic(auto, unfolding(lay_tree::specs::reader::Call::call))]
+#[tactic(auto, unfolding(lay_node::specs::reader::Call::call))]
 pub fn call_ahead(alloc: Global, at: &mut Ahead<'_>) -> Result<MacroCall, ReadNone>
     ensures { IsGot (reader.call at.old) result at.new }
 {

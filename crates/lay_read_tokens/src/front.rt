@@ -1,11 +1,10 @@
 //! The front of the tokens ahead.
 ghost use Rattle.std.specs.Prelude.{◌≡◌, ◌&&◌, if◌then◌else◌, drop, codes, Some, None};
 ghost use Rattle.lay_token.specs.Operators.{is_op};
-ghost use Rattle.lay_tree.specs.Ahead as ahead;
-ghost use Rattle.lay_tree.specs.Ahead.{first, same_delim, tail};
-ghost use Rattle.lay_tree.specs.reader.Attr.{begins_group};
-ghost use Rattle.lay_tree.specs.reader.Item.{more_items};
-ghost use Rattle.lay_tree.specs.reader.Loops.{element_end};
+ghost use Rattle.lay_node.specs.Ahead as ahead;
+ghost use Rattle.lay_node.specs.Ahead.{first, same_delim, tail, more_items};
+ghost use Rattle.lay_node.specs.reader.Attr.{begins_group};
+ghost use Rattle.lay_node.specs.reader.Loops.{element_end};
 ghost use Rattle.lay_read_tokens.specs.Answers.{is_underscore};
 
 use crate::ahead::Ahead;

@@ -1,7 +1,7 @@
 //! From nested tokens to what all nodes are made of: names, simple paths, token lists, macro calls and
 //! attributes.
 //!
-//! Each reader is proved equal to a function of the tokens ahead that `lay_tree` defines, and that function reads what
+//! Each reader is proved equal to a function of the tokens ahead that `lay_node` defines, and that function reads what
 //! is spelled and nothing else. Where a reader reads none, [`ReadNone`] says why.
 #![tactic(auto)]
 

@@ -1,16 +1,16 @@
 //! Names and the words of paths.
 ghost use Rattle.std.specs.Prelude.{◌≡◌, is_some, option_map};
 ghost use Rattle.lay_piece.specs.Word.{class_of};
-ghost use Rattle.lay_tree.specs.Words.{is_path_class, is_plain};
-ghost use Rattle.lay_tree.specs.reader.Words as reader;
+ghost use Rattle.lay_node.specs.Words.{is_path_class, is_plain};
+ghost use Rattle.lay_node.specs.reader.Words as reader;
 ghost use Rattle.lay_read_tokens.specs.Answers.{IsGot, named, worded};
 
 use crate::ahead::Ahead;
 use crate::front::{pass, takes_colons, takes_underscore};
 use crate::stop::{ReadNone, copy_of, keep};
+use lay_node::{GivenName, Name, Word};
 use lay_token::word::{Class, word_class};
 use lay_token::{Kind, List, Token};
-use lay_tree::{GivenName, Name, Word};
 use std::alloc::Global;
 
 /// Whether a word is no keyword.
@@ -50,7 +50,7 @@ fn word_of(token: &Token) -> Option<bool>
 }
 
 /// The name at the front.
-#[tactic(auto, unfolding(lay_tree::specs::reader::Words::name))]
+#[tactic(auto, unfolding(lay_node::specs::reader::Words::name))]
 pub fn read_name(alloc: Global, at: &mut Ahead<'_>) -> Result<Name, ReadNone>
     ensures { IsGot (reader.name at.old) result at.new }
 {
@@ -69,7 +69,7 @@ pub fn read_name(alloc: Global, at: &mut Ahead<'_>) -> Result<Name, ReadNone>
 }
 
 /// Whether a name stands at the front.
-#[tactic(auto, unfolding(lay_tree::specs::reader::Words::name))]
+#[tactic(auto, unfolding(lay_node::specs::reader::Words::name))]
 pub fn is_at_name(at: &Ahead<'_>) -> bool
     ensures { result ≡ is_some (reader.name at.now) }
 {
@@ -80,7 +80,7 @@ pub fn is_at_name(at: &Ahead<'_>) -> bool
 }
 
 /// The word at the front.
-#[tactic(auto, unfolding(lay_tree::specs::reader::Words::word))]
+#[tactic(auto, unfolding(lay_node::specs::reader::Words::word))]
 pub fn read_word(alloc: Global, at: &mut Ahead<'_>) -> Result<Word, ReadNone>
     ensures { IsGot (reader.word at.old) result at.new }
 {
@@ -111,7 +111,7 @@ pub fn read_path_words(alloc: Global, at: &mut Ahead<'_>) -> Result<List<Word>, 
 }
 
 /// Whether a word and a `::` behind it stand at the front.
-#[tactic(auto, unfolding(lay_tree::specs::reader::Words::path_word, lay_tree::specs::reader::Words::word))]
+#[tactic(auto, unfolding(lay_node::specs::reader::Words::path_word, lay_node::specs::reader::Words::word))]
 fn begins_path_word(at: &Ahead<'_>) -> bool
     ensures { result ≡ reader.begins_path_word at.now }
 {
@@ -126,7 +126,7 @@ fn begins_path_word(at: &Ahead<'_>) -> bool
 }
 
 /// A word and the `::` behind it.
-#[tactic(auto, unfolding(lay_tree::specs::reader::Words::path_word))]
+#[tactic(auto, unfolding(lay_node::specs::reader::Words::path_word))]
 fn read_path_word(alloc: Global, at: &mut Ahead<'_>) -> Result<Word, ReadNone>
     ensures { IsGot (reader.path_word at.old) result at.new }
 {

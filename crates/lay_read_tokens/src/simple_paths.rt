@@ -1,19 +1,19 @@
 //! Simple paths.
 ghost use Rattle.std.specs.Prelude.{◌≡◌};
-ghost use Rattle.lay_tree.specs.reader.Loops.{repeat};
-ghost use Rattle.lay_tree.specs.reader.SimplePath as reader;
+ghost use Rattle.lay_node.specs.reader.Loops.{repeat};
+ghost use Rattle.lay_node.specs.reader.SimplePath as reader;
 ghost use Rattle.lay_read_tokens.specs.Answers.{BeginWith, IsGot, IsHeld};
 
 use crate::ahead::Ahead;
 use crate::front::{is_at_colons, pass_two, takes_colons};
 use crate::names::read_word;
 use crate::stop::{ReadNone, keep};
+use lay_node::{SimplePath, Word};
 use lay_token::List;
-use lay_tree::{SimplePath, Word};
 use std::alloc::Global;
 
 /// A simple path.
-#[tactic(auto, unfolding(lay_tree::specs::reader::SimplePath::simple_path))]
+#[tactic(auto, unfolding(lay_node::specs::reader::SimplePath::simple_path))]
 pub fn read_simple_path(alloc: Global, at: &mut Ahead<'_>) -> Result<SimplePath, ReadNone>
     ensures { IsGot (reader.simple_path at.old) result at.new }
 {

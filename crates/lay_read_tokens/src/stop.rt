@@ -2,8 +2,8 @@
 ghost use Rattle.std.specs.Prelude.{◌≡◌, ◌++◌, ◌∷◌, [], IfOk, OnOk, IfErr};
 ghost use Rattle.lay_read_tokens.specs.Answers.{IsCopy};
 
+use lay_node::Boxed;
 use lay_token::{List, NoMemory, Text};
-use lay_tree::Boxed;
 use std::alloc::Global;
 
 /// Why nothing was read.

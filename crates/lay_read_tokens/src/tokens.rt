@@ -3,16 +3,16 @@ ghost use Rattle.std.specs.Prelude.{◌≡◌, ◌&&◌, Some};
 ghost use Rattle.lay_token.specs.Delimiters.{Balanced};
 ghost use Rattle.lay_token.specs.Lexes.{is_punct};
 ghost use Rattle.lay_nest.specs.Groups.{begins_tree};
-ghost use Rattle.lay_tree.specs.reader.Tokens as reader;
-ghost use Rattle.lay_tree.specs.tokens.Listing.{as_listed, is_doc_text};
-ghost use Rattle.lay_tree.specs.declared.token.Listed.TheVariants as listed;
+ghost use Rattle.lay_node.specs.reader.Tokens as reader;
+ghost use Rattle.lay_node.specs.tokens.Listing.{as_listed, is_doc_text};
+ghost use Rattle.lay_node.specs.declared.token.Listed.TheVariants as listed;
 ghost use Rattle.lay_read_tokens.specs.Answers.{AreAdded, AreListed, IsGot, IsLaid, front_opener, goes_on};
 
 use crate::ahead::Ahead;
 use crate::front::is_at_mark;
 use crate::stop::{ReadNone, copy_of, keep};
+use lay_node::{Group, Listed, Tokens};
 use lay_token::{Delim, DocForm, Kind, List, Text, Token, doc_form};
-use lay_tree::{Group, Listed, Tokens};
 use std::alloc::Global;
 
 /// The token list at the front: the tokens up to the closer of the group that they stand in, or to the end.

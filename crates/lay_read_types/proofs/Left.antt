@@ -3,25 +3,25 @@ use Rattle.std.proofs.Common.{ℕ, zero, suc, ◌&&◌, Bool, true, false, List,
 use Rattle.lay_token.specs.Operators.{is_op}
 use Rattle.lay_piece.specs.declared.kind.Delim.TheVariants.{Paren, Bracket}
 use Rattle.lay_token.specs.declared.token.Token.{Token}
-use Rattle.lay_tree.specs.Ahead.{Tokens, first, tail, is_keyword, is_mark, is_lifetime, opens, closes, opens_args, opens_args_late}
-use Rattle.lay_tree.specs.Begins.{Lead, OfPath, OfParen, OfNever, OfInfer, OfPointer, OfReference, OfBracket, OfImpl, OfDyn, OfFunc, lead_at}
-use Rattle.lay_tree.specs.Follow.{begins_there, OfBang}
-use Rattle.lay_tree.specs.nodes.Attr.{is_empty}
-use Rattle.lay_tree.specs.reader.Attr.{attributes}
-use Rattle.lay_tree.specs.reader.Call.{call}
-use Rattle.lay_tree.specs.reader.Loops.{Got, ◌>>=◌, passed, nodes, elements, open_elements}
-use Rattle.lay_tree.specs.reader.Tokens.{tokens}
-use Rattle.lay_tree.specs.reader.Types as r
-use Rattle.lay_tree.specs.reader.Types.{Within, within}
-use Rattle.lay_tree.specs.reader.Words.{word, given_name}
-use Rattle.lay_tree.specs.declared.token.Word.{Word}
-use Rattle.lay_tree.specs.declared.types.Args.{Args}
-use Rattle.lay_tree.specs.declared.types.PathStart.{PathStart}
-use Rattle.lay_tree.specs.declared.types.PathStyle.{PathStyle}
-use Rattle.lay_tree.specs.declared.types.PathStyle.TheVariants.{Code, Kind as InKind}
-use Rattle.lay_tree.specs.declared.types.Ty.{Ty}
-use Rattle.lay_tree.specs.declared.types.TypePlace.{TypePlace}
-use Rattle.lay_tree.specs.declared.types.TypePlace.TheVariants.{Bounds, NoBounds}
+use Rattle.lay_node.specs.Ahead.{Tokens, first, tail, is_keyword, is_mark, is_lifetime, opens, closes, opens_args, opens_args_late}
+use Rattle.lay_node.specs.Begins.{Lead, OfPath, OfParen, OfNever, OfInfer, OfPointer, OfReference, OfBracket, OfImpl, OfDyn, OfFunc, lead_at}
+use Rattle.lay_node.specs.Follow.{begins_there, OfBang}
+use Rattle.lay_node.specs.nodes.Attr.{is_empty}
+use Rattle.lay_node.specs.reader.Attr.{attributes}
+use Rattle.lay_node.specs.reader.Call.{call}
+use Rattle.lay_node.specs.reader.Loops.{Got, ◌>>=◌, passed, nodes, elements, open_elements}
+use Rattle.lay_node.specs.reader.Tokens.{tokens}
+use Rattle.lay_node.specs.reader.Types as r
+use Rattle.lay_node.specs.reader.Types.{Within, within}
+use Rattle.lay_node.specs.reader.Words.{word, given_name}
+use Rattle.lay_node.specs.declared.token.Word.{Word}
+use Rattle.lay_node.specs.declared.types.Args.{Args}
+use Rattle.lay_node.specs.declared.types.PathStart.{PathStart}
+use Rattle.lay_node.specs.declared.types.PathStyle.{PathStyle}
+use Rattle.lay_node.specs.declared.types.PathStyle.TheVariants.{Code, Kind as InKind}
+use Rattle.lay_node.specs.declared.types.Ty.{Ty}
+use Rattle.lay_node.specs.declared.types.TypePlace.{TypePlace}
+use Rattle.lay_node.specs.declared.types.TypePlace.TheVariants.{Bounds, NoBounds}
 use Rattle.lay_read_tokens.proofs.Left.{Left, Leaves, unread, dropped, one_read, joined, further, chain, chain_passed, choice, first_read, passed_left, elements_left, given_name_left, word_left, tokens_left, call_left, attributes_left}
 use Rattle.lay_read_parts.proofs.Left.{abi_left, angled_left, binder_if_left, chain_left, const_left, flag_left, lifetime_left, open_left, operator_left, read_left, there_left, weaker}
 

@@ -2,16 +2,16 @@
 use Rattle.std.specs.Prelude.{ℕ, ◌≤◌, true, false, if◌then◌else◌, [], ◌∷◌, Option, Some, None, Result, IfOk}
 use Rattle.std.specs.declared.alloc.Global.{Global}
 use denote.Ref.{MutBor}
-use Rattle.lay_tree.specs.Ahead.{Tokens}
-use Rattle.lay_tree.specs.reader.Loops.{Read}
-use Rattle.lay_tree.specs.reader.Types.{Within, within, named_segments, paren_type, pointer_type, reference_type, bracket_type, bounds_type, begins_call, call_type, path_type}
-use Rattle.lay_tree.specs.declared.token.Name.{Name}
-use Rattle.lay_tree.specs.declared.token.Word.{Word}
-use Rattle.lay_tree.specs.declared.types.Args.{Args}
-use Rattle.lay_tree.specs.declared.types.Constraint.{Constraint}
-use Rattle.lay_tree.specs.declared.types.Ty.{Ty}
-use Rattle.lay_tree.specs.declared.types.Ty.TheVariants as ty
-use Rattle.lay_tree.specs.declared.types.TypePlace.{TypePlace}
+use Rattle.lay_node.specs.Ahead.{Tokens}
+use Rattle.lay_node.specs.reader.Loops.{Read}
+use Rattle.lay_node.specs.reader.Types.{Within, within, named_segments, paren_type, pointer_type, reference_type, bracket_type, bounds_type, begins_call, call_type, path_type}
+use Rattle.lay_node.specs.declared.token.Name.{Name}
+use Rattle.lay_node.specs.declared.token.Word.{Word}
+use Rattle.lay_node.specs.declared.types.Args.{Args}
+use Rattle.lay_node.specs.declared.types.Constraint.{Constraint}
+use Rattle.lay_node.specs.declared.types.Ty.{Ty}
+use Rattle.lay_node.specs.declared.types.Ty.TheVariants as ty
+use Rattle.lay_node.specs.declared.types.TypePlace.{TypePlace}
 use Rattle.lay_read_tokens.specs.Answers.{IsFound}
 use Rattle.lay_read_tokens.specs.declared.found.Found.{Found}
 use Rattle.lay_read_tokens.specs.declared.stop.ReadNone.{ReadNone}

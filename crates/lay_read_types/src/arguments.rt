@@ -1,18 +1,21 @@
 //! Generic arguments.
 ghost use Rattle.std.specs.Prelude.{◌≡◌, ◌≤◌, codes, IfOk};
 ghost use Rattle.lay_token.specs.Operators.{is_op};
-ghost use Rattle.lay_tree.specs.Ahead.{is_mark};
-ghost use Rattle.lay_tree.specs.nodes.Types.{about_args};
-ghost use Rattle.lay_tree.specs.reader.Loops.{elements};
-ghost use Rattle.lay_tree.specs.reader.Types as reader;
-ghost use Rattle.lay_tree.specs.reader.Types.{within};
-ghost use Rattle.lay_tree.specs.declared.types.TypePlace.TheVariants.{NoBounds};
+ghost use Rattle.lay_node.specs.Ahead.{is_mark};
+ghost use Rattle.lay_node.specs.nodes.Types.{about_args};
+ghost use Rattle.lay_node.specs.reader.Loops.{elements};
+ghost use Rattle.lay_node.specs.reader.Types as reader;
+ghost use Rattle.lay_node.specs.reader.Types.{within};
+ghost use Rattle.lay_node.specs.declared.types.TypePlace.TheVariants.{NoBounds};
 ghost use Rattle.lay_read_tokens.specs.Answers.{IsFound};
 ghost use Rattle.lay_read_parts.specs.Answers.{gathered};
 ghost use Rattle.lay_read_types.specs.Answers.{AreDeeper, named_segment};
 
 use crate::paths::into_path;
 use crate::rules::Rules;
+use lay_node::{
+    Arg, Args, Boxed, Constraint, Name, Path, PathStart, PathStyle, Ty, TypePlace, Word,
+};
 use lay_read_parts::joins::both;
 use lay_read_parts::leads::{begins_const, is_at_lifetime, opens_args, opens_args_late};
 use lay_read_parts::loops::{Closer, Part, read_elements};
@@ -23,9 +26,6 @@ use lay_read_tokens::names::is_plain;
 use lay_read_tokens::stop::boxed;
 use lay_read_tokens::{Ahead, Found, ReadNone};
 use lay_token::{Delim, List};
-use lay_tree::{
-    Arg, Args, Boxed, Constraint, Name, Path, PathStart, PathStyle, Ty, TypePlace, Word,
-};
 use std::alloc::Global;
 
 /// Generic arguments, as parts of a list.
@@ -40,7 +40,7 @@ impl<
     G: Fn(Global, &mut Ahead<'_>, u32) -> Result<Found<Constraint>, ReadNone>,
 > Rules<F, G> {
     /// A generic argument.
-    #[tactic(auto, unfolding(lay_tree::specs::reader::Types::one_arg))]
+    #[tactic(auto, unfolding(lay_node::specs::reader::Types::one_arg))]
     fn arg(&self, at: &mut Ahead<'_>, _place: ()) -> Result<Found<Arg>, ReadNone>
         requires { AreDeeper self.now.depth (F.pre self.now.types) (F.post self.now.types) (G.pre self.now.constraints) (G.post self.now.constraints) }
         ensures read { IsFound (reader.one_arg (within self.now.depth) at.old) result at.new }
@@ -112,7 +112,7 @@ impl<
     }
 
     /// Generic arguments in `<` and `>`.
-    #[tactic(auto, unfolding(lay_tree::specs::reader::Types::angle))]
+    #[tactic(auto, unfolding(lay_node::specs::reader::Types::angle))]
     fn angle(&self, at: &mut Ahead<'_>) -> Result<Found<Args>, ReadNone>
         requires { AreDeeper self.now.depth (F.pre self.now.types) (F.post self.now.types) (G.pre self.now.constraints) (G.post self.now.constraints) }
         ensures read { IsFound (reader.angle (within self.now.depth) at.old) result at.new }
@@ -150,7 +150,7 @@ impl<
     }
 
     /// Types in parentheses and a return type.
-    #[tactic(auto, unfolding(lay_tree::specs::reader::Types::round))]
+    #[tactic(auto, unfolding(lay_node::specs::reader::Types::round))]
     fn round(&self, at: &mut Ahead<'_>) -> Result<Found<Args>, ReadNone>
         requires { AreDeeper self.now.depth (F.pre self.now.types) (F.post self.now.types) (G.pre self.now.constraints) (G.post self.now.constraints) }
         ensures read { IsFound (reader.round (within self.now.depth) at.old) result at.new }
@@ -171,7 +171,7 @@ impl<
     }
 
     /// The generic arguments of a segment, if there are any.
-    #[tactic(auto, unfolding(lay_tree::specs::reader::Types::args_by))]
+    #[tactic(auto, unfolding(lay_node::specs::reader::Types::args_by))]
     pub fn args(&self, at: &mut Ahead<'_>, style: PathStyle) -> Result<Found<Args>, ReadNone>
         requires { AreDeeper self.now.depth (F.pre self.now.types) (F.post self.now.types) (G.pre self.now.constraints) (G.post self.now.constraints) }
         ensures read { IsFound (reader.args_by (within self.now.depth) style at.old) result at.new }

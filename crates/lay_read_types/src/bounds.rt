@@ -1,11 +1,12 @@
 //! Bounds, and what is asked of a name among generic arguments.
 ghost use Rattle.std.specs.Prelude.{◌<◌, ◌≤◌, ◌+◌, ◌^◌, IfOk};
-ghost use Rattle.lay_tree.specs.reader.Types as reader;
-ghost use Rattle.lay_tree.specs.reader.Types.{within};
+ghost use Rattle.lay_node.specs.reader.Types as reader;
+ghost use Rattle.lay_node.specs.reader.Types.{within};
 ghost use Rattle.lay_read_tokens.specs.Answers.{IsFound};
 ghost use Rattle.lay_read_types.specs.Answers.{AreDeeper};
 
 use crate::rules::Rules;
+use lay_node::{Bound, Constraint, PathStyle, Ty, TypePlace};
 use lay_read_parts::joins::{both, prepended, refused};
 use lay_read_parts::leads::{begins_const, is_at_lifetime};
 use lay_read_parts::loops::{Joint, Part, read_chain};
@@ -13,7 +14,6 @@ use lay_read_parts::parts::{read_binder_if, read_const, read_lifetime};
 use lay_read_tokens::front::{takes_closer, takes_mark, takes_op, takes_opener};
 use lay_read_tokens::{Ahead, Found, ReadNone};
 use lay_token::{Delim, List};
-use lay_tree::{Bound, Constraint, PathStyle, Ty, TypePlace};
 use std::alloc::Global;
 
 /// Bounds, as parts of a chain.
@@ -28,7 +28,7 @@ impl<
     G: Fn(Global, &mut Ahead<'_>, u32) -> Result<Found<Constraint>, ReadNone>,
 > Rules<F, G> {
     /// A bound that is a path, in parentheses or not.
-    #[tactic(auto, unfolding(lay_tree::specs::reader::Types::meets))]
+    #[tactic(auto, unfolding(lay_node::specs::reader::Types::meets))]
     fn meets(&self, at: &mut Ahead<'_>, parens: bool) -> Result<Found<Bound>, ReadNone>
         requires { AreDeeper self.now.depth (F.pre self.now.types) (F.post self.now.types) (G.pre self.now.constraints) (G.post self.now.constraints) }
         ensures read { IsFound (reader.meets (within self.now.depth) parens at.old) result at.new }
@@ -49,7 +49,7 @@ impl<
     }
 
     /// A bound.
-    #[tactic(auto, unfolding(lay_tree::specs::reader::Types::one_bound))]
+    #[tactic(auto, unfolding(lay_node::specs::reader::Types::one_bound))]
     fn bound(&self, at: &mut Ahead<'_>, _place: ()) -> Result<Found<Bound>, ReadNone>
         requires { AreDeeper self.now.depth (F.pre self.now.types) (F.post self.now.types) (G.pre self.now.constraints) (G.post self.now.constraints) }
         ensures read { IsFound (reader.one_bound (within self.now.depth) at.old) result at.new }
@@ -92,7 +92,7 @@ impl<
     }
 
     /// As many bounds as there are, or one alone, by where they stand.
-    #[tactic(auto, unfolding(lay_tree::specs::reader::Types::bounds_by))]
+    #[tactic(auto, unfolding(lay_node::specs::reader::Types::bounds_by))]
     pub fn bounds(
         &self,
         at: &mut Ahead<'_>,
@@ -137,7 +137,7 @@ impl<
     }
 
     /// What is asked of a name among generic arguments.
-    #[tactic(auto, unfolding(lay_tree::specs::reader::Types::constraint_by))]
+    #[tactic(auto, unfolding(lay_node::specs::reader::Types::constraint_by))]
     pub fn constraint(&self, at: &mut Ahead<'_>) -> Result<Found<Constraint>, ReadNone>
         requires deeper { AreDeeper self.now.depth (F.pre self.now.types) (F.post self.now.types) (G.pre self.now.constraints) (G.post self.now.constraints) }
         requires room { self.now.depth + 1 < 2 ^ 32 }

@@ -1,12 +1,12 @@
 //! What is read within a depth.
 ghost use Rattle.std.specs.Prelude.{◌≤◌, IfOk};
-ghost use Rattle.lay_tree.specs.reader.Types.{all_bounds, args_by, path, type_at, within};
+ghost use Rattle.lay_node.specs.reader.Types.{all_bounds, args_by, path, type_at, within};
 ghost use Rattle.lay_read_tokens.specs.Answers.{IsFound};
 
 use crate::rules::Rules;
+use lay_node::{Args, Bound, Constraint, Path, PathStyle, Ty, TypePlace};
 use lay_read_tokens::{Ahead, Found, ReadNone};
 use lay_token::List;
-use lay_tree::{Args, Bound, Constraint, Path, PathStyle, Ty, TypePlace};
 use std::alloc::Global;
 
 /// A type at its place, within a depth.

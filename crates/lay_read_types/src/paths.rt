@@ -1,14 +1,15 @@
 //! Paths.
 ghost use Rattle.std.specs.Prelude.{◌≡◌, ◌≤◌, codes, IfOk};
-ghost use Rattle.lay_tree.specs.Ahead.{first, is_keyword, tail};
-ghost use Rattle.lay_tree.specs.nodes.Types.{about_args};
-ghost use Rattle.lay_tree.specs.reader.Types as reader;
-ghost use Rattle.lay_tree.specs.reader.Types.{within};
+ghost use Rattle.lay_node.specs.Ahead.{first, is_keyword, tail};
+ghost use Rattle.lay_node.specs.nodes.Types.{about_args};
+ghost use Rattle.lay_node.specs.reader.Types as reader;
+ghost use Rattle.lay_node.specs.reader.Types.{within};
 ghost use Rattle.lay_read_tokens.specs.Answers.{IsFound};
 ghost use Rattle.lay_read_parts.specs.Answers.{gathered};
 ghost use Rattle.lay_read_types.specs.Answers.{AreDeeper};
 
 use crate::rules::Rules;
+use lay_node::{Args, Boxed, Constraint, Path, PathStart, PathStyle, Ty, TypePlace, Word};
 use lay_read_parts::joins::{both, none_of, refused};
 use lay_read_parts::loops::{Joint, Part, read_chain};
 use lay_read_tokens::found::greater;
@@ -17,7 +18,6 @@ use lay_read_tokens::names::read_word;
 use lay_read_tokens::stop::boxed;
 use lay_read_tokens::{Ahead, Found, ReadNone};
 use lay_token::List;
-use lay_tree::{Args, Boxed, Constraint, Path, PathStart, PathStyle, Ty, TypePlace, Word};
 use std::alloc::Global;
 
 /// Segments, as parts of a path.
@@ -32,7 +32,7 @@ impl<
     G: Fn(Global, &mut Ahead<'_>, u32) -> Result<Found<Constraint>, ReadNone>,
 > Rules<F, G> {
     /// A segment.
-    #[tactic(auto, unfolding(lay_tree::specs::reader::Types::segment))]
+    #[tactic(auto, unfolding(lay_node::specs::reader::Types::segment))]
     fn segment(&self, at: &mut Ahead<'_>, style: PathStyle) -> Result<Found<(Word, Args)>, ReadNone>
         requires { AreDeeper self.now.depth (F.pre self.now.types) (F.post self.now.types) (G.pre self.now.constraints) (G.post self.now.constraints) }
         ensures read { IsFound (reader.segment (within self.now.depth) style at.old) result at.new }
@@ -102,7 +102,7 @@ impl<
     }
 
     /// A type in `<` and `>::`, and the trait that it is taken as.
-    #[tactic(auto, unfolding(lay_tree::specs::reader::Types::qualified))]
+    #[tactic(auto, unfolding(lay_node::specs::reader::Types::qualified))]
     fn qualified(&self, at: &mut Ahead<'_>) -> Result<Found<PathStart>, ReadNone>
         requires { AreDeeper self.now.depth (F.pre self.now.types) (F.post self.now.types) (G.pre self.now.constraints) (G.post self.now.constraints) }
         ensures read { IsFound (reader.qualified (within self.now.depth) at.old) result at.new }
@@ -146,7 +146,7 @@ impl<
     }
 
     /// A path.
-    #[tactic(auto, unfolding(lay_tree::specs::reader::Types::path))]
+    #[tactic(auto, unfolding(lay_node::specs::reader::Types::path))]
     pub fn path(&self, at: &mut Ahead<'_>, style: PathStyle) -> Result<Found<Path>, ReadNone>
         requires { AreDeeper self.now.depth (F.pre self.now.types) (F.post self.now.types) (G.pre self.now.constraints) (G.post self.now.constraints) }
         ensures read { IsFound (reader.path (within self.now.depth) style at.old) result at.new }

@@ -1,17 +1,17 @@
 //! What stands at the front of the tokens of a text.
-ghost use Rattle.lay_tree.specs.nodes.Facts.{Front};
-ghost use Rattle.lay_tree.specs.nodes.Types.{BoundsFront, TypeFront, about_args, about_path, about_type, alone, in_style};
-ghost use Rattle.lay_tree.specs.declared.types.Args.{Args as ArgsValue};
-ghost use Rattle.lay_tree.specs.declared.types.Path.{Path as PathValue};
-ghost use Rattle.lay_tree.specs.declared.types.Ty.{Ty as TyValue};
+ghost use Rattle.lay_node.specs.nodes.Facts.{Front};
+ghost use Rattle.lay_node.specs.nodes.Types.{BoundsFront, TypeFront, about_args, about_path, about_type, alone, in_style};
+ghost use Rattle.lay_node.specs.declared.types.Args.{Args as ArgsValue};
+ghost use Rattle.lay_node.specs.declared.types.Path.{Path as PathValue};
+ghost use Rattle.lay_node.specs.declared.types.Ty.{Ty as TyValue};
 ghost use Rattle.lay_read_tokens.specs.Answers.{AreLexed};
 ghost use Rattle.lay_read_parts.specs.Answers.{IsReadAt};
 
 use crate::knot::{args_ahead, bounds_ahead, path_ahead, type_ahead};
 use lay_nest::Cursor;
+use lay_node::{Args, Bound, Path, PathStyle, Ty, TypePlace};
 use lay_read_tokens::{Ahead, ReadNone};
 use lay_token::List;
-use lay_tree::{Args, Bound, Path, PathStyle, Ty, TypePlace};
 use std::alloc::Global;
 
 /// The type at the front, at its place and within the depth. Where there is none the cursor stays.

@@ -1,11 +1,11 @@
 //! What the rules share: how what is one level deeper is read.
 ghost use Rattle.std.specs.Prelude.{◌≤◌, IfOk};
-ghost use Rattle.lay_tree.specs.reader.Types.{within};
+ghost use Rattle.lay_node.specs.reader.Types.{within};
 ghost use Rattle.lay_read_tokens.specs.Answers.{IsFound};
 ghost use Rattle.lay_read_types.specs.Answers.{AreDeeper};
 
+use lay_node::{Constraint, Ty, TypePlace};
 use lay_read_tokens::{Ahead, Found, ReadNone};
-use lay_tree::{Constraint, Ty, TypePlace};
 use std::alloc::Global;
 
 /// The rules of a level, over the readers of what is one level deeper: of types, at a place, and of what is asked of a

@@ -2,17 +2,18 @@
 ghost use Rattle.std.specs.Prelude.{◌≡◌, ◌&&◌, ◌<◌, ◌≤◌, ◌+◌, ◌^◌, if◌then◌else◌, codes, drop, IfOk};
 ghost use Rattle.lay_token.specs.Operators.{is_op};
 ghost use Rattle.lay_piece.specs.declared.kind.Delim.TheVariants.{Paren};
-ghost use Rattle.lay_tree.specs.Ahead.{closes};
-ghost use Rattle.lay_tree.specs.reader.Loops.{elements, open_elements};
-ghost use Rattle.lay_tree.specs.reader.Types as reader;
-ghost use Rattle.lay_tree.specs.reader.Types.{within};
-ghost use Rattle.lay_tree.specs.Begins.{lead_at};
-ghost use Rattle.lay_tree.specs.declared.types.TypePlace.TheVariants.{Bounds};
+ghost use Rattle.lay_node.specs.Ahead.{closes};
+ghost use Rattle.lay_node.specs.reader.Loops.{elements, open_elements};
+ghost use Rattle.lay_node.specs.reader.Types as reader;
+ghost use Rattle.lay_node.specs.reader.Types.{within};
+ghost use Rattle.lay_node.specs.Begins.{lead_at};
+ghost use Rattle.lay_node.specs.declared.types.TypePlace.TheVariants.{Bounds};
 ghost use Rattle.lay_read_tokens.specs.Answers.{IsFound, IsGot, IsMade};
 ghost use Rattle.lay_read_parts.specs.Answers.{gathered, gathered_open};
 ghost use Rattle.lay_read_types.specs.Answers.{AreDeeper, marked, path_or_call};
 
 use crate::rules::Rules;
+use lay_node::{Constraint, FuncParam, GivenName, PathStyle, Ty, TypePlace};
 use lay_read_parts::joins::{both, prepended, refused};
 use lay_read_parts::leads::{Lead, lead_at};
 use lay_read_parts::loops::{Closer, Opening, Part, read_elements, read_open_elements};
@@ -29,7 +30,6 @@ use lay_read_tokens::stop::boxed;
 use lay_read_tokens::tokens::read_tokens;
 use lay_read_tokens::{Ahead, Found, ReadNone};
 use lay_token::{Delim, List};
-use lay_tree::{Constraint, FuncParam, GivenName, PathStyle, Ty, TypePlace};
 use std::alloc::Global;
 
 /// Types one level deeper, as parts of a list.
@@ -119,7 +119,7 @@ impl<
     }
 
     /// What stands behind a `(`.
-    #[tactic(auto, unfolding(lay_tree::specs::reader::Types::paren_type))]
+    #[tactic(auto, unfolding(lay_node::specs::reader::Types::paren_type))]
     fn paren_type(&self, at: &mut Ahead<'_>) -> Result<Found<Ty>, ReadNone>
         requires deeper { AreDeeper self.now.depth (F.pre self.now.types) (F.post self.now.types) (G.pre self.now.constraints) (G.post self.now.constraints) }
         requires room { self.now.depth + 1 < 2 ^ 32 }
@@ -165,7 +165,7 @@ impl<
     }
 
     /// What stands behind a `[`.
-    #[tactic(auto, unfolding(lay_tree::specs::reader::Types::bracket_type))]
+    #[tactic(auto, unfolding(lay_node::specs::reader::Types::bracket_type))]
     fn bracket_type(&self, at: &mut Ahead<'_>) -> Result<Found<Ty>, ReadNone>
         requires deeper { AreDeeper self.now.depth (F.pre self.now.types) (F.post self.now.types) (G.pre self.now.constraints) (G.post self.now.constraints) }
         requires room { self.now.depth + 1 < 2 ^ 32 }
@@ -188,7 +188,7 @@ impl<
     }
 
     /// What stands behind a `&`.
-    #[tactic(auto, unfolding(lay_tree::specs::reader::Types::reference_type))]
+    #[tactic(auto, unfolding(lay_node::specs::reader::Types::reference_type))]
     fn reference_type(&self, at: &mut Ahead<'_>) -> Result<Found<Ty>, ReadNone>
         requires deeper { AreDeeper self.now.depth (F.pre self.now.types) (F.post self.now.types) (G.pre self.now.constraints) (G.post self.now.constraints) }
         requires room { self.now.depth + 1 < 2 ^ 32 }
@@ -211,7 +211,7 @@ impl<
     }
 
     /// What stands behind a `*`.
-    #[tactic(auto, unfolding(lay_tree::specs::reader::Types::pointer_type))]
+    #[tactic(auto, unfolding(lay_node::specs::reader::Types::pointer_type))]
     fn pointer_type(&self, at: &mut Ahead<'_>) -> Result<Found<Ty>, ReadNone>
         requires deeper { AreDeeper self.now.depth (F.pre self.now.types) (F.post self.now.types) (G.pre self.now.constraints) (G.post self.now.constraints) }
         requires room { self.now.depth + 1 < 2 ^ 32 }
@@ -229,7 +229,7 @@ impl<
     }
 
     /// What stands behind `impl` or `dyn`.
-    #[tactic(auto, unfolding(lay_tree::specs::reader::Types::bounds_type))]
+    #[tactic(auto, unfolding(lay_node::specs::reader::Types::bounds_type))]
     fn bounds_type(
         &self,
         at: &mut Ahead<'_>,
@@ -269,7 +269,7 @@ impl<
     }
 
     /// A path.
-    #[tactic(auto, unfolding(lay_tree::specs::reader::Types::path_type))]
+    #[tactic(auto, unfolding(lay_node::specs::reader::Types::path_type))]
     fn path_type(&self, at: &mut Ahead<'_>) -> Result<Found<Ty>, ReadNone>
         requires deeper { AreDeeper self.now.depth (F.pre self.now.types) (F.post self.now.types) (G.pre self.now.constraints) (G.post self.now.constraints) }
         requires room { self.now.depth + 1 < 2 ^ 32 }
@@ -287,7 +287,7 @@ impl<
     }
 
     /// A parameter of a function type.
-    #[tactic(auto, unfolding(lay_tree::specs::reader::Types::func_param))]
+    #[tactic(auto, unfolding(lay_node::specs::reader::Types::func_param))]
     fn func_param(&self, at: &mut Ahead<'_>, _place: ()) -> Result<Found<FuncParam>, ReadNone>
         requires { AreDeeper self.now.depth (F.pre self.now.types) (F.post self.now.types) (G.pre self.now.constraints) (G.post self.now.constraints) }
         ensures read { IsFound (reader.func_param (within self.now.depth) at.old) result at.new }
@@ -325,7 +325,7 @@ impl<
     }
 
     /// The parameters of a function type, and whether `...` stands behind them.
-    #[tactic(auto, unfolding(lay_tree::specs::reader::Types::func_params))]
+    #[tactic(auto, unfolding(lay_node::specs::reader::Types::func_params))]
     fn func_params(&self, at: &mut Ahead<'_>) -> Result<Found<(List<FuncParam>, bool)>, ReadNone>
         requires { AreDeeper self.now.depth (F.pre self.now.types) (F.post self.now.types) (G.pre self.now.constraints) (G.post self.now.constraints) }
         ensures read { IsFound (reader.func_params (within self.now.depth) at.old) result at.new }
@@ -348,7 +348,7 @@ impl<
     }
 
     /// A function type.
-    #[tactic(auto, unfolding(lay_tree::specs::reader::Types::func_type))]
+    #[tactic(auto, unfolding(lay_node::specs::reader::Types::func_type))]
     fn func_type(&self, at: &mut Ahead<'_>) -> Result<Found<Ty>, ReadNone>
         requires deeper { AreDeeper self.now.depth (F.pre self.now.types) (F.post self.now.types) (G.pre self.now.constraints) (G.post self.now.constraints) }
         requires room { self.now.depth + 1 < 2 ^ 32 }

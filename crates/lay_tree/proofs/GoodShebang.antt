@@ -13,8 +13,8 @@ use Rattle.lay_token.specs.Source.{Source, source, source_of, folded, without_ma
 use Rattle.lay_text.specs.declared.refusal.Refusal.TheVariants.{NotUtf8}
 use Rattle.lay_piece.proofs.Fronts.{each-front}
 use Rattle.lay_token.proofs.Encoding.{scalars-folded, scalars-without_mark}
+use Rattle.lay_node.proofs.Scalars.{text_utf8, scalars_cond, scalars_without_end}
 use Rattle.lay_tree.specs.Written.{is_good_shebang}
-use Rattle.lay_tree.proofs.Scalars.{text_utf8, scalars_cond, scalars_without_end}
 
 -- ---- what is kept of a text
 

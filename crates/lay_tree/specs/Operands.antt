@@ -7,9 +7,9 @@ use Rattle.lay_piece.specs.declared.kind.Delim.TheVariants.{Paren, Bracket, Brac
 use Rattle.lay_piece.specs.declared.kind.Kind.{Kind}
 use Rattle.lay_piece.specs.declared.kind.Kind.TheVariants as kind
 use Rattle.lay_token.specs.Operators.{is_op}
-use Rattle.lay_tree.specs.Ahead.{Tokens, first, tail, opens}
-use Rattle.lay_tree.specs.Follow.{begins_dots}
-use Rattle.lay_tree.specs.Words.{is_literal, is_path_class}
+use Rattle.lay_node.specs.Ahead.{Tokens, first, tail, opens}
+use Rattle.lay_node.specs.Follow.{begins_dots}
+use Rattle.lay_node.specs.Words.{is_literal, is_path_class}
 
 pub data ExprLead : Type 0 where
   ByLiteral : ExprLead

@@ -5,7 +5,7 @@ use Rattle.std.specs.Str.{bytes_eq}
 use Rattle.lay_piece.specs.declared.kind.Delim.TheVariants.{Paren, Bracket}
 use Rattle.lay_token.specs.Lexes.{is_punct}
 use Rattle.lay_token.specs.Operators.{op_at, is_op}
-use Rattle.lay_tree.specs.Ahead.{Tokens, first, tail, is_keyword, opens}
+use Rattle.lay_node.specs.Ahead.{Tokens, first, tail, is_keyword, opens}
 use Rattle.lay_tree.specs.declared.operators.Op.{Op}
 use Rattle.lay_tree.specs.declared.operators.Op.TheVariants as op
 use Rattle.lay_tree.specs.declared.operators.Prefix.{Prefix}

@@ -1,10 +1,6 @@
 //! Expressions, and the places where they stand.
-use crate::attr::Attr;
-use crate::boxed::Boxed;
 use crate::operators::{Op, Prefix};
-use crate::token::{Lifetime, Literal, Name};
-use crate::tokens::{MacroCall, Tokens};
-use crate::types::{Arg, Path, Ty};
+use lay_node::{Arg, Attr, Boxed, Lifetime, Literal, MacroCall, Name, Path, Tokens, Ty};
 use lay_token::{List, Text};
 
 /// Whether an expression begins a statement or the body of an arm, and is the whole of it or a part.

@@ -1,6 +1,6 @@
 //! Files.
-use crate::attr::Attr;
 use crate::item::Item;
+use lay_node::Attr;
 use lay_token::{List, Text};
 
 /// A file (Rust Reference, "Crates and source files").

@@ -1,14 +1,9 @@
 //! Items.
-use crate::attr::Attr;
-use crate::boxed::Boxed;
 use crate::exprs::Expr;
-use crate::functions::FnHead;
-use crate::generics::Wheres;
-use crate::heads::{Alias, Enum, ExternCrate, ImplHead, Struct, TraitHead, Union, ValueHead};
-use crate::token::{Literal, Name};
-use crate::tokens::{Group, MacroCall};
-use crate::use_tree::UseTree;
-use crate::vis::Vis;
+use lay_node::{
+    Alias, Attr, Boxed, Enum, ExternCrate, FnHead, Group, ImplHead, Literal, MacroCall, Name,
+    Struct, TraitHead, Union, UseTree, ValueHead, Vis, Wheres,
+};
 use lay_token::List;
 
 /// An item with its outer attributes (Rust Reference, "Items"). One within another stands one level deeper.

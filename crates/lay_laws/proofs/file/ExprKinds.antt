@@ -12,22 +12,22 @@ use Rattle.lay_form.specs.Form.{Bit, Blank, Operator, Form, Done, Piece, Leaf, p
 use Rattle.lay_form.specs.Layout.{led}
 use Rattle.lay_form.specs.Notation.{piece, braces, comma_list}
 use Rattle.lay_form.specs.Pieces.{is_text_of, are_pieces}
-use Rattle.lay_tree.specs.Words.{is_literal, is_bare_number}
-use Rattle.lay_tree.specs.nodes.Attr.{is_empty}
-use Rattle.lay_tree.specs.nodes.Call.{about_call}
+use Rattle.lay_node.specs.Words.{is_literal, is_bare_number}
+use Rattle.lay_node.specs.nodes.Attr.{is_empty}
+use Rattle.lay_node.specs.nodes.Call.{about_call}
+use Rattle.lay_node.specs.nodes.Facts.{Facts, forms, all_good}
+use Rattle.lay_node.specs.nodes.Patterns.{dots}
+use Rattle.lay_node.specs.nodes.Types.{about_path, literal_form}
+use Rattle.lay_node.specs.tokens.Lexed.{is_token_list}
+use Rattle.lay_node.specs.tokens.Lists.{token_list, ends_in_line}
+use Rattle.lay_node.specs.declared.token.Listed.{Listed}
+use Rattle.lay_node.specs.declared.token.Literal.{Literal}
+use Rattle.lay_node.specs.declared.tokens.MacroCall.{MacroCall}
+use Rattle.lay_node.specs.declared.types.Path.{Path}
+use Rattle.lay_node.specs.declared.types.PathStyle.TheVariants.{Code}
 use Rattle.lay_tree.specs.nodes.Exprs.{ExprFacts, placed, expr_forms, all_free, expr_facts, tuple_form, base_form, base_placed, struct_form}
-use Rattle.lay_tree.specs.nodes.Facts.{Facts, forms, all_good}
-use Rattle.lay_tree.specs.nodes.Patterns.{dots}
 use Rattle.lay_tree.specs.nodes.Places.{FREE}
-use Rattle.lay_tree.specs.nodes.Types.{about_path, literal_form}
-use Rattle.lay_tree.specs.tokens.Lexed.{is_token_list}
-use Rattle.lay_tree.specs.tokens.Lists.{token_list, ends_in_line}
 use Rattle.lay_tree.specs.declared.exprs.Expr.TheOpen.{Expr-F}
-use Rattle.lay_tree.specs.declared.token.Listed.{Listed}
-use Rattle.lay_tree.specs.declared.token.Literal.{Literal}
-use Rattle.lay_tree.specs.declared.tokens.MacroCall.{MacroCall}
-use Rattle.lay_tree.specs.declared.types.Path.{Path}
-use Rattle.lay_tree.specs.declared.types.PathStyle.TheVariants.{Code}
 use Rattle.lay_laws.proofs.borders.Need as need
 use Rattle.lay_laws.proofs.borders.Border.{Other, Border, At, beyond}
 use Rattle.lay_laws.proofs.borders.Move.{under}

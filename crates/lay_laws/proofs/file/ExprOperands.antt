@@ -7,20 +7,20 @@ use Rattle.lay_form.specs.Form.{Blank, Operator, Form, Done, Piece}
 use Rattle.lay_form.specs.Layout.{led}
 use Rattle.lay_form.specs.Notation.{I4, N}
 use Rattle.lay_form.specs.Pieces.{are_pieces}
+use Rattle.lay_node.specs.nodes.Patterns.{dots}
+use Rattle.lay_node.specs.nodes.Types.{about_type, good_at, is_there, lifetime_form}
+use Rattle.lay_node.specs.declared.token.Lifetime.{Lifetime}
+use Rattle.lay_node.specs.declared.types.Ty.{Ty}
+use Rattle.lay_node.specs.declared.types.TypePlace.TheVariants.{NoBounds}
 use Rattle.lay_tree.specs.Operators.{op_text, op_level, is_angle_op}
 use Rattle.lay_tree.specs.nodes.Exprs.{ExprFacts, StepFacts, placed, expr_facts, is_dotted, is_tuple_index, first_step, methods, are_steps, steps_form, group_if, operands_form, operands_placed, tail_of_operands, is_chain_level, may_chain, types_form, types_good, prefix_bits, prefixes_form, end_form, end_placed, tail_of_end, targets_form, targets_placed, label_form, operand_form, operand_placed, tail_of_jump, break_placed}
-use Rattle.lay_tree.specs.nodes.Patterns.{dots}
 use Rattle.lay_tree.specs.nodes.Places as place
 use Rattle.lay_tree.specs.nodes.Places.{before_op}
-use Rattle.lay_tree.specs.nodes.Types.{about_type, good_at, is_there, lifetime_form}
 use Rattle.lay_tree.specs.declared.exprs.Expr.TheOpen.{Expr-F}
 use Rattle.lay_tree.specs.declared.operators.Op.{Op}
 use Rattle.lay_tree.specs.declared.operators.Op.TheVariants as op
 use Rattle.lay_tree.specs.declared.operators.Prefix.{Prefix}
 use Rattle.lay_tree.specs.declared.operators.Prefix.TheVariants as before
-use Rattle.lay_tree.specs.declared.token.Lifetime.{Lifetime}
-use Rattle.lay_tree.specs.declared.types.Ty.{Ty}
-use Rattle.lay_tree.specs.declared.types.TypePlace.TheVariants.{NoBounds}
 use Rattle.lay_laws.proofs.borders.Border.{Border, beyond}
 use Rattle.lay_laws.proofs.borders.Move.{under}
 use Rattle.lay_laws.proofs.forms.Opened.{bits_open, even}

@@ -9,10 +9,10 @@ use Rattle.lay_form.specs.Form as form
 use Rattle.lay_form.specs.Form.{Bit, Blank, Fixed, Operator, Form, Done, Piece, Leaf, Group, keyword, opener, closer}
 use Rattle.lay_form.specs.Layout.{led}
 use Rattle.lay_form.specs.Notation.{B}
+use Rattle.lay_node.specs.nodes.Patterns.{dots}
+use Rattle.lay_node.specs.nodes.Types.{deeper}
 use Rattle.lay_tree.specs.Operators.{op_text}
 use Rattle.lay_tree.specs.nodes.Exprs.{prefix_bits}
-use Rattle.lay_tree.specs.nodes.Patterns.{dots}
-use Rattle.lay_tree.specs.nodes.Types.{deeper}
 use Rattle.lay_tree.specs.declared.operators.Op.{Op}
 use Rattle.lay_tree.specs.declared.operators.Op.TheVariants as op
 use Rattle.lay_tree.specs.declared.operators.Prefix.{Prefix}

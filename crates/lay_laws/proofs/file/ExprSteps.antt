@@ -6,16 +6,16 @@ use Rattle.lay_piece.specs.declared.kind.Kind.TheVariants as kind
 use Rattle.lay_form.specs.Form as form
 use Rattle.lay_form.specs.Form.{Form, Done, Piece, Leaf, opener, closer}
 use Rattle.lay_form.specs.Pieces.{is_text_of, are_pieces}
-use Rattle.lay_tree.specs.Words.{is_name, leaf_of}
-use Rattle.lay_tree.specs.nodes.Attr.{are_attrs, attr_form}
+use Rattle.lay_node.specs.Words.{is_name, leaf_of}
+use Rattle.lay_node.specs.nodes.Attr.{are_attrs, attr_form}
+use Rattle.lay_node.specs.nodes.Facts.{forms}
+use Rattle.lay_node.specs.nodes.Types.{less, greater, angle_form, about_arg, colon}
+use Rattle.lay_node.specs.declared.attr.Attr.{Attr}
+use Rattle.lay_node.specs.declared.token.Name.{Name}
+use Rattle.lay_node.specs.declared.types.Arg.{Arg}
 use Rattle.lay_tree.specs.nodes.Exprs.{ExprFacts, placed, all_free, StepKind, StepFacts, is_field, is_tuple_index, is_method, is_call, generics_form, are_generics, args_form, step_facts, are_steps, first_step, break_if, steps_form, field_facts}
-use Rattle.lay_tree.specs.nodes.Facts.{forms}
 use Rattle.lay_tree.specs.nodes.Places.{FREE}
-use Rattle.lay_tree.specs.nodes.Types.{less, greater, angle_form, about_arg, colon}
-use Rattle.lay_tree.specs.declared.attr.Attr.{Attr}
 use Rattle.lay_tree.specs.declared.exprs.Expr.TheOpen.{FieldExpr-F, Step-F}
-use Rattle.lay_tree.specs.declared.token.Name.{Name}
-use Rattle.lay_tree.specs.declared.types.Arg.{Arg}
 use Rattle.lay_laws.proofs.borders.Border.{Border, Point, At}
 use Rattle.lay_laws.proofs.borders.Move.{under}
 use Rattle.lay_laws.proofs.forms.Passes.{plain, fits}

@@ -6,8 +6,8 @@ use Rattle.lay_piece.specs.declared.kind.Delim.TheVariants.{Paren, Bracket, Brac
 use Rattle.lay_piece.specs.declared.kind.Kind.TheVariants as kind
 use Rattle.lay_form.specs.Form.{Bit, Blank, Fixed, Operator, keyword, opener, closer, comma, semicolon}
 use Rattle.lay_form.specs.Pieces.{are_pieces}
+use Rattle.lay_node.specs.nodes.Types.{colon, equals}
 use Rattle.lay_tree.specs.nodes.Exprs.{placed, about_expr, about_field_expr, about_step}
-use Rattle.lay_tree.specs.nodes.Types.{colon, equals}
 use Rattle.lay_tree.specs.declared.exprs.Expr.{Expr}
 use Rattle.lay_tree.specs.declared.exprs.Expr.TheFolds as expr_fold
 use Rattle.lay_tree.specs.declared.exprs.Expr.TheOpen.{Expr-F, FieldExpr-F, Step-F}

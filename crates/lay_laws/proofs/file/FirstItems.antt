@@ -6,20 +6,20 @@ use Rattle.lay_form.specs.Form.{Form, Done, Part, Deeper}
 use Rattle.lay_form.specs.Layout.{laid_out}
 use Rattle.lay_form.specs.Notation.{behind_attrs, lines}
 use Rattle.lay_form.specs.Pieces.{are_pieces}
-use Rattle.lay_tree.specs.nodes.Attr.{attr_form}
-use Rattle.lay_tree.specs.nodes.Call.{call_form, end_form}
-use Rattle.lay_tree.specs.nodes.Facts.{forms}
+use Rattle.lay_node.specs.nodes.Attr.{attr_form}
+use Rattle.lay_node.specs.nodes.Call.{call_form, end_form}
+use Rattle.lay_node.specs.nodes.Facts.{forms}
+use Rattle.lay_node.specs.nodes.Heads.{HeadFacts, about_alias, about_enum, about_extern_crate, about_struct, about_union}
+use Rattle.lay_node.specs.declared.attr.Attr.{Attr}
+use Rattle.lay_node.specs.declared.heads.Site.TheVariants as site
+use Rattle.lay_node.specs.declared.vis.Vis.{Vis}
 use Rattle.lay_tree.specs.nodes.File.{form_of_file}
-use Rattle.lay_tree.specs.nodes.Heads.{HeadFacts, about_alias, about_enum, about_extern_crate, about_struct, about_union}
 use Rattle.lay_tree.specs.nodes.Item.{ItemFacts, KindFacts, about_file_module, about_foreign, about_function, about_impl, about_import, about_item, about_module, about_trait, about_value, in_modules, item_facts, kind_facts, kind_form, told_of_item, told_of_kind, value_form}
-use Rattle.lay_tree.specs.declared.attr.Attr.{Attr}
 use Rattle.lay_tree.specs.declared.file.File.{File}
-use Rattle.lay_tree.specs.declared.heads.Site.TheVariants as site
 use Rattle.lay_tree.specs.declared.item.Item.{Item}
 use Rattle.lay_tree.specs.declared.item.ItemKind.{ItemKind}
 use Rattle.lay_tree.specs.declared.item.ItemKind.TheFolds as fold
 use Rattle.lay_tree.specs.declared.item.ItemKind.TheOpen.{ItemKind-F}
-use Rattle.lay_tree.specs.declared.vis.Vis.{Vis}
 use Rattle.lay_tree.proofs.nodes.ItemLaws.{item_is}
 use Rattle.lay_laws.proofs.file.FirstText.{Fair, first_text, low_fair, attr_fair, call_fair}
 use Rattle.lay_laws.proofs.forms.HeadsFirst.{BeginsFair, seen_fair, extern_crate_fair, alias_fair, struct_fair, union_fair, enum_fair, value_head_fair, unsafe_fair, trait_head_fair, impl_head_fair, fn_head_fair}

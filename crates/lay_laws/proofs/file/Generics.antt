@@ -7,22 +7,22 @@ use Rattle.lay_form.specs.Form as form
 use Rattle.lay_form.specs.Form.{Blank, Form, Done, Piece, keyword}
 use Rattle.lay_form.specs.Notation.{each, comma_gap, where_body, where_semicolon}
 use Rattle.lay_form.specs.Pieces.{are_pieces}
-use Rattle.lay_tree.specs.Words.{is_name, leaf_of}
-use Rattle.lay_tree.specs.nodes.Attr.{are_attrs}
-use Rattle.lay_tree.specs.nodes.Generics.{bounded_form, are_bounds, default_form, is_default, const_default_form, is_const_default, param_form, is_param, is_generics, params_list, generics_form}
-use Rattle.lay_tree.specs.nodes.Types.{about_bound, about_type, bounds_form, colon, const_form, greater, is_binder, is_there, less, lifetime_form}
-use Rattle.lay_tree.specs.nodes.Where.{outlives_form, meets_form, predicate_form, is_predicate, are_predicates, wheres_before_body, wheres_before_semicolon}
-use Rattle.lay_tree.specs.declared.generics.ConstDefault.{ConstDefault}
-use Rattle.lay_tree.specs.declared.generics.ConstDefault.TheVariants as const_default
-use Rattle.lay_tree.specs.declared.generics.GenericParam.{GenericParam}
-use Rattle.lay_tree.specs.declared.generics.GenericParam.TheVariants as param
-use Rattle.lay_tree.specs.declared.generics.Generics.{Generics}
-use Rattle.lay_tree.specs.declared.generics.Predicate.{Predicate}
-use Rattle.lay_tree.specs.declared.generics.Predicate.TheVariants as predicate
-use Rattle.lay_tree.specs.declared.generics.Wheres.{Wheres}
-use Rattle.lay_tree.specs.declared.token.Lifetime.{Lifetime}
-use Rattle.lay_tree.specs.declared.types.Bound.{Bound}
-use Rattle.lay_tree.specs.declared.types.Ty.{Ty}
+use Rattle.lay_node.specs.Words.{is_name, leaf_of}
+use Rattle.lay_node.specs.nodes.Attr.{are_attrs}
+use Rattle.lay_node.specs.nodes.Generics.{bounded_form, are_bounds, default_form, is_default, const_default_form, is_const_default, param_form, is_param, is_generics, params_list, generics_form}
+use Rattle.lay_node.specs.nodes.Types.{about_bound, about_type, bounds_form, colon, const_form, greater, is_binder, is_there, less, lifetime_form}
+use Rattle.lay_node.specs.nodes.Where.{outlives_form, meets_form, predicate_form, is_predicate, are_predicates, wheres_before_body, wheres_before_semicolon}
+use Rattle.lay_node.specs.declared.generics.ConstDefault.{ConstDefault}
+use Rattle.lay_node.specs.declared.generics.ConstDefault.TheVariants as const_default
+use Rattle.lay_node.specs.declared.generics.GenericParam.{GenericParam}
+use Rattle.lay_node.specs.declared.generics.GenericParam.TheVariants as param
+use Rattle.lay_node.specs.declared.generics.Generics.{Generics}
+use Rattle.lay_node.specs.declared.generics.Predicate.{Predicate}
+use Rattle.lay_node.specs.declared.generics.Predicate.TheVariants as predicate
+use Rattle.lay_node.specs.declared.generics.Wheres.{Wheres}
+use Rattle.lay_node.specs.declared.token.Lifetime.{Lifetime}
+use Rattle.lay_node.specs.declared.types.Bound.{Bound}
+use Rattle.lay_node.specs.declared.types.Ty.{Ty}
 use Rattle.lay_laws.proofs.borders.Need as need
 use Rattle.lay_laws.proofs.borders.Need.{RawWord, Grow}
 use Rattle.lay_laws.proofs.borders.Border.{Other, Border, At}

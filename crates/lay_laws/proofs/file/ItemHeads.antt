@@ -5,29 +5,29 @@ use Rattle.std.proofs.lemmas.Bool.{and_parts}
 use Rattle.lay_form.specs.Form as form
 use Rattle.lay_form.specs.Form.{Blank, Form, Done, Piece, keyword, semicolon, Part}
 use Rattle.lay_form.specs.Pieces.{is_text_of, are_pieces}
-use Rattle.lay_tree.specs.Words.{is_name}
-use Rattle.lay_tree.specs.nodes.Attr.{are_attrs, attr_form}
+use Rattle.lay_node.specs.Words.{is_name}
+use Rattle.lay_node.specs.nodes.Attr.{are_attrs, attr_form}
+use Rattle.lay_node.specs.nodes.Fields.{blank_if}
+use Rattle.lay_node.specs.nodes.Functions.{is_fn_head}
+use Rattle.lay_node.specs.nodes.Heads.{leads, is_value_head, is_trait_head, is_impl_head, value_head_form}
+use Rattle.lay_node.specs.nodes.Types.{is_abi_name}
+use Rattle.lay_node.specs.nodes.Use.{about_use}
+use Rattle.lay_node.specs.nodes.Where.{are_predicates, wheres_before_body}
+use Rattle.lay_node.specs.declared.attr.Attr.{Attr}
+use Rattle.lay_node.specs.declared.functions.FnHead.{FnHead}
+use Rattle.lay_node.specs.declared.generics.Wheres.{Wheres}
+use Rattle.lay_node.specs.declared.heads.ImplHead.{ImplHead}
+use Rattle.lay_node.specs.declared.heads.Site.{Site}
+use Rattle.lay_node.specs.declared.heads.Site.TheVariants as site
+use Rattle.lay_node.specs.declared.heads.TraitHead.{TraitHead}
+use Rattle.lay_node.specs.declared.heads.ValueHead.{ValueHead}
+use Rattle.lay_node.specs.declared.token.Literal.{Literal}
+use Rattle.lay_node.specs.declared.token.Name.{Name}
+use Rattle.lay_node.specs.declared.use_tree.UseTree.{UseTree}
 use Rattle.lay_tree.specs.nodes.Exprs.{about_expr}
-use Rattle.lay_tree.specs.nodes.Fields.{blank_if}
-use Rattle.lay_tree.specs.nodes.Functions.{is_fn_head}
-use Rattle.lay_tree.specs.nodes.Heads.{leads, is_value_head, is_trait_head, is_impl_head, value_head_form}
 use Rattle.lay_tree.specs.nodes.Item.{ItemFacts, about_file_module, about_foreign, about_function, about_impl, about_import, about_module, about_trait, about_value, foreign_abi, item_body, item_forms, items_good, may_lack_body, may_lack_value, module_head, may_be_valued, value_form, value_placed}
 use Rattle.lay_tree.specs.nodes.Places.{FREE}
-use Rattle.lay_tree.specs.nodes.Types.{is_abi_name}
-use Rattle.lay_tree.specs.nodes.Use.{about_use}
-use Rattle.lay_tree.specs.nodes.Where.{are_predicates, wheres_before_body}
-use Rattle.lay_tree.specs.declared.attr.Attr.{Attr}
 use Rattle.lay_tree.specs.declared.exprs.Expr.{Expr}
-use Rattle.lay_tree.specs.declared.functions.FnHead.{FnHead}
-use Rattle.lay_tree.specs.declared.generics.Wheres.{Wheres}
-use Rattle.lay_tree.specs.declared.heads.ImplHead.{ImplHead}
-use Rattle.lay_tree.specs.declared.heads.Site.{Site}
-use Rattle.lay_tree.specs.declared.heads.Site.TheVariants as site
-use Rattle.lay_tree.specs.declared.heads.TraitHead.{TraitHead}
-use Rattle.lay_tree.specs.declared.heads.ValueHead.{ValueHead}
-use Rattle.lay_tree.specs.declared.token.Literal.{Literal}
-use Rattle.lay_tree.specs.declared.token.Name.{Name}
-use Rattle.lay_tree.specs.declared.use_tree.UseTree.{UseTree}
 use Rattle.lay_laws.proofs.borders.Border.{Border}
 use Rattle.lay_laws.proofs.file.ExprParts.{ends_expr, begins_plain}
 use Rattle.lay_laws.proofs.file.Exprs.{expr_passes_at}

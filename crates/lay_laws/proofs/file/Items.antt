@@ -8,25 +8,25 @@ use Rattle.lay_piece.specs.declared.kind.Delim.TheVariants.{Paren, Bracket, Brac
 use Rattle.lay_form.specs.Form.{Blank, Done}
 use Rattle.lay_form.specs.Notation.{behind_attrs}
 use Rattle.lay_form.specs.Pieces.{are_pieces}
-use Rattle.lay_tree.specs.Words.{is_name}
-use Rattle.lay_tree.specs.nodes.Attr.{are_attrs, attr_form}
-use Rattle.lay_tree.specs.nodes.Call.{is_group, before_rules, call_form, end_form}
-use Rattle.lay_tree.specs.nodes.Facts.{forms, all_good}
+use Rattle.lay_node.specs.Words.{is_name}
+use Rattle.lay_node.specs.nodes.Attr.{are_attrs, attr_form}
+use Rattle.lay_node.specs.nodes.Call.{is_group, before_rules, call_form, end_form}
+use Rattle.lay_node.specs.nodes.Facts.{forms, all_good}
+use Rattle.lay_node.specs.nodes.Heads.{HeadFacts, about_alias, about_enum, about_extern_crate, about_struct, about_union}
+use Rattle.lay_node.specs.nodes.Vis.{is_vis}
+use Rattle.lay_node.specs.tokens.Lists.{group_form}
+use Rattle.lay_node.specs.declared.heads.Site.{Site}
+use Rattle.lay_node.specs.declared.heads.Site.TheVariants as site
+use Rattle.lay_node.specs.declared.tokens.Group.{Group}
+use Rattle.lay_node.specs.declared.vis.Vis.{Vis}
 use Rattle.lay_tree.specs.nodes.File.{form_of_file, is_normal}
-use Rattle.lay_tree.specs.nodes.Heads.{HeadFacts, about_alias, about_enum, about_extern_crate, about_struct, about_union}
 use Rattle.lay_tree.specs.nodes.Item.{ItemFacts, KindFacts, about_file_module, about_foreign, about_function, about_impl, about_import, about_item, about_module, about_trait, about_value, by_site, in_module, in_modules, is_inherited, item_facts, item_forms, items_good, kind_facts, kind_form, told_of_item, told_of_kind}
-use Rattle.lay_tree.specs.nodes.Vis.{is_vis}
-use Rattle.lay_tree.specs.tokens.Lists.{group_form}
 use Rattle.lay_tree.specs.declared.file.File.{File}
-use Rattle.lay_tree.specs.declared.heads.Site.{Site}
-use Rattle.lay_tree.specs.declared.heads.Site.TheVariants as site
 use Rattle.lay_tree.specs.declared.item.Item.{Item}
 use Rattle.lay_tree.specs.declared.item.ItemKind.{ItemKind}
 use Rattle.lay_tree.specs.declared.item.ItemKind.TheFolds as fold
 use Rattle.lay_tree.specs.declared.item.ItemKind.TheOpen.{Item-F, ItemKind-F}
 use Rattle.lay_tree.specs.declared.item.ItemKind.TheViews.{roll-Item, roll-ItemKind}
-use Rattle.lay_tree.specs.declared.tokens.Group.{Group}
-use Rattle.lay_tree.specs.declared.vis.Vis.{Vis}
 use Rattle.lay_tree.proofs.nodes.ItemLaws.{item_is}
 use Rattle.lay_laws.proofs.borders.Border.{Border}
 use Rattle.lay_laws.proofs.forms.Heads.{HeadPasses, seen_passes, extern_crate_passes, alias_passes, struct_passes, union_passes, enum_passes}

@@ -9,22 +9,22 @@ use Rattle.lay_form.specs.Form as form
 use Rattle.lay_form.specs.Form.{Bit, Blank, Operator, Form, Done, Piece, Leaf, punct, opener, closer}
 use Rattle.lay_form.specs.Notation.{B, I0, piece, when, each, comma_gap, last_break, comma_list, braces}
 use Rattle.lay_form.specs.Pieces.{is_text_of, are_pieces}
-use Rattle.lay_tree.specs.Words.{is_name, leaf_of}
-use Rattle.lay_tree.specs.nodes.Attr.{are_attrs, attr_form}
-use Rattle.lay_tree.specs.nodes.Call.{about_call}
-use Rattle.lay_tree.specs.nodes.Facts.{Facts, forms, all_good}
-use Rattle.lay_tree.specs.nodes.Patterns.{PatFacts, pat_form, pat_good, pat_forms, all_pats_good, field_facts, pat_facts, rest_form, bound_form, bound_good, one_form, tuple_form, first_end, dots, last_end, has_ends, may_end, may_be_path, value_form, end_form}
-use Rattle.lay_tree.specs.nodes.Types.{about_path, colon, deeper, is_several, joined, lone_word}
-use Rattle.lay_tree.specs.declared.attr.Attr.{Attr}
-use Rattle.lay_tree.specs.declared.patterns.FieldPat.TheOpen.{FieldPat-F, Pat-F}
-use Rattle.lay_tree.specs.declared.patterns.PatPlace.{PatPlace}
-use Rattle.lay_tree.specs.declared.patterns.PatPlace.TheVariants.{Alternatives, Single}
-use Rattle.lay_tree.specs.declared.patterns.PatValue.{PatValue}
-use Rattle.lay_tree.specs.declared.patterns.SpanEnd.{SpanEnd}
-use Rattle.lay_tree.specs.declared.token.Name.{Name}
-use Rattle.lay_tree.specs.declared.tokens.MacroCall.{MacroCall}
-use Rattle.lay_tree.specs.declared.types.Path.{Path}
-use Rattle.lay_tree.specs.declared.types.PathStyle.TheVariants.{Code}
+use Rattle.lay_node.specs.Words.{is_name, leaf_of}
+use Rattle.lay_node.specs.nodes.Attr.{are_attrs, attr_form}
+use Rattle.lay_node.specs.nodes.Call.{about_call}
+use Rattle.lay_node.specs.nodes.Facts.{Facts, forms, all_good}
+use Rattle.lay_node.specs.nodes.Patterns.{PatFacts, pat_form, pat_good, pat_forms, all_pats_good, field_facts, pat_facts, rest_form, bound_form, bound_good, one_form, tuple_form, first_end, dots, last_end, has_ends, may_end, may_be_path, value_form, end_form}
+use Rattle.lay_node.specs.nodes.Types.{about_path, colon, deeper, is_several, joined, lone_word}
+use Rattle.lay_node.specs.declared.attr.Attr.{Attr}
+use Rattle.lay_node.specs.declared.patterns.FieldPat.TheOpen.{FieldPat-F, Pat-F}
+use Rattle.lay_node.specs.declared.patterns.PatPlace.{PatPlace}
+use Rattle.lay_node.specs.declared.patterns.PatPlace.TheVariants.{Alternatives, Single}
+use Rattle.lay_node.specs.declared.patterns.PatValue.{PatValue}
+use Rattle.lay_node.specs.declared.patterns.SpanEnd.{SpanEnd}
+use Rattle.lay_node.specs.declared.token.Name.{Name}
+use Rattle.lay_node.specs.declared.tokens.MacroCall.{MacroCall}
+use Rattle.lay_node.specs.declared.types.Path.{Path}
+use Rattle.lay_node.specs.declared.types.PathStyle.TheVariants.{Code}
 use Rattle.lay_laws.proofs.borders.Border.{Border, beyond}
 use Rattle.lay_laws.proofs.borders.Move.{under}
 use Rattle.lay_laws.proofs.forms.Opened.{bits_open, is_even, even}

@@ -12,18 +12,18 @@ use Rattle.lay_form.specs.Form.{Bit, Blank, Fixed, Form, Done, Piece, Leaf, keyw
 use Rattle.lay_form.specs.Layout.{token_ends_in_point}
 use Rattle.lay_form.specs.Notation.{when}
 use Rattle.lay_form.specs.Pieces.{is_text_of, are_pieces}
-use Rattle.lay_tree.specs.Words.{is_literal, colons}
-use Rattle.lay_tree.specs.nodes.Call.{is_group, about_call}
-use Rattle.lay_tree.specs.nodes.Patterns.{value_form, is_value, end_form, is_end, dots, last_end, may_end}
-use Rattle.lay_tree.specs.nodes.SimplePath.{are_simple_words, is_simple_path, simple_words_form, simple_path_form}
-use Rattle.lay_tree.specs.nodes.Types.{literal_form}
-use Rattle.lay_tree.specs.declared.patterns.PatValue.{PatValue}
-use Rattle.lay_tree.specs.declared.patterns.SpanEnd.{SpanEnd}
-use Rattle.lay_tree.specs.declared.patterns.SpanEnd.TheVariants as span_end
-use Rattle.lay_tree.specs.declared.simple_path.SimplePath.{SimplePath}
-use Rattle.lay_tree.specs.declared.token.Word.{Word}
-use Rattle.lay_tree.specs.declared.tokens.MacroCall.{MacroCall}
-use Rattle.lay_tree.specs.declared.types.PathStyle.TheVariants.{Code}
+use Rattle.lay_node.specs.Words.{is_literal, colons}
+use Rattle.lay_node.specs.nodes.Call.{is_group, about_call}
+use Rattle.lay_node.specs.nodes.Patterns.{value_form, is_value, end_form, is_end, dots, last_end, may_end}
+use Rattle.lay_node.specs.nodes.SimplePath.{are_simple_words, is_simple_path, simple_words_form, simple_path_form}
+use Rattle.lay_node.specs.nodes.Types.{literal_form}
+use Rattle.lay_node.specs.declared.patterns.PatValue.{PatValue}
+use Rattle.lay_node.specs.declared.patterns.SpanEnd.{SpanEnd}
+use Rattle.lay_node.specs.declared.patterns.SpanEnd.TheVariants as span_end
+use Rattle.lay_node.specs.declared.simple_path.SimplePath.{SimplePath}
+use Rattle.lay_node.specs.declared.token.Word.{Word}
+use Rattle.lay_node.specs.declared.tokens.MacroCall.{MacroCall}
+use Rattle.lay_node.specs.declared.types.PathStyle.TheVariants.{Code}
 use Rattle.lay_laws.proofs.borders.Need as need
 use Rattle.lay_laws.proofs.borders.Need.{Need, RawWord, Grow, Loose, all, all_by, asks}
 use Rattle.lay_laws.proofs.borders.Border.{Other, Point, Far, Points, Border, Spot, Unsure, Clear, At, beyond, pass}

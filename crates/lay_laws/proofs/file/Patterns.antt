@@ -6,15 +6,15 @@ use Rattle.lay_piece.specs.declared.kind.Delim.TheVariants.{Paren, Bracket, Brac
 use Rattle.lay_piece.specs.declared.kind.Kind.TheVariants as kind
 use Rattle.lay_form.specs.Form.{Bit, Blank, Fixed, Operator, keyword, opener, closer, comma}
 use Rattle.lay_form.specs.Pieces.{are_pieces}
-use Rattle.lay_tree.specs.nodes.Patterns.{pat_form, pat_good, about_pat, about_field_pat}
-use Rattle.lay_tree.specs.nodes.Types.{colon, equals}
-use Rattle.lay_tree.specs.declared.patterns.FieldPat.{FieldPat}
-use Rattle.lay_tree.specs.declared.patterns.FieldPat.TheFolds as pat_fold
-use Rattle.lay_tree.specs.declared.patterns.FieldPat.TheOpen.{FieldPat-F, Pat-F}
-use Rattle.lay_tree.specs.declared.patterns.FieldPat.TheViews as views
-use Rattle.lay_tree.specs.declared.patterns.Pat.{Pat}
-use Rattle.lay_tree.specs.declared.patterns.PatPlace.{PatPlace}
-use Rattle.lay_tree.proofs.nodes.PatternsLaws as laws
+use Rattle.lay_node.specs.nodes.Patterns.{pat_form, pat_good, about_pat, about_field_pat}
+use Rattle.lay_node.specs.nodes.Types.{colon, equals}
+use Rattle.lay_node.specs.declared.patterns.FieldPat.{FieldPat}
+use Rattle.lay_node.specs.declared.patterns.FieldPat.TheFolds as pat_fold
+use Rattle.lay_node.specs.declared.patterns.FieldPat.TheOpen.{FieldPat-F, Pat-F}
+use Rattle.lay_node.specs.declared.patterns.FieldPat.TheViews as views
+use Rattle.lay_node.specs.declared.patterns.Pat.{Pat}
+use Rattle.lay_node.specs.declared.patterns.PatPlace.{PatPlace}
+use Rattle.lay_node.proofs.nodes.PatternsLaws as laws
 use Rattle.lay_laws.proofs.borders.Border.{Border, beyond}
 use Rattle.lay_laws.proofs.forms.Passes.{plain}
 use Rattle.lay_laws.proofs.forms.Rules.{tables, From}

@@ -8,17 +8,17 @@ use Rattle.lay_form.specs.Form as form
 use Rattle.lay_form.specs.Form.{Blank, Operator, Form, Done, Piece, opener, closer}
 use Rattle.lay_form.specs.Notation.{B, piece, when, comma_list}
 use Rattle.lay_form.specs.Pieces.{are_pieces}
-use Rattle.lay_tree.specs.Words.{is_name, is_path_word, leaf_of, colons}
-use Rattle.lay_tree.specs.nodes.Facts.{Facts, forms, all_good}
-use Rattle.lay_tree.specs.nodes.Types.{const_form, TypeFacts, type_forms, all_types_good, ArgsFacts, in_style, PathFacts, output_form, output_good, round_form, args_facts, is_there, bounds_form, bounds_good, meets_form, bound_facts, constraint_facts, arg_facts, segment_form, segments_form, segment_good, segments_good, of_form, of_good, start_facts, path_facts, less, greater, joined, binder_form, is_binder}
-use Rattle.lay_tree.specs.declared.token.Lifetime.{Lifetime}
-use Rattle.lay_tree.specs.declared.token.Name.{Name}
-use Rattle.lay_tree.specs.declared.token.Word.{Word}
-use Rattle.lay_tree.specs.declared.types.Arg.TheOpen.{Arg-F, Args-F, Bound-F, Constraint-F, PathStart-F}
-use Rattle.lay_tree.specs.declared.types.Binder.{Binder}
-use Rattle.lay_tree.specs.declared.types.ConstArg.{ConstArg}
-use Rattle.lay_tree.specs.declared.types.PathStyle.{PathStyle}
-use Rattle.lay_tree.specs.declared.types.PathStyle.TheVariants as style
+use Rattle.lay_node.specs.Words.{is_name, is_path_word, leaf_of, colons}
+use Rattle.lay_node.specs.nodes.Facts.{Facts, forms, all_good}
+use Rattle.lay_node.specs.nodes.Types.{const_form, TypeFacts, type_forms, all_types_good, ArgsFacts, in_style, PathFacts, output_form, output_good, round_form, args_facts, is_there, bounds_form, bounds_good, meets_form, bound_facts, constraint_facts, arg_facts, segment_form, segments_form, segment_good, segments_good, of_form, of_good, start_facts, path_facts, less, greater, joined, binder_form, is_binder}
+use Rattle.lay_node.specs.declared.token.Lifetime.{Lifetime}
+use Rattle.lay_node.specs.declared.token.Name.{Name}
+use Rattle.lay_node.specs.declared.token.Word.{Word}
+use Rattle.lay_node.specs.declared.types.Arg.TheOpen.{Arg-F, Args-F, Bound-F, Constraint-F, PathStart-F}
+use Rattle.lay_node.specs.declared.types.Binder.{Binder}
+use Rattle.lay_node.specs.declared.types.ConstArg.{ConstArg}
+use Rattle.lay_node.specs.declared.types.PathStyle.{PathStyle}
+use Rattle.lay_node.specs.declared.types.PathStyle.TheVariants as style
 use Rattle.lay_laws.proofs.borders.Need.{all}
 use Rattle.lay_laws.proofs.borders.Border.{Border}
 use Rattle.lay_laws.proofs.borders.Move.{under}

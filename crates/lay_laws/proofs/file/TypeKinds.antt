@@ -7,19 +7,19 @@ use Rattle.lay_form.specs.Form as form
 use Rattle.lay_form.specs.Form.{Blank, Form, Done, Piece, keyword, opener, closer}
 use Rattle.lay_form.specs.Notation.{piece, when}
 use Rattle.lay_form.specs.Pieces.{are_pieces}
-use Rattle.lay_tree.specs.nodes.Attr.{are_attrs, is_empty}
-use Rattle.lay_tree.specs.nodes.Call.{about_call}
-use Rattle.lay_tree.specs.nodes.Facts.{Facts, forms, all_good}
-use Rattle.lay_tree.specs.nodes.Types.{TypeFacts, pointer_word, type_forms, all_types_good, ArgsFacts, PathFacts, output_form, output_good, bounds_form, deeper, tuple_form, ref_lifetime, param_name, is_param_name, func_param_facts, dots, params_form, ty_facts, lifetime_form, binder_form, is_binder, abi_form, is_abi}
-use Rattle.lay_tree.specs.tokens.Lexed.{is_token_list}
-use Rattle.lay_tree.specs.tokens.Lists.{ends_in_line}
-use Rattle.lay_tree.specs.declared.token.Lifetime.{Lifetime}
-use Rattle.lay_tree.specs.declared.token.Listed.{Listed}
-use Rattle.lay_tree.specs.declared.types.Abi.{Abi}
-use Rattle.lay_tree.specs.declared.types.Arg.TheOpen.{Ty-F, FuncParam-F}
-use Rattle.lay_tree.specs.declared.types.Binder.{Binder}
-use Rattle.lay_tree.specs.declared.types.PathStyle.TheVariants as style
-use Rattle.lay_tree.specs.declared.tokens.MacroCall.{MacroCall}
+use Rattle.lay_node.specs.nodes.Attr.{are_attrs, is_empty}
+use Rattle.lay_node.specs.nodes.Call.{about_call}
+use Rattle.lay_node.specs.nodes.Facts.{Facts, forms, all_good}
+use Rattle.lay_node.specs.nodes.Types.{TypeFacts, pointer_word, type_forms, all_types_good, ArgsFacts, PathFacts, output_form, output_good, bounds_form, deeper, tuple_form, ref_lifetime, param_name, is_param_name, func_param_facts, dots, params_form, ty_facts, lifetime_form, binder_form, is_binder, abi_form, is_abi}
+use Rattle.lay_node.specs.tokens.Lexed.{is_token_list}
+use Rattle.lay_node.specs.tokens.Lists.{ends_in_line}
+use Rattle.lay_node.specs.declared.token.Lifetime.{Lifetime}
+use Rattle.lay_node.specs.declared.token.Listed.{Listed}
+use Rattle.lay_node.specs.declared.types.Abi.{Abi}
+use Rattle.lay_node.specs.declared.types.Arg.TheOpen.{Ty-F, FuncParam-F}
+use Rattle.lay_node.specs.declared.types.Binder.{Binder}
+use Rattle.lay_node.specs.declared.types.PathStyle.TheVariants as style
+use Rattle.lay_node.specs.declared.tokens.MacroCall.{MacroCall}
 use Rattle.lay_laws.proofs.borders.Need as need
 use Rattle.lay_laws.proofs.borders.Need.{RawWord, Grow}
 use Rattle.lay_laws.proofs.borders.Border.{Border, Clear}

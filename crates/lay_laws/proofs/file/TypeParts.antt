@@ -13,20 +13,20 @@ use Rattle.lay_form.specs.Form as form
 use Rattle.lay_form.specs.Form.{Blank, Operator, Form, Done, Piece, Leaf}
 use Rattle.lay_form.specs.Notation.{H, comma_list}
 use Rattle.lay_form.specs.Pieces.{is_text_of, are_pieces}
-use Rattle.lay_tree.specs.Words.{is_literal, is_number, is_string}
-use Rattle.lay_tree.specs.nodes.Attr.{is_attr, are_attrs, attr_form, behind_attr, is_inner, is_line}
-use Rattle.lay_tree.specs.nodes.Types.{joined, less, greater, param_attrs, param_name, lifetime_form, lifetimes_form, outlived_form, lifetime_param_form, is_lifetime_param, binder_form, is_binder, const_form, is_const, abi_name, abi_form, is_abi_name, is_abi, colon}
-use Rattle.lay_tree.specs.declared.attr.Attr.{Attr}
-use Rattle.lay_tree.specs.declared.attr.Attr.TheVariants as attr
-use Rattle.lay_tree.specs.declared.token.GivenName.{GivenName}
-use Rattle.lay_tree.specs.declared.token.GivenName.TheVariants as given
-use Rattle.lay_tree.specs.declared.token.Lifetime.{Lifetime}
-use Rattle.lay_tree.specs.declared.token.Literal.{Literal}
-use Rattle.lay_tree.specs.declared.types.Abi.{Abi}
-use Rattle.lay_tree.specs.declared.types.Binder.{Binder}
-use Rattle.lay_tree.specs.declared.types.ConstArg.{ConstArg}
-use Rattle.lay_tree.specs.declared.types.ConstArg.TheVariants as const_arg
-use Rattle.lay_tree.specs.declared.types.LifetimeParam.{LifetimeParam}
+use Rattle.lay_node.specs.Words.{is_literal, is_number, is_string}
+use Rattle.lay_node.specs.nodes.Attr.{is_attr, are_attrs, attr_form, behind_attr, is_inner, is_line}
+use Rattle.lay_node.specs.nodes.Types.{joined, less, greater, param_attrs, param_name, lifetime_form, lifetimes_form, outlived_form, lifetime_param_form, is_lifetime_param, binder_form, is_binder, const_form, is_const, abi_name, abi_form, is_abi_name, is_abi, colon}
+use Rattle.lay_node.specs.declared.attr.Attr.{Attr}
+use Rattle.lay_node.specs.declared.attr.Attr.TheVariants as attr
+use Rattle.lay_node.specs.declared.token.GivenName.{GivenName}
+use Rattle.lay_node.specs.declared.token.GivenName.TheVariants as given
+use Rattle.lay_node.specs.declared.token.Lifetime.{Lifetime}
+use Rattle.lay_node.specs.declared.token.Literal.{Literal}
+use Rattle.lay_node.specs.declared.types.Abi.{Abi}
+use Rattle.lay_node.specs.declared.types.Binder.{Binder}
+use Rattle.lay_node.specs.declared.types.ConstArg.{ConstArg}
+use Rattle.lay_node.specs.declared.types.ConstArg.TheVariants as const_arg
+use Rattle.lay_node.specs.declared.types.LifetimeParam.{LifetimeParam}
 use Rattle.lay_laws.proofs.borders.Need as need
 use Rattle.lay_laws.proofs.borders.Need.{RawWord, LineDoc}
 use Rattle.lay_laws.proofs.borders.Border.{Other, Border, At}

@@ -7,24 +7,24 @@ use Rattle.lay_piece.specs.declared.kind.Delim.TheVariants.{Paren, Bracket, Brac
 use Rattle.lay_form.specs.Form as form
 use Rattle.lay_form.specs.Form.{Bit, Blank, Operator, Form, opener, closer, comma, semicolon}
 use Rattle.lay_form.specs.Pieces.{are_pieces}
-use Rattle.lay_tree.specs.Words.{colons}
-use Rattle.lay_tree.specs.nodes.Facts.{Facts}
-use Rattle.lay_tree.specs.nodes.Types.{colon, equals, segments_form, less, greater, about_type, about_path, about_start, about_args, about_arg, about_constraint, about_bound, about_func_param}
-use Rattle.lay_tree.specs.declared.token.Word.{Word}
-use Rattle.lay_tree.specs.declared.types.Arg.{Arg}
-use Rattle.lay_tree.specs.declared.types.Arg.TheFolds as type_fold
-use Rattle.lay_tree.specs.declared.types.Arg.TheOpen.{Arg-F, Args-F, Bound-F, Constraint-F, PathStart-F, Ty-F, FuncParam-F, Path-F}
-use Rattle.lay_tree.specs.declared.types.Arg.TheViews as views
-use Rattle.lay_tree.specs.declared.types.Args.{Args}
-use Rattle.lay_tree.specs.declared.types.Bound.{Bound}
-use Rattle.lay_tree.specs.declared.types.Constraint.{Constraint}
-use Rattle.lay_tree.specs.declared.types.FuncParam.{FuncParam}
-use Rattle.lay_tree.specs.declared.types.Path.{Path}
-use Rattle.lay_tree.specs.declared.types.PathStart.{PathStart}
-use Rattle.lay_tree.specs.declared.types.PathStyle.{PathStyle}
-use Rattle.lay_tree.specs.declared.types.Ty.{Ty}
-use Rattle.lay_tree.proofs.nodes.TypesLaws as laws
-use Rattle.lay_tree.proofs.nodes.TypesLaws.{about_segment}
+use Rattle.lay_node.specs.Words.{colons}
+use Rattle.lay_node.specs.nodes.Facts.{Facts}
+use Rattle.lay_node.specs.nodes.Types.{colon, equals, segments_form, less, greater, about_type, about_path, about_start, about_args, about_arg, about_constraint, about_bound, about_func_param}
+use Rattle.lay_node.specs.declared.token.Word.{Word}
+use Rattle.lay_node.specs.declared.types.Arg.{Arg}
+use Rattle.lay_node.specs.declared.types.Arg.TheFolds as type_fold
+use Rattle.lay_node.specs.declared.types.Arg.TheOpen.{Arg-F, Args-F, Bound-F, Constraint-F, PathStart-F, Ty-F, FuncParam-F, Path-F}
+use Rattle.lay_node.specs.declared.types.Arg.TheViews as views
+use Rattle.lay_node.specs.declared.types.Args.{Args}
+use Rattle.lay_node.specs.declared.types.Bound.{Bound}
+use Rattle.lay_node.specs.declared.types.Constraint.{Constraint}
+use Rattle.lay_node.specs.declared.types.FuncParam.{FuncParam}
+use Rattle.lay_node.specs.declared.types.Path.{Path}
+use Rattle.lay_node.specs.declared.types.PathStart.{PathStart}
+use Rattle.lay_node.specs.declared.types.PathStyle.{PathStyle}
+use Rattle.lay_node.specs.declared.types.Ty.{Ty}
+use Rattle.lay_node.proofs.nodes.TypesLaws as laws
+use Rattle.lay_node.proofs.nodes.TypesLaws.{about_segment}
 use Rattle.lay_laws.proofs.borders.Border.{Border, beyond}
 use Rattle.lay_laws.proofs.borders.Move.{under}
 use Rattle.lay_laws.proofs.forms.Passes.{plain}

@@ -8,22 +8,22 @@ use Rattle.lay_form.specs.Form.{Form, Done, Piece, opener, closer}
 use Rattle.lay_form.specs.Notation.{behind_attrs, with_commas}
 use Rattle.lay_form.specs.Notation as notation
 use Rattle.lay_form.specs.Pieces.{are_pieces}
-use Rattle.lay_tree.specs.Words.{is_name}
-use Rattle.lay_tree.specs.nodes.Attr.{are_attrs, attr_form, is_empty}
-use Rattle.lay_tree.specs.nodes.Fields.{are_fields, blank_if, discriminant_form, field_form, fields_form, has_comma, is_discriminant, is_field, is_tuple_field, is_variant, may_lead, named_form, tuple_field_form, tuple_form, variant_form}
-use Rattle.lay_tree.specs.nodes.Types.{about_type, colon, good_at}
-use Rattle.lay_tree.specs.nodes.Vis.{is_vis}
-use Rattle.lay_tree.specs.tokens.Lexed.{is_token_list}
-use Rattle.lay_tree.specs.tokens.Lists.{ends_in_line}
-use Rattle.lay_tree.specs.declared.attr.Attr.{Attr}
-use Rattle.lay_tree.specs.declared.fields.Field.{Field}
-use Rattle.lay_tree.specs.declared.fields.Fields.{Fields}
-use Rattle.lay_tree.specs.declared.fields.Fields.TheVariants as fields
-use Rattle.lay_tree.specs.declared.fields.TupleField.{TupleField}
-use Rattle.lay_tree.specs.declared.fields.Variant.{Variant}
-use Rattle.lay_tree.specs.declared.token.Listed.{Listed}
-use Rattle.lay_tree.specs.declared.types.Ty.{Ty}
-use Rattle.lay_tree.specs.declared.types.TypePlace.TheVariants.{Bounds}
+use Rattle.lay_node.specs.Words.{is_name}
+use Rattle.lay_node.specs.nodes.Attr.{are_attrs, attr_form, is_empty}
+use Rattle.lay_node.specs.nodes.Fields.{are_fields, blank_if, discriminant_form, field_form, fields_form, has_comma, is_discriminant, is_field, is_tuple_field, is_variant, may_lead, named_form, tuple_field_form, tuple_form, variant_form}
+use Rattle.lay_node.specs.nodes.Types.{about_type, colon, good_at}
+use Rattle.lay_node.specs.nodes.Vis.{is_vis}
+use Rattle.lay_node.specs.tokens.Lexed.{is_token_list}
+use Rattle.lay_node.specs.tokens.Lists.{ends_in_line}
+use Rattle.lay_node.specs.declared.attr.Attr.{Attr}
+use Rattle.lay_node.specs.declared.fields.Field.{Field}
+use Rattle.lay_node.specs.declared.fields.Fields.{Fields}
+use Rattle.lay_node.specs.declared.fields.Fields.TheVariants as fields
+use Rattle.lay_node.specs.declared.fields.TupleField.{TupleField}
+use Rattle.lay_node.specs.declared.fields.Variant.{Variant}
+use Rattle.lay_node.specs.declared.token.Listed.{Listed}
+use Rattle.lay_node.specs.declared.types.Ty.{Ty}
+use Rattle.lay_node.specs.declared.types.TypePlace.TheVariants.{Bounds}
 use Rattle.lay_laws.proofs.borders.Border.{Border}
 use Rattle.lay_laws.proofs.forms.Passes.{plain}
 use Rattle.lay_laws.proofs.forms.Rules.{tables, From, All, ends, fixed, part, list_fits, list, field_fits, body_fits, fielded, with_outer}

@@ -7,23 +7,23 @@ use Rattle.lay_form.specs.Form as form
 use Rattle.lay_form.specs.Form.{Blank, Form, Done, Piece, keyword, opener, closer}
 use Rattle.lay_form.specs.Notation.{when}
 use Rattle.lay_form.specs.Pieces.{are_pieces}
-use Rattle.lay_tree.specs.Words.{is_name, leaf_of}
-use Rattle.lay_tree.specs.nodes.Attr.{are_attrs}
-use Rattle.lay_tree.specs.nodes.Functions.{are_fn_params, ends_variadic, fn_head_form, fn_param_form, fn_params_form, head_output, is_fn_head, is_fn_param, is_param_kind, may_be_type, may_say, mut_word, param_kind_form, receives_first, safety_form, self_type, self_word, signature_form, varies_last}
-use Rattle.lay_tree.specs.nodes.Generics.{generics_form, is_generics}
-use Rattle.lay_tree.specs.nodes.Patterns.{about_pat, pat_form, pat_good}
-use Rattle.lay_tree.specs.nodes.Types.{abi_form, about_type, good_at, is_abi}
-use Rattle.lay_tree.specs.declared.functions.FnHead.{FnHead}
-use Rattle.lay_tree.specs.declared.functions.Param.{Param}
-use Rattle.lay_tree.specs.declared.functions.ParamKind.{ParamKind}
-use Rattle.lay_tree.specs.declared.functions.ParamKind.TheVariants as param
-use Rattle.lay_tree.specs.declared.functions.Safety.{Safety}
-use Rattle.lay_tree.specs.declared.functions.Safety.TheVariants as safety
-use Rattle.lay_tree.specs.declared.generics.Generics.{Generics}
-use Rattle.lay_tree.specs.declared.heads.Site.{Site}
-use Rattle.lay_tree.specs.declared.patterns.PatPlace.TheVariants.{Single}
-use Rattle.lay_tree.specs.declared.types.Ty.{Ty}
-use Rattle.lay_tree.specs.declared.types.TypePlace.TheVariants.{Bounds}
+use Rattle.lay_node.specs.Words.{is_name, leaf_of}
+use Rattle.lay_node.specs.nodes.Attr.{are_attrs}
+use Rattle.lay_node.specs.nodes.Functions.{are_fn_params, ends_variadic, fn_head_form, fn_param_form, fn_params_form, head_output, is_fn_head, is_fn_param, is_param_kind, may_be_type, may_say, mut_word, param_kind_form, receives_first, safety_form, self_type, self_word, signature_form, varies_last}
+use Rattle.lay_node.specs.nodes.Generics.{generics_form, is_generics}
+use Rattle.lay_node.specs.nodes.Patterns.{about_pat, pat_form, pat_good}
+use Rattle.lay_node.specs.nodes.Types.{abi_form, about_type, good_at, is_abi}
+use Rattle.lay_node.specs.declared.functions.FnHead.{FnHead}
+use Rattle.lay_node.specs.declared.functions.Param.{Param}
+use Rattle.lay_node.specs.declared.functions.ParamKind.{ParamKind}
+use Rattle.lay_node.specs.declared.functions.ParamKind.TheVariants as param
+use Rattle.lay_node.specs.declared.functions.Safety.{Safety}
+use Rattle.lay_node.specs.declared.functions.Safety.TheVariants as safety
+use Rattle.lay_node.specs.declared.generics.Generics.{Generics}
+use Rattle.lay_node.specs.declared.heads.Site.{Site}
+use Rattle.lay_node.specs.declared.patterns.PatPlace.TheVariants.{Single}
+use Rattle.lay_node.specs.declared.types.Ty.{Ty}
+use Rattle.lay_node.specs.declared.types.TypePlace.TheVariants.{Bounds}
 use Rattle.lay_laws.proofs.borders.Border.{Border}
 use Rattle.lay_laws.proofs.forms.Passes.{plain}
 use Rattle.lay_laws.proofs.forms.Rules.{tables, From, wider, ends, fixed, dotted, part, list_fits, list}

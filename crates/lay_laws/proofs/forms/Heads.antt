@@ -6,33 +6,33 @@ use Rattle.lay_form.specs.Form as form
 use Rattle.lay_form.specs.Form.{Bit, Blank, Form, Done, Piece, keyword, opener, closer, semicolon}
 use Rattle.lay_form.specs.Notation.{piece}
 use Rattle.lay_form.specs.Pieces.{are_pieces}
-use Rattle.lay_tree.specs.Words.{is_name, leaf_of}
-use Rattle.lay_tree.specs.nodes.Fields.{are_fields, blank_if, is_field, is_variant}
-use Rattle.lay_tree.specs.nodes.Functions.{mut_word}
-use Rattle.lay_tree.specs.nodes.Generics.{are_bounds, bounded_form, default_form, generics_form, is_default, is_generics}
-use Rattle.lay_tree.specs.nodes.Heads.{HeadFacts, seen, leads, about_extern_crate, may_be_given, about_alias, head_fields, struct_tail, about_struct, about_union, about_enum, of_type, value_head_form, is_value_head, trait_head_form, is_trait_head, trait_ref_form, is_trait_ref, impl_head_form, is_impl_head, opens_less}
-use Rattle.lay_tree.specs.nodes.Types.{about_path, about_type, good_at, is_given, is_there}
-use Rattle.lay_tree.specs.nodes.Use.{rename_form}
-use Rattle.lay_tree.specs.nodes.Vis.{vis_form}
-use Rattle.lay_tree.specs.nodes.Where.{are_predicates, wheres_before_body, wheres_before_semicolon}
-use Rattle.lay_tree.specs.declared.fields.Fields.{Fields}
-use Rattle.lay_tree.specs.declared.fields.Fields.TheVariants as fields
-use Rattle.lay_tree.specs.declared.generics.Wheres.{Wheres}
-use Rattle.lay_tree.specs.declared.heads.Alias.{Alias}
-use Rattle.lay_tree.specs.declared.heads.Enum.{Enum}
-use Rattle.lay_tree.specs.declared.heads.ExternCrate.{ExternCrate}
-use Rattle.lay_tree.specs.declared.heads.ImplHead.{ImplHead}
-use Rattle.lay_tree.specs.declared.heads.Site.{Site}
-use Rattle.lay_tree.specs.declared.heads.Struct.{Struct}
-use Rattle.lay_tree.specs.declared.heads.TraitHead.{TraitHead}
-use Rattle.lay_tree.specs.declared.heads.TraitRef.{TraitRef}
-use Rattle.lay_tree.specs.declared.heads.Union.{Union}
-use Rattle.lay_tree.specs.declared.heads.ValueHead.{ValueHead}
-use Rattle.lay_tree.specs.declared.heads.ValueHead.TheVariants as value
-use Rattle.lay_tree.specs.declared.token.GivenName.TheVariants as given
-use Rattle.lay_tree.specs.declared.types.PathStyle.TheVariants.{Kind}
-use Rattle.lay_tree.specs.declared.types.TypePlace.TheVariants.{Bounds}
-use Rattle.lay_tree.specs.declared.vis.Vis.{Vis}
+use Rattle.lay_node.specs.Words.{is_name, leaf_of}
+use Rattle.lay_node.specs.nodes.Fields.{are_fields, blank_if, is_field, is_variant}
+use Rattle.lay_node.specs.nodes.Functions.{mut_word}
+use Rattle.lay_node.specs.nodes.Generics.{are_bounds, bounded_form, default_form, generics_form, is_default, is_generics}
+use Rattle.lay_node.specs.nodes.Heads.{HeadFacts, seen, leads, about_extern_crate, may_be_given, about_alias, head_fields, struct_tail, about_struct, about_union, about_enum, of_type, value_head_form, is_value_head, trait_head_form, is_trait_head, trait_ref_form, is_trait_ref, impl_head_form, is_impl_head, opens_less}
+use Rattle.lay_node.specs.nodes.Types.{about_path, about_type, good_at, is_given, is_there}
+use Rattle.lay_node.specs.nodes.Use.{rename_form}
+use Rattle.lay_node.specs.nodes.Vis.{vis_form}
+use Rattle.lay_node.specs.nodes.Where.{are_predicates, wheres_before_body, wheres_before_semicolon}
+use Rattle.lay_node.specs.declared.fields.Fields.{Fields}
+use Rattle.lay_node.specs.declared.fields.Fields.TheVariants as fields
+use Rattle.lay_node.specs.declared.generics.Wheres.{Wheres}
+use Rattle.lay_node.specs.declared.heads.Alias.{Alias}
+use Rattle.lay_node.specs.declared.heads.Enum.{Enum}
+use Rattle.lay_node.specs.declared.heads.ExternCrate.{ExternCrate}
+use Rattle.lay_node.specs.declared.heads.ImplHead.{ImplHead}
+use Rattle.lay_node.specs.declared.heads.Site.{Site}
+use Rattle.lay_node.specs.declared.heads.Struct.{Struct}
+use Rattle.lay_node.specs.declared.heads.TraitHead.{TraitHead}
+use Rattle.lay_node.specs.declared.heads.TraitRef.{TraitRef}
+use Rattle.lay_node.specs.declared.heads.Union.{Union}
+use Rattle.lay_node.specs.declared.heads.ValueHead.{ValueHead}
+use Rattle.lay_node.specs.declared.heads.ValueHead.TheVariants as value
+use Rattle.lay_node.specs.declared.token.GivenName.TheVariants as given
+use Rattle.lay_node.specs.declared.types.PathStyle.TheVariants.{Kind}
+use Rattle.lay_node.specs.declared.types.TypePlace.TheVariants.{Bounds}
+use Rattle.lay_node.specs.declared.vis.Vis.{Vis}
 use Rattle.lay_laws.proofs.borders.Border.{Border}
 use Rattle.lay_laws.proofs.forms.Passes.{plain}
 use Rattle.lay_laws.proofs.forms.Rules.{tables, From, ends, fixed, within, part, body_fits, where_fits, under-refl}

@@ -5,25 +5,25 @@ use Rattle.lay_layout.specs.Document.{Document}
 use Rattle.lay_form.specs.Form.{Blank, Form, Piece, keyword, Part}
 use Rattle.lay_form.specs.Layout.{laid_out}
 use Rattle.lay_form.specs.Notation.{when}
-use Rattle.lay_tree.specs.nodes.Functions.{fn_head_form, safety_form, signature_form}
-use Rattle.lay_tree.specs.nodes.Heads.{HeadFacts, seen, about_extern_crate, about_alias, about_struct, about_union, about_enum, value_head_form, unsafe_form, trait_head_form, impl_head_form}
-use Rattle.lay_tree.specs.nodes.Types.{abi_form}
-use Rattle.lay_tree.specs.declared.functions.FnHead.{FnHead}
-use Rattle.lay_tree.specs.declared.functions.Safety.{Safety}
-use Rattle.lay_tree.specs.declared.functions.Safety.TheVariants as safety
-use Rattle.lay_tree.specs.declared.heads.Alias.{Alias}
-use Rattle.lay_tree.specs.declared.heads.Enum.{Enum}
-use Rattle.lay_tree.specs.declared.heads.ExternCrate.{ExternCrate}
-use Rattle.lay_tree.specs.declared.heads.ImplHead.{ImplHead}
-use Rattle.lay_tree.specs.declared.heads.Site.{Site}
-use Rattle.lay_tree.specs.declared.heads.Struct.{Struct}
-use Rattle.lay_tree.specs.declared.heads.TraitHead.{TraitHead}
-use Rattle.lay_tree.specs.declared.heads.Union.{Union}
-use Rattle.lay_tree.specs.declared.heads.ValueHead.{ValueHead}
-use Rattle.lay_tree.specs.declared.heads.ValueHead.TheVariants as value
-use Rattle.lay_tree.specs.declared.types.Abi.{Abi}
-use Rattle.lay_tree.specs.declared.vis.Vis.{Vis}
-use Rattle.lay_tree.specs.declared.vis.Vis.TheVariants as vis
+use Rattle.lay_node.specs.nodes.Functions.{fn_head_form, safety_form, signature_form}
+use Rattle.lay_node.specs.nodes.Heads.{HeadFacts, seen, about_extern_crate, about_alias, about_struct, about_union, about_enum, value_head_form, unsafe_form, trait_head_form, impl_head_form}
+use Rattle.lay_node.specs.nodes.Types.{abi_form}
+use Rattle.lay_node.specs.declared.functions.FnHead.{FnHead}
+use Rattle.lay_node.specs.declared.functions.Safety.{Safety}
+use Rattle.lay_node.specs.declared.functions.Safety.TheVariants as safety
+use Rattle.lay_node.specs.declared.heads.Alias.{Alias}
+use Rattle.lay_node.specs.declared.heads.Enum.{Enum}
+use Rattle.lay_node.specs.declared.heads.ExternCrate.{ExternCrate}
+use Rattle.lay_node.specs.declared.heads.ImplHead.{ImplHead}
+use Rattle.lay_node.specs.declared.heads.Site.{Site}
+use Rattle.lay_node.specs.declared.heads.Struct.{Struct}
+use Rattle.lay_node.specs.declared.heads.TraitHead.{TraitHead}
+use Rattle.lay_node.specs.declared.heads.Union.{Union}
+use Rattle.lay_node.specs.declared.heads.ValueHead.{ValueHead}
+use Rattle.lay_node.specs.declared.heads.ValueHead.TheVariants as value
+use Rattle.lay_node.specs.declared.types.Abi.{Abi}
+use Rattle.lay_node.specs.declared.vis.Vis.{Vis}
+use Rattle.lay_node.specs.declared.vis.Vis.TheVariants as vis
 use Rattle.lay_laws.proofs.file.FirstText.{Fair, first_text, low_fair}
 
 -- The form begins fairly, whatever is laid out behind it.

@@ -9,8 +9,8 @@ use Rattle.lay_token.specs.Lexes.{text_of_piece}
 use Rattle.lay_piece.specs.declared.kind.Kind.{Kind}
 use Rattle.lay_piece.specs.declared.kind.Kind.TheVariants.{RawIdent, Doc}
 use Rattle.lay_form.specs.Pieces.{is_text_of}
-use Rattle.lay_tree.specs.tokens.Listing.{is_doc_kind, is_doc_text}
-use Rattle.lay_tree.proofs.Scalars.{scalars_append}
+use Rattle.lay_node.specs.tokens.Listing.{is_doc_kind, is_doc_text}
+use Rattle.lay_node.proofs.Scalars.{scalars_append}
 use Rattle.lay_laws.proofs.texts.Laid.{as_block, block_end, raw, is_laid, is_leaf_kind}
 use Rattle.lay_laws.proofs.texts.CleanPieces.{form_clean}
 use Rattle.lay_laws.proofs.texts.DocTexts.{doc_fine}

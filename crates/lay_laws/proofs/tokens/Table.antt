@@ -2,7 +2,7 @@
 use Rattle.std.proofs.Common.{◌≡◌, ◌⊎◌, inl, inr, List, [], ◌∷◌, Bool, true, false, cond, ◌&&◌, ◌||◌, refl, codes}
 use Rattle.std.specs.List.{list_all}
 use Rattle.std.proofs.lemmas.Bool.{and_parts}
-use Rattle.lay_tree.specs.tokens.Pairs.{Neighbour, Seen, Separation, NoBreak, SoftBreak, HardBreak, first_row, rows, between, is_mark, is_joint_neighbour, is_punct_neighbour, is_doc, is_line_doc, is_number, is_nothing}
+use Rattle.lay_node.specs.tokens.Pairs.{Neighbour, Seen, Separation, NoBreak, SoftBreak, HardBreak, first_row, rows, between, is_mark, is_joint_neighbour, is_punct_neighbour, is_doc, is_line_doc, is_number, is_nothing}
 
 abbrev Rows : Type 0
 Rows = List (Bool × Separation)

@@ -4,28 +4,28 @@
 use Rattle.std.proofs.Common.{◌≡◌, ℕ, suc, ◌≤◌, ◌==◌, Bool, true, false, not, ◌&&◌, ◌||◌, if◌then◌else◌, List, [], ◌∷◌, ◌++◌, map, Option, Some, None, refl, sym, ap, subst, ◌∙◌, arith}
 use Rattle.std.specs.Prelude.{nat_le}
 use Rattle.std.proofs.lemmas.Bool.{and_parts, and_from, leb-true, le-leb}
-use Rattle.lay_tree.specs.Ahead.{Tokens}
-use Rattle.lay_tree.specs.Follow.{OfBang, OfColons}
+use Rattle.lay_node.specs.Ahead.{Tokens}
+use Rattle.lay_node.specs.Follow.{OfBang, OfColons}
+use Rattle.lay_node.specs.nodes.Facts.{Facts}
+use Rattle.lay_node.specs.nodes.Types.{ArgsFacts, PathFacts, about_args, about_path, about_start, is_there, path_facts, segment_good, segments_good, segments_refuse}
+use Rattle.lay_node.specs.declared.token.Lifetime.{Lifetime}
+use Rattle.lay_node.specs.declared.token.Listed.{Listed}
+use Rattle.lay_node.specs.declared.token.Literal.{Literal}
+use Rattle.lay_node.specs.declared.token.Word.{Word}
+use Rattle.lay_node.specs.declared.tokens.MacroCall.{MacroCall}
+use Rattle.lay_node.specs.declared.types.Args.{Args}
+use Rattle.lay_node.specs.declared.types.Path.{Path}
+use Rattle.lay_node.specs.declared.types.PathStyle.TheVariants.{Code}
+use Rattle.lay_node.specs.declared.types.Ty.{Ty}
+use Rattle.lay_node.proofs.nodes.TypesLaws.{ArgsView, IsNone, IsAngle, IsRound, args_view, args_none_is, args_angle_is, args_round_is, path_is, about_segment}
 use Rattle.lay_tree.specs.Operators.{op_level, is_angle_op, strength}
 use Rattle.lay_tree.specs.nodes.Exprs.{StepFacts, Tail, ExprFacts, shut, shut_by, is_open, is_typed, is_field, may, stands, placed, root_follows, tail_follows, follows, expr_facts, ends_in_amp, is_prefix_lead, begins_free, start_placed, targets_placed, is_chain_level, may_chain, operands_placed, tail_of_operands, tail_of_steps, lacks_args}
-use Rattle.lay_tree.specs.nodes.Facts.{Facts}
 use Rattle.lay_tree.specs.nodes.Places.{plain, before_op, begins, is_part, is_whole}
-use Rattle.lay_tree.specs.nodes.Types.{ArgsFacts, PathFacts, about_args, about_path, about_start, is_there, path_facts, segment_good, segments_good, segments_refuse}
 use Rattle.lay_tree.specs.declared.exprs.Expr.TheOpen.{Expr-F}
 use Rattle.lay_tree.specs.declared.exprs.Place.{Place}
 use Rattle.lay_tree.specs.declared.exprs.Start.TheVariants as start
 use Rattle.lay_tree.specs.declared.operators.Op.{Op}
 use Rattle.lay_tree.specs.declared.operators.Prefix.{Prefix}
-use Rattle.lay_tree.specs.declared.token.Lifetime.{Lifetime}
-use Rattle.lay_tree.specs.declared.token.Listed.{Listed}
-use Rattle.lay_tree.specs.declared.token.Literal.{Literal}
-use Rattle.lay_tree.specs.declared.token.Word.{Word}
-use Rattle.lay_tree.specs.declared.tokens.MacroCall.{MacroCall}
-use Rattle.lay_tree.specs.declared.types.Args.{Args}
-use Rattle.lay_tree.specs.declared.types.Path.{Path}
-use Rattle.lay_tree.specs.declared.types.PathStyle.TheVariants.{Code}
-use Rattle.lay_tree.specs.declared.types.Ty.{Ty}
-use Rattle.lay_tree.proofs.nodes.TypesLaws.{ArgsView, IsNone, IsAngle, IsRound, args_view, args_none_is, args_angle_is, args_round_is, path_is, about_segment}
 
 abbrev Iff : Type 0 → Type 0 → Type 0
 Iff A B = (A → B) × (B → A)

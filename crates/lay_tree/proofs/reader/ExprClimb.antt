@@ -3,12 +3,13 @@ use Rattle.std.proofs.Common.{◌≡◌, ℕ, zero, suc, ◌≤◌, Bool, true, 
 use Rattle.std.specs.Prelude.{◌==◌}
 use Rattle.std.proofs.lemmas.Bool.{and_parts, lt-leb, leb-false}
 use Rattle.lay_form.specs.Spelled.{Spells}
-use Rattle.lay_tree.specs.Ahead.{Tokens}
+use Rattle.lay_node.specs.Ahead.{Tokens}
+use Rattle.lay_node.specs.reader.Loops.{◌>>=◌}
+use Rattle.lay_node.proofs.reader.TypesComplete.{and_none}
 use Rattle.lay_tree.specs.Operators.{is_angle, is_dot_or_try, strength}
 use Rattle.lay_tree.specs.nodes.Exprs.{ExprFacts, stands, placed, tail_follows, about_expr}
 use Rattle.lay_tree.specs.nodes.Places.{begins, is_whole, part_if, before_op}
 use Rattle.lay_tree.specs.reader.Exprs.{ExprWithin, stage, left_place, climb, is_ended}
-use Rattle.lay_tree.specs.reader.Loops.{◌>>=◌}
 use Rattle.lay_tree.specs.declared.exprs.Expr.{Expr}
 use Rattle.lay_tree.specs.declared.exprs.Place.{Place}
 use Rattle.lay_tree.specs.declared.exprs.Start.{Start}
@@ -17,7 +18,6 @@ use Rattle.lay_tree.proofs.reader.ExprHeads.{Headed, IsHead}
 use Rattle.lay_tree.proofs.reader.ExprOperators.{not_at_level}
 use Rattle.lay_tree.proofs.reader.ExprOperatorsTails.{BeforeOp, before_parts}
 use Rattle.lay_tree.proofs.reader.ExprReads.{head_at}
-use Rattle.lay_tree.proofs.reader.TypesComplete.{and_none}
 
 -- A part of what begins a statement begins one.
 part_begins : (b : Bool) → begins (part_if b) ≡ b

@@ -4,15 +4,17 @@ use Rattle.std.specs.Prelude.{◌==◌}
 use Rattle.std.proofs.lemmas.Bool.{and_parts, lt-leb}
 use Rattle.lay_form.specs.Form.{Operator, Form, Done, Piece}
 use Rattle.lay_form.specs.Spelled.{Spells}
-use Rattle.lay_tree.specs.Ahead.{Tokens}
+use Rattle.lay_node.specs.Ahead.{Tokens}
+use Rattle.lay_node.specs.nodes.Facts.{Facts}
+use Rattle.lay_node.specs.nodes.Patterns.{dots}
+use Rattle.lay_node.specs.nodes.Types.{about_type, is_there}
+use Rattle.lay_node.specs.reader.Loops.{nodes, deepest, repeat}
+use Rattle.lay_node.specs.declared.types.Ty.{Ty}
+use Rattle.lay_node.proofs.Parts.{bit_alone}
 use Rattle.lay_tree.specs.Operators.{op_level, angle_by, is_angle, is_angle_op, is_dot_or_try, strength}
 use Rattle.lay_tree.specs.nodes.Exprs.{ExprFacts, StepFacts, Tail, placed, tail_follows, operands_form, end_form, is_chain_level, may_chain, operands_placed, targets_placed, end_placed, is_tuple_index, is_dotted, are_steps, types_good, tail_of_end, tail_of_steps, inside, tail_of, expr_facts, about_expr, about_step}
-use Rattle.lay_tree.specs.nodes.Facts.{Facts}
-use Rattle.lay_tree.specs.nodes.Patterns.{dots}
 use Rattle.lay_tree.specs.nodes.Places.{plain, begins, part_if, before_op}
-use Rattle.lay_tree.specs.nodes.Types.{about_type, is_there}
 use Rattle.lay_tree.specs.reader.Exprs.{ExprWithin, operands, chain_expr, assign_expr, one_type, cast_expr, stage}
-use Rattle.lay_tree.specs.reader.Loops.{nodes, deepest, repeat}
 use Rattle.lay_tree.specs.declared.exprs.Expr.{Expr}
 use Rattle.lay_tree.specs.declared.exprs.Expr.TheOpen.{Expr-F}
 use Rattle.lay_tree.specs.declared.exprs.Expr.TheVariants as expr
@@ -20,8 +22,6 @@ use Rattle.lay_tree.specs.declared.exprs.Place.{Place}
 use Rattle.lay_tree.specs.declared.exprs.Step.{Step}
 use Rattle.lay_tree.specs.declared.operators.Op.{Op}
 use Rattle.lay_tree.specs.declared.operators.Op.TheVariants as op
-use Rattle.lay_tree.specs.declared.types.Ty.{Ty}
-use Rattle.lay_tree.proofs.Parts.{bit_alone}
 use Rattle.lay_tree.proofs.nodes.ExprsLaws.{behind_op, before_op as target_of, expr_chain_is, expr_cast_is, expr_range_is, expr_assign_is, expr_postfix_is}
 use Rattle.lay_tree.proofs.reader.ExprClimb.{Reach, Known, Reaches, Operand, reach_on, operand_reached, operand_stands}
 use Rattle.lay_tree.proofs.reader.ExprHeadsJumps.{range_read}

@@ -2,19 +2,20 @@
 use Rattle.std.proofs.Common.{◌≡◌, ℕ, zero, suc, ◌≤◌, Bool, true, false, not, ◌&&◌, nat_le, map, option_map, Some, None, refl, sym, ap, subst, ◌∙◌, arith, le-leb, leb-true}
 use Rattle.std.proofs.lemmas.Bool.{and_parts}
 use Rattle.lay_form.specs.Spelled.{Spells}
-use Rattle.lay_tree.specs.Ahead.{Tokens}
+use Rattle.lay_node.specs.Ahead.{Tokens}
+use Rattle.lay_node.specs.nodes.Facts.{Facts}
+use Rattle.lay_node.specs.reader.Types as types
+use Rattle.lay_node.proofs.reader.Exact.{IsRead}
+use Rattle.lay_node.proofs.reader.TypesCompleteKinds.{within_reads}
 use Rattle.lay_tree.specs.Operators.{is_dot_or_try, strength}
 use Rattle.lay_tree.specs.nodes.Exprs.{ExprFacts, StepFacts, stands, placed, root_follows, follows, tail_follows, level_of, is_block_like, expr_facts, about_expr, about_field_expr, about_step}
-use Rattle.lay_tree.specs.nodes.Facts.{Facts}
 use Rattle.lay_tree.specs.nodes.Places.{begins, is_whole}
 use Rattle.lay_tree.specs.reader.Exprs.{ExprWithin, climb, is_ended, accepted, expr_by, expr_in}
-use Rattle.lay_tree.specs.reader.Types as types
 use Rattle.lay_tree.specs.declared.exprs.Expr.{Expr}
 use Rattle.lay_tree.specs.declared.exprs.Expr.TheOpen.{Expr-F}
 use Rattle.lay_tree.specs.declared.exprs.Expr.TheVariants as expr
 use Rattle.lay_tree.specs.declared.exprs.Place.{Place}
 use Rattle.lay_tree.proofs.nodes.ExprsLaws.{ExprView, IsLit, IsPath, IsUnderscore, IsCall, IsParen, IsContinue, IsTuple, IsArray, IsRepeat, IsStruct, IsChain, IsCast, IsUnary, IsRange, IsAssign, IsPostfix, IsReturn, IsBreak, expr_view, behind_op, before_op as target_of, expr_lit_is, expr_path_is, expr_underscore_is, expr_call_is, expr_paren_is, expr_continue_is, expr_tuple_is, expr_array_is, expr_repeat_is, expr_struct_is, expr_chain_is, expr_cast_is, expr_unary_is, expr_range_is, expr_assign_is, expr_postfix_is, expr_return_is, expr_break_is}
-use Rattle.lay_tree.proofs.reader.Exact.{IsRead}
 use Rattle.lay_tree.proofs.reader.ExprClimb.{Reach, Known, Reaches, climb_ends, headed}
 use Rattle.lay_tree.proofs.reader.ExprClimbKinds.{chain_reached, cast_reached, range_reached, assign_reached, postfix_reached}
 use Rattle.lay_tree.proofs.reader.ExprFronts.{no_depth}
@@ -27,7 +28,6 @@ use Rattle.lay_tree.proofs.reader.ExprHeadsWords.{lit_head, underscore_head, cal
 use Rattle.lay_tree.proofs.reader.ExprOperators.{strength_most}
 use Rattle.lay_tree.proofs.reader.ExprOperatorsTails.{stands_parts}
 use Rattle.lay_tree.proofs.reader.ExprReads.{ExprReads, head_at}
-use Rattle.lay_tree.proofs.reader.TypesCompleteKinds.{within_reads}
 
 module _ (most : ℕ) (within : ExprWithin) (reads : (depth : ℕ) → depth ≤ most → ExprReads depth within) (place : Place) where
   -- ---- every expression is reached

@@ -1,12 +1,12 @@
 -- Expressions are read exactly where they stand.
 use Rattle.std.proofs.Common.{◌≡◌, ℕ, drop}
-use Rattle.lay_tree.specs.Ahead.{Tokens}
+use Rattle.lay_node.specs.Ahead.{Tokens}
+use Rattle.lay_node.specs.reader.Exact.{Exact}
+use Rattle.lay_node.proofs.reader.Exact.{one_by_reading}
 use Rattle.lay_tree.specs.nodes.Exprs.{about_expr, ExprFront}
-use Rattle.lay_tree.specs.reader.Exact.{Exact}
 use Rattle.lay_tree.specs.reader.Exprs.{expr_at}
 use Rattle.lay_tree.specs.declared.exprs.Expr.{Expr}
 use Rattle.lay_tree.specs.declared.exprs.Place.{Place}
-use Rattle.lay_tree.proofs.reader.Exact.{one_by_reading}
 use Rattle.lay_tree.proofs.reader.ExprComplete.{expr_read}
 use Rattle.lay_tree.proofs.reader.ExprSound.{exprs_stand}
 

@@ -10,15 +10,21 @@ use Rattle.lay_form.specs.Form.{Bit, Blank, Fixed, Operator, Form, Done, Piece, 
 use Rattle.lay_form.specs.Notation.{Z, N, piece, each, comma_gap, last_break, comma_list, braces}
 use Rattle.lay_form.specs.Spelled.{IsOne, AreBits, Spells}
 use Rattle.lay_form.proofs.FormLaws.{shorter}
-use Rattle.lay_tree.specs.Ahead.{Tokens}
+use Rattle.lay_node.specs.Ahead.{Tokens}
+use Rattle.lay_node.specs.nodes.Facts.{Facts, all_good}
+use Rattle.lay_node.specs.nodes.Patterns.{dots}
+use Rattle.lay_node.specs.nodes.Types.{about_path, about_type, is_there}
+use Rattle.lay_node.specs.tokens.Lists.{token_list}
+use Rattle.lay_node.specs.declared.types.Path.{Path}
+use Rattle.lay_node.specs.declared.types.PathStyle.TheVariants.{Code}
+use Rattle.lay_node.specs.declared.types.Ty.{Ty}
+use Rattle.lay_node.proofs.Fronts.{one_shorter, op_shorter}
+use Rattle.lay_node.proofs.Parts.{bit_alone}
+use Rattle.lay_node.proofs.reader.TypesBegins.{path_begins, call_begins}
 use Rattle.lay_tree.specs.Operands.{ExprLead, ByPath, ByUnderscore, ByParen, ByBracket, ByPrefix, ByRange, ByContinue, ByBreak, ByReturn, expr_lead_by, expr_lead_at}
 use Rattle.lay_tree.specs.Operators.{op_text, op_level}
 use Rattle.lay_tree.specs.nodes.Exprs.{ExprFacts, StepFacts, stands, placed, expr_forms, tuple_form, base_form, operands_form, types_form, prefix_bits, prefixes_form, end_form, targets_form, label_form, operand_form, level_of_chain, next_is_angle, is_chain_level, may_chain, operands_placed, targets_placed, end_placed, base_placed, first_step, is_tuple_index, is_dotted, are_steps, types_good, methods, steps_form, group_if, inside, lead_of, within_of, expr_facts, about_expr, about_field_expr, about_step}
-use Rattle.lay_tree.specs.nodes.Facts.{Facts, all_good}
-use Rattle.lay_tree.specs.nodes.Patterns.{dots}
 use Rattle.lay_tree.specs.nodes.Places.{plain, begins, before_op}
-use Rattle.lay_tree.specs.nodes.Types.{about_path, about_type, is_there}
-use Rattle.lay_tree.specs.tokens.Lists.{token_list}
 use Rattle.lay_tree.specs.declared.exprs.Expr.{Expr}
 use Rattle.lay_tree.specs.declared.exprs.Expr.TheOpen.{Expr-F}
 use Rattle.lay_tree.specs.declared.exprs.Expr.TheVariants as expr
@@ -27,14 +33,8 @@ use Rattle.lay_tree.specs.declared.exprs.Step.{Step}
 use Rattle.lay_tree.specs.declared.operators.Op.{Op}
 use Rattle.lay_tree.specs.declared.operators.Prefix.{Prefix}
 use Rattle.lay_tree.specs.declared.operators.Prefix.TheVariants as before
-use Rattle.lay_tree.specs.declared.types.Path.{Path}
-use Rattle.lay_tree.specs.declared.types.PathStyle.TheVariants.{Code}
-use Rattle.lay_tree.specs.declared.types.Ty.{Ty}
-use Rattle.lay_tree.proofs.Fronts.{one_shorter, op_shorter}
-use Rattle.lay_tree.proofs.Parts.{bit_alone}
 use Rattle.lay_tree.proofs.nodes.ExprsLaws.{ExprView, IsLit, IsPath, IsUnderscore, IsCall, IsParen, IsContinue, IsTuple, IsArray, IsRepeat, IsStruct, IsChain, IsCast, IsUnary, IsRange, IsAssign, IsPostfix, IsReturn, IsBreak, expr_view, behind_op, before_op as target_of, expr_lit_is, expr_path_is, expr_underscore_is, expr_call_is, expr_paren_is, expr_continue_is, expr_tuple_is, expr_array_is, expr_repeat_is, expr_struct_is, expr_chain_is, expr_cast_is, expr_unary_is, expr_range_is, expr_assign_is, expr_postfix_is, expr_return_is, expr_break_is}
 use Rattle.lay_tree.proofs.reader.ExprLeads.{lone_lead, literal_lead, path_lead, range_lead}
-use Rattle.lay_tree.proofs.reader.TypesBegins.{path_begins, call_begins}
 
 -- how an expression of which this is told begins
 pub record ExprBegun (x : ExprFacts) (ts rest : Tokens) : Type 0 where

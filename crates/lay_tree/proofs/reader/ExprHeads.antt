@@ -1,16 +1,16 @@
 -- What begins an expression is read where it is spelled: what is held of each kind that does. What operators go on with isn't.
 use Rattle.std.proofs.Common.{◌≡◌, ℕ, suc, Bool, true, not, ◌&&◌, nat_le, Some, ap, subst, ◌∙◌}
 use Rattle.lay_form.specs.Spelled.{Spells}
-use Rattle.lay_tree.specs.Ahead.{Tokens}
+use Rattle.lay_node.specs.Ahead.{Tokens}
+use Rattle.lay_node.specs.nodes.Facts.{Facts}
+use Rattle.lay_node.specs.nodes.Types.{deeper}
+use Rattle.lay_node.proofs.reader.Exact.{IsRead}
 use Rattle.lay_tree.specs.Operands.{expr_lead_at}
 use Rattle.lay_tree.specs.Operators.{strength}
 use Rattle.lay_tree.specs.nodes.Exprs.{ExprFacts, StepFacts, inside, level_of, lead_of, tail_of, is_struct_literal, within_of, expr_facts, about_expr, tail_follows}
-use Rattle.lay_tree.specs.nodes.Facts.{Facts}
-use Rattle.lay_tree.specs.nodes.Types.{deeper}
 use Rattle.lay_tree.specs.reader.Exprs.{ExprWithin, head_by}
 use Rattle.lay_tree.specs.declared.exprs.Expr.{Expr}
 use Rattle.lay_tree.specs.declared.exprs.Expr.TheOpen.{Expr-F}
-use Rattle.lay_tree.proofs.reader.Exact.{IsRead}
 use Rattle.lay_tree.proofs.reader.ExprFronts.{expr_begins}
 use Rattle.lay_tree.proofs.reader.ExprQuiet.{TailFits, tail_fits}
 use Rattle.lay_tree.proofs.reader.ExprReads.{HeadRead}

@@ -7,28 +7,28 @@ use Rattle.lay_piece.specs.declared.kind.Kind.TheVariants.{Ident, Lifetime}
 use Rattle.lay_token.specs.Operators.{is_op}
 use Rattle.lay_form.specs.Form.{Operator, Done, Piece, keyword}
 use Rattle.lay_form.specs.Spelled.{IsOperator, Spells}
-use Rattle.lay_tree.specs.Ahead.{Tokens, first, is_lifetime, is_lifetime_kind}
+use Rattle.lay_node.specs.Ahead.{Tokens, first, is_lifetime, is_lifetime_kind}
+use Rattle.lay_node.specs.nodes.Patterns.{dots}
+use Rattle.lay_node.specs.declared.token.Lifetime.{Lifetime as Label}
+use Rattle.lay_node.proofs.Fronts.{other_op}
+use Rattle.lay_node.proofs.Parts.{bit_alone, part_alone}
+use Rattle.lay_node.proofs.reader.Exact.{IsRead}
+use Rattle.lay_node.proofs.reader.TypesCompleteParts.{one_left, blank_left}
 use Rattle.lay_tree.specs.Operands.{ByLabel, expr_lead_by, expr_lead_at, begins_operand}
 use Rattle.lay_tree.specs.Operators.{strength}
 use Rattle.lay_tree.specs.nodes.Exprs.{ExprFacts, Tail, placed, tail_follows, follows, end_form, operand_form, label_form, tail_of_end, tail_of_jump, begins_free, end_placed, operand_placed, break_placed, about_expr}
-use Rattle.lay_tree.specs.nodes.Patterns.{dots}
 use Rattle.lay_tree.specs.nodes.Places.{plain}
 use Rattle.lay_tree.specs.reader.Exprs.{ExprWithin, operand_if, return_expr, break_expr, range_expr}
 use Rattle.lay_tree.specs.declared.exprs.Expr.{Expr}
 use Rattle.lay_tree.specs.declared.exprs.Expr.TheOpen.{Expr-F}
 use Rattle.lay_tree.specs.declared.exprs.Expr.TheVariants as expr
-use Rattle.lay_tree.specs.declared.token.Lifetime.{Lifetime as Label}
-use Rattle.lay_tree.proofs.Fronts.{other_op}
-use Rattle.lay_tree.proofs.Parts.{bit_alone, part_alone}
 use Rattle.lay_tree.proofs.nodes.ExprsLaws.{expr_range_is, expr_return_is, expr_break_is}
-use Rattle.lay_tree.proofs.reader.Exact.{IsRead}
 use Rattle.lay_tree.proofs.reader.ExprFronts.{placed_begins}
 use Rattle.lay_tree.proofs.reader.ExprHeads.{IsHead, head_of}
 use Rattle.lay_tree.proofs.reader.ExprHeadsWords.{label_read}
 use Rattle.lay_tree.proofs.reader.ExprLeads.{lead_operand, lead_no_lifetime}
 use Rattle.lay_tree.proofs.reader.ExprQuiet.{TailFits, fits_tail}
 use Rattle.lay_tree.proofs.reader.ExprReads.{ExprReads}
-use Rattle.lay_tree.proofs.reader.TypesCompleteParts.{one_left, blank_left}
 
 -- what is left behind an operand, in a plain place
 pub plain_follows : (x : ExprFacts) (level : ℕ) (no_struct : Bool) (ts : Tokens) → nat_le (strength ts) level ≡ true

@@ -11,32 +11,32 @@ use Rattle.lay_token.specs.Delimiters as delimiters
 use Rattle.lay_form.specs.Form.{Fixed, Form, punct, opener, closer}
 use Rattle.lay_form.specs.Notation.{comma_list}
 use Rattle.lay_form.specs.Spelled.{IsOne, Spells}
-use Rattle.lay_tree.specs.Ahead.{Tokens, first, tail, is_mark, closes}
-use Rattle.lay_tree.specs.nodes.Attr.{is_empty}
+use Rattle.lay_node.specs.Ahead.{Tokens, first, tail, is_mark, closes}
+use Rattle.lay_node.specs.nodes.Attr.{is_empty}
+use Rattle.lay_node.specs.reader.Loops.{passed, nodes, deepest, elements}
+use Rattle.lay_node.specs.reader.Tokens.{tokens}
+use Rattle.lay_node.specs.tokens.Lexed.{is_token_list}
+use Rattle.lay_node.specs.declared.token.Listed.{Listed}
+use Rattle.lay_node.proofs.Fronts.{one_front, one_test, mark_passed, closer_first, closer_passed}
+use Rattle.lay_node.proofs.Parts.{SpelledAt, Closed, Behind, Elements, bit_alone, before_blank, piece_bit, list_elements}
+use Rattle.lay_node.proofs.reader.Exact.{IsRead}
+use Rattle.lay_node.proofs.reader.Loops as loops
+use Rattle.lay_node.proofs.reader.TokenLists.{EndsRun, list_there}
+use Rattle.lay_node.proofs.reader.TypesCompleteParts.{one_left}
+use Rattle.lay_node.proofs.reader.TypesLists.{forms_of}
+use Rattle.lay_node.proofs.reader.VariantsComplete.{elements_of_map, list_read}
 use Rattle.lay_tree.specs.nodes.Exprs.{ExprFacts, placed, expr_forms, all_free, tuple_form, about_expr}
 use Rattle.lay_tree.specs.nodes.Places.{FREE}
 use Rattle.lay_tree.specs.reader.Exprs.{ExprWithin, free_elements, paren_expr, repeat_by, bracket_expr}
-use Rattle.lay_tree.specs.reader.Loops.{passed, nodes, deepest, elements}
-use Rattle.lay_tree.specs.reader.Tokens.{tokens}
-use Rattle.lay_tree.specs.tokens.Lexed.{is_token_list}
 use Rattle.lay_tree.specs.declared.exprs.Expr.{Expr}
 use Rattle.lay_tree.specs.declared.exprs.Expr.TheOpen.{Expr-F}
 use Rattle.lay_tree.specs.declared.exprs.Expr.TheVariants as expr
-use Rattle.lay_tree.specs.declared.token.Listed.{Listed}
-use Rattle.lay_tree.proofs.Fronts.{one_front, one_test, mark_passed, closer_first, closer_passed}
-use Rattle.lay_tree.proofs.Parts.{SpelledAt, Closed, Behind, Elements, bit_alone, before_blank, piece_bit, list_elements}
 use Rattle.lay_tree.proofs.nodes.ExprsLaws.{expr_paren_is, expr_tuple_is, expr_array_is, expr_repeat_is}
-use Rattle.lay_tree.proofs.reader.Exact.{IsRead}
 use Rattle.lay_tree.proofs.reader.ExprFronts.{placed_begins}
 use Rattle.lay_tree.proofs.reader.ExprHeads.{IsHead, head_of}
 use Rattle.lay_tree.proofs.reader.ExprLeads.{expr_no_closer}
 use Rattle.lay_tree.proofs.reader.ExprQuiet.{ExprEnds, ends_follow, comma_ends_expr, semicolon_ends_expr, closer_ends_expr, element_ends_expr}
 use Rattle.lay_tree.proofs.reader.ExprReads.{ExprReads}
-use Rattle.lay_tree.proofs.reader.Loops as loops
-use Rattle.lay_tree.proofs.reader.TokenLists.{EndsRun, list_there}
-use Rattle.lay_tree.proofs.reader.TypesCompleteParts.{one_left}
-use Rattle.lay_tree.proofs.reader.TypesLists.{forms_of}
-use Rattle.lay_tree.proofs.reader.VariantsComplete.{elements_of_map, list_read}
 
 -- Behind an element a comma stands and the further ones, or what closes the list.
 behind_first : {A : Type 0} (d : Delim) (P : A → Tokens → Tokens → Type 0) (xs : List A) (ts rest : Tokens) → Behind d P xs ts rest

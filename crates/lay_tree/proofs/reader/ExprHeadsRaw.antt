@@ -14,41 +14,41 @@ use Rattle.lay_token.specs.Operators.{is_op}
 use Rattle.lay_form.specs.Form.{Operator, Form, Done, Piece, Part, opener, closer}
 use Rattle.lay_form.specs.Notation.{when, braces}
 use Rattle.lay_form.specs.Spelled.{IsOne, IsOperator, Spells}
-use Rattle.lay_tree.specs.Ahead.{Tokens, first, tail, is_ident, is_keyword, opens}
+use Rattle.lay_node.specs.Ahead.{Tokens, first, tail, is_ident, is_keyword, opens}
+use Rattle.lay_node.specs.Words.{is_path_word, colons}
+use Rattle.lay_node.specs.nodes.Call.{about_call}
+use Rattle.lay_node.specs.nodes.Facts.{Facts, all_good}
+use Rattle.lay_node.specs.nodes.SimplePath.{are_simple_words, is_simple_path, simple_words_form, simple_path_form}
+use Rattle.lay_node.specs.nodes.Types.{ArgsFacts, less, segment_good, segments_form, segments_good, about_path, about_start, about_args, is_there, starts_plain, are_none, lone_segment, lone_word}
+use Rattle.lay_node.specs.declared.simple_path.SimplePath.{SimplePath}
+use Rattle.lay_node.specs.declared.token.Word.{Word}
+use Rattle.lay_node.specs.declared.tokens.MacroCall.{MacroCall}
+use Rattle.lay_node.specs.declared.types.Arg.TheViews as views
+use Rattle.lay_node.specs.declared.types.Args.{Args}
+use Rattle.lay_node.specs.declared.types.Path.{Path}
+use Rattle.lay_node.specs.declared.types.PathStart.{PathStart}
+use Rattle.lay_node.specs.declared.types.PathStart.TheVariants as start
+use Rattle.lay_node.specs.declared.types.PathStyle.TheVariants.{Code}
+use Rattle.lay_node.proofs.Fronts.{keyword_one, ident_kind, no_op, one_front, op_front}
+use Rattle.lay_node.proofs.Parts.{bit_alone, behind_blank, piece_bit, part_alone, word_kind, leaf_parts}
+use Rattle.lay_node.proofs.nodes.TypesLaws.{PathStartView, IsLocal, IsGlobal, IsQualified, ArgsView, IsNone, IsAngle, IsRound, about_segment, start_view, args_view, start_local_is, start_global_is, start_qualified_is, args_none_is, args_angle_is, args_round_is}
+use Rattle.lay_node.proofs.reader.Call.{bang_operator}
+use Rattle.lay_node.proofs.reader.TypesBegins.{path_parts, path_goods}
+use Rattle.lay_node.proofs.reader.TypesCompleteParts.{one_left}
 use Rattle.lay_tree.specs.Operands.{ByPath, expr_lead_at}
 use Rattle.lay_tree.specs.Operators.{begins_step}
-use Rattle.lay_tree.specs.Words.{is_path_word, colons}
-use Rattle.lay_tree.specs.nodes.Call.{about_call}
 use Rattle.lay_tree.specs.nodes.Exprs.{ExprFacts, StepFacts, stands, placed, begins_pointer, is_raw_word, is_raw_path, break_if, group_if, methods, is_method, is_dotted, is_tuple_index, first_step, are_steps, steps_form, base_form, base_placed, level_of_chain, next_is_angle, is_chain_level, may_chain, operands_placed, inside, level_of, lead_of, within_of, expr_facts, about_expr, about_field_expr, about_step}
-use Rattle.lay_tree.specs.nodes.Facts.{Facts, all_good}
 use Rattle.lay_tree.specs.nodes.Places.{begins, before_op}
-use Rattle.lay_tree.specs.nodes.SimplePath.{are_simple_words, is_simple_path, simple_words_form, simple_path_form}
-use Rattle.lay_tree.specs.nodes.Types.{ArgsFacts, less, segment_good, segments_form, segments_good, about_path, about_start, about_args, is_there, starts_plain, are_none, lone_segment, lone_word}
 use Rattle.lay_tree.specs.declared.exprs.Expr.{Expr}
 use Rattle.lay_tree.specs.declared.exprs.Expr.TheOpen.{Expr-F}
 use Rattle.lay_tree.specs.declared.exprs.Expr.TheVariants as expr
 use Rattle.lay_tree.specs.declared.exprs.Place.{Place}
 use Rattle.lay_tree.specs.declared.exprs.Step.{Step}
 use Rattle.lay_tree.specs.declared.operators.Op.{Op}
-use Rattle.lay_tree.specs.declared.simple_path.SimplePath.{SimplePath}
-use Rattle.lay_tree.specs.declared.token.Word.{Word}
-use Rattle.lay_tree.specs.declared.tokens.MacroCall.{MacroCall}
-use Rattle.lay_tree.specs.declared.types.Arg.TheViews as views
-use Rattle.lay_tree.specs.declared.types.Args.{Args}
-use Rattle.lay_tree.specs.declared.types.Path.{Path}
-use Rattle.lay_tree.specs.declared.types.PathStart.{PathStart}
-use Rattle.lay_tree.specs.declared.types.PathStart.TheVariants as start
-use Rattle.lay_tree.specs.declared.types.PathStyle.TheVariants.{Code}
-use Rattle.lay_tree.proofs.Fronts.{keyword_one, ident_kind, no_op, one_front, op_front}
-use Rattle.lay_tree.proofs.Parts.{bit_alone, behind_blank, piece_bit, part_alone, word_kind, leaf_parts}
 use Rattle.lay_tree.proofs.nodes.ExprsLaws.{ExprView, IsLit, IsPath, IsUnderscore, IsCall, IsParen, IsContinue, IsTuple, IsArray, IsRepeat, IsStruct, IsChain, IsCast, IsUnary, IsRange, IsAssign, IsPostfix, IsReturn, IsBreak, expr_view, behind_op, before_op as target_of, expr_lit_is, expr_path_is, expr_underscore_is, expr_call_is, expr_paren_is, expr_continue_is, expr_tuple_is, expr_array_is, expr_repeat_is, expr_struct_is, expr_chain_is, expr_cast_is, expr_unary_is, expr_range_is, expr_assign_is, expr_postfix_is, expr_return_is, expr_break_is}
-use Rattle.lay_tree.proofs.nodes.TypesLaws.{PathStartView, IsLocal, IsGlobal, IsQualified, ArgsView, IsNone, IsAngle, IsRound, about_segment, start_view, args_view, start_local_is, start_global_is, start_qualified_is, args_none_is, args_angle_is, args_round_is}
-use Rattle.lay_tree.proofs.reader.Call.{bang_operator}
 use Rattle.lay_tree.proofs.reader.ExprFronts.{placed_within, no_depth, expr_begins}
 use Rattle.lay_tree.proofs.reader.ExprLeads.{one_lead}
 use Rattle.lay_tree.proofs.reader.ExprSteps.{step_begun}
-use Rattle.lay_tree.proofs.reader.TypesBegins.{path_parts, path_goods}
-use Rattle.lay_tree.proofs.reader.TypesCompleteParts.{one_left}
 
 -- ---- what isn't `const` or `mut`
 

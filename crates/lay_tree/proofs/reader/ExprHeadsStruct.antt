@@ -11,50 +11,50 @@ use Rattle.lay_form.specs.Form.{Blank, Fixed, Operator, Form, Done, Piece, Leaf,
 use Rattle.lay_form.specs.Notation.{each, piece, comma_gap, braces, behind_attrs}
 use Rattle.lay_form.specs.Spelled.{IsOne, IsOperator, AreBits, Spells}
 use Rattle.lay_form.proofs.FormLaws.{shorter}
-use Rattle.lay_tree.specs.Ahead.{Tokens, first, is_mark, opens, closes}
+use Rattle.lay_node.specs.Ahead.{Tokens, first, is_mark, opens, closes}
+use Rattle.lay_node.specs.Words.{is_name, leaf_of}
+use Rattle.lay_node.specs.nodes.Attr.{are_attrs, attr_form, about_attr}
+use Rattle.lay_node.specs.nodes.Facts.{Facts, all_good}
+use Rattle.lay_node.specs.nodes.Types.{about_path, colon}
+use Rattle.lay_node.specs.reader.Loops.{nodes, deepest, open_elements}
+use Rattle.lay_node.specs.reader.Patterns.{begins_field, index}
+use Rattle.lay_node.specs.reader.Words.{name}
+use Rattle.lay_node.specs.declared.attr.Attr.{Attr}
+use Rattle.lay_node.specs.declared.token.Name.{Name}
+use Rattle.lay_node.specs.declared.types.Path.{Path}
+use Rattle.lay_node.specs.declared.types.PathStyle.TheVariants.{Code}
+use Rattle.lay_node.proofs.Fronts.{one_front, one_no_op, one_shorter, closer_first, closer_passed}
+use Rattle.lay_node.proofs.Parts.{Rows, GoodAt, Closed, behind_attrs_rows, bit_alone, behind_blank, piece_bit, part_alone, word_kind, leaf_parts, leaf_alone}
+use Rattle.lay_node.proofs.reader.Attr.{attrs_rows}
+use Rattle.lay_node.proofs.reader.AttrRead.{attributes_complete}
+use Rattle.lay_node.proofs.reader.Exact.{IsRead}
+use Rattle.lay_node.proofs.reader.Loops.{Ends}
+use Rattle.lay_node.proofs.reader.PatternsCompleteFields.{FieldFront, word_front, word_no_index}
+use Rattle.lay_node.proofs.reader.PatternsFronts.{kind_front, code_clear}
+use Rattle.lay_node.proofs.reader.TypesCalls.{path_no_call}
+use Rattle.lay_node.proofs.reader.TypesComplete.{and_none}
+use Rattle.lay_node.proofs.reader.TypesCompleteKinds.{last_part}
+use Rattle.lay_node.proofs.reader.TypesCompleteParts.{one_left, colon_operator, attrs_front}
+use Rattle.lay_node.proofs.reader.TypesCompletePaths.{path_read}
+use Rattle.lay_node.proofs.reader.TypesFronts as types
+use Rattle.lay_node.proofs.reader.TypesLists.{forms_of, last_of_all, Ending, open_none, open_read}
+use Rattle.lay_node.proofs.reader.Words.{name_complete}
 use Rattle.lay_tree.specs.Operands.{ByPath}
-use Rattle.lay_tree.specs.Words.{is_name, leaf_of}
-use Rattle.lay_tree.specs.nodes.Attr.{are_attrs, attr_form, about_attr}
 use Rattle.lay_tree.specs.nodes.Exprs.{ExprFacts, placed, base_form, base_placed, about_expr, about_field_expr}
-use Rattle.lay_tree.specs.nodes.Facts.{Facts, all_good}
 use Rattle.lay_tree.specs.nodes.Places.{FREE}
-use Rattle.lay_tree.specs.nodes.Types.{about_path, colon}
 use Rattle.lay_tree.specs.reader.Exprs.{ExprWithin, field_by, one_field, base, struct_expr, path_expr, head_by}
-use Rattle.lay_tree.specs.reader.Loops.{nodes, deepest, open_elements}
-use Rattle.lay_tree.specs.reader.Patterns.{begins_field, index}
-use Rattle.lay_tree.specs.reader.Words.{name}
-use Rattle.lay_tree.specs.declared.attr.Attr.{Attr}
 use Rattle.lay_tree.specs.declared.exprs.Expr.{Expr}
 use Rattle.lay_tree.specs.declared.exprs.Expr.TheOpen.{Expr-F}
 use Rattle.lay_tree.specs.declared.exprs.Expr.TheVariants as expr
 use Rattle.lay_tree.specs.declared.exprs.FieldExpr.{FieldExpr}
 use Rattle.lay_tree.specs.declared.exprs.FieldExpr.TheVariants as field
-use Rattle.lay_tree.specs.declared.token.Name.{Name}
-use Rattle.lay_tree.specs.declared.types.Path.{Path}
-use Rattle.lay_tree.specs.declared.types.PathStyle.TheVariants.{Code}
-use Rattle.lay_tree.proofs.Fronts.{one_front, one_no_op, one_shorter, closer_first, closer_passed}
-use Rattle.lay_tree.proofs.Parts.{Rows, GoodAt, Closed, behind_attrs_rows, bit_alone, behind_blank, piece_bit, part_alone, word_kind, leaf_parts, leaf_alone}
 use Rattle.lay_tree.proofs.nodes.ExprsLaws.{FieldExprView, IsNamed, IsNumbered, IsShort, field_expr_view, expr_struct_is, field_expr_named_is, field_expr_numbered_is, field_expr_short_is}
-use Rattle.lay_tree.proofs.reader.Attr.{attrs_rows}
-use Rattle.lay_tree.proofs.reader.AttrRead.{attributes_complete}
-use Rattle.lay_tree.proofs.reader.Exact.{IsRead}
 use Rattle.lay_tree.proofs.reader.ExprFronts.{placed_begins}
 use Rattle.lay_tree.proofs.reader.ExprHeads.{IsHead, head_of}
 use Rattle.lay_tree.proofs.reader.ExprHeadsLists.{free_read}
 use Rattle.lay_tree.proofs.reader.ExprLeads.{expr_no_closer}
 use Rattle.lay_tree.proofs.reader.ExprQuiet.{closer_ends_expr, element_ends_expr}
 use Rattle.lay_tree.proofs.reader.ExprReads.{ExprReads}
-use Rattle.lay_tree.proofs.reader.Loops.{Ends}
-use Rattle.lay_tree.proofs.reader.PatternsCompleteFields.{FieldFront, word_front, word_no_index}
-use Rattle.lay_tree.proofs.reader.PatternsFronts.{kind_front, code_clear}
-use Rattle.lay_tree.proofs.reader.TypesCalls.{path_no_call}
-use Rattle.lay_tree.proofs.reader.TypesComplete.{and_none}
-use Rattle.lay_tree.proofs.reader.TypesCompleteKinds.{last_part}
-use Rattle.lay_tree.proofs.reader.TypesCompleteParts.{one_left, colon_operator, attrs_front}
-use Rattle.lay_tree.proofs.reader.TypesCompletePaths.{path_read}
-use Rattle.lay_tree.proofs.reader.TypesFronts as types
-use Rattle.lay_tree.proofs.reader.TypesLists.{forms_of, last_of_all, Ending, open_none, open_read}
-use Rattle.lay_tree.proofs.reader.Words.{name_complete}
 
 -- Behind an element of a list no `:` stands.
 ends_no_colon : (ts : Tokens) → Ends Brace ts → is_op (codes ":") ts ≡ false

@@ -5,11 +5,16 @@ use Rattle.lay_piece.specs.declared.kind.Kind.TheVariants.{Ident, Punct}
 use Rattle.lay_token.specs.declared.token.Token.{Token}
 use Rattle.lay_form.specs.Form.{Blank, Fixed, Form, Done, Part, keyword}
 use Rattle.lay_form.specs.Spelled.{IsOne, AreBits, Spells}
-use Rattle.lay_tree.specs.Ahead.{Tokens, first, tail, is_keyword}
+use Rattle.lay_node.specs.Ahead.{Tokens, first, tail, is_keyword}
+use Rattle.lay_node.specs.nodes.Types.{is_there}
+use Rattle.lay_node.proofs.Fronts.{one_front, one_shorter}
+use Rattle.lay_node.proofs.Parts.{Rows, bit_alone, behind_blank, before_blank, part_alone}
+use Rattle.lay_node.proofs.reader.Exact.{IsRead}
+use Rattle.lay_node.proofs.reader.Loops.{Turn, repeat_complete}
+use Rattle.lay_node.proofs.reader.TypesCompleteParts.{none_left, none_right}
 use Rattle.lay_tree.specs.Operators.{raw_by, amp_by, prefix_by, prefix, prefix_length, strength}
 use Rattle.lay_tree.specs.nodes.Exprs.{ExprFacts, Tail, stands, placed, begins_pointer, tail_follows, prefix_bits, prefixes_form, is_amp, ends_in_amp, is_prefix_lead, about_expr}
 use Rattle.lay_tree.specs.nodes.Places.{plain}
-use Rattle.lay_tree.specs.nodes.Types.{is_there}
 use Rattle.lay_tree.specs.reader.Exprs.{ExprWithin, one_prefix, unary_expr}
 use Rattle.lay_tree.specs.declared.exprs.Expr.{Expr}
 use Rattle.lay_tree.specs.declared.exprs.Expr.TheOpen.{Expr-F}
@@ -17,10 +22,7 @@ use Rattle.lay_tree.specs.declared.exprs.Expr.TheVariants as expr
 use Rattle.lay_tree.specs.declared.exprs.Place.{Place}
 use Rattle.lay_tree.specs.declared.operators.Prefix.{Prefix}
 use Rattle.lay_tree.specs.declared.operators.Prefix.TheVariants as before
-use Rattle.lay_tree.proofs.Fronts.{one_front, one_shorter}
-use Rattle.lay_tree.proofs.Parts.{Rows, bit_alone, behind_blank, before_blank, part_alone}
 use Rattle.lay_tree.proofs.nodes.ExprsLaws.{expr_unary_is}
-use Rattle.lay_tree.proofs.reader.Exact.{IsRead}
 use Rattle.lay_tree.proofs.reader.ExprFronts.{placed_within, placed_begins}
 use Rattle.lay_tree.proofs.reader.ExprHeads.{IsHead, head_of}
 use Rattle.lay_tree.proofs.reader.ExprHeadsJumps.{plain_follows}
@@ -28,8 +30,6 @@ use Rattle.lay_tree.proofs.reader.ExprHeadsRaw.{begins_raw, stands_level, expr_r
 use Rattle.lay_tree.proofs.reader.ExprLeads.{expr_no_keyword, lead_no_prefix}
 use Rattle.lay_tree.proofs.reader.ExprQuiet.{TailFits, fits_tail}
 use Rattle.lay_tree.proofs.reader.ExprReads.{ExprReads}
-use Rattle.lay_tree.proofs.reader.Loops.{Turn, repeat_complete}
-use Rattle.lay_tree.proofs.reader.TypesCompleteParts.{none_left, none_right}
 
 -- ---- one operator
 

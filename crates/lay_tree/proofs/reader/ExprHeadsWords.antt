@@ -6,32 +6,32 @@ use Rattle.lay_piece.specs.declared.kind.Kind.TheVariants as kind
 use Rattle.lay_token.specs.Operators.{is_op}
 use Rattle.lay_form.specs.Form.{Fixed, Form, Done, keyword}
 use Rattle.lay_form.specs.Spelled.{IsOne, Spells}
-use Rattle.lay_tree.specs.Ahead.{Tokens, first, is_lifetime, opens}
-use Rattle.lay_tree.specs.Begins.{is_literal_token}
-use Rattle.lay_tree.specs.Follow.{may_follow}
+use Rattle.lay_node.specs.Ahead.{Tokens, first, is_lifetime, opens}
+use Rattle.lay_node.specs.Begins.{is_literal_token}
+use Rattle.lay_node.specs.Follow.{may_follow}
+use Rattle.lay_node.specs.nodes.Types.{PathFacts, about_path}
+use Rattle.lay_node.specs.reader.Types.{if_there, lifetime}
+use Rattle.lay_node.specs.declared.token.Lifetime.{Lifetime}
+use Rattle.lay_node.specs.declared.token.Literal.{Literal}
+use Rattle.lay_node.specs.declared.tokens.MacroCall.{MacroCall}
+use Rattle.lay_node.specs.declared.types.Path.{Path}
+use Rattle.lay_node.specs.declared.types.PathStyle.TheVariants.{Code}
+use Rattle.lay_node.proofs.Parts.{bit_alone, piece_bit}
+use Rattle.lay_node.proofs.nodes.TypesLaws.{path_is}
+use Rattle.lay_node.proofs.reader.Call.{call_complete}
+use Rattle.lay_node.proofs.reader.Exact.{IsRead}
+use Rattle.lay_node.proofs.reader.TypesCalls.{path_no_call, call_there}
+use Rattle.lay_node.proofs.reader.TypesCompleteParts.{one_alone, one_left, blank_left, lifetime_complete, lifetime_alone, literal_complete}
+use Rattle.lay_node.proofs.reader.TypesCompletePaths.{path_read}
+use Rattle.lay_node.proofs.reader.TypesFronts.{follows_clear}
 use Rattle.lay_tree.specs.Operands.{ByPath}
 use Rattle.lay_tree.specs.nodes.Exprs.{label_form}
-use Rattle.lay_tree.specs.nodes.Types.{PathFacts, about_path}
 use Rattle.lay_tree.specs.reader.Exprs.{ExprWithin, path_expr, continue_expr, head_by}
-use Rattle.lay_tree.specs.reader.Types.{if_there, lifetime}
 use Rattle.lay_tree.specs.declared.exprs.Expr.TheOpen.{Expr-F}
 use Rattle.lay_tree.specs.declared.exprs.Expr.TheVariants as expr
-use Rattle.lay_tree.specs.declared.token.Lifetime.{Lifetime}
-use Rattle.lay_tree.specs.declared.token.Literal.{Literal}
-use Rattle.lay_tree.specs.declared.tokens.MacroCall.{MacroCall}
-use Rattle.lay_tree.specs.declared.types.Path.{Path}
-use Rattle.lay_tree.specs.declared.types.PathStyle.TheVariants.{Code}
-use Rattle.lay_tree.proofs.Parts.{bit_alone, piece_bit}
 use Rattle.lay_tree.proofs.nodes.ExprsLaws.{expr_lit_is, expr_path_is, expr_underscore_is, expr_call_is, expr_continue_is}
-use Rattle.lay_tree.proofs.nodes.TypesLaws.{path_is}
-use Rattle.lay_tree.proofs.reader.Call.{call_complete}
-use Rattle.lay_tree.proofs.reader.Exact.{IsRead}
 use Rattle.lay_tree.proofs.reader.ExprHeads.{IsHead, head_of}
 use Rattle.lay_tree.proofs.reader.ExprReads.{ExprReads}
-use Rattle.lay_tree.proofs.reader.TypesCalls.{path_no_call, call_there}
-use Rattle.lay_tree.proofs.reader.TypesCompleteParts.{one_alone, one_left, blank_left, lifetime_complete, lifetime_alone, literal_complete}
-use Rattle.lay_tree.proofs.reader.TypesCompletePaths.{path_read}
-use Rattle.lay_tree.proofs.reader.TypesFronts.{follows_clear}
 
 -- ---- a label that may be there
 

@@ -13,18 +13,18 @@ use Rattle.lay_token.specs.Operators.{is_op}
 use Rattle.lay_token.proofs.Deciding.{bytes_same}
 use Rattle.lay_form.specs.Form.{Operator}
 use Rattle.lay_form.specs.Spelled.{IsOne, IsOperator, AreBits}
-use Rattle.lay_tree.specs.Ahead.{Tokens, first, tail, is_keyword, is_lifetime, is_lifetime_kind, is_mark, is_closer, closes}
-use Rattle.lay_tree.specs.Begins.{OfPath, OfNever, OfPointer, OfReference, OfImpl, OfDyn, OfFunc, begins_func, lead_of_word, lead_of_punct, lead_by, lead_at}
-use Rattle.lay_tree.specs.Follow.{begins_dots}
+use Rattle.lay_node.specs.Ahead.{Tokens, first, tail, is_keyword, is_lifetime, is_lifetime_kind, is_mark, is_closer, closes}
+use Rattle.lay_node.specs.Begins.{OfPath, OfNever, OfPointer, OfReference, OfImpl, OfDyn, OfFunc, begins_func, lead_of_word, lead_of_punct, lead_by, lead_at}
+use Rattle.lay_node.specs.Follow.{begins_dots}
+use Rattle.lay_node.specs.Words.{is_path_class, is_literal}
+use Rattle.lay_node.specs.nodes.Patterns.{dots}
+use Rattle.lay_node.proofs.Fronts.{keyword_one, mark_one, other_op}
+use Rattle.lay_node.proofs.Parts.{bit_alone}
+use Rattle.lay_node.proofs.reader.TypesFronts.{no_other_op, op_first}
 use Rattle.lay_tree.specs.Operands.{ExprLead, ByLiteral, ByPath, ByLabel, ByBrace, ByPrefix, ByRange, expr_lead_of_word, expr_lead_of_punct, expr_lead_by, expr_lead_at, is_operand_lead, begins_operand}
 use Rattle.lay_tree.specs.Operators.{amp_by, prefix_by, prefix}
 use Rattle.lay_tree.specs.declared.operators.Prefix.TheVariants as before
-use Rattle.lay_tree.specs.Words.{is_path_class, is_literal}
 use Rattle.lay_tree.specs.nodes.Exprs.{is_brace_lead, is_label_lead, is_prefix_lead}
-use Rattle.lay_tree.specs.nodes.Patterns.{dots}
-use Rattle.lay_tree.proofs.Fronts.{keyword_one, mark_one, other_op}
-use Rattle.lay_tree.proofs.Parts.{bit_alone}
-use Rattle.lay_tree.proofs.reader.TypesFronts.{no_other_op, op_first}
 
 -- ---- the lead that the first tokens tell
 

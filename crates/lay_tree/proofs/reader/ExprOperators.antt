@@ -12,17 +12,17 @@ use Rattle.lay_piece.specs.declared.kind.Kind.TheVariants.{Ident, Opener}
 use Rattle.lay_token.specs.Operators.{op_at, is_op_of, is_op}
 use Rattle.lay_token.proofs.Deciding.{bytes_same}
 use Rattle.lay_form.specs.Spelled.{IsOne, IsOperator}
-use Rattle.lay_tree.specs.Ahead.{Tokens, first, tail, is_keyword, is_lifetime, is_lifetime_kind, is_opener, opens, opens_args}
-use Rattle.lay_tree.specs.Follow.{Begin, OfRename, OfArgs, OfCodeArgs, OfArrow, OfColons, OfBang, begins_there, may_follow}
+use Rattle.lay_node.specs.Ahead.{Tokens, first, tail, is_keyword, is_lifetime, is_lifetime_kind, is_opener, opens, opens_args}
+use Rattle.lay_node.specs.Follow.{Begin, OfRename, OfArgs, OfCodeArgs, OfArrow, OfColons, OfBang, begins_there, may_follow}
+use Rattle.lay_node.specs.nodes.Types.{is_there}
+use Rattle.lay_node.proofs.Fronts.{keyword_one, one_front, op_front, op_test, op_shorter, opener_kind, other_op}
+use Rattle.lay_node.proofs.Steps.{chosen, bind_some}
+use Rattle.lay_node.proofs.reader.TypesComplete.{and_none}
 use Rattle.lay_tree.specs.Operators.{op_text, op_level, all_ops, named, binary, is_dot_or_try, begins_step, angle_by, is_angle, is_angle_op, strength_by, strength}
 use Rattle.lay_tree.specs.nodes.Exprs.{Tail, is_open, is_args, lacks_args, is_typed, begins_pointer, tail_follows}
-use Rattle.lay_tree.specs.nodes.Types.{is_there}
 use Rattle.lay_tree.specs.declared.operators.Op.{Op}
 use Rattle.lay_tree.specs.declared.operators.Op.TheVariants as op
-use Rattle.lay_tree.proofs.Fronts.{keyword_one, one_front, op_front, op_test, op_shorter, opener_kind, other_op}
-use Rattle.lay_tree.proofs.Steps.{chosen, bind_some}
 use Rattle.lay_tree.proofs.reader.ExprSoundOperators.{op_low, binary_op, op_strength}
-use Rattle.lay_tree.proofs.reader.TypesComplete.{and_none}
 
 -- ---- operators by their texts
 

@@ -1,9 +1,9 @@
 -- Loops over nodes of which each is read with its need.
 use Rattle.std.proofs.Common.{◌≡◌, ℕ, ◌≤◌, Bool, false, List, [], ◌∷◌, Some, refl, ap, arith}
-use Rattle.lay_tree.specs.Ahead.{Tokens}
-use Rattle.lay_tree.specs.reader.Loops.{Read, nodes, deepest, repeat}
-use Rattle.lay_tree.proofs.Parts.{Rows}
-use Rattle.lay_tree.proofs.reader.Loops.{Turn, repeat_complete}
+use Rattle.lay_node.specs.Ahead.{Tokens}
+use Rattle.lay_node.specs.reader.Loops.{Read, nodes, deepest, repeat}
+use Rattle.lay_node.proofs.Parts.{Rows}
+use Rattle.lay_node.proofs.reader.Loops.{Turn, repeat_complete}
 
 -- a turn of a loop that reads a node, which needs no more than the depth
 abbrev pub NodeTurn : {A : Type 0} → (Tokens → Bool) → (Tokens → Read A) → ℕ → A → Tokens → Tokens → Type 0

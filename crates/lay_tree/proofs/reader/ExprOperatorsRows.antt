@@ -6,20 +6,23 @@ use Rattle.lay_piece.specs.declared.kind.Kind.TheVariants.{Ident}
 use Rattle.lay_form.specs.Form.{Blank, Operator, Form, Done, Part, keyword}
 use Rattle.lay_form.specs.Spelled.{IsOne, IsOperator, Spells}
 use Rattle.lay_form.proofs.FormLaws.{shorter}
-use Rattle.lay_tree.specs.Ahead.{Tokens, first, is_keyword}
-use Rattle.lay_tree.specs.Follow.{may_follow}
+use Rattle.lay_node.specs.Ahead.{Tokens, first, is_keyword}
+use Rattle.lay_node.specs.Follow.{may_follow}
+use Rattle.lay_node.specs.nodes.Types.{about_type, good_at}
+use Rattle.lay_node.specs.reader.Loops.{nodes, deepest}
+use Rattle.lay_node.specs.declared.types.Ty.{Ty}
+use Rattle.lay_node.specs.declared.types.TypePlace.TheVariants.{NoBounds}
+use Rattle.lay_node.proofs.Fronts.{one_front, one_shorter}
+use Rattle.lay_node.proofs.Parts.{Rows, bit_alone, behind_blank, before_blank}
+use Rattle.lay_node.proofs.reader.TypesComplete.{quiet_fits}
+use Rattle.lay_node.proofs.reader.TypesCompleteParts.{blank_left}
+use Rattle.lay_node.proofs.reader.TypesFronts.{Clear, follows_clear, as_quiet}
 use Rattle.lay_tree.specs.Operators.{op_text, op_level, binary, angle_by, is_angle, is_angle_op, strength}
 use Rattle.lay_tree.specs.nodes.Exprs.{ExprFacts, is_typed, stands, placed, follows, tail_follows, operands_form, types_form, targets_form, operand_place, operands_placed, may_chain, targets_placed, tail_of_operands, type_refuses, types_good, about_expr}
 use Rattle.lay_tree.specs.nodes.Places.{plain, before_op}
-use Rattle.lay_tree.specs.nodes.Types.{about_type, good_at}
 use Rattle.lay_tree.specs.reader.Exprs.{ExprWithin, operand_ends, operand, operands, targets_of, value_of, one_type}
-use Rattle.lay_tree.specs.reader.Loops.{nodes, deepest}
 use Rattle.lay_tree.specs.declared.exprs.Expr.{Expr}
 use Rattle.lay_tree.specs.declared.operators.Op.{Op}
-use Rattle.lay_tree.specs.declared.types.Ty.{Ty}
-use Rattle.lay_tree.specs.declared.types.TypePlace.TheVariants.{NoBounds}
-use Rattle.lay_tree.proofs.Fronts.{one_front, one_shorter}
-use Rattle.lay_tree.proofs.Parts.{Rows, bit_alone, behind_blank, before_blank}
 use Rattle.lay_tree.proofs.nodes.ExprsLaws.{behind_op, before_op as target_of}
 use Rattle.lay_tree.proofs.reader.ExprHeadsJumps.{plain_follows}
 use Rattle.lay_tree.proofs.reader.ExprOperators.{AtOp, at_op, not_at_level, no_as, as_there, op_tail}
@@ -27,9 +30,6 @@ use Rattle.lay_tree.proofs.reader.ExprOperatorsLoops.{NodeTurn, NodesRead, nodes
 use Rattle.lay_tree.proofs.reader.ExprOperatorsTails.{BeforeOp, before_parts}
 use Rattle.lay_tree.proofs.reader.ExprReads.{ExprReads}
 use Rattle.lay_tree.proofs.reader.ExprSoundOperators.{low_no_angle}
-use Rattle.lay_tree.proofs.reader.TypesComplete.{quiet_fits}
-use Rattle.lay_tree.proofs.reader.TypesCompleteParts.{blank_left}
-use Rattle.lay_tree.proofs.reader.TypesFronts.{Clear, follows_clear, as_quiet}
 
 -- ---- places before operators
 

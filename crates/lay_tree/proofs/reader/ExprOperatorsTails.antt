@@ -3,27 +3,27 @@ use Rattle.std.proofs.Common.{◌≡◌, ℕ, zero, suc, Bool, true, false, not,
 use Rattle.std.proofs.lemmas.Bool.{and_parts, or_parts, not-true, leb-true}
 use Rattle.lay_form.specs.Form.{Done, Part}
 use Rattle.lay_form.specs.Spelled.{Spells}
-use Rattle.lay_tree.specs.Ahead.{Tokens}
+use Rattle.lay_node.specs.Ahead.{Tokens}
+use Rattle.lay_node.specs.nodes.Facts.{Facts}
+use Rattle.lay_node.specs.nodes.Types.{ArgsFacts, PathFacts, segment_good, segments_good, segments_refuse, about_path, about_args, is_there}
+use Rattle.lay_node.specs.declared.token.Word.{Word}
+use Rattle.lay_node.specs.declared.types.Args.{Args}
+use Rattle.lay_node.specs.declared.types.Path.{Path}
+use Rattle.lay_node.specs.declared.types.PathStyle.TheVariants.{Code}
+use Rattle.lay_node.proofs.Parts.{part_alone}
+use Rattle.lay_node.proofs.nodes.TypesLaws.{ArgsView, IsNone, IsAngle, IsRound, about_segment, args_view, args_none_is, args_angle_is, args_round_is, path_is}
+use Rattle.lay_node.proofs.reader.TypesBegins.{path_goods}
 use Rattle.lay_tree.specs.nodes.Exprs.{ExprFacts, StepFacts, Tail, is_open, is_typed, placed, stands, StepKind, OfField, tail_of_steps, tail_of_jump, prefixes_form, level_of_chain, next_is_angle, is_chain_level, may_chain, operands_placed, is_prefix_lead, inside, level_of, tail_of, within_of, expr_facts, about_expr, about_field_expr, about_step}
-use Rattle.lay_tree.specs.nodes.Facts.{Facts}
 use Rattle.lay_tree.specs.nodes.Places.{plain, is_part, part_if, before_op}
-use Rattle.lay_tree.specs.nodes.Types.{ArgsFacts, PathFacts, segment_good, segments_good, segments_refuse, about_path, about_args, is_there}
 use Rattle.lay_tree.specs.declared.exprs.Expr.{Expr}
 use Rattle.lay_tree.specs.declared.exprs.Expr.TheOpen.{Expr-F}
 use Rattle.lay_tree.specs.declared.exprs.Expr.TheVariants as expr
 use Rattle.lay_tree.specs.declared.exprs.Place.{Place}
 use Rattle.lay_tree.specs.declared.operators.Op.{Op}
 use Rattle.lay_tree.specs.declared.operators.Prefix.{Prefix}
-use Rattle.lay_tree.specs.declared.token.Word.{Word}
-use Rattle.lay_tree.specs.declared.types.Args.{Args}
-use Rattle.lay_tree.specs.declared.types.Path.{Path}
-use Rattle.lay_tree.specs.declared.types.PathStyle.TheVariants.{Code}
-use Rattle.lay_tree.proofs.Parts.{part_alone}
 use Rattle.lay_tree.proofs.nodes.ExprsLaws.{ExprView, IsLit, IsPath, IsUnderscore, IsCall, IsParen, IsContinue, IsTuple, IsArray, IsRepeat, IsStruct, IsChain, IsCast, IsUnary, IsRange, IsAssign, IsPostfix, IsReturn, IsBreak, expr_view, behind_op, before_op as target_of, expr_lit_is, expr_path_is, expr_underscore_is, expr_call_is, expr_paren_is, expr_continue_is, expr_tuple_is, expr_array_is, expr_repeat_is, expr_struct_is, expr_chain_is, expr_cast_is, expr_unary_is, expr_range_is, expr_assign_is, expr_postfix_is, expr_return_is, expr_break_is}
-use Rattle.lay_tree.proofs.nodes.TypesLaws.{ArgsView, IsNone, IsAngle, IsRound, about_segment, args_view, args_none_is, args_angle_is, args_round_is, path_is}
 use Rattle.lay_tree.proofs.reader.ExprFronts.{no_depth}
 use Rattle.lay_tree.proofs.reader.ExprOperators.{path_refuses}
-use Rattle.lay_tree.proofs.reader.TypesBegins.{path_goods}
 
 -- In code a path refuses `::` and generic arguments alone.
 code_refuses : (p : Path) → (about_path p Code).good ≡ true → path_refuses (about_path p Code).refuses ≡ true

@@ -8,18 +8,18 @@ use Rattle.lay_piece.specs.declared.kind.Delim.TheVariants.{Paren, Bracket, Brac
 use Rattle.lay_piece.specs.declared.kind.Kind.TheVariants.{Punct, Opener, Closer}
 use Rattle.lay_token.specs.Operators.{op_at, is_op_of, is_op}
 use Rattle.lay_form.specs.Spelled.{IsOne}
-use Rattle.lay_tree.specs.Ahead.{Tokens, first, is_keyword, is_lifetime, opens}
-use Rattle.lay_tree.specs.Follow.{may_follow, OfRename, OfArgs, OfCodeArgs, OfArrow, OfColons, OfBang}
+use Rattle.lay_node.specs.Ahead.{Tokens, first, is_keyword, is_lifetime, opens}
+use Rattle.lay_node.specs.Follow.{may_follow, OfRename, OfArgs, OfCodeArgs, OfArrow, OfColons, OfBang}
+use Rattle.lay_node.proofs.Follow.{Quiet, quiet_follows, comma_quiet, semicolon_quiet, closer_quiet}
+use Rattle.lay_node.proofs.Fronts.{one_front}
+use Rattle.lay_node.proofs.reader.Loops as loops
 use Rattle.lay_tree.specs.Operands.{begins_operand}
 use Rattle.lay_tree.specs.Operators.{all_ops, named, binary, is_dot_or_try, begins_step, strength_by, strength}
 use Rattle.lay_tree.specs.declared.exprs.Place.{Place}
 use Rattle.lay_tree.specs.declared.operators.Op.{Op}
 use Rattle.lay_tree.specs.nodes.Exprs.{Tail, ExprFacts, begins_pointer, tail_follows, follows}
 use Rattle.lay_tree.specs.nodes.Places.{is_whole}
-use Rattle.lay_tree.proofs.Follow.{Quiet, quiet_follows, comma_quiet, semicolon_quiet, closer_quiet}
-use Rattle.lay_tree.proofs.Fronts.{one_front}
 use Rattle.lay_tree.proofs.reader.ExprLeads.{one_lead, comma_lead, semicolon_lead}
-use Rattle.lay_tree.proofs.reader.Loops as loops
 
 -- Nothing goes on with an expression there, nor with what it ends in. The flag says that no struct literal may stand there.
 pub record ExprEnds (no_struct : Bool) (ts : Tokens) : Type 0 where

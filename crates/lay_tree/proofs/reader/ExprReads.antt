@@ -1,15 +1,15 @@
 -- Expressions that are spelled: what is read one level deeper, and what begins an expression.
 use Rattle.std.proofs.Common.{◌≡◌, ℕ, suc, Bool, true, Some}
 use Rattle.lay_form.specs.Spelled.{Spells}
-use Rattle.lay_tree.specs.Ahead.{Tokens}
+use Rattle.lay_node.specs.Ahead.{Tokens}
+use Rattle.lay_node.specs.reader.Loops.{Read}
+use Rattle.lay_node.proofs.reader.Exact.{IsRead}
+use Rattle.lay_node.proofs.reader.TypesComplete as types
 use Rattle.lay_tree.specs.Operands.{expr_lead_at}
 use Rattle.lay_tree.specs.nodes.Exprs.{about_expr, follows, placed}
 use Rattle.lay_tree.specs.reader.Exprs.{ExprWithin, head_by}
-use Rattle.lay_tree.specs.reader.Loops.{Read}
 use Rattle.lay_tree.specs.declared.exprs.Expr.{Expr}
 use Rattle.lay_tree.specs.declared.exprs.Place.{Place}
-use Rattle.lay_tree.proofs.reader.Exact.{IsRead}
-use Rattle.lay_tree.proofs.reader.TypesComplete as types
 
 -- What is one level deeper is read.
 pub record ExprReads (depth : ℕ) (within : ExprWithin) : Type 0 where

@@ -2,26 +2,26 @@
 use Rattle.std.proofs.Common.{◌≡◌, ℕ, zero, suc, ◌≤◌, Bool, true, false, not, ◌&&◌, drop, inl, inr, Some, refl, subst, arith}
 use Rattle.std.specs.Prelude.{nat_le, ◌==◌}
 use Rattle.std.proofs.lemmas.Bool.{and_parts, and_from, eqb-true, eqb-false, leb-true, le-leb}
-use Rattle.lay_tree.specs.Ahead.{Tokens}
+use Rattle.lay_node.specs.Ahead.{Tokens}
+use Rattle.lay_node.specs.reader.Exact.{InText}
+use Rattle.lay_node.specs.reader.Types.{within}
+use Rattle.lay_node.proofs.Steps.{same_some, chosen, bind_some}
+use Rattle.lay_node.proofs.reader.Loops.{SoundStep}
+use Rattle.lay_node.proofs.reader.TypesSound.{counted_sound, within_sound}
+use Rattle.lay_node.proofs.reader.TypesSoundParts.{Out}
 use Rattle.lay_tree.specs.Operands.{expr_lead_at}
 use Rattle.lay_tree.specs.Operators.{is_angle, is_dot_or_try, strength}
 use Rattle.lay_tree.specs.nodes.Exprs.{ExprFront, about_expr, follows, is_chain_level, placed, root_follows, stands, tail_follows}
 use Rattle.lay_tree.specs.nodes.Places.{before_op, begins}
-use Rattle.lay_tree.specs.reader.Exact.{InText}
 use Rattle.lay_tree.specs.reader.Exprs.{ExprWithin, accepted, climb, climb_by, expr_at, expr_by, expr_in, head_by, is_ended, left_place, stage}
-use Rattle.lay_tree.specs.reader.Types.{within}
 use Rattle.lay_tree.specs.declared.exprs.Expr.{Expr}
 use Rattle.lay_tree.specs.declared.exprs.Place.{Place}
-use Rattle.lay_tree.proofs.Steps.{same_some, chosen, bind_some}
 use Rattle.lay_tree.proofs.reader.ExprSoundHead.{head_sound}
 use Rattle.lay_tree.proofs.reader.ExprSoundLeads.{LedWithin, expr_in_led}
 use Rattle.lay_tree.proofs.reader.ExprSoundLevel.{ExprHeld, LeftHeld, SoundExprWithin}
 use Rattle.lay_tree.proofs.reader.ExprSoundOperands.{assign_stage, chain_stage}
 use Rattle.lay_tree.proofs.reader.ExprSoundOperators.{goes_op, op_low}
 use Rattle.lay_tree.proofs.reader.ExprSoundStages.{cast_stage, postfix_stage, range_stage}
-use Rattle.lay_tree.proofs.reader.Loops.{SoundStep}
-use Rattle.lay_tree.proofs.reader.TypesSound.{counted_sound, within_sound}
-use Rattle.lay_tree.proofs.reader.TypesSoundParts.{Out}
 
 and_true : (b : Bool) → (b && true) ≡ b
 and_true true = refl

@@ -10,16 +10,16 @@ use Rattle.lay_token.specs.Lexes.{is_punct}
 use Rattle.lay_token.specs.Operators.{is_op}
 use Rattle.lay_form.specs.Form.{opener}
 use Rattle.lay_form.specs.Spelled.{IsBit, IsOne}
-use Rattle.lay_tree.specs.Ahead.{Tokens, first, tail, is_lifetime}
-use Rattle.lay_tree.specs.Follow.{begins_dots}
+use Rattle.lay_node.specs.Ahead.{Tokens, first, tail, is_lifetime}
+use Rattle.lay_node.specs.Follow.{begins_dots}
+use Rattle.lay_node.specs.Words.{is_literal, is_path_class}
+use Rattle.lay_node.specs.reader.Exact.{InText}
+use Rattle.lay_node.proofs.reader.TypesSoundKinds.{only_first}
 use Rattle.lay_tree.specs.Operands.{ExprLead, ByUnderscore, ByLabel, ByParen, ByBracket, ByPrefix, ByRange, ByContinue, ByBreak, ByReturn, ByBlockWord, expr_lead_at, expr_lead_by, expr_lead_of_punct, expr_lead_of_word, is_block_word, is_of}
 use Rattle.lay_tree.specs.Operators.{amp_by, prefix, prefix_by}
-use Rattle.lay_tree.specs.Words.{is_literal, is_path_class}
 use Rattle.lay_tree.specs.nodes.Exprs.{is_label_lead, is_prefix_lead}
-use Rattle.lay_tree.specs.reader.Exact.{InText}
-use Rattle.lay_tree.specs.declared.operators.Prefix.TheVariants as before
 use Rattle.lay_token.proofs.Deciding.{bytes_same}
-use Rattle.lay_tree.proofs.reader.TypesSoundKinds.{only_first}
+use Rattle.lay_tree.specs.declared.operators.Prefix.TheVariants as before
 
 abbrev prefix_texts : List (List ℕ)
 prefix_texts = codes "-" ∷ codes "*" ∷ codes "!" ∷ codes "&" ∷ []

@@ -2,21 +2,21 @@
 use Rattle.std.proofs.Common.{◌≡◌, ℕ, Bool, codes, inl, inr, Option, Some, None, refl}
 use Rattle.lay_piece.specs.declared.kind.Delim.TheVariants.{Paren, Bracket}
 use Rattle.lay_form.specs.Form.{keyword, opener}
-use Rattle.lay_tree.specs.Ahead.{Tokens, tail}
+use Rattle.lay_node.specs.Ahead.{Tokens, tail}
+use Rattle.lay_node.specs.reader.Types.{begins_call}
+use Rattle.lay_node.proofs.Steps.{same_some, chosen}
+use Rattle.lay_node.proofs.reader.Loops.{SoundStep}
+use Rattle.lay_node.proofs.reader.TypesSoundParts.{Out, bit_texts}
 use Rattle.lay_tree.specs.Operands.{ExprLead, ByLiteral, ByPath, ByUnderscore, ByLabel, ByParen, ByBracket, ByBrace, ByPrefix, ByRange, ByContinue, ByBreak, ByReturn, ByBlockWord, ByClosure, expr_lead_at}
 use Rattle.lay_tree.specs.reader.Exprs.{ExprWithin, head_by}
-use Rattle.lay_tree.specs.reader.Types.{begins_call}
 use Rattle.lay_tree.specs.declared.exprs.Expr.{Expr}
 use Rattle.lay_tree.specs.declared.exprs.Expr.TheVariants as expr
-use Rattle.lay_tree.proofs.Steps.{same_some, chosen}
 use Rattle.lay_tree.proofs.reader.ExprSoundFirst.{bracket_first, break_first, continue_first, paren_first, range_first, return_first, underscore_first}
 use Rattle.lay_tree.proofs.reader.ExprSoundHeads.{bracket_head, break_head, call_head, continue_head, literal_head, paren_head, return_head, underscore_head}
 use Rattle.lay_tree.proofs.reader.ExprSoundLeads.{LedWithin}
 use Rattle.lay_tree.proofs.reader.ExprSoundLevel.{LeftHeld, SoundExprWithin}
 use Rattle.lay_tree.proofs.reader.ExprSoundPrefixes.{range_sound, unary_head}
 use Rattle.lay_tree.proofs.reader.ExprSoundStructs.{path_head}
-use Rattle.lay_tree.proofs.reader.Loops.{SoundStep}
-use Rattle.lay_tree.proofs.reader.TypesSoundParts.{Out, bit_texts}
 
 module _ (budget : ℕ) (within : ExprWithin) (sound : SoundExprWithin budget within) (led : LedWithin within)
     (no_struct starts : Bool) where

@@ -7,36 +7,36 @@ use Rattle.lay_piece.specs.declared.kind.Kind.TheVariants as kind
 use Rattle.lay_form.specs.Form.{Fixed, Form, Done, closer, opener}
 use Rattle.lay_form.specs.Spelled.{IsBit, IsOne, Spells}
 use Rattle.lay_form.proofs.FormLaws.{deeper as raise, is_end}
-use Rattle.lay_tree.specs.Ahead.{Tokens, first, tail, closes, is_lifetime, is_mark}
-use Rattle.lay_tree.specs.Begins.{is_literal_token}
+use Rattle.lay_node.specs.Ahead.{Tokens, first, tail, closes, is_lifetime, is_mark}
+use Rattle.lay_node.specs.Begins.{is_literal_token}
+use Rattle.lay_node.specs.Words.{is_literal}
+use Rattle.lay_node.specs.nodes.Attr.{is_empty}
+use Rattle.lay_node.specs.nodes.Call.{about_call}
+use Rattle.lay_node.specs.reader.Call.{call}
+use Rattle.lay_node.specs.reader.Exact.{InText}
+use Rattle.lay_node.specs.reader.Loops.{deepest, nodes, passed}
+use Rattle.lay_node.specs.reader.Tokens.{tokens}
+use Rattle.lay_node.specs.reader.Types.{if_there, lifetime, literal}
+use Rattle.lay_node.specs.declared.token.Lifetime.{Lifetime}
+use Rattle.lay_node.specs.tokens.Lexed.{is_token_list}
+use Rattle.lay_node.proofs.Fronts.{closes_one, closer_passed_is, mark_one, mark_passed_is, texts_behind}
+use Rattle.lay_node.proofs.Steps.{same_some, chosen, bind_some}
+use Rattle.lay_node.proofs.reader.Call.{call_sound}
+use Rattle.lay_node.proofs.reader.Loops.{SoundStep}
+use Rattle.lay_node.proofs.reader.TypesSoundKinds.{length_sound}
+use Rattle.lay_node.proofs.reader.TypesSoundParts.{Out, behind_comma, bit_texts, if_there_sound, IsLifetime, lifetime_sound, literal_sound}
 use Rattle.lay_tree.specs.Operators.{strength}
-use Rattle.lay_tree.specs.Words.{is_literal}
-use Rattle.lay_tree.specs.nodes.Attr.{is_empty}
-use Rattle.lay_tree.specs.nodes.Call.{about_call}
 use Rattle.lay_tree.specs.nodes.Exprs.{about_expr, begins_free, break_placed, inside as inside_of, label_form, operand_form, operand_placed, placed, tail_follows, tail_of_jump, tuple_form}
 use Rattle.lay_tree.specs.nodes.Places.{FREE, plain}
-use Rattle.lay_tree.specs.reader.Call.{call}
-use Rattle.lay_tree.specs.reader.Exact.{InText}
 use Rattle.lay_tree.specs.reader.Exprs.{ExprWithin, bracket_expr, break_expr, call_expr, continue_expr, free_elements, literal_expr, operand_if, paren_expr, repeat_by, return_expr}
-use Rattle.lay_tree.specs.reader.Loops.{deepest, nodes, passed}
-use Rattle.lay_tree.specs.reader.Tokens.{tokens}
-use Rattle.lay_tree.specs.reader.Types.{if_there, lifetime, literal}
 use Rattle.lay_tree.specs.declared.exprs.Expr.{Expr}
 use Rattle.lay_tree.specs.declared.exprs.Expr.TheOpen.{Expr-F}
 use Rattle.lay_tree.specs.declared.exprs.Expr.TheVariants as expr
-use Rattle.lay_tree.specs.declared.token.Lifetime.{Lifetime}
-use Rattle.lay_tree.specs.tokens.Lexed.{is_token_list}
-use Rattle.lay_tree.proofs.Fronts.{closes_one, closer_passed_is, mark_one, mark_passed_is, texts_behind}
-use Rattle.lay_tree.proofs.Steps.{same_some, chosen, bind_some}
 use Rattle.lay_tree.proofs.nodes.ExprsLaws.{expr_array_is, expr_break_is, expr_call_is, expr_continue_is, expr_lit_is, expr_paren_is, expr_repeat_is, expr_return_is, expr_tuple_is, expr_underscore_is}
-use Rattle.lay_tree.proofs.reader.Call.{call_sound}
 use Rattle.lay_tree.proofs.reader.ExprSoundLeads.{LedWithin}
 use Rattle.lay_tree.proofs.reader.ExprSoundFirst.{no_label}
 use Rattle.lay_tree.proofs.reader.ExprSoundLevel.{ExprHeld, LeftHeld, SoundExprWithin, all_taken, bare_follows, made, root_held, tail_held}
 use Rattle.lay_tree.proofs.reader.ExprSoundLists.{FreeRow, OperandHeld, free_sound, operand_sound, row_spelled}
-use Rattle.lay_tree.proofs.reader.Loops.{SoundStep}
-use Rattle.lay_tree.proofs.reader.TypesSoundKinds.{length_sound}
-use Rattle.lay_tree.proofs.reader.TypesSoundParts.{Out, behind_comma, bit_texts, if_there_sound, IsLifetime, lifetime_sound, literal_sound}
 
 module _ (no_struct starts : Bool) where
   abbrev Left : Expr × ℕ → Tokens → Tokens → Type 0

@@ -4,25 +4,25 @@ use Rattle.std.proofs.Common.{◌≡◌, ℕ, zero, suc, max, Bool, true, false,
 use Rattle.std.specs.Prelude.{nat_le, ◌==◌}
 use Rattle.lay_token.specs.Operators.{is_op}
 use Rattle.lay_piece.specs.declared.kind.Delim.TheVariants.{Paren, Bracket, Brace}
-use Rattle.lay_tree.specs.Ahead.{Tokens, first, tail, closes, is_keyword, is_lifetime, is_mark, opens}
-use Rattle.lay_tree.specs.Begins.{is_literal_token}
+use Rattle.lay_node.specs.Ahead.{Tokens, first, tail, closes, is_keyword, is_lifetime, is_mark, opens}
+use Rattle.lay_node.specs.Begins.{is_literal_token}
+use Rattle.lay_node.specs.nodes.Attr.{is_empty}
+use Rattle.lay_node.specs.reader.Call.{call}
+use Rattle.lay_node.specs.reader.Loops.{deepest, nodes, open_elements, passed, repeat}
+use Rattle.lay_node.specs.reader.Patterns.{begins_field}
+use Rattle.lay_node.specs.reader.Tokens.{tokens}
+use Rattle.lay_node.specs.reader.Types.{begins_call, if_there, lifetime, literal, path, within}
+use Rattle.lay_node.specs.declared.types.PathStyle.TheVariants.{Code}
+use Rattle.lay_node.proofs.Steps.{same_some, chosen, bind_some}
 use Rattle.lay_tree.specs.Operands.{ExprLead, ByLiteral, ByPath, ByUnderscore, ByLabel, ByParen, ByBracket, ByBrace, ByPrefix, ByRange, ByContinue, ByBreak, ByReturn, ByBlockWord, ByClosure, expr_lead_at}
 use Rattle.lay_tree.specs.Operators.{begins_step, prefix, strength}
-use Rattle.lay_tree.specs.nodes.Attr.{is_empty}
 use Rattle.lay_tree.specs.nodes.Exprs.{ExprFacts, about_expr, lead_of_start, lead_of_targets, stands, root_follows}
 use Rattle.lay_tree.specs.nodes.Places.{FREE, plain}
-use Rattle.lay_tree.specs.reader.Call.{call}
 use Rattle.lay_tree.specs.reader.Exprs.{ExprWithin, assign_expr, base, begins_tuple_index, bracket_expr, break_expr, call_expr, cast_expr, chain_expr, climb, climb_by, continue_expr, expr_by, expr_in, free_elements, head_by, is_ended, left_place, literal_expr, one_field, one_prefix, one_step, one_type, operand_if, operands, paren_expr, path_expr, postfix_expr, range_by, range_expr, return_expr, stage, struct_expr, targets_of, unary_expr, value_of}
-use Rattle.lay_tree.specs.reader.Loops.{deepest, nodes, open_elements, passed, repeat}
-use Rattle.lay_tree.specs.reader.Patterns.{begins_field}
-use Rattle.lay_tree.specs.reader.Tokens.{tokens}
-use Rattle.lay_tree.specs.reader.Types.{begins_call, if_there, lifetime, literal, path, within}
 use Rattle.lay_tree.specs.declared.exprs.Expr.{Expr}
 use Rattle.lay_tree.specs.declared.exprs.Expr.TheVariants as expr
 use Rattle.lay_tree.specs.declared.exprs.Place.{Place}
 use Rattle.lay_tree.specs.declared.operators.Op.{Op}
-use Rattle.lay_tree.specs.declared.types.PathStyle.TheVariants.{Code}
-use Rattle.lay_tree.proofs.Steps.{same_some, chosen, bind_some}
 use Rattle.lay_tree.proofs.nodes.ExprsLaws.{before_op, expr_lit_is, expr_path_is, expr_underscore_is, expr_call_is, expr_paren_is, expr_continue_is, expr_tuple_is, expr_array_is, expr_repeat_is, expr_struct_is, expr_chain_is, expr_cast_is, expr_unary_is, expr_range_is, expr_assign_is, expr_postfix_is, expr_return_is, expr_break_is}
 
 -- What was read has this lead.

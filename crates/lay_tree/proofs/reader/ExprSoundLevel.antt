@@ -6,19 +6,19 @@ use Rattle.std.specs.Prelude.{◌==◌}
 use Rattle.std.proofs.lemmas.Bool.{and_parts, eq-eqb}
 use Rattle.std.proofs.lemmas.List.Folds.{list_all-map}
 use Rattle.lay_form.specs.Spelled.{Spells}
-use Rattle.lay_tree.specs.Ahead.{Tokens}
+use Rattle.lay_node.specs.Ahead.{Tokens}
+use Rattle.lay_node.specs.nodes.Facts.{Facts}
+use Rattle.lay_node.proofs.reader.Loops.{SoundStep}
+use Rattle.lay_node.proofs.reader.TypesSoundLevel.{SoundWithin}
 use Rattle.lay_tree.specs.Operands.{begins_operand}
 use Rattle.lay_tree.specs.Operators.{strength}
 use Rattle.lay_tree.specs.nodes.Exprs.{ExprFacts, StepFacts, Tail, about_expr, about_field_expr, about_step, all_free, begins_pointer, expr_facts, expr_forms, follows, inside, lacks_operand, placed, root_follows, stands, tail_follows, tail_of, within_of}
-use Rattle.lay_tree.specs.nodes.Facts.{Facts}
 use Rattle.lay_tree.specs.nodes.Places.{FREE, begins}
 use Rattle.lay_tree.specs.reader.Exprs.{ExprWithin}
 use Rattle.lay_tree.specs.declared.exprs.Expr.{Expr}
 use Rattle.lay_tree.specs.declared.exprs.Expr.TheOpen.{Expr-F}
 use Rattle.lay_tree.specs.declared.exprs.Place.{Place}
 use Rattle.lay_tree.proofs.nodes.ExprsLaws.{behind_op, before_op, ExprView, IsLit, IsPath, IsUnderscore, IsCall, IsParen, IsContinue, IsTuple, IsArray, IsRepeat, IsStruct, IsChain, IsCast, IsUnary, IsRange, IsAssign, IsPostfix, IsReturn, IsBreak, expr_view, expr_lit_is, expr_path_is, expr_underscore_is, expr_call_is, expr_paren_is, expr_continue_is, expr_tuple_is, expr_array_is, expr_repeat_is, expr_struct_is, expr_chain_is, expr_cast_is, expr_unary_is, expr_range_is, expr_assign_is, expr_postfix_is, expr_return_is, expr_break_is}
-use Rattle.lay_tree.proofs.reader.Loops.{SoundStep}
-use Rattle.lay_tree.proofs.reader.TypesSoundLevel.{SoundWithin}
 
 -- An expression of which this is told stands at the place, at this depth, which is within the budget.
 abbrev pub IsExpr : Place → ℕ → ExprFacts → ℕ → Tokens → Tokens → Type 0

@@ -5,21 +5,21 @@ use Rattle.lay_piece.specs.declared.kind.Delim.{Delim}
 use Rattle.lay_form.specs.Form.{opener, closer}
 use Rattle.lay_form.specs.Notation.{comma_list}
 use Rattle.lay_form.specs.Spelled.{IsBit, Spells}
-use Rattle.lay_tree.specs.Ahead.{Tokens, closes}
+use Rattle.lay_node.specs.Ahead.{Tokens, closes}
+use Rattle.lay_node.specs.reader.Exact.{InText}
+use Rattle.lay_node.specs.reader.Loops.{deepest, elements, nodes}
+use Rattle.lay_node.proofs.Fronts.{closes_one}
+use Rattle.lay_node.proofs.Steps.{same_some, bind_some}
+use Rattle.lay_node.proofs.reader.Loops.{SoundStep}
+use Rattle.lay_node.proofs.reader.TypesSoundNeeds.{list_held}
+use Rattle.lay_node.proofs.reader.TypesSoundParts.{Out, ElementsBy, elements_by, if_read_sound}
 use Rattle.lay_tree.specs.Operands.{ExprLead, ByBrace, begins_operand, expr_lead_at, is_operand_lead}
 use Rattle.lay_tree.specs.nodes.Exprs.{about_expr, all_free, begins_free, expr_forms, is_brace_lead, placed}
 use Rattle.lay_tree.specs.nodes.Places.{FREE, plain}
-use Rattle.lay_tree.specs.reader.Exact.{InText}
 use Rattle.lay_tree.specs.reader.Exprs.{ExprWithin, free_elements, operand_if}
-use Rattle.lay_tree.specs.reader.Loops.{deepest, elements, nodes}
 use Rattle.lay_tree.specs.declared.exprs.Expr.{Expr}
-use Rattle.lay_tree.proofs.Fronts.{closes_one}
-use Rattle.lay_tree.proofs.Steps.{same_some, bind_some}
 use Rattle.lay_tree.proofs.reader.ExprSoundLeads.{LedWithin}
 use Rattle.lay_tree.proofs.reader.ExprSoundLevel.{ExprHeld, SoundExprWithin, expr_list}
-use Rattle.lay_tree.proofs.reader.Loops.{SoundStep}
-use Rattle.lay_tree.proofs.reader.TypesSoundNeeds.{list_held}
-use Rattle.lay_tree.proofs.reader.TypesSoundParts.{Out, ElementsBy, elements_by, if_read_sound}
 
 module _ (budget : ℕ) (within : ExprWithin) (sound : SoundExprWithin budget within) where
   -- ---- lists

@@ -5,28 +5,28 @@ use Rattle.std.proofs.lemmas.Bool.{and_parts, and_from, eq-eqb, eqb-true}
 use Rattle.lay_form.specs.Form.{Operator, Done, Part}
 use Rattle.lay_form.specs.Spelled.{Spells}
 use Rattle.lay_form.proofs.FormLaws.{deeper as raise}
-use Rattle.lay_tree.specs.Ahead.{Tokens}
+use Rattle.lay_node.specs.Ahead.{Tokens}
+use Rattle.lay_node.specs.nodes.Types.{is_there}
+use Rattle.lay_node.specs.reader.Exact.{InText}
+use Rattle.lay_node.specs.reader.Loops.{deepest, nodes}
+use Rattle.lay_node.proofs.Parts.{Rows}
+use Rattle.lay_node.proofs.Steps.{same_some, chosen, bind_some}
+use Rattle.lay_node.proofs.reader.Loops.{repeat_sound}
+use Rattle.lay_node.proofs.reader.TypesSoundParts.{Out, bit_texts}
 use Rattle.lay_tree.specs.Operators.{angle_by, binary, is_angle, is_angle_op, op_level, op_text, strength}
 use Rattle.lay_tree.specs.nodes.Exprs.{ExprFacts, about_expr, is_chain_level, level_of_chain, may_chain, next_is_angle, operands_form, operands_placed, placed, stands, tail_follows, tail_of_operands, targets_form, targets_placed}
 use Rattle.lay_tree.specs.nodes.Places.{before_op, plain}
-use Rattle.lay_tree.specs.nodes.Types.{is_there}
-use Rattle.lay_tree.specs.reader.Exact.{InText}
 use Rattle.lay_tree.specs.reader.Exprs.{ExprWithin, assign_expr, chain_expr, operand, operand_ends, operands, targets_of, value_of}
-use Rattle.lay_tree.specs.reader.Loops.{deepest, nodes}
 use Rattle.lay_tree.specs.declared.exprs.Expr.{Expr}
 use Rattle.lay_tree.specs.declared.exprs.Expr.TheOpen.{Expr-F}
 use Rattle.lay_tree.specs.declared.exprs.Expr.TheVariants as expr
 use Rattle.lay_tree.specs.declared.exprs.Place.{Place}
 use Rattle.lay_tree.specs.declared.operators.Op.{Op}
-use Rattle.lay_tree.proofs.Parts.{Rows}
-use Rattle.lay_tree.proofs.Steps.{same_some, chosen, bind_some}
 use Rattle.lay_tree.proofs.nodes.ExprsLaws.{behind_op, expr_assign_is, expr_chain_is}
 use Rattle.lay_tree.proofs.nodes.ExprsLaws as laws
 use Rattle.lay_tree.proofs.reader.ExprSoundLevel.{ExprHeld, LeftHeld, SoundExprWithin, made, tail_held, within_held}
 use Rattle.lay_tree.proofs.reader.ExprSoundOperators.{binary_op, goes_op, low_no_angle, op_strength}
 use Rattle.lay_tree.proofs.reader.ExprSoundPrefixes.{rows_there}
-use Rattle.lay_tree.proofs.reader.Loops.{repeat_sound}
-use Rattle.lay_tree.proofs.reader.TypesSoundParts.{Out, bit_texts}
 
 -- ---- an expression before an operator
 

@@ -3,11 +3,11 @@ use Rattle.std.proofs.Common.{◌≡◌, ℕ, suc, ◌≤◌, true, false, List,
 use Rattle.std.specs.Str.{bytes_eq}
 use Rattle.std.specs.Prelude.{option_and_then}
 use Rattle.lay_token.specs.Operators.{is_op, is_op_of, op_at}
-use Rattle.lay_tree.specs.Ahead.{Tokens, first, is_keyword}
+use Rattle.lay_node.specs.Ahead.{Tokens, first, is_keyword}
+use Rattle.lay_node.proofs.Steps.{same_some, chosen}
 use Rattle.lay_tree.specs.Operators.{all_ops, angle_by, begins_step, binary, is_angle, is_angle_op, named, op_level, op_text, strength, strength_by}
 use Rattle.lay_tree.specs.declared.operators.Op.{Op}
 use Rattle.lay_tree.specs.declared.operators.Op.TheVariants as op
-use Rattle.lay_tree.proofs.Steps.{same_some, chosen}
 
 -- No operator is of a level above 10.
 pub op_low : (o : Op) → op_level o ≤ 10

@@ -11,38 +11,38 @@ use Rattle.lay_token.proofs.Deciding.{bytes_same}
 use Rattle.lay_form.specs.Form.{Blank, Fixed, Form, Operator, Done, Part, Piece, keyword}
 use Rattle.lay_form.specs.Spelled.{AreBits, IsOne, IsOperator, Spells}
 use Rattle.lay_form.proofs.FormLaws.{bits_end, deeper as raise}
-use Rattle.lay_tree.specs.Ahead.{Tokens, first, tail, is_keyword}
-use Rattle.lay_tree.specs.Follow.{begins_dots}
+use Rattle.lay_node.specs.Ahead.{Tokens, first, tail, is_keyword}
+use Rattle.lay_node.specs.Follow.{begins_dots}
+use Rattle.lay_node.specs.nodes.Facts.{Facts}
+use Rattle.lay_node.specs.nodes.Patterns.{dots}
+use Rattle.lay_node.specs.nodes.Types.{about_path, is_there, lone_word}
+use Rattle.lay_node.specs.reader.Exact.{InText}
+use Rattle.lay_node.specs.reader.Loops.{repeat}
+use Rattle.lay_node.specs.declared.token.Word.{Word}
+use Rattle.lay_node.specs.declared.types.Path.{Path}
+use Rattle.lay_node.specs.declared.types.PathStyle.TheVariants.{Code}
+use Rattle.lay_node.proofs.Fronts.{keyword_one, texts_behind}
+use Rattle.lay_node.proofs.Parts.{Rows, word_kind}
+use Rattle.lay_node.proofs.Steps.{same_some, chosen, bind_some}
+use Rattle.lay_node.proofs.reader.Loops.{repeat_sound}
+use Rattle.lay_node.proofs.reader.PatternsSoundBinds.{word_there}
+use Rattle.lay_node.proofs.reader.TypesSoundParts.{Out, bit_texts}
 use Rattle.lay_tree.specs.Operands.{ByPrefix, expr_lead_at}
 use Rattle.lay_tree.specs.Operators.{amp_by, prefix, prefix_by, prefix_length, raw_by}
 use Rattle.lay_tree.specs.nodes.Exprs.{ExprFacts, StepFacts, about_expr, begins_free, begins_pointer, end_placed, ends_in_amp, expr_facts, is_amp, is_prefix_lead, is_raw_path, is_raw_word, placed, prefix_bits, prefixes_form, start_placed, tail_follows, tail_of_end}
 use Rattle.lay_tree.specs.nodes.Exprs as exprs
-use Rattle.lay_tree.specs.nodes.Facts.{Facts}
-use Rattle.lay_tree.specs.nodes.Patterns.{dots}
 use Rattle.lay_tree.specs.nodes.Places.{before_op, plain}
-use Rattle.lay_tree.specs.nodes.Types.{about_path, is_there, lone_word}
-use Rattle.lay_tree.specs.reader.Exact.{InText}
 use Rattle.lay_tree.specs.reader.Exprs.{ExprWithin, one_prefix, operand_if, range_by, range_expr, unary_expr}
-use Rattle.lay_tree.specs.reader.Loops.{repeat}
 use Rattle.lay_tree.specs.declared.exprs.Expr.{Expr}
 use Rattle.lay_tree.specs.declared.exprs.Expr.TheOpen.{Expr-F}
 use Rattle.lay_tree.specs.declared.exprs.Expr.TheVariants as expr
 use Rattle.lay_tree.specs.declared.operators.Prefix.{Prefix}
 use Rattle.lay_tree.specs.declared.operators.Prefix.TheVariants as before
-use Rattle.lay_tree.specs.declared.token.Word.{Word}
-use Rattle.lay_tree.specs.declared.types.Path.{Path}
-use Rattle.lay_tree.specs.declared.types.PathStyle.TheVariants.{Code}
-use Rattle.lay_tree.proofs.Fronts.{keyword_one, texts_behind}
-use Rattle.lay_tree.proofs.Parts.{Rows, word_kind}
-use Rattle.lay_tree.proofs.Steps.{same_some, chosen, bind_some}
 use Rattle.lay_tree.proofs.nodes.ExprsLaws.{expr_range_is, expr_unary_is}
 use Rattle.lay_tree.proofs.reader.ExprSoundFirst.{no_prefix, prefix_first}
 use Rattle.lay_tree.proofs.reader.ExprSoundLeads.{LedWithin}
 use Rattle.lay_tree.proofs.reader.ExprSoundLevel.{LeftHeld, SoundExprWithin, amp_follows, bare_follows, layer_of, made, tail_held}
 use Rattle.lay_tree.proofs.reader.ExprSoundLists.{OperandHeld, operand_sound}
-use Rattle.lay_tree.proofs.reader.Loops.{repeat_sound}
-use Rattle.lay_tree.proofs.reader.PatternsSoundBinds.{word_there}
-use Rattle.lay_tree.proofs.reader.TypesSoundParts.{Out, bit_texts}
 
 -- ---- one operator
 

@@ -8,25 +8,28 @@ use Rattle.lay_token.specs.Operators.{is_op}
 use Rattle.lay_form.specs.Form.{keyword}
 use Rattle.lay_form.specs.Spelled.{IsOne, Spells}
 use Rattle.lay_form.proofs.FormLaws.{deeper as raise}
-use Rattle.lay_tree.specs.Ahead.{Tokens, first, is_keyword}
-use Rattle.lay_tree.specs.Follow.{begins_dots, may_follow}
+use Rattle.lay_node.specs.Ahead.{Tokens, first, is_keyword}
+use Rattle.lay_node.specs.Follow.{begins_dots, may_follow}
+use Rattle.lay_node.specs.nodes.Facts.{Facts}
+use Rattle.lay_node.specs.nodes.Types.{about_type, good_at, is_there}
+use Rattle.lay_node.specs.reader.Exact.{InText}
+use Rattle.lay_node.specs.reader.Loops.{deepest, nodes, passed, repeat}
+use Rattle.lay_node.specs.declared.types.Ty.{Ty}
+use Rattle.lay_node.specs.declared.types.TypePlace.TheVariants.{NoBounds}
+use Rattle.lay_node.proofs.Parts.{Rows}
+use Rattle.lay_node.proofs.Steps.{same_some, chosen, bind_some}
+use Rattle.lay_node.proofs.reader.Loops.{repeat_sound}
+use Rattle.lay_node.proofs.reader.TypesSoundLevel.{TypeHeld}
+use Rattle.lay_node.proofs.reader.TypesSoundParts.{Out, bit_texts, keyword_passed_is}
 use Rattle.lay_tree.specs.Operators.{begins_step, is_angle, is_dot_or_try, op_level, op_text, strength}
 use Rattle.lay_tree.specs.nodes.Exprs.{ExprFacts, StepFacts, about_expr, are_steps, first_step, is_dotted, is_tuple_index, level_of, placed, stands, type_refuses, types_form, types_good, within_of}
-use Rattle.lay_tree.specs.nodes.Facts.{Facts}
 use Rattle.lay_tree.specs.nodes.Places.{before_op}
-use Rattle.lay_tree.specs.nodes.Types.{about_type, good_at, is_there}
-use Rattle.lay_tree.specs.reader.Exact.{InText}
 use Rattle.lay_tree.specs.reader.Exprs.{ExprWithin, begins_tuple_index, cast_expr, one_step, one_type, postfix_expr, range_expr}
-use Rattle.lay_tree.specs.reader.Loops.{deepest, nodes, passed, repeat}
 use Rattle.lay_tree.specs.declared.exprs.Expr.{Expr}
 use Rattle.lay_tree.specs.declared.exprs.Expr.TheOpen.{Expr-F}
 use Rattle.lay_tree.specs.declared.exprs.Expr.TheVariants as expr
 use Rattle.lay_tree.specs.declared.operators.Op.{Op}
 use Rattle.lay_tree.specs.declared.operators.Op.TheVariants as op
-use Rattle.lay_tree.specs.declared.types.Ty.{Ty}
-use Rattle.lay_tree.specs.declared.types.TypePlace.TheVariants.{NoBounds}
-use Rattle.lay_tree.proofs.Parts.{Rows}
-use Rattle.lay_tree.proofs.Steps.{same_some, chosen, bind_some}
 use Rattle.lay_tree.proofs.nodes.ExprsLaws.{expr_cast_is, expr_postfix_is}
 use Rattle.lay_tree.proofs.reader.ExprSoundLeads.{LedWithin}
 use Rattle.lay_tree.proofs.reader.ExprSoundLevel.{LeftHeld, SoundExprWithin, layer_of, made}
@@ -34,9 +37,6 @@ use Rattle.lay_tree.proofs.reader.ExprSoundOperands.{left_placed, no_angle}
 use Rattle.lay_tree.proofs.reader.ExprSoundOperators.{binary_op, goes_as, goes_op, goes_step, op_low}
 use Rattle.lay_tree.proofs.reader.ExprSoundPrefixes.{range_sound, rows_there}
 use Rattle.lay_tree.proofs.reader.ExprSoundSteps.{StepHeld, postfix_spelled, step_sound, steps_begin, steps_end, steps_good, steps_number, steps_there, told_steps}
-use Rattle.lay_tree.proofs.reader.Loops.{repeat_sound}
-use Rattle.lay_tree.proofs.reader.TypesSoundLevel.{TypeHeld}
-use Rattle.lay_tree.proofs.reader.TypesSoundParts.{Out, bit_texts, keyword_passed_is}
 
 -- ---- the base of postfix steps
 

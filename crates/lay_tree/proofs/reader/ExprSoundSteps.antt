@@ -11,36 +11,36 @@ use Rattle.lay_token.specs.Operators.{is_op}
 use Rattle.lay_form.specs.Form.{Fixed, Form, Operator, Done, Part, closer, keyword, opener}
 use Rattle.lay_form.specs.Spelled.{IsOne, IsOperator, Spells}
 use Rattle.lay_form.proofs.FormLaws.{deeper as raise}
-use Rattle.lay_tree.specs.Ahead.{Tokens, first, tail, closes, is_keyword, opens, opens_args, opens_args_late}
+use Rattle.lay_node.specs.Ahead.{Tokens, first, tail, closes, is_keyword, opens, opens_args, opens_args_late}
+use Rattle.lay_node.specs.Words.{is_name}
+use Rattle.lay_node.specs.nodes.Facts.{all_good}
+use Rattle.lay_node.specs.nodes.Types.{about_arg, angle_form, is_there}
+use Rattle.lay_node.specs.Follow.{OfColons}
+use Rattle.lay_node.specs.reader.Exact.{InText}
+use Rattle.lay_node.specs.reader.Loops.{deepest, nodes, passed}
+use Rattle.lay_node.specs.reader.Patterns.{is_int}
+use Rattle.lay_node.specs.reader.Types.{angled, literal, one_arg}
+use Rattle.lay_node.specs.reader.Words.{name}
+use Rattle.lay_node.specs.declared.token.Name.{Name}
+use Rattle.lay_node.specs.declared.types.Arg.{Arg}
+use Rattle.lay_node.proofs.Fronts.{closer_passed_is, keyword_one, opener_passed_is, opens_one}
+use Rattle.lay_node.proofs.Parts.{Rows, leaf_spelled, word_kind}
+use Rattle.lay_node.proofs.Steps.{same_some, chosen, bind_some}
+use Rattle.lay_node.proofs.reader.Loops.{SoundStep}
+use Rattle.lay_node.proofs.reader.PatternsSoundFields.{int_kind}
+use Rattle.lay_node.proofs.reader.TypesSoundParts.{Out, bit_texts, literal_sound}
+use Rattle.lay_node.proofs.reader.TypesSoundPaths.{angled_sound}
+use Rattle.lay_node.proofs.reader.Words.{name_sound}
 use Rattle.lay_tree.specs.Operators.{is_dot_or_try}
-use Rattle.lay_tree.specs.Words.{is_name}
 use Rattle.lay_tree.specs.nodes.Exprs.{StepFacts, about_expr, about_step, all_free, are_generics, are_steps, args_form, break_if, first_step, generics_form, group_if, is_call, is_dotted, is_field, is_method, is_tuple_index, postfix_form, ExprFacts, methods, step_facts, steps_form, tail_follows, tail_of_steps, shut, shut_by}
-use Rattle.lay_tree.specs.nodes.Facts.{all_good}
 use Rattle.lay_tree.specs.nodes.Places.{FREE}
-use Rattle.lay_tree.specs.nodes.Types.{about_arg, angle_form, is_there}
-use Rattle.lay_tree.specs.Follow.{OfColons}
-use Rattle.lay_tree.specs.reader.Exact.{InText}
 use Rattle.lay_tree.specs.reader.Exprs.{ExprWithin, begins_tuple_index, call_step, dot_step, free_elements, index_step, is_index_token, member_by, method_by, one_step}
-use Rattle.lay_tree.specs.reader.Loops.{deepest, nodes, passed}
-use Rattle.lay_tree.specs.reader.Patterns.{is_int}
-use Rattle.lay_tree.specs.reader.Types.{angled, literal, one_arg}
-use Rattle.lay_tree.specs.reader.Words.{name}
 use Rattle.lay_tree.specs.declared.exprs.Expr.TheOpen.{Step-F}
 use Rattle.lay_tree.specs.declared.exprs.Step.{Step}
 use Rattle.lay_tree.specs.declared.exprs.Step.TheVariants as step
-use Rattle.lay_tree.specs.declared.token.Name.{Name}
-use Rattle.lay_tree.specs.declared.types.Arg.{Arg}
-use Rattle.lay_tree.proofs.Fronts.{closer_passed_is, keyword_one, opener_passed_is, opens_one}
-use Rattle.lay_tree.proofs.Parts.{Rows, leaf_spelled, word_kind}
-use Rattle.lay_tree.proofs.Steps.{same_some, chosen, bind_some}
 use Rattle.lay_tree.proofs.nodes.ExprsLaws.{step_apply_is, step_await_is, step_field_is, step_index_is, step_method_is, step_try_is, step_tuple_index_is}
 use Rattle.lay_tree.proofs.reader.ExprSoundLevel.{SoundExprWithin}
 use Rattle.lay_tree.proofs.reader.ExprSoundLists.{free_sound, free_spelled}
-use Rattle.lay_tree.proofs.reader.Loops.{SoundStep}
-use Rattle.lay_tree.proofs.reader.PatternsSoundFields.{int_kind}
-use Rattle.lay_tree.proofs.reader.TypesSoundParts.{Out, bit_texts, literal_sound}
-use Rattle.lay_tree.proofs.reader.TypesSoundPaths.{angled_sound}
-use Rattle.lay_tree.proofs.reader.Words.{name_sound}
 
 -- A step of which this is told stands there.
 pub record IsStep (s : StepFacts) (n : ℕ) (ts rest : Tokens) : Type 0 where

@@ -8,44 +8,44 @@ use Rattle.lay_form.specs.Form.{Fixed, Operator, Form, Done, Leaf, Piece, Part, 
 use Rattle.lay_form.specs.Notation.{behind_attrs, braces}
 use Rattle.lay_form.specs.Spelled.{IsBit, IsOperator, Spells}
 use Rattle.lay_form.proofs.FormLaws.{deeper as raise}
-use Rattle.lay_tree.specs.Ahead.{Tokens, first, tail, closes, opens}
-use Rattle.lay_tree.specs.Follow.{OfBang, may_follow}
-use Rattle.lay_tree.specs.Words.{is_name, leaf_of}
-use Rattle.lay_tree.specs.nodes.Attr.{about_attr, are_attrs, attr_form}
+use Rattle.lay_node.specs.Ahead.{Tokens, first, tail, closes, opens}
+use Rattle.lay_node.specs.Follow.{OfBang, may_follow}
+use Rattle.lay_node.specs.Words.{is_name, leaf_of}
+use Rattle.lay_node.specs.nodes.Attr.{about_attr, are_attrs, attr_form}
+use Rattle.lay_node.specs.nodes.Facts.{all_good}
+use Rattle.lay_node.specs.nodes.Types.{colon}
+use Rattle.lay_node.specs.reader.Attr.{attributes}
+use Rattle.lay_node.specs.reader.Exact.{InText}
+use Rattle.lay_node.specs.reader.Loops.{Got, deepest, nodes, open_elements, passed}
+use Rattle.lay_node.specs.reader.Patterns.{begins_field, index}
+use Rattle.lay_node.specs.reader.Types.{path}
+use Rattle.lay_node.specs.reader.Words.{name}
+use Rattle.lay_node.specs.declared.attr.Attr.{Attr}
+use Rattle.lay_node.specs.declared.token.Name.{Name}
+use Rattle.lay_node.specs.declared.types.Path.{Path}
+use Rattle.lay_node.specs.declared.types.PathStyle.TheVariants.{Code}
+use Rattle.lay_node.proofs.Fronts.{closer_passed_is, opens_one}
+use Rattle.lay_node.proofs.Parts.{Further, GoodAt, Rows, SpelledAt, behind_attrs_spelled, bit_piece, leaf_spelled, rows_to, word_kind}
+use Rattle.lay_node.proofs.Steps.{same_some, chosen, bind_some}
+use Rattle.lay_node.proofs.reader.Attr.{attributes_sound, attrs_spelled}
+use Rattle.lay_node.proofs.reader.Exact.{Stands}
+use Rattle.lay_node.proofs.reader.Loops.{SoundStep}
+use Rattle.lay_node.proofs.reader.PatternsSoundFields.{braces_by, index_sound, last_list}
+use Rattle.lay_node.proofs.reader.TypesSoundNeeds.{Held, forms_of, goods_of, held}
+use Rattle.lay_node.proofs.reader.TypesSoundOpen.{OpenBy, open_held, open_shut, open_sound}
+use Rattle.lay_node.proofs.reader.TypesSoundParts.{Out, bit_texts}
+use Rattle.lay_node.proofs.reader.TypesSoundPaths.{path_sound, path_told}
+use Rattle.lay_node.proofs.reader.Words.{name_sound}
 use Rattle.lay_tree.specs.nodes.Exprs.{ExprFacts, about_expr, about_field_expr, base_form, base_placed, field_facts, placed, struct_form}
-use Rattle.lay_tree.specs.nodes.Facts.{all_good}
 use Rattle.lay_tree.specs.nodes.Places.{FREE}
-use Rattle.lay_tree.specs.nodes.Types.{colon}
-use Rattle.lay_tree.specs.reader.Attr.{attributes}
-use Rattle.lay_tree.specs.reader.Exact.{InText}
 use Rattle.lay_tree.specs.reader.Exprs.{ExprWithin, base, field_by, named_field, one_field, path_expr, struct_expr}
-use Rattle.lay_tree.specs.reader.Loops.{Got, deepest, nodes, open_elements, passed}
-use Rattle.lay_tree.specs.reader.Patterns.{begins_field, index}
-use Rattle.lay_tree.specs.reader.Types.{path}
-use Rattle.lay_tree.specs.reader.Words.{name}
-use Rattle.lay_tree.specs.declared.attr.Attr.{Attr}
 use Rattle.lay_tree.specs.declared.exprs.Expr.{Expr}
 use Rattle.lay_tree.specs.declared.exprs.Expr.TheOpen.{Expr-F, FieldExpr-F}
 use Rattle.lay_tree.specs.declared.exprs.Expr.TheVariants as expr
 use Rattle.lay_tree.specs.declared.exprs.FieldExpr.{FieldExpr}
 use Rattle.lay_tree.specs.declared.exprs.FieldExpr.TheVariants as field
-use Rattle.lay_tree.specs.declared.token.Name.{Name}
-use Rattle.lay_tree.specs.declared.types.Path.{Path}
-use Rattle.lay_tree.specs.declared.types.PathStyle.TheVariants.{Code}
-use Rattle.lay_tree.proofs.Fronts.{closer_passed_is, opens_one}
-use Rattle.lay_tree.proofs.Parts.{Further, GoodAt, Rows, SpelledAt, behind_attrs_spelled, bit_piece, leaf_spelled, rows_to, word_kind}
-use Rattle.lay_tree.proofs.Steps.{same_some, chosen, bind_some}
 use Rattle.lay_tree.proofs.nodes.ExprsLaws.{expr_path_is, expr_struct_is, field_expr_named_is, field_expr_numbered_is, field_expr_short_is}
-use Rattle.lay_tree.proofs.reader.Attr.{attributes_sound, attrs_spelled}
-use Rattle.lay_tree.proofs.reader.Exact.{Stands}
 use Rattle.lay_tree.proofs.reader.ExprSoundLevel.{ExprHeld, LeftHeld, SoundExprWithin, made}
-use Rattle.lay_tree.proofs.reader.Loops.{SoundStep}
-use Rattle.lay_tree.proofs.reader.PatternsSoundFields.{braces_by, index_sound, last_list}
-use Rattle.lay_tree.proofs.reader.TypesSoundNeeds.{Held, forms_of, goods_of, held}
-use Rattle.lay_tree.proofs.reader.TypesSoundOpen.{OpenBy, open_held, open_shut, open_sound}
-use Rattle.lay_tree.proofs.reader.TypesSoundParts.{Out, bit_texts}
-use Rattle.lay_tree.proofs.reader.TypesSoundPaths.{path_sound, path_told}
-use Rattle.lay_tree.proofs.reader.Words.{name_sound}
 
 -- what holds of each of the elements that nothing closes
 open_to : {A : Type 0} (begins : Tokens → Bool) (P Q : A → Tokens → Tokens → Type 0)

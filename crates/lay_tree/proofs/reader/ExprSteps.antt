@@ -13,43 +13,43 @@ use Rattle.lay_form.specs.Form.{Operator, Form, Done, Part, keyword, opener, clo
 use Rattle.lay_form.specs.Notation.{Z, Z-, piece, each, comma_gap, last_break}
 use Rattle.lay_form.specs.Spelled.{IsOne, IsOperator, Spells}
 use Rattle.lay_form.proofs.FormLaws.{shorter}
-use Rattle.lay_tree.specs.Ahead.{Tokens, first, tail, is_keyword, is_opener, opens, closes, opens_args_late}
+use Rattle.lay_node.specs.Ahead.{Tokens, first, tail, is_keyword, is_opener, opens, closes, opens_args_late}
+use Rattle.lay_node.specs.Words.{is_plain, is_name, leaf_of}
+use Rattle.lay_node.specs.Follow.{may_follow}
+use Rattle.lay_node.specs.nodes.Facts.{all_good}
+use Rattle.lay_node.specs.nodes.Types.{ArgsFacts, about_arg}
+use Rattle.lay_node.specs.reader.Loops.{Got, Read, nodes, deepest}
+use Rattle.lay_node.specs.reader.Types.{Within, angle, angled, one_arg, no_args, args_by}
+use Rattle.lay_node.specs.declared.token.Name.{Name}
+use Rattle.lay_node.specs.declared.types.Arg.{Arg}
+use Rattle.lay_node.specs.declared.types.Arg.TheViews as views
+use Rattle.lay_node.specs.declared.types.Args.{Args}
+use Rattle.lay_node.specs.declared.types.Args.TheVariants as args
+use Rattle.lay_node.specs.declared.types.PathStyle.TheVariants.{Code}
+use Rattle.lay_node.proofs.Fronts.{keyword_one, one_front, one_no_op, one_shorter, op_shorter, op_test, other_op, opener_passed, closer_passed}
+use Rattle.lay_node.proofs.Parts.{bit_alone, piece_bit, part_alone, word_kind, leaf_alone, leaf_parts, Rows, SpelledAt}
+use Rattle.lay_node.proofs.Steps.{chosen, bind_some, read_same}
+use Rattle.lay_node.proofs.nodes.TypesLaws.{args_angle_is}
+use Rattle.lay_node.proofs.reader.Exact.{IsRead}
+use Rattle.lay_node.proofs.reader.TypesComplete.{args_read}
+use Rattle.lay_node.proofs.reader.TypesCompleteParts.{literal_complete}
+use Rattle.lay_node.proofs.reader.TypesFronts.{Clear}
+use Rattle.lay_node.proofs.reader.Words.{GoodName, name_complete}
 use Rattle.lay_tree.specs.Operators.{is_dot_or_try, begins_step}
-use Rattle.lay_tree.specs.Words.{is_plain, is_name, leaf_of}
-use Rattle.lay_tree.specs.Follow.{may_follow}
 use Rattle.lay_tree.specs.nodes.Exprs.{ExprFacts, StepKind, OfField, OfTupleIndex, OfMethod, OfCall, OfIndex, OfTry, OfAwait, StepFacts, expr_forms, all_free, is_field, is_tuple_index, is_method, is_call, is_dotted, generics_form, args_form, are_steps, tail_of_steps, methods, break_if, steps_form, group_if, postfix_form, step_facts, about_expr, about_step}
-use Rattle.lay_tree.specs.nodes.Facts.{all_good}
 use Rattle.lay_tree.specs.nodes.Places.{FREE}
-use Rattle.lay_tree.specs.nodes.Types.{ArgsFacts, about_arg}
 use Rattle.lay_tree.specs.reader.Exprs.{ExprWithin, free_elements, method_by, member_by, is_index_token, dot_step, one_step, begins_tuple_index, postfix_expr}
-use Rattle.lay_tree.specs.reader.Loops.{Got, Read, nodes, deepest}
-use Rattle.lay_tree.specs.reader.Types.{Within, angle, angled, one_arg, no_args, args_by}
 use Rattle.lay_tree.specs.declared.exprs.Expr.{Expr}
 use Rattle.lay_tree.specs.declared.exprs.Expr.TheOpen.{Step-F}
 use Rattle.lay_tree.specs.declared.exprs.Expr.TheVariants as expr
 use Rattle.lay_tree.specs.declared.exprs.Step.{Step}
 use Rattle.lay_tree.specs.declared.exprs.Step.TheVariants as step
-use Rattle.lay_tree.specs.declared.token.Name.{Name}
-use Rattle.lay_tree.specs.declared.types.Arg.{Arg}
-use Rattle.lay_tree.specs.declared.types.Arg.TheViews as views
-use Rattle.lay_tree.specs.declared.types.Args.{Args}
-use Rattle.lay_tree.specs.declared.types.Args.TheVariants as args
-use Rattle.lay_tree.specs.declared.types.PathStyle.TheVariants.{Code}
-use Rattle.lay_tree.proofs.Fronts.{keyword_one, one_front, one_no_op, one_shorter, op_shorter, op_test, other_op, opener_passed, closer_passed}
-use Rattle.lay_tree.proofs.Parts.{bit_alone, piece_bit, part_alone, word_kind, leaf_alone, leaf_parts, Rows, SpelledAt}
-use Rattle.lay_tree.proofs.Steps.{chosen, bind_some, read_same}
 use Rattle.lay_tree.proofs.nodes.ExprsLaws.{StepView, IsFieldStep, IsTupleIndexStep, IsMethodStep, IsApplyStep, IsIndexStep, IsTryStep, IsAwaitStep, step_view, step_field_is, step_tuple_index_is, step_method_is, step_apply_is, step_index_is, step_try_is, step_await_is}
-use Rattle.lay_tree.proofs.nodes.TypesLaws.{args_angle_is}
-use Rattle.lay_tree.proofs.reader.Exact.{IsRead}
 use Rattle.lay_tree.proofs.reader.ExprHeadsLists.{free_read, free_elements_read}
 use Rattle.lay_tree.proofs.reader.ExprOperators.{dot_front, try_front, paren_front, bracket_front}
 use Rattle.lay_tree.proofs.reader.ExprOperatorsLoops.{NodeTurn, nodes_repeat}
 use Rattle.lay_tree.proofs.reader.ExprQuiet.{closer_ends_expr}
 use Rattle.lay_tree.proofs.reader.ExprReads.{ExprReads}
-use Rattle.lay_tree.proofs.reader.TypesComplete.{args_read}
-use Rattle.lay_tree.proofs.reader.TypesCompleteParts.{literal_complete}
-use Rattle.lay_tree.proofs.reader.TypesFronts.{Clear}
-use Rattle.lay_tree.proofs.reader.Words.{GoodName, name_complete}
 
 -- ---- how a step begins
 

@@ -5,30 +5,30 @@ use Rattle.lay_token.specs.declared.token.Token.{Token}
 use Rattle.lay_form.specs.Notation.{lines}
 use Rattle.lay_form.specs.Spelled.{Spells}
 use Rattle.lay_form.proofs.FormLaws.{deeper}
-use Rattle.lay_tree.specs.Ahead.{Tokens, at_end}
+use Rattle.lay_node.specs.Ahead.{Tokens, at_end, more_items}
+use Rattle.lay_node.specs.nodes.Attr.{are_attrs, attr_form}
+use Rattle.lay_node.specs.nodes.Facts.{forms, all_good}
+use Rattle.lay_node.specs.reader.Attr.{attributes}
+use Rattle.lay_node.specs.reader.Exact.{InText}
+use Rattle.lay_node.specs.reader.Loops.{◌>>=◌, nodes, deepest}
+use Rattle.lay_node.specs.declared.attr.Attr.{Attr}
+use Rattle.lay_node.specs.declared.heads.Site.TheVariants.{Module}
+use Rattle.lay_node.proofs.Parts.{Rows, rows_to, rows_joined, rows_parts, rows_spelled, rows_good, SpelledAt, lines_spelled, lines_rows}
+use Rattle.lay_node.proofs.Steps.{got_same, same_some, chosen, bind_some}
+use Rattle.lay_node.proofs.reader.Attr.{attributes_sound, attrs_spelled, attrs_rows}
+use Rattle.lay_node.proofs.reader.AttrRead.{attributes_complete}
+use Rattle.lay_node.proofs.reader.Needs.{nodes_sound}
 use Rattle.lay_tree.specs.Reading.{top, SpellsFile}
-use Rattle.lay_tree.specs.nodes.Attr.{are_attrs, attr_form}
-use Rattle.lay_tree.specs.nodes.Facts.{forms, all_good}
 use Rattle.lay_tree.specs.nodes.File.{form_of_file, is_normal}
 use Rattle.lay_tree.specs.nodes.Item.{about_item}
-use Rattle.lay_tree.specs.reader.Attr.{attributes}
-use Rattle.lay_tree.specs.reader.Exact.{InText}
 use Rattle.lay_tree.specs.reader.File.{whole}
-use Rattle.lay_tree.specs.reader.Item.{more_items, items_by, item_at}
-use Rattle.lay_tree.specs.reader.Loops.{◌>>=◌, nodes, deepest}
-use Rattle.lay_tree.specs.declared.attr.Attr.{Attr}
+use Rattle.lay_tree.specs.reader.Item.{items_by, item_at}
 use Rattle.lay_tree.specs.declared.file.File.{File}
-use Rattle.lay_tree.specs.declared.heads.Site.TheVariants.{Module}
 use Rattle.lay_tree.specs.declared.item.Item.{Item}
-use Rattle.lay_tree.proofs.Parts.{Rows, rows_to, rows_joined, rows_parts, rows_spelled, rows_good, SpelledAt, lines_spelled, lines_rows}
-use Rattle.lay_tree.proofs.Steps.{got_same, same_some, chosen, bind_some}
-use Rattle.lay_tree.proofs.reader.Attr.{attributes_sound, attrs_spelled, attrs_rows}
-use Rattle.lay_tree.proofs.reader.AttrRead.{attributes_complete}
 use Rattle.lay_tree.proofs.reader.Item.{item_sound}
 use Rattle.lay_tree.proofs.reader.ItemExact.{heads_complete, heads_sound, values_sound, values_complete}
 use Rattle.lay_tree.proofs.reader.ItemKinds.{items_begin, items_complete}
 use Rattle.lay_tree.proofs.reader.ItemRead.{item_complete}
-use Rattle.lay_tree.proofs.reader.Needs.{nodes_sound}
 
 none_left : (ts : Tokens) → at_end ts ≡ true → ts ≡ []
 none_left [] h = refl

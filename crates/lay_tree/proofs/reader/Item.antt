@@ -10,50 +10,50 @@ use Rattle.lay_form.specs.Form.{Blank, Operator, Form, Done, Part, keyword}
 use Rattle.lay_form.specs.Spelled.{IsOne, IsOperator, AreBits, Spells}
 use Rattle.lay_form.proofs.FormLaws.{bits_end, is_end, one_end}
 use Rattle.lay_form.proofs.FormLaws.{deeper as raise}
-use Rattle.lay_tree.specs.Ahead.{Tokens, first, tail, is_keyword}
-use Rattle.lay_tree.specs.Words.{is_name}
-use Rattle.lay_tree.specs.nodes.Attr.{are_attrs, attr_form}
-use Rattle.lay_tree.specs.nodes.Call.{is_group, before_rules, end_form}
+use Rattle.lay_node.specs.Ahead.{Tokens, first, tail, is_keyword}
+use Rattle.lay_node.specs.Words.{is_name}
+use Rattle.lay_node.specs.nodes.Attr.{are_attrs, attr_form}
+use Rattle.lay_node.specs.nodes.Call.{is_group, before_rules, end_form}
+use Rattle.lay_node.specs.nodes.Use.{about_use}
+use Rattle.lay_node.specs.nodes.Vis.{is_vis, vis_form}
+use Rattle.lay_node.specs.reader.Attr.{attributes}
+use Rattle.lay_node.specs.reader.Call.{call, behind_end}
+use Rattle.lay_node.specs.reader.Exact.{InText}
+use Rattle.lay_node.specs.reader.Functions.{insides}
+use Rattle.lay_node.specs.reader.Tokens.{group}
+use Rattle.lay_node.specs.reader.Use.{use_at}
+use Rattle.lay_node.specs.reader.Vis.{visibility}
+use Rattle.lay_node.specs.reader.Words.{name}
+use Rattle.lay_node.specs.tokens.Lists.{group_form}
+use Rattle.lay_node.specs.declared.heads.Site.{Site}
+use Rattle.lay_node.specs.declared.vis.Vis.{Vis}
+use Rattle.lay_node.specs.declared.vis.Vis.TheVariants as vis
+use Rattle.lay_node.proofs.Fronts.{texts_behind, keyword_one}
+use Rattle.lay_node.proofs.Parts.{behind_attrs_spelled, word_kind, leaf_spelled}
+use Rattle.lay_node.proofs.Steps.{same_some, chosen, bind_some}
+use Rattle.lay_node.proofs.reader.Attr.{attributes_sound, attrs_spelled}
+use Rattle.lay_node.proofs.reader.Call.{end_spelled, call_sound}
+use Rattle.lay_node.proofs.reader.Exact.{Stands, Sound}
+use Rattle.lay_node.proofs.reader.HeadsLevel.{insides_sound}
+use Rattle.lay_node.proofs.reader.Loops.{SoundStep}
+use Rattle.lay_node.proofs.reader.PatternsSoundLevel.{SoundPatWithin}
+use Rattle.lay_node.proofs.reader.Tokens.{group_sound}
+use Rattle.lay_node.proofs.reader.TypesSoundParts.{Out}
+use Rattle.lay_node.proofs.reader.Use.{use_sound}
+use Rattle.lay_node.proofs.reader.Vis.{vis_sound}
+use Rattle.lay_node.proofs.reader.Words.{name_sound}
 use Rattle.lay_tree.specs.nodes.Item.{about_item, call_item_form, in_module, is_inherited, kind_facts, kind_form, rules_form, told_of_kind}
 use Rattle.lay_tree.specs.nodes.Places.{FREE}
-use Rattle.lay_tree.specs.nodes.Use.{about_use}
-use Rattle.lay_tree.specs.nodes.Vis.{is_vis, vis_form}
-use Rattle.lay_tree.specs.reader.Attr.{attributes}
-use Rattle.lay_tree.specs.reader.Call.{call, behind_end}
-use Rattle.lay_tree.specs.reader.Exact.{InText}
 use Rattle.lay_tree.specs.reader.Exprs.{expr_at}
-use Rattle.lay_tree.specs.reader.Functions.{insides}
 use Rattle.lay_tree.specs.reader.Item.{ItemLead, ItemWithin, OfAlias, OfCall, OfEnum, OfExternCrate, OfForeign, OfFunction, OfImpl, OfImport, OfModule, OfRules, OfStruct, OfTrait, OfUnion, OfValue, begins_function, begins_rules, begins_union, call_item, extern_lead, item_at, item_by, item_lead, kind_at, kind_by, may_stand, rules_item, unsafe_lead}
-use Rattle.lay_tree.specs.reader.Tokens.{group}
-use Rattle.lay_tree.specs.reader.Use.{use_at}
-use Rattle.lay_tree.specs.reader.Vis.{visibility}
-use Rattle.lay_tree.specs.reader.Words.{name}
-use Rattle.lay_tree.specs.tokens.Lists.{group_form}
-use Rattle.lay_tree.specs.declared.heads.Site.{Site}
 use Rattle.lay_tree.specs.declared.item.Item.{Item}
 use Rattle.lay_tree.specs.declared.item.ItemKind.{ItemKind}
 use Rattle.lay_tree.specs.declared.item.ItemKind.TheVariants as item
 use Rattle.lay_tree.specs.declared.item.ItemKind.TheOpen.{ItemKind-F}
-use Rattle.lay_tree.specs.declared.vis.Vis.{Vis}
-use Rattle.lay_tree.specs.declared.vis.Vis.TheVariants as vis
-use Rattle.lay_tree.proofs.Fronts.{texts_behind, keyword_one}
-use Rattle.lay_tree.proofs.Parts.{behind_attrs_spelled, word_kind, leaf_spelled}
-use Rattle.lay_tree.proofs.Steps.{same_some, chosen, bind_some}
 use Rattle.lay_tree.proofs.nodes.ItemLaws as laws
 use Rattle.lay_tree.proofs.nodes.ItemLaws.{item_is}
-use Rattle.lay_tree.proofs.reader.Attr.{attributes_sound, attrs_spelled}
-use Rattle.lay_tree.proofs.reader.Call.{end_spelled, call_sound}
-use Rattle.lay_tree.proofs.reader.Exact.{Stands, Sound}
 use Rattle.lay_tree.proofs.reader.ExprSoundLevel.{ExprHeld}
-use Rattle.lay_tree.proofs.reader.HeadsLevel.{insides_sound}
 use Rattle.lay_tree.proofs.reader.ItemSound.{HeadsSound, KindHeld, alias_sound, alone, enum_sound, extern_sound, foreign_sound, function_sound, impl_sound, import_sound, kind_alone, kind_told, module_sound, struct_sound, trait_sound, union_sound, value_sound}
-use Rattle.lay_tree.proofs.reader.Loops.{SoundStep}
-use Rattle.lay_tree.proofs.reader.PatternsSoundLevel.{SoundPatWithin}
-use Rattle.lay_tree.proofs.reader.Tokens.{group_sound}
-use Rattle.lay_tree.proofs.reader.TypesSoundParts.{Out}
-use Rattle.lay_tree.proofs.reader.Use.{use_sound}
-use Rattle.lay_tree.proofs.reader.Vis.{vis_sound}
-use Rattle.lay_tree.proofs.reader.Words.{name_sound}
 
 -- ---- macros
 

@@ -7,26 +7,26 @@ use Rattle.lay_piece.specs.Forms.{closing}
 use Rattle.lay_form.specs.Form.{Form}
 use Rattle.lay_form.specs.Spelled.{Spells}
 use Rattle.lay_form.proofs.FormLaws.{one_end}
-use Rattle.lay_tree.specs.Ahead.{Tokens, opens, closes}
-use Rattle.lay_tree.specs.nodes.Attr.{are_attrs, attr_form}
-use Rattle.lay_tree.specs.nodes.Facts.{forms, all_good}
-use Rattle.lay_tree.specs.nodes.Fields.{blank_if}
+use Rattle.lay_node.specs.Ahead.{Tokens, opens, closes, more_items}
+use Rattle.lay_node.specs.nodes.Attr.{are_attrs, attr_form}
+use Rattle.lay_node.specs.nodes.Facts.{forms, all_good}
+use Rattle.lay_node.specs.nodes.Fields.{blank_if}
+use Rattle.lay_node.specs.reader.Attr.{attributes}
+use Rattle.lay_node.specs.reader.Loops.{passed, nodes, deepest}
+use Rattle.lay_node.specs.declared.attr.Attr.{Attr}
+use Rattle.lay_node.specs.declared.heads.Site.{Site}
+use Rattle.lay_node.proofs.Fronts.{texts_behind, opener_passed_is, closer_passed_is}
+use Rattle.lay_node.proofs.Parts.{Rows, rows_joined, rows_spelled, SpelledAt, body_spelled, led_blank}
+use Rattle.lay_node.proofs.Steps.{same_some, bind_some}
+use Rattle.lay_node.proofs.reader.Attr.{attributes_sound, attrs_spelled}
+use Rattle.lay_node.proofs.reader.Exact.{Sound}
+use Rattle.lay_node.proofs.reader.Loops.{SoundStep}
+use Rattle.lay_node.proofs.reader.Needs.{nodes_sound}
+use Rattle.lay_node.proofs.reader.TypesSoundParts.{Out}
 use Rattle.lay_tree.specs.nodes.Item as node
 use Rattle.lay_tree.specs.nodes.Item.{about_item, item_forms, items_good, told_of_item}
-use Rattle.lay_tree.specs.reader.Attr.{attributes}
-use Rattle.lay_tree.specs.reader.Item.{ItemWithin, item_body, items_by, more_items}
-use Rattle.lay_tree.specs.reader.Loops.{passed, nodes, deepest}
-use Rattle.lay_tree.specs.declared.attr.Attr.{Attr}
-use Rattle.lay_tree.specs.declared.heads.Site.{Site}
+use Rattle.lay_tree.specs.reader.Item.{ItemWithin, item_body, items_by}
 use Rattle.lay_tree.specs.declared.item.Item.{Item}
-use Rattle.lay_tree.proofs.Fronts.{texts_behind, opener_passed_is, closer_passed_is}
-use Rattle.lay_tree.proofs.Parts.{Rows, rows_joined, rows_spelled, SpelledAt, body_spelled, led_blank}
-use Rattle.lay_tree.proofs.Steps.{same_some, bind_some}
-use Rattle.lay_tree.proofs.reader.Attr.{attributes_sound, attrs_spelled}
-use Rattle.lay_tree.proofs.reader.Exact.{Sound}
-use Rattle.lay_tree.proofs.reader.Loops.{SoundStep}
-use Rattle.lay_tree.proofs.reader.Needs.{nodes_sound}
-use Rattle.lay_tree.proofs.reader.TypesSoundParts.{Out}
 
 -- the forms of items, and the test of all of them, at a site
 pub forms_same : (at : Site) (items : List Item) → forms (map (about_item at) items) ≡ item_forms (map told_of_item items)

@@ -1,32 +1,32 @@
 -- Items are read exactly where they stand.
 use Rattle.std.proofs.Common.{◌≡◌, ℕ, refl}
-use Rattle.lay_tree.specs.Ahead.{Tokens}
-use Rattle.lay_tree.specs.nodes.Facts.{Front}
+use Rattle.lay_node.specs.Ahead.{Tokens}
+use Rattle.lay_node.specs.nodes.Facts.{Front}
+use Rattle.lay_node.specs.reader.Exact.{Exact}
+use Rattle.lay_node.specs.declared.heads.Site.{Site}
+use Rattle.lay_node.proofs.reader.AliasComplete.{aliases_complete}
+use Rattle.lay_node.proofs.reader.AliasSound.{aliases_sound}
+use Rattle.lay_node.proofs.reader.Exact.{exact, one_at_most}
+use Rattle.lay_node.proofs.reader.FunctionsBegins.{fn_head_begins}
+use Rattle.lay_node.proofs.reader.FunctionsComplete.{fn_head_complete}
+use Rattle.lay_node.proofs.reader.FunctionsSound.{fn_head_sound}
+use Rattle.lay_node.proofs.reader.ImplHeadsComplete.{impl_heads_complete}
+use Rattle.lay_node.proofs.reader.ImplHeadsSound.{impl_heads_sound}
+use Rattle.lay_node.proofs.reader.OutsideExact.{extern_crate_complete, extern_crate_sound}
+use Rattle.lay_node.proofs.reader.StructsComplete.{enum_complete, struct_complete, union_complete}
+use Rattle.lay_node.proofs.reader.StructsSound.{enum_sound, struct_sound, union_sound}
+use Rattle.lay_node.proofs.reader.TraitHeads.{trait_held, trait_there}
+use Rattle.lay_node.proofs.reader.ValueHeads.{value_heads_complete, value_heads_sound}
 use Rattle.lay_tree.specs.nodes.Item.{about_item}
 use Rattle.lay_tree.specs.nodes.Places.{FREE}
-use Rattle.lay_tree.specs.reader.Exact.{Exact}
 use Rattle.lay_tree.specs.reader.Item.{item_at}
-use Rattle.lay_tree.specs.declared.heads.Site.{Site}
 use Rattle.lay_tree.specs.declared.item.Item.{Item}
-use Rattle.lay_tree.proofs.reader.AliasComplete.{aliases_complete}
-use Rattle.lay_tree.proofs.reader.AliasSound.{aliases_sound}
-use Rattle.lay_tree.proofs.reader.Exact.{exact, one_at_most}
 use Rattle.lay_tree.proofs.reader.ExprComplete.{expr_read}
 use Rattle.lay_tree.proofs.reader.ExprSound.{expr_in_sound}
-use Rattle.lay_tree.proofs.reader.FunctionsBegins.{fn_head_begins}
-use Rattle.lay_tree.proofs.reader.FunctionsComplete.{fn_head_complete}
-use Rattle.lay_tree.proofs.reader.FunctionsSound.{fn_head_sound}
-use Rattle.lay_tree.proofs.reader.ImplHeadsComplete.{impl_heads_complete}
-use Rattle.lay_tree.proofs.reader.ImplHeadsSound.{impl_heads_sound}
 use Rattle.lay_tree.proofs.reader.Item.{item_sound, ValuesSound}
 use Rattle.lay_tree.proofs.reader.ItemRead.{item_complete, ValuesComplete}
 use Rattle.lay_tree.proofs.reader.ItemReads.{HeadsComplete}
 use Rattle.lay_tree.proofs.reader.ItemSound.{HeadsSound}
-use Rattle.lay_tree.proofs.reader.OutsideExact.{extern_crate_complete, extern_crate_sound}
-use Rattle.lay_tree.proofs.reader.StructsComplete.{enum_complete, struct_complete, union_complete}
-use Rattle.lay_tree.proofs.reader.StructsSound.{enum_sound, struct_sound, union_sound}
-use Rattle.lay_tree.proofs.reader.TraitHeads.{trait_held, trait_there}
-use Rattle.lay_tree.proofs.reader.ValueHeads.{value_heads_complete, value_heads_sound}
 
 pub heads_sound : HeadsSound
 heads_sound = record {

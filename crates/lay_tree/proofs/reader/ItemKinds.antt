@@ -8,30 +8,30 @@ use Rattle.lay_piece.specs.declared.kind.Kind.TheVariants.{Ident, Opener, Closer
 use Rattle.lay_form.specs.Form.{Done, Form, Part}
 use Rattle.lay_form.specs.Spelled.{IsOne, Spells}
 use Rattle.lay_form.proofs.FormLaws.{shorter}
-use Rattle.lay_tree.specs.Ahead.{Tokens}
-use Rattle.lay_tree.specs.nodes.Attr.{are_attrs, attr_form, about_attr}
+use Rattle.lay_node.specs.Ahead.{Tokens, ends_items, more_items}
+use Rattle.lay_node.specs.nodes.Attr.{are_attrs, attr_form, about_attr}
+use Rattle.lay_node.specs.nodes.Vis.{is_vis, vis_form}
+use Rattle.lay_node.specs.reader.Attr.{attributes, begins_attr}
+use Rattle.lay_node.specs.reader.Loops.{Read, nodes, deepest}
+use Rattle.lay_node.specs.declared.attr.Attr.{Attr}
+use Rattle.lay_node.specs.declared.heads.Site.{Site}
+use Rattle.lay_node.specs.declared.vis.Vis.{Vis}
+use Rattle.lay_node.specs.declared.vis.Vis.TheVariants as vis
+use Rattle.lay_node.proofs.Fronts.{closer_passed, one_front, opener_passed}
+use Rattle.lay_node.proofs.Parts.{Rows, rows_parts, rows_good, GoodAt, SpelledAt, behind_attrs_rows, body_rows, part_alone}
+use Rattle.lay_node.proofs.reader.Attr.{attrs_rows}
+use Rattle.lay_node.proofs.reader.AttrRead.{attr_shorter, BeginsItem, outer_begins_item, attributes_complete}
+use Rattle.lay_node.proofs.reader.Exact.{Complete, IsRead}
+use Rattle.lay_node.proofs.reader.Needs.{nodes_complete}
+use Rattle.lay_node.proofs.reader.Vis.{vis_front}
 use Rattle.lay_tree.specs.nodes.Item as node
 use Rattle.lay_tree.specs.nodes.Item.{ItemFacts, about_item, is_inherited, item_forms, items_good, kind_form, told_of_item, told_of_kind}
-use Rattle.lay_tree.specs.nodes.Vis.{is_vis, vis_form}
-use Rattle.lay_tree.specs.reader.Attr.{attributes, begins_attr}
-use Rattle.lay_tree.specs.reader.Item.{ItemWithin, ends_items, item_body, items_by, more_items}
-use Rattle.lay_tree.specs.reader.Loops.{Read, nodes, deepest}
-use Rattle.lay_tree.specs.declared.attr.Attr.{Attr}
-use Rattle.lay_tree.specs.declared.heads.Site.{Site}
+use Rattle.lay_tree.specs.reader.Item.{ItemWithin, item_body, items_by}
 use Rattle.lay_tree.specs.declared.item.Item.{Item}
-use Rattle.lay_tree.specs.declared.vis.Vis.{Vis}
-use Rattle.lay_tree.specs.declared.vis.Vis.TheVariants as vis
-use Rattle.lay_tree.proofs.Fronts.{closer_passed, one_front, opener_passed}
-use Rattle.lay_tree.proofs.Parts.{Rows, rows_parts, rows_good, GoodAt, SpelledAt, behind_attrs_rows, body_rows, part_alone}
 use Rattle.lay_tree.proofs.nodes.ItemLaws.{item_is}
-use Rattle.lay_tree.proofs.reader.Attr.{attrs_rows}
-use Rattle.lay_tree.proofs.reader.AttrRead.{attr_shorter, BeginsItem, outer_begins_item, attributes_complete}
-use Rattle.lay_tree.proofs.reader.Exact.{Complete, IsRead}
 use Rattle.lay_tree.proofs.reader.ItemBodies.{forms_same, goods_same}
 use Rattle.lay_tree.proofs.reader.ItemLeads.{KindFront, kind_front}
 use Rattle.lay_tree.proofs.reader.ItemSound.{KindAt, kind_alone}
-use Rattle.lay_tree.proofs.reader.Needs.{nodes_complete}
-use Rattle.lay_tree.proofs.reader.Vis.{vis_front}
 
 -- ---- what stands within braces
 

@@ -8,40 +8,40 @@ use Rattle.lay_token.specs.Operators.{is_op, op_at}
 use Rattle.lay_token.proofs.Deciding.{punct_is}
 use Rattle.lay_form.specs.Form.{Bit, Blank, Done, Form, Operator, Part, Piece, keyword, semicolon}
 use Rattle.lay_form.specs.Notation.{I0, piece, when}
-use Rattle.lay_tree.specs.Words.{leaf_of}
-use Rattle.lay_tree.specs.nodes.Call.{before_rules, end_form}
-use Rattle.lay_tree.specs.nodes.Functions.{fn_head_form, mut_word, safety_form, signature_form}
-use Rattle.lay_tree.specs.nodes.Generics.{bounded_form, default_form, generics_form}
-use Rattle.lay_tree.specs.nodes.Heads.{about_enum, about_union, called, head_fields, impl_head_form, of_type, struct_tail, trait_head_form, trait_ref_form, unsafe_form, value_head_form}
+use Rattle.lay_node.specs.Words.{leaf_of}
+use Rattle.lay_node.specs.nodes.Call.{before_rules, end_form}
+use Rattle.lay_node.specs.nodes.Functions.{fn_head_form, mut_word, safety_form, signature_form}
+use Rattle.lay_node.specs.nodes.Generics.{bounded_form, default_form, generics_form}
+use Rattle.lay_node.specs.nodes.Heads.{about_enum, about_union, called, head_fields, impl_head_form, of_type, struct_tail, trait_head_form, trait_ref_form, unsafe_form, value_head_form}
+use Rattle.lay_node.specs.nodes.Types.{abi_form, abi_name, about_type, given_form}
+use Rattle.lay_node.specs.nodes.Use.{about_use, rename_form}
+use Rattle.lay_node.specs.nodes.Where.{wheres_before_semicolon}
+use Rattle.lay_node.specs.tokens.Lists.{group_form}
+use Rattle.lay_node.specs.declared.functions.FnHead.{FnHead}
+use Rattle.lay_node.specs.declared.functions.Safety.{Safety}
+use Rattle.lay_node.specs.declared.functions.Safety.TheVariants as safety
+use Rattle.lay_node.specs.declared.generics.Generics.{Generics}
+use Rattle.lay_node.specs.declared.heads.Site.{Site}
+use Rattle.lay_node.specs.declared.heads.ValueHead.{ValueHead}
+use Rattle.lay_node.specs.declared.heads.ValueHead.TheVariants as value
+use Rattle.lay_node.specs.declared.types.Abi.{Abi}
+use Rattle.lay_node.specs.Ahead.{Tokens, first, is_keyword, opens}
+use Rattle.lay_node.specs.nodes.SimplePath.{simple_path_form}
+use Rattle.lay_node.specs.reader.Attr.{begins_attr}
+use Rattle.lay_node.specs.declared.tokens.MacroCall.{MacroCall}
+use Rattle.lay_node.proofs.Fronts.{end_shorter, one_front, one_shorter, op_shorter, op_test, op_text}
+use Rattle.lay_node.proofs.Parts.{word_kind}
+use Rattle.lay_form.specs.Spelled.{IsOne, Spells}
+use Rattle.lay_form.proofs.FormLaws.{bits_end, shorter}
+use Rattle.lay_node.proofs.reader.AttrRead.{BeginsItem}
+use Rattle.lay_node.proofs.reader.Call.{SpelledCall, call_complete}
+use Rattle.lay_node.proofs.reader.SimplePath.{OfLead, OfOne, OfWord, SimplePathFront, simple_path_front, simple_path_no_keyword}
 use Rattle.lay_tree.specs.nodes.Item.{KindFacts, about_impl, about_trait, foreign_abi, item_body, told_of_item, told_of_kind, value_form}
-use Rattle.lay_tree.specs.nodes.Types.{abi_form, abi_name, about_type, given_form}
-use Rattle.lay_tree.specs.nodes.Use.{about_use, rename_form}
-use Rattle.lay_tree.specs.nodes.Where.{wheres_before_semicolon}
-use Rattle.lay_tree.specs.tokens.Lists.{group_form}
-use Rattle.lay_tree.specs.declared.functions.FnHead.{FnHead}
-use Rattle.lay_tree.specs.declared.functions.Safety.{Safety}
-use Rattle.lay_tree.specs.declared.functions.Safety.TheVariants as safety
-use Rattle.lay_tree.specs.declared.generics.Generics.{Generics}
-use Rattle.lay_tree.specs.declared.heads.Site.{Site}
-use Rattle.lay_tree.specs.declared.heads.ValueHead.{ValueHead}
-use Rattle.lay_tree.specs.declared.heads.ValueHead.TheVariants as value
 use Rattle.lay_tree.specs.declared.item.ItemKind.{ItemKind}
 use Rattle.lay_tree.specs.declared.item.ItemKind.TheVariants as item
-use Rattle.lay_tree.specs.declared.types.Abi.{Abi}
 use Rattle.lay_tree.proofs.nodes.ItemLaws as laws
 use Rattle.lay_tree.proofs.nodes.ItemLaws.{KindView, IsExternCrate, IsImport, IsFileModule, IsModule, IsFunction, IsAlias, IsStruct, IsUnion, IsEnum, IsValue, IsTrait, IsImpl, IsForeign, IsRules, IsCall, kind_view}
 use Rattle.lay_tree.proofs.reader.ItemSound.{KindAt, alone}
-use Rattle.lay_form.specs.Spelled.{IsOne, Spells}
-use Rattle.lay_form.proofs.FormLaws.{bits_end, shorter}
-use Rattle.lay_tree.specs.Ahead.{Tokens, first, is_keyword, opens}
-use Rattle.lay_tree.specs.nodes.SimplePath.{simple_path_form}
-use Rattle.lay_tree.specs.reader.Attr.{begins_attr}
-use Rattle.lay_tree.specs.declared.tokens.MacroCall.{MacroCall}
-use Rattle.lay_tree.proofs.Fronts.{end_shorter, one_front, one_shorter, op_shorter, op_test, op_text}
-use Rattle.lay_tree.proofs.Parts.{word_kind}
-use Rattle.lay_tree.proofs.reader.AttrRead.{BeginsItem}
-use Rattle.lay_tree.proofs.reader.Call.{SpelledCall, call_complete}
-use Rattle.lay_tree.proofs.reader.SimplePath.{OfLead, OfOne, OfWord, SimplePathFront, simple_path_front, simple_path_no_keyword}
 
 -- ---- the first token
 

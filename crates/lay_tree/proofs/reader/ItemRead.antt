@@ -9,87 +9,87 @@ use Rattle.lay_piece.specs.declared.kind.Kind.TheVariants.{Ident, Punct, Opener}
 use Rattle.lay_form.specs.Form.{Blank, Done, Fixed, Form, Operator, Part, Piece, keyword, semicolon}
 use Rattle.lay_form.specs.Notation.{I0, piece}
 use Rattle.lay_form.specs.Spelled.{IsOne, IsOperator, Spells}
-use Rattle.lay_tree.specs.Ahead.{Tokens, first, is_keyword, is_mark}
-use Rattle.lay_tree.specs.Words.{is_name, leaf_of}
-use Rattle.lay_tree.specs.nodes.Attr.{are_attrs}
-use Rattle.lay_tree.specs.nodes.Call.{before_rules, end_form, is_group}
+use Rattle.lay_node.specs.Ahead.{Tokens, first, is_keyword, is_mark}
+use Rattle.lay_node.specs.Words.{is_name, leaf_of}
+use Rattle.lay_node.specs.nodes.Attr.{are_attrs}
+use Rattle.lay_node.specs.nodes.Call.{before_rules, end_form, is_group}
+use Rattle.lay_node.specs.nodes.Functions.{is_fn_head, output_follows}
+use Rattle.lay_node.specs.nodes.Generics.{bounded_form, generics_form, is_generics}
+use Rattle.lay_node.specs.nodes.Heads.{about_enum, about_extern_crate, about_struct, about_union, about_value_head, called, ends_head, head_fields, is_impl_head, is_trait_head, is_value_head, leads, struct_tail, trait_ref_form, value_follows, value_head_form}
+use Rattle.lay_node.specs.nodes.Types.{about_type, good_at, is_abi_name, is_given, type_follows}
+use Rattle.lay_node.specs.nodes.Use.{about_use, rename_form}
+use Rattle.lay_node.specs.nodes.Where.{are_predicates, predicate_form, wheres_before_body}
+use Rattle.lay_node.specs.reader.Attr.{attributes}
+use Rattle.lay_node.specs.reader.Call.{behind_end, call}
+use Rattle.lay_node.specs.reader.Functions.{fn_head, insides}
+use Rattle.lay_node.specs.reader.Heads.{impl_head, trait_head, unsafe_flag, value_head}
+use Rattle.lay_node.specs.reader.Tokens.{group}
+use Rattle.lay_node.specs.reader.Types.{if_there, is_string_token, literal, if_read}
+use Rattle.lay_node.specs.reader.Use.{use_at}
+use Rattle.lay_node.specs.reader.Vis.{visibility}
+use Rattle.lay_node.specs.reader.Where.{wheres}
+use Rattle.lay_node.specs.tokens.Lists.{group_form}
+use Rattle.lay_node.specs.declared.attr.Attr.{Attr}
+use Rattle.lay_node.specs.declared.functions.FnHead.{FnHead}
+use Rattle.lay_node.specs.declared.generics.Generics.{Generics}
+use Rattle.lay_node.specs.declared.generics.Wheres.{Wheres}
+use Rattle.lay_node.specs.declared.heads.Alias.{Alias}
+use Rattle.lay_node.specs.declared.heads.Enum.{Enum}
+use Rattle.lay_node.specs.declared.heads.ExternCrate.{ExternCrate}
+use Rattle.lay_node.specs.declared.heads.ImplHead.{ImplHead}
+use Rattle.lay_node.specs.declared.heads.Site.{Site}
+use Rattle.lay_node.specs.declared.heads.Site.TheVariants as site
+use Rattle.lay_node.specs.declared.heads.Struct.{Struct}
+use Rattle.lay_node.specs.declared.heads.TraitHead.{TraitHead}
+use Rattle.lay_node.specs.declared.heads.Union.{Union}
+use Rattle.lay_node.specs.declared.heads.ValueHead.{ValueHead}
+use Rattle.lay_node.specs.declared.heads.ValueHead.TheVariants as value
+use Rattle.lay_node.specs.declared.token.Literal.{Literal}
+use Rattle.lay_node.specs.declared.token.Name.{Name}
+use Rattle.lay_node.specs.declared.tokens.Group.{Group}
+use Rattle.lay_node.specs.declared.tokens.MacroCall.{MacroCall}
+use Rattle.lay_node.specs.declared.types.Ty.{Ty}
+use Rattle.lay_node.specs.declared.types.TypePlace.TheVariants.{Bounds}
+use Rattle.lay_node.specs.declared.use_tree.UseTree.{UseTree}
+use Rattle.lay_node.proofs.Follow.{quiet_follows, semicolon_quiet}
+use Rattle.lay_node.proofs.Fronts.{mark_passed, one_front}
+use Rattle.lay_node.proofs.Parts.{before_blank, behind_blank, bit_alone, leaf_alone, leaf_parts, part_alone, piece_bit, word_kind}
+use Rattle.lay_node.proofs.reader.AliasComplete.{alias_begins}
+use Rattle.lay_node.proofs.reader.AttrRead.{attributes_complete}
+use Rattle.lay_node.proofs.reader.Call.{call_complete, end_read}
+use Rattle.lay_node.proofs.reader.Exact.{Complete, IsRead, Stands}
+use Rattle.lay_node.proofs.reader.GenericsComplete.{equals_operator}
+use Rattle.lay_node.proofs.reader.HeadEnds.{semicolon_ends, tail_ends}
+use Rattle.lay_node.proofs.reader.HeadParts.{body_wheres, brace_ends_wheres, semicolon_ends_wheres, wheres_front, wheres_there}
+use Rattle.lay_node.proofs.reader.HeadsLevel.{insides_reads}
+use Rattle.lay_node.proofs.reader.OutsideExact.{crate_words}
+use Rattle.lay_node.proofs.reader.PatternsCompletePaths.{PatReads}
+use Rattle.lay_node.proofs.reader.PatternsFronts.{free_quiet}
+use Rattle.lay_node.proofs.reader.Tokens.{group_complete}
+use Rattle.lay_node.proofs.reader.TypesComplete.{and_none}
+use Rattle.lay_node.proofs.reader.TypesCompleteParts.{flag_complete, keyword_there, literal_complete, one_left}
+use Rattle.lay_node.proofs.reader.TypesFronts.{Ends, equals_quiet, op_first, Quiet}
+use Rattle.lay_node.proofs.reader.Use.{use_complete}
+use Rattle.lay_node.proofs.reader.ValueHeads.{value_begins}
+use Rattle.lay_node.proofs.reader.Vis.{vis_complete, vis_may}
+use Rattle.lay_node.proofs.reader.Words.{GoodName, name_complete}
 use Rattle.lay_tree.specs.nodes.Exprs.{placed, about_expr, follows}
-use Rattle.lay_tree.specs.nodes.Functions.{is_fn_head, output_follows}
-use Rattle.lay_tree.specs.nodes.Generics.{bounded_form, generics_form, is_generics}
-use Rattle.lay_tree.specs.nodes.Heads.{about_enum, about_extern_crate, about_struct, about_union, about_value_head, called, ends_head, head_fields, is_impl_head, is_trait_head, is_value_head, leads, struct_tail, trait_ref_form, value_follows, value_head_form}
 use Rattle.lay_tree.specs.nodes.Item as node
 use Rattle.lay_tree.specs.nodes.Item.{about_foreign, about_impl, about_import, about_item, about_module, about_trait, foreign_abi, in_module, is_inherited, items_good, may_lack_body, may_lack_value, module_head, rules_form, told_of_item, told_of_kind, value_form, value_placed, may_be_valued}
 use Rattle.lay_tree.specs.nodes.Places.{FREE}
-use Rattle.lay_tree.specs.nodes.Types.{about_type, good_at, is_abi_name, is_given, type_follows}
-use Rattle.lay_tree.specs.nodes.Use.{about_use, rename_form}
-use Rattle.lay_tree.specs.nodes.Where.{are_predicates, predicate_form, wheres_before_body}
-use Rattle.lay_tree.specs.reader.Attr.{attributes}
-use Rattle.lay_tree.specs.reader.Call.{behind_end, call}
 use Rattle.lay_tree.specs.reader.Exprs.{expr_at}
-use Rattle.lay_tree.specs.reader.Functions.{fn_head, insides}
-use Rattle.lay_tree.specs.reader.Heads.{impl_head, trait_head, unsafe_flag, value_head}
 use Rattle.lay_tree.specs.reader.Item.{ItemLead, ItemWithin, OfAlias, OfCall, OfEnum, OfExternCrate, OfForeign, OfFunction, OfImpl, OfImport, OfModule, OfRules, OfStruct, OfTrait, OfUnion, OfValue, call_item, foreign_by, function_by, impl_by, import_by, item_at, item_body, item_by, item_lead, kind_at, kind_by, may_stand, module_by, rules_item, trait_by, value_by}
-use Rattle.lay_tree.specs.reader.Tokens.{group}
-use Rattle.lay_tree.specs.reader.Types.{if_there, is_string_token, literal, if_read}
-use Rattle.lay_tree.specs.reader.Use.{use_at}
-use Rattle.lay_tree.specs.reader.Vis.{visibility}
-use Rattle.lay_tree.specs.reader.Where.{wheres}
-use Rattle.lay_tree.specs.tokens.Lists.{group_form}
-use Rattle.lay_tree.specs.declared.attr.Attr.{Attr}
 use Rattle.lay_tree.specs.declared.exprs.Expr.{Expr}
-use Rattle.lay_tree.specs.declared.functions.FnHead.{FnHead}
-use Rattle.lay_tree.specs.declared.generics.Generics.{Generics}
-use Rattle.lay_tree.specs.declared.generics.Wheres.{Wheres}
-use Rattle.lay_tree.specs.declared.heads.Alias.{Alias}
-use Rattle.lay_tree.specs.declared.heads.Enum.{Enum}
-use Rattle.lay_tree.specs.declared.heads.ExternCrate.{ExternCrate}
-use Rattle.lay_tree.specs.declared.heads.ImplHead.{ImplHead}
-use Rattle.lay_tree.specs.declared.heads.Site.{Site}
-use Rattle.lay_tree.specs.declared.heads.Site.TheVariants as site
-use Rattle.lay_tree.specs.declared.heads.Struct.{Struct}
-use Rattle.lay_tree.specs.declared.heads.TraitHead.{TraitHead}
-use Rattle.lay_tree.specs.declared.heads.Union.{Union}
-use Rattle.lay_tree.specs.declared.heads.ValueHead.{ValueHead}
-use Rattle.lay_tree.specs.declared.heads.ValueHead.TheVariants as value
 use Rattle.lay_tree.specs.declared.item.Item.{Item}
 use Rattle.lay_tree.specs.declared.item.ItemKind.{ItemKind}
 use Rattle.lay_tree.specs.declared.item.ItemKind.TheVariants as item
-use Rattle.lay_tree.specs.declared.token.Literal.{Literal}
-use Rattle.lay_tree.specs.declared.token.Name.{Name}
-use Rattle.lay_tree.specs.declared.tokens.Group.{Group}
-use Rattle.lay_tree.specs.declared.tokens.MacroCall.{MacroCall}
-use Rattle.lay_tree.specs.declared.types.Ty.{Ty}
-use Rattle.lay_tree.specs.declared.types.TypePlace.TheVariants.{Bounds}
-use Rattle.lay_tree.specs.declared.use_tree.UseTree.{UseTree}
-use Rattle.lay_tree.proofs.Follow.{quiet_follows, semicolon_quiet}
-use Rattle.lay_tree.proofs.Fronts.{mark_passed, one_front}
-use Rattle.lay_tree.proofs.Parts.{before_blank, behind_blank, bit_alone, leaf_alone, leaf_parts, part_alone, piece_bit, word_kind}
 use Rattle.lay_tree.proofs.nodes.ItemLaws as laws
 use Rattle.lay_tree.proofs.nodes.ItemLaws.{KindView, IsExternCrate, IsImport, IsFileModule, IsModule, IsFunction, IsAlias, IsStruct, IsUnion, IsEnum, IsValue, IsTrait, IsImpl, IsForeign, IsRules, IsCall, kind_view}
-use Rattle.lay_tree.proofs.reader.AliasComplete.{alias_begins}
-use Rattle.lay_tree.proofs.reader.AttrRead.{attributes_complete}
-use Rattle.lay_tree.proofs.reader.Call.{call_complete, end_read}
-use Rattle.lay_tree.proofs.reader.Exact.{Complete, IsRead, Stands}
 use Rattle.lay_tree.proofs.reader.ExprQuiet.{ends_follow, semicolon_ends_expr}
-use Rattle.lay_tree.proofs.reader.GenericsComplete.{equals_operator}
-use Rattle.lay_tree.proofs.reader.HeadEnds.{semicolon_ends, tail_ends}
-use Rattle.lay_tree.proofs.reader.HeadParts.{body_wheres, brace_ends_wheres, semicolon_ends_wheres, wheres_front, wheres_there}
-use Rattle.lay_tree.proofs.reader.HeadsLevel.{insides_reads}
 use Rattle.lay_tree.proofs.reader.ItemKinds.{body_read, item_none, item_parts, vis_begins}
 use Rattle.lay_tree.proofs.reader.ItemLeads.{kind_front, spelled_as}
 use Rattle.lay_tree.proofs.reader.ItemReads.{HeadsComplete, alias_lead, call_lead, const_lead, enum_lead, extern_crate_lead, foreign_front, foreign_lead, function_lead, impl_lead, import_lead, module_lead, rules_lead, static_lead, struct_lead, trait_lead, union_lead, unsafe_impl_lead, unsafe_lead, unsafe_trait_lead}
 use Rattle.lay_tree.proofs.reader.ItemSound.{KindAt}
-use Rattle.lay_tree.proofs.reader.OutsideExact.{crate_words}
-use Rattle.lay_tree.proofs.reader.PatternsCompletePaths.{PatReads}
-use Rattle.lay_tree.proofs.reader.PatternsFronts.{free_quiet}
-use Rattle.lay_tree.proofs.reader.Tokens.{group_complete}
-use Rattle.lay_tree.proofs.reader.TypesComplete.{and_none}
-use Rattle.lay_tree.proofs.reader.TypesCompleteParts.{flag_complete, keyword_there, literal_complete, one_left}
-use Rattle.lay_tree.proofs.reader.TypesFronts.{Ends, equals_quiet, op_first, Quiet}
-use Rattle.lay_tree.proofs.reader.Use.{use_complete}
-use Rattle.lay_tree.proofs.reader.ValueHeads.{value_begins}
-use Rattle.lay_tree.proofs.reader.Vis.{vis_complete, vis_may}
-use Rattle.lay_tree.proofs.reader.Words.{GoodName, name_complete}
 use Rattle.lay_token.specs.Operators.{is_op}
 
 -- what spells a declaration of a macro

@@ -12,47 +12,47 @@ use Rattle.lay_token.specs.Delimiters.{is_opener}
 use Rattle.lay_token.specs.Operators.{is_op}
 use Rattle.lay_form.specs.Form.{Form, Piece, keyword, Bit}
 use Rattle.lay_form.specs.Spelled.{IsOne, IsOperator, Spells}
-use Rattle.lay_tree.specs.Ahead.{Tokens, first, is_keyword, tail}
-use Rattle.lay_tree.specs.Words.{is_path_class}
-use Rattle.lay_tree.specs.nodes.Functions.{about_fn_head, fn_head_form, is_fn_head}
-use Rattle.lay_tree.specs.nodes.Heads.{about_alias, about_enum, about_extern_crate, about_impl_head, about_struct, about_union, about_value_head, ends_head, headed, is_trait_head, trait_head_form, of_type, unsafe_form}
-use Rattle.lay_tree.specs.nodes.Types.{is_abi_name, is_given}
-use Rattle.lay_tree.specs.reader.Functions.{async_flag, behind_abi, behind_string, fn_head, safety_at}
-use Rattle.lay_tree.specs.reader.Heads.{alias, enum, extern_crate, impl_head, struct, trait_head, union, value_head}
+use Rattle.lay_node.specs.Ahead.{Tokens, first, is_keyword, tail}
+use Rattle.lay_node.specs.Words.{is_path_class}
+use Rattle.lay_node.specs.nodes.Functions.{about_fn_head, fn_head_form, is_fn_head}
+use Rattle.lay_node.specs.nodes.Heads.{about_alias, about_enum, about_extern_crate, about_impl_head, about_struct, about_union, about_value_head, ends_head, headed, is_trait_head, trait_head_form, of_type, unsafe_form}
+use Rattle.lay_node.specs.nodes.Types.{is_abi_name, is_given}
+use Rattle.lay_node.specs.reader.Functions.{async_flag, behind_abi, behind_string, fn_head, safety_at}
+use Rattle.lay_node.specs.reader.Heads.{alias, enum, extern_crate, impl_head, struct, trait_head, union, value_head}
+use Rattle.lay_node.specs.reader.Loops.{Got, ◌>>=◌}
+use Rattle.lay_node.specs.reader.Patterns.{PatWithin}
+use Rattle.lay_node.specs.reader.Words.{name, name_by}
+use Rattle.lay_node.specs.declared.functions.FnHead.{FnHead}
+use Rattle.lay_node.specs.declared.heads.Alias.{Alias}
+use Rattle.lay_node.specs.declared.heads.Enum.{Enum}
+use Rattle.lay_node.specs.declared.heads.ExternCrate.{ExternCrate}
+use Rattle.lay_node.specs.declared.heads.Site.{Site}
+use Rattle.lay_node.specs.declared.heads.Struct.{Struct}
+use Rattle.lay_node.specs.declared.heads.TraitHead.{TraitHead}
+use Rattle.lay_node.specs.declared.heads.Union.{Union}
+use Rattle.lay_node.specs.declared.token.Literal.{Literal}
+use Rattle.lay_node.specs.declared.token.Name.{Name}
+use Rattle.lay_node.specs.declared.tokens.MacroCall.{MacroCall}
+use Rattle.lay_node.proofs.Fronts.{one_front, op_front, other_op}
+use Rattle.lay_node.proofs.Parts.{word_kind, before_blank, behind_blank, bit_alone}
+use Rattle.lay_node.proofs.reader.Call.{SpelledCall}
+use Rattle.lay_node.proofs.reader.Exact.{IsRead}
+use Rattle.lay_node.specs.declared.functions.Safety.{Safety}
+use Rattle.lay_node.specs.declared.functions.Safety.TheVariants as safety
+use Rattle.lay_node.proofs.reader.FunctionsBegins.{string_kind}
+use Rattle.lay_node.proofs.reader.HeadsLevel.{CompleteHead}
+use Rattle.lay_node.proofs.reader.PatternsCompletePaths.{PatReads}
+use Rattle.lay_node.proofs.reader.SimplePath.{OfLead, OfOne, OfWord, SimplePathFront, simple_path_front, simple_path_no_keyword}
+use Rattle.lay_node.proofs.reader.TypesCompleteParts.{one_left, colon_operator}
+use Rattle.lay_node.proofs.reader.Words.{GoodName, name_complete}
+use Rattle.lay_node.specs.declared.token.GivenName.{GivenName}
+use Rattle.lay_node.specs.declared.types.Ty.{Ty}
+use Rattle.lay_node.proofs.reader.Use.{RenameIs}
+use Rattle.lay_node.proofs.reader.ValueHeads.{const_no_keyword, given_parts}
+use Rattle.lay_node.specs.declared.token.GivenName.TheVariants as given
+use Rattle.lay_node.specs.declared.heads.ValueHead.TheVariants as value
 use Rattle.lay_tree.specs.reader.Item.{ItemLead, OfAlias, OfCall, OfEnum, OfExternCrate, OfForeign, OfFunction, OfImpl, OfImport, OfModule, OfRules, OfStruct, OfTrait, OfUnion, OfValue, begins_function, begins_rules, begins_union, item_lead}
-use Rattle.lay_tree.specs.reader.Loops.{Got, ◌>>=◌}
-use Rattle.lay_tree.specs.reader.Patterns.{PatWithin}
-use Rattle.lay_tree.specs.reader.Words.{name, name_by}
-use Rattle.lay_tree.specs.declared.functions.FnHead.{FnHead}
-use Rattle.lay_tree.specs.declared.heads.Alias.{Alias}
-use Rattle.lay_tree.specs.declared.heads.Enum.{Enum}
-use Rattle.lay_tree.specs.declared.heads.ExternCrate.{ExternCrate}
-use Rattle.lay_tree.specs.declared.heads.Site.{Site}
-use Rattle.lay_tree.specs.declared.heads.Struct.{Struct}
-use Rattle.lay_tree.specs.declared.heads.TraitHead.{TraitHead}
-use Rattle.lay_tree.specs.declared.heads.Union.{Union}
-use Rattle.lay_tree.specs.declared.token.Literal.{Literal}
-use Rattle.lay_tree.specs.declared.token.Name.{Name}
-use Rattle.lay_tree.specs.declared.tokens.MacroCall.{MacroCall}
-use Rattle.lay_tree.proofs.Fronts.{one_front, op_front, other_op}
-use Rattle.lay_tree.proofs.Parts.{word_kind, before_blank, behind_blank, bit_alone}
-use Rattle.lay_tree.proofs.reader.Call.{SpelledCall}
-use Rattle.lay_tree.proofs.reader.Exact.{IsRead}
-use Rattle.lay_tree.specs.declared.functions.Safety.{Safety}
-use Rattle.lay_tree.specs.declared.functions.Safety.TheVariants as safety
-use Rattle.lay_tree.proofs.reader.FunctionsBegins.{string_kind}
-use Rattle.lay_tree.proofs.reader.HeadsLevel.{CompleteHead}
-use Rattle.lay_tree.proofs.reader.PatternsCompletePaths.{PatReads}
-use Rattle.lay_tree.proofs.reader.SimplePath.{OfLead, OfOne, OfWord, SimplePathFront, simple_path_front, simple_path_no_keyword}
-use Rattle.lay_tree.proofs.reader.TypesCompleteParts.{one_left, colon_operator}
-use Rattle.lay_tree.proofs.reader.Words.{GoodName, name_complete}
 use Rattle.lay_tree.specs.nodes.Item.{foreign_abi}
-use Rattle.lay_tree.specs.declared.token.GivenName.{GivenName}
-use Rattle.lay_tree.specs.declared.types.Ty.{Ty}
-use Rattle.lay_tree.proofs.reader.Use.{RenameIs}
-use Rattle.lay_tree.proofs.reader.ValueHeads.{const_no_keyword, given_parts}
-use Rattle.lay_tree.specs.declared.token.GivenName.TheVariants as given
-use Rattle.lay_tree.specs.declared.heads.ValueHead.TheVariants as value
 
 -- What is proved of the heads: what stands there is read.
 pub record HeadsComplete : Type 0 where

@@ -7,54 +7,54 @@ use Rattle.lay_form.specs.Notation.{I0, piece}
 use Rattle.lay_form.specs.Spelled.{AreBits, IsOne, Spells, IsOperator}
 use Rattle.lay_form.proofs.FormLaws.{is_end}
 use Rattle.lay_form.proofs.FormLaws.{deeper as raise}
-use Rattle.lay_tree.specs.Ahead.{Tokens, first, tail, is_keyword, is_mark}
-use Rattle.lay_tree.specs.Words.{is_string}
-use Rattle.lay_tree.specs.nodes.Attr.{are_attrs}
+use Rattle.lay_node.specs.Ahead.{Tokens, first, tail, is_keyword, is_mark}
+use Rattle.lay_node.specs.Words.{is_string}
+use Rattle.lay_node.specs.nodes.Attr.{are_attrs}
+use Rattle.lay_node.specs.nodes.Functions.{about_fn_head, fn_head_form, is_fn_head}
+use Rattle.lay_node.specs.nodes.Heads.{HeadFacts, about_alias, about_enum, about_extern_crate, about_impl_head, about_struct, about_union, about_value_head, headed, impl_head_form, is_impl_head, is_trait_head, is_value_head, leads, trait_head_form, unsafe_form, value_head_form}
+use Rattle.lay_node.specs.nodes.Types.{is_abi_name}
+use Rattle.lay_node.specs.nodes.Use.{about_use}
+use Rattle.lay_node.specs.nodes.Where.{are_predicates, predicate_form, wheres_before_body, wheres_before_semicolon}
+use Rattle.lay_node.specs.reader.Functions.{fn_head}
+use Rattle.lay_node.specs.reader.Heads.{alias, enum, extern_crate, impl_head, semicolon, struct, trait_head, union, unsafe_flag, value_head}
+use Rattle.lay_node.specs.reader.Exact.{InText}
+use Rattle.lay_node.specs.reader.Loops.{Read, ◌>>=◌, passed}
+use Rattle.lay_node.specs.reader.Patterns.{PatWithin}
+use Rattle.lay_node.specs.reader.Types.{if_there, is_string_token, literal, if_read}
+use Rattle.lay_node.specs.reader.Where.{wheres}
+use Rattle.lay_node.specs.reader.Words.{name}
+use Rattle.lay_node.specs.declared.attr.Attr.{Attr}
+use Rattle.lay_node.specs.declared.generics.Wheres.{Wheres}
+use Rattle.lay_node.specs.declared.heads.Alias.{Alias}
+use Rattle.lay_node.specs.declared.heads.Enum.{Enum}
+use Rattle.lay_node.specs.declared.heads.ExternCrate.{ExternCrate}
+use Rattle.lay_node.specs.declared.heads.Site.{Site}
+use Rattle.lay_node.specs.declared.heads.Site.TheVariants as site
+use Rattle.lay_node.specs.declared.heads.Struct.{Struct}
+use Rattle.lay_node.specs.declared.heads.Union.{Union}
+use Rattle.lay_node.specs.declared.token.Literal.{Literal}
+use Rattle.lay_node.proofs.Fronts.{keyword_one, mark_passed_is, mark_one, texts_behind}
+use Rattle.lay_node.proofs.Parts.{bit_piece, leaf_spelled, word_kind}
+use Rattle.lay_node.proofs.Steps.{bind_some, chosen, same_some}
+use Rattle.lay_node.proofs.reader.Exact.{Sound}
+use Rattle.lay_node.proofs.reader.HeadParts.{semicolon_wheres, wheres_held}
+use Rattle.lay_node.proofs.reader.HeadsLevel.{SoundHead, StoodFree}
+use Rattle.lay_node.proofs.reader.Loops.{SoundStep}
+use Rattle.lay_node.proofs.reader.PatternsSoundLevel.{SoundPatWithin}
+use Rattle.lay_node.proofs.reader.TypesSoundParts.{Out, bit_texts, flag_leads, flag_texts, if_there_sound, keyword_passed_is, literal_sound, if_read_sound}
+use Rattle.lay_node.proofs.reader.Words.{name_sound}
 use Rattle.lay_tree.specs.nodes.Exprs.{placed, about_expr}
-use Rattle.lay_tree.specs.nodes.Functions.{about_fn_head, fn_head_form, is_fn_head}
-use Rattle.lay_tree.specs.nodes.Heads.{HeadFacts, about_alias, about_enum, about_extern_crate, about_impl_head, about_struct, about_union, about_value_head, headed, impl_head_form, is_impl_head, is_trait_head, is_value_head, leads, trait_head_form, unsafe_form, value_head_form}
 use Rattle.lay_tree.specs.nodes.Item as node
 use Rattle.lay_tree.specs.nodes.Item.{KindFacts, about_file_module, about_foreign, about_function, about_impl, about_import, about_item, about_module, about_trait, about_value, by_site, foreign_abi, in_module, in_modules, items_good, may_lack_body, may_lack_value, module_head, told_of_item, told_of_kind, value_form, value_placed, may_be_valued}
 use Rattle.lay_tree.specs.nodes.Places.{FREE}
-use Rattle.lay_tree.specs.nodes.Types.{is_abi_name}
-use Rattle.lay_tree.specs.nodes.Use.{about_use}
-use Rattle.lay_tree.specs.nodes.Where.{are_predicates, predicate_form, wheres_before_body, wheres_before_semicolon}
-use Rattle.lay_tree.specs.reader.Functions.{fn_head}
-use Rattle.lay_tree.specs.reader.Heads.{alias, enum, extern_crate, impl_head, semicolon, struct, trait_head, union, unsafe_flag, value_head}
-use Rattle.lay_tree.specs.reader.Exact.{InText}
 use Rattle.lay_tree.specs.reader.Item.{ItemWithin, foreign_by, function_by, impl_by, import_by, item_body, module_by, trait_by, value_by}
-use Rattle.lay_tree.specs.reader.Loops.{Read, ◌>>=◌, passed}
-use Rattle.lay_tree.specs.reader.Patterns.{PatWithin}
-use Rattle.lay_tree.specs.reader.Types.{if_there, is_string_token, literal, if_read}
-use Rattle.lay_tree.specs.reader.Where.{wheres}
-use Rattle.lay_tree.specs.reader.Words.{name}
-use Rattle.lay_tree.specs.declared.attr.Attr.{Attr}
 use Rattle.lay_tree.specs.declared.exprs.Expr.{Expr}
-use Rattle.lay_tree.specs.declared.generics.Wheres.{Wheres}
-use Rattle.lay_tree.specs.declared.heads.Alias.{Alias}
-use Rattle.lay_tree.specs.declared.heads.Enum.{Enum}
-use Rattle.lay_tree.specs.declared.heads.ExternCrate.{ExternCrate}
-use Rattle.lay_tree.specs.declared.heads.Site.{Site}
-use Rattle.lay_tree.specs.declared.heads.Site.TheVariants as site
-use Rattle.lay_tree.specs.declared.heads.Struct.{Struct}
-use Rattle.lay_tree.specs.declared.heads.Union.{Union}
 use Rattle.lay_tree.specs.declared.item.Item.{Item}
 use Rattle.lay_tree.specs.declared.item.ItemKind.{ItemKind}
 use Rattle.lay_tree.specs.declared.item.ItemKind.TheVariants as item
-use Rattle.lay_tree.specs.declared.token.Literal.{Literal}
-use Rattle.lay_tree.proofs.Fronts.{keyword_one, mark_passed_is, mark_one, texts_behind}
-use Rattle.lay_tree.proofs.Parts.{bit_piece, leaf_spelled, word_kind}
-use Rattle.lay_tree.proofs.Steps.{bind_some, chosen, same_some}
 use Rattle.lay_tree.proofs.nodes.ItemLaws as laws
-use Rattle.lay_tree.proofs.reader.Exact.{Sound}
 use Rattle.lay_tree.proofs.reader.ExprSoundLevel.{ExprHeld}
-use Rattle.lay_tree.proofs.reader.HeadParts.{semicolon_wheres, wheres_held}
-use Rattle.lay_tree.proofs.reader.HeadsLevel.{SoundHead, StoodFree}
 use Rattle.lay_tree.proofs.reader.ItemBodies.{body_sound}
-use Rattle.lay_tree.proofs.reader.Loops.{SoundStep}
-use Rattle.lay_tree.proofs.reader.PatternsSoundLevel.{SoundPatWithin}
-use Rattle.lay_tree.proofs.reader.TypesSoundParts.{Out, bit_texts, flag_leads, flag_texts, if_there_sound, keyword_passed_is, literal_sound, if_read_sound}
-use Rattle.lay_tree.proofs.reader.Words.{name_sound}
 use Rattle.lay_token.specs.Operators.{is_op}
 
 -- What is proved of the heads: what is read of them stands there.

@@ -5,38 +5,38 @@ use Rattle.lay_piece.specs.declared.kind.Delim.TheVariants.{Paren, Bracket, Brac
 use Rattle.lay_piece.specs.declared.kind.Kind.{Kind}
 use Rattle.lay_token.specs.Operators.{op_at}
 use Rattle.lay_token.specs.declared.token.Token.{Token}
-use Rattle.lay_tree.specs.Begins.{lead_at}
+use Rattle.lay_node.specs.Begins.{lead_at}
+use Rattle.lay_node.specs.reader.Attr.{attributes}
+use Rattle.lay_node.specs.reader.Call.{call}
+use Rattle.lay_node.specs.reader.Loops.{repeat_from, repeat, elements_from, elements, open_elements_from, open_elements}
+use Rattle.lay_node.specs.reader.SimplePath.{simple_path}
+use Rattle.lay_node.specs.reader.Tokens.{run, tokens_of, group}
+use Rattle.lay_node.specs.reader.Types.{within, path_type, path, chain, segment, args_by, angle, qualified, bracket_type, lifetime, literal, one_arg}
+use Rattle.lay_node.specs.reader.Words.{name as name_reading, word as word_reading}
+use Rattle.lay_node.proofs.samples.Trees.{named, a, b, c, token, word, mark, opens, closes}
+use Rattle.lay_node.proofs.samples.Types.{local}
+use Rattle.lay_node.specs.Ahead.{Tokens}
+use Rattle.lay_node.specs.declared.types.Ty.TheVariants as ty
+use Rattle.lay_node.proofs.nodes.TypesLaws as types
+use Rattle.lay_node.proofs.samples.Tokens as list
 use Rattle.lay_tree.specs.Operands.{expr_lead_at}
 use Rattle.lay_tree.specs.Operators.{binary, prefix, strength, op_text}
 use Rattle.lay_tree.specs.nodes.Exprs.{about_expr, ExprFacts, stands, root_follows}
-use Rattle.lay_tree.specs.nodes.Places.{FREE, plain, statement}
-use Rattle.lay_tree.specs.reader.Attr.{attributes}
-use Rattle.lay_tree.specs.reader.Call.{call}
-use Rattle.lay_tree.specs.reader.Exprs.{assign_expr, base, bracket_expr, break_expr, cast_expr, chain_expr, climb, continue_expr, dot_step, is_ended, expr_at, expr_by, expr_in, one_field, one_step, one_type, operand, operands, paren_expr, path_expr, postfix_expr, range_expr, return_expr, struct_expr, unary_expr, ExprWithin, head_by, climb_by, left_place, stage, operand_ends}
-use Rattle.lay_tree.specs.reader.Loops.{repeat_from, repeat, elements_from, elements, open_elements_from, open_elements}
-use Rattle.lay_tree.specs.reader.SimplePath.{simple_path}
-use Rattle.lay_tree.specs.reader.Tokens.{run, tokens_of, group}
-use Rattle.lay_tree.specs.reader.Types.{within, path_type, path, chain, segment, args_by, angle, qualified, bracket_type, lifetime, literal, one_arg}
-use Rattle.lay_tree.specs.reader.Words.{name as name_reading, word as word_reading}
-use Rattle.lay_tree.specs.declared.exprs.Place.{Place}
-use Rattle.lay_tree.proofs.samples.Exprs.{called, float, float_is, int, int_is, method, name, name_is, named_type, tick_a}
-use Rattle.lay_tree.proofs.samples.Trees.{named, a, b, c, token, word, mark, opens, closes}
-use Rattle.lay_tree.proofs.samples.Types.{local}
 use Rattle.std.specs.Prelude.{suc, nat_le, ◌&&◌, ◌==◌, drop, length}
-use Rattle.lay_tree.specs.Ahead.{Tokens}
+use Rattle.lay_tree.specs.nodes.Places.{FREE, plain, statement}
+use Rattle.lay_tree.specs.reader.Exprs.{assign_expr, base, bracket_expr, break_expr, cast_expr, chain_expr, climb, continue_expr, dot_step, is_ended, expr_at, expr_by, expr_in, one_field, one_step, one_type, operand, operands, paren_expr, path_expr, postfix_expr, range_expr, return_expr, struct_expr, unary_expr, ExprWithin, head_by, climb_by, left_place, stage, operand_ends}
+use Rattle.lay_tree.specs.declared.exprs.Place.{Place}
+use Rattle.lay_piece.specs.declared.kind.Kind.TheVariants as kind
+use Rattle.lay_tree.proofs.samples.Exprs.{called, float, float_is, int, int_is, method, name, name_is, named_type, tick_a}
 use Rattle.lay_tree.specs.declared.exprs.Expr.{Expr}
 use Rattle.lay_tree.specs.declared.operators.Op.{Op}
-use Rattle.lay_piece.specs.declared.kind.Kind.TheVariants as kind
 use Rattle.lay_tree.specs.declared.exprs.Expr.TheVariants as expr
 use Rattle.lay_tree.specs.declared.exprs.FieldExpr.TheVariants as field
 use Rattle.lay_tree.specs.declared.exprs.Start.TheVariants as start
 use Rattle.lay_tree.specs.declared.exprs.Step.TheVariants as step
 use Rattle.lay_tree.specs.declared.operators.Op.TheVariants as op
 use Rattle.lay_tree.specs.declared.operators.Prefix.TheVariants as before
-use Rattle.lay_tree.specs.declared.types.Ty.TheVariants as ty
 use Rattle.lay_tree.proofs.nodes.ExprsLaws as exprs
-use Rattle.lay_tree.proofs.nodes.TypesLaws as types
-use Rattle.lay_tree.proofs.samples.Tokens as list
 
 abbrev digits : List ℕ → Token
 digits text = token kind.Int text false

@@ -4,10 +4,22 @@ use Rattle.std.specs.Prelude.{map, replicate}
 use Rattle.lay_piece.specs.declared.kind.Delim.TheVariants.{Brace}
 use Rattle.lay_piece.specs.declared.kind.Kind.{Kind}
 use Rattle.lay_piece.specs.declared.kind.Kind.TheVariants as kind
-use Rattle.lay_tree.specs.Follow.{OfBang}
+use Rattle.lay_node.specs.Follow.{OfBang}
+use Rattle.lay_node.specs.nodes.Types.{PathFacts, deeper, lone_word}
+use Rattle.lay_node.specs.declared.token.Lifetime.{Lifetime}
+use Rattle.lay_node.specs.declared.token.Literal.{Literal}
+use Rattle.lay_node.specs.declared.tokens.MacroCall.{MacroCall}
+use Rattle.lay_node.specs.declared.types.Arg.TheVariants as arg
+use Rattle.lay_node.specs.declared.types.Path.{Path}
+use Rattle.lay_node.specs.declared.types.PathStyle.TheVariants.{Code}
+use Rattle.lay_node.specs.declared.types.Ty.{Ty}
+use Rattle.lay_node.specs.declared.types.Ty.TheVariants as ty
+use Rattle.lay_node.proofs.nodes.TypesLaws as types
+use Rattle.lay_node.proofs.samples.Tokens as list
+use Rattle.lay_node.proofs.samples.Trees.{named, plain, a, b, c, laid}
+use Rattle.lay_node.proofs.samples.Types.{C, local, local_facts, local_is, named_is}
 use Rattle.lay_tree.specs.Operands.{ByPath}
 use Rattle.lay_tree.specs.nodes.Exprs.{ExprFacts, about_expr, about_step, expr_facts, step_facts, is_raw_word, shut_by}
-use Rattle.lay_tree.specs.nodes.Types.{PathFacts, deeper, lone_word}
 use Rattle.lay_tree.specs.declared.exprs.Expr.{Expr}
 use Rattle.lay_tree.specs.declared.exprs.Expr.TheOpen.{Expr-F, Step-F}
 use Rattle.lay_tree.specs.declared.exprs.Expr.TheVariants as expr
@@ -17,19 +29,7 @@ use Rattle.lay_tree.specs.declared.exprs.Step.{Step}
 use Rattle.lay_tree.specs.declared.exprs.Step.TheVariants as step
 use Rattle.lay_tree.specs.declared.operators.Op.TheVariants as op
 use Rattle.lay_tree.specs.declared.operators.Prefix.TheVariants as before
-use Rattle.lay_tree.specs.declared.token.Lifetime.{Lifetime}
-use Rattle.lay_tree.specs.declared.token.Literal.{Literal}
-use Rattle.lay_tree.specs.declared.tokens.MacroCall.{MacroCall}
-use Rattle.lay_tree.specs.declared.types.Arg.TheVariants as arg
-use Rattle.lay_tree.specs.declared.types.Path.{Path}
-use Rattle.lay_tree.specs.declared.types.PathStyle.TheVariants.{Code}
-use Rattle.lay_tree.specs.declared.types.Ty.{Ty}
-use Rattle.lay_tree.specs.declared.types.Ty.TheVariants as ty
 use Rattle.lay_tree.proofs.nodes.ExprsLaws as exprs
-use Rattle.lay_tree.proofs.nodes.TypesLaws as types
-use Rattle.lay_tree.proofs.samples.Tokens as list
-use Rattle.lay_tree.proofs.samples.Trees.{named, plain, a, b, c, laid}
-use Rattle.lay_tree.proofs.samples.Types.{C, local, local_facts, local_is, named_is}
 
 -- ---- trees
 

@@ -7,64 +7,65 @@ use Rattle.lay_form.specs.Form.{Blank, Operator, Form, Done, Piece, Part, Deeper
 use Rattle.lay_form.specs.Layout.{document}
 use Rattle.lay_form.specs.Notation as notation
 use Rattle.lay_form.specs.Notation.{body, comma_list, I0, piece, where_body}
-use Rattle.lay_tree.specs.Words.{leaf_of}
-use Rattle.lay_tree.specs.nodes.Functions.{mut_word}
-use Rattle.lay_tree.specs.nodes.Generics.{generics_form}
-use Rattle.lay_tree.specs.nodes.Heads.{called}
+use Rattle.lay_node.specs.Words.{leaf_of}
+use Rattle.lay_node.specs.nodes.Functions.{mut_word}
+use Rattle.lay_node.specs.nodes.Generics.{generics_form}
+use Rattle.lay_node.specs.nodes.Heads.{called}
+use Rattle.lay_node.specs.nodes.Patterns.{pat_facts}
+use Rattle.lay_node.specs.nodes.Types.{about_path, arg_facts, args_facts, bound_facts, bounds_form, colon, equals, idle_colon, literal_form, path_facts, PathFacts, start_facts, ty_facts}
+use Rattle.lay_node.specs.nodes.Vis.{pub_word}
+use Rattle.lay_node.specs.nodes.Where.{wheres_before_body, wheres_before_semicolon}
+use Rattle.lay_node.specs.tokens.Lists.{token_list}
+use Rattle.lay_node.specs.declared.fields.Field.{Field}
+use Rattle.lay_node.specs.declared.fields.Fields.TheVariants as fields
+use Rattle.lay_node.specs.declared.fields.Fields.{Fields}
+use Rattle.lay_node.specs.declared.fields.TupleField.{TupleField}
+use Rattle.lay_node.specs.declared.fields.Variant.{Variant}
+use Rattle.lay_node.specs.declared.functions.FnHead.{FnHead}
+use Rattle.lay_node.specs.declared.functions.Param.{Param}
+use Rattle.lay_node.specs.declared.functions.ParamKind.TheVariants as fn_param
+use Rattle.lay_node.specs.declared.functions.ParamKind.{ParamKind}
+use Rattle.lay_node.specs.declared.functions.Safety.{Safety}
+use Rattle.lay_node.specs.declared.generics.GenericParam.TheVariants as param
+use Rattle.lay_node.specs.declared.generics.Generics.{Generics}
+use Rattle.lay_node.specs.declared.generics.Predicate.TheVariants as predicate
+use Rattle.lay_node.specs.declared.generics.Wheres.{Wheres}
+use Rattle.lay_node.specs.declared.heads.Alias.{Alias}
+use Rattle.lay_node.specs.declared.heads.Enum.{Enum}
+use Rattle.lay_node.specs.declared.heads.ExternCrate.{ExternCrate}
+use Rattle.lay_node.specs.declared.heads.ImplHead.{ImplHead}
+use Rattle.lay_node.specs.declared.heads.Struct.{Struct}
+use Rattle.lay_node.specs.declared.heads.TraitHead.{TraitHead}
+use Rattle.lay_node.specs.declared.heads.Union.{Union}
+use Rattle.lay_node.specs.declared.heads.ValueHead.TheVariants as value
+use Rattle.lay_node.specs.declared.heads.ValueHead.{ValueHead}
+use Rattle.lay_node.specs.declared.patterns.FieldPat.TheOpen.{Pat-F}
+use Rattle.lay_node.specs.declared.patterns.Pat.TheVariants as pat
+use Rattle.lay_node.specs.declared.patterns.Pat.{Pat}
+use Rattle.lay_node.specs.declared.token.GivenName.TheVariants as given
+use Rattle.lay_node.specs.declared.token.Listed.{Listed}
+use Rattle.lay_node.specs.declared.token.Literal.{Literal}
+use Rattle.lay_node.specs.declared.types.Arg.TheOpen.{Arg-F, Args-F, Bound-F, PathStart-F, Ty-F}
+use Rattle.lay_node.specs.declared.types.Arg.TheVariants as arg
+use Rattle.lay_node.specs.declared.types.Args.TheVariants as args
+use Rattle.lay_node.specs.declared.types.Path.{Path}
+use Rattle.lay_node.specs.declared.types.PathStart.TheVariants as start
+use Rattle.lay_node.specs.declared.types.PathStyle.TheVariants.{Kind}
+use Rattle.lay_node.specs.declared.types.Ty.TheVariants as ty
+use Rattle.lay_node.specs.declared.types.Ty.{Ty}
+use Rattle.lay_node.specs.declared.vis.Vis.TheVariants as vis
+use Rattle.lay_node.specs.declared.vis.Vis.{Vis}
+use Rattle.lay_node.proofs.nodes.PatternsLaws as pats
+use Rattle.lay_node.proofs.nodes.TypesLaws as types
+use Rattle.lay_node.proofs.samples.Tokens as list
+use Rattle.lay_node.proofs.samples.Trees.{named, plain, a, b, c, laid}
+use Rattle.lay_node.proofs.samples.Types.{local, local_facts, local_is, B, B_is, named_is, meeting, meeting_is}
 use Rattle.lay_tree.specs.nodes.Item.{item_facts, KindFacts, told_of_item, told_of_kind}
-use Rattle.lay_tree.specs.nodes.Patterns.{pat_facts}
-use Rattle.lay_tree.specs.nodes.Types.{about_path, arg_facts, args_facts, bound_facts, bounds_form, colon, equals, idle_colon, literal_form, path_facts, PathFacts, start_facts, ty_facts}
-use Rattle.lay_tree.specs.nodes.Vis.{pub_word}
-use Rattle.lay_tree.specs.nodes.Where.{wheres_before_body, wheres_before_semicolon}
-use Rattle.lay_tree.specs.tokens.Lists.{token_list}
-use Rattle.lay_tree.specs.declared.fields.Field.{Field}
-use Rattle.lay_tree.specs.declared.fields.Fields.TheVariants as fields
-use Rattle.lay_tree.specs.declared.fields.Fields.{Fields}
-use Rattle.lay_tree.specs.declared.fields.TupleField.{TupleField}
-use Rattle.lay_tree.specs.declared.fields.Variant.{Variant}
-use Rattle.lay_tree.specs.declared.functions.FnHead.{FnHead}
-use Rattle.lay_tree.specs.declared.functions.Param.{Param}
-use Rattle.lay_tree.specs.declared.functions.ParamKind.TheVariants as fn_param
-use Rattle.lay_tree.specs.declared.functions.ParamKind.{ParamKind}
-use Rattle.lay_tree.specs.declared.functions.Safety.{Safety}
-use Rattle.lay_tree.specs.declared.generics.GenericParam.TheVariants as param
-use Rattle.lay_tree.specs.declared.generics.Generics.{Generics}
-use Rattle.lay_tree.specs.declared.generics.Predicate.TheVariants as predicate
-use Rattle.lay_tree.specs.declared.generics.Wheres.{Wheres}
-use Rattle.lay_tree.specs.declared.heads.Alias.{Alias}
-use Rattle.lay_tree.specs.declared.heads.Enum.{Enum}
-use Rattle.lay_tree.specs.declared.heads.ExternCrate.{ExternCrate}
-use Rattle.lay_tree.specs.declared.heads.ImplHead.{ImplHead}
-use Rattle.lay_tree.specs.declared.heads.Struct.{Struct}
-use Rattle.lay_tree.specs.declared.heads.TraitHead.{TraitHead}
-use Rattle.lay_tree.specs.declared.heads.Union.{Union}
-use Rattle.lay_tree.specs.declared.heads.ValueHead.TheVariants as value
-use Rattle.lay_tree.specs.declared.heads.ValueHead.{ValueHead}
 use Rattle.lay_tree.specs.declared.item.Item.{Item}
 use Rattle.lay_tree.specs.declared.item.ItemKind.TheVariants as item
 use Rattle.lay_tree.specs.declared.item.ItemKind.{ItemKind}
-use Rattle.lay_tree.specs.declared.patterns.FieldPat.TheOpen.{Pat-F}
-use Rattle.lay_tree.specs.declared.patterns.Pat.TheVariants as pat
-use Rattle.lay_tree.specs.declared.patterns.Pat.{Pat}
-use Rattle.lay_tree.specs.declared.token.GivenName.TheVariants as given
-use Rattle.lay_tree.specs.declared.token.Listed.{Listed}
-use Rattle.lay_tree.specs.declared.token.Literal.{Literal}
-use Rattle.lay_tree.specs.declared.types.Arg.TheOpen.{Arg-F, Args-F, Bound-F, PathStart-F, Ty-F}
-use Rattle.lay_tree.specs.declared.types.Arg.TheVariants as arg
-use Rattle.lay_tree.specs.declared.types.Args.TheVariants as args
-use Rattle.lay_tree.specs.declared.types.Path.{Path}
-use Rattle.lay_tree.specs.declared.types.PathStart.TheVariants as start
-use Rattle.lay_tree.specs.declared.types.PathStyle.TheVariants.{Kind}
-use Rattle.lay_tree.specs.declared.types.Ty.TheVariants as ty
-use Rattle.lay_tree.specs.declared.types.Ty.{Ty}
-use Rattle.lay_tree.specs.declared.vis.Vis.TheVariants as vis
-use Rattle.lay_tree.specs.declared.vis.Vis.{Vis}
 use Rattle.lay_tree.proofs.nodes.ItemLaws as items
-use Rattle.lay_tree.proofs.nodes.PatternsLaws as pats
-use Rattle.lay_tree.proofs.nodes.TypesLaws as types
-use Rattle.lay_tree.proofs.samples.Tokens as list
-use Rattle.lay_tree.proofs.samples.Trees.{named, plain, A, a, b, c, no_generics, no_wheres, about, laid}
-use Rattle.lay_tree.proofs.samples.Types.{local, local_facts, local_is, B, B_is, named_is, meeting, meeting_is}
+use Rattle.lay_tree.proofs.samples.ItemTrees.{A, no_generics, no_wheres, about}
 
 -- ---- trees
 

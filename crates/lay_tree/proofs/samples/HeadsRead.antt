@@ -9,52 +9,53 @@ use Rattle.lay_piece.specs.declared.kind.Delim.TheVariants.{Brace, Paren}
 use Rattle.lay_piece.specs.declared.kind.Kind.TheVariants as kind
 use Rattle.lay_token.specs.Operators.{op_at}
 use Rattle.lay_token.specs.declared.token.Token.{Token}
-use Rattle.lay_tree.specs.Begins.{lead_at}
-use Rattle.lay_tree.specs.nodes.Fields.{may_lead}
-use Rattle.lay_tree.specs.reader.Attr.{attributes}
-use Rattle.lay_tree.specs.reader.Call.{call}
-use Rattle.lay_tree.specs.reader.Fields.{discriminant, field, named_fields, tuple_field, tuple_fields, variant, variant_fields, variants}
-use Rattle.lay_tree.specs.reader.Functions.{begins_own_self, fn_head, fn_param, fn_params, insides, own_self, param_kind, ref_self, typed}
-use Rattle.lay_tree.specs.reader.Generics.{generics, one_param, type_param}
-use Rattle.lay_tree.specs.reader.Heads.{alias, enum, impl_head, struct, trait_head, trait_ref, value_head}
+use Rattle.lay_node.specs.Begins.{lead_at}
+use Rattle.lay_node.specs.nodes.Fields.{may_lead}
+use Rattle.lay_node.specs.reader.Attr.{attributes}
+use Rattle.lay_node.specs.reader.Call.{call}
+use Rattle.lay_node.specs.reader.Fields.{discriminant, field, named_fields, tuple_field, tuple_fields, variant, variant_fields, variants}
+use Rattle.lay_node.specs.reader.Functions.{begins_own_self, fn_head, fn_param, fn_params, insides, own_self, param_kind, ref_self, typed}
+use Rattle.lay_node.specs.reader.Generics.{generics, one_param, type_param}
+use Rattle.lay_node.specs.reader.Heads.{alias, enum, impl_head, struct, trait_head, trait_ref, value_head}
+use Rattle.lay_node.specs.reader.Loops.{elements, elements_from, open_elements, open_elements_from, Read, repeat, repeat_from}
+use Rattle.lay_node.specs.reader.Patterns.{bind, pat_by, path_by, path_pat, single_at}
+use Rattle.lay_node.specs.reader.SimplePath.{simple_path}
+use Rattle.lay_node.specs.reader.Tokens.{group, run, tokens_of}
+use Rattle.lay_node.specs.reader.Types.{angle, literal, args_by, chain, meets, one_arg, one_bound, paren_type, path, path_type, qualified, segment, within}
+use Rattle.lay_node.specs.reader.Vis.{visibility}
+use Rattle.lay_node.specs.reader.Where.{type_predicate, wheres}
+use Rattle.lay_node.specs.reader.Words.{given_name, name as name_reading, word as word_reading}
+use Rattle.lay_node.specs.declared.fields.Fields.TheVariants as fields
+use Rattle.lay_node.specs.declared.functions.FnHead.{FnHead}
+use Rattle.lay_node.specs.declared.functions.Param.{Param}
+use Rattle.lay_node.specs.declared.functions.ParamKind.TheVariants as param
+use Rattle.lay_node.specs.declared.functions.Safety.TheVariants as safety
+use Rattle.lay_node.specs.declared.generics.GenericParam.TheVariants as generic
+use Rattle.lay_node.specs.declared.generics.Generics.{Generics}
+use Rattle.lay_node.specs.declared.heads.ImplHead.{ImplHead}
+use Rattle.lay_node.specs.declared.heads.Site.TheVariants.{Foreign, Module, TraitMember}
+use Rattle.lay_node.specs.declared.heads.ValueHead.TheVariants as value
+use Rattle.lay_node.specs.declared.patterns.Pat.TheVariants as pat
+use Rattle.lay_node.specs.declared.token.GivenName.TheVariants as given
+use Rattle.lay_node.specs.declared.token.Listed.{Listed}
+use Rattle.lay_node.specs.declared.tokens.MacroCall.{MacroCall}
+use Rattle.lay_node.specs.declared.types.Arg.TheViews as views
+use Rattle.lay_node.specs.declared.types.Args.TheVariants as args
+use Rattle.lay_node.specs.declared.types.Path.{Path}
+use Rattle.lay_node.specs.declared.types.PathStart.TheVariants as start
+use Rattle.lay_node.specs.declared.types.Ty.TheVariants as ty
+use Rattle.lay_node.specs.declared.vis.Vis.TheVariants as vis
+use Rattle.lay_node.proofs.nodes.TypesLaws as types
+use Rattle.lay_node.proofs.samples.Patterns.{lone}
+use Rattle.lay_node.proofs.samples.Tokens as list
+use Rattle.lay_node.proofs.samples.Trees.{named, plain, a, token, word, mark, colons, opens, closes}
+use Rattle.lay_node.proofs.samples.Types.{local, B, C, where_A_is}
 use Rattle.lay_tree.specs.reader.Item.{value_by, call_item, foreign_by, function_by, impl_by, item_at, item_body, item_by, item_lead, items_by, kind_at, OfCall, OfForeign, OfFunction, OfImpl, OfUnion, OfValue, trait_by}
-use Rattle.lay_tree.specs.reader.Loops.{elements, elements_from, open_elements, open_elements_from, Read, repeat, repeat_from}
-use Rattle.lay_tree.specs.reader.Patterns.{bind, pat_by, path_by, path_pat, single_at}
-use Rattle.lay_tree.specs.reader.SimplePath.{simple_path}
-use Rattle.lay_tree.specs.reader.Tokens.{group, run, tokens_of}
-use Rattle.lay_tree.specs.reader.Types.{angle, literal, args_by, chain, meets, one_arg, one_bound, paren_type, path, path_type, qualified, segment, within}
-use Rattle.lay_tree.specs.reader.Vis.{visibility}
-use Rattle.lay_tree.specs.reader.Where.{type_predicate, wheres}
-use Rattle.lay_tree.specs.reader.Words.{given_name, name as name_reading, word as word_reading}
-use Rattle.lay_tree.specs.declared.fields.Fields.TheVariants as fields
-use Rattle.lay_tree.specs.declared.functions.FnHead.{FnHead}
-use Rattle.lay_tree.specs.declared.functions.Param.{Param}
-use Rattle.lay_tree.specs.declared.functions.ParamKind.TheVariants as param
-use Rattle.lay_tree.specs.declared.functions.Safety.TheVariants as safety
-use Rattle.lay_tree.specs.declared.generics.GenericParam.TheVariants as generic
-use Rattle.lay_tree.specs.declared.generics.Generics.{Generics}
-use Rattle.lay_tree.specs.declared.heads.ImplHead.{ImplHead}
-use Rattle.lay_tree.specs.declared.heads.Site.TheVariants.{Foreign, Module, TraitMember}
-use Rattle.lay_tree.specs.declared.heads.ValueHead.TheVariants as value
 use Rattle.lay_tree.specs.declared.item.Item.{Item}
 use Rattle.lay_tree.specs.declared.item.ItemKind.TheVariants as item
-use Rattle.lay_tree.specs.declared.patterns.Pat.TheVariants as pat
-use Rattle.lay_tree.specs.declared.token.GivenName.TheVariants as given
-use Rattle.lay_tree.specs.declared.token.Listed.{Listed}
-use Rattle.lay_tree.specs.declared.tokens.MacroCall.{MacroCall}
-use Rattle.lay_tree.specs.declared.types.Arg.TheViews as views
-use Rattle.lay_tree.specs.declared.types.Args.TheVariants as args
-use Rattle.lay_tree.specs.declared.types.Path.{Path}
-use Rattle.lay_tree.specs.declared.types.PathStart.TheVariants as start
-use Rattle.lay_tree.specs.declared.types.Ty.TheVariants as ty
-use Rattle.lay_tree.specs.declared.vis.Vis.TheVariants as vis
 use Rattle.lay_tree.proofs.nodes.ItemLaws as items
-use Rattle.lay_tree.proofs.nodes.TypesLaws as types
 use Rattle.lay_tree.proofs.samples.Heads.{C_is_D, foreign_function, foreign_static, static_C, string_C, three_variants, varying, fn_of, impl_A_for, trait_A, two_fields, where_B_is_C, name_pat, of_T, param_of, seen, unseen, tuple_field_of, ty_of, variant_of}
-use Rattle.lay_tree.proofs.samples.Patterns.{lone}
-use Rattle.lay_tree.proofs.samples.Tokens as list
-use Rattle.lay_tree.proofs.samples.Trees.{named, plain, A, a, no_generics, no_wheres, token, word, mark, colons, opens, closes}
-use Rattle.lay_tree.proofs.samples.Types.{local, B, C, where_A_is}
+use Rattle.lay_tree.proofs.samples.ItemTrees.{A, no_generics, no_wheres}
 
 abbrev in_parens : List Token → List Token → List Token
 in_parens inner ts = opens Paren ∷ (inner ++ closes Paren ∷ ts)

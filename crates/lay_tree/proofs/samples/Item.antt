@@ -8,30 +8,31 @@ use Rattle.lay_token.specs.declared.token.Token.{Token}
 use Rattle.lay_form.specs.Depth.{least_depth}
 use Rattle.lay_form.specs.Form.{Form, Done, Piece}
 use Rattle.lay_form.specs.Spelled.{Spells}
+use Rattle.lay_node.specs.nodes.Call.{bang, end_form}
+use Rattle.lay_node.specs.declared.attr.Attr.{Attr}
+use Rattle.lay_node.specs.declared.attr.Attr.TheVariants as attr
+use Rattle.lay_node.specs.reader.Call.{call}
+use Rattle.lay_node.specs.reader.Loops.{repeat_from, repeat}
+use Rattle.lay_node.specs.reader.SimplePath.{simple_path}
+use Rattle.lay_node.specs.reader.Tokens.{run, tokens_of, group}
+use Rattle.lay_node.specs.reader.Words.{name, word as word_reading}
+use Rattle.lay_node.specs.tokens.Lists.{group_form}
+use Rattle.lay_node.specs.declared.token.Listed.{Listed}
+use Rattle.lay_node.specs.declared.tokens.Group.{Group}
+use Rattle.lay_node.specs.declared.tokens.MacroCall.{MacroCall}
+use Rattle.lay_node.specs.declared.token.Name.{Name}
+use Rattle.lay_node.specs.declared.vis.Vis.TheVariants as vis
+use Rattle.lay_node.proofs.samples.Tokens as list
+use Rattle.lay_node.proofs.samples.Trees.{named, plain, a, b, c, word_of, group_of, word_is, group_is, laid, Spelt, token, word, mark, opens, closes}
 use Rattle.lay_tree.specs.Out.{out}
-use Rattle.lay_tree.specs.nodes.Call.{bang, end_form}
 use Rattle.lay_tree.specs.nodes.Item.{KindFacts, kind_facts, kind_form, told_of_kind}
-use Rattle.lay_tree.specs.declared.attr.Attr.{Attr}
-use Rattle.lay_tree.specs.declared.attr.Attr.TheVariants as attr
-use Rattle.lay_tree.specs.reader.Call.{call}
 use Rattle.lay_tree.specs.reader.Item.{begins_rules, call_item}
-use Rattle.lay_tree.specs.reader.Loops.{repeat_from, repeat}
-use Rattle.lay_tree.specs.reader.SimplePath.{simple_path}
-use Rattle.lay_tree.specs.reader.Tokens.{run, tokens_of, group}
-use Rattle.lay_tree.specs.reader.Words.{name, word as word_reading}
-use Rattle.lay_tree.specs.tokens.Lists.{group_form}
 use Rattle.lay_tree.specs.declared.item.Item.{Item}
 use Rattle.lay_tree.specs.declared.item.ItemKind.{ItemKind}
 use Rattle.lay_tree.specs.declared.item.ItemKind.TheOpen.{ItemKind-F}
 use Rattle.lay_tree.specs.declared.item.ItemKind.TheVariants as item
-use Rattle.lay_tree.specs.declared.token.Listed.{Listed}
-use Rattle.lay_tree.specs.declared.tokens.Group.{Group}
-use Rattle.lay_tree.specs.declared.tokens.MacroCall.{MacroCall}
-use Rattle.lay_tree.specs.declared.token.Name.{Name}
-use Rattle.lay_tree.specs.declared.vis.Vis.TheVariants as vis
 use Rattle.lay_tree.proofs.nodes.ItemLaws as items
-use Rattle.lay_tree.proofs.samples.Tokens as list
-use Rattle.lay_tree.proofs.samples.Trees.{named, plain, A, a, b, c, x_doc, item_of, unit, structure, module_of, import_of, word_of, group_of, struct_facts, about, word_is, group_is, kind_is, struct_is, laid, Spelt, token, word, mark, opens, closes}
+use Rattle.lay_tree.proofs.samples.ItemTrees.{A, x_doc, item_of, unit, structure, module_of, import_of, struct_facts, about, kind_is, struct_is}
 
 -- a raw identifier
 abbrev raw_type : Name

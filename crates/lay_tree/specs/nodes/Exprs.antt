@@ -10,19 +10,25 @@ use Rattle.lay_piece.specs.declared.kind.Kind.TheVariants as kind
 use Rattle.lay_form.specs.Form.{Bit, Blank, Fixed, Operator, Form, Done, Piece, Leaf, Part, punct, keyword, opener, closer, semicolon}
 use Rattle.lay_form.specs.Notation.{Z, B, N, Z-, C4, I4, piece, comma_list, braces, behind_attrs}
 use Rattle.lay_form.specs.Spelled as spelled
-use Rattle.lay_tree.specs.Ahead.{Tokens, first, is_keyword, is_lifetime, opens}
-use Rattle.lay_tree.specs.Follow.{Begin, OfArgs, OfBang, OfColons, may_follow}
+use Rattle.lay_node.specs.Ahead.{Tokens, first, is_keyword, is_lifetime, opens}
+use Rattle.lay_node.specs.Follow.{Begin, OfArgs, OfBang, OfColons, may_follow}
+use Rattle.lay_node.specs.Words.{is_name, is_literal, is_bare_number, leaf_of, colons}
+use Rattle.lay_node.specs.nodes.Attr.{are_attrs, attr_form, is_empty}
+use Rattle.lay_node.specs.nodes.Call.{about_call}
+use Rattle.lay_node.specs.nodes.Facts.{Facts, all_good}
+use Rattle.lay_node.specs.nodes.Patterns.{dots}
+use Rattle.lay_node.specs.nodes.Types.{TypeFacts, about_arg, about_path, about_type, angle_form, colon, deeper, good_at, is_there, lifetime_form, literal_form, lone_word}
+use Rattle.lay_node.specs.tokens.Lexed.{is_token_list}
+use Rattle.lay_node.specs.tokens.Lists.{token_list}
+use Rattle.lay_node.specs.declared.token.Lifetime.{Lifetime}
+use Rattle.lay_node.specs.declared.token.Word.{Word}
+use Rattle.lay_node.specs.declared.types.Arg.{Arg}
+use Rattle.lay_node.specs.declared.types.Path.{Path}
+use Rattle.lay_node.specs.declared.types.PathStyle.TheVariants.{Code}
+use Rattle.lay_node.specs.declared.types.TypePlace.TheVariants.{NoBounds}
 use Rattle.lay_tree.specs.Operands.{ExprLead, ByLiteral, ByPath, ByUnderscore, ByLabel, ByParen, ByBracket, ByBrace, ByPrefix, ByRange, ByContinue, ByBreak, ByReturn, begins_operand}
 use Rattle.lay_tree.specs.Operators.{op_text, op_level, is_angle_op, is_dot_or_try, strength}
-use Rattle.lay_tree.specs.Words.{is_name, is_literal, is_bare_number, leaf_of, colons}
-use Rattle.lay_tree.specs.nodes.Attr.{are_attrs, attr_form, is_empty}
-use Rattle.lay_tree.specs.nodes.Call.{about_call}
-use Rattle.lay_tree.specs.nodes.Facts.{Facts, all_good}
-use Rattle.lay_tree.specs.nodes.Patterns.{dots}
 use Rattle.lay_tree.specs.nodes.Places.{plain, FREE, begins, is_whole, is_part, before_op}
-use Rattle.lay_tree.specs.nodes.Types.{TypeFacts, about_arg, about_path, about_type, angle_form, colon, deeper, good_at, is_there, lifetime_form, literal_form, lone_word}
-use Rattle.lay_tree.specs.tokens.Lexed.{is_token_list}
-use Rattle.lay_tree.specs.tokens.Lists.{token_list}
 use Rattle.lay_tree.specs.declared.exprs.Expr.{Expr}
 use Rattle.lay_tree.specs.declared.exprs.Expr.TheFolds.{fold-Expr, fold-FieldExpr, fold-Step}
 use Rattle.lay_tree.specs.declared.exprs.Expr.TheOpen.{Expr-F, FieldExpr-F, Step-F}
@@ -32,12 +38,6 @@ use Rattle.lay_tree.specs.declared.exprs.Step.{Step}
 use Rattle.lay_tree.specs.declared.operators.Op.{Op}
 use Rattle.lay_tree.specs.declared.operators.Prefix.{Prefix}
 use Rattle.lay_tree.specs.declared.operators.Prefix.TheVariants as before
-use Rattle.lay_tree.specs.declared.token.Lifetime.{Lifetime}
-use Rattle.lay_tree.specs.declared.token.Word.{Word}
-use Rattle.lay_tree.specs.declared.types.Arg.{Arg}
-use Rattle.lay_tree.specs.declared.types.Path.{Path}
-use Rattle.lay_tree.specs.declared.types.PathStyle.TheVariants.{Code}
-use Rattle.lay_tree.specs.declared.types.TypePlace.TheVariants.{NoBounds}
 
 -- ---- what an expression ends in
 

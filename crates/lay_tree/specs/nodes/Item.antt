@@ -3,41 +3,41 @@ use Rattle.std.specs.Prelude.{Bool, true, false, ◌&&◌, ◌||◌, List, [], �
 use Rattle.std.specs.List.{list_all}
 use Rattle.lay_form.specs.Form.{Blank, Operator, Form, Done, Piece, Part, Deeper, keyword, semicolon}
 use Rattle.lay_form.specs.Notation.{I0, piece, body, behind_attrs, N}
-use Rattle.lay_tree.specs.Words.{is_name, leaf_of}
-use Rattle.lay_tree.specs.nodes.Attr.{are_attrs, attr_form}
-use Rattle.lay_tree.specs.nodes.Call.{is_group, before_rules, end_form, about_call}
+use Rattle.lay_node.specs.Words.{is_name, leaf_of}
+use Rattle.lay_node.specs.nodes.Attr.{are_attrs, attr_form}
+use Rattle.lay_node.specs.nodes.Call.{is_group, before_rules, end_form, about_call}
+use Rattle.lay_node.specs.nodes.Facts.{Facts}
+use Rattle.lay_node.specs.nodes.Fields.{blank_if}
+use Rattle.lay_node.specs.nodes.Functions.{fn_head_form, is_fn_head}
+use Rattle.lay_node.specs.nodes.Heads.{HeadFacts, about_alias, about_enum, about_extern_crate, about_struct, about_union, impl_head_form, is_impl_head, is_trait_head, is_value_head, leads, trait_head_form, unsafe_form, value_head_form}
+use Rattle.lay_node.specs.nodes.Types.{is_abi_name, literal_form, equals}
+use Rattle.lay_node.specs.nodes.Use.{about_use}
+use Rattle.lay_node.specs.nodes.Vis.{is_vis, vis_form}
+use Rattle.lay_node.specs.nodes.Where.{are_predicates, wheres_before_body, wheres_before_semicolon}
+use Rattle.lay_node.specs.tokens.Lists.{group_form}
+use Rattle.lay_node.specs.declared.attr.Attr.{Attr}
+use Rattle.lay_node.specs.declared.functions.FnHead.{FnHead}
+use Rattle.lay_node.specs.declared.generics.Wheres.{Wheres}
+use Rattle.lay_node.specs.declared.heads.ImplHead.{ImplHead}
+use Rattle.lay_node.specs.declared.heads.Site.{Site}
+use Rattle.lay_node.specs.declared.heads.Site.TheVariants as site
+use Rattle.lay_node.specs.declared.heads.TraitHead.{TraitHead}
+use Rattle.lay_node.specs.declared.heads.ValueHead.{ValueHead}
+use Rattle.lay_node.specs.declared.heads.ValueHead.TheVariants as value
+use Rattle.lay_node.specs.declared.token.Literal.{Literal}
+use Rattle.lay_node.specs.declared.token.Name.{Name}
+use Rattle.lay_node.specs.declared.tokens.Group.{Group}
+use Rattle.lay_node.specs.declared.tokens.MacroCall.{MacroCall}
+use Rattle.lay_node.specs.declared.use_tree.UseTree.{UseTree}
+use Rattle.lay_node.specs.declared.vis.Vis.{Vis}
+use Rattle.lay_node.specs.declared.vis.Vis.TheVariants as vis
 use Rattle.lay_tree.specs.nodes.Exprs.{about_expr, placed}
-use Rattle.lay_tree.specs.nodes.Facts.{Facts}
-use Rattle.lay_tree.specs.nodes.Fields.{blank_if}
-use Rattle.lay_tree.specs.nodes.Functions.{fn_head_form, is_fn_head}
-use Rattle.lay_tree.specs.nodes.Heads.{HeadFacts, about_alias, about_enum, about_extern_crate, about_struct, about_union, impl_head_form, is_impl_head, is_trait_head, is_value_head, leads, trait_head_form, unsafe_form, value_head_form}
 use Rattle.lay_tree.specs.nodes.Places.{FREE}
-use Rattle.lay_tree.specs.nodes.Types.{is_abi_name, literal_form, equals}
-use Rattle.lay_tree.specs.nodes.Use.{about_use}
-use Rattle.lay_tree.specs.nodes.Vis.{is_vis, vis_form}
-use Rattle.lay_tree.specs.nodes.Where.{are_predicates, wheres_before_body, wheres_before_semicolon}
-use Rattle.lay_tree.specs.tokens.Lists.{group_form}
-use Rattle.lay_tree.specs.declared.attr.Attr.{Attr}
 use Rattle.lay_tree.specs.declared.exprs.Expr.{Expr}
-use Rattle.lay_tree.specs.declared.functions.FnHead.{FnHead}
-use Rattle.lay_tree.specs.declared.generics.Wheres.{Wheres}
-use Rattle.lay_tree.specs.declared.heads.ImplHead.{ImplHead}
-use Rattle.lay_tree.specs.declared.heads.Site.{Site}
-use Rattle.lay_tree.specs.declared.heads.Site.TheVariants as site
-use Rattle.lay_tree.specs.declared.heads.TraitHead.{TraitHead}
-use Rattle.lay_tree.specs.declared.heads.ValueHead.{ValueHead}
-use Rattle.lay_tree.specs.declared.heads.ValueHead.TheVariants as value
 use Rattle.lay_tree.specs.declared.item.Item.{Item}
 use Rattle.lay_tree.specs.declared.item.ItemKind.{ItemKind}
 use Rattle.lay_tree.specs.declared.item.ItemKind.TheFolds.{fold-Item, fold-ItemKind}
 use Rattle.lay_tree.specs.declared.item.ItemKind.TheOpen.{Item-F, ItemKind-F}
-use Rattle.lay_tree.specs.declared.token.Literal.{Literal}
-use Rattle.lay_tree.specs.declared.token.Name.{Name}
-use Rattle.lay_tree.specs.declared.tokens.Group.{Group}
-use Rattle.lay_tree.specs.declared.tokens.MacroCall.{MacroCall}
-use Rattle.lay_tree.specs.declared.use_tree.UseTree.{UseTree}
-use Rattle.lay_tree.specs.declared.vis.Vis.{Vis}
-use Rattle.lay_tree.specs.declared.vis.Vis.TheVariants as vis
 
 -- ---- where an item may stand
 

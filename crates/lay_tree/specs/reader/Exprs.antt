@@ -5,21 +5,27 @@ use Rattle.lay_piece.specs.Number.{is_index}
 use Rattle.lay_piece.specs.declared.kind.Delim.TheVariants.{Paren, Bracket, Brace}
 use Rattle.lay_token.specs.Operators.{is_op}
 use Rattle.lay_token.specs.declared.token.Token.{Token}
-use Rattle.lay_tree.specs.Ahead.{Tokens, first, tail, is_keyword, is_lifetime, is_mark, opens, closes, opens_args_late}
-use Rattle.lay_tree.specs.Begins.{is_literal_token}
+use Rattle.lay_node.specs.Ahead.{Tokens, first, tail, is_keyword, is_lifetime, is_mark, opens, closes, opens_args_late}
+use Rattle.lay_node.specs.Begins.{is_literal_token}
+use Rattle.lay_node.specs.nodes.Attr.{is_empty}
+use Rattle.lay_node.specs.reader.Attr.{attributes}
+use Rattle.lay_node.specs.reader.Call.{call}
+use Rattle.lay_node.specs.reader.Loops.{Got, Read, ◌>>=◌, passed, nodes, deepest, repeat, elements, open_elements}
+use Rattle.lay_node.specs.reader.Patterns.{begins_field, index, is_int}
+use Rattle.lay_node.specs.reader.Tokens.{tokens}
+use Rattle.lay_node.specs.reader.Types.{Within, angled, begins_call, if_read, if_there, lifetime, literal, one_arg, path, within}
+use Rattle.lay_node.specs.reader.Words.{name}
+use Rattle.lay_node.specs.declared.attr.Attr.{Attr}
+use Rattle.lay_node.specs.declared.token.Name.{Name}
+use Rattle.lay_node.specs.declared.types.Arg.{Arg}
+use Rattle.lay_node.specs.declared.types.Path.{Path}
+use Rattle.lay_node.specs.declared.types.PathStyle.TheVariants.{Code}
+use Rattle.lay_node.specs.declared.types.Ty.{Ty}
+use Rattle.lay_node.specs.declared.types.TypePlace.TheVariants.{NoBounds}
 use Rattle.lay_tree.specs.Operands.{ExprLead, ByLiteral, ByPath, ByUnderscore, ByParen, ByBracket, ByPrefix, ByRange, ByContinue, ByBreak, ByReturn, expr_lead_at, begins_operand}
 use Rattle.lay_tree.specs.Operators.{op_text, binary, prefix, prefix_length, is_angle, is_dot_or_try, begins_step, strength}
-use Rattle.lay_tree.specs.nodes.Attr.{is_empty}
 use Rattle.lay_tree.specs.nodes.Exprs.{ExprFacts, stands, root_follows, about_expr}
 use Rattle.lay_tree.specs.nodes.Places.{plain, FREE, begins, is_whole, before_op}
-use Rattle.lay_tree.specs.reader.Attr.{attributes}
-use Rattle.lay_tree.specs.reader.Call.{call}
-use Rattle.lay_tree.specs.reader.Loops.{Got, Read, ◌>>=◌, passed, nodes, deepest, repeat, elements, open_elements}
-use Rattle.lay_tree.specs.reader.Patterns.{begins_field, index, is_int}
-use Rattle.lay_tree.specs.reader.Tokens.{tokens}
-use Rattle.lay_tree.specs.reader.Types.{Within, angled, begins_call, if_read, if_there, lifetime, literal, one_arg, path, within}
-use Rattle.lay_tree.specs.reader.Words.{name}
-use Rattle.lay_tree.specs.declared.attr.Attr.{Attr}
 use Rattle.lay_tree.specs.declared.exprs.Expr.{Expr}
 use Rattle.lay_tree.specs.declared.exprs.Expr.TheVariants as expr
 use Rattle.lay_tree.specs.declared.exprs.FieldExpr.{FieldExpr}
@@ -29,12 +35,6 @@ use Rattle.lay_tree.specs.declared.exprs.Step.{Step}
 use Rattle.lay_tree.specs.declared.exprs.Step.TheVariants as step
 use Rattle.lay_tree.specs.declared.operators.Op.{Op}
 use Rattle.lay_tree.specs.declared.operators.Prefix.{Prefix}
-use Rattle.lay_tree.specs.declared.token.Name.{Name}
-use Rattle.lay_tree.specs.declared.types.Arg.{Arg}
-use Rattle.lay_tree.specs.declared.types.Path.{Path}
-use Rattle.lay_tree.specs.declared.types.PathStyle.TheVariants.{Code}
-use Rattle.lay_tree.specs.declared.types.Ty.{Ty}
-use Rattle.lay_tree.specs.declared.types.TypePlace.TheVariants.{NoBounds}
 
 -- How what is one level deeper is read: expressions, at a place, and the types and the arguments of paths.
 pub record ExprWithin : Type 0 where

@@ -2,7 +2,7 @@ use Rattle.std.proofs.Common.{List, true, ap, ◌∙◌}
 use Rattle.lay_layout.specs.Machine.{opened}
 use Rattle.lay_layout.specs.declared.layout.Tok.{Tok}
 use Rattle.lay_form.specs.Form.{Done}
-use Rattle.lay_tree.specs.nodes.Attr.{attr_part}
+use Rattle.lay_node.specs.nodes.Attr.{attr_part}
 use Rattle.lay_out_tokens.proofs.StreamParts.{level_stays}
 use Rattle.lay_checks_types.proofs.kinds.of_attr.Goals as goal
 

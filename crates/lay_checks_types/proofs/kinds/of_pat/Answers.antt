@@ -1,7 +1,7 @@
 use Rattle.std.proofs.Common.{List, ap, ◌∙◌}
 use Rattle.lay_layout.specs.Machine.{opened}
 use Rattle.lay_layout.specs.declared.layout.Tok.{Tok}
-use Rattle.lay_tree.specs.nodes.Patterns.{about_pat}
+use Rattle.lay_node.specs.nodes.Patterns.{about_pat}
 use Rattle.lay_out_tokens.proofs.StreamParts.{level_stays}
 use Rattle.lay_checks_types.proofs.kinds.of_pat.Goals as goal
 

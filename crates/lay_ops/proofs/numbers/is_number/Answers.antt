@@ -1,5 +1,5 @@
 use Rattle.std.proofs.Common.{ap, ◌∙◌}
-use Rattle.lay_tree.specs.Words.{is_bare_number}
+use Rattle.lay_node.specs.Words.{is_bare_number}
 use Rattle.lay_ops.proofs.RootFacts.{of_literal}
 use Rattle.lay_ops.proofs.numbers.is_number.Goals as goal
 

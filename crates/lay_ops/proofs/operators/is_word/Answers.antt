@@ -1,5 +1,5 @@
 use Rattle.std.proofs.Common.{◌∙◌}
-use Rattle.lay_tree.specs.Ahead.{is_keyword}
+use Rattle.lay_node.specs.Ahead.{is_keyword}
 use Rattle.lay_ops.proofs.FirstCharacter.{first_behind}
 use Rattle.lay_ops.proofs.operators.is_word.Goals as goal
 

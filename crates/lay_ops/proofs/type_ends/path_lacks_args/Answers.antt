@@ -1,5 +1,5 @@
 use Rattle.std.proofs.Common.{◌∙◌}
-use Rattle.lay_tree.specs.declared.types.PathStyle.TheVariants.{Code}
+use Rattle.lay_node.specs.declared.types.PathStyle.TheVariants.{Code}
 use Rattle.lay_ops.proofs.TypeEnds.{no_path, path_ends}
 use Rattle.lay_ops.proofs.type_ends.path_lacks_args.Goals as goal
 

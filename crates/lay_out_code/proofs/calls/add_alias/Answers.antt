@@ -1,4 +1,4 @@
-use Rattle.lay_tree.specs.declared.heads.Site.TheVariants.{Module}
+use Rattle.lay_node.specs.declared.heads.Site.TheVariants.{Module}
 use Rattle.lay_out_types.proofs.Adding.{went_well}
 use Rattle.lay_out_code.proofs.calls.add_alias.Goals as goal
 

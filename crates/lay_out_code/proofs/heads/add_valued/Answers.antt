@@ -1,5 +1,5 @@
 use Rattle.lay_form.specs.Form.{Part}
-use Rattle.lay_tree.specs.nodes.Heads.{value_head_form}
+use Rattle.lay_node.specs.nodes.Heads.{value_head_form}
 use Rattle.lay_tree.specs.nodes.Item.{value_form}
 use Rattle.lay_out_types.proofs.Adding.{adds, adds_on}
 use Rattle.lay_out_heads.proofs.Rows.{may_end_head}

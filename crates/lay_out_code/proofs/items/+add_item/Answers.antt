@@ -2,10 +2,10 @@ use Rattle.std.proofs.Common.{List, ◌++◌, map, ap, ◌∙◌}
 use Rattle.lay_form.specs.Form.{semicolon}
 use Rattle.lay_form.specs.Notation.{H, each, piece}
 use Rattle.lay_form.specs.Stream.{stream_of}
-use Rattle.lay_tree.specs.nodes.Attr.{attr_form}
-use Rattle.lay_tree.specs.nodes.Heads.{impl_head_form, trait_head_form}
+use Rattle.lay_node.specs.nodes.Attr.{attr_form}
+use Rattle.lay_node.specs.nodes.Heads.{impl_head_form, trait_head_form}
+use Rattle.lay_node.specs.declared.heads.Site.TheVariants.{Module}
 use Rattle.lay_tree.specs.nodes.Item.{about_file_module, about_function, about_import, about_value, form_of_item, module_head}
-use Rattle.lay_tree.specs.declared.heads.Site.TheVariants.{Module}
 use Rattle.lay_tree.specs.declared.item.Item.{Item}
 use Rattle.lay_tree.proofs.nodes.ItemLaws.{alias_is, call_is, enum_is, extern_crate_is, file_module_is, foreign_is, function_is, impl_is, import_is, module_is, rules_is, struct_is, trait_is, union_is, value_is}
 use Rattle.lay_out_types.specs.Rows.{row}

@@ -1,5 +1,5 @@
 use Rattle.std.proofs.Common.{map, take}
-use Rattle.lay_tree.specs.nodes.Attr.{attr_form}
+use Rattle.lay_node.specs.nodes.Attr.{attr_form}
 use Rattle.lay_out_types.specs.Calls.{Adds}
 use Rattle.lay_out_types.specs.Rows.{row}
 use Rattle.lay_out_heads.specs.FieldRows.{line}

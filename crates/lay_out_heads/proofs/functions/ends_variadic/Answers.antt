@@ -1,5 +1,5 @@
 use Rattle.std.proofs.Common.{◌∙◌}
-use Rattle.lay_tree.specs.nodes.Functions.{ends_variadic}
+use Rattle.lay_node.specs.nodes.Functions.{ends_variadic}
 use Rattle.lay_out_types.proofs.RowLemmas.{all_turns}
 use Rattle.lay_out_heads.proofs.FunctionLemmas.{ends_next}
 use Rattle.lay_out_heads.proofs.functions.ends_variadic.Goals as goal

@@ -1,5 +1,5 @@
 use Rattle.std.proofs.Common.{◌≡◌, take}
-use Rattle.lay_tree.specs.nodes.Functions.{ends_variadic}
+use Rattle.lay_node.specs.nodes.Functions.{ends_variadic}
 use Rattle.lay_out_heads.proofs.functions.ends_variadic.Given as goal
 
 -- what is told of the parameters so far

@@ -1,6 +1,6 @@
 use Rattle.std.proofs.Common.{refl}
-use Rattle.lay_tree.specs.nodes.Heads.{about_alias}
-use Rattle.lay_tree.specs.declared.heads.Site.TheVariants.{Module}
+use Rattle.lay_node.specs.nodes.Heads.{about_alias}
+use Rattle.lay_node.specs.declared.heads.Site.TheVariants.{Module}
 use Rattle.lay_out_types.proofs.Adding.{adds, adds_on}
 use Rattle.lay_out_heads.proofs.ItemLemmas.{alias_head, alias_is}
 use Rattle.lay_out_heads.proofs.Rows.{may_end_head}

@@ -1,5 +1,5 @@
 use Rattle.std.proofs.Common.{codes, refl}
-use Rattle.lay_tree.specs.nodes.Heads.{about_enum}
+use Rattle.lay_node.specs.nodes.Heads.{about_enum}
 use Rattle.lay_out_types.proofs.Adding.{adds, adds_on}
 use Rattle.lay_out_heads.proofs.HeadLemmas.{called_alone}
 use Rattle.lay_out_heads.proofs.ItemLemmas.{enum_is}

@@ -1,5 +1,5 @@
 use Rattle.std.proofs.Common.{refl}
-use Rattle.lay_tree.specs.nodes.Heads.{about_struct}
+use Rattle.lay_node.specs.nodes.Heads.{about_struct}
 use Rattle.lay_out_types.proofs.Adding.{adds, adds_on}
 use Rattle.lay_out_heads.proofs.ItemLemmas.{struct_is}
 use Rattle.lay_out_heads.proofs.Rows.{may_end_head}

@@ -1,5 +1,5 @@
 use Rattle.std.proofs.Common.{List, ◌++◌, true, map, codes, refl, ◌∙◌}
-use Rattle.lay_tree.specs.declared.use_tree.UseTree.{UseTree}
+use Rattle.lay_node.specs.declared.use_tree.UseTree.{UseTree}
 use Rattle.lay_out_types.specs.Rows.{comma_between, list_closed, list_opened, row}
 use Rattle.lay_out_types.proofs.Adding.{adds, adds_on}
 use Rattle.lay_out_types.proofs.FormRows.{may_close, none_is, none_left}

@@ -1,5 +1,5 @@
 use Rattle.std.proofs.Common.{List, [], map, ◌∙◌}
-use Rattle.lay_tree.specs.declared.token.Word.{Word}
+use Rattle.lay_node.specs.declared.token.Word.{Word}
 use Rattle.lay_out_types.specs.Rows.{row}
 use Rattle.lay_out_types.proofs.Adding.{adds, adds_on}
 use Rattle.lay_out_types.proofs.RowLemmas.{all_turns, nothing_before, turn}

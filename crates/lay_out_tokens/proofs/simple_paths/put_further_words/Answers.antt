@@ -1,7 +1,7 @@
 use Rattle.std.proofs.Common.{List}
 use Rattle.lay_stream.proofs.Calls.{last, call_on, stream_on, leave_on, stream_leave, no_call}
 use Rattle.lay_form.specs.Stream.{stream_of}
-use Rattle.lay_tree.specs.declared.token.Word.{Word}
+use Rattle.lay_node.specs.declared.token.Word.{Word}
 use Rattle.lay_out_tokens.specs.Parts.{further_words}
 use Rattle.lay_out_tokens.proofs.StreamParts.{loop_step, loop_done, further_word}
 use Rattle.lay_out_tokens.proofs.simple_paths.put_further_words.Goals as goal

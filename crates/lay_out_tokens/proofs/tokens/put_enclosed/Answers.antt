@@ -1,6 +1,6 @@
 use Rattle.std.proofs.Common.{◌≡◌, ◌==◌, Bool, false, List, [], ◌∷◌, length, arith}
 use Rattle.lay_stream.proofs.Calls.{last}
-use Rattle.lay_tree.specs.declared.token.Listed.{Listed}
+use Rattle.lay_node.specs.declared.token.Listed.{Listed}
 use Rattle.lay_out_tokens.proofs.TokenFeeds.{full_group}
 use Rattle.lay_out_tokens.proofs.tokens.put_enclosed.Goals as goal
 

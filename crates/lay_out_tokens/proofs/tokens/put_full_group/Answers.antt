@@ -1,9 +1,9 @@
 use Rattle.std.proofs.Common.{Bool, ◌++◌, ap, ◌∙◌}
 use Rattle.lay_stream.proofs.Calls.{last, stream_on, stream_leave, level_of}
 use Rattle.lay_form.specs.Stream.{stream_of}
-use Rattle.lay_tree.specs.tokens.Lists.{form_of_grouping}
-use Rattle.lay_tree.specs.tokens.Listing.{in_groups}
-use Rattle.lay_tree.specs.tokens.Pairs.{at_start}
+use Rattle.lay_node.specs.tokens.Lists.{form_of_grouping}
+use Rattle.lay_node.specs.tokens.Listing.{in_groups}
+use Rattle.lay_node.specs.tokens.Pairs.{at_start}
 use Rattle.lay_out_tokens.specs.Fed.{closed, opened}
 use Rattle.lay_out_tokens.proofs.StreamParts.{level_stays}
 use Rattle.lay_out_tokens.proofs.TokenFeeds.{closed_nested}

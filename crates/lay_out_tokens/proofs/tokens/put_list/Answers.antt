@@ -1,6 +1,6 @@
 use Rattle.std.proofs.Common.{length, refl, ap, ◌∙◌, arith}
 use Rattle.lay_stream.proofs.Calls.{last, stream_on, stream_leave, level_of, no_call}
-use Rattle.lay_tree.specs.tokens.Pairs.{Seen, is_line_doc}
+use Rattle.lay_node.specs.tokens.Pairs.{Seen, is_line_doc}
 use Rattle.lay_out_tokens.specs.Fed.{fed_tokens, seen_over}
 use Rattle.lay_out_tokens.specs.Neighbours.{seen_of}
 use Rattle.lay_out_tokens.proofs.TokenFeeds.{list_fed, list_seen, list_nested, step_fed, step_seen, step_nested}

@@ -1,7 +1,7 @@
 use Rattle.std.proofs.Common.{◌≡◌, ◌+◌, ◌≤◌, Bool, Result, length}
 use Rattle.lay_layout.specs.Machine.{IsNested}
 use Rattle.lay_stream.specs.Fed.{Did}
-use Rattle.lay_tree.specs.tokens.Pairs.{at_start}
+use Rattle.lay_node.specs.tokens.Pairs.{at_start}
 use Rattle.lay_out_tokens.specs.Fed.{fed_tokens, seen_over}
 use Rattle.lay_out_tokens.specs.Neighbours.{seen_of}
 use Rattle.lay_out_tokens.proofs.tokens.put_list.Given as goal

@@ -1,7 +1,7 @@
 use Rattle.std.proofs.Common.{◌≡◌, Bool, true, false, ◌++◌, sym, ap, ◌∙◌}
 use Rattle.lay_piece.specs.declared.kind.Delim.{Delim}
 use Rattle.lay_stream.proofs.Calls.{last, stream_on, stream_leave}
-use Rattle.lay_tree.specs.tokens.Pairs.{Separation}
+use Rattle.lay_node.specs.tokens.Pairs.{Separation}
 use Rattle.lay_out_tokens.specs.Fed.{empty_group, fed_gap, fed_opener, opened}
 use Rattle.lay_out_tokens.proofs.tokens.put_opener.Goals as goal
 

@@ -2,8 +2,8 @@ use Rattle.std.proofs.Common.{◌++◌, ap}
 use Rattle.lay_stream.proofs.Calls.{last, stream_on, stream_leave}
 use Rattle.lay_form.specs.Form.{Done}
 use Rattle.lay_form.specs.Stream.{stream_of}
-use Rattle.lay_tree.specs.tokens.Listing.{listed_form}
-use Rattle.lay_tree.specs.tokens.Pairs.{Separation}
+use Rattle.lay_node.specs.tokens.Listing.{listed_form}
+use Rattle.lay_node.specs.tokens.Pairs.{Separation}
 use Rattle.lay_out_tokens.specs.Fed.{fed_gap}
 use Rattle.lay_out_tokens.proofs.tokens.put_single.Goals as goal
 

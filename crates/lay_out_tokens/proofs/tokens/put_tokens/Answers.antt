@@ -1,8 +1,8 @@
 use Rattle.std.proofs.Common.{refl, arith}
 use Rattle.lay_stream.proofs.Calls.{last, call_on, stream_on, leave_on, stream_leave, level_of}
-use Rattle.lay_tree.specs.tokens.Lists.{form_of_grouping}
-use Rattle.lay_tree.specs.tokens.Listing.{in_groups}
-use Rattle.lay_tree.specs.tokens.Pairs.{at_start}
+use Rattle.lay_node.specs.tokens.Lists.{form_of_grouping}
+use Rattle.lay_node.specs.tokens.Listing.{in_groups}
+use Rattle.lay_node.specs.tokens.Pairs.{at_start}
 use Rattle.lay_out_tokens.proofs.StreamParts.{level_stays, list_parts}
 use Rattle.lay_out_tokens.proofs.tokens.put_tokens.Goals as goal
 

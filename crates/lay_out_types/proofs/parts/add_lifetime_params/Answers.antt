@@ -1,6 +1,6 @@
 use Rattle.std.proofs.Common.{List, ◌++◌, map, codes, true, refl, ◌∙◌}
-use Rattle.lay_tree.specs.nodes.Types.{lifetime_param_form}
-use Rattle.lay_tree.specs.declared.types.LifetimeParam.{LifetimeParam}
+use Rattle.lay_node.specs.nodes.Types.{lifetime_param_form}
+use Rattle.lay_node.specs.declared.types.LifetimeParam.{LifetimeParam}
 use Rattle.lay_out_types.specs.Rows.{comma_between, list_closed, list_opened, row}
 use Rattle.lay_out_types.proofs.Adding.{adds, adds_on}
 use Rattle.lay_out_types.proofs.FormRows.{may_close, none_is, none_left}

@@ -1,7 +1,7 @@
 use Rattle.std.proofs.Common.{List, [], ◌∷◌, map, codes, ◌∙◌}
 use Rattle.lay_layout.specs.declared.layout.Tok.TheVariants as tok
-use Rattle.lay_tree.specs.nodes.Types.{lifetime_form}
-use Rattle.lay_tree.specs.declared.token.Lifetime.{Lifetime}
+use Rattle.lay_node.specs.nodes.Types.{lifetime_form}
+use Rattle.lay_node.specs.declared.token.Lifetime.{Lifetime}
 use Rattle.lay_out_types.specs.Rows.{row}
 use Rattle.lay_out_types.proofs.Adding.{adds, adds_on}
 use Rattle.lay_out_types.proofs.PartLemmas.{outlived_are, outlived_turn}

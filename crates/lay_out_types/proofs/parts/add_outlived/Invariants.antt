@@ -1,6 +1,6 @@
 use Rattle.std.proofs.Common.{[], ◌∷◌, map, codes, take}
 use Rattle.lay_layout.specs.declared.layout.Tok.TheVariants as tok
-use Rattle.lay_tree.specs.nodes.Types.{lifetime_form}
+use Rattle.lay_node.specs.nodes.Types.{lifetime_form}
 use Rattle.lay_out_types.specs.Calls.{Adds}
 use Rattle.lay_out_types.specs.Rows.{row}
 use Rattle.lay_out_types.proofs.parts.add_outlived.Given as goal

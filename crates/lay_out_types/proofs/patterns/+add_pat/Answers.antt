@@ -1,8 +1,8 @@
 use Rattle.std.proofs.Common.{List, [], ◌∷◌, ◌++◌, true, false, cond, map, codes, pos, refl, ap, ◌∙◌}
 use Rattle.lay_layout.specs.declared.layout.Tok.{Tok}
 use Rattle.lay_layout.specs.declared.layout.Tok.TheVariants as tok
-use Rattle.lay_tree.specs.declared.patterns.FieldPat.{FieldPat}
-use Rattle.lay_tree.specs.declared.patterns.Pat.{Pat}
+use Rattle.lay_node.specs.declared.patterns.FieldPat.{FieldPat}
+use Rattle.lay_node.specs.declared.patterns.Pat.{Pat}
 use Rattle.lay_out_types.specs.PatternRows.{bar_between, braces_closed, braces_opened, field_told, pat_told}
 use Rattle.lay_out_types.specs.Rows.{comma_between, list_closed, list_opened, row}
 use Rattle.lay_out_types.proofs.Adding.{adds, adds_on}

@@ -1,5 +1,5 @@
 use Rattle.std.proofs.Common.{List, [], map, ◌∙◌}
-use Rattle.lay_tree.specs.declared.attr.Attr.{Attr}
+use Rattle.lay_node.specs.declared.attr.Attr.{Attr}
 use Rattle.lay_out_types.specs.PatternRows.{attr_line}
 use Rattle.lay_out_types.specs.Rows.{row}
 use Rattle.lay_out_types.proofs.Adding.{adds, adds_on}

@@ -2,13 +2,13 @@ use Rattle.std.proofs.Common.{List, [], ◌∷◌, ◌++◌, map, cond, codes, p
 use Rattle.lay_layout.specs.declared.layout.Tok.{Tok}
 use Rattle.lay_layout.specs.declared.layout.Tok.TheVariants as tok
 use Rattle.lay_form.specs.Stream.{stream_of}
-use Rattle.lay_tree.specs.nodes.Types.{about_arg, about_bound, about_func_param, about_start}
-use Rattle.lay_tree.specs.declared.token.Word.{Word}
-use Rattle.lay_tree.specs.declared.types.Arg.{Arg}
-use Rattle.lay_tree.specs.declared.types.Args.{Args}
-use Rattle.lay_tree.specs.declared.types.Bound.{Bound}
-use Rattle.lay_tree.specs.declared.types.FuncParam.{FuncParam}
-use Rattle.lay_tree.specs.declared.types.Ty.{Ty}
+use Rattle.lay_node.specs.nodes.Types.{about_arg, about_bound, about_func_param, about_start}
+use Rattle.lay_node.specs.declared.token.Word.{Word}
+use Rattle.lay_node.specs.declared.types.Arg.{Arg}
+use Rattle.lay_node.specs.declared.types.Args.{Args}
+use Rattle.lay_node.specs.declared.types.Bound.{Bound}
+use Rattle.lay_node.specs.declared.types.FuncParam.{FuncParam}
+use Rattle.lay_node.specs.declared.types.Ty.{Ty}
 use Rattle.lay_out_types.specs.Rows.{comma_between, list_closed, list_opened, plus_between, row}
 use Rattle.lay_out_types.proofs.Adding.{adds, adds_nothing, adds_on}
 use Rattle.lay_out_types.proofs.FormRows.{may_close, may_end, none_is, none_left, one_there}

@@ -1,7 +1,7 @@
 use Rattle.std.proofs.Common.{[], ◌∷◌, ◌++◌, false, map, codes, pos, take}
 use Rattle.lay_form.specs.Stream.{stream_of}
 use Rattle.lay_layout.specs.declared.layout.Tok.TheVariants as tok
-use Rattle.lay_tree.specs.nodes.Types.{about_arg, about_bound, about_func_param, about_start}
+use Rattle.lay_node.specs.nodes.Types.{about_arg, about_bound, about_func_param, about_start}
 use Rattle.lay_out_types.specs.Calls.{Adds}
 use Rattle.lay_out_types.specs.Rows.{comma_between, list_opened, plus_between, row}
 use Rattle.lay_out_types.proofs.TypeLemmas.{segment_part, told_form, form_of}

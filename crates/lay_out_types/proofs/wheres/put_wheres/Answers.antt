@@ -1,6 +1,6 @@
 use Rattle.std.proofs.Common.{List, ◌++◌, map, refl, ◌∙◌}
-use Rattle.lay_tree.specs.nodes.Where.{predicate_form}
-use Rattle.lay_tree.specs.declared.generics.Predicate.{Predicate}
+use Rattle.lay_node.specs.nodes.Where.{predicate_form}
+use Rattle.lay_node.specs.declared.generics.Predicate.{Predicate}
 use Rattle.lay_out_types.specs.Rows.{comma_between, row, wheres_closed, wheres_opened}
 use Rattle.lay_out_types.proofs.Adding.{adds, adds_on}
 use Rattle.lay_out_types.proofs.ClauseLemmas.{wheres_are}

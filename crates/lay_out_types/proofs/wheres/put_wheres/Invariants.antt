@@ -1,5 +1,5 @@
 use Rattle.std.proofs.Common.{map, take, Ok}
-use Rattle.lay_tree.specs.nodes.Where.{predicate_form}
+use Rattle.lay_node.specs.nodes.Where.{predicate_form}
 use Rattle.lay_out_types.specs.Calls.{Adds}
 use Rattle.lay_out_types.specs.Rows.{comma_between, row, wheres_opened}
 use Rattle.lay_out_types.proofs.wheres.put_wheres.Given as goal

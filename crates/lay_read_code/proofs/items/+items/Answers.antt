@@ -1,8 +1,9 @@
 use Rattle.std.proofs.Common.{◌≡◌, ◌-◌, ◌<◌, ◌++◌, ◌∷◌, [], false, refl, sym, arith}
 use Rattle.std.proofs.lemmas.Result.{err_from_is_err_and}
-use Rattle.lay_tree.specs.reader.Attr.{attributes}
-use Rattle.lay_tree.specs.reader.Item.{more_items, item_at, item_body, items_by, kind_at}
-use Rattle.lay_tree.specs.reader.Vis.{visibility}
+use Rattle.lay_node.specs.Ahead.{more_items}
+use Rattle.lay_node.specs.reader.Attr.{attributes}
+use Rattle.lay_node.specs.reader.Vis.{visibility}
+use Rattle.lay_tree.specs.reader.Item.{item_at, item_body, items_by, kind_at}
 use Rattle.lay_read_tokens.proofs.Left.{shorter}
 use Rattle.lay_read_code.proofs.Left.{item_left}
 use Rattle.lay_read_tokens.proofs.Steps.{lost}

@@ -1,6 +1,7 @@
 use Rattle.std.proofs.Common.{◌+◌, ◌*◌, ◌≤◌, length}
-use Rattle.lay_tree.specs.reader.Item.{more_items, item_at, items_by}
-use Rattle.lay_tree.specs.reader.Loops.{repeat_from}
+use Rattle.lay_node.specs.Ahead.{more_items}
+use Rattle.lay_node.specs.reader.Loops.{repeat_from}
+use Rattle.lay_tree.specs.reader.Item.{item_at, items_by}
 use Rattle.lay_read_tokens.proofs.Turns.{Turn, Held}
 use Rattle.lay_read_tokens.proofs.Holding.{Holding}
 use Rattle.lay_read_code.proofs.items.+items.Given as goal

@@ -1,7 +1,7 @@
 use Rattle.std.proofs.Common.{[], ◌∙◌}
 use Rattle.std.proofs.lemmas.Result.{err_from_is_err_and}
-use Rattle.lay_tree.specs.Follow.{may_follow}
-use Rattle.lay_tree.specs.nodes.Facts.{Front}
+use Rattle.lay_node.specs.Follow.{may_follow}
+use Rattle.lay_node.specs.nodes.Facts.{Front}
 use Rattle.lay_tree.specs.nodes.Item.{about_item}
 use Rattle.lay_tree.specs.reader.Item.{item_at}
 use Rattle.lay_tree.specs.declared.item.Item.{Item}

@@ -1,6 +1,6 @@
 use Rattle.std.proofs.Common.{◌++◌, ◌∷◌, [], refl, sym, arith}
 use Rattle.std.proofs.lemmas.Result.{err_from_is_err_and}
-use Rattle.lay_tree.specs.reader.Loops.{repeat}
+use Rattle.lay_node.specs.reader.Loops.{repeat}
 use Rattle.lay_read_tokens.proofs.Holding.{holding_more}
 use Rattle.lay_read_tokens.proofs.Left.{shorter}
 use Rattle.lay_read_tokens.proofs.Steps.{lost}

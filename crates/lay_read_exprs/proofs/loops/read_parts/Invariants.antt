@@ -1,5 +1,5 @@
 use Rattle.std.proofs.Common.{◌≤◌, length}
-use Rattle.lay_tree.specs.reader.Loops.{repeat_from, repeat}
+use Rattle.lay_node.specs.reader.Loops.{repeat_from, repeat}
 use Rattle.lay_read_tokens.proofs.Holding.{Holding}
 use Rattle.lay_read_tokens.proofs.Turns.{Turn, Held}
 use Rattle.lay_read_exprs.specs.Loops.{goes_on}

@@ -1,10 +1,10 @@
 use Rattle.std.proofs.Common.{◌≡◌, suc, ◌<◌, ◌&&◌, ◌||◌, not, Bool, refl, ◌∙◌, arith}
 use Rattle.std.proofs.lemmas.Result.{err_from_is_err_and}
-use Rattle.lay_tree.specs.nodes.Generics.{GenericsAt, generics_follow, generics_spelled, is_generics}
-use Rattle.lay_tree.specs.nodes.Types.{deeper, is_there}
-use Rattle.lay_tree.specs.reader.Generics.{generics, generics_at}
-use Rattle.lay_tree.specs.declared.generics.Generics.{Generics}
-use Rattle.lay_tree.proofs.reader.TypesExact.{generics_exact}
+use Rattle.lay_node.specs.nodes.Generics.{GenericsAt, generics_follow, generics_spelled, is_generics}
+use Rattle.lay_node.specs.nodes.Types.{deeper, is_there}
+use Rattle.lay_node.specs.reader.Generics.{generics, generics_at}
+use Rattle.lay_node.specs.declared.generics.Generics.{Generics}
+use Rattle.lay_node.proofs.reader.TypesExact.{generics_exact}
 use Rattle.lay_read_tokens.specs.declared.stop.ReadNone.TheVariants.{NoReading}
 use Rattle.lay_read_parts.proofs.AtFront.{front_deeper, node_read, none_read, alone_nowhere, alone_stopped, alone_read, either_read, either_none}
 use Rattle.lay_read_generics.proofs.reads.read_generics.Goals as goal

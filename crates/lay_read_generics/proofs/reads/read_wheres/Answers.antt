@@ -2,12 +2,12 @@ use Rattle.std.proofs.Common.{◌≡◌, suc, ◌<◌, Bool, map, refl, ◌∙�
 use Rattle.std.proofs.lemmas.Result.{err_from_is_err_and}
 use Rattle.lay_form.specs.LastParts.{last_follows}
 use Rattle.lay_form.specs.Notation.{wheres_spelled}
-use Rattle.lay_tree.specs.Begins.{begins_predicate}
-use Rattle.lay_tree.specs.nodes.Types.{deeper}
-use Rattle.lay_tree.specs.nodes.Where.{WheresAt, are_predicates, begins_last_part, predicate_form}
-use Rattle.lay_tree.specs.reader.Where.{wheres, wheres_at}
-use Rattle.lay_tree.specs.declared.generics.Wheres.{Wheres}
-use Rattle.lay_tree.proofs.reader.TypesExact.{wheres_exact}
+use Rattle.lay_node.specs.Begins.{begins_predicate}
+use Rattle.lay_node.specs.nodes.Types.{deeper}
+use Rattle.lay_node.specs.nodes.Where.{WheresAt, are_predicates, begins_last_part, predicate_form}
+use Rattle.lay_node.specs.reader.Where.{wheres, wheres_at}
+use Rattle.lay_node.specs.declared.generics.Wheres.{Wheres}
+use Rattle.lay_node.proofs.reader.TypesExact.{wheres_exact}
 use Rattle.lay_read_tokens.specs.declared.stop.ReadNone.TheVariants.{NoReading}
 use Rattle.lay_read_parts.proofs.AtFront.{front_deeper, node_read, none_read, alone_nowhere, alone_stopped, alone_read, either_read, either_none}
 use Rattle.lay_read_generics.proofs.reads.read_wheres.Goals as goal

@@ -1,5 +1,5 @@
 use Rattle.std.proofs.Common.{sym, ap, ◌∙◌, codes}
-use Rattle.lay_tree.specs.Ahead.{first, is_keyword}
+use Rattle.lay_node.specs.Ahead.{first, is_keyword}
 use Rattle.lay_read_heads.proofs.AsKinds.{struct_front, union_front}
 use Rattle.lay_read_heads.proofs.kinds.read_struct.Goals as goal
 

@@ -1,8 +1,8 @@
 use Rattle.std.proofs.Common.{◌≡◌, ◌<◌, ◌∙◌, arith}
 use Rattle.std.proofs.lemmas.Result.{err_from_is_err_and}
-use Rattle.lay_tree.specs.nodes.Functions.{about_fn_head}
-use Rattle.lay_tree.specs.reader.Functions.{fn_head}
-use Rattle.lay_tree.proofs.reader.FunctionsComplete.{fn_heads_exact}
+use Rattle.lay_node.specs.nodes.Functions.{about_fn_head}
+use Rattle.lay_node.specs.reader.Functions.{fn_head}
+use Rattle.lay_node.proofs.reader.FunctionsComplete.{fn_heads_exact}
 use Rattle.lay_read_heads.proofs.AtFront.{head_nowhere, head_none, head_found}
 use Rattle.lay_read_heads.proofs.reads.read_fn_head.Goals as goal
 

@@ -1,8 +1,8 @@
 use Rattle.std.proofs.Common.{◌≡◌, ◌<◌, ◌∙◌, arith}
 use Rattle.std.proofs.lemmas.Result.{err_from_is_err_and}
-use Rattle.lay_tree.specs.nodes.Heads.{about_trait_head}
-use Rattle.lay_tree.specs.reader.Heads.{trait_head}
-use Rattle.lay_tree.proofs.reader.TraitHeads.{trait_heads_exact}
+use Rattle.lay_node.specs.nodes.Heads.{about_trait_head}
+use Rattle.lay_node.specs.reader.Heads.{trait_head}
+use Rattle.lay_node.proofs.reader.TraitHeads.{trait_heads_exact}
 use Rattle.lay_read_tokens.specs.declared.stop.ReadNone.TheVariants.{NoReading}
 use Rattle.lay_read_heads.proofs.AtFront.{head_nowhere, head_none, head_found, trait_found, trait_none}
 use Rattle.lay_read_heads.proofs.reads.read_trait_head.Goals as goal

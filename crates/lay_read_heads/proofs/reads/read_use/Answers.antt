@@ -1,11 +1,11 @@
 use Rattle.std.proofs.Common.{◌∙◌}
 use Rattle.std.proofs.lemmas.Result.{err_from_is_err_and}
-use Rattle.lay_tree.specs.Follow.{may_follow}
-use Rattle.lay_tree.specs.nodes.Facts.{Front}
-use Rattle.lay_tree.specs.nodes.Use.{about_use}
-use Rattle.lay_tree.specs.reader.Use.{use_at}
-use Rattle.lay_tree.specs.declared.use_tree.UseTree.{UseTree}
-use Rattle.lay_tree.proofs.reader.Use.{use_trees}
+use Rattle.lay_node.specs.Follow.{may_follow}
+use Rattle.lay_node.specs.nodes.Facts.{Front}
+use Rattle.lay_node.specs.nodes.Use.{about_use}
+use Rattle.lay_node.specs.reader.Use.{use_at}
+use Rattle.lay_node.specs.declared.use_tree.UseTree.{UseTree}
+use Rattle.lay_node.proofs.reader.Use.{use_trees}
 use Rattle.lay_read_parts.proofs.AtFront.{front_deeper, node_read, none_read}
 use Rattle.lay_read_heads.proofs.reads.read_use.Goals as goal
 

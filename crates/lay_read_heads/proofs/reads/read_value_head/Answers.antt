@@ -1,8 +1,8 @@
 use Rattle.std.proofs.Common.{◌≡◌, ◌<◌, ◌∙◌, arith}
 use Rattle.std.proofs.lemmas.Result.{err_from_is_err_and}
-use Rattle.lay_tree.specs.nodes.Heads.{about_value_head}
-use Rattle.lay_tree.specs.reader.Heads.{value_head}
-use Rattle.lay_tree.proofs.reader.ValueHeads.{value_heads_exact}
+use Rattle.lay_node.specs.nodes.Heads.{about_value_head}
+use Rattle.lay_node.specs.reader.Heads.{value_head}
+use Rattle.lay_node.proofs.reader.ValueHeads.{value_heads_exact}
 use Rattle.lay_read_heads.proofs.AtFront.{head_nowhere, head_none, head_found}
 use Rattle.lay_read_heads.proofs.reads.read_value_head.Goals as goal
 

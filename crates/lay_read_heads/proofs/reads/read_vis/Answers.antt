@@ -1,10 +1,10 @@
 use Rattle.std.proofs.Common.{◌∙◌}
 use Rattle.std.proofs.lemmas.Result.{err_from_is_err_and}
-use Rattle.lay_tree.specs.nodes.Facts.{ToldFront}
-use Rattle.lay_tree.specs.nodes.Vis.{about_vis}
-use Rattle.lay_tree.specs.reader.Vis.{visibility}
-use Rattle.lay_tree.specs.declared.vis.Vis.{Vis}
-use Rattle.lay_tree.proofs.reader.Vis.{vis_exact}
+use Rattle.lay_node.specs.nodes.Facts.{ToldFront}
+use Rattle.lay_node.specs.nodes.Vis.{about_vis}
+use Rattle.lay_node.specs.reader.Vis.{visibility}
+use Rattle.lay_node.specs.declared.vis.Vis.{Vis}
+use Rattle.lay_node.proofs.reader.Vis.{vis_exact}
 use Rattle.lay_read_tokens.proofs.Steps.{node_read, none_read}
 use Rattle.lay_read_heads.proofs.reads.read_vis.Goals as goal
 

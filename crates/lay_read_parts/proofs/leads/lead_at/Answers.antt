@@ -1,5 +1,5 @@
 use Rattle.std.proofs.Common.{sym, ap, ◌∙◌}
-use Rattle.lay_tree.specs.Begins.{lead_of_word}
+use Rattle.lay_node.specs.Begins.{lead_of_word}
 use Rattle.lay_read_parts.proofs.Steps.{word_lead}
 use Rattle.lay_read_parts.proofs.leads.lead_at.Goals as goal
 

@@ -1,6 +1,6 @@
 use Rattle.std.proofs.Common.{◌++◌, ◌∷◌, [], length, refl, sym, ap, ◌∙◌, arith}
 use Rattle.std.proofs.lemmas.Result.{err_from_is_err_and}
-use Rattle.lay_tree.specs.reader.Types.{chain}
+use Rattle.lay_node.specs.reader.Types.{chain}
 use Rattle.lay_read_tokens.proofs.Left.{shorter}
 use Rattle.lay_read_tokens.proofs.Steps.{lost}
 use Rattle.lay_read_parts.specs.Answers.{joined_by}

@@ -1,8 +1,8 @@
 use Rattle.std.proofs.Common.{◌≡◌, ◌++◌, ◌∷◌, [], true, false, refl, sym, arith}
 use Rattle.std.proofs.lemmas.Result.{err_from_is_err_and}
 use Rattle.std.proofs.Common.{codes}
-use Rattle.lay_tree.specs.Ahead.{first, is_mark}
-use Rattle.lay_tree.specs.reader.Loops.{open_elements}
+use Rattle.lay_node.specs.Ahead.{first, is_mark}
+use Rattle.lay_node.specs.reader.Loops.{open_elements}
 use Rattle.lay_read_tokens.proofs.Holding.{holding_more}
 use Rattle.lay_read_tokens.proofs.Steps.{lost}
 use Rattle.lay_read_parts.specs.Answers.{begins_part}

@@ -1,5 +1,5 @@
 use Rattle.std.proofs.Common.{◌≤◌, length}
-use Rattle.lay_tree.specs.reader.Loops.{open_elements_from, open_elements}
+use Rattle.lay_node.specs.reader.Loops.{open_elements_from, open_elements}
 use Rattle.lay_read_tokens.proofs.Holding.{Holding}
 use Rattle.lay_read_tokens.proofs.Turns.{Held}
 use Rattle.lay_read_parts.specs.Answers.{begins_part}

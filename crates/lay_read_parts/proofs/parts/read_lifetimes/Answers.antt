@@ -1,7 +1,7 @@
 use Rattle.std.proofs.Common.{codes, sym}
 use Rattle.std.proofs.lemmas.Result.{err_from_is_err_and}
-use Rattle.lay_tree.specs.reader.Exact.{needless}
-use Rattle.lay_tree.specs.reader.Types.{chain, lifetime, lifetimes}
+use Rattle.lay_node.specs.reader.Exact.{needless}
+use Rattle.lay_node.specs.reader.Types.{chain, lifetime, lifetimes}
 use Rattle.lay_read_tokens.proofs.Steps.{lost}
 use Rattle.lay_read_parts.proofs.Free.{no_lifetimes, some_lifetimes}
 use Rattle.lay_read_parts.proofs.parts.read_lifetimes.Goals as goal

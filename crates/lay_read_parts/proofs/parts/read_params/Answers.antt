@@ -1,9 +1,9 @@
 use Rattle.std.proofs.Common.{codes}
 use Rattle.std.proofs.lemmas.Result.{err_from_is_err_and}
-use Rattle.lay_tree.specs.Ahead.{is_mark}
-use Rattle.lay_tree.specs.reader.Exact.{needless}
-use Rattle.lay_tree.specs.reader.Loops.{elements}
-use Rattle.lay_tree.specs.reader.Types.{lifetime_param}
+use Rattle.lay_node.specs.Ahead.{is_mark}
+use Rattle.lay_node.specs.reader.Exact.{needless}
+use Rattle.lay_node.specs.reader.Loops.{elements}
+use Rattle.lay_node.specs.reader.Types.{lifetime_param}
 use Rattle.lay_read_tokens.proofs.Steps.{lost}
 use Rattle.lay_read_parts.proofs.Free.{params_behind, no_params, some_params}
 use Rattle.lay_read_parts.proofs.parts.read_params.Goals as goal

@@ -1,5 +1,5 @@
 use Rattle.std.proofs.Common.{◌-◌, arith}
-use Rattle.lay_tree.specs.reader.Patterns.{single_at, single_by}
+use Rattle.lay_node.specs.reader.Patterns.{single_at, single_by}
 use Rattle.lay_read_pats.specs.Answers.{pats_within}
 use Rattle.lay_read_pats.proofs.Steps.{found_by, single_deeper}
 use Rattle.lay_read_pats.proofs.pats.+pats.Goals as goal

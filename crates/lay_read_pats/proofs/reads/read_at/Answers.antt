@@ -1,9 +1,9 @@
 use Rattle.std.proofs.Common.{◌∙◌}
 use Rattle.std.proofs.lemmas.Result.{err_from_is_err_and}
-use Rattle.lay_tree.specs.nodes.Patterns.{PatFront, about_pat, pat_follows, pat_form, pat_good}
-use Rattle.lay_tree.specs.reader.Patterns.{pat_at}
-use Rattle.lay_tree.specs.declared.patterns.Pat.{Pat}
-use Rattle.lay_tree.proofs.reader.PatternsExact.{pats_exact}
+use Rattle.lay_node.specs.nodes.Patterns.{PatFront, about_pat, pat_follows, pat_form, pat_good}
+use Rattle.lay_node.specs.reader.Patterns.{pat_at}
+use Rattle.lay_node.specs.declared.patterns.Pat.{Pat}
+use Rattle.lay_node.proofs.reader.PatternsExact.{pats_exact}
 use Rattle.lay_read_parts.proofs.AtFront.{front_deeper, node_read, none_read}
 use Rattle.lay_read_pats.proofs.reads.read_at.Goals as goal
 

@@ -1,6 +1,6 @@
 use Rattle.std.proofs.Common.{sym}
 use Rattle.std.proofs.lemmas.Result.{err_from_is_err_and}
-use Rattle.lay_tree.specs.reader.Attr.{begins_attr, attribute, attributes}
+use Rattle.lay_node.specs.reader.Attr.{begins_attr, attribute, attributes}
 use Rattle.lay_read_tokens.proofs.Left.{attribute_left, shorter}
 use Rattle.lay_read_tokens.proofs.Steps.{lost}
 use Rattle.lay_read_tokens.proofs.Turns.{repeat-start, repeat-end, repeat-none, repeat-step}

@@ -1,6 +1,6 @@
 use Rattle.std.proofs.Common.{length}
-use Rattle.lay_tree.specs.reader.Attr.{begins_attr, attribute, attributes}
-use Rattle.lay_tree.specs.reader.Loops.{repeat_from}
+use Rattle.lay_node.specs.reader.Attr.{begins_attr, attribute, attributes}
+use Rattle.lay_node.specs.reader.Loops.{repeat_from}
 use Rattle.lay_read_tokens.proofs.Turns.{Turn}
 use Rattle.lay_read_tokens.proofs.attributes.attrs_ahead.Given as goal
 

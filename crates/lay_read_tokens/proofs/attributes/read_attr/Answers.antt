@@ -1,10 +1,10 @@
 use Rattle.std.proofs.Common.{◌∙◌}
 use Rattle.std.proofs.lemmas.Result.{err_from_is_err_and}
-use Rattle.lay_tree.specs.nodes.Attr.{about_attr}
-use Rattle.lay_tree.specs.nodes.Facts.{Front}
-use Rattle.lay_tree.specs.reader.Attr.{attribute}
-use Rattle.lay_tree.specs.declared.attr.Attr.{Attr}
-use Rattle.lay_tree.proofs.reader.AttrRead.{attrs_exact}
+use Rattle.lay_node.specs.nodes.Attr.{about_attr}
+use Rattle.lay_node.specs.nodes.Facts.{Front}
+use Rattle.lay_node.specs.reader.Attr.{attribute}
+use Rattle.lay_node.specs.declared.attr.Attr.{Attr}
+use Rattle.lay_node.proofs.reader.AttrRead.{attrs_exact}
 use Rattle.lay_read_tokens.proofs.Steps.{node_read, none_read}
 use Rattle.lay_read_tokens.proofs.attributes.read_attr.Goals as goal
 

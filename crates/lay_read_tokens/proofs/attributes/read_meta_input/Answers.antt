@@ -1,7 +1,7 @@
 use Rattle.std.proofs.Common.{◌≡◌, true, false, sym, ap, ◌∙◌}
-use Rattle.lay_tree.specs.Ahead.{Tokens, first}
-use Rattle.lay_tree.specs.reader.Attr.{begins_group, grouped}
-use Rattle.lay_tree.specs.declared.attr.MetaInput.TheVariants as input
+use Rattle.lay_node.specs.Ahead.{Tokens, first}
+use Rattle.lay_node.specs.reader.Attr.{begins_group, grouped}
+use Rattle.lay_node.specs.declared.attr.MetaInput.TheVariants as input
 use Rattle.lay_read_tokens.specs.Answers.{closed, meta_closed, meta_rest, value_behind}
 use Rattle.lay_read_tokens.proofs.Steps.{got_by, rest_value, rest_group, rest_bare}
 use Rattle.lay_read_tokens.proofs.attributes.read_meta_input.Goals as goal

@@ -1,10 +1,10 @@
 use Rattle.std.proofs.Common.{◌∙◌}
 use Rattle.std.proofs.lemmas.Result.{err_from_is_err_and}
-use Rattle.lay_tree.specs.nodes.Call.{about_call}
-use Rattle.lay_tree.specs.nodes.Facts.{Front}
-use Rattle.lay_tree.specs.reader.Call.{call}
-use Rattle.lay_tree.specs.declared.tokens.MacroCall.{MacroCall}
-use Rattle.lay_tree.proofs.reader.Call.{calls}
+use Rattle.lay_node.specs.nodes.Call.{about_call}
+use Rattle.lay_node.specs.nodes.Facts.{Front}
+use Rattle.lay_node.specs.reader.Call.{call}
+use Rattle.lay_node.specs.declared.tokens.MacroCall.{MacroCall}
+use Rattle.lay_node.proofs.reader.Call.{calls}
 use Rattle.lay_read_tokens.proofs.Steps.{node_read, none_read}
 use Rattle.lay_read_tokens.proofs.calls.read_call.Goals as goal
 

@@ -1,6 +1,6 @@
 use Rattle.std.proofs.Common.{sym, ap, ◌∙◌}
 use Rattle.std.proofs.lemmas.Result.{err_from_is_err_and}
-use Rattle.lay_tree.specs.reader.Words.{given_name, name}
+use Rattle.lay_node.specs.reader.Words.{given_name, name}
 use Rattle.lay_read_tokens.proofs.Steps.{lost}
 use Rattle.lay_read_tokens.proofs.Steps.{other_underscore, other_none, other_some}
 use Rattle.lay_read_tokens.proofs.names.read_given_name.Goals as goal

@@ -1,6 +1,6 @@
 use Rattle.std.proofs.Common.{sym}
 use Rattle.std.proofs.lemmas.Result.{err_from_is_err_and}
-use Rattle.lay_tree.specs.reader.Words.{begins_path_word, path_word, path_words}
+use Rattle.lay_node.specs.reader.Words.{begins_path_word, path_word, path_words}
 use Rattle.lay_read_tokens.proofs.Left.{path_word_left, shorter}
 use Rattle.lay_read_tokens.proofs.Steps.{lost}
 use Rattle.lay_read_tokens.proofs.Turns.{repeat-start, repeat-end, repeat-none, repeat-step}

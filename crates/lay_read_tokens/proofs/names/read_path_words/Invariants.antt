@@ -1,6 +1,6 @@
 use Rattle.std.proofs.Common.{length}
-use Rattle.lay_tree.specs.reader.Loops.{repeat_from}
-use Rattle.lay_tree.specs.reader.Words.{begins_path_word, path_word, path_words}
+use Rattle.lay_node.specs.reader.Loops.{repeat_from}
+use Rattle.lay_node.specs.reader.Words.{begins_path_word, path_word, path_words}
 use Rattle.lay_read_tokens.proofs.Turns.{Turn}
 use Rattle.lay_read_tokens.proofs.names.read_path_words.Given as goal
 

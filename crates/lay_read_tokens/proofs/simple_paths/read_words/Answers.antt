@@ -1,8 +1,8 @@
 use Rattle.std.proofs.Common.{List, [], ◌∷◌, ◌++◌, sym, ap, ◌∙◌}
 use Rattle.std.proofs.lemmas.Result.{err_from_is_err_and}
-use Rattle.lay_tree.specs.reader.Loops.{repeat}
-use Rattle.lay_tree.specs.reader.SimplePath.{begins_colons, further_word}
-use Rattle.lay_tree.specs.declared.token.Word.{Word}
+use Rattle.lay_node.specs.reader.Loops.{repeat}
+use Rattle.lay_node.specs.reader.SimplePath.{begins_colons, further_word}
+use Rattle.lay_node.specs.declared.token.Word.{Word}
 use Rattle.lay_read_tokens.proofs.Left.{further_word_left, shorter}
 use Rattle.lay_read_tokens.proofs.Steps.{lost}
 use Rattle.lay_read_tokens.proofs.Turns.{repeat-start, repeat-end, repeat-none, repeat-step}

@@ -1,6 +1,6 @@
 use Rattle.std.proofs.Common.{length}
-use Rattle.lay_tree.specs.reader.Loops.{repeat_from, repeat}
-use Rattle.lay_tree.specs.reader.SimplePath.{begins_colons, further_word}
+use Rattle.lay_node.specs.reader.Loops.{repeat_from, repeat}
+use Rattle.lay_node.specs.reader.SimplePath.{begins_colons, further_word}
 use Rattle.lay_read_tokens.specs.Answers.{BeginWith}
 use Rattle.lay_read_tokens.proofs.Turns.{Turn, Held}
 use Rattle.lay_read_tokens.proofs.simple_paths.read_words.Given as goal

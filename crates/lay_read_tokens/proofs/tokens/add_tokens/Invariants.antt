@@ -1,5 +1,5 @@
 use Rattle.std.proofs.Common.{◌≡◌, true, ◌++◌, map, take}
-use Rattle.lay_tree.specs.tokens.Listing.{as_listed}
+use Rattle.lay_node.specs.tokens.Listing.{as_listed}
 use Rattle.lay_read_tokens.specs.Answers.{are_laid}
 use Rattle.lay_read_tokens.proofs.tokens.add_tokens.Given as goal
 

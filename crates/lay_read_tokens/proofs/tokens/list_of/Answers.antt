@@ -1,7 +1,7 @@
 use Rattle.std.proofs.Common.{List, ◌++◌, map, ap, ◌∙◌}
-use Rattle.lay_tree.specs.tokens.Listing.{as_listed, is_balanced}
-use Rattle.lay_tree.specs.declared.token.Listed.{Listed}
-use Rattle.lay_tree.proofs.token_lists.Balance.{balanced_listed}
+use Rattle.lay_node.specs.tokens.Listing.{as_listed, is_balanced}
+use Rattle.lay_node.specs.declared.token.Listed.{Listed}
+use Rattle.lay_node.proofs.token_lists.Balance.{balanced_listed}
 use Rattle.lay_read_tokens.proofs.tokens.list_of.Goals as goal
 
 pub new-requires : goal.new-requires

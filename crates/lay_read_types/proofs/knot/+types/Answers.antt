@@ -1,6 +1,6 @@
 use Rattle.std.proofs.Common.{◌-◌, arith}
-use Rattle.lay_tree.specs.Begins.{lead_at}
-use Rattle.lay_tree.specs.reader.Types.{within, type_at, type_by, constraint_by}
+use Rattle.lay_node.specs.Begins.{lead_at}
+use Rattle.lay_node.specs.reader.Types.{within, type_at, type_by, constraint_by}
 use Rattle.lay_read_types.proofs.Steps.{type_none, asked_none, type_deeper, asked_deeper, found_by}
 use Rattle.lay_read_types.proofs.knot.+types.Goals as goal
 

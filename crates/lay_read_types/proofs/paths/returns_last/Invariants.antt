@@ -1,5 +1,5 @@
 use Rattle.std.proofs.Common.{◌≡◌, length}
-use Rattle.lay_tree.specs.reader.Types.{returns_last}
+use Rattle.lay_node.specs.reader.Types.{returns_last}
 use Rattle.lay_read_types.proofs.paths.returns_last.Given as goal
 
 -- what is left tells it

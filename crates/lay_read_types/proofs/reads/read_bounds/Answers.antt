@@ -1,9 +1,9 @@
 use Rattle.std.proofs.Common.{◌≡◌, suc, ◌<◌, List, map, refl, ◌∙◌, arith}
 use Rattle.std.proofs.lemmas.Result.{err_from_is_err_and}
-use Rattle.lay_tree.specs.nodes.Types.{BoundsFront, about_bound, bounds_follow, bounds_form, bounds_good, deeper}
-use Rattle.lay_tree.specs.reader.Types.{all_bounds, bounds_at}
-use Rattle.lay_tree.specs.declared.types.Bound.{Bound}
-use Rattle.lay_tree.proofs.reader.TypesExact.{bounds_exact}
+use Rattle.lay_node.specs.nodes.Types.{BoundsFront, about_bound, bounds_follow, bounds_form, bounds_good, deeper}
+use Rattle.lay_node.specs.reader.Types.{all_bounds, bounds_at}
+use Rattle.lay_node.specs.declared.types.Bound.{Bound}
+use Rattle.lay_node.proofs.reader.TypesExact.{bounds_exact}
 use Rattle.lay_read_tokens.specs.declared.stop.ReadNone.TheVariants.{NoReading}
 use Rattle.lay_read_parts.proofs.AtFront.{front_deeper, node_read, none_read, alone_nowhere, alone_stopped, alone_read}
 use Rattle.lay_read_types.proofs.reads.read_bounds.Goals as goal

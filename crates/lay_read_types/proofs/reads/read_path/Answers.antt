@@ -1,11 +1,11 @@
 use Rattle.std.proofs.Common.{◌≡◌, suc, ◌<◌, refl, ◌∙◌, arith}
 use Rattle.std.proofs.lemmas.Result.{err_from_is_err_and}
-use Rattle.lay_tree.specs.Follow.{may_follow}
-use Rattle.lay_tree.specs.nodes.Facts.{Front}
-use Rattle.lay_tree.specs.nodes.Types.{about_path, alone}
-use Rattle.lay_tree.specs.reader.Types.{path, path_at}
-use Rattle.lay_tree.specs.declared.types.Path.{Path}
-use Rattle.lay_tree.proofs.reader.TypesExact.{paths_exact}
+use Rattle.lay_node.specs.Follow.{may_follow}
+use Rattle.lay_node.specs.nodes.Facts.{Front}
+use Rattle.lay_node.specs.nodes.Types.{about_path, alone}
+use Rattle.lay_node.specs.reader.Types.{path, path_at}
+use Rattle.lay_node.specs.declared.types.Path.{Path}
+use Rattle.lay_node.proofs.reader.TypesExact.{paths_exact}
 use Rattle.lay_read_tokens.specs.declared.stop.ReadNone.TheVariants.{NoReading}
 use Rattle.lay_read_parts.proofs.AtFront.{front_deeper, node_read, none_read, alone_nowhere, alone_stopped, alone_read}
 use Rattle.lay_read_types.proofs.reads.read_path.Goals as goal

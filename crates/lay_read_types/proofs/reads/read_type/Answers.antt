@@ -1,9 +1,9 @@
 use Rattle.std.proofs.Common.{◌∙◌}
 use Rattle.std.proofs.lemmas.Result.{err_from_is_err_and}
-use Rattle.lay_tree.specs.nodes.Types.{TypeFront, about_type, good_at, type_follows}
-use Rattle.lay_tree.specs.reader.Types.{type_at}
-use Rattle.lay_tree.specs.declared.types.Ty.{Ty}
-use Rattle.lay_tree.proofs.reader.TypesExact.{types_exact}
+use Rattle.lay_node.specs.nodes.Types.{TypeFront, about_type, good_at, type_follows}
+use Rattle.lay_node.specs.reader.Types.{type_at}
+use Rattle.lay_node.specs.declared.types.Ty.{Ty}
+use Rattle.lay_node.proofs.reader.TypesExact.{types_exact}
 use Rattle.lay_read_parts.proofs.AtFront.{front_deeper, node_read, none_read}
 use Rattle.lay_read_types.proofs.reads.read_type.Goals as goal
 

@@ -1,9 +1,9 @@
 use Rattle.std.proofs.Common.{codes, sym}
 use Rattle.std.proofs.lemmas.Result.{err_from_is_err_and}
-use Rattle.lay_tree.specs.Ahead.{is_mark}
-use Rattle.lay_tree.specs.reader.Generics.{generics, one_param}
-use Rattle.lay_tree.specs.reader.Loops.{elements}
-use Rattle.lay_tree.specs.reader.Types.{within}
+use Rattle.lay_node.specs.Ahead.{is_mark}
+use Rattle.lay_node.specs.reader.Generics.{generics, one_param}
+use Rattle.lay_node.specs.reader.Loops.{elements}
+use Rattle.lay_node.specs.reader.Types.{within}
 use Rattle.lay_read_tokens.proofs.Steps.{lost}
 use Rattle.lay_read_parts.specs.Answers.{gathered}
 use Rattle.lay_read_generics.proofs.Steps.{generics_lost}

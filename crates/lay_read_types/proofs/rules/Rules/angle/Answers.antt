@@ -1,8 +1,8 @@
 use Rattle.std.proofs.Common.{codes, sym}
 use Rattle.std.proofs.lemmas.Result.{err_from_is_err_and}
-use Rattle.lay_tree.specs.Ahead.{is_mark}
-use Rattle.lay_tree.specs.reader.Loops.{elements}
-use Rattle.lay_tree.specs.reader.Types.{within, angle, one_arg}
+use Rattle.lay_node.specs.Ahead.{is_mark}
+use Rattle.lay_node.specs.reader.Loops.{elements}
+use Rattle.lay_node.specs.reader.Types.{within, angle, one_arg}
 use Rattle.lay_read_tokens.proofs.Steps.{lost}
 use Rattle.lay_read_parts.specs.Answers.{gathered}
 use Rattle.lay_read_types.proofs.Steps.{angle_lost}

@@ -1,0 +1,108 @@
+//! Use trees.
+ghost use Rattle.std.specs.Prelude.{◌≡◌, ◌≤◌, IfOk};
+ghost use Rattle.lay_node.specs.reader.Use as reader;
+ghost use Rattle.lay_read_tokens.specs.Answers.{IsFound, IsGot};
+
+use lay_node::{GivenName, UseEnd, UseTree};
+use lay_read_tokens::ReadNone;
+use lay_read_tokens::ahead::Ahead;
+use lay_read_tokens::found::{Found, greater};
+use lay_read_tokens::front::{
+    is_at_colons, takes_closer, takes_colons, takes_element_end, takes_keyword, takes_op,
+    takes_opener,
+};
+use lay_read_tokens::names::{read_given_name, read_path_words, read_word};
+use lay_read_tokens::stop::keep;
+use lay_token::{Delim, List};
+use std::alloc::Global;
+
+/// A use tree, within a depth.
+#[cycle(use_trees)]
+#[tactic(auto, unfolding(lay_node::specs::reader::Use::use_at))]
+pub fn use_ahead(alloc: Global, at: &mut Ahead<'_>, depth: u32) -> Result<Found<UseTree>, ReadNone>
+    ensures read { IsFound (reader.use_at depth at.old) result at.new }
+    ensures within { IfOk result (λ found. found.need ≤ depth) }
+{
+    if depth == 0 {
+        return Err(ReadNone::NoReading);
+    }
+    let global = takes_colons(at);
+    let path = read_path_words(alloc, at)?;
+    let end = read_use_end(alloc, at, depth - 1)?;
+    if is_at_colons(at) {
+        return Err(ReadNone::NoReading);
+    }
+    Ok(Found {
+        need: end.need + 1,
+        node: UseTree {
+            global,
+            path,
+            end: end.node,
+        },
+    })
+}
+
+/// What stands behind the path of a use tree. The trees within it stand within the depth.
+#[cycle(use_trees)]
+fn read_use_end(alloc: Global, at: &mut Ahead<'_>, depth: u32) -> Result<Found<UseEnd>, ReadNone>
+    ensures read { IsFound (reader.use_end_by (reader.use_at depth) at.old) result at.new }
+    ensures within { IfOk result (λ found. found.need ≤ depth) }
+{
+    if takes_opener(at, Delim::Brace) {
+        read_group(alloc, at, depth)
+    } else if takes_op(at, b"*") {
+        Ok(Found {
+            node: UseEnd::Glob,
+            need: 0,
+        })
+    } else {
+        read_use_word(alloc, at)
+    }
+}
+
+/// The use trees of a group, which stand within the depth, and the `}` behind them.
+#[cycle(use_trees)]
+fn read_group(alloc: Global, at: &mut Ahead<'_>, depth: u32) -> Result<Found<UseEnd>, ReadNone>
+    ensures read { IsFound (reader.use_group (reader.use_at depth) at.old) result at.new }
+    ensures within { IfOk result (λ found. found.need ≤ depth) }
+{
+    let mut trees = List::new(alloc);
+    let mut need = 0;
+    while !takes_closer(at, Delim::Brace) {
+        let tree = use_ahead(alloc, at, depth)?;
+        need = greater(need, tree.need);
+        keep(&mut trees, tree.node)?;
+        if !takes_element_end(at, Delim::Brace) {
+            return Err(ReadNone::NoReading);
+        }
+    }
+    Ok(Found {
+        node: UseEnd::Group { trees },
+        need,
+    })
+}
+
+/// A word, and what it is called here.
+fn read_use_word(alloc: Global, at: &mut Ahead<'_>) -> Result<Found<UseEnd>, ReadNone>
+    ensures read { IsFound (reader.use_word at.old) result at.new }
+    ensures within { IfOk result (λ found. found.need ≡ 0) }
+{
+    let word = read_word(alloc, at)?;
+    let rename = read_rename(alloc, at)?;
+    Ok(Found {
+        node: UseEnd::Word { word, rename },
+        need: 0,
+    })
+}
+
+/// What follows a word: `as` and another name, or nothing of a use tree.
+#[tactic(auto, unfolding(lay_node::specs::reader::Use::renamed))]
+pub fn read_rename(alloc: Global, at: &mut Ahead<'_>) -> Result<Option<GivenName>, ReadNone>
+    ensures { IsGot (reader.renamed at.old) result at.new }
+{
+    if !takes_keyword(at, b"as") {
+        return Ok(None);
+    }
+    let rename = read_given_name(alloc, at)?;
+    Ok(Some(rename))
+}

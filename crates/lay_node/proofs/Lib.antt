@@ -1,0 +1,13 @@
+pub mod Steps
+pub mod InText
+pub mod Fronts
+pub mod Follow
+pub mod Parts
+pub mod WithCommas
+pub mod nodes
+pub mod reader
+pub mod Scalars
+pub mod Pieces
+pub mod token_lists
+pub mod LexedPieces
+pub mod samples

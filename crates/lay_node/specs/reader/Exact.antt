@@ -1,0 +1,33 @@
+-- What is proved of readings: a node is read exactly where it stands at the front of the tokens.
+use Rattle.std.specs.Prelude.{ℕ, ◌≡◌, ◌≤◌, Bool, ◌||◌, not, drop, map, Some, IsTrue}
+use Rattle.std.specs.List.{list_all}
+use Rattle.lay_token.specs.Lexes.{is_punct}
+use Rattle.lay_token.specs.declared.token.Token.{Token}
+use Rattle.lay_node.specs.Ahead.{Tokens}
+use Rattle.lay_node.specs.reader.Loops.{Got, Read, ◌>>=◌}
+use Rattle.lay_node.specs.tokens.Lexed.{fits}
+use Rattle.lay_node.specs.tokens.Listing.{as_listed}
+use Rattle.lay_node.specs.tokens.Pairs.{Neighbour}
+
+-- No token but punctuation is joint.
+abbrev pub is_loose : Token → Bool
+is_loose t = is_punct t.kind || not t.joint
+
+-- The tokens stand in a row in what some text lexes to, behind two others.
+pub record InText (ts : Tokens) : Type 0 where
+  pub before : Neighbour
+  pub last : Neighbour
+  pub fit : IsTrue (fits before last (map as_listed ts))
+  pub loose : IsTrue (list_all is_loose ts)
+
+-- What is read within a budget stands at the front at the depth that it needs, and what stands there at a depth is read
+-- within every budget from it on. So at most one node and one count of tokens fit.
+pub record Exact {A : Type 0} (read : ℕ → Tokens → Read A) (Front : A → Tokens → ℕ → ℕ → Type 0) : Type 0 where
+  pub sound : (budget : ℕ) (ts : Tokens) (x : A) (need : ℕ) (rest : Tokens) → InText ts → read budget ts ≡ Some ((x, need), rest)
+      → (n : ℕ) × (drop n ts ≡ rest) × (need ≤ budget) × Front x ts n need
+  pub complete : (x : A) (ts : Tokens) (n depth : ℕ) → Front x ts n depth
+      → (budget : ℕ) → depth ≤ budget → (need : ℕ) × (need ≤ depth) × (read budget ts ≡ Some ((x, need), drop n ts))
+
+-- a reading of a node with no nodes within it
+abbrev pub needless : {A : Type 0} → (Tokens → Got A) → ℕ → Tokens → Read A
+needless one budget ts = do x ← one ts; Some ((x.0, 0), x.1)
