@@ -24,6 +24,7 @@ use Rattle.lay_read_tokens.specs.declared.found.Found.{Found}
 use Rattle.lay_read_tokens.specs.declared.stop.ReadNone.{ReadNone}
 use Rattle.lay_read_parts.specs.Answers.{literal_if}
 use Rattle.lay_read_parts.proofs.Steps.{literal_is}
+use Rattle.lay_read_types.proofs.Steps.{above_zero}
 use Rattle.lay_read_pats.specs.Answers.{pats_within, tuple_behind}
 
 -- ---- values
@@ -127,10 +128,6 @@ short_none by_ref mutable name of none h = twice none ∙ ap not (sym h) ∙ sym
 
 -- ---- readers
 
-pub found_by : {A : Type 0} (a b : Read A) (r : Result (Found A) ReadNone) (left : Tokens) → a ≡ b → IsFound b r left
-    → IsFound a r left
-found_by a b r left e h = rw e h
-
 -- behind a `(`, a pattern and a comma
 module _ (deeper : PatWithin) (x : Pat × ℕ) (ts mid : Tokens) (h : first (closes Paren) ts ≡ false)
     (g : first (is_mark (codes ",")) ts ≡ true) (m : mid ≡ tail ts) where
@@ -144,12 +141,9 @@ module _ (deeper : PatWithin) (x : Pat × ℕ) (ts mid : Tokens) (h : first (clo
 
 -- ---- within a depth
 
-deeper : {X : Type 0} (f : ℕ → X) (n : ℕ) → 0 < n → f n ≡ f (suc (n - 1))
-deeper f n some = let e : n ≡ suc (n - 1) = omega arith in ap f e
-
 pub single_deeper : (n : ℕ) (ts : Tokens) → 0 < n → r.single_at n ts ≡ r.single_by (pats_within (n - 1)) ts
 unfolding r.single_at
-single_deeper n ts some = deeper (λ (k : ℕ). r.single_at k ts) n some
+single_deeper n ts some = above_zero (λ (k : ℕ). r.single_at k ts) n some
 
 -- ---- a pair of what was read
 

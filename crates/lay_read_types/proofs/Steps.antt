@@ -44,8 +44,9 @@ returns_round inputs output = ap (λ (a : ArgsFacts). a.returns) (args_round_is 
 
 -- ---- within a depth
 
-deeper : {X : Type 0} (f : ℕ → X) (n : ℕ) → 0 < n → f n ≡ f (suc (n - 1))
-deeper f n some = let e : n ≡ suc (n - 1) = omega arith in ap f e
+-- what is told of a depth that is no zero
+pub above_zero : {X : Type 0} (f : ℕ → X) (n : ℕ) → 0 < n → f n ≡ f (suc (n - 1))
+above_zero f n some = let e : n ≡ suc (n - 1) = omega arith in ap f e
 
 pub type_none : (place : TypePlace) (n : ℕ) (ts : Tokens) → n ≡ 0 → type_at place n ts ≡ None
 unfolding within
@@ -58,11 +59,11 @@ asked_none n ts e = ap (λ (k : ℕ). (within k).constraints ts) e
 pub type_deeper : (place : TypePlace) (n : ℕ) (ts : Tokens) → 0 < n
     → type_at place n ts ≡ type_by (within (n - 1)) place (lead_at ts) ts
 unfolding within
-type_deeper place n ts some = deeper (λ (k : ℕ). type_at place k ts) n some
+type_deeper place n ts some = above_zero (λ (k : ℕ). type_at place k ts) n some
 
 pub asked_deeper : (n : ℕ) (ts : Tokens) → 0 < n → (within n).constraints ts ≡ constraint_by (within (n - 1)) ts
 unfolding within
-asked_deeper n ts some = deeper (λ (k : ℕ). (within k).constraints ts) n some
+asked_deeper n ts some = above_zero (λ (k : ℕ). (within k).constraints ts) n some
 
 pub found_by : {A : Type 0} (a b : Read A) (r : Result (Found A) ReadNone) (left : Tokens) → a ≡ b → IsFound b r left
     → IsFound a r left

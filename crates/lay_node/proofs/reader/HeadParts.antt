@@ -153,7 +153,7 @@ semicolon_ends_wheres ts rest o =
       quiet = semicolon_quiet ts rest o;
     }
 
-brace_quiet : (ts rest : Tokens) → IsOne (Opener Brace) (opening Brace ∷ []) ts rest → Quiet ts
+pub brace_quiet : (ts rest : Tokens) → IsOne (Opener Brace) (opening Brace ∷ []) ts rest → Quiet ts
 unfolding op_at
 brace_quiet ts rest o OfRename = rw (one_front (Opener Brace) (opening Brace ∷ []) ts rest o).1 refl
 brace_quiet ts rest o OfColons = one_no_op (codes "::") (Opener Brace) (opening Brace ∷ []) ts rest refl o

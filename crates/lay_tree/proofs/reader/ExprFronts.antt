@@ -35,6 +35,7 @@ use Rattle.lay_tree.specs.declared.operators.Prefix.{Prefix}
 use Rattle.lay_tree.specs.declared.operators.Prefix.TheVariants as before
 use Rattle.lay_tree.proofs.nodes.ExprsLaws.{ExprView, IsLit, IsPath, IsUnderscore, IsCall, IsParen, IsContinue, IsTuple, IsArray, IsRepeat, IsStruct, IsChain, IsCast, IsUnary, IsRange, IsAssign, IsPostfix, IsReturn, IsBreak, expr_view, behind_op, before_op as target_of, expr_lit_is, expr_path_is, expr_underscore_is, expr_call_is, expr_paren_is, expr_continue_is, expr_tuple_is, expr_array_is, expr_repeat_is, expr_struct_is, expr_chain_is, expr_cast_is, expr_unary_is, expr_range_is, expr_assign_is, expr_postfix_is, expr_return_is, expr_break_is}
 use Rattle.lay_tree.proofs.reader.ExprLeads.{lone_lead, literal_lead, path_lead, range_lead}
+use Rattle.lay_tree.proofs.reader.ExprSoundLevel.{within_held}
 
 -- how an expression of which this is told begins
 pub record ExprBegun (x : ExprFacts) (ts rest : Tokens) : Type 0 where
@@ -103,9 +104,6 @@ range_begins inclusive f depth ts rest s = (range_lead inclusive ts s.0 s.1, by 
 -- ---- what stands in a place
 
 -- What stands in a place is well within it.
-pub placed_within : (x : ExprFacts) (place : Place) → placed x place ≡ true → x.within place.no_struct (begins place.start) ≡ true
-placed_within x place w = (and_parts (stands x place) (x.within place.no_struct (begins place.start)) w).1
-
 -- An expression has a level at least.
 pub no_depth : (x : Expr) (ts rest : Tokens) → Spells (about_expr x).form zero ts rest → ⊥
 no_depth x ts rest s = by x (expr_view x) s
@@ -157,7 +155,7 @@ module _ (depth : ℕ) (ih : AllBegin depth) (no_struct first : Bool) (ts rest :
   led : (x : Expr) (place : Place) (f : Form) → placed (about_expr x) place ≡ true → Spells (Part (about_expr x).form f) depth ts rest
       → Begun (about_expr x).lead ts rest
   led x place f w s =
-      let b = ih x place.no_struct (begins place.start) ts s.0 s.1 (placed_within (about_expr x) place w) in
+      let b = ih x place.no_struct (begins place.start) ts s.0 s.1 (within_held (about_expr x) place w) in
       (b.0, omega (arith, b.1, shorter f depth s.0 rest s.2))
 
   path_begun : (p : Path) (mid : Tokens) → Spells (about_path p Code).form depth ts mid → (about_path p Code).good ≡ true
@@ -278,4 +276,4 @@ expr_begins x no_struct first depth ts rest s w =
 pub placed_begins : (x : Expr) (place : Place) (depth : ℕ) (ts rest : Tokens) → Spells (about_expr x).form depth ts rest
     → placed (about_expr x) place ≡ true → ExprBegun (about_expr x) ts rest
 placed_begins x place depth ts rest s w =
-    expr_begins x place.no_struct (begins place.start) depth ts rest s (placed_within (about_expr x) place w)
+    expr_begins x place.no_struct (begins place.start) depth ts rest s (within_held (about_expr x) place w)

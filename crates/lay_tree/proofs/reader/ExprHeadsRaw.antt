@@ -46,8 +46,9 @@ use Rattle.lay_tree.specs.declared.exprs.Place.{Place}
 use Rattle.lay_tree.specs.declared.exprs.Step.{Step}
 use Rattle.lay_tree.specs.declared.operators.Op.{Op}
 use Rattle.lay_tree.proofs.nodes.ExprsLaws.{ExprView, IsLit, IsPath, IsUnderscore, IsCall, IsParen, IsContinue, IsTuple, IsArray, IsRepeat, IsStruct, IsChain, IsCast, IsUnary, IsRange, IsAssign, IsPostfix, IsReturn, IsBreak, expr_view, behind_op, before_op as target_of, expr_lit_is, expr_path_is, expr_underscore_is, expr_call_is, expr_paren_is, expr_continue_is, expr_tuple_is, expr_array_is, expr_repeat_is, expr_struct_is, expr_chain_is, expr_cast_is, expr_unary_is, expr_range_is, expr_assign_is, expr_postfix_is, expr_return_is, expr_break_is}
-use Rattle.lay_tree.proofs.reader.ExprFronts.{placed_within, no_depth, expr_begins}
+use Rattle.lay_tree.proofs.reader.ExprFronts.{no_depth, expr_begins}
 use Rattle.lay_tree.proofs.reader.ExprLeads.{one_lead}
+use Rattle.lay_tree.proofs.reader.ExprSoundLevel.{within_held}
 use Rattle.lay_tree.proofs.reader.ExprSteps.{step_begun}
 
 -- ---- what isn't `const` or `mut`
@@ -279,7 +280,7 @@ module _ (depth : ℕ) (ih : AllRaw depth) (no_struct first_flag : Bool) (ts res
       let t = ungrouped several (Part F.form (steps_form several false gs)) s in
       let top = leb-true 14 F.level (stands_level F place
       (and_parts (stands F place) (F.within place.no_struct (begins place.start)) w1.1).0) in
-      inl (elim (ih x place.no_struct (begins place.start) ts t.0 t.1 (placed_within F place w1.1)
+      inl (elim (ih x place.no_struct (begins place.start) ts t.0 t.1 (within_held F place w1.1)
       (le-leb 12 F.level (omega (arith, top))) raw) [
         | inl n ↦ n
         | inr e ↦ rw e.1 (steps_no_pointer several ss depth t.0 rest there t.2)

@@ -23,13 +23,14 @@ use Rattle.lay_tree.specs.declared.exprs.Place.{Place}
 use Rattle.lay_tree.specs.declared.operators.Prefix.{Prefix}
 use Rattle.lay_tree.specs.declared.operators.Prefix.TheVariants as before
 use Rattle.lay_tree.proofs.nodes.ExprsLaws.{expr_unary_is}
-use Rattle.lay_tree.proofs.reader.ExprFronts.{placed_within, placed_begins}
+use Rattle.lay_tree.proofs.reader.ExprFronts.{placed_begins}
 use Rattle.lay_tree.proofs.reader.ExprHeads.{IsHead, head_of}
 use Rattle.lay_tree.proofs.reader.ExprHeadsJumps.{plain_follows}
 use Rattle.lay_tree.proofs.reader.ExprHeadsRaw.{begins_raw, stands_level, expr_raw}
 use Rattle.lay_tree.proofs.reader.ExprLeads.{expr_no_keyword, lead_no_prefix}
 use Rattle.lay_tree.proofs.reader.ExprQuiet.{TailFits, fits_tail}
 use Rattle.lay_tree.proofs.reader.ExprReads.{ExprReads}
+use Rattle.lay_tree.proofs.reader.ExprSoundLevel.{within_held}
 
 -- ---- one operator
 
@@ -165,7 +166,7 @@ operand_stops : (x : Expr) (no_struct : Bool) (depth : ℕ) (ts rest : Tokens) �
     → placed (about_expr x) (plain 12 no_struct) ≡ true → ((about_expr x).is_raw ≡ true → begins_pointer rest ≡ false)
     → amp_by ts ≡ before.Amp
 operand_stops x no_struct depth ts rest s g alone = elim (cases_Bool (begins_raw ts)) [
-  | inl e ↦ by e (elim (expr_raw depth x no_struct false ts rest s (placed_within F place g) high e) [
+  | inl e ↦ by e (elim (expr_raw depth x no_struct false ts rest s (within_held F place g) high e) [
     | inl n ↦ n
     | inr k ↦ rw k.1 (alone k.0)
   ])

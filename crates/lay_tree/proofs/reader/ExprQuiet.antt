@@ -12,6 +12,7 @@ use Rattle.lay_node.specs.Ahead.{Tokens, first, is_keyword, is_lifetime, opens}
 use Rattle.lay_node.specs.Follow.{may_follow, OfRename, OfArgs, OfCodeArgs, OfArrow, OfColons, OfBang}
 use Rattle.lay_node.proofs.Follow.{Quiet, quiet_follows, comma_quiet, semicolon_quiet, closer_quiet}
 use Rattle.lay_node.proofs.Fronts.{one_front}
+use Rattle.lay_node.proofs.reader.HeadParts.{brace_quiet}
 use Rattle.lay_node.proofs.reader.Loops as loops
 use Rattle.lay_tree.specs.Operands.{begins_operand}
 use Rattle.lay_tree.specs.Operators.{all_ops, named, binary, is_dot_or_try, begins_step, strength_by, strength}
@@ -171,16 +172,6 @@ closer_ends_expr no_struct d ts rest o =
       pointer = rw f refl;
       quiet = closer_quiet d ts rest o;
     }
-
-brace_quiet : (ts rest : Tokens) → IsOne (Opener Brace) (opening Brace ∷ []) ts rest → Quiet ts
-brace_quiet ts rest o OfRename = rw (one_front (Opener Brace) (opening Brace ∷ []) ts rest o).1 refl
-brace_quiet ts rest o OfColons = rw (brace_op ts rest o) refl
-brace_quiet ts rest o OfArgs =
-    let no_paren : first (opens Paren) ts ≡ false = rw (one_front (Opener Brace) (opening Brace ∷ []) ts rest o).1 refl in
-    rw (brace_op ts rest o, no_paren) refl
-brace_quiet ts rest o OfCodeArgs = rw (brace_op ts rest o) refl
-brace_quiet ts rest o OfArrow = rw (brace_op ts rest o) refl
-brace_quiet ts rest o OfBang = rw (brace_op ts rest o) refl
 
 -- A `{` ends an expression where no struct literal may stand.
 pub brace_ends_expr : (ts rest : Tokens) → IsOne (Opener Brace) (opening Brace ∷ []) ts rest → ExprEnds true ts

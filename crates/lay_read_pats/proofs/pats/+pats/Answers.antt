@@ -1,7 +1,8 @@
 use Rattle.std.proofs.Common.{◌-◌, arith}
 use Rattle.lay_node.specs.reader.Patterns.{single_at, single_by}
 use Rattle.lay_read_pats.specs.Answers.{pats_within}
-use Rattle.lay_read_pats.proofs.Steps.{found_by, single_deeper}
+use Rattle.lay_read_types.proofs.Steps.{found_by}
+use Rattle.lay_read_pats.proofs.Steps.{single_deeper}
 use Rattle.lay_read_pats.proofs.pats.+pats.Goals as goal
 
 pub single_ahead-returns-clause-read : goal.single_ahead-returns-clause-read

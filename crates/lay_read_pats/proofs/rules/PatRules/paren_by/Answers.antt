@@ -2,7 +2,8 @@ use Rattle.std.proofs.Common.{codes, sym, ap, ◌∙◌}
 use Rattle.lay_node.specs.Ahead.{first, tail, is_mark}
 use Rattle.lay_node.specs.reader.Patterns.{paren_by}
 use Rattle.lay_read_pats.specs.Answers.{pats_within, tuple_behind}
-use Rattle.lay_read_pats.proofs.Steps.{found_by, paren_both}
+use Rattle.lay_read_types.proofs.Steps.{found_by}
+use Rattle.lay_read_pats.proofs.Steps.{paren_both}
 use Rattle.lay_read_pats.proofs.rules.PatRules.paren_by.Goals as goal
 
 pub returns-clause-read : goal.returns-clause-read
