@@ -1,6 +1,9 @@
 //! Expressions, and the places where they stand.
+use crate::blocks::{Arm, Block, Branch};
 use crate::operators::{Op, Prefix};
-use lay_node::{Arg, Attr, Boxed, Lifetime, Literal, MacroCall, Name, Path, Tokens, Ty};
+use lay_node::{
+    Arg, Attr, Boxed, Lifetime, Literal, MacroCall, Name, Pat, Path, Tokens, Ty,
+};
 use lay_token::{List, Text};
 
 /// Whether an expression begins a statement or the body of an arm, and is the whole of it or a part.
@@ -26,7 +29,7 @@ pub struct Place {
 }
 
 /// An expression (Rust Reference, "Expressions"). One within another stands one level deeper.
-#[cycle(exprs)]
+#[cycle(code)]
 #[derive(Drop)]
 pub enum Expr {
     /// `1`, `true`, `"a"`
@@ -101,6 +104,67 @@ pub enum Expr {
         base: Boxed<Expr>,
         steps: List<Step>,
     },
+    /// `'a: { b; c }`
+    Block {
+        label: Option<Lifetime>,
+        body: Block,
+    },
+    /// `unsafe { a }`
+    Unsafe {
+        body: Block,
+    },
+    /// `const { a }`
+    ConstBlock {
+        body: Block,
+    },
+    /// `async move { a }`
+    Async {
+        moves: bool,
+        body: Block,
+    },
+    /// `if a { b } else if let c = d { e } else { f }`, of one branch at least
+    If {
+        branches: List<Branch>,
+        otherwise: Option<Block>,
+    },
+    /// `match a { b => c }`
+    Match {
+        scrutinee: Boxed<Expr>,
+        attrs: List<Attr>,
+        arms: List<Arm>,
+    },
+    /// `'a: loop { b }`
+    Loop {
+        label: Option<Lifetime>,
+        body: Block,
+    },
+    /// `'a: while b { c }`, `while let b = c { d }`
+    While {
+        label: Option<Lifetime>,
+        pat: Option<Pat>,
+        condition: Boxed<Expr>,
+        body: Block,
+    },
+    /// `'a: for b in c { d }`
+    For {
+        label: Option<Lifetime>,
+        pat: Pat,
+        iterated: Boxed<Expr>,
+        body: Block,
+    },
+    /// `move |a, b: C| d`
+    Closure {
+        moves: bool,
+        params: List<ClosureParam>,
+        body: Boxed<Expr>,
+    },
+    /// `|a| -> B { c }`
+    TypedClosure {
+        moves: bool,
+        params: List<ClosureParam>,
+        output: Ty,
+        body: Block,
+    },
     /// `return a`
     Return {
         operand: Option<Boxed<Expr>>,
@@ -112,8 +176,16 @@ pub enum Expr {
     },
 }
 
+/// A parameter of a closure.
+#[derive(Drop)]
+pub struct ClosureParam {
+    pub attrs: List<Attr>,
+    pub pat: Pat,
+    pub ty: Option<Ty>,
+}
+
 /// A field in a struct literal (Rust Reference, "Struct expressions").
-#[cycle(exprs)]
+#[cycle(code)]
 #[derive(Drop)]
 pub enum FieldExpr {
     /// `a: b`
@@ -136,7 +208,7 @@ pub enum FieldExpr {
 }
 
 /// What follows the base of a postfix expression.
-#[cycle(exprs)]
+#[cycle(code)]
 #[derive(Drop)]
 pub enum Step {
     /// `.a`

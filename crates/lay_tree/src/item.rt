@@ -1,4 +1,5 @@
 //! Items.
+use crate::blocks::Block;
 use crate::exprs::Expr;
 use lay_node::{
     Alias, Attr, Boxed, Enum, ExternCrate, FnHead, Group, ImplHead, Literal, MacroCall, Name,
@@ -7,7 +8,7 @@ use lay_node::{
 use lay_token::List;
 
 /// An item with its outer attributes (Rust Reference, "Items"). One within another stands one level deeper.
-#[cycle(items)]
+#[cycle(code)]
 #[derive(Drop)]
 pub struct Item {
     pub attrs: List<Attr>,
@@ -17,7 +18,7 @@ pub struct Item {
 }
 
 /// What an item is.
-#[cycle(items)]
+#[cycle(code)]
 #[derive(Drop)]
 pub enum ItemKind {
     /// `extern crate a;`
@@ -38,10 +39,11 @@ pub enum ItemKind {
         attrs: List<Attr>,
         items: List<Item>,
     },
-    /// `fn a();`
+    /// `fn a() { b }` or `fn a();`
     Function {
         head: FnHead,
         wheres: Wheres,
+        body: Option<Block>,
     },
     /// `type A = B;`
     Alias {

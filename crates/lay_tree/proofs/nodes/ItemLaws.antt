@@ -16,7 +16,9 @@ use Rattle.lay_node.specs.declared.token.Name.{Name}
 use Rattle.lay_node.specs.declared.tokens.Group.{Group}
 use Rattle.lay_node.specs.declared.tokens.MacroCall.{MacroCall}
 use Rattle.lay_node.specs.declared.use_tree.UseTree.{UseTree}
-use Rattle.lay_tree.specs.nodes.Item.{KindFacts, ItemFacts, kind_facts, item_facts, told_of_item, told_of_kind}
+use Rattle.lay_tree.specs.nodes.Code.{told_of_item, told_of_kind}
+use Rattle.lay_tree.specs.nodes.CodeFacts.{KindFacts, ItemFacts}
+use Rattle.lay_tree.specs.nodes.Item.{kind_facts, item_facts}
 use Rattle.lay_tree.specs.declared.exprs.Expr.{Expr}
 use Rattle.lay_tree.specs.declared.item.Item.{Item}
 use Rattle.lay_tree.specs.declared.item.ItemKind.{ItemKind}

@@ -12,7 +12,8 @@ use Rattle.lay_node.specs.reader.Loops.{nodes, deepest, repeat}
 use Rattle.lay_node.specs.declared.types.Ty.{Ty}
 use Rattle.lay_node.proofs.Parts.{bit_alone}
 use Rattle.lay_tree.specs.Operators.{op_level, angle_by, is_angle, is_angle_op, is_dot_or_try, strength}
-use Rattle.lay_tree.specs.nodes.Exprs.{ExprFacts, StepFacts, Tail, placed, tail_follows, operands_form, end_form, is_chain_level, may_chain, operands_placed, targets_placed, end_placed, is_tuple_index, is_dotted, are_steps, types_good, tail_of_end, tail_of_steps, inside, tail_of, expr_facts, about_expr, about_step}
+use Rattle.lay_tree.specs.nodes.Code.{about_expr, about_step}
+use Rattle.lay_tree.specs.nodes.Exprs.{ExprFacts, StepFacts, Tail, placed, tail_follows, operands_form, end_form, is_chain_level, may_chain, operands_placed, targets_placed, end_placed, is_tuple_index, is_dotted, are_steps, types_good, tail_of_end, tail_of_steps, inside, tail_of, expr_facts}
 use Rattle.lay_tree.specs.nodes.Places.{plain, begins, part_if, before_op}
 use Rattle.lay_tree.specs.reader.Exprs.{ExprWithin, operands, chain_expr, assign_expr, one_type, cast_expr, stage}
 use Rattle.lay_tree.specs.declared.exprs.Expr.{Expr}

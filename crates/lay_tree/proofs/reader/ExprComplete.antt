@@ -8,7 +8,8 @@ use Rattle.lay_node.specs.reader.Types as types
 use Rattle.lay_node.proofs.reader.Exact.{IsRead}
 use Rattle.lay_node.proofs.reader.TypesCompleteKinds.{within_reads}
 use Rattle.lay_tree.specs.Operators.{is_dot_or_try, strength}
-use Rattle.lay_tree.specs.nodes.Exprs.{ExprFacts, StepFacts, stands, placed, root_follows, follows, tail_follows, level_of, is_block_like, expr_facts, about_expr, about_field_expr, about_step}
+use Rattle.lay_tree.specs.nodes.Code.{about_expr, about_field_expr, about_step}
+use Rattle.lay_tree.specs.nodes.Exprs.{ExprFacts, StepFacts, stands, placed, root_follows, follows, tail_follows, level_of, is_block_like, expr_facts}
 use Rattle.lay_tree.specs.nodes.Places.{begins, is_whole}
 use Rattle.lay_tree.specs.reader.Exprs.{ExprWithin, climb, is_ended, accepted, expr_by, expr_in}
 use Rattle.lay_tree.specs.declared.exprs.Expr.{Expr}

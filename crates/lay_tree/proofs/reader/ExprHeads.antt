@@ -7,7 +7,8 @@ use Rattle.lay_node.specs.nodes.Types.{deeper}
 use Rattle.lay_node.proofs.reader.Exact.{IsRead}
 use Rattle.lay_tree.specs.Operands.{expr_lead_at}
 use Rattle.lay_tree.specs.Operators.{strength}
-use Rattle.lay_tree.specs.nodes.Exprs.{ExprFacts, StepFacts, inside, level_of, lead_of, tail_of, is_struct_literal, within_of, expr_facts, about_expr, tail_follows}
+use Rattle.lay_tree.specs.nodes.Code.{about_expr}
+use Rattle.lay_tree.specs.nodes.Exprs.{ExprFacts, StepFacts, inside, level_of, lead_of, tail_of, is_struct_literal, within_of, expr_facts, tail_follows}
 use Rattle.lay_tree.specs.reader.Exprs.{ExprWithin, head_by}
 use Rattle.lay_tree.specs.declared.exprs.Expr.{Expr}
 use Rattle.lay_tree.specs.declared.exprs.Expr.TheOpen.{Expr-F}

@@ -16,7 +16,8 @@ use Rattle.lay_node.proofs.reader.Exact.{IsRead}
 use Rattle.lay_node.proofs.reader.TypesCompleteParts.{one_left, blank_left}
 use Rattle.lay_tree.specs.Operands.{ByLabel, expr_lead_by, expr_lead_at, begins_operand}
 use Rattle.lay_tree.specs.Operators.{strength}
-use Rattle.lay_tree.specs.nodes.Exprs.{ExprFacts, Tail, placed, tail_follows, follows, end_form, operand_form, label_form, tail_of_end, tail_of_jump, begins_free, end_placed, operand_placed, break_placed, about_expr}
+use Rattle.lay_tree.specs.nodes.Code.{about_expr}
+use Rattle.lay_tree.specs.nodes.Exprs.{ExprFacts, Tail, placed, tail_follows, follows, end_form, operand_form, label_form, tail_of_end, tail_of_jump, begins_free, end_placed, operand_placed, break_placed}
 use Rattle.lay_tree.specs.nodes.Places.{plain}
 use Rattle.lay_tree.specs.reader.Exprs.{ExprWithin, operand_if, return_expr, break_expr, range_expr}
 use Rattle.lay_tree.specs.declared.exprs.Expr.{Expr}

@@ -37,7 +37,8 @@ use Rattle.lay_node.proofs.reader.TypesBegins.{path_parts, path_goods}
 use Rattle.lay_node.proofs.reader.TypesCompleteParts.{one_left}
 use Rattle.lay_tree.specs.Operands.{ByPath, expr_lead_at}
 use Rattle.lay_tree.specs.Operators.{begins_step}
-use Rattle.lay_tree.specs.nodes.Exprs.{ExprFacts, StepFacts, stands, placed, begins_pointer, is_raw_word, is_raw_path, break_if, group_if, methods, is_method, is_dotted, is_tuple_index, first_step, are_steps, steps_form, base_form, base_placed, level_of_chain, next_is_angle, is_chain_level, may_chain, operands_placed, inside, level_of, lead_of, within_of, expr_facts, about_expr, about_field_expr, about_step}
+use Rattle.lay_tree.specs.nodes.Code.{about_expr, about_field_expr, about_step}
+use Rattle.lay_tree.specs.nodes.Exprs.{ExprFacts, StepFacts, stands, placed, begins_pointer, is_raw_word, is_raw_path, break_if, group_if, methods, is_method, is_dotted, is_tuple_index, first_step, are_steps, steps_form, base_form, base_placed, level_of_chain, next_is_angle, is_chain_level, may_chain, operands_placed, inside, level_of, lead_of, within_of, expr_facts}
 use Rattle.lay_tree.specs.nodes.Places.{begins, before_op}
 use Rattle.lay_tree.specs.declared.exprs.Expr.{Expr}
 use Rattle.lay_tree.specs.declared.exprs.Expr.TheOpen.{Expr-F}

@@ -40,7 +40,8 @@ use Rattle.lay_node.proofs.reader.TypesFronts as types
 use Rattle.lay_node.proofs.reader.TypesLists.{forms_of, last_of_all, Ending, open_none, open_read}
 use Rattle.lay_node.proofs.reader.Words.{name_complete}
 use Rattle.lay_tree.specs.Operands.{ByPath}
-use Rattle.lay_tree.specs.nodes.Exprs.{ExprFacts, placed, base_form, base_placed, about_expr, about_field_expr}
+use Rattle.lay_tree.specs.nodes.Code.{about_expr, about_field_expr}
+use Rattle.lay_tree.specs.nodes.Exprs.{ExprFacts, placed, base_form, base_placed}
 use Rattle.lay_tree.specs.nodes.Places.{FREE}
 use Rattle.lay_tree.specs.reader.Exprs.{ExprWithin, field_by, one_field, base, struct_expr, path_expr, head_by}
 use Rattle.lay_tree.specs.declared.exprs.Expr.{Expr}

@@ -13,7 +13,8 @@ use Rattle.lay_node.proofs.reader.Exact.{IsRead}
 use Rattle.lay_node.proofs.reader.Loops.{Turn, repeat_complete}
 use Rattle.lay_node.proofs.reader.TypesCompleteParts.{none_left, none_right}
 use Rattle.lay_tree.specs.Operators.{raw_by, amp_by, prefix_by, prefix, prefix_length, strength}
-use Rattle.lay_tree.specs.nodes.Exprs.{ExprFacts, Tail, stands, placed, begins_pointer, tail_follows, prefix_bits, prefixes_form, is_amp, ends_in_amp, is_prefix_lead, about_expr}
+use Rattle.lay_tree.specs.nodes.Code.{about_expr}
+use Rattle.lay_tree.specs.nodes.Exprs.{ExprFacts, Tail, stands, placed, begins_pointer, tail_follows, prefix_bits, prefixes_form, is_amp, ends_in_amp, is_prefix_lead}
 use Rattle.lay_tree.specs.nodes.Places.{plain}
 use Rattle.lay_tree.specs.reader.Exprs.{ExprWithin, one_prefix, unary_expr}
 use Rattle.lay_tree.specs.declared.exprs.Expr.{Expr}

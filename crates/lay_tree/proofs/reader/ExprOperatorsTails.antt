@@ -13,7 +13,8 @@ use Rattle.lay_node.specs.declared.types.PathStyle.TheVariants.{Code}
 use Rattle.lay_node.proofs.Parts.{part_alone}
 use Rattle.lay_node.proofs.nodes.TypesLaws.{ArgsView, IsNone, IsAngle, IsRound, about_segment, args_view, args_none_is, args_angle_is, args_round_is, path_is}
 use Rattle.lay_node.proofs.reader.TypesBegins.{path_goods}
-use Rattle.lay_tree.specs.nodes.Exprs.{ExprFacts, StepFacts, Tail, is_open, is_typed, placed, stands, StepKind, OfField, tail_of_steps, tail_of_jump, prefixes_form, level_of_chain, next_is_angle, is_chain_level, may_chain, operands_placed, is_prefix_lead, inside, level_of, tail_of, within_of, expr_facts, about_expr, about_field_expr, about_step}
+use Rattle.lay_tree.specs.nodes.Code.{about_expr, about_field_expr, about_step}
+use Rattle.lay_tree.specs.nodes.Exprs.{ExprFacts, StepFacts, Tail, is_open, is_typed, placed, stands, StepKind, OfField, tail_of_steps, tail_of_jump, prefixes_form, level_of_chain, next_is_angle, is_chain_level, may_chain, operands_placed, is_prefix_lead, inside, level_of, tail_of, within_of, expr_facts}
 use Rattle.lay_tree.specs.nodes.Places.{plain, is_part, part_if, before_op}
 use Rattle.lay_tree.specs.declared.exprs.Expr.{Expr}
 use Rattle.lay_tree.specs.declared.exprs.Expr.TheOpen.{Expr-F}

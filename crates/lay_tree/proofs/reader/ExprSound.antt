@@ -11,7 +11,8 @@ use Rattle.lay_node.proofs.reader.TypesSound.{counted_sound, within_sound}
 use Rattle.lay_node.proofs.reader.TypesSoundParts.{Out}
 use Rattle.lay_tree.specs.Operands.{expr_lead_at}
 use Rattle.lay_tree.specs.Operators.{is_angle, is_dot_or_try, strength}
-use Rattle.lay_tree.specs.nodes.Exprs.{ExprFront, about_expr, follows, is_chain_level, placed, root_follows, stands, tail_follows}
+use Rattle.lay_tree.specs.nodes.Code.{about_expr}
+use Rattle.lay_tree.specs.nodes.Exprs.{ExprFront, follows, is_chain_level, placed, root_follows, stands, tail_follows}
 use Rattle.lay_tree.specs.nodes.Places.{before_op, begins}
 use Rattle.lay_tree.specs.reader.Exprs.{ExprWithin, accepted, climb, climb_by, expr_at, expr_by, expr_in, head_by, is_ended, left_place, stage}
 use Rattle.lay_tree.specs.declared.exprs.Expr.{Expr}

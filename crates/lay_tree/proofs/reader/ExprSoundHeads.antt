@@ -26,7 +26,8 @@ use Rattle.lay_node.proofs.reader.Loops.{SoundStep}
 use Rattle.lay_node.proofs.reader.TypesSoundKinds.{length_sound}
 use Rattle.lay_node.proofs.reader.TypesSoundParts.{Out, behind_comma, bit_texts, if_there_sound, IsLifetime, lifetime_sound, literal_sound}
 use Rattle.lay_tree.specs.Operators.{strength}
-use Rattle.lay_tree.specs.nodes.Exprs.{about_expr, begins_free, break_placed, inside as inside_of, label_form, operand_form, operand_placed, placed, tail_follows, tail_of_jump, tuple_form}
+use Rattle.lay_tree.specs.nodes.Code.{about_expr}
+use Rattle.lay_tree.specs.nodes.Exprs.{begins_free, break_placed, inside as inside_of, label_form, operand_form, operand_placed, placed, tail_follows, tail_of_jump, tuple_form}
 use Rattle.lay_tree.specs.nodes.Places.{FREE, plain}
 use Rattle.lay_tree.specs.reader.Exprs.{ExprWithin, bracket_expr, break_expr, call_expr, continue_expr, free_elements, literal_expr, operand_if, paren_expr, repeat_by, return_expr}
 use Rattle.lay_tree.specs.declared.exprs.Expr.{Expr}

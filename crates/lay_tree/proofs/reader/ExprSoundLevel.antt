@@ -12,7 +12,8 @@ use Rattle.lay_node.proofs.reader.Loops.{SoundStep}
 use Rattle.lay_node.proofs.reader.TypesSoundLevel.{SoundWithin}
 use Rattle.lay_tree.specs.Operands.{begins_operand}
 use Rattle.lay_tree.specs.Operators.{strength}
-use Rattle.lay_tree.specs.nodes.Exprs.{ExprFacts, StepFacts, Tail, about_expr, about_field_expr, about_step, all_free, begins_pointer, expr_facts, expr_forms, follows, inside, lacks_operand, placed, root_follows, stands, tail_follows, tail_of, within_of}
+use Rattle.lay_tree.specs.nodes.Code.{about_expr, about_field_expr, about_step}
+use Rattle.lay_tree.specs.nodes.Exprs.{ExprFacts, StepFacts, Tail, all_free, begins_pointer, expr_facts, expr_forms, follows, inside, lacks_operand, placed, root_follows, stands, tail_follows, tail_of, within_of}
 use Rattle.lay_tree.specs.nodes.Places.{FREE, begins}
 use Rattle.lay_tree.specs.reader.Exprs.{ExprWithin}
 use Rattle.lay_tree.specs.declared.exprs.Expr.{Expr}

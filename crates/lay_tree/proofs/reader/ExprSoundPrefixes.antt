@@ -29,7 +29,8 @@ use Rattle.lay_node.proofs.reader.PatternsSoundBinds.{word_there}
 use Rattle.lay_node.proofs.reader.TypesSoundParts.{Out, bit_texts}
 use Rattle.lay_tree.specs.Operands.{ByPrefix, expr_lead_at}
 use Rattle.lay_tree.specs.Operators.{amp_by, prefix, prefix_by, prefix_length, raw_by}
-use Rattle.lay_tree.specs.nodes.Exprs.{ExprFacts, StepFacts, about_expr, begins_free, begins_pointer, end_placed, ends_in_amp, expr_facts, is_amp, is_prefix_lead, is_raw_path, is_raw_word, placed, prefix_bits, prefixes_form, start_placed, tail_follows, tail_of_end}
+use Rattle.lay_tree.specs.nodes.Code.{about_expr}
+use Rattle.lay_tree.specs.nodes.Exprs.{ExprFacts, StepFacts, begins_free, begins_pointer, end_placed, ends_in_amp, expr_facts, is_amp, is_prefix_lead, is_raw_path, is_raw_word, placed, prefix_bits, prefixes_form, start_placed, tail_follows, tail_of_end}
 use Rattle.lay_tree.specs.nodes.Exprs as exprs
 use Rattle.lay_tree.specs.nodes.Places.{before_op, plain}
 use Rattle.lay_tree.specs.reader.Exprs.{ExprWithin, one_prefix, operand_if, range_by, range_expr, unary_expr}

@@ -22,7 +22,8 @@ use Rattle.lay_node.proofs.reader.Loops.{repeat_sound}
 use Rattle.lay_node.proofs.reader.TypesSoundLevel.{TypeHeld}
 use Rattle.lay_node.proofs.reader.TypesSoundParts.{Out, bit_texts, keyword_passed_is}
 use Rattle.lay_tree.specs.Operators.{begins_step, is_angle, is_dot_or_try, op_level, op_text, strength}
-use Rattle.lay_tree.specs.nodes.Exprs.{ExprFacts, StepFacts, about_expr, are_steps, first_step, is_dotted, is_tuple_index, level_of, placed, stands, type_refuses, types_form, types_good, within_of}
+use Rattle.lay_tree.specs.nodes.Code.{about_expr}
+use Rattle.lay_tree.specs.nodes.Exprs.{ExprFacts, StepFacts, are_steps, first_step, is_dotted, is_tuple_index, level_of, placed, stands, type_refuses, types_form, types_good, within_of}
 use Rattle.lay_tree.specs.nodes.Places.{before_op}
 use Rattle.lay_tree.specs.reader.Exprs.{ExprWithin, begins_tuple_index, cast_expr, one_step, one_type, postfix_expr, range_expr}
 use Rattle.lay_tree.specs.declared.exprs.Expr.{Expr}

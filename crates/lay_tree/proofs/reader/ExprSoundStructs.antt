@@ -36,7 +36,8 @@ use Rattle.lay_node.proofs.reader.TypesSoundOpen.{OpenBy, open_held, open_shut, 
 use Rattle.lay_node.proofs.reader.TypesSoundParts.{Out, bit_texts}
 use Rattle.lay_node.proofs.reader.TypesSoundPaths.{path_sound, path_told}
 use Rattle.lay_node.proofs.reader.Words.{name_sound}
-use Rattle.lay_tree.specs.nodes.Exprs.{ExprFacts, about_expr, about_field_expr, base_form, base_placed, field_facts, placed, struct_form}
+use Rattle.lay_tree.specs.nodes.Code.{about_expr, about_field_expr}
+use Rattle.lay_tree.specs.nodes.Exprs.{ExprFacts, base_form, base_placed, field_facts, placed, struct_form}
 use Rattle.lay_tree.specs.nodes.Places.{FREE}
 use Rattle.lay_tree.specs.reader.Exprs.{ExprWithin, base, field_by, named_field, one_field, path_expr, struct_expr}
 use Rattle.lay_tree.specs.declared.exprs.Expr.{Expr}

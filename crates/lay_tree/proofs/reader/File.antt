@@ -19,8 +19,8 @@ use Rattle.lay_node.proofs.reader.Attr.{attributes_sound, attrs_spelled, attrs_r
 use Rattle.lay_node.proofs.reader.AttrRead.{attributes_complete}
 use Rattle.lay_node.proofs.reader.Needs.{nodes_sound}
 use Rattle.lay_tree.specs.Reading.{top, SpellsFile}
+use Rattle.lay_tree.specs.nodes.Code.{about_item}
 use Rattle.lay_tree.specs.nodes.File.{form_of_file, is_normal}
-use Rattle.lay_tree.specs.nodes.Item.{about_item}
 use Rattle.lay_tree.specs.reader.File.{whole}
 use Rattle.lay_tree.specs.reader.Item.{items_by, item_at}
 use Rattle.lay_tree.specs.declared.file.File.{File}

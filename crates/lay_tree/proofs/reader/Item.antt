@@ -42,7 +42,8 @@ use Rattle.lay_node.proofs.reader.TypesSoundParts.{Out}
 use Rattle.lay_node.proofs.reader.Use.{use_sound}
 use Rattle.lay_node.proofs.reader.Vis.{vis_sound}
 use Rattle.lay_node.proofs.reader.Words.{name_sound}
-use Rattle.lay_tree.specs.nodes.Item.{about_item, call_item_form, in_module, is_inherited, kind_facts, kind_form, rules_form, told_of_kind}
+use Rattle.lay_tree.specs.nodes.Code.{about_item, told_of_kind}
+use Rattle.lay_tree.specs.nodes.Item.{call_item_form, in_module, is_inherited, kind_facts, kind_form, rules_form}
 use Rattle.lay_tree.specs.nodes.Places.{FREE}
 use Rattle.lay_tree.specs.reader.Exprs.{expr_at}
 use Rattle.lay_tree.specs.reader.Item.{ItemLead, ItemWithin, OfAlias, OfCall, OfEnum, OfExternCrate, OfForeign, OfFunction, OfImpl, OfImport, OfModule, OfRules, OfStruct, OfTrait, OfUnion, OfValue, begins_function, begins_rules, begins_union, call_item, extern_lead, item_at, item_by, item_lead, kind_at, kind_by, may_stand, rules_item, unsafe_lead}

@@ -17,7 +17,7 @@ use Rattle.lay_node.proofs.reader.StructsComplete.{enum_complete, struct_complet
 use Rattle.lay_node.proofs.reader.StructsSound.{enum_sound, struct_sound, union_sound}
 use Rattle.lay_node.proofs.reader.TraitHeads.{trait_held, trait_there}
 use Rattle.lay_node.proofs.reader.ValueHeads.{value_heads_complete, value_heads_sound}
-use Rattle.lay_tree.specs.nodes.Item.{about_item}
+use Rattle.lay_tree.specs.nodes.Code.{about_item}
 use Rattle.lay_tree.specs.nodes.Places.{FREE}
 use Rattle.lay_tree.specs.reader.Item.{item_at}
 use Rattle.lay_tree.specs.declared.item.Item.{Item}

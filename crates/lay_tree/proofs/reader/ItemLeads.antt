@@ -36,7 +36,10 @@ use Rattle.lay_form.proofs.FormLaws.{bits_end, shorter}
 use Rattle.lay_node.proofs.reader.AttrRead.{BeginsItem}
 use Rattle.lay_node.proofs.reader.Call.{SpelledCall, call_complete}
 use Rattle.lay_node.proofs.reader.SimplePath.{OfLead, OfOne, OfWord, SimplePathFront, simple_path_front, simple_path_no_keyword}
-use Rattle.lay_tree.specs.nodes.Item.{KindFacts, about_impl, about_trait, foreign_abi, item_body, told_of_item, told_of_kind, value_form}
+use Rattle.lay_tree.specs.nodes.Code.{told_of_item, told_of_kind}
+use Rattle.lay_tree.specs.nodes.CodeFacts.{KindFacts}
+use Rattle.lay_tree.specs.nodes.Exprs.{value_form}
+use Rattle.lay_tree.specs.nodes.Item.{about_impl, about_trait, foreign_abi, item_body}
 use Rattle.lay_tree.specs.declared.item.ItemKind.{ItemKind}
 use Rattle.lay_tree.specs.declared.item.ItemKind.TheVariants as item
 use Rattle.lay_tree.proofs.nodes.ItemLaws as laws

@@ -73,9 +73,10 @@ use Rattle.lay_node.proofs.reader.Use.{use_complete}
 use Rattle.lay_node.proofs.reader.ValueHeads.{value_begins}
 use Rattle.lay_node.proofs.reader.Vis.{vis_complete, vis_may}
 use Rattle.lay_node.proofs.reader.Words.{GoodName, name_complete}
-use Rattle.lay_tree.specs.nodes.Exprs.{placed, about_expr, follows}
+use Rattle.lay_tree.specs.nodes.Code.{about_expr, about_item, told_of_item, told_of_kind}
+use Rattle.lay_tree.specs.nodes.Exprs.{placed, follows, value_form, value_placed}
 use Rattle.lay_tree.specs.nodes.Item as node
-use Rattle.lay_tree.specs.nodes.Item.{about_foreign, about_impl, about_import, about_item, about_module, about_trait, foreign_abi, in_module, is_inherited, items_good, may_lack_body, may_lack_value, module_head, rules_form, told_of_item, told_of_kind, value_form, value_placed, may_be_valued}
+use Rattle.lay_tree.specs.nodes.Item.{about_foreign, about_impl, about_import, about_module, about_trait, foreign_abi, in_module, is_inherited, items_good, may_lack_body, may_lack_value, module_head, rules_form, may_be_valued}
 use Rattle.lay_tree.specs.nodes.Places.{FREE}
 use Rattle.lay_tree.specs.reader.Exprs.{expr_at}
 use Rattle.lay_tree.specs.reader.Item.{ItemLead, ItemWithin, OfAlias, OfCall, OfEnum, OfExternCrate, OfForeign, OfFunction, OfImpl, OfImport, OfModule, OfRules, OfStruct, OfTrait, OfUnion, OfValue, call_item, foreign_by, function_by, impl_by, import_by, item_at, item_body, item_by, item_lead, kind_at, kind_by, may_stand, module_by, rules_item, trait_by, value_by}

@@ -43,9 +43,11 @@ use Rattle.lay_node.proofs.reader.Loops.{SoundStep}
 use Rattle.lay_node.proofs.reader.PatternsSoundLevel.{SoundPatWithin}
 use Rattle.lay_node.proofs.reader.TypesSoundParts.{Out, bit_texts, flag_leads, flag_texts, if_there_sound, keyword_passed_is, literal_sound, if_read_sound}
 use Rattle.lay_node.proofs.reader.Words.{name_sound}
-use Rattle.lay_tree.specs.nodes.Exprs.{placed, about_expr}
+use Rattle.lay_tree.specs.nodes.Code.{about_expr, about_item, told_of_item, told_of_kind}
+use Rattle.lay_tree.specs.nodes.CodeFacts.{KindFacts}
+use Rattle.lay_tree.specs.nodes.Exprs.{placed, value_form, value_placed}
 use Rattle.lay_tree.specs.nodes.Item as node
-use Rattle.lay_tree.specs.nodes.Item.{KindFacts, about_file_module, about_foreign, about_function, about_impl, about_import, about_item, about_module, about_trait, about_value, by_site, foreign_abi, in_module, in_modules, items_good, may_lack_body, may_lack_value, module_head, told_of_item, told_of_kind, value_form, value_placed, may_be_valued}
+use Rattle.lay_tree.specs.nodes.Item.{about_file_module, about_foreign, about_function, about_impl, about_import, about_module, about_trait, about_value, by_site, foreign_abi, in_module, in_modules, items_good, may_lack_body, may_lack_value, module_head, may_be_valued}
 use Rattle.lay_tree.specs.nodes.Places.{FREE}
 use Rattle.lay_tree.specs.reader.Item.{ItemWithin, foreign_by, function_by, impl_by, import_by, item_body, module_by, trait_by, value_by}
 use Rattle.lay_tree.specs.declared.exprs.Expr.{Expr}

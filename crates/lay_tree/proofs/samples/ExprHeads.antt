@@ -21,7 +21,8 @@ use Rattle.lay_node.proofs.nodes.TypesLaws as types
 use Rattle.lay_node.proofs.samples.Tokens as list
 use Rattle.lay_tree.specs.Operands.{expr_lead_at}
 use Rattle.lay_tree.specs.Operators.{binary, prefix, strength, op_text}
-use Rattle.lay_tree.specs.nodes.Exprs.{about_expr, ExprFacts, stands, root_follows}
+use Rattle.lay_tree.specs.nodes.Code.{about_expr}
+use Rattle.lay_tree.specs.nodes.Exprs.{ExprFacts, stands, root_follows}
 use Rattle.std.specs.Prelude.{suc, nat_le, ◌&&◌, ◌==◌, drop, length}
 use Rattle.lay_tree.specs.nodes.Places.{FREE, plain, statement}
 use Rattle.lay_tree.specs.reader.Exprs.{assign_expr, base, bracket_expr, break_expr, cast_expr, chain_expr, climb, continue_expr, dot_step, is_ended, expr_at, expr_by, expr_in, one_field, one_step, one_type, operand, operands, paren_expr, path_expr, postfix_expr, range_expr, return_expr, struct_expr, unary_expr, ExprWithin, head_by, climb_by, left_place, stage, operand_ends}

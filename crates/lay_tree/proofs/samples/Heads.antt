@@ -60,7 +60,9 @@ use Rattle.lay_node.proofs.nodes.TypesLaws as types
 use Rattle.lay_node.proofs.samples.Tokens as list
 use Rattle.lay_node.proofs.samples.Trees.{named, plain, a, b, c, laid}
 use Rattle.lay_node.proofs.samples.Types.{local, local_facts, local_is, B, B_is, named_is, meeting, meeting_is}
-use Rattle.lay_tree.specs.nodes.Item.{item_facts, KindFacts, told_of_item, told_of_kind}
+use Rattle.lay_tree.specs.nodes.Code.{told_of_item, told_of_kind}
+use Rattle.lay_tree.specs.nodes.CodeFacts.{KindFacts}
+use Rattle.lay_tree.specs.nodes.Item.{item_facts}
 use Rattle.lay_tree.specs.declared.item.Item.{Item}
 use Rattle.lay_tree.specs.declared.item.ItemKind.TheVariants as item
 use Rattle.lay_tree.specs.declared.item.ItemKind.{ItemKind}

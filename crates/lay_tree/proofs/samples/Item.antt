@@ -25,7 +25,9 @@ use Rattle.lay_node.specs.declared.vis.Vis.TheVariants as vis
 use Rattle.lay_node.proofs.samples.Tokens as list
 use Rattle.lay_node.proofs.samples.Trees.{named, plain, a, b, c, word_of, group_of, word_is, group_is, laid, Spelt, token, word, mark, opens, closes}
 use Rattle.lay_tree.specs.Out.{out}
-use Rattle.lay_tree.specs.nodes.Item.{KindFacts, kind_facts, kind_form, told_of_kind}
+use Rattle.lay_tree.specs.nodes.Code.{told_of_kind}
+use Rattle.lay_tree.specs.nodes.CodeFacts.{KindFacts}
+use Rattle.lay_tree.specs.nodes.Item.{kind_facts, kind_form}
 use Rattle.lay_tree.specs.reader.Item.{begins_rules, call_item}
 use Rattle.lay_tree.specs.declared.item.Item.{Item}
 use Rattle.lay_tree.specs.declared.item.ItemKind.{ItemKind}

@@ -12,7 +12,9 @@ use Rattle.lay_node.specs.declared.token.Name.{Name}
 use Rattle.lay_node.specs.declared.use_tree.UseTree.{UseTree}
 use Rattle.lay_node.specs.declared.vis.Vis.TheVariants as vis
 use Rattle.lay_node.proofs.samples.Trees.{named, a}
-use Rattle.lay_tree.specs.nodes.Item.{ItemFacts, KindFacts, about_item, kind_facts, item_facts, told_of_item, told_of_kind}
+use Rattle.lay_tree.specs.nodes.Code.{about_item, told_of_item, told_of_kind}
+use Rattle.lay_tree.specs.nodes.CodeFacts.{ItemFacts, KindFacts}
+use Rattle.lay_tree.specs.nodes.Item.{kind_facts, item_facts}
 use Rattle.lay_tree.specs.declared.item.Item.{Item}
 use Rattle.lay_tree.specs.declared.item.ItemKind.{ItemKind}
 use Rattle.lay_tree.specs.declared.item.ItemKind.TheOpen.{ItemKind-F}

@@ -6,7 +6,8 @@ use Rattle.lay_node.specs.reader.Loops.{◌>>=◌, nodes}
 use Rattle.lay_node.specs.declared.attr.Attr.{Attr}
 use Rattle.lay_node.specs.declared.heads.Site.TheVariants.{Module}
 use Rattle.lay_tree.specs.Reading.{top}
-use Rattle.lay_tree.specs.reader.Item.{items_by, item_at}
+use Rattle.lay_tree.specs.reader.Code.{item_at}
+use Rattle.lay_tree.specs.reader.Item.{items_by}
 use Rattle.lay_tree.specs.declared.item.Item.{Item}
 
 -- the inner attributes and the items of a file, behind which no token is left
