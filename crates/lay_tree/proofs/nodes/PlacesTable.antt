@@ -21,7 +21,7 @@ use Rattle.lay_node.proofs.nodes.TypesLaws.{ArgsView, IsNone, IsAngle, IsRound, 
 use Rattle.lay_tree.specs.Operators.{op_level, is_angle_op, strength}
 use Rattle.lay_tree.specs.nodes.Exprs.{StepFacts, Tail, ExprFacts, shut, shut_by, is_open, is_typed, is_field, may, stands, placed, root_follows, tail_follows, follows, expr_facts, ends_in_amp, is_prefix_lead, begins_free, start_placed, targets_placed, is_chain_level, may_chain, operands_placed, tail_of_operands, tail_of_steps, lacks_args}
 use Rattle.lay_tree.specs.nodes.Places.{plain, before_op, begins, is_part, is_whole}
-use Rattle.lay_tree.specs.declared.exprs.Expr.TheOpen.{Expr-F}
+use Rattle.lay_tree.specs.declared.blocks.Stmt.TheOpen.{Expr-F}
 use Rattle.lay_tree.specs.declared.exprs.Place.{Place}
 use Rattle.lay_tree.specs.declared.exprs.Start.TheVariants as start
 use Rattle.lay_tree.specs.declared.operators.Op.{Op}
@@ -299,8 +299,8 @@ module _ (p : Place) where
   pub underscore_row : let F = expr_facts Expr-F.Underscore in placed F p ≡ (may F p && F.within p.no_struct (begins p.start))
   underscore_row = root_row p (expr_facts Expr-F.Underscore) refl refl
 
-  pub call_row : (c : MacroCall) → let F = expr_facts (Expr-F.Call c) in placed F p ≡ (may F p && F.within p.no_struct (begins p.start))
-  call_row c = root_row p (expr_facts (Expr-F.Call c)) refl refl
+  pub call_row : (c : MacroCall) → let F = expr_facts (Expr-F.Expr::Call c) in placed F p ≡ (may F p && F.within p.no_struct (begins p.start))
+  call_row c = root_row p (expr_facts (Expr-F.Expr::Call c)) refl refl
 
   pub paren_row : (x : ExprFacts) → let F = expr_facts (Expr-F.Paren x) in placed F p ≡ (may F p && F.within p.no_struct (begins p.start))
   paren_row x = root_row p (expr_facts (Expr-F.Paren x)) refl refl
@@ -318,8 +318,8 @@ module _ (p : Place) where
   repeat_row x length = root_row p (expr_facts (Expr-F.Repeat x length)) refl refl
 
   pub struct_row : (path : Path) (fields : List Facts) (base : Option (Option ExprFacts)) →
-      let F = expr_facts (Expr-F.Struct path fields base) in placed F p ≡ (may F p && F.within p.no_struct (begins p.start))
-  struct_row path fields base = root_row p (expr_facts (Expr-F.Struct path fields base)) refl refl
+      let F = expr_facts (Expr-F.Expr::Struct path fields base) in placed F p ≡ (may F p && F.within p.no_struct (begins p.start))
+  struct_row path fields base = root_row p (expr_facts (Expr-F.Expr::Struct path fields base)) refl refl
 
   pub postfix_row : (x : ExprFacts) (steps : List StepFacts) → let F = expr_facts (Expr-F.Postfix x steps) in placed F p ≡ (may F p && F.within p.no_struct (begins p.start))
   postfix_row x steps = let t = steps_shut steps in root_row p (expr_facts (Expr-F.Postfix x steps)) t.0 t.1

@@ -9,11 +9,13 @@ use Rattle.lay_node.proofs.reader.Exact.{IsRead}
 use Rattle.lay_node.proofs.reader.TypesCompleteKinds.{within_reads}
 use Rattle.lay_tree.specs.Operators.{is_dot_or_try, strength}
 use Rattle.lay_tree.specs.nodes.Code.{about_expr, about_field_expr, about_step}
-use Rattle.lay_tree.specs.nodes.Exprs.{ExprFacts, StepFacts, stands, placed, root_follows, follows, tail_follows, level_of, is_block_like, expr_facts}
+use Rattle.lay_tree.specs.nodes.Exprs.{ExprFacts, StepFacts, stands, placed, root_follows, follows, tail_follows, level_of, is_block_like, expr_facts, ExprLayer}
 use Rattle.lay_tree.specs.nodes.Places.{begins, is_whole}
-use Rattle.lay_tree.specs.reader.Exprs.{ExprWithin, climb, is_ended, accepted, expr_by, expr_in}
+use Rattle.lay_tree.specs.reader.Code.{expr_in}
+use Rattle.lay_tree.specs.reader.Exprs.{climb, is_ended, accepted, expr_by}
+use Rattle.lay_tree.specs.reader.Within.{ExprWithin}
 use Rattle.lay_tree.specs.declared.exprs.Expr.{Expr}
-use Rattle.lay_tree.specs.declared.exprs.Expr.TheOpen.{Expr-F}
+use Rattle.lay_tree.specs.declared.blocks.Stmt.TheOpen.{Expr-F}
 use Rattle.lay_tree.specs.declared.exprs.Expr.TheVariants as expr
 use Rattle.lay_tree.specs.declared.exprs.Place.{Place}
 use Rattle.lay_tree.proofs.nodes.ExprsLaws.{ExprView, IsLit, IsPath, IsUnderscore, IsCall, IsParen, IsContinue, IsTuple, IsArray, IsRepeat, IsStruct, IsChain, IsCast, IsUnary, IsRange, IsAssign, IsPostfix, IsReturn, IsBreak, expr_view, behind_op, before_op as target_of, expr_lit_is, expr_path_is, expr_underscore_is, expr_call_is, expr_paren_is, expr_continue_is, expr_tuple_is, expr_array_is, expr_repeat_is, expr_struct_is, expr_chain_is, expr_cast_is, expr_unary_is, expr_range_is, expr_assign_is, expr_postfix_is, expr_return_is, expr_break_is}
@@ -41,7 +43,7 @@ module _ (most : ℕ) (within : ExprWithin) (reads : (depth : ℕ) → depth ≤
         → Reach within place level (suc depth) x ts mid
 
     -- what begins an expression, by itself
-    alone : (x : Expr) (F : Expr-F ExprFacts Facts StepFacts) → about_expr x ≡ expr_facts F → nat_le (level_of F) 14 ≡ true
+    alone : (x : Expr) (F : ExprLayer) → about_expr x ≡ expr_facts F → nat_le (level_of F) 14 ≡ true
         → IsHead depth within x → Reached x
     alone x F e top h level first ts mid k =
         headed within place x level depth first ts mid h (subst (λ (G : ExprFacts). nat_le G.level 14 ≡ true) (sym e) top) k
@@ -55,7 +57,7 @@ module _ (most : ℕ) (within : ExprWithin) (reads : (depth : ℕ) → depth ≤
     reached _ (IsLit l) = alone (expr.Lit l) (Expr-F.Lit l) (expr_lit_is l) refl (lit_head depth within here l)
     reached _ (IsPath path) = alone (expr.Path path) (Expr-F.Path path) (expr_path_is path) refl (path_head depth within here path)
     reached _ IsUnderscore = alone expr.Underscore Expr-F.Underscore expr_underscore_is refl (underscore_head depth within here)
-    reached _ (IsCall call) = alone (expr.Call call) (Expr-F.Call call) (expr_call_is call) refl (call_head depth within here call)
+    reached _ (IsCall call) = alone (expr.Call call) (Expr-F.Expr::Call call) (expr_call_is call) refl (call_head depth within here call)
     reached _ (IsParen x) = alone (expr.Paren x) (Expr-F.Paren (about_expr x)) (expr_paren_is x) refl (paren_head depth within here x)
     reached _ (IsContinue label) =
         alone (expr.Continue label) (Expr-F.Continue label) (expr_continue_is label) refl (continue_head depth within here label)
@@ -66,7 +68,7 @@ module _ (most : ℕ) (within : ExprWithin) (reads : (depth : ℕ) → depth ≤
     reached _ (IsRepeat x us) =
         alone (expr.Repeat x us) (Expr-F.Repeat (about_expr x) us) (expr_repeat_is x us) refl (repeat_head depth within here x us)
     reached _ (IsStruct path fields base) =
-        alone (expr.Struct path fields base) (Expr-F.Struct path (map about_field_expr fields) (option_map (option_map about_expr) base))
+        alone (expr.Struct path fields base) (Expr-F.Expr::Struct path (map about_field_expr fields) (option_map (option_map about_expr) base))
         (expr_struct_is path fields base) refl (struct_head depth within here path fields base)
     reached _ (IsChain x more) = chain_reached within place depth here reaches x more
     reached _ (IsCast x types) = cast_reached within place depth here reaches x types
@@ -90,7 +92,7 @@ module _ (most : ℕ) (within : ExprWithin) (reads : (depth : ℕ) → depth ≤
     BlockLike x = (about_expr x).block_like ≡ true → IsHead depth within x × (nat_le 14 (about_expr x).level ≡ true)
 
     -- a kind that isn't block-like
-    other : (x : Expr) (F : Expr-F ExprFacts Facts StepFacts) → about_expr x ≡ expr_facts F → is_block_like F ≡ false → BlockLike x
+    other : (x : Expr) (F : ExprLayer) → about_expr x ≡ expr_facts F → is_block_like F ≡ false → BlockLike x
     other x F e n b = let f = sym n ∙ sym (ap (λ (G : ExprFacts). G.block_like) e) ∙ b in absurd (cc)
 
     -- kind by kind
@@ -106,7 +108,7 @@ module _ (most : ℕ) (within : ExprWithin) (reads : (depth : ℕ) → depth ≤
     block_like _ (IsArray xs) = other (expr.Array xs) (Expr-F.Array (map about_expr xs)) (expr_array_is xs) refl
     block_like _ (IsRepeat x us) = other (expr.Repeat x us) (Expr-F.Repeat (about_expr x) us) (expr_repeat_is x us) refl
     block_like _ (IsStruct path fields base) =
-        other (expr.Struct path fields base) (Expr-F.Struct path (map about_field_expr fields) (option_map (option_map about_expr) base))
+        other (expr.Struct path fields base) (Expr-F.Expr::Struct path (map about_field_expr fields) (option_map (option_map about_expr) base))
         (expr_struct_is path fields base) refl
     block_like _ (IsChain x more) = other (expr.Chain x more) (Expr-F.Chain (about_expr x) (map behind_op more)) (expr_chain_is x more) refl
     block_like _ (IsCast x types) = other (expr.Cast x types) (Expr-F.Cast (about_expr x) types) (expr_cast_is x types) refl

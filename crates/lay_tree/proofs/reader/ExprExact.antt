@@ -5,7 +5,7 @@ use Rattle.lay_node.specs.reader.Exact.{Exact}
 use Rattle.lay_node.proofs.reader.Exact.{one_by_reading}
 use Rattle.lay_tree.specs.nodes.Code.{about_expr}
 use Rattle.lay_tree.specs.nodes.Exprs.{ExprFront}
-use Rattle.lay_tree.specs.reader.Exprs.{expr_at}
+use Rattle.lay_tree.specs.reader.Code.{expr_at}
 use Rattle.lay_tree.specs.declared.exprs.Expr.{Expr}
 use Rattle.lay_tree.specs.declared.exprs.Place.{Place}
 use Rattle.lay_tree.proofs.reader.ExprComplete.{expr_read}

@@ -24,10 +24,10 @@ use Rattle.lay_node.proofs.reader.TypesBegins.{path_begins, call_begins}
 use Rattle.lay_tree.specs.Operands.{ExprLead, ByPath, ByUnderscore, ByParen, ByBracket, ByPrefix, ByRange, ByContinue, ByBreak, ByReturn, expr_lead_by, expr_lead_at}
 use Rattle.lay_tree.specs.Operators.{op_text, op_level}
 use Rattle.lay_tree.specs.nodes.Code.{about_expr, about_field_expr, about_step}
-use Rattle.lay_tree.specs.nodes.Exprs.{ExprFacts, StepFacts, stands, placed, expr_forms, tuple_form, base_form, operands_form, types_form, prefix_bits, prefixes_form, end_form, targets_form, label_form, operand_form, level_of_chain, next_is_angle, is_chain_level, may_chain, operands_placed, targets_placed, end_placed, base_placed, first_step, is_tuple_index, is_dotted, are_steps, types_good, methods, steps_form, group_if, inside, lead_of, within_of, expr_facts}
+use Rattle.lay_tree.specs.nodes.Exprs.{ExprFacts, StepFacts, stands, placed, expr_forms, tuple_form, base_form, operands_form, types_form, prefix_bits, prefixes_form, end_form, targets_form, label_form, operand_form, level_of_chain, next_is_angle, is_chain_level, may_chain, operands_placed, targets_placed, end_placed, base_placed, first_step, is_tuple_index, is_dotted, are_steps, types_good, methods, steps_form, group_if, inside, lead_of, within_of, expr_facts, ExprLayer}
 use Rattle.lay_tree.specs.nodes.Places.{plain, begins, before_op}
 use Rattle.lay_tree.specs.declared.exprs.Expr.{Expr}
-use Rattle.lay_tree.specs.declared.exprs.Expr.TheOpen.{Expr-F}
+use Rattle.lay_tree.specs.declared.blocks.Stmt.TheOpen.{Expr-F}
 use Rattle.lay_tree.specs.declared.exprs.Expr.TheVariants as expr
 use Rattle.lay_tree.specs.declared.exprs.Place.{Place}
 use Rattle.lay_tree.specs.declared.exprs.Step.{Step}
@@ -109,21 +109,21 @@ range_begins inclusive f depth ts rest s = (range_lead inclusive ts s.0 s.1, by 
 pub no_depth : (x : Expr) (ts rest : Tokens) → Spells (about_expr x).form zero ts rest → ⊥
 no_depth x ts rest s = by x (expr_view x) s
   where
-    none : (x : Expr) (F : Expr-F ExprFacts Facts StepFacts) → about_expr x ≡ expr_facts F → Spells (about_expr x).form zero ts rest → ⊥
+    none : (x : Expr) (F : ExprLayer) → about_expr x ≡ expr_facts F → Spells (about_expr x).form zero ts rest → ⊥
     none x F e t = subst (λ (G : ExprFacts). Spells G.form zero ts rest) e t
 
     by : (x : Expr) → ExprView x → Spells (about_expr x).form zero ts rest → ⊥
     by _ (IsLit l) = none (expr.Lit l) (Expr-F.Lit l) (expr_lit_is l)
     by _ (IsPath path) = none (expr.Path path) (Expr-F.Path path) (expr_path_is path)
     by _ IsUnderscore = none expr.Underscore Expr-F.Underscore expr_underscore_is
-    by _ (IsCall call) = none (expr.Call call) (Expr-F.Call call) (expr_call_is call)
+    by _ (IsCall call) = none (expr.Call call) (Expr-F.Expr::Call call) (expr_call_is call)
     by _ (IsParen x) = none (expr.Paren x) (Expr-F.Paren (about_expr x)) (expr_paren_is x)
     by _ (IsContinue label) = none (expr.Continue label) (Expr-F.Continue label) (expr_continue_is label)
     by _ (IsTuple xs) = none (expr.Tuple xs) (Expr-F.Tuple (map about_expr xs)) (expr_tuple_is xs)
     by _ (IsArray xs) = none (expr.Array xs) (Expr-F.Array (map about_expr xs)) (expr_array_is xs)
     by _ (IsRepeat x us) = none (expr.Repeat x us) (Expr-F.Repeat (about_expr x) us) (expr_repeat_is x us)
     by _ (IsStruct path fields base) =
-        none (expr.Struct path fields base) (Expr-F.Struct path (map about_field_expr fields) (option_map (option_map about_expr) base))
+        none (expr.Struct path fields base) (Expr-F.Expr::Struct path (map about_field_expr fields) (option_map (option_map about_expr) base))
         (expr_struct_is path fields base)
     by _ (IsChain x more) = none (expr.Chain x more) (Expr-F.Chain (about_expr x) (map behind_op more)) (expr_chain_is x more)
     by _ (IsCast x types) = none (expr.Cast x types) (Expr-F.Cast (about_expr x) types) (expr_cast_is x types)
@@ -148,7 +148,7 @@ module _ (depth : ℕ) (ih : AllBegin depth) (no_struct first : Bool) (ts rest :
   abbrev Begins : ExprFacts → Type 0
   Begins F = Spells F.form (suc depth) ts rest → F.within no_struct first ≡ true → Begun F.lead ts rest
 
-  told : (x : Expr) (F : Expr-F ExprFacts Facts StepFacts) → about_expr x ≡ expr_facts F
+  told : (x : Expr) (F : ExprLayer) → about_expr x ≡ expr_facts F
       → (Spells (inside F) depth ts rest → within_of F no_struct first ≡ true → Begun (lead_of F) ts rest) → Begins (about_expr x)
   told x F e f = subst Begins (sym e) (λ s w. f (subst (λ us. Spells (inside F) depth ts us) s.2 s.1) w)
 
@@ -229,7 +229,7 @@ module _ (depth : ℕ) (ih : AllBegin depth) (no_struct first : Bool) (ts rest :
   begun _ (IsPath path) = told (expr.Path path) (Expr-F.Path path) (expr_path_is path) (λ s w. path_begun path rest s w)
   begun _ IsUnderscore = told expr.Underscore Expr-F.Underscore expr_underscore_is
       (λ s w. bit_begins Underscore (codes "_") ByUnderscore (λ us. refl) Done depth ts rest s)
-  begun _ (IsCall call) = told (expr.Call call) (Expr-F.Call call) (expr_call_is call)
+  begun _ (IsCall call) = told (expr.Call call) (Expr-F.Expr::Call call) (expr_call_is call)
       (λ s w. let b = call_begins call depth ts rest s w in (path_lead ts b.lead, b.less))
   begun _ (IsParen x) = told (expr.Paren x) (Expr-F.Paren (about_expr x)) (expr_paren_is x) (λ s w.
       bit_begins (Opener Paren) (opening Paren ∷ []) ByParen (λ us. refl)
@@ -245,7 +245,7 @@ module _ (depth : ℕ) (ih : AllBegin depth) (no_struct first : Bool) (ts rest :
       let f : Form = Part (about_expr x).form (Piece (semicolon ++ Blank ∷ []) (Part (token_list us) (piece (closer Bracket ∷ [])))) in
       bit_begins (Opener Bracket) (opening Bracket ∷ []) ByBracket (λ vs. refl) f depth ts rest s)
   begun _ (IsStruct path fields base) =
-      told (expr.Struct path fields base) (Expr-F.Struct path (map about_field_expr fields) (option_map (option_map about_expr) base))
+      told (expr.Struct path fields base) (Expr-F.Expr::Struct path (map about_field_expr fields) (option_map (option_map about_expr) base))
       (expr_struct_is path fields base) (λ s w.
       let fs = map about_field_expr fields in
       let b = option_map (option_map about_expr) base in

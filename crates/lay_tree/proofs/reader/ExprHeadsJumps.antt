@@ -19,9 +19,10 @@ use Rattle.lay_tree.specs.Operators.{strength}
 use Rattle.lay_tree.specs.nodes.Code.{about_expr}
 use Rattle.lay_tree.specs.nodes.Exprs.{ExprFacts, Tail, placed, tail_follows, follows, end_form, operand_form, label_form, tail_of_end, tail_of_jump, begins_free, end_placed, operand_placed, break_placed}
 use Rattle.lay_tree.specs.nodes.Places.{plain}
-use Rattle.lay_tree.specs.reader.Exprs.{ExprWithin, operand_if, return_expr, break_expr, range_expr}
+use Rattle.lay_tree.specs.reader.Exprs.{operand_if, return_expr, break_expr, range_expr}
+use Rattle.lay_tree.specs.reader.Within.{ExprWithin}
 use Rattle.lay_tree.specs.declared.exprs.Expr.{Expr}
-use Rattle.lay_tree.specs.declared.exprs.Expr.TheOpen.{Expr-F}
+use Rattle.lay_tree.specs.declared.blocks.Stmt.TheOpen.{Expr-F}
 use Rattle.lay_tree.specs.declared.exprs.Expr.TheVariants as expr
 use Rattle.lay_tree.proofs.nodes.ExprsLaws.{expr_range_is, expr_return_is, expr_break_is}
 use Rattle.lay_tree.proofs.reader.ExprFronts.{placed_begins}

@@ -38,10 +38,10 @@ use Rattle.lay_node.proofs.reader.TypesCompleteParts.{one_left}
 use Rattle.lay_tree.specs.Operands.{ByPath, expr_lead_at}
 use Rattle.lay_tree.specs.Operators.{begins_step}
 use Rattle.lay_tree.specs.nodes.Code.{about_expr, about_field_expr, about_step}
-use Rattle.lay_tree.specs.nodes.Exprs.{ExprFacts, StepFacts, stands, placed, begins_pointer, is_raw_word, is_raw_path, break_if, group_if, methods, is_method, is_dotted, is_tuple_index, first_step, are_steps, steps_form, base_form, base_placed, level_of_chain, next_is_angle, is_chain_level, may_chain, operands_placed, inside, level_of, lead_of, within_of, expr_facts}
+use Rattle.lay_tree.specs.nodes.Exprs.{ExprFacts, StepFacts, stands, placed, begins_pointer, is_raw_word, is_raw_path, break_if, group_if, methods, is_method, is_dotted, is_tuple_index, first_step, are_steps, steps_form, base_form, base_placed, level_of_chain, next_is_angle, is_chain_level, may_chain, operands_placed, inside, level_of, lead_of, within_of, expr_facts, ExprLayer}
 use Rattle.lay_tree.specs.nodes.Places.{begins, before_op}
 use Rattle.lay_tree.specs.declared.exprs.Expr.{Expr}
-use Rattle.lay_tree.specs.declared.exprs.Expr.TheOpen.{Expr-F}
+use Rattle.lay_tree.specs.declared.blocks.Stmt.TheOpen.{Expr-F}
 use Rattle.lay_tree.specs.declared.exprs.Expr.TheVariants as expr
 use Rattle.lay_tree.specs.declared.exprs.Place.{Place}
 use Rattle.lay_tree.specs.declared.exprs.Step.{Step}
@@ -248,7 +248,7 @@ module _ (depth : ℕ) (ih : AllRaw depth) (no_struct first_flag : Bool) (ts res
   Raw F = Spells F.form (suc depth) ts rest → F.within no_struct first_flag ≡ true → nat_le 12 F.level ≡ true → Some ByPath ≡ Some F.lead
       → RawAlone F.is_raw ts rest
 
-  told : (x : Expr) (F : Expr-F ExprFacts Facts StepFacts) → about_expr x ≡ expr_facts F
+  told : (x : Expr) (F : ExprLayer) → about_expr x ≡ expr_facts F
       → (Spells (inside F) depth ts rest → within_of F no_struct first_flag ≡ true → nat_le 12 (level_of F) ≡ true → Some ByPath ≡ Some
       (lead_of F)
       → RawAlone (is_raw_path F) ts rest) → Raw (about_expr x)
@@ -310,7 +310,7 @@ module _ (depth : ℕ) (ih : AllRaw depth) (no_struct first_flag : Bool) (ts res
   raw_view _ (IsLit l) = told (expr.Lit l) (Expr-F.Lit l) (expr_lit_is l) (λ s w n b. absurd (cc))
   raw_view _ (IsPath p) = told (expr.Path p) (Expr-F.Path p) (expr_path_is p) (λ s w n b. path_raw p depth ts rest s w raw)
   raw_view _ IsUnderscore = told expr.Underscore Expr-F.Underscore expr_underscore_is (λ s w n b. absurd (cc))
-  raw_view _ (IsCall c) = told (expr.Call c) (Expr-F.Call c) (expr_call_is c) (λ s w n b. inl (call_raw c depth ts rest s w raw))
+  raw_view _ (IsCall c) = told (expr.Call c) (Expr-F.Expr::Call c) (expr_call_is c) (λ s w n b. inl (call_raw c depth ts rest s w raw))
   raw_view _ (IsParen x) = told (expr.Paren x) (Expr-F.Paren (about_expr x)) (expr_paren_is x) (λ s w n b. absurd (cc))
   raw_view _ (IsContinue label) = told (expr.Continue label) (Expr-F.Continue label) (expr_continue_is label) (λ s w n b. absurd (cc))
   raw_view _ (IsTuple xs) = told (expr.Tuple xs) (Expr-F.Tuple (map about_expr xs)) (expr_tuple_is xs) (λ s w n b. absurd (cc))
@@ -319,7 +319,7 @@ module _ (depth : ℕ) (ih : AllRaw depth) (no_struct first_flag : Bool) (ts res
   raw_view _ (IsStruct p fields base) =
       let fs = map about_field_expr fields in
       let last = option_map (option_map about_expr) base in
-      told (expr.Struct p fields base) (Expr-F.Struct p fs last) (expr_struct_is p fields base) (λ s w n b.
+      told (expr.Struct p fields base) (Expr-F.Expr::Struct p fs last) (expr_struct_is p fields base) (λ s w n b.
       let w2 = and_parts ((about_path p Code).good && all_good fs) (base_placed last) w in
       let good = (and_parts (about_path p Code).good (all_good fs) w2.0).0 in
       inl (struct_raw p (map (λ (x : Facts). x.form) fs ++ base_form last) (not (is_some last)) s.0 s.1 good s.2))

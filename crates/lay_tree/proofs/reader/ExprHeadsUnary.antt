@@ -16,9 +16,10 @@ use Rattle.lay_tree.specs.Operators.{raw_by, amp_by, prefix_by, prefix, prefix_l
 use Rattle.lay_tree.specs.nodes.Code.{about_expr}
 use Rattle.lay_tree.specs.nodes.Exprs.{ExprFacts, Tail, stands, placed, begins_pointer, tail_follows, prefix_bits, prefixes_form, is_amp, ends_in_amp, is_prefix_lead}
 use Rattle.lay_tree.specs.nodes.Places.{plain}
-use Rattle.lay_tree.specs.reader.Exprs.{ExprWithin, one_prefix, unary_expr}
+use Rattle.lay_tree.specs.reader.Exprs.{one_prefix, unary_expr}
+use Rattle.lay_tree.specs.reader.Within.{ExprWithin}
 use Rattle.lay_tree.specs.declared.exprs.Expr.{Expr}
-use Rattle.lay_tree.specs.declared.exprs.Expr.TheOpen.{Expr-F}
+use Rattle.lay_tree.specs.declared.blocks.Stmt.TheOpen.{Expr-F}
 use Rattle.lay_tree.specs.declared.exprs.Expr.TheVariants as expr
 use Rattle.lay_tree.specs.declared.exprs.Place.{Place}
 use Rattle.lay_tree.specs.declared.operators.Prefix.{Prefix}

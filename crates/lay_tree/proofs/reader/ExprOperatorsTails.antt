@@ -14,10 +14,10 @@ use Rattle.lay_node.proofs.Parts.{part_alone}
 use Rattle.lay_node.proofs.nodes.TypesLaws.{ArgsView, IsNone, IsAngle, IsRound, about_segment, args_view, args_none_is, args_angle_is, args_round_is, path_is}
 use Rattle.lay_node.proofs.reader.TypesBegins.{path_goods}
 use Rattle.lay_tree.specs.nodes.Code.{about_expr, about_field_expr, about_step}
-use Rattle.lay_tree.specs.nodes.Exprs.{ExprFacts, StepFacts, Tail, is_open, is_typed, placed, stands, StepKind, OfField, tail_of_steps, tail_of_jump, prefixes_form, level_of_chain, next_is_angle, is_chain_level, may_chain, operands_placed, is_prefix_lead, inside, level_of, tail_of, within_of, expr_facts}
+use Rattle.lay_tree.specs.nodes.Exprs.{ExprFacts, StepFacts, Tail, is_open, is_typed, placed, stands, StepKind, OfField, tail_of_steps, tail_of_jump, prefixes_form, level_of_chain, next_is_angle, is_chain_level, may_chain, operands_placed, is_prefix_lead, inside, level_of, tail_of, within_of, expr_facts, ExprLayer}
 use Rattle.lay_tree.specs.nodes.Places.{plain, is_part, part_if, before_op}
 use Rattle.lay_tree.specs.declared.exprs.Expr.{Expr}
-use Rattle.lay_tree.specs.declared.exprs.Expr.TheOpen.{Expr-F}
+use Rattle.lay_tree.specs.declared.blocks.Stmt.TheOpen.{Expr-F}
 use Rattle.lay_tree.specs.declared.exprs.Expr.TheVariants as expr
 use Rattle.lay_tree.specs.declared.exprs.Place.{Place}
 use Rattle.lay_tree.specs.declared.operators.Op.{Op}
@@ -93,7 +93,7 @@ module _ (depth : ℕ) (ih : AllEnd depth) (no_struct first : Bool) (ts rest : T
   EndsBy F = Spells F.form (suc depth) ts rest → F.within no_struct first ≡ true → EndsAsPath F
 
   -- by the layer of its kind
-  told : (x : Expr) (F : Expr-F ExprFacts Facts StepFacts) → about_expr x ≡ expr_facts F
+  told : (x : Expr) (F : ExprLayer) → about_expr x ≡ expr_facts F
       → (Spells (inside F) depth ts rest → within_of F no_struct first ≡ true → EndsAsPath (expr_facts F)) → EndsBy (about_expr x)
   told x F e f = subst EndsBy (sym e) (λ s w. f (subst (λ us. Spells (inside F) depth ts us) s.2 s.1) w)
 
@@ -128,17 +128,17 @@ module _ (depth : ℕ) (ih : AllEnd depth) (no_struct first : Bool) (ts rest : T
       ih x no_struct false u.0 rest u.1 p.1 (stands_parts F (plain 12 no_struct) p.0).level t)
 
   -- an expression that ends in a delimiter, or in nothing that refuses what follows
-  shut_end : (x : Expr) (F : Expr-F ExprFacts Facts StepFacts) → about_expr x ≡ expr_facts F → path_refuses (tail_of F).refuses ≡ true
+  shut_end : (x : Expr) (F : ExprLayer) → about_expr x ≡ expr_facts F → path_refuses (tail_of F).refuses ≡ true
       → EndsBy (about_expr x)
   shut_end x F e g = told x F e (λ s w l t. g)
 
   -- one of a lower level
-  low_end : (x : Expr) (F : Expr-F ExprFacts Facts StepFacts) → about_expr x ≡ expr_facts F → nat_le 12 (level_of F) ≡ false
+  low_end : (x : Expr) (F : ExprLayer) → about_expr x ≡ expr_facts F → nat_le 12 (level_of F) ≡ false
       → EndsBy (about_expr x)
   low_end x F e low = told x F e (λ s w l t. let f = sym low ∙ l in absurd (cc))
 
   -- What `return` and `break` hand back takes all operators.
-  jump_end : (x : Expr) (F : Expr-F ExprFacts Facts StepFacts) → about_expr x ≡ expr_facts F → (y : Option ExprFacts)
+  jump_end : (x : Expr) (F : ExprLayer) → about_expr x ≡ expr_facts F → (y : Option ExprFacts)
       → tail_of F ≡ tail_of_jump y → EndsBy (about_expr x)
   jump_end x F e None j = told x F e (λ s w l t. subst (λ (z : Tail). path_refuses z.refuses ≡ true) (sym j) refl)
   jump_end x F e (Some y) j = told x F e (λ s w l t. let f = ap (λ (z : Tail). z.takes_all) (sym j) ∙ t in absurd (cc))
@@ -148,14 +148,14 @@ module _ (depth : ℕ) (ih : AllEnd depth) (no_struct first : Bool) (ts rest : T
   ends _ (IsLit l) = shut_end (expr.Lit l) (Expr-F.Lit l) (expr_lit_is l) refl
   ends _ (IsPath path) = told (expr.Path path) (Expr-F.Path path) (expr_path_is path) (λ s w l t. code_refuses path w)
   ends _ IsUnderscore = shut_end expr.Underscore Expr-F.Underscore expr_underscore_is refl
-  ends _ (IsCall call) = shut_end (expr.Call call) (Expr-F.Call call) (expr_call_is call) refl
+  ends _ (IsCall call) = shut_end (expr.Call call) (Expr-F.Expr::Call call) (expr_call_is call) refl
   ends _ (IsParen x) = shut_end (expr.Paren x) (Expr-F.Paren (about_expr x)) (expr_paren_is x) refl
   ends _ (IsContinue label) = shut_end (expr.Continue label) (Expr-F.Continue label) (expr_continue_is label) refl
   ends _ (IsTuple xs) = shut_end (expr.Tuple xs) (Expr-F.Tuple (map about_expr xs)) (expr_tuple_is xs) refl
   ends _ (IsArray xs) = shut_end (expr.Array xs) (Expr-F.Array (map about_expr xs)) (expr_array_is xs) refl
   ends _ (IsRepeat x us) = shut_end (expr.Repeat x us) (Expr-F.Repeat (about_expr x) us) (expr_repeat_is x us) refl
   ends _ (IsStruct path fields base) =
-      shut_end (expr.Struct path fields base) (Expr-F.Struct path (map about_field_expr fields) (option_map (option_map about_expr) base))
+      shut_end (expr.Struct path fields base) (Expr-F.Expr::Struct path (map about_field_expr fields) (option_map (option_map about_expr) base))
       (expr_struct_is path fields base) refl
   ends _ (IsChain x more) = chain_end x more
   ends _ (IsCast x types) = low_end (expr.Cast x types) (Expr-F.Cast (about_expr x) types) (expr_cast_is x types) refl

@@ -8,7 +8,8 @@ use Rattle.lay_node.proofs.reader.TypesComplete as types
 use Rattle.lay_tree.specs.Operands.{expr_lead_at}
 use Rattle.lay_tree.specs.nodes.Code.{about_expr}
 use Rattle.lay_tree.specs.nodes.Exprs.{follows, placed}
-use Rattle.lay_tree.specs.reader.Exprs.{ExprWithin, head_by}
+use Rattle.lay_tree.specs.reader.Exprs.{head_by}
+use Rattle.lay_tree.specs.reader.Within.{ExprWithin}
 use Rattle.lay_tree.specs.declared.exprs.Expr.{Expr}
 use Rattle.lay_tree.specs.declared.exprs.Place.{Place}
 

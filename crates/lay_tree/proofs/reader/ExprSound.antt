@@ -14,7 +14,9 @@ use Rattle.lay_tree.specs.Operators.{is_angle, is_dot_or_try, strength}
 use Rattle.lay_tree.specs.nodes.Code.{about_expr}
 use Rattle.lay_tree.specs.nodes.Exprs.{ExprFront, follows, is_chain_level, placed, root_follows, stands, tail_follows}
 use Rattle.lay_tree.specs.nodes.Places.{before_op, begins}
-use Rattle.lay_tree.specs.reader.Exprs.{ExprWithin, accepted, climb, climb_by, expr_at, expr_by, expr_in, head_by, is_ended, left_place, stage}
+use Rattle.lay_tree.specs.reader.Code.{expr_at, expr_in}
+use Rattle.lay_tree.specs.reader.Exprs.{accepted, climb, climb_by, expr_by, head_by, is_ended, left_place, stage}
+use Rattle.lay_tree.specs.reader.Within.{ExprWithin}
 use Rattle.lay_tree.specs.declared.exprs.Expr.{Expr}
 use Rattle.lay_tree.specs.declared.exprs.Place.{Place}
 use Rattle.lay_tree.proofs.reader.ExprSoundHead.{head_sound}

@@ -8,7 +8,8 @@ use Rattle.lay_node.proofs.Steps.{same_some, chosen}
 use Rattle.lay_node.proofs.reader.Loops.{SoundStep}
 use Rattle.lay_node.proofs.reader.TypesSoundParts.{Out, bit_texts}
 use Rattle.lay_tree.specs.Operands.{ExprLead, ByLiteral, ByPath, ByUnderscore, ByLabel, ByParen, ByBracket, ByBrace, ByPrefix, ByRange, ByContinue, ByBreak, ByReturn, ByBlockWord, ByClosure, expr_lead_at}
-use Rattle.lay_tree.specs.reader.Exprs.{ExprWithin, head_by}
+use Rattle.lay_tree.specs.reader.Exprs.{head_by}
+use Rattle.lay_tree.specs.reader.Within.{ExprWithin}
 use Rattle.lay_tree.specs.declared.exprs.Expr.{Expr}
 use Rattle.lay_tree.specs.declared.exprs.Expr.TheVariants as expr
 use Rattle.lay_tree.proofs.reader.ExprSoundFirst.{bracket_first, break_first, continue_first, paren_first, range_first, return_first, underscore_first}

@@ -29,9 +29,10 @@ use Rattle.lay_tree.specs.Operators.{strength}
 use Rattle.lay_tree.specs.nodes.Code.{about_expr}
 use Rattle.lay_tree.specs.nodes.Exprs.{begins_free, break_placed, inside as inside_of, label_form, operand_form, operand_placed, placed, tail_follows, tail_of_jump, tuple_form}
 use Rattle.lay_tree.specs.nodes.Places.{FREE, plain}
-use Rattle.lay_tree.specs.reader.Exprs.{ExprWithin, bracket_expr, break_expr, call_expr, continue_expr, free_elements, literal_expr, operand_if, paren_expr, repeat_by, return_expr}
+use Rattle.lay_tree.specs.reader.Exprs.{bracket_expr, break_expr, call_expr, continue_expr, free_elements, literal_expr, operand_if, paren_expr, repeat_by, return_expr}
+use Rattle.lay_tree.specs.reader.Within.{ExprWithin}
 use Rattle.lay_tree.specs.declared.exprs.Expr.{Expr}
-use Rattle.lay_tree.specs.declared.exprs.Expr.TheOpen.{Expr-F}
+use Rattle.lay_tree.specs.declared.blocks.Stmt.TheOpen.{Expr-F}
 use Rattle.lay_tree.specs.declared.exprs.Expr.TheVariants as expr
 use Rattle.lay_tree.proofs.nodes.ExprsLaws.{expr_array_is, expr_break_is, expr_call_is, expr_continue_is, expr_lit_is, expr_paren_is, expr_repeat_is, expr_return_is, expr_tuple_is, expr_underscore_is}
 use Rattle.lay_tree.proofs.reader.ExprSoundLeads.{LedWithin}
@@ -60,7 +61,7 @@ module _ (no_struct starts : Bool) where
       let c = bind_some (call ts) _ _ h in
       let s = call_sound 0 ts c.0.0 c.0.1 t c.1 in
       same_some (Out Left ts) ((expr.Call c.0.0, 1), c.0.1) (x, rest) c.2 (
-        made no_struct starts (about_expr (expr.Call c.0.0)) (Expr-F.Call c.0.0) 0 ts c.0.1 (expr_call_is c.0.0) s.0 s.1 refl,
+        made no_struct starts (about_expr (expr.Call c.0.0)) (Expr-F.Expr::Call c.0.0) 0 ts c.0.1 (expr_call_is c.0.0) s.0 s.1 refl,
         texts_behind ts c.0.1 (is_end (about_call c.0.0).form 0 ts c.0.1 s.0) t,
       )
 

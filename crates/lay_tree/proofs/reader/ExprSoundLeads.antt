@@ -19,7 +19,9 @@ use Rattle.lay_tree.specs.Operators.{begins_step, prefix, strength}
 use Rattle.lay_tree.specs.nodes.Code.{about_expr}
 use Rattle.lay_tree.specs.nodes.Exprs.{ExprFacts, lead_of_start, lead_of_targets, stands, root_follows}
 use Rattle.lay_tree.specs.nodes.Places.{FREE, plain}
-use Rattle.lay_tree.specs.reader.Exprs.{ExprWithin, assign_expr, base, begins_tuple_index, bracket_expr, break_expr, call_expr, cast_expr, chain_expr, climb, climb_by, continue_expr, expr_by, expr_in, free_elements, head_by, is_ended, left_place, literal_expr, one_field, one_prefix, one_step, one_type, operand_if, operands, paren_expr, path_expr, postfix_expr, range_by, range_expr, return_expr, stage, struct_expr, targets_of, unary_expr, value_of}
+use Rattle.lay_tree.specs.reader.Code.{expr_in}
+use Rattle.lay_tree.specs.reader.Exprs.{assign_expr, base, begins_tuple_index, bracket_expr, break_expr, call_expr, cast_expr, chain_expr, climb, climb_by, continue_expr, expr_by, free_elements, head_by, is_ended, left_place, literal_expr, one_field, one_prefix, one_step, one_type, operand_if, operands, paren_expr, path_expr, postfix_expr, range_by, range_expr, return_expr, stage, struct_expr, targets_of, unary_expr, value_of}
+use Rattle.lay_tree.specs.reader.Within.{ExprWithin}
 use Rattle.lay_tree.specs.declared.exprs.Expr.{Expr}
 use Rattle.lay_tree.specs.declared.exprs.Expr.TheVariants as expr
 use Rattle.lay_tree.specs.declared.exprs.Place.{Place}

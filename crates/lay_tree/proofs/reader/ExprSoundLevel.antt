@@ -13,11 +13,11 @@ use Rattle.lay_node.proofs.reader.TypesSoundLevel.{SoundWithin}
 use Rattle.lay_tree.specs.Operands.{begins_operand}
 use Rattle.lay_tree.specs.Operators.{strength}
 use Rattle.lay_tree.specs.nodes.Code.{about_expr, about_field_expr, about_step}
-use Rattle.lay_tree.specs.nodes.Exprs.{ExprFacts, StepFacts, Tail, all_free, begins_pointer, expr_facts, expr_forms, follows, inside, lacks_operand, placed, root_follows, stands, tail_follows, tail_of, within_of}
+use Rattle.lay_tree.specs.nodes.Exprs.{ExprFacts, StepFacts, Tail, all_free, begins_pointer, expr_facts, expr_forms, follows, inside, lacks_operand, placed, root_follows, stands, tail_follows, tail_of, within_of, ExprLayer}
 use Rattle.lay_tree.specs.nodes.Places.{FREE, begins}
-use Rattle.lay_tree.specs.reader.Exprs.{ExprWithin}
+use Rattle.lay_tree.specs.reader.Within.{ExprWithin}
 use Rattle.lay_tree.specs.declared.exprs.Expr.{Expr}
-use Rattle.lay_tree.specs.declared.exprs.Expr.TheOpen.{Expr-F}
+use Rattle.lay_tree.specs.declared.blocks.Stmt.TheOpen.{Expr-F}
 use Rattle.lay_tree.specs.declared.exprs.Place.{Place}
 use Rattle.lay_tree.proofs.nodes.ExprsLaws.{behind_op, before_op, ExprView, IsLit, IsPath, IsUnderscore, IsCall, IsParen, IsContinue, IsTuple, IsArray, IsRepeat, IsStruct, IsChain, IsCast, IsUnary, IsRange, IsAssign, IsPostfix, IsReturn, IsBreak, expr_view, expr_lit_is, expr_path_is, expr_underscore_is, expr_call_is, expr_paren_is, expr_continue_is, expr_tuple_is, expr_array_is, expr_repeat_is, expr_struct_is, expr_chain_is, expr_cast_is, expr_unary_is, expr_range_is, expr_assign_is, expr_postfix_is, expr_return_is, expr_break_is}
 
@@ -69,7 +69,7 @@ expr_list xs = (forms_are xs, list_all-map (λ (x : ExprFacts). placed x FREE) a
 -- ---- an expression, one level above what is within it
 
 -- An expression of a kind stands there, where what is within it does.
-pub made : (no_struct first : Bool) (X : ExprFacts) (k : Expr-F ExprFacts Facts StepFacts) (n : ℕ) (ts rest : Tokens)
+pub made : (no_struct first : Bool) (X : ExprFacts) (k : ExprLayer) (n : ℕ) (ts rest : Tokens)
     → X ≡ expr_facts k → Spells (inside k) n ts rest → within_of k no_struct first ≡ true
     → tail_follows (tail_of k) no_struct rest ≡ true → IsLeft no_struct first X (suc n) ts rest
 made no_struct first X k n ts rest e s w t =
@@ -123,20 +123,20 @@ amp_follows t amp no_struct ts f h =
 -- ---- which kind it is
 
 -- What is told of an expression is told of a kind.
-pub layer_of : (x : Expr) → (k : Expr-F ExprFacts Facts StepFacts) × (about_expr x ≡ expr_facts k)
+pub layer_of : (x : Expr) → (k : ExprLayer) × (about_expr x ≡ expr_facts k)
 layer_of x = by x (expr_view x)
   where
-    by : (x : Expr) → ExprView x → (k : Expr-F ExprFacts Facts StepFacts) × (about_expr x ≡ expr_facts k)
+    by : (x : Expr) → ExprView x → (k : ExprLayer) × (about_expr x ≡ expr_facts k)
     by _ (IsLit l) = (Expr-F.Lit l, expr_lit_is l)
     by _ (IsPath p) = (Expr-F.Path p, expr_path_is p)
     by _ IsUnderscore = (Expr-F.Underscore, expr_underscore_is)
-    by _ (IsCall c) = (Expr-F.Call c, expr_call_is c)
+    by _ (IsCall c) = (Expr-F.Expr::Call c, expr_call_is c)
     by _ (IsParen x) = (Expr-F.Paren (about_expr x), expr_paren_is x)
     by _ (IsContinue l) = (Expr-F.Continue l, expr_continue_is l)
     by _ (IsTuple xs) = (Expr-F.Tuple (map about_expr xs), expr_tuple_is xs)
     by _ (IsArray xs) = (Expr-F.Array (map about_expr xs), expr_array_is xs)
     by _ (IsRepeat x us) = (Expr-F.Repeat (about_expr x) us, expr_repeat_is x us)
-    by _ (IsStruct p fs b) = (Expr-F.Struct p (map about_field_expr fs) (option_map (option_map about_expr) b), expr_struct_is p fs b)
+    by _ (IsStruct p fs b) = (Expr-F.Expr::Struct p (map about_field_expr fs) (option_map (option_map about_expr) b), expr_struct_is p fs b)
     by _ (IsChain x more) = (Expr-F.Chain (about_expr x) (map behind_op more), expr_chain_is x more)
     by _ (IsCast x types) = (Expr-F.Cast (about_expr x) types, expr_cast_is x types)
     by _ (IsUnary ps x) = (Expr-F.Unary ps (about_expr x), expr_unary_is ps x)

@@ -17,7 +17,8 @@ use Rattle.lay_tree.specs.Operands.{ExprLead, ByBrace, begins_operand, expr_lead
 use Rattle.lay_tree.specs.nodes.Code.{about_expr}
 use Rattle.lay_tree.specs.nodes.Exprs.{all_free, begins_free, expr_forms, is_brace_lead, placed}
 use Rattle.lay_tree.specs.nodes.Places.{FREE, plain}
-use Rattle.lay_tree.specs.reader.Exprs.{ExprWithin, free_elements, operand_if}
+use Rattle.lay_tree.specs.reader.Exprs.{free_elements, operand_if}
+use Rattle.lay_tree.specs.reader.Within.{ExprWithin}
 use Rattle.lay_tree.specs.declared.exprs.Expr.{Expr}
 use Rattle.lay_tree.proofs.reader.ExprSoundLeads.{LedWithin}
 use Rattle.lay_tree.proofs.reader.ExprSoundLevel.{ExprHeld, SoundExprWithin, expr_list}

@@ -21,8 +21,9 @@ use Rattle.lay_node.proofs.reader.Needs.{nodes_sound}
 use Rattle.lay_tree.specs.Reading.{top, SpellsFile}
 use Rattle.lay_tree.specs.nodes.Code.{about_item}
 use Rattle.lay_tree.specs.nodes.File.{form_of_file, is_normal}
+use Rattle.lay_tree.specs.reader.Code.{item_at}
 use Rattle.lay_tree.specs.reader.File.{whole}
-use Rattle.lay_tree.specs.reader.Item.{items_by, item_at}
+use Rattle.lay_tree.specs.reader.Item.{items_by}
 use Rattle.lay_tree.specs.declared.file.File.{File}
 use Rattle.lay_tree.specs.declared.item.Item.{Item}
 use Rattle.lay_tree.proofs.reader.Item.{item_sound}

@@ -45,12 +45,13 @@ use Rattle.lay_node.proofs.reader.Words.{name_sound}
 use Rattle.lay_tree.specs.nodes.Code.{about_item, told_of_kind}
 use Rattle.lay_tree.specs.nodes.Item.{call_item_form, in_module, is_inherited, kind_facts, kind_form, rules_form}
 use Rattle.lay_tree.specs.nodes.Places.{FREE}
-use Rattle.lay_tree.specs.reader.Exprs.{expr_at}
-use Rattle.lay_tree.specs.reader.Item.{ItemLead, ItemWithin, OfAlias, OfCall, OfEnum, OfExternCrate, OfForeign, OfFunction, OfImpl, OfImport, OfModule, OfRules, OfStruct, OfTrait, OfUnion, OfValue, begins_function, begins_rules, begins_union, call_item, extern_lead, item_at, item_by, item_lead, kind_at, kind_by, may_stand, rules_item, unsafe_lead}
+use Rattle.lay_tree.specs.reader.Code.{expr_at, item_at}
+use Rattle.lay_tree.specs.reader.Item.{ItemWithin, call_item, item_by, kind_at, kind_by, may_stand, rules_item}
+use Rattle.lay_tree.specs.reader.ItemLeads.{ItemLead, OfAlias, OfCall, OfEnum, OfExternCrate, OfForeign, OfFunction, OfImpl, OfImport, OfModule, OfRules, OfStruct, OfTrait, OfUnion, OfValue, begins_function, begins_rules, begins_union, extern_lead, item_lead, unsafe_lead}
 use Rattle.lay_tree.specs.declared.item.Item.{Item}
 use Rattle.lay_tree.specs.declared.item.ItemKind.{ItemKind}
 use Rattle.lay_tree.specs.declared.item.ItemKind.TheVariants as item
-use Rattle.lay_tree.specs.declared.item.ItemKind.TheOpen.{ItemKind-F}
+use Rattle.lay_tree.specs.declared.blocks.Stmt.TheOpen.{ItemKind-F}
 use Rattle.lay_tree.proofs.nodes.ItemLaws as laws
 use Rattle.lay_tree.proofs.nodes.ItemLaws.{item_is}
 use Rattle.lay_tree.proofs.reader.ExprSoundLevel.{ExprHeld}
@@ -119,7 +120,7 @@ call_item_sound at budget ts x rest t h =
     let spelled : Spells (call_item_form c) 0 ts e.0 = (b.0.1, s.0, end_spelled c.tokens.delim 0 b.0.1 e.0 e.1) in
     same_some (Out (KindHeld at budget) ts) ((item.Call c, 0), e.0) (x, rest) e.2
     (out_texts at budget (item.Call c, 0) ts e.0 t
-    (omega arith, kind_told at 0 (item.Call c) (kind_facts (ItemKind-F.Call c)) ts e.0 (laws.call_is c) spelled s.1))
+    (omega arith, kind_told at 0 (item.Call c) (kind_facts (ItemKind-F.ItemKind::Call c)) ts e.0 (laws.call_is c) spelled s.1))
 
 -- ---- what an item is
 

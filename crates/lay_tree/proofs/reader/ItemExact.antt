@@ -19,7 +19,7 @@ use Rattle.lay_node.proofs.reader.TraitHeads.{trait_held, trait_there}
 use Rattle.lay_node.proofs.reader.ValueHeads.{value_heads_complete, value_heads_sound}
 use Rattle.lay_tree.specs.nodes.Code.{about_item}
 use Rattle.lay_tree.specs.nodes.Places.{FREE}
-use Rattle.lay_tree.specs.reader.Item.{item_at}
+use Rattle.lay_tree.specs.reader.Code.{item_at}
 use Rattle.lay_tree.specs.declared.item.Item.{Item}
 use Rattle.lay_tree.proofs.reader.ExprComplete.{expr_read}
 use Rattle.lay_tree.proofs.reader.ExprSound.{expr_in_sound}

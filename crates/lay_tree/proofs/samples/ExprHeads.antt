@@ -25,7 +25,9 @@ use Rattle.lay_tree.specs.nodes.Code.{about_expr}
 use Rattle.lay_tree.specs.nodes.Exprs.{ExprFacts, stands, root_follows}
 use Rattle.std.specs.Prelude.{suc, nat_le, ◌&&◌, ◌==◌, drop, length}
 use Rattle.lay_tree.specs.nodes.Places.{FREE, plain, statement}
-use Rattle.lay_tree.specs.reader.Exprs.{assign_expr, base, bracket_expr, break_expr, cast_expr, chain_expr, climb, continue_expr, dot_step, is_ended, expr_at, expr_by, expr_in, one_field, one_step, one_type, operand, operands, paren_expr, path_expr, postfix_expr, range_expr, return_expr, struct_expr, unary_expr, ExprWithin, head_by, climb_by, left_place, stage, operand_ends}
+use Rattle.lay_tree.specs.reader.Code.{expr_at, expr_in}
+use Rattle.lay_tree.specs.reader.Exprs.{assign_expr, base, bracket_expr, break_expr, cast_expr, chain_expr, climb, continue_expr, dot_step, is_ended, expr_by, one_field, one_step, one_type, operand, operands, paren_expr, path_expr, postfix_expr, range_expr, return_expr, struct_expr, unary_expr, head_by, climb_by, left_place, stage, operand_ends}
+use Rattle.lay_tree.specs.reader.Within.{ExprWithin}
 use Rattle.lay_tree.specs.declared.exprs.Place.{Place}
 use Rattle.lay_piece.specs.declared.kind.Kind.TheVariants as kind
 use Rattle.lay_tree.proofs.samples.Exprs.{called, float, float_is, int, int_is, method, name, name_is, named_type, tick_a}

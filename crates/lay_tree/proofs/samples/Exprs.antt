@@ -22,7 +22,7 @@ use Rattle.lay_tree.specs.Operands.{ByPath}
 use Rattle.lay_tree.specs.nodes.Code.{about_expr, about_step}
 use Rattle.lay_tree.specs.nodes.Exprs.{ExprFacts, expr_facts, step_facts, is_raw_word, shut_by}
 use Rattle.lay_tree.specs.declared.exprs.Expr.{Expr}
-use Rattle.lay_tree.specs.declared.exprs.Expr.TheOpen.{Expr-F, Step-F}
+use Rattle.lay_tree.specs.declared.blocks.Stmt.TheOpen.{Expr-F, Step-F}
 use Rattle.lay_tree.specs.declared.exprs.Expr.TheVariants as expr
 use Rattle.lay_tree.specs.declared.exprs.FieldExpr.{FieldExpr}
 use Rattle.lay_tree.specs.declared.exprs.FieldExpr.TheVariants as field

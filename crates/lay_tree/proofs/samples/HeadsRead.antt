@@ -50,7 +50,9 @@ use Rattle.lay_node.proofs.samples.Patterns.{lone}
 use Rattle.lay_node.proofs.samples.Tokens as list
 use Rattle.lay_node.proofs.samples.Trees.{named, plain, a, token, word, mark, colons, opens, closes}
 use Rattle.lay_node.proofs.samples.Types.{local, B, C, where_A_is}
-use Rattle.lay_tree.specs.reader.Item.{value_by, call_item, foreign_by, function_by, impl_by, item_at, item_body, item_by, item_lead, items_by, kind_at, OfCall, OfForeign, OfFunction, OfImpl, OfUnion, OfValue, trait_by}
+use Rattle.lay_tree.specs.reader.Code.{item_at}
+use Rattle.lay_tree.specs.reader.Item.{value_by, call_item, foreign_by, function_by, impl_by, item_body, item_by, items_by, kind_at, trait_by}
+use Rattle.lay_tree.specs.reader.ItemLeads.{item_lead, OfCall, OfForeign, OfFunction, OfImpl, OfUnion, OfValue}
 use Rattle.lay_tree.specs.declared.item.Item.{Item}
 use Rattle.lay_tree.specs.declared.item.ItemKind.TheVariants as item
 use Rattle.lay_tree.proofs.nodes.ItemLaws as items
