@@ -24,6 +24,7 @@ pub mod ExprSoundStages
 pub mod ExprSound
 pub mod ExprHeads
 pub mod ExprLeads
+pub mod BlockForms
 pub mod ExprFronts
 pub mod ExprQuiet
 pub mod ExprHeadsWords
