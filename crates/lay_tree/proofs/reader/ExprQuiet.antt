@@ -108,7 +108,7 @@ ends_follow x place ts e =
 
 -- ---- what stands there
 
-none_weak : (found : Option (List ℕ)) (ts : Tokens) → op_at ts ≡ found → option_and_then (named all_ops) found ≡ None
+pub none_weak : (found : Option (List ℕ)) (ts : Tokens) → op_at ts ≡ found → option_and_then (named all_ops) found ≡ None
     → is_op_of (codes ".") found ≡ false
     → is_op_of (codes "?") found ≡ false → first (is_keyword (codes "as")) ts ≡ false
     → (first (opens Paren) ts || first (opens Bracket) ts) ≡ false
