@@ -10,6 +10,8 @@ pub mod ItemExact
 pub mod File
 pub mod ExprSoundLevel
 pub mod ExprReads
+pub mod BlocksSound
+pub mod ExprSoundLed
 pub mod ExprSoundLeads
 pub mod ExprSoundFirst
 pub mod ExprSoundLists

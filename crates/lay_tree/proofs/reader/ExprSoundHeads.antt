@@ -92,7 +92,7 @@ module _ (no_struct starts : Bool) where
   label_leads None f n ts mid rest k s = subst (λ us. Spells f n us rest) (sym k.0) s
   label_leads (Some l) f n ts mid rest k s = (ts, (ts, refl, refl), (mid, (mid, k, refl), s))
 
-  unlabelled : (b : Bool) → b ≡ false → (not b && true && true) ≡ true
+  unlabelled : (b : Bool) → b ≡ false → (not b && true && true && true) ≡ true
   unlabelled false h = refl
   unlabelled true h = absurd (cc h)
 
