@@ -11,6 +11,7 @@ pub mod File
 pub mod ExprSoundLevel
 pub mod ExprReads
 pub mod BlocksSound
+pub mod BlocksSoundWhole
 pub mod ExprSoundLed
 pub mod ExprSoundLeads
 pub mod ExprSoundFirst

@@ -51,11 +51,12 @@ use Rattle.lay_tree.proofs.reader.ExprSoundLevel.{DeepBlock, ExprHeld, SoundExpr
 -- All `;` at the front are left behind.
 pub semicolons_behind : (ts : Tokens) → AnySemicolons ts (behind_semicolons ts)
 semicolons_behind [] = (0, refl)
-semicolons_behind (t ∷ ts) = by (is_mark (codes ";") t) refl
+semicolons_behind (t ∷ ts) = by (is_mark (codes ";") t) refl (semicolons_behind ts)
   where
-    by : (b : Bool) → is_mark (codes ";") t ≡ b → AnySemicolons (t ∷ ts) (if b then behind_semicolons ts else t ∷ ts)
-    by true e = let more = semicolons_behind ts in (suc more.0, (ts, mark_one (codes ";") (t ∷ ts) e, more.1))
-    by false e = (0, refl)
+    by : (b : Bool) → is_mark (codes ";") t ≡ b → AnySemicolons ts (behind_semicolons ts)
+        → AnySemicolons (t ∷ ts) (if b then behind_semicolons ts else t ∷ ts)
+    by true e more = (suc more.0, (ts, mark_one (codes ";") (t ∷ ts) e, more.1))
+    by false e more = (0, refl)
 
 pub semicolons_texts : (ts : Tokens) → InText ts → InText (behind_semicolons ts)
 semicolons_texts ts t = bit_texts Semicolons ts (behind_semicolons ts) (semicolons_behind ts) t
@@ -66,14 +67,21 @@ no_semicolons [] h = refl
 no_semicolons (t ∷ ts) h = rw h refl
 
 -- A `}` is no `;`.
-closer_mark : (ts : Tokens) → first (closes Brace) ts ≡ true → first (is_mark (codes ";")) ts ≡ false
+pub closer_mark : (ts : Tokens) → first (closes Brace) ts ≡ true → first (is_mark (codes ";")) ts ≡ false
 closer_mark [] h = absurd (cc h)
 closer_mark (t ∷ ts) h = rw (closer_kind Brace t.kind h) refl
 
 -- Nothing more stands before a `}`.
-closer_last : (ts : Tokens) → first (closes Brace) ts ≡ true → more_items ts ≡ false
+pub closer_last : (ts : Tokens) → first (closes Brace) ts ≡ true → more_items ts ≡ false
 closer_last [] h = absurd (cc h)
 closer_last (t ∷ ts) h = rw h refl
+
+-- The greater of two is within what both are within.
+pub most_within : (a b n : ℕ) → a ≤ n → b ≤ n → max a b ≤ n
+most_within a b n h g = omega (arith, h, g)
+
+never : (A : Type 0) → false ≡ true → A
+never A h = absurd (cc h)
 
 -- ---- what is held of statements
 
@@ -92,7 +100,7 @@ stmt_told : (budget : ℕ) (X F : StmtFacts) (n : ℕ) (ts rest : Tokens) → X 
 stmt_told budget X F n ts rest e s = subst (λ (z : StmtFacts). IsStmt budget z n ts rest) (sym e) s
 
 -- What lacks its `;` and is bare is told of statements alike.
-bare_unended : (s : Stmt) → (about_stmt s).bare ≡ true → (about_stmt s).unended ≡ true
+pub bare_unended : (s : Stmt) → (about_stmt s).bare ≡ true → (about_stmt s).unended ≡ true
 bare_unended s = by s (stmt_view s)
   where
     last : (a b : Bool) → (a && b) ≡ true → b ≡ true
@@ -233,10 +241,10 @@ module _ (budget : ℕ) (within : ExprWithin) (sound : SoundExprWithin budget wi
               let g4 = and_from (are_attrs false attrs && pat_good Single (about_pat pat) && may_be_type ty && value_placed told)
               (else_good told told_block) g3 (else_good_is value block g.0 bs.0.2) in
               let there : IsStmt budget F most ts c.0 = record {
-                need = omega (arith, ps.0.0, ys.0.0, vs.0.0, bs.0.0);
+                need = most_within _ _ budget ps.0.0 (most_within _ _ budget ys.0.0 (most_within _ _ budget vs.0.0 bs.0.0));
                 form = led (Piece (keyword (codes "let") ∷ Blank ∷ []) (Part P (let_type ty behind))) most c.0 whole;
                 good = g4;
-                last = λ u. absurd (cc u);
+                last = never (first (is_mark (codes ";")) c.0 ≡ false);
               } in
               same_some (Out (StmtHeld budget) ts) ((stmt.Let attrs pat ty value block, most), c.0) (x, rest) g.1 (
                 stmt_told budget (about_stmt (stmt.Let attrs pat ty value block)) F most ts c.0 (stmt_let_is attrs pat ty value block) there,
@@ -268,7 +276,7 @@ module _ (budget : ℕ) (within : ExprWithin) (sound : SoundExprWithin budget wi
           | inl g ↦
               let mark = mark_one (codes ";") mid g.0 in
               same_some (Out (StmtHeld budget) ts) ((stmt.Expr attrs y.0.0.0 true, need), tail mid) (x, rest) g.1 (
-                held true (tail mid) (bit_piece (Fixed kind.Punct (codes ";")) need mid (tail mid) mark) (λ u. absurd (cc u)),
+                held true (tail mid) (bit_piece (Fixed kind.Punct (codes ";")) need mid (tail mid) mark) (never (first (is_mark (codes ";")) (tail mid) ≡ false)),
                 bit_texts (Fixed kind.Punct (codes ";")) mid (tail mid) mark s.1,
               )
           | inr g ↦
@@ -290,7 +298,7 @@ module _ (budget : ℕ) (within : ExprWithin) (sound : SoundExprWithin budget wi
               need = s.0.0;
               form = s.0.1.0;
               good = and_from (told.good Module) (not told.call) s.0.1.1 (ap not g.0);
-              last = λ u. absurd (cc u);
+              last = never (first (is_mark (codes ";")) i.0.1 ≡ false);
             } in
             same_some (Out (StmtHeld budget) ts) ((stmt.Item i.0.0.0, need), i.0.1) (x, rest) g.1
             (stmt_told budget (about_stmt (stmt.Item i.0.0.0)) F need ts i.0.1 (stmt_item_is i.0.0.0) there, s.1)
