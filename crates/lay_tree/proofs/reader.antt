@@ -17,6 +17,8 @@ pub mod ExprSoundLeads
 pub mod ExprSoundFirst
 pub mod ExprSoundLists
 pub mod ExprSoundHeads
+pub mod ExprSoundBlocks
+pub mod ArmsSoundBodies
 pub mod ExprSoundStructs
 pub mod ExprSoundPrefixes
 pub mod ExprSoundHead

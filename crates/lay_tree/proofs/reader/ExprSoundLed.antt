@@ -1,5 +1,6 @@
 -- What is read as an expression with blocks, or as a closure, begins with the lead that the tokens begin with.
 use Rattle.std.proofs.Common.{◌≡◌, ℕ, suc, max, Bool, true, false, List, [], ◌∷◌, drop, inl, inr, codes, Option, Some, None, if◌then◌else◌, refl, sym, ap, subst}
+use Rattle.std.specs.Prelude.{◌==◌}
 use Rattle.lay_token.specs.Operators.{is_op}
 use Rattle.lay_piece.specs.declared.kind.Delim.TheVariants.{Brace}
 use Rattle.lay_node.specs.Ahead.{Tokens, first, tail, closes, is_keyword, is_mark, more_items, opens}
@@ -11,6 +12,7 @@ use Rattle.lay_node.specs.declared.token.Lifetime.{Lifetime}
 use Rattle.lay_node.specs.declared.types.TypePlace.TheVariants.{NoBounds}
 use Rattle.lay_node.proofs.Steps.{same_some, chosen, bind_some}
 use Rattle.lay_tree.specs.Operands.{ExprLead, ByLabel, ByBrace, ByBlockWord, ByClosure}
+use Rattle.lay_tree.specs.Operators.{strength}
 use Rattle.lay_tree.specs.nodes.Code.{about_expr}
 use Rattle.lay_tree.specs.nodes.Exprs.{ExprFacts, label_or}
 use Rattle.lay_tree.specs.nodes.Places.{plain}
@@ -146,8 +148,12 @@ module _ (within : ExprWithin) where
             let t = bind_some (within.kinds.types NoBounds (drop 2 ps.0.1)) _ _ g.1 in
             let b = bind_some (block_by within t.0.1) _ _ t.2 in
             let made = expr.TypedClosure moves all t.0.0.0 b.0.0.0 in
-            same_some (Led ByClosure) ((made, suc (max need (max t.0.0.1 b.0.0.1))), b.0.1) r b.2
-            (led (expr_typed_closure_is moves all t.0.0.0 b.0.0.0))
+            elim (chosen (strength b.0.1 == 0) _ _ _ b.2) [
+              | inl f ↦
+                  same_some (Led ByClosure) ((made, suc (max need (max t.0.0.1 b.0.0.1))), b.0.1) r f.1
+                  (led (expr_typed_closure_is moves all t.0.0.0 b.0.0.0))
+              | inr f ↦ absurd (cc f.1)
+            ]
         | inr g ↦
             let x = bind_some (within.exprs (plain 0 no_struct) ps.0.1) _ _ g.1 in
             same_some (Led ByClosure) ((expr.Closure moves all x.0.0.0, suc (max need x.0.0.1)), x.0.1) r x.2
