@@ -1,6 +1,7 @@
 -- The readers, a family a file: what is read stands at the front of the tokens, and what stands there is read.
 pub mod ItemBodies
 pub mod ItemSound
+pub mod ItemFunction
 pub mod ItemLeads
 pub mod ItemReads
 pub mod ItemKinds
@@ -19,6 +20,8 @@ pub mod ExprSoundLists
 pub mod ExprSoundHeads
 pub mod ExprSoundBlocks
 pub mod ArmsSoundBodies
+pub mod ArmsSound
+pub mod ExprSoundClosures
 pub mod ExprSoundStructs
 pub mod ExprSoundPrefixes
 pub mod ExprSoundHead
@@ -27,6 +30,7 @@ pub mod ExprSoundSteps
 pub mod ExprSoundOperands
 pub mod ExprSoundStages
 pub mod ExprSound
+pub mod CodeSound
 pub mod ExprHeads
 pub mod ExprLeads
 pub mod ExprFronts
