@@ -129,8 +129,7 @@ module _ (budget : ℕ) (within : ExprWithin) (sound : SoundExprWithin budget wi
       (λ b y mid e.
       let at = drop 1 ts in
       let o : IsOperator (codes ":") ts at = (b, refl) in
-      let s = sound.kinds.types Bounds at y mid (bit_texts (Operator (codes ":")) ts at o t) e in
-      (
+      let s = sound.kinds.types Bounds at y mid (bit_texts (Operator (codes ":")) ts at o t) e in (
         (
           s.0.0,
           (λ f depth end le r. (at, (at, o, (at, refl, refl)), (mid, raise (about_type y.0).told.form y.1 depth at mid le s.0.1, r))),
