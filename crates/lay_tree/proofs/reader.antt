@@ -1,6 +1,7 @@
 -- The readers, a family a file: what is read stands at the front of the tokens, and what stands there is read.
 pub mod ItemBodies
 pub mod ItemSound
+pub mod ItemFunction
 pub mod ItemLeads
 pub mod ItemReads
 pub mod ItemKinds
@@ -10,10 +11,17 @@ pub mod ItemExact
 pub mod File
 pub mod ExprSoundLevel
 pub mod ExprReads
+pub mod BlocksSound
+pub mod BlocksSoundWhole
+pub mod ExprSoundLed
 pub mod ExprSoundLeads
 pub mod ExprSoundFirst
 pub mod ExprSoundLists
 pub mod ExprSoundHeads
+pub mod ExprSoundBlocks
+pub mod ArmsSoundBodies
+pub mod ArmsSound
+pub mod ExprSoundClosures
 pub mod ExprSoundStructs
 pub mod ExprSoundPrefixes
 pub mod ExprSoundHead
@@ -22,6 +30,7 @@ pub mod ExprSoundSteps
 pub mod ExprSoundOperands
 pub mod ExprSoundStages
 pub mod ExprSound
+pub mod CodeSound
 pub mod ExprHeads
 pub mod ExprLeads
 pub mod BlockForms

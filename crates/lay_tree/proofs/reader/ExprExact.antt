@@ -9,7 +9,7 @@ use Rattle.lay_tree.specs.reader.Code.{expr_at}
 use Rattle.lay_tree.specs.declared.exprs.Expr.{Expr}
 use Rattle.lay_tree.specs.declared.exprs.Place.{Place}
 use Rattle.lay_tree.proofs.reader.ExprComplete.{expr_read}
-use Rattle.lay_tree.proofs.reader.ExprSound.{exprs_stand}
+use Rattle.lay_tree.proofs.reader.CodeSound.{exprs_stand}
 
 -- What is read stands there, and what stands there is read.
 pub exprs_exact : (place : Place) → Exact (expr_at place) (λ (x : Expr). ExprFront place (about_expr x))
