@@ -10,6 +10,10 @@ pub mod ItemExact
 pub mod File
 pub mod ExprSoundLevel
 pub mod ExprReads
+pub mod BlockReads
+pub mod PatternEnds
+pub mod StmtsComplete
+pub mod BlocksComplete
 pub mod ExprSoundLeads
 pub mod ExprSoundFirst
 pub mod ExprSoundLists
