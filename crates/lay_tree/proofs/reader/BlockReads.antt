@@ -7,10 +7,13 @@ use Rattle.lay_piece.specs.declared.kind.Kind.TheVariants.{Closer}
 use Rattle.lay_token.specs.Operators.{is_op}
 use Rattle.lay_form.specs.Spelled.{IsOne, Spells}
 use Rattle.lay_node.specs.Ahead.{Tokens, first, is_keyword, is_mark, more_items}
+use Rattle.lay_node.specs.nodes.Patterns.{about_pat, pat_form, pat_good}
 use Rattle.lay_node.specs.reader.Attr.{attributes, begins_attr}
 use Rattle.lay_node.specs.reader.Words.{name}
 use Rattle.lay_node.specs.declared.attr.Attr.{Attr}
 use Rattle.lay_node.specs.declared.heads.Site.TheVariants.{Module}
+use Rattle.lay_node.specs.declared.patterns.Pat.{Pat}
+use Rattle.lay_node.specs.declared.patterns.PatPlace.TheVariants.{Alternatives}
 use Rattle.lay_node.proofs.Fronts.{one_front, one_no_op}
 use Rattle.lay_node.proofs.Parts.{GoodAt}
 use Rattle.lay_tree.specs.Operators.{is_dot_or_try}
@@ -25,6 +28,7 @@ use Rattle.lay_tree.specs.declared.blocks.Stmt.{Stmt}
 use Rattle.lay_tree.specs.declared.exprs.Expr.{Expr}
 use Rattle.lay_tree.specs.declared.exprs.Place.{Place}
 use Rattle.lay_tree.specs.declared.item.Item.{Item}
+use Rattle.lay_tree.proofs.reader.ExprQuiet.{ExprEnds}
 
 -- Nothing stands there that goes on with what ends in a block, no `;`, and no inner attribute.
 pub record Begun (ts : Tokens) : Type 0 where
@@ -78,6 +82,11 @@ pub record Fronts : Type 0 where
   pub leads : (x : Expr) (place : Place) (depth : ℕ) (ts rest : Tokens) → Spells (about_expr x).form depth ts rest → placed (about_expr x) place ≡ true
       → (expr_lead_at ts ≡ Some (about_expr x).lead) × (length rest < length ts)
   pub arms : (a : Arm) (last : Bool) (depth : ℕ) (ts rest : Tokens) → Spells ((about_arm a).form last) depth ts rest → (about_arm a).good ≡ true → ArmBegun ts rest
+  -- No attribute stands at the front of a pattern.
+  pub pats : (x : Pat) (depth : ℕ) (ts rest : Tokens) → Spells (pat_form Alternatives (about_pat x)) depth ts rest
+      → pat_good Alternatives (about_pat x) ≡ true → begins_attr false ts ≡ false
+  -- A `=>` ends an expression.
+  pub arrows : (ts : Tokens) → is_op (codes "=>") ts ≡ true → ExprEnds false ts
   -- An `else` may stand behind an expression that may precede one.
   pub elses : (x : Expr) (depth : ℕ) (ts rest : Tokens) → Spells (about_expr x).form depth ts rest → placed (about_expr x) FREE ≡ true
       → may_precede_else (about_expr x) ≡ true → first (is_keyword (codes "else")) rest ≡ true → follows (about_expr x) FREE rest ≡ true

@@ -185,7 +185,7 @@ semicolons_left (suc n) (t ∷ ts) rest s h =
     let more : behind_semicolons ts ≡ rest = rw o.2 (semicolons_left n s.0 rest s.2 h) in
     rw here more
 
-semicolons_less : (n : ℕ) (ts rest : Tokens) → AreSemicolons n ts rest → length rest ≤ length ts
+pub semicolons_less : (n : ℕ) (ts rest : Tokens) → AreSemicolons n ts rest → length rest ≤ length ts
 semicolons_less zero ts rest s = omega (arith, ap length s)
 semicolons_less (suc n) [] rest s = absurd s.1
 semicolons_less (suc n) (t ∷ ts) rest s = let o = s.1 in omega (arith, ap length o.2, semicolons_less n s.0 rest s.2)
