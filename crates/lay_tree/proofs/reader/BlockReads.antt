@@ -20,11 +20,12 @@ use Rattle.lay_tree.specs.Operators.{is_dot_or_try}
 use Rattle.lay_tree.specs.Operands.{expr_lead_at}
 use Rattle.lay_tree.specs.nodes.Blocks.{may_precede_else}
 use Rattle.lay_tree.specs.nodes.Code.{about_arm, about_expr, about_item, about_stmt, told_of_item}
-use Rattle.lay_tree.specs.nodes.Exprs.{follows, placed}
+use Rattle.lay_tree.specs.nodes.Exprs.{closure_param, follows, is_closure_param, placed}
 use Rattle.lay_tree.specs.nodes.Places.{FREE, statement}
 use Rattle.lay_tree.specs.reader.Blocks.{begins_item}
 use Rattle.lay_tree.specs.declared.blocks.Arm.{Arm}
 use Rattle.lay_tree.specs.declared.blocks.Stmt.{Stmt}
+use Rattle.lay_tree.specs.declared.exprs.ClosureParam.{ClosureParam}
 use Rattle.lay_tree.specs.declared.exprs.Expr.{Expr}
 use Rattle.lay_tree.specs.declared.exprs.Place.{Place}
 use Rattle.lay_tree.specs.declared.item.Item.{Item}
@@ -85,6 +86,12 @@ pub record Fronts : Type 0 where
   -- No attribute stands at the front of a pattern.
   pub pats : (x : Pat) (depth : ℕ) (ts rest : Tokens) → Spells (pat_form Alternatives (about_pat x)) depth ts rest
       → pat_good Alternatives (about_pat x) ≡ true → begins_attr false ts ≡ false
+  -- A parameter of a closure begins with no bar.
+  pub params : (p : ClosureParam) (depth : ℕ) (ts rest : Tokens) → Spells (closure_param p) depth ts rest → is_closure_param p ≡ true
+      → first (is_mark (codes "|")) ts ≡ false
+  -- An expression begins with no `->`.
+  pub bodies : (x : Expr) (place : Place) (depth : ℕ) (ts rest : Tokens) → Spells (about_expr x).form depth ts rest → placed (about_expr x) place ≡ true
+      → is_op (codes "->") ts ≡ false
   -- A `=>` ends an expression.
   pub arrows : (ts : Tokens) → is_op (codes "=>") ts ≡ true → ExprEnds false ts
   -- An `else` may stand behind an expression that may precede one.

@@ -195,7 +195,7 @@ semicolons_no_attr : (n : ℕ) (ts rest : Tokens) → AreSemicolons n ts rest �
 semicolons_no_attr zero ts rest s h = rw s h
 semicolons_no_attr (suc n) ts rest s h = rw (one_front Punct (codes ";") ts s.0 s.1).1 refl
 
-brace_ends : (ts rest : Tokens) → Closed Brace ts rest → more_items ts ≡ false
+pub brace_ends : (ts rest : Tokens) → Closed Brace ts rest → more_items ts ≡ false
 brace_ends ts rest o = rw (one_front (Closer Brace) (closing Brace ∷ []) ts rest o).1 refl
 
 -- nodes are read, each with its need, which together with the others' is within the depth
