@@ -14,6 +14,12 @@ pub mod ExprReads
 pub mod BlocksSound
 pub mod BlocksSoundWhole
 pub mod ExprSoundLed
+pub mod BlockReads
+pub mod PatternEnds
+pub mod StmtsComplete
+pub mod BlocksComplete
+pub mod BranchesComplete
+pub mod ArmsComplete
 pub mod ExprSoundLeads
 pub mod ExprSoundFirst
 pub mod ExprSoundLists
