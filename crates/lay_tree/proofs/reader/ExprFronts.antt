@@ -23,7 +23,7 @@ use Rattle.lay_node.proofs.Parts.{bit_alone}
 use Rattle.lay_node.proofs.reader.TypesBegins.{path_begins, call_begins}
 use Rattle.lay_tree.specs.Operands.{ExprLead, ByPath, ByUnderscore, ByParen, ByBracket, ByPrefix, ByRange, ByContinue, ByBreak, ByReturn, expr_lead_by, expr_lead_at}
 use Rattle.lay_tree.specs.Operators.{op_text, op_level}
-use Rattle.lay_tree.specs.nodes.Exprs.{ExprFacts, StepFacts, stands, placed, expr_forms, tuple_form, base_form, operands_form, types_form, prefix_bits, prefixes_form, end_form, targets_form, label_form, operand_form, level_of_chain, next_is_angle, is_chain_level, may_chain, operands_placed, targets_placed, end_placed, base_placed, first_step, is_tuple_index, is_dotted, are_steps, types_good, methods, steps_form, group_if, inside, lead_of, within_of, expr_facts, about_expr, about_field_expr, about_step}
+use Rattle.lay_tree.specs.nodes.Exprs.{ExprFacts, StepFacts, placed, expr_forms, tuple_form, base_form, operands_form, types_form, prefix_bits, prefixes_form, end_form, targets_form, label_form, operand_form, level_of_chain, next_is_angle, is_chain_level, may_chain, operands_placed, targets_placed, end_placed, base_placed, first_step, is_tuple_index, is_dotted, are_steps, types_good, methods, steps_form, group_if, inside, lead_of, within_of, expr_facts, about_expr, about_field_expr, about_step}
 use Rattle.lay_tree.specs.nodes.Places.{plain, begins, before_op}
 use Rattle.lay_tree.specs.declared.exprs.Expr.{Expr}
 use Rattle.lay_tree.specs.declared.exprs.Expr.TheOpen.{Expr-F}

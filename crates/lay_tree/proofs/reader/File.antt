@@ -11,7 +11,7 @@ use Rattle.lay_node.specs.nodes.Attr.{are_attrs, attr_form, about_attr}
 use Rattle.lay_node.specs.nodes.Facts.{forms, all_good}
 use Rattle.lay_node.specs.reader.Attr.{attribute, attributes, begins_attr, is_doc, meta_attr}
 use Rattle.lay_node.specs.reader.Exact.{InText}
-use Rattle.lay_node.specs.reader.Loops.{Got, ◌>>=◌, repeat, repeat_from}
+use Rattle.lay_node.specs.reader.Loops.{Got, repeat, repeat_from}
 use Rattle.lay_node.specs.declared.attr.Attr.{Attr}
 use Rattle.lay_node.specs.declared.heads.Site.TheVariants.{Module}
 use Rattle.lay_node.proofs.Fronts.{end_shorter, texts_behind}
@@ -23,7 +23,7 @@ use Rattle.lay_node.proofs.reader.Loops.{SoundStep}
 use Rattle.lay_tree.specs.Reading.{top, SpellsFile}
 use Rattle.lay_tree.specs.nodes.File.{form_of_file, is_normal}
 use Rattle.lay_tree.specs.nodes.Item.{about_item}
-use Rattle.lay_tree.specs.reader.File.{behind_one, longest_from, longest, top_item, front}
+use Rattle.lay_tree.specs.reader.File.{longest_from, longest, top_item, front}
 use Rattle.lay_token.specs.Operators.{op_at}
 use Rattle.lay_node.specs.reader.Tokens.{group}
 use Rattle.lay_node.specs.reader.Vis.{visibility}

@@ -1,10 +1,10 @@
 -- The longest run of nodes: what is read stands there, and a run that stands there is read as far as it goes.
-use Rattle.std.proofs.Common.{◌≡◌, ℕ, zero, suc, ◌<◌, ◌≤◌, List, [], ◌∷◌, ◌++◌, length, Some, None, refl, sym, ap, subst, ◌∙◌, append_assoc, append-nil, arith}
+use Rattle.std.proofs.Common.{◌≡◌, ℕ, zero, suc, ◌<◌, ◌≤◌, List, [], ◌∷◌, ◌++◌, length, Some, None, refl, sym, subst, append_assoc, append-nil, arith}
 use Rattle.lay_node.specs.Ahead.{Tokens}
 use Rattle.lay_node.specs.reader.Exact.{InText}
 use Rattle.lay_node.specs.reader.Loops.{Got}
 use Rattle.lay_node.proofs.Parts.{Rows}
-use Rattle.lay_node.proofs.Steps.{one_more, no_more}
+use Rattle.lay_node.proofs.Steps.{one_more}
 use Rattle.lay_node.proofs.reader.Loops.{SoundStep}
 use Rattle.lay_tree.specs.reader.File.{behind_one, longest_from, longest}
 
