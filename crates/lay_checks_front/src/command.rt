@@ -82,6 +82,8 @@ fn outcomes(rt: HostRuntime) -> Result<(), Fail> {
         --check q→(→(→ReadFailed→→read failed\n§\
         q→(→(→ReadFailed→→read failed\n";
     let refusals = "→structA;→(→Refused→→1:1: no item\n§\
+        →use a;struct B→(→Refused→→1:7: no item\n§\
+        →\u{feff}//!a\r\n#![b]\r\n  #![c d]→(→Refused→→3:3: no item\n§\
         →fn f( { )→(→Refused→→1:9: unbalanced delimiter\n§\
         →////x\n/***/struct A;/*/*x*/→(→Refused→→2:15: no token\n§\
         →\u{feff}////x\r\n/***/struct A;/*/*x*/→(→Refused→→2:15: no token\n§\

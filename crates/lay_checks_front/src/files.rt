@@ -6,6 +6,7 @@ use lay_given::{BETWEEN, parts, repeated};
 use lay_token::{List, NoMemory, Refusal};
 use std::alloc::Global;
 use std::process::Abort;
+use std::test::Fail;
 
 /// A text reads to a file whose text is the other one, and so does that.
 fn lays(rt: &impl Abort, alloc: Global, row: &str) {
@@ -38,6 +39,7 @@ fn files(rt: HostRuntime) {
         #[doc=\"/x\"]struct A;→#[doc = \"/x\"]\nstruct A;\n§\
         #![doc=\"/x\"]→//!/x\n§\
         //!a\n#[x]struct A;→//!a\n#[x]\nstruct A;\n§\
+        //!a\n#![b]/*!c*/→//!a\n#![b]\n//!c\n§\
         /** a\nb */struct A;→/** a\nb */\nstruct A;\n§\
         /** a\nb */mod c{/*! d\ne*/}→/** a\nb */\nmod c {\n    /*! d\ne*/\n}\n§\
         #[doc=\"a\\r\"]struct A;→#[doc = \"a\\r\"]\nstruct A;\n§\
@@ -151,61 +153,56 @@ fn answers(rt: &impl Abort, alloc: Global, given: &[u8], status: Status) {
     assert_eq!(rt; is_run(alloc, given, status, b""), Ok(true), "{status:?}");
 }
 
-/// None of these texts spells items.
-fn no_item(rt: &impl Abort, alloc: Global, texts: &str) {
+/// None of these texts is a file. An arrow in it stands where the longest run of inner attributes and items ends; without
+/// one nothing is read.
+fn no_item(rt: &impl Abort, alloc: Global, texts: &str) -> Result<(), NoMemory> {
     for text in texts.split(BETWEEN) {
-        let refused = Status::Refused(Refusal::NoItem { at: 0 });
-        assert_eq!(rt;
-            is_run(alloc, text.as_bytes(), refused, b""),
-            Ok(true),
-            "{text}"
-        );
+        let (before, behind) = match text.split_once('→') {
+            Some(both) => both,
+            None => ("", text),
+        };
+        let mut given = before.as_bytes().to_vec(alloc)?;
+        given.extend_from_slice(behind.as_bytes())?;
+        let refused = Status::Refused(Refusal::NoItem { at: before.len() });
+        assert!(rt; is_run(alloc, given.as_slice(), refused, b"")?, "{text}");
     }
+    Ok(())
+}
+
+// Where nothing is read of a text, and where something is.
+#[test]
+fn no_items(rt: HostRuntime) -> Result<(), Fail> {
+    let alloc = rt.alloc();
+    let heads =
+        "struct A§pub struct A§structA;§struct _;§struct fn;§/// x§#[x]§#[x]mod a{#[y]}§/// x\n//! y\nstruct A;";
+    let attributes =
+        "#[]struct A;§#[x=]struct A;§#[x==1]struct A;§#[x 1]struct A;§#[x()y]struct A;§#[fn]struct A;§#[a::]struct A;§\
+        #(x)struct A;§#![x y]struct A;§#![]";
+    let uses =
+        "use a as;§use a as crate;§use a as b::c;§use *::a;§use {a}::b;§use a::{,};§use a::{b,,c};§use a::;§use a: :b;§\
+        use a:::b;§use fn::a;";
+    let sites =
+        "fn a();§const A:B;§static A:B;§type A;§trait A{mod b;}§impl A{fn b();}§impl A{type B;}§extern{type A=B;}§\
+        extern{const A:B;}§pub m!();§pub macro_rules! m{}§struct A(pub(crate));§struct A(B)where C:D{}§union A;§enum A{B=}";
+    let macros = "m!()§m!§m{}§m!a{}§macro_rules! m()§macro_rules! fn{}§fn!{}";
+    // A module that isn't read is no item, whatever is read within it.
+    let behind =
+        "struct A;→struct B§struct A;→;§struct A;→//! x§struct A;→#![x]§struct A;→/// x§m!{}→;§r#m!{}→m![]§\
+        struct A;→fn f(){let x=1}§struct A;\n\n→structB;§mod a{}use b;m!();→struct C§\
+        use a;→mod b{struct C;struct}struct D;§use a;mod b{#[c]struct D;}→pub m!();use e;§\
+        #!/bin/x\nstruct \u{fc};→structB;";
+    let inner =
+        "#![x]→#![y z]§#![x]→#![y z]struct A;§//!a\n→#![b c]§//!a\n#![b]→struct C§//!a\n#![b]→#[c]§\
+        //!a\nstruct B;→//!c\nstruct D;§#![doc=\"a\"]//!b\n#[c]struct D;use e;→#[f]";
+    for texts in [heads, attributes, uses, sites, macros, behind, inner] {
+        no_item(&rt, alloc, texts)?;
+    }
+    Ok(())
 }
 
 #[test]
 fn refusals(rt: HostRuntime) {
     let alloc = rt.alloc();
-    no_item(
-        &rt,
-        alloc,
-        "struct A§struct A;struct B§pub struct A§structA;§struct _;§struct fn;§struct A;;§/// x§#[x]",
-    );
-    no_item(
-        &rt,
-        alloc,
-        "#[x]mod a{#[y]}§struct A;//! x§struct A;#![x]§/// x\n//! y\nstruct A;§#[]struct A;",
-    );
-    no_item(
-        &rt,
-        alloc,
-        "#[x=]struct A;§#[x==1]struct A;§#[x 1]struct A;§#[x()y]struct A;§#[fn]struct A;§#[a::]struct A;",
-    );
-    no_item(
-        &rt,
-        alloc,
-        "#(x)struct A;§use a as;§use a as crate;§use a as b::c;§use *::a;§use {a}::b;§use a::{,};",
-    );
-    no_item(
-        &rt,
-        alloc,
-        "use a::{b,,c};§use a::;§use a: :b;§use a:::b;§use fn::a;",
-    );
-    no_item(
-        &rt,
-        alloc,
-        "fn a();§const A:B;§static A:B;§type A;§trait A{mod b;}§impl A{fn b();}§impl A{type B;}§extern{type A=B;}",
-    );
-    no_item(
-        &rt,
-        alloc,
-        "extern{const A:B;}§pub m!();§pub macro_rules! m{}§struct A(pub(crate));§struct A(B)where C:D{}§union A;§enum A{B=}",
-    );
-    no_item(
-        &rt,
-        alloc,
-        "m!()§m!{};§m!§m{}§m!a{}§macro_rules! m()§macro_rules! fn{}§fn!{}§r#m!{}m![]",
-    );
     answers(
         &rt,
         alloc,

@@ -130,7 +130,7 @@ fn operands(rt: HostRuntime) -> Result<(), Fail> {
     no_value(
         &rt,
         alloc,
-        "S{a,,}§S{1.0:a}§S{..,}§S{..a,b}§S{self:1}§S{#[x]..a}§S<T>{}§[a;]§(,)§a::<b>::<c>§<a>§m!()a§<a>::m!()§await§'a§continue a§break'a'b",
+        "S{a,,}§S{1.0:a}§S{..,}§S{..a,b}§S{self:1}§S{#[x]..a}§S<T>{}§[a;]§(,)§a::<b>::<c>§<a>§m!()a§<a>::m!()§await§'a§continue a§break 'a 'b",
     )?;
     Ok(())
 }

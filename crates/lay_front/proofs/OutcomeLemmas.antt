@@ -12,7 +12,7 @@ use Rattle.lay_token.specs.declared.token.Token.{Token}
 use Rattle.lay_text.specs.declared.refusal.Refusal.{Refusal}
 use Rattle.lay_text.specs.declared.refusal.Refusal.TheVariants.{NotUtf8, NoToken, Unbalanced, NoItem}
 use Rattle.lay_tree.specs.Out.{out}
-use Rattle.lay_tree.specs.Reading.{Reads, IsRefused, SpellsFile}
+use Rattle.lay_tree.specs.Reading.{NoItemAt, Reads, IsRefused, SpellsFile}
 use Rattle.lay_tree.specs.declared.file.File.{File}
 use Rattle.lay_laws.proofs.file.OneAnswer.{same_source, same_tokens, one_file, one_refusal, never_both}
 use Rattle.lay_laws.proofs.file.Reparse.{again}
@@ -44,13 +44,6 @@ pub wrote : (bytes : List ℕ) (before now : Option (List ℕ)) (file : File) �
 wrote bytes before now file reads grew =
     let back = again bytes file reads.reads in
     record { file = file; reads = reads; grew = grew; back = record { reads = back; only = λ other. one_file (out file) file other back } }
-
--- Bytes whose tokens spell no file read to none.
-pub read_none : (bytes : List ℕ) (from : Source) (tokens : List Token) → source bytes ≡ Ok from → Lexes from.text from.start tokens
-    → ((file : File) → file.shebang ≡ from.shebang → SpellsFile file tokens → ⊥) → (file : File) → Reads bytes file → ⊥
-read_none bytes from tokens e lexes none file r =
-    none file (sym r.shebang ∙ ap (λ (s : Source). s.shebang) (same_source bytes r.from from r.text e))
-    (subst (SpellsFile file) (same_tokens bytes r.from from r.tokens tokens r.text e r.lexes lexes) r.spells)
 
 -- ---- why and where bytes are refused
 
@@ -109,11 +102,8 @@ pub read_no_file : (bytes : List ℕ) (from : Source) (tokens nested : List Toke
 read_no_file bytes from tokens nested (error.Refused (NotUtf8 at)) e lexes same balanced h = absurd h
 read_no_file bytes from tokens nested (error.Refused (NoToken at)) e lexes same balanced h = absurd h
 read_no_file bytes from tokens nested (error.Refused (Unbalanced at)) e lexes same balanced h = absurd h
-read_no_file bytes from tokens nested (error.Refused (NoItem at)) e lexes same balanced h = (
-  h.0,
-  record { from = from; tokens = tokens; text = e; lexes = lexes; balanced = balanced },
-  read_none bytes from tokens e lexes (λ file line s. h.1 file line (subst (SpellsFile file) (sym same) s)),
-)
+read_no_file bytes from tokens nested (error.Refused (NoItem at)) e lexes same balanced h =
+    (from, tokens, e, lexes, balanced, subst (λ (ts : List Token). NoItemAt ts at) same h)
 read_no_file bytes from tokens nested error.NoMemory e lexes same balanced h = tt
 
 -- ---- a call that formats bytes

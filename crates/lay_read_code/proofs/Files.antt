@@ -1,27 +1,105 @@
--- Files: what is read is spelled, and what is spelled is read.
-use Rattle.std.proofs.Common.{◌≡◌, ℕ, List, [], Option, Some, None, refl, IsTrue}
+-- Files: the longest run of inner attributes and items is what the tokens spell.
+use Rattle.std.proofs.Common.{◌≡◌, ℕ, ◌+◌, ◌≤◌, true, List, [], ◌∷◌, ◌++◌, length, take, drop, Option, Some, None, Bor, option_copied, slice_get, refl, sym, ap, subst, ◌∙◌, IsTrue, arith, append_assoc, length-append, length-drop}
+use Rattle.std.proofs.Math.Seq.{drop-append_seam}
+use Rattle.std.proofs.lemmas.List.{take-append-drop}
+use Rattle.lay_token.specs.Lexes.{Lexes}
 use Rattle.lay_token.specs.declared.token.Token.{Token}
+use Rattle.lay_form.specs.Spelled.{Spells}
+use Rattle.lay_form.proofs.FormLaws.{is_end}
+use Rattle.lay_node.specs.reader.Attr.{attribute}
 use Rattle.lay_node.specs.declared.attr.Attr.{Attr}
 use Rattle.lay_node.proofs.Pieces.{pieces_spelled}
-use Rattle.lay_tree.specs.Reading.{SpellsFile, top}
-use Rattle.lay_tree.specs.Written.{is_good_shebang}
+use Rattle.lay_tree.specs.Reading.{NoItemAt, SpellsFile, SpellsFront, top}
+use Rattle.lay_tree.specs.Written.{Written, is_good_shebang}
 use Rattle.lay_tree.specs.nodes.File.{form_of_file}
-use Rattle.lay_tree.specs.reader.File.{whole}
+use Rattle.lay_tree.specs.reader.File.{front}
 use Rattle.lay_tree.specs.declared.file.File.{File}
 use Rattle.lay_tree.specs.declared.item.Item.{Item}
-use Rattle.lay_tree.proofs.reader.File.{whole_sound, whole_complete}
+use Rattle.lay_tree.proofs.reader.File.{front_sound, front_longest}
 use Rattle.lay_read_tokens.specs.Answers.{AreLexed}
+use Rattle.lay_read_tokens.proofs.Left.{attribute_left, left_by}
 use Rattle.lay_read_tokens.proofs.Lexed.{lexed_in_text, lexed_texts}
 
+module _ (tokens : List Token) (l : AreLexed tokens) (attrs : List Attr) (items : List Item) (left : List Token)
+    (e : front tokens ≡ ((attrs, items), left)) where
+  -- The run that is read is spelled, as a file that can be written behind any good shebang.
+  front_spelled : (shebang : Option (List ℕ)) → IsTrue (is_good_shebang shebang)
+      → (let file : File = record { shebang = shebang; attrs = attrs; items = items } in Written file × Spells (form_of_file file) top tokens left)
+  front_spelled shebang good =
+      let file : File = record { shebang = shebang; attrs = attrs; items = items } in
+      let read = ap (λ (run : (List Attr × List Item) × List Token). run.0) e in
+      let sound = front_sound tokens (lexed_in_text tokens l) file (sym (ap (λ (run : List Attr × List Item). run.0) read))
+      (sym (ap (λ (run : List Attr × List Item). run.1) read)) in
+      let spelled : Spells (form_of_file file) top tokens left =
+      subst (λ (us : List Token). Spells (form_of_file file) top tokens us) (ap (λ (run : (List Attr × List Item) × List Token). run.1) e) sound.0 in
+      let pieces = pieces_spelled (form_of_file file) top tokens left (lexed_texts tokens l) spelled in
+      (record { shebang = good; normal = sound.1; pieces = pieces }, spelled)
+
+  -- A run that is spelled is no longer than the one that is read.
+  none_longer : (more : ℕ) → SpellsFront more tokens → more + length left ≤ length tokens
+  none_longer more f =
+      let file = f.1 in
+      let least = front_longest file.0 tokens (drop more tokens) (lexed_in_text tokens l) file.2 file.1.normal in
+      omega (arith, least, f.0, length-drop more tokens, ap (λ (run : (List Attr × List Item) × List Token). length run.1) e)
+
+-- Where nothing is left behind the run, it is a file.
 pub file_spelled : (tokens : List Token) (shebang : Option (List ℕ)) (attrs : List Attr) (items : List Item)
     → AreLexed tokens → IsTrue (is_good_shebang shebang)
-    → whole tokens ≡ Some (attrs, items) → SpellsFile (record { shebang = shebang; attrs = attrs; items = items })
-    tokens
-file_spelled tokens shebang attrs items l good h =
-    let file : File = record { shebang = shebang; attrs = attrs; items = items } in
-    let sound = whole_sound tokens attrs items (lexed_in_text tokens l) h file refl refl in
-    let pieces = pieces_spelled (form_of_file file) top tokens [] (lexed_texts tokens l) sound.0 in
-    (record { shebang = good; normal = sound.1; pieces = pieces }, sound.0)
+    → front tokens ≡ ((attrs, items), []) → SpellsFile (record { shebang = shebang; attrs = attrs; items = items }) tokens
+file_spelled tokens shebang attrs items l good e = front_spelled tokens l attrs items [] e shebang good
 
-pub nothing_spelled : (tokens : List Token) (file : File) → whole tokens ≡ None → SpellsFile file tokens → ⊥
-nothing_spelled tokens file h s = let found = whole_complete file tokens s.1 s.0.normal in absurd (cc)
+-- Where a token is left behind it, no item begins there.
+pub no_item : (tokens : List Token) (attrs : List Attr) (items : List Item) (token : Token) (rest : List Token)
+    → AreLexed tokens → front tokens ≡ ((attrs, items), token ∷ rest) → NoItemAt tokens token.at
+no_item tokens attrs items token rest l e =
+    let file : File = record { shebang = None; attrs = attrs; items = items } in
+    let run = front_spelled tokens l attrs items (token ∷ rest) e None refl in
+    let end = is_end (form_of_file file) top tokens (token ∷ rest) run.1 in
+    let count = length end.before in
+    let behind : drop count tokens ≡ token ∷ rest = ap (drop count) end.whole ∙ drop-append_seam end.before (token ∷ rest) in
+    let all = ap length end.whole ∙ length-append end.before (token ∷ rest) in
+    let within : count ≤ length tokens = omega (arith, all) in
+    let spelled = subst (λ (us : List Token). Spells (form_of_file file) top tokens us) (sym behind) run.1 in
+    record {
+      count = count;
+      token = token;
+      rest = rest;
+      behind = behind;
+      place = refl;
+      front = (within, (file, run.0, spelled));
+      longest = λ more less f. omega (arith, less, all, none_longer tokens l attrs items (token ∷ rest) e more f);
+    }
+
+-- Tokens that are parted stand in the same row.
+parted : (before ts after : List Token) (n : ℕ) → before ++ take n ts ++ drop n ts ++ after ≡ before ++ ts ++ after
+parted before ts after n = rw (append_assoc before (take n ts) (drop n ts), take-append-drop n ts) refl
+
+-- What stands behind tokens of a text stands in it too.
+lexed_behind : (n : ℕ) (ts : List Token) → AreLexed ts → AreLexed (drop n ts)
+lexed_behind n ts l = record {
+  bytes = l.bytes;
+  start = l.start;
+  before = l.before ++ take n ts;
+  after = l.after;
+  utf8 = l.utf8;
+  lexes = subst (λ us. Lexes l.bytes l.start us) (sym (parted l.before ts l.after n)) l.lexes;
+}
+
+-- so do those behind an attribute
+pub lexed_attr : (ts : List Token) (a : Attr) (rest : List Token) → AreLexed ts → attribute true ts ≡ Some (a, rest) → AreLexed rest
+lexed_attr ts a rest l e =
+    let left = left_by 1 ts (attribute true ts) a rest (attribute_left true ts) e in
+    subst AreLexed (sym left.dropped) (lexed_behind left.count ts l)
+
+-- ---- the token at which the run ends
+
+pub none_ahead : (ts : List Token) (o : Option (Bor Token)) → option_copied o ≡ slice_get ts 0 → o ≡ None → ts ≡ []
+none_ahead [] o e h = refl
+none_ahead (t ∷ ts) None e h = absurd (cc)
+none_ahead (t ∷ ts) (Some b) e h = absurd (cc)
+
+pub one_ahead : (ts : List Token) (o : Option (Bor Token)) (b : Bor Token) → option_copied o ≡ slice_get ts 0 → o ≡ Some b
+    → (rest : List Token) × (ts ≡ b.now ∷ rest)
+one_ahead ts None b e h = absurd (cc)
+one_ahead [] (Some a) b e h = absurd (cc)
+one_ahead (t ∷ ts) (Some a) b e h = let same : t ≡ b.now = cc in (ts, rw same refl)

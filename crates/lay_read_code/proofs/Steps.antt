@@ -1,5 +1,5 @@
 -- One step of a reader, from what the readers within it give.
-use Rattle.std.proofs.Common.{◌≡◌, ℕ, ◌+◌, ◌-◌, ◌<◌, ◌||◌, add-one, Bool, true, false, List, Some, None, Result, Ok, Err, MatchResult, refl, sym, subst, ◌∙◌, ap, if◌then◌else◌, is_some}
+use Rattle.std.proofs.Common.{◌≡◌, ℕ, ◌+◌, ◌-◌, ◌<◌, ◌||◌, add-one, Bool, true, false, List, Some, None, Result, Ok, Err, MatchResult, refl, sym, subst, ◌∙◌, ap, if◌then◌else◌, is_some, suc, arith}
 use Rattle.lay_node.specs.Ahead.{Tokens}
 use Rattle.lay_node.specs.reader.Attr.{attributes}
 use Rattle.lay_node.specs.reader.Loops.{Read}
@@ -7,10 +7,12 @@ use Rattle.lay_node.specs.declared.attr.Attr.{Attr}
 use Rattle.lay_node.specs.reader.Vis.{visibility}
 use Rattle.lay_node.specs.declared.heads.Site.{Site}
 use Rattle.lay_node.specs.declared.vis.Vis.{Vis}
+use Rattle.lay_tree.specs.reader.Exprs.{expr_at, expr_by, expr_in}
 use Rattle.lay_tree.specs.reader.Item.{item_at, item_by, kind_at}
 use Rattle.lay_tree.specs.nodes.Item.{is_inherited, told_of_kind}
 use Rattle.lay_tree.proofs.nodes.ItemLaws as laws
 use Rattle.lay_tree.proofs.nodes.ItemLaws.{KindView, IsExternCrate, IsImport, IsFileModule, IsModule, IsFunction, IsAlias, IsStruct, IsUnion, IsEnum, IsValue, IsTrait, IsImpl, IsForeign, IsRules, IsCall}
+use Rattle.lay_tree.specs.declared.exprs.Place.{Place}
 use Rattle.lay_tree.specs.declared.item.Item.{Item}
 use Rattle.lay_tree.specs.declared.item.ItemKind.{ItemKind}
 use Rattle.lay_read_tokens.specs.Answers.{IsFound, Stopped}
@@ -20,6 +22,8 @@ use Rattle.lay_read_tokens.specs.declared.stop.ReadNone.TheVariants.{NoReading}
 use Rattle.lay_read_code.specs.Answers.{has_head}
 use Rattle.lay_read_code.specs.Begun.{deeper as within_depth}
 use Rattle.lay_head_rules.proofs.UseSteps.{deeper}
+use Rattle.lay_read_types.proofs.Steps.{above_zero}
+use Rattle.lay_read_exprs.specs.Answers.{exprs_within}
 
 -- ---- what was found behind something else
 
@@ -99,3 +103,13 @@ module _ (at : Site) (depth : ℕ) (ts : Tokens) where
               → r ≡ (if keeps then Ok Made else Err NoReading) → IsFound (item_at at depth ts) r rest
           item_kept keeps e r h =
               subst (λ x. IsFound (item_at at depth ts) x rest) (sym h) (kept_by keeps (e ∙ ap (λ b. b || is_inherited vis) (headed_is kind)))
+
+-- ---- expressions
+
+-- An expression within a depth that is no zero is read by the rules of the level.
+pub expr_deeper : (place : Place) (n : ℕ) (ts : Tokens) → 0 < n
+    → expr_at place n ts ≡ expr_by (exprs_within (n - 1)) (n - 1 + 1) place ts
+unfolding expr_in
+expr_deeper place n ts some =
+    let e : n - 1 + 1 ≡ suc (n - 1) = omega arith in
+    above_zero (λ (k : ℕ). expr_at place k ts) n some ∙ ap (λ (k : ℕ). expr_by (exprs_within (n - 1)) k place ts) (sym e)

@@ -1,26 +1,32 @@
 -- What readers answer.
-use Rattle.std.specs.Prelude.{ℕ, ◌≡◌, Bool, true, false, List, Option, Some, Result, Ok, Err}
+use Rattle.std.specs.Prelude.{ℕ, ◌≡◌, Bool, true, false, List, Option, Some, None, Result, Ok, Err}
 use Rattle.lay_text.specs.declared.refusal.FormatError.{FormatError}
 use Rattle.lay_text.specs.declared.refusal.FormatError.TheVariants as format
+use Rattle.lay_text.specs.declared.refusal.NoMemory.{NoMemory}
 use Rattle.lay_text.specs.declared.refusal.Refusal.TheVariants.{NoItem}
 use Rattle.lay_token.specs.declared.token.Token.{Token}
-use Rattle.lay_tree.specs.Reading.{SpellsFile}
+use Rattle.lay_node.specs.Ahead.{Tokens}
+use Rattle.lay_node.specs.reader.Loops.{Got}
+use Rattle.lay_tree.specs.Reading.{NoItemAt, SpellsFile}
 use Rattle.lay_tree.specs.declared.file.File.{File}
 use Rattle.lay_tree.specs.declared.item.ItemKind.{ItemKind}
 use Rattle.lay_tree.specs.declared.item.ItemKind.TheVariants as item
-use Rattle.lay_read_tokens.specs.Answers.{Stopped}
-use Rattle.lay_read_tokens.specs.declared.stop.ReadNone.{ReadNone}
 
--- The answer is what there is.
-abbrev pub IsWhole : {A : Type 0} → Option A → Result A ReadNone → Type 0
-IsWhole whole (Ok a) = whole ≡ Some a
-IsWhole whole (Err none) = Stopped whole none
+-- What was read one by one, and what is left, is this run; memory may always be wanting.
+abbrev pub IsRun : {A : Type 0} → A × Tokens → Result A NoMemory → Tokens → Type 0
+IsRun run (Ok found) left = run ≡ (found, left)
+IsRun run (Err none) left = Unit {0}
+
+-- What stands next was read, or there is none, and the place stays.
+abbrev pub IsNext : {A : Type 0} → Got A → Result (Option A) NoMemory → Tokens → Tokens → Type 0
+IsNext got (Ok (Some a)) ahead left = got ≡ Some (a, left)
+IsNext got (Ok None) ahead left = (got ≡ None) × (left ≡ ahead)
+IsNext got (Err none) ahead left = Unit {0}
 
 -- What a reader of files answers; memory may always be wanting.
 abbrev pub FileAs : List Token → Option (List ℕ) → Result File FormatError → Type 0
 FileAs tokens shebang (Ok file) = (file.shebang ≡ shebang) × SpellsFile file tokens
-FileAs tokens shebang (Err (format.Refused (NoItem at))) =
-    (at ≡ 0) × ((file : File) → file.shebang ≡ shebang → SpellsFile file tokens → ⊥)
+FileAs tokens shebang (Err (format.Refused (NoItem at))) = NoItemAt tokens at
 FileAs tokens shebang (Err (format.Refused refusal)) = ⊥
 FileAs tokens shebang (Err format.NoMemory) = Unit {0}
 

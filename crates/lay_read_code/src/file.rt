@@ -1,22 +1,23 @@
 //! Files.
-ghost use Rattle.std.specs.Prelude.{IsTrue};
+ghost use Rattle.std.specs.Prelude.{◌≡◌, ◌++◌, ◌∷◌, [], IsTrue, OnOk, true};
+ghost use Rattle.lay_node.specs.reader.Attr.{attribute};
 ghost use Rattle.lay_tree.specs.Written.{is_good_shebang};
-ghost use Rattle.lay_tree.specs.reader.File.{whole};
+ghost use Rattle.lay_tree.specs.reader.File.{front, longest, top_item};
 ghost use Rattle.lay_read_tokens.specs.Answers.{AreLexed};
-ghost use Rattle.lay_read_code.specs.Answers.{FileAs, IsWhole};
+ghost use Rattle.lay_read_code.specs.Answers.{FileAs, IsNext, IsRun};
 
-use crate::items::read_items;
-use lay_nest::Nested;
-use lay_read_tokens::attributes::attrs_ahead;
-use lay_read_tokens::{Ahead, ReadNone};
-use lay_token::{FormatError, List, Refusal, Text};
+use crate::items::item_ahead;
+use lay_nest::{Cursor, Nested};
+use lay_read_tokens::{Ahead, ReadNone, read_attr};
+use lay_token::{FormatError, List, NoMemory, Refusal, Text};
 use lay_tree::{Attr, File, Item, Site};
 use std::alloc::Global;
 
 /// The items of a file stand at this depth, and those within another item one lower. At 0 nothing is read.
 const DEPTH: u32 = 256;
 
-/// The one file that the tokens spell behind this shebang, or the refusal where they spell none.
+/// The one file that the tokens spell behind this shebang, or the refusal where they spell none: at the token before
+/// which the longest run of inner attributes and then items ends.
 ///
 /// The tokens are those that some text lexes to, and the shebang, if there is one, is given back whole where it
 /// stands alone as the first line.
@@ -25,28 +26,90 @@ pub fn read_file(alloc: Global, nested: &Nested, shebang: Option<Text>) -> Resul
     requires good { IsTrue (is_good_shebang shebang) }
     ensures { FileAs nested.now shebang result }
 {
-    let mut at = Ahead::new(nested.cursor());
-    match read_whole(alloc, &mut at) {
-        Ok((attrs, items)) => Ok(File {
-            shebang,
-            attrs,
-            items,
-        }),
-        Err(ReadNone::NoReading) => Err(FormatError::Refused(Refusal::NoItem { at: 0 })),
-        Err(ReadNone::NoMemory) => Err(FormatError::NoMemory),
+    let mut at = nested.cursor();
+    match read_front(alloc, &mut at) {
+        Ok((attrs, items)) => match at.peek(0) {
+            Some(token) => Err(FormatError::Refused(Refusal::NoItem { at: token.at })),
+            None => Ok(File {
+                shebang,
+                attrs,
+                items,
+            }),
+        },
+        Err(NoMemory) => Err(FormatError::NoMemory),
     }
 }
 
-/// Inner attributes and items, and behind them no token.
-#[tactic(auto, unfolding(lay_tree::specs::reader::File::whole))]
-fn read_whole(alloc: Global, at: &mut Ahead<'_>) -> Result<(List<Attr>, List<Item>), ReadNone>
-    ensures { IsWhole (whole at.old) result }
+/// Inner attributes and then items, one by one, as long as they are read.
+fn read_front(alloc: Global, at: &mut Cursor<'_>) -> Result<(List<Attr>, List<Item>), NoMemory>
+    requires { AreLexed at.old }
+    ensures { IsRun (front at.old) result at.new }
 {
-    let attrs = attrs_ahead(alloc, at, true)?;
-    let items = read_items(alloc, at, Site::Module, DEPTH)?;
-    if at.is_end() {
-        Ok((attrs, items.node))
-    } else {
-        Err(ReadNone::NoReading)
+    let attrs = inner_attrs(alloc, at)?;
+    let mut ahead = Ahead::new(at.fork());
+    let items = top_items(alloc, &mut ahead)?;
+    *at = ahead.into_cursor();
+    Ok((attrs, items))
+}
+
+/// Inner attributes, as long as one is read.
+fn inner_attrs(alloc: Global, at: &mut Cursor<'_>) -> Result<List<Attr>, NoMemory>
+    requires { AreLexed at.old }
+    ensures run { IsRun (longest (attribute true) at.old) result at.new }
+    ensures lexed { AreLexed at.new }
+{
+    let mut attrs = List::new(alloc);
+    while let Some(attr) = next_attr(alloc, at)? {
+        hold(&mut attrs, attr)?;
+    }
+    Ok(attrs)
+}
+
+/// The inner attribute at the front, or none. Where there is none the cursor stays.
+fn next_attr(alloc: Global, at: &mut Cursor<'_>) -> Result<Option<Attr>, NoMemory>
+    requires { AreLexed at.old }
+    ensures next { IsNext (attribute true at.old) result at.old at.new }
+    ensures lexed { AreLexed at.new }
+{
+    match read_attr(alloc, at, true) {
+        Ok(attr) => Ok(Some(attr)),
+        Err(ReadNone::NoReading) => Ok(None),
+        Err(ReadNone::NoMemory) => Err(NoMemory),
+    }
+}
+
+/// Items of a file, as long as one is read.
+fn top_items(alloc: Global, at: &mut Ahead<'_>) -> Result<List<Item>, NoMemory>
+    ensures { IsRun (longest top_item at.old) result at.new }
+{
+    let mut items = List::new(alloc);
+    while let Some(item) = next_item(alloc, at)? {
+        hold(&mut items, item)?;
+    }
+    Ok(items)
+}
+
+/// The item of a file at the front, or none. Where there is none the place stays.
+fn next_item(alloc: Global, at: &mut Ahead<'_>) -> Result<Option<Item>, NoMemory>
+    ensures { IsNext (top_item at.old) result at.old at.new }
+{
+    let mut behind = at.fork();
+    match item_ahead(alloc, &mut behind, Site::Module, DEPTH) {
+        Ok(found) => {
+            *at = behind;
+            Ok(Some(found.node))
+        }
+        Err(ReadNone::NoReading) => Ok(None),
+        Err(ReadNone::NoMemory) => Err(NoMemory),
+    }
+}
+
+/// Adds a node at the end.
+fn hold<T: Drop>(list: &mut List<T>, node: T) -> Result<(), NoMemory>
+    ensures { OnOk result (list.new ≡ list.old ++ node ∷ []) }
+{
+    match list.push(node) {
+        Ok(()) => Ok(()),
+        Err(_) => Err(NoMemory),
     }
 }

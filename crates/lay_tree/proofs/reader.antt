@@ -8,6 +8,7 @@ pub mod ItemKinds
 pub mod Item
 pub mod ItemRead
 pub mod ItemExact
+pub mod Longest
 pub mod File
 pub mod ExprSoundLevel
 pub mod ExprReads

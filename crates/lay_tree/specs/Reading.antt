@@ -1,5 +1,5 @@
 -- Which bytes read to which file, and why bytes are refused.
-use Rattle.std.specs.Prelude.{ℕ, ◌≡◌, List, [], Ok, Err}
+use Rattle.std.specs.Prelude.{ℕ, ◌≡◌, ◌≤◌, ◌<◌, List, [], ◌∷◌, length, drop, Ok, Err}
 use Rattle.lay_token.specs.Delimiters.{Balanced, UnbalancedAt}
 use Rattle.lay_token.specs.Lexes.{Lexes, NoTokenAt}
 use Rattle.lay_token.specs.Source.{Source, source}
@@ -19,6 +19,22 @@ top = 256
 abbrev pub SpellsFile : File → List Token → Type 0
 SpellsFile file tokens = Written file × Spells (form_of_file file) top tokens []
 
+-- The first tokens, so many, spell the inner attributes and the items of a file that can be written. What stands behind
+-- them doesn't matter: an attribute and an item end in a `;`, in a delimiter, or with a comment.
+abbrev pub SpellsFront : ℕ → List Token → Type 0
+SpellsFront count tokens =
+    (count ≤ length tokens) × ((file : File) × Written file × Spells (form_of_file file) top tokens (drop count tokens))
+
+-- The tokens spell no file; the longest run of inner attributes and then items ends before the token at this place.
+pub record NoItemAt (tokens : List Token) (at : ℕ) : Type 0 where
+  pub count : ℕ
+  pub token : Token
+  pub rest : List Token
+  pub behind : drop count tokens ≡ token ∷ rest
+  pub place : at ≡ token.at
+  pub front : SpellsFront count tokens
+  pub longest : (more : ℕ) → count < more → SpellsFront more tokens → ⊥
+
 -- The bytes are a text that lexes to balanced tokens which spell the file, behind the file's shebang.
 pub record Reads (bytes : List ℕ) (file : File) : Type 0 where
   pub from : Source
@@ -29,19 +45,12 @@ pub record Reads (bytes : List ℕ) (file : File) : Type 0 where
   pub balanced : Balanced tokens
   pub spells : SpellsFile file tokens
 
--- The bytes are a text that lexes to balanced tokens.
-pub record IsBalanced (bytes : List ℕ) : Type 0 where
-  pub from : Source
-  pub tokens : List Token
-  pub text : source bytes ≡ Ok from
-  pub lexes : Lexes from.text from.start tokens
-  pub balanced : Balanced tokens
-
 -- Why the bytes are refused: they are no UTF-8; or at a place there is no token; or the delimiters are unbalanced at a
--- place; or the tokens spell no file.
+-- place; or the longest run of inner attributes and items ends at a place before the end.
 abbrev pub IsRefused : List ℕ → Refusal → Type 0
 IsRefused bytes (NotUtf8 at) = source bytes ≡ Err (NotUtf8 at)
 IsRefused bytes (NoToken at) = (from : Source) × (source bytes ≡ Ok from) × NoTokenAt from.text from.start at
 IsRefused bytes (Unbalanced at) = (from : Source) × (tokens : List Token)
     × (source bytes ≡ Ok from) × Lexes from.text from.start tokens × UnbalancedAt tokens at
-IsRefused bytes (NoItem at) = (at ≡ 0) × IsBalanced bytes × ((file : File) → Reads bytes file → ⊥)
+IsRefused bytes (NoItem at) = (from : Source) × (tokens : List Token)
+    × (source bytes ≡ Ok from) × Lexes from.text from.start tokens × Balanced tokens × NoItemAt tokens at

@@ -1,5 +1,7 @@
 -- Bytes have one answer at most: they read to one file, or have one refusal, and never both.
-use Rattle.std.proofs.Common.{◌≡◌, ℕ, List, [], Some, None, Ok, Err, sym, ap, ◌∙◌, subst}
+use Rattle.std.proofs.Common.{◌≡◌, ◌<◌, ◌≤◌, ℕ, List, [], ◌∷◌, length, drop, Some, None, Ok, Err, inl, inr, sym, ap, ◌∙◌, subst, arith, length-drop}
+use Rattle.std.proofs.Math.Seq.{drop-length}
+use Rattle.std.proofs.lemmas.Bool.{cases_order}
 use Rattle.lay_token.specs.Source.{Source, source}
 use Rattle.lay_token.specs.Lexes.{Lexes, NoTokenAt}
 use Rattle.lay_token.specs.declared.token.Token.{Token}
@@ -8,7 +10,10 @@ use Rattle.lay_text.specs.declared.refusal.Refusal.TheVariants.{NotUtf8, NoToken
 use Rattle.lay_token.specs.Delimiters.{Balanced, UnbalancedAt}
 use Rattle.lay_token.proofs.Unique as unique
 use Rattle.lay_nest.proofs.Machine.{place, place-unbalanced, run-balanced}
-use Rattle.lay_tree.specs.Reading.{Reads, IsRefused, SpellsFile}
+use Rattle.lay_form.specs.Spelled.{Spells}
+use Rattle.lay_tree.specs.Reading.{NoItemAt, Reads, IsRefused, SpellsFile, SpellsFront, top}
+use Rattle.lay_tree.specs.Written.{Written}
+use Rattle.lay_tree.specs.nodes.File.{form_of_file}
 use Rattle.lay_tree.specs.declared.file.File.{File}
 use Rattle.lay_tree.proofs.reader.File.{file_unique}
 
@@ -55,37 +60,73 @@ balanced_or_not : (bytes : List ℕ) (from other : Source) (ts us : List Token) 
 balanced_or_not bytes from other ts us at e h l m b u =
     unbalanced_or_balanced us at u (subst Balanced (same_tokens bytes from other ts us e h l m) b)
 
+-- Tokens that spell a file are a run of inner attributes and items by themselves, up to where none is left.
+whole_front : (tokens : List Token) (file : File) → SpellsFile file tokens → SpellsFront (length tokens) tokens
+whole_front tokens file s =
+    let behind : length tokens ≤ length tokens = omega arith in
+    (behind, subst (λ us. (f : File) × Written f × Spells (form_of_file f) top tokens us) (sym (drop-length tokens)) (file, s.0, s.1))
+
+-- tokens behind which a token stands are fewer than all
+fewer : (count : ℕ) (tokens : List Token) (token : Token) (rest : List Token) → drop count tokens ≡ token ∷ rest
+    → count < length tokens
+fewer count tokens token rest e = omega (arith, sym (length-drop count tokens) ∙ ap length e)
+
+-- no tokens spell a file and none
+item_or_not : (tokens : List Token) (file : File) (at : ℕ) → SpellsFile file tokens → NoItemAt tokens at → ⊥
+item_or_not tokens file at s n =
+    n.longest (length tokens) (fewer n.count tokens n.token n.rest n.behind) (whole_front tokens file s)
+
+-- The longest run is one, and so is the place where it ends.
+same_count : (tokens : List Token) (at other : ℕ) (n : NoItemAt tokens at) (m : NoItemAt tokens other) → n.count ≡ m.count
+same_count tokens at other n m = elim (cases_order n.count m.count) [
+  | inl same ↦ same
+  | inr differ ↦ elim differ [
+    | inl less ↦ absurd (n.longest m.count less m.front)
+    | inr more ↦ absurd (m.longest n.count more n.front)
+  ]
+]
+
+no_item_once : (tokens : List Token) (at other : ℕ) → NoItemAt tokens at → NoItemAt tokens other → at ≡ other
+no_item_once tokens at other n m =
+    let same : n.token ∷ n.rest ≡ m.token ∷ m.rest =
+    sym n.behind ∙ ap (λ k. drop k tokens) (same_count tokens at other n m) ∙ m.behind in
+    let one : n.token ≡ m.token = cc same in n.place ∙ ap (λ (t : Token). t.at) one ∙ sym m.place
+
 -- no bytes are read and refused
 pub never_both : (bytes : List ℕ) (file : File) (refusal : Refusal) → Reads bytes file → IsRefused bytes refusal → ⊥
 never_both bytes file (NotUtf8 at) r h = no_source bytes r.from (NotUtf8 at) r.text h
 never_both bytes file (NoToken at) r h = token_missing bytes r.from h.0 r.tokens at r.text h.1 r.lexes h.2
 never_both bytes file (Unbalanced at) r h =
     balanced_or_not bytes r.from h.0 r.tokens h.1 at r.text h.2 r.lexes h.3 r.balanced h.4
-never_both bytes file (NoItem at) r h = h.2 file r
+never_both bytes file (NoItem at) r h =
+    item_or_not h.1 file at
+    (subst (SpellsFile file) (same_tokens bytes r.from h.0 r.tokens h.1 r.text h.2 r.lexes h.3) r.spells) h.5
 
 -- no bytes are refused twice
 pub one_refusal : (bytes : List ℕ) (r s : Refusal) → IsRefused bytes r → IsRefused bytes s → r ≡ s
 one_refusal bytes (NotUtf8 a) (NotUtf8 b) h k = cc
 one_refusal bytes (NotUtf8 a) (NoToken b) h k = no_source bytes k.0 (NotUtf8 a) k.1 h
 one_refusal bytes (NotUtf8 a) (Unbalanced b) h k = no_source bytes k.0 (NotUtf8 a) k.2 h
-one_refusal bytes (NotUtf8 a) (NoItem b) h k = no_source bytes k.1.from (NotUtf8 a) k.1.text h
+one_refusal bytes (NotUtf8 a) (NoItem b) h k = no_source bytes k.0 (NotUtf8 a) k.2 h
 one_refusal bytes (NoToken a) (NotUtf8 b) h k = no_source bytes h.0 (NotUtf8 b) h.1 k
 one_refusal bytes (NoToken a) (NoToken b) h k =
     ap NoToken (unique.no_token_once k.0.text k.0.start a b
     (subst (λ (s : Source). NoTokenAt s.text s.start a) (same_source bytes h.0 k.0 h.1 k.1) h.2) k.2)
 one_refusal bytes (NoToken a) (Unbalanced b) h k = absurd (token_missing bytes k.0 h.0 k.1 a k.2 h.1 k.3 h.2)
 one_refusal bytes (NoToken a) (NoItem b) h k =
-    absurd (token_missing bytes k.1.from h.0 k.1.tokens a k.1.text h.1 k.1.lexes h.2)
+    absurd (token_missing bytes k.0 h.0 k.1 a k.2 h.1 k.3 h.2)
 one_refusal bytes (Unbalanced a) (NotUtf8 b) h k = no_source bytes h.0 (NotUtf8 b) h.2 k
 one_refusal bytes (Unbalanced a) (NoToken b) h k = absurd (token_missing bytes h.0 k.0 h.1 b h.2 k.1 h.3 k.2)
 one_refusal bytes (Unbalanced a) (Unbalanced b) h k =
     ap Unbalanced (unbalanced_once k.1 a b
     (subst (λ (ts : List Token). UnbalancedAt ts a) (same_tokens bytes h.0 k.0 h.1 k.1 h.2 k.2 h.3 k.3) h.4) k.4)
 one_refusal bytes (Unbalanced a) (NoItem b) h k =
-    absurd (balanced_or_not bytes k.1.from h.0 k.1.tokens h.1 a k.1.text h.2 k.1.lexes h.3 k.1.balanced h.4)
-one_refusal bytes (NoItem a) (NotUtf8 b) h k = no_source bytes h.1.from (NotUtf8 b) h.1.text k
+    absurd (balanced_or_not bytes k.0 h.0 k.1 h.1 a k.2 h.2 k.3 h.3 k.4 h.4)
+one_refusal bytes (NoItem a) (NotUtf8 b) h k = no_source bytes h.0 (NotUtf8 b) h.2 k
 one_refusal bytes (NoItem a) (NoToken b) h k =
-    absurd (token_missing bytes h.1.from k.0 h.1.tokens b h.1.text k.1 h.1.lexes k.2)
+    absurd (token_missing bytes h.0 k.0 h.1 b h.2 k.1 h.3 k.2)
 one_refusal bytes (NoItem a) (Unbalanced b) h k =
-    absurd (balanced_or_not bytes h.1.from k.0 h.1.tokens k.1 b h.1.text k.2 h.1.lexes k.3 h.1.balanced k.4)
-one_refusal bytes (NoItem a) (NoItem b) h k = ap NoItem (h.0 ∙ sym k.0)
+    absurd (balanced_or_not bytes h.0 k.0 h.1 k.1 b h.2 k.2 h.3 k.3 h.4 k.4)
+one_refusal bytes (NoItem a) (NoItem b) h k =
+    ap NoItem (no_item_once k.1 a b
+    (subst (λ (ts : List Token). NoItemAt ts a) (same_tokens bytes h.0 k.0 h.1 k.1 h.2 k.2 h.3 k.3) h.5) k.5)

@@ -6,8 +6,8 @@ use Rattle.lay_out_heads.proofs.Rows.{may_end_head}
 use Rattle.lay_out_code.proofs.OutLemmas.{valued_head}
 use Rattle.lay_out_code.proofs.heads.add_valued.Goals as goal
 
-pub add_end-requires : goal.add_end-requires
-add_end-requires g c =
+pub add_end-whole-requires : goal.add_end-whole-requires
+add_end-whole-requires g c =
     may_end_head c.args.vis.now (Part (value_head_form c.args.head.now) (value_form c.args.value.now))
     (adds_on c.open_head-opened.ensures
     (adds (adds_on c.add-head.ensures c.add_value-value.ensures) (valued_head c.args.head.now c.args.value.now)))

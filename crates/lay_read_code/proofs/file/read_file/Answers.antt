@@ -1,22 +1,21 @@
-use Rattle.std.proofs.Common.{refl, ap, sym, subst, ◌∙◌}
-use Rattle.lay_tree.specs.reader.File.{whole}
+use Rattle.std.proofs.Common.{refl, sym, ap, ◌∙◌}
+use Rattle.lay_tree.specs.reader.File.{front}
 use Rattle.lay_read_tokens.specs.Answers.{AreLexed}
-use Rattle.lay_read_code.proofs.Files.{file_spelled, nothing_spelled}
+use Rattle.lay_read_code.proofs.Files.{file_spelled, no_item, none_ahead, one_ahead}
 use Rattle.lay_read_code.proofs.file.read_file.Goals as goal
 
-pub new-at-requires : goal.new-at-requires
-new-at-requires c = subst AreLexed (sym c.cursor.ensures.tokens) c.requires.lexed
+pub returns-in-Some : goal.returns-in-Some
+returns-in-Some c =
+    let read = ap front (sym c.cursor-at.ensures.tokens) ∙ c.in-Ok.ensures in
+    let next = one_ahead c.read_front.new.at c.peek.result c.in-Some.token c.peek.ensures.token c.in-Some.is in
+    no_item c.args.nested.now c.in-Ok.attrs c.in-Ok.items c.in-Some.token.now next.0 c.requires.lexed
+    (read ∙ ap (λ left. ((c.in-Ok.attrs, c.in-Ok.items), left)) next.1)
 
-pub returns-in-Ok : goal.returns-in-Ok
-returns-in-Ok c =
-    let here = sym (ap whole (c.new-at.ensures ∙ c.cursor.ensures.tokens)) in (
+pub returns-in-None : goal.returns-in-None
+returns-in-None c =
+    let read = ap front (sym c.cursor-at.ensures.tokens) ∙ c.in-Ok.ensures in
+    let none = none_ahead c.read_front.new.at c.peek.result c.peek.ensures.token c.in-None.is in (
       refl,
       file_spelled c.args.nested.now c.args.shebang c.in-Ok.attrs c.in-Ok.items c.requires.lexed c.requires.good
-          (here ∙ c.in-Ok.ensures),
+          (read ∙ ap (λ left. ((c.in-Ok.attrs, c.in-Ok.items), left)) none),
     )
-
-pub returns-in-Err-NoReading : goal.returns-in-Err-NoReading
-returns-in-Err-NoReading c =
-    let here = sym (ap whole (c.new-at.ensures ∙ c.cursor.ensures.tokens)) in
-    let none = rw c.in-Err-NoReading.field-0-is at c.in-Err-NoReading.ensures in
-    (refl, (λ file e s. nothing_spelled c.args.nested.now file (here ∙ none) s))
