@@ -1,16 +1,15 @@
 -- Arms, and the matches that hold them: what is read stands there, where what is one level deeper is read so.
 use Rattle.std.proofs.Common.{◌≡◌, ℕ, zero, suc, ◌-◌, ◌≤◌, max, Bool, true, false, not, ◌&&◌, ◌||◌, List, [], ◌∷◌, ◌++◌, inl, inr, map, length, drop, codes, Option, option_map, Some, None, if◌then◌else◌, refl, sym, ap, subst, ◌∙◌, arith}
-use Rattle.std.specs.List.{list_all}
 use Rattle.std.proofs.lemmas.Bool.{and_from}
 use Rattle.lay_piece.specs.declared.kind.Delim.TheVariants.{Brace}
 use Rattle.lay_piece.specs.declared.kind.Kind.TheVariants as kind
 use Rattle.lay_token.specs.Operators.{is_op}
 use Rattle.lay_form.specs.Form.{ArmComma, Blank, Body, Done, Fixed, Form, Operator, Part, Piece, closer, keyword, opener}
-use Rattle.lay_form.specs.Notation.{I0, N, behind_attrs, body}
-use Rattle.lay_form.specs.Spelled.{AreBits, Closes, IsBehind, IsOne, IsOperator, MayBrace, Opens, Spells, cost}
+use Rattle.lay_form.specs.Notation.{I0, N, body}
+use Rattle.lay_form.specs.Spelled.{AreBits, Closes, IsBehind, IsOperator, MayBrace, Opens, Spells, cost}
 use Rattle.lay_form.proofs.FormLaws.{deeper as raise}
 use Rattle.lay_node.specs.Ahead.{Tokens, first, tail, closes, is_keyword, is_mark, more_items, opens}
-use Rattle.lay_node.specs.nodes.Attr.{about_attr, are_attrs, attr_form}
+use Rattle.lay_node.specs.nodes.Attr.{are_attrs, attr_form}
 use Rattle.lay_node.specs.nodes.Patterns.{about_pat, pat_form, pat_good}
 use Rattle.lay_node.specs.reader.Attr.{attributes}
 use Rattle.lay_node.specs.reader.Exact.{InText}

@@ -1,9 +1,9 @@
 -- Whole blocks, and the branches that lead to them: what is read stands there, where what is one level deeper is read so.
-use Rattle.std.proofs.Common.{◌≡◌, ℕ, suc, ◌≤◌, max, Bool, true, false, not, ◌&&◌, ◌||◌, List, [], ◌∷◌, ◌++◌, ◌⊎◌, map, inl, inr, codes, drop, Option, Some, None, refl, sym, ap, subst, ◌∙◌, arith, if◌then◌else◌}
+use Rattle.std.proofs.Common.{◌≡◌, ℕ, ◌≤◌, max, Bool, true, false, ◌&&◌, ◌||◌, List, [], ◌∷◌, ◌++◌, map, inl, inr, codes, drop, Option, Some, None, refl, sym, subst, ◌∙◌, arith, if◌then◌else◌}
 use Rattle.std.proofs.lemmas.Bool.{and_from}
 use Rattle.lay_piece.specs.declared.kind.Delim.TheVariants.{Brace}
 use Rattle.lay_token.specs.Operators.{is_op}
-use Rattle.lay_form.specs.Form.{Blank, Done, Form, Operator, Part, Piece, Semicolons, closer, keyword, opener}
+use Rattle.lay_form.specs.Form.{Done, Form, Operator, Part, closer, keyword, opener}
 use Rattle.lay_form.specs.Notation.{body, piece, soft}
 use Rattle.lay_form.specs.Spelled.{AreBits, IsOperator, Spells}
 use Rattle.lay_form.proofs.FormLaws.{deeper as raise}
@@ -35,7 +35,7 @@ use Rattle.lay_tree.specs.declared.blocks.Branch.{Branch}
 use Rattle.lay_tree.specs.declared.blocks.Stmt.{Stmt}
 use Rattle.lay_tree.specs.declared.exprs.Expr.{Expr}
 use Rattle.lay_tree.proofs.nodes.BlocksLaws.{block_is, branch_is}
-use Rattle.lay_tree.proofs.reader.BlocksSound.{StmtHeld, bare_unended, closer_last, closer_mark, most_within, no_semicolons, semicolons_behind, semicolons_texts, stmt_sound}
+use Rattle.lay_tree.proofs.reader.BlocksSound.{bare_unended, closer_last, closer_mark, most_within, no_semicolons, semicolons_behind, semicolons_texts, stmt_sound}
 use Rattle.lay_tree.proofs.reader.ExprSoundLevel.{SoundExprWithin}
 
 -- ---- inner attributes, before `;` that are dropped

@@ -1,11 +1,11 @@
 -- Closures: what is read stands there, where what is one level deeper is read so.
-use Rattle.std.proofs.Common.{◌≡◌, ℕ, suc, ◌≤◌, max, Bool, true, false, not, ◌&&◌, List, [], ◌∷◌, inl, inr, map, codes, drop, Option, Some, None, if◌then◌else◌, refl, sym, ap, subst, arith}
+use Rattle.std.proofs.Common.{◌≡◌, ℕ, suc, ◌≤◌, max, Bool, true, false, ◌&&◌, List, [], ◌∷◌, inl, inr, map, codes, drop, Option, Some, if◌then◌else◌, refl, arith}
 use Rattle.std.specs.List.{list_all}
 use Rattle.std.specs.Prelude.{◌==◌}
 use Rattle.std.proofs.lemmas.Bool.{and_from, eqb-true}
 use Rattle.lay_piece.specs.declared.kind.Kind.TheVariants as kind
 use Rattle.lay_token.specs.Operators.{is_op}
-use Rattle.lay_form.specs.Form.{Bit, Blank, Done, Fixed, Form, Operator, Part, Piece, keyword}
+use Rattle.lay_form.specs.Form.{Bit, Blank, Done, Form, Operator, Part, Piece, keyword}
 use Rattle.lay_form.specs.Notation.{comma_list, when}
 use Rattle.lay_form.specs.Spelled.{AreBits, IsOne, IsOperator, Spells}
 use Rattle.lay_form.proofs.FormLaws.{bits_end, deeper as raise}
@@ -29,7 +29,7 @@ use Rattle.lay_node.proofs.reader.TypesSoundNeeds.{listed}
 use Rattle.lay_node.proofs.reader.TypesSoundParts.{Leads, Out, attrs_good, bit_texts, if_read_sound, param_attrs_leads}
 use Rattle.lay_tree.specs.Operators.{strength}
 use Rattle.lay_tree.specs.nodes.Code.{about_block, about_expr}
-use Rattle.lay_tree.specs.nodes.Exprs.{bar, closure_head, closure_param, inside as inside_of, is_closure_param, placed, shut}
+use Rattle.lay_tree.specs.nodes.Exprs.{bar, closure_head, closure_param, is_closure_param, placed, shut}
 use Rattle.lay_tree.specs.nodes.Places.{plain}
 use Rattle.lay_tree.specs.reader.Blocks.{block_by}
 use Rattle.lay_tree.specs.reader.Exprs as reader

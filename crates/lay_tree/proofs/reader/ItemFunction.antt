@@ -1,9 +1,9 @@
 -- Functions, with their bodies or without: what is read is spelled.
-use Rattle.std.proofs.Common.{◌≡◌, ℕ, ◌≤◌, max, Bool, true, false, ◌&&◌, List, [], ◌∷◌, map, codes, inl, inr, Option, option_map, Some, None, is_some, refl, subst, arith}
+use Rattle.std.proofs.Common.{◌≡◌, ℕ, ◌≤◌, max, true, ◌&&◌, map, codes, inl, inr, Option, option_map, Some, None, is_some, refl, subst, arith}
 use Rattle.std.proofs.lemmas.Bool.{and_from}
 use Rattle.lay_piece.specs.declared.kind.Delim.TheVariants.{Brace}
 use Rattle.lay_piece.specs.declared.kind.Kind.TheVariants.{Punct}
-use Rattle.lay_form.specs.Form.{Fixed, Form, Done, Part}
+use Rattle.lay_form.specs.Form.{Fixed}
 use Rattle.lay_form.specs.Notation.{I0}
 use Rattle.lay_form.specs.Spelled.{Spells}
 use Rattle.lay_form.proofs.FormLaws.{deeper as raise}
@@ -15,7 +15,6 @@ use Rattle.lay_node.specs.reader.Exact.{InText}
 use Rattle.lay_node.specs.reader.Functions.{fn_head}
 use Rattle.lay_node.specs.reader.Heads.{semicolon}
 use Rattle.lay_node.specs.reader.Where.{wheres}
-use Rattle.lay_node.specs.declared.functions.FnHead.{FnHead}
 use Rattle.lay_node.specs.declared.generics.Wheres.{Wheres}
 use Rattle.lay_node.specs.declared.heads.Site.{Site}
 use Rattle.lay_node.proofs.Fronts.{mark_passed_is}
@@ -26,7 +25,6 @@ use Rattle.lay_node.proofs.reader.Loops.{SoundStep}
 use Rattle.lay_node.proofs.reader.PatternsSoundLevel.{SoundPatWithin}
 use Rattle.lay_node.proofs.reader.TypesSoundParts.{Out, bit_texts}
 use Rattle.lay_tree.specs.nodes.Code.{about_block}
-use Rattle.lay_tree.specs.nodes.CodeFacts.{BlockFacts}
 use Rattle.lay_tree.specs.nodes.Exprs.{may_be_good}
 use Rattle.lay_tree.specs.nodes.Item.{about_function, by_site, function_tail, may_be_bodied}
 use Rattle.lay_tree.specs.reader.Item.{ItemWithin, fn_body, function_by}
@@ -38,7 +36,7 @@ use Rattle.lay_tree.proofs.nodes.ItemLaws as laws
 use Rattle.lay_tree.proofs.reader.BlocksSound.{most_within}
 use Rattle.lay_tree.proofs.reader.BlocksSoundWhole.{block_sound}
 use Rattle.lay_tree.proofs.reader.ExprSoundLevel.{SoundExprWithin}
-use Rattle.lay_tree.proofs.reader.ItemSound.{HeadsSound, KindHeld, alone, kind_told}
+use Rattle.lay_tree.proofs.reader.ItemSound.{HeadsSound, KindHeld, kind_told}
 
 some_told : (b : Option Block) → is_some b ≡ is_some (option_map about_block b)
 some_told None = refl
