@@ -114,12 +114,13 @@ bare_unended s = by s (stmt_view s)
 module _ (budget : ℕ) (within : ExprWithin) (sound : SoundExprWithin budget within) where
   -- ---- the parts of a `let`
 
-  abbrev TypeHeld : Option Ty × ℕ → Tokens → Tokens → Type 0
+  -- A type behind its `:` leads to what stands behind it, or there is none.
+  abbrev pub TypeHeld : Option Ty × ℕ → Tokens → Tokens → Type 0
   TypeHeld x ts rest =
       (x.1 ≤ budget) × ((f : Form) (depth : ℕ) (end : Tokens) → x.1 ≤ depth → Spells f depth rest end → Spells (let_type x.0 f) depth ts end)
       × (may_be_type x.0 ≡ true)
 
-  type_sound : (ts : Tokens) (x : Option Ty × ℕ) (rest : Tokens) → InText ts
+  pub type_sound : (ts : Tokens) (x : Option Ty × ℕ) (rest : Tokens) → InText ts
       → if_read (is_op (codes ":") ts) (λ us. within.kinds.types Bounds (drop 1 us)) ts ≡ Some (x, rest) → Out TypeHeld ts (x, rest)
   type_sound ts x rest t h =
       if_read_sound TypeHeld (λ us. within.kinds.types Bounds (drop 1 us)) (is_op (codes ":") ts) ts

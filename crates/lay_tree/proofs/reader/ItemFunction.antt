@@ -36,11 +36,7 @@ use Rattle.lay_tree.proofs.nodes.ItemLaws as laws
 use Rattle.lay_tree.proofs.reader.BlocksSound.{most_within}
 use Rattle.lay_tree.proofs.reader.BlocksSoundWhole.{block_sound}
 use Rattle.lay_tree.proofs.reader.ExprSoundLevel.{SoundExprWithin}
-use Rattle.lay_tree.proofs.reader.ItemSound.{HeadsSound, KindHeld, kind_told}
-
-some_told : (b : Option Block) → is_some b ≡ is_some (option_map about_block b)
-some_told None = refl
-some_told (Some b) = refl
+use Rattle.lay_tree.proofs.reader.ItemSound.{HeadsSound, KindHeld, kind_told, some_told}
 
 -- A body stands behind a where clause that is spelled from other tokens on, or the `;` does.
 record BodyHeld (budget : ℕ) (clause : Wheres) (n : ℕ) (at : Tokens) (x : Option Block × ℕ) (ts rest : Tokens) : Type 0 where
@@ -105,7 +101,7 @@ function_sound heads at budget within inner code ts x rest t h =
             raise (fn_head_form head) f.0.0.1 need ts f.0.1 (omega arith) s.0.1,
             raise T (max n b.0.0.1) need f.0.1 end (omega arith) v.0.form,
           ) in
-          let bodied = subst (λ c. may_be_bodied at c ≡ true) (some_told body) g.0 in
+          let bodied = subst (λ c. may_be_bodied at c ≡ true) (some_told about_block body) g.0 in
           let g1 = and_from (is_fn_head at head) (are_predicates clause) s.0.2 u.0.2 in
           let g2 = and_from (is_fn_head at head && are_predicates clause) (may_be_bodied at (is_some told)) g1 bodied in
           let good = and_from (is_fn_head at head && are_predicates clause && may_be_bodied at (is_some told)) (may_be_good told) g2 v.0.good in

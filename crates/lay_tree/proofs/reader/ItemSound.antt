@@ -93,9 +93,10 @@ pub kind_told : (at : Site) (depth : ℕ) (k : ItemKind) (K : KindFacts) (ts res
 kind_told at depth k K ts rest e s g =
     subst (λ (F : KindFacts). Spells (alone F) depth ts rest × (F.good at ≡ true)) (sym e) (s, g)
 
-some_told : (x : Option Expr) → is_some x ≡ is_some (option_map about_expr x)
-some_told None = refl
-some_told (Some x) = refl
+-- What is told of what may be left out is there where that is.
+pub some_told : {A B : Type 0} (told : A → B) (x : Option A) → is_some x ≡ is_some (option_map told x)
+some_told told None = refl
+some_told told (Some x) = refl
 
 module _ (heads : HeadsSound) (at : Site) (budget : ℕ) (within : ItemWithin) (inner : SoundPatWithin budget within.heads)
     (items : (s : Site) → Sound (about_item s) budget (within.items s)) (trees : Sound about_use budget within.trees) where
@@ -189,7 +190,7 @@ module _ (heads : HeadsSound) (at : Site) (budget : ℕ) (within : ItemWithin) (
       (w.0.1, inside, bit_piece (Fixed Punct (codes ";")) need w.0.1 e.0 mark) in
       elim (chosen (may_be_valued at head (is_some given)) (Some ((item.Value head given, need), e.0)) None (Some (x, rest)) e.2) [
         | inl g ↦
-            let valued = subst (λ b. may_be_valued at head b ≡ true) (some_told given) g.0 in
+            let valued = subst (λ b. may_be_valued at head b ≡ true) (some_told about_expr given) g.0 in
             let good = and_from (is_value_head head && may_be_valued at head (is_some value)) (value_placed value)
             (and_from (is_value_head head) (may_be_valued at head (is_some value)) k.2 valued) q.2 in
             same_some (Out (KindHeld at budget) ts) ((item.Value head given, need), e.0) (x, rest) g.1 (
