@@ -1,16 +1,15 @@
 -- Arms, and the matches that hold them: what is read stands there, where what is one level deeper is read so.
 use Rattle.std.proofs.Common.{◌≡◌, ℕ, zero, suc, ◌-◌, ◌≤◌, max, Bool, true, false, not, ◌&&◌, ◌||◌, List, [], ◌∷◌, ◌++◌, inl, inr, map, length, drop, codes, Option, option_map, Some, None, if◌then◌else◌, refl, sym, ap, subst, ◌∙◌, arith}
-use Rattle.std.specs.List.{list_all}
 use Rattle.std.proofs.lemmas.Bool.{and_from}
 use Rattle.lay_piece.specs.declared.kind.Delim.TheVariants.{Brace}
 use Rattle.lay_piece.specs.declared.kind.Kind.TheVariants as kind
 use Rattle.lay_token.specs.Operators.{is_op}
 use Rattle.lay_form.specs.Form.{ArmComma, Blank, Body, Done, Fixed, Form, Operator, Part, Piece, closer, keyword, opener}
-use Rattle.lay_form.specs.Notation.{I0, N, behind_attrs, body}
-use Rattle.lay_form.specs.Spelled.{AreBits, Closes, IsBehind, IsOne, IsOperator, MayBrace, Opens, Spells, cost}
+use Rattle.lay_form.specs.Notation.{I0, N, body}
+use Rattle.lay_form.specs.Spelled.{AreBits, Closes, IsBehind, IsOperator, MayBrace, Opens, Spells, cost}
 use Rattle.lay_form.proofs.FormLaws.{deeper as raise}
 use Rattle.lay_node.specs.Ahead.{Tokens, first, tail, closes, is_keyword, is_mark, more_items, opens}
-use Rattle.lay_node.specs.nodes.Attr.{about_attr, are_attrs, attr_form}
+use Rattle.lay_node.specs.nodes.Attr.{are_attrs, attr_form}
 use Rattle.lay_node.specs.nodes.Patterns.{about_pat, pat_form, pat_good}
 use Rattle.lay_node.specs.reader.Attr.{attributes}
 use Rattle.lay_node.specs.reader.Exact.{InText}
@@ -129,24 +128,24 @@ module _ (budget : ℕ) (within : ExprWithin) (sound : SoundExprWithin budget wi
       elim (chosen (first (is_mark (codes ",")) z) _ _ _ c.1) [
         | inl g ↦
             let mark = mark_one (codes ",") z g.0 in
-            let end : tail z ≡ c.0 = cc g.1 in
             let held : BodyHeld (y, need) ts (tail z) = record {
               form = λ last l. body_by inner y e.0.0.1 last ts z (tail z) p (λ k same. inr (tail z, mark, refl));
               stands = p.stands;
               bare = p.bare;
             } in
             let out : Out BodyHeld ts ((y, need), tail z) = (held, bit_texts (Fixed kind.Punct (codes ",")) z (tail z) mark s.1) in
-            same_some (Out BodyHeld ts) ((y, need), c.0) (x, rest) c.2 (subst (λ us. Out BodyHeld ts ((y, need), us)) end out)
+            same_some (Out BodyHeld ts) ((y, need), c.0) (x, rest) c.2
+            (same_some (λ us. Out BodyHeld ts ((y, need), us)) (tail z) c.0 g.1 out)
         | inr g ↦ elim (chosen (is_free (about_expr inner) || first (closes Brace) z) _ _ _ g.1) [
           | inl f ↦
-              let end : z ≡ c.0 = cc f.1 in
               let held : BodyHeld (y, need) ts z = record {
                 form = λ last l. body_by inner y e.0.0.1 last ts z z p (λ k same. no_comma inner y last k z f.0 l same);
                 stands = p.stands;
                 bare = p.bare;
               } in
               let out : Out BodyHeld ts ((y, need), z) = (held, s.1) in
-              same_some (Out BodyHeld ts) ((y, need), c.0) (x, rest) c.2 (subst (λ us. Out BodyHeld ts ((y, need), us)) end out)
+              same_some (Out BodyHeld ts) ((y, need), c.0) (x, rest) c.2
+              (same_some (λ us. Out BodyHeld ts ((y, need), us)) z c.0 f.1 out)
           | inr f ↦ absurd (cc f.1)
         ]
       ]
@@ -174,6 +173,13 @@ module _ (budget : ℕ) (within : ExprWithin) (sound : SoundExprWithin budget wi
     more : more_items ts ≡ true
     form : (last : Bool) → (last ≡ false → more_items rest ≡ true) → Spells ((about_arm x.0).form last) x.1 ts rest
     good : (about_arm x.0).good ≡ true
+
+  arm_told : (x : Arm) (n : ℕ) (F : ArmFacts) (ts rest : Tokens) → about_arm x ≡ F → more_items ts ≡ true
+      → ((last : Bool) → (last ≡ false → more_items rest ≡ true) → Spells (F.form last) n ts rest) → F.good ≡ true → ArmRow (x, n) ts rest
+  arm_told x n F ts rest e m form good =
+      let P : ArmFacts → Type 0 =
+      λ z. ((last : Bool) → (last ≡ false → more_items rest ≡ true) → Spells (z.form last) n ts rest) × (z.good ≡ true) in
+      let both = subst P (sym e) (form, good) in record { more = m; form = both.0; good = both.1 }
 
   arm_sound : (ts : Tokens) (x : Arm × ℕ) (rest : Tokens) → InText ts → more_items ts ≡ true → arm_by within ts ≡ Some (x, rest)
       → Out ArmRow ts (x, rest)
@@ -216,10 +222,8 @@ module _ (budget : ℕ) (within : ExprWithin) (sound : SoundExprWithin budget wi
             (I0 (Part P G) (Piece (Blank ∷ Operator (codes "=>") ∷ Blank ∷ []) (N (body_form inner last)))) most ts a.0.1 end before.0
             (g.0.1, head, (at, bits, raise (body_form inner last) b.0.0.1 most at end (omega arith) (bs.0.form last l))) in
             let good = arm_good attrs before.1 (pat_good Alternatives (about_pat pat)) ps.0.2 told_guard gs.0.1 told bs.0.stands bs.0.bare in
-            let Q : ArmFacts → Type 0 =
-            λ z. ((last : Bool) → (last ≡ false → more_items end ≡ true) → Spells (z.form last) most ts end) × (z.good ≡ true) in
-            let both = subst Q (sym (arm_is made_arm)) (form, good) in
-            same_some (Out ArmRow ts) ((made_arm, most), end) (x, rest) b.2 (record { more = m; form = both.0; good = both.1 }, bs.1)
+            same_some (Out ArmRow ts) ((made_arm, most), end) (x, rest) b.2
+            (arm_told made_arm most F ts end (arm_is made_arm) m form good, bs.1)
         | inr f ↦ none_some b.0 (Out ArmRow ts (x, rest)) f.1
       ]
     where

@@ -1,21 +1,20 @@
 -- Bodies of arms: what is read of one, without the braces that aren't in the tree, stands there within so many pairs.
-use Rattle.std.proofs.Common.{◌≡◌, ℕ, zero, suc, ◌-◌, ◌≤◌, Bool, true, false, not, ◌&&◌, ◌||◌, List, [], ◌∷◌, ◌⊎◌, inl, inr, map, length, Option, option_map, Some, None, if◌then◌else◌, refl, sym, ap, subst, ◌∙◌, arith, length-append, codes}
-use Rattle.std.proofs.lemmas.Bool.{and_parts, and_from, not-true}
-use Rattle.lay_piece.specs.Forms.{opening, closing}
+use Rattle.std.proofs.Common.{◌≡◌, ℕ, zero, suc, ◌-◌, ◌≤◌, Bool, true, false, not, ◌&&◌, List, [], ◌∷◌, map, length, Option, option_map, Some, None, refl, sym, ap, subst, ◌∙◌, arith}
+use Rattle.lay_piece.specs.Forms.{opening}
 use Rattle.lay_piece.specs.declared.kind.Delim.TheVariants.{Brace}
-use Rattle.lay_piece.specs.declared.kind.Kind.TheVariants.{Opener, Closer}
-use Rattle.lay_form.specs.Form.{Body, Braces, Bare, Unseen, Marked, Behind, ArmComma, Done, Form, Part, Semicolons, closer, opener}
-use Rattle.lay_form.specs.Spelled.{AnySemicolons, AreBits, Closes, IsBehind, IsBit, MayBrace, Opens, Spells, cost, may_lack}
+use Rattle.lay_piece.specs.declared.kind.Kind.TheVariants.{Opener}
+use Rattle.lay_form.specs.Form.{Semicolons, closer, opener}
+use Rattle.lay_form.specs.Spelled.{AnySemicolons, Closes, IsBit, MayBrace, Opens, Spells}
 use Rattle.lay_form.proofs.FormLaws.{semicolons_end}
 use Rattle.lay_node.specs.Ahead.{Tokens}
 use Rattle.lay_node.proofs.Fronts.{end_shorter, one_shorter}
 use Rattle.lay_node.proofs.Parts.{bit_alone, piece_bit}
-use Rattle.lay_tree.specs.nodes.Blocks.{block_facts, braces_of, is_free, is_lone_body, is_plain, stmt_facts}
+use Rattle.lay_tree.specs.nodes.Blocks.{block_facts, braces_of, is_lone_body, is_plain, stmt_facts}
 use Rattle.lay_tree.specs.nodes.Code.{about_arm, about_block, about_branch, about_expr, about_field_expr, about_step, about_stmt}
 use Rattle.lay_tree.specs.nodes.CodeFacts.{BlockFacts, StmtFacts}
 use Rattle.lay_tree.specs.nodes.Exprs.{BodyKind, BlockBody, ExprFacts, ExprLayer, MacroBody, OtherBody, body_kind, expr_facts, is_macro, placed, stands}
 use Rattle.lay_tree.specs.nodes.Places.{statement}
-use Rattle.lay_tree.specs.reader.Blocks.{block_held, body_need, undressed}
+use Rattle.lay_tree.specs.reader.Blocks.{undressed}
 use Rattle.lay_tree.specs.declared.blocks.Block.{Block}
 use Rattle.lay_tree.specs.declared.blocks.Stmt.{Stmt}
 use Rattle.lay_tree.specs.declared.blocks.Stmt.TheOpen.{Expr-F, Stmt-F}

@@ -1,50 +1,47 @@
 -- Blocks and statements: what is read stands there, where what is one level deeper is read so.
-use Rattle.std.proofs.Common.{◌≡◌, ℕ, suc, ◌≤◌, max, Bool, true, false, not, ◌&&◌, ◌||◌, List, [], ◌∷◌, ◌++◌, map, inl, inr, codes, drop, Option, option_map, Some, None, is_some, refl, sym, ap, subst, ◌∙◌, arith, zero, if◌then◌else◌}
+use Rattle.std.proofs.Common.{◌≡◌, ℕ, suc, ◌≤◌, max, Bool, true, false, not, ◌&&◌, List, [], ◌∷◌, map, inl, inr, codes, drop, Option, option_map, Some, None, is_some, refl, sym, ap, subst, arith, if◌then◌else◌}
 use Rattle.std.proofs.lemmas.Bool.{and_parts, and_from}
 use Rattle.lay_piece.specs.declared.kind.Delim.TheVariants.{Brace}
 use Rattle.lay_piece.specs.declared.kind.Kind.TheVariants as kind
 use Rattle.lay_token.specs.Operators.{is_op}
-use Rattle.lay_form.specs.Form.{Blank, Deeper, Done, Fixed, Form, Operator, Part, Piece, Semicolons, closer, keyword, opener, semicolon}
-use Rattle.lay_form.specs.Notation.{behind_attrs, body, piece, soft}
-use Rattle.lay_form.specs.Spelled.{AnySemicolons, AreBits, AreSemicolons, IsBit, IsOne, IsOperator, Spells}
+use Rattle.lay_form.specs.Form.{Blank, Fixed, Form, Operator, Part, Piece, Semicolons, keyword, semicolon}
+use Rattle.lay_form.specs.Notation.{behind_attrs, piece}
+use Rattle.lay_form.specs.Spelled.{AnySemicolons, IsOperator, Spells}
 use Rattle.lay_form.proofs.FormLaws.{deeper as raise}
-use Rattle.lay_node.specs.Ahead.{Tokens, first, tail, closes, is_keyword, is_mark, more_items, opens}
+use Rattle.lay_node.specs.Ahead.{Tokens, first, tail, closes, is_keyword, is_mark, more_items}
 use Rattle.lay_node.specs.nodes.Attr.{are_attrs, attr_form, about_attr}
-use Rattle.lay_node.specs.nodes.Fields.{blank_if}
 use Rattle.lay_node.specs.nodes.Functions.{may_be_type}
 use Rattle.lay_node.specs.nodes.Patterns.{about_pat, pat_form, pat_good}
 use Rattle.lay_node.specs.nodes.Types.{about_type}
 use Rattle.lay_node.specs.reader.Attr.{attributes}
 use Rattle.lay_node.specs.reader.Exact.{InText}
 use Rattle.lay_node.specs.reader.Heads.{semicolon as semicolon_read}
-use Rattle.lay_node.specs.reader.Loops.{deepest, nodes, passed, repeat}
 use Rattle.lay_node.specs.reader.Types.{if_read}
 use Rattle.lay_node.specs.declared.attr.Attr.{Attr}
 use Rattle.lay_node.specs.declared.heads.Site.TheVariants.{Module}
-use Rattle.lay_node.specs.declared.patterns.Pat.{Pat}
-use Rattle.lay_node.specs.declared.patterns.PatPlace.TheVariants.{Alternatives, Single}
+use Rattle.lay_node.specs.declared.patterns.PatPlace.TheVariants.{Single}
 use Rattle.lay_node.specs.declared.types.Ty.{Ty}
 use Rattle.lay_node.specs.declared.types.TypePlace.TheVariants.{Bounds}
-use Rattle.lay_node.proofs.Fronts.{closer_kind, closer_passed_is, keyword_one, mark_one, mark_passed_is, opener_passed_is}
-use Rattle.lay_node.proofs.Parts.{GoodAt, Rows, SpelledAt, behind_attrs_spelled, bit_piece, body_spelled, led_blank, rows_joined, rows_map}
+use Rattle.lay_node.proofs.Fronts.{closer_kind, keyword_one, mark_one, mark_passed_is}
+use Rattle.lay_node.proofs.Parts.{GoodAt, Rows, behind_attrs_spelled, bit_piece}
 use Rattle.lay_node.proofs.Steps.{bind_some, chosen, same_some}
 use Rattle.lay_node.proofs.reader.Attr.{attributes_sound, attrs_spelled}
-use Rattle.lay_node.proofs.reader.Loops.{SoundStep, repeat_sound}
+use Rattle.lay_node.proofs.reader.Loops.{SoundStep}
 use Rattle.lay_node.proofs.reader.TypesSoundParts.{Out, bit_texts, if_read_sound}
-use Rattle.lay_tree.specs.nodes.Blocks.{attrs_before, block_facts, block_form, dropped, dropped_if, else_form, else_good, is_plain, is_single, let_form, let_type, precedes_else, soft_form, stmt_facts, stmt_form, stmts_good, ended_form}
-use Rattle.lay_tree.specs.nodes.Code.{about_block, about_expr, about_stmt, about_item, told_of_item}
-use Rattle.lay_tree.specs.nodes.CodeFacts.{BlockFacts, ItemFacts, StmtFacts}
-use Rattle.lay_tree.specs.nodes.Exprs.{ExprFacts, placed, value_form, value_placed}
+use Rattle.lay_tree.specs.nodes.Blocks.{else_form, else_good, is_plain, let_type, precedes_else, stmt_facts, ended_form}
+use Rattle.lay_tree.specs.nodes.Code.{about_block, about_expr, about_stmt, told_of_item}
+use Rattle.lay_tree.specs.nodes.CodeFacts.{StmtFacts}
+use Rattle.lay_tree.specs.nodes.Exprs.{placed, value_form, value_placed}
 use Rattle.lay_tree.specs.nodes.Places.{FREE, statement}
-use Rattle.lay_tree.specs.reader.Blocks.{begins_item, behind_semicolons, block_by, else_stands, expr_stmt, item_stmt, let_stmt, stmt_behind, stmt_by, stmt_in_block}
+use Rattle.lay_tree.specs.reader.Blocks.{begins_item, behind_semicolons, else_stands, expr_stmt, item_stmt, let_stmt, stmt_by}
 use Rattle.lay_tree.specs.reader.Within.{ExprWithin}
 use Rattle.lay_tree.specs.declared.blocks.Block.{Block}
 use Rattle.lay_tree.specs.declared.blocks.Stmt.{Stmt}
 use Rattle.lay_tree.specs.declared.blocks.Stmt.TheOpen.{Stmt-F}
 use Rattle.lay_tree.specs.declared.blocks.Stmt.TheVariants as stmt
 use Rattle.lay_tree.specs.declared.exprs.Expr.{Expr}
-use Rattle.lay_tree.proofs.nodes.BlocksLaws.{IsExpr, IsItem, IsLet, StmtView, block_is, stmt_expr_is, stmt_item_is, stmt_let_is, stmt_view}
-use Rattle.lay_tree.proofs.reader.ExprSoundLevel.{DeepBlock, ExprHeld, SoundExprWithin}
+use Rattle.lay_tree.proofs.nodes.BlocksLaws.{IsExpr, IsItem, IsLet, StmtView, stmt_expr_is, stmt_item_is, stmt_let_is, stmt_view}
+use Rattle.lay_tree.proofs.reader.ExprSoundLevel.{SoundExprWithin}
 
 -- ---- any number of `;`
 
@@ -117,12 +114,13 @@ bare_unended s = by s (stmt_view s)
 module _ (budget : ℕ) (within : ExprWithin) (sound : SoundExprWithin budget within) where
   -- ---- the parts of a `let`
 
-  abbrev TypeHeld : Option Ty × ℕ → Tokens → Tokens → Type 0
+  -- A type behind its `:` leads to what stands behind it, or there is none.
+  abbrev pub TypeHeld : Option Ty × ℕ → Tokens → Tokens → Type 0
   TypeHeld x ts rest =
       (x.1 ≤ budget) × ((f : Form) (depth : ℕ) (end : Tokens) → x.1 ≤ depth → Spells f depth rest end → Spells (let_type x.0 f) depth ts end)
       × (may_be_type x.0 ≡ true)
 
-  type_sound : (ts : Tokens) (x : Option Ty × ℕ) (rest : Tokens) → InText ts
+  pub type_sound : (ts : Tokens) (x : Option Ty × ℕ) (rest : Tokens) → InText ts
       → if_read (is_op (codes ":") ts) (λ us. within.kinds.types Bounds (drop 1 us)) ts ≡ Some (x, rest) → Out TypeHeld ts (x, rest)
   type_sound ts x rest t h =
       if_read_sound TypeHeld (λ us. within.kinds.types Bounds (drop 1 us)) (is_op (codes ":") ts) ts

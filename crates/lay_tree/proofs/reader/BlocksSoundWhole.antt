@@ -1,9 +1,9 @@
 -- Whole blocks, and the branches that lead to them: what is read stands there, where what is one level deeper is read so.
-use Rattle.std.proofs.Common.{◌≡◌, ℕ, suc, ◌≤◌, max, Bool, true, false, not, ◌&&◌, ◌||◌, List, [], ◌∷◌, ◌++◌, ◌⊎◌, map, inl, inr, codes, drop, Option, Some, None, refl, sym, ap, subst, ◌∙◌, arith, if◌then◌else◌}
+use Rattle.std.proofs.Common.{◌≡◌, ℕ, ◌≤◌, max, Bool, true, false, ◌&&◌, ◌||◌, List, [], ◌∷◌, ◌++◌, map, inl, inr, codes, drop, Option, Some, None, refl, sym, subst, ◌∙◌, arith, if◌then◌else◌}
 use Rattle.std.proofs.lemmas.Bool.{and_from}
 use Rattle.lay_piece.specs.declared.kind.Delim.TheVariants.{Brace}
 use Rattle.lay_token.specs.Operators.{is_op}
-use Rattle.lay_form.specs.Form.{Blank, Done, Form, Operator, Part, Piece, Semicolons, closer, keyword, opener}
+use Rattle.lay_form.specs.Form.{Done, Form, Operator, Part, closer, keyword, opener}
 use Rattle.lay_form.specs.Notation.{body, piece, soft}
 use Rattle.lay_form.specs.Spelled.{AreBits, IsOperator, Spells}
 use Rattle.lay_form.proofs.FormLaws.{deeper as raise}
@@ -35,7 +35,7 @@ use Rattle.lay_tree.specs.declared.blocks.Branch.{Branch}
 use Rattle.lay_tree.specs.declared.blocks.Stmt.{Stmt}
 use Rattle.lay_tree.specs.declared.exprs.Expr.{Expr}
 use Rattle.lay_tree.proofs.nodes.BlocksLaws.{block_is, branch_is}
-use Rattle.lay_tree.proofs.reader.BlocksSound.{StmtHeld, bare_unended, closer_last, closer_mark, most_within, no_semicolons, semicolons_behind, semicolons_texts, stmt_sound}
+use Rattle.lay_tree.proofs.reader.BlocksSound.{bare_unended, closer_last, closer_mark, most_within, no_semicolons, semicolons_behind, semicolons_texts, stmt_sound}
 use Rattle.lay_tree.proofs.reader.ExprSoundLevel.{SoundExprWithin}
 
 -- ---- inner attributes, before `;` that are dropped
@@ -139,6 +139,10 @@ stmt_ends false mid h m =
     let last = subst (λ us. more_items us ≡ false) (sym (no_semicolons mid (closer_mark mid h))) (closer_last mid h) in
     absurd (cc (sym m ∙ last))
 
+block_told : (budget : ℕ) (X F : BlockFacts) (n : ℕ) (ts rest : Tokens) → X ≡ F → BlockStands budget F n ts rest
+    → BlockStands budget X n ts rest
+block_told budget X F n ts rest e s = subst (λ (z : BlockFacts). BlockStands budget z n ts rest) (sym e) s
+
 module _ (budget : ℕ) (within : ExprWithin) (sound : SoundExprWithin budget within) where
   row_sound : (ts : Tokens) (x : Stmt × ℕ) (rest : Tokens) → InText ts → more_items ts ≡ true → stmt_in_block within ts ≡ Some (x, rest)
       → Out (StmtRow budget) ts (x, rest)
@@ -195,7 +199,7 @@ module _ (budget : ℕ) (within : ExprWithin) (sound : SoundExprWithin budget wi
         good = and_from (are_attrs true attrs) (stmts_good told) before.1 (stmts_stand budget xs from ss.0.1 r.0);
       } in
       same_some (Out (BlockHeld budget) ts) ((made, most), c.0) (x, rest) c.2 (
-        subst (λ (z : BlockFacts). BlockStands budget z most ts c.0) (sym (block_is made)) there,
+        block_told budget (about_block made) F most ts c.0 (block_is made) there,
         bit_texts (closer Brace) ss.0.1 c.0 shut r.1,
       )
 
@@ -259,6 +263,12 @@ module _ (budget : ℕ) (within : ExprWithin) (sound : SoundExprWithin budget wi
       (x.1 ≤ budget) × Spells (Part (about_branch x.0).condition (Part (about_branch x.0).soft Done)) x.1 ts rest
       × ((about_branch x.0).good ≡ true)
 
+  branch_told : (x : Branch × ℕ) (F : BranchFacts) (ts rest : Tokens) → about_branch x.0 ≡ F → x.1 ≤ budget
+      → Spells (Part F.condition (Part F.soft Done)) x.1 ts rest → F.good ≡ true → BranchHeld x ts rest
+  branch_told x F ts rest e le s g =
+      let P : BranchFacts → Type 0 = λ z. Spells (Part z.condition (Part z.soft Done)) x.1 ts rest × (z.good ≡ true) in
+      let told = subst P (sym e) (s, g) in (le, told.0, told.1)
+
   pub branch_sound : SoundStep (branch_by within) BranchHeld
   unfolding branch_by
   branch_sound ts x rest t h =
@@ -278,7 +288,5 @@ module _ (budget : ℕ) (within : ExprWithin) (sound : SoundExprWithin budget wi
         (b.0.1, raise F.soft b.0.0.1 most c.0.1 b.0.1 (omega arith) k.0.soft, refl),
       ) in
       let good = and_from (condition_good pat (about_expr condition)) block.good s.0.2 k.0.good in
-      let P : BranchFacts → Type 0 = λ z. Spells (Part z.condition (Part z.soft Done)) most ts b.0.1 × (z.good ≡ true) in
-      let told = subst P (sym (branch_is made)) (form, good) in
       same_some (Out BranchHeld ts) ((made, most), b.0.1) (x, rest) b.2
-      ((most_within c.0.0.1 b.0.0.1 budget s.0.0 k.0.need, told.0, told.1), k.1)
+      (branch_told (made, most) F ts b.0.1 (branch_is made) (most_within c.0.0.1 b.0.0.1 budget s.0.0 k.0.need) form good, k.1)

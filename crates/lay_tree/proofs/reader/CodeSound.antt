@@ -1,6 +1,5 @@
 -- Expressions, blocks and items within a budget: what is read stands there, at the depth that it needs.
-use Rattle.std.proofs.Common.{◌≡◌, ℕ, zero, suc, ◌≤◌, Bool, true, drop, Some, refl, arith}
-use Rattle.lay_form.specs.Form.{Deeper, Done}
+use Rattle.std.proofs.Common.{◌≡◌, ℕ, zero, suc, ◌≤◌, true, drop, Some, refl, arith}
 use Rattle.lay_form.proofs.FormLaws.{is_end}
 use Rattle.lay_node.specs.Ahead.{Tokens}
 use Rattle.lay_node.specs.nodes.Facts.{Facts}
@@ -26,7 +25,7 @@ use Rattle.lay_node.proofs.reader.TypesSoundNeeds.{Held}
 use Rattle.lay_node.proofs.reader.TypesSoundParts.{Out}
 use Rattle.lay_node.proofs.reader.Use.{use_sound}
 use Rattle.lay_node.proofs.reader.ValueHeads.{value_heads_sound}
-use Rattle.lay_tree.specs.nodes.Code.{about_block, about_expr, about_item}
+use Rattle.lay_tree.specs.nodes.Code.{about_expr, about_item}
 use Rattle.lay_tree.specs.nodes.Exprs.{ExprFront, follows, placed}
 use Rattle.lay_tree.specs.reader.Blocks.{block_by}
 use Rattle.lay_tree.specs.reader.Code.{code_in, deeper_block, expr_at, item_at}

@@ -1,5 +1,5 @@
 -- Expressions: what is read stands there, at the depth that it needs, where what is one level deeper is read so.
-use Rattle.std.proofs.Common.{◌≡◌, ℕ, zero, suc, ◌≤◌, Bool, true, false, not, ◌&&◌, drop, inl, inr, Some, refl, subst, arith}
+use Rattle.std.proofs.Common.{◌≡◌, ℕ, zero, suc, ◌≤◌, Bool, true, false, not, ◌&&◌, inl, inr, Some, refl, subst, arith}
 use Rattle.std.specs.Prelude.{nat_le, ◌==◌}
 use Rattle.std.proofs.lemmas.Bool.{and_parts, and_from, eqb-true, eqb-false, leb-true, le-leb}
 use Rattle.lay_node.specs.Ahead.{Tokens}
@@ -10,7 +10,7 @@ use Rattle.lay_node.proofs.reader.TypesSoundParts.{Out}
 use Rattle.lay_tree.specs.Operands.{expr_lead_at}
 use Rattle.lay_tree.specs.Operators.{is_angle, is_dot_or_try, strength}
 use Rattle.lay_tree.specs.nodes.Code.{about_expr}
-use Rattle.lay_tree.specs.nodes.Exprs.{follows, is_chain_level, placed, root_follows, stands, tail_follows}
+use Rattle.lay_tree.specs.nodes.Exprs.{is_chain_level, root_follows, stands, tail_follows}
 use Rattle.lay_tree.specs.nodes.Places.{before_op, begins}
 use Rattle.lay_tree.specs.reader.Exprs.{accepted, climb, climb_by, expr_by, head_by, is_ended, left_place, stage}
 use Rattle.lay_tree.specs.reader.Within.{ExprWithin}

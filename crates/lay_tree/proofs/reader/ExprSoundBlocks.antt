@@ -1,12 +1,11 @@
 -- Expressions with blocks and no arms: what is read stands there, where what is one level deeper is read so.
-use Rattle.std.proofs.Common.{◌≡◌, ℕ, suc, ◌≤◌, max, Bool, true, false, not, ◌&&◌, List, [], ◌∷◌, map, inl, inr, codes, drop, Option, option_map, Some, None, is_some, refl, sym, ap, subst, ◌∙◌, arith}
-use Rattle.std.specs.List.{list_all}
+use Rattle.std.proofs.Common.{◌≡◌, ℕ, suc, ◌≤◌, max, Bool, true, false, not, ◌&&◌, List, [], ◌∷◌, map, inl, inr, codes, drop, Option, option_map, Some, None, is_some, refl, sym, subst, ◌∙◌, arith}
 use Rattle.std.proofs.lemmas.Bool.{and_parts, and_from}
 use Rattle.lay_piece.specs.declared.kind.Delim.TheVariants.{Brace}
 use Rattle.lay_piece.specs.declared.kind.Kind.TheVariants as kind
 use Rattle.lay_token.specs.Operators.{is_op}
-use Rattle.lay_form.specs.Form.{Bit, Blank, Done, Form, Operator, Part, Piece, keyword}
-use Rattle.lay_form.specs.Notation.{I0, when}
+use Rattle.lay_form.specs.Form.{Blank, Done, Form, Operator, Part, Piece, keyword}
+use Rattle.lay_form.specs.Notation.{I0}
 use Rattle.lay_form.specs.Spelled.{AreBits, IsOne, IsOperator, Spells}
 use Rattle.lay_form.proofs.FormLaws.{deeper as raise}
 use Rattle.lay_node.specs.Ahead.{Tokens, first, tail, is_keyword, opens}
@@ -22,8 +21,8 @@ use Rattle.lay_node.proofs.Steps.{bind_some, chosen, same_some}
 use Rattle.lay_node.proofs.reader.Loops.{SoundStep, repeat_sound}
 use Rattle.lay_node.proofs.reader.TypesSoundParts.{Leads, Out, bit_texts, if_read_sound, keyword_passed_is, lifetime_sound}
 use Rattle.lay_tree.specs.nodes.Code.{about_block, about_branch, about_expr}
-use Rattle.lay_tree.specs.nodes.CodeFacts.{BlockFacts, BranchFacts}
-use Rattle.lay_tree.specs.nodes.Exprs.{ExprFacts, ExprLayer, Tail, branch_head, branches_good, condition_form, condition_good, else_branch_form, expr_facts, inside, labelled, may_be_good, more_branches, placed, shut, tail_follows, tail_of, within_of}
+use Rattle.lay_tree.specs.nodes.CodeFacts.{BlockFacts}
+use Rattle.lay_tree.specs.nodes.Exprs.{ExprLayer, Tail, branch_head, branches_good, condition_form, condition_good, else_branch_form, expr_facts, inside, labelled, may_be_good, more_branches, placed, shut, tail_follows, tail_of, within_of}
 use Rattle.lay_tree.specs.nodes.Places.{plain}
 use Rattle.lay_tree.specs.reader.Blocks.{block_by, branch_by, condition_by}
 use Rattle.lay_tree.specs.reader.Exprs.{async_expr, begins_else_if, block_expr, for_expr, if_expr, label_expr, labelled_expr, while_expr}
@@ -34,7 +33,7 @@ use Rattle.lay_tree.specs.declared.blocks.Stmt.TheOpen.{Expr-F}
 use Rattle.lay_tree.specs.declared.exprs.Expr.{Expr}
 use Rattle.lay_tree.specs.declared.exprs.Expr.TheVariants as expr
 use Rattle.lay_tree.proofs.nodes.ExprsLaws.{expr_async_is, expr_block_is, expr_const_block_is, expr_for_is, expr_if_is, expr_loop_is, expr_unsafe_is, expr_while_is}
-use Rattle.lay_tree.proofs.reader.BlocksSoundWhole.{BlockStands, BranchHeld, ConditionHeld, block_sound, branch_sound, condition_sound}
+use Rattle.lay_tree.proofs.reader.BlocksSoundWhole.{BlockStands, BranchHeld, block_sound, branch_sound, condition_sound}
 use Rattle.lay_tree.proofs.reader.ExprSoundLevel.{LeftHeld, SoundExprWithin, made}
 
 two_tails : (ts : Tokens) → tail (tail ts) ≡ drop 2 ts

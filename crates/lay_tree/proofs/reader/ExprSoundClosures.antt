@@ -1,11 +1,11 @@
 -- Closures: what is read stands there, where what is one level deeper is read so.
-use Rattle.std.proofs.Common.{◌≡◌, ℕ, suc, ◌≤◌, max, Bool, true, false, not, ◌&&◌, List, [], ◌∷◌, inl, inr, map, codes, drop, Option, Some, None, if◌then◌else◌, refl, sym, ap, subst, arith}
+use Rattle.std.proofs.Common.{◌≡◌, ℕ, suc, ◌≤◌, max, Bool, true, false, ◌&&◌, List, [], ◌∷◌, inl, inr, map, codes, drop, Option, Some, None, if◌then◌else◌, refl, subst, arith}
 use Rattle.std.specs.List.{list_all}
 use Rattle.std.specs.Prelude.{◌==◌}
 use Rattle.std.proofs.lemmas.Bool.{and_from, eqb-true}
 use Rattle.lay_piece.specs.declared.kind.Kind.TheVariants as kind
 use Rattle.lay_token.specs.Operators.{is_op}
-use Rattle.lay_form.specs.Form.{Bit, Blank, Done, Fixed, Form, Operator, Part, Piece, keyword}
+use Rattle.lay_form.specs.Form.{Bit, Blank, Done, Form, Operator, Part, Piece, keyword}
 use Rattle.lay_form.specs.Notation.{comma_list, when}
 use Rattle.lay_form.specs.Spelled.{AreBits, IsOne, IsOperator, Spells}
 use Rattle.lay_form.proofs.FormLaws.{bits_end, deeper as raise}
@@ -26,10 +26,11 @@ use Rattle.lay_node.proofs.Steps.{bind_some, chosen, same_some}
 use Rattle.lay_node.proofs.reader.Attr.{attributes_sound}
 use Rattle.lay_node.proofs.reader.Loops.{SoundStep}
 use Rattle.lay_node.proofs.reader.TypesSoundNeeds.{listed}
-use Rattle.lay_node.proofs.reader.TypesSoundParts.{Leads, Out, attrs_good, bit_texts, if_read_sound, param_attrs_leads}
+use Rattle.lay_node.proofs.reader.TypesSoundParts.{Leads, Out, attrs_good, bit_texts, param_attrs_leads}
 use Rattle.lay_tree.specs.Operators.{strength}
+use Rattle.lay_tree.specs.nodes.Blocks.{let_type}
 use Rattle.lay_tree.specs.nodes.Code.{about_block, about_expr}
-use Rattle.lay_tree.specs.nodes.Exprs.{bar, closure_head, closure_param, inside as inside_of, is_closure_param, placed, shut}
+use Rattle.lay_tree.specs.nodes.Exprs.{bar, closure_head, closure_param, is_closure_param, placed, shut}
 use Rattle.lay_tree.specs.nodes.Places.{plain}
 use Rattle.lay_tree.specs.reader.Blocks.{block_by}
 use Rattle.lay_tree.specs.reader.Exprs as reader
@@ -40,7 +41,7 @@ use Rattle.lay_tree.specs.declared.exprs.ClosureParam.{ClosureParam}
 use Rattle.lay_tree.specs.declared.exprs.Expr.{Expr}
 use Rattle.lay_tree.specs.declared.exprs.Expr.TheVariants as expr
 use Rattle.lay_tree.proofs.nodes.ExprsLaws.{expr_closure_is, expr_typed_closure_is}
-use Rattle.lay_tree.proofs.reader.BlocksSound.{most_within}
+use Rattle.lay_tree.proofs.reader.BlocksSound.{most_within, type_sound}
 use Rattle.lay_tree.proofs.reader.BlocksSoundWhole.{block_sound}
 use Rattle.lay_tree.proofs.reader.ExprSoundHeads.{jump_follows}
 use Rattle.lay_tree.proofs.reader.ExprSoundLevel.{LeftHeld, SoundExprWithin, all_taken, made}
@@ -61,22 +62,12 @@ move_texts : (b : Bool) (ts : Tokens) → first (is_keyword (codes "move")) ts �
 move_texts true ts h t = texts_behind ts (tail ts) (bits_end move_word ts (tail ts) (move_bits ts h)) t
 move_texts false ts h t = t
 
+type_alone : (ty : Option Ty) → let_type ty Done ≡ self_type ty
+type_alone None = refl
+type_alone (Some x) = refl
+
 module _ (budget : ℕ) (within : ExprWithin) (sound : SoundExprWithin budget within) where
   -- ---- parameters
-
-  abbrev TypeHeld : Option Ty × ℕ → Tokens → Tokens → Type 0
-  TypeHeld x ts rest = (x.1 ≤ budget) × Spells (self_type x.0) x.1 ts rest × (may_be_type x.0 ≡ true)
-
-  type_sound : (ts : Tokens) (x : Option Ty × ℕ) (rest : Tokens) → InText ts
-      → if_read (is_op (codes ":") ts) (λ us. within.kinds.types Bounds (drop 1 us)) ts ≡ Some (x, rest) → Out TypeHeld ts (x, rest)
-  type_sound ts x rest t h =
-      if_read_sound TypeHeld (λ us. within.kinds.types Bounds (drop 1 us)) (is_op (codes ":") ts) ts
-      (λ b y mid e.
-      let at = drop 1 ts in
-      let o : IsOperator (codes ":") ts at = (b, refl) in
-      let s = sound.kinds.types Bounds at y mid (bit_texts (Operator (codes ":")) ts at o t) e in
-      ((s.0.0, (at, (at, o, (at, refl, refl)), (mid, s.0.1, refl)), s.0.2), s.1))
-      (λ b. (omega arith, refl, refl)) t x rest h
 
   abbrev ParamHeld : ClosureParam × ℕ → Tokens → Tokens → Type 0
   ParamHeld x ts rest = (x.1 ≤ budget) × Spells (closure_param x.0) x.1 ts rest × (is_closure_param x.0 ≡ true)
@@ -94,13 +85,13 @@ module _ (budget : ℕ) (within : ExprWithin) (sound : SoundExprWithin budget wi
       let most = max p.0.0.1 y.0.0.1 in
       let before = attributes_sound false most ts attrs a.0.1 t a.1 in
       let ps = sound.pats Single a.0.1 p.0.0 p.0.1 before.1 p.1 in
-      let ys = type_sound p.0.1 y.0.0 end ps.1 y.1 in
+      let ys = type_sound budget within sound p.0.1 y.0.0 end ps.1 y.1 in
       let P = pat_form Single (about_pat pat) in
       let T = self_type ty in
       let inner : Spells (Part P (Part T Done)) most a.0.1 end = (
         p.0.1,
         raise P p.0.0.1 most a.0.1 p.0.1 (omega arith) ps.0.1,
-        (end, raise T y.0.0.1 most p.0.1 end (omega arith) ys.0.1, refl),
+        (end, subst (λ f. Spells f most p.0.1 end) (type_alone ty) (ys.0.1 Done most end (omega arith) refl), refl),
       ) in
       let made_param : ClosureParam = record { attrs = attrs; pat = pat; ty = ty } in
       let good = and_from (are_attrs false attrs && pat_good Single (about_pat pat)) (may_be_type ty)

@@ -17,7 +17,7 @@ use Rattle.lay_node.proofs.Steps.{same_some, chosen, bind_some}
 use Rattle.lay_tree.specs.Operands.{ExprLead, ByLiteral, ByPath, ByUnderscore, ByLabel, ByParen, ByBracket, ByBrace, ByPrefix, ByRange, ByContinue, ByBreak, ByReturn, ByBlockWord, ByClosure, expr_lead_at}
 use Rattle.lay_tree.specs.Operators.{begins_step, prefix, strength}
 use Rattle.lay_tree.specs.nodes.Code.{about_expr}
-use Rattle.lay_tree.specs.nodes.Exprs.{ExprFacts, lead_of_start, lead_of_targets, stands, root_follows}
+use Rattle.lay_tree.specs.nodes.Exprs.{lead_of_start, lead_of_targets, stands, root_follows}
 use Rattle.lay_tree.specs.nodes.Places.{FREE, plain}
 use Rattle.lay_tree.specs.reader.Code.{code_in}
 use Rattle.lay_tree.specs.reader.Exprs.{assign_expr, base, begins_tuple_index, bracket_expr, break_expr, call_expr, cast_expr, chain_expr, climb, climb_by, continue_expr, expr_by, free_elements, head_by, is_ended, left_place, literal_expr, one_field, one_prefix, one_step, one_type, operand_if, operands, paren_expr, path_expr, postfix_expr, range_by, range_expr, return_expr, stage, struct_expr, targets_of, unary_expr, value_of}

@@ -1,5 +1,5 @@
 -- What is read as an expression with blocks, or as a closure, begins with the lead that the tokens begin with.
-use Rattle.std.proofs.Common.{◌≡◌, ℕ, suc, max, Bool, true, false, List, [], ◌∷◌, drop, inl, inr, codes, Option, Some, None, if◌then◌else◌, refl, sym, ap, subst}
+use Rattle.std.proofs.Common.{◌≡◌, ℕ, suc, max, Bool, true, false, ◌∷◌, drop, inl, inr, codes, Option, Some, None, if◌then◌else◌, sym, ap, subst}
 use Rattle.std.specs.Prelude.{◌==◌}
 use Rattle.lay_token.specs.Operators.{is_op}
 use Rattle.lay_piece.specs.declared.kind.Delim.TheVariants.{Brace}

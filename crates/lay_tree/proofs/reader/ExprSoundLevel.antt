@@ -8,7 +8,6 @@ use Rattle.std.proofs.lemmas.List.Folds.{list_all-map}
 use Rattle.lay_form.specs.Form.{Deeper, Done}
 use Rattle.lay_form.specs.Spelled.{Spells}
 use Rattle.lay_node.specs.Ahead.{Tokens}
-use Rattle.lay_node.specs.nodes.Facts.{Facts}
 use Rattle.lay_node.specs.declared.heads.Site.{Site}
 use Rattle.lay_node.specs.declared.patterns.PatPlace.{PatPlace}
 use Rattle.lay_node.proofs.reader.Loops.{SoundStep}
@@ -18,7 +17,7 @@ use Rattle.lay_node.proofs.reader.TypesSoundNeeds.{Held}
 use Rattle.lay_tree.specs.Operands.{begins_operand}
 use Rattle.lay_tree.specs.Operators.{strength}
 use Rattle.lay_tree.specs.nodes.Code.{about_arm, about_block, about_branch, about_expr, about_field_expr, about_item, about_step}
-use Rattle.lay_tree.specs.nodes.Exprs.{ExprFacts, StepFacts, Tail, all_free, begins_pointer, expr_facts, expr_forms, follows, inside, lacks_operand, placed, root_follows, stands, tail_follows, tail_of, within_of, ExprLayer}
+use Rattle.lay_tree.specs.nodes.Exprs.{ExprFacts, Tail, all_free, begins_pointer, expr_facts, expr_forms, follows, inside, lacks_operand, placed, root_follows, stands, tail_follows, tail_of, within_of, ExprLayer}
 use Rattle.lay_tree.specs.nodes.Places.{FREE, begins}
 use Rattle.lay_tree.specs.reader.Within.{ExprWithin}
 use Rattle.lay_tree.specs.declared.blocks.Block.{Block}

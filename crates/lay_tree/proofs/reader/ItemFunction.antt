@@ -1,9 +1,9 @@
 -- Functions, with their bodies or without: what is read is spelled.
-use Rattle.std.proofs.Common.{◌≡◌, ℕ, ◌≤◌, max, Bool, true, false, ◌&&◌, List, [], ◌∷◌, map, codes, inl, inr, Option, option_map, Some, None, is_some, refl, subst, arith}
+use Rattle.std.proofs.Common.{◌≡◌, ℕ, ◌≤◌, max, true, ◌&&◌, map, codes, inl, inr, Option, option_map, Some, None, is_some, refl, subst, arith}
 use Rattle.std.proofs.lemmas.Bool.{and_from}
 use Rattle.lay_piece.specs.declared.kind.Delim.TheVariants.{Brace}
 use Rattle.lay_piece.specs.declared.kind.Kind.TheVariants.{Punct}
-use Rattle.lay_form.specs.Form.{Fixed, Form, Done, Part}
+use Rattle.lay_form.specs.Form.{Fixed}
 use Rattle.lay_form.specs.Notation.{I0}
 use Rattle.lay_form.specs.Spelled.{Spells}
 use Rattle.lay_form.proofs.FormLaws.{deeper as raise}
@@ -15,7 +15,6 @@ use Rattle.lay_node.specs.reader.Exact.{InText}
 use Rattle.lay_node.specs.reader.Functions.{fn_head}
 use Rattle.lay_node.specs.reader.Heads.{semicolon}
 use Rattle.lay_node.specs.reader.Where.{wheres}
-use Rattle.lay_node.specs.declared.functions.FnHead.{FnHead}
 use Rattle.lay_node.specs.declared.generics.Wheres.{Wheres}
 use Rattle.lay_node.specs.declared.heads.Site.{Site}
 use Rattle.lay_node.proofs.Fronts.{mark_passed_is}
@@ -26,7 +25,6 @@ use Rattle.lay_node.proofs.reader.Loops.{SoundStep}
 use Rattle.lay_node.proofs.reader.PatternsSoundLevel.{SoundPatWithin}
 use Rattle.lay_node.proofs.reader.TypesSoundParts.{Out, bit_texts}
 use Rattle.lay_tree.specs.nodes.Code.{about_block}
-use Rattle.lay_tree.specs.nodes.CodeFacts.{BlockFacts}
 use Rattle.lay_tree.specs.nodes.Exprs.{may_be_good}
 use Rattle.lay_tree.specs.nodes.Item.{about_function, by_site, function_tail, may_be_bodied}
 use Rattle.lay_tree.specs.reader.Item.{ItemWithin, fn_body, function_by}
@@ -38,11 +36,7 @@ use Rattle.lay_tree.proofs.nodes.ItemLaws as laws
 use Rattle.lay_tree.proofs.reader.BlocksSound.{most_within}
 use Rattle.lay_tree.proofs.reader.BlocksSoundWhole.{block_sound}
 use Rattle.lay_tree.proofs.reader.ExprSoundLevel.{SoundExprWithin}
-use Rattle.lay_tree.proofs.reader.ItemSound.{HeadsSound, KindHeld, alone, kind_told}
-
-some_told : (b : Option Block) → is_some b ≡ is_some (option_map about_block b)
-some_told None = refl
-some_told (Some b) = refl
+use Rattle.lay_tree.proofs.reader.ItemSound.{HeadsSound, KindHeld, kind_told, some_told}
 
 -- A body stands behind a where clause that is spelled from other tokens on, or the `;` does.
 record BodyHeld (budget : ℕ) (clause : Wheres) (n : ℕ) (at : Tokens) (x : Option Block × ℕ) (ts rest : Tokens) : Type 0 where
@@ -107,7 +101,7 @@ function_sound heads at budget within inner code ts x rest t h =
             raise (fn_head_form head) f.0.0.1 need ts f.0.1 (omega arith) s.0.1,
             raise T (max n b.0.0.1) need f.0.1 end (omega arith) v.0.form,
           ) in
-          let bodied = subst (λ c. may_be_bodied at c ≡ true) (some_told body) g.0 in
+          let bodied = subst (λ c. may_be_bodied at c ≡ true) (some_told about_block body) g.0 in
           let g1 = and_from (is_fn_head at head) (are_predicates clause) s.0.2 u.0.2 in
           let g2 = and_from (is_fn_head at head && are_predicates clause) (may_be_bodied at (is_some told)) g1 bodied in
           let good = and_from (is_fn_head at head && are_predicates clause && may_be_bodied at (is_some told)) (may_be_good told) g2 v.0.good in

@@ -1,20 +1,20 @@
 -- What an item is: what is read is spelled, kind by kind.
-use Rattle.std.proofs.Common.{◌≡◌, ℕ, ◌≤◌, max, true, ◌&&◌, List, [], ◌∷◌, map, codes, Option, option_map, Some, None, inl, inr, refl, sym, subst, arith, drop, zero, false, is_some}
+use Rattle.std.proofs.Common.{◌≡◌, ℕ, ◌≤◌, max, true, ◌&&◌, List, [], ◌∷◌, map, codes, Option, option_map, Some, None, inl, inr, refl, sym, subst, arith, drop, is_some}
 use Rattle.std.proofs.lemmas.Bool.{and_from}
 use Rattle.lay_piece.specs.declared.kind.Kind.TheVariants.{Punct}
-use Rattle.lay_form.specs.Form.{Blank, Fixed, Form, Done, Piece, Part, keyword, Operator}
-use Rattle.lay_form.specs.Notation.{I0, piece}
-use Rattle.lay_form.specs.Spelled.{AreBits, IsOne, Spells, IsOperator}
+use Rattle.lay_form.specs.Form.{Blank, Fixed, Form, Done, Piece, Part, keyword}
+use Rattle.lay_form.specs.Notation.{I0}
+use Rattle.lay_form.specs.Spelled.{AreBits, Spells}
 use Rattle.lay_form.proofs.FormLaws.{is_end}
 use Rattle.lay_form.proofs.FormLaws.{deeper as raise}
 use Rattle.lay_node.specs.Ahead.{Tokens, first, tail, is_keyword, is_mark}
 use Rattle.lay_node.specs.Words.{is_string}
 use Rattle.lay_node.specs.nodes.Attr.{are_attrs}
-use Rattle.lay_node.specs.nodes.Functions.{about_fn_head, fn_head_form, is_fn_head}
+use Rattle.lay_node.specs.nodes.Functions.{about_fn_head}
 use Rattle.lay_node.specs.nodes.Heads.{HeadFacts, about_alias, about_enum, about_extern_crate, about_impl_head, about_struct, about_union, about_value_head, headed, impl_head_form, is_impl_head, is_trait_head, is_value_head, leads, trait_head_form, unsafe_form, value_head_form}
 use Rattle.lay_node.specs.nodes.Types.{is_abi_name}
 use Rattle.lay_node.specs.nodes.Use.{about_use}
-use Rattle.lay_node.specs.nodes.Where.{are_predicates, predicate_form, wheres_before_body, wheres_before_semicolon}
+use Rattle.lay_node.specs.nodes.Where.{are_predicates, wheres_before_body}
 use Rattle.lay_node.specs.reader.Functions.{fn_head}
 use Rattle.lay_node.specs.reader.Heads.{alias, enum, extern_crate, impl_head, semicolon, struct, trait_head, union, unsafe_flag, value_head}
 use Rattle.lay_node.specs.reader.Exact.{InText}
@@ -37,15 +37,15 @@ use Rattle.lay_node.proofs.Fronts.{keyword_one, mark_passed_is, mark_one, texts_
 use Rattle.lay_node.proofs.Parts.{bit_piece, leaf_spelled, word_kind}
 use Rattle.lay_node.proofs.Steps.{bind_some, chosen, same_some}
 use Rattle.lay_node.proofs.reader.Exact.{Sound}
-use Rattle.lay_node.proofs.reader.HeadParts.{semicolon_wheres, wheres_held}
+use Rattle.lay_node.proofs.reader.HeadParts.{wheres_held}
 use Rattle.lay_node.proofs.reader.HeadsLevel.{SoundHead, StoodFree}
 use Rattle.lay_node.proofs.reader.Loops.{SoundStep}
 use Rattle.lay_node.proofs.reader.PatternsSoundLevel.{SoundPatWithin}
-use Rattle.lay_node.proofs.reader.TypesSoundParts.{Out, bit_texts, flag_leads, flag_texts, if_there_sound, keyword_passed_is, literal_sound, if_read_sound}
+use Rattle.lay_node.proofs.reader.TypesSoundParts.{Out, bit_texts, flag_leads, flag_texts, if_there_sound, keyword_passed_is, literal_sound}
 use Rattle.lay_node.proofs.reader.Words.{name_sound}
 use Rattle.lay_tree.specs.nodes.Code.{about_expr, about_item, told_of_item, told_of_kind}
 use Rattle.lay_tree.specs.nodes.CodeFacts.{KindFacts}
-use Rattle.lay_tree.specs.nodes.Exprs.{placed, value_form, value_placed}
+use Rattle.lay_tree.specs.nodes.Exprs.{value_form, value_placed}
 use Rattle.lay_tree.specs.nodes.Item as node
 use Rattle.lay_tree.specs.nodes.Item.{about_file_module, about_foreign, about_impl, about_import, about_module, about_trait, about_value, by_site, foreign_abi, in_module, in_modules, items_good, module_head, may_be_valued}
 use Rattle.lay_tree.specs.nodes.Places.{FREE}
@@ -93,9 +93,10 @@ pub kind_told : (at : Site) (depth : ℕ) (k : ItemKind) (K : KindFacts) (ts res
 kind_told at depth k K ts rest e s g =
     subst (λ (F : KindFacts). Spells (alone F) depth ts rest × (F.good at ≡ true)) (sym e) (s, g)
 
-some_told : (x : Option Expr) → is_some x ≡ is_some (option_map about_expr x)
-some_told None = refl
-some_told (Some x) = refl
+-- What is told of what may be left out is there where that is.
+pub some_told : {A B : Type 0} (told : A → B) (x : Option A) → is_some x ≡ is_some (option_map told x)
+some_told told None = refl
+some_told told (Some x) = refl
 
 module _ (heads : HeadsSound) (at : Site) (budget : ℕ) (within : ItemWithin) (inner : SoundPatWithin budget within.heads)
     (items : (s : Site) → Sound (about_item s) budget (within.items s)) (trees : Sound about_use budget within.trees) where
@@ -189,7 +190,7 @@ module _ (heads : HeadsSound) (at : Site) (budget : ℕ) (within : ItemWithin) (
       (w.0.1, inside, bit_piece (Fixed Punct (codes ";")) need w.0.1 e.0 mark) in
       elim (chosen (may_be_valued at head (is_some given)) (Some ((item.Value head given, need), e.0)) None (Some (x, rest)) e.2) [
         | inl g ↦
-            let valued = subst (λ b. may_be_valued at head b ≡ true) (some_told given) g.0 in
+            let valued = subst (λ b. may_be_valued at head b ≡ true) (some_told about_expr given) g.0 in
             let good = and_from (is_value_head head && may_be_valued at head (is_some value)) (value_placed value)
             (and_from (is_value_head head) (may_be_valued at head (is_some value)) k.2 valued) q.2 in
             same_some (Out (KindHeld at budget) ts) ((item.Value head given, need), e.0) (x, rest) g.1 (
