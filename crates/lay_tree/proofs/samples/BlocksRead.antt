@@ -53,16 +53,16 @@ in_braces t ts = opens Brace ∷ t ∷ closes Brace ∷ ts
 -- before a `}`
 last_a : (ts : Tokens) → expr_at statement 1 (word a ∷ closes Brace ∷ ts) ≡ Some ((name a, 1), closes Brace ∷ ts)
 unfolding code_in expr_by expr_lead_at binary strength climb op_at path_expr simple_path path chain segment args_by repeat repeat_from word_reading
-last_a ts = rw (name_is a) refl
+last_a ts = rw (name_is a, name_is a) refl
 
 last_b : (ts : Tokens) → expr_at statement 1 (word b ∷ closes Brace ∷ ts) ≡ Some ((name b, 1), closes Brace ∷ ts)
 unfolding code_in expr_by expr_lead_at binary strength climb op_at path_expr simple_path path chain segment args_by repeat repeat_from word_reading
-last_b ts = rw (name_is b) refl
+last_b ts = rw (name_is b, name_is b) refl
 
 -- before a `;`
 ended_a : (ts : Tokens) → expr_at statement 1 (word a ∷ semicolon ∷ ts) ≡ Some ((name a, 1), semicolon ∷ ts)
 unfolding code_in expr_by expr_lead_at binary strength climb op_at path_expr simple_path path chain segment args_by repeat repeat_from word_reading
-ended_a ts = rw (name_is a) refl
+ended_a ts = rw (name_is a, name_is a) refl
 
 -- before a block
 condition_a : (ts : Tokens) → expr_at (plain 0 true) 1 (word a ∷ opens Brace ∷ ts) ≡ Some ((name a, 1), opens Brace ∷ ts)
