@@ -47,6 +47,7 @@ pub mod ItemBegins
 pub mod BlockFronts
 pub mod BlockEnds
 pub mod ElseEnds
+pub mod ArmFronts
 pub mod ExprQuiet
 pub mod ExprHeadsWords
 pub mod ExprHeadsJumps
