@@ -400,7 +400,7 @@ op_follows (b ∷ bs) ts o h a =
 tail_inner : (t : Tail) (no_struct : Bool) (ts : Tokens) → Inner ts → is_open t ≡ false → may_follow t.refuses ts ≡ true
     → tail_follows t no_struct ts ≡ true
 tail_inner t no_struct ts i shut f =
-    let n = or_parts t.takes_all t.bare shut in
+    let n = or_parts t.takes_all t.bare (or_parts (t.takes_all || t.bare) t.closure shut).0 in
     rw (n.0, n.1, i.brace, i.lifetime, i.pointer, i.otherwise, f, and_none (not no_struct), and_none t.path, and_none t.unlabelled, and_none t.raw, and_none t.lacks_else) refl
 
 -- An operator may follow what it ends in, where that isn't open; `<` and `<<` not a type that is open at its end.
@@ -408,7 +408,7 @@ pub op_tail : (t : Tail) (no_struct : Bool) (ts : Tokens) (o : Op) → binary ts
     → (is_typed t ≡ true → is_angle ts ≡ false)
     → tail_follows t no_struct ts ≡ true
 op_tail t no_struct ts o h shut angle =
-    let n = or_parts t.takes_all t.bare shut in
+    let n = or_parts t.takes_all t.bare (or_parts (t.takes_all || t.bare) t.closure shut).0 in
     tail_inner t no_struct ts (op_inner ts o h) shut (op_follows t.refuses ts o h (λ e. angle (rw (n.0, e) refl)))
 
 -- `as` and steps may follow what ends in a path or a field.

@@ -182,7 +182,7 @@ module _ (depth : ℕ) (ih : AllEnd depth) (no_struct first : Bool) (ts rest : T
   ends _ (IsWhile label pat x b) = shut_end (expr.While label pat x b) (Expr-F.While label pat (about_expr x) (about_block b)) (expr_while_is label pat x b) refl
   ends _ (IsFor label pat x b) = shut_end (expr.For label pat x b) (Expr-F.For label pat (about_expr x) (about_block b)) (expr_for_is label pat x b) refl
   ends _ (IsClosure moves params x) = taking_end (expr.Closure moves params x) (Expr-F.Closure moves params (about_expr x)) (expr_closure_is moves params x) refl
-  ends _ (IsTypedClosure moves params output b) = taking_end (expr.TypedClosure moves params output b) (Expr-F.TypedClosure moves params output (about_block b)) (expr_typed_closure_is moves params output b) refl
+  ends _ (IsTypedClosure moves params output b) = shut_end (expr.TypedClosure moves params output b) (Expr-F.TypedClosure moves params output (about_block b)) (expr_typed_closure_is moves params output b) refl
   ends _ (IsReturn x) = jump_end (expr.Return x) (Expr-F.Return (option_map about_expr x)) (expr_return_is x) (option_map about_expr x) refl
   ends _ (IsBreak label x) =
       jump_end (expr.Break label x) (Expr-F.Break label (option_map about_expr x)) (expr_break_is label x) (option_map about_expr x) refl
@@ -197,7 +197,8 @@ pub high_refuses : (x : Expr) (no_struct first : Bool) (depth : ℕ) (ts rest : 
     → (about_expr x).within no_struct first ≡ true → nat_le 12 (about_expr x).level ≡ true → is_open (about_expr x).tail ≡ false
     → path_refuses (about_expr x).tail.refuses ≡ true
 high_refuses x no_struct first depth ts rest s w l shut =
-    let t = (about_expr x).tail in all_end depth x no_struct first ts rest s w l (or_parts t.takes_all t.bare shut).0
+    let t = (about_expr x).tail in all_end depth x no_struct first ts rest s w l
+    (or_parts t.takes_all t.bare (or_parts (t.takes_all || t.bare) t.closure shut).0).0
 
 -- ---- an operand before an operator
 

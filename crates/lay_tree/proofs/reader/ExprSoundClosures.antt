@@ -131,27 +131,22 @@ module _ (budget : ℕ) (within : ExprWithin) (sound : SoundExprWithin budget wi
             let most = max need (max y.0.0.1 b.0.0.1) in
             let end = b.0.1 in
             let F : Form = Piece (Blank ∷ Operator (codes "->") ∷ Blank ∷ []) (Part T (Part (block.form true) Done)) in
-            elim (chosen (strength end == 0) _ _ _ b.2) [
-              | inl f ↦
-                  let form : Spells F most at end = (
-                    from,
-                    (at, refl, (from, o, (from, refl, refl))),
-                    (
-                      y.0.1,
-                      raise T y.0.0.1 most from y.0.1 (omega arith) ys.0.1,
-                      (end, raise (block.form true) b.0.0.1 most y.0.1 end (omega arith) (k.0.form true), refl),
-                    ),
-                  ) in
-                  let whole = and_from (list_all is_closure_param params && good_at NoBounds (about_type ty)) block.good
-                  (and_from (list_all is_closure_param params) (good_at NoBounds (about_type ty)) good ys.0.2) k.0.good in
-                  let follows = all_taken shut no_struct end (eqb-true (strength end) 0 f.0) refl in
-                  same_some (Out Left ts) ((expr.TypedClosure moves params ty b.0.0.0, suc most), end) (x, rest) f.1 (
-                    made no_struct starts (about_expr (expr.TypedClosure moves params ty b.0.0.0)) (Expr-F.TypedClosure moves params ty block)
-                        most ts end (expr_typed_closure_is moves params ty b.0.0.0) (leads F most end (omega arith) form) whole follows,
-                    k.1,
-                  )
-              | inr f ↦ absurd (cc f.1)
-            ]
+            let form : Spells F most at end = (
+              from,
+              (at, refl, (from, o, (from, refl, refl))),
+              (
+                y.0.1,
+                raise T y.0.0.1 most from y.0.1 (omega arith) ys.0.1,
+                (end, raise (block.form true) b.0.0.1 most y.0.1 end (omega arith) (k.0.form true), refl),
+              ),
+            ) in
+            let whole = and_from (list_all is_closure_param params && good_at NoBounds (about_type ty)) block.good
+            (and_from (list_all is_closure_param params) (good_at NoBounds (about_type ty)) good ys.0.2) k.0.good in
+            same_some (Out Left ts) ((expr.TypedClosure moves params ty b.0.0.0, suc most), end) (x, rest) b.2 (
+              made no_struct starts (about_expr (expr.TypedClosure moves params ty b.0.0.0)) (Expr-F.TypedClosure moves params ty block)
+                  most ts end (expr_typed_closure_is moves params ty b.0.0.0) (leads F most end (omega arith) form) whole refl,
+              k.1,
+            )
         | inr g ↦
             let e = bind_some (within.exprs (plain 0 no_struct) at) _ _ g.1 in
             let s = sound.exprs (plain 0 no_struct) at e.0.0 e.0.1 t e.1 in

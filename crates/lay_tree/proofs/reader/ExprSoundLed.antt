@@ -148,12 +148,8 @@ module _ (within : ExprWithin) where
             let t = bind_some (within.kinds.types NoBounds (drop 2 ps.0.1)) _ _ g.1 in
             let b = bind_some (block_by within t.0.1) _ _ t.2 in
             let made = expr.TypedClosure moves all t.0.0.0 b.0.0.0 in
-            elim (chosen (strength b.0.1 == 0) _ _ _ b.2) [
-              | inl f ↦
-                  same_some (Led ByClosure) ((made, suc (max need (max t.0.0.1 b.0.0.1))), b.0.1) r f.1
-                  (led (expr_typed_closure_is moves all t.0.0.0 b.0.0.0))
-              | inr f ↦ absurd (cc f.1)
-            ]
+            same_some (Led ByClosure) ((made, suc (max need (max t.0.0.1 b.0.0.1))), b.0.1) r b.2
+            (led (expr_typed_closure_is moves all t.0.0.0 b.0.0.0))
         | inr g ↦
             let x = bind_some (within.exprs (plain 0 no_struct) ps.0.1) _ _ g.1 in
             same_some (Led ByClosure) ((expr.Closure moves all x.0.0.0, suc (max need x.0.0.1)), x.0.1) r x.2

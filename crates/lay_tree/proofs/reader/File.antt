@@ -30,7 +30,7 @@ use Rattle.lay_node.specs.reader.Vis.{visibility}
 use Rattle.lay_node.specs.reader.Words.{word as word_reading}
 use Rattle.lay_node.specs.reader.Call.{call}
 use Rattle.lay_node.specs.reader.SimplePath.{simple_path}
-use Rattle.lay_tree.specs.reader.Code.{item_at}
+use Rattle.lay_tree.specs.reader.Code.{code_in, item_at}
 use Rattle.lay_tree.specs.reader.Item.{item_by, kind_at, call_item}
 use Rattle.lay_tree.specs.reader.ItemLeads.{item_lead}
 use Rattle.lay_tree.specs.declared.file.File.{File}
@@ -88,7 +88,7 @@ no_inner ts h =
 
 -- Where no token is left, no item is read.
 no_item_left : (budget : ℕ) → item_at Module budget [] ≡ None
-unfolding item_at item_by attributes repeat repeat_from visibility kind_at item_lead call_item call simple_path word_reading op_at group
+unfolding code_in item_by attributes repeat repeat_from visibility kind_at item_lead call_item call simple_path word_reading op_at group
 no_item_left zero = refl
 no_item_left (suc budget) = refl
 

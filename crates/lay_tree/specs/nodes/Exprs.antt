@@ -74,7 +74,7 @@ lacks_operand = record shut { bare = true }
 
 -- No operator can follow it.
 abbrev pub is_open : Tail → Bool
-is_open t = t.takes_all || t.bare
+is_open t = t.takes_all || t.bare || t.closure
 
 abbrev pub is_args : Begin → Bool
 is_args OfArgs = true
@@ -567,7 +567,7 @@ tail_of (Expr-F.Return x) = tail_of_jump x
 tail_of (Expr-F.Break label x) = tail_of_jump x
 tail_of (Expr-F.If branches otherwise) = record shut { lacks_else = not (is_some otherwise) }
 tail_of (Expr-F.Closure moves params x) = record x.tail { takes_all = true; closure = true }
-tail_of (Expr-F.TypedClosure moves params output b) = record shut { takes_all = true; closure = true }
+tail_of (Expr-F.TypedClosure moves params output b) = record shut { closure = true }
 tail_of _ = shut
 
 -- ---- what it is

@@ -256,7 +256,7 @@ closure_body within no_struct moves params need ts =
     then (do
       t ← within.kinds.types NoBounds (drop 2 ts)
       b ← block_by within t.1
-      if strength b.1 == 0 then Some ((expr.TypedClosure moves params t.0.0 b.0.0, suc (max need (max t.0.1 b.0.1))), b.1) else None)
+      Some ((expr.TypedClosure moves params t.0.0 b.0.0, suc (max need (max t.0.1 b.0.1))), b.1))
     else (do x ← within.exprs (plain 0 no_struct) ts; Some ((expr.Closure moves params x.0.0, suc (max need x.0.1)), x.1))
 
 unfoldable pub closure_expr : ExprWithin → Bool → Tokens → Read Expr
