@@ -1,5 +1,5 @@
 -- What an operand ends in: an expression of level 12 or more that isn't open at its end ends as paths and fields do.
-use Rattle.std.proofs.Common.{◌≡◌, ℕ, zero, suc, Bool, true, false, not, ◌&&◌, nat_le, List, [], ◌∷◌, map, Option, option_map, Some, None, refl, sym, ap, subst, ◌∙◌, arith}
+use Rattle.std.proofs.Common.{◌≡◌, ℕ, zero, suc, Bool, true, false, not, ◌&&◌, nat_le, List, [], ◌∷◌, map, Option, option_map, Some, None, refl, sym, ap, subst, ◌∙◌, arith, ◌||◌}
 use Rattle.std.proofs.lemmas.Bool.{and_parts, or_parts, not-true, leb-true}
 use Rattle.lay_form.specs.Form.{Done, Part}
 use Rattle.lay_form.specs.Spelled.{Spells}
