@@ -85,8 +85,7 @@ stmts_apart : (ss : List Stmt) (depth : ℕ) (ts end rest : Tokens) → Rows (λ
 stmts_apart [] depth ts end rest r g c = r
 stmts_apart (s ∷ []) depth ts end rest r g c =
     let t = stmt_apart (about_stmt s) depth ts r.0 r.1 in
-    let shut = (closer_first Brace end rest c).0 in
-    (
+    let shut = (closer_first Brace end rest c).0 in (
       r.0,
       record {
         at = t.0;
@@ -109,8 +108,7 @@ stmts_apart (s ∷ []) depth ts end rest r g c =
 stmts_apart (s ∷ v ∷ more) depth ts end rest r g c =
     let t = stmt_apart (about_stmt s) depth ts r.0 r.1 in
     let g2 = and_parts ((about_stmt s).good && (about_stmt s).ends) (stmts_good (map about_stmt (v ∷ more))) g in
-    let g1 = and_parts (about_stmt s).good (about_stmt s).ends g2.0 in
-    (
+    let g1 = and_parts (about_stmt s).good (about_stmt s).ends g2.0 in (
       r.0,
       record { at = t.0; spelled = t.1; behind = t.2; good = g1.0; ends = inl g1.1 },
       stmts_apart (v ∷ more) depth r.0 end rest r.2 g2.1 c,
