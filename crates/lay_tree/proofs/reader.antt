@@ -30,6 +30,7 @@ pub mod ExprSoundStages
 pub mod ExprSound
 pub mod ExprHeads
 pub mod ExprLeads
+pub mod BlockForms
 pub mod ExprFronts
 pub mod ExprQuiet
 pub mod ExprHeadsWords
@@ -38,6 +39,9 @@ pub mod ExprHeadsLists
 pub mod ExprHeadsRaw
 pub mod ExprHeadsUnary
 pub mod ExprHeadsStruct
+pub mod ExprHeadsBlocks
+pub mod ExprHeadsBranches
+pub mod ExprHeadsClosures
 pub mod ExprOperators
 pub mod ExprOperatorsLoops
 pub mod ExprSteps
@@ -45,5 +49,8 @@ pub mod ExprOperatorsTails
 pub mod ExprOperatorsRows
 pub mod ExprClimb
 pub mod ExprClimbKinds
+pub mod PatternLeads
+pub mod FrontsHeld
 pub mod ExprComplete
+pub mod CodeComplete
 pub mod ExprExact

@@ -26,10 +26,11 @@ use Rattle.lay_tree.specs.reader.File.{whole}
 use Rattle.lay_tree.specs.reader.Item.{items_by}
 use Rattle.lay_tree.specs.declared.file.File.{File}
 use Rattle.lay_tree.specs.declared.item.Item.{Item}
+use Rattle.lay_tree.proofs.reader.CodeComplete.{item_complete}
+use Rattle.lay_tree.proofs.reader.FrontsHeld.{fronts}
 use Rattle.lay_tree.proofs.reader.Item.{item_sound}
-use Rattle.lay_tree.proofs.reader.ItemExact.{heads_complete, heads_sound, values_sound, values_complete}
+use Rattle.lay_tree.proofs.reader.ItemExact.{heads_sound, values_sound}
 use Rattle.lay_tree.proofs.reader.ItemKinds.{items_begin, items_complete}
-use Rattle.lay_tree.proofs.reader.ItemRead.{item_complete}
 
 none_left : (ts : Tokens) → at_end ts ≡ true → ts ≡ []
 none_left [] h = refl
@@ -87,7 +88,7 @@ whole_complete file ts s g =
     (lines_rows (map attr_form file.attrs ++ forms (map (about_item Module) file.items)) top ts [] s) in
     let attrs = attrs_rows true top file.attrs ts a.0 a.1 goods.0 in
     let items = rows_good (about_item Module) top file.items a.0 [] a.2 goods.1 in
-    let r = items_complete Module top (item_at Module top) (item_complete heads_complete values_complete Module top top (omega arith)) file.items a.0 [] items refl in
+    let r = items_complete Module top (item_at Module top) (item_complete fronts Module top top (omega arith)) file.items a.0 [] items refl in
     whole_read ts a.0 file.attrs file.items r.0
     (attributes_complete true file.attrs top ts a.0 attrs (items_begin Module file.items top a.0 [] items refl)) r.3 r.1
 

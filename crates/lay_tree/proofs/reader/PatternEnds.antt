@@ -152,3 +152,7 @@ brace_quiet ts rest o =
       };
       plus = no (codes "+");
     }
+
+-- the word of a where clause
+pub where_quiet : (ts rest : Tokens) → IsOne Ident (codes "where") ts rest → Quiet ts
+where_quiet ts rest o = record { free = word_free (codes "where") ts rest o; plus = one_no_op (codes "+") Ident (codes "where") ts rest refl o }

@@ -22,7 +22,7 @@ use Rattle.lay_node.specs.declared.patterns.Pat.{Pat}
 use Rattle.lay_node.specs.declared.patterns.PatPlace.TheVariants.{Single}
 use Rattle.lay_node.specs.declared.types.Ty.{Ty}
 use Rattle.lay_node.specs.declared.types.TypePlace.TheVariants.{Bounds}
-use Rattle.lay_node.proofs.Fronts.{one_front, mark_passed, other_op}
+use Rattle.lay_node.proofs.Fronts.{one_front, one_no_op, mark_passed, other_op}
 use Rattle.lay_node.proofs.Parts.{Closed, behind_attrs_rows, before_blank, behind_blank, bit_alone, part_alone, piece_bit}
 use Rattle.lay_node.proofs.reader.Attr.{attrs_rows}
 use Rattle.lay_node.proofs.reader.AttrRead.{attributes_complete}
@@ -48,7 +48,7 @@ use Rattle.lay_tree.specs.declared.blocks.Stmt.TheVariants as stmt
 use Rattle.lay_tree.specs.declared.exprs.Expr.{Expr}
 use Rattle.lay_tree.specs.declared.item.Item.{Item}
 use Rattle.lay_tree.proofs.nodes.BlocksLaws.{StmtView, IsLet, IsItem, IsExpr, stmt_view, stmt_let_is, stmt_item_is, stmt_expr_is}
-use Rattle.lay_tree.proofs.reader.BlockReads.{Begun, ExprAhead, Fronts}
+use Rattle.lay_tree.proofs.reader.BlockReads.{Begun, ExprAhead, Fronts, NoItem}
 use Rattle.lay_tree.proofs.reader.ExprQuiet.{ExprEnds, ends_follow, semicolon_ends_expr, closer_ends_expr}
 use Rattle.lay_tree.proofs.reader.ExprReads.{ExprReads}
 use Rattle.lay_tree.proofs.reader.ExprSoundLevel.{layer_of}
@@ -96,13 +96,17 @@ block_tail x no_struct ts h e =
     by (Expr-F.For label pat x b) g = refl
     by _ g = absurd (cc)
 
-semicolon_no_name : (ts rest : Tokens) → IsOne Punct (codes ";") ts rest → is_some (name ts) ≡ false
+-- Neither a `;` nor a `}` makes an item of the word before it.
+semicolon_no_item : (ts rest : Tokens) → IsOne Punct (codes ";") ts rest → NoItem ts
 unfolding name
-semicolon_no_name ts rest o = rw (one_front Punct (codes ";") ts rest o).1 refl
+semicolon_no_item ts rest o =
+    let n = no_other_op 33 [] 59 ts rest refl o in (rw (one_front Punct (codes ";") ts rest o).1 refl, rw n refl)
 
-closer_no_name : (ts rest : Tokens) → Closed Brace ts rest → is_some (name ts) ≡ false
+closer_no_item : (ts rest : Tokens) → Closed Brace ts rest → NoItem ts
 unfolding name
-closer_no_name ts rest o = rw (one_front (Closer Brace) (closing Brace ∷ []) ts rest o).1 refl
+closer_no_item ts rest o =
+    let n = one_no_op (codes "!") (Closer Brace) (closing Brace ∷ []) ts rest refl o in
+    (rw (one_front (Closer Brace) (closing Brace ∷ []) ts rest o).1 refl, rw n refl)
 
 module _ (fronts : Fronts) (depth : ℕ) (within : ExprWithin) (reads : ExprReads depth within) where
   -- ---- the parts of a `let`
@@ -319,17 +323,17 @@ module _ (fronts : Fronts) (depth : ℕ) (within : ExprWithin) (reads : ExprRead
       by true us at t e b w =
           let o : IsOne Punct (codes ";") at rest = piece_bit (Fixed Punct (codes ";")) depth at rest e in
           let r = reads.exprs statement x us at t w (ends_follow (about_expr x) statement at (semicolon_ends_expr false at rest o)) in
-          (fronts.exprs x depth us at t w (λ h. semicolon_no_name at rest o), (r.0, r.1, ended_made attrs x r.0 us at rest r.2 o))
+          (fronts.exprs x depth us at t w (λ h. semicolon_no_item at rest o), (r.0, r.1, ended_made attrs x r.0 us at rest r.2 o))
       by false us at t e b w =
           let q = b refl in
           let here : Spells (about_expr x).form depth us rest = subst (λ vs. Spells (about_expr x).form depth us vs) e t in
           let r = reads.exprs statement x us rest here w (unended_fits x rest q.0 q.1) in
           (fronts.exprs x depth us rest here w (no_name q.1), (r.0, r.1, unended_made attrs x r.0 us rest r.2 q.0.mark))
         where
-          no_name : ((about_expr x).block_like ≡ true) ⊎ ((end : Tokens) × Closed Brace rest end) → (about_expr x).block_like ≡ false → is_some (name rest) ≡ false
+          no_name : ((about_expr x).block_like ≡ true) ⊎ ((end : Tokens) × Closed Brace rest end) → (about_expr x).block_like ≡ false → NoItem rest
           no_name q h = elim q [
             | inl k ↦ absurd (cc)
-            | inr c ↦ closer_no_name rest c.0 c.1
+            | inr c ↦ closer_no_item rest c.0 c.1
           ]
 
   -- ---- all statements
