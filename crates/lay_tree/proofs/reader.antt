@@ -32,6 +32,11 @@ pub mod ExprHeads
 pub mod ExprLeads
 pub mod BlockForms
 pub mod ExprFronts
+pub mod ExprFirst
+pub mod ItemBegins
+pub mod BlockFronts
+pub mod BlockEnds
+pub mod ElseEnds
 pub mod ExprQuiet
 pub mod ExprHeadsWords
 pub mod ExprHeadsJumps

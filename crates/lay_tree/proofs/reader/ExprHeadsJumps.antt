@@ -49,8 +49,8 @@ none_follows t no_struct ts f =
         bare = f.bare;
         path = f.path;
         label = f.label;
-        raw =
-            f.raw;
+        raw = f.raw;
+        otherwise = f.otherwise;
         refuses = f.refuses;
       }),
     )

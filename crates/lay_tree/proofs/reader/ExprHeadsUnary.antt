@@ -157,7 +157,7 @@ prefix_rows (p ∷ q ∷ ps) f depth ts rest s stops =
 operand_fits : (t : Tail) (more no_struct : Bool) (ts : Tokens) → TailFits (record t { raw = t.raw || more }) no_struct ts
     → TailFits t no_struct ts
 operand_fits t more no_struct ts f =
-    record { all = f.all; bare = f.bare; path = f.path; label = f.label; raw = less t.raw f.raw; refuses = f.refuses }
+    record { all = f.all; bare = f.bare; path = f.path; label = f.label; raw = less t.raw f.raw; otherwise = f.otherwise; refuses = f.refuses }
   where
     less : (a : Bool) → not ((a || more) && begins_pointer ts) ≡ true → not (a && begins_pointer ts) ≡ true
     less true h = h

@@ -13,7 +13,7 @@ use Rattle.lay_node.specs.declared.types.PathStyle.TheVariants.{Code}
 use Rattle.lay_node.proofs.Parts.{part_alone}
 use Rattle.lay_node.proofs.nodes.TypesLaws.{ArgsView, IsNone, IsAngle, IsRound, about_segment, args_view, args_none_is, args_angle_is, args_round_is, path_is}
 use Rattle.lay_node.proofs.reader.TypesBegins.{path_goods}
-use Rattle.lay_tree.specs.nodes.Code.{about_expr, about_field_expr, about_step}
+use Rattle.lay_tree.specs.nodes.Code.{about_expr, about_field_expr, about_step, about_arm, about_block, about_branch}
 use Rattle.lay_tree.specs.nodes.Exprs.{ExprFacts, StepFacts, Tail, is_open, is_typed, placed, stands, StepKind, OfField, tail_of_steps, tail_of_jump, prefixes_form, level_of_chain, next_is_angle, is_chain_level, may_chain, operands_placed, is_prefix_lead, inside, level_of, tail_of, within_of, expr_facts, ExprLayer}
 use Rattle.lay_tree.specs.nodes.Places.{plain, is_part, part_if, before_op}
 use Rattle.lay_tree.specs.declared.exprs.Expr.{Expr}
@@ -22,7 +22,7 @@ use Rattle.lay_tree.specs.declared.exprs.Expr.TheVariants as expr
 use Rattle.lay_tree.specs.declared.exprs.Place.{Place}
 use Rattle.lay_tree.specs.declared.operators.Op.{Op}
 use Rattle.lay_tree.specs.declared.operators.Prefix.{Prefix}
-use Rattle.lay_tree.proofs.nodes.ExprsLaws.{ExprView, IsLit, IsPath, IsUnderscore, IsCall, IsParen, IsContinue, IsTuple, IsArray, IsRepeat, IsStruct, IsChain, IsCast, IsUnary, IsRange, IsAssign, IsPostfix, IsReturn, IsBreak, expr_view, behind_op, before_op as target_of, expr_lit_is, expr_path_is, expr_underscore_is, expr_call_is, expr_paren_is, expr_continue_is, expr_tuple_is, expr_array_is, expr_repeat_is, expr_struct_is, expr_chain_is, expr_cast_is, expr_unary_is, expr_range_is, expr_assign_is, expr_postfix_is, expr_return_is, expr_break_is}
+use Rattle.lay_tree.proofs.nodes.ExprsLaws.{ExprView, IsLit, IsPath, IsUnderscore, IsCall, IsParen, IsContinue, IsTuple, IsArray, IsRepeat, IsStruct, IsChain, IsCast, IsUnary, IsRange, IsAssign, IsPostfix, IsBlock, IsUnsafe, IsConstBlock, IsAsync, IsIf, IsMatch, IsLoop, IsWhile, IsFor, IsClosure, IsTypedClosure, IsReturn, IsBreak, expr_view, behind_op, before_op as target_of, expr_lit_is, expr_path_is, expr_underscore_is, expr_call_is, expr_paren_is, expr_continue_is, expr_tuple_is, expr_array_is, expr_repeat_is, expr_struct_is, expr_chain_is, expr_cast_is, expr_unary_is, expr_range_is, expr_assign_is, expr_postfix_is, expr_block_is, expr_unsafe_is, expr_const_block_is, expr_async_is, expr_if_is, expr_match_is, expr_loop_is, expr_while_is, expr_for_is, expr_closure_is, expr_typed_closure_is, expr_return_is, expr_break_is}
 use Rattle.lay_tree.proofs.reader.ExprFronts.{no_depth}
 use Rattle.lay_tree.proofs.reader.ExprOperators.{path_refuses}
 
@@ -143,6 +143,10 @@ module _ (depth : ℕ) (ih : AllEnd depth) (no_struct first : Bool) (ts rest : T
   jump_end x F e None j = told x F e (λ s w l t. subst (λ (z : Tail). path_refuses z.refuses ≡ true) (sym j) refl)
   jump_end x F e (Some y) j = told x F e (λ s w l t. let f = ap (λ (z : Tail). z.takes_all) (sym j) ∙ t in absurd (cc))
 
+  -- A closure takes all operators.
+  taking_end : (x : Expr) (F : ExprLayer) → about_expr x ≡ expr_facts F → (tail_of F).takes_all ≡ true → EndsBy (about_expr x)
+  taking_end x F e takes = told x F e (λ s w l t. let f = sym takes ∙ t in absurd (cc))
+
   -- kind by kind
   ends : (x : Expr) → ExprView x → EndsBy (about_expr x)
   ends _ (IsLit l) = shut_end (expr.Lit l) (Expr-F.Lit l) (expr_lit_is l) refl
@@ -168,6 +172,17 @@ module _ (depth : ℕ) (ih : AllEnd depth) (no_struct first : Bool) (ts rest : T
   ends _ (IsPostfix x steps) =
       shut_end (expr.Postfix x steps) (Expr-F.Postfix (about_expr x) (map about_step steps)) (expr_postfix_is x steps)
       (steps_refuse (map about_step steps))
+  ends _ (IsBlock label b) = shut_end (expr.Block label b) (Expr-F.Block label (about_block b)) (expr_block_is label b) refl
+  ends _ (IsUnsafe b) = shut_end (expr.Unsafe b) (Expr-F.Unsafe (about_block b)) (expr_unsafe_is b) refl
+  ends _ (IsConstBlock b) = shut_end (expr.ConstBlock b) (Expr-F.ConstBlock (about_block b)) (expr_const_block_is b) refl
+  ends _ (IsAsync moves b) = shut_end (expr.Async moves b) (Expr-F.Async moves (about_block b)) (expr_async_is moves b) refl
+  ends _ (IsIf bs o) = shut_end (expr.If bs o) (Expr-F.If (map about_branch bs) (option_map about_block o)) (expr_if_is bs o) refl
+  ends _ (IsMatch x attrs arms) = shut_end (expr.Match x attrs arms) (Expr-F.Match (about_expr x) attrs (map about_arm arms)) (expr_match_is x attrs arms) refl
+  ends _ (IsLoop label b) = shut_end (expr.Loop label b) (Expr-F.Loop label (about_block b)) (expr_loop_is label b) refl
+  ends _ (IsWhile label pat x b) = shut_end (expr.While label pat x b) (Expr-F.While label pat (about_expr x) (about_block b)) (expr_while_is label pat x b) refl
+  ends _ (IsFor label pat x b) = shut_end (expr.For label pat x b) (Expr-F.For label pat (about_expr x) (about_block b)) (expr_for_is label pat x b) refl
+  ends _ (IsClosure moves params x) = taking_end (expr.Closure moves params x) (Expr-F.Closure moves params (about_expr x)) (expr_closure_is moves params x) refl
+  ends _ (IsTypedClosure moves params output b) = taking_end (expr.TypedClosure moves params output b) (Expr-F.TypedClosure moves params output (about_block b)) (expr_typed_closure_is moves params output b) refl
   ends _ (IsReturn x) = jump_end (expr.Return x) (Expr-F.Return (option_map about_expr x)) (expr_return_is x) (option_map about_expr x) refl
   ends _ (IsBreak label x) =
       jump_end (expr.Break label x) (Expr-F.Break label (option_map about_expr x)) (expr_break_is label x) (option_map about_expr x) refl

@@ -103,7 +103,7 @@ vis_begins v depth ts mid rest s k = elim (vis_front v depth ts mid s) [
       let f = one_front Ident (codes "pub") ts o.0 o.1 in ((rw f.1 refl, rw f.1 refl), rw f.1 refl, shorter (vis_form v) depth ts mid s)
 ]
 
-item_begins : (at : Site) (depth : ℕ) (one : Item) (ts rest : Tokens) → GoodAt (about_item at) depth one ts rest → BeginsItem ts × (length rest < length ts)
+pub item_begins : (at : Site) (depth : ℕ) (one : Item) (ts rest : Tokens) → GoodAt (about_item at) depth one ts rest → BeginsItem ts × (length rest < length ts)
 item_begins at zero one ts rest g = absurd (item_none at one ts rest g.0)
 item_begins at (suc depth) one ts rest g =
     let p = item_parts at one depth ts rest g in
