@@ -55,6 +55,7 @@ pub mod ExprOperatorsRows
 pub mod ExprClimb
 pub mod ExprClimbKinds
 pub mod PatternLeads
+pub mod ArrowFronts
 pub mod FrontsHeld
 pub mod ExprComplete
 pub mod CodeComplete
