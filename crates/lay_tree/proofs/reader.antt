@@ -37,6 +37,7 @@ pub mod ItemBegins
 pub mod BlockFronts
 pub mod BlockEnds
 pub mod ElseEnds
+pub mod ArmFronts
 pub mod ExprQuiet
 pub mod ExprHeadsWords
 pub mod ExprHeadsJumps

@@ -12,7 +12,7 @@ use Rattle.lay_node.specs.reader.Generics.{generics}
 use Rattle.lay_node.specs.reader.Loops.{elements, elements_from, open_elements, open_elements_from, repeat, repeat_from}
 use Rattle.lay_node.specs.reader.Patterns.{bind, pat_at, pat_by, path_by, path_pat, pat_in, single_at}
 use Rattle.lay_node.specs.reader.SimplePath.{simple_path}
-use Rattle.lay_node.specs.reader.Types.{args_by, chain, lifetime, path, segment, within}
+use Rattle.lay_node.specs.reader.Types.{args_by, chain, lifetime, path, path_type, segment, within}
 use Rattle.lay_node.specs.reader.Vis.{visibility}
 use Rattle.lay_node.specs.reader.Where.{wheres}
 use Rattle.lay_node.specs.reader.Words.{name as name_reading, word as word_reading}
@@ -26,7 +26,7 @@ use Rattle.lay_tree.specs.nodes.Code.{about_expr, about_stmt}
 use Rattle.lay_tree.specs.nodes.Places.{FREE, plain, statement}
 use Rattle.lay_tree.specs.reader.Blocks.{arm_body, arm_by, behind_semicolons, block_by, branch_by, condition_by, expr_stmt, let_stmt, stmt_by, stmt_in_block, undressed}
 use Rattle.lay_tree.specs.reader.Code.{code_in, expr_at, item_at}
-use Rattle.lay_tree.specs.reader.Exprs.{block_word_expr, climb, climb_by, closure_expr, closure_param, expr_by, head_by, if_expr, label_expr, match_expr, path_expr, while_expr}
+use Rattle.lay_tree.specs.reader.Exprs.{block_word_expr, climb, climb_by, closure_expr, closure_param, expr_by, for_expr, head_by, if_expr, label_expr, match_expr, path_expr, while_expr}
 use Rattle.lay_tree.specs.reader.Item.{function_by, item_by, kind_at}
 use Rattle.lay_tree.specs.reader.ItemLeads.{item_lead}
 use Rattle.lay_tree.specs.declared.blocks.Stmt.TheVariants as stmt
@@ -38,7 +38,7 @@ use Rattle.lay_tree.proofs.nodes.ExprsLaws as exprs
 use Rattle.lay_tree.proofs.nodes.ItemLaws as items
 use Rattle.lay_tree.proofs.samples.Blocks.{alone_is, alone_of, arm_of, block_of, branch_of, ended_then, pair_is, param_named}
 use Rattle.lay_tree.proofs.samples.ExprHeads.{at_level, reads}
-use Rattle.lay_tree.proofs.samples.Exprs.{name, name_is, tick_a}
+use Rattle.lay_tree.proofs.samples.Exprs.{name, name_is, named_type, tick_a}
 use Rattle.lay_tree.proofs.samples.Heads.{fn_of, name_pat, unseen}
 use Rattle.lay_tree.proofs.samples.ItemTrees.{no_wheres}
 
@@ -53,16 +53,16 @@ in_braces t ts = opens Brace ∷ t ∷ closes Brace ∷ ts
 -- before a `}`
 last_a : (ts : Tokens) → expr_at statement 1 (word a ∷ closes Brace ∷ ts) ≡ Some ((name a, 1), closes Brace ∷ ts)
 unfolding code_in expr_by expr_lead_at binary strength climb op_at path_expr simple_path path chain segment args_by repeat repeat_from word_reading
-last_a ts = rw (name_is a) refl
+last_a ts = rw (name_is a, name_is a) refl
 
 last_b : (ts : Tokens) → expr_at statement 1 (word b ∷ closes Brace ∷ ts) ≡ Some ((name b, 1), closes Brace ∷ ts)
 unfolding code_in expr_by expr_lead_at binary strength climb op_at path_expr simple_path path chain segment args_by repeat repeat_from word_reading
-last_b ts = rw (name_is b) refl
+last_b ts = rw (name_is b, name_is b) refl
 
 -- before a `;`
 ended_a : (ts : Tokens) → expr_at statement 1 (word a ∷ semicolon ∷ ts) ≡ Some ((name a, 1), semicolon ∷ ts)
 unfolding code_in expr_by expr_lead_at binary strength climb op_at path_expr simple_path path chain segment args_by repeat repeat_from word_reading
-ended_a ts = rw (name_is a) refl
+ended_a ts = rw (name_is a, name_is a) refl
 
 -- before a block
 condition_a : (ts : Tokens) → expr_at (plain 0 true) 1 (word a ∷ opens Brace ∷ ts) ≡ Some ((name a, 1), opens Brace ∷ ts)
@@ -113,6 +113,18 @@ read_unsafe =
     reads 1 FREE (word (codes "unsafe") ∷ in_braces (word a) []) (expr.Unsafe (alone_of (name a)), 2) (expr.Unsafe (alone_of (name a)), 2) [] [] _
     unsafe_begun refl (exprs.expr_unsafe_is (alone_of (name a))) refl
 
+-- `const{a}` and `async move{a}`
+const_begun : head_by (at_level 1) false (expr_lead_at (word (codes "const") ∷ in_braces (word a) [])) (word (codes "const") ∷ in_braces (word a) [])
+    ≡ Some ((expr.ConstBlock (alone_of (name a)), 2), [])
+unfolding expr_lead_at block_word_expr
+const_begun = rw (block_a []) refl
+
+async_begun : head_by (at_level 1) false (expr_lead_at (word (codes "async") ∷ word (codes "move") ∷ in_braces (word a) []))
+    (word (codes "async") ∷ word (codes "move") ∷ in_braces (word a) [])
+    ≡ Some ((expr.Async true (alone_of (name a)), 2), [])
+unfolding expr_lead_at block_word_expr
+async_begun = rw (block_a []) refl
+
 -- `{;a;;b}`
 pair_begun : head_by (at_level 1) false
     (expr_lead_at (opens Brace ∷ semicolon ∷ word a ∷ semicolon ∷ semicolon ∷ word b ∷ closes Brace ∷ []))
@@ -133,7 +145,7 @@ read_pair =
 
 -- `a{b}`, behind an `if`
 branch_a : (ts : Tokens) → branch_by (at_level 1) (word a ∷ in_braces (word b) ts) ≡ Some ((branch_of None a b, 1), ts)
-unfolding branch_by
+unfolding branch_by condition_by
 branch_a ts = rw (condition_a (word b ∷ closes Brace ∷ ts), block_b ts) refl
 
 -- `if a{b}else{a}`
@@ -163,8 +175,19 @@ loop_begun = rw (block_b []) refl
 -- `while a{b}`
 while_begun : head_by (at_level 1) false (expr_lead_at (word (codes "while") ∷ word a ∷ in_braces (word b) [])) (word (codes "while") ∷ word a ∷ in_braces (word b) [])
     ≡ Some ((expr.While None None (name a) (alone_of (name b)), 2), [])
-unfolding expr_lead_at block_word_expr while_expr
+unfolding expr_lead_at block_word_expr while_expr condition_by
 while_begun = rw (condition_a (word b ∷ closes Brace ∷ []), block_b []) refl
+
+-- `for b in a{b}`
+pattern_in : (ts : Tokens) → pat_at Alternatives 1 (word b ∷ word (codes "in") ∷ ts) ≡ Some ((name_pat b, 1), word (codes "in") ∷ ts)
+unfolding single_at pat_by simple_path path_pat path_by bind path chain segment args_by repeat repeat_from word_reading op_at
+pattern_in ts = rw (lone b) refl
+
+for_begun : head_by (at_level 1) false (expr_lead_at (word (codes "for") ∷ word b ∷ word (codes "in") ∷ word a ∷ in_braces (word b) []))
+    (word (codes "for") ∷ word b ∷ word (codes "in") ∷ word a ∷ in_braces (word b) [])
+    ≡ Some ((expr.For None (name_pat b) (name a) (alone_of (name b)), 2), [])
+unfolding expr_lead_at block_word_expr for_expr
+for_begun = rw (pattern_in (word a ∷ in_braces (word b) []), condition_a (word b ∷ closes Brace ∷ []), block_b []) refl
 
 -- ---- arms
 
@@ -215,9 +238,60 @@ arm_dropped =
       lone_block,
       exprs.expr_block_is None (alone_of (name a)),
       alone_is a,
-      undressed_a 3,
+      undressed_a 2,
     )
     refl
+
+-- Others are kept: `b=>{;a;;b}`.
+abbrev braced_pair : Tokens → Tokens
+braced_pair ts = opens Brace ∷ semicolon ∷ word a ∷ semicolon ∷ semicolon ∷ word b ∷ closes Brace ∷ ts
+
+kept_begun : head_by (at_level 1) false (expr_lead_at (braced_pair (closes Brace ∷ []))) (braced_pair (closes Brace ∷ []))
+    ≡ Some ((expr.Block None (block_of (ended_then (name a) (name b))), 2), closes Brace ∷ [])
+unfolding expr_lead_at
+kept_begun = rw (block_pair (closes Brace ∷ [])) refl
+
+kept_ended : climb_by (at_level 1) statement (expr.Block None (block_of (ended_then (name a) (name b))), 2) (closes Brace ∷ [])
+    ≡ Some ((expr.Block None (block_of (ended_then (name a) (name b))), 2), closes Brace ∷ [])
+unfolding op_at
+kept_ended = rw (exprs.expr_block_is None (block_of (ended_then (name a) (name b)))) refl
+
+kept_block : expr_at statement 2 (braced_pair (closes Brace ∷ []))
+    ≡ Some ((expr.Block None (block_of (ended_then (name a) (name b))), 2), closes Brace ∷ [])
+unfolding binary strength climb op_at
+kept_block =
+    reads 1 statement (braced_pair (closes Brace ∷ [])) (expr.Block None (block_of (ended_then (name a) (name b))), 2)
+    (expr.Block None (block_of (ended_then (name a) (name b))), 2) (closes Brace ∷ []) (closes Brace ∷ []) _ kept_begun kept_ended
+    (exprs.expr_block_is None (block_of (ended_then (name a) (name b)))) refl
+
+kept : (turns : ℕ) → undressed (suc turns) (expr.Block None (block_of (ended_then (name a) (name b)))) ≡ expr.Block None (block_of (ended_then (name a) (name b)))
+unfolding undressed
+kept turns = rw (exprs.expr_block_is None (block_of (ended_then (name a) (name b))), pair_is) refl
+
+arm_kept : arm_by (at_level 2) (word b ∷ arrow (braced_pair (closes Brace ∷ [])))
+    ≡ Some ((arm_of b (expr.Block None (block_of (ended_then (name a) (name b)))), 3), closes Brace ∷ [])
+unfolding arm_by attributes repeat repeat_from op_at
+arm_kept =
+    rw (
+      pattern_b (braced_pair (closes Brace ∷ [])),
+      kept_block,
+      exprs.expr_block_is None (block_of (ended_then (name a) (name b))),
+      pair_is,
+      kept 7,
+    )
+    refl
+
+-- `match a{b=>{a}}`
+scrutinee_a : (ts : Tokens) → expr_at (plain 0 true) 2 (word a ∷ opens Brace ∷ ts) ≡ Some ((name a, 1), opens Brace ∷ ts)
+unfolding code_in expr_by expr_lead_at binary strength climb op_at path_expr simple_path path chain segment args_by repeat repeat_from word_reading
+scrutinee_a ts = rw (name_is a) refl
+
+match_begun : head_by (at_level 2) false
+    (expr_lead_at (word (codes "match") ∷ word a ∷ opens Brace ∷ word b ∷ arrow (in_braces (word a) (closes Brace ∷ []))))
+    (word (codes "match") ∷ word a ∷ opens Brace ∷ word b ∷ arrow (in_braces (word a) (closes Brace ∷ [])))
+    ≡ Some ((expr.Match (name a) [] (arm_of b (name a) ∷ []), 3), [])
+unfolding expr_lead_at block_word_expr match_expr attributes repeat repeat_from
+match_begun = rw (scrutinee_a (word b ∷ arrow (in_braces (word a) (closes Brace ∷ []))), arm_dropped) refl
 
 -- ---- `let` and `else`
 
@@ -263,6 +337,14 @@ closure_begun : head_by (at_level 1) false
     ≡ Some ((expr.Closure true (param_named a None ∷ []) (name b), 2), [])
 unfolding expr_lead_at closure_expr closure_param elements elements_from attributes repeat repeat_from op_at
 closure_begun = rw (param_a (word b ∷ []), body_b) refl
+
+-- `|a|->u8{b}`
+typed_begun : head_by (at_level 1) false
+    (expr_lead_at (mark (codes "|") ∷ word a ∷ mark (codes "|") ∷ token kind.Punct (codes "-") true ∷ mark (codes ">") ∷ word (codes "u8") ∷ in_braces (word b) []))
+    (mark (codes "|") ∷ word a ∷ mark (codes "|") ∷ token kind.Punct (codes "-") true ∷ mark (codes ">") ∷ word (codes "u8") ∷ in_braces (word b) [])
+    ≡ Some ((expr.TypedClosure false (param_named a None ∷ []) (named_type (codes "u8")) (alone_of (name b)), 2), [])
+unfolding expr_lead_at closure_expr closure_param elements elements_from within lead_at path_type simple_path path chain segment args_by word_reading attributes repeat repeat_from op_at
+typed_begun = rw (param_a (token kind.Punct (codes "-") true ∷ mark (codes ">") ∷ word (codes "u8") ∷ in_braces (word b) []), block_b []) refl
 
 -- ---- functions
 
