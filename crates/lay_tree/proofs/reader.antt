@@ -1,6 +1,7 @@
 -- The readers, a family a file: what is read stands at the front of the tokens, and what stands there is read.
 pub mod ItemBodies
 pub mod ItemSound
+pub mod ItemFunction
 pub mod ItemLeads
 pub mod ItemReads
 pub mod ItemKinds
@@ -16,10 +17,17 @@ pub mod StmtsComplete
 pub mod BlocksComplete
 pub mod BranchesComplete
 pub mod ArmsComplete
+pub mod BlocksSound
+pub mod BlocksSoundWhole
+pub mod ExprSoundLed
 pub mod ExprSoundLeads
 pub mod ExprSoundFirst
 pub mod ExprSoundLists
 pub mod ExprSoundHeads
+pub mod ExprSoundBlocks
+pub mod ArmsSoundBodies
+pub mod ArmsSound
+pub mod ExprSoundClosures
 pub mod ExprSoundStructs
 pub mod ExprSoundPrefixes
 pub mod ExprSoundHead
@@ -28,6 +36,7 @@ pub mod ExprSoundSteps
 pub mod ExprSoundOperands
 pub mod ExprSoundStages
 pub mod ExprSound
+pub mod CodeSound
 pub mod ExprHeads
 pub mod ExprLeads
 pub mod BlockForms

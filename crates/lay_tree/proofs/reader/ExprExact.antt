@@ -9,7 +9,7 @@ use Rattle.lay_tree.specs.reader.Code.{expr_at}
 use Rattle.lay_tree.specs.declared.exprs.Expr.{Expr}
 use Rattle.lay_tree.specs.declared.exprs.Place.{Place}
 use Rattle.lay_tree.proofs.reader.CodeComplete.{expr_read}
-use Rattle.lay_tree.proofs.reader.ExprSound.{exprs_stand}
+use Rattle.lay_tree.proofs.reader.CodeSound.{exprs_stand}
 use Rattle.lay_tree.proofs.reader.FrontsHeld.{fronts}
 
 -- What is read stands there, and what stands there is read.

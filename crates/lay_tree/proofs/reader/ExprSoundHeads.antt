@@ -92,7 +92,7 @@ module _ (no_struct starts : Bool) where
   label_leads None f n ts mid rest k s = subst (λ us. Spells f n us rest) (sym k.0) s
   label_leads (Some l) f n ts mid rest k s = (ts, (ts, refl, refl), (mid, (mid, k, refl), s))
 
-  unlabelled : (b : Bool) → b ≡ false → (not b && true && true) ≡ true
+  unlabelled : (b : Bool) → b ≡ false → (not b && true && true && true) ≡ true
   unlabelled false h = refl
   unlabelled true h = absurd (cc h)
 
@@ -266,7 +266,7 @@ module _ (no_struct starts : Bool) where
         let root = root_held (plain 0 no_struct) budget (about_expr x.0) x.1 ts rest s in
         omega (arith, leb-true (strength rest) 0 root)
 
-    jump_follows : (x : Expr × ℕ) (ts rest : Tokens) → ExprHeld (plain 0 no_struct) budget x ts rest
+    pub jump_follows : (x : Expr × ℕ) (ts rest : Tokens) → ExprHeld (plain 0 no_struct) budget x ts rest
         → tail_follows (tail_of_jump (Some (about_expr x.0))) no_struct rest ≡ true
     jump_follows x ts rest s =
         all_taken (about_expr x.0).tail no_struct rest (none_follows x ts rest s)

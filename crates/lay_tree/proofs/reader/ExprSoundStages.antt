@@ -54,6 +54,8 @@ within_any (Expr-F.Assign targets x) no_struct a c h w = absurd (cc h)
 within_any (Expr-F.Postfix x steps) no_struct a c h w = absurd (cc h)
 within_any (Expr-F.Return x) no_struct a c h w = absurd (cc h)
 within_any (Expr-F.Break label x) no_struct a c h w = absurd (cc h)
+within_any (Expr-F.Closure moves params x) no_struct a c h w = absurd (cc h)
+within_any (Expr-F.TypedClosure moves params t b) no_struct a c h w = absurd (cc h)
 within_any (Expr-F.Lit l) no_struct a c h w = w
 within_any (Expr-F.Path p) no_struct a c h w = w
 within_any Expr-F.Underscore no_struct a c h w = refl
@@ -64,6 +66,15 @@ within_any (Expr-F.Tuple xs) no_struct a c h w = w
 within_any (Expr-F.Array xs) no_struct a c h w = w
 within_any (Expr-F.Repeat x us) no_struct a c h w = w
 within_any (Expr-F.Expr::Struct p fs b) no_struct a c h w = w
+within_any (Expr-F.Block l b) no_struct a c h w = w
+within_any (Expr-F.Unsafe b) no_struct a c h w = w
+within_any (Expr-F.ConstBlock b) no_struct a c h w = w
+within_any (Expr-F.Async moves b) no_struct a c h w = w
+within_any (Expr-F.If branches o) no_struct a c h w = w
+within_any (Expr-F.Match x attrs arms) no_struct a c h w = w
+within_any (Expr-F.Loop l b) no_struct a c h w = w
+within_any (Expr-F.While l p x b) no_struct a c h w = w
+within_any (Expr-F.For l p x b) no_struct a c h w = w
 
 base_within : (x : Expr) (no_struct a c : Bool) → nat_le 14 (about_expr x).level ≡ true → (about_expr x).within no_struct a ≡ true
     → (about_expr x).within no_struct c ≡ true

@@ -262,7 +262,7 @@ module _ (budget : ℕ) (within : ExprWithin) (sound : SoundExprWithin budget wi
 
     -- ---- paths
 
-    path_follows : (b c : Bool) → b ≡ false → c ≡ true → (not b && true && true && c) ≡ true
+    path_follows : (b c : Bool) → b ≡ false → c ≡ true → (not b && true && true && true && c) ≡ true
     path_follows false true e f = refl
     path_follows true c e f = absurd (cc e)
     path_follows false false e f = absurd (cc f)

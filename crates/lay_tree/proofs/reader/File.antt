@@ -27,9 +27,8 @@ use Rattle.lay_tree.specs.reader.Item.{items_by}
 use Rattle.lay_tree.specs.declared.file.File.{File}
 use Rattle.lay_tree.specs.declared.item.Item.{Item}
 use Rattle.lay_tree.proofs.reader.CodeComplete.{item_complete}
+use Rattle.lay_tree.proofs.reader.CodeSound.{item_sound}
 use Rattle.lay_tree.proofs.reader.FrontsHeld.{fronts}
-use Rattle.lay_tree.proofs.reader.Item.{item_sound}
-use Rattle.lay_tree.proofs.reader.ItemExact.{heads_sound, values_sound}
 use Rattle.lay_tree.proofs.reader.ItemKinds.{items_begin, items_complete}
 
 none_left : (ts : Tokens) → at_end ts ≡ true → ts ≡ []
@@ -53,7 +52,7 @@ whole_parts depth ts attrs items t h =
     let c = bind_some (items_by (item_at Module depth) b.0.1) (last b.0.0) (attrs, items) b.2 in
     let a = attributes_sound true depth ts b.0.0 b.0.1 t b.1 in
     let before = attrs_spelled true depth b.0.0 ts b.0.1 a.0 in
-    let r = nodes_sound (about_item Module) depth (item_at Module depth) (item_sound heads_sound values_sound Module depth) more_items b.0.1 c.0.0 c.0.1 a.1 c.1 in
+    let r = nodes_sound (about_item Module) depth (item_at Module depth) (item_sound Module depth) more_items b.0.1 c.0.0 c.0.1 a.1 c.1 in
     let read = nodes c.0.0 in
     let behind = rows_spelled (about_item Module) (deepest c.0.0) read b.0.1 c.0.1 r.1 in
     elim (chosen (at_end c.0.1) (Some (b.0.0, read)) None (Some (attrs, items)) c.2) [

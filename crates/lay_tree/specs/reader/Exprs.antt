@@ -249,15 +249,15 @@ closure_param within ts = do
   t ← if_read (is_op (codes ":") p.1) (λ us. within.kinds.types Bounds (drop 1 us)) p.1
   Some ((record { attrs = attrs.0; pat = p.0.0; ty = t.0.0 }, max p.0.1 t.0.1), t.1)
 
--- what stands behind the parameters of a closure
+-- what stands behind the parameters of a closure; behind its body no operator stands
 abbrev pub closure_body : ExprWithin → Bool → Bool → List ClosureParam → ℕ → Tokens → Read Expr
 closure_body within no_struct moves params need ts =
     if is_op (codes "->") ts
-        then (do
-          t ← within.kinds.types NoBounds (drop 2 ts)
-          b ← block_by within t.1
-          Some ((expr.TypedClosure moves params t.0.0 b.0.0, suc (max need (max t.0.1 b.0.1))), b.1))
-        else (do x ← within.exprs (plain 0 no_struct) ts; Some ((expr.Closure moves params x.0.0, suc (max need x.0.1)), x.1))
+    then (do
+      t ← within.kinds.types NoBounds (drop 2 ts)
+      b ← block_by within t.1
+      if strength b.1 == 0 then Some ((expr.TypedClosure moves params t.0.0 b.0.0, suc (max need (max t.0.1 b.0.1))), b.1) else None)
+    else (do x ← within.exprs (plain 0 no_struct) ts; Some ((expr.Closure moves params x.0.0, suc (max need x.0.1)), x.1))
 
 unfoldable pub closure_expr : ExprWithin → Bool → Tokens → Read Expr
 closure_expr within no_struct ts = do
