@@ -1,13 +1,13 @@
 -- Arms that are spelled are read: a body within braces that aren't in the tree is read with them, as blocks, and loses them.
-use Rattle.std.proofs.Common.{◌≡◌, ℕ, zero, suc, ◌+◌, ◌-◌, ◌≤◌, ◌<◌, max, Bool, true, false, not, ◌&&◌, ◌||◌, List, [], ◌∷◌, map, length, drop, codes, Option, option_map, Some, None, ◌⊎◌, inl, inr, refl, sym, ap, subst, ◌∙◌, arith}
+use Rattle.std.proofs.Common.{◌≡◌, ℕ, zero, suc, ◌+◌, ◌-◌, ◌≤◌, max, Bool, true, false, not, ◌&&◌, ◌||◌, List, [], ◌∷◌, map, length, codes, Option, option_map, Some, None, inl, inr, refl, sym, ap, subst, ◌∙◌, arith}
 use Rattle.std.proofs.lemmas.Bool.{and_parts, not-true, or_right}
 use Rattle.lay_piece.specs.Forms.{opening, closing}
 use Rattle.lay_piece.specs.declared.kind.Delim.TheVariants.{Brace}
 use Rattle.lay_piece.specs.declared.kind.Kind.TheVariants.{Ident, Punct, Opener, Closer}
 use Rattle.lay_token.specs.Operators.{is_op}
-use Rattle.lay_form.specs.Form.{Blank, Fixed, Operator, Semicolons, Braces, Bare, Unseen, Marked, ArmComma, Form, Done, Piece, Part, Body, keyword, closer}
+use Rattle.lay_form.specs.Form.{Blank, Fixed, Operator, Semicolons, ArmComma, Form, Done, Piece, Part, Body, keyword, closer}
 use Rattle.lay_form.specs.Notation.{N, I0}
-use Rattle.lay_form.specs.Spelled.{IsOne, IsOperator, AreBits, AnySemicolons, Opens, Closes, Braced, MayBrace, IsBehind, cost, may_lack, Spells}
+use Rattle.lay_form.specs.Spelled.{IsOne, IsOperator, AreBits, AnySemicolons, Opens, Closes, MayBrace, IsBehind, cost, may_lack, Spells}
 use Rattle.lay_form.proofs.FormLaws.{shorter}
 use Rattle.lay_node.specs.Ahead.{Tokens, first, tail, is_keyword, is_mark, closes, more_items}
 use Rattle.lay_node.specs.nodes.Attr.{are_attrs, attr_form}
@@ -23,7 +23,7 @@ use Rattle.lay_node.proofs.reader.Exact.{IsRead}
 use Rattle.lay_node.proofs.reader.Loops.{Turn}
 use Rattle.lay_node.proofs.reader.PatternsFronts.{Fits}
 use Rattle.lay_node.proofs.reader.TypesCompleteParts.{keyword_there, one_left}
-use Rattle.lay_tree.specs.nodes.Blocks.{arm_form, block_facts, braces_of, dropped, guard_form, is_free, is_lone_body, stmt_facts}
+use Rattle.lay_tree.specs.nodes.Blocks.{block_facts, braces_of, dropped, guard_form, is_free, is_lone_body, stmt_facts}
 use Rattle.lay_tree.specs.nodes.Code.{about_arm, about_expr}
 use Rattle.lay_tree.specs.nodes.CodeFacts.{ArmFacts, BlockFacts, StmtFacts}
 use Rattle.lay_tree.specs.nodes.Exprs.{BodyKind, MacroBody, BlockBody, OtherBody, ExprFacts, arm_forms, arms_good, expr_facts, follows, is_macro, placed, value_placed}

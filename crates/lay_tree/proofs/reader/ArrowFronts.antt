@@ -1,11 +1,10 @@
 -- No expression begins with a `->`: behind a `-` an operand stands.
-use Rattle.std.proofs.Common.{◌≡◌, ℕ, zero, suc, Bool, true, false, not, ◌&&◌, ◌||◌, nat_le, List, [], ◌∷◌, map, codes, Option, option_map, Some, None, if◌then◌else◌, refl, sym, ap, subst, ◌∙◌}
+use Rattle.std.proofs.Common.{◌≡◌, ℕ, zero, suc, Bool, true, false, not, ◌&&◌, nat_le, List, [], ◌∷◌, map, codes, Option, option_map, Some, None, if◌then◌else◌, refl, sym, ap, subst, ◌∙◌}
 use Rattle.std.specs.Prelude.{◌==◌}
 use Rattle.std.proofs.lemmas.Bool.{and_parts, false_from_ne_true}
 use Rattle.lay_piece.specs.declared.kind.Kind.TheVariants.{Punct}
 use Rattle.lay_token.specs.Operators.{is_op}
-use Rattle.lay_token.specs.declared.token.Token.{Token}
-use Rattle.lay_form.specs.Form.{Bit, Blank, Fixed, Operator, Form, Done, Piece, Part, keyword}
+use Rattle.lay_form.specs.Form.{Blank, Operator, Form, Done, Piece, Part}
 use Rattle.lay_form.specs.Notation.{N}
 use Rattle.lay_form.specs.Spelled.{IsOne, AreBits, Spells}
 use Rattle.lay_node.specs.Ahead.{Tokens, first, tail, is_mark}

@@ -1,5 +1,5 @@
 -- What is held of first tokens, and of what ends expressions, where blocks, statements and arms are read.
-use Rattle.std.proofs.Common.{◌≡◌, ℕ, ◌<◌, Bool, true, false, ◌&&◌, ◌||◌, List, [], ◌∷◌, length, drop, codes, Some, refl}
+use Rattle.std.proofs.Common.{◌≡◌, ℕ, ◌<◌, Bool, true, false, ◌&&◌, List, [], ◌∷◌, length, drop, codes, Some, refl}
 use Rattle.std.specs.Prelude.{is_some}
 use Rattle.lay_piece.specs.Forms.{closing}
 use Rattle.lay_piece.specs.declared.kind.Delim.TheVariants.{Brace}

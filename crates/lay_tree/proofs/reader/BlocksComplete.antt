@@ -1,31 +1,25 @@
 -- Blocks, statements, conditions and branches are read where they are spelled, where what is one level deeper is read.
-use Rattle.std.proofs.Common.{◌≡◌, ℕ, zero, suc, ◌≤◌, ◌<◌, max, Bool, true, false, not, ◌&&◌, ◌||◌, nat_le, List, [], ◌∷◌, ◌++◌, map, length, drop, codes, Option, option_map, Some, None, is_some, if◌then◌else◌, ◌⊎◌, inl, inr, refl, sym, ap, subst, ◌∙◌, arith}
-use Rattle.std.proofs.lemmas.Bool.{and_parts, and_from, not-true}
+use Rattle.std.proofs.Common.{◌≡◌, ℕ, zero, suc, ◌≤◌, ◌<◌, Bool, true, false, ◌&&◌, ◌||◌, List, [], ◌∷◌, ◌++◌, map, length, codes, Some, if◌then◌else◌, inl, inr, refl, sym, ap, subst, arith}
+use Rattle.std.proofs.lemmas.Bool.{and_parts}
 use Rattle.lay_piece.specs.Forms.{opening, closing}
 use Rattle.lay_piece.specs.declared.kind.Delim.TheVariants.{Brace}
-use Rattle.lay_piece.specs.declared.kind.Kind.TheVariants.{Ident, Punct, Opener, Closer}
-use Rattle.lay_token.specs.Operators.{is_op}
-use Rattle.lay_form.specs.Form.{Bit, Blank, Fixed, Semicolons, Form, Done, Piece, Part, Deeper, keyword, opener, closer, semicolon}
-use Rattle.lay_form.specs.Notation.{H, B-, each, body, soft, piece, behind_attrs}
-use Rattle.lay_form.specs.Spelled.{IsOne, IsOperator, AnySemicolons, AreSemicolons, AreBits, IsBit, Spells}
+use Rattle.lay_piece.specs.declared.kind.Kind.TheVariants.{Punct, Opener, Closer}
+use Rattle.lay_form.specs.Form.{Bit, Semicolons, Form, Done, Part, opener, closer}
+use Rattle.lay_form.specs.Notation.{H, each, body, soft, piece}
+use Rattle.lay_form.specs.Spelled.{IsOne, AnySemicolons, AreSemicolons, AreBits, IsBit, Spells}
 use Rattle.lay_node.specs.Ahead.{Tokens, first, is_mark, closes, more_items}
-use Rattle.lay_node.specs.nodes.Attr.{are_attrs, attr_form, about_attr}
+use Rattle.lay_node.specs.nodes.Attr.{are_attrs, attr_form}
 use Rattle.lay_node.specs.nodes.Fields.{blank_if}
-use Rattle.lay_node.specs.nodes.Functions.{may_be_type}
-use Rattle.lay_node.specs.nodes.Types.{about_type, equals}
 use Rattle.lay_node.specs.reader.Attr.{attributes, begins_attr}
-use Rattle.lay_node.specs.reader.Loops.{Read, nodes, deepest, repeat}
-use Rattle.lay_node.specs.reader.Types.{if_read}
+use Rattle.lay_node.specs.reader.Loops.{nodes, deepest, repeat}
 use Rattle.lay_node.specs.declared.attr.Attr.{Attr}
-use Rattle.lay_node.specs.declared.types.Ty.{Ty}
-use Rattle.lay_node.specs.declared.types.TypePlace.TheVariants.{Bounds}
 use Rattle.lay_node.proofs.Fronts.{one_front, opener_passed, closer_first, closer_passed}
-use Rattle.lay_node.proofs.Parts.{Rows, GoodAt, SpelledAt, Closed, rows_parts, rows_of_map, behind_blank, bit_alone, bits_parts, part_alone, piece_bit}
+use Rattle.lay_node.proofs.Parts.{Rows, SpelledAt, Closed, rows_parts, rows_of_map, behind_blank, bit_alone, bits_parts, part_alone, piece_bit}
 use Rattle.lay_node.proofs.reader.Attr.{attrs_rows}
 use Rattle.lay_node.proofs.reader.AttrRead.{attributes_complete}
 use Rattle.lay_node.proofs.reader.Exact.{IsRead}
 use Rattle.lay_node.proofs.reader.Loops.{Turn, repeat_complete}
-use Rattle.lay_tree.specs.nodes.Blocks.{attrs_before, block_form, dropped, dropped_if, is_plain, soft_form, stmt_form, stmts_good}
+use Rattle.lay_tree.specs.nodes.Blocks.{attrs_before, block_form, dropped, soft_form, stmt_form, stmts_good}
 use Rattle.lay_tree.specs.nodes.Code.{about_block, about_stmt}
 use Rattle.lay_tree.specs.nodes.CodeFacts.{BlockFacts, StmtFacts}
 use Rattle.lay_tree.specs.reader.Blocks.{behind_semicolons, block_by, stmt_in_block, stmt_by}

@@ -1,6 +1,6 @@
 -- Expressions, blocks behind an `else` and items that are spelled are read, at each budget from their depth on: all of them at once,
 -- since each is within the others.
-use Rattle.std.proofs.Common.{◌≡◌, ℕ, zero, suc, ◌≤◌, true, Some, refl, sym, subst, arith}
+use Rattle.std.proofs.Common.{◌≡◌, ℕ, zero, suc, ◌≤◌, true, refl, subst, arith}
 use Rattle.lay_form.specs.Form.{Done, Deeper}
 use Rattle.lay_form.specs.Spelled.{Spells}
 use Rattle.lay_node.specs.Ahead.{Tokens}
@@ -21,7 +21,6 @@ use Rattle.lay_node.proofs.reader.Use.{use_complete}
 use Rattle.lay_node.proofs.reader.ValueHeads.{value_heads_complete}
 use Rattle.lay_tree.specs.nodes.Code.{about_block, about_expr, about_item}
 use Rattle.lay_tree.specs.nodes.Exprs.{follows, placed}
-use Rattle.lay_tree.specs.reader.Blocks.{block_by}
 use Rattle.lay_tree.specs.reader.Code.{code_in, deeper_block, expr_at, item_at}
 use Rattle.lay_tree.specs.reader.Within.{ExprWithin}
 use Rattle.lay_tree.specs.declared.blocks.Block.{Block}

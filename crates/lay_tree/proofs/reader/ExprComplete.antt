@@ -3,11 +3,10 @@ use Rattle.std.proofs.Common.{◌≡◌, ℕ, zero, suc, ◌≤◌, Bool, true, 
 use Rattle.std.proofs.lemmas.Bool.{and_parts}
 use Rattle.lay_form.specs.Spelled.{Spells}
 use Rattle.lay_node.specs.Ahead.{Tokens}
-use Rattle.lay_node.specs.nodes.Facts.{Facts}
 use Rattle.lay_node.proofs.reader.Exact.{IsRead}
 use Rattle.lay_tree.specs.Operators.{is_dot_or_try, strength}
 use Rattle.lay_tree.specs.nodes.Code.{about_arm, about_block, about_branch, about_expr, about_field_expr, about_step}
-use Rattle.lay_tree.specs.nodes.Exprs.{ExprFacts, StepFacts, stands, placed, root_follows, follows, tail_follows, level_of, is_block_like, expr_facts, ExprLayer}
+use Rattle.lay_tree.specs.nodes.Exprs.{ExprFacts, stands, placed, root_follows, follows, tail_follows, level_of, is_block_like, expr_facts, ExprLayer}
 use Rattle.lay_tree.specs.nodes.Places.{begins, is_whole}
 use Rattle.lay_tree.specs.reader.Exprs.{climb, is_ended, accepted, expr_by}
 use Rattle.lay_tree.specs.reader.Within.{ExprWithin}

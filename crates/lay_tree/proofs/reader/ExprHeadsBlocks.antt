@@ -1,17 +1,14 @@
 -- Blocks and loops, behind a label or without one, are read where they are spelled.
-use Rattle.std.proofs.Common.{◌≡◌, ℕ, suc, ◌≤◌, max, Bool, true, false, ◌&&◌, [], ◌∷◌, drop, codes, Option, Some, None, refl, sym, subst, ◌∙◌, arith}
+use Rattle.std.proofs.Common.{◌≡◌, ℕ, suc, ◌≤◌, max, Bool, true, false, ◌&&◌, [], ◌∷◌, codes, Option, Some, None, refl, ◌∙◌, arith}
 use Rattle.std.proofs.lemmas.Bool.{and_parts}
 use Rattle.lay_piece.specs.Forms.{opening}
 use Rattle.lay_piece.specs.declared.kind.Delim.TheVariants.{Brace}
-use Rattle.lay_piece.specs.declared.kind.Kind.TheVariants as kind
 use Rattle.lay_piece.specs.declared.kind.Kind.TheVariants.{Ident, Opener}
-use Rattle.lay_token.specs.Operators.{is_op}
 use Rattle.lay_form.specs.Form.{Blank, Form, Done, Piece, Part, keyword}
 use Rattle.lay_form.specs.Notation.{I0, when}
-use Rattle.lay_form.specs.Spelled.{IsOne, IsOperator, AreBits, Spells}
-use Rattle.lay_node.specs.Ahead.{Tokens, first, tail, is_keyword, opens}
+use Rattle.lay_form.specs.Spelled.{IsOne, IsOperator, Spells}
+use Rattle.lay_node.specs.Ahead.{Tokens, first, is_keyword, opens}
 use Rattle.lay_node.specs.nodes.Patterns.{about_pat, pat_form, pat_good}
-use Rattle.lay_node.specs.reader.Loops.{passed}
 use Rattle.lay_node.specs.reader.Types.{lifetime}
 use Rattle.lay_node.specs.declared.patterns.Pat.{Pat}
 use Rattle.lay_node.specs.declared.patterns.PatPlace.TheVariants.{Alternatives}
@@ -21,12 +18,12 @@ use Rattle.lay_node.proofs.Parts.{before_blank, behind_blank, bit_alone, part_al
 use Rattle.lay_node.proofs.reader.Exact.{IsRead}
 use Rattle.lay_node.proofs.reader.PatternsFronts.{Fits}
 use Rattle.lay_node.proofs.reader.TypesCompleteParts.{colon_operator, keyword_there, lifetime_alone, lifetime_complete, one_left}
-use Rattle.lay_tree.specs.Operands.{ExprLead, ByBrace, ByBlockWord, ByLabel}
+use Rattle.lay_tree.specs.Operands.{ExprLead, ByBrace, ByBlockWord}
 use Rattle.lay_tree.specs.nodes.Code.{about_block, about_expr}
 use Rattle.lay_tree.specs.nodes.Exprs.{condition_form, condition_good, label_or, labelled, placed}
 use Rattle.lay_tree.specs.nodes.Places.{plain}
 use Rattle.lay_tree.specs.reader.Blocks.{block_by, condition_by}
-use Rattle.lay_tree.specs.reader.Exprs.{async_expr, block_expr, block_word_expr, for_expr, head_by, label_expr, labelled_expr, while_expr}
+use Rattle.lay_tree.specs.reader.Exprs.{async_expr, block_word_expr, for_expr, head_by, label_expr, labelled_expr, while_expr}
 use Rattle.lay_tree.specs.reader.Within.{ExprWithin}
 use Rattle.lay_tree.specs.declared.blocks.Block.{Block}
 use Rattle.lay_tree.specs.declared.blocks.Stmt.TheOpen.{Expr-F}

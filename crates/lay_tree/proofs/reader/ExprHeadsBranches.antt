@@ -1,11 +1,11 @@
 -- Branches and matches are read where they are spelled.
-use Rattle.std.proofs.Common.{◌≡◌, ℕ, suc, ◌≤◌, ◌<◌, max, Bool, true, false, not, ◌&&◌, List, [], ◌∷◌, ◌++◌, map, length, drop, codes, Option, option_map, Some, None, is_some, refl, sym, subst, ◌∙◌, arith}
+use Rattle.std.proofs.Common.{◌≡◌, ℕ, suc, ◌≤◌, ◌<◌, max, true, false, not, ◌&&◌, List, [], ◌∷◌, ◌++◌, map, length, drop, codes, Option, option_map, Some, None, is_some, refl, arith}
 use Rattle.std.proofs.lemmas.Bool.{and_parts, not-true}
 use Rattle.lay_piece.specs.Forms.{opening}
 use Rattle.lay_piece.specs.declared.kind.Delim.TheVariants.{Brace}
 use Rattle.lay_piece.specs.declared.kind.Kind.TheVariants.{Ident, Opener}
-use Rattle.lay_form.specs.Form.{Blank, Form, Done, Piece, Part, keyword}
-use Rattle.lay_form.specs.Notation.{I0, body}
+use Rattle.lay_form.specs.Form.{Blank, Form, Part, keyword}
+use Rattle.lay_form.specs.Notation.{I0}
 use Rattle.lay_form.specs.Spelled.{IsOne, Spells}
 use Rattle.lay_form.proofs.FormLaws.{shorter}
 use Rattle.lay_node.specs.Ahead.{Tokens, first, tail, is_keyword, more_items}
@@ -23,7 +23,6 @@ use Rattle.lay_node.proofs.reader.Exact.{IsRead}
 use Rattle.lay_node.proofs.reader.Loops.{Turn, repeat_complete}
 use Rattle.lay_node.proofs.reader.TypesCompleteParts.{keyword_there, one_left}
 use Rattle.lay_tree.specs.nodes.Code.{about_arm, about_block, about_branch, about_expr}
-use Rattle.lay_tree.specs.nodes.CodeFacts.{BranchFacts}
 use Rattle.lay_tree.specs.nodes.Exprs.{arm_forms, arms_good, branch_head, branches_form, branches_good, else_branch_form, may_be_good, more_branches, placed}
 use Rattle.lay_tree.specs.nodes.Places.{plain}
 use Rattle.lay_tree.specs.reader.Blocks.{arm_by, block_by, branch_by}

@@ -1,12 +1,12 @@
 -- Closures are read where they are spelled.
-use Rattle.std.proofs.Common.{◌≡◌, ℕ, zero, suc, ◌≤◌, ◌<◌, max, Bool, true, false, not, ◌&&◌, ◌||◌, nat_le, le-leb, eqb-true, List, [], ◌∷◌, ◌++◌, map, length, drop, codes, Option, Some, None, ◌⊎◌, inl, inr, refl, sym, ap, subst, ◌∙◌, append-nil, append_assoc, arith}
+use Rattle.std.proofs.Common.{◌≡◌, ℕ, zero, suc, ◌≤◌, ◌<◌, max, Bool, true, false, not, ◌&&◌, ◌||◌, nat_le, le-leb, eqb-true, List, [], ◌∷◌, ◌++◌, map, length, drop, codes, Option, Some, None, ◌⊎◌, inl, inr, refl, sym, ap, subst, append-nil, append_assoc, arith}
 use Rattle.std.specs.Prelude.{◌==◌, if◌then◌else◌}
 use Rattle.std.specs.List.{list_all}
 use Rattle.std.proofs.lemmas.Bool.{and_parts}
 use Rattle.lay_piece.specs.declared.kind.Kind.TheVariants.{Ident, Punct}
 use Rattle.lay_token.specs.Operators.{is_op}
 use Rattle.lay_form.specs.Form.{Blank, Fixed, Operator, Form, Done, Piece, Part, keyword}
-use Rattle.lay_form.specs.Notation.{comma_gap, comma_list, each, when}
+use Rattle.lay_form.specs.Notation.{comma_gap, comma_list, each}
 use Rattle.lay_form.specs.Spelled.{IsOne, IsOperator, MayBe, Spells}
 use Rattle.lay_form.specs.Form as form
 use Rattle.lay_form.proofs.FormLaws.{shorter}
@@ -16,13 +16,13 @@ use Rattle.lay_node.specs.nodes.Functions.{may_be_type, self_type}
 use Rattle.lay_node.specs.nodes.Patterns.{about_pat, pat_form, pat_good}
 use Rattle.lay_node.specs.nodes.Types.{about_type, good_at}
 use Rattle.lay_node.specs.reader.Attr.{attributes}
-use Rattle.lay_node.specs.reader.Loops.{Read, deepest, element_end, elements, elements_from, nodes}
+use Rattle.lay_node.specs.reader.Loops.{deepest, element_end, elements, elements_from, nodes}
 use Rattle.lay_node.specs.reader.Types.{if_read}
 use Rattle.lay_node.specs.declared.patterns.Pat.{Pat}
 use Rattle.lay_node.specs.declared.patterns.PatPlace.TheVariants.{Single}
 use Rattle.lay_node.specs.declared.types.Ty.{Ty}
 use Rattle.lay_node.specs.declared.types.TypePlace.TheVariants.{Bounds, NoBounds}
-use Rattle.lay_node.proofs.Fronts.{mark_passed, one_front, one_shorter, other_op}
+use Rattle.lay_node.proofs.Fronts.{mark_passed, one_front, one_shorter}
 use Rattle.lay_node.proofs.Parts.{Rows, before_blank, behind_blank, bit_alone, part_alone, piece_bit}
 use Rattle.lay_node.proofs.reader.AttrRead.{attributes_complete}
 use Rattle.lay_node.proofs.reader.Exact.{IsRead}
@@ -36,7 +36,7 @@ use Rattle.lay_node.proofs.reader.TypesFronts.{comma_ends, no_other_op}
 use Rattle.lay_tree.specs.Operators.{strength}
 use Rattle.lay_tree.specs.nodes.Code.{about_block, about_expr}
 use Rattle.lay_tree.specs.nodes.Exprs as node
-use Rattle.lay_tree.specs.nodes.Exprs.{ExprFacts, Tail, bar, closure_head, is_closure_param, placed, tail_follows}
+use Rattle.lay_tree.specs.nodes.Exprs.{Tail, bar, closure_head, is_closure_param, placed, tail_follows}
 use Rattle.lay_tree.specs.nodes.Places.{plain}
 use Rattle.lay_tree.specs.reader.Blocks.{block_by}
 use Rattle.lay_tree.specs.reader.Exprs as reader

@@ -1,8 +1,7 @@
 -- What is held of first tokens, together: of statements, items, expressions, arms and parameters of closures.
-use Rattle.std.proofs.Common.{◌≡◌, ℕ, zero, suc, ◌<◌, ◌≤◌, Bool, true, false, not, ◌&&◌, ◌||◌, List, [], ◌∷◌, map, length, drop, codes, Option, option_map, Some, None, ◌⊎◌, inl, inr, refl, sym, ap, subst, ◌∙◌, arith}
+use Rattle.std.proofs.Common.{◌≡◌, ℕ, zero, suc, Bool, true, false, not, ◌&&◌, List, [], ◌∷◌, map, codes, Option, option_map, Some, None, inl, inr, refl, sym, ap, subst, ◌∙◌, arith}
 use Rattle.std.specs.Str.{bytes_eq}
 use Rattle.std.proofs.lemmas.Bool.{and_parts, false_from_ne_true, not-true, or_cases}
-use Rattle.lay_piece.specs.declared.kind.Delim.TheVariants.{Brace}
 use Rattle.lay_piece.specs.declared.kind.Kind.{Kind}
 use Rattle.lay_piece.specs.declared.kind.Kind.TheVariants.{Ident, Punct, Doc}
 use Rattle.lay_token.specs.Lexes.{is_punct}
@@ -12,7 +11,7 @@ use Rattle.lay_form.specs.Form.{ArmComma, Blank, Body, Form, Done, Operator, Pie
 use Rattle.lay_form.specs.Notation.{N, I0}
 use Rattle.lay_form.specs.Spelled.{IsOne, IsOperator, Spells}
 use Rattle.lay_form.proofs.FormLaws.{shorter}
-use Rattle.lay_node.specs.Ahead.{Tokens, first, tail, is_closer, is_ident, is_keyword, is_mark, ends_items, more_items}
+use Rattle.lay_node.specs.Ahead.{Tokens, first, tail, is_ident, is_keyword, is_mark, ends_items}
 use Rattle.lay_node.specs.nodes.Attr.{about_attr, are_attrs, attr_form}
 use Rattle.lay_node.specs.nodes.Functions.{may_be_type, self_type}
 use Rattle.lay_node.specs.nodes.Patterns.{about_pat, pat_form, pat_good}
@@ -30,22 +29,21 @@ use Rattle.lay_node.proofs.reader.TypesCompleteParts.{attrs_front, param_attrs_r
 use Rattle.lay_node.proofs.reader.TypesFronts.{no_other_op, op_first}
 use Rattle.lay_tree.specs.Operands.{ExprLead, ByClosure, expr_lead_at}
 use Rattle.lay_tree.specs.Operators.{is_dot_or_try}
-use Rattle.lay_tree.specs.nodes.Blocks.{arm_form, braces_of, ended_form, guard_form, is_free, let_form, may_precede_else}
-use Rattle.lay_tree.specs.nodes.Code.{about_arm, about_block, about_expr, about_item, about_stmt, told_of_item}
+use Rattle.lay_tree.specs.nodes.Blocks.{braces_of, ended_form, guard_form, is_free}
+use Rattle.lay_tree.specs.nodes.Code.{about_arm, about_expr, about_item, about_stmt, told_of_item}
 use Rattle.lay_tree.specs.nodes.CodeFacts.{ArmFacts, StmtFacts}
-use Rattle.lay_tree.specs.nodes.Exprs.{closure_param, is_closure_param, placed, value_placed}
+use Rattle.lay_tree.specs.nodes.Exprs.{closure_param, is_closure_param, placed}
 use Rattle.lay_tree.specs.nodes.Places.{statement}
 use Rattle.lay_tree.specs.reader.Blocks.{begins_item}
 use Rattle.lay_tree.specs.declared.blocks.Arm.{Arm}
 use Rattle.lay_tree.specs.declared.blocks.Stmt.{Stmt}
 use Rattle.lay_tree.specs.declared.exprs.ClosureParam.{ClosureParam}
-use Rattle.lay_tree.specs.declared.exprs.Expr.{Expr}
 use Rattle.lay_tree.specs.declared.item.Item.{Item}
 use Rattle.lay_tree.proofs.nodes.BlocksLaws.{StmtView, IsLet, IsItem, IsExpr, arm_is, stmt_view, stmt_let_is, stmt_item_is, stmt_expr_is}
 use Rattle.lay_tree.proofs.reader.ArrowFronts.{no_arrow}
 use Rattle.lay_tree.proofs.reader.BlockEnds.{arrow_ends_expr}
 use Rattle.lay_tree.proofs.reader.BlockFronts.{expr_no_item, expr_start, stmt_front}
-use Rattle.lay_tree.proofs.reader.BlockReads.{ArmBegun, Begun, ExprAhead, Fronts, ItemAhead, NoItem, StmtBegun}
+use Rattle.lay_tree.proofs.reader.BlockReads.{ArmBegun, Begun, Fronts, ItemAhead}
 use Rattle.lay_tree.proofs.reader.ElseEnds.{else_follows_value}
 use Rattle.lay_tree.proofs.reader.ExprFronts.{placed_begins}
 use Rattle.lay_tree.proofs.reader.ExprLeads.{expr_more, expr_no_attr, expr_no_comma, expr_no_keyword, expr_no_semicolon, lone_lead}

@@ -1,5 +1,5 @@
 -- Items: what is spelled, and well formed, is read.
-use Rattle.std.proofs.Common.{◌≡◌, ℕ, zero, suc, ◌≤◌, max, Bool, true, false, ◌&&◌, ◌||◌, List, [], ◌∷◌, map, codes, Option, option_map, Some, None, inl, inr, refl, sym, subst, ◌∙◌, arith, drop}
+use Rattle.std.proofs.Common.{◌≡◌, ℕ, suc, max, Bool, true, false, ◌&&◌, ◌||◌, List, [], ◌∷◌, map, codes, Option, option_map, Some, None, inl, inr, refl, sym, subst, ◌∙◌, arith, drop}
 use Rattle.std.proofs.lemmas.Bool.{and_parts}
 use Rattle.std.specs.Prelude.{is_some}
 use Rattle.lay_piece.specs.Forms.{opening}
@@ -73,7 +73,7 @@ use Rattle.lay_node.proofs.reader.Words.{GoodName, name_complete}
 use Rattle.lay_tree.specs.nodes.Code.{about_block, about_expr, about_item, told_of_item, told_of_kind}
 use Rattle.lay_tree.specs.nodes.Exprs.{may_be_good, value_form, value_placed}
 use Rattle.lay_tree.specs.nodes.Item as node
-use Rattle.lay_tree.specs.nodes.Item.{about_foreign, about_impl, about_import, about_module, about_trait, foreign_abi, in_module, is_inherited, items_good, function_tail, may_be_bodied, may_lack_value, module_head, rules_form, may_be_valued}
+use Rattle.lay_tree.specs.nodes.Item.{about_foreign, about_impl, about_import, about_module, about_trait, foreign_abi, in_module, is_inherited, items_good, function_tail, may_be_bodied, module_head, rules_form, may_be_valued}
 use Rattle.lay_tree.specs.nodes.Places.{FREE}
 use Rattle.lay_tree.specs.reader.Blocks.{block_by}
 use Rattle.lay_tree.specs.reader.Item.{ItemWithin, call_item, fn_body, foreign_by, function_by, impl_by, import_by, item_body, item_by, kind_at, kind_by, may_stand, module_by, rules_item, trait_by, value_by}
@@ -89,7 +89,7 @@ use Rattle.lay_tree.proofs.reader.BlockReads.{Fronts}
 use Rattle.lay_tree.proofs.reader.BlocksComplete.{block_at, block_read}
 use Rattle.lay_tree.proofs.reader.ExprQuiet.{ends_follow, semicolon_ends_expr}
 use Rattle.lay_tree.proofs.reader.ExprReads.{ExprReads}
-use Rattle.lay_tree.proofs.reader.ItemKinds.{body_read, item_none, item_parts, vis_begins}
+use Rattle.lay_tree.proofs.reader.ItemKinds.{body_read, item_parts, vis_begins}
 use Rattle.lay_tree.proofs.reader.ItemLeads.{kind_front, spelled_as}
 use Rattle.lay_tree.proofs.reader.ItemReads.{HeadsComplete, alias_lead, call_lead, const_lead, enum_lead, extern_crate_lead, foreign_front, foreign_lead, function_lead, impl_lead, import_lead, module_lead, rules_lead, static_lead, struct_lead, trait_lead, union_lead, unsafe_impl_lead, unsafe_lead, unsafe_trait_lead}
 use Rattle.lay_tree.proofs.reader.ItemSound.{KindAt}

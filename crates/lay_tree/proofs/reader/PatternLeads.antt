@@ -1,16 +1,14 @@
 -- What a pattern begins with: what begins an expression, but no closure, or one of the words `ref` and `mut`.
-use Rattle.std.proofs.Common.{◌≡◌, ℕ, zero, suc, Bool, true, false, not, ◌&&◌, ◌||◌, List, [], ◌∷◌, ◌++◌, map, codes, Option, option_map, Some, None, ◌⊎◌, inl, inr, refl, sym, ap, subst, ◌∙◌}
+use Rattle.std.proofs.Common.{◌≡◌, ℕ, zero, suc, Bool, true, false, not, ◌&&◌, List, [], ◌∷◌, ◌++◌, map, codes, Option, option_map, Some, None, ◌⊎◌, inl, inr, refl, sym, ap, subst, ◌∙◌}
 use Rattle.std.proofs.lemmas.Bool.{and_parts, not-true}
 use Rattle.lay_piece.specs.Forms.{opening}
-use Rattle.lay_piece.specs.Word.{class_of}
-use Rattle.lay_piece.specs.declared.kind.Delim.{Delim}
 use Rattle.lay_piece.specs.declared.kind.Delim.TheVariants.{Paren, Bracket}
-use Rattle.lay_piece.specs.declared.kind.Kind.TheVariants.{Ident, RawIdent, Underscore, Punct, Opener}
+use Rattle.lay_piece.specs.declared.kind.Kind.TheVariants.{Ident, Underscore, Punct, Opener}
 use Rattle.lay_form.specs.Form.{Blank, Fixed, Operator, Form, Done, Piece, Part, keyword, opener, closer}
-use Rattle.lay_form.specs.Notation.{I0, when, piece, comma_list, each, braces}
-use Rattle.lay_form.specs.Spelled.{IsOne, IsOperator, Spells}
+use Rattle.lay_form.specs.Notation.{when, piece, comma_list, braces}
+use Rattle.lay_form.specs.Spelled.{IsOne, Spells}
 use Rattle.lay_node.specs.Ahead.{Tokens}
-use Rattle.lay_node.specs.Words.{is_name, is_path_class, leaf_of}
+use Rattle.lay_node.specs.Words.{is_name, leaf_of}
 use Rattle.lay_node.specs.nodes.Call.{about_call}
 use Rattle.lay_node.specs.nodes.Facts.{forms, all_good}
 use Rattle.lay_node.specs.nodes.Patterns.{PatFacts, pat_form, pat_good, pat_forms, all_pats_good, value_form, is_value, dots, first_end, last_end, may_end, has_ends, may_be_path, bound_form, bound_good, rest_form, tuple_form, one_form, pat_facts, about_pat, about_field_pat}
@@ -24,7 +22,7 @@ use Rattle.lay_node.specs.declared.patterns.SpanEnd.{SpanEnd}
 use Rattle.lay_node.specs.declared.patterns.SpanEnd.TheVariants as span_end
 use Rattle.lay_node.specs.declared.types.Path.{Path}
 use Rattle.lay_node.specs.declared.types.PathStyle.TheVariants.{Code}
-use Rattle.lay_node.proofs.Parts.{word_kind, before_blank, bit_alone, leaf_parts, piece_bit}
+use Rattle.lay_node.proofs.Parts.{before_blank, bit_alone, leaf_parts, piece_bit}
 use Rattle.lay_node.proofs.nodes.PatternsLaws.{PatView, IsOr, IsValue, IsWild, IsRest, IsCall, IsPath, IsBind, IsSpan, IsRef, IsStruct, IsTupleStruct, IsTuple, IsParen, IsSlice, pat_view, pat_or_is, pat_value_is, pat_wild_is, pat_rest_is, pat_call_is, pat_path_is, pat_bind_is, pat_span_is, pat_ref_is, pat_struct_is, pat_tuple_struct_is, pat_tuple_is, pat_paren_is, pat_slice_is}
 use Rattle.lay_node.proofs.reader.PatternsBegins.{bar}
 use Rattle.lay_node.proofs.reader.PatternsComplete.{no_depth}

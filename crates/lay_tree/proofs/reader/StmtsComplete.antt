@@ -1,18 +1,17 @@
 -- Statements are read where they are spelled, where what is one level deeper is read.
-use Rattle.std.proofs.Common.{◌≡◌, ℕ, suc, ◌≤◌, max, Bool, true, false, not, ◌&&◌, ◌||◌, nat_le, List, [], ◌∷◌, map, length, drop, codes, Option, option_map, Some, None, is_some, ◌⊎◌, inl, inr, refl, sym, ap, subst, ◌∙◌, arith}
+use Rattle.std.proofs.Common.{◌≡◌, ℕ, max, Bool, true, false, not, ◌&&◌, List, [], ◌∷◌, map, drop, codes, Option, option_map, Some, None, is_some, ◌⊎◌, inl, inr, refl, sym, subst, ◌∙◌, arith}
 use Rattle.std.proofs.lemmas.Bool.{and_parts, not-true}
 use Rattle.lay_piece.specs.Forms.{closing}
 use Rattle.lay_piece.specs.declared.kind.Delim.TheVariants.{Brace}
 use Rattle.lay_piece.specs.declared.kind.Kind.TheVariants.{Ident, Punct, Closer}
 use Rattle.lay_token.specs.Operators.{is_op}
-use Rattle.lay_form.specs.Form.{Blank, Fixed, Form, Done, Piece, Part, Deeper, keyword, semicolon}
+use Rattle.lay_form.specs.Form.{Blank, Fixed, Form, Piece, Part, keyword, semicolon}
 use Rattle.lay_form.specs.Notation.{piece, behind_attrs}
-use Rattle.lay_form.specs.Spelled.{IsOne, IsOperator, Spells}
+use Rattle.lay_form.specs.Spelled.{IsOne, Spells}
 use Rattle.lay_node.specs.Ahead.{Tokens, first, tail, is_keyword, is_mark}
 use Rattle.lay_node.specs.nodes.Attr.{are_attrs, attr_form}
 use Rattle.lay_node.specs.nodes.Functions.{may_be_type}
 use Rattle.lay_node.specs.nodes.Patterns.{about_pat, pat_form, pat_good}
-use Rattle.lay_node.specs.nodes.Types.{about_type}
 use Rattle.lay_node.specs.reader.Attr.{attributes, begins_attr}
 use Rattle.lay_node.specs.reader.Types.{if_read}
 use Rattle.lay_node.specs.reader.Words.{name}
@@ -33,23 +32,22 @@ use Rattle.lay_node.proofs.reader.TypesComplete.{quiet_read}
 use Rattle.lay_node.proofs.reader.TypesCompleteParts.{colon_operator, keyword_there, one_left}
 use Rattle.lay_node.proofs.reader.TypesFronts as types
 use Rattle.lay_node.proofs.reader.TypesFronts.{equals_quiet, no_other_op}
-use Rattle.lay_tree.specs.Operators.{is_dot_or_try}
-use Rattle.lay_tree.specs.nodes.Blocks.{else_form, else_good, ended_form, let_form, let_type, may_precede_else, stmt_facts}
+use Rattle.lay_tree.specs.nodes.Blocks.{else_form, else_good, ended_form, let_form, let_type, may_precede_else}
 use Rattle.lay_tree.specs.nodes.Code.{about_block, about_expr, about_stmt, told_of_item}
 use Rattle.lay_tree.specs.nodes.CodeFacts.{StmtFacts}
 use Rattle.lay_tree.specs.nodes.Exprs.{ExprFacts, ExprLayer, follows, is_block_like, placed, tail_follows, tail_of, value_form, value_placed}
 use Rattle.lay_tree.specs.nodes.Places.{FREE, statement}
-use Rattle.lay_tree.specs.reader.Blocks.{begins_item, else_stands, expr_stmt, item_stmt, let_stmt, stmt_by}
+use Rattle.lay_tree.specs.reader.Blocks.{begins_item, else_stands, expr_stmt, let_stmt, stmt_by}
 use Rattle.lay_tree.specs.reader.Within.{ExprWithin}
 use Rattle.lay_tree.specs.declared.blocks.Block.{Block}
 use Rattle.lay_tree.specs.declared.blocks.Stmt.{Stmt}
-use Rattle.lay_tree.specs.declared.blocks.Stmt.TheOpen.{Expr-F, Stmt-F}
+use Rattle.lay_tree.specs.declared.blocks.Stmt.TheOpen.{Expr-F}
 use Rattle.lay_tree.specs.declared.blocks.Stmt.TheVariants as stmt
 use Rattle.lay_tree.specs.declared.exprs.Expr.{Expr}
 use Rattle.lay_tree.specs.declared.item.Item.{Item}
 use Rattle.lay_tree.proofs.nodes.BlocksLaws.{StmtView, IsLet, IsItem, IsExpr, stmt_view, stmt_let_is, stmt_item_is, stmt_expr_is}
 use Rattle.lay_tree.proofs.reader.BlockReads.{Begun, ExprAhead, Fronts, NoItem}
-use Rattle.lay_tree.proofs.reader.ExprQuiet.{ExprEnds, ends_follow, semicolon_ends_expr, closer_ends_expr}
+use Rattle.lay_tree.proofs.reader.ExprQuiet.{ends_follow, semicolon_ends_expr, closer_ends_expr}
 use Rattle.lay_tree.proofs.reader.ExprReads.{ExprReads}
 use Rattle.lay_tree.proofs.reader.ExprSoundLevel.{layer_of}
 use Rattle.lay_tree.proofs.reader.PatternEnds.{equals_follows, semicolon_follows, semicolon_quiet}
