@@ -6,6 +6,7 @@ pub mod ItemLeads
 pub mod ItemReads
 pub mod ItemKinds
 pub mod Item
+pub mod ItemFunctionRead
 pub mod ItemRead
 pub mod ItemExact
 pub mod File

@@ -9,19 +9,18 @@ use Rattle.lay_piece.specs.declared.kind.Kind.TheVariants.{Ident, Punct, Opener}
 use Rattle.lay_form.specs.Form.{Blank, Done, Fixed, Form, Operator, Part, Piece, keyword, semicolon}
 use Rattle.lay_form.specs.Notation.{I0, piece}
 use Rattle.lay_form.specs.Spelled.{IsOne, IsOperator, Spells}
-use Rattle.lay_node.specs.Ahead.{Tokens, first, is_keyword, is_mark, opens}
+use Rattle.lay_node.specs.Ahead.{Tokens, first, is_keyword, is_mark}
 use Rattle.lay_node.specs.Words.{is_name, leaf_of}
 use Rattle.lay_node.specs.nodes.Attr.{are_attrs}
 use Rattle.lay_node.specs.nodes.Call.{before_rules, end_form, is_group}
-use Rattle.lay_node.specs.nodes.Functions.{is_fn_head, output_follows}
+use Rattle.lay_node.specs.nodes.Functions.{is_fn_head}
 use Rattle.lay_node.specs.nodes.Generics.{bounded_form, generics_form, is_generics}
 use Rattle.lay_node.specs.nodes.Heads.{about_enum, about_extern_crate, about_struct, about_union, about_value_head, called, ends_head, head_fields, is_impl_head, is_trait_head, is_value_head, leads, struct_tail, trait_ref_form, value_follows, value_head_form}
-use Rattle.lay_node.specs.nodes.Types.{about_type, good_at, is_abi_name, is_given, type_follows}
+use Rattle.lay_node.specs.nodes.Types.{about_type, good_at, is_abi_name, is_given}
 use Rattle.lay_node.specs.nodes.Use.{about_use, rename_form}
 use Rattle.lay_node.specs.nodes.Where.{are_predicates, predicate_form, wheres_before_body}
 use Rattle.lay_node.specs.reader.Attr.{attributes}
 use Rattle.lay_node.specs.reader.Call.{behind_end, call}
-use Rattle.lay_node.specs.reader.Functions.{fn_head}
 use Rattle.lay_node.specs.reader.Heads.{impl_head, trait_head, unsafe_flag, value_head}
 use Rattle.lay_node.specs.reader.Tokens.{group}
 use Rattle.lay_node.specs.reader.Types.{if_there, is_string_token, literal, if_read}
@@ -47,24 +46,21 @@ use Rattle.lay_node.specs.declared.token.Literal.{Literal}
 use Rattle.lay_node.specs.declared.token.Name.{Name}
 use Rattle.lay_node.specs.declared.tokens.Group.{Group}
 use Rattle.lay_node.specs.declared.tokens.MacroCall.{MacroCall}
-use Rattle.lay_node.specs.declared.types.Ty.{Ty}
 use Rattle.lay_node.specs.declared.types.TypePlace.TheVariants.{Bounds}
 use Rattle.lay_node.specs.declared.use_tree.UseTree.{UseTree}
 use Rattle.lay_node.proofs.Follow.{quiet_follows, semicolon_quiet}
-use Rattle.lay_node.proofs.Fronts.{mark_passed, one_front, one_no_op}
+use Rattle.lay_node.proofs.Fronts.{mark_passed, one_front}
 use Rattle.lay_node.proofs.Parts.{before_blank, behind_blank, bit_alone, leaf_alone, leaf_parts, part_alone, piece_bit, word_kind}
 use Rattle.lay_node.proofs.reader.AliasComplete.{alias_begins}
 use Rattle.lay_node.proofs.reader.AttrRead.{attributes_complete}
 use Rattle.lay_node.proofs.reader.Call.{call_complete, end_read}
 use Rattle.lay_node.proofs.reader.Exact.{Complete, IsRead, Stands}
 use Rattle.lay_node.proofs.reader.GenericsComplete.{equals_operator}
-use Rattle.lay_node.proofs.reader.HeadEnds.{semicolon_ends, tail_ends}
-use Rattle.lay_node.proofs.reader.HeadParts.{body_wheres, brace_ends_wheres, semicolon_ends_wheres, wheres_front, wheres_there}
+use Rattle.lay_node.proofs.reader.HeadEnds.{semicolon_ends}
+use Rattle.lay_node.proofs.reader.HeadParts.{brace_ends_wheres, wheres_front, wheres_there}
 use Rattle.lay_node.proofs.reader.OutsideExact.{crate_words}
 use Rattle.lay_node.proofs.reader.PatternsCompletePaths.{PatReads}
-use Rattle.lay_node.proofs.reader.PatternsFronts.{free_quiet}
 use Rattle.lay_node.proofs.reader.Tokens.{group_complete}
-use Rattle.lay_node.proofs.reader.TypesComplete.{and_none}
 use Rattle.lay_node.proofs.reader.TypesCompleteParts.{flag_complete, keyword_there, literal_complete, one_left}
 use Rattle.lay_node.proofs.reader.TypesFronts.{Ends, equals_quiet, op_first, Quiet}
 use Rattle.lay_node.proofs.reader.ValueHeads.{value_begins}
@@ -73,10 +69,9 @@ use Rattle.lay_node.proofs.reader.Words.{GoodName, name_complete}
 use Rattle.lay_tree.specs.nodes.Code.{about_block, about_expr, about_item, told_of_item, told_of_kind}
 use Rattle.lay_tree.specs.nodes.Exprs.{may_be_good, value_form, value_placed}
 use Rattle.lay_tree.specs.nodes.Item as node
-use Rattle.lay_tree.specs.nodes.Item.{about_foreign, about_impl, about_import, about_module, about_trait, foreign_abi, in_module, is_inherited, items_good, function_tail, may_be_bodied, module_head, rules_form, may_be_valued}
+use Rattle.lay_tree.specs.nodes.Item.{about_foreign, about_impl, about_import, about_module, about_trait, foreign_abi, in_module, is_inherited, items_good, may_be_bodied, module_head, rules_form, may_be_valued}
 use Rattle.lay_tree.specs.nodes.Places.{FREE}
-use Rattle.lay_tree.specs.reader.Blocks.{block_by}
-use Rattle.lay_tree.specs.reader.Item.{ItemWithin, call_item, fn_body, foreign_by, function_by, impl_by, import_by, item_body, item_by, kind_at, kind_by, may_stand, module_by, rules_item, trait_by, value_by}
+use Rattle.lay_tree.specs.reader.Item.{ItemWithin, call_item, foreign_by, impl_by, import_by, item_body, item_by, kind_at, kind_by, may_stand, module_by, rules_item, trait_by, value_by}
 use Rattle.lay_tree.specs.reader.ItemLeads.{ItemLead, OfAlias, OfCall, OfEnum, OfExternCrate, OfForeign, OfFunction, OfImpl, OfImport, OfModule, OfRules, OfStruct, OfTrait, OfUnion, OfValue, item_lead}
 use Rattle.lay_tree.specs.declared.blocks.Block.{Block}
 use Rattle.lay_tree.specs.declared.exprs.Expr.{Expr}
@@ -86,14 +81,13 @@ use Rattle.lay_tree.specs.declared.item.ItemKind.TheVariants as item
 use Rattle.lay_tree.proofs.nodes.ItemLaws as laws
 use Rattle.lay_tree.proofs.nodes.ItemLaws.{KindView, IsExternCrate, IsImport, IsFileModule, IsModule, IsFunction, IsAlias, IsStruct, IsUnion, IsEnum, IsValue, IsTrait, IsImpl, IsForeign, IsRules, IsCall, kind_view}
 use Rattle.lay_tree.proofs.reader.BlockReads.{Fronts}
-use Rattle.lay_tree.proofs.reader.BlocksComplete.{block_at, block_read}
 use Rattle.lay_tree.proofs.reader.ExprQuiet.{ends_follow, semicolon_ends_expr}
 use Rattle.lay_tree.proofs.reader.ExprReads.{ExprReads}
+use Rattle.lay_tree.proofs.reader.ItemFunctionRead.{function_made, function_tailed, quiet_type}
 use Rattle.lay_tree.proofs.reader.ItemKinds.{body_read, item_parts, vis_begins}
 use Rattle.lay_tree.proofs.reader.ItemLeads.{kind_front, spelled_as}
 use Rattle.lay_tree.proofs.reader.ItemReads.{HeadsComplete, alias_lead, call_lead, const_lead, enum_lead, extern_crate_lead, foreign_front, foreign_lead, function_lead, impl_lead, import_lead, module_lead, rules_lead, static_lead, struct_lead, trait_lead, union_lead, unsafe_impl_lead, unsafe_lead, unsafe_trait_lead}
 use Rattle.lay_tree.proofs.reader.ItemSound.{KindAt}
-use Rattle.lay_tree.proofs.reader.PatternEnds.{brace_quiet, where_quiet}
 use Rattle.lay_token.specs.Operators.{is_op}
 
 -- what spells a declaration of a macro
@@ -124,26 +118,6 @@ rules_parts n g depth ts rest s =
     unblank Paren f us s = s
     unblank Bracket f us s = s
     unblank Brace f us s = let e : us ≡ s.0 = s.1.1 ∙ s.1.2 in subst (λ z. Spells f depth z rest) (sym e) s.2
-
--- What stands behind a head before its where clause and a `;` may follow a return type, and the type of a value.
-quiet_type : (x : Ty) (ts : Tokens) → Quiet ts → first (is_keyword (codes "as")) ts ≡ false → type_follows Bounds (about_type x) ts ≡ true
-quiet_type x ts q r = rw (q.plus, and_none (about_type x).bounded, quiet_follows (about_type x).told.refuses ts (free_quiet ts q.free r)) refl
-
-ends_type : (x : Ty) (ts : Tokens) → Ends ts → type_follows Bounds (about_type x) ts ≡ true
-ends_type x ts e = quiet_type x ts e.quiet e.pattern.rename
-
-ends_output : (x : Option Ty) (ts : Tokens) → Ends ts → output_follows x ts ≡ true
-ends_output None ts e = rw e.quiet.free.arrow refl
-ends_output (Some x) ts e = ends_type x ts e
-
--- So may a where clause that has its word, and a body.
-where_output : (x : Option Ty) (ts rest : Tokens) → IsOne Ident (codes "where") ts rest → output_follows x ts ≡ true
-where_output None ts rest o = rw (one_no_op (codes "->") Ident (codes "where") ts rest refl o) refl
-where_output (Some x) ts rest o = quiet_type x ts (where_quiet ts rest o) (rw (one_front Ident (codes "where") ts rest o).1 refl)
-
-brace_output : (x : Option Ty) (ts rest : Tokens) → IsOne (Opener Brace) (opening Brace ∷ []) ts rest → output_follows x ts ≡ true
-brace_output None ts rest o = rw (one_no_op (codes "->") (Opener Brace) (opening Brace ∷ []) ts rest refl o) refl
-brace_output (Some x) ts rest o = quiet_type x ts (brace_quiet ts rest o) (rw (one_front (Opener Brace) (opening Brace ∷ []) ts rest o).1 refl)
 
 quiet_value : (x : ValueHead) (ts : Tokens) → Quiet ts → first (is_keyword (codes "as")) ts ≡ false → value_follows x ts ≡ true
 quiet_value (value.Const name x) ts q r = quiet_type x ts q r
@@ -242,57 +216,6 @@ module _ (fronts : Fronts) (heads : HeadsComplete) (at : Site) (depth : ℕ) (wi
 
   -- ---- functions
 
-  function_made : (h : FnHead) (w : Wheres) (last : Bool) (b : Option Block) (m n k : ℕ) (ts mid end rest : Tokens) → fn_head at within.heads ts ≡ Some ((h, m), mid)
-      → wheres within.heads.kinds mid ≡ Some (((w, last), n), end) → fn_body within.code end ≡ Some ((b, k), rest) → may_be_bodied at (is_some b) ≡ true
-      → function_by at within ts ≡ Some ((item.Function h w b, max m (max n k)), rest)
-  unfolding function_by
-  function_made h w last b m n k ts mid end rest c d e f = rw (c, d, e, f) refl
-
-  bodied_made : (b : Block) (n : ℕ) (ts inside rest : Tokens) → IsOne (Opener Brace) (opening Brace ∷ []) ts inside → block_by within.code ts ≡ Some ((b, n), rest)
-      → fn_body within.code ts ≡ Some ((Some b, n), rest)
-  bodied_made b n ts inside rest o r =
-      let there : first (opens Brace) ts ≡ true = rw (one_front (Opener Brace) (opening Brace ∷ []) ts inside o).1 refl in rw (there, r) refl
-
-  bodiless_made : (ts rest : Tokens) → IsOne Punct (codes ";") ts rest → fn_body within.code ts ≡ Some ((None, 0), rest)
-  bodiless_made ts rest o =
-      let none : first (opens Brace) ts ≡ false = rw (one_front Punct (codes ";") ts rest o).1 refl in rw (none, mark_passed (codes ";") ts rest o) refl
-
-  -- what stands behind the head of a function: a where clause, and a body or a `;`
-  record Tailed (h : FnHead) (w : Wheres) (b : Option Block) (ts rest : Tokens) : Type 0 where
-    mid : Tokens
-    fits : output_follows h.output ts ≡ true
-    last : Bool
-    clause : IsRead depth (wheres within.heads.kinds) (w, last) ts mid
-    body : IsRead depth (fn_body within.code) b mid rest
-
-  function_tailed : (h : FnHead) (w : Wheres) (b : Option Block) (ts rest : Tokens) → Spells (function_tail w (option_map about_block b)) depth ts rest
-      → are_predicates w ≡ true → may_be_good (option_map about_block b) ≡ true → Tailed h w b ts rest
-  function_tailed h w None ts rest s g k =
-      let e : IsOne Punct (codes ";") s.0 rest = piece_bit (Fixed Punct (codes ";")) depth s.0 rest s.2 in
-      let ends = tail_ends w depth ts s.0 rest s.1 e in
-      let fs = map predicate_form w.predicates in
-      let v = wheres_there depth within.heads.kinds inner.kinds w ts s.0 (body_wheres fs depth ts s.0 s.1) g (semicolon_ends_wheres s.0 rest e) in
-      record { mid = s.0; fits = ends_output h.output ts ends.0; last = v.0; clause = v.1; body = (0, omega arith, bodiless_made s.0 rest e) }
-  function_tailed h w (Some b) ts rest s g k =
-      let p = block_at b (leads w) depth s.0 rest (part_alone ((about_block b).form (leads w)) depth s.0 rest s.2) in
-      let v = wheres_there depth within.heads.kinds inner.kinds w ts s.0 s.1 g (brace_ends_wheres s.0 p.inside p.opened) in
-      let r = block_read fronts depth within.code code b s.0 rest p k in
-      record {
-        mid = s.0;
-        fits = bodied_output h.output ts s.0 p.inside s.1 p.opened;
-        last = v.0;
-        clause = v.1;
-        body = (r.0, r.1, bodied_made b r.0 s.0 p.inside rest p.opened r.2);
-      }
-    where
-      -- Before a body a where clause is nothing, or begins with its word.
-      bodied_output : (x : Option Ty) (us mid inside : Tokens) → Spells (wheres_before_body w) depth us mid → IsOne (Opener Brace) (opening Brace ∷ []) mid inside
-          → output_follows x us ≡ true
-      bodied_output x us mid inside t o = elim (wheres_front (map predicate_form w.predicates) depth us mid t) [
-        | inl e ↦ brace_output x us inside (subst (λ vs. IsOne (Opener Brace) (opening Brace ∷ []) vs inside) (sym e) o)
-        | inr q ↦ where_output x us q.0 q.1
-      ]
-
   function_read : (h : FnHead) (w : Wheres) (b : Option Block) (ts rest : Tokens) → KindAt at depth (item.Function h w b) ts rest
       → KindRead at within depth (item.Function h w b) ts rest
   function_read h w b ts rest g =
@@ -301,7 +224,7 @@ module _ (fronts : Fronts) (heads : HeadsComplete) (at : Site) (depth : ℕ) (wi
       let g2 = and_parts (is_fn_head at h && are_predicates w) (may_be_bodied at (is_some (option_map about_block b))) g3.0 in
       let g1 = and_parts (is_fn_head at h) (are_predicates w) g2.0 in
       let spelled = s.0 in
-      let t = function_tailed h w b spelled.0 rest spelled.2 g1.1 g3.1 in
+      let t = function_tailed fronts at depth within inner code h w b spelled.0 rest spelled.2 g1.1 g3.1 in
       let f = heads.functions at depth within.heads inner h ts spelled.0 spelled.1 g1.0 t.fits in
       let c = t.clause in
       let y = t.body in
@@ -312,7 +235,7 @@ module _ (fronts : Fronts) (heads : HeadsComplete) (at : Site) (depth : ℕ) (wi
         read = (
           max f.0 (max c.0 y.0),
           omega (arith, f.1, c.1, y.1),
-          function_made h w t.last b f.0 c.0 y.0 ts spelled.0 t.mid rest f.2 c.2 y.2 (bodied b g2.1),
+          function_made fronts at depth within inner code h w t.last b f.0 c.0 y.0 ts spelled.0 t.mid rest f.2 c.2 y.2 (bodied b g2.1),
         );
       }
     where
