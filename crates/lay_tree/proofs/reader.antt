@@ -45,9 +45,11 @@ pub mod ExprFronts
 pub mod ExprFirst
 pub mod ItemBegins
 pub mod BlockFronts
+pub mod BlockRows
 pub mod BlockEnds
 pub mod ElseEnds
 pub mod ArmFronts
+pub mod ParamFronts
 pub mod ExprQuiet
 pub mod ExprHeadsWords
 pub mod ExprHeadsJumps

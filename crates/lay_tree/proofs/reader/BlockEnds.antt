@@ -197,6 +197,10 @@ bar_free ts rest o = record {
 pub bar_quiet : (ts rest : Tokens) → IsOne Punct (codes "|") ts rest → Quiet ts
 bar_quiet ts rest o = free_quiet ts (bar_free ts rest o) (rw (one_front Punct (codes "|") ts rest o).1 refl)
 
+-- and every type, as no bound goes on behind it
+pub bar_type : (ts rest : Tokens) → IsOne Punct (codes "|") ts rest → types.Quiet ts
+bar_type ts rest o = record { free = bar_free ts rest o; plus = no_other_op 43 [] 124 ts rest refl o }
+
 pub bar_fits : (x : PatFacts) (ts rest : Tokens) → IsOne Punct (codes "|") ts rest → Fits Single x ts
 unfolding lead_at
 bar_fits x ts rest o =

@@ -21,7 +21,9 @@ use Rattle.lay_node.specs.reader.Attr.{begins_attr, is_doc, is_doc_kind}
 use Rattle.lay_node.specs.reader.Words.{name}
 use Rattle.lay_node.specs.declared.attr.Attr.{Attr}
 use Rattle.lay_node.specs.declared.heads.Site.TheVariants.{Module}
+use Rattle.lay_node.specs.declared.patterns.Pat.{Pat}
 use Rattle.lay_node.specs.declared.patterns.PatPlace.TheVariants.{Single}
+use Rattle.lay_node.specs.declared.types.Ty.{Ty}
 use Rattle.lay_node.proofs.Fronts.{keyword_one, mark_one, one_front, one_no_op, one_shorter}
 use Rattle.lay_node.proofs.Parts.{GoodAt, Rows, SpelledAt, behind_attrs_rows, before_blank, bit_alone, piece_bit}
 use Rattle.lay_node.proofs.reader.Attr.{attrs_rows}
@@ -33,10 +35,11 @@ use Rattle.lay_tree.specs.Operands.{ExprLead, expr_lead_at, expr_lead_of_word}
 use Rattle.lay_tree.specs.nodes.Blocks.{else_form, else_good, ended_form, let_type}
 use Rattle.lay_tree.specs.nodes.Code.{about_block, about_expr, about_item, about_stmt, told_of_item}
 use Rattle.lay_tree.specs.nodes.CodeFacts.{StmtFacts}
-use Rattle.lay_tree.specs.nodes.Exprs.{placed, value_form, value_placed}
-use Rattle.lay_tree.specs.nodes.Places.{statement}
+use Rattle.lay_tree.specs.nodes.Exprs.{condition_form, condition_good, placed, value_form, value_placed}
+use Rattle.lay_tree.specs.nodes.Places.{plain, statement}
 use Rattle.lay_tree.specs.reader.Blocks.{begins_item, begins_with, behind_semicolons, item_words}
 use Rattle.lay_tree.specs.reader.ItemLeads.{begins_rules, begins_union}
+use Rattle.lay_tree.specs.declared.blocks.Block.{Block}
 use Rattle.lay_tree.specs.declared.blocks.Stmt.{Stmt}
 use Rattle.lay_tree.specs.declared.blocks.Stmt.TheVariants as stmt
 use Rattle.lay_tree.specs.declared.exprs.Expr.{Expr}
@@ -241,6 +244,53 @@ attrs_begin (a ∷ more) depth ts mid rest r s less =
 
 -- ---- statements, behind their attributes
 
+five_good : (a b c d e : Bool) → (a && b && c && d && e) ≡ true → (a ≡ true) × (b ≡ true) × (c ≡ true) × (d ≡ true) × (e ≡ true)
+five_good true true true true true h = (h, h, h, h, h)
+five_good _ _ _ _ _ h = absurd (cc)
+
+-- what stands behind `let`
+abbrev pub behind_let : Pat → Option Ty → Option Expr → Option Block → Form
+behind_let pat ty x o = Part (pat_form Single (about_pat pat))
+    (let_type ty (Part (value_form (option_map about_expr x)) (Part (else_form (option_map about_block o)) (piece semicolon))))
+
+pub record LetParts (attrs : List Attr) (pat : Pat) (ty : Option Ty) (x : Option Expr) (o : Option Block) (depth : ℕ) (ts rest : Tokens) : Type 0 where
+  pub seen : Tokens
+  pub mid : Tokens
+  pub attrs_there : Rows (GoodAt (about_attr false) depth) attrs ts seen
+  pub word : IsOne Ident (codes "let") seen mid
+  pub behind : Spells (behind_let pat ty x o) depth mid rest
+  pub start : Start seen
+  pub pat_held : pat_good Single (about_pat pat) ≡ true
+  pub type_held : may_be_type ty ≡ true
+  pub value_held : value_placed (option_map about_expr x) ≡ true
+  pub else_held : else_good (option_map about_expr x) (option_map about_block o) ≡ true
+
+pub let_parts : (attrs : List Attr) (pat : Pat) (ty : Option Ty) (x : Option Expr) (o : Option Block) (depth : ℕ) (ts rest : Tokens)
+    → Spells (about_stmt (stmt.Let attrs pat ty x o)).form depth ts rest → (about_stmt (stmt.Let attrs pat ty x o)).good ≡ true
+    → LetParts attrs pat ty x o depth ts rest
+let_parts attrs pat ty x o depth ts rest s g =
+    let is = stmt_let_is attrs pat ty x o in
+    let value = option_map about_expr x in
+    let otherwise = option_map about_block o in
+    let good = five_good (are_attrs false attrs) (pat_good Single (about_pat pat)) (may_be_type ty) (value_placed value) (else_good value otherwise)
+    (sym (ap (λ (G : StmtFacts). G.good) is) ∙ g) in
+    let b = behind_attrs_rows (map attr_form attrs) (Piece (keyword (codes "let") ∷ Blank ∷ []) (behind_let pat ty x o)) depth ts rest
+    (subst (λ (G : StmtFacts). Spells G.form depth ts rest) is s) in
+    let u = b.2 in
+    let w = before_blank (keyword (codes "let")) b.0 u.0 u.1 in
+    record {
+      seen = b.0;
+      mid = u.0;
+      attrs_there = attrs_rows false depth attrs ts b.0 b.1 good.0;
+      word = w;
+      behind = u.2;
+      start = let_start b.0 u.0 w;
+      pat_held = good.1;
+      type_held = good.2;
+      value_held = good.3;
+      else_held = good.4;
+    }
+
 -- an expression and its `;`
 pub record ExprParts (attrs : List Attr) (x : Expr) (ended : Bool) (depth : ℕ) (ts rest : Tokens) : Type 0 where
   pub seen : Tokens
@@ -282,10 +332,6 @@ expr_parts attrs x ended depth ts rest s g ends =
 
 -- ---- the front of any statement
 
-first_good : (a b c d e : Bool) → (a && b && c && d && e) ≡ true → a ≡ true
-first_good true b c d e h = refl
-first_good false b c d e h = absurd (cc)
-
 pub stmt_front : (s : Stmt) (depth : ℕ) (ts rest : Tokens) → Spells (about_stmt s).form depth ts rest → (about_stmt s).good ≡ true
     → StmtFront ts rest
 stmt_front s depth ts rest t g = by s (stmt_view s) t g
@@ -308,20 +354,9 @@ stmt_front s depth ts rest t g = by s (stmt_view s) t g
 
     by : (s : Stmt) → StmtView s → Spells (about_stmt s).form depth ts rest → (about_stmt s).good ≡ true → StmtFront ts rest
     by _ (IsLet attrs pat ty x o) t g =
-        let is = stmt_let_is attrs pat ty x o in
-        let spelled = subst (λ (G : StmtFacts). Spells G.form depth ts rest) is t in
-        let good = sym (ap (λ (G : StmtFacts). G.good) is) ∙ g in
-        let value = option_map about_expr x in
-        let otherwise = option_map about_block o in
-        let attrs_good =
-        first_good (are_attrs false attrs) (pat_good Single (about_pat pat)) (may_be_type ty) (value_placed value) (else_good value otherwise) good in
-        let inner : Form = Part (pat_form Single (about_pat pat)) (let_type ty (Part (value_form value) (Part (else_form otherwise) (piece semicolon)))) in
-        let b = behind_attrs_rows (map attr_form attrs) (Piece (keyword (codes "let") ∷ Blank ∷ []) inner) depth ts rest spelled in
-        let u = b.2 in
-        let w = before_blank (keyword (codes "let")) b.0 u.0 u.1 in
-        let less = shorter inner depth u.0 rest u.2 in
-        attrs_begin attrs depth ts b.0 rest (attrs_rows false depth attrs ts b.0 b.1 attrs_good) (let_start b.0 u.0 w)
-        (omega (arith, one_shorter Ident (codes "let") b.0 u.0 w, less))
+        let p = let_parts attrs pat ty x o depth ts rest t g in
+        let less = shorter (behind_let pat ty x o) depth p.mid rest p.behind in
+        attrs_begin attrs depth ts p.seen rest p.attrs_there p.start (omega (arith, one_shorter Ident (codes "let") p.seen p.mid p.word, less))
     by _ (IsItem i) t g =
         let is = stmt_item_is i in
         let good = and_parts ((told_of_item i).good Module) (not (told_of_item i).call) (sym (ap (λ (G : StmtFacts). G.good) is) ∙ g) in
@@ -337,3 +372,12 @@ stmt_front s depth ts rest t g = by s (stmt_view s) t g
         let e = (placed_begins x statement depth b.0 u.0 u.1 good.1).less in
         let less = shorter (ended_form ended) depth u.0 rest u.2 in
         attrs_begin attrs depth ts b.0 rest (attrs_rows false depth attrs ts b.0 b.1 good.0) start (omega (arith, e, less))
+
+-- ---- conditions
+
+-- `let` begins a condition that is a pattern and what it is matched with, and no other.
+pub condition_let : (pat : Option Pat) (x : Expr) (depth : ℕ) (ts rest : Tokens) → Spells (condition_form pat (about_expr x)) depth ts rest
+    → condition_good pat (about_expr x) ≡ true → first (is_keyword (codes "let")) ts ≡ is_some pat
+condition_let None x depth ts rest s g = (expr_start x (plain 0 true) depth ts rest s g).1
+condition_let (Some p) x depth ts rest s g =
+    rw (one_front Ident (codes "let") ts s.0 (before_blank (keyword (codes "let")) ts s.0 s.1)).1 refl

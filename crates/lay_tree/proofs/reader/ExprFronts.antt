@@ -118,9 +118,10 @@ const_begins b depth ts rest s =
     let f = one_front Ident (codes "const") ts s.0 o in
     let g = one_front (Opener Brace) (opening Brace ∷ []) s.0 c.0 c.1 in
     let left : tail ts ≡ s.0 = rw f.1 refl in
-    let opens_there : first (opens Brace) (tail ts) ≡ true = rw (left, g.1) refl in
-    (one_lead Ident (codes "const") ts s.0 o ∙ rw opens_there refl,
-    omega (arith, one_shorter Ident (codes "const") ts s.0 o, one_shorter (Opener Brace) (opening Brace ∷ []) s.0 c.0 c.1, c.2))
+    let opens_there : first (opens Brace) (tail ts) ≡ true = rw (left, g.1) refl in (
+      one_lead Ident (codes "const") ts s.0 o ∙ rw opens_there refl,
+      omega (arith, one_shorter Ident (codes "const") ts s.0 o, one_shorter (Opener Brace) (opening Brace ∷ []) s.0 c.0 c.1, c.2),
+    )
 
 -- ---- what stands in a place
 

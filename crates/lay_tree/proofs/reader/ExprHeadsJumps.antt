@@ -59,6 +59,20 @@ none_follows t no_struct ts f =
     or_true true e = refl
     or_true false e = e
 
+-- So is the body of a closure.
+pub closure_operand : (t : Tail) (no_struct : Bool) (ts : Tokens) → TailFits (record t { takes_all = true; closure = true }) no_struct ts
+    → (nat_le (strength ts) 0 ≡ true) × (tail_follows t no_struct ts ≡ true)
+closure_operand t no_struct ts f =
+    none_follows t no_struct ts (record {
+      all = f.all;
+      bare = f.bare;
+      path = f.path;
+      label = f.label;
+      raw = f.raw;
+      otherwise = f.otherwise;
+      refuses = f.refuses;
+    })
+
 -- A lifetime begins an operand.
 lifetime_operand : (no_struct : Bool) (ts : Tokens) → first is_lifetime ts ≡ true → begins_operand no_struct ts ≡ true
 unfolding expr_lead_at

@@ -14,7 +14,7 @@ use Rattle.lay_node.proofs.Follow.{Quiet, quiet_follows, comma_quiet, semicolon_
 use Rattle.lay_node.proofs.Fronts.{one_front}
 use Rattle.lay_node.proofs.reader.HeadParts.{brace_quiet}
 use Rattle.lay_node.proofs.reader.Loops as loops
-use Rattle.lay_tree.specs.Operands.{begins_operand}
+use Rattle.lay_tree.specs.Operands.{begins_operand, expr_lead_at}
 use Rattle.lay_tree.specs.Operators.{all_ops, named, binary, is_dot_or_try, begins_step, strength_by, strength}
 use Rattle.lay_tree.specs.declared.exprs.Place.{Place}
 use Rattle.lay_tree.specs.declared.operators.Op.{Op}
@@ -193,6 +193,28 @@ brace_ends_expr ts rest o =
       otherwise = rw f refl;
       quiet = brace_quiet ts rest o;
     }
+
+-- So does the end.
+end_quiet : Quiet []
+unfolding op_at
+end_quiet OfRename = refl
+end_quiet OfColons = refl
+end_quiet OfArgs = refl
+end_quiet OfCodeArgs = refl
+end_quiet OfArrow = refl
+end_quiet OfBang = refl
+
+pub nothing_ends_expr : (no_struct : Bool) → ExprEnds no_struct []
+unfolding op_at expr_lead_at
+nothing_ends_expr no_struct = record {
+  weak = none_weak None [] refl refl refl refl refl refl;
+  operand = refl;
+  brace = and_false (not no_struct);
+  lifetime = refl;
+  pointer = refl;
+  otherwise = refl;
+  quiet = end_quiet;
+}
 
 -- So does what stands behind an element of a list.
 pub element_ends_expr : (no_struct : Bool) (d : Delim) (ts : Tokens) → loops.Ends d ts → ExprEnds no_struct ts
