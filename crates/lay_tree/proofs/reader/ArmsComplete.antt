@@ -204,8 +204,7 @@ module _ (fronts : Fronts) (depth : ℕ) (within : ExprWithin) (reads : (least :
       let comma = behind.no_comma in
       (f.0, rw (comma, f.1) (ap (λ (us : Tokens). let got : Option Tokens = Some us in got) same), omega (arith, ap length same))
   body_end y last k ts rest (inr bits) b =
-      let o : IsOne Punct (codes ",") ts rest = bit_alone (Fixed Punct (codes ",")) ts rest bits in
-      (
+      let o : IsOne Punct (codes ",") ts rest = bit_alone (Fixed Punct (codes ",")) ts rest bits in (
         ends_follow (about_expr (dress k y)) statement ts (comma_ends_expr false ts rest o),
         rw (one_front Punct (codes ",") ts rest o).1 refl,
         omega (arith, one_shorter Punct (codes ",") ts rest o),
@@ -238,8 +237,7 @@ module _ (fronts : Fronts) (depth : ℕ) (within : ExprWithin) (reads : (least :
       let turns : k ≤ length ts = omega (arith, opens_take k ts braced.0 braced.1) in
       let bare = undress_dressed k (length ts) y turns lone no_macro in
       let got = body_end y last k at rest end behind in
-      let r = (reads ((depth - cost k) + k) bound).exprs statement x ts at is (dressed_placed k y w) got.0 in
-      (
+      let r = (reads ((depth - cost k) + k) bound).exprs statement x ts at is (dressed_placed k y w) got.0 in (
         (
           body_need (is_lone_body (about_expr x).kind) r.0,
           need_is k y r.0 lone no_macro r.1 le,
@@ -306,8 +304,7 @@ module _ (fronts : Fronts) (depth : ℕ) (within : ExprWithin) (reads : (least :
       let guard = guard_read a.guard p.0 groups.0 p.2 g2.1 o.0 in
       let body = (body_read a.body last b.0 rest b.2 g3.1 (not-true (is_lone_body B.kind) g4.1) behind).0 in
       let no_attr = fronts.pats a.pat depth r.0 p.0 p.1 g1.1 in
-      let attrs = attributes_complete false a.attrs depth ts r.0 (attrs_rows false depth a.attrs ts r.0 r.1 g1.0) no_attr in
-      (
+      let attrs = attributes_complete false a.attrs depth ts r.0 (attrs_rows false depth a.attrs ts r.0 r.1 g1.0) no_attr in (
         max pat.0 (max guard.0 body.0),
         omega (arith, pat.1, guard.1, body.1),
         arm_made a pat.0 guard.0 body.0 ts r.0 p.0 groups.0 b.0 rest attrs pat.2 guard.2 o body.2,

@@ -89,7 +89,6 @@ module _ (fronts : Fronts) (most : ℕ) (within : ExprWithin) (reads : (depth : 
     reached _ (IsBreak label x) =
         alone (expr.Break label x) (Expr-F.Break label (option_map about_expr x)) (expr_break_is label x) refl
         (break_head depth within here label x)
-
     reached _ (IsBlock label b) =
         alone (expr.Block label b) (Expr-F.Block label (about_block b)) (expr_block_is label b) refl (block_head fronts depth within here label b)
     reached _ (IsUnsafe b) = alone (expr.Unsafe b) (Expr-F.Unsafe (about_block b)) (expr_unsafe_is b) refl (unsafe_head fronts depth within here b)

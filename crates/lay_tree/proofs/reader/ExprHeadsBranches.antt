@@ -134,8 +134,7 @@ module _ (fronts : Fronts) (depth : ℕ) (within : ExprWithin) (reads : ExprRead
       let q = e.0 in
       let ys = turns_read (Turn begins_else_if (λ us. branch_by within (drop 2 us))) depth more t.mid m.0 m.1 in
       let all = repeat_complete (λ us. branch_by within (drop 2 us)) begins_else_if ys.0 t.mid m.0 ys.3 e.1 in
-      let r = t.read in
-      (
+      let r = t.read in (
         suc (max r.0 (max (deepest ys.0) q.0)),
         omega (arith, r.1, ys.2, q.1),
         if_made b more o ys.0 r.0 q.0 ts t.at t.mid m.0 rest t.word r.2 all ys.1 q.2,
@@ -190,8 +189,7 @@ module _ (fronts : Fronts) (depth : ℕ) (within : ExprWithin) (reads : (least :
       let behind = t.1 in
       let ys = turns_read (Turn more_items (arm_by within)) depth arms rows.0 b.1 t.0 in
       let all = repeat_complete (arm_by within) more_items ys.0 rows.0 b.1 ys.3 (brace_ends b.1 rest b.4) in
-      let inner = attributes_complete true attrs depth b.0 rows.0 (attrs_rows true depth attrs b.0 rows.0 rows.1 g1.1) behind.begun.attr in
-      (
+      let inner = attributes_complete true attrs depth b.0 rows.0 (attrs_rows true depth attrs b.0 rows.0 rows.1 g1.1) behind.begun.attr in (
         suc (max r.0 (deepest ys.0)),
         omega (arith, r.1, ys.2),
         match_made x attrs arms ys.0 r.0 ts w.0 s.0 b.0 rows.0 b.1 rest o r.2 b.2 inner all ys.1 b.4,

@@ -262,8 +262,7 @@ pats_ahead x depth ts rest s g =
     barred us o =
         let f = op_first 124 [] us o.0 in
         let a = other_op (codes "|") (codes ".") refl us o.0 in
-        let b = other_op (codes "|") (codes "?") refl us o.0 in
-        (
+        let b = other_op (codes "|") (codes "?") refl us o.0 in (
           record {
             begun = record { mark = rw f.3 refl; dot = rw (a, b) refl; no_else = rw f.3 refl; attr = rw f.3 refl };
             no_comma = rw f.3 refl;

@@ -204,8 +204,7 @@ module _ (fronts : Fronts) (depth : ℕ) (within : ExprWithin) (reads : ExprRead
       let made = let_made attrs pat ty x o p.0 ty_read.0 n.0 b.0 words.0 inner.0 t.0 v.0 e.0 rest p.2 ty_read.2 n.2 b.2 end (stands x o g4.1) in
       let front = (one_front Ident (codes "let") r.0 words.0 word).1 in
       let no_attr : begins_attr false r.0 ≡ false = rw front refl in
-      let all = attributes_complete false attrs depth ts r.0 (attrs_rows false depth attrs ts r.0 r.1 g1.0) no_attr in
-      (
+      let all = attributes_complete false attrs depth ts r.0 (attrs_rows false depth attrs ts r.0 r.1 g1.0) no_attr in (
         max p.0 (max ty_read.0 (max n.0 b.0)),
         omega (arith, p.1, ty_read.1, n.1, b.1),
         rw (all, keyword_there (codes "let") r.0 words.0 word, one_left Ident (codes "let") r.0 words.0 word) made,
