@@ -6,6 +6,7 @@ pub mod ItemLeads
 pub mod ItemReads
 pub mod ItemKinds
 pub mod Item
+pub mod ItemFunctionRead
 pub mod ItemRead
 pub mod ItemExact
 pub mod Longest
@@ -57,6 +58,9 @@ pub mod ExprHeadsLists
 pub mod ExprHeadsRaw
 pub mod ExprHeadsUnary
 pub mod ExprHeadsStruct
+pub mod ExprHeadsBlocks
+pub mod ExprHeadsBranches
+pub mod ExprHeadsClosures
 pub mod ExprOperators
 pub mod ExprOperatorsLoops
 pub mod ExprSteps
@@ -64,5 +68,9 @@ pub mod ExprOperatorsTails
 pub mod ExprOperatorsRows
 pub mod ExprClimb
 pub mod ExprClimbKinds
+pub mod PatternLeads
+pub mod ArrowFronts
+pub mod FrontsHeld
 pub mod ExprComplete
+pub mod CodeComplete
 pub mod ExprExact

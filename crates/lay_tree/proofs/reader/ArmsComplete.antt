@@ -1,13 +1,13 @@
 -- Arms that are spelled are read: a body within braces that aren't in the tree is read with them, as blocks, and loses them.
-use Rattle.std.proofs.Common.{◌≡◌, ℕ, zero, suc, ◌+◌, ◌-◌, ◌≤◌, ◌<◌, max, Bool, true, false, not, ◌&&◌, ◌||◌, List, [], ◌∷◌, map, length, drop, codes, Option, option_map, Some, None, ◌⊎◌, inl, inr, refl, sym, ap, subst, ◌∙◌, arith}
+use Rattle.std.proofs.Common.{◌≡◌, ℕ, zero, suc, ◌+◌, ◌-◌, ◌≤◌, max, Bool, true, false, not, ◌&&◌, ◌||◌, List, [], ◌∷◌, map, length, codes, Option, option_map, Some, None, inl, inr, refl, sym, ap, subst, ◌∙◌, arith}
 use Rattle.std.proofs.lemmas.Bool.{and_parts, not-true, or_right}
 use Rattle.lay_piece.specs.Forms.{opening, closing}
 use Rattle.lay_piece.specs.declared.kind.Delim.TheVariants.{Brace}
 use Rattle.lay_piece.specs.declared.kind.Kind.TheVariants.{Ident, Punct, Opener, Closer}
 use Rattle.lay_token.specs.Operators.{is_op}
-use Rattle.lay_form.specs.Form.{Blank, Fixed, Operator, Semicolons, Braces, Bare, Unseen, Marked, ArmComma, Form, Done, Piece, Part, Body, keyword, closer}
+use Rattle.lay_form.specs.Form.{Blank, Fixed, Operator, Semicolons, ArmComma, Form, Done, Piece, Part, Body, keyword, closer}
 use Rattle.lay_form.specs.Notation.{N, I0}
-use Rattle.lay_form.specs.Spelled.{IsOne, IsOperator, AreBits, AnySemicolons, Opens, Closes, Braced, MayBrace, IsBehind, cost, may_lack, Spells}
+use Rattle.lay_form.specs.Spelled.{IsOne, IsOperator, AreBits, AnySemicolons, Opens, Closes, MayBrace, IsBehind, cost, may_lack, Spells}
 use Rattle.lay_form.proofs.FormLaws.{shorter}
 use Rattle.lay_node.specs.Ahead.{Tokens, first, tail, is_keyword, is_mark, closes, more_items}
 use Rattle.lay_node.specs.nodes.Attr.{are_attrs, attr_form}
@@ -23,7 +23,7 @@ use Rattle.lay_node.proofs.reader.Exact.{IsRead}
 use Rattle.lay_node.proofs.reader.Loops.{Turn}
 use Rattle.lay_node.proofs.reader.PatternsFronts.{Fits}
 use Rattle.lay_node.proofs.reader.TypesCompleteParts.{keyword_there, one_left}
-use Rattle.lay_tree.specs.nodes.Blocks.{arm_form, block_facts, braces_of, dropped, guard_form, is_free, is_lone_body, stmt_facts}
+use Rattle.lay_tree.specs.nodes.Blocks.{block_facts, braces_of, dropped, guard_form, is_free, is_lone_body, stmt_facts}
 use Rattle.lay_tree.specs.nodes.Code.{about_arm, about_expr}
 use Rattle.lay_tree.specs.nodes.CodeFacts.{ArmFacts, BlockFacts, StmtFacts}
 use Rattle.lay_tree.specs.nodes.Exprs.{BodyKind, MacroBody, BlockBody, OtherBody, ExprFacts, arm_forms, arms_good, expr_facts, follows, is_macro, placed, value_placed}
@@ -204,8 +204,7 @@ module _ (fronts : Fronts) (depth : ℕ) (within : ExprWithin) (reads : (least :
       let comma = behind.no_comma in
       (f.0, rw (comma, f.1) (ap (λ (us : Tokens). let got : Option Tokens = Some us in got) same), omega (arith, ap length same))
   body_end y last k ts rest (inr bits) b =
-      let o : IsOne Punct (codes ",") ts rest = bit_alone (Fixed Punct (codes ",")) ts rest bits in
-      (
+      let o : IsOne Punct (codes ",") ts rest = bit_alone (Fixed Punct (codes ",")) ts rest bits in (
         ends_follow (about_expr (dress k y)) statement ts (comma_ends_expr false ts rest o),
         rw (one_front Punct (codes ",") ts rest o).1 refl,
         omega (arith, one_shorter Punct (codes ",") ts rest o),
@@ -238,8 +237,7 @@ module _ (fronts : Fronts) (depth : ℕ) (within : ExprWithin) (reads : (least :
       let turns : k ≤ length ts = omega (arith, opens_take k ts braced.0 braced.1) in
       let bare = undress_dressed k (length ts) y turns lone no_macro in
       let got = body_end y last k at rest end behind in
-      let r = (reads ((depth - cost k) + k) bound).exprs statement x ts at is (dressed_placed k y w) got.0 in
-      (
+      let r = (reads ((depth - cost k) + k) bound).exprs statement x ts at is (dressed_placed k y w) got.0 in (
         (
           body_need (is_lone_body (about_expr x).kind) r.0,
           need_is k y r.0 lone no_macro r.1 le,
@@ -306,8 +304,7 @@ module _ (fronts : Fronts) (depth : ℕ) (within : ExprWithin) (reads : (least :
       let guard = guard_read a.guard p.0 groups.0 p.2 g2.1 o.0 in
       let body = (body_read a.body last b.0 rest b.2 g3.1 (not-true (is_lone_body B.kind) g4.1) behind).0 in
       let no_attr = fronts.pats a.pat depth r.0 p.0 p.1 g1.1 in
-      let attrs = attributes_complete false a.attrs depth ts r.0 (attrs_rows false depth a.attrs ts r.0 r.1 g1.0) no_attr in
-      (
+      let attrs = attributes_complete false a.attrs depth ts r.0 (attrs_rows false depth a.attrs ts r.0 r.1 g1.0) no_attr in (
         max pat.0 (max guard.0 body.0),
         omega (arith, pat.1, guard.1, body.1),
         arm_made a pat.0 guard.0 body.0 ts r.0 p.0 groups.0 b.0 rest attrs pat.2 guard.2 o body.2,

@@ -1,5 +1,5 @@
 -- What is held of first tokens, and of what ends expressions, where blocks, statements and arms are read.
-use Rattle.std.proofs.Common.{◌≡◌, ℕ, ◌<◌, Bool, true, false, ◌&&◌, ◌||◌, List, [], ◌∷◌, length, codes, Some, refl}
+use Rattle.std.proofs.Common.{◌≡◌, ℕ, ◌<◌, Bool, true, false, ◌&&◌, List, [], ◌∷◌, length, drop, codes, Some, refl}
 use Rattle.std.specs.Prelude.{is_some}
 use Rattle.lay_piece.specs.Forms.{closing}
 use Rattle.lay_piece.specs.declared.kind.Delim.TheVariants.{Brace}
@@ -73,13 +73,17 @@ pub record ArmBegun (ts rest : Tokens) : Type 0 where
   pub more : more_items ts ≡ true
   pub less : length rest < length ts
 
+-- neither a name, nor a `!` before one: so no item behind a word of its own
+abbrev pub NoItem : Tokens → Type 0
+NoItem ts = (is_some (name ts) ≡ false) × ((is_op (codes "!") ts && is_some (name (drop 1 ts))) ≡ false)
+
 -- What is held of first tokens.
 pub record Fronts : Type 0 where
   pub stmts : (s : Stmt) (depth : ℕ) (ts rest : Tokens) → Spells (about_stmt s).form depth ts rest → (about_stmt s).good ≡ true → StmtBegun ts rest
   pub items : (one : Item) (depth : ℕ) (ts rest : Tokens) → GoodAt (about_item Module) depth one ts rest → (told_of_item one).call ≡ false → ItemAhead ts
-  -- No name stands behind an expression, where a path may be one.
+  -- Nothing stands behind an expression that makes it an item.
   pub exprs : (x : Expr) (depth : ℕ) (ts rest : Tokens) → Spells (about_expr x).form depth ts rest → placed (about_expr x) statement ≡ true
-      → ((about_expr x).block_like ≡ false → is_some (name rest) ≡ false) → ExprAhead ts
+      → ((about_expr x).block_like ≡ false → NoItem rest) → ExprAhead ts
   pub leads : (x : Expr) (place : Place) (depth : ℕ) (ts rest : Tokens) → Spells (about_expr x).form depth ts rest → placed (about_expr x) place ≡ true
       → (expr_lead_at ts ≡ Some (about_expr x).lead) × (length rest < length ts)
   pub arms : (a : Arm) (last : Bool) (depth : ℕ) (ts rest : Tokens) → Spells ((about_arm a).form last) depth ts rest → (about_arm a).good ≡ true → ArmBegun ts rest

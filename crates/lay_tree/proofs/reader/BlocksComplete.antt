@@ -1,31 +1,24 @@
 -- Blocks, statements, conditions and branches are read where they are spelled, where what is one level deeper is read.
-use Rattle.std.proofs.Common.{◌≡◌, ℕ, zero, suc, ◌≤◌, ◌<◌, max, Bool, true, false, not, ◌&&◌, ◌||◌, nat_le, List, [], ◌∷◌, ◌++◌, map, length, drop, codes, Option, option_map, Some, None, is_some, if◌then◌else◌, ◌⊎◌, inl, inr, refl, sym, ap, subst, ◌∙◌, arith}
-use Rattle.std.proofs.lemmas.Bool.{and_parts, and_from, not-true}
+use Rattle.std.proofs.Common.{◌≡◌, ℕ, zero, suc, ◌≤◌, ◌<◌, Bool, true, false, ◌&&◌, ◌||◌, List, [], ◌∷◌, map, length, codes, Some, if◌then◌else◌, inl, inr, refl, sym, ap, subst, arith}
+use Rattle.std.proofs.lemmas.Bool.{and_parts}
 use Rattle.lay_piece.specs.Forms.{opening, closing}
 use Rattle.lay_piece.specs.declared.kind.Delim.TheVariants.{Brace}
-use Rattle.lay_piece.specs.declared.kind.Kind.TheVariants.{Ident, Punct, Opener, Closer}
-use Rattle.lay_token.specs.Operators.{is_op}
-use Rattle.lay_form.specs.Form.{Bit, Blank, Fixed, Semicolons, Form, Done, Piece, Part, Deeper, keyword, opener, closer, semicolon}
-use Rattle.lay_form.specs.Notation.{H, B-, each, body, soft, piece, behind_attrs}
-use Rattle.lay_form.specs.Spelled.{IsOne, IsOperator, AnySemicolons, AreSemicolons, AreBits, IsBit, Spells}
+use Rattle.lay_piece.specs.declared.kind.Kind.TheVariants.{Punct, Opener, Closer}
+use Rattle.lay_form.specs.Form.{Semicolons, Done, Part}
+use Rattle.lay_form.specs.Notation.{soft, piece}
+use Rattle.lay_form.specs.Spelled.{IsOne, AnySemicolons, AreSemicolons, Spells}
 use Rattle.lay_node.specs.Ahead.{Tokens, first, is_mark, closes, more_items}
-use Rattle.lay_node.specs.nodes.Attr.{are_attrs, attr_form, about_attr}
-use Rattle.lay_node.specs.nodes.Fields.{blank_if}
-use Rattle.lay_node.specs.nodes.Functions.{may_be_type}
-use Rattle.lay_node.specs.nodes.Types.{about_type, equals}
+use Rattle.lay_node.specs.nodes.Attr.{are_attrs, attr_form}
 use Rattle.lay_node.specs.reader.Attr.{attributes, begins_attr}
-use Rattle.lay_node.specs.reader.Loops.{Read, nodes, deepest, repeat}
-use Rattle.lay_node.specs.reader.Types.{if_read}
+use Rattle.lay_node.specs.reader.Loops.{nodes, deepest, repeat}
 use Rattle.lay_node.specs.declared.attr.Attr.{Attr}
-use Rattle.lay_node.specs.declared.types.Ty.{Ty}
-use Rattle.lay_node.specs.declared.types.TypePlace.TheVariants.{Bounds}
 use Rattle.lay_node.proofs.Fronts.{one_front, opener_passed, closer_first, closer_passed}
-use Rattle.lay_node.proofs.Parts.{Rows, GoodAt, SpelledAt, Closed, rows_parts, rows_of_map, behind_blank, bit_alone, bits_parts, part_alone, piece_bit}
+use Rattle.lay_node.proofs.Parts.{Rows, SpelledAt, Closed, rows_parts, rows_of_map, bit_alone, piece_bit}
 use Rattle.lay_node.proofs.reader.Attr.{attrs_rows}
 use Rattle.lay_node.proofs.reader.AttrRead.{attributes_complete}
 use Rattle.lay_node.proofs.reader.Exact.{IsRead}
 use Rattle.lay_node.proofs.reader.Loops.{Turn, repeat_complete}
-use Rattle.lay_tree.specs.nodes.Blocks.{attrs_before, block_form, dropped, dropped_if, is_plain, soft_form, stmt_form, stmts_good}
+use Rattle.lay_tree.specs.nodes.Blocks.{attrs_before, dropped, stmt_form, stmts_good}
 use Rattle.lay_tree.specs.nodes.Code.{about_block, about_stmt}
 use Rattle.lay_tree.specs.nodes.CodeFacts.{BlockFacts, StmtFacts}
 use Rattle.lay_tree.specs.reader.Blocks.{behind_semicolons, block_by, stmt_in_block, stmt_by}
@@ -33,6 +26,7 @@ use Rattle.lay_tree.specs.reader.Within.{ExprWithin}
 use Rattle.lay_tree.specs.declared.blocks.Block.{Block}
 use Rattle.lay_tree.specs.declared.blocks.Stmt.{Stmt}
 use Rattle.lay_tree.proofs.nodes.BlocksLaws.{block_is}
+use Rattle.lay_tree.proofs.reader.BlockForms.{BlockParts, form_parts, parts_of_soft}
 use Rattle.lay_tree.proofs.reader.BlockReads.{Begun, Fronts, brace_begun}
 use Rattle.lay_tree.proofs.reader.StmtsComplete.{Behind, stmt_read, ends_by_itself}
 use Rattle.lay_tree.proofs.reader.ExprReads.{ExprReads}
@@ -51,26 +45,6 @@ pub record BlockAt (depth : ℕ) (b : Block) (ts rest : Tokens) : Type 0 where
   pub stmts : Rows (λ s. SpelledAt depth (stmt_form (about_stmt s))) b.stmts start end
   pub closed : Closed Brace end rest
 
-unled : (lead : Bool) (bs : List Bit) (ts rest : Tokens) → AreBits (blank_if lead ++ bs) ts rest → AreBits bs ts rest
-unled true bs ts rest s = behind_blank bs ts rest s
-unled false bs ts rest s = s
-
-each_line_rows : (fs : List Form) (depth : ℕ) (ts rest : Tokens) → Spells (each H fs) depth ts rest → Rows (SpelledAt depth) fs ts rest
-each_line_rows [] depth ts rest s = s
-each_line_rows (f ∷ fs) depth ts rest s = (s.0, s.1, each_line_rows fs depth s.0 rest s.2)
-
-body_parts : (lead : Bool) (skipped : List Bit) (fs : List Form) (depth : ℕ) (ts rest : Tokens) → Spells (body (blank_if lead) skipped fs) depth ts rest
-    → (inside start end : Tokens) × IsBit (opener Brace) ts inside × AreBits skipped inside start × Rows (SpelledAt depth) fs start end × IsBit (closer Brace) end rest
-body_parts lead skipped [] depth ts rest s =
-    let bits = unled lead (opener Brace ∷ (skipped ++ closer Brace ∷ [])) ts s.0 s.1 in
-    let parts = bits_parts skipped (closer Brace ∷ []) bits.0 s.0 bits.2 in
-    let closing : IsBit (closer Brace) parts.0 s.0 = bit_alone (closer Brace) parts.0 s.0 parts.2 in
-    (bits.0, parts.0, parts.0, bits.1, parts.1, refl, subst (λ us. IsBit (closer Brace) parts.0 us) s.2 closing)
-body_parts lead skipped (f ∷ fs) depth ts rest s =
-    let bits = unled lead (opener Brace ∷ skipped) ts s.0 s.1 in
-    let inside = each_line_rows (f ∷ fs) depth s.0 s.2.0 (part_alone (each H (f ∷ fs)) depth s.0 s.2.0 s.2.1) in
-    (bits.0, s.0, s.2.0, bits.1, bits.2, inside, piece_bit (closer Brace) depth s.2.0 rest s.2.2)
-
 -- inner attributes, and the `;` behind the last
 attrs_then : (a : Attr) (more : List Attr) (depth : ℕ) (ts rest : Tokens) → Rows (SpelledAt depth) (attrs_before (map attr_form (a ∷ more))) ts rest
     → (mid : Tokens) × Rows (SpelledAt depth) (map attr_form (a ∷ more)) ts mid × AnySemicolons mid rest
@@ -80,95 +54,47 @@ attrs_then a [] depth ts rest r =
 attrs_then a (b ∷ more) depth ts rest r =
     let m = attrs_then b more depth r.0 rest r.2 in (m.0, (r.0, r.1, m.1), m.2)
 
--- A block is spelled so in both its forms, with a leading blank or without one.
-pub block_at : (b : Block) (lead : Bool) (depth : ℕ) (ts rest : Tokens) → Spells ((about_block b).form lead) depth ts rest → BlockAt depth b ts rest
-block_at b lead depth ts rest s = by b.attrs b.stmts (subst (λ (F : BlockFacts). Spells (F.form lead) depth ts rest) (block_is b) s)
-  where
-    rows : (stmts : List Stmt) (us end : Tokens) → Rows (SpelledAt depth) (map stmt_form (map about_stmt stmts)) us end
-        → Rows (λ s. SpelledAt depth (stmt_form (about_stmt s))) stmts us end
-    rows stmts us end r =
-        rows_of_map about_stmt (λ (F : StmtFacts). SpelledAt depth (stmt_form F)) stmts us end
-        (rows_of_map stmt_form (SpelledAt depth) (map about_stmt stmts) us end r)
+stmt_rows : (stmts : List Stmt) (depth : ℕ) (ts rest : Tokens) → Rows (SpelledAt depth) (map stmt_form (map about_stmt stmts)) ts rest
+    → Rows (λ s. SpelledAt depth (stmt_form (about_stmt s))) stmts ts rest
+stmt_rows stmts depth ts rest r =
+    rows_of_map about_stmt (λ (F : StmtFacts). SpelledAt depth (stmt_form F)) stmts ts rest
+    (rows_of_map stmt_form (SpelledAt depth) (map about_stmt stmts) ts rest r)
 
-    by : (attrs : List Attr) (stmts : List Stmt) → Spells (block_form attrs (map about_stmt stmts) lead) depth ts rest
-        → BlockAt depth (record { attrs = attrs; stmts = stmts }) ts rest
-    by [] stmts s =
-        let p = body_parts lead dropped (map stmt_form (map about_stmt stmts)) depth ts rest s in
-        record {
-          inside = p.0;
-          mid = p.0;
-          start = p.1;
-          end = p.2;
-          opened = p.3;
-          attrs = refl;
-          skipped = bit_alone Semicolons p.0 p.1 p.4;
-          stmts = rows stmts p.1 p.2 p.5;
-          closed = p.6;
-        }
-    by (a ∷ more) stmts s =
-        let forms = map stmt_form (map about_stmt stmts) in
-        let p = body_parts lead [] (attrs_before (map attr_form (a ∷ more)) ++ forms) depth ts rest s in
-        let r = rows_parts (SpelledAt depth) (attrs_before (map attr_form (a ∷ more))) forms p.1 p.2 p.5 in
-        let m = attrs_then a more depth p.1 r.0 r.1 in
-        record {
-          inside = p.0;
-          mid = m.0;
-          start = r.0;
-          end = p.2;
-          opened = p.3;
-          attrs = subst (λ us. Rows (SpelledAt depth) (map attr_form (a ∷ more)) us m.0) (sym p.4) m.1;
-          skipped = m.2;
-          stmts = rows stmts r.0 p.2 r.2;
-          closed = p.6;
-        }
+apart : (attrs : List Attr) (stmts : List Stmt) (depth : ℕ) (ts rest : Tokens) → BlockParts attrs (map about_stmt stmts) depth ts rest
+    → BlockAt depth (record { attrs = attrs; stmts = stmts }) ts rest
+apart [] stmts depth ts rest p = record {
+  inside = p.inside;
+  mid = p.inside;
+  start = p.start;
+  end = p.end;
+  opened = p.opened;
+  attrs = refl;
+  skipped = bit_alone Semicolons p.inside p.start p.skipped;
+  stmts = stmt_rows stmts depth p.start p.end p.rows;
+  closed = p.closed;
+}
+apart (a ∷ more) stmts depth ts rest p =
+    let forms = map stmt_form (map about_stmt stmts) in
+    let r = rows_parts (SpelledAt depth) (attrs_before (map attr_form (a ∷ more))) forms p.start p.end p.rows in
+    let m = attrs_then a more depth p.start r.0 r.1 in
+    record {
+      inside = p.inside;
+      mid = m.0;
+      start = r.0;
+      end = p.end;
+      opened = p.opened;
+      attrs = subst (λ us. Rows (SpelledAt depth) (map attr_form (a ∷ more)) us m.0) (sym p.skipped) m.1;
+      skipped = m.2;
+      stmts = stmt_rows stmts depth r.0 p.end r.2;
+      closed = p.closed;
+    }
+
+-- A block is spelled so in each of its forms.
+pub block_at : (b : Block) (lead : Bool) (depth : ℕ) (ts rest : Tokens) → Spells ((about_block b).form lead) depth ts rest → BlockAt depth b ts rest
+block_at b lead depth ts rest s = apart b.attrs b.stmts depth ts rest (form_parts b lead depth ts rest s)
 
 pub soft_at : (b : Block) (depth : ℕ) (ts rest : Tokens) → Spells (about_block b).soft depth ts rest → BlockAt depth b ts rest
-soft_at b depth ts rest s = by b.attrs b.stmts (subst (λ (F : BlockFacts). Spells F.soft depth ts rest) (block_is b) s)
-  where
-    whole : (attrs : List Attr) (stmts : List Stmt) → Spells (block_form attrs (map about_stmt stmts) true) depth ts rest
-        → BlockAt depth (record { attrs = attrs; stmts = stmts }) ts rest
-    whole attrs stmts t =
-        let b : Block = record { attrs = attrs; stmts = stmts } in
-        block_at b true depth ts rest (subst (λ (F : BlockFacts). Spells (F.form true) depth ts rest) (sym (block_is b)) t)
-
-    -- one statement, behind which no `;` stands
-    one_row : (F : StmtFacts) (us end : Tokens) → Spells F.form depth us end → Spells (stmt_form F) depth us end
-    one_row F us end t = at F.unended
-      where
-        at : (b : Bool) → Spells (if b then Part F.form Done else Part F.form (piece dropped)) depth us end
-        at true = (end, t, refl)
-        at false = (end, t, (end, (end, (0, refl), refl), refl))
-
-    lone : (s : Stmt) → Spells (soft (about_stmt s).form) depth ts rest → BlockAt depth (record { attrs = []; stmts = s ∷ [] }) ts rest
-    lone s t =
-        let bits = behind_blank (opener Brace ∷ Semicolons ∷ []) ts t.0 t.1 in
-        let inner = t.2 in
-        let grouped = inner.1 in
-        let end = grouped.0 in
-        let same : end ≡ inner.0 = grouped.2 in
-        record {
-          inside = bits.0;
-          mid = bits.0;
-          start = t.0;
-          end = inner.0;
-          opened = bits.1;
-          attrs = refl;
-          skipped = bit_alone Semicolons bits.0 t.0 bits.2;
-          stmts = (inner.0, one_row (about_stmt s) t.0 inner.0 (subst (λ us. Spells (about_stmt s).form depth t.0 us) same grouped.1), refl);
-          closed = piece_bit (closer Brace) depth inner.0 rest inner.2;
-        }
-
-    by : (attrs : List Attr) (stmts : List Stmt) → Spells (soft_form attrs (map about_stmt stmts)) depth ts rest
-        → BlockAt depth (record { attrs = attrs; stmts = stmts }) ts rest
-    by [] [] t = whole [] [] t
-    by [] (s ∷ []) t = at (about_stmt s).bare t
-      where
-        at : (b : Bool) → Spells (if b then soft (about_stmt s).form else block_form [] (about_stmt s ∷ []) true) depth ts rest
-            → BlockAt depth (record { attrs = []; stmts = s ∷ [] }) ts rest
-        at true u = lone s u
-        at false u = whole [] (s ∷ []) u
-    by [] (s ∷ t ∷ more) u = whole [] (s ∷ t ∷ more) u
-    by (a ∷ more) stmts t = whole (a ∷ more) stmts t
+soft_at b depth ts rest s = apart b.attrs b.stmts depth ts rest (parts_of_soft b depth ts rest s)
 
 -- ---- any number of `;`
 

@@ -1,11 +1,11 @@
 -- Conditions and branches are read where they are spelled, where what is one level deeper is read.
-use Rattle.std.proofs.Common.{◌≡◌, ℕ, ◌≤◌, max, Bool, true, false, ◌&&◌, ◌∷◌, [], drop, codes, Option, Some, None, refl, sym, subst, arith}
+use Rattle.std.proofs.Common.{◌≡◌, ℕ, max, true, false, ◌∷◌, [], codes, Option, Some, None, refl, subst, arith}
 use Rattle.std.proofs.lemmas.Bool.{and_parts}
 use Rattle.lay_piece.specs.Forms.{opening}
 use Rattle.lay_piece.specs.declared.kind.Delim.TheVariants.{Brace}
 use Rattle.lay_piece.specs.declared.kind.Kind.TheVariants.{Ident, Opener}
 use Rattle.lay_token.specs.Operators.{is_op}
-use Rattle.lay_form.specs.Form.{Blank, Form, Done, Piece, Part, keyword}
+use Rattle.lay_form.specs.Form.{keyword}
 use Rattle.lay_form.specs.Spelled.{IsOne, IsOperator, Spells}
 use Rattle.lay_node.specs.Ahead.{Tokens, first, is_keyword}
 use Rattle.lay_node.specs.nodes.Patterns.{about_pat, pat_good}
@@ -22,12 +22,11 @@ use Rattle.lay_tree.specs.nodes.Exprs.{condition_form, condition_good, placed}
 use Rattle.lay_tree.specs.nodes.Places.{plain}
 use Rattle.lay_tree.specs.reader.Blocks.{block_by, branch_by, condition_by}
 use Rattle.lay_tree.specs.reader.Within.{ExprWithin}
-use Rattle.lay_tree.specs.declared.blocks.Block.{Block}
 use Rattle.lay_tree.specs.declared.blocks.Branch.{Branch}
 use Rattle.lay_tree.specs.declared.exprs.Expr.{Expr}
 use Rattle.lay_tree.proofs.nodes.BlocksLaws.{branch_is}
 use Rattle.lay_tree.proofs.reader.BlockReads.{Fronts}
-use Rattle.lay_tree.proofs.reader.BlocksComplete.{BlockAt, soft_at, block_read}
+use Rattle.lay_tree.proofs.reader.BlocksComplete.{soft_at, block_read}
 use Rattle.lay_tree.proofs.reader.ExprLeads.{expr_no_keyword}
 use Rattle.lay_tree.proofs.reader.ExprQuiet.{ends_follow, brace_ends_expr}
 use Rattle.lay_tree.proofs.reader.ExprReads.{ExprReads}

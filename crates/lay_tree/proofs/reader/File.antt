@@ -35,10 +35,10 @@ use Rattle.lay_tree.specs.reader.Item.{item_by, kind_at, call_item}
 use Rattle.lay_tree.specs.reader.ItemLeads.{item_lead}
 use Rattle.lay_tree.specs.declared.file.File.{File}
 use Rattle.lay_tree.specs.declared.item.Item.{Item}
+use Rattle.lay_tree.proofs.reader.CodeComplete.{item_complete}
 use Rattle.lay_tree.proofs.reader.CodeSound.{item_sound}
-use Rattle.lay_tree.proofs.reader.ItemExact.{heads_complete, values_complete}
+use Rattle.lay_tree.proofs.reader.FrontsHeld.{fronts}
 use Rattle.lay_tree.proofs.reader.ItemKinds.{item_begins, items_begin}
-use Rattle.lay_tree.proofs.reader.ItemRead.{item_complete}
 use Rattle.lay_tree.proofs.reader.Longest.{Reads, longest_from_sound, longest_sound, longest_end, longest_past}
 
 -- ---- one attribute, and one item
@@ -69,7 +69,7 @@ attr_reads a ts rest g = (attribute_complete true a top ts rest g, attr_shorter 
 
 top_reads : (one : Item) (ts rest : Tokens) → ItemAt one ts rest → Reads top_item one ts rest
 top_reads one ts rest g =
-    let r = item_complete heads_complete values_complete Module top top (omega arith) one ts rest (g.0, g.1, refl) in
+    let r = item_complete fronts Module top top (omega arith) one ts rest (g.0, g.1, refl) in
     (rw r.2 refl, (item_begins Module top one ts rest g).1)
 
 -- Where no inner attribute begins, none is read.

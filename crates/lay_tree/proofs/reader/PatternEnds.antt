@@ -1,11 +1,9 @@
 -- What ends a pattern where code is read: `=`, `=>`, `;`, a bar, and the words `if` and `in`. What ends a type there.
-use Rattle.std.proofs.Common.{◌≡◌, ℕ, Bool, true, false, ◌&&◌, ◌||◌, List, [], ◌∷◌, codes, refl, sym, subst}
+use Rattle.std.proofs.Common.{◌≡◌, ℕ, true, false, List, [], ◌∷◌, codes, refl, sym, subst}
 use Rattle.std.specs.Prelude.{◌==◌}
 use Rattle.std.specs.Str.{bytes_eq}
 use Rattle.lay_piece.specs.Forms.{opening}
-use Rattle.lay_piece.specs.Word.{class_of}
-use Rattle.lay_piece.specs.declared.kind.Delim.TheVariants.{Paren, Brace}
-use Rattle.lay_piece.specs.declared.kind.Kind.{Kind}
+use Rattle.lay_piece.specs.declared.kind.Delim.TheVariants.{Brace}
 use Rattle.lay_piece.specs.declared.kind.Kind.TheVariants.{Ident, Punct, Opener}
 use Rattle.lay_token.specs.Operators.{is_op}
 use Rattle.lay_token.specs.declared.token.Token.{Token}
@@ -152,3 +150,7 @@ brace_quiet ts rest o =
       };
       plus = no (codes "+");
     }
+
+-- the word of a where clause
+pub where_quiet : (ts rest : Tokens) → IsOne Ident (codes "where") ts rest → Quiet ts
+where_quiet ts rest o = record { free = word_free (codes "where") ts rest o; plus = one_no_op (codes "+") Ident (codes "where") ts rest refl o }

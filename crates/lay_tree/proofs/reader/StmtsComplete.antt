@@ -1,18 +1,17 @@
 -- Statements are read where they are spelled, where what is one level deeper is read.
-use Rattle.std.proofs.Common.{◌≡◌, ℕ, suc, ◌≤◌, max, Bool, true, false, not, ◌&&◌, ◌||◌, nat_le, List, [], ◌∷◌, map, length, drop, codes, Option, option_map, Some, None, is_some, ◌⊎◌, inl, inr, refl, sym, ap, subst, ◌∙◌, arith}
+use Rattle.std.proofs.Common.{◌≡◌, ℕ, max, Bool, true, false, not, ◌&&◌, List, [], ◌∷◌, map, drop, codes, Option, option_map, Some, None, is_some, ◌⊎◌, inl, inr, refl, sym, subst, ◌∙◌, arith}
 use Rattle.std.proofs.lemmas.Bool.{and_parts, not-true}
 use Rattle.lay_piece.specs.Forms.{closing}
 use Rattle.lay_piece.specs.declared.kind.Delim.TheVariants.{Brace}
 use Rattle.lay_piece.specs.declared.kind.Kind.TheVariants.{Ident, Punct, Closer}
 use Rattle.lay_token.specs.Operators.{is_op}
-use Rattle.lay_form.specs.Form.{Blank, Fixed, Form, Done, Piece, Part, Deeper, keyword, semicolon}
+use Rattle.lay_form.specs.Form.{Blank, Fixed, Form, Piece, Part, keyword, semicolon}
 use Rattle.lay_form.specs.Notation.{piece, behind_attrs}
-use Rattle.lay_form.specs.Spelled.{IsOne, IsOperator, Spells}
+use Rattle.lay_form.specs.Spelled.{IsOne, Spells}
 use Rattle.lay_node.specs.Ahead.{Tokens, first, tail, is_keyword, is_mark}
 use Rattle.lay_node.specs.nodes.Attr.{are_attrs, attr_form}
 use Rattle.lay_node.specs.nodes.Functions.{may_be_type}
 use Rattle.lay_node.specs.nodes.Patterns.{about_pat, pat_form, pat_good}
-use Rattle.lay_node.specs.nodes.Types.{about_type}
 use Rattle.lay_node.specs.reader.Attr.{attributes, begins_attr}
 use Rattle.lay_node.specs.reader.Types.{if_read}
 use Rattle.lay_node.specs.reader.Words.{name}
@@ -22,7 +21,7 @@ use Rattle.lay_node.specs.declared.patterns.Pat.{Pat}
 use Rattle.lay_node.specs.declared.patterns.PatPlace.TheVariants.{Single}
 use Rattle.lay_node.specs.declared.types.Ty.{Ty}
 use Rattle.lay_node.specs.declared.types.TypePlace.TheVariants.{Bounds}
-use Rattle.lay_node.proofs.Fronts.{one_front, mark_passed, other_op}
+use Rattle.lay_node.proofs.Fronts.{one_front, one_no_op, mark_passed, other_op}
 use Rattle.lay_node.proofs.Parts.{Closed, behind_attrs_rows, before_blank, behind_blank, bit_alone, part_alone, piece_bit}
 use Rattle.lay_node.proofs.reader.Attr.{attrs_rows}
 use Rattle.lay_node.proofs.reader.AttrRead.{attributes_complete}
@@ -33,23 +32,22 @@ use Rattle.lay_node.proofs.reader.TypesComplete.{quiet_read}
 use Rattle.lay_node.proofs.reader.TypesCompleteParts.{colon_operator, keyword_there, one_left}
 use Rattle.lay_node.proofs.reader.TypesFronts as types
 use Rattle.lay_node.proofs.reader.TypesFronts.{equals_quiet, no_other_op}
-use Rattle.lay_tree.specs.Operators.{is_dot_or_try}
-use Rattle.lay_tree.specs.nodes.Blocks.{else_form, else_good, ended_form, let_form, let_type, may_precede_else, stmt_facts}
+use Rattle.lay_tree.specs.nodes.Blocks.{else_form, else_good, ended_form, let_form, let_type, may_precede_else}
 use Rattle.lay_tree.specs.nodes.Code.{about_block, about_expr, about_stmt, told_of_item}
 use Rattle.lay_tree.specs.nodes.CodeFacts.{StmtFacts}
 use Rattle.lay_tree.specs.nodes.Exprs.{ExprFacts, ExprLayer, follows, is_block_like, placed, tail_follows, tail_of, value_form, value_placed}
 use Rattle.lay_tree.specs.nodes.Places.{FREE, statement}
-use Rattle.lay_tree.specs.reader.Blocks.{begins_item, else_stands, expr_stmt, item_stmt, let_stmt, stmt_by}
+use Rattle.lay_tree.specs.reader.Blocks.{begins_item, else_stands, expr_stmt, let_stmt, stmt_by}
 use Rattle.lay_tree.specs.reader.Within.{ExprWithin}
 use Rattle.lay_tree.specs.declared.blocks.Block.{Block}
 use Rattle.lay_tree.specs.declared.blocks.Stmt.{Stmt}
-use Rattle.lay_tree.specs.declared.blocks.Stmt.TheOpen.{Expr-F, Stmt-F}
+use Rattle.lay_tree.specs.declared.blocks.Stmt.TheOpen.{Expr-F}
 use Rattle.lay_tree.specs.declared.blocks.Stmt.TheVariants as stmt
 use Rattle.lay_tree.specs.declared.exprs.Expr.{Expr}
 use Rattle.lay_tree.specs.declared.item.Item.{Item}
 use Rattle.lay_tree.proofs.nodes.BlocksLaws.{StmtView, IsLet, IsItem, IsExpr, stmt_view, stmt_let_is, stmt_item_is, stmt_expr_is}
-use Rattle.lay_tree.proofs.reader.BlockReads.{Begun, ExprAhead, Fronts}
-use Rattle.lay_tree.proofs.reader.ExprQuiet.{ExprEnds, ends_follow, semicolon_ends_expr, closer_ends_expr}
+use Rattle.lay_tree.proofs.reader.BlockReads.{Begun, ExprAhead, Fronts, NoItem}
+use Rattle.lay_tree.proofs.reader.ExprQuiet.{ends_follow, semicolon_ends_expr, closer_ends_expr}
 use Rattle.lay_tree.proofs.reader.ExprReads.{ExprReads}
 use Rattle.lay_tree.proofs.reader.ExprSoundLevel.{layer_of}
 use Rattle.lay_tree.proofs.reader.PatternEnds.{equals_follows, semicolon_follows, semicolon_quiet}
@@ -96,13 +94,17 @@ block_tail x no_struct ts h e =
     by (Expr-F.For label pat x b) g = refl
     by _ g = absurd (cc)
 
-semicolon_no_name : (ts rest : Tokens) → IsOne Punct (codes ";") ts rest → is_some (name ts) ≡ false
+-- Neither a `;` nor a `}` makes an item of the word before it.
+semicolon_no_item : (ts rest : Tokens) → IsOne Punct (codes ";") ts rest → NoItem ts
 unfolding name
-semicolon_no_name ts rest o = rw (one_front Punct (codes ";") ts rest o).1 refl
+semicolon_no_item ts rest o =
+    let n = no_other_op 33 [] 59 ts rest refl o in (rw (one_front Punct (codes ";") ts rest o).1 refl, rw n refl)
 
-closer_no_name : (ts rest : Tokens) → Closed Brace ts rest → is_some (name ts) ≡ false
+closer_no_item : (ts rest : Tokens) → Closed Brace ts rest → NoItem ts
 unfolding name
-closer_no_name ts rest o = rw (one_front (Closer Brace) (closing Brace ∷ []) ts rest o).1 refl
+closer_no_item ts rest o =
+    let n = one_no_op (codes "!") (Closer Brace) (closing Brace ∷ []) ts rest refl o in
+    (rw (one_front (Closer Brace) (closing Brace ∷ []) ts rest o).1 refl, rw n refl)
 
 module _ (fronts : Fronts) (depth : ℕ) (within : ExprWithin) (reads : ExprReads depth within) where
   -- ---- the parts of a `let`
@@ -202,8 +204,7 @@ module _ (fronts : Fronts) (depth : ℕ) (within : ExprWithin) (reads : ExprRead
       let made = let_made attrs pat ty x o p.0 ty_read.0 n.0 b.0 words.0 inner.0 t.0 v.0 e.0 rest p.2 ty_read.2 n.2 b.2 end (stands x o g4.1) in
       let front = (one_front Ident (codes "let") r.0 words.0 word).1 in
       let no_attr : begins_attr false r.0 ≡ false = rw front refl in
-      let all = attributes_complete false attrs depth ts r.0 (attrs_rows false depth attrs ts r.0 r.1 g1.0) no_attr in
-      (
+      let all = attributes_complete false attrs depth ts r.0 (attrs_rows false depth attrs ts r.0 r.1 g1.0) no_attr in (
         max p.0 (max ty_read.0 (max n.0 b.0)),
         omega (arith, p.1, ty_read.1, n.1, b.1),
         rw (all, keyword_there (codes "let") r.0 words.0 word, one_left Ident (codes "let") r.0 words.0 word) made,
@@ -319,17 +320,17 @@ module _ (fronts : Fronts) (depth : ℕ) (within : ExprWithin) (reads : ExprRead
       by true us at t e b w =
           let o : IsOne Punct (codes ";") at rest = piece_bit (Fixed Punct (codes ";")) depth at rest e in
           let r = reads.exprs statement x us at t w (ends_follow (about_expr x) statement at (semicolon_ends_expr false at rest o)) in
-          (fronts.exprs x depth us at t w (λ h. semicolon_no_name at rest o), (r.0, r.1, ended_made attrs x r.0 us at rest r.2 o))
+          (fronts.exprs x depth us at t w (λ h. semicolon_no_item at rest o), (r.0, r.1, ended_made attrs x r.0 us at rest r.2 o))
       by false us at t e b w =
           let q = b refl in
           let here : Spells (about_expr x).form depth us rest = subst (λ vs. Spells (about_expr x).form depth us vs) e t in
           let r = reads.exprs statement x us rest here w (unended_fits x rest q.0 q.1) in
           (fronts.exprs x depth us rest here w (no_name q.1), (r.0, r.1, unended_made attrs x r.0 us rest r.2 q.0.mark))
         where
-          no_name : ((about_expr x).block_like ≡ true) ⊎ ((end : Tokens) × Closed Brace rest end) → (about_expr x).block_like ≡ false → is_some (name rest) ≡ false
+          no_name : ((about_expr x).block_like ≡ true) ⊎ ((end : Tokens) × Closed Brace rest end) → (about_expr x).block_like ≡ false → NoItem rest
           no_name q h = elim q [
             | inl k ↦ absurd (cc)
-            | inr c ↦ closer_no_name rest c.0 c.1
+            | inr c ↦ closer_no_item rest c.0 c.1
           ]
 
   -- ---- all statements

@@ -343,7 +343,7 @@ typed_begun : head_by (at_level 1) false
     (expr_lead_at (mark (codes "|") ∷ word a ∷ mark (codes "|") ∷ token kind.Punct (codes "-") true ∷ mark (codes ">") ∷ word (codes "u8") ∷ in_braces (word b) []))
     (mark (codes "|") ∷ word a ∷ mark (codes "|") ∷ token kind.Punct (codes "-") true ∷ mark (codes ">") ∷ word (codes "u8") ∷ in_braces (word b) [])
     ≡ Some ((expr.TypedClosure false (param_named a None ∷ []) (named_type (codes "u8")) (alone_of (name b)), 2), [])
-unfolding expr_lead_at closure_expr closure_param elements elements_from within lead_at path_type simple_path path chain segment args_by word_reading attributes repeat repeat_from op_at
+unfolding expr_lead_at closure_expr closure_param elements elements_from within lead_at path_type simple_path path chain segment args_by word_reading attributes repeat repeat_from op_at strength binary
 typed_begun = rw (param_a (token kind.Punct (codes "-") true ∷ mark (codes ">") ∷ word (codes "u8") ∷ in_braces (word b) []), block_b []) refl
 
 -- ---- functions
