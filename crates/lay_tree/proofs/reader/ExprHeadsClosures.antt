@@ -311,9 +311,9 @@ module _ (fronts : Fronts) (depth : ℕ) (within : ExprWithin) (reads : ExprRead
       (suc (max need r.0), omega (arith, le, r.1), plain_made moves no_struct ps x need r.0 us rest no_arrow r.2)))
 
   typed_made : (moves no_struct : Bool) (ps : List ClosureParam) (y : Ty) (b : Block) (need m n : ℕ) (ts at mid rest : Tokens) → IsOperator (codes "->") ts at
-      → within.kinds.types NoBounds at ≡ Some ((y, m), mid) → block_by within mid ≡ Some ((b, n), rest) → (strength rest == 0) ≡ true
+      → within.kinds.types NoBounds at ≡ Some ((y, m), mid) → block_by within mid ≡ Some ((b, n), rest)
       → closure_body within no_struct moves ps need ts ≡ Some ((expr.TypedClosure moves ps y b, suc (max need (max m n))), rest)
-  typed_made moves no_struct ps y b need m n ts at mid rest o t r z = rw (o.0, o.1, t, r, z) refl
+  typed_made moves no_struct ps y b need m n ts at mid rest o t r = rw (o.0, o.1, t, r) refl
 
   -- one with a return type, of which the body is a block
   pub typed_closure_head_read : (moves : Bool) (ps : List ClosureParam) (y : Ty) (b : Block) → IsHead depth within (expr.TypedClosure moves ps y b)
@@ -331,4 +331,4 @@ module _ (fronts : Fronts) (depth : ℕ) (within : ExprWithin) (reads : ExprRead
       let p = block_at b true depth t.0 rest (part_alone body depth t.0 rest t.2) in
       let q = quiet_read depth within.kinds reads.kinds NoBounds y s.0 t.0 t.1 g1.1 (brace_quiet t.0 p.inside p.opened) in
       let r = block_read fronts depth within reads b t.0 rest p g2.1 in
-      (suc (max need (max q.0 r.0)), omega (arith, le, q.1, r.1), typed_made moves no_struct ps y b need q.0 r.0 us s.0 t.0 rest o q.2 r.2 h.tail.all)))
+      (suc (max need (max q.0 r.0)), omega (arith, le, q.1, r.1), typed_made moves no_struct ps y b need q.0 r.0 us s.0 t.0 rest o q.2 r.2)))

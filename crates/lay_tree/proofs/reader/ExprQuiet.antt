@@ -9,7 +9,7 @@ use Rattle.lay_piece.specs.declared.kind.Kind.TheVariants.{Punct, Opener, Closer
 use Rattle.lay_token.specs.Operators.{op_at, is_op_of, is_op}
 use Rattle.lay_form.specs.Spelled.{IsOne}
 use Rattle.lay_node.specs.Ahead.{Tokens, first, is_keyword, is_lifetime, opens}
-use Rattle.lay_node.specs.Follow.{may_follow}
+use Rattle.lay_node.specs.Follow.{may_follow, OfRename, OfColons, OfArgs, OfCodeArgs, OfArrow, OfBang}
 use Rattle.lay_node.proofs.Follow.{Quiet, quiet_follows, comma_quiet, semicolon_quiet, closer_quiet}
 use Rattle.lay_node.proofs.Fronts.{one_front}
 use Rattle.lay_node.proofs.reader.HeadParts.{brace_quiet}
