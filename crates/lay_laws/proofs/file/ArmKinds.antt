@@ -9,11 +9,10 @@ use Rattle.lay_form.specs.Pieces.{are_pieces}
 use Rattle.lay_form.specs.Spelled.{may_lack}
 use Rattle.lay_node.specs.nodes.Attr.{are_attrs, attr_form}
 use Rattle.lay_node.specs.nodes.Patterns.{about_pat, pat_form, pat_good}
-use Rattle.lay_node.specs.nodes.Types.{equals}
 use Rattle.lay_node.specs.declared.attr.Attr.{Attr}
 use Rattle.lay_node.specs.declared.patterns.Pat.{Pat}
 use Rattle.lay_node.specs.declared.patterns.PatPlace.TheVariants.{Alternatives}
-use Rattle.lay_tree.specs.nodes.Blocks.{arm_facts, arm_form, branch_facts, braces_of, guard_form, is_free, is_lone_body}
+use Rattle.lay_tree.specs.nodes.Blocks.{arm_facts, branch_facts, braces_of, guard_form, is_free, is_lone_body}
 use Rattle.lay_tree.specs.nodes.CodeFacts.{ArmFacts, BlockFacts, BranchFacts}
 use Rattle.lay_tree.specs.nodes.Exprs.{BodyKind, MacroBody, BlockBody, OtherBody, ExprFacts, placed, value_placed, condition_form, condition_good, arm_forms, arms_good}
 use Rattle.lay_tree.specs.nodes.Places as place

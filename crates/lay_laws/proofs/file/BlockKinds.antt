@@ -4,7 +4,7 @@ use Rattle.std.specs.List.{list_all}
 use Rattle.std.proofs.lemmas.Bool.{and_parts, and_from}
 use Rattle.lay_form.specs.Form as form
 use Rattle.lay_form.specs.Form.{Form, Done, Piece, Deeper, Blank, keyword, semicolon}
-use Rattle.lay_form.specs.Notation.{piece, soft, behind_attrs}
+use Rattle.lay_form.specs.Notation.{piece, soft}
 use Rattle.lay_form.specs.Pieces.{are_pieces}
 use Rattle.lay_node.specs.nodes.Attr.{are_attrs, attr_form}
 use Rattle.lay_node.specs.nodes.Fields.{blank_if}
@@ -20,7 +20,7 @@ use Rattle.lay_node.specs.declared.types.Ty.{Ty}
 use Rattle.lay_tree.specs.nodes.Blocks.{attrs_before, block_facts, block_form, dropped, dropped_if, else_form, else_good, ended_form, is_plain, let_type, precedes_else, soft_form, stmt_facts, stmt_form, stmts_good}
 use Rattle.lay_tree.specs.nodes.CodeFacts.{BlockFacts, ItemFacts, StmtFacts}
 use Rattle.lay_tree.specs.nodes.Exprs.{ExprFacts, placed, value_form, value_placed}
-use Rattle.lay_tree.specs.nodes.Places.{FREE, statement}
+use Rattle.lay_tree.specs.nodes.Places.{statement}
 use Rattle.lay_tree.specs.declared.blocks.Stmt.TheOpen.{Stmt-F}
 use Rattle.lay_laws.proofs.borders.Border.{Border}
 use Rattle.lay_laws.proofs.forms.Passes.{plain}

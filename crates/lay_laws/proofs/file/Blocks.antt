@@ -1,9 +1,9 @@
 -- Layers of statements, blocks, branches and arms pass, where the nodes within them do.
-use Rattle.std.proofs.Common.{◌≡◌, List, [], ◌∷◌, true, refl, sym, subst, map, Option, option_map, Some, None}
+use Rattle.std.proofs.Common.{◌≡◌, List, true, refl, sym, subst, map, Option, option_map, Some, None}
 use Rattle.lay_node.specs.declared.attr.Attr.{Attr}
 use Rattle.lay_node.specs.declared.patterns.Pat.{Pat}
 use Rattle.lay_tree.specs.nodes.Blocks.{stmt_facts}
-use Rattle.lay_tree.specs.nodes.Code.{about_arm, about_block, about_branch, about_expr, about_stmt, told_of_item}
+use Rattle.lay_tree.specs.nodes.Code.{about_block, about_expr, about_stmt, told_of_item}
 use Rattle.lay_tree.specs.nodes.Exprs.{ExprLayer, expr_facts}
 use Rattle.lay_tree.specs.declared.blocks.Arm.{Arm}
 use Rattle.lay_tree.specs.declared.blocks.Block.{Block}

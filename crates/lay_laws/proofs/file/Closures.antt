@@ -1,24 +1,20 @@
 -- Closures pass, given that their bodies pass: the bars round their parameters are tokens of one character.
-use Rattle.std.proofs.Common.{◌≡◌, ℕ, List, [], ◌∷◌, ◌++◌, Bool, true, false, ◌&&◌, refl, codes, map, Option, Some, None}
+use Rattle.std.proofs.Common.{◌≡◌, List, [], ◌∷◌, Bool, true, false, ◌&&◌, refl, codes, map, Option, Some, None}
 use Rattle.std.specs.List.{list_all}
-use Rattle.std.proofs.lemmas.Bool.{and_parts, and_from}
-use Rattle.lay_piece.specs.declared.kind.Kind.TheVariants as kind
+use Rattle.std.proofs.lemmas.Bool.{and_parts}
 use Rattle.lay_form.specs.Form as form
 use Rattle.lay_form.specs.Form.{Bit, Blank, Operator, Form, Done, Piece, keyword}
-use Rattle.lay_form.specs.Notation.{I0, comma_list, body, when}
-use Rattle.lay_form.specs.Pieces.{is_text_of, are_pieces}
-use Rattle.lay_node.specs.nodes.Attr.{are_attrs, attr_form}
+use Rattle.lay_form.specs.Notation.{comma_list}
+use Rattle.lay_form.specs.Pieces.{are_pieces}
+use Rattle.lay_node.specs.nodes.Attr.{are_attrs}
 use Rattle.lay_node.specs.nodes.Functions.{may_be_type, self_type}
 use Rattle.lay_node.specs.nodes.Patterns.{about_pat, pat_form, pat_good}
-use Rattle.lay_node.specs.nodes.Types.{about_type, colon, good_at, is_there, lifetime_form}
-use Rattle.lay_node.specs.declared.attr.Attr.{Attr}
-use Rattle.lay_node.specs.declared.patterns.Pat.{Pat}
-use Rattle.lay_node.specs.declared.patterns.PatPlace.TheVariants.{Alternatives, Single}
-use Rattle.lay_node.specs.declared.token.Lifetime.{Lifetime}
+use Rattle.lay_node.specs.nodes.Types.{about_type, good_at}
+use Rattle.lay_node.specs.declared.patterns.PatPlace.TheVariants.{Single}
 use Rattle.lay_node.specs.declared.types.Ty.{Ty}
 use Rattle.lay_node.specs.declared.types.TypePlace.TheVariants.{NoBounds}
-use Rattle.lay_tree.specs.nodes.CodeFacts.{ArmFacts, BlockFacts, BranchFacts}
-use Rattle.lay_tree.specs.nodes.Exprs.{ExprFacts, placed, expr_facts, labelled, condition_form, condition_good, branch_head, branches_good, more_branches, branches_form, else_branch_form, may_be_good, arm_forms, arms_good, bar, closure_param, is_closure_param, closure_head}
+use Rattle.lay_tree.specs.nodes.CodeFacts.{BlockFacts}
+use Rattle.lay_tree.specs.nodes.Exprs.{ExprFacts, placed, expr_facts, bar, closure_param, is_closure_param, closure_head}
 use Rattle.lay_tree.specs.nodes.Places as place
 use Rattle.lay_tree.specs.declared.blocks.Stmt.TheOpen.{Expr-F}
 use Rattle.lay_tree.specs.declared.exprs.ClosureParam.{ClosureParam}
@@ -26,19 +22,17 @@ use Rattle.lay_laws.proofs.borders.Border.{Border, beyond}
 use Rattle.lay_laws.proofs.borders.Move.{under}
 use Rattle.lay_laws.proofs.forms.Fields.{type_ends}
 use Rattle.lay_laws.proofs.forms.Passes.{plain}
-use Rattle.lay_laws.proofs.forms.Rules.{tables, From, All, under-refl, wider, ends, simple, fixed, tree_token, within, part, list, body_fits, braced}
-use Rattle.lay_laws.proofs.file.Nodes.{fits_known, behind_word, ends_line, attrs_pass, list_pieces, when_pieces, body_pieces, both_pieces, both_all}
-use Rattle.lay_laws.proofs.file.TypeParts.{ends_lifetime, ends_type, param_attrs_pass, param_attrs_pieces}
-use Rattle.lay_laws.proofs.file.TypeArgs.{Any, Each}
+use Rattle.lay_laws.proofs.forms.Rules.{tables, From, All, under-refl, wider, ends, simple, fixed, part, list}
+use Rattle.lay_laws.proofs.file.Nodes.{list_pieces}
+use Rattle.lay_laws.proofs.file.TypeParts.{ends_type, param_attrs_pass, param_attrs_pieces}
 use Rattle.lay_laws.proofs.file.TypeKinds.{deep_pieces}
 use Rattle.lay_laws.proofs.file.Types.{type_passes}
 use Rattle.lay_laws.proofs.file.PatternParts.{ends_pat}
 use Rattle.lay_laws.proofs.file.Patterns.{pat_passes_at}
-use Rattle.lay_laws.proofs.file.ExprParts.{ends_base, ends_operand, ends_expr, ends_stmt, ends_by, ends_any, ends_wide, always, deep, shut_deep, gap, begins_bars, head_word, opens_block, opens_soft, begins_code, BeginsCode, code_begins, begins_at}
-use Rattle.lay_laws.proofs.file.ExprPlaces.{ends_of, ExprPasses, inner_expr}
+use Rattle.lay_laws.proofs.file.ExprParts.{ends_operand, ends_wide, always, deep, gap, begins_bars, head_word, BeginsCode}
+use Rattle.lay_laws.proofs.file.ExprPlaces.{ExprPasses, inner_expr}
 use Rattle.lay_laws.proofs.file.ExprKinds.{starting}
 use Rattle.lay_laws.proofs.file.BlockKinds.{BlockPasses}
-use Rattle.lay_laws.proofs.file.ArmKinds.{condition_passes, BranchPasses, ArmPasses, arms_pass}
 
 -- ---- parameters
 

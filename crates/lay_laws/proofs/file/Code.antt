@@ -1,12 +1,12 @@
 -- Expressions, blocks and items pass, by the induction of their family: each layer whose nodes pass does.
-use Rattle.std.proofs.Common.{◌≡◌, List, [], ◌∷◌, Bool, true, refl, subst, codes}
+use Rattle.std.proofs.Common.{◌≡◌, List, [], ◌∷◌, true, refl, subst, codes}
 use Rattle.std.specs.List.{list_all}
 use Rattle.lay_piece.specs.declared.kind.Delim.TheVariants.{Paren, Bracket, Brace}
 use Rattle.lay_piece.specs.declared.kind.Kind.TheVariants as kind
 use Rattle.lay_form.specs.Form.{Bit, Blank, Fixed, Operator, keyword, opener, closer, comma, semicolon}
 use Rattle.lay_form.specs.Pieces.{are_pieces}
 use Rattle.lay_node.specs.nodes.Types.{colon, equals}
-use Rattle.lay_tree.specs.nodes.Code.{about_arm, about_block, about_branch, about_expr, about_field_expr, about_step, about_stmt, told_of_item, told_of_kind}
+use Rattle.lay_tree.specs.nodes.Code.{about_arm, about_block, about_branch, about_expr, about_field_expr, about_step, about_stmt, told_of_item}
 use Rattle.lay_tree.specs.nodes.Exprs.{placed}
 use Rattle.lay_tree.specs.declared.exprs.Place.{Place}
 use Rattle.lay_tree.specs.declared.blocks.Arm.{Arm}
@@ -20,7 +20,6 @@ use Rattle.lay_tree.specs.declared.exprs.Expr.{Expr}
 use Rattle.lay_tree.specs.declared.exprs.FieldExpr.{FieldExpr}
 use Rattle.lay_tree.specs.declared.exprs.Step.{Step}
 use Rattle.lay_tree.specs.declared.item.Item.{Item}
-use Rattle.lay_tree.specs.declared.item.ItemKind.{ItemKind}
 use Rattle.lay_laws.proofs.borders.Border.{Border, beyond}
 use Rattle.lay_laws.proofs.forms.Passes.{plain}
 use Rattle.lay_laws.proofs.forms.Rules.{tables, From, wider}

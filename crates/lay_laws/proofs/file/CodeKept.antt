@@ -1,5 +1,5 @@
 -- Nodes of code that pass, layers of such nodes, and what is told of a layer: expressions, blocks and items are one family.
-use Rattle.std.proofs.Common.{◌≡◌, refl, sym, subst, Bool, true}
+use Rattle.std.proofs.Common.{◌≡◌}
 use Rattle.lay_node.specs.nodes.Facts.{Facts}
 use Rattle.lay_tree.specs.nodes.Blocks.{arm_facts, block_facts, branch_facts, stmt_facts}
 use Rattle.lay_tree.specs.nodes.Code.{about_arm, about_block, about_branch, about_expr, about_field_expr, about_step, about_stmt, told_of_item, told_of_kind}

@@ -1,6 +1,6 @@
 -- Where expressions begin and end, and what of a form begins with an expression. An expression may begin with a word, a
--- literal, an operator, `..`, `(`, `[`, `<`, `::` or `_`, so the borders before it are named by a test. A `..` that
--- follows a point gets a blank, so the flag for a text that ends in a point is part of it.
+-- lifetime, a literal, an operator, `..`, `(`, `[`, `{`, `|`, `<`, `::` or `_`, so the borders before it are named by a
+-- test. A `..` that follows a point gets a blank, so the flag for a text that ends in a point is part of it.
 use Rattle.std.proofs.Common.{◌≡◌, ℕ, nat_le, List, [], ◌∷◌, Bool, true, false, ◌&&◌, ◌||◌, refl, subst, codes, arith, Option}
 use Rattle.std.proofs.lemmas.Bool.{and_parts, and_from, or_left, or_right, leb-true, le-leb}
 use Rattle.lay_piece.specs.declared.kind.Delim.{Delim}
@@ -22,7 +22,7 @@ use Rattle.lay_laws.proofs.borders.Border.{Other, Border, Spot, Clear, At, beyon
 use Rattle.lay_laws.proofs.borders.Move.{under}
 use Rattle.lay_laws.proofs.forms.Opened.{even}
 use Rattle.lay_laws.proofs.forms.Passes.{Passes, plain, leads, piece_passes}
-use Rattle.lay_laws.proofs.forms.Rules.{tables, On, From, under-refl, to_wider, fixed, simple, list_fits, body_fits, soft_fits}
+use Rattle.lay_laws.proofs.forms.Rules.{tables, On, From, under-refl, to_wider, simple, list_fits, body_fits, soft_fits}
 use Rattle.lay_laws.proofs.file.Nodes.{behind_word}
 use Rattle.lay_laws.proofs.file.PatternParts.{ends_pat, literals_lead, begins_call, wild}
 use Rattle.lay_laws.proofs.file.Types.{begins_path}

@@ -1,5 +1,5 @@
 -- Layers of expressions, of fields of struct literals and of steps pass, where the nodes within them do.
-use Rattle.std.proofs.Common.{◌≡◌, List, [], ◌∷◌, sym, subst, map, Some, None}
+use Rattle.std.proofs.Common.{List, [], ◌∷◌, sym, subst, map, Some, None}
 use Rattle.lay_node.specs.nodes.Facts.{Facts}
 use Rattle.lay_tree.specs.nodes.Code.{about_arm, about_block, about_branch, about_expr, about_field_expr, about_step}
 use Rattle.lay_tree.specs.nodes.Exprs.{ExprFacts, expr_facts, field_facts, step_facts}

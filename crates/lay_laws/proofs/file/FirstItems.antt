@@ -22,7 +22,7 @@ use Rattle.lay_tree.specs.declared.file.File.{File}
 use Rattle.lay_tree.specs.declared.item.Item.{Item}
 use Rattle.lay_tree.specs.declared.item.ItemKind.{ItemKind}
 use Rattle.lay_tree.specs.declared.blocks.Stmt.TheOpen.{ItemKind-F}
-use Rattle.lay_tree.specs.declared.blocks.Stmt.TheViews.{out-ItemKind, roll-ItemKind, roll-out-ItemKind}
+use Rattle.lay_tree.specs.declared.blocks.Stmt.TheViews.{out-ItemKind, roll-out-ItemKind}
 use Rattle.lay_tree.proofs.nodes.ItemLaws.{item_is}
 use Rattle.lay_laws.proofs.file.CodeKept.{Told, kind_is}
 use Rattle.lay_laws.proofs.file.FirstText.{Fair, first_text, low_fair, attr_fair, call_fair}

@@ -11,7 +11,7 @@ use Rattle.lay_tree.specs.nodes.File.{form_of_file, is_normal}
 use Rattle.lay_tree.specs.declared.file.File.{File}
 use Rattle.lay_tree.specs.declared.item.Item.{Item}
 use Rattle.lay_laws.proofs.forms.Passes.{plain}
-use Rattle.lay_laws.proofs.forms.Rules.{tables, From, All, lined}
+use Rattle.lay_laws.proofs.forms.Rules.{From, All, lined}
 use Rattle.lay_laws.proofs.file.Nodes.{ends_line, lines_pieces, both_pieces, both_all, attrs_pass}
 use Rattle.lay_laws.proofs.file.Code.{item_passes}
 
