@@ -1,3 +1,4 @@
+pub mod BraceEnds
 pub mod Ends
 pub mod Leads
 pub mod Numbers

@@ -7,6 +7,8 @@
 #![tactic(auto)]
 
 pub mod ahead;
+mod bodies;
+mod brace_ends;
 mod expr_ends;
 mod numbers;
 pub mod operands;
@@ -15,8 +17,10 @@ mod places;
 mod roots;
 mod type_ends;
 
+pub use bodies::{ends, is_call, is_lone_body};
+pub use brace_ends::may_precede_else;
 pub use numbers::is_number;
 pub use operands::begins_operand;
 pub use operators::{binary, prefix};
 pub use places::{may, stands};
-pub use roots::{is_block_like, level};
+pub use roots::{is_block_like, is_free, level};

@@ -1,0 +1,61 @@
+//! What is told of blocks, statements and items by their roots.
+ghost use Rattle.std.specs.Prelude.{◌≡◌, ◌&&◌, not};
+ghost use Rattle.lay_tree.specs.nodes.Blocks.{is_lone_body};
+ghost use Rattle.lay_tree.specs.nodes.Code.{about_block, about_expr, about_stmt, told_of_item};
+
+use crate::roots::{is_block_like, is_macro};
+use lay_tree::{Block, Expr, Item, ItemKind, Stmt};
+
+/// Whether another statement may stand behind it.
+#[tactic(auto, using(crate::proofs::BodyFacts::ends_is))]
+pub fn ends(stmt: &Stmt) -> bool
+    ensures { result ≡ (about_stmt stmt.now).ends }
+{
+    match stmt {
+        Stmt::Let { .. } | Stmt::Item { .. } => true,
+        Stmt::Expr { expr, ended, .. } => *ended || is_block_like(expr),
+    }
+}
+
+/// Whether it is an expression that is no macro call, without attributes and without a `;`.
+#[tactic(auto, using(crate::proofs::BodyFacts::lone_stmt_is))]
+fn is_lone_stmt(stmt: &Stmt) -> bool
+    ensures { result ≡ ((about_stmt stmt.now).bare && not (about_stmt stmt.now).call) }
+{
+    match stmt {
+        Stmt::Expr { attrs, expr, ended } => {
+            attrs.as_slice().is_empty() && !*ended && !is_macro(expr)
+        },
+        _ => false,
+    }
+}
+
+/// Whether a block holds such an expression and nothing else.
+#[tactic(auto, using(crate::proofs::BodyFacts::lone_is))]
+fn is_lone(block: &Block) -> bool
+    ensures { result ≡ (about_block block.now).lone }
+{
+    match block.stmts.as_slice() {
+        [stmt] => block.attrs.as_slice().is_empty() && is_lone_stmt(stmt),
+        _ => false,
+    }
+}
+
+/// Whether it is a block whose braces are dropped where it is the body of an arm.
+#[tactic(auto, using(crate::proofs::BodyFacts::lone_body_is))]
+pub fn is_lone_body(expr: &Expr) -> bool
+    ensures { result ≡ is_lone_body (about_expr expr.now).kind }
+{
+    match expr {
+        Expr::Block { label: None, body } => is_lone(body),
+        _ => false,
+    }
+}
+
+/// Whether an item is a macro call.
+#[tactic(auto, using(crate::proofs::BodyFacts::call_item_is))]
+pub fn is_call(item: &Item) -> bool
+    ensures { result ≡ (told_of_item item.now).call }
+{
+    matches!(item.kind, ItemKind::Call { .. })
+}
