@@ -1,33 +1,38 @@
 //! Items.
-ghost use Rattle.std.specs.Prelude.{◌≡◌, ◌≤◌, ◌||◌, IfOk};
+ghost use Rattle.std.specs.Prelude.{◌≡◌, ◌+◌, ◌^◌, ◌<◌, ◌≤◌, ◌||◌, IfOk};
 ghost use Rattle.lay_tree.specs.nodes.Item as nodes;
+ghost use Rattle.lay_tree.specs.reader.Code.{item_at};
 ghost use Rattle.lay_tree.specs.reader.Item as reader;
 ghost use Rattle.lay_read_tokens.specs.Answers.{AreFound, IsFound, IsHeld};
 ghost use Rattle.lay_read_code.specs.Answers.{has_head};
-ghost use Rattle.lay_read_code.specs.Begun.{deeper};
+ghost use Rattle.lay_read_blocks.specs.Answers.{code_within};
+ghost use Rattle.lay_read_code.specs.Begun.{deeper, value_end};
 
-use crate::begun::{members, read_begun, with_body};
+use crate::begun::read_begun;
+use crate::bodies::{Body, body_of, with_block, with_items, with_value};
+use crate::exprs::{block_ahead, expr_ahead};
 use lay_head_rules::level::kept_if;
 use lay_head_rules::vis::vis_ahead;
+use lay_read_blocks::BlockRules;
 use lay_read_parts::joins::both;
 use lay_read_tokens::attributes::attrs_ahead;
 use lay_read_tokens::found::greater;
-use lay_read_tokens::front::{has_items, takes_closer, takes_opener};
+use lay_read_tokens::front::{has_items, takes_closer, takes_mark, takes_opener};
 use lay_read_tokens::stop::keep;
 use lay_read_tokens::{Ahead, Found, ReadNone};
 use lay_token::{Delim, List};
-use lay_tree::{Attr, Item, ItemKind, Site, Vis};
+use lay_tree::{Attr, Block, Expr, Item, ItemKind, Site, Vis};
 use std::alloc::Global;
 
 /// Items at their site within a depth, up to where they end.
-#[cycle(items)]
+#[cycle(code)]
 pub fn read_items(
     alloc: Global,
     at: &mut Ahead<'_>,
     site: Site,
     depth: u32,
 ) -> Result<Found<List<Item>>, ReadNone>
-    ensures read { IsHeld AreFound (reader.items_by (reader.item_at site depth) at.old) result at.new }
+    ensures read { IsHeld AreFound (reader.items_by (item_at site depth) at.old) result at.new }
     ensures within { IfOk result (λ found. found.need ≤ depth) }
 {
     let mut items = List::new(alloc);
@@ -41,14 +46,14 @@ pub fn read_items(
 }
 
 /// An item at its site within a depth, with its attributes and its visibility. A macro has none.
-#[cycle(items)]
+#[cycle(code)]
 pub fn item_ahead(
     alloc: Global,
     at: &mut Ahead<'_>,
     site: Site,
     depth: u32,
 ) -> Result<Found<Item>, ReadNone>
-    ensures read { IsFound (reader.item_at site depth at.old) result at.new }
+    ensures read { IsFound (item_at site depth at.old) result at.new }
     ensures within { IfOk result (λ found. found.need ≤ depth) }
 {
     if depth == 0 {
@@ -73,34 +78,87 @@ pub fn item_ahead(
 
 /// What an item is at its site: what it begins with, and then its body, if it has one. What is within it stands within
 /// the depth.
-#[cycle(items)]
+#[cycle(code)]
 fn read_kind(
     alloc: Global,
     at: &mut Ahead<'_>,
     site: Site,
     depth: u32,
 ) -> Result<Found<ItemKind>, ReadNone>
+    requires { depth + 1 < 2 ^ 32 }
     ensures read { IsFound (reader.kind_at site (deeper depth) at.old) result at.new }
     ensures within { IfOk result (λ found. found.need ≤ depth) }
 {
     let begun = read_begun(alloc, at, site, depth)?;
-    match members(&begun.node) {
-        None => Ok(Found {
+    match body_of(&begun.node) {
+        Body::None => Ok(Found {
             need: begun.need,
-            node: with_body(begun.node, List::new(alloc), List::new(alloc)),
+            node: with_items(begun.node, List::new(alloc), List::new(alloc)),
         }),
-        Some(inner) => {
+        Body::Items(inner) => {
             let (begun, body) = both(begun, read_body(alloc, at, inner, depth))?;
             Ok(Found {
                 need: greater(begun.need, body.need),
-                node: with_body(begun.node, body.node.0, body.node.1),
+                node: with_items(begun.node, body.node.0, body.node.1),
             })
+        }
+        Body::Block => {
+            let (begun, body) = both(begun, read_block_if(alloc, at, depth))?;
+            with_block(begun, site, body)
+        }
+        Body::Value => {
+            let (begun, value) = both(begun, read_value_if(alloc, at, depth))?;
+            with_value(begun, site, value)
         }
     }
 }
 
+/// The body of a function, or the `;` where it has none. What is within it stands within the depth.
+#[cycle(code)]
+fn read_block_if(
+    alloc: Global,
+    at: &mut Ahead<'_>,
+    depth: u32,
+) -> Result<Found<Option<Block>>, ReadNone>
+    requires { depth + 1 < 2 ^ 32 }
+    ensures read { IsFound (reader.fn_body (code_within depth) at.old) result at.new }
+    ensures within { IfOk result (λ found. found.need ≤ depth) }
+{
+    let rules = BlockRules {
+        alloc,
+        depth,
+        exprs: expr_ahead,
+        blocks: block_ahead,
+        items: item_ahead,
+    };
+    rules.fn_body(at)
+}
+
+/// The value of a constant or a static, if it has one, and the `;` behind it. The value stands within the depth.
+#[cycle(code)]
+fn read_value_if(
+    alloc: Global,
+    at: &mut Ahead<'_>,
+    depth: u32,
+) -> Result<Found<Option<Expr>>, ReadNone>
+    requires { depth + 1 < 2 ^ 32 }
+    ensures read { IsFound (value_end (deeper depth) at.old) result at.new }
+    ensures within { IfOk result (λ found. found.need ≤ depth) }
+{
+    let rules = BlockRules {
+        alloc,
+        depth,
+        exprs: expr_ahead,
+        blocks: block_ahead,
+        items: item_ahead,
+    };
+    let value = rules.value_if(at)?;
+    let keeps = takes_mark(at, b";");
+    kept_if(value, keeps)
+}
+
 /// Inner attributes and items at their site, in braces. The items stand within the depth.
-#[cycle(items)]
+#[cycle(code)]
 #[tactic(auto, unfolding(lay_tree::specs::reader::Item::item_body))]
 fn read_body(
     alloc: Global,

@@ -8,6 +8,7 @@
 #![tactic(auto)]
 
 mod begun;
+mod bodies;
 mod exprs;
 mod file;
 mod items;
@@ -15,4 +16,4 @@ mod leads;
 mod reads;
 
 pub use file::read_file;
-pub use reads::{read_expr, read_item};
+pub use reads::{read_arm, read_block, read_expr, read_item, read_stmt};
