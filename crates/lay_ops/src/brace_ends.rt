@@ -59,7 +59,6 @@ fn ends_shut(expr: &Expr) -> bool
 }
 
 /// What an expression ends in.
-#[tactic(auto, using(crate::proofs::BraceEnds::edge_is))]
 fn edge(expr: &Expr) -> Edge<'_>
     ensures told { braces result ≡ ends_shut (about_expr expr.now) }
     ensures smaller { IfPart result (λ operand. size-Expr operand < size-Expr expr.now) }
@@ -134,7 +133,6 @@ fn type_ends_in_brace(ty: &Ty) -> bool
 }
 
 /// What a type ends in.
-#[tactic(auto, using(crate::proofs::BraceEnds::type_edge_is))]
 fn type_edge(ty: &Ty) -> TypeEdge<'_>
     ensures told { ends_type result ≡ ends_in_brace (about_type ty.now).told.form }
     ensures smaller { IfType result (λ other. size-Ty other < size-Ty ty.now) }
@@ -156,7 +154,6 @@ fn type_edge(ty: &Ty) -> TypeEdge<'_>
 }
 
 /// What a bound ends in.
-#[tactic(auto, using(crate::proofs::BraceEnds::bound_edge_is))]
 fn bound_edge(bound: &Bound) -> TypeEdge<'_>
     ensures told { ends_type result ≡ ends_in_brace (about_bound bound.now).form }
     ensures smaller { IfType result (λ ty. size-Ty ty < size-Bound bound.now) }
