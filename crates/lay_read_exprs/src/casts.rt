@@ -31,7 +31,7 @@ impl<P: Fn(Global, &mut Ahead<'_>, Place, u32) -> Result<Found<Expr>, ReadNone>,
     ExprRules<P, H>
 {
     /// Types, as long as an `as` stands at the front.
-    #[tactic(auto, using(crate::proofs::Left::type_leaves))]
+    #[tactic(auto, using(lay_read_blocks::proofs::Left::type_leaves))]
     fn types(&self, at: &mut Ahead<'_>) -> Result<Found<List<Ty>>, ReadNone>
         requires { AreExprs self.now.depth (P.pre self.now.exprs) (P.post self.now.exprs) }
         ensures read { IsHeld AreFound (repeat (first (is_keyword (codes "as"))) (reader.one_type (code_within self.now.depth)) at.old) result at.new }

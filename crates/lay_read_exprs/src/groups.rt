@@ -53,7 +53,7 @@ impl<P: Fn(Global, &mut Ahead<'_>, Place, u32) -> Result<Found<Expr>, ReadNone>,
     ExprRules<P, H>
 {
     /// Expressions with commas, and the closing delimiter behind them.
-    #[tactic(auto, using(crate::proofs::Left::exprs_leave))]
+    #[tactic(auto, using(lay_read_blocks::proofs::Left::exprs_leave))]
     pub fn free_elements(
         &self,
         at: &mut Ahead<'_>,

@@ -50,7 +50,7 @@ impl<P: Fn(Global, &mut Ahead<'_>, Place, u32) -> Result<Found<Expr>, ReadNone>,
     ExprRules<P, H>
 {
     /// Operators of a level and their operands, as long as one begins.
-    #[tactic(auto, unfolding(lay_tree::specs::reader::Exprs::operands), using(crate::proofs::Left::operand_leaves))]
+    #[tactic(auto, unfolding(lay_tree::specs::reader::Exprs::operands), using(lay_read_blocks::proofs::Left::operand_leaves))]
     pub fn operands(
         &self,
         at: &mut Ahead<'_>,

@@ -80,7 +80,7 @@ impl<P: Fn(Global, &mut Ahead<'_>, Place, u32) -> Result<Found<Expr>, ReadNone>,
     }
 
     /// Steps, as long as one begins.
-    #[tactic(auto, using(crate::proofs::Left::step_leaves))]
+    #[tactic(auto, using(lay_read_blocks::proofs::Left::step_leaves))]
     fn steps(&self, at: &mut Ahead<'_>) -> Result<Found<List<Step>>, ReadNone>
         requires { AreExprs self.now.depth (P.pre self.now.exprs) (P.post self.now.exprs) }
         ensures read { IsHeld AreFound (steps (code_within self.now.depth) at.old) result at.new }

@@ -30,7 +30,7 @@ impl<P: Fn(Global, &mut Ahead<'_>, Place, u32) -> Result<Found<Expr>, ReadNone>,
     ExprRules<P, H>
 {
     /// Fields in braces, behind a path and the `{`.
-    #[tactic(auto, unfolding(lay_tree::specs::reader::Exprs::struct_expr), using(crate::proofs::Left::field_leaves))]
+    #[tactic(auto, unfolding(lay_tree::specs::reader::Exprs::struct_expr), using(lay_read_blocks::proofs::Left::field_leaves))]
     pub fn struct_expr(
         &self,
         at: &mut Ahead<'_>,
