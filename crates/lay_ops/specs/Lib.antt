@@ -1,4 +1,3 @@
-pub mod BraceEnds
 pub mod Ends
 pub mod Leads
 pub mod Numbers

@@ -8,7 +8,6 @@
 
 pub mod ahead;
 mod bodies;
-mod brace_ends;
 mod expr_ends;
 mod numbers;
 pub mod operands;
@@ -18,7 +17,6 @@ mod roots;
 mod type_ends;
 
 pub use bodies::{ends, is_call, is_lone_body};
-pub use brace_ends::may_precede_else;
 pub use numbers::is_number;
 pub use operands::begins_operand;
 pub use operators::{binary, prefix};

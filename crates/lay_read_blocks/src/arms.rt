@@ -10,7 +10,7 @@ ghost use Rattle.lay_tree.specs.reader.Blocks as reader;
 ghost use Rattle.lay_tree.specs.reader.Code.{expr_at};
 ghost use Rattle.lay_tree.specs.reader.Exprs as exprs;
 ghost use Rattle.lay_read_tokens.specs.Answers.{AreFound, IsFound, IsHeld};
-ghost use Rattle.lay_read_blocks.specs.Answers.{AreCode, arm_behind, bare, code_within, fits, held};
+ghost use Rattle.lay_read_blocks.specs.Answers.{AreCode, arm_behind, code_within, fits};
 
 use crate::loops::{Going, read_parts};
 use crate::places::{FREE, STATEMENT, plain};
@@ -45,7 +45,6 @@ fn takes_arm_end(at: &mut Ahead<'_>, free: bool) -> bool
 
 /// The one expression that a block holds.
 fn held(body: Block, other: Expr) -> Expr
-    ensures { result ≡ held body other }
 {
     match body.stmts.into_vec().pop() {
         Some(Stmt::Expr { expr, .. }) => expr,
@@ -55,7 +54,6 @@ fn held(body: Block, other: Expr) -> Expr
 
 /// The one expression that is within the braces of an expression.
 fn bare(expr: Expr) -> Expr
-    ensures { result ≡ bare expr }
 {
     match expr {
         Expr::Block { body, .. } => held(body, Expr::Underscore),

@@ -7,6 +7,7 @@
 
 mod arms;
 mod blocks;
+mod brace_ends;
 mod branches;
 mod closures;
 pub mod front;

@@ -23,7 +23,7 @@ use Rattle.lay_read_code.specs.Answers.{has_head}
 use Rattle.lay_read_code.specs.Begun.{deeper as within_depth}
 use Rattle.lay_head_rules.proofs.UseSteps.{deeper}
 use Rattle.lay_read_types.proofs.Steps.{above_zero}
-use Rattle.lay_read_exprs.specs.Answers.{exprs_within}
+use Rattle.lay_read_blocks.specs.Answers.{code_within}
 
 -- ---- what was found behind something else
 
@@ -108,8 +108,8 @@ module _ (at : Site) (depth : ℕ) (ts : Tokens) where
 
 -- An expression within a depth that is no zero is read by the rules of the level.
 pub expr_deeper : (place : Place) (n : ℕ) (ts : Tokens) → 0 < n
-    → expr_at place n ts ≡ expr_by (exprs_within (n - 1)) (n - 1 + 1) place ts
+    → expr_at place n ts ≡ expr_by (code_within (n - 1)) (n - 1 + 1) place ts
 unfolding expr_in
 expr_deeper place n ts some =
     let e : n - 1 + 1 ≡ suc (n - 1) = omega arith in
-    above_zero (λ (k : ℕ). expr_at place k ts) n some ∙ ap (λ (k : ℕ). expr_by (exprs_within (n - 1)) k place ts) (sym e)
+    above_zero (λ (k : ℕ). expr_at place k ts) n some ∙ ap (λ (k : ℕ). expr_by (code_within (n - 1)) k place ts) (sym e)

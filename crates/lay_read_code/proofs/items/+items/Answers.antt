@@ -5,7 +5,7 @@ use Rattle.lay_node.specs.reader.Attr.{attributes}
 use Rattle.lay_node.specs.reader.Vis.{visibility}
 use Rattle.lay_tree.specs.reader.Item.{item_at, item_body, items_by, kind_at}
 use Rattle.lay_read_tokens.proofs.Left.{shorter}
-use Rattle.lay_read_code.proofs.Left.{item_left}
+use Rattle.lay_read_blocks.proofs.Left.{item_left}
 use Rattle.lay_read_tokens.proofs.Steps.{lost}
 use Rattle.lay_read_tokens.proofs.Turns.{repeat-start, repeat-end, repeat-none, repeat-step}
 use Rattle.lay_read_tokens.proofs.Holding.{holding_more}

@@ -6,10 +6,10 @@ use Rattle.lay_tree.specs.nodes.Code.{about_expr}
 use Rattle.lay_tree.specs.nodes.Ends.{ends_in_brace}
 use Rattle.lay_tree.specs.nodes.Exprs.{ExprFacts}
 use Rattle.lay_tree.specs.declared.exprs.Expr.{Expr}
-use Rattle.lay_ops.specs.declared.brace_ends.Edge.{Edge}
-use Rattle.lay_ops.specs.declared.brace_ends.Edge.TheVariants as edge
-use Rattle.lay_ops.specs.declared.brace_ends.TypeEdge.{TypeEdge}
-use Rattle.lay_ops.specs.declared.brace_ends.TypeEdge.TheVariants as type_edge
+use Rattle.lay_read_blocks.specs.declared.brace_ends.Edge.{Edge}
+use Rattle.lay_read_blocks.specs.declared.brace_ends.Edge.TheVariants as edge
+use Rattle.lay_read_blocks.specs.declared.brace_ends.TypeEdge.{TypeEdge}
+use Rattle.lay_read_blocks.specs.declared.brace_ends.TypeEdge.TheVariants as type_edge
 
 -- It ends in a closure or in a `}`.
 abbrev pub ends_shut : ExprFacts → Bool

@@ -10,9 +10,9 @@ ghost use Rattle.lay_tree.specs.nodes.Blocks as nodes;
 ghost use Rattle.lay_tree.specs.nodes.Code.{about_expr};
 ghost use Rattle.lay_tree.specs.nodes.Ends.{ends_in_brace, is_brace_kind};
 ghost use Rattle.lay_tree.specs.declared.blocks.Stmt.{size-Expr};
-ghost use Rattle.lay_ops.specs.BraceEnds.{IfPart, IfType, braces, ends_shut, ends_type};
+ghost use Rattle.lay_read_blocks.specs.BraceEnds.{IfPart, IfType, braces, ends_shut, ends_type};
 
-use crate::roots::level;
+use lay_ops::level;
 use lay_token::{Delim, Kind};
 use lay_tree::{Args, Bound, Expr, Path, Ty};
 
@@ -50,7 +50,7 @@ fn ends_shut(expr: &Expr) -> bool
 {
     let mut last = expr;
     loop {
-        match edge(last) {
+        match last_part(last) {
             Edge::Token(shut) => return shut,
             Edge::Ty(ty) => return type_ends_in_brace(ty),
             Edge::In(operand) => last = operand,
@@ -59,7 +59,7 @@ fn ends_shut(expr: &Expr) -> bool
 }
 
 /// What an expression ends in.
-fn edge(expr: &Expr) -> Edge<'_>
+fn last_part(expr: &Expr) -> Edge<'_>
     ensures told { braces result ≡ ends_shut (about_expr expr.now) }
     ensures smaller { IfPart result (λ operand. size-Expr operand < size-Expr expr.now) }
 {
@@ -85,12 +85,22 @@ fn edge(expr: &Expr) -> Edge<'_>
             operand: Some(operand),
             ..
         } => Edge::In(operand.get()),
+        Expr::Postfix { base, steps } => {
+            if steps.as_slice().is_empty() {
+                Edge::In(base.get())
+            } else {
+                Edge::Token(false)
+            }
+        },
+        Expr::If {
+            branches,
+            otherwise,
+        } => Edge::Token(!branches.as_slice().is_empty() || otherwise.is_some()),
         Expr::Struct { .. }
         | Expr::Block { .. }
         | Expr::Unsafe { .. }
         | Expr::ConstBlock { .. }
         | Expr::Async { .. }
-        | Expr::If { .. }
         | Expr::Match { .. }
         | Expr::Loop { .. }
         | Expr::While { .. }
