@@ -9,8 +9,7 @@ ghost use Rattle.lay_read_tokens.specs.Answers.{AreLexed};
 ghost use Rattle.lay_read_parts.specs.Answers.{IsReadAt};
 ghost use Rattle.lay_read_code.specs.Answers.{IsReadBy, alone};
 
-use crate::exprs::{block_ahead, expr_ahead};
-use crate::items::item_ahead;
+use crate::knot::{block_ahead, expr_ahead, item_ahead};
 use lay_nest::Cursor;
 use lay_read_blocks::BlockRules;
 use lay_read_tokens::{Ahead, ReadNone};

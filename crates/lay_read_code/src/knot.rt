@@ -1,7 +1,7 @@
-//! Items.
+//! The knot of expressions, blocks and items, each read over what is one level deeper.
 ghost use Rattle.std.specs.Prelude.{◌≡◌, ◌+◌, ◌^◌, ◌<◌, ◌≤◌, ◌||◌, IfOk};
 ghost use Rattle.lay_tree.specs.nodes.Item as nodes;
-ghost use Rattle.lay_tree.specs.reader.Code.{item_at};
+ghost use Rattle.lay_tree.specs.reader.Code.{code_in, expr_at, item_at};
 ghost use Rattle.lay_tree.specs.reader.Item as reader;
 ghost use Rattle.lay_read_tokens.specs.Answers.{AreFound, IsFound, IsHeld};
 ghost use Rattle.lay_read_code.specs.Answers.{has_head};
@@ -10,10 +10,10 @@ ghost use Rattle.lay_read_code.specs.Begun.{deeper, value_end};
 
 use crate::begun::read_begun;
 use crate::bodies::{Body, body_of, with_block, with_items, with_value};
-use crate::exprs::{block_ahead, expr_ahead};
 use lay_head_rules::level::kept_if;
 use lay_head_rules::vis::vis_ahead;
 use lay_read_blocks::BlockRules;
+use lay_read_exprs::ExprRules;
 use lay_read_parts::joins::both;
 use lay_read_tokens::attributes::attrs_ahead;
 use lay_read_tokens::found::greater;
@@ -21,8 +21,61 @@ use lay_read_tokens::front::{has_items, takes_closer, takes_mark, takes_opener};
 use lay_read_tokens::stop::keep;
 use lay_read_tokens::{Ahead, Found, ReadNone};
 use lay_token::{Delim, List};
-use lay_tree::{Attr, Block, Expr, Item, ItemKind, Site, Vis};
+use lay_tree::{Attr, Block, Expr, Item, ItemKind, Place, Site, Vis};
 use std::alloc::Global;
+
+/// An expression at its place, within a depth. Recursion goes one level deeper alone.
+#[cycle(code)]
+pub fn expr_ahead(
+    alloc: Global,
+    at: &mut Ahead<'_>,
+    place: Place,
+    depth: u32,
+) -> Result<Found<Expr>, ReadNone>
+    ensures read { IsFound (expr_at place depth at.old) result at.new }
+    ensures within { IfOk result (λ found. found.need ≤ depth) }
+{
+    if depth == 0 {
+        return Err(ReadNone::NoReading);
+    }
+    let heads = BlockRules {
+        alloc,
+        depth: depth - 1,
+        exprs: expr_ahead,
+        blocks: block_ahead,
+        items: item_ahead,
+    };
+    let rules = ExprRules {
+        alloc,
+        depth: depth - 1,
+        exprs: expr_ahead,
+        heads,
+    };
+    rules.expr_by(at, place)
+}
+
+/// A block behind an `else`, within a depth. It stands one level deeper than what is around it.
+#[cycle(code)]
+pub fn block_ahead(
+    alloc: Global,
+    at: &mut Ahead<'_>,
+    depth: u32,
+) -> Result<Found<Block>, ReadNone>
+    ensures read { IsFound ((code_in depth).blocks at.old) result at.new }
+    ensures within { IfOk result (λ found. found.need ≤ depth) }
+{
+    if depth == 0 {
+        return Err(ReadNone::NoReading);
+    }
+    let rules = BlockRules {
+        alloc,
+        depth: depth - 1,
+        exprs: expr_ahead,
+        blocks: block_ahead,
+        items: item_ahead,
+    };
+    rules.deeper_block(at)
+}
 
 /// Items at their site within a depth, up to where they end.
 #[cycle(code)]
