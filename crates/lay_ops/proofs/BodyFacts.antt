@@ -138,3 +138,12 @@ call_by _ (items.IsCall call) = rw (items.call_is call, views.outs-ItemKind::Cal
 
 pub call_item_is : (one : Item) → (told_of_item one).call ≡ call_in (views.out-ItemKind one.kind)
 call_item_is one = ap (λ (F : ItemFacts). F.call) (items.item_is one) ∙ call_by one.kind (items.kind_view one.kind)
+
+-- ---- the kinds that are more than their name
+
+pub of_stmt : (s : Stmt) (attrs : List Attr) (x : Expr) (ended : Bool) → s ≡ stmt.Expr attrs x ended
+    → (about_stmt s).ends ≡ (ended || (about_expr x).block_like)
+of_stmt s attrs x ended is = rw (is, blocks.stmt_expr_is attrs x ended) refl
+
+pub of_block : (x : Expr) (b : Block) → x ≡ expr.Block None b → is_lone_body (about_expr x).kind ≡ (about_block b).lone
+of_block x b is = rw (is, laws.expr_block_is None b) refl
