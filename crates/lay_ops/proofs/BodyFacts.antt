@@ -108,8 +108,21 @@ lone_stmt_is s = by s (blocks.stmt_view s)
 
 -- ---- blocks
 
-pub lone_is : (b : Block) → (about_block b).lone ≡ is_lone b.attrs (map about_stmt b.stmts)
-lone_is b = rw (blocks.block_is b) refl
+-- The one statement of a block is an expression that is no macro call, without attributes and without a `;`.
+abbrev pub lone_in : List Stmt → Bool
+lone_in (s ∷ []) = (about_stmt s).bare && not (about_stmt s).call
+lone_in _ = false
+
+lone_by : (attrs : List Attr) (stmts : List Stmt) → is_lone attrs (map about_stmt stmts) ≡ (is_plain attrs && lone_in stmts)
+lone_by [] [] = refl
+lone_by [] (s ∷ []) = refl
+lone_by [] (s ∷ t ∷ more) = refl
+lone_by (a ∷ others) [] = refl
+lone_by (a ∷ others) (s ∷ []) = refl
+lone_by (a ∷ others) (s ∷ t ∷ more) = refl
+
+pub lone_is : (b : Block) → (about_block b).lone ≡ (is_plain b.attrs && lone_in b.stmts)
+lone_is b = rw (blocks.block_is b) (lone_by b.attrs b.stmts)
 
 -- ---- items
 

@@ -48,10 +48,7 @@ pub fn is_jump(expr: &Expr) -> bool
 {
     matches!(
         expr,
-        Expr::Return { .. }
-            | Expr::Break { .. }
-            | Expr::Closure { .. }
-            | Expr::TypedClosure { .. }
+        Expr::Return { .. } | Expr::Break { .. } | Expr::Closure { .. } | Expr::TypedClosure { .. }
     )
 }
 

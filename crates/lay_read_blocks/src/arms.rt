@@ -44,8 +44,7 @@ fn takes_arm_end(at: &mut Ahead<'_>, free: bool) -> bool
 }
 
 /// The one expression that a block holds.
-fn held(body: Block, other: Expr) -> Expr
-{
+fn held(body: Block, other: Expr) -> Expr {
     match body.stmts.into_vec().pop() {
         Some(Stmt::Expr { expr, .. }) => expr,
         _ => other,
@@ -53,8 +52,7 @@ fn held(body: Block, other: Expr) -> Expr
 }
 
 /// The one expression that is within the braces of an expression.
-fn bare(expr: Expr) -> Expr
-{
+fn bare(expr: Expr) -> Expr {
     match expr {
         Expr::Block { body, .. } => held(body, Expr::Underscore),
         other => other,
@@ -62,8 +60,7 @@ fn bare(expr: Expr) -> Expr
 }
 
 /// The body of an arm, without the braces that aren't in the tree.
-fn undressed(expr: Expr) -> Expr
-{
+fn undressed(expr: Expr) -> Expr {
     let mut body = expr;
     while is_lone_body(&body) {
         body = bare(body);
@@ -72,8 +69,7 @@ fn undressed(expr: Expr) -> Expr
 }
 
 /// The body of an arm, and the need of it: within braces that aren't in the tree it needs as much as they do.
-fn body_of(found: Found<Expr>) -> Found<Expr>
-{
+fn body_of(found: Found<Expr>) -> Found<Expr> {
     let need = if is_lone_body(&found.node) {
         found.need
     } else {

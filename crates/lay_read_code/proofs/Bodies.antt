@@ -142,6 +142,7 @@ module _ (at : Site) (within : ItemWithin) where
           ≡ made (kept keeps (item.Value head v.0.0) (max need v.0.1)) rest
       ended rest true = refl
       ended rest false = refl
+
       by : (o : Option Tokens) → (o >>= (λ rest. let k : Read ItemKind = if may_be_valued at head (is_some v.0.0)
           then Some ((item.Value head v.0.0, max need v.0.1), rest) else None in k))
           ≡ ((o >>= (λ rest. let w : Read (Option Expr) = Some (v.0, rest) in w)) >>= (λ v. made (with_value (begun.Value head, need) at v.0) v.1))

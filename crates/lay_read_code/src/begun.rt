@@ -28,9 +28,7 @@ use lay_read_tokens::names::read_name;
 use lay_read_tokens::stop::boxed;
 use lay_read_tokens::tokens::read_group;
 use lay_read_tokens::{Ahead, Found, ReadNone};
-use lay_tree::{
-    FnHead, ImplHead, ItemKind, Literal, Name, Site, TraitHead, ValueHead, Wheres,
-};
+use lay_tree::{FnHead, ImplHead, ItemKind, Literal, Name, Site, TraitHead, ValueHead, Wheres};
 use std::alloc::Global;
 
 /// An item up to its body, or the whole item where it has none.
@@ -318,4 +316,3 @@ fn begin_call(alloc: Global, at: &mut Ahead<'_>) -> Result<Found<Begun>, ReadNon
         Err(ReadNone::NoReading)
     }
 }
-

@@ -8,9 +8,7 @@ use lay_head_rules::level::kept_if;
 use lay_read_tokens::found::greater;
 use lay_read_tokens::{Found, ReadNone};
 use lay_token::List;
-use lay_tree::{
-    Attr, Block, Expr, FnHead, Item, ItemKind, Site, ValueHead, Wheres,
-};
+use lay_tree::{Attr, Block, Expr, FnHead, Item, ItemKind, Site, ValueHead, Wheres};
 
 /// What the body of an item is.
 #[derive(Clone, Copy)]

@@ -56,11 +56,7 @@ pub fn expr_ahead(
 
 /// A block behind an `else`, within a depth. It stands one level deeper than what is around it.
 #[cycle(code)]
-pub fn block_ahead(
-    alloc: Global,
-    at: &mut Ahead<'_>,
-    depth: u32,
-) -> Result<Found<Block>, ReadNone>
+pub fn block_ahead(alloc: Global, at: &mut Ahead<'_>, depth: u32) -> Result<Found<Block>, ReadNone>
     ensures read { IsFound ((code_in depth).blocks at.old) result at.new }
     ensures within { IfOk result (λ found. found.need ≤ depth) }
 {

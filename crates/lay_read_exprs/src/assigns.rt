@@ -36,9 +36,10 @@ fn split(
     Ok((targets, value))
 }
 
-impl<P: Fn(Global, &mut Ahead<'_>, Place, u32) -> Result<Found<Expr>, ReadNone>, H>
-    ExprRules<P, H>
-{
+impl<P: Fn(Global, &mut Ahead<'_>, Place, u32) -> Result<Found<Expr>, ReadNone>, H> ExprRules<
+    P,
+    H,
+> {
     /// An expression with assignments behind it.
     #[tactic(auto, unfolding(lay_tree::specs::reader::Exprs::assign_expr))]
     pub fn assign_expr(

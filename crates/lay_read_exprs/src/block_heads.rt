@@ -43,8 +43,7 @@ impl<
         at: &mut Ahead<'_>,
         no_struct: bool,
         lead: ExprLead,
-    ) -> Result<Found<Expr>, ReadNone>
-    {
+    ) -> Result<Found<Expr>, ReadNone> {
         BlockRules::block_head(self, at, no_struct, lead)
     }
 }

@@ -7,8 +7,8 @@ ghost use Rattle.lay_read_tokens.specs.Answers.{AreFound, IsFound, IsHeld};
 ghost use Rattle.lay_read_blocks.specs.Answers.{code_within};
 ghost use Rattle.lay_read_exprs.specs.Answers.{AreExprs};
 
-use lay_read_blocks::loops::{Going, read_parts};
 use crate::rules::ExprRules;
+use lay_read_blocks::loops::{Going, read_parts};
 use lay_read_parts::joins::both;
 use lay_read_parts::loops::Part;
 use lay_read_tokens::found::greater;
@@ -27,9 +27,10 @@ impl Part<Ty, ()> for Types {
     ghost reads = { λ depth place ts. reader.one_type (code_within depth) ts };
 }
 
-impl<P: Fn(Global, &mut Ahead<'_>, Place, u32) -> Result<Found<Expr>, ReadNone>, H>
-    ExprRules<P, H>
-{
+impl<P: Fn(Global, &mut Ahead<'_>, Place, u32) -> Result<Found<Expr>, ReadNone>, H> ExprRules<
+    P,
+    H,
+> {
     /// Types, as long as an `as` stands at the front.
     #[tactic(auto, using(lay_read_blocks::proofs::Left::type_leaves))]
     fn types(&self, at: &mut Ahead<'_>) -> Result<Found<List<Ty>>, ReadNone>

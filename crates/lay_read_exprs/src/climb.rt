@@ -9,11 +9,11 @@ ghost use Rattle.lay_read_tokens.specs.Answers.{IsFound};
 ghost use Rattle.lay_read_blocks.specs.Answers.{code_within};
 ghost use Rattle.lay_read_exprs.specs.Answers.{AreExprs, climb_once, climbed};
 
-use lay_read_blocks::places::before_op;
 use crate::block_heads::BlockHeads;
 use crate::rules::ExprRules;
 use lay_ops::ahead::{is_angle, is_dot_or_try, strength};
 use lay_ops::{is_block_like, stands};
+use lay_read_blocks::places::before_op;
 use lay_read_parts::joins::refused;
 use lay_read_tokens::stop::boxed;
 use lay_read_tokens::{Ahead, Found, ReadNone};

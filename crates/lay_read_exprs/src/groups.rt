@@ -7,8 +7,8 @@ ghost use Rattle.lay_read_tokens.specs.Answers.{IsFound};
 ghost use Rattle.lay_read_blocks.specs.Answers.{code_within};
 ghost use Rattle.lay_read_exprs.specs.Answers.{AreExprs, array_by};
 
-use lay_read_blocks::places::FREE;
 use crate::rules::ExprRules;
+use lay_read_blocks::places::FREE;
 use lay_read_parts::joins::{both, prepended, refused};
 use lay_read_parts::loops::{Closer, Part, read_elements};
 use lay_read_tokens::found::greater;
@@ -49,9 +49,10 @@ fn repeat_by(
     })
 }
 
-impl<P: Fn(Global, &mut Ahead<'_>, Place, u32) -> Result<Found<Expr>, ReadNone>, H>
-    ExprRules<P, H>
-{
+impl<P: Fn(Global, &mut Ahead<'_>, Place, u32) -> Result<Found<Expr>, ReadNone>, H> ExprRules<
+    P,
+    H,
+> {
     /// Expressions with commas, and the closing delimiter behind them.
     #[tactic(auto, using(lay_read_blocks::proofs::Left::exprs_leave))]
     pub fn free_elements(

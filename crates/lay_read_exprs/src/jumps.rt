@@ -5,9 +5,9 @@ ghost use Rattle.lay_read_tokens.specs.Answers.{IsFound};
 ghost use Rattle.lay_read_blocks.specs.Answers.{code_within};
 ghost use Rattle.lay_read_exprs.specs.Answers.{AreExprs};
 
-use lay_read_blocks::places::plain;
 use crate::rules::ExprRules;
 use lay_ops::ahead::begins_operand;
+use lay_read_blocks::places::plain;
 use lay_read_parts::joins::both;
 use lay_read_parts::parts::read_lifetime_if;
 use lay_read_tokens::{Ahead, Found, ReadNone};
@@ -27,9 +27,10 @@ pub fn continue_expr(alloc: Global, at: &mut Ahead<'_>) -> Result<Found<Expr>, R
     })
 }
 
-impl<P: Fn(Global, &mut Ahead<'_>, Place, u32) -> Result<Found<Expr>, ReadNone>, H>
-    ExprRules<P, H>
-{
+impl<P: Fn(Global, &mut Ahead<'_>, Place, u32) -> Result<Found<Expr>, ReadNone>, H> ExprRules<
+    P,
+    H,
+> {
     /// An operand at a level, if one begins.
     pub fn operand_if(
         &self,

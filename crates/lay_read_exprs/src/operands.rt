@@ -7,13 +7,13 @@ ghost use Rattle.lay_read_tokens.specs.Answers.{AreFound, IsFound, IsHeld};
 ghost use Rattle.lay_read_blocks.specs.Answers.{code_within};
 ghost use Rattle.lay_read_exprs.specs.Answers.{AreExprs};
 
-use lay_read_blocks::loops::{Going, read_parts};
-use lay_read_blocks::places::{before_op, plain};
 use crate::prefixes::pass_tokens;
 use crate::rules::ExprRules;
 use lay_ops::ahead::{binary, is_angle, strength};
 use lay_ops::operators::op_text;
 use lay_ops::stands;
+use lay_read_blocks::loops::{Going, read_parts};
+use lay_read_blocks::places::{before_op, plain};
 use lay_read_parts::joins::{both, refused};
 use lay_read_parts::loops::Part;
 use lay_read_tokens::found::greater;
@@ -46,9 +46,10 @@ fn operand_ends(at: &Ahead<'_>, operand: &Expr, level: u8, no_struct: bool) -> b
     }
 }
 
-impl<P: Fn(Global, &mut Ahead<'_>, Place, u32) -> Result<Found<Expr>, ReadNone>, H>
-    ExprRules<P, H>
-{
+impl<P: Fn(Global, &mut Ahead<'_>, Place, u32) -> Result<Found<Expr>, ReadNone>, H> ExprRules<
+    P,
+    H,
+> {
     /// Operators of a level and their operands, as long as one begins.
     #[tactic(auto, unfolding(lay_tree::specs::reader::Exprs::operands), using(lay_read_blocks::proofs::Left::operand_leaves))]
     pub fn operands(

@@ -7,11 +7,11 @@ ghost use Rattle.lay_read_tokens.specs.Answers.{AreFound, IsFound, IsHeld};
 ghost use Rattle.lay_read_blocks.specs.Answers.{code_within};
 ghost use Rattle.lay_read_exprs.specs.Answers.{AreExprs, bracket_step, generic_method, late_args, steps};
 
-use lay_read_blocks::loops::{Going, read_parts};
 use crate::numbers::{begins_tuple_index, is_at_tuple_index};
-use lay_read_blocks::places::FREE;
 use crate::rules::ExprRules;
 use lay_ops::is_number;
+use lay_read_blocks::loops::{Going, read_parts};
+use lay_read_blocks::places::FREE;
 use lay_read_parts::joins::{both, refused};
 use lay_read_parts::leads::opens_args_late;
 use lay_read_parts::loops::Part;
@@ -52,9 +52,10 @@ fn read_late_args(
     }
 }
 
-impl<P: Fn(Global, &mut Ahead<'_>, Place, u32) -> Result<Found<Expr>, ReadNone>, H>
-    ExprRules<P, H>
-{
+impl<P: Fn(Global, &mut Ahead<'_>, Place, u32) -> Result<Found<Expr>, ReadNone>, H> ExprRules<
+    P,
+    H,
+> {
     /// An expression with postfix steps behind it. A tuple index doesn't stand directly behind a number without suffix.
     #[tactic(auto, unfolding(lay_tree::specs::reader::Exprs::postfix_expr))]
     pub fn postfix_expr(

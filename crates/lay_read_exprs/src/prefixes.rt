@@ -7,10 +7,10 @@ ghost use Rattle.lay_read_tokens.specs.Answers.{IsFound, IsGot};
 ghost use Rattle.lay_read_blocks.specs.Answers.{code_within};
 ghost use Rattle.lay_read_exprs.specs.Answers.{AreExprs};
 
-use lay_read_blocks::places::plain;
 use crate::rules::ExprRules;
 use lay_ops::ahead::prefix;
 use lay_ops::operators::prefix_length;
+use lay_read_blocks::places::plain;
 use lay_read_parts::joins::both;
 use lay_read_tokens::front::pass;
 use lay_read_tokens::stop::keep;
@@ -41,9 +41,10 @@ fn read_prefixes(alloc: Global, at: &mut Ahead<'_>) -> Result<List<Prefix>, Read
     Ok(prefixes)
 }
 
-impl<P: Fn(Global, &mut Ahead<'_>, Place, u32) -> Result<Found<Expr>, ReadNone>, H>
-    ExprRules<P, H>
-{
+impl<P: Fn(Global, &mut Ahead<'_>, Place, u32) -> Result<Found<Expr>, ReadNone>, H> ExprRules<
+    P,
+    H,
+> {
     /// Operators, and the operand behind them.
     #[tactic(auto, unfolding(lay_tree::specs::reader::Exprs::unary_expr))]
     pub fn unary_expr(&self, at: &mut Ahead<'_>, no_struct: bool) -> Result<Found<Expr>, ReadNone>

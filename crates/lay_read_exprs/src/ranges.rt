@@ -13,9 +13,10 @@ use lay_read_tokens::{Ahead, Found, ReadNone};
 use lay_tree::{Boxed, Expr, Place};
 use std::alloc::Global;
 
-impl<P: Fn(Global, &mut Ahead<'_>, Place, u32) -> Result<Found<Expr>, ReadNone>, H>
-    ExprRules<P, H>
-{
+impl<P: Fn(Global, &mut Ahead<'_>, Place, u32) -> Result<Found<Expr>, ReadNone>, H> ExprRules<
+    P,
+    H,
+> {
     /// A range, from its `..` or `..=` on.
     #[tactic(auto, unfolding(lay_tree::specs::reader::Exprs::range_expr))]
     pub fn range_expr(

@@ -20,9 +20,10 @@ pub struct ExprRules<P, H> {
     pub heads: H,
 }
 
-impl<P: Fn(Global, &mut Ahead<'_>, Place, u32) -> Result<Found<Expr>, ReadNone>, H>
-    ExprRules<P, H>
-{
+impl<P: Fn(Global, &mut Ahead<'_>, Place, u32) -> Result<Found<Expr>, ReadNone>, H> ExprRules<
+    P,
+    H,
+> {
     /// An expression one level deeper.
     pub fn inner(&self, at: &mut Ahead<'_>, place: Place) -> Result<Found<Expr>, ReadNone>
         requires { AreExprs self.now.depth (P.pre self.now.exprs) (P.post self.now.exprs) }

@@ -5,8 +5,8 @@ ghost use Rattle.lay_read_tokens.specs.Answers.{IsFound};
 ghost use Rattle.lay_read_blocks.specs.Answers.{code_within};
 ghost use Rattle.lay_read_exprs.specs.Answers.{AreExprs, numbered_field, struct_by};
 
-use lay_read_blocks::places::FREE;
 use crate::rules::ExprRules;
+use lay_read_blocks::places::FREE;
 use lay_read_parts::joins::{both, refused};
 use lay_read_parts::loops::{Opening, Part, read_open_elements};
 use lay_read_pats::structs::read_index_if;
@@ -26,9 +26,10 @@ impl Part<FieldExpr, ()> for Fields {
     ghost reads = { λ depth place ts. reader.one_field (code_within depth) ts };
 }
 
-impl<P: Fn(Global, &mut Ahead<'_>, Place, u32) -> Result<Found<Expr>, ReadNone>, H>
-    ExprRules<P, H>
-{
+impl<P: Fn(Global, &mut Ahead<'_>, Place, u32) -> Result<Found<Expr>, ReadNone>, H> ExprRules<
+    P,
+    H,
+> {
     /// Fields in braces, behind a path and the `{`.
     #[tactic(auto, unfolding(lay_tree::specs::reader::Exprs::struct_expr), using(lay_read_blocks::proofs::Left::field_leaves))]
     pub fn struct_expr(
