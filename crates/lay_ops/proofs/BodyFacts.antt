@@ -20,6 +20,7 @@ use Rattle.lay_tree.specs.declared.item.ItemKind.{ItemKind}
 use Rattle.lay_tree.specs.declared.blocks.Stmt.TheOpen.{Stmt-F, ItemKind-F}
 use Rattle.lay_tree.specs.declared.blocks.Stmt.TheVariants as stmt
 use Rattle.lay_tree.specs.declared.item.ItemKind.TheVariants as kind
+use Rattle.lay_ops.specs.RootFacts.{lone_in}
 use Rattle.lay_tree.proofs.nodes.BlocksLaws as blocks
 use Rattle.lay_tree.proofs.nodes.ExprsLaws as laws
 use Rattle.lay_tree.proofs.nodes.ItemLaws as items
@@ -108,11 +109,6 @@ lone_stmt_is s = by s (blocks.stmt_view s)
 
 -- ---- blocks
 
--- The one statement of a block is an expression that is no macro call, without attributes and without a `;`.
-abbrev pub lone_in : List Stmt → Bool
-lone_in (s ∷ []) = (about_stmt s).bare && not (about_stmt s).call
-lone_in _ = false
-
 lone_by : (attrs : List Attr) (stmts : List Stmt) → is_lone attrs (map about_stmt stmts) ≡ (is_plain attrs && lone_in stmts)
 lone_by [] [] = refl
 lone_by [] (s ∷ []) = refl
@@ -160,3 +156,7 @@ of_stmt s attrs x ended is = rw (is, blocks.stmt_expr_is attrs x ended) refl
 
 pub of_block : (x : Expr) (b : Block) → x ≡ expr.Block None b → is_lone_body (about_expr x).kind ≡ (about_block b).lone
 of_block x b is = rw (is, laws.expr_block_is None b) refl
+
+pub of_lone : (s : Stmt) (attrs slice : List Attr) (x : Expr) (ended : Bool) → s ≡ stmt.Expr attrs x ended → slice ≡ attrs
+    → ((is_plain slice && not ended) && not (is_macro (about_expr x).kind)) ≡ ((about_stmt s).bare && not (about_stmt s).call)
+of_lone s attrs slice x ended is same = rw (is, same, blocks.stmt_expr_is attrs x ended) refl
