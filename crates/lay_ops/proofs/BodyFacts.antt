@@ -1,6 +1,7 @@
 -- What is told of the bodies of arms, of statements, blocks and items by their roots, kind by kind.
-use Rattle.std.proofs.Common.{◌≡◌, ◌&&◌, ◌||◌, Bool, true, false, not, List, [], ◌∷◌, map, Option, Some, None, refl, sym, ap, ◌∙◌}
+use Rattle.std.proofs.Common.{◌≡◌, ◌&&◌, ◌||◌, Bool, true, false, not, List, [], ◌∷◌, map, Option, Some, None, is_some, refl, sym, ap, ◌∙◌}
 use Rattle.lay_node.specs.declared.attr.Attr.{Attr}
+use Rattle.lay_node.specs.declared.token.Lifetime.{Lifetime}
 use Rattle.lay_tree.specs.nodes.Blocks.{is_lone, is_lone_body, is_plain}
 use Rattle.lay_tree.specs.nodes.Code.{about_block, about_expr, about_stmt, told_of_item, told_of_kind}
 use Rattle.lay_tree.specs.nodes.CodeFacts.{ItemFacts, StmtFacts}
@@ -77,8 +78,19 @@ kind_is x = kind_by x (laws.expr_view x)
 pub is_macro_is : (x : Expr) → is_macro (about_expr x).kind ≡ is_macro (kind_in (views.out-Expr x))
 is_macro_is x = ap is_macro (kind_is x)
 
-pub lone_body_is : (x : Expr) → is_lone_body (about_expr x).kind ≡ is_lone_body (kind_in (views.out-Expr x))
-lone_body_is x = ap is_lone_body (kind_is x)
+-- whether it is a block without a label that holds one expression
+abbrev pub lone_body_in : Expr-F Stmt Expr FieldExpr Step ItemKind Arm Block Branch Item → Bool
+lone_body_in (Expr-F.Block label b) = not (is_some label) && (about_block b).lone
+lone_body_in _ = false
+
+lone_body_by : (x : Expr-F Stmt Expr FieldExpr Step ItemKind Arm Block Branch Item) → is_lone_body (kind_in x) ≡ lone_body_in x
+lone_body_by (Expr-F.Expr::Call call) = refl
+lone_body_by (Expr-F.Block None b) = refl
+lone_body_by (Expr-F.Block (Some l) b) = refl
+lone_body_by _ = refl
+
+pub lone_body_is : (x : Expr) → is_lone_body (about_expr x).kind ≡ lone_body_in (views.out-Expr x)
+lone_body_is x = ap is_lone_body (kind_is x) ∙ lone_body_by (views.out-Expr x)
 
 -- ---- statements
 
@@ -154,8 +166,10 @@ pub of_stmt : (s : Stmt) (attrs : List Attr) (x : Expr) (ended : Bool) → s ≡
     → (about_stmt s).ends ≡ (ended || (about_expr x).block_like)
 of_stmt s attrs x ended is = rw (is, blocks.stmt_expr_is attrs x ended) refl
 
-pub of_block : (x : Expr) (b : Block) → x ≡ expr.Block None b → is_lone_body (about_expr x).kind ≡ (about_block b).lone
-of_block x b is = rw (is, laws.expr_block_is None b) refl
+pub of_block : (x : Expr) (label : Option Lifetime) (b : Block) → x ≡ expr.Block label b
+    → (not (is_some label) && (about_block b).lone) ≡ is_lone_body (about_expr x).kind
+of_block x None b is = rw (is, laws.expr_block_is None b) refl
+of_block x (Some l) b is = rw (is, laws.expr_block_is (Some l) b) refl
 
 pub of_lone : (s : Stmt) (attrs slice : List Attr) (x : Expr) (ended : Bool) → s ≡ stmt.Expr attrs x ended → slice ≡ attrs
     → ((is_plain slice && not ended) && not (is_macro (about_expr x).kind)) ≡ ((about_stmt s).bare && not (about_stmt s).call)

@@ -61,7 +61,7 @@ pub fn is_lone_body(expr: &Expr) -> bool
     ensures { result ≡ is_lone_body (about_expr expr.now).kind }
 {
     match expr {
-        Expr::Block { label: None, body } => is_lone(body),
+        Expr::Block { label, body } => label.is_none() && is_lone(body),
         _ => false,
     }
 }
