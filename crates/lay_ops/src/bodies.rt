@@ -1,12 +1,12 @@
 //! What is told of blocks, statements and items by their roots.
-ghost use Rattle.std.specs.Prelude.{◌≡◌, ◌&&◌, not};
+ghost use Rattle.std.specs.Prelude.{◌≡◌, ◌&&◌, not, is_some};
 ghost use Rattle.lay_ops.specs.RootFacts.{lone_in};
 ghost use Rattle.lay_tree.specs.nodes.Blocks.{is_lone_body, is_plain};
 ghost use Rattle.lay_tree.specs.nodes.Exprs.{is_macro};
 ghost use Rattle.lay_tree.specs.nodes.Code.{about_block, about_expr, about_stmt, told_of_item};
 
 use crate::roots::{is_block_like, is_macro};
-use lay_tree::{Attr, Block, Expr, Item, ItemKind, Stmt};
+use lay_tree::{Attr, Block, Expr, Item, ItemKind, Lifetime, Stmt};
 
 /// Whether another statement may stand behind it.
 #[tactic(auto, using(crate::proofs::BodyFacts::ends_is))]
@@ -55,13 +55,23 @@ fn is_lone(block: &Block) -> bool
     block.attrs.as_slice().is_empty() && is_lone_list(block.stmts.as_slice())
 }
 
+/// Whether there is no label.
+fn is_unlabelled(label: &Option<Lifetime>) -> bool
+    ensures { result ≡ not (is_some label.now) }
+{
+    match label {
+        Some(_) => false,
+        None => true,
+    }
+}
+
 /// Whether it is a block whose braces are dropped where it is the body of an arm.
 #[tactic(auto, using(crate::proofs::BodyFacts::lone_body_is))]
 pub fn is_lone_body(expr: &Expr) -> bool
     ensures { result ≡ is_lone_body (about_expr expr.now).kind }
 {
     match expr {
-        Expr::Block { label, body } => label.is_none() && is_lone(body),
+        Expr::Block { label, body } => is_unlabelled(label) && is_lone(body),
         _ => false,
     }
 }
