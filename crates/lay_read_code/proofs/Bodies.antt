@@ -1,5 +1,5 @@
 -- Items up to their bodies, and then their bodies.
-use Rattle.std.proofs.Common.{◌≡◌, ℕ, max, Bool, true, false, List, [], Option, Some, None, codes, refl, sym, ◌∙◌, if◌then◌else◌, arith}
+use Rattle.std.proofs.Common.{◌≡◌, ℕ, max, Bool, true, false, is_some, List, [], Option, Some, None, codes, refl, sym, ◌∙◌, if◌then◌else◌, arith}
 use Rattle.lay_node.specs.Ahead.{Tokens, first, tail, is_keyword, is_mark}
 use Rattle.lay_node.specs.reader.Heads.{alias, enum, extern_crate, impl_head, struct, trait_head, union, unsafe_flag}
 use Rattle.lay_node.specs.reader.Loops.{Got, Read, ◌>>=◌, passed}
@@ -13,17 +13,25 @@ use Rattle.lay_node.specs.declared.token.Literal.{Literal}
 use Rattle.lay_node.specs.declared.token.Name.{Name}
 use Rattle.lay_node.specs.declared.types.Abi.{Abi}
 use Rattle.lay_tree.specs.reader.Item as reader
-use Rattle.lay_tree.specs.reader.Item.{ItemLead, ItemWithin, OfAlias, OfCall, OfEnum, OfExternCrate, OfForeign, OfFunction, OfImpl, OfImport, OfModule, OfRules, OfStruct, OfTrait, OfUnion, OfValue}
+use Rattle.lay_tree.specs.reader.Item.{ItemWithin}
+use Rattle.lay_tree.specs.reader.ItemLeads.{ItemLead, item_lead, OfAlias, OfCall, OfEnum, OfExternCrate, OfForeign, OfFunction, OfImpl, OfImport, OfModule, OfRules, OfStruct, OfTrait, OfUnion, OfValue}
 use Rattle.lay_tree.specs.declared.item.Item.{Item}
 use Rattle.lay_tree.specs.declared.item.ItemKind.{ItemKind}
 use Rattle.lay_tree.specs.declared.item.ItemKind.TheVariants as item
-use Rattle.lay_read_code.specs.Begun.{begun_at, begun_by, finished, foreign_begun, members, node_alone, whole, with_body}
+use Rattle.lay_tree.specs.nodes.Item.{may_be_bodied, may_be_valued}
+use Rattle.lay_tree.specs.declared.blocks.Block.{Block}
+use Rattle.lay_tree.specs.declared.exprs.Expr.{Expr}
+use Rattle.lay_node.specs.declared.heads.ValueHead.{ValueHead}
+use Rattle.lay_node.specs.reader.Functions.{fn_head}
+use Rattle.lay_node.specs.reader.Heads.{semicolon, value_head}
+use Rattle.lay_read_code.specs.Begun.{begun_at, begun_by, body_of as body_in, finished, foreign_begun, kept, made, node_alone, whole, with_items, with_value}
+use Rattle.lay_read_code.specs.declared.bodies.Body.TheVariants as body
 use Rattle.lay_read_code.specs.declared.begun.Begun.{Begun}
 use Rattle.lay_read_code.specs.declared.begun.Begun.TheVariants as begun
 
 -- ---- where an item may stand
 
-module _ (at : Site) (within : ItemWithin) (ts : Tokens) (lead : ItemLead) (e : lead ≡ reader.item_lead ts) where
+module _ (at : Site) (within : ItemWithin) (ts : Tokens) (lead : ItemLead) (e : lead ≡ item_lead ts) where
   pub begun_there : reader.may_stand at lead ≡ true → begun_at at within ts ≡ begun_by at within lead ts
   unfolding begun_at
   begun_there m = rw (sym e, m) refl
@@ -80,7 +88,7 @@ greatest a b n = omega arith
 
 module _ (at : Site) (within : ItemWithin) where
   abbrev go_on : (Begun × ℕ) × Tokens → Read ItemKind
-  go_on x = finished within x.0 x.1
+  go_on x = finished within at x.0 x.1
 
   whole_finished : (o : Read ItemKind) → o ≡ (whole o >>= go_on)
   whole_finished None = refl
@@ -109,18 +117,53 @@ module _ (at : Site) (within : ItemWithin) where
   module_behind true n ts = refl
   module_behind false n ts = body_of (λ attrs items. item.Module n attrs items) site.Module ts
 
+  -- a function with its body
+  function_behind : (make : Option Block → ItemKind) (f g : ℕ → ℕ) (o : Read (Option Block)) → ((n : ℕ) → f n ≡ g n)
+      → (o >>= (λ b. let k : Read ItemKind = if may_be_bodied at (is_some b.0.0) then Some ((make b.0.0, f b.0.1), b.1) else None in k))
+      ≡ (o >>= (λ b. made (kept (may_be_bodied at (is_some b.0.0)) (make b.0.0) (g b.0.1)) b.1))
+  function_behind make f g None e = refl
+  function_behind make f g (Some b) e = by (may_be_bodied at (is_some b.0.0))
+    where
+      by : (keeps : Bool) → (let k : Read ItemKind = if keeps then Some ((make b.0.0, f b.0.1), b.1) else None in k)
+          ≡ made (kept keeps (make b.0.0) (g b.0.1)) b.1
+      by true = rw (e b.0.1) refl
+      by false = refl
+
+  -- a constant or a static with its value
+  value_behind : (head : ValueHead) (need : ℕ) (o : Read (Option Expr))
+      → (o >>= (λ v. semicolon v.1 >>= (λ rest. let k : Read ItemKind = if may_be_valued at head (is_some v.0.0)
+      then Some ((item.Value head v.0.0, max need v.0.1), rest) else None in k)))
+      ≡ ((o >>= (λ v. semicolon v.1 >>= (λ rest. let w : Read (Option Expr) = Some (v.0, rest) in w)))
+      >>= (λ v. made (with_value (begun.Value head, need) at v.0) v.1))
+  value_behind head need None = refl
+  value_behind head need (Some v) = by (semicolon v.1)
+    where
+      ended : (rest : Tokens) (keeps : Bool) → (let k : Read ItemKind = if keeps then Some ((item.Value head v.0.0, max need v.0.1), rest) else None in k)
+          ≡ made (kept keeps (item.Value head v.0.0) (max need v.0.1)) rest
+      ended rest true = refl
+      ended rest false = refl
+
+      by : (o : Option Tokens) → (o >>= (λ rest. let k : Read ItemKind = if may_be_valued at head (is_some v.0.0)
+          then Some ((item.Value head v.0.0, max need v.0.1), rest) else None in k))
+          ≡ ((o >>= (λ rest. let w : Read (Option Expr) = Some (v.0, rest) in w)) >>= (λ v. made (with_value (begun.Value head, need) at v.0) v.1))
+      by None = refl
+      by (Some rest) = ended rest (may_be_valued at head (is_some v.0.0))
+
   by_lead : (lead : ItemLead) (ts : Tokens) → reader.kind_by at within lead ts ≡ (begun_by at within lead ts >>= go_on)
-  unfolding reader.module_by reader.trait_by reader.impl_by reader.foreign_by
+  unfolding reader.module_by reader.function_by reader.value_by reader.trait_by reader.impl_by reader.foreign_by
   by_lead OfExternCrate ts = free_finished item.ExternCrate (extern_crate ts)
   by_lead OfImport ts = whole_finished (reader.import_by within ts)
   by_lead OfModule ts = step (passed (is_keyword (codes "mod")) ts) _ _ go_on
       (λ behind. step (name behind) _ _ go_on (λ n. module_behind (first (is_mark (codes ";")) n.1) n.0 n.1))
-  by_lead OfFunction ts = whole_finished (reader.function_by at within ts)
+  by_lead OfFunction ts = step (fn_head at within.heads ts) _ _ go_on
+      (λ h. step (wheres within.heads.kinds h.1) _ _ go_on
+      (λ w. function_behind (λ b. item.Function h.0.0 w.0.0.0 b) (λ n. max h.0.1 (max w.0.1 n)) (λ n. max (max h.0.1 w.0.1) n)
+      (reader.fn_body within.code w.1) (greatest h.0.1 w.0.1)))
   by_lead OfAlias ts = alone_finished item.Alias (alias at within.heads.kinds ts)
   by_lead OfStruct ts = alone_finished item.Struct (struct within.heads.kinds ts)
   by_lead OfUnion ts = alone_finished item.Union (union within.heads.kinds ts)
   by_lead OfEnum ts = alone_finished item.Enum (enum within.heads.kinds ts)
-  by_lead OfValue ts = whole_finished (reader.value_by at within ts)
+  by_lead OfValue ts = step (value_head within.heads.kinds ts) _ _ go_on (λ h. value_behind h.0.0 h.0.1 _)
   by_lead OfTrait ts = step (trait_head within.heads.kinds ts) _ _ go_on
       (λ h. step (wheres within.heads.kinds h.1) _ _ go_on
       (λ w. behind_body (λ attrs items. item.Trait h.0.0.0 w.0.0.0 attrs items) (λ n. max h.0.1 (max w.0.1 n)) (λ n. max (max h.0.1 w.0.1) n)
@@ -138,11 +181,11 @@ module _ (at : Site) (within : ItemWithin) where
   module _ (ts : Tokens) where
     kind_is : reader.kind_at at within ts ≡ (begun_at at within ts >>= go_on)
     unfolding reader.kind_at begun_at
-    kind_is = by (reader.may_stand at (reader.item_lead ts))
+    kind_is = by (reader.may_stand at (item_lead ts))
       where
-        by : (b : Bool) → (let kind : Read ItemKind = if b then reader.kind_by at within (reader.item_lead ts) ts else None in kind)
-            ≡ ((let x : Read Begun = if b then begun_by at within (reader.item_lead ts) ts else None in x) >>= go_on)
-        by true = by_lead (reader.item_lead ts) ts
+        by : (b : Bool) → (let kind : Read ItemKind = if b then reader.kind_by at within (item_lead ts) ts else None in kind)
+            ≡ ((let x : Read Begun = if b then begun_by at within (item_lead ts) ts else None in x) >>= go_on)
+        by true = by_lead (item_lead ts) ts
         by false = refl
 
     -- ---- the same in steps
@@ -151,14 +194,14 @@ module _ (at : Site) (within : ItemWithin) where
     kind_none h = kind_is ∙ rw h refl
 
     module _ (x : Begun) (need : ℕ) (mid : Tokens) (h : begun_at at within ts ≡ Some ((x, need), mid)) where
-      pub kind_whole : members x ≡ None → reader.kind_at at within ts ≡ Some ((with_body x [] [], need), mid)
+      pub kind_whole : body_in x ≡ body.None → reader.kind_at at within ts ≡ Some ((with_items x [] [], need), mid)
       kind_whole m = kind_is ∙ rw (h, m) refl
 
-      module _ (s : Site) (m : members x ≡ Some s) where
+      module _ (s : Site) (m : body_in x ≡ body.Items s) where
         pub kind_no_body : reader.item_body within s mid ≡ None → reader.kind_at at within ts ≡ None
         kind_no_body b = kind_is ∙ rw (h, m, b) refl
 
         pub kind_with_body : (attrs : List Attr) (items : List Item) (n : ℕ) (rest : Tokens)
             → reader.item_body within s mid ≡ Some (((attrs, items), n), rest)
-            → reader.kind_at at within ts ≡ Some ((with_body x attrs items, max need n), rest)
+            → reader.kind_at at within ts ≡ Some ((with_items x attrs items, max need n), rest)
         kind_with_body attrs items n rest b = kind_is ∙ rw (h, m, b) refl

@@ -7,9 +7,11 @@ use Rattle.lay_node.specs.declared.attr.Attr.{Attr}
 use Rattle.lay_node.specs.reader.Vis.{visibility}
 use Rattle.lay_node.specs.declared.heads.Site.{Site}
 use Rattle.lay_node.specs.declared.vis.Vis.{Vis}
-use Rattle.lay_tree.specs.reader.Exprs.{expr_at, expr_by, expr_in}
-use Rattle.lay_tree.specs.reader.Item.{item_at, item_by, kind_at}
-use Rattle.lay_tree.specs.nodes.Item.{is_inherited, told_of_kind}
+use Rattle.lay_tree.specs.reader.Code.{code_in, deeper_block, expr_at, item_at}
+use Rattle.lay_tree.specs.reader.Exprs.{expr_by}
+use Rattle.lay_tree.specs.reader.Item.{ItemWithin, item_by, kind_at}
+use Rattle.lay_tree.specs.nodes.Code.{told_of_kind}
+use Rattle.lay_tree.specs.nodes.Item.{is_inherited}
 use Rattle.lay_tree.proofs.nodes.ItemLaws as laws
 use Rattle.lay_tree.proofs.nodes.ItemLaws.{KindView, IsExternCrate, IsImport, IsFileModule, IsModule, IsFunction, IsAlias, IsStruct, IsUnion, IsEnum, IsValue, IsTrait, IsImpl, IsForeign, IsRules, IsCall}
 use Rattle.lay_tree.specs.declared.exprs.Place.{Place}
@@ -23,7 +25,10 @@ use Rattle.lay_read_code.specs.Answers.{has_head}
 use Rattle.lay_read_code.specs.Begun.{deeper as within_depth}
 use Rattle.lay_head_rules.proofs.UseSteps.{deeper}
 use Rattle.lay_read_types.proofs.Steps.{above_zero}
-use Rattle.lay_read_exprs.specs.Answers.{exprs_within}
+use Rattle.lay_node.specs.reader.Functions.{insides}
+use Rattle.lay_node.specs.reader.Use.{use_at}
+use Rattle.lay_read_blocks.specs.Answers.{code_within}
+use Rattle.lay_read_blocks.proofs.Left.{code_is}
 
 -- ---- what was found behind something else
 
@@ -53,7 +58,7 @@ headed_is kind = by kind (laws.kind_view kind)
     by _ (IsImport tree) = rw (laws.import_is tree) refl
     by _ (IsFileModule name) = rw (laws.file_module_is name) refl
     by _ (IsModule name attrs items) = rw (laws.module_is name attrs items) refl
-    by _ (IsFunction head wheres) = rw (laws.function_is head wheres) refl
+    by _ (IsFunction head wheres body) = rw (laws.function_is head wheres body) refl
     by _ (IsAlias x) = rw (laws.alias_is x) refl
     by _ (IsStruct x) = rw (laws.struct_is x) refl
     by _ (IsUnion x) = rw (laws.union_is x) refl
@@ -67,13 +72,15 @@ headed_is kind = by kind (laws.kind_view kind)
 
 module _ (at : Site) (depth : ℕ) (ts : Tokens) where
   pub item_nowhere : depth ≡ 0 → item_at at depth ts ≡ None
-  unfolding item_at
+  unfolding code_in
   item_nowhere e = ap (λ n. item_at at n ts) e
 
   module _ (some : 0 < depth) where
     item_step : item_at at depth ts ≡ item_by at (within_depth (depth - 1)) ts
-    unfolding item_at
+    unfolding code_in
     item_step = deeper (λ n. item_at at n ts) depth some
+        ∙ ap (λ w. item_by at (record { items = (code_in (depth - 1)).items; trees = use_at (depth - 1); heads = insides (depth - 1); code = w }) ts)
+        (code_is (depth - 1))
 
     pub item_no_attrs : attributes false ts ≡ None → item_at at depth ts ≡ None
     unfolding item_by
@@ -108,8 +115,15 @@ module _ (at : Site) (depth : ℕ) (ts : Tokens) where
 
 -- An expression within a depth that is no zero is read by the rules of the level.
 pub expr_deeper : (place : Place) (n : ℕ) (ts : Tokens) → 0 < n
-    → expr_at place n ts ≡ expr_by (exprs_within (n - 1)) (n - 1 + 1) place ts
-unfolding expr_in
+    → expr_at place n ts ≡ expr_by (code_within (n - 1)) (n - 1 + 1) place ts
+unfolding code_in
 expr_deeper place n ts some =
     let e : n - 1 + 1 ≡ suc (n - 1) = omega arith in
-    above_zero (λ (k : ℕ). expr_at place k ts) n some ∙ ap (λ (k : ℕ). expr_by (exprs_within (n - 1)) k place ts) (sym e)
+    above_zero (λ (k : ℕ). expr_at place k ts) n some ∙ ap (λ w. expr_by w (suc (n - 1)) place ts) (code_is (n - 1))
+    ∙ ap (λ (k : ℕ). expr_by (code_within (n - 1)) k place ts) (sym e)
+
+-- A block within a depth that is no zero is read by the rules of the level, one level deeper.
+pub block_deeper : (n : ℕ) (ts : Tokens) → 0 < n → (code_in n).blocks ts ≡ deeper_block (code_within (n - 1)) ts
+unfolding code_in
+block_deeper n ts some =
+    above_zero (λ (k : ℕ). (code_in k).blocks ts) n some ∙ ap (λ w. deeper_block w ts) (code_is (n - 1))

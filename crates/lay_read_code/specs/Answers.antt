@@ -1,16 +1,20 @@
 -- What readers answer.
-use Rattle.std.specs.Prelude.{ℕ, ◌≡◌, Bool, true, false, List, Option, Some, None, Result, Ok, Err}
+use Rattle.std.specs.Prelude.{ℕ, zero, suc, nat_le, if◌then◌else◌, ◌≡◌, Bool, true, false, List, Option, Some, None, Result, Ok, Err}
 use Rattle.lay_text.specs.declared.refusal.FormatError.{FormatError}
 use Rattle.lay_text.specs.declared.refusal.FormatError.TheVariants as format
 use Rattle.lay_text.specs.declared.refusal.NoMemory.{NoMemory}
 use Rattle.lay_text.specs.declared.refusal.Refusal.TheVariants.{NoItem}
 use Rattle.lay_token.specs.declared.token.Token.{Token}
 use Rattle.lay_node.specs.Ahead.{Tokens}
-use Rattle.lay_node.specs.reader.Loops.{Got}
+use Rattle.lay_node.specs.reader.Loops.{Got, Read, ◌>>=◌}
 use Rattle.lay_tree.specs.Reading.{NoItemAt, SpellsFile}
+use Rattle.lay_tree.specs.reader.Within.{ExprWithin}
 use Rattle.lay_tree.specs.declared.file.File.{File}
 use Rattle.lay_tree.specs.declared.item.ItemKind.{ItemKind}
 use Rattle.lay_tree.specs.declared.item.ItemKind.TheVariants as item
+use Rattle.lay_read_tokens.specs.declared.stop.ReadNone.{ReadNone}
+use Rattle.lay_read_tokens.specs.declared.stop.ReadNone.TheVariants.{NoReading, NoMemory}
+use Rattle.lay_read_blocks.specs.Answers.{code_within}
 
 -- What was read one by one, and what is left, is this run; memory may always be wanting.
 abbrev pub IsRun : {A : Type 0} → A × Tokens → Result A NoMemory → Tokens → Type 0
@@ -35,3 +39,16 @@ abbrev pub has_head : ItemKind → Bool
 has_head (item.MacroRules name rules) = false
 has_head (item.Call call) = false
 has_head _ = true
+
+-- ---- nodes that stand alone
+
+-- A node with code within it, by itself: that is one level deeper.
+abbrev pub alone : {A : Type 0} → (ExprWithin → Tokens → Read A) → ℕ → Tokens → Read A
+alone one zero ts = None
+alone one (suc budget) ts = do x ← one (code_within budget) ts; if nat_le x.0.1 budget then Some x else None
+
+-- What a reader answers that gives what is read, where it is read; where it isn't, the place stays.
+abbrev pub IsReadBy : {A : Type 0} → Read A → Tokens → Result A ReadNone → Tokens → Type 0
+IsReadBy read ahead (Ok node) left = (need : ℕ) × (read ≡ Some ((node, need), left))
+IsReadBy read ahead (Err NoReading) left = (read ≡ None) × (left ≡ ahead)
+IsReadBy read ahead (Err NoMemory) left = left ≡ ahead

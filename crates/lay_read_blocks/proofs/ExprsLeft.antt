@@ -20,27 +20,24 @@ use Rattle.lay_node.specs.declared.types.Arg.{Arg}
 use Rattle.lay_node.specs.declared.types.Path.{Path}
 use Rattle.lay_node.specs.declared.types.PathStyle.TheVariants.{Code}
 use Rattle.lay_node.specs.declared.types.TypePlace.TheVariants.{NoBounds}
-use Rattle.lay_tree.specs.Operands.{ExprLead, ByLiteral, ByPath, ByUnderscore, ByParen, ByBracket, ByPrefix, ByRange, ByContinue, ByBreak, ByReturn, expr_lead_at, begins_operand}
+use Rattle.lay_tree.specs.Operands.{ExprLead, ByLiteral, ByPath, ByUnderscore, ByParen, ByBracket, ByPrefix, ByRange, ByContinue, ByBreak, ByReturn, ByLabel, ByBrace, ByBlockWord, ByClosure, expr_lead_at, begins_operand}
 use Rattle.lay_tree.specs.Operators.{op_text, binary, prefix, prefix_length, begins_step, strength}
-use Rattle.lay_tree.specs.nodes.Exprs.{stands, root_follows, about_expr}
+use Rattle.lay_tree.specs.nodes.Code.{about_expr}
+use Rattle.lay_tree.specs.nodes.Exprs.{stands, root_follows}
 use Rattle.lay_tree.specs.nodes.Places.{plain, FREE}
 use Rattle.lay_tree.specs.reader.Exprs as r
-use Rattle.lay_tree.specs.reader.Exprs.{ExprWithin, expr_at}
+use Rattle.lay_tree.specs.reader.Within.{ExprWithin}
 use Rattle.lay_tree.specs.declared.exprs.Expr.{Expr}
 use Rattle.lay_tree.specs.declared.exprs.Place.{Place}
 use Rattle.lay_tree.specs.declared.operators.Prefix.{Prefix}
 use Rattle.lay_tree.specs.declared.operators.Prefix.TheVariants as before
 use Rattle.lay_read_tokens.proofs.Left.{Left, Leaves, unread, dropped, one_read, further, chain, chain_passed, choice, first_read, passed_left, op_read, repeat_left, elements_left, name_left, tokens_left, call_left, attributes_left}
 use Rattle.lay_read_parts.proofs.Left.{weaker, there_left, read_left, lifetime_left, literal_left, angled_left, open_left}
-use Rattle.lay_read_types.proofs.Left.{LeftWithin, one_arg_left, path_left, left_within}
+use Rattle.lay_read_types.proofs.Left.{one_arg_left, path_left}
 use Rattle.lay_read_pats.proofs.Left.{index_left}
-use Rattle.lay_read_exprs.specs.Answers.{exprs_within}
+use Rattle.lay_read_blocks.proofs.BlocksLeft.{LeftCode, block_word_left, closure_left, label_left, labelled_left, tail_left}
 
 -- ---- small parts
-
-tail_left : (ts : Tokens) → Left 0 ts (tail ts)
-tail_left [] = unread []
-tail_left (t ∷ ts) = dropped 1 (t ∷ ts)
 
 -- behind some tokens, where there is one
 behind_left : (n : ℕ) (t : Token) (ts : Tokens) → Left 1 (t ∷ ts) (drop (suc n) (t ∷ ts))
@@ -52,8 +49,8 @@ option_left : {A B : Type 0} (n : ℕ) (ts : Tokens) (o : Option A) (f : A → G
 option_left n ts None f h = tt
 option_left n ts (Some a) f h = h a
 
-label_left : (ts : Tokens) → Leaves 0 ts (if_there (first is_lifetime ts) lifetime ts)
-label_left ts = there_left (first is_lifetime ts) lifetime ts (weaker ts (lifetime ts) (lifetime_left ts))
+jump_label_left : (ts : Tokens) → Leaves 0 ts (if_there (first is_lifetime ts) lifetime ts)
+jump_label_left ts = there_left (first is_lifetime ts) lifetime ts (weaker ts (lifetime ts) (lifetime_left ts))
 
 prefix_behind : (p : Prefix) (t : Token) (ts : Tokens) → Left 1 (t ∷ ts) (drop (prefix_length p) (t ∷ ts))
 prefix_behind before.AmpMut t ts = behind_left 1 t ts
@@ -75,17 +72,12 @@ literal_expr_left ts = chain 1 1 0 ts (literal is_literal_token ts) _ (omega ari
 
 continue_left : (ts : Tokens) → Leaves 0 ts (r.continue_expr ts)
 unfolding r.continue_expr
-continue_left ts = chain 0 0 0 ts (if_there (first is_lifetime ts) lifetime ts) _ (omega arith) (label_left ts)
+continue_left ts = chain 0 0 0 ts (if_there (first is_lifetime ts) lifetime ts) _ (omega arith) (jump_label_left ts)
     (λ l. unread l.1)
 
 -- ---- over what is one level deeper
 
--- Each reader of what is one level deeper passes a token at least.
-record LeftExprs (deeper : ExprWithin) : Type 0 where
-  exprs : (place : Place) (ts : Tokens) → Leaves 1 ts (deeper.exprs place ts)
-  kinds : LeftWithin deeper.kinds
-
-module _ (deeper : ExprWithin) (l : LeftExprs deeper) where
+module _ (deeper : ExprWithin) (l : LeftCode deeper) where
   -- expressions, of which nothing is asked behind them
   free_left : (closing : Token → Bool) (ts : Tokens) → Leaves 1 ts (r.free_elements deeper closing ts)
   free_left closing ts = chain 1 1 0 ts (elements closing (deeper.exprs FREE) ts) _ (omega arith)
@@ -105,7 +97,7 @@ module _ (deeper : ExprWithin) (l : LeftExprs deeper) where
   field_by_left attrs (Some i) ts a = chain 1 1 0 ts (deeper.exprs FREE i.1) _ (omega arith)
       (further 1 0 1 ts i.1 _ (omega arith) a (l.exprs FREE i.1)) (λ x. unread x.1)
 
-  one_field_left : (ts : Tokens) → Leaves 1 ts (r.one_field deeper ts)
+  pub one_field_left : (ts : Tokens) → Leaves 1 ts (r.one_field deeper ts)
   unfolding r.one_field
   one_field_left ts = chain 1 0 1 ts (attributes false ts) _ (omega arith) (attributes_left false ts)
       (λ attrs. field_by_left attrs.0 (index attrs.1) attrs.1 (index_left attrs.1))
@@ -181,7 +173,7 @@ module _ (deeper : ExprWithin) (l : LeftExprs deeper) where
 
   break_left : (no_struct : Bool) (ts : Tokens) → Leaves 0 ts (r.break_expr deeper no_struct ts)
   unfolding r.break_expr
-  break_left no_struct ts = chain 0 0 0 ts (if_there (first is_lifetime ts) lifetime ts) _ (omega arith) (label_left ts)
+  break_left no_struct ts = chain 0 0 0 ts (if_there (first is_lifetime ts) lifetime ts) _ (omega arith) (jump_label_left ts)
       (λ a. chain 0 0 0 a.1 (r.operand_if deeper 0 no_struct a.1) _ (omega arith) (operand_if_left 0 no_struct a.1)
       (λ x. unread x.1))
 
@@ -224,7 +216,11 @@ module _ (deeper : ExprWithin) (l : LeftExprs deeper) where
   lead_left no_struct (Some ByContinue) t ts = led t ts _ (continue_left ts)
   lead_left no_struct (Some ByBreak) t ts = led t ts _ (break_left no_struct ts)
   lead_left no_struct (Some ByReturn) t ts = led t ts _ (return_left no_struct ts)
-  lead_left no_struct _ t ts = tt
+  lead_left no_struct (Some ByLabel) t ts = label_left deeper l (t ∷ ts)
+  lead_left no_struct (Some ByBrace) t ts = labelled_left deeper l None (t ∷ ts)
+  lead_left no_struct (Some ByBlockWord) t ts = block_word_left deeper l (t ∷ ts)
+  lead_left no_struct (Some ByClosure) t ts = closure_left deeper l no_struct (t ∷ ts)
+  lead_left no_struct None t ts = tt
 
   head_left : (no_struct : Bool) (ts : Tokens) → Leaves 1 ts (r.head_by deeper no_struct (expr_lead_at ts) ts)
   unfolding expr_lead_at
@@ -262,7 +258,7 @@ module _ (deeper : ExprWithin) (l : LeftExprs deeper) where
   index_step_left ts = chain 1 1 0 ts (deeper.exprs FREE ts) _ (omega arith) (l.exprs FREE ts)
       (λ x. chain_passed 0 1 0 x.1 (passed (closes Bracket) x.1) _ (omega arith) (passed_left (closes Bracket) x.1) unread)
 
-  step_left : (ts : Tokens) → Leaves 1 ts (r.one_step deeper ts)
+  pub step_left : (ts : Tokens) → Leaves 1 ts (r.one_step deeper ts)
   unfolding r.one_step
   step_left ts = choice 1 ts (is_op (codes ".") ts) _ _
       (λ h. further 1 0 1 ts (drop 1 ts) _ (omega arith) (dropped 1 ts) (dot_left (drop 1 ts)))
@@ -282,7 +278,7 @@ module _ (deeper : ExprWithin) (l : LeftExprs deeper) where
 
   -- ---- operators behind an operand
 
-  operand_left : (level : ℕ) (no_struct : Bool) (ts : Tokens) → Leaves 1 ts (r.operand deeper level no_struct ts)
+  pub operand_left : (level : ℕ) (no_struct : Bool) (ts : Tokens) → Leaves 1 ts (r.operand deeper level no_struct ts)
   unfolding r.operand
   operand_left level no_struct ts = option_left 1 ts (binary ts) _
       (λ o. let mid = drop (length (op_text o)) ts in
@@ -307,7 +303,7 @@ module _ (deeper : ExprWithin) (l : LeftExprs deeper) where
   assign_left no_struct x ts = chain 0 0 0 ts (r.operands deeper 0 no_struct ts) _ (omega arith)
       (operands_left 0 no_struct ts) (λ more. unread more.1)
 
-  type_left : (ts : Tokens) → Leaves 1 ts (r.one_type deeper ts)
+  pub type_left : (ts : Tokens) → Leaves 1 ts (r.one_type deeper ts)
   unfolding r.one_type
   type_left ts = chain_passed 1 1 0 ts (passed (is_keyword (codes "as")) ts) _ (omega arith)
       (passed_left (is_keyword (codes "as")) ts) (λ behind. weaker behind _ (l.kinds.types NoBounds behind))
@@ -335,7 +331,7 @@ module _ (deeper : ExprWithin) (l : LeftExprs deeper) where
 
   -- ---- within a depth
 
-  expr_by_left : (budget : ℕ) (place : Place) (ts : Tokens) → Leaves 1 ts (r.expr_by deeper budget place ts)
+  pub expr_by_left : (budget : ℕ) (place : Place) (ts : Tokens) → Leaves 1 ts (r.expr_by deeper budget place ts)
   unfolding r.expr_by
   expr_by_left budget place ts = chain 1 1 0 ts (r.head_by deeper place.no_struct (expr_lead_at ts) ts) _ (omega arith)
       (head_left place.no_struct ts)
@@ -343,28 +339,3 @@ module _ (deeper : ExprWithin) (l : LeftExprs deeper) where
       (choice 0 h.1 (r.is_ended place (about_expr h.0.0) h.1) _ _ (λ e. unread h.1) (climb_left place 14 h.0 h.1))
       (λ x. choice 0 x.1 (stands (about_expr x.0.0) place && root_follows (about_expr x.0.0) place x.1 && nat_le x.0.1 budget)
       _ None (λ e. unread x.1) tt))
-
-pub exprs_leave : (depth : ℕ) (place : Place) (ts : Tokens) → Leaves 1 ts (expr_at place depth ts)
-unfolding r.expr_in
-exprs_leave zero place ts = tt
-exprs_leave (suc depth) place ts = expr_by_left (exprs_within depth) (record {
-  exprs = λ p us. exprs_leave depth p us;
-  kinds = left_within depth;
-}) (suc depth) place ts
-
--- each reader of what is one level deeper
-all_leave : (depth : ℕ) → LeftExprs (exprs_within depth)
-all_leave depth = record { exprs = λ place us. exprs_leave depth place us; kinds = left_within depth }
-
-pub field_leaves : (depth : ℕ) (ts : Tokens) → Leaves 1 ts (r.one_field (exprs_within depth) ts)
-field_leaves depth ts = one_field_left (exprs_within depth) (all_leave depth) ts
-
-pub step_leaves : (depth : ℕ) (ts : Tokens) → Leaves 1 ts (r.one_step (exprs_within depth) ts)
-step_leaves depth ts = step_left (exprs_within depth) (all_leave depth) ts
-
-pub operand_leaves : (depth level : ℕ) (no_struct : Bool) (ts : Tokens)
-    → Leaves 1 ts (r.operand (exprs_within depth) level no_struct ts)
-operand_leaves depth level no_struct ts = operand_left (exprs_within depth) (all_leave depth) level no_struct ts
-
-pub type_leaves : (depth : ℕ) (ts : Tokens) → Leaves 1 ts (r.one_type (exprs_within depth) ts)
-type_leaves depth ts = type_left (exprs_within depth) (all_leave depth) ts

@@ -5,8 +5,8 @@ use Rattle.lay_read_tokens.proofs.Holding.{holding_more}
 use Rattle.lay_read_tokens.proofs.Left.{shorter}
 use Rattle.lay_read_tokens.proofs.Steps.{lost}
 use Rattle.lay_read_tokens.proofs.Turns.{repeat-start, repeat-end, repeat-none, repeat-step}
-use Rattle.lay_read_exprs.specs.Loops.{goes_on}
-use Rattle.lay_read_exprs.proofs.loops.read_parts.Goals as goal
+use Rattle.lay_read_blocks.specs.Loops.{goes_on}
+use Rattle.lay_read_blocks.proofs.loops.read_parts.Goals as goal
 
 pub loop-going-init : goal.loop-going-init
 loop-going-init g c = record {

@@ -1,10 +1,23 @@
 use Rattle.std.proofs.Common.{◌+◌, ◌*◌, ◌≤◌, length}
 use Rattle.lay_node.specs.Ahead.{more_items}
 use Rattle.lay_node.specs.reader.Loops.{repeat_from}
-use Rattle.lay_tree.specs.reader.Item.{item_at, items_by}
+use Rattle.lay_tree.specs.reader.Code.{item_at}
+use Rattle.lay_tree.specs.reader.Item.{items_by}
 use Rattle.lay_read_tokens.proofs.Turns.{Turn, Held}
 use Rattle.lay_read_tokens.proofs.Holding.{Holding}
-use Rattle.lay_read_code.proofs.items.+items.Given as goal
+use Rattle.lay_read_code.proofs.knot.+code.Given as goal
+
+abbrev pub decreases-expr_ahead : goal.decreases-expr_ahead
+decreases-expr_ahead l = 4 * l.depth
+
+abbrev pub decreases-block_ahead : goal.decreases-block_ahead
+decreases-block_ahead l = 4 * l.depth
+
+abbrev pub decreases-read_block_if : goal.decreases-read_block_if
+decreases-read_block_if l = 4 * l.depth + 2
+
+abbrev pub decreases-read_value_if : goal.decreases-read_value_if
+decreases-read_value_if l = 4 * l.depth + 2
 
 abbrev pub decreases-item_ahead : goal.decreases-item_ahead
 decreases-item_ahead l = 4 * l.depth

@@ -2,8 +2,8 @@ use Rattle.std.proofs.Common.{◌≤◌, length}
 use Rattle.lay_node.specs.reader.Loops.{repeat_from, repeat}
 use Rattle.lay_read_tokens.proofs.Holding.{Holding}
 use Rattle.lay_read_tokens.proofs.Turns.{Turn, Held}
-use Rattle.lay_read_exprs.specs.Loops.{goes_on}
-use Rattle.lay_read_exprs.proofs.loops.read_parts.Given as goal
+use Rattle.lay_read_blocks.specs.Loops.{goes_on}
+use Rattle.lay_read_blocks.proofs.loops.read_parts.Given as goal
 
 abbrev pub invariant-loop-going : goal.invariant-loop-going
 invariant-loop-going g l = record {

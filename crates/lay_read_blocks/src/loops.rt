@@ -1,14 +1,15 @@
 //! The loop of parts that stand one behind another, over a function that reads one of them.
 ghost use Rattle.std.specs.Prelude.{◌≡◌, ◌≤◌, IfOk};
 ghost use Rattle.lay_node.specs.reader.Loops.{repeat};
+ghost use Rattle.lay_tree.specs.reader.Exprs.{begins_else_if};
 ghost use Rattle.lay_read_tokens.specs.Answers.{AreFound, IsHeld};
 ghost use Rattle.lay_read_parts.specs.Answers.{ReadsParts};
-ghost use Rattle.lay_read_exprs.specs.Loops.{goes_on};
+ghost use Rattle.lay_read_blocks.specs.Loops.{goes_on};
 
 use lay_ops::ahead::{begins_step, strength};
 use lay_read_parts::loops::Part;
 use lay_read_tokens::found::greater;
-use lay_read_tokens::front::is_at_keyword;
+use lay_read_tokens::front::{has_items, is_at_keyword, takes_keyword};
 use lay_read_tokens::stop::keep;
 use lay_read_tokens::{Ahead, Found, ReadNone};
 use lay_token::List;
@@ -23,6 +24,18 @@ pub enum Going {
     Operands(u8),
     /// Types behind `as`.
     Types,
+    /// What stands within braces.
+    Items,
+    /// Branches behind `else if`.
+    ElseIfs,
+}
+
+/// Whether `else if` stands at the front.
+fn begins_else_if(at: &Ahead<'_>) -> bool
+    ensures { result ≡ begins_else_if at.now }
+{
+    let mut behind = at.fork();
+    takes_keyword(&mut behind, b"else") && is_at_keyword(&behind, b"if")
 }
 
 /// Whether one more part begins at the front.
@@ -33,6 +46,8 @@ fn goes_on(at: &Ahead<'_>, going: Going) -> bool
         Going::Steps => begins_step(at),
         Going::Operands(level) => strength(at) as u16 == level as u16 + 1,
         Going::Types => is_at_keyword(at, b"as"),
+        Going::Items => has_items(at),
+        Going::ElseIfs => begins_else_if(at),
     }
 }
 

@@ -13,6 +13,15 @@ pub const FREE: Place = Place {
     lt_after: false,
 };
 
+/// The whole of a statement, or of the body of an arm.
+pub const STATEMENT: Place = Place {
+    level: 0,
+    no_struct: false,
+    start: Start::Whole,
+    op_after: false,
+    lt_after: false,
+};
+
 /// A place of this level, where no struct literal may stand if it is said.
 pub fn plain(level: u8, no_struct: bool) -> Place
     ensures { result ≡ places.plain level no_struct }

@@ -3,16 +3,31 @@ use Rattle.std.proofs.lemmas.Result.{err_from_is_err_and}
 use Rattle.lay_node.specs.Ahead.{more_items}
 use Rattle.lay_node.specs.reader.Attr.{attributes}
 use Rattle.lay_node.specs.reader.Vis.{visibility}
-use Rattle.lay_tree.specs.reader.Item.{item_at, item_body, items_by, kind_at}
+use Rattle.lay_tree.specs.reader.Code.{expr_at, item_at}
+use Rattle.lay_tree.specs.reader.Exprs.{expr_by}
+use Rattle.lay_tree.specs.reader.Item.{item_body, items_by, kind_at}
 use Rattle.lay_read_tokens.proofs.Left.{shorter}
-use Rattle.lay_read_code.proofs.Left.{item_left}
+use Rattle.lay_read_blocks.proofs.Left.{item_left}
 use Rattle.lay_read_tokens.proofs.Steps.{lost}
 use Rattle.lay_read_tokens.proofs.Turns.{repeat-start, repeat-end, repeat-none, repeat-step}
 use Rattle.lay_read_tokens.proofs.Holding.{holding_more}
+use Rattle.lay_read_types.proofs.Steps.{found_by}
+use Rattle.lay_read_blocks.specs.Answers.{code_within}
 use Rattle.lay_read_code.specs.Begun.{begun_at, deeper}
 use Rattle.lay_read_code.proofs.Bodies.{kind_no_body, kind_none, kind_whole, kind_with_body}
-use Rattle.lay_read_code.proofs.Steps.{item_kept, item_no_attrs, item_no_kind, item_no_vis, item_nowhere, second_found, second_stopped}
-use Rattle.lay_read_code.proofs.items.+items.Goals as goal
+use Rattle.lay_read_code.proofs.Steps.{expr_deeper, item_kept, item_no_attrs, item_no_kind, item_no_vis, item_nowhere, second_found, second_stopped}
+use Rattle.lay_read_code.proofs.knot.+code.Goals as goal
+
+-- ---- expressions
+
+pub expr_ahead-returns-clause-read : goal.expr_ahead-returns-clause-read
+expr_ahead-returns-clause-read t c =
+    let ts = c.args.at.now in
+    let depth = c.args.depth in
+    found_by (expr_at c.args.place depth ts) (expr_by (code_within (depth - 1)) (depth - 1 + 1) c.args.place ts) c.expr_by.result
+    c.expr_by.new.at (expr_deeper c.args.place depth ts (omega arith)) c.expr_by.ensures.read
+
+-- ---- items in a body
 
 pub read_items-loop-alloc-init : goal.read_items-loop-alloc-init
 unfolding items_by

@@ -1,0 +1,4 @@
+pub mod BlocksLeft
+pub mod ExprsLeft
+pub mod ItemsLeft
+pub mod Left

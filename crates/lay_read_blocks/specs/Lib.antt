@@ -1,0 +1,4 @@
+pub mod Answers
+pub mod BraceEnds
+pub mod Front
+pub mod Loops
