@@ -22,7 +22,7 @@ use Rattle.lay_node.specs.declared.heads.Site.TheVariants.{Module}
 use Rattle.lay_node.specs.declared.heads.ValueHead.{ValueHead}
 use Rattle.lay_node.specs.declared.vis.Vis.{Vis}
 use Rattle.lay_tree.specs.Out.{behind_shebang, layout_of_file}
-use Rattle.lay_tree.specs.nodes.Exprs.{about_expr}
+use Rattle.lay_tree.specs.nodes.Code.{about_expr}
 use Rattle.lay_tree.specs.nodes.File.{form_of_file}
 use Rattle.lay_tree.specs.nodes.Item.{ItemFacts, KindFacts, about_item, form_of_item, item_body, item_forms, kind_form, told_of_item, told_of_kind, value_form}
 use Rattle.lay_tree.specs.declared.exprs.Expr.{Expr}

@@ -27,7 +27,8 @@ use Rattle.lay_node.specs.declared.types.PathStyle.TheVariants.{Code}
 use Rattle.lay_node.specs.declared.types.Ty.{Ty}
 use Rattle.lay_node.specs.declared.types.Ty.TheVariants as ty
 use Rattle.lay_node.proofs.nodes.TypesLaws.{IsGlobal, IsLocal, IsQualified, PathStartView, about_segment, args_round_is, path_is, start_global_is, start_local_is, start_qualified_is, start_view, type_call_is}
-use Rattle.lay_tree.specs.nodes.Exprs.{ExprFacts, about_expr, about_field_expr, about_step, base_form, break_if, end_form, expr_forms, group_if, is_method, label_form, methods, operand_form, operands_form, prefix_bits, prefixes_form, steps_form, targets_form, tuple_form, types_form}
+use Rattle.lay_tree.specs.nodes.Code.{about_expr, about_field_expr, about_step}
+use Rattle.lay_tree.specs.nodes.Exprs.{ExprFacts, base_form, break_if, end_form, expr_forms, group_if, is_method, label_form, methods, operand_form, operands_form, prefix_bits, prefixes_form, steps_form, targets_form, tuple_form, types_form}
 use Rattle.lay_tree.specs.declared.exprs.Expr.{Expr}
 use Rattle.lay_tree.specs.declared.exprs.Expr.TheVariants as expr
 use Rattle.lay_tree.specs.declared.exprs.Step.{Step}

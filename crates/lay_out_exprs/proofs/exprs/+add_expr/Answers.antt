@@ -1,7 +1,8 @@
 use Rattle.std.proofs.Common.{List, [], ◌++◌, ◌&&◌, true, false, map, refl, ap, ◌∙◌}
 use Rattle.lay_form.specs.Form.{Done}
 use Rattle.lay_form.specs.Stream.{fed, stream_of}
-use Rattle.lay_tree.specs.nodes.Exprs.{about_step, operands_form, steps_form, targets_form}
+use Rattle.lay_tree.specs.nodes.Code.{about_step}
+use Rattle.lay_tree.specs.nodes.Exprs.{operands_form, steps_form, targets_form}
 use Rattle.lay_tree.specs.declared.exprs.Expr.{Expr}
 use Rattle.lay_tree.specs.declared.exprs.FieldExpr.{FieldExpr}
 use Rattle.lay_tree.specs.declared.exprs.Step.{Step}
