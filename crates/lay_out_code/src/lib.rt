@@ -16,6 +16,7 @@ mod files;
 mod heads;
 mod items;
 mod macros;
+mod operands;
 
 pub use blocks::{put_block, put_stmt};
 pub use branches::put_arm;

@@ -40,10 +40,10 @@ pub fn ends_in_point(point: bool, node: &Expr) -> bool
         Expr::If {
             branches,
             otherwise,
-        } => both(
-            point,
-            branches.as_slice().is_empty() && otherwise.is_none(),
-        ),
+        } => match otherwise {
+            None => both(point, branches.as_slice().is_empty()),
+            Some(_) => false,
+        },
         Expr::Closure { body, .. } => ends_in_point(false, body.get()),
         Expr::Return { operand } => operand_ends_in_point(false, operand),
         Expr::Break { operand, .. } => operand_ends_in_point(false, operand),
