@@ -1,9 +1,11 @@
 -- The streams of what stands before blocks and in the heads of closures, and of what stands round the bodies of arms.
-use Rattle.std.proofs.Common.{◌≡◌, if◌then◌else◌, ℕ, suc, ◌==◌, ◌&&◌, ◌≢◌, ◌≤◌, ◌<◌, Bool, true, false, cond, List, [], ◌∷◌, ◌++◌, map, length, get_or, codes, pos, Option, Some, None, refl, sym, ap, ◌∙◌, arith}
+use Rattle.std.proofs.Common.{◌≡◌, not, ℕ, suc, ◌==◌, ◌&&◌, ◌≢◌, ◌≤◌, ◌<◌, Bool, true, false, cond, List, [], ◌∷◌, ◌++◌, map, length, get_or, codes, pos, Option, Some, None, refl, sym, ap, ◌∙◌, arith}
+use Rattle.std.proofs.Math.Dec.{eqb-suc-zero}
 use Rattle.lay_layout.specs.declared.layout.Tok.{Tok}
 use Rattle.lay_layout.specs.declared.layout.Tok.TheVariants as tok
-use Rattle.lay_form.specs.Form.{Blank, Braces, Bare, Unseen, Marked, Form, Done, Part, keyword}
-use Rattle.lay_form.specs.Notation.{comma_list, piece, when}
+use Rattle.lay_form.specs.Form.{ArmComma, Bare, Done, Form, Marked, Part, Unseen}
+use Rattle.lay_form.specs.Layout.{closing_break, opening_break}
+use Rattle.lay_form.specs.Notation.{comma_list, piece}
 use Rattle.lay_form.specs.Stream.{fed, stream_of}
 use Rattle.lay_node.specs.nodes.Attr.{attr_form}
 use Rattle.lay_node.specs.nodes.Functions.{self_type}
@@ -29,7 +31,10 @@ use Rattle.lay_tree.proofs.nodes.ExprsLaws.{ExprView, IsArray, IsAssign, IsAsync
 use Rattle.lay_out_types.specs.Rows.{comma_between, list_closed, list_opened, row}
 use Rattle.lay_out_types.proofs.FormRows.{are_none, list_is, part_more}
 use Rattle.lay_out_types.proofs.PartLemmas.{attrs_more}
+use Rattle.lay_out_exprs.specs.Arms.{arm_closed, arm_opened, seen_as}
 use Rattle.lay_out_exprs.specs.Blocks.{lead_row}
+use Rattle.lay_out_exprs.specs.declared.arms.ArmBody.{ArmBody}
+use Rattle.lay_out_exprs.specs.declared.arms.ArmBody.TheVariants as arm
 
 -- ---- labels and conditions
 
@@ -94,13 +99,13 @@ bare_of x e = sym (ap (λ (z : StmtFacts). z.bare) e)
 
 plain_is : (attrs : List Attr) → (length attrs == 0) ≡ is_plain attrs
 plain_is [] = refl
-plain_is (a ∷ attrs) = grind arith
+plain_is (a ∷ attrs) = eqb-suc-zero (length attrs)
 
 -- an expression
 pub bare_expr : (x : Stmt) (attrs put : List Attr) (y : Expr) (ended : Bool) → x ≡ stmt.Expr attrs y ended → put ≡ attrs
-    → ((length put == 0) && (if ended then false else true)) ≡ (about_stmt x).bare
+    → ((length put == 0) && not ended) ≡ (about_stmt x).bare
 bare_expr x attrs put y ended is same =
-    rw same (ap (λ (b : Bool). b && (if ended then false else true)) (plain_is attrs)
+    rw same (ap (λ (b : Bool). b && not ended) (plain_is attrs)
     ∙ bare_of _ (stmt_expr_is attrs y ended) ∙ ap (λ (z : Stmt). (about_stmt z).bare) (sym is))
 
 -- All else is not bare.
@@ -194,3 +199,12 @@ other_by _ (IsBreak label operand) no_call no_block = braces_from _ (expr_break_
 pub other_braces : (x : Expr) → ((call : MacroCall) → x ≡ expr.Call call → ⊥)
     → ((label : Option Lifetime) (b : Block) → x ≡ expr.Block label b → ⊥) → Marked ≡ braces_of (about_expr x).kind
 other_braces x no_call no_block = other_by x (expr_view x) no_call no_block
+
+-- what opens and closes a body in braces
+pub marked_opened : (body : ArmBody) → body ≡ arm.Marked
+    → tok.Begin true (pos 4) ∷ tok.Break opening_break ∷ [] ≡ arm_opened (seen_as body)
+marked_opened body is = rw is refl
+
+pub marked_closed : (body : ArmBody) → body ≡ arm.Marked
+    → tok.Break (closing_break (ArmComma true true)) ∷ tok.End ∷ [] ≡ arm_closed (seen_as body)
+marked_closed body is = rw is refl

@@ -31,7 +31,7 @@ use Rattle.lay_node.specs.declared.types.PathStyle.TheVariants.{Code}
 use Rattle.lay_node.specs.declared.types.Ty.{Ty}
 use Rattle.lay_node.specs.declared.types.Ty.TheVariants as ty
 use Rattle.lay_node.proofs.nodes.TypesLaws.{IsGlobal, IsLocal, IsQualified, PathStartView, about_segment, args_round_is, path_is, start_global_is, start_local_is, start_qualified_is, start_view, type_call_is}
-use Rattle.lay_tree.specs.nodes.Blocks.{block_form, dropped_if, soft_form}
+use Rattle.lay_tree.specs.nodes.Blocks.{block_form, dropped_if, soft_form, stmt_form}
 use Rattle.lay_tree.specs.nodes.Code.{about_arm, about_block, about_branch, about_expr, about_field_expr, about_step}
 use Rattle.lay_tree.specs.nodes.CodeFacts.{BlockFacts, BranchFacts, StmtFacts}
 use Rattle.lay_tree.specs.nodes.Exprs.{ExprFacts, arm_forms, base_form, branches_form, break_if, closure_head, condition_form, else_branch_form, end_form, expr_forms, group_if, is_method, label_form, labelled, methods, more_branches, operand_form, operands_form, prefix_bits, prefixes_form, steps_form, targets_form, tuple_form, types_form}
@@ -355,7 +355,7 @@ soft_by q [] (s ∷ []) = by s.bare
   where
     by : (b : Bool) → false ≡ ends_behind_point q (if b then soft s.form else block_form [] (s ∷ []) true)
     by true = refl
-    by false = body_shuts q true true _
+    by false = body_shuts q true true (stmt_form s ∷ [])
 soft_by q [] (s ∷ t ∷ more) = body_shuts q true true _
 soft_by q (a ∷ attrs) stmts = body_shuts q true false _
 

@@ -1,6 +1,5 @@
 //! What stands round blocks, and before them.
-ghost use Rattle.std.specs.Prelude.{◌≡◌, ◌<◌, ◌&&◌, cond, map, OnOk, [], ◌∷◌, codes};
-ghost use Rattle.lay_layout.specs.declared.layout.Tok.TheVariants as tok;
+ghost use Rattle.std.specs.Prelude.{◌≡◌, ◌<◌, [], cond, map, OnOk};
 ghost use Rattle.lay_form.specs.Form.{Done};
 ghost use Rattle.lay_form.specs.Stream.{stream_of};
 ghost use Rattle.lay_tree.specs.nodes.Blocks.{is_single};
@@ -9,9 +8,10 @@ ghost use Rattle.lay_tree.specs.nodes.Exprs.{labelled};
 ghost use Rattle.lay_out_types.specs.Calls.{Adds};
 ghost use Rattle.lay_out_exprs.specs.Blocks.{else_between, lead_row, soft_closed};
 
+use crate::flags::both;
 use lay_out_heads::calls::add_break;
 use lay_out_tokens::notation::CLOSING_SPACE_BREAK;
-use lay_out_types::calls::{add_if, add_text};
+use lay_out_types::calls::add_text;
 use lay_out_types::lists::add_end;
 use lay_out_types::{add_group, add_pat};
 use lay_stream::Emit;
@@ -87,7 +87,7 @@ fn is_bare(stmt: &Stmt) -> bool
     ensures { result ≡ (about_stmt stmt.now).bare }
 {
     match stmt {
-        Stmt::Expr { attrs, ended, .. } => attrs.as_slice().is_empty() && !*ended,
+        Stmt::Expr { attrs, ended, .. } => both(attrs.as_slice().is_empty(), !*ended),
         _ => false,
     }
 }
