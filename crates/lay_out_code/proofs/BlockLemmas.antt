@@ -1,8 +1,11 @@
 -- The streams of blocks and of statements.
-use Rattle.std.proofs.Common.{◌≡◌, if◌then◌else◌, ℕ, suc, ◌==◌, ◌&&◌, Bool, true, false, cond, List, [], ◌∷◌, ◌++◌, map, length, codes, pos, Option, option_map, Some, None, refl, sym, ap, ◌∙◌, append_assoc, append-nil, OnOk, Result}
+use Rattle.std.proofs.Common.{◌≡◌, if◌then◌else◌, ◌<◌, ℕ, suc, ◌==◌, ◌&&◌, Bool, true, false, cond, List, [], ◌∷◌, ◌++◌, map, length, codes, pos, Option, option_map, Some, None, refl, sym, ap, ◌∙◌, append_assoc, append-nil, OnOk, Result}
 use Rattle.std.proofs.Math.Dec.{eqb-suc-zero}
+use Rattle.lay_layout.specs.Machine.{opened}
+use Rattle.lay_layout.specs.declared.layout.Break.{Break}
 use Rattle.lay_layout.specs.declared.layout.Tok.{Tok}
 use Rattle.lay_layout.specs.declared.layout.Tok.TheVariants as tok
+use Rattle.lay_stream.specs.Fed.{Meanings}
 use Rattle.lay_piece.specs.declared.kind.Delim.TheVariants.{Brace}
 use Rattle.lay_form.specs.Form.{Blank, Form, Done, Hard, Part, Piece, Soft, closer, keyword, semicolon}
 use Rattle.lay_form.specs.Layout.{break_of, ends_behind_point}
@@ -34,7 +37,10 @@ use Rattle.lay_tree.proofs.nodes.BlocksLaws.{block_is, stmt_expr_is, stmt_item_i
 use Rattle.lay_out_tokens.proofs.StreamParts.{fed_more}
 use Rattle.lay_out_types.specs.Rows.{further, row}
 use Rattle.lay_out_types.proofs.FieldLemmas.{lines_more}
-use Rattle.lay_out_types.proofs.FormRows.{each_is, part_more}
+use Rattle.lay_out_types.specs.Calls.{Adds}
+use Rattle.lay_out_types.proofs.Adding.{level_behind, on_ok}
+use Rattle.lay_out_types.proofs.FormRows.{each_is, level_further, one_open, part_more}
+use Rattle.lay_out_heads.proofs.ItemLemmas.{steady_end}
 use Rattle.lay_out_heads.specs.FieldRows.{body_closed, body_opened, line}
 use Rattle.lay_out_heads.proofs.Steady.{Steady, steady_part, steady_semicolon, steady_wheres_body}
 use Rattle.lay_out_exprs.specs.Blocks.{soft_closed}
@@ -289,3 +295,25 @@ some_body row wheres lead body b is e =
     rw (is, e) (append_assoc row (stream_of (wheres_before_body wheres)) (stream_of ((about_block b).form (leads wheres)))
     ∙ ap (λ (s : List Tok). row ++ s)
     (part_more (wheres_before_body wheres) (Part ((about_block b).form (leads wheres)) Done) (steady_block (leads wheres) b)))
+
+pub steady_function : (wheres : Wheres) (body : Option Block) → Steady (function_tail wheres (option_map about_block body))
+steady_function wheres None = steady_end wheres
+steady_function wheres (Some b) =
+    steady_part (wheres_before_body wheres) (Part ((about_block b).form (leads wheres)) Done) (steady_wheres_body wheres)
+    (steady_block (leads wheres) b)
+
+-- ---- loops
+
+-- the same tokens before each
+pub same_before : (b : Bool) (r s : List Tok) → r ++ s ≡ cond b r r ++ s
+same_before true r s = refl
+same_before false r s = refl
+
+-- A block of one expression may be closed behind it.
+soft_open : (brk : List Tok) → ((k : ℕ) → opened brk k ≡ k) → (es : List Form) (n : ℕ) → opened (body_opened true ++ further brk es) n ≡ suc n
+soft_open brk level es n = level_further brk level es (suc n)
+
+pub may_close_soft : {S F T : Type 0} {m : Meanings S F} {a b : S} {p q : Result T F} (brk : Break) (es : List Form)
+    → Adds m p a (body_opened true ++ further (tok.Break brk ∷ []) es) q b → OnOk q (0 < m.groups b)
+may_close_soft {m} {a} {p} {q} brk es h =
+    on_ok q (λ x is. (one_open (m.groups a) (level_behind p q x h is ∙ soft_open (tok.Break brk ∷ []) (λ k. refl) es (m.groups a))).0)

@@ -404,3 +404,33 @@ typed_closure_expr q x moves params ps output b is same =
     any : Steady (Piece (Blank ∷ Operator (codes "->") ∷ Blank ∷ []) (Part (about_type output).told.form (Part ((about_block b).form true) Done)))
     any true = refl
     any false = refl
+
+-- ---- what may be closed
+
+-- attributes before what they belong to
+abbrev pub attrs_told : List Attr → Form
+attrs_told attrs = behind_attrs (map attr_form attrs) Done
+
+arm_open : (e p f : Form) (n : ℕ)
+    → opened (stream_of e ++ (tok.Begin false (pos 0) ∷ (stream_of p ++ stream_of f))) n ≡ suc n
+arm_open e p f n =
+    opened_append (stream_of e) (tok.Begin false (pos 0) ∷ (stream_of p ++ stream_of f)) n
+    ∙ ap (opened (tok.Begin false (pos 0) ∷ (stream_of p ++ stream_of f))) (level_form e n)
+    ∙ opened_append (stream_of p) (stream_of f) (suc n)
+    ∙ ap (opened (stream_of f)) (level_form p (suc n))
+    ∙ level_form f (suc n)
+
+pub may_end_arm_head : {S F T : Type 0} {m : Meanings S F} {a b : S} {p q : Result T F} (e g f : Form)
+    → Adds m p a (stream_of e ++ (tok.Begin false (pos 0) ∷ (stream_of g ++ stream_of f))) q b → OnOk q (0 < m.groups b)
+may_end_arm_head {m} {a} {p} {q} e g f h =
+    on_ok q (λ x is. (one_open (m.groups a) (level_behind p q x h is ∙ arm_open e g f (m.groups a))).0)
+
+arm_nested : (braces : Braces) (f : Form) (n k : ℕ) → k ≡ opened (arm_opened braces ++ stream_of f) n
+    → IsNested k (arm_closed braces)
+arm_nested Bare f n k e = tt
+arm_nested Unseen f n k e = tt
+arm_nested Marked f n k e = one_open n (e ∙ level_form f (suc n))
+
+pub may_close_arm : {S F T : Type 0} {m : Meanings S F} {a b : S} {p q : Result T F} (braces : Braces) (f : Form)
+    → Adds m p a (arm_opened braces ++ stream_of f) q b → OnOk q (IsNested (m.groups b) (arm_closed braces))
+may_close_arm {p} {q} braces f h = on_ok q (λ x is. arm_nested braces f _ _ (level_behind p q x h is))

@@ -1,8 +1,8 @@
-use Rattle.std.proofs.Common.{List, [], ◌++◌, ◌&&◌, true, false, map, refl, ap, ◌∙◌}
-use Rattle.lay_form.specs.Form.{Done}
+use Rattle.std.proofs.Common.{List, [], ◌++◌, ◌&&◌, true, false, map, refl, ap, ◌∙◌, ◌∷◌, option_map}
+use Rattle.lay_form.specs.Form.{Done, semicolon, Part}
 use Rattle.lay_form.specs.Stream.{fed, stream_of}
-use Rattle.lay_tree.specs.nodes.Code.{about_step}
-use Rattle.lay_tree.specs.nodes.Exprs.{operands_form, steps_form, targets_form}
+use Rattle.lay_tree.specs.nodes.Code.{about_step, about_block, about_expr, form_of_item}
+use Rattle.lay_tree.specs.nodes.Exprs.{operands_form, steps_form, targets_form, value_form}
 use Rattle.lay_tree.specs.declared.exprs.Expr.{Expr}
 use Rattle.lay_tree.specs.declared.exprs.FieldExpr.{FieldExpr}
 use Rattle.lay_tree.specs.declared.exprs.Step.{Step}
@@ -15,11 +15,34 @@ use Rattle.lay_out_types.proofs.FieldLemmas.{may_close_braces}
 use Rattle.lay_out_types.proofs.FormRows.{may_close, none_is, none_left}
 use Rattle.lay_out_types.proofs.RowLemmas.{all_turns, turn}
 use Rattle.lay_out_exprs.specs.Parts.{before_op, behind_op, expr_told, field_told}
+use Rattle.lay_out_exprs.proofs.Turns.{all_put, nothing_yet, one_turn}
+use Rattle.lay_form.specs.Notation.{H, each, piece}
+use Rattle.lay_node.specs.nodes.Attr.{attr_form}
+use Rattle.lay_node.specs.nodes.Heads.{impl_head_form, trait_head_form, value_head_form}
+use Rattle.lay_node.specs.declared.heads.Site.TheVariants.{Module}
+use Rattle.lay_tree.specs.nodes.Item.{about_file_module, about_function, about_import, about_value, module_head}
+use Rattle.lay_tree.specs.declared.item.Item.{Item}
+use Rattle.lay_tree.proofs.nodes.ItemLaws.{alias_is, call_is, enum_is, extern_crate_is, file_module_is, foreign_is, function_is, impl_is, import_is, module_is, rules_is, struct_is, trait_is, union_is, value_is}
+use Rattle.lay_out_heads.specs.FieldRows.{line}
+use Rattle.lay_out_heads.proofs.ItemLemmas.{steady_end}
+use Rattle.lay_out_heads.proofs.Steady.{steady_semicolon}
+use Rattle.lay_out_code.specs.Parts.{foreign_head, head_row, import_head, arm_told, branch_told, stmt_told}
+use Rattle.lay_out_code.proofs.OutLemmas.{bare_body, clause_body, full_body, head_body, headed, item_parts, kind_of, line_before, lines_put, may_close_body, bare_is, some_value, valued_head}
+use Rattle.lay_node.specs.nodes.Functions.{fn_head_form}
+use Rattle.lay_node.specs.nodes.Patterns.{about_pat}
+use Rattle.lay_tree.specs.declared.blocks.Arm.{Arm}
+use Rattle.lay_tree.specs.declared.blocks.Branch.{Branch}
+use Rattle.lay_tree.specs.declared.blocks.Stmt.{Stmt}
+use Rattle.lay_out_heads.proofs.Rows.{may_end_head}
+use Rattle.lay_out_exprs.specs.Blocks.{else_between}
+use Rattle.lay_out_code.proofs.BlockLemmas.{block_body, each_further, expr_stmt, item_stmt, let_stmt, may_close_soft, no_body, other_block, row_further, same_before, single_block, some_body, some_otherwise, steady_function}
+use Rattle.lay_out_code.proofs.BranchLemmas.{arm_parts, attrs_told, branch_parts, may_close_arm, may_end_arm_head, may_end_condition, some_else, some_guard}
 use Rattle.lay_out_exprs.proofs.StructLemmas as fields
 use Rattle.lay_out_exprs.proofs.ExprLemmas as of
 use Rattle.lay_out_exprs.proofs.StepLemmas as steps
-use Rattle.lay_out_exprs.proofs.Turns.{all_put, nothing_yet, one_turn}
-use Rattle.lay_out_exprs.proofs.exprs.+add_expr.Goals as goal
+use Rattle.lay_layout.specs.declared.layout.Tok.TheVariants as tok
+use Rattle.lay_out_code.proofs.BranchLemmas as branches
+use Rattle.lay_out_code.proofs.+code.Goals as goal
 
 -- ---- operands and targets
 
@@ -312,3 +335,361 @@ pub add_expr-returns-in-Break : goal.add_expr-returns-in-Break
 add_expr-returns-in-Break g t c =
     adds (adds_on c.add_text-word-in-Break.ensures (adds_on c.add_label-label.ensures c.add_operand-in-Break.ensures))
     (of.break_expr c.args.point _ c.in-Break.label c.in-Break.operand c.in-Break.is)
+
+-- ---- blocks and statements
+
+pub add_block-returns-then-both : goal.add_block-returns-then-both
+add_block-returns-then-both g t c =
+    adds c.add_either.ensures
+    (bare_body c.args.lead (map attr_form c.as_slice-attrs.result.now ++ map stmt_told c.as_slice-stmts.result.now) _
+    (bare_is stmt_told c.as_slice-attrs.result.now c.as_slice-stmts.result.now _ _ _ c.both.ensures c.is_empty.ensures
+    c.is_empty-2.ensures) c.if-both.true
+    ∙ block_body c.args.lead c.args.block.now _ _ c.as_slice-attrs.ensures c.as_slice-stmts.ensures)
+
+pub add_block-close_body-requires : goal.add_block-close_body-requires
+add_block-close_body-requires g t c =
+    may_close_body c.args.lead (each H (map attr_form c.as_slice-attrs.result.now)) (each H (map stmt_told c.as_slice-stmts.result.now))
+    (adds_on c.open_body-opened.ensures (adds_on c.add_inner_attrs-attrs.ensures
+    (adds c.add_stmts-stmts.ensures (each_further (map stmt_told c.as_slice-stmts.result.now)))))
+
+pub add_block-returns : goal.add_block-returns
+add_block-returns g t c =
+    adds (adds_on c.open_body-opened.ensures (adds_on c.add_inner_attrs-attrs.ensures
+    (adds_on (adds c.add_stmts-stmts.ensures (each_further (map stmt_told c.as_slice-stmts.result.now))) c.close_body.ensures)))
+    (full_body c.args.lead (map attr_form c.as_slice-attrs.result.now) (map stmt_told c.as_slice-stmts.result.now) _
+    (bare_is stmt_told c.as_slice-attrs.result.now c.as_slice-stmts.result.now _ _ _ c.both.ensures c.is_empty.ensures
+    c.is_empty-2.ensures) c.if-both.false
+    ∙ block_body c.args.lead c.args.block.now _ _ c.as_slice-attrs.ensures c.as_slice-stmts.ensures)
+
+pub add_soft-close_soft-requires : goal.add_soft-close_soft-requires
+add_soft-close_soft-requires g t c = may_close_soft _ _ (adds_on c.open_body-opened.ensures c.add_stmts-stmts.ensures)
+
+pub add_soft-returns-then-is_single : goal.add_soft-returns-then-is_single
+add_soft-returns-then-is_single g t c =
+    adds (adds_on c.open_body-opened.ensures (adds_on c.add_stmts-stmts.ensures c.close_soft.ensures))
+    (single_block c.args.block.now _ _ c.is_single.ensures c.if-is_single.true c.as_slice.ensures)
+
+pub add_soft-returns : goal.add_soft-returns
+add_soft-returns g t c =
+    adds c.add_block.ensures (other_block c.args.block.now _ c.is_single.ensures c.if-is_single.false)
+
+pub add_stmts-loop-stmt-preserved : goal.add_stmts-loop-stmt-preserved
+add_stmts-loop-stmt-preserved g t c =
+    adds (adds_on c.loop-stmt.invariant (adds_on c.add_break-done.ensures c.add_stmt-done.ensures))
+    (turn stmt_told (tok.Break c.args.lead ∷ []) (tok.Break c.args.lead ∷ []) c.args.stmts.now _ _ c.loop-stmt-test.true
+    c.stmt-item.is _ (same_before _ _ _))
+
+pub add_stmts-returns : goal.add_stmts-returns
+add_stmts-returns g t c =
+    adds c.loop-stmt.invariant
+    (all_turns (λ (xs : List Stmt). row (tok.Break c.args.lead ∷ []) (tok.Break c.args.lead ∷ []) (map stmt_told xs))
+    c.args.stmts.now _ c.loop-stmt-test.false
+    ∙ row_further (tok.Break c.args.lead ∷ []) (map stmt_told c.args.stmts.now))
+
+pub add_stmt-returns-in-Let : goal.add_stmt-returns-in-Let
+add_stmt-returns-in-Let g t c =
+    adds (adds_on c.add_attrs-attrs.ensures (adds_on c.add_text-word.ensures (adds_on c.add_pat-pat.ensures
+    (adds_on c.add_self_type-ty.ensures (adds_on c.add_value-value.ensures (adds_on c.add_otherwise-otherwise.ensures
+    c.add_text.ensures))))))
+    (let_stmt c.args.stmt.now c.in-Let.attrs _ c.in-Let.pat c.in-Let.ty c.in-Let.value c.in-Let.otherwise c.in-Let.is
+    c.as_slice.ensures)
+
+pub add_stmt-returns-in-Item : goal.add_stmt-returns-in-Item
+add_stmt-returns-in-Item g t c = adds c.add_item.ensures (item_stmt c.args.stmt.now c.in-Item.item _ c.in-Item.is c.get.ensures)
+
+pub add_stmt-returns-in-Expr : goal.add_stmt-returns-in-Expr
+add_stmt-returns-in-Expr g t c =
+    adds (adds_on c.add_attrs-attrs-in-Expr.ensures (adds_on c.add_expr-expr.ensures c.add_if.ensures))
+    (expr_stmt c.args.stmt.now c.in-Expr.attrs _ c.in-Expr.expr c.in-Expr.ended c.in-Expr.is c.as_slice-in-Expr.ensures)
+
+pub add_otherwise-returns-in-Some : goal.add_otherwise-returns-in-Some
+add_otherwise-returns-in-Some g t c =
+    adds (adds_on c.add_text-word.ensures c.add_block.ensures) (some_otherwise c.args.otherwise.now _ c.in-Some.is)
+
+-- ---- branches and arms
+
+pub add_condition-add_end-requires : goal.add_condition-add_end-requires
+add_condition-add_end-requires g t c =
+    may_end_condition c.args.word.now c.args.pat.now (expr_told c.args.condition.now)
+    (adds_on c.add_condition_lead-lead.ensures c.add_expr-condition.ensures)
+
+pub add_condition-returns : goal.add_condition-returns
+add_condition-returns g t c =
+    adds_on c.add_condition_lead-lead.ensures (adds_on c.add_expr-condition.ensures c.add_end.ensures)
+
+pub add_branches-loop-index-preserved : goal.add_branches-loop-index-preserved
+add_branches-loop-index-preserved g t c =
+    adds (adds_on c.loop-index.invariant (adds_on c.add_else_word-done.ensures c.add_branch-done.ensures))
+    (turn branch_told [] else_between c.args.branches.now _ _ c.loop-index-test.true c.index-branches-index.is _ refl)
+
+pub add_branches-returns : goal.add_branches-returns
+add_branches-returns g t c =
+    adds c.loop-index.invariant
+    (all_turns (λ (xs : List Branch). row [] else_between (map branch_told xs)) c.args.branches.now _ c.loop-index-test.false)
+
+pub add_branch-returns : goal.add_branch-returns
+add_branch-returns g t c =
+    adds (adds_on c.add_condition-head.ensures c.add_soft.ensures) (branch_parts c.args.branch.now)
+
+pub add_else-returns-in-Some : goal.add_else-returns-in-Some
+add_else-returns-in-Some g t c =
+    adds (adds_on c.add_text-word.ensures c.add_soft.ensures) (some_else c.args.otherwise.now _ c.in-Some.is)
+
+pub add_arms-returns-then-both : goal.add_arms-returns-then-both
+add_arms-returns-then-both g t c =
+    adds c.add_text.ensures
+    (bare_body true (map attr_form c.args.attrs.now ++ map arm_told c.args.arms.now) _
+    (bare_is arm_told c.args.attrs.now c.args.arms.now _ _ _ c.both.ensures c.is_empty.ensures c.is_empty-2.ensures) c.if-both.true)
+
+pub add_arms-close_body-requires : goal.add_arms-close_body-requires
+add_arms-close_body-requires g t c =
+    may_close_body true (each H (map attr_form c.args.attrs.now)) (each H (map arm_told c.args.arms.now))
+    (adds_on c.open_body-opened.ensures (adds_on c.add_inner_attrs-attrs.ensures c.add_arm_lines-arms.ensures))
+
+pub add_arms-returns : goal.add_arms-returns
+add_arms-returns g t c =
+    adds (adds_on c.open_body-opened.ensures
+    (adds_on c.add_inner_attrs-attrs.ensures (adds_on c.add_arm_lines-arms.ensures c.close_body.ensures)))
+    (full_body true (map attr_form c.args.attrs.now) (map arm_told c.args.arms.now) _
+    (bare_is arm_told c.args.attrs.now c.args.arms.now _ _ _ c.both.ensures c.is_empty.ensures c.is_empty-2.ensures) c.if-both.false)
+
+pub add_arm_lines-loop-arm-preserved : goal.add_arm_lines-loop-arm-preserved
+add_arm_lines-loop-arm-preserved g t c =
+    adds (adds_on c.loop-arm.invariant (adds_on c.add_break-done.ensures c.add_arm-done.ensures))
+    (turn arm_told line line c.args.arms.now _ _ c.loop-arm-test.true c.arm-item.is _ (line_before _ _))
+
+pub add_arm_lines-returns : goal.add_arm_lines-returns
+add_arm_lines-returns g t c =
+    adds c.loop-arm.invariant
+    (all_turns (λ (arms : List Arm). row line line (map arm_told arms)) c.args.arms.now _ c.loop-arm-test.false
+    ∙ lines_put (map arm_told c.args.arms.now))
+
+pub add_arm-add_end-requires : goal.add_arm-add_end-requires
+add_arm-add_end-requires g t c =
+    may_end_arm_head (attrs_told c.as_slice.result.now) (about_pat c.args.arm.now.pat).told.form _
+    (adds_on c.add_attrs-attrs.ensures (adds_on c.add_group-group.ensures (adds_on c.add_pat-pat.ensures c.add_guard-guard.ensures)))
+
+pub add_arm-close_arm-requires : goal.add_arm-close_arm-requires
+add_arm-close_arm-requires g t c = may_close_arm _ _ (adds_on c.open_arm-opened.ensures c.add_expr-inner.ensures)
+
+pub add_arm-returns : goal.add_arm-returns
+add_arm-returns g t c =
+    adds (adds_on c.add_attrs-attrs.ensures (adds_on c.add_group-group.ensures (adds_on c.add_pat-pat.ensures
+    (adds_on c.add_guard-guard.ensures (adds_on c.add_end-head.ensures (adds_on c.add_text-arrow.ensures
+    (adds_on c.add_break-never.ensures (adds_on c.open_arm-opened.ensures (adds_on c.add_expr-inner.ensures c.close_arm.ensures)))))))))
+    (arm_parts c.args.arm.now _ _ true c.as_slice.ensures c.arm_body-kind.ensures)
+
+pub add_guard-returns-in-Some : goal.add_guard-returns-in-Some
+add_guard-returns-in-Some g t c =
+    adds (adds_on c.add_text-word.ensures c.add_expr.ensures) (some_guard c.args.guard.now _ c.in-Some.is)
+
+-- ---- expressions that end in blocks
+
+pub add_expr-returns-in-Block : goal.add_expr-returns-in-Block
+add_expr-returns-in-Block g t c =
+    adds (adds_on c.add_labelled-label.ensures c.add_block.ensures)
+    (branches.block_expr c.args.point _ c.in-Block.label c.in-Block.body c.in-Block.is)
+
+pub add_expr-returns-in-Unsafe : goal.add_expr-returns-in-Unsafe
+add_expr-returns-in-Unsafe g t c =
+    adds (adds_on c.add_text-word-in-Unsafe.ensures c.add_soft.ensures)
+    (branches.unsafe_expr c.args.point _ c.in-Unsafe.body c.in-Unsafe.is)
+
+pub add_expr-returns-in-ConstBlock : goal.add_expr-returns-in-ConstBlock
+add_expr-returns-in-ConstBlock g t c =
+    adds (adds_on c.add_text-word-in-ConstBlock.ensures c.add_soft-in-ConstBlock.ensures)
+    (branches.const_expr c.args.point _ c.in-ConstBlock.body c.in-ConstBlock.is)
+
+pub add_expr-returns-in-Async : goal.add_expr-returns-in-Async
+add_expr-returns-in-Async g t c =
+    adds (adds_on c.add_text-word-in-Async.ensures (adds_on c.add_if-word.ensures c.add_block-in-Async.ensures))
+    (branches.async_expr c.args.point _ c.in-Async.moves c.in-Async.body c.in-Async.is)
+
+pub add_expr-returns-in-If : goal.add_expr-returns-in-If
+add_expr-returns-in-If g t c =
+    adds (adds_on c.add_branches-branches.ensures c.add_else.ensures)
+    (branches.if_expr c.args.point _ c.in-If.branches _ c.in-If.otherwise c.in-If.is c.as_slice-in-If.ensures)
+
+pub add_expr-returns-in-Match : goal.add_expr-returns-in-Match
+add_expr-returns-in-Match g t c =
+    adds (adds_on c.add_condition-head.ensures c.add_arms.ensures)
+    (branches.match_expr c.args.point _ c.in-Match.scrutinee _ _ c.in-Match.attrs _ c.in-Match.arms _ c.in-Match.is
+    c.get-in-Match.ensures refl c.as_slice-in-Match.ensures c.as_slice-in-Match-2.ensures)
+
+pub add_expr-returns-in-Loop : goal.add_expr-returns-in-Loop
+add_expr-returns-in-Loop g t c =
+    adds (adds_on c.add_labelled-label-in-Loop.ensures (adds_on c.add_text-word-in-Loop.ensures c.add_block-in-Loop.ensures))
+    (branches.loop_expr c.args.point _ c.in-Loop.label c.in-Loop.body c.in-Loop.is)
+
+pub add_expr-returns-in-While : goal.add_expr-returns-in-While
+add_expr-returns-in-While g t c =
+    adds (adds_on c.add_labelled-label-in-While.ensures (adds_on c.add_condition-head-in-While.ensures c.add_block-in-While.ensures))
+    (branches.while_expr c.args.point _ c.in-While.label c.in-While.pat c.in-While.condition _ c.in-While.body c.in-While.is
+    c.get-in-While.ensures)
+
+pub add_expr-add_end-head-requires : goal.add_expr-add_end-head-requires
+add_expr-add_end-head-requires g t c =
+    branches.may_end_for (about_pat c.in-For.pat).told.form (expr_told c.get-in-For.result.now)
+    (adds_on c.add_group-group.ensures (adds_on c.add_text-word-in-For.ensures (adds_on c.add_pat-pat.ensures
+    (adds_on c.add_text-word-in-For-2.ensures c.add_expr-iterated.ensures))))
+
+pub add_expr-returns-in-For : goal.add_expr-returns-in-For
+add_expr-returns-in-For g t c =
+    adds (adds_on c.add_labelled-label-in-For.ensures (adds_on c.add_group-group.ensures (adds_on c.add_text-word-in-For.ensures
+    (adds_on c.add_pat-pat.ensures (adds_on c.add_text-word-in-For-2.ensures (adds_on c.add_expr-iterated.ensures
+    (adds_on c.add_end-head.ensures c.add_block-in-For.ensures)))))))
+    (branches.for_expr c.args.point _ c.in-For.label c.in-For.pat c.in-For.iterated _ c.in-For.body c.in-For.is
+    c.get-in-For.ensures)
+
+pub add_expr-returns-in-Closure : goal.add_expr-returns-in-Closure
+add_expr-returns-in-Closure g t c =
+    adds (adds_on c.add_closure_head-head.ensures (adds_on c.add_text-blank.ensures c.add_expr-in-Closure.ensures))
+    (branches.closure_expr c.args.point _ c.in-Closure.moves c.in-Closure.params _ c.in-Closure.body _ c.in-Closure.is
+    c.as_slice-in-Closure.ensures c.get-in-Closure.ensures)
+
+pub add_expr-returns-in-TypedClosure : goal.add_expr-returns-in-TypedClosure
+add_expr-returns-in-TypedClosure g t c =
+    adds (adds_on c.add_closure_head-head-in-TypedClosure.ensures (adds_on c.add_text-arrow.ensures
+    (adds_on c.add_type-output.ensures c.add_block-in-TypedClosure.ensures)))
+    (branches.typed_closure_expr c.args.point _ c.in-TypedClosure.moves c.in-TypedClosure.params _ c.in-TypedClosure.output
+    c.in-TypedClosure.body c.in-TypedClosure.is c.as_slice-in-TypedClosure.ensures)
+
+-- ---- items
+
+pub add_item-returns : goal.add_item-returns
+add_item-returns g t c =
+    adds (adds_on c.add_attrs-attrs.ensures c.add_kind.ensures) (item_parts c.args.item.now _ c.as_slice.ensures)
+
+pub add_kind-returns-in-ExternCrate : goal.add_kind-returns-in-ExternCrate
+add_kind-returns-in-ExternCrate g t c =
+    adds c.add_extern_crate.ensures (kind_of c.args.vis.now c.in-ExternCrate.is (extern_crate_is _))
+
+pub add_kind-returns-in-Import : goal.add_kind-returns-in-Import
+add_kind-returns-in-Import g t c =
+    adds c.add_ended.ensures
+    (ap (λ tree. head_row c.args.vis.now (import_head tree) ++ stream_of (piece semicolon)) c.get.ensures
+    ∙ headed c.args.vis.now (about_import c.in-Import.tree) steady_semicolon
+    ∙ kind_of c.args.vis.now c.in-Import.is (import_is _))
+
+pub add_kind-returns-in-FileModule : goal.add_kind-returns-in-FileModule
+add_kind-returns-in-FileModule g t c =
+    adds c.add_ended-in-FileModule.ensures
+    (headed c.args.vis.now (about_file_module c.in-FileModule.name) steady_semicolon
+    ∙ kind_of c.args.vis.now c.in-FileModule.is (file_module_is _))
+
+pub add_kind-returns-in-Module : goal.add_kind-returns-in-Module
+add_kind-returns-in-Module g t c =
+    adds (adds_on c.add_head-head.ensures c.add_body.ensures)
+    (head_body c.args.vis.now (module_head c.in-Module.name) c.in-Module.attrs _ c.in-Module.items _
+    c.as_slice.ensures c.as_slice-in-Module.ensures
+    ∙ kind_of c.args.vis.now c.in-Module.is (module_is _ _ _))
+
+pub add_kind-returns-in-Function : goal.add_kind-returns-in-Function
+add_kind-returns-in-Function g t c =
+    adds c.add_function.ensures
+    (headed c.args.vis.now (about_function Module c.in-Function.head c.in-Function.wheres (option_map about_block c.in-Function.body))
+    (steady_function c.in-Function.wheres c.in-Function.body)
+    ∙ kind_of c.args.vis.now c.in-Function.is (function_is _ _ _))
+
+pub add_function-returns-in-None : goal.add_function-returns-in-None
+add_function-returns-in-None g t c =
+    adds c.add_ended_clause.ensures (no_body _ c.args.wheres.now c.args.body.now c.in-None.is)
+
+pub add_function-returns-in-Some : goal.add_function-returns-in-Some
+add_function-returns-in-Some g t c =
+    adds (adds_on c.add_clause-clause.ensures c.add_block.ensures)
+    (some_body (head_row c.args.vis.now (fn_head_form c.args.head.now)) c.args.wheres.now _ c.args.body.now _ c.in-Some.is c.leads.ensures)
+
+pub add_kind-returns-in-Alias : goal.add_kind-returns-in-Alias
+add_kind-returns-in-Alias g t c = adds c.add_alias.ensures (kind_of c.args.vis.now c.in-Alias.is (alias_is _))
+
+pub add_kind-returns-in-Struct : goal.add_kind-returns-in-Struct
+add_kind-returns-in-Struct g t c = adds c.add_struct.ensures (kind_of c.args.vis.now c.in-Struct.is (struct_is _))
+
+pub add_kind-returns-in-Union : goal.add_kind-returns-in-Union
+add_kind-returns-in-Union g t c = adds c.add_union.ensures (kind_of c.args.vis.now c.in-Union.is (union_is _))
+
+pub add_kind-returns-in-Enum : goal.add_kind-returns-in-Enum
+add_kind-returns-in-Enum g t c = adds c.add_enum.ensures (kind_of c.args.vis.now c.in-Enum.is (enum_is _))
+
+pub add_kind-returns-in-Value : goal.add_kind-returns-in-Value
+add_kind-returns-in-Value g t c =
+    adds c.add_valued.ensures
+    (headed c.args.vis.now (about_value Module c.in-Value.head (option_map about_expr c.in-Value.value)) steady_semicolon
+    ∙ kind_of c.args.vis.now c.in-Value.is (value_is _ _))
+
+pub add_kind-returns-in-Trait : goal.add_kind-returns-in-Trait
+add_kind-returns-in-Trait g t c =
+    adds (adds_on c.add_clause-clause.ensures c.add_body-in-Trait.ensures)
+    (clause_body c.args.vis.now (trait_head_form c.in-Trait.head) c.in-Trait.wheres _ c.in-Trait.attrs _ c.in-Trait.items _
+    c.leads.ensures c.as_slice-in-Trait.ensures c.as_slice-in-Trait-2.ensures
+    ∙ kind_of c.args.vis.now c.in-Trait.is (trait_is _ _ _ _))
+
+pub add_kind-returns-in-Impl : goal.add_kind-returns-in-Impl
+add_kind-returns-in-Impl g t c =
+    adds (adds_on c.add_clause-clause-in-Impl.ensures c.add_body-in-Impl.ensures)
+    (clause_body c.args.vis.now (impl_head_form c.in-Impl.head) c.in-Impl.wheres _ c.in-Impl.attrs _ c.in-Impl.items _
+    c.leads-in-Impl.ensures c.as_slice-in-Impl.ensures c.as_slice-in-Impl-2.ensures
+    ∙ kind_of c.args.vis.now c.in-Impl.is (impl_is _ _ _ _))
+
+pub add_kind-returns-in-Foreign : goal.add_kind-returns-in-Foreign
+add_kind-returns-in-Foreign g t c =
+    adds (adds_on c.add_foreign_head-head.ensures c.add_body-in-Foreign.ensures)
+    (head_body c.args.vis.now (foreign_head c.in-Foreign.is_unsafe c.in-Foreign.abi) c.in-Foreign.attrs _
+    c.in-Foreign.items _ c.as_slice-in-Foreign.ensures c.as_slice-in-Foreign-2.ensures
+    ∙ kind_of c.args.vis.now c.in-Foreign.is (foreign_is _ _ _ _))
+
+pub add_kind-returns-in-MacroRules : goal.add_kind-returns-in-MacroRules
+add_kind-returns-in-MacroRules g t c =
+    adds c.add_macro_rules.ensures (kind_of c.args.vis.now c.in-MacroRules.is (rules_is _ _))
+
+pub add_kind-returns-in-Call : goal.add_kind-returns-in-Call
+add_kind-returns-in-Call g t c = adds c.add_call_item.ensures (kind_of c.args.vis.now c.in-Call.is (call_is _))
+
+pub add_body-returns-then-both : goal.add_body-returns-then-both
+add_body-returns-then-both g t c =
+    adds c.add_either.ensures
+    (bare_body c.args.lead (map attr_form c.args.attrs.now ++ map form_of_item c.args.items.now) _
+    (bare_is form_of_item c.args.attrs.now c.args.items.now _ _ _ c.both.ensures c.is_empty.ensures c.is_empty-2.ensures) c.if-both.true)
+
+pub add_body-close_body-requires : goal.add_body-close_body-requires
+add_body-close_body-requires g t c =
+    may_close_body c.args.lead (each H (map attr_form c.args.attrs.now)) (each H (map form_of_item c.args.items.now))
+    (adds_on c.open_body-opened.ensures (adds_on c.add_inner_attrs-attrs.ensures c.add_lines-items.ensures))
+
+pub add_body-returns : goal.add_body-returns
+add_body-returns g t c =
+    adds (adds_on c.open_body-opened.ensures
+    (adds_on c.add_inner_attrs-attrs.ensures (adds_on c.add_lines-items.ensures c.close_body.ensures)))
+    (full_body c.args.lead (map attr_form c.args.attrs.now) (map form_of_item c.args.items.now) _
+    (bare_is form_of_item c.args.attrs.now c.args.items.now _ _ _ c.both.ensures c.is_empty.ensures c.is_empty-2.ensures) c.if-both.false)
+
+pub add_lines-loop-item-preserved : goal.add_lines-loop-item-preserved
+add_lines-loop-item-preserved g t c =
+    adds (adds_on c.loop-item.invariant (adds_on c.add_break-done.ensures c.add_item-done.ensures))
+    (turn form_of_item line line c.args.items.now _ _ c.loop-item-test.true c.item-item.is _ (line_before _ _))
+
+pub add_lines-returns : goal.add_lines-returns
+add_lines-returns g t c =
+    adds c.loop-item.invariant
+    (all_turns (λ (items : List Item). row line line (map form_of_item items)) c.args.items.now _ c.loop-item-test.false
+    ∙ lines_put (map form_of_item c.args.items.now))
+
+pub add_valued-add_end-whole-requires : goal.add_valued-add_end-whole-requires
+add_valued-add_end-whole-requires g t c =
+    may_end_head c.args.vis.now (Part (value_head_form c.args.head.now) (value_form (option_map about_expr c.args.value.now)))
+    (adds_on c.open_head-opened.ensures
+    (adds (adds_on c.add-head.ensures c.add_value-value.ensures)
+    (valued_head c.args.head.now (option_map about_expr c.args.value.now))))
+
+pub add_valued-returns : goal.add_valued-returns
+add_valued-returns g t c =
+    adds_on (adds_on c.open_head-opened.ensures
+    (adds_on (adds (adds_on c.add-head.ensures c.add_value-value.ensures)
+    (valued_head c.args.head.now (option_map about_expr c.args.value.now)))
+    c.add_end-whole.ensures)) c.add_text.ensures
+
+pub add_value-returns-in-Some : goal.add_value-returns-in-Some
+add_value-returns-in-Some g t c =
+    adds (adds_on c.add_text-equals.ensures (adds_on c.add_break-lead.ensures c.add_expr.ensures))
+    (some_value c.args.value.now _ c.in-Some.is)
