@@ -115,7 +115,8 @@ pub block_body : (lead : Bool) (b : Block) (attrs : List Attr) (stmts : List Stm
 block_body lead b attrs stmts same sames =
     rw (same, sames) (sym (
     ap (λ (z : BlockFacts). stream_of (z.form lead)) (block_is b)
-    ∙ same_lines lead (is_plain b.attrs) false _ _
+    ∙ same_lines lead (is_plain b.attrs) false (attrs_before (map attr_form b.attrs) ++ map stmt_form (map about_stmt b.stmts))
+    (map attr_form b.attrs ++ map stmt_told b.stmts)
     (before_some b.attrs (map stmt_form (map about_stmt b.stmts)) ∙ stmts_some b.attrs b.stmts)
     (before_lines b.attrs (map stmt_form (map about_stmt b.stmts))
     ∙ sym (further_joined line (map attr_form b.attrs) (map stmt_form (map about_stmt b.stmts)))
@@ -145,7 +146,7 @@ body_steady lead plain es false = refl
 pub steady_block : (lead : Bool) (b : Block) → Steady ((about_block b).form lead)
 steady_block lead b q =
     ap (λ (z : BlockFacts). fed q (z.form lead) []) (block_is b)
-    ∙ body_steady lead (is_plain b.attrs) _ q
+    ∙ body_steady lead (is_plain b.attrs) (attrs_before (map attr_form b.attrs) ++ map stmt_form (map about_stmt b.stmts)) q
     ∙ sym (ap (λ (z : BlockFacts). stream_of (z.form lead)) (block_is b))
 
 -- ---- blocks of one expression
@@ -161,13 +162,13 @@ by_attrs [] (s ∷ []) q = by s.bare q
     by : (b : Bool) → Steady (if b then soft s.form else block_form [] (s ∷ []) true)
     by true r = soft_steady s.form r
     by false r = body_steady true true (stmt_form s ∷ []) r
-by_attrs [] (s ∷ t ∷ more) q = body_steady true true _ q
-by_attrs (a ∷ attrs) stmts q = body_steady true false _ q
+by_attrs [] (s ∷ t ∷ more) q = body_steady true true (map stmt_form (s ∷ t ∷ more)) q
+by_attrs (a ∷ attrs) stmts q = body_steady true false (attrs_before (map attr_form (a ∷ attrs)) ++ map stmt_form stmts) q
 
 pub steady_soft : (b : Block) → Steady (about_block b).soft
 steady_soft b q =
     ap (λ (z : BlockFacts). fed q z.soft []) (block_is b)
-    ∙ by_attrs b.attrs _ q
+    ∙ by_attrs b.attrs (map about_stmt b.stmts) q
     ∙ sym (ap (λ (z : BlockFacts). stream_of z.soft) (block_is b))
 
 brace_fed : (q : Bool) → fed q (piece (closer Brace ∷ [])) [] ≡ tok.Text (codes "}") ∷ []

@@ -31,8 +31,8 @@ use Rattle.lay_node.specs.declared.types.PathStyle.TheVariants.{Code}
 use Rattle.lay_node.specs.declared.types.Ty.{Ty}
 use Rattle.lay_node.specs.declared.types.Ty.TheVariants as ty
 use Rattle.lay_node.proofs.nodes.TypesLaws.{IsGlobal, IsLocal, IsQualified, PathStartView, about_segment, args_round_is, path_is, start_global_is, start_local_is, start_qualified_is, start_view, type_call_is}
-use Rattle.lay_tree.specs.nodes.Blocks.{block_form, dropped_if, soft_form, stmt_form}
-use Rattle.lay_tree.specs.nodes.Code.{about_arm, about_block, about_branch, about_expr, about_field_expr, about_step}
+use Rattle.lay_tree.specs.nodes.Blocks.{attrs_before, block_form, dropped_if, is_plain, soft_form, stmt_form}
+use Rattle.lay_tree.specs.nodes.Code.{about_arm, about_block, about_branch, about_expr, about_field_expr, about_step, about_stmt}
 use Rattle.lay_tree.specs.nodes.CodeFacts.{BlockFacts, BranchFacts, StmtFacts}
 use Rattle.lay_tree.specs.nodes.Exprs.{ExprFacts, arm_forms, base_form, branches_form, break_if, closure_head, condition_form, else_branch_form, end_form, expr_forms, group_if, is_method, label_form, labelled, methods, more_branches, operand_form, operands_form, prefix_bits, prefixes_form, steps_form, targets_form, tuple_form, types_form}
 use Rattle.lay_tree.specs.declared.blocks.Arm.{Arm}
@@ -347,7 +347,8 @@ body_shuts q false false (e ∷ es) = refl
 -- Nor does a block.
 block_shuts : (q lead : Bool) (b : Block) → false ≡ ends_behind_point q ((about_block b).form lead)
 block_shuts q lead b =
-    body_shuts q lead _ _ ∙ sym (ap (λ (z : BlockFacts). ends_behind_point q (z.form lead)) (block_is b))
+    body_shuts q lead (is_plain b.attrs) (attrs_before (map attr_form b.attrs) ++ map stmt_form (map about_stmt b.stmts))
+    ∙ sym (ap (λ (z : BlockFacts). ends_behind_point q (z.form lead)) (block_is b))
 
 soft_by : (q : Bool) (attrs : List Attr) (stmts : List StmtFacts) → false ≡ ends_behind_point q (soft_form attrs stmts)
 soft_by q [] [] = body_shuts q true true []
@@ -356,11 +357,11 @@ soft_by q [] (s ∷ []) = by s.bare
     by : (b : Bool) → false ≡ ends_behind_point q (if b then soft s.form else block_form [] (s ∷ []) true)
     by true = refl
     by false = body_shuts q true true (stmt_form s ∷ [])
-soft_by q [] (s ∷ t ∷ more) = body_shuts q true true _
-soft_by q (a ∷ attrs) stmts = body_shuts q true false _
+soft_by q [] (s ∷ t ∷ more) = body_shuts q true true (map stmt_form (s ∷ t ∷ more))
+soft_by q (a ∷ attrs) stmts = body_shuts q true false (attrs_before (map attr_form (a ∷ attrs)) ++ map stmt_form stmts)
 
 soft_shuts : (q : Bool) (b : Block) → false ≡ ends_behind_point q (about_block b).soft
-soft_shuts q b = soft_by q b.attrs _ ∙ sym (ap (λ (z : BlockFacts). ends_behind_point q z.soft) (block_is b))
+soft_shuts q b = soft_by q b.attrs (map about_stmt b.stmts) ∙ sym (ap (λ (z : BlockFacts). ends_behind_point q z.soft) (block_is b))
 
 -- A label before it changes nothing.
 labelled_shuts : (q : Bool) (label : Option Lifetime) (f : Form) → ((r : Bool) → false ≡ ends_behind_point r f)
