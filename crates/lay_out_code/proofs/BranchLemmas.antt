@@ -94,18 +94,18 @@ branch_parts b =
     ∙ sym (ap (λ (z : BranchFacts). stream_of (I0 (Piece (keyword (codes "if") ∷ Blank ∷ []) (Part z.condition Done)) (Part z.soft Done)))
     (branch_is b))
 
-more_fed : (q : Bool) (bs : List Branch) (f : Form) → Steady f
+more_fed : (bs : List Branch) (q : Bool) (f : Form) → Steady f
     → further else_between (map branch_told bs) ++ stream_of f ≡ fed q (more_branches (map about_branch bs) f) []
-more_fed q [] f any = sym (any q)
-more_fed true (b ∷ bs) f any =
+more_fed [] q f any = sym (any q)
+more_fed (b ∷ bs) true f any =
     ap (λ (s : List Tok). else_between ++ s)
     (append_assoc (stream_of (branch_told b)) (further else_between (map branch_told bs)) (stream_of f)
-    ∙ ap (λ (s : List Tok). stream_of (branch_told b) ++ s) (more_fed _ bs f any)
+    ∙ ap (λ (s : List Tok). stream_of (branch_told b) ++ s) (more_fed bs _ f any)
     ∙ sym (fed_more false (branch_told b) _))
-more_fed false (b ∷ bs) f any =
+more_fed (b ∷ bs) false f any =
     ap (λ (s : List Tok). else_between ++ s)
     (append_assoc (stream_of (branch_told b)) (further else_between (map branch_told bs)) (stream_of f)
-    ∙ ap (λ (s : List Tok). stream_of (branch_told b) ++ s) (more_fed _ bs f any)
+    ∙ ap (λ (s : List Tok). stream_of (branch_told b) ++ s) (more_fed bs _ f any)
     ∙ sym (fed_more false (branch_told b) _))
 
 -- branches, and what stands behind them
@@ -114,7 +114,7 @@ branches_fed : (bs : List Branch) (f : Form) → Steady f
 branches_fed [] f any = refl
 branches_fed (b ∷ bs) f any =
     append_assoc (stream_of (branch_told b)) (further else_between (map branch_told bs)) (stream_of f)
-    ∙ ap (λ (s : List Tok). stream_of (branch_told b) ++ s) (more_fed _ bs f any)
+    ∙ ap (λ (s : List Tok). stream_of (branch_told b) ++ s) (more_fed bs _ f any)
     ∙ sym (fed_more false (branch_told b) _)
 
 steady_branches : (bs : List Branch) (f : Form) → Steady f → Steady (branches_form (map about_branch bs) f)

@@ -374,23 +374,23 @@ branch_shuts : (q : Bool) (b : Branch) → false ≡ ends_behind_point q (about_
 branch_shuts q b = soft_shuts q b.body ∙ sym (ap (λ (z : BranchFacts). ends_behind_point q z.soft) (branch_is b))
 
 -- further branches, and the block behind them
-more_end : (q : Bool) (bs : List Branch) (otherwise : Option Block) → false ≡ q
+more_end : (bs : List Branch) (q : Bool) (otherwise : Option Block) → false ≡ q
     → false ≡ ends_behind_point q (more_branches (map about_branch bs) (else_branch_form (option_map about_block otherwise)))
-more_end q [] None e = e
-more_end q [] (Some b) e = soft_shuts false b
-more_end q (b ∷ bs) otherwise e = more_end _ bs otherwise (branch_shuts _ b)
+more_end [] q None e = e
+more_end [] q (Some b) e = soft_shuts false b
+more_end (b ∷ bs) q otherwise e = more_end bs _ otherwise (branch_shuts _ b)
 
 -- Branches end in a point that stands before them where there are none.
 branches_end : (q : Bool) (bs : List Branch)
     → (q && (length bs == 0)) ≡ ends_behind_point q (branches_form (map about_branch bs) Done)
 branches_end true [] = refl
 branches_end false [] = refl
-branches_end q (b ∷ bs) = no_point q (length bs) ∙ more_end _ bs None (branch_shuts _ b)
+branches_end q (b ∷ bs) = no_point q (length bs) ∙ more_end bs _ None (branch_shuts _ b)
 
 branches_shut : (q : Bool) (bs : List Branch) (b : Block)
     → false ≡ ends_behind_point q (branches_form (map about_branch bs) (else_branch_form (Some (about_block b))))
 branches_shut q [] b = soft_shuts false b
-branches_shut q (x ∷ bs) b = more_end _ bs (Some b) (branch_shuts _ x)
+branches_shut q (x ∷ bs) b = more_end bs _ (Some b) (branch_shuts _ x)
 
 -- branches without an `else`, and with one
 pub if_point : (q : Bool) (x : Expr) (branches put : List Branch) (otherwise : Option Block) → x ≡ expr.If branches otherwise
