@@ -38,7 +38,11 @@ pub fn put_item<E: Emit>(out: &mut E, item: &Item) -> Result<(), E::Fault>
 
 /// An item.
 #[cycle(code)]
-pub fn add_item<E: Emit>(out: &mut E, before: Result<(), E::Fault>, item: &Item) -> Result<(), E::Fault>
+pub fn add_item<E: Emit>(
+    out: &mut E,
+    before: Result<(), E::Fault>,
+    item: &Item,
+) -> Result<(), E::Fault>
     ensures { Adds E.meanings before out.old (stream_of (form_of_item item.now)) result out.new }
 {
     let attrs = add_attrs(out, before, item.attrs.as_slice());

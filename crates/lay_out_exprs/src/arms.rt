@@ -6,11 +6,11 @@ ghost use Rattle.lay_tree.specs.nodes.Code.{about_expr};
 ghost use Rattle.lay_out_types.specs.Calls.{Adds};
 ghost use Rattle.lay_out_exprs.specs.Arms.{arm_closed, arm_opened, seen_as};
 
+use lay_layout::{Break, Mark};
 use lay_out_heads::calls::{add_break, add_inside};
 use lay_out_tokens::notation::{CLOSING_SOFT_BREAK, SOFT_BREAK};
 use lay_out_types::calls::add_text;
 use lay_out_types::lists::add_end;
-use lay_layout::{Break, Mark};
 use lay_stream::Emit;
 use lay_tree::Expr;
 
