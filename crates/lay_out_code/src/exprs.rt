@@ -1,28 +1,28 @@
 //! Expressions.
-ghost use Rattle.std.specs.Prelude.{◌==◌, [], ◌∷◌, ◌++◌, true, false, cond, map, codes, length, option_map};
-ghost use Rattle.lay_layout.specs.declared.layout.Tok.TheVariants as tok;
+ghost use Rattle.std.specs.Prelude.{◌==◌, [], ◌++◌, true, map, length, option_map};
 ghost use Rattle.lay_stream.specs.Fed.{Did};
 ghost use Rattle.lay_form.specs.Form.{Done};
 ghost use Rattle.lay_form.specs.Stream.{fed, stream_of};
-ghost use Rattle.lay_tree.specs.nodes.Exprs.{about_expr, about_field_expr, about_step, end_form, operand_form};
-ghost use Rattle.lay_tree.specs.nodes.Exprs.{operands_form, steps_form, targets_form, tuple_form};
-ghost use Rattle.lay_out_exprs.specs.Parts.{base_told, before_op, behind_op, expr_told, field_told};
+ghost use Rattle.lay_tree.specs.nodes.Code.{about_expr};
+ghost use Rattle.lay_tree.specs.nodes.Exprs.{end_form, operand_form, tuple_form};
+ghost use Rattle.lay_out_exprs.specs.Parts.{expr_told};
 ghost use Rattle.lay_out_types.specs.Calls.{Adds};
-ghost use Rattle.lay_out_types.specs.PatternRows.{braces_opened};
 ghost use Rattle.lay_out_types.specs.Rows.{comma_between, list_closed, list_opened, row};
 
-use crate::flags::{both, either};
-use crate::generics::add_generics;
-use crate::operators::{add_assignment, add_casts, add_label, add_operator, add_prefixes};
-use crate::points::{ends_in_point, operand_ends_in_point};
-use crate::steps::{
-    add_step_break, add_steps_end, add_steps_start, are_several_methods, is_method,
-};
-use lay_out_types::calls::{add_call, add_either, add_literal, add_text, add_tokens, add_word};
+use crate::blocks::{add_block, add_soft};
+use crate::branches::{add_arms, add_branches, add_condition, add_else};
+use crate::operands::{add_base, add_fields, add_operands, add_steps, add_targets};
+use lay_out_exprs::add_closure_head;
+use lay_out_exprs::blocks::add_labelled;
+use lay_out_exprs::flags::both;
+use lay_out_exprs::operators::{add_casts, add_label, add_prefixes};
+use lay_out_exprs::points::{ends_in_point, operand_ends_in_point};
+use lay_out_exprs::steps::{add_steps_end, add_steps_start, are_several_methods};
+use lay_out_types::calls::{add_call, add_if, add_literal, add_text, add_tokens};
 use lay_out_types::lists::{add_begin, add_close, add_end, add_lead};
-use lay_out_types::{add_attrs, add_brace, add_closing_brace, add_dots_behind, add_path};
+use lay_out_types::{add_closing_brace, add_dots_behind, add_group, add_pat, add_path, add_type};
 use lay_stream::Emit;
-use lay_tree::{Boxed, Expr, FieldExpr, Op, PathStyle, Step};
+use lay_tree::{Boxed, Expr, PathStyle};
 
 /// Feeds the layout of an expression.
 pub fn put_expr<E: Emit>(out: &mut E, node: &Expr) -> Result<(), E::Fault>
@@ -32,7 +32,7 @@ pub fn put_expr<E: Emit>(out: &mut E, node: &Expr) -> Result<(), E::Fault>
 }
 
 /// An expression. The flag says that a point stands before it.
-#[cycle(add_expr)]
+#[cycle(code)]
 pub fn add_expr<E: Emit>(
     out: &mut E,
     before: Result<(), E::Fault>,
@@ -116,6 +116,88 @@ pub fn add_expr<E: Emit>(
             let rest = add_steps(out, first, ends_in_point(point, base), several, steps);
             add_steps_end(out, rest, several)
         },
+        Expr::Block { label, body } => {
+            let label = add_labelled(out, before, label);
+            add_block(out, label, false, body)
+        },
+        Expr::Unsafe { body } => {
+            let word = add_text(out, before, b"unsafe");
+            add_soft(out, word, body)
+        },
+        Expr::ConstBlock { body } => {
+            let word = add_text(out, before, b"const");
+            add_soft(out, word, body)
+        },
+        Expr::Async { moves, body } => {
+            let word = add_text(out, before, b"async");
+            let word = add_if(out, word, *moves, b" move");
+            add_block(out, word, true, body)
+        },
+        Expr::If {
+            branches,
+            otherwise,
+        } => {
+            let branches = add_branches(out, before, branches.as_slice());
+            add_else(out, branches, otherwise)
+        },
+        Expr::Match {
+            scrutinee,
+            attrs,
+            arms,
+        } => {
+            let head = add_condition(out, before, b"match ", &None, scrutinee.get());
+            add_arms(out, head, attrs.as_slice(), arms.as_slice())
+        },
+        Expr::Loop { label, body } => {
+            let label = add_labelled(out, before, label);
+            let word = add_text(out, label, b"loop");
+            add_block(out, word, true, body)
+        },
+        Expr::While {
+            label,
+            pat,
+            condition,
+            body,
+        } => {
+            let label = add_labelled(out, before, label);
+            let head = add_condition(out, label, b"while ", pat, condition.get());
+            add_block(out, head, true, body)
+        },
+        Expr::For {
+            label,
+            pat,
+            iterated,
+            body,
+        } => {
+            let label = add_labelled(out, before, label);
+            let group = add_group(out, label);
+            let word = add_text(out, group, b"for ");
+            let pat = add_pat(out, word, pat);
+            let word = add_text(out, pat, b" in ");
+            let iterated = add_expr(out, word, false, iterated.get());
+            let head = add_end(out, iterated);
+            add_block(out, head, true, body)
+        },
+        Expr::Closure {
+            moves,
+            params,
+            body,
+        } => {
+            let head = add_closure_head(out, before, *moves, params.as_slice());
+            let blank = add_text(out, head, b" ");
+            add_expr(out, blank, false, body.get())
+        },
+        Expr::TypedClosure {
+            moves,
+            params,
+            output,
+            body,
+        } => {
+            let head = add_closure_head(out, before, *moves, params.as_slice());
+            let arrow = add_text(out, head, b" -> ");
+            let output = add_type(out, arrow, output);
+            add_block(out, output, true, body)
+        },
         Expr::Return { operand } => {
             let word = add_text(out, before, b"return");
             add_operand(out, word, operand)
@@ -129,7 +211,7 @@ pub fn add_expr<E: Emit>(
 }
 
 /// A tuple, which has a comma behind a single element.
-#[cycle(add_expr)]
+#[cycle(code)]
 fn add_tuple<E: Emit>(
     out: &mut E,
     before: Result<(), E::Fault>,
@@ -149,8 +231,8 @@ fn add_tuple<E: Emit>(
 }
 
 /// Expressions in brackets, with a `,` between them. Without an expression the brackets are one text.
-#[cycle(add_expr)]
-fn add_exprs<E: Emit>(
+#[cycle(code)]
+pub fn add_exprs<E: Emit>(
     out: &mut E,
     before: Result<(), E::Fault>,
     exprs: &[Expr],
@@ -169,178 +251,9 @@ fn add_exprs<E: Emit>(
     add_close(out, done, true, exprs.is_empty(), both, closer)
 }
 
-/// The fields of a struct literal, behind what opens their braces.
-#[cycle(add_expr)]
-fn add_fields<E: Emit>(
-    out: &mut E,
-    before: Result<(), E::Fault>,
-    fields: &[FieldExpr],
-) -> Result<(), E::Fault>
-    ensures { Adds E.meanings before out.old (row braces_opened comma_between (map field_told fields.now)) result out.new }
-{
-    let mut done = before;
-    for (index, field) in fields.iter().enumerate() {
-        done = add_brace(out, done, index == 0);
-        done = add_field(out, done, field);
-    }
-    done
-}
-
-/// The `..` behind the fields of a struct literal, and its base, if it has one.
-#[cycle(add_expr)]
-fn add_base<E: Emit>(
-    out: &mut E,
-    before: Result<(), E::Fault>,
-    first: bool,
-    base: &Option<Boxed<Expr>>,
-) -> Result<(), E::Fault>
-    ensures { Adds E.meanings before out.old
-        (cond first braces_opened comma_between ++ (tok.Text (codes "..") ∷ base_told base.now)) result out.new }
-{
-    let lead = add_brace(out, before, first);
-    let dots = add_text(out, lead, b"..");
-    add_optional(out, dots, true, base)
-}
-
-/// A field of a struct literal, behind its attributes.
-#[cycle(add_expr)]
-fn add_field<E: Emit>(
-    out: &mut E,
-    before: Result<(), E::Fault>,
-    field: &FieldExpr,
-) -> Result<(), E::Fault>
-    ensures { Adds E.meanings before out.old (stream_of (about_field_expr field.now).form) result out.new }
-{
-    match field {
-        FieldExpr::Named { attrs, name, value } => {
-            let attrs = add_attrs(out, before, attrs.as_slice());
-            let name = add_word(out, attrs, name.raw, &name.text);
-            let colon = add_text(out, name, b": ");
-            add_expr(out, colon, false, value)
-        },
-        FieldExpr::Numbered {
-            attrs,
-            index,
-            value,
-        } => {
-            let attrs = add_attrs(out, before, attrs.as_slice());
-            let index = add_text(out, attrs, index.as_bytes());
-            let colon = add_text(out, index, b": ");
-            add_expr(out, colon, false, value)
-        },
-        FieldExpr::Short { attrs, name } => {
-            let attrs = add_attrs(out, before, attrs.as_slice());
-            add_word(out, attrs, name.raw, &name.text)
-        },
-    }
-}
-
-/// The operands behind the first one, each behind its operator.
-#[cycle(add_expr)]
-fn add_operands<E: Emit>(
-    out: &mut E,
-    before: Result<(), E::Fault>,
-    operands: &[(Op, Expr)],
-) -> Result<(), E::Fault>
-    ensures { Adds E.meanings before out.old (stream_of (operands_form (map behind_op operands.now))) result out.new }
-{
-    let mut done = before;
-    for (op, operand) in operands {
-        done = add_operator(out, done, *op);
-        done = add_expr(out, done, false, operand);
-    }
-    done
-}
-
-/// The targets of an assignment, each before its operator.
-#[cycle(add_expr)]
-fn add_targets<E: Emit>(
-    out: &mut E,
-    before: Result<(), E::Fault>,
-    point: bool,
-    targets: &[(Expr, Op)],
-) -> Result<(), E::Fault>
-    ensures { Adds E.meanings before out.old (fed point (targets_form (map before_op targets.now) Done) []) result out.new }
-{
-    let mut done = before;
-    let mut point = point;
-    for (target, op) in targets {
-        done = add_expr(out, done, point, target);
-        done = add_assignment(out, done, *op);
-        point = false;
-    }
-    done
-}
-
-/// Steps. The flags say that a point stands before them, and that several of them are methods: then a break stands
-/// before each method but the first.
-#[cycle(add_expr)]
-fn add_steps<E: Emit>(
-    out: &mut E,
-    before: Result<(), E::Fault>,
-    point: bool,
-    several: bool,
-    steps: &[Step],
-) -> Result<(), E::Fault>
-    ensures { let form = steps_form several false (map about_step steps.now) in
-        Adds E.meanings before out.old (fed point form []) result out.new }
-{
-    let mut done = before;
-    let mut point = point;
-    let mut behind = false;
-    for step in steps {
-        let method = is_method(step);
-        done = add_step_break(out, done, several, behind, method);
-        done = add_step(out, done, point, step);
-        point = false;
-        behind = either(behind, method);
-    }
-    done
-}
-
-/// A step.
-#[cycle(add_expr)]
-fn add_step<E: Emit>(
-    out: &mut E,
-    before: Result<(), E::Fault>,
-    point: bool,
-    step: &Step,
-) -> Result<(), E::Fault>
-    ensures { Adds E.meanings before out.old (fed point (about_step step.now).form []) result out.new }
-{
-    match step {
-        Step::Field { name } => {
-            let dot = add_either(out, before, point, b" .", b".");
-            add_word(out, dot, name.raw, &name.text)
-        },
-        Step::TupleIndex { index } => {
-            let dot = add_either(out, before, point, b" .", b".");
-            add_text(out, dot, index.as_bytes())
-        },
-        Step::Method {
-            name,
-            generics,
-            args,
-        } => {
-            let dot = add_either(out, before, point, b" .", b".");
-            let name = add_word(out, dot, name.raw, &name.text);
-            let generics = add_generics(out, name, generics);
-            add_exprs(out, generics, args.as_slice(), b"(", b"()", b")")
-        },
-        Step::Apply { args } => add_exprs(out, before, args.as_slice(), b"(", b"()", b")"),
-        Step::Index { index } => {
-            let opener = add_lead(out, before, true, b"[");
-            let index = add_expr(out, opener, false, index);
-            add_close(out, index, false, false, b"[]", b"]")
-        },
-        Step::Try => add_text(out, before, b"?"),
-        Step::Await => add_either(out, before, point, b" .await", b".await"),
-    }
-}
-
 /// An expression, if there is one.
-#[cycle(add_expr)]
-fn add_optional<E: Emit>(
+#[cycle(code)]
+pub fn add_optional<E: Emit>(
     out: &mut E,
     before: Result<(), E::Fault>,
     point: bool,
@@ -355,7 +268,7 @@ fn add_optional<E: Emit>(
 }
 
 /// The operand of a `return` or a `break` behind its blank, if there is one.
-#[cycle(add_expr)]
+#[cycle(code)]
 fn add_operand<E: Emit>(
     out: &mut E,
     before: Result<(), E::Fault>,
