@@ -1,5 +1,5 @@
 //! Conditions, branches and arms.
-ghost use Rattle.std.specs.Prelude.{[], ◌∷◌, ◌++◌, map, option_map};
+ghost use Rattle.std.specs.Prelude.{Bool, [], ◌∷◌, ◌++◌, map, option_map};
 ghost use Rattle.lay_layout.specs.declared.layout.Tok.TheVariants as tok;
 ghost use Rattle.lay_stream.specs.Fed.{Did};
 ghost use Rattle.lay_form.specs.Form.{Blank};
