@@ -76,18 +76,18 @@ same_lines lead plain other (w ∷ ws) (f ∷ fs) e same =
     ∙ sym (skips lead other f fs)
 
 -- the last attribute, and what may stand behind it
-before_lines : (as : List Attr) (fs : List Form)
-    → further line (attrs_before (map attr_form as) ++ fs) ≡ further line (map attr_form as ++ fs)
+before_lines : (marks : List Attr) (fs : List Form)
+    → further line (attrs_before (map attr_form marks) ++ fs) ≡ further line (map attr_form marks ++ fs)
 before_lines [] fs = refl
 before_lines (a ∷ []) fs = refl
-before_lines (a ∷ b ∷ as) fs =
-    ap (λ (s : List Tok). line ++ (stream_of (attr_form a) ++ s)) (before_lines (b ∷ as) fs)
+before_lines (a ∷ b ∷ marks) fs =
+    ap (λ (s : List Tok). line ++ (stream_of (attr_form a) ++ s)) (before_lines (b ∷ marks) fs)
 
-before_some : (as : List Attr) (fs : List Form)
-    → no_forms (attrs_before (map attr_form as) ++ fs) ≡ no_forms (map attr_form as ++ fs)
+before_some : (marks : List Attr) (fs : List Form)
+    → no_forms (attrs_before (map attr_form marks) ++ fs) ≡ no_forms (map attr_form marks ++ fs)
 before_some [] fs = refl
 before_some (a ∷ []) fs = refl
-before_some (a ∷ b ∷ as) fs = refl
+before_some (a ∷ b ∷ marks) fs = refl
 
 -- a statement, and what may stand behind it
 stmt_alone : (s : StmtFacts) → stream_of (stmt_form s) ≡ stream_of s.form
@@ -103,11 +103,11 @@ stmts_lines (x ∷ stmts) =
     ap (λ (s : List Tok). line ++ (s ++ further line (map stmt_form (map about_stmt stmts)))) (stmt_alone (about_stmt x))
     ∙ ap (λ (s : List Tok). line ++ (stream_of (stmt_told x) ++ s)) (stmts_lines stmts)
 
-stmts_some : (as : List Attr) (stmts : List Stmt)
-    → no_forms (map attr_form as ++ map stmt_form (map about_stmt stmts)) ≡ no_forms (map attr_form as ++ map stmt_told stmts)
+stmts_some : (marks : List Attr) (stmts : List Stmt)
+    → no_forms (map attr_form marks ++ map stmt_form (map about_stmt stmts)) ≡ no_forms (map attr_form marks ++ map stmt_told stmts)
 stmts_some [] [] = refl
 stmts_some [] (x ∷ stmts) = refl
-stmts_some (a ∷ as) stmts = refl
+stmts_some (a ∷ marks) stmts = refl
 
 -- a block, as the body of its attributes and statements
 pub block_body : (lead : Bool) (b : Block) (attrs : List Attr) (stmts : List Stmt) → attrs ≡ b.attrs → stmts ≡ b.stmts

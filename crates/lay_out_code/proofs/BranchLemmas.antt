@@ -189,18 +189,18 @@ arm_parts a put braces last same is =
 pub any_arm : (a : Arm) (last : Bool) → stream_of (arm_told a) ≡ stream_of ((about_arm a).form last)
 any_arm a last = sym (arm_parts a a.attrs _ true refl refl) ∙ arm_parts a a.attrs _ last refl refl
 
-arms_lines : (as : List Attr) (arms : List Arm)
-    → further line (map attr_form as ++ map arm_told arms) ≡ further line (map attr_form as ++ arm_forms (map about_arm arms))
-arms_lines (a ∷ as) arms = ap (λ (s : List Tok). line ++ (stream_of (attr_form a) ++ s)) (arms_lines as arms)
+arms_lines : (marks : List Attr) (arms : List Arm)
+    → further line (map attr_form marks ++ map arm_told arms) ≡ further line (map attr_form marks ++ arm_forms (map about_arm arms))
+arms_lines (a ∷ marks) arms = ap (λ (s : List Tok). line ++ (stream_of (attr_form a) ++ s)) (arms_lines marks arms)
 arms_lines [] [] = refl
 arms_lines [] (x ∷ []) = refl
 arms_lines [] (x ∷ y ∷ more) =
     ap (λ (s : List Tok). line ++ (s ++ further line (map arm_told (y ∷ more)))) (any_arm x false)
     ∙ ap (λ (s : List Tok). line ++ (stream_of ((about_arm x).form false) ++ s)) (arms_lines [] (y ∷ more))
 
-arms_some : (as : List Attr) (arms : List Arm)
-    → no_forms (map attr_form as ++ map arm_told arms) ≡ no_forms (map attr_form as ++ arm_forms (map about_arm arms))
-arms_some (a ∷ as) arms = refl
+arms_some : (marks : List Attr) (arms : List Arm)
+    → no_forms (map attr_form marks ++ map arm_told arms) ≡ no_forms (map attr_form marks ++ arm_forms (map about_arm arms))
+arms_some (a ∷ marks) arms = refl
 arms_some [] [] = refl
 arms_some [] (x ∷ []) = refl
 arms_some [] (x ∷ y ∷ more) = refl
@@ -269,11 +269,11 @@ group_fed q bits word pat x f any puts =
     ∙ sym (puts q (Part (condition_form pat x) Done) _))
 
 -- a match
-pub match_expr : (q : Bool) (x inner put : Expr) (pat : Option Pat) (attrs as : List Attr) (arms more : List Arm)
-    → x ≡ expr.Match inner attrs arms → put ≡ inner → pat ≡ None → as ≡ attrs → more ≡ arms
+pub match_expr : (q : Bool) (x inner put : Expr) (pat : Option Pat) (attrs marks : List Attr) (arms more : List Arm)
+    → x ≡ expr.Match inner attrs arms → put ≡ inner → pat ≡ None → marks ≡ attrs → more ≡ arms
     → (lead_row (codes "match ") pat ++ (stream_of (about_expr put).form ++ head_end))
-    ++ stream_of (body (Blank ∷ []) [] (map attr_form as ++ map arm_told more)) ≡ told q x
-match_expr q x inner put pat attrs as arms more is e none same sames =
+    ++ stream_of (body (Blank ∷ []) [] (map attr_form marks ++ map arm_told more)) ≡ told q x
+match_expr q x inner put pat attrs marks arms more is e none same sames =
     let es = map attr_form attrs ++ arm_forms (map about_arm arms) in
     rw (e, none, same, sames)
     (ap (λ (s : List Tok). (lead_row (codes "match ") None ++ (stream_of (about_expr inner).form ++ head_end)) ++ s)
