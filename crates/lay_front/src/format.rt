@@ -1,18 +1,19 @@
 //! From bytes to laid-out bytes in a sink.
-ghost use Rattle.std.specs.Prelude.{◌≡◌, ◌≤◌, ◌⊎◌, ℕ, List as Items, Err, OnOk, OnErr, IsOk, IsErrOf};
+ghost use Rattle.std.specs.Prelude.{◌≡◌, ◌≤◌, ◌⊎◌, ℕ, List as Items, Ok, Err, OnOk, OnErr, IsOk, IsErrOf};
 ghost use Rattle.lay_io.specs.Faults.{Rose, SameLoan};
 ghost use Rattle.lay_io.specs.Told.{GrewBy, GrewByPrefix};
 ghost use Rattle.lay_text.specs.declared.refusal.Refusal.{Refusal};
 ghost use Rattle.lay_tree.specs.Out.{out as text_of_file};
 ghost use Rattle.lay_tree.specs.Reading.{IsRefused, Reads};
 ghost use Rattle.lay_tree.specs.declared.file.File.{File};
-ghost use Rattle.lay_front.specs.Outcome.{Formats};
+ghost use Rattle.lay_front.specs.Outcome.{Formats, FormatsTo};
 
 use crate::file::{FileError, read_bytes};
+use crate::keep::Keeper;
 use lay_io::Sink;
 use lay_out_code::put_file;
 use lay_printer::{Core, Press, PrintError};
-use lay_token::{NoMemory, Refusal};
+use lay_token::{FormatError, NoMemory, Refusal, Text};
 use lay_tree::File;
 use std::alloc::Global;
 
@@ -25,6 +26,25 @@ pub enum IntoError {
     WriteFailed,
     /// Memory was not found. A prefix of the text was written.
     NoMemory,
+}
+
+/// The text of the file that the bytes read to, which reads to the same file. Refused comes exactly where they are
+/// refused.
+pub fn format(alloc: Global, bytes: &[u8]) -> Result<Text, FormatError>
+    // The cause of each answer.
+    ensures formats { FormatsTo bytes.now result }
+
+    // The answer is the one that the bytes have.
+    ensures complete { (file : File) → Reads bytes.now file
+        → (result ≡ Ok (text_of_file file)) ⊎ (result ≡ Err FormatError.NoMemory) }
+    ensures complete_refused { (refusal : Refusal) → IsRefused bytes.now refusal
+        → (result ≡ Err (FormatError.Refused refusal)) ⊎ (result ≡ Err FormatError.NoMemory) }
+
+    // The text is formatted again to the same bytes.
+    ensures again { (given : Items ℕ) (file : File) → Reads given file → bytes.now ≡ text_of_file file
+        → (result ≡ Ok bytes.now) ⊎ (result ≡ Err FormatError.NoMemory) }
+{
+    text_of(alloc, bytes)
 }
 
 /// Writes the text of the file that the bytes read to, which reads to the same file. Refused comes exactly where
@@ -48,6 +68,18 @@ pub fn format_into<K: Sink>(alloc: Global, bytes: &[u8], out: &mut K) -> Result<
         → (IsOk result × GrewBy (K.written out.old) (K.written out.new) bytes.now) ⊎ (result ≡ Err IntoError.NoMemory) }
 {
     format_bytes(alloc, bytes, out)
+}
+
+/// Reads the bytes to their file, and gives its text.
+fn text_of(alloc: Global, bytes: &[u8]) -> Result<Text, FormatError>
+    ensures { FormatsTo bytes.now result }
+{
+    let mut keeper = Keeper::new(alloc);
+    match format_bytes(alloc, bytes, &mut keeper) {
+        Ok(()) => Ok(keeper.into_text()),
+        Err(IntoError::Refused(refusal)) => Err(FormatError::Refused(refusal)),
+        Err(IntoError::WriteFailed | IntoError::NoMemory) => Err(FormatError::NoMemory),
+    }
 }
 
 /// Reads the bytes to their file, and writes its text.

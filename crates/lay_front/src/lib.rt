@@ -9,8 +9,9 @@ pub mod command;
 mod compare;
 pub mod file;
 pub mod format;
+mod keep;
 mod messages;
 mod stop;
 
 pub use command::{LIMIT, Status, run};
-pub use format::{IntoError, format_into};
+pub use format::{IntoError, format, format_into};
