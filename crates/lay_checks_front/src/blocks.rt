@@ -70,7 +70,7 @@ fn statements(rt: HostRuntime) -> Result<(), Fail> {
         "let x=1§a b§a struct B;§let§let a=;§let a else{};§let a=b else{}§pub a;§#[x]§use a§a:{}§'a:b§'a:match b{}§fn g();",
     )?;
     // A statement that ends by itself isn't the operand of an operator behind it.
-    no_body(&rt, alloc, "match x{}+1§{}=a§if a{}==b§{}as B§loop{}..a")?;
+    no_body(&rt, alloc, "match x{}+1§{}=a§if a{}==b§{}as B§loop{}==a")?;
     // Before an `else` a value ends neither in a brace nor in a closure, and is no chain of `||` or `&&`.
     no_body(
         &rt,
@@ -98,8 +98,8 @@ fn control_flow(rt: HostRuntime) -> Result<(), Fail> {
         match(S{}){}→match (S {}) {}§\
         for a in(b..c){}→for a in (b..c) {}§\
         for a in b..{}→for a in b.. {}§\
-        async{a}→async { a }§\
-        async move{a}→async move { a }§\
+        async{a}→async {\n        a\n    }§\
+        async move{a}→async move {\n        a\n    }§\
         let a=const{b};→let a = const { b };§\
         let a=unsafe{b}.c;→let a = unsafe { b }.c;";
     lays(&rt, alloc, rows)?;
@@ -148,11 +148,11 @@ fn arms(rt: HostRuntime) -> Result<(), Fail> {
     let alloc = rt.alloc();
     let rows = "match x{A=>{b}C=>c,}→match x {\n        A => b,\n        C => c,\n    }§\
         match x{A=>{m!()}B=>m!(),}→match x {\n        A => {\n            m!()\n        }\n        B => m!(),\n    }§\
-        match x{A=>{{b}}C=>{;d}}→match x {\n        A => b,\n        C => {\n            d\n        }\n    }§\
+        match x{A=>{{b}}C=>{;d}}→match x {\n        A => b,\n        C => d,\n    }§\
         match x{A=>{b;}C=>{}D=>{},}→match x {\n        A => {\n            b;\n        }\n        C => {}\n        D => {}\n    }§\
         match x{A if b=>c,D|E=>if f{}}→match x {\n        A if b => c,\n        D | E => if f {},\n    }§\
         match x{#![y]#[z]A=>b}→match x {\n        #![y]\n        #[z]\n        A => b,\n    }§\
-        match x{A=>match y{B=>c},}→match x {\n        A => match y {\n            B => c,\n        },\n    }";
+        match x{A=>match y{B=>c},}→match x {\n        A => {\n            match y {\n                B => c,\n            }\n        }\n    }";
     lays(&rt, alloc, rows)?;
     no_body(
         &rt,
