@@ -1,3 +1,5 @@
 pub mod Alone
 pub mod StmtAlone
 pub mod Fronts
+pub mod ArmShapes
+pub mod ArmBlocks
