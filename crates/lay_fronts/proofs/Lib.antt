@@ -3,3 +3,5 @@ pub mod StmtAlone
 pub mod Fronts
 pub mod ArmShapes
 pub mod ArmBlocks
+pub mod ArmBegun
+pub mod ArmFronts
