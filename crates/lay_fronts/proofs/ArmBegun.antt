@@ -27,7 +27,7 @@ use Rattle.lay_node.proofs.reader.PatternsFronts.{Fits}
 use Rattle.lay_node.proofs.reader.TypesCompleteParts.{keyword_there, one_left}
 use Rattle.lay_node.proofs.reader.TypesSoundParts.{Out, bit_texts, if_read_sound}
 use Rattle.lay_tree.specs.Operators.{is_dot_or_try}
-use Rattle.lay_tree.specs.nodes.Blocks.{arm_facts, braces_of, guard_form, is_free, is_lone_body}
+use Rattle.lay_tree.specs.nodes.Blocks.{braces_of, guard_form, is_free, is_lone_body}
 use Rattle.lay_tree.specs.nodes.Code.{about_arm, about_expr}
 use Rattle.lay_tree.specs.nodes.CodeFacts.{ArmFacts}
 use Rattle.lay_tree.specs.nodes.Exprs.{ExprFacts, follows, is_macro, placed, value_placed}

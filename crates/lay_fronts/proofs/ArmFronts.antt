@@ -1,5 +1,5 @@
 -- Arms by themselves are read exactly where they stand.
-use Rattle.std.proofs.Common.{◌≡◌, ℕ, zero, suc, ◌≤◌, nat_le, Bool, true, false, ◌||◌, length, drop, codes, Some, inl, inr, refl, sym, ap, subst, ◌∙◌, arith, le-leb, leb-true, length-append, length-drop}
+use Rattle.std.proofs.Common.{◌≡◌, ℕ, zero, suc, ◌≤◌, nat_le, Bool, true, false, ◌||◌, length, drop, codes, Some, inl, inr, refl, sym, ap, subst, ◌∙◌, arith, le-leb, leb-true, length-append}
 use Rattle.std.proofs.lemmas.List.{drop_at}
 use Rattle.lay_piece.specs.declared.kind.Kind.TheVariants.{Punct}
 use Rattle.lay_form.specs.Form.{Deeper, Done, Fixed, Form}
@@ -7,7 +7,6 @@ use Rattle.lay_form.specs.Spelled.{Front, MayBrace, Spells}
 use Rattle.lay_form.proofs.FormLaws.{is_end}
 use Rattle.lay_node.specs.Ahead.{Tokens, at_end, first, is_mark, tail}
 use Rattle.lay_node.specs.reader.Exact.{Exact, InText}
-use Rattle.lay_node.specs.reader.Loops.{Read}
 use Rattle.lay_node.proofs.Fronts.{mark_one}
 use Rattle.lay_node.proofs.Steps.{bind_some, chosen, same_some}
 use Rattle.lay_node.proofs.reader.Exact.{IsRead, one_by_reading}

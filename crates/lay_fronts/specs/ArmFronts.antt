@@ -1,5 +1,5 @@
 -- Arms of a match that stand by themselves at the front of the tokens.
-use Rattle.std.specs.Prelude.{ℕ, zero, suc, max, nat_le, not, ◌&&◌, ◌||◌, Bool, true, false, if◌then◌else◌, List, [], ◌∷◌, map, length, drop, codes, Option, option_map, Some, None}
+use Rattle.std.specs.Prelude.{ℕ, zero, suc, max, nat_le, not, ◌&&◌, ◌||◌, Bool, true, false, if◌then◌else◌, [], ◌∷◌, map, length, drop, codes, Option, option_map, Some, None}
 use Rattle.lay_piece.specs.declared.kind.Delim.TheVariants.{Brace}
 use Rattle.lay_token.specs.Operators.{is_op}
 use Rattle.lay_form.specs.Form.{Blank, Operator, Semicolons, Form, Done, Piece, Part, Deeper, opener, closer, comma}
@@ -40,9 +40,9 @@ arm_shape pairs ended a = behind_attrs (map attr_form a.attrs)
     (Piece (Blank ∷ Operator (codes "=>") ∷ Blank ∷ [])
     (Part (levels (cost pairs) (in_braces pairs (about_expr a.body).form)) (when ended comma Done))))
 
--- Any token may follow the comma of an arm. Where it has none, none follows. Then neither `.` nor `?` follows a body within
--- braces; a body without them is followed by nothing that would go on with it, and by no token at all where it is not
--- block-like, or is a macro call.
+-- Behind its comma any token may follow an arm. Without it no comma follows; behind braces neither `.` nor `?`, as behind a
+-- block; and behind a body that has none nothing that would go on with it, and no token at all unless the body is block-like
+-- and no macro call.
 abbrev pub arm_follows : ℕ → Bool → ExprFacts → Tokens → Bool
 arm_follows pairs true x ts = true
 arm_follows zero false x ts = not (first (is_mark (codes ",")) ts) && follows x statement ts && (is_free x || at_end ts)
