@@ -138,8 +138,10 @@ fn lays_letters(
 ) -> Result<bool, NoMemory> {
     let given = letters(alloc, given.0, count, given.1)?;
     let text = letters(alloc, text.0, count, text.1)?;
-    Ok(is_run(alloc, given.as_slice(), Status::Done, text.as_slice())?
-        && is_run(alloc, text.as_slice(), Status::Done, text.as_slice())?)
+    Ok(
+        is_run(alloc, given.as_slice(), Status::Done, text.as_slice())?
+            && is_run(alloc, text.as_slice(), Status::Done, text.as_slice())?,
+    )
 }
 
 // The braces of the body of an arm are laid out where it doesn't fit behind its `=>`, and nowhere else.
@@ -257,6 +259,11 @@ fn texts(rt: HostRuntime) -> Result<(), Fail> {
         assert_eq!(rt; text.as_bytes(), laid.as_bytes());
     }
     let refused = format(alloc, b"struct A;fn f(){let x=1}");
-    assert!(rt; matches!(refused, Err(FormatError::Refused(Refusal::NoItem { at: 9 }))));
+    assert!(rt;
+        matches!(
+            refused,
+            Err(FormatError::Refused(Refusal::NoItem { at: 9 }))
+        )
+    );
     Ok(())
 }

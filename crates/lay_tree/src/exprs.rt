@@ -1,9 +1,7 @@
 //! Expressions, and the places where they stand.
 use crate::blocks::{Arm, Block, Branch};
 use crate::operators::{Op, Prefix};
-use lay_node::{
-    Arg, Attr, Boxed, Lifetime, Literal, MacroCall, Name, Pat, Path, Tokens, Ty,
-};
+use lay_node::{Arg, Attr, Boxed, Lifetime, Literal, MacroCall, Name, Pat, Path, Tokens, Ty};
 use lay_token::{List, Text};
 
 /// Whether an expression begins a statement or the body of an arm, and is the whole of it or a part.

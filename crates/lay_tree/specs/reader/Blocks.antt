@@ -114,11 +114,11 @@ block_by within ts = do
 unfoldable pub condition_by : ExprWithin → Tokens → Read (Option Pat × Expr)
 condition_by within ts =
     if first (is_keyword (codes "let")) ts
-        then (do
-          p ← within.pats Alternatives (tail ts)
-          x ← (if is_op (codes "=") p.1 then within.exprs (plain 4 true) (drop 1 p.1) else None)
-          Some (((Some p.0.0, x.0.0), max p.0.1 x.0.1), x.1))
-        else (do x ← within.exprs (plain 0 true) ts; Some (((None, x.0.0), x.0.1), x.1))
+    then (do
+      p ← within.pats Alternatives (tail ts)
+      x ← (if is_op (codes "=") p.1 then within.exprs (plain 4 true) (drop 1 p.1) else None)
+      Some (((Some p.0.0, x.0.0), max p.0.1 x.0.1), x.1))
+    else (do x ← within.exprs (plain 0 true) ts; Some (((None, x.0.0), x.0.1), x.1))
 
 -- what stands behind an `if`
 unfoldable pub branch_by : ExprWithin → Tokens → Read Branch
