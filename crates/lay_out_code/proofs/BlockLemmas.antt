@@ -202,14 +202,14 @@ other_by [] (s ∷ []) is = ap (λ (b : Bool). stream_of (if b then soft s.form 
 pub single_block : (b : Block) (put : List Stmt) (single : Bool) → single ≡ is_single b.attrs (map about_stmt b.stmts)
     → single ≡ true → put ≡ b.stmts
     → body_opened true ++ (further blank_line (map stmt_told put) ++ soft_closed) ≡ stream_of (about_block b).soft
-single_block b put single is yes same =
-    rw same (single_by b.attrs b.stmts (sym yes ∙ is) ∙ sym (ap (λ (z : BlockFacts). stream_of z.soft) (block_is b)))
+single_block b put single is holds same =
+    rw same (single_by b.attrs b.stmts (sym holds ∙ is) ∙ sym (ap (λ (z : BlockFacts). stream_of z.soft) (block_is b)))
 
 pub other_block : (b : Block) (single : Bool) → single ≡ is_single b.attrs (map about_stmt b.stmts) → single ≡ false
     → stream_of ((about_block b).form true) ≡ stream_of (about_block b).soft
-other_block b single is no =
+other_block b single is fails =
     ap (λ (z : BlockFacts). stream_of (z.form true)) (block_is b)
-    ∙ other_by b.attrs (map about_stmt b.stmts) (sym no ∙ is)
+    ∙ other_by b.attrs (map about_stmt b.stmts) (sym fails ∙ is)
     ∙ sym (ap (λ (z : BlockFacts). stream_of z.soft) (block_is b))
 
 -- ---- statements
@@ -229,7 +229,7 @@ typed_more None f any = refl
 typed_more (Some x) f any = ap (λ (s : List Tok). tok.Text (codes ": ") ∷ s) (part_more (about_type x).told.form f any)
 
 steady_typed : (ty : Option Ty) (f : Form) → Steady f → Steady (let_type ty f)
-steady_typed None f any = any
+steady_typed None f any q = any q
 steady_typed (Some x) f any true = refl
 steady_typed (Some x) f any false = refl
 
