@@ -7,7 +7,7 @@ use Rattle.lay_stream.specs.Fed.{Meanings}
 use Rattle.lay_stream.proofs.Calls.{opened_append}
 use Rattle.lay_form.specs.Form.{ArmComma, Bare, Blank, Body, Braces, Form, Done, Marked, Never, Operator, Part, Piece, Unseen, keyword}
 use Rattle.lay_form.specs.Layout.{break_of, ends_behind_point}
-use Rattle.lay_form.specs.Notation.{H, I0, N, behind_attrs, body, comma_list, each, when}
+use Rattle.lay_form.specs.Notation.{I0, N, behind_attrs, body, comma_list}
 use Rattle.lay_form.specs.Stream.{fed, stream_of}
 use Rattle.lay_node.specs.nodes.Attr.{attr_form}
 use Rattle.lay_node.specs.nodes.Patterns.{about_pat, pat_form}
@@ -17,7 +17,7 @@ use Rattle.lay_node.specs.declared.patterns.Pat.{Pat}
 use Rattle.lay_node.specs.declared.patterns.PatPlace.TheVariants.{Alternatives}
 use Rattle.lay_node.specs.declared.token.Lifetime.{Lifetime}
 use Rattle.lay_node.specs.declared.types.Ty.{Ty}
-use Rattle.lay_tree.specs.nodes.Blocks.{arm_form, braces_of, guard_form, is_free}
+use Rattle.lay_tree.specs.nodes.Blocks.{braces_of, guard_form, is_free}
 use Rattle.lay_tree.specs.nodes.Code.{about_arm, about_block, about_branch, about_expr}
 use Rattle.lay_tree.specs.nodes.CodeFacts.{ArmFacts, BlockFacts, BranchFacts}
 use Rattle.lay_tree.specs.nodes.Exprs.{ExprFacts, arm_forms, bar, branches_form, closure_head, closure_param, condition_form, else_branch_form, labelled, more_branches}
@@ -36,7 +36,7 @@ use Rattle.lay_out_types.proofs.Adding.{level_behind, on_ok}
 use Rattle.lay_out_types.proofs.FieldLemmas.{lines_more}
 use Rattle.lay_out_types.proofs.FormRows.{level_form, one_open, part_more}
 use Rattle.lay_out_heads.specs.FieldRows.{line}
-use Rattle.lay_out_heads.proofs.Steady.{Steady, steady_part}
+use Rattle.lay_out_heads.proofs.Steady.{Steady}
 use Rattle.lay_out_exprs.specs.Arms.{arm_closed, arm_opened}
 use Rattle.lay_out_exprs.specs.Blocks.{else_between, lead_row, matched_row}
 use Rattle.lay_out_exprs.proofs.ExprLemmas.{told, told_is}

@@ -25,7 +25,6 @@ use Rattle.lay_tree.specs.nodes.Item.{about_file_module, about_function, about_i
 use Rattle.lay_tree.specs.declared.item.Item.{Item}
 use Rattle.lay_tree.proofs.nodes.ItemLaws.{alias_is, call_is, enum_is, extern_crate_is, file_module_is, foreign_is, function_is, impl_is, import_is, module_is, rules_is, struct_is, trait_is, union_is, value_is}
 use Rattle.lay_out_heads.specs.FieldRows.{line}
-use Rattle.lay_out_heads.proofs.ItemLemmas.{steady_end}
 use Rattle.lay_out_heads.proofs.Steady.{steady_semicolon}
 use Rattle.lay_out_code.specs.Parts.{foreign_head, head_row, import_head, arm_told, branch_told, stmt_told}
 use Rattle.lay_out_code.proofs.OutLemmas.{bare_body, clause_body, full_body, head_body, headed, item_parts, kind_of, line_before, lines_put, may_close_body, bare_is, some_value, valued_head}
