@@ -5,8 +5,7 @@ use Rattle.lay_layout.specs.declared.layout.Break.{Break}
 use Rattle.lay_layout.specs.declared.layout.Tok.{Tok}
 use Rattle.lay_layout.specs.declared.layout.Tok.TheVariants as tok
 use Rattle.lay_stream.specs.Fed.{Meanings}
-use Rattle.lay_piece.specs.declared.kind.Delim.TheVariants.{Brace}
-use Rattle.lay_form.specs.Form.{Blank, Form, Done, Part, Piece, Soft, closer, keyword, semicolon}
+use Rattle.lay_form.specs.Form.{Blank, Form, Done, Part, Piece, Soft, keyword, semicolon}
 use Rattle.lay_form.specs.Layout.{break_of}
 use Rattle.lay_form.specs.Notation.{H, behind_attrs, body, each, piece, soft}
 use Rattle.lay_form.specs.Stream.{fed, stream_of}
@@ -168,10 +167,6 @@ steady_soft b q =
     ap (λ (z : BlockFacts). fed q z.soft []) (block_is b)
     ∙ by_attrs b.attrs (map about_stmt b.stmts) q
     ∙ sym (ap (λ (z : BlockFacts). stream_of z.soft) (block_is b))
-
-brace_fed : (q : Bool) → fed q (piece (closer Brace ∷ [])) [] ≡ tok.Text (codes "}") ∷ []
-brace_fed true = refl
-brace_fed false = refl
 
 abbrev blank_line : List Tok
 blank_line = tok.Break (break_of (Soft false 1)) ∷ []
