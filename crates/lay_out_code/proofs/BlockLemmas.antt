@@ -1,32 +1,29 @@
 -- The streams of blocks and of statements.
-use Rattle.std.proofs.Common.{◌≡◌, if◌then◌else◌, ◌<◌, ℕ, suc, ◌==◌, ◌&&◌, Bool, true, false, cond, List, [], ◌∷◌, ◌++◌, map, length, codes, pos, Option, option_map, Some, None, refl, sym, ap, ◌∙◌, append_assoc, append-nil, OnOk, Result}
-use Rattle.std.proofs.Math.Dec.{eqb-suc-zero}
+use Rattle.std.proofs.Common.{◌≡◌, if◌then◌else◌, ◌<◌, ℕ, suc, Bool, true, false, cond, List, [], ◌∷◌, ◌++◌, map, codes, Option, option_map, Some, None, refl, sym, ap, ◌∙◌, append_assoc, append-nil, OnOk, Result}
 use Rattle.lay_layout.specs.Machine.{opened}
 use Rattle.lay_layout.specs.declared.layout.Break.{Break}
 use Rattle.lay_layout.specs.declared.layout.Tok.{Tok}
 use Rattle.lay_layout.specs.declared.layout.Tok.TheVariants as tok
 use Rattle.lay_stream.specs.Fed.{Meanings}
-use Rattle.lay_piece.specs.declared.kind.Delim.TheVariants.{Brace}
-use Rattle.lay_form.specs.Form.{Blank, Form, Done, Hard, Part, Piece, Soft, closer, keyword, semicolon}
-use Rattle.lay_form.specs.Layout.{break_of, ends_behind_point}
+use Rattle.lay_form.specs.Form.{Blank, Form, Done, Part, Piece, Soft, keyword, semicolon}
+use Rattle.lay_form.specs.Layout.{break_of}
 use Rattle.lay_form.specs.Notation.{H, behind_attrs, body, each, piece, soft}
 use Rattle.lay_form.specs.Stream.{fed, stream_of}
 use Rattle.lay_node.specs.nodes.Attr.{attr_form}
 use Rattle.lay_node.specs.nodes.Fields.{blank_if}
-use Rattle.lay_node.specs.nodes.Functions.{fn_head_form, self_type}
+use Rattle.lay_node.specs.nodes.Functions.{self_type}
 use Rattle.lay_node.specs.nodes.Heads.{leads}
 use Rattle.lay_node.specs.nodes.Patterns.{about_pat}
-use Rattle.lay_node.specs.nodes.Types.{about_type, equals}
+use Rattle.lay_node.specs.nodes.Types.{about_type}
 use Rattle.lay_node.specs.nodes.Where.{wheres_before_body, wheres_before_semicolon}
 use Rattle.lay_node.specs.declared.attr.Attr.{Attr}
 use Rattle.lay_node.specs.declared.generics.Wheres.{Wheres}
 use Rattle.lay_node.specs.declared.patterns.Pat.{Pat}
 use Rattle.lay_node.specs.declared.types.Ty.{Ty}
-use Rattle.lay_node.specs.declared.vis.Vis.{Vis}
 use Rattle.lay_tree.specs.nodes.Blocks.{attrs_before, block_form, dropped_if, else_form, ended_form, is_plain, is_single, let_type, soft_form, stmt_form}
-use Rattle.lay_tree.specs.nodes.Code.{about_block, about_expr, about_stmt, form_of_item, told_of_item}
+use Rattle.lay_tree.specs.nodes.Code.{about_block, about_expr, about_stmt, form_of_item}
 use Rattle.lay_tree.specs.nodes.CodeFacts.{BlockFacts, StmtFacts}
-use Rattle.lay_tree.specs.nodes.Exprs.{ExprFacts, value_form}
+use Rattle.lay_tree.specs.nodes.Exprs.{value_form}
 use Rattle.lay_tree.specs.nodes.Item.{function_tail}
 use Rattle.lay_tree.specs.declared.blocks.Block.{Block}
 use Rattle.lay_tree.specs.declared.blocks.Stmt.{Stmt}
@@ -44,7 +41,7 @@ use Rattle.lay_out_heads.proofs.ItemLemmas.{steady_end}
 use Rattle.lay_out_heads.specs.FieldRows.{body_closed, body_opened, line}
 use Rattle.lay_out_heads.proofs.Steady.{Steady, steady_part, steady_semicolon, steady_wheres_body}
 use Rattle.lay_out_exprs.specs.Blocks.{soft_closed}
-use Rattle.lay_out_code.specs.Parts.{head_row, no_forms, stmt_told}
+use Rattle.lay_out_code.specs.Parts.{no_forms, stmt_told}
 use Rattle.lay_out_code.proofs.OutLemmas.{each_lines, further_joined, steady_value}
 
 -- ---- bodies
@@ -171,10 +168,6 @@ steady_soft b q =
     ∙ by_attrs b.attrs (map about_stmt b.stmts) q
     ∙ sym (ap (λ (z : BlockFacts). stream_of z.soft) (block_is b))
 
-brace_fed : (q : Bool) → fed q (piece (closer Brace ∷ [])) [] ≡ tok.Text (codes "}") ∷ []
-brace_fed true = refl
-brace_fed false = refl
-
 abbrev blank_line : List Tok
 blank_line = tok.Break (break_of (Soft false 1)) ∷ []
 
@@ -202,14 +195,14 @@ other_by [] (s ∷ []) is = ap (λ (b : Bool). stream_of (if b then soft s.form 
 pub single_block : (b : Block) (put : List Stmt) (single : Bool) → single ≡ is_single b.attrs (map about_stmt b.stmts)
     → single ≡ true → put ≡ b.stmts
     → body_opened true ++ (further blank_line (map stmt_told put) ++ soft_closed) ≡ stream_of (about_block b).soft
-single_block b put single is yes same =
-    rw same (single_by b.attrs b.stmts (sym yes ∙ is) ∙ sym (ap (λ (z : BlockFacts). stream_of z.soft) (block_is b)))
+single_block b put single is holds same =
+    rw same (single_by b.attrs b.stmts (sym holds ∙ is) ∙ sym (ap (λ (z : BlockFacts). stream_of z.soft) (block_is b)))
 
 pub other_block : (b : Block) (single : Bool) → single ≡ is_single b.attrs (map about_stmt b.stmts) → single ≡ false
     → stream_of ((about_block b).form true) ≡ stream_of (about_block b).soft
-other_block b single is no =
+other_block b single is fails =
     ap (λ (z : BlockFacts). stream_of (z.form true)) (block_is b)
-    ∙ other_by b.attrs (map about_stmt b.stmts) (sym no ∙ is)
+    ∙ other_by b.attrs (map about_stmt b.stmts) (sym fails ∙ is)
     ∙ sym (ap (λ (z : BlockFacts). stream_of z.soft) (block_is b))
 
 -- ---- statements
@@ -229,7 +222,7 @@ typed_more None f any = refl
 typed_more (Some x) f any = ap (λ (s : List Tok). tok.Text (codes ": ") ∷ s) (part_more (about_type x).told.form f any)
 
 steady_typed : (ty : Option Ty) (f : Form) → Steady f → Steady (let_type ty f)
-steady_typed None f any = any
+steady_typed None f any q = any q
 steady_typed (Some x) f any true = refl
 steady_typed (Some x) f any false = refl
 

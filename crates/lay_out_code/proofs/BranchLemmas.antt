@@ -7,7 +7,7 @@ use Rattle.lay_stream.specs.Fed.{Meanings}
 use Rattle.lay_stream.proofs.Calls.{opened_append}
 use Rattle.lay_form.specs.Form.{ArmComma, Bare, Blank, Body, Braces, Form, Done, Marked, Never, Operator, Part, Piece, Unseen, keyword}
 use Rattle.lay_form.specs.Layout.{break_of, ends_behind_point}
-use Rattle.lay_form.specs.Notation.{H, I0, N, behind_attrs, body, each, when}
+use Rattle.lay_form.specs.Notation.{I0, N, behind_attrs, body, comma_list}
 use Rattle.lay_form.specs.Stream.{fed, stream_of}
 use Rattle.lay_node.specs.nodes.Attr.{attr_form}
 use Rattle.lay_node.specs.nodes.Patterns.{about_pat, pat_form}
@@ -17,10 +17,10 @@ use Rattle.lay_node.specs.declared.patterns.Pat.{Pat}
 use Rattle.lay_node.specs.declared.patterns.PatPlace.TheVariants.{Alternatives}
 use Rattle.lay_node.specs.declared.token.Lifetime.{Lifetime}
 use Rattle.lay_node.specs.declared.types.Ty.{Ty}
-use Rattle.lay_tree.specs.nodes.Blocks.{arm_form, braces_of, guard_form, is_free}
+use Rattle.lay_tree.specs.nodes.Blocks.{braces_of, guard_form, is_free}
 use Rattle.lay_tree.specs.nodes.Code.{about_arm, about_block, about_branch, about_expr}
 use Rattle.lay_tree.specs.nodes.CodeFacts.{ArmFacts, BlockFacts, BranchFacts}
-use Rattle.lay_tree.specs.nodes.Exprs.{ExprFacts, arm_forms, branches_form, closure_head, condition_form, else_branch_form, labelled, more_branches}
+use Rattle.lay_tree.specs.nodes.Exprs.{ExprFacts, arm_forms, bar, branches_form, closure_head, closure_param, condition_form, else_branch_form, labelled, more_branches}
 use Rattle.lay_tree.specs.declared.blocks.Arm.{Arm}
 use Rattle.lay_tree.specs.declared.blocks.Block.{Block}
 use Rattle.lay_tree.specs.declared.blocks.Branch.{Branch}
@@ -36,7 +36,7 @@ use Rattle.lay_out_types.proofs.Adding.{level_behind, on_ok}
 use Rattle.lay_out_types.proofs.FieldLemmas.{lines_more}
 use Rattle.lay_out_types.proofs.FormRows.{level_form, one_open, part_more}
 use Rattle.lay_out_heads.specs.FieldRows.{line}
-use Rattle.lay_out_heads.proofs.Steady.{Steady, steady_part}
+use Rattle.lay_out_heads.proofs.Steady.{Steady}
 use Rattle.lay_out_exprs.specs.Arms.{arm_closed, arm_opened}
 use Rattle.lay_out_exprs.specs.Blocks.{else_between, lead_row, matched_row}
 use Rattle.lay_out_exprs.proofs.ExprLemmas.{told, told_is}
@@ -118,7 +118,7 @@ branches_fed (b ∷ bs) f any =
     ∙ sym (fed_more false (branch_told b) _)
 
 steady_branches : (bs : List Branch) (f : Form) → Steady f → Steady (branches_form (map about_branch bs) f)
-steady_branches [] f any = any
+steady_branches [] f any q = any q
 steady_branches (b ∷ bs) f any true = refl
 steady_branches (b ∷ bs) f any false = refl
 
@@ -278,7 +278,7 @@ match_expr q x inner put pat attrs marks arms more is e none same sames =
     rw (e, none, same, sames)
     (ap (λ (s : List Tok). (lead_row (codes "match ") None ++ (stream_of (about_expr inner).form ++ head_end)) ++ s)
     (same_lines true false false _ es (arms_some attrs arms) (arms_lines attrs arms))
-    ∙ group_fed q _ (codes "match ") None (about_expr inner) (body (Blank ∷ []) [] es) (steady_arms es) puts
+    ∙ group_fed q (keyword (codes "match") ∷ Blank ∷ []) (codes "match ") None (about_expr inner) (body (Blank ∷ []) [] es) (steady_arms es) puts
     ∙ told_is q x (expr.Match inner attrs arms) _ is (expr_match_is inner attrs arms))
   where
     puts : (r : Bool) (g : Form) (rest : List Tok)
@@ -305,7 +305,7 @@ while_expr q x label pat inner put b is e =
     let f = Part ((about_block b).form true) Done in
     let whole = I0 (Piece (keyword (codes "while") ∷ Blank ∷ []) (Part (condition_form pat (about_expr inner)) Done)) f in
     rw e (ap (λ (s : List Tok). stream_of (labelled label Done) ++ s)
-    (group_fed false _ (codes "while ") pat (about_expr inner) f (steady_block true b) puts)
+    (group_fed false (keyword (codes "while") ∷ Blank ∷ []) (codes "while ") pat (about_expr inner) f (steady_block true b) puts)
     ∙ labelled_more q label whole any
     ∙ told_is q x (expr.While label pat inner b) _ is (expr_while_is label pat inner b))
   where
@@ -368,15 +368,18 @@ may_end_for {m} {a} {p} {q} e f h =
     on_ok q (λ x is. (one_open (m.groups a) (level_behind p q x h is ∙ for_open e f (m.groups a))).0)
 
 -- closures
+abbrev params_form : List ClosureParam → Form
+params_form params = comma_list true bar bar (map closure_param params)
+
 head_more : (q moves : Bool) (params : List ClosureParam) (f : Form) → Steady f
     → stream_of (closure_head moves params Done) ++ stream_of f ≡ fed q (closure_head moves params f) []
 head_more true true params f any =
-    ap (λ (s : List Tok). tok.Text (codes "move ") ∷ s) (part_more _ f any)
+    ap (λ (s : List Tok). tok.Text (codes "move ") ∷ s) (part_more (params_form params) f any)
 head_more false true params f any =
-    ap (λ (s : List Tok). tok.Text (codes "move ") ∷ s) (part_more _ f any)
-head_more false false params f any = part_more _ f any
+    ap (λ (s : List Tok). tok.Text (codes "move ") ∷ s) (part_more (params_form params) f any)
+head_more false false params f any = part_more (params_form params) f any
 head_more true false [] f any = ap (λ (s : List Tok). tok.Text (codes "||") ∷ s) (sym (any _))
-head_more true false (p ∷ params) f any = part_more _ f any
+head_more true false (p ∷ params) f any = part_more (params_form (p ∷ params)) f any
 
 pub closure_expr : (q : Bool) (x : Expr) (moves : Bool) (params ps : List ClosureParam) (inner put : Expr)
     → x ≡ expr.Closure moves params inner → ps ≡ params → put ≡ inner

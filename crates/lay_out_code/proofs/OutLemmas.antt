@@ -1,5 +1,5 @@
 -- The streams of bodies, of items, and of files.
-use Rattle.std.proofs.Common.{◌≡◌, ◌≢◌, ℕ, suc, ◌<◌, Bool, true, false, cond, List, [], ◌∷◌, ◌++◌, map, length, codes, pos, Option, Some, None, refl, sym, ap, ◌∙◌, append_assoc, append-nil, arith, ◌==◌, ◌&&◌, option_map, OnOk, Result}
+use Rattle.std.proofs.Common.{◌≡◌, ℕ, suc, ◌<◌, Bool, true, false, cond, List, [], ◌∷◌, ◌++◌, map, length, codes, pos, Option, Some, None, refl, sym, ap, ◌∙◌, append_assoc, append-nil, ◌==◌, ◌&&◌, option_map, OnOk, Result}
 use Rattle.std.proofs.Math.Dec.{eqb-suc-zero}
 use Rattle.lay_layout.specs.Document.{Document, Empty, stream}
 use Rattle.lay_layout.specs.Machine.{opened}
@@ -23,11 +23,11 @@ use Rattle.lay_node.specs.declared.heads.Site.TheVariants.{Module}
 use Rattle.lay_node.specs.declared.heads.ValueHead.{ValueHead}
 use Rattle.lay_node.specs.declared.vis.Vis.{Vis}
 use Rattle.lay_tree.specs.Out.{behind_shebang, layout_of_file}
-use Rattle.lay_tree.specs.nodes.Code.{about_block, about_expr, about_item, form_of_item, told_of_item, told_of_kind}
-use Rattle.lay_tree.specs.nodes.CodeFacts.{BlockFacts, ItemFacts, KindFacts}
+use Rattle.lay_tree.specs.nodes.Code.{about_expr, about_item, form_of_item, told_of_item, told_of_kind}
+use Rattle.lay_tree.specs.nodes.CodeFacts.{ItemFacts, KindFacts}
 use Rattle.lay_tree.specs.nodes.Exprs.{ExprFacts, value_form}
 use Rattle.lay_tree.specs.nodes.File.{form_of_file}
-use Rattle.lay_tree.specs.nodes.Item.{about_function, function_tail, item_body, item_forms, kind_form}
+use Rattle.lay_tree.specs.nodes.Item.{item_body, item_forms, kind_form}
 use Rattle.lay_tree.specs.declared.exprs.Expr.{Expr}
 use Rattle.lay_tree.specs.declared.file.File.{File}
 use Rattle.lay_tree.specs.declared.item.Item.{Item}

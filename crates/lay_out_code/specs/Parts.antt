@@ -1,5 +1,5 @@
 -- The streams of heads, and of what stands in blocks and items.
-use Rattle.std.specs.Prelude.{Bool, true, false, List, [], ◌∷◌, ◌++◌, codes, pos, Option, Some}
+use Rattle.std.specs.Prelude.{Bool, true, false, List, [], ◌∷◌, ◌++◌, codes, pos, Option}
 use Rattle.lay_layout.specs.declared.layout.Tok.{Tok}
 use Rattle.lay_layout.specs.declared.layout.Tok.TheVariants as tok
 use Rattle.lay_form.specs.Form.{Form, Done, Part, Piece, keyword}
@@ -11,7 +11,7 @@ use Rattle.lay_node.specs.declared.token.Literal.{Literal}
 use Rattle.lay_node.specs.declared.use_tree.UseTree.{UseTree}
 use Rattle.lay_node.specs.declared.vis.Vis.{Vis}
 use Rattle.lay_tree.specs.nodes.Code.{about_arm, about_branch, about_stmt}
-use Rattle.lay_tree.specs.nodes.CodeFacts.{BranchFacts, KindFacts}
+use Rattle.lay_tree.specs.nodes.CodeFacts.{KindFacts}
 use Rattle.lay_tree.specs.nodes.Exprs.{branch_head}
 use Rattle.lay_tree.specs.nodes.Item.{about_import, foreign_abi, kind_form}
 use Rattle.lay_tree.specs.declared.blocks.Arm.{Arm}

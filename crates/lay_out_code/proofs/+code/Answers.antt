@@ -1,6 +1,7 @@
 use Rattle.std.proofs.Common.{List, [], ◌++◌, ◌&&◌, true, false, map, refl, ap, ◌∙◌, ◌∷◌, option_map}
 use Rattle.lay_form.specs.Form.{Done, semicolon, Part}
 use Rattle.lay_form.specs.Stream.{fed, stream_of}
+use Rattle.lay_tree.specs.nodes.Blocks.{guard_form}
 use Rattle.lay_tree.specs.nodes.Code.{about_step, about_block, about_expr, form_of_item}
 use Rattle.lay_tree.specs.nodes.Exprs.{operands_form, steps_form, targets_form, value_form}
 use Rattle.lay_tree.specs.declared.exprs.Expr.{Expr}
@@ -24,7 +25,6 @@ use Rattle.lay_tree.specs.nodes.Item.{about_file_module, about_function, about_i
 use Rattle.lay_tree.specs.declared.item.Item.{Item}
 use Rattle.lay_tree.proofs.nodes.ItemLaws.{alias_is, call_is, enum_is, extern_crate_is, file_module_is, foreign_is, function_is, impl_is, import_is, module_is, rules_is, struct_is, trait_is, union_is, value_is}
 use Rattle.lay_out_heads.specs.FieldRows.{line}
-use Rattle.lay_out_heads.proofs.ItemLemmas.{steady_end}
 use Rattle.lay_out_heads.proofs.Steady.{steady_semicolon}
 use Rattle.lay_out_code.specs.Parts.{foreign_head, head_row, import_head, arm_told, branch_told, stmt_told}
 use Rattle.lay_out_code.proofs.OutLemmas.{bare_body, clause_body, full_body, head_body, headed, item_parts, kind_of, line_before, lines_put, may_close_body, bare_is, some_value, valued_head}
@@ -34,6 +34,7 @@ use Rattle.lay_tree.specs.declared.blocks.Arm.{Arm}
 use Rattle.lay_tree.specs.declared.blocks.Branch.{Branch}
 use Rattle.lay_tree.specs.declared.blocks.Stmt.{Stmt}
 use Rattle.lay_out_heads.proofs.Rows.{may_end_head}
+use Rattle.lay_out_exprs.specs.Arms.{seen_as}
 use Rattle.lay_out_exprs.specs.Blocks.{else_between}
 use Rattle.lay_out_code.proofs.BlockLemmas.{block_body, each_further, expr_stmt, item_stmt, let_stmt, may_close_soft, no_body, other_block, row_further, same_before, single_block, some_body, some_otherwise, steady_function}
 use Rattle.lay_out_code.proofs.BranchLemmas.{arm_parts, attrs_told, branch_parts, may_close_arm, may_end_arm_head, may_end_condition, some_else, some_guard}
@@ -377,7 +378,7 @@ pub blocks::add_stmts-loop-stmt-preserved : goal.blocks::add_stmts-loop-stmt-pre
 blocks::add_stmts-loop-stmt-preserved g t c =
     adds (adds_on c.loop-stmt.invariant (adds_on c.add_break-done.ensures c.add_stmt-done.ensures))
     (turn stmt_told (tok.Break c.args.lead ∷ []) (tok.Break c.args.lead ∷ []) c.args.stmts.now _ _ c.loop-stmt-test.true
-    c.stmt-item.is _ (same_before _ _ _))
+    c.stmt-item.is _ (same_before _ (tok.Break c.args.lead ∷ []) _))
 
 pub blocks::add_stmts-returns : goal.blocks::add_stmts-returns
 blocks::add_stmts-returns g t c =
@@ -464,13 +465,16 @@ branches::add_arm_lines-returns g t c =
     (all_turns (λ (arms : List Arm). row line line (map arm_told arms)) c.args.arms.now _ c.loop-arm-test.false
     ∙ lines_put (map arm_told c.args.arms.now))
 
-pub branches::add_arm-add_end-requires : goal.branches::add_arm-add_end-requires
-branches::add_arm-add_end-requires g t c =
-    may_end_arm_head (attrs_told c.as_slice.result.now) (about_pat c.args.arm.now.pat).told.form _
+pub branches::add_arm-add_end-head-requires : goal.branches::add_arm-add_end-head-requires
+branches::add_arm-add_end-head-requires g t c =
+    may_end_arm_head (attrs_told c.as_slice.result.now) (about_pat c.args.arm.now.pat).told.form
+    (guard_form (option_map about_expr c.args.arm.now.guard))
     (adds_on c.add_attrs-attrs.ensures (adds_on c.add_group-group.ensures (adds_on c.add_pat-pat.ensures c.add_guard-guard.ensures)))
 
 pub branches::add_arm-close_arm-requires : goal.branches::add_arm-close_arm-requires
-branches::add_arm-close_arm-requires g t c = may_close_arm _ _ (adds_on c.open_arm-opened.ensures c.add_expr-inner.ensures)
+branches::add_arm-close_arm-requires g t c =
+    may_close_arm (seen_as c.arm_body-kind.result) (expr_told c.args.arm.now.body)
+    (adds_on c.open_arm-opened.ensures c.add_expr-inner.ensures)
 
 pub branches::add_arm-returns : goal.branches::add_arm-returns
 branches::add_arm-returns g t c =
@@ -593,7 +597,8 @@ items::add_kind-returns-in-Function g t c =
 
 pub items::add_function-returns-in-None : goal.items::add_function-returns-in-None
 items::add_function-returns-in-None g t c =
-    adds c.add_ended_clause.ensures (no_body _ c.args.wheres.now c.args.body.now c.in-None.is)
+    adds c.add_ended_clause.ensures
+    (no_body (head_row c.args.vis.now (fn_head_form c.args.head.now)) c.args.wheres.now c.args.body.now c.in-None.is)
 
 pub items::add_function-returns-in-Some : goal.items::add_function-returns-in-Some
 items::add_function-returns-in-Some g t c =
