@@ -39,16 +39,3 @@ abbrev pub has_head : ItemKind → Bool
 has_head (item.MacroRules name rules) = false
 has_head (item.Call call) = false
 has_head _ = true
-
--- ---- nodes that stand alone
-
--- A node with code within it, by itself: that is one level deeper.
-abbrev pub alone : {A : Type 0} → (ExprWithin → Tokens → Read A) → ℕ → Tokens → Read A
-alone one zero ts = None
-alone one (suc budget) ts = do x ← one (code_within budget) ts; if nat_le x.0.1 budget then Some x else None
-
--- What a reader answers that gives what is read, where it is read; where it isn't, the place stays.
-abbrev pub IsReadBy : {A : Type 0} → Read A → Tokens → Result A ReadNone → Tokens → Type 0
-IsReadBy read ahead (Ok node) left = (need : ℕ) × (read ≡ Some ((node, need), left))
-IsReadBy read ahead (Err NoReading) left = (read ≡ None) × (left ≡ ahead)
-IsReadBy read ahead (Err NoMemory) left = left ≡ ahead
