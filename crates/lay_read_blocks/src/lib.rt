@@ -5,6 +5,7 @@
 //! spelled and nothing else. [`loops`] and [`places`] have what these rules share with those of expressions.
 #![tactic(auto)]
 
+mod alone;
 mod arms;
 mod blocks;
 mod brace_ends;
