@@ -45,7 +45,7 @@ use Rattle.lay_tree.proofs.reader.ExprSoundLeads.{code_led}
 use Rattle.lay_ops.specs.RootFacts.{lone_in}
 use Rattle.lay_ops.proofs.BodyFacts.{lone_is, of_block}
 use Rattle.lay_read_tokens.proofs.Left.{Leaves, Left, attributes_left, joined, passed_left, Passes}
-use Rattle.lay_read_blocks.specs.Answers.{IsBare}
+use Rattle.lay_ends.specs.Bodies.{IsBare}
 use Rattle.lay_read_blocks.proofs.BlocksLeft.{LeftCode, in_block_left, semicolons_left}
 use Rattle.lay_read_blocks.proofs.Left.{in_left}
 
@@ -429,31 +429,3 @@ pub undressed_read : (depth : ℕ) (place : Place) (ts rest : Tokens) (x y : Exp
     → expr_at place depth ts ≡ Some ((x, need), rest) → IsBare turns x y → undressed (length ts) x ≡ y
 undressed_read depth place ts rest x y need turns h b =
     bare_same (length ts) turns x (shallow_in depth place ts ((x, need), rest) h) (subst Bare (sym b.0) b.1) ∙ b.0
-
--- ---- one pair
-
--- A pair of braces less is a turn less.
-pub block_turn : (n : ℕ) (x : Expr) (label : Option Lifetime) (b : Block) → x ≡ expr.Block label b
-    → is_lone_body (about_expr x).kind ≡ true → undressed (suc n) x ≡ held_by (undressed n) x b.stmts
-unfolding undressed
-block_turn n x label b is h = rw h (ap (block_held (undressed n) x) (ap views.out-Expr is ∙ views.outs-Block label b))
-
-pub lone_of : (x : Expr) (label : Option Lifetime) (b : Block) → x ≡ expr.Block label b
-    → is_lone_body (about_expr x).kind ≡ true → (about_block b).lone ≡ true
-lone_of x label b is h = (and_parts (not (is_some label)) (about_block b).lone (of_block x label b is ∙ h)).1
-
-lone_one : (before : List Stmt) (s : Stmt) → lone_in (before ++ s ∷ []) ≡ true → before ≡ []
-lone_one [] s h = refl
-lone_one (t ∷ []) s h = absurd (cc h)
-lone_one (t ∷ u ∷ more) s h = absurd (cc h)
-
--- The last statement of a block of one expression is all that it holds.
-pub held_one : (b : Block) (before : List Stmt) (s : Stmt) → (about_block b).lone ≡ true → b.stmts ≡ before ++ s ∷ [] → b.stmts ≡ s ∷ []
-held_one b before s h e =
-    let lone = (and_parts (is_plain b.attrs) (lone_in b.stmts) (sym (lone_is b) ∙ h)).1 in
-    e ∙ ap (λ xs. xs ++ s ∷ []) (lone_one before s (subst (λ xs. lone_in xs ≡ true) e lone))
-
-pub held_turn : (undress : Expr → Expr) (x : Expr) (b : Block) (s : Stmt) (attrs : List Attr) (y : Expr) (ended : Bool)
-    → b.stmts ≡ s ∷ [] → s ≡ stmt.Expr attrs y ended → held_by undress x b.stmts ≡ undress y
-held_turn undress x b s attrs y ended e is =
-    ap (held_by undress x) e ∙ ap (bare_by undress x) (ap views.out-Stmt is ∙ views.outs-Expr attrs y ended)

@@ -14,10 +14,8 @@ use Rattle.lay_node.specs.declared.patterns.Pat.{Pat}
 use Rattle.lay_node.specs.declared.patterns.PatPlace.TheVariants.{Alternatives}
 use Rattle.lay_node.specs.declared.types.Ty.{Ty}
 use Rattle.lay_node.specs.declared.types.TypePlace.TheVariants.{NoBounds}
-use Rattle.lay_tree.specs.nodes.Blocks.{is_lone_body}
-use Rattle.lay_tree.specs.nodes.Code.{about_expr}
 use Rattle.lay_tree.specs.nodes.Places.{FREE, plain}
-use Rattle.lay_tree.specs.reader.Blocks.{arm_body, block_by, else_stands, undressed}
+use Rattle.lay_tree.specs.reader.Blocks.{block_by, else_stands}
 use Rattle.lay_tree.specs.reader.Code.{code_in, expr_at, item_at}
 use Rattle.lay_tree.specs.reader.Exprs.{closure_expr, if_expr, label_expr, labelled_expr, match_expr, block_word_expr}
 use Rattle.lay_tree.specs.reader.Item.{fn_body}
@@ -111,10 +109,6 @@ abbrev pub arm_behind : ExprWithin → List Attr → Pat × ℕ → Option Expr 
 arm_behind within attrs p g ts = do
   x ← (if is_op (codes "=>") ts then body_begun within (drop 2 ts) else None)
   Some (((record { attrs = attrs; pat = p.0; guard = g.0; body = x.0.0.0 }, x.0.0.1), max p.1 (max g.1 x.0.1)), x.1)
-
--- Its outer braces are those of so many pairs that aren't in the tree, and the last of these holds this.
-abbrev pub IsBare : ℕ → Expr → Expr → Type 0
-IsBare turns x y = (undressed turns x ≡ y) × (is_lone_body (about_expr y).kind ≡ false)
 
 -- ---- closures
 

@@ -1,23 +1,23 @@
 //! The arms of a match.
-ghost use Rattle.std.specs.Prelude.{ℕ, suc, ◌≡◌, ◌+◌, ◌^◌, ◌<◌, ◌≤◌, codes, true, if◌then◌else◌, Some, None, IfOk};
+ghost use Rattle.std.specs.Prelude.{ℕ, ◌≡◌, ◌+◌, ◌^◌, ◌<◌, ◌≤◌, codes, if◌then◌else◌, Some, None, IfOk};
 ghost use Rattle.lay_node.specs.Ahead.{first, is_keyword, more_items, tail};
 ghost use Rattle.lay_node.specs.reader.Loops.{repeat};
 ghost use Rattle.lay_node.specs.reader.Types.{if_read};
 ghost use Rattle.lay_tree.specs.nodes.Blocks.{is_lone_body};
-ghost use Rattle.lay_tree.specs.nodes.Code.{about_block, about_expr};
+ghost use Rattle.lay_tree.specs.nodes.Code.{about_expr};
 ghost use Rattle.lay_tree.specs.nodes.Places.{FREE as free};
 ghost use Rattle.lay_tree.specs.reader.Blocks as reader;
 ghost use Rattle.lay_tree.specs.reader.Code.{expr_at};
 ghost use Rattle.lay_tree.specs.reader.Exprs as exprs;
 ghost use Rattle.lay_fronts.specs.ArmFronts.{arm_begun, body_begun};
 ghost use Rattle.lay_read_tokens.specs.Answers.{AreFound, IsFound, IsHeld};
-ghost use Rattle.lay_tree.specs.declared.blocks.Block.{size-Block};
-ghost use Rattle.lay_tree.specs.declared.exprs.Expr.{Expr as ExprValue, size-Expr};
-ghost use Rattle.lay_read_blocks.specs.Answers.{AreCode, IsBare, arm_behind, code_within, fits};
+ghost use Rattle.lay_ends.specs.Bodies.{IsBare};
+ghost use Rattle.lay_read_blocks.specs.Answers.{AreCode, arm_behind, code_within, fits};
 
 use crate::loops::{Going, read_parts};
 use crate::places::{FREE, STATEMENT, plain};
 use crate::rules::BlockRules;
+use lay_ends::undressed;
 use lay_ops::{is_free, is_lone_body};
 use lay_read_parts::joins::{both, refused};
 use lay_read_parts::loops::Part;
@@ -44,41 +44,6 @@ fn takes_arm_end(at: &mut Ahead<'_>, free: bool) -> bool
     ensures { (if result then Some at.new else None) ≡ reader.arm_end free at.old }
 {
     takes_mark(at, b",") || free || is_at_closer(at, Delim::Brace)
-}
-
-/// The one expression that a block holds.
-fn held(body: Block) -> Expr
-    requires { (about_block body).lone ≡ true }
-    ensures turn { (undress : ExprValue → ExprValue) (x : ExprValue) → reader.held_by undress x body.stmts ≡ undress result }
-    ensures smaller { size-Expr result < size-Block body }
-{
-    match body.stmts.into_vec().pop() {
-        Some(Stmt::Expr { expr, .. }) => expr,
-        _ => Expr::Underscore,
-    }
-}
-
-/// The one expression that is within the braces of an expression.
-fn bare(expr: Expr) -> Expr
-    requires { is_lone_body (about_expr expr).kind ≡ true }
-    ensures turn { (n : ℕ) → reader.undressed (suc n) expr ≡ reader.undressed n result }
-    ensures smaller { size-Expr result < size-Expr expr }
-{
-    match expr {
-        Expr::Block { body, .. } => held(body),
-        other => other,
-    }
-}
-
-/// The body of an arm, without the braces that aren't in the tree.
-fn undressed(expr: Expr) -> Expr
-    ensures { (turns : ℕ) × IsBare turns expr result }
-{
-    let mut body = expr;
-    while is_lone_body(&body) {
-        body = bare(body);
-    }
-    body
 }
 
 /// The body of an arm, and the need of it: within braces that aren't in the tree it needs as much as they do.

@@ -8,7 +8,6 @@
 mod alone;
 mod arms;
 mod blocks;
-mod brace_ends;
 mod branches;
 mod closures;
 pub mod front;

@@ -11,7 +11,7 @@ ghost use Rattle.lay_tree.specs.nodes.Code.{about_expr};
 ghost use Rattle.lay_tree.specs.nodes.Ends.{ends_in_brace, is_brace_kind};
 ghost use Rattle.lay_tree.specs.nodes.Exprs.{is_brace};
 ghost use Rattle.lay_tree.specs.declared.exprs.Expr.{size-Expr};
-ghost use Rattle.lay_read_blocks.specs.BraceEnds.{IfOperand, IfPart, IfType, braces, closes, ends_type};
+ghost use Rattle.lay_ends.specs.BraceEnds.{IfOperand, IfPart, IfType, braces, closes, ends_type};
 
 use lay_ops::level;
 use lay_token::{Delim, Kind};

@@ -5,12 +5,12 @@ use Rattle.lay_node.specs.declared.types.Ty.{Ty}
 use Rattle.lay_tree.specs.nodes.Code.{about_expr}
 use Rattle.lay_tree.specs.nodes.Ends.{ends_in_brace}
 use Rattle.lay_tree.specs.declared.exprs.Expr.{Expr}
-use Rattle.lay_read_blocks.specs.declared.brace_ends.ClosureEdge.{ClosureEdge}
-use Rattle.lay_read_blocks.specs.declared.brace_ends.ClosureEdge.TheVariants as closure_edge
-use Rattle.lay_read_blocks.specs.declared.brace_ends.Edge.{Edge}
-use Rattle.lay_read_blocks.specs.declared.brace_ends.Edge.TheVariants as edge
-use Rattle.lay_read_blocks.specs.declared.brace_ends.TypeEdge.{TypeEdge}
-use Rattle.lay_read_blocks.specs.declared.brace_ends.TypeEdge.TheVariants as type_edge
+use Rattle.lay_ends.specs.declared.brace_ends.ClosureEdge.{ClosureEdge}
+use Rattle.lay_ends.specs.declared.brace_ends.ClosureEdge.TheVariants as closure_edge
+use Rattle.lay_ends.specs.declared.brace_ends.Edge.{Edge}
+use Rattle.lay_ends.specs.declared.brace_ends.Edge.TheVariants as edge
+use Rattle.lay_ends.specs.declared.brace_ends.TypeEdge.{TypeEdge}
+use Rattle.lay_ends.specs.declared.brace_ends.TypeEdge.TheVariants as type_edge
 
 -- What ends so ends in a `}`.
 abbrev pub ends_type : TypeEdge → Bool

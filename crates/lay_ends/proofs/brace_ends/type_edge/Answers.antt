@@ -2,8 +2,8 @@ use Rattle.std.proofs.Common.{inl, inr, ap, ◌∙◌}
 use Rattle.lay_node.specs.nodes.Types.{about_type}
 use Rattle.lay_node.specs.declared.types.Ty.{Ty}
 use Rattle.lay_tree.specs.nodes.Ends.{ends_in_brace}
-use Rattle.lay_read_blocks.proofs.TypeBraces.{bounds_end, no_bounds, of_path, of_pointer, of_reference}
-use Rattle.lay_read_blocks.proofs.brace_ends.type_edge.Goals as goal
+use Rattle.lay_ends.proofs.TypeBraces.{bounds_end, no_bounds, of_path, of_pointer, of_reference}
+use Rattle.lay_ends.proofs.brace_ends.type_edge.Goals as goal
 
 pub returns-in-Path-clause-told : goal.returns-in-Path-clause-told
 returns-in-Path-clause-told c = c.path_edge.ensures.told ∙ of_path c.args.ty.now c.in-Path.path c.in-Path.is

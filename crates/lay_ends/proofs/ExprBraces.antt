@@ -41,7 +41,7 @@ use Rattle.lay_tree.proofs.nodes.BlocksLaws.{block_is, branch_is}
 use Rattle.lay_tree.proofs.nodes.ExprsLaws as laws
 use Rattle.lay_tree.proofs.reader.ElseEnds.{soft_ends}
 use Rattle.lay_ops.proofs.Last.{last, last_is, no_last}
-use Rattle.lay_read_blocks.proofs.TypeBraces.{Ends, call_ends, list_ends, path_ends}
+use Rattle.lay_ends.proofs.TypeBraces.{Ends, call_ends, list_ends, path_ends}
 
 -- ---- blocks
 

@@ -1,7 +1,7 @@
 use Rattle.std.proofs.Common.{◌∙◌}
 use Rattle.lay_node.specs.declared.types.PathStyle.TheVariants.{Code}
-use Rattle.lay_read_blocks.proofs.TypeBraces.{no_path, path_ends}
-use Rattle.lay_read_blocks.proofs.brace_ends.code_edge.Goals as goal
+use Rattle.lay_ends.proofs.TypeBraces.{no_path, path_ends}
+use Rattle.lay_ends.proofs.brace_ends.code_edge.Goals as goal
 
 pub returns-in-Some-clause-told : goal.returns-in-Some-clause-told
 returns-in-Some-clause-told c =

@@ -1,7 +1,7 @@
 use Rattle.std.proofs.Common.{ℕ, ◌≡◌, ◌+◌}
 use Rattle.lay_tree.specs.reader.Blocks.{undressed}
 use Rattle.lay_tree.specs.declared.exprs.Expr.{size-Expr}
-use Rattle.lay_read_blocks.proofs.arms.undressed.Given as goal
+use Rattle.lay_ends.proofs.bodies.undressed.Given as goal
 
 abbrev pub invariant-loop-body : goal.invariant-loop-body
 invariant-loop-body l = (turns : ℕ) × ((n : ℕ) → undressed (turns + n) l.expr ≡ undressed n l.body)
