@@ -6,11 +6,13 @@ use crate::operators::Op;
 use lay_node::Boxed;
 use lay_token::List;
 
+/// What a box holds.
 #[cycle(drops)]
 pub(crate) fn discard_boxed(node: Boxed<Expr>) {
     drop(node.into_inner());
 }
 
+/// Each of these.
 #[cycle(drops)]
 pub(crate) fn discard_exprs(nodes: List<Expr>) {
     let mut left = nodes.into_vec();
@@ -20,6 +22,7 @@ pub(crate) fn discard_exprs(nodes: List<Expr>) {
     left.destroy_empty();
 }
 
+/// Each of these.
 #[cycle(drops)]
 pub(crate) fn discard_fields(nodes: List<FieldExpr>) {
     let mut left = nodes.into_vec();
@@ -29,14 +32,17 @@ pub(crate) fn discard_fields(nodes: List<FieldExpr>) {
     left.destroy_empty();
 }
 
+/// What is behind `..`, if anything is.
 #[cycle(drops)]
 pub(crate) fn discard_base(node: Option<Option<Boxed<Expr>>>) {
     match node {
-        Some(node) => discard_operand(node),
+        Some(Some(node)) => drop(node.into_inner()),
+        Some(None) => {}
         None => {}
     }
 }
 
+/// Each operand behind its operator.
 #[cycle(drops)]
 pub(crate) fn discard_operands(nodes: List<(Op, Expr)>) {
     let mut left = nodes.into_vec();
@@ -46,14 +52,16 @@ pub(crate) fn discard_operands(nodes: List<(Op, Expr)>) {
     left.destroy_empty();
 }
 
+/// An operand, if it is there.
 #[cycle(drops)]
 pub(crate) fn discard_operand(node: Option<Boxed<Expr>>) {
     match node {
-        Some(node) => discard_boxed(node),
+        Some(node) => drop(node.into_inner()),
         None => {}
     }
 }
 
+/// Each target before its operator.
 #[cycle(drops)]
 pub(crate) fn discard_targets(nodes: List<(Expr, Op)>) {
     let mut left = nodes.into_vec();
@@ -63,6 +71,7 @@ pub(crate) fn discard_targets(nodes: List<(Expr, Op)>) {
     left.destroy_empty();
 }
 
+/// Each of these.
 #[cycle(drops)]
 pub(crate) fn discard_steps(nodes: List<Step>) {
     let mut left = nodes.into_vec();
@@ -72,6 +81,7 @@ pub(crate) fn discard_steps(nodes: List<Step>) {
     left.destroy_empty();
 }
 
+/// Each of these.
 #[cycle(drops)]
 pub(crate) fn discard_branches(nodes: List<Branch>) {
     let mut left = nodes.into_vec();
@@ -81,6 +91,7 @@ pub(crate) fn discard_branches(nodes: List<Branch>) {
     left.destroy_empty();
 }
 
+/// A block, if it is there.
 #[cycle(drops)]
 pub(crate) fn discard_otherwise(node: Option<Block>) {
     match node {
@@ -89,6 +100,7 @@ pub(crate) fn discard_otherwise(node: Option<Block>) {
     }
 }
 
+/// Each of these.
 #[cycle(drops)]
 pub(crate) fn discard_arms(nodes: List<Arm>) {
     let mut left = nodes.into_vec();
@@ -98,6 +110,7 @@ pub(crate) fn discard_arms(nodes: List<Arm>) {
     left.destroy_empty();
 }
 
+/// A value, if it is there.
 #[cycle(drops)]
 pub(crate) fn discard_value(node: Option<Expr>) {
     match node {
@@ -106,11 +119,13 @@ pub(crate) fn discard_value(node: Option<Expr>) {
     }
 }
 
+/// What a box holds.
 #[cycle(drops)]
 pub(crate) fn discard_boxed_item(node: Boxed<Item>) {
     drop(node.into_inner());
 }
 
+/// Each of these.
 #[cycle(drops)]
 pub(crate) fn discard_stmts(nodes: List<Stmt>) {
     let mut left = nodes.into_vec();
@@ -120,6 +135,7 @@ pub(crate) fn discard_stmts(nodes: List<Stmt>) {
     left.destroy_empty();
 }
 
+/// Each of these.
 #[cycle(drops)]
 pub(crate) fn discard_items(nodes: List<Item>) {
     let mut left = nodes.into_vec();
