@@ -1,6 +1,7 @@
 -- Which expressions end in a `}` or in a closure, kind by kind.
-use Rattle.std.proofs.Common.{◌≡◌, ℕ, ◌-◌, not, Bool, true, false, List, [], ◌∷◌, ◌++◌, length, map, codes, Option, option_map, Some, None, is_some, refl, sym, ap, subst, ◌∙◌}
-use Rattle.std.specs.Prelude.{slice_get, nat_le}
+use Rattle.std.proofs.Common.{◌≡◌, ℕ, ◌-◌, ◌&&◌, ◌||◌, not, Bool, true, false, List, [], ◌∷◌, ◌++◌, length, map, codes, Option, option_map, Some, None, is_some, refl, sym, ap, subst, ◌∙◌, arith}
+use Rattle.std.specs.Prelude.{slice_get, nat_le, ◌==◌}
+use Rattle.std.proofs.lemmas.Bool.{eqb-true}
 use Rattle.lay_piece.specs.declared.kind.Delim.TheVariants.{Paren}
 use Rattle.lay_form.specs.Form.{Bit, Blank, Operator, Form, Done, Piece, Part, keyword, opener, closer}
 use Rattle.lay_form.specs.Notation.{I0, body, braces}
@@ -13,6 +14,8 @@ use Rattle.lay_node.specs.nodes.Types.{TypeFacts, about_path, about_type}
 use Rattle.lay_node.specs.declared.attr.Attr.{Attr}
 use Rattle.lay_node.specs.declared.patterns.PatPlace.TheVariants.{Alternatives}
 use Rattle.lay_node.specs.declared.token.Lifetime.{Lifetime}
+use Rattle.lay_node.specs.declared.token.Literal.{Literal}
+use Rattle.lay_node.specs.declared.tokens.MacroCall.{MacroCall}
 use Rattle.lay_node.specs.declared.types.Path.{Path}
 use Rattle.lay_node.specs.declared.types.PathStyle.TheVariants.{Code}
 use Rattle.lay_node.specs.declared.types.Ty.{Ty}
@@ -41,6 +44,7 @@ use Rattle.lay_tree.proofs.nodes.BlocksLaws.{block_is, branch_is}
 use Rattle.lay_tree.proofs.nodes.ExprsLaws as laws
 use Rattle.lay_tree.proofs.reader.ElseEnds.{soft_ends}
 use Rattle.lay_ops.proofs.Last.{last, last_is, no_last}
+use Rattle.lay_ends.specs.BraceEnds.{has_block}
 use Rattle.lay_ends.proofs.TypeBraces.{Ends, call_ends, list_ends, path_ends}
 
 -- ---- blocks
@@ -116,12 +120,20 @@ group_ends true f e before = e before
 group_ends false f e before = e before
 
 steps_end : (several behind : Bool) (s : Step) (more : List Step) → Ends (steps_form several behind (map about_step (s ∷ more))) false
-steps_end several behind s [] = break_ends _ _ (λ b. step_ends s b)
-steps_end several behind s (t ∷ more) = break_ends _ _ (λ b. steps_end several _ t more _)
+steps_end several behind s [] =
+    let told = about_step s in
+    break_ends (several && (behind && is_method told.kind)) (Part told.form Done) (λ b. step_ends s b)
+steps_end several behind s (t ∷ more) =
+    let told = about_step s in
+    let rest = behind || is_method told.kind in
+    break_ends (several && (behind && is_method told.kind)) (Part told.form (steps_form several rest (map about_step (t ∷ more))))
+    (λ b. steps_end several rest t more (brace_behind b told.form))
 
 postfix_ends : (x : ExprFacts) (several groups : Bool) (s : Step) (more : List Step)
     → Ends (group_if groups (Part x.form (steps_form several false (map about_step (s ∷ more))))) false
-postfix_ends x several groups s more = group_ends groups _ (λ b. steps_end several false s more _)
+postfix_ends x several groups s more =
+    group_ends groups (Part x.form (steps_form several false (map about_step (s ∷ more))))
+    (λ b. steps_end several false s more (brace_behind b x.form))
 
 -- ---- operators
 
@@ -167,10 +179,6 @@ abbrev pub steps_in : Expr → List Step → Bool
 steps_in x [] = ends_in_brace (about_expr x).form
 steps_in x (s ∷ more) = false
 
-abbrev pub branches_in : List Branch → Option Block → Bool
-branches_in [] o = is_some o
-branches_in (b ∷ more) o = true
-
 abbrev pub brace_in : Expr-F Stmt Expr FieldExpr Step ItemKind Arm Block Branch Item → Bool
 brace_in (Expr-F.Lit l) = is_brace_kind l.kind
 brace_in (Expr-F.Path path) = ends_in_brace (about_path path Code).form
@@ -186,7 +194,7 @@ brace_in (Expr-F.Block label b) = true
 brace_in (Expr-F.Unsafe b) = true
 brace_in (Expr-F.ConstBlock b) = true
 brace_in (Expr-F.Async moves b) = true
-brace_in (Expr-F.If branches otherwise) = branches_in branches otherwise
+brace_in (Expr-F.If branches otherwise) = has_block branches otherwise
 brace_in (Expr-F.Match x attrs arms) = true
 brace_in (Expr-F.Loop label b) = true
 brace_in (Expr-F.While label pat x b) = true
@@ -212,11 +220,17 @@ brace_by _ (laws.IsArray []) = rw (laws.expr_array_is [], views.outs-Array []) r
 brace_by _ (laws.IsArray (x ∷ xs)) = rw (laws.expr_array_is (x ∷ xs), views.outs-Array (x ∷ xs)) refl
 brace_by _ (laws.IsRepeat x length) = rw (laws.expr_repeat_is x length, views.outs-Repeat x length) refl
 brace_by _ (laws.IsStruct path fields None) =
-    rw (laws.expr_struct_is path fields None, views.outs-Expr::Struct path fields None) (fields_end _ _ _)
+    let head = ends_in_brace (about_path path Code).form in
+    rw (laws.expr_struct_is path fields None, views.outs-Expr::Struct path fields None)
+    (fields_end true (map (λ (f : Facts). f.form) (map about_field_expr fields) ++ base_form None) head)
 brace_by _ (laws.IsStruct path fields (Some None)) =
-    rw (laws.expr_struct_is path fields (Some None), views.outs-Expr::Struct path fields (Some None)) (fields_end _ _ _)
+    let head = ends_in_brace (about_path path Code).form in
+    rw (laws.expr_struct_is path fields (Some None), views.outs-Expr::Struct path fields (Some None))
+    (fields_end false (map (λ (f : Facts). f.form) (map about_field_expr fields) ++ base_form (Some None)) head)
 brace_by _ (laws.IsStruct path fields (Some (Some x))) =
-    rw (laws.expr_struct_is path fields (Some (Some x)), views.outs-Expr::Struct path fields (Some (Some x))) (fields_end _ _ _)
+    let head = ends_in_brace (about_path path Code).form in
+    rw (laws.expr_struct_is path fields (Some (Some x)), views.outs-Expr::Struct path fields (Some (Some x)))
+    (fields_end false (map (λ (f : Facts). f.form) (map about_field_expr fields) ++ base_form (Some (Some (about_expr x)))) head)
 brace_by _ (laws.IsChain x rest) = rw (laws.expr_chain_is x rest, views.outs-Chain x rest) refl
 brace_by _ (laws.IsCast x types) = rw (laws.expr_cast_is x types, views.outs-Cast x types) refl
 brace_by _ (laws.IsUnary ps x) = rw (laws.expr_unary_is ps x, views.outs-Unary ps x) (prefixes_end ps (about_expr x).form)
@@ -344,9 +358,70 @@ no_cast x operand lent types slice is same h e =
     ∙ ap (λ xs. brace_behind before (types_form (map about_type xs))) (sym (no_last slice (h ∙ last_is slice)) ∙ same)
     ∙ cast_told operand types ∙ ap (λ (y : Expr). ends_in_brace (about_expr y).form) (sym is)
 
+-- ---- other kinds
+
+-- What is told of a kind is told of an expression of it.
+told_by : (x y : Expr) (F : Expr-F Stmt Expr FieldExpr Step ItemKind Arm Block Branch Item) → x ≡ y → views.out-Expr y ≡ F
+    → brace_in F ≡ ends_in_brace (about_expr x).form
+told_by x y F is out = sym (brace_is x ∙ ap brace_in (ap views.out-Expr is ∙ out))
+
+pub of_lit : (x : Expr) (l : Literal) → x ≡ expr.Lit l → is_brace_kind l.kind ≡ ends_in_brace (about_expr x).form
+of_lit x l is = told_by x (expr.Lit l) (Expr-F.Lit l) is (views.outs-Lit l)
+
 pub of_path : (x : Expr) (path : Path) → x ≡ expr.Path path
     → ends_in_brace (about_path path Code).form ≡ ends_in_brace (about_expr x).form
-of_path x path is = sym (brace_is x ∙ ap brace_in (ap views.out-Expr is ∙ views.outs-Path path))
+of_path x path is = told_by x (expr.Path path) (Expr-F.Path path) is (views.outs-Path path)
+
+pub of_call : (x : Expr) (call : MacroCall) → x ≡ expr.Call call
+    → is_brace call.tokens.delim ≡ ends_in_brace (about_expr x).form
+of_call x call is = told_by x (expr.Call call) (Expr-F.Expr::Call call) is (views.outs-Expr::Call call)
+
+pub of_unary : (x operand lent : Expr) (prefixes : List Prefix) → x ≡ expr.Unary prefixes operand → lent ≡ operand
+    → ends_in_brace (about_expr lent).form ≡ ends_in_brace (about_expr x).form
+of_unary x operand lent prefixes is same =
+    ap (λ (y : Expr). ends_in_brace (about_expr y).form) same
+    ∙ told_by x (expr.Unary prefixes operand) (Expr-F.Unary prefixes operand) is (views.outs-Unary prefixes operand)
+
+pub of_assign : (x value lent : Expr) (targets : List (Expr × Op)) → x ≡ expr.Assign targets value → lent ≡ value
+    → ends_in_brace (about_expr lent).form ≡ ends_in_brace (about_expr x).form
+of_assign x value lent targets is same =
+    ap (λ (y : Expr). ends_in_brace (about_expr y).form) same
+    ∙ told_by x (expr.Assign targets value) (Expr-F.Assign targets value) is (views.outs-Assign targets value)
+
+pub of_closure : (x inner lent : Expr) (moves : Bool) (params : List ClosureParam) → x ≡ expr.Closure moves params inner → lent ≡ inner
+    → ends_in_brace (about_expr lent).form ≡ ends_in_brace (about_expr x).form
+of_closure x inner lent moves params is same =
+    ap (λ (y : Expr). ends_in_brace (about_expr y).form) same
+    ∙ told_by x (expr.Closure moves params inner) (Expr-F.Closure moves params inner) is (views.outs-Closure moves params inner)
+
+no_step : (x : Expr) (steps : List Step) → (length steps == 0) ≡ true → ends_in_brace (about_expr x).form ≡ steps_in x steps
+no_step x [] h = refl
+no_step x (s ∷ more) h = absurd (omega (arith, eqb-true (length (s ∷ more)) 0 h))
+
+one_step : (x : Expr) (steps : List Step) → (length steps == 0) ≡ false → false ≡ steps_in x steps
+one_step x [] h = absurd (cc h)
+one_step x (s ∷ more) h = refl
+
+pub no_steps : (x operand lent : Expr) (steps slice : List Step) (empty : Bool) → x ≡ expr.Postfix operand steps → slice ≡ steps
+    → empty ≡ (length slice == 0) → empty ≡ true → lent ≡ operand
+    → ends_in_brace (about_expr lent).form ≡ ends_in_brace (about_expr x).form
+no_steps x operand lent steps slice empty is e test h same =
+    ap (λ (y : Expr). ends_in_brace (about_expr y).form) same ∙ no_step operand slice (sym test ∙ h) ∙ ap (steps_in operand) e
+    ∙ told_by x (expr.Postfix operand steps) (Expr-F.Postfix operand steps) is (views.outs-Postfix operand steps)
+
+pub some_steps : (x operand : Expr) (steps slice : List Step) (empty : Bool) → x ≡ expr.Postfix operand steps → slice ≡ steps
+    → empty ≡ (length slice == 0) → empty ≡ false → false ≡ ends_in_brace (about_expr x).form
+some_steps x operand steps slice empty is e test h =
+    one_step operand slice (sym test ∙ h) ∙ ap (steps_in operand) e
+    ∙ told_by x (expr.Postfix operand steps) (Expr-F.Postfix operand steps) is (views.outs-Postfix operand steps)
+
+pub of_if : (x : Expr) (branches slice : List Branch) (otherwise : Option Block) → x ≡ expr.If branches otherwise → slice ≡ branches
+    → has_block slice otherwise ≡ ends_in_brace (about_expr x).form
+of_if x branches slice None is e =
+    ap (λ bs. has_block bs None) e ∙ told_by x (expr.If branches None) (Expr-F.If branches None) is (views.outs-If branches None)
+of_if x branches slice (Some b) is e =
+    ap (λ bs. has_block bs (Some b)) e
+    ∙ told_by x (expr.If branches (Some b)) (Expr-F.If branches (Some b)) is (views.outs-If branches (Some b))
 
 -- ---- closures
 
@@ -415,3 +490,7 @@ closure_by _ (laws.IsBreak label (Some x)) = rw (laws.expr_break_is label (Some 
 
 pub closure_is : (x : Expr) → (about_expr x).tail.closure ≡ closure_in (views.out-Expr x)
 closure_is x = closure_by x (laws.expr_view x)
+
+pub unary_closes : (x operand lent : Expr) (prefixes : List Prefix) → x ≡ expr.Unary prefixes operand → lent ≡ operand
+    → (about_expr lent).tail.closure ≡ (about_expr x).tail.closure
+unary_closes x operand lent prefixes is same = rw (is, same, laws.expr_unary_is prefixes operand) refl

@@ -1,6 +1,6 @@
 -- A pair of braces around the body of an arm that isn't in the tree.
-use Rattle.std.proofs.Common.{◌≡◌, ℕ, zero, suc, ◌+◌, ◌-◌, ◌<◌, ◌≤◌, Bool, true, false, not, ◌&&◌, List, [], ◌∷◌, ◌++◌, map, length, drop, inl, inr, codes, Option, option_map, Some, None, is_some, refl, sym, ap, subst, ◌∙◌, arith, if◌then◌else◌}
-use Rattle.std.specs.Prelude.{nat_le, ◌==◌}
+use Rattle.std.proofs.Common.{◌≡◌, ℕ, zero, suc, ◌+◌, ◌-◌, ◌<◌, ◌≤◌, Bool, true, false, not, ◌&&◌, ◌||◌, List, [], ◌∷◌, ◌++◌, map, length, drop, inl, inr, codes, Option, option_map, Some, None, is_some, refl, sym, ap, subst, ◌∙◌, arith, if◌then◌else◌}
+use Rattle.std.specs.Prelude.{max, nat_le, ◌==◌}
 use Rattle.std.proofs.lemmas.Bool.{and_parts}
 use Rattle.lay_token.specs.Operators.{is_op}
 use Rattle.lay_piece.specs.declared.kind.Delim.TheVariants.{Brace}
@@ -71,3 +71,10 @@ pub held_turn : (undress : Expr → Expr) (x : Expr) (b : Block) (s : Stmt) (att
     → b.stmts ≡ s ∷ [] → s ≡ stmt.Expr attrs y ended → held_by undress x b.stmts ≡ undress y
 held_turn undress x b s attrs y ended e is =
     ap (held_by undress x) e ∙ ap (bare_by undress x) (ap views.out-Stmt is ∙ views.outs-Expr attrs y ended)
+
+pub block_of : (x : Expr) → is_lone_body (about_expr x).kind ≡ true
+    → (label : Option Lifetime) × (b : Block) × (x ≡ expr.Block label b)
+block_of x h = by x (is_alone x h)
+  where
+    by : (x : Expr) → Lone x → (label : Option Lifetime) × (b : Block) × (x ≡ expr.Block label b)
+    by _ (IsAlone y macro) = (None, alone_block y, refl)

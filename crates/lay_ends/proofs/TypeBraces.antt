@@ -285,6 +285,10 @@ pub of_path : (x : Ty) (path : Path) → x ≡ ty.Path path
     → ends_in_brace (about_path path Kind).form ≡ ends_in_brace (about_type x).told.form
 of_path x path is = sym (type_is x ∙ ap type_in (ap views.out-Ty is ∙ views.outs-Path path))
 
+pub of_call : (x : Ty) (call : MacroCall) → x ≡ ty.Call call
+    → is_brace call.tokens.delim ≡ ends_in_brace (about_type x).told.form
+of_call x call is = sym (type_is x ∙ ap type_in (ap views.out-Ty is ∙ views.outs-Call call))
+
 pub of_pointer : (x : Ty) (mutable : Bool) (pointed : Ty) → x ≡ ty.Ptr mutable pointed
     → ends_in_brace (about_type pointed).told.form ≡ ends_in_brace (about_type x).told.form
 of_pointer x mutable pointed is = sym (type_is x ∙ ap type_in (ap views.out-Ty is ∙ views.outs-Ptr mutable pointed))

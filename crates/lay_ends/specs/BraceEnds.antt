@@ -1,9 +1,11 @@
 -- What types and expressions end in, in code: a `}`, or for an expression a closure.
-use Rattle.std.specs.Prelude.{Bool, true, false}
+use Rattle.std.specs.Prelude.{Bool, true, false, List, [], ◌∷◌, Option, is_some}
 use Rattle.lay_node.specs.nodes.Types.{about_type}
 use Rattle.lay_node.specs.declared.types.Ty.{Ty}
 use Rattle.lay_tree.specs.nodes.Code.{about_expr}
 use Rattle.lay_tree.specs.nodes.Ends.{ends_in_brace}
+use Rattle.lay_tree.specs.declared.blocks.Block.{Block}
+use Rattle.lay_tree.specs.declared.blocks.Branch.{Branch}
 use Rattle.lay_tree.specs.declared.exprs.Expr.{Expr}
 use Rattle.lay_ends.specs.declared.brace_ends.ClosureEdge.{ClosureEdge}
 use Rattle.lay_ends.specs.declared.brace_ends.ClosureEdge.TheVariants as closure_edge
@@ -39,3 +41,8 @@ closes (closure_edge.In x) = (about_expr x.now).tail.closure
 abbrev pub IfOperand : ClosureEdge → (Expr → Type 0) → Type 0
 IfOperand (closure_edge.In x) p = p x.now
 IfOperand _ p = Unit {0}
+
+-- There is a branch or an `else`.
+abbrev pub has_block : List Branch → Option Block → Bool
+has_block [] otherwise = is_some otherwise
+has_block (b ∷ more) otherwise = true

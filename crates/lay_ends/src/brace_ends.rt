@@ -11,11 +11,11 @@ ghost use Rattle.lay_tree.specs.nodes.Code.{about_expr};
 ghost use Rattle.lay_tree.specs.nodes.Ends.{ends_in_brace, is_brace_kind};
 ghost use Rattle.lay_tree.specs.nodes.Exprs.{is_brace};
 ghost use Rattle.lay_tree.specs.declared.exprs.Expr.{size-Expr};
-ghost use Rattle.lay_ends.specs.BraceEnds.{IfOperand, IfPart, IfType, braces, closes, ends_type};
+ghost use Rattle.lay_ends.specs.BraceEnds.{IfOperand, IfPart, IfType, braces, closes, ends_type, has_block};
 
 use lay_ops::level;
 use lay_token::{Delim, Kind};
-use lay_tree::{Args, Bound, Expr, Path, Ty};
+use lay_tree::{Args, Block, Bound, Branch, Expr, Path, Ty};
 
 /// What a type ends in.
 #[derive(Clone, Copy)]
@@ -149,7 +149,7 @@ fn last_part(expr: &Expr) -> Edge<'_>
         Expr::If {
             branches,
             otherwise,
-        } => Edge::Token(!branches.as_slice().is_empty() || otherwise.is_some()),
+        } => Edge::Token(has_block(branches.as_slice(), otherwise)),
         Expr::Struct { .. }
         | Expr::Block { .. }
         | Expr::Unsafe { .. }
@@ -164,9 +164,19 @@ fn last_part(expr: &Expr) -> Edge<'_>
     }
 }
 
+/// Whether there is a branch or an `else`.
+fn has_block(branches: &[Branch], otherwise: &Option<Block>) -> bool
+    ensures { result ≡ has_block branches.now otherwise.now }
+{
+    match branches {
+        [] => otherwise.is_some(),
+        _ => true,
+    }
+}
+
 /// The same of what ends as a type does.
 fn type_edge_of(edge: TypeEdge<'_>) -> Edge<'_>
-    ensures told { braces result ≡ ends_type edge }
+    ensures told { braces result ≡ ends_type edge.entry }
     ensures smaller { IfPart result (λ operand. ⊥) }
 {
     match edge {
@@ -231,12 +241,14 @@ fn bound_edge(bound: &Bound) -> TypeEdge<'_>
     ensures smaller { IfType result (λ ty. size-Ty ty < size-Bound bound.now) }
 {
     match bound {
-        Bound::Meets {
-            parens: false,
-            path,
-            ..
-        } => path_edge(path),
-        _ => TypeEdge::Token(false),
+        Bound::Outlives { .. } => TypeEdge::Token(false),
+        Bound::Meets { parens, path, .. } => {
+            if *parens {
+                TypeEdge::Token(false)
+            } else {
+                path_edge(path)
+            }
+        },
     }
 }
 

@@ -1,6 +1,6 @@
 -- Bodies of arms: what is read of one is within no more pairs of braces that aren't in the tree than there are tokens.
-use Rattle.std.proofs.Common.{◌≡◌, ℕ, zero, suc, ◌+◌, ◌-◌, ◌<◌, ◌≤◌, Bool, true, false, not, ◌&&◌, List, [], ◌∷◌, ◌++◌, map, length, drop, inl, inr, codes, Option, option_map, Some, None, is_some, refl, sym, ap, subst, ◌∙◌, arith, if◌then◌else◌}
-use Rattle.std.specs.Prelude.{nat_le, ◌==◌}
+use Rattle.std.proofs.Common.{◌≡◌, ℕ, zero, suc, ◌+◌, ◌-◌, ◌<◌, ◌≤◌, Bool, true, false, not, ◌&&◌, ◌||◌, List, [], ◌∷◌, ◌++◌, map, length, drop, inl, inr, codes, Option, option_map, Some, None, is_some, refl, sym, ap, subst, ◌∙◌, arith, if◌then◌else◌}
+use Rattle.std.specs.Prelude.{max, nat_le, ◌==◌}
 use Rattle.std.proofs.lemmas.Bool.{and_parts}
 use Rattle.lay_token.specs.Operators.{is_op}
 use Rattle.lay_piece.specs.declared.kind.Delim.TheVariants.{Brace}
@@ -73,15 +73,18 @@ bare_alone m n _ (IsAlone y macro) h same b c =
     let f = undressed_alone n y h in
     e ∙ same y (subst Bare e b) (subst Bare f c) ∙ sym f
 
+same_by : (m n : ℕ) (x : Expr) (lone : Bool) → is_lone_body (about_expr x).kind ≡ lone
+    → ((y : Expr) → Bare (undressed m y) → Bare (undressed n y) → undressed m y ≡ undressed n y)
+    → Bare (undressed (suc m) x) → Bare (undressed (suc n) x) → undressed (suc m) x ≡ undressed (suc n) x
+same_by m n x false h same b c = undressed_other (suc m) x h ∙ sym (undressed_other (suc n) x h)
+same_by m n x true h same b c = bare_alone m n x (is_alone x h) h same b c
+
 pub bare_same : (m n : ℕ) (x : Expr) → Bare (undressed m x) → Bare (undressed n x) → undressed m x ≡ undressed n x
 unfolding undressed
 bare_same zero n x b c = sym (undressed_other n x b)
 bare_same (suc m) zero x b c = undressed_other (suc m) x c
-bare_same (suc m) (suc n) x b c = by (is_lone_body (about_expr x).kind) refl
-  where
-    by : (lone : Bool) → is_lone_body (about_expr x).kind ≡ lone → undressed (suc m) x ≡ undressed (suc n) x
-    by false h = undressed_other (suc m) x h ∙ sym (undressed_other (suc n) x h)
-    by true h = bare_alone m n x (is_alone x h) h (λ y. bare_same m n y) b c
+bare_same (suc m) (suc n) x b c =
+    same_by m n x (is_lone_body (about_expr x).kind) refl (λ y d e. bare_same m n y d e) b c
 
 -- More turns leave none either.
 more_alone : (m n : ℕ) (x : Expr) → Lone x → is_lone_body (about_expr x).kind ≡ true
@@ -89,15 +92,17 @@ more_alone : (m n : ℕ) (x : Expr) → Lone x → is_lone_body (about_expr x).k
 more_alone m n _ (IsAlone y macro) h more b =
     subst Bare (sym (undressed_alone n y h)) (more y (subst Bare (undressed_alone m y h) b))
 
+more_by : (m n : ℕ) (x : Expr) (lone : Bool) → is_lone_body (about_expr x).kind ≡ lone
+    → ((y : Expr) → Bare (undressed m y) → Bare (undressed n y)) → Bare (undressed (suc m) x) → Bare (undressed (suc n) x)
+more_by m n x false h more b = subst Bare (sym (undressed_other (suc n) x h)) h
+more_by m n x true h more b = more_alone m n x (is_alone x h) h more b
+
 bare_more : (m n : ℕ) (x : Expr) → m ≤ n → Bare (undressed m x) → Bare (undressed n x)
 unfolding undressed
 bare_more zero n x le b = subst Bare (sym (undressed_other n x b)) b
 bare_more (suc m) zero x le b = absurd (omega (arith, le))
-bare_more (suc m) (suc n) x le b = by (is_lone_body (about_expr x).kind) refl
-  where
-    by : (lone : Bool) → is_lone_body (about_expr x).kind ≡ lone → Bare (undressed (suc n) x)
-    by false h = subst Bare (sym (undressed_other (suc n) x h)) h
-    by true h = more_alone m n x (is_alone x h) h (λ y. bare_more m n y (omega (arith, le))) b
+bare_more (suc m) (suc n) x le b =
+    more_by m n x (is_lone_body (about_expr x).kind) refl (λ y d. bare_more m n y (omega (arith, le)) d) b
 
 -- ---- what a block holds
 
@@ -178,7 +183,8 @@ module _ (within : ExprWithin) (shallow : Shallow within) (left : LeftCode withi
         | inl g ↦
             let held : OfStmt n (stmt.Let attrs p.0.0.0 t.0.0.0 x.0.0.0 o.0.0.0) =
             subst (stmt_in n) (sym (views.outs-Let attrs p.0.0.0 t.0.0.0 x.0.0.0 o.0.0.0)) tt in
-            same_some (StmtRead n) ((stmt.Let attrs p.0.0.0 t.0.0.0 x.0.0.0 o.0.0.0, _), c.0) r g.1 held
+            same_some (StmtRead n)
+            ((stmt.Let attrs p.0.0.0 t.0.0.0 x.0.0.0 o.0.0.0, max p.0.0.1 (max t.0.0.1 (max x.0.0.1 o.0.0.1))), c.0) r g.1 held
         | inr g ↦ absurd (cc g.1)
       ]
 

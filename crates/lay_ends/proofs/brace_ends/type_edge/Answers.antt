@@ -2,7 +2,7 @@ use Rattle.std.proofs.Common.{inl, inr, ap, ◌∙◌}
 use Rattle.lay_node.specs.nodes.Types.{about_type}
 use Rattle.lay_node.specs.declared.types.Ty.{Ty}
 use Rattle.lay_tree.specs.nodes.Ends.{ends_in_brace}
-use Rattle.lay_ends.proofs.TypeBraces.{bounds_end, no_bounds, of_path, of_pointer, of_reference}
+use Rattle.lay_ends.proofs.TypeBraces.{bounds_end, no_bounds, of_call, of_path, of_pointer, of_reference}
 use Rattle.lay_ends.proofs.brace_ends.type_edge.Goals as goal
 
 pub returns-in-Path-clause-told : goal.returns-in-Path-clause-told
@@ -26,3 +26,6 @@ pub returns-in-None-clause-told : goal.returns-in-None-clause-told
 returns-in-None-clause-told c =
     let b = c.in-Bounds in
     no_bounds c.args.ty.now b.dynamic b.bounds c.as_slice.result.now b.is c.as_slice.ensures c.in-None.ensures.value
+
+pub returns-in-Call-clause-told : goal.returns-in-Call-clause-told
+returns-in-Call-clause-told c = c.is_brace.ensures ∙ of_call c.args.ty.now c.in-Call.call c.in-Call.is
