@@ -1,32 +1,33 @@
+use Rattle.std.proofs.Common.{◌≡◌, length, take}
 use Rattle.lay_tree.proofs.+drops.Given as goal
 
--- What is left of a list is no deeper than it.
+-- What is left of a list is a front of it.
 abbrev pub invariant-drops::discard_arms-loop-node : goal.invariant-drops::discard_arms-loop-node
-invariant-drops::discard_arms-loop-node l = goal.no_deeper-drops::discard_arms-loop-node l
+invariant-drops::discard_arms-loop-node l = l.left.items ≡ take (length l.left.items) l.fn.nodes
 
 abbrev pub invariant-drops::discard_branches-loop-node : goal.invariant-drops::discard_branches-loop-node
-invariant-drops::discard_branches-loop-node l = goal.no_deeper-drops::discard_branches-loop-node l
+invariant-drops::discard_branches-loop-node l = l.left.items ≡ take (length l.left.items) l.fn.nodes
 
 abbrev pub invariant-drops::discard_exprs-loop-node : goal.invariant-drops::discard_exprs-loop-node
-invariant-drops::discard_exprs-loop-node l = goal.no_deeper-drops::discard_exprs-loop-node l
+invariant-drops::discard_exprs-loop-node l = l.left.items ≡ take (length l.left.items) l.fn.nodes
 
 abbrev pub invariant-drops::discard_fields-loop-node : goal.invariant-drops::discard_fields-loop-node
-invariant-drops::discard_fields-loop-node l = goal.no_deeper-drops::discard_fields-loop-node l
+invariant-drops::discard_fields-loop-node l = l.left.items ≡ take (length l.left.items) l.fn.nodes
 
 abbrev pub invariant-drops::discard_items-loop-node : goal.invariant-drops::discard_items-loop-node
-invariant-drops::discard_items-loop-node l = goal.no_deeper-drops::discard_items-loop-node l
+invariant-drops::discard_items-loop-node l = l.left.items ≡ take (length l.left.items) l.fn.nodes
 
 abbrev pub invariant-drops::discard_operands-loop-node : goal.invariant-drops::discard_operands-loop-node
-invariant-drops::discard_operands-loop-node l = goal.no_deeper-drops::discard_operands-loop-node l
+invariant-drops::discard_operands-loop-node l = l.left.items ≡ take (length l.left.items) l.fn.nodes
 
 abbrev pub invariant-drops::discard_steps-loop-node : goal.invariant-drops::discard_steps-loop-node
-invariant-drops::discard_steps-loop-node l = goal.no_deeper-drops::discard_steps-loop-node l
+invariant-drops::discard_steps-loop-node l = l.left.items ≡ take (length l.left.items) l.fn.nodes
 
 abbrev pub invariant-drops::discard_stmts-loop-node : goal.invariant-drops::discard_stmts-loop-node
-invariant-drops::discard_stmts-loop-node l = goal.no_deeper-drops::discard_stmts-loop-node l
+invariant-drops::discard_stmts-loop-node l = l.left.items ≡ take (length l.left.items) l.fn.nodes
 
 abbrev pub invariant-drops::discard_targets-loop-node : goal.invariant-drops::discard_targets-loop-node
-invariant-drops::discard_targets-loop-node l = goal.no_deeper-drops::discard_targets-loop-node l
+invariant-drops::discard_targets-loop-node l = l.left.items ≡ take (length l.left.items) l.fn.nodes
 
 -- Each turn takes one node out.
 abbrev pub decreases-drops::discard_arms-loop-node : goal.decreases-drops::discard_arms-loop-node
