@@ -14,6 +14,7 @@ use Rattle.lay_tree.specs.nodes.Code.{told_of_kind}
 use Rattle.lay_tree.specs.nodes.Item.{is_inherited}
 use Rattle.lay_tree.proofs.nodes.ItemLaws as laws
 use Rattle.lay_tree.proofs.nodes.ItemLaws.{KindView, IsExternCrate, IsImport, IsFileModule, IsModule, IsFunction, IsAlias, IsStruct, IsUnion, IsEnum, IsValue, IsTrait, IsImpl, IsForeign, IsRules, IsCall}
+use Rattle.lay_tree.specs.declared.blocks.Block.{Block}
 use Rattle.lay_tree.specs.declared.exprs.Place.{Place}
 use Rattle.lay_tree.specs.declared.item.Item.{Item}
 use Rattle.lay_tree.specs.declared.item.ItemKind.{ItemKind}
@@ -141,7 +142,11 @@ expr_deeper place n ts some =
     ∙ ap (λ (k : ℕ). expr_by (code_within (n - 1)) k place ts) (sym e)
 
 -- A block within a depth that is no zero is read by the rules of the level, one level deeper.
-pub block_deeper : (n : ℕ) (ts : Tokens) → 0 < n → (code_in n).blocks ts ≡ deeper_block (code_within (n - 1)) ts
+block_deeper : (n : ℕ) (ts : Tokens) → 0 < n → (code_in n).blocks ts ≡ deeper_block (code_within (n - 1)) ts
 unfolding code_in
 block_deeper n ts some =
     above_zero (λ (k : ℕ). (code_in k).blocks ts) n some ∙ ap (λ w. deeper_block w ts) (code_is (n - 1))
+
+pub block_found : (n : ℕ) (ts : Tokens) (r : Result (Found Block) ReadNone) (left : Tokens) → 0 < n
+    → IsFound (deeper_block (code_within (n - 1)) ts) r left → IsFound ((code_in n).blocks ts) r left
+block_found n ts r left some h = rw (block_deeper n ts some) h

@@ -13,7 +13,7 @@ use Rattle.lay_tree.specs.declared.file.File.{File}
 use Rattle.lay_tree.specs.declared.item.ItemKind.{ItemKind}
 use Rattle.lay_tree.specs.declared.item.ItemKind.TheVariants as item
 use Rattle.lay_read_tokens.specs.declared.stop.ReadNone.{ReadNone}
-use Rattle.lay_read_tokens.specs.declared.stop.ReadNone.TheVariants.{NoReading, NoMemory}
+use Rattle.lay_read_tokens.specs.declared.stop.ReadNone.TheVariants as stop
 use Rattle.lay_read_blocks.specs.Answers.{code_within}
 
 -- What was read one by one, and what is left, is this run; memory may always be wanting.
@@ -50,5 +50,5 @@ alone one (suc budget) ts = do x ← one (code_within budget) ts; if nat_le x.0.
 -- What a reader answers that gives what is read, where it is read; where it isn't, the place stays.
 abbrev pub IsReadBy : {A : Type 0} → Read A → Tokens → Result A ReadNone → Tokens → Type 0
 IsReadBy read ahead (Ok node) left = (need : ℕ) × (read ≡ Some ((node, need), left))
-IsReadBy read ahead (Err NoReading) left = (read ≡ None) × (left ≡ ahead)
-IsReadBy read ahead (Err NoMemory) left = left ≡ ahead
+IsReadBy read ahead (Err stop.NoReading) left = (read ≡ None) × (left ≡ ahead)
+IsReadBy read ahead (Err stop.NoMemory) left = left ≡ ahead

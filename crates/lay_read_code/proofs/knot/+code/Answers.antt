@@ -3,7 +3,7 @@ use Rattle.std.proofs.lemmas.Result.{err_from_is_err_and}
 use Rattle.lay_node.specs.Ahead.{more_items}
 use Rattle.lay_node.specs.reader.Attr.{attributes}
 use Rattle.lay_node.specs.reader.Vis.{visibility}
-use Rattle.lay_tree.specs.reader.Code.{code_in, deeper_block, expr_at, item_at}
+use Rattle.lay_tree.specs.reader.Code.{expr_at, item_at}
 use Rattle.lay_tree.specs.reader.Exprs.{expr_by}
 use Rattle.lay_tree.specs.reader.Item.{fn_body, item_body, items_by, kind_at}
 use Rattle.lay_read_tokens.proofs.Left.{shorter}
@@ -14,8 +14,8 @@ use Rattle.lay_read_tokens.proofs.Holding.{holding_more}
 use Rattle.lay_read_types.proofs.Steps.{found_by}
 use Rattle.lay_read_blocks.specs.Answers.{code_within}
 use Rattle.lay_read_code.specs.Begun.{begun_at, deeper, value_end}
-use Rattle.lay_read_code.proofs.Bodies.{block_within, kind_no_block, kind_no_body, kind_no_value, kind_none, kind_whole, kind_with_block, kind_with_body, kind_with_value, made_found, value_within}
-use Rattle.lay_read_code.proofs.Steps.{block_deeper, block_nowhere, expr_deeper, expr_nowhere, item_kept, item_no_attrs, item_no_kind, item_no_vis, item_nowhere, second_found, second_stopped, second_within}
+use Rattle.lay_read_code.proofs.ItemBodies.{block_within, kind_no_block, kind_no_body, kind_no_value, kind_none, kind_whole, kind_with_block, kind_with_body, kind_with_value, made_found, value_within}
+use Rattle.lay_read_code.proofs.Steps.{block_found, block_nowhere, expr_deeper, expr_nowhere, item_kept, item_no_attrs, item_no_kind, item_no_vis, item_nowhere, second_found, second_stopped, second_within}
 use Rattle.lay_read_code.proofs.knot.+code.Goals as goal
 
 -- ---- expressions
@@ -41,10 +41,7 @@ block_ahead-returns-then-depth-eq0-clause-read t c =
 
 pub block_ahead-returns-clause-read : goal.block_ahead-returns-clause-read
 block_ahead-returns-clause-read t c =
-    let ts = c.args.at.now in
-    let depth = c.args.depth in
-    found_by ((code_in depth).blocks ts) (deeper_block (code_within (depth - 1)) ts) c.deeper_block.result
-    c.deeper_block.new.at (block_deeper depth ts (omega arith)) c.deeper_block.ensures.read
+    block_found c.args.depth c.args.at.now c.deeper_block.result c.deeper_block.new.at (omega arith) c.deeper_block.ensures.read
 
 -- ---- items in a body
 
