@@ -2,6 +2,7 @@
 use Rattle.std.proofs.Common.{ℕ, zero, suc, ◌||◌, Bool, true, false, List, [], ◌∷◌, drop, codes, Option, Some, None, is_some, if◌then◌else◌, arith}
 use Rattle.lay_piece.specs.declared.kind.Delim.TheVariants.{Brace}
 use Rattle.lay_token.specs.Operators.{is_op}
+use Rattle.lay_token.specs.declared.token.Token.{Token}
 use Rattle.lay_node.specs.Ahead.{Tokens, first, tail, is_keyword, is_mark, opens, closes, more_items}
 use Rattle.lay_node.specs.reader.Attr.{attributes}
 use Rattle.lay_node.specs.reader.Heads.{semicolon}
@@ -41,13 +42,14 @@ pub tail_left : (ts : Tokens) → Left 0 ts (tail ts)
 tail_left [] = unread []
 tail_left (t ∷ ts) = dropped 1 (t ∷ ts)
 
+semicolons_by : (t : Token) (ts : Tokens) (marked : Bool) → Left 0 ts (b.behind_semicolons ts)
+    → Left 0 (t ∷ ts) (if marked then b.behind_semicolons ts else t ∷ ts)
+semicolons_by t ts true l = joined 0 1 0 (t ∷ ts) ts (b.behind_semicolons ts) (omega arith) (one_read t ts) l
+semicolons_by t ts false l = unread (t ∷ ts)
+
 pub semicolons_left : (ts : Tokens) → Left 0 ts (b.behind_semicolons ts)
 semicolons_left [] = unread []
-semicolons_left (t ∷ ts) = by (is_mark (codes ";") t)
-  where
-    by : (marked : Bool) → Left 0 (t ∷ ts) (if marked then b.behind_semicolons ts else t ∷ ts)
-    by true = joined 0 1 0 (t ∷ ts) ts (b.behind_semicolons ts) (omega arith) (one_read t ts) (semicolons_left ts)
-    by false = unread (t ∷ ts)
+semicolons_left (t ∷ ts) = semicolons_by t ts (is_mark (codes ";") t) (semicolons_left ts)
 
 arm_end_left : (free : Bool) (ts : Tokens) → Passes 0 ts (b.arm_end free ts)
 arm_end_left free ts = by (first (is_mark (codes ",")) ts) (free || first (closes Brace) ts)
@@ -119,7 +121,7 @@ module _ (deeper : ExprWithin) (l : LeftCode deeper) where
       (repeat_left (b.stmt_in_block deeper) in_block_left more_items mid)
       (λ stmts. chain_passed 0 1 0 stmts.1 (passed (closes Brace) stmts.1) _ (omega arith) (passed_left (closes Brace) stmts.1) unread))))
 
-  pub deeper_left : (ts : Tokens) → Leaves 1 ts (b.block_by deeper ts >>= (λ x. Some ((x.0.0, suc x.0.1), x.1)))
+  pub deeper_left : (ts : Tokens) → Leaves {A = Block × ℕ} 1 ts (b.block_by deeper ts >>= (λ x. Some ((x.0.0, suc x.0.1), x.1)))
   deeper_left ts = chain 1 1 0 ts (b.block_by deeper ts) _ (omega arith) (block_left ts) (λ x. unread x.1)
 
   -- ---- branches

@@ -20,7 +20,7 @@ unfolding code_in
 code_is zero = refl
 code_is (suc depth) = refl
 
-in_left : (depth : ℕ) → LeftCode (code_in depth)
+pub in_left : (depth : ℕ) → LeftCode (code_in depth)
 unfolding code_in
 in_left zero = record { exprs = λ place ts. tt; kinds = left_within zero; pats = λ place ts. pats_leave zero place ts; blocks = λ ts. tt; items = λ at ts. tt }
 in_left (suc depth) = record {

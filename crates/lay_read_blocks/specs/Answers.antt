@@ -1,5 +1,5 @@
 -- What readers of blocks ask for and what they answer.
-use Rattle.std.specs.Prelude.{ℕ, suc, max, nat_le, ◌≡◌, false, ◌+◌, ◌^◌, ◌<◌, ◌≤◌, Bool, if◌then◌else◌, List, [], ◌∷◌, drop, codes, Option, Some, None, is_some, Result, IfOk}
+use Rattle.std.specs.Prelude.{ℕ, suc, max, nat_le, ◌≡◌, true, false, ◌+◌, ◌^◌, ◌<◌, ◌≤◌, Bool, if◌then◌else◌, List, [], ◌∷◌, drop, codes, Option, Some, None, is_some, Result, IfOk}
 use Rattle.std.specs.declared.alloc.Global.{Global}
 use denote.Ref.{MutBor}
 use Rattle.lay_token.specs.Operators.{is_op}
@@ -14,10 +14,8 @@ use Rattle.lay_node.specs.declared.patterns.Pat.{Pat}
 use Rattle.lay_node.specs.declared.patterns.PatPlace.TheVariants.{Alternatives}
 use Rattle.lay_node.specs.declared.types.Ty.{Ty}
 use Rattle.lay_node.specs.declared.types.TypePlace.TheVariants.{NoBounds}
-use Rattle.lay_tree.specs.nodes.Blocks.{is_lone_body}
-use Rattle.lay_tree.specs.nodes.Code.{about_expr}
 use Rattle.lay_tree.specs.nodes.Places.{FREE, plain}
-use Rattle.lay_tree.specs.reader.Blocks.{arm_body, block_by, else_stands, undressed}
+use Rattle.lay_tree.specs.reader.Blocks.{block_by, else_stands}
 use Rattle.lay_tree.specs.reader.Code.{code_in, expr_at, item_at}
 use Rattle.lay_tree.specs.reader.Exprs.{closure_expr, if_expr, label_expr, labelled_expr, match_expr, block_word_expr}
 use Rattle.lay_tree.specs.reader.Item.{fn_body}
@@ -31,6 +29,8 @@ use Rattle.lay_tree.specs.declared.exprs.Expr.{Expr}
 use Rattle.lay_tree.specs.declared.exprs.Expr.TheVariants as expr
 use Rattle.lay_tree.specs.declared.exprs.Place.{Place}
 use Rattle.lay_tree.specs.declared.item.Item.{Item}
+use Rattle.lay_fronts.specs.ArmFronts.{arm_alone, body_begun}
+use Rattle.lay_fronts.specs.Fronts.{stmt_alone}
 use Rattle.lay_ops.specs.declared.operands.ExprLead.{ExprLead}
 use Rattle.lay_ops.specs.declared.operands.ExprLead.TheVariants as lead
 use Rattle.lay_read_tokens.specs.Answers.{IsFound}
@@ -104,15 +104,11 @@ matched within ts = do
 
 -- ---- arms
 
--- what stands behind the pattern of an arm, and its guard if it has one
-abbrev pub arm_behind : ExprWithin → List Attr → Pat × ℕ → Option Expr × ℕ → Tokens → Read Arm
+-- what stands behind the pattern of an arm, and its guard if it has one, up to its comma, and whether it may lack that
+abbrev pub arm_behind : ExprWithin → List Attr → Pat × ℕ → Option Expr × ℕ → Tokens → Read (Arm × Bool)
 arm_behind within attrs p g ts = do
-  x ← (if is_op (codes "=>") ts then arm_body within (drop 2 ts) else None)
-  Some ((record { attrs = attrs; pat = p.0; guard = g.0; body = x.0.0 }, max p.1 (max g.1 x.0.1)), x.1)
-
--- Its outer braces are those of so many pairs that aren't in the tree, and the last of these holds this.
-abbrev pub IsBare : ℕ → Expr → Expr → Type 0
-IsBare turns x y = (undressed turns x ≡ y) × (is_lone_body (about_expr y).kind ≡ false)
+  x ← (if is_op (codes "=>") ts then body_begun within (drop 2 ts) else None)
+  Some (((record { attrs = attrs; pat = p.0; guard = g.0; body = x.0.0.0 }, x.0.0.1), max p.1 (max g.1 x.0.1)), x.1)
 
 -- ---- closures
 
@@ -138,3 +134,12 @@ block_head within no_struct lead.Brace ts = labelled_expr within None ts
 block_head within no_struct lead.BlockWord ts = block_word_expr within ts
 block_head within no_struct lead.Closure ts = closure_expr within no_struct ts
 block_head within no_struct _ ts = None
+
+-- ---- nodes by themselves, one level deeper
+
+abbrev pub deeper_stmt : ExprWithin → Tokens → Read Stmt
+deeper_stmt within ts = do s ← stmt_alone within ts; Some ((s.0.0, suc s.0.1), s.1)
+
+-- an arm, unless it is deeper than may be
+abbrev pub deeper_arm : ExprWithin → ℕ → Tokens → Read Arm
+deeper_arm within depth ts = do x ← arm_alone within ts; if nat_le x.0.1 depth then Some ((x.0.0, suc x.0.1), x.1) else None

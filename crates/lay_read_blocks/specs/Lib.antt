@@ -1,4 +1,3 @@
 pub mod Answers
-pub mod BraceEnds
 pub mod Front
 pub mod Loops

@@ -1,5 +1,5 @@
 //! The arms of a match.
-ghost use Rattle.std.specs.Prelude.{◌≡◌, ◌+◌, ◌≤◌, codes, if◌then◌else◌, IsTrue, Some, None, IfOk};
+ghost use Rattle.std.specs.Prelude.{ℕ, ◌≡◌, ◌+◌, ◌^◌, ◌<◌, ◌≤◌, codes, if◌then◌else◌, Some, None, IfOk};
 ghost use Rattle.lay_node.specs.Ahead.{first, is_keyword, more_items, tail};
 ghost use Rattle.lay_node.specs.reader.Loops.{repeat};
 ghost use Rattle.lay_node.specs.reader.Types.{if_read};
@@ -9,12 +9,15 @@ ghost use Rattle.lay_tree.specs.nodes.Places.{FREE as free};
 ghost use Rattle.lay_tree.specs.reader.Blocks as reader;
 ghost use Rattle.lay_tree.specs.reader.Code.{expr_at};
 ghost use Rattle.lay_tree.specs.reader.Exprs as exprs;
+ghost use Rattle.lay_fronts.specs.ArmFronts.{arm_begun, body_begun};
 ghost use Rattle.lay_read_tokens.specs.Answers.{AreFound, IsFound, IsHeld};
+ghost use Rattle.lay_ends.specs.Bodies.{IsBare};
 ghost use Rattle.lay_read_blocks.specs.Answers.{AreCode, arm_behind, code_within, fits};
 
 use crate::loops::{Going, read_parts};
 use crate::places::{FREE, STATEMENT, plain};
 use crate::rules::BlockRules;
+use lay_ends::undressed;
 use lay_ops::{is_free, is_lone_body};
 use lay_read_parts::joins::{both, refused};
 use lay_read_parts::loops::Part;
@@ -43,33 +46,12 @@ fn takes_arm_end(at: &mut Ahead<'_>, free: bool) -> bool
     takes_mark(at, b",") || free || is_at_closer(at, Delim::Brace)
 }
 
-/// The one expression that a block holds.
-fn held(body: Block, other: Expr) -> Expr {
-    match body.stmts.into_vec().pop() {
-        Some(Stmt::Expr { expr, .. }) => expr,
-        _ => other,
-    }
-}
-
-/// The one expression that is within the braces of an expression.
-fn bare(expr: Expr) -> Expr {
-    match expr {
-        Expr::Block { body, .. } => held(body, Expr::Underscore),
-        other => other,
-    }
-}
-
-/// The body of an arm, without the braces that aren't in the tree.
-fn undressed(expr: Expr) -> Expr {
-    let mut body = expr;
-    while is_lone_body(&body) {
-        body = bare(body);
-    }
-    body
-}
-
 /// The body of an arm, and the need of it: within braces that aren't in the tree it needs as much as they do.
-fn body_of(found: Found<Expr>) -> Found<Expr> {
+fn body_of(found: Found<Expr>) -> Found<Expr>
+    requires { found.need + 1 < 2 ^ 32 }
+    ensures node { (turns : ℕ) × IsBare turns found.node result.node }
+    ensures need { result.need ≡ reader.body_need (is_lone_body (about_expr found.node).kind) found.need }
+{
     let need = if is_lone_body(&found.node) {
         found.need
     } else {
@@ -86,17 +68,19 @@ impl<
     B: Fn(Global, &mut Ahead<'_>, u32) -> Result<Found<Block>, ReadNone>,
     I: Fn(Global, &mut Ahead<'_>, Site, u32) -> Result<Found<Item>, ReadNone>,
 > BlockRules<P, B, I> {
-    /// What stands behind an `=>`.
-    fn arm_body(&self, at: &mut Ahead<'_>) -> Result<Found<Expr>, ReadNone>
+    /// What stands behind an `=>`, and whether the arm may lack its comma by that.
+    fn body_begun(&self, at: &mut Ahead<'_>) -> Result<Found<(Expr, bool)>, ReadNone>
         requires { AreCode self.now.depth (P.pre self.now.exprs) (P.post self.now.exprs) (B.pre self.now.blocks) (B.post self.now.blocks) (I.pre self.now.items) (I.post self.now.items) }
-        ensures read { IsFound (reader.arm_body (code_within self.now.depth) at.old) result at.new }
+        ensures read { IsFound (body_begun (code_within self.now.depth) at.old) result at.new }
         ensures within { IfOk result (λ found. found.need ≤ self.now.depth + 1) }
     {
         let found = self.expr(at, STATEMENT)?;
-        if !takes_arm_end(at, is_free(&found.node)) {
-            return refused(found);
-        }
-        Ok(body_of(found))
+        let free = is_free(&found.node);
+        let body = body_of(found);
+        Ok(Found {
+            need: body.need,
+            node: (body.node, free),
+        })
     }
 
     /// A guard, if one stands there.
@@ -119,10 +103,25 @@ impl<
     }
 
     /// An arm. What is within it is read at the depth of these rules, and it needs one more at the most.
-    #[tactic(auto, unfolding(lay_tree::specs::reader::Blocks::arm_by))]
-    pub fn arm_by(&self, at: &mut Ahead<'_>, _depth: u32) -> Result<Found<Arm>, ReadNone>
+    #[tactic(auto, using(lay_fronts::proofs::ArmBegun::arm_by_is))]
+    fn arm_by(&self, at: &mut Ahead<'_>, _depth: u32) -> Result<Found<Arm>, ReadNone>
         requires { AreCode self.now.depth (P.pre self.now.exprs) (P.post self.now.exprs) (B.pre self.now.blocks) (B.post self.now.blocks) (I.pre self.now.items) (I.post self.now.items) }
         ensures read { IsFound (reader.arm_by (code_within self.now.depth) at.old) result at.new }
+        ensures within { IfOk result (λ found. found.need ≤ self.now.depth + 1) }
+    {
+        let Found { node, need } = self.arm_begun(at)?;
+        let (arm, free) = node;
+        if !takes_arm_end(at, free) {
+            return refused(arm);
+        }
+        Ok(Found { node: arm, need })
+    }
+
+    /// An arm up to its comma, and whether it may lack that by its body.
+    #[tactic(auto, unfolding(lay_fronts::specs::ArmFronts::arm_begun))]
+    pub fn arm_begun(&self, at: &mut Ahead<'_>) -> Result<Found<(Arm, bool)>, ReadNone>
+        requires { AreCode self.now.depth (P.pre self.now.exprs) (P.post self.now.exprs) (B.pre self.now.blocks) (B.post self.now.blocks) (I.pre self.now.items) (I.post self.now.items) }
+        ensures read { IsFound (arm_begun (code_within self.now.depth) at.old) result at.new }
         ensures within { IfOk result (λ found. found.need ≤ self.now.depth + 1) }
     {
         let attrs = attrs_ahead(self.alloc, at, false)?;
@@ -141,7 +140,7 @@ impl<
         attrs: List<Attr>,
         pat: Found<Pat>,
         guard: Found<Option<Expr>>,
-    ) -> Result<Found<Arm>, ReadNone>
+    ) -> Result<Found<(Arm, bool)>, ReadNone>
         requires code { AreCode self.now.depth (P.pre self.now.exprs) (P.post self.now.exprs) (B.pre self.now.blocks) (B.post self.now.blocks) (I.pre self.now.items) (I.post self.now.items) }
         requires pat { pat.need ≤ self.now.depth }
         requires guard { guard.need ≤ self.now.depth }
@@ -152,15 +151,19 @@ impl<
             return refused((attrs, (pat, guard)));
         }
         pass_two(at);
-        let ((attrs, (pat, guard)), body) = both((attrs, (pat, guard)), self.arm_body(at))?;
+        let ((attrs, (pat, guard)), found) = both((attrs, (pat, guard)), self.body_begun(at))?;
+        let (body, free) = found.node;
         Ok(Found {
-            need: greater(pat.need, greater(guard.need, body.need)),
-            node: Arm {
-                attrs,
-                pat: pat.node,
-                guard: guard.node,
-                body: body.node,
-            },
+            need: greater(pat.need, greater(guard.need, found.need)),
+            node: (
+                Arm {
+                    attrs,
+                    pat: pat.node,
+                    guard: guard.node,
+                    body,
+                },
+                free,
+            ),
         })
     }
 

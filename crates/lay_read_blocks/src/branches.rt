@@ -170,11 +170,7 @@ impl<
     {
         let (label, found) = both(label, self.branch_by(at))?;
         let Found { node, need } = found;
-        let Branch {
-            pat,
-            condition,
-            body,
-        } = node;
+        let (pat, condition, body) = node.into_parts();
         let ((label, (pat, body)), condition) = both(
             (label, (pat, body)),
             boxed(self.alloc, condition),

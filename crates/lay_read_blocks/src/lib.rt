@@ -5,9 +5,9 @@
 //! spelled and nothing else. [`loops`] and [`places`] have what these rules share with those of expressions.
 #![tactic(auto)]
 
+mod alone;
 mod arms;
 mod blocks;
-mod brace_ends;
 mod branches;
 mod closures;
 pub mod front;

@@ -8,10 +8,10 @@ ghost use Rattle.lay_tree.specs.reader.Code.{code_in};
 ghost use Rattle.lay_read_tokens.specs.Answers.{IsFound};
 ghost use Rattle.lay_read_blocks.specs.Answers.{AreCode, code_within, let_behind};
 
-use crate::brace_ends::may_precede_else;
 use crate::front::begins_item;
 use crate::places::STATEMENT;
 use crate::rules::BlockRules;
+use lay_ends::may_precede_else;
 use lay_head_rules::level::type_if;
 use lay_ops::is_call;
 use lay_read_parts::joins::{both, refused};

@@ -1,5 +1,5 @@
 -- One step of a reader, from what the readers within it give.
-use Rattle.std.proofs.Common.{◌≡◌, ℕ, ◌+◌, ◌-◌, ◌<◌, ◌||◌, add-one, Bool, true, false, List, Some, None, Result, Ok, Err, MatchResult, refl, sym, subst, ◌∙◌, ap, if◌then◌else◌, is_some, suc, arith}
+use Rattle.std.proofs.Common.{◌≡◌, ℕ, ◌+◌, ◌-◌, ◌<◌, ◌||◌, add-one, Bool, true, false, List, Some, None, Result, Ok, Err, IfOk, ◌≤◌, MatchResult, refl, sym, subst, ◌∙◌, ap, if◌then◌else◌, is_some, suc, arith}
 use Rattle.lay_node.specs.Ahead.{Tokens}
 use Rattle.lay_node.specs.reader.Attr.{attributes}
 use Rattle.lay_node.specs.reader.Loops.{Read}
@@ -14,6 +14,7 @@ use Rattle.lay_tree.specs.nodes.Code.{told_of_kind}
 use Rattle.lay_tree.specs.nodes.Item.{is_inherited}
 use Rattle.lay_tree.proofs.nodes.ItemLaws as laws
 use Rattle.lay_tree.proofs.nodes.ItemLaws.{KindView, IsExternCrate, IsImport, IsFileModule, IsModule, IsFunction, IsAlias, IsStruct, IsUnion, IsEnum, IsValue, IsTrait, IsImpl, IsForeign, IsRules, IsCall}
+use Rattle.lay_tree.specs.declared.blocks.Block.{Block}
 use Rattle.lay_tree.specs.declared.exprs.Place.{Place}
 use Rattle.lay_tree.specs.declared.item.Item.{Item}
 use Rattle.lay_tree.specs.declared.item.ItemKind.{ItemKind}
@@ -46,6 +47,16 @@ module _ {A B : Type 0} (read : Read B) (first : A) (rest : Tokens) where
       let pair : ◌≡◌ {A = A × Found B} (a, b) (first, x) = cc in
       (ap (λ p. p.0) pair, rw (ap (λ p. p.1) pair) h)
   second_found (Err e) a b m h = absurd (cc)
+
+-- It needs no more than what was read.
+pub second_within : {A B : Type 0} (first : A) (depth : ℕ) (r : Result (Found B) ReadNone) (a : A) (b : Found B)
+    → MatchResult r (λ x. ◌≡◌ {A = Result (A × Found B) ReadNone} (Ok (a, b)) (Ok (first, x))) (λ e. ◌≡◌ {A = Result (A × Found B) ReadNone} (Ok (a, b)) (Err e))
+    → IfOk r (λ found. found.need ≤ depth) → b.need ≤ depth
+second_within {A} {B} first depth (Ok x) a b m h =
+    let pair : ◌≡◌ {A = A × Found B} (a, b) (first, x) = cc in
+    let same : b ≡ x = ap (λ p. p.1) pair in
+    rw same h
+second_within first depth (Err e) a b m h = absurd (cc)
 
 -- ---- items
 
@@ -113,6 +124,14 @@ module _ (at : Site) (depth : ℕ) (ts : Tokens) where
 
 -- ---- expressions
 
+pub expr_nowhere : (place : Place) (n : ℕ) (ts : Tokens) → n ≡ 0 → expr_at place n ts ≡ None
+unfolding code_in
+expr_nowhere place n ts e = ap (λ (k : ℕ). expr_at place k ts) e
+
+pub block_nowhere : (n : ℕ) (ts : Tokens) → n ≡ 0 → (code_in n).blocks ts ≡ None
+unfolding code_in
+block_nowhere n ts e = ap (λ (k : ℕ). (code_in k).blocks ts) e
+
 -- An expression within a depth that is no zero is read by the rules of the level.
 pub expr_deeper : (place : Place) (n : ℕ) (ts : Tokens) → 0 < n
     → expr_at place n ts ≡ expr_by (code_within (n - 1)) (n - 1 + 1) place ts
@@ -123,7 +142,11 @@ expr_deeper place n ts some =
     ∙ ap (λ (k : ℕ). expr_by (code_within (n - 1)) k place ts) (sym e)
 
 -- A block within a depth that is no zero is read by the rules of the level, one level deeper.
-pub block_deeper : (n : ℕ) (ts : Tokens) → 0 < n → (code_in n).blocks ts ≡ deeper_block (code_within (n - 1)) ts
+block_deeper : (n : ℕ) (ts : Tokens) → 0 < n → (code_in n).blocks ts ≡ deeper_block (code_within (n - 1)) ts
 unfolding code_in
 block_deeper n ts some =
     above_zero (λ (k : ℕ). (code_in k).blocks ts) n some ∙ ap (λ w. deeper_block w ts) (code_is (n - 1))
+
+pub block_found : (n : ℕ) (ts : Tokens) (r : Result (Found Block) ReadNone) (left : Tokens) → 0 < n
+    → IsFound (deeper_block (code_within (n - 1)) ts) r left → IsFound ((code_in n).blocks ts) r left
+block_found n ts r left some h = rw (block_deeper n ts some) h

@@ -13,7 +13,7 @@ use Rattle.lay_tree.specs.declared.file.File.{File}
 use Rattle.lay_tree.specs.declared.item.ItemKind.{ItemKind}
 use Rattle.lay_tree.specs.declared.item.ItemKind.TheVariants as item
 use Rattle.lay_read_tokens.specs.declared.stop.ReadNone.{ReadNone}
-use Rattle.lay_read_tokens.specs.declared.stop.ReadNone.TheVariants.{NoReading, NoMemory}
+use Rattle.lay_read_tokens.specs.declared.stop.ReadNone.TheVariants as stop
 use Rattle.lay_read_blocks.specs.Answers.{code_within}
 
 -- What was read one by one, and what is left, is this run; memory may always be wanting.

@@ -269,7 +269,7 @@ fn begin_impl(alloc: Global, at: &mut Ahead<'_>, depth: u32) -> Result<Found<Beg
 }
 
 /// A foreign block, up to its body.
-#[tactic(auto, using(crate::proofs::Bodies::foreign_is))]
+#[tactic(auto, using(crate::proofs::ItemBodies::foreign_is))]
 fn begin_foreign(alloc: Global, at: &mut Ahead<'_>) -> Result<Found<Begun>, ReadNone>
     ensures read { IsFound (bodies.foreign_begun at.old) result at.new }
     ensures within { IfOk result (λ found. found.need ≡ 0) }

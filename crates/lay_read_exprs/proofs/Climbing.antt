@@ -5,6 +5,7 @@ use Rattle.std.proofs.lemmas.Bool.Decides.{nat_tests}
 use Rattle.lay_token.specs.Operators.{is_op}
 use Rattle.lay_node.specs.Ahead.{Tokens, first, is_keyword}
 use Rattle.lay_node.specs.reader.Loops.{Got, Read, ◌>>=◌, repeat}
+use Rattle.lay_tree.specs.Operands.{expr_lead_at}
 use Rattle.lay_tree.specs.Operators.{begins_step, strength}
 use Rattle.lay_tree.specs.nodes.Code.{about_expr}
 use Rattle.lay_tree.specs.nodes.Exprs.{stands, root_follows}
@@ -277,3 +278,24 @@ module _ (deeper : ExprWithin) where
         by : (b : Bool) → (let got : Read Expr = if b then Some x else None in got) ≡ Some y → ◌≡◌ {A = Read Expr} (Some x) (Some y)
         by true h = h
         by false h = absurd (cc)
+
+    -- what begins an expression, told from what the first token begins
+    abbrev head_at : Tokens → Read Expr
+    head_at ts = r.head_by deeper place.no_struct (expr_lead_at ts) ts
+
+    -- Where nothing begins one that may be so deep, none is read.
+    pub lost_head : (ts : Tokens) → fits budget (head_at ts) ≡ None → r.expr_by deeper budget place ts ≡ None
+    unfolding r.expr_by
+    lost_head ts e = head_unfit (head_at ts) e
+
+    module _ (ts : Tokens) (head : Expr × ℕ) (mid : Tokens) (e : fits budget (head_at ts) ≡ Some (head, mid)) where
+      -- Nothing goes on with what is read.
+      pub ended_head : r.is_ended place (about_expr head.0) mid ≡ true
+          → r.expr_by deeper budget place ts ≡ accepted budget place head mid
+      unfolding r.expr_by
+      ended_head ends = ap from_head (head_fits (head_at ts) (head, mid) e) ∙ rw ends refl
+
+      pub going_head : r.is_ended place (about_expr head.0) mid ≡ false
+          → r.expr_by deeper budget place ts ≡ climbed deeper budget place 14 head mid
+      unfolding r.expr_by
+      going_head ends = ap from_head (head_fits (head_at ts) (head, mid) e) ∙ rw ends refl

@@ -2,6 +2,7 @@
 pub mod Places
 pub mod CodeFacts
 pub mod Ends
+pub mod Parts
 pub mod Exprs
 pub mod Blocks
 pub mod Item

@@ -9,6 +9,7 @@
 #![tactic(auto)]
 
 pub mod blocks;
+mod drops;
 pub mod exprs;
 pub mod file;
 pub mod item;

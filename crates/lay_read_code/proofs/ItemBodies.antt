@@ -1,5 +1,5 @@
 -- Items up to their bodies, and then their bodies.
-use Rattle.std.proofs.Common.{◌≡◌, ℕ, max, Bool, true, false, is_some, List, [], Option, Some, None, codes, refl, sym, ◌∙◌, if◌then◌else◌, arith}
+use Rattle.std.proofs.Common.{◌≡◌, ℕ, max, Bool, true, false, is_some, List, [], Option, Some, None, Result, Ok, Err, IfOk, ◌≤◌, codes, refl, sym, ◌∙◌, if◌then◌else◌, arith}
 use Rattle.lay_node.specs.Ahead.{Tokens, first, tail, is_keyword, is_mark}
 use Rattle.lay_node.specs.reader.Heads.{alias, enum, extern_crate, impl_head, struct, trait_head, union, unsafe_flag}
 use Rattle.lay_node.specs.reader.Loops.{Got, Read, ◌>>=◌, passed}
@@ -24,7 +24,11 @@ use Rattle.lay_tree.specs.declared.exprs.Expr.{Expr}
 use Rattle.lay_node.specs.declared.heads.ValueHead.{ValueHead}
 use Rattle.lay_node.specs.reader.Functions.{fn_head}
 use Rattle.lay_node.specs.reader.Heads.{semicolon, value_head}
-use Rattle.lay_read_code.specs.Begun.{begun_at, begun_by, body_of as body_in, finished, foreign_begun, kept, made, node_alone, whole, with_items, with_value}
+use Rattle.lay_read_tokens.specs.Answers.{IsFound}
+use Rattle.lay_read_tokens.specs.declared.found.Found.{Found}
+use Rattle.lay_read_tokens.specs.declared.stop.ReadNone.{ReadNone}
+use Rattle.lay_read_tokens.specs.declared.stop.ReadNone.TheVariants.{NoReading, NoMemory}
+use Rattle.lay_read_code.specs.Begun.{begun_at, begun_by, body_of as body_in, finished, foreign_begun, kept, made, node_alone, value_end, whole, with_block, with_items, with_value}
 use Rattle.lay_read_code.specs.declared.bodies.Body.TheVariants as body
 use Rattle.lay_read_code.specs.declared.begun.Begun.{Begun}
 use Rattle.lay_read_code.specs.declared.begun.Begun.TheVariants as begun
@@ -205,3 +209,46 @@ module _ (at : Site) (within : ItemWithin) where
             → reader.item_body within s mid ≡ Some (((attrs, items), n), rest)
             → reader.kind_at at within ts ≡ Some ((with_items x attrs items, max need n), rest)
         kind_with_body attrs items n rest b = kind_is ∙ rw (h, m, b) refl
+
+      -- a function
+      module _ (m : body_in x ≡ body.Block) where
+        pub kind_no_block : reader.fn_body within.code mid ≡ None → reader.kind_at at within ts ≡ None
+        kind_no_block b = kind_is ∙ rw (h, m, b) refl
+
+        pub kind_with_block : (b : Option Block) (n : ℕ) (rest : Tokens) → reader.fn_body within.code mid ≡ Some ((b, n), rest)
+            → reader.kind_at at within ts ≡ made (with_block (x, need) at (b, n)) rest
+        kind_with_block b n rest e = kind_is ∙ rw (h, m, e) refl
+
+      -- a constant or a static
+      module _ (m : body_in x ≡ body.Value) where
+        pub kind_no_value : value_end within mid ≡ None → reader.kind_at at within ts ≡ None
+        kind_no_value v = kind_is ∙ rw (h, m, v) refl
+
+        pub kind_with_value : (v : Option Expr) (n : ℕ) (rest : Tokens) → value_end within mid ≡ Some ((v, n), rest)
+            → reader.kind_at at within ts ≡ made (with_value (x, need) at (v, n)) rest
+        kind_with_value v n rest e = kind_is ∙ rw (h, m, e) refl
+
+-- ---- what is made
+
+-- What is made is what is found.
+pub made_found : (read : Read ItemKind) (r : Result (Found ItemKind) ReadNone) (rest : Tokens) → read ≡ made r rest → IsFound read r rest
+made_found read (Ok found) rest e = e
+made_found read (Err NoReading) rest e = e
+made_found read (Err NoMemory) rest e = tt
+
+-- It needs no more than what it is made of.
+kept_within : (keeps : Bool) (kind : ItemKind) (need depth : ℕ) → need ≤ depth → IfOk (kept keeps kind need) (λ found. found.need ≤ depth)
+kept_within true kind need depth le = le
+kept_within false kind need depth le = tt
+
+pub block_within : (x : Begun) (need : ℕ) (at : Site) (b : Option Block) (n depth : ℕ) → need ≤ depth → n ≤ depth
+    → IfOk (with_block (x, need) at (b, n)) (λ found. found.need ≤ depth)
+block_within (begun.Function head wheres) need at b n depth le less =
+    kept_within (may_be_bodied at (is_some b)) (item.Function head wheres b) (max need n) depth (omega (arith, le, less))
+block_within _ need at b n depth le less = tt
+
+pub value_within : (x : Begun) (need : ℕ) (at : Site) (v : Option Expr) (n depth : ℕ) → need ≤ depth → n ≤ depth
+    → IfOk (with_value (x, need) at (v, n)) (λ found. found.need ≤ depth)
+value_within (begun.Value head) need at v n depth le less =
+    kept_within (may_be_valued at head (is_some v)) (item.Value head v) (max need n) depth (omega (arith, le, less))
+value_within _ need at v n depth le less = tt

@@ -9,12 +9,13 @@ ghost use Rattle.lay_node.specs.declared.types.Ty.{size-Ty};
 ghost use Rattle.lay_tree.specs.nodes.Blocks as nodes;
 ghost use Rattle.lay_tree.specs.nodes.Code.{about_expr};
 ghost use Rattle.lay_tree.specs.nodes.Ends.{ends_in_brace, is_brace_kind};
-ghost use Rattle.lay_tree.specs.declared.blocks.Stmt.{size-Expr};
-ghost use Rattle.lay_read_blocks.specs.BraceEnds.{IfPart, IfType, braces, ends_shut, ends_type};
+ghost use Rattle.lay_tree.specs.nodes.Exprs.{is_brace};
+ghost use Rattle.lay_tree.specs.declared.exprs.Expr.{size-Expr};
+ghost use Rattle.lay_ends.specs.BraceEnds.{IfOperand, IfPart, IfType, braces, closes, ends_type, has_block};
 
 use lay_ops::level;
 use lay_token::{Delim, Kind};
-use lay_tree::{Args, Bound, Expr, Path, Ty};
+use lay_tree::{Args, Block, Bound, Branch, Expr, Path, Ty};
 
 /// What a type ends in.
 #[derive(Clone, Copy)]
@@ -28,11 +29,22 @@ enum TypeEdge<'a> {
 /// What an expression ends in.
 #[derive(Clone, Copy)]
 enum Edge<'a> {
-    /// A closure, or a token of its own, which is a `}`; or neither.
+    /// A token of its own, which is a `}` or is none.
     Token(bool),
     /// A type.
     Ty(&'a Ty),
     /// An expression.
+    In(&'a Expr),
+}
+
+/// What an expression ends in, where that may be a closure.
+#[derive(Clone, Copy)]
+enum ClosureEdge<'a> {
+    /// What is no closure.
+    Shut,
+    /// A closure.
+    Closure,
+    /// An operand.
     In(&'a Expr),
 }
 
@@ -41,17 +53,57 @@ pub fn may_precede_else(expr: &Expr) -> bool
     ensures { result ≡ nodes.may_precede_else (about_expr expr.now) }
 {
     let level = level(expr);
-    level != 2 && level != 3 && !ends_shut(expr)
+    level != 2 && level != 3 && !ends_in_closure(expr) && !ends_in_brace(expr)
 }
 
-/// Whether an expression ends in a closure or in a `}`.
-fn ends_shut(expr: &Expr) -> bool
-    ensures { result ≡ ends_shut (about_expr expr.now) }
+/// Whether an expression ends in a closure.
+fn ends_in_closure(expr: &Expr) -> bool
+    ensures { result ≡ (about_expr expr.now).tail.closure }
+{
+    let mut last = expr;
+    loop {
+        match closure_edge(last) {
+            ClosureEdge::Shut => return false,
+            ClosureEdge::Closure => return true,
+            ClosureEdge::In(operand) => last = operand,
+        }
+    }
+}
+
+/// What an expression ends in, where that may be a closure.
+#[tactic(auto, using(crate::proofs::ExprBraces::closure_is))]
+fn closure_edge(expr: &Expr) -> ClosureEdge<'_>
+    ensures told { closes result ≡ (about_expr expr.now).tail.closure }
+    ensures smaller { IfOperand result (λ operand. size-Expr operand < size-Expr expr.now) }
+{
+    match expr {
+        Expr::Chain { rest, .. } => match rest.as_slice().last() {
+            Some((_, operand)) => ClosureEdge::In(operand),
+            None => ClosureEdge::Shut,
+        },
+        Expr::Unary { operand, .. } => ClosureEdge::In(operand.get()),
+        Expr::Assign { value, .. } => ClosureEdge::In(value.get()),
+        Expr::Range { end: Some(end), .. } => ClosureEdge::In(end.get()),
+        Expr::Return {
+            operand: Some(operand),
+        } => ClosureEdge::In(operand.get()),
+        Expr::Break {
+            operand: Some(operand),
+            ..
+        } => ClosureEdge::In(operand.get()),
+        Expr::Closure { .. } | Expr::TypedClosure { .. } => ClosureEdge::Closure,
+        _ => ClosureEdge::Shut,
+    }
+}
+
+/// Whether an expression ends in a `}`.
+fn ends_in_brace(expr: &Expr) -> bool
+    ensures { result ≡ ends_in_brace (about_expr expr.now).form }
 {
     let mut last = expr;
     loop {
         match last_part(last) {
-            Edge::Token(shut) => return shut,
+            Edge::Token(brace) => return brace,
             Edge::Ty(ty) => return type_ends_in_brace(ty),
             Edge::In(operand) => last = operand,
         }
@@ -59,14 +111,15 @@ fn ends_shut(expr: &Expr) -> bool
 }
 
 /// What an expression ends in.
+#[tactic(auto, using(crate::proofs::ExprBraces::brace_is))]
 fn last_part(expr: &Expr) -> Edge<'_>
-    ensures told { braces result ≡ ends_shut (about_expr expr.now) }
+    ensures told { braces result ≡ ends_in_brace (about_expr expr.now).form }
     ensures smaller { IfPart result (λ operand. size-Expr operand < size-Expr expr.now) }
 {
     match expr {
         Expr::Lit { literal } => Edge::Token(is_brace_kind(literal.kind)),
         Expr::Path { path } => type_edge_of(code_edge(path)),
-        Expr::Call { call } => Edge::Token(matches!(call.tokens.delim, Delim::Brace)),
+        Expr::Call { call } => Edge::Token(is_brace(call.tokens.delim)),
         Expr::Chain { rest, first } => match rest.as_slice().last() {
             Some((_, operand)) => Edge::In(operand),
             None => Edge::In(first.get()),
@@ -85,6 +138,7 @@ fn last_part(expr: &Expr) -> Edge<'_>
             operand: Some(operand),
             ..
         } => Edge::In(operand.get()),
+        Expr::Closure { body, .. } => Edge::In(body.get()),
         Expr::Postfix { base, steps } => {
             if steps.as_slice().is_empty() {
                 Edge::In(base.get())
@@ -95,7 +149,7 @@ fn last_part(expr: &Expr) -> Edge<'_>
         Expr::If {
             branches,
             otherwise,
-        } => Edge::Token(!branches.as_slice().is_empty() || otherwise.is_some()),
+        } => Edge::Token(has_block(branches.as_slice(), otherwise)),
         Expr::Struct { .. }
         | Expr::Block { .. }
         | Expr::Unsafe { .. }
@@ -105,21 +159,37 @@ fn last_part(expr: &Expr) -> Edge<'_>
         | Expr::Loop { .. }
         | Expr::While { .. }
         | Expr::For { .. }
-        | Expr::Closure { .. }
         | Expr::TypedClosure { .. } => Edge::Token(true),
         _ => Edge::Token(false),
     }
 }
 
+/// Whether there is a branch or an `else`.
+fn has_block(branches: &[Branch], otherwise: &Option<Block>) -> bool
+    ensures { result ≡ has_block branches.now otherwise.now }
+{
+    match branches {
+        [] => otherwise.is_some(),
+        _ => true,
+    }
+}
+
 /// The same of what ends as a type does.
 fn type_edge_of(edge: TypeEdge<'_>) -> Edge<'_>
-    ensures told { braces result ≡ ends_type edge }
+    ensures told { braces result ≡ ends_type edge.entry }
     ensures smaller { IfPart result (λ operand. ⊥) }
 {
     match edge {
         TypeEdge::Token(brace) => Edge::Token(brace),
         TypeEdge::In(ty) => Edge::Ty(ty),
     }
+}
+
+/// Whether it is that of braces.
+fn is_brace(delim: Delim) -> bool
+    ensures { result ≡ is_brace delim }
+{
+    matches!(delim, Delim::Brace)
 }
 
 /// Whether a token of this kind is a `}`.
@@ -143,13 +213,14 @@ fn type_ends_in_brace(ty: &Ty) -> bool
 }
 
 /// What a type ends in.
+#[tactic(auto, using(crate::proofs::TypeBraces::type_is))]
 fn type_edge(ty: &Ty) -> TypeEdge<'_>
     ensures told { ends_type result ≡ ends_in_brace (about_type ty.now).told.form }
     ensures smaller { IfType result (λ other. size-Ty other < size-Ty ty.now) }
 {
     match ty {
         Ty::Path { path } => path_edge(path),
-        Ty::Call { call } => TypeEdge::Token(matches!(call.tokens.delim, Delim::Brace)),
+        Ty::Call { call } => TypeEdge::Token(is_brace(call.tokens.delim)),
         Ty::Ptr { inner, .. } | Ty::Ref { inner, .. } => TypeEdge::In(inner.get()),
         Ty::Func {
             output: Some(output),
@@ -164,17 +235,20 @@ fn type_edge(ty: &Ty) -> TypeEdge<'_>
 }
 
 /// What a bound ends in.
+#[tactic(auto, using(crate::proofs::TypeBraces::bound_is))]
 fn bound_edge(bound: &Bound) -> TypeEdge<'_>
     ensures told { ends_type result ≡ ends_in_brace (about_bound bound.now).form }
     ensures smaller { IfType result (λ ty. size-Ty ty < size-Bound bound.now) }
 {
     match bound {
-        Bound::Meets {
-            parens: false,
-            path,
-            ..
-        } => path_edge(path),
-        _ => TypeEdge::Token(false),
+        Bound::Outlives { .. } => TypeEdge::Token(false),
+        Bound::Meets { parens, path, .. } => {
+            if *parens {
+                TypeEdge::Token(false)
+            } else {
+                path_edge(path)
+            }
+        },
     }
 }
 
@@ -201,6 +275,7 @@ fn code_edge(path: &Path) -> TypeEdge<'_>
 }
 
 /// What generic arguments end in.
+#[tactic(auto, using(crate::proofs::TypeBraces::kind_args, crate::proofs::TypeBraces::code_args))]
 fn args_edge(args: &Args) -> TypeEdge<'_>
     ensures kind { ends_type result ≡ ends_in_brace (about_args args.now).kind.form }
     ensures code { ends_type result ≡ ends_in_brace (about_args args.now).code.form }
