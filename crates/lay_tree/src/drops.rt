@@ -46,8 +46,8 @@ pub(crate) fn discard_base(node: Option<Option<Boxed<Expr>>>) {
 #[cycle(drops)]
 pub(crate) fn discard_operands(nodes: List<(Op, Expr)>) {
     let mut left = nodes.into_vec();
-    while let Some(operand) = left.pop() {
-        discard_behind(operand);
+    while let Some((_, node)) = left.pop() {
+        drop(node);
     }
     left.destroy_empty();
 }
@@ -65,8 +65,8 @@ pub(crate) fn discard_operand(node: Option<Boxed<Expr>>) {
 #[cycle(drops)]
 pub(crate) fn discard_targets(nodes: List<(Expr, Op)>) {
     let mut left = nodes.into_vec();
-    while let Some(target) = left.pop() {
-        discard_before(target);
+    while let Some((node, _)) = left.pop() {
+        drop(node);
     }
     left.destroy_empty();
 }
@@ -143,18 +143,4 @@ pub(crate) fn discard_items(nodes: List<Item>) {
         drop(node);
     }
     left.destroy_empty();
-}
-
-/// An operand behind its operator.
-#[cycle(drops)]
-fn discard_behind(operand: (Op, Expr)) {
-    let (_, node) = operand;
-    drop(node);
-}
-
-/// A target before its operator.
-#[cycle(drops)]
-fn discard_before(target: (Expr, Op)) {
-    let (node, _) = target;
-    drop(node);
 }

@@ -17,8 +17,8 @@ invariant-drops::discard_fields-loop-node l = l.left.items ≡ take (length l.le
 abbrev pub invariant-drops::discard_items-loop-node : goal.invariant-drops::discard_items-loop-node
 invariant-drops::discard_items-loop-node l = l.left.items ≡ take (length l.left.items) l.fn.nodes
 
-abbrev pub invariant-drops::discard_operands-loop-operand : goal.invariant-drops::discard_operands-loop-operand
-invariant-drops::discard_operands-loop-operand l = l.left.items ≡ take (length l.left.items) l.fn.nodes
+abbrev pub invariant-drops::discard_operands-loop-node : goal.invariant-drops::discard_operands-loop-node
+invariant-drops::discard_operands-loop-node l = l.left.items ≡ take (length l.left.items) l.fn.nodes
 
 abbrev pub invariant-drops::discard_steps-loop-node : goal.invariant-drops::discard_steps-loop-node
 invariant-drops::discard_steps-loop-node l = l.left.items ≡ take (length l.left.items) l.fn.nodes
@@ -26,8 +26,8 @@ invariant-drops::discard_steps-loop-node l = l.left.items ≡ take (length l.lef
 abbrev pub invariant-drops::discard_stmts-loop-node : goal.invariant-drops::discard_stmts-loop-node
 invariant-drops::discard_stmts-loop-node l = l.left.items ≡ take (length l.left.items) l.fn.nodes
 
-abbrev pub invariant-drops::discard_targets-loop-target : goal.invariant-drops::discard_targets-loop-target
-invariant-drops::discard_targets-loop-target l = l.left.items ≡ take (length l.left.items) l.fn.nodes
+abbrev pub invariant-drops::discard_targets-loop-node : goal.invariant-drops::discard_targets-loop-node
+invariant-drops::discard_targets-loop-node l = l.left.items ≡ take (length l.left.items) l.fn.nodes
 
 -- Each turn takes one node out.
 abbrev pub decreases-drops::discard_arms-loop-node : goal.decreases-drops::discard_arms-loop-node
@@ -45,8 +45,8 @@ decreases-drops::discard_fields-loop-node l = goal.left-drops::discard_fields-lo
 abbrev pub decreases-drops::discard_items-loop-node : goal.decreases-drops::discard_items-loop-node
 decreases-drops::discard_items-loop-node l = goal.left-drops::discard_items-loop-node l
 
-abbrev pub decreases-drops::discard_operands-loop-operand : goal.decreases-drops::discard_operands-loop-operand
-decreases-drops::discard_operands-loop-operand l = goal.left-drops::discard_operands-loop-operand l
+abbrev pub decreases-drops::discard_operands-loop-node : goal.decreases-drops::discard_operands-loop-node
+decreases-drops::discard_operands-loop-node l = goal.left-drops::discard_operands-loop-node l
 
 abbrev pub decreases-drops::discard_steps-loop-node : goal.decreases-drops::discard_steps-loop-node
 decreases-drops::discard_steps-loop-node l = goal.left-drops::discard_steps-loop-node l
@@ -54,5 +54,5 @@ decreases-drops::discard_steps-loop-node l = goal.left-drops::discard_steps-loop
 abbrev pub decreases-drops::discard_stmts-loop-node : goal.decreases-drops::discard_stmts-loop-node
 decreases-drops::discard_stmts-loop-node l = goal.left-drops::discard_stmts-loop-node l
 
-abbrev pub decreases-drops::discard_targets-loop-target : goal.decreases-drops::discard_targets-loop-target
-decreases-drops::discard_targets-loop-target l = goal.left-drops::discard_targets-loop-target l
+abbrev pub decreases-drops::discard_targets-loop-node : goal.decreases-drops::discard_targets-loop-node
+decreases-drops::discard_targets-loop-node l = goal.left-drops::discard_targets-loop-node l
