@@ -1,5 +1,5 @@
 -- One step of a reader, from what the readers within it give.
-use Rattle.std.proofs.Common.{◌≡◌, ℕ, ◌+◌, ◌-◌, ◌<◌, ◌||◌, add-one, Bool, true, false, List, Some, None, Result, Ok, Err, IfOk, ◌≤◌, MatchResult, refl, sym, subst, ◌∙◌, ap, if◌then◌else◌, is_some, suc, arith}
+use Rattle.std.proofs.Common.{◌≡◌, ℕ, zero, ◌+◌, ◌-◌, ◌<◌, ◌||◌, add-one, Bool, true, false, List, Some, None, Result, Ok, Err, IfOk, ◌≤◌, MatchResult, refl, sym, subst, ◌∙◌, ap, if◌then◌else◌, is_some, suc, arith}
 use Rattle.lay_node.specs.Ahead.{Tokens}
 use Rattle.lay_node.specs.reader.Attr.{attributes}
 use Rattle.lay_node.specs.reader.Loops.{Read}
@@ -28,7 +28,10 @@ use Rattle.lay_head_rules.proofs.UseSteps.{deeper}
 use Rattle.lay_read_types.proofs.Steps.{above_zero}
 use Rattle.lay_node.specs.reader.Functions.{insides}
 use Rattle.lay_node.specs.reader.Use.{use_at}
-use Rattle.lay_read_blocks.specs.Answers.{code_within}
+use Rattle.lay_fronts.specs.ArmFronts.{alone_arm}
+use Rattle.lay_fronts.specs.Fronts.{alone, stmt_alone}
+use Rattle.lay_tree.specs.reader.Blocks.{block_by}
+use Rattle.lay_read_blocks.specs.Answers.{code_within, deeper_arm, deeper_stmt}
 use Rattle.lay_read_blocks.proofs.Left.{code_is}
 
 -- ---- what was found behind something else
@@ -150,3 +153,20 @@ block_deeper n ts some =
 pub block_found : (n : ℕ) (ts : Tokens) (r : Result (Found Block) ReadNone) (left : Tokens) → 0 < n
     → IsFound (deeper_block (code_within (n - 1)) ts) r left → IsFound ((code_in n).blocks ts) r left
 block_found n ts r left some h = rw (block_deeper n ts some) h
+
+-- ---- blocks, statements and arms by themselves
+
+pub blocks_alone : (depth : ℕ) (ts : Tokens) → (code_in depth).blocks ts ≡ alone block_by depth ts
+unfolding code_in
+blocks_alone zero ts = refl
+blocks_alone (suc depth) ts = refl
+
+pub stmt_alone_is : (depth : ℕ) (ts : Tokens) → 0 < depth → alone stmt_alone depth ts ≡ deeper_stmt (code_within (depth - 1)) ts
+stmt_alone_is depth ts some =
+    let e : depth ≡ suc (depth - 1) = omega arith in
+    ap (λ d. alone stmt_alone d ts) e ∙ ap (λ within. deeper_stmt within ts) (code_is (depth - 1))
+
+pub arm_alone_is : (depth : ℕ) (ts : Tokens) → 0 < depth → alone_arm depth ts ≡ deeper_arm (code_within (depth - 1)) (depth - 1) ts
+arm_alone_is depth ts some =
+    let e : depth ≡ suc (depth - 1) = omega arith in
+    ap (λ d. alone_arm d ts) e ∙ ap (λ within. deeper_arm within (depth - 1) ts) (code_is (depth - 1))
