@@ -1,10 +1,10 @@
 -- A pair of braces around the body of an arm that isn't in the tree.
-use Rattle.std.proofs.Common.{◌≡◌, ℕ, zero, suc, true, false, List, [], ◌∷◌, ◌++◌, map, Option, Some, None, refl, sym, ap, subst, ◌∙◌}
+use Rattle.std.proofs.Common.{◌≡◌, ⊥, ℕ, zero, suc, true, false, List, [], ◌∷◌, ◌++◌, map, Option, Some, None, refl, sym, ap, subst, ◌∙◌}
 use Rattle.lay_node.specs.declared.attr.Attr.{Attr}
 use Rattle.lay_tree.specs.nodes.Blocks.{is_lone_body}
 use Rattle.lay_tree.specs.nodes.Code.{about_expr}
 use Rattle.lay_tree.specs.nodes.Parts.{block_of, expr_of}
-use Rattle.lay_tree.specs.reader.Blocks.{block_held, bare_by, held_by, undressed}
+use Rattle.lay_tree.specs.reader.Blocks.{block_held, bare_by, undressed}
 use Rattle.lay_tree.specs.declared.blocks.Block.{Block}
 use Rattle.lay_tree.specs.declared.blocks.Stmt.{Stmt}
 use Rattle.lay_tree.specs.declared.blocks.Stmt.TheFolds.{fold_out-Block, fold-roll-Expr, fold-roll-Stmt}
@@ -95,3 +95,28 @@ block_alone x = rw (views.outs-Block None (alone_block x)) refl
 
 pub expr_alone : (x : Expr) → expr_of (stmt.Expr [] x false) ≡ Some x
 expr_alone x = rw (views.outs-Expr [] x false) refl
+
+pub around : (x : Expr) → is_lone_body (about_expr x).kind ≡ true → (y : Expr) × (x ≡ alone y)
+around x h = by x (is_alone x h)
+  where
+    by : (x : Expr) → Lone x → (y : Expr) × (x ≡ alone y)
+    by _ (IsAlone y macro) = (y, refl)
+
+last_of : (one : Stmt) (rest : List Stmt) (s : Stmt) → one ∷ [] ≡ rest ++ s ∷ [] → one ≡ s
+last_of one [] s e = cc
+last_of one (r ∷ []) s e = absurd (cc e)
+last_of one (r ∷ q ∷ rest) s e = absurd (cc e)
+
+held_by : (x y : Expr) (b : Block) → x ≡ alone y → block_of x ≡ Some b → alone_block y ≡ b
+held_by x y b around held = let e : Some (alone_block y) ≡ Some b = sym (ap block_of around ∙ block_alone y) ∙ held in cc
+
+-- It holds a statement, and its last one is the expression.
+pub some_held : (x y : Expr) (b : Block) → x ≡ alone y → block_of x ≡ Some b → b.stmts ≡ [] → ⊥
+some_held x y b around held none =
+    let e : stmt.Expr [] y false ∷ [] ≡ [] = ap (λ (c : Block). c.stmts) (held_by x y b around held) ∙ none in absurd (cc e)
+
+pub last_held : (x y : Expr) (b : Block) (rest : List Stmt) (s : Stmt) → x ≡ alone y → block_of x ≡ Some b
+    → b.stmts ≡ rest ++ s ∷ [] → expr_of s ≡ Some y
+last_held x y b rest s around held last =
+    let e : stmt.Expr [] y false ∷ [] ≡ rest ++ s ∷ [] = ap (λ (c : Block). c.stmts) (held_by x y b around held) ∙ last in
+    ap expr_of (sym (last_of (stmt.Expr [] y false) rest s e)) ∙ expr_alone y
