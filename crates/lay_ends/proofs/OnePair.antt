@@ -1,5 +1,5 @@
 -- A pair of braces around the body of an arm that isn't in the tree.
-use Rattle.std.proofs.Common.{◌≡◌, ⊥, ℕ, zero, suc, true, false, List, [], ◌∷◌, ◌++◌, map, Option, Some, None, refl, sym, ap, subst, ◌∙◌}
+use Rattle.std.proofs.Common.{◌≡◌, ℕ, zero, suc, true, false, List, [], ◌∷◌, ◌++◌, length, map, Option, Some, None, refl, sym, ap, subst, ◌∙◌}
 use Rattle.lay_node.specs.declared.attr.Attr.{Attr}
 use Rattle.lay_tree.specs.nodes.Blocks.{is_lone_body}
 use Rattle.lay_tree.specs.nodes.Code.{about_expr}
@@ -110,10 +110,9 @@ last_of one (r ∷ q ∷ rest) s e = absurd (cc e)
 held_by : (x y : Expr) (b : Block) → x ≡ alone y → block_of x ≡ Some b → alone_block y ≡ b
 held_by x y b around held = let e : Some (alone_block y) ≡ Some b = sym (ap block_of around ∙ block_alone y) ∙ held in cc
 
--- It holds a statement, and its last one is the expression.
-pub some_held : (x y : Expr) (b : Block) → x ≡ alone y → block_of x ≡ Some b → b.stmts ≡ [] → ⊥
-some_held x y b around held none =
-    let e : stmt.Expr [] y false ∷ [] ≡ [] = ap (λ (c : Block). c.stmts) (held_by x y b around held) ∙ none in absurd (cc e)
+-- It holds one statement, which is the expression.
+pub one_held : (x y : Expr) (b : Block) → x ≡ alone y → block_of x ≡ Some b → length b.stmts ≡ 1
+one_held x y b around held = ap (λ (c : Block). length c.stmts) (sym (held_by x y b around held))
 
 pub last_held : (x y : Expr) (b : Block) (rest : List Stmt) (s : Stmt) → x ≡ alone y → block_of x ≡ Some b
     → b.stmts ≡ rest ++ s ∷ [] → expr_of s ≡ Some y
