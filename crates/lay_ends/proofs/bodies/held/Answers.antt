@@ -12,7 +12,7 @@ returns-in_err-pop c =
     let a = around c.args.expr c.requires in
     let one : length c.into_vec.result.items ≡ 1 = ap length (c.into_vec.ensures ∙ c.into_stmts.ensures)
     ∙ one_held c.args.expr a.0 c.in_ok-into_block.field-0 a.1 (sym c.in_ok-into_block.ensures) in
-    absurd (c.in_err-pop.ensures.variant.1 (omega (arith, one, c.into_vec.result.ok.0)))
+    absurd (cc (c.in_err-pop.ensures.variant.1 (omega (arith, one, c.into_vec.result.ok.0))))
 
 pub returns : goal.returns
 returns c =
