@@ -32,4 +32,4 @@ unfolding undressed
 returns c =
     let turns = c.loop-body.invariant.0 in
     let none : turns ≡ turns + 0 = omega arith in
-    (turns, ap (λ k. undressed k c.args.expr) none ∙ c.loop-body.invariant.1 0, sym c.loop-body-test.ensures)
+    (turns, (ap (λ k. undressed k c.args.expr) none ∙ c.loop-body.invariant.1 0, sym c.loop-body-test.ensures))
