@@ -88,7 +88,7 @@ pub one_turn : (n : ℕ) (x : Expr) → is_lone_body (about_expr (alone x)).kind
 unfolding undressed
 one_turn n x h =
     rw h (ap (block_held (undressed n) (alone x)) (views.outs-Block None (alone_block x))
-        ∙ ap (bare_by (undressed n) (alone x)) (views.outs-Expr [] x false))
+    ∙ ap (bare_by (undressed n) (alone x)) (views.outs-Expr [] x false))
 
 pub block_alone : (x : Expr) → block_of (alone x) ≡ Some (alone_block x)
 block_alone x = rw (views.outs-Block None (alone_block x)) refl

@@ -12,7 +12,11 @@ fn held(expr: Expr) -> Option<Expr>
     requires { is_lone_body (about_expr expr).kind ≡ true }
     ensures { IsAround expr result }
 {
-    expr.into_block()?.into_stmts().into_vec().pop()?.into_expr()
+    expr.into_block()?
+        .into_stmts()
+        .into_vec()
+        .pop()?
+        .into_expr()
 }
 
 /// The body of an arm, without the braces that aren't in the tree.

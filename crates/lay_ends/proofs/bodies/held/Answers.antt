@@ -17,6 +17,9 @@ returns-in_err-pop c =
 pub returns : goal.returns
 returns c =
     let a = around c.args.expr c.requires in
-    let last = sym (c.into_vec.ensures ∙ c.into_stmts.ensures) ∙ c.in_ok-pop.ensures.items in
-    (a.0, a.1, c.into_expr.ensures ∙ last_held c.args.expr a.0 c.in_ok-into_block.field-0 c.pop.new.self.items c.in_ok-pop.field-0
-    a.1 (sym c.in_ok-into_block.ensures) last)
+    let last = sym (c.into_vec.ensures ∙ c.into_stmts.ensures) ∙ c.in_ok-pop.ensures.items in (
+      a.0,
+      a.1,
+      c.into_expr.ensures ∙ last_held c.args.expr a.0 c.in_ok-into_block.field-0 c.pop.new.self.items c.in_ok-pop.field-0
+          a.1 (sym c.in_ok-into_block.ensures) last,
+    )

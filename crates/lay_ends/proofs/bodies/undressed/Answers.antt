@@ -21,11 +21,13 @@ loop-body-preserved c =
     let h = c.held.ensures in
     let same : c.unwrap_or-body.result ≡ h.0 = c.unwrap_or-body.ensures ∙ ap (λ o. unwrap_or o expr.Underscore) h.2 in
     let turns = c.loop-body.invariant.0 in
-    let lone = subst (λ (x : Expr). is_lone_body (about_expr x).kind ≡ true) h.1 (sym c.loop-body-test.ensures) in
-    (suc turns, λ n.
-      let one : suc turns + n ≡ turns + suc n = omega arith in
-      ap (λ k. undressed k c.args.expr) one ∙ c.loop-body.invariant.1 (suc n) ∙ ap (undressed (suc n)) h.1 ∙ one_turn n h.0 lone
-      ∙ ap (undressed n) (sym same))
+    let lone = subst (λ (x : Expr). is_lone_body (about_expr x).kind ≡ true) h.1 (sym c.loop-body-test.ensures) in (
+      suc turns,
+      λ n.
+          let one : suc turns + n ≡ turns + suc n = omega arith in
+          ap (λ k. undressed k c.args.expr) one ∙ c.loop-body.invariant.1 (suc n) ∙ ap (undressed (suc n)) h.1 ∙ one_turn n h.0 lone
+          ∙ ap (undressed n) (sym same),
+    )
 
 pub returns : goal.returns
 unfolding undressed
