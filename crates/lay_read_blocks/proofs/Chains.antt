@@ -63,7 +63,7 @@ module _ (within : ExprWithin) (ts : Tokens) where
   behind_condition : (label : Option Lifetime) (c : Option (((Option Pat × Expr) × ℕ) × Tokens))
       → (c >>= (λ c. block_by within c.1 >>= (λ b. Some ((expr.While label c.0.0.0 c.0.0.1 b.0.0, suc (max c.0.1 b.0.1)), b.1))))
       ≡ ((c >>= (λ c. block_by within c.1
-          >>= (λ b. Some (((record { pat = c.0.0.0; condition = c.0.0.1; body = b.0.0 }), max c.0.1 b.0.1), b.1)))) >>= loop_of label)
+      >>= (λ b. Some (((record { pat = c.0.0.0; condition = c.0.0.1; body = b.0.0 }), max c.0.1 b.0.1), b.1)))) >>= loop_of label)
   behind_condition label None = refl
   behind_condition label (Some c) = behind_body label c.0.0.0 c.0.0.1 c.0.1 (block_by within c.1)
 
