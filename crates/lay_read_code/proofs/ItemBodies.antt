@@ -1,6 +1,8 @@
 -- Items up to their bodies, and then their bodies.
-use Rattle.std.proofs.Common.{◌≡◌, ℕ, max, Bool, true, false, is_some, List, [], Option, Some, None, Result, Ok, Err, IfOk, ◌≤◌, codes, refl, sym, ◌∙◌, if◌then◌else◌, arith}
-use Rattle.lay_node.specs.Ahead.{Tokens, first, tail, is_keyword, is_mark}
+use Rattle.std.proofs.Common.{◌≡◌, ℕ, max, Bool, true, false, is_some, List, [], Option, Some, None, Result, Ok, Err, IfOk, ◌≤◌, codes, refl, sym, subst, ap, ◌∙◌, if◌then◌else◌, arith}
+use Rattle.lay_piece.specs.declared.kind.Delim.TheVariants.{Brace}
+use Rattle.lay_node.specs.Ahead.{Tokens, first, tail, closes, is_keyword, is_mark, opens}
+use Rattle.lay_node.specs.reader.Attr.{attributes}
 use Rattle.lay_node.specs.reader.Heads.{alias, enum, extern_crate, impl_head, struct, trait_head, union, unsafe_flag}
 use Rattle.lay_node.specs.reader.Loops.{Got, Read, ◌>>=◌, passed}
 use Rattle.lay_node.specs.reader.Types.{abi, if_there, is_string_token, literal}
@@ -24,7 +26,7 @@ use Rattle.lay_tree.specs.declared.exprs.Expr.{Expr}
 use Rattle.lay_node.specs.declared.heads.ValueHead.{ValueHead}
 use Rattle.lay_node.specs.reader.Functions.{fn_head}
 use Rattle.lay_node.specs.reader.Heads.{semicolon, value_head}
-use Rattle.lay_read_tokens.specs.Answers.{IsFound}
+use Rattle.lay_read_tokens.specs.Answers.{AreFound, IsFound}
 use Rattle.lay_read_tokens.specs.declared.found.Found.{Found}
 use Rattle.lay_read_tokens.specs.declared.stop.ReadNone.{ReadNone}
 use Rattle.lay_read_tokens.specs.declared.stop.ReadNone.TheVariants.{NoReading, NoMemory}
@@ -252,3 +254,26 @@ pub value_within : (x : Begun) (need : ℕ) (at : Site) (v : Option Expr) (n dep
 value_within (begun.Value head) need at v n depth le less =
     kept_within (may_be_valued at head (is_some v)) (item.Value head v) (max need n) depth (omega (arith, le, less))
 value_within _ need at v n depth le less = tt
+
+-- ---- inner attributes and items in braces
+
+module _ (within : ItemWithin) (at : Site) (ts inside mid last : Tokens) (attrs : List Attr) (read : List (Item × ℕ)) (found : Found (List Item))
+    (o : first (opens Brace) ts ≡ true) (i : inside ≡ tail ts) (a : attributes true inside ≡ Some (attrs, mid))
+    (h : reader.items_by (within.items at) mid ≡ Some (read, last)) (are : AreFound read found) where
+  abbrev Braced : Found (List Attr × List Item)
+  Braced = record { node = (attrs, found.node); need = found.need }
+
+  braced_by : (keeps : Bool) (rest : Tokens) → keeps ≡ first (closes Brace) last → rest ≡ (if keeps then tail last else last)
+      → IsFound (reader.item_body within at ts) (let r : Result (Found (List Attr × List Item)) ReadNone = if keeps then Ok Braced else Err NoReading in r) rest
+  unfolding reader.item_body
+  braced_by true rest e d =
+      let b : attributes true (tail ts) ≡ Some (attrs, mid) = ap (attributes true) (sym i) ∙ a in
+      rw (o, b, h, sym e, are.0, are.1, d) refl
+  braced_by false rest e d =
+      let b : attributes true (tail ts) ≡ Some (attrs, mid) = ap (attributes true) (sym i) ∙ a in
+      rw (o, b, h, sym e) refl
+
+  pub braced : (keeps : Bool) (rest : Tokens) → keeps ≡ first (closes Brace) last → rest ≡ (if keeps then tail last else last)
+      → (r : Result (Found (List Attr × List Item)) ReadNone) → r ≡ (if keeps then Ok Braced else Err NoReading)
+      → IsFound (reader.item_body within at ts) r rest
+  braced keeps rest e d r k = subst (λ x. IsFound (reader.item_body within at ts) x rest) (sym k) (braced_by keeps rest e d)

@@ -14,7 +14,7 @@ use Rattle.lay_read_tokens.proofs.Holding.{holding_more}
 use Rattle.lay_read_types.proofs.Steps.{found_by}
 use Rattle.lay_read_blocks.specs.Answers.{code_within}
 use Rattle.lay_read_code.specs.Begun.{begun_at, deeper, value_end}
-use Rattle.lay_read_code.proofs.ItemBodies.{block_within, kind_no_block, kind_no_body, kind_no_value, kind_none, kind_whole, kind_with_block, kind_with_body, kind_with_value, made_found, value_within}
+use Rattle.lay_read_code.proofs.ItemBodies.{block_within, braced, kind_no_block, kind_no_body, kind_no_value, kind_none, kind_whole, kind_with_block, kind_with_body, kind_with_value, made_found, value_within}
 use Rattle.lay_read_code.proofs.Steps.{block_found, block_nowhere, expr_deeper, expr_nowhere, item_kept, item_no_attrs, item_no_kind, item_no_vis, item_nowhere, second_found, second_stopped, second_within}
 use Rattle.lay_read_code.proofs.knot.+code.Goals as goal
 
@@ -245,3 +245,15 @@ read_kind-returns-in_ok-begun-in-Value-clause-within t c =
     rw (c.with_value.ensures, found.0) (value_within begun.node begun.need c.args.site value.node value.need c.args.depth c.in_ok-begun.ensures.within
     (second_within begun c.args.depth c.read_value_if.result c.in_ok-begun-in-Value.begun value c.in_ok-begun-in-Value.ensures
     c.read_value_if.ensures.within))
+
+-- ---- inner attributes and items in braces
+
+pub read_body-returns-clause-read : goal.read_body-returns-clause-read
+read_body-returns-clause-read t c =
+    let items = c.in_ok-items.items in
+    let held = c.in_ok-items.ensures.read in
+    let keeps = c.takes_closer-keeps in
+    braced (deeper c.args.depth) c.args.site c.args.at.now c.takes_opener.new.at c.attrs_ahead.new.at c.read_items.new.at
+    c.in_ok-attrs.attrs held.0 items (sym c.if-not-takes_opener.ensures.found) c.if-not-takes_opener.ensures.passed
+    c.in_ok-attrs.ensures held.1.0 held.1.1 keeps.result keeps.new.at keeps.ensures.found keeps.ensures.passed
+    c.kept_if.result c.kept_if.ensures
