@@ -1,15 +1,14 @@
 -- One step of a reader, from what the readers within it give.
-use Rattle.std.proofs.Common.{◌≡◌, ℕ, zero, ◌+◌, ◌-◌, ◌<◌, ◌||◌, add-one, Bool, true, false, List, Some, None, Result, Ok, Err, IfOk, ◌≤◌, MatchResult, refl, sym, subst, ◌∙◌, ap, if◌then◌else◌, is_some, suc, arith}
+use Rattle.std.proofs.Common.{◌≡◌, ℕ, zero, ◌+◌, ◌-◌, ◌<◌, ◌||◌, add-one, Bool, true, false, List, Some, None, Result, Ok, Err, refl, sym, subst, ◌∙◌, ap, if◌then◌else◌, is_some, suc, arith}
 use Rattle.lay_node.specs.Ahead.{Tokens}
 use Rattle.lay_node.specs.reader.Attr.{attributes}
-use Rattle.lay_node.specs.reader.Loops.{Read}
 use Rattle.lay_node.specs.declared.attr.Attr.{Attr}
 use Rattle.lay_node.specs.reader.Vis.{visibility}
 use Rattle.lay_node.specs.declared.heads.Site.{Site}
 use Rattle.lay_node.specs.declared.vis.Vis.{Vis}
 use Rattle.lay_tree.specs.reader.Code.{code_in, deeper_block, expr_at, item_at}
 use Rattle.lay_tree.specs.reader.Exprs.{expr_by}
-use Rattle.lay_tree.specs.reader.Item.{ItemWithin, item_by, kind_at}
+use Rattle.lay_tree.specs.reader.Item.{item_by, kind_at}
 use Rattle.lay_tree.specs.nodes.Code.{told_of_kind}
 use Rattle.lay_tree.specs.nodes.Item.{is_inherited}
 use Rattle.lay_tree.proofs.nodes.ItemLaws as laws
@@ -18,7 +17,7 @@ use Rattle.lay_tree.specs.declared.blocks.Block.{Block}
 use Rattle.lay_tree.specs.declared.exprs.Place.{Place}
 use Rattle.lay_tree.specs.declared.item.Item.{Item}
 use Rattle.lay_tree.specs.declared.item.ItemKind.{ItemKind}
-use Rattle.lay_read_tokens.specs.Answers.{IsFound, Stopped}
+use Rattle.lay_read_tokens.specs.Answers.{IsFound}
 use Rattle.lay_read_tokens.specs.declared.found.Found.{Found}
 use Rattle.lay_read_tokens.specs.declared.stop.ReadNone.{ReadNone}
 use Rattle.lay_read_tokens.specs.declared.stop.ReadNone.TheVariants.{NoReading}
@@ -33,33 +32,6 @@ use Rattle.lay_fronts.specs.Fronts.{alone, stmt_alone}
 use Rattle.lay_tree.specs.reader.Blocks.{block_by}
 use Rattle.lay_read_blocks.specs.Answers.{code_within, deeper_arm, deeper_stmt}
 use Rattle.lay_read_blocks.proofs.Left.{code_is}
-
--- ---- what was found behind something else
-
-module _ {A B : Type 0} (read : Read B) (first : A) (rest : Tokens) where
-  pub second_stopped : (r : Result (Found B) ReadNone) (none : ReadNone)
-      → MatchResult r (λ b. ◌≡◌ {A = Result (A × Found B) ReadNone} (Err none) (Ok (first, b))) (λ e. ◌≡◌ {A = Result (A × Found B) ReadNone} (Err none) (Err e))
-      → IsFound read r rest → Stopped read none
-  second_stopped (Ok b) none m h = absurd (cc)
-  second_stopped (Err e) none m h = let same : none ≡ e = cc in rw same h
-
-  pub second_found : (r : Result (Found B) ReadNone) (a : A) (b : Found B)
-      → MatchResult r (λ x. ◌≡◌ {A = Result (A × Found B) ReadNone} (Ok (a, b)) (Ok (first, x))) (λ e. ◌≡◌ {A = Result (A × Found B) ReadNone} (Ok (a, b)) (Err e))
-      → IsFound read r rest → (a ≡ first) × (read ≡ Some ((b.node, b.need), rest))
-  second_found (Ok x) a b m h =
-      let pair : ◌≡◌ {A = A × Found B} (a, b) (first, x) = cc in
-      (ap (λ p. p.0) pair, rw (ap (λ p. p.1) pair) h)
-  second_found (Err e) a b m h = absurd (cc)
-
--- It needs no more than what was read.
-pub second_within : {A B : Type 0} (first : A) (depth : ℕ) (r : Result (Found B) ReadNone) (a : A) (b : Found B)
-    → MatchResult r (λ x. ◌≡◌ {A = Result (A × Found B) ReadNone} (Ok (a, b)) (Ok (first, x))) (λ e. ◌≡◌ {A = Result (A × Found B) ReadNone} (Ok (a, b)) (Err e))
-    → IfOk r (λ found. found.need ≤ depth) → b.need ≤ depth
-second_within {A} {B} first depth (Ok x) a b m h =
-    let pair : ◌≡◌ {A = A × Found B} (a, b) (first, x) = cc in
-    let same : b ≡ x = ap (λ p. p.1) pair in
-    rw same h
-second_within first depth (Err e) a b m h = absurd (cc)
 
 -- ---- items
 

@@ -13,9 +13,10 @@ use Rattle.lay_read_tokens.proofs.Turns.{repeat-start, repeat-end, repeat-none, 
 use Rattle.lay_read_tokens.proofs.Holding.{holding_more}
 use Rattle.lay_read_types.proofs.Steps.{found_by}
 use Rattle.lay_read_blocks.specs.Answers.{code_within}
+use Rattle.lay_read_blocks.proofs.Second.{second_found, second_stopped, second_within}
 use Rattle.lay_read_code.specs.Begun.{begun_at, deeper, value_end}
 use Rattle.lay_read_code.proofs.ItemBodies.{block_within, braced, kind_no_block, kind_no_body, kind_no_value, kind_none, kind_whole, kind_with_block, kind_with_body, kind_with_value, made_found, value_within}
-use Rattle.lay_read_code.proofs.Steps.{block_found, block_nowhere, expr_deeper, expr_nowhere, item_kept, item_no_attrs, item_no_kind, item_no_vis, item_nowhere, second_found, second_stopped, second_within}
+use Rattle.lay_read_code.proofs.Steps.{block_found, block_nowhere, expr_deeper, expr_nowhere, item_kept, item_no_attrs, item_no_kind, item_no_vis, item_nowhere}
 use Rattle.lay_read_code.proofs.knot.+code.Goals as goal
 
 -- ---- expressions
