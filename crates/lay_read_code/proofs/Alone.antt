@@ -19,8 +19,8 @@ stmt_lifts x = let told = by_itself (stmt_told x) in front_deeper told.form told
 
 pub arm_lifts : (x : Arm) (ts : Tokens) (n m depth : ℕ) → m ≤ depth → ArmFront x ts n m → ArmFront x ts n depth
 arm_lifts x ts n m depth le f = (
-      f.0,
-      f.1,
-      f.2,
-      front_deeper (Deeper (arm_shape f.0 f.1 x) Done) (about_arm x).good (arm_follows f.0 f.1 (about_expr x.body)) ts n m depth le f.3,
-    )
+  f.0,
+  f.1,
+  f.2,
+  front_deeper (Deeper (arm_shape f.0 f.1 x) Done) (about_arm x).good (arm_follows f.0 f.1 (about_expr x.body)) ts n m depth le f.3,
+)
