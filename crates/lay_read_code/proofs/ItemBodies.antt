@@ -1,11 +1,12 @@
 -- Items up to their bodies, and then their bodies.
-use Rattle.std.proofs.Common.{◌≡◌, ℕ, max, Bool, true, false, is_some, List, [], Option, Some, None, Result, Ok, Err, IfOk, ◌≤◌, codes, refl, sym, subst, ap, ◌∙◌, if◌then◌else◌, arith}
+use Rattle.std.proofs.Common.{◌≡◌, ℕ, max, Bool, true, false, is_some, List, [], drop, Option, Some, None, Result, Ok, Err, IfOk, ◌≤◌, codes, refl, sym, subst, ap, ◌∙◌, if◌then◌else◌, arith}
+use Rattle.lay_token.specs.Operators.{is_op}
 use Rattle.lay_piece.specs.declared.kind.Delim.TheVariants.{Brace}
 use Rattle.lay_node.specs.Ahead.{Tokens, first, tail, closes, is_keyword, is_mark, opens}
 use Rattle.lay_node.specs.reader.Attr.{attributes}
 use Rattle.lay_node.specs.reader.Heads.{alias, enum, extern_crate, impl_head, struct, trait_head, union, unsafe_flag}
 use Rattle.lay_node.specs.reader.Loops.{Got, Read, ◌>>=◌, passed}
-use Rattle.lay_node.specs.reader.Types.{abi, if_there, is_string_token, literal}
+use Rattle.lay_node.specs.reader.Types.{abi, if_read, if_there, is_string_token, literal}
 use Rattle.lay_node.specs.reader.Where.{wheres}
 use Rattle.lay_node.specs.reader.Words.{name}
 use Rattle.lay_node.specs.declared.attr.Attr.{Attr}
@@ -21,6 +22,7 @@ use Rattle.lay_tree.specs.declared.item.Item.{Item}
 use Rattle.lay_tree.specs.declared.item.ItemKind.{ItemKind}
 use Rattle.lay_tree.specs.declared.item.ItemKind.TheVariants as item
 use Rattle.lay_tree.specs.nodes.Item.{may_be_bodied, may_be_valued}
+use Rattle.lay_tree.specs.nodes.Places.{FREE}
 use Rattle.lay_tree.specs.declared.blocks.Block.{Block}
 use Rattle.lay_tree.specs.declared.exprs.Expr.{Expr}
 use Rattle.lay_node.specs.declared.heads.ValueHead.{ValueHead}
@@ -169,7 +171,8 @@ module _ (at : Site) (within : ItemWithin) where
   by_lead OfStruct ts = alone_finished item.Struct (struct within.heads.kinds ts)
   by_lead OfUnion ts = alone_finished item.Union (union within.heads.kinds ts)
   by_lead OfEnum ts = alone_finished item.Enum (enum within.heads.kinds ts)
-  by_lead OfValue ts = step (value_head within.heads.kinds ts) _ _ go_on (λ h. value_behind h.0.0 h.0.1 _)
+  by_lead OfValue ts = step (value_head within.heads.kinds ts) _ _ go_on
+      (λ h. value_behind h.0.0 h.0.1 (if_read (is_op (codes "=") h.1) (λ us. within.code.exprs FREE (drop 1 us)) h.1))
   by_lead OfTrait ts = step (trait_head within.heads.kinds ts) _ _ go_on
       (λ h. step (wheres within.heads.kinds h.1) _ _ go_on
       (λ w. behind_body (λ attrs items. item.Trait h.0.0.0 w.0.0.0 attrs items) (λ n. max h.0.1 (max w.0.1 n)) (λ n. max (max h.0.1 w.0.1) n)

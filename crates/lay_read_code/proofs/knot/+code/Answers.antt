@@ -1,4 +1,4 @@
-use Rattle.std.proofs.Common.{◌≡◌, ◌-◌, ◌<◌, ◌++◌, ◌∷◌, [], false, refl, sym, arith}
+use Rattle.std.proofs.Common.{◌≡◌, ◌+◌, ◌-◌, ◌<◌, ◌++◌, ◌∷◌, [], false, refl, sym, arith}
 use Rattle.std.proofs.lemmas.Result.{err_from_is_err_and}
 use Rattle.lay_node.specs.Ahead.{more_items}
 use Rattle.lay_node.specs.reader.Attr.{attributes}
@@ -256,5 +256,5 @@ read_body-returns-clause-read t c =
     let keeps = c.takes_closer-keeps in
     braced (deeper c.args.depth) c.args.site c.args.at.now c.takes_opener.new.at c.attrs_ahead.new.at c.read_items.new.at
     c.in_ok-attrs.attrs held.0 items (sym c.if-not-takes_opener.ensures.found) c.if-not-takes_opener.ensures.passed
-    c.in_ok-attrs.ensures held.1.0 held.1.1 keeps.result keeps.new.at keeps.ensures.found keeps.ensures.passed
+    c.in_ok-attrs.ensures held.1 held.2 keeps.result keeps.new.at keeps.ensures.found keeps.ensures.passed
     c.kept_if.result c.kept_if.ensures
