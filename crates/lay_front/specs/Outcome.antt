@@ -11,8 +11,8 @@ use Rattle.lay_tree.specs.Reading.{IsRefused}
 use Rattle.lay_front.specs.Readings.{ReadsOnlyTo}
 use Rattle.lay_tree.specs.Out.{out}
 use Rattle.lay_tree.specs.declared.file.File.{File}
-use Rattle.lay_front.specs.declared.format.IntoError.{IntoError}
-use Rattle.lay_front.specs.declared.format.IntoError.TheVariants as into
+use Rattle.lay_front.specs.declared.formatting.IntoError.{IntoError}
+use Rattle.lay_front.specs.declared.formatting.IntoError.TheVariants as into
 use Rattle.lay_front.specs.declared.command.Status.{Status}
 use Rattle.lay_front.specs.declared.command.Status.TheVariants.{Done, Differs, Usage, ReadFailed, Refused, WriteFailed, TooLong, NoMemory}
 

@@ -5,7 +5,7 @@ use Rattle.lay_printer.specs.Printers.{lent_core, press_loans}
 use Rattle.lay_printer.proofs.Through.{Begins, printed_stopped, printed_finish, level_zero}
 use Rattle.lay_tree.specs.Out.{layout_of_file}
 use Rattle.lay_front.proofs.WritingLemmas.{file_written}
-use Rattle.lay_front.proofs.format.write_file.Goals as goal
+use Rattle.lay_front.proofs.formatting.write_file.Goals as goal
 
 pub returns-in_err-put_file : goal.returns-in_err-put_file
 returns-in_err-put_file g c =

@@ -1,5 +1,5 @@
 use Rattle.lay_front.proofs.OutcomeLemmas.{wrote}
-use Rattle.lay_front.proofs.format.format_bytes.Goals as goal
+use Rattle.lay_front.proofs.formatting.format_bytes.Goals as goal
 
 pub returns-in-Ok-write_file-clause-formats : goal.returns-in-Ok-write_file-clause-formats
 returns-in-Ok-write_file-clause-formats g c =

@@ -1,5 +1,5 @@
 use Rattle.lay_front.proofs.FormatLemmas.{text_again, text_refused, text_whole}
-use Rattle.lay_front.proofs.format.format.Goals as goal
+use Rattle.lay_front.proofs.formatting.format.Goals as goal
 
 pub returns-clause-complete : goal.returns-clause-complete
 returns-clause-complete c = λ file r. text_whole c.args.bytes.now file _ c.text_of.ensures r

@@ -1,5 +1,5 @@
 use Rattle.lay_front.proofs.OutcomeLemmas.{into_whole, into_refused, into_again}
-use Rattle.lay_front.proofs.format.format_into.Goals as goal
+use Rattle.lay_front.proofs.formatting.format_into.Goals as goal
 
 pub returns-clause-complete : goal.returns-clause-complete
 returns-clause-complete g c = λ file no_write r.
