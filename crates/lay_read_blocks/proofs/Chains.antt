@@ -1,11 +1,11 @@
 -- What a rule gives, from what each of its steps gives.
-use Rattle.std.proofs.Common.{◌≡◌, ℕ, suc, ◌+◌, Bool, true, false, List, drop, codes, Option, Some, None, refl, sym, ap, ◌∙◌, if◌then◌else◌}
+use Rattle.std.proofs.Common.{◌≡◌, ℕ, suc, Bool, true, false, List, drop, codes, Option, Some, None, refl, ap, ◌∙◌, if◌then◌else◌}
 use Rattle.std.specs.Prelude.{max}
 use Rattle.lay_token.specs.Operators.{is_op}
 use Rattle.lay_piece.specs.declared.kind.Delim.TheVariants.{Brace}
 use Rattle.lay_node.specs.Ahead.{Tokens, first, tail, is_keyword, is_mark, opens, closes, more_items}
 use Rattle.lay_node.specs.reader.Attr.{attributes}
-use Rattle.lay_node.specs.reader.Loops.{Got, Read, ◌>>=◌, nodes, deepest, elements, repeat}
+use Rattle.lay_node.specs.reader.Loops.{Read, ◌>>=◌, nodes, deepest, elements, repeat}
 use Rattle.lay_node.specs.reader.Types.{if_read, lifetime}
 use Rattle.lay_node.specs.declared.attr.Attr.{Attr}
 use Rattle.lay_node.specs.declared.patterns.Pat.{Pat}

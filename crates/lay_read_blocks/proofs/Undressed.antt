@@ -1,27 +1,25 @@
 -- Bodies of arms: what is read of one is within no more pairs of braces that aren't in the tree than there are tokens.
-use Rattle.std.proofs.Common.{◌≡◌, ℕ, zero, suc, ◌+◌, ◌-◌, ◌<◌, ◌≤◌, Bool, true, false, not, ◌&&◌, ◌||◌, List, [], ◌∷◌, ◌++◌, map, length, drop, inl, inr, codes, Option, option_map, Some, None, is_some, refl, sym, ap, subst, ◌∙◌, arith, if◌then◌else◌}
+use Rattle.std.proofs.Common.{◌≡◌, ℕ, zero, suc, ◌+◌, ◌-◌, ◌≤◌, Bool, true, false, not, ◌&&◌, ◌||◌, List, [], ◌∷◌, ◌++◌, length, drop, inl, inr, codes, Option, Some, None, is_some, refl, sym, ap, subst, ◌∙◌, arith}
 use Rattle.std.specs.Prelude.{max, nat_le, ◌==◌}
-use Rattle.std.proofs.lemmas.Bool.{and_parts}
 use Rattle.lay_token.specs.Operators.{is_op}
 use Rattle.lay_piece.specs.declared.kind.Delim.TheVariants.{Brace}
 use Rattle.lay_node.specs.Ahead.{Tokens, first, tail, is_keyword, is_mark, opens, closes, more_items}
 use Rattle.lay_node.specs.reader.Attr.{attributes}
 use Rattle.lay_node.specs.reader.Heads.{semicolon}
-use Rattle.lay_node.specs.reader.Loops.{Got, Read, ◌>>=◌, passed, nodes, repeat_from, repeat}
+use Rattle.lay_node.specs.reader.Loops.{Got, passed, nodes, repeat_from, repeat}
 use Rattle.lay_node.specs.reader.Types.{if_read}
 use Rattle.lay_node.specs.declared.attr.Attr.{Attr}
 use Rattle.lay_node.specs.declared.heads.Site.TheVariants.{Module}
 use Rattle.lay_node.specs.declared.patterns.PatPlace.TheVariants.{Alternatives, Single}
-use Rattle.lay_node.specs.declared.token.Lifetime.{Lifetime}
 use Rattle.lay_node.specs.declared.types.TypePlace.TheVariants.{Bounds}
 use Rattle.lay_node.proofs.Steps.{same_some, chosen, bind_some}
 use Rattle.lay_tree.specs.Operands.{ByBrace, expr_lead_at}
 use Rattle.lay_tree.specs.Operators.{begins_step, strength}
-use Rattle.lay_tree.specs.nodes.Blocks.{is_lone_body, is_plain}
-use Rattle.lay_tree.specs.nodes.Code.{about_block, about_expr, about_stmt, told_of_item}
-use Rattle.lay_tree.specs.nodes.Exprs.{ExprFacts, is_macro, root_follows, stands}
+use Rattle.lay_tree.specs.nodes.Blocks.{is_lone_body}
+use Rattle.lay_tree.specs.nodes.Code.{about_expr, about_stmt, told_of_item}
+use Rattle.lay_tree.specs.nodes.Exprs.{ExprFacts, root_follows, stands}
 use Rattle.lay_tree.specs.nodes.Places.{FREE, plain, statement}
-use Rattle.lay_tree.specs.reader.Blocks.{bare_by, begins_item, behind_semicolons, block_by, block_held, condition_by, else_stands, expr_stmt, held_by, item_stmt, let_stmt, stmt_by, stmt_in_block, undressed}
+use Rattle.lay_tree.specs.reader.Blocks.{begins_item, behind_semicolons, block_by, condition_by, else_stands, expr_stmt, item_stmt, let_stmt, stmt_by, stmt_in_block, undressed}
 use Rattle.lay_tree.specs.reader.Code.{code_in, expr_at}
 use Rattle.lay_tree.specs.reader.Exprs.{assign_expr, begins_tuple_index, cast_expr, chain_expr, climb, climb_by, expr_by, for_expr, head_by, is_ended, labelled_expr, left_place, one_step, one_type, operand_if, operands, postfix_expr, range_by, range_expr, stage, targets_of, value_of, while_expr}
 use Rattle.lay_tree.specs.reader.Within.{ExprWithin}
@@ -42,9 +40,7 @@ use Rattle.lay_tree.specs.declared.item.ItemKind.{ItemKind}
 use Rattle.lay_tree.proofs.nodes.ExprsLaws as laws
 use Rattle.lay_tree.proofs.reader.ArmsSoundBodies.{IsAlone, Lone, alone, alone_block, is_alone}
 use Rattle.lay_tree.proofs.reader.ExprSoundLeads.{code_led}
-use Rattle.lay_ops.specs.RootFacts.{lone_in}
-use Rattle.lay_ops.proofs.BodyFacts.{lone_is, of_block}
-use Rattle.lay_read_tokens.proofs.Left.{Leaves, Left, attributes_left, joined, passed_left, Passes}
+use Rattle.lay_read_tokens.proofs.Left.{Leaves, Left, attributes_left, passed_left, Passes}
 use Rattle.lay_ends.specs.Bodies.{IsBare}
 use Rattle.lay_read_blocks.proofs.BlocksLeft.{LeftCode, in_block_left, semicolons_left}
 use Rattle.lay_read_blocks.proofs.Left.{in_left}
