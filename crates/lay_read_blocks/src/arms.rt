@@ -69,6 +69,7 @@ impl<
     I: Fn(Global, &mut Ahead<'_>, Site, u32) -> Result<Found<Item>, ReadNone>,
 > BlockRules<P, B, I> {
     /// What stands behind an `=>`, and whether the arm may lack its comma by that.
+    #[inline(never)]
     fn body_begun(&self, at: &mut Ahead<'_>) -> Result<Found<(Expr, bool)>, ReadNone>
         requires { AreCode self.now.depth (P.pre self.now.exprs) (P.post self.now.exprs) (B.pre self.now.blocks) (B.post self.now.blocks) (I.pre self.now.items) (I.post self.now.items) }
         ensures read { IsFound (body_begun (code_within self.now.depth) at.old) result at.new }
@@ -84,6 +85,7 @@ impl<
     }
 
     /// A guard, if one stands there.
+    #[inline(never)]
     fn guard_if(&self, at: &mut Ahead<'_>) -> Result<Found<Option<Expr>>, ReadNone>
         requires { AreCode self.now.depth (P.pre self.now.exprs) (P.post self.now.exprs) (B.pre self.now.blocks) (B.post self.now.blocks) (I.pre self.now.items) (I.post self.now.items) }
         ensures read { IsFound (if_read (first (is_keyword (codes "if")) at.old) (λ us. expr_at free self.now.depth (tail us)) at.old) result at.new }
@@ -104,6 +106,7 @@ impl<
 
     /// An arm. What is within it is read at the depth of these rules, and it needs one more at the most.
     #[tactic(auto, using(lay_fronts::proofs::ArmBegun::arm_by_is))]
+    #[inline(never)]
     fn arm_by(&self, at: &mut Ahead<'_>, _depth: u32) -> Result<Found<Arm>, ReadNone>
         requires { AreCode self.now.depth (P.pre self.now.exprs) (P.post self.now.exprs) (B.pre self.now.blocks) (B.post self.now.blocks) (I.pre self.now.items) (I.post self.now.items) }
         ensures read { IsFound (reader.arm_by (code_within self.now.depth) at.old) result at.new }
@@ -119,6 +122,7 @@ impl<
 
     /// An arm up to its comma, and whether it may lack that by its body.
     #[tactic(auto, unfolding(lay_fronts::specs::ArmFronts::arm_begun))]
+    #[inline(never)]
     pub fn arm_begun(&self, at: &mut Ahead<'_>) -> Result<Found<(Arm, bool)>, ReadNone>
         requires { AreCode self.now.depth (P.pre self.now.exprs) (P.post self.now.exprs) (B.pre self.now.blocks) (B.post self.now.blocks) (I.pre self.now.items) (I.post self.now.items) }
         ensures read { IsFound (arm_begun (code_within self.now.depth) at.old) result at.new }
@@ -134,6 +138,7 @@ impl<
     }
 
     /// What stands behind the pattern of an arm, and its guard if it has one.
+    #[inline(never)]
     fn arm_behind(
         &self,
         at: &mut Ahead<'_>,
@@ -169,6 +174,7 @@ impl<
 
     /// Arms, up to where the match ends.
     #[tactic(auto, using(crate::proofs::Left::arm_leaves))]
+    #[inline(never)]
     fn arms(&self, at: &mut Ahead<'_>) -> Result<Found<List<Arm>>, ReadNone>
         requires { AreCode self.now.depth (P.pre self.now.exprs) (P.post self.now.exprs) (B.pre self.now.blocks) (B.post self.now.blocks) (I.pre self.now.items) (I.post self.now.items) }
         ensures read { IsHeld AreFound (repeat more_items (reader.arm_by (code_within self.now.depth)) at.old) result at.new }
@@ -187,6 +193,7 @@ impl<
 
     /// What stands behind `match`, unless it is deeper than may be.
     #[tactic(auto, unfolding(lay_tree::specs::reader::Exprs::match_expr))]
+    #[inline(never)]
     pub fn match_expr(&self, at: &mut Ahead<'_>) -> Result<Found<Expr>, ReadNone>
         requires { AreCode self.now.depth (P.pre self.now.exprs) (P.post self.now.exprs) (B.pre self.now.blocks) (B.post self.now.blocks) (I.pre self.now.items) (I.post self.now.items) }
         ensures read { IsFound (fits (self.now.depth + 1) (exprs.match_expr (code_within self.now.depth) at.old)) result at.new }

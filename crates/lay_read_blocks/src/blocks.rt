@@ -34,6 +34,7 @@ impl<
 > BlockRules<P, B, I> {
     /// A block.
     #[tactic(auto, unfolding(lay_tree::specs::reader::Blocks::block_by))]
+    #[inline(never)]
     pub fn block_by(&self, at: &mut Ahead<'_>) -> Result<Found<Block>, ReadNone>
         requires { AreCode self.now.depth (P.pre self.now.exprs) (P.post self.now.exprs) (B.pre self.now.blocks) (B.post self.now.blocks) (I.pre self.now.items) (I.post self.now.items) }
         ensures read { IsFound (reader.block_by (code_within self.now.depth) at.old) result at.new }
@@ -58,6 +59,7 @@ impl<
     }
 
     /// A block that stands one level deeper than what is around it.
+    #[inline(never)]
     pub fn deeper_block(&self, at: &mut Ahead<'_>) -> Result<Found<Block>, ReadNone>
         requires { AreCode self.now.depth (P.pre self.now.exprs) (P.post self.now.exprs) (B.pre self.now.blocks) (B.post self.now.blocks) (I.pre self.now.items) (I.post self.now.items) }
         ensures read { IsFound (code.deeper_block (code_within self.now.depth) at.old) result at.new }
@@ -71,6 +73,7 @@ impl<
     }
 
     /// The body of a function, or the `;` where it has none.
+    #[inline(never)]
     pub fn fn_body(&self, at: &mut Ahead<'_>) -> Result<Found<Option<Block>>, ReadNone>
         requires { AreCode self.now.depth (P.pre self.now.exprs) (P.post self.now.exprs) (B.pre self.now.blocks) (B.post self.now.blocks) (I.pre self.now.items) (I.post self.now.items) }
         ensures read { IsFound (body_if (code_within self.now.depth) at.old) result at.new }
@@ -94,6 +97,7 @@ impl<
 
     /// Statements, up to where the block ends.
     #[tactic(auto, using(crate::proofs::Left::stmt_leaves))]
+    #[inline(never)]
     fn stmts(&self, at: &mut Ahead<'_>) -> Result<Found<List<Stmt>>, ReadNone>
         requires { AreCode self.now.depth (P.pre self.now.exprs) (P.post self.now.exprs) (B.pre self.now.blocks) (B.post self.now.blocks) (I.pre self.now.items) (I.post self.now.items) }
         ensures read { IsHeld AreFound (repeat more_items (reader.stmt_in_block (code_within self.now.depth)) at.old) result at.new }
@@ -111,6 +115,7 @@ impl<
     }
 
     /// A statement of a block, and the `;` behind it. One that doesn't end by itself is the last.
+    #[inline(never)]
     fn stmt_in_block(&self, at: &mut Ahead<'_>, _place: ()) -> Result<Found<Stmt>, ReadNone>
         requires { AreCode self.now.depth (P.pre self.now.exprs) (P.post self.now.exprs) (B.pre self.now.blocks) (B.post self.now.blocks) (I.pre self.now.items) (I.post self.now.items) }
         ensures read { IsFound (reader.stmt_in_block (code_within self.now.depth) at.old) result at.new }

@@ -36,6 +36,7 @@ impl<
 > BlockRules<P, B, I> {
     /// A condition, or a pattern and what it is matched with.
     #[tactic(auto, unfolding(lay_tree::specs::reader::Blocks::condition_by))]
+    #[inline(never)]
     pub fn condition_by(&self, at: &mut Ahead<'_>) -> Result<Found<(Option<Pat>, Expr)>, ReadNone>
         requires { AreCode self.now.depth (P.pre self.now.exprs) (P.post self.now.exprs) (B.pre self.now.blocks) (B.post self.now.blocks) (I.pre self.now.items) (I.post self.now.items) }
         ensures read { IsFound (reader.condition_by (code_within self.now.depth) at.old) result at.new }
@@ -52,6 +53,7 @@ impl<
     }
 
     /// A pattern and what it is matched with.
+    #[inline(never)]
     fn matched(&self, at: &mut Ahead<'_>) -> Result<Found<(Option<Pat>, Expr)>, ReadNone>
         requires { AreCode self.now.depth (P.pre self.now.exprs) (P.post self.now.exprs) (B.pre self.now.blocks) (B.post self.now.blocks) (I.pre self.now.items) (I.post self.now.items) }
         ensures read { IsFound (matched (code_within self.now.depth) at.old) result at.new }
@@ -70,6 +72,7 @@ impl<
 
     /// What stands behind an `if`.
     #[tactic(auto, unfolding(lay_tree::specs::reader::Blocks::branch_by))]
+    #[inline(never)]
     pub fn branch_by(&self, at: &mut Ahead<'_>) -> Result<Found<Branch>, ReadNone>
         requires { AreCode self.now.depth (P.pre self.now.exprs) (P.post self.now.exprs) (B.pre self.now.blocks) (B.post self.now.blocks) (I.pre self.now.items) (I.post self.now.items) }
         ensures read { IsFound (reader.branch_by (code_within self.now.depth) at.old) result at.new }
@@ -91,6 +94,7 @@ impl<
 
     /// Further branches, each behind its `else if`.
     #[tactic(auto, using(crate::proofs::Left::branch_leaves))]
+    #[inline(never)]
     fn branches(&self, at: &mut Ahead<'_>) -> Result<Found<List<Branch>>, ReadNone>
         requires { AreCode self.now.depth (P.pre self.now.exprs) (P.post self.now.exprs) (B.pre self.now.blocks) (B.post self.now.blocks) (I.pre self.now.items) (I.post self.now.items) }
         ensures read { IsHeld AreFound (repeat exprs.begins_else_if (λ us. reader.branch_by (code_within self.now.depth) (drop 2 us)) at.old) result at.new }
@@ -108,6 +112,7 @@ impl<
     }
 
     /// A branch behind its `else if`.
+    #[inline(never)]
     fn else_branch(&self, at: &mut Ahead<'_>, _place: ()) -> Result<Found<Branch>, ReadNone>
         requires { AreCode self.now.depth (P.pre self.now.exprs) (P.post self.now.exprs) (B.pre self.now.blocks) (B.post self.now.blocks) (I.pre self.now.items) (I.post self.now.items) }
         ensures read { IsFound (reader.branch_by (code_within self.now.depth) (drop 2 at.old)) result at.new }
@@ -118,6 +123,7 @@ impl<
     }
 
     /// The block behind an `else`, if one stands there. It is as deep as those of the branches.
+    #[inline(never)]
     fn otherwise(&self, at: &mut Ahead<'_>) -> Result<Found<Option<Block>>, ReadNone>
         requires { AreCode self.now.depth (P.pre self.now.exprs) (P.post self.now.exprs) (B.pre self.now.blocks) (B.post self.now.blocks) (I.pre self.now.items) (I.post self.now.items) }
         ensures read { IsFound (if_read (first (is_keyword (codes "else")) at.old) (λ us. reader.block_by (code_within self.now.depth) (tail us)) at.old) result at.new }
@@ -138,6 +144,7 @@ impl<
 
     /// What stands behind an `if`, with all its branches.
     #[tactic(auto, unfolding(lay_tree::specs::reader::Exprs::if_expr))]
+    #[inline(never)]
     pub fn if_expr(&self, at: &mut Ahead<'_>) -> Result<Found<Expr>, ReadNone>
         requires { AreCode self.now.depth (P.pre self.now.exprs) (P.post self.now.exprs) (B.pre self.now.blocks) (B.post self.now.blocks) (I.pre self.now.items) (I.post self.now.items) }
         ensures read { IsFound (exprs.if_expr (code_within self.now.depth) at.old) result at.new }
@@ -159,6 +166,7 @@ impl<
 
     /// What stands behind `while`.
     #[tactic(auto, unfolding(lay_tree::specs::reader::Exprs::while_expr))]
+    #[inline(never)]
     pub fn while_expr(
         &self,
         at: &mut Ahead<'_>,
@@ -188,6 +196,7 @@ impl<
 
     /// What stands behind `for`.
     #[tactic(auto, unfolding(lay_tree::specs::reader::Exprs::for_expr))]
+    #[inline(never)]
     pub fn for_expr(
         &self,
         at: &mut Ahead<'_>,

@@ -35,6 +35,7 @@ impl<
 > BlockRules<P, B, I> {
     /// A parameter of a closure.
     #[tactic(auto, unfolding(lay_tree::specs::reader::Exprs::closure_param))]
+    #[inline(never)]
     fn closure_param(&self, at: &mut Ahead<'_>, _place: ()) -> Result<Found<ClosureParam>, ReadNone>
         requires { AreCode self.now.depth (P.pre self.now.exprs) (P.post self.now.exprs) (B.pre self.now.blocks) (B.post self.now.blocks) (I.pre self.now.items) (I.post self.now.items) }
         ensures read { IsFound (exprs.closure_param (code_within self.now.depth) at.old) result at.new }
@@ -58,6 +59,7 @@ impl<
 
     /// Parameters, and the `|` behind them.
     #[tactic(auto, using(crate::proofs::Left::param_leaves))]
+    #[inline(never)]
     fn params(&self, at: &mut Ahead<'_>) -> Result<Found<List<ClosureParam>>, ReadNone>
         requires { AreCode self.now.depth (P.pre self.now.exprs) (P.post self.now.exprs) (B.pre self.now.blocks) (B.post self.now.blocks) (I.pre self.now.items) (I.post self.now.items) }
         ensures read { IsHeld AreFound (elements (is_mark (codes "|")) (exprs.closure_param (code_within self.now.depth)) at.old) result at.new }
@@ -76,6 +78,7 @@ impl<
 
     /// A closure.
     #[tactic(auto, unfolding(lay_tree::specs::reader::Exprs::closure_expr))]
+    #[inline(never)]
     pub fn closure_expr(&self, at: &mut Ahead<'_>, no_struct: bool) -> Result<Found<Expr>, ReadNone>
         requires { AreCode self.now.depth (P.pre self.now.exprs) (P.post self.now.exprs) (B.pre self.now.blocks) (B.post self.now.blocks) (I.pre self.now.items) (I.post self.now.items) }
         ensures read { IsFound (exprs.closure_expr (code_within self.now.depth) no_struct at.old) result at.new }
@@ -90,6 +93,7 @@ impl<
     }
 
     /// What stands behind the parameters of a closure.
+    #[inline(never)]
     fn closure_body(
         &self,
         at: &mut Ahead<'_>,
@@ -117,6 +121,7 @@ impl<
     }
 
     /// What stands behind the parameters of a closure, from its `->` on.
+    #[inline(never)]
     fn typed_closure(
         &self,
         at: &mut Ahead<'_>,

@@ -21,6 +21,7 @@ impl<
 > BlockRules<P, B, I> {
     /// What begins an expression that holds blocks, or a closure, told from what the first token begins, unless it is deeper
     /// than may be.
+    #[inline(never)]
     pub fn block_head(
         &self,
         at: &mut Ahead<'_>,
@@ -42,6 +43,7 @@ impl<
 
     /// A block or a loop behind its label.
     #[tactic(auto, unfolding(lay_tree::specs::reader::Exprs::label_expr))]
+    #[inline(never)]
     fn label_expr(&self, at: &mut Ahead<'_>) -> Result<Found<Expr>, ReadNone>
         requires { AreCode self.now.depth (P.pre self.now.exprs) (P.post self.now.exprs) (B.pre self.now.blocks) (B.post self.now.blocks) (I.pre self.now.items) (I.post self.now.items) }
         ensures read { IsFound (exprs.label_expr (code_within self.now.depth) at.old) result at.new }
@@ -55,6 +57,7 @@ impl<
     }
 
     /// A block or a loop, behind its label if it has one.
+    #[inline(never)]
     fn labelled_expr(
         &self,
         at: &mut Ahead<'_>,
@@ -93,6 +96,7 @@ impl<
 
     /// What begins with a word of an expression that holds a block.
     #[tactic(auto, unfolding(lay_tree::specs::reader::Exprs::block_word_expr))]
+    #[inline(never)]
     fn block_word_expr(&self, at: &mut Ahead<'_>) -> Result<Found<Expr>, ReadNone>
         requires { AreCode self.now.depth (P.pre self.now.exprs) (P.post self.now.exprs) (B.pre self.now.blocks) (B.post self.now.blocks) (I.pre self.now.items) (I.post self.now.items) }
         ensures read { IsFound (fits (self.now.depth + 1) (exprs.block_word_expr (code_within self.now.depth) at.old)) result at.new }
@@ -118,6 +122,7 @@ impl<
     }
 
     /// What stands behind `async`.
+    #[inline(never)]
     fn async_expr(&self, at: &mut Ahead<'_>) -> Result<Found<Expr>, ReadNone>
         requires { AreCode self.now.depth (P.pre self.now.exprs) (P.post self.now.exprs) (B.pre self.now.blocks) (B.post self.now.blocks) (I.pre self.now.items) (I.post self.now.items) }
         ensures read { IsFound (exprs.async_expr (code_within self.now.depth) at.old) result at.new }
@@ -135,6 +140,7 @@ impl<
     }
 
     /// What begins with `if` or `match`, or is a loop.
+    #[inline(never)]
     fn worded(&self, at: &mut Ahead<'_>) -> Result<Found<Expr>, ReadNone>
         requires { AreCode self.now.depth (P.pre self.now.exprs) (P.post self.now.exprs) (B.pre self.now.blocks) (B.post self.now.blocks) (I.pre self.now.items) (I.post self.now.items) }
         ensures read { IsFound (fits (self.now.depth + 1) (worded (code_within self.now.depth) at.old)) result at.new }

@@ -52,6 +52,7 @@ fn goes_on(at: &Ahead<'_>, going: Going) -> bool
 }
 
 /// Parts as long as one begins.
+#[inline(never)]
 pub fn read_parts<
     P: Part<T, X>,
     R,

@@ -45,6 +45,7 @@ impl<
 > BlockRules<P, B, I> {
     /// A statement.
     #[tactic(auto, unfolding(lay_tree::specs::reader::Blocks::stmt_by))]
+    #[inline(never)]
     pub fn stmt_by(&self, at: &mut Ahead<'_>) -> Result<Found<Stmt>, ReadNone>
         requires { AreCode self.now.depth (P.pre self.now.exprs) (P.post self.now.exprs) (B.pre self.now.blocks) (B.post self.now.blocks) (I.pre self.now.items) (I.post self.now.items) }
         ensures read { IsFound (reader.stmt_by (code_within self.now.depth) at.old) result at.new }
@@ -64,6 +65,7 @@ impl<
     }
 
     /// An item, which is no macro call.
+    #[inline(never)]
     fn item_stmt(&self, at: &mut Ahead<'_>) -> Result<Found<Stmt>, ReadNone>
         requires { AreCode self.now.depth (P.pre self.now.exprs) (P.post self.now.exprs) (B.pre self.now.blocks) (B.post self.now.blocks) (I.pre self.now.items) (I.post self.now.items) }
         ensures read { IsFound (reader.item_stmt (code_within self.now.depth) at.old) result at.new }
@@ -82,6 +84,7 @@ impl<
 
     /// An expression, and its `;` if it has one.
     #[tactic(auto, unfolding(lay_tree::specs::reader::Blocks::expr_stmt))]
+    #[inline(never)]
     fn expr_stmt(&self, at: &mut Ahead<'_>, attrs: List<Attr>) -> Result<Found<Stmt>, ReadNone>
         requires { AreCode self.now.depth (P.pre self.now.exprs) (P.post self.now.exprs) (B.pre self.now.blocks) (B.post self.now.blocks) (I.pre self.now.items) (I.post self.now.items) }
         ensures read { IsFound (reader.expr_stmt (code_within self.now.depth) attrs at.old) result at.new }
@@ -101,6 +104,7 @@ impl<
 
     /// What stands behind `let`.
     #[tactic(auto, unfolding(lay_tree::specs::reader::Blocks::let_stmt))]
+    #[inline(never)]
     fn let_stmt(&self, at: &mut Ahead<'_>, attrs: List<Attr>) -> Result<Found<Stmt>, ReadNone>
         requires { AreCode self.now.depth (P.pre self.now.exprs) (P.post self.now.exprs) (B.pre self.now.blocks) (B.post self.now.blocks) (I.pre self.now.items) (I.post self.now.items) }
         ensures read { IsFound (reader.let_stmt (code_within self.now.depth) attrs at.old) result at.new }
@@ -115,6 +119,7 @@ impl<
     }
 
     /// What stands behind `let`, a pattern, and its type if it has one.
+    #[inline(never)]
     fn let_behind(
         &self,
         at: &mut Ahead<'_>,
@@ -152,6 +157,7 @@ impl<
     }
 
     /// The block behind an `else`, if one stands there.
+    #[inline(never)]
     fn else_if(&self, at: &mut Ahead<'_>) -> Result<Found<Option<Block>>, ReadNone>
         requires { AreCode self.now.depth (P.pre self.now.exprs) (P.post self.now.exprs) (B.pre self.now.blocks) (B.post self.now.blocks) (I.pre self.now.items) (I.post self.now.items) }
         ensures read { IsFound (if_read (first (is_keyword (codes "else")) at.old) (λ ts. (code_in self.now.depth).blocks (tail ts)) at.old) result at.new }

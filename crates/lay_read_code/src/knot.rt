@@ -26,6 +26,7 @@ use std::alloc::Global;
 
 /// An expression at its place, within a depth. Recursion goes one level deeper alone.
 #[cycle(code)]
+#[inline(never)]
 pub fn expr_ahead(
     alloc: Global,
     at: &mut Ahead<'_>,
@@ -56,6 +57,7 @@ pub fn expr_ahead(
 
 /// A block behind an `else`, within a depth. It stands one level deeper than what is around it.
 #[cycle(code)]
+#[inline(never)]
 pub fn block_ahead(alloc: Global, at: &mut Ahead<'_>, depth: u32) -> Result<Found<Block>, ReadNone>
     ensures read { IsFound ((code_in depth).blocks at.old) result at.new }
     ensures within { IfOk result (λ found. found.need ≤ depth) }
@@ -75,6 +77,7 @@ pub fn block_ahead(alloc: Global, at: &mut Ahead<'_>, depth: u32) -> Result<Foun
 
 /// Items at their site within a depth, up to where they end.
 #[cycle(code)]
+#[inline(never)]
 pub fn read_items(
     alloc: Global,
     at: &mut Ahead<'_>,
@@ -96,6 +99,7 @@ pub fn read_items(
 
 /// An item at its site within a depth, with its attributes and its visibility. A macro has none.
 #[cycle(code)]
+#[inline(never)]
 pub fn item_ahead(
     alloc: Global,
     at: &mut Ahead<'_>,
@@ -128,6 +132,7 @@ pub fn item_ahead(
 /// What an item is at its site: what it begins with, and then its body, if it has one. What is within it stands within
 /// the depth.
 #[cycle(code)]
+#[inline(never)]
 fn read_kind(
     alloc: Global,
     at: &mut Ahead<'_>,
@@ -164,6 +169,7 @@ fn read_kind(
 
 /// The body of a function, or the `;` where it has none. What is within it stands within the depth.
 #[cycle(code)]
+#[inline(never)]
 fn read_block_if(
     alloc: Global,
     at: &mut Ahead<'_>,
@@ -185,6 +191,7 @@ fn read_block_if(
 
 /// The value of a constant or a static, if it has one, and the `;` behind it. The value stands within the depth.
 #[cycle(code)]
+#[inline(never)]
 fn read_value_if(
     alloc: Global,
     at: &mut Ahead<'_>,
@@ -209,6 +216,7 @@ fn read_value_if(
 /// Inner attributes and items at their site, in braces. The items stand within the depth.
 #[cycle(code)]
 #[tactic(auto, unfolding(lay_tree::specs::reader::Item::item_body))]
+#[inline(never)]
 fn read_body(
     alloc: Global,
     at: &mut Ahead<'_>,

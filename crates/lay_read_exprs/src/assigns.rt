@@ -42,6 +42,7 @@ impl<P: Fn(Global, &mut Ahead<'_>, Place, u32) -> Result<Found<Expr>, ReadNone>,
 > {
     /// An expression with assignments behind it.
     #[tactic(auto, unfolding(lay_tree::specs::reader::Exprs::assign_expr))]
+    #[inline(never)]
     pub fn assign_expr(
         &self,
         at: &mut Ahead<'_>,

@@ -33,6 +33,7 @@ impl<P: Fn(Global, &mut Ahead<'_>, Place, u32) -> Result<Found<Expr>, ReadNone>,
 > {
     /// Types, as long as an `as` stands at the front.
     #[tactic(auto, using(lay_read_blocks::proofs::Left::type_leaves))]
+    #[inline(never)]
     fn types(&self, at: &mut Ahead<'_>) -> Result<Found<List<Ty>>, ReadNone>
         requires { AreExprs self.now.depth (P.pre self.now.exprs) (P.post self.now.exprs) }
         ensures read { IsHeld AreFound (repeat (first (is_keyword (codes "as"))) (reader.one_type (code_within self.now.depth)) at.old) result at.new }
@@ -51,6 +52,7 @@ impl<P: Fn(Global, &mut Ahead<'_>, Place, u32) -> Result<Found<Expr>, ReadNone>,
 
     /// A type behind its `as`.
     #[tactic(auto, unfolding(lay_tree::specs::reader::Exprs::one_type))]
+    #[inline(never)]
     fn one_type(&self, at: &mut Ahead<'_>, _place: ()) -> Result<Found<Ty>, ReadNone>
         requires { AreExprs self.now.depth (P.pre self.now.exprs) (P.post self.now.exprs) }
         ensures read { IsFound (reader.one_type (code_within self.now.depth) at.old) result at.new }
@@ -65,6 +67,7 @@ impl<P: Fn(Global, &mut Ahead<'_>, Place, u32) -> Result<Found<Expr>, ReadNone>,
 
     /// An expression with types behind it.
     #[tactic(auto, unfolding(lay_tree::specs::reader::Exprs::cast_expr))]
+    #[inline(never)]
     pub fn cast_expr(&self, at: &mut Ahead<'_>, lhs: Found<Expr>) -> Result<Found<Expr>, ReadNone>
         requires deeper { AreExprs self.now.depth (P.pre self.now.exprs) (P.post self.now.exprs) }
         requires within { lhs.need ≤ self.now.depth }

@@ -91,6 +91,7 @@ impl<
 > ExprRules<P, H> {
     /// An expression at a place, with what is within it one level deeper.
     #[tactic(auto, unfolding(lay_tree::specs::reader::Exprs::expr_by))]
+    #[inline(never)]
     pub fn expr_by(&self, at: &mut Ahead<'_>, place: Place) -> Result<Found<Expr>, ReadNone>
         requires deeper { AreExprs self.now.depth (P.pre self.now.exprs) (P.post self.now.exprs) }
         requires heads { H.are_ready self.now.heads }
@@ -107,6 +108,7 @@ impl<
     }
 
     /// The operators behind an expression that the place allows, from the strongest on.
+    #[inline(never)]
     fn climb(
         &self,
         at: &mut Ahead<'_>,
@@ -129,6 +131,7 @@ impl<
 
     /// What the operator of the level at the front makes of the expression before it, if that may stand there, and what
     /// is made needn't be deeper than may be.
+    #[inline(never)]
     fn climb_once(
         &self,
         at: &mut Ahead<'_>,
@@ -148,6 +151,7 @@ impl<
     }
 
     /// What an operator of the level makes of the expression before it.
+    #[inline(never)]
     fn stage(
         &self,
         at: &mut Ahead<'_>,
@@ -171,6 +175,7 @@ impl<
     }
 
     /// A range from an expression on.
+    #[inline(never)]
     fn range_from(
         &self,
         at: &mut Ahead<'_>,

@@ -55,6 +55,7 @@ impl<P: Fn(Global, &mut Ahead<'_>, Place, u32) -> Result<Found<Expr>, ReadNone>,
 > {
     /// Expressions with commas, and the closing delimiter behind them.
     #[tactic(auto, using(lay_read_blocks::proofs::Left::exprs_leave))]
+    #[inline(never)]
     pub fn free_elements(
         &self,
         at: &mut Ahead<'_>,
@@ -77,6 +78,7 @@ impl<P: Fn(Global, &mut Ahead<'_>, Place, u32) -> Result<Found<Expr>, ReadNone>,
 
     /// What stands behind a `(`.
     #[tactic(auto, unfolding(lay_tree::specs::reader::Exprs::paren_expr))]
+    #[inline(never)]
     pub fn paren_expr(&self, at: &mut Ahead<'_>) -> Result<Found<Expr>, ReadNone>
         requires { AreExprs self.now.depth (P.pre self.now.exprs) (P.post self.now.exprs) }
         ensures read { IsFound (reader.paren_expr (code_within self.now.depth) at.old) result at.new }
@@ -95,6 +97,7 @@ impl<P: Fn(Global, &mut Ahead<'_>, Place, u32) -> Result<Found<Expr>, ReadNone>,
     }
 
     /// What stands behind a `(` and an expression.
+    #[inline(never)]
     fn paren_by(&self, at: &mut Ahead<'_>, first: Found<Expr>) -> Result<Found<Expr>, ReadNone>
         requires deeper { AreExprs self.now.depth (P.pre self.now.exprs) (P.post self.now.exprs) }
         requires within { first.need ≤ self.now.depth }
@@ -121,6 +124,7 @@ impl<P: Fn(Global, &mut Ahead<'_>, Place, u32) -> Result<Found<Expr>, ReadNone>,
 
     /// What stands behind a `[`.
     #[tactic(auto, unfolding(lay_tree::specs::reader::Exprs::bracket_expr))]
+    #[inline(never)]
     pub fn bracket_expr(&self, at: &mut Ahead<'_>) -> Result<Found<Expr>, ReadNone>
         requires { AreExprs self.now.depth (P.pre self.now.exprs) (P.post self.now.exprs) }
         ensures read { IsFound (reader.bracket_expr (code_within self.now.depth) at.old) result at.new }
@@ -143,6 +147,7 @@ impl<P: Fn(Global, &mut Ahead<'_>, Place, u32) -> Result<Found<Expr>, ReadNone>,
     }
 
     /// What stands behind a `[` and an expression, where it is no `;`.
+    #[inline(never)]
     fn array_by(&self, at: &mut Ahead<'_>, first: Found<Expr>) -> Result<Found<Expr>, ReadNone>
         requires deeper { AreExprs self.now.depth (P.pre self.now.exprs) (P.post self.now.exprs) }
         requires within { first.need ≤ self.now.depth }

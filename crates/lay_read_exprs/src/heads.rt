@@ -38,6 +38,7 @@ impl<
     H: BlockHeads,
 > ExprRules<P, H> {
     /// What begins an expression, without the operators behind it, unless it is deeper than may be.
+    #[inline(never)]
     pub fn head(&self, at: &mut Ahead<'_>, no_struct: bool) -> Result<Found<Expr>, ReadNone>
         requires deeper { AreExprs self.now.depth (P.pre self.now.exprs) (P.post self.now.exprs) }
         requires heads { H.are_ready self.now.heads }
@@ -52,6 +53,7 @@ impl<
     }
 
     /// The same, told from what the first token begins.
+    #[inline(never)]
     fn head_by(
         &self,
         at: &mut Ahead<'_>,
@@ -86,6 +88,7 @@ impl<
     }
 
     /// What begins an expression, behind its first token.
+    #[inline(never)]
     fn marked(
         &self,
         at: &mut Ahead<'_>,

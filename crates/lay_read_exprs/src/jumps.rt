@@ -32,6 +32,7 @@ impl<P: Fn(Global, &mut Ahead<'_>, Place, u32) -> Result<Found<Expr>, ReadNone>,
     H,
 > {
     /// An operand at a level, if one begins.
+    #[inline(never)]
     pub fn operand_if(
         &self,
         at: &mut Ahead<'_>,
@@ -57,6 +58,7 @@ impl<P: Fn(Global, &mut Ahead<'_>, Place, u32) -> Result<Found<Expr>, ReadNone>,
 
     /// What stands behind `return`.
     #[tactic(auto, unfolding(lay_tree::specs::reader::Exprs::return_expr))]
+    #[inline(never)]
     pub fn return_expr(&self, at: &mut Ahead<'_>, no_struct: bool) -> Result<Found<Expr>, ReadNone>
         requires { AreExprs self.now.depth (P.pre self.now.exprs) (P.post self.now.exprs) }
         ensures read { IsFound (reader.return_expr (code_within self.now.depth) no_struct at.old) result at.new }
@@ -73,6 +75,7 @@ impl<P: Fn(Global, &mut Ahead<'_>, Place, u32) -> Result<Found<Expr>, ReadNone>,
 
     /// What stands behind `break`.
     #[tactic(auto, unfolding(lay_tree::specs::reader::Exprs::break_expr))]
+    #[inline(never)]
     pub fn break_expr(&self, at: &mut Ahead<'_>, no_struct: bool) -> Result<Found<Expr>, ReadNone>
         requires { AreExprs self.now.depth (P.pre self.now.exprs) (P.post self.now.exprs) }
         ensures read { IsFound (reader.break_expr (code_within self.now.depth) no_struct at.old) result at.new }

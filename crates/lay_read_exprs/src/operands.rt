@@ -52,6 +52,7 @@ impl<P: Fn(Global, &mut Ahead<'_>, Place, u32) -> Result<Found<Expr>, ReadNone>,
 > {
     /// Operators of a level and their operands, as long as one begins.
     #[tactic(auto, unfolding(lay_tree::specs::reader::Exprs::operands), using(lay_read_blocks::proofs::Left::operand_leaves))]
+    #[inline(never)]
     pub fn operands(
         &self,
         at: &mut Ahead<'_>,
@@ -76,6 +77,7 @@ impl<P: Fn(Global, &mut Ahead<'_>, Place, u32) -> Result<Found<Expr>, ReadNone>,
 
     /// An operator of a level, and its operand.
     #[tactic(auto, unfolding(lay_tree::specs::reader::Exprs::operand))]
+    #[inline(never)]
     fn operand(&self, at: &mut Ahead<'_>, place: (u8, bool)) -> Result<Found<(Op, Expr)>, ReadNone>
         requires deeper { AreExprs self.now.depth (P.pre self.now.exprs) (P.post self.now.exprs) }
         requires level { place.0 < 14 }
@@ -100,6 +102,7 @@ impl<P: Fn(Global, &mut Ahead<'_>, Place, u32) -> Result<Found<Expr>, ReadNone>,
 
     /// An expression with operators of a level behind it.
     #[tactic(auto, unfolding(lay_tree::specs::reader::Exprs::chain_expr))]
+    #[inline(never)]
     pub fn chain_expr(
         &self,
         at: &mut Ahead<'_>,

@@ -48,6 +48,7 @@ impl<P: Fn(Global, &mut Ahead<'_>, Place, u32) -> Result<Found<Expr>, ReadNone>,
     H,
 > {
     /// A macro call, or what begins with a path.
+    #[inline(never)]
     pub fn path_or_call(&self, at: &mut Ahead<'_>, no_struct: bool) -> Result<Found<Expr>, ReadNone>
         requires { AreExprs self.now.depth (P.pre self.now.exprs) (P.post self.now.exprs) }
         ensures read { IsFound (path_or_call (code_within self.now.depth) no_struct at.old) result at.new }
@@ -62,6 +63,7 @@ impl<P: Fn(Global, &mut Ahead<'_>, Place, u32) -> Result<Found<Expr>, ReadNone>,
 
     /// A path, and what stands behind it.
     #[tactic(auto, unfolding(lay_tree::specs::reader::Exprs::path_expr))]
+    #[inline(never)]
     fn path_expr(&self, at: &mut Ahead<'_>, no_struct: bool) -> Result<Found<Expr>, ReadNone>
         requires { AreExprs self.now.depth (P.pre self.now.exprs) (P.post self.now.exprs) }
         ensures read { IsFound (reader.path_expr (code_within self.now.depth) no_struct at.old) result at.new }
@@ -72,6 +74,7 @@ impl<P: Fn(Global, &mut Ahead<'_>, Place, u32) -> Result<Found<Expr>, ReadNone>,
     }
 
     /// What stands behind a path.
+    #[inline(never)]
     fn path_by(
         &self,
         at: &mut Ahead<'_>,

@@ -58,6 +58,7 @@ impl<P: Fn(Global, &mut Ahead<'_>, Place, u32) -> Result<Found<Expr>, ReadNone>,
 > {
     /// An expression with postfix steps behind it. A tuple index doesn't stand directly behind a number without suffix.
     #[tactic(auto, unfolding(lay_tree::specs::reader::Exprs::postfix_expr))]
+    #[inline(never)]
     pub fn postfix_expr(
         &self,
         at: &mut Ahead<'_>,
@@ -82,6 +83,7 @@ impl<P: Fn(Global, &mut Ahead<'_>, Place, u32) -> Result<Found<Expr>, ReadNone>,
 
     /// Steps, as long as one begins.
     #[tactic(auto, using(lay_read_blocks::proofs::Left::step_leaves))]
+    #[inline(never)]
     fn steps(&self, at: &mut Ahead<'_>) -> Result<Found<List<Step>>, ReadNone>
         requires { AreExprs self.now.depth (P.pre self.now.exprs) (P.post self.now.exprs) }
         ensures read { IsHeld AreFound (steps (code_within self.now.depth) at.old) result at.new }
@@ -100,6 +102,7 @@ impl<P: Fn(Global, &mut Ahead<'_>, Place, u32) -> Result<Found<Expr>, ReadNone>,
 
     /// A step.
     #[tactic(auto, unfolding(lay_tree::specs::reader::Exprs::one_step))]
+    #[inline(never)]
     fn one_step(&self, at: &mut Ahead<'_>, _place: ()) -> Result<Found<Step>, ReadNone>
         requires { AreExprs self.now.depth (P.pre self.now.exprs) (P.post self.now.exprs) }
         ensures read { IsFound (reader.one_step (code_within self.now.depth) at.old) result at.new }
@@ -120,6 +123,7 @@ impl<P: Fn(Global, &mut Ahead<'_>, Place, u32) -> Result<Found<Expr>, ReadNone>,
     }
 
     /// Arguments, behind a `(`.
+    #[inline(never)]
     fn call_step(&self, at: &mut Ahead<'_>) -> Result<Found<Step>, ReadNone>
         requires { AreExprs self.now.depth (P.pre self.now.exprs) (P.post self.now.exprs) }
         ensures read { IsFound (reader.call_step (code_within self.now.depth) at.old) result at.new }
@@ -133,6 +137,7 @@ impl<P: Fn(Global, &mut Ahead<'_>, Place, u32) -> Result<Found<Expr>, ReadNone>,
     }
 
     /// An index in brackets.
+    #[inline(never)]
     fn bracket_step(&self, at: &mut Ahead<'_>) -> Result<Found<Step>, ReadNone>
         requires { AreExprs self.now.depth (P.pre self.now.exprs) (P.post self.now.exprs) }
         ensures read { IsFound (bracket_step (code_within self.now.depth) at.old) result at.new }
@@ -153,6 +158,7 @@ impl<P: Fn(Global, &mut Ahead<'_>, Place, u32) -> Result<Found<Expr>, ReadNone>,
 
     /// What stands behind a `.`.
     #[tactic(auto, unfolding(lay_tree::specs::reader::Exprs::dot_step), using(lay_read_parts::proofs::Steps::literal_is))]
+    #[inline(never)]
     fn dot_step(&self, at: &mut Ahead<'_>) -> Result<Found<Step>, ReadNone>
         requires { AreExprs self.now.depth (P.pre self.now.exprs) (P.post self.now.exprs) }
         ensures read { IsFound (reader.dot_step (code_within self.now.depth) at.old) result at.new }
@@ -176,6 +182,7 @@ impl<P: Fn(Global, &mut Ahead<'_>, Place, u32) -> Result<Found<Expr>, ReadNone>,
     }
 
     /// What stands behind a `.` and a name.
+    #[inline(never)]
     fn member(&self, at: &mut Ahead<'_>, name: Name) -> Result<Found<Step>, ReadNone>
         requires { AreExprs self.now.depth (P.pre self.now.exprs) (P.post self.now.exprs) }
         ensures read { IsFound (reader.member_by (code_within self.now.depth) name at.old) result at.new }
@@ -200,6 +207,7 @@ impl<P: Fn(Global, &mut Ahead<'_>, Place, u32) -> Result<Found<Expr>, ReadNone>,
     }
 
     /// A method behind its name, where generic arguments stand behind that.
+    #[inline(never)]
     fn generic_method(&self, at: &mut Ahead<'_>, name: Name) -> Result<Found<Step>, ReadNone>
         requires deeper { AreExprs self.now.depth (P.pre self.now.exprs) (P.post self.now.exprs) }
         requires late { opens_args_late at.old ≡ true }
@@ -215,6 +223,7 @@ impl<P: Fn(Global, &mut Ahead<'_>, Place, u32) -> Result<Found<Expr>, ReadNone>,
     }
 
     /// The arguments of a method, behind its name and its generic arguments.
+    #[inline(never)]
     fn method(
         &self,
         at: &mut Ahead<'_>,

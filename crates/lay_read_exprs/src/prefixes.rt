@@ -47,6 +47,7 @@ impl<P: Fn(Global, &mut Ahead<'_>, Place, u32) -> Result<Found<Expr>, ReadNone>,
 > {
     /// Operators, and the operand behind them.
     #[tactic(auto, unfolding(lay_tree::specs::reader::Exprs::unary_expr))]
+    #[inline(never)]
     pub fn unary_expr(&self, at: &mut Ahead<'_>, no_struct: bool) -> Result<Found<Expr>, ReadNone>
         requires { AreExprs self.now.depth (P.pre self.now.exprs) (P.post self.now.exprs) }
         ensures read { IsFound (reader.unary_expr (code_within self.now.depth) no_struct at.old) result at.new }

@@ -19,6 +19,7 @@ impl<P: Fn(Global, &mut Ahead<'_>, Place, u32) -> Result<Found<Expr>, ReadNone>,
 > {
     /// A range, from its `..` or `..=` on.
     #[tactic(auto, unfolding(lay_tree::specs::reader::Exprs::range_expr))]
+    #[inline(never)]
     pub fn range_expr(
         &self,
         at: &mut Ahead<'_>,
@@ -39,6 +40,7 @@ impl<P: Fn(Global, &mut Ahead<'_>, Place, u32) -> Result<Found<Expr>, ReadNone>,
     }
 
     /// What stands behind the operator of a range.
+    #[inline(never)]
     fn range_by(
         &self,
         at: &mut Ahead<'_>,

@@ -25,6 +25,7 @@ impl<P: Fn(Global, &mut Ahead<'_>, Place, u32) -> Result<Found<Expr>, ReadNone>,
     H,
 > {
     /// An expression one level deeper.
+    #[inline(never)]
     pub fn inner(&self, at: &mut Ahead<'_>, place: Place) -> Result<Found<Expr>, ReadNone>
         requires { AreExprs self.now.depth (P.pre self.now.exprs) (P.post self.now.exprs) }
         ensures read { IsFound (expr_at place self.now.depth at.old) result at.new }
@@ -34,6 +35,7 @@ impl<P: Fn(Global, &mut Ahead<'_>, Place, u32) -> Result<Found<Expr>, ReadNone>,
     }
 
     /// The same in a box.
+    #[inline(never)]
     pub fn boxed_inner(
         &self,
         at: &mut Ahead<'_>,

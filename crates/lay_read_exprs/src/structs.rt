@@ -32,6 +32,7 @@ impl<P: Fn(Global, &mut Ahead<'_>, Place, u32) -> Result<Found<Expr>, ReadNone>,
 > {
     /// Fields in braces, behind a path and the `{`.
     #[tactic(auto, unfolding(lay_tree::specs::reader::Exprs::struct_expr), using(lay_read_blocks::proofs::Left::field_leaves))]
+    #[inline(never)]
     pub fn struct_expr(
         &self,
         at: &mut Ahead<'_>,
@@ -58,6 +59,7 @@ impl<P: Fn(Global, &mut Ahead<'_>, Place, u32) -> Result<Found<Expr>, ReadNone>,
     }
 
     /// What stands behind the fields, of which it is known whether they ended.
+    #[inline(never)]
     fn struct_by(
         &self,
         at: &mut Ahead<'_>,
@@ -88,6 +90,7 @@ impl<P: Fn(Global, &mut Ahead<'_>, Place, u32) -> Result<Found<Expr>, ReadNone>,
 
     /// A base, if the fields ended and a `..` stands behind them.
     #[tactic(auto, unfolding(lay_tree::specs::reader::Exprs::base))]
+    #[inline(never)]
     fn base(
         &self,
         at: &mut Ahead<'_>,
@@ -119,6 +122,7 @@ impl<P: Fn(Global, &mut Ahead<'_>, Place, u32) -> Result<Found<Expr>, ReadNone>,
 
     /// A field, with its attributes.
     #[tactic(auto, unfolding(lay_tree::specs::reader::Exprs::one_field))]
+    #[inline(never)]
     fn one_field(&self, at: &mut Ahead<'_>, _place: ()) -> Result<Found<FieldExpr>, ReadNone>
         requires { AreExprs self.now.depth (P.pre self.now.exprs) (P.post self.now.exprs) }
         ensures read { IsFound (reader.one_field (code_within self.now.depth) at.old) result at.new }
@@ -133,6 +137,7 @@ impl<P: Fn(Global, &mut Ahead<'_>, Place, u32) -> Result<Found<Expr>, ReadNone>,
     }
 
     /// A field behind its number and the `:`.
+    #[inline(never)]
     fn numbered_field(
         &self,
         at: &mut Ahead<'_>,
@@ -155,6 +160,7 @@ impl<P: Fn(Global, &mut Ahead<'_>, Place, u32) -> Result<Found<Expr>, ReadNone>,
     }
 
     /// A field that is called by its name, behind its attributes.
+    #[inline(never)]
     fn worded_field(
         &self,
         at: &mut Ahead<'_>,
@@ -169,6 +175,7 @@ impl<P: Fn(Global, &mut Ahead<'_>, Place, u32) -> Result<Found<Expr>, ReadNone>,
     }
 
     /// A field behind its name.
+    #[inline(never)]
     fn named_field(
         &self,
         at: &mut Ahead<'_>,
