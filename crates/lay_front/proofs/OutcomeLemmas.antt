@@ -27,8 +27,8 @@ use Rattle.lay_front.specs.Messages.{number_of, text_or}
 use Rattle.lay_front.specs.Readings.{ReadsOnlyTo, ReadAs, placed_in}
 use Rattle.lay_front.specs.declared.file.FileError.{FileError}
 use Rattle.lay_front.specs.Outcome.{Wrote, Formats, FormatRun}
-use Rattle.lay_front.specs.declared.format.IntoError.{IntoError}
-use Rattle.lay_front.specs.declared.format.IntoError.TheVariants as into
+use Rattle.lay_front.specs.declared.formatting.IntoError.{IntoError}
+use Rattle.lay_front.specs.declared.formatting.IntoError.TheVariants as into
 use Rattle.lay_front.specs.declared.command.Status.{Status}
 use Rattle.lay_front.specs.declared.command.Status.TheVariants.{Done, Differs, Usage, ReadFailed, Refused, WriteFailed, TooLong, NoMemory}
 

@@ -5,12 +5,14 @@ use Rattle.lay_io.specs.Faults.{Rose}
 use Rattle.lay_io.specs.declared.outside.Which.{Which}
 use Rattle.lay_line.specs.declared.lines.Line.{Line}
 use Rattle.lay_line.specs.declared.lines.Line.TheVariants as line
+use Rattle.lay_text.specs.declared.refusal.FormatError.{FormatError}
+use Rattle.lay_text.specs.declared.refusal.FormatError.TheVariants as error
 use Rattle.lay_tree.specs.Reading.{IsRefused}
 use Rattle.lay_front.specs.Readings.{ReadsOnlyTo}
 use Rattle.lay_tree.specs.Out.{out}
 use Rattle.lay_tree.specs.declared.file.File.{File}
-use Rattle.lay_front.specs.declared.format.IntoError.{IntoError}
-use Rattle.lay_front.specs.declared.format.IntoError.TheVariants as into
+use Rattle.lay_front.specs.declared.formatting.IntoError.{IntoError}
+use Rattle.lay_front.specs.declared.formatting.IntoError.TheVariants as into
 use Rattle.lay_front.specs.declared.command.Status.{Status}
 use Rattle.lay_front.specs.declared.command.Status.TheVariants.{Done, Differs, Usage, ReadFailed, Refused, WriteFailed, TooLong, NoMemory}
 
@@ -26,6 +28,19 @@ pub record WrotePart (bytes : List ℕ) (before now : Option (List ℕ)) : Type 
   pub file : File
   pub reads : ReadsOnlyTo bytes file
   pub grew : GrewByPrefix before now (out file)
+
+-- The bytes read to one file, and this is its text, which reads to the file.
+pub record IsTextFor (bytes text : List ℕ) : Type 0 where
+  pub file : File
+  pub reads : ReadsOnlyTo bytes file
+  pub is : text ≡ out file
+  pub back : ReadsOnlyTo text file
+
+-- What a call that gives a text answers. Memory may always be wanting.
+abbrev pub FormatsTo : List ℕ → Result (List ℕ) FormatError → Type 0
+FormatsTo bytes (Ok text) = IsTextFor bytes text
+FormatsTo bytes (Err (error.Refused refusal)) = IsRefused bytes refusal
+FormatsTo bytes (Err error.NoMemory) = Unit {0}
 
 -- An input was read to its end. These are all its bytes, 16 MiB at the most, and P holds of them.
 pub record WasRead (before now : Option (List ℕ)) (P : List ℕ → Type 0) : Type 0 where

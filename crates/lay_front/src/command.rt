@@ -17,7 +17,7 @@ ghost use Rattle.lay_tree.specs.declared.file.File.{File};
 
 use crate::compare::is_text;
 use crate::file::{FileError, read_bytes};
-use crate::format::write_file;
+use crate::formatting::write_file;
 use crate::messages::tell;
 use crate::stop::Stop;
 use lay_io::{Inputs, ReadError, Sink, Which, read_all};

@@ -8,9 +8,10 @@
 pub mod command;
 mod compare;
 pub mod file;
-pub mod format;
+pub mod formatting;
+mod keep;
 mod messages;
 mod stop;
 
 pub use command::{LIMIT, Status, run};
-pub use format::{IntoError, format_into};
+pub use formatting::{IntoError, format, format_into};

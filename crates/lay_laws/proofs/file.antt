@@ -1,3 +1,10 @@
+pub mod ArmKinds
+pub mod BlockKinds
+pub mod Blocks
+pub mod Closures
+pub mod Code
+pub mod CodeKept
+pub mod ExprBlocks
 pub mod ExprKinds
 pub mod ExprOperands
 pub mod ExprParts
@@ -9,8 +16,10 @@ pub mod FirstText
 pub mod Generics
 pub mod ItemHeads
 pub mod Items
+pub mod Kinds
 pub mod Nodes
 pub mod OneAnswer
+pub mod OperatorParts
 pub mod PatternKinds
 pub mod PatternParts
 pub mod Patterns

@@ -5,13 +5,20 @@ use Rattle.lay_node.specs.nodes.Types.{about_path, about_type}
 use Rattle.lay_node.specs.declared.types.Path.{Path}
 use Rattle.lay_node.specs.declared.types.PathStyle.TheVariants.{Code}
 use Rattle.lay_node.specs.declared.types.Ty.{Ty}
-use Rattle.lay_tree.specs.nodes.Exprs.{ExprFacts, StepFacts, Tail, about_expr, about_step, is_field, is_open, is_typed, lacks_args, shut, tail_of_operands, tail_of_steps, type_refuses}
+use Rattle.lay_tree.specs.nodes.Code.{about_expr, about_step}
+use Rattle.lay_tree.specs.nodes.Exprs.{ExprFacts, StepFacts, Tail, is_field, is_open, is_typed, lacks_args, shut, tail_of_operands, tail_of_steps, type_refuses}
+use Rattle.lay_tree.specs.declared.blocks.Arm.{Arm}
+use Rattle.lay_tree.specs.declared.blocks.Block.{Block}
+use Rattle.lay_tree.specs.declared.blocks.Branch.{Branch}
+use Rattle.lay_tree.specs.declared.blocks.Stmt.{Stmt}
+use Rattle.lay_tree.specs.declared.blocks.Stmt.TheOpen.{Expr-F}
+use Rattle.lay_tree.specs.declared.blocks.Stmt.TheViews as views
 use Rattle.lay_tree.specs.declared.exprs.Expr.{Expr}
-use Rattle.lay_tree.specs.declared.exprs.Expr.TheOpen.{Expr-F}
 use Rattle.lay_tree.specs.declared.exprs.Expr.TheVariants as expr
-use Rattle.lay_tree.specs.declared.exprs.Expr.TheViews as views
 use Rattle.lay_tree.specs.declared.exprs.FieldExpr.{FieldExpr}
 use Rattle.lay_tree.specs.declared.exprs.Step.{Step}
+use Rattle.lay_tree.specs.declared.item.Item.{Item}
+use Rattle.lay_tree.specs.declared.item.ItemKind.{ItemKind}
 use Rattle.lay_tree.specs.declared.operators.Op.{Op}
 use Rattle.lay_tree.specs.declared.operators.Prefix.{Prefix}
 use Rattle.lay_tree.proofs.nodes.ExprsLaws as laws
@@ -28,7 +35,7 @@ abbrev range_end : Option Expr → Ends
 range_end None = (true, false)
 range_end (Some x) = ends_of (about_expr x).tail
 
-abbrev pub ends_in : Expr-F Expr FieldExpr Step → Ends
+abbrev pub ends_in : Expr-F Stmt Expr FieldExpr Step ItemKind Arm Block Branch Item → Ends
 ends_in (Expr-F.Path path) = (false, lacks_args (about_path path Code).refuses)
 ends_in (Expr-F.Chain x rest) = ends_of (tail_of_operands (map laws.behind_op rest))
 ends_in (Expr-F.Cast x types) = (false, lacks_args (type_refuses (map about_type types)))
@@ -37,6 +44,8 @@ ends_in (Expr-F.Range start inclusive end) = range_end end
 ends_in (Expr-F.Assign targets x) = ends_of (about_expr x).tail
 ends_in (Expr-F.Return x) = (true, false)
 ends_in (Expr-F.Break label x) = (true, false)
+ends_in (Expr-F.Closure moves params x) = (true, false)
+ends_in (Expr-F.TypedClosure moves params output b) = (true, false)
 ends_in _ = (false, false)
 
 -- Steps end in nothing that is open.
@@ -53,29 +62,36 @@ ends_by : (x : Expr) → laws.ExprView x → ends_of (about_expr x).tail ≡ end
 ends_by _ (laws.IsLit l) = rw (laws.expr_lit_is l, views.outs-Lit l) refl
 ends_by _ (laws.IsPath path) = rw (laws.expr_path_is path, views.outs-Path path) refl
 ends_by _ laws.IsUnderscore = rw (laws.expr_underscore_is, views.outs-Underscore) refl
-ends_by _ (laws.IsCall call) = rw (laws.expr_call_is call, views.outs-Call call) refl
+ends_by _ (laws.IsCall call) = rw (laws.expr_call_is call, views.outs-Expr::Call call) refl
 ends_by _ (laws.IsParen x) = rw (laws.expr_paren_is x, views.outs-Paren x) refl
 ends_by _ (laws.IsContinue label) = rw (laws.expr_continue_is label, views.outs-Continue label) refl
 ends_by _ (laws.IsTuple xs) = rw (laws.expr_tuple_is xs, views.outs-Tuple xs) refl
 ends_by _ (laws.IsArray xs) = rw (laws.expr_array_is xs, views.outs-Array xs) refl
 ends_by _ (laws.IsRepeat x length) = rw (laws.expr_repeat_is x length, views.outs-Repeat x length) refl
-ends_by _ (laws.IsStruct path fields None) = rw (laws.expr_struct_is path fields None, views.outs-Struct path fields None) refl
-ends_by _ (laws.IsStruct path fields (Some None)) =
-    rw (laws.expr_struct_is path fields (Some None), views.outs-Struct path fields (Some None)) refl
-ends_by _ (laws.IsStruct path fields (Some (Some x))) =
-    rw (laws.expr_struct_is path fields (Some (Some x)), views.outs-Struct path fields (Some (Some x))) refl
+ends_by _ (laws.IsStruct path fields None) = rw (laws.expr_struct_is path fields None, views.outs-Expr::Struct path fields None) refl
+ends_by _ (laws.IsStruct path fields (Some None)) = rw (laws.expr_struct_is path fields (Some None), views.outs-Expr::Struct path fields (Some None)) refl
+ends_by _ (laws.IsStruct path fields (Some (Some x))) = rw (laws.expr_struct_is path fields (Some (Some x)), views.outs-Expr::Struct path fields (Some (Some x))) refl
 ends_by _ (laws.IsChain x rest) = rw (laws.expr_chain_is x rest, views.outs-Chain x rest) refl
 ends_by _ (laws.IsCast x types) = rw (laws.expr_cast_is x types, views.outs-Cast x types) refl
 ends_by _ (laws.IsUnary ps x) = rw (laws.expr_unary_is ps x, views.outs-Unary ps x) refl
 ends_by _ (laws.IsRange None inclusive None) = rw (laws.expr_range_is None inclusive None, views.outs-Range None inclusive None) refl
-ends_by _ (laws.IsRange None inclusive (Some y)) =
-    rw (laws.expr_range_is None inclusive (Some y), views.outs-Range None inclusive (Some y)) refl
-ends_by _ (laws.IsRange (Some x) inclusive None) =
-    rw (laws.expr_range_is (Some x) inclusive None, views.outs-Range (Some x) inclusive None) refl
-ends_by _ (laws.IsRange (Some x) inclusive (Some y)) =
-    rw (laws.expr_range_is (Some x) inclusive (Some y), views.outs-Range (Some x) inclusive (Some y)) refl
+ends_by _ (laws.IsRange None inclusive (Some y)) = rw (laws.expr_range_is None inclusive (Some y), views.outs-Range None inclusive (Some y)) refl
+ends_by _ (laws.IsRange (Some x) inclusive None) = rw (laws.expr_range_is (Some x) inclusive None, views.outs-Range (Some x) inclusive None) refl
+ends_by _ (laws.IsRange (Some x) inclusive (Some y)) = rw (laws.expr_range_is (Some x) inclusive (Some y), views.outs-Range (Some x) inclusive (Some y)) refl
 ends_by _ (laws.IsAssign targets x) = rw (laws.expr_assign_is targets x, views.outs-Assign targets x) refl
 ends_by _ (laws.IsPostfix x steps) = rw (laws.expr_postfix_is x steps, views.outs-Postfix x steps) (steps_end (map about_step steps))
+ends_by _ (laws.IsBlock label b) = rw (laws.expr_block_is label b, views.outs-Block label b) refl
+ends_by _ (laws.IsUnsafe b) = rw (laws.expr_unsafe_is b, views.outs-Unsafe b) refl
+ends_by _ (laws.IsConstBlock b) = rw (laws.expr_const_block_is b, views.outs-ConstBlock b) refl
+ends_by _ (laws.IsAsync moves b) = rw (laws.expr_async_is moves b, views.outs-Async moves b) refl
+ends_by _ (laws.IsIf branches None) = rw (laws.expr_if_is branches None, views.outs-If branches None) refl
+ends_by _ (laws.IsIf branches (Some b)) = rw (laws.expr_if_is branches (Some b), views.outs-If branches (Some b)) refl
+ends_by _ (laws.IsMatch x attrs arms) = rw (laws.expr_match_is x attrs arms, views.outs-Match x attrs arms) refl
+ends_by _ (laws.IsLoop label b) = rw (laws.expr_loop_is label b, views.outs-Loop label b) refl
+ends_by _ (laws.IsWhile label pat x b) = rw (laws.expr_while_is label pat x b, views.outs-While label pat x b) refl
+ends_by _ (laws.IsFor label pat x b) = rw (laws.expr_for_is label pat x b, views.outs-For label pat x b) refl
+ends_by _ (laws.IsClosure moves params x) = rw (laws.expr_closure_is moves params x, views.outs-Closure moves params x) refl
+ends_by _ (laws.IsTypedClosure moves params output b) = rw (laws.expr_typed_closure_is moves params output b, views.outs-TypedClosure moves params output b) refl
 ends_by _ (laws.IsReturn None) = rw (laws.expr_return_is None, views.outs-Return None) refl
 ends_by _ (laws.IsReturn (Some x)) = rw (laws.expr_return_is (Some x), views.outs-Return (Some x)) refl
 ends_by _ (laws.IsBreak label None) = rw (laws.expr_break_is label None, views.outs-Break label None) refl

@@ -6,20 +6,27 @@ use Rattle.lay_node.specs.Words.{is_bare_number}
 use Rattle.lay_node.specs.declared.token.Literal.{Literal}
 use Rattle.lay_node.specs.declared.tokens.MacroCall.{MacroCall}
 use Rattle.lay_node.specs.declared.types.Ty.{Ty}
-use Rattle.lay_tree.specs.nodes.Exprs.{ExprFacts, about_expr, is_brace, lacks_args, level_of_chain, type_refuses}
+use Rattle.lay_tree.specs.nodes.Code.{about_expr}
+use Rattle.lay_tree.specs.nodes.Exprs.{ExprFacts, is_brace, lacks_args, level_of_chain, type_refuses}
+use Rattle.lay_tree.specs.declared.blocks.Arm.{Arm}
+use Rattle.lay_tree.specs.declared.blocks.Block.{Block}
+use Rattle.lay_tree.specs.declared.blocks.Branch.{Branch}
+use Rattle.lay_tree.specs.declared.blocks.Stmt.{Stmt}
+use Rattle.lay_tree.specs.declared.blocks.Stmt.TheOpen.{Expr-F}
+use Rattle.lay_tree.specs.declared.blocks.Stmt.TheViews as views
 use Rattle.lay_tree.specs.declared.exprs.Expr.{Expr}
-use Rattle.lay_tree.specs.declared.exprs.Expr.TheOpen.{Expr-F}
 use Rattle.lay_tree.specs.declared.exprs.Expr.TheVariants as expr
-use Rattle.lay_tree.specs.declared.exprs.Expr.TheViews as views
 use Rattle.lay_tree.specs.declared.exprs.FieldExpr.{FieldExpr}
 use Rattle.lay_tree.specs.declared.exprs.Step.{Step}
+use Rattle.lay_tree.specs.declared.item.Item.{Item}
+use Rattle.lay_tree.specs.declared.item.ItemKind.{ItemKind}
 use Rattle.lay_tree.specs.declared.operators.Op.{Op}
 use Rattle.lay_tree.proofs.nodes.ExprsLaws as laws
 use Rattle.lay_ops.proofs.Last.{last, last_is}
 use Rattle.lay_ops.specs.RootFacts.{first_level}
 
 -- its level, and whether it jumps, is a range without an end, a cast to a type that lacks arguments, a struct literal,
--- a macro call in braces, and a number without suffix
+-- what ends in a block of its own or a macro call in braces, and a number without suffix
 abbrev Root : Type 0
 Root = ℕ × Bool × Bool × Bool × Bool × Bool × Bool
 
@@ -29,10 +36,13 @@ root_of x = (x.level, x.jumps, x.endless, x.typed, x.is_struct, x.block_like, x.
 abbrev plain_root : ℕ → Root
 plain_root level = (level, false, false, false, false, false, false)
 
-abbrev pub root_in : Expr-F Expr FieldExpr Step → Root
+abbrev block_root : Root
+block_root = (14, false, false, false, false, true, false)
+
+abbrev pub root_in : Expr-F Stmt Expr FieldExpr Step ItemKind Arm Block Branch Item → Root
 root_in (Expr-F.Lit l) = (14, false, false, false, false, false, is_bare_number l.kind l.text)
-root_in (Expr-F.Call call) = (14, false, false, false, false, is_brace call.tokens.delim, false)
-root_in (Expr-F.Struct path fields base) = (14, false, false, false, true, false, false)
+root_in (Expr-F.Expr::Call call) = (14, false, false, false, false, is_brace call.tokens.delim, false)
+root_in (Expr-F.Expr::Struct path fields base) = (14, false, false, false, true, false, false)
 root_in (Expr-F.Chain x rest) = plain_root (first_level rest)
 root_in (Expr-F.Cast x types) = (11, false, false, lacks_args (type_refuses (map about_type types)), false, false, false)
 root_in (Expr-F.Unary ps x) = plain_root 12
@@ -41,6 +51,16 @@ root_in (Expr-F.Assign targets x) = plain_root 0
 root_in (Expr-F.Postfix x steps) = plain_root 13
 root_in (Expr-F.Return x) = (12, true, false, false, false, false, false)
 root_in (Expr-F.Break label x) = (12, true, false, false, false, false, false)
+root_in (Expr-F.Closure moves params x) = (12, true, false, false, false, false, false)
+root_in (Expr-F.TypedClosure moves params output b) = (12, true, false, false, false, false, false)
+root_in (Expr-F.Block label b) = block_root
+root_in (Expr-F.Unsafe b) = block_root
+root_in (Expr-F.ConstBlock b) = block_root
+root_in (Expr-F.If branches otherwise) = block_root
+root_in (Expr-F.Match x attrs arms) = block_root
+root_in (Expr-F.Loop label b) = block_root
+root_in (Expr-F.While label pat x b) = block_root
+root_in (Expr-F.For label pat x b) = block_root
 root_in _ = plain_root 14
 
 chain_level : (rest : List (Op × Expr)) → level_of_chain (map laws.behind_op rest) ≡ first_level rest
@@ -51,29 +71,36 @@ root_by : (x : Expr) → laws.ExprView x → root_of (about_expr x) ≡ root_in 
 root_by _ (laws.IsLit l) = rw (laws.expr_lit_is l, views.outs-Lit l) refl
 root_by _ (laws.IsPath path) = rw (laws.expr_path_is path, views.outs-Path path) refl
 root_by _ laws.IsUnderscore = rw (laws.expr_underscore_is, views.outs-Underscore) refl
-root_by _ (laws.IsCall call) = rw (laws.expr_call_is call, views.outs-Call call) refl
+root_by _ (laws.IsCall call) = rw (laws.expr_call_is call, views.outs-Expr::Call call) refl
 root_by _ (laws.IsParen x) = rw (laws.expr_paren_is x, views.outs-Paren x) refl
 root_by _ (laws.IsContinue label) = rw (laws.expr_continue_is label, views.outs-Continue label) refl
 root_by _ (laws.IsTuple xs) = rw (laws.expr_tuple_is xs, views.outs-Tuple xs) refl
 root_by _ (laws.IsArray xs) = rw (laws.expr_array_is xs, views.outs-Array xs) refl
 root_by _ (laws.IsRepeat x length) = rw (laws.expr_repeat_is x length, views.outs-Repeat x length) refl
-root_by _ (laws.IsStruct path fields None) = rw (laws.expr_struct_is path fields None, views.outs-Struct path fields None) refl
-root_by _ (laws.IsStruct path fields (Some None)) =
-    rw (laws.expr_struct_is path fields (Some None), views.outs-Struct path fields (Some None)) refl
-root_by _ (laws.IsStruct path fields (Some (Some x))) =
-    rw (laws.expr_struct_is path fields (Some (Some x)), views.outs-Struct path fields (Some (Some x))) refl
+root_by _ (laws.IsStruct path fields None) = rw (laws.expr_struct_is path fields None, views.outs-Expr::Struct path fields None) refl
+root_by _ (laws.IsStruct path fields (Some None)) = rw (laws.expr_struct_is path fields (Some None), views.outs-Expr::Struct path fields (Some None)) refl
+root_by _ (laws.IsStruct path fields (Some (Some x))) = rw (laws.expr_struct_is path fields (Some (Some x)), views.outs-Expr::Struct path fields (Some (Some x))) refl
 root_by _ (laws.IsChain x rest) = rw (laws.expr_chain_is x rest, views.outs-Chain x rest, chain_level rest) refl
 root_by _ (laws.IsCast x types) = rw (laws.expr_cast_is x types, views.outs-Cast x types) refl
 root_by _ (laws.IsUnary ps x) = rw (laws.expr_unary_is ps x, views.outs-Unary ps x) refl
 root_by _ (laws.IsRange None inclusive None) = rw (laws.expr_range_is None inclusive None, views.outs-Range None inclusive None) refl
-root_by _ (laws.IsRange None inclusive (Some y)) =
-    rw (laws.expr_range_is None inclusive (Some y), views.outs-Range None inclusive (Some y)) refl
-root_by _ (laws.IsRange (Some x) inclusive None) =
-    rw (laws.expr_range_is (Some x) inclusive None, views.outs-Range (Some x) inclusive None) refl
-root_by _ (laws.IsRange (Some x) inclusive (Some y)) =
-    rw (laws.expr_range_is (Some x) inclusive (Some y), views.outs-Range (Some x) inclusive (Some y)) refl
+root_by _ (laws.IsRange None inclusive (Some y)) = rw (laws.expr_range_is None inclusive (Some y), views.outs-Range None inclusive (Some y)) refl
+root_by _ (laws.IsRange (Some x) inclusive None) = rw (laws.expr_range_is (Some x) inclusive None, views.outs-Range (Some x) inclusive None) refl
+root_by _ (laws.IsRange (Some x) inclusive (Some y)) = rw (laws.expr_range_is (Some x) inclusive (Some y), views.outs-Range (Some x) inclusive (Some y)) refl
 root_by _ (laws.IsAssign targets x) = rw (laws.expr_assign_is targets x, views.outs-Assign targets x) refl
 root_by _ (laws.IsPostfix x steps) = rw (laws.expr_postfix_is x steps, views.outs-Postfix x steps) refl
+root_by _ (laws.IsBlock label b) = rw (laws.expr_block_is label b, views.outs-Block label b) refl
+root_by _ (laws.IsUnsafe b) = rw (laws.expr_unsafe_is b, views.outs-Unsafe b) refl
+root_by _ (laws.IsConstBlock b) = rw (laws.expr_const_block_is b, views.outs-ConstBlock b) refl
+root_by _ (laws.IsAsync moves b) = rw (laws.expr_async_is moves b, views.outs-Async moves b) refl
+root_by _ (laws.IsIf branches None) = rw (laws.expr_if_is branches None, views.outs-If branches None) refl
+root_by _ (laws.IsIf branches (Some b)) = rw (laws.expr_if_is branches (Some b), views.outs-If branches (Some b)) refl
+root_by _ (laws.IsMatch x attrs arms) = rw (laws.expr_match_is x attrs arms, views.outs-Match x attrs arms) refl
+root_by _ (laws.IsLoop label b) = rw (laws.expr_loop_is label b, views.outs-Loop label b) refl
+root_by _ (laws.IsWhile label pat x b) = rw (laws.expr_while_is label pat x b, views.outs-While label pat x b) refl
+root_by _ (laws.IsFor label pat x b) = rw (laws.expr_for_is label pat x b, views.outs-For label pat x b) refl
+root_by _ (laws.IsClosure moves params x) = rw (laws.expr_closure_is moves params x, views.outs-Closure moves params x) refl
+root_by _ (laws.IsTypedClosure moves params output b) = rw (laws.expr_typed_closure_is moves params output b, views.outs-TypedClosure moves params output b) refl
 root_by _ (laws.IsReturn None) = rw (laws.expr_return_is None, views.outs-Return None) refl
 root_by _ (laws.IsReturn (Some x)) = rw (laws.expr_return_is (Some x), views.outs-Return (Some x)) refl
 root_by _ (laws.IsBreak label None) = rw (laws.expr_break_is label None, views.outs-Break label None) refl

@@ -1,6 +1,8 @@
 -- What is told of an expression by its root, in code.
-use Rattle.std.specs.Prelude.{ℕ, List, [], ◌∷◌}
+use Rattle.std.specs.Prelude.{ℕ, ◌&&◌, not, Bool, false, List, [], ◌∷◌}
 use Rattle.lay_tree.specs.Operators.{op_level}
+use Rattle.lay_tree.specs.nodes.Code.{about_stmt}
+use Rattle.lay_tree.specs.declared.blocks.Stmt.{Stmt}
 use Rattle.lay_tree.specs.declared.exprs.Expr.{Expr}
 use Rattle.lay_tree.specs.declared.operators.Op.{Op}
 
@@ -8,3 +10,8 @@ use Rattle.lay_tree.specs.declared.operators.Op.{Op}
 abbrev pub first_level : List (Op × Expr) → ℕ
 first_level [] = 0
 first_level (x ∷ more) = op_level x.0
+
+-- one statement, which is an expression that is no macro call, without attributes and without a `;`
+abbrev pub lone_in : List Stmt → Bool
+lone_in (s ∷ []) = (about_stmt s).bare && not (about_stmt s).call
+lone_in _ = false

@@ -1,6 +1,7 @@
 //! What expressions end in, found along their right edge.
 ghost use Rattle.std.specs.Prelude.{◌≡◌, ◌<◌, ◌&&◌, not, false};
-ghost use Rattle.lay_tree.specs.nodes.Exprs.{about_expr, is_open, is_typed};
+ghost use Rattle.lay_tree.specs.nodes.Code.{about_expr};
+ghost use Rattle.lay_tree.specs.nodes.Exprs.{is_open, is_typed};
 ghost use Rattle.lay_tree.specs.declared.exprs.Expr.{size-Expr};
 ghost use Rattle.lay_ops.specs.Ends.{IfOperand, is_open_end, is_typed_end};
 
@@ -52,7 +53,10 @@ fn expr_end(expr: &Expr) -> ExprEnd<'_>
         Expr::Assign { value, .. } => ExprEnd::In(value.get()),
         Expr::Range { end: Some(end), .. } => ExprEnd::In(end.get()),
         Expr::Range { end: None, .. } => ExprEnd::Open,
-        Expr::Return { .. } | Expr::Break { .. } => ExprEnd::Open,
+        Expr::Return { .. }
+        | Expr::Break { .. }
+        | Expr::Closure { .. }
+        | Expr::TypedClosure { .. } => ExprEnd::Open,
         Expr::Cast { types, .. } => typed_if(last_lacks_args(types.as_slice())),
         Expr::Path { path } => typed_if(path_lacks_args(path)),
         _ => ExprEnd::Shut,

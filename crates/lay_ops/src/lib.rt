@@ -7,6 +7,7 @@
 #![tactic(auto)]
 
 pub mod ahead;
+mod bodies;
 mod expr_ends;
 mod numbers;
 pub mod operands;
@@ -15,8 +16,9 @@ mod places;
 mod roots;
 mod type_ends;
 
+pub use bodies::{ends, is_call, is_lone_body};
 pub use numbers::is_number;
 pub use operands::begins_operand;
 pub use operators::{binary, prefix};
 pub use places::{may, stands};
-pub use roots::{is_block_like, level};
+pub use roots::{is_block_like, is_free, level};

@@ -3,7 +3,7 @@ ghost use Rattle.std.specs.Prelude.{◌≡◌, ◌∷◌, ◌<◌, ◌≤◌, le
 ghost use Rattle.std.specs.Str.{chars, chars_after};
 ghost use Rattle.lay_piece.specs.Chars.{in_digits, in_hex};
 ghost use Rattle.lay_node.specs.Words as words;
-ghost use Rattle.lay_tree.specs.nodes.Exprs.{about_expr};
+ghost use Rattle.lay_tree.specs.nodes.Code.{about_expr};
 ghost use Rattle.lay_ops.specs.Numbers.{IsSplit, digits, exponent, leads_to, room, run};
 
 use lay_token::Kind;

@@ -1,6 +1,6 @@
 //! Where expressions may stand.
 ghost use Rattle.std.specs.Prelude.{◌≡◌};
-ghost use Rattle.lay_tree.specs.nodes.Exprs.{about_expr};
+ghost use Rattle.lay_tree.specs.nodes.Code.{about_expr};
 ghost use Rattle.lay_tree.specs.nodes.Exprs as nodes;
 ghost use Rattle.lay_tree.specs.nodes.Places as places;
 

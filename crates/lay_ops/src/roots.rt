@@ -1,7 +1,9 @@
 //! What is told of an expression by its root.
 ghost use Rattle.std.specs.Prelude.{◌≡◌, map};
 ghost use Rattle.lay_node.specs.nodes.Types.{about_type};
-ghost use Rattle.lay_tree.specs.nodes.Exprs.{about_expr, is_brace, lacks_args, type_refuses};
+ghost use Rattle.lay_tree.specs.nodes.Code.{about_expr};
+ghost use Rattle.lay_tree.specs.nodes.Blocks.{is_free};
+ghost use Rattle.lay_tree.specs.nodes.Exprs.{is_brace, is_macro, lacks_args, type_refuses};
 ghost use Rattle.lay_ops.specs.RootFacts.{first_level};
 
 use crate::operators::op_level;
@@ -19,7 +21,11 @@ pub fn level(expr: &Expr) -> u8
         Expr::Range { .. } => 1,
         Expr::Chain { rest, .. } => first_level(rest.as_slice()),
         Expr::Cast { .. } => 11,
-        Expr::Unary { .. } | Expr::Return { .. } | Expr::Break { .. } => 12,
+        Expr::Unary { .. }
+        | Expr::Return { .. }
+        | Expr::Break { .. }
+        | Expr::Closure { .. }
+        | Expr::TypedClosure { .. } => 12,
         Expr::Postfix { .. } => 13,
         _ => 14,
     }
@@ -35,12 +41,15 @@ fn first_level(rest: &[(Op, Expr)]) -> u8
     }
 }
 
-/// Whether it is a `return` or a `break`.
+/// Whether it is a `return`, a `break` or a closure.
 #[tactic(auto, using(crate::proofs::RootFacts::jumps_is))]
 pub fn is_jump(expr: &Expr) -> bool
     ensures { result ≡ (about_expr expr.now).jumps }
 {
-    matches!(expr, Expr::Return { .. } | Expr::Break { .. })
+    matches!(
+        expr,
+        Expr::Return { .. } | Expr::Break { .. } | Expr::Closure { .. } | Expr::TypedClosure { .. }
+    )
 }
 
 /// Whether it is a range without an end.
@@ -80,13 +89,21 @@ pub fn is_struct(expr: &Expr) -> bool
     matches!(expr, Expr::Struct { .. })
 }
 
-/// Whether it ends a statement without a `;`: a macro call in braces.
+/// Whether it ends a statement without a `;`: what ends in a block of its own, and a macro call in braces.
 #[tactic(auto, using(crate::proofs::RootFacts::block_like_is))]
 pub fn is_block_like(expr: &Expr) -> bool
     ensures { result ≡ (about_expr expr.now).block_like }
 {
     match expr {
         Expr::Call { call } => is_brace(call.tokens.delim),
+        Expr::Block { .. }
+        | Expr::Unsafe { .. }
+        | Expr::ConstBlock { .. }
+        | Expr::If { .. }
+        | Expr::Match { .. }
+        | Expr::Loop { .. }
+        | Expr::While { .. }
+        | Expr::For { .. } => true,
         _ => false,
     }
 }
@@ -96,4 +113,19 @@ fn is_brace(delim: Delim) -> bool
     ensures { result ≡ is_brace delim }
 {
     matches!(delim, Delim::Brace)
+}
+
+/// Whether it is a macro call.
+#[tactic(auto, using(crate::proofs::BodyFacts::is_macro_is))]
+pub fn is_macro(expr: &Expr) -> bool
+    ensures { result ≡ is_macro (about_expr expr.now).kind }
+{
+    matches!(expr, Expr::Call { .. })
+}
+
+/// Whether the comma of an arm may be left out behind it.
+pub fn is_free(expr: &Expr) -> bool
+    ensures { result ≡ is_free (about_expr expr.now) }
+{
+    is_block_like(expr) && !is_macro(expr)
 }

@@ -1,5 +1,6 @@
 -- The streams of bodies, of items, and of files.
-use Rattle.std.proofs.Common.{◌≡◌, ◌≢◌, ℕ, suc, ◌<◌, Bool, true, false, cond, List, [], ◌∷◌, ◌++◌, map, length, codes, pos, Option, Some, None, refl, sym, ap, ◌∙◌, append_assoc, append-nil, arith, OnOk, Result}
+use Rattle.std.proofs.Common.{◌≡◌, ℕ, suc, ◌<◌, Bool, true, false, cond, List, [], ◌∷◌, ◌++◌, map, length, codes, pos, Option, Some, None, refl, sym, ap, ◌∙◌, append_assoc, append-nil, ◌==◌, ◌&&◌, option_map, OnOk, Result}
+use Rattle.std.proofs.Math.Dec.{eqb-suc-zero}
 use Rattle.lay_layout.specs.Document.{Document, Empty, stream}
 use Rattle.lay_layout.specs.Machine.{opened}
 use Rattle.lay_layout.specs.declared.layout.Tok.{Tok}
@@ -22,9 +23,11 @@ use Rattle.lay_node.specs.declared.heads.Site.TheVariants.{Module}
 use Rattle.lay_node.specs.declared.heads.ValueHead.{ValueHead}
 use Rattle.lay_node.specs.declared.vis.Vis.{Vis}
 use Rattle.lay_tree.specs.Out.{behind_shebang, layout_of_file}
-use Rattle.lay_tree.specs.nodes.Exprs.{about_expr}
+use Rattle.lay_tree.specs.nodes.Code.{about_expr, about_item, form_of_item, told_of_item, told_of_kind}
+use Rattle.lay_tree.specs.nodes.CodeFacts.{ItemFacts, KindFacts}
+use Rattle.lay_tree.specs.nodes.Exprs.{ExprFacts, value_form}
 use Rattle.lay_tree.specs.nodes.File.{form_of_file}
-use Rattle.lay_tree.specs.nodes.Item.{ItemFacts, KindFacts, about_item, form_of_item, item_body, item_forms, kind_form, told_of_item, told_of_kind, value_form}
+use Rattle.lay_tree.specs.nodes.Item.{item_body, item_forms, kind_form}
 use Rattle.lay_tree.specs.declared.exprs.Expr.{Expr}
 use Rattle.lay_tree.specs.declared.file.File.{File}
 use Rattle.lay_tree.specs.declared.item.Item.{Item}
@@ -49,14 +52,14 @@ pub line_before : (b : Bool) (s : List Tok) → line ++ s ≡ cond b line line +
 line_before true s = refl
 line_before false s = refl
 
-each_lines : (es : List Form) → stream_of (each H es) ≡ further line es
+pub each_lines : (es : List Form) → stream_of (each H es) ≡ further line es
 each_lines es = each_is H line (λ q f more. refl) es false [] ∙ append-nil (further line es)
 
 pub lines_put : (es : List Form) → row line line es ≡ stream_of (each H es)
 lines_put [] = refl
 lines_put (e ∷ es) = sym (each_lines (e ∷ es))
 
-further_joined : (between : List Tok) (es fs : List Form)
+pub further_joined : (between : List Tok) (es fs : List Form)
     → further between es ++ further between fs ≡ further between (es ++ fs)
 further_joined between [] fs = refl
 further_joined between (e ∷ es) fs =
@@ -65,7 +68,7 @@ further_joined between (e ∷ es) fs =
     (append_assoc (stream_of e) (further between es) (further between fs)
     ∙ ap (λ (s : List Tok). stream_of e ++ s) (further_joined between es fs))
 
-lines_joined : (es fs : List Form) → stream_of (each H es) ++ stream_of (each H fs) ≡ further line (es ++ fs)
+pub lines_joined : (es fs : List Form) → stream_of (each H es) ++ stream_of (each H fs) ≡ further line (es ++ fs)
 lines_joined es fs =
     ap (λ (s : List Tok). s ++ stream_of (each H fs)) (each_lines es)
     ∙ ap (λ (s : List Tok). further line es ++ s) (each_lines fs)
@@ -105,18 +108,15 @@ pub may_close_body : {S F T : Type 0} {m : Meanings S F} {a b : S} {p q : Result
 may_close_body {m} {a} {p} {q} lead e f h =
     on_ok q (λ x is. (one_open (m.groups a) (level_behind p q x h is ∙ body_open lead e f (m.groups a))).0)
 
-pub has_attrs : (attrs : List Attr) (es : List Form) → length attrs ≢ 0 → false ≡ no_forms (map attr_form attrs ++ es)
-has_attrs [] es h = absurd (h refl)
-has_attrs (a ∷ attrs) es h = refl
-
-pub has_items : (attrs : List Attr) (items : List Item) (bare : Bool) → length attrs ≡ 0
-    → (bare ≡ true → length items ≡ 0) → (bare ≡ false → length items ≢ 0)
-    → bare ≡ no_forms (map attr_form attrs ++ map form_of_item items)
-has_items (a ∷ attrs) items bare e h i = absurd (omega arith)
-has_items [] [] true e h i = refl
-has_items [] [] false e h i = absurd (i refl refl)
-has_items [] (x ∷ items) true e h i = let f : length (x ∷ items) ≡ 0 = h refl in absurd (omega arith)
-has_items [] (x ∷ items) false e h i = refl
+-- whether nothing stands in a body
+pub bare_is : {A : Type 0} (form : A → Form) (attrs : List Attr) (xs : List A) (bare none empty : Bool) → bare ≡ (none && empty)
+    → none ≡ (length attrs == 0) → empty ≡ (length xs == 0) → bare ≡ no_forms (map attr_form attrs ++ map form xs)
+bare_is form attrs xs bare none empty e n m = rw (e, n, m) (by attrs xs)
+  where
+    by : (bs : List Attr) (ys : List _) → ((length bs == 0) && (length ys == 0)) ≡ no_forms (map attr_form bs ++ map form ys)
+    by [] [] = refl
+    by [] (y ∷ ys) = eqb-suc-zero (length ys)
+    by (b ∷ bs) ys = ap (λ (c : Bool). c && (length ys == 0)) (eqb-suc-zero (length bs))
 
 steady_body : (lead : Bool) (es : List Form) → Steady (body (blank_if lead) [] es)
 steady_body true [] true = refl
@@ -136,20 +136,20 @@ headed v x any =
     ∙ ap (λ (s : List Tok). stream_of (vis_form v) ++ s) (append_assoc (stream_of x.head) end (stream_of x.tail)))
     ∙ seen_is v x any
 
-steady_value : (value : Option Expr) → Steady (value_form value)
+pub steady_value : (value : Option ExprFacts) → Steady (value_form value)
 steady_value None q = refl
 steady_value (Some x) true = refl
 steady_value (Some x) false = refl
 
 -- The head of a constant or a static, and its value.
-pub valued_head : (head : ValueHead) (value : Option Expr)
+pub valued_head : (head : ValueHead) (value : Option ExprFacts)
     → stream_of (value_head_form head) ++ stream_of (value_form value)
     ≡ stream_of (Part (value_head_form head) (value_form value))
 valued_head head value = part_more (value_head_form head) (value_form value) (steady_value value)
 
 -- A value that is there, behind its `=`.
 pub some_value : (value : Option Expr) (x : Expr) → value ≡ Some x
-    → tok.Text (codes " = ") ∷ tok.Break (break_of Never) ∷ stream_of (about_expr x).form ≡ stream_of (value_form value)
+    → tok.Text (codes " = ") ∷ tok.Break (break_of Never) ∷ stream_of (about_expr x).form ≡ stream_of (value_form (option_map about_expr value))
 some_value value x is = rw is refl
 
 -- an item that is of this kind

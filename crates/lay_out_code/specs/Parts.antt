@@ -1,15 +1,22 @@
--- The streams of heads and of what items are.
+-- The streams of heads, and of what stands in blocks and items.
 use Rattle.std.specs.Prelude.{Bool, true, false, List, [], ◌∷◌, ◌++◌, codes, pos, Option}
 use Rattle.lay_layout.specs.declared.layout.Tok.{Tok}
 use Rattle.lay_layout.specs.declared.layout.Tok.TheVariants as tok
-use Rattle.lay_form.specs.Form.{Form, Piece, keyword}
+use Rattle.lay_form.specs.Form.{Form, Done, Part, Piece, keyword}
+use Rattle.lay_form.specs.Notation.{I0}
 use Rattle.lay_form.specs.Stream.{stream_of}
 use Rattle.lay_node.specs.nodes.Heads.{unsafe_form}
 use Rattle.lay_node.specs.nodes.Vis.{vis_form}
 use Rattle.lay_node.specs.declared.token.Literal.{Literal}
 use Rattle.lay_node.specs.declared.use_tree.UseTree.{UseTree}
 use Rattle.lay_node.specs.declared.vis.Vis.{Vis}
-use Rattle.lay_tree.specs.nodes.Item.{KindFacts, about_import, foreign_abi, kind_form}
+use Rattle.lay_tree.specs.nodes.Code.{about_arm, about_branch, about_stmt}
+use Rattle.lay_tree.specs.nodes.CodeFacts.{KindFacts}
+use Rattle.lay_tree.specs.nodes.Exprs.{branch_head}
+use Rattle.lay_tree.specs.nodes.Item.{about_import, foreign_abi, kind_form}
+use Rattle.lay_tree.specs.declared.blocks.Arm.{Arm}
+use Rattle.lay_tree.specs.declared.blocks.Branch.{Branch}
+use Rattle.lay_tree.specs.declared.blocks.Stmt.{Stmt}
 
 -- There are none.
 abbrev pub no_forms : List Form → Bool
@@ -30,3 +37,17 @@ import_head tree = (about_import tree).head
 
 abbrev pub foreign_head : Bool → Option Literal → Form
 foreign_head is_unsafe abi = unsafe_form is_unsafe (Piece (keyword (codes "extern") ∷ []) (foreign_abi abi))
+
+-- what closes the group of a head
+abbrev pub head_end : List Tok
+head_end = tok.End ∷ []
+
+-- the form of a statement, of an arm as the last one, and of a branch
+abbrev pub stmt_told : Stmt → Form
+stmt_told x = (about_stmt x).form
+
+abbrev pub arm_told : Arm → Form
+arm_told x = (about_arm x).form true
+
+abbrev pub branch_told : Branch → Form
+branch_told x = I0 (branch_head (about_branch x)) (Part (about_branch x).soft Done)

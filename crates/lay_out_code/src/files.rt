@@ -5,7 +5,7 @@ ghost use Rattle.lay_stream.specs.Fed.{Did};
 ghost use Rattle.lay_form.specs.Notation.{lines};
 ghost use Rattle.lay_form.specs.Stream.{stream_of};
 ghost use Rattle.lay_tree.specs.Out.{behind_shebang, layout_of_file};
-ghost use Rattle.lay_tree.specs.nodes.Item.{form_of_item};
+ghost use Rattle.lay_tree.specs.nodes.Code.{form_of_item};
 
 use crate::items::put_item;
 use lay_out_tokens::HARD_BREAK;

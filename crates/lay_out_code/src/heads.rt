@@ -6,20 +6,18 @@ ghost use Rattle.lay_form.specs.Stream.{stream_of};
 ghost use Rattle.lay_node.specs.nodes.Functions.{fn_head_form};
 ghost use Rattle.lay_node.specs.nodes.Heads.{impl_head_form, trait_head_form, value_head_form};
 ghost use Rattle.lay_node.specs.nodes.Where.{wheres_before_body, wheres_before_semicolon};
-ghost use Rattle.lay_tree.specs.nodes.Item.{foreign_abi, module_head, value_form};
+ghost use Rattle.lay_tree.specs.nodes.Item.{foreign_abi, module_head};
 ghost use Rattle.lay_out_types.specs.Calls.{Adds};
 ghost use Rattle.lay_out_code.specs.Parts.{foreign_head, head_row, import_head};
 
 use crate::calls::add_use;
-use lay_out_exprs::add_expr;
-use lay_out_heads::calls::{add_break, add_wheres};
+use lay_out_heads::calls::add_wheres;
 use lay_out_heads::items::{add_semicolon, open_head};
 use lay_out_heads::{put_fn_head, put_impl_head, put_trait_head, put_value_head};
-use lay_out_tokens::notation::NEVER_BREAK;
 use lay_out_types::calls::{add_if, add_literal, add_text, add_word};
 use lay_out_types::lists::add_end;
 use lay_stream::Emit;
-use lay_tree::{Expr, FnHead, ImplHead, Literal, Name, TraitHead, UseTree, ValueHead, Vis, Wheres};
+use lay_tree::{FnHead, ImplHead, Literal, Name, TraitHead, UseTree, ValueHead, Vis, Wheres};
 
 /// What an item begins with behind its visibility.
 pub trait Head {
@@ -87,42 +85,6 @@ pub fn add_clause<E: Emit, H: Head>(
 {
     let head = add_head(out, before, vis, head);
     add_wheres(out, head, wheres, true)
-}
-
-/// A constant or a static, and a `;`.
-pub fn add_valued<E: Emit>(
-    out: &mut E,
-    before: Result<(), E::Fault>,
-    vis: &Vis,
-    head: &ValueHead,
-    value: &Option<Expr>,
-) -> Result<(), E::Fault>
-    ensures { Adds E.meanings before out.old
-        (head_row vis.now (Part (value_head_form head.now) (value_form value.now)) ++ stream_of (piece semicolon)) result out.new }
-{
-    let opened = open_head(out, before, vis);
-    let head = head.add(out, opened);
-    let value = add_value(out, head, value);
-    let whole = add_end(out, value);
-    add_text(out, whole, b";")
-}
-
-/// A value, if there is one, behind its `=`.
-fn add_value<E: Emit>(
-    out: &mut E,
-    before: Result<(), E::Fault>,
-    value: &Option<Expr>,
-) -> Result<(), E::Fault>
-    ensures { Adds E.meanings before out.old (stream_of (value_form value.now)) result out.new }
-{
-    match value {
-        None => before,
-        Some(expr) => {
-            let equals = add_text(out, before, b" = ");
-            let lead = add_break(out, equals, NEVER_BREAK);
-            add_expr(out, lead, false, expr)
-        },
-    }
 }
 
 impl Head for UseTree {

@@ -1,27 +1,33 @@
 //! Items.
-ghost use Rattle.std.specs.Prelude.{◌≡◌, [], ◌++◌, map};
+ghost use Rattle.std.specs.Prelude.{[], ◌++◌, map, option_map};
 ghost use Rattle.lay_stream.specs.Fed.{Did};
-ghost use Rattle.lay_form.specs.Notation.{H, body, each};
+ghost use Rattle.lay_form.specs.Form.{Part, semicolon};
+ghost use Rattle.lay_form.specs.Notation.{H, body, each, piece};
 ghost use Rattle.lay_form.specs.Stream.{stream_of};
 ghost use Rattle.lay_node.specs.nodes.Attr.{attr_form};
 ghost use Rattle.lay_node.specs.nodes.Fields.{blank_if};
-ghost use Rattle.lay_tree.specs.nodes.Item.{form_of_item, told_of_kind};
+ghost use Rattle.lay_node.specs.nodes.Functions.{fn_head_form};
+ghost use Rattle.lay_node.specs.nodes.Heads.{value_head_form};
+ghost use Rattle.lay_tree.specs.nodes.Code.{about_block, about_expr, form_of_item, told_of_kind};
+ghost use Rattle.lay_tree.specs.nodes.Exprs.{value_form};
+ghost use Rattle.lay_tree.specs.nodes.Item.{function_tail};
 ghost use Rattle.lay_out_types.specs.Calls.{Adds};
-ghost use Rattle.lay_out_code.specs.Parts.{kind_row, no_forms};
+ghost use Rattle.lay_out_code.specs.Parts.{head_row, kind_row};
 
+use crate::blocks::{add_block, add_value};
 use crate::calls::{add_alias, add_bare_attr, add_enum, add_extern_crate, add_struct, add_union};
-use crate::heads::{
-    add_clause, add_ended, add_ended_clause, add_foreign_head, add_head, add_valued,
-};
+use crate::heads::{Head, add_clause, add_ended, add_ended_clause, add_foreign_head, add_head};
 use crate::macros::{add_call_item, add_macro_rules};
+use lay_out_exprs::flags::both;
 use lay_out_heads::calls::add_break;
-use lay_out_heads::items::leads;
+use lay_out_heads::items::{leads, open_head};
 use lay_out_heads::loops::{close_body, open_body};
 use lay_out_tokens::HARD_BREAK;
 use lay_out_types::add_attrs;
-use lay_out_types::calls::add_either;
+use lay_out_types::calls::{add_either, add_text};
+use lay_out_types::lists::add_end;
 use lay_stream::Emit;
-use lay_tree::{Attr, Item, ItemKind, Vis};
+use lay_tree::{Attr, Block, Expr, FnHead, Item, ItemKind, ValueHead, Vis, Wheres};
 
 /// Feeds the layout of an item, with its attributes, each on a line of its own.
 pub fn put_item<E: Emit>(out: &mut E, item: &Item) -> Result<(), E::Fault>
@@ -31,8 +37,12 @@ pub fn put_item<E: Emit>(out: &mut E, item: &Item) -> Result<(), E::Fault>
 }
 
 /// An item.
-#[cycle(add_item)]
-fn add_item<E: Emit>(out: &mut E, before: Result<(), E::Fault>, item: &Item) -> Result<(), E::Fault>
+#[cycle(code)]
+pub fn add_item<E: Emit>(
+    out: &mut E,
+    before: Result<(), E::Fault>,
+    item: &Item,
+) -> Result<(), E::Fault>
     ensures { Adds E.meanings before out.old (stream_of (form_of_item item.now)) result out.new }
 {
     let attrs = add_attrs(out, before, item.attrs.as_slice());
@@ -40,7 +50,7 @@ fn add_item<E: Emit>(out: &mut E, before: Result<(), E::Fault>, item: &Item) -> 
 }
 
 /// An item without its attributes.
-#[cycle(add_item)]
+#[cycle(code)]
 fn add_kind<E: Emit>(
     out: &mut E,
     before: Result<(), E::Fault>,
@@ -57,7 +67,9 @@ fn add_kind<E: Emit>(
             let head = add_head(out, before, vis, name);
             add_body(out, head, true, attrs.as_slice(), items.as_slice())
         },
-        ItemKind::Function { head, wheres } => add_ended_clause(out, before, vis, head, wheres),
+        ItemKind::Function { head, wheres, body } => {
+            add_function(out, before, vis, head, wheres, body)
+        },
         ItemKind::Alias { item } => add_alias(out, before, vis, item),
         ItemKind::Struct { item } => add_struct(out, before, vis, item),
         ItemKind::Union { item } => add_union(out, before, vis, item),
@@ -107,8 +119,49 @@ fn add_kind<E: Emit>(
     }
 }
 
+/// A function, with its body or without one.
+#[cycle(code)]
+fn add_function<E: Emit>(
+    out: &mut E,
+    before: Result<(), E::Fault>,
+    vis: &Vis,
+    head: &FnHead,
+    wheres: &Wheres,
+    body: &Option<Block>,
+) -> Result<(), E::Fault>
+    ensures { let tail = function_tail wheres.now (option_map about_block body.now) in
+        Adds E.meanings before out.old (head_row vis.now (fn_head_form head.now) ++ stream_of tail) result out.new }
+{
+    match body {
+        None => add_ended_clause(out, before, vis, head, wheres),
+        Some(block) => {
+            let clause = add_clause(out, before, vis, head, wheres);
+            add_block(out, clause, leads(wheres), block)
+        },
+    }
+}
+
+/// A constant or a static, and a `;`.
+#[cycle(code)]
+fn add_valued<E: Emit>(
+    out: &mut E,
+    before: Result<(), E::Fault>,
+    vis: &Vis,
+    head: &ValueHead,
+    value: &Option<Expr>,
+) -> Result<(), E::Fault>
+    ensures { let whole = Part (value_head_form head.now) (value_form (option_map about_expr value.now)) in
+        Adds E.meanings before out.old (head_row vis.now whole ++ stream_of (piece semicolon)) result out.new }
+{
+    let opened = open_head(out, before, vis);
+    let head = head.add(out, opened);
+    let value = add_value(out, head, value);
+    let whole = add_end(out, value);
+    add_text(out, whole, b";")
+}
+
 /// Inner attributes and items in braces, each on a line of its own. The braces have a leading blank or not.
-#[cycle(add_item)]
+#[cycle(code)]
 fn add_body<E: Emit>(
     out: &mut E,
     before: Result<(), E::Fault>,
@@ -119,7 +172,7 @@ fn add_body<E: Emit>(
     ensures { let parts = map attr_form attrs.now ++ map form_of_item items.now in
         Adds E.meanings before out.old (stream_of (body (blank_if lead) [] parts)) result out.new }
 {
-    if is_bare(attrs, items) {
+    if both(attrs.is_empty(), items.is_empty()) {
         return add_either(out, before, lead, b" {}", b"{}");
     }
     let opened = open_body(out, before, lead);
@@ -129,7 +182,7 @@ fn add_body<E: Emit>(
 }
 
 /// Items, each behind a newline.
-#[cycle(add_item)]
+#[cycle(code)]
 fn add_lines<E: Emit>(
     out: &mut E,
     before: Result<(), E::Fault>,
@@ -146,7 +199,7 @@ fn add_lines<E: Emit>(
 }
 
 /// Attributes, each behind a newline.
-fn add_inner_attrs<E: Emit>(
+pub fn add_inner_attrs<E: Emit>(
     out: &mut E,
     before: Result<(), E::Fault>,
     attrs: &[Attr],
@@ -159,14 +212,4 @@ fn add_inner_attrs<E: Emit>(
         done = add_bare_attr(out, done, attr);
     }
     done
-}
-
-/// Whether nothing stands in a body.
-fn is_bare(attrs: &[Attr], items: &[Item]) -> bool
-    ensures { result ≡ no_forms (map attr_form attrs.now ++ map form_of_item items.now) }
-{
-    if !attrs.is_empty() {
-        return false;
-    }
-    items.is_empty()
 }

@@ -4,3 +4,4 @@ pub mod ExprLemmas
 pub mod StepLemmas
 pub mod StructLemmas
 pub mod PointLemmas
+pub mod BlockLemmas

@@ -1,17 +1,21 @@
 -- Which expressions end in a point.
-use Rattle.std.proofs.Common.{◌≡◌, ℕ, suc, ◌-◌, ◌==◌, ◌≤◌, ◌<◌, ◌&&◌, ◌||◌, nat_le, not, Bool, true, false, List, [], ◌∷◌, ◌++◌, map, is_some, length, get_or, Option, option_map, Some, None, refl, sym, ap, ◌∙◌, arith}
+use Rattle.std.proofs.Common.{◌≡◌, if◌then◌else◌, ℕ, suc, ◌-◌, ◌==◌, ◌≤◌, ◌<◌, ◌&&◌, ◌||◌, nat_le, not, Bool, true, false, List, [], ◌∷◌, ◌++◌, map, is_some, length, get_or, codes, Option, option_map, Some, None, refl, sym, ap, ◌∙◌, arith}
 use Rattle.std.proofs.Math.Dec.{eqb-suc-zero}
 use Rattle.lay_piece.specs.declared.kind.Delim.{Delim}
 use Rattle.lay_piece.specs.declared.kind.Delim.TheVariants.{Paren, Bracket, Brace}
-use Rattle.lay_form.specs.Form.{Form, Done, Part, Piece, opener, closer}
+use Rattle.lay_form.specs.Form.{Bit, Blank, Form, Done, Part, Piece, keyword, opener, closer}
 use Rattle.lay_form.specs.Layout.{bits_end_in_point, ends_behind_point, token_ends_in_point}
-use Rattle.lay_form.specs.Notation.{braces, comma_list}
+use Rattle.lay_form.specs.Notation.{body, braces, comma_list, soft, when}
 use Rattle.lay_node.specs.Words.{leaf_of}
 use Rattle.lay_node.specs.nodes.Call.{bang, call_form}
+use Rattle.lay_node.specs.nodes.Attr.{attr_form}
 use Rattle.lay_node.specs.nodes.Facts.{Facts}
+use Rattle.lay_node.specs.nodes.Fields.{blank_if}
 use Rattle.lay_node.specs.nodes.Patterns.{dots}
 use Rattle.lay_node.specs.nodes.Types.{ArgsFacts, PathFacts, TypeFacts, about_args, about_path, about_start, about_type, in_style, segments_form}
 use Rattle.lay_node.specs.tokens.Lists.{group_form}
+use Rattle.lay_node.specs.declared.attr.Attr.{Attr}
+use Rattle.lay_node.specs.declared.patterns.Pat.{Pat}
 use Rattle.lay_node.specs.declared.patterns.SpanEnd.TheVariants as span_end
 use Rattle.lay_node.specs.declared.token.Lifetime.{Lifetime}
 use Rattle.lay_node.specs.declared.token.Literal.{Literal}
@@ -27,14 +31,22 @@ use Rattle.lay_node.specs.declared.types.PathStyle.TheVariants.{Code}
 use Rattle.lay_node.specs.declared.types.Ty.{Ty}
 use Rattle.lay_node.specs.declared.types.Ty.TheVariants as ty
 use Rattle.lay_node.proofs.nodes.TypesLaws.{IsGlobal, IsLocal, IsQualified, PathStartView, about_segment, args_round_is, path_is, start_global_is, start_local_is, start_qualified_is, start_view, type_call_is}
-use Rattle.lay_tree.specs.nodes.Exprs.{ExprFacts, about_expr, about_field_expr, about_step, base_form, break_if, end_form, expr_forms, group_if, is_method, label_form, methods, operand_form, operands_form, prefix_bits, prefixes_form, steps_form, targets_form, tuple_form, types_form}
+use Rattle.lay_tree.specs.nodes.Blocks.{attrs_before, block_form, dropped_if, is_plain, soft_form, stmt_form}
+use Rattle.lay_tree.specs.nodes.Code.{about_arm, about_block, about_branch, about_expr, about_field_expr, about_step, about_stmt}
+use Rattle.lay_tree.specs.nodes.CodeFacts.{BlockFacts, BranchFacts, StmtFacts}
+use Rattle.lay_tree.specs.nodes.Exprs.{ExprFacts, arm_forms, base_form, branches_form, break_if, closure_head, condition_form, else_branch_form, end_form, expr_forms, group_if, is_method, label_form, labelled, methods, more_branches, operand_form, operands_form, prefix_bits, prefixes_form, steps_form, targets_form, tuple_form, types_form}
+use Rattle.lay_tree.specs.declared.blocks.Arm.{Arm}
+use Rattle.lay_tree.specs.declared.blocks.Block.{Block}
+use Rattle.lay_tree.specs.declared.blocks.Branch.{Branch}
+use Rattle.lay_tree.specs.declared.exprs.ClosureParam.{ClosureParam}
 use Rattle.lay_tree.specs.declared.exprs.Expr.{Expr}
 use Rattle.lay_tree.specs.declared.exprs.Expr.TheVariants as expr
 use Rattle.lay_tree.specs.declared.exprs.Step.{Step}
 use Rattle.lay_tree.specs.declared.operators.Op.{Op}
 use Rattle.lay_tree.specs.declared.operators.Prefix.{Prefix}
 use Rattle.lay_tree.specs.declared.operators.Prefix.TheVariants as prefix
-use Rattle.lay_tree.proofs.nodes.ExprsLaws.{ExprView, IsArray, IsAssign, IsBreak, IsCall, IsCast, IsChain, IsContinue, IsLit, IsParen, IsPath, IsPostfix, IsRange, IsRepeat, IsReturn, IsStruct, IsTuple, IsUnary, IsUnderscore, expr_array_is, expr_assign_is, expr_break_is, expr_call_is, expr_cast_is, expr_chain_is, expr_continue_is, expr_lit_is, expr_paren_is, expr_path_is, expr_postfix_is, expr_range_is, expr_repeat_is, expr_return_is, expr_struct_is, expr_tuple_is, expr_unary_is, expr_underscore_is, expr_view}
+use Rattle.lay_tree.proofs.nodes.BlocksLaws.{block_is, branch_is}
+use Rattle.lay_tree.proofs.nodes.ExprsLaws.{ExprView, IsArray, IsAssign, IsAsync, IsBlock, IsBreak, IsCall, IsCast, IsChain, IsClosure, IsConstBlock, IsContinue, IsFor, IsIf, IsLit, IsLoop, IsMatch, IsParen, IsPath, IsPostfix, IsRange, IsRepeat, IsReturn, IsStruct, IsTuple, IsTypedClosure, IsUnary, IsUnderscore, IsUnsafe, IsWhile, expr_array_is, expr_assign_is, expr_async_is, expr_block_is, expr_break_is, expr_call_is, expr_cast_is, expr_chain_is, expr_closure_is, expr_const_block_is, expr_continue_is, expr_for_is, expr_if_is, expr_lit_is, expr_loop_is, expr_match_is, expr_paren_is, expr_path_is, expr_postfix_is, expr_range_is, expr_repeat_is, expr_return_is, expr_struct_is, expr_tuple_is, expr_typed_closure_is, expr_unary_is, expr_underscore_is, expr_unsafe_is, expr_view, expr_while_is}
 use Rattle.lay_out_types.proofs.PathPoints.{path_point}
 use Rattle.lay_out_exprs.specs.Parts.{base_facts, before_op, behind_op, expr_told}
 use Rattle.lay_out_exprs.proofs.Feeds.{no_point}
@@ -319,6 +331,99 @@ break_point q x label operand b is h =
     h ∙ operand_ends q (option_map about_expr operand) ∙ break_by label (option_map about_expr operand)
     ∙ ends_is q x (expr.Break label operand) _ is (expr_break_is label operand)
 
+-- ---- what ends in a block
+
+-- Braces end in no point, whatever is in them.
+body_shuts : (q lead plain : Bool) (es : List Form) → false ≡ ends_behind_point q (body (blank_if lead) (dropped_if plain) es)
+body_shuts q true true [] = refl
+body_shuts q true false [] = refl
+body_shuts q false true [] = refl
+body_shuts q false false [] = refl
+body_shuts q true true (e ∷ es) = refl
+body_shuts q true false (e ∷ es) = refl
+body_shuts q false true (e ∷ es) = refl
+body_shuts q false false (e ∷ es) = refl
+
+-- Nor does a block.
+block_shuts : (q lead : Bool) (b : Block) → false ≡ ends_behind_point q ((about_block b).form lead)
+block_shuts q lead b =
+    body_shuts q lead (is_plain b.attrs) (attrs_before (map attr_form b.attrs) ++ map stmt_form (map about_stmt b.stmts))
+    ∙ sym (ap (λ (z : BlockFacts). ends_behind_point q (z.form lead)) (block_is b))
+
+soft_by : (q : Bool) (attrs : List Attr) (stmts : List StmtFacts) → false ≡ ends_behind_point q (soft_form attrs stmts)
+soft_by q [] [] = body_shuts q true true []
+soft_by q [] (s ∷ []) = by s.bare
+  where
+    by : (b : Bool) → false ≡ ends_behind_point q (if b then soft s.form else block_form [] (s ∷ []) true)
+    by true = refl
+    by false = body_shuts q true true (stmt_form s ∷ [])
+soft_by q [] (s ∷ t ∷ more) = body_shuts q true true (map stmt_form (s ∷ t ∷ more))
+soft_by q (a ∷ attrs) stmts = body_shuts q true false (attrs_before (map attr_form (a ∷ attrs)) ++ map stmt_form stmts)
+
+soft_shuts : (q : Bool) (b : Block) → false ≡ ends_behind_point q (about_block b).soft
+soft_shuts q b = soft_by q b.attrs (map about_stmt b.stmts) ∙ sym (ap (λ (z : BlockFacts). ends_behind_point q z.soft) (block_is b))
+
+-- A label before it changes nothing.
+labelled_shuts : (q : Bool) (label : Option Lifetime) (f : Form) → ((r : Bool) → false ≡ ends_behind_point r f)
+    → false ≡ ends_behind_point q (labelled label f)
+labelled_shuts q None f shut = shut q
+labelled_shuts q (Some l) f shut = shut false
+
+-- a branch
+branch_shuts : (q : Bool) (b : Branch) → false ≡ ends_behind_point q (about_branch b).soft
+branch_shuts q b = soft_shuts q b.body ∙ sym (ap (λ (z : BranchFacts). ends_behind_point q z.soft) (branch_is b))
+
+-- further branches, and the block behind them
+more_end : (bs : List Branch) (q : Bool) (otherwise : Option Block) → false ≡ q
+    → false ≡ ends_behind_point q (more_branches (map about_branch bs) (else_branch_form (option_map about_block otherwise)))
+more_end [] q None e = e
+more_end [] q (Some b) e = soft_shuts false b
+more_end (b ∷ bs) q otherwise e = more_end bs _ otherwise (branch_shuts _ b)
+
+-- Branches end in a point that stands before them where there are none.
+branches_end : (q : Bool) (bs : List Branch)
+    → (q && (length bs == 0)) ≡ ends_behind_point q (branches_form (map about_branch bs) Done)
+branches_end true [] = refl
+branches_end false [] = refl
+branches_end q (b ∷ bs) = no_point q (length bs) ∙ more_end bs _ None (branch_shuts _ b)
+
+branches_shut : (q : Bool) (bs : List Branch) (b : Block)
+    → false ≡ ends_behind_point q (branches_form (map about_branch bs) (else_branch_form (Some (about_block b))))
+branches_shut q [] b = soft_shuts false b
+branches_shut q (x ∷ bs) b = more_end bs _ (Some b) (branch_shuts _ x)
+
+-- branches without an `else`, and with one
+pub if_point : (q : Bool) (x : Expr) (branches put : List Branch) (otherwise : Option Block) → x ≡ expr.If branches otherwise
+    → otherwise ≡ None → put ≡ branches → (q && (length put == 0)) ≡ ends q x
+if_point q x branches put otherwise is none same =
+    rw same (branches_end q branches
+    ∙ ends_is q x (expr.If branches None) _ (is ∙ ap (λ (o : Option Block). expr.If branches o) none) (expr_if_is branches None))
+
+pub else_point : (q : Bool) (x : Expr) (branches : List Branch) (otherwise : Option Block) (b : Block)
+    → x ≡ expr.If branches otherwise → otherwise ≡ Some b → false ≡ ends q x
+else_point q x branches otherwise b is some =
+    branches_shut q branches b
+    ∙ ends_is q x (expr.If branches (Some b)) _ (is ∙ ap (λ (o : Option Block). expr.If branches o) some)
+    (expr_if_is branches (Some b))
+
+-- a closure
+closure_by : (q moves : Bool) (params : List ClosureParam) (f : Form)
+    → ends_behind_point false f ≡ ends_behind_point q (closure_head moves params (Piece (Blank ∷ []) (Part f Done)))
+closure_by q true params f = refl
+closure_by q false params f = refl
+
+pub closure_point : (q : Bool) (x : Expr) (moves : Bool) (params : List ClosureParam) (inner put : Expr) (b : Bool)
+    → x ≡ expr.Closure moves params inner → put ≡ inner → b ≡ ends false put → b ≡ ends q x
+closure_point q x moves params inner put b is same h =
+    h ∙ ap (ends false) same ∙ closure_by q moves params (expr_told inner)
+    ∙ ends_is q x (expr.Closure moves params inner) _ is (expr_closure_is moves params inner)
+
+head_shuts : (q moves : Bool) (params : List ClosureParam) (bits : List Bit) (f : Form)
+    → ((r : Bool) → false ≡ ends_behind_point r (Piece bits f))
+    → false ≡ ends_behind_point q (closure_head moves params (Piece bits f))
+head_shuts q true params bits f shut = shut _
+head_shuts q false params bits f shut = shut _
+
 -- ---- what ends in no point whatever is in it
 
 -- It is none of the kinds that end in a part of theirs.
@@ -331,6 +436,8 @@ pub record Other (x : Expr) : Type 0 where
   pub not_range : (start : Option Expr) (i : Bool) (end : Option Expr) → x ≡ expr.Range start i end → ⊥
   pub not_assign : (targets : List (Expr × Op)) (value : Expr) → x ≡ expr.Assign targets value → ⊥
   pub not_postfix : (base : Expr) (steps : List Step) → x ≡ expr.Postfix base steps → ⊥
+  pub not_if : (branches : List Branch) (otherwise : Option Block) → x ≡ expr.If branches otherwise → ⊥
+  pub not_closure : (moves : Bool) (params : List ClosureParam) (inner : Expr) → x ≡ expr.Closure moves params inner → ⊥
   pub not_return : (operand : Option Expr) → x ≡ expr.Return operand → ⊥
   pub not_break : (label : Option Lifetime) (operand : Option Expr) → x ≡ expr.Break label operand → ⊥
 
@@ -357,6 +464,13 @@ label_shuts : (label : Option Lifetime) → false ≡ ends_behind_point false (l
 label_shuts None = refl
 label_shuts (Some l) = refl
 
+-- an `async` block
+async_shuts : (q moves : Bool) (b : Block)
+    → false ≡ ends_behind_point q (Piece (keyword (codes "async") ∷ [])
+    (when moves (Blank ∷ keyword (codes "move") ∷ []) (Part ((about_block b).form true) Done)))
+async_shuts q true b = block_shuts false true b
+async_shuts q false b = block_shuts false true b
+
 -- the kinds that are left, one by one
 other_by : (q : Bool) (x : Expr) → ExprView x → Other x → false ≡ ends q x
 other_by q _ (IsLit l) o = absurd (o.not_lit l refl)
@@ -367,6 +481,33 @@ other_by q _ (IsUnary ps operand) o = absurd (o.not_unary ps operand refl)
 other_by q _ (IsRange start i end) o = absurd (o.not_range start i end refl)
 other_by q _ (IsAssign targets value) o = absurd (o.not_assign targets value refl)
 other_by q _ (IsPostfix base steps) o = absurd (o.not_postfix base steps refl)
+other_by q _ (IsIf branches otherwise) o = absurd (o.not_if branches otherwise refl)
+other_by q _ (IsClosure moves params inner) o = absurd (o.not_closure moves params inner refl)
+other_by q _ (IsBlock label b) o =
+    labelled_shuts q label ((about_block b).form false) (λ r. block_shuts r false b)
+    ∙ ends_is q (expr.Block label b) (expr.Block label b) _ refl (expr_block_is label b)
+other_by q _ (IsUnsafe b) o =
+    soft_shuts false b ∙ ends_is q (expr.Unsafe b) (expr.Unsafe b) _ refl (expr_unsafe_is b)
+other_by q _ (IsConstBlock b) o =
+    soft_shuts false b ∙ ends_is q (expr.ConstBlock b) (expr.ConstBlock b) _ refl (expr_const_block_is b)
+other_by q _ (IsAsync moves b) o =
+    async_shuts q moves b ∙ ends_is q (expr.Async moves b) (expr.Async moves b) _ refl (expr_async_is moves b)
+other_by q _ (IsMatch x attrs arms) o =
+    body_shuts _ true false (map attr_form attrs ++ arm_forms (map about_arm arms))
+    ∙ ends_is q (expr.Match x attrs arms) (expr.Match x attrs arms) _ refl (expr_match_is x attrs arms)
+other_by q _ (IsLoop label b) o =
+    labelled_shuts q label _ (λ r. block_shuts false true b)
+    ∙ ends_is q (expr.Loop label b) (expr.Loop label b) _ refl (expr_loop_is label b)
+other_by q _ (IsWhile label pat x b) o =
+    labelled_shuts q label _ (λ r. block_shuts _ true b)
+    ∙ ends_is q (expr.While label pat x b) (expr.While label pat x b) _ refl (expr_while_is label pat x b)
+other_by q _ (IsFor label pat x b) o =
+    labelled_shuts q label _ (λ r. block_shuts _ true b)
+    ∙ ends_is q (expr.For label pat x b) (expr.For label pat x b) _ refl (expr_for_is label pat x b)
+other_by q _ (IsTypedClosure moves params output b) o =
+    head_shuts q moves params _ _ (λ r. block_shuts _ true b)
+    ∙ ends_is q (expr.TypedClosure moves params output b) (expr.TypedClosure moves params output b) _ refl
+    (expr_typed_closure_is moves params output b)
 other_by q _ (IsReturn operand) o = absurd (o.not_return operand refl)
 other_by q _ (IsBreak label operand) o = absurd (o.not_break label operand refl)
 other_by q _ IsUnderscore o = ends_is q expr.Underscore expr.Underscore _ refl expr_underscore_is

@@ -18,7 +18,8 @@ use Rattle.lay_node.specs.declared.token.Name.{Name}
 use Rattle.lay_node.specs.declared.types.Arg.{Arg}
 use Rattle.lay_node.specs.declared.types.Ty.{Ty}
 use Rattle.lay_tree.specs.Operators.{op_text}
-use Rattle.lay_tree.specs.nodes.Exprs.{ExprFacts, StepFacts, about_expr, about_step, args_form, break_if, expr_forms, generics_form, group_if, is_method, methods, operands_form, steps_form, targets_form, types_form}
+use Rattle.lay_tree.specs.nodes.Code.{about_expr, about_step}
+use Rattle.lay_tree.specs.nodes.Exprs.{ExprFacts, StepFacts, args_form, break_if, expr_forms, generics_form, group_if, is_method, methods, operands_form, steps_form, targets_form, types_form}
 use Rattle.lay_tree.specs.declared.exprs.Expr.{Expr}
 use Rattle.lay_tree.specs.declared.exprs.Expr.TheVariants as expr
 use Rattle.lay_tree.specs.declared.exprs.Step.{Step}

@@ -16,7 +16,8 @@ use Rattle.lay_node.specs.declared.attr.Attr.{Attr}
 use Rattle.lay_node.specs.declared.token.Name.{Name}
 use Rattle.lay_node.specs.declared.types.Path.{Path}
 use Rattle.lay_node.specs.declared.types.PathStyle.TheVariants.{Code}
-use Rattle.lay_tree.specs.nodes.Exprs.{about_expr, about_field_expr, base_form, end_form}
+use Rattle.lay_tree.specs.nodes.Code.{about_expr, about_field_expr}
+use Rattle.lay_tree.specs.nodes.Exprs.{base_form, end_form}
 use Rattle.lay_tree.specs.declared.exprs.Expr.{Expr}
 use Rattle.lay_tree.specs.declared.exprs.Expr.TheVariants as expr
 use Rattle.lay_tree.specs.declared.exprs.FieldExpr.{FieldExpr}

@@ -6,7 +6,8 @@ use Rattle.lay_form.specs.Form.{Form, Done}
 use Rattle.lay_form.specs.Layout.{text_of_bits}
 use Rattle.lay_form.specs.Notation.{braces}
 use Rattle.lay_form.specs.Stream.{fed}
-use Rattle.lay_tree.specs.nodes.Exprs.{ExprFacts, about_expr, about_field_expr, base_form, end_form, prefix_bits}
+use Rattle.lay_tree.specs.nodes.Code.{about_expr, about_field_expr}
+use Rattle.lay_tree.specs.nodes.Exprs.{ExprFacts, base_form, end_form, prefix_bits}
 use Rattle.lay_tree.specs.declared.exprs.Expr.{Expr}
 use Rattle.lay_tree.specs.declared.exprs.FieldExpr.{FieldExpr}
 use Rattle.lay_tree.specs.declared.operators.Op.{Op}

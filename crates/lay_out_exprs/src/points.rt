@@ -4,7 +4,8 @@ ghost use Rattle.lay_form.specs.Form.{Done};
 ghost use Rattle.lay_form.specs.Layout.{ends_behind_point};
 ghost use Rattle.lay_node.specs.nodes.Types.{about_path};
 ghost use Rattle.lay_node.specs.declared.types.PathStyle.TheVariants.{Code};
-ghost use Rattle.lay_tree.specs.nodes.Exprs.{about_expr, end_form};
+ghost use Rattle.lay_tree.specs.nodes.Code.{about_expr};
+ghost use Rattle.lay_tree.specs.nodes.Exprs.{end_form};
 
 use crate::flags::both;
 use lay_out_types::is_pointed;
@@ -36,6 +37,14 @@ pub fn ends_in_point(point: bool, node: &Expr) -> bool
         Expr::Postfix { base, steps } => {
             steps.as_slice().is_empty() && ends_in_point(point, base.get())
         },
+        Expr::If {
+            branches,
+            otherwise,
+        } => match otherwise {
+            None => both(point, branches.as_slice().is_empty()),
+            Some(_) => false,
+        },
+        Expr::Closure { body, .. } => ends_in_point(false, body.get()),
         Expr::Return { operand } => operand_ends_in_point(false, operand),
         Expr::Break { operand, .. } => operand_ends_in_point(false, operand),
         _ => false,

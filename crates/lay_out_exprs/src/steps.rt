@@ -5,7 +5,8 @@ ghost use Rattle.lay_layout.specs.Machine.{IsNested};
 ghost use Rattle.lay_layout.specs.declared.layout.Tok.TheVariants as tok;
 ghost use Rattle.lay_form.specs.Form.{Soft};
 ghost use Rattle.lay_form.specs.Layout.{break_of};
-ghost use Rattle.lay_tree.specs.nodes.Exprs.{about_step, is_method, methods};
+ghost use Rattle.lay_tree.specs.nodes.Code.{about_step};
+ghost use Rattle.lay_tree.specs.nodes.Exprs.{is_method, methods};
 ghost use Rattle.lay_out_exprs.specs.Parts.{steps_closed};
 ghost use Rattle.lay_out_types.specs.Calls.{Adds};
 

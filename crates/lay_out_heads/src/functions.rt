@@ -126,8 +126,8 @@ fn add_param_kind<E: Emit>(
     }
 }
 
-/// The type of a receiver, if it has one.
-fn add_self_type<E: Emit>(
+/// A type behind its `:`, if there is one: that of a receiver, of a binding, or of a parameter of a closure.
+pub fn add_self_type<E: Emit>(
     out: &mut E,
     before: Result<(), E::Fault>,
     ty: &Option<Ty>,

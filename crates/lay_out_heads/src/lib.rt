@@ -18,7 +18,7 @@ mod uses;
 mod vis;
 
 pub use fields::{put_fields, put_variant};
-pub use functions::put_fn_head;
+pub use functions::{add_self_type, put_fn_head};
 pub use heads::{put_impl_head, put_trait_head, put_value_head};
 pub use items::{put_alias, put_enum, put_extern_crate, put_struct, put_union};
 pub use uses::put_use;

@@ -8,12 +8,12 @@ use Rattle.lay_node.specs.declared.heads.Site.TheVariants.{Module}
 use Rattle.lay_node.proofs.Steps.{bind_some, got_same}
 use Rattle.lay_tree.specs.Reading.{top}
 use Rattle.lay_tree.specs.reader.File.{front, longest, longest_from, top_item}
-use Rattle.lay_tree.specs.reader.Item.{item_at}
+use Rattle.lay_tree.specs.reader.Code.{item_at}
 use Rattle.lay_tree.specs.declared.item.Item.{Item}
 use Rattle.lay_tree.proofs.reader.Longest.{longest_end}
 use Rattle.lay_read_tokens.proofs.Left.{shorter}
 use Rattle.lay_read_code.specs.Answers.{IsNext}
-use Rattle.lay_read_code.proofs.Left.{item_left}
+use Rattle.lay_read_blocks.proofs.Left.{item_left}
 
 -- So many turns suffice, and make this of what is found.
 pub record Turn {A : Type 0} (one : Tokens → Got A) (whole : List A × Tokens) (found : List A) (ts : Tokens) : Type 0 where

@@ -1,21 +1,23 @@
 -- One step of a reader, from what the readers within it give.
-use Rattle.std.proofs.Common.{◌≡◌, ℕ, ◌+◌, ◌-◌, ◌<◌, ◌||◌, add-one, Bool, true, false, List, Some, None, Result, Ok, Err, MatchResult, refl, sym, subst, ◌∙◌, ap, if◌then◌else◌, is_some, suc, arith}
+use Rattle.std.proofs.Common.{◌≡◌, ℕ, zero, ◌+◌, ◌-◌, ◌<◌, ◌||◌, add-one, Bool, true, false, List, Some, None, Result, Ok, Err, refl, sym, subst, ◌∙◌, ap, if◌then◌else◌, is_some, suc, arith}
 use Rattle.lay_node.specs.Ahead.{Tokens}
 use Rattle.lay_node.specs.reader.Attr.{attributes}
-use Rattle.lay_node.specs.reader.Loops.{Read}
 use Rattle.lay_node.specs.declared.attr.Attr.{Attr}
 use Rattle.lay_node.specs.reader.Vis.{visibility}
 use Rattle.lay_node.specs.declared.heads.Site.{Site}
 use Rattle.lay_node.specs.declared.vis.Vis.{Vis}
-use Rattle.lay_tree.specs.reader.Exprs.{expr_at, expr_by, expr_in}
-use Rattle.lay_tree.specs.reader.Item.{item_at, item_by, kind_at}
-use Rattle.lay_tree.specs.nodes.Item.{is_inherited, told_of_kind}
+use Rattle.lay_tree.specs.reader.Code.{code_in, deeper_block, expr_at, item_at}
+use Rattle.lay_tree.specs.reader.Exprs.{expr_by}
+use Rattle.lay_tree.specs.reader.Item.{item_by, kind_at}
+use Rattle.lay_tree.specs.nodes.Code.{told_of_kind}
+use Rattle.lay_tree.specs.nodes.Item.{is_inherited}
 use Rattle.lay_tree.proofs.nodes.ItemLaws as laws
 use Rattle.lay_tree.proofs.nodes.ItemLaws.{KindView, IsExternCrate, IsImport, IsFileModule, IsModule, IsFunction, IsAlias, IsStruct, IsUnion, IsEnum, IsValue, IsTrait, IsImpl, IsForeign, IsRules, IsCall}
+use Rattle.lay_tree.specs.declared.blocks.Block.{Block}
 use Rattle.lay_tree.specs.declared.exprs.Place.{Place}
 use Rattle.lay_tree.specs.declared.item.Item.{Item}
 use Rattle.lay_tree.specs.declared.item.ItemKind.{ItemKind}
-use Rattle.lay_read_tokens.specs.Answers.{IsFound, Stopped}
+use Rattle.lay_read_tokens.specs.Answers.{IsFound}
 use Rattle.lay_read_tokens.specs.declared.found.Found.{Found}
 use Rattle.lay_read_tokens.specs.declared.stop.ReadNone.{ReadNone}
 use Rattle.lay_read_tokens.specs.declared.stop.ReadNone.TheVariants.{NoReading}
@@ -23,24 +25,13 @@ use Rattle.lay_read_code.specs.Answers.{has_head}
 use Rattle.lay_read_code.specs.Begun.{deeper as within_depth}
 use Rattle.lay_head_rules.proofs.UseSteps.{deeper}
 use Rattle.lay_read_types.proofs.Steps.{above_zero}
-use Rattle.lay_read_exprs.specs.Answers.{exprs_within}
-
--- ---- what was found behind something else
-
-module _ {A B : Type 0} (read : Read B) (first : A) (rest : Tokens) where
-  pub second_stopped : (r : Result (Found B) ReadNone) (none : ReadNone)
-      → MatchResult r (λ b. ◌≡◌ {A = Result (A × Found B) ReadNone} (Err none) (Ok (first, b))) (λ e. ◌≡◌ {A = Result (A × Found B) ReadNone} (Err none) (Err e))
-      → IsFound read r rest → Stopped read none
-  second_stopped (Ok b) none m h = absurd (cc)
-  second_stopped (Err e) none m h = let same : none ≡ e = cc in rw same h
-
-  pub second_found : (r : Result (Found B) ReadNone) (a : A) (b : Found B)
-      → MatchResult r (λ x. ◌≡◌ {A = Result (A × Found B) ReadNone} (Ok (a, b)) (Ok (first, x))) (λ e. ◌≡◌ {A = Result (A × Found B) ReadNone} (Ok (a, b)) (Err e))
-      → IsFound read r rest → (a ≡ first) × (read ≡ Some ((b.node, b.need), rest))
-  second_found (Ok x) a b m h =
-      let pair : ◌≡◌ {A = A × Found B} (a, b) (first, x) = cc in
-      (ap (λ p. p.0) pair, rw (ap (λ p. p.1) pair) h)
-  second_found (Err e) a b m h = absurd (cc)
+use Rattle.lay_node.specs.reader.Functions.{insides}
+use Rattle.lay_node.specs.reader.Use.{use_at}
+use Rattle.lay_fronts.specs.ArmFronts.{alone_arm}
+use Rattle.lay_fronts.specs.Fronts.{alone, stmt_alone}
+use Rattle.lay_tree.specs.reader.Blocks.{block_by}
+use Rattle.lay_read_blocks.specs.Answers.{code_within, deeper_arm, deeper_stmt}
+use Rattle.lay_read_blocks.proofs.Left.{code_is}
 
 -- ---- items
 
@@ -53,7 +44,7 @@ headed_is kind = by kind (laws.kind_view kind)
     by _ (IsImport tree) = rw (laws.import_is tree) refl
     by _ (IsFileModule name) = rw (laws.file_module_is name) refl
     by _ (IsModule name attrs items) = rw (laws.module_is name attrs items) refl
-    by _ (IsFunction head wheres) = rw (laws.function_is head wheres) refl
+    by _ (IsFunction head wheres body) = rw (laws.function_is head wheres body) refl
     by _ (IsAlias x) = rw (laws.alias_is x) refl
     by _ (IsStruct x) = rw (laws.struct_is x) refl
     by _ (IsUnion x) = rw (laws.union_is x) refl
@@ -67,13 +58,15 @@ headed_is kind = by kind (laws.kind_view kind)
 
 module _ (at : Site) (depth : ℕ) (ts : Tokens) where
   pub item_nowhere : depth ≡ 0 → item_at at depth ts ≡ None
-  unfolding item_at
+  unfolding code_in
   item_nowhere e = ap (λ n. item_at at n ts) e
 
   module _ (some : 0 < depth) where
     item_step : item_at at depth ts ≡ item_by at (within_depth (depth - 1)) ts
-    unfolding item_at
+    unfolding code_in
     item_step = deeper (λ n. item_at at n ts) depth some
+        ∙ ap (λ w. item_by at (record { items = (code_in (depth - 1)).items; trees = use_at (depth - 1); heads = insides (depth - 1); code = w }) ts)
+        (code_is (depth - 1))
 
     pub item_no_attrs : attributes false ts ≡ None → item_at at depth ts ≡ None
     unfolding item_by
@@ -106,10 +99,46 @@ module _ (at : Site) (depth : ℕ) (ts : Tokens) where
 
 -- ---- expressions
 
+pub expr_nowhere : (place : Place) (n : ℕ) (ts : Tokens) → n ≡ 0 → expr_at place n ts ≡ None
+unfolding code_in
+expr_nowhere place n ts e = ap (λ (k : ℕ). expr_at place k ts) e
+
+pub block_nowhere : (n : ℕ) (ts : Tokens) → n ≡ 0 → (code_in n).blocks ts ≡ None
+unfolding code_in
+block_nowhere n ts e = ap (λ (k : ℕ). (code_in k).blocks ts) e
+
 -- An expression within a depth that is no zero is read by the rules of the level.
 pub expr_deeper : (place : Place) (n : ℕ) (ts : Tokens) → 0 < n
-    → expr_at place n ts ≡ expr_by (exprs_within (n - 1)) (n - 1 + 1) place ts
-unfolding expr_in
+    → expr_at place n ts ≡ expr_by (code_within (n - 1)) (n - 1 + 1) place ts
+unfolding code_in
 expr_deeper place n ts some =
     let e : n - 1 + 1 ≡ suc (n - 1) = omega arith in
-    above_zero (λ (k : ℕ). expr_at place k ts) n some ∙ ap (λ (k : ℕ). expr_by (exprs_within (n - 1)) k place ts) (sym e)
+    above_zero (λ (k : ℕ). expr_at place k ts) n some ∙ ap (λ w. expr_by w (suc (n - 1)) place ts) (code_is (n - 1))
+    ∙ ap (λ (k : ℕ). expr_by (code_within (n - 1)) k place ts) (sym e)
+
+-- A block within a depth that is no zero is read by the rules of the level, one level deeper.
+block_deeper : (n : ℕ) (ts : Tokens) → 0 < n → (code_in n).blocks ts ≡ deeper_block (code_within (n - 1)) ts
+unfolding code_in
+block_deeper n ts some =
+    above_zero (λ (k : ℕ). (code_in k).blocks ts) n some ∙ ap (λ w. deeper_block w ts) (code_is (n - 1))
+
+pub block_found : (n : ℕ) (ts : Tokens) (r : Result (Found Block) ReadNone) (left : Tokens) → 0 < n
+    → IsFound (deeper_block (code_within (n - 1)) ts) r left → IsFound ((code_in n).blocks ts) r left
+block_found n ts r left some h = rw (block_deeper n ts some) h
+
+-- ---- blocks, statements and arms by themselves
+
+pub blocks_alone : (depth : ℕ) (ts : Tokens) → (code_in depth).blocks ts ≡ alone block_by depth ts
+unfolding code_in
+blocks_alone zero ts = refl
+blocks_alone (suc depth) ts = refl
+
+pub stmt_alone_is : (depth : ℕ) (ts : Tokens) → 0 < depth → alone stmt_alone depth ts ≡ deeper_stmt (code_within (depth - 1)) ts
+stmt_alone_is depth ts some =
+    let e : depth ≡ suc (depth - 1) = omega arith in
+    ap (λ d. alone stmt_alone d ts) e ∙ ap (λ within. deeper_stmt within ts) (code_is (depth - 1))
+
+pub arm_alone_is : (depth : ℕ) (ts : Tokens) → 0 < depth → alone_arm depth ts ≡ deeper_arm (code_within (depth - 1)) (depth - 1) ts
+arm_alone_is depth ts some =
+    let e : depth ≡ suc (depth - 1) = omega arith in
+    ap (λ d. alone_arm d ts) e ∙ ap (λ within. deeper_arm within (depth - 1) ts) (code_is (depth - 1))

@@ -1,16 +1,20 @@
 -- What readers answer.
-use Rattle.std.specs.Prelude.{ℕ, ◌≡◌, Bool, true, false, List, Option, Some, None, Result, Ok, Err}
+use Rattle.std.specs.Prelude.{ℕ, zero, suc, nat_le, if◌then◌else◌, ◌≡◌, Bool, true, false, List, Option, Some, None, Result, Ok, Err}
 use Rattle.lay_text.specs.declared.refusal.FormatError.{FormatError}
 use Rattle.lay_text.specs.declared.refusal.FormatError.TheVariants as format
 use Rattle.lay_text.specs.declared.refusal.NoMemory.{NoMemory}
 use Rattle.lay_text.specs.declared.refusal.Refusal.TheVariants.{NoItem}
 use Rattle.lay_token.specs.declared.token.Token.{Token}
 use Rattle.lay_node.specs.Ahead.{Tokens}
-use Rattle.lay_node.specs.reader.Loops.{Got}
+use Rattle.lay_node.specs.reader.Loops.{Got, Read, ◌>>=◌}
 use Rattle.lay_tree.specs.Reading.{NoItemAt, SpellsFile}
+use Rattle.lay_tree.specs.reader.Within.{ExprWithin}
 use Rattle.lay_tree.specs.declared.file.File.{File}
 use Rattle.lay_tree.specs.declared.item.ItemKind.{ItemKind}
 use Rattle.lay_tree.specs.declared.item.ItemKind.TheVariants as item
+use Rattle.lay_read_tokens.specs.declared.stop.ReadNone.{ReadNone}
+use Rattle.lay_read_tokens.specs.declared.stop.ReadNone.TheVariants as stop
+use Rattle.lay_read_blocks.specs.Answers.{code_within}
 
 -- What was read one by one, and what is left, is this run; memory may always be wanting.
 abbrev pub IsRun : {A : Type 0} → A × Tokens → Result A NoMemory → Tokens → Type 0

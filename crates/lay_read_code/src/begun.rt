@@ -1,12 +1,8 @@
 //! Items up to their bodies.
-ghost use Rattle.std.specs.Prelude.{◌≡◌, ◌≤◌, codes, drop, IfOk};
-ghost use Rattle.lay_token.specs.Operators.{is_op};
+ghost use Rattle.std.specs.Prelude.{◌≡◌, ◌≤◌, IfOk};
 ghost use Rattle.lay_node.specs.reader.Exact.{needless};
 ghost use Rattle.lay_node.specs.reader.Heads as heads;
-ghost use Rattle.lay_node.specs.reader.Types.{if_read, within};
-ghost use Rattle.lay_tree.specs.nodes.Item as nodes;
-ghost use Rattle.lay_tree.specs.nodes.Places.{FREE as free};
-ghost use Rattle.lay_tree.specs.reader.Exprs.{expr_at};
+ghost use Rattle.lay_node.specs.reader.Types.{within};
 ghost use Rattle.lay_tree.specs.reader.Item as reader;
 ghost use Rattle.lay_tree.specs.declared.item.ItemKind.TheVariants as item;
 ghost use Rattle.lay_read_tokens.specs.Answers.{IsFound};
@@ -14,7 +10,6 @@ ghost use Rattle.lay_read_code.specs.Begun as bodies;
 ghost use Rattle.lay_read_code.specs.Begun.{deeper, node_alone, whole};
 ghost use Rattle.lay_read_code.specs.Leads.{told};
 
-use crate::exprs::expr_ahead;
 use crate::leads::{ItemLead, item_lead, may_stand};
 use lay_head_rules::functions::fn_head_ahead;
 use lay_head_rules::heads::{
@@ -23,21 +18,17 @@ use lay_head_rules::heads::{
 };
 use lay_head_rules::level::{kept_if, takes_flag};
 use lay_head_rules::uses::use_ahead;
-use lay_read_exprs::places::FREE;
 use lay_read_generics::wheres_ahead;
 use lay_read_parts::joins::both;
 use lay_read_parts::parts::read_abi_if;
 use lay_read_tokens::calls::{call_ahead, takes_end};
 use lay_read_tokens::found::greater;
-use lay_read_tokens::front::{pass_two, takes_keyword, takes_mark, takes_op};
+use lay_read_tokens::front::{pass_two, takes_keyword, takes_mark};
 use lay_read_tokens::names::read_name;
 use lay_read_tokens::stop::boxed;
 use lay_read_tokens::tokens::read_group;
 use lay_read_tokens::{Ahead, Found, ReadNone};
-use lay_token::List;
-use lay_tree::{
-    Attr, Expr, ImplHead, Item, ItemKind, Literal, Name, Site, TraitHead, ValueHead, Wheres,
-};
+use lay_tree::{FnHead, ImplHead, ItemKind, Literal, Name, Site, TraitHead, ValueHead, Wheres};
 use std::alloc::Global;
 
 /// An item up to its body, or the whole item where it has none.
@@ -60,6 +51,13 @@ pub enum Begun {
     Foreign {
         is_unsafe: bool,
         abi: Option<Literal>,
+    },
+    Function {
+        head: FnHead,
+        wheres: Wheres,
+    },
+    Value {
+        head: ValueHead,
     },
 }
 
@@ -101,7 +99,7 @@ fn begun_by(
         ItemLead::Struct => begin_struct(alloc, at, depth),
         ItemLead::Union => begin_union(alloc, at, depth),
         ItemLead::Enum => begin_enum(alloc, at, depth),
-        ItemLead::Value => begin_value(alloc, at, site, depth),
+        ItemLead::Value => begin_value(alloc, at, depth),
         ItemLead::Trait => begin_trait(alloc, at, depth),
         ItemLead::Impl => begin_impl(alloc, at, depth),
         ItemLead::Foreign => begin_foreign(alloc, at),
@@ -164,25 +162,25 @@ fn begin_module(alloc: Global, at: &mut Ahead<'_>) -> Result<Found<Begun>, ReadN
     }
 }
 
-/// A function without a body.
-#[tactic(auto, unfolding(lay_tree::specs::reader::Item::function_by))]
+/// A function, up to its body.
 fn begin_function(
     alloc: Global,
     at: &mut Ahead<'_>,
     site: Site,
     depth: u32,
 ) -> Result<Found<Begun>, ReadNone>
-    ensures read { IsFound (whole (reader.function_by site (deeper depth) at.old)) result at.new }
+    ensures read { IsFound (bodies.function_begun site (deeper depth) at.old) result at.new }
     ensures within { IfOk result (λ found. found.need ≤ depth) }
 {
     let head = fn_head_ahead(alloc, at, site, depth)?;
     let (head, wheres) = both(head, wheres_ahead(alloc, at, depth))?;
-    let keeps = takes_mark(at, b";");
-    let kind = ItemKind::Function {
-        head: head.node,
-        wheres: wheres.node.0,
-    };
-    kept_if(whole_item(kind, greater(head.need, wheres.need)), keeps)
+    Ok(Found {
+        need: greater(head.need, wheres.need),
+        node: Begun::Function {
+            head: head.node,
+            wheres: wheres.node.0,
+        },
+    })
 }
 
 /// A type alias.
@@ -226,62 +224,16 @@ fn begin_enum(alloc: Global, at: &mut Ahead<'_>, depth: u32) -> Result<Found<Beg
     Ok(whole_item(ItemKind::Enum { item: item.node }, item.need))
 }
 
-/// Whether a constant or a static may have a value, or may lack it.
-fn may_be_valued(site: Site, head: &ValueHead, valued: bool) -> bool
-    ensures { result ≡ nodes.may_be_valued site head.now valued }
-{
-    let constant = matches!(head, ValueHead::Const { .. });
-    match (site, valued) {
-        (Site::Module, valued) => valued,
-        (Site::Member, valued) => valued && constant,
-        (Site::TraitMember, _) => constant,
-        (Site::Foreign, valued) => !valued && !constant,
-    }
-}
-
-/// A value, if one stands there.
-fn value_if(alloc: Global, at: &mut Ahead<'_>, depth: u32) -> Result<Found<Option<Expr>>, ReadNone>
-    ensures read { IsFound (if_read (is_op (codes "=") at.old) (λ ts. expr_at free depth (drop 1 ts)) at.old) result at.new }
-    ensures within { IfOk result (λ found. found.need ≤ depth) }
-{
-    if !takes_op(at, b"=") {
-        return Ok(Found {
-            node: None,
-            need: 0,
-        });
-    }
-    let value = expr_ahead(alloc, at, FREE, depth)?;
-    Ok(Found {
-        node: Some(value.node),
-        need: value.need,
-    })
-}
-
-/// A constant or a static, with its value if it has one.
-#[tactic(auto, unfolding(lay_tree::specs::reader::Item::value_by))]
-fn begin_value(
-    alloc: Global,
-    at: &mut Ahead<'_>,
-    site: Site,
-    depth: u32,
-) -> Result<Found<Begun>, ReadNone>
-    ensures read { IsFound (whole (reader.value_by site (deeper depth) at.old)) result at.new }
+/// A constant or a static, up to its value.
+fn begin_value(alloc: Global, at: &mut Ahead<'_>, depth: u32) -> Result<Found<Begun>, ReadNone>
+    ensures read { IsFound (bodies.value_begun (deeper depth) at.old) result at.new }
     ensures within { IfOk result (λ found. found.need ≤ depth) }
 {
     let head = value_head_ahead(alloc, at, depth)?;
-    let (head, value) = both(head, value_if(alloc, at, depth))?;
-    let ended = takes_mark(at, b";");
-    let keeps = ended && may_be_valued(site, &head.node, value.node.is_some());
-    kept_if(
-        whole_item(
-            ItemKind::Value {
-                head: head.node,
-                value: value.node,
-            },
-            greater(head.need, value.need),
-        ),
-        keeps,
-    )
+    Ok(Found {
+        need: head.need,
+        node: Begun::Value { head: head.node },
+    })
 }
 
 /// A trait, up to its body.
@@ -317,7 +269,7 @@ fn begin_impl(alloc: Global, at: &mut Ahead<'_>, depth: u32) -> Result<Found<Beg
 }
 
 /// A foreign block, up to its body.
-#[tactic(auto, using(crate::proofs::Bodies::foreign_is))]
+#[tactic(auto, using(crate::proofs::ItemBodies::foreign_is))]
 fn begin_foreign(alloc: Global, at: &mut Ahead<'_>) -> Result<Found<Begun>, ReadNone>
     ensures read { IsFound (bodies.foreign_begun at.old) result at.new }
     ensures within { IfOk result (λ found. found.need ≡ 0) }
@@ -362,46 +314,5 @@ fn begin_call(alloc: Global, at: &mut Ahead<'_>) -> Result<Found<Begun>, ReadNon
         Ok(whole_item(ItemKind::Call { call }, 0))
     } else {
         Err(ReadNone::NoReading)
-    }
-}
-
-/// The site of what stands in the body, where there is one.
-pub fn members(begun: &Begun) -> Option<Site>
-    ensures { result ≡ bodies.members begun.now }
-{
-    match begun {
-        Begun::Whole { .. } => None,
-        Begun::Module { .. } => Some(Site::Module),
-        Begun::Trait { .. } => Some(Site::TraitMember),
-        Begun::Impl { .. } => Some(Site::Member),
-        Begun::Foreign { .. } => Some(Site::Foreign),
-    }
-}
-
-/// An item with what stands in its body, if it has one.
-pub fn with_body(begun: Begun, attrs: List<Attr>, items: List<Item>) -> ItemKind
-    ensures { result ≡ bodies.with_body begun attrs items }
-{
-    match begun {
-        Begun::Whole { kind } => kind,
-        Begun::Module { name } => ItemKind::Module { name, attrs, items },
-        Begun::Trait { head, wheres } => ItemKind::Trait {
-            head,
-            wheres,
-            attrs,
-            items,
-        },
-        Begun::Impl { head, wheres } => ItemKind::Impl {
-            head,
-            wheres,
-            attrs,
-            items,
-        },
-        Begun::Foreign { is_unsafe, abi } => ItemKind::Foreign {
-            is_unsafe,
-            abi,
-            attrs,
-            items,
-        },
     }
 }

@@ -6,7 +6,7 @@ ghost use Rattle.lay_tree.specs.reader.File.{front, longest, top_item};
 ghost use Rattle.lay_read_tokens.specs.Answers.{AreLexed};
 ghost use Rattle.lay_read_code.specs.Answers.{FileAs, IsNext, IsRun};
 
-use crate::items::item_ahead;
+use crate::knot::item_ahead;
 use lay_nest::{Cursor, Nested};
 use lay_read_tokens::{Ahead, ReadNone, read_attr};
 use lay_token::{FormatError, List, NoMemory, Refusal, Text};

@@ -2,14 +2,15 @@
 ghost use Rattle.std.specs.Prelude.{◌≡◌};
 ghost use Rattle.lay_node.specs.Ahead.{first, tail};
 ghost use Rattle.lay_node.specs.reader.Functions as functions;
-ghost use Rattle.lay_tree.specs.nodes.Item.{in_module, may_lack_body};
-ghost use Rattle.lay_tree.specs.reader.Item as reader;
+ghost use Rattle.lay_tree.specs.nodes.Item.{in_module};
+ghost use Rattle.lay_tree.specs.reader.Item.{may_stand};
+ghost use Rattle.lay_tree.specs.reader.ItemLeads as reader;
 ghost use Rattle.lay_read_code.specs.Leads.{led_by, lead_of_word, may_lead_function, told};
 
 use lay_head_rules::level::takes_flag;
+use lay_read_blocks::front::{begins_rules, begins_union};
 use lay_read_tokens::Ahead;
-use lay_read_tokens::front::{is_at_keyword, pass, takes_keyword, takes_op};
-use lay_read_tokens::names::is_at_name;
+use lay_read_tokens::front::{is_at_keyword, pass, takes_keyword};
 use lay_token::Kind;
 use lay_tree::Site;
 
@@ -180,22 +181,6 @@ fn macro_lead(at: &Ahead<'_>) -> ItemLead
     }
 }
 
-/// Whether a union begins at the front: `union` before a name.
-fn begins_union(at: &Ahead<'_>) -> bool
-    ensures { result ≡ reader.begins_union at.now }
-{
-    let mut behind = at.fork();
-    takes_keyword(&mut behind, b"union") && is_at_name(&behind)
-}
-
-/// Whether a macro is declared at the front: `macro_rules` before a `!` and a name.
-fn begins_rules(at: &Ahead<'_>) -> bool
-    ensures { result ≡ reader.begins_rules at.now }
-{
-    let mut behind = at.fork();
-    takes_keyword(&mut behind, b"macro_rules") && takes_op(&mut behind, b"!") && is_at_name(&behind)
-}
-
 /// Whether an item stands in a file or in a module.
 fn in_module(site: Site) -> bool
     ensures { result ≡ in_module site }
@@ -203,20 +188,13 @@ fn in_module(site: Site) -> bool
     matches!(site, Site::Module)
 }
 
-/// Whether a function may lack its body.
-fn may_lack_body(site: Site) -> bool
-    ensures { result ≡ may_lack_body site }
-{
-    matches!(site, Site::TraitMember | Site::Foreign)
-}
-
-/// Whether an item with this lead may stand at the site. Of an alias and of a value what is behind the lead decides.
+/// Whether an item with this lead may stand at the site. Of a function, an alias and a value what is behind the lead
+/// decides.
 pub fn may_stand(site: Site, lead: ItemLead) -> bool
-    ensures { result ≡ reader.may_stand site (told lead) }
+    ensures { result ≡ may_stand site (told lead) }
 {
     match lead {
-        ItemLead::Function => may_lack_body(site),
-        ItemLead::Alias | ItemLead::Value | ItemLead::Call => true,
+        ItemLead::Function | ItemLead::Alias | ItemLead::Value | ItemLead::Call => true,
         _ => in_module(site),
     }
 }

@@ -1,17 +1,19 @@
 //! What stands at the front of the tokens of a text.
 ghost use Rattle.lay_node.specs.nodes.Facts.{Front};
-ghost use Rattle.lay_tree.specs.nodes.Exprs.{ExprFront, about_expr};
-ghost use Rattle.lay_tree.specs.nodes.Item.{about_item};
+ghost use Rattle.lay_tree.specs.nodes.Code.{about_expr, about_item};
+ghost use Rattle.lay_tree.specs.nodes.Exprs.{ExprFront};
 ghost use Rattle.lay_tree.specs.declared.exprs.Expr.{Expr as ExprValue};
 ghost use Rattle.lay_tree.specs.declared.item.Item.{Item as ItemValue};
-ghost use Rattle.lay_read_tokens.specs.Answers.{AreLexed};
+ghost use Rattle.lay_fronts.specs.ArmFronts.{ArmFront, alone_arm};
+ghost use Rattle.lay_fronts.specs.Fronts.{BlockFront, StmtFront, alone, stmt_alone};
+ghost use Rattle.lay_read_tokens.specs.Answers.{AreLexed, IsFound};
 ghost use Rattle.lay_read_parts.specs.Answers.{IsReadAt};
 
-use crate::exprs::expr_ahead;
-use crate::items::item_ahead;
+use crate::knot::{block_ahead, expr_ahead, item_ahead};
 use lay_nest::Cursor;
-use lay_read_tokens::{Ahead, ReadNone};
-use lay_tree::{Expr, Item, Place, Site};
+use lay_read_blocks::BlockRules;
+use lay_read_tokens::{Ahead, Found, ReadNone};
+use lay_tree::{Arm, Block, Expr, Item, Place, Site, Stmt};
 use std::alloc::Global;
 
 /// The expression at the front, at its place and within the depth. Where there is none the cursor stays.
@@ -44,4 +46,74 @@ pub fn read_item(
     let found = item_ahead(alloc, &mut ahead, site, depth)?;
     *at = ahead.into_cursor();
     Ok(found.node)
+}
+
+/// The block at the front, within the depth. What is within it stands one level deeper. Where there is none the cursor
+/// stays.
+pub fn read_block(alloc: Global, at: &mut Cursor<'_>, depth: u32) -> Result<Block, ReadNone>
+    requires { AreLexed at.old }
+    ensures { IsReadAt depth BlockFront at.old result at.new }
+{
+    let mut ahead = Ahead::new(at.fork());
+    let found = block_ahead(alloc, &mut ahead, depth)?;
+    *at = ahead.into_cursor();
+    Ok(found.node)
+}
+
+/// The statement at the front, within the depth. What is within it stands one level deeper. An expression without a `;` that
+/// neither is block-like nor a macro call in braces is one only where no token follows. Where there is none the cursor stays.
+pub fn read_stmt(alloc: Global, at: &mut Cursor<'_>, depth: u32) -> Result<Stmt, ReadNone>
+    requires { AreLexed at.old }
+    ensures { IsReadAt depth StmtFront at.old result at.new }
+{
+    let mut ahead = Ahead::new(at.fork());
+    let found = stmt_ahead(alloc, &mut ahead, depth)?;
+    *at = ahead.into_cursor();
+    Ok(found.node)
+}
+
+/// The arm of a match at the front, within the depth. What is within it stands one level deeper. A comma behind it is its own;
+/// it may lack that where its body lets it, and where no token follows. Where there is none the cursor stays.
+pub fn read_arm(alloc: Global, at: &mut Cursor<'_>, depth: u32) -> Result<Arm, ReadNone>
+    requires { AreLexed at.old }
+    ensures { IsReadAt depth ArmFront at.old result at.new }
+{
+    let mut ahead = Ahead::new(at.fork());
+    let found = arm_ahead(alloc, &mut ahead, depth)?;
+    *at = ahead.into_cursor();
+    Ok(found.node)
+}
+
+/// A statement by itself, within a depth.
+fn stmt_ahead(alloc: Global, at: &mut Ahead<'_>, depth: u32) -> Result<Found<Stmt>, ReadNone>
+    ensures { IsFound (alone stmt_alone depth at.old) result at.new }
+{
+    if depth == 0 {
+        return Err(ReadNone::NoReading);
+    }
+    let rules = BlockRules {
+        alloc,
+        depth: depth - 1,
+        exprs: expr_ahead,
+        blocks: block_ahead,
+        items: item_ahead,
+    };
+    rules.deeper_stmt(at)
+}
+
+/// An arm by itself, within a depth.
+fn arm_ahead(alloc: Global, at: &mut Ahead<'_>, depth: u32) -> Result<Found<Arm>, ReadNone>
+    ensures { IsFound (alone_arm depth at.old) result at.new }
+{
+    if depth == 0 {
+        return Err(ReadNone::NoReading);
+    }
+    let rules = BlockRules {
+        alloc,
+        depth: depth - 1,
+        exprs: expr_ahead,
+        blocks: block_ahead,
+        items: item_ahead,
+    };
+    rules.deeper_arm(at)
 }

@@ -1,4 +1,4 @@
-pub mod Left
 pub mod Steps
 pub mod Digits
+pub mod Budgets
 mod Climbing

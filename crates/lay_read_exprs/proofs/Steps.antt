@@ -3,9 +3,10 @@ use Rattle.std.proofs.Common.{◌≡◌, ℕ, suc, ◌+◌, Bool, true, false, [
 use Rattle.std.proofs.lemmas.List.{drop-drop}
 use Rattle.lay_node.specs.Ahead.{Tokens, tail}
 use Rattle.lay_tree.specs.Operators.{op_text, binary, prefix, prefix_length}
-use Rattle.lay_tree.specs.nodes.Exprs.{about_expr}
+use Rattle.lay_tree.specs.nodes.Code.{about_expr}
 use Rattle.lay_tree.specs.nodes.Places.{plain}
-use Rattle.lay_tree.specs.reader.Exprs.{ExprWithin, one_prefix, operand, operand_ends}
+use Rattle.lay_tree.specs.reader.Exprs.{one_prefix, operand, operand_ends}
+use Rattle.lay_tree.specs.reader.Within.{ExprWithin}
 use Rattle.lay_tree.specs.declared.exprs.Expr.{Expr}
 use Rattle.lay_tree.specs.declared.operators.Op.{Op}
 use Rattle.lay_tree.specs.declared.operators.Prefix.{Prefix}

@@ -6,13 +6,16 @@ use Rattle.lay_piece.specs.declared.kind.Delim.TheVariants.{Bracket, Brace}
 use Rattle.lay_token.specs.Operators.{is_op}
 use Rattle.lay_node.specs.Ahead.{Tokens, first, tail, is_mark, opens, closes}
 use Rattle.lay_node.specs.reader.Loops.{Got, Read, ◌>>=◌, passed, repeat}
-use Rattle.lay_node.specs.reader.Types.{Within, angled, begins_call, one_arg, within}
+use Rattle.lay_node.specs.reader.Types.{Within, angled, begins_call, one_arg}
 use Rattle.lay_node.specs.declared.attr.Attr.{Attr}
 use Rattle.lay_node.specs.declared.token.Name.{Name}
 use Rattle.lay_node.specs.declared.types.Arg.{Arg}
 use Rattle.lay_node.specs.declared.types.Path.{Path}
-use Rattle.lay_tree.specs.nodes.Exprs.{stands, about_expr}
-use Rattle.lay_tree.specs.reader.Exprs.{ExprWithin, accepted, base, bracket_expr, break_expr, call_expr, climb, continue_expr, expr_at, field_by, free_elements, generics_by, index_step, left_place, one_step, paren_expr, path_expr, return_expr, stage}
+use Rattle.lay_tree.specs.nodes.Code.{about_expr}
+use Rattle.lay_tree.specs.nodes.Exprs.{stands}
+use Rattle.lay_tree.specs.reader.Code.{expr_at}
+use Rattle.lay_tree.specs.reader.Exprs.{accepted, base, bracket_expr, break_expr, call_expr, climb, continue_expr, field_by, free_elements, generics_by, index_step, left_place, one_step, paren_expr, path_expr, return_expr, stage}
+use Rattle.lay_tree.specs.reader.Within.{ExprWithin}
 use Rattle.lay_tree.specs.Operators.{begins_step}
 use Rattle.lay_tree.specs.declared.exprs.Expr.{Expr}
 use Rattle.lay_tree.specs.declared.exprs.Expr.TheVariants as expr
@@ -25,10 +28,6 @@ use Rattle.lay_read_tokens.specs.Answers.{IsFound}
 use Rattle.lay_read_parts.specs.Answers.{gathered}
 use Rattle.lay_read_tokens.specs.declared.found.Found.{Found}
 use Rattle.lay_read_tokens.specs.declared.stop.ReadNone.{ReadNone}
-
--- How expressions, types and the arguments of paths are read within a depth.
-abbrev pub exprs_within : ℕ → ExprWithin
-exprs_within depth = record { exprs = λ place ts. expr_at place depth ts; kinds = within depth }
 
 -- This function reads expressions at this depth, and the depth one above is a number.
 pub record AreExprs (depth : ℕ) (may_read : Global → MutBor Tokens → Place → ℕ → Type 0)

@@ -3,7 +3,8 @@ ghost use Rattle.std.specs.Prelude.{◌≡◌, ◌+◌, ◌≤◌, IfOk, IfErr};
 ghost use Rattle.lay_tree.specs.reader.Exprs as reader;
 ghost use Rattle.lay_tree.specs.reader.Exprs.{targets_of, value_of};
 ghost use Rattle.lay_read_tokens.specs.Answers.{IsFound};
-ghost use Rattle.lay_read_exprs.specs.Answers.{AreExprs, exprs_within};
+ghost use Rattle.lay_read_blocks.specs.Answers.{code_within};
+ghost use Rattle.lay_read_exprs.specs.Answers.{AreExprs};
 
 use crate::rules::ExprRules;
 use lay_read_parts::joins::both;
@@ -35,9 +36,13 @@ fn split(
     Ok((targets, value))
 }
 
-impl<P: Fn(Global, &mut Ahead<'_>, Place, u32) -> Result<Found<Expr>, ReadNone>> ExprRules<P> {
+impl<P: Fn(Global, &mut Ahead<'_>, Place, u32) -> Result<Found<Expr>, ReadNone>, H> ExprRules<
+    P,
+    H,
+> {
     /// An expression with assignments behind it.
     #[tactic(auto, unfolding(lay_tree::specs::reader::Exprs::assign_expr))]
+    #[inline(never)]
     pub fn assign_expr(
         &self,
         at: &mut Ahead<'_>,
@@ -46,7 +51,7 @@ impl<P: Fn(Global, &mut Ahead<'_>, Place, u32) -> Result<Found<Expr>, ReadNone>>
     ) -> Result<Found<Expr>, ReadNone>
         requires deeper { AreExprs self.now.depth (P.pre self.now.exprs) (P.post self.now.exprs) }
         requires within { lhs.need ≤ self.now.depth }
-        ensures read { IsFound (reader.assign_expr (exprs_within self.now.depth) no_struct (lhs.node, lhs.need) at.old) result at.new }
+        ensures read { IsFound (reader.assign_expr (code_within self.now.depth) no_struct (lhs.node, lhs.need) at.old) result at.new }
         ensures within { IfOk result (λ found. found.need ≤ self.now.depth + 1) }
     {
         let (lhs, more) = both(lhs, self.operands(at, 0, no_struct))?;

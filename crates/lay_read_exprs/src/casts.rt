@@ -4,10 +4,11 @@ ghost use Rattle.lay_node.specs.Ahead.{first, is_keyword};
 ghost use Rattle.lay_node.specs.reader.Loops.{repeat};
 ghost use Rattle.lay_tree.specs.reader.Exprs as reader;
 ghost use Rattle.lay_read_tokens.specs.Answers.{AreFound, IsFound, IsHeld};
-ghost use Rattle.lay_read_exprs.specs.Answers.{AreExprs, exprs_within};
+ghost use Rattle.lay_read_blocks.specs.Answers.{code_within};
+ghost use Rattle.lay_read_exprs.specs.Answers.{AreExprs};
 
-use crate::loops::{Going, read_parts};
 use crate::rules::ExprRules;
+use lay_read_blocks::loops::{Going, read_parts};
 use lay_read_parts::joins::both;
 use lay_read_parts::loops::Part;
 use lay_read_tokens::found::greater;
@@ -23,18 +24,22 @@ use std::alloc::Global;
 pub struct Types;
 
 impl Part<Ty, ()> for Types {
-    ghost reads = { λ depth place ts. reader.one_type (exprs_within depth) ts };
+    ghost reads = { λ depth place ts. reader.one_type (code_within depth) ts };
 }
 
-impl<P: Fn(Global, &mut Ahead<'_>, Place, u32) -> Result<Found<Expr>, ReadNone>> ExprRules<P> {
+impl<P: Fn(Global, &mut Ahead<'_>, Place, u32) -> Result<Found<Expr>, ReadNone>, H> ExprRules<
+    P,
+    H,
+> {
     /// Types, as long as an `as` stands at the front.
-    #[tactic(auto, using(crate::proofs::Left::type_leaves))]
+    #[tactic(auto, using(lay_read_blocks::proofs::Left::type_leaves))]
+    #[inline(never)]
     fn types(&self, at: &mut Ahead<'_>) -> Result<Found<List<Ty>>, ReadNone>
         requires { AreExprs self.now.depth (P.pre self.now.exprs) (P.post self.now.exprs) }
-        ensures read { IsHeld AreFound (repeat (first (is_keyword (codes "as"))) (reader.one_type (exprs_within self.now.depth)) at.old) result at.new }
+        ensures read { IsHeld AreFound (repeat (first (is_keyword (codes "as"))) (reader.one_type (code_within self.now.depth)) at.old) result at.new }
         ensures within { IfOk result (λ found. found.need ≤ self.now.depth) }
     {
-        read_parts::<Types, ExprRules<P>, Ty, (), _>(
+        read_parts::<Types, ExprRules<P, H>, Ty, (), _>(
             self.alloc,
             at,
             self.depth,
@@ -47,9 +52,10 @@ impl<P: Fn(Global, &mut Ahead<'_>, Place, u32) -> Result<Found<Expr>, ReadNone>>
 
     /// A type behind its `as`.
     #[tactic(auto, unfolding(lay_tree::specs::reader::Exprs::one_type))]
+    #[inline(never)]
     fn one_type(&self, at: &mut Ahead<'_>, _place: ()) -> Result<Found<Ty>, ReadNone>
         requires { AreExprs self.now.depth (P.pre self.now.exprs) (P.post self.now.exprs) }
-        ensures read { IsFound (reader.one_type (exprs_within self.now.depth) at.old) result at.new }
+        ensures read { IsFound (reader.one_type (code_within self.now.depth) at.old) result at.new }
         ensures within { IfOk result (λ found. found.need ≤ self.now.depth) }
     {
         if takes_keyword(at, b"as") {
@@ -61,10 +67,11 @@ impl<P: Fn(Global, &mut Ahead<'_>, Place, u32) -> Result<Found<Expr>, ReadNone>>
 
     /// An expression with types behind it.
     #[tactic(auto, unfolding(lay_tree::specs::reader::Exprs::cast_expr))]
+    #[inline(never)]
     pub fn cast_expr(&self, at: &mut Ahead<'_>, lhs: Found<Expr>) -> Result<Found<Expr>, ReadNone>
         requires deeper { AreExprs self.now.depth (P.pre self.now.exprs) (P.post self.now.exprs) }
         requires within { lhs.need ≤ self.now.depth }
-        ensures read { IsFound (reader.cast_expr (exprs_within self.now.depth) (lhs.node, lhs.need) at.old) result at.new }
+        ensures read { IsFound (reader.cast_expr (code_within self.now.depth) (lhs.node, lhs.need) at.old) result at.new }
         ensures within { IfOk result (λ found. found.need ≤ self.now.depth + 1) }
     {
         let (lhs, found) = both(lhs, self.types(at))?;

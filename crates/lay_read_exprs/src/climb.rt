@@ -2,16 +2,18 @@
 ghost use Rattle.std.specs.Prelude.{◌≡◌, ◌+◌, ◌<◌, ◌≤◌, nat_le, nat_lt, ◌&&◌, Some, IfOk};
 ghost use Rattle.lay_tree.specs.Operators as operators;
 ghost use Rattle.lay_tree.specs.nodes.Exprs as nodes;
-ghost use Rattle.lay_tree.specs.nodes.Exprs.{about_expr};
+ghost use Rattle.lay_tree.specs.nodes.Code.{about_expr};
 ghost use Rattle.lay_tree.specs.nodes.Places as places;
 ghost use Rattle.lay_tree.specs.reader.Exprs as reader;
 ghost use Rattle.lay_read_tokens.specs.Answers.{IsFound};
-ghost use Rattle.lay_read_exprs.specs.Answers.{AreExprs, climb_once, climbed, exprs_within};
+ghost use Rattle.lay_read_blocks.specs.Answers.{code_within};
+ghost use Rattle.lay_read_exprs.specs.Answers.{AreExprs, climb_once, climbed};
 
-use crate::places::before_op;
+use crate::block_heads::BlockHeads;
 use crate::rules::ExprRules;
 use lay_ops::ahead::{is_angle, is_dot_or_try, strength};
 use lay_ops::{is_block_like, stands};
+use lay_read_blocks::places::before_op;
 use lay_read_parts::joins::refused;
 use lay_read_tokens::stop::boxed;
 use lay_read_tokens::{Ahead, Found, ReadNone};
@@ -83,12 +85,18 @@ fn goes_on(at: &Ahead<'_>, place: Place, reached: u8) -> bool
     place.level < strength && strength <= reached
 }
 
-impl<P: Fn(Global, &mut Ahead<'_>, Place, u32) -> Result<Found<Expr>, ReadNone>> ExprRules<P> {
+impl<
+    P: Fn(Global, &mut Ahead<'_>, Place, u32) -> Result<Found<Expr>, ReadNone>,
+    H: BlockHeads,
+> ExprRules<P, H> {
     /// An expression at a place, with what is within it one level deeper.
     #[tactic(auto, unfolding(lay_tree::specs::reader::Exprs::expr_by))]
+    #[inline(never)]
     pub fn expr_by(&self, at: &mut Ahead<'_>, place: Place) -> Result<Found<Expr>, ReadNone>
-        requires { AreExprs self.now.depth (P.pre self.now.exprs) (P.post self.now.exprs) }
-        ensures read { IsFound (reader.expr_by (exprs_within self.now.depth) (self.now.depth + 1) place at.old) result at.new }
+        requires deeper { AreExprs self.now.depth (P.pre self.now.exprs) (P.post self.now.exprs) }
+        requires heads { H.are_ready self.now.heads }
+        requires same { H.depth self.now.heads ≡ self.now.depth }
+        ensures read { IsFound (reader.expr_by (code_within self.now.depth) (self.now.depth + 1) place at.old) result at.new }
         ensures within { IfOk result (λ found. found.need ≤ self.now.depth + 1) }
     {
         let head = self.head(at, place.no_struct)?;
@@ -100,6 +108,7 @@ impl<P: Fn(Global, &mut Ahead<'_>, Place, u32) -> Result<Found<Expr>, ReadNone>>
     }
 
     /// The operators behind an expression that the place allows, from the strongest on.
+    #[inline(never)]
     fn climb(
         &self,
         at: &mut Ahead<'_>,
@@ -108,7 +117,7 @@ impl<P: Fn(Global, &mut Ahead<'_>, Place, u32) -> Result<Found<Expr>, ReadNone>>
     ) -> Result<Found<Expr>, ReadNone>
         requires deeper { AreExprs self.now.depth (P.pre self.now.exprs) (P.post self.now.exprs) }
         requires within { head.need ≤ self.now.depth + 1 }
-        ensures read { IsFound (climbed (exprs_within self.now.depth) (self.now.depth + 1) place 14 (head.node, head.need) at.old) result at.new }
+        ensures read { IsFound (climbed (code_within self.now.depth) (self.now.depth + 1) place 14 (head.node, head.need) at.old) result at.new }
         ensures within { IfOk result (λ found. found.need ≤ self.now.depth + 1) }
     {
         let mut lhs = head;
@@ -122,6 +131,7 @@ impl<P: Fn(Global, &mut Ahead<'_>, Place, u32) -> Result<Found<Expr>, ReadNone>>
 
     /// What the operator of the level at the front makes of the expression before it, if that may stand there, and what
     /// is made needn't be deeper than may be.
+    #[inline(never)]
     fn climb_once(
         &self,
         at: &mut Ahead<'_>,
@@ -131,7 +141,7 @@ impl<P: Fn(Global, &mut Ahead<'_>, Place, u32) -> Result<Found<Expr>, ReadNone>>
     ) -> Result<Found<Expr>, ReadNone>
         requires deeper { AreExprs self.now.depth (P.pre self.now.exprs) (P.post self.now.exprs) }
         requires level { level < 14 }
-        ensures read { IsFound (climb_once (exprs_within self.now.depth) (self.now.depth + 1) place level (lhs.node, lhs.need) at.old) result at.new }
+        ensures read { IsFound (climb_once (code_within self.now.depth) (self.now.depth + 1) place level (lhs.node, lhs.need) at.old) result at.new }
         ensures within { IfOk result (λ found. found.need ≤ self.now.depth + 1) }
     {
         if lhs.need > self.depth || !stands(&lhs.node, left_place(at, place, level)) {
@@ -141,6 +151,7 @@ impl<P: Fn(Global, &mut Ahead<'_>, Place, u32) -> Result<Found<Expr>, ReadNone>>
     }
 
     /// What an operator of the level makes of the expression before it.
+    #[inline(never)]
     fn stage(
         &self,
         at: &mut Ahead<'_>,
@@ -151,7 +162,7 @@ impl<P: Fn(Global, &mut Ahead<'_>, Place, u32) -> Result<Found<Expr>, ReadNone>>
         requires deeper { AreExprs self.now.depth (P.pre self.now.exprs) (P.post self.now.exprs) }
         requires level { level < 14 }
         requires within { lhs.need ≤ self.now.depth }
-        ensures read { IsFound (reader.stage (exprs_within self.now.depth) level no_struct (lhs.node, lhs.need) at.old) result at.new }
+        ensures read { IsFound (reader.stage (code_within self.now.depth) level no_struct (lhs.node, lhs.need) at.old) result at.new }
         ensures within { IfOk result (λ found. found.need ≤ self.now.depth + 1) }
     {
         match level {
@@ -164,6 +175,7 @@ impl<P: Fn(Global, &mut Ahead<'_>, Place, u32) -> Result<Found<Expr>, ReadNone>>
     }
 
     /// A range from an expression on.
+    #[inline(never)]
     fn range_from(
         &self,
         at: &mut Ahead<'_>,
@@ -172,7 +184,7 @@ impl<P: Fn(Global, &mut Ahead<'_>, Place, u32) -> Result<Found<Expr>, ReadNone>>
     ) -> Result<Found<Expr>, ReadNone>
         requires deeper { AreExprs self.now.depth (P.pre self.now.exprs) (P.post self.now.exprs) }
         requires within { start.need ≤ self.now.depth }
-        ensures read { IsFound (reader.range_expr (exprs_within self.now.depth) no_struct (Some start.node) start.need at.old) result at.new }
+        ensures read { IsFound (reader.range_expr (code_within self.now.depth) no_struct (Some start.node) start.need at.old) result at.new }
         ensures within { IfOk result (λ found. found.need ≤ self.now.depth + 1) }
     {
         let need = start.need;

@@ -2,12 +2,13 @@
 ghost use Rattle.std.specs.Prelude.{◌≡◌, ◌+◌, ◌^◌, ◌<◌, ◌≤◌, IfOk};
 ghost use Rattle.lay_node.specs.Ahead.{closes};
 ghost use Rattle.lay_tree.specs.reader.Exprs as reader;
-ghost use Rattle.lay_tree.specs.reader.Exprs.{expr_at};
+ghost use Rattle.lay_tree.specs.reader.Code.{expr_at};
 ghost use Rattle.lay_read_tokens.specs.Answers.{IsFound};
-ghost use Rattle.lay_read_exprs.specs.Answers.{AreExprs, array_by, exprs_within};
+ghost use Rattle.lay_read_blocks.specs.Answers.{code_within};
+ghost use Rattle.lay_read_exprs.specs.Answers.{AreExprs, array_by};
 
-use crate::places::FREE;
 use crate::rules::ExprRules;
+use lay_read_blocks::places::FREE;
 use lay_read_parts::joins::{both, prepended, refused};
 use lay_read_parts::loops::{Closer, Part, read_elements};
 use lay_read_tokens::found::greater;
@@ -48,19 +49,23 @@ fn repeat_by(
     })
 }
 
-impl<P: Fn(Global, &mut Ahead<'_>, Place, u32) -> Result<Found<Expr>, ReadNone>> ExprRules<P> {
+impl<P: Fn(Global, &mut Ahead<'_>, Place, u32) -> Result<Found<Expr>, ReadNone>, H> ExprRules<
+    P,
+    H,
+> {
     /// Expressions with commas, and the closing delimiter behind them.
-    #[tactic(auto, using(crate::proofs::Left::exprs_leave))]
+    #[tactic(auto, using(lay_read_blocks::proofs::Left::exprs_leave))]
+    #[inline(never)]
     pub fn free_elements(
         &self,
         at: &mut Ahead<'_>,
         delim: Delim,
     ) -> Result<Found<List<Expr>>, ReadNone>
         requires { AreExprs self.now.depth (P.pre self.now.exprs) (P.post self.now.exprs) }
-        ensures read { IsFound (reader.free_elements (exprs_within self.now.depth) (closes delim) at.old) result at.new }
+        ensures read { IsFound (reader.free_elements (code_within self.now.depth) (closes delim) at.old) result at.new }
         ensures within { IfOk result (λ found. found.need ≤ self.now.depth) }
     {
-        read_elements::<Elements, ExprRules<P>, Expr, Place, _>(
+        read_elements::<Elements, ExprRules<P, H>, Expr, Place, _>(
             self.alloc,
             at,
             self.depth,
@@ -73,9 +78,10 @@ impl<P: Fn(Global, &mut Ahead<'_>, Place, u32) -> Result<Found<Expr>, ReadNone>>
 
     /// What stands behind a `(`.
     #[tactic(auto, unfolding(lay_tree::specs::reader::Exprs::paren_expr))]
+    #[inline(never)]
     pub fn paren_expr(&self, at: &mut Ahead<'_>) -> Result<Found<Expr>, ReadNone>
         requires { AreExprs self.now.depth (P.pre self.now.exprs) (P.post self.now.exprs) }
-        ensures read { IsFound (reader.paren_expr (exprs_within self.now.depth) at.old) result at.new }
+        ensures read { IsFound (reader.paren_expr (code_within self.now.depth) at.old) result at.new }
         ensures within { IfOk result (λ found. found.need ≤ self.now.depth + 1) }
     {
         if takes_closer(at, Delim::Paren) {
@@ -91,10 +97,11 @@ impl<P: Fn(Global, &mut Ahead<'_>, Place, u32) -> Result<Found<Expr>, ReadNone>>
     }
 
     /// What stands behind a `(` and an expression.
+    #[inline(never)]
     fn paren_by(&self, at: &mut Ahead<'_>, first: Found<Expr>) -> Result<Found<Expr>, ReadNone>
         requires deeper { AreExprs self.now.depth (P.pre self.now.exprs) (P.post self.now.exprs) }
         requires within { first.need ≤ self.now.depth }
-        ensures read { IsFound (reader.paren_by (exprs_within self.now.depth) (first.node, first.need) at.old) result at.new }
+        ensures read { IsFound (reader.paren_by (code_within self.now.depth) (first.node, first.need) at.old) result at.new }
         ensures within { IfOk result (λ found. found.need ≤ self.now.depth + 1) }
     {
         if takes_closer(at, Delim::Paren) {
@@ -117,9 +124,10 @@ impl<P: Fn(Global, &mut Ahead<'_>, Place, u32) -> Result<Found<Expr>, ReadNone>>
 
     /// What stands behind a `[`.
     #[tactic(auto, unfolding(lay_tree::specs::reader::Exprs::bracket_expr))]
+    #[inline(never)]
     pub fn bracket_expr(&self, at: &mut Ahead<'_>) -> Result<Found<Expr>, ReadNone>
         requires { AreExprs self.now.depth (P.pre self.now.exprs) (P.post self.now.exprs) }
-        ensures read { IsFound (reader.bracket_expr (exprs_within self.now.depth) at.old) result at.new }
+        ensures read { IsFound (reader.bracket_expr (code_within self.now.depth) at.old) result at.new }
         ensures within { IfOk result (λ found. found.need ≤ self.now.depth + 1) }
     {
         if takes_closer(at, Delim::Bracket) {
@@ -139,10 +147,11 @@ impl<P: Fn(Global, &mut Ahead<'_>, Place, u32) -> Result<Found<Expr>, ReadNone>>
     }
 
     /// What stands behind a `[` and an expression, where it is no `;`.
+    #[inline(never)]
     fn array_by(&self, at: &mut Ahead<'_>, first: Found<Expr>) -> Result<Found<Expr>, ReadNone>
         requires deeper { AreExprs self.now.depth (P.pre self.now.exprs) (P.post self.now.exprs) }
         requires within { first.need ≤ self.now.depth }
-        ensures read { IsFound (array_by (exprs_within self.now.depth) (first.node, first.need) at.old) result at.new }
+        ensures read { IsFound (array_by (code_within self.now.depth) (first.node, first.need) at.old) result at.new }
         ensures within { IfOk result (λ found. found.need ≤ self.now.depth + 1) }
     {
         if takes_closer(at, Delim::Bracket) {

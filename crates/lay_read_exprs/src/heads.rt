@@ -4,8 +4,10 @@ ghost use Rattle.lay_tree.specs.Operands.{expr_lead_at};
 ghost use Rattle.lay_tree.specs.reader.Exprs as reader;
 ghost use Rattle.lay_ops.specs.Leads.{told};
 ghost use Rattle.lay_read_tokens.specs.Answers.{IsFound};
-ghost use Rattle.lay_read_exprs.specs.Answers.{AreExprs, exprs_within, marked};
+ghost use Rattle.lay_read_blocks.specs.Answers.{code_within, fits};
+ghost use Rattle.lay_read_exprs.specs.Answers.{AreExprs, marked};
 
+use crate::block_heads::BlockHeads;
 use crate::jumps::continue_expr;
 use crate::rules::ExprRules;
 use lay_ops::ahead::expr_lead_at;
@@ -31,11 +33,17 @@ fn literal_expr(alloc: Global, at: &mut Ahead<'_>) -> Result<Found<Expr>, ReadNo
     })
 }
 
-impl<P: Fn(Global, &mut Ahead<'_>, Place, u32) -> Result<Found<Expr>, ReadNone>> ExprRules<P> {
-    /// What begins an expression, without the operators behind it.
+impl<
+    P: Fn(Global, &mut Ahead<'_>, Place, u32) -> Result<Found<Expr>, ReadNone>,
+    H: BlockHeads,
+> ExprRules<P, H> {
+    /// What begins an expression, without the operators behind it, unless it is deeper than may be.
+    #[inline(never)]
     pub fn head(&self, at: &mut Ahead<'_>, no_struct: bool) -> Result<Found<Expr>, ReadNone>
-        requires { AreExprs self.now.depth (P.pre self.now.exprs) (P.post self.now.exprs) }
-        ensures read { IsFound (reader.head_by (exprs_within self.now.depth) no_struct (expr_lead_at at.old) at.old) result at.new }
+        requires deeper { AreExprs self.now.depth (P.pre self.now.exprs) (P.post self.now.exprs) }
+        requires heads { H.are_ready self.now.heads }
+        requires same { H.depth self.now.heads ≡ self.now.depth }
+        ensures read { IsFound (fits (self.now.depth + 1) (reader.head_by (code_within self.now.depth) no_struct (expr_lead_at at.old) at.old)) result at.new }
         ensures within { IfOk result (λ found. found.need ≤ self.now.depth + 1) }
     {
         match expr_lead_at(at) {
@@ -44,21 +52,27 @@ impl<P: Fn(Global, &mut Ahead<'_>, Place, u32) -> Result<Found<Expr>, ReadNone>>
         }
     }
 
-    /// What begins an expression, told from what the first token begins.
+    /// The same, told from what the first token begins.
+    #[inline(never)]
     fn head_by(
         &self,
         at: &mut Ahead<'_>,
         no_struct: bool,
         lead: ExprLead,
     ) -> Result<Found<Expr>, ReadNone>
-        requires { AreExprs self.now.depth (P.pre self.now.exprs) (P.post self.now.exprs) }
-        ensures read { IsFound (reader.head_by (exprs_within self.now.depth) no_struct (Some (told lead)) at.old) result at.new }
+        requires deeper { AreExprs self.now.depth (P.pre self.now.exprs) (P.post self.now.exprs) }
+        requires heads { H.are_ready self.now.heads }
+        requires same { H.depth self.now.heads ≡ self.now.depth }
+        ensures read { IsFound (fits (self.now.depth + 1) (reader.head_by (code_within self.now.depth) no_struct (Some (told lead)) at.old)) result at.new }
         ensures within { IfOk result (λ found. found.need ≤ self.now.depth + 1) }
     {
         match lead {
             ExprLead::Literal => literal_expr(self.alloc, at),
             ExprLead::Path => self.path_or_call(at, no_struct),
             ExprLead::Prefix => self.unary_expr(at, no_struct),
+            ExprLead::Label | ExprLead::Brace | ExprLead::BlockWord | ExprLead::Closure => {
+                self.heads.block_head(at, no_struct, lead)
+            }
             ExprLead::Range => {
                 let start = Found {
                     node: None,
@@ -74,6 +88,7 @@ impl<P: Fn(Global, &mut Ahead<'_>, Place, u32) -> Result<Found<Expr>, ReadNone>>
     }
 
     /// What begins an expression, behind its first token.
+    #[inline(never)]
     fn marked(
         &self,
         at: &mut Ahead<'_>,
@@ -81,7 +96,7 @@ impl<P: Fn(Global, &mut Ahead<'_>, Place, u32) -> Result<Found<Expr>, ReadNone>>
         lead: ExprLead,
     ) -> Result<Found<Expr>, ReadNone>
         requires { AreExprs self.now.depth (P.pre self.now.exprs) (P.post self.now.exprs) }
-        ensures read { IsFound (marked (exprs_within self.now.depth) no_struct lead at.old) result at.new }
+        ensures read { IsFound (marked (code_within self.now.depth) no_struct lead at.old) result at.new }
         ensures within { IfOk result (λ found. found.need ≤ self.now.depth + 1) }
     {
         match lead {

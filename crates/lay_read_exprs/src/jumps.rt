@@ -2,11 +2,12 @@
 ghost use Rattle.std.specs.Prelude.{◌≡◌, ◌+◌, ◌≤◌, IfOk};
 ghost use Rattle.lay_tree.specs.reader.Exprs as reader;
 ghost use Rattle.lay_read_tokens.specs.Answers.{IsFound};
-ghost use Rattle.lay_read_exprs.specs.Answers.{AreExprs, exprs_within};
+ghost use Rattle.lay_read_blocks.specs.Answers.{code_within};
+ghost use Rattle.lay_read_exprs.specs.Answers.{AreExprs};
 
-use crate::places::plain;
 use crate::rules::ExprRules;
 use lay_ops::ahead::begins_operand;
+use lay_read_blocks::places::plain;
 use lay_read_parts::joins::both;
 use lay_read_parts::parts::read_lifetime_if;
 use lay_read_tokens::{Ahead, Found, ReadNone};
@@ -26,8 +27,12 @@ pub fn continue_expr(alloc: Global, at: &mut Ahead<'_>) -> Result<Found<Expr>, R
     })
 }
 
-impl<P: Fn(Global, &mut Ahead<'_>, Place, u32) -> Result<Found<Expr>, ReadNone>> ExprRules<P> {
+impl<P: Fn(Global, &mut Ahead<'_>, Place, u32) -> Result<Found<Expr>, ReadNone>, H> ExprRules<
+    P,
+    H,
+> {
     /// An operand at a level, if one begins.
+    #[inline(never)]
     pub fn operand_if(
         &self,
         at: &mut Ahead<'_>,
@@ -35,7 +40,7 @@ impl<P: Fn(Global, &mut Ahead<'_>, Place, u32) -> Result<Found<Expr>, ReadNone>>
         no_struct: bool,
     ) -> Result<Found<Option<Boxed<Expr>>>, ReadNone>
         requires { AreExprs self.now.depth (P.pre self.now.exprs) (P.post self.now.exprs) }
-        ensures read { IsFound (reader.operand_if (exprs_within self.now.depth) level no_struct at.old) result at.new }
+        ensures read { IsFound (reader.operand_if (code_within self.now.depth) level no_struct at.old) result at.new }
         ensures within { IfOk result (λ found. found.need ≤ self.now.depth) }
     {
         if !begins_operand(at, no_struct) {
@@ -53,9 +58,10 @@ impl<P: Fn(Global, &mut Ahead<'_>, Place, u32) -> Result<Found<Expr>, ReadNone>>
 
     /// What stands behind `return`.
     #[tactic(auto, unfolding(lay_tree::specs::reader::Exprs::return_expr))]
+    #[inline(never)]
     pub fn return_expr(&self, at: &mut Ahead<'_>, no_struct: bool) -> Result<Found<Expr>, ReadNone>
         requires { AreExprs self.now.depth (P.pre self.now.exprs) (P.post self.now.exprs) }
-        ensures read { IsFound (reader.return_expr (exprs_within self.now.depth) no_struct at.old) result at.new }
+        ensures read { IsFound (reader.return_expr (code_within self.now.depth) no_struct at.old) result at.new }
         ensures within { IfOk result (λ found. found.need ≤ self.now.depth + 1) }
     {
         let found = self.operand_if(at, 0, no_struct)?;
@@ -69,9 +75,10 @@ impl<P: Fn(Global, &mut Ahead<'_>, Place, u32) -> Result<Found<Expr>, ReadNone>>
 
     /// What stands behind `break`.
     #[tactic(auto, unfolding(lay_tree::specs::reader::Exprs::break_expr))]
+    #[inline(never)]
     pub fn break_expr(&self, at: &mut Ahead<'_>, no_struct: bool) -> Result<Found<Expr>, ReadNone>
         requires { AreExprs self.now.depth (P.pre self.now.exprs) (P.post self.now.exprs) }
-        ensures read { IsFound (reader.break_expr (exprs_within self.now.depth) no_struct at.old) result at.new }
+        ensures read { IsFound (reader.break_expr (code_within self.now.depth) no_struct at.old) result at.new }
         ensures within { IfOk result (λ found. found.need ≤ self.now.depth + 1) }
     {
         let label = read_lifetime_if(self.alloc, at)?;

@@ -1,18 +1,19 @@
 //! Operators of one level, and the operands behind them.
 ghost use Rattle.std.specs.Prelude.{◌≡◌, ◌+◌, ◌<◌, ◌≤◌, IfOk};
-ghost use Rattle.lay_tree.specs.nodes.Exprs.{about_expr};
+ghost use Rattle.lay_tree.specs.nodes.Code.{about_expr};
 ghost use Rattle.lay_tree.specs.nodes.Places as places;
 ghost use Rattle.lay_tree.specs.reader.Exprs as reader;
 ghost use Rattle.lay_read_tokens.specs.Answers.{AreFound, IsFound, IsHeld};
-ghost use Rattle.lay_read_exprs.specs.Answers.{AreExprs, exprs_within};
+ghost use Rattle.lay_read_blocks.specs.Answers.{code_within};
+ghost use Rattle.lay_read_exprs.specs.Answers.{AreExprs};
 
-use crate::loops::{Going, read_parts};
-use crate::places::{before_op, plain};
 use crate::prefixes::pass_tokens;
 use crate::rules::ExprRules;
 use lay_ops::ahead::{binary, is_angle, strength};
 use lay_ops::operators::op_text;
 use lay_ops::stands;
+use lay_read_blocks::loops::{Going, read_parts};
+use lay_read_blocks::places::{before_op, plain};
 use lay_read_parts::joins::{both, refused};
 use lay_read_parts::loops::Part;
 use lay_read_tokens::found::greater;
@@ -26,7 +27,7 @@ use std::alloc::Global;
 pub struct Operands;
 
 impl Part<(Op, Expr), (u8, bool)> for Operands {
-    ghost reads = { λ depth place ts. reader.operand (exprs_within depth) place.0 place.1 ts };
+    ghost reads = { λ depth place ts. reader.operand (code_within depth) place.0 place.1 ts };
 }
 
 /// Whether an operand of the level may end where the tokens ahead stand.
@@ -45,9 +46,13 @@ fn operand_ends(at: &Ahead<'_>, operand: &Expr, level: u8, no_struct: bool) -> b
     }
 }
 
-impl<P: Fn(Global, &mut Ahead<'_>, Place, u32) -> Result<Found<Expr>, ReadNone>> ExprRules<P> {
+impl<P: Fn(Global, &mut Ahead<'_>, Place, u32) -> Result<Found<Expr>, ReadNone>, H> ExprRules<
+    P,
+    H,
+> {
     /// Operators of a level and their operands, as long as one begins.
-    #[tactic(auto, unfolding(lay_tree::specs::reader::Exprs::operands), using(crate::proofs::Left::operand_leaves))]
+    #[tactic(auto, unfolding(lay_tree::specs::reader::Exprs::operands), using(lay_read_blocks::proofs::Left::operand_leaves))]
+    #[inline(never)]
     pub fn operands(
         &self,
         at: &mut Ahead<'_>,
@@ -56,10 +61,10 @@ impl<P: Fn(Global, &mut Ahead<'_>, Place, u32) -> Result<Found<Expr>, ReadNone>>
     ) -> Result<Found<List<(Op, Expr)>>, ReadNone>
         requires deeper { AreExprs self.now.depth (P.pre self.now.exprs) (P.post self.now.exprs) }
         requires level { level < 14 }
-        ensures read { IsHeld AreFound (reader.operands (exprs_within self.now.depth) level no_struct at.old) result at.new }
+        ensures read { IsHeld AreFound (reader.operands (code_within self.now.depth) level no_struct at.old) result at.new }
         ensures within { IfOk result (λ found. found.need ≤ self.now.depth) }
     {
-        read_parts::<Operands, ExprRules<P>, (Op, Expr), (u8, bool), _>(
+        read_parts::<Operands, ExprRules<P, H>, (Op, Expr), (u8, bool), _>(
             self.alloc,
             at,
             self.depth,
@@ -72,10 +77,11 @@ impl<P: Fn(Global, &mut Ahead<'_>, Place, u32) -> Result<Found<Expr>, ReadNone>>
 
     /// An operator of a level, and its operand.
     #[tactic(auto, unfolding(lay_tree::specs::reader::Exprs::operand))]
+    #[inline(never)]
     fn operand(&self, at: &mut Ahead<'_>, place: (u8, bool)) -> Result<Found<(Op, Expr)>, ReadNone>
         requires deeper { AreExprs self.now.depth (P.pre self.now.exprs) (P.post self.now.exprs) }
         requires level { place.0 < 14 }
-        ensures read { IsFound (reader.operand (exprs_within self.now.depth) place.0 place.1 at.old) result at.new }
+        ensures read { IsFound (reader.operand (code_within self.now.depth) place.0 place.1 at.old) result at.new }
         ensures within { IfOk result (λ found. found.need ≤ self.now.depth) }
     {
         let (level, no_struct) = place;
@@ -96,6 +102,7 @@ impl<P: Fn(Global, &mut Ahead<'_>, Place, u32) -> Result<Found<Expr>, ReadNone>>
 
     /// An expression with operators of a level behind it.
     #[tactic(auto, unfolding(lay_tree::specs::reader::Exprs::chain_expr))]
+    #[inline(never)]
     pub fn chain_expr(
         &self,
         at: &mut Ahead<'_>,
@@ -106,7 +113,7 @@ impl<P: Fn(Global, &mut Ahead<'_>, Place, u32) -> Result<Found<Expr>, ReadNone>>
         requires deeper { AreExprs self.now.depth (P.pre self.now.exprs) (P.post self.now.exprs) }
         requires level { level < 14 }
         requires within { lhs.need ≤ self.now.depth }
-        ensures read { IsFound (reader.chain_expr (exprs_within self.now.depth) level no_struct (lhs.node, lhs.need) at.old) result at.new }
+        ensures read { IsFound (reader.chain_expr (code_within self.now.depth) level no_struct (lhs.node, lhs.need) at.old) result at.new }
         ensures within { IfOk result (λ found. found.need ≤ self.now.depth + 1) }
     {
         let (lhs, more) = both(lhs, self.operands(at, level, no_struct))?;

@@ -2,7 +2,8 @@
 ghost use Rattle.std.specs.Prelude.{◌≡◌, ◌+◌, ◌^◌, ◌<◌, ◌≤◌, IfOk};
 ghost use Rattle.lay_tree.specs.reader.Exprs as reader;
 ghost use Rattle.lay_read_tokens.specs.Answers.{IsFound};
-ghost use Rattle.lay_read_exprs.specs.Answers.{AreExprs, exprs_within, path_or_call, plain_path};
+ghost use Rattle.lay_read_blocks.specs.Answers.{code_within};
+ghost use Rattle.lay_read_exprs.specs.Answers.{AreExprs, path_or_call, plain_path};
 
 use crate::rules::ExprRules;
 use lay_read_parts::joins::refused;
@@ -42,11 +43,15 @@ fn plain_path(at: &Ahead<'_>, path: Found<Path>) -> Result<Found<Expr>, ReadNone
     })
 }
 
-impl<P: Fn(Global, &mut Ahead<'_>, Place, u32) -> Result<Found<Expr>, ReadNone>> ExprRules<P> {
+impl<P: Fn(Global, &mut Ahead<'_>, Place, u32) -> Result<Found<Expr>, ReadNone>, H> ExprRules<
+    P,
+    H,
+> {
     /// A macro call, or what begins with a path.
+    #[inline(never)]
     pub fn path_or_call(&self, at: &mut Ahead<'_>, no_struct: bool) -> Result<Found<Expr>, ReadNone>
         requires { AreExprs self.now.depth (P.pre self.now.exprs) (P.post self.now.exprs) }
-        ensures read { IsFound (path_or_call (exprs_within self.now.depth) no_struct at.old) result at.new }
+        ensures read { IsFound (path_or_call (code_within self.now.depth) no_struct at.old) result at.new }
         ensures within { IfOk result (λ found. found.need ≤ self.now.depth + 1) }
     {
         if begins_call(self.alloc, at)? {
@@ -58,9 +63,10 @@ impl<P: Fn(Global, &mut Ahead<'_>, Place, u32) -> Result<Found<Expr>, ReadNone>>
 
     /// A path, and what stands behind it.
     #[tactic(auto, unfolding(lay_tree::specs::reader::Exprs::path_expr))]
+    #[inline(never)]
     fn path_expr(&self, at: &mut Ahead<'_>, no_struct: bool) -> Result<Found<Expr>, ReadNone>
         requires { AreExprs self.now.depth (P.pre self.now.exprs) (P.post self.now.exprs) }
-        ensures read { IsFound (reader.path_expr (exprs_within self.now.depth) no_struct at.old) result at.new }
+        ensures read { IsFound (reader.path_expr (code_within self.now.depth) no_struct at.old) result at.new }
         ensures within { IfOk result (λ found. found.need ≤ self.now.depth + 1) }
     {
         let path = path_ahead(self.alloc, at, PathStyle::Code, self.depth)?;
@@ -68,6 +74,7 @@ impl<P: Fn(Global, &mut Ahead<'_>, Place, u32) -> Result<Found<Expr>, ReadNone>>
     }
 
     /// What stands behind a path.
+    #[inline(never)]
     fn path_by(
         &self,
         at: &mut Ahead<'_>,
@@ -76,7 +83,7 @@ impl<P: Fn(Global, &mut Ahead<'_>, Place, u32) -> Result<Found<Expr>, ReadNone>>
     ) -> Result<Found<Expr>, ReadNone>
         requires deeper { AreExprs self.now.depth (P.pre self.now.exprs) (P.post self.now.exprs) }
         requires within { path.need ≤ self.now.depth }
-        ensures read { IsFound (reader.path_by (exprs_within self.now.depth) no_struct (path.node, path.need) at.old) result at.new }
+        ensures read { IsFound (reader.path_by (code_within self.now.depth) no_struct (path.node, path.need) at.old) result at.new }
         ensures within { IfOk result (λ found. found.need ≤ self.now.depth + 1) }
     {
         if !no_struct && is_at_opened(at, Delim::Brace) {

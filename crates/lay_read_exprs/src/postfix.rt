@@ -4,13 +4,14 @@ ghost use Rattle.lay_node.specs.Ahead.{opens_args_late};
 ghost use Rattle.lay_node.specs.reader.Types.{within};
 ghost use Rattle.lay_tree.specs.reader.Exprs as reader;
 ghost use Rattle.lay_read_tokens.specs.Answers.{AreFound, IsFound, IsHeld};
-ghost use Rattle.lay_read_exprs.specs.Answers.{AreExprs, bracket_step, exprs_within, generic_method, late_args, steps};
+ghost use Rattle.lay_read_blocks.specs.Answers.{code_within};
+ghost use Rattle.lay_read_exprs.specs.Answers.{AreExprs, bracket_step, generic_method, late_args, steps};
 
-use crate::loops::{Going, read_parts};
 use crate::numbers::{begins_tuple_index, is_at_tuple_index};
-use crate::places::FREE;
 use crate::rules::ExprRules;
 use lay_ops::is_number;
+use lay_read_blocks::loops::{Going, read_parts};
+use lay_read_blocks::places::FREE;
 use lay_read_parts::joins::{both, refused};
 use lay_read_parts::leads::opens_args_late;
 use lay_read_parts::loops::Part;
@@ -29,7 +30,7 @@ use std::alloc::Global;
 pub struct Steps;
 
 impl Part<Step, ()> for Steps {
-    ghost reads = { λ depth place ts. reader.one_step (exprs_within depth) ts };
+    ghost reads = { λ depth place ts. reader.one_step (code_within depth) ts };
 }
 
 /// The generic arguments behind a `::`.
@@ -51,9 +52,13 @@ fn read_late_args(
     }
 }
 
-impl<P: Fn(Global, &mut Ahead<'_>, Place, u32) -> Result<Found<Expr>, ReadNone>> ExprRules<P> {
+impl<P: Fn(Global, &mut Ahead<'_>, Place, u32) -> Result<Found<Expr>, ReadNone>, H> ExprRules<
+    P,
+    H,
+> {
     /// An expression with postfix steps behind it. A tuple index doesn't stand directly behind a number without suffix.
     #[tactic(auto, unfolding(lay_tree::specs::reader::Exprs::postfix_expr))]
+    #[inline(never)]
     pub fn postfix_expr(
         &self,
         at: &mut Ahead<'_>,
@@ -61,7 +66,7 @@ impl<P: Fn(Global, &mut Ahead<'_>, Place, u32) -> Result<Found<Expr>, ReadNone>>
     ) -> Result<Found<Expr>, ReadNone>
         requires deeper { AreExprs self.now.depth (P.pre self.now.exprs) (P.post self.now.exprs) }
         requires within { lhs.need ≤ self.now.depth }
-        ensures read { IsFound (reader.postfix_expr (exprs_within self.now.depth) (lhs.node, lhs.need) at.old) result at.new }
+        ensures read { IsFound (reader.postfix_expr (code_within self.now.depth) (lhs.node, lhs.need) at.old) result at.new }
         ensures within { IfOk result (λ found. found.need ≤ self.now.depth + 1) }
     {
         if is_number(&lhs.node) && begins_tuple_index(at) {
@@ -77,13 +82,14 @@ impl<P: Fn(Global, &mut Ahead<'_>, Place, u32) -> Result<Found<Expr>, ReadNone>>
     }
 
     /// Steps, as long as one begins.
-    #[tactic(auto, using(crate::proofs::Left::step_leaves))]
+    #[tactic(auto, using(lay_read_blocks::proofs::Left::step_leaves))]
+    #[inline(never)]
     fn steps(&self, at: &mut Ahead<'_>) -> Result<Found<List<Step>>, ReadNone>
         requires { AreExprs self.now.depth (P.pre self.now.exprs) (P.post self.now.exprs) }
-        ensures read { IsHeld AreFound (steps (exprs_within self.now.depth) at.old) result at.new }
+        ensures read { IsHeld AreFound (steps (code_within self.now.depth) at.old) result at.new }
         ensures within { IfOk result (λ found. found.need ≤ self.now.depth) }
     {
-        read_parts::<Steps, ExprRules<P>, Step, (), _>(
+        read_parts::<Steps, ExprRules<P, H>, Step, (), _>(
             self.alloc,
             at,
             self.depth,
@@ -96,9 +102,10 @@ impl<P: Fn(Global, &mut Ahead<'_>, Place, u32) -> Result<Found<Expr>, ReadNone>>
 
     /// A step.
     #[tactic(auto, unfolding(lay_tree::specs::reader::Exprs::one_step))]
+    #[inline(never)]
     fn one_step(&self, at: &mut Ahead<'_>, _place: ()) -> Result<Found<Step>, ReadNone>
         requires { AreExprs self.now.depth (P.pre self.now.exprs) (P.post self.now.exprs) }
-        ensures read { IsFound (reader.one_step (exprs_within self.now.depth) at.old) result at.new }
+        ensures read { IsFound (reader.one_step (code_within self.now.depth) at.old) result at.new }
         ensures within { IfOk result (λ found. found.need ≤ self.now.depth) }
     {
         if takes_op(at, b".") {
@@ -116,9 +123,10 @@ impl<P: Fn(Global, &mut Ahead<'_>, Place, u32) -> Result<Found<Expr>, ReadNone>>
     }
 
     /// Arguments, behind a `(`.
+    #[inline(never)]
     fn call_step(&self, at: &mut Ahead<'_>) -> Result<Found<Step>, ReadNone>
         requires { AreExprs self.now.depth (P.pre self.now.exprs) (P.post self.now.exprs) }
-        ensures read { IsFound (reader.call_step (exprs_within self.now.depth) at.old) result at.new }
+        ensures read { IsFound (reader.call_step (code_within self.now.depth) at.old) result at.new }
         ensures within { IfOk result (λ found. found.need ≤ self.now.depth) }
     {
         let found = self.free_elements(at, Delim::Paren)?;
@@ -129,9 +137,10 @@ impl<P: Fn(Global, &mut Ahead<'_>, Place, u32) -> Result<Found<Expr>, ReadNone>>
     }
 
     /// An index in brackets.
+    #[inline(never)]
     fn bracket_step(&self, at: &mut Ahead<'_>) -> Result<Found<Step>, ReadNone>
         requires { AreExprs self.now.depth (P.pre self.now.exprs) (P.post self.now.exprs) }
-        ensures read { IsFound (bracket_step (exprs_within self.now.depth) at.old) result at.new }
+        ensures read { IsFound (bracket_step (code_within self.now.depth) at.old) result at.new }
         ensures within { IfOk result (λ found. found.need ≤ self.now.depth) }
     {
         if !takes_opener(at, Delim::Bracket) {
@@ -149,9 +158,10 @@ impl<P: Fn(Global, &mut Ahead<'_>, Place, u32) -> Result<Found<Expr>, ReadNone>>
 
     /// What stands behind a `.`.
     #[tactic(auto, unfolding(lay_tree::specs::reader::Exprs::dot_step), using(lay_read_parts::proofs::Steps::literal_is))]
+    #[inline(never)]
     fn dot_step(&self, at: &mut Ahead<'_>) -> Result<Found<Step>, ReadNone>
         requires { AreExprs self.now.depth (P.pre self.now.exprs) (P.post self.now.exprs) }
-        ensures read { IsFound (reader.dot_step (exprs_within self.now.depth) at.old) result at.new }
+        ensures read { IsFound (reader.dot_step (code_within self.now.depth) at.old) result at.new }
         ensures within { IfOk result (λ found. found.need ≤ self.now.depth) }
     {
         if takes_keyword(at, b"await") {
@@ -172,9 +182,10 @@ impl<P: Fn(Global, &mut Ahead<'_>, Place, u32) -> Result<Found<Expr>, ReadNone>>
     }
 
     /// What stands behind a `.` and a name.
+    #[inline(never)]
     fn member(&self, at: &mut Ahead<'_>, name: Name) -> Result<Found<Step>, ReadNone>
         requires { AreExprs self.now.depth (P.pre self.now.exprs) (P.post self.now.exprs) }
-        ensures read { IsFound (reader.member_by (exprs_within self.now.depth) name at.old) result at.new }
+        ensures read { IsFound (reader.member_by (code_within self.now.depth) name at.old) result at.new }
         ensures within { IfOk result (λ found. found.need ≤ self.now.depth) }
     {
         if is_at_opened(at, Delim::Paren) {
@@ -196,10 +207,11 @@ impl<P: Fn(Global, &mut Ahead<'_>, Place, u32) -> Result<Found<Expr>, ReadNone>>
     }
 
     /// A method behind its name, where generic arguments stand behind that.
+    #[inline(never)]
     fn generic_method(&self, at: &mut Ahead<'_>, name: Name) -> Result<Found<Step>, ReadNone>
         requires deeper { AreExprs self.now.depth (P.pre self.now.exprs) (P.post self.now.exprs) }
         requires late { opens_args_late at.old ≡ true }
-        ensures read { IsFound (generic_method (exprs_within self.now.depth) name at.old) result at.new }
+        ensures read { IsFound (generic_method (code_within self.now.depth) name at.old) result at.new }
         ensures within { IfOk result (λ found. found.need ≤ self.now.depth) }
     {
         let (name, found) = both(name, read_late_args(self.alloc, at, self.depth))?;
@@ -211,6 +223,7 @@ impl<P: Fn(Global, &mut Ahead<'_>, Place, u32) -> Result<Found<Expr>, ReadNone>>
     }
 
     /// The arguments of a method, behind its name and its generic arguments.
+    #[inline(never)]
     fn method(
         &self,
         at: &mut Ahead<'_>,
@@ -219,7 +232,7 @@ impl<P: Fn(Global, &mut Ahead<'_>, Place, u32) -> Result<Found<Expr>, ReadNone>>
     ) -> Result<Found<Step>, ReadNone>
         requires deeper { AreExprs self.now.depth (P.pre self.now.exprs) (P.post self.now.exprs) }
         requires within { generics.need ≤ self.now.depth }
-        ensures read { IsFound (reader.method_by (exprs_within self.now.depth) name generics.node generics.need at.old) result at.new }
+        ensures read { IsFound (reader.method_by (code_within self.now.depth) name generics.node generics.need at.old) result at.new }
         ensures within { IfOk result (λ found. found.need ≤ self.now.depth) }
     {
         if !takes_opener(at, Delim::Paren) {

@@ -4,12 +4,13 @@ ghost use Rattle.lay_node.specs.reader.Loops.{repeat};
 ghost use Rattle.lay_tree.specs.Operators as operators;
 ghost use Rattle.lay_tree.specs.reader.Exprs as reader;
 ghost use Rattle.lay_read_tokens.specs.Answers.{IsFound, IsGot};
-ghost use Rattle.lay_read_exprs.specs.Answers.{AreExprs, exprs_within};
+ghost use Rattle.lay_read_blocks.specs.Answers.{code_within};
+ghost use Rattle.lay_read_exprs.specs.Answers.{AreExprs};
 
-use crate::places::plain;
 use crate::rules::ExprRules;
 use lay_ops::ahead::prefix;
 use lay_ops::operators::prefix_length;
+use lay_read_blocks::places::plain;
 use lay_read_parts::joins::both;
 use lay_read_tokens::front::pass;
 use lay_read_tokens::stop::keep;
@@ -40,12 +41,16 @@ fn read_prefixes(alloc: Global, at: &mut Ahead<'_>) -> Result<List<Prefix>, Read
     Ok(prefixes)
 }
 
-impl<P: Fn(Global, &mut Ahead<'_>, Place, u32) -> Result<Found<Expr>, ReadNone>> ExprRules<P> {
+impl<P: Fn(Global, &mut Ahead<'_>, Place, u32) -> Result<Found<Expr>, ReadNone>, H> ExprRules<
+    P,
+    H,
+> {
     /// Operators, and the operand behind them.
     #[tactic(auto, unfolding(lay_tree::specs::reader::Exprs::unary_expr))]
+    #[inline(never)]
     pub fn unary_expr(&self, at: &mut Ahead<'_>, no_struct: bool) -> Result<Found<Expr>, ReadNone>
         requires { AreExprs self.now.depth (P.pre self.now.exprs) (P.post self.now.exprs) }
-        ensures read { IsFound (reader.unary_expr (exprs_within self.now.depth) no_struct at.old) result at.new }
+        ensures read { IsFound (reader.unary_expr (code_within self.now.depth) no_struct at.old) result at.new }
         ensures within { IfOk result (λ found. found.need ≤ self.now.depth + 1) }
     {
         let prefixes = read_prefixes(self.alloc, at)?;

@@ -2,7 +2,8 @@
 ghost use Rattle.std.specs.Prelude.{◌≡◌, ◌+◌, ◌≤◌, IfOk};
 ghost use Rattle.lay_tree.specs.reader.Exprs as reader;
 ghost use Rattle.lay_read_tokens.specs.Answers.{IsFound};
-ghost use Rattle.lay_read_exprs.specs.Answers.{AreExprs, exprs_within};
+ghost use Rattle.lay_read_blocks.specs.Answers.{code_within};
+ghost use Rattle.lay_read_exprs.specs.Answers.{AreExprs};
 
 use crate::rules::ExprRules;
 use lay_read_parts::joins::{both, refused};
@@ -12,9 +13,13 @@ use lay_read_tokens::{Ahead, Found, ReadNone};
 use lay_tree::{Boxed, Expr, Place};
 use std::alloc::Global;
 
-impl<P: Fn(Global, &mut Ahead<'_>, Place, u32) -> Result<Found<Expr>, ReadNone>> ExprRules<P> {
+impl<P: Fn(Global, &mut Ahead<'_>, Place, u32) -> Result<Found<Expr>, ReadNone>, H> ExprRules<
+    P,
+    H,
+> {
     /// A range, from its `..` or `..=` on.
     #[tactic(auto, unfolding(lay_tree::specs::reader::Exprs::range_expr))]
+    #[inline(never)]
     pub fn range_expr(
         &self,
         at: &mut Ahead<'_>,
@@ -23,7 +28,7 @@ impl<P: Fn(Global, &mut Ahead<'_>, Place, u32) -> Result<Found<Expr>, ReadNone>>
     ) -> Result<Found<Expr>, ReadNone>
         requires deeper { AreExprs self.now.depth (P.pre self.now.exprs) (P.post self.now.exprs) }
         requires within { start.need ≤ self.now.depth }
-        ensures read { IsFound (reader.range_expr (exprs_within self.now.depth) no_struct start.node start.need at.old) result at.new }
+        ensures read { IsFound (reader.range_expr (code_within self.now.depth) no_struct start.node start.need at.old) result at.new }
         ensures within { IfOk result (λ found. found.need ≤ self.now.depth + 1) }
     {
         let inclusive = at.op_is(b"..=");
@@ -35,6 +40,7 @@ impl<P: Fn(Global, &mut Ahead<'_>, Place, u32) -> Result<Found<Expr>, ReadNone>>
     }
 
     /// What stands behind the operator of a range.
+    #[inline(never)]
     fn range_by(
         &self,
         at: &mut Ahead<'_>,
@@ -44,7 +50,7 @@ impl<P: Fn(Global, &mut Ahead<'_>, Place, u32) -> Result<Found<Expr>, ReadNone>>
     ) -> Result<Found<Expr>, ReadNone>
         requires deeper { AreExprs self.now.depth (P.pre self.now.exprs) (P.post self.now.exprs) }
         requires within { start.need ≤ self.now.depth }
-        ensures read { IsFound (reader.range_by (exprs_within self.now.depth) no_struct start.node start.need inclusive at.old) result at.new }
+        ensures read { IsFound (reader.range_by (code_within self.now.depth) no_struct start.node start.need inclusive at.old) result at.new }
         ensures within { IfOk result (λ found. found.need ≤ self.now.depth + 1) }
     {
         let (start, end) = both(start, self.operand_if(at, 2, no_struct))?;

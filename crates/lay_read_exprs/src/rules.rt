@@ -1,6 +1,6 @@
 //! The rules of a level, and how what is one level deeper is read.
 ghost use Rattle.std.specs.Prelude.{◌≡◌, ◌≤◌, IfOk};
-ghost use Rattle.lay_tree.specs.reader.Exprs.{expr_at};
+ghost use Rattle.lay_tree.specs.reader.Code.{expr_at};
 ghost use Rattle.lay_read_tokens.specs.Answers.{IsFound};
 ghost use Rattle.lay_read_exprs.specs.Answers.{AreExprs};
 
@@ -11,15 +11,21 @@ use std::alloc::Global;
 
 /// The rules of a level, over the reader of expressions one level deeper, at a place.
 #[derive(Drop)]
-pub struct ExprRules<P> {
+pub struct ExprRules<P, H> {
     pub alloc: Global,
     /// At this depth what is one level deeper is read.
     pub depth: u32,
     pub exprs: P,
+    /// What reads expressions that begin with blocks, and closures.
+    pub heads: H,
 }
 
-impl<P: Fn(Global, &mut Ahead<'_>, Place, u32) -> Result<Found<Expr>, ReadNone>> ExprRules<P> {
+impl<P: Fn(Global, &mut Ahead<'_>, Place, u32) -> Result<Found<Expr>, ReadNone>, H> ExprRules<
+    P,
+    H,
+> {
     /// An expression one level deeper.
+    #[inline(never)]
     pub fn inner(&self, at: &mut Ahead<'_>, place: Place) -> Result<Found<Expr>, ReadNone>
         requires { AreExprs self.now.depth (P.pre self.now.exprs) (P.post self.now.exprs) }
         ensures read { IsFound (expr_at place self.now.depth at.old) result at.new }
@@ -29,6 +35,7 @@ impl<P: Fn(Global, &mut Ahead<'_>, Place, u32) -> Result<Found<Expr>, ReadNone>>
     }
 
     /// The same in a box.
+    #[inline(never)]
     pub fn boxed_inner(
         &self,
         at: &mut Ahead<'_>,

@@ -2,10 +2,11 @@
 ghost use Rattle.std.specs.Prelude.{◌≡◌, ◌+◌, ◌≤◌, None, IfOk};
 ghost use Rattle.lay_tree.specs.reader.Exprs as reader;
 ghost use Rattle.lay_read_tokens.specs.Answers.{IsFound};
-ghost use Rattle.lay_read_exprs.specs.Answers.{AreExprs, exprs_within, numbered_field, struct_by};
+ghost use Rattle.lay_read_blocks.specs.Answers.{code_within};
+ghost use Rattle.lay_read_exprs.specs.Answers.{AreExprs, numbered_field, struct_by};
 
-use crate::places::FREE;
 use crate::rules::ExprRules;
+use lay_read_blocks::places::FREE;
 use lay_read_parts::joins::{both, refused};
 use lay_read_parts::loops::{Opening, Part, read_open_elements};
 use lay_read_pats::structs::read_index_if;
@@ -22,12 +23,16 @@ use std::alloc::Global;
 pub struct Fields;
 
 impl Part<FieldExpr, ()> for Fields {
-    ghost reads = { λ depth place ts. reader.one_field (exprs_within depth) ts };
+    ghost reads = { λ depth place ts. reader.one_field (code_within depth) ts };
 }
 
-impl<P: Fn(Global, &mut Ahead<'_>, Place, u32) -> Result<Found<Expr>, ReadNone>> ExprRules<P> {
+impl<P: Fn(Global, &mut Ahead<'_>, Place, u32) -> Result<Found<Expr>, ReadNone>, H> ExprRules<
+    P,
+    H,
+> {
     /// Fields in braces, behind a path and the `{`.
-    #[tactic(auto, unfolding(lay_tree::specs::reader::Exprs::struct_expr), using(crate::proofs::Left::field_leaves))]
+    #[tactic(auto, unfolding(lay_tree::specs::reader::Exprs::struct_expr), using(lay_read_blocks::proofs::Left::field_leaves))]
+    #[inline(never)]
     pub fn struct_expr(
         &self,
         at: &mut Ahead<'_>,
@@ -35,12 +40,12 @@ impl<P: Fn(Global, &mut Ahead<'_>, Place, u32) -> Result<Found<Expr>, ReadNone>>
     ) -> Result<Found<Expr>, ReadNone>
         requires deeper { AreExprs self.now.depth (P.pre self.now.exprs) (P.post self.now.exprs) }
         requires within { path.need ≤ self.now.depth }
-        ensures read { IsFound (reader.struct_expr (exprs_within self.now.depth) (path.node, path.need) at.old) result at.new }
+        ensures read { IsFound (reader.struct_expr (code_within self.now.depth) (path.node, path.need) at.old) result at.new }
         ensures within { IfOk result (λ found. found.need ≤ self.now.depth + 1) }
     {
         let (path, found) = both(
             path,
-            read_open_elements::<Fields, ExprRules<P>, FieldExpr, (), _>(
+            read_open_elements::<Fields, ExprRules<P, H>, FieldExpr, (), _>(
                 self.alloc,
                 at,
                 self.depth,
@@ -54,6 +59,7 @@ impl<P: Fn(Global, &mut Ahead<'_>, Place, u32) -> Result<Found<Expr>, ReadNone>>
     }
 
     /// What stands behind the fields, of which it is known whether they ended.
+    #[inline(never)]
     fn struct_by(
         &self,
         at: &mut Ahead<'_>,
@@ -63,7 +69,7 @@ impl<P: Fn(Global, &mut Ahead<'_>, Place, u32) -> Result<Found<Expr>, ReadNone>>
         requires deeper { AreExprs self.now.depth (P.pre self.now.exprs) (P.post self.now.exprs) }
         requires within { path.need ≤ self.now.depth }
         requires fields_within { found.need ≤ self.now.depth }
-        ensures read { IsFound (struct_by (exprs_within self.now.depth) (path.node, path.need) (found.node, found.need) at.old) result at.new }
+        ensures read { IsFound (struct_by (code_within self.now.depth) (path.node, path.need) (found.node, found.need) at.old) result at.new }
         ensures within { IfOk result (λ found. found.need ≤ self.now.depth + 1) }
     {
         let Found { node, need } = found;
@@ -84,13 +90,14 @@ impl<P: Fn(Global, &mut Ahead<'_>, Place, u32) -> Result<Found<Expr>, ReadNone>>
 
     /// A base, if the fields ended and a `..` stands behind them.
     #[tactic(auto, unfolding(lay_tree::specs::reader::Exprs::base))]
+    #[inline(never)]
     fn base(
         &self,
         at: &mut Ahead<'_>,
         ended: bool,
     ) -> Result<Found<Option<Option<Boxed<Expr>>>>, ReadNone>
         requires { AreExprs self.now.depth (P.pre self.now.exprs) (P.post self.now.exprs) }
-        ensures read { IsFound (reader.base (exprs_within self.now.depth) ended at.old) result at.new }
+        ensures read { IsFound (reader.base (code_within self.now.depth) ended at.old) result at.new }
         ensures within { IfOk result (λ found. found.need ≤ self.now.depth) }
     {
         if !(ended && at.op_is(b"..")) {
@@ -115,9 +122,10 @@ impl<P: Fn(Global, &mut Ahead<'_>, Place, u32) -> Result<Found<Expr>, ReadNone>>
 
     /// A field, with its attributes.
     #[tactic(auto, unfolding(lay_tree::specs::reader::Exprs::one_field))]
+    #[inline(never)]
     fn one_field(&self, at: &mut Ahead<'_>, _place: ()) -> Result<Found<FieldExpr>, ReadNone>
         requires { AreExprs self.now.depth (P.pre self.now.exprs) (P.post self.now.exprs) }
-        ensures read { IsFound (reader.one_field (exprs_within self.now.depth) at.old) result at.new }
+        ensures read { IsFound (reader.one_field (code_within self.now.depth) at.old) result at.new }
         ensures within { IfOk result (λ found. found.need ≤ self.now.depth) }
     {
         let attrs = attrs_ahead(self.alloc, at, false)?;
@@ -129,6 +137,7 @@ impl<P: Fn(Global, &mut Ahead<'_>, Place, u32) -> Result<Found<Expr>, ReadNone>>
     }
 
     /// A field behind its number and the `:`.
+    #[inline(never)]
     fn numbered_field(
         &self,
         at: &mut Ahead<'_>,
@@ -136,7 +145,7 @@ impl<P: Fn(Global, &mut Ahead<'_>, Place, u32) -> Result<Found<Expr>, ReadNone>>
         index: Text,
     ) -> Result<Found<FieldExpr>, ReadNone>
         requires { AreExprs self.now.depth (P.pre self.now.exprs) (P.post self.now.exprs) }
-        ensures read { IsFound (numbered_field (exprs_within self.now.depth) attrs index at.old) result at.new }
+        ensures read { IsFound (numbered_field (code_within self.now.depth) attrs index at.old) result at.new }
         ensures within { IfOk result (λ found. found.need ≤ self.now.depth) }
     {
         let ((attrs, index), found) = both((attrs, index), self.inner(at, FREE))?;
@@ -151,13 +160,14 @@ impl<P: Fn(Global, &mut Ahead<'_>, Place, u32) -> Result<Found<Expr>, ReadNone>>
     }
 
     /// A field that is called by its name, behind its attributes.
+    #[inline(never)]
     fn worded_field(
         &self,
         at: &mut Ahead<'_>,
         attrs: List<Attr>,
     ) -> Result<Found<FieldExpr>, ReadNone>
         requires { AreExprs self.now.depth (P.pre self.now.exprs) (P.post self.now.exprs) }
-        ensures read { IsFound (reader.field_by (exprs_within self.now.depth) attrs None at.old) result at.new }
+        ensures read { IsFound (reader.field_by (code_within self.now.depth) attrs None at.old) result at.new }
         ensures within { IfOk result (λ found. found.need ≤ self.now.depth) }
     {
         let (attrs, name) = both(attrs, read_name(self.alloc, at))?;
@@ -165,6 +175,7 @@ impl<P: Fn(Global, &mut Ahead<'_>, Place, u32) -> Result<Found<Expr>, ReadNone>>
     }
 
     /// A field behind its name.
+    #[inline(never)]
     fn named_field(
         &self,
         at: &mut Ahead<'_>,
@@ -172,7 +183,7 @@ impl<P: Fn(Global, &mut Ahead<'_>, Place, u32) -> Result<Found<Expr>, ReadNone>>
         name: Name,
     ) -> Result<Found<FieldExpr>, ReadNone>
         requires { AreExprs self.now.depth (P.pre self.now.exprs) (P.post self.now.exprs) }
-        ensures read { IsFound (reader.named_field (exprs_within self.now.depth) attrs name at.old) result at.new }
+        ensures read { IsFound (reader.named_field (code_within self.now.depth) attrs name at.old) result at.new }
         ensures within { IfOk result (λ found. found.need ≤ self.now.depth) }
     {
         if !takes_op(at, b":") {

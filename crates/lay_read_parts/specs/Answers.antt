@@ -37,6 +37,7 @@ pub record ReadsParts {R X T : Type 0} (depth : ℕ) (rules : R) (place : X) (on
 abbrev pub closed_by : Closer → Token → Bool
 closed_by (closer.Group delim) t = closes delim t
 closed_by closer.Angle t = is_mark (codes ">") t
+closed_by closer.Bar t = is_mark (codes "|") t
 
 abbrev pub joined_by : Joint → List ℕ
 joined_by joint.Plus = codes "+"

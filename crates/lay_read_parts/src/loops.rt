@@ -23,6 +23,8 @@ pub enum Closer {
     Group(Delim),
     /// `>`
     Angle,
+    /// `|`
+    Bar,
 }
 
 /// What stands between the parts of a chain.
@@ -61,6 +63,7 @@ fn is_at_end(at: &Ahead<'_>, closer: Closer) -> bool
     match closer {
         Closer::Group(delim) => is_at_closer(at, delim),
         Closer::Angle => is_at_mark(at, b">"),
+        Closer::Bar => is_at_mark(at, b"|"),
     }
 }
 
@@ -72,6 +75,7 @@ fn takes_end(at: &mut Ahead<'_>, closer: Closer) -> bool
     match closer {
         Closer::Group(delim) => takes_closer(at, delim),
         Closer::Angle => takes_mark(at, b">"),
+        Closer::Bar => takes_mark(at, b"|"),
     }
 }
 

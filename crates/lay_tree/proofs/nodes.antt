@@ -2,3 +2,4 @@
 pub mod ItemLaws
 pub mod ExprsLaws
 pub mod PlacesTable
+pub mod BlocksLaws

@@ -3,5 +3,7 @@ pub mod ItemTrees
 pub mod Item
 pub mod Exprs
 pub mod ExprHeads
+pub mod Blocks
+pub mod BlocksRead
 pub mod Heads
 pub mod HeadsRead

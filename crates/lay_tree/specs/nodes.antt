@@ -1,5 +1,10 @@
 -- The nodes, a family a file. Each says what is well formed, which form it has, and what may not follow.
 pub mod Places
+pub mod CodeFacts
+pub mod Ends
+pub mod Parts
 pub mod Exprs
+pub mod Blocks
 pub mod Item
+pub mod Code
 pub mod File

@@ -1,6 +1,14 @@
 //! Expressions, and the places where they stand.
+ghost use Rattle.std.specs.Prelude.{◌≡◌};
+ghost use Rattle.lay_tree.specs.nodes.Parts.{block_of};
+
+use crate::blocks::{Arm, Block, Branch};
+use crate::drops::{
+    discard_arms, discard_base, discard_boxed, discard_branches, discard_exprs, discard_fields,
+    discard_operand, discard_operands, discard_otherwise, discard_steps, discard_targets,
+};
 use crate::operators::{Op, Prefix};
-use lay_node::{Arg, Attr, Boxed, Lifetime, Literal, MacroCall, Name, Path, Tokens, Ty};
+use lay_node::{Arg, Attr, Boxed, Lifetime, Literal, MacroCall, Name, Pat, Path, Tokens, Ty};
 use lay_token::{List, Text};
 
 /// Whether an expression begins a statement or the body of an arm, and is the whole of it or a part.
@@ -26,8 +34,7 @@ pub struct Place {
 }
 
 /// An expression (Rust Reference, "Expressions"). One within another stands one level deeper.
-#[cycle(exprs)]
-#[derive(Drop)]
+#[cycle(code)]
 pub enum Expr {
     /// `1`, `true`, `"a"`
     Lit {
@@ -101,6 +108,67 @@ pub enum Expr {
         base: Boxed<Expr>,
         steps: List<Step>,
     },
+    /// `'a: { b; c }`
+    Block {
+        label: Option<Lifetime>,
+        body: Block,
+    },
+    /// `unsafe { a }`
+    Unsafe {
+        body: Block,
+    },
+    /// `const { a }`
+    ConstBlock {
+        body: Block,
+    },
+    /// `async move { a }`
+    Async {
+        moves: bool,
+        body: Block,
+    },
+    /// `if a { b } else if let c = d { e } else { f }`, of one branch at least
+    If {
+        branches: List<Branch>,
+        otherwise: Option<Block>,
+    },
+    /// `match a { b => c }`
+    Match {
+        scrutinee: Boxed<Expr>,
+        attrs: List<Attr>,
+        arms: List<Arm>,
+    },
+    /// `'a: loop { b }`
+    Loop {
+        label: Option<Lifetime>,
+        body: Block,
+    },
+    /// `'a: while b { c }`, `while let b = c { d }`
+    While {
+        label: Option<Lifetime>,
+        pat: Option<Pat>,
+        condition: Boxed<Expr>,
+        body: Block,
+    },
+    /// `'a: for b in c { d }`
+    For {
+        label: Option<Lifetime>,
+        pat: Pat,
+        iterated: Boxed<Expr>,
+        body: Block,
+    },
+    /// `move |a, b: C| d`
+    Closure {
+        moves: bool,
+        params: List<ClosureParam>,
+        body: Boxed<Expr>,
+    },
+    /// `|a| -> B { c }`
+    TypedClosure {
+        moves: bool,
+        params: List<ClosureParam>,
+        output: Ty,
+        body: Block,
+    },
     /// `return a`
     Return {
         operand: Option<Boxed<Expr>>,
@@ -112,9 +180,159 @@ pub enum Expr {
     },
 }
 
-/// A field in a struct literal (Rust Reference, "Struct expressions").
-#[cycle(exprs)]
+impl Drop for Expr {
+    #[cycle(drops)]
+    fn drop(self) {
+        match self {
+            Expr::Lit { literal: _ } => {}
+            Expr::Path { path: _ } => {}
+            Expr::Underscore => {}
+            Expr::Call { call: _ } => {}
+            Expr::Paren { inner } => {
+                discard_boxed(inner);
+            }
+            Expr::Continue { label: _ } => {}
+            Expr::Tuple { elements } => {
+                discard_exprs(elements);
+            }
+            Expr::Array { elements } => {
+                discard_exprs(elements);
+            }
+            Expr::Repeat { element, length: _ } => {
+                discard_boxed(element);
+            }
+            Expr::Struct {
+                path: _,
+                fields,
+                base,
+            } => {
+                discard_fields(fields);
+                discard_base(base);
+            }
+            Expr::Chain { first, rest } => {
+                discard_boxed(first);
+                discard_operands(rest);
+            }
+            Expr::Cast { operand, types: _ } => {
+                discard_boxed(operand);
+            }
+            Expr::Unary {
+                prefixes: _,
+                operand,
+            } => {
+                discard_boxed(operand);
+            }
+            Expr::Range {
+                start,
+                inclusive: _,
+                end,
+            } => {
+                discard_operand(start);
+                discard_operand(end);
+            }
+            Expr::Assign { targets, value } => {
+                discard_targets(targets);
+                discard_boxed(value);
+            }
+            Expr::Postfix { base, steps } => {
+                discard_boxed(base);
+                discard_steps(steps);
+            }
+            Expr::Block { label: _, body } => {
+                drop(body);
+            }
+            Expr::Unsafe { body } => {
+                drop(body);
+            }
+            Expr::ConstBlock { body } => {
+                drop(body);
+            }
+            Expr::Async { moves: _, body } => {
+                drop(body);
+            }
+            Expr::If {
+                branches,
+                otherwise,
+            } => {
+                discard_branches(branches);
+                discard_otherwise(otherwise);
+            }
+            Expr::Match {
+                scrutinee,
+                attrs: _,
+                arms,
+            } => {
+                discard_boxed(scrutinee);
+                discard_arms(arms);
+            }
+            Expr::Loop { label: _, body } => {
+                drop(body);
+            }
+            Expr::While {
+                label: _,
+                pat: _,
+                condition,
+                body,
+            } => {
+                discard_boxed(condition);
+                drop(body);
+            }
+            Expr::For {
+                label: _,
+                pat: _,
+                iterated,
+                body,
+            } => {
+                discard_boxed(iterated);
+                drop(body);
+            }
+            Expr::Closure {
+                moves: _,
+                params: _,
+                body,
+            } => {
+                discard_boxed(body);
+            }
+            Expr::TypedClosure {
+                moves: _,
+                params: _,
+                output: _,
+                body,
+            } => {
+                drop(body);
+            }
+            Expr::Return { operand } => {
+                discard_operand(operand);
+            }
+            Expr::Break { label: _, operand } => {
+                discard_operand(operand);
+            }
+        }
+    }
+}
+
+impl Expr {
+    /// The block, where it is one, with a label or without.
+    pub fn into_block(self) -> Option<Block>
+        ensures { result ≡ block_of self }
+    {
+        match self {
+            Expr::Block { label: _, body } => Some(body),
+            _ => None,
+        }
+    }
+}
+
+/// A parameter of a closure.
 #[derive(Drop)]
+pub struct ClosureParam {
+    pub attrs: List<Attr>,
+    pub pat: Pat,
+    pub ty: Option<Ty>,
+}
+
+/// A field in a struct literal (Rust Reference, "Struct expressions").
+#[cycle(code)]
 pub enum FieldExpr {
     /// `a: b`
     Named {
@@ -135,9 +353,31 @@ pub enum FieldExpr {
     },
 }
 
+impl Drop for FieldExpr {
+    #[cycle(drops)]
+    fn drop(self) {
+        match self {
+            FieldExpr::Named {
+                attrs: _,
+                name: _,
+                value,
+            } => {
+                drop(value);
+            }
+            FieldExpr::Numbered {
+                attrs: _,
+                index: _,
+                value,
+            } => {
+                drop(value);
+            }
+            FieldExpr::Short { attrs: _, name: _ } => {}
+        }
+    }
+}
+
 /// What follows the base of a postfix expression.
-#[cycle(exprs)]
-#[derive(Drop)]
+#[cycle(code)]
 pub enum Step {
     /// `.a`
     Field {
@@ -165,4 +405,29 @@ pub enum Step {
     Try,
     /// `.await`
     Await,
+}
+
+impl Drop for Step {
+    #[cycle(drops)]
+    fn drop(self) {
+        match self {
+            Step::Field { name: _ } => {}
+            Step::TupleIndex { index: _ } => {}
+            Step::Method {
+                name: _,
+                generics: _,
+                args,
+            } => {
+                discard_exprs(args);
+            }
+            Step::Apply { args } => {
+                discard_exprs(args);
+            }
+            Step::Index { index } => {
+                drop(index);
+            }
+            Step::Try => {}
+            Step::Await => {}
+        }
+    }
 }

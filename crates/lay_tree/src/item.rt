@@ -1,4 +1,6 @@
 //! Items.
+use crate::blocks::Block;
+use crate::drops::{discard_items, discard_otherwise, discard_value};
 use crate::exprs::Expr;
 use lay_node::{
     Alias, Attr, Boxed, Enum, ExternCrate, FnHead, Group, ImplHead, Literal, MacroCall, Name,
@@ -7,8 +9,7 @@ use lay_node::{
 use lay_token::List;
 
 /// An item with its outer attributes (Rust Reference, "Items"). One within another stands one level deeper.
-#[cycle(items)]
-#[derive(Drop)]
+#[cycle(code)]
 pub struct Item {
     pub attrs: List<Attr>,
     /// Nothing, where it is a macro call or declares a macro.
@@ -16,9 +17,20 @@ pub struct Item {
     pub kind: ItemKind,
 }
 
+impl Drop for Item {
+    #[cycle(drops)]
+    fn drop(self) {
+        let Item {
+            attrs: _,
+            vis: _,
+            kind,
+        } = self;
+        drop(kind);
+    }
+}
+
 /// What an item is.
-#[cycle(items)]
-#[derive(Drop)]
+#[cycle(code)]
 pub enum ItemKind {
     /// `extern crate a;`
     ExternCrate {
@@ -38,10 +50,11 @@ pub enum ItemKind {
         attrs: List<Attr>,
         items: List<Item>,
     },
-    /// `fn a();`
+    /// `fn a() { b }` or `fn a();`
     Function {
         head: FnHead,
         wheres: Wheres,
+        body: Option<Block>,
     },
     /// `type A = B;`
     Alias {
@@ -94,4 +107,62 @@ pub enum ItemKind {
     Call {
         call: MacroCall,
     },
+}
+
+impl Drop for ItemKind {
+    #[cycle(drops)]
+    fn drop(self) {
+        match self {
+            ItemKind::ExternCrate { item: _ } => {}
+            ItemKind::Import { tree: _ } => {}
+            ItemKind::FileModule { name: _ } => {}
+            ItemKind::Module {
+                name: _,
+                attrs: _,
+                items,
+            } => {
+                discard_items(items);
+            }
+            ItemKind::Function {
+                head: _,
+                wheres: _,
+                body,
+            } => {
+                discard_otherwise(body);
+            }
+            ItemKind::Alias { item: _ } => {}
+            ItemKind::Struct { item: _ } => {}
+            ItemKind::Union { item: _ } => {}
+            ItemKind::Enum { item: _ } => {}
+            ItemKind::Value { head: _, value } => {
+                discard_value(value);
+            }
+            ItemKind::Trait {
+                head: _,
+                wheres: _,
+                attrs: _,
+                items,
+            } => {
+                discard_items(items);
+            }
+            ItemKind::Impl {
+                head: _,
+                wheres: _,
+                attrs: _,
+                items,
+            } => {
+                discard_items(items);
+            }
+            ItemKind::Foreign {
+                is_unsafe: _,
+                abi: _,
+                attrs: _,
+                items,
+            } => {
+                discard_items(items);
+            }
+            ItemKind::MacroRules { name: _, rules: _ } => {}
+            ItemKind::Call { call: _ } => {}
+        }
+    }
 }

@@ -8,13 +8,16 @@
 //! holds of every expression, item and file.
 #![tactic(auto)]
 
+pub mod blocks;
+mod drops;
 pub mod exprs;
 pub mod file;
 pub mod item;
 mod laws;
 pub mod operators;
 
-pub use exprs::{Expr, FieldExpr, Place, Start, Step};
+pub use blocks::{Arm, Block, Branch, Stmt};
+pub use exprs::{ClosureParam, Expr, FieldExpr, Place, Start, Step};
 pub use file::File;
 pub use item::{Item, ItemKind};
 pub use laws::{node_law, reading_law};

@@ -27,7 +27,7 @@ use Rattle.lay_node.specs.declared.types.Path.{Path}
 use Rattle.lay_node.specs.declared.types.PathStyle.TheVariants.{Code}
 use Rattle.lay_tree.specs.nodes.Exprs.{ExprFacts, placed, expr_forms, all_free, expr_facts, tuple_form, base_form, base_placed, struct_form}
 use Rattle.lay_tree.specs.nodes.Places.{FREE}
-use Rattle.lay_tree.specs.declared.exprs.Expr.TheOpen.{Expr-F}
+use Rattle.lay_tree.specs.declared.blocks.Stmt.TheOpen.{Expr-F}
 use Rattle.lay_laws.proofs.borders.Need as need
 use Rattle.lay_laws.proofs.borders.Border.{Other, Border, At, beyond}
 use Rattle.lay_laws.proofs.borders.Move.{under}
@@ -46,7 +46,7 @@ use Rattle.lay_laws.proofs.file.ExprParts.{ends_base, ends_expr, ends_by, ends_a
 use Rattle.lay_laws.proofs.file.ExprPlaces.{ExprPasses, stands_at, free_expr, frees_pass}
 
 -- what begins where an operand may
-starting : (v : Bool) (level : ℕ) (b : Border) → begins_at v level b ≡ true → Begins b
+pub starting : (v : Bool) (level : ℕ) (b : Border) → begins_at v level b ≡ true → Begins b
 starting v level b h = begins b (and_parts (begins_operand b) _ h).0
 
 -- ---- literals, paths and calls
@@ -104,7 +104,7 @@ underscore_pass = record {
       shut_deep (fixed q.0 (ends q.1));
 }
 
-pub call_pass : (call : MacroCall) → ExprPasses (expr_facts (Expr-F.Call call))
+pub call_pass : (call : MacroCall) → ExprPasses (expr_facts (Expr-F.Expr::Call call))
 call_pass call = record {
   go = λ v b h no_struct first g w.
       deep refl (always (call_passes_at b (starting v 14 b h).call call g (deep_pieces (about_call call).form w)));
@@ -202,7 +202,7 @@ fields_fit false = refl
 
 pub struct_pass : (path : Path) (fields : List Facts) (base : Option (Option ExprFacts))
     → Each (Passing plain ends_expr) fields → BasePasses base
-    → ExprPasses (expr_facts (Expr-F.Struct path fields base))
+    → ExprPasses (expr_facts (Expr-F.Expr::Struct path fields base))
 struct_pass path fields base k l = record {
   go = λ v b h no_struct first g w.
       let may = not (is_some base) in

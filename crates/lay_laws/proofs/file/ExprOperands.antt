@@ -16,7 +16,7 @@ use Rattle.lay_tree.specs.Operators.{op_text, op_level, is_angle_op}
 use Rattle.lay_tree.specs.nodes.Exprs.{ExprFacts, StepFacts, placed, expr_facts, is_dotted, is_tuple_index, first_step, methods, are_steps, steps_form, group_if, operands_form, operands_placed, tail_of_operands, is_chain_level, may_chain, types_form, types_good, prefix_bits, prefixes_form, end_form, end_placed, tail_of_end, targets_form, targets_placed, label_form, operand_form, operand_placed, tail_of_jump, break_placed}
 use Rattle.lay_tree.specs.nodes.Places as place
 use Rattle.lay_tree.specs.nodes.Places.{before_op}
-use Rattle.lay_tree.specs.declared.exprs.Expr.TheOpen.{Expr-F}
+use Rattle.lay_tree.specs.declared.blocks.Stmt.TheOpen.{Expr-F}
 use Rattle.lay_tree.specs.declared.operators.Op.{Op}
 use Rattle.lay_tree.specs.declared.operators.Op.TheVariants as op
 use Rattle.lay_tree.specs.declared.operators.Prefix.{Prefix}
@@ -30,7 +30,8 @@ use Rattle.lay_laws.proofs.file.TypeParts.{ends_lifetime, lifetime_passes}
 use Rattle.lay_laws.proofs.file.TypeArgs.{Any, Each}
 use Rattle.lay_laws.proofs.file.TypeKinds.{deep_pieces}
 use Rattle.lay_laws.proofs.file.Types.{type_passes}
-use Rattle.lay_laws.proofs.file.ExprParts.{ends_base, ends_operand, ends_expr, ends_by, ends_wide, operand_under, Behind, always, in_both, behind_wider, deep, shut_deep, first_part, in_group, from_clear, gap, may_lack_operand, return_word, break_word, continue_word, begins_prefix, prefix_at, begins_operand, begins, begins_dots, begins_range, higher, operand_begins, ranges_behind_operand, operator_passes, operator_broken}
+use Rattle.lay_laws.proofs.file.ExprParts.{ends_base, ends_operand, ends_expr, ends_by, ends_wide, operand_under, Behind, always, in_both, behind_wider, deep, shut_deep, first_part, in_group, from_clear, gap, may_lack_operand, return_word, break_word, continue_word, begins_prefix, prefix_at, begins_operand, begins, begins_dots, begins_range, higher, operand_begins, ranges_behind_operand}
+use Rattle.lay_laws.proofs.file.OperatorParts.{operator_passes, operator_broken}
 use Rattle.lay_laws.proofs.file.ExprPlaces.{ends_of, ExprPasses, is_placed, stands_at, operand_at, is_whole_before, inner_expr, inner_operand}
 use Rattle.lay_laws.proofs.file.ExprSteps.{StepPasses, steps_pass}
 

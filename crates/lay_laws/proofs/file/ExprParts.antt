@@ -1,30 +1,30 @@
 -- Where expressions begin and end, and what of a form begins with an expression. An expression may begin with a word, a
--- literal, an operator, `..`, `(`, `[`, `<`, `::` or `_`, so the borders before it are named by a test. A `..` that
--- follows a point gets a blank, so the flag for a text that ends in a point is part of it.
+-- lifetime, a literal, an operator, `..`, `(`, `[`, `{`, `|`, `<`, `::` or `_`, so the borders before it are named by a
+-- test. A `..` that follows a point gets a blank, so the flag for a text that ends in a point is part of it.
 use Rattle.std.proofs.Common.{◌≡◌, ℕ, nat_le, List, [], ◌∷◌, Bool, true, false, ◌&&◌, ◌||◌, refl, subst, codes, arith, Option}
 use Rattle.std.proofs.lemmas.Bool.{and_parts, and_from, or_left, or_right, leb-true, le-leb}
 use Rattle.lay_piece.specs.declared.kind.Delim.{Delim}
 use Rattle.lay_piece.specs.declared.kind.Delim.TheVariants.{Paren, Bracket}
+use Rattle.lay_piece.specs.declared.kind.Kind.TheVariants as kind
 use Rattle.lay_form.specs.Form as form
-use Rattle.lay_form.specs.Form.{Bit, Blank, Fixed, Operator, Form, Done, Piece, Leaf, Group, keyword, opener, closer}
+use Rattle.lay_form.specs.Form.{Bit, Blank, Form, Done, Piece, Leaf, Group, keyword, opener, closer}
 use Rattle.lay_form.specs.Layout.{led}
-use Rattle.lay_form.specs.Notation.{B}
+use Rattle.lay_node.specs.nodes.Fields.{blank_if}
 use Rattle.lay_node.specs.nodes.Patterns.{dots}
 use Rattle.lay_node.specs.nodes.Types.{deeper}
-use Rattle.lay_tree.specs.Operators.{op_text}
-use Rattle.lay_tree.specs.nodes.Exprs.{prefix_bits}
-use Rattle.lay_tree.specs.declared.operators.Op.{Op}
-use Rattle.lay_tree.specs.declared.operators.Op.TheVariants as op
+use Rattle.lay_tree.specs.nodes.Blocks.{dropped}
+use Rattle.lay_tree.specs.nodes.Exprs.{bar, prefix_bits}
 use Rattle.lay_tree.specs.declared.operators.Prefix.{Prefix}
 use Rattle.lay_tree.specs.declared.operators.Prefix.TheVariants as before
 use Rattle.lay_laws.proofs.borders.Need as need
-use Rattle.lay_laws.proofs.borders.Need.{Need, RawWord, Grow}
-use Rattle.lay_laws.proofs.borders.Border.{Other, Border, Spot, Clear, At, beyond, pass}
+use Rattle.lay_laws.proofs.borders.Need.{Need, RawWord, Grow, all}
+use Rattle.lay_laws.proofs.borders.Border.{Other, Border, Spot, Clear, At, beyond}
 use Rattle.lay_laws.proofs.borders.Move.{under}
 use Rattle.lay_laws.proofs.forms.Opened.{even}
-use Rattle.lay_laws.proofs.forms.Passes.{Passes, plain, stands, piece_passes}
-use Rattle.lay_laws.proofs.forms.Rules.{tables, On, From, under-refl, to_wider, fixed, dotted, breaks, simple, list_fits}
-use Rattle.lay_laws.proofs.file.PatternParts.{literals_lead, begins_call, wild}
+use Rattle.lay_laws.proofs.forms.Passes.{Passes, plain, leads, piece_passes}
+use Rattle.lay_laws.proofs.forms.Rules.{tables, On, From, under-refl, to_wider, simple, list_fits, body_fits, soft_fits}
+use Rattle.lay_laws.proofs.file.Nodes.{behind_word}
+use Rattle.lay_laws.proofs.file.PatternParts.{ends_pat, literals_lead, begins_call, wild}
 use Rattle.lay_laws.proofs.file.Types.{begins_path}
 
 -- ---- where an expression may have ended
@@ -202,15 +202,115 @@ begins_group b =
 abbrev pub begins_wild : Border → Bool
 begins_wild b = simple b wild && under (beyond b wild) ends_base
 
+-- behind a statement: an expression or an item may have ended
+abbrev pub ends_stmt : Border
+ends_stmt = record { needs = need.LineDoc ∷ ends_expr.needs; spot = Clear }
+
+-- A block may stand there, with a blank before it or not; and one that may stand on one line.
+abbrev pub opens_block : Bool → Border → Bool
+opens_block lead b =
+    body_fits (blank_if lead) [] b plain ends_stmt plain && body_fits (blank_if lead) dropped b plain ends_stmt plain
+
+abbrev pub opens_soft : Border → Bool
+opens_soft b = opens_block true b && soft_fits b plain ends_expr plain
+
+-- The bits lead to where no more is asked than at that border.
+abbrev pub leads_to : Border → List Bit → Border → Bool
+leads_to b p c = simple b p && under (beyond b p) c
+
+-- a word before a block, and one before what begins where nothing is asked
+abbrev pub block_word : List ℕ → List Bit
+block_word w = keyword w ∷ []
+
+abbrev pub head_word : List ℕ → List Bit
+head_word w = keyword w ∷ gap
+
+-- the `move` behind an `async`
+abbrev pub move_word : List Bit
+move_word = Blank ∷ keyword (codes "move") ∷ []
+
+abbrev pub begins_block_words : Border → Bool
+begins_block_words b =
+    leads_to b (block_word (codes "unsafe")) behind_word
+    && (leads_to b (block_word (codes "const")) behind_word
+    && (leads_to b (block_word (codes "async")) behind_word
+    && (leads_to (beyond b (block_word (codes "async"))) move_word behind_word
+    && leads_to b (block_word (codes "loop")) behind_word)))
+
+abbrev pub begins_head_words : Border → Bool
+begins_head_words b =
+    leads_to b (head_word (codes "if")) plain
+    && (leads_to b (head_word (codes "match")) plain
+    && (leads_to b (head_word (codes "while")) plain
+    && (leads_to b (head_word (codes "for")) plain && leads_to b (head_word (codes "move")) plain)))
+
+-- the parameters of a closure
+abbrev pub begins_bars : Border → Bool
+begins_bars b = list_fits true bar bar b plain ends_pat plain
+
+-- What holds a block may begin there, with a label or without one, and a closure.
+abbrev pub begins_code : Border → Bool
+begins_code b =
+    all (leads kind.Lifetime) b.needs
+    && (opens_block false b && (begins_bars b && (begins_block_words b && begins_head_words b)))
+
+-- the same, part by part
+pub record BeginsCode (b : Border) : Type 0 where
+  pub label : all (leads kind.Lifetime) b.needs ≡ true
+  pub brace : opens_block false b ≡ true
+  pub bars : begins_bars b ≡ true
+  pub by_unsafe : leads_to b (block_word (codes "unsafe")) behind_word ≡ true
+  pub by_const : leads_to b (block_word (codes "const")) behind_word ≡ true
+  pub by_async : leads_to b (block_word (codes "async")) behind_word ≡ true
+  pub by_async_move : leads_to (beyond b (block_word (codes "async"))) move_word behind_word ≡ true
+  pub by_loop : leads_to b (block_word (codes "loop")) behind_word ≡ true
+  pub by_if : leads_to b (head_word (codes "if")) plain ≡ true
+  pub by_match : leads_to b (head_word (codes "match")) plain ≡ true
+  pub by_while : leads_to b (head_word (codes "while")) plain ≡ true
+  pub by_for : leads_to b (head_word (codes "for")) plain ≡ true
+  pub by_move : leads_to b (head_word (codes "move")) plain ≡ true
+
+pub code_begins : (b : Border) → begins_code b ≡ true → BeginsCode b
+code_begins b h =
+    let p1 = and_parts (all (leads kind.Lifetime) b.needs) _ h in
+    let p2 = and_parts (opens_block false b) _ p1.1 in
+    let p3 = and_parts (begins_bars b) _ p2.1 in
+    let p4 = and_parts (begins_block_words b) _ p3.1 in
+    let w1 = and_parts (leads_to b (block_word (codes "unsafe")) behind_word) _ p4.0 in
+    let w2 = and_parts (leads_to b (block_word (codes "const")) behind_word) _ w1.1 in
+    let w3 = and_parts (leads_to b (block_word (codes "async")) behind_word) _ w2.1 in
+    let w4 = and_parts (leads_to (beyond b (block_word (codes "async"))) move_word behind_word) _ w3.1 in
+    let h1 = and_parts (leads_to b (head_word (codes "if")) plain) _ p4.1 in
+    let h2 = and_parts (leads_to b (head_word (codes "match")) plain) _ h1.1 in
+    let h3 = and_parts (leads_to b (head_word (codes "while")) plain) _ h2.1 in
+    let h4 = and_parts (leads_to b (head_word (codes "for")) plain) _ h3.1 in
+    record {
+      label = p1.0;
+      brace = p2.0;
+      bars = p3.0;
+      by_unsafe = w1.0;
+      by_const = w2.0;
+      by_async = w3.0;
+      by_async_move = w4.0;
+      by_loop = w4.1;
+      by_if = h1.0;
+      by_match = h2.0;
+      by_while = h3.0;
+      by_for = h4.0;
+      by_move = h4.1;
+    }
+
 -- An expression may begin there that doesn't begin with `..`.
 abbrev pub begins_operand : Border → Bool
 begins_operand b =
-    begins_path b
+    begins_code b
+    && (begins_path b
     && (begins_call b
-    && (literals_lead b && (begins_wild b && (begins_words b && (begins_prefix b && begins_group b)))))
+    && (literals_lead b && (begins_wild b && (begins_words b && (begins_prefix b && begins_group b))))))
 
 -- the same, part by part
 pub record Begins (b : Border) : Type 0 where
+  pub code : BeginsCode b
   pub path : begins_path b ≡ true
   pub call : begins_call b ≡ true
   pub literal : literals_lead b ≡ true
@@ -226,7 +326,8 @@ pub record Begins (b : Border) : Type 0 where
 
 pub begins : (b : Border) → begins_operand b ≡ true → Begins b
 begins b h =
-    let p1 = and_parts (begins_path b) _ h in
+    let p0 = and_parts (begins_code b) _ h in
+    let p1 = and_parts (begins_path b) _ p0.1 in
     let p2 = and_parts (begins_call b) _ p1.1 in
     let p3 = and_parts (literals_lead b) _ p2.1 in
     let p4 = and_parts (begins_wild b) _ p3.1 in
@@ -238,6 +339,7 @@ begins b h =
     let g2 = and_parts (list_fits true (opener Bracket) (closer Bracket) b plain ends_expr ends_base) _ g1.1 in
     let g3 = and_parts (opens_by b (opener Paren)) _ g2.1 in
     record {
+      code = code_begins b p0.0;
       path = p1.0;
       call = p2.0;
       literal = p3.0;
@@ -317,38 +419,3 @@ pub begins_based : (v : Bool) → begins_at true 0 (beyond plain (led v (dots fa
 unfolding tables
 begins_based true = refl
 begins_based false = refl
-
--- ---- operators between operands
-
--- an operator, with the blank that it may get, and a blank behind it
-abbrev op_fits : Op → Bool
-op_fits o =
-    let p = Operator (op_text o) ∷ [] in
-    (stands p && (pass plain p && pass plain (Blank ∷ p)))
-    && ((simple (beyond plain p) gap && is_clear (beyond (beyond plain p) gap))
-    && (simple (beyond plain (Blank ∷ p)) gap && is_clear (beyond (beyond plain (Blank ∷ p)) gap)))
-
--- Each operator fits where nothing is asked.
-ops_fit : (o : Op) → op_fits o ≡ true
-unfolding tables
-ops_fit op.Set = refl
-ops_fit _ = refl
-
--- a blank, behind which nothing is asked
-behind_gap : (b : Border) → simple b gap && is_clear (beyond b gap) ≡ true → {f : Form} {c : Border} → From plain f c
-    → From b (Piece gap f) c
-behind_gap b h k = let q = and_parts (simple b gap) _ h in fixed q.0 (from_clear (beyond b gap) q.1 k)
-
--- an operator, and an operand behind it
-pub operator_passes : (o : Op) {f : Form} {c : Border} → From plain f c
-    → From plain (Piece (Operator (op_text o) ∷ []) (Piece gap f)) c
-operator_passes o k =
-    let p = Operator (op_text o) ∷ [] in
-    let q = and_parts (stands p && (pass plain p && pass plain (Blank ∷ p))) _ (ops_fit o) in
-    let r = and_parts (simple (beyond plain p) gap && is_clear (beyond (beyond plain p) gap)) _ q.1 in
-    dotted q.0 (behind_gap (beyond plain p) r.0 k) (behind_gap (beyond plain (Blank ∷ p)) r.1 k)
-
--- the same behind an operand, where a break stands before it
-pub operator_broken : (o : Op) {f : Form} {c : Border} → From plain f c
-    → From ends_operand (B (Piece (Operator (op_text o) ∷ []) (Piece gap f))) c
-operator_broken o k = breaks refl (operator_passes o k)

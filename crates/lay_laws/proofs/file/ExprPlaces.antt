@@ -52,16 +52,16 @@ stands_at x k p g w v b h =
     k.go v b (higher v b p.level x.level q.level h) p.no_struct (place.begins p.start) q.inside w
 
 -- what an operator may follow lacks no operand
-no_bare : (takes_all bare : Bool) → not (takes_all || bare) ≡ true → bare ≡ false
-no_bare true bare h = cc
-no_bare false true h = cc
-no_bare false false h = refl
+no_bare : (takes_all bare closure : Bool) → not (takes_all || bare || closure) ≡ true → bare ≡ false
+no_bare true bare closure h = cc
+no_bare false true closure h = cc
+no_bare false false closure h = refl
 
 -- Before an operator it lacks no operand.
 pub is_whole_before : (x : ExprFacts) (level : ℕ) (no_struct first angle : Bool)
     → placed x (before_op level no_struct first angle) ≡ true → x.tail.bare ≡ false
 is_whole_before x level no_struct first angle g =
-    no_bare x.tail.takes_all x.tail.bare (is_placed x (before_op level no_struct first angle) g).shut
+    no_bare x.tail.takes_all x.tail.bare x.tail.closure (is_placed x (before_op level no_struct first angle) g).shut
 
 -- So it ends as an operand does.
 pub operand_at : (x : ExprFacts) → ExprPasses x → (level : ℕ) (no_struct first angle : Bool)

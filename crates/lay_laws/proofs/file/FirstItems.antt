@@ -14,13 +14,17 @@ use Rattle.lay_node.specs.declared.attr.Attr.{Attr}
 use Rattle.lay_node.specs.declared.heads.Site.TheVariants as site
 use Rattle.lay_node.specs.declared.vis.Vis.{Vis}
 use Rattle.lay_tree.specs.nodes.File.{form_of_file}
-use Rattle.lay_tree.specs.nodes.Item.{ItemFacts, KindFacts, about_file_module, about_foreign, about_function, about_impl, about_import, about_item, about_module, about_trait, about_value, in_modules, item_facts, kind_facts, kind_form, told_of_item, told_of_kind, value_form}
+use Rattle.lay_tree.specs.nodes.Code.{about_item, told_of_item, told_of_kind}
+use Rattle.lay_tree.specs.nodes.CodeFacts.{ItemFacts, KindFacts}
+use Rattle.lay_tree.specs.nodes.Exprs.{value_form}
+use Rattle.lay_tree.specs.nodes.Item.{about_file_module, about_foreign, about_function, about_impl, about_import, about_module, about_trait, about_value, in_modules, kind_facts, kind_form}
 use Rattle.lay_tree.specs.declared.file.File.{File}
 use Rattle.lay_tree.specs.declared.item.Item.{Item}
 use Rattle.lay_tree.specs.declared.item.ItemKind.{ItemKind}
-use Rattle.lay_tree.specs.declared.item.ItemKind.TheFolds as fold
-use Rattle.lay_tree.specs.declared.item.ItemKind.TheOpen.{ItemKind-F}
+use Rattle.lay_tree.specs.declared.blocks.Stmt.TheOpen.{ItemKind-F}
+use Rattle.lay_tree.specs.declared.blocks.Stmt.TheViews.{out-ItemKind, roll-out-ItemKind}
 use Rattle.lay_tree.proofs.nodes.ItemLaws.{item_is}
+use Rattle.lay_laws.proofs.file.CodeKept.{Told, kind_is}
 use Rattle.lay_laws.proofs.file.FirstText.{Fair, first_text, low_fair, attr_fair, call_fair}
 use Rattle.lay_laws.proofs.forms.HeadsFirst.{BeginsFair, seen_fair, extern_crate_fair, alias_fair, struct_fair, union_fair, enum_fair, value_head_fair, unsafe_fair, trait_head_fair, impl_head_fair, fn_head_fair}
 
@@ -31,7 +35,7 @@ record KindFair (x : KindFacts) : Type 0 where
 in_modules_fair : (x : HeadFacts) → BeginsFair x.head → KindFair (in_modules x)
 in_modules_fair x k = record { go = λ v w. seen_fair v x k }
 
-layer_fair : (y : ItemKind-F KindFacts ItemFacts) → KindFair (kind_facts y)
+layer_fair : (y : Told ItemKind-F) → KindFair (kind_facts y)
 layer_fair (ItemKind-F.ExternCrate x) = in_modules_fair (about_extern_crate x) (extern_crate_fair x)
 layer_fair (ItemKind-F.Import tree) =
     in_modules_fair (about_import tree) (λ d. low_fair (codes "use ") refl (λ r. refl) (λ r. refl))
@@ -39,11 +43,11 @@ layer_fair (ItemKind-F.FileModule name) =
     in_modules_fair (about_file_module name) (λ d. low_fair (codes "mod ") refl (λ r. refl) (λ r. refl))
 layer_fair (ItemKind-F.Module name attrs items) =
     in_modules_fair (about_module name attrs items) (λ d. low_fair (codes "mod ") refl (λ r. refl) (λ r. refl))
-layer_fair (ItemKind-F.Function head wheres) =
-    record { go = λ v w. seen_fair v (about_function site.Module head wheres) (fn_head_fair head) }
+layer_fair (ItemKind-F.Function head wheres body) =
+    record { go = λ v w. seen_fair v (about_function site.Module head wheres body) (fn_head_fair head) }
 layer_fair (ItemKind-F.Alias x) =
     record { go = λ v w. seen_fair v (about_alias site.Module x) (alias_fair site.Module x) }
-layer_fair (ItemKind-F.Struct x) = in_modules_fair (about_struct x) (struct_fair x)
+layer_fair (ItemKind-F.ItemKind::Struct x) = in_modules_fair (about_struct x) (struct_fair x)
 layer_fair (ItemKind-F.Union x) = in_modules_fair (about_union x) (union_fair x)
 layer_fair (ItemKind-F.Enum x) = in_modules_fair (about_enum x) (enum_fair x)
 layer_fair (ItemKind-F.Value head value) =
@@ -57,14 +61,14 @@ layer_fair (ItemKind-F.Foreign is_unsafe abi attrs items) =
     (unsafe_fair is_unsafe _ (λ d. low_fair (codes "extern") refl (λ r. refl) (λ r. refl)))
 layer_fair (ItemKind-F.MacroRules name rules) =
     record { go = λ v w d. low_fair (codes "macro_rules! ") refl (λ r. refl) (λ r. refl) }
-layer_fair (ItemKind-F.Call call) = record {
+layer_fair (ItemKind-F.ItemKind::Call call) = record {
   go = λ v w d.
       call_fair call _ (and_parts (are_pieces (call_form call)) (are_pieces (end_form call.tokens.delim)) w).0;
 }
 
 kind_fair : (k : ItemKind) → KindFair (told_of_kind k)
-unfolding told_of_kind
-kind_fair k = subst KindFair (sym (fold.fold_out-ItemKind KindFacts ItemFacts kind_facts item_facts k)) (layer_fair _)
+kind_fair k = subst (λ z. KindFair (told_of_kind z)) (roll-out-ItemKind k)
+    (subst KindFair (sym (kind_is (out-ItemKind k))) (layer_fair _))
 
 -- what is told of an item, where it is made of pieces
 record ItemFair (x : ItemFacts) : Type 0 where

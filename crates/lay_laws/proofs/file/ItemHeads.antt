@@ -1,5 +1,5 @@
 -- What items consist of passes: each head, and what stands behind it, given that the items within pass.
-use Rattle.std.proofs.Common.{◌≡◌, List, [], ◌∷◌, ◌++◌, Bool, true, ◌&&◌, refl, codes, map, Option, Some, None, is_some}
+use Rattle.std.proofs.Common.{◌≡◌, List, [], ◌∷◌, ◌++◌, Bool, true, false, ◌&&◌, refl, codes, map, Option, Some, None, is_some}
 use Rattle.std.specs.List.{list_all}
 use Rattle.std.proofs.lemmas.Bool.{and_parts}
 use Rattle.lay_form.specs.Form as form
@@ -24,21 +24,28 @@ use Rattle.lay_node.specs.declared.heads.ValueHead.{ValueHead}
 use Rattle.lay_node.specs.declared.token.Literal.{Literal}
 use Rattle.lay_node.specs.declared.token.Name.{Name}
 use Rattle.lay_node.specs.declared.use_tree.UseTree.{UseTree}
-use Rattle.lay_tree.specs.nodes.Exprs.{about_expr}
-use Rattle.lay_tree.specs.nodes.Item.{ItemFacts, about_file_module, about_foreign, about_function, about_impl, about_import, about_module, about_trait, about_value, foreign_abi, item_body, item_forms, items_good, may_lack_body, may_lack_value, module_head, may_be_valued, value_form, value_placed}
-use Rattle.lay_tree.specs.nodes.Places.{FREE}
-use Rattle.lay_tree.specs.declared.exprs.Expr.{Expr}
+use Rattle.lay_node.specs.declared.vis.Vis.{Vis}
+use Rattle.lay_tree.specs.nodes.CodeFacts.{BlockFacts, ItemFacts, KindFacts}
+use Rattle.lay_tree.specs.nodes.Exprs.{ExprFacts, may_be_good, value_form, value_placed}
+use Rattle.lay_tree.specs.nodes.Item.{about_file_module, about_foreign, about_function, about_impl, about_import, about_module, about_trait, about_value, foreign_abi, item_body, item_forms, items_good, function_tail, kind_form, may_be_bodied, module_head, may_be_valued}
 use Rattle.lay_laws.proofs.borders.Border.{Border}
-use Rattle.lay_laws.proofs.file.ExprParts.{ends_expr, begins_plain}
-use Rattle.lay_laws.proofs.file.Exprs.{expr_passes_at}
+use Rattle.lay_laws.proofs.file.TypeArgs.{Any}
+use Rattle.lay_laws.proofs.file.ExprParts.{ends_expr, opens_block}
+use Rattle.lay_laws.proofs.file.ExprPlaces.{ExprPasses}
+use Rattle.lay_laws.proofs.file.BlockKinds.{BlockPasses, value_from}
 use Rattle.lay_laws.proofs.forms.Passes.{plain}
-use Rattle.lay_laws.proofs.forms.Rules.{tables, From, All, ends, fixed, part, body_fits, braced, breaks}
+use Rattle.lay_laws.proofs.forms.Rules.{tables, From, All, under-refl, ends, fixed, part, body_fits, braced}
 use Rattle.lay_laws.proofs.file.Nodes.{ends_name, ends_line, ends_use, start_path, behind_word, word, both_pieces, both_all, attrs_pass, use_passes, when_pieces, body_pieces}
 use Rattle.lay_laws.proofs.file.TypeParts.{ends_type, ends_arg, string_literal_passes}
 use Rattle.lay_laws.proofs.file.TypeKinds.{unsafe_passes}
-use Rattle.lay_laws.proofs.file.Generics.{behind_type}
+use Rattle.lay_laws.proofs.file.Generics.{behind_type, ends_predicate}
 use Rattle.lay_laws.proofs.forms.Functions.{fn_head_passes}
 use Rattle.lay_laws.proofs.forms.Heads.{HeadPasses, four_parts, body_tail, semicolon_tail, items_fit, value_head_passes, trait_head_passes, impl_head_passes}
+
+-- what is told of a kind of item, behind each visibility
+pub record KindPasses (x : KindFacts) : Type 0 where
+  pub go : (place : Site) (v : Vis) → x.good place ≡ true → are_pieces (kind_form v x.head x.tail) ≡ true
+      → From plain (kind_form v x.head x.tail) plain
 
 -- each item passes where it is good at the site
 pub record ItemsPass (place : Site) (items : List ItemFacts) : Type 0 where
@@ -95,36 +102,45 @@ module_passes name attrs items k = record {
 
 -- ---- functions, constants and statics
 
-pub function_passes : (place : Site) (head : FnHead) (wheres : Wheres) → HeadPasses (about_function place head wheres)
-function_passes place head wheres = record {
+body_opens : (lead : Bool) → opens_block lead ends_predicate ≡ true
+unfolding tables
+body_opens true = refl
+body_opens false = refl
+
+-- what stands behind the head of a function: its body, or a `;`
+function_tail_passes : (wheres : Wheres) (b : Option BlockFacts) → Any BlockPasses b → are_predicates wheres ≡ true
+    → may_be_good b ≡ true → are_pieces (function_tail wheres b) ≡ true → From ends_type (function_tail wheres b) plain
+function_tail_passes wheres None k g h w = semicolon_tail wheres behind_type g w
+function_tail_passes wheres (Some b) k g h w =
+    let lead = leads wheres in
+    body_tail wheres behind_type g w (λ p.
+    part ends_predicate plain (under-refl ends_predicate)
+    (k.go lead ends_predicate (body_opens lead) h (and_parts (are_pieces (b.form lead)) true p).0)
+    (ends (under-refl plain)))
+
+pub function_passes : (place : Site) (head : FnHead) (wheres : Wheres) (b : Option BlockFacts) → Any BlockPasses b
+    → HeadPasses (about_function place head wheres b)
+function_passes place head wheres b k = record {
   between = ends_type;
   head = λ g w. fn_head_passes place head (parts g).0 w;
-  tail = λ g w. semicolon_tail wheres behind_type (parts g).1 w;
+  tail = λ g w. let n = parts g in function_tail_passes wheres b k n.1 n.3 w;
 }
   where
-    parts : (about_function place head wheres).good ≡ true
-        → (is_fn_head place head ≡ true) × (are_predicates wheres ≡ true)
-    parts g =
-        let n = and_parts (is_fn_head place head && are_predicates wheres) (may_lack_body place) g in
-        and_parts (is_fn_head place head) (are_predicates wheres) n.0
+    parts : (about_function place head wheres b).good ≡ true
+        → (is_fn_head place head ≡ true) × (are_predicates wheres ≡ true) × (may_be_bodied place (is_some b) ≡ true)
+        × (may_be_good b ≡ true)
+    parts g = four_parts (is_fn_head place head) (are_predicates wheres) (may_be_bodied place (is_some b))
+        (may_be_good b) g
 
--- a value behind the type of what has it
-value_form_passes : (value : Option Expr) → value_placed value ≡ true → are_pieces (value_form value) ≡ true
-    → From ends_type (value_form value) ends_expr
+pub value_passes : (place : Site) (head : ValueHead) (value : Option ExprFacts) → Any ExprPasses value
+    → HeadPasses (about_value place head value)
 unfolding tables
-value_form_passes None g w = ends refl
-value_form_passes (Some x) g w =
-    let p = (and_parts (are_pieces (about_expr x).form) true w).0 in
-    fixed refl (breaks refl (part plain ends_expr refl (expr_passes_at plain begins_plain FREE x g p) (ends refl)))
-
-pub value_passes : (place : Site) (head : ValueHead) (value : Option Expr) → HeadPasses (about_value place head value)
-unfolding tables
-value_passes place head value = record {
+value_passes place head value k = record {
   between = ends_expr;
   head = λ g w.
       let n = parts g in
       let p = and_parts (are_pieces (value_head_form head)) (are_pieces (value_form value)) w in
-      part plain ends_type refl (value_head_passes head n.0 p.0) (value_form_passes value n.1 p.1);
+      part plain ends_type refl (value_head_passes head n.0 p.0) (value_from value k n.1 p.1).1;
   tail = λ g w. fixed refl (ends refl);
 }
   where

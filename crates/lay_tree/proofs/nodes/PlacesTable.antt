@@ -8,6 +8,8 @@ use Rattle.lay_node.specs.Ahead.{Tokens}
 use Rattle.lay_node.specs.Follow.{OfBang, OfColons}
 use Rattle.lay_node.specs.nodes.Facts.{Facts}
 use Rattle.lay_node.specs.nodes.Types.{ArgsFacts, PathFacts, about_args, about_path, about_start, is_there, path_facts, segment_good, segments_good, segments_refuse}
+use Rattle.lay_node.specs.declared.attr.Attr.{Attr}
+use Rattle.lay_node.specs.declared.patterns.Pat.{Pat}
 use Rattle.lay_node.specs.declared.token.Lifetime.{Lifetime}
 use Rattle.lay_node.specs.declared.token.Listed.{Listed}
 use Rattle.lay_node.specs.declared.token.Literal.{Literal}
@@ -20,8 +22,10 @@ use Rattle.lay_node.specs.declared.types.Ty.{Ty}
 use Rattle.lay_node.proofs.nodes.TypesLaws.{ArgsView, IsNone, IsAngle, IsRound, args_view, args_none_is, args_angle_is, args_round_is, path_is, about_segment}
 use Rattle.lay_tree.specs.Operators.{op_level, is_angle_op, strength}
 use Rattle.lay_tree.specs.nodes.Exprs.{StepFacts, Tail, ExprFacts, shut, shut_by, is_open, is_typed, is_field, may, stands, placed, root_follows, tail_follows, follows, expr_facts, ends_in_amp, is_prefix_lead, begins_free, start_placed, targets_placed, is_chain_level, may_chain, operands_placed, tail_of_operands, tail_of_steps, lacks_args}
+use Rattle.lay_tree.specs.nodes.CodeFacts.{ArmFacts, BlockFacts, BranchFacts}
 use Rattle.lay_tree.specs.nodes.Places.{plain, before_op, begins, is_part, is_whole}
-use Rattle.lay_tree.specs.declared.exprs.Expr.TheOpen.{Expr-F}
+use Rattle.lay_tree.specs.declared.blocks.Stmt.TheOpen.{Expr-F}
+use Rattle.lay_tree.specs.declared.exprs.ClosureParam.{ClosureParam}
 use Rattle.lay_tree.specs.declared.exprs.Place.{Place}
 use Rattle.lay_tree.specs.declared.exprs.Start.TheVariants as start
 use Rattle.lay_tree.specs.declared.operators.Op.{Op}
@@ -288,6 +292,15 @@ module _ (p : Place) where
   break_row label None = root_row p (expr_facts (Expr-F.Break label None)) refl refl
   break_row label (Some x) = root_row p (expr_facts (Expr-F.Break label (Some x))) refl refl
 
+  -- So does a closure.
+  pub closure_row : (moves : Bool) (params : List ClosureParam) (x : ExprFacts) →
+      let F = expr_facts (Expr-F.Closure moves params x) in placed F p ≡ (may F p && F.within p.no_struct (begins p.start))
+  closure_row moves params x = root_row p (expr_facts (Expr-F.Closure moves params x)) refl refl
+
+  pub typed_closure_row : (moves : Bool) (params : List ClosureParam) (output : Ty) (b : BlockFacts) →
+      let F = expr_facts (Expr-F.TypedClosure moves params output b) in placed F p ≡ (may F p && F.within p.no_struct (begins p.start))
+  typed_closure_row moves params output b = root_row p (expr_facts (Expr-F.TypedClosure moves params output b)) refl refl
+
   pub cast_row : (x : ExprFacts) (types : List Ty) → let F = expr_facts (Expr-F.Cast x types) in placed F p ≡ (may F p && F.within p.no_struct (begins p.start))
   cast_row x types = root_row p (expr_facts (Expr-F.Cast x types)) refl refl
 
@@ -299,8 +312,8 @@ module _ (p : Place) where
   pub underscore_row : let F = expr_facts Expr-F.Underscore in placed F p ≡ (may F p && F.within p.no_struct (begins p.start))
   underscore_row = root_row p (expr_facts Expr-F.Underscore) refl refl
 
-  pub call_row : (c : MacroCall) → let F = expr_facts (Expr-F.Call c) in placed F p ≡ (may F p && F.within p.no_struct (begins p.start))
-  call_row c = root_row p (expr_facts (Expr-F.Call c)) refl refl
+  pub call_row : (c : MacroCall) → let F = expr_facts (Expr-F.Expr::Call c) in placed F p ≡ (may F p && F.within p.no_struct (begins p.start))
+  call_row c = root_row p (expr_facts (Expr-F.Expr::Call c)) refl refl
 
   pub paren_row : (x : ExprFacts) → let F = expr_facts (Expr-F.Paren x) in placed F p ≡ (may F p && F.within p.no_struct (begins p.start))
   paren_row x = root_row p (expr_facts (Expr-F.Paren x)) refl refl
@@ -318,8 +331,45 @@ module _ (p : Place) where
   repeat_row x length = root_row p (expr_facts (Expr-F.Repeat x length)) refl refl
 
   pub struct_row : (path : Path) (fields : List Facts) (base : Option (Option ExprFacts)) →
-      let F = expr_facts (Expr-F.Struct path fields base) in placed F p ≡ (may F p && F.within p.no_struct (begins p.start))
-  struct_row path fields base = root_row p (expr_facts (Expr-F.Struct path fields base)) refl refl
+      let F = expr_facts (Expr-F.Expr::Struct path fields base) in placed F p ≡ (may F p && F.within p.no_struct (begins p.start))
+  struct_row path fields base = root_row p (expr_facts (Expr-F.Expr::Struct path fields base)) refl refl
+
+  -- what holds a block
+  pub block_row : (label : Option Lifetime) (b : BlockFacts) →
+      let F = expr_facts (Expr-F.Block label b) in placed F p ≡ (may F p && F.within p.no_struct (begins p.start))
+  block_row label b = root_row p (expr_facts (Expr-F.Block label b)) refl refl
+
+  pub unsafe_row : (b : BlockFacts) →
+      let F = expr_facts (Expr-F.Unsafe b) in placed F p ≡ (may F p && F.within p.no_struct (begins p.start))
+  unsafe_row b = root_row p (expr_facts (Expr-F.Unsafe b)) refl refl
+
+  pub const_block_row : (b : BlockFacts) →
+      let F = expr_facts (Expr-F.ConstBlock b) in placed F p ≡ (may F p && F.within p.no_struct (begins p.start))
+  const_block_row b = root_row p (expr_facts (Expr-F.ConstBlock b)) refl refl
+
+  pub async_row : (moves : Bool) (b : BlockFacts) →
+      let F = expr_facts (Expr-F.Async moves b) in placed F p ≡ (may F p && F.within p.no_struct (begins p.start))
+  async_row moves b = root_row p (expr_facts (Expr-F.Async moves b)) refl refl
+
+  pub if_row : (branches : List BranchFacts) (otherwise : Option BlockFacts) →
+      let F = expr_facts (Expr-F.If branches otherwise) in placed F p ≡ (may F p && F.within p.no_struct (begins p.start))
+  if_row branches otherwise = root_row p (expr_facts (Expr-F.If branches otherwise)) refl refl
+
+  pub match_row : (x : ExprFacts) (attrs : List Attr) (arms : List ArmFacts) →
+      let F = expr_facts (Expr-F.Match x attrs arms) in placed F p ≡ (may F p && F.within p.no_struct (begins p.start))
+  match_row x attrs arms = root_row p (expr_facts (Expr-F.Match x attrs arms)) refl refl
+
+  pub loop_row : (label : Option Lifetime) (b : BlockFacts) →
+      let F = expr_facts (Expr-F.Loop label b) in placed F p ≡ (may F p && F.within p.no_struct (begins p.start))
+  loop_row label b = root_row p (expr_facts (Expr-F.Loop label b)) refl refl
+
+  pub while_row : (label : Option Lifetime) (pat : Option Pat) (x : ExprFacts) (b : BlockFacts) →
+      let F = expr_facts (Expr-F.While label pat x b) in placed F p ≡ (may F p && F.within p.no_struct (begins p.start))
+  while_row label pat x b = root_row p (expr_facts (Expr-F.While label pat x b)) refl refl
+
+  pub for_row : (label : Option Lifetime) (pat : Pat) (x : ExprFacts) (b : BlockFacts) →
+      let F = expr_facts (Expr-F.For label pat x b) in placed F p ≡ (may F p && F.within p.no_struct (begins p.start))
+  for_row label pat x b = root_row p (expr_facts (Expr-F.For label pat x b)) refl refl
 
   pub postfix_row : (x : ExprFacts) (steps : List StepFacts) → let F = expr_facts (Expr-F.Postfix x steps) in placed F p ≡ (may F p && F.within p.no_struct (begins p.start))
   postfix_row x steps = let t = steps_shut steps in root_row p (expr_facts (Expr-F.Postfix x steps)) t.0 t.1

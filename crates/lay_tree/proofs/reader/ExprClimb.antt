@@ -7,9 +7,11 @@ use Rattle.lay_node.specs.Ahead.{Tokens}
 use Rattle.lay_node.specs.reader.Loops.{◌>>=◌}
 use Rattle.lay_node.proofs.reader.TypesComplete.{and_none}
 use Rattle.lay_tree.specs.Operators.{is_angle, is_dot_or_try, strength}
-use Rattle.lay_tree.specs.nodes.Exprs.{ExprFacts, stands, placed, tail_follows, about_expr}
+use Rattle.lay_tree.specs.nodes.Code.{about_expr}
+use Rattle.lay_tree.specs.nodes.Exprs.{ExprFacts, stands, placed, tail_follows}
 use Rattle.lay_tree.specs.nodes.Places.{begins, is_whole, part_if, before_op}
-use Rattle.lay_tree.specs.reader.Exprs.{ExprWithin, stage, left_place, climb, is_ended}
+use Rattle.lay_tree.specs.reader.Exprs.{stage, left_place, climb, is_ended}
+use Rattle.lay_tree.specs.reader.Within.{ExprWithin}
 use Rattle.lay_tree.specs.declared.exprs.Expr.{Expr}
 use Rattle.lay_tree.specs.declared.exprs.Place.{Place}
 use Rattle.lay_tree.specs.declared.exprs.Start.{Start}

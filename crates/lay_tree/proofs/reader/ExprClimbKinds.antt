@@ -12,11 +12,13 @@ use Rattle.lay_node.specs.reader.Loops.{nodes, deepest, repeat}
 use Rattle.lay_node.specs.declared.types.Ty.{Ty}
 use Rattle.lay_node.proofs.Parts.{bit_alone}
 use Rattle.lay_tree.specs.Operators.{op_level, angle_by, is_angle, is_angle_op, is_dot_or_try, strength}
-use Rattle.lay_tree.specs.nodes.Exprs.{ExprFacts, StepFacts, Tail, placed, tail_follows, operands_form, end_form, is_chain_level, may_chain, operands_placed, targets_placed, end_placed, is_tuple_index, is_dotted, are_steps, types_good, tail_of_end, tail_of_steps, inside, tail_of, expr_facts, about_expr, about_step}
+use Rattle.lay_tree.specs.nodes.Code.{about_expr, about_step}
+use Rattle.lay_tree.specs.nodes.Exprs.{ExprFacts, StepFacts, Tail, placed, tail_follows, operands_form, end_form, is_chain_level, may_chain, operands_placed, targets_placed, end_placed, is_tuple_index, is_dotted, are_steps, types_good, tail_of_end, tail_of_steps, inside, tail_of, expr_facts, ExprLayer}
 use Rattle.lay_tree.specs.nodes.Places.{plain, begins, part_if, before_op}
-use Rattle.lay_tree.specs.reader.Exprs.{ExprWithin, operands, chain_expr, assign_expr, one_type, cast_expr, stage}
+use Rattle.lay_tree.specs.reader.Exprs.{operands, chain_expr, assign_expr, one_type, cast_expr, stage}
+use Rattle.lay_tree.specs.reader.Within.{ExprWithin}
 use Rattle.lay_tree.specs.declared.exprs.Expr.{Expr}
-use Rattle.lay_tree.specs.declared.exprs.Expr.TheOpen.{Expr-F}
+use Rattle.lay_tree.specs.declared.blocks.Stmt.TheOpen.{Expr-F}
 use Rattle.lay_tree.specs.declared.exprs.Expr.TheVariants as expr
 use Rattle.lay_tree.specs.declared.exprs.Place.{Place}
 use Rattle.lay_tree.specs.declared.exprs.Step.{Step}
@@ -48,11 +50,11 @@ module _ (within : ExprWithin) (place : Place) (depth : ℕ) (reads : ExprReads 
       → Reach within place level (suc depth) x ts mid
 
   -- by the layer of its kind
-  told : (x : Expr) (F : Expr-F ExprFacts Facts StepFacts) → about_expr x ≡ expr_facts F → By x (expr_facts F) → By x (about_expr x)
+  told : (x : Expr) (F : ExprLayer) → about_expr x ≡ expr_facts F → By x (expr_facts F) → By x (about_expr x)
   told x F e f = subst (By x) (sym e) f
 
   -- what is spelled within a level
-  layer : (F : Expr-F ExprFacts Facts StepFacts) (ts mid : Tokens) → Spells (expr_facts F).form (suc depth) ts mid
+  layer : (F : ExprLayer) (ts mid : Tokens) → Spells (expr_facts F).form (suc depth) ts mid
       → Spells (inside F) depth ts mid
   layer F ts mid s = subst (λ us. Spells (inside F) depth ts us) s.2 s.1
 

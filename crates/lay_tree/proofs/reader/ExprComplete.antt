@@ -1,25 +1,28 @@
--- Every expression is read where it is spelled, in its place, at each budget from its depth on.
+-- Every expression is read where it is spelled, in its place, where what is within it is read.
 use Rattle.std.proofs.Common.{◌≡◌, ℕ, zero, suc, ◌≤◌, Bool, true, false, not, ◌&&◌, nat_le, map, option_map, Some, None, refl, sym, ap, subst, ◌∙◌, arith, le-leb, leb-true}
 use Rattle.std.proofs.lemmas.Bool.{and_parts}
 use Rattle.lay_form.specs.Spelled.{Spells}
 use Rattle.lay_node.specs.Ahead.{Tokens}
-use Rattle.lay_node.specs.nodes.Facts.{Facts}
-use Rattle.lay_node.specs.reader.Types as types
 use Rattle.lay_node.proofs.reader.Exact.{IsRead}
-use Rattle.lay_node.proofs.reader.TypesCompleteKinds.{within_reads}
 use Rattle.lay_tree.specs.Operators.{is_dot_or_try, strength}
-use Rattle.lay_tree.specs.nodes.Exprs.{ExprFacts, StepFacts, stands, placed, root_follows, follows, tail_follows, level_of, is_block_like, expr_facts, about_expr, about_field_expr, about_step}
+use Rattle.lay_tree.specs.nodes.Code.{about_arm, about_block, about_branch, about_expr, about_field_expr, about_step}
+use Rattle.lay_tree.specs.nodes.Exprs.{ExprFacts, stands, placed, root_follows, follows, tail_follows, level_of, is_block_like, expr_facts, ExprLayer}
 use Rattle.lay_tree.specs.nodes.Places.{begins, is_whole}
-use Rattle.lay_tree.specs.reader.Exprs.{ExprWithin, climb, is_ended, accepted, expr_by, expr_in}
+use Rattle.lay_tree.specs.reader.Exprs.{climb, is_ended, accepted, expr_by}
+use Rattle.lay_tree.specs.reader.Within.{ExprWithin}
 use Rattle.lay_tree.specs.declared.exprs.Expr.{Expr}
-use Rattle.lay_tree.specs.declared.exprs.Expr.TheOpen.{Expr-F}
+use Rattle.lay_tree.specs.declared.blocks.Stmt.TheOpen.{Expr-F}
 use Rattle.lay_tree.specs.declared.exprs.Expr.TheVariants as expr
 use Rattle.lay_tree.specs.declared.exprs.Place.{Place}
-use Rattle.lay_tree.proofs.nodes.ExprsLaws.{ExprView, IsLit, IsPath, IsUnderscore, IsCall, IsParen, IsContinue, IsTuple, IsArray, IsRepeat, IsStruct, IsChain, IsCast, IsUnary, IsRange, IsAssign, IsPostfix, IsReturn, IsBreak, expr_view, behind_op, before_op as target_of, expr_lit_is, expr_path_is, expr_underscore_is, expr_call_is, expr_paren_is, expr_continue_is, expr_tuple_is, expr_array_is, expr_repeat_is, expr_struct_is, expr_chain_is, expr_cast_is, expr_unary_is, expr_range_is, expr_assign_is, expr_postfix_is, expr_return_is, expr_break_is}
+use Rattle.lay_tree.proofs.nodes.ExprsLaws.{ExprView, IsLit, IsPath, IsUnderscore, IsCall, IsParen, IsContinue, IsTuple, IsArray, IsRepeat, IsStruct, IsChain, IsCast, IsUnary, IsRange, IsAssign, IsPostfix, IsReturn, IsBreak, IsBlock, IsUnsafe, IsConstBlock, IsAsync, IsIf, IsMatch, IsLoop, IsWhile, IsFor, IsClosure, IsTypedClosure, expr_view, behind_op, before_op as target_of, expr_lit_is, expr_path_is, expr_underscore_is, expr_call_is, expr_paren_is, expr_continue_is, expr_tuple_is, expr_array_is, expr_repeat_is, expr_struct_is, expr_chain_is, expr_cast_is, expr_unary_is, expr_range_is, expr_assign_is, expr_postfix_is, expr_return_is, expr_break_is, expr_block_is, expr_unsafe_is, expr_const_block_is, expr_async_is, expr_if_is, expr_match_is, expr_loop_is, expr_while_is, expr_for_is, expr_closure_is, expr_typed_closure_is}
+use Rattle.lay_tree.proofs.reader.BlockReads.{Fronts}
 use Rattle.lay_tree.proofs.reader.ExprClimb.{Reach, Known, Reaches, climb_ends, headed}
 use Rattle.lay_tree.proofs.reader.ExprClimbKinds.{chain_reached, cast_reached, range_reached, assign_reached, postfix_reached}
 use Rattle.lay_tree.proofs.reader.ExprFronts.{no_depth}
 use Rattle.lay_tree.proofs.reader.ExprHeads.{Headed, IsHead}
+use Rattle.lay_tree.proofs.reader.ExprHeadsBlocks.{async_head, block_head, const_head, for_head, loop_head, unsafe_head, while_head}
+use Rattle.lay_tree.proofs.reader.ExprHeadsBranches.{if_head, match_head}
+use Rattle.lay_tree.proofs.reader.ExprHeadsClosures.{closure_head_read, typed_closure_head_read}
 use Rattle.lay_tree.proofs.reader.ExprHeadsJumps.{return_head, break_head, range_head}
 use Rattle.lay_tree.proofs.reader.ExprHeadsLists.{paren_head, tuple_head, array_head, repeat_head}
 use Rattle.lay_tree.proofs.reader.ExprHeadsStruct.{struct_head}
@@ -29,7 +32,7 @@ use Rattle.lay_tree.proofs.reader.ExprOperators.{strength_most}
 use Rattle.lay_tree.proofs.reader.ExprOperatorsTails.{stands_parts}
 use Rattle.lay_tree.proofs.reader.ExprReads.{ExprReads, head_at}
 
-module _ (most : ℕ) (within : ExprWithin) (reads : (depth : ℕ) → depth ≤ most → ExprReads depth within) (place : Place) where
+module _ (fronts : Fronts) (most : ℕ) (within : ExprWithin) (reads : (depth : ℕ) → depth ≤ most → ExprReads depth within) (place : Place) where
   -- ---- every expression is reached
 
   module _ (depth : ℕ) (le : depth ≤ most) (reaches : Reaches within place depth) where
@@ -40,7 +43,7 @@ module _ (most : ℕ) (within : ExprWithin) (reads : (depth : ℕ) → depth ≤
         → Reach within place level (suc depth) x ts mid
 
     -- what begins an expression, by itself
-    alone : (x : Expr) (F : Expr-F ExprFacts Facts StepFacts) → about_expr x ≡ expr_facts F → nat_le (level_of F) 14 ≡ true
+    alone : (x : Expr) (F : ExprLayer) → about_expr x ≡ expr_facts F → nat_le (level_of F) 14 ≡ true
         → IsHead depth within x → Reached x
     alone x F e top h level first ts mid k =
         headed within place x level depth first ts mid h (subst (λ (G : ExprFacts). nat_le G.level 14 ≡ true) (sym e) top) k
@@ -49,12 +52,15 @@ module _ (most : ℕ) (within : ExprWithin) (reads : (depth : ℕ) → depth ≤
     here : ExprReads depth within
     here = reads depth le
 
+    lower : (least : ℕ) → least ≤ depth → ExprReads least within
+    lower least l = reads least (omega (arith, l, le))
+
     -- kind by kind
     reached : (x : Expr) → ExprView x → Reached x
     reached _ (IsLit l) = alone (expr.Lit l) (Expr-F.Lit l) (expr_lit_is l) refl (lit_head depth within here l)
     reached _ (IsPath path) = alone (expr.Path path) (Expr-F.Path path) (expr_path_is path) refl (path_head depth within here path)
     reached _ IsUnderscore = alone expr.Underscore Expr-F.Underscore expr_underscore_is refl (underscore_head depth within here)
-    reached _ (IsCall call) = alone (expr.Call call) (Expr-F.Call call) (expr_call_is call) refl (call_head depth within here call)
+    reached _ (IsCall call) = alone (expr.Call call) (Expr-F.Expr::Call call) (expr_call_is call) refl (call_head depth within here call)
     reached _ (IsParen x) = alone (expr.Paren x) (Expr-F.Paren (about_expr x)) (expr_paren_is x) refl (paren_head depth within here x)
     reached _ (IsContinue label) =
         alone (expr.Continue label) (Expr-F.Continue label) (expr_continue_is label) refl (continue_head depth within here label)
@@ -65,7 +71,7 @@ module _ (most : ℕ) (within : ExprWithin) (reads : (depth : ℕ) → depth ≤
     reached _ (IsRepeat x us) =
         alone (expr.Repeat x us) (Expr-F.Repeat (about_expr x) us) (expr_repeat_is x us) refl (repeat_head depth within here x us)
     reached _ (IsStruct path fields base) =
-        alone (expr.Struct path fields base) (Expr-F.Struct path (map about_field_expr fields) (option_map (option_map about_expr) base))
+        alone (expr.Struct path fields base) (Expr-F.Expr::Struct path (map about_field_expr fields) (option_map (option_map about_expr) base))
         (expr_struct_is path fields base) refl (struct_head depth within here path fields base)
     reached _ (IsChain x more) = chain_reached within place depth here reaches x more
     reached _ (IsCast x types) = cast_reached within place depth here reaches x types
@@ -83,17 +89,74 @@ module _ (most : ℕ) (within : ExprWithin) (reads : (depth : ℕ) → depth ≤
     reached _ (IsBreak label x) =
         alone (expr.Break label x) (Expr-F.Break label (option_map about_expr x)) (expr_break_is label x) refl
         (break_head depth within here label x)
+    reached _ (IsBlock label b) =
+        alone (expr.Block label b) (Expr-F.Block label (about_block b)) (expr_block_is label b) refl (block_head fronts depth within here label b)
+    reached _ (IsUnsafe b) = alone (expr.Unsafe b) (Expr-F.Unsafe (about_block b)) (expr_unsafe_is b) refl (unsafe_head fronts depth within here b)
+    reached _ (IsConstBlock b) =
+        alone (expr.ConstBlock b) (Expr-F.ConstBlock (about_block b)) (expr_const_block_is b) refl (const_head fronts depth within here b)
+    reached _ (IsAsync moves b) =
+        alone (expr.Async moves b) (Expr-F.Async moves (about_block b)) (expr_async_is moves b) refl (async_head fronts depth within here moves b)
+    reached _ (IsIf branches o) =
+        alone (expr.If branches o) (Expr-F.If (map about_branch branches) (option_map about_block o)) (expr_if_is branches o) refl
+        (if_head fronts depth within here branches o)
+    reached _ (IsMatch x attrs arms) =
+        alone (expr.Match x attrs arms) (Expr-F.Match (about_expr x) attrs (map about_arm arms)) (expr_match_is x attrs arms) refl
+        (match_head fronts depth within lower x attrs arms)
+    reached _ (IsLoop label b) =
+        alone (expr.Loop label b) (Expr-F.Loop label (about_block b)) (expr_loop_is label b) refl (loop_head fronts depth within here label b)
+    reached _ (IsWhile label pat x b) =
+        alone (expr.While label pat x b) (Expr-F.While label pat (about_expr x) (about_block b)) (expr_while_is label pat x b) refl
+        (while_head fronts depth within here label pat x b)
+    reached _ (IsFor label pat x b) =
+        alone (expr.For label pat x b) (Expr-F.For label pat (about_expr x) (about_block b)) (expr_for_is label pat x b) refl
+        (for_head fronts depth within here label pat x b)
+    reached _ (IsClosure moves params x) =
+        alone (expr.Closure moves params x) (Expr-F.Closure moves params (about_expr x)) (expr_closure_is moves params x) refl
+        (closure_head_read fronts depth within here moves params x)
+    reached _ (IsTypedClosure moves params output b) =
+        alone (expr.TypedClosure moves params output b) (Expr-F.TypedClosure moves params output (about_block b))
+        (expr_typed_closure_is moves params output b) refl
+        (typed_closure_head_read fronts depth within here moves params output b)
 
     -- What is block-like is what begins an expression, of the highest level.
     abbrev BlockLike : Expr → Type 0
     BlockLike x = (about_expr x).block_like ≡ true → IsHead depth within x × (nat_le 14 (about_expr x).level ≡ true)
 
     -- a kind that isn't block-like
-    other : (x : Expr) (F : Expr-F ExprFacts Facts StepFacts) → about_expr x ≡ expr_facts F → is_block_like F ≡ false → BlockLike x
+    other : (x : Expr) (F : ExprLayer) → about_expr x ≡ expr_facts F → is_block_like F ≡ false → BlockLike x
     other x F e n b = let f = sym n ∙ sym (ap (λ (G : ExprFacts). G.block_like) e) ∙ b in absurd (cc)
+
+    -- a kind that is
+    whole : (x : Expr) (F : ExprLayer) → about_expr x ≡ expr_facts F → nat_le 14 (level_of F) ≡ true → IsHead depth within x → BlockLike x
+    whole x F e top h b = (h, subst (λ (G : ExprFacts). nat_le 14 G.level ≡ true) (sym e) top)
 
     -- kind by kind
     block_like : (x : Expr) → ExprView x → BlockLike x
+    block_like _ (IsBlock label b) =
+        whole (expr.Block label b) (Expr-F.Block label (about_block b)) (expr_block_is label b) refl (block_head fronts depth within here label b)
+    block_like _ (IsUnsafe b) = whole (expr.Unsafe b) (Expr-F.Unsafe (about_block b)) (expr_unsafe_is b) refl (unsafe_head fronts depth within here b)
+    block_like _ (IsConstBlock b) =
+        whole (expr.ConstBlock b) (Expr-F.ConstBlock (about_block b)) (expr_const_block_is b) refl (const_head fronts depth within here b)
+    block_like _ (IsIf branches o) =
+        whole (expr.If branches o) (Expr-F.If (map about_branch branches) (option_map about_block o)) (expr_if_is branches o) refl
+        (if_head fronts depth within here branches o)
+    block_like _ (IsMatch x attrs arms) =
+        whole (expr.Match x attrs arms) (Expr-F.Match (about_expr x) attrs (map about_arm arms)) (expr_match_is x attrs arms) refl
+        (match_head fronts depth within lower x attrs arms)
+    block_like _ (IsLoop label b) =
+        whole (expr.Loop label b) (Expr-F.Loop label (about_block b)) (expr_loop_is label b) refl (loop_head fronts depth within here label b)
+    block_like _ (IsWhile label pat x b) =
+        whole (expr.While label pat x b) (Expr-F.While label pat (about_expr x) (about_block b)) (expr_while_is label pat x b) refl
+        (while_head fronts depth within here label pat x b)
+    block_like _ (IsFor label pat x b) =
+        whole (expr.For label pat x b) (Expr-F.For label pat (about_expr x) (about_block b)) (expr_for_is label pat x b) refl
+        (for_head fronts depth within here label pat x b)
+    block_like _ (IsAsync moves b) = other (expr.Async moves b) (Expr-F.Async moves (about_block b)) (expr_async_is moves b) refl
+    block_like _ (IsClosure moves params x) =
+        other (expr.Closure moves params x) (Expr-F.Closure moves params (about_expr x)) (expr_closure_is moves params x) refl
+    block_like _ (IsTypedClosure moves params output b) =
+        other (expr.TypedClosure moves params output b) (Expr-F.TypedClosure moves params output (about_block b))
+        (expr_typed_closure_is moves params output b) refl
     block_like _ (IsCall call) =
         λ b. (call_head depth within here call, subst (λ (G : ExprFacts). nat_le 14 G.level ≡ true) (sym (expr_call_is call)) refl)
     block_like _ (IsLit l) = other (expr.Lit l) (Expr-F.Lit l) (expr_lit_is l) refl
@@ -105,7 +168,7 @@ module _ (most : ℕ) (within : ExprWithin) (reads : (depth : ℕ) → depth ≤
     block_like _ (IsArray xs) = other (expr.Array xs) (Expr-F.Array (map about_expr xs)) (expr_array_is xs) refl
     block_like _ (IsRepeat x us) = other (expr.Repeat x us) (Expr-F.Repeat (about_expr x) us) (expr_repeat_is x us) refl
     block_like _ (IsStruct path fields base) =
-        other (expr.Struct path fields base) (Expr-F.Struct path (map about_field_expr fields) (option_map (option_map about_expr) base))
+        other (expr.Struct path fields base) (Expr-F.Expr::Struct path (map about_field_expr fields) (option_map (option_map about_expr) base))
         (expr_struct_is path fields base) refl
     block_like _ (IsChain x more) = other (expr.Chain x more) (Expr-F.Chain (about_expr x) (map behind_op more)) (expr_chain_is x more) refl
     block_like _ (IsCast x types) = other (expr.Cast x types) (Expr-F.Cast (about_expr x) types) (expr_cast_is x types) refl
@@ -149,7 +212,7 @@ module _ (most : ℕ) (within : ExprWithin) (reads : (depth : ℕ) → depth ≤
   accept budget x n rest m r le = rw (m, r, le-leb n budget le) refl
 
   -- an expression with what is within it read at every lower depth
-  read_one : (depth : ℕ) → depth ≤ most → (x : Expr) (ts rest : Tokens) → Spells (about_expr x).form (suc depth) ts rest
+  pub read_one : (depth : ℕ) → depth ≤ most → (x : Expr) (ts rest : Tokens) → Spells (about_expr x).form (suc depth) ts rest
       → placed (about_expr x) place ≡ true
       → follows (about_expr x) place rest ≡ true → IsRead (suc depth) (expr_by within (suc most) place) x ts rest
   read_one depth le x ts rest s w f =
@@ -196,20 +259,3 @@ module _ (most : ℕ) (within : ExprWithin) (reads : (depth : ℕ) → depth ≤
             climbed_read (suc most) h.head x h.need ts h.behind rest h.read h.goes_on climbs
                 (accept (suc most) x h.need rest m r (omega (arith, h.least, le))),
           )
-
--- Within a budget, all that is spelled at no greater a depth is read.
-exprs_read : (depth budget : ℕ) → depth ≤ budget → ExprReads depth (record { exprs = expr_in budget; kinds = types.within budget })
-unfolding expr_in
-exprs_read zero budget h = record { exprs = λ place x ts rest s w f. absurd (no_depth x ts rest s); kinds = within_reads zero budget h }
-exprs_read (suc depth) zero h = absurd (omega arith)
-exprs_read (suc depth) (suc budget) h = record {
-  exprs = λ place x ts rest s w f.
-      read_one budget (record { exprs = expr_in budget; kinds = types.within budget }) (λ d le. exprs_read d budget le) place depth
-      (omega (arith, h)) x ts rest s w f;
-  kinds = within_reads (suc depth) (suc budget) h;
-}
-
--- An expression that stands there is read.
-pub expr_read : (place : Place) (x : Expr) (depth budget : ℕ) (ts rest : Tokens) → depth ≤ budget → Spells (about_expr x).form depth ts rest
-    → placed (about_expr x) place ≡ true → follows (about_expr x) place rest ≡ true → IsRead depth (expr_in budget place) x ts rest
-expr_read place x depth budget ts rest h s w f = (exprs_read depth budget h).exprs place x ts rest s w f

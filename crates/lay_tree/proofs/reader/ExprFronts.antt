@@ -1,40 +1,48 @@
 -- Each expression that is spelled begins with its lead, and takes a token at least.
-use Rattle.std.proofs.Common.{◌≡◌, ℕ, zero, suc, ◌<◌, Bool, true, false, not, ◌&&◌, nat_le, List, [], ◌∷◌, ◌++◌, map, length, codes, Option, option_map, Some, None, is_some, refl, sym, ap, subst, arith}
+use Rattle.std.proofs.Common.{◌≡◌, ℕ, zero, suc, ◌<◌, Bool, true, false, not, ◌&&◌, nat_le, List, [], ◌∷◌, ◌++◌, map, length, codes, Option, option_map, Some, None, is_some, refl, sym, ap, subst, ◌∙◌, arith}
 use Rattle.std.specs.Prelude.{◌==◌}
 use Rattle.std.proofs.lemmas.Bool.{and_parts}
 use Rattle.lay_piece.specs.Forms.{opening}
-use Rattle.lay_piece.specs.declared.kind.Delim.TheVariants.{Paren, Bracket}
+use Rattle.lay_piece.specs.declared.kind.Delim.TheVariants.{Paren, Bracket, Brace}
 use Rattle.lay_piece.specs.declared.kind.Kind.{Kind}
-use Rattle.lay_piece.specs.declared.kind.Kind.TheVariants.{Ident, Underscore, Punct, Opener}
+use Rattle.lay_piece.specs.declared.kind.Kind.TheVariants.{Ident, Underscore, Lifetime, Punct, Opener}
 use Rattle.lay_form.specs.Form.{Bit, Blank, Fixed, Operator, Form, Done, Piece, Part, punct, keyword, closer, semicolon}
-use Rattle.lay_form.specs.Notation.{Z, N, piece, each, comma_gap, last_break, comma_list, braces}
+use Rattle.lay_form.specs.Notation.{Z, N, I0, piece, when, each, comma_gap, last_break, comma_list, body, braces}
 use Rattle.lay_form.specs.Spelled.{IsOne, AreBits, Spells}
 use Rattle.lay_form.proofs.FormLaws.{shorter}
-use Rattle.lay_node.specs.Ahead.{Tokens}
+use Rattle.lay_node.specs.Ahead.{Tokens, first, tail, opens}
+use Rattle.lay_node.specs.nodes.Attr.{attr_form}
 use Rattle.lay_node.specs.nodes.Facts.{Facts, all_good}
-use Rattle.lay_node.specs.nodes.Patterns.{dots}
-use Rattle.lay_node.specs.nodes.Types.{about_path, about_type, is_there}
+use Rattle.lay_node.specs.nodes.Patterns.{dots, about_pat, pat_form}
+use Rattle.lay_node.specs.nodes.Types.{about_path, about_type, colon, is_there}
 use Rattle.lay_node.specs.tokens.Lists.{token_list}
+use Rattle.lay_node.specs.declared.patterns.PatPlace.TheVariants.{Alternatives}
+use Rattle.lay_node.specs.declared.token.Lifetime.{Lifetime as Label}
 use Rattle.lay_node.specs.declared.types.Path.{Path}
 use Rattle.lay_node.specs.declared.types.PathStyle.TheVariants.{Code}
 use Rattle.lay_node.specs.declared.types.Ty.{Ty}
-use Rattle.lay_node.proofs.Fronts.{one_shorter, op_shorter}
-use Rattle.lay_node.proofs.Parts.{bit_alone}
+use Rattle.lay_node.proofs.Fronts.{one_front, one_shorter, op_shorter}
+use Rattle.lay_node.proofs.Parts.{bit_alone, part_alone}
 use Rattle.lay_node.proofs.reader.TypesBegins.{path_begins, call_begins}
-use Rattle.lay_tree.specs.Operands.{ExprLead, ByPath, ByUnderscore, ByParen, ByBracket, ByPrefix, ByRange, ByContinue, ByBreak, ByReturn, expr_lead_by, expr_lead_at}
+use Rattle.lay_tree.specs.Operands.{ExprLead, ByPath, ByUnderscore, ByParen, ByBracket, ByPrefix, ByRange, ByContinue, ByBreak, ByReturn, ByLabel, ByBrace, ByBlockWord, ByClosure, expr_lead_by, expr_lead_at}
 use Rattle.lay_tree.specs.Operators.{op_text, op_level}
-use Rattle.lay_tree.specs.nodes.Exprs.{ExprFacts, StepFacts, placed, expr_forms, tuple_form, base_form, operands_form, types_form, prefix_bits, prefixes_form, end_form, targets_form, label_form, operand_form, level_of_chain, next_is_angle, is_chain_level, may_chain, operands_placed, targets_placed, end_placed, base_placed, first_step, is_tuple_index, is_dotted, are_steps, types_good, methods, steps_form, group_if, inside, lead_of, within_of, expr_facts, about_expr, about_field_expr, about_step}
+use Rattle.lay_tree.specs.nodes.Code.{about_expr, about_field_expr, about_step, about_arm, about_block, about_branch}
+use Rattle.lay_tree.specs.nodes.CodeFacts.{BranchFacts}
+use Rattle.lay_tree.specs.nodes.Exprs.{ExprFacts, StepFacts, stands, placed, expr_forms, tuple_form, base_form, operands_form, types_form, prefix_bits, prefixes_form, end_form, targets_form, label_form, operand_form, level_of_chain, next_is_angle, is_chain_level, may_chain, operands_placed, targets_placed, end_placed, base_placed, first_step, is_tuple_index, is_dotted, are_steps, types_good, methods, steps_form, group_if, inside, lead_of, label_or, within_of, expr_facts, ExprLayer, labelled, condition_form, more_branches, branches_form, else_branch_form, arm_forms, closure_param, closure_head, bar, branches_good, may_be_good}
 use Rattle.lay_tree.specs.nodes.Places.{plain, begins, before_op}
+use Rattle.lay_tree.specs.declared.blocks.Block.{Block}
+use Rattle.lay_tree.specs.declared.exprs.ClosureParam.{ClosureParam}
 use Rattle.lay_tree.specs.declared.exprs.Expr.{Expr}
-use Rattle.lay_tree.specs.declared.exprs.Expr.TheOpen.{Expr-F}
+use Rattle.lay_tree.specs.declared.blocks.Stmt.TheOpen.{Expr-F}
 use Rattle.lay_tree.specs.declared.exprs.Expr.TheVariants as expr
 use Rattle.lay_tree.specs.declared.exprs.Place.{Place}
 use Rattle.lay_tree.specs.declared.exprs.Step.{Step}
 use Rattle.lay_tree.specs.declared.operators.Op.{Op}
 use Rattle.lay_tree.specs.declared.operators.Prefix.{Prefix}
 use Rattle.lay_tree.specs.declared.operators.Prefix.TheVariants as before
-use Rattle.lay_tree.proofs.nodes.ExprsLaws.{ExprView, IsLit, IsPath, IsUnderscore, IsCall, IsParen, IsContinue, IsTuple, IsArray, IsRepeat, IsStruct, IsChain, IsCast, IsUnary, IsRange, IsAssign, IsPostfix, IsReturn, IsBreak, expr_view, behind_op, before_op as target_of, expr_lit_is, expr_path_is, expr_underscore_is, expr_call_is, expr_paren_is, expr_continue_is, expr_tuple_is, expr_array_is, expr_repeat_is, expr_struct_is, expr_chain_is, expr_cast_is, expr_unary_is, expr_range_is, expr_assign_is, expr_postfix_is, expr_return_is, expr_break_is}
-use Rattle.lay_tree.proofs.reader.ExprLeads.{lone_lead, literal_lead, path_lead, range_lead}
+use Rattle.lay_tree.proofs.nodes.ExprsLaws.{ExprView, IsLit, IsPath, IsUnderscore, IsCall, IsParen, IsContinue, IsTuple, IsArray, IsRepeat, IsStruct, IsChain, IsCast, IsUnary, IsRange, IsAssign, IsPostfix, IsBlock, IsUnsafe, IsConstBlock, IsAsync, IsIf, IsMatch, IsLoop, IsWhile, IsFor, IsClosure, IsTypedClosure, IsReturn, IsBreak, expr_view, behind_op, before_op as target_of, expr_lit_is, expr_path_is, expr_underscore_is, expr_call_is, expr_paren_is, expr_continue_is, expr_tuple_is, expr_array_is, expr_repeat_is, expr_struct_is, expr_chain_is, expr_cast_is, expr_unary_is, expr_range_is, expr_assign_is, expr_postfix_is, expr_block_is, expr_unsafe_is, expr_const_block_is, expr_async_is, expr_if_is, expr_match_is, expr_loop_is, expr_while_is, expr_for_is, expr_closure_is, expr_typed_closure_is, expr_return_is, expr_break_is}
+use Rattle.lay_tree.proofs.reader.BlockForms.{block_opened, soft_opened}
+use Rattle.lay_tree.proofs.reader.ExprLeads.{one_lead, lone_lead, literal_lead, path_lead, range_lead}
 use Rattle.lay_tree.proofs.reader.ExprSoundLevel.{within_held}
 
 -- how an expression of which this is told begins
@@ -101,28 +109,41 @@ range_begins inclusive f depth ts rest s = (range_lead inclusive ts s.0 s.1, by 
     by true b = omega (arith, op_shorter 46 (codes ".=") ts s.0 (bit_alone (Operator (codes "..=")) ts s.0 b), shorter f depth s.0 rest s.2)
     by false b = omega (arith, op_shorter 46 (codes ".") ts s.0 (bit_alone (Operator (codes "..")) ts s.0 b), shorter f depth s.0 rest s.2)
 
+-- `const` before a `{`
+const_begins : (b : Block) (depth : ℕ) (ts rest : Tokens) → Spells (Piece (keyword (codes "const") ∷ []) (Part (about_block b).soft Done)) depth ts rest
+    → Begun ByBlockWord ts rest
+const_begins b depth ts rest s =
+    let o : IsOne Ident (codes "const") ts s.0 = bit_alone (keyword (codes "const")) ts s.0 s.1 in
+    let c = soft_opened b depth s.0 rest (part_alone (about_block b).soft depth s.0 rest s.2) in
+    let f = one_front Ident (codes "const") ts s.0 o in
+    let g = one_front (Opener Brace) (opening Brace ∷ []) s.0 c.0 c.1 in
+    let left : tail ts ≡ s.0 = rw f.1 refl in
+    let opens_there : first (opens Brace) (tail ts) ≡ true = rw (left, g.1) refl in (
+      one_lead Ident (codes "const") ts s.0 o ∙ rw opens_there refl,
+      omega (arith, one_shorter Ident (codes "const") ts s.0 o, one_shorter (Opener Brace) (opening Brace ∷ []) s.0 c.0 c.1, c.2),
+    )
+
 -- ---- what stands in a place
 
--- What stands in a place is well within it.
 -- An expression has a level at least.
 pub no_depth : (x : Expr) (ts rest : Tokens) → Spells (about_expr x).form zero ts rest → ⊥
 no_depth x ts rest s = by x (expr_view x) s
   where
-    none : (x : Expr) (F : Expr-F ExprFacts Facts StepFacts) → about_expr x ≡ expr_facts F → Spells (about_expr x).form zero ts rest → ⊥
+    none : (x : Expr) (F : ExprLayer) → about_expr x ≡ expr_facts F → Spells (about_expr x).form zero ts rest → ⊥
     none x F e t = subst (λ (G : ExprFacts). Spells G.form zero ts rest) e t
 
     by : (x : Expr) → ExprView x → Spells (about_expr x).form zero ts rest → ⊥
     by _ (IsLit l) = none (expr.Lit l) (Expr-F.Lit l) (expr_lit_is l)
     by _ (IsPath path) = none (expr.Path path) (Expr-F.Path path) (expr_path_is path)
     by _ IsUnderscore = none expr.Underscore Expr-F.Underscore expr_underscore_is
-    by _ (IsCall call) = none (expr.Call call) (Expr-F.Call call) (expr_call_is call)
+    by _ (IsCall call) = none (expr.Call call) (Expr-F.Expr::Call call) (expr_call_is call)
     by _ (IsParen x) = none (expr.Paren x) (Expr-F.Paren (about_expr x)) (expr_paren_is x)
     by _ (IsContinue label) = none (expr.Continue label) (Expr-F.Continue label) (expr_continue_is label)
     by _ (IsTuple xs) = none (expr.Tuple xs) (Expr-F.Tuple (map about_expr xs)) (expr_tuple_is xs)
     by _ (IsArray xs) = none (expr.Array xs) (Expr-F.Array (map about_expr xs)) (expr_array_is xs)
     by _ (IsRepeat x us) = none (expr.Repeat x us) (Expr-F.Repeat (about_expr x) us) (expr_repeat_is x us)
     by _ (IsStruct path fields base) =
-        none (expr.Struct path fields base) (Expr-F.Struct path (map about_field_expr fields) (option_map (option_map about_expr) base))
+        none (expr.Struct path fields base) (Expr-F.Expr::Struct path (map about_field_expr fields) (option_map (option_map about_expr) base))
         (expr_struct_is path fields base)
     by _ (IsChain x more) = none (expr.Chain x more) (Expr-F.Chain (about_expr x) (map behind_op more)) (expr_chain_is x more)
     by _ (IsCast x types) = none (expr.Cast x types) (Expr-F.Cast (about_expr x) types) (expr_cast_is x types)
@@ -133,6 +154,23 @@ no_depth x ts rest s = by x (expr_view x) s
     by _ (IsAssign targets x) = none (expr.Assign targets x) (Expr-F.Assign (map target_of targets) (about_expr x))
         (expr_assign_is targets x)
     by _ (IsPostfix x steps) = none (expr.Postfix x steps) (Expr-F.Postfix (about_expr x) (map about_step steps)) (expr_postfix_is x steps)
+    by _ (IsBlock label b) = none (expr.Block label b) (Expr-F.Block label (about_block b)) (expr_block_is label b)
+    by _ (IsUnsafe b) = none (expr.Unsafe b) (Expr-F.Unsafe (about_block b)) (expr_unsafe_is b)
+    by _ (IsConstBlock b) = none (expr.ConstBlock b) (Expr-F.ConstBlock (about_block b)) (expr_const_block_is b)
+    by _ (IsAsync moves b) = none (expr.Async moves b) (Expr-F.Async moves (about_block b)) (expr_async_is moves b)
+    by _ (IsIf bs o) = none (expr.If bs o) (Expr-F.If (map about_branch bs) (option_map about_block o)) (expr_if_is bs o)
+    by _ (IsMatch x attrs arms) =
+        none (expr.Match x attrs arms) (Expr-F.Match (about_expr x) attrs (map about_arm arms)) (expr_match_is x attrs arms)
+    by _ (IsLoop label b) = none (expr.Loop label b) (Expr-F.Loop label (about_block b)) (expr_loop_is label b)
+    by _ (IsWhile label pat x b) =
+        none (expr.While label pat x b) (Expr-F.While label pat (about_expr x) (about_block b)) (expr_while_is label pat x b)
+    by _ (IsFor label pat x b) =
+        none (expr.For label pat x b) (Expr-F.For label pat (about_expr x) (about_block b)) (expr_for_is label pat x b)
+    by _ (IsClosure moves params x) =
+        none (expr.Closure moves params x) (Expr-F.Closure moves params (about_expr x)) (expr_closure_is moves params x)
+    by _ (IsTypedClosure moves params output b) =
+        none (expr.TypedClosure moves params output b) (Expr-F.TypedClosure moves params output (about_block b))
+        (expr_typed_closure_is moves params output b)
     by _ (IsReturn x) = none (expr.Return x) (Expr-F.Return (option_map about_expr x)) (expr_return_is x)
     by _ (IsBreak label x) = none (expr.Break label x) (Expr-F.Break label (option_map about_expr x)) (expr_break_is label x)
 
@@ -147,7 +185,7 @@ module _ (depth : ℕ) (ih : AllBegin depth) (no_struct first : Bool) (ts rest :
   abbrev Begins : ExprFacts → Type 0
   Begins F = Spells F.form (suc depth) ts rest → F.within no_struct first ≡ true → Begun F.lead ts rest
 
-  told : (x : Expr) (F : Expr-F ExprFacts Facts StepFacts) → about_expr x ≡ expr_facts F
+  told : (x : Expr) (F : ExprLayer) → about_expr x ≡ expr_facts F
       → (Spells (inside F) depth ts rest → within_of F no_struct first ≡ true → Begun (lead_of F) ts rest) → Begins (about_expr x)
   told x F e f = subst Begins (sym e) (λ s w. f (subst (λ us. Spells (inside F) depth ts us) s.2 s.1) w)
 
@@ -222,13 +260,54 @@ module _ (depth : ℕ) (ih : AllBegin depth) (no_struct first : Bool) (ts rest :
   unary_begun (p ∷ ps) x = told (expr.Unary (p ∷ ps) x) (Expr-F.Unary (p ∷ ps) (about_expr x)) (expr_unary_is (p ∷ ps) x) (λ s w.
       prefix_begins p (prefixes_form ps (Part (about_expr x).form Done)) depth ts rest s)
 
+  -- a block, of which the braces tell it
+  block_begun : (lead : Bool) (b : Block) (us : Tokens) → Spells ((about_block b).form lead) depth us rest → Begun ByBrace us rest
+  block_begun lead b us s =
+      let o = block_opened b lead depth us rest s in
+      (lone_lead (Opener Brace) (opening Brace ∷ []) ByBrace (λ vs. refl) us o.0 o.1, omega (arith, one_shorter (Opener Brace) (opening Brace ∷ []) us o.0 o.1, o.2))
+
+  -- a label, or what stands there without one
+  labelled_begun : (l : ExprLead) (f : Form) → (Spells f depth ts rest → Begun l ts rest) → (label : Option Label)
+      → Spells (labelled label f) depth ts rest → Begun (label_or l label) ts rest
+  labelled_begun l f to None s = to s
+  labelled_begun l f to (Some a) s =
+      let o : IsOne Lifetime a.text ts s.0 = subst (λ us. IsOne Lifetime a.text ts us) s.1.2 s.1.1 in
+      one_begins Lifetime a.text ByLabel (λ us. refl) (Piece colon (Part f Done)) depth ts s.0 rest o s.2
+
+  -- a word before a blank, and a loop that begins with one
+  word_begun : (word : List ℕ) → ((us : Tokens) → expr_lead_by Ident word us ≡ Some ByBlockWord) → (bs : List Bit) (f : Form)
+      → Spells (Piece (keyword word ∷ bs) f) depth ts rest → Begun ByBlockWord ts rest
+  word_begun word is bs f s = one_begins Ident word ByBlockWord is (Piece bs f) depth ts s.1.0 rest s.1.1 (s.0, s.1.2, s.2)
+
+  grouped_word_begun : (word : List ℕ) → ((us : Tokens) → expr_lead_by Ident word us ≡ Some ByBlockWord) → (bs : List Bit) (f g : Form)
+      → Spells (I0 (Piece (keyword word ∷ bs) f) g) depth ts rest → Begun ByBlockWord ts rest
+  grouped_word_begun word is bs f g s =
+      let t = s.1 in
+      one_begins Ident word ByBlockWord is (Part (Piece bs f) g) depth ts t.1.0 rest t.1.1 (s.0, (t.0, t.1.2, t.2), s.2)
+
+  -- a closure: `move`, or the `|` before its parameters
+  closure_begun : (moves : Bool) (params : List ClosureParam) (f : Form) → Spells (closure_head moves params f) depth ts rest
+      → Begun ByClosure ts rest
+  closure_begun true params f s =
+      one_begins Ident (codes "move") ByClosure (λ us. refl) (Piece (Blank ∷ []) (Part (comma_list true bar bar (map closure_param params)) f))
+      depth ts s.1.0 rest s.1.1 (s.0, s.1.2, s.2)
+  closure_begun false params f s =
+      let b = list_begins Punct (codes "|") ByClosure (λ us. refl) bar (map closure_param params) depth ts s.0 s.1 in
+      (b.0, omega (arith, b.1, shorter f depth s.0 rest s.2))
+
+  branches_begun : (bs : List BranchFacts) (f : Form) → is_there bs ≡ true → Spells (branches_form bs f) depth ts rest
+      → Begun ByBlockWord ts rest
+  branches_begun [] f g s = absurd (cc)
+  branches_begun (b ∷ bs) f g s =
+      grouped_word_begun (codes "if") (λ us. refl) (Blank ∷ []) (Part b.condition Done) (Part b.soft (more_branches bs f)) s
+
   begun : (x : Expr) → ExprView x → Begins (about_expr x)
   begun _ (IsLit l) = told (expr.Lit l) (Expr-F.Lit l) (expr_lit_is l) (λ s w.
       (literal_lead l.kind l.text ts s.0 w s.1, omega (arith, one_shorter l.kind l.text ts s.0 s.1, ap length s.2)))
   begun _ (IsPath path) = told (expr.Path path) (Expr-F.Path path) (expr_path_is path) (λ s w. path_begun path rest s w)
   begun _ IsUnderscore = told expr.Underscore Expr-F.Underscore expr_underscore_is
       (λ s w. bit_begins Underscore (codes "_") ByUnderscore (λ us. refl) Done depth ts rest s)
-  begun _ (IsCall call) = told (expr.Call call) (Expr-F.Call call) (expr_call_is call)
+  begun _ (IsCall call) = told (expr.Call call) (Expr-F.Expr::Call call) (expr_call_is call)
       (λ s w. let b = call_begins call depth ts rest s w in (path_lead ts b.lead, b.less))
   begun _ (IsParen x) = told (expr.Paren x) (Expr-F.Paren (about_expr x)) (expr_paren_is x) (λ s w.
       bit_begins (Opener Paren) (opening Paren ∷ []) ByParen (λ us. refl)
@@ -244,7 +323,7 @@ module _ (depth : ℕ) (ih : AllBegin depth) (no_struct first : Bool) (ts rest :
       let f : Form = Part (about_expr x).form (Piece (semicolon ++ Blank ∷ []) (Part (token_list us) (piece (closer Bracket ∷ [])))) in
       bit_begins (Opener Bracket) (opening Bracket ∷ []) ByBracket (λ vs. refl) f depth ts rest s)
   begun _ (IsStruct path fields base) =
-      told (expr.Struct path fields base) (Expr-F.Struct path (map about_field_expr fields) (option_map (option_map about_expr) base))
+      told (expr.Struct path fields base) (Expr-F.Expr::Struct path (map about_field_expr fields) (option_map (option_map about_expr) base))
       (expr_struct_is path fields base) (λ s w.
       let fs = map about_field_expr fields in
       let b = option_map (option_map about_expr) base in
@@ -257,6 +336,45 @@ module _ (depth : ℕ) (ih : AllBegin depth) (no_struct first : Bool) (ts rest :
   begun _ (IsRange start inclusive end) = range_begun start inclusive end
   begun _ (IsAssign targets x) = assign_begun targets x
   begun _ (IsPostfix x steps) = postfix_begun x steps
+  begun _ (IsBlock label b) = told (expr.Block label b) (Expr-F.Block label (about_block b)) (expr_block_is label b) (λ s w.
+      labelled_begun ByBrace ((about_block b).form false) (λ t. block_begun false b ts t) label s)
+  begun _ (IsUnsafe b) = told (expr.Unsafe b) (Expr-F.Unsafe (about_block b)) (expr_unsafe_is b) (λ s w.
+      word_begun (codes "unsafe") (λ us. refl) [] (Part (about_block b).soft Done) s)
+  begun _ (IsConstBlock b) = told (expr.ConstBlock b) (Expr-F.ConstBlock (about_block b)) (expr_const_block_is b) (λ s w. const_begins b depth ts rest s)
+  begun _ (IsAsync moves b) = told (expr.Async moves b) (Expr-F.Async moves (about_block b)) (expr_async_is moves b) (λ s w.
+      word_begun (codes "async") (λ us. refl) [] (when moves (Blank ∷ keyword (codes "move") ∷ []) (Part ((about_block b).form true) Done)) s)
+  begun _ (IsIf bs o) = told (expr.If bs o) (Expr-F.If (map about_branch bs) (option_map about_block o)) (expr_if_is bs o) (λ s w.
+      let fs = map about_branch bs in
+      let w1 = and_parts (is_there fs && branches_good fs) (may_be_good (option_map about_block o)) w in
+      branches_begun fs (else_branch_form (option_map about_block o)) (and_parts (is_there fs) (branches_good fs) w1.0).0 s)
+  begun _ (IsMatch x attrs arms) =
+      told (expr.Match x attrs arms) (Expr-F.Match (about_expr x) attrs (map about_arm arms)) (expr_match_is x attrs arms) (λ s w.
+      grouped_word_begun (codes "match") (λ us. refl) (Blank ∷ []) (Part (about_expr x).form Done)
+      (body (Blank ∷ []) [] (map attr_form attrs ++ arm_forms (map about_arm arms))) s)
+  begun _ (IsLoop label b) = told (expr.Loop label b) (Expr-F.Loop label (about_block b)) (expr_loop_is label b) (λ s w.
+      let f : Form = Part ((about_block b).form true) Done in
+      labelled_begun ByBlockWord (Piece (keyword (codes "loop") ∷ []) f) (λ t. word_begun (codes "loop") (λ us. refl) [] f t) label s)
+  begun _ (IsWhile label pat x b) =
+      told (expr.While label pat x b) (Expr-F.While label pat (about_expr x) (about_block b)) (expr_while_is label pat x b) (λ s w.
+      let f : Form = Part (condition_form pat (about_expr x)) Done in
+      let g : Form = Part ((about_block b).form true) Done in
+      labelled_begun ByBlockWord (I0 (Piece (keyword (codes "while") ∷ Blank ∷ []) f) g)
+      (λ t. grouped_word_begun (codes "while") (λ us. refl) (Blank ∷ []) f g t) label s)
+  begun _ (IsFor label pat x b) =
+      told (expr.For label pat x b) (Expr-F.For label pat (about_expr x) (about_block b)) (expr_for_is label pat x b) (λ s w.
+      let f : Form = Part (pat_form Alternatives (about_pat pat))
+      (Piece (Blank ∷ keyword (codes "in") ∷ Blank ∷ []) (Part (about_expr x).form Done)) in
+      let g : Form = Part ((about_block b).form true) Done in
+      labelled_begun ByBlockWord (I0 (Piece (keyword (codes "for") ∷ Blank ∷ []) f) g)
+      (λ t. grouped_word_begun (codes "for") (λ us. refl) (Blank ∷ []) f g t) label s)
+  begun _ (IsClosure moves params x) =
+      told (expr.Closure moves params x) (Expr-F.Closure moves params (about_expr x)) (expr_closure_is moves params x) (λ s w.
+      closure_begun moves params (Piece (Blank ∷ []) (Part (about_expr x).form Done)) s)
+  begun _ (IsTypedClosure moves params output b) =
+      told (expr.TypedClosure moves params output b) (Expr-F.TypedClosure moves params output (about_block b))
+      (expr_typed_closure_is moves params output b) (λ s w.
+      closure_begun moves params
+      (Piece (Blank ∷ Operator (codes "->") ∷ Blank ∷ []) (Part (about_type output).told.form (Part ((about_block b).form true) Done))) s)
   begun _ (IsReturn x) = told (expr.Return x) (Expr-F.Return (option_map about_expr x)) (expr_return_is x) (λ s w.
       bit_begins Ident (codes "return") ByReturn (λ us. refl) (operand_form (option_map about_expr x)) depth ts rest s)
   begun _ (IsBreak label x) = told (expr.Break label x) (Expr-F.Break label (option_map about_expr x)) (expr_break_is label x) (λ s w.

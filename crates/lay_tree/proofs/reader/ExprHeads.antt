@@ -7,10 +7,12 @@ use Rattle.lay_node.specs.nodes.Types.{deeper}
 use Rattle.lay_node.proofs.reader.Exact.{IsRead}
 use Rattle.lay_tree.specs.Operands.{expr_lead_at}
 use Rattle.lay_tree.specs.Operators.{strength}
-use Rattle.lay_tree.specs.nodes.Exprs.{ExprFacts, StepFacts, inside, level_of, lead_of, tail_of, is_struct_literal, within_of, expr_facts, about_expr, tail_follows}
-use Rattle.lay_tree.specs.reader.Exprs.{ExprWithin, head_by}
+use Rattle.lay_tree.specs.nodes.Code.{about_expr}
+use Rattle.lay_tree.specs.nodes.Exprs.{ExprFacts, StepFacts, inside, level_of, lead_of, tail_of, is_struct_literal, within_of, expr_facts, tail_follows, ExprLayer}
+use Rattle.lay_tree.specs.reader.Exprs.{head_by}
+use Rattle.lay_tree.specs.reader.Within.{ExprWithin}
 use Rattle.lay_tree.specs.declared.exprs.Expr.{Expr}
-use Rattle.lay_tree.specs.declared.exprs.Expr.TheOpen.{Expr-F}
+use Rattle.lay_tree.specs.declared.blocks.Stmt.TheOpen.{Expr-F}
 use Rattle.lay_tree.proofs.reader.ExprFronts.{expr_begins}
 use Rattle.lay_tree.proofs.reader.ExprQuiet.{TailFits, tail_fits}
 use Rattle.lay_tree.proofs.reader.ExprReads.{HeadRead}
@@ -32,7 +34,7 @@ IsHead depth within x = (no_struct first : Bool)
 -- ---- by the layer of a kind
 
 -- the same of what an expression is made of
-pub record HeadedBy (depth : ℕ) (F : Expr-F ExprFacts Facts StepFacts) (no_struct first : Bool) (ts rest : Tokens) : Type 0 where
+pub record HeadedBy (depth : ℕ) (F : ExprLayer) (no_struct first : Bool) (ts rest : Tokens) : Type 0 where
   pub spelled : Spells (inside F) depth ts rest
   pub inside : within_of F no_struct first ≡ true
   pub struct_free : not (no_struct && is_struct_literal F) ≡ true
@@ -40,7 +42,7 @@ pub record HeadedBy (depth : ℕ) (F : Expr-F ExprFacts Facts StepFacts) (no_str
   pub weak : nat_le (strength rest) (level_of F) ≡ true
 
 -- What begins with a lead is read as what the lead begins.
-pub head_of : (depth : ℕ) (within : ExprWithin) (x : Expr) (F : Expr-F ExprFacts Facts StepFacts) → about_expr x ≡ expr_facts F
+pub head_of : (depth : ℕ) (within : ExprWithin) (x : Expr) (F : ExprLayer) → about_expr x ≡ expr_facts F
     → ((no_struct first : Bool) (ts rest : Tokens) → HeadedBy depth F no_struct first ts rest
     → IsRead (suc depth) (head_by within no_struct (Some (lead_of F))) x ts rest) → IsHead depth within x
 head_of depth within x F e read no_struct first ts rest h =

@@ -16,11 +16,13 @@ use Rattle.lay_node.proofs.reader.Exact.{IsRead}
 use Rattle.lay_node.proofs.reader.TypesCompleteParts.{one_left, blank_left}
 use Rattle.lay_tree.specs.Operands.{ByLabel, expr_lead_by, expr_lead_at, begins_operand}
 use Rattle.lay_tree.specs.Operators.{strength}
-use Rattle.lay_tree.specs.nodes.Exprs.{ExprFacts, Tail, placed, tail_follows, follows, end_form, operand_form, label_form, tail_of_end, tail_of_jump, begins_free, end_placed, operand_placed, break_placed, about_expr}
+use Rattle.lay_tree.specs.nodes.Code.{about_expr}
+use Rattle.lay_tree.specs.nodes.Exprs.{ExprFacts, Tail, placed, tail_follows, follows, end_form, operand_form, label_form, tail_of_end, tail_of_jump, begins_free, end_placed, operand_placed, break_placed}
 use Rattle.lay_tree.specs.nodes.Places.{plain}
-use Rattle.lay_tree.specs.reader.Exprs.{ExprWithin, operand_if, return_expr, break_expr, range_expr}
+use Rattle.lay_tree.specs.reader.Exprs.{operand_if, return_expr, break_expr, range_expr}
+use Rattle.lay_tree.specs.reader.Within.{ExprWithin}
 use Rattle.lay_tree.specs.declared.exprs.Expr.{Expr}
-use Rattle.lay_tree.specs.declared.exprs.Expr.TheOpen.{Expr-F}
+use Rattle.lay_tree.specs.declared.blocks.Stmt.TheOpen.{Expr-F}
 use Rattle.lay_tree.specs.declared.exprs.Expr.TheVariants as expr
 use Rattle.lay_tree.proofs.nodes.ExprsLaws.{expr_range_is, expr_return_is, expr_break_is}
 use Rattle.lay_tree.proofs.reader.ExprFronts.{placed_begins}
@@ -47,8 +49,8 @@ none_follows t no_struct ts f =
         bare = f.bare;
         path = f.path;
         label = f.label;
-        raw =
-            f.raw;
+        raw = f.raw;
+        otherwise = f.otherwise;
         refuses = f.refuses;
       }),
     )
@@ -56,6 +58,20 @@ none_follows t no_struct ts f =
     or_true : (a : Bool) → (strength ts == 0) ≡ true → (a || strength ts == 0) ≡ true
     or_true true e = refl
     or_true false e = e
+
+-- So is the body of a closure.
+pub closure_operand : (t : Tail) (no_struct : Bool) (ts : Tokens) → TailFits (record t { takes_all = true; closure = true }) no_struct ts
+    → (nat_le (strength ts) 0 ≡ true) × (tail_follows t no_struct ts ≡ true)
+closure_operand t no_struct ts f =
+    none_follows t no_struct ts (record {
+      all = f.all;
+      bare = f.bare;
+      path = f.path;
+      label = f.label;
+      raw = f.raw;
+      otherwise = f.otherwise;
+      refuses = f.refuses;
+    })
 
 -- A lifetime begins an operand.
 lifetime_operand : (no_struct : Bool) (ts : Tokens) → first is_lifetime ts ≡ true → begins_operand no_struct ts ≡ true

@@ -25,11 +25,13 @@ use Rattle.lay_node.proofs.reader.TokenLists.{EndsRun, list_there}
 use Rattle.lay_node.proofs.reader.TypesCompleteParts.{one_left}
 use Rattle.lay_node.proofs.reader.TypesLists.{forms_of}
 use Rattle.lay_node.proofs.reader.VariantsComplete.{elements_of_map, list_read}
-use Rattle.lay_tree.specs.nodes.Exprs.{ExprFacts, placed, expr_forms, all_free, tuple_form, about_expr}
+use Rattle.lay_tree.specs.nodes.Code.{about_expr}
+use Rattle.lay_tree.specs.nodes.Exprs.{ExprFacts, placed, expr_forms, all_free, tuple_form}
 use Rattle.lay_tree.specs.nodes.Places.{FREE}
-use Rattle.lay_tree.specs.reader.Exprs.{ExprWithin, free_elements, paren_expr, repeat_by, bracket_expr}
+use Rattle.lay_tree.specs.reader.Exprs.{free_elements, paren_expr, repeat_by, bracket_expr}
+use Rattle.lay_tree.specs.reader.Within.{ExprWithin}
 use Rattle.lay_tree.specs.declared.exprs.Expr.{Expr}
-use Rattle.lay_tree.specs.declared.exprs.Expr.TheOpen.{Expr-F}
+use Rattle.lay_tree.specs.declared.blocks.Stmt.TheOpen.{Expr-F}
 use Rattle.lay_tree.specs.declared.exprs.Expr.TheVariants as expr
 use Rattle.lay_tree.proofs.nodes.ExprsLaws.{expr_paren_is, expr_tuple_is, expr_array_is, expr_repeat_is}
 use Rattle.lay_tree.proofs.reader.ExprFronts.{placed_begins}

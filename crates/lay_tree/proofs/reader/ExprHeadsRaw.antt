@@ -21,6 +21,7 @@ use Rattle.lay_node.specs.nodes.Facts.{Facts, all_good}
 use Rattle.lay_node.specs.nodes.SimplePath.{are_simple_words, is_simple_path, simple_words_form, simple_path_form}
 use Rattle.lay_node.specs.nodes.Types.{ArgsFacts, less, segment_good, segments_form, segments_good, about_path, about_start, about_args, is_there, starts_plain, are_none, lone_segment, lone_word}
 use Rattle.lay_node.specs.declared.simple_path.SimplePath.{SimplePath}
+use Rattle.lay_node.specs.declared.token.Lifetime.{Lifetime as Label}
 use Rattle.lay_node.specs.declared.token.Word.{Word}
 use Rattle.lay_node.specs.declared.tokens.MacroCall.{MacroCall}
 use Rattle.lay_node.specs.declared.types.Arg.TheViews as views
@@ -35,17 +36,18 @@ use Rattle.lay_node.proofs.nodes.TypesLaws.{PathStartView, IsLocal, IsGlobal, Is
 use Rattle.lay_node.proofs.reader.Call.{bang_operator}
 use Rattle.lay_node.proofs.reader.TypesBegins.{path_parts, path_goods}
 use Rattle.lay_node.proofs.reader.TypesCompleteParts.{one_left}
-use Rattle.lay_tree.specs.Operands.{ByPath, expr_lead_at}
+use Rattle.lay_tree.specs.Operands.{ExprLead, ByPath, ByBrace, ByBlockWord, expr_lead_at}
 use Rattle.lay_tree.specs.Operators.{begins_step}
-use Rattle.lay_tree.specs.nodes.Exprs.{ExprFacts, StepFacts, stands, placed, begins_pointer, is_raw_word, is_raw_path, break_if, group_if, methods, is_method, is_dotted, is_tuple_index, first_step, are_steps, steps_form, base_form, base_placed, level_of_chain, next_is_angle, is_chain_level, may_chain, operands_placed, inside, level_of, lead_of, within_of, expr_facts, about_expr, about_field_expr, about_step}
+use Rattle.lay_tree.specs.nodes.Code.{about_expr, about_field_expr, about_step, about_arm, about_block, about_branch}
+use Rattle.lay_tree.specs.nodes.Exprs.{ExprFacts, StepFacts, stands, placed, begins_pointer, is_raw_word, is_raw_path, break_if, group_if, methods, is_method, is_dotted, is_tuple_index, first_step, are_steps, steps_form, base_form, base_placed, level_of_chain, next_is_angle, is_chain_level, may_chain, operands_placed, inside, level_of, lead_of, label_or, within_of, expr_facts, ExprLayer}
 use Rattle.lay_tree.specs.nodes.Places.{begins, before_op}
 use Rattle.lay_tree.specs.declared.exprs.Expr.{Expr}
-use Rattle.lay_tree.specs.declared.exprs.Expr.TheOpen.{Expr-F}
+use Rattle.lay_tree.specs.declared.blocks.Stmt.TheOpen.{Expr-F}
 use Rattle.lay_tree.specs.declared.exprs.Expr.TheVariants as expr
 use Rattle.lay_tree.specs.declared.exprs.Place.{Place}
 use Rattle.lay_tree.specs.declared.exprs.Step.{Step}
 use Rattle.lay_tree.specs.declared.operators.Op.{Op}
-use Rattle.lay_tree.proofs.nodes.ExprsLaws.{ExprView, IsLit, IsPath, IsUnderscore, IsCall, IsParen, IsContinue, IsTuple, IsArray, IsRepeat, IsStruct, IsChain, IsCast, IsUnary, IsRange, IsAssign, IsPostfix, IsReturn, IsBreak, expr_view, behind_op, before_op as target_of, expr_lit_is, expr_path_is, expr_underscore_is, expr_call_is, expr_paren_is, expr_continue_is, expr_tuple_is, expr_array_is, expr_repeat_is, expr_struct_is, expr_chain_is, expr_cast_is, expr_unary_is, expr_range_is, expr_assign_is, expr_postfix_is, expr_return_is, expr_break_is}
+use Rattle.lay_tree.proofs.nodes.ExprsLaws.{ExprView, IsLit, IsPath, IsUnderscore, IsCall, IsParen, IsContinue, IsTuple, IsArray, IsRepeat, IsStruct, IsChain, IsCast, IsUnary, IsRange, IsAssign, IsPostfix, IsBlock, IsUnsafe, IsConstBlock, IsAsync, IsIf, IsMatch, IsLoop, IsWhile, IsFor, IsClosure, IsTypedClosure, IsReturn, IsBreak, expr_view, behind_op, before_op as target_of, expr_lit_is, expr_path_is, expr_underscore_is, expr_call_is, expr_paren_is, expr_continue_is, expr_tuple_is, expr_array_is, expr_repeat_is, expr_struct_is, expr_chain_is, expr_cast_is, expr_unary_is, expr_range_is, expr_assign_is, expr_postfix_is, expr_block_is, expr_unsafe_is, expr_const_block_is, expr_async_is, expr_if_is, expr_match_is, expr_loop_is, expr_while_is, expr_for_is, expr_closure_is, expr_typed_closure_is, expr_return_is, expr_break_is}
 use Rattle.lay_tree.proofs.reader.ExprFronts.{no_depth, expr_begins}
 use Rattle.lay_tree.proofs.reader.ExprLeads.{one_lead}
 use Rattle.lay_tree.proofs.reader.ExprSoundLevel.{within_held}
@@ -193,6 +195,10 @@ call_raw c depth ts rest s g h =
 
 -- ---- expressions
 
+abbrev is_path_lead : ExprLead → Bool
+is_path_lead ByPath = true
+is_path_lead _ = false
+
 -- No step begins with a word.
 step_no_pointer : (ts : Tokens) → begins_step ts ≡ true → begins_pointer ts ≡ false
 step_no_pointer [] h = refl
@@ -247,7 +253,7 @@ module _ (depth : ℕ) (ih : AllRaw depth) (no_struct first_flag : Bool) (ts res
   Raw F = Spells F.form (suc depth) ts rest → F.within no_struct first_flag ≡ true → nat_le 12 F.level ≡ true → Some ByPath ≡ Some F.lead
       → RawAlone F.is_raw ts rest
 
-  told : (x : Expr) (F : Expr-F ExprFacts Facts StepFacts) → about_expr x ≡ expr_facts F
+  told : (x : Expr) (F : ExprLayer) → about_expr x ≡ expr_facts F
       → (Spells (inside F) depth ts rest → within_of F no_struct first_flag ≡ true → nat_le 12 (level_of F) ≡ true → Some ByPath ≡ Some
       (lead_of F)
       → RawAlone (is_raw_path F) ts rest) → Raw (about_expr x)
@@ -304,12 +310,21 @@ module _ (depth : ℕ) (ih : AllRaw depth) (no_struct first_flag : Bool) (ts res
       let low = leb-true 12 level l in
       absurd (omega (arith, high, low)))
 
+  -- What has a label or could have one begins with no path.
+  no_label : (l : ExprLead) (label : Option Label) → is_path_lead l ≡ false → Some ByPath ≡ Some (label_or l label) → ⊥
+  no_label l None n e = let f : is_path_lead l ≡ true = ap led (sym e) in absurd (cc)
+    where
+      led : Option ExprLead → Bool
+      led None = false
+      led (Some m) = is_path_lead m
+  no_label l (Some a) n e = absurd (cc)
+
   -- each kind
   raw_view : (x : Expr) → ExprView x → Raw (about_expr x)
   raw_view _ (IsLit l) = told (expr.Lit l) (Expr-F.Lit l) (expr_lit_is l) (λ s w n b. absurd (cc))
   raw_view _ (IsPath p) = told (expr.Path p) (Expr-F.Path p) (expr_path_is p) (λ s w n b. path_raw p depth ts rest s w raw)
   raw_view _ IsUnderscore = told expr.Underscore Expr-F.Underscore expr_underscore_is (λ s w n b. absurd (cc))
-  raw_view _ (IsCall c) = told (expr.Call c) (Expr-F.Call c) (expr_call_is c) (λ s w n b. inl (call_raw c depth ts rest s w raw))
+  raw_view _ (IsCall c) = told (expr.Call c) (Expr-F.Expr::Call c) (expr_call_is c) (λ s w n b. inl (call_raw c depth ts rest s w raw))
   raw_view _ (IsParen x) = told (expr.Paren x) (Expr-F.Paren (about_expr x)) (expr_paren_is x) (λ s w n b. absurd (cc))
   raw_view _ (IsContinue label) = told (expr.Continue label) (Expr-F.Continue label) (expr_continue_is label) (λ s w n b. absurd (cc))
   raw_view _ (IsTuple xs) = told (expr.Tuple xs) (Expr-F.Tuple (map about_expr xs)) (expr_tuple_is xs) (λ s w n b. absurd (cc))
@@ -318,7 +333,7 @@ module _ (depth : ℕ) (ih : AllRaw depth) (no_struct first_flag : Bool) (ts res
   raw_view _ (IsStruct p fields base) =
       let fs = map about_field_expr fields in
       let last = option_map (option_map about_expr) base in
-      told (expr.Struct p fields base) (Expr-F.Struct p fs last) (expr_struct_is p fields base) (λ s w n b.
+      told (expr.Struct p fields base) (Expr-F.Expr::Struct p fs last) (expr_struct_is p fields base) (λ s w n b.
       let w2 = and_parts ((about_path p Code).good && all_good fs) (base_placed last) w in
       let good = (and_parts (about_path p Code).good (all_good fs) w2.0).0 in
       inl (struct_raw p (map (λ (x : Facts). x.form) fs ++ base_form last) (not (is_some last)) s.0 s.1 good s.2))
@@ -332,6 +347,24 @@ module _ (depth : ℕ) (ih : AllRaw depth) (no_struct first_flag : Bool) (ts res
       told (expr.Assign targets x) (Expr-F.Assign (map target_of targets) (about_expr x)) (expr_assign_is targets x)
       (λ s w n b. absurd (cc))
   raw_view _ (IsPostfix x ss) = postfix_raw x ss
+  raw_view _ (IsBlock label b) = told (expr.Block label b) (Expr-F.Block label (about_block b)) (expr_block_is label b) (λ s w n b. absurd (no_label ByBrace label refl b))
+  raw_view _ (IsUnsafe b) =
+      told (expr.Unsafe b) (Expr-F.Unsafe (about_block b)) (expr_unsafe_is b) (λ s w n b. absurd (cc))
+  raw_view _ (IsConstBlock b) =
+      told (expr.ConstBlock b) (Expr-F.ConstBlock (about_block b)) (expr_const_block_is b) (λ s w n b. absurd (cc))
+  raw_view _ (IsAsync moves b) =
+      told (expr.Async moves b) (Expr-F.Async moves (about_block b)) (expr_async_is moves b) (λ s w n b. absurd (cc))
+  raw_view _ (IsIf bs o) =
+      told (expr.If bs o) (Expr-F.If (map about_branch bs) (option_map about_block o)) (expr_if_is bs o) (λ s w n b. absurd (cc))
+  raw_view _ (IsMatch x attrs arms) =
+      told (expr.Match x attrs arms) (Expr-F.Match (about_expr x) attrs (map about_arm arms)) (expr_match_is x attrs arms) (λ s w n b. absurd (cc))
+  raw_view _ (IsLoop label b) = told (expr.Loop label b) (Expr-F.Loop label (about_block b)) (expr_loop_is label b) (λ s w n b. absurd (no_label ByBlockWord label refl b))
+  raw_view _ (IsWhile label pat x b) = told (expr.While label pat x b) (Expr-F.While label pat (about_expr x) (about_block b)) (expr_while_is label pat x b) (λ s w n b. absurd (no_label ByBlockWord label refl b))
+  raw_view _ (IsFor label pat x b) = told (expr.For label pat x b) (Expr-F.For label pat (about_expr x) (about_block b)) (expr_for_is label pat x b) (λ s w n b. absurd (no_label ByBlockWord label refl b))
+  raw_view _ (IsClosure moves params x) =
+      told (expr.Closure moves params x) (Expr-F.Closure moves params (about_expr x)) (expr_closure_is moves params x) (λ s w n b. absurd (cc))
+  raw_view _ (IsTypedClosure moves params output b) =
+      told (expr.TypedClosure moves params output b) (Expr-F.TypedClosure moves params output (about_block b)) (expr_typed_closure_is moves params output b) (λ s w n b. absurd (cc))
   raw_view _ (IsReturn x) = told (expr.Return x) (Expr-F.Return (option_map about_expr x)) (expr_return_is x) (λ s w n b. absurd (cc))
   raw_view _ (IsBreak label x) =
       told (expr.Break label x) (Expr-F.Break label (option_map about_expr x)) (expr_break_is label x) (λ s w n b. absurd (cc))

@@ -40,11 +40,13 @@ use Rattle.lay_node.proofs.reader.TypesFronts as types
 use Rattle.lay_node.proofs.reader.TypesLists.{forms_of, last_of_all, Ending, open_none, open_read}
 use Rattle.lay_node.proofs.reader.Words.{name_complete}
 use Rattle.lay_tree.specs.Operands.{ByPath}
-use Rattle.lay_tree.specs.nodes.Exprs.{ExprFacts, placed, base_form, base_placed, about_expr, about_field_expr}
+use Rattle.lay_tree.specs.nodes.Code.{about_expr, about_field_expr}
+use Rattle.lay_tree.specs.nodes.Exprs.{ExprFacts, placed, base_form, base_placed}
 use Rattle.lay_tree.specs.nodes.Places.{FREE}
-use Rattle.lay_tree.specs.reader.Exprs.{ExprWithin, field_by, one_field, base, struct_expr, path_expr, head_by}
+use Rattle.lay_tree.specs.reader.Exprs.{field_by, one_field, base, struct_expr, path_expr, head_by}
+use Rattle.lay_tree.specs.reader.Within.{ExprWithin}
 use Rattle.lay_tree.specs.declared.exprs.Expr.{Expr}
-use Rattle.lay_tree.specs.declared.exprs.Expr.TheOpen.{Expr-F}
+use Rattle.lay_tree.specs.declared.blocks.Stmt.TheOpen.{Expr-F}
 use Rattle.lay_tree.specs.declared.exprs.Expr.TheVariants as expr
 use Rattle.lay_tree.specs.declared.exprs.FieldExpr.{FieldExpr}
 use Rattle.lay_tree.specs.declared.exprs.FieldExpr.TheVariants as field
@@ -400,7 +402,7 @@ module _ (depth : ℕ) (within : ExprWithin) (reads : ExprReads depth within) wh
   struct_head p fs b =
       let fields = map about_field_expr fs in
       let last = option_map (option_map about_expr) b in
-      head_of depth within (expr.Struct p fs b) (Expr-F.Struct p fields last) (expr_struct_is p fs b) (λ no_struct first_flag ts rest h.
+      head_of depth within (expr.Struct p fs b) (Expr-F.Expr::Struct p fields last) (expr_struct_is p fs b) (λ no_struct first_flag ts rest h.
       let s = h.spelled in
       let goods = and_parts ((about_path p Code).good && all_good fields) (base_placed last) h.inside in
       let good = and_parts (about_path p Code).good (all_good fields) goods.0 in

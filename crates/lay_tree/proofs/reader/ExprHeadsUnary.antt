@@ -13,11 +13,13 @@ use Rattle.lay_node.proofs.reader.Exact.{IsRead}
 use Rattle.lay_node.proofs.reader.Loops.{Turn, repeat_complete}
 use Rattle.lay_node.proofs.reader.TypesCompleteParts.{none_left, none_right}
 use Rattle.lay_tree.specs.Operators.{raw_by, amp_by, prefix_by, prefix, prefix_length, strength}
-use Rattle.lay_tree.specs.nodes.Exprs.{ExprFacts, Tail, stands, placed, begins_pointer, tail_follows, prefix_bits, prefixes_form, is_amp, ends_in_amp, is_prefix_lead, about_expr}
+use Rattle.lay_tree.specs.nodes.Code.{about_expr}
+use Rattle.lay_tree.specs.nodes.Exprs.{ExprFacts, Tail, stands, placed, begins_pointer, tail_follows, prefix_bits, prefixes_form, is_amp, ends_in_amp, is_prefix_lead}
 use Rattle.lay_tree.specs.nodes.Places.{plain}
-use Rattle.lay_tree.specs.reader.Exprs.{ExprWithin, one_prefix, unary_expr}
+use Rattle.lay_tree.specs.reader.Exprs.{one_prefix, unary_expr}
+use Rattle.lay_tree.specs.reader.Within.{ExprWithin}
 use Rattle.lay_tree.specs.declared.exprs.Expr.{Expr}
-use Rattle.lay_tree.specs.declared.exprs.Expr.TheOpen.{Expr-F}
+use Rattle.lay_tree.specs.declared.blocks.Stmt.TheOpen.{Expr-F}
 use Rattle.lay_tree.specs.declared.exprs.Expr.TheVariants as expr
 use Rattle.lay_tree.specs.declared.exprs.Place.{Place}
 use Rattle.lay_tree.specs.declared.operators.Prefix.{Prefix}
@@ -155,7 +157,7 @@ prefix_rows (p ∷ q ∷ ps) f depth ts rest s stops =
 operand_fits : (t : Tail) (more no_struct : Bool) (ts : Tokens) → TailFits (record t { raw = t.raw || more }) no_struct ts
     → TailFits t no_struct ts
 operand_fits t more no_struct ts f =
-    record { all = f.all; bare = f.bare; path = f.path; label = f.label; raw = less t.raw f.raw; refuses = f.refuses }
+    record { all = f.all; bare = f.bare; path = f.path; label = f.label; raw = less t.raw f.raw; otherwise = f.otherwise; refuses = f.refuses }
   where
     less : (a : Bool) → not ((a || more) && begins_pointer ts) ≡ true → not (a && begins_pointer ts) ≡ true
     less true h = h

@@ -26,8 +26,9 @@ use Rattle.lay_node.proofs.reader.TypesCompletePaths.{path_read}
 use Rattle.lay_node.proofs.reader.TypesFronts.{follows_clear}
 use Rattle.lay_tree.specs.Operands.{ByPath}
 use Rattle.lay_tree.specs.nodes.Exprs.{label_form}
-use Rattle.lay_tree.specs.reader.Exprs.{ExprWithin, path_expr, continue_expr, head_by}
-use Rattle.lay_tree.specs.declared.exprs.Expr.TheOpen.{Expr-F}
+use Rattle.lay_tree.specs.reader.Exprs.{path_expr, continue_expr, head_by}
+use Rattle.lay_tree.specs.reader.Within.{ExprWithin}
+use Rattle.lay_tree.specs.declared.blocks.Stmt.TheOpen.{Expr-F}
 use Rattle.lay_tree.specs.declared.exprs.Expr.TheVariants as expr
 use Rattle.lay_tree.proofs.nodes.ExprsLaws.{expr_lit_is, expr_path_is, expr_underscore_is, expr_call_is, expr_continue_is}
 use Rattle.lay_tree.proofs.reader.ExprHeads.{IsHead, head_of}
@@ -62,7 +63,7 @@ module _ (depth : ℕ) (within : ExprWithin) (reads : ExprReads depth within) wh
 
   -- a macro call
   pub call_head : (c : MacroCall) → IsHead depth within (expr.Call c)
-  call_head c = head_of depth within (expr.Call c) (Expr-F.Call c) (expr_call_is c) (λ no_struct first_flag ts rest h.
+  call_head c = head_of depth within (expr.Call c) (Expr-F.Expr::Call c) (expr_call_is c) (λ no_struct first_flag ts rest h.
       let there = call_there c depth ts rest h.spelled h.inside in
       let r = call_complete c depth ts rest (h.spelled, h.inside, refl) in
       (1, omega arith, rw (there, r.read) refl))

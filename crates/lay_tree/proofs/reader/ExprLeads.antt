@@ -5,7 +5,7 @@ use Rattle.std.specs.Str.{bytes_eq}
 use Rattle.std.proofs.lemmas.Bool.{cases_Bool, false_from_ne_true}
 use Rattle.lay_piece.specs.Word.{class_of}
 use Rattle.lay_piece.specs.declared.kind.Delim.{Delim}
-use Rattle.lay_piece.specs.declared.kind.Delim.TheVariants.{Paren, Bracket}
+use Rattle.lay_piece.specs.declared.kind.Delim.TheVariants.{Paren, Bracket, Brace}
 use Rattle.lay_piece.specs.declared.kind.Kind.{Kind}
 use Rattle.lay_piece.specs.declared.kind.Kind.TheVariants.{Ident, RawIdent, Lifetime, Doc, Underscore, Punct, Opener, Closer}
 use Rattle.lay_token.specs.Lexes.{is_punct}
@@ -13,11 +13,12 @@ use Rattle.lay_token.specs.Operators.{is_op}
 use Rattle.lay_token.proofs.Deciding.{bytes_same}
 use Rattle.lay_form.specs.Form.{Operator}
 use Rattle.lay_form.specs.Spelled.{IsOne, IsOperator, AreBits}
-use Rattle.lay_node.specs.Ahead.{Tokens, first, tail, is_keyword, is_lifetime, is_lifetime_kind, is_mark, is_closer, closes}
+use Rattle.lay_node.specs.Ahead.{Tokens, first, tail, is_keyword, is_lifetime, is_lifetime_kind, is_mark, is_closer, closes, ends_items}
 use Rattle.lay_node.specs.Begins.{OfPath, OfNever, OfPointer, OfReference, OfImpl, OfDyn, OfFunc, begins_func, lead_of_word, lead_of_punct, lead_by, lead_at}
 use Rattle.lay_node.specs.Follow.{begins_dots}
 use Rattle.lay_node.specs.Words.{is_path_class, is_literal}
 use Rattle.lay_node.specs.nodes.Patterns.{dots}
+use Rattle.lay_node.specs.reader.Attr.{begins_attr, is_doc, is_doc_kind}
 use Rattle.lay_node.proofs.Fronts.{keyword_one, mark_one, other_op}
 use Rattle.lay_node.proofs.Parts.{bit_alone}
 use Rattle.lay_node.proofs.reader.TypesFronts.{no_other_op, op_first}
@@ -172,6 +173,34 @@ expr_no_comma ts l h = no_lead (first (is_mark (codes ",")) ts) ts l h (λ e. co
 
 pub expr_no_semicolon : (ts : Tokens) (l : ExprLead) → expr_lead_at ts ≡ Some l → first (is_mark (codes ";")) ts ≡ false
 expr_no_semicolon ts l h = no_lead (first (is_mark (codes ";")) ts) ts l h (λ e. semicolon_lead ts (tail ts) (mark_one (codes ";") ts e))
+
+-- Nothing begins an attribute.
+hash_lead : (ts rest : Tokens) → IsOne Punct (codes "#") ts rest → expr_lead_at ts ≡ None
+hash_lead = mark_lead 35 refl refl (λ us n d. rw (n, d) refl)
+
+expr_no_doc : (inner : Bool) (ts : Tokens) (l : ExprLead) → expr_lead_at ts ≡ Some l → first (is_doc inner) ts ≡ false
+unfolding expr_lead_at
+expr_no_doc inner [] l h = refl
+expr_no_doc inner (t ∷ ts) l h = no_lead (is_doc_kind inner t.kind) (t ∷ ts) l h (λ e. none t.kind e)
+  where
+    none : (k : Kind) → is_doc_kind inner k ≡ true → expr_lead_by k t.text (t ∷ ts) ≡ None
+    none (Doc flag block) g = refl
+    none _ g = absurd (cc)
+
+pub expr_no_attr : (inner : Bool) (ts : Tokens) (l : ExprLead) → expr_lead_at ts ≡ Some l → begins_attr inner ts ≡ false
+expr_no_attr inner ts l h =
+    let hash = no_lead (first (is_mark (codes "#")) ts) ts l h (λ e. hash_lead ts (tail ts) (mark_one (codes "#") ts e)) in
+    by inner (expr_no_doc inner ts l h) hash
+  where
+    by : (inner : Bool) → first (is_doc inner) ts ≡ false → first (is_mark (codes "#")) ts ≡ false → begins_attr inner ts ≡ false
+    by true d m = rw (d, m) refl
+    by false d m = rw (d, m) refl
+
+-- Tokens are there, and no `}`.
+pub expr_more : (ts : Tokens) (l : ExprLead) → expr_lead_at ts ≡ Some l → ends_items ts ≡ false
+unfolding expr_lead_at
+expr_more [] l h = absurd (cc)
+expr_more (t ∷ ts) l h = expr_no_closer Brace (t ∷ ts) l h
 
 -- a word that begins no expression, whatever follows it
 pub expr_no_keyword : (word : List ℕ) → ((us : Tokens) → expr_lead_of_word word us ≡ None) → (ts : Tokens) (l : ExprLead)

@@ -247,6 +247,7 @@ record Inner (ts : Tokens) : Type 0 where
   brace : first (opens Brace) ts ≡ false
   lifetime : first is_lifetime ts ≡ false
   pointer : begins_pointer ts ≡ false
+  otherwise : first (is_keyword (codes "else")) ts ≡ false
   colons : is_op (codes "::") ts ≡ false
   bang : is_op (codes "!") ts ≡ false
   arrow : is_op (codes "->") ts ≡ false
@@ -254,6 +255,10 @@ record Inner (ts : Tokens) : Type 0 where
 -- An operator is neither `const` nor `mut`.
 op_pointer : (text : List ℕ) (ts : Tokens) → is_op text ts ≡ true → begins_pointer ts ≡ false
 op_pointer text ts h = rw (op_front text ts h).2 refl
+
+-- nor `else`
+op_no_else : (text : List ℕ) (ts : Tokens) → is_op text ts ≡ true → first (is_keyword (codes "else")) ts ≡ false
+op_no_else text ts h = rw (op_front text ts h).2 refl
 
 -- an operator between operands
 op_inner : (ts : Tokens) (o : Op) → binary ts ≡ Some o → Inner ts
@@ -263,6 +268,7 @@ op_inner ts o h =
       brace = op_test (is_opener Brace) (op_text o) ts there;
       lifetime = op_test is_lifetime_kind (op_text o) ts there;
       pointer = op_pointer (op_text o) ts there;
+      otherwise = op_no_else (op_text o) ts there;
       colons = binary_no (codes "::") refl ts o h;
       bang = binary_no (codes "!") refl ts o h;
       arrow = binary_no (codes "->") refl ts o h;
@@ -275,6 +281,7 @@ text_inner text a b c ts h = record {
   brace = op_test (is_opener Brace) text ts h;
   lifetime = op_test is_lifetime_kind text ts h;
   pointer = op_pointer text ts h;
+  otherwise = op_no_else text ts h;
   colons = other_op text (codes "::") a ts h;
   bang = other_op text (codes "!") b ts h;
   arrow = other_op text (codes "->") c ts h;
@@ -289,6 +296,7 @@ as_inner ts rest s =
       brace = rw f refl;
       lifetime = rw f refl;
       pointer = rw f refl;
+      otherwise = rw f refl;
       colons = rw none refl;
       bang = rw none refl;
       arrow = rw none refl;
@@ -300,6 +308,7 @@ opener_inner d other ts h = record {
   brace = kind_test (is_opener Brace) ts h other;
   lifetime = kind_test is_lifetime_kind ts h refl;
   pointer = no_pointer ts h;
+  otherwise = no_else ts h;
   colons = rw (opener_no_op d ts h) refl;
   bang = rw (opener_no_op d ts h) refl;
   arrow = rw (opener_no_op d ts h) refl;
@@ -312,6 +321,10 @@ opener_inner d other ts h = record {
     no_pointer : (us : Tokens) → first (opens d) us ≡ true → begins_pointer us ≡ false
     no_pointer [] g = refl
     no_pointer (t ∷ us) g = rw (opener_kind d t.kind g) refl
+
+    no_else : (us : Tokens) → first (opens d) us ≡ true → first (is_keyword (codes "else")) us ≡ false
+    no_else [] g = refl
+    no_else (t ∷ us) g = rw (opener_kind d t.kind g) refl
 
 -- a step
 step_inner : (ts : Tokens) → begins_step ts ≡ true → Inner ts
@@ -387,15 +400,15 @@ op_follows (b ∷ bs) ts o h a =
 tail_inner : (t : Tail) (no_struct : Bool) (ts : Tokens) → Inner ts → is_open t ≡ false → may_follow t.refuses ts ≡ true
     → tail_follows t no_struct ts ≡ true
 tail_inner t no_struct ts i shut f =
-    let n = or_parts t.takes_all t.bare shut in
-    rw (n.0, n.1, i.brace, i.lifetime, i.pointer, f, and_none (not no_struct), and_none t.path, and_none t.unlabelled, and_none t.raw) refl
+    let n = or_parts t.takes_all t.bare (or_parts (t.takes_all || t.bare) t.closure shut).0 in
+    rw (n.0, n.1, i.brace, i.lifetime, i.pointer, i.otherwise, f, and_none (not no_struct), and_none t.path, and_none t.unlabelled, and_none t.raw, and_none t.lacks_else) refl
 
 -- An operator may follow what it ends in, where that isn't open; `<` and `<<` not a type that is open at its end.
 pub op_tail : (t : Tail) (no_struct : Bool) (ts : Tokens) (o : Op) → binary ts ≡ Some o → is_open t ≡ false
     → (is_typed t ≡ true → is_angle ts ≡ false)
     → tail_follows t no_struct ts ≡ true
 op_tail t no_struct ts o h shut angle =
-    let n = or_parts t.takes_all t.bare shut in
+    let n = or_parts t.takes_all t.bare (or_parts (t.takes_all || t.bare) t.closure shut).0 in
     tail_inner t no_struct ts (op_inner ts o h) shut (op_follows t.refuses ts o h (λ e. angle (rw (n.0, e) refl)))
 
 -- `as` and steps may follow what ends in a path or a field.

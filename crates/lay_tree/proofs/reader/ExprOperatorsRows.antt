@@ -18,9 +18,11 @@ use Rattle.lay_node.proofs.reader.TypesComplete.{quiet_fits}
 use Rattle.lay_node.proofs.reader.TypesCompleteParts.{blank_left}
 use Rattle.lay_node.proofs.reader.TypesFronts.{Clear, follows_clear, as_quiet}
 use Rattle.lay_tree.specs.Operators.{op_text, op_level, binary, angle_by, is_angle, is_angle_op, strength}
-use Rattle.lay_tree.specs.nodes.Exprs.{ExprFacts, is_typed, stands, placed, follows, tail_follows, operands_form, types_form, targets_form, operand_place, operands_placed, may_chain, targets_placed, tail_of_operands, type_refuses, types_good, about_expr}
+use Rattle.lay_tree.specs.nodes.Code.{about_expr}
+use Rattle.lay_tree.specs.nodes.Exprs.{ExprFacts, is_typed, stands, placed, follows, tail_follows, operands_form, types_form, targets_form, operand_place, operands_placed, may_chain, targets_placed, tail_of_operands, type_refuses, types_good}
 use Rattle.lay_tree.specs.nodes.Places.{plain, before_op}
-use Rattle.lay_tree.specs.reader.Exprs.{ExprWithin, operand_ends, operand, operands, targets_of, value_of, one_type}
+use Rattle.lay_tree.specs.reader.Exprs.{operand_ends, operand, operands, targets_of, value_of, one_type}
+use Rattle.lay_tree.specs.reader.Within.{ExprWithin}
 use Rattle.lay_tree.specs.declared.exprs.Expr.{Expr}
 use Rattle.lay_tree.specs.declared.operators.Op.{Op}
 use Rattle.lay_tree.proofs.nodes.ExprsLaws.{behind_op, before_op as target_of}

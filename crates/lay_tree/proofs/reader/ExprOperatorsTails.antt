@@ -1,5 +1,5 @@
 -- What an operand ends in: an expression of level 12 or more that isn't open at its end ends as paths and fields do.
-use Rattle.std.proofs.Common.{◌≡◌, ℕ, zero, suc, Bool, true, false, not, ◌&&◌, nat_le, List, [], ◌∷◌, map, Option, option_map, Some, None, refl, sym, ap, subst, ◌∙◌, arith}
+use Rattle.std.proofs.Common.{◌≡◌, ℕ, zero, suc, Bool, true, false, not, ◌&&◌, nat_le, List, [], ◌∷◌, map, Option, option_map, Some, None, refl, sym, ap, subst, ◌∙◌, arith, ◌||◌}
 use Rattle.std.proofs.lemmas.Bool.{and_parts, or_parts, not-true, leb-true}
 use Rattle.lay_form.specs.Form.{Done, Part}
 use Rattle.lay_form.specs.Spelled.{Spells}
@@ -13,15 +13,16 @@ use Rattle.lay_node.specs.declared.types.PathStyle.TheVariants.{Code}
 use Rattle.lay_node.proofs.Parts.{part_alone}
 use Rattle.lay_node.proofs.nodes.TypesLaws.{ArgsView, IsNone, IsAngle, IsRound, about_segment, args_view, args_none_is, args_angle_is, args_round_is, path_is}
 use Rattle.lay_node.proofs.reader.TypesBegins.{path_goods}
-use Rattle.lay_tree.specs.nodes.Exprs.{ExprFacts, StepFacts, Tail, is_open, is_typed, placed, stands, StepKind, OfField, tail_of_steps, tail_of_jump, prefixes_form, level_of_chain, next_is_angle, is_chain_level, may_chain, operands_placed, is_prefix_lead, inside, level_of, tail_of, within_of, expr_facts, about_expr, about_field_expr, about_step}
+use Rattle.lay_tree.specs.nodes.Code.{about_expr, about_field_expr, about_step, about_arm, about_block, about_branch}
+use Rattle.lay_tree.specs.nodes.Exprs.{ExprFacts, StepFacts, Tail, is_open, is_typed, placed, stands, StepKind, OfField, tail_of_steps, tail_of_jump, prefixes_form, level_of_chain, next_is_angle, is_chain_level, may_chain, operands_placed, is_prefix_lead, inside, level_of, tail_of, within_of, expr_facts, ExprLayer}
 use Rattle.lay_tree.specs.nodes.Places.{plain, is_part, part_if, before_op}
 use Rattle.lay_tree.specs.declared.exprs.Expr.{Expr}
-use Rattle.lay_tree.specs.declared.exprs.Expr.TheOpen.{Expr-F}
+use Rattle.lay_tree.specs.declared.blocks.Stmt.TheOpen.{Expr-F}
 use Rattle.lay_tree.specs.declared.exprs.Expr.TheVariants as expr
 use Rattle.lay_tree.specs.declared.exprs.Place.{Place}
 use Rattle.lay_tree.specs.declared.operators.Op.{Op}
 use Rattle.lay_tree.specs.declared.operators.Prefix.{Prefix}
-use Rattle.lay_tree.proofs.nodes.ExprsLaws.{ExprView, IsLit, IsPath, IsUnderscore, IsCall, IsParen, IsContinue, IsTuple, IsArray, IsRepeat, IsStruct, IsChain, IsCast, IsUnary, IsRange, IsAssign, IsPostfix, IsReturn, IsBreak, expr_view, behind_op, before_op as target_of, expr_lit_is, expr_path_is, expr_underscore_is, expr_call_is, expr_paren_is, expr_continue_is, expr_tuple_is, expr_array_is, expr_repeat_is, expr_struct_is, expr_chain_is, expr_cast_is, expr_unary_is, expr_range_is, expr_assign_is, expr_postfix_is, expr_return_is, expr_break_is}
+use Rattle.lay_tree.proofs.nodes.ExprsLaws.{ExprView, IsLit, IsPath, IsUnderscore, IsCall, IsParen, IsContinue, IsTuple, IsArray, IsRepeat, IsStruct, IsChain, IsCast, IsUnary, IsRange, IsAssign, IsPostfix, IsBlock, IsUnsafe, IsConstBlock, IsAsync, IsIf, IsMatch, IsLoop, IsWhile, IsFor, IsClosure, IsTypedClosure, IsReturn, IsBreak, expr_view, behind_op, before_op as target_of, expr_lit_is, expr_path_is, expr_underscore_is, expr_call_is, expr_paren_is, expr_continue_is, expr_tuple_is, expr_array_is, expr_repeat_is, expr_struct_is, expr_chain_is, expr_cast_is, expr_unary_is, expr_range_is, expr_assign_is, expr_postfix_is, expr_block_is, expr_unsafe_is, expr_const_block_is, expr_async_is, expr_if_is, expr_match_is, expr_loop_is, expr_while_is, expr_for_is, expr_closure_is, expr_typed_closure_is, expr_return_is, expr_break_is}
 use Rattle.lay_tree.proofs.reader.ExprFronts.{no_depth}
 use Rattle.lay_tree.proofs.reader.ExprOperators.{path_refuses}
 
@@ -92,7 +93,7 @@ module _ (depth : ℕ) (ih : AllEnd depth) (no_struct first : Bool) (ts rest : T
   EndsBy F = Spells F.form (suc depth) ts rest → F.within no_struct first ≡ true → EndsAsPath F
 
   -- by the layer of its kind
-  told : (x : Expr) (F : Expr-F ExprFacts Facts StepFacts) → about_expr x ≡ expr_facts F
+  told : (x : Expr) (F : ExprLayer) → about_expr x ≡ expr_facts F
       → (Spells (inside F) depth ts rest → within_of F no_struct first ≡ true → EndsAsPath (expr_facts F)) → EndsBy (about_expr x)
   told x F e f = subst EndsBy (sym e) (λ s w. f (subst (λ us. Spells (inside F) depth ts us) s.2 s.1) w)
 
@@ -127,34 +128,38 @@ module _ (depth : ℕ) (ih : AllEnd depth) (no_struct first : Bool) (ts rest : T
       ih x no_struct false u.0 rest u.1 p.1 (stands_parts F (plain 12 no_struct) p.0).level t)
 
   -- an expression that ends in a delimiter, or in nothing that refuses what follows
-  shut_end : (x : Expr) (F : Expr-F ExprFacts Facts StepFacts) → about_expr x ≡ expr_facts F → path_refuses (tail_of F).refuses ≡ true
+  shut_end : (x : Expr) (F : ExprLayer) → about_expr x ≡ expr_facts F → path_refuses (tail_of F).refuses ≡ true
       → EndsBy (about_expr x)
   shut_end x F e g = told x F e (λ s w l t. g)
 
   -- one of a lower level
-  low_end : (x : Expr) (F : Expr-F ExprFacts Facts StepFacts) → about_expr x ≡ expr_facts F → nat_le 12 (level_of F) ≡ false
+  low_end : (x : Expr) (F : ExprLayer) → about_expr x ≡ expr_facts F → nat_le 12 (level_of F) ≡ false
       → EndsBy (about_expr x)
   low_end x F e low = told x F e (λ s w l t. let f = sym low ∙ l in absurd (cc))
 
   -- What `return` and `break` hand back takes all operators.
-  jump_end : (x : Expr) (F : Expr-F ExprFacts Facts StepFacts) → about_expr x ≡ expr_facts F → (y : Option ExprFacts)
+  jump_end : (x : Expr) (F : ExprLayer) → about_expr x ≡ expr_facts F → (y : Option ExprFacts)
       → tail_of F ≡ tail_of_jump y → EndsBy (about_expr x)
   jump_end x F e None j = told x F e (λ s w l t. subst (λ (z : Tail). path_refuses z.refuses ≡ true) (sym j) refl)
   jump_end x F e (Some y) j = told x F e (λ s w l t. let f = ap (λ (z : Tail). z.takes_all) (sym j) ∙ t in absurd (cc))
+
+  -- A closure takes all operators.
+  taking_end : (x : Expr) (F : ExprLayer) → about_expr x ≡ expr_facts F → (tail_of F).takes_all ≡ true → EndsBy (about_expr x)
+  taking_end x F e takes = told x F e (λ s w l t. let f = sym takes ∙ t in absurd (cc))
 
   -- kind by kind
   ends : (x : Expr) → ExprView x → EndsBy (about_expr x)
   ends _ (IsLit l) = shut_end (expr.Lit l) (Expr-F.Lit l) (expr_lit_is l) refl
   ends _ (IsPath path) = told (expr.Path path) (Expr-F.Path path) (expr_path_is path) (λ s w l t. code_refuses path w)
   ends _ IsUnderscore = shut_end expr.Underscore Expr-F.Underscore expr_underscore_is refl
-  ends _ (IsCall call) = shut_end (expr.Call call) (Expr-F.Call call) (expr_call_is call) refl
+  ends _ (IsCall call) = shut_end (expr.Call call) (Expr-F.Expr::Call call) (expr_call_is call) refl
   ends _ (IsParen x) = shut_end (expr.Paren x) (Expr-F.Paren (about_expr x)) (expr_paren_is x) refl
   ends _ (IsContinue label) = shut_end (expr.Continue label) (Expr-F.Continue label) (expr_continue_is label) refl
   ends _ (IsTuple xs) = shut_end (expr.Tuple xs) (Expr-F.Tuple (map about_expr xs)) (expr_tuple_is xs) refl
   ends _ (IsArray xs) = shut_end (expr.Array xs) (Expr-F.Array (map about_expr xs)) (expr_array_is xs) refl
   ends _ (IsRepeat x us) = shut_end (expr.Repeat x us) (Expr-F.Repeat (about_expr x) us) (expr_repeat_is x us) refl
   ends _ (IsStruct path fields base) =
-      shut_end (expr.Struct path fields base) (Expr-F.Struct path (map about_field_expr fields) (option_map (option_map about_expr) base))
+      shut_end (expr.Struct path fields base) (Expr-F.Expr::Struct path (map about_field_expr fields) (option_map (option_map about_expr) base))
       (expr_struct_is path fields base) refl
   ends _ (IsChain x more) = chain_end x more
   ends _ (IsCast x types) = low_end (expr.Cast x types) (Expr-F.Cast (about_expr x) types) (expr_cast_is x types) refl
@@ -167,6 +172,17 @@ module _ (depth : ℕ) (ih : AllEnd depth) (no_struct first : Bool) (ts rest : T
   ends _ (IsPostfix x steps) =
       shut_end (expr.Postfix x steps) (Expr-F.Postfix (about_expr x) (map about_step steps)) (expr_postfix_is x steps)
       (steps_refuse (map about_step steps))
+  ends _ (IsBlock label b) = shut_end (expr.Block label b) (Expr-F.Block label (about_block b)) (expr_block_is label b) refl
+  ends _ (IsUnsafe b) = shut_end (expr.Unsafe b) (Expr-F.Unsafe (about_block b)) (expr_unsafe_is b) refl
+  ends _ (IsConstBlock b) = shut_end (expr.ConstBlock b) (Expr-F.ConstBlock (about_block b)) (expr_const_block_is b) refl
+  ends _ (IsAsync moves b) = shut_end (expr.Async moves b) (Expr-F.Async moves (about_block b)) (expr_async_is moves b) refl
+  ends _ (IsIf bs o) = shut_end (expr.If bs o) (Expr-F.If (map about_branch bs) (option_map about_block o)) (expr_if_is bs o) refl
+  ends _ (IsMatch x attrs arms) = shut_end (expr.Match x attrs arms) (Expr-F.Match (about_expr x) attrs (map about_arm arms)) (expr_match_is x attrs arms) refl
+  ends _ (IsLoop label b) = shut_end (expr.Loop label b) (Expr-F.Loop label (about_block b)) (expr_loop_is label b) refl
+  ends _ (IsWhile label pat x b) = shut_end (expr.While label pat x b) (Expr-F.While label pat (about_expr x) (about_block b)) (expr_while_is label pat x b) refl
+  ends _ (IsFor label pat x b) = shut_end (expr.For label pat x b) (Expr-F.For label pat (about_expr x) (about_block b)) (expr_for_is label pat x b) refl
+  ends _ (IsClosure moves params x) = taking_end (expr.Closure moves params x) (Expr-F.Closure moves params (about_expr x)) (expr_closure_is moves params x) refl
+  ends _ (IsTypedClosure moves params output b) = shut_end (expr.TypedClosure moves params output b) (Expr-F.TypedClosure moves params output (about_block b)) (expr_typed_closure_is moves params output b) refl
   ends _ (IsReturn x) = jump_end (expr.Return x) (Expr-F.Return (option_map about_expr x)) (expr_return_is x) (option_map about_expr x) refl
   ends _ (IsBreak label x) =
       jump_end (expr.Break label x) (Expr-F.Break label (option_map about_expr x)) (expr_break_is label x) (option_map about_expr x) refl
@@ -181,7 +197,8 @@ pub high_refuses : (x : Expr) (no_struct first : Bool) (depth : ℕ) (ts rest : 
     → (about_expr x).within no_struct first ≡ true → nat_le 12 (about_expr x).level ≡ true → is_open (about_expr x).tail ≡ false
     → path_refuses (about_expr x).tail.refuses ≡ true
 high_refuses x no_struct first depth ts rest s w l shut =
-    let t = (about_expr x).tail in all_end depth x no_struct first ts rest s w l (or_parts t.takes_all t.bare shut).0
+    let t = (about_expr x).tail in all_end depth x no_struct first ts rest s w l
+    (or_parts t.takes_all t.bare (or_parts (t.takes_all || t.bare) t.closure shut).0).0
 
 -- ---- an operand before an operator
 

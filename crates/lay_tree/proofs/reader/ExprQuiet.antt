@@ -9,12 +9,12 @@ use Rattle.lay_piece.specs.declared.kind.Kind.TheVariants.{Punct, Opener, Closer
 use Rattle.lay_token.specs.Operators.{op_at, is_op_of, is_op}
 use Rattle.lay_form.specs.Spelled.{IsOne}
 use Rattle.lay_node.specs.Ahead.{Tokens, first, is_keyword, is_lifetime, opens}
-use Rattle.lay_node.specs.Follow.{may_follow}
+use Rattle.lay_node.specs.Follow.{may_follow, OfRename, OfColons, OfArgs, OfCodeArgs, OfArrow, OfBang}
 use Rattle.lay_node.proofs.Follow.{Quiet, quiet_follows, comma_quiet, semicolon_quiet, closer_quiet}
 use Rattle.lay_node.proofs.Fronts.{one_front}
 use Rattle.lay_node.proofs.reader.HeadParts.{brace_quiet}
 use Rattle.lay_node.proofs.reader.Loops as loops
-use Rattle.lay_tree.specs.Operands.{begins_operand}
+use Rattle.lay_tree.specs.Operands.{begins_operand, expr_lead_at}
 use Rattle.lay_tree.specs.Operators.{all_ops, named, binary, is_dot_or_try, begins_step, strength_by, strength}
 use Rattle.lay_tree.specs.declared.exprs.Place.{Place}
 use Rattle.lay_tree.specs.declared.operators.Op.{Op}
@@ -29,6 +29,7 @@ pub record ExprEnds (no_struct : Bool) (ts : Tokens) : Type 0 where
   pub brace : (not no_struct && first (opens Brace) ts) ≡ false
   pub lifetime : first is_lifetime ts ≡ false
   pub pointer : begins_pointer ts ≡ false
+  pub otherwise : first (is_keyword (codes "else")) ts ≡ false
   pub quiet : Quiet ts
 
 -- ---- what may follow what an expression ends in, test by test
@@ -39,23 +40,25 @@ pub record TailFits (t : Tail) (no_struct : Bool) (ts : Tokens) : Type 0 where
   pub path : not (t.path && (not no_struct && first (opens Brace) ts)) ≡ true
   pub label : not (t.unlabelled && first is_lifetime ts) ≡ true
   pub raw : not (t.raw && begins_pointer ts) ≡ true
+  pub otherwise : not (t.lacks_else && first (is_keyword (codes "else")) ts) ≡ true
   pub refuses : may_follow t.refuses ts ≡ true
 
-six : (a b c d e f : Bool) → (a && b && c && d && e && f) ≡ true
-    → (a ≡ true) × (b ≡ true) × (c ≡ true) × (d ≡ true) × (e ≡ true) × (f ≡ true)
-six true true true true true true h = (h, h, h, h, h, h)
-six _ _ _ _ _ _ h = absurd (cc)
+seven : (a b c d e f g : Bool) → (a && b && c && d && e && f && g) ≡ true
+    → (a ≡ true) × (b ≡ true) × (c ≡ true) × (d ≡ true) × (e ≡ true) × (f ≡ true) × (g ≡ true)
+seven true true true true true true true h = (h, h, h, h, h, h, h)
+seven _ _ _ _ _ _ _ h = absurd (cc)
 
 pub tail_fits : (t : Tail) (no_struct : Bool) (ts : Tokens) → tail_follows t no_struct ts ≡ true → TailFits t no_struct ts
 tail_fits t no_struct ts h =
     let p =
-    six (not t.takes_all || strength ts == 0) (not (t.bare && begins_operand no_struct ts))
+    seven (not t.takes_all || strength ts == 0) (not (t.bare && begins_operand no_struct ts))
     (not (t.path && (not no_struct && first (opens Brace) ts)))
-    (not (t.unlabelled && first is_lifetime ts)) (not (t.raw && begins_pointer ts)) (may_follow t.refuses ts) h in
-    record { all = p.0; bare = p.1; path = p.2; label = p.3; raw = p.4; refuses = p.5 }
+    (not (t.unlabelled && first is_lifetime ts)) (not (t.raw && begins_pointer ts))
+    (not (t.lacks_else && first (is_keyword (codes "else")) ts)) (may_follow t.refuses ts) h in
+    record { all = p.0; bare = p.1; path = p.2; label = p.3; raw = p.4; otherwise = p.5; refuses = p.6 }
 
 pub fits_tail : (t : Tail) (no_struct : Bool) (ts : Tokens) → TailFits t no_struct ts → tail_follows t no_struct ts ≡ true
-fits_tail t no_struct ts f = rw (f.all, f.bare, f.path, f.label, f.raw) f.refuses
+fits_tail t no_struct ts f = rw (f.all, f.bare, f.path, f.label, f.raw, f.otherwise) f.refuses
 
 -- ---- it may follow every expression
 
@@ -70,6 +73,7 @@ ends_tail t no_struct ts e = fits_tail t no_struct ts (record {
   path = not_both t.path (not no_struct && first (opens Brace) ts) e.brace;
   label = not_both t.unlabelled (first is_lifetime ts) e.lifetime;
   raw = not_both t.raw (begins_pointer ts) e.pointer;
+  otherwise = not_both t.lacks_else (first (is_keyword (codes "else")) ts) e.otherwise;
   refuses = quiet_follows t.refuses ts e.quiet;
 })
   where
@@ -104,7 +108,7 @@ ends_follow x place ts e =
 
 -- ---- what stands there
 
-none_weak : (found : Option (List ℕ)) (ts : Tokens) → op_at ts ≡ found → option_and_then (named all_ops) found ≡ None
+pub none_weak : (found : Option (List ℕ)) (ts : Tokens) → op_at ts ≡ found → option_and_then (named all_ops) found ≡ None
     → is_op_of (codes ".") found ≡ false
     → is_op_of (codes "?") found ≡ false → first (is_keyword (codes "as")) ts ≡ false
     → (first (opens Paren) ts || first (opens Bracket) ts) ≡ false
@@ -146,6 +150,7 @@ comma_ends_expr no_struct ts rest o =
       brace = rw f (and_false (not no_struct));
       lifetime = rw f refl;
       pointer = rw f refl;
+      otherwise = rw f refl;
       quiet = comma_quiet ts rest o;
     }
 
@@ -158,6 +163,7 @@ semicolon_ends_expr no_struct ts rest o =
       brace = rw f (and_false (not no_struct));
       lifetime = rw f refl;
       pointer = rw f refl;
+      otherwise = rw f refl;
       quiet = semicolon_quiet ts rest o;
     }
 
@@ -170,6 +176,7 @@ closer_ends_expr no_struct d ts rest o =
       brace = rw f (and_false (not no_struct));
       lifetime = rw f refl;
       pointer = rw f refl;
+      otherwise = rw f refl;
       quiet = closer_quiet d ts rest o;
     }
 
@@ -183,8 +190,31 @@ brace_ends_expr ts rest o =
       brace = refl;
       lifetime = rw f refl;
       pointer = rw f refl;
+      otherwise = rw f refl;
       quiet = brace_quiet ts rest o;
     }
+
+-- So does the end.
+end_quiet : Quiet []
+unfolding op_at
+end_quiet OfRename = refl
+end_quiet OfColons = refl
+end_quiet OfArgs = refl
+end_quiet OfCodeArgs = refl
+end_quiet OfArrow = refl
+end_quiet OfBang = refl
+
+pub nothing_ends_expr : (no_struct : Bool) → ExprEnds no_struct []
+unfolding op_at expr_lead_at
+nothing_ends_expr no_struct = record {
+  weak = none_weak None [] refl refl refl refl refl refl;
+  operand = refl;
+  brace = and_false (not no_struct);
+  lifetime = refl;
+  pointer = refl;
+  otherwise = refl;
+  quiet = end_quiet;
+}
 
 -- So does what stands behind an element of a list.
 pub element_ends_expr : (no_struct : Bool) (d : Delim) (ts : Tokens) → loops.Ends d ts → ExprEnds no_struct ts

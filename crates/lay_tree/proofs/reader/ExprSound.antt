@@ -1,23 +1,23 @@
--- Expressions: what is read within a budget stands there, at the depth that it needs.
-use Rattle.std.proofs.Common.{◌≡◌, ℕ, zero, suc, ◌≤◌, Bool, true, false, not, ◌&&◌, drop, inl, inr, Some, refl, subst, arith}
+-- Expressions: what is read stands there, at the depth that it needs, where what is one level deeper is read so.
+use Rattle.std.proofs.Common.{◌≡◌, ℕ, zero, suc, ◌≤◌, Bool, true, false, not, ◌&&◌, inl, inr, Some, refl, subst, arith}
 use Rattle.std.specs.Prelude.{nat_le, ◌==◌}
 use Rattle.std.proofs.lemmas.Bool.{and_parts, and_from, eqb-true, eqb-false, leb-true, le-leb}
 use Rattle.lay_node.specs.Ahead.{Tokens}
 use Rattle.lay_node.specs.reader.Exact.{InText}
-use Rattle.lay_node.specs.reader.Types.{within}
 use Rattle.lay_node.proofs.Steps.{same_some, chosen, bind_some}
 use Rattle.lay_node.proofs.reader.Loops.{SoundStep}
-use Rattle.lay_node.proofs.reader.TypesSound.{counted_sound, within_sound}
 use Rattle.lay_node.proofs.reader.TypesSoundParts.{Out}
 use Rattle.lay_tree.specs.Operands.{expr_lead_at}
 use Rattle.lay_tree.specs.Operators.{is_angle, is_dot_or_try, strength}
-use Rattle.lay_tree.specs.nodes.Exprs.{ExprFront, about_expr, follows, is_chain_level, placed, root_follows, stands, tail_follows}
+use Rattle.lay_tree.specs.nodes.Code.{about_expr}
+use Rattle.lay_tree.specs.nodes.Exprs.{is_chain_level, root_follows, stands, tail_follows}
 use Rattle.lay_tree.specs.nodes.Places.{before_op, begins}
-use Rattle.lay_tree.specs.reader.Exprs.{ExprWithin, accepted, climb, climb_by, expr_at, expr_by, expr_in, head_by, is_ended, left_place, stage}
+use Rattle.lay_tree.specs.reader.Exprs.{accepted, climb, climb_by, expr_by, head_by, is_ended, left_place, stage}
+use Rattle.lay_tree.specs.reader.Within.{ExprWithin}
 use Rattle.lay_tree.specs.declared.exprs.Expr.{Expr}
 use Rattle.lay_tree.specs.declared.exprs.Place.{Place}
 use Rattle.lay_tree.proofs.reader.ExprSoundHead.{head_sound}
-use Rattle.lay_tree.proofs.reader.ExprSoundLeads.{LedWithin, expr_in_led}
+use Rattle.lay_tree.proofs.reader.ExprSoundLeads.{LedWithin}
 use Rattle.lay_tree.proofs.reader.ExprSoundLevel.{ExprHeld, LeftHeld, SoundExprWithin}
 use Rattle.lay_tree.proofs.reader.ExprSoundOperands.{assign_stage, chain_stage}
 use Rattle.lay_tree.proofs.reader.ExprSoundOperators.{goes_op, op_low}
@@ -122,7 +122,8 @@ module _ (budget : ℕ) (within : ExprWithin) (sound : SoundExprWithin budget wi
         | inr g ↦ absurd (cc g.1)
       ]
 
-  expr_by_sound : (most : ℕ) → SoundStep (expr_by within most place) (ExprHeld place most)
+  -- An expression that is read stands there, where what is one level deeper is read so.
+  pub expr_by_sound : (most : ℕ) → SoundStep (expr_by within most place) (ExprHeld place most)
   unfolding expr_by
   expr_by_sound most ts x rest t h =
       let y = bind_some (head_by within place.no_struct (expr_lead_at ts) ts) _ _ h in
@@ -130,23 +131,3 @@ module _ (budget : ℕ) (within : ExprWithin) (sound : SoundExprWithin budget wi
       let begun = head_sound budget within sound led place.no_struct (begins place.start) ts y.0.0 y.0.1 t y.1 in
       let made = climbed_sound y.0.0 ts y.0.1 begun.0 begun.1 z.0.0 z.0.1 z.1 in
       accepted_sound most z.0.0 ts z.0.1 made.0 made.1 x rest z.2
-
--- ---- within a budget
-
--- What is read within a budget stands there.
-pub expr_in_sound : (budget : ℕ) (place : Place) → SoundStep (expr_in budget place) (ExprHeld place budget)
-unfolding expr_in
-expr_in_sound zero place ts x rest t h = absurd (cc h)
-expr_in_sound (suc budget) place ts x rest t h =
-    let inner : ExprWithin = record { exprs = expr_in budget; kinds = within budget } in
-    let sound : SoundExprWithin budget inner =
-    record { exprs = λ p. expr_in_sound budget p; kinds = within_sound budget } in
-    expr_by_sound budget inner sound (expr_in_led budget) place (suc budget) ts x rest t h
-
--- An expression that is read stands there, at the depth that it needs, and the tokens behind it may follow it at its place.
-pub exprs_stand : (place : Place) (budget : ℕ) (ts : Tokens) (x : Expr) (need : ℕ) (rest : Tokens) → InText ts
-    → expr_at place budget ts ≡ Some ((x, need), rest)
-    → (n : ℕ) × (drop n ts ≡ rest) × (need ≤ budget) × ExprFront place (about_expr x) ts n need
-exprs_stand place =
-    counted_sound (λ x. (about_expr x).form) (λ x. placed (about_expr x) place) (λ x. follows (about_expr x) place) (expr_at place)
-    (λ budget. expr_in_sound budget place)

@@ -10,12 +10,12 @@ use Rattle.lay_token.specs.Lexes.{is_punct}
 use Rattle.lay_token.specs.Operators.{is_op}
 use Rattle.lay_form.specs.Form.{opener}
 use Rattle.lay_form.specs.Spelled.{IsBit, IsOne}
-use Rattle.lay_node.specs.Ahead.{Tokens, first, tail, is_lifetime}
+use Rattle.lay_node.specs.Ahead.{Tokens, first, tail, is_lifetime, opens}
 use Rattle.lay_node.specs.Follow.{begins_dots}
 use Rattle.lay_node.specs.Words.{is_literal, is_path_class}
 use Rattle.lay_node.specs.reader.Exact.{InText}
 use Rattle.lay_node.proofs.reader.TypesSoundKinds.{only_first}
-use Rattle.lay_tree.specs.Operands.{ExprLead, ByUnderscore, ByLabel, ByParen, ByBracket, ByPrefix, ByRange, ByContinue, ByBreak, ByReturn, ByBlockWord, expr_lead_at, expr_lead_by, expr_lead_of_punct, expr_lead_of_word, is_block_word, is_of}
+use Rattle.lay_tree.specs.Operands.{ExprLead, ByUnderscore, ByLabel, ByParen, ByBracket, ByBrace, ByPrefix, ByRange, ByContinue, ByBreak, ByReturn, ByBlockWord, expr_lead_at, expr_lead_by, expr_lead_of_punct, expr_lead_of_word, is_block_word, is_of}
 use Rattle.lay_tree.specs.Operators.{amp_by, prefix, prefix_by}
 use Rattle.lay_tree.specs.nodes.Exprs.{is_label_lead, is_prefix_lead}
 use Rattle.lay_token.proofs.Deciding.{bytes_same}
@@ -29,6 +29,8 @@ LeadIs ByUnderscore k text ts = k ≡ kind.Underscore
 LeadIs ByLabel k text ts = k ≡ kind.Lifetime
 LeadIs ByParen k text ts = k ≡ kind.Opener Paren
 LeadIs ByBracket k text ts = k ≡ kind.Opener Bracket
+LeadIs ByBrace k text ts = k ≡ kind.Opener Brace
+LeadIs ByBlockWord k text ts = k ≡ kind.Ident
 LeadIs ByPrefix k text ts = (k ≡ kind.Punct) × (is_of prefix_texts text ≡ true)
 LeadIs ByRange k text ts = begins_dots ts ≡ true
 LeadIs ByContinue k text ts = (k ≡ kind.Ident) × (text ≡ codes "continue")
@@ -52,7 +54,7 @@ word_leads text ts us =
     (by (bytes_eq text (codes "continue")) _ _ (λ e. (refl, bytes_same text (codes "continue") e))
     (by (bytes_eq text (codes "break")) _ _ (λ e. (refl, bytes_same text (codes "break") e))
     (by (bytes_eq text (codes "return")) _ _ (λ e. (refl, bytes_same text (codes "return") e))
-    (by (bytes_eq text (codes "move")) _ _ (λ e. tt) (by (is_block_word text ts) (Some ByBlockWord) None (λ e. tt) tt))))))
+    (by (bytes_eq text (codes "move")) _ _ (λ e. tt) (by (is_block_word text ts) (Some ByBlockWord) None (λ e. refl) tt))))))
 
 punct_leads : (text : List ℕ) (ts : Tokens) → Leads kind.Punct text ts (expr_lead_of_punct text ts)
 punct_leads text ts =
@@ -68,7 +70,7 @@ lead_text kind.Underscore text ts = refl
 lead_text kind.Lifetime text ts = refl
 lead_text (kind.Opener Paren) text ts = refl
 lead_text (kind.Opener Bracket) text ts = refl
-lead_text (kind.Opener Brace) text ts = tt
+lead_text (kind.Opener Brace) text ts = refl
 lead_text (kind.Closer d) text ts = tt
 lead_text (kind.Doc inner block) text ts = tt
 lead_text _ text ts = tt
@@ -112,6 +114,15 @@ return_first (t ∷ ts) h = let f = first_is ByReturn (t ∷ ts) h in (f.0, f.1,
 pub range_first : (ts : Tokens) → expr_lead_at ts ≡ Some ByRange → begins_dots ts ≡ true
 range_first [] h = absurd (first_is ByRange [] h)
 range_first (t ∷ ts) h = first_is ByRange (t ∷ ts) h
+
+-- A `{` begins a block alone, and no word does.
+pub brace_first : (ts : Tokens) → expr_lead_at ts ≡ Some ByBrace → first (opens Brace) ts ≡ true
+brace_first [] h = absurd (first_is ByBrace [] h)
+brace_first (t ∷ ts) h = rw (first_is ByBrace (t ∷ ts) h) refl
+
+pub word_first : (ts : Tokens) → expr_lead_at ts ≡ Some ByBlockWord → first (opens Brace) ts ≡ false
+word_first [] h = absurd (first_is ByBlockWord [] h)
+word_first (t ∷ ts) h = rw (first_is ByBlockWord (t ∷ ts) h) refl
 
 -- ---- what doesn't begin there
 

@@ -26,11 +26,13 @@ use Rattle.lay_node.proofs.reader.Loops.{SoundStep}
 use Rattle.lay_node.proofs.reader.TypesSoundKinds.{length_sound}
 use Rattle.lay_node.proofs.reader.TypesSoundParts.{Out, behind_comma, bit_texts, if_there_sound, IsLifetime, lifetime_sound, literal_sound}
 use Rattle.lay_tree.specs.Operators.{strength}
-use Rattle.lay_tree.specs.nodes.Exprs.{about_expr, begins_free, break_placed, inside as inside_of, label_form, operand_form, operand_placed, placed, tail_follows, tail_of_jump, tuple_form}
+use Rattle.lay_tree.specs.nodes.Code.{about_expr}
+use Rattle.lay_tree.specs.nodes.Exprs.{begins_free, break_placed, inside as inside_of, label_form, operand_form, operand_placed, placed, tail_follows, tail_of_jump, tuple_form}
 use Rattle.lay_tree.specs.nodes.Places.{FREE, plain}
-use Rattle.lay_tree.specs.reader.Exprs.{ExprWithin, bracket_expr, break_expr, call_expr, continue_expr, free_elements, literal_expr, operand_if, paren_expr, repeat_by, return_expr}
+use Rattle.lay_tree.specs.reader.Exprs.{bracket_expr, break_expr, call_expr, continue_expr, free_elements, literal_expr, operand_if, paren_expr, repeat_by, return_expr}
+use Rattle.lay_tree.specs.reader.Within.{ExprWithin}
 use Rattle.lay_tree.specs.declared.exprs.Expr.{Expr}
-use Rattle.lay_tree.specs.declared.exprs.Expr.TheOpen.{Expr-F}
+use Rattle.lay_tree.specs.declared.blocks.Stmt.TheOpen.{Expr-F}
 use Rattle.lay_tree.specs.declared.exprs.Expr.TheVariants as expr
 use Rattle.lay_tree.proofs.nodes.ExprsLaws.{expr_array_is, expr_break_is, expr_call_is, expr_continue_is, expr_lit_is, expr_paren_is, expr_repeat_is, expr_return_is, expr_tuple_is, expr_underscore_is}
 use Rattle.lay_tree.proofs.reader.ExprSoundLeads.{LedWithin}
@@ -59,7 +61,7 @@ module _ (no_struct starts : Bool) where
       let c = bind_some (call ts) _ _ h in
       let s = call_sound 0 ts c.0.0 c.0.1 t c.1 in
       same_some (Out Left ts) ((expr.Call c.0.0, 1), c.0.1) (x, rest) c.2 (
-        made no_struct starts (about_expr (expr.Call c.0.0)) (Expr-F.Call c.0.0) 0 ts c.0.1 (expr_call_is c.0.0) s.0 s.1 refl,
+        made no_struct starts (about_expr (expr.Call c.0.0)) (Expr-F.Expr::Call c.0.0) 0 ts c.0.1 (expr_call_is c.0.0) s.0 s.1 refl,
         texts_behind ts c.0.1 (is_end (about_call c.0.0).form 0 ts c.0.1 s.0) t,
       )
 
@@ -90,7 +92,7 @@ module _ (no_struct starts : Bool) where
   label_leads None f n ts mid rest k s = subst (λ us. Spells f n us rest) (sym k.0) s
   label_leads (Some l) f n ts mid rest k s = (ts, (ts, refl, refl), (mid, (mid, k, refl), s))
 
-  unlabelled : (b : Bool) → b ≡ false → (not b && true && true) ≡ true
+  unlabelled : (b : Bool) → b ≡ false → (not b && true && true && true) ≡ true
   unlabelled false h = refl
   unlabelled true h = absurd (cc h)
 
@@ -264,7 +266,7 @@ module _ (no_struct starts : Bool) where
         let root = root_held (plain 0 no_struct) budget (about_expr x.0) x.1 ts rest s in
         omega (arith, leb-true (strength rest) 0 root)
 
-    jump_follows : (x : Expr × ℕ) (ts rest : Tokens) → ExprHeld (plain 0 no_struct) budget x ts rest
+    pub jump_follows : (x : Expr × ℕ) (ts rest : Tokens) → ExprHeld (plain 0 no_struct) budget x ts rest
         → tail_follows (tail_of_jump (Some (about_expr x.0))) no_struct rest ≡ true
     jump_follows x ts rest s =
         all_taken (about_expr x.0).tail no_struct rest (none_follows x ts rest s)

@@ -1,6 +1,6 @@
 -- What is read as an expression begins with the lead that the tokens begin with: what begins it is read by that lead, and
 -- what operators make of it keeps the lead.
-use Rattle.std.proofs.Common.{◌≡◌, ℕ, zero, suc, max, Bool, true, false, not, ◌&&◌, List, [], ◌∷◌, map, drop, inl, inr, codes, Option, option_map, Some, None, is_some, refl, sym, ap, ◌∙◌}
+use Rattle.std.proofs.Common.{◌≡◌, ℕ, zero, suc, max, Bool, true, false, not, ◌&&◌, List, [], ◌∷◌, map, drop, inl, inr, codes, Option, option_map, Some, None, is_some, if◌then◌else◌, refl, sym, ap, subst, ◌∙◌}
 use Rattle.std.specs.Prelude.{nat_le, ◌==◌}
 use Rattle.lay_token.specs.Operators.{is_op}
 use Rattle.lay_piece.specs.declared.kind.Delim.TheVariants.{Paren, Bracket, Brace}
@@ -11,26 +11,24 @@ use Rattle.lay_node.specs.reader.Call.{call}
 use Rattle.lay_node.specs.reader.Loops.{deepest, nodes, open_elements, passed, repeat}
 use Rattle.lay_node.specs.reader.Patterns.{begins_field}
 use Rattle.lay_node.specs.reader.Tokens.{tokens}
-use Rattle.lay_node.specs.reader.Types.{begins_call, if_there, lifetime, literal, path, within}
+use Rattle.lay_node.specs.reader.Types.{begins_call, if_there, lifetime, literal, path}
 use Rattle.lay_node.specs.declared.types.PathStyle.TheVariants.{Code}
 use Rattle.lay_node.proofs.Steps.{same_some, chosen, bind_some}
 use Rattle.lay_tree.specs.Operands.{ExprLead, ByLiteral, ByPath, ByUnderscore, ByLabel, ByParen, ByBracket, ByBrace, ByPrefix, ByRange, ByContinue, ByBreak, ByReturn, ByBlockWord, ByClosure, expr_lead_at}
 use Rattle.lay_tree.specs.Operators.{begins_step, prefix, strength}
-use Rattle.lay_tree.specs.nodes.Exprs.{ExprFacts, about_expr, lead_of_start, lead_of_targets, stands, root_follows}
+use Rattle.lay_tree.specs.nodes.Code.{about_expr}
+use Rattle.lay_tree.specs.nodes.Exprs.{lead_of_start, lead_of_targets, stands, root_follows}
 use Rattle.lay_tree.specs.nodes.Places.{FREE, plain}
-use Rattle.lay_tree.specs.reader.Exprs.{ExprWithin, assign_expr, base, begins_tuple_index, bracket_expr, break_expr, call_expr, cast_expr, chain_expr, climb, climb_by, continue_expr, expr_by, expr_in, free_elements, head_by, is_ended, left_place, literal_expr, one_field, one_prefix, one_step, one_type, operand_if, operands, paren_expr, path_expr, postfix_expr, range_by, range_expr, return_expr, stage, struct_expr, targets_of, unary_expr, value_of}
+use Rattle.lay_tree.specs.reader.Code.{code_in}
+use Rattle.lay_tree.specs.reader.Exprs.{assign_expr, base, begins_tuple_index, bracket_expr, break_expr, call_expr, cast_expr, chain_expr, climb, climb_by, continue_expr, expr_by, free_elements, head_by, is_ended, left_place, literal_expr, one_field, one_prefix, one_step, one_type, operand_if, operands, paren_expr, path_expr, postfix_expr, range_by, range_expr, return_expr, stage, struct_expr, targets_of, unary_expr, value_of}
+use Rattle.lay_tree.specs.reader.Within.{ExprWithin}
 use Rattle.lay_tree.specs.declared.exprs.Expr.{Expr}
 use Rattle.lay_tree.specs.declared.exprs.Expr.TheVariants as expr
 use Rattle.lay_tree.specs.declared.exprs.Place.{Place}
 use Rattle.lay_tree.specs.declared.operators.Op.{Op}
 use Rattle.lay_tree.proofs.nodes.ExprsLaws.{before_op, expr_lit_is, expr_path_is, expr_underscore_is, expr_call_is, expr_paren_is, expr_continue_is, expr_tuple_is, expr_array_is, expr_repeat_is, expr_struct_is, expr_chain_is, expr_cast_is, expr_unary_is, expr_range_is, expr_assign_is, expr_postfix_is, expr_return_is, expr_break_is}
-
--- What was read has this lead.
-abbrev Led : ExprLead → (Expr × ℕ) × Tokens → Type 0
-Led lead r = (about_expr r.0.0).lead ≡ lead
-
-led : {X F : ExprFacts} → X ≡ F → X.lead ≡ F.lead
-led e = ap (λ (z : ExprFacts). z.lead) e
+use Rattle.lay_tree.proofs.reader.ExprSoundFirst.{brace_first, word_first}
+use Rattle.lay_tree.proofs.reader.ExprSoundLed.{Led, closure_led, label_led, labelled_led, led, word_led}
 
 module _ (within : ExprWithin) where
   -- ---- what begins an expression
@@ -155,27 +153,29 @@ module _ (within : ExprWithin) where
       same_some (Led ByPath) ((expr.Call c.0.0, 1), c.0.1) r c.2 (led (expr_call_is c.0.0))
 
   -- What begins an expression is read by its lead.
-  head_led : (no_struct : Bool) (lead : Option ExprLead) (ts : Tokens) (r : (Expr × ℕ) × Tokens)
+  head_led : (no_struct : Bool) (lead : Option ExprLead) (ts : Tokens) (r : (Expr × ℕ) × Tokens) → expr_lead_at ts ≡ lead
       → head_by within no_struct lead ts ≡ Some r → lead ≡ Some (about_expr r.0.0).lead
-  head_led no_struct None ts r h = absurd (cc)
-  head_led no_struct (Some ByLiteral) ts r h = ap Some (sym (literal_led ts r h))
-  head_led no_struct (Some ByPath) ts r h = elim (chosen (begins_call ts) _ _ _ h) [
+  head_led no_struct None ts r n h = absurd (cc)
+  head_led no_struct (Some ByLiteral) ts r n h = ap Some (sym (literal_led ts r h))
+  head_led no_struct (Some ByPath) ts r n h = elim (chosen (begins_call ts) _ _ _ h) [
     | inl g ↦ ap Some (sym (call_led ts r g.1))
     | inr g ↦ ap Some (sym (path_led no_struct ts r g.1))
   ]
-  head_led no_struct (Some ByUnderscore) ts r h =
+  head_led no_struct (Some ByUnderscore) ts r n h =
       ap Some (sym (same_some (Led ByUnderscore) ((expr.Underscore, 1), tail ts) r h (led expr_underscore_is)))
-  head_led no_struct (Some ByParen) ts r h = ap Some (sym (paren_led (tail ts) r h))
-  head_led no_struct (Some ByBracket) ts r h = ap Some (sym (bracket_led (tail ts) r h))
-  head_led no_struct (Some ByPrefix) ts r h = ap Some (sym (unary_led no_struct ts r h))
-  head_led no_struct (Some ByRange) ts r h = ap Some (sym (range_led no_struct None 0 ts r h))
-  head_led no_struct (Some ByContinue) ts r h = ap Some (sym (continue_led (tail ts) r h))
-  head_led no_struct (Some ByBreak) ts r h = ap Some (sym (break_led no_struct (tail ts) r h))
-  head_led no_struct (Some ByReturn) ts r h = ap Some (sym (return_led no_struct (tail ts) r h))
-  head_led no_struct (Some ByLabel) ts r h = absurd (cc)
-  head_led no_struct (Some ByBrace) ts r h = absurd (cc)
-  head_led no_struct (Some ByBlockWord) ts r h = absurd (cc)
-  head_led no_struct (Some ByClosure) ts r h = absurd (cc)
+  head_led no_struct (Some ByParen) ts r n h = ap Some (sym (paren_led (tail ts) r h))
+  head_led no_struct (Some ByBracket) ts r n h = ap Some (sym (bracket_led (tail ts) r h))
+  head_led no_struct (Some ByPrefix) ts r n h = ap Some (sym (unary_led no_struct ts r h))
+  head_led no_struct (Some ByRange) ts r n h = ap Some (sym (range_led no_struct None 0 ts r h))
+  head_led no_struct (Some ByContinue) ts r n h = ap Some (sym (continue_led (tail ts) r h))
+  head_led no_struct (Some ByBreak) ts r n h = ap Some (sym (break_led no_struct (tail ts) r h))
+  head_led no_struct (Some ByReturn) ts r n h = ap Some (sym (return_led no_struct (tail ts) r h))
+  head_led no_struct (Some ByLabel) ts r n h = ap Some (sym (label_led within ts r h))
+  head_led no_struct (Some ByBrace) ts r n h =
+      let l = labelled_led within None ts r h in
+      ap Some (sym (subst (λ (b : Bool). Led (if b then ByBrace else ByBlockWord) r) (brace_first ts n) l))
+  head_led no_struct (Some ByBlockWord) ts r n h = ap Some (sym (word_led within ts (word_first ts n) r h))
+  head_led no_struct (Some ByClosure) ts r n h = ap Some (sym (closure_led within no_struct ts r h))
 
   -- ---- what operators make of it
 
@@ -254,7 +254,7 @@ module _ (within : ExprWithin) where
       let y = bind_some (head_by within place.no_struct (expr_lead_at ts) ts) _ _ h in
       let x = bind_some (climb_by within place y.0.0 y.0.1) _ _ y.2 in
       let told = about_expr x.0.0.0 in
-      let begun = head_led place.no_struct (expr_lead_at ts) ts y.0 y.1 in
+      let begun = head_led place.no_struct (expr_lead_at ts) ts y.0 refl y.1 in
       let same = climbed_led place y.0.0 y.0.1 x.0 x.1 in
       elim (chosen (stands told place && root_follows told place x.0.1 && nat_le x.0.0.1 budget) _ _ _ x.2) [
         | inl g ↦
@@ -269,9 +269,7 @@ LedWithin within = (place : Place) (ts : Tokens) (r : (Expr × ℕ) × Tokens) �
     → expr_lead_at ts ≡ Some (about_expr r.0.0).lead
 
 -- What is read within a budget has the lead that the tokens begin with.
-pub expr_in_led : (budget : ℕ) (place : Place) (ts : Tokens) (r : (Expr × ℕ) × Tokens) → expr_in budget place ts ≡ Some r
-    → expr_lead_at ts ≡ Some (about_expr r.0.0).lead
-unfolding expr_in
-expr_in_led zero place ts r h = absurd (cc)
-expr_in_led (suc budget) place ts r h =
-    expr_by_led (record { exprs = expr_in budget; kinds = within budget }) (suc budget) place ts r h
+pub code_led : (budget : ℕ) → LedWithin (code_in budget)
+unfolding code_in
+code_led zero place ts r h = absurd (cc)
+code_led (suc budget) place ts r h = expr_by_led (code_in budget) (suc budget) place ts r h

@@ -14,9 +14,11 @@ use Rattle.lay_node.proofs.reader.Loops.{SoundStep}
 use Rattle.lay_node.proofs.reader.TypesSoundNeeds.{list_held}
 use Rattle.lay_node.proofs.reader.TypesSoundParts.{Out, ElementsBy, elements_by, if_read_sound}
 use Rattle.lay_tree.specs.Operands.{ExprLead, ByBrace, begins_operand, expr_lead_at, is_operand_lead}
-use Rattle.lay_tree.specs.nodes.Exprs.{about_expr, all_free, begins_free, expr_forms, is_brace_lead, placed}
+use Rattle.lay_tree.specs.nodes.Code.{about_expr}
+use Rattle.lay_tree.specs.nodes.Exprs.{all_free, begins_free, expr_forms, is_brace_lead, placed}
 use Rattle.lay_tree.specs.nodes.Places.{FREE, plain}
-use Rattle.lay_tree.specs.reader.Exprs.{ExprWithin, free_elements, operand_if}
+use Rattle.lay_tree.specs.reader.Exprs.{free_elements, operand_if}
+use Rattle.lay_tree.specs.reader.Within.{ExprWithin}
 use Rattle.lay_tree.specs.declared.exprs.Expr.{Expr}
 use Rattle.lay_tree.proofs.reader.ExprSoundLeads.{LedWithin}
 use Rattle.lay_tree.proofs.reader.ExprSoundLevel.{ExprHeld, SoundExprWithin, expr_list}

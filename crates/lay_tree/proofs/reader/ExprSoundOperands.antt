@@ -14,11 +14,13 @@ use Rattle.lay_node.proofs.Steps.{same_some, chosen, bind_some}
 use Rattle.lay_node.proofs.reader.Loops.{repeat_sound}
 use Rattle.lay_node.proofs.reader.TypesSoundParts.{Out, bit_texts}
 use Rattle.lay_tree.specs.Operators.{angle_by, binary, is_angle, is_angle_op, op_level, op_text, strength}
-use Rattle.lay_tree.specs.nodes.Exprs.{ExprFacts, about_expr, is_chain_level, level_of_chain, may_chain, next_is_angle, operands_form, operands_placed, placed, stands, tail_follows, tail_of_operands, targets_form, targets_placed}
+use Rattle.lay_tree.specs.nodes.Code.{about_expr}
+use Rattle.lay_tree.specs.nodes.Exprs.{ExprFacts, is_chain_level, level_of_chain, may_chain, next_is_angle, operands_form, operands_placed, placed, stands, tail_follows, tail_of_operands, targets_form, targets_placed}
 use Rattle.lay_tree.specs.nodes.Places.{before_op, plain}
-use Rattle.lay_tree.specs.reader.Exprs.{ExprWithin, assign_expr, chain_expr, operand, operand_ends, operands, targets_of, value_of}
+use Rattle.lay_tree.specs.reader.Exprs.{assign_expr, chain_expr, operand, operand_ends, operands, targets_of, value_of}
+use Rattle.lay_tree.specs.reader.Within.{ExprWithin}
 use Rattle.lay_tree.specs.declared.exprs.Expr.{Expr}
-use Rattle.lay_tree.specs.declared.exprs.Expr.TheOpen.{Expr-F}
+use Rattle.lay_tree.specs.declared.blocks.Stmt.TheOpen.{Expr-F}
 use Rattle.lay_tree.specs.declared.exprs.Expr.TheVariants as expr
 use Rattle.lay_tree.specs.declared.exprs.Place.{Place}
 use Rattle.lay_tree.specs.declared.operators.Op.{Op}

@@ -29,12 +29,14 @@ use Rattle.lay_node.proofs.reader.PatternsSoundBinds.{word_there}
 use Rattle.lay_node.proofs.reader.TypesSoundParts.{Out, bit_texts}
 use Rattle.lay_tree.specs.Operands.{ByPrefix, expr_lead_at}
 use Rattle.lay_tree.specs.Operators.{amp_by, prefix, prefix_by, prefix_length, raw_by}
-use Rattle.lay_tree.specs.nodes.Exprs.{ExprFacts, StepFacts, about_expr, begins_free, begins_pointer, end_placed, ends_in_amp, expr_facts, is_amp, is_prefix_lead, is_raw_path, is_raw_word, placed, prefix_bits, prefixes_form, start_placed, tail_follows, tail_of_end}
+use Rattle.lay_tree.specs.nodes.Code.{about_expr}
+use Rattle.lay_tree.specs.nodes.Exprs.{ExprFacts, StepFacts, begins_free, begins_pointer, end_placed, ends_in_amp, expr_facts, is_amp, is_prefix_lead, is_raw_path, is_raw_word, placed, prefix_bits, prefixes_form, start_placed, tail_follows, tail_of_end, ExprLayer}
 use Rattle.lay_tree.specs.nodes.Exprs as exprs
 use Rattle.lay_tree.specs.nodes.Places.{before_op, plain}
-use Rattle.lay_tree.specs.reader.Exprs.{ExprWithin, one_prefix, operand_if, range_by, range_expr, unary_expr}
+use Rattle.lay_tree.specs.reader.Exprs.{one_prefix, operand_if, range_by, range_expr, unary_expr}
+use Rattle.lay_tree.specs.reader.Within.{ExprWithin}
 use Rattle.lay_tree.specs.declared.exprs.Expr.{Expr}
-use Rattle.lay_tree.specs.declared.exprs.Expr.TheOpen.{Expr-F}
+use Rattle.lay_tree.specs.declared.blocks.Stmt.TheOpen.{Expr-F}
 use Rattle.lay_tree.specs.declared.exprs.Expr.TheVariants as expr
 use Rattle.lay_tree.specs.declared.operators.Prefix.{Prefix}
 use Rattle.lay_tree.specs.declared.operators.Prefix.TheVariants as before
@@ -171,7 +173,7 @@ last_amp (p ∷ q ∷ ps) ts mid r h f = last_amp (q ∷ ps) r.0 mid r.2 h f
 
 -- ---- the path `raw`
 
-raw_layer : (k : Expr-F ExprFacts Facts StepFacts) → is_raw_path k ≡ true
+raw_layer : (k : ExprLayer) → is_raw_path k ≡ true
     → (p : Path) × (k ≡ Expr-F.Path p) × (is_raw_word (lone_word p) ≡ true)
 raw_layer (Expr-F.Path p) h = (p, refl, h)
 raw_layer _ h = absurd (cc h)

@@ -22,11 +22,13 @@ use Rattle.lay_node.proofs.reader.Loops.{repeat_sound}
 use Rattle.lay_node.proofs.reader.TypesSoundLevel.{TypeHeld}
 use Rattle.lay_node.proofs.reader.TypesSoundParts.{Out, bit_texts, keyword_passed_is}
 use Rattle.lay_tree.specs.Operators.{begins_step, is_angle, is_dot_or_try, op_level, op_text, strength}
-use Rattle.lay_tree.specs.nodes.Exprs.{ExprFacts, StepFacts, about_expr, are_steps, first_step, is_dotted, is_tuple_index, level_of, placed, stands, type_refuses, types_form, types_good, within_of}
+use Rattle.lay_tree.specs.nodes.Code.{about_expr}
+use Rattle.lay_tree.specs.nodes.Exprs.{ExprFacts, StepFacts, are_steps, first_step, is_dotted, is_tuple_index, level_of, placed, stands, type_refuses, types_form, types_good, within_of, ExprLayer}
 use Rattle.lay_tree.specs.nodes.Places.{before_op}
-use Rattle.lay_tree.specs.reader.Exprs.{ExprWithin, begins_tuple_index, cast_expr, one_step, one_type, postfix_expr, range_expr}
+use Rattle.lay_tree.specs.reader.Exprs.{begins_tuple_index, cast_expr, one_step, one_type, postfix_expr, range_expr}
+use Rattle.lay_tree.specs.reader.Within.{ExprWithin}
 use Rattle.lay_tree.specs.declared.exprs.Expr.{Expr}
-use Rattle.lay_tree.specs.declared.exprs.Expr.TheOpen.{Expr-F}
+use Rattle.lay_tree.specs.declared.blocks.Stmt.TheOpen.{Expr-F}
 use Rattle.lay_tree.specs.declared.exprs.Expr.TheVariants as expr
 use Rattle.lay_tree.specs.declared.operators.Op.{Op}
 use Rattle.lay_tree.specs.declared.operators.Op.TheVariants as op
@@ -41,7 +43,7 @@ use Rattle.lay_tree.proofs.reader.ExprSoundSteps.{StepHeld, postfix_spelled, ste
 -- ---- the base of postfix steps
 
 -- What is at the highest level has the same within it wherever it begins.
-within_any : (k : Expr-F ExprFacts Facts StepFacts) (no_struct a c : Bool) → nat_le 14 (level_of k) ≡ true
+within_any : (k : ExprLayer) (no_struct a c : Bool) → nat_le 14 (level_of k) ≡ true
     → within_of k no_struct a ≡ true → within_of k no_struct c ≡ true
 within_any (Expr-F.Chain x []) no_struct a c h w = absurd (cc h)
 within_any (Expr-F.Chain x (y ∷ more)) no_struct a c h w = absurd (omega (arith, op_low y.0, leb-true 14 (op_level y.0) h))
@@ -52,16 +54,27 @@ within_any (Expr-F.Assign targets x) no_struct a c h w = absurd (cc h)
 within_any (Expr-F.Postfix x steps) no_struct a c h w = absurd (cc h)
 within_any (Expr-F.Return x) no_struct a c h w = absurd (cc h)
 within_any (Expr-F.Break label x) no_struct a c h w = absurd (cc h)
+within_any (Expr-F.Closure moves params x) no_struct a c h w = absurd (cc h)
+within_any (Expr-F.TypedClosure moves params t b) no_struct a c h w = absurd (cc h)
 within_any (Expr-F.Lit l) no_struct a c h w = w
 within_any (Expr-F.Path p) no_struct a c h w = w
 within_any Expr-F.Underscore no_struct a c h w = refl
-within_any (Expr-F.Call m) no_struct a c h w = w
+within_any (Expr-F.Expr::Call m) no_struct a c h w = w
 within_any (Expr-F.Paren x) no_struct a c h w = w
 within_any (Expr-F.Continue label) no_struct a c h w = refl
 within_any (Expr-F.Tuple xs) no_struct a c h w = w
 within_any (Expr-F.Array xs) no_struct a c h w = w
 within_any (Expr-F.Repeat x us) no_struct a c h w = w
-within_any (Expr-F.Struct p fs b) no_struct a c h w = w
+within_any (Expr-F.Expr::Struct p fs b) no_struct a c h w = w
+within_any (Expr-F.Block l b) no_struct a c h w = w
+within_any (Expr-F.Unsafe b) no_struct a c h w = w
+within_any (Expr-F.ConstBlock b) no_struct a c h w = w
+within_any (Expr-F.Async moves b) no_struct a c h w = w
+within_any (Expr-F.If branches o) no_struct a c h w = w
+within_any (Expr-F.Match x attrs arms) no_struct a c h w = w
+within_any (Expr-F.Loop l b) no_struct a c h w = w
+within_any (Expr-F.While l p x b) no_struct a c h w = w
+within_any (Expr-F.For l p x b) no_struct a c h w = w
 
 base_within : (x : Expr) (no_struct a c : Bool) → nat_le 14 (about_expr x).level ≡ true → (about_expr x).within no_struct a ≡ true
     → (about_expr x).within no_struct c ≡ true

@@ -32,10 +32,12 @@ use Rattle.lay_node.proofs.reader.TypesSoundParts.{Out, bit_texts, literal_sound
 use Rattle.lay_node.proofs.reader.TypesSoundPaths.{angled_sound}
 use Rattle.lay_node.proofs.reader.Words.{name_sound}
 use Rattle.lay_tree.specs.Operators.{is_dot_or_try}
-use Rattle.lay_tree.specs.nodes.Exprs.{StepFacts, about_expr, about_step, all_free, are_generics, are_steps, args_form, break_if, first_step, generics_form, group_if, is_call, is_dotted, is_field, is_method, is_tuple_index, postfix_form, ExprFacts, methods, step_facts, steps_form, tail_follows, tail_of_steps, shut, shut_by}
+use Rattle.lay_tree.specs.nodes.Code.{about_expr, about_step}
+use Rattle.lay_tree.specs.nodes.Exprs.{StepFacts, all_free, are_generics, are_steps, args_form, break_if, first_step, generics_form, group_if, is_call, is_dotted, is_field, is_method, is_tuple_index, postfix_form, ExprFacts, methods, step_facts, steps_form, tail_follows, tail_of_steps, shut, shut_by}
 use Rattle.lay_tree.specs.nodes.Places.{FREE}
-use Rattle.lay_tree.specs.reader.Exprs.{ExprWithin, begins_tuple_index, call_step, dot_step, free_elements, index_step, is_index_token, member_by, method_by, one_step}
-use Rattle.lay_tree.specs.declared.exprs.Expr.TheOpen.{Step-F}
+use Rattle.lay_tree.specs.reader.Exprs.{begins_tuple_index, call_step, dot_step, free_elements, index_step, is_index_token, member_by, method_by, one_step}
+use Rattle.lay_tree.specs.reader.Within.{ExprWithin}
+use Rattle.lay_tree.specs.declared.blocks.Stmt.TheOpen.{Step-F}
 use Rattle.lay_tree.specs.declared.exprs.Step.{Step}
 use Rattle.lay_tree.specs.declared.exprs.Step.TheVariants as step
 use Rattle.lay_tree.proofs.nodes.ExprsLaws.{step_apply_is, step_await_is, step_field_is, step_index_is, step_method_is, step_try_is, step_tuple_index_is}

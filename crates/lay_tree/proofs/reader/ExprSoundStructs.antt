@@ -36,11 +36,13 @@ use Rattle.lay_node.proofs.reader.TypesSoundOpen.{OpenBy, open_held, open_shut, 
 use Rattle.lay_node.proofs.reader.TypesSoundParts.{Out, bit_texts}
 use Rattle.lay_node.proofs.reader.TypesSoundPaths.{path_sound, path_told}
 use Rattle.lay_node.proofs.reader.Words.{name_sound}
-use Rattle.lay_tree.specs.nodes.Exprs.{ExprFacts, about_expr, about_field_expr, base_form, base_placed, field_facts, placed, struct_form}
+use Rattle.lay_tree.specs.nodes.Code.{about_expr, about_field_expr}
+use Rattle.lay_tree.specs.nodes.Exprs.{ExprFacts, base_form, base_placed, field_facts, placed, struct_form}
 use Rattle.lay_tree.specs.nodes.Places.{FREE}
-use Rattle.lay_tree.specs.reader.Exprs.{ExprWithin, base, field_by, named_field, one_field, path_expr, struct_expr}
+use Rattle.lay_tree.specs.reader.Exprs.{base, field_by, named_field, one_field, path_expr, struct_expr}
+use Rattle.lay_tree.specs.reader.Within.{ExprWithin}
 use Rattle.lay_tree.specs.declared.exprs.Expr.{Expr}
-use Rattle.lay_tree.specs.declared.exprs.Expr.TheOpen.{Expr-F, FieldExpr-F}
+use Rattle.lay_tree.specs.declared.blocks.Stmt.TheOpen.{Expr-F, FieldExpr-F}
 use Rattle.lay_tree.specs.declared.exprs.Expr.TheVariants as expr
 use Rattle.lay_tree.specs.declared.exprs.FieldExpr.{FieldExpr}
 use Rattle.lay_tree.specs.declared.exprs.FieldExpr.TheVariants as field
@@ -237,7 +239,7 @@ module _ (budget : ℕ) (within : ExprWithin) (sound : SoundExprWithin budget wi
         let good = and_from (path.good && all_good told) (base_placed bases)
         (and_from path.good (all_good told) k.1.1 (goods_of about_field_expr gs ∙ parts.2))
         (base_good last b.0 b.1 end at base_is) in
-        made no_struct starts (about_expr (expr.Struct p.0 gs b.0)) (Expr-F.Struct p.0 told bases) most begun rest
+        made no_struct starts (about_expr (expr.Struct p.0 gs b.0)) (Expr-F.Expr::Struct p.0 told bases) most begun rest
         (expr_struct_is p.0 gs b.0) spelled good refl
 
     struct_sound : (p : Path × ℕ) (begun ts : Tokens) → Held (path_told Code) budget p begun ts → IsBit (opener Brace) ts (tail ts)
@@ -260,7 +262,7 @@ module _ (budget : ℕ) (within : ExprWithin) (sound : SoundExprWithin budget wi
 
     -- ---- paths
 
-    path_follows : (b c : Bool) → b ≡ false → c ≡ true → (not b && true && true && c) ≡ true
+    path_follows : (b c : Bool) → b ≡ false → c ≡ true → (not b && true && true && true && c) ≡ true
     path_follows false true e f = refl
     path_follows true c e f = absurd (cc e)
     path_follows false false e f = absurd (cc f)

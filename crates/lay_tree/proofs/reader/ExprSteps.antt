@@ -36,11 +36,13 @@ use Rattle.lay_node.proofs.reader.TypesCompleteParts.{literal_complete}
 use Rattle.lay_node.proofs.reader.TypesFronts.{Clear}
 use Rattle.lay_node.proofs.reader.Words.{GoodName, name_complete}
 use Rattle.lay_tree.specs.Operators.{is_dot_or_try, begins_step}
-use Rattle.lay_tree.specs.nodes.Exprs.{ExprFacts, StepKind, OfField, OfTupleIndex, OfMethod, OfCall, OfIndex, OfTry, OfAwait, StepFacts, expr_forms, all_free, is_field, is_tuple_index, is_method, is_call, is_dotted, generics_form, args_form, are_steps, tail_of_steps, methods, break_if, steps_form, group_if, postfix_form, step_facts, about_expr, about_step}
+use Rattle.lay_tree.specs.nodes.Code.{about_expr, about_step}
+use Rattle.lay_tree.specs.nodes.Exprs.{ExprFacts, StepKind, OfField, OfTupleIndex, OfMethod, OfCall, OfIndex, OfTry, OfAwait, StepFacts, expr_forms, all_free, is_field, is_tuple_index, is_method, is_call, is_dotted, generics_form, args_form, are_steps, tail_of_steps, methods, break_if, steps_form, group_if, postfix_form, step_facts}
 use Rattle.lay_tree.specs.nodes.Places.{FREE}
-use Rattle.lay_tree.specs.reader.Exprs.{ExprWithin, free_elements, method_by, member_by, is_index_token, dot_step, one_step, begins_tuple_index, postfix_expr}
+use Rattle.lay_tree.specs.reader.Exprs.{free_elements, method_by, member_by, is_index_token, dot_step, one_step, begins_tuple_index, postfix_expr}
+use Rattle.lay_tree.specs.reader.Within.{ExprWithin}
 use Rattle.lay_tree.specs.declared.exprs.Expr.{Expr}
-use Rattle.lay_tree.specs.declared.exprs.Expr.TheOpen.{Step-F}
+use Rattle.lay_tree.specs.declared.blocks.Stmt.TheOpen.{Step-F}
 use Rattle.lay_tree.specs.declared.exprs.Expr.TheVariants as expr
 use Rattle.lay_tree.specs.declared.exprs.Step.{Step}
 use Rattle.lay_tree.specs.declared.exprs.Step.TheVariants as step

@@ -22,7 +22,7 @@ use Rattle.lay_node.proofs.reader.AttrRead.{attribute_complete, attr_shorter}
 use Rattle.lay_node.proofs.reader.Loops.{SoundStep}
 use Rattle.lay_tree.specs.Reading.{top, SpellsFile}
 use Rattle.lay_tree.specs.nodes.File.{form_of_file, is_normal}
-use Rattle.lay_tree.specs.nodes.Item.{about_item}
+use Rattle.lay_tree.specs.nodes.Code.{about_item}
 use Rattle.lay_tree.specs.reader.File.{longest_from, longest, top_item, front}
 use Rattle.lay_token.specs.Operators.{op_at}
 use Rattle.lay_node.specs.reader.Tokens.{group}
@@ -30,13 +30,15 @@ use Rattle.lay_node.specs.reader.Vis.{visibility}
 use Rattle.lay_node.specs.reader.Words.{word as word_reading}
 use Rattle.lay_node.specs.reader.Call.{call}
 use Rattle.lay_node.specs.reader.SimplePath.{simple_path}
-use Rattle.lay_tree.specs.reader.Item.{item_at, item_by, kind_at, item_lead, call_item}
+use Rattle.lay_tree.specs.reader.Code.{code_in, item_at}
+use Rattle.lay_tree.specs.reader.Item.{item_by, kind_at, call_item}
+use Rattle.lay_tree.specs.reader.ItemLeads.{item_lead}
 use Rattle.lay_tree.specs.declared.file.File.{File}
 use Rattle.lay_tree.specs.declared.item.Item.{Item}
-use Rattle.lay_tree.proofs.reader.Item.{item_sound}
-use Rattle.lay_tree.proofs.reader.ItemExact.{heads_complete, heads_sound, values_sound, values_complete}
+use Rattle.lay_tree.proofs.reader.CodeComplete.{item_complete}
+use Rattle.lay_tree.proofs.reader.CodeSound.{item_sound}
+use Rattle.lay_tree.proofs.reader.FrontsHeld.{fronts}
 use Rattle.lay_tree.proofs.reader.ItemKinds.{item_begins, items_begin}
-use Rattle.lay_tree.proofs.reader.ItemRead.{item_complete}
 use Rattle.lay_tree.proofs.reader.Longest.{Reads, longest_from_sound, longest_sound, longest_end, longest_past}
 
 -- ---- one attribute, and one item
@@ -56,7 +58,7 @@ top_sound ts one rest t h =
     let b = bind_some (item_at Module top ts) (λ x. let found : Got Item = Some (x.0.0, x.1) in found) (one, rest) h in
     let read = b.0.0.0 in
     let left = b.0.1 in
-    let s = item_sound heads_sound values_sound Module top ts read b.0.0.1 left t b.1 in
+    let s = item_sound Module top ts read b.0.0.1 left t b.1 in
     let up = deeper (about_item Module read).form b.0.0.1 top ts left s.0 s.1.0 in
     let behind = texts_behind ts left (is_end (about_item Module read).form top ts left up) t in
     let e = got_same read one left rest b.2 in
@@ -67,7 +69,7 @@ attr_reads a ts rest g = (attribute_complete true a top ts rest g, attr_shorter 
 
 top_reads : (one : Item) (ts rest : Tokens) → ItemAt one ts rest → Reads top_item one ts rest
 top_reads one ts rest g =
-    let r = item_complete heads_complete values_complete Module top top (omega arith) one ts rest (g.0, g.1, refl) in
+    let r = item_complete fronts Module top top (omega arith) one ts rest (g.0, g.1, refl) in
     (rw r.2 refl, (item_begins Module top one ts rest g).1)
 
 -- Where no inner attribute begins, none is read.
@@ -86,7 +88,7 @@ no_inner ts h =
 
 -- Where no token is left, no item is read.
 no_item_left : (budget : ℕ) → item_at Module budget [] ≡ None
-unfolding item_at item_by attributes repeat repeat_from visibility kind_at item_lead call_item call simple_path word_reading op_at group
+unfolding code_in item_by attributes repeat repeat_from visibility kind_at item_lead call_item call simple_path word_reading op_at group
 no_item_left zero = refl
 no_item_left (suc budget) = refl
 

@@ -1,5 +1,5 @@
 -- Items: what is read is spelled.
-use Rattle.std.proofs.Common.{◌≡◌, ℕ, zero, suc, ◌≤◌, Bool, true, false, ◌&&◌, ◌||◌, List, [], ◌∷◌, map, drop, codes, inl, inr, Option, Some, None, if◌then◌else◌, refl, sym, subst, arith}
+use Rattle.std.proofs.Common.{◌≡◌, ℕ, suc, ◌≤◌, Bool, true, false, ◌&&◌, ◌||◌, List, [], ◌∷◌, map, drop, codes, inl, inr, Option, Some, None, if◌then◌else◌, refl, sym, subst, arith}
 use Rattle.std.proofs.lemmas.Bool.{and_parts, and_from}
 use Rattle.std.specs.Prelude.{is_some}
 use Rattle.lay_token.specs.Operators.{is_op}
@@ -19,9 +19,7 @@ use Rattle.lay_node.specs.nodes.Vis.{is_vis, vis_form}
 use Rattle.lay_node.specs.reader.Attr.{attributes}
 use Rattle.lay_node.specs.reader.Call.{call, behind_end}
 use Rattle.lay_node.specs.reader.Exact.{InText}
-use Rattle.lay_node.specs.reader.Functions.{insides}
 use Rattle.lay_node.specs.reader.Tokens.{group}
-use Rattle.lay_node.specs.reader.Use.{use_at}
 use Rattle.lay_node.specs.reader.Vis.{visibility}
 use Rattle.lay_node.specs.reader.Words.{name}
 use Rattle.lay_node.specs.tokens.Lists.{group_form}
@@ -34,26 +32,25 @@ use Rattle.lay_node.proofs.Steps.{same_some, chosen, bind_some}
 use Rattle.lay_node.proofs.reader.Attr.{attributes_sound, attrs_spelled}
 use Rattle.lay_node.proofs.reader.Call.{end_spelled, call_sound}
 use Rattle.lay_node.proofs.reader.Exact.{Stands, Sound}
-use Rattle.lay_node.proofs.reader.HeadsLevel.{insides_sound}
 use Rattle.lay_node.proofs.reader.Loops.{SoundStep}
 use Rattle.lay_node.proofs.reader.PatternsSoundLevel.{SoundPatWithin}
 use Rattle.lay_node.proofs.reader.Tokens.{group_sound}
 use Rattle.lay_node.proofs.reader.TypesSoundParts.{Out}
-use Rattle.lay_node.proofs.reader.Use.{use_sound}
 use Rattle.lay_node.proofs.reader.Vis.{vis_sound}
 use Rattle.lay_node.proofs.reader.Words.{name_sound}
-use Rattle.lay_tree.specs.nodes.Item.{about_item, call_item_form, in_module, is_inherited, kind_facts, kind_form, rules_form, told_of_kind}
-use Rattle.lay_tree.specs.nodes.Places.{FREE}
-use Rattle.lay_tree.specs.reader.Exprs.{expr_at}
-use Rattle.lay_tree.specs.reader.Item.{ItemLead, ItemWithin, OfAlias, OfCall, OfEnum, OfExternCrate, OfForeign, OfFunction, OfImpl, OfImport, OfModule, OfRules, OfStruct, OfTrait, OfUnion, OfValue, begins_function, begins_rules, begins_union, call_item, extern_lead, item_at, item_by, item_lead, kind_at, kind_by, may_stand, rules_item, unsafe_lead}
+use Rattle.lay_tree.specs.nodes.Code.{about_item, told_of_kind}
+use Rattle.lay_tree.specs.nodes.Item.{call_item_form, in_module, is_inherited, kind_facts, kind_form, rules_form}
+use Rattle.lay_tree.specs.reader.Item.{ItemWithin, call_item, item_by, kind_at, kind_by, may_stand, rules_item}
+use Rattle.lay_tree.specs.reader.ItemLeads.{ItemLead, OfAlias, OfCall, OfEnum, OfExternCrate, OfForeign, OfFunction, OfImpl, OfImport, OfModule, OfRules, OfStruct, OfTrait, OfUnion, OfValue, begins_function, begins_rules, begins_union, extern_lead, item_lead, unsafe_lead}
 use Rattle.lay_tree.specs.declared.item.Item.{Item}
 use Rattle.lay_tree.specs.declared.item.ItemKind.{ItemKind}
 use Rattle.lay_tree.specs.declared.item.ItemKind.TheVariants as item
-use Rattle.lay_tree.specs.declared.item.ItemKind.TheOpen.{ItemKind-F}
+use Rattle.lay_tree.specs.declared.blocks.Stmt.TheOpen.{ItemKind-F}
 use Rattle.lay_tree.proofs.nodes.ItemLaws as laws
 use Rattle.lay_tree.proofs.nodes.ItemLaws.{item_is}
-use Rattle.lay_tree.proofs.reader.ExprSoundLevel.{ExprHeld}
-use Rattle.lay_tree.proofs.reader.ItemSound.{HeadsSound, KindHeld, alias_sound, alone, enum_sound, extern_sound, foreign_sound, function_sound, impl_sound, import_sound, kind_alone, kind_told, module_sound, struct_sound, trait_sound, union_sound, value_sound}
+use Rattle.lay_tree.proofs.reader.ExprSoundLevel.{SoundExprWithin}
+use Rattle.lay_tree.proofs.reader.ItemFunction.{function_sound}
+use Rattle.lay_tree.proofs.reader.ItemSound.{HeadsSound, KindHeld, alias_sound, alone, enum_sound, extern_sound, foreign_sound, impl_sound, import_sound, kind_alone, kind_told, module_sound, struct_sound, trait_sound, union_sound, value_sound}
 
 -- ---- macros
 
@@ -118,7 +115,7 @@ call_item_sound at budget ts x rest t h =
     let spelled : Spells (call_item_form c) 0 ts e.0 = (b.0.1, s.0, end_spelled c.tokens.delim 0 b.0.1 e.0 e.1) in
     same_some (Out (KindHeld at budget) ts) ((item.Call c, 0), e.0) (x, rest) e.2
     (out_texts at budget (item.Call c, 0) ts e.0 t
-    (omega arith, kind_told at 0 (item.Call c) (kind_facts (ItemKind-F.Call c)) ts e.0 (laws.call_is c) spelled s.1))
+    (omega arith, kind_told at 0 (item.Call c) (kind_facts (ItemKind-F.ItemKind::Call c)) ts e.0 (laws.call_is c) spelled s.1))
 
 -- ---- what an item is
 
@@ -166,18 +163,18 @@ rules_begin ts h =
 
 module _ (heads : HeadsSound) (at : Site) (budget : ℕ) (within : ItemWithin) (inner : SoundPatWithin budget within.heads)
     (items : (s : Site) → Sound (about_item s) budget (within.items s)) (trees : Sound about_use budget within.trees)
-    (values : SoundStep within.exprs (ExprHeld FREE budget)) where
+    (code : SoundExprWithin budget within.code) where
   by_lead : (lead : ItemLead) → may_stand at lead ≡ true → (ts : Tokens) → item_lead ts ≡ lead → (x : ItemKind × ℕ) (rest : Tokens) → InText ts
       → kind_by at within lead ts ≡ Some (x, rest) → Out (KindHeld at budget) ts (x, rest)
   by_lead OfExternCrate m ts l x rest t h = extern_sound heads at budget within inner items trees m ts x rest t h
   by_lead OfImport m ts l x rest t h = import_sound heads at budget within inner items trees m ts x rest t h
   by_lead OfModule m ts l x rest t h = module_sound heads at budget within inner items trees m ts x rest t h
-  by_lead OfFunction m ts l x rest t h = function_sound heads at budget within inner items trees m ts x rest t h
+  by_lead OfFunction m ts l x rest t h = function_sound heads at budget within inner code ts x rest t h
   by_lead OfAlias m ts l x rest t h = alias_sound heads at budget within inner items trees ts x rest t h
   by_lead OfStruct m ts l x rest t h = struct_sound heads at budget within inner items trees m ts x rest t h
   by_lead OfUnion m ts l x rest t h = union_sound heads at budget within inner items trees m ts x rest t h
   by_lead OfEnum m ts l x rest t h = enum_sound heads at budget within inner items trees m ts x rest t h
-  by_lead OfValue m ts l x rest t h = value_sound heads at budget within inner items trees values ts x rest t h
+  by_lead OfValue m ts l x rest t h = value_sound heads at budget within inner items trees code ts x rest t h
   by_lead OfTrait m ts l x rest t h = trait_sound heads at budget within inner items trees m ts x rest t h
   by_lead OfImpl m ts l x rest t h = impl_sound heads at budget within inner items trees m ts x rest t h
   by_lead OfForeign m ts l x rest t h = foreign_sound heads at budget within inner items trees m ts x rest t h
@@ -206,8 +203,9 @@ led (vis.In path) None behind depth ts mid rest g s k = absurd (cc)
 
 module _ (heads : HeadsSound) (at : Site) (budget : ℕ) (within : ItemWithin) (inner : SoundPatWithin budget within.heads)
     (items : (s : Site) → Sound (about_item s) budget (within.items s)) (trees : Sound about_use budget within.trees)
-    (values : SoundStep within.exprs (ExprHeld FREE budget)) where
-  item_by_sound : Sound (about_item at) (suc budget) (item_by at within)
+    (code : SoundExprWithin budget within.code) where
+  -- An item that is read stands there, where what is one level deeper is read so.
+  pub item_by_sound : Sound (about_item at) (suc budget) (item_by at within)
   unfolding item_by
   item_by_sound ts one need rest t h =
       let a = bind_some (attributes false ts) _ _ h in
@@ -220,7 +218,7 @@ module _ (heads : HeadsSound) (at : Site) (budget : ℕ) (within : ItemWithin) (
       let K = told_of_kind kind in
       let inner_attrs = attributes_sound false n ts attrs a.0.1 t a.1 in
       let w = vis_sound a.0.1 seen v.0.1 inner_attrs.1 v.1 in
-      let s = kind_sound heads at budget within inner items trees values v.0.1 k.0.0 k.0.1 w.1 k.1 in
+      let s = kind_sound heads at budget within inner items trees code v.0.1 k.0.0 k.0.1 w.1 k.1 in
       let held = s.0 in
       let made : Item = record { attrs = attrs; vis = seen; kind = kind } in
       let may = is_some K.head || is_inherited seen in
@@ -239,14 +237,3 @@ module _ (heads : HeadsSound) (at : Site) (budget : ℕ) (within : ItemWithin) (
             (omega (arith, held.0), stands)
         | inr g ↦ absurd (cc)
       ]
-
--- What is proved of expressions: what is read free stands there.
-abbrev pub ValuesSound : Type 0
-ValuesSound = (budget : ℕ) → SoundStep (expr_at FREE budget) (ExprHeld FREE budget)
-
-pub item_sound : HeadsSound → ValuesSound → (at : Site) (budget : ℕ) → Sound (about_item at) budget (item_at at budget)
-unfolding item_at
-item_sound heads values at zero ts one need rest t h = absurd (cc)
-item_sound heads values at (suc budget) ts one need rest t h =
-    item_by_sound heads at budget (record { items = λ s us. item_at s budget us; trees = use_at budget; heads = insides budget; exprs = expr_at FREE budget })
-    (insides_sound budget) (λ s. item_sound heads values s budget) (use_sound budget) (values budget) ts one need rest t h

@@ -23,8 +23,9 @@ use Rattle.lay_node.proofs.reader.Exact.{Sound}
 use Rattle.lay_node.proofs.reader.Loops.{SoundStep}
 use Rattle.lay_node.proofs.reader.Needs.{nodes_sound}
 use Rattle.lay_node.proofs.reader.TypesSoundParts.{Out}
+use Rattle.lay_tree.specs.nodes.Code.{about_item, told_of_item}
 use Rattle.lay_tree.specs.nodes.Item as node
-use Rattle.lay_tree.specs.nodes.Item.{about_item, item_forms, items_good, told_of_item}
+use Rattle.lay_tree.specs.nodes.Item.{item_forms, items_good}
 use Rattle.lay_tree.specs.reader.Item.{ItemWithin, item_body, items_by}
 use Rattle.lay_tree.specs.declared.item.Item.{Item}
 

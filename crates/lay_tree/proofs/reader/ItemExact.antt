@@ -1,69 +1,19 @@
 -- Items are read exactly where they stand.
-use Rattle.std.proofs.Common.{◌≡◌, ℕ, refl}
+use Rattle.std.proofs.Common.{◌≡◌, ℕ}
 use Rattle.lay_node.specs.Ahead.{Tokens}
 use Rattle.lay_node.specs.nodes.Facts.{Front}
 use Rattle.lay_node.specs.reader.Exact.{Exact}
 use Rattle.lay_node.specs.declared.heads.Site.{Site}
-use Rattle.lay_node.proofs.reader.AliasComplete.{aliases_complete}
-use Rattle.lay_node.proofs.reader.AliasSound.{aliases_sound}
 use Rattle.lay_node.proofs.reader.Exact.{exact, one_at_most}
-use Rattle.lay_node.proofs.reader.FunctionsBegins.{fn_head_begins}
-use Rattle.lay_node.proofs.reader.FunctionsComplete.{fn_head_complete}
-use Rattle.lay_node.proofs.reader.FunctionsSound.{fn_head_sound}
-use Rattle.lay_node.proofs.reader.ImplHeadsComplete.{impl_heads_complete}
-use Rattle.lay_node.proofs.reader.ImplHeadsSound.{impl_heads_sound}
-use Rattle.lay_node.proofs.reader.OutsideExact.{extern_crate_complete, extern_crate_sound}
-use Rattle.lay_node.proofs.reader.StructsComplete.{enum_complete, struct_complete, union_complete}
-use Rattle.lay_node.proofs.reader.StructsSound.{enum_sound, struct_sound, union_sound}
-use Rattle.lay_node.proofs.reader.TraitHeads.{trait_held, trait_there}
-use Rattle.lay_node.proofs.reader.ValueHeads.{value_heads_complete, value_heads_sound}
-use Rattle.lay_tree.specs.nodes.Item.{about_item}
-use Rattle.lay_tree.specs.nodes.Places.{FREE}
-use Rattle.lay_tree.specs.reader.Item.{item_at}
+use Rattle.lay_tree.specs.nodes.Code.{about_item}
+use Rattle.lay_tree.specs.reader.Code.{item_at}
 use Rattle.lay_tree.specs.declared.item.Item.{Item}
-use Rattle.lay_tree.proofs.reader.ExprComplete.{expr_read}
-use Rattle.lay_tree.proofs.reader.ExprSound.{expr_in_sound}
-use Rattle.lay_tree.proofs.reader.Item.{item_sound, ValuesSound}
-use Rattle.lay_tree.proofs.reader.ItemRead.{item_complete, ValuesComplete}
-use Rattle.lay_tree.proofs.reader.ItemReads.{HeadsComplete}
-use Rattle.lay_tree.proofs.reader.ItemSound.{HeadsSound}
-
-pub heads_sound : HeadsSound
-heads_sound = record {
-  extern_crates = extern_crate_sound;
-  aliases = aliases_sound;
-  structs = struct_sound;
-  unions = union_sound;
-  enums = enum_sound;
-  values = value_heads_sound;
-  functions = fn_head_sound;
-  impls = impl_heads_sound;
-  traits = λ budget inner sound. trait_held budget inner.kinds sound.kinds;
-}
-
-pub heads_complete : HeadsComplete
-heads_complete = record {
-  extern_crates = λ x depth ts rest s g. extern_crate_complete x depth ts rest s g refl;
-  aliases = aliases_complete;
-  structs = struct_complete;
-  unions = union_complete;
-  enums = enum_complete;
-  values = value_heads_complete;
-  functions = fn_head_complete;
-  function_begins = fn_head_begins;
-  impls = impl_heads_complete;
-  traits = λ depth inner reads. trait_there depth inner.kinds reads.kinds;
-}
-
--- What is read of values stands there, and what stands there is read.
-pub values_sound : ValuesSound
-values_sound budget = expr_in_sound budget FREE
-
-pub values_complete : ValuesComplete
-values_complete x depth budget ts rest = expr_read FREE x depth budget ts rest
+use Rattle.lay_tree.proofs.reader.CodeComplete.{item_complete}
+use Rattle.lay_tree.proofs.reader.CodeSound.{item_sound}
+use Rattle.lay_tree.proofs.reader.FrontsHeld.{fronts}
 
 pub items_exact : (at : Site) → Exact (item_at at) (λ (x : Item). Front (about_item at x))
-items_exact at = exact (about_item at) (item_at at) (item_sound heads_sound values_sound at) (item_complete heads_complete values_complete at)
+items_exact at = exact (about_item at) (item_at at) (item_sound at) (item_complete fronts at)
 
 -- So at most one item and one count of tokens fit.
 pub one_item : (at : Site) (node other : Item) (ts : Tokens) (n m depth : ℕ) → Front (about_item at node) ts n depth → Front (about_item at other) ts m depth

@@ -24,8 +24,10 @@ use Rattle.lay_node.proofs.reader.AttrRead.{attr_shorter, BeginsItem, outer_begi
 use Rattle.lay_node.proofs.reader.Exact.{Complete, IsRead}
 use Rattle.lay_node.proofs.reader.Needs.{nodes_complete}
 use Rattle.lay_node.proofs.reader.Vis.{vis_front}
+use Rattle.lay_tree.specs.nodes.Code.{about_item, told_of_item, told_of_kind}
+use Rattle.lay_tree.specs.nodes.CodeFacts.{ItemFacts}
 use Rattle.lay_tree.specs.nodes.Item as node
-use Rattle.lay_tree.specs.nodes.Item.{ItemFacts, about_item, is_inherited, item_forms, items_good, kind_form, told_of_item, told_of_kind}
+use Rattle.lay_tree.specs.nodes.Item.{is_inherited, item_forms, items_good, kind_form}
 use Rattle.lay_tree.specs.reader.Item.{ItemWithin, item_body, items_by}
 use Rattle.lay_tree.specs.declared.item.Item.{Item}
 use Rattle.lay_tree.proofs.nodes.ItemLaws.{item_is}

@@ -1,5 +1,5 @@
 -- What an item begins with: its first token, and what it is by it.
-use Rattle.std.proofs.Common.{◌≡◌, ℕ, ◌<◌, ◌≤◌, Bool, true, false, List, [], ◌∷◌, length, map, codes, Option, Some, None, refl, ap, subst, arith}
+use Rattle.std.proofs.Common.{◌≡◌, ℕ, ◌<◌, ◌≤◌, Bool, true, false, List, [], ◌∷◌, length, map, codes, Option, option_map, Some, None, refl, ap, subst, arith}
 use Rattle.std.specs.Str.{bytes_eq}
 use Rattle.lay_piece.specs.declared.kind.Delim.TheVariants.{Paren}
 use Rattle.lay_piece.specs.declared.kind.Kind.TheVariants.{Ident, RawIdent, Punct}
@@ -36,7 +36,10 @@ use Rattle.lay_form.proofs.FormLaws.{bits_end, shorter}
 use Rattle.lay_node.proofs.reader.AttrRead.{BeginsItem}
 use Rattle.lay_node.proofs.reader.Call.{SpelledCall, call_complete}
 use Rattle.lay_node.proofs.reader.SimplePath.{OfLead, OfOne, OfWord, SimplePathFront, simple_path_front, simple_path_no_keyword}
-use Rattle.lay_tree.specs.nodes.Item.{KindFacts, about_impl, about_trait, foreign_abi, item_body, told_of_item, told_of_kind, value_form}
+use Rattle.lay_tree.specs.nodes.Code.{about_block, about_expr, told_of_item, told_of_kind}
+use Rattle.lay_tree.specs.nodes.CodeFacts.{KindFacts}
+use Rattle.lay_tree.specs.nodes.Exprs.{value_form}
+use Rattle.lay_tree.specs.nodes.Item.{about_impl, about_trait, foreign_abi, function_tail, item_body}
 use Rattle.lay_tree.specs.declared.item.ItemKind.{ItemKind}
 use Rattle.lay_tree.specs.declared.item.ItemKind.TheVariants as item
 use Rattle.lay_tree.proofs.nodes.ItemLaws as laws
@@ -211,9 +214,9 @@ kind_front at k depth ts rest g = by k (kind_view k) g
     by _ (IsModule n attrs items) g =
         headed_led (codes "mod") (Blank ∷ []) (leaf_of n.raw n.text Done) (item_body true attrs (map told_of_item items)) depth ts rest refl
         (spelled_as at depth (item.Module n attrs items) _ ts rest (laws.module_is n attrs items) g).0
-    by _ (IsFunction head wheres) g =
-        led_front ts rest (before_tail (fn_head_form head) (Part (wheres_before_semicolon wheres) (piece semicolon)) depth ts rest
-        (λ mid t. fn_led head depth ts mid t) (spelled_as at depth (item.Function head wheres) _ ts rest (laws.function_is head wheres) g).0)
+    by _ (IsFunction head wheres b) g =
+        led_front ts rest (before_tail (fn_head_form head) (function_tail wheres (option_map about_block b)) depth ts rest
+        (λ mid t. fn_led head depth ts mid t) (spelled_as at depth (item.Function head wheres b) _ ts rest (laws.function_is head wheres b) g).0)
     by _ (IsAlias x) g =
         called_led (codes "type") x.name.raw x.name.text x.generics (Part (bounded_form x.bounds) (Part (default_form x.ty) Done))
         (Part (wheres_before_semicolon x.wheres) (piece semicolon)) depth ts rest refl (spelled_as at depth (item.Alias x) _ ts rest (laws.alias_is x) g).0
@@ -227,8 +230,8 @@ kind_front at k depth ts rest g = by k (kind_view k) g
         called_led (codes "enum") x.name.raw x.name.text x.generics Done (about_enum x).tail depth ts rest refl
         (spelled_as at depth (item.Enum x) _ ts rest (laws.enum_is x) g).0
     by _ (IsValue head value) g =
-        led_front ts rest (before_tail (Part (value_head_form head) (value_form value)) (piece semicolon) depth ts rest
-        (λ mid t. before_tail (value_head_form head) (value_form value) depth ts mid (λ end u. value_led head depth ts end u) t)
+        led_front ts rest (before_tail (Part (value_head_form head) (value_form (option_map about_expr value))) (piece semicolon) depth ts rest
+        (λ mid t. before_tail (value_head_form head) (value_form (option_map about_expr value)) depth ts mid (λ end u. value_led head depth ts end u) t)
         (spelled_as at depth (item.Value head value) _ ts rest (laws.value_is head value) g).0)
     by _ (IsTrait head wheres attrs items) g =
         led_front ts rest (before_tail (trait_head_form head) (about_trait head wheres attrs (map told_of_item items)).tail depth ts rest

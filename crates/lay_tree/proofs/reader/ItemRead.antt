@@ -1,5 +1,5 @@
 -- Items: what is spelled, and well formed, is read.
-use Rattle.std.proofs.Common.{◌≡◌, ℕ, zero, suc, ◌≤◌, max, Bool, true, false, ◌&&◌, ◌||◌, List, [], ◌∷◌, map, codes, Option, Some, None, inl, inr, refl, sym, subst, ◌∙◌, arith, drop}
+use Rattle.std.proofs.Common.{◌≡◌, ℕ, suc, max, Bool, true, false, ◌&&◌, ◌||◌, List, [], ◌∷◌, map, codes, Option, option_map, Some, None, inl, inr, refl, sym, subst, ◌∙◌, arith, drop}
 use Rattle.std.proofs.lemmas.Bool.{and_parts}
 use Rattle.std.specs.Prelude.{is_some}
 use Rattle.lay_piece.specs.Forms.{opening}
@@ -13,19 +13,17 @@ use Rattle.lay_node.specs.Ahead.{Tokens, first, is_keyword, is_mark}
 use Rattle.lay_node.specs.Words.{is_name, leaf_of}
 use Rattle.lay_node.specs.nodes.Attr.{are_attrs}
 use Rattle.lay_node.specs.nodes.Call.{before_rules, end_form, is_group}
-use Rattle.lay_node.specs.nodes.Functions.{is_fn_head, output_follows}
+use Rattle.lay_node.specs.nodes.Functions.{is_fn_head}
 use Rattle.lay_node.specs.nodes.Generics.{bounded_form, generics_form, is_generics}
 use Rattle.lay_node.specs.nodes.Heads.{about_enum, about_extern_crate, about_struct, about_union, about_value_head, called, ends_head, head_fields, is_impl_head, is_trait_head, is_value_head, leads, struct_tail, trait_ref_form, value_follows, value_head_form}
-use Rattle.lay_node.specs.nodes.Types.{about_type, good_at, is_abi_name, is_given, type_follows}
+use Rattle.lay_node.specs.nodes.Types.{about_type, good_at, is_abi_name, is_given}
 use Rattle.lay_node.specs.nodes.Use.{about_use, rename_form}
 use Rattle.lay_node.specs.nodes.Where.{are_predicates, predicate_form, wheres_before_body}
 use Rattle.lay_node.specs.reader.Attr.{attributes}
 use Rattle.lay_node.specs.reader.Call.{behind_end, call}
-use Rattle.lay_node.specs.reader.Functions.{fn_head, insides}
 use Rattle.lay_node.specs.reader.Heads.{impl_head, trait_head, unsafe_flag, value_head}
 use Rattle.lay_node.specs.reader.Tokens.{group}
 use Rattle.lay_node.specs.reader.Types.{if_there, is_string_token, literal, if_read}
-use Rattle.lay_node.specs.reader.Use.{use_at}
 use Rattle.lay_node.specs.reader.Vis.{visibility}
 use Rattle.lay_node.specs.reader.Where.{wheres}
 use Rattle.lay_node.specs.tokens.Lists.{group_form}
@@ -48,7 +46,6 @@ use Rattle.lay_node.specs.declared.token.Literal.{Literal}
 use Rattle.lay_node.specs.declared.token.Name.{Name}
 use Rattle.lay_node.specs.declared.tokens.Group.{Group}
 use Rattle.lay_node.specs.declared.tokens.MacroCall.{MacroCall}
-use Rattle.lay_node.specs.declared.types.Ty.{Ty}
 use Rattle.lay_node.specs.declared.types.TypePlace.TheVariants.{Bounds}
 use Rattle.lay_node.specs.declared.use_tree.UseTree.{UseTree}
 use Rattle.lay_node.proofs.Follow.{quiet_follows, semicolon_quiet}
@@ -59,34 +56,35 @@ use Rattle.lay_node.proofs.reader.AttrRead.{attributes_complete}
 use Rattle.lay_node.proofs.reader.Call.{call_complete, end_read}
 use Rattle.lay_node.proofs.reader.Exact.{Complete, IsRead, Stands}
 use Rattle.lay_node.proofs.reader.GenericsComplete.{equals_operator}
-use Rattle.lay_node.proofs.reader.HeadEnds.{semicolon_ends, tail_ends}
-use Rattle.lay_node.proofs.reader.HeadParts.{body_wheres, brace_ends_wheres, semicolon_ends_wheres, wheres_front, wheres_there}
-use Rattle.lay_node.proofs.reader.HeadsLevel.{insides_reads}
+use Rattle.lay_node.proofs.reader.HeadEnds.{semicolon_ends}
+use Rattle.lay_node.proofs.reader.HeadParts.{brace_ends_wheres, wheres_front, wheres_there}
 use Rattle.lay_node.proofs.reader.OutsideExact.{crate_words}
 use Rattle.lay_node.proofs.reader.PatternsCompletePaths.{PatReads}
-use Rattle.lay_node.proofs.reader.PatternsFronts.{free_quiet}
 use Rattle.lay_node.proofs.reader.Tokens.{group_complete}
-use Rattle.lay_node.proofs.reader.TypesComplete.{and_none}
 use Rattle.lay_node.proofs.reader.TypesCompleteParts.{flag_complete, keyword_there, literal_complete, one_left}
 use Rattle.lay_node.proofs.reader.TypesFronts.{Ends, equals_quiet, op_first, Quiet}
-use Rattle.lay_node.proofs.reader.Use.{use_complete}
 use Rattle.lay_node.proofs.reader.ValueHeads.{value_begins}
 use Rattle.lay_node.proofs.reader.Vis.{vis_complete, vis_may}
 use Rattle.lay_node.proofs.reader.Words.{GoodName, name_complete}
-use Rattle.lay_tree.specs.nodes.Exprs.{placed, about_expr, follows}
+use Rattle.lay_tree.specs.nodes.Code.{about_block, about_expr, about_item, told_of_item, told_of_kind}
+use Rattle.lay_tree.specs.nodes.Exprs.{may_be_good, value_form, value_placed}
 use Rattle.lay_tree.specs.nodes.Item as node
-use Rattle.lay_tree.specs.nodes.Item.{about_foreign, about_impl, about_import, about_item, about_module, about_trait, foreign_abi, in_module, is_inherited, items_good, may_lack_body, may_lack_value, module_head, rules_form, told_of_item, told_of_kind, value_form, value_placed, may_be_valued}
+use Rattle.lay_tree.specs.nodes.Item.{about_foreign, about_impl, about_import, about_module, about_trait, foreign_abi, in_module, is_inherited, items_good, may_be_bodied, module_head, rules_form, may_be_valued}
 use Rattle.lay_tree.specs.nodes.Places.{FREE}
-use Rattle.lay_tree.specs.reader.Exprs.{expr_at}
-use Rattle.lay_tree.specs.reader.Item.{ItemLead, ItemWithin, OfAlias, OfCall, OfEnum, OfExternCrate, OfForeign, OfFunction, OfImpl, OfImport, OfModule, OfRules, OfStruct, OfTrait, OfUnion, OfValue, call_item, foreign_by, function_by, impl_by, import_by, item_at, item_body, item_by, item_lead, kind_at, kind_by, may_stand, module_by, rules_item, trait_by, value_by}
+use Rattle.lay_tree.specs.reader.Item.{ItemWithin, call_item, foreign_by, impl_by, import_by, item_body, item_by, kind_at, kind_by, may_stand, module_by, rules_item, trait_by, value_by}
+use Rattle.lay_tree.specs.reader.ItemLeads.{ItemLead, OfAlias, OfCall, OfEnum, OfExternCrate, OfForeign, OfFunction, OfImpl, OfImport, OfModule, OfRules, OfStruct, OfTrait, OfUnion, OfValue, item_lead}
+use Rattle.lay_tree.specs.declared.blocks.Block.{Block}
 use Rattle.lay_tree.specs.declared.exprs.Expr.{Expr}
 use Rattle.lay_tree.specs.declared.item.Item.{Item}
 use Rattle.lay_tree.specs.declared.item.ItemKind.{ItemKind}
 use Rattle.lay_tree.specs.declared.item.ItemKind.TheVariants as item
 use Rattle.lay_tree.proofs.nodes.ItemLaws as laws
 use Rattle.lay_tree.proofs.nodes.ItemLaws.{KindView, IsExternCrate, IsImport, IsFileModule, IsModule, IsFunction, IsAlias, IsStruct, IsUnion, IsEnum, IsValue, IsTrait, IsImpl, IsForeign, IsRules, IsCall, kind_view}
+use Rattle.lay_tree.proofs.reader.BlockReads.{Fronts}
 use Rattle.lay_tree.proofs.reader.ExprQuiet.{ends_follow, semicolon_ends_expr}
-use Rattle.lay_tree.proofs.reader.ItemKinds.{body_read, item_none, item_parts, vis_begins}
+use Rattle.lay_tree.proofs.reader.ExprReads.{ExprReads}
+use Rattle.lay_tree.proofs.reader.ItemFunctionRead.{function_made, function_tailed, quiet_type}
+use Rattle.lay_tree.proofs.reader.ItemKinds.{body_read, item_parts, vis_begins}
 use Rattle.lay_tree.proofs.reader.ItemLeads.{kind_front, spelled_as}
 use Rattle.lay_tree.proofs.reader.ItemReads.{HeadsComplete, alias_lead, call_lead, const_lead, enum_lead, extern_crate_lead, foreign_front, foreign_lead, function_lead, impl_lead, import_lead, module_lead, rules_lead, static_lead, struct_lead, trait_lead, union_lead, unsafe_impl_lead, unsafe_lead, unsafe_trait_lead}
 use Rattle.lay_tree.proofs.reader.ItemSound.{KindAt}
@@ -121,17 +119,6 @@ rules_parts n g depth ts rest s =
     unblank Bracket f us s = s
     unblank Brace f us s = let e : us ≡ s.0 = s.1.1 ∙ s.1.2 in subst (λ z. Spells f depth z rest) (sym e) s.2
 
--- What stands behind a head before its where clause and a `;` may follow a return type, and the type of a value.
-quiet_type : (x : Ty) (ts : Tokens) → Quiet ts → first (is_keyword (codes "as")) ts ≡ false → type_follows Bounds (about_type x) ts ≡ true
-quiet_type x ts q r = rw (q.plus, and_none (about_type x).bounded, quiet_follows (about_type x).told.refuses ts (free_quiet ts q.free r)) refl
-
-ends_type : (x : Ty) (ts : Tokens) → Ends ts → type_follows Bounds (about_type x) ts ≡ true
-ends_type x ts e = quiet_type x ts e.quiet e.pattern.rename
-
-ends_output : (x : Option Ty) (ts : Tokens) → Ends ts → output_follows x ts ≡ true
-ends_output None ts e = rw e.quiet.free.arrow refl
-ends_output (Some x) ts e = ends_type x ts e
-
 quiet_value : (x : ValueHead) (ts : Tokens) → Quiet ts → first (is_keyword (codes "as")) ts ≡ false → value_follows x ts ≡ true
 quiet_value (value.Const name x) ts q r = quiet_type x ts q r
 quiet_value (value.Static mutable name x) ts q r = quiet_type x ts q r
@@ -145,10 +132,9 @@ record KindRead (at : Site) (within : ItemWithin) (depth : ℕ) (k : ItemKind) (
   stands : may_stand at lead ≡ true
   read : IsRead depth (kind_by at within lead) k ts rest
 
-module _ (heads : HeadsComplete) (at : Site) (depth : ℕ) (within : ItemWithin) (inner : PatReads depth within.heads)
+module _ (fronts : Fronts) (heads : HeadsComplete) (at : Site) (depth : ℕ) (within : ItemWithin) (inner : PatReads depth within.heads)
     (items : (s : Site) → Complete (about_item s) depth (within.items s)) (trees : Complete about_use depth within.trees)
-    (values : (x : Expr) (ts rest : Tokens) → Spells (about_expr x).form depth ts rest → placed (about_expr x) FREE ≡ true
-    → follows (about_expr x) FREE rest ≡ true → IsRead depth within.exprs x ts rest) where
+    (code : ExprReads depth within.code) where
   -- what ends in a `;`
   ended_by : (f : Form) (ts rest : Tokens) → Spells (I0 f (piece semicolon)) depth ts rest
       → (mid : Tokens) × Spells f depth ts mid × IsOne Punct (codes ";") mid rest
@@ -228,31 +214,34 @@ module _ (heads : HeadsComplete) (at : Site) (depth : ℕ) (within : ItemWithin)
         read = (r.0, r.1, module_made n attrs members r.0 ts head.0 spelled.0 b.1.0 rest o (called, g1.0) b.1.1 r.2);
       }
 
-  function_made : (h : FnHead) (w : Wheres) (last : Bool) (m n : ℕ) (ts mid end rest : Tokens) → fn_head at within.heads ts ≡ Some ((h, m), mid)
-      → wheres within.heads.kinds mid ≡ Some (((w, last), n), end) → IsOne Punct (codes ";") end rest
-      → function_by at within ts ≡ Some ((item.Function h w, max m n), rest)
-  unfolding function_by
-  function_made h w last m n ts mid end rest a b e = rw (a, b, mark_passed (codes ";") end rest e) refl
+  -- ---- functions
 
-  function_read : (h : FnHead) (w : Wheres) (ts rest : Tokens) → KindAt at depth (item.Function h w) ts rest → KindRead at within depth (item.Function h w) ts rest
-  function_read h w ts rest g =
-      let s = spelled_as at depth (item.Function h w) _ ts rest (laws.function_is h w) g in
-      let g2 = and_parts (is_fn_head at h && are_predicates w) (may_lack_body at) s.1 in
+  function_read : (h : FnHead) (w : Wheres) (b : Option Block) (ts rest : Tokens) → KindAt at depth (item.Function h w b) ts rest
+      → KindRead at within depth (item.Function h w b) ts rest
+  function_read h w b ts rest g =
+      let s = spelled_as at depth (item.Function h w b) _ ts rest (laws.function_is h w b) g in
+      let g3 = and_parts (is_fn_head at h && are_predicates w && may_be_bodied at (is_some (option_map about_block b))) (may_be_good (option_map about_block b)) s.1 in
+      let g2 = and_parts (is_fn_head at h && are_predicates w) (may_be_bodied at (is_some (option_map about_block b))) g3.0 in
       let g1 = and_parts (is_fn_head at h) (are_predicates w) g2.0 in
       let spelled = s.0 in
-      let clause = spelled.2 in
-      let e : IsOne Punct (codes ";") clause.0 rest = piece_bit (Fixed Punct (codes ";")) depth clause.0 rest clause.2 in
-      let ends = tail_ends w depth spelled.0 clause.0 rest clause.1 e in
-      let f = heads.functions at depth within.heads inner h ts spelled.0 spelled.1 g1.0 (ends_output h.output spelled.0 ends.0) in
-      let fs = map predicate_form w.predicates in
-      let v = wheres_there depth within.heads.kinds inner.kinds w spelled.0 clause.0 (body_wheres fs depth spelled.0 clause.0 clause.1) g1.1 (semicolon_ends_wheres clause.0 rest e) in
-      let r = v.1 in
+      let t = function_tailed fronts at depth within inner code h w b spelled.0 rest spelled.2 g1.1 g3.1 in
+      let f = heads.functions at depth within.heads inner h ts spelled.0 spelled.1 g1.0 t.fits in
+      let c = t.clause in
+      let y = t.body in
       record {
         lead = OfFunction;
         leads = function_lead ts (heads.function_begins at h depth ts spelled.0 spelled.1 g1.0);
-        stands = g2.1;
-        read = (max f.0 r.0, omega (arith, f.1, r.1), function_made h w v.0 f.0 r.0 ts spelled.0 clause.0 rest f.2 r.2 e);
+        stands = refl;
+        read = (
+          max f.0 (max c.0 y.0),
+          omega (arith, f.1, c.1, y.1),
+          function_made fronts at depth within inner code h w t.last b f.0 c.0 y.0 ts spelled.0 t.mid rest f.2 c.2 y.2 (bodied b g2.1),
+        );
       }
+    where
+      bodied : (b : Option Block) → may_be_bodied at (is_some (option_map about_block b)) ≡ true → may_be_bodied at (is_some b) ≡ true
+      bodied None e = e
+      bodied (Some c) e = e
 
   alias_read : (x : Alias) (ts rest : Tokens) → KindAt at depth (item.Alias x) ts rest → KindRead at within depth (item.Alias x) ts rest
   alias_read x ts rest g =
@@ -297,22 +286,22 @@ module _ (heads : HeadsComplete) (at : Site) (depth : ℕ) (within : ItemWithin)
       record { lead = OfEnum; leads = enum_lead ts w.0 w.2; stands = goods.1; read = (r.0, r.1, rw r.2 refl) }
 
   value_made : (x : ValueHead) (value : Option Expr) (need more : ℕ) (ts mid end rest : Tokens) → value_head within.heads.kinds ts ≡ Some ((x, need), mid)
-      → if_read (is_op (codes "=") mid) (λ us. within.exprs (drop 1 us)) mid ≡ Some ((value, more), end) → IsOne Punct (codes ";") end rest
+      → if_read (is_op (codes "=") mid) (λ us. within.code.exprs FREE (drop 1 us)) mid ≡ Some ((value, more), end) → IsOne Punct (codes ";") end rest
       → may_be_valued at x (is_some value) ≡ true → value_by at within ts ≡ Some ((item.Value x value, max need more), rest)
   unfolding value_by
   value_made x value need more ts mid end rest v w e m = rw (v, w, mark_passed (codes ";") end rest e, m) refl
 
   -- A value is read behind the type, which it may follow as what ends the item may.
   value_there : (x : ValueHead) (value : Option Expr) (ts end rest : Tokens)
-      → Spells (value_form value) depth ts end → value_placed value ≡ true → IsOne Punct (codes ";") end rest
-      → (value_follows x ts ≡ true) × IsRead depth (λ us. if_read (is_op (codes "=") us) (λ vs. within.exprs (drop 1 vs)) us) value ts end
+      → Spells (value_form (option_map about_expr value)) depth ts end → value_placed (option_map about_expr value) ≡ true → IsOne Punct (codes ";") end rest
+      → (value_follows x ts ≡ true) × IsRead depth (λ us. if_read (is_op (codes "=") us) (λ vs. within.code.exprs FREE (drop 1 vs)) us) value ts end
   value_there x None ts end rest s g o =
       let e : Ends end = (semicolon_ends end rest o).0 in
       (quiet_value x ts (subst Quiet (sym s) e.quiet) (rw s e.pattern.rename), (0, omega arith, rw s (rw e.equals refl)))
   value_there x (Some y) ts end rest s g o =
       let q = equals_operator ts s.0 s.1 in
       let spelled = part_alone (about_expr y).form depth s.0 end s.2 in
-      let r = values y s.0 end spelled g (ends_follow (about_expr y) FREE end (semicolon_ends_expr false end rest o)) in
+      let r = code.exprs FREE y s.0 end spelled g (ends_follow (about_expr y) FREE end (semicolon_ends_expr false end rest o)) in
       (quiet_value x ts (equals_quiet ts q.0) (rw (op_first 61 [] ts q.0).3 refl), (r.0, r.1, rw (q.0, q.1, r.2) refl))
 
   value_lead : (x : ValueHead) (ts rest : Tokens) → Spells (about_value_head x).form depth ts rest → is_value_head x ≡ true → item_lead ts ≡ OfValue
@@ -323,9 +312,10 @@ module _ (heads : HeadsComplete) (at : Site) (depth : ℕ) (within : ItemWithin)
       → KindRead at within depth (item.Value x value) ts rest
   value_read x value ts rest g =
       let s = spelled_as at depth (item.Value x value) _ ts rest (laws.value_is x value) g in
-      let whole = and_parts (is_value_head x && may_be_valued at x (is_some value)) (value_placed value) s.1 in
-      let goods = and_parts (is_value_head x) (may_be_valued at x (is_some value)) whole.0 in
-      let e = ended_by (Part (value_head_form x) (value_form value)) ts rest s.0 in
+      let V = option_map about_expr value in
+      let whole = and_parts (is_value_head x && may_be_valued at x (is_some V)) (value_placed V) s.1 in
+      let goods = and_parts (is_value_head x) (may_be_valued at x (is_some V)) whole.0 in
+      let e = ended_by (Part (value_head_form x) (value_form V)) ts rest s.0 in
       let head = e.1 in
       let v = value_there x value head.0 e.0 rest head.2 whole.1 e.2 in
       let r = heads.values depth within.heads inner x ts head.0 head.1 goods.0 v.0 in
@@ -334,8 +324,12 @@ module _ (heads : HeadsComplete) (at : Site) (depth : ℕ) (within : ItemWithin)
         lead = OfValue;
         leads = value_lead x ts head.0 head.1 goods.0;
         stands = refl;
-        read = (max r.0 w.0, omega (arith, r.1, w.1), value_made x value r.0 w.0 ts head.0 e.0 rest r.2 w.2 e.2 goods.1);
+        read = (max r.0 w.0, omega (arith, r.1, w.1), value_made x value r.0 w.0 ts head.0 e.0 rest r.2 w.2 e.2 (valued value goods.1));
       }
+    where
+      valued : (v : Option Expr) → may_be_valued at x (is_some (option_map about_expr v)) ≡ true → may_be_valued at x (is_some v) ≡ true
+      valued None h = h
+      valued (Some y) h = h
 
   -- a where clause and a body behind a head
   record Behind (w : Wheres) (attrs : List Attr) (s : Site) (members : List Item) (ts rest : Tokens) : Type 0 where
@@ -508,7 +502,7 @@ module _ (heads : HeadsComplete) (at : Site) (depth : ℕ) (within : ItemWithin)
       by _ (IsImport u) g = import_read u ts rest g
       by _ (IsFileModule n) g = file_module_read n ts rest g
       by _ (IsModule n attrs members) g = module_read n attrs members ts rest g
-      by _ (IsFunction h w) g = function_read h w ts rest g
+      by _ (IsFunction h w b) g = function_read h w b ts rest g
       by _ (IsAlias x) g = alias_read x ts rest g
       by _ (IsStruct x) g = struct_read x ts rest g
       by _ (IsUnion x) g = union_read x ts rest g
@@ -532,7 +526,7 @@ module _ (heads : HeadsComplete) (at : Site) (depth : ℕ) (within : ItemWithin)
   unfolding item_by
   item_made one need ts seen mid rest a v k m = rw (a, v, k, m) refl
 
-  item_by_complete : (one : Item) (ts rest : Tokens) → Stands (about_item at one) (suc depth) ts rest → IsRead (suc depth) (item_by at within) one ts rest
+  pub item_by_complete : (one : Item) (ts rest : Tokens) → Stands (about_item at one) (suc depth) ts rest → IsRead (suc depth) (item_by at within) one ts rest
   item_by_complete one ts rest s =
       let p = item_parts at one depth ts rest (s.0, s.1) in
       let front = kind_front at one.kind depth p.mid rest p.kind in
@@ -540,17 +534,3 @@ module _ (heads : HeadsComplete) (at : Site) (depth : ℕ) (within : ItemWithin)
       let k = kind_complete one.kind p.mid rest p.kind in
       let v = vis_complete one.vis depth p.seen p.mid p.vis p.good (vis_may one.vis p.mid front.vis front.paren) in
       (suc k.0, omega (arith, k.1), item_made one k.0 ts p.seen p.mid rest (attributes_complete false one.attrs depth ts p.seen p.attrs begins.1) v k.2 p.may)
-
--- What is proved of expressions: what stands there free is read.
-abbrev pub ValuesComplete : Type 0
-ValuesComplete = (x : Expr) (depth budget : ℕ) (ts rest : Tokens) → depth ≤ budget → Spells (about_expr x).form depth ts rest
-    → placed (about_expr x) FREE ≡ true → follows (about_expr x) FREE rest ≡ true → IsRead depth (expr_at FREE budget) x ts rest
-
-pub item_complete : HeadsComplete → ValuesComplete → (at : Site) (depth budget : ℕ) → depth ≤ budget → Complete (about_item at) depth (item_at at budget)
-unfolding item_at
-item_complete heads values at zero budget h one ts rest s = absurd (item_none at one ts rest s.0)
-item_complete heads values at (suc depth) zero h one ts rest s = absurd (omega arith)
-item_complete heads values at (suc depth) (suc budget) h one ts rest s =
-    item_by_complete heads at depth (record { items = λ s us. item_at s budget us; trees = use_at budget; heads = insides budget; exprs = expr_at FREE budget })
-    (insides_reads depth budget (omega arith)) (λ s. item_complete heads values s depth budget (omega arith)) (use_complete depth budget (omega arith))
-    (λ x us left s g f. values x depth budget us left (omega arith) s g f) one ts rest s

@@ -51,8 +51,8 @@ use Rattle.lay_node.proofs.reader.Use.{RenameIs}
 use Rattle.lay_node.proofs.reader.ValueHeads.{const_no_keyword, given_parts}
 use Rattle.lay_node.specs.declared.token.GivenName.TheVariants as given
 use Rattle.lay_node.specs.declared.heads.ValueHead.TheVariants as value
-use Rattle.lay_tree.specs.reader.Item.{ItemLead, OfAlias, OfCall, OfEnum, OfExternCrate, OfForeign, OfFunction, OfImpl, OfImport, OfModule, OfRules, OfStruct, OfTrait, OfUnion, OfValue, begins_function, begins_rules, begins_union, item_lead}
 use Rattle.lay_tree.specs.nodes.Item.{foreign_abi}
+use Rattle.lay_tree.specs.reader.ItemLeads.{ItemLead, OfAlias, OfCall, OfEnum, OfExternCrate, OfForeign, OfFunction, OfImpl, OfImport, OfModule, OfRules, OfStruct, OfTrait, OfUnion, OfValue, begins_function, begins_rules, begins_union, item_lead}
 
 -- What is proved of the heads: what stands there is read.
 pub record HeadsComplete : Type 0 where

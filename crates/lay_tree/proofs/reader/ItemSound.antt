@@ -1,20 +1,20 @@
 -- What an item is: what is read is spelled, kind by kind.
-use Rattle.std.proofs.Common.{◌≡◌, ℕ, ◌≤◌, max, true, ◌&&◌, List, [], ◌∷◌, map, codes, Option, Some, None, inl, inr, refl, sym, subst, arith, drop, is_some}
+use Rattle.std.proofs.Common.{◌≡◌, ℕ, ◌≤◌, max, true, ◌&&◌, List, [], ◌∷◌, map, codes, Option, option_map, Some, None, inl, inr, refl, sym, subst, arith, drop, is_some}
 use Rattle.std.proofs.lemmas.Bool.{and_from}
 use Rattle.lay_piece.specs.declared.kind.Kind.TheVariants.{Punct}
-use Rattle.lay_form.specs.Form.{Blank, Fixed, Form, Done, Piece, Part, keyword, Operator}
-use Rattle.lay_form.specs.Notation.{I0, piece}
-use Rattle.lay_form.specs.Spelled.{AreBits, IsOne, Spells, IsOperator}
+use Rattle.lay_form.specs.Form.{Blank, Fixed, Form, Done, Piece, Part, keyword}
+use Rattle.lay_form.specs.Notation.{I0}
+use Rattle.lay_form.specs.Spelled.{AreBits, Spells}
 use Rattle.lay_form.proofs.FormLaws.{is_end}
 use Rattle.lay_form.proofs.FormLaws.{deeper as raise}
 use Rattle.lay_node.specs.Ahead.{Tokens, first, tail, is_keyword, is_mark}
 use Rattle.lay_node.specs.Words.{is_string}
 use Rattle.lay_node.specs.nodes.Attr.{are_attrs}
-use Rattle.lay_node.specs.nodes.Functions.{about_fn_head, fn_head_form, is_fn_head}
+use Rattle.lay_node.specs.nodes.Functions.{about_fn_head}
 use Rattle.lay_node.specs.nodes.Heads.{HeadFacts, about_alias, about_enum, about_extern_crate, about_impl_head, about_struct, about_union, about_value_head, headed, impl_head_form, is_impl_head, is_trait_head, is_value_head, leads, trait_head_form, unsafe_form, value_head_form}
 use Rattle.lay_node.specs.nodes.Types.{is_abi_name}
 use Rattle.lay_node.specs.nodes.Use.{about_use}
-use Rattle.lay_node.specs.nodes.Where.{are_predicates, predicate_form, wheres_before_body, wheres_before_semicolon}
+use Rattle.lay_node.specs.nodes.Where.{are_predicates, wheres_before_body}
 use Rattle.lay_node.specs.reader.Functions.{fn_head}
 use Rattle.lay_node.specs.reader.Heads.{alias, enum, extern_crate, impl_head, semicolon, struct, trait_head, union, unsafe_flag, value_head}
 use Rattle.lay_node.specs.reader.Exact.{InText}
@@ -37,22 +37,26 @@ use Rattle.lay_node.proofs.Fronts.{keyword_one, mark_passed_is, mark_one, texts_
 use Rattle.lay_node.proofs.Parts.{bit_piece, leaf_spelled, word_kind}
 use Rattle.lay_node.proofs.Steps.{bind_some, chosen, same_some}
 use Rattle.lay_node.proofs.reader.Exact.{Sound}
-use Rattle.lay_node.proofs.reader.HeadParts.{semicolon_wheres, wheres_held}
+use Rattle.lay_node.proofs.reader.HeadParts.{wheres_held}
 use Rattle.lay_node.proofs.reader.HeadsLevel.{SoundHead, StoodFree}
 use Rattle.lay_node.proofs.reader.Loops.{SoundStep}
 use Rattle.lay_node.proofs.reader.PatternsSoundLevel.{SoundPatWithin}
-use Rattle.lay_node.proofs.reader.TypesSoundParts.{Out, bit_texts, flag_leads, flag_texts, if_there_sound, keyword_passed_is, literal_sound, if_read_sound}
+use Rattle.lay_node.proofs.reader.TypesSoundParts.{Out, bit_texts, flag_leads, flag_texts, if_there_sound, keyword_passed_is, literal_sound}
 use Rattle.lay_node.proofs.reader.Words.{name_sound}
+use Rattle.lay_tree.specs.nodes.Code.{about_expr, about_item, told_of_item, told_of_kind}
+use Rattle.lay_tree.specs.nodes.CodeFacts.{KindFacts}
+use Rattle.lay_tree.specs.nodes.Exprs.{value_form, value_placed}
 use Rattle.lay_tree.specs.nodes.Item as node
-use Rattle.lay_tree.specs.nodes.Item.{KindFacts, about_file_module, about_foreign, about_function, about_impl, about_import, about_item, about_module, about_trait, about_value, by_site, foreign_abi, in_module, in_modules, items_good, may_lack_body, may_lack_value, module_head, told_of_item, told_of_kind, value_form, value_placed, may_be_valued}
+use Rattle.lay_tree.specs.nodes.Item.{about_file_module, about_foreign, about_impl, about_import, about_module, about_trait, about_value, by_site, foreign_abi, in_module, in_modules, items_good, module_head, may_be_valued}
 use Rattle.lay_tree.specs.nodes.Places.{FREE}
-use Rattle.lay_tree.specs.reader.Item.{ItemWithin, foreign_by, function_by, impl_by, import_by, item_body, module_by, trait_by, value_by}
+use Rattle.lay_tree.specs.reader.Item.{ItemWithin, foreign_by, impl_by, import_by, item_body, module_by, trait_by, value_by}
 use Rattle.lay_tree.specs.declared.exprs.Expr.{Expr}
 use Rattle.lay_tree.specs.declared.item.Item.{Item}
 use Rattle.lay_tree.specs.declared.item.ItemKind.{ItemKind}
 use Rattle.lay_tree.specs.declared.item.ItemKind.TheVariants as item
 use Rattle.lay_tree.proofs.nodes.ItemLaws as laws
-use Rattle.lay_tree.proofs.reader.ExprSoundLevel.{ExprHeld}
+use Rattle.lay_tree.proofs.reader.BlocksSound as exprs
+use Rattle.lay_tree.proofs.reader.ExprSoundLevel.{SoundExprWithin}
 use Rattle.lay_tree.proofs.reader.ItemBodies.{body_sound}
 use Rattle.lay_token.specs.Operators.{is_op}
 
@@ -89,16 +93,10 @@ pub kind_told : (at : Site) (depth : ℕ) (k : ItemKind) (K : KindFacts) (ts res
 kind_told at depth k K ts rest e s g =
     subst (λ (F : KindFacts). Spells (alone F) depth ts rest × (F.good at ≡ true)) (sym e) (s, g)
 
--- a head, a where clause and a `;`
-ended : (head : Form) (w : Wheres) (n m : ℕ) (ts at mid rest : Tokens) → Spells head n ts at → Spells (wheres_before_body w) m at mid
-    → IsOne Punct (codes ";") mid rest → Spells (I0 head (Part (wheres_before_semicolon w) (piece (Fixed Punct (codes ";") ∷ [])))) (max n m) ts rest
-ended head w n m ts at mid rest s u c =
-    let fs = map predicate_form w.predicates in
-    let where_clause = semicolon_wheres fs m at mid u in (
-      at,
-      raise head n (max n m) ts at (omega arith) s,
-      (mid, raise (wheres_before_semicolon w) m (max n m) at mid (omega arith) where_clause, bit_piece (Fixed Punct (codes ";")) (max n m) mid rest c),
-    )
+-- What is told of what may be left out is there where that is.
+pub some_told : {A B : Type 0} (told : A → B) (x : Option A) → is_some x ≡ is_some (option_map told x)
+some_told told None = refl
+some_told told (Some x) = refl
 
 module _ (heads : HeadsSound) (at : Site) (budget : ℕ) (within : ItemWithin) (inner : SoundPatWithin budget within.heads)
     (items : (s : Site) → Sound (about_item s) budget (within.items s)) (trees : Sound about_use budget within.trees) where
@@ -168,55 +166,20 @@ module _ (heads : HeadsSound) (at : Site) (budget : ℕ) (within : ItemWithin) (
         bit_texts (Fixed Punct (codes ";")) u.0.1 e.0 mark t2,
       )
 
-  pub function_sound : may_lack_body at ≡ true → SoundStep (function_by at within) (KindHeld at budget)
-  unfolding function_by
-  function_sound m ts x rest t h =
-      let f = bind_some (fn_head at within.heads ts) _ _ h in
-      let w = bind_some (wheres within.heads.kinds f.0.1) _ _ f.2 in
-      let e = bind_some (semicolon w.0.1) _ _ w.2 in
-      let s = heads.functions at budget within.heads inner ts f.0.0 f.0.1 t f.1 in
-      let k = s.0 in
-      let u = wheres_held budget within.heads.kinds inner.kinds f.0.1 w.0.0 w.0.1 s.1 w.1 in
-      let v = u.0 in
-      let mark = mark_passed_is (codes ";") w.0.1 e.0 e.1 in
-      let head = f.0.0.0 in
-      let clause = w.0.0.0.0 in
-      let need = max f.0.0.1 w.0.0.1 in
-      let spelled = ended (fn_head_form head) clause f.0.0.1 w.0.0.1 ts f.0.1 w.0.1 e.0 k.1 v.1 mark in
-      let good = and_from (is_fn_head at head && are_predicates clause) (may_lack_body at) (and_from (is_fn_head at head) (are_predicates clause) k.2 v.2) m in
-      same_some (Out (KindHeld at budget) ts) ((item.Function head clause, need), e.0) (x, rest) e.2 (
-        (omega (arith, k.0, v.0), kind_told at need (item.Function head clause) (by_site (λ s. about_function s head clause)) ts e.0 (laws.function_is head clause) spelled good),
-        bit_texts (Fixed Punct (codes ";")) w.0.1 e.0 mark u.1,
-      )
-
-  -- the value of a constant or of a static, if it has one
-  abbrev ValueHeld : Option Expr × ℕ → Tokens → Tokens → Type 0
-  ValueHeld x ts rest = (x.1 ≤ budget) × Spells (value_form x.0) x.1 ts rest × (value_placed x.0 ≡ true)
-
-  value_if_sound : SoundStep within.exprs (ExprHeld FREE budget) → (ts : Tokens) (x : Option Expr × ℕ) (rest : Tokens) → InText ts
-      → if_read (is_op (codes "=") ts) (λ us. within.exprs (drop 1 us)) ts ≡ Some (x, rest) → Out ValueHeld ts (x, rest)
-  value_if_sound values ts x rest t h =
-      if_read_sound ValueHeld (λ us. within.exprs (drop 1 us)) (is_op (codes "=") ts) ts
-      (λ b y mid e.
-      let at = drop 1 ts in
-      let o : IsOperator (codes "=") ts at = (b, refl) in
-      let s = values at y mid (bit_texts (Operator (codes "=")) ts at o t) e in
-      ((s.0.0, (at, (ts, refl, (at, o, (at, refl, refl))), (mid, s.0.1, refl)), s.0.2), s.1))
-      (λ b. (omega arith, refl, refl)) t x rest h
-
-  pub value_sound : SoundStep within.exprs (ExprHeld FREE budget) → SoundStep (value_by at within) (KindHeld at budget)
+  pub value_sound : SoundExprWithin budget within.code → SoundStep (value_by at within) (KindHeld at budget)
   unfolding value_by
-  value_sound values ts x rest t h =
+  value_sound code ts x rest t h =
       let v = bind_some (value_head within.heads.kinds ts) _ _ h in
-      let w = bind_some (if_read (is_op (codes "=") v.0.1) (λ us. within.exprs (drop 1 us)) v.0.1) _ _ v.2 in
+      let w = bind_some (if_read (is_op (codes "=") v.0.1) (λ us. within.code.exprs FREE (drop 1 us)) v.0.1) _ _ v.2 in
       let e = bind_some (semicolon w.0.1) _ _ w.2 in
       let s = heads.values budget within.heads inner ts v.0.0 v.0.1 t v.1 in
-      let u = value_if_sound values v.0.1 w.0.0 w.0.1 s.1 w.1 in
+      let u = exprs.value_sound budget within.code code v.0.1 w.0.0 w.0.1 s.1 w.1 in
       let k = s.0 in
       let q = u.0 in
       let mark = mark_passed_is (codes ";") w.0.1 e.0 e.1 in
       let head = v.0.0.0 in
-      let value = w.0.0.0 in
+      let given = w.0.0.0 in
+      let value = option_map about_expr given in
       let need = max v.0.0.1 w.0.0.1 in
       let inside : Spells (Part (value_head_form head) (value_form value)) need ts w.0.1 = (
         v.0.1,
@@ -225,12 +188,13 @@ module _ (heads : HeadsSound) (at : Site) (budget : ℕ) (within : ItemWithin) (
       ) in
       let spelled : Spells (alone (by_site (λ s. about_value s head value))) need ts e.0 =
       (w.0.1, inside, bit_piece (Fixed Punct (codes ";")) need w.0.1 e.0 mark) in
-      elim (chosen (may_be_valued at head (is_some value)) (Some ((item.Value head value, need), e.0)) None (Some (x, rest)) e.2) [
+      elim (chosen (may_be_valued at head (is_some given)) (Some ((item.Value head given, need), e.0)) None (Some (x, rest)) e.2) [
         | inl g ↦
+            let valued = subst (λ b. may_be_valued at head b ≡ true) (some_told about_expr given) g.0 in
             let good = and_from (is_value_head head && may_be_valued at head (is_some value)) (value_placed value)
-            (and_from (is_value_head head) (may_be_valued at head (is_some value)) k.2 g.0) q.2 in
-            same_some (Out (KindHeld at budget) ts) ((item.Value head value, need), e.0) (x, rest) g.1 (
-              (omega (arith, k.0, q.0), kind_told at need (item.Value head value) (by_site (λ s. about_value s head value)) ts e.0 (laws.value_is head value) spelled good),
+            (and_from (is_value_head head) (may_be_valued at head (is_some value)) k.2 valued) q.2 in
+            same_some (Out (KindHeld at budget) ts) ((item.Value head given, need), e.0) (x, rest) g.1 (
+              (omega (arith, k.0, q.0), kind_told at need (item.Value head given) (by_site (λ s. about_value s head value)) ts e.0 (laws.value_is head given) spelled good),
               bit_texts (Fixed Punct (codes ";")) w.0.1 e.0 mark u.1,
             )
         | inr g ↦ absurd (cc)

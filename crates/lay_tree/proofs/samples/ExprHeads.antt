@@ -1,5 +1,5 @@
 -- Samples of expressions: what is read.
-use Rattle.std.proofs.Common.{◌≡◌, ℕ, Bool, true, false, List, [], ◌∷◌, Some, None, codes, refl, ◌∙◌}
+use Rattle.std.proofs.Common.{◌≡◌, ℕ, Bool, true, false, List, [], ◌∷◌, Some, None, codes, refl, ap, ◌∙◌}
 use Rattle.std.specs.Str.{chars}
 use Rattle.lay_piece.specs.declared.kind.Delim.TheVariants.{Paren, Bracket, Brace}
 use Rattle.lay_piece.specs.declared.kind.Kind.{Kind}
@@ -9,6 +9,7 @@ use Rattle.lay_node.specs.Begins.{lead_at}
 use Rattle.lay_node.specs.reader.Attr.{attributes}
 use Rattle.lay_node.specs.reader.Call.{call}
 use Rattle.lay_node.specs.reader.Loops.{repeat_from, repeat, elements_from, elements, open_elements_from, open_elements}
+use Rattle.lay_node.specs.reader.Patterns.{pat_at}
 use Rattle.lay_node.specs.reader.SimplePath.{simple_path}
 use Rattle.lay_node.specs.reader.Tokens.{run, tokens_of, group}
 use Rattle.lay_node.specs.reader.Types.{within, path_type, path, chain, segment, args_by, angle, qualified, bracket_type, lifetime, literal, one_arg}
@@ -21,10 +22,13 @@ use Rattle.lay_node.proofs.nodes.TypesLaws as types
 use Rattle.lay_node.proofs.samples.Tokens as list
 use Rattle.lay_tree.specs.Operands.{expr_lead_at}
 use Rattle.lay_tree.specs.Operators.{binary, prefix, strength, op_text}
-use Rattle.lay_tree.specs.nodes.Exprs.{about_expr, ExprFacts, stands, root_follows}
-use Rattle.std.specs.Prelude.{suc, nat_le, ◌&&◌, ◌==◌, drop, length}
+use Rattle.lay_tree.specs.nodes.Code.{about_expr}
+use Rattle.lay_tree.specs.nodes.Exprs.{ExprFacts, stands, root_follows}
+use Rattle.std.specs.Prelude.{zero, suc, nat_le, ◌&&◌, ◌==◌, drop, length}
 use Rattle.lay_tree.specs.nodes.Places.{FREE, plain, statement}
-use Rattle.lay_tree.specs.reader.Exprs.{assign_expr, base, bracket_expr, break_expr, cast_expr, chain_expr, climb, continue_expr, dot_step, is_ended, expr_at, expr_by, expr_in, one_field, one_step, one_type, operand, operands, paren_expr, path_expr, postfix_expr, range_expr, return_expr, struct_expr, unary_expr, ExprWithin, head_by, climb_by, left_place, stage, operand_ends}
+use Rattle.lay_tree.specs.reader.Code.{expr_at, code_in}
+use Rattle.lay_tree.specs.reader.Exprs.{assign_expr, base, bracket_expr, break_expr, cast_expr, chain_expr, climb, continue_expr, dot_step, is_ended, expr_by, one_field, one_step, one_type, operand, operands, paren_expr, path_expr, postfix_expr, range_expr, return_expr, struct_expr, unary_expr, head_by, climb_by, left_place, stage, operand_ends}
+use Rattle.lay_tree.specs.reader.Within.{ExprWithin}
 use Rattle.lay_tree.specs.declared.exprs.Place.{Place}
 use Rattle.lay_piece.specs.declared.kind.Kind.TheVariants as kind
 use Rattle.lay_tree.proofs.samples.Exprs.{called, float, float_is, int, int_is, method, name, name_is, named_type, tick_a}
@@ -59,22 +63,56 @@ beginning_part = record { level = 0; no_struct = false; start = start.Part; op_a
 -- ---- one step of reading at a time
 
 abbrev pub at_level : ℕ → ExprWithin
-at_level n = record { exprs = expr_in n; kinds = within n }
+at_level n = record {
+  exprs = λ place ts. expr_at place n ts;
+  kinds = within n;
+  pats = λ place ts. pat_at place n ts;
+  blocks = λ ts. (code_in n).blocks ts;
+  items = λ at ts. (code_in n).items at ts;
+}
+
+level_is : (n : ℕ) → code_in n ≡ at_level n
+unfolding code_in
+level_is zero = refl
+level_is (suc n) = refl
+
+-- what is read at a place is read so of what is one level deeper
+pub expr_there : (n : ℕ) (place : Place) (ts : Tokens) → expr_at place (suc n) ts ≡ expr_by (at_level n) (suc n) place ts
+unfolding code_in
+expr_there n place ts = ap (λ (w : ExprWithin). expr_by w (suc n) place ts) (level_is n)
+
+read_so : (n : ℕ) (place : Place) (ts : Tokens) (h x : Expr × ℕ) (us rest : Tokens) (F : ExprFacts)
+    → head_by (at_level n) place.no_struct (expr_lead_at ts) ts ≡ Some (h, us)
+    → climb_by (at_level n) place h us ≡ Some (x, rest) → about_expr x.0 ≡ F
+    → (stands F place && root_follows F place rest && nat_le x.1 (suc n)) ≡ true → expr_by (at_level n) (suc n) place ts ≡ Some (x, rest)
+unfolding expr_by
+read_so n place ts h x us rest F began climbed e fits = rw (began, climbed, e, fits) refl
+
+refused_so : (n : ℕ) (place : Place) (ts : Tokens) (h : Expr × ℕ) (us : Tokens)
+    → head_by (at_level n) place.no_struct (expr_lead_at ts) ts ≡ Some (h, us) → climb_by (at_level n) place h us ≡ None
+    → expr_by (at_level n) (suc n) place ts ≡ None
+unfolding expr_by
+refused_so n place ts h us began climbed = rw (began, climbed) refl
+
+lost_so : (n : ℕ) (place : Place) (ts : Tokens) (h x : Expr × ℕ) (us rest : Tokens) (F : ExprFacts)
+    → head_by (at_level n) place.no_struct (expr_lead_at ts) ts ≡ Some (h, us)
+    → climb_by (at_level n) place h us ≡ Some (x, rest) → about_expr x.0 ≡ F
+    → (stands F place && root_follows F place rest && nat_le x.1 (suc n)) ≡ false → expr_by (at_level n) (suc n) place ts ≡ None
+unfolding expr_by
+lost_so n place ts h x us rest F began climbed e fits = rw (began, climbed, e, fits) refl
 
 -- what begins an expression, what goes on with it, and what it is then, of which is told that it stands in its place
 pub reads : (n : ℕ) (place : Place) (ts : Tokens) (h x : Expr × ℕ) (us rest : Tokens) (F : ExprFacts)
     → head_by (at_level n) place.no_struct (expr_lead_at ts) ts ≡ Some (h, us)
     → climb_by (at_level n) place h us ≡ Some (x, rest) → about_expr x.0 ≡ F
     → (stands F place && root_follows F place rest && nat_le x.1 (suc n)) ≡ true → expr_at place (suc n) ts ≡ Some (x, rest)
-unfolding expr_in expr_by
-reads n place ts h x us rest F began climbed e fits = rw (began, climbed, e, fits) refl
+reads n place ts h x us rest F began climbed e fits = expr_there n place ts ∙ read_so n place ts h x us rest F began climbed e fits
 
 -- What begins it is read, and what goes on with it isn't.
 pub refuses : (n : ℕ) (place : Place) (ts : Tokens) (h : Expr × ℕ) (us : Tokens)
     → head_by (at_level n) place.no_struct (expr_lead_at ts) ts ≡ Some (h, us) → climb_by (at_level n) place h us ≡ None
     → expr_at place (suc n) ts ≡ None
-unfolding expr_in expr_by
-refuses n place ts h us began climbed = rw (began, climbed) refl
+refuses n place ts h us began climbed = expr_there n place ts ∙ refused_so n place ts h us began climbed
 
 -- an operator of this level behind what was read
 pub climbs : (n : ℕ) (place : Place) (level : ℕ) (lhs x : Expr × ℕ) (ts us : Tokens) (F : ExprFacts)
@@ -101,13 +139,13 @@ stops n place level lhs ts F there e stood = rw (there, e, stood) refl
 
 -- an operator and its operand, which may stand before what follows, or not
 pub operand_read : (n level : ℕ) (no_struct : Bool) (o : Op) (y : Expr × ℕ) (ts us : Tokens) (F : ExprFacts) → binary ts ≡ Some o
-    → expr_in n (plain (suc level) no_struct) (drop (length (op_text o)) ts) ≡ Some (y, us) → about_expr y.0 ≡ F
+    → expr_at (plain (suc level) no_struct) n (drop (length (op_text o)) ts) ≡ Some (y, us) → about_expr y.0 ≡ F
     → operand_ends level no_struct F us ≡ true → operand (at_level n) level no_struct ts ≡ Some (((o, y.0), y.1), us)
 unfolding operand
 operand_read n level no_struct o y ts us F which read e ends = rw (which, read, e, ends) refl
 
 pub operand_refused : (n level : ℕ) (no_struct : Bool) (o : Op) (y : Expr × ℕ) (ts us : Tokens) (F : ExprFacts) → binary ts ≡ Some o
-    → expr_in n (plain (suc level) no_struct) (drop (length (op_text o)) ts) ≡ Some (y, us) → about_expr y.0 ≡ F
+    → expr_at (plain (suc level) no_struct) n (drop (length (op_text o)) ts) ≡ Some (y, us) → about_expr y.0 ≡ F
     → operand_ends level no_struct F us ≡ false → operand (at_level n) level no_struct ts ≡ None
 unfolding operand
 operand_refused n level no_struct o y ts us F which read e ends = rw (which, read, e, ends) refl
@@ -117,8 +155,7 @@ pub not_there : (n : ℕ) (place : Place) (ts : Tokens) (h x : Expr × ℕ) (us 
     → head_by (at_level n) place.no_struct (expr_lead_at ts) ts ≡ Some (h, us)
     → climb_by (at_level n) place h us ≡ Some (x, rest) → about_expr x.0 ≡ F
     → (stands F place && root_follows F place rest && nat_le x.1 (suc n)) ≡ false → expr_at place (suc n) ts ≡ None
-unfolding expr_in expr_by
-not_there n place ts h x us rest F began climbed e fits = rw (began, climbed, e, fits) refl
+not_there n place ts h x us rest F began climbed e fits = expr_there n place ts ∙ lost_so n place ts h x us rest F began climbed e fits
 
 -- What was read doesn't end the statement that it begins.
 pub goes_on : (n : ℕ) (place : Place) (h : Expr × ℕ) (us : Tokens) (F : ExprFacts) → about_expr h.0 ≡ F → is_ended place F us ≡ false
@@ -135,7 +172,7 @@ read_sum_begun = refl
 
 read_sum_staged_operand_1 : expr_at (plain 10 false) 1 (word b ∷ mark (codes "-") ∷ word c ∷ [])
     ≡ Some ((name b, 1), mark (codes "-") ∷ word c ∷ [])
-unfolding expr_in expr_by expr_lead_at binary strength climb op_at path_expr simple_path path chain segment args_by repeat repeat_from word_reading
+unfolding code_in expr_by expr_lead_at binary strength climb op_at path_expr simple_path path chain segment args_by repeat repeat_from word_reading
 read_sum_staged_operand_1 = rw (name_is b) refl
 
 read_sum_staged_with_operator_1 : operand (at_level 1) 9 false (mark (codes "+") ∷ word b ∷ mark (codes "-") ∷ word c ∷ [])
@@ -145,7 +182,7 @@ read_sum_staged_with_operator_1 = operand_read 1 9 false op.Add (name b, 1) (mar
     []) (mark (codes "-") ∷ word c ∷ []) _ refl read_sum_staged_operand_1 (name_is b) refl
 
 read_sum_staged_operand_2 : expr_at (plain 10 false) 1 (word c ∷ []) ≡ Some ((name c, 1), [])
-unfolding expr_in expr_by expr_lead_at binary strength climb op_at path_expr simple_path path chain segment args_by repeat repeat_from word_reading
+unfolding code_in expr_by expr_lead_at binary strength climb op_at path_expr simple_path path chain segment args_by repeat repeat_from word_reading
 read_sum_staged_operand_2 = rw (name_is c) refl
 
 read_sum_staged_with_operator_2 : operand (at_level 1) 9 false (mark (codes "-") ∷ word c ∷ []) ≡ Some (((op.Sub, name c), 1), [])
@@ -183,7 +220,7 @@ unfolding expr_lead_at op_at path_expr simple_path path chain segment args_by re
 read_product_in_sum_staged_operand_begun = refl
 
 read_product_in_sum_staged_operand_staged_operand : expr_at (plain 11 false) 1 (word c ∷ []) ≡ Some ((name c, 1), [])
-unfolding expr_in expr_by expr_lead_at binary strength climb op_at path_expr simple_path path chain segment args_by repeat repeat_from word_reading
+unfolding code_in expr_by expr_lead_at binary strength climb op_at path_expr simple_path path chain segment args_by repeat repeat_from word_reading
 read_product_in_sum_staged_operand_staged_operand = rw (name_is c) refl
 
 read_product_in_sum_staged_operand_staged_with_operator : operand (at_level 1) 10 false (mark (codes "*") ∷ word c ∷ [])
@@ -247,7 +284,7 @@ unfolding expr_lead_at op_at path_expr simple_path path chain segment args_by re
 read_negative_operand_begun = refl
 
 read_negative_operand_staged_operand_begun_inside : expr_at (plain 12 false) 1 (word b ∷ []) ≡ Some ((name b, 1), [])
-unfolding expr_in expr_by expr_lead_at binary strength climb op_at path_expr simple_path path chain segment args_by repeat repeat_from word_reading
+unfolding code_in expr_by expr_lead_at binary strength climb op_at path_expr simple_path path chain segment args_by repeat repeat_from word_reading
 read_negative_operand_staged_operand_begun_inside = rw (name_is b) refl
 
 read_negative_operand_staged_operand_begun : head_by (at_level 1) false (expr_lead_at (mark (codes "-") ∷ word b ∷ [])) (mark
@@ -300,7 +337,7 @@ unfolding expr_lead_at op_at path_expr simple_path path chain segment args_by re
 read_less_begun = refl
 
 read_less_staged_operand : expr_at (plain 5 false) 1 (word b ∷ []) ≡ Some ((name b, 1), [])
-unfolding expr_in expr_by expr_lead_at binary strength climb op_at path_expr simple_path path chain segment args_by repeat repeat_from word_reading
+unfolding code_in expr_by expr_lead_at binary strength climb op_at path_expr simple_path path chain segment args_by repeat repeat_from word_reading
 read_less_staged_operand = rw (name_is b) refl
 
 read_less_staged_with_operator : operand (at_level 1) 4 false (mark (codes "<") ∷ word b ∷ []) ≡ Some (((op.Less, name b), 1), [])
@@ -329,7 +366,7 @@ unfolding expr_lead_at op_at path_expr simple_path path chain segment args_by re
 read_and_begun = refl
 
 read_and_staged_operand : expr_at (plain 4 false) 1 (word b ∷ []) ≡ Some ((name b, 1), [])
-unfolding expr_in expr_by expr_lead_at binary strength climb op_at path_expr simple_path path chain segment args_by repeat repeat_from word_reading
+unfolding code_in expr_by expr_lead_at binary strength climb op_at path_expr simple_path path chain segment args_by repeat repeat_from word_reading
 read_and_staged_operand = rw (name_is b) refl
 
 read_and_staged_with_operator : operand (at_level 1) 3 false (joint (codes "&") ∷ mark (codes "&") ∷ word b ∷ [])
@@ -364,7 +401,7 @@ read_assignments_begun = refl
 
 read_assignments_staged_operand_1 : expr_at (plain 1 false) 1 (word b ∷ mark (codes "=") ∷ word c ∷ [])
     ≡ Some ((name b, 1), mark (codes "=") ∷ word c ∷ [])
-unfolding expr_in expr_by expr_lead_at binary strength climb op_at path_expr simple_path path chain segment args_by repeat repeat_from word_reading
+unfolding code_in expr_by expr_lead_at binary strength climb op_at path_expr simple_path path chain segment args_by repeat repeat_from word_reading
 read_assignments_staged_operand_1 = rw (name_is b) refl
 
 read_assignments_staged_with_operator_1 : operand (at_level 1) 0 false (mark (codes "=") ∷ word b ∷ mark (codes "=") ∷ word c ∷ [])
@@ -374,7 +411,7 @@ read_assignments_staged_with_operator_1 = operand_read 1 0 false op.Set (name b,
     word c ∷ []) (mark (codes "=") ∷ word c ∷ []) _ refl read_assignments_staged_operand_1 (name_is b) refl
 
 read_assignments_staged_operand_2 : expr_at (plain 1 false) 1 (word c ∷ []) ≡ Some ((name c, 1), [])
-unfolding expr_in expr_by expr_lead_at binary strength climb op_at path_expr simple_path path chain segment args_by repeat repeat_from word_reading
+unfolding code_in expr_by expr_lead_at binary strength climb op_at path_expr simple_path path chain segment args_by repeat repeat_from word_reading
 read_assignments_staged_operand_2 = rw (name_is c) refl
 
 read_assignments_staged_with_operator_2 : operand (at_level 1) 0 false (mark (codes "=") ∷ word c ∷ [])
@@ -442,7 +479,7 @@ unfolding cast_expr one_type repeat repeat_from within lead_at path_type simple_
 read_cast_before_plus_staged_1 = refl
 
 read_cast_before_plus_staged_2_operand : expr_at (plain 10 false) 2 (word b ∷ []) ≡ Some ((name b, 1), [])
-unfolding expr_in expr_by expr_lead_at binary strength climb op_at path_expr simple_path path chain segment args_by repeat repeat_from word_reading
+unfolding code_in expr_by expr_lead_at binary strength climb op_at path_expr simple_path path chain segment args_by repeat repeat_from word_reading
 read_cast_before_plus_staged_2_operand = rw (name_is b) refl
 
 read_cast_before_plus_staged_2_with_operator : operand (at_level 2) 9 false (mark (codes "+") ∷ word b ∷ [])
@@ -508,7 +545,7 @@ unfolding expr_lead_at op_at paren_expr
 read_paren_before_less_begun = rw (read_paren_before_less_begun_inside) refl
 
 read_paren_before_less_staged_operand : expr_at (plain 5 false) 3 (word b ∷ []) ≡ Some ((name b, 1), [])
-unfolding expr_in expr_by expr_lead_at binary strength climb op_at path_expr simple_path path chain segment args_by repeat repeat_from word_reading
+unfolding code_in expr_by expr_lead_at binary strength climb op_at path_expr simple_path path chain segment args_by repeat repeat_from word_reading
 read_paren_before_less_staged_operand = rw (name_is b) refl
 
 read_paren_before_less_staged_with_operator : operand (at_level 3) 4 false (mark (codes "<") ∷ word b ∷ [])
@@ -555,7 +592,7 @@ unfolding cast_expr one_type repeat repeat_from within lead_at path_type simple_
 read_array_before_less_staged_1 = refl
 
 read_array_before_less_staged_2_operand : expr_at (plain 5 false) 3 (word b ∷ []) ≡ Some ((name b, 1), [])
-unfolding expr_in expr_by expr_lead_at binary strength climb op_at path_expr simple_path path chain segment args_by repeat repeat_from word_reading
+unfolding code_in expr_by expr_lead_at binary strength climb op_at path_expr simple_path path chain segment args_by repeat repeat_from word_reading
 read_array_before_less_staged_2_operand = rw (name_is b) refl
 
 read_array_before_less_staged_2_with_operator : operand (at_level 3) 4 false (mark (codes "<") ∷ word b ∷ [])
@@ -611,7 +648,7 @@ not_less_twice_begun = refl
 
 not_less_twice_operand : expr_at (plain 5 false) 3 (word b ∷ mark (codes "<") ∷ word c ∷ [])
     ≡ Some ((name b, 1), mark (codes "<") ∷ word c ∷ [])
-unfolding expr_in expr_by expr_lead_at binary strength climb op_at path_expr simple_path path chain segment args_by repeat repeat_from word_reading
+unfolding code_in expr_by expr_lead_at binary strength climb op_at path_expr simple_path path chain segment args_by repeat repeat_from word_reading
 not_less_twice_operand = rw (name_is b) refl
 
 not_less_twice_with_operator : operand (at_level 3) 4 false (mark (codes "<") ∷ word b ∷ mark (codes "<") ∷ word c ∷ []) ≡ None
@@ -681,7 +718,7 @@ unfolding expr_lead_at op_at path_expr simple_path path chain segment args_by re
 read_return_of_sum_begun_inside_begun = refl
 
 read_return_of_sum_begun_inside_staged_operand : expr_at (plain 10 false) 1 (word b ∷ []) ≡ Some ((name b, 1), [])
-unfolding expr_in expr_by expr_lead_at binary strength climb op_at path_expr simple_path path chain segment args_by repeat repeat_from word_reading
+unfolding code_in expr_by expr_lead_at binary strength climb op_at path_expr simple_path path chain segment args_by repeat repeat_from word_reading
 read_return_of_sum_begun_inside_staged_operand = rw (name_is b) refl
 
 read_return_of_sum_begun_inside_staged_with_operator : operand (at_level 1) 9 false (mark (codes "+") ∷ word b ∷ [])
@@ -730,7 +767,7 @@ unfolding expr_lead_at op_at path_expr simple_path path chain segment args_by re
 read_return_in_sum_begun = refl
 
 read_return_in_sum_staged_operand : expr_at (plain 10 false) 1 (word (codes "return") ∷ []) ≡ Some ((expr.Return None, 1), [])
-unfolding expr_in expr_by expr_lead_at binary strength climb op_at return_expr
+unfolding code_in expr_by expr_lead_at binary strength climb op_at return_expr
 read_return_in_sum_staged_operand = rw (exprs.expr_return_is None) refl
 
 read_return_in_sum_staged_with_operator : operand (at_level 1) 9 false (mark (codes "+") ∷ word (codes "return") ∷ [])
@@ -769,7 +806,7 @@ not_return_in_sum_begun = refl
 
 not_return_in_sum_operand : expr_at (plain 10 false) 3 (word (codes "return") ∷ mark (codes "+") ∷ word b ∷ [])
     ≡ Some ((expr.Return None, 1), mark (codes "+") ∷ word b ∷ [])
-unfolding expr_in expr_by expr_lead_at binary strength climb op_at return_expr
+unfolding code_in expr_by expr_lead_at binary strength climb op_at return_expr
 not_return_in_sum_operand = rw (exprs.expr_return_is None) refl
 
 not_return_in_sum_with_operator : operand (at_level 3) 9 false (mark (codes "+") ∷ word (codes "return") ∷ mark (codes "+") ∷ word
@@ -812,7 +849,7 @@ unfolding expr_lead_at op_at path_expr simple_path path chain segment args_by re
 read_return_behind_or_begun = refl
 
 read_return_behind_or_staged_operand_begun_inside : expr_at (plain 0 false) 1 (word b ∷ []) ≡ Some ((name b, 1), [])
-unfolding expr_in expr_by expr_lead_at binary strength climb op_at path_expr simple_path path chain segment args_by repeat repeat_from word_reading
+unfolding code_in expr_by expr_lead_at binary strength climb op_at path_expr simple_path path chain segment args_by repeat repeat_from word_reading
 read_return_behind_or_staged_operand_begun_inside = rw (name_is b) refl
 
 read_return_behind_or_staged_operand_begun : head_by (at_level 1) false (expr_lead_at (word (codes "return") ∷ word b ∷ [])) (word
@@ -858,7 +895,7 @@ read_return_behind_or = reads 2 FREE (word a ∷ joint (codes "|") ∷ mark (cod
     (name_is a) refl read_return_behind_or_staged) (exprs.expr_chain_is (name a) ((op.OrOr, expr.Return (Some (name b))) ∷ [])) refl
 
 read_negative_return_begun_inside : expr_at (plain 12 false) 1 (word (codes "return") ∷ []) ≡ Some ((expr.Return None, 1), [])
-unfolding expr_in expr_by expr_lead_at binary strength climb op_at return_expr
+unfolding code_in expr_by expr_lead_at binary strength climb op_at return_expr
 read_negative_return_begun_inside = rw (exprs.expr_return_is None) refl
 
 read_negative_return_begun : head_by (at_level 1) false (expr_lead_at (mark (codes "-") ∷ word (codes "return") ∷ [])) (mark (codes
@@ -885,7 +922,7 @@ unfolding expr_lead_at op_at path_expr simple_path path chain segment args_by re
 read_range_begun = refl
 
 read_range_staged_inside : expr_at (plain 2 false) 1 (word b ∷ []) ≡ Some ((name b, 1), [])
-unfolding expr_in expr_by expr_lead_at binary strength climb op_at path_expr simple_path path chain segment args_by repeat repeat_from word_reading
+unfolding code_in expr_by expr_lead_at binary strength climb op_at path_expr simple_path path chain segment args_by repeat repeat_from word_reading
 read_range_staged_inside = rw (name_is b) refl
 
 read_range_staged : stage (at_level 1) 1 false (name a, 1) (joint (codes ".") ∷ mark (codes ".") ∷ word b ∷ [])
@@ -927,7 +964,7 @@ read_endless = reads 1 FREE (word a ∷ joint (codes ".") ∷ mark (codes ".") �
     Paren ∷ []) _ refl (name_is a) refl read_endless_staged) (exprs.expr_range_is (Some (name a)) false None) refl
 
 read_range_to_begun_inside : expr_at (plain 2 false) 1 (word b ∷ []) ≡ Some ((name b, 1), [])
-unfolding expr_in expr_by expr_lead_at binary strength climb op_at path_expr simple_path path chain segment args_by repeat repeat_from word_reading
+unfolding code_in expr_by expr_lead_at binary strength climb op_at path_expr simple_path path chain segment args_by repeat repeat_from word_reading
 read_range_to_begun_inside = rw (name_is b) refl
 
 read_range_to_begun : head_by (at_level 1) false (expr_lead_at (joint (codes ".") ∷ joint (codes ".") ∷ mark (codes "=") ∷ word b ∷
@@ -948,7 +985,7 @@ read_range_to = reads 1 FREE (joint (codes ".") ∷ joint (codes ".") ∷ mark (
 
 read_full_range : expr_at FREE 1 (joint (codes ".") ∷ mark (codes ".") ∷ closes Paren ∷ [])
     ≡ Some ((expr.Range None false None, 1), closes Paren ∷ [])
-unfolding expr_in expr_by expr_lead_at binary strength climb op_at range_expr
+unfolding code_in expr_by expr_lead_at binary strength climb op_at range_expr
 read_full_range = rw (exprs.expr_range_is None false None) refl
 
 not_endless_before_plus_begun : head_by (at_level 3) false (expr_lead_at (word a ∷ joint (codes ".") ∷ mark (codes ".") ∷ mark
@@ -985,7 +1022,7 @@ not_range_of_range_begun = refl
 
 not_range_of_range_staged_inside : expr_at (plain 2 false) 3 (word b ∷ joint (codes ".") ∷ mark (codes ".") ∷ word c ∷ [])
     ≡ Some ((name b, 1), joint (codes ".") ∷ mark (codes ".") ∷ word c ∷ [])
-unfolding expr_in expr_by expr_lead_at binary strength climb op_at path_expr simple_path path chain segment args_by repeat repeat_from word_reading
+unfolding code_in expr_by expr_lead_at binary strength climb op_at path_expr simple_path path chain segment args_by repeat repeat_from word_reading
 not_range_of_range_staged_inside = rw (name_is b) refl
 
 not_range_of_range_staged : stage (at_level 3) 1 false (name a, 1) (joint (codes ".") ∷ mark (codes ".") ∷ word b ∷ joint (codes
@@ -1032,7 +1069,7 @@ unfolding expr_lead_at op_at path_expr simple_path path chain segment args_by re
 read_method_begun = refl
 
 read_method_staged_inside : expr_at FREE 1 (word c ∷ closes Paren ∷ []) ≡ Some ((name c, 1), closes Paren ∷ [])
-unfolding expr_in expr_by expr_lead_at binary strength climb op_at path_expr simple_path path chain segment args_by repeat repeat_from word_reading
+unfolding code_in expr_by expr_lead_at binary strength climb op_at path_expr simple_path path chain segment args_by repeat repeat_from word_reading
 read_method_staged_inside = rw (name_is c) refl
 
 read_method_staged : stage (at_level 1) 13 false (name a, 1) (mark (codes ".") ∷ word b ∷ opens Paren ∷ word c ∷ closes Paren ∷ [])
@@ -1086,7 +1123,7 @@ unfolding expr_lead_at op_at paren_expr
 read_call_of_field_begun = rw (read_call_of_field_begun_inside) refl
 
 read_call_of_field_staged_inside : expr_at FREE 3 (word c ∷ closes Paren ∷ []) ≡ Some ((name c, 1), closes Paren ∷ [])
-unfolding expr_in expr_by expr_lead_at binary strength climb op_at path_expr simple_path path chain segment args_by repeat repeat_from word_reading
+unfolding code_in expr_by expr_lead_at binary strength climb op_at path_expr simple_path path chain segment args_by repeat repeat_from word_reading
 read_call_of_field_staged_inside = rw (name_is c) refl
 
 read_call_of_field_staged : stage (at_level 3) 13 false (expr.Paren (expr.Postfix (name a) (step.Field (named b) ∷ [])), 3) (opens
@@ -1120,7 +1157,7 @@ read_call_of_field = reads 3 FREE (opens Paren ∷ word a ∷ mark (codes ".") �
 
 read_index_of_paren_begun_inside : expr_at FREE 2 (digits (codes "1") ∷ closes Paren ∷ mark (codes ".") ∷ digits (codes "0") ∷ [])
     ≡ Some ((int (codes "1"), 1), closes Paren ∷ mark (codes ".") ∷ digits (codes "0") ∷ [])
-unfolding expr_in expr_by expr_lead_at binary strength climb op_at literal
+unfolding code_in expr_by expr_lead_at binary strength climb op_at literal
 read_index_of_paren_begun_inside = rw (int_is (codes "1")) refl
 
 read_index_of_paren_begun : head_by (at_level 2) false (expr_lead_at (opens Paren ∷ digits (codes "1") ∷ closes Paren ∷ mark (codes
@@ -1229,16 +1266,16 @@ not_field_before_colons = refuses 3 FREE (word a ∷ mark (codes ".") ∷ word b
 -- ---- what is read: words and literals
 
 read_name : expr_at FREE 1 (word a ∷ []) ≡ Some ((name a, 1), [])
-unfolding expr_in expr_by expr_lead_at binary strength climb op_at path_expr simple_path path chain segment args_by repeat repeat_from word_reading
+unfolding code_in expr_by expr_lead_at binary strength climb op_at path_expr simple_path path chain segment args_by repeat repeat_from word_reading
 read_name = rw (name_is a) refl
 
 read_underscore : expr_at FREE 1 (underscore ∷ []) ≡ Some ((expr.Underscore, 1), [])
-unfolding expr_in expr_by expr_lead_at binary strength climb op_at
+unfolding code_in expr_by expr_lead_at binary strength climb op_at
 read_underscore = rw (exprs.expr_underscore_is) refl
 
 -- A path isn't followed by `!`,
 not_before_bang : expr_at FREE 1 (word a ∷ mark (codes "!") ∷ []) ≡ None
-unfolding expr_in expr_by expr_lead_at binary strength climb op_at path_expr simple_path path chain segment args_by repeat repeat_from word_reading call group
+unfolding code_in expr_by expr_lead_at binary strength climb op_at path_expr simple_path path chain segment args_by repeat repeat_from word_reading call group
 not_before_bang = refl
 
 read_before_not_equal_begun : head_by (at_level 1) false (expr_lead_at (word a ∷ joint (codes "!") ∷ mark (codes "=") ∷ word b ∷
@@ -1248,7 +1285,7 @@ unfolding expr_lead_at op_at path_expr simple_path path chain segment args_by re
 read_before_not_equal_begun = refl
 
 read_before_not_equal_staged_operand : expr_at (plain 5 false) 1 (word b ∷ []) ≡ Some ((name b, 1), [])
-unfolding expr_in expr_by expr_lead_at binary strength climb op_at path_expr simple_path path chain segment args_by repeat repeat_from word_reading
+unfolding code_in expr_by expr_lead_at binary strength climb op_at path_expr simple_path path chain segment args_by repeat repeat_from word_reading
 read_before_not_equal_staged_operand = rw (name_is b) refl
 
 read_before_not_equal_staged_with_operator : operand (at_level 1) 4 false (joint (codes "!") ∷ mark (codes "=") ∷ word b ∷ [])
@@ -1277,19 +1314,19 @@ read_before_not_equal = reads 1 FREE (word a ∷ joint (codes "!") ∷ mark (cod
 -- `<-` is an operator of no level.
 read_before_arrow : expr_at FREE 1 (word a ∷ joint (codes "<") ∷ mark (codes "-") ∷ word b ∷ [])
     ≡ Some ((name a, 1), joint (codes "<") ∷ mark (codes "-") ∷ word b ∷ [])
-unfolding expr_in expr_by expr_lead_at binary strength climb op_at path_expr simple_path path chain segment args_by repeat repeat_from word_reading
+unfolding code_in expr_by expr_lead_at binary strength climb op_at path_expr simple_path path chain segment args_by repeat repeat_from word_reading
 read_before_arrow = rw (name_is a) refl
 
 not_at_zero : expr_at FREE 0 (word a ∷ []) ≡ None
-unfolding expr_in
+unfolding code_in
 not_at_zero = refl
 
 read_break : expr_at FREE 1 (word (codes "break") ∷ tick (codes "'a") ∷ []) ≡ Some ((expr.Break (Some tick_a) None, 1), [])
-unfolding expr_in expr_by expr_lead_at binary strength climb op_at break_expr lifetime
+unfolding code_in expr_by expr_lead_at binary strength climb op_at break_expr lifetime
 read_break = rw (exprs.expr_break_is (Some tick_a) None) refl
 
 read_break_value_begun_inside : expr_at (plain 0 false) 1 (word b ∷ []) ≡ Some ((name b, 1), [])
-unfolding expr_in expr_by expr_lead_at binary strength climb op_at path_expr simple_path path chain segment args_by repeat repeat_from word_reading
+unfolding code_in expr_by expr_lead_at binary strength climb op_at path_expr simple_path path chain segment args_by repeat repeat_from word_reading
 read_break_value_begun_inside = rw (name_is b) refl
 
 read_break_value_begun : head_by (at_level 1) false (expr_lead_at (word (codes "break") ∷ tick (codes "'a") ∷ word b ∷ [])) (word
@@ -1308,13 +1345,13 @@ read_break_value = reads 1 FREE (word (codes "break") ∷ tick (codes "'a") ∷ 
     (name b))) refl
 
 read_continue : expr_at FREE 1 (word (codes "continue") ∷ tick (codes "'a") ∷ []) ≡ Some ((expr.Continue (Some tick_a), 1), [])
-unfolding expr_in expr_by expr_lead_at binary strength climb op_at continue_expr lifetime
+unfolding code_in expr_by expr_lead_at binary strength climb op_at continue_expr lifetime
 read_continue = rw (exprs.expr_continue_is (Some tick_a)) refl
 
 -- Where no struct literal may stand, no `{` begins an operand,
 read_return_before_brace : expr_at (plain 0 true) 1 (word (codes "return") ∷ opens Brace ∷ [])
     ≡ Some ((expr.Return None, 1), opens Brace ∷ [])
-unfolding expr_in expr_by expr_lead_at binary strength climb op_at return_expr
+unfolding code_in expr_by expr_lead_at binary strength climb op_at return_expr
 read_return_before_brace = rw (exprs.expr_return_is None) refl
 
 -- ---- what is read: struct literals
@@ -1323,11 +1360,11 @@ read_return_before_brace = rw (exprs.expr_return_is None) refl
 read_path_before_brace : expr_at (plain 0 true) 1 (word (codes "A") ∷ opens Brace ∷ word b ∷ mark (codes ":") ∷ word c ∷ closes
     Brace ∷ [])
     ≡ Some ((name (codes "A"), 1), opens Brace ∷ word b ∷ mark (codes ":") ∷ word c ∷ closes Brace ∷ [])
-unfolding expr_in expr_by expr_lead_at binary strength climb op_at path_expr simple_path path chain segment args_by repeat repeat_from word_reading
+unfolding code_in expr_by expr_lead_at binary strength climb op_at path_expr simple_path path chain segment args_by repeat repeat_from word_reading
 read_path_before_brace = rw (name_is (codes "A")) refl
 
 read_struct_begun_inside : expr_at FREE 1 (word c ∷ closes Brace ∷ []) ≡ Some ((name c, 1), closes Brace ∷ [])
-unfolding expr_in expr_by expr_lead_at binary strength climb op_at path_expr simple_path path chain segment args_by repeat repeat_from word_reading
+unfolding code_in expr_by expr_lead_at binary strength climb op_at path_expr simple_path path chain segment args_by repeat repeat_from word_reading
 read_struct_begun_inside = rw (name_is c) refl
 
 read_struct_begun : head_by (at_level 1) false (expr_lead_at (word (codes "A") ∷ opens Brace ∷ word b ∷ mark (codes ":") ∷ word c ∷
@@ -1351,7 +1388,7 @@ read_struct = reads 1 FREE (word (codes "A") ∷ opens Brace ∷ word b ∷ mark
     c) ∷ []) None) refl
 
 read_struct_with_base_begun_inside : expr_at FREE 1 (word c ∷ closes Brace ∷ []) ≡ Some ((name c, 1), closes Brace ∷ [])
-unfolding expr_in expr_by expr_lead_at binary strength climb op_at path_expr simple_path path chain segment args_by repeat repeat_from word_reading
+unfolding code_in expr_by expr_lead_at binary strength climb op_at path_expr simple_path path chain segment args_by repeat repeat_from word_reading
 read_struct_with_base_begun_inside = rw (name_is c) refl
 
 read_struct_with_base_begun : head_by (at_level 1) false (expr_lead_at (word (codes "A") ∷ opens Brace ∷ word b ∷ mark (codes ",")
@@ -1386,7 +1423,7 @@ read_rest_of_fields = reads 0 FREE (word (codes "A") ∷ opens Brace ∷ joint (
 -- ---- what is read: prefixes
 
 read_two_references_begun_inside : expr_at (plain 12 false) 1 (word a ∷ []) ≡ Some ((name a, 1), [])
-unfolding expr_in expr_by expr_lead_at binary strength climb op_at path_expr simple_path path chain segment args_by repeat repeat_from word_reading
+unfolding code_in expr_by expr_lead_at binary strength climb op_at path_expr simple_path path chain segment args_by repeat repeat_from word_reading
 read_two_references_begun_inside = rw (name_is a) refl
 
 read_two_references_begun : head_by (at_level 1) false (expr_lead_at (joint (codes "&") ∷ mark (codes "&") ∷ word a ∷ [])) (joint
@@ -1407,7 +1444,7 @@ read_two_references = reads 1 FREE (joint (codes "&") ∷ mark (codes "&") ∷ w
     (before.Amp ∷ before.Amp ∷ []) (name a)) refl
 
 read_raw_borrow_begun_inside : expr_at (plain 12 false) 1 (word a ∷ []) ≡ Some ((name a, 1), [])
-unfolding expr_in expr_by expr_lead_at binary strength climb op_at path_expr simple_path path chain segment args_by repeat repeat_from word_reading
+unfolding code_in expr_by expr_lead_at binary strength climb op_at path_expr simple_path path chain segment args_by repeat repeat_from word_reading
 read_raw_borrow_begun_inside = rw (name_is a) refl
 
 read_raw_borrow_begun : head_by (at_level 1) false (expr_lead_at (mark (codes "&") ∷ word (codes "raw") ∷ word (codes "const") ∷
@@ -1427,7 +1464,7 @@ read_raw_borrow = reads 1 FREE (mark (codes "&") ∷ word (codes "raw") ∷ word
     (exprs.expr_unary_is (before.RawConst ∷ []) (name a)) refl
 
 read_mutable_reference_begun_inside : expr_at (plain 12 false) 1 (word a ∷ []) ≡ Some ((name a, 1), [])
-unfolding expr_in expr_by expr_lead_at binary strength climb op_at path_expr simple_path path chain segment args_by repeat repeat_from word_reading
+unfolding code_in expr_by expr_lead_at binary strength climb op_at path_expr simple_path path chain segment args_by repeat repeat_from word_reading
 read_mutable_reference_begun_inside = rw (name_is a) refl
 
 read_mutable_reference_begun : head_by (at_level 1) false (expr_lead_at (mark (codes "&") ∷ word (codes "mut") ∷ word a ∷ []))
@@ -1448,7 +1485,7 @@ read_mutable_reference = reads 1 FREE (mark (codes "&") ∷ word (codes "mut") �
 
 read_reference_to_raw_begun_inside : expr_at (plain 12 false) 1 (word (codes "raw") ∷ mark (codes ";") ∷ [])
     ≡ Some ((name (codes "raw"), 1), mark (codes ";") ∷ [])
-unfolding expr_in expr_by expr_lead_at binary strength climb op_at path_expr simple_path path chain segment args_by repeat repeat_from word_reading
+unfolding code_in expr_by expr_lead_at binary strength climb op_at path_expr simple_path path chain segment args_by repeat repeat_from word_reading
 read_reference_to_raw_begun_inside = rw (name_is (codes "raw")) refl
 
 read_reference_to_raw_begun : head_by (at_level 1) false (expr_lead_at (mark (codes "&") ∷ word (codes "raw") ∷ mark (codes ";") ∷
@@ -1472,7 +1509,7 @@ read_reference_to_raw = reads 1 FREE (mark (codes "&") ∷ word (codes "raw") �
 
 read_parens_begun_inside_begun_inside : expr_at FREE 1 (word a ∷ closes Paren ∷ closes Paren ∷ [])
     ≡ Some ((name a, 1), closes Paren ∷ closes Paren ∷ [])
-unfolding expr_in expr_by expr_lead_at binary strength climb op_at path_expr simple_path path chain segment args_by repeat repeat_from word_reading
+unfolding code_in expr_by expr_lead_at binary strength climb op_at path_expr simple_path path chain segment args_by repeat repeat_from word_reading
 read_parens_begun_inside_begun_inside = rw (name_is a) refl
 
 read_parens_begun_inside_begun : head_by (at_level 1) false (expr_lead_at (opens Paren ∷ word a ∷ closes Paren ∷ closes Paren ∷
@@ -1503,16 +1540,16 @@ read_parens = reads 2 FREE (opens Paren ∷ opens Paren ∷ word a ∷ closes Pa
 ) (expr.Paren (expr.Paren (name a)), 3) [] [] _ read_parens_begun refl (exprs.expr_paren_is (expr.Paren (name a))) refl
 
 not_parens_within_two : expr_at FREE 2 (opens Paren ∷ opens Paren ∷ word a ∷ closes Paren ∷ closes Paren ∷ []) ≡ None
-unfolding expr_in expr_by expr_lead_at binary strength climb op_at path_expr simple_path path chain segment args_by repeat repeat_from word_reading paren_expr
+unfolding code_in expr_by expr_lead_at binary strength climb op_at path_expr simple_path path chain segment args_by repeat repeat_from word_reading paren_expr
 not_parens_within_two = refl
 
 read_no_tuple : expr_at FREE 1 (opens Paren ∷ closes Paren ∷ []) ≡ Some ((expr.Tuple [], 1), [])
-unfolding expr_in expr_by expr_lead_at binary strength climb op_at paren_expr
+unfolding code_in expr_by expr_lead_at binary strength climb op_at paren_expr
 read_no_tuple = rw (exprs.expr_tuple_is []) refl
 
 read_tuple_of_one_begun_inside : expr_at FREE 1 (word a ∷ mark (codes ",") ∷ closes Paren ∷ [])
     ≡ Some ((name a, 1), mark (codes ",") ∷ closes Paren ∷ [])
-unfolding expr_in expr_by expr_lead_at binary strength climb op_at path_expr simple_path path chain segment args_by repeat repeat_from word_reading
+unfolding code_in expr_by expr_lead_at binary strength climb op_at path_expr simple_path path chain segment args_by repeat repeat_from word_reading
 read_tuple_of_one_begun_inside = rw (name_is a) refl
 
 read_tuple_of_one_begun : head_by (at_level 1) false (expr_lead_at (opens Paren ∷ word a ∷ mark (codes ",") ∷ closes Paren ∷ []))
@@ -1529,7 +1566,7 @@ read_tuple_of_one = reads 1 FREE (opens Paren ∷ word a ∷ mark (codes ",") �
 
 read_repeat_begun_inside : expr_at FREE 1 (word a ∷ mark (codes ";") ∷ digits (codes "1") ∷ closes Bracket ∷ [])
     ≡ Some ((name a, 1), mark (codes ";") ∷ digits (codes "1") ∷ closes Bracket ∷ [])
-unfolding expr_in expr_by expr_lead_at binary strength climb op_at path_expr simple_path path chain segment args_by repeat repeat_from word_reading
+unfolding code_in expr_by expr_lead_at binary strength climb op_at path_expr simple_path path chain segment args_by repeat repeat_from word_reading
 read_repeat_begun_inside = rw (name_is a) refl
 
 read_repeat_begun : head_by (at_level 1) false (expr_lead_at (opens Bracket ∷ word a ∷ mark (codes ";") ∷ digits (codes "1") ∷
@@ -1550,11 +1587,11 @@ read_repeat = reads 1 FREE (opens Bracket ∷ word a ∷ mark (codes ";") ∷ di
 
 repeat_in_parens_inside : expr_at FREE 1 (word a ∷ mark (codes ";") ∷ digits (codes "1") ∷ closes Bracket ∷ [])
     ≡ Some ((name a, 1), mark (codes ";") ∷ digits (codes "1") ∷ closes Bracket ∷ [])
-unfolding expr_in expr_by expr_lead_at binary strength climb op_at path_expr simple_path path chain segment args_by repeat repeat_from word_reading
+unfolding code_in expr_by expr_lead_at binary strength climb op_at path_expr simple_path path chain segment args_by repeat repeat_from word_reading
 repeat_in_parens_inside = rw (name_is a) refl
 
 not_repeat_in_parens : expr_at FREE 2 (opens Paren ∷ word a ∷ mark (codes ";") ∷ digits (codes "1") ∷ closes Bracket ∷ []) ≡ None
-unfolding expr_in expr_by expr_lead_at paren_expr
+unfolding code_in expr_by expr_lead_at paren_expr
 not_repeat_in_parens = rw (repeat_in_parens_inside) refl
 
 -- ---- what is read: macro calls
@@ -1563,12 +1600,12 @@ not_repeat_in_parens = rw (repeat_in_parens_inside) refl
 read_call_that_ends : expr_at statement 1 (word (codes "m") ∷ mark (codes "!") ∷ opens Brace ∷ closes Brace ∷ mark (codes "+") ∷
     word a ∷ [])
     ≡ Some ((expr.Call called, 1), mark (codes "+") ∷ word a ∷ [])
-unfolding expr_in expr_by expr_lead_at binary strength climb op_at simple_path call group tokens_of run repeat repeat_from word_reading
+unfolding code_in expr_by expr_lead_at binary strength climb op_at simple_path call group tokens_of run repeat repeat_from word_reading
 read_call_that_ends = rw (exprs.expr_call_is called, exprs.expr_call_is called) refl
 
 -- and begins no part of one.
 not_part : expr_at beginning_part 1 (word (codes "m") ∷ mark (codes "!") ∷ opens Brace ∷ closes Brace ∷ []) ≡ None
-unfolding expr_in expr_by expr_lead_at binary strength climb op_at simple_path call group tokens_of run repeat repeat_from word_reading
+unfolding code_in expr_by expr_lead_at binary strength climb op_at simple_path call group tokens_of run repeat repeat_from word_reading
 not_part = rw (exprs.expr_call_is called) refl
 
 read_call_in_sum_begun : head_by (at_level 1) false (expr_lead_at (word (codes "m") ∷ mark (codes "!") ∷ opens Brace ∷ closes Brace
@@ -1579,7 +1616,7 @@ unfolding expr_lead_at op_at simple_path call group tokens_of run repeat repeat_
 read_call_in_sum_begun = refl
 
 read_call_in_sum_staged_operand : expr_at (plain 10 false) 1 (word a ∷ []) ≡ Some ((name a, 1), [])
-unfolding expr_in expr_by expr_lead_at binary strength climb op_at path_expr simple_path path chain segment args_by repeat repeat_from word_reading
+unfolding code_in expr_by expr_lead_at binary strength climb op_at path_expr simple_path path chain segment args_by repeat repeat_from word_reading
 read_call_in_sum_staged_operand = rw (name_is a) refl
 
 read_call_in_sum_staged_with_operator : operand (at_level 1) 9 false (mark (codes "+") ∷ word a ∷ []) ≡ Some (((op.Add, name a), 1), [])

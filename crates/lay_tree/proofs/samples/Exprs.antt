@@ -19,9 +19,10 @@ use Rattle.lay_node.proofs.samples.Tokens as list
 use Rattle.lay_node.proofs.samples.Trees.{named, plain, a, b, c, laid}
 use Rattle.lay_node.proofs.samples.Types.{C, local, local_facts, local_is, named_is}
 use Rattle.lay_tree.specs.Operands.{ByPath}
-use Rattle.lay_tree.specs.nodes.Exprs.{ExprFacts, about_expr, about_step, expr_facts, step_facts, is_raw_word, shut_by}
+use Rattle.lay_tree.specs.nodes.Code.{about_expr, about_step}
+use Rattle.lay_tree.specs.nodes.Exprs.{ExprFacts, expr_facts, step_facts, is_raw_word, shut_by, OtherBody}
 use Rattle.lay_tree.specs.declared.exprs.Expr.{Expr}
-use Rattle.lay_tree.specs.declared.exprs.Expr.TheOpen.{Expr-F, Step-F}
+use Rattle.lay_tree.specs.declared.blocks.Stmt.TheOpen.{Expr-F, Step-F}
 use Rattle.lay_tree.specs.declared.exprs.Expr.TheVariants as expr
 use Rattle.lay_tree.specs.declared.exprs.FieldExpr.{FieldExpr}
 use Rattle.lay_tree.specs.declared.exprs.FieldExpr.TheVariants as field
@@ -108,6 +109,7 @@ path_facts path p = record {
   typed = false;
   is_struct = false;
   block_like = false;
+  kind = OtherBody;
   is_raw = is_raw_word (lone_word path);
   is_number = false;
   within = λ no_struct first. (p Code).good;

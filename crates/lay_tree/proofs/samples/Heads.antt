@@ -60,7 +60,9 @@ use Rattle.lay_node.proofs.nodes.TypesLaws as types
 use Rattle.lay_node.proofs.samples.Tokens as list
 use Rattle.lay_node.proofs.samples.Trees.{named, plain, a, b, c, laid}
 use Rattle.lay_node.proofs.samples.Types.{local, local_facts, local_is, B, B_is, named_is, meeting, meeting_is}
-use Rattle.lay_tree.specs.nodes.Item.{item_facts, KindFacts, told_of_item, told_of_kind}
+use Rattle.lay_tree.specs.nodes.Code.{told_of_item, told_of_kind}
+use Rattle.lay_tree.specs.nodes.CodeFacts.{KindFacts}
+use Rattle.lay_tree.specs.nodes.Item.{item_facts}
 use Rattle.lay_tree.specs.declared.item.Item.{Item}
 use Rattle.lay_tree.specs.declared.item.ItemKind.TheVariants as item
 use Rattle.lay_tree.specs.declared.item.ItemKind.{ItemKind}
@@ -211,7 +213,7 @@ abbrev pub varying : FnHead
 varying = fn_of None a (fn_param.Typed (name_pat b) u8 ∷ fn_param.Variadic ∷ []) (Some u8)
 
 abbrev pub foreign_function : Item
-foreign_function = seen vis.Public (item.Function varying no_wheres)
+foreign_function = seen vis.Public (item.Function varying no_wheres None)
 
 abbrev pub static_C : ValueHead
 static_C = value.Static true (named (codes "C")) u8
@@ -231,7 +233,7 @@ varying_form = Deeper (Part (I0 (Part (piece pub_word) (Piece (keyword (codes "f
 
 varying_is : (about foreign_function).form ≡ varying_form
 varying_is =
-    rw (told_is vis.Public _ _ (items.function_is varying no_wheres), named_is (codes "u8"), pats.pat_bind_is false false (named b) None) refl
+    rw (told_is vis.Public _ _ (items.function_is varying no_wheres None), named_is (codes "u8"), pats.pat_bind_is false false (named b) None) refl
 
 abbrev static_form : Form
 static_form = headed (Part (Piece (keyword (codes "static") ∷ Blank ∷ []) (Piece mut_word (leaf_of false (codes "C") (Piece colon (Part (type_form (codes "u8")) Done))))) Done)
@@ -268,12 +270,12 @@ method = fn_of None c (fn_param.RefSelf None false ∷ []) None
 abbrev in_a_b : Vis
 in_a_b = vis.In (record { global = false; words = plain a ∷ plain b ∷ [] })
 
-laid_members : laid (about (unseen (item.Trait trait_A no_wheres [] (seen in_a_b (item.Function method no_wheres) ∷ []))))
+laid_members : laid (about (unseen (item.Trait trait_A no_wheres [] (seen in_a_b (item.Function method no_wheres None) ∷ []))))
     ≡ codes "trait A {\n    pub(in a::b) fn c(&self);\n}"
 laid_members =
     rw (
-      told_is vis.Inherited _ _ (items.trait_is trait_A no_wheres [] (seen in_a_b (item.Function method no_wheres) ∷ [])),
-      told_is in_a_b _ _ (items.function_is method no_wheres),
+      told_is vis.Inherited _ _ (items.trait_is trait_A no_wheres [] (seen in_a_b (item.Function method no_wheres None) ∷ [])),
+      told_is in_a_b _ _ (items.function_is method no_wheres None),
     )
     refl
 

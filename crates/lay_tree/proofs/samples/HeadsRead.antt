@@ -50,7 +50,9 @@ use Rattle.lay_node.proofs.samples.Patterns.{lone}
 use Rattle.lay_node.proofs.samples.Tokens as list
 use Rattle.lay_node.proofs.samples.Trees.{named, plain, a, token, word, mark, colons, opens, closes}
 use Rattle.lay_node.proofs.samples.Types.{local, B, C, where_A_is}
-use Rattle.lay_tree.specs.reader.Item.{value_by, call_item, foreign_by, function_by, impl_by, item_at, item_body, item_by, item_lead, items_by, kind_at, OfCall, OfForeign, OfFunction, OfImpl, OfUnion, OfValue, trait_by}
+use Rattle.lay_tree.specs.reader.Code.{item_at, code_in}
+use Rattle.lay_tree.specs.reader.Item.{value_by, call_item, foreign_by, function_by, impl_by, item_body, item_by, items_by, kind_at, trait_by}
+use Rattle.lay_tree.specs.reader.ItemLeads.{item_lead, OfCall, OfForeign, OfFunction, OfImpl, OfUnion, OfValue}
 use Rattle.lay_tree.specs.declared.item.Item.{Item}
 use Rattle.lay_tree.specs.declared.item.ItemKind.TheVariants as item
 use Rattle.lay_tree.proofs.nodes.ItemLaws as items
@@ -303,25 +305,25 @@ abbrev call_m : List Token
 call_m = word (codes "m") ∷ mark (codes "!") ∷ in_parens [] (semicolon ∷ [])
 
 not_seen : item_at Module 1 (word (codes "pub") ∷ call_m) ≡ None
-unfolding item_at item_by kind_at item_lead call_item call group tokens_of run name_reading attributes visibility simple_path repeat repeat_from word_reading op_at
+unfolding code_in item_by kind_at item_lead call_item call group tokens_of run name_reading attributes visibility simple_path repeat repeat_from word_reading op_at
 not_seen = rw (items.call_is m_call) refl
 
 read_unseen : item_at Module 1 call_m ≡ Some ((unseen (item.Call m_call), 1), [])
-unfolding item_at item_by kind_at item_lead call_item call group tokens_of run name_reading attributes visibility simple_path repeat repeat_from word_reading op_at
+unfolding code_in item_by kind_at item_lead call_item call group tokens_of run name_reading attributes visibility simple_path repeat repeat_from word_reading op_at
 read_unseen = rw (items.call_is m_call) refl
 
 -- `extern { fn f(); }`
 abbrev f_item : Item
-f_item = unseen (item.Function (fn_of None (codes "f") [] None) no_wheres)
+f_item = unseen (item.Function (fn_of None (codes "f") [] None) no_wheres None)
 
 read_foreign : item_at Module 3 (word (codes "extern") ∷ opens Brace ∷ (fn_f ++ closes Brace ∷ []))
     ≡ Some ((unseen (item.Foreign false None [] (f_item ∷ [])), 2), [])
-unfolding item_at item_by kind_at item_lead foreign_by item_body items_by function_by fn_head generics fn_params open_elements open_elements_from wheres name_reading attributes visibility repeat repeat_from op_at
-read_foreign = rw (items.function_is (fn_of None (codes "f") [] None) no_wheres, items.foreign_is false None [] (f_item ∷ [])) refl
+unfolding code_in item_by kind_at item_lead foreign_by item_body items_by function_by fn_head generics fn_params open_elements open_elements_from wheres name_reading attributes visibility repeat repeat_from op_at
+read_foreign = rw (items.function_is (fn_of None (codes "f") [] None) no_wheres None, items.foreign_is false None [] (f_item ∷ [])) refl
 
 -- A function without a body stands in no module.
 not_in_module : item_at Module 2 fn_f ≡ None
-unfolding item_at item_by kind_at item_lead attributes visibility repeat repeat_from op_at
+unfolding code_in item_by kind_at item_lead function_by fn_head generics fn_params open_elements open_elements_from wheres name_reading attributes visibility repeat repeat_from op_at
 not_in_module = refl
 
 -- ---- whole items
@@ -330,14 +332,14 @@ not_in_module = refl
 read_struct : item_at Module 3 (word (codes "pub") ∷ in_parens (word (codes "crate") ∷ []) (word (codes "struct") ∷ word (codes "A")
     ∷ in_parens (word (codes "pub") ∷ word (codes "u8") ∷ comma ∷ word (codes "B") ∷ []) (semicolon ∷ [])))
     ≡ Some ((seen vis.Crate (item.Struct two_fields), 2), [])
-unfolding item_at item_by kind_at item_lead struct tuple_fields tuple_field elements elements_from generics wheres name_reading attributes visibility within lead_at simple_path path_type path chain repeat repeat_from segment args_by word_reading op_at
+unfolding code_in item_by kind_at item_lead struct tuple_fields tuple_field elements elements_from generics wheres name_reading attributes visibility within lead_at simple_path path_type path chain repeat repeat_from segment args_by word_reading op_at
 read_struct = rw (items.struct_is two_fields) refl
 
 -- `trait A where B:C,{}`
 read_trait : item_at Module 3 (word (codes "trait") ∷ word (codes "A") ∷ word (codes "where") ∷ word (codes "B") ∷ mark (codes ":")
     ∷ word (codes "C") ∷ comma ∷ opens Brace ∷ closes Brace ∷ [])
     ≡ Some ((unseen (item.Trait trait_A where_B_is_C [] []), 2), [])
-unfolding item_at item_by kind_at item_lead trait_by trait_head item_body items_by generics wheres type_predicate one_bound meets open_elements open_elements_from name_reading attributes visibility within lead_at simple_path path_type path chain repeat repeat_from segment args_by word_reading op_at
+unfolding code_in item_by kind_at item_lead trait_by trait_head item_body items_by generics wheres type_predicate one_bound meets open_elements open_elements_from name_reading attributes visibility within lead_at simple_path path_type path chain repeat repeat_from segment args_by word_reading op_at
 read_trait = rw (items.trait_is trait_A where_B_is_C [] []) refl
 
 -- `impl<T>A for B<T>{type C=D;}`
@@ -345,7 +347,7 @@ read_impl : item_at Module 3 (word (codes "impl") ∷ mark (codes "<") ∷ word 
     ∷ word (codes "B") ∷ mark (codes "<") ∷ word (codes "T") ∷ mark (codes ">") ∷ opens Brace ∷ word (codes "type") ∷ word (codes "C")
     ∷ mark (codes "=") ∷ word (codes "D") ∷ semicolon ∷ closes Brace ∷ [])
     ≡ Some ((unseen (item.Impl impl_A_for no_wheres [] (unseen (item.Alias C_is_D) ∷ [])), 3), [])
-unfolding item_at item_by kind_at item_lead impl_by impl_head trait_ref item_body items_by alias generics one_param type_param elements elements_from angle one_arg wheres name_reading attributes visibility within lead_at simple_path path_type path chain repeat repeat_from segment args_by word_reading op_at
+unfolding code_in item_by kind_at item_lead impl_by impl_head trait_ref item_body items_by alias generics one_param type_param elements elements_from angle one_arg wheres name_reading attributes visibility within lead_at simple_path path_type path chain repeat repeat_from segment args_by word_reading op_at
 read_impl = rw (items.alias_is C_is_D, items.impl_is impl_A_for no_wheres [] (unseen (item.Alias C_is_D) ∷ [])) refl
 
 -- `enum E<T>where T:C{F(T),G{h:u8},I=-1}`
@@ -354,7 +356,7 @@ read_enum : item_at Module 3 (word (codes "enum") ∷ word (codes "E") ∷ mark 
     ∷ word (codes "G") ∷ opens Brace ∷ word (codes "h") ∷ mark (codes ":") ∷ word (codes "u8") ∷ closes Brace ∷ comma
     ∷ word (codes "I") ∷ mark (codes "=") ∷ mark (codes "-") ∷ token kind.Int (codes "1") false ∷ closes Brace ∷ []))
     ≡ Some ((unseen (item.Enum three_variants), 2), [])
-unfolding item_at item_by kind_at item_lead enum variants variant variant_fields tuple_fields tuple_field named_fields field discriminant tokens_of run generics one_param type_param wheres type_predicate one_bound meets elements elements_from open_elements open_elements_from name_reading attributes visibility within lead_at simple_path path_type path chain repeat repeat_from segment args_by word_reading op_at
+unfolding code_in item_by kind_at item_lead enum variants variant variant_fields tuple_fields tuple_field named_fields field discriminant tokens_of run generics one_param type_param wheres type_predicate one_bound meets elements elements_from open_elements open_elements_from name_reading attributes visibility within lead_at simple_path path_type path chain repeat repeat_from segment args_by word_reading op_at
 read_enum = rw (items.enum_is three_variants) refl
 
 -- `extern "C"{pub fn a(b:u8,...)->u8;static mut C:u8;}`
@@ -363,11 +365,11 @@ read_extern_C : item_at Module 3 (word (codes "extern") ∷ token kind.Str (code
     (token kind.Punct (codes "-") true ∷ mark (codes ">") ∷ word (codes "u8") ∷ semicolon ∷ word (codes "static") ∷ word (codes "mut")
     ∷ word (codes "C") ∷ mark (codes ":") ∷ word (codes "u8") ∷ semicolon ∷ closes Brace ∷ []))
     ≡ Some ((unseen (item.Foreign false (Some string_C) [] (foreign_function ∷ foreign_static ∷ [])), 3), [])
-unfolding item_at item_by kind_at item_lead foreign_by literal chars after_literal run_string string_step adds string_value item_body items_by function_by fn_head fn_params fn_param param_kind typed single_at pat_by path_pat path_by bind value_by value_head generics wheres open_elements open_elements_from name_reading attributes visibility within lead_at simple_path path_type path chain repeat repeat_from segment args_by word_reading op_at
+unfolding code_in item_by kind_at item_lead foreign_by literal chars after_literal run_string string_step adds string_value item_body items_by function_by fn_head fn_params fn_param param_kind typed single_at pat_by path_pat path_by bind value_by value_head generics wheres open_elements open_elements_from name_reading attributes visibility within lead_at simple_path path_type path chain repeat repeat_from segment args_by word_reading op_at
 read_extern_C =
     rw (
       lone (codes "b"),
-      items.function_is varying no_wheres,
+      items.function_is varying no_wheres None,
       items.value_is static_C None,
       items.foreign_is false (Some string_C) [] (foreign_function ∷ foreign_static ∷ []),
     )

@@ -25,11 +25,14 @@ use Rattle.lay_node.specs.declared.vis.Vis.TheVariants as vis
 use Rattle.lay_node.proofs.samples.Tokens as list
 use Rattle.lay_node.proofs.samples.Trees.{named, plain, a, b, c, word_of, group_of, word_is, group_is, laid, Spelt, token, word, mark, opens, closes}
 use Rattle.lay_tree.specs.Out.{out}
-use Rattle.lay_tree.specs.nodes.Item.{KindFacts, kind_facts, kind_form, told_of_kind}
-use Rattle.lay_tree.specs.reader.Item.{begins_rules, call_item}
+use Rattle.lay_tree.specs.nodes.Code.{told_of_kind}
+use Rattle.lay_tree.specs.nodes.CodeFacts.{KindFacts}
+use Rattle.lay_tree.specs.nodes.Item.{kind_facts, kind_form}
+use Rattle.lay_tree.specs.reader.Item.{call_item}
+use Rattle.lay_tree.specs.reader.ItemLeads.{begins_rules}
 use Rattle.lay_tree.specs.declared.item.Item.{Item}
 use Rattle.lay_tree.specs.declared.item.ItemKind.{ItemKind}
-use Rattle.lay_tree.specs.declared.item.ItemKind.TheOpen.{ItemKind-F}
+use Rattle.lay_tree.specs.declared.blocks.Stmt.TheOpen.{ItemKind-F}
 use Rattle.lay_tree.specs.declared.item.ItemKind.TheVariants as item
 use Rattle.lay_tree.proofs.nodes.ItemLaws as items
 use Rattle.lay_tree.proofs.samples.ItemTrees.{A, x_doc, item_of, unit, structure, module_of, import_of, struct_facts, about, kind_is, struct_is}
@@ -132,7 +135,7 @@ kind_spelled kind F ts e s = rw (kind_is [] kind F e) (_, (_, s, refl), refl)
 
 -- `struct A;`
 unit_spelled : (depth : ℕ) (ts : List Token)
-    → Spells (form_of (kind_facts (ItemKind-F.Struct (unit A)))) depth (word (codes "struct") ∷ word (codes "A") ∷ mark (codes ";") ∷ ts) ts
+    → Spells (form_of (kind_facts (ItemKind-F.ItemKind::Struct (unit A)))) depth (word (codes "struct") ∷ word (codes "A") ∷ mark (codes ";") ∷ ts) ts
 unit_spelled depth ts = (
   _,
   (_, refl, (_, (_, (refl, refl, refl), (_, refl, refl)), (_, (refl, refl, refl), (_, (_, inl refl, refl), (_, refl, refl))))),

@@ -12,10 +12,12 @@ use Rattle.lay_node.specs.declared.token.Name.{Name}
 use Rattle.lay_node.specs.declared.use_tree.UseTree.{UseTree}
 use Rattle.lay_node.specs.declared.vis.Vis.TheVariants as vis
 use Rattle.lay_node.proofs.samples.Trees.{named, a}
-use Rattle.lay_tree.specs.nodes.Item.{ItemFacts, KindFacts, about_item, kind_facts, item_facts, told_of_item, told_of_kind}
+use Rattle.lay_tree.specs.nodes.Code.{about_item, told_of_item, told_of_kind}
+use Rattle.lay_tree.specs.nodes.CodeFacts.{ItemFacts, KindFacts}
+use Rattle.lay_tree.specs.nodes.Item.{kind_facts, item_facts}
 use Rattle.lay_tree.specs.declared.item.Item.{Item}
 use Rattle.lay_tree.specs.declared.item.ItemKind.{ItemKind}
-use Rattle.lay_tree.specs.declared.item.ItemKind.TheOpen.{ItemKind-F}
+use Rattle.lay_tree.specs.declared.blocks.Stmt.TheOpen.{ItemKind-F}
 use Rattle.lay_tree.specs.declared.item.ItemKind.TheVariants as item
 use Rattle.lay_tree.proofs.nodes.ItemLaws as items
 
@@ -55,7 +57,7 @@ abbrev pub item_facts_of : List Attr → KindFacts → ItemFacts
 item_facts_of attrs kind = item_facts (record { attrs = attrs; vis = vis.Inherited; kind = kind })
 
 abbrev pub struct_facts : List Attr → Name → ItemFacts
-struct_facts attrs name = item_facts_of attrs (kind_facts (ItemKind-F.Struct (unit name)))
+struct_facts attrs name = item_facts_of attrs (kind_facts (ItemKind-F.ItemKind::Struct (unit name)))
 
 pub kind_is : (attrs : List Attr) (kind : ItemKind) (F : KindFacts) → told_of_kind kind ≡ F
     → told_of_item (item_of attrs kind) ≡ item_facts_of attrs F

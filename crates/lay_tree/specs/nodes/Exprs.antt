@@ -8,7 +8,7 @@ use Rattle.lay_piece.specs.declared.kind.Delim.{Delim}
 use Rattle.lay_piece.specs.declared.kind.Delim.TheVariants.{Paren, Bracket, Brace}
 use Rattle.lay_piece.specs.declared.kind.Kind.TheVariants as kind
 use Rattle.lay_form.specs.Form.{Bit, Blank, Fixed, Operator, Form, Done, Piece, Leaf, Part, punct, keyword, opener, closer, semicolon}
-use Rattle.lay_form.specs.Notation.{Z, B, N, Z-, C4, I4, piece, comma_list, braces, behind_attrs}
+use Rattle.lay_form.specs.Notation.{Z, B, N, Z-, C4, I4, piece, comma_list, braces, behind_attrs, I0, body, when}
 use Rattle.lay_form.specs.Spelled as spelled
 use Rattle.lay_node.specs.Ahead.{Tokens, first, is_keyword, is_lifetime, opens}
 use Rattle.lay_node.specs.Follow.{Begin, OfArgs, OfBang, OfColons, may_follow}
@@ -16,22 +16,26 @@ use Rattle.lay_node.specs.Words.{is_name, is_literal, is_bare_number, leaf_of, c
 use Rattle.lay_node.specs.nodes.Attr.{are_attrs, attr_form, is_empty}
 use Rattle.lay_node.specs.nodes.Call.{about_call}
 use Rattle.lay_node.specs.nodes.Facts.{Facts, all_good}
-use Rattle.lay_node.specs.nodes.Patterns.{dots}
-use Rattle.lay_node.specs.nodes.Types.{TypeFacts, about_arg, about_path, about_type, angle_form, colon, deeper, good_at, is_there, lifetime_form, literal_form, lone_word}
+use Rattle.lay_node.specs.nodes.Functions.{may_be_type, self_type as param_type}
+use Rattle.lay_node.specs.nodes.Patterns.{dots, about_pat, pat_form, pat_good}
+use Rattle.lay_node.specs.nodes.Types.{TypeFacts, about_arg, about_path, about_type, angle_form, colon, deeper, good_at, is_there, lifetime_form, literal_form, lone_word, equals, param_attrs}
 use Rattle.lay_node.specs.tokens.Lexed.{is_token_list}
 use Rattle.lay_node.specs.tokens.Lists.{token_list}
+use Rattle.lay_node.specs.declared.patterns.Pat.{Pat}
+use Rattle.lay_node.specs.declared.patterns.PatPlace.TheVariants.{Alternatives, Single}
 use Rattle.lay_node.specs.declared.token.Lifetime.{Lifetime}
 use Rattle.lay_node.specs.declared.token.Word.{Word}
 use Rattle.lay_node.specs.declared.types.Arg.{Arg}
 use Rattle.lay_node.specs.declared.types.Path.{Path}
 use Rattle.lay_node.specs.declared.types.PathStyle.TheVariants.{Code}
 use Rattle.lay_node.specs.declared.types.TypePlace.TheVariants.{NoBounds}
-use Rattle.lay_tree.specs.Operands.{ExprLead, ByLiteral, ByPath, ByUnderscore, ByLabel, ByParen, ByBracket, ByBrace, ByPrefix, ByRange, ByContinue, ByBreak, ByReturn, begins_operand}
+use Rattle.lay_tree.specs.Operands.{ExprLead, ByLiteral, ByPath, ByUnderscore, ByLabel, ByParen, ByBracket, ByBrace, ByPrefix, ByRange, ByContinue, ByBreak, ByReturn, begins_operand, ByBlockWord, ByClosure}
 use Rattle.lay_tree.specs.Operators.{op_text, op_level, is_angle_op, is_dot_or_try, strength}
+use Rattle.lay_tree.specs.nodes.CodeFacts.{ArmFacts, BlockFacts, BranchFacts, ItemFacts, KindFacts, StmtFacts}
 use Rattle.lay_tree.specs.nodes.Places.{plain, FREE, begins, is_whole, is_part, before_op}
+use Rattle.lay_tree.specs.declared.exprs.ClosureParam.{ClosureParam}
 use Rattle.lay_tree.specs.declared.exprs.Expr.{Expr}
-use Rattle.lay_tree.specs.declared.exprs.Expr.TheFolds.{fold-Expr, fold-FieldExpr, fold-Step}
-use Rattle.lay_tree.specs.declared.exprs.Expr.TheOpen.{Expr-F, FieldExpr-F, Step-F}
+use Rattle.lay_tree.specs.declared.blocks.Stmt.TheOpen.{Expr-F, FieldExpr-F, Step-F}
 use Rattle.lay_tree.specs.declared.exprs.FieldExpr.{FieldExpr}
 use Rattle.lay_tree.specs.declared.exprs.Place.{Place}
 use Rattle.lay_tree.specs.declared.exprs.Step.{Step}
@@ -42,7 +46,7 @@ use Rattle.lay_tree.specs.declared.operators.Prefix.TheVariants as before
 -- ---- what an expression ends in
 
 pub record Tail : Type 0 where
-  -- the operand of a `return` or of a `break`, which takes all operators
+  -- the operand of a `return` or of a `break`, or the body of a closure, which takes all operators
   pub takes_all : Bool
   -- A last operand that may stand there is left out.
   pub bare : Bool
@@ -52,11 +56,15 @@ pub record Tail : Type 0 where
   pub unlabelled : Bool
   -- a `&` before the path `raw`
   pub raw : Bool
+  -- branches without an `else`
+  pub lacks_else : Bool
+  -- a closure
+  pub closure : Bool
   -- what the part refuses that it ends in
   pub refuses : List Begin
 
 abbrev pub shut_by : List Begin → Tail
-shut_by refuses = record { takes_all = false; bare = false; path = false; unlabelled = false; raw = false; refuses = refuses }
+shut_by refuses = record { takes_all = false; bare = false; path = false; unlabelled = false; raw = false; lacks_else = false; closure = false; refuses = refuses }
 
 abbrev pub shut : Tail
 shut = shut_by []
@@ -66,7 +74,7 @@ lacks_operand = record shut { bare = true }
 
 -- No operator can follow it.
 abbrev pub is_open : Tail → Bool
-is_open t = t.takes_all || t.bare
+is_open t = t.takes_all || t.bare || t.closure
 
 abbrev pub is_args : Begin → Bool
 is_args OfArgs = true
@@ -89,16 +97,28 @@ abbrev pub tail_follows : Tail → Bool → Tokens → Bool
 tail_follows t no_struct ts =
     (not t.takes_all || strength ts == 0) && not (t.bare && begins_operand no_struct ts)
     && not (t.path && (not no_struct && first (opens Brace) ts)) && not (t.unlabelled && first is_lifetime ts)
-    && not (t.raw && begins_pointer ts) && may_follow t.refuses ts
+    && not (t.raw && begins_pointer ts) && not (t.lacks_else && first (is_keyword (codes "else")) ts) && may_follow t.refuses ts
 
 -- ---- what is told of expressions
+
+-- which body of an arm an expression is
+pub data BodyKind : Type 0 where
+  -- a macro call
+  MacroBody : BodyKind
+  -- a block without a label; the flag says that its braces are dropped
+  BlockBody : Bool → BodyKind
+  OtherBody : BodyKind
+
+abbrev pub is_macro : BodyKind → Bool
+is_macro MacroBody = true
+is_macro _ = false
 
 pub record ExprFacts : Type 0 where
   pub form : Form
   pub level : ℕ
   pub lead : ExprLead
   pub tail : Tail
-  -- a `return` or a `break`, which stands at its level only where no operator follows
+  -- a `return`, a `break` or a closure, which stands at its level only where no operator follows
   pub jumps : Bool
   -- a range without an end
   pub endless : Bool
@@ -108,6 +128,7 @@ pub record ExprFacts : Type 0 where
   -- It ends a statement without a `;`, so that nothing but `.` and `?` goes on with it there: what ends in a block of its
   -- own, and a macro call in braces.
   pub block_like : Bool
+  pub kind : BodyKind
   -- the path of the one word `raw`
   pub is_raw : Bool
   -- a number without suffix
@@ -163,6 +184,9 @@ pub record StepFacts : Type 0 where
   pub form : Form
   pub good : Bool
 
+abbrev pub ExprLayer : Type 0
+ExprLayer = Expr-F StmtFacts ExprFacts Facts StepFacts KindFacts ArmFacts BlockFacts BranchFacts ItemFacts
+
 abbrev pub is_field : StepKind → Bool
 is_field OfField = true
 is_field _ = false
@@ -197,7 +221,7 @@ are_generics (Some args) = all_good (map about_arg args)
 abbrev pub args_form : List ExprFacts → Form
 args_form xs = comma_list true (opener Paren) (closer Paren) (expr_forms xs)
 
-abbrev pub step_facts : Step-F ExprFacts Facts StepFacts → StepFacts
+abbrev pub step_facts : Step-F StmtFacts ExprFacts Facts StepFacts KindFacts ArmFacts BlockFacts BranchFacts ItemFacts → StepFacts
 step_facts (Step-F.Field name) = record {
   kind = OfField;
   form = Piece (Operator (codes ".") ∷ []) (leaf_of name.raw name.text Done);
@@ -262,7 +286,7 @@ postfix_form base steps = group_if (nat_le 2 (methods steps)) (Part base.form (s
 
 -- ---- fields of struct literals
 
-abbrev pub field_facts : FieldExpr-F ExprFacts Facts StepFacts → Facts
+abbrev pub field_facts : FieldExpr-F StmtFacts ExprFacts Facts StepFacts KindFacts ArmFacts BlockFacts BranchFacts ItemFacts → Facts
 field_facts (FieldExpr-F.Named attrs name x) = record {
   form = behind_attrs (map attr_form attrs) (leaf_of name.raw name.text (Piece colon (Part x.form Done)));
   good = are_attrs false attrs && is_name name.raw name.text && placed x FREE;
@@ -333,24 +357,95 @@ abbrev pub operand_form : Option ExprFacts → Form
 operand_form None = Done
 operand_form (Some x) = Piece (Blank ∷ []) (Part x.form Done)
 
-abbrev pub inside : Expr-F ExprFacts Facts StepFacts → Form
+abbrev pub labelled : Option Lifetime → Form → Form
+labelled None f = f
+labelled (Some l) f = Part (lifetime_form l) (Piece colon (Part f Done))
+
+-- a condition, or a pattern and what it is matched with
+abbrev pub condition_form : Option Pat → ExprFacts → Form
+condition_form None x = x.form
+condition_form (Some pat) x =
+    Piece (keyword (codes "let") ∷ Blank ∷ []) (Part (pat_form Alternatives (about_pat pat)) (Piece equals (Part x.form Done)))
+
+abbrev pub branch_head : BranchFacts → Form
+branch_head b = Piece (keyword (codes "if") ∷ Blank ∷ []) (Part b.condition Done)
+
+-- further branches
+abbrev pub more_branches : List BranchFacts → Form → Form
+more_branches [] f = f
+more_branches (b ∷ more) f =
+    Piece (Blank ∷ keyword (codes "else") ∷ Blank ∷ []) (I0 (branch_head b) (Part b.soft (more_branches more f)))
+
+abbrev pub branches_form : List BranchFacts → Form → Form
+branches_form [] f = f
+branches_form (b ∷ more) f = I0 (branch_head b) (Part b.soft (more_branches more f))
+
+abbrev pub else_branch_form : Option BlockFacts → Form
+else_branch_form None = Done
+else_branch_form (Some b) = Piece (Blank ∷ keyword (codes "else") ∷ []) (Part b.soft Done)
+
+abbrev pub arm_forms : List ArmFacts → List Form
+arm_forms [] = []
+arm_forms (a ∷ []) = a.form true ∷ []
+arm_forms (a ∷ b ∷ more) = a.form false ∷ arm_forms (b ∷ more)
+
+-- a value behind its `=`, if there is one
+abbrev pub value_form : Option ExprFacts → Form
+value_form None = Done
+value_form (Some x) = Piece equals (N (Part x.form Done))
+
+abbrev pub value_placed : Option ExprFacts → Bool
+value_placed None = true
+value_placed (Some x) = placed x FREE
+
+abbrev pub closure_param : ClosureParam → Form
+closure_param p = param_attrs p.attrs (Part (pat_form Single (about_pat p.pat)) (Part (param_type p.ty) Done))
+
+abbrev pub is_closure_param : ClosureParam → Bool
+is_closure_param p = are_attrs false p.attrs && pat_good Single (about_pat p.pat) && may_be_type p.ty
+
+abbrev pub bar : Bit
+bar = Fixed kind.Punct (codes "|")
+
+-- what stands before the body of a closure
+abbrev pub closure_head : Bool → List ClosureParam → Form → Form
+closure_head moves params f =
+    when moves (keyword (codes "move") ∷ Blank ∷ []) (Part (comma_list true bar bar (map closure_param params)) f)
+
+abbrev pub inside : ExprLayer → Form
 inside (Expr-F.Lit l) = literal_form l Done
 inside (Expr-F.Path path) = (about_path path Code).form
 inside Expr-F.Underscore = piece (Fixed kind.Underscore (codes "_") ∷ [])
-inside (Expr-F.Call call) = (about_call call).form
+inside (Expr-F.Expr::Call call) = (about_call call).form
 inside (Expr-F.Paren x) = Piece (opener Paren ∷ []) (Part x.form (piece (closer Paren ∷ [])))
 inside (Expr-F.Continue label) = Piece (keyword (codes "continue") ∷ []) (label_form label Done)
 inside (Expr-F.Tuple xs) = tuple_form xs
 inside (Expr-F.Array xs) = comma_list true (opener Bracket) (closer Bracket) (expr_forms xs)
 inside (Expr-F.Repeat x length) =
     Piece (opener Bracket ∷ []) (Part x.form (Piece (semicolon ++ Blank ∷ []) (Part (token_list length) (piece (closer Bracket ∷ [])))))
-inside (Expr-F.Struct path fields base) = struct_form path fields base
+inside (Expr-F.Expr::Struct path fields base) = struct_form path fields base
 inside (Expr-F.Chain x rest) = I4 (Part x.form (operands_form rest)) Done
 inside (Expr-F.Cast x types) = Part x.form (types_form (map about_type types))
 inside (Expr-F.Unary ps x) = prefixes_form ps (Part x.form Done)
 inside (Expr-F.Range start inclusive end) = end_form start (Piece (dots inclusive) (end_form end Done))
 inside (Expr-F.Assign targets x) = targets_form targets (Part x.form Done)
 inside (Expr-F.Postfix x steps) = postfix_form x steps
+inside (Expr-F.Block label b) = labelled label (b.form false)
+inside (Expr-F.Unsafe b) = Piece (keyword (codes "unsafe") ∷ []) (Part b.soft Done)
+inside (Expr-F.ConstBlock b) = Piece (keyword (codes "const") ∷ []) (Part b.soft Done)
+inside (Expr-F.Async moves b) = Piece (keyword (codes "async") ∷ []) (when moves (Blank ∷ keyword (codes "move") ∷ []) (Part (b.form true) Done))
+inside (Expr-F.If branches otherwise) = branches_form branches (else_branch_form otherwise)
+inside (Expr-F.Match x attrs arms) =
+    I0 (Piece (keyword (codes "match") ∷ Blank ∷ []) (Part x.form Done)) (body (Blank ∷ []) [] (map attr_form attrs ++ arm_forms arms))
+inside (Expr-F.Loop label b) = labelled label (Piece (keyword (codes "loop") ∷ []) (Part (b.form true) Done))
+inside (Expr-F.While label pat x b) =
+    labelled label (I0 (Piece (keyword (codes "while") ∷ Blank ∷ []) (Part (condition_form pat x) Done)) (Part (b.form true) Done))
+inside (Expr-F.For label pat x b) = labelled label
+    (I0 (Piece (keyword (codes "for") ∷ Blank ∷ []) (Part (pat_form Alternatives (about_pat pat)) (Piece (Blank ∷ keyword (codes "in") ∷ Blank ∷ []) (Part x.form Done))))
+    (Part (b.form true) Done))
+inside (Expr-F.Closure moves params x) = closure_head moves params (Piece (Blank ∷ []) (Part x.form Done))
+inside (Expr-F.TypedClosure moves params output b) = closure_head moves params
+    (Piece (Blank ∷ Operator (codes "->") ∷ Blank ∷ []) (Part (about_type output).told.form (Part (b.form true) Done)))
 inside (Expr-F.Return x) = Piece (keyword (codes "return") ∷ []) (operand_form x)
 inside (Expr-F.Break label x) = Piece (keyword (codes "break") ∷ []) (label_form label (operand_form x))
 
@@ -360,7 +455,7 @@ abbrev pub level_of_chain : List (Op × ExprFacts) → ℕ
 level_of_chain [] = 0
 level_of_chain (x ∷ more) = op_level x.0
 
-abbrev pub level_of : Expr-F ExprFacts Facts StepFacts → ℕ
+abbrev pub level_of : ExprLayer → ℕ
 level_of (Expr-F.Chain x rest) = level_of_chain rest
 level_of (Expr-F.Cast x types) = 11
 level_of (Expr-F.Unary ps x) = 12
@@ -369,6 +464,8 @@ level_of (Expr-F.Assign targets x) = 0
 level_of (Expr-F.Postfix x steps) = 13
 level_of (Expr-F.Return x) = 12
 level_of (Expr-F.Break label x) = 12
+level_of (Expr-F.Closure moves params x) = 12
+level_of (Expr-F.TypedClosure moves params output b) = 12
 level_of _ = 14
 
 -- ---- what it begins with
@@ -381,17 +478,21 @@ abbrev pub lead_of_targets : List (ExprFacts × Op) → ExprFacts → ExprLead
 lead_of_targets [] x = x.lead
 lead_of_targets (y ∷ more) x = y.0.lead
 
-abbrev pub lead_of : Expr-F ExprFacts Facts StepFacts → ExprLead
+abbrev pub label_or : ExprLead → Option Lifetime → ExprLead
+label_or lead None = lead
+label_or lead (Some l) = ByLabel
+
+abbrev pub lead_of : ExprLayer → ExprLead
 lead_of (Expr-F.Lit l) = ByLiteral
 lead_of (Expr-F.Path path) = ByPath
 lead_of Expr-F.Underscore = ByUnderscore
-lead_of (Expr-F.Call call) = ByPath
+lead_of (Expr-F.Expr::Call call) = ByPath
 lead_of (Expr-F.Paren x) = ByParen
 lead_of (Expr-F.Continue label) = ByContinue
 lead_of (Expr-F.Tuple xs) = ByParen
 lead_of (Expr-F.Array xs) = ByBracket
 lead_of (Expr-F.Repeat x length) = ByBracket
-lead_of (Expr-F.Struct path fields base) = ByPath
+lead_of (Expr-F.Expr::Struct path fields base) = ByPath
 lead_of (Expr-F.Chain x rest) = x.lead
 lead_of (Expr-F.Cast x types) = x.lead
 lead_of (Expr-F.Unary ps x) = ByPrefix
@@ -400,6 +501,17 @@ lead_of (Expr-F.Assign targets x) = lead_of_targets targets x
 lead_of (Expr-F.Postfix x steps) = x.lead
 lead_of (Expr-F.Return x) = ByReturn
 lead_of (Expr-F.Break label x) = ByBreak
+lead_of (Expr-F.Block label b) = label_or ByBrace label
+lead_of (Expr-F.Unsafe b) = ByBlockWord
+lead_of (Expr-F.ConstBlock b) = ByBlockWord
+lead_of (Expr-F.Async moves b) = ByBlockWord
+lead_of (Expr-F.If branches otherwise) = ByBlockWord
+lead_of (Expr-F.Match x attrs arms) = ByBlockWord
+lead_of (Expr-F.Loop label b) = label_or ByBlockWord label
+lead_of (Expr-F.While label pat x b) = label_or ByBlockWord label
+lead_of (Expr-F.For label pat x b) = label_or ByBlockWord label
+lead_of (Expr-F.Closure moves params x) = ByClosure
+lead_of (Expr-F.TypedClosure moves params output b) = ByClosure
 
 abbrev pub is_brace_lead : ExprLead → Bool
 is_brace_lead ByBrace = true
@@ -442,7 +554,7 @@ ends_in_amp [] = false
 ends_in_amp (p ∷ []) = is_amp p
 ends_in_amp (p ∷ q ∷ more) = ends_in_amp (q ∷ more)
 
-abbrev pub tail_of : Expr-F ExprFacts Facts StepFacts → Tail
+abbrev pub tail_of : ExprLayer → Tail
 tail_of (Expr-F.Path path) = record (shut_by (OfBang ∷ (about_path path Code).refuses)) { path = true }
 tail_of (Expr-F.Continue label) = record shut { unlabelled = not (is_some label) }
 tail_of (Expr-F.Chain x rest) = tail_of_operands rest
@@ -453,44 +565,62 @@ tail_of (Expr-F.Assign targets x) = x.tail
 tail_of (Expr-F.Postfix x steps) = tail_of_steps steps
 tail_of (Expr-F.Return x) = tail_of_jump x
 tail_of (Expr-F.Break label x) = tail_of_jump x
+tail_of (Expr-F.If branches otherwise) = record shut { lacks_else = not (is_some otherwise) }
+tail_of (Expr-F.Closure moves params x) = record x.tail { takes_all = true; closure = true }
+tail_of (Expr-F.TypedClosure moves params output b) = record shut { closure = true }
 tail_of _ = shut
 
 -- ---- what it is
 
-abbrev pub is_jump : Expr-F ExprFacts Facts StepFacts → Bool
+abbrev pub is_jump : ExprLayer → Bool
 is_jump (Expr-F.Return x) = true
 is_jump (Expr-F.Break label x) = true
+is_jump (Expr-F.Closure moves params x) = true
+is_jump (Expr-F.TypedClosure moves params output b) = true
 is_jump _ = false
 
-abbrev pub is_endless : Expr-F ExprFacts Facts StepFacts → Bool
+abbrev pub is_endless : ExprLayer → Bool
 is_endless (Expr-F.Range start inclusive end) = not (is_some end)
 is_endless _ = false
 
-abbrev pub is_typed_cast : Expr-F ExprFacts Facts StepFacts → Bool
+abbrev pub is_typed_cast : ExprLayer → Bool
 is_typed_cast (Expr-F.Cast x types) = lacks_args (type_refuses (map about_type types))
 is_typed_cast _ = false
 
-abbrev pub is_struct_literal : Expr-F ExprFacts Facts StepFacts → Bool
-is_struct_literal (Expr-F.Struct path fields base) = true
+abbrev pub is_struct_literal : ExprLayer → Bool
+is_struct_literal (Expr-F.Expr::Struct path fields base) = true
 is_struct_literal _ = false
 
 abbrev pub is_brace : Delim → Bool
 is_brace Brace = true
 is_brace _ = false
 
-abbrev pub is_block_like : Expr-F ExprFacts Facts StepFacts → Bool
-is_block_like (Expr-F.Call call) = is_brace call.tokens.delim
+abbrev pub is_block_like : ExprLayer → Bool
+is_block_like (Expr-F.Expr::Call call) = is_brace call.tokens.delim
+is_block_like (Expr-F.Block label b) = true
+is_block_like (Expr-F.Unsafe b) = true
+is_block_like (Expr-F.ConstBlock b) = true
+is_block_like (Expr-F.If branches otherwise) = true
+is_block_like (Expr-F.Match x attrs arms) = true
+is_block_like (Expr-F.Loop label b) = true
+is_block_like (Expr-F.While label pat x b) = true
+is_block_like (Expr-F.For label pat x b) = true
 is_block_like _ = false
+
+abbrev pub body_kind : ExprLayer → BodyKind
+body_kind (Expr-F.Expr::Call call) = MacroBody
+body_kind (Expr-F.Block None b) = BlockBody b.lone
+body_kind _ = OtherBody
 
 abbrev pub is_raw_word : Option Word → Bool
 is_raw_word None = false
 is_raw_word (Some w) = not w.raw && bytes_eq w.text (codes "raw")
 
-abbrev pub is_raw_path : Expr-F ExprFacts Facts StepFacts → Bool
+abbrev pub is_raw_path : ExprLayer → Bool
 is_raw_path (Expr-F.Path path) = is_raw_word (lone_word path)
 is_raw_path _ = false
 
-abbrev pub is_bare_literal : Expr-F ExprFacts Facts StepFacts → Bool
+abbrev pub is_bare_literal : ExprLayer → Bool
 is_bare_literal (Expr-F.Lit l) = is_bare_number l.kind l.text
 is_bare_literal _ = false
 
@@ -565,17 +695,32 @@ postfix_placed x steps no_struct first =
 abbrev pub types_good : List TypeFacts → Bool
 types_good xs = list_all (good_at NoBounds) xs
 
-abbrev pub within_of : Expr-F ExprFacts Facts StepFacts → Bool → Bool → Bool
+-- Behind `let` and a pattern, what it is matched with is of level 4 at least.
+abbrev pub condition_good : Option Pat → ExprFacts → Bool
+condition_good None x = placed x (plain 0 true)
+condition_good (Some pat) x = pat_good Alternatives (about_pat pat) && placed x (plain 4 true)
+
+abbrev pub branches_good : List BranchFacts → Bool
+branches_good branches = list_all (λ (b : BranchFacts). b.good) branches
+
+abbrev pub may_be_good : Option BlockFacts → Bool
+may_be_good None = true
+may_be_good (Some b) = b.good
+
+abbrev pub arms_good : List ArmFacts → Bool
+arms_good arms = list_all (λ (a : ArmFacts). a.good) arms
+
+abbrev pub within_of : ExprLayer → Bool → Bool → Bool
 within_of (Expr-F.Lit l) no_struct first = is_literal l.kind l.text
 within_of (Expr-F.Path path) no_struct first = (about_path path Code).good
 within_of Expr-F.Underscore no_struct first = true
-within_of (Expr-F.Call call) no_struct first = (about_call call).good
+within_of (Expr-F.Expr::Call call) no_struct first = (about_call call).good
 within_of (Expr-F.Paren x) no_struct first = placed x FREE
 within_of (Expr-F.Continue label) no_struct first = true
 within_of (Expr-F.Tuple xs) no_struct first = all_free xs
 within_of (Expr-F.Array xs) no_struct first = all_free xs
 within_of (Expr-F.Repeat x length) no_struct first = placed x FREE && not (is_empty length) && is_token_list length
-within_of (Expr-F.Struct path fields base) no_struct first = (about_path path Code).good && all_good fields && base_placed base
+within_of (Expr-F.Expr::Struct path fields base) no_struct first = (about_path path Code).good && all_good fields && base_placed base
 within_of (Expr-F.Chain x rest) no_struct first = chain_placed (level_of_chain rest) x rest no_struct first
 within_of (Expr-F.Cast x types) no_struct first =
     is_there types && placed x (before_op 12 no_struct first false) && types_good (map about_type types)
@@ -584,12 +729,23 @@ within_of (Expr-F.Range start inclusive end) no_struct first = start_placed star
 within_of (Expr-F.Assign targets x) no_struct first =
     is_there targets && targets_placed targets no_struct first && placed x (plain 1 no_struct)
 within_of (Expr-F.Postfix x steps) no_struct first = postfix_placed x steps no_struct first
+within_of (Expr-F.Block label b) no_struct first = b.good
+within_of (Expr-F.Unsafe b) no_struct first = b.good
+within_of (Expr-F.ConstBlock b) no_struct first = b.good
+within_of (Expr-F.Async moves b) no_struct first = b.good
+within_of (Expr-F.If branches otherwise) no_struct first = is_there branches && branches_good branches && may_be_good otherwise
+within_of (Expr-F.Match x attrs arms) no_struct first = placed x (plain 0 true) && are_attrs true attrs && arms_good arms
+within_of (Expr-F.Loop label b) no_struct first = b.good
+within_of (Expr-F.While label pat x b) no_struct first = condition_good pat x && b.good
+within_of (Expr-F.For label pat x b) no_struct first = pat_good Alternatives (about_pat pat) && placed x (plain 0 true) && b.good
+within_of (Expr-F.Closure moves params x) no_struct first = list_all is_closure_param params && placed x (plain 0 no_struct)
+within_of (Expr-F.TypedClosure moves params output b) no_struct first = list_all is_closure_param params && good_at NoBounds (about_type output) && b.good
 within_of (Expr-F.Return x) no_struct first = operand_placed x no_struct
 within_of (Expr-F.Break label x) no_struct first = operand_placed x no_struct && break_placed label x
 
 -- ---- what is told of each node
 
-abbrev pub expr_facts : Expr-F ExprFacts Facts StepFacts → ExprFacts
+abbrev pub expr_facts : ExprLayer → ExprFacts
 expr_facts x = record {
   form = deeper (inside x);
   level = level_of x;
@@ -600,19 +756,11 @@ expr_facts x = record {
   typed = is_typed_cast x;
   is_struct = is_struct_literal x;
   block_like = is_block_like x;
+  kind = body_kind x;
   is_raw = is_raw_path x;
   is_number = is_bare_literal x;
   within = within_of x;
 }
-
-unfoldable pub about_expr : Expr → ExprFacts
-about_expr = fold-Expr ExprFacts Facts StepFacts expr_facts field_facts step_facts
-
-unfoldable pub about_field_expr : FieldExpr → Facts
-about_field_expr = fold-FieldExpr ExprFacts Facts StepFacts expr_facts field_facts step_facts
-
-unfoldable pub about_step : Step → StepFacts
-about_step = fold-Step ExprFacts Facts StepFacts expr_facts field_facts step_facts
 
 -- ---- fronts
 

@@ -5,8 +5,8 @@ use Rattle.lay_form.specs.Notation.{lines}
 use Rattle.lay_node.specs.nodes.Attr.{are_attrs, attr_form}
 use Rattle.lay_node.specs.nodes.Facts.{forms, all_good}
 use Rattle.lay_node.specs.declared.heads.Site.TheVariants.{Module}
-use Rattle.lay_tree.specs.nodes.Item.{about_item}
 use Rattle.lay_tree.specs.declared.file.File.{File}
+use Rattle.lay_tree.specs.nodes.Code.{about_item}
 
 -- the inner attributes of a file and then its items, each on a line of its own
 abbrev pub form_of_file : File → Form

@@ -1,5 +1,5 @@
 -- Items (Rust Reference, "Items"). Each ends in a `;` or in a `}`, so anything may follow it.
-use Rattle.std.specs.Prelude.{Bool, true, false, ◌&&◌, ◌||◌, List, [], ◌∷◌, ◌++◌, map, codes, Option, Some, None, is_some}
+use Rattle.std.specs.Prelude.{Bool, true, false, ◌&&◌, ◌||◌, List, [], ◌∷◌, ◌++◌, map, codes, Option, Some, None, is_some, not}
 use Rattle.std.specs.List.{list_all}
 use Rattle.lay_form.specs.Form.{Blank, Operator, Form, Done, Piece, Part, Deeper, keyword, semicolon}
 use Rattle.lay_form.specs.Notation.{I0, piece, body, behind_attrs, N}
@@ -31,13 +31,13 @@ use Rattle.lay_node.specs.declared.tokens.MacroCall.{MacroCall}
 use Rattle.lay_node.specs.declared.use_tree.UseTree.{UseTree}
 use Rattle.lay_node.specs.declared.vis.Vis.{Vis}
 use Rattle.lay_node.specs.declared.vis.Vis.TheVariants as vis
-use Rattle.lay_tree.specs.nodes.Exprs.{about_expr, placed}
+use Rattle.lay_tree.specs.nodes.CodeFacts.{BlockFacts, ItemFacts, KindFacts, StmtFacts, ArmFacts, BranchFacts}
+use Rattle.lay_tree.specs.nodes.Exprs.{placed, value_form, value_placed, may_be_good, ExprFacts, StepFacts}
 use Rattle.lay_tree.specs.nodes.Places.{FREE}
 use Rattle.lay_tree.specs.declared.exprs.Expr.{Expr}
 use Rattle.lay_tree.specs.declared.item.Item.{Item}
 use Rattle.lay_tree.specs.declared.item.ItemKind.{ItemKind}
-use Rattle.lay_tree.specs.declared.item.ItemKind.TheFolds.{fold-Item, fold-ItemKind}
-use Rattle.lay_tree.specs.declared.item.ItemKind.TheOpen.{Item-F, ItemKind-F}
+use Rattle.lay_tree.specs.declared.blocks.Stmt.TheOpen.{Item-F, ItemKind-F}
 
 -- ---- where an item may stand
 
@@ -45,11 +45,11 @@ abbrev pub in_module : Site → Bool
 in_module site.Module = true
 in_module _ = false
 
--- A function has no body in a trait, where it may lack one, and in a foreign block.
-abbrev pub may_lack_body : Site → Bool
-may_lack_body site.TraitMember = true
-may_lack_body site.Foreign = true
-may_lack_body _ = false
+-- A function may lack its body in a trait, and has none in a foreign block. The flag says that it has one.
+abbrev pub may_be_bodied : Site → Bool → Bool
+may_be_bodied site.Foreign bodied = not bodied
+may_be_bodied site.TraitMember bodied = true
+may_be_bodied _ bodied = bodied
 
 -- A constant has no value in a trait, where it may lack one, and a static in a foreign block.
 abbrev pub may_lack_value : Site → ValueHead → Bool
@@ -70,17 +70,6 @@ may_be_valued site head true = may_have_value site head
 may_be_valued site head false = may_lack_value site head
 
 -- ---- what is told of an item, and of what it is
-
-pub record ItemFacts : Type 0 where
-  pub form : Form
-  pub good : Site → Bool
-
-pub record KindFacts : Type 0 where
-  -- the head, which the layout keeps in a group of its own, with a visibility before it; a macro has none
-  pub head : Option Form
-  -- what stands behind it
-  pub tail : Form
-  pub good : Site → Bool
 
 abbrev pub kind_form : Vis → Option Form → Form → Form
 kind_form v None tail = tail
@@ -118,22 +107,19 @@ about_module name attrs items = record {
   good = is_name name.raw name.text && are_attrs true attrs && items_good site.Module items;
 }
 
-abbrev pub about_function : Site → FnHead → Wheres → HeadFacts
-about_function site head wheres = record {
+-- what stands behind the head of a function
+abbrev pub function_tail : Wheres → Option BlockFacts → Form
+function_tail wheres None = Part (wheres_before_semicolon wheres) (piece semicolon)
+function_tail wheres (Some b) = Part (wheres_before_body wheres) (Part (b.form (leads wheres)) Done)
+
+abbrev pub about_function : Site → FnHead → Wheres → Option BlockFacts → HeadFacts
+about_function site head wheres b = record {
   head = fn_head_form head;
-  tail = Part (wheres_before_semicolon wheres) (piece semicolon);
-  good = is_fn_head site head && are_predicates wheres && may_lack_body site;
+  tail = function_tail wheres b;
+  good = is_fn_head site head && are_predicates wheres && may_be_bodied site (is_some b) && may_be_good b;
 }
 
-abbrev pub value_form : Option Expr → Form
-value_form None = Done
-value_form (Some x) = Piece equals (N (Part (about_expr x).form Done))
-
-abbrev pub value_placed : Option Expr → Bool
-value_placed None = true
-value_placed (Some x) = placed (about_expr x) FREE
-
-abbrev pub about_value : Site → ValueHead → Option Expr → HeadFacts
+abbrev pub about_value : Site → ValueHead → Option ExprFacts → HeadFacts
 about_value site head value = record {
   head = Part (value_head_form head) (value_form value);
   tail = piece semicolon;
@@ -178,20 +164,20 @@ call_item_form call = Part (about_call call).form (end_form call.tokens.delim)
 
 -- what has a head, in a module
 abbrev pub in_modules : HeadFacts → KindFacts
-in_modules x = record { head = Some x.head; tail = x.tail; good = λ site. x.good && in_module site }
+in_modules x = record { head = Some x.head; tail = x.tail; good = λ site. x.good && in_module site; call = false }
 
 -- what has a head, of which the site decides
 abbrev pub by_site : (Site → HeadFacts) → KindFacts
-by_site x = record { head = Some (x site.Module).head; tail = (x site.Module).tail; good = λ site. (x site).good }
+by_site x = record { head = Some (x site.Module).head; tail = (x site.Module).tail; good = λ site. (x site).good; call = false }
 
-abbrev pub kind_facts : ItemKind-F KindFacts ItemFacts → KindFacts
+abbrev pub kind_facts : ItemKind-F StmtFacts ExprFacts Facts StepFacts KindFacts ArmFacts BlockFacts BranchFacts ItemFacts → KindFacts
 kind_facts (ItemKind-F.ExternCrate x) = in_modules (about_extern_crate x)
 kind_facts (ItemKind-F.Import tree) = in_modules (about_import tree)
 kind_facts (ItemKind-F.FileModule name) = in_modules (about_file_module name)
 kind_facts (ItemKind-F.Module name attrs items) = in_modules (about_module name attrs items)
-kind_facts (ItemKind-F.Function head wheres) = by_site (λ site. about_function site head wheres)
+kind_facts (ItemKind-F.Function head wheres b) = by_site (λ site. about_function site head wheres b)
 kind_facts (ItemKind-F.Alias x) = by_site (λ site. about_alias site x)
-kind_facts (ItemKind-F.Struct x) = in_modules (about_struct x)
+kind_facts (ItemKind-F.ItemKind::Struct x) = in_modules (about_struct x)
 kind_facts (ItemKind-F.Union x) = in_modules (about_union x)
 kind_facts (ItemKind-F.Enum x) = in_modules (about_enum x)
 kind_facts (ItemKind-F.Value head value) = by_site (λ site. about_value site head value)
@@ -202,8 +188,14 @@ kind_facts (ItemKind-F.MacroRules name rules) = record {
   head = None;
   tail = rules_form name rules;
   good = λ site. is_name name.raw name.text && is_group rules && in_module site;
+  call = false;
 }
-kind_facts (ItemKind-F.Call call) = record { head = None; tail = call_item_form call; good = λ site. (about_call call).good }
+kind_facts (ItemKind-F.ItemKind::Call call) = record {
+  head = None;
+  tail = call_item_form call;
+  good = λ site. (about_call call).good;
+  call = true;
+}
 
 -- ---- an item
 
@@ -211,21 +203,9 @@ abbrev pub is_inherited : Vis → Bool
 is_inherited vis.Inherited = true
 is_inherited _ = false
 
-abbrev pub item_facts : Item-F KindFacts ItemFacts → ItemFacts
+abbrev pub item_facts : Item-F StmtFacts ExprFacts Facts StepFacts KindFacts ArmFacts BlockFacts BranchFacts ItemFacts → ItemFacts
 item_facts item = record {
   form = Deeper (behind_attrs (map attr_form item.attrs) (Part (kind_form item.vis item.kind.head item.kind.tail) Done)) Done;
   good = λ site. are_attrs false item.attrs && is_vis item.vis && (is_some item.kind.head || is_inherited item.vis) && item.kind.good site;
+  call = item.kind.call;
 }
-
-unfoldable pub told_of_item : Item → ItemFacts
-told_of_item = fold-Item KindFacts ItemFacts kind_facts item_facts
-
-unfoldable pub told_of_kind : ItemKind → KindFacts
-told_of_kind = fold-ItemKind KindFacts ItemFacts kind_facts item_facts
-
--- what is told of an item at its site
-abbrev pub about_item : Site → Item → Facts
-about_item site item = record { form = (told_of_item item).form; good = (told_of_item item).good site; refuses = [] }
-
-abbrev pub form_of_item : Item → Form
-form_of_item item = (told_of_item item).form

@@ -5,7 +5,7 @@ use Rattle.lay_piece.specs.Number.{is_index}
 use Rattle.lay_piece.specs.declared.kind.Delim.TheVariants.{Paren, Bracket, Brace}
 use Rattle.lay_token.specs.Operators.{is_op}
 use Rattle.lay_token.specs.declared.token.Token.{Token}
-use Rattle.lay_node.specs.Ahead.{Tokens, first, tail, is_keyword, is_lifetime, is_mark, opens, closes, opens_args_late}
+use Rattle.lay_node.specs.Ahead.{Tokens, first, tail, is_keyword, is_lifetime, is_mark, opens, closes, opens_args_late, more_items}
 use Rattle.lay_node.specs.Begins.{is_literal_token}
 use Rattle.lay_node.specs.nodes.Attr.{is_empty}
 use Rattle.lay_node.specs.reader.Attr.{attributes}
@@ -16,16 +16,23 @@ use Rattle.lay_node.specs.reader.Tokens.{tokens}
 use Rattle.lay_node.specs.reader.Types.{Within, angled, begins_call, if_read, if_there, lifetime, literal, one_arg, path, within}
 use Rattle.lay_node.specs.reader.Words.{name}
 use Rattle.lay_node.specs.declared.attr.Attr.{Attr}
+use Rattle.lay_node.specs.declared.patterns.PatPlace.TheVariants.{Alternatives, Single}
+use Rattle.lay_node.specs.declared.token.Lifetime.{Lifetime}
 use Rattle.lay_node.specs.declared.token.Name.{Name}
 use Rattle.lay_node.specs.declared.types.Arg.{Arg}
 use Rattle.lay_node.specs.declared.types.Path.{Path}
 use Rattle.lay_node.specs.declared.types.PathStyle.TheVariants.{Code}
 use Rattle.lay_node.specs.declared.types.Ty.{Ty}
-use Rattle.lay_node.specs.declared.types.TypePlace.TheVariants.{NoBounds}
-use Rattle.lay_tree.specs.Operands.{ExprLead, ByLiteral, ByPath, ByUnderscore, ByParen, ByBracket, ByPrefix, ByRange, ByContinue, ByBreak, ByReturn, expr_lead_at, begins_operand}
+use Rattle.lay_node.specs.declared.types.TypePlace.TheVariants.{NoBounds, Bounds}
+use Rattle.lay_tree.specs.Operands.{ExprLead, ByLiteral, ByPath, ByUnderscore, ByParen, ByBracket, ByPrefix, ByRange, ByContinue, ByBreak, ByReturn, expr_lead_at, begins_operand, ByLabel, ByBrace, ByBlockWord, ByClosure}
 use Rattle.lay_tree.specs.Operators.{op_text, binary, prefix, prefix_length, is_angle, is_dot_or_try, begins_step, strength}
-use Rattle.lay_tree.specs.nodes.Exprs.{ExprFacts, stands, root_follows, about_expr}
+use Rattle.lay_tree.specs.nodes.Code.{about_expr}
+use Rattle.lay_tree.specs.nodes.Exprs.{ExprFacts, stands, root_follows}
 use Rattle.lay_tree.specs.nodes.Places.{plain, FREE, begins, is_whole, before_op}
+use Rattle.lay_tree.specs.reader.Blocks.{block_by, branch_by, condition_by, arm_by}
+use Rattle.lay_tree.specs.reader.Within.{ExprWithin}
+use Rattle.lay_tree.specs.declared.blocks.Block.{Block}
+use Rattle.lay_tree.specs.declared.exprs.ClosureParam.{ClosureParam}
 use Rattle.lay_tree.specs.declared.exprs.Expr.{Expr}
 use Rattle.lay_tree.specs.declared.exprs.Expr.TheVariants as expr
 use Rattle.lay_tree.specs.declared.exprs.FieldExpr.{FieldExpr}
@@ -35,11 +42,6 @@ use Rattle.lay_tree.specs.declared.exprs.Step.{Step}
 use Rattle.lay_tree.specs.declared.exprs.Step.TheVariants as step
 use Rattle.lay_tree.specs.declared.operators.Op.{Op}
 use Rattle.lay_tree.specs.declared.operators.Prefix.{Prefix}
-
--- How what is one level deeper is read: expressions, at a place, and the types and the arguments of paths.
-pub record ExprWithin : Type 0 where
-  pub exprs : Place → Tokens → Read Expr
-  pub kinds : Within
 
 -- expressions within delimiters, up to what closes them
 abbrev pub free_elements : ExprWithin → (Token → Bool) → Tokens → Read (List Expr)
@@ -169,6 +171,101 @@ range_expr within no_struct start need ts =
     if is_op (codes "..=") ts then range_by within no_struct start need true (drop 3 ts)
     else range_by within no_struct start need false (drop 2 ts)
 
+-- ---- with blocks
+
+abbrev pub block_expr : ExprWithin → (Block → Expr) → Tokens → Read Expr
+block_expr within make ts = do b ← block_by within ts; Some ((make b.0.0, suc b.0.1), b.1)
+
+-- what stands behind `async`
+abbrev pub async_expr : ExprWithin → Tokens → Read Expr
+async_expr within ts =
+    if first (is_keyword (codes "move")) ts then block_expr within (λ b. expr.Async true b) (tail ts)
+    else block_expr within (λ b. expr.Async false b) ts
+
+abbrev pub begins_else_if : Tokens → Bool
+begins_else_if ts = first (is_keyword (codes "else")) ts && first (is_keyword (codes "if")) (tail ts)
+
+-- what stands behind an `if`
+unfoldable pub if_expr : ExprWithin → Tokens → Read Expr
+if_expr within ts = do
+  b ← branch_by within ts
+  more ← repeat begins_else_if (λ us. branch_by within (drop 2 us)) b.1
+  o ← if_read (first (is_keyword (codes "else")) more.1) (λ us. block_by within (tail us)) more.1
+  Some ((expr.If (b.0.0 ∷ nodes more.0) o.0.0, suc (max b.0.1 (max (deepest more.0) o.0.1))), o.1)
+
+-- what stands behind `match`
+unfoldable pub match_expr : ExprWithin → Tokens → Read Expr
+match_expr within ts = do
+  x ← within.exprs (plain 0 true) ts
+  inside ← passed (opens Brace) x.1
+  attrs ← attributes true inside
+  arms ← repeat more_items (arm_by within) attrs.1
+  rest ← passed (closes Brace) arms.1
+  Some ((expr.Match x.0.0 attrs.0 (nodes arms.0), suc (max x.0.1 (deepest arms.0))), rest)
+
+-- what stands behind `while`
+unfoldable pub while_expr : ExprWithin → Option Lifetime → Tokens → Read Expr
+while_expr within label ts = do
+  c ← condition_by within ts
+  b ← block_by within c.1
+  Some ((expr.While label c.0.0.0 c.0.0.1 b.0.0, suc (max c.0.1 b.0.1)), b.1)
+
+-- what stands behind `for`
+unfoldable pub for_expr : ExprWithin → Option Lifetime → Tokens → Read Expr
+for_expr within label ts = do
+  p ← within.pats Alternatives ts
+  behind ← passed (is_keyword (codes "in")) p.1
+  x ← within.exprs (plain 0 true) behind
+  b ← block_by within x.1
+  Some ((expr.For label p.0.0 x.0.0 b.0.0, suc (max p.0.1 (max x.0.1 b.0.1))), b.1)
+
+-- a block or a loop, behind its label if it has one
+abbrev pub labelled_expr : ExprWithin → Option Lifetime → Tokens → Read Expr
+labelled_expr within label ts =
+    if first (opens Brace) ts then block_expr within (expr.Block label) ts
+    else (if first (is_keyword (codes "loop")) ts then block_expr within (expr.Loop label) (tail ts)
+    else (if first (is_keyword (codes "while")) ts then while_expr within label (tail ts)
+    else (do behind ← passed (is_keyword (codes "for")) ts; for_expr within label behind)))
+
+unfoldable pub label_expr : ExprWithin → Tokens → Read Expr
+label_expr within ts = do
+  l ← lifetime ts
+  if is_op (codes ":") l.1 then labelled_expr within (Some l.0) (drop 1 l.1) else None
+
+unfoldable pub block_word_expr : ExprWithin → Tokens → Read Expr
+block_word_expr within ts =
+    if first (is_keyword (codes "unsafe")) ts then block_expr within expr.Unsafe (tail ts)
+    else (if first (is_keyword (codes "const")) ts then block_expr within expr.ConstBlock (tail ts)
+    else (if first (is_keyword (codes "async")) ts then async_expr within (tail ts)
+    else (if first (is_keyword (codes "if")) ts then if_expr within (tail ts)
+    else (if first (is_keyword (codes "match")) ts then match_expr within (tail ts) else labelled_expr within None ts))))
+
+-- ---- closures
+
+unfoldable pub closure_param : ExprWithin → Tokens → Read ClosureParam
+closure_param within ts = do
+  attrs ← attributes false ts
+  p ← within.pats Single attrs.1
+  t ← if_read (is_op (codes ":") p.1) (λ us. within.kinds.types Bounds (drop 1 us)) p.1
+  Some ((record { attrs = attrs.0; pat = p.0.0; ty = t.0.0 }, max p.0.1 t.0.1), t.1)
+
+-- what stands behind the parameters of a closure; behind its body no operator stands
+abbrev pub closure_body : ExprWithin → Bool → Bool → List ClosureParam → ℕ → Tokens → Read Expr
+closure_body within no_struct moves params need ts =
+    if is_op (codes "->") ts
+    then (do
+      t ← within.kinds.types NoBounds (drop 2 ts)
+      b ← block_by within t.1
+      Some ((expr.TypedClosure moves params t.0.0 b.0.0, suc (max need (max t.0.1 b.0.1))), b.1))
+    else (do x ← within.exprs (plain 0 no_struct) ts; Some ((expr.Closure moves params x.0.0, suc (max need x.0.1)), x.1))
+
+unfoldable pub closure_expr : ExprWithin → Bool → Tokens → Read Expr
+closure_expr within no_struct ts = do
+  let moves = first (is_keyword (codes "move")) ts
+  behind ← passed (is_mark (codes "|")) (if moves then tail ts else ts)
+  ps ← elements (is_mark (codes "|")) (closure_param within) behind
+  closure_body within no_struct moves (nodes ps.0) (deepest ps.0) ps.1
+
 -- ---- what begins an expression
 
 abbrev pub literal_expr : Tokens → Read Expr
@@ -185,7 +282,11 @@ head_by within no_struct (Some ByRange) ts = range_expr within no_struct None 0 
 head_by within no_struct (Some ByContinue) ts = continue_expr (tail ts)
 head_by within no_struct (Some ByBreak) ts = break_expr within no_struct (tail ts)
 head_by within no_struct (Some ByReturn) ts = return_expr within no_struct (tail ts)
-head_by within no_struct _ ts = None
+head_by within no_struct (Some ByLabel) ts = label_expr within ts
+head_by within no_struct (Some ByBrace) ts = labelled_expr within None ts
+head_by within no_struct (Some ByBlockWord) ts = block_word_expr within ts
+head_by within no_struct (Some ByClosure) ts = closure_expr within no_struct ts
+head_by within no_struct None ts = None
 
 -- ---- steps
 
@@ -330,11 +431,3 @@ expr_by within budget place ts = do
   h ← head_by within place.no_struct (expr_lead_at ts) ts
   x ← climb_by within place h.0 h.1
   accepted budget place x.0 x.1
-
--- an expression in a place, within a budget
-unfoldable pub expr_in : ℕ → Place → Tokens → Read Expr
-expr_in zero place ts = None
-expr_in (suc budget) place ts = expr_by (record { exprs = expr_in budget; kinds = within budget }) (suc budget) place ts
-
-abbrev pub expr_at : Place → ℕ → Tokens → Read Expr
-expr_at place budget ts = expr_in budget place ts

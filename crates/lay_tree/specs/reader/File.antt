@@ -6,7 +6,7 @@ use Rattle.lay_node.specs.reader.Loops.{Got, ◌>>=◌}
 use Rattle.lay_node.specs.declared.attr.Attr.{Attr}
 use Rattle.lay_node.specs.declared.heads.Site.TheVariants.{Module}
 use Rattle.lay_tree.specs.Reading.{top}
-use Rattle.lay_tree.specs.reader.Item.{item_at}
+use Rattle.lay_tree.specs.reader.Code.{item_at}
 use Rattle.lay_tree.specs.declared.item.Item.{Item}
 
 -- what is found, and what is left: behind a node that is read there may be more, and without one nothing is

@@ -1,5 +1,5 @@
 -- Reading items.
-use Rattle.std.specs.Prelude.{ℕ, zero, suc, max, ◌&&◌, ◌||◌, Bool, true, false, if◌then◌else◌, List, drop, codes, Some, None, is_some}
+use Rattle.std.specs.Prelude.{ℕ, zero, suc, max, ◌&&◌, ◌||◌, Bool, true, false, if◌then◌else◌, List, drop, codes, Some, None, is_some, Option}
 use Rattle.lay_token.specs.Operators.{is_op}
 use Rattle.lay_piece.specs.declared.kind.Delim.TheVariants.{Brace}
 use Rattle.lay_node.specs.Ahead.{Tokens, first, tail, is_keyword, is_mark, opens, closes, more_items}
@@ -19,9 +19,13 @@ use Rattle.lay_node.specs.declared.attr.Attr.{Attr}
 use Rattle.lay_node.specs.declared.heads.Site.{Site}
 use Rattle.lay_node.specs.declared.heads.Site.TheVariants as site
 use Rattle.lay_node.specs.declared.use_tree.UseTree.{UseTree}
-use Rattle.lay_tree.specs.nodes.Item.{told_of_kind, in_module, is_inherited, may_be_valued, may_lack_body}
+use Rattle.lay_tree.specs.nodes.Code.{told_of_kind}
+use Rattle.lay_tree.specs.nodes.Item.{in_module, is_inherited, may_be_bodied, may_be_valued}
 use Rattle.lay_tree.specs.nodes.Places.{FREE}
-use Rattle.lay_tree.specs.reader.Exprs.{expr_at}
+use Rattle.lay_tree.specs.reader.Blocks.{block_by}
+use Rattle.lay_tree.specs.reader.ItemLeads.{ItemLead, OfExternCrate, OfImport, OfModule, OfFunction, OfAlias, OfStruct, OfUnion, OfEnum, OfValue, OfTrait, OfImpl, OfForeign, OfRules, OfCall, item_lead}
+use Rattle.lay_tree.specs.reader.Within.{ExprWithin}
+use Rattle.lay_tree.specs.declared.blocks.Block.{Block}
 use Rattle.lay_tree.specs.declared.exprs.Expr.{Expr}
 use Rattle.lay_tree.specs.declared.item.Item.{Item}
 use Rattle.lay_tree.specs.declared.item.ItemKind.{ItemKind}
@@ -31,12 +35,12 @@ use Rattle.lay_tree.specs.declared.item.ItemKind.TheVariants as item
 unfoldable pub items_by : (Tokens → Read Item) → Tokens → Got (List (Item × ℕ))
 items_by one ts = repeat more_items one ts
 
--- How what is one level deeper is read: items at a site, use trees, what is within heads, and values.
+-- How what is within an item is read: items at a site one level deeper, use trees, what is within heads, and code.
 pub record ItemWithin : Type 0 where
   pub items : Site → Tokens → Read Item
   pub trees : Tokens → Read UseTree
   pub heads : PatWithin
-  pub exprs : Tokens → Read Expr
+  pub code : ExprWithin
 
 -- inner attributes and items at a site, in braces
 unfoldable pub item_body : ItemWithin → Site → Tokens → Read (List Attr × List Item)
@@ -46,63 +50,6 @@ item_body within site ts = do
   items ← items_by (within.items site) attrs.1
   rest ← passed (closes Brace) items.1
   Some (((attrs.0, nodes items.0), deepest items.0), rest)
-
--- ---- what an item begins with
-
-pub data ItemLead : Type 0 where
-  OfExternCrate : ItemLead
-  OfImport : ItemLead
-  OfModule : ItemLead
-  OfFunction : ItemLead
-  OfAlias : ItemLead
-  OfStruct : ItemLead
-  OfUnion : ItemLead
-  OfEnum : ItemLead
-  OfValue : ItemLead
-  OfTrait : ItemLead
-  OfImpl : ItemLead
-  OfForeign : ItemLead
-  OfRules : ItemLead
-  OfCall : ItemLead
-
-abbrev pub begins_function : Tokens → Bool
-begins_function ts = first (is_keyword (codes "fn")) (behind_qualifiers ts)
-
--- `union` before a name, and `macro_rules` before a `!` and a name, are words of their own.
-abbrev pub begins_union : Tokens → Bool
-begins_union ts = first (is_keyword (codes "union")) ts && is_some (name (tail ts))
-
-abbrev pub begins_rules : Tokens → Bool
-begins_rules ts = first (is_keyword (codes "macro_rules")) ts && is_op (codes "!") (tail ts) && is_some (name (drop 1 (tail ts)))
-
--- what begins with `unsafe`, or could, and is no function
-abbrev pub unsafe_lead : Tokens → ItemLead
-unsafe_lead ts =
-    if first (is_keyword (codes "trait")) ts then OfTrait
-    else (if first (is_keyword (codes "impl")) ts then OfImpl else OfForeign)
-
-abbrev pub extern_lead : Tokens → ItemLead
-extern_lead ts = if first (is_keyword (codes "crate")) ts then OfExternCrate else OfForeign
-
-abbrev pub macro_lead : Tokens → ItemLead
-macro_lead ts = if begins_union ts then OfUnion else (if begins_rules ts then OfRules else OfCall)
-
-abbrev pub word_lead : Tokens → ItemLead
-word_lead ts =
-    if first (is_keyword (codes "use")) ts then OfImport
-    else (if first (is_keyword (codes "mod")) ts then OfModule
-    else (if first (is_keyword (codes "type")) ts then OfAlias
-    else (if first (is_keyword (codes "struct")) ts then OfStruct
-    else (if first (is_keyword (codes "enum")) ts then OfEnum
-    else (if first (is_keyword (codes "const")) ts then OfValue
-    else (if first (is_keyword (codes "static")) ts then OfValue
-    else (if first (is_keyword (codes "trait")) ts then OfTrait
-    else (if first (is_keyword (codes "impl")) ts then OfImpl
-    else (if first (is_keyword (codes "unsafe")) ts then unsafe_lead (tail ts)
-    else (if first (is_keyword (codes "extern")) ts then extern_lead (tail ts) else macro_lead ts))))))))))
-
-unfoldable pub item_lead : Tokens → ItemLead
-item_lead ts = if begins_function ts then OfFunction else word_lead ts
 
 -- ---- each kind
 
@@ -120,17 +67,22 @@ import_by within ts = do
   rest ← semicolon t.1
   Some ((item.Import t.0.0, t.0.1), rest)
 
+-- the body of a function, or the `;` where it has none
+abbrev pub fn_body : ExprWithin → Tokens → Read (Option Block)
+fn_body within ts =
+    if first (opens Brace) ts then (do b ← block_by within ts; Some ((Some b.0.0, b.0.1), b.1)) else (do rest ← semicolon ts; Some ((None, 0), rest))
+
 unfoldable pub function_by : Site → ItemWithin → Tokens → Read ItemKind
 function_by at within ts = do
   h ← fn_head at within.heads ts
   w ← wheres within.heads.kinds h.1
-  rest ← semicolon w.1
-  Some ((item.Function h.0.0 w.0.0.0, max h.0.1 w.0.1), rest)
+  b ← fn_body within.code w.1
+  if may_be_bodied at (is_some b.0.0) then Some ((item.Function h.0.0 w.0.0.0 b.0.0, max h.0.1 (max w.0.1 b.0.1)), b.1) else None
 
 unfoldable pub value_by : Site → ItemWithin → Tokens → Read ItemKind
 value_by at within ts = do
   h ← value_head within.heads.kinds ts
-  v ← if_read (is_op (codes "=") h.1) (λ us. within.exprs (drop 1 us)) h.1
+  v ← if_read (is_op (codes "=") h.1) (λ us. within.code.exprs FREE (drop 1 us)) h.1
   rest ← semicolon v.1
   if may_be_valued at h.0.0 (is_some v.0.0) then Some ((item.Value h.0.0 v.0.0, max h.0.1 v.0.1), rest) else None
 
@@ -165,9 +117,9 @@ rules_item ts = do
 unfoldable pub call_item : Tokens → Read ItemKind
 call_item ts = do c ← call ts; rest ← behind_end c.0.tokens.delim c.1; Some ((item.Call c.0, 0), rest)
 
--- Where an item with this lead may stand. Of an alias and of a value what is behind the lead decides.
+-- Where an item with this lead may stand. Of a function, an alias and a value what is behind the lead decides.
 abbrev pub may_stand : Site → ItemLead → Bool
-may_stand at OfFunction = may_lack_body at
+may_stand at OfFunction = true
 may_stand at OfAlias = true
 may_stand at OfValue = true
 may_stand at OfCall = true
@@ -203,9 +155,3 @@ item_by at within ts = do
   if is_some (told_of_kind kind.0.0).head || is_inherited v.0
       then Some ((record { attrs = attrs.0; vis = v.0; kind = kind.0.0 }, suc kind.0.1), kind.1)
       else None
-
--- an item at a site, within a budget
-unfoldable pub item_at : Site → ℕ → Tokens → Read Item
-item_at at zero ts = None
-item_at at (suc budget) ts =
-    item_by at (record { items = λ s us. item_at s budget us; trees = use_at budget; heads = insides budget; exprs = expr_at FREE budget }) ts

@@ -58,6 +58,19 @@ ends_in_point-returns-else-is_empty-2 t c =
     ∙ of.some_steps_behind c.args.point _ c.in-Postfix.base c.in-Postfix.steps _ c.in-Postfix.is c.as_slice-in-Postfix.ensures
     (sym c.if-is_empty-2.false ∙ c.is_empty-in-Postfix.ensures)
 
+pub ends_in_point-returns-in-None : goal.ends_in_point-returns-in-None
+ends_in_point-returns-in-None t c =
+    c.both-in-None.ensures ∙ ap (λ b. c.args.point && b) c.is_empty-in-None.ensures
+    ∙ of.if_point c.args.point _ c.in-If.branches _ c.in-If.otherwise c.in-If.is c.in-None.is c.as_slice-in-None.ensures
+
+pub ends_in_point-returns-in-Some : goal.ends_in_point-returns-in-Some
+ends_in_point-returns-in-Some t c = of.else_point c.args.point _ c.in-If.branches c.in-If.otherwise _ c.in-If.is c.in-Some.is
+
+pub ends_in_point-returns-in-Closure : goal.ends_in_point-returns-in-Closure
+ends_in_point-returns-in-Closure t c =
+    of.closure_point c.args.point _ _ _ c.in-Closure.body _ _ c.in-Closure.is c.get-in-Closure.ensures
+    c.ends_in_point-in-Closure.ensures
+
 pub ends_in_point-returns-in-Return : goal.ends_in_point-returns-in-Return
 ends_in_point-returns-in-Return t c =
     of.return_point c.args.point _ c.in-Return.operand _ c.in-Return.is c.operand_ends_in_point-in-Return.ensures
@@ -77,6 +90,8 @@ ends_in_point-returns-in_default t c =
       not_range = c.in_default.not-Range;
       not_assign = c.in_default.not-Assign;
       not_postfix = c.in_default.not-Postfix;
+      not_if = c.in_default.not-If;
+      not_closure = c.in_default.not-Closure;
       not_return = c.in_default.not-Return;
       not_break = c.in_default.not-Break;
     })

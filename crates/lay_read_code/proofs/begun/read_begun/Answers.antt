@@ -2,7 +2,7 @@ use Rattle.std.proofs.Common.{sym, subst}
 use Rattle.lay_read_tokens.specs.Answers.{IsFound}
 use Rattle.lay_read_code.specs.Begun.{deeper}
 use Rattle.lay_read_code.specs.Leads.{told}
-use Rattle.lay_read_code.proofs.Bodies.{begun_nowhere, begun_there}
+use Rattle.lay_read_code.proofs.ItemBodies.{begun_nowhere, begun_there}
 use Rattle.lay_read_code.proofs.begun.read_begun.Goals as goal
 
 pub returns-then-may_stand-clause-read : goal.returns-then-may_stand-clause-read

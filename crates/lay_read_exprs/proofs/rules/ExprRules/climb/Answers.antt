@@ -4,13 +4,14 @@ use Rattle.lay_tree.specs.declared.exprs.Expr.{Expr}
 use Rattle.lay_tree.specs.reader.Exprs.{accepted}
 use Rattle.lay_read_tokens.proofs.Steps.{lost}
 use Rattle.lay_read_types.proofs.Steps.{found_by}
-use Rattle.lay_read_exprs.specs.Answers.{climb_once, climbed, exprs_within}
+use Rattle.lay_read_blocks.specs.Answers.{code_within}
+use Rattle.lay_read_exprs.specs.Answers.{climb_once, climbed}
 use Rattle.lay_read_exprs.proofs.Climbing.{climb_done, climbs_none, climbs_on, level_reached}
 use Rattle.lay_read_exprs.proofs.rules.ExprRules.climb.Goals as goal
 
 pub returns-in_err-lhs-clause-read : goal.returns-in_err-lhs-clause-read
 returns-in_err-lhs-clause-read g c =
-    let deeper = exprs_within c.args.self.now.depth in
+    let deeper = code_within c.args.self.now.depth in
     let budget = c.args.self.now.depth + 1 in
     let place = c.args.place in
     let ts = c.loop-reached.at in
@@ -25,7 +26,7 @@ returns-in_err-lhs-clause-read g c =
 
 pub loop-reached-preserved : goal.loop-reached-preserved
 loop-reached-preserved g c =
-    let deeper = exprs_within c.args.self.now.depth in
+    let deeper = code_within c.args.self.now.depth in
     let budget = c.args.self.now.depth + 1 in
     let place = c.args.place in
     let ts = c.loop-reached.at in
@@ -48,7 +49,7 @@ loop-reached-preserved g c =
 
 pub returns-clause-read : goal.returns-clause-read
 returns-clause-read g c =
-    let deeper = exprs_within c.args.self.now.depth in
+    let deeper = code_within c.args.self.now.depth in
     let budget = c.args.self.now.depth + 1 in
     let place = c.args.place in
     let ts = c.loop-reached.at in

@@ -1,6 +1,6 @@
 use Rattle.std.proofs.Common.{ap, sym, ◌∙◌, drop, length}
-use Rattle.lay_tree.specs.reader.Exprs.{expr_at}
-use Rattle.lay_read_exprs.specs.Answers.{exprs_within}
+use Rattle.lay_tree.specs.reader.Code.{expr_at}
+use Rattle.lay_read_blocks.specs.Answers.{code_within}
 use Rattle.lay_read_exprs.proofs.Steps.{operand_read, operand_stops}
 use Rattle.lay_read_exprs.proofs.rules.ExprRules.operand.Goals as goal
 
@@ -11,7 +11,7 @@ returns-then-not-operand_ends-clause-read g c =
     let found = c.in_ok-found.found in
     let passed = c.pass_tokens.ensures ∙ ap (λ text. drop (length text) ts) c.op_text.ensures in
     let read = ap (λ p. expr_at p c.args.self.now.depth mid) (sym c.plain.ensures) ∙ c.in_ok-found.ensures.read in
-    rw c.refused.ensures (operand_stops (exprs_within c.args.self.now.depth) c.args.place.0 c.args.place.1 ts c.in-Some.op
+    rw c.refused.ensures (operand_stops (code_within c.args.self.now.depth) c.args.place.0 c.args.place.1 ts c.in-Some.op
     mid found.node found.need c.inner.new.at (sym c.binary.ensures ∙ c.in-Some.is) passed read
     (sym c.operand_ends.ensures ∙ c.if-not-operand_ends.true))
 
@@ -22,6 +22,6 @@ returns-clause-read g c =
     let found = c.in_ok-found.found in
     let passed = c.pass_tokens.ensures ∙ ap (λ text. drop (length text) ts) c.op_text.ensures in
     let read = ap (λ p. expr_at p c.args.self.now.depth mid) (sym c.plain.ensures) ∙ c.in_ok-found.ensures.read in
-    operand_read (exprs_within c.args.self.now.depth) c.args.place.0 c.args.place.1 ts c.in-Some.op mid found.node
+    operand_read (code_within c.args.self.now.depth) c.args.place.0 c.args.place.1 ts c.in-Some.op mid found.node
     found.need c.inner.new.at (sym c.binary.ensures ∙ c.in-Some.is) passed read
     (sym c.operand_ends.ensures ∙ c.if-not-operand_ends.false)

@@ -1,0 +1,3 @@
+pub mod ExprBraces
+pub mod OnePair
+pub mod TypeBraces

@@ -1,0 +1,16 @@
+-- The braces around the body of an arm that aren't in the tree, in code.
+use Rattle.std.specs.Prelude.{ℕ, ◌≡◌, false, [], ◌∷◌, Option, Some, None}
+use Rattle.lay_tree.specs.nodes.Blocks.{is_lone_body}
+use Rattle.lay_tree.specs.nodes.Code.{about_expr}
+use Rattle.lay_tree.specs.reader.Blocks.{undressed}
+use Rattle.lay_tree.specs.declared.blocks.Stmt.TheVariants as stmt
+use Rattle.lay_tree.specs.declared.exprs.Expr.{Expr}
+use Rattle.lay_tree.specs.declared.exprs.Expr.TheVariants as expr
+
+-- The expression is a block of this one alone.
+abbrev pub IsAround : Expr → Option Expr → Type 0
+IsAround x y = (inner : Expr) × (x ≡ expr.Block None (record { attrs = []; stmts = stmt.Expr [] inner false ∷ [] })) × (y ≡ Some inner)
+
+-- Its outer braces are those of so many pairs that aren't in the tree, and the last of these holds this.
+abbrev pub IsBare : ℕ → Expr → Expr → Type 0
+IsBare turns x y = (undressed turns x ≡ y) × (is_lone_body (about_expr y).kind ≡ false)

@@ -1,0 +1,31 @@
+//! The braces around the body of an arm that aren't in the tree.
+ghost use Rattle.std.specs.Prelude.{ℕ, ◌≡◌, true};
+ghost use Rattle.lay_tree.specs.nodes.Blocks.{is_lone_body};
+ghost use Rattle.lay_tree.specs.nodes.Code.{about_expr};
+ghost use Rattle.lay_ends.specs.Bodies.{IsAround, IsBare};
+
+use lay_ops::is_lone_body;
+use lay_tree::Expr;
+
+/// The expression within the braces of one that is a block, which is all that stands there.
+fn held(expr: Expr) -> Option<Expr>
+    requires { is_lone_body (about_expr expr).kind ≡ true }
+    ensures { IsAround expr result }
+{
+    expr.into_block()?
+        .into_stmts()
+        .into_vec()
+        .pop()?
+        .into_expr()
+}
+
+/// The body of an arm, without the braces that aren't in the tree.
+pub fn undressed(expr: Expr) -> Expr
+    ensures { (turns : ℕ) × IsBare turns expr result }
+{
+    let mut body = expr;
+    while is_lone_body(&body) {
+        body = held(body).unwrap_or(Expr::Underscore);
+    }
+    body
+}

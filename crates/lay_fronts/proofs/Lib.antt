@@ -1,0 +1,7 @@
+pub mod Alone
+pub mod StmtAlone
+pub mod Fronts
+pub mod ArmShapes
+pub mod ArmBlocks
+pub mod ArmBegun
+pub mod ArmFronts

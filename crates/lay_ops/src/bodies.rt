@@ -1,0 +1,85 @@
+//! What is told of blocks, statements and items by their roots.
+ghost use Rattle.std.specs.Prelude.{◌≡◌, ◌&&◌, not, is_some};
+ghost use Rattle.lay_ops.specs.RootFacts.{lone_in};
+ghost use Rattle.lay_tree.specs.nodes.Blocks.{is_lone_body, is_plain};
+ghost use Rattle.lay_tree.specs.nodes.Exprs.{is_macro};
+ghost use Rattle.lay_tree.specs.nodes.Code.{about_block, about_expr, about_stmt, told_of_item};
+
+use crate::roots::{is_block_like, is_macro};
+use lay_tree::{Attr, Block, Expr, Item, ItemKind, Lifetime, Stmt};
+
+/// Whether another statement may stand behind it.
+#[tactic(auto, using(crate::proofs::BodyFacts::ends_is))]
+pub fn ends(stmt: &Stmt) -> bool
+    ensures { result ≡ (about_stmt stmt.now).ends }
+{
+    match stmt {
+        Stmt::Let { .. } | Stmt::Item { .. } => true,
+        Stmt::Expr { expr, ended, .. } => *ended || is_block_like(expr),
+    }
+}
+
+/// Whether an expression with these attributes is no macro call, and has neither attributes nor a `;`.
+fn is_lone_expr(attrs: &[Attr], ended: bool, expr: &Expr) -> bool
+    ensures { result ≡ ((is_plain attrs.now && not ended) && not (is_macro (about_expr expr.now).kind)) }
+{
+    attrs.is_empty() && !ended && !is_macro(expr)
+}
+
+/// Whether it is such an expression.
+#[tactic(auto, using(crate::proofs::BodyFacts::lone_stmt_is))]
+fn is_lone_stmt(stmt: &Stmt) -> bool
+    ensures { result ≡ ((about_stmt stmt.now).bare && not (about_stmt stmt.now).call) }
+{
+    match stmt {
+        Stmt::Expr { attrs, expr, ended } => is_lone_expr(attrs.as_slice(), *ended, expr),
+        _ => false,
+    }
+}
+
+/// Whether it is one statement, which is such an expression.
+fn is_lone_list(stmts: &[Stmt]) -> bool
+    ensures { result ≡ lone_in stmts.now }
+{
+    match stmts {
+        [stmt] => is_lone_stmt(stmt),
+        _ => false,
+    }
+}
+
+/// Whether a block holds such an expression and nothing else.
+#[tactic(auto, using(crate::proofs::BodyFacts::lone_is))]
+fn is_lone(block: &Block) -> bool
+    ensures { result ≡ (about_block block.now).lone }
+{
+    block.attrs.as_slice().is_empty() && is_lone_list(block.stmts.as_slice())
+}
+
+/// Whether there is no label.
+fn is_unlabelled(label: &Option<Lifetime>) -> bool
+    ensures { result ≡ not (is_some label.now) }
+{
+    match label {
+        Some(_) => false,
+        None => true,
+    }
+}
+
+/// Whether it is a block whose braces are dropped where it is the body of an arm.
+#[tactic(auto, using(crate::proofs::BodyFacts::lone_body_is))]
+pub fn is_lone_body(expr: &Expr) -> bool
+    ensures { result ≡ is_lone_body (about_expr expr.now).kind }
+{
+    match expr {
+        Expr::Block { label, body } => is_unlabelled(label) && is_lone(body),
+        _ => false,
+    }
+}
+
+/// Whether an item is a macro call.
+#[tactic(auto, using(crate::proofs::BodyFacts::call_item_is))]
+pub fn is_call(item: &Item) -> bool
+    ensures { result ≡ (told_of_item item.now).call }
+{
+    matches!(item.kind, ItemKind::Call { .. })
+}

@@ -1,0 +1,177 @@
+//! Conditions, branches and arms.
+ghost use Rattle.std.specs.Prelude.{Bool, [], ◌∷◌, ◌++◌, map, option_map};
+ghost use Rattle.lay_layout.specs.declared.layout.Tok.TheVariants as tok;
+ghost use Rattle.lay_stream.specs.Fed.{Did};
+ghost use Rattle.lay_form.specs.Form.{Blank};
+ghost use Rattle.lay_form.specs.Notation.{H, body, each};
+ghost use Rattle.lay_form.specs.Stream.{stream_of};
+ghost use Rattle.lay_node.specs.nodes.Attr.{attr_form};
+ghost use Rattle.lay_tree.specs.nodes.Blocks.{guard_form};
+ghost use Rattle.lay_tree.specs.nodes.Code.{about_arm, about_block, about_expr};
+ghost use Rattle.lay_tree.specs.nodes.Exprs.{else_branch_form};
+ghost use Rattle.lay_out_exprs.specs.Blocks.{else_between, lead_row};
+ghost use Rattle.lay_out_types.specs.Calls.{Adds};
+ghost use Rattle.lay_out_types.specs.Rows.{row};
+ghost use Rattle.lay_out_code.specs.Parts.{arm_told, branch_told, head_end};
+
+use crate::blocks::add_soft;
+use crate::exprs::add_expr;
+use crate::items::add_inner_attrs;
+use lay_out_exprs::arms::{arm_body, close_arm, open_arm};
+use lay_out_exprs::blocks::{add_condition_lead, add_else_word};
+use lay_out_exprs::flags::both;
+use lay_out_heads::calls::add_break;
+use lay_out_heads::loops::{close_body, open_body};
+use lay_out_tokens::HARD_BREAK;
+use lay_out_tokens::notation::NEVER_BREAK;
+use lay_out_types::calls::add_text;
+use lay_out_types::lists::add_end;
+use lay_out_types::{add_attrs, add_group, add_pat};
+use lay_stream::Emit;
+use lay_tree::{Arm, Attr, Block, Branch, Expr, Pat};
+
+/// A condition behind its word, in a group of its own. It may be what a pattern is matched with.
+#[cycle(code)]
+pub fn add_condition<E: Emit>(
+    out: &mut E,
+    before: Result<(), E::Fault>,
+    word: &[u8],
+    pat: &Option<Pat>,
+    condition: &Expr,
+) -> Result<(), E::Fault>
+    ensures { let told = stream_of (about_expr condition.now).form in
+        Adds E.meanings before out.old (lead_row word.now pat.now ++ (told ++ head_end)) result out.new }
+{
+    let lead = add_condition_lead(out, before, word, pat);
+    let condition = add_expr(out, lead, false, condition);
+    add_end(out, condition)
+}
+
+/// Branches, with `else` between them.
+#[cycle(code)]
+pub fn add_branches<E: Emit>(
+    out: &mut E,
+    before: Result<(), E::Fault>,
+    branches: &[Branch],
+) -> Result<(), E::Fault>
+    ensures { Adds E.meanings before out.old (row [] else_between (map branch_told branches.now)) result out.new }
+{
+    let mut done = before;
+    for (index, branch) in branches.iter().enumerate() {
+        done = add_else_word(out, done, index == 0);
+        done = add_branch(out, done, branch);
+    }
+    done
+}
+
+/// A branch.
+#[cycle(code)]
+fn add_branch<E: Emit>(
+    out: &mut E,
+    before: Result<(), E::Fault>,
+    branch: &Branch,
+) -> Result<(), E::Fault>
+    ensures { Adds E.meanings before out.old (stream_of (branch_told branch.now)) result out.new }
+{
+    let head = add_condition(out, before, b"if ", &branch.pat, &branch.condition);
+    add_soft(out, head, &branch.body)
+}
+
+/// The block behind the last branch, if there is one, behind its `else`.
+#[cycle(code)]
+pub fn add_else<E: Emit>(
+    out: &mut E,
+    before: Result<(), E::Fault>,
+    otherwise: &Option<Block>,
+) -> Result<(), E::Fault>
+    ensures { Adds E.meanings before out.old
+        (stream_of (else_branch_form (option_map about_block otherwise.now))) result out.new }
+{
+    match otherwise {
+        None => before,
+        Some(block) => {
+            let word = add_text(out, before, b" else");
+            add_soft(out, word, block)
+        },
+    }
+}
+
+/// Inner attributes and arms in braces, each on a line of its own.
+#[cycle(code)]
+pub fn add_arms<E: Emit>(
+    out: &mut E,
+    before: Result<(), E::Fault>,
+    attrs: &[Attr],
+    arms: &[Arm],
+) -> Result<(), E::Fault>
+    ensures { let parts = map attr_form attrs.now ++ map arm_told arms.now in
+        Adds E.meanings before out.old (stream_of (body (Blank ∷ []) [] parts)) result out.new }
+{
+    if both(attrs.is_empty(), arms.is_empty()) {
+        return add_text(out, before, b" {}");
+    }
+    let opened = open_body(out, before, true);
+    let attrs = add_inner_attrs(out, opened, attrs);
+    let arms = add_arm_lines(out, attrs, arms);
+    close_body(out, arms)
+}
+
+/// Arms, each behind a newline.
+#[cycle(code)]
+fn add_arm_lines<E: Emit>(
+    out: &mut E,
+    before: Result<(), E::Fault>,
+    arms: &[Arm],
+) -> Result<(), E::Fault>
+    ensures { Adds E.meanings before out.old (stream_of (each H (map arm_told arms.now))) result out.new }
+{
+    let mut done = before;
+    for arm in arms {
+        done = add_break(out, done, HARD_BREAK);
+        done = add_arm(out, done, arm);
+    }
+    done
+}
+
+/// Feeds the layout of an arm, which is the same whether or not it is the last.
+pub fn put_arm<E: Emit>(out: &mut E, arm: &Arm) -> Result<(), E::Fault>
+    ensures { (last : Bool) → Did E.meanings out.old (stream_of ((about_arm arm.now).form last)) result out.new }
+{
+    add_arm(out, Ok(()), arm)
+}
+
+/// An arm.
+#[cycle(code)]
+fn add_arm<E: Emit>(out: &mut E, before: Result<(), E::Fault>, arm: &Arm) -> Result<(), E::Fault>
+    ensures { Adds E.meanings before out.old (stream_of (arm_told arm.now)) result out.new }
+{
+    let attrs = add_attrs(out, before, arm.attrs.as_slice());
+    let group = add_group(out, attrs);
+    let pat = add_pat(out, group, &arm.pat);
+    let guard = add_guard(out, pat, &arm.guard);
+    let head = add_end(out, guard);
+    let arrow = add_text(out, head, b" => ");
+    let never = add_break(out, arrow, NEVER_BREAK);
+    let kind = arm_body(&arm.body);
+    let opened = open_arm(out, never, kind);
+    let inner = add_expr(out, opened, false, &arm.body);
+    close_arm(out, inner, kind)
+}
+
+/// The guard of an arm, if it has one, behind its `if`.
+#[cycle(code)]
+fn add_guard<E: Emit>(
+    out: &mut E,
+    before: Result<(), E::Fault>,
+    guard: &Option<Expr>,
+) -> Result<(), E::Fault>
+    ensures { Adds E.meanings before out.old (stream_of (guard_form (option_map about_expr guard.now))) result out.new }
+{
+    match guard {
+        None => before,
+        Some(guard) => {
+            let word = add_text(out, before, b" if ");
+            add_expr(out, word, false, guard)
+        },
+    }
+}

@@ -1,0 +1,191 @@
+//! Operands, targets and steps, and the fields of struct literals.
+ghost use Rattle.std.specs.Prelude.{[], ◌∷◌, ◌++◌, false, cond, map, codes};
+ghost use Rattle.lay_layout.specs.declared.layout.Tok.TheVariants as tok;
+ghost use Rattle.lay_form.specs.Form.{Done};
+ghost use Rattle.lay_form.specs.Stream.{fed, stream_of};
+ghost use Rattle.lay_tree.specs.nodes.Code.{about_field_expr, about_step};
+ghost use Rattle.lay_tree.specs.nodes.Exprs.{operands_form, steps_form, targets_form};
+ghost use Rattle.lay_out_exprs.specs.Parts.{base_told, before_op, behind_op, field_told};
+ghost use Rattle.lay_out_types.specs.Calls.{Adds};
+ghost use Rattle.lay_out_types.specs.PatternRows.{braces_opened};
+ghost use Rattle.lay_out_types.specs.Rows.{comma_between, row};
+
+use crate::exprs::{add_expr, add_exprs, add_optional};
+use lay_out_exprs::add_generics;
+use lay_out_exprs::flags::either;
+use lay_out_exprs::operators::{add_assignment, add_operator};
+use lay_out_exprs::steps::{add_step_break, is_method};
+use lay_out_types::calls::{add_either, add_text, add_word};
+use lay_out_types::lists::{add_close, add_lead};
+use lay_out_types::{add_attrs, add_brace};
+use lay_stream::Emit;
+use lay_tree::{Boxed, Expr, FieldExpr, Op, Step};
+
+/// The fields of a struct literal, behind what opens their braces.
+#[cycle(code)]
+pub fn add_fields<E: Emit>(
+    out: &mut E,
+    before: Result<(), E::Fault>,
+    fields: &[FieldExpr],
+) -> Result<(), E::Fault>
+    ensures { Adds E.meanings before out.old (row braces_opened comma_between (map field_told fields.now)) result out.new }
+{
+    let mut done = before;
+    for (index, field) in fields.iter().enumerate() {
+        done = add_brace(out, done, index == 0);
+        done = add_field(out, done, field);
+    }
+    done
+}
+
+/// The `..` behind the fields of a struct literal, and its base, if it has one.
+#[cycle(code)]
+pub fn add_base<E: Emit>(
+    out: &mut E,
+    before: Result<(), E::Fault>,
+    first: bool,
+    base: &Option<Boxed<Expr>>,
+) -> Result<(), E::Fault>
+    ensures { Adds E.meanings before out.old
+        (cond first braces_opened comma_between ++ (tok.Text (codes "..") ∷ base_told base.now)) result out.new }
+{
+    let lead = add_brace(out, before, first);
+    let dots = add_text(out, lead, b"..");
+    add_optional(out, dots, true, base)
+}
+
+/// A field of a struct literal, behind its attributes.
+#[cycle(code)]
+fn add_field<E: Emit>(
+    out: &mut E,
+    before: Result<(), E::Fault>,
+    field: &FieldExpr,
+) -> Result<(), E::Fault>
+    ensures { Adds E.meanings before out.old (stream_of (about_field_expr field.now).form) result out.new }
+{
+    match field {
+        FieldExpr::Named { attrs, name, value } => {
+            let attrs = add_attrs(out, before, attrs.as_slice());
+            let name = add_word(out, attrs, name.raw, &name.text);
+            let colon = add_text(out, name, b": ");
+            add_expr(out, colon, false, value)
+        },
+        FieldExpr::Numbered {
+            attrs,
+            index,
+            value,
+        } => {
+            let attrs = add_attrs(out, before, attrs.as_slice());
+            let index = add_text(out, attrs, index.as_bytes());
+            let colon = add_text(out, index, b": ");
+            add_expr(out, colon, false, value)
+        },
+        FieldExpr::Short { attrs, name } => {
+            let attrs = add_attrs(out, before, attrs.as_slice());
+            add_word(out, attrs, name.raw, &name.text)
+        },
+    }
+}
+
+/// The operands behind the first one, each behind its operator.
+#[cycle(code)]
+pub fn add_operands<E: Emit>(
+    out: &mut E,
+    before: Result<(), E::Fault>,
+    operands: &[(Op, Expr)],
+) -> Result<(), E::Fault>
+    ensures { Adds E.meanings before out.old (stream_of (operands_form (map behind_op operands.now))) result out.new }
+{
+    let mut done = before;
+    for (op, operand) in operands {
+        done = add_operator(out, done, *op);
+        done = add_expr(out, done, false, operand);
+    }
+    done
+}
+
+/// The targets of an assignment, each before its operator.
+#[cycle(code)]
+pub fn add_targets<E: Emit>(
+    out: &mut E,
+    before: Result<(), E::Fault>,
+    point: bool,
+    targets: &[(Expr, Op)],
+) -> Result<(), E::Fault>
+    ensures { Adds E.meanings before out.old (fed point (targets_form (map before_op targets.now) Done) []) result out.new }
+{
+    let mut done = before;
+    let mut point = point;
+    for (target, op) in targets {
+        done = add_expr(out, done, point, target);
+        done = add_assignment(out, done, *op);
+        point = false;
+    }
+    done
+}
+
+/// Steps. The flags say that a point stands before them, and that several of them are methods: then a break stands
+/// before each method but the first.
+#[cycle(code)]
+pub fn add_steps<E: Emit>(
+    out: &mut E,
+    before: Result<(), E::Fault>,
+    point: bool,
+    several: bool,
+    steps: &[Step],
+) -> Result<(), E::Fault>
+    ensures { let form = steps_form several false (map about_step steps.now) in
+        Adds E.meanings before out.old (fed point form []) result out.new }
+{
+    let mut done = before;
+    let mut point = point;
+    let mut behind = false;
+    for step in steps {
+        let method = is_method(step);
+        done = add_step_break(out, done, several, behind, method);
+        done = add_step(out, done, point, step);
+        point = false;
+        behind = either(behind, method);
+    }
+    done
+}
+
+/// A step.
+#[cycle(code)]
+fn add_step<E: Emit>(
+    out: &mut E,
+    before: Result<(), E::Fault>,
+    point: bool,
+    step: &Step,
+) -> Result<(), E::Fault>
+    ensures { Adds E.meanings before out.old (fed point (about_step step.now).form []) result out.new }
+{
+    match step {
+        Step::Field { name } => {
+            let dot = add_either(out, before, point, b" .", b".");
+            add_word(out, dot, name.raw, &name.text)
+        },
+        Step::TupleIndex { index } => {
+            let dot = add_either(out, before, point, b" .", b".");
+            add_text(out, dot, index.as_bytes())
+        },
+        Step::Method {
+            name,
+            generics,
+            args,
+        } => {
+            let dot = add_either(out, before, point, b" .", b".");
+            let name = add_word(out, dot, name.raw, &name.text);
+            let generics = add_generics(out, name, generics);
+            add_exprs(out, generics, args.as_slice(), b"(", b"()", b")")
+        },
+        Step::Apply { args } => add_exprs(out, before, args.as_slice(), b"(", b"()", b")"),
+        Step::Index { index } => {
+            let opener = add_lead(out, before, true, b"[");
+            let index = add_expr(out, opener, false, index);
+            add_close(out, index, false, false, b"[]", b"]")
+        },
+        Step::Try => add_text(out, before, b"?"),
+        Step::Await => add_either(out, before, point, b" .await", b".await"),
+    }
+}

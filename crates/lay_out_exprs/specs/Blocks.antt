@@ -1,0 +1,26 @@
+-- The streams of what stands round blocks, and before them.
+use Rattle.std.specs.Prelude.{ℕ, true, false, List, [], ◌∷◌, ◌++◌, codes, pos, Option, Some, None}
+use Rattle.lay_layout.specs.declared.layout.Tok.{Tok}
+use Rattle.lay_layout.specs.declared.layout.Tok.TheVariants as tok
+use Rattle.lay_form.specs.Form.{Soft}
+use Rattle.lay_form.specs.Layout.{break_of}
+use Rattle.lay_form.specs.Stream.{stream_of}
+use Rattle.lay_node.specs.nodes.Patterns.{about_pat}
+use Rattle.lay_node.specs.declared.patterns.Pat.{Pat}
+
+-- a pattern before what it is matched with, if there is one
+abbrev pub matched_row : Option Pat → List Tok
+matched_row None = []
+matched_row (Some pat) = tok.Text (codes "let ") ∷ (stream_of (about_pat pat).told.form ++ (tok.Text (codes " = ") ∷ []))
+
+-- what stands before a condition
+abbrev pub lead_row : List ℕ → Option Pat → List Tok
+lead_row word pat = tok.Begin false (pos 0) ∷ tok.Text word ∷ matched_row pat
+
+-- what stands between two branches
+abbrev pub else_between : List Tok
+else_between = tok.Text (codes " else ") ∷ []
+
+-- what closes a block of one expression
+abbrev pub soft_closed : List Tok
+soft_closed = tok.Break (break_of (Soft true 1)) ∷ tok.End ∷ tok.Text (codes "}") ∷ []

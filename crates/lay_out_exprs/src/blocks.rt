@@ -1,0 +1,103 @@
+//! What stands round blocks, and before them.
+ghost use Rattle.std.specs.Prelude.{◌≡◌, ◌<◌, [], cond, map, OnOk};
+ghost use Rattle.lay_form.specs.Form.{Done};
+ghost use Rattle.lay_form.specs.Stream.{stream_of};
+ghost use Rattle.lay_tree.specs.nodes.Blocks.{is_single};
+ghost use Rattle.lay_tree.specs.nodes.Code.{about_stmt};
+ghost use Rattle.lay_tree.specs.nodes.Exprs.{labelled};
+ghost use Rattle.lay_out_types.specs.Calls.{Adds};
+ghost use Rattle.lay_out_exprs.specs.Blocks.{else_between, lead_row, soft_closed};
+
+use crate::flags::both;
+use lay_out_heads::calls::add_break;
+use lay_out_tokens::notation::CLOSING_SPACE_BREAK;
+use lay_out_types::calls::add_text;
+use lay_out_types::lists::add_end;
+use lay_out_types::{add_group, add_pat};
+use lay_stream::Emit;
+use lay_tree::{Attr, Block, Lifetime, Pat, Stmt};
+
+/// A label before a loop or a block, if there is one.
+pub fn add_labelled<E: Emit>(
+    out: &mut E,
+    before: Result<(), E::Fault>,
+    label: &Option<Lifetime>,
+) -> Result<(), E::Fault>
+    ensures { Adds E.meanings before out.old (stream_of (labelled label.now Done)) result out.new }
+{
+    match label {
+        None => before,
+        Some(label) => {
+            let label = add_text(out, before, label.text.as_bytes());
+            add_text(out, label, b": ")
+        },
+    }
+}
+
+/// What stands before a condition: what opens its group, the word, and a pattern that it is matched with, if there is one.
+pub fn add_condition_lead<E: Emit>(
+    out: &mut E,
+    before: Result<(), E::Fault>,
+    word: &[u8],
+    pat: &Option<Pat>,
+) -> Result<(), E::Fault>
+    ensures { Adds E.meanings before out.old (lead_row word.now pat.now) result out.new }
+{
+    let group = add_group(out, before);
+    let word = add_text(out, group, word);
+    match pat {
+        None => word,
+        Some(pat) => {
+            let word = add_text(out, word, b"let ");
+            let pat = add_pat(out, word, pat);
+            add_text(out, pat, b" = ")
+        },
+    }
+}
+
+/// What stands before a branch: the word `else`, unless it is the first one.
+pub fn add_else_word<E: Emit>(
+    out: &mut E,
+    before: Result<(), E::Fault>,
+    first: bool,
+) -> Result<(), E::Fault>
+    ensures { Adds E.meanings before out.old (cond first [] else_between) result out.new }
+{
+    if first {
+        return before;
+    }
+    add_text(out, before, b" else ")
+}
+
+/// Whether a block is one expression without a `;`.
+pub fn is_single(block: &Block) -> bool
+    ensures { result ≡ is_single block.now.attrs (map about_stmt block.now.stmts) }
+{
+    if !block.attrs.as_slice().is_empty() {
+        return false;
+    }
+    match block.stmts.as_slice() {
+        [stmt] => is_bare(stmt),
+        _ => false,
+    }
+}
+
+/// Whether a statement is an expression without attributes and without a `;`.
+fn is_bare(stmt: &Stmt) -> bool
+    ensures { result ≡ (about_stmt stmt.now).bare }
+{
+    match stmt {
+        Stmt::Expr { attrs, ended, .. } => both(attrs.as_slice().is_empty(), !*ended),
+        _ => false,
+    }
+}
+
+/// Closes a block of one expression, on its line or on one of its own.
+pub fn close_soft<E: Emit>(out: &mut E, before: Result<(), E::Fault>) -> Result<(), E::Fault>
+    requires { OnOk before (0 < E.meanings.groups out.old) }
+    ensures { Adds E.meanings before out.old soft_closed result out.new }
+{
+    let line = add_break(out, before, CLOSING_SPACE_BREAK);
+    let end = add_end(out, line);
+    add_text(out, end, b"}")
+}

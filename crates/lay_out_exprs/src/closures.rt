@@ -1,0 +1,58 @@
+//! What stands before the body of a closure.
+ghost use Rattle.std.specs.Prelude.{map, true};
+ghost use Rattle.lay_form.specs.Form.{Done};
+ghost use Rattle.lay_form.specs.Notation.{comma_list};
+ghost use Rattle.lay_form.specs.Stream.{stream_of};
+ghost use Rattle.lay_tree.specs.nodes.Exprs.{bar, closure_head, closure_param};
+ghost use Rattle.lay_out_types.specs.Calls.{Adds};
+
+use lay_out_heads::add_self_type;
+use lay_out_types::add_pat;
+use lay_out_types::calls::add_if;
+use lay_out_types::lists::{add_close, add_lead};
+use lay_out_types::parts::add_param_attrs;
+use lay_stream::Emit;
+use lay_tree::ClosureParam;
+
+/// The word `move`, if it is said, and parameters.
+pub fn add_closure_head<E: Emit>(
+    out: &mut E,
+    before: Result<(), E::Fault>,
+    moves: bool,
+    params: &[ClosureParam],
+) -> Result<(), E::Fault>
+    ensures { Adds E.meanings before out.old (stream_of (closure_head moves params.now Done)) result out.new }
+{
+    let word = add_if(out, before, moves, b"move ");
+    add_params(out, word, params)
+}
+
+/// Parameters between bars, with a `,` between them.
+fn add_params<E: Emit>(
+    out: &mut E,
+    before: Result<(), E::Fault>,
+    params: &[ClosureParam],
+) -> Result<(), E::Fault>
+    ensures { Adds E.meanings before out.old
+        (stream_of (comma_list true bar bar (map closure_param params.now))) result out.new }
+{
+    let mut done = before;
+    for (index, param) in params.iter().enumerate() {
+        done = add_lead(out, done, index == 0, b"|");
+        done = add_param(out, done, param);
+    }
+    add_close(out, done, true, params.is_empty(), b"||", b"|")
+}
+
+/// A parameter, behind its attributes.
+fn add_param<E: Emit>(
+    out: &mut E,
+    before: Result<(), E::Fault>,
+    param: &ClosureParam,
+) -> Result<(), E::Fault>
+    ensures { Adds E.meanings before out.old (stream_of (closure_param param.now)) result out.new }
+{
+    let attrs = add_param_attrs(out, before, param.attrs.as_slice());
+    let pat = add_pat(out, attrs, &param.pat);
+    add_self_type(out, pat, &param.ty)
+}

@@ -1,0 +1,49 @@
+-- What was found behind something else, which is kept beside it.
+use Rattle.std.proofs.Common.{◌≡◌, ℕ, ◌≤◌, Some, Result, Ok, Err, IfOk, MatchResult, ap, sym}
+use Rattle.lay_node.specs.Ahead.{Tokens}
+use Rattle.lay_node.specs.reader.Loops.{Got, Read}
+use Rattle.lay_read_tokens.specs.Answers.{IsFound, IsHeld, Stopped}
+use Rattle.lay_read_tokens.specs.declared.found.Found.{Found}
+use Rattle.lay_read_tokens.specs.declared.stop.ReadNone.{ReadNone}
+
+module _ {A B : Type 0} (read : Read B) (first : A) (rest : Tokens) where
+  pub second_stopped : (r : Result (Found B) ReadNone) (none : ReadNone)
+      → MatchResult r (λ b. ◌≡◌ {A = Result (A × Found B) ReadNone} (Err none) (Ok (first, b))) (λ e. ◌≡◌ {A = Result (A × Found B) ReadNone} (Err none) (Err e))
+      → IsFound read r rest → Stopped read none
+  second_stopped (Ok b) none m h = absurd (cc)
+  second_stopped (Err e) none m h = let same : none ≡ e = cc in rw same h
+
+  pub second_found : (r : Result (Found B) ReadNone) (a : A) (b : Found B)
+      → MatchResult r (λ x. ◌≡◌ {A = Result (A × Found B) ReadNone} (Ok (a, b)) (Ok (first, x))) (λ e. ◌≡◌ {A = Result (A × Found B) ReadNone} (Ok (a, b)) (Err e))
+      → IsFound read r rest → (a ≡ first) × (read ≡ Some ((b.node, b.need), rest))
+  second_found (Ok x) a b m h =
+      let pair : ◌≡◌ {A = A × Found B} (a, b) (first, x) = cc in
+      (ap (λ p. p.0) pair, rw (ap (λ p. p.1) pair) h)
+  second_found (Err e) a b m h = absurd (cc)
+
+-- It needs no more than what was read.
+pub second_within : {A B : Type 0} (first : A) (depth : ℕ) (r : Result (Found B) ReadNone) (a : A) (b : Found B)
+    → MatchResult r (λ x. ◌≡◌ {A = Result (A × Found B) ReadNone} (Ok (a, b)) (Ok (first, x))) (λ e. ◌≡◌ {A = Result (A × Found B) ReadNone} (Ok (a, b)) (Err e))
+    → IfOk r (λ found. found.need ≤ depth) → b.need ≤ depth
+second_within {A} {B} first depth (Ok x) a b m h =
+    let pair : ◌≡◌ {A = A × Found B} (a, b) (first, x) = cc in
+    let same : b ≡ x = ap (λ p. p.1) pair in
+    rw same h
+second_within first depth (Err e) a b m h = absurd (cc)
+
+-- What was read one by one behind it is some list.
+pub second_held : {A B C : Type 0} (Holds : C → B → Type 0) (read : Got C) (first : A) (rest : Tokens) (r : Result B ReadNone) (a : A) (b : B)
+    → MatchResult r (λ x. ◌≡◌ {A = Result (A × B) ReadNone} (Ok (a, b)) (Ok (first, x))) (λ e. ◌≡◌ {A = Result (A × B) ReadNone} (Ok (a, b)) (Err e))
+    → IsHeld Holds read r rest → (c : C) × (read ≡ Some (c, rest))
+second_held Holds read first rest (Ok x) a b m h = (h.0, h.1)
+second_held Holds read first rest (Err e) a b m h = absurd (cc)
+
+-- What was made behind it.
+pub second_kept : {A B : Type 0} (first : A) (r : Result B ReadNone) (a : A) (b : B)
+    → MatchResult r (λ x. ◌≡◌ {A = Result (A × B) ReadNone} (Ok (a, b)) (Ok (first, x))) (λ e. ◌≡◌ {A = Result (A × B) ReadNone} (Ok (a, b)) (Err e))
+    → (a ≡ first) × (r ≡ Ok b)
+second_kept {A} {B} first (Ok x) a b m =
+    let pair : ◌≡◌ {A = A × B} (a, b) (first, x) = cc in
+    let same : x ≡ b = sym (ap (λ p. p.1) pair) in
+    (ap (λ p. p.0) pair, ap Ok same)
+second_kept first (Err e) a b m = absurd (cc)

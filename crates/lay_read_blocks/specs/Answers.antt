@@ -1,0 +1,145 @@
+-- What readers of blocks ask for and what they answer.
+use Rattle.std.specs.Prelude.{ℕ, suc, max, nat_le, ◌≡◌, true, false, ◌+◌, ◌^◌, ◌<◌, ◌≤◌, Bool, if◌then◌else◌, List, [], ◌∷◌, drop, codes, Option, Some, None, is_some, Result, IfOk}
+use Rattle.std.specs.declared.alloc.Global.{Global}
+use denote.Ref.{MutBor}
+use Rattle.lay_token.specs.Operators.{is_op}
+use Rattle.lay_node.specs.Ahead.{Tokens, first, tail, is_keyword}
+use Rattle.lay_node.specs.reader.Heads.{semicolon}
+use Rattle.lay_node.specs.reader.Loops.{Read, ◌>>=◌}
+use Rattle.lay_node.specs.reader.Patterns.{pat_at}
+use Rattle.lay_node.specs.reader.Types.{if_read, within}
+use Rattle.lay_node.specs.declared.attr.Attr.{Attr}
+use Rattle.lay_node.specs.declared.heads.Site.{Site}
+use Rattle.lay_node.specs.declared.patterns.Pat.{Pat}
+use Rattle.lay_node.specs.declared.patterns.PatPlace.TheVariants.{Alternatives}
+use Rattle.lay_node.specs.declared.types.Ty.{Ty}
+use Rattle.lay_node.specs.declared.types.TypePlace.TheVariants.{NoBounds}
+use Rattle.lay_tree.specs.nodes.Places.{FREE, plain}
+use Rattle.lay_tree.specs.reader.Blocks.{block_by, else_stands}
+use Rattle.lay_tree.specs.reader.Code.{code_in, expr_at, item_at}
+use Rattle.lay_tree.specs.reader.Exprs.{closure_expr, if_expr, label_expr, labelled_expr, match_expr, block_word_expr}
+use Rattle.lay_tree.specs.reader.Item.{fn_body}
+use Rattle.lay_tree.specs.reader.Within.{ExprWithin}
+use Rattle.lay_tree.specs.declared.blocks.Arm.{Arm}
+use Rattle.lay_tree.specs.declared.blocks.Block.{Block}
+use Rattle.lay_tree.specs.declared.blocks.Stmt.{Stmt}
+use Rattle.lay_tree.specs.declared.blocks.Stmt.TheVariants as stmt
+use Rattle.lay_tree.specs.declared.exprs.ClosureParam.{ClosureParam}
+use Rattle.lay_tree.specs.declared.exprs.Expr.{Expr}
+use Rattle.lay_tree.specs.declared.exprs.Expr.TheVariants as expr
+use Rattle.lay_tree.specs.declared.exprs.Place.{Place}
+use Rattle.lay_tree.specs.declared.item.Item.{Item}
+use Rattle.lay_fronts.specs.ArmFronts.{arm_alone, body_begun}
+use Rattle.lay_fronts.specs.Fronts.{stmt_alone}
+use Rattle.lay_ops.specs.declared.operands.ExprLead.{ExprLead}
+use Rattle.lay_ops.specs.declared.operands.ExprLead.TheVariants as lead
+use Rattle.lay_read_tokens.specs.Answers.{IsFound}
+use Rattle.lay_read_tokens.specs.declared.found.Found.{Found}
+use Rattle.lay_read_tokens.specs.declared.stop.ReadNone.{ReadNone}
+
+-- How code is read within a depth. It is `code_in`, which computes only where the depth is known to be zero or not; here
+-- types and patterns do at each depth.
+abbrev pub code_within : ℕ → ExprWithin
+code_within depth = record {
+  exprs = λ place ts. expr_at place depth ts;
+  kinds = within depth;
+  pats = λ place ts. pat_at place depth ts;
+  blocks = λ ts. (code_in depth).blocks ts;
+  items = λ at ts. item_at at depth ts;
+}
+
+-- These functions read expressions, blocks behind an `else`, and items at this depth, and the depth one above is a number.
+pub record AreCode (depth : ℕ)
+    (may_read_expr : Global → MutBor Tokens → Place → ℕ → Type 0)
+    (reads_expr : Global → MutBor Tokens → Place → ℕ → Result (Found Expr) ReadNone → MutBor Tokens → Type 0)
+    (may_read_block : Global → MutBor Tokens → ℕ → Type 0)
+    (reads_block : Global → MutBor Tokens → ℕ → Result (Found Block) ReadNone → MutBor Tokens → Type 0)
+    (may_read_item : Global → MutBor Tokens → Site → ℕ → Type 0)
+    (reads_item : Global → MutBor Tokens → Site → ℕ → Result (Found Item) ReadNone → MutBor Tokens → Type 0) : Type 0 where
+  pub room : depth + 1 < 2 ^ 32
+  pub expr_readable : (alloc : Global) (old : MutBor Tokens) (place : Place) → may_read_expr alloc old place depth
+  pub expr_read : (alloc : Global) (old new : MutBor Tokens) (place : Place) (r : Result (Found Expr) ReadNone)
+      → reads_expr alloc old place depth r new → IsFound (expr_at place depth old.now) r new.now
+  pub expr_within : (alloc : Global) (old new : MutBor Tokens) (place : Place) (r : Result (Found Expr) ReadNone)
+      → reads_expr alloc old place depth r new → IfOk r (λ found. found.need ≤ depth)
+  pub block_readable : (alloc : Global) (old : MutBor Tokens) → may_read_block alloc old depth
+  pub block_read : (alloc : Global) (old new : MutBor Tokens) (r : Result (Found Block) ReadNone)
+      → reads_block alloc old depth r new → IsFound ((code_in depth).blocks old.now) r new.now
+  pub block_within : (alloc : Global) (old new : MutBor Tokens) (r : Result (Found Block) ReadNone)
+      → reads_block alloc old depth r new → IfOk r (λ found. found.need ≤ depth)
+  pub item_readable : (alloc : Global) (old : MutBor Tokens) (site : Site) → may_read_item alloc old site depth
+  pub item_read : (alloc : Global) (old new : MutBor Tokens) (site : Site) (r : Result (Found Item) ReadNone)
+      → reads_item alloc old site depth r new → IsFound (item_at site depth old.now) r new.now
+  pub item_within : (alloc : Global) (old new : MutBor Tokens) (site : Site) (r : Result (Found Item) ReadNone)
+      → reads_item alloc old site depth r new → IfOk r (λ found. found.need ≤ depth)
+
+-- what is read, unless it is deeper than may be
+abbrev pub fits : {A : Type 0} → ℕ → Read A → Read A
+fits budget read = do x ← read; if nat_le x.0.1 budget then Some x else None
+
+-- ---- statements
+
+-- what stands behind `let`, a pattern, and its type if it has one
+abbrev pub let_behind : ExprWithin → List Attr → Pat × ℕ → Option Ty × ℕ → Tokens → Read Stmt
+let_behind within attrs p t ts = do
+  x ← if_read (is_op (codes "=") ts) (λ us. within.exprs FREE (drop 1 us)) ts
+  b ← if_read (first (is_keyword (codes "else")) x.1) (λ us. within.blocks (tail us)) x.1
+  rest ← semicolon b.1
+  if else_stands x.0.0 (is_some b.0.0)
+      then Some ((stmt.Let attrs p.0 t.0 x.0.0 b.0.0, max p.1 (max t.1 (max x.0.1 b.0.1))), rest)
+      else None
+
+-- the body of a function, or the `;` where it has none
+abbrev pub body_if : ExprWithin → Tokens → Read (Option Block)
+body_if within ts = fn_body within ts
+
+-- ---- branches
+
+-- a pattern and what it is matched with
+abbrev pub matched : ExprWithin → Tokens → Read (Option Pat × Expr)
+matched within ts = do
+  p ← within.pats Alternatives ts
+  x ← (if is_op (codes "=") p.1 then within.exprs (plain 4 true) (drop 1 p.1) else None)
+  Some (((Some p.0.0, x.0.0), max p.0.1 x.0.1), x.1)
+
+-- ---- arms
+
+-- what stands behind the pattern of an arm, and its guard if it has one, up to its comma, and whether it may lack that
+abbrev pub arm_behind : ExprWithin → List Attr → Pat × ℕ → Option Expr × ℕ → Tokens → Read (Arm × Bool)
+arm_behind within attrs p g ts = do
+  x ← (if is_op (codes "=>") ts then body_begun within (drop 2 ts) else None)
+  Some (((record { attrs = attrs; pat = p.0; guard = g.0; body = x.0.0.0 }, x.0.0.1), max p.1 (max g.1 x.0.1)), x.1)
+
+-- ---- closures
+
+-- what stands behind the parameters of a closure, from its `->` on
+abbrev pub typed_closure : ExprWithin → Bool → List ClosureParam → ℕ → Tokens → Read Expr
+typed_closure within moves params need ts = do
+  t ← within.kinds.types NoBounds (drop 2 ts)
+  b ← block_by within t.1
+  Some ((expr.TypedClosure moves params t.0.0 b.0.0, suc (max need (max t.0.1 b.0.1))), b.1)
+
+-- ---- what begins an expression
+
+-- what begins with `if` or `match`, or is a loop
+abbrev pub worded : ExprWithin → Tokens → Read Expr
+worded within ts =
+    if first (is_keyword (codes "if")) ts then if_expr within (tail ts)
+    else (if first (is_keyword (codes "match")) ts then match_expr within (tail ts) else labelled_expr within None ts)
+
+-- what holds blocks, or is a closure, told from what the first token begins
+abbrev pub block_head : ExprWithin → Bool → ExprLead → Tokens → Read Expr
+block_head within no_struct lead.Label ts = label_expr within ts
+block_head within no_struct lead.Brace ts = labelled_expr within None ts
+block_head within no_struct lead.BlockWord ts = block_word_expr within ts
+block_head within no_struct lead.Closure ts = closure_expr within no_struct ts
+block_head within no_struct _ ts = None
+
+-- ---- nodes by themselves, one level deeper
+
+abbrev pub deeper_stmt : ExprWithin → Tokens → Read Stmt
+deeper_stmt within ts = do s ← stmt_alone within ts; Some ((s.0.0, suc s.0.1), s.1)
+
+-- an arm, unless it is deeper than may be
+abbrev pub deeper_arm : ExprWithin → ℕ → Tokens → Read Arm
+deeper_arm within depth ts = do x ← arm_alone within ts; if nat_le x.0.1 depth then Some ((x.0.0, suc x.0.1), x.1) else None

@@ -1,0 +1,228 @@
+//! Conditions, branches, and the expressions with conditions.
+ghost use Rattle.std.specs.Prelude.{◌≡◌, ◌+◌, ◌≤◌, codes, drop, max, IfOk};
+ghost use Rattle.lay_node.specs.Ahead.{first, is_keyword, tail};
+ghost use Rattle.lay_node.specs.reader.Loops.{repeat};
+ghost use Rattle.lay_node.specs.reader.Types.{if_read};
+ghost use Rattle.lay_tree.specs.reader.Blocks as reader;
+ghost use Rattle.lay_tree.specs.reader.Exprs as exprs;
+ghost use Rattle.lay_read_tokens.specs.Answers.{AreFound, IsFound, IsHeld};
+ghost use Rattle.lay_read_blocks.specs.Answers.{AreCode, code_within, matched};
+
+use crate::loops::{Going, read_parts};
+use crate::places::plain;
+use crate::rules::BlockRules;
+use lay_read_parts::joins::{both, prepended, refused};
+use lay_read_parts::loops::Part;
+use lay_read_pats::pat_ahead;
+use lay_read_tokens::found::greater;
+use lay_read_tokens::front::{pass_two, takes_keyword, takes_op};
+use lay_read_tokens::stop::boxed;
+use lay_read_tokens::{Ahead, Found, ReadNone};
+use lay_token::List;
+use lay_tree::{Block, Branch, Expr, Item, Lifetime, Pat, PatPlace, Place, Site};
+use std::alloc::Global;
+
+/// Branches behind `else if`, as parts that stand one behind another.
+pub struct Branches;
+
+impl Part<Branch, ()> for Branches {
+    ghost reads = { λ depth place ts. reader.branch_by (code_within depth) (drop 2 ts) };
+}
+
+impl<
+    P: Fn(Global, &mut Ahead<'_>, Place, u32) -> Result<Found<Expr>, ReadNone>,
+    B: Fn(Global, &mut Ahead<'_>, u32) -> Result<Found<Block>, ReadNone>,
+    I: Fn(Global, &mut Ahead<'_>, Site, u32) -> Result<Found<Item>, ReadNone>,
+> BlockRules<P, B, I> {
+    /// A condition, or a pattern and what it is matched with.
+    #[tactic(auto, unfolding(lay_tree::specs::reader::Blocks::condition_by))]
+    #[inline(never)]
+    pub fn condition_by(&self, at: &mut Ahead<'_>) -> Result<Found<(Option<Pat>, Expr)>, ReadNone>
+        requires { AreCode self.now.depth (P.pre self.now.exprs) (P.post self.now.exprs) (B.pre self.now.blocks) (B.post self.now.blocks) (I.pre self.now.items) (I.post self.now.items) }
+        ensures read { IsFound (reader.condition_by (code_within self.now.depth) at.old) result at.new }
+        ensures within { IfOk result (λ found. found.need ≤ self.now.depth) }
+    {
+        if takes_keyword(at, b"let") {
+            return self.matched(at);
+        }
+        let found = self.expr(at, plain(0, true))?;
+        Ok(Found {
+            need: found.need,
+            node: (None, found.node),
+        })
+    }
+
+    /// A pattern and what it is matched with.
+    #[inline(never)]
+    fn matched(&self, at: &mut Ahead<'_>) -> Result<Found<(Option<Pat>, Expr)>, ReadNone>
+        requires { AreCode self.now.depth (P.pre self.now.exprs) (P.post self.now.exprs) (B.pre self.now.blocks) (B.post self.now.blocks) (I.pre self.now.items) (I.post self.now.items) }
+        ensures read { IsFound (matched (code_within self.now.depth) at.old) result at.new }
+        ensures within { IfOk result (λ found. found.need ≤ self.now.depth) }
+    {
+        let pat = pat_ahead(self.alloc, at, PatPlace::Alternatives, self.depth)?;
+        if !takes_op(at, b"=") {
+            return refused(pat);
+        }
+        let (pat, found) = both(pat, self.expr(at, plain(4, true)))?;
+        Ok(Found {
+            need: greater(pat.need, found.need),
+            node: (Some(pat.node), found.node),
+        })
+    }
+
+    /// What stands behind an `if`.
+    #[tactic(auto, unfolding(lay_tree::specs::reader::Blocks::branch_by))]
+    #[inline(never)]
+    pub fn branch_by(&self, at: &mut Ahead<'_>) -> Result<Found<Branch>, ReadNone>
+        requires { AreCode self.now.depth (P.pre self.now.exprs) (P.post self.now.exprs) (B.pre self.now.blocks) (B.post self.now.blocks) (I.pre self.now.items) (I.post self.now.items) }
+        ensures read { IsFound (reader.branch_by (code_within self.now.depth) at.old) result at.new }
+        ensures within { IfOk result (λ found. found.need ≤ self.now.depth) }
+    {
+        let condition = self.condition_by(at)?;
+        let (condition, body) = both(condition, self.block_by(at))?;
+        let Found { node, need } = condition;
+        let (pat, condition) = node;
+        Ok(Found {
+            need: greater(need, body.need),
+            node: Branch {
+                pat,
+                condition,
+                body: body.node,
+            },
+        })
+    }
+
+    /// Further branches, each behind its `else if`.
+    #[tactic(auto, using(crate::proofs::Left::branch_leaves))]
+    #[inline(never)]
+    fn branches(&self, at: &mut Ahead<'_>) -> Result<Found<List<Branch>>, ReadNone>
+        requires { AreCode self.now.depth (P.pre self.now.exprs) (P.post self.now.exprs) (B.pre self.now.blocks) (B.post self.now.blocks) (I.pre self.now.items) (I.post self.now.items) }
+        ensures read { IsHeld AreFound (repeat exprs.begins_else_if (λ us. reader.branch_by (code_within self.now.depth) (drop 2 us)) at.old) result at.new }
+        ensures within { IfOk result (λ found. found.need ≤ self.now.depth) }
+    {
+        read_parts::<Branches, BlockRules<P, B, I>, Branch, (), _>(
+            self.alloc,
+            at,
+            self.depth,
+            Going::ElseIfs,
+            self,
+            BlockRules::else_branch,
+            (),
+        )
+    }
+
+    /// A branch behind its `else if`.
+    #[inline(never)]
+    fn else_branch(&self, at: &mut Ahead<'_>, _place: ()) -> Result<Found<Branch>, ReadNone>
+        requires { AreCode self.now.depth (P.pre self.now.exprs) (P.post self.now.exprs) (B.pre self.now.blocks) (B.post self.now.blocks) (I.pre self.now.items) (I.post self.now.items) }
+        ensures read { IsFound (reader.branch_by (code_within self.now.depth) (drop 2 at.old)) result at.new }
+        ensures within { IfOk result (λ found. found.need ≤ self.now.depth) }
+    {
+        pass_two(at);
+        self.branch_by(at)
+    }
+
+    /// The block behind an `else`, if one stands there. It is as deep as those of the branches.
+    #[inline(never)]
+    fn otherwise(&self, at: &mut Ahead<'_>) -> Result<Found<Option<Block>>, ReadNone>
+        requires { AreCode self.now.depth (P.pre self.now.exprs) (P.post self.now.exprs) (B.pre self.now.blocks) (B.post self.now.blocks) (I.pre self.now.items) (I.post self.now.items) }
+        ensures read { IsFound (if_read (first (is_keyword (codes "else")) at.old) (λ us. reader.block_by (code_within self.now.depth) (tail us)) at.old) result at.new }
+        ensures within { IfOk result (λ found. found.need ≤ self.now.depth) }
+    {
+        if !takes_keyword(at, b"else") {
+            return Ok(Found {
+                node: None,
+                need: 0,
+            });
+        }
+        let block = self.block_by(at)?;
+        Ok(Found {
+            node: Some(block.node),
+            need: block.need,
+        })
+    }
+
+    /// What stands behind an `if`, with all its branches.
+    #[tactic(auto, unfolding(lay_tree::specs::reader::Exprs::if_expr))]
+    #[inline(never)]
+    pub fn if_expr(&self, at: &mut Ahead<'_>) -> Result<Found<Expr>, ReadNone>
+        requires { AreCode self.now.depth (P.pre self.now.exprs) (P.post self.now.exprs) (B.pre self.now.blocks) (B.post self.now.blocks) (I.pre self.now.items) (I.post self.now.items) }
+        ensures read { IsFound (exprs.if_expr (code_within self.now.depth) at.old) result at.new }
+        ensures within { IfOk result (λ found. found.need ≤ self.now.depth + 1) }
+    {
+        let first = self.branch_by(at)?;
+        let (first, more) = both(first, self.branches(at))?;
+        let ((first, more), otherwise) = both((first, more), self.otherwise(at))?;
+        let need = greater(first.need, greater(more.need, otherwise.need)) + 1;
+        let (otherwise, branches) = both(otherwise.node, prepended(first.node, more.node))?;
+        Ok(Found {
+            node: Expr::If {
+                branches,
+                otherwise,
+            },
+            need,
+        })
+    }
+
+    /// What stands behind `while`.
+    #[tactic(auto, unfolding(lay_tree::specs::reader::Exprs::while_expr))]
+    #[inline(never)]
+    pub fn while_expr(
+        &self,
+        at: &mut Ahead<'_>,
+        label: Option<Lifetime>,
+    ) -> Result<Found<Expr>, ReadNone>
+        requires { AreCode self.now.depth (P.pre self.now.exprs) (P.post self.now.exprs) (B.pre self.now.blocks) (B.post self.now.blocks) (I.pre self.now.items) (I.post self.now.items) }
+        ensures read { IsFound (exprs.while_expr (code_within self.now.depth) label at.old) result at.new }
+        ensures within { IfOk result (λ found. found.need ≤ self.now.depth + 1) }
+    {
+        let (label, found) = both(label, self.branch_by(at))?;
+        let Found { node, need } = found;
+        let (pat, condition, body) = node.into_parts();
+        let ((label, (pat, body)), condition) = both(
+            (label, (pat, body)),
+            boxed(self.alloc, condition),
+        )?;
+        Ok(Found {
+            node: Expr::While {
+                label,
+                pat,
+                condition,
+                body,
+            },
+            need: need + 1,
+        })
+    }
+
+    /// What stands behind `for`.
+    #[tactic(auto, unfolding(lay_tree::specs::reader::Exprs::for_expr))]
+    #[inline(never)]
+    pub fn for_expr(
+        &self,
+        at: &mut Ahead<'_>,
+        label: Option<Lifetime>,
+    ) -> Result<Found<Expr>, ReadNone>
+        requires { AreCode self.now.depth (P.pre self.now.exprs) (P.post self.now.exprs) (B.pre self.now.blocks) (B.post self.now.blocks) (I.pre self.now.items) (I.post self.now.items) }
+        ensures read { IsFound (exprs.for_expr (code_within self.now.depth) label at.old) result at.new }
+        ensures within { IfOk result (λ found. found.need ≤ self.now.depth + 1) }
+    {
+        let (label, pat) = both(
+            label,
+            pat_ahead(self.alloc, at, PatPlace::Alternatives, self.depth),
+        )?;
+        if !takes_keyword(at, b"in") {
+            return refused((label, pat));
+        }
+        let ((label, pat), iterated) = both((label, pat), self.boxed_expr(at, plain(0, true)))?;
+        let ((label, (pat, iterated)), body) = both((label, (pat, iterated)), self.block_by(at))?;
+        Ok(Found {
+            need: greater(pat.need, greater(iterated.need, body.need)) + 1,
+            node: Expr::For {
+                label,
+                pat: pat.node,
+                iterated: iterated.node,
+                body: body.node,
+            },
+        })
+    }
+}

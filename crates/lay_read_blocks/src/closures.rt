@@ -1,0 +1,152 @@
+//! Closures.
+ghost use Rattle.std.specs.Prelude.{◌≡◌, ◌+◌, ◌≤◌, codes, IfOk};
+ghost use Rattle.lay_node.specs.Ahead.{is_mark};
+ghost use Rattle.lay_node.specs.reader.Loops.{elements};
+ghost use Rattle.lay_tree.specs.reader.Exprs as exprs;
+ghost use Rattle.lay_read_tokens.specs.Answers.{AreFound, IsFound, IsHeld};
+ghost use Rattle.lay_read_blocks.specs.Answers.{AreCode, code_within, typed_closure};
+
+use crate::places::plain;
+use crate::rules::BlockRules;
+use lay_head_rules::level::type_if;
+use lay_read_parts::joins::{both, refused};
+use lay_read_parts::loops::{Closer, Part, read_elements};
+use lay_read_pats::pat_ahead;
+use lay_read_tokens::attributes::attrs_ahead;
+use lay_read_tokens::found::greater;
+use lay_read_tokens::front::{pass_two, takes_keyword, takes_mark};
+use lay_read_tokens::{Ahead, Found, ReadNone};
+use lay_read_types::type_ahead;
+use lay_token::List;
+use lay_tree::{Block, ClosureParam, Expr, Item, PatPlace, Place, Site, TypePlace};
+use std::alloc::Global;
+
+/// Parameters of a closure, as elements of a list.
+pub struct Params;
+
+impl Part<ClosureParam, ()> for Params {
+    ghost reads = { λ depth place ts. exprs.closure_param (code_within depth) ts };
+}
+
+impl<
+    P: Fn(Global, &mut Ahead<'_>, Place, u32) -> Result<Found<Expr>, ReadNone>,
+    B: Fn(Global, &mut Ahead<'_>, u32) -> Result<Found<Block>, ReadNone>,
+    I: Fn(Global, &mut Ahead<'_>, Site, u32) -> Result<Found<Item>, ReadNone>,
+> BlockRules<P, B, I> {
+    /// A parameter of a closure.
+    #[tactic(auto, unfolding(lay_tree::specs::reader::Exprs::closure_param))]
+    #[inline(never)]
+    fn closure_param(&self, at: &mut Ahead<'_>, _place: ()) -> Result<Found<ClosureParam>, ReadNone>
+        requires { AreCode self.now.depth (P.pre self.now.exprs) (P.post self.now.exprs) (B.pre self.now.blocks) (B.post self.now.blocks) (I.pre self.now.items) (I.post self.now.items) }
+        ensures read { IsFound (exprs.closure_param (code_within self.now.depth) at.old) result at.new }
+        ensures within { IfOk result (λ found. found.need ≤ self.now.depth) }
+    {
+        let attrs = attrs_ahead(self.alloc, at, false)?;
+        let (attrs, pat) = both(
+            attrs,
+            pat_ahead(self.alloc, at, PatPlace::Single, self.depth),
+        )?;
+        let ((attrs, pat), ty) = both((attrs, pat), type_if(self.alloc, at, b":", self.depth))?;
+        Ok(Found {
+            need: greater(pat.need, ty.need),
+            node: ClosureParam {
+                attrs,
+                pat: pat.node,
+                ty: ty.node,
+            },
+        })
+    }
+
+    /// Parameters, and the `|` behind them.
+    #[tactic(auto, using(crate::proofs::Left::param_leaves))]
+    #[inline(never)]
+    fn params(&self, at: &mut Ahead<'_>) -> Result<Found<List<ClosureParam>>, ReadNone>
+        requires { AreCode self.now.depth (P.pre self.now.exprs) (P.post self.now.exprs) (B.pre self.now.blocks) (B.post self.now.blocks) (I.pre self.now.items) (I.post self.now.items) }
+        ensures read { IsHeld AreFound (elements (is_mark (codes "|")) (exprs.closure_param (code_within self.now.depth)) at.old) result at.new }
+        ensures within { IfOk result (λ found. found.need ≤ self.now.depth) }
+    {
+        read_elements::<Params, BlockRules<P, B, I>, ClosureParam, (), _>(
+            self.alloc,
+            at,
+            self.depth,
+            Closer::Bar,
+            self,
+            BlockRules::closure_param,
+            (),
+        )
+    }
+
+    /// A closure.
+    #[tactic(auto, unfolding(lay_tree::specs::reader::Exprs::closure_expr))]
+    #[inline(never)]
+    pub fn closure_expr(&self, at: &mut Ahead<'_>, no_struct: bool) -> Result<Found<Expr>, ReadNone>
+        requires { AreCode self.now.depth (P.pre self.now.exprs) (P.post self.now.exprs) (B.pre self.now.blocks) (B.post self.now.blocks) (I.pre self.now.items) (I.post self.now.items) }
+        ensures read { IsFound (exprs.closure_expr (code_within self.now.depth) no_struct at.old) result at.new }
+        ensures within { IfOk result (λ found. found.need ≤ self.now.depth + 1) }
+    {
+        let moves = takes_keyword(at, b"move");
+        if !takes_mark(at, b"|") {
+            return Err(ReadNone::NoReading);
+        }
+        let params = self.params(at)?;
+        self.closure_body(at, no_struct, moves, params)
+    }
+
+    /// What stands behind the parameters of a closure.
+    #[inline(never)]
+    fn closure_body(
+        &self,
+        at: &mut Ahead<'_>,
+        no_struct: bool,
+        moves: bool,
+        params: Found<List<ClosureParam>>,
+    ) -> Result<Found<Expr>, ReadNone>
+        requires code { AreCode self.now.depth (P.pre self.now.exprs) (P.post self.now.exprs) (B.pre self.now.blocks) (B.post self.now.blocks) (I.pre self.now.items) (I.post self.now.items) }
+        requires within { params.need ≤ self.now.depth }
+        ensures read { IsFound (exprs.closure_body (code_within self.now.depth) no_struct moves params.node params.need at.old) result at.new }
+        ensures within { IfOk result (λ found. found.need ≤ self.now.depth + 1) }
+    {
+        if at.op_is(b"->") {
+            return self.typed_closure(at, moves, params);
+        }
+        let (params, body) = both(params, self.boxed_expr(at, plain(0, no_struct)))?;
+        Ok(Found {
+            need: greater(params.need, body.need) + 1,
+            node: Expr::Closure {
+                moves,
+                params: params.node,
+                body: body.node,
+            },
+        })
+    }
+
+    /// What stands behind the parameters of a closure, from its `->` on.
+    #[inline(never)]
+    fn typed_closure(
+        &self,
+        at: &mut Ahead<'_>,
+        moves: bool,
+        params: Found<List<ClosureParam>>,
+    ) -> Result<Found<Expr>, ReadNone>
+        requires code { AreCode self.now.depth (P.pre self.now.exprs) (P.post self.now.exprs) (B.pre self.now.blocks) (B.post self.now.blocks) (I.pre self.now.items) (I.post self.now.items) }
+        requires within { params.need ≤ self.now.depth }
+        ensures read { IsFound (typed_closure (code_within self.now.depth) moves params.node params.need at.old) result at.new }
+        ensures within { IfOk result (λ found. found.need ≤ self.now.depth + 1) }
+    {
+        pass_two(at);
+        let (params, output) = both(
+            params,
+            type_ahead(self.alloc, at, TypePlace::NoBounds, self.depth),
+        )?;
+        let ((params, output), body) = both((params, output), self.block_by(at))?;
+        Ok(Found {
+            need: greater(params.need, greater(output.need, body.need)) + 1,
+            node: Expr::TypedClosure {
+                moves,
+                params: params.node,
+                output: output.node,
+                body: body.node,
+            },
+        })
+    }
+}

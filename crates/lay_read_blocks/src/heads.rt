@@ -1,0 +1,157 @@
+//! What begins with a block, with a word before one, with a label, or as a closure does.
+ghost use Rattle.std.specs.Prelude.{◌≡◌, ◌+◌, ◌≤◌, None, IfOk};
+ghost use Rattle.lay_tree.specs.reader.Exprs as exprs;
+ghost use Rattle.lay_read_tokens.specs.Answers.{IsFound};
+ghost use Rattle.lay_read_blocks.specs.Answers.{AreCode, block_head, code_within, fits, worded};
+
+use crate::rules::BlockRules;
+use lay_ops::operands::ExprLead;
+use lay_read_parts::joins::{both, refused};
+use lay_read_parts::parts::read_lifetime;
+use lay_read_tokens::front::{is_at_opened, takes_keyword, takes_op};
+use lay_read_tokens::{Ahead, Found, ReadNone};
+use lay_token::Delim;
+use lay_tree::{Block, Expr, Item, Lifetime, Place, Site};
+use std::alloc::Global;
+
+impl<
+    P: Fn(Global, &mut Ahead<'_>, Place, u32) -> Result<Found<Expr>, ReadNone>,
+    B: Fn(Global, &mut Ahead<'_>, u32) -> Result<Found<Block>, ReadNone>,
+    I: Fn(Global, &mut Ahead<'_>, Site, u32) -> Result<Found<Item>, ReadNone>,
+> BlockRules<P, B, I> {
+    /// What begins an expression that holds blocks, or a closure, told from what the first token begins, unless it is deeper
+    /// than may be.
+    #[inline(never)]
+    pub fn block_head(
+        &self,
+        at: &mut Ahead<'_>,
+        no_struct: bool,
+        lead: ExprLead,
+    ) -> Result<Found<Expr>, ReadNone>
+        requires { AreCode self.now.depth (P.pre self.now.exprs) (P.post self.now.exprs) (B.pre self.now.blocks) (B.post self.now.blocks) (I.pre self.now.items) (I.post self.now.items) }
+        ensures read { IsFound (fits (self.now.depth + 1) (block_head (code_within self.now.depth) no_struct lead at.old)) result at.new }
+        ensures within { IfOk result (λ found. found.need ≤ self.now.depth + 1) }
+    {
+        match lead {
+            ExprLead::Label => self.label_expr(at),
+            ExprLead::Brace => self.labelled_expr(at, None),
+            ExprLead::BlockWord => self.block_word_expr(at),
+            ExprLead::Closure => self.closure_expr(at, no_struct),
+            _ => Err(ReadNone::NoReading),
+        }
+    }
+
+    /// A block or a loop behind its label.
+    #[tactic(auto, unfolding(lay_tree::specs::reader::Exprs::label_expr))]
+    #[inline(never)]
+    fn label_expr(&self, at: &mut Ahead<'_>) -> Result<Found<Expr>, ReadNone>
+        requires { AreCode self.now.depth (P.pre self.now.exprs) (P.post self.now.exprs) (B.pre self.now.blocks) (B.post self.now.blocks) (I.pre self.now.items) (I.post self.now.items) }
+        ensures read { IsFound (exprs.label_expr (code_within self.now.depth) at.old) result at.new }
+        ensures within { IfOk result (λ found. found.need ≤ self.now.depth + 1) }
+    {
+        let label = read_lifetime(self.alloc, at)?;
+        if !takes_op(at, b":") {
+            return refused(label);
+        }
+        self.labelled_expr(at, Some(label))
+    }
+
+    /// A block or a loop, behind its label if it has one.
+    #[inline(never)]
+    fn labelled_expr(
+        &self,
+        at: &mut Ahead<'_>,
+        label: Option<Lifetime>,
+    ) -> Result<Found<Expr>, ReadNone>
+        requires { AreCode self.now.depth (P.pre self.now.exprs) (P.post self.now.exprs) (B.pre self.now.blocks) (B.post self.now.blocks) (I.pre self.now.items) (I.post self.now.items) }
+        ensures read { IsFound (exprs.labelled_expr (code_within self.now.depth) label at.old) result at.new }
+        ensures within { IfOk result (λ found. found.need ≤ self.now.depth + 1) }
+    {
+        if is_at_opened(at, Delim::Brace) {
+            let (label, body) = both(label, self.block_by(at))?;
+            Ok(Found {
+                need: body.need + 1,
+                node: Expr::Block {
+                    label,
+                    body: body.node,
+                },
+            })
+        } else if takes_keyword(at, b"loop") {
+            let (label, body) = both(label, self.block_by(at))?;
+            Ok(Found {
+                need: body.need + 1,
+                node: Expr::Loop {
+                    label,
+                    body: body.node,
+                },
+            })
+        } else if takes_keyword(at, b"while") {
+            self.while_expr(at, label)
+        } else if takes_keyword(at, b"for") {
+            self.for_expr(at, label)
+        } else {
+            refused(label)
+        }
+    }
+
+    /// What begins with a word of an expression that holds a block.
+    #[tactic(auto, unfolding(lay_tree::specs::reader::Exprs::block_word_expr))]
+    #[inline(never)]
+    fn block_word_expr(&self, at: &mut Ahead<'_>) -> Result<Found<Expr>, ReadNone>
+        requires { AreCode self.now.depth (P.pre self.now.exprs) (P.post self.now.exprs) (B.pre self.now.blocks) (B.post self.now.blocks) (I.pre self.now.items) (I.post self.now.items) }
+        ensures read { IsFound (fits (self.now.depth + 1) (exprs.block_word_expr (code_within self.now.depth) at.old)) result at.new }
+        ensures within { IfOk result (λ found. found.need ≤ self.now.depth + 1) }
+    {
+        if takes_keyword(at, b"unsafe") {
+            let body = self.block_by(at)?;
+            Ok(Found {
+                need: body.need + 1,
+                node: Expr::Unsafe { body: body.node },
+            })
+        } else if takes_keyword(at, b"const") {
+            let body = self.block_by(at)?;
+            Ok(Found {
+                need: body.need + 1,
+                node: Expr::ConstBlock { body: body.node },
+            })
+        } else if takes_keyword(at, b"async") {
+            self.async_expr(at)
+        } else {
+            self.worded(at)
+        }
+    }
+
+    /// What stands behind `async`.
+    #[inline(never)]
+    fn async_expr(&self, at: &mut Ahead<'_>) -> Result<Found<Expr>, ReadNone>
+        requires { AreCode self.now.depth (P.pre self.now.exprs) (P.post self.now.exprs) (B.pre self.now.blocks) (B.post self.now.blocks) (I.pre self.now.items) (I.post self.now.items) }
+        ensures read { IsFound (exprs.async_expr (code_within self.now.depth) at.old) result at.new }
+        ensures within { IfOk result (λ found. found.need ≤ self.now.depth + 1) }
+    {
+        let moves = takes_keyword(at, b"move");
+        let body = self.block_by(at)?;
+        Ok(Found {
+            need: body.need + 1,
+            node: Expr::Async {
+                moves,
+                body: body.node,
+            },
+        })
+    }
+
+    /// What begins with `if` or `match`, or is a loop.
+    #[inline(never)]
+    fn worded(&self, at: &mut Ahead<'_>) -> Result<Found<Expr>, ReadNone>
+        requires { AreCode self.now.depth (P.pre self.now.exprs) (P.post self.now.exprs) (B.pre self.now.blocks) (B.post self.now.blocks) (I.pre self.now.items) (I.post self.now.items) }
+        ensures read { IsFound (fits (self.now.depth + 1) (worded (code_within self.now.depth) at.old)) result at.new }
+        ensures within { IfOk result (λ found. found.need ≤ self.now.depth + 1) }
+    {
+        if takes_keyword(at, b"if") {
+            self.if_expr(at)
+        } else if takes_keyword(at, b"match") {
+            self.match_expr(at)
+        } else {
+            self.labelled_expr(at, None)
+        }
+    }
+}

@@ -1,0 +1,178 @@
+//! Statements.
+ghost use Rattle.std.specs.Prelude.{◌≡◌, ◌≤◌, max, codes, is_some, option_map, IfOk};
+ghost use Rattle.lay_node.specs.Ahead.{first, is_keyword, tail};
+ghost use Rattle.lay_node.specs.reader.Types.{if_read};
+ghost use Rattle.lay_tree.specs.nodes.Code.{about_expr};
+ghost use Rattle.lay_tree.specs.reader.Blocks as reader;
+ghost use Rattle.lay_tree.specs.reader.Code.{code_in};
+ghost use Rattle.lay_read_tokens.specs.Answers.{IsFound};
+ghost use Rattle.lay_read_blocks.specs.Answers.{AreCode, code_within, let_behind};
+
+use crate::front::begins_item;
+use crate::places::STATEMENT;
+use crate::rules::BlockRules;
+use lay_ends::may_precede_else;
+use lay_head_rules::level::type_if;
+use lay_ops::is_call;
+use lay_read_parts::joins::{both, refused};
+use lay_read_pats::pat_ahead;
+use lay_read_tokens::attributes::attrs_ahead;
+use lay_read_tokens::found::greater;
+use lay_read_tokens::front::{takes_keyword, takes_mark};
+use lay_read_tokens::stop::boxed;
+use lay_read_tokens::{Ahead, Found, ReadNone};
+use lay_token::List;
+use lay_tree::{Attr, Block, Expr, Item, Pat, PatPlace, Place, Site, Stmt, Ty};
+use std::alloc::Global;
+
+/// Whether an `else` may stand behind this value, if one stands there.
+fn else_stands(value: &Option<Expr>, otherwise: bool) -> bool
+    ensures { result ≡ reader.else_stands value.now otherwise }
+{
+    if !otherwise {
+        return true;
+    }
+    match value {
+        Some(value) => may_precede_else(value),
+        None => false,
+    }
+}
+
+impl<
+    P: Fn(Global, &mut Ahead<'_>, Place, u32) -> Result<Found<Expr>, ReadNone>,
+    B: Fn(Global, &mut Ahead<'_>, u32) -> Result<Found<Block>, ReadNone>,
+    I: Fn(Global, &mut Ahead<'_>, Site, u32) -> Result<Found<Item>, ReadNone>,
+> BlockRules<P, B, I> {
+    /// A statement.
+    #[tactic(auto, unfolding(lay_tree::specs::reader::Blocks::stmt_by))]
+    #[inline(never)]
+    pub fn stmt_by(&self, at: &mut Ahead<'_>) -> Result<Found<Stmt>, ReadNone>
+        requires { AreCode self.now.depth (P.pre self.now.exprs) (P.post self.now.exprs) (B.pre self.now.blocks) (B.post self.now.blocks) (I.pre self.now.items) (I.post self.now.items) }
+        ensures read { IsFound (reader.stmt_by (code_within self.now.depth) at.old) result at.new }
+        ensures within { IfOk result (λ found. found.need ≤ self.now.depth) }
+    {
+        let mut begun = at.fork();
+        let attrs = attrs_ahead(self.alloc, at, false)?;
+        if takes_keyword(at, b"let") {
+            return self.let_stmt(at, attrs);
+        }
+        if !begins_item(at) {
+            return self.expr_stmt(at, attrs);
+        }
+        let (_, found) = both(attrs, self.item_stmt(&mut begun))?;
+        *at = begun;
+        Ok(found)
+    }
+
+    /// An item, which is no macro call.
+    #[inline(never)]
+    fn item_stmt(&self, at: &mut Ahead<'_>) -> Result<Found<Stmt>, ReadNone>
+        requires { AreCode self.now.depth (P.pre self.now.exprs) (P.post self.now.exprs) (B.pre self.now.blocks) (B.post self.now.blocks) (I.pre self.now.items) (I.post self.now.items) }
+        ensures read { IsFound (reader.item_stmt (code_within self.now.depth) at.old) result at.new }
+        ensures within { IfOk result (λ found. found.need ≤ self.now.depth) }
+    {
+        let found = self.item(at, Site::Module)?;
+        if is_call(&found.node) {
+            return refused(found);
+        }
+        let item = boxed(self.alloc, found.node)?;
+        Ok(Found {
+            node: Stmt::Item { item },
+            need: found.need,
+        })
+    }
+
+    /// An expression, and its `;` if it has one.
+    #[tactic(auto, unfolding(lay_tree::specs::reader::Blocks::expr_stmt))]
+    #[inline(never)]
+    fn expr_stmt(&self, at: &mut Ahead<'_>, attrs: List<Attr>) -> Result<Found<Stmt>, ReadNone>
+        requires { AreCode self.now.depth (P.pre self.now.exprs) (P.post self.now.exprs) (B.pre self.now.blocks) (B.post self.now.blocks) (I.pre self.now.items) (I.post self.now.items) }
+        ensures read { IsFound (reader.expr_stmt (code_within self.now.depth) attrs at.old) result at.new }
+        ensures within { IfOk result (λ found. found.need ≤ self.now.depth) }
+    {
+        let (attrs, found) = both(attrs, self.expr(at, STATEMENT))?;
+        let ended = takes_mark(at, b";");
+        Ok(Found {
+            need: found.need,
+            node: Stmt::Expr {
+                attrs,
+                expr: found.node,
+                ended,
+            },
+        })
+    }
+
+    /// What stands behind `let`.
+    #[tactic(auto, unfolding(lay_tree::specs::reader::Blocks::let_stmt))]
+    #[inline(never)]
+    fn let_stmt(&self, at: &mut Ahead<'_>, attrs: List<Attr>) -> Result<Found<Stmt>, ReadNone>
+        requires { AreCode self.now.depth (P.pre self.now.exprs) (P.post self.now.exprs) (B.pre self.now.blocks) (B.post self.now.blocks) (I.pre self.now.items) (I.post self.now.items) }
+        ensures read { IsFound (reader.let_stmt (code_within self.now.depth) attrs at.old) result at.new }
+        ensures within { IfOk result (λ found. found.need ≤ self.now.depth) }
+    {
+        let (attrs, pat) = both(
+            attrs,
+            pat_ahead(self.alloc, at, PatPlace::Single, self.depth),
+        )?;
+        let ((attrs, pat), ty) = both((attrs, pat), type_if(self.alloc, at, b":", self.depth))?;
+        self.let_behind(at, attrs, pat, ty)
+    }
+
+    /// What stands behind `let`, a pattern, and its type if it has one.
+    #[inline(never)]
+    fn let_behind(
+        &self,
+        at: &mut Ahead<'_>,
+        attrs: List<Attr>,
+        pat: Found<Pat>,
+        ty: Found<Option<Ty>>,
+    ) -> Result<Found<Stmt>, ReadNone>
+        requires code { AreCode self.now.depth (P.pre self.now.exprs) (P.post self.now.exprs) (B.pre self.now.blocks) (B.post self.now.blocks) (I.pre self.now.items) (I.post self.now.items) }
+        requires pat { pat.need ≤ self.now.depth }
+        requires ty { ty.need ≤ self.now.depth }
+        ensures read { IsFound (let_behind (code_within self.now.depth) attrs (pat.node, pat.need) (ty.node, ty.need) at.old) result at.new }
+        ensures within { IfOk result (λ found. found.need ≤ self.now.depth) }
+    {
+        let ((attrs, (pat, ty)), value) = both((attrs, (pat, ty)), self.value_if(at))?;
+        let ((attrs, (pat, ty)), (value, otherwise)) = both(
+            (attrs, (pat, ty)),
+            both(value, self.else_if(at)),
+        )?;
+        if !takes_mark(at, b";") || !else_stands(&value.node, otherwise.node.is_some()) {
+            return refused((attrs, (pat, (ty, (value, otherwise)))));
+        }
+        Ok(Found {
+            need: greater(
+                pat.need,
+                greater(ty.need, greater(value.need, otherwise.need)),
+            ),
+            node: Stmt::Let {
+                attrs,
+                pat: pat.node,
+                ty: ty.node,
+                value: value.node,
+                otherwise: otherwise.node,
+            },
+        })
+    }
+
+    /// The block behind an `else`, if one stands there.
+    #[inline(never)]
+    fn else_if(&self, at: &mut Ahead<'_>) -> Result<Found<Option<Block>>, ReadNone>
+        requires { AreCode self.now.depth (P.pre self.now.exprs) (P.post self.now.exprs) (B.pre self.now.blocks) (B.post self.now.blocks) (I.pre self.now.items) (I.post self.now.items) }
+        ensures read { IsFound (if_read (first (is_keyword (codes "else")) at.old) (λ ts. (code_in self.now.depth).blocks (tail ts)) at.old) result at.new }
+        ensures within { IfOk result (λ found. found.need ≤ self.now.depth) }
+    {
+        if !takes_keyword(at, b"else") {
+            return Ok(Found {
+                node: None,
+                need: 0,
+            });
+        }
+        let block = self.block_behind(at)?;
+        Ok(Found {
+            node: Some(block.node),
+            need: block.need,
+        })
+    }
+}

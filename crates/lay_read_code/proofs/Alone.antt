@@ -1,0 +1,26 @@
+-- What stands by itself at a depth stands there at each greater one.
+use Rattle.std.proofs.Common.{ℕ, ◌≤◌}
+use Rattle.lay_form.specs.Form.{Deeper, Done}
+use Rattle.lay_node.specs.Ahead.{Tokens}
+use Rattle.lay_node.specs.nodes.Facts.{by_itself}
+use Rattle.lay_tree.specs.nodes.Code.{about_arm, about_expr}
+use Rattle.lay_tree.specs.declared.blocks.Arm.{Arm}
+use Rattle.lay_tree.specs.declared.blocks.Block.{Block}
+use Rattle.lay_tree.specs.declared.blocks.Stmt.{Stmt}
+use Rattle.lay_fronts.specs.ArmFronts.{ArmFront, arm_follows, arm_shape}
+use Rattle.lay_fronts.specs.Fronts.{BlockFront, StmtFront, block_told, stmt_told}
+use Rattle.lay_read_parts.proofs.AtFront.{front_deeper}
+
+pub block_lifts : (x : Block) (ts : Tokens) (n m depth : ℕ) → m ≤ depth → BlockFront x ts n m → BlockFront x ts n depth
+block_lifts x = let told = by_itself (block_told x) in front_deeper told.form told.good told.follows
+
+pub stmt_lifts : (x : Stmt) (ts : Tokens) (n m depth : ℕ) → m ≤ depth → StmtFront x ts n m → StmtFront x ts n depth
+stmt_lifts x = let told = by_itself (stmt_told x) in front_deeper told.form told.good told.follows
+
+pub arm_lifts : (x : Arm) (ts : Tokens) (n m depth : ℕ) → m ≤ depth → ArmFront x ts n m → ArmFront x ts n depth
+arm_lifts x ts n m depth le f = (
+  f.0,
+  f.1,
+  f.2,
+  front_deeper (Deeper (arm_shape f.0 f.1 x) Done) (about_arm x).good (arm_follows f.0 f.1 (about_expr x.body)) ts n m depth le f.3,
+)

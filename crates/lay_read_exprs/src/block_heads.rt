@@ -1,0 +1,49 @@
+//! What begins an expression that holds blocks, or a closure, as the rules of expressions ask for it.
+ghost use Rattle.std.specs.Prelude.{ℕ, ◌+◌, ◌≤◌, IfOk};
+ghost use Rattle.lay_read_tokens.specs.Answers.{IsFound};
+ghost use Rattle.lay_read_blocks.specs.Answers.{AreCode, block_head, code_within, fits};
+
+use lay_ops::operands::ExprLead;
+use lay_read_blocks::BlockRules;
+use lay_read_tokens::{Ahead, Found, ReadNone};
+use lay_tree::{Block, Expr, Item, Place, Site};
+use std::alloc::Global;
+
+/// What reads expressions that begin with a label, with a block or with a word before one, and closures.
+pub trait BlockHeads {
+    /// Over what is read at this depth it reads them.
+    ghost depth: { Self → ℕ };
+
+    /// It may read.
+    ghost are_ready: { Self → Type 0 };
+
+    /// What begins such an expression, told from what the first token begins, unless it is deeper than may be.
+    fn block_head(
+        &self,
+        at: &mut Ahead<'_>,
+        no_struct: bool,
+        lead: ExprLead,
+    ) -> Result<Found<Expr>, ReadNone>
+        requires { are_ready self.now }
+        ensures read { IsFound (fits (depth self.now + 1) (block_head (code_within (depth self.now)) no_struct lead at.old)) result at.new }
+        ensures within { IfOk result (λ found. found.need ≤ depth self.now + 1) };
+}
+
+impl<
+    P: Fn(Global, &mut Ahead<'_>, Place, u32) -> Result<Found<Expr>, ReadNone>,
+    B: Fn(Global, &mut Ahead<'_>, u32) -> Result<Found<Block>, ReadNone>,
+    I: Fn(Global, &mut Ahead<'_>, Site, u32) -> Result<Found<Item>, ReadNone>,
+> BlockHeads for BlockRules<P, B, I> {
+    ghost depth = { λ rules. rules.depth };
+
+    ghost are_ready = { λ rules. AreCode rules.depth (P.pre rules.exprs) (P.post rules.exprs) (B.pre rules.blocks) (B.post rules.blocks) (I.pre rules.items) (I.post rules.items) };
+
+    fn block_head(
+        &self,
+        at: &mut Ahead<'_>,
+        no_struct: bool,
+        lead: ExprLead,
+    ) -> Result<Found<Expr>, ReadNone> {
+        BlockRules::block_head(self, at, no_struct, lead)
+    }
+}

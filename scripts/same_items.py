@@ -1,0 +1,67 @@
+#!/usr/bin/env python3
+"""Formats files of Rust with a built command, and shows that nothing in them changed: the output is given back by a second
+run byte for byte, and `rustc` makes the same of it as of the input. What rustc makes is its high-level representation, as it
+prints that without places (`-Zunpretty=hir`), with names resolved and macros expanded; and where the input compiles, the
+output compiles as well.
+
+usage: same_items.py COMMAND FILE..
+
+The last line is `N the same, M not`; the exit status is 0 where all are the same."""
+import os
+import re
+import subprocess
+import sys
+import tempfile
+
+RUSTC = ['rustc', '--edition', '2021', '--crate-type', 'lib', '--crate-name', 'formatted', '-A', 'warnings']
+
+
+def formatted(command, data):
+    ran = subprocess.run([command], input=data, capture_output=True)
+    if ran.returncode != 0:
+        sys.exit(f'refused: {ran.stderr.decode()}')
+    return ran.stdout
+
+
+def representation(path):
+    """What rustc makes of a file, and how many errors it names. Comments of the source, which it prints too, are left out."""
+    ran = subprocess.run([*RUSTC, '-Zunpretty=hir', path], capture_output=True, env={**os.environ, 'RUSTC_BOOTSTRAP': '1'})
+    text = re.sub(rb'^\s*(//[^/!].*|/\*[^*!].*\*/)$', b'', ran.stdout, flags=re.M)
+    lines = [line.strip() for line in text.split(b'\n')]
+    return [line for line in lines if line], len(re.findall(rb'^error', ran.stderr, flags=re.M))
+
+
+def compiles(path, folder):
+    return subprocess.run([*RUSTC, '--emit', 'metadata', '--out-dir', folder, path], capture_output=True).returncode == 0
+
+
+def is_same(command, path):
+    with open(path, 'rb') as file:
+        data = file.read()
+    text = formatted(command, data)
+    if formatted(command, text) != text:
+        print(f'{path}: a second run changes the output')
+        return False
+    with tempfile.TemporaryDirectory() as folder:
+        output = os.path.join(folder, 'formatted.rs')
+        with open(output, 'wb') as file:
+            file.write(text)
+        before, after = representation(path), representation(output)
+        both = compiles(path, folder), compiles(output, folder)
+    if not before[0] or before != after or both[0] != both[1]:
+        print(f'{path}: rustc makes something else of the output')
+        return False
+    words = 'compiles before and after' if both[0] else f'{before[1]} errors of names before and after'
+    print(f'{path}: {len(data)} bytes in, {len(text)} out, {len(before[0])} lines of items are the same; {words}')
+    return True
+
+
+def main():
+    command = os.path.abspath(sys.argv[1])
+    same = [is_same(command, path) for path in sys.argv[2:]]
+    print(f'{sum(same)} the same, {len(same) - sum(same)} not')
+    return 0 if all(same) and same else 1
+
+
+if __name__ == '__main__':
+    sys.exit(main())
