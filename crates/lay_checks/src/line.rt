@@ -26,16 +26,28 @@ fn is_input(input: &Which, name: Option<&str>) -> bool {
     }
 }
 
-/// Whether the line asks for this, which stands before the name of its file.
+/// Whether the sample is of this seed and of so many items, which stand in this order with a blank between them.
+fn is_sample(seed: u64, items: u32, numbers: &str) -> bool {
+    match numbers.split_once(' ') {
+        Some((first, second)) => first.parse::<u64>() == Ok(seed)
+            && second.parse::<u32>() == Ok(items),
+        None => false,
+    }
+}
+
+/// Whether the line asks for this, which stands before the name of its file or the numbers of its sample.
 fn asks(line: &Line, wanted: &str) -> bool {
     let (mode, name) = match wanted.split_once(' ') {
         Some((mode, name)) => (mode, Some(name)),
         None => (wanted, None),
     };
-    match line {
-        Line::Usage => mode == "usage",
-        Line::Format(input) => mode == "format" && is_input(input, name),
-        Line::Check(input) => mode == "check" && is_input(input, name),
+    match (line, name) {
+        (Line::Usage, None) => mode == "usage",
+        (Line::Format(input), name) => mode == "format" && is_input(input, name),
+        (Line::Check(input), name) => mode == "check" && is_input(input, name),
+        (Line::Sample { seed, items }, Some(numbers)) => mode == "sample"
+            && is_sample(*seed, *items, numbers),
+        _ => false,
     }
 }
 
@@ -90,10 +102,57 @@ fn lines(rt: HostRuntime) {
         a --help→usage§\
         -h→usage§\
         --version→usage§\
-        -V→usage§\
-        --sample 1 --items 1→usage";
+        -V→usage";
     each_holds(&rt, rt.alloc(), rows, BETWEEN, row_asks);
     // A word that isn't UTF-8.
     assert!(rt; ask(rt.alloc(), b"\xff", "usage"));
     assert!(rt; ask(rt.alloc(), b"-- a\xff", "usage"));
+}
+
+#[test]
+fn samples(rt: HostRuntime) {
+    let rows = "--sample 2 --items 1→sample 2 1§\
+        --items 1 --sample 2→sample 2 1§\
+        --sample=2 --items=1→sample 2 1§\
+        --sample=2 --items 1→sample 2 1§\
+        --sample 0 --items 0→sample 0 0§\
+        --sample 18446744073709551615 --items 200000→sample 18446744073709551615 200000§\
+        --sample 00000000000000000002 --items 000001→sample 2 1§\
+        --sample 2 --items 1 --→sample 2 1§\
+        --items 1→usage§\
+        --sample 2→usage§\
+        --sample→usage§\
+        --items→usage§\
+        --sample --items 1→usage§\
+        --sample 2 --items→usage§\
+        --sample 2 --items 200001→usage§\
+        --sample 18446744073709551616 --items 1→usage§\
+        --sample 99999999999999999999 --items 1→usage§\
+        --sample 000000000000000000002 --items 1→usage§\
+        --sample 2 --items 0000001→usage§\
+        --sample +2 --items 1→usage§\
+        --sample 2 --items +1→usage§\
+        --sample -2 --items 1→usage§\
+        --sample=-2 --items 1→usage§\
+        --sample 2a --items 1→usage§\
+        --sample 0x2 --items 1→usage§\
+        --sample 2 --items 1_0→usage§\
+        --sample 2 --items ١→usage§\
+        --sample  --items 1→usage§\
+        --sample= --items 1→usage§\
+        --sample 2 --items →usage§\
+        --sample 2 --sample 2 --items 1→usage§\
+        --sample 2 --items 1 --items 1→usage§\
+        --sample 2 3 --items 1→usage§\
+        --sample 2 --items 1 --check→usage§\
+        --check --sample 2 --items 1→usage§\
+        --sample 2 --items 1 a→usage§\
+        a --sample 2 --items 1→usage§\
+        --sample 2 --items 1 -- a→usage§\
+        --sample 2 --items 1 --help→usage§\
+        --items 1 a→usage§\
+        --sample 2 --check→usage§\
+        --sampl 2 --items 1→usage§\
+        -s 2 --items 1→usage";
+    each_holds(&rt, rt.alloc(), rows, BETWEEN, row_asks);
 }

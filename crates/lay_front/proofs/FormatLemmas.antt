@@ -1,27 +1,24 @@
--- A text that is given: it was kept whole, and it is the one that the bytes have.
-use Rattle.std.proofs.Common.{◌≡◌, ◌⊎◌, inl, inr, ℕ, List, [], ◌++◌, Option, Some, Result, Ok, Err, refl, sym, ap, ◌∙◌, subst}
+-- A text that is given is the one that the bytes have.
+use Rattle.std.proofs.Common.{◌≡◌, ◌⊎◌, inl, inr, ℕ, List, Result, Ok, Err, IfOk, refl, sym, ap, ◌∙◌, subst}
 use Rattle.lay_text.specs.declared.refusal.FormatError.{FormatError}
 use Rattle.lay_text.specs.declared.refusal.FormatError.TheVariants as error
 use Rattle.lay_text.specs.declared.refusal.Refusal.{Refusal}
-use Rattle.lay_io.specs.Told.{GrewBy}
 use Rattle.lay_tree.specs.Out.{out}
-use Rattle.lay_tree.specs.Reading.{IsRefused, Reads}
+use Rattle.lay_tree.specs.Reading.{IsRefused, Reads, top}
+use Rattle.lay_tree.specs.Written.{Written}
 use Rattle.lay_tree.specs.declared.file.File.{File}
-use Rattle.lay_laws.proofs.file.OneAnswer.{one_refusal, never_both}
-use Rattle.lay_laws.proofs.file.Reparse.{again}
-use Rattle.lay_front.specs.Outcome.{FormatsTo, IsTextFor, Wrote}
+use Rattle.lay_reparse.proofs.file.OneAnswer.{one_file, one_refusal, never_both}
+use Rattle.lay_reparse.proofs.file.Reparse.{again, out_reads}
+use Rattle.lay_reparse.specs.Reparse.{IsSpelled}
+use Rattle.lay_files.specs.Readings.{ReadsOnlyTo}
+use Rattle.lay_front.specs.Outcome.{FormatsTo, IsTextFor}
 
--- What was written to a sink that kept nothing before is what it keeps.
-kept : (before now text given : List ℕ) → before ≡ [] → GrewBy (Some before) (Some now) text → given ≡ now → given ≡ text
-kept before now text given empty grew is =
-    let joined : before ++ text ≡ now = cc in
-    let bare : before ++ text ≡ text = ap (λ (front : List ℕ). front ++ text) empty in
-    is ∙ sym joined ∙ bare
-
-pub kept_whole : (bytes before now given : List ℕ) → before ≡ [] → Wrote bytes (Some before) (Some now) → given ≡ now → IsTextFor bytes given
-kept_whole bytes before now given empty w is =
-    let same : given ≡ out w.file = kept before now (out w.file) given empty w.grew is in
-    record { file = w.file; reads = w.reads; is = same; back = rw same w.back }
+-- The text of the file that the bytes read to is the one that they have.
+pub text_whole_of : (bytes text : List ℕ) (file : File) → ReadsOnlyTo bytes file → text ≡ out file → IsTextFor bytes text
+text_whole_of bytes text file reads is =
+    let back = again bytes file reads.reads in
+    let only : ReadsOnlyTo (out file) file = record { reads = back; only = λ other. one_file (out file) file other back } in
+    record { file = file; reads = reads; is = is; back = subst (λ (t : List ℕ). ReadsOnlyTo t file) (sym is) only }
 
 module _ (bytes : List ℕ) where
   pub text_whole : (file : File) (result : Result (List ℕ) FormatError) → FormatsTo bytes result → Reads bytes file
@@ -41,3 +38,9 @@ module _ (bytes : List ℕ) where
   text_again given file result h r e =
       subst (λ (b : List ℕ). (result ≡ Ok b) ⊎ (result ≡ Err error.NoMemory)) (sym e)
       (text_whole file result h (subst (λ (b : List ℕ). Reads b file) (sym e) (again given file r)))
+
+-- The text of a file that can be written reads to the file.
+pub reads_back : {E : Type 0} (file : File) (result : Result (List ℕ) E) → Written file → IsSpelled file top → IfOk result (λ text. text ≡ out file)
+    → IfOk result (λ text. Reads text file)
+reads_back file (Ok text) w s is = subst (λ (t : List ℕ). Reads t file) (sym is) (out_reads file w s)
+reads_back file (Err error) w s is = tt

@@ -1,6 +1,5 @@
 -- How a run comes out: from what was read of its input to its status, and from its status back to the input's bytes.
 use Rattle.std.proofs.Common.{◌≡◌, ◌<◌, ◌≤◌, ◌⊎◌, inl, inr, ℕ, List, [], length, Option, None, Some, Result, Ok, Err, refl, sym, ap, ◌∙◌, subst, IfSome, OnOk, arith}
-use Rattle.lay_io.specs.Calls.{left_of}
 use Rattle.lay_io.specs.Faults.{Rose}
 use Rattle.lay_io.specs.Told.{TellsAs, GrewBy, GrewByPrefix}
 use Rattle.lay_io.specs.declared.outside.Which.{Which}
@@ -10,11 +9,12 @@ use Rattle.lay_text.specs.declared.refusal.Refusal.{Refusal}
 use Rattle.lay_tree.specs.Out.{out}
 use Rattle.lay_tree.specs.Reading.{Reads, IsRefused}
 use Rattle.lay_tree.specs.declared.file.File.{File}
-use Rattle.lay_laws.proofs.file.OneAnswer.{one_refusal, never_both}
+use Rattle.lay_reparse.proofs.file.OneAnswer.{one_refusal, never_both}
 use Rattle.lay_front.proofs.OutcomeLemmas.{wrote, told_as, complete_refused}
-use Rattle.lay_front.specs.Inputs.{InputAs, IsPlaced, input_of}
+use Rattle.lay_sample.specs.Sample.{sample_text}
+use Rattle.lay_front.specs.Inputs.{InputAs, IsPlaced, given_to, input_of}
 use Rattle.lay_front.specs.Messages.{Says, line_of_end, message, refusal_line}
-use Rattle.lay_front.specs.Outcome.{CheckRun, FormatRun, LineRun, WasRead, Wrote, WrotePart, IsItsText, IsNotItsText}
+use Rattle.lay_front.specs.Outcome.{CheckRun, FormatRun, LineRun, SampleRun, WasRead, Wrote, WrotePart, IsItsText, IsNotItsText}
 use Rattle.lay_front.specs.Stops.{status_of}
 use Rattle.lay_front.specs.declared.command.Status.{Status}
 use Rattle.lay_front.specs.declared.command.Status.TheVariants.{Done, Differs, Usage, ReadFailed, Refused, WriteFailed, TooLong, NoMemory}
@@ -79,6 +79,7 @@ pub no_words : {K I : Type 0} (written : K → Option (List ℕ)) (writes : K �
 no_words written writes left reads line.Usage i k = (refl, refl, inr refl)
 no_words written writes left reads (line.Format which) i k = inl refl
 no_words written writes left reads (line.Check which) i k = (tt, refl)
+no_words written writes left reads (line.Sample seed items) i k = (refl, refl)
 
 -- ---- the line on `err`
 
@@ -206,6 +207,7 @@ module _ {I : Type 0} (left : I → Which → Option (List ℕ)) (reads : I → 
         let run : FormatRun written writes left reads which i j k l status =
         subst (λ (v : Which). FormatRun written writes left reads v i j k l status) (named e) h in
         complete_refused written writes left reads which i j k l bytes status refusal run no_read given within r
+    line_refused (line.Sample seed items) status refusal h e within r = let no : ⊥ = cc in absurd no
     line_refused (line.Check w) status refusal h e within r =
         let run : CheckRun left reads which i j status = subst (λ (v : Which). CheckRun left reads v i j status) (named e) h.0 in
         check_refused status refusal run within r
@@ -215,6 +217,7 @@ module _ {I : Type 0} (left : I → Which → Option (List ℕ)) (reads : I → 
     line_too_long line.Usage status h e above = let no : ⊥ = cc in absurd no
     line_too_long (line.Format w) status h e above =
         format_too_long status (subst (λ (v : Which). FormatRun written writes left reads v i j k l status) (named e) h) above
+    line_too_long (line.Sample seed items) status h e above = let no : ⊥ = cc in absurd no
     line_too_long (line.Check w) status h e above =
         check_too_long status (subst (λ (v : Which). CheckRun left reads v i j status) (named e) h.0) above
 
@@ -228,6 +231,9 @@ module _ {K I : Type 0} (written : K → Option (List ℕ)) (writes : K → ℕ)
       let never : ⊥ = subst (λ (s : Status). FormatRun written writes left reads which i j k l s) e h in absurd never
   line_usage (line.Check which) status h e =
       let never : ⊥ = subst (λ (s : Status). CheckRun left reads which i j s) e h.0 in absurd never
+  line_usage (line.Sample seed items) status h e =
+      let never : ⊥ =
+      subst (λ (s : Status). SampleRun written writes items (sample_text seed items) k l s) e h.1 in absurd never
 
   pub line_unread : (name : Line) (status : Status) → LineRun written writes left reads name i j k l status → name ≡ line.Usage
       → (j ≡ i) × (l ≡ k) × ((status ≡ Usage) ⊎ (status ≡ NoMemory))
@@ -240,6 +246,10 @@ module _ {K I : Type 0} (written : K → Option (List ℕ)) (writes : K → ℕ)
   pub line_check : (name : Line) (status : Status) → LineRun written writes left reads name i j k l status → (which : Which)
       → name ≡ line.Check which → CheckRun left reads which i j status × (l ≡ k)
   line_check name status h which e = subst (λ (n : Line). LineRun written writes left reads n i j k l status) e h
+
+  pub line_sample : (name : Line) (status : Status) → LineRun written writes left reads name i j k l status → (seed items : ℕ)
+      → name ≡ line.Sample seed items → (j ≡ i) × SampleRun written writes items (sample_text seed items) k l status
+  line_sample name status h seed items e = subst (λ (n : Line). LineRun written writes left reads n i j k l status) e h
 
 -- the status of a run that wants memory
 pub chosen_or : {I : Type 0} (ended : Result (Unit {0}) Stop) (now named : Option Which) (i j : I)
@@ -266,9 +276,9 @@ module _ (name other : Line) (same : other ≡ name) where
       → LineRun written writes left reads name i j k l status
   named_run written writes left reads i j k l status h = subst (λ (n : Line). LineRun written writes left reads n i j k l status) same h
 
-  pub named_place : (left : Which → Option (List ℕ)) (ended : Result (Unit {0}) Stop) → IsPlaced (left_of (input_of other) left) ended
-      → IsPlaced (left_of (input_of name) left) ended
-  named_place left ended h = subst (λ (n : Line). IsPlaced (left_of (input_of n) left) ended) same h
+  pub named_place : (left : Which → Option (List ℕ)) (ended : Result (Unit {0}) Stop) → IsPlaced (given_to other left) ended
+      → IsPlaced (given_to name left) ended
+  named_place left ended h = subst (λ (n : Line). IsPlaced (given_to n left) ended) same h
 
   pub named_choice : (chosen : Option Which) → chosen ≡ input_of other → chosen ≡ input_of name
   named_choice chosen h = h ∙ ap input_of same

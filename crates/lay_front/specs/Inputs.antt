@@ -1,15 +1,16 @@
--- Which input a run reads, and what is read of it before anything is written.
+-- Which bytes a run is given, and what is read of them before anything is written.
 use Rattle.std.specs.Prelude.{ℕ, ◌≡◌, ◌<◌, List, length, Option, None, Some, IfSome, Result, Ok, Err}
 use Rattle.lay_io.specs.Faults.{Rose}
 use Rattle.lay_io.specs.Told.{TellsAs}
 use Rattle.lay_io.specs.declared.outside.Which.{Which}
 use Rattle.lay_line.specs.declared.lines.Line.{Line}
 use Rattle.lay_line.specs.declared.lines.Line.TheVariants as line
+use Rattle.lay_sample.specs.Sample.{sample_text}
 use Rattle.lay_tree.specs.Reading.{IsRefused}
 use Rattle.lay_tree.specs.declared.file.File.{File}
-use Rattle.lay_front.specs.Messages.{place_in}
+use Rattle.lay_files.specs.Places.{place_in}
 use Rattle.lay_front.specs.Outcome.{WasRead}
-use Rattle.lay_front.specs.Readings.{ReadsOnlyTo}
+use Rattle.lay_files.specs.Readings.{ReadsOnlyTo}
 use Rattle.lay_front.specs.declared.stop.Stop.{Stop}
 use Rattle.lay_front.specs.declared.stop.Stop.TheVariants.{ReadFailed, TooLong, Refused, NoMemory}
 
@@ -18,6 +19,14 @@ abbrev pub input_of : Line → Option Which
 input_of line.Usage = None
 input_of (line.Format which) = Some which
 input_of (line.Check which) = Some which
+input_of (line.Sample seed items) = None
+
+-- What is told of the bytes that a line formats: of the input that it names, or the sample that it asks for.
+abbrev pub given_to : Line → (Which → Option (List ℕ)) → Option (List ℕ)
+given_to line.Usage left = None
+given_to (line.Format which) left = left which
+given_to (line.Check which) left = left which
+given_to (line.Sample seed items) left = Some (sample_text seed items)
 
 -- The bytes of an input and the file that they read to, or why there is none: a case for each answer. The input goes
 -- from what is told before to what is told now, and the count of its faults from f to g.

@@ -1,7 +1,6 @@
 pub mod Comparing
 pub mod Inputs
-pub mod Keeping
 pub mod Messages
 pub mod Outcome
-pub mod Readings
 pub mod Stops
+pub mod Summary

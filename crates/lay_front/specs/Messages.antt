@@ -1,35 +1,17 @@
 -- The line that a run says on `err`.
-use Rattle.std.specs.Prelude.{ℕ, List, [], ◌++◌, codes, Option, Result, Ok, Err}
+use Rattle.std.specs.Prelude.{ℕ, List, [], ◌++◌, codes, Option, Result, Err}
 use Rattle.std.specs.Fmt.{decimal}
 use Rattle.lay_io.specs.Faults.{Rose}
 use Rattle.lay_io.specs.Told.{TellsAs, GrewBy, GrewByPrefix}
 use Rattle.lay_text.specs.declared.refusal.Refusal.{Refusal}
 use Rattle.lay_text.specs.declared.refusal.Refusal.TheVariants.{NotUtf8, NoToken, Unbalanced, NoItem}
-use Rattle.lay_token.specs.Place.{place_of}
-use Rattle.lay_token.specs.Source.{Source, source}
 use Rattle.lay_token.specs.declared.place.Place2.{Place2}
+use Rattle.lay_files.specs.Places.{place_in}
 use Rattle.lay_front.specs.declared.stop.Stop.{Stop}
 use Rattle.lay_front.specs.declared.stop.Stop.TheVariants as stop
 use Rattle.lay_front.specs.Stops.{status_of}
 use Rattle.lay_front.specs.declared.command.Status.{Status}
 use Rattle.lay_front.specs.declared.command.Status.TheVariants.{Done, Differs, Usage, ReadFailed, Refused, WriteFailed, TooLong, NoMemory}
-
--- the number of the byte at which an input is refused
-abbrev pub number_of : Refusal → ℕ
-number_of (NotUtf8 at) = at
-number_of (NoToken at) = at
-number_of (Unbalanced at) = at
-number_of (NoItem at) = at
-
--- the text that is lexed of these bytes, or the bytes themselves where they are no UTF-8
-abbrev pub text_or : List ℕ → Result Source Refusal → List ℕ
-text_or bytes (Ok from) = from.text
-text_or bytes (Err refusal) = bytes
-
--- The place of a refusal of these bytes: it is counted in them where they are no UTF-8, and else in the text that is
--- lexed.
-abbrev pub place_in : List ℕ → Refusal → Place2
-place_in bytes refusal = place_of (text_or bytes (source bytes)) (number_of refusal)
 
 -- why an input is refused, behind the place
 abbrev pub reason : Refusal → List ℕ

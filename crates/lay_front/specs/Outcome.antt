@@ -7,8 +7,10 @@ use Rattle.lay_line.specs.declared.lines.Line.{Line}
 use Rattle.lay_line.specs.declared.lines.Line.TheVariants as line
 use Rattle.lay_text.specs.declared.refusal.FormatError.{FormatError}
 use Rattle.lay_text.specs.declared.refusal.FormatError.TheVariants as error
+use Rattle.lay_sample.specs.Sample.{sample_text}
 use Rattle.lay_tree.specs.Reading.{IsRefused}
-use Rattle.lay_front.specs.Readings.{ReadsOnlyTo}
+use Rattle.lay_files.specs.Readings.{ReadsOnlyTo}
+use Rattle.lay_front.specs.Summary.{summary}
 use Rattle.lay_tree.specs.Out.{out}
 use Rattle.lay_tree.specs.declared.file.File.{File}
 use Rattle.lay_front.specs.declared.formatting.IntoError.{IntoError}
@@ -98,6 +100,31 @@ module _ {I : Type 0} (left : I → Which → Option (List ℕ)) (reads : I → 
   CheckRun which i j WriteFailed = ⊥
   CheckRun which i j NoMemory = Unit {0}
 
+-- The sample reads to one file, and the line that sums up its text was written.
+pub record SummedUp (items : ℕ) (bytes : List ℕ) (before now : Option (List ℕ)) : Type 0 where
+  pub file : File
+  pub reads : ReadsOnlyTo bytes file
+  pub grew : GrewBy before now (summary items bytes (out file))
+
+-- The same, but only a prefix of the line was written.
+pub record SummedUpInPart (items : ℕ) (bytes : List ℕ) (before now : Option (List ℕ)) : Type 0 where
+  pub file : File
+  pub reads : ReadsOnlyTo bytes file
+  pub grew : GrewByPrefix before now (summary items bytes (out file))
+
+module _ {K : Type 0} (written : K → Option (List ℕ)) (writes : K → ℕ) where
+  -- A run that sums up the sample of a seed and so many items, which are these bytes: a case for each status. The sink
+  -- goes from k to l.
+  abbrev pub SampleRun : ℕ → List ℕ → K → K → Status → Type 0
+  SampleRun items bytes k l Done = SummedUp items bytes (written k) (written l)
+  SampleRun items bytes k l Differs = ⊥
+  SampleRun items bytes k l Usage = ⊥
+  SampleRun items bytes k l ReadFailed = ⊥
+  SampleRun items bytes k l TooLong = ⊥
+  SampleRun items bytes k l (Refused refusal) = IsRefused bytes refusal × (l ≡ k)
+  SampleRun items bytes k l WriteFailed = Rose (writes k) (writes l) × SummedUpInPart items bytes (written k) (written l)
+  SampleRun items bytes k l NoMemory = l ≡ k
+
 -- A run of a line. The inputs go from i to j, the sink from k to l. Memory may be wanting before anything is read.
 module _ {K I : Type 0} (written : K → Option (List ℕ)) (writes : K → ℕ) (left : I → Which → Option (List ℕ))
     (reads : I → ℕ) where
@@ -105,3 +132,4 @@ module _ {K I : Type 0} (written : K → Option (List ℕ)) (writes : K → ℕ)
   LineRun line.Usage i j k l status = (j ≡ i) × (l ≡ k) × ((status ≡ Usage) ⊎ (status ≡ NoMemory))
   LineRun (line.Format which) i j k l status = FormatRun written writes left reads which i j k l status
   LineRun (line.Check which) i j k l status = CheckRun left reads which i j status × (l ≡ k)
+  LineRun (line.Sample seed items) i j k l status = (j ≡ i) × SampleRun written writes items (sample_text seed items) k l status

@@ -1,6 +1,5 @@
 //! The command.
 ghost use Rattle.std.specs.Prelude.{◌≡◌, ◌≢◌, ◌<◌, ◌≤◌, ◌⊎◌, ℕ, List as Items, length, None, Some, Err};
-ghost use Rattle.lay_io.specs.Calls.{left_of};
 ghost use Rattle.lay_io.specs.Faults.{Rose, SameLoan};
 ghost use Rattle.lay_io.specs.Told.{GrewBy};
 ghost use Rattle.lay_io.specs.declared.outside.Which.{Which};
@@ -9,17 +8,19 @@ ghost use Rattle.lay_line.specs.declared.lines.Line.TheVariants as line;
 ghost use Rattle.lay_text.specs.declared.refusal.Refusal.{Refusal};
 ghost use Rattle.lay_tree.specs.Out.{out as text_of_file};
 ghost use Rattle.lay_tree.specs.Reading.{IsRefused, Reads};
-ghost use Rattle.lay_front.specs.Inputs.{InputAs, IsPlaced, input_of};
+ghost use Rattle.lay_front.specs.Inputs.{InputAs, IsPlaced, given_to, input_of};
 ghost use Rattle.lay_front.specs.Messages.{Says};
-ghost use Rattle.lay_front.specs.Outcome.{CheckRun, FormatRun, LineRun};
+ghost use Rattle.lay_front.specs.Outcome.{CheckRun, FormatRun, LineRun, SampleRun};
 ghost use Rattle.lay_front.specs.Stops.{status_of};
+ghost use Rattle.lay_front.specs.Summary.{summary};
+ghost use Rattle.lay_sample.specs.Sample.{sample_text};
 ghost use Rattle.lay_tree.specs.declared.file.File.{File};
 
 use crate::compare::is_text;
-use crate::file::{FileError, read_bytes};
-use crate::formatting::write_file;
 use crate::messages::tell;
+use crate::samples::sum_up_sample;
 use crate::stop::Stop;
+use lay_files::{FileError, read_bytes, write_file};
 use lay_io::{Inputs, ReadError, Sink, Which, read_all};
 use lay_line::{Line, line};
 use lay_printer::PrintError;
@@ -30,7 +31,7 @@ use std::alloc::Global;
 /// How a run comes out.
 #[derive(Clone, Copy, Debug, PartialEq, Eq)]
 pub enum Status {
-    /// The text was written whole; or the input was checked, and is its text.
+    /// The text was written whole; or the input was checked, and is its text; or the sample was summed up.
     Done,
     /// The input was checked, and isn't its text. Nothing was written.
     Differs,
@@ -52,7 +53,8 @@ pub enum Status {
 pub const LIMIT: usize = 16_777_216;
 
 /// Runs the command with its words, without the program's name: `[FILE]` writes the text of an input to `out`, and
-/// `--check [FILE]` tells whether the input is its text. Every other outcome is told in one line on `err`.
+/// `--check [FILE]` tells whether the input is its text, and `--sample SEED --items N` makes a sample, formats it, and
+/// writes one line that sums it up. Every other outcome is told in one line on `err`.
 pub fn run<I: Inputs, K: Sink, E: Sink>(
     alloc: Global,
     words: &[Text],
@@ -82,6 +84,10 @@ pub fn run<I: Inputs, K: Sink, E: Sink>(
     ensures check { (which : Which) → line_of words.now ≡ line.Check which
         → CheckRun I.left I.faults which inputs.old inputs.new result }
     ensures unwritten { (which : Which) → line_of words.now ≡ line.Check which → out.new ≡ out.old }
+
+    // The same where a sample is summed up. No input is touched.
+    ensures sample { (seed items : ℕ) → line_of words.now ≡ line.Sample seed items
+        → (inputs.new ≡ inputs.old) × SampleRun K.written K.faults items (sample_text seed items) out.old out.new result }
 
     // With no fault the answer is the one that the input's bytes have, and what a run wrote is formatted again to the
     // same bytes.
@@ -113,8 +119,17 @@ pub fn run<I: Inputs, K: Sink, E: Sink>(
         → I.left inputs.old which ≡ Some bytes → 16777216 < length bytes
         → (result ≡ Status.TooLong) ⊎ (result ≡ Status.NoMemory) }
 
+    ensures complete_sample { (seed items : ℕ) (file : File) → line_of words.now ≡ line.Sample seed items
+        → ¬ (Rose (K.faults out.old) (K.faults out.new)) → Reads (sample_text seed items) file
+        → ((result ≡ Status.Done)
+        × GrewBy (K.written out.old) (K.written out.new) (summary items (sample_text seed items) (text_of_file file)))
+        ⊎ (result ≡ Status.NoMemory) }
+    ensures complete_sample_refused { (seed items : ℕ) (refusal : Refusal) → line_of words.now ≡ line.Sample seed items
+        → IsRefused (sample_text seed items) refusal
+        → (result ≡ Status.Refused refusal) ⊎ (result ≡ Status.NoMemory) }
+
     // The line of the status stands on `err`, and none where the work was done.
-    ensures said { Says (left_of (input_of (line_of words.now)) (I.left inputs.old)) result
+    ensures said { Says (given_to (line_of words.now) (I.left inputs.old)) result
         (E.written err.old) (E.written err.new) (E.faults err.old) (E.faults err.new) }
     ensures silent { result ≡ Status.Done → err.new ≡ err.old }
 {
@@ -151,7 +166,7 @@ fn execute<I: Inputs, K: Sink>(
         ⊎ ((result ≡ Err Stop.NoMemory) × (inputs.new ≡ inputs.old)) }
     ensures run { LineRun K.written K.faults I.left I.faults (line_of words.now)
         inputs.old inputs.new out.old out.new (status_of result) }
-    ensures placed { IsPlaced (left_of (input_of (line_of words.now)) (I.left inputs.old)) result }
+    ensures placed { IsPlaced (given_to (line_of words.now) (I.left inputs.old)) result }
     ensures later { (I.faults inputs.old ≤ I.faults inputs.new) × (K.faults out.old ≤ K.faults out.new) }
     ensures loan { SameLoan (K.loan out.old) (K.loan out.new) }
 {
@@ -159,6 +174,7 @@ fn execute<I: Inputs, K: Sink>(
         Ok(Line::Usage) => Err(Stop::Usage),
         Ok(Line::Format(which)) => format_input(alloc, which, inputs, out),
         Ok(Line::Check(which)) => check_input(alloc, which, inputs),
+        Ok(Line::Sample { seed, items }) => sum_up_sample(alloc, seed, items, out),
         Err(NoMemory) => Err(Stop::NoMemory),
     }
 }

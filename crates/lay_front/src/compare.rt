@@ -3,7 +3,7 @@ ghost use Rattle.std.specs.Prelude.{◌≡◌, ◌≢◌, ◌<◌, ◌≤◌, �
 ghost use Rattle.std.specs.Option.{ForSome, ForNone};
 ghost use Rattle.lay_tree.specs.Out.{out as text_of_file};
 
-use crate::formatting::write_file;
+use lay_files::write_file;
 use lay_io::{Failed, Sink};
 use lay_printer::PrintError;
 use lay_token::{List, NoMemory};

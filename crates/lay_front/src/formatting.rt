@@ -1,18 +1,18 @@
 //! From bytes to laid-out bytes in a sink.
-ghost use Rattle.std.specs.Prelude.{◌≡◌, ◌≤◌, ◌⊎◌, ℕ, List as Items, Ok, Err, OnOk, OnErr, IsOk, IsErrOf};
+ghost use Rattle.std.specs.Prelude.{◌≡◌, ◌≤◌, ◌⊎◌, ℕ, List as Items, Ok, Err, IfOk, IsOk};
 ghost use Rattle.lay_io.specs.Faults.{Rose, SameLoan};
-ghost use Rattle.lay_io.specs.Told.{GrewBy, GrewByPrefix};
+ghost use Rattle.lay_io.specs.Told.{GrewBy};
 ghost use Rattle.lay_text.specs.declared.refusal.Refusal.{Refusal};
 ghost use Rattle.lay_tree.specs.Out.{out as text_of_file};
-ghost use Rattle.lay_tree.specs.Reading.{IsRefused, Reads};
+ghost use Rattle.lay_tree.specs.Reading.{IsRefused, Reads, top};
+ghost use Rattle.lay_tree.specs.Written.{Written};
+ghost use Rattle.lay_reparse.specs.Reparse.{IsSpelled};
 ghost use Rattle.lay_tree.specs.declared.file.File.{File};
 ghost use Rattle.lay_front.specs.Outcome.{Formats, FormatsTo};
 
-use crate::file::{FileError, read_bytes};
-use crate::keep::Keeper;
+use lay_files::{FileError, read_bytes, text_of, write_file};
 use lay_io::Sink;
-use lay_out_code::put_file;
-use lay_printer::{Core, Press, PrintError};
+use lay_printer::PrintError;
 use lay_token::{FormatError, NoMemory, Refusal, Text};
 use lay_tree::File;
 use std::alloc::Global;
@@ -44,7 +44,18 @@ pub fn format(alloc: Global, bytes: &[u8]) -> Result<Text, FormatError>
     ensures again { (given : Items ℕ) (file : File) → Reads given file → bytes.now ≡ text_of_file file
         → (result ≡ Ok bytes.now) ⊎ (result ≡ Err FormatError.NoMemory) }
 {
-    text_of(alloc, bytes)
+    format_text(alloc, bytes)
+}
+
+/// The text of a file that can be written, which reads to the file. Whether a file can be written is told by
+/// `is_written` of `lay_laws`.
+pub fn unparse(alloc: Global, file: &File) -> Result<Text, NoMemory>
+    requires written { Written file.now }
+    requires spelled { IsSpelled file.now top }
+    ensures text { IfOk result (λ text. text ≡ text_of_file file.now) }
+    ensures reads { IfOk result (λ text. Reads text file.now) }
+{
+    text_of(alloc, file)
 }
 
 /// Writes the text of the file that the bytes read to, which reads to the same file. Refused comes exactly where
@@ -71,14 +82,17 @@ pub fn format_into<K: Sink>(alloc: Global, bytes: &[u8], out: &mut K) -> Result<
 }
 
 /// Reads the bytes to their file, and gives its text.
-fn text_of(alloc: Global, bytes: &[u8]) -> Result<Text, FormatError>
+fn format_text(alloc: Global, bytes: &[u8]) -> Result<Text, FormatError>
     ensures { FormatsTo bytes.now result }
 {
-    let mut keeper = Keeper::new(alloc);
-    match format_bytes(alloc, bytes, &mut keeper) {
-        Ok(()) => Ok(keeper.into_text()),
-        Err(IntoError::Refused(refusal)) => Err(FormatError::Refused(refusal)),
-        Err(IntoError::WriteFailed | IntoError::NoMemory) => Err(FormatError::NoMemory),
+    let file = match read_bytes(alloc, bytes) {
+        Ok(file) => file,
+        Err(FileError::Refused { refusal, .. }) => return Err(FormatError::Refused(refusal)),
+        Err(FileError::NoMemory) => return Err(FormatError::NoMemory),
+    };
+    match text_of(alloc, &file) {
+        Ok(text) => Ok(text),
+        Err(NoMemory) => Err(FormatError::NoMemory),
     }
 }
 
@@ -98,21 +112,4 @@ fn format_bytes<K: Sink>(alloc: Global, bytes: &[u8], out: &mut K) -> Result<(),
         Err(PrintError::WriteFailed) => Err(IntoError::WriteFailed),
         Err(PrintError::NoMemory) => Err(IntoError::NoMemory),
     }
-}
-
-/// Writes the text of a file, piece by piece as it is laid out.
-pub(crate) fn write_file<K: Sink>(alloc: Global, file: &File, out: &mut K) -> Result<(), PrintError>
-    ensures later { K.faults out.old ≤ K.faults out.new }
-    ensures loan { SameLoan (K.loan out.old) (K.loan out.new) }
-    ensures whole { OnOk result (GrewBy (K.written out.old) (K.written out.new) (text_of_file file.now)) }
-    ensures part { OnErr result (GrewByPrefix (K.written out.old) (K.written out.new) (text_of_file file.now)) }
-    ensures cause { IsErrOf result PrintError.WriteFailed → Rose (K.faults out.old) (K.faults out.new) }
-{
-    let mut core = match Core::new(alloc) {
-        Ok(core) => core,
-        Err(NoMemory) => return Err(PrintError::NoMemory),
-    };
-    let mut press = Press::new(&mut core, out);
-    put_file(&mut press, file)?;
-    press.finish()
 }

@@ -1,17 +1,17 @@
 //! The top call: bytes in, laid-out bytes out.
 //!
 //! [`run`] is the command. It reads an input of at most 16 MiB, reads it to the one tree that it spells, and
-//! writes the text of the tree's layout; or it refuses the input and writes nothing. Which bytes read to which
+//! writes the text of the tree's layout; or it refuses the input and writes nothing. [`format`] and [`format_into`] do so
+//! of bytes, and [`unparse`] gives the text of a tree. Which bytes read to which
 //! file, and what a file's text is, is defined in `lay_tree`; `specs/` says what each status tells (`Outcome`).
 #![tactic(auto)]
 
 pub mod command;
 mod compare;
-pub mod file;
 pub mod formatting;
-mod keep;
 mod messages;
+mod samples;
 mod stop;
 
 pub use command::{LIMIT, Status, run};
-pub use formatting::{IntoError, format, format_into};
+pub use formatting::{IntoError, format, format_into, unparse};

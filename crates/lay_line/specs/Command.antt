@@ -2,12 +2,24 @@
 use Rattle.std.specs.Prelude.{ℕ, ◌≡◌, ◌≢◌, true, List, [], Option, Some, None, codes}
 use Rattle.clap.specs.Words.{App, Rule, new_app, new_rule, with_rule, fault_of, found_of, matches_of, rows_of}
 use Rattle.clap.specs.Simple.{on_top}
-use Rattle.clap.specs.declared.builder.action.ArgAction.TheVariants.{SetTrue}
+use Rattle.clap.specs.declared.builder.action.ArgAction.TheVariants.{Set, SetTrue}
 use Rattle.clap.specs.declared.parser.matches.ArgMatches.{ArgMatches}
 
 -- the flag `--check`
 abbrev pub check_rule : Rule
 check_rule = record (new_rule (codes "check")) { long = Some (codes "check"); action = Some SetTrue }
+
+-- an option of this long name, which takes one value
+abbrev pub option_rule : List ℕ → Rule
+option_rule name = record (new_rule name) { long = Some name; action = Some Set }
+
+-- `--sample SEED`
+abbrev pub sample_rule : Rule
+sample_rule = option_rule (codes "sample")
+
+-- `--items N`
+abbrev pub items_rule : Rule
+items_rule = option_rule (codes "items")
 
 -- one FILE, which may be left out
 abbrev pub file_rule : Rule
@@ -17,9 +29,9 @@ file_rule = new_rule (codes "file")
 abbrev pub bare : App
 bare = on_top (λ top. record top { no_binary_name = true }) (new_app (codes "lay_fmt"))
 
--- `[--check] [FILE]`, and the help that `clap` adds
+-- `[--check] [--sample SEED] [--items N] [FILE]`, and the help that `clap` adds
 abbrev pub command : App
-command = with_rule (with_rule bare check_rule) file_rule
+command = with_rule (with_rule (with_rule (with_rule bare check_rule) sample_rule) items_rule) file_rule
 
 -- The matches are those of the words, or none where there is a fault in the words.
 abbrev pub Matched : List (List ℕ) → Option ArgMatches → Type 0

@@ -1,5 +1,5 @@
 -- What a line of words asks for.
-use Rattle.std.specs.Prelude.{ℕ, ◌&&◌, Bool, true, false, List, Option, None, Some, if◌then◌else◌, codes}
+use Rattle.std.specs.Prelude.{ℕ, ◌≤◌, ◌&&◌, ⊤, Bool, true, false, List, Option, None, Some, if◌then◌else◌, codes}
 use Rattle.std.specs.List.{list_all}
 use Rattle.std.specs.Option.{option_map_or}
 use Rattle.std.specs.Str.{bytes_eq, is_utf8}
@@ -8,8 +8,9 @@ use Rattle.clap.specs.Words.{Row, fault_of, first_of, matches_of}
 use Rattle.lay_io.specs.declared.outside.Which.{Which}
 use Rattle.lay_io.specs.declared.outside.Which.TheVariants.{Stdin, File}
 use Rattle.lay_line.specs.Command.{command}
+use Rattle.lay_line.specs.Number.{item_count_of, most_items, seed_of}
 use Rattle.lay_line.specs.declared.lines.Line.{Line}
-use Rattle.lay_line.specs.declared.lines.Line.TheVariants.{Usage, Format, Check}
+use Rattle.lay_line.specs.declared.lines.Line.TheVariants.{Usage, Format, Check, Sample}
 
 -- a flag is set where its value is `true`, which `clap` gives it where it stands in the words
 abbrev pub is_set : Option (List ℕ) → Bool
@@ -20,15 +21,23 @@ abbrev pub input_of : Option (List ℕ) → Which
 input_of None = Stdin
 input_of (Some name) = File name
 
--- an input is checked where the flag is set, and else formatted
-abbrev pub line_for : Bool → Which → Line
-line_for true input = Check input
-line_for false input = Format input
+-- a sample is what a seed and a number of items ask for
+abbrev pub sample_for : Option ℕ → Option ℕ → Line
+sample_for (Some seed) (Some items) = Sample seed items
+sample_for _ _ = Usage
 
--- what the flag `--check` and FILE say
+-- What the flag `--check`, the texts of `--sample` and `--items`, and FILE say. Without the options an input is
+-- checked where the flag is set, and else formatted. The options stand together, and without the flag and FILE.
+abbrev pub line_for : Bool → Option (List ℕ) → Option (List ℕ) → Option (List ℕ) → Line
+line_for true None None file = Check (input_of file)
+line_for false None None file = Format (input_of file)
+line_for false (Some sample) (Some items) None = sample_for (seed_of sample) (item_count_of items)
+line_for _ _ _ _ = Usage
+
+-- what the matches of the flag, the options and FILE say
 abbrev pub line_of_matches : List Row → Line
-line_of_matches matches =
-    line_for (is_set (first_of (codes "check") matches)) (input_of (first_of (codes "file") matches))
+line_of_matches matches = line_for (is_set (first_of (codes "check") matches))
+    (first_of (codes "sample") matches) (first_of (codes "items") matches) (first_of (codes "file") matches)
 
 -- the words are texts, and `clap` finds no fault in them
 abbrev pub have_matches : List (List ℕ) → Bool
@@ -37,3 +46,8 @@ have_matches words = list_all is_utf8 words && is_empty (fault_of command words)
 -- The line that the words make: what their matches say, or Usage where they have none.
 abbrev pub line_of : List (List ℕ) → Line
 line_of words = if have_matches words then line_of_matches (matches_of command words) else Usage
+
+-- no sample has more items than may be asked for
+abbrev pub IsBounded : Line → Type 0
+IsBounded (Sample seed items) = items ≤ most_items
+IsBounded _ = ⊤

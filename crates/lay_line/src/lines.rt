@@ -10,4 +10,11 @@ pub enum Line {
     Format(Which),
     /// `--check [FILE]`: it is asked whether this input is its own text.
     Check(Which),
+    /// `--sample SEED --items N`: a sample of N items is wanted, drawn from SEED.
+    Sample {
+        /// SEED, which any number of 64 bits may be.
+        seed: u64,
+        /// N, the number of items, at most 200,000.
+        items: u32,
+    },
 }

@@ -1,10 +1,12 @@
 //! From words to a line.
 ghost use Rattle.std.specs.Prelude.{◌≡◌, IfOk, option_map};
 ghost use Rattle.clap.specs.Words.{found_of, rows_of};
-ghost use Rattle.lay_line.specs.Line.{input_of, is_set, line_of, line_of_matches};
+ghost use Rattle.lay_line.specs.Line.{IsBounded, input_of, is_set, line_for, line_of, line_of_matches, sample_for};
+ghost use Rattle.lay_line.specs.Number.{item_count_of, seed_of};
 
 use crate::command::matches;
 use crate::lines::Line;
+use crate::numbers::{item_count, seed};
 use crate::texts::texts;
 use clap::ArgMatches;
 use lay_io::Which;
@@ -12,10 +14,11 @@ use lay_text::{NoMemory, Text};
 use std::alloc::Global;
 
 /// The line that the words make, which stand without the program's name. A word that isn't UTF-8 makes it `Usage`,
-/// and which other words are a line is `clap`'s definition for a command with the flag `--check` and one optional
-/// file.
+/// and which other words are a line is `clap`'s definition for a command with the flag `--check`, the options
+/// `--sample` and `--items` and one optional file, of which the options stand together and with nothing else.
 pub fn line(alloc: Global, words: &[Text]) -> Result<Line, NoMemory>
-    ensures { IfOk result (λ line. line ≡ line_of words.now) }
+    ensures asked { IfOk result (λ line. line ≡ line_of words.now) }
+    ensures few { IfOk result IsBounded }
 {
     let Some(texts) = texts(alloc, words)? else {
         return Ok(Line::Usage);
@@ -30,11 +33,38 @@ pub fn line(alloc: Global, words: &[Text]) -> Result<Line, NoMemory>
 fn from_matches(alloc: Global, matches: &ArgMatches<'_>) -> Result<Line, NoMemory>
     ensures { IfOk result (λ line. line ≡ line_of_matches (rows_of (found_of matches.now))) }
 {
-    let input = input(alloc, matches.get_str("file"))?;
-    if flag(matches.get_str("check")) {
-        Ok(Line::Check(input))
-    } else {
-        Ok(Line::Format(input))
+    let check = flag(matches.get_str("check"));
+    let sample = matches.get_str("sample");
+    let items = matches.get_str("items");
+    from_values(alloc, check, sample, items, matches.get_str("file"))
+}
+
+/// The line that the flag `--check`, the texts of `--sample` and `--items`, and FILE say.
+fn from_values(
+    alloc: Global,
+    check: bool,
+    sample: Option<&str>,
+    items: Option<&str>,
+    file: Option<&str>,
+) -> Result<Line, NoMemory>
+    ensures { IfOk result (λ line. line ≡ line_for check (option_map (λ text. text.now) sample.entry)
+        (option_map (λ text. text.now) items.entry) (option_map (λ name. name.now) file.entry)) }
+{
+    match (check, sample, items, file) {
+        (true, None, None, file) => Ok(Line::Check(input(alloc, file)?)),
+        (false, None, None, file) => Ok(Line::Format(input(alloc, file)?)),
+        (false, Some(sample), Some(items), None) => Ok(from_texts(sample, items)),
+        _ => Ok(Line::Usage),
+    }
+}
+
+/// The sample that the texts of `--sample` and `--items` ask for, where both write numbers.
+fn from_texts(sample: &str, items: &str) -> Line
+    ensures { result ≡ sample_for (seed_of sample.now) (item_count_of items.now) }
+{
+    match (seed(sample), item_count(items)) {
+        (Some(seed), Some(items)) => Line::Sample { seed, items },
+        _ => Line::Usage,
     }
 }
 

@@ -1,10 +1,11 @@
-use Rattle.lay_io.specs.Calls.{left_of}
 use Rattle.lay_line.specs.Line.{line_of}
 use Rattle.lay_tree.specs.Out.{out}
-use Rattle.lay_laws.proofs.file.Reparse.{again}
-use Rattle.lay_front.specs.Inputs.{input_of}
+use Rattle.lay_reparse.proofs.file.Reparse.{again}
+use Rattle.lay_sample.specs.Sample.{sample_text}
+use Rattle.lay_front.specs.Inputs.{given_to}
+use Rattle.lay_front.proofs.SampleLemmas.{sample_done, sample_refused}
 use Rattle.lay_front.proofs.OutcomeLemmas.{complete}
-use Rattle.lay_front.proofs.RunLemmas.{check_differs, check_done, chosen_or, done_says, line_check, line_format, line_refused, line_too_long, line_unread, line_usage, says}
+use Rattle.lay_front.proofs.RunLemmas.{check_differs, check_done, chosen_or, done_says, line_check, line_format, line_refused, line_sample, line_too_long, line_unread, line_usage, says}
 use Rattle.lay_front.proofs.command.run.Goals as goal
 
 pub returns-clause-usage : goal.returns-clause-usage
@@ -78,9 +79,28 @@ returns-clause-complete_too_long g c = rw c.status_after.ensures (λ which bytes
     line_too_long g.I.Inputs.left g.I.Inputs.faults which c.args.inputs.now c.execute-ended.new.inputs bytes no_read given
     g.K.Sink.written g.K.Sink.faults c.args.out.now c.execute-ended.new.out (line_of c.args.words.now) _ c.execute-ended.ensures.run e above)
 
+pub returns-clause-sample : goal.returns-clause-sample
+returns-clause-sample g c = rw c.status_after.ensures (λ seed items e.
+    line_sample g.K.Sink.written g.K.Sink.faults g.I.Inputs.left g.I.Inputs.faults c.args.inputs.now c.execute-ended.new.inputs c.args.out.now c.execute-ended.new.out
+    (line_of c.args.words.now) _ c.execute-ended.ensures.run seed items e)
+
+pub returns-clause-complete_sample : goal.returns-clause-complete_sample
+returns-clause-complete_sample g c = rw c.status_after.ensures (λ seed items file e no_write r.
+    let run = line_sample g.K.Sink.written g.K.Sink.faults g.I.Inputs.left g.I.Inputs.faults c.args.inputs.now c.execute-ended.new.inputs c.args.out.now c.execute-ended.new.out
+    (line_of c.args.words.now) _ c.execute-ended.ensures.run seed items e in
+    sample_done g.K.Sink.written g.K.Sink.faults items (sample_text seed items) c.args.out.now c.execute-ended.new.out
+    _ file run.1 no_write r)
+
+pub returns-clause-complete_sample_refused : goal.returns-clause-complete_sample_refused
+returns-clause-complete_sample_refused g c = rw c.status_after.ensures (λ seed items refusal e r.
+    let run = line_sample g.K.Sink.written g.K.Sink.faults g.I.Inputs.left g.I.Inputs.faults c.args.inputs.now c.execute-ended.new.inputs c.args.out.now c.execute-ended.new.out
+    (line_of c.args.words.now) _ c.execute-ended.ensures.run seed items e in
+    sample_refused g.K.Sink.written g.K.Sink.faults items (sample_text seed items) c.args.out.now c.execute-ended.new.out
+    _ refusal run.1 r)
+
 pub returns-clause-said : goal.returns-clause-said
 returns-clause-said g c = rw c.status_after.ensures
-    (says (left_of (input_of (line_of c.args.words.now)) (g.I.Inputs.left c.args.inputs.now)) _ _ _ _ c.execute-ended.result
+    (says (given_to (line_of c.args.words.now) (g.I.Inputs.left c.args.inputs.now)) _ _ _ _ c.execute-ended.result
     c.execute-ended.ensures.placed c.tell.ensures.part c.tell.ensures.whole)
 
 pub returns-clause-silent : goal.returns-clause-silent

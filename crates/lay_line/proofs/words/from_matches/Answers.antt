@@ -1,20 +1,29 @@
 -- What is read of the matches is what their rows hold.
-use Rattle.std.proofs.Common.{◌≡◌, Bool, true, false, codes, ap, ◌∙◌, sym}
+use Rattle.std.proofs.Common.{◌≡◌, ◌∙◌, ℕ, Bool, List, Option, ap, codes}
+use Rattle.std.proofs.lemmas.Result.{IfOk-weaker}
 use Rattle.clap.specs.Words.{found_of, first_value, rows_of}
 use Rattle.clap.specs.declared.parser.matches.Found.{Found}
 use Rattle.clap.proofs.WalkLemmas.{first_value-rows}
-use Rattle.lay_io.specs.declared.outside.Which.{Which}
-use Rattle.lay_line.specs.Line.{input_of, is_set, line_for, line_of_matches}
+use Rattle.lay_line.specs.Line.{is_set, line_for, line_of_matches}
 use Rattle.lay_line.proofs.words.from_matches.Goals as goal
 
-of_rows : (found : Found) (check : Bool) (input : Which) → check ≡ is_set (first_value found (codes "check"))
-    → input ≡ input_of (first_value found (codes "file")) → line_for check input ≡ line_of_matches (rows_of found)
-of_rows found check input e f = rw (e, f, first_value-rows found (codes "check"), first_value-rows found (codes "file"))
+-- equal values say the same
+line_for-same : {a b : Bool} {s t i j f g : Option (List ℕ)} → a ≡ b → s ≡ t → i ≡ j → f ≡ g
+    → line_for a s i f ≡ line_for b t j g
+line_for-same check sample items file k = line_for (check k) (sample k) (items k) (file k)
 
-pub returns-then-flag : goal.returns-then-flag
-returns-then-flag c = of_rows (found_of c.args.matches.now) true c.in_ok-input.input
-    (sym c.if-flag.true ∙ c.flag.ensures ∙ ap is_set c.get_str-2.ensures) (c.in_ok-input.ensures ∙ ap input_of c.get_str.ensures)
+-- the first values of the entries are those of the rows
+of_rows : (found : Found) (check : Bool) (sample items file : Option (List ℕ))
+    → check ≡ is_set (first_value found (codes "check")) → sample ≡ first_value found (codes "sample")
+    → items ≡ first_value found (codes "items") → file ≡ first_value found (codes "file")
+    → line_for check sample items file ≡ line_of_matches (rows_of found)
+of_rows found check sample items file checked sampled counted named =
+    let rows = first_value-rows found in
+    line_for-same (checked ∙ ap is_set (rows (codes "check"))) (sampled ∙ rows (codes "sample"))
+    (counted ∙ rows (codes "items")) (named ∙ rows (codes "file"))
 
-pub returns-else-flag : goal.returns-else-flag
-returns-else-flag c = of_rows (found_of c.args.matches.now) false c.in_ok-input.input
-    (sym c.if-flag.false ∙ c.flag.ensures ∙ ap is_set c.get_str-2.ensures) (c.in_ok-input.ensures ∙ ap input_of c.get_str.ensures)
+pub returns : goal.returns
+returns c =
+    let same = of_rows (found_of c.args.matches.now) _ _ _ _ (c.flag-check.ensures ∙ ap is_set c.get_str.ensures)
+    c.get_str-sample.ensures c.get_str-items.ensures c.get_str-2.ensures in
+    IfOk-weaker c.from_values.result _ _ (λ line says. says ∙ same) c.from_values.ensures

@@ -1,0 +1,26 @@
+-- What a reader of bytes answers.
+use Rattle.std.specs.Prelude.{ℕ, ◌≡◌, List, Result, Ok, Err}
+use Rattle.lay_text.specs.declared.refusal.FormatError.{FormatError}
+use Rattle.lay_text.specs.declared.refusal.FormatError.TheVariants as format
+use Rattle.lay_token.specs.Place.{place_of}
+use Rattle.lay_tree.specs.Reading.{Reads, IsRefused}
+use Rattle.lay_tree.specs.declared.file.File.{File}
+use Rattle.lay_files.specs.Places.{number_of, place_in}
+use Rattle.lay_files.specs.declared.reading.FileError.{FileError}
+use Rattle.lay_files.specs.declared.reading.FileError.TheVariants.{Refused, NoMemory}
+
+-- The bytes read to this file and to no other.
+pub record ReadsOnlyTo (bytes : List ℕ) (file : File) : Type 0 where
+  pub reads : Reads bytes file
+  pub only : (other : File) → Reads bytes other → other ≡ file
+
+-- the one file, or why and where the bytes are refused; memory may always be wanting
+abbrev pub ReadAs : List ℕ → Result File FileError → Type 0
+ReadAs bytes (Ok file) = ReadsOnlyTo bytes file
+ReadAs bytes (Err (Refused refusal place)) = IsRefused bytes refusal × (place ≡ place_in bytes refusal)
+ReadAs bytes (Err NoMemory) = Unit {0}
+
+-- an error with the place of its refusal, which is counted in this text
+abbrev pub placed_in : List ℕ → FormatError → FileError
+placed_in text (format.Refused refusal) = Refused refusal (place_of text (number_of refusal))
+placed_in text format.NoMemory = NoMemory

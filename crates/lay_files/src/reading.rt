@@ -1,0 +1,68 @@
+//! From bytes to the tree of a file.
+ghost use Rattle.std.specs.Prelude.{◌≡◌};
+ghost use Rattle.lay_files.specs.Places.{number_of};
+ghost use Rattle.lay_files.specs.Readings.{ReadAs, placed_in};
+
+use lay_lex::{lex, normalise};
+use lay_nest::nest;
+use lay_token::{FormatError, Place2, Refusal, place_of};
+use lay_tree::File;
+use std::alloc::Global;
+
+/// Why bytes read to no file.
+#[derive(Clone, Copy, Debug, PartialEq, Eq)]
+pub enum FileError {
+    /// They are refused at this place: in the bytes themselves where they are no UTF-8, else in the text that is lexed,
+    /// which has no byte order mark and in which each CR LF is one LF.
+    Refused { refusal: Refusal, place: Place2 },
+    /// Memory was not found.
+    NoMemory,
+}
+
+/// The one file that the bytes read to, or their refusal and its place: bytes that are no UTF-8, a place where there is
+/// no token, a delimiter without a partner, or tokens that spell no file.
+pub fn read_bytes(alloc: Global, bytes: &[u8]) -> Result<File, FileError>
+    ensures { ReadAs bytes.now result }
+{
+    let source = match normalise(alloc, bytes) {
+        Ok(source) => source,
+        Err(error) => return Err(placed(error, bytes)),
+    };
+    let tokens = match lex(alloc, &source) {
+        Ok(tokens) => tokens,
+        Err(error) => return Err(placed(error, source.text.as_slice())),
+    };
+    let nested = match nest(alloc, tokens) {
+        Ok(nested) => nested,
+        Err(error) => return Err(placed(error, source.text.as_slice())),
+    };
+    match lay_read_code::read_file(alloc, &nested, source.shebang) {
+        Ok(file) => Ok(file),
+        Err(error) => Err(placed(error, source.text.as_slice())),
+    }
+}
+
+/// The error with the place of its refusal, which is counted in this text.
+fn placed(error: FormatError, text: &[u8]) -> FileError
+    ensures { result ≡ placed_in text.now error }
+{
+    match error {
+        FormatError::Refused(refusal) => FileError::Refused {
+            refusal,
+            place: place_of(text, number(refusal)),
+        },
+        FormatError::NoMemory => FileError::NoMemory,
+    }
+}
+
+/// The number of the byte at which an input is refused.
+fn number(refusal: Refusal) -> usize
+    ensures { result ≡ number_of refusal }
+{
+    match refusal {
+        Refusal::NotUtf8 { at }
+        | Refusal::NoToken { at }
+        | Refusal::Unbalanced { at }
+        | Refusal::NoItem { at } => at,
+    }
+}

@@ -1,0 +1,41 @@
+//! From the tree of a file to its text.
+ghost use Rattle.std.specs.Prelude.{◌≡◌, ◌≤◌, IfOk, OnOk, OnErr, IsErrOf};
+ghost use Rattle.lay_io.specs.Faults.{Rose, SameLoan};
+ghost use Rattle.lay_io.specs.Told.{GrewBy, GrewByPrefix};
+ghost use Rattle.lay_tree.specs.Out.{out as text_of_file};
+
+use crate::keep::Keeper;
+use lay_io::Sink;
+use lay_out_code::put_file;
+use lay_printer::{Core, Press, PrintError};
+use lay_token::{NoMemory, Text};
+use lay_tree::File;
+use std::alloc::Global;
+
+/// The text of a file.
+pub fn text_of(alloc: Global, file: &File) -> Result<Text, NoMemory>
+    ensures { IfOk result (λ text. text ≡ text_of_file file.now) }
+{
+    let mut keeper = Keeper::new(alloc);
+    match write_file(alloc, file, &mut keeper) {
+        Ok(()) => Ok(keeper.into_text()),
+        Err(PrintError::WriteFailed | PrintError::NoMemory) => Err(NoMemory),
+    }
+}
+
+/// Writes the text of a file, piece by piece as it is laid out.
+pub fn write_file<K: Sink>(alloc: Global, file: &File, out: &mut K) -> Result<(), PrintError>
+    ensures later { K.faults out.old ≤ K.faults out.new }
+    ensures loan { SameLoan (K.loan out.old) (K.loan out.new) }
+    ensures whole { OnOk result (GrewBy (K.written out.old) (K.written out.new) (text_of_file file.now)) }
+    ensures part { OnErr result (GrewByPrefix (K.written out.old) (K.written out.new) (text_of_file file.now)) }
+    ensures cause { IsErrOf result PrintError.WriteFailed → Rose (K.faults out.old) (K.faults out.new) }
+{
+    let mut core = match Core::new(alloc) {
+        Ok(core) => core,
+        Err(NoMemory) => return Err(PrintError::NoMemory),
+    };
+    let mut press = Press::new(&mut core, out);
+    put_file(&mut press, file)?;
+    press.finish()
+}

@@ -1,7 +1,0 @@
--- What a sink that keeps a text tells.
-use Rattle.std.specs.Prelude.{ℕ, List}
-use Rattle.lay_front.specs.declared.keep.Keeper.{Keeper}
-
--- the bytes that were written to it
-abbrev pub kept_by : Keeper → List ℕ
-kept_by keeper = keeper.text

@@ -1,5 +1,0 @@
-use Rattle.lay_laws.proofs.file.OneAnswer as answer
-use Rattle.lay_laws.proofs.unique_law.Goals as goal
-
-pub returns : goal.returns
-returns c = record { one_file = answer.one_file; one_refusal = answer.one_refusal; never_both = answer.never_both }

@@ -1,0 +1,139 @@
+-- Closures pass, given that their bodies pass: the bars round their parameters are tokens of one character.
+use Rattle.std.proofs.Common.{◌≡◌, List, [], ◌∷◌, Bool, true, false, ◌&&◌, refl, codes, map, Option, Some, None}
+use Rattle.std.specs.List.{list_all}
+use Rattle.std.proofs.lemmas.Bool.{and_parts}
+use Rattle.lay_form.specs.Form as form
+use Rattle.lay_form.specs.Form.{Bit, Blank, Operator, Form, Done, Piece, keyword}
+use Rattle.lay_form.specs.Notation.{comma_list}
+use Rattle.lay_form.specs.Pieces.{are_pieces}
+use Rattle.lay_node.specs.nodes.Attr.{are_attrs}
+use Rattle.lay_node.specs.nodes.Functions.{may_be_type, self_type}
+use Rattle.lay_node.specs.nodes.Patterns.{about_pat, pat_form, pat_good}
+use Rattle.lay_node.specs.nodes.Types.{about_type, good_at}
+use Rattle.lay_node.specs.declared.patterns.PatPlace.TheVariants.{Single}
+use Rattle.lay_node.specs.declared.types.Ty.{Ty}
+use Rattle.lay_node.specs.declared.types.TypePlace.TheVariants.{NoBounds}
+use Rattle.lay_tree.specs.nodes.CodeFacts.{BlockFacts}
+use Rattle.lay_tree.specs.nodes.Exprs.{ExprFacts, placed, expr_facts, bar, closure_param, is_closure_param, closure_head}
+use Rattle.lay_tree.specs.nodes.Places as place
+use Rattle.lay_tree.specs.declared.blocks.Stmt.TheOpen.{Expr-F}
+use Rattle.lay_tree.specs.declared.exprs.ClosureParam.{ClosureParam}
+use Rattle.lay_reparse.proofs.borders.Border.{Border, beyond}
+use Rattle.lay_reparse.proofs.borders.Move.{under}
+use Rattle.lay_reparse.proofs.forms.Fields.{type_ends}
+use Rattle.lay_reparse.proofs.forms.Passes.{plain}
+use Rattle.lay_reparse.proofs.forms.Rules.{tables, From, All, under-refl, wider, ends, simple, fixed, part, list}
+use Rattle.lay_reparse.proofs.file.Nodes.{list_pieces}
+use Rattle.lay_reparse.proofs.file.TypeParts.{ends_type, param_attrs_pass, param_attrs_pieces}
+use Rattle.lay_reparse.proofs.file.TypeKinds.{deep_pieces}
+use Rattle.lay_reparse.proofs.file.Types.{type_passes}
+use Rattle.lay_reparse.proofs.file.PatternParts.{ends_pat}
+use Rattle.lay_reparse.proofs.file.Patterns.{pat_passes_at}
+use Rattle.lay_reparse.proofs.file.ExprParts.{ends_operand, ends_wide, always, deep, gap, begins_bars, head_word, BeginsCode}
+use Rattle.lay_reparse.proofs.file.ExprPlaces.{ExprPasses, inner_expr}
+use Rattle.lay_reparse.proofs.file.ExprKinds.{starting}
+use Rattle.lay_reparse.proofs.file.BlockKinds.{BlockPasses}
+
+-- ---- parameters
+
+param_type_passes : (ty : Option Ty) → may_be_type ty ≡ true → are_pieces (self_type ty) ≡ true
+    → From ends_pat (self_type ty) ends_pat
+unfolding tables
+param_type_passes None g w = ends refl
+param_type_passes (Some x) g w = fixed refl (wider refl (type_ends x g w))
+
+param_passes : (p : ClosureParam) → is_closure_param p ≡ true → are_pieces (closure_param p) ≡ true
+    → From plain (closure_param p) ends_pat
+unfolding tables
+param_passes p g w =
+    let pat = pat_form Single (about_pat p.pat) in
+    let ty = form.Part (self_type p.ty) Done in
+    let n1 = and_parts (are_attrs false p.attrs && pat_good Single (about_pat p.pat)) (may_be_type p.ty) g in
+    let n2 = and_parts (are_attrs false p.attrs) (pat_good Single (about_pat p.pat)) n1.0 in
+    let q = and_parts (are_pieces pat) (are_pieces ty) (param_attrs_pieces p.attrs (form.Part pat ty) w) in
+    let r = (and_parts (are_pieces (self_type p.ty)) true q.1).0 in
+    param_attrs_pass p.attrs n2.0 w
+    (part plain ends_pat refl (pat_passes_at plain refl Single p.pat n2.1 q.0)
+    (part ends_pat ends_pat refl (param_type_passes p.ty n1.1 r) (ends refl)))
+
+params_pass : (ps : List ClosureParam) → list_all is_closure_param ps ≡ true
+    → list_all are_pieces (map closure_param ps) ≡ true → All plain (map closure_param ps) ends_pat
+params_pass [] g w = tt
+params_pass (p ∷ ps) g w =
+    let n = and_parts (is_closure_param p) (list_all is_closure_param ps) g in
+    let q = and_parts (are_pieces (closure_param p)) (list_all are_pieces (map closure_param ps)) w in
+    (param_passes p n.0 q.0, params_pass ps n.1 q.1)
+
+-- what stands before the body, and what follows it
+head_pieces : (moves : Bool) (ps : List ClosureParam) (f : Form) → are_pieces (closure_head moves ps f) ≡ true
+    → (are_pieces (comma_list true bar bar (map closure_param ps)) ≡ true) × (are_pieces f ≡ true)
+head_pieces true ps f w = and_parts (are_pieces (comma_list true bar bar (map closure_param ps))) (are_pieces f) w
+head_pieces false ps f w = and_parts (are_pieces (comma_list true bar bar (map closure_param ps))) (are_pieces f) w
+
+plain_bars : begins_bars plain ≡ true
+unfolding tables
+plain_bars = refl
+
+bars_pass : (b : Border) → begins_bars b ≡ true → (ps : List ClosureParam) → list_all is_closure_param ps ≡ true
+    → are_pieces (comma_list true bar bar (map closure_param ps)) ≡ true
+    → From b (comma_list true bar bar (map closure_param ps)) plain
+bars_pass b h ps g w =
+    let es = map closure_param ps in
+    list true bar bar es plain ends_pat h (params_pass ps g (list_pieces true bar bar es w))
+
+head_passes : (b : Border) → BeginsCode b → (moves : Bool) (ps : List ClosureParam) → list_all is_closure_param ps ≡ true
+    → {f : Form} {c : Border} → are_pieces (closure_head moves ps f) ≡ true → From plain f c
+    → From b (closure_head moves ps f) c
+head_passes b s true ps g {f} w k =
+    let p = head_pieces true ps f w in
+    let q = and_parts (simple b (head_word (codes "move"))) (under (beyond b (head_word (codes "move"))) plain) s.by_move in
+    fixed q.0 (part plain plain q.1 (bars_pass plain plain_bars ps g p.0) k)
+head_passes b s false ps g {f} w k =
+    let p = head_pieces false ps f w in
+    part b plain (under-refl b) (bars_pass b s.bars ps g p.0) k
+
+-- ---- closures
+
+-- behind the bars a blank, and the body
+body_behind : {f : Form} {h : Border} → From plain f h → From plain (Piece gap (form.Part f Done)) h
+unfolding tables
+body_behind {f} {h} k = fixed refl (part plain h (under-refl plain) k (ends (under-refl h)))
+
+pub closure_pass : (moves : Bool) (ps : List ClosureParam) (x : ExprFacts) → ExprPasses x
+    → ExprPasses (expr_facts (Expr-F.Closure moves ps x))
+closure_pass moves ps x k = record {
+  go = λ v b h no_struct first g w.
+      let e = Piece gap (form.Part x.form Done) in
+      let n = and_parts (list_all is_closure_param ps) (placed x (place.plain 0 no_struct)) g in
+      let p = deep_pieces (closure_head moves ps e) w in
+      let q = (and_parts (are_pieces x.form) true (head_pieces moves ps e p).1).0 in
+      deep (ends_wide x.tail.bare _) (always (head_passes b (starting v 12 b h).code moves ps n.0 p
+      (body_behind (inner_expr x k (place.plain 0 no_struct) n.1 q))));
+}
+
+arrow_passes : (output : Ty) (x : BlockFacts) → BlockPasses x → good_at NoBounds (about_type output) ≡ true
+    → x.good ≡ true
+    → are_pieces (form.Part (about_type output).told.form (form.Part (x.form true) Done)) ≡ true
+    → From plain (Piece (Blank ∷ Operator (codes "->") ∷ Blank ∷ [])
+    (form.Part (about_type output).told.form (form.Part (x.form true) Done))) ends_operand
+unfolding tables
+arrow_passes output x k g h w =
+    let t = (about_type output).told in
+    let p = and_parts (are_pieces t.form) (are_pieces (form.Part (x.form true) Done)) w in
+    let q = (and_parts (are_pieces (x.form true)) true p.1).0 in
+    fixed refl (part plain ends_type refl
+    ((type_passes output).go (and_parts t.good _ g).0 p.0)
+    (part ends_type plain refl (k.go true ends_type refl h q) (ends refl)))
+
+pub typed_closure_pass : (moves : Bool) (ps : List ClosureParam) (output : Ty) (x : BlockFacts) → BlockPasses x
+    → ExprPasses (expr_facts (Expr-F.TypedClosure moves ps output x))
+typed_closure_pass moves ps output x k = record {
+  go = λ v b h no_struct first g w.
+      let t = (about_type output).told in
+      let e = Piece (Blank ∷ Operator (codes "->") ∷ Blank ∷ []) (form.Part t.form (form.Part (x.form true) Done)) in
+      let n1 = and_parts (list_all is_closure_param ps && good_at NoBounds (about_type output)) x.good g in
+      let n2 = and_parts (list_all is_closure_param ps) (good_at NoBounds (about_type output)) n1.0 in
+      let p = deep_pieces (closure_head moves ps e) w in
+      deep (under-refl ends_operand) (always (head_passes b (starting v 12 b h).code moves ps n2.0 p
+      (arrow_passes output x k n2.1 n1.1 (head_pieces moves ps e p).1)));
+}

@@ -1,0 +1,84 @@
+//! What holds of a layout: each text of it reads back. The functions here do nothing; each is a law, its contract.
+//!
+//! A layout gives one text for each choice of its breaks and groups. [`reparse_law`] says that whatever is chosen, the
+//! text of a file's layout reads to that file; with [`unique_law`], formatting again changes nothing. The argument,
+//! and the folder of `proofs/` that holds each part of it:
+//!
+//! - **Characters and bytes** (`texts`: `Characters`, `Laid`, `CleanPieces`, `DocTexts`, `LaidTokens`). A text is
+//!   laid out in bytes and lexed by characters. What is laid out of a token is a piece of its kind again, and holds
+//!   no CR, so folding line ends leaves a layout's text as it is.
+//! - **Borders and moves** (`borders`: `Need`, `OperatorRuns`, `Border`, `Move`). Whether two pieces stay two tokens
+//!   is decided where they meet. A border, behind a piece, says what it needs of all that may follow: that no letter
+//!   makes a word longer, no character an operator, that a line ends. A piece, a blank, a newline is a move from
+//!   border to border: it knows which characters it adds, and that they lex to the tokens of its part, whatever meets
+//!   the border.
+//! - **A condition that computes** (`forms`: `Opened`, `Passes`, `Walk`, `Texts`, `Breaks`, `Bodies`, `Sound`,
+//!   `Balance`). `Passes` says that a form leads from one border to another: each piece of it meets what the border
+//!   before it needs, and no delimiter stays open. It speaks of the form alone, of no width and no frame. Texts,
+//!   breaks and bodies are moves, so by one induction over all signs of the notation (`Sound`) a form that passes is
+//!   one, in every frame; and the tokens that spell it are balanced (`Balance`).
+//! - **A line for each part** (`forms/Rules`, `file/Nodes`). Lists, bodies, fields and braces pass where their parts
+//!   do. So each node is shown to pass in about a line for each of its parts, and a new node costs no more. Types pass
+//!   by one induction over their family (`file/TypeParts`, `TypeArgs`, `TypeKinds`, `Types`), and generic parameters and
+//!   where clauses by that (`file/Generics`). Patterns pass by an induction of their own (`file/PatternParts`,
+//!   `PatternKinds`, `Patterns`). Visibilities, fields, variants, and the heads of functions and of items pass by all
+//!   of these (`forms/Vis`, `Fields`, `Functions`, `Heads`). So do items, by one induction, at each site where they
+//!   are good (`file/ItemHeads`, `Items`).
+//! - **Files** (`file`: `FirstText`, `forms/HeadsFirst`, `file/FirstItems`, `Singles`, `Reparse`, `OneAnswer`). The
+//!   text begins with nothing that would be taken for a byte order mark or a shebang, and the rest follows: what it
+//!   lexes to is balanced, and spells the file.
+//! - **Token lists** (`tokens`: `Table`, `Neighbours`, `Rows`, `Lexed`, `TokenLists`, `Within`). What stands between
+//!   two tokens of a list is told by a table. Where that leaves nothing, the right token meets what the left one
+//!   needs, because the list passes the test of token lists. So a list passes as a part of any node, and so does a
+//!   group.
+//! - **Texts joined** (`join`: `Joining`). The same question for any two texts, without a layout.
+#![tactic(auto)]
+
+ghost use Rattle.std.specs.Prelude.{◌≡◌, ◌↔◌, ℕ, List, IsTrue, IsUtf8};
+ghost use Rattle.lay_layout.specs.Anyway.{Anyway};
+ghost use Rattle.lay_text.specs.declared.refusal.Refusal.{Refusal};
+ghost use Rattle.lay_token.specs.declared.token.Token.{Token};
+ghost use Rattle.lay_form.specs.Layout.{document};
+ghost use Rattle.lay_node.specs.declared.token.Listed.{Listed};
+ghost use Rattle.lay_node.specs.tokens.Lexed.{IsTokenList, ReadsTokens, is_token_list};
+ghost use Rattle.lay_node.specs.tokens.Lists.{token_list};
+ghost use Rattle.lay_tree.specs.Out.{layout_of_file, out};
+ghost use Rattle.lay_tree.specs.Reading.{IsRefused, Reads, top};
+ghost use Rattle.lay_reparse.specs.Join.{Joinable, Joins};
+ghost use Rattle.lay_reparse.specs.Reparse.{IsSpelled, ReadsAt};
+ghost use Rattle.lay_tree.specs.Written.{Written};
+ghost use Rattle.lay_tree.specs.declared.file.File.{File};
+
+/// Every text that the layout of a file that is written can give, whatever fits on a line, reads to the file again, at
+/// each depth at which the file is spelled; the text that is laid out does so at the depth of files.
+/// So what bytes read to is laid out as a text that reads to it, and by [`unique_law`] to nothing else: laid out again,
+/// it is the same.
+pub fn reparse_law()
+    ensures each_text { (file : File) (depth : ℕ) (text : List ℕ)
+        → Written file → IsSpelled file depth → Anyway (layout_of_file file) text → ReadsAt text file depth }
+    ensures own_text { (file : File) → Written file → IsSpelled file top → Reads (out file) file }
+    ensures again { (bytes : List ℕ) (file : File) → Reads bytes file → Reads (out file) file }
+{}
+
+/// Every text that the layout of a token list can give lexes to the tokens of the list. The test of token lists, which
+/// goes token by token, holds of exactly the lists that some text lexes to, with documentation that may be laid out.
+pub fn token_list_law()
+    ensures reads { (tokens : List Listed) (text : List ℕ)
+        → IsTrue (is_token_list tokens) → Anyway (document (token_list tokens)) text → ReadsTokens text tokens }
+    ensures decides { (tokens : List Listed) → IsTrue (is_token_list tokens) ↔ IsTokenList tokens }
+{}
+
+/// When the tokens of two texts are the tokens of both joined.
+pub fn join_law()
+    ensures { (left right : List ℕ) (a b : List Token)
+        → IsUtf8 left → IsUtf8 right → Joinable left right a b → Joins left right a b }
+{}
+
+/// Bytes have one answer at most: they read to one file, or are refused for one cause at one place, and never both.
+pub fn unique_law()
+    ensures one_file { (bytes : List ℕ) (file other : File) → Reads bytes file → Reads bytes other → other ≡ file }
+    ensures one_refusal { (bytes : List ℕ) (refusal other : Refusal)
+        → IsRefused bytes refusal → IsRefused bytes other → refusal ≡ other }
+    ensures never_both { (bytes : List ℕ) (file : File) (refusal : Refusal)
+        → Reads bytes file → IsRefused bytes refusal → ⊥ }
+{}

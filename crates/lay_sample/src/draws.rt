@@ -1,0 +1,42 @@
+//! What a seed draws.
+ghost use Rattle.std.specs.Prelude.{◌≡◌, ◌<◌};
+ghost use Rattle.lay_sample.specs.Sample.{draw, item_at, next_state, state_behind};
+
+use crate::items::Item;
+
+/// By how much a draw multiplies the state.
+const MULTIPLIER: u64 = 6364136223846793005;
+/// What a draw then adds to the state.
+const INCREMENT: u64 = 1442695040888963407;
+
+/// Numbers and items, drawn one after another. The state begins at the seed.
+#[derive(Debug, Drop)]
+pub struct Draws {
+    pub state: u64,
+}
+
+impl Draws {
+    /// Draws an item: its kind, and its number where the kind has one.
+    pub fn item(&mut self) -> Item
+        ensures item { result ≡ item_at self.old.state }
+        ensures state { self.new.state ≡ state_behind self.old.state }
+    {
+        match self.below(4) {
+            0 => Item::Struct,
+            1 => Item::Use(self.below(1000)),
+            2 => Item::Function(self.below(1000)),
+            _ => Item::Constant(self.below(100)),
+        }
+    }
+
+    /// Draws a number below `n`. The lowest 33 bits of the state are left out, since low bits soon come again in the same
+    /// order.
+    fn below(&mut self, n: u64) -> u64
+        requires { 0 < n }
+        ensures number { result ≡ draw n self.old.state }
+        ensures state { self.new.state ≡ next_state self.old.state }
+    {
+        self.state = self.state.wrapping_mul(MULTIPLIER).wrapping_add(INCREMENT);
+        (self.state >> 33) % n
+    }
+}

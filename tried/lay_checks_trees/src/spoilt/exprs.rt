@@ -1,0 +1,339 @@
+//! Expressions: their steps, conditions, jumps, and fields.
+
+use super::each_spoils;
+use crate::trees::{
+    boxed, boxed_expr, bytes, empty_block, expr, file_of_expr, file_of_tail, name, one, pat,
+    path_of_words, written,
+};
+use lay_token::List;
+use lay_tree::{Branch, Expr, FieldExpr, File, Lifetime, Step};
+use std::alloc::Global;
+
+// ---- steps
+
+/// `a?`
+fn tried(alloc: Global, text: &str) -> Option<File> {
+    behind(alloc, text, Step::Try)
+}
+
+/// `a.0`
+fn first_of(alloc: Global, text: &str) -> Option<File> {
+    let index = bytes(alloc, "0")?;
+    behind(alloc, text, Step::TupleIndex { index })
+}
+
+/// An expression with one step behind it.
+fn behind(alloc: Global, text: &str, step: Step) -> Option<File> {
+    let base = boxed_expr(alloc, text)?;
+    let steps = one(alloc, step)?;
+    file_of_expr(alloc, Expr::Postfix { base, steps })
+}
+
+/// The step of this spelling: `?`, `()`, `.0` or `.a`.
+fn step(alloc: Global, text: &str) -> Option<Step> {
+    match text {
+        "?" => Some(Step::Try),
+        "()" => Some(Step::Apply {
+            args: List::new(alloc),
+        }),
+        _ => step_behind_point(alloc, text.strip_prefix('.')?),
+    }
+}
+
+/// What stands behind a `.`: an index, if it begins with a digit, and else a field.
+fn step_behind_point(alloc: Global, text: &str) -> Option<Step> {
+    if matches!(text.as_bytes().first(), Some(b'0'..=b'9')) {
+        let index = bytes(alloc, text)?;
+        return Some(Step::TupleIndex { index });
+    }
+    let name = name(alloc, text)?;
+    Some(Step::Field { name })
+}
+
+/// `_?()`, of the steps of a row
+fn steps(alloc: Global, row: &str) -> Option<File> {
+    let mut steps = List::new(alloc);
+    for text in row.split_whitespace() {
+        steps.push(step(alloc, text)?).ok()?;
+    }
+    let base = boxed(alloc, Expr::Underscore)?;
+    file_of_expr(alloc, Expr::Postfix { base, steps })
+}
+
+/// `_.a()`
+fn method(alloc: Global, text: &str) -> Option<File> {
+    let step = Step::Method {
+        name: name(alloc, text)?,
+        generics: None,
+        args: List::new(alloc),
+    };
+    let steps = one(alloc, step)?;
+    let base = boxed(alloc, Expr::Underscore)?;
+    file_of_expr(alloc, Expr::Postfix { base, steps })
+}
+
+/// `a()`, a statement
+fn called_first(alloc: Global, text: &str) -> Option<File> {
+    let base = boxed_expr(alloc, text)?;
+    let steps = one(
+        alloc,
+        Step::Apply {
+            args: List::new(alloc),
+        },
+    )?;
+    file_of_tail(alloc, Expr::Postfix { base, steps })
+}
+
+/// `a?`, a statement
+fn tried_first(alloc: Global, text: &str) -> Option<File> {
+    let base = boxed_expr(alloc, text)?;
+    let steps = one(alloc, Step::Try)?;
+    file_of_tail(alloc, Expr::Postfix { base, steps })
+}
+
+#[test]
+fn steps_behind_operands(rt: HostRuntime) {
+    let alloc = rt.alloc();
+    let bases =
+        "no operators→(a+b)→a+b¶-a¶a as u8¶a..b¶a=b§no steps→(a?)→a?¶a.b¶a()¶a[b]§no jump→(return)→return¶return a¶|a|b¶break§\
+        what ends by itself→continue→break§what ends by itself→async{}→||->A{}";
+    each_spoils(&rt, alloc, bases, tried);
+    let numbers = "no number without suffix before an index→1f32→1¶1.5¶1.¶0x1¶1e5§\
+        no number without suffix before an index→(1)→1§no number without suffix before an index→\"a\"→1_0";
+    each_spoils(&rt, alloc, numbers, first_of);
+    let rows = "one step at least→? ()→§no call directly behind a field→.b ? ()→.b ()¶? .b ()§\
+        no call directly behind a field→.0 ()→.b ()§\
+        an index of digits alone→.00→.0u8¶.0x1¶.1_0¶.1e5¶.1.5¶.0a§\
+        a field that is no keyword→.union→.await¶.fn¶.self¶.crate§raw, no word of paths→.#fn→.#self";
+    each_spoils(&rt, alloc, rows, steps);
+    let methods = "no keyword→union→await¶fn¶self§raw, no word of paths→#fn→#super";
+    each_spoils(&rt, alloc, methods, method);
+    let firsts = "no block-like expression called first→(match a{})→match a{}¶{}¶unsafe{}¶loop{}§\
+        no macro call in braces called first→m!()→m!{}";
+    each_spoils(&rt, alloc, firsts, called_first);
+    let dots =
+        "any, where a point or ? follows→match a{}→a+b§any, where a point or ? follows→m!{}→-a§\
+        any, where a point or ? follows→{}→a?";
+    each_spoils(&rt, alloc, dots, tried_first);
+}
+
+// ---- conditions
+
+/// `if a {}`
+fn condition(alloc: Global, text: &str) -> Option<File> {
+    let branch = Branch {
+        pat: None,
+        condition: expr(alloc, text)?,
+        body: empty_block(alloc),
+    };
+    file_of_branches(alloc, one(alloc, branch)?)
+}
+
+/// `if let _ = a {}`
+fn behind_let(alloc: Global, text: &str) -> Option<File> {
+    let branch = Branch {
+        pat: Some(pat(alloc, "_")?),
+        condition: expr(alloc, text)?,
+        body: empty_block(alloc),
+    };
+    file_of_branches(alloc, one(alloc, branch)?)
+}
+
+/// `if a {} else if b {}`, of the conditions of a row
+fn branches(alloc: Global, row: &str) -> Option<File> {
+    let mut branches = List::new(alloc);
+    for text in row.split_whitespace() {
+        let branch = Branch {
+            pat: None,
+            condition: expr(alloc, text)?,
+            body: empty_block(alloc),
+        };
+        branches.push(branch).ok()?;
+    }
+    file_of_branches(alloc, branches)
+}
+
+/// An `if` of these branches.
+fn file_of_branches(alloc: Global, branches: List<Branch>) -> Option<File> {
+    let otherwise = Some(empty_block(alloc));
+    file_of_expr(
+        alloc,
+        Expr::If {
+            branches,
+            otherwise,
+        },
+    )
+}
+
+/// `while a {}`
+fn repeated(alloc: Global, text: &str) -> Option<File> {
+    let condition = boxed_expr(alloc, text)?;
+    file_of_expr(
+        alloc,
+        Expr::While {
+            label: None,
+            pat: None,
+            condition,
+            body: empty_block(alloc),
+        },
+    )
+}
+
+/// `match a {}`
+fn matched(alloc: Global, text: &str) -> Option<File> {
+    let scrutinee = boxed_expr(alloc, text)?;
+    file_of_expr(
+        alloc,
+        Expr::Match {
+            scrutinee,
+            attrs: List::new(alloc),
+            arms: List::new(alloc),
+        },
+    )
+}
+
+/// `for _ in a {}`
+fn gone_over(alloc: Global, text: &str) -> Option<File> {
+    let iterated = boxed_expr(alloc, text)?;
+    let pat = pat(alloc, "_")?;
+    file_of_expr(
+        alloc,
+        Expr::For {
+            label: None,
+            pat,
+            iterated,
+            body: empty_block(alloc),
+        },
+    )
+}
+
+#[test]
+fn conditions(rt: HostRuntime) {
+    let alloc = rt.alloc();
+    let rows = "no struct literal→(S{})→S{}¶S{a:1}¶a::S{}§\
+        none within it→a==(S{})→a==S{}¶S{}.a¶-S{}¶!S{}¶a&&S{}¶S{}()¶S{}as u8¶a=S{}¶..S{}¶return S{}¶|a|S{}§\
+        any within delimiters→f(S{})→S{}§any within delimiters→a[S{}]→S{}§any within delimiters→[S{}]→S{}§\
+        no block behind a range→a..({})→a..{}¶..{}§no block behind return or break→return({})→return{}¶break{}¶break 'a{}¶return{}+a§\
+        a block elsewhere→{}→a..{}§a block elsewhere→a+{}→S{}";
+    each_spoils(&rt, alloc, rows, condition);
+    each_spoils(&rt, alloc, rows, repeated);
+    each_spoils(&rt, alloc, rows, matched);
+    each_spoils(&rt, alloc, rows, gone_over);
+    let lets =
+        "tighter than &&→(a&&b)→a&&b¶a||b¶a..b¶a=b§tighter than &&→a==b→a&&b§no struct literal→(S{})→S{}¶a|S{}";
+    each_spoils(&rt, alloc, lets, behind_let);
+    each_spoils(
+        &rt,
+        alloc,
+        "one branch at least→a b→§one branch at least→a→",
+        branches,
+    );
+}
+
+// ---- jumps
+
+/// `break a`
+fn broken(alloc: Global, text: &str) -> Option<File> {
+    let operand = Some(boxed_expr(alloc, text)?);
+    file_of_expr(
+        alloc,
+        Expr::Break {
+            label: None,
+            operand,
+        },
+    )
+}
+
+/// `break 'a b`
+fn broken_with_label(alloc: Global, text: &str) -> Option<File> {
+    let operand = Some(boxed_expr(alloc, text)?);
+    let label = Some(Lifetime {
+        text: bytes(alloc, "'a")?,
+    });
+    file_of_expr(alloc, Expr::Break { label, operand })
+}
+
+/// `continue 'a`
+fn continued(alloc: Global, text: &str) -> Option<File> {
+    let label = Some(Lifetime {
+        text: bytes(alloc, text)?,
+    });
+    file_of_expr(alloc, Expr::Continue { label })
+}
+
+#[test]
+fn jumps(rt: HostRuntime) {
+    let alloc = rt.alloc();
+    let rows = "no label first→('a:loop{})→'a:loop{}¶'a:{}¶'a:while b{}¶'a:for b in c{}§\
+        none that the operand begins with→('a:loop{})+b→'a:loop{}+b¶'a:{}.b¶'a:loop{}..¶'a:{}as u8";
+    each_spoils(&rt, alloc, rows, broken);
+    let answer = written(alloc, broken_with_label(alloc, "'b:loop{}"));
+    assert_eq!(rt; answer, Some(true));
+    let alone = "a quote first→'a→a¶§one label→'a→'a 'b¶'a b";
+    each_spoils(&rt, alloc, alone, continued);
+}
+
+// ---- fields
+
+/// `S { 0: a }`
+fn numbered_field(alloc: Global, text: &str) -> Option<File> {
+    let value = expr(alloc, "a")?;
+    let index = bytes(alloc, text)?;
+    file_of_field(
+        alloc,
+        FieldExpr::Numbered {
+            attrs: List::new(alloc),
+            index,
+            value,
+        },
+    )
+}
+
+/// `S { a: b }`
+fn named_field(alloc: Global, text: &str) -> Option<File> {
+    let value = expr(alloc, "b")?;
+    let name = name(alloc, text)?;
+    file_of_field(
+        alloc,
+        FieldExpr::Named {
+            attrs: List::new(alloc),
+            name,
+            value,
+        },
+    )
+}
+
+/// `S { a }`
+fn short_field(alloc: Global, text: &str) -> Option<File> {
+    let name = name(alloc, text)?;
+    file_of_field(
+        alloc,
+        FieldExpr::Short {
+            attrs: List::new(alloc),
+            name,
+        },
+    )
+}
+
+/// A struct literal of one field.
+fn file_of_field(alloc: Global, field: FieldExpr) -> Option<File> {
+    let path = path_of_words(alloc, "S")?;
+    let fields = one(alloc, field)?;
+    file_of_expr(
+        alloc,
+        Expr::Struct {
+            path,
+            fields,
+            base: None,
+        },
+    )
+}
+
+#[test]
+fn fields(rt: HostRuntime) {
+    let alloc = rt.alloc();
+    each_spoils(&rt, alloc, "an integer→0x1u8→a¶0.5¶¶-1", numbered_field);
+    let names = "no keyword→a→fn¶self¶1¶§raw, no word of paths→#fn→#self";
+    each_spoils(&rt, alloc, names, named_field);
+    each_spoils(&rt, alloc, names, short_field);
+}
