@@ -3,15 +3,17 @@
 #
 # usage: tried.sh FOLDER    FOLDER isn't there yet; it becomes a clone of this repository with the crates of tried/ added
 #
-# The exit status is 0 where every test passed. It takes two to four minutes and proves nothing.
+# The exit status is 0 where every test passed. It takes two to four minutes. The files are named `.rs` here, since the gate
+# proves whatever is named `.rt`.
 set -eu
 if [ $# -ne 1 ]; then
-    sed -n '2,6s/^# \{0,1\}//p' "$0"
+    sed -n '2,7s/^# \{0,1\}//p' "$0"
     exit 2
 fi
 git clone -q "$(cd "$(dirname "$0")/.." && pwd)" "$1"
 cd "$1"
 mv tried/lay_checks_trees crates/
+find crates/lay_checks_trees -name '*.rs' | while read -r file; do mv "$file" "${file%.rs}.rt"; done
 echo "lay_checks_trees: lay_token lay_node lay_tree lay_files lay_same lay_laws lay_given" >> crates.txt
 cd crates/lay_checks_trees
 rt try --test
