@@ -1,7 +1,7 @@
 //! The modes of the command, its lines on `err`, and reads and writes that fail.
 ghost use Rattle.std.specs.Prelude.{◌≡◌, None, IfOk};
 
-use crate::runs::{ran, status};
+use crate::runs::{ran, status, words};
 use lay_front::{IntoError, Status, format_into};
 use lay_given::{BETWEEN, list, parts, repeated};
 use lay_io::{Inputs, MemoryInputs, MemorySink, NamedFile, QuietSink};
@@ -22,17 +22,6 @@ fn name(status: Status) -> &'static str {
         Status::TooLong => "TooLong",
         Status::NoMemory => "NoMemory",
     }
-}
-
-/// The words of a line, which stand between blanks.
-fn words(alloc: Global, line: &str) -> Result<Vec<Text>, NoMemory> {
-    let mut words = Vec::new(alloc);
-    for word in line.split(' ') {
-        if !word.is_empty() {
-            words.push(Text::from_bytes(alloc, word.as_bytes())?)?;
-        }
-    }
-    Ok(words)
 }
 
 /// Inputs with these bytes on standard input and these in the file `f`.

@@ -20,6 +20,17 @@ pub fn status<I: Inputs, K: Sink, E: Sink>(
     run(alloc, words, inputs, out, err)
 }
 
+/// The words of a line, which stand between blanks.
+pub fn words(alloc: Global, line: &str) -> Result<Vec<Text>, NoMemory> {
+    let mut words = Vec::new(alloc);
+    for word in line.split(' ') {
+        if !word.is_empty() {
+            words.push(Text::from_bytes(alloc, word.as_bytes())?)?;
+        }
+    }
+    Ok(words)
+}
+
 /// The status of a run without words that can't fail, and its two sinks.
 pub fn ran(alloc: Global, given: List<u8>) -> Result<(Status, QuietSink, QuietSink), NoMemory> {
     let mut inputs = QuietInputs::new(given, List::new(alloc));

@@ -2,7 +2,8 @@
 //! read of each here would fail.
 ghost use Rattle.std.specs.Prelude.{◌≡◌, None, IfOk};
 
-use lay_front::{Status, format, run};
+use crate::runs::{status, words};
+use lay_front::{Status, format};
 use lay_given::{BETWEEN, list, parts};
 use lay_io::{Inputs, MemoryInputs, MemorySink, QuietSink, Sink};
 use lay_sample::sample;
@@ -55,15 +56,6 @@ fn formats(rt: HostRuntime) -> Result<(), Fail> {
     Ok(())
 }
 
-/// The words of a line, which stand between blanks.
-fn words(alloc: Global, line: &str) -> Result<Vec<Text>, NoMemory> {
-    let mut words = Vec::new(alloc);
-    for word in line.split_whitespace() {
-        words.push(Text::from_bytes(alloc, word.as_bytes())?)?;
-    }
-    Ok(words)
-}
-
 /// Inputs of which the first read fails.
 fn inputs(alloc: Global) -> Result<MemoryInputs, NoMemory>
     ensures { IfOk result (λ made. ⟦<MemoryInputs as Inputs>⟧.chosen made ≡ None) }
@@ -78,8 +70,8 @@ fn first(alloc: Global) -> Result<List<u64>, NoMemory> {
     Ok(List::from_vec(numbers))
 }
 
-/// The status of a run with these words, which is the one call of it here.
-fn status<K: Sink, E: Sink>(
+/// The status of a run with the words of this line.
+fn status_of<K: Sink, E: Sink>(
     alloc: Global,
     line: &str,
     out: &mut K,
@@ -87,7 +79,7 @@ fn status<K: Sink, E: Sink>(
 ) -> Result<Status, NoMemory> {
     let words = words(alloc, line)?;
     let mut inputs = inputs(alloc)?;
-    Ok(run(alloc, words.as_slice(), &mut inputs, out, err))
+    Ok(status(alloc, words.as_slice(), &mut inputs, out, err))
 }
 
 /// A run of a row: the words, what stands on `out`, and what on `err`.
@@ -96,7 +88,7 @@ fn comes_out(rt: &impl Abort, alloc: Global, row: &str, wanted: Status) -> Resul
     let (text, said) = parts(rest);
     let mut out = QuietSink::with_room(alloc, 100)?;
     let mut err = QuietSink::with_room(alloc, 100)?;
-    let status = status(alloc, line, &mut out, &mut err)?;
+    let status = status_of(alloc, line, &mut out, &mut err)?;
     assert_eq!(rt; status, wanted, "{row}");
     assert_eq!(rt; out.bytes(), text.as_bytes(), "{row}");
     assert_eq!(rt; err.bytes(), said.as_bytes(), "{row}");
@@ -117,7 +109,7 @@ fn runs(rt: HostRuntime) -> Result<(), Fail> {
     for line in usage.split(BETWEEN) {
         let mut out = QuietSink::with_room(rt.alloc(), 100)?;
         let mut err = QuietSink::with_room(rt.alloc(), 100)?;
-        let status = status(rt.alloc(), line, &mut out, &mut err)?;
+        let status = status_of(rt.alloc(), line, &mut out, &mut err)?;
         assert_eq!(rt; status, Status::Usage, "{line}");
         assert!(rt; out.bytes().is_empty(), "{line}");
     }
@@ -153,7 +145,7 @@ fn thousand_items(rt: HostRuntime) -> Result<(), Fail> {
     for _ in 0..2 {
         let mut out = QuietSink::with_room(alloc, 100)?;
         let mut err = QuietSink::with_room(alloc, 100)?;
-        let status = status(alloc, "--sample 2 --items 1000", &mut out, &mut err)?;
+        let status = status_of(alloc, "--sample 2 --items 1000", &mut out, &mut err)?;
         assert_eq!(rt; status, Status::Done);
         assert_eq!(rt; out.bytes(), line.as_bytes());
         assert!(rt; err.bytes().is_empty());
@@ -168,7 +160,7 @@ fn failing_writes(rt: HostRuntime) -> Result<(), Fail> {
     for (keep, text) in [(0, ""), (5, "items")] {
         let mut out = MemorySink::new(alloc, 100, first(alloc)?, keep)?;
         let mut err = QuietSink::with_room(alloc, 100)?;
-        let status = status(alloc, "--sample 2 --items 1", &mut out, &mut err)?;
+        let status = status_of(alloc, "--sample 2 --items 1", &mut out, &mut err)?;
         assert_eq!(rt; status, Status::WriteFailed);
         assert_eq!(rt; out.bytes(), text.as_bytes());
         assert_eq!(rt; err.bytes(), b"write failed\n".as_slice());
