@@ -32,12 +32,16 @@ impl<T> List<T> {
         }
     }
 
-    /// Adds an item at the end. `Err` hands the item back for want of memory.
+    /// Adds an item at the end. `Err` hands the item back for want of memory. The first item takes room for itself alone, since
+    /// most lists of a tree have one.
     pub fn push(&mut self, item: T) -> Result<(), T>
         ensures ok { OnOk result (self.new ≡ self.old ++ item ∷ []) }
         ensures err { OnErr result (self.new ≡ self.old) }
         ensures back { IfErr result (λ given. given ≡ item) }
     {
+        if self.items.is_empty() && self.items.reserve_exact(1).is_err() {
+            return Err(item);
+        }
         match self.items.push(item) {
             Ok(()) => Ok(()),
             Err(refused) => Err(refused.value),

@@ -18,7 +18,8 @@ pub struct Block {
 impl Drop for Block {
     #[cycle(drops)]
     fn drop(self) {
-        let Block { attrs: _, stmts } = self;
+        let Block { attrs, stmts } = self;
+        drop(attrs);
         discard_stmts(stmts);
     }
 }
@@ -61,12 +62,15 @@ impl Drop for Stmt {
     fn drop(self) {
         match self {
             Stmt::Let {
-                attrs: _,
-                pat: _,
-                ty: _,
+                attrs,
+                pat,
+                ty,
                 value,
                 otherwise,
             } => {
+                drop(attrs);
+                drop(pat);
+                drop(ty);
                 discard_value(value);
                 discard_otherwise(otherwise);
             }
@@ -74,10 +78,11 @@ impl Drop for Stmt {
                 discard_boxed_item(item);
             }
             Stmt::Expr {
-                attrs: _,
+                attrs,
                 expr,
                 ended: _,
             } => {
+                drop(attrs);
                 drop(expr);
             }
         }
@@ -113,10 +118,11 @@ impl Drop for Branch {
     #[cycle(drops)]
     fn drop(self) {
         let Branch {
-            pat: _,
+            pat,
             condition,
             body,
         } = self;
+        drop(pat);
         drop(condition);
         drop(body);
     }
@@ -149,11 +155,13 @@ impl Drop for Arm {
     #[cycle(drops)]
     fn drop(self) {
         let Arm {
-            attrs: _,
-            pat: _,
+            attrs,
+            pat,
             guard,
             body,
         } = self;
+        drop(attrs);
+        drop(pat);
         discard_value(guard);
         drop(body);
     }

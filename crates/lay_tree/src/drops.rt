@@ -1,4 +1,7 @@
 //! What is dropped with an expression, a block or an item: each node within it, down its tree.
+//!
+//! What a pattern leaves would be dropped in line where its arm ends, over flags that tell what has moved. That code is dear to
+//! prove, so the nodes take themselves apart whole, and hand on each part.
 use crate::blocks::{Arm, Block, Branch, Stmt};
 use crate::exprs::{Expr, FieldExpr, Step};
 use crate::item::{Item, ItemKind};

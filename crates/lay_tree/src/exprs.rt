@@ -184,28 +184,34 @@ impl Drop for Expr {
     #[cycle(drops)]
     fn drop(self) {
         match self {
-            Expr::Lit { literal: _ } => {}
-            Expr::Path { path: _ } => {}
+            Expr::Lit { literal } => {
+                drop(literal);
+            }
+            Expr::Path { path } => {
+                drop(path);
+            }
             Expr::Underscore => {}
-            Expr::Call { call: _ } => {}
+            Expr::Call { call } => {
+                drop(call);
+            }
             Expr::Paren { inner } => {
                 discard_boxed(inner);
             }
-            Expr::Continue { label: _ } => {}
+            Expr::Continue { label } => {
+                drop(label);
+            }
             Expr::Tuple { elements } => {
                 discard_exprs(elements);
             }
             Expr::Array { elements } => {
                 discard_exprs(elements);
             }
-            Expr::Repeat { element, length: _ } => {
+            Expr::Repeat { element, length } => {
+                drop(length);
                 discard_boxed(element);
             }
-            Expr::Struct {
-                path: _,
-                fields,
-                base,
-            } => {
+            Expr::Struct { path, fields, base } => {
+                drop(path);
                 discard_fields(fields);
                 discard_base(base);
             }
@@ -213,13 +219,12 @@ impl Drop for Expr {
                 discard_boxed(first);
                 discard_operands(rest);
             }
-            Expr::Cast { operand, types: _ } => {
+            Expr::Cast { operand, types } => {
+                drop(types);
                 discard_boxed(operand);
             }
-            Expr::Unary {
-                prefixes: _,
-                operand,
-            } => {
+            Expr::Unary { prefixes, operand } => {
+                drop(prefixes);
                 discard_boxed(operand);
             }
             Expr::Range {
@@ -238,7 +243,8 @@ impl Drop for Expr {
                 discard_boxed(base);
                 discard_steps(steps);
             }
-            Expr::Block { label: _, body } => {
+            Expr::Block { label, body } => {
+                drop(label);
                 drop(body);
             }
             Expr::Unsafe { body } => {
@@ -259,52 +265,62 @@ impl Drop for Expr {
             }
             Expr::Match {
                 scrutinee,
-                attrs: _,
+                attrs,
                 arms,
             } => {
+                drop(attrs);
                 discard_boxed(scrutinee);
                 discard_arms(arms);
             }
-            Expr::Loop { label: _, body } => {
+            Expr::Loop { label, body } => {
+                drop(label);
                 drop(body);
             }
             Expr::While {
-                label: _,
-                pat: _,
+                label,
+                pat,
                 condition,
                 body,
             } => {
+                drop(label);
+                drop(pat);
                 discard_boxed(condition);
                 drop(body);
             }
             Expr::For {
-                label: _,
-                pat: _,
+                label,
+                pat,
                 iterated,
                 body,
             } => {
+                drop(label);
+                drop(pat);
                 discard_boxed(iterated);
                 drop(body);
             }
             Expr::Closure {
                 moves: _,
-                params: _,
+                params,
                 body,
             } => {
+                drop(params);
                 discard_boxed(body);
             }
             Expr::TypedClosure {
                 moves: _,
-                params: _,
-                output: _,
+                params,
+                output,
                 body,
             } => {
+                drop(params);
+                drop(output);
                 drop(body);
             }
             Expr::Return { operand } => {
                 discard_operand(operand);
             }
-            Expr::Break { label: _, operand } => {
+            Expr::Break { label, operand } => {
+                drop(label);
                 discard_operand(operand);
             }
         }
@@ -357,21 +373,24 @@ impl Drop for FieldExpr {
     #[cycle(drops)]
     fn drop(self) {
         match self {
-            FieldExpr::Named {
-                attrs: _,
-                name: _,
-                value,
-            } => {
+            FieldExpr::Named { attrs, name, value } => {
+                drop(attrs);
+                drop(name);
                 drop(value);
             }
             FieldExpr::Numbered {
-                attrs: _,
-                index: _,
+                attrs,
+                index,
                 value,
             } => {
+                drop(attrs);
+                drop(index);
                 drop(value);
             }
-            FieldExpr::Short { attrs: _, name: _ } => {}
+            FieldExpr::Short { attrs, name } => {
+                drop(attrs);
+                drop(name);
+            }
         }
     }
 }
@@ -411,13 +430,19 @@ impl Drop for Step {
     #[cycle(drops)]
     fn drop(self) {
         match self {
-            Step::Field { name: _ } => {}
-            Step::TupleIndex { index: _ } => {}
+            Step::Field { name } => {
+                drop(name);
+            }
+            Step::TupleIndex { index } => {
+                drop(index);
+            }
             Step::Method {
-                name: _,
-                generics: _,
+                name,
+                generics,
                 args,
             } => {
+                drop(name);
+                drop(generics);
                 discard_exprs(args);
             }
             Step::Apply { args } => {

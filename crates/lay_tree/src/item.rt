@@ -20,11 +20,9 @@ pub struct Item {
 impl Drop for Item {
     #[cycle(drops)]
     fn drop(self) {
-        let Item {
-            attrs: _,
-            vis: _,
-            kind,
-        } = self;
+        let Item { attrs, vis, kind } = self;
+        drop(attrs);
+        drop(vis);
         drop(kind);
     }
 }
@@ -113,56 +111,80 @@ impl Drop for ItemKind {
     #[cycle(drops)]
     fn drop(self) {
         match self {
-            ItemKind::ExternCrate { item: _ } => {}
-            ItemKind::Import { tree: _ } => {}
-            ItemKind::FileModule { name: _ } => {}
-            ItemKind::Module {
-                name: _,
-                attrs: _,
-                items,
-            } => {
+            ItemKind::ExternCrate { item } => {
+                drop(item);
+            }
+            ItemKind::Import { tree } => {
+                drop(tree);
+            }
+            ItemKind::FileModule { name } => {
+                drop(name);
+            }
+            ItemKind::Module { name, attrs, items } => {
+                drop(name);
+                drop(attrs);
                 discard_items(items);
             }
-            ItemKind::Function {
-                head: _,
-                wheres: _,
-                body,
-            } => {
+            ItemKind::Function { head, wheres, body } => {
+                drop(head);
+                drop(wheres);
                 discard_otherwise(body);
             }
-            ItemKind::Alias { item: _ } => {}
-            ItemKind::Struct { item: _ } => {}
-            ItemKind::Union { item: _ } => {}
-            ItemKind::Enum { item: _ } => {}
-            ItemKind::Value { head: _, value } => {
+            ItemKind::Alias { item } => {
+                drop(item);
+            }
+            ItemKind::Struct { item } => {
+                drop(item);
+            }
+            ItemKind::Union { item } => {
+                drop(item);
+            }
+            ItemKind::Enum { item } => {
+                drop(item);
+            }
+            ItemKind::Value { head, value } => {
+                drop(head);
                 discard_value(value);
             }
             ItemKind::Trait {
-                head: _,
-                wheres: _,
-                attrs: _,
+                head,
+                wheres,
+                attrs,
                 items,
             } => {
+                drop(head);
+                drop(wheres);
+                drop(attrs);
                 discard_items(items);
             }
             ItemKind::Impl {
-                head: _,
-                wheres: _,
-                attrs: _,
+                head,
+                wheres,
+                attrs,
                 items,
             } => {
+                drop(head);
+                drop(wheres);
+                drop(attrs);
                 discard_items(items);
             }
             ItemKind::Foreign {
                 is_unsafe: _,
-                abi: _,
-                attrs: _,
+                abi,
+                attrs,
                 items,
             } => {
+                drop(abi);
+                drop(attrs);
                 discard_items(items);
             }
-            ItemKind::MacroRules { name: _, rules: _ } => {}
-            ItemKind::Call { call: _ } => {}
+            ItemKind::MacroRules { name, rules } => {
+                drop(name);
+                drop(rules);
+            }
+            ItemKind::Call { call } => {
+                drop(call);
+            }
         }
     }
 }
