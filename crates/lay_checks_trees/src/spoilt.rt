@@ -1,0 +1,87 @@
+//! Which trees can be written, and which can't.
+
+use crate::made::made;
+use lay_given::{BETWEEN, parts};
+use lay_laws::is_written;
+use lay_same::same;
+use std::alloc::Global;
+
+/// Stands between the texts of a row of which each breaks the row's condition.
+const OTHER: char = '¶';
+
+/// In each row a place, a condition, what stands there in a file that can be written, and what breaks the condition, so that the
+/// file can't be written.
+const ROWS: &str = "name→no keyword→a→fn¶true¶self¶crate¶Self¶dyn§\
+    name→no reserved word→union→yield¶try§\
+    name→one character at least→a→§\
+    name→no blank→ab→a b¶a ¶ a§\
+    name→no digit first→a1→1a¶1§\
+    name→no comment→a→a/**/¶a//¶/**/a§\
+    name→no punctuation→a→a;¶a{}¶:¶a(§\
+    name→not the sign of no name→_a→_§\
+    name→raw, no word of paths→#fn→#self¶#super¶#crate¶#Self§\
+    name→raw by its flag→#fn→r#fn§\
+    name→raw, without its mark→#fn→#r#fn§\
+    literal→a kind of literals→Ident true→Ident a¶Ident fn§\
+    literal→one token→Str \"a\"u8→Str \"a\" \"b\"¶Str \"a\"/**/¶Int 1 1¶Int -1¶Float 1.5.5§\
+    literal→a string→Str \"a\"→Str a¶Str ¶Str \"a¶Str a\"¶Str 'a'¶Str r\"a\"§\
+    literal→a raw string→RawStr r\"a\"→RawStr \"a\"¶RawStr r#\"a\"¶RawStr br\"a\"§\
+    literal→a character→Char 'a'→Char 'ab'¶Char ''¶Char a¶Char b'a'§\
+    literal→a byte→Byte b'a'→Byte 'a'¶Byte b'\u{e9}'§\
+    literal→bytes→ByteStr b\"a\"→ByteStr \"a\"¶ByteStr b\"\u{e9}\"§\
+    literal→a C string→CStr c\"a\"→CStr \"a\"¶CStr c\"\\0\"§\
+    literal→an escape→Str \"\\n\"→Str \"\\q\"¶Str \"\\x80\"¶Str \"\\u{d800}\"§\
+    literal→no CR→Str \"a\nb\"→Str \"a\rb\"§\
+    literal→an integer→Int 1x→Int 1.5¶Int 1.¶Int 1e5¶Int a¶Int ¶Int 0x¶Int 0b2§\
+    literal→a number with a point or an exponent→Float 1.→Float 1¶Float .5¶Float 1.a¶Float 1e§\
+    a * _→nothing looser→(a+b)→a+b¶a..b¶a=b¶a||b¶a==b¶a<<b§\
+    a * _→no chain of the same level→(a*b)→a*b¶a/b¶a%b§\
+    a * _→no return, break or closure before an operator→(return)→return¶return a¶break¶|a|b§\
+    _ * a→nothing looser→(a+b)→a+b¶a..b¶a=b¶a||b§\
+    _ * a→a jump behind the last operator→return→a..§\
+    -a→nothing looser→a.b→a*b¶a as u8¶a..¶a=b§\
+    -a→no operator before an operand→(-a)→-a¶!a¶&a¶&mut a§\
+    if a {}→no struct literal→(S{})→S{}¶S{a:1}¶a::S{}§\
+    if a {}→none within it→a==(S{})→a==S{}¶S{}.a¶-S{}¶a&&S{}¶S{}()¶S{}as u8¶|a|S{}§\
+    if a {}→any within delimiters→f(S{})→S{}§\
+    if a {}→no block behind a range→a..({})→a..{}¶..{}§\
+    if a {}→no block behind return or break→return({})→return{}¶break{}¶break 'a{}§\
+    { a b }→a statement that ends by itself before another→match a{}→a¶a=b¶m!()¶return¶a{}.b¶|a|b§\
+    { a b }→a statement that ends by itself before another→m!{}→m![]¶m!{}.a¶match a{}?§\
+    let _ = a else {};→no chain of || or &&→(a||b)→a||b¶a&&b¶a&&b&&c§\
+    let _ = a else {};→no brace at the end→(S{})→S{}¶{}¶match a{}¶-{a}¶a+S{}¶m!{}¶return{}¶&S{}§\
+    let _ = a else {};→no closure at the end→(|a|b)→|a|b¶a=|b|c¶return|b|c¶-|a|b§\
+    _ => a→no braces around one expression→a→{a}¶{{a}}¶{match a{}}¶{return}¶{S{}}§\
+    _ => a→no braces around one expression, but a statement→{a;}→{a}§\
+    _ => a→no braces around one expression, but with a label→'b:{a}→{a}§\
+    _ => a→no block-like expression at its front→(match a{})+b→match a{}+b¶m!{}-a¶{}()";
+
+/// Whether the file in which a text stands in a place can be written, if there is one.
+fn written(alloc: Global, place: &str, text: &str) -> Option<bool> {
+    is_written(alloc, &made(alloc, place, text)?).ok()
+}
+
+/// Whether the files of two texts in a place are equal, if there are two.
+fn equal(alloc: Global, place: &str, text: &str, other: &str) -> Option<bool> {
+    Some(same(&made(alloc, place, text)?, &made(alloc, place, other)?))
+}
+
+#[test]
+fn spoilt_in_one_condition(rt: HostRuntime) {
+    let alloc = rt.alloc();
+    for row in ROWS.split(BETWEEN) {
+        let (place, rest) = parts(row);
+        let (condition, rest) = parts(rest);
+        let (whole, broken) = parts(rest);
+        let answer = written(alloc, place, whole);
+        assert_eq!(rt; answer, Some(true), "{place}, {condition}: {whole}");
+        let answer = equal(alloc, place, whole, whole);
+        assert_eq!(rt; answer, Some(true), "{place}: {whole} twice");
+        for spoilt in broken.split(OTHER) {
+            let answer = written(alloc, place, spoilt);
+            assert_eq!(rt; answer, Some(false), "{place}, {condition}: {spoilt}");
+            let answer = equal(alloc, place, whole, spoilt);
+            assert_eq!(rt; answer, Some(false), "{place}: {whole} and {spoilt}");
+        }
+    }
+}
