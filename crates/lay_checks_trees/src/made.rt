@@ -8,8 +8,8 @@ use lay_files::read_bytes;
 use lay_given::repeated;
 use lay_token::{Kind, List, Text};
 use lay_tree::{
-    Arm, Block, Boxed, Branch, Expr, File, GivenName, Item, ItemKind, Literal, Name, Op, Pat, Prefix,
-    Stmt, Ty, ValueHead, Vis,
+    Arm, Block, Boxed, Branch, Expr, File, GivenName, Item, ItemKind, Literal, Name, Op, Pat, Stmt,
+    Ty, ValueHead, Vis,
 };
 use std::alloc::Global;
 
@@ -56,10 +56,7 @@ fn value(alloc: Global, place: &str, text: &str) -> Option<Expr> {
     match place {
         "literal" => literal(alloc, text),
         "a * _" => multiplied(alloc, expr(alloc, text)?),
-        "_ * a" => factor(alloc, expr(alloc, text)?),
-        "-a" => negative(alloc, expr(alloc, text)?),
         "if a {}" => condition(alloc, expr(alloc, text)?),
-        "{ a b }" => before_another(alloc, expr(alloc, text)?),
         "let _ = a else {};" => before_else(alloc, expr(alloc, text)?),
         "_ => a" => body_of_arm(alloc, expr(alloc, text)?),
         _ => None,
@@ -118,20 +115,6 @@ fn multiplied(alloc: Global, operand: Expr) -> Option<Expr> {
     Some(Expr::Chain { first, rest })
 }
 
-/// `_ * a`
-fn factor(alloc: Global, operand: Expr) -> Option<Expr> {
-    let rest = one(alloc, (Op::Mul, operand))?;
-    let first = Boxed::new(alloc, Expr::Underscore).ok()?;
-    Some(Expr::Chain { first, rest })
-}
-
-/// `-a`
-fn negative(alloc: Global, operand: Expr) -> Option<Expr> {
-    let operand = Boxed::new(alloc, operand).ok()?;
-    let prefixes = one(alloc, Prefix::Neg)?;
-    Some(Expr::Unary { prefixes, operand })
-}
-
 /// `if a {}`
 fn condition(alloc: Global, condition: Expr) -> Option<Expr> {
     let branch = Branch {
@@ -142,16 +125,6 @@ fn condition(alloc: Global, condition: Expr) -> Option<Expr> {
     Some(Expr::If {
         branches: one(alloc, branch)?,
         otherwise: None,
-    })
-}
-
-/// `{ a b }`, two statements without a `;`
-fn before_another(alloc: Global, expr: Expr) -> Option<Expr> {
-    let mut stmts = one(alloc, unended(alloc, expr))?;
-    stmts.push(unended(alloc, Expr::Underscore)).ok()?;
-    Some(Expr::Block {
-        label: None,
-        body: block(alloc, stmts),
     })
 }
 
@@ -191,15 +164,6 @@ fn block(alloc: Global, stmts: List<Stmt>) -> Block {
     Block {
         attrs: List::new(alloc),
         stmts,
-    }
-}
-
-/// An expression as a statement without a `;`.
-fn unended(alloc: Global, expr: Expr) -> Stmt {
-    Stmt::Expr {
-        attrs: List::new(alloc),
-        expr,
-        ended: false,
     }
 }
 

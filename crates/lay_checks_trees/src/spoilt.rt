@@ -37,17 +37,11 @@ const ROWS: &str = "name→no keyword→a→fn¶true¶self¶crate¶Self¶dyn§\
     a * _→nothing looser→(a+b)→a+b¶a..b¶a=b¶a||b¶a==b¶a<<b§\
     a * _→no chain of the same level→(a*b)→a*b¶a/b¶a%b§\
     a * _→no return, break or closure before an operator→(return)→return¶return a¶break¶|a|b§\
-    _ * a→nothing looser→(a+b)→a+b¶a..b¶a=b¶a||b§\
-    _ * a→a jump behind the last operator→return→a..§\
-    -a→nothing looser→a.b→a*b¶a as u8¶a..¶a=b§\
-    -a→no operator before an operand→(-a)→-a¶!a¶&a¶&mut a§\
     if a {}→no struct literal→(S{})→S{}¶S{a:1}¶a::S{}§\
     if a {}→none within it→a==(S{})→a==S{}¶S{}.a¶-S{}¶a&&S{}¶S{}()¶S{}as u8¶|a|S{}§\
     if a {}→any within delimiters→f(S{})→S{}§\
     if a {}→no block behind a range→a..({})→a..{}¶..{}§\
     if a {}→no block behind return or break→return({})→return{}¶break{}¶break 'a{}§\
-    { a b }→a statement that ends by itself before another→match a{}→a¶a=b¶m!()¶return¶a{}.b¶|a|b§\
-    { a b }→a statement that ends by itself before another→m!{}→m![]¶m!{}.a¶match a{}?§\
     let _ = a else {};→no chain of || or &&→(a||b)→a||b¶a&&b¶a&&b&&c§\
     let _ = a else {};→no brace at the end→(S{})→S{}¶{}¶match a{}¶-{a}¶a+S{}¶m!{}¶return{}¶&S{}§\
     let _ = a else {};→no closure at the end→(|a|b)→|a|b¶a=|b|c¶return|b|c¶-|a|b§\
