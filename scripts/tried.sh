@@ -14,6 +14,6 @@ git clone -q "$(cd "$(dirname "$0")/.." && pwd)" "$1"
 cd "$1"
 mv tried/lay_more_trees crates/
 find crates/lay_more_trees -name '*.rs' | while read -r file; do mv "$file" "${file%.rs}.rt"; done
-echo "lay_more_trees: lay_token lay_node lay_tree lay_files lay_same lay_laws lay_given" >> crates.txt
+echo "lay_more_trees: lay_token lay_node lay_code lay_tree lay_files lay_laws lay_given" >> crates.txt
 cd crates/lay_more_trees
 rt try --test

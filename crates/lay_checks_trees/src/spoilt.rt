@@ -3,7 +3,7 @@
 use crate::made::made;
 use lay_given::{BETWEEN, parts};
 use lay_laws::is_written;
-use lay_same::same;
+use lay_tree::same;
 use std::alloc::Global;
 
 /// Stands between the texts of a row of which each breaks the row's condition.

@@ -19,30 +19,30 @@ use Rattle.lay_node.specs.declared.tokens.MacroCall.{MacroCall}
 use Rattle.lay_node.specs.declared.types.Path.{Path}
 use Rattle.lay_node.specs.declared.types.PathStyle.TheVariants.{Code}
 use Rattle.lay_node.specs.declared.types.Ty.{Ty}
-use Rattle.lay_tree.specs.nodes.Blocks.{attrs_before, block_form, dropped_if, is_plain, stmt_form}
-use Rattle.lay_tree.specs.nodes.Code.{about_arm, about_block, about_branch, about_expr, about_field_expr, about_step, about_stmt}
-use Rattle.lay_tree.specs.nodes.CodeFacts.{BlockFacts, BranchFacts, StmtFacts}
-use Rattle.lay_tree.specs.nodes.Ends.{brace_bits, brace_behind, ends_in_brace, is_brace_kind}
-use Rattle.lay_tree.specs.nodes.Exprs.{ExprFacts, StepFacts, Tail, args_form, arm_forms, bar, base_form, break_if, closure_head, closure_param, condition_form, else_branch_form, end_form, expr_forms, generics_form, group_if, inside, is_brace, is_field, is_method, labelled, methods, more_branches, operands_form, prefix_bits, prefixes_form, steps_form, tail_of_end, tail_of_jump, tail_of_operands, tail_of_steps, targets_form, types_form}
-use Rattle.lay_tree.specs.declared.blocks.Arm.{Arm}
-use Rattle.lay_tree.specs.declared.blocks.Block.{Block}
-use Rattle.lay_tree.specs.declared.blocks.Branch.{Branch}
-use Rattle.lay_tree.specs.declared.blocks.Stmt.{Stmt}
-use Rattle.lay_tree.specs.declared.blocks.Stmt.TheOpen.{Expr-F}
-use Rattle.lay_tree.specs.declared.blocks.Stmt.TheViews as views
-use Rattle.lay_tree.specs.declared.exprs.ClosureParam.{ClosureParam}
-use Rattle.lay_tree.specs.declared.exprs.Expr.{Expr}
-use Rattle.lay_tree.specs.declared.exprs.Expr.TheVariants as expr
-use Rattle.lay_tree.specs.declared.exprs.FieldExpr.{FieldExpr}
-use Rattle.lay_tree.specs.declared.exprs.Step.{Step}
-use Rattle.lay_tree.specs.declared.item.Item.{Item}
-use Rattle.lay_tree.specs.declared.item.ItemKind.{ItemKind}
-use Rattle.lay_tree.specs.declared.operators.Op.{Op}
-use Rattle.lay_tree.specs.declared.operators.Prefix.{Prefix}
-use Rattle.lay_tree.specs.declared.operators.Prefix.TheVariants as prefix
-use Rattle.lay_tree.proofs.nodes.BlocksLaws.{block_is, branch_is}
-use Rattle.lay_tree.proofs.nodes.ExprsLaws as laws
-use Rattle.lay_tree.proofs.reader.ElseEnds.{soft_ends}
+use Rattle.lay_code.specs.nodes.Blocks.{attrs_before, block_form, dropped_if, is_plain, stmt_form}
+use Rattle.lay_code.specs.nodes.Code.{about_arm, about_block, about_branch, about_expr, about_field_expr, about_step, about_stmt}
+use Rattle.lay_code.specs.nodes.CodeFacts.{BlockFacts, BranchFacts, StmtFacts}
+use Rattle.lay_code.specs.nodes.Ends.{brace_bits, brace_behind, ends_in_brace, is_brace_kind}
+use Rattle.lay_code.specs.nodes.Exprs.{ExprFacts, StepFacts, Tail, args_form, arm_forms, bar, base_form, break_if, closure_head, closure_param, condition_form, else_branch_form, end_form, expr_forms, generics_form, group_if, inside, is_brace, is_field, is_method, labelled, methods, more_branches, operands_form, prefix_bits, prefixes_form, steps_form, tail_of_end, tail_of_jump, tail_of_operands, tail_of_steps, targets_form, types_form}
+use Rattle.lay_code.specs.declared.blocks.Arm.{Arm}
+use Rattle.lay_code.specs.declared.blocks.Block.{Block}
+use Rattle.lay_code.specs.declared.blocks.Branch.{Branch}
+use Rattle.lay_code.specs.declared.blocks.Stmt.{Stmt}
+use Rattle.lay_code.specs.declared.blocks.Stmt.TheOpen.{Expr-F}
+use Rattle.lay_code.specs.declared.blocks.Stmt.TheViews as views
+use Rattle.lay_code.specs.declared.exprs.ClosureParam.{ClosureParam}
+use Rattle.lay_code.specs.declared.exprs.Expr.{Expr}
+use Rattle.lay_code.specs.declared.exprs.Expr.TheVariants as expr
+use Rattle.lay_code.specs.declared.exprs.FieldExpr.{FieldExpr}
+use Rattle.lay_code.specs.declared.exprs.Step.{Step}
+use Rattle.lay_code.specs.declared.item.Item.{Item}
+use Rattle.lay_code.specs.declared.item.ItemKind.{ItemKind}
+use Rattle.lay_code.specs.declared.operators.Op.{Op}
+use Rattle.lay_code.specs.declared.operators.Prefix.{Prefix}
+use Rattle.lay_code.specs.declared.operators.Prefix.TheVariants as prefix
+use Rattle.lay_code.proofs.nodes.BlocksLaws.{block_is, branch_is}
+use Rattle.lay_code.proofs.nodes.ExprsLaws as laws
+use Rattle.lay_code.proofs.reader.ElseEnds.{soft_ends}
 use Rattle.lay_ops.proofs.Last.{last, last_is, no_last}
 use Rattle.lay_ends.specs.BraceEnds.{has_block}
 use Rattle.lay_ends.proofs.TypeBraces.{Ends, call_ends, list_ends, path_ends}

@@ -1,19 +1,19 @@
 -- A pair of braces around the body of an arm that isn't in the tree.
 use Rattle.std.proofs.Common.{◌≡◌, ℕ, zero, suc, true, false, List, [], ◌∷◌, ◌++◌, length, map, Some, None, refl, sym, ap, ◌∙◌}
-use Rattle.lay_tree.specs.nodes.Blocks.{is_lone_body}
-use Rattle.lay_tree.specs.nodes.Code.{about_expr}
-use Rattle.lay_tree.specs.nodes.Parts.{block_of, expr_of}
-use Rattle.lay_tree.specs.reader.Blocks.{block_held, bare_by, undressed}
-use Rattle.lay_tree.specs.declared.blocks.Block.{Block}
-use Rattle.lay_tree.specs.declared.blocks.Stmt.{Stmt}
-use Rattle.lay_tree.specs.declared.blocks.Stmt.TheFolds.{fold_out-Block, fold-roll-Expr, fold-roll-Stmt}
-use Rattle.lay_tree.specs.declared.blocks.Stmt.TheFolds as fold
-use Rattle.lay_tree.specs.declared.blocks.Stmt.TheOpen.{Arm-F, Block-F, Branch-F, Expr-F, FieldExpr-F, Item-F, ItemKind-F, Step-F, Stmt-F}
-use Rattle.lay_tree.specs.declared.blocks.Stmt.TheVariants as stmt
-use Rattle.lay_tree.specs.declared.blocks.Stmt.TheViews as views
-use Rattle.lay_tree.specs.declared.exprs.Expr.{Expr}
-use Rattle.lay_tree.specs.declared.exprs.Expr.TheVariants as expr
-use Rattle.lay_tree.proofs.reader.ArmsSoundBodies.{IsAlone, Lone, alone, alone_block, is_alone}
+use Rattle.lay_code.specs.nodes.Blocks.{is_lone_body}
+use Rattle.lay_code.specs.nodes.Code.{about_expr}
+use Rattle.lay_code.specs.nodes.Parts.{block_of, expr_of}
+use Rattle.lay_code.specs.reader.Blocks.{block_held, bare_by, undressed}
+use Rattle.lay_code.specs.declared.blocks.Block.{Block}
+use Rattle.lay_code.specs.declared.blocks.Stmt.{Stmt}
+use Rattle.lay_code.specs.declared.blocks.Stmt.TheFolds.{fold_out-Block, fold-roll-Expr, fold-roll-Stmt}
+use Rattle.lay_code.specs.declared.blocks.Stmt.TheFolds as fold
+use Rattle.lay_code.specs.declared.blocks.Stmt.TheOpen.{Arm-F, Block-F, Branch-F, Expr-F, FieldExpr-F, Item-F, ItemKind-F, Step-F, Stmt-F}
+use Rattle.lay_code.specs.declared.blocks.Stmt.TheVariants as stmt
+use Rattle.lay_code.specs.declared.blocks.Stmt.TheViews as views
+use Rattle.lay_code.specs.declared.exprs.Expr.{Expr}
+use Rattle.lay_code.specs.declared.exprs.Expr.TheVariants as expr
+use Rattle.lay_code.proofs.reader.ArmsSoundBodies.{IsAlone, Lone, alone, alone_block, is_alone}
 
 -- ---- how many blocks stand in one another, the first statement of each being the next
 

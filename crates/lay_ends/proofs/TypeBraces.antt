@@ -34,8 +34,8 @@ use Rattle.lay_node.specs.declared.types.PathStyle.TheVariants.{Kind}
 use Rattle.lay_node.specs.declared.types.Ty.{Ty}
 use Rattle.lay_node.specs.declared.types.Ty.TheVariants as ty
 use Rattle.lay_node.proofs.nodes.TypesLaws as laws
-use Rattle.lay_tree.specs.nodes.Ends.{brace_bits, brace_behind, ends_in_brace}
-use Rattle.lay_tree.specs.nodes.Exprs.{is_brace}
+use Rattle.lay_code.specs.nodes.Ends.{brace_bits, brace_behind, ends_in_brace}
+use Rattle.lay_code.specs.nodes.Exprs.{is_brace}
 use Rattle.lay_ops.proofs.Last.{last, last_is, no_last}
 
 -- What stands before such a form doesn't count.

@@ -1,11 +1,11 @@
 -- The braces around the body of an arm that aren't in the tree, in code.
 use Rattle.std.specs.Prelude.{ℕ, ◌≡◌, false, [], ◌∷◌, Option, Some, None}
-use Rattle.lay_tree.specs.nodes.Blocks.{is_lone_body}
-use Rattle.lay_tree.specs.nodes.Code.{about_expr}
-use Rattle.lay_tree.specs.reader.Blocks.{undressed}
-use Rattle.lay_tree.specs.declared.blocks.Stmt.TheVariants as stmt
-use Rattle.lay_tree.specs.declared.exprs.Expr.{Expr}
-use Rattle.lay_tree.specs.declared.exprs.Expr.TheVariants as expr
+use Rattle.lay_code.specs.nodes.Blocks.{is_lone_body}
+use Rattle.lay_code.specs.nodes.Code.{about_expr}
+use Rattle.lay_code.specs.reader.Blocks.{undressed}
+use Rattle.lay_code.specs.declared.blocks.Stmt.TheVariants as stmt
+use Rattle.lay_code.specs.declared.exprs.Expr.{Expr}
+use Rattle.lay_code.specs.declared.exprs.Expr.TheVariants as expr
 
 -- The expression is a block of this one alone.
 abbrev pub IsAround : Expr → Option Expr → Type 0

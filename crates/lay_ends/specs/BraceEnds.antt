@@ -2,11 +2,11 @@
 use Rattle.std.specs.Prelude.{Bool, true, false, List, [], ◌∷◌, Option, is_some}
 use Rattle.lay_node.specs.nodes.Types.{about_type}
 use Rattle.lay_node.specs.declared.types.Ty.{Ty}
-use Rattle.lay_tree.specs.nodes.Code.{about_expr}
-use Rattle.lay_tree.specs.nodes.Ends.{ends_in_brace}
-use Rattle.lay_tree.specs.declared.blocks.Block.{Block}
-use Rattle.lay_tree.specs.declared.blocks.Branch.{Branch}
-use Rattle.lay_tree.specs.declared.exprs.Expr.{Expr}
+use Rattle.lay_code.specs.nodes.Code.{about_expr}
+use Rattle.lay_code.specs.nodes.Ends.{ends_in_brace}
+use Rattle.lay_code.specs.declared.blocks.Block.{Block}
+use Rattle.lay_code.specs.declared.blocks.Branch.{Branch}
+use Rattle.lay_code.specs.declared.exprs.Expr.{Expr}
 use Rattle.lay_ends.specs.declared.brace_ends.ClosureEdge.{ClosureEdge}
 use Rattle.lay_ends.specs.declared.brace_ends.ClosureEdge.TheVariants as closure_edge
 use Rattle.lay_ends.specs.declared.brace_ends.Edge.{Edge}

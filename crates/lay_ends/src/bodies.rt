@@ -1,11 +1,11 @@
 //! The braces around the body of an arm that aren't in the tree.
 ghost use Rattle.std.specs.Prelude.{ℕ, ◌≡◌, true};
-ghost use Rattle.lay_tree.specs.nodes.Blocks.{is_lone_body};
-ghost use Rattle.lay_tree.specs.nodes.Code.{about_expr};
+ghost use Rattle.lay_code.specs.nodes.Blocks.{is_lone_body};
+ghost use Rattle.lay_code.specs.nodes.Code.{about_expr};
 ghost use Rattle.lay_ends.specs.Bodies.{IsAround, IsBare};
 
+use lay_code::Expr;
 use lay_ops::is_lone_body;
-use lay_tree::Expr;
 
 /// The expression within the braces of one that is a block, which is all that stands there.
 fn held(expr: Expr) -> Option<Expr>

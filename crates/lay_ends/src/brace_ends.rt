@@ -6,16 +6,16 @@ ghost use Rattle.lay_node.specs.declared.types.Bound.{size-Bound};
 ghost use Rattle.lay_node.specs.declared.types.Path.{size-Path};
 ghost use Rattle.lay_node.specs.declared.types.PathStyle.TheVariants.{Code, Kind as OfKind};
 ghost use Rattle.lay_node.specs.declared.types.Ty.{size-Ty};
-ghost use Rattle.lay_tree.specs.nodes.Blocks as nodes;
-ghost use Rattle.lay_tree.specs.nodes.Code.{about_expr};
-ghost use Rattle.lay_tree.specs.nodes.Ends.{ends_in_brace, is_brace_kind};
-ghost use Rattle.lay_tree.specs.nodes.Exprs.{is_brace};
-ghost use Rattle.lay_tree.specs.declared.exprs.Expr.{size-Expr};
+ghost use Rattle.lay_code.specs.nodes.Blocks as nodes;
+ghost use Rattle.lay_code.specs.nodes.Code.{about_expr};
+ghost use Rattle.lay_code.specs.nodes.Ends.{ends_in_brace, is_brace_kind};
+ghost use Rattle.lay_code.specs.nodes.Exprs.{is_brace};
+ghost use Rattle.lay_code.specs.declared.exprs.Expr.{size-Expr};
 ghost use Rattle.lay_ends.specs.BraceEnds.{IfOperand, IfPart, IfType, braces, closes, ends_type, has_block};
 
+use lay_code::{Args, Block, Bound, Branch, Expr, Path, Ty};
 use lay_ops::level;
 use lay_token::{Delim, Kind};
-use lay_tree::{Args, Block, Bound, Branch, Expr, Path, Ty};
 
 /// What a type ends in.
 #[derive(Clone, Copy)]

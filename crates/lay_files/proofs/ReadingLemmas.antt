@@ -10,8 +10,8 @@ use Rattle.lay_text.specs.declared.refusal.Refusal.{Refusal}
 use Rattle.lay_text.specs.declared.refusal.Refusal.TheVariants.{NotUtf8, NoToken, Unbalanced, NoItem}
 use Rattle.lay_text.specs.declared.refusal.FormatError.{FormatError}
 use Rattle.lay_text.specs.declared.refusal.FormatError.TheVariants as error
-use Rattle.lay_tree.specs.Reading.{NoItemAt, Reads, IsRefused, SpellsFile}
-use Rattle.lay_tree.specs.declared.file.File.{File}
+use Rattle.lay_code.specs.Reading.{NoItemAt, Reads, IsRefused, SpellsFile}
+use Rattle.lay_code.specs.declared.file.File.{File}
 use Rattle.lay_reparse.proofs.file.OneAnswer.{one_file}
 use Rattle.lay_read_code.specs.Answers.{FileAs}
 use Rattle.lay_lex.specs.Lexer.{LexedAs}

@@ -5,8 +5,8 @@ use Rattle.lay_layout.specs.Document.{stream}
 use Rattle.lay_layout.proofs.Render.{text_stream}
 use Rattle.lay_io.specs.Faults.{Rose, SameLoan}
 use Rattle.lay_io.specs.Told.{GrewBy, GrewByPrefix}
-use Rattle.lay_tree.specs.Out.{layout_of_file, out}
-use Rattle.lay_tree.specs.declared.file.File.{File}
+use Rattle.lay_code.specs.Out.{layout_of_file, out}
+use Rattle.lay_code.specs.declared.file.File.{File}
 use Rattle.lay_printer.proofs.Through.{Printed, printed_along}
 use Rattle.lay_printer.specs.Printers.{lent_sink, press_loans}
 use Rattle.lay_printer.specs.declared.engine.PrintError.{PrintError}

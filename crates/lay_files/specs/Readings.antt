@@ -3,8 +3,8 @@ use Rattle.std.specs.Prelude.{ℕ, ◌≡◌, List, Result, Ok, Err}
 use Rattle.lay_text.specs.declared.refusal.FormatError.{FormatError}
 use Rattle.lay_text.specs.declared.refusal.FormatError.TheVariants as format
 use Rattle.lay_token.specs.Place.{place_of}
-use Rattle.lay_tree.specs.Reading.{Reads, IsRefused}
-use Rattle.lay_tree.specs.declared.file.File.{File}
+use Rattle.lay_code.specs.Reading.{Reads, IsRefused}
+use Rattle.lay_code.specs.declared.file.File.{File}
 use Rattle.lay_files.specs.Places.{number_of, place_in}
 use Rattle.lay_files.specs.declared.reading.FileError.{FileError}
 use Rattle.lay_files.specs.declared.reading.FileError.TheVariants.{Refused, NoMemory}

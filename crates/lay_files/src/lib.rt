@@ -2,7 +2,7 @@
 //!
 //! [`read_bytes`] gives the one file that bytes read to, or their refusal and its place. [`write_file`] writes the text of
 //! a file's layout to a sink, and [`text_of`] gives it as one text. Which bytes read to which file, and what a file's text
-//! is, is defined in `lay_tree`.
+//! is, is defined in `lay_code`.
 #![tactic(auto)]
 
 mod keep;

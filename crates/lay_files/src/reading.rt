@@ -3,10 +3,10 @@ ghost use Rattle.std.specs.Prelude.{◌≡◌};
 ghost use Rattle.lay_files.specs.Places.{number_of};
 ghost use Rattle.lay_files.specs.Readings.{ReadAs, placed_in};
 
+use lay_code::File;
 use lay_lex::{lex, normalise};
 use lay_nest::nest;
 use lay_token::{FormatError, Place2, Refusal, place_of};
-use lay_tree::File;
 use std::alloc::Global;
 
 /// Why bytes read to no file.

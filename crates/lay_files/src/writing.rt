@@ -2,14 +2,14 @@
 ghost use Rattle.std.specs.Prelude.{◌≡◌, ◌≤◌, IfOk, OnOk, OnErr, IsErrOf};
 ghost use Rattle.lay_io.specs.Faults.{Rose, SameLoan};
 ghost use Rattle.lay_io.specs.Told.{GrewBy, GrewByPrefix};
-ghost use Rattle.lay_tree.specs.Out.{out as text_of_file};
+ghost use Rattle.lay_code.specs.Out.{out as text_of_file};
 
 use crate::keep::Keeper;
+use lay_code::File;
 use lay_io::Sink;
 use lay_out_code::put_file;
 use lay_printer::{Core, Press, PrintError};
 use lay_token::{NoMemory, Text};
-use lay_tree::File;
 use std::alloc::Global;
 
 /// The text of a file.

@@ -4,7 +4,7 @@
 //! follow the tokens that spell the node at a depth (`Spelled`), its document (`Layout`) and the stream that a printer is
 //! fed (`Stream`), the depth that it needs (`Depth`), and whether its tokens are pieces of their kinds (`Pieces`).
 //! `Notation` builds lists, bodies, fields and braces of forms, and `LastParts` says what may follow a last part that may
-//! be left out. A form knows nothing of trees: each node has its form in `lay_node` or `lay_tree`. [`form_law`] says
+//! be left out. A form knows nothing of trees: each node has its form in `lay_node` or `lay_code`. [`form_law`] says
 //! what holds of all of them.
 #![tactic(auto)]
 

@@ -3,10 +3,10 @@ use Rattle.std.proofs.Common.{◌≡◌, ◌⊎◌, inl, inr, ℕ, List, Result,
 use Rattle.lay_text.specs.declared.refusal.FormatError.{FormatError}
 use Rattle.lay_text.specs.declared.refusal.FormatError.TheVariants as error
 use Rattle.lay_text.specs.declared.refusal.Refusal.{Refusal}
-use Rattle.lay_tree.specs.Out.{out}
-use Rattle.lay_tree.specs.Reading.{IsRefused, Reads, top}
-use Rattle.lay_tree.specs.Written.{Written}
-use Rattle.lay_tree.specs.declared.file.File.{File}
+use Rattle.lay_code.specs.Out.{out}
+use Rattle.lay_code.specs.Reading.{IsRefused, Reads, top}
+use Rattle.lay_code.specs.Written.{Written}
+use Rattle.lay_code.specs.declared.file.File.{File}
 use Rattle.lay_reparse.proofs.file.OneAnswer.{one_file, one_refusal, never_both}
 use Rattle.lay_reparse.proofs.file.Reparse.{again, out_reads}
 use Rattle.lay_reparse.specs.Reparse.{IsSpelled}

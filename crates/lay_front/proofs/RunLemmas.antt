@@ -6,9 +6,9 @@ use Rattle.lay_io.specs.declared.outside.Which.{Which}
 use Rattle.lay_line.specs.declared.lines.Line.{Line}
 use Rattle.lay_line.specs.declared.lines.Line.TheVariants as line
 use Rattle.lay_text.specs.declared.refusal.Refusal.{Refusal}
-use Rattle.lay_tree.specs.Out.{out}
-use Rattle.lay_tree.specs.Reading.{Reads, IsRefused}
-use Rattle.lay_tree.specs.declared.file.File.{File}
+use Rattle.lay_code.specs.Out.{out}
+use Rattle.lay_code.specs.Reading.{Reads, IsRefused}
+use Rattle.lay_code.specs.declared.file.File.{File}
 use Rattle.lay_reparse.proofs.file.OneAnswer.{one_refusal, never_both}
 use Rattle.lay_front.proofs.OutcomeLemmas.{wrote, told_as, complete_refused}
 use Rattle.lay_sample.specs.Sample.{sample_text}

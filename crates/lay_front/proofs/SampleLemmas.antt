@@ -4,9 +4,9 @@ use Rattle.std.specs.Fmt.{decimal}
 use Rattle.lay_io.specs.Faults.{Rose}
 use Rattle.lay_io.specs.Told.{GrewBy}
 use Rattle.lay_text.specs.declared.refusal.Refusal.{Refusal}
-use Rattle.lay_tree.specs.Out.{out}
-use Rattle.lay_tree.specs.Reading.{Reads, IsRefused}
-use Rattle.lay_tree.specs.declared.file.File.{File}
+use Rattle.lay_code.specs.Out.{out}
+use Rattle.lay_code.specs.Reading.{Reads, IsRefused}
+use Rattle.lay_code.specs.declared.file.File.{File}
 use Rattle.lay_reparse.proofs.file.OneAnswer.{one_refusal, never_both}
 use Rattle.lay_front.specs.Outcome.{SampleRun}
 use Rattle.lay_front.specs.Summary.{summary}

@@ -6,8 +6,8 @@ use Rattle.lay_io.specs.declared.outside.Which.{Which}
 use Rattle.lay_line.specs.declared.lines.Line.{Line}
 use Rattle.lay_line.specs.declared.lines.Line.TheVariants as line
 use Rattle.lay_sample.specs.Sample.{sample_text}
-use Rattle.lay_tree.specs.Reading.{IsRefused}
-use Rattle.lay_tree.specs.declared.file.File.{File}
+use Rattle.lay_code.specs.Reading.{IsRefused}
+use Rattle.lay_code.specs.declared.file.File.{File}
 use Rattle.lay_files.specs.Places.{place_in}
 use Rattle.lay_front.specs.Outcome.{WasRead}
 use Rattle.lay_files.specs.Readings.{ReadsOnlyTo}

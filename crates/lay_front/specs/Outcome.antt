@@ -8,11 +8,11 @@ use Rattle.lay_line.specs.declared.lines.Line.TheVariants as line
 use Rattle.lay_text.specs.declared.refusal.FormatError.{FormatError}
 use Rattle.lay_text.specs.declared.refusal.FormatError.TheVariants as error
 use Rattle.lay_sample.specs.Sample.{sample_text}
-use Rattle.lay_tree.specs.Reading.{IsRefused}
+use Rattle.lay_code.specs.Reading.{IsRefused}
 use Rattle.lay_files.specs.Readings.{ReadsOnlyTo}
 use Rattle.lay_front.specs.Summary.{summary}
-use Rattle.lay_tree.specs.Out.{out}
-use Rattle.lay_tree.specs.declared.file.File.{File}
+use Rattle.lay_code.specs.Out.{out}
+use Rattle.lay_code.specs.declared.file.File.{File}
 use Rattle.lay_front.specs.declared.formatting.IntoError.{IntoError}
 use Rattle.lay_front.specs.declared.formatting.IntoError.TheVariants as into
 use Rattle.lay_front.specs.declared.command.Status.{Status}

@@ -6,26 +6,26 @@ ghost use Rattle.lay_io.specs.declared.outside.Which.{Which};
 ghost use Rattle.lay_line.specs.Line.{line_of};
 ghost use Rattle.lay_line.specs.declared.lines.Line.TheVariants as line;
 ghost use Rattle.lay_text.specs.declared.refusal.Refusal.{Refusal};
-ghost use Rattle.lay_tree.specs.Out.{out as text_of_file};
-ghost use Rattle.lay_tree.specs.Reading.{IsRefused, Reads};
+ghost use Rattle.lay_code.specs.Out.{out as text_of_file};
+ghost use Rattle.lay_code.specs.Reading.{IsRefused, Reads};
 ghost use Rattle.lay_front.specs.Inputs.{InputAs, IsPlaced, given_to, input_of};
 ghost use Rattle.lay_front.specs.Messages.{Says};
 ghost use Rattle.lay_front.specs.Outcome.{CheckRun, FormatRun, LineRun, SampleRun};
 ghost use Rattle.lay_front.specs.Stops.{status_of};
 ghost use Rattle.lay_front.specs.Summary.{summary};
 ghost use Rattle.lay_sample.specs.Sample.{sample_text};
-ghost use Rattle.lay_tree.specs.declared.file.File.{File};
+ghost use Rattle.lay_code.specs.declared.file.File.{File};
 
 use crate::compare::is_text;
 use crate::messages::tell;
 use crate::samples::sum_up_sample;
 use crate::stop::Stop;
+use lay_code::File;
 use lay_files::{FileError, read_bytes, write_file};
 use lay_io::{Inputs, ReadError, Sink, Which, read_all};
 use lay_line::{Line, line};
 use lay_printer::PrintError;
 use lay_token::{List, NoMemory, Refusal, Text};
-use lay_tree::File;
 use std::alloc::Global;
 
 /// How a run comes out.

@@ -1,13 +1,13 @@
 //! A text against the bytes that are expected of it.
 ghost use Rattle.std.specs.Prelude.{◌≡◌, ◌≢◌, ◌<◌, ◌≤◌, ◌↔◌, [], length, take, slice_get, slice_index, IfOk, IsTrue, Some};
 ghost use Rattle.std.specs.Option.{ForSome, ForNone};
-ghost use Rattle.lay_tree.specs.Out.{out as text_of_file};
+ghost use Rattle.lay_code.specs.Out.{out as text_of_file};
 
+use lay_code::File;
 use lay_files::write_file;
 use lay_io::{Failed, Sink};
 use lay_printer::PrintError;
 use lay_token::{List, NoMemory};
-use lay_tree::File;
 use std::alloc::Global;
 
 /// Whether the text of a file is these bytes. The text isn't kept: it is compared as it is made, and no more of it is

@@ -3,18 +3,18 @@ ghost use Rattle.std.specs.Prelude.{◌≡◌, ◌≤◌, ◌⊎◌, ℕ, List a
 ghost use Rattle.lay_io.specs.Faults.{Rose, SameLoan};
 ghost use Rattle.lay_io.specs.Told.{GrewBy};
 ghost use Rattle.lay_text.specs.declared.refusal.Refusal.{Refusal};
-ghost use Rattle.lay_tree.specs.Out.{out as text_of_file};
-ghost use Rattle.lay_tree.specs.Reading.{IsRefused, Reads, top};
-ghost use Rattle.lay_tree.specs.Written.{Written};
+ghost use Rattle.lay_code.specs.Out.{out as text_of_file};
+ghost use Rattle.lay_code.specs.Reading.{IsRefused, Reads, top};
+ghost use Rattle.lay_code.specs.Written.{Written};
 ghost use Rattle.lay_reparse.specs.Reparse.{IsSpelled};
-ghost use Rattle.lay_tree.specs.declared.file.File.{File};
+ghost use Rattle.lay_code.specs.declared.file.File.{File};
 ghost use Rattle.lay_front.specs.Outcome.{Formats, FormatsTo};
 
+use lay_code::File;
 use lay_files::{FileError, read_bytes, text_of, write_file};
 use lay_io::Sink;
 use lay_printer::PrintError;
 use lay_token::{FormatError, NoMemory, Refusal, Text};
-use lay_tree::File;
 use std::alloc::Global;
 
 /// Why a text wasn't written whole.

@@ -3,7 +3,7 @@
 //! [`run`] is the command. It reads an input of at most 16 MiB, reads it to the one tree that it spells, and
 //! writes the text of the tree's layout; or it refuses the input and writes nothing. [`format`] and [`format_into`] do so
 //! of bytes, and [`unparse`] gives the text of a tree. Which bytes read to which
-//! file, and what a file's text is, is defined in `lay_tree`; `specs/` says what each status tells (`Outcome`).
+//! file, and what a file's text is, is defined in `lay_code`; `specs/` says what each status tells (`Outcome`).
 #![tactic(auto)]
 
 pub mod command;

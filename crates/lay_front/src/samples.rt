@@ -4,7 +4,7 @@ ghost use Rattle.std.specs.Fmt.{decimal};
 ghost use Rattle.lay_count.specs.Counting.{lines_of, longest_line};
 ghost use Rattle.lay_io.specs.Faults.{SameLoan};
 ghost use Rattle.lay_sample.specs.Sample.{sample_text};
-ghost use Rattle.lay_tree.specs.Out.{out as text_of_file};
+ghost use Rattle.lay_code.specs.Out.{out as text_of_file};
 ghost use Rattle.lay_front.specs.Inputs.{IsPlaced};
 ghost use Rattle.lay_front.specs.Outcome.{SampleRun};
 ghost use Rattle.lay_front.specs.Stops.{status_of};
@@ -12,12 +12,12 @@ ghost use Rattle.lay_front.specs.Summary.{summary};
 
 use crate::stop::Stop;
 use itoa::Buffer;
+use lay_code::File;
 use lay_count::{Counter, Counts};
 use lay_files::{FileError, read_bytes, write_file};
 use lay_io::{Failed, Sink};
 use lay_sample::sample;
 use lay_token::{NoMemory, Text};
-use lay_tree::File;
 use std::alloc::Global;
 
 /// Makes the sample of a seed and so many items, formats it, and writes the line that sums it up. The text isn't kept: it

@@ -12,13 +12,13 @@ use Rattle.lay_node.proofs.reader.Loops.{SoundStep}
 use Rattle.lay_node.proofs.reader.TypesCompleteKinds.{inner_of}
 use Rattle.lay_node.proofs.reader.TypesSound.{counted_sound}
 use Rattle.lay_node.proofs.reader.TypesSoundParts.{Out}
-use Rattle.lay_tree.specs.reader.Code.{code_in}
-use Rattle.lay_tree.specs.reader.Within.{ExprWithin}
-use Rattle.lay_tree.proofs.reader.CodeComplete.{code_reads}
-use Rattle.lay_tree.proofs.reader.CodeSound.{code_sound}
-use Rattle.lay_tree.proofs.reader.ExprReads.{ExprReads}
-use Rattle.lay_tree.proofs.reader.ExprSoundLevel.{SoundExprWithin}
-use Rattle.lay_tree.proofs.reader.FrontsHeld.{fronts}
+use Rattle.lay_code.specs.reader.Code.{code_in}
+use Rattle.lay_code.specs.reader.Within.{ExprWithin}
+use Rattle.lay_code.proofs.reader.CodeComplete.{code_reads}
+use Rattle.lay_code.proofs.reader.CodeSound.{code_sound}
+use Rattle.lay_code.proofs.reader.ExprReads.{ExprReads}
+use Rattle.lay_code.proofs.reader.ExprSoundLevel.{SoundExprWithin}
+use Rattle.lay_code.proofs.reader.FrontsHeld.{fronts}
 use Rattle.lay_fronts.specs.Fronts.{alone}
 
 -- What is read stands there, wherever what is within it is.

@@ -26,23 +26,23 @@ use Rattle.lay_node.proofs.reader.Exact.{IsRead}
 use Rattle.lay_node.proofs.reader.PatternsFronts.{Fits}
 use Rattle.lay_node.proofs.reader.TypesCompleteParts.{keyword_there, one_left}
 use Rattle.lay_node.proofs.reader.TypesSoundParts.{Out, bit_texts, if_read_sound}
-use Rattle.lay_tree.specs.Operators.{is_dot_or_try}
-use Rattle.lay_tree.specs.nodes.Blocks.{braces_of, guard_form, is_free, is_lone_body}
-use Rattle.lay_tree.specs.nodes.Code.{about_arm, about_expr}
-use Rattle.lay_tree.specs.nodes.CodeFacts.{ArmFacts}
-use Rattle.lay_tree.specs.nodes.Exprs.{ExprFacts, follows, is_macro, placed, value_placed}
-use Rattle.lay_tree.specs.nodes.Places.{FREE, statement}
-use Rattle.lay_tree.specs.reader.Blocks.{arm_body, arm_by, arm_end, body_need, undressed}
-use Rattle.lay_tree.specs.reader.Within.{ExprWithin}
-use Rattle.lay_tree.specs.declared.blocks.Arm.{Arm}
-use Rattle.lay_tree.specs.declared.exprs.Expr.{Expr}
-use Rattle.lay_tree.proofs.nodes.BlocksLaws.{arm_is}
-use Rattle.lay_tree.proofs.reader.ArmsSoundBodies.{Peeled, is_alone, peel}
-use Rattle.lay_tree.proofs.reader.ExprQuiet.{comma_ends_expr, ends_follow}
-use Rattle.lay_tree.proofs.reader.ExprReads.{ExprReads}
-use Rattle.lay_tree.proofs.reader.ExprSoundLevel.{SoundExprWithin}
-use Rattle.lay_tree.proofs.reader.FrontsHeld.{fronts}
-use Rattle.lay_tree.proofs.reader.PatternEnds.{arrow_follows, if_follows}
+use Rattle.lay_code.specs.Operators.{is_dot_or_try}
+use Rattle.lay_code.specs.nodes.Blocks.{braces_of, guard_form, is_free, is_lone_body}
+use Rattle.lay_code.specs.nodes.Code.{about_arm, about_expr}
+use Rattle.lay_code.specs.nodes.CodeFacts.{ArmFacts}
+use Rattle.lay_code.specs.nodes.Exprs.{ExprFacts, follows, is_macro, placed, value_placed}
+use Rattle.lay_code.specs.nodes.Places.{FREE, statement}
+use Rattle.lay_code.specs.reader.Blocks.{arm_body, arm_by, arm_end, body_need, undressed}
+use Rattle.lay_code.specs.reader.Within.{ExprWithin}
+use Rattle.lay_code.specs.declared.blocks.Arm.{Arm}
+use Rattle.lay_code.specs.declared.exprs.Expr.{Expr}
+use Rattle.lay_code.proofs.nodes.BlocksLaws.{arm_is}
+use Rattle.lay_code.proofs.reader.ArmsSoundBodies.{Peeled, is_alone, peel}
+use Rattle.lay_code.proofs.reader.ExprQuiet.{comma_ends_expr, ends_follow}
+use Rattle.lay_code.proofs.reader.ExprReads.{ExprReads}
+use Rattle.lay_code.proofs.reader.ExprSoundLevel.{SoundExprWithin}
+use Rattle.lay_code.proofs.reader.FrontsHeld.{fronts}
+use Rattle.lay_code.proofs.reader.PatternEnds.{arrow_follows, if_follows}
 use Rattle.lay_fronts.specs.ArmFronts.{alone_end, arm_alone, arm_begun, arm_follows, arm_shape, body_begun, in_braces, levels}
 use Rattle.lay_fronts.proofs.ArmBlocks.{alone_follows, alone_is_free, alone_is_lone, braced_no_macro, dress, dressed, dressed_no_macro, dressed_placed, lone_no_dot, opens_take, undress_dressed}
 use Rattle.lay_fronts.proofs.ArmShapes.{ShapeParts, Within, braces_spelled, levels_spelled, shape_parts}

@@ -9,20 +9,20 @@ use Rattle.lay_form.specs.Spelled.{IsOne, AnySemicolons, Closes, MayBrace, Opens
 use Rattle.lay_node.specs.Ahead.{Tokens}
 use Rattle.lay_node.proofs.Fronts.{one_shorter}
 use Rattle.lay_node.proofs.Parts.{Rows, SpelledAt, Closed, bit_alone, body_spelled}
-use Rattle.lay_tree.specs.Operators.{is_dot_or_try}
-use Rattle.lay_tree.specs.nodes.Blocks.{block_facts, braces_of, dropped, is_free, is_lone_body, stmt_facts}
-use Rattle.lay_tree.specs.nodes.Code.{about_expr}
-use Rattle.lay_tree.specs.nodes.CodeFacts.{BlockFacts, StmtFacts}
-use Rattle.lay_tree.specs.nodes.Exprs.{BodyKind, MacroBody, BlockBody, OtherBody, ExprFacts, expr_facts, follows, is_macro, placed}
-use Rattle.lay_tree.specs.nodes.Places.{statement}
-use Rattle.lay_tree.specs.reader.Blocks.{undressed}
-use Rattle.lay_tree.specs.declared.blocks.Stmt.TheOpen.{Expr-F, Stmt-F}
-use Rattle.lay_tree.specs.declared.blocks.Stmt.TheViews as views
-use Rattle.lay_tree.specs.declared.exprs.Expr.{Expr}
-use Rattle.lay_tree.proofs.nodes.BlocksLaws.{block_is, stmt_expr_is}
-use Rattle.lay_tree.proofs.nodes.ExprsLaws.{expr_block_is}
-use Rattle.lay_tree.proofs.reader.ArmsSoundBodies.{IsAlone, Lone, alone, alone_block}
-use Rattle.lay_tree.proofs.reader.BlocksComplete.{semicolons_less}
+use Rattle.lay_code.specs.Operators.{is_dot_or_try}
+use Rattle.lay_code.specs.nodes.Blocks.{block_facts, braces_of, dropped, is_free, is_lone_body, stmt_facts}
+use Rattle.lay_code.specs.nodes.Code.{about_expr}
+use Rattle.lay_code.specs.nodes.CodeFacts.{BlockFacts, StmtFacts}
+use Rattle.lay_code.specs.nodes.Exprs.{BodyKind, MacroBody, BlockBody, OtherBody, ExprFacts, expr_facts, follows, is_macro, placed}
+use Rattle.lay_code.specs.nodes.Places.{statement}
+use Rattle.lay_code.specs.reader.Blocks.{undressed}
+use Rattle.lay_code.specs.declared.blocks.Stmt.TheOpen.{Expr-F, Stmt-F}
+use Rattle.lay_code.specs.declared.blocks.Stmt.TheViews as views
+use Rattle.lay_code.specs.declared.exprs.Expr.{Expr}
+use Rattle.lay_code.proofs.nodes.BlocksLaws.{block_is, stmt_expr_is}
+use Rattle.lay_code.proofs.nodes.ExprsLaws.{expr_block_is}
+use Rattle.lay_code.proofs.reader.ArmsSoundBodies.{IsAlone, Lone, alone, alone_block}
+use Rattle.lay_code.proofs.reader.BlocksComplete.{semicolons_less}
 use Rattle.lay_fronts.proofs.ArmShapes.{closes_split}
 
 abbrev pub dress : ℕ → Expr → Expr

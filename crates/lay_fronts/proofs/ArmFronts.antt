@@ -12,15 +12,15 @@ use Rattle.lay_node.proofs.Steps.{bind_some, chosen, same_some}
 use Rattle.lay_node.proofs.reader.Exact.{IsRead, one_by_reading}
 use Rattle.lay_node.proofs.reader.TypesCompleteKinds.{inner_of}
 use Rattle.lay_node.proofs.reader.TypesSoundParts.{Out, bit_texts}
-use Rattle.lay_tree.specs.nodes.Blocks.{braces_of}
-use Rattle.lay_tree.specs.nodes.Code.{about_arm, about_expr}
-use Rattle.lay_tree.specs.reader.Code.{code_in}
-use Rattle.lay_tree.specs.reader.Within.{ExprWithin}
-use Rattle.lay_tree.specs.declared.blocks.Arm.{Arm}
-use Rattle.lay_tree.proofs.reader.CodeComplete.{code_reads}
-use Rattle.lay_tree.proofs.reader.CodeSound.{code_sound}
-use Rattle.lay_tree.proofs.reader.ExprSoundLevel.{SoundExprWithin}
-use Rattle.lay_tree.proofs.reader.FrontsHeld.{fronts}
+use Rattle.lay_code.specs.nodes.Blocks.{braces_of}
+use Rattle.lay_code.specs.nodes.Code.{about_arm, about_expr}
+use Rattle.lay_code.specs.reader.Code.{code_in}
+use Rattle.lay_code.specs.reader.Within.{ExprWithin}
+use Rattle.lay_code.specs.declared.blocks.Arm.{Arm}
+use Rattle.lay_code.proofs.reader.CodeComplete.{code_reads}
+use Rattle.lay_code.proofs.reader.CodeSound.{code_sound}
+use Rattle.lay_code.proofs.reader.ExprSoundLevel.{SoundExprWithin}
+use Rattle.lay_code.proofs.reader.FrontsHeld.{fronts}
 use Rattle.lay_fronts.specs.ArmFronts.{ArmFront, alone_arm, alone_end, arm_alone, arm_begun, arm_follows, arm_shape}
 use Rattle.lay_fronts.proofs.ArmBegun.{arm_alone_read, arm_begun_sound}
 

@@ -14,14 +14,14 @@ use Rattle.lay_node.proofs.Parts.{Closed, before_blank, behind_attrs_rows, behin
 use Rattle.lay_node.proofs.reader.Attr.{attrs_rows}
 use Rattle.lay_node.proofs.reader.AttrRead.{attributes_complete}
 use Rattle.lay_node.proofs.reader.TypesCompleteKinds.{inner_of}
-use Rattle.lay_tree.specs.nodes.Blocks.{guard_form, is_lone_body}
-use Rattle.lay_tree.specs.nodes.Code.{about_arm, about_expr}
-use Rattle.lay_tree.specs.nodes.CodeFacts.{ArmFacts}
-use Rattle.lay_tree.specs.nodes.Exprs.{placed, value_placed}
-use Rattle.lay_tree.specs.nodes.Places.{statement}
-use Rattle.lay_tree.specs.declared.blocks.Arm.{Arm}
-use Rattle.lay_tree.proofs.nodes.BlocksLaws.{arm_is}
-use Rattle.lay_tree.proofs.reader.FrontsHeld.{fronts}
+use Rattle.lay_code.specs.nodes.Blocks.{guard_form, is_lone_body}
+use Rattle.lay_code.specs.nodes.Code.{about_arm, about_expr}
+use Rattle.lay_code.specs.nodes.CodeFacts.{ArmFacts}
+use Rattle.lay_code.specs.nodes.Exprs.{placed, value_placed}
+use Rattle.lay_code.specs.nodes.Places.{statement}
+use Rattle.lay_code.specs.declared.blocks.Arm.{Arm}
+use Rattle.lay_code.proofs.nodes.BlocksLaws.{arm_is}
+use Rattle.lay_code.proofs.reader.FrontsHeld.{fronts}
 use Rattle.lay_fronts.specs.ArmFronts.{arm_shape, in_braces, levels}
 
 -- ---- some levels deeper

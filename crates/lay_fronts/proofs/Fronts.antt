@@ -3,12 +3,12 @@ use Rattle.std.proofs.Common.{◌≡◌, ℕ, false, refl}
 use Rattle.lay_node.specs.Ahead.{Tokens}
 use Rattle.lay_node.specs.reader.Exact.{Exact}
 use Rattle.lay_node.proofs.reader.Exact.{one_by_reading}
-use Rattle.lay_tree.specs.reader.Blocks.{block_by}
-use Rattle.lay_tree.specs.declared.blocks.Block.{Block}
-use Rattle.lay_tree.specs.declared.blocks.Stmt.{Stmt}
-use Rattle.lay_tree.proofs.reader.BlocksComplete.{block_form_read}
-use Rattle.lay_tree.proofs.reader.BlocksSoundWhole.{block_sound}
-use Rattle.lay_tree.proofs.reader.FrontsHeld.{fronts}
+use Rattle.lay_code.specs.reader.Blocks.{block_by}
+use Rattle.lay_code.specs.declared.blocks.Block.{Block}
+use Rattle.lay_code.specs.declared.blocks.Stmt.{Stmt}
+use Rattle.lay_code.proofs.reader.BlocksComplete.{block_form_read}
+use Rattle.lay_code.proofs.reader.BlocksSoundWhole.{block_sound}
+use Rattle.lay_code.proofs.reader.FrontsHeld.{fronts}
 use Rattle.lay_fronts.specs.Fronts.{BlockFront, StmtFront, alone, block_told, stmt_alone, stmt_told}
 use Rattle.lay_fronts.proofs.Alone.{CompleteNode, SoundNode, alone_exact}
 use Rattle.lay_fronts.proofs.StmtAlone.{stmt_alone_read, stmt_alone_sound}

@@ -20,23 +20,23 @@ use Rattle.lay_node.proofs.reader.AttrRead.{attributes_complete}
 use Rattle.lay_node.proofs.reader.Exact.{IsRead}
 use Rattle.lay_node.proofs.reader.HeadsLevel.{Stood}
 use Rattle.lay_node.proofs.reader.TypesSoundParts.{Out}
-use Rattle.lay_tree.specs.nodes.Code.{about_expr, about_stmt, told_of_item}
-use Rattle.lay_tree.specs.nodes.CodeFacts.{StmtFacts}
-use Rattle.lay_tree.specs.nodes.Exprs.{follows}
-use Rattle.lay_tree.specs.nodes.Places.{FREE, statement}
-use Rattle.lay_tree.specs.reader.Blocks.{begins_item, else_stands, expr_stmt, item_stmt, let_stmt, stmt_by}
-use Rattle.lay_tree.specs.reader.Within.{ExprWithin}
-use Rattle.lay_tree.specs.declared.blocks.Stmt.{Stmt}
-use Rattle.lay_tree.specs.declared.blocks.Stmt.TheVariants as stmt
-use Rattle.lay_tree.specs.declared.exprs.Expr.{Expr}
-use Rattle.lay_tree.proofs.nodes.BlocksLaws.{IsExpr, IsItem, IsLet, StmtView, stmt_expr_is, stmt_item_is, stmt_let_is, stmt_view}
-use Rattle.lay_tree.proofs.reader.BlockFronts.{expr_parts}
-use Rattle.lay_tree.proofs.reader.BlockReads.{NoItem}
-use Rattle.lay_tree.proofs.reader.BlocksSound.{stmt_sound}
-use Rattle.lay_tree.proofs.reader.ExprReads.{ExprReads}
-use Rattle.lay_tree.proofs.reader.ExprSoundLevel.{SoundExprWithin}
-use Rattle.lay_tree.proofs.reader.FrontsHeld.{fronts}
-use Rattle.lay_tree.proofs.reader.StmtsComplete.{ends_by_itself, stmt_read}
+use Rattle.lay_code.specs.nodes.Code.{about_expr, about_stmt, told_of_item}
+use Rattle.lay_code.specs.nodes.CodeFacts.{StmtFacts}
+use Rattle.lay_code.specs.nodes.Exprs.{follows}
+use Rattle.lay_code.specs.nodes.Places.{FREE, statement}
+use Rattle.lay_code.specs.reader.Blocks.{begins_item, else_stands, expr_stmt, item_stmt, let_stmt, stmt_by}
+use Rattle.lay_code.specs.reader.Within.{ExprWithin}
+use Rattle.lay_code.specs.declared.blocks.Stmt.{Stmt}
+use Rattle.lay_code.specs.declared.blocks.Stmt.TheVariants as stmt
+use Rattle.lay_code.specs.declared.exprs.Expr.{Expr}
+use Rattle.lay_code.proofs.nodes.BlocksLaws.{IsExpr, IsItem, IsLet, StmtView, stmt_expr_is, stmt_item_is, stmt_let_is, stmt_view}
+use Rattle.lay_code.proofs.reader.BlockFronts.{expr_parts}
+use Rattle.lay_code.proofs.reader.BlockReads.{NoItem}
+use Rattle.lay_code.proofs.reader.BlocksSound.{stmt_sound}
+use Rattle.lay_code.proofs.reader.ExprReads.{ExprReads}
+use Rattle.lay_code.proofs.reader.ExprSoundLevel.{SoundExprWithin}
+use Rattle.lay_code.proofs.reader.FrontsHeld.{fronts}
+use Rattle.lay_code.proofs.reader.StmtsComplete.{ends_by_itself, stmt_read}
 use Rattle.lay_fronts.specs.Fronts.{stmt_alone, stmt_follows, stmt_told}
 use Rattle.lay_fronts.proofs.Alone.{CompleteNode, SoundNode}
 

@@ -12,16 +12,16 @@ use Rattle.lay_node.specs.reader.Attr.{attributes}
 use Rattle.lay_node.specs.reader.Loops.{Read, ◌>>=◌}
 use Rattle.lay_node.specs.reader.Types.{if_read}
 use Rattle.lay_node.specs.declared.patterns.PatPlace.TheVariants.{Alternatives}
-use Rattle.lay_tree.specs.Operators.{is_dot_or_try}
-use Rattle.lay_tree.specs.nodes.Blocks.{braces_of, guard_form, is_free, is_lone_body}
-use Rattle.lay_tree.specs.nodes.Code.{about_arm, about_expr}
-use Rattle.lay_tree.specs.nodes.Exprs.{ExprFacts, follows}
-use Rattle.lay_tree.specs.nodes.Places.{FREE, statement}
-use Rattle.lay_tree.specs.reader.Blocks.{body_need, undressed}
-use Rattle.lay_tree.specs.reader.Code.{code_in}
-use Rattle.lay_tree.specs.reader.Within.{ExprWithin}
-use Rattle.lay_tree.specs.declared.blocks.Arm.{Arm}
-use Rattle.lay_tree.specs.declared.exprs.Expr.{Expr}
+use Rattle.lay_code.specs.Operators.{is_dot_or_try}
+use Rattle.lay_code.specs.nodes.Blocks.{braces_of, guard_form, is_free, is_lone_body}
+use Rattle.lay_code.specs.nodes.Code.{about_arm, about_expr}
+use Rattle.lay_code.specs.nodes.Exprs.{ExprFacts, follows}
+use Rattle.lay_code.specs.nodes.Places.{FREE, statement}
+use Rattle.lay_code.specs.reader.Blocks.{body_need, undressed}
+use Rattle.lay_code.specs.reader.Code.{code_in}
+use Rattle.lay_code.specs.reader.Within.{ExprWithin}
+use Rattle.lay_code.specs.declared.blocks.Arm.{Arm}
+use Rattle.lay_code.specs.declared.exprs.Expr.{Expr}
 
 -- so many levels deeper
 abbrev pub levels : ℕ → Form → Form

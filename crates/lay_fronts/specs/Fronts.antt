@@ -3,15 +3,15 @@ use Rattle.std.specs.Prelude.{ℕ, zero, suc, not, ◌&&◌, ◌||◌, Bool, tru
 use Rattle.lay_node.specs.Ahead.{Tokens, at_end, first, is_mark}
 use Rattle.lay_node.specs.nodes.Facts.{Told, ToldFront, by_itself}
 use Rattle.lay_node.specs.reader.Loops.{Read, ◌>>=◌}
-use Rattle.lay_tree.specs.nodes.Code.{about_block, about_expr, about_stmt}
-use Rattle.lay_tree.specs.nodes.Exprs.{follows}
-use Rattle.lay_tree.specs.nodes.Places.{statement}
-use Rattle.lay_tree.specs.reader.Blocks.{stmt_by}
-use Rattle.lay_tree.specs.reader.Code.{code_in}
-use Rattle.lay_tree.specs.reader.Within.{ExprWithin}
-use Rattle.lay_tree.specs.declared.blocks.Block.{Block}
-use Rattle.lay_tree.specs.declared.blocks.Stmt.{Stmt}
-use Rattle.lay_tree.specs.declared.blocks.Stmt.TheVariants as stmt
+use Rattle.lay_code.specs.nodes.Code.{about_block, about_expr, about_stmt}
+use Rattle.lay_code.specs.nodes.Exprs.{follows}
+use Rattle.lay_code.specs.nodes.Places.{statement}
+use Rattle.lay_code.specs.reader.Blocks.{stmt_by}
+use Rattle.lay_code.specs.reader.Code.{code_in}
+use Rattle.lay_code.specs.reader.Within.{ExprWithin}
+use Rattle.lay_code.specs.declared.blocks.Block.{Block}
+use Rattle.lay_code.specs.declared.blocks.Stmt.{Stmt}
+use Rattle.lay_code.specs.declared.blocks.Stmt.TheVariants as stmt
 
 -- A block may be followed by any token.
 abbrev pub block_told : Block → Told

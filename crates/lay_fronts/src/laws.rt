@@ -2,10 +2,10 @@
 ghost use Rattle.std.specs.Prelude.{◌≡◌, ℕ, List};
 ghost use Rattle.lay_token.specs.declared.token.Token.{Token};
 ghost use Rattle.lay_node.specs.reader.Exact.{Exact};
-ghost use Rattle.lay_tree.specs.reader.Blocks.{block_by};
-ghost use Rattle.lay_tree.specs.declared.blocks.Arm.{Arm};
-ghost use Rattle.lay_tree.specs.declared.blocks.Block.{Block};
-ghost use Rattle.lay_tree.specs.declared.blocks.Stmt.{Stmt};
+ghost use Rattle.lay_code.specs.reader.Blocks.{block_by};
+ghost use Rattle.lay_code.specs.declared.blocks.Arm.{Arm};
+ghost use Rattle.lay_code.specs.declared.blocks.Block.{Block};
+ghost use Rattle.lay_code.specs.declared.blocks.Stmt.{Stmt};
 ghost use Rattle.lay_fronts.specs.ArmFronts.{ArmFront, alone_arm};
 ghost use Rattle.lay_fronts.specs.Fronts.{BlockFront, StmtFront, alone, stmt_alone};
 

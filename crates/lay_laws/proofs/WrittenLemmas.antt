@@ -1,10 +1,10 @@
 -- A file can be written exactly where its text reads to it.
 use Rattle.std.proofs.Common.{◌≡◌, ◌↔◌, ℕ, List, Bool, false, IsTrue, sym, subst}
 use Rattle.lay_text.specs.declared.refusal.Refusal.{Refusal}
-use Rattle.lay_tree.specs.Out.{out}
-use Rattle.lay_tree.specs.Reading.{IsRefused, Reads, top}
-use Rattle.lay_tree.specs.Written.{Written}
-use Rattle.lay_tree.specs.declared.file.File.{File}
+use Rattle.lay_code.specs.Out.{out}
+use Rattle.lay_code.specs.Reading.{IsRefused, Reads, top}
+use Rattle.lay_code.specs.Written.{Written}
+use Rattle.lay_code.specs.declared.file.File.{File}
 use Rattle.lay_reparse.specs.Reparse.{IsSpelled}
 use Rattle.lay_reparse.proofs.file.OneAnswer.{never_both}
 use Rattle.lay_reparse.proofs.file.Reparse.{out_reads}

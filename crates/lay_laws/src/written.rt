@@ -1,13 +1,12 @@
 //! Which trees are files that can be written.
 ghost use Rattle.std.specs.Prelude.{◌↔◌, IfOk, IsTrue};
 ghost use Rattle.lay_reparse.specs.Reparse.{IsSpelled};
-ghost use Rattle.lay_tree.specs.Reading.{top};
-ghost use Rattle.lay_tree.specs.Written.{Written};
+ghost use Rattle.lay_code.specs.Reading.{top};
+ghost use Rattle.lay_code.specs.Written.{Written};
 
 use lay_files::{FileError, read_bytes, text_of};
-use lay_same::same;
 use lay_token::NoMemory;
-use lay_tree::File;
+use lay_tree::{File, same};
 use std::alloc::Global;
 
 /// Whether the file can be written: it is normal, each of its nodes meets the conditions of its form, each name, word and

@@ -2,7 +2,7 @@
 //!
 //! The families are the same in the sources, in `specs/` and in `proofs/`: token lists, simple paths, attributes, types,
 //! generic parameters and where clauses, patterns, visibilities, fields, the heads of items, use trees. What rests on
-//! expressions or items stands in `lay_tree`, which hands on the names of this crate.
+//! expressions or items stands in `lay_code`, which hands on the names of this crate.
 //! `specs/nodes/` says of each which nodes are well formed, which form they have (in the signs of `lay_form`), and what
 //! may not follow them (`Follow`). `specs/reader/` holds the functions that code which reads is proved equal to.
 //! [`node_law`] and [`reading_law`] say what holds of every node.

@@ -2,29 +2,29 @@
 use Rattle.std.proofs.Common.{◌≡◌, ◌&&◌, ◌||◌, Bool, true, false, not, List, [], ◌∷◌, map, Option, Some, None, is_some, refl, sym, ap, ◌∙◌}
 use Rattle.lay_node.specs.declared.attr.Attr.{Attr}
 use Rattle.lay_node.specs.declared.token.Lifetime.{Lifetime}
-use Rattle.lay_tree.specs.nodes.Blocks.{is_lone, is_lone_body, is_plain}
-use Rattle.lay_tree.specs.nodes.Code.{about_block, about_expr, about_stmt, told_of_item, told_of_kind}
-use Rattle.lay_tree.specs.nodes.CodeFacts.{ItemFacts, StmtFacts}
-use Rattle.lay_tree.specs.nodes.Exprs.{BodyKind, MacroBody, BlockBody, OtherBody, is_macro}
-use Rattle.lay_tree.specs.declared.blocks.Arm.{Arm}
-use Rattle.lay_tree.specs.declared.blocks.Block.{Block}
-use Rattle.lay_tree.specs.declared.blocks.Branch.{Branch}
-use Rattle.lay_tree.specs.declared.blocks.Stmt.{Stmt}
-use Rattle.lay_tree.specs.declared.blocks.Stmt.TheOpen.{Expr-F}
-use Rattle.lay_tree.specs.declared.blocks.Stmt.TheViews as views
-use Rattle.lay_tree.specs.declared.exprs.Expr.{Expr}
-use Rattle.lay_tree.specs.declared.exprs.Expr.TheVariants as expr
-use Rattle.lay_tree.specs.declared.exprs.FieldExpr.{FieldExpr}
-use Rattle.lay_tree.specs.declared.exprs.Step.{Step}
-use Rattle.lay_tree.specs.declared.item.Item.{Item}
-use Rattle.lay_tree.specs.declared.item.ItemKind.{ItemKind}
-use Rattle.lay_tree.specs.declared.blocks.Stmt.TheOpen.{Stmt-F, ItemKind-F}
-use Rattle.lay_tree.specs.declared.blocks.Stmt.TheVariants as stmt
-use Rattle.lay_tree.specs.declared.item.ItemKind.TheVariants as kind
+use Rattle.lay_code.specs.nodes.Blocks.{is_lone, is_lone_body, is_plain}
+use Rattle.lay_code.specs.nodes.Code.{about_block, about_expr, about_stmt, told_of_item, told_of_kind}
+use Rattle.lay_code.specs.nodes.CodeFacts.{ItemFacts, StmtFacts}
+use Rattle.lay_code.specs.nodes.Exprs.{BodyKind, MacroBody, BlockBody, OtherBody, is_macro}
+use Rattle.lay_code.specs.declared.blocks.Arm.{Arm}
+use Rattle.lay_code.specs.declared.blocks.Block.{Block}
+use Rattle.lay_code.specs.declared.blocks.Branch.{Branch}
+use Rattle.lay_code.specs.declared.blocks.Stmt.{Stmt}
+use Rattle.lay_code.specs.declared.blocks.Stmt.TheOpen.{Expr-F}
+use Rattle.lay_code.specs.declared.blocks.Stmt.TheViews as views
+use Rattle.lay_code.specs.declared.exprs.Expr.{Expr}
+use Rattle.lay_code.specs.declared.exprs.Expr.TheVariants as expr
+use Rattle.lay_code.specs.declared.exprs.FieldExpr.{FieldExpr}
+use Rattle.lay_code.specs.declared.exprs.Step.{Step}
+use Rattle.lay_code.specs.declared.item.Item.{Item}
+use Rattle.lay_code.specs.declared.item.ItemKind.{ItemKind}
+use Rattle.lay_code.specs.declared.blocks.Stmt.TheOpen.{Stmt-F, ItemKind-F}
+use Rattle.lay_code.specs.declared.blocks.Stmt.TheVariants as stmt
+use Rattle.lay_code.specs.declared.item.ItemKind.TheVariants as kind
 use Rattle.lay_ops.specs.RootFacts.{lone_in}
-use Rattle.lay_tree.proofs.nodes.BlocksLaws as blocks
-use Rattle.lay_tree.proofs.nodes.ExprsLaws as laws
-use Rattle.lay_tree.proofs.nodes.ItemLaws as items
+use Rattle.lay_code.proofs.nodes.BlocksLaws as blocks
+use Rattle.lay_code.proofs.nodes.ExprsLaws as laws
+use Rattle.lay_code.proofs.nodes.ItemLaws as items
 
 -- which body of an arm it is
 abbrev pub kind_in : Expr-F Stmt Expr FieldExpr Step ItemKind Arm Block Branch Item → BodyKind

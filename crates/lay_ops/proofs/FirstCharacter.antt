@@ -9,9 +9,9 @@ use Rattle.lay_token.specs.Lexes.{is_punct}
 use Rattle.lay_token.specs.Operators.{operators, begins_op, first_op, lone_op, op_at}
 use Rattle.lay_token.specs.declared.token.Token.{Token}
 use Rattle.lay_node.specs.Ahead.{Tokens, first}
-use Rattle.lay_tree.specs.Operands.{expr_lead_by, expr_lead_at}
-use Rattle.lay_tree.specs.Operators.{all_ops, binary, named, op_text}
-use Rattle.lay_tree.specs.declared.operators.Op.{Op}
+use Rattle.lay_code.specs.Operands.{expr_lead_by, expr_lead_at}
+use Rattle.lay_code.specs.Operators.{all_ops, binary, named, op_text}
+use Rattle.lay_code.specs.declared.operators.Op.{Op}
 use Rattle.lay_ops.specs.Leads.{begins, led_by}
 
 -- What is found at a place is what is at the front behind as many tokens.

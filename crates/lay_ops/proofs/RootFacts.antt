@@ -6,22 +6,22 @@ use Rattle.lay_node.specs.Words.{is_bare_number}
 use Rattle.lay_node.specs.declared.token.Literal.{Literal}
 use Rattle.lay_node.specs.declared.tokens.MacroCall.{MacroCall}
 use Rattle.lay_node.specs.declared.types.Ty.{Ty}
-use Rattle.lay_tree.specs.nodes.Code.{about_expr}
-use Rattle.lay_tree.specs.nodes.Exprs.{ExprFacts, is_brace, lacks_args, level_of_chain, type_refuses}
-use Rattle.lay_tree.specs.declared.blocks.Arm.{Arm}
-use Rattle.lay_tree.specs.declared.blocks.Block.{Block}
-use Rattle.lay_tree.specs.declared.blocks.Branch.{Branch}
-use Rattle.lay_tree.specs.declared.blocks.Stmt.{Stmt}
-use Rattle.lay_tree.specs.declared.blocks.Stmt.TheOpen.{Expr-F}
-use Rattle.lay_tree.specs.declared.blocks.Stmt.TheViews as views
-use Rattle.lay_tree.specs.declared.exprs.Expr.{Expr}
-use Rattle.lay_tree.specs.declared.exprs.Expr.TheVariants as expr
-use Rattle.lay_tree.specs.declared.exprs.FieldExpr.{FieldExpr}
-use Rattle.lay_tree.specs.declared.exprs.Step.{Step}
-use Rattle.lay_tree.specs.declared.item.Item.{Item}
-use Rattle.lay_tree.specs.declared.item.ItemKind.{ItemKind}
-use Rattle.lay_tree.specs.declared.operators.Op.{Op}
-use Rattle.lay_tree.proofs.nodes.ExprsLaws as laws
+use Rattle.lay_code.specs.nodes.Code.{about_expr}
+use Rattle.lay_code.specs.nodes.Exprs.{ExprFacts, is_brace, lacks_args, level_of_chain, type_refuses}
+use Rattle.lay_code.specs.declared.blocks.Arm.{Arm}
+use Rattle.lay_code.specs.declared.blocks.Block.{Block}
+use Rattle.lay_code.specs.declared.blocks.Branch.{Branch}
+use Rattle.lay_code.specs.declared.blocks.Stmt.{Stmt}
+use Rattle.lay_code.specs.declared.blocks.Stmt.TheOpen.{Expr-F}
+use Rattle.lay_code.specs.declared.blocks.Stmt.TheViews as views
+use Rattle.lay_code.specs.declared.exprs.Expr.{Expr}
+use Rattle.lay_code.specs.declared.exprs.Expr.TheVariants as expr
+use Rattle.lay_code.specs.declared.exprs.FieldExpr.{FieldExpr}
+use Rattle.lay_code.specs.declared.exprs.Step.{Step}
+use Rattle.lay_code.specs.declared.item.Item.{Item}
+use Rattle.lay_code.specs.declared.item.ItemKind.{ItemKind}
+use Rattle.lay_code.specs.declared.operators.Op.{Op}
+use Rattle.lay_code.proofs.nodes.ExprsLaws as laws
 use Rattle.lay_ops.proofs.Last.{last, last_is}
 use Rattle.lay_ops.specs.RootFacts.{first_level}
 

@@ -20,7 +20,7 @@ use Rattle.lay_node.specs.declared.types.PathStyle.TheVariants.{Kind}
 use Rattle.lay_node.specs.declared.types.Ty.{Ty}
 use Rattle.lay_node.specs.declared.types.Ty.TheVariants as ty
 use Rattle.lay_node.proofs.nodes.TypesLaws as laws
-use Rattle.lay_tree.specs.nodes.Exprs.{lacks_args}
+use Rattle.lay_code.specs.nodes.Exprs.{lacks_args}
 use Rattle.lay_ops.proofs.Last.{last, last_is, no_last}
 
 -- ---- the last of several

@@ -2,9 +2,9 @@
 use Rattle.std.specs.Prelude.{Bool, true, false}
 use Rattle.lay_node.specs.nodes.Types.{about_type}
 use Rattle.lay_node.specs.declared.types.Ty.{Ty}
-use Rattle.lay_tree.specs.nodes.Code.{about_expr}
-use Rattle.lay_tree.specs.nodes.Exprs.{is_open, is_typed, lacks_args}
-use Rattle.lay_tree.specs.declared.exprs.Expr.{Expr}
+use Rattle.lay_code.specs.nodes.Code.{about_expr}
+use Rattle.lay_code.specs.nodes.Exprs.{is_open, is_typed, lacks_args}
+use Rattle.lay_code.specs.declared.exprs.Expr.{Expr}
 use Rattle.lay_ops.specs.declared.expr_ends.ExprEnd.{ExprEnd}
 use Rattle.lay_ops.specs.declared.expr_ends.ExprEnd.TheVariants as expr_end
 use Rattle.lay_ops.specs.declared.type_ends.TypeEnd.{TypeEnd}

@@ -1,9 +1,9 @@
 -- Which operators begin with a character, and what begins an expression, in code.
 use Rattle.std.specs.Prelude.{ℕ, ◌==◌, Bool, false, List, [], ◌∷◌, codes}
 use Rattle.std.specs.List.{filter}
-use Rattle.lay_tree.specs.Operands as operands
-use Rattle.lay_tree.specs.Operators.{all_ops, op_text}
-use Rattle.lay_tree.specs.declared.operators.Op.{Op}
+use Rattle.lay_code.specs.Operands as operands
+use Rattle.lay_code.specs.Operators.{all_ops, op_text}
+use Rattle.lay_code.specs.declared.operators.Op.{Op}
 use Rattle.lay_ops.specs.declared.operands.ExprLead.{ExprLead}
 use Rattle.lay_ops.specs.declared.operands.ExprLead.TheVariants as lead
 

@@ -1,10 +1,10 @@
 -- What is told of an expression by its root, in code.
 use Rattle.std.specs.Prelude.{ℕ, ◌&&◌, not, Bool, false, List, [], ◌∷◌}
-use Rattle.lay_tree.specs.Operators.{op_level}
-use Rattle.lay_tree.specs.nodes.Code.{about_stmt}
-use Rattle.lay_tree.specs.declared.blocks.Stmt.{Stmt}
-use Rattle.lay_tree.specs.declared.exprs.Expr.{Expr}
-use Rattle.lay_tree.specs.declared.operators.Op.{Op}
+use Rattle.lay_code.specs.Operators.{op_level}
+use Rattle.lay_code.specs.nodes.Code.{about_stmt}
+use Rattle.lay_code.specs.declared.blocks.Stmt.{Stmt}
+use Rattle.lay_code.specs.declared.exprs.Expr.{Expr}
+use Rattle.lay_code.specs.declared.operators.Op.{Op}
 
 -- the level of the first operator
 abbrev pub first_level : List (Op × Expr) → ℕ

@@ -1,15 +1,15 @@
 //! Operators and operands at the front of what a reader has ahead.
 ghost use Rattle.std.specs.Prelude.{◌≡◌, None, option_map};
-ghost use Rattle.lay_tree.specs.Operands as operands;
-ghost use Rattle.lay_tree.specs.Operators as operators;
+ghost use Rattle.lay_code.specs.Operands as operands;
+ghost use Rattle.lay_code.specs.Operators as operators;
 ghost use Rattle.lay_ops.specs.Leads.{told};
 
 use crate::operands::{ExprLead, is_operand_lead};
 use crate::operators::op_level;
+use lay_code::{Op, Prefix};
 use lay_read_tokens::Ahead;
 use lay_read_tokens::front::{is_at_keyword, is_at_opened};
 use lay_token::Delim;
-use lay_tree::{Op, Prefix};
 
 /// The operator between operands at the front, if there is one.
 pub fn binary(at: &Ahead<'_>) -> Option<Op>
@@ -65,7 +65,7 @@ pub fn is_angle(at: &Ahead<'_>) -> bool
 
 /// How strongly the tokens ahead go on with an expression: 0 where they don't, and else one more than the level of the
 /// operator, of `as` or of the postfix step.
-#[tactic(auto, unfolding(lay_tree::specs::Operators::strength))]
+#[tactic(auto, unfolding(lay_code::specs::Operators::strength))]
 pub fn strength(at: &Ahead<'_>) -> u8
     ensures { result ≡ operators.strength at.now }
 {

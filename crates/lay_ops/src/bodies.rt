@@ -1,12 +1,12 @@
 //! What is told of blocks, statements and items by their roots.
 ghost use Rattle.std.specs.Prelude.{◌≡◌, ◌&&◌, not, is_some};
 ghost use Rattle.lay_ops.specs.RootFacts.{lone_in};
-ghost use Rattle.lay_tree.specs.nodes.Blocks.{is_lone_body, is_plain};
-ghost use Rattle.lay_tree.specs.nodes.Exprs.{is_macro};
-ghost use Rattle.lay_tree.specs.nodes.Code.{about_block, about_expr, about_stmt, told_of_item};
+ghost use Rattle.lay_code.specs.nodes.Blocks.{is_lone_body, is_plain};
+ghost use Rattle.lay_code.specs.nodes.Exprs.{is_macro};
+ghost use Rattle.lay_code.specs.nodes.Code.{about_block, about_expr, about_stmt, told_of_item};
 
 use crate::roots::{is_block_like, is_macro};
-use lay_tree::{Attr, Block, Expr, Item, ItemKind, Lifetime, Stmt};
+use lay_code::{Attr, Block, Expr, Item, ItemKind, Lifetime, Stmt};
 
 /// Whether another statement may stand behind it.
 #[tactic(auto, using(crate::proofs::BodyFacts::ends_is))]

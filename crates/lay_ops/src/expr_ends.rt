@@ -1,13 +1,13 @@
 //! What expressions end in, found along their right edge.
 ghost use Rattle.std.specs.Prelude.{◌≡◌, ◌<◌, ◌&&◌, not, false};
-ghost use Rattle.lay_tree.specs.nodes.Code.{about_expr};
-ghost use Rattle.lay_tree.specs.nodes.Exprs.{is_open, is_typed};
-ghost use Rattle.lay_tree.specs.declared.exprs.Expr.{size-Expr};
+ghost use Rattle.lay_code.specs.nodes.Code.{about_expr};
+ghost use Rattle.lay_code.specs.nodes.Exprs.{is_open, is_typed};
+ghost use Rattle.lay_code.specs.declared.exprs.Expr.{size-Expr};
 ghost use Rattle.lay_ops.specs.Ends.{IfOperand, is_open_end, is_typed_end};
 
 use crate::roots::last_lacks_args;
 use crate::type_ends::path_lacks_args;
-use lay_tree::Expr;
+use lay_code::Expr;
 
 /// What an expression ends in.
 #[derive(Clone, Copy)]

@@ -1,7 +1,7 @@
 //! Operators, and the places of expressions.
 //!
 //! Which operator the tokens ahead begin with, how strongly they go on with an expression, what begins one, and where an
-//! expression may stand. Each call is proved equal to the definition of `lay_tree`, and none takes memory. The calls here
+//! expression may stand. Each call is proved equal to the definition of `lay_code`, and none takes memory. The calls here
 //! take a cursor, which may be over any tokens; [`ahead`] has the same for readers. What an expression ends in is found
 //! along its right edge by a loop, so that a deep one needs no deep stack.
 #![tactic(auto)]

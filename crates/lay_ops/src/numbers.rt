@@ -3,11 +3,11 @@ ghost use Rattle.std.specs.Prelude.{◌≡◌, ◌∷◌, ◌<◌, ◌≤◌, le
 ghost use Rattle.std.specs.Str.{chars, chars_after};
 ghost use Rattle.lay_piece.specs.Chars.{in_digits, in_hex};
 ghost use Rattle.lay_node.specs.Words as words;
-ghost use Rattle.lay_tree.specs.nodes.Code.{about_expr};
+ghost use Rattle.lay_code.specs.nodes.Code.{about_expr};
 ghost use Rattle.lay_ops.specs.Numbers.{IsSplit, digits, exponent, leads_to, room, run};
 
+use lay_code::Expr;
 use lay_token::Kind;
-use lay_tree::Expr;
 
 /// How far a number without suffix is read.
 #[derive(Clone, Copy)]

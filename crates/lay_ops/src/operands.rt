@@ -4,13 +4,13 @@ ghost use Rattle.lay_token.specs.Operators.{is_op};
 ghost use Rattle.lay_piece.specs.declared.kind.Delim.TheVariants.{Brace};
 ghost use Rattle.lay_node.specs.Ahead.{first, opens, tail};
 ghost use Rattle.lay_node.specs.Follow.{begins_dots};
-ghost use Rattle.lay_tree.specs.Operands as operands;
+ghost use Rattle.lay_code.specs.Operands as operands;
 ghost use Rattle.lay_ops.specs.Leads.{block_words, told};
 
+use lay_code::Place;
 use lay_nest::Cursor;
 use lay_token::word::{Class, word_class};
 use lay_token::{Delim, Kind, Token};
-use lay_tree::Place;
 
 /// What begins an expression.
 #[derive(Clone, Copy)]
@@ -55,7 +55,7 @@ pub(crate) fn is_operand_lead(lead: Option<ExprLead>, no_struct: bool) -> bool
 }
 
 /// What the tokens ahead begin, if it is an expression.
-#[tactic(auto, unfolding(lay_tree::specs::Operands::expr_lead_at))]
+#[tactic(auto, unfolding(lay_code::specs::Operands::expr_lead_at))]
 pub fn expr_lead_at(at: &Cursor<'_>) -> Option<ExprLead>
     ensures { option_map told result ≡ operands.expr_lead_at at.now }
 {

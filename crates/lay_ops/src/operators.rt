@@ -3,12 +3,12 @@ ghost use Rattle.std.specs.Prelude.{◌≡◌, ◌∷◌, [], drop, option_and_t
 ghost use Rattle.lay_token.specs.Operators.{op_at};
 ghost use Rattle.lay_node.specs.Ahead as ahead;
 ghost use Rattle.lay_node.specs.Ahead.{first};
-ghost use Rattle.lay_tree.specs.Operators as operators;
+ghost use Rattle.lay_code.specs.Operators as operators;
 ghost use Rattle.lay_ops.specs.Leads.{led_by};
 
+use lay_code::{Op, Prefix};
 use lay_nest::Cursor;
 use lay_token::{Kind, Token};
-use lay_tree::{Op, Prefix};
 
 /// The text of an operator between operands.
 pub fn op_text(op: Op) -> &'static [u8]
@@ -135,7 +135,7 @@ fn is_word(at: &Cursor<'_>, others: usize, word: &[u8]) -> bool
 }
 
 /// The operator before an operand at the front, if there is one.
-#[tactic(auto, unfolding(lay_tree::specs::Operators::prefix))]
+#[tactic(auto, unfolding(lay_code::specs::Operators::prefix))]
 pub fn prefix(at: &Cursor<'_>) -> Option<Prefix>
     ensures { result ≡ operators.prefix at.now }
 {

@@ -1,12 +1,12 @@
 //! Where expressions may stand.
 ghost use Rattle.std.specs.Prelude.{◌≡◌};
-ghost use Rattle.lay_tree.specs.nodes.Code.{about_expr};
-ghost use Rattle.lay_tree.specs.nodes.Exprs as nodes;
-ghost use Rattle.lay_tree.specs.nodes.Places as places;
+ghost use Rattle.lay_code.specs.nodes.Code.{about_expr};
+ghost use Rattle.lay_code.specs.nodes.Exprs as nodes;
+ghost use Rattle.lay_code.specs.nodes.Places as places;
 
 use crate::expr_ends::may_precede;
 use crate::roots::{is_block_like, is_endless, is_jump, is_struct, is_typed_cast, level};
-use lay_tree::{Expr, Place, Start};
+use lay_code::{Expr, Place, Start};
 
 /// Whether an expression may stand in a place, by its root alone.
 pub fn may(expr: &Expr, place: Place) -> bool

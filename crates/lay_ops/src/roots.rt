@@ -1,15 +1,15 @@
 //! What is told of an expression by its root.
 ghost use Rattle.std.specs.Prelude.{◌≡◌, map};
 ghost use Rattle.lay_node.specs.nodes.Types.{about_type};
-ghost use Rattle.lay_tree.specs.nodes.Code.{about_expr};
-ghost use Rattle.lay_tree.specs.nodes.Blocks.{is_free};
-ghost use Rattle.lay_tree.specs.nodes.Exprs.{is_brace, is_macro, lacks_args, type_refuses};
+ghost use Rattle.lay_code.specs.nodes.Code.{about_expr};
+ghost use Rattle.lay_code.specs.nodes.Blocks.{is_free};
+ghost use Rattle.lay_code.specs.nodes.Exprs.{is_brace, is_macro, lacks_args, type_refuses};
 ghost use Rattle.lay_ops.specs.RootFacts.{first_level};
 
 use crate::operators::op_level;
 use crate::type_ends::type_lacks_args;
+use lay_code::{Expr, Op, Ty};
 use lay_token::Delim;
-use lay_tree::{Expr, Op, Ty};
 
 /// The level of an expression, from 0 of an assignment to 14 of what is no operator's.
 #[tactic(auto, using(crate::proofs::RootFacts::level_is))]

@@ -6,10 +6,10 @@ ghost use Rattle.lay_node.specs.declared.types.Bound.{size-Bound};
 ghost use Rattle.lay_node.specs.declared.types.Path.{size-Path};
 ghost use Rattle.lay_node.specs.declared.types.PathStyle.TheVariants.{Code, Kind};
 ghost use Rattle.lay_node.specs.declared.types.Ty.{size-Ty};
-ghost use Rattle.lay_tree.specs.nodes.Exprs.{lacks_args};
+ghost use Rattle.lay_code.specs.nodes.Exprs.{lacks_args};
 ghost use Rattle.lay_ops.specs.Ends.{IfIn, lacks};
 
-use lay_tree::{Args, Bound, Path, Ty};
+use lay_code::{Args, Bound, Path, Ty};
 
 /// What a type ends in.
 #[derive(Clone, Copy)]

@@ -20,17 +20,17 @@ use Rattle.lay_node.specs.declared.attr.Attr.{Attr}
 use Rattle.lay_node.specs.declared.generics.Wheres.{Wheres}
 use Rattle.lay_node.specs.declared.patterns.Pat.{Pat}
 use Rattle.lay_node.specs.declared.types.Ty.{Ty}
-use Rattle.lay_tree.specs.nodes.Blocks.{attrs_before, block_form, dropped_if, else_form, ended_form, is_plain, is_single, let_type, soft_form, stmt_form}
-use Rattle.lay_tree.specs.nodes.Code.{about_block, about_expr, about_stmt, form_of_item}
-use Rattle.lay_tree.specs.nodes.CodeFacts.{BlockFacts, StmtFacts}
-use Rattle.lay_tree.specs.nodes.Exprs.{value_form}
-use Rattle.lay_tree.specs.nodes.Item.{function_tail}
-use Rattle.lay_tree.specs.declared.blocks.Block.{Block}
-use Rattle.lay_tree.specs.declared.blocks.Stmt.{Stmt}
-use Rattle.lay_tree.specs.declared.blocks.Stmt.TheVariants as stmt
-use Rattle.lay_tree.specs.declared.exprs.Expr.{Expr}
-use Rattle.lay_tree.specs.declared.item.Item.{Item}
-use Rattle.lay_tree.proofs.nodes.BlocksLaws.{block_is, stmt_expr_is, stmt_item_is, stmt_let_is}
+use Rattle.lay_code.specs.nodes.Blocks.{attrs_before, block_form, dropped_if, else_form, ended_form, is_plain, is_single, let_type, soft_form, stmt_form}
+use Rattle.lay_code.specs.nodes.Code.{about_block, about_expr, about_stmt, form_of_item}
+use Rattle.lay_code.specs.nodes.CodeFacts.{BlockFacts, StmtFacts}
+use Rattle.lay_code.specs.nodes.Exprs.{value_form}
+use Rattle.lay_code.specs.nodes.Item.{function_tail}
+use Rattle.lay_code.specs.declared.blocks.Block.{Block}
+use Rattle.lay_code.specs.declared.blocks.Stmt.{Stmt}
+use Rattle.lay_code.specs.declared.blocks.Stmt.TheVariants as stmt
+use Rattle.lay_code.specs.declared.exprs.Expr.{Expr}
+use Rattle.lay_code.specs.declared.item.Item.{Item}
+use Rattle.lay_code.proofs.nodes.BlocksLaws.{block_is, stmt_expr_is, stmt_item_is, stmt_let_is}
 use Rattle.lay_out_tokens.proofs.StreamParts.{fed_more}
 use Rattle.lay_out_types.specs.Rows.{further, row}
 use Rattle.lay_out_types.proofs.FieldLemmas.{lines_more}

@@ -17,18 +17,18 @@ use Rattle.lay_node.specs.declared.patterns.Pat.{Pat}
 use Rattle.lay_node.specs.declared.patterns.PatPlace.TheVariants.{Alternatives}
 use Rattle.lay_node.specs.declared.token.Lifetime.{Lifetime}
 use Rattle.lay_node.specs.declared.types.Ty.{Ty}
-use Rattle.lay_tree.specs.nodes.Blocks.{braces_of, guard_form, is_free}
-use Rattle.lay_tree.specs.nodes.Code.{about_arm, about_block, about_branch, about_expr}
-use Rattle.lay_tree.specs.nodes.CodeFacts.{ArmFacts, BlockFacts, BranchFacts}
-use Rattle.lay_tree.specs.nodes.Exprs.{ExprFacts, arm_forms, bar, branches_form, closure_head, closure_param, condition_form, else_branch_form, labelled, more_branches}
-use Rattle.lay_tree.specs.declared.blocks.Arm.{Arm}
-use Rattle.lay_tree.specs.declared.blocks.Block.{Block}
-use Rattle.lay_tree.specs.declared.blocks.Branch.{Branch}
-use Rattle.lay_tree.specs.declared.exprs.ClosureParam.{ClosureParam}
-use Rattle.lay_tree.specs.declared.exprs.Expr.{Expr}
-use Rattle.lay_tree.specs.declared.exprs.Expr.TheVariants as expr
-use Rattle.lay_tree.proofs.nodes.BlocksLaws.{arm_is, branch_is}
-use Rattle.lay_tree.proofs.nodes.ExprsLaws.{expr_async_is, expr_block_is, expr_closure_is, expr_const_block_is, expr_for_is, expr_if_is, expr_loop_is, expr_match_is, expr_typed_closure_is, expr_unsafe_is, expr_while_is}
+use Rattle.lay_code.specs.nodes.Blocks.{braces_of, guard_form, is_free}
+use Rattle.lay_code.specs.nodes.Code.{about_arm, about_block, about_branch, about_expr}
+use Rattle.lay_code.specs.nodes.CodeFacts.{ArmFacts, BlockFacts, BranchFacts}
+use Rattle.lay_code.specs.nodes.Exprs.{ExprFacts, arm_forms, bar, branches_form, closure_head, closure_param, condition_form, else_branch_form, labelled, more_branches}
+use Rattle.lay_code.specs.declared.blocks.Arm.{Arm}
+use Rattle.lay_code.specs.declared.blocks.Block.{Block}
+use Rattle.lay_code.specs.declared.blocks.Branch.{Branch}
+use Rattle.lay_code.specs.declared.exprs.ClosureParam.{ClosureParam}
+use Rattle.lay_code.specs.declared.exprs.Expr.{Expr}
+use Rattle.lay_code.specs.declared.exprs.Expr.TheVariants as expr
+use Rattle.lay_code.proofs.nodes.BlocksLaws.{arm_is, branch_is}
+use Rattle.lay_code.proofs.nodes.ExprsLaws.{expr_async_is, expr_block_is, expr_closure_is, expr_const_block_is, expr_for_is, expr_if_is, expr_loop_is, expr_match_is, expr_typed_closure_is, expr_unsafe_is, expr_while_is}
 use Rattle.lay_out_tokens.proofs.StreamParts.{fed_more}
 use Rattle.lay_out_types.specs.Calls.{Adds}
 use Rattle.lay_out_types.specs.Rows.{further, row}

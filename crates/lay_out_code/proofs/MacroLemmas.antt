@@ -14,7 +14,7 @@ use Rattle.lay_node.specs.declared.token.Literal.{Literal}
 use Rattle.lay_node.specs.declared.token.Name.{Name}
 use Rattle.lay_node.specs.declared.tokens.Group.{Group}
 use Rattle.lay_node.specs.declared.tokens.MacroCall.{MacroCall}
-use Rattle.lay_tree.specs.nodes.Item.{call_item_form, foreign_abi, rules_form}
+use Rattle.lay_code.specs.nodes.Item.{call_item_form, foreign_abi, rules_form}
 use Rattle.lay_out_tokens.proofs.StreamParts.{behind_group_is, leaf_more}
 use Rattle.lay_out_types.proofs.FormRows.{part_more}
 use Rattle.lay_out_heads.proofs.HeadLemmas.{unsafe_word}

@@ -22,17 +22,17 @@ use Rattle.lay_node.specs.declared.generics.Wheres.{Wheres}
 use Rattle.lay_node.specs.declared.heads.Site.TheVariants.{Module}
 use Rattle.lay_node.specs.declared.heads.ValueHead.{ValueHead}
 use Rattle.lay_node.specs.declared.vis.Vis.{Vis}
-use Rattle.lay_tree.specs.Out.{behind_shebang, layout_of_file}
-use Rattle.lay_tree.specs.nodes.Code.{about_expr, about_item, form_of_item, told_of_item, told_of_kind}
-use Rattle.lay_tree.specs.nodes.CodeFacts.{ItemFacts, KindFacts}
-use Rattle.lay_tree.specs.nodes.Exprs.{ExprFacts, value_form}
-use Rattle.lay_tree.specs.nodes.File.{form_of_file}
-use Rattle.lay_tree.specs.nodes.Item.{item_body, item_forms, kind_form}
-use Rattle.lay_tree.specs.declared.exprs.Expr.{Expr}
-use Rattle.lay_tree.specs.declared.file.File.{File}
-use Rattle.lay_tree.specs.declared.item.Item.{Item}
-use Rattle.lay_tree.specs.declared.item.ItemKind.{ItemKind}
-use Rattle.lay_tree.proofs.nodes.ItemLaws.{item_is}
+use Rattle.lay_code.specs.Out.{behind_shebang, layout_of_file}
+use Rattle.lay_code.specs.nodes.Code.{about_expr, about_item, form_of_item, told_of_item, told_of_kind}
+use Rattle.lay_code.specs.nodes.CodeFacts.{ItemFacts, KindFacts}
+use Rattle.lay_code.specs.nodes.Exprs.{ExprFacts, value_form}
+use Rattle.lay_code.specs.nodes.File.{form_of_file}
+use Rattle.lay_code.specs.nodes.Item.{item_body, item_forms, kind_form}
+use Rattle.lay_code.specs.declared.exprs.Expr.{Expr}
+use Rattle.lay_code.specs.declared.file.File.{File}
+use Rattle.lay_code.specs.declared.item.Item.{Item}
+use Rattle.lay_code.specs.declared.item.ItemKind.{ItemKind}
+use Rattle.lay_code.proofs.nodes.ItemLaws.{item_is}
 use Rattle.lay_out_tokens.proofs.StreamParts.{fed_more}
 use Rattle.lay_out_types.specs.Calls.{Adds}
 use Rattle.lay_out_types.specs.Rows.{further, row}

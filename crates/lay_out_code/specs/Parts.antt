@@ -10,13 +10,13 @@ use Rattle.lay_node.specs.nodes.Vis.{vis_form}
 use Rattle.lay_node.specs.declared.token.Literal.{Literal}
 use Rattle.lay_node.specs.declared.use_tree.UseTree.{UseTree}
 use Rattle.lay_node.specs.declared.vis.Vis.{Vis}
-use Rattle.lay_tree.specs.nodes.Code.{about_arm, about_branch, about_stmt}
-use Rattle.lay_tree.specs.nodes.CodeFacts.{KindFacts}
-use Rattle.lay_tree.specs.nodes.Exprs.{branch_head}
-use Rattle.lay_tree.specs.nodes.Item.{about_import, foreign_abi, kind_form}
-use Rattle.lay_tree.specs.declared.blocks.Arm.{Arm}
-use Rattle.lay_tree.specs.declared.blocks.Branch.{Branch}
-use Rattle.lay_tree.specs.declared.blocks.Stmt.{Stmt}
+use Rattle.lay_code.specs.nodes.Code.{about_arm, about_branch, about_stmt}
+use Rattle.lay_code.specs.nodes.CodeFacts.{KindFacts}
+use Rattle.lay_code.specs.nodes.Exprs.{branch_head}
+use Rattle.lay_code.specs.nodes.Item.{about_import, foreign_abi, kind_form}
+use Rattle.lay_code.specs.declared.blocks.Arm.{Arm}
+use Rattle.lay_code.specs.declared.blocks.Branch.{Branch}
+use Rattle.lay_code.specs.declared.blocks.Stmt.{Stmt}
 
 -- There are none.
 abbrev pub no_forms : List Form → Bool

@@ -3,15 +3,16 @@ ghost use Rattle.std.specs.Prelude.{[], ◌∷◌, map, option_map};
 ghost use Rattle.lay_layout.specs.declared.layout.Tok.TheVariants as tok;
 ghost use Rattle.lay_stream.specs.Fed.{Did};
 ghost use Rattle.lay_form.specs.Stream.{stream_of};
-ghost use Rattle.lay_tree.specs.nodes.Blocks.{else_form};
-ghost use Rattle.lay_tree.specs.nodes.Code.{about_block, about_expr, about_stmt};
-ghost use Rattle.lay_tree.specs.nodes.Exprs.{value_form};
+ghost use Rattle.lay_code.specs.nodes.Blocks.{else_form};
+ghost use Rattle.lay_code.specs.nodes.Code.{about_block, about_expr, about_stmt};
+ghost use Rattle.lay_code.specs.nodes.Exprs.{value_form};
 ghost use Rattle.lay_out_types.specs.Calls.{Adds};
 ghost use Rattle.lay_out_types.specs.Rows.{further};
 ghost use Rattle.lay_out_code.specs.Parts.{stmt_told};
 
 use crate::exprs::add_expr;
 use crate::items::{add_inner_attrs, add_item};
+use lay_code::{Block, Expr, Stmt};
 use lay_layout::Break;
 use lay_out_exprs::blocks::{close_soft, is_single};
 use lay_out_exprs::flags::both;
@@ -23,7 +24,6 @@ use lay_out_tokens::notation::{NEVER_BREAK, SPACE_BREAK};
 use lay_out_types::calls::{add_either, add_if, add_text};
 use lay_out_types::{add_attrs, add_pat};
 use lay_stream::Emit;
-use lay_tree::{Block, Expr, Stmt};
 
 /// Feeds the layout of a block, whose braces have a leading blank or not.
 pub fn put_block<E: Emit>(out: &mut E, lead: bool, block: &Block) -> Result<(), E::Fault>

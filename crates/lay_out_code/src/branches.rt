@@ -6,9 +6,9 @@ ghost use Rattle.lay_form.specs.Form.{Blank};
 ghost use Rattle.lay_form.specs.Notation.{H, body, each};
 ghost use Rattle.lay_form.specs.Stream.{stream_of};
 ghost use Rattle.lay_node.specs.nodes.Attr.{attr_form};
-ghost use Rattle.lay_tree.specs.nodes.Blocks.{guard_form};
-ghost use Rattle.lay_tree.specs.nodes.Code.{about_arm, about_block, about_expr};
-ghost use Rattle.lay_tree.specs.nodes.Exprs.{else_branch_form};
+ghost use Rattle.lay_code.specs.nodes.Blocks.{guard_form};
+ghost use Rattle.lay_code.specs.nodes.Code.{about_arm, about_block, about_expr};
+ghost use Rattle.lay_code.specs.nodes.Exprs.{else_branch_form};
 ghost use Rattle.lay_out_exprs.specs.Blocks.{else_between, lead_row};
 ghost use Rattle.lay_out_types.specs.Calls.{Adds};
 ghost use Rattle.lay_out_types.specs.Rows.{row};
@@ -17,6 +17,7 @@ ghost use Rattle.lay_out_code.specs.Parts.{arm_told, branch_told, head_end};
 use crate::blocks::add_soft;
 use crate::exprs::add_expr;
 use crate::items::add_inner_attrs;
+use lay_code::{Arm, Attr, Block, Branch, Expr, Pat};
 use lay_out_exprs::arms::{arm_body, close_arm, open_arm};
 use lay_out_exprs::blocks::{add_condition_lead, add_else_word};
 use lay_out_exprs::flags::both;
@@ -28,7 +29,6 @@ use lay_out_types::calls::add_text;
 use lay_out_types::lists::add_end;
 use lay_out_types::{add_attrs, add_group, add_pat};
 use lay_stream::Emit;
-use lay_tree::{Arm, Attr, Block, Branch, Expr, Pat};
 
 /// A condition behind its word, in a group of its own. It may be what a pattern is matched with.
 #[cycle(code)]

@@ -8,10 +8,10 @@ ghost use Rattle.lay_node.specs.tokens.Lists.{group_form};
 ghost use Rattle.lay_node.specs.declared.heads.Site.TheVariants.{Module};
 ghost use Rattle.lay_out_types.specs.Calls.{Adds};
 
+use lay_code::{Alias, Attr, Enum, ExternCrate, Group, Struct, Union, UseTree, Vis};
 use lay_out_heads::{put_alias, put_enum, put_extern_crate, put_struct, put_union, put_use};
 use lay_out_tokens::{put_bare_attr, put_group};
 use lay_stream::Emit;
-use lay_tree::{Alias, Attr, Enum, ExternCrate, Group, Struct, Union, UseTree, Vis};
 
 /// An attribute.
 pub fn add_bare_attr<E: Emit>(

@@ -3,8 +3,8 @@ ghost use Rattle.std.specs.Prelude.{◌==◌, [], ◌++◌, true, map, length, o
 ghost use Rattle.lay_stream.specs.Fed.{Did};
 ghost use Rattle.lay_form.specs.Form.{Done};
 ghost use Rattle.lay_form.specs.Stream.{fed, stream_of};
-ghost use Rattle.lay_tree.specs.nodes.Code.{about_expr};
-ghost use Rattle.lay_tree.specs.nodes.Exprs.{end_form, operand_form, tuple_form};
+ghost use Rattle.lay_code.specs.nodes.Code.{about_expr};
+ghost use Rattle.lay_code.specs.nodes.Exprs.{end_form, operand_form, tuple_form};
 ghost use Rattle.lay_out_exprs.specs.Parts.{expr_told};
 ghost use Rattle.lay_out_types.specs.Calls.{Adds};
 ghost use Rattle.lay_out_types.specs.Rows.{comma_between, list_closed, list_opened, row};
@@ -12,6 +12,7 @@ ghost use Rattle.lay_out_types.specs.Rows.{comma_between, list_closed, list_open
 use crate::blocks::{add_block, add_soft};
 use crate::branches::{add_arms, add_branches, add_condition, add_else};
 use crate::operands::{add_base, add_fields, add_operands, add_steps, add_targets};
+use lay_code::{Boxed, Expr, PathStyle};
 use lay_out_exprs::add_closure_head;
 use lay_out_exprs::blocks::add_labelled;
 use lay_out_exprs::flags::both;
@@ -22,7 +23,6 @@ use lay_out_types::calls::{add_call, add_if, add_literal, add_text, add_tokens};
 use lay_out_types::lists::{add_begin, add_close, add_end, add_lead};
 use lay_out_types::{add_closing_brace, add_dots_behind, add_group, add_pat, add_path, add_type};
 use lay_stream::Emit;
-use lay_tree::{Boxed, Expr, PathStyle};
 
 /// Feeds the layout of an expression.
 pub fn put_expr<E: Emit>(out: &mut E, node: &Expr) -> Result<(), E::Fault>

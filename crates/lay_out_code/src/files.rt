@@ -4,15 +4,15 @@ ghost use Rattle.lay_layout.specs.Document.{Empty, stream};
 ghost use Rattle.lay_stream.specs.Fed.{Did};
 ghost use Rattle.lay_form.specs.Notation.{lines};
 ghost use Rattle.lay_form.specs.Stream.{stream_of};
-ghost use Rattle.lay_tree.specs.Out.{behind_shebang, layout_of_file};
-ghost use Rattle.lay_tree.specs.nodes.Code.{form_of_item};
+ghost use Rattle.lay_code.specs.Out.{behind_shebang, layout_of_file};
+ghost use Rattle.lay_code.specs.nodes.Code.{form_of_item};
 
 use crate::items::put_item;
+use lay_code::{File, Item};
 use lay_out_tokens::HARD_BREAK;
 use lay_out_types::add_attrs;
 use lay_stream::Emit;
 use lay_text::Text;
-use lay_tree::{File, Item};
 
 /// Feeds the layout of a file: its first line, if it is a shebang, its attributes and its items, each with a newline
 /// behind it.

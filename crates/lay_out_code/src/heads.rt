@@ -6,18 +6,18 @@ ghost use Rattle.lay_form.specs.Stream.{stream_of};
 ghost use Rattle.lay_node.specs.nodes.Functions.{fn_head_form};
 ghost use Rattle.lay_node.specs.nodes.Heads.{impl_head_form, trait_head_form, value_head_form};
 ghost use Rattle.lay_node.specs.nodes.Where.{wheres_before_body, wheres_before_semicolon};
-ghost use Rattle.lay_tree.specs.nodes.Item.{foreign_abi, module_head};
+ghost use Rattle.lay_code.specs.nodes.Item.{foreign_abi, module_head};
 ghost use Rattle.lay_out_types.specs.Calls.{Adds};
 ghost use Rattle.lay_out_code.specs.Parts.{foreign_head, head_row, import_head};
 
 use crate::calls::add_use;
+use lay_code::{FnHead, ImplHead, Literal, Name, TraitHead, UseTree, ValueHead, Vis, Wheres};
 use lay_out_heads::calls::add_wheres;
 use lay_out_heads::items::{add_semicolon, open_head};
 use lay_out_heads::{put_fn_head, put_impl_head, put_trait_head, put_value_head};
 use lay_out_types::calls::{add_if, add_literal, add_text, add_word};
 use lay_out_types::lists::add_end;
 use lay_stream::Emit;
-use lay_tree::{FnHead, ImplHead, Literal, Name, TraitHead, UseTree, ValueHead, Vis, Wheres};
 
 /// What an item begins with behind its visibility.
 pub trait Head {

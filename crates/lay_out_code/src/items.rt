@@ -8,9 +8,9 @@ ghost use Rattle.lay_node.specs.nodes.Attr.{attr_form};
 ghost use Rattle.lay_node.specs.nodes.Fields.{blank_if};
 ghost use Rattle.lay_node.specs.nodes.Functions.{fn_head_form};
 ghost use Rattle.lay_node.specs.nodes.Heads.{value_head_form};
-ghost use Rattle.lay_tree.specs.nodes.Code.{about_block, about_expr, form_of_item, told_of_kind};
-ghost use Rattle.lay_tree.specs.nodes.Exprs.{value_form};
-ghost use Rattle.lay_tree.specs.nodes.Item.{function_tail};
+ghost use Rattle.lay_code.specs.nodes.Code.{about_block, about_expr, form_of_item, told_of_kind};
+ghost use Rattle.lay_code.specs.nodes.Exprs.{value_form};
+ghost use Rattle.lay_code.specs.nodes.Item.{function_tail};
 ghost use Rattle.lay_out_types.specs.Calls.{Adds};
 ghost use Rattle.lay_out_code.specs.Parts.{head_row, kind_row};
 
@@ -18,6 +18,7 @@ use crate::blocks::{add_block, add_value};
 use crate::calls::{add_alias, add_bare_attr, add_enum, add_extern_crate, add_struct, add_union};
 use crate::heads::{Head, add_clause, add_ended, add_ended_clause, add_foreign_head, add_head};
 use crate::macros::{add_call_item, add_macro_rules};
+use lay_code::{Attr, Block, Expr, FnHead, Item, ItemKind, ValueHead, Vis, Wheres};
 use lay_out_exprs::flags::both;
 use lay_out_heads::calls::add_break;
 use lay_out_heads::items::{leads, open_head};
@@ -27,7 +28,6 @@ use lay_out_types::add_attrs;
 use lay_out_types::calls::{add_either, add_text};
 use lay_out_types::lists::add_end;
 use lay_stream::Emit;
-use lay_tree::{Attr, Block, Expr, FnHead, Item, ItemKind, ValueHead, Vis, Wheres};
 
 /// Feeds the layout of an item, with its attributes, each on a line of its own.
 pub fn put_item<E: Emit>(out: &mut E, item: &Item) -> Result<(), E::Fault>

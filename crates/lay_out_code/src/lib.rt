@@ -1,6 +1,6 @@
 //! How expressions, blocks, items and files are laid out, fed to an [`Emit`](lay_stream::Emit) token by token.
 //!
-//! [`put_file`] appends exactly the stream of the layout that `lay_tree` gives to a file, and [`put_item`], [`put_block`],
+//! [`put_file`] appends exactly the stream of the layout that `lay_code` gives to a file, and [`put_item`], [`put_block`],
 //! [`put_stmt`], [`put_arm`] and [`put_expr`] the streams of the forms of their nodes, or they stop where the `Emit` does.
 //!
 //! A function whose name begins with `add` is told how the calls before it came out, as in [`lay_out_heads`]. Expressions

@@ -2,14 +2,14 @@
 ghost use Rattle.lay_form.specs.Form.{Done};
 ghost use Rattle.lay_form.specs.Stream.{stream_of};
 ghost use Rattle.lay_node.specs.nodes.Call.{before_rules, end_form};
-ghost use Rattle.lay_tree.specs.nodes.Item.{call_item_form, rules_form};
+ghost use Rattle.lay_code.specs.nodes.Item.{call_item_form, rules_form};
 ghost use Rattle.lay_out_types.specs.Calls.{Adds};
 
 use crate::calls::add_group;
+use lay_code::{Group, MacroCall, Name};
 use lay_out_types::calls::{add_call, add_text, add_word};
 use lay_piece::Delim;
 use lay_stream::Emit;
-use lay_tree::{Group, MacroCall, Name};
 
 /// A macro by its rules.
 pub fn add_macro_rules<E: Emit>(

@@ -16,18 +16,18 @@ use Rattle.lay_node.specs.declared.patterns.Pat.{Pat}
 use Rattle.lay_node.specs.declared.token.Lifetime.{Lifetime}
 use Rattle.lay_node.specs.declared.tokens.MacroCall.{MacroCall}
 use Rattle.lay_node.specs.declared.types.Ty.{Ty}
-use Rattle.lay_tree.specs.nodes.Blocks.{braces_of, is_plain, is_single}
-use Rattle.lay_tree.specs.nodes.Code.{about_expr, about_stmt}
-use Rattle.lay_tree.specs.nodes.CodeFacts.{StmtFacts}
-use Rattle.lay_tree.specs.nodes.Exprs.{ExprFacts, bar, closure_head, closure_param, labelled}
-use Rattle.lay_tree.specs.declared.blocks.Block.{Block}
-use Rattle.lay_tree.specs.declared.blocks.Stmt.{Stmt}
-use Rattle.lay_tree.specs.declared.blocks.Stmt.TheVariants as stmt
-use Rattle.lay_tree.specs.declared.exprs.ClosureParam.{ClosureParam}
-use Rattle.lay_tree.specs.declared.exprs.Expr.{Expr}
-use Rattle.lay_tree.specs.declared.exprs.Expr.TheVariants as expr
-use Rattle.lay_tree.proofs.nodes.BlocksLaws.{IsExpr, IsItem, IsLet, StmtView, stmt_expr_is, stmt_item_is, stmt_let_is, stmt_view}
-use Rattle.lay_tree.proofs.nodes.ExprsLaws.{ExprView, IsArray, IsAssign, IsAsync, IsBlock, IsBreak, IsCall, IsCast, IsChain, IsClosure, IsConstBlock, IsContinue, IsFor, IsIf, IsLit, IsLoop, IsMatch, IsParen, IsPath, IsPostfix, IsRange, IsRepeat, IsReturn, IsStruct, IsTuple, IsTypedClosure, IsUnary, IsUnderscore, IsUnsafe, IsWhile, expr_array_is, expr_assign_is, expr_async_is, expr_block_is, expr_break_is, expr_call_is, expr_cast_is, expr_chain_is, expr_closure_is, expr_const_block_is, expr_continue_is, expr_for_is, expr_if_is, expr_lit_is, expr_loop_is, expr_match_is, expr_paren_is, expr_path_is, expr_postfix_is, expr_range_is, expr_repeat_is, expr_return_is, expr_struct_is, expr_tuple_is, expr_typed_closure_is, expr_unary_is, expr_underscore_is, expr_unsafe_is, expr_view, expr_while_is}
+use Rattle.lay_code.specs.nodes.Blocks.{braces_of, is_plain, is_single}
+use Rattle.lay_code.specs.nodes.Code.{about_expr, about_stmt}
+use Rattle.lay_code.specs.nodes.CodeFacts.{StmtFacts}
+use Rattle.lay_code.specs.nodes.Exprs.{ExprFacts, bar, closure_head, closure_param, labelled}
+use Rattle.lay_code.specs.declared.blocks.Block.{Block}
+use Rattle.lay_code.specs.declared.blocks.Stmt.{Stmt}
+use Rattle.lay_code.specs.declared.blocks.Stmt.TheVariants as stmt
+use Rattle.lay_code.specs.declared.exprs.ClosureParam.{ClosureParam}
+use Rattle.lay_code.specs.declared.exprs.Expr.{Expr}
+use Rattle.lay_code.specs.declared.exprs.Expr.TheVariants as expr
+use Rattle.lay_code.proofs.nodes.BlocksLaws.{IsExpr, IsItem, IsLet, StmtView, stmt_expr_is, stmt_item_is, stmt_let_is, stmt_view}
+use Rattle.lay_code.proofs.nodes.ExprsLaws.{ExprView, IsArray, IsAssign, IsAsync, IsBlock, IsBreak, IsCall, IsCast, IsChain, IsClosure, IsConstBlock, IsContinue, IsFor, IsIf, IsLit, IsLoop, IsMatch, IsParen, IsPath, IsPostfix, IsRange, IsRepeat, IsReturn, IsStruct, IsTuple, IsTypedClosure, IsUnary, IsUnderscore, IsUnsafe, IsWhile, expr_array_is, expr_assign_is, expr_async_is, expr_block_is, expr_break_is, expr_call_is, expr_cast_is, expr_chain_is, expr_closure_is, expr_const_block_is, expr_continue_is, expr_for_is, expr_if_is, expr_lit_is, expr_loop_is, expr_match_is, expr_paren_is, expr_path_is, expr_postfix_is, expr_range_is, expr_repeat_is, expr_return_is, expr_struct_is, expr_tuple_is, expr_typed_closure_is, expr_unary_is, expr_underscore_is, expr_unsafe_is, expr_view, expr_while_is}
 use Rattle.lay_out_types.specs.Rows.{comma_between, list_closed, list_opened, row}
 use Rattle.lay_out_types.proofs.FormRows.{are_none, list_is, part_more}
 use Rattle.lay_out_types.proofs.PartLemmas.{attrs_more}

@@ -23,13 +23,13 @@ use Rattle.lay_node.specs.declared.tokens.MacroCall.{MacroCall}
 use Rattle.lay_node.specs.declared.types.Path.{Path}
 use Rattle.lay_node.specs.declared.types.PathStyle.TheVariants.{Code}
 use Rattle.lay_node.specs.declared.types.Ty.{Ty}
-use Rattle.lay_tree.specs.nodes.Code.{about_expr}
-use Rattle.lay_tree.specs.nodes.Exprs.{ExprFacts, args_form, end_form, expr_forms, label_form, operand_form, operands_form, tuple_form, types_form}
-use Rattle.lay_tree.specs.declared.exprs.Expr.{Expr}
-use Rattle.lay_tree.specs.declared.exprs.Expr.TheVariants as expr
-use Rattle.lay_tree.specs.declared.operators.Op.{Op}
-use Rattle.lay_tree.specs.declared.operators.Prefix.{Prefix}
-use Rattle.lay_tree.proofs.nodes.ExprsLaws.{expr_array_is, expr_break_is, expr_call_is, expr_cast_is, expr_chain_is, expr_continue_is, expr_lit_is, expr_paren_is, expr_path_is, expr_range_is, expr_repeat_is, expr_return_is, expr_tuple_is, expr_unary_is, expr_underscore_is}
+use Rattle.lay_code.specs.nodes.Code.{about_expr}
+use Rattle.lay_code.specs.nodes.Exprs.{ExprFacts, args_form, end_form, expr_forms, label_form, operand_form, operands_form, tuple_form, types_form}
+use Rattle.lay_code.specs.declared.exprs.Expr.{Expr}
+use Rattle.lay_code.specs.declared.exprs.Expr.TheVariants as expr
+use Rattle.lay_code.specs.declared.operators.Op.{Op}
+use Rattle.lay_code.specs.declared.operators.Prefix.{Prefix}
+use Rattle.lay_code.proofs.nodes.ExprsLaws.{expr_array_is, expr_break_is, expr_call_is, expr_cast_is, expr_chain_is, expr_continue_is, expr_lit_is, expr_paren_is, expr_path_is, expr_range_is, expr_repeat_is, expr_return_is, expr_tuple_is, expr_unary_is, expr_underscore_is}
 use Rattle.lay_out_tokens.proofs.StreamParts.{fed_more}
 use Rattle.lay_out_types.specs.Rows.{comma_between, list_closed, list_opened, row}
 use Rattle.lay_out_types.proofs.FormRows.{list_is, none_is}

@@ -13,12 +13,12 @@ use Rattle.lay_form.proofs.StreamLaws.{laid_fed}
 use Rattle.lay_node.specs.nodes.Patterns.{dots}
 use Rattle.lay_node.specs.nodes.Types.{deeper}
 use Rattle.lay_node.specs.declared.token.Lifetime.{Lifetime}
-use Rattle.lay_tree.specs.Operators.{op_text}
-use Rattle.lay_tree.specs.nodes.Exprs.{label_form, prefix_bits, prefixes_form}
-use Rattle.lay_tree.specs.declared.operators.Op.{Op}
-use Rattle.lay_tree.specs.declared.operators.Op.TheVariants as op
-use Rattle.lay_tree.specs.declared.operators.Prefix.{Prefix}
-use Rattle.lay_tree.specs.declared.operators.Prefix.TheVariants as prefix
+use Rattle.lay_code.specs.Operators.{op_text}
+use Rattle.lay_code.specs.nodes.Exprs.{label_form, prefix_bits, prefixes_form}
+use Rattle.lay_code.specs.declared.operators.Op.{Op}
+use Rattle.lay_code.specs.declared.operators.Op.TheVariants as op
+use Rattle.lay_code.specs.declared.operators.Prefix.{Prefix}
+use Rattle.lay_code.specs.declared.operators.Prefix.TheVariants as prefix
 use Rattle.lay_out_tokens.proofs.StreamParts.{fed_more}
 use Rattle.lay_out_exprs.specs.Parts.{prefix_texts}
 

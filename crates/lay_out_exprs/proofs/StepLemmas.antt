@@ -17,15 +17,15 @@ use Rattle.lay_node.specs.nodes.Types.{about_arg, about_type, angle_form}
 use Rattle.lay_node.specs.declared.token.Name.{Name}
 use Rattle.lay_node.specs.declared.types.Arg.{Arg}
 use Rattle.lay_node.specs.declared.types.Ty.{Ty}
-use Rattle.lay_tree.specs.Operators.{op_text}
-use Rattle.lay_tree.specs.nodes.Code.{about_expr, about_step}
-use Rattle.lay_tree.specs.nodes.Exprs.{ExprFacts, StepFacts, args_form, break_if, expr_forms, generics_form, group_if, is_method, methods, operands_form, steps_form, targets_form, types_form}
-use Rattle.lay_tree.specs.declared.exprs.Expr.{Expr}
-use Rattle.lay_tree.specs.declared.exprs.Expr.TheVariants as expr
-use Rattle.lay_tree.specs.declared.exprs.Step.{Step}
-use Rattle.lay_tree.specs.declared.exprs.Step.TheVariants as step
-use Rattle.lay_tree.specs.declared.operators.Op.{Op}
-use Rattle.lay_tree.proofs.nodes.ExprsLaws.{expr_assign_is, expr_postfix_is, IsApplyStep, IsAwaitStep, IsFieldStep, IsIndexStep, IsMethodStep, IsTryStep, IsTupleIndexStep, StepView, step_apply_is, step_await_is, step_field_is, step_index_is, step_method_is, step_try_is, step_tuple_index_is, step_view}
+use Rattle.lay_code.specs.Operators.{op_text}
+use Rattle.lay_code.specs.nodes.Code.{about_expr, about_step}
+use Rattle.lay_code.specs.nodes.Exprs.{ExprFacts, StepFacts, args_form, break_if, expr_forms, generics_form, group_if, is_method, methods, operands_form, steps_form, targets_form, types_form}
+use Rattle.lay_code.specs.declared.exprs.Expr.{Expr}
+use Rattle.lay_code.specs.declared.exprs.Expr.TheVariants as expr
+use Rattle.lay_code.specs.declared.exprs.Step.{Step}
+use Rattle.lay_code.specs.declared.exprs.Step.TheVariants as step
+use Rattle.lay_code.specs.declared.operators.Op.{Op}
+use Rattle.lay_code.proofs.nodes.ExprsLaws.{expr_assign_is, expr_postfix_is, IsApplyStep, IsAwaitStep, IsFieldStep, IsIndexStep, IsMethodStep, IsTryStep, IsTupleIndexStep, StepView, step_apply_is, step_await_is, step_field_is, step_index_is, step_method_is, step_try_is, step_tuple_index_is, step_view}
 use Rattle.lay_out_tokens.proofs.StreamParts.{fed_more, leaf_more}
 use Rattle.lay_out_types.specs.Calls.{Adds}
 use Rattle.lay_out_types.specs.Rows.{comma_between, last_break, list_closed, list_opened, row}

@@ -16,13 +16,13 @@ use Rattle.lay_node.specs.declared.attr.Attr.{Attr}
 use Rattle.lay_node.specs.declared.token.Name.{Name}
 use Rattle.lay_node.specs.declared.types.Path.{Path}
 use Rattle.lay_node.specs.declared.types.PathStyle.TheVariants.{Code}
-use Rattle.lay_tree.specs.nodes.Code.{about_expr, about_field_expr}
-use Rattle.lay_tree.specs.nodes.Exprs.{base_form, end_form}
-use Rattle.lay_tree.specs.declared.exprs.Expr.{Expr}
-use Rattle.lay_tree.specs.declared.exprs.Expr.TheVariants as expr
-use Rattle.lay_tree.specs.declared.exprs.FieldExpr.{FieldExpr}
-use Rattle.lay_tree.specs.declared.exprs.FieldExpr.TheVariants as field
-use Rattle.lay_tree.proofs.nodes.ExprsLaws.{expr_struct_is, field_expr_named_is, field_expr_numbered_is, field_expr_short_is}
+use Rattle.lay_code.specs.nodes.Code.{about_expr, about_field_expr}
+use Rattle.lay_code.specs.nodes.Exprs.{base_form, end_form}
+use Rattle.lay_code.specs.declared.exprs.Expr.{Expr}
+use Rattle.lay_code.specs.declared.exprs.Expr.TheVariants as expr
+use Rattle.lay_code.specs.declared.exprs.FieldExpr.{FieldExpr}
+use Rattle.lay_code.specs.declared.exprs.FieldExpr.TheVariants as field
+use Rattle.lay_code.proofs.nodes.ExprsLaws.{expr_struct_is, field_expr_named_is, field_expr_numbered_is, field_expr_short_is}
 use Rattle.lay_out_tokens.proofs.StreamParts.{leaf_more}
 use Rattle.lay_out_types.specs.Calls.{Adds}
 use Rattle.lay_out_types.specs.PatternRows.{braces_closed, braces_opened}

@@ -6,12 +6,12 @@ use Rattle.lay_form.specs.Form.{Form, Done}
 use Rattle.lay_form.specs.Layout.{text_of_bits}
 use Rattle.lay_form.specs.Notation.{braces}
 use Rattle.lay_form.specs.Stream.{fed}
-use Rattle.lay_tree.specs.nodes.Code.{about_expr, about_field_expr}
-use Rattle.lay_tree.specs.nodes.Exprs.{ExprFacts, base_form, end_form, prefix_bits}
-use Rattle.lay_tree.specs.declared.exprs.Expr.{Expr}
-use Rattle.lay_tree.specs.declared.exprs.FieldExpr.{FieldExpr}
-use Rattle.lay_tree.specs.declared.operators.Op.{Op}
-use Rattle.lay_tree.specs.declared.operators.Prefix.{Prefix}
+use Rattle.lay_code.specs.nodes.Code.{about_expr, about_field_expr}
+use Rattle.lay_code.specs.nodes.Exprs.{ExprFacts, base_form, end_form, prefix_bits}
+use Rattle.lay_code.specs.declared.exprs.Expr.{Expr}
+use Rattle.lay_code.specs.declared.exprs.FieldExpr.{FieldExpr}
+use Rattle.lay_code.specs.declared.operators.Op.{Op}
+use Rattle.lay_code.specs.declared.operators.Prefix.{Prefix}
 
 -- the forms of an expression and of a field
 abbrev pub expr_told : Expr → Form

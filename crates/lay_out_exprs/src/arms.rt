@@ -1,18 +1,18 @@
 //! What stands round the bodies of arms.
 ghost use Rattle.std.specs.Prelude.{◌≡◌, OnOk};
 ghost use Rattle.lay_layout.specs.Machine.{IsNested};
-ghost use Rattle.lay_tree.specs.nodes.Blocks.{braces_of};
-ghost use Rattle.lay_tree.specs.nodes.Code.{about_expr};
+ghost use Rattle.lay_code.specs.nodes.Blocks.{braces_of};
+ghost use Rattle.lay_code.specs.nodes.Code.{about_expr};
 ghost use Rattle.lay_out_types.specs.Calls.{Adds};
 ghost use Rattle.lay_out_exprs.specs.Arms.{arm_closed, arm_opened, seen_as};
 
+use lay_code::Expr;
 use lay_layout::{Break, Mark};
 use lay_out_heads::calls::{add_break, add_inside};
 use lay_out_tokens::notation::{CLOSING_SOFT_BREAK, SOFT_BREAK};
 use lay_out_types::calls::add_text;
 use lay_out_types::lists::add_end;
 use lay_stream::Emit;
-use lay_tree::Expr;
 
 /// How the body of an arm is laid out.
 #[derive(Clone, Copy)]

@@ -2,20 +2,20 @@
 ghost use Rattle.std.specs.Prelude.{◌≡◌, ◌<◌, [], cond, map, OnOk};
 ghost use Rattle.lay_form.specs.Form.{Done};
 ghost use Rattle.lay_form.specs.Stream.{stream_of};
-ghost use Rattle.lay_tree.specs.nodes.Blocks.{is_single};
-ghost use Rattle.lay_tree.specs.nodes.Code.{about_stmt};
-ghost use Rattle.lay_tree.specs.nodes.Exprs.{labelled};
+ghost use Rattle.lay_code.specs.nodes.Blocks.{is_single};
+ghost use Rattle.lay_code.specs.nodes.Code.{about_stmt};
+ghost use Rattle.lay_code.specs.nodes.Exprs.{labelled};
 ghost use Rattle.lay_out_types.specs.Calls.{Adds};
 ghost use Rattle.lay_out_exprs.specs.Blocks.{else_between, lead_row, soft_closed};
 
 use crate::flags::both;
+use lay_code::{Attr, Block, Lifetime, Pat, Stmt};
 use lay_out_heads::calls::add_break;
 use lay_out_tokens::notation::CLOSING_SPACE_BREAK;
 use lay_out_types::calls::add_text;
 use lay_out_types::lists::add_end;
 use lay_out_types::{add_group, add_pat};
 use lay_stream::Emit;
-use lay_tree::{Attr, Block, Lifetime, Pat, Stmt};
 
 /// A label before a loop or a block, if there is one.
 pub fn add_labelled<E: Emit>(

@@ -3,16 +3,16 @@ ghost use Rattle.std.specs.Prelude.{map, true};
 ghost use Rattle.lay_form.specs.Form.{Done};
 ghost use Rattle.lay_form.specs.Notation.{comma_list};
 ghost use Rattle.lay_form.specs.Stream.{stream_of};
-ghost use Rattle.lay_tree.specs.nodes.Exprs.{bar, closure_head, closure_param};
+ghost use Rattle.lay_code.specs.nodes.Exprs.{bar, closure_head, closure_param};
 ghost use Rattle.lay_out_types.specs.Calls.{Adds};
 
+use lay_code::ClosureParam;
 use lay_out_heads::add_self_type;
 use lay_out_types::add_pat;
 use lay_out_types::calls::add_if;
 use lay_out_types::lists::{add_close, add_lead};
 use lay_out_types::parts::add_param_attrs;
 use lay_stream::Emit;
-use lay_tree::ClosureParam;
 
 /// The word `move`, if it is said, and parameters.
 pub fn add_closure_head<E: Emit>(

@@ -1,14 +1,14 @@
 //! The generic arguments of a method.
 ghost use Rattle.lay_form.specs.Form.{Done};
 ghost use Rattle.lay_form.specs.Stream.{stream_of};
-ghost use Rattle.lay_tree.specs.nodes.Exprs.{generics_form};
+ghost use Rattle.lay_code.specs.nodes.Exprs.{generics_form};
 ghost use Rattle.lay_out_types.specs.Calls.{Adds};
 
+use lay_code::Arg;
 use lay_out_types::add_angles;
 use lay_out_types::calls::add_text;
 use lay_stream::Emit;
 use lay_text::List;
-use lay_tree::Arg;
 
 /// The generic arguments of a method behind `::`, if it has some.
 pub fn add_generics<E: Emit>(

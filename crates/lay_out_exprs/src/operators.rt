@@ -5,16 +5,16 @@ ghost use Rattle.lay_form.specs.Form.{Done, Never, Soft};
 ghost use Rattle.lay_form.specs.Layout.{break_of, text_of_bits};
 ghost use Rattle.lay_form.specs.Stream.{stream_of};
 ghost use Rattle.lay_node.specs.nodes.Types.{about_type};
-ghost use Rattle.lay_tree.specs.Operators.{op_text};
-ghost use Rattle.lay_tree.specs.nodes.Exprs.{label_form, prefix_bits, types_form};
+ghost use Rattle.lay_code.specs.Operators.{op_text};
+ghost use Rattle.lay_code.specs.nodes.Exprs.{label_form, prefix_bits, types_form};
 ghost use Rattle.lay_out_exprs.specs.Parts.{prefix_texts};
 ghost use Rattle.lay_out_types.specs.Calls.{Adds};
 
+use lay_code::{Lifetime, Op, Prefix, Ty};
 use lay_out_tokens::notation::{NEVER_BREAK, SPACE_BREAK};
 use lay_out_types::add_type;
 use lay_out_types::calls::add_text;
 use lay_stream::Emit;
-use lay_tree::{Lifetime, Op, Prefix, Ty};
 
 /// What stands between two operands: a break, the operator and a blank.
 pub fn add_operator<E: Emit>(

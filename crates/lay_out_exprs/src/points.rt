@@ -4,12 +4,12 @@ ghost use Rattle.lay_form.specs.Form.{Done};
 ghost use Rattle.lay_form.specs.Layout.{ends_behind_point};
 ghost use Rattle.lay_node.specs.nodes.Types.{about_path};
 ghost use Rattle.lay_node.specs.declared.types.PathStyle.TheVariants.{Code};
-ghost use Rattle.lay_tree.specs.nodes.Code.{about_expr};
-ghost use Rattle.lay_tree.specs.nodes.Exprs.{end_form};
+ghost use Rattle.lay_code.specs.nodes.Code.{about_expr};
+ghost use Rattle.lay_code.specs.nodes.Exprs.{end_form};
 
 use crate::flags::both;
+use lay_code::{Boxed, Expr, Path, PathStart};
 use lay_out_types::is_pointed;
-use lay_tree::{Boxed, Expr, Path, PathStart};
 
 /// Whether an expression ends in a point. The flag says that one stands before it: what is empty, as nothing is that was
 /// read, leaves that point at the end.

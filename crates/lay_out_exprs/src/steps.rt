@@ -5,16 +5,16 @@ ghost use Rattle.lay_layout.specs.Machine.{IsNested};
 ghost use Rattle.lay_layout.specs.declared.layout.Tok.TheVariants as tok;
 ghost use Rattle.lay_form.specs.Form.{Soft};
 ghost use Rattle.lay_form.specs.Layout.{break_of};
-ghost use Rattle.lay_tree.specs.nodes.Code.{about_step};
-ghost use Rattle.lay_tree.specs.nodes.Exprs.{is_method, methods};
+ghost use Rattle.lay_code.specs.nodes.Code.{about_step};
+ghost use Rattle.lay_code.specs.nodes.Exprs.{is_method, methods};
 ghost use Rattle.lay_out_exprs.specs.Parts.{steps_closed};
 ghost use Rattle.lay_out_types.specs.Calls.{Adds};
 
 use crate::flags::{both, either};
+use lay_code::Step;
 use lay_out_tokens::notation::SOFT_BREAK;
 use lay_out_types::lists::add_end;
 use lay_stream::Emit;
-use lay_tree::Step;
 
 /// Whether several of the steps are methods.
 pub fn are_several_methods(steps: &[Step]) -> bool

@@ -15,17 +15,17 @@ use Rattle.lay_node.specs.declared.patterns.PatPlace.{PatPlace}
 use Rattle.lay_node.specs.declared.patterns.PatPlace.TheVariants.{Alternatives, Single}
 use Rattle.lay_node.specs.declared.token.Lifetime.{Lifetime}
 use Rattle.lay_node.specs.declared.types.TypePlace.TheVariants.{Bounds, NoBounds}
-use Rattle.lay_tree.specs.nodes.Blocks.{is_free}
-use Rattle.lay_tree.specs.nodes.Code.{about_expr, about_stmt, told_of_item}
-use Rattle.lay_tree.specs.nodes.Places.{FREE, plain, statement}
-use Rattle.lay_tree.specs.reader.Blocks as b
-use Rattle.lay_tree.specs.reader.Exprs as r
-use Rattle.lay_tree.specs.reader.Within.{ExprWithin}
-use Rattle.lay_tree.specs.declared.blocks.Block.{Block}
-use Rattle.lay_tree.specs.declared.exprs.ClosureParam.{ClosureParam}
-use Rattle.lay_tree.specs.declared.exprs.Expr.{Expr}
-use Rattle.lay_tree.specs.declared.exprs.Expr.TheVariants as expr
-use Rattle.lay_tree.specs.declared.exprs.Place.{Place}
+use Rattle.lay_code.specs.nodes.Blocks.{is_free}
+use Rattle.lay_code.specs.nodes.Code.{about_expr, about_stmt, told_of_item}
+use Rattle.lay_code.specs.nodes.Places.{FREE, plain, statement}
+use Rattle.lay_code.specs.reader.Blocks as b
+use Rattle.lay_code.specs.reader.Exprs as r
+use Rattle.lay_code.specs.reader.Within.{ExprWithin}
+use Rattle.lay_code.specs.declared.blocks.Block.{Block}
+use Rattle.lay_code.specs.declared.exprs.ClosureParam.{ClosureParam}
+use Rattle.lay_code.specs.declared.exprs.Expr.{Expr}
+use Rattle.lay_code.specs.declared.exprs.Expr.TheVariants as expr
+use Rattle.lay_code.specs.declared.exprs.Place.{Place}
 use Rattle.lay_read_tokens.proofs.Left.{Left, Leaves, Passes, unread, dropped, one_read, joined, further, chain, chain_passed, choice, passed_left, repeat_left, elements_left, attributes_left}
 use Rattle.lay_read_parts.proofs.Left.{weaker, read_left, lifetime_left}
 use Rattle.lay_read_types.proofs.Left.{LeftWithin}

@@ -13,15 +13,15 @@ use Rattle.lay_node.specs.declared.patterns.PatPlace.TheVariants.{Single}
 use Rattle.lay_node.specs.declared.token.Lifetime.{Lifetime}
 use Rattle.lay_node.specs.declared.types.Ty.{Ty}
 use Rattle.lay_node.specs.declared.types.TypePlace.TheVariants.{Bounds}
-use Rattle.lay_tree.specs.reader.Blocks.{behind_semicolons, block_by, branch_by, condition_by, let_stmt, stmt_in_block}
-use Rattle.lay_tree.specs.reader.Exprs.{closure_body, closure_expr, closure_param, label_expr, labelled_expr, while_expr}
-use Rattle.lay_tree.specs.reader.Within.{ExprWithin}
-use Rattle.lay_tree.specs.declared.blocks.Block.{Block}
-use Rattle.lay_tree.specs.declared.blocks.Branch.{Branch}
-use Rattle.lay_tree.specs.declared.blocks.Stmt.{Stmt}
-use Rattle.lay_tree.specs.declared.exprs.ClosureParam.{ClosureParam}
-use Rattle.lay_tree.specs.declared.exprs.Expr.{Expr}
-use Rattle.lay_tree.specs.declared.exprs.Expr.TheVariants as expr
+use Rattle.lay_code.specs.reader.Blocks.{behind_semicolons, block_by, branch_by, condition_by, let_stmt, stmt_in_block}
+use Rattle.lay_code.specs.reader.Exprs.{closure_body, closure_expr, closure_param, label_expr, labelled_expr, while_expr}
+use Rattle.lay_code.specs.reader.Within.{ExprWithin}
+use Rattle.lay_code.specs.declared.blocks.Block.{Block}
+use Rattle.lay_code.specs.declared.blocks.Branch.{Branch}
+use Rattle.lay_code.specs.declared.blocks.Stmt.{Stmt}
+use Rattle.lay_code.specs.declared.exprs.ClosureParam.{ClosureParam}
+use Rattle.lay_code.specs.declared.exprs.Expr.{Expr}
+use Rattle.lay_code.specs.declared.exprs.Expr.TheVariants as expr
 use Rattle.lay_read_blocks.specs.Answers.{let_behind}
 
 module _ (within : ExprWithin) (ts : Tokens) where

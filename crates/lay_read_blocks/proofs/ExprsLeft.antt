@@ -20,17 +20,17 @@ use Rattle.lay_node.specs.declared.types.Arg.{Arg}
 use Rattle.lay_node.specs.declared.types.Path.{Path}
 use Rattle.lay_node.specs.declared.types.PathStyle.TheVariants.{Code}
 use Rattle.lay_node.specs.declared.types.TypePlace.TheVariants.{NoBounds}
-use Rattle.lay_tree.specs.Operands.{ExprLead, ByLiteral, ByPath, ByUnderscore, ByParen, ByBracket, ByPrefix, ByRange, ByContinue, ByBreak, ByReturn, ByLabel, ByBrace, ByBlockWord, ByClosure, expr_lead_at, begins_operand}
-use Rattle.lay_tree.specs.Operators.{op_text, binary, prefix, prefix_length, begins_step, strength}
-use Rattle.lay_tree.specs.nodes.Code.{about_expr}
-use Rattle.lay_tree.specs.nodes.Exprs.{stands, root_follows}
-use Rattle.lay_tree.specs.nodes.Places.{plain, FREE}
-use Rattle.lay_tree.specs.reader.Exprs as r
-use Rattle.lay_tree.specs.reader.Within.{ExprWithin}
-use Rattle.lay_tree.specs.declared.exprs.Expr.{Expr}
-use Rattle.lay_tree.specs.declared.exprs.Place.{Place}
-use Rattle.lay_tree.specs.declared.operators.Prefix.{Prefix}
-use Rattle.lay_tree.specs.declared.operators.Prefix.TheVariants as before
+use Rattle.lay_code.specs.Operands.{ExprLead, ByLiteral, ByPath, ByUnderscore, ByParen, ByBracket, ByPrefix, ByRange, ByContinue, ByBreak, ByReturn, ByLabel, ByBrace, ByBlockWord, ByClosure, expr_lead_at, begins_operand}
+use Rattle.lay_code.specs.Operators.{op_text, binary, prefix, prefix_length, begins_step, strength}
+use Rattle.lay_code.specs.nodes.Code.{about_expr}
+use Rattle.lay_code.specs.nodes.Exprs.{stands, root_follows}
+use Rattle.lay_code.specs.nodes.Places.{plain, FREE}
+use Rattle.lay_code.specs.reader.Exprs as r
+use Rattle.lay_code.specs.reader.Within.{ExprWithin}
+use Rattle.lay_code.specs.declared.exprs.Expr.{Expr}
+use Rattle.lay_code.specs.declared.exprs.Place.{Place}
+use Rattle.lay_code.specs.declared.operators.Prefix.{Prefix}
+use Rattle.lay_code.specs.declared.operators.Prefix.TheVariants as before
 use Rattle.lay_read_tokens.proofs.Left.{Left, Leaves, unread, dropped, one_read, further, chain, chain_passed, choice, first_read, passed_left, op_read, repeat_left, elements_left, name_left, tokens_left, call_left, attributes_left}
 use Rattle.lay_read_parts.proofs.Left.{weaker, there_left, read_left, lifetime_left, literal_left, angled_left, open_left}
 use Rattle.lay_read_types.proofs.Left.{one_arg_left, path_left}

@@ -15,14 +15,14 @@ use Rattle.lay_node.specs.reader.Where.{wheres}
 use Rattle.lay_node.specs.reader.Words.{name}
 use Rattle.lay_node.specs.declared.heads.Site.{Site}
 use Rattle.lay_node.specs.declared.heads.Site.TheVariants as site
-use Rattle.lay_tree.specs.nodes.Code.{told_of_kind}
-use Rattle.lay_tree.specs.nodes.Item.{is_inherited, may_be_bodied, may_be_valued}
-use Rattle.lay_tree.specs.nodes.Places.{FREE}
-use Rattle.lay_tree.specs.reader.Blocks.{block_by}
-use Rattle.lay_tree.specs.reader.Code.{code_in, expr_at, item_at}
-use Rattle.lay_tree.specs.reader.Item as item
-use Rattle.lay_tree.specs.reader.Item.{ItemWithin}
-use Rattle.lay_tree.specs.reader.ItemLeads.{ItemLead, item_lead, OfAlias, OfCall, OfEnum, OfExternCrate, OfForeign, OfFunction, OfImpl, OfImport, OfModule, OfRules, OfStruct, OfTrait, OfUnion, OfValue}
+use Rattle.lay_code.specs.nodes.Code.{told_of_kind}
+use Rattle.lay_code.specs.nodes.Item.{is_inherited, may_be_bodied, may_be_valued}
+use Rattle.lay_code.specs.nodes.Places.{FREE}
+use Rattle.lay_code.specs.reader.Blocks.{block_by}
+use Rattle.lay_code.specs.reader.Code.{code_in, expr_at, item_at}
+use Rattle.lay_code.specs.reader.Item as item
+use Rattle.lay_code.specs.reader.Item.{ItemWithin}
+use Rattle.lay_code.specs.reader.ItemLeads.{ItemLead, item_lead, OfAlias, OfCall, OfEnum, OfExternCrate, OfForeign, OfFunction, OfImpl, OfImport, OfModule, OfRules, OfStruct, OfTrait, OfUnion, OfValue}
 use Rattle.lay_read_tokens.proofs.Left.{Leaves, unread, dropped, joined, further, chain, chain_passed, choice, first_read, passed_left, repeat_left, name_left, group_left, call_left, end_left, attributes_left}
 use Rattle.lay_read_parts.proofs.Left.{flag_left, literal_left, there_left, weaker, read_left}
 use Rattle.lay_head_rules.proofs.Left.{vis_left}

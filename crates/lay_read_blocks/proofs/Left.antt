@@ -2,10 +2,10 @@
 use Rattle.std.proofs.Common.{◌≡◌, ℕ, zero, suc, Bool, drop, refl, subst}
 use Rattle.lay_node.specs.Ahead.{Tokens}
 use Rattle.lay_node.specs.declared.heads.Site.{Site}
-use Rattle.lay_tree.specs.reader.Blocks as blocks
-use Rattle.lay_tree.specs.reader.Code.{code_in, expr_at, item_at}
-use Rattle.lay_tree.specs.reader.Exprs as exprs
-use Rattle.lay_tree.specs.declared.exprs.Place.{Place}
+use Rattle.lay_code.specs.reader.Blocks as blocks
+use Rattle.lay_code.specs.reader.Code.{code_in, expr_at, item_at}
+use Rattle.lay_code.specs.reader.Exprs as exprs
+use Rattle.lay_code.specs.declared.exprs.Place.{Place}
 use Rattle.lay_read_tokens.proofs.Left.{Leaves}
 use Rattle.lay_read_types.proofs.Left.{left_within}
 use Rattle.lay_read_pats.proofs.Left.{pats_leave}

@@ -13,33 +13,33 @@ use Rattle.lay_node.specs.declared.heads.Site.TheVariants.{Module}
 use Rattle.lay_node.specs.declared.patterns.PatPlace.TheVariants.{Alternatives, Single}
 use Rattle.lay_node.specs.declared.types.TypePlace.TheVariants.{Bounds}
 use Rattle.lay_node.proofs.Steps.{same_some, chosen, bind_some}
-use Rattle.lay_tree.specs.Operands.{ByBrace, expr_lead_at}
-use Rattle.lay_tree.specs.Operators.{begins_step, strength}
-use Rattle.lay_tree.specs.nodes.Blocks.{is_lone_body}
-use Rattle.lay_tree.specs.nodes.Code.{about_expr, about_stmt, told_of_item}
-use Rattle.lay_tree.specs.nodes.Exprs.{ExprFacts, root_follows, stands}
-use Rattle.lay_tree.specs.nodes.Places.{FREE, plain, statement}
-use Rattle.lay_tree.specs.reader.Blocks.{begins_item, behind_semicolons, block_by, condition_by, else_stands, expr_stmt, item_stmt, let_stmt, stmt_by, stmt_in_block, undressed}
-use Rattle.lay_tree.specs.reader.Code.{code_in, expr_at}
-use Rattle.lay_tree.specs.reader.Exprs.{assign_expr, begins_tuple_index, cast_expr, chain_expr, climb, climb_by, expr_by, for_expr, head_by, is_ended, labelled_expr, left_place, one_step, one_type, operand_if, operands, postfix_expr, range_by, range_expr, stage, targets_of, value_of, while_expr}
-use Rattle.lay_tree.specs.reader.Within.{ExprWithin}
-use Rattle.lay_tree.specs.declared.blocks.Arm.{Arm}
-use Rattle.lay_tree.specs.declared.blocks.Block.{Block}
-use Rattle.lay_tree.specs.declared.blocks.Branch.{Branch}
-use Rattle.lay_tree.specs.declared.blocks.Stmt.{Stmt}
-use Rattle.lay_tree.specs.declared.blocks.Stmt.TheOpen.{Expr-F, Stmt-F}
-use Rattle.lay_tree.specs.declared.blocks.Stmt.TheVariants as stmt
-use Rattle.lay_tree.specs.declared.blocks.Stmt.TheViews as views
-use Rattle.lay_tree.specs.declared.exprs.Expr.{Expr}
-use Rattle.lay_tree.specs.declared.exprs.Expr.TheVariants as expr
-use Rattle.lay_tree.specs.declared.exprs.FieldExpr.{FieldExpr}
-use Rattle.lay_tree.specs.declared.exprs.Place.{Place}
-use Rattle.lay_tree.specs.declared.exprs.Step.{Step}
-use Rattle.lay_tree.specs.declared.item.Item.{Item}
-use Rattle.lay_tree.specs.declared.item.ItemKind.{ItemKind}
-use Rattle.lay_tree.proofs.nodes.ExprsLaws as laws
-use Rattle.lay_tree.proofs.reader.ArmsSoundBodies.{IsAlone, Lone, alone, alone_block, is_alone}
-use Rattle.lay_tree.proofs.reader.ExprSoundLeads.{code_led}
+use Rattle.lay_code.specs.Operands.{ByBrace, expr_lead_at}
+use Rattle.lay_code.specs.Operators.{begins_step, strength}
+use Rattle.lay_code.specs.nodes.Blocks.{is_lone_body}
+use Rattle.lay_code.specs.nodes.Code.{about_expr, about_stmt, told_of_item}
+use Rattle.lay_code.specs.nodes.Exprs.{ExprFacts, root_follows, stands}
+use Rattle.lay_code.specs.nodes.Places.{FREE, plain, statement}
+use Rattle.lay_code.specs.reader.Blocks.{begins_item, behind_semicolons, block_by, condition_by, else_stands, expr_stmt, item_stmt, let_stmt, stmt_by, stmt_in_block, undressed}
+use Rattle.lay_code.specs.reader.Code.{code_in, expr_at}
+use Rattle.lay_code.specs.reader.Exprs.{assign_expr, begins_tuple_index, cast_expr, chain_expr, climb, climb_by, expr_by, for_expr, head_by, is_ended, labelled_expr, left_place, one_step, one_type, operand_if, operands, postfix_expr, range_by, range_expr, stage, targets_of, value_of, while_expr}
+use Rattle.lay_code.specs.reader.Within.{ExprWithin}
+use Rattle.lay_code.specs.declared.blocks.Arm.{Arm}
+use Rattle.lay_code.specs.declared.blocks.Block.{Block}
+use Rattle.lay_code.specs.declared.blocks.Branch.{Branch}
+use Rattle.lay_code.specs.declared.blocks.Stmt.{Stmt}
+use Rattle.lay_code.specs.declared.blocks.Stmt.TheOpen.{Expr-F, Stmt-F}
+use Rattle.lay_code.specs.declared.blocks.Stmt.TheVariants as stmt
+use Rattle.lay_code.specs.declared.blocks.Stmt.TheViews as views
+use Rattle.lay_code.specs.declared.exprs.Expr.{Expr}
+use Rattle.lay_code.specs.declared.exprs.Expr.TheVariants as expr
+use Rattle.lay_code.specs.declared.exprs.FieldExpr.{FieldExpr}
+use Rattle.lay_code.specs.declared.exprs.Place.{Place}
+use Rattle.lay_code.specs.declared.exprs.Step.{Step}
+use Rattle.lay_code.specs.declared.item.Item.{Item}
+use Rattle.lay_code.specs.declared.item.ItemKind.{ItemKind}
+use Rattle.lay_code.proofs.nodes.ExprsLaws as laws
+use Rattle.lay_code.proofs.reader.ArmsSoundBodies.{IsAlone, Lone, alone, alone_block, is_alone}
+use Rattle.lay_code.proofs.reader.ExprSoundLeads.{code_led}
 use Rattle.lay_read_tokens.proofs.Left.{Leaves, Left, attributes_left, passed_left, Passes}
 use Rattle.lay_ends.specs.Bodies.{IsBare}
 use Rattle.lay_read_blocks.proofs.BlocksLeft.{LeftCode, in_block_left, semicolons_left}

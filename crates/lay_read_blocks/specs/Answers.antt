@@ -14,21 +14,21 @@ use Rattle.lay_node.specs.declared.patterns.Pat.{Pat}
 use Rattle.lay_node.specs.declared.patterns.PatPlace.TheVariants.{Alternatives}
 use Rattle.lay_node.specs.declared.types.Ty.{Ty}
 use Rattle.lay_node.specs.declared.types.TypePlace.TheVariants.{NoBounds}
-use Rattle.lay_tree.specs.nodes.Places.{FREE, plain}
-use Rattle.lay_tree.specs.reader.Blocks.{block_by, else_stands}
-use Rattle.lay_tree.specs.reader.Code.{code_in, expr_at, item_at}
-use Rattle.lay_tree.specs.reader.Exprs.{closure_expr, if_expr, label_expr, labelled_expr, match_expr, block_word_expr}
-use Rattle.lay_tree.specs.reader.Item.{fn_body}
-use Rattle.lay_tree.specs.reader.Within.{ExprWithin}
-use Rattle.lay_tree.specs.declared.blocks.Arm.{Arm}
-use Rattle.lay_tree.specs.declared.blocks.Block.{Block}
-use Rattle.lay_tree.specs.declared.blocks.Stmt.{Stmt}
-use Rattle.lay_tree.specs.declared.blocks.Stmt.TheVariants as stmt
-use Rattle.lay_tree.specs.declared.exprs.ClosureParam.{ClosureParam}
-use Rattle.lay_tree.specs.declared.exprs.Expr.{Expr}
-use Rattle.lay_tree.specs.declared.exprs.Expr.TheVariants as expr
-use Rattle.lay_tree.specs.declared.exprs.Place.{Place}
-use Rattle.lay_tree.specs.declared.item.Item.{Item}
+use Rattle.lay_code.specs.nodes.Places.{FREE, plain}
+use Rattle.lay_code.specs.reader.Blocks.{block_by, else_stands}
+use Rattle.lay_code.specs.reader.Code.{code_in, expr_at, item_at}
+use Rattle.lay_code.specs.reader.Exprs.{closure_expr, if_expr, label_expr, labelled_expr, match_expr, block_word_expr}
+use Rattle.lay_code.specs.reader.Item.{fn_body}
+use Rattle.lay_code.specs.reader.Within.{ExprWithin}
+use Rattle.lay_code.specs.declared.blocks.Arm.{Arm}
+use Rattle.lay_code.specs.declared.blocks.Block.{Block}
+use Rattle.lay_code.specs.declared.blocks.Stmt.{Stmt}
+use Rattle.lay_code.specs.declared.blocks.Stmt.TheVariants as stmt
+use Rattle.lay_code.specs.declared.exprs.ClosureParam.{ClosureParam}
+use Rattle.lay_code.specs.declared.exprs.Expr.{Expr}
+use Rattle.lay_code.specs.declared.exprs.Expr.TheVariants as expr
+use Rattle.lay_code.specs.declared.exprs.Place.{Place}
+use Rattle.lay_code.specs.declared.item.Item.{Item}
 use Rattle.lay_fronts.specs.ArmFronts.{arm_alone, body_begun}
 use Rattle.lay_fronts.specs.Fronts.{stmt_alone}
 use Rattle.lay_ops.specs.declared.operands.ExprLead.{ExprLead}

@@ -2,7 +2,7 @@
 use Rattle.std.specs.Prelude.{◌&&◌, not, Bool, [], ◌∷◌, codes}
 use Rattle.lay_piece.specs.declared.kind.Delim.TheVariants.{Brace}
 use Rattle.lay_node.specs.Ahead.{Tokens, first, tail, is_keyword, opens}
-use Rattle.lay_tree.specs.reader.Blocks.{begins_with}
+use Rattle.lay_code.specs.reader.Blocks.{begins_with}
 
 -- `const` or `unsafe`, and no `{` behind it
 abbrev pub begins_const_item : Tokens → Bool

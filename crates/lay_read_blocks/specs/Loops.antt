@@ -1,8 +1,8 @@
 -- What goes on as long as a part of it begins, in code.
 use Rattle.std.specs.Prelude.{suc, ◌==◌, Bool, codes}
 use Rattle.lay_node.specs.Ahead.{Tokens, first, is_keyword, more_items}
-use Rattle.lay_tree.specs.Operators.{begins_step, strength}
-use Rattle.lay_tree.specs.reader.Exprs.{begins_else_if}
+use Rattle.lay_code.specs.Operators.{begins_step, strength}
+use Rattle.lay_code.specs.reader.Exprs.{begins_else_if}
 use Rattle.lay_read_blocks.specs.declared.loops.Going.{Going}
 use Rattle.lay_read_blocks.specs.declared.loops.Going.TheVariants as going
 

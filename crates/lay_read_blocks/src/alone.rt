@@ -5,11 +5,11 @@ ghost use Rattle.lay_read_tokens.specs.Answers.{IsFound};
 ghost use Rattle.lay_read_blocks.specs.Answers.{AreCode, code_within, deeper_arm, deeper_stmt};
 
 use crate::rules::BlockRules;
+use lay_code::{Arm, Block, Expr, Item, Place, Site, Stmt};
 use lay_ops::ends;
 use lay_read_parts::joins::refused;
 use lay_read_tokens::front::takes_mark;
 use lay_read_tokens::{Ahead, Found, ReadNone};
-use lay_tree::{Arm, Block, Expr, Item, Place, Site, Stmt};
 use std::alloc::Global;
 
 /// Passes the comma of an arm by itself, which may lack it where it is said, and where no token follows.

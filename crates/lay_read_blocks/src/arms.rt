@@ -3,12 +3,12 @@ ghost use Rattle.std.specs.Prelude.{ℕ, ◌≡◌, ◌+◌, ◌^◌, ◌<◌, �
 ghost use Rattle.lay_node.specs.Ahead.{first, is_keyword, more_items, tail};
 ghost use Rattle.lay_node.specs.reader.Loops.{repeat};
 ghost use Rattle.lay_node.specs.reader.Types.{if_read};
-ghost use Rattle.lay_tree.specs.nodes.Blocks.{is_lone_body};
-ghost use Rattle.lay_tree.specs.nodes.Code.{about_expr};
-ghost use Rattle.lay_tree.specs.nodes.Places.{FREE as free};
-ghost use Rattle.lay_tree.specs.reader.Blocks as reader;
-ghost use Rattle.lay_tree.specs.reader.Code.{expr_at};
-ghost use Rattle.lay_tree.specs.reader.Exprs as exprs;
+ghost use Rattle.lay_code.specs.nodes.Blocks.{is_lone_body};
+ghost use Rattle.lay_code.specs.nodes.Code.{about_expr};
+ghost use Rattle.lay_code.specs.nodes.Places.{FREE as free};
+ghost use Rattle.lay_code.specs.reader.Blocks as reader;
+ghost use Rattle.lay_code.specs.reader.Code.{expr_at};
+ghost use Rattle.lay_code.specs.reader.Exprs as exprs;
 ghost use Rattle.lay_fronts.specs.ArmFronts.{arm_begun, body_begun};
 ghost use Rattle.lay_read_tokens.specs.Answers.{AreFound, IsFound, IsHeld};
 ghost use Rattle.lay_ends.specs.Bodies.{IsBare};
@@ -17,6 +17,7 @@ ghost use Rattle.lay_read_blocks.specs.Answers.{AreCode, arm_behind, code_within
 use crate::loops::{Going, read_parts};
 use crate::places::{FREE, STATEMENT, plain};
 use crate::rules::BlockRules;
+use lay_code::{Arm, Attr, Block, Expr, Item, Pat, PatPlace, Place, Site, Stmt};
 use lay_ends::undressed;
 use lay_ops::{is_free, is_lone_body};
 use lay_read_parts::joins::{both, refused};
@@ -29,7 +30,6 @@ use lay_read_tokens::front::{
 };
 use lay_read_tokens::{Ahead, Found, ReadNone};
 use lay_token::{Delim, List};
-use lay_tree::{Arm, Attr, Block, Expr, Item, Pat, PatPlace, Place, Site, Stmt};
 use std::alloc::Global;
 
 /// Arms, as parts that stand one behind another.
@@ -192,7 +192,7 @@ impl<
     }
 
     /// What stands behind `match`, unless it is deeper than may be.
-    #[tactic(auto, unfolding(lay_tree::specs::reader::Exprs::match_expr))]
+    #[tactic(auto, unfolding(lay_code::specs::reader::Exprs::match_expr))]
     #[inline(never)]
     pub fn match_expr(&self, at: &mut Ahead<'_>) -> Result<Found<Expr>, ReadNone>
         requires { AreCode self.now.depth (P.pre self.now.exprs) (P.post self.now.exprs) (B.pre self.now.blocks) (B.post self.now.blocks) (I.pre self.now.items) (I.post self.now.items) }

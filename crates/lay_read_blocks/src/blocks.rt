@@ -2,14 +2,15 @@
 ghost use Rattle.std.specs.Prelude.{◌≡◌, ◌+◌, ◌≤◌, IfOk};
 ghost use Rattle.lay_node.specs.Ahead.{more_items};
 ghost use Rattle.lay_node.specs.reader.Loops.{repeat};
-ghost use Rattle.lay_tree.specs.reader.Blocks as reader;
-ghost use Rattle.lay_tree.specs.reader.Code as code;
+ghost use Rattle.lay_code.specs.reader.Blocks as reader;
+ghost use Rattle.lay_code.specs.reader.Code as code;
 ghost use Rattle.lay_read_tokens.specs.Answers.{AreFound, IsFound, IsHeld};
 ghost use Rattle.lay_read_blocks.specs.Answers.{AreCode, body_if, code_within};
 
 use crate::front::pass_semicolons;
 use crate::loops::{Going, read_parts};
 use crate::rules::BlockRules;
+use lay_code::{Block, Expr, Item, Place, Site, Stmt};
 use lay_ops::ends;
 use lay_read_parts::joins::{both, refused};
 use lay_read_parts::loops::Part;
@@ -17,7 +18,6 @@ use lay_read_tokens::attributes::attrs_ahead;
 use lay_read_tokens::front::{is_at_closer, is_at_opened, takes_closer, takes_mark, takes_opener};
 use lay_read_tokens::{Ahead, Found, ReadNone};
 use lay_token::{Delim, List};
-use lay_tree::{Block, Expr, Item, Place, Site, Stmt};
 use std::alloc::Global;
 
 /// Statements of a block, as parts that stand one behind another.
@@ -33,7 +33,7 @@ impl<
     I: Fn(Global, &mut Ahead<'_>, Site, u32) -> Result<Found<Item>, ReadNone>,
 > BlockRules<P, B, I> {
     /// A block.
-    #[tactic(auto, unfolding(lay_tree::specs::reader::Blocks::block_by))]
+    #[tactic(auto, unfolding(lay_code::specs::reader::Blocks::block_by))]
     #[inline(never)]
     pub fn block_by(&self, at: &mut Ahead<'_>) -> Result<Found<Block>, ReadNone>
         requires { AreCode self.now.depth (P.pre self.now.exprs) (P.post self.now.exprs) (B.pre self.now.blocks) (B.post self.now.blocks) (I.pre self.now.items) (I.post self.now.items) }

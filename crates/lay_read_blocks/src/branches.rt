@@ -3,14 +3,15 @@ ghost use Rattle.std.specs.Prelude.{◌≡◌, ◌+◌, ◌≤◌, codes, drop, 
 ghost use Rattle.lay_node.specs.Ahead.{first, is_keyword, tail};
 ghost use Rattle.lay_node.specs.reader.Loops.{repeat};
 ghost use Rattle.lay_node.specs.reader.Types.{if_read};
-ghost use Rattle.lay_tree.specs.reader.Blocks as reader;
-ghost use Rattle.lay_tree.specs.reader.Exprs as exprs;
+ghost use Rattle.lay_code.specs.reader.Blocks as reader;
+ghost use Rattle.lay_code.specs.reader.Exprs as exprs;
 ghost use Rattle.lay_read_tokens.specs.Answers.{AreFound, IsFound, IsHeld};
 ghost use Rattle.lay_read_blocks.specs.Answers.{AreCode, code_within, matched};
 
 use crate::loops::{Going, read_parts};
 use crate::places::plain;
 use crate::rules::BlockRules;
+use lay_code::{Block, Branch, Expr, Item, Lifetime, Pat, PatPlace, Place, Site};
 use lay_read_parts::joins::{both, prepended, refused};
 use lay_read_parts::loops::Part;
 use lay_read_pats::pat_ahead;
@@ -19,7 +20,6 @@ use lay_read_tokens::front::{pass_two, takes_keyword, takes_op};
 use lay_read_tokens::stop::boxed;
 use lay_read_tokens::{Ahead, Found, ReadNone};
 use lay_token::List;
-use lay_tree::{Block, Branch, Expr, Item, Lifetime, Pat, PatPlace, Place, Site};
 use std::alloc::Global;
 
 /// Branches behind `else if`, as parts that stand one behind another.
@@ -35,7 +35,7 @@ impl<
     I: Fn(Global, &mut Ahead<'_>, Site, u32) -> Result<Found<Item>, ReadNone>,
 > BlockRules<P, B, I> {
     /// A condition, or a pattern and what it is matched with.
-    #[tactic(auto, unfolding(lay_tree::specs::reader::Blocks::condition_by))]
+    #[tactic(auto, unfolding(lay_code::specs::reader::Blocks::condition_by))]
     #[inline(never)]
     pub fn condition_by(&self, at: &mut Ahead<'_>) -> Result<Found<(Option<Pat>, Expr)>, ReadNone>
         requires { AreCode self.now.depth (P.pre self.now.exprs) (P.post self.now.exprs) (B.pre self.now.blocks) (B.post self.now.blocks) (I.pre self.now.items) (I.post self.now.items) }
@@ -71,7 +71,7 @@ impl<
     }
 
     /// What stands behind an `if`.
-    #[tactic(auto, unfolding(lay_tree::specs::reader::Blocks::branch_by))]
+    #[tactic(auto, unfolding(lay_code::specs::reader::Blocks::branch_by))]
     #[inline(never)]
     pub fn branch_by(&self, at: &mut Ahead<'_>) -> Result<Found<Branch>, ReadNone>
         requires { AreCode self.now.depth (P.pre self.now.exprs) (P.post self.now.exprs) (B.pre self.now.blocks) (B.post self.now.blocks) (I.pre self.now.items) (I.post self.now.items) }
@@ -143,7 +143,7 @@ impl<
     }
 
     /// What stands behind an `if`, with all its branches.
-    #[tactic(auto, unfolding(lay_tree::specs::reader::Exprs::if_expr))]
+    #[tactic(auto, unfolding(lay_code::specs::reader::Exprs::if_expr))]
     #[inline(never)]
     pub fn if_expr(&self, at: &mut Ahead<'_>) -> Result<Found<Expr>, ReadNone>
         requires { AreCode self.now.depth (P.pre self.now.exprs) (P.post self.now.exprs) (B.pre self.now.blocks) (B.post self.now.blocks) (I.pre self.now.items) (I.post self.now.items) }
@@ -165,7 +165,7 @@ impl<
     }
 
     /// What stands behind `while`.
-    #[tactic(auto, unfolding(lay_tree::specs::reader::Exprs::while_expr))]
+    #[tactic(auto, unfolding(lay_code::specs::reader::Exprs::while_expr))]
     #[inline(never)]
     pub fn while_expr(
         &self,
@@ -195,7 +195,7 @@ impl<
     }
 
     /// What stands behind `for`.
-    #[tactic(auto, unfolding(lay_tree::specs::reader::Exprs::for_expr))]
+    #[tactic(auto, unfolding(lay_code::specs::reader::Exprs::for_expr))]
     #[inline(never)]
     pub fn for_expr(
         &self,

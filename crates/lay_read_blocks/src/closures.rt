@@ -2,12 +2,13 @@
 ghost use Rattle.std.specs.Prelude.{◌≡◌, ◌+◌, ◌≤◌, codes, IfOk};
 ghost use Rattle.lay_node.specs.Ahead.{is_mark};
 ghost use Rattle.lay_node.specs.reader.Loops.{elements};
-ghost use Rattle.lay_tree.specs.reader.Exprs as exprs;
+ghost use Rattle.lay_code.specs.reader.Exprs as exprs;
 ghost use Rattle.lay_read_tokens.specs.Answers.{AreFound, IsFound, IsHeld};
 ghost use Rattle.lay_read_blocks.specs.Answers.{AreCode, code_within, typed_closure};
 
 use crate::places::plain;
 use crate::rules::BlockRules;
+use lay_code::{Block, ClosureParam, Expr, Item, PatPlace, Place, Site, TypePlace};
 use lay_head_rules::level::type_if;
 use lay_read_parts::joins::{both, refused};
 use lay_read_parts::loops::{Closer, Part, read_elements};
@@ -18,7 +19,6 @@ use lay_read_tokens::front::{pass_two, takes_keyword, takes_mark};
 use lay_read_tokens::{Ahead, Found, ReadNone};
 use lay_read_types::type_ahead;
 use lay_token::List;
-use lay_tree::{Block, ClosureParam, Expr, Item, PatPlace, Place, Site, TypePlace};
 use std::alloc::Global;
 
 /// Parameters of a closure, as elements of a list.
@@ -34,7 +34,7 @@ impl<
     I: Fn(Global, &mut Ahead<'_>, Site, u32) -> Result<Found<Item>, ReadNone>,
 > BlockRules<P, B, I> {
     /// A parameter of a closure.
-    #[tactic(auto, unfolding(lay_tree::specs::reader::Exprs::closure_param))]
+    #[tactic(auto, unfolding(lay_code::specs::reader::Exprs::closure_param))]
     #[inline(never)]
     fn closure_param(&self, at: &mut Ahead<'_>, _place: ()) -> Result<Found<ClosureParam>, ReadNone>
         requires { AreCode self.now.depth (P.pre self.now.exprs) (P.post self.now.exprs) (B.pre self.now.blocks) (B.post self.now.blocks) (I.pre self.now.items) (I.post self.now.items) }
@@ -77,7 +77,7 @@ impl<
     }
 
     /// A closure.
-    #[tactic(auto, unfolding(lay_tree::specs::reader::Exprs::closure_expr))]
+    #[tactic(auto, unfolding(lay_code::specs::reader::Exprs::closure_expr))]
     #[inline(never)]
     pub fn closure_expr(&self, at: &mut Ahead<'_>, no_struct: bool) -> Result<Found<Expr>, ReadNone>
         requires { AreCode self.now.depth (P.pre self.now.exprs) (P.post self.now.exprs) (B.pre self.now.blocks) (B.post self.now.blocks) (I.pre self.now.items) (I.post self.now.items) }

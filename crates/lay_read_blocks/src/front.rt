@@ -1,7 +1,7 @@
 //! What begins an item among statements, and what is passed over.
 ghost use Rattle.std.specs.Prelude.{◌≡◌};
-ghost use Rattle.lay_tree.specs.reader.Blocks as reader;
-ghost use Rattle.lay_tree.specs.reader.ItemLeads as leads;
+ghost use Rattle.lay_code.specs.reader.Blocks as reader;
+ghost use Rattle.lay_code.specs.reader.ItemLeads as leads;
 ghost use Rattle.lay_node.specs.Ahead.{tail};
 ghost use Rattle.lay_read_blocks.specs.Front.{begins_async_fn, begins_const_item};
 

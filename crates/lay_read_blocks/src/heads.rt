@@ -1,17 +1,17 @@
 //! What begins with a block, with a word before one, with a label, or as a closure does.
 ghost use Rattle.std.specs.Prelude.{◌≡◌, ◌+◌, ◌≤◌, None, IfOk};
-ghost use Rattle.lay_tree.specs.reader.Exprs as exprs;
+ghost use Rattle.lay_code.specs.reader.Exprs as exprs;
 ghost use Rattle.lay_read_tokens.specs.Answers.{IsFound};
 ghost use Rattle.lay_read_blocks.specs.Answers.{AreCode, block_head, code_within, fits, worded};
 
 use crate::rules::BlockRules;
+use lay_code::{Block, Expr, Item, Lifetime, Place, Site};
 use lay_ops::operands::ExprLead;
 use lay_read_parts::joins::{both, refused};
 use lay_read_parts::parts::read_lifetime;
 use lay_read_tokens::front::{is_at_opened, takes_keyword, takes_op};
 use lay_read_tokens::{Ahead, Found, ReadNone};
 use lay_token::Delim;
-use lay_tree::{Block, Expr, Item, Lifetime, Place, Site};
 use std::alloc::Global;
 
 impl<
@@ -42,7 +42,7 @@ impl<
     }
 
     /// A block or a loop behind its label.
-    #[tactic(auto, unfolding(lay_tree::specs::reader::Exprs::label_expr))]
+    #[tactic(auto, unfolding(lay_code::specs::reader::Exprs::label_expr))]
     #[inline(never)]
     fn label_expr(&self, at: &mut Ahead<'_>) -> Result<Found<Expr>, ReadNone>
         requires { AreCode self.now.depth (P.pre self.now.exprs) (P.post self.now.exprs) (B.pre self.now.blocks) (B.post self.now.blocks) (I.pre self.now.items) (I.post self.now.items) }
@@ -95,7 +95,7 @@ impl<
     }
 
     /// What begins with a word of an expression that holds a block.
-    #[tactic(auto, unfolding(lay_tree::specs::reader::Exprs::block_word_expr))]
+    #[tactic(auto, unfolding(lay_code::specs::reader::Exprs::block_word_expr))]
     #[inline(never)]
     fn block_word_expr(&self, at: &mut Ahead<'_>) -> Result<Found<Expr>, ReadNone>
         requires { AreCode self.now.depth (P.pre self.now.exprs) (P.post self.now.exprs) (B.pre self.now.blocks) (B.post self.now.blocks) (I.pre self.now.items) (I.post self.now.items) }

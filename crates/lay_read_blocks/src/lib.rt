@@ -1,7 +1,7 @@
 //! From nested tokens to blocks, statements, branches, arms and closures: each rule by itself, over functions that read
 //! expressions, blocks and items one level deeper.
 //!
-//! Each rule is proved equal to a function of the tokens ahead that `lay_tree` defines, and that function reads what is
+//! Each rule is proved equal to a function of the tokens ahead that `lay_code` defines, and that function reads what is
 //! spelled and nothing else. [`loops`] and [`places`] have what these rules share with those of expressions.
 #![tactic(auto)]
 

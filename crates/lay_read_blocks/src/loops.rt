@@ -1,7 +1,7 @@
 //! The loop of parts that stand one behind another, over a function that reads one of them.
 ghost use Rattle.std.specs.Prelude.{◌≡◌, ◌≤◌, IfOk};
 ghost use Rattle.lay_node.specs.reader.Loops.{repeat};
-ghost use Rattle.lay_tree.specs.reader.Exprs.{begins_else_if};
+ghost use Rattle.lay_code.specs.reader.Exprs.{begins_else_if};
 ghost use Rattle.lay_read_tokens.specs.Answers.{AreFound, IsHeld};
 ghost use Rattle.lay_read_parts.specs.Answers.{ReadsParts};
 ghost use Rattle.lay_read_blocks.specs.Loops.{goes_on};

@@ -1,8 +1,8 @@
 //! The places where parts of expressions stand.
 ghost use Rattle.std.specs.Prelude.{◌≡◌};
-ghost use Rattle.lay_tree.specs.nodes.Places as places;
+ghost use Rattle.lay_code.specs.nodes.Places as places;
 
-use lay_tree::{Place, Start};
+use lay_code::{Place, Start};
 
 /// Within delimiters, and where nothing is asked.
 pub const FREE: Place = Place {

@@ -2,16 +2,16 @@
 ghost use Rattle.std.specs.Prelude.{◌≡◌, ◌≤◌, codes, drop, IfOk};
 ghost use Rattle.lay_token.specs.Operators.{is_op};
 ghost use Rattle.lay_node.specs.reader.Types.{if_read};
-ghost use Rattle.lay_tree.specs.nodes.Places as places;
-ghost use Rattle.lay_tree.specs.reader.Code.{code_in, expr_at, item_at};
+ghost use Rattle.lay_code.specs.nodes.Places as places;
+ghost use Rattle.lay_code.specs.reader.Code.{code_in, expr_at, item_at};
 ghost use Rattle.lay_read_tokens.specs.Answers.{IsFound};
 ghost use Rattle.lay_read_blocks.specs.Answers.{AreCode};
 
 use crate::places::FREE;
+use lay_code::{Block, Boxed, Expr, Item, Place, Site};
 use lay_read_tokens::front::takes_op;
 use lay_read_tokens::stop::boxed;
 use lay_read_tokens::{Ahead, Found, ReadNone};
-use lay_tree::{Block, Boxed, Expr, Item, Place, Site};
 use std::alloc::Global;
 
 /// The rules of blocks of a level, over the readers of what is one level deeper: of expressions, at a place, of blocks

@@ -2,15 +2,16 @@
 ghost use Rattle.std.specs.Prelude.{◌≡◌, ◌≤◌, max, codes, is_some, option_map, IfOk};
 ghost use Rattle.lay_node.specs.Ahead.{first, is_keyword, tail};
 ghost use Rattle.lay_node.specs.reader.Types.{if_read};
-ghost use Rattle.lay_tree.specs.nodes.Code.{about_expr};
-ghost use Rattle.lay_tree.specs.reader.Blocks as reader;
-ghost use Rattle.lay_tree.specs.reader.Code.{code_in};
+ghost use Rattle.lay_code.specs.nodes.Code.{about_expr};
+ghost use Rattle.lay_code.specs.reader.Blocks as reader;
+ghost use Rattle.lay_code.specs.reader.Code.{code_in};
 ghost use Rattle.lay_read_tokens.specs.Answers.{IsFound};
 ghost use Rattle.lay_read_blocks.specs.Answers.{AreCode, code_within, let_behind};
 
 use crate::front::begins_item;
 use crate::places::STATEMENT;
 use crate::rules::BlockRules;
+use lay_code::{Attr, Block, Expr, Item, Pat, PatPlace, Place, Site, Stmt, Ty};
 use lay_ends::may_precede_else;
 use lay_head_rules::level::type_if;
 use lay_ops::is_call;
@@ -22,7 +23,6 @@ use lay_read_tokens::front::{takes_keyword, takes_mark};
 use lay_read_tokens::stop::boxed;
 use lay_read_tokens::{Ahead, Found, ReadNone};
 use lay_token::List;
-use lay_tree::{Attr, Block, Expr, Item, Pat, PatPlace, Place, Site, Stmt, Ty};
 use std::alloc::Global;
 
 /// Whether an `else` may stand behind this value, if one stands there.
@@ -44,7 +44,7 @@ impl<
     I: Fn(Global, &mut Ahead<'_>, Site, u32) -> Result<Found<Item>, ReadNone>,
 > BlockRules<P, B, I> {
     /// A statement.
-    #[tactic(auto, unfolding(lay_tree::specs::reader::Blocks::stmt_by))]
+    #[tactic(auto, unfolding(lay_code::specs::reader::Blocks::stmt_by))]
     #[inline(never)]
     pub fn stmt_by(&self, at: &mut Ahead<'_>) -> Result<Found<Stmt>, ReadNone>
         requires { AreCode self.now.depth (P.pre self.now.exprs) (P.post self.now.exprs) (B.pre self.now.blocks) (B.post self.now.blocks) (I.pre self.now.items) (I.post self.now.items) }
@@ -83,7 +83,7 @@ impl<
     }
 
     /// An expression, and its `;` if it has one.
-    #[tactic(auto, unfolding(lay_tree::specs::reader::Blocks::expr_stmt))]
+    #[tactic(auto, unfolding(lay_code::specs::reader::Blocks::expr_stmt))]
     #[inline(never)]
     fn expr_stmt(&self, at: &mut Ahead<'_>, attrs: List<Attr>) -> Result<Found<Stmt>, ReadNone>
         requires { AreCode self.now.depth (P.pre self.now.exprs) (P.post self.now.exprs) (B.pre self.now.blocks) (B.post self.now.blocks) (I.pre self.now.items) (I.post self.now.items) }
@@ -103,7 +103,7 @@ impl<
     }
 
     /// What stands behind `let`.
-    #[tactic(auto, unfolding(lay_tree::specs::reader::Blocks::let_stmt))]
+    #[tactic(auto, unfolding(lay_code::specs::reader::Blocks::let_stmt))]
     #[inline(never)]
     fn let_stmt(&self, at: &mut Ahead<'_>, attrs: List<Attr>) -> Result<Found<Stmt>, ReadNone>
         requires { AreCode self.now.depth (P.pre self.now.exprs) (P.post self.now.exprs) (B.pre self.now.blocks) (B.post self.now.blocks) (I.pre self.now.items) (I.post self.now.items) }

@@ -3,10 +3,10 @@ use Rattle.std.proofs.Common.{ℕ, ◌≤◌}
 use Rattle.lay_form.specs.Form.{Deeper, Done}
 use Rattle.lay_node.specs.Ahead.{Tokens}
 use Rattle.lay_node.specs.nodes.Facts.{by_itself}
-use Rattle.lay_tree.specs.nodes.Code.{about_arm, about_expr}
-use Rattle.lay_tree.specs.declared.blocks.Arm.{Arm}
-use Rattle.lay_tree.specs.declared.blocks.Block.{Block}
-use Rattle.lay_tree.specs.declared.blocks.Stmt.{Stmt}
+use Rattle.lay_code.specs.nodes.Code.{about_arm, about_expr}
+use Rattle.lay_code.specs.declared.blocks.Arm.{Arm}
+use Rattle.lay_code.specs.declared.blocks.Block.{Block}
+use Rattle.lay_code.specs.declared.blocks.Stmt.{Stmt}
 use Rattle.lay_fronts.specs.ArmFronts.{ArmFront, arm_follows, arm_shape}
 use Rattle.lay_fronts.specs.Fronts.{BlockFront, StmtFront, block_told, stmt_told}
 use Rattle.lay_read_parts.proofs.AtFront.{front_deeper}

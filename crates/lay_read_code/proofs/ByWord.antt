@@ -6,7 +6,7 @@ use Rattle.lay_piece.specs.declared.kind.Kind.{Kind}
 use Rattle.lay_piece.specs.declared.kind.Kind.TheVariants.{Ident}
 use Rattle.lay_token.specs.declared.token.Token.{Token}
 use Rattle.lay_node.specs.Ahead.{Tokens}
-use Rattle.lay_tree.specs.reader.ItemLeads.{OfCall, OfFunction, begins_function, item_lead}
+use Rattle.lay_code.specs.reader.ItemLeads.{OfCall, OfFunction, begins_function, item_lead}
 use Rattle.lay_read_code.specs.Leads.{lead_of_word, led_by, may_lead_function}
 
 abbrev word_at : List ℕ → Token → Token

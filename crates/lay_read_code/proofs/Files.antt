@@ -9,13 +9,13 @@ use Rattle.lay_form.proofs.FormLaws.{is_end}
 use Rattle.lay_node.specs.reader.Attr.{attribute}
 use Rattle.lay_node.specs.declared.attr.Attr.{Attr}
 use Rattle.lay_node.proofs.Pieces.{pieces_spelled}
-use Rattle.lay_tree.specs.Reading.{NoItemAt, SpellsFile, SpellsFront, top}
-use Rattle.lay_tree.specs.Written.{Written, is_good_shebang}
-use Rattle.lay_tree.specs.nodes.File.{form_of_file}
-use Rattle.lay_tree.specs.reader.File.{front}
-use Rattle.lay_tree.specs.declared.file.File.{File}
-use Rattle.lay_tree.specs.declared.item.Item.{Item}
-use Rattle.lay_tree.proofs.reader.File.{front_sound, front_longest}
+use Rattle.lay_code.specs.Reading.{NoItemAt, SpellsFile, SpellsFront, top}
+use Rattle.lay_code.specs.Written.{Written, is_good_shebang}
+use Rattle.lay_code.specs.nodes.File.{form_of_file}
+use Rattle.lay_code.specs.reader.File.{front}
+use Rattle.lay_code.specs.declared.file.File.{File}
+use Rattle.lay_code.specs.declared.item.Item.{Item}
+use Rattle.lay_code.proofs.reader.File.{front_sound, front_longest}
 use Rattle.lay_read_tokens.specs.Answers.{AreLexed}
 use Rattle.lay_read_tokens.proofs.Left.{attribute_left, left_by}
 use Rattle.lay_read_tokens.proofs.Lexed.{lexed_in_text, lexed_texts}

@@ -15,16 +15,16 @@ use Rattle.lay_node.specs.declared.heads.Site.TheVariants as site
 use Rattle.lay_node.specs.declared.token.Literal.{Literal}
 use Rattle.lay_node.specs.declared.token.Name.{Name}
 use Rattle.lay_node.specs.declared.types.Abi.{Abi}
-use Rattle.lay_tree.specs.reader.Item as reader
-use Rattle.lay_tree.specs.reader.Item.{ItemWithin}
-use Rattle.lay_tree.specs.reader.ItemLeads.{ItemLead, item_lead, OfAlias, OfCall, OfEnum, OfExternCrate, OfForeign, OfFunction, OfImpl, OfImport, OfModule, OfRules, OfStruct, OfTrait, OfUnion, OfValue}
-use Rattle.lay_tree.specs.declared.item.Item.{Item}
-use Rattle.lay_tree.specs.declared.item.ItemKind.{ItemKind}
-use Rattle.lay_tree.specs.declared.item.ItemKind.TheVariants as item
-use Rattle.lay_tree.specs.nodes.Item.{may_be_bodied, may_be_valued}
-use Rattle.lay_tree.specs.nodes.Places.{FREE}
-use Rattle.lay_tree.specs.declared.blocks.Block.{Block}
-use Rattle.lay_tree.specs.declared.exprs.Expr.{Expr}
+use Rattle.lay_code.specs.reader.Item as reader
+use Rattle.lay_code.specs.reader.Item.{ItemWithin}
+use Rattle.lay_code.specs.reader.ItemLeads.{ItemLead, item_lead, OfAlias, OfCall, OfEnum, OfExternCrate, OfForeign, OfFunction, OfImpl, OfImport, OfModule, OfRules, OfStruct, OfTrait, OfUnion, OfValue}
+use Rattle.lay_code.specs.declared.item.Item.{Item}
+use Rattle.lay_code.specs.declared.item.ItemKind.{ItemKind}
+use Rattle.lay_code.specs.declared.item.ItemKind.TheVariants as item
+use Rattle.lay_code.specs.nodes.Item.{may_be_bodied, may_be_valued}
+use Rattle.lay_code.specs.nodes.Places.{FREE}
+use Rattle.lay_code.specs.declared.blocks.Block.{Block}
+use Rattle.lay_code.specs.declared.exprs.Expr.{Expr}
 use Rattle.lay_node.specs.declared.heads.ValueHead.{ValueHead}
 use Rattle.lay_node.specs.reader.Functions.{fn_head}
 use Rattle.lay_node.specs.reader.Heads.{semicolon, value_head}

@@ -6,11 +6,11 @@ use Rattle.lay_node.specs.reader.Attr.{attribute}
 use Rattle.lay_node.specs.declared.attr.Attr.{Attr}
 use Rattle.lay_node.specs.declared.heads.Site.TheVariants.{Module}
 use Rattle.lay_node.proofs.Steps.{bind_some, got_same}
-use Rattle.lay_tree.specs.Reading.{top}
-use Rattle.lay_tree.specs.reader.File.{front, longest, longest_from, top_item}
-use Rattle.lay_tree.specs.reader.Code.{item_at}
-use Rattle.lay_tree.specs.declared.item.Item.{Item}
-use Rattle.lay_tree.proofs.reader.Longest.{longest_end}
+use Rattle.lay_code.specs.Reading.{top}
+use Rattle.lay_code.specs.reader.File.{front, longest, longest_from, top_item}
+use Rattle.lay_code.specs.reader.Code.{item_at}
+use Rattle.lay_code.specs.declared.item.Item.{Item}
+use Rattle.lay_code.proofs.reader.Longest.{longest_end}
 use Rattle.lay_read_tokens.proofs.Left.{shorter}
 use Rattle.lay_read_code.specs.Answers.{IsNext}
 use Rattle.lay_read_blocks.proofs.Left.{item_left}

@@ -6,17 +6,17 @@ use Rattle.lay_node.specs.declared.attr.Attr.{Attr}
 use Rattle.lay_node.specs.reader.Vis.{visibility}
 use Rattle.lay_node.specs.declared.heads.Site.{Site}
 use Rattle.lay_node.specs.declared.vis.Vis.{Vis}
-use Rattle.lay_tree.specs.reader.Code.{code_in, deeper_block, expr_at, item_at}
-use Rattle.lay_tree.specs.reader.Exprs.{expr_by}
-use Rattle.lay_tree.specs.reader.Item.{item_by, kind_at}
-use Rattle.lay_tree.specs.nodes.Code.{told_of_kind}
-use Rattle.lay_tree.specs.nodes.Item.{is_inherited}
-use Rattle.lay_tree.proofs.nodes.ItemLaws as laws
-use Rattle.lay_tree.proofs.nodes.ItemLaws.{KindView, IsExternCrate, IsImport, IsFileModule, IsModule, IsFunction, IsAlias, IsStruct, IsUnion, IsEnum, IsValue, IsTrait, IsImpl, IsForeign, IsRules, IsCall}
-use Rattle.lay_tree.specs.declared.blocks.Block.{Block}
-use Rattle.lay_tree.specs.declared.exprs.Place.{Place}
-use Rattle.lay_tree.specs.declared.item.Item.{Item}
-use Rattle.lay_tree.specs.declared.item.ItemKind.{ItemKind}
+use Rattle.lay_code.specs.reader.Code.{code_in, deeper_block, expr_at, item_at}
+use Rattle.lay_code.specs.reader.Exprs.{expr_by}
+use Rattle.lay_code.specs.reader.Item.{item_by, kind_at}
+use Rattle.lay_code.specs.nodes.Code.{told_of_kind}
+use Rattle.lay_code.specs.nodes.Item.{is_inherited}
+use Rattle.lay_code.proofs.nodes.ItemLaws as laws
+use Rattle.lay_code.proofs.nodes.ItemLaws.{KindView, IsExternCrate, IsImport, IsFileModule, IsModule, IsFunction, IsAlias, IsStruct, IsUnion, IsEnum, IsValue, IsTrait, IsImpl, IsForeign, IsRules, IsCall}
+use Rattle.lay_code.specs.declared.blocks.Block.{Block}
+use Rattle.lay_code.specs.declared.exprs.Place.{Place}
+use Rattle.lay_code.specs.declared.item.Item.{Item}
+use Rattle.lay_code.specs.declared.item.ItemKind.{ItemKind}
 use Rattle.lay_read_tokens.specs.Answers.{IsFound}
 use Rattle.lay_read_tokens.specs.declared.found.Found.{Found}
 use Rattle.lay_read_tokens.specs.declared.stop.ReadNone.{ReadNone}
@@ -29,7 +29,7 @@ use Rattle.lay_node.specs.reader.Functions.{insides}
 use Rattle.lay_node.specs.reader.Use.{use_at}
 use Rattle.lay_fronts.specs.ArmFronts.{alone_arm}
 use Rattle.lay_fronts.specs.Fronts.{alone, stmt_alone}
-use Rattle.lay_tree.specs.reader.Blocks.{block_by}
+use Rattle.lay_code.specs.reader.Blocks.{block_by}
 use Rattle.lay_read_blocks.specs.Answers.{code_within, deeper_arm, deeper_stmt}
 use Rattle.lay_read_blocks.proofs.Left.{code_is}
 

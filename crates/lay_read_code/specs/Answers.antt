@@ -7,11 +7,11 @@ use Rattle.lay_text.specs.declared.refusal.Refusal.TheVariants.{NoItem}
 use Rattle.lay_token.specs.declared.token.Token.{Token}
 use Rattle.lay_node.specs.Ahead.{Tokens}
 use Rattle.lay_node.specs.reader.Loops.{Got, Read, ◌>>=◌}
-use Rattle.lay_tree.specs.Reading.{NoItemAt, SpellsFile}
-use Rattle.lay_tree.specs.reader.Within.{ExprWithin}
-use Rattle.lay_tree.specs.declared.file.File.{File}
-use Rattle.lay_tree.specs.declared.item.ItemKind.{ItemKind}
-use Rattle.lay_tree.specs.declared.item.ItemKind.TheVariants as item
+use Rattle.lay_code.specs.Reading.{NoItemAt, SpellsFile}
+use Rattle.lay_code.specs.reader.Within.{ExprWithin}
+use Rattle.lay_code.specs.declared.file.File.{File}
+use Rattle.lay_code.specs.declared.item.ItemKind.{ItemKind}
+use Rattle.lay_code.specs.declared.item.ItemKind.TheVariants as item
 use Rattle.lay_read_tokens.specs.declared.stop.ReadNone.{ReadNone}
 use Rattle.lay_read_tokens.specs.declared.stop.ReadNone.TheVariants as stop
 use Rattle.lay_read_blocks.specs.Answers.{code_within}

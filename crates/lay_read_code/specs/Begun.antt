@@ -13,17 +13,17 @@ use Rattle.lay_node.specs.reader.Words.{name}
 use Rattle.lay_node.specs.declared.attr.Attr.{Attr}
 use Rattle.lay_node.specs.declared.heads.Site.{Site}
 use Rattle.lay_node.specs.declared.heads.Site.TheVariants as site
-use Rattle.lay_tree.specs.nodes.Places.{FREE}
-use Rattle.lay_tree.specs.nodes.Item.{may_be_bodied, may_be_valued}
-use Rattle.lay_tree.specs.reader.Code.{item_at}
-use Rattle.lay_tree.specs.reader.Item as reader
-use Rattle.lay_tree.specs.reader.Item.{ItemWithin}
-use Rattle.lay_tree.specs.reader.ItemLeads.{ItemLead, OfAlias, OfCall, OfEnum, OfExternCrate, OfForeign, OfFunction, OfImpl, OfImport, OfModule, OfRules, OfStruct, OfTrait, OfUnion, OfValue, item_lead}
-use Rattle.lay_tree.specs.declared.blocks.Block.{Block}
-use Rattle.lay_tree.specs.declared.exprs.Expr.{Expr}
-use Rattle.lay_tree.specs.declared.item.Item.{Item}
-use Rattle.lay_tree.specs.declared.item.ItemKind.{ItemKind}
-use Rattle.lay_tree.specs.declared.item.ItemKind.TheVariants as item
+use Rattle.lay_code.specs.nodes.Places.{FREE}
+use Rattle.lay_code.specs.nodes.Item.{may_be_bodied, may_be_valued}
+use Rattle.lay_code.specs.reader.Code.{item_at}
+use Rattle.lay_code.specs.reader.Item as reader
+use Rattle.lay_code.specs.reader.Item.{ItemWithin}
+use Rattle.lay_code.specs.reader.ItemLeads.{ItemLead, OfAlias, OfCall, OfEnum, OfExternCrate, OfForeign, OfFunction, OfImpl, OfImport, OfModule, OfRules, OfStruct, OfTrait, OfUnion, OfValue, item_lead}
+use Rattle.lay_code.specs.declared.blocks.Block.{Block}
+use Rattle.lay_code.specs.declared.exprs.Expr.{Expr}
+use Rattle.lay_code.specs.declared.item.Item.{Item}
+use Rattle.lay_code.specs.declared.item.ItemKind.{ItemKind}
+use Rattle.lay_code.specs.declared.item.ItemKind.TheVariants as item
 use Rattle.lay_read_code.specs.declared.begun.Begun.{Begun}
 use Rattle.lay_read_code.specs.declared.begun.Begun.TheVariants as begun
 use Rattle.lay_read_code.specs.declared.bodies.Body.{Body}

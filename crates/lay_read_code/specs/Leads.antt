@@ -2,8 +2,8 @@
 use Rattle.std.specs.Prelude.{ℕ, ◌||◌, Bool, if◌then◌else◌, List, codes}
 use Rattle.std.specs.Str.{bytes_eq}
 use Rattle.lay_node.specs.Ahead.{Tokens, tail}
-use Rattle.lay_tree.specs.reader.ItemLeads as item
-use Rattle.lay_tree.specs.reader.ItemLeads.{ItemLead}
+use Rattle.lay_code.specs.reader.ItemLeads as item
+use Rattle.lay_code.specs.reader.ItemLeads.{ItemLead}
 use Rattle.lay_read_code.specs.declared.leads.ItemLead.{ItemLead as Lead}
 use Rattle.lay_read_code.specs.declared.leads.ItemLead.TheVariants as lead
 

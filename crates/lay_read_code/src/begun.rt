@@ -3,14 +3,15 @@ ghost use Rattle.std.specs.Prelude.{◌≡◌, ◌≤◌, IfOk};
 ghost use Rattle.lay_node.specs.reader.Exact.{needless};
 ghost use Rattle.lay_node.specs.reader.Heads as heads;
 ghost use Rattle.lay_node.specs.reader.Types.{within};
-ghost use Rattle.lay_tree.specs.reader.Item as reader;
-ghost use Rattle.lay_tree.specs.declared.item.ItemKind.TheVariants as item;
+ghost use Rattle.lay_code.specs.reader.Item as reader;
+ghost use Rattle.lay_code.specs.declared.item.ItemKind.TheVariants as item;
 ghost use Rattle.lay_read_tokens.specs.Answers.{IsFound};
 ghost use Rattle.lay_read_code.specs.Begun as bodies;
 ghost use Rattle.lay_read_code.specs.Begun.{deeper, node_alone, whole};
 ghost use Rattle.lay_read_code.specs.Leads.{told};
 
 use crate::leads::{ItemLead, item_lead, may_stand};
+use lay_code::{FnHead, ImplHead, ItemKind, Literal, Name, Site, TraitHead, ValueHead, Wheres};
 use lay_head_rules::functions::fn_head_ahead;
 use lay_head_rules::heads::{
     alias_ahead, enum_ahead, extern_crate_ahead, impl_head_ahead, struct_ahead, trait_head_ahead,
@@ -28,7 +29,6 @@ use lay_read_tokens::names::read_name;
 use lay_read_tokens::stop::boxed;
 use lay_read_tokens::tokens::read_group;
 use lay_read_tokens::{Ahead, Found, ReadNone};
-use lay_tree::{FnHead, ImplHead, ItemKind, Literal, Name, Site, TraitHead, ValueHead, Wheres};
 use std::alloc::Global;
 
 /// An item up to its body, or the whole item where it has none.
@@ -129,7 +129,7 @@ fn begin_extern_crate(alloc: Global, at: &mut Ahead<'_>) -> Result<Found<Begun>,
 }
 
 /// An import.
-#[tactic(auto, unfolding(lay_tree::specs::reader::Item::import_by))]
+#[tactic(auto, unfolding(lay_code::specs::reader::Item::import_by))]
 fn begin_import(alloc: Global, at: &mut Ahead<'_>, depth: u32) -> Result<Found<Begun>, ReadNone>
     ensures read { IsFound (whole (reader.import_by (deeper depth) at.old)) result at.new }
     ensures within { IfOk result (λ found. found.need ≤ depth) }
@@ -288,7 +288,7 @@ fn begin_foreign(alloc: Global, at: &mut Ahead<'_>) -> Result<Found<Begun>, Read
 }
 
 /// The declaration of a macro. The tokens before its name are known.
-#[tactic(auto, unfolding(lay_tree::specs::reader::Item::rules_item))]
+#[tactic(auto, unfolding(lay_code::specs::reader::Item::rules_item))]
 fn begin_rules(alloc: Global, at: &mut Ahead<'_>) -> Result<Found<Begun>, ReadNone>
     ensures read { IsFound (whole (reader.rules_item at.old)) result at.new }
     ensures within { IfOk result (λ found. found.need ≡ 0) }
@@ -304,7 +304,7 @@ fn begin_rules(alloc: Global, at: &mut Ahead<'_>) -> Result<Found<Begun>, ReadNo
 }
 
 /// A macro call, and what ends it.
-#[tactic(auto, unfolding(lay_tree::specs::reader::Item::call_item))]
+#[tactic(auto, unfolding(lay_code::specs::reader::Item::call_item))]
 fn begin_call(alloc: Global, at: &mut Ahead<'_>) -> Result<Found<Begun>, ReadNone>
     ensures read { IsFound (whole (reader.call_item at.old)) result at.new }
     ensures within { IfOk result (λ found. found.need ≡ 0) }

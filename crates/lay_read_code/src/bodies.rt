@@ -1,14 +1,14 @@
 //! The bodies of items, and items with their bodies.
 ghost use Rattle.std.specs.Prelude.{◌≡◌, ◌≤◌, is_some, IfOk, Ok, Err, if◌then◌else◌};
-ghost use Rattle.lay_tree.specs.nodes.Item as nodes;
+ghost use Rattle.lay_code.specs.nodes.Item as nodes;
 ghost use Rattle.lay_read_code.specs.Begun as bodies;
 
 use crate::begun::Begun;
+use lay_code::{Attr, Block, Expr, FnHead, Item, ItemKind, Site, ValueHead, Wheres};
 use lay_head_rules::level::kept_if;
 use lay_read_tokens::found::greater;
 use lay_read_tokens::{Found, ReadNone};
 use lay_token::List;
-use lay_tree::{Attr, Block, Expr, FnHead, Item, ItemKind, Site, ValueHead, Wheres};
 
 /// What the body of an item is.
 #[derive(Clone, Copy)]

@@ -1,16 +1,16 @@
 //! Files.
 ghost use Rattle.std.specs.Prelude.{◌≡◌, ◌++◌, ◌∷◌, [], IsTrue, OnOk, true};
 ghost use Rattle.lay_node.specs.reader.Attr.{attribute};
-ghost use Rattle.lay_tree.specs.Written.{is_good_shebang};
-ghost use Rattle.lay_tree.specs.reader.File.{front, longest, top_item};
+ghost use Rattle.lay_code.specs.Written.{is_good_shebang};
+ghost use Rattle.lay_code.specs.reader.File.{front, longest, top_item};
 ghost use Rattle.lay_read_tokens.specs.Answers.{AreLexed};
 ghost use Rattle.lay_read_code.specs.Answers.{FileAs, IsNext, IsRun};
 
 use crate::knot::item_ahead;
+use lay_code::{Attr, File, Item, Site};
 use lay_nest::{Cursor, Nested};
 use lay_read_tokens::{Ahead, ReadNone, read_attr};
 use lay_token::{FormatError, List, NoMemory, Refusal, Text};
-use lay_tree::{Attr, File, Item, Site};
 use std::alloc::Global;
 
 /// The items of a file stand at this depth, and those within another item one lower. At 0 nothing is read.

@@ -1,8 +1,8 @@
 //! The knot of expressions, blocks and items, each read over what is one level deeper.
 ghost use Rattle.std.specs.Prelude.{◌≡◌, ◌+◌, ◌^◌, ◌<◌, ◌≤◌, ◌||◌, IfOk};
-ghost use Rattle.lay_tree.specs.nodes.Item as nodes;
-ghost use Rattle.lay_tree.specs.reader.Code.{code_in, expr_at, item_at};
-ghost use Rattle.lay_tree.specs.reader.Item as reader;
+ghost use Rattle.lay_code.specs.nodes.Item as nodes;
+ghost use Rattle.lay_code.specs.reader.Code.{code_in, expr_at, item_at};
+ghost use Rattle.lay_code.specs.reader.Item as reader;
 ghost use Rattle.lay_read_tokens.specs.Answers.{AreFound, IsFound, IsHeld};
 ghost use Rattle.lay_read_code.specs.Answers.{has_head};
 ghost use Rattle.lay_read_blocks.specs.Answers.{code_within};
@@ -10,6 +10,7 @@ ghost use Rattle.lay_read_code.specs.Begun.{deeper, value_end};
 
 use crate::begun::read_begun;
 use crate::bodies::{Body, body_of, with_block, with_items, with_value};
+use lay_code::{Attr, Block, Expr, Item, ItemKind, Place, Site, Vis};
 use lay_head_rules::level::kept_if;
 use lay_head_rules::vis::vis_ahead;
 use lay_read_blocks::BlockRules;
@@ -21,7 +22,6 @@ use lay_read_tokens::front::{has_items, takes_closer, takes_mark, takes_opener};
 use lay_read_tokens::stop::keep;
 use lay_read_tokens::{Ahead, Found, ReadNone};
 use lay_token::{Delim, List};
-use lay_tree::{Attr, Block, Expr, Item, ItemKind, Place, Site, Vis};
 use std::alloc::Global;
 
 /// An expression at its place, within a depth. Recursion goes one level deeper alone.
@@ -215,7 +215,7 @@ fn read_value_if(
 
 /// Inner attributes and items at their site, in braces. The items stand within the depth.
 #[cycle(code)]
-#[tactic(auto, unfolding(lay_tree::specs::reader::Item::item_body))]
+#[tactic(auto, unfolding(lay_code::specs::reader::Item::item_body))]
 #[inline(never)]
 fn read_body(
     alloc: Global,

@@ -2,17 +2,17 @@
 ghost use Rattle.std.specs.Prelude.{◌≡◌};
 ghost use Rattle.lay_node.specs.Ahead.{first, tail};
 ghost use Rattle.lay_node.specs.reader.Functions as functions;
-ghost use Rattle.lay_tree.specs.nodes.Item.{in_module};
-ghost use Rattle.lay_tree.specs.reader.Item.{may_stand};
-ghost use Rattle.lay_tree.specs.reader.ItemLeads as reader;
+ghost use Rattle.lay_code.specs.nodes.Item.{in_module};
+ghost use Rattle.lay_code.specs.reader.Item.{may_stand};
+ghost use Rattle.lay_code.specs.reader.ItemLeads as reader;
 ghost use Rattle.lay_read_code.specs.Leads.{led_by, lead_of_word, may_lead_function, told};
 
+use lay_code::Site;
 use lay_head_rules::level::takes_flag;
 use lay_read_blocks::front::{begins_rules, begins_union};
 use lay_read_tokens::Ahead;
 use lay_read_tokens::front::{is_at_keyword, pass, takes_keyword};
 use lay_token::Kind;
-use lay_tree::Site;
 
 /// What an item begins with.
 #[derive(Clone, Copy)]

@@ -3,7 +3,7 @@
 //! [`read_file`] answers the one file that the tokens spell, or refuses them where they spell none, [`read_item`] the item
 //! at the front, at its site, [`read_expr`] the expression at the front, at its place, and [`read_block`], [`read_stmt`]
 //! and [`read_arm`] what their names say. Each reader is proved equal to a
-//! function of the tokens ahead that `lay_tree` defines, and that function reads what is spelled and nothing else.
+//! function of the tokens ahead that `lay_code` defines, and that function reads what is spelled and nothing else.
 //!
 //! An item is read up to its body first, which goes through no cycle (`begun`), and then its body, if it has one. What
 //! holds itself in the end is read by one cycle of calls (`knot`), over the rules of the crates below.

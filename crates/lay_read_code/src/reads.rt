@@ -1,19 +1,19 @@
 //! What stands at the front of the tokens of a text.
 ghost use Rattle.lay_node.specs.nodes.Facts.{Front};
-ghost use Rattle.lay_tree.specs.nodes.Code.{about_expr, about_item};
-ghost use Rattle.lay_tree.specs.nodes.Exprs.{ExprFront};
-ghost use Rattle.lay_tree.specs.declared.exprs.Expr.{Expr as ExprValue};
-ghost use Rattle.lay_tree.specs.declared.item.Item.{Item as ItemValue};
+ghost use Rattle.lay_code.specs.nodes.Code.{about_expr, about_item};
+ghost use Rattle.lay_code.specs.nodes.Exprs.{ExprFront};
+ghost use Rattle.lay_code.specs.declared.exprs.Expr.{Expr as ExprValue};
+ghost use Rattle.lay_code.specs.declared.item.Item.{Item as ItemValue};
 ghost use Rattle.lay_fronts.specs.ArmFronts.{ArmFront, alone_arm};
 ghost use Rattle.lay_fronts.specs.Fronts.{BlockFront, StmtFront, alone, stmt_alone};
 ghost use Rattle.lay_read_tokens.specs.Answers.{AreLexed, IsFound};
 ghost use Rattle.lay_read_parts.specs.Answers.{IsReadAt};
 
 use crate::knot::{block_ahead, expr_ahead, item_ahead};
+use lay_code::{Arm, Block, Expr, Item, Place, Site, Stmt};
 use lay_nest::Cursor;
 use lay_read_blocks::BlockRules;
 use lay_read_tokens::{Ahead, Found, ReadNone};
-use lay_tree::{Arm, Block, Expr, Item, Place, Site, Stmt};
 use std::alloc::Global;
 
 /// The expression at the front, at its place and within the depth. Where there is none the cursor stays.

@@ -5,15 +5,15 @@ use Rattle.std.proofs.lemmas.Bool.Decides.{nat_tests}
 use Rattle.lay_token.specs.Operators.{is_op}
 use Rattle.lay_node.specs.Ahead.{Tokens, first, is_keyword}
 use Rattle.lay_node.specs.reader.Loops.{Got, Read, ◌>>=◌, repeat}
-use Rattle.lay_tree.specs.Operands.{expr_lead_at}
-use Rattle.lay_tree.specs.Operators.{begins_step, strength}
-use Rattle.lay_tree.specs.nodes.Code.{about_expr}
-use Rattle.lay_tree.specs.nodes.Exprs.{stands, root_follows}
-use Rattle.lay_tree.specs.reader.Exprs as r
-use Rattle.lay_tree.specs.reader.Exprs.{accepted, climb, left_place, stage}
-use Rattle.lay_tree.specs.reader.Within.{ExprWithin}
-use Rattle.lay_tree.specs.declared.exprs.Expr.{Expr}
-use Rattle.lay_tree.specs.declared.exprs.Place.{Place}
+use Rattle.lay_code.specs.Operands.{expr_lead_at}
+use Rattle.lay_code.specs.Operators.{begins_step, strength}
+use Rattle.lay_code.specs.nodes.Code.{about_expr}
+use Rattle.lay_code.specs.nodes.Exprs.{stands, root_follows}
+use Rattle.lay_code.specs.reader.Exprs as r
+use Rattle.lay_code.specs.reader.Exprs.{accepted, climb, left_place, stage}
+use Rattle.lay_code.specs.reader.Within.{ExprWithin}
+use Rattle.lay_code.specs.declared.exprs.Expr.{Expr}
+use Rattle.lay_code.specs.declared.exprs.Place.{Place}
 use Rattle.lay_read_blocks.specs.Answers.{fits}
 use Rattle.lay_read_exprs.specs.Answers.{climb_once, climbed}
 

@@ -2,14 +2,14 @@
 use Rattle.std.proofs.Common.{◌≡◌, ℕ, suc, ◌+◌, Bool, true, false, [], ◌∷◌, length, drop, Some, None, refl, sym, ap, ◌∙◌, arith}
 use Rattle.std.proofs.lemmas.List.{drop-drop}
 use Rattle.lay_node.specs.Ahead.{Tokens, tail}
-use Rattle.lay_tree.specs.Operators.{op_text, binary, prefix, prefix_length}
-use Rattle.lay_tree.specs.nodes.Code.{about_expr}
-use Rattle.lay_tree.specs.nodes.Places.{plain}
-use Rattle.lay_tree.specs.reader.Exprs.{one_prefix, operand, operand_ends}
-use Rattle.lay_tree.specs.reader.Within.{ExprWithin}
-use Rattle.lay_tree.specs.declared.exprs.Expr.{Expr}
-use Rattle.lay_tree.specs.declared.operators.Op.{Op}
-use Rattle.lay_tree.specs.declared.operators.Prefix.{Prefix}
+use Rattle.lay_code.specs.Operators.{op_text, binary, prefix, prefix_length}
+use Rattle.lay_code.specs.nodes.Code.{about_expr}
+use Rattle.lay_code.specs.nodes.Places.{plain}
+use Rattle.lay_code.specs.reader.Exprs.{one_prefix, operand, operand_ends}
+use Rattle.lay_code.specs.reader.Within.{ExprWithin}
+use Rattle.lay_code.specs.declared.exprs.Expr.{Expr}
+use Rattle.lay_code.specs.declared.operators.Op.{Op}
+use Rattle.lay_code.specs.declared.operators.Prefix.{Prefix}
 
 -- ---- tokens that are passed
 

@@ -11,17 +11,17 @@ use Rattle.lay_node.specs.declared.attr.Attr.{Attr}
 use Rattle.lay_node.specs.declared.token.Name.{Name}
 use Rattle.lay_node.specs.declared.types.Arg.{Arg}
 use Rattle.lay_node.specs.declared.types.Path.{Path}
-use Rattle.lay_tree.specs.nodes.Code.{about_expr}
-use Rattle.lay_tree.specs.nodes.Exprs.{stands}
-use Rattle.lay_tree.specs.reader.Code.{expr_at}
-use Rattle.lay_tree.specs.reader.Exprs.{accepted, base, bracket_expr, break_expr, call_expr, climb, continue_expr, field_by, free_elements, generics_by, index_step, left_place, one_step, paren_expr, path_expr, return_expr, stage}
-use Rattle.lay_tree.specs.reader.Within.{ExprWithin}
-use Rattle.lay_tree.specs.Operators.{begins_step}
-use Rattle.lay_tree.specs.declared.exprs.Expr.{Expr}
-use Rattle.lay_tree.specs.declared.exprs.Expr.TheVariants as expr
-use Rattle.lay_tree.specs.declared.exprs.FieldExpr.{FieldExpr}
-use Rattle.lay_tree.specs.declared.exprs.Place.{Place}
-use Rattle.lay_tree.specs.declared.exprs.Step.{Step}
+use Rattle.lay_code.specs.nodes.Code.{about_expr}
+use Rattle.lay_code.specs.nodes.Exprs.{stands}
+use Rattle.lay_code.specs.reader.Code.{expr_at}
+use Rattle.lay_code.specs.reader.Exprs.{accepted, base, bracket_expr, break_expr, call_expr, climb, continue_expr, field_by, free_elements, generics_by, index_step, left_place, one_step, paren_expr, path_expr, return_expr, stage}
+use Rattle.lay_code.specs.reader.Within.{ExprWithin}
+use Rattle.lay_code.specs.Operators.{begins_step}
+use Rattle.lay_code.specs.declared.exprs.Expr.{Expr}
+use Rattle.lay_code.specs.declared.exprs.Expr.TheVariants as expr
+use Rattle.lay_code.specs.declared.exprs.FieldExpr.{FieldExpr}
+use Rattle.lay_code.specs.declared.exprs.Place.{Place}
+use Rattle.lay_code.specs.declared.exprs.Step.{Step}
 use Rattle.lay_ops.specs.declared.operands.ExprLead.{ExprLead}
 use Rattle.lay_ops.specs.declared.operands.ExprLead.TheVariants as lead
 use Rattle.lay_read_tokens.specs.Answers.{IsFound}

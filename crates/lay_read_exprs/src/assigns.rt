@@ -1,18 +1,18 @@
 //! Assignments.
 ghost use Rattle.std.specs.Prelude.{◌≡◌, ◌+◌, ◌≤◌, IfOk, IfErr};
-ghost use Rattle.lay_tree.specs.reader.Exprs as reader;
-ghost use Rattle.lay_tree.specs.reader.Exprs.{targets_of, value_of};
+ghost use Rattle.lay_code.specs.reader.Exprs as reader;
+ghost use Rattle.lay_code.specs.reader.Exprs.{targets_of, value_of};
 ghost use Rattle.lay_read_tokens.specs.Answers.{IsFound};
 ghost use Rattle.lay_read_blocks.specs.Answers.{code_within};
 ghost use Rattle.lay_read_exprs.specs.Answers.{AreExprs};
 
 use crate::rules::ExprRules;
+use lay_code::{Expr, Op, Place};
 use lay_read_parts::joins::both;
 use lay_read_tokens::found::greater;
 use lay_read_tokens::stop::{boxed, keep};
 use lay_read_tokens::{Ahead, Found, ReadNone};
 use lay_token::List;
-use lay_tree::{Expr, Op, Place};
 use std::alloc::Global;
 
 /// Operands with operators between them, as targets and a value.
@@ -41,7 +41,7 @@ impl<P: Fn(Global, &mut Ahead<'_>, Place, u32) -> Result<Found<Expr>, ReadNone>,
     H,
 > {
     /// An expression with assignments behind it.
-    #[tactic(auto, unfolding(lay_tree::specs::reader::Exprs::assign_expr))]
+    #[tactic(auto, unfolding(lay_code::specs::reader::Exprs::assign_expr))]
     #[inline(never)]
     pub fn assign_expr(
         &self,

@@ -3,10 +3,10 @@ ghost use Rattle.std.specs.Prelude.{ℕ, ◌+◌, ◌≤◌, IfOk};
 ghost use Rattle.lay_read_tokens.specs.Answers.{IsFound};
 ghost use Rattle.lay_read_blocks.specs.Answers.{AreCode, block_head, code_within, fits};
 
+use lay_code::{Block, Expr, Item, Place, Site};
 use lay_ops::operands::ExprLead;
 use lay_read_blocks::BlockRules;
 use lay_read_tokens::{Ahead, Found, ReadNone};
-use lay_tree::{Block, Expr, Item, Place, Site};
 use std::alloc::Global;
 
 /// What reads expressions that begin with a label, with a block or with a word before one, and closures.

@@ -2,12 +2,13 @@
 ghost use Rattle.std.specs.Prelude.{◌≡◌, ◌+◌, ◌≤◌, codes, IfOk};
 ghost use Rattle.lay_node.specs.Ahead.{first, is_keyword};
 ghost use Rattle.lay_node.specs.reader.Loops.{repeat};
-ghost use Rattle.lay_tree.specs.reader.Exprs as reader;
+ghost use Rattle.lay_code.specs.reader.Exprs as reader;
 ghost use Rattle.lay_read_tokens.specs.Answers.{AreFound, IsFound, IsHeld};
 ghost use Rattle.lay_read_blocks.specs.Answers.{code_within};
 ghost use Rattle.lay_read_exprs.specs.Answers.{AreExprs};
 
 use crate::rules::ExprRules;
+use lay_code::{Expr, Place, Ty, TypePlace};
 use lay_read_blocks::loops::{Going, read_parts};
 use lay_read_parts::joins::both;
 use lay_read_parts::loops::Part;
@@ -17,7 +18,6 @@ use lay_read_tokens::stop::boxed;
 use lay_read_tokens::{Ahead, Found, ReadNone};
 use lay_read_types::type_ahead;
 use lay_token::List;
-use lay_tree::{Expr, Place, Ty, TypePlace};
 use std::alloc::Global;
 
 /// Types behind `as`, as parts that stand one behind another.
@@ -51,7 +51,7 @@ impl<P: Fn(Global, &mut Ahead<'_>, Place, u32) -> Result<Found<Expr>, ReadNone>,
     }
 
     /// A type behind its `as`.
-    #[tactic(auto, unfolding(lay_tree::specs::reader::Exprs::one_type))]
+    #[tactic(auto, unfolding(lay_code::specs::reader::Exprs::one_type))]
     #[inline(never)]
     fn one_type(&self, at: &mut Ahead<'_>, _place: ()) -> Result<Found<Ty>, ReadNone>
         requires { AreExprs self.now.depth (P.pre self.now.exprs) (P.post self.now.exprs) }
@@ -66,7 +66,7 @@ impl<P: Fn(Global, &mut Ahead<'_>, Place, u32) -> Result<Found<Expr>, ReadNone>,
     }
 
     /// An expression with types behind it.
-    #[tactic(auto, unfolding(lay_tree::specs::reader::Exprs::cast_expr))]
+    #[tactic(auto, unfolding(lay_code::specs::reader::Exprs::cast_expr))]
     #[inline(never)]
     pub fn cast_expr(&self, at: &mut Ahead<'_>, lhs: Found<Expr>) -> Result<Found<Expr>, ReadNone>
         requires deeper { AreExprs self.now.depth (P.pre self.now.exprs) (P.post self.now.exprs) }

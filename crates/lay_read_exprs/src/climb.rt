@@ -1,23 +1,23 @@
 //! Expressions: what begins one, and the operators behind it, from the strongest on.
 ghost use Rattle.std.specs.Prelude.{◌≡◌, ◌+◌, ◌<◌, ◌≤◌, nat_le, nat_lt, ◌&&◌, Some, IfOk};
-ghost use Rattle.lay_tree.specs.Operators as operators;
-ghost use Rattle.lay_tree.specs.nodes.Exprs as nodes;
-ghost use Rattle.lay_tree.specs.nodes.Code.{about_expr};
-ghost use Rattle.lay_tree.specs.nodes.Places as places;
-ghost use Rattle.lay_tree.specs.reader.Exprs as reader;
+ghost use Rattle.lay_code.specs.Operators as operators;
+ghost use Rattle.lay_code.specs.nodes.Exprs as nodes;
+ghost use Rattle.lay_code.specs.nodes.Code.{about_expr};
+ghost use Rattle.lay_code.specs.nodes.Places as places;
+ghost use Rattle.lay_code.specs.reader.Exprs as reader;
 ghost use Rattle.lay_read_tokens.specs.Answers.{IsFound};
 ghost use Rattle.lay_read_blocks.specs.Answers.{code_within};
 ghost use Rattle.lay_read_exprs.specs.Answers.{AreExprs, climb_once, climbed};
 
 use crate::block_heads::BlockHeads;
 use crate::rules::ExprRules;
+use lay_code::{Expr, Place, Start};
 use lay_ops::ahead::{is_angle, is_dot_or_try, strength};
 use lay_ops::{is_block_like, stands};
 use lay_read_blocks::places::before_op;
 use lay_read_parts::joins::refused;
 use lay_read_tokens::stop::boxed;
 use lay_read_tokens::{Ahead, Found, ReadNone};
-use lay_tree::{Expr, Place, Start};
 use std::alloc::Global;
 
 /// Whether an expression begins a statement or the body of an arm.
@@ -90,7 +90,7 @@ impl<
     H: BlockHeads,
 > ExprRules<P, H> {
     /// An expression at a place, with what is within it one level deeper.
-    #[tactic(auto, unfolding(lay_tree::specs::reader::Exprs::expr_by))]
+    #[tactic(auto, unfolding(lay_code::specs::reader::Exprs::expr_by))]
     #[inline(never)]
     pub fn expr_by(&self, at: &mut Ahead<'_>, place: Place) -> Result<Found<Expr>, ReadNone>
         requires deeper { AreExprs self.now.depth (P.pre self.now.exprs) (P.post self.now.exprs) }

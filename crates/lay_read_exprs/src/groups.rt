@@ -1,13 +1,14 @@
 //! Expressions in delimiters.
 ghost use Rattle.std.specs.Prelude.{◌≡◌, ◌+◌, ◌^◌, ◌<◌, ◌≤◌, IfOk};
 ghost use Rattle.lay_node.specs.Ahead.{closes};
-ghost use Rattle.lay_tree.specs.reader.Exprs as reader;
-ghost use Rattle.lay_tree.specs.reader.Code.{expr_at};
+ghost use Rattle.lay_code.specs.reader.Exprs as reader;
+ghost use Rattle.lay_code.specs.reader.Code.{expr_at};
 ghost use Rattle.lay_read_tokens.specs.Answers.{IsFound};
 ghost use Rattle.lay_read_blocks.specs.Answers.{code_within};
 ghost use Rattle.lay_read_exprs.specs.Answers.{AreExprs, array_by};
 
 use crate::rules::ExprRules;
+use lay_code::{Expr, Place};
 use lay_read_blocks::places::FREE;
 use lay_read_parts::joins::{both, prepended, refused};
 use lay_read_parts::loops::{Closer, Part, read_elements};
@@ -17,7 +18,6 @@ use lay_read_tokens::stop::boxed;
 use lay_read_tokens::tokens::read_tokens;
 use lay_read_tokens::{Ahead, Found, ReadNone};
 use lay_token::{Delim, List};
-use lay_tree::{Expr, Place};
 use std::alloc::Global;
 
 /// Expressions one level deeper, as elements of a list.
@@ -77,7 +77,7 @@ impl<P: Fn(Global, &mut Ahead<'_>, Place, u32) -> Result<Found<Expr>, ReadNone>,
     }
 
     /// What stands behind a `(`.
-    #[tactic(auto, unfolding(lay_tree::specs::reader::Exprs::paren_expr))]
+    #[tactic(auto, unfolding(lay_code::specs::reader::Exprs::paren_expr))]
     #[inline(never)]
     pub fn paren_expr(&self, at: &mut Ahead<'_>) -> Result<Found<Expr>, ReadNone>
         requires { AreExprs self.now.depth (P.pre self.now.exprs) (P.post self.now.exprs) }
@@ -123,7 +123,7 @@ impl<P: Fn(Global, &mut Ahead<'_>, Place, u32) -> Result<Found<Expr>, ReadNone>,
     }
 
     /// What stands behind a `[`.
-    #[tactic(auto, unfolding(lay_tree::specs::reader::Exprs::bracket_expr))]
+    #[tactic(auto, unfolding(lay_code::specs::reader::Exprs::bracket_expr))]
     #[inline(never)]
     pub fn bracket_expr(&self, at: &mut Ahead<'_>) -> Result<Found<Expr>, ReadNone>
         requires { AreExprs self.now.depth (P.pre self.now.exprs) (P.post self.now.exprs) }

@@ -1,7 +1,7 @@
 //! What begins an expression.
 ghost use Rattle.std.specs.Prelude.{◌≡◌, ◌+◌, ◌≤◌, Some, IfOk};
-ghost use Rattle.lay_tree.specs.Operands.{expr_lead_at};
-ghost use Rattle.lay_tree.specs.reader.Exprs as reader;
+ghost use Rattle.lay_code.specs.Operands.{expr_lead_at};
+ghost use Rattle.lay_code.specs.reader.Exprs as reader;
 ghost use Rattle.lay_ops.specs.Leads.{told};
 ghost use Rattle.lay_read_tokens.specs.Answers.{IsFound};
 ghost use Rattle.lay_read_blocks.specs.Answers.{code_within, fits};
@@ -10,13 +10,13 @@ ghost use Rattle.lay_read_exprs.specs.Answers.{AreExprs, marked};
 use crate::block_heads::BlockHeads;
 use crate::jumps::continue_expr;
 use crate::rules::ExprRules;
+use lay_code::{Expr, Place};
 use lay_ops::ahead::expr_lead_at;
 use lay_ops::operands::ExprLead;
 use lay_read_parts::leads::is_at_literal;
 use lay_read_parts::parts::read_literal;
 use lay_read_tokens::front::pass;
 use lay_read_tokens::{Ahead, Found, ReadNone};
-use lay_tree::{Expr, Place};
 use std::alloc::Global;
 
 /// A literal.

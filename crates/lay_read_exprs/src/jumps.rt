@@ -1,21 +1,21 @@
 //! What stands behind `continue`, `break` and `return`.
 ghost use Rattle.std.specs.Prelude.{◌≡◌, ◌+◌, ◌≤◌, IfOk};
-ghost use Rattle.lay_tree.specs.reader.Exprs as reader;
+ghost use Rattle.lay_code.specs.reader.Exprs as reader;
 ghost use Rattle.lay_read_tokens.specs.Answers.{IsFound};
 ghost use Rattle.lay_read_blocks.specs.Answers.{code_within};
 ghost use Rattle.lay_read_exprs.specs.Answers.{AreExprs};
 
 use crate::rules::ExprRules;
+use lay_code::{Boxed, Expr, Place};
 use lay_ops::ahead::begins_operand;
 use lay_read_blocks::places::plain;
 use lay_read_parts::joins::both;
 use lay_read_parts::parts::read_lifetime_if;
 use lay_read_tokens::{Ahead, Found, ReadNone};
-use lay_tree::{Boxed, Expr, Place};
 use std::alloc::Global;
 
 /// What stands behind `continue`.
-#[tactic(auto, unfolding(lay_tree::specs::reader::Exprs::continue_expr))]
+#[tactic(auto, unfolding(lay_code::specs::reader::Exprs::continue_expr))]
 pub fn continue_expr(alloc: Global, at: &mut Ahead<'_>) -> Result<Found<Expr>, ReadNone>
     ensures read { IsFound (reader.continue_expr at.old) result at.new }
     ensures within { IfOk result (λ found. found.need ≡ 1) }
@@ -57,7 +57,7 @@ impl<P: Fn(Global, &mut Ahead<'_>, Place, u32) -> Result<Found<Expr>, ReadNone>,
     }
 
     /// What stands behind `return`.
-    #[tactic(auto, unfolding(lay_tree::specs::reader::Exprs::return_expr))]
+    #[tactic(auto, unfolding(lay_code::specs::reader::Exprs::return_expr))]
     #[inline(never)]
     pub fn return_expr(&self, at: &mut Ahead<'_>, no_struct: bool) -> Result<Found<Expr>, ReadNone>
         requires { AreExprs self.now.depth (P.pre self.now.exprs) (P.post self.now.exprs) }
@@ -74,7 +74,7 @@ impl<P: Fn(Global, &mut Ahead<'_>, Place, u32) -> Result<Found<Expr>, ReadNone>,
     }
 
     /// What stands behind `break`.
-    #[tactic(auto, unfolding(lay_tree::specs::reader::Exprs::break_expr))]
+    #[tactic(auto, unfolding(lay_code::specs::reader::Exprs::break_expr))]
     #[inline(never)]
     pub fn break_expr(&self, at: &mut Ahead<'_>, no_struct: bool) -> Result<Found<Expr>, ReadNone>
         requires { AreExprs self.now.depth (P.pre self.now.exprs) (P.post self.now.exprs) }

@@ -1,7 +1,7 @@
 //! From nested tokens to expressions: each rule by itself, over a function that reads expressions one level deeper,
 //! and what reads those that hold blocks.
 //!
-//! Each rule is proved equal to a function of the tokens ahead that `lay_tree` defines, and that function reads what is
+//! Each rule is proved equal to a function of the tokens ahead that `lay_code` defines, and that function reads what is
 //! spelled and nothing else.
 #![tactic(auto)]
 

@@ -5,7 +5,7 @@ ghost use Rattle.std.specs.List.{list_all};
 ghost use Rattle.std.specs.Str.{chars};
 ghost use Rattle.lay_piece.specs.Number.{is_index};
 ghost use Rattle.lay_node.specs.Ahead.{first};
-ghost use Rattle.lay_tree.specs.reader.Exprs as reader;
+ghost use Rattle.lay_code.specs.reader.Exprs as reader;
 
 use lay_read_tokens::Ahead;
 use lay_read_tokens::front::takes_op;

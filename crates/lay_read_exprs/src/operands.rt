@@ -1,14 +1,15 @@
 //! Operators of one level, and the operands behind them.
 ghost use Rattle.std.specs.Prelude.{◌≡◌, ◌+◌, ◌<◌, ◌≤◌, IfOk};
-ghost use Rattle.lay_tree.specs.nodes.Code.{about_expr};
-ghost use Rattle.lay_tree.specs.nodes.Places as places;
-ghost use Rattle.lay_tree.specs.reader.Exprs as reader;
+ghost use Rattle.lay_code.specs.nodes.Code.{about_expr};
+ghost use Rattle.lay_code.specs.nodes.Places as places;
+ghost use Rattle.lay_code.specs.reader.Exprs as reader;
 ghost use Rattle.lay_read_tokens.specs.Answers.{AreFound, IsFound, IsHeld};
 ghost use Rattle.lay_read_blocks.specs.Answers.{code_within};
 ghost use Rattle.lay_read_exprs.specs.Answers.{AreExprs};
 
 use crate::prefixes::pass_tokens;
 use crate::rules::ExprRules;
+use lay_code::{Expr, Op, Place};
 use lay_ops::ahead::{binary, is_angle, strength};
 use lay_ops::operators::op_text;
 use lay_ops::stands;
@@ -20,7 +21,6 @@ use lay_read_tokens::found::greater;
 use lay_read_tokens::stop::boxed;
 use lay_read_tokens::{Ahead, Found, ReadNone};
 use lay_token::List;
-use lay_tree::{Expr, Op, Place};
 use std::alloc::Global;
 
 /// Operators and their operands, as parts that stand one behind another.
@@ -51,7 +51,7 @@ impl<P: Fn(Global, &mut Ahead<'_>, Place, u32) -> Result<Found<Expr>, ReadNone>,
     H,
 > {
     /// Operators of a level and their operands, as long as one begins.
-    #[tactic(auto, unfolding(lay_tree::specs::reader::Exprs::operands), using(lay_read_blocks::proofs::Left::operand_leaves))]
+    #[tactic(auto, unfolding(lay_code::specs::reader::Exprs::operands), using(lay_read_blocks::proofs::Left::operand_leaves))]
     #[inline(never)]
     pub fn operands(
         &self,
@@ -76,7 +76,7 @@ impl<P: Fn(Global, &mut Ahead<'_>, Place, u32) -> Result<Found<Expr>, ReadNone>,
     }
 
     /// An operator of a level, and its operand.
-    #[tactic(auto, unfolding(lay_tree::specs::reader::Exprs::operand))]
+    #[tactic(auto, unfolding(lay_code::specs::reader::Exprs::operand))]
     #[inline(never)]
     fn operand(&self, at: &mut Ahead<'_>, place: (u8, bool)) -> Result<Found<(Op, Expr)>, ReadNone>
         requires deeper { AreExprs self.now.depth (P.pre self.now.exprs) (P.post self.now.exprs) }
@@ -101,7 +101,7 @@ impl<P: Fn(Global, &mut Ahead<'_>, Place, u32) -> Result<Found<Expr>, ReadNone>,
     }
 
     /// An expression with operators of a level behind it.
-    #[tactic(auto, unfolding(lay_tree::specs::reader::Exprs::chain_expr))]
+    #[tactic(auto, unfolding(lay_code::specs::reader::Exprs::chain_expr))]
     #[inline(never)]
     pub fn chain_expr(
         &self,

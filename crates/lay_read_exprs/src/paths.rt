@@ -1,11 +1,12 @@
 //! What begins with a path.
 ghost use Rattle.std.specs.Prelude.{◌≡◌, ◌+◌, ◌^◌, ◌<◌, ◌≤◌, IfOk};
-ghost use Rattle.lay_tree.specs.reader.Exprs as reader;
+ghost use Rattle.lay_code.specs.reader.Exprs as reader;
 ghost use Rattle.lay_read_tokens.specs.Answers.{IsFound};
 ghost use Rattle.lay_read_blocks.specs.Answers.{code_within};
 ghost use Rattle.lay_read_exprs.specs.Answers.{AreExprs, path_or_call, plain_path};
 
 use crate::rules::ExprRules;
+use lay_code::{Expr, Path, PathStyle, Place};
 use lay_read_parts::joins::refused;
 use lay_read_tokens::calls::call_ahead;
 use lay_read_tokens::front::{is_at_opened, pass};
@@ -13,7 +14,6 @@ use lay_read_tokens::{Ahead, Found, ReadNone};
 use lay_read_types::path_ahead;
 use lay_read_types::types::begins_call;
 use lay_token::Delim;
-use lay_tree::{Expr, Path, PathStyle, Place};
 use std::alloc::Global;
 
 /// A macro call that is an expression.
@@ -62,7 +62,7 @@ impl<P: Fn(Global, &mut Ahead<'_>, Place, u32) -> Result<Found<Expr>, ReadNone>,
     }
 
     /// A path, and what stands behind it.
-    #[tactic(auto, unfolding(lay_tree::specs::reader::Exprs::path_expr))]
+    #[tactic(auto, unfolding(lay_code::specs::reader::Exprs::path_expr))]
     #[inline(never)]
     fn path_expr(&self, at: &mut Ahead<'_>, no_struct: bool) -> Result<Found<Expr>, ReadNone>
         requires { AreExprs self.now.depth (P.pre self.now.exprs) (P.post self.now.exprs) }

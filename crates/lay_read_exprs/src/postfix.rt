@@ -2,13 +2,14 @@
 ghost use Rattle.std.specs.Prelude.{◌≡◌, ◌+◌, ◌≤◌, true, IfOk};
 ghost use Rattle.lay_node.specs.Ahead.{opens_args_late};
 ghost use Rattle.lay_node.specs.reader.Types.{within};
-ghost use Rattle.lay_tree.specs.reader.Exprs as reader;
+ghost use Rattle.lay_code.specs.reader.Exprs as reader;
 ghost use Rattle.lay_read_tokens.specs.Answers.{AreFound, IsFound, IsHeld};
 ghost use Rattle.lay_read_blocks.specs.Answers.{code_within};
 ghost use Rattle.lay_read_exprs.specs.Answers.{AreExprs, bracket_step, generic_method, late_args, steps};
 
 use crate::numbers::{begins_tuple_index, is_at_tuple_index};
 use crate::rules::ExprRules;
+use lay_code::{Arg, Args, Expr, Name, PathStyle, Place, Step};
 use lay_ops::is_number;
 use lay_read_blocks::loops::{Going, read_parts};
 use lay_read_blocks::places::FREE;
@@ -23,7 +24,6 @@ use lay_read_tokens::stop::boxed;
 use lay_read_tokens::{Ahead, Found, ReadNone};
 use lay_read_types::args_ahead;
 use lay_token::{Delim, List};
-use lay_tree::{Arg, Args, Expr, Name, PathStyle, Place, Step};
 use std::alloc::Global;
 
 /// Postfix steps, as parts that stand one behind another.
@@ -57,7 +57,7 @@ impl<P: Fn(Global, &mut Ahead<'_>, Place, u32) -> Result<Found<Expr>, ReadNone>,
     H,
 > {
     /// An expression with postfix steps behind it. A tuple index doesn't stand directly behind a number without suffix.
-    #[tactic(auto, unfolding(lay_tree::specs::reader::Exprs::postfix_expr))]
+    #[tactic(auto, unfolding(lay_code::specs::reader::Exprs::postfix_expr))]
     #[inline(never)]
     pub fn postfix_expr(
         &self,
@@ -101,7 +101,7 @@ impl<P: Fn(Global, &mut Ahead<'_>, Place, u32) -> Result<Found<Expr>, ReadNone>,
     }
 
     /// A step.
-    #[tactic(auto, unfolding(lay_tree::specs::reader::Exprs::one_step))]
+    #[tactic(auto, unfolding(lay_code::specs::reader::Exprs::one_step))]
     #[inline(never)]
     fn one_step(&self, at: &mut Ahead<'_>, _place: ()) -> Result<Found<Step>, ReadNone>
         requires { AreExprs self.now.depth (P.pre self.now.exprs) (P.post self.now.exprs) }
@@ -157,7 +157,7 @@ impl<P: Fn(Global, &mut Ahead<'_>, Place, u32) -> Result<Found<Expr>, ReadNone>,
     }
 
     /// What stands behind a `.`.
-    #[tactic(auto, unfolding(lay_tree::specs::reader::Exprs::dot_step), using(lay_read_parts::proofs::Steps::literal_is))]
+    #[tactic(auto, unfolding(lay_code::specs::reader::Exprs::dot_step), using(lay_read_parts::proofs::Steps::literal_is))]
     #[inline(never)]
     fn dot_step(&self, at: &mut Ahead<'_>) -> Result<Found<Step>, ReadNone>
         requires { AreExprs self.now.depth (P.pre self.now.exprs) (P.post self.now.exprs) }

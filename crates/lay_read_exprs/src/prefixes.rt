@@ -1,13 +1,14 @@
 //! Operators before an operand.
 ghost use Rattle.std.specs.Prelude.{◌≡◌, ◌+◌, ◌≤◌, drop, is_some, IfOk};
 ghost use Rattle.lay_node.specs.reader.Loops.{repeat};
-ghost use Rattle.lay_tree.specs.Operators as operators;
-ghost use Rattle.lay_tree.specs.reader.Exprs as reader;
+ghost use Rattle.lay_code.specs.Operators as operators;
+ghost use Rattle.lay_code.specs.reader.Exprs as reader;
 ghost use Rattle.lay_read_tokens.specs.Answers.{IsFound, IsGot};
 ghost use Rattle.lay_read_blocks.specs.Answers.{code_within};
 ghost use Rattle.lay_read_exprs.specs.Answers.{AreExprs};
 
 use crate::rules::ExprRules;
+use lay_code::{Expr, Place, Prefix};
 use lay_ops::ahead::prefix;
 use lay_ops::operators::prefix_length;
 use lay_read_blocks::places::plain;
@@ -16,7 +17,6 @@ use lay_read_tokens::front::pass;
 use lay_read_tokens::stop::keep;
 use lay_read_tokens::{Ahead, Found, ReadNone};
 use lay_token::List;
-use lay_tree::{Expr, Place, Prefix};
 use std::alloc::Global;
 
 /// Passes so many tokens, or all there are.
@@ -46,7 +46,7 @@ impl<P: Fn(Global, &mut Ahead<'_>, Place, u32) -> Result<Found<Expr>, ReadNone>,
     H,
 > {
     /// Operators, and the operand behind them.
-    #[tactic(auto, unfolding(lay_tree::specs::reader::Exprs::unary_expr))]
+    #[tactic(auto, unfolding(lay_code::specs::reader::Exprs::unary_expr))]
     #[inline(never)]
     pub fn unary_expr(&self, at: &mut Ahead<'_>, no_struct: bool) -> Result<Found<Expr>, ReadNone>
         requires { AreExprs self.now.depth (P.pre self.now.exprs) (P.post self.now.exprs) }

@@ -1,16 +1,16 @@
 //! Ranges.
 ghost use Rattle.std.specs.Prelude.{◌≡◌, ◌+◌, ◌≤◌, IfOk};
-ghost use Rattle.lay_tree.specs.reader.Exprs as reader;
+ghost use Rattle.lay_code.specs.reader.Exprs as reader;
 ghost use Rattle.lay_read_tokens.specs.Answers.{IsFound};
 ghost use Rattle.lay_read_blocks.specs.Answers.{code_within};
 ghost use Rattle.lay_read_exprs.specs.Answers.{AreExprs};
 
 use crate::rules::ExprRules;
+use lay_code::{Boxed, Expr, Place};
 use lay_read_parts::joins::{both, refused};
 use lay_read_tokens::found::greater;
 use lay_read_tokens::front::{pass, pass_two};
 use lay_read_tokens::{Ahead, Found, ReadNone};
-use lay_tree::{Boxed, Expr, Place};
 use std::alloc::Global;
 
 impl<P: Fn(Global, &mut Ahead<'_>, Place, u32) -> Result<Found<Expr>, ReadNone>, H> ExprRules<
@@ -18,7 +18,7 @@ impl<P: Fn(Global, &mut Ahead<'_>, Place, u32) -> Result<Found<Expr>, ReadNone>,
     H,
 > {
     /// A range, from its `..` or `..=` on.
-    #[tactic(auto, unfolding(lay_tree::specs::reader::Exprs::range_expr))]
+    #[tactic(auto, unfolding(lay_code::specs::reader::Exprs::range_expr))]
     #[inline(never)]
     pub fn range_expr(
         &self,

@@ -1,12 +1,12 @@
 //! The rules of a level, and how what is one level deeper is read.
 ghost use Rattle.std.specs.Prelude.{◌≡◌, ◌≤◌, IfOk};
-ghost use Rattle.lay_tree.specs.reader.Code.{expr_at};
+ghost use Rattle.lay_code.specs.reader.Code.{expr_at};
 ghost use Rattle.lay_read_tokens.specs.Answers.{IsFound};
 ghost use Rattle.lay_read_exprs.specs.Answers.{AreExprs};
 
+use lay_code::{Boxed, Expr, Place};
 use lay_read_tokens::stop::boxed;
 use lay_read_tokens::{Ahead, Found, ReadNone};
-use lay_tree::{Boxed, Expr, Place};
 use std::alloc::Global;
 
 /// The rules of a level, over the reader of expressions one level deeper, at a place.

@@ -1,11 +1,12 @@
 //! Struct literals.
 ghost use Rattle.std.specs.Prelude.{◌≡◌, ◌+◌, ◌≤◌, None, IfOk};
-ghost use Rattle.lay_tree.specs.reader.Exprs as reader;
+ghost use Rattle.lay_code.specs.reader.Exprs as reader;
 ghost use Rattle.lay_read_tokens.specs.Answers.{IsFound};
 ghost use Rattle.lay_read_blocks.specs.Answers.{code_within};
 ghost use Rattle.lay_read_exprs.specs.Answers.{AreExprs, numbered_field, struct_by};
 
 use crate::rules::ExprRules;
+use lay_code::{Attr, Boxed, Expr, FieldExpr, Name, Path, Place};
 use lay_read_blocks::places::FREE;
 use lay_read_parts::joins::{both, refused};
 use lay_read_parts::loops::{Opening, Part, read_open_elements};
@@ -16,7 +17,6 @@ use lay_read_tokens::front::{is_at_closer, pass_two, takes_closer, takes_op};
 use lay_read_tokens::names::read_name;
 use lay_read_tokens::{Ahead, Found, ReadNone};
 use lay_token::{Delim, List, Text};
-use lay_tree::{Attr, Boxed, Expr, FieldExpr, Name, Path, Place};
 use std::alloc::Global;
 
 /// Fields, as elements of a struct literal.
@@ -31,7 +31,7 @@ impl<P: Fn(Global, &mut Ahead<'_>, Place, u32) -> Result<Found<Expr>, ReadNone>,
     H,
 > {
     /// Fields in braces, behind a path and the `{`.
-    #[tactic(auto, unfolding(lay_tree::specs::reader::Exprs::struct_expr), using(lay_read_blocks::proofs::Left::field_leaves))]
+    #[tactic(auto, unfolding(lay_code::specs::reader::Exprs::struct_expr), using(lay_read_blocks::proofs::Left::field_leaves))]
     #[inline(never)]
     pub fn struct_expr(
         &self,
@@ -89,7 +89,7 @@ impl<P: Fn(Global, &mut Ahead<'_>, Place, u32) -> Result<Found<Expr>, ReadNone>,
     }
 
     /// A base, if the fields ended and a `..` stands behind them.
-    #[tactic(auto, unfolding(lay_tree::specs::reader::Exprs::base))]
+    #[tactic(auto, unfolding(lay_code::specs::reader::Exprs::base))]
     #[inline(never)]
     fn base(
         &self,
@@ -121,7 +121,7 @@ impl<P: Fn(Global, &mut Ahead<'_>, Place, u32) -> Result<Found<Expr>, ReadNone>,
     }
 
     /// A field, with its attributes.
-    #[tactic(auto, unfolding(lay_tree::specs::reader::Exprs::one_field))]
+    #[tactic(auto, unfolding(lay_code::specs::reader::Exprs::one_field))]
     #[inline(never)]
     fn one_field(&self, at: &mut Ahead<'_>, _place: ()) -> Result<Found<FieldExpr>, ReadNone>
         requires { AreExprs self.now.depth (P.pre self.now.exprs) (P.post self.now.exprs) }

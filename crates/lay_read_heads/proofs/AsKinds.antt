@@ -14,8 +14,8 @@ use Rattle.lay_node.specs.reader.Loops.{Read}
 use Rattle.lay_node.specs.reader.Patterns.{PatWithin}
 use Rattle.lay_node.specs.reader.Types.{Within}
 use Rattle.lay_node.proofs.reader.StructsExact.{structs_exact, unions_exact}
-use Rattle.lay_tree.specs.declared.item.ItemKind.{ItemKind}
-use Rattle.lay_tree.specs.declared.item.ItemKind.TheVariants as item
+use Rattle.lay_code.specs.declared.item.ItemKind.{ItemKind}
+use Rattle.lay_code.specs.declared.item.ItemKind.TheVariants as item
 use Rattle.lay_read_tokens.specs.Answers.{AreLexed, IsRead, Stopped}
 use Rattle.lay_read_tokens.specs.declared.stop.ReadNone.{ReadNone}
 use Rattle.lay_read_tokens.specs.declared.stop.ReadNone.TheVariants.{NoReading, NoMemory}

@@ -3,8 +3,8 @@ use Rattle.std.specs.Prelude.{ℕ, ◌≡◌, ◌⊎◌}
 use Rattle.lay_node.specs.Ahead.{Tokens}
 use Rattle.lay_node.specs.nodes.Facts.{Told, ToldFront, by_itself}
 use Rattle.lay_node.specs.nodes.Heads.{about_struct, about_union, headed}
-use Rattle.lay_tree.specs.declared.item.ItemKind.{ItemKind}
-use Rattle.lay_tree.specs.declared.item.ItemKind.TheVariants as item
+use Rattle.lay_code.specs.declared.item.ItemKind.{ItemKind}
+use Rattle.lay_code.specs.declared.item.ItemKind.TheVariants as item
 
 -- The item is such a node, which stands there.
 abbrev pub OfKind : {A : Type 0} → (A → ItemKind) → (A → Told) → ItemKind → Tokens → ℕ → ℕ → Type 0

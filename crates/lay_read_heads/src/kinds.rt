@@ -1,18 +1,18 @@
 //! What stands at the front of the tokens of a text, as what an item is.
 ghost use Rattle.lay_node.specs.nodes.Facts.{by_itself};
 ghost use Rattle.lay_node.specs.nodes.Heads.{about_alias, about_enum, about_extern_crate, about_struct, about_union, headed};
-ghost use Rattle.lay_tree.specs.declared.item.ItemKind.TheVariants as item;
+ghost use Rattle.lay_code.specs.declared.item.ItemKind.TheVariants as item;
 ghost use Rattle.lay_read_tokens.specs.Answers.{AreLexed, IsRead};
 ghost use Rattle.lay_read_parts.specs.Answers.{IsReadAt};
 ghost use Rattle.lay_read_heads.specs.Answers.{OfKind, StructFront};
 
+use lay_code::{ItemKind, Site};
 use lay_head_rules::heads::{
     alias_ahead, enum_ahead, extern_crate_ahead, struct_ahead, union_ahead,
 };
 use lay_nest::Cursor;
 use lay_read_tokens::front::is_at_keyword;
 use lay_read_tokens::{Ahead, ReadNone};
-use lay_tree::{ItemKind, Site};
 use std::alloc::Global;
 
 /// The struct or the union at the front, within the depth. What is within stands one level deeper. Where there is none

@@ -42,12 +42,12 @@ ghost use Rattle.lay_form.specs.Layout.{document};
 ghost use Rattle.lay_node.specs.declared.token.Listed.{Listed};
 ghost use Rattle.lay_node.specs.tokens.Lexed.{IsTokenList, ReadsTokens, is_token_list};
 ghost use Rattle.lay_node.specs.tokens.Lists.{token_list};
-ghost use Rattle.lay_tree.specs.Out.{layout_of_file, out};
-ghost use Rattle.lay_tree.specs.Reading.{IsRefused, Reads, top};
+ghost use Rattle.lay_code.specs.Out.{layout_of_file, out};
+ghost use Rattle.lay_code.specs.Reading.{IsRefused, Reads, top};
 ghost use Rattle.lay_reparse.specs.Join.{Joinable, Joins};
 ghost use Rattle.lay_reparse.specs.Reparse.{IsSpelled, ReadsAt};
-ghost use Rattle.lay_tree.specs.Written.{Written};
-ghost use Rattle.lay_tree.specs.declared.file.File.{File};
+ghost use Rattle.lay_code.specs.Written.{Written};
+ghost use Rattle.lay_code.specs.declared.file.File.{File};
 
 /// Every text that the layout of a file that is written can give, whatever fits on a line, reads to the file again, at
 /// each depth at which the file is spelled; the text that is laid out does so at the depth of files.

@@ -1,458 +1,733 @@
-//! Expressions, and the places where they stand.
-ghost use Rattle.std.specs.Prelude.{◌≡◌};
-ghost use Rattle.lay_tree.specs.nodes.Parts.{block_of};
+//! Expressions, blocks and items, which hold each other.
+ghost use Rattle.std.specs.Prelude.{◌≡◌, ◌↔◌, IsTrue};
 
-use crate::blocks::{Arm, Block, Branch};
-use crate::drops::{
-    discard_arms, discard_base, discard_boxed, discard_branches, discard_exprs, discard_fields,
-    discard_operand, discard_operands, discard_otherwise, discard_steps, discard_targets,
-};
-use crate::operators::{Op, Prefix};
-use lay_node::{Arg, Attr, Boxed, Lifetime, Literal, MacroCall, Name, Pat, Path, Tokens, Ty};
-use lay_token::{List, Text};
+use crate::operators::{same_op, same_params, same_prefixes};
+use lay_code::{Arm, Block, Branch, Expr, FieldExpr, Item, ItemKind, Op, Step, Stmt};
+use lay_node::Boxed;
+use lay_same_nodes::Same;
 
-/// Whether an expression begins a statement or the body of an arm, and is the whole of it or a part.
-#[derive(Clone, Copy)]
-pub enum Start {
-    No,
-    Whole,
-    Part,
-}
-
-/// The place where an expression stands.
-#[derive(Clone, Copy)]
-pub struct Place {
-    /// The least level of an expression that may stand here, from 0 to 14.
-    pub level: u8,
-    /// No struct literal may stand here, as in a condition.
-    pub no_struct: bool,
-    pub start: Start,
-    /// An operator follows.
-    pub op_after: bool,
-    /// The operator `<` or `<<` follows.
-    pub lt_after: bool,
-}
-
-/// An expression (Rust Reference, "Expressions"). One within another stands one level deeper.
+/// Whether two expressions are equal.
 #[cycle(code)]
-pub enum Expr {
-    /// `1`, `true`, `"a"`
-    Lit {
-        literal: Literal,
-    },
-    /// `a`, `a::B`, `A::<B>::c`
-    Path {
-        path: Path,
-    },
-    /// `_`, on the left of an assignment
-    Underscore,
-    /// `m!(a)`
-    Call {
-        call: MacroCall,
-    },
-    /// `(a)`
-    Paren {
-        inner: Boxed<Expr>,
-    },
-    /// `continue 'a`
-    Continue {
-        label: Option<Lifetime>,
-    },
-    /// `(a, b)`
-    Tuple {
-        elements: List<Expr>,
-    },
-    /// `[a, b]`
-    Array {
-        elements: List<Expr>,
-    },
-    /// `[a; 2]`
-    Repeat {
-        element: Boxed<Expr>,
-        length: Tokens,
-    },
-    /// `A { b: c, 0: d, e, ..f }`, where the base behind `..` may be left out
-    Struct {
-        path: Path,
-        fields: List<FieldExpr>,
-        base: Option<Option<Boxed<Expr>>>,
-    },
-    /// `a + b - c`: operators of one level, and not the first operand's
-    Chain {
-        first: Boxed<Expr>,
-        rest: List<(Op, Expr)>,
-    },
-    /// `a as B as C`, of one type at least
-    Cast {
-        operand: Boxed<Expr>,
-        types: List<Ty>,
-    },
-    /// `-*a`, of one operator at least
-    Unary {
-        prefixes: List<Prefix>,
-        operand: Boxed<Expr>,
-    },
-    /// `a..b`, `a..`, `..=b`, `..`
-    Range {
-        start: Option<Boxed<Expr>>,
-        inclusive: bool,
-        end: Option<Boxed<Expr>>,
-    },
-    /// `a = b += c`, of one target at least
-    Assign {
-        targets: List<(Expr, Op)>,
-        value: Boxed<Expr>,
-    },
-    /// `a.b.0.c::<D>(e)(f)[g]?.await`, of one step at least
-    Postfix {
-        base: Boxed<Expr>,
-        steps: List<Step>,
-    },
-    /// `'a: { b; c }`
-    Block {
-        label: Option<Lifetime>,
-        body: Block,
-    },
-    /// `unsafe { a }`
-    Unsafe {
-        body: Block,
-    },
-    /// `const { a }`
-    ConstBlock {
-        body: Block,
-    },
-    /// `async move { a }`
-    Async {
-        moves: bool,
-        body: Block,
-    },
-    /// `if a { b } else if let c = d { e } else { f }`, of one branch at least
-    If {
-        branches: List<Branch>,
-        otherwise: Option<Block>,
-    },
-    /// `match a { b => c }`
-    Match {
-        scrutinee: Boxed<Expr>,
-        attrs: List<Attr>,
-        arms: List<Arm>,
-    },
-    /// `'a: loop { b }`
-    Loop {
-        label: Option<Lifetime>,
-        body: Block,
-    },
-    /// `'a: while b { c }`, `while let b = c { d }`
-    While {
-        label: Option<Lifetime>,
-        pat: Option<Pat>,
-        condition: Boxed<Expr>,
-        body: Block,
-    },
-    /// `'a: for b in c { d }`
-    For {
-        label: Option<Lifetime>,
-        pat: Pat,
-        iterated: Boxed<Expr>,
-        body: Block,
-    },
-    /// `move |a, b: C| d`
-    Closure {
-        moves: bool,
-        params: List<ClosureParam>,
-        body: Boxed<Expr>,
-    },
-    /// `|a| -> B { c }`
-    TypedClosure {
-        moves: bool,
-        params: List<ClosureParam>,
-        output: Ty,
-        body: Block,
-    },
-    /// `return a`
-    Return {
-        operand: Option<Boxed<Expr>>,
-    },
-    /// `break 'a b`
-    Break {
-        label: Option<Lifetime>,
-        operand: Option<Boxed<Expr>>,
-    },
-}
-
-impl Drop for Expr {
-    #[cycle(drops)]
-    fn drop(self) {
-        match self {
-            Expr::Lit { literal } => {
-                drop(literal);
+pub fn same_expr(expr: &Expr, other: &Expr) -> bool
+    ensures { IsTrue result ↔ expr.now ≡ other.now }
+{
+    match expr {
+        Expr::Lit { literal } => {
+            matches!(other, Expr::Lit { literal: given } if literal.same(given))
+        }
+        Expr::Path { path } => matches!(other, Expr::Path { path: given } if path.same(given)),
+        Expr::Underscore => matches!(other, Expr::Underscore),
+        Expr::Call { call } => matches!(other, Expr::Call { call: given } if call.same(given)),
+        Expr::Paren { inner } => {
+            matches!(other, Expr::Paren { inner: given } if same_expr(inner.get(), given.get()))
+        }
+        Expr::Continue { label } => {
+            matches!(other, Expr::Continue { label: given } if label.same(given))
+        }
+        Expr::Tuple { elements } => match other {
+            Expr::Tuple { elements: given } => same_exprs(elements.as_slice(), given.as_slice()),
+            _ => false,
+        },
+        Expr::Array { elements } => match other {
+            Expr::Array { elements: given } => same_exprs(elements.as_slice(), given.as_slice()),
+            _ => false,
+        },
+        Expr::Repeat { element, length } => match other {
+            Expr::Repeat {
+                element: other_element,
+                length: other_length,
+            } => { same_expr(element.get(), other_element.get()) && length.same(other_length) }
+            _ => false,
+        },
+        Expr::Struct { path, fields, base } => match other {
+            Expr::Struct {
+                path: other_path,
+                fields: other_fields,
+                base: other_base,
+            } => {
+                path.same(other_path)
+                    && same_fields(fields.as_slice(), other_fields.as_slice())
+                    && same_base(base, other_base)
             }
-            Expr::Path { path } => {
-                drop(path);
+            _ => false,
+        },
+        Expr::Chain { first, rest } => match other {
+            Expr::Chain {
+                first: other_first,
+                rest: other_rest,
+            } => {
+                same_expr(first.get(), other_first.get())
+                    && same_operands(rest.as_slice(), other_rest.as_slice())
             }
-            Expr::Underscore => {}
-            Expr::Call { call } => {
-                drop(call);
+            _ => false,
+        },
+        Expr::Cast { operand, types } => match other {
+            Expr::Cast {
+                operand: other_operand,
+                types: other_types,
+            } => { same_expr(operand.get(), other_operand.get()) && types.same(other_types) }
+            _ => false,
+        },
+        Expr::Unary { prefixes, operand } => match other {
+            Expr::Unary {
+                prefixes: other_prefixes,
+                operand: other_operand,
+            } => {
+                same_prefixes(prefixes.as_slice(), other_prefixes.as_slice())
+                    && same_expr(operand.get(), other_operand.get())
             }
-            Expr::Paren { inner } => {
-                discard_boxed(inner);
-            }
-            Expr::Continue { label } => {
-                drop(label);
-            }
-            Expr::Tuple { elements } => {
-                discard_exprs(elements);
-            }
-            Expr::Array { elements } => {
-                discard_exprs(elements);
-            }
-            Expr::Repeat { element, length } => {
-                drop(length);
-                discard_boxed(element);
-            }
-            Expr::Struct { path, fields, base } => {
-                drop(path);
-                discard_fields(fields);
-                discard_base(base);
-            }
-            Expr::Chain { first, rest } => {
-                discard_boxed(first);
-                discard_operands(rest);
-            }
-            Expr::Cast { operand, types } => {
-                drop(types);
-                discard_boxed(operand);
-            }
-            Expr::Unary { prefixes, operand } => {
-                drop(prefixes);
-                discard_boxed(operand);
-            }
+            _ => false,
+        },
+        Expr::Range {
+            start,
+            inclusive,
+            end,
+        } => match other {
             Expr::Range {
-                start,
-                inclusive: _,
-                end,
+                start: other_start,
+                inclusive: other_inclusive,
+                end: other_end,
             } => {
-                discard_operand(start);
-                discard_operand(end);
+                same_operand(start, other_start)
+                    && *inclusive == *other_inclusive
+                    && same_operand(end, other_end)
             }
-            Expr::Assign { targets, value } => {
-                discard_targets(targets);
-                discard_boxed(value);
+            _ => false,
+        },
+        Expr::Assign { targets, value } => match other {
+            Expr::Assign {
+                targets: other_targets,
+                value: other_value,
+            } => {
+                same_targets(targets.as_slice(), other_targets.as_slice())
+                    && same_expr(value.get(), other_value.get())
             }
-            Expr::Postfix { base, steps } => {
-                discard_boxed(base);
-                discard_steps(steps);
+            _ => false,
+        },
+        Expr::Postfix { base, steps } => match other {
+            Expr::Postfix {
+                base: other_base,
+                steps: other_steps,
+            } => {
+                same_expr(base.get(), other_base.get())
+                    && same_steps(steps.as_slice(), other_steps.as_slice())
             }
-            Expr::Block { label, body } => {
-                drop(label);
-                drop(body);
-            }
-            Expr::Unsafe { body } => {
-                drop(body);
-            }
-            Expr::ConstBlock { body } => {
-                drop(body);
-            }
-            Expr::Async { moves: _, body } => {
-                drop(body);
-            }
+            _ => false,
+        },
+        Expr::Block { label, body } => match other {
+            Expr::Block {
+                label: other_label,
+                body: other_body,
+            } => { label.same(other_label) && same_block(body, other_body) }
+            _ => false,
+        },
+        Expr::Unsafe { body } => {
+            matches!(other, Expr::Unsafe { body: given } if same_block(body, given))
+        }
+        Expr::ConstBlock { body } => {
+            matches!(other, Expr::ConstBlock { body: given } if same_block(body, given))
+        }
+        Expr::Async { moves, body } => match other {
+            Expr::Async {
+                moves: other_moves,
+                body: other_body,
+            } => { *moves == *other_moves && same_block(body, other_body) }
+            _ => false,
+        },
+        Expr::If {
+            branches,
+            otherwise,
+        } => match other {
             Expr::If {
-                branches,
-                otherwise,
+                branches: other_branches,
+                otherwise: other_otherwise,
             } => {
-                discard_branches(branches);
-                discard_otherwise(otherwise);
+                same_branches(branches.as_slice(), other_branches.as_slice())
+                    && same_body(otherwise, other_otherwise)
             }
+            _ => false,
+        },
+        Expr::Match {
+            scrutinee,
+            attrs,
+            arms,
+        } => match other {
             Expr::Match {
-                scrutinee,
-                attrs,
-                arms,
+                scrutinee: other_scrutinee,
+                attrs: other_attrs,
+                arms: other_arms,
             } => {
-                drop(attrs);
-                discard_boxed(scrutinee);
-                discard_arms(arms);
+                same_expr(scrutinee.get(), other_scrutinee.get())
+                    && attrs.same(other_attrs)
+                    && same_arms(arms.as_slice(), other_arms.as_slice())
             }
-            Expr::Loop { label, body } => {
-                drop(label);
-                drop(body);
-            }
+            _ => false,
+        },
+        Expr::Loop { label, body } => match other {
+            Expr::Loop {
+                label: other_label,
+                body: other_body,
+            } => { label.same(other_label) && same_block(body, other_body) }
+            _ => false,
+        },
+        Expr::While {
+            label,
+            pat,
+            condition,
+            body,
+        } => match other {
             Expr::While {
-                label,
-                pat,
-                condition,
-                body,
+                label: other_label,
+                pat: other_pat,
+                condition: other_condition,
+                body: other_body,
             } => {
-                drop(label);
-                drop(pat);
-                discard_boxed(condition);
-                drop(body);
+                label.same(other_label)
+                    && pat.same(other_pat)
+                    && same_expr(condition.get(), other_condition.get())
+                    && same_block(body, other_body)
             }
+            _ => false,
+        },
+        Expr::For {
+            label,
+            pat,
+            iterated,
+            body,
+        } => match other {
             Expr::For {
-                label,
-                pat,
-                iterated,
-                body,
+                label: other_label,
+                pat: other_pat,
+                iterated: other_iterated,
+                body: other_body,
             } => {
-                drop(label);
-                drop(pat);
-                discard_boxed(iterated);
-                drop(body);
+                label.same(other_label)
+                    && pat.same(other_pat)
+                    && same_expr(iterated.get(), other_iterated.get())
+                    && same_block(body, other_body)
             }
+            _ => false,
+        },
+        Expr::Closure {
+            moves,
+            params,
+            body,
+        } => match other {
             Expr::Closure {
-                moves: _,
-                params,
-                body,
+                moves: other_moves,
+                params: other_params,
+                body: other_body,
             } => {
-                drop(params);
-                discard_boxed(body);
+                *moves == *other_moves
+                    && same_params(params.as_slice(), other_params.as_slice())
+                    && same_expr(body.get(), other_body.get())
             }
+            _ => false,
+        },
+        Expr::TypedClosure {
+            moves,
+            params,
+            output,
+            body,
+        } => match other {
             Expr::TypedClosure {
-                moves: _,
-                params,
-                output,
-                body,
+                moves: other_moves,
+                params: other_params,
+                output: other_output,
+                body: other_body,
             } => {
-                drop(params);
-                drop(output);
-                drop(body);
+                *moves == *other_moves
+                    && same_params(params.as_slice(), other_params.as_slice())
+                    && output.same(other_output)
+                    && same_block(body, other_body)
             }
-            Expr::Return { operand } => {
-                discard_operand(operand);
-            }
-            Expr::Break { label, operand } => {
-                drop(label);
-                discard_operand(operand);
-            }
+            _ => false,
+        },
+        Expr::Return { operand } => {
+            matches!(other, Expr::Return { operand: given } if same_operand(operand, given))
         }
+        Expr::Break { label, operand } => match other {
+            Expr::Break {
+                label: other_label,
+                operand: other_operand,
+            } => { label.same(other_label) && same_operand(operand, other_operand) }
+            _ => false,
+        },
     }
 }
 
-impl Expr {
-    /// The block, where it is one, with a label or without.
-    pub fn into_block(self) -> Option<Block>
-        ensures { result ≡ block_of self }
-    {
-        match self {
-            Expr::Block { label: _, body } => Some(body),
-            _ => None,
-        }
-    }
-}
-
-/// A parameter of a closure.
-#[derive(Drop)]
-pub struct ClosureParam {
-    pub attrs: List<Attr>,
-    pub pat: Pat,
-    pub ty: Option<Ty>,
-}
-
-/// A field in a struct literal (Rust Reference, "Struct expressions").
+/// Whether two fields of struct literals are equal.
 #[cycle(code)]
-pub enum FieldExpr {
-    /// `a: b`
-    Named {
-        attrs: List<Attr>,
-        name: Name,
-        value: Expr,
-    },
-    /// `0: b`
-    Numbered {
-        attrs: List<Attr>,
-        index: Text,
-        value: Expr,
-    },
-    /// `a`: the field and its value have this name
-    Short {
-        attrs: List<Attr>,
-        name: Name,
-    },
-}
-
-impl Drop for FieldExpr {
-    #[cycle(drops)]
-    fn drop(self) {
-        match self {
-            FieldExpr::Named { attrs, name, value } => {
-                drop(attrs);
-                drop(name);
-                drop(value);
+fn same_field(field: &FieldExpr, other: &FieldExpr) -> bool
+    ensures { IsTrue result ↔ field.now ≡ other.now }
+{
+    match field {
+        FieldExpr::Named { attrs, name, value } => match other {
+            FieldExpr::Named {
+                attrs: other_attrs,
+                name: other_name,
+                value: other_value,
+            } => {
+                attrs.same(other_attrs) && name.same(other_name) && same_expr(value, other_value)
             }
+            _ => false,
+        },
+        FieldExpr::Numbered {
+            attrs,
+            index,
+            value,
+        } => match other {
             FieldExpr::Numbered {
-                attrs,
-                index,
-                value,
+                attrs: other_attrs,
+                index: other_index,
+                value: other_value,
             } => {
-                drop(attrs);
-                drop(index);
-                drop(value);
+                attrs.same(other_attrs) && index.same(other_index) && same_expr(value, other_value)
             }
-            FieldExpr::Short { attrs, name } => {
-                drop(attrs);
-                drop(name);
+            _ => false,
+        },
+        FieldExpr::Short { attrs, name } => match other {
+            FieldExpr::Short {
+                attrs: other_attrs,
+                name: other_name,
+            } => { attrs.same(other_attrs) && name.same(other_name) }
+            _ => false,
+        },
+    }
+}
+
+/// Whether two steps are equal.
+#[cycle(code)]
+fn same_step(step: &Step, other: &Step) -> bool
+    ensures { IsTrue result ↔ step.now ≡ other.now }
+{
+    match step {
+        Step::Field { name } => matches!(other, Step::Field { name: given } if name.same(given)),
+        Step::TupleIndex { index } => {
+            matches!(other, Step::TupleIndex { index: given } if index.same(given))
+        }
+        Step::Method {
+            name,
+            generics,
+            args,
+        } => match other {
+            Step::Method {
+                name: other_name,
+                generics: other_generics,
+                args: other_args,
+            } => {
+                name.same(other_name)
+                    && generics.same(other_generics)
+                    && same_exprs(args.as_slice(), other_args.as_slice())
             }
+            _ => false,
+        },
+        Step::Apply { args } => match other {
+            Step::Apply { args: given } => same_exprs(args.as_slice(), given.as_slice()),
+            _ => false,
+        },
+        Step::Index { index } => {
+            matches!(other, Step::Index { index: given } if same_expr(index, given))
+        }
+        Step::Try => matches!(other, Step::Try),
+        Step::Await => matches!(other, Step::Await),
+    }
+}
+
+/// Whether two blocks are equal.
+#[cycle(code)]
+pub fn same_block(block: &Block, other: &Block) -> bool
+    ensures { IsTrue result ↔ block.now ≡ other.now }
+{
+    block.attrs.same(&other.attrs) && same_stmts(block.stmts.as_slice(), other.stmts.as_slice())
+}
+
+/// Whether two statements are equal.
+#[cycle(code)]
+pub fn same_stmt(stmt: &Stmt, other: &Stmt) -> bool
+    ensures { IsTrue result ↔ stmt.now ≡ other.now }
+{
+    match stmt {
+        Stmt::Let {
+            attrs,
+            pat,
+            ty,
+            value,
+            otherwise,
+        } => match other {
+            Stmt::Let {
+                attrs: other_attrs,
+                pat: other_pat,
+                ty: other_ty,
+                value: other_value,
+                otherwise: other_otherwise,
+            } => {
+                attrs.same(other_attrs)
+                    && pat.same(other_pat)
+                    && ty.same(other_ty)
+                    && same_value(value, other_value)
+                    && same_body(otherwise, other_otherwise)
+            }
+            _ => false,
+        },
+        Stmt::Item { item } => {
+            matches!(other, Stmt::Item { item: given } if same_item(item.get(), given.get()))
+        }
+        Stmt::Expr { attrs, expr, ended } => match other {
+            Stmt::Expr {
+                attrs: other_attrs,
+                expr: other_expr,
+                ended: other_ended,
+            } => {
+                attrs.same(other_attrs) && same_expr(expr, other_expr) && *ended == *other_ended
+            }
+            _ => false,
+        },
+    }
+}
+
+/// Whether two branches are equal.
+#[cycle(code)]
+fn same_branch(branch: &Branch, other: &Branch) -> bool
+    ensures { IsTrue result ↔ branch.now ≡ other.now }
+{
+    branch.pat.same(&other.pat)
+        && same_expr(&branch.condition, &other.condition)
+        && same_block(&branch.body, &other.body)
+}
+
+/// Whether two arms are equal.
+#[cycle(code)]
+pub fn same_arm(arm: &Arm, other: &Arm) -> bool
+    ensures { IsTrue result ↔ arm.now ≡ other.now }
+{
+    arm.attrs.same(&other.attrs)
+        && arm.pat.same(&other.pat)
+        && same_value(&arm.guard, &other.guard)
+        && same_expr(&arm.body, &other.body)
+}
+
+/// Whether two items are equal.
+#[cycle(code)]
+pub fn same_item(item: &Item, other: &Item) -> bool
+    ensures { IsTrue result ↔ item.now ≡ other.now }
+{
+    item.attrs.same(&other.attrs) && item.vis.same(&other.vis) && same_kind(&item.kind, &other.kind)
+}
+
+/// Whether two items without their attributes and visibilities are equal.
+#[cycle(code)]
+fn same_kind(kind: &ItemKind, other: &ItemKind) -> bool
+    ensures { IsTrue result ↔ kind.now ≡ other.now }
+{
+    match kind {
+        ItemKind::ExternCrate { item } => {
+            matches!(other, ItemKind::ExternCrate { item: given } if item.same(given))
+        }
+        ItemKind::Import { tree } => {
+            matches!(other, ItemKind::Import { tree: given } if tree.same(given))
+        }
+        ItemKind::FileModule { name } => {
+            matches!(other, ItemKind::FileModule { name: given } if name.same(given))
+        }
+        ItemKind::Module { name, attrs, items } => match other {
+            ItemKind::Module {
+                name: other_name,
+                attrs: other_attrs,
+                items: other_items,
+            } => {
+                name.same(other_name)
+                    && attrs.same(other_attrs)
+                    && same_items(items.as_slice(), other_items.as_slice())
+            }
+            _ => false,
+        },
+        ItemKind::Function { head, wheres, body } => match other {
+            ItemKind::Function {
+                head: other_head,
+                wheres: other_wheres,
+                body: other_body,
+            } => {
+                head.same(other_head) && wheres.same(other_wheres) && same_body(body, other_body)
+            }
+            _ => false,
+        },
+        ItemKind::Alias { item } => {
+            matches!(other, ItemKind::Alias { item: given } if item.same(given))
+        }
+        ItemKind::Struct { item } => {
+            matches!(other, ItemKind::Struct { item: given } if item.same(given))
+        }
+        ItemKind::Union { item } => {
+            matches!(other, ItemKind::Union { item: given } if item.same(given))
+        }
+        ItemKind::Enum { item } => {
+            matches!(other, ItemKind::Enum { item: given } if item.same(given))
+        }
+        ItemKind::Value { head, value } => match other {
+            ItemKind::Value {
+                head: other_head,
+                value: other_value,
+            } => { head.same(other_head) && same_value(value, other_value) }
+            _ => false,
+        },
+        ItemKind::Trait {
+            head,
+            wheres,
+            attrs,
+            items,
+        } => match other {
+            ItemKind::Trait {
+                head: other_head,
+                wheres: other_wheres,
+                attrs: other_attrs,
+                items: other_items,
+            } => {
+                head.same(other_head)
+                    && wheres.same(other_wheres)
+                    && attrs.same(other_attrs)
+                    && same_items(items.as_slice(), other_items.as_slice())
+            }
+            _ => false,
+        },
+        ItemKind::Impl {
+            head,
+            wheres,
+            attrs,
+            items,
+        } => match other {
+            ItemKind::Impl {
+                head: other_head,
+                wheres: other_wheres,
+                attrs: other_attrs,
+                items: other_items,
+            } => {
+                head.same(other_head)
+                    && wheres.same(other_wheres)
+                    && attrs.same(other_attrs)
+                    && same_items(items.as_slice(), other_items.as_slice())
+            }
+            _ => false,
+        },
+        ItemKind::Foreign {
+            is_unsafe,
+            abi,
+            attrs,
+            items,
+        } => match other {
+            ItemKind::Foreign {
+                is_unsafe: other_is_unsafe,
+                abi: other_abi,
+                attrs: other_attrs,
+                items: other_items,
+            } => {
+                *is_unsafe == *other_is_unsafe
+                    && abi.same(other_abi)
+                    && attrs.same(other_attrs)
+                    && same_items(items.as_slice(), other_items.as_slice())
+            }
+            _ => false,
+        },
+        ItemKind::MacroRules { name, rules } => match other {
+            ItemKind::MacroRules {
+                name: other_name,
+                rules: other_rules,
+            } => { name.same(other_name) && rules.same(other_rules) }
+            _ => false,
+        },
+        ItemKind::Call { call } => {
+            matches!(other, ItemKind::Call { call: given } if call.same(given))
         }
     }
 }
 
-/// What follows the base of a postfix expression.
+/// Whether two lists of expressions are equal.
 #[cycle(code)]
-pub enum Step {
-    /// `.a`
-    Field {
-        name: Name,
-    },
-    /// `.0`
-    TupleIndex {
-        index: Text,
-    },
-    /// `.a::<B>(c)`
-    Method {
-        name: Name,
-        generics: Option<List<Arg>>,
-        args: List<Expr>,
-    },
-    /// `(a, b)`: a call
-    Apply {
-        args: List<Expr>,
-    },
-    /// `[a]`
-    Index {
-        index: Expr,
-    },
-    /// `?`
-    Try,
-    /// `.await`
-    Await,
+fn same_exprs(exprs: &[Expr], others: &[Expr]) -> bool
+    ensures { IsTrue result ↔ exprs.now ≡ others.now }
+{
+    if exprs.len() != others.len() {
+        return false;
+    }
+    for (expr, other) in exprs.iter().zip(others) {
+        if !same_expr(expr, other) {
+            return false;
+        }
+    }
+    true
 }
 
-impl Drop for Step {
-    #[cycle(drops)]
-    fn drop(self) {
-        match self {
-            Step::Field { name } => {
-                drop(name);
-            }
-            Step::TupleIndex { index } => {
-                drop(index);
-            }
-            Step::Method {
-                name,
-                generics,
-                args,
-            } => {
-                drop(name);
-                drop(generics);
-                discard_exprs(args);
-            }
-            Step::Apply { args } => {
-                discard_exprs(args);
-            }
-            Step::Index { index } => {
-                drop(index);
-            }
-            Step::Try => {}
-            Step::Await => {}
+/// Whether the fields of two struct literals are equal.
+#[cycle(code)]
+fn same_fields(fields: &[FieldExpr], others: &[FieldExpr]) -> bool
+    ensures { IsTrue result ↔ fields.now ≡ others.now }
+{
+    if fields.len() != others.len() {
+        return false;
+    }
+    for (field, other) in fields.iter().zip(others) {
+        if !same_field(field, other) {
+            return false;
+        }
+    }
+    true
+}
+
+/// Whether the steps behind two expressions are equal.
+#[cycle(code)]
+fn same_steps(steps: &[Step], others: &[Step]) -> bool
+    ensures { IsTrue result ↔ steps.now ≡ others.now }
+{
+    if steps.len() != others.len() {
+        return false;
+    }
+    for (step, other) in steps.iter().zip(others) {
+        if !same_step(step, other) {
+            return false;
+        }
+    }
+    true
+}
+
+/// Whether the branches of two expressions are equal.
+#[cycle(code)]
+fn same_branches(branches: &[Branch], others: &[Branch]) -> bool
+    ensures { IsTrue result ↔ branches.now ≡ others.now }
+{
+    if branches.len() != others.len() {
+        return false;
+    }
+    for (branch, other) in branches.iter().zip(others) {
+        if !same_branch(branch, other) {
+            return false;
+        }
+    }
+    true
+}
+
+/// Whether the arms of two expressions are equal.
+#[cycle(code)]
+fn same_arms(arms: &[Arm], others: &[Arm]) -> bool
+    ensures { IsTrue result ↔ arms.now ≡ others.now }
+{
+    if arms.len() != others.len() {
+        return false;
+    }
+    for (arm, other) in arms.iter().zip(others) {
+        if !same_arm(arm, other) {
+            return false;
+        }
+    }
+    true
+}
+
+/// Whether two lists of statements are equal.
+#[cycle(code)]
+fn same_stmts(stmts: &[Stmt], others: &[Stmt]) -> bool
+    ensures { IsTrue result ↔ stmts.now ≡ others.now }
+{
+    if stmts.len() != others.len() {
+        return false;
+    }
+    for (stmt, other) in stmts.iter().zip(others) {
+        if !same_stmt(stmt, other) {
+            return false;
+        }
+    }
+    true
+}
+
+/// Whether two lists of items are equal.
+#[cycle(code)]
+pub fn same_items(items: &[Item], others: &[Item]) -> bool
+    ensures { IsTrue result ↔ items.now ≡ others.now }
+{
+    if items.len() != others.len() {
+        return false;
+    }
+    for (item, other) in items.iter().zip(others) {
+        if !same_item(item, other) {
+            return false;
+        }
+    }
+    true
+}
+
+/// Whether the operators and operands of two chains are equal.
+#[cycle(code)]
+fn same_operands(operands: &[(Op, Expr)], others: &[(Op, Expr)]) -> bool
+    ensures { IsTrue result ↔ operands.now ≡ others.now }
+{
+    if operands.len() != others.len() {
+        return false;
+    }
+    for ((op, operand), (other_op, other_operand)) in operands.iter().zip(others) {
+        if !same_op(op, other_op) || !same_expr(operand, other_operand) {
+            return false;
+        }
+    }
+    true
+}
+
+/// Whether the targets of two assignments are equal.
+#[cycle(code)]
+fn same_targets(targets: &[(Expr, Op)], others: &[(Expr, Op)]) -> bool
+    ensures { IsTrue result ↔ targets.now ≡ others.now }
+{
+    if targets.len() != others.len() {
+        return false;
+    }
+    for ((target, op), (other_target, other_op)) in targets.iter().zip(others) {
+        if !same_expr(target, other_target) || !same_op(op, other_op) {
+            return false;
+        }
+    }
+    true
+}
+
+/// Whether two operands that may be left out are equal.
+#[cycle(code)]
+fn same_operand(operand: &Option<Boxed<Expr>>, other: &Option<Boxed<Expr>>) -> bool
+    ensures { IsTrue result ↔ operand.now ≡ other.now }
+{
+    match operand {
+        None => other.is_none(),
+        Some(operand) => matches!(other, Some(given) if same_expr(operand.get(), given.get())),
+    }
+}
+
+/// Whether two expressions that may be left out are equal.
+#[cycle(code)]
+fn same_value(value: &Option<Expr>, other: &Option<Expr>) -> bool
+    ensures { IsTrue result ↔ value.now ≡ other.now }
+{
+    match value {
+        None => other.is_none(),
+        Some(value) => matches!(other, Some(given) if same_expr(value, given)),
+    }
+}
+
+/// Whether two blocks that may be left out are equal.
+#[cycle(code)]
+fn same_body(body: &Option<Block>, other: &Option<Block>) -> bool
+    ensures { IsTrue result ↔ body.now ≡ other.now }
+{
+    match body {
+        None => other.is_none(),
+        Some(body) => matches!(other, Some(given) if same_block(body, given)),
+    }
+}
+
+/// Whether the bases of two struct literals are equal, behind a `..` where there is one.
+#[cycle(code)]
+fn same_base(base: &Option<Option<Boxed<Expr>>>, other: &Option<Option<Boxed<Expr>>>) -> bool
+    ensures { IsTrue result ↔ base.now ≡ other.now }
+{
+    match base {
+        None => other.is_none(),
+        Some(None) => matches!(other, Some(None)),
+        Some(Some(base)) => {
+            matches!(other, Some(Some(given)) if same_expr(base.get(), given.get()))
         }
     }
 }

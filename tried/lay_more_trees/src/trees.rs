@@ -7,12 +7,11 @@ ghost use Rattle.lay_node.specs.tokens.Listing.{turned};
 use lay_files::read_bytes;
 use lay_given::repeated;
 use lay_laws::is_written;
-use lay_same::same;
 use lay_token::{Delim, Kind, List, Text};
 use lay_tree::{
     Args, Block, Boxed, Expr, File, FnHead, Generics, GivenName, Group, Item, ItemKind, Literal,
     MacroCall, Name, Pat, Path, PathStart, SimplePath, Stmt, Tokens, Ty, ValueHead, Vis, Wheres,
-    Word,
+    Word, same,
 };
 use std::alloc::Global;
 use std::mem;

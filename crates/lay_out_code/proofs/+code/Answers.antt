@@ -1,13 +1,13 @@
 use Rattle.std.proofs.Common.{List, [], ◌++◌, ◌&&◌, true, false, map, refl, ap, ◌∙◌, ◌∷◌, option_map}
 use Rattle.lay_form.specs.Form.{Done, semicolon, Part}
 use Rattle.lay_form.specs.Stream.{fed, stream_of}
-use Rattle.lay_tree.specs.nodes.Blocks.{guard_form}
-use Rattle.lay_tree.specs.nodes.Code.{about_step, about_block, about_expr, form_of_item}
-use Rattle.lay_tree.specs.nodes.Exprs.{operands_form, steps_form, targets_form, value_form}
-use Rattle.lay_tree.specs.declared.exprs.Expr.{Expr}
-use Rattle.lay_tree.specs.declared.exprs.FieldExpr.{FieldExpr}
-use Rattle.lay_tree.specs.declared.exprs.Step.{Step}
-use Rattle.lay_tree.specs.declared.operators.Op.{Op}
+use Rattle.lay_code.specs.nodes.Blocks.{guard_form}
+use Rattle.lay_code.specs.nodes.Code.{about_step, about_block, about_expr, form_of_item}
+use Rattle.lay_code.specs.nodes.Exprs.{operands_form, steps_form, targets_form, value_form}
+use Rattle.lay_code.specs.declared.exprs.Expr.{Expr}
+use Rattle.lay_code.specs.declared.exprs.FieldExpr.{FieldExpr}
+use Rattle.lay_code.specs.declared.exprs.Step.{Step}
+use Rattle.lay_code.specs.declared.operators.Op.{Op}
 use Rattle.lay_out_tokens.proofs.StreamParts.{loop_done, loop_step}
 use Rattle.lay_out_types.specs.PatternRows.{braces_opened}
 use Rattle.lay_out_types.specs.Rows.{comma_between, list_closed, list_opened, row}
@@ -21,18 +21,18 @@ use Rattle.lay_form.specs.Notation.{H, each, piece}
 use Rattle.lay_node.specs.nodes.Attr.{attr_form}
 use Rattle.lay_node.specs.nodes.Heads.{impl_head_form, trait_head_form, value_head_form}
 use Rattle.lay_node.specs.declared.heads.Site.TheVariants.{Module}
-use Rattle.lay_tree.specs.nodes.Item.{about_file_module, about_function, about_import, about_value, module_head}
-use Rattle.lay_tree.specs.declared.item.Item.{Item}
-use Rattle.lay_tree.proofs.nodes.ItemLaws.{alias_is, call_is, enum_is, extern_crate_is, file_module_is, foreign_is, function_is, impl_is, import_is, module_is, rules_is, struct_is, trait_is, union_is, value_is}
+use Rattle.lay_code.specs.nodes.Item.{about_file_module, about_function, about_import, about_value, module_head}
+use Rattle.lay_code.specs.declared.item.Item.{Item}
+use Rattle.lay_code.proofs.nodes.ItemLaws.{alias_is, call_is, enum_is, extern_crate_is, file_module_is, foreign_is, function_is, impl_is, import_is, module_is, rules_is, struct_is, trait_is, union_is, value_is}
 use Rattle.lay_out_heads.specs.FieldRows.{line}
 use Rattle.lay_out_heads.proofs.Steady.{steady_semicolon}
 use Rattle.lay_out_code.specs.Parts.{foreign_head, head_row, import_head, arm_told, branch_told, stmt_told}
 use Rattle.lay_out_code.proofs.OutLemmas.{bare_body, clause_body, full_body, head_body, headed, item_parts, kind_of, line_before, lines_put, may_close_body, bare_is, some_value, valued_head}
 use Rattle.lay_node.specs.nodes.Functions.{fn_head_form}
 use Rattle.lay_node.specs.nodes.Patterns.{about_pat}
-use Rattle.lay_tree.specs.declared.blocks.Arm.{Arm}
-use Rattle.lay_tree.specs.declared.blocks.Branch.{Branch}
-use Rattle.lay_tree.specs.declared.blocks.Stmt.{Stmt}
+use Rattle.lay_code.specs.declared.blocks.Arm.{Arm}
+use Rattle.lay_code.specs.declared.blocks.Branch.{Branch}
+use Rattle.lay_code.specs.declared.blocks.Stmt.{Stmt}
 use Rattle.lay_out_heads.proofs.Rows.{may_end_head}
 use Rattle.lay_out_exprs.specs.Arms.{seen_as}
 use Rattle.lay_out_exprs.specs.Blocks.{else_between}

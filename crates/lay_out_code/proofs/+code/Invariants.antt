@@ -1,8 +1,8 @@
 use Rattle.std.proofs.Common.{[], false, drop, map, take, ◌∷◌}
 use Rattle.lay_form.specs.Form.{Done}
 use Rattle.lay_form.specs.Stream.{fed, stream_of}
-use Rattle.lay_tree.specs.nodes.Code.{about_step, form_of_item}
-use Rattle.lay_tree.specs.nodes.Exprs.{operands_form, steps_form, targets_form}
+use Rattle.lay_code.specs.nodes.Code.{about_step, form_of_item}
+use Rattle.lay_code.specs.nodes.Exprs.{operands_form, steps_form, targets_form}
 use Rattle.lay_out_types.specs.Calls.{Adds}
 use Rattle.lay_out_types.specs.PatternRows.{braces_opened}
 use Rattle.lay_out_types.specs.Rows.{comma_between, list_opened, row}

@@ -12,11 +12,11 @@ use Rattle.lay_node.specs.nodes.Patterns.{about_pat, pat_form, pat_good}
 use Rattle.lay_node.specs.declared.attr.Attr.{Attr}
 use Rattle.lay_node.specs.declared.patterns.Pat.{Pat}
 use Rattle.lay_node.specs.declared.patterns.PatPlace.TheVariants.{Alternatives}
-use Rattle.lay_tree.specs.nodes.Blocks.{arm_facts, branch_facts, braces_of, guard_form, is_free, is_lone_body}
-use Rattle.lay_tree.specs.nodes.CodeFacts.{ArmFacts, BlockFacts, BranchFacts}
-use Rattle.lay_tree.specs.nodes.Exprs.{BodyKind, MacroBody, BlockBody, OtherBody, ExprFacts, placed, value_placed, condition_form, condition_good, arm_forms, arms_good}
-use Rattle.lay_tree.specs.nodes.Places as place
-use Rattle.lay_tree.specs.nodes.Places.{statement}
+use Rattle.lay_code.specs.nodes.Blocks.{arm_facts, branch_facts, braces_of, guard_form, is_free, is_lone_body}
+use Rattle.lay_code.specs.nodes.CodeFacts.{ArmFacts, BlockFacts, BranchFacts}
+use Rattle.lay_code.specs.nodes.Exprs.{BodyKind, MacroBody, BlockBody, OtherBody, ExprFacts, placed, value_placed, condition_form, condition_good, arm_forms, arms_good}
+use Rattle.lay_code.specs.nodes.Places as place
+use Rattle.lay_code.specs.nodes.Places.{statement}
 use Rattle.lay_reparse.proofs.borders.Border.{Border}
 use Rattle.lay_reparse.proofs.forms.Passes.{plain}
 use Rattle.lay_reparse.proofs.forms.Rules.{tables, From, All, wider, ends, fixed, breaks, within, part, with_outer, bare_arm, unseen_arm, marked_arm}

@@ -17,11 +17,11 @@ use Rattle.lay_node.specs.declared.heads.Site.TheVariants.{Module}
 use Rattle.lay_node.specs.declared.patterns.Pat.{Pat}
 use Rattle.lay_node.specs.declared.patterns.PatPlace.TheVariants.{Single}
 use Rattle.lay_node.specs.declared.types.Ty.{Ty}
-use Rattle.lay_tree.specs.nodes.Blocks.{attrs_before, block_facts, block_form, dropped, dropped_if, else_form, else_good, ended_form, is_plain, let_type, precedes_else, soft_form, stmt_facts, stmt_form, stmts_good}
-use Rattle.lay_tree.specs.nodes.CodeFacts.{BlockFacts, ItemFacts, StmtFacts}
-use Rattle.lay_tree.specs.nodes.Exprs.{ExprFacts, placed, value_form, value_placed}
-use Rattle.lay_tree.specs.nodes.Places.{statement}
-use Rattle.lay_tree.specs.declared.blocks.Stmt.TheOpen.{Stmt-F}
+use Rattle.lay_code.specs.nodes.Blocks.{attrs_before, block_facts, block_form, dropped, dropped_if, else_form, else_good, ended_form, is_plain, let_type, precedes_else, soft_form, stmt_facts, stmt_form, stmts_good}
+use Rattle.lay_code.specs.nodes.CodeFacts.{BlockFacts, ItemFacts, StmtFacts}
+use Rattle.lay_code.specs.nodes.Exprs.{ExprFacts, placed, value_form, value_placed}
+use Rattle.lay_code.specs.nodes.Places.{statement}
+use Rattle.lay_code.specs.declared.blocks.Stmt.TheOpen.{Stmt-F}
 use Rattle.lay_reparse.proofs.borders.Border.{Border}
 use Rattle.lay_reparse.proofs.forms.Passes.{plain}
 use Rattle.lay_reparse.proofs.forms.Rules.{tables, From, All, wider, ends, fixed, breaks, part, level, with_outer, body_fits, braced, soft_fits, soft_block}

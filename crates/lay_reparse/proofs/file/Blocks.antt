@@ -2,16 +2,16 @@
 use Rattle.std.proofs.Common.{◌≡◌, List, true, refl, sym, subst, map, Option, option_map, Some, None}
 use Rattle.lay_node.specs.declared.attr.Attr.{Attr}
 use Rattle.lay_node.specs.declared.patterns.Pat.{Pat}
-use Rattle.lay_tree.specs.nodes.Blocks.{stmt_facts}
-use Rattle.lay_tree.specs.nodes.Code.{about_block, about_expr, about_stmt, told_of_item}
-use Rattle.lay_tree.specs.nodes.Exprs.{ExprLayer, expr_facts}
-use Rattle.lay_tree.specs.declared.blocks.Arm.{Arm}
-use Rattle.lay_tree.specs.declared.blocks.Block.{Block}
-use Rattle.lay_tree.specs.declared.blocks.Branch.{Branch}
-use Rattle.lay_tree.specs.declared.blocks.Stmt.TheOpen.{Arm-F, Block-F, Branch-F, Expr-F, Stmt-F}
-use Rattle.lay_tree.specs.declared.blocks.Stmt.TheViews as views
-use Rattle.lay_tree.specs.declared.exprs.Expr.{Expr}
-use Rattle.lay_tree.proofs.nodes.BlocksLaws.{arm_is, block_is, branch_is}
+use Rattle.lay_code.specs.nodes.Blocks.{stmt_facts}
+use Rattle.lay_code.specs.nodes.Code.{about_block, about_expr, about_stmt, told_of_item}
+use Rattle.lay_code.specs.nodes.Exprs.{ExprLayer, expr_facts}
+use Rattle.lay_code.specs.declared.blocks.Arm.{Arm}
+use Rattle.lay_code.specs.declared.blocks.Block.{Block}
+use Rattle.lay_code.specs.declared.blocks.Branch.{Branch}
+use Rattle.lay_code.specs.declared.blocks.Stmt.TheOpen.{Arm-F, Block-F, Branch-F, Expr-F, Stmt-F}
+use Rattle.lay_code.specs.declared.blocks.Stmt.TheViews as views
+use Rattle.lay_code.specs.declared.exprs.Expr.{Expr}
+use Rattle.lay_code.proofs.nodes.BlocksLaws.{arm_is, block_is, branch_is}
 use Rattle.lay_reparse.proofs.file.TypeArgs.{Any, Each}
 use Rattle.lay_reparse.proofs.file.Types.{kept}
 use Rattle.lay_reparse.proofs.file.ExprPlaces.{ExprPasses}

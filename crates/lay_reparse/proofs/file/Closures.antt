@@ -13,11 +13,11 @@ use Rattle.lay_node.specs.nodes.Types.{about_type, good_at}
 use Rattle.lay_node.specs.declared.patterns.PatPlace.TheVariants.{Single}
 use Rattle.lay_node.specs.declared.types.Ty.{Ty}
 use Rattle.lay_node.specs.declared.types.TypePlace.TheVariants.{NoBounds}
-use Rattle.lay_tree.specs.nodes.CodeFacts.{BlockFacts}
-use Rattle.lay_tree.specs.nodes.Exprs.{ExprFacts, placed, expr_facts, bar, closure_param, is_closure_param, closure_head}
-use Rattle.lay_tree.specs.nodes.Places as place
-use Rattle.lay_tree.specs.declared.blocks.Stmt.TheOpen.{Expr-F}
-use Rattle.lay_tree.specs.declared.exprs.ClosureParam.{ClosureParam}
+use Rattle.lay_code.specs.nodes.CodeFacts.{BlockFacts}
+use Rattle.lay_code.specs.nodes.Exprs.{ExprFacts, placed, expr_facts, bar, closure_param, is_closure_param, closure_head}
+use Rattle.lay_code.specs.nodes.Places as place
+use Rattle.lay_code.specs.declared.blocks.Stmt.TheOpen.{Expr-F}
+use Rattle.lay_code.specs.declared.exprs.ClosureParam.{ClosureParam}
 use Rattle.lay_reparse.proofs.borders.Border.{Border, beyond}
 use Rattle.lay_reparse.proofs.borders.Move.{under}
 use Rattle.lay_reparse.proofs.forms.Fields.{type_ends}

@@ -6,20 +6,20 @@ use Rattle.lay_piece.specs.declared.kind.Kind.TheVariants as kind
 use Rattle.lay_form.specs.Form.{Bit, Blank, Fixed, Operator, keyword, opener, closer, comma, semicolon}
 use Rattle.lay_form.specs.Pieces.{are_pieces}
 use Rattle.lay_node.specs.nodes.Types.{colon, equals}
-use Rattle.lay_tree.specs.nodes.Code.{about_arm, about_block, about_branch, about_expr, about_field_expr, about_step, about_stmt, told_of_item}
-use Rattle.lay_tree.specs.nodes.Exprs.{placed}
-use Rattle.lay_tree.specs.declared.exprs.Place.{Place}
-use Rattle.lay_tree.specs.declared.blocks.Arm.{Arm}
-use Rattle.lay_tree.specs.declared.blocks.Block.{Block}
-use Rattle.lay_tree.specs.declared.blocks.Branch.{Branch}
-use Rattle.lay_tree.specs.declared.blocks.Stmt.{Stmt}
-use Rattle.lay_tree.specs.declared.blocks.Stmt.TheFolds as fold
-use Rattle.lay_tree.specs.declared.blocks.Stmt.TheOpen.{Arm-F, Block-F, Branch-F, Expr-F, FieldExpr-F, Item-F, ItemKind-F, Step-F, Stmt-F}
-use Rattle.lay_tree.specs.declared.blocks.Stmt.TheViews as views
-use Rattle.lay_tree.specs.declared.exprs.Expr.{Expr}
-use Rattle.lay_tree.specs.declared.exprs.FieldExpr.{FieldExpr}
-use Rattle.lay_tree.specs.declared.exprs.Step.{Step}
-use Rattle.lay_tree.specs.declared.item.Item.{Item}
+use Rattle.lay_code.specs.nodes.Code.{about_arm, about_block, about_branch, about_expr, about_field_expr, about_step, about_stmt, told_of_item}
+use Rattle.lay_code.specs.nodes.Exprs.{placed}
+use Rattle.lay_code.specs.declared.exprs.Place.{Place}
+use Rattle.lay_code.specs.declared.blocks.Arm.{Arm}
+use Rattle.lay_code.specs.declared.blocks.Block.{Block}
+use Rattle.lay_code.specs.declared.blocks.Branch.{Branch}
+use Rattle.lay_code.specs.declared.blocks.Stmt.{Stmt}
+use Rattle.lay_code.specs.declared.blocks.Stmt.TheFolds as fold
+use Rattle.lay_code.specs.declared.blocks.Stmt.TheOpen.{Arm-F, Block-F, Branch-F, Expr-F, FieldExpr-F, Item-F, ItemKind-F, Step-F, Stmt-F}
+use Rattle.lay_code.specs.declared.blocks.Stmt.TheViews as views
+use Rattle.lay_code.specs.declared.exprs.Expr.{Expr}
+use Rattle.lay_code.specs.declared.exprs.FieldExpr.{FieldExpr}
+use Rattle.lay_code.specs.declared.exprs.Step.{Step}
+use Rattle.lay_code.specs.declared.item.Item.{Item}
 use Rattle.lay_reparse.proofs.borders.Border.{Border, beyond}
 use Rattle.lay_reparse.proofs.forms.Passes.{plain}
 use Rattle.lay_reparse.proofs.forms.Rules.{tables, From, wider}

@@ -1,23 +1,23 @@
 -- Nodes of code that pass, layers of such nodes, and what is told of a layer: expressions, blocks and items are one family.
 use Rattle.std.proofs.Common.{◌≡◌}
 use Rattle.lay_node.specs.nodes.Facts.{Facts}
-use Rattle.lay_tree.specs.nodes.Blocks.{arm_facts, block_facts, branch_facts, stmt_facts}
-use Rattle.lay_tree.specs.nodes.Code.{about_arm, about_block, about_branch, about_expr, about_field_expr, about_step, about_stmt, told_of_item, told_of_kind}
-use Rattle.lay_tree.specs.nodes.CodeFacts.{ArmFacts, BlockFacts, BranchFacts, ItemFacts, KindFacts, StmtFacts}
-use Rattle.lay_tree.specs.nodes.Exprs.{ExprFacts, StepFacts, expr_facts, field_facts, step_facts}
-use Rattle.lay_tree.specs.nodes.Item.{item_facts, kind_facts}
-use Rattle.lay_tree.specs.declared.blocks.Arm.{Arm}
-use Rattle.lay_tree.specs.declared.blocks.Block.{Block}
-use Rattle.lay_tree.specs.declared.blocks.Branch.{Branch}
-use Rattle.lay_tree.specs.declared.blocks.Stmt.{Stmt}
-use Rattle.lay_tree.specs.declared.blocks.Stmt.TheFolds as fold
-use Rattle.lay_tree.specs.declared.blocks.Stmt.TheOpen.{Arm-F, Block-F, Branch-F, Expr-F, FieldExpr-F, Item-F, ItemKind-F, Step-F, Stmt-F}
-use Rattle.lay_tree.specs.declared.blocks.Stmt.TheViews as views
-use Rattle.lay_tree.specs.declared.exprs.Expr.{Expr}
-use Rattle.lay_tree.specs.declared.exprs.FieldExpr.{FieldExpr}
-use Rattle.lay_tree.specs.declared.exprs.Step.{Step}
-use Rattle.lay_tree.specs.declared.item.Item.{Item}
-use Rattle.lay_tree.specs.declared.item.ItemKind.{ItemKind}
+use Rattle.lay_code.specs.nodes.Blocks.{arm_facts, block_facts, branch_facts, stmt_facts}
+use Rattle.lay_code.specs.nodes.Code.{about_arm, about_block, about_branch, about_expr, about_field_expr, about_step, about_stmt, told_of_item, told_of_kind}
+use Rattle.lay_code.specs.nodes.CodeFacts.{ArmFacts, BlockFacts, BranchFacts, ItemFacts, KindFacts, StmtFacts}
+use Rattle.lay_code.specs.nodes.Exprs.{ExprFacts, StepFacts, expr_facts, field_facts, step_facts}
+use Rattle.lay_code.specs.nodes.Item.{item_facts, kind_facts}
+use Rattle.lay_code.specs.declared.blocks.Arm.{Arm}
+use Rattle.lay_code.specs.declared.blocks.Block.{Block}
+use Rattle.lay_code.specs.declared.blocks.Branch.{Branch}
+use Rattle.lay_code.specs.declared.blocks.Stmt.{Stmt}
+use Rattle.lay_code.specs.declared.blocks.Stmt.TheFolds as fold
+use Rattle.lay_code.specs.declared.blocks.Stmt.TheOpen.{Arm-F, Block-F, Branch-F, Expr-F, FieldExpr-F, Item-F, ItemKind-F, Step-F, Stmt-F}
+use Rattle.lay_code.specs.declared.blocks.Stmt.TheViews as views
+use Rattle.lay_code.specs.declared.exprs.Expr.{Expr}
+use Rattle.lay_code.specs.declared.exprs.FieldExpr.{FieldExpr}
+use Rattle.lay_code.specs.declared.exprs.Step.{Step}
+use Rattle.lay_code.specs.declared.item.Item.{Item}
+use Rattle.lay_code.specs.declared.item.ItemKind.{ItemKind}
 use Rattle.lay_reparse.proofs.forms.Passes.{plain}
 use Rattle.lay_reparse.proofs.file.TypeArgs.{Passing}
 use Rattle.lay_reparse.proofs.file.ExprParts.{ends_expr}

@@ -13,10 +13,10 @@ use Rattle.lay_node.specs.declared.attr.Attr.{Attr}
 use Rattle.lay_node.specs.declared.patterns.Pat.{Pat}
 use Rattle.lay_node.specs.declared.patterns.PatPlace.TheVariants.{Alternatives}
 use Rattle.lay_node.specs.declared.token.Lifetime.{Lifetime}
-use Rattle.lay_tree.specs.nodes.CodeFacts.{ArmFacts, BlockFacts, BranchFacts}
-use Rattle.lay_tree.specs.nodes.Exprs.{ExprFacts, placed, expr_facts, labelled, condition_form, condition_good, branch_head, branches_good, more_branches, branches_form, else_branch_form, may_be_good, arm_forms, arms_good}
-use Rattle.lay_tree.specs.nodes.Places as place
-use Rattle.lay_tree.specs.declared.blocks.Stmt.TheOpen.{Expr-F}
+use Rattle.lay_code.specs.nodes.CodeFacts.{ArmFacts, BlockFacts, BranchFacts}
+use Rattle.lay_code.specs.nodes.Exprs.{ExprFacts, placed, expr_facts, labelled, condition_form, condition_good, branch_head, branches_good, more_branches, branches_form, else_branch_form, may_be_good, arm_forms, arms_good}
+use Rattle.lay_code.specs.nodes.Places as place
+use Rattle.lay_code.specs.declared.blocks.Stmt.TheOpen.{Expr-F}
 use Rattle.lay_reparse.proofs.borders.Border.{Border, beyond}
 use Rattle.lay_reparse.proofs.borders.Move.{under}
 use Rattle.lay_reparse.proofs.forms.Passes.{plain}

@@ -25,9 +25,9 @@ use Rattle.lay_node.specs.declared.token.Literal.{Literal}
 use Rattle.lay_node.specs.declared.tokens.MacroCall.{MacroCall}
 use Rattle.lay_node.specs.declared.types.Path.{Path}
 use Rattle.lay_node.specs.declared.types.PathStyle.TheVariants.{Code}
-use Rattle.lay_tree.specs.nodes.Exprs.{ExprFacts, placed, expr_forms, all_free, expr_facts, tuple_form, base_form, base_placed, struct_form}
-use Rattle.lay_tree.specs.nodes.Places.{FREE}
-use Rattle.lay_tree.specs.declared.blocks.Stmt.TheOpen.{Expr-F}
+use Rattle.lay_code.specs.nodes.Exprs.{ExprFacts, placed, expr_forms, all_free, expr_facts, tuple_form, base_form, base_placed, struct_form}
+use Rattle.lay_code.specs.nodes.Places.{FREE}
+use Rattle.lay_code.specs.declared.blocks.Stmt.TheOpen.{Expr-F}
 use Rattle.lay_reparse.proofs.borders.Need as need
 use Rattle.lay_reparse.proofs.borders.Border.{Other, Border, At, beyond}
 use Rattle.lay_reparse.proofs.borders.Move.{under}

@@ -12,15 +12,15 @@ use Rattle.lay_node.specs.nodes.Types.{about_type, good_at, is_there, lifetime_f
 use Rattle.lay_node.specs.declared.token.Lifetime.{Lifetime}
 use Rattle.lay_node.specs.declared.types.Ty.{Ty}
 use Rattle.lay_node.specs.declared.types.TypePlace.TheVariants.{NoBounds}
-use Rattle.lay_tree.specs.Operators.{op_text, op_level, is_angle_op}
-use Rattle.lay_tree.specs.nodes.Exprs.{ExprFacts, StepFacts, placed, expr_facts, is_dotted, is_tuple_index, first_step, methods, are_steps, steps_form, group_if, operands_form, operands_placed, tail_of_operands, is_chain_level, may_chain, types_form, types_good, prefix_bits, prefixes_form, end_form, end_placed, tail_of_end, targets_form, targets_placed, label_form, operand_form, operand_placed, tail_of_jump, break_placed}
-use Rattle.lay_tree.specs.nodes.Places as place
-use Rattle.lay_tree.specs.nodes.Places.{before_op}
-use Rattle.lay_tree.specs.declared.blocks.Stmt.TheOpen.{Expr-F}
-use Rattle.lay_tree.specs.declared.operators.Op.{Op}
-use Rattle.lay_tree.specs.declared.operators.Op.TheVariants as op
-use Rattle.lay_tree.specs.declared.operators.Prefix.{Prefix}
-use Rattle.lay_tree.specs.declared.operators.Prefix.TheVariants as before
+use Rattle.lay_code.specs.Operators.{op_text, op_level, is_angle_op}
+use Rattle.lay_code.specs.nodes.Exprs.{ExprFacts, StepFacts, placed, expr_facts, is_dotted, is_tuple_index, first_step, methods, are_steps, steps_form, group_if, operands_form, operands_placed, tail_of_operands, is_chain_level, may_chain, types_form, types_good, prefix_bits, prefixes_form, end_form, end_placed, tail_of_end, targets_form, targets_placed, label_form, operand_form, operand_placed, tail_of_jump, break_placed}
+use Rattle.lay_code.specs.nodes.Places as place
+use Rattle.lay_code.specs.nodes.Places.{before_op}
+use Rattle.lay_code.specs.declared.blocks.Stmt.TheOpen.{Expr-F}
+use Rattle.lay_code.specs.declared.operators.Op.{Op}
+use Rattle.lay_code.specs.declared.operators.Op.TheVariants as op
+use Rattle.lay_code.specs.declared.operators.Prefix.{Prefix}
+use Rattle.lay_code.specs.declared.operators.Prefix.TheVariants as before
 use Rattle.lay_reparse.proofs.borders.Border.{Border, beyond}
 use Rattle.lay_reparse.proofs.borders.Move.{under}
 use Rattle.lay_reparse.proofs.forms.Opened.{bits_open, even}

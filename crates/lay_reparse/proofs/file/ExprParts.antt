@@ -12,10 +12,10 @@ use Rattle.lay_form.specs.Layout.{led}
 use Rattle.lay_node.specs.nodes.Fields.{blank_if}
 use Rattle.lay_node.specs.nodes.Patterns.{dots}
 use Rattle.lay_node.specs.nodes.Types.{deeper}
-use Rattle.lay_tree.specs.nodes.Blocks.{dropped}
-use Rattle.lay_tree.specs.nodes.Exprs.{bar, prefix_bits}
-use Rattle.lay_tree.specs.declared.operators.Prefix.{Prefix}
-use Rattle.lay_tree.specs.declared.operators.Prefix.TheVariants as before
+use Rattle.lay_code.specs.nodes.Blocks.{dropped}
+use Rattle.lay_code.specs.nodes.Exprs.{bar, prefix_bits}
+use Rattle.lay_code.specs.declared.operators.Prefix.{Prefix}
+use Rattle.lay_code.specs.declared.operators.Prefix.TheVariants as before
 use Rattle.lay_reparse.proofs.borders.Need as need
 use Rattle.lay_reparse.proofs.borders.Need.{Need, RawWord, Grow, all}
 use Rattle.lay_reparse.proofs.borders.Border.{Other, Border, Spot, Clear, At, beyond}

@@ -5,10 +5,10 @@ use Rattle.std.proofs.lemmas.Bool.{and_parts}
 use Rattle.lay_piece.specs.declared.kind.Delim.TheVariants.{Paren}
 use Rattle.lay_form.specs.Form.{opener, closer}
 use Rattle.lay_form.specs.Pieces.{are_pieces}
-use Rattle.lay_tree.specs.nodes.Exprs.{is_open, ExprFacts, stands, placed, expr_forms, all_free, args_form}
-use Rattle.lay_tree.specs.nodes.Places as place
-use Rattle.lay_tree.specs.nodes.Places.{FREE, before_op}
-use Rattle.lay_tree.specs.declared.exprs.Place.{Place}
+use Rattle.lay_code.specs.nodes.Exprs.{is_open, ExprFacts, stands, placed, expr_forms, all_free, args_form}
+use Rattle.lay_code.specs.nodes.Places as place
+use Rattle.lay_code.specs.nodes.Places.{FREE, before_op}
+use Rattle.lay_code.specs.declared.exprs.Place.{Place}
 use Rattle.lay_reparse.proofs.borders.Border.{Border}
 use Rattle.lay_reparse.proofs.forms.Passes.{plain}
 use Rattle.lay_reparse.proofs.forms.Rules.{tables, From, All, wider, list_fits, list}

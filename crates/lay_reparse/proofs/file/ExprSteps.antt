@@ -13,9 +13,9 @@ use Rattle.lay_node.specs.nodes.Types.{less, greater, angle_form, about_arg, col
 use Rattle.lay_node.specs.declared.attr.Attr.{Attr}
 use Rattle.lay_node.specs.declared.token.Name.{Name}
 use Rattle.lay_node.specs.declared.types.Arg.{Arg}
-use Rattle.lay_tree.specs.nodes.Exprs.{ExprFacts, placed, all_free, StepKind, StepFacts, is_field, is_tuple_index, is_method, is_call, generics_form, are_generics, args_form, step_facts, are_steps, first_step, break_if, steps_form, field_facts}
-use Rattle.lay_tree.specs.nodes.Places.{FREE}
-use Rattle.lay_tree.specs.declared.blocks.Stmt.TheOpen.{FieldExpr-F, Step-F}
+use Rattle.lay_code.specs.nodes.Exprs.{ExprFacts, placed, all_free, StepKind, StepFacts, is_field, is_tuple_index, is_method, is_call, generics_form, are_generics, args_form, step_facts, are_steps, first_step, break_if, steps_form, field_facts}
+use Rattle.lay_code.specs.nodes.Places.{FREE}
+use Rattle.lay_code.specs.declared.blocks.Stmt.TheOpen.{FieldExpr-F, Step-F}
 use Rattle.lay_reparse.proofs.borders.Border.{Border, Point, At}
 use Rattle.lay_reparse.proofs.borders.Move.{under}
 use Rattle.lay_reparse.proofs.forms.Passes.{plain, fits}

@@ -1,12 +1,12 @@
 -- Layers of expressions, of fields of struct literals and of steps pass, where the nodes within them do.
 use Rattle.std.proofs.Common.{List, [], ◌∷◌, sym, subst, map, Some, None}
 use Rattle.lay_node.specs.nodes.Facts.{Facts}
-use Rattle.lay_tree.specs.nodes.Code.{about_arm, about_block, about_branch, about_expr, about_field_expr, about_step}
-use Rattle.lay_tree.specs.nodes.Exprs.{ExprFacts, expr_facts, field_facts, step_facts}
-use Rattle.lay_tree.specs.declared.blocks.Stmt.TheOpen.{Expr-F, FieldExpr-F, Step-F}
-use Rattle.lay_tree.specs.declared.blocks.Stmt.TheViews as views
-use Rattle.lay_tree.specs.declared.operators.Op.{Op}
-use Rattle.lay_tree.proofs.nodes.ExprsLaws as laws
+use Rattle.lay_code.specs.nodes.Code.{about_arm, about_block, about_branch, about_expr, about_field_expr, about_step}
+use Rattle.lay_code.specs.nodes.Exprs.{ExprFacts, expr_facts, field_facts, step_facts}
+use Rattle.lay_code.specs.declared.blocks.Stmt.TheOpen.{Expr-F, FieldExpr-F, Step-F}
+use Rattle.lay_code.specs.declared.blocks.Stmt.TheViews as views
+use Rattle.lay_code.specs.declared.operators.Op.{Op}
+use Rattle.lay_code.proofs.nodes.ExprsLaws as laws
 use Rattle.lay_reparse.proofs.forms.Passes.{plain}
 use Rattle.lay_reparse.proofs.file.TypeArgs.{Each, Passing}
 use Rattle.lay_reparse.proofs.file.Types.{kept}

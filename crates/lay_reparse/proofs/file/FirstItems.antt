@@ -13,17 +13,17 @@ use Rattle.lay_node.specs.nodes.Heads.{HeadFacts, about_alias, about_enum, about
 use Rattle.lay_node.specs.declared.attr.Attr.{Attr}
 use Rattle.lay_node.specs.declared.heads.Site.TheVariants as site
 use Rattle.lay_node.specs.declared.vis.Vis.{Vis}
-use Rattle.lay_tree.specs.nodes.File.{form_of_file}
-use Rattle.lay_tree.specs.nodes.Code.{about_item, told_of_item, told_of_kind}
-use Rattle.lay_tree.specs.nodes.CodeFacts.{ItemFacts, KindFacts}
-use Rattle.lay_tree.specs.nodes.Exprs.{value_form}
-use Rattle.lay_tree.specs.nodes.Item.{about_file_module, about_foreign, about_function, about_impl, about_import, about_module, about_trait, about_value, in_modules, kind_facts, kind_form}
-use Rattle.lay_tree.specs.declared.file.File.{File}
-use Rattle.lay_tree.specs.declared.item.Item.{Item}
-use Rattle.lay_tree.specs.declared.item.ItemKind.{ItemKind}
-use Rattle.lay_tree.specs.declared.blocks.Stmt.TheOpen.{ItemKind-F}
-use Rattle.lay_tree.specs.declared.blocks.Stmt.TheViews.{out-ItemKind, roll-out-ItemKind}
-use Rattle.lay_tree.proofs.nodes.ItemLaws.{item_is}
+use Rattle.lay_code.specs.nodes.File.{form_of_file}
+use Rattle.lay_code.specs.nodes.Code.{about_item, told_of_item, told_of_kind}
+use Rattle.lay_code.specs.nodes.CodeFacts.{ItemFacts, KindFacts}
+use Rattle.lay_code.specs.nodes.Exprs.{value_form}
+use Rattle.lay_code.specs.nodes.Item.{about_file_module, about_foreign, about_function, about_impl, about_import, about_module, about_trait, about_value, in_modules, kind_facts, kind_form}
+use Rattle.lay_code.specs.declared.file.File.{File}
+use Rattle.lay_code.specs.declared.item.Item.{Item}
+use Rattle.lay_code.specs.declared.item.ItemKind.{ItemKind}
+use Rattle.lay_code.specs.declared.blocks.Stmt.TheOpen.{ItemKind-F}
+use Rattle.lay_code.specs.declared.blocks.Stmt.TheViews.{out-ItemKind, roll-out-ItemKind}
+use Rattle.lay_code.proofs.nodes.ItemLaws.{item_is}
 use Rattle.lay_reparse.proofs.file.CodeKept.{Told, kind_is}
 use Rattle.lay_reparse.proofs.file.FirstText.{Fair, first_text, low_fair, attr_fair, call_fair}
 use Rattle.lay_reparse.proofs.forms.HeadsFirst.{BeginsFair, seen_fair, extern_crate_fair, alias_fair, struct_fair, union_fair, enum_fair, value_head_fair, unsafe_fair, trait_head_fair, impl_head_fair, fn_head_fair}

@@ -25,9 +25,9 @@ use Rattle.lay_node.specs.declared.token.Literal.{Literal}
 use Rattle.lay_node.specs.declared.token.Name.{Name}
 use Rattle.lay_node.specs.declared.use_tree.UseTree.{UseTree}
 use Rattle.lay_node.specs.declared.vis.Vis.{Vis}
-use Rattle.lay_tree.specs.nodes.CodeFacts.{BlockFacts, ItemFacts, KindFacts}
-use Rattle.lay_tree.specs.nodes.Exprs.{ExprFacts, may_be_good, value_form, value_placed}
-use Rattle.lay_tree.specs.nodes.Item.{about_file_module, about_foreign, about_function, about_impl, about_import, about_module, about_trait, about_value, foreign_abi, item_body, item_forms, items_good, function_tail, kind_form, may_be_bodied, module_head, may_be_valued}
+use Rattle.lay_code.specs.nodes.CodeFacts.{BlockFacts, ItemFacts, KindFacts}
+use Rattle.lay_code.specs.nodes.Exprs.{ExprFacts, may_be_good, value_form, value_placed}
+use Rattle.lay_code.specs.nodes.Item.{about_file_module, about_foreign, about_function, about_impl, about_import, about_module, about_trait, about_value, foreign_abi, item_body, item_forms, items_good, function_tail, kind_form, may_be_bodied, module_head, may_be_valued}
 use Rattle.lay_reparse.proofs.borders.Border.{Border}
 use Rattle.lay_reparse.proofs.file.TypeArgs.{Any}
 use Rattle.lay_reparse.proofs.file.ExprParts.{ends_expr, opens_block}

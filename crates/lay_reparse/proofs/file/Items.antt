@@ -6,10 +6,10 @@ use Rattle.lay_form.specs.Pieces.{are_pieces}
 use Rattle.lay_node.specs.nodes.Attr.{are_attrs, attr_form}
 use Rattle.lay_node.specs.nodes.Facts.{forms, all_good}
 use Rattle.lay_node.specs.declared.heads.Site.TheVariants as site
-use Rattle.lay_tree.specs.nodes.Code.{about_item}
-use Rattle.lay_tree.specs.nodes.File.{form_of_file, is_normal}
-use Rattle.lay_tree.specs.declared.file.File.{File}
-use Rattle.lay_tree.specs.declared.item.Item.{Item}
+use Rattle.lay_code.specs.nodes.Code.{about_item}
+use Rattle.lay_code.specs.nodes.File.{form_of_file, is_normal}
+use Rattle.lay_code.specs.declared.file.File.{File}
+use Rattle.lay_code.specs.declared.item.Item.{Item}
 use Rattle.lay_reparse.proofs.forms.Passes.{plain}
 use Rattle.lay_reparse.proofs.forms.Rules.{From, All, lined}
 use Rattle.lay_reparse.proofs.file.Nodes.{ends_line, lines_pieces, both_pieces, both_all, attrs_pass}

@@ -17,13 +17,13 @@ use Rattle.lay_node.specs.tokens.Lists.{group_form}
 use Rattle.lay_node.specs.declared.heads.Site.{Site}
 use Rattle.lay_node.specs.declared.heads.Site.TheVariants as site
 use Rattle.lay_node.specs.declared.tokens.Group.{Group}
-use Rattle.lay_tree.specs.nodes.Code.{about_block, about_expr, told_of_item, told_of_kind}
-use Rattle.lay_tree.specs.nodes.CodeFacts.{ItemFacts}
-use Rattle.lay_tree.specs.nodes.Item.{about_file_module, about_foreign, about_function, about_impl, about_import, about_module, about_trait, about_value, by_site, in_module, in_modules, is_inherited, item_forms, items_good, kind_facts, kind_form}
-use Rattle.lay_tree.specs.declared.item.Item.{Item}
-use Rattle.lay_tree.specs.declared.blocks.Stmt.TheOpen.{Item-F, ItemKind-F}
-use Rattle.lay_tree.specs.declared.blocks.Stmt.TheViews.{roll-Item, roll-ItemKind}
-use Rattle.lay_tree.proofs.nodes.ItemLaws.{item_is}
+use Rattle.lay_code.specs.nodes.Code.{about_block, about_expr, told_of_item, told_of_kind}
+use Rattle.lay_code.specs.nodes.CodeFacts.{ItemFacts}
+use Rattle.lay_code.specs.nodes.Item.{about_file_module, about_foreign, about_function, about_impl, about_import, about_module, about_trait, about_value, by_site, in_module, in_modules, is_inherited, item_forms, items_good, kind_facts, kind_form}
+use Rattle.lay_code.specs.declared.item.Item.{Item}
+use Rattle.lay_code.specs.declared.blocks.Stmt.TheOpen.{Item-F, ItemKind-F}
+use Rattle.lay_code.specs.declared.blocks.Stmt.TheViews.{roll-Item, roll-ItemKind}
+use Rattle.lay_code.proofs.nodes.ItemLaws.{item_is}
 use Rattle.lay_reparse.proofs.borders.Border.{Border}
 use Rattle.lay_reparse.proofs.forms.Heads.{HeadPasses, seen_passes, extern_crate_passes, alias_passes, struct_passes, union_passes, enum_passes}
 use Rattle.lay_reparse.proofs.forms.Passes.{plain}

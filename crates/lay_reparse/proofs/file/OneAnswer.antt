@@ -11,11 +11,11 @@ use Rattle.lay_token.specs.Delimiters.{Balanced, UnbalancedAt}
 use Rattle.lay_token.proofs.Unique as unique
 use Rattle.lay_nest.proofs.Machine.{place, place-unbalanced, run-balanced}
 use Rattle.lay_form.specs.Spelled.{Spells}
-use Rattle.lay_tree.specs.Reading.{NoItemAt, Reads, IsRefused, SpellsFile, SpellsFront, top}
-use Rattle.lay_tree.specs.Written.{Written}
-use Rattle.lay_tree.specs.nodes.File.{form_of_file}
-use Rattle.lay_tree.specs.declared.file.File.{File}
-use Rattle.lay_tree.proofs.reader.File.{file_unique}
+use Rattle.lay_code.specs.Reading.{NoItemAt, Reads, IsRefused, SpellsFile, SpellsFront, top}
+use Rattle.lay_code.specs.Written.{Written}
+use Rattle.lay_code.specs.nodes.File.{form_of_file}
+use Rattle.lay_code.specs.declared.file.File.{File}
+use Rattle.lay_code.proofs.reader.File.{file_unique}
 
 -- A text has one source, and its tokens are one list.
 pub same_source : (bytes : List ℕ) (a b : Source) → source bytes ≡ Ok a → source bytes ≡ Ok b → a ≡ b

@@ -3,9 +3,9 @@ use Rattle.std.proofs.Common.{◌≡◌, [], ◌∷◌, Bool, true, ◌&&◌, re
 use Rattle.std.proofs.lemmas.Bool.{and_parts}
 use Rattle.lay_form.specs.Form.{Blank, Operator, Form, Piece}
 use Rattle.lay_form.specs.Notation.{B}
-use Rattle.lay_tree.specs.Operators.{op_text}
-use Rattle.lay_tree.specs.declared.operators.Op.{Op}
-use Rattle.lay_tree.specs.declared.operators.Op.TheVariants as op
+use Rattle.lay_code.specs.Operators.{op_text}
+use Rattle.lay_code.specs.declared.operators.Op.{Op}
+use Rattle.lay_code.specs.declared.operators.Op.TheVariants as op
 use Rattle.lay_reparse.proofs.borders.Border.{Border, beyond, pass}
 use Rattle.lay_reparse.proofs.forms.Passes.{plain, stands}
 use Rattle.lay_reparse.proofs.forms.Rules.{tables, From, fixed, dotted, breaks, simple}

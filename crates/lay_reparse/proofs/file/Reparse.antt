@@ -19,16 +19,16 @@ use Rattle.lay_piece.proofs.Fronts.{front-append, after-append}
 use Rattle.lay_form.specs.Form.{Hard}
 use Rattle.lay_form.specs.Layout.{laid_out, break_of}
 use Rattle.lay_node.proofs.Scalars.{text_utf8, scalars_append}
-use Rattle.lay_tree.specs.Out.{behind_shebang, layout_of_file, out}
-use Rattle.lay_tree.specs.nodes.File.{form_of_file}
-use Rattle.lay_tree.specs.Reading as reading
+use Rattle.lay_code.specs.Out.{behind_shebang, layout_of_file, out}
+use Rattle.lay_code.specs.nodes.File.{form_of_file}
+use Rattle.lay_code.specs.Reading as reading
 use Rattle.lay_form.specs.Pieces.{are_pieces}
 use Rattle.lay_form.specs.Depth.{least_depth}
 use Rattle.lay_form.specs.Spelled.{Spells}
-use Rattle.lay_tree.specs.Reading.{top, SpellsFile}
-use Rattle.lay_tree.specs.Written.{Written, is_good_shebang}
+use Rattle.lay_code.specs.Reading.{top, SpellsFile}
+use Rattle.lay_code.specs.Written.{Written, is_good_shebang}
 use Rattle.lay_form.proofs.FormLaws.{least}
-use Rattle.lay_tree.specs.declared.file.File.{File}
+use Rattle.lay_code.specs.declared.file.File.{File}
 use Rattle.lay_layout.specs.Anyway.{Leads, Anyway}
 use Rattle.lay_reparse.specs.Reparse.{ReadsAt, IsSpelled}
 use Rattle.lay_layout.proofs.AnywayLaws.{text_anyway}

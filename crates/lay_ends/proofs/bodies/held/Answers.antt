@@ -1,5 +1,5 @@
 use Rattle.std.proofs.Common.{◌≡◌, ◌∙◌, length, sym, ap, arith}
-use Rattle.lay_tree.specs.nodes.Parts.{block_of}
+use Rattle.lay_code.specs.nodes.Parts.{block_of}
 use Rattle.lay_ends.proofs.OnePair.{around, block_alone, last_held, one_held}
 use Rattle.lay_ends.proofs.bodies.held.Goals as goal
 

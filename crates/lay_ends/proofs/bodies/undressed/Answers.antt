@@ -1,10 +1,10 @@
 use Rattle.std.proofs.Common.{ℕ, suc, ◌≡◌, ◌+◌, ◌∙◌, true, sym, ap, subst, arith}
 use Rattle.std.specs.Option.{unwrap_or}
-use Rattle.lay_tree.specs.nodes.Blocks.{is_lone_body}
-use Rattle.lay_tree.specs.nodes.Code.{about_expr}
-use Rattle.lay_tree.specs.reader.Blocks.{undressed}
-use Rattle.lay_tree.specs.declared.exprs.Expr.{Expr}
-use Rattle.lay_tree.specs.declared.exprs.Expr.TheVariants as expr
+use Rattle.lay_code.specs.nodes.Blocks.{is_lone_body}
+use Rattle.lay_code.specs.nodes.Code.{about_expr}
+use Rattle.lay_code.specs.reader.Blocks.{undressed}
+use Rattle.lay_code.specs.declared.exprs.Expr.{Expr}
+use Rattle.lay_code.specs.declared.exprs.Expr.TheVariants as expr
 use Rattle.lay_ends.proofs.OnePair.{layers, one_layer, one_turn}
 use Rattle.lay_ends.proofs.bodies.undressed.Goals as goal
 

@@ -1,5 +1,5 @@
 use Rattle.std.proofs.Common.{ℕ, ◌≡◌, ◌+◌}
-use Rattle.lay_tree.specs.reader.Blocks.{undressed}
+use Rattle.lay_code.specs.reader.Blocks.{undressed}
 use Rattle.lay_ends.proofs.OnePair.{layers}
 use Rattle.lay_ends.proofs.bodies.undressed.Given as goal
 

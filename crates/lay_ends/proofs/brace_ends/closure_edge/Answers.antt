@@ -1,5 +1,5 @@
 use Rattle.std.proofs.Common.{ap}
-use Rattle.lay_tree.specs.nodes.Exprs.{Tail}
+use Rattle.lay_code.specs.nodes.Exprs.{Tail}
 use Rattle.lay_ops.proofs.ExprEnds.{no_chain, of_assign, of_chain}
 use Rattle.lay_ends.proofs.ExprBraces.{unary_closes}
 use Rattle.lay_ends.proofs.brace_ends.closure_edge.Goals as goal

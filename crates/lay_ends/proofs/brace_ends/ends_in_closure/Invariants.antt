@@ -1,5 +1,5 @@
 use Rattle.std.proofs.Common.{◌≡◌}
-use Rattle.lay_tree.specs.nodes.Code.{about_expr}
+use Rattle.lay_code.specs.nodes.Code.{about_expr}
 use Rattle.lay_ends.proofs.brace_ends.ends_in_closure.Given as goal
 
 -- what is left tells it

@@ -1,7 +1,7 @@
 use Rattle.std.proofs.Common.{inl, inr, ap, ◌∙◌}
 use Rattle.lay_node.specs.nodes.Types.{about_type}
 use Rattle.lay_node.specs.declared.types.Ty.{Ty}
-use Rattle.lay_tree.specs.nodes.Ends.{ends_in_brace}
+use Rattle.lay_code.specs.nodes.Ends.{ends_in_brace}
 use Rattle.lay_ends.proofs.TypeBraces.{bounds_end, no_bounds, of_call, of_path, of_pointer, of_reference}
 use Rattle.lay_ends.proofs.brace_ends.type_edge.Goals as goal
 

@@ -1,6 +1,6 @@
 use Rattle.std.proofs.Common.{◌≡◌}
 use Rattle.lay_node.specs.nodes.Types.{about_type}
-use Rattle.lay_tree.specs.nodes.Ends.{ends_in_brace}
+use Rattle.lay_code.specs.nodes.Ends.{ends_in_brace}
 use Rattle.lay_ends.proofs.brace_ends.type_ends_in_brace.Given as goal
 
 -- what is left tells it

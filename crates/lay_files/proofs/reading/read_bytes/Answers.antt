@@ -3,7 +3,7 @@ use Rattle.std.proofs.lemmas.Str.{IsUtf8-drop}
 use Rattle.lay_token.specs.Lexes.{Lexes}
 use Rattle.lay_token.specs.declared.token.Token.{Token}
 use Rattle.lay_lex.specs.Source.{seen}
-use Rattle.lay_tree.proofs.GoodShebang.{source_good}
+use Rattle.lay_code.proofs.GoodShebang.{source_good}
 use Rattle.lay_files.proofs.ReadingLemmas.{placed, read_as, read_no_file, unlexed, unnested, unread}
 use Rattle.lay_files.proofs.reading.read_bytes.Goals as goal
 

@@ -3,7 +3,7 @@ use Rattle.std.proofs.Common.{rules, ◌≡◌, ℕ, List, get_or, ap, ◌∙◌
 use Rattle.lay_layout.proofs.Whole.{closed_stream}
 use Rattle.lay_printer.specs.Printers.{lent_core, press_loans}
 use Rattle.lay_printer.proofs.Through.{Begins, printed_stopped, printed_finish, level_zero}
-use Rattle.lay_tree.specs.Out.{layout_of_file}
+use Rattle.lay_code.specs.Out.{layout_of_file}
 use Rattle.lay_files.proofs.WritingLemmas.{file_written}
 use Rattle.lay_files.proofs.writing.write_file.Goals as goal
 

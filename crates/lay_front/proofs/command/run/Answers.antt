@@ -1,5 +1,5 @@
 use Rattle.lay_line.specs.Line.{line_of}
-use Rattle.lay_tree.specs.Out.{out}
+use Rattle.lay_code.specs.Out.{out}
 use Rattle.lay_reparse.proofs.file.Reparse.{again}
 use Rattle.lay_sample.specs.Sample.{sample_text}
 use Rattle.lay_front.specs.Inputs.{given_to}

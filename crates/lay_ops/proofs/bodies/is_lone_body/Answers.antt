@@ -1,5 +1,5 @@
 use Rattle.std.proofs.Common.{sym, ap, ◌&&◌, ◌∙◌}
-use Rattle.lay_tree.specs.nodes.Code.{about_block}
+use Rattle.lay_code.specs.nodes.Code.{about_block}
 use Rattle.lay_ops.proofs.BodyFacts.{of_block}
 use Rattle.lay_ops.proofs.bodies.is_lone_body.Goals as goal
 

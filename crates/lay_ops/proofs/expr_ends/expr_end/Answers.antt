@@ -1,5 +1,5 @@
 use Rattle.std.proofs.Common.{ap, ◌∙◌}
-use Rattle.lay_tree.specs.nodes.Exprs.{is_open, is_typed}
+use Rattle.lay_code.specs.nodes.Exprs.{is_open, is_typed}
 use Rattle.lay_ops.proofs.ExprEnds.{no_chain, of_assign, of_cast, of_chain, of_path, unary_open, unary_typed}
 use Rattle.lay_ops.proofs.expr_ends.expr_end.Goals as goal
 

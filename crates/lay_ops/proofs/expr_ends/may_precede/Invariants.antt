@@ -1,6 +1,6 @@
 use Rattle.std.proofs.Common.{◌≡◌}
-use Rattle.lay_tree.specs.nodes.Code.{about_expr}
-use Rattle.lay_tree.specs.nodes.Exprs.{is_open, is_typed}
+use Rattle.lay_code.specs.nodes.Code.{about_expr}
+use Rattle.lay_code.specs.nodes.Exprs.{is_open, is_typed}
 use Rattle.lay_ops.proofs.expr_ends.may_precede.Given as goal
 
 -- what is left tells it

@@ -1,5 +1,5 @@
 use Rattle.std.proofs.Common.{ap, ◌∙◌}
-use Rattle.lay_tree.specs.Operands.{expr_lead_by}
+use Rattle.lay_code.specs.Operands.{expr_lead_by}
 use Rattle.lay_ops.proofs.FirstCharacter.{lead_there}
 use Rattle.lay_ops.proofs.operands.expr_lead_at.Goals as goal
 

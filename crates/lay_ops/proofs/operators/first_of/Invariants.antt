@@ -1,7 +1,7 @@
 use Rattle.std.proofs.Common.{◌≡◌, length}
 use Rattle.std.specs.Prelude.{option_and_then}
 use Rattle.lay_token.specs.Operators.{op_at}
-use Rattle.lay_tree.specs.Operators.{named}
+use Rattle.lay_code.specs.Operators.{named}
 use Rattle.lay_ops.proofs.operators.first_of.Given as goal
 
 -- what is left tells it

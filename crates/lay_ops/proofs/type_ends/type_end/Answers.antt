@@ -1,7 +1,7 @@
 use Rattle.std.proofs.Common.{inl, inr, ap, ◌∙◌}
 use Rattle.lay_node.specs.nodes.Types.{about_type}
 use Rattle.lay_node.specs.declared.types.Ty.{Ty}
-use Rattle.lay_tree.specs.nodes.Exprs.{lacks_args}
+use Rattle.lay_code.specs.nodes.Exprs.{lacks_args}
 use Rattle.lay_ops.proofs.TypeEnds.{bounds_end, no_bounds, of_path, of_pointer, of_reference}
 use Rattle.lay_ops.proofs.type_ends.type_end.Goals as goal
 

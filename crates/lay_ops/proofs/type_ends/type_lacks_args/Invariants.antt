@@ -1,6 +1,6 @@
 use Rattle.std.proofs.Common.{◌≡◌}
 use Rattle.lay_node.specs.nodes.Types.{about_type}
-use Rattle.lay_tree.specs.nodes.Exprs.{lacks_args}
+use Rattle.lay_code.specs.nodes.Exprs.{lacks_args}
 use Rattle.lay_ops.proofs.type_ends.type_lacks_args.Given as goal
 
 -- what is left tells it

@@ -2,8 +2,8 @@ use Rattle.std.proofs.Common.{List, map}
 use Rattle.lay_stream.proofs.Calls.{last, call_on, stream_on, leave_on, stream_leave, no_call}
 use Rattle.lay_form.specs.Notation.{lines}
 use Rattle.lay_form.specs.Stream.{stream_of}
-use Rattle.lay_tree.specs.nodes.Code.{form_of_item}
-use Rattle.lay_tree.specs.declared.item.Item.{Item}
+use Rattle.lay_code.specs.nodes.Code.{form_of_item}
+use Rattle.lay_code.specs.declared.item.Item.{Item}
 use Rattle.lay_out_tokens.proofs.StreamParts.{loop_step, loop_done}
 use Rattle.lay_out_code.proofs.OutLemmas.{next_own_line}
 use Rattle.lay_out_code.proofs.files.put_items.Goals as goal

@@ -2,7 +2,7 @@ use Rattle.std.proofs.Common.{map, drop, Result}
 use Rattle.lay_stream.specs.Fed.{Did}
 use Rattle.lay_form.specs.Notation.{lines}
 use Rattle.lay_form.specs.Stream.{stream_of}
-use Rattle.lay_tree.specs.nodes.Code.{form_of_item}
+use Rattle.lay_code.specs.nodes.Code.{form_of_item}
 use Rattle.lay_out_code.proofs.files.put_items.Given as goal
 
 -- calls that put the rest, put all

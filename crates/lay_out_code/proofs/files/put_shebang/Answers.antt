@@ -1,7 +1,7 @@
 use Rattle.std.proofs.Common.{List, ℕ, Option, Some, sym, ap, ◌∙◌}
 use Rattle.lay_layout.specs.Document.{Empty, stream}
 use Rattle.lay_stream.proofs.Calls.{last, no_call}
-use Rattle.lay_tree.specs.Out.{behind_shebang}
+use Rattle.lay_code.specs.Out.{behind_shebang}
 use Rattle.lay_out_code.proofs.files.put_shebang.Goals as goal
 
 pub returns-in-None : goal.returns-in-None

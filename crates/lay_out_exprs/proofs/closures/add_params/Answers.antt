@@ -1,6 +1,6 @@
 use Rattle.std.proofs.Common.{List, ◌++◌, map, codes, true, refl, ◌∙◌}
-use Rattle.lay_tree.specs.nodes.Exprs.{closure_param}
-use Rattle.lay_tree.specs.declared.exprs.ClosureParam.{ClosureParam}
+use Rattle.lay_code.specs.nodes.Exprs.{closure_param}
+use Rattle.lay_code.specs.declared.exprs.ClosureParam.{ClosureParam}
 use Rattle.lay_out_types.specs.Rows.{comma_between, list_closed, list_opened, row}
 use Rattle.lay_out_types.proofs.Adding.{adds, adds_on}
 use Rattle.lay_out_types.proofs.FormRows.{may_close, none_is, none_left}

@@ -1,5 +1,5 @@
 use Rattle.std.proofs.Common.{map, codes, take}
-use Rattle.lay_tree.specs.nodes.Exprs.{closure_param}
+use Rattle.lay_code.specs.nodes.Exprs.{closure_param}
 use Rattle.lay_out_types.specs.Calls.{Adds}
 use Rattle.lay_out_types.specs.Rows.{comma_between, list_opened, row}
 use Rattle.lay_out_exprs.proofs.closures.add_params.Given as goal

@@ -2,7 +2,7 @@ use Rattle.std.proofs.Common.{List, map}
 use Rattle.lay_form.specs.Stream.{stream_of}
 use Rattle.lay_node.specs.nodes.Types.{about_type}
 use Rattle.lay_node.specs.declared.types.Ty.{Ty}
-use Rattle.lay_tree.specs.nodes.Exprs.{types_form}
+use Rattle.lay_code.specs.nodes.Exprs.{types_form}
 use Rattle.lay_out_tokens.proofs.StreamParts.{loop_step}
 use Rattle.lay_out_types.proofs.Adding.{adds_on}
 use Rattle.lay_out_exprs.proofs.StepLemmas.{cast_turn}

@@ -1,7 +1,7 @@
 use Rattle.std.proofs.Common.{drop, map}
 use Rattle.lay_form.specs.Stream.{stream_of}
 use Rattle.lay_node.specs.nodes.Types.{about_type}
-use Rattle.lay_tree.specs.nodes.Exprs.{types_form}
+use Rattle.lay_code.specs.nodes.Exprs.{types_form}
 use Rattle.lay_out_exprs.proofs.Turns.{SoFar}
 use Rattle.lay_out_exprs.proofs.operators.add_casts.Given as goal
 

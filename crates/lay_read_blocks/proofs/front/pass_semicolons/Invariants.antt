@@ -1,5 +1,5 @@
 use Rattle.std.proofs.Common.{◌≡◌, length}
-use Rattle.lay_tree.specs.reader.Blocks.{behind_semicolons}
+use Rattle.lay_code.specs.reader.Blocks.{behind_semicolons}
 use Rattle.lay_read_blocks.proofs.front.pass_semicolons.Given as goal
 
 abbrev pub invariant-loop-at : goal.invariant-loop-at

@@ -1,6 +1,6 @@
 use Rattle.std.proofs.Common.{true, ◌∙◌}
 use Rattle.lay_node.specs.reader.Attr.{attribute}
-use Rattle.lay_tree.specs.reader.File.{longest}
+use Rattle.lay_code.specs.reader.File.{longest}
 use Rattle.lay_read_tokens.proofs.Left.{attribute_left, shorter}
 use Rattle.lay_read_code.proofs.Longest.{longest-start, longest-end, longest-step, next_none, next_some}
 use Rattle.lay_read_code.proofs.file.inner_attrs.Goals as goal

@@ -1,6 +1,6 @@
 use Rattle.std.proofs.Common.{true, length}
 use Rattle.lay_node.specs.reader.Attr.{attribute}
-use Rattle.lay_tree.specs.reader.File.{longest}
+use Rattle.lay_code.specs.reader.File.{longest}
 use Rattle.lay_read_tokens.specs.Answers.{AreLexed}
 use Rattle.lay_read_code.proofs.Longest.{Turn}
 use Rattle.lay_read_code.proofs.file.inner_attrs.Given as goal

@@ -1,5 +1,5 @@
 use Rattle.std.proofs.Common.{refl, sym, ap, ◌∙◌}
-use Rattle.lay_tree.specs.reader.File.{front}
+use Rattle.lay_code.specs.reader.File.{front}
 use Rattle.lay_read_tokens.specs.Answers.{AreLexed}
 use Rattle.lay_read_code.proofs.Files.{file_spelled, no_item, none_ahead, one_ahead}
 use Rattle.lay_read_code.proofs.file.read_file.Goals as goal

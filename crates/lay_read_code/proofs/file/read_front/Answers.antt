@@ -1,5 +1,5 @@
 use Rattle.std.proofs.Common.{sym, ap, ◌∙◌}
-use Rattle.lay_tree.specs.reader.File.{longest, top_item}
+use Rattle.lay_code.specs.reader.File.{longest, top_item}
 use Rattle.lay_read_code.proofs.Longest.{front_is}
 use Rattle.lay_read_code.proofs.file.read_front.Goals as goal
 

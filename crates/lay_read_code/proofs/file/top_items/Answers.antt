@@ -1,4 +1,4 @@
-use Rattle.lay_tree.specs.reader.File.{longest, top_item}
+use Rattle.lay_code.specs.reader.File.{longest, top_item}
 use Rattle.lay_read_code.proofs.Longest.{item_shorter, longest-start, longest-end, longest-step, next_none, next_some}
 use Rattle.lay_read_code.proofs.file.top_items.Goals as goal
 

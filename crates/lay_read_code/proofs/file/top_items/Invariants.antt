@@ -1,5 +1,5 @@
 use Rattle.std.proofs.Common.{length}
-use Rattle.lay_tree.specs.reader.File.{longest, top_item}
+use Rattle.lay_code.specs.reader.File.{longest, top_item}
 use Rattle.lay_read_code.proofs.Longest.{Turn}
 use Rattle.lay_read_code.proofs.file.top_items.Given as goal
 

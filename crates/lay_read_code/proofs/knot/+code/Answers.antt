@@ -3,9 +3,9 @@ use Rattle.std.proofs.lemmas.Result.{err_from_is_err_and}
 use Rattle.lay_node.specs.Ahead.{more_items}
 use Rattle.lay_node.specs.reader.Attr.{attributes}
 use Rattle.lay_node.specs.reader.Vis.{visibility}
-use Rattle.lay_tree.specs.reader.Code.{expr_at, item_at}
-use Rattle.lay_tree.specs.reader.Exprs.{expr_by}
-use Rattle.lay_tree.specs.reader.Item.{fn_body, item_body, items_by, kind_at}
+use Rattle.lay_code.specs.reader.Code.{expr_at, item_at}
+use Rattle.lay_code.specs.reader.Exprs.{expr_by}
+use Rattle.lay_code.specs.reader.Item.{fn_body, item_body, items_by, kind_at}
 use Rattle.lay_read_tokens.proofs.Left.{shorter}
 use Rattle.lay_read_blocks.proofs.Left.{item_left}
 use Rattle.lay_read_tokens.proofs.Steps.{lost}

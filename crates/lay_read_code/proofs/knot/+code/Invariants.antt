@@ -1,8 +1,8 @@
 use Rattle.std.proofs.Common.{◌+◌, ◌*◌, ◌≤◌, length}
 use Rattle.lay_node.specs.Ahead.{more_items}
 use Rattle.lay_node.specs.reader.Loops.{repeat_from}
-use Rattle.lay_tree.specs.reader.Code.{item_at}
-use Rattle.lay_tree.specs.reader.Item.{items_by}
+use Rattle.lay_code.specs.reader.Code.{item_at}
+use Rattle.lay_code.specs.reader.Item.{items_by}
 use Rattle.lay_read_tokens.proofs.Turns.{Turn, Held}
 use Rattle.lay_read_tokens.proofs.Holding.{Holding}
 use Rattle.lay_read_code.proofs.knot.+code.Given as goal

@@ -1,6 +1,6 @@
 use Rattle.std.proofs.Common.{sym, subst, ◌∙◌}
 use Rattle.std.proofs.lemmas.Result.{err_from_is_err_and}
-use Rattle.lay_tree.specs.reader.Blocks.{block_by}
+use Rattle.lay_code.specs.reader.Blocks.{block_by}
 use Rattle.lay_fronts.specs.Fronts.{BlockFront, alone}
 use Rattle.lay_fronts.proofs.Fronts.{blocks_exact}
 use Rattle.lay_read_tokens.specs.Answers.{Stopped}

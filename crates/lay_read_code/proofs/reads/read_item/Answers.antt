@@ -2,10 +2,10 @@ use Rattle.std.proofs.Common.{[], ◌∙◌}
 use Rattle.std.proofs.lemmas.Result.{err_from_is_err_and}
 use Rattle.lay_node.specs.Follow.{may_follow}
 use Rattle.lay_node.specs.nodes.Facts.{Front}
-use Rattle.lay_tree.specs.nodes.Code.{about_item}
-use Rattle.lay_tree.specs.reader.Code.{item_at}
-use Rattle.lay_tree.specs.declared.item.Item.{Item}
-use Rattle.lay_tree.proofs.reader.ItemExact.{items_exact}
+use Rattle.lay_code.specs.nodes.Code.{about_item}
+use Rattle.lay_code.specs.reader.Code.{item_at}
+use Rattle.lay_code.specs.declared.item.Item.{Item}
+use Rattle.lay_code.proofs.reader.ItemExact.{items_exact}
 use Rattle.lay_read_parts.proofs.AtFront.{front_deeper, node_read, none_read}
 use Rattle.lay_read_code.proofs.reads.read_item.Goals as goal
 

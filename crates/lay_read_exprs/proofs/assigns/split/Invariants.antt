@@ -1,5 +1,5 @@
 use Rattle.std.proofs.Common.{◌≡◌, ◌++◌, length, reverse}
-use Rattle.lay_tree.specs.reader.Exprs.{targets_of, value_of}
+use Rattle.lay_code.specs.reader.Exprs.{targets_of, value_of}
 use Rattle.lay_read_exprs.proofs.assigns.split.Given as goal
 
 -- what is left tells the other targets and the value

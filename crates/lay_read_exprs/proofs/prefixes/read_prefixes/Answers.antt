@@ -1,7 +1,7 @@
 use Rattle.std.proofs.Common.{is_some, sym, ap, ◌∙◌}
 use Rattle.lay_node.specs.reader.Loops.{repeat}
-use Rattle.lay_tree.specs.Operators.{prefix}
-use Rattle.lay_tree.specs.reader.Exprs.{one_prefix}
+use Rattle.lay_code.specs.Operators.{prefix}
+use Rattle.lay_code.specs.reader.Exprs.{one_prefix}
 use Rattle.lay_read_tokens.proofs.Left.{shorter}
 use Rattle.lay_read_tokens.proofs.Turns.{repeat-start, repeat-end, repeat-step}
 use Rattle.lay_read_blocks.proofs.ExprsLeft.{prefix_left}

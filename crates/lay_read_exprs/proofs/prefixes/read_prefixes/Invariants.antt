@@ -1,7 +1,7 @@
 use Rattle.std.proofs.Common.{length, is_some}
 use Rattle.lay_node.specs.reader.Loops.{repeat_from, repeat}
-use Rattle.lay_tree.specs.Operators.{prefix}
-use Rattle.lay_tree.specs.reader.Exprs.{one_prefix}
+use Rattle.lay_code.specs.Operators.{prefix}
+use Rattle.lay_code.specs.reader.Exprs.{one_prefix}
 use Rattle.lay_read_tokens.proofs.Turns.{Turn}
 use Rattle.lay_read_exprs.proofs.prefixes.read_prefixes.Given as goal
 

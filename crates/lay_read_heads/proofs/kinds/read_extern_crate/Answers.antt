@@ -5,7 +5,7 @@ use Rattle.lay_node.specs.nodes.Heads.{about_extern_crate, headed}
 use Rattle.lay_node.specs.reader.Heads.{extern_crate}
 use Rattle.lay_node.specs.declared.heads.ExternCrate.{ExternCrate}
 use Rattle.lay_node.proofs.reader.OutsideExact.{extern_crates_exact}
-use Rattle.lay_tree.specs.declared.item.ItemKind.TheVariants as item
+use Rattle.lay_code.specs.declared.item.ItemKind.TheVariants as item
 use Rattle.lay_read_tokens.proofs.Steps.{node_read, none_read}
 use Rattle.lay_read_heads.proofs.AsKinds.{free_found, free_none}
 use Rattle.lay_read_heads.proofs.kinds.read_extern_crate.Goals as goal

@@ -3,7 +3,7 @@ use Rattle.std.proofs.lemmas.Result.{err_from_is_err_and}
 use Rattle.lay_node.specs.nodes.Heads.{about_struct, headed}
 use Rattle.lay_node.specs.reader.Heads.{struct}
 use Rattle.lay_node.proofs.reader.StructsExact.{structs_exact}
-use Rattle.lay_tree.specs.declared.item.ItemKind.TheVariants as item
+use Rattle.lay_code.specs.declared.item.ItemKind.TheVariants as item
 use Rattle.lay_read_heads.proofs.AsKinds.{kind_found, kind_none, kind_nowhere}
 use Rattle.lay_read_heads.proofs.kinds.read_struct_alone.Goals as goal
 

@@ -2,7 +2,7 @@ use Rattle.std.proofs.Common.{true, sym, ap, ◌∙◌, if◌then◌else◌}
 use Rattle.lay_node.specs.Ahead.{more_items, tail}
 use Rattle.lay_node.specs.reader.Attr.{attributes}
 use Rattle.lay_node.specs.reader.Loops.{repeat}
-use Rattle.lay_tree.specs.reader.Blocks.{stmt_in_block}
+use Rattle.lay_code.specs.reader.Blocks.{stmt_in_block}
 use Rattle.lay_read_tokens.specs.Answers.{AreFound}
 use Rattle.lay_read_blocks.specs.Answers.{code_within}
 use Rattle.lay_read_blocks.proofs.Chains.{block_refused}

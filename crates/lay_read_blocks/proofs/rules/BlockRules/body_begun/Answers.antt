@@ -1,5 +1,5 @@
 use Rattle.std.proofs.Common.{refl}
-use Rattle.lay_tree.specs.nodes.Places.{statement}
+use Rattle.lay_code.specs.nodes.Places.{statement}
 use Rattle.lay_read_blocks.proofs.Undressed.{undressed_read}
 use Rattle.lay_read_blocks.proofs.rules.BlockRules.body_begun.Goals as goal
 

@@ -7,7 +7,7 @@ use Rattle.lay_node.specs.declared.patterns.Pat.{Pat}
 use Rattle.lay_node.specs.declared.patterns.PatPlace.TheVariants.{Single}
 use Rattle.lay_node.specs.declared.types.Ty.{Ty}
 use Rattle.lay_node.specs.declared.types.TypePlace.TheVariants.{Bounds}
-use Rattle.lay_tree.specs.reader.Blocks.{let_stmt}
+use Rattle.lay_code.specs.reader.Blocks.{let_stmt}
 use Rattle.lay_read_tokens.specs.declared.found.Found.{Found}
 use Rattle.lay_read_types.proofs.Steps.{found_by}
 use Rattle.lay_read_blocks.specs.Answers.{code_within, let_behind}

@@ -2,10 +2,10 @@ use Rattle.std.proofs.Common.{◌≡◌, suc, ◌+◌, Option, Some, IfOk, Resul
 use Rattle.std.proofs.lemmas.Result.{err_from_is_err_and}
 use Rattle.lay_node.specs.declared.patterns.Pat.{Pat}
 use Rattle.lay_node.specs.declared.token.Lifetime.{Lifetime}
-use Rattle.lay_tree.specs.reader.Blocks.{branch_by}
-use Rattle.lay_tree.specs.reader.Exprs.{while_expr}
-use Rattle.lay_tree.specs.declared.blocks.Block.{Block}
-use Rattle.lay_tree.specs.declared.exprs.Expr.{Expr}
+use Rattle.lay_code.specs.reader.Blocks.{branch_by}
+use Rattle.lay_code.specs.reader.Exprs.{while_expr}
+use Rattle.lay_code.specs.declared.blocks.Block.{Block}
+use Rattle.lay_code.specs.declared.exprs.Expr.{Expr}
 use Rattle.lay_read_tokens.proofs.Steps.{lost}
 use Rattle.lay_read_tokens.specs.declared.stop.ReadNone.{ReadNone}
 use Rattle.lay_read_blocks.specs.Answers.{code_within}

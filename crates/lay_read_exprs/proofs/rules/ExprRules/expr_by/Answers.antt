@@ -1,8 +1,8 @@
 use Rattle.std.proofs.Common.{ℕ, ◌+◌, sym, ◌∙◌}
 use Rattle.std.proofs.lemmas.Result.{err_from_is_err_and}
-use Rattle.lay_tree.specs.Operands.{expr_lead_at}
-use Rattle.lay_tree.specs.reader.Exprs.{accepted, expr_by, head_by}
-use Rattle.lay_tree.specs.declared.exprs.Expr.{Expr}
+use Rattle.lay_code.specs.Operands.{expr_lead_at}
+use Rattle.lay_code.specs.reader.Exprs.{accepted, expr_by, head_by}
+use Rattle.lay_code.specs.declared.exprs.Expr.{Expr}
 use Rattle.lay_read_tokens.proofs.Steps.{lost}
 use Rattle.lay_read_types.proofs.Steps.{found_by}
 use Rattle.lay_read_blocks.specs.Answers.{code_within, fits}

@@ -1,5 +1,5 @@
 use Rattle.std.proofs.Common.{ap, sym, ◌∙◌, drop, length}
-use Rattle.lay_tree.specs.reader.Code.{expr_at}
+use Rattle.lay_code.specs.reader.Code.{expr_at}
 use Rattle.lay_read_blocks.specs.Answers.{code_within}
 use Rattle.lay_read_exprs.proofs.Steps.{operand_read, operand_stops}
 use Rattle.lay_read_exprs.proofs.rules.ExprRules.operand.Goals as goal

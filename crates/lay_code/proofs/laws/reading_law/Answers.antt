@@ -1,0 +1,9 @@
+use Rattle.lay_code.proofs.reader.ExprExact.{exprs_exact}
+use Rattle.lay_code.proofs.reader.ItemExact.{items_exact}
+use Rattle.lay_code.proofs.laws.reading_law.Goals as goal
+
+pub returns : goal.returns
+returns c = record {
+  exprs = exprs_exact;
+  items = items_exact;
+}

@@ -1,0 +1,296 @@
+-- Operators and their operands behind an expression: what is read stands there, where what is one level deeper is read so.
+use Rattle.std.proofs.Common.{◌≡◌, ℕ, suc, ◌≤◌, max, Bool, true, false, not, ◌&&◌, List, [], ◌∷◌, inl, inr, length, map, drop, Some, refl, sym, ap, subst, ◌∙◌, arith}
+use Rattle.std.specs.Prelude.{◌==◌}
+use Rattle.std.proofs.lemmas.Bool.{and_parts, and_from, eq-eqb, eqb-true}
+use Rattle.lay_form.specs.Form.{Operator, Done, Part}
+use Rattle.lay_form.specs.Spelled.{Spells}
+use Rattle.lay_form.proofs.FormLaws.{deeper as raise}
+use Rattle.lay_node.specs.Ahead.{Tokens}
+use Rattle.lay_node.specs.nodes.Types.{is_there}
+use Rattle.lay_node.specs.reader.Exact.{InText}
+use Rattle.lay_node.specs.reader.Loops.{deepest, nodes}
+use Rattle.lay_node.proofs.Parts.{Rows}
+use Rattle.lay_node.proofs.Steps.{same_some, chosen, bind_some}
+use Rattle.lay_node.proofs.reader.Loops.{repeat_sound}
+use Rattle.lay_node.proofs.reader.TypesSoundParts.{Out, bit_texts}
+use Rattle.lay_code.specs.Operators.{angle_by, binary, is_angle, is_angle_op, op_level, op_text, strength}
+use Rattle.lay_code.specs.nodes.Code.{about_expr}
+use Rattle.lay_code.specs.nodes.Exprs.{ExprFacts, is_chain_level, level_of_chain, may_chain, next_is_angle, operands_form, operands_placed, placed, stands, tail_follows, tail_of_operands, targets_form, targets_placed}
+use Rattle.lay_code.specs.nodes.Places.{before_op, plain}
+use Rattle.lay_code.specs.reader.Exprs.{assign_expr, chain_expr, operand, operand_ends, operands, targets_of, value_of}
+use Rattle.lay_code.specs.reader.Within.{ExprWithin}
+use Rattle.lay_code.specs.declared.exprs.Expr.{Expr}
+use Rattle.lay_code.specs.declared.blocks.Stmt.TheOpen.{Expr-F}
+use Rattle.lay_code.specs.declared.exprs.Expr.TheVariants as expr
+use Rattle.lay_code.specs.declared.exprs.Place.{Place}
+use Rattle.lay_code.specs.declared.operators.Op.{Op}
+use Rattle.lay_code.proofs.nodes.ExprsLaws.{behind_op, expr_assign_is, expr_chain_is}
+use Rattle.lay_code.proofs.nodes.ExprsLaws as laws
+use Rattle.lay_code.proofs.reader.ExprSoundLevel.{ExprHeld, LeftHeld, SoundExprWithin, made, tail_held, within_held}
+use Rattle.lay_code.proofs.reader.ExprSoundOperators.{binary_op, goes_op, low_no_angle, op_strength}
+use Rattle.lay_code.proofs.reader.ExprSoundPrefixes.{rows_there}
+
+-- ---- an expression before an operator
+
+-- It stands in its place, where what is within it does.
+pub left_placed : (x : ExprFacts) (level : ℕ) (no_struct starts angle : Bool) → stands x (before_op level no_struct starts angle) ≡ true
+    → x.within no_struct starts ≡ true → placed x (before_op level no_struct starts angle) ≡ true
+left_placed x level no_struct true angle h w = and_from (stands x (before_op level no_struct true angle)) (x.within no_struct true) h w
+left_placed x level no_struct false angle h w = and_from (stands x (before_op level no_struct false angle)) (x.within no_struct false) h w
+
+module _ (budget : ℕ) (within : ExprWithin) (sound : SoundExprWithin budget within) (level : ℕ) (no_struct : Bool) where
+  -- ---- operands
+
+  -- An operator of the level stands there, and its operand behind it, which ends where an operator of the level may follow.
+  record OperandRow (x : (Op × Expr) × ℕ) (ts rest : Tokens) : Type 0 where
+    strong : strength ts ≡ suc level
+    named : binary ts ≡ Some x.0.0
+    held : ExprHeld (plain (suc level) no_struct) budget (x.0.1, x.1) (drop (length (op_text x.0.0)) ts) rest
+    ended : operand_ends level no_struct (about_expr x.0.1) rest ≡ true
+
+  row_sound : (ts : Tokens) (x : (Op × Expr) × ℕ) (rest : Tokens) → InText ts → (strength ts == suc level) ≡ true
+      → operand within level no_struct ts ≡ Some (x, rest) → Out OperandRow ts (x, rest)
+  unfolding operand
+  row_sound ts x rest t m h =
+      let o = bind_some (binary ts) _ _ h in
+      let at = drop (length (op_text o.0)) ts in
+      let y = bind_some (within.exprs (plain (suc level) no_struct) at) _ _ o.2 in
+      let left = bit_texts (Operator (op_text o.0)) ts at (binary_op ts o.0 o.1, refl) t in
+      let s = sound.exprs (plain (suc level) no_struct) at y.0.0 y.0.1 left y.1 in
+      elim (chosen (operand_ends level no_struct (about_expr y.0.0.0) y.0.1) _ _ _ y.2) [
+        | inl g ↦
+            same_some (Out OperandRow ts) (((o.0, y.0.0.0), y.0.0.1), y.0.1) (x, rest) g.1
+            (record { strong = eqb-true (strength ts) (suc level) m; named = o.1; held = s.0; ended = g.0 }, s.1)
+        | inr g ↦ absurd (cc g.1)
+      ]
+
+  abbrev told_operands : List ((Op × Expr) × ℕ) → List (Op × ExprFacts)
+  told_operands xs = map behind_op (nodes xs)
+
+  operands_sound : (ts : Tokens) (xs : List ((Op × Expr) × ℕ)) (rest : Tokens) → InText ts → strength ts ≡ suc level
+      → operands within level no_struct ts ≡ Some (xs, rest) → Rows OperandRow xs ts rest × InText rest × (is_there xs ≡ true)
+  unfolding operands
+  operands_sound ts xs rest t s h =
+      let more : Tokens → Bool = λ us. strength us == suc level in
+      let r = repeat_sound more (operand within level no_struct) OperandRow row_sound ts xs rest t h in
+      (r.0, r.1, rows_there more OperandRow xs ts rest r.0 (eq-eqb (strength ts) (suc level) s) r.2)
+
+  operands_spelled : (most : ℕ) (xs : List ((Op × Expr) × ℕ)) (ts rest : Tokens) → deepest xs ≤ most → Rows OperandRow xs ts rest
+      → Spells (operands_form (told_operands xs)) most ts rest
+  operands_spelled most [] ts rest le r = r
+  operands_spelled most (x ∷ xs) ts rest le r =
+      let at = drop (length (op_text x.0.0)) ts in (
+        at,
+        (at, (binary_op ts x.0.0 r.1.named, refl), refl),
+        (
+          at,
+          (at, refl, refl),
+          (
+            r.0,
+            raise (about_expr x.0.1).form x.1 most at r.0 (omega (arith, le)) r.1.held.1,
+            operands_spelled most xs r.0 rest (omega (arith, le)) r.2,
+          ),
+        ),
+      )
+
+  -- the level of an operator of a row
+  level_is : (x : (Op × Expr) × ℕ) (ts rest : Tokens) → OperandRow x ts rest → op_level x.0.0 ≡ level
+  level_is x ts rest r = omega (arith, r.strong, op_strength ts x.0.0 r.named)
+
+  angle_is : (x : (Op × Expr) × ℕ) (ts rest : Tokens) → OperandRow x ts rest → is_angle ts ≡ is_angle_op x.0.0
+  angle_is x ts rest r = ap angle_by r.named
+
+  -- What stands before another operator of the level.
+  before_next : (x y : (Op × Expr) × ℕ) (ts mid rest : Tokens) → OperandRow x ts mid → OperandRow y mid rest
+      → (not (level == 4) ≡ true) × (placed (about_expr x.0.1) (before_op (suc level) no_struct false (is_angle_op y.0.0)) ≡ true)
+  before_next x y ts mid rest r s =
+      let told = about_expr x.0.1 in
+      let ends = stands told (before_op (suc level) no_struct false (is_angle mid)) in
+      let e : operand_ends level no_struct told mid ≡ (not (level == 4) && ends) =
+      rw (eq-eqb (strength mid) (suc level) s.strong) refl in
+      let both = and_parts (not (level == 4)) ends (sym e ∙ r.ended) in
+      let stood = subst (λ b. stands told (before_op (suc level) no_struct false b) ≡ true) (angle_is y mid rest s) both.1 in
+      let inner = within_held told (plain (suc level) no_struct) r.held.2 in
+      (both.0, left_placed told (suc level) no_struct false (is_angle_op y.0.0) stood inner)
+
+  operands_good : (xs : List ((Op × Expr) × ℕ)) (ts rest : Tokens) → Rows OperandRow xs ts rest
+      → operands_placed level no_struct (told_operands xs) ≡ true
+  operands_good [] ts rest r = refl
+  operands_good (x ∷ []) ts rest r =
+      let told = about_expr x.0.1 in
+      let here = eq-eqb (op_level x.0.0) level (level_is x ts r.0 r.1) in
+      and_from ((op_level x.0.0 == level) && placed told (plain (suc level) no_struct)) true
+      (and_from (op_level x.0.0 == level) (placed told (plain (suc level) no_struct)) here r.1.held.2) refl
+  operands_good (x ∷ y ∷ xs) ts rest r =
+      let told = about_expr x.0.1 in
+      let place = before_op (suc level) no_struct false (is_angle_op y.0.0) in
+      let here = eq-eqb (op_level x.0.0) level (level_is x ts r.0 r.1) in
+      let next = before_next x y ts r.0 r.2.0 r.1 r.2.1 in
+      and_from ((op_level x.0.0 == level) && placed told place) (operands_placed level no_struct (told_operands (y ∷ xs)))
+      (and_from (op_level x.0.0 == level) (placed told place) here next.1) (operands_good (y ∷ xs) r.0 rest r.2)
+
+  operands_chain : (xs : List ((Op × Expr) × ℕ)) (ts rest : Tokens) → Rows OperandRow xs ts rest → is_there xs ≡ true
+      → may_chain level (told_operands xs) ≡ true
+  operands_chain [] ts rest r h = absurd (cc h)
+  operands_chain (x ∷ []) ts rest r h = refl
+  operands_chain (x ∷ y ∷ xs) ts rest r h = (before_next x y ts r.0 r.2.0 r.1 r.2.1).0
+
+  first_level : (xs : List ((Op × Expr) × ℕ)) (ts rest : Tokens) → Rows OperandRow xs ts rest → is_there xs ≡ true
+      → (level_of_chain (told_operands xs) ≡ level) × (next_is_angle (told_operands xs) ≡ is_angle ts)
+  first_level [] ts rest r h = absurd (cc h)
+  first_level (x ∷ xs) ts rest r h = (level_is x ts r.0 r.1, sym (angle_is x ts r.0 r.1))
+
+  operands_end : (xs : List ((Op × Expr) × ℕ)) (ts rest : Tokens) → Rows OperandRow xs ts rest → is_there xs ≡ true
+      → tail_follows (tail_of_operands (told_operands xs)) no_struct rest ≡ true
+  operands_end [] ts rest r h = absurd (cc h)
+  operands_end (x ∷ []) ts rest r h =
+      let told = about_expr x.0.1 in
+      let at = drop (length (op_text x.0.0)) ts in
+      subst (λ us. tail_follows told.tail no_struct us ≡ true) r.2
+      (tail_held (plain (suc level) no_struct) budget told x.1 at r.0 r.1.held)
+  operands_end (x ∷ y ∷ xs) ts rest r h = operands_end (y ∷ xs) r.0 rest r.2 refl
+
+module _ (budget : ℕ) (within : ExprWithin) (sound : SoundExprWithin budget within) (no_struct starts : Bool) where
+  abbrev Left : Expr × ℕ → Tokens → Tokens → Type 0
+  Left = LeftHeld no_struct starts
+
+  -- ---- chains
+
+  -- operators of one level and their operands behind a first
+  pub chain_stage : (level : ℕ) → is_chain_level level ≡ true → (lhs : Expr × ℕ) (begun ts : Tokens) → Left lhs begun ts
+      → stands (about_expr lhs.0) (before_op (suc level) no_struct starts (is_angle ts)) ≡ true → strength ts ≡ suc level → InText ts
+      → (x : Expr × ℕ) (rest : Tokens) → chain_expr within level no_struct lhs ts ≡ Some (x, rest) → Out Left begun (x, rest)
+  unfolding chain_expr
+  chain_stage level chains lhs begun ts k m s t x rest h =
+      let more = bind_some (operands within level no_struct ts) _ _ h in
+      let xs = more.0.0 in
+      let end = more.0.1 in
+      let r = operands_sound budget within sound level no_struct ts xs end t s more.1 in
+      let told = about_expr lhs.0 in
+      let most = max lhs.1 (deepest xs) in
+      let all = map behind_op (nodes xs) in
+      let l = first_level budget within sound level no_struct xs ts end r.0 r.2 in
+      let place : Bool → Place = λ a. before_op (suc level) no_struct starts a in
+      let W : ℕ → Bool → Bool =
+      λ n a. is_chain_level n && may_chain n all && placed told (before_op (suc n) no_struct starts a) && operands_placed n no_struct all in
+      let good : W level (is_angle ts) ≡ true =
+      and_from (is_chain_level level && may_chain level all && placed told (place (is_angle ts))) (operands_placed level no_struct all)
+      (and_from (is_chain_level level && may_chain level all) (placed told (place (is_angle ts)))
+      (and_from (is_chain_level level) (may_chain level all) chains
+      (operands_chain budget within sound level no_struct xs ts end r.0 r.2))
+      (left_placed told (suc level) no_struct starts (is_angle ts) m k.1))
+      (operands_good budget within sound level no_struct xs ts end r.0) in
+      let told_good : W (level_of_chain all) (next_is_angle all) ≡ true =
+      subst (λ n. W n (next_is_angle all) ≡ true) (sym l.0) (subst (λ a. W level a ≡ true) (sym l.1) good) in
+      let spelled : Spells (Part told.form (operands_form all)) most begun end = (
+        ts,
+        raise told.form lhs.1 most begun ts (omega arith) k.0,
+        operands_spelled budget within sound level no_struct most xs ts end (omega arith) r.0,
+      ) in
+      same_some (Out Left begun) ((expr.Chain lhs.0 (nodes xs), suc most), end) (x, rest) more.2 (
+        made no_struct starts (about_expr (expr.Chain lhs.0 (nodes xs))) (Expr-F.Chain told all) most begun end
+            (expr_chain_is lhs.0 (nodes xs)) (end, spelled, refl) told_good
+            (operands_end budget within sound level no_struct xs ts end r.0 r.2),
+        r.1,
+      )
+
+  -- ---- assignments
+
+  abbrev Row : (Op × Expr) × ℕ → Tokens → Tokens → Type 0
+  Row = OperandRow budget within sound 0 no_struct
+
+  abbrev told_targets : Expr → List ((Op × Expr) × ℕ) → List (ExprFacts × Op)
+  told_targets x ys = map laws.before_op (targets_of x (nodes ys))
+
+  targets_spelled : (most : ℕ) (x : Expr) (n : ℕ) (ys : List ((Op × Expr) × ℕ)) (ts mid rest : Tokens) → n ≤ most
+      → deepest ys ≤ most → Spells (about_expr x).form n ts mid → Rows Row ys mid rest
+      → Spells (targets_form (told_targets x ys) (Part (about_expr (value_of x (nodes ys))).form Done)) most ts rest
+  targets_spelled most x n [] ts mid rest le less s r = (mid, raise (about_expr x).form n most ts mid le s, r)
+  targets_spelled most x n (y ∷ ys) ts mid rest le less s r =
+      let at = drop (length (op_text y.0.0)) mid in (
+        mid,
+        raise (about_expr x).form n most ts mid le s,
+        (
+          mid,
+          (mid, refl, refl),
+          (
+            at,
+            (at, (binary_op mid y.0.0 r.1.named, refl), refl),
+            (
+              at,
+              (at, refl, refl),
+              targets_spelled most y.0.1 y.1 ys at r.0 rest (omega (arith, less)) (omega (arith, less)) r.1.held.1 r.2,
+            ),
+          ),
+        ),
+      )
+
+  targets_good : (first : Bool) (x : Expr) (ys : List ((Op × Expr) × ℕ)) (ts rest : Tokens)
+      → placed (about_expr x) (before_op 1 no_struct first false) ≡ true → Rows Row ys ts rest
+      → targets_placed (told_targets x ys) no_struct first ≡ true
+  targets_good first x [] ts rest p r = refl
+  targets_good first x (y ∷ []) ts rest p r =
+      let told = about_expr x in
+      let here = eq-eqb (op_level y.0.0) 0 (level_is budget within sound 0 no_struct y ts r.0 r.1) in
+      and_from ((op_level y.0.0 == 0) && placed told (before_op 1 no_struct first false)) true
+      (and_from (op_level y.0.0 == 0) (placed told (before_op 1 no_struct first false)) here p) refl
+  targets_good first x (y ∷ z ∷ ys) ts rest p r =
+      let told = about_expr x in
+      let here = eq-eqb (op_level y.0.0) 0 (level_is budget within sound 0 no_struct y ts r.0 r.1) in
+      let next = before_next budget within sound 0 no_struct y z ts r.0 r.2.0 r.1 r.2.1 in
+      let low : op_level z.0.0 ≤ 1 = omega (arith, level_is budget within sound 0 no_struct z r.0 r.2.0 r.2.1) in
+      let stood = subst (λ b. placed (about_expr y.0.1) (before_op 1 no_struct false b) ≡ true) (low_no_angle z.0.0 low) next.1 in
+      and_from ((op_level y.0.0 == 0) && placed told (before_op 1 no_struct first false))
+      (targets_placed (told_targets y.0.1 (z ∷ ys)) no_struct false)
+      (and_from (op_level y.0.0 == 0) (placed told (before_op 1 no_struct first false)) here p)
+      (targets_good false y.0.1 (z ∷ ys) r.0 rest stood r.2)
+
+  -- The last operand is the value.
+  value_good : (x : Expr) (ys : List ((Op × Expr) × ℕ)) (ts rest : Tokens) → Rows Row ys ts rest → is_there ys ≡ true
+      → (placed (about_expr (value_of x (nodes ys))) (plain 1 no_struct) ≡ true)
+      × (tail_follows (about_expr (value_of x (nodes ys))).tail no_struct rest ≡ true)
+  value_good x [] ts rest r h = absurd (cc h)
+  value_good x (y ∷ []) ts rest r h =
+      let told = about_expr y.0.1 in
+      let at = drop (length (op_text y.0.0)) ts in
+      let ends = tail_held (plain 1 no_struct) budget told y.1 at r.0 r.1.held in
+      (r.1.held.2, subst (λ us. tail_follows told.tail no_struct us ≡ true) r.2 ends)
+  value_good x (y ∷ z ∷ ys) ts rest r h = value_good y.0.1 (z ∷ ys) r.0 rest r.2 refl
+
+  targets_there : (x : Expr) (ys : List ((Op × Expr) × ℕ)) → is_there ys ≡ true → is_there (told_targets x ys) ≡ true
+  targets_there x [] h = absurd (cc h)
+  targets_there x (y ∷ ys) h = refl
+
+  -- The operators of assignments and of ranges don't open generic arguments.
+  pub no_angle : (level : ℕ) (ts : Tokens) → level ≤ 1 → strength ts ≡ suc level → is_angle ts ≡ false
+  no_angle level ts le h =
+      let g = goes_op ts level h (λ e. omega (arith, le, e)) (λ e. omega (arith, le, e)) in
+      ap angle_by g.1 ∙ low_no_angle g.0 (omega (arith, le, g.2))
+
+  -- targets and a value behind a first target
+  pub assign_stage : (lhs : Expr × ℕ) (begun ts : Tokens) → Left lhs begun ts
+      → stands (about_expr lhs.0) (before_op 1 no_struct starts (is_angle ts)) ≡ true → strength ts ≡ 1 → InText ts
+      → (x : Expr × ℕ) (rest : Tokens) → assign_expr within no_struct lhs ts ≡ Some (x, rest) → Out Left begun (x, rest)
+  unfolding assign_expr
+  assign_stage lhs begun ts k m s t x rest h =
+      let more = bind_some (operands within 0 no_struct ts) _ _ h in
+      let ys = more.0.0 in
+      let end = more.0.1 in
+      let r = operands_sound budget within sound 0 no_struct ts ys end t s more.1 in
+      let told = about_expr lhs.0 in
+      let most = max lhs.1 (deepest ys) in
+      let stood = subst (λ b. stands told (before_op 1 no_struct starts b) ≡ true) (no_angle 0 ts (omega arith) s) m in
+      let first = left_placed told 1 no_struct starts false stood k.1 in
+      let targets = targets_of lhs.0 (nodes ys) in
+      let value = value_of lhs.0 (nodes ys) in
+      let last = value_good lhs.0 ys ts end r.0 r.2 in
+      let told_all = told_targets lhs.0 ys in
+      let good = and_from (is_there told_all && targets_placed told_all no_struct starts) (placed (about_expr value) (plain 1 no_struct))
+      (and_from (is_there told_all) (targets_placed told_all no_struct starts) (targets_there lhs.0 ys r.2)
+      (targets_good starts lhs.0 ys ts end first r.0)) last.0 in
+      same_some (Out Left begun) ((expr.Assign targets value, suc most), end) (x, rest) more.2 (
+        made no_struct starts (about_expr (expr.Assign targets value)) (Expr-F.Assign told_all (about_expr value)) most begun end
+            (expr_assign_is targets value)
+            (targets_spelled most lhs.0 lhs.1 ys begun ts end (omega arith) (omega arith) k.0 r.0) good last.1,
+        r.1,
+      )

@@ -1,0 +1,355 @@
+-- Samples of blocks, statements, control flow and closures: what is read.
+use Rattle.std.proofs.Common.{◌≡◌, ℕ, suc, true, false, List, [], ◌∷◌, Option, Some, None, codes, refl, ◌∙◌}
+use Rattle.lay_piece.specs.declared.kind.Delim.TheVariants.{Brace, Paren}
+use Rattle.lay_piece.specs.declared.kind.Kind.TheVariants as kind
+use Rattle.lay_token.specs.Operators.{op_at}
+use Rattle.lay_token.specs.declared.token.Token.{Token}
+use Rattle.lay_node.specs.Ahead.{Tokens}
+use Rattle.lay_node.specs.Begins.{lead_at}
+use Rattle.lay_node.specs.reader.Attr.{attributes}
+use Rattle.lay_node.specs.reader.Functions.{fn_head, fn_params}
+use Rattle.lay_node.specs.reader.Generics.{generics}
+use Rattle.lay_node.specs.reader.Loops.{elements, elements_from, open_elements, open_elements_from, repeat, repeat_from}
+use Rattle.lay_node.specs.reader.Patterns.{bind, pat_at, pat_by, path_by, path_pat, pat_in, single_at}
+use Rattle.lay_node.specs.reader.SimplePath.{simple_path}
+use Rattle.lay_node.specs.reader.Types.{args_by, chain, lifetime, path, path_type, segment, within}
+use Rattle.lay_node.specs.reader.Vis.{visibility}
+use Rattle.lay_node.specs.reader.Where.{wheres}
+use Rattle.lay_node.specs.reader.Words.{name as name_reading, word as word_reading}
+use Rattle.lay_node.specs.declared.heads.Site.TheVariants.{Module}
+use Rattle.lay_node.specs.declared.patterns.PatPlace.TheVariants.{Alternatives, Single}
+use Rattle.lay_node.proofs.samples.Patterns.{lone}
+use Rattle.lay_node.proofs.samples.Trees.{a, b, c, closes, mark, opens, token, word}
+use Rattle.lay_code.specs.Operands.{expr_lead_at}
+use Rattle.lay_code.specs.Operators.{binary, strength}
+use Rattle.lay_code.specs.nodes.Code.{about_expr, about_stmt}
+use Rattle.lay_code.specs.nodes.Places.{FREE, plain, statement}
+use Rattle.lay_code.specs.reader.Blocks.{arm_body, arm_by, behind_semicolons, block_by, branch_by, condition_by, expr_stmt, let_stmt, stmt_by, stmt_in_block, undressed}
+use Rattle.lay_code.specs.reader.Code.{code_in, expr_at, item_at}
+use Rattle.lay_code.specs.reader.Exprs.{block_word_expr, climb, climb_by, closure_expr, closure_param, expr_by, for_expr, head_by, if_expr, label_expr, match_expr, path_expr, while_expr}
+use Rattle.lay_code.specs.reader.Item.{function_by, item_by, kind_at}
+use Rattle.lay_code.specs.reader.ItemLeads.{item_lead}
+use Rattle.lay_code.specs.declared.blocks.Stmt.TheVariants as stmt
+use Rattle.lay_code.specs.declared.blocks.Stmt.TheViews as views
+use Rattle.lay_code.specs.declared.exprs.Expr.TheVariants as expr
+use Rattle.lay_code.specs.declared.item.ItemKind.TheVariants as item
+use Rattle.lay_code.proofs.nodes.BlocksLaws as blocks
+use Rattle.lay_code.proofs.nodes.ExprsLaws as exprs
+use Rattle.lay_code.proofs.nodes.ItemLaws as items
+use Rattle.lay_code.proofs.samples.Blocks.{alone_is, alone_of, arm_of, block_of, branch_of, ended_then, pair_is, param_named}
+use Rattle.lay_code.proofs.samples.ExprHeads.{at_level, reads}
+use Rattle.lay_code.proofs.samples.Exprs.{name, name_is, named_type, tick_a}
+use Rattle.lay_code.proofs.samples.Heads.{fn_of, name_pat, unseen}
+use Rattle.lay_code.proofs.samples.ItemTrees.{no_wheres}
+
+abbrev semicolon : Token
+semicolon = mark (codes ";")
+
+abbrev in_braces : Token → Tokens → Tokens
+in_braces t ts = opens Brace ∷ t ∷ closes Brace ∷ ts
+
+-- ---- names where statements and conditions stand
+
+-- before a `}`
+last_a : (ts : Tokens) → expr_at statement 1 (word a ∷ closes Brace ∷ ts) ≡ Some ((name a, 1), closes Brace ∷ ts)
+unfolding code_in expr_by expr_lead_at binary strength climb op_at path_expr simple_path path chain segment args_by repeat repeat_from word_reading
+last_a ts = rw (name_is a, name_is a) refl
+
+last_b : (ts : Tokens) → expr_at statement 1 (word b ∷ closes Brace ∷ ts) ≡ Some ((name b, 1), closes Brace ∷ ts)
+unfolding code_in expr_by expr_lead_at binary strength climb op_at path_expr simple_path path chain segment args_by repeat repeat_from word_reading
+last_b ts = rw (name_is b, name_is b) refl
+
+-- before a `;`
+ended_a : (ts : Tokens) → expr_at statement 1 (word a ∷ semicolon ∷ ts) ≡ Some ((name a, 1), semicolon ∷ ts)
+unfolding code_in expr_by expr_lead_at binary strength climb op_at path_expr simple_path path chain segment args_by repeat repeat_from word_reading
+ended_a ts = rw (name_is a, name_is a) refl
+
+-- before a block
+condition_a : (ts : Tokens) → expr_at (plain 0 true) 1 (word a ∷ opens Brace ∷ ts) ≡ Some ((name a, 1), opens Brace ∷ ts)
+unfolding code_in expr_by expr_lead_at binary strength climb op_at path_expr simple_path path chain segment args_by repeat repeat_from word_reading
+condition_a ts = rw (name_is a) refl
+
+-- ---- statements and blocks
+
+stmt_a : (ts : Tokens) → stmt_in_block (at_level 1) (word a ∷ closes Brace ∷ ts) ≡ Some ((stmt.Expr [] (name a) false, 1), closes Brace ∷ ts)
+unfolding stmt_by expr_stmt attributes repeat repeat_from
+stmt_a ts = rw (last_a ts, blocks.stmt_expr_is [] (name a) false, name_is a) refl
+
+stmt_b : (ts : Tokens) → stmt_in_block (at_level 1) (word b ∷ closes Brace ∷ ts) ≡ Some ((stmt.Expr [] (name b) false, 1), closes Brace ∷ ts)
+unfolding stmt_by expr_stmt attributes repeat repeat_from
+stmt_b ts = rw (last_b ts, blocks.stmt_expr_is [] (name b) false, name_is b) refl
+
+-- A `;` behind the one that ends a statement is dropped.
+stmt_ended : (ts : Tokens) → stmt_in_block (at_level 1) (word a ∷ semicolon ∷ semicolon ∷ word b ∷ ts) ≡ Some ((stmt.Expr [] (name a) true, 1), word b ∷ ts)
+unfolding stmt_by expr_stmt attributes repeat repeat_from
+stmt_ended ts = rw (ended_a (semicolon ∷ word b ∷ ts), blocks.stmt_expr_is [] (name a) true) refl
+
+-- `{a}`
+block_a : (ts : Tokens) → block_by (at_level 1) (in_braces (word a) ts) ≡ Some ((alone_of (name a), 1), ts)
+unfolding block_by attributes repeat repeat_from
+block_a ts = rw (stmt_a ts) refl
+
+block_b : (ts : Tokens) → block_by (at_level 1) (in_braces (word b) ts) ≡ Some ((alone_of (name b), 1), ts)
+unfolding block_by attributes repeat repeat_from
+block_b ts = rw (stmt_b ts) refl
+
+-- `{;a;;b}`
+block_pair : (ts : Tokens) → block_by (at_level 1) (opens Brace ∷ semicolon ∷ word a ∷ semicolon ∷ semicolon ∷ word b ∷ closes Brace ∷ ts)
+    ≡ Some ((block_of (ended_then (name a) (name b)), 1), ts)
+unfolding block_by attributes repeat repeat_from
+block_pair ts = rw (stmt_ended (closes Brace ∷ ts), stmt_b ts) refl
+
+-- ---- expressions of blocks
+
+-- `unsafe{a}`
+unsafe_begun : head_by (at_level 1) false (expr_lead_at (word (codes "unsafe") ∷ in_braces (word a) [])) (word (codes "unsafe") ∷ in_braces (word a) [])
+    ≡ Some ((expr.Unsafe (alone_of (name a)), 2), [])
+unfolding expr_lead_at block_word_expr
+unsafe_begun = rw (block_a []) refl
+
+read_unsafe : expr_at FREE 2 (word (codes "unsafe") ∷ in_braces (word a) []) ≡ Some ((expr.Unsafe (alone_of (name a)), 2), [])
+unfolding binary strength climb op_at
+read_unsafe =
+    reads 1 FREE (word (codes "unsafe") ∷ in_braces (word a) []) (expr.Unsafe (alone_of (name a)), 2) (expr.Unsafe (alone_of (name a)), 2) [] [] _
+    unsafe_begun refl (exprs.expr_unsafe_is (alone_of (name a))) refl
+
+-- `const{a}` and `async move{a}`
+const_begun : head_by (at_level 1) false (expr_lead_at (word (codes "const") ∷ in_braces (word a) [])) (word (codes "const") ∷ in_braces (word a) [])
+    ≡ Some ((expr.ConstBlock (alone_of (name a)), 2), [])
+unfolding expr_lead_at block_word_expr
+const_begun = rw (block_a []) refl
+
+async_begun : head_by (at_level 1) false (expr_lead_at (word (codes "async") ∷ word (codes "move") ∷ in_braces (word a) []))
+    (word (codes "async") ∷ word (codes "move") ∷ in_braces (word a) [])
+    ≡ Some ((expr.Async true (alone_of (name a)), 2), [])
+unfolding expr_lead_at block_word_expr
+async_begun = rw (block_a []) refl
+
+-- `{;a;;b}`
+pair_begun : head_by (at_level 1) false
+    (expr_lead_at (opens Brace ∷ semicolon ∷ word a ∷ semicolon ∷ semicolon ∷ word b ∷ closes Brace ∷ []))
+    (opens Brace ∷ semicolon ∷ word a ∷ semicolon ∷ semicolon ∷ word b ∷ closes Brace ∷ [])
+    ≡ Some ((expr.Block None (block_of (ended_then (name a) (name b))), 2), [])
+unfolding expr_lead_at
+pair_begun = rw (block_pair []) refl
+
+read_pair : expr_at FREE 2 (opens Brace ∷ semicolon ∷ word a ∷ semicolon ∷ semicolon ∷ word b ∷ closes Brace ∷ [])
+    ≡ Some ((expr.Block None (block_of (ended_then (name a) (name b))), 2), [])
+unfolding binary strength climb op_at
+read_pair =
+    reads 1 FREE (opens Brace ∷ semicolon ∷ word a ∷ semicolon ∷ semicolon ∷ word b ∷ closes Brace ∷ [])
+    (expr.Block None (block_of (ended_then (name a) (name b))), 2) (expr.Block None (block_of (ended_then (name a) (name b))), 2) [] [] _
+    pair_begun refl (exprs.expr_block_is None (block_of (ended_then (name a) (name b)))) refl
+
+-- ---- control flow
+
+-- `a{b}`, behind an `if`
+branch_a : (ts : Tokens) → branch_by (at_level 1) (word a ∷ in_braces (word b) ts) ≡ Some ((branch_of None a b, 1), ts)
+unfolding branch_by condition_by
+branch_a ts = rw (condition_a (word b ∷ closes Brace ∷ ts), block_b ts) refl
+
+-- `if a{b}else{a}`
+if_begun : head_by (at_level 1) false
+    (expr_lead_at (word (codes "if") ∷ word a ∷ in_braces (word b) (word (codes "else") ∷ in_braces (word a) [])))
+    (word (codes "if") ∷ word a ∷ in_braces (word b) (word (codes "else") ∷ in_braces (word a) []))
+    ≡ Some ((expr.If (branch_of None a b ∷ []) (Some (alone_of (name a))), 2), [])
+unfolding expr_lead_at block_word_expr if_expr repeat repeat_from
+if_begun = rw (branch_a (word (codes "else") ∷ in_braces (word a) []), block_a []) refl
+
+-- `if a{b}else if a{b}`
+else_if_begun : head_by (at_level 1) false
+    (expr_lead_at (word (codes "if") ∷ word a ∷ in_braces (word b) (word (codes "else") ∷ word (codes "if") ∷ word a ∷ in_braces (word b) [])))
+    (word (codes "if") ∷ word a ∷ in_braces (word b) (word (codes "else") ∷ word (codes "if") ∷ word a ∷ in_braces (word b) []))
+    ≡ Some ((expr.If (branch_of None a b ∷ branch_of None a b ∷ []) None, 2), [])
+unfolding expr_lead_at block_word_expr if_expr repeat repeat_from
+else_if_begun = rw (branch_a (word (codes "else") ∷ word (codes "if") ∷ word a ∷ in_braces (word b) []), branch_a []) refl
+
+-- `'a:loop{b}`
+loop_begun : head_by (at_level 1) false
+    (expr_lead_at (token kind.Lifetime (codes "'a") false ∷ mark (codes ":") ∷ word (codes "loop") ∷ in_braces (word b) []))
+    (token kind.Lifetime (codes "'a") false ∷ mark (codes ":") ∷ word (codes "loop") ∷ in_braces (word b) [])
+    ≡ Some ((expr.Loop (Some tick_a) (alone_of (name b)), 2), [])
+unfolding expr_lead_at label_expr lifetime op_at
+loop_begun = rw (block_b []) refl
+
+-- `while a{b}`
+while_begun : head_by (at_level 1) false (expr_lead_at (word (codes "while") ∷ word a ∷ in_braces (word b) [])) (word (codes "while") ∷ word a ∷ in_braces (word b) [])
+    ≡ Some ((expr.While None None (name a) (alone_of (name b)), 2), [])
+unfolding expr_lead_at block_word_expr while_expr condition_by
+while_begun = rw (condition_a (word b ∷ closes Brace ∷ []), block_b []) refl
+
+-- `for b in a{b}`
+pattern_in : (ts : Tokens) → pat_at Alternatives 1 (word b ∷ word (codes "in") ∷ ts) ≡ Some ((name_pat b, 1), word (codes "in") ∷ ts)
+unfolding single_at pat_by simple_path path_pat path_by bind path chain segment args_by repeat repeat_from word_reading op_at
+pattern_in ts = rw (lone b) refl
+
+for_begun : head_by (at_level 1) false (expr_lead_at (word (codes "for") ∷ word b ∷ word (codes "in") ∷ word a ∷ in_braces (word b) []))
+    (word (codes "for") ∷ word b ∷ word (codes "in") ∷ word a ∷ in_braces (word b) [])
+    ≡ Some ((expr.For None (name_pat b) (name a) (alone_of (name b)), 2), [])
+unfolding expr_lead_at block_word_expr for_expr
+for_begun = rw (pattern_in (word a ∷ in_braces (word b) []), condition_a (word b ∷ closes Brace ∷ []), block_b []) refl
+
+-- ---- arms
+
+abbrev arrow : Tokens → Tokens
+arrow ts = token kind.Punct (codes "=") true ∷ mark (codes ">") ∷ ts
+
+-- the pattern before an `=>`
+pattern_b : (ts : Tokens) → pat_at Alternatives 2 (word b ∷ arrow ts) ≡ Some ((name_pat b, 1), arrow ts)
+unfolding single_at pat_by simple_path path_pat path_by bind path chain segment args_by repeat repeat_from word_reading op_at
+pattern_b ts = rw (lone b) refl
+
+-- `{a}`, which ends a statement
+lone_begun : head_by (at_level 1) false (expr_lead_at (in_braces (word a) (closes Brace ∷ []))) (in_braces (word a) (closes Brace ∷ []))
+    ≡ Some ((expr.Block None (alone_of (name a)), 2), closes Brace ∷ [])
+unfolding expr_lead_at
+lone_begun = rw (block_a (closes Brace ∷ [])) refl
+
+lone_ended : climb_by (at_level 1) statement (expr.Block None (alone_of (name a)), 2) (closes Brace ∷ [])
+    ≡ Some ((expr.Block None (alone_of (name a)), 2), closes Brace ∷ [])
+unfolding op_at
+lone_ended = rw (exprs.expr_block_is None (alone_of (name a))) refl
+
+lone_block : expr_at statement 2 (in_braces (word a) (closes Brace ∷ [])) ≡ Some ((expr.Block None (alone_of (name a)), 2), closes Brace ∷ [])
+unfolding binary strength climb op_at
+lone_block =
+    reads 1 statement (in_braces (word a) (closes Brace ∷ [])) (expr.Block None (alone_of (name a)), 2) (expr.Block None (alone_of (name a)), 2)
+    (closes Brace ∷ []) (closes Brace ∷ []) _ lone_begun lone_ended (exprs.expr_block_is None (alone_of (name a))) refl
+
+-- The braces of a body that is one expression are dropped,
+undressed_a : (turns : ℕ) → undressed (suc (suc turns)) (expr.Block None (alone_of (name a))) ≡ name a
+unfolding undressed
+undressed_a turns =
+    rw (
+      exprs.expr_block_is None (alone_of (name a)),
+      alone_is a,
+      views.outs-Block None (alone_of (name a)),
+      views.outs-Expr [] (name a) false,
+      name_is a,
+    )
+    refl
+
+-- `b=>{a}`
+arm_dropped : arm_by (at_level 2) (word b ∷ arrow (in_braces (word a) (closes Brace ∷ []))) ≡ Some ((arm_of b (name a), 2), closes Brace ∷ [])
+unfolding arm_by attributes repeat repeat_from op_at
+arm_dropped =
+    rw (
+      pattern_b (in_braces (word a) (closes Brace ∷ [])),
+      lone_block,
+      exprs.expr_block_is None (alone_of (name a)),
+      alone_is a,
+      undressed_a 2,
+    )
+    refl
+
+-- Others are kept: `b=>{;a;;b}`.
+abbrev braced_pair : Tokens → Tokens
+braced_pair ts = opens Brace ∷ semicolon ∷ word a ∷ semicolon ∷ semicolon ∷ word b ∷ closes Brace ∷ ts
+
+kept_begun : head_by (at_level 1) false (expr_lead_at (braced_pair (closes Brace ∷ []))) (braced_pair (closes Brace ∷ []))
+    ≡ Some ((expr.Block None (block_of (ended_then (name a) (name b))), 2), closes Brace ∷ [])
+unfolding expr_lead_at
+kept_begun = rw (block_pair (closes Brace ∷ [])) refl
+
+kept_ended : climb_by (at_level 1) statement (expr.Block None (block_of (ended_then (name a) (name b))), 2) (closes Brace ∷ [])
+    ≡ Some ((expr.Block None (block_of (ended_then (name a) (name b))), 2), closes Brace ∷ [])
+unfolding op_at
+kept_ended = rw (exprs.expr_block_is None (block_of (ended_then (name a) (name b)))) refl
+
+kept_block : expr_at statement 2 (braced_pair (closes Brace ∷ []))
+    ≡ Some ((expr.Block None (block_of (ended_then (name a) (name b))), 2), closes Brace ∷ [])
+unfolding binary strength climb op_at
+kept_block =
+    reads 1 statement (braced_pair (closes Brace ∷ [])) (expr.Block None (block_of (ended_then (name a) (name b))), 2)
+    (expr.Block None (block_of (ended_then (name a) (name b))), 2) (closes Brace ∷ []) (closes Brace ∷ []) _ kept_begun kept_ended
+    (exprs.expr_block_is None (block_of (ended_then (name a) (name b)))) refl
+
+kept : (turns : ℕ) → undressed (suc turns) (expr.Block None (block_of (ended_then (name a) (name b)))) ≡ expr.Block None (block_of (ended_then (name a) (name b)))
+unfolding undressed
+kept turns = rw (exprs.expr_block_is None (block_of (ended_then (name a) (name b))), pair_is) refl
+
+arm_kept : arm_by (at_level 2) (word b ∷ arrow (braced_pair (closes Brace ∷ [])))
+    ≡ Some ((arm_of b (expr.Block None (block_of (ended_then (name a) (name b)))), 3), closes Brace ∷ [])
+unfolding arm_by attributes repeat repeat_from op_at
+arm_kept =
+    rw (
+      pattern_b (braced_pair (closes Brace ∷ [])),
+      kept_block,
+      exprs.expr_block_is None (block_of (ended_then (name a) (name b))),
+      pair_is,
+      kept 7,
+    )
+    refl
+
+-- `match a{b=>{a}}`
+scrutinee_a : (ts : Tokens) → expr_at (plain 0 true) 2 (word a ∷ opens Brace ∷ ts) ≡ Some ((name a, 1), opens Brace ∷ ts)
+unfolding code_in expr_by expr_lead_at binary strength climb op_at path_expr simple_path path chain segment args_by repeat repeat_from word_reading
+scrutinee_a ts = rw (name_is a) refl
+
+match_begun : head_by (at_level 2) false
+    (expr_lead_at (word (codes "match") ∷ word a ∷ opens Brace ∷ word b ∷ arrow (in_braces (word a) (closes Brace ∷ []))))
+    (word (codes "match") ∷ word a ∷ opens Brace ∷ word b ∷ arrow (in_braces (word a) (closes Brace ∷ [])))
+    ≡ Some ((expr.Match (name a) [] (arm_of b (name a) ∷ []), 3), [])
+unfolding expr_lead_at block_word_expr match_expr attributes repeat repeat_from
+match_begun = rw (scrutinee_a (word b ∷ arrow (in_braces (word a) (closes Brace ∷ []))), arm_dropped) refl
+
+-- ---- `let` and `else`
+
+pattern_a : (ts : Tokens) → pat_at Single 2 (word a ∷ mark (codes "=") ∷ ts) ≡ Some ((name_pat a, 1), mark (codes "=") ∷ ts)
+unfolding single_at pat_by simple_path path_pat path_by bind path chain segment args_by repeat repeat_from word_reading op_at
+pattern_a ts = rw (lone a) refl
+
+value_b : (ts : Tokens) → expr_at FREE 2 (word b ∷ word (codes "else") ∷ ts) ≡ Some ((name b, 1), word (codes "else") ∷ ts)
+unfolding code_in expr_by expr_lead_at binary strength climb op_at path_expr simple_path path chain segment args_by repeat repeat_from word_reading
+value_b ts = rw (name_is b) refl
+
+else_a : (ts : Tokens) → (at_level 2).blocks (in_braces (word a) ts) ≡ Some ((alone_of (name a), 2), ts)
+unfolding code_in
+else_a ts = rw (block_a ts) refl
+
+-- `a=b else{a};`, behind `let`
+read_let_else : let_stmt (at_level 2) [] (word a ∷ mark (codes "=") ∷ word b ∷ word (codes "else") ∷ in_braces (word a) (semicolon ∷ []))
+    ≡ Some ((stmt.Let [] (name_pat a) None (Some (name b)) (Some (alone_of (name a))), 2), [])
+unfolding let_stmt op_at
+read_let_else =
+    rw (
+      pattern_a (word b ∷ word (codes "else") ∷ in_braces (word a) (semicolon ∷ [])),
+      value_b (in_braces (word a) (semicolon ∷ [])),
+      else_a (semicolon ∷ []),
+      name_is b,
+    )
+    refl
+
+-- ---- closures
+
+param_a : (ts : Tokens) → pat_at Single 1 (word a ∷ mark (codes "|") ∷ ts) ≡ Some ((name_pat a, 1), mark (codes "|") ∷ ts)
+unfolding single_at pat_by simple_path path_pat path_by bind path chain segment args_by repeat repeat_from word_reading op_at
+param_a ts = rw (lone a) refl
+
+body_b : expr_at (plain 0 false) 1 (word b ∷ []) ≡ Some ((name b, 1), [])
+unfolding code_in expr_by expr_lead_at binary strength climb op_at path_expr simple_path path chain segment args_by repeat repeat_from word_reading
+body_b = rw (name_is b) refl
+
+-- `move|a|b`
+closure_begun : head_by (at_level 1) false
+    (expr_lead_at (word (codes "move") ∷ mark (codes "|") ∷ word a ∷ mark (codes "|") ∷ word b ∷ []))
+    (word (codes "move") ∷ mark (codes "|") ∷ word a ∷ mark (codes "|") ∷ word b ∷ [])
+    ≡ Some ((expr.Closure true (param_named a None ∷ []) (name b), 2), [])
+unfolding expr_lead_at closure_expr closure_param elements elements_from attributes repeat repeat_from op_at
+closure_begun = rw (param_a (word b ∷ []), body_b) refl
+
+-- `|a|->u8{b}`
+typed_begun : head_by (at_level 1) false
+    (expr_lead_at (mark (codes "|") ∷ word a ∷ mark (codes "|") ∷ token kind.Punct (codes "-") true ∷ mark (codes ">") ∷ word (codes "u8") ∷ in_braces (word b) []))
+    (mark (codes "|") ∷ word a ∷ mark (codes "|") ∷ token kind.Punct (codes "-") true ∷ mark (codes ">") ∷ word (codes "u8") ∷ in_braces (word b) [])
+    ≡ Some ((expr.TypedClosure false (param_named a None ∷ []) (named_type (codes "u8")) (alone_of (name b)), 2), [])
+unfolding expr_lead_at closure_expr closure_param elements elements_from within lead_at path_type simple_path path chain segment args_by word_reading attributes repeat repeat_from op_at strength binary
+typed_begun = rw (param_a (token kind.Punct (codes "-") true ∷ mark (codes ">") ∷ word (codes "u8") ∷ in_braces (word b) []), block_b []) refl
+
+-- ---- functions
+
+-- `fn a(){b}`
+read_function : item_at Module 2 (word (codes "fn") ∷ word a ∷ opens Paren ∷ closes Paren ∷ in_braces (word b) [])
+    ≡ Some ((unseen (item.Function (fn_of None a [] None) no_wheres (Some (alone_of (name b)))), 2), [])
+unfolding code_in item_by kind_at item_lead function_by fn_head generics fn_params open_elements open_elements_from wheres name_reading attributes visibility repeat repeat_from op_at
+read_function = rw (block_b [], items.function_is (fn_of None a [] None) no_wheres (Some (alone_of (name b)))) refl

@@ -1,0 +1,56 @@
+-- Which bytes read to which file, and why bytes are refused.
+use Rattle.std.specs.Prelude.{ℕ, ◌≡◌, ◌≤◌, ◌<◌, List, [], ◌∷◌, length, drop, Ok, Err}
+use Rattle.lay_token.specs.Delimiters.{Balanced, UnbalancedAt}
+use Rattle.lay_token.specs.Lexes.{Lexes, NoTokenAt}
+use Rattle.lay_token.specs.Source.{Source, source}
+use Rattle.lay_text.specs.declared.refusal.Refusal.{Refusal}
+use Rattle.lay_text.specs.declared.refusal.Refusal.TheVariants.{NotUtf8, NoToken, Unbalanced, NoItem}
+use Rattle.lay_token.specs.declared.token.Token.{Token}
+use Rattle.lay_code.specs.nodes.File.{form_of_file}
+use Rattle.lay_form.specs.Spelled.{Spells}
+use Rattle.lay_code.specs.Written.{Written}
+use Rattle.lay_code.specs.declared.file.File.{File}
+
+-- Items of a file stand at this depth.
+abbrev pub top : ℕ
+top = 256
+
+-- The tokens spell the inner attributes and the items of a file that can be written, and nothing else.
+abbrev pub SpellsFile : File → List Token → Type 0
+SpellsFile file tokens = Written file × Spells (form_of_file file) top tokens []
+
+-- The first tokens, so many, spell the inner attributes and the items of a file that can be written. What stands behind
+-- them doesn't matter: an attribute and an item end in a `;`, in a delimiter, or with a comment.
+abbrev pub SpellsFront : ℕ → List Token → Type 0
+SpellsFront count tokens =
+    (count ≤ length tokens) × ((file : File) × Written file × Spells (form_of_file file) top tokens (drop count tokens))
+
+-- The tokens spell no file; the longest run of inner attributes and then items ends before the token at this place.
+pub record NoItemAt (tokens : List Token) (at : ℕ) : Type 0 where
+  pub count : ℕ
+  pub token : Token
+  pub rest : List Token
+  pub behind : drop count tokens ≡ token ∷ rest
+  pub place : at ≡ token.at
+  pub front : SpellsFront count tokens
+  pub longest : (more : ℕ) → count < more → SpellsFront more tokens → ⊥
+
+-- The bytes are a text that lexes to balanced tokens which spell the file, behind the file's shebang.
+pub record Reads (bytes : List ℕ) (file : File) : Type 0 where
+  pub from : Source
+  pub tokens : List Token
+  pub text : source bytes ≡ Ok from
+  pub shebang : from.shebang ≡ file.shebang
+  pub lexes : Lexes from.text from.start tokens
+  pub balanced : Balanced tokens
+  pub spells : SpellsFile file tokens
+
+-- Why the bytes are refused: they are no UTF-8; or at a place there is no token; or the delimiters are unbalanced at a
+-- place; or the longest run of inner attributes and items ends at a place before the end.
+abbrev pub IsRefused : List ℕ → Refusal → Type 0
+IsRefused bytes (NotUtf8 at) = source bytes ≡ Err (NotUtf8 at)
+IsRefused bytes (NoToken at) = (from : Source) × (source bytes ≡ Ok from) × NoTokenAt from.text from.start at
+IsRefused bytes (Unbalanced at) = (from : Source) × (tokens : List Token)
+    × (source bytes ≡ Ok from) × Lexes from.text from.start tokens × UnbalancedAt tokens at
+IsRefused bytes (NoItem at) = (from : Source) × (tokens : List Token)
+    × (source bytes ≡ Ok from) × Lexes from.text from.start tokens × Balanced tokens × NoItemAt tokens at

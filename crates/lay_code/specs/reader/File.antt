@@ -1,0 +1,34 @@
+-- Reading files: the longest run of inner attributes and then items.
+use Rattle.std.specs.Prelude.{ℕ, zero, suc, true, List, [], ◌∷◌, ◌++◌, length, Some, None}
+use Rattle.lay_node.specs.Ahead.{Tokens}
+use Rattle.lay_node.specs.reader.Attr.{attribute}
+use Rattle.lay_node.specs.reader.Loops.{Got, ◌>>=◌}
+use Rattle.lay_node.specs.declared.attr.Attr.{Attr}
+use Rattle.lay_node.specs.declared.heads.Site.TheVariants.{Module}
+use Rattle.lay_code.specs.Reading.{top}
+use Rattle.lay_code.specs.reader.Code.{item_at}
+use Rattle.lay_code.specs.declared.item.Item.{Item}
+
+-- what is found, and what is left: behind a node that is read there may be more, and without one nothing is
+abbrev pub behind_one : {A : Type 0} → (List A → Tokens → List A × Tokens) → List A → Tokens → Got A → List A × Tokens
+behind_one more found ts None = (found, ts)
+behind_one more found ts (Some x) = more (found ++ x.0 ∷ []) x.1
+
+-- Nodes behind those that are found, one by one, as long as one is read, in so many turns at the most.
+unfoldable pub longest_from : {A : Type 0} → (Tokens → Got A) → ℕ → List A → Tokens → List A × Tokens
+longest_from one zero found ts = (found, ts)
+longest_from one (suc n) found ts = behind_one (longest_from one n) found ts (one ts)
+
+-- Each node that is read leaves fewer tokens, so as many turns as there are tokens suffice.
+unfoldable pub longest : {A : Type 0} → (Tokens → Got A) → Tokens → List A × Tokens
+longest one ts = longest_from one (length ts) [] ts
+
+-- an item of a file
+abbrev pub top_item : Tokens → Got Item
+top_item ts = do x ← item_at Module top ts; Some (x.0.0, x.1)
+
+-- the longest run of inner attributes and then items, and what is left
+unfoldable pub front : Tokens → (List Attr × List Item) × Tokens
+front ts =
+    let attrs = longest (attribute true) ts in
+    let items = longest top_item attrs.1 in ((attrs.0, items.0), items.1)

@@ -1,0 +1,168 @@
+//! Blocks, statements, and the arms of a match.
+ghost use Rattle.std.specs.Prelude.{◌≡◌};
+ghost use Rattle.lay_code.specs.nodes.Parts.{expr_of};
+
+use crate::drops::{discard_boxed_item, discard_otherwise, discard_stmts, discard_value};
+use crate::exprs::Expr;
+use crate::item::Item;
+use lay_node::{Attr, Boxed, Pat, Ty};
+use lay_token::List;
+
+/// A block, with its inner attributes (Rust Reference, "Block expressions").
+#[cycle(code)]
+pub struct Block {
+    pub attrs: List<Attr>,
+    pub stmts: List<Stmt>,
+}
+
+impl Drop for Block {
+    #[cycle(drops)]
+    fn drop(self) {
+        let Block { attrs, stmts } = self;
+        drop(attrs);
+        discard_stmts(stmts);
+    }
+}
+
+impl Block {
+    /// The statements.
+    pub fn into_stmts(self) -> List<Stmt>
+        ensures { result ≡ self.stmts }
+    {
+        let Block { attrs: _, stmts } = self;
+        stmts
+    }
+}
+
+/// A statement (Rust Reference, "Statements").
+#[cycle(code)]
+pub enum Stmt {
+    /// `let a: B = c else { d };`, where `else` stands behind a value alone
+    Let {
+        attrs: List<Attr>,
+        pat: Pat,
+        ty: Option<Ty>,
+        value: Option<Expr>,
+        otherwise: Option<Block>,
+    },
+    /// `fn a() {}`
+    Item {
+        item: Boxed<Item>,
+    },
+    /// `a;` or, without its `;`, `a`
+    Expr {
+        attrs: List<Attr>,
+        expr: Expr,
+        ended: bool,
+    },
+}
+
+impl Drop for Stmt {
+    #[cycle(drops)]
+    fn drop(self) {
+        match self {
+            Stmt::Let {
+                attrs,
+                pat,
+                ty,
+                value,
+                otherwise,
+            } => {
+                drop(attrs);
+                drop(pat);
+                drop(ty);
+                discard_value(value);
+                discard_otherwise(otherwise);
+            }
+            Stmt::Item { item } => {
+                discard_boxed_item(item);
+            }
+            Stmt::Expr {
+                attrs,
+                expr,
+                ended: _,
+            } => {
+                drop(attrs);
+                drop(expr);
+            }
+        }
+    }
+}
+
+impl Stmt {
+    /// The expression, where it is one.
+    pub fn into_expr(self) -> Option<Expr>
+        ensures { result ≡ expr_of self }
+    {
+        match self {
+            Stmt::Expr {
+                attrs: _,
+                expr,
+                ended: _,
+            } => Some(expr),
+            _ => None,
+        }
+    }
+}
+
+/// A condition, which may be a pattern and what it is matched with, and the block that it leads to (Rust Reference, "`if` and
+/// `if let` expressions").
+#[cycle(code)]
+pub struct Branch {
+    pub pat: Option<Pat>,
+    pub condition: Expr,
+    pub body: Block,
+}
+
+impl Drop for Branch {
+    #[cycle(drops)]
+    fn drop(self) {
+        let Branch {
+            pat,
+            condition,
+            body,
+        } = self;
+        drop(pat);
+        drop(condition);
+        drop(body);
+    }
+}
+
+impl Branch {
+    /// Its pattern if it has one, its condition, and its block.
+    pub fn into_parts(self) -> (Option<Pat>, Expr, Block)
+        ensures { result ≡ (self.pat, self.condition, self.body) }
+    {
+        let Branch {
+            pat,
+            condition,
+            body,
+        } = self;
+        (pat, condition, body)
+    }
+}
+
+/// An arm of a match (Rust Reference, "Match expressions").
+#[cycle(code)]
+pub struct Arm {
+    pub attrs: List<Attr>,
+    pub pat: Pat,
+    pub guard: Option<Expr>,
+    pub body: Expr,
+}
+
+impl Drop for Arm {
+    #[cycle(drops)]
+    fn drop(self) {
+        let Arm {
+            attrs,
+            pat,
+            guard,
+            body,
+        } = self;
+        drop(attrs);
+        drop(pat);
+        discard_value(guard);
+        drop(body);
+    }
+}

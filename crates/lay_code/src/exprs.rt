@@ -1,0 +1,458 @@
+//! Expressions, and the places where they stand.
+ghost use Rattle.std.specs.Prelude.{◌≡◌};
+ghost use Rattle.lay_code.specs.nodes.Parts.{block_of};
+
+use crate::blocks::{Arm, Block, Branch};
+use crate::drops::{
+    discard_arms, discard_base, discard_boxed, discard_branches, discard_exprs, discard_fields,
+    discard_operand, discard_operands, discard_otherwise, discard_steps, discard_targets,
+};
+use crate::operators::{Op, Prefix};
+use lay_node::{Arg, Attr, Boxed, Lifetime, Literal, MacroCall, Name, Pat, Path, Tokens, Ty};
+use lay_token::{List, Text};
+
+/// Whether an expression begins a statement or the body of an arm, and is the whole of it or a part.
+#[derive(Clone, Copy)]
+pub enum Start {
+    No,
+    Whole,
+    Part,
+}
+
+/// The place where an expression stands.
+#[derive(Clone, Copy)]
+pub struct Place {
+    /// The least level of an expression that may stand here, from 0 to 14.
+    pub level: u8,
+    /// No struct literal may stand here, as in a condition.
+    pub no_struct: bool,
+    pub start: Start,
+    /// An operator follows.
+    pub op_after: bool,
+    /// The operator `<` or `<<` follows.
+    pub lt_after: bool,
+}
+
+/// An expression (Rust Reference, "Expressions"). One within another stands one level deeper.
+#[cycle(code)]
+pub enum Expr {
+    /// `1`, `true`, `"a"`
+    Lit {
+        literal: Literal,
+    },
+    /// `a`, `a::B`, `A::<B>::c`
+    Path {
+        path: Path,
+    },
+    /// `_`, on the left of an assignment
+    Underscore,
+    /// `m!(a)`
+    Call {
+        call: MacroCall,
+    },
+    /// `(a)`
+    Paren {
+        inner: Boxed<Expr>,
+    },
+    /// `continue 'a`
+    Continue {
+        label: Option<Lifetime>,
+    },
+    /// `(a, b)`
+    Tuple {
+        elements: List<Expr>,
+    },
+    /// `[a, b]`
+    Array {
+        elements: List<Expr>,
+    },
+    /// `[a; 2]`
+    Repeat {
+        element: Boxed<Expr>,
+        length: Tokens,
+    },
+    /// `A { b: c, 0: d, e, ..f }`, where the base behind `..` may be left out
+    Struct {
+        path: Path,
+        fields: List<FieldExpr>,
+        base: Option<Option<Boxed<Expr>>>,
+    },
+    /// `a + b - c`: operators of one level, and not the first operand's
+    Chain {
+        first: Boxed<Expr>,
+        rest: List<(Op, Expr)>,
+    },
+    /// `a as B as C`, of one type at least
+    Cast {
+        operand: Boxed<Expr>,
+        types: List<Ty>,
+    },
+    /// `-*a`, of one operator at least
+    Unary {
+        prefixes: List<Prefix>,
+        operand: Boxed<Expr>,
+    },
+    /// `a..b`, `a..`, `..=b`, `..`
+    Range {
+        start: Option<Boxed<Expr>>,
+        inclusive: bool,
+        end: Option<Boxed<Expr>>,
+    },
+    /// `a = b += c`, of one target at least
+    Assign {
+        targets: List<(Expr, Op)>,
+        value: Boxed<Expr>,
+    },
+    /// `a.b.0.c::<D>(e)(f)[g]?.await`, of one step at least
+    Postfix {
+        base: Boxed<Expr>,
+        steps: List<Step>,
+    },
+    /// `'a: { b; c }`
+    Block {
+        label: Option<Lifetime>,
+        body: Block,
+    },
+    /// `unsafe { a }`
+    Unsafe {
+        body: Block,
+    },
+    /// `const { a }`
+    ConstBlock {
+        body: Block,
+    },
+    /// `async move { a }`
+    Async {
+        moves: bool,
+        body: Block,
+    },
+    /// `if a { b } else if let c = d { e } else { f }`, of one branch at least
+    If {
+        branches: List<Branch>,
+        otherwise: Option<Block>,
+    },
+    /// `match a { b => c }`
+    Match {
+        scrutinee: Boxed<Expr>,
+        attrs: List<Attr>,
+        arms: List<Arm>,
+    },
+    /// `'a: loop { b }`
+    Loop {
+        label: Option<Lifetime>,
+        body: Block,
+    },
+    /// `'a: while b { c }`, `while let b = c { d }`
+    While {
+        label: Option<Lifetime>,
+        pat: Option<Pat>,
+        condition: Boxed<Expr>,
+        body: Block,
+    },
+    /// `'a: for b in c { d }`
+    For {
+        label: Option<Lifetime>,
+        pat: Pat,
+        iterated: Boxed<Expr>,
+        body: Block,
+    },
+    /// `move |a, b: C| d`
+    Closure {
+        moves: bool,
+        params: List<ClosureParam>,
+        body: Boxed<Expr>,
+    },
+    /// `|a| -> B { c }`
+    TypedClosure {
+        moves: bool,
+        params: List<ClosureParam>,
+        output: Ty,
+        body: Block,
+    },
+    /// `return a`
+    Return {
+        operand: Option<Boxed<Expr>>,
+    },
+    /// `break 'a b`
+    Break {
+        label: Option<Lifetime>,
+        operand: Option<Boxed<Expr>>,
+    },
+}
+
+impl Drop for Expr {
+    #[cycle(drops)]
+    fn drop(self) {
+        match self {
+            Expr::Lit { literal } => {
+                drop(literal);
+            }
+            Expr::Path { path } => {
+                drop(path);
+            }
+            Expr::Underscore => {}
+            Expr::Call { call } => {
+                drop(call);
+            }
+            Expr::Paren { inner } => {
+                discard_boxed(inner);
+            }
+            Expr::Continue { label } => {
+                drop(label);
+            }
+            Expr::Tuple { elements } => {
+                discard_exprs(elements);
+            }
+            Expr::Array { elements } => {
+                discard_exprs(elements);
+            }
+            Expr::Repeat { element, length } => {
+                drop(length);
+                discard_boxed(element);
+            }
+            Expr::Struct { path, fields, base } => {
+                drop(path);
+                discard_fields(fields);
+                discard_base(base);
+            }
+            Expr::Chain { first, rest } => {
+                discard_boxed(first);
+                discard_operands(rest);
+            }
+            Expr::Cast { operand, types } => {
+                drop(types);
+                discard_boxed(operand);
+            }
+            Expr::Unary { prefixes, operand } => {
+                drop(prefixes);
+                discard_boxed(operand);
+            }
+            Expr::Range {
+                start,
+                inclusive: _,
+                end,
+            } => {
+                discard_operand(start);
+                discard_operand(end);
+            }
+            Expr::Assign { targets, value } => {
+                discard_targets(targets);
+                discard_boxed(value);
+            }
+            Expr::Postfix { base, steps } => {
+                discard_boxed(base);
+                discard_steps(steps);
+            }
+            Expr::Block { label, body } => {
+                drop(label);
+                drop(body);
+            }
+            Expr::Unsafe { body } => {
+                drop(body);
+            }
+            Expr::ConstBlock { body } => {
+                drop(body);
+            }
+            Expr::Async { moves: _, body } => {
+                drop(body);
+            }
+            Expr::If {
+                branches,
+                otherwise,
+            } => {
+                discard_branches(branches);
+                discard_otherwise(otherwise);
+            }
+            Expr::Match {
+                scrutinee,
+                attrs,
+                arms,
+            } => {
+                drop(attrs);
+                discard_boxed(scrutinee);
+                discard_arms(arms);
+            }
+            Expr::Loop { label, body } => {
+                drop(label);
+                drop(body);
+            }
+            Expr::While {
+                label,
+                pat,
+                condition,
+                body,
+            } => {
+                drop(label);
+                drop(pat);
+                discard_boxed(condition);
+                drop(body);
+            }
+            Expr::For {
+                label,
+                pat,
+                iterated,
+                body,
+            } => {
+                drop(label);
+                drop(pat);
+                discard_boxed(iterated);
+                drop(body);
+            }
+            Expr::Closure {
+                moves: _,
+                params,
+                body,
+            } => {
+                drop(params);
+                discard_boxed(body);
+            }
+            Expr::TypedClosure {
+                moves: _,
+                params,
+                output,
+                body,
+            } => {
+                drop(params);
+                drop(output);
+                drop(body);
+            }
+            Expr::Return { operand } => {
+                discard_operand(operand);
+            }
+            Expr::Break { label, operand } => {
+                drop(label);
+                discard_operand(operand);
+            }
+        }
+    }
+}
+
+impl Expr {
+    /// The block, where it is one, with a label or without.
+    pub fn into_block(self) -> Option<Block>
+        ensures { result ≡ block_of self }
+    {
+        match self {
+            Expr::Block { label: _, body } => Some(body),
+            _ => None,
+        }
+    }
+}
+
+/// A parameter of a closure.
+#[derive(Drop)]
+pub struct ClosureParam {
+    pub attrs: List<Attr>,
+    pub pat: Pat,
+    pub ty: Option<Ty>,
+}
+
+/// A field in a struct literal (Rust Reference, "Struct expressions").
+#[cycle(code)]
+pub enum FieldExpr {
+    /// `a: b`
+    Named {
+        attrs: List<Attr>,
+        name: Name,
+        value: Expr,
+    },
+    /// `0: b`
+    Numbered {
+        attrs: List<Attr>,
+        index: Text,
+        value: Expr,
+    },
+    /// `a`: the field and its value have this name
+    Short {
+        attrs: List<Attr>,
+        name: Name,
+    },
+}
+
+impl Drop for FieldExpr {
+    #[cycle(drops)]
+    fn drop(self) {
+        match self {
+            FieldExpr::Named { attrs, name, value } => {
+                drop(attrs);
+                drop(name);
+                drop(value);
+            }
+            FieldExpr::Numbered {
+                attrs,
+                index,
+                value,
+            } => {
+                drop(attrs);
+                drop(index);
+                drop(value);
+            }
+            FieldExpr::Short { attrs, name } => {
+                drop(attrs);
+                drop(name);
+            }
+        }
+    }
+}
+
+/// What follows the base of a postfix expression.
+#[cycle(code)]
+pub enum Step {
+    /// `.a`
+    Field {
+        name: Name,
+    },
+    /// `.0`
+    TupleIndex {
+        index: Text,
+    },
+    /// `.a::<B>(c)`
+    Method {
+        name: Name,
+        generics: Option<List<Arg>>,
+        args: List<Expr>,
+    },
+    /// `(a, b)`: a call
+    Apply {
+        args: List<Expr>,
+    },
+    /// `[a]`
+    Index {
+        index: Expr,
+    },
+    /// `?`
+    Try,
+    /// `.await`
+    Await,
+}
+
+impl Drop for Step {
+    #[cycle(drops)]
+    fn drop(self) {
+        match self {
+            Step::Field { name } => {
+                drop(name);
+            }
+            Step::TupleIndex { index } => {
+                drop(index);
+            }
+            Step::Method {
+                name,
+                generics,
+                args,
+            } => {
+                drop(name);
+                drop(generics);
+                discard_exprs(args);
+            }
+            Step::Apply { args } => {
+                discard_exprs(args);
+            }
+            Step::Index { index } => {
+                drop(index);
+            }
+            Step::Try => {}
+            Step::Await => {}
+        }
+    }
+}

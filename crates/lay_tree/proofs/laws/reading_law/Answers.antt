@@ -1,9 +1,0 @@
-use Rattle.lay_tree.proofs.reader.ExprExact.{exprs_exact}
-use Rattle.lay_tree.proofs.reader.ItemExact.{items_exact}
-use Rattle.lay_tree.proofs.laws.reading_law.Goals as goal
-
-pub returns : goal.returns
-returns c = record {
-  exprs = exprs_exact;
-  items = items_exact;
-}
