@@ -12,9 +12,11 @@ use Rattle.lay_printer.specs.declared.line.Line.{Line}
 use Rattle.lay_printer.specs.declared.engine.PrintError.{PrintError}
 use Rattle.lay_printer.specs.declared.engine.PrintError.TheVariants.{WriteFailed, NoMemory}
 use Rattle.lay_printer.specs.Printing.{Printing}
-use Rattle.lay_printer.specs.Scan.{Holds, waiting}
+use Rattle.lay_printer.specs.Queued.{Holds}
+use Rattle.lay_queue.specs.Scan.{waiting}
 use Rattle.lay_printer.specs.Pages.{Wrote, Cut}
-use Rattle.lay_printer.specs.Queued.{least_width, Advances, Says, Decided, next_of}
+use Rattle.lay_queue.specs.Entries.{least_width, next_of}
+use Rattle.lay_printer.specs.Queued.{Advances, Says, Decided}
 use Rattle.lay_printer.specs.Printers.{at, Runs, Fails, FedBy, CauseOf, Blames, LostBy, Went, Lost, Calls, Finishes, printer_meanings}
 use Rattle.lay_stream.proofs.Calls.{opened_append}
 use Rattle.lay_stream.proofs.ListedLemmas.{nested_append}

@@ -6,7 +6,7 @@ use Rattle.lay_layout.specs.declared.layout.Tok.TheVariants as tok
 use Rattle.lay_layout.specs.Machine.{opened, outer}
 use Rattle.lay_stream.proofs.Calls.{opened_append}
 use Rattle.lay_ring.specs.declared.entry.Entry.{Entry}
-use Rattle.lay_printer.specs.Closed.{toks_of}
+use Rattle.lay_queue.specs.Closed.{toks_of}
 
 -- how many groups are open after entries that wait, where these frames are before them
 abbrev pub open_in : List Entry → List Frame → ℕ

@@ -1,13 +1,6 @@
 pub mod Steps
-pub mod Advancing
-pub mod Fitting
-pub mod WriteBack
-pub mod Feeding
-pub mod Closing
 pub mod Blanks
 pub mod Paging
-pub mod Splitting
-pub mod Queueing
 pub mod Running
 pub mod Clearing
 pub mod Calling

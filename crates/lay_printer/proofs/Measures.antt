@@ -6,7 +6,7 @@ use Rattle.lay_layout.specs.Document.{width_of_break}
 use Rattle.lay_layout.specs.Machine.{outer}
 use Rattle.lay_ring.specs.declared.entry.Size.TheVariants.{Unknown, Known, Forced}
 use Rattle.lay_ring.specs.declared.entry.Entry.{Entry}
-use Rattle.lay_printer.specs.Scan.{Scan, Stopped, Going, widen, scan, scan_of, size_of_scan, sized, cap}
+use Rattle.lay_queue.specs.Scan.{Scan, Stopped, Going, widen, scan, scan_of, size_of_scan, sized, cap}
 use Rattle.lay_printer.specs.Promises.{has_end, IsOpen, IsMeasured, AreMeasured}
 use Rattle.lay_printer.proofs.Lockstep.{toks_sized}
 use Rattle.lay_printer.proofs.Steps.{with_rest, size_of, measure_scan}

@@ -9,11 +9,13 @@ use Rattle.lay_ring.specs.declared.entry.Size.{Size}
 use Rattle.lay_ring.specs.declared.entry.Size.TheVariants.{Unknown, Known, Forced}
 use Rattle.lay_ring.specs.declared.entry.Entry.{Entry}
 use Rattle.lay_printer.specs.declared.line.Line.{Line}
-use Rattle.lay_printer.specs.Scan.{Scan, Stopped, Going, at_end, size_of_scan, scan_of, sized, waiting, MayFollow, Holds}
-use Rattle.lay_printer.specs.Notes.{scans}
-use Rattle.lay_printer.specs.Closed.{toks_of, sizes_of}
+use Rattle.lay_queue.specs.Scan.{Scan, Stopped, Going, at_end, size_of_scan, scan_of, sized, waiting}
+use Rattle.lay_printer.specs.Queued.{MayFollow, Holds}
+use Rattle.lay_queue.specs.Notes.{scans}
+use Rattle.lay_queue.specs.Closed.{toks_of, sizes_of}
 use Rattle.lay_printer.specs.Pages.{Is, Wrote, Cut}
-use Rattle.lay_printer.specs.Queued.{least_width, At, Running, Broken, Prints, Advances, Ends, Says, Decided}
+use Rattle.lay_queue.specs.Entries.{least_width}
+use Rattle.lay_printer.specs.Queued.{At, Running, Broken, Prints, Advances, Ends, Says, Decided}
 use Rattle.lay_printer.proofs.Steps.{size_of, Grows, grows_play, fed_one, print_known, print_forced, print_now, to_end, text_ended}
 use Rattle.lay_printer.proofs.Paging.{cut_more, wrote_cut}
 use Rattle.lay_printer.proofs.Lockstep.{toks_sized}
@@ -100,10 +102,6 @@ step_at false s t Unknown es m p wait big i w d q h =
     subst (λ (y : Bool). Holds false s es (act t y m)) (sym d.0) (print_forced s t es m h (omega (arith, d.1)))
 step_at true s t Unknown es m p wait big i w d q h = absurd q
 step_at x s t Forced es m p wait big i w d q h = absurd q
-
-pub front_is : (es : List Entry) (e : Entry) → Some e ≡ slice_get es 0 → es ≡ e ∷ drop 1 es
-front_is [] e h = cc
-front_is (x ∷ es) e h = let k : x ≡ e = cc in ap (λ (y : Entry). y ∷ es) k
 
 prints_by : {T E : Type 0} (x : Bool) (es es' : List Entry) (t : Tok) (p p' : Line) (fs fs' : List Frame) (b n : Option (List ℕ)) (big : Bool) (res : Result T E) →
     ((s : List Tok) (m : Layout) → Is p m.state → Holds x s es m → Holds x s es' (act t big m)) → Prints p fs b res p' fs' n t big → Advances x es p fs b res es' p' fs' n (λ s. s)

@@ -3,9 +3,9 @@ use Rattle.std.proofs.Common.{◌≡◌, ◌+◌, ◌∙◌, List, [], ◌∷◌
 use Rattle.lay_layout.specs.declared.layout.Tok.{Tok}
 use Rattle.lay_ring.specs.declared.entry.Entry.{Entry}
 use Rattle.lay_printer.specs.declared.engine.Engine.{Engine}
-use Rattle.lay_printer.specs.Closed.{toks_of}
+use Rattle.lay_queue.specs.Closed.{toks_of}
 use Rattle.lay_printer.specs.Engines.{Stays}
-use Rattle.lay_printer.proofs.Queueing.{length_toks}
+use Rattle.lay_queue.proofs.Queueing.{length_toks}
 
 pub stays_then : {a b c : Engine} → Stays a b → Stays b c → Stays a c
 stays_then x y = record {

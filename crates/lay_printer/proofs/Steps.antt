@@ -13,8 +13,9 @@ use Rattle.lay_layout.specs.Machine.{outer, reach, measure, play, step, act, Lay
 use Rattle.lay_ring.specs.declared.entry.Size.{Size}
 use Rattle.lay_ring.specs.declared.entry.Size.TheVariants.{Unknown, Known}
 use Rattle.lay_ring.specs.declared.entry.Entry.{Entry}
-use Rattle.lay_printer.specs.Queued.{least_width}
-use Rattle.lay_printer.specs.Scan.{Scan, Stopped, Going, widen, scan, cap, size_of_scan, scan_of, sized, waiting, at_end, MayFollow, Holds}
+use Rattle.lay_queue.specs.Entries.{least_width}
+use Rattle.lay_queue.specs.Scan.{Scan, Stopped, Going, widen, scan, cap, size_of_scan, scan_of, sized, waiting, at_end}
+use Rattle.lay_printer.specs.Queued.{MayFollow, Holds}
 
 -- the measure, where r follows
 abbrev pub with_rest : Scan → List Tok → ℕ

@@ -1,6 +1,3 @@
-pub mod Scan
-pub mod Notes
-pub mod Closed
 pub mod Pages
 pub mod Queued
 pub mod Engines

@@ -5,8 +5,8 @@ use Rattle.lay_layout.specs.declared.layout.Tok.{Tok}
 use Rattle.lay_layout.specs.declared.layout.Tok.TheVariants as tok
 use Rattle.lay_layout.specs.Document.{State}
 use Rattle.lay_layout.specs.Machine.{outer, measure, layout_after, shown}
-use Rattle.lay_printer.specs.Scan.{cap}
-use Rattle.lay_printer.specs.Closed.{toks_of}
+use Rattle.lay_queue.specs.Scan.{cap}
+use Rattle.lay_queue.specs.Closed.{toks_of}
 use Rattle.lay_printer.specs.Printing.{Printing}
 use Rattle.lay_printer.specs.Pages.{Is, Wrote}
 use Rattle.lay_printer.specs.Printers.{Runs, at}

@@ -1,34 +1,31 @@
--- Tokens that wait, and what is kept of them.
+-- When a printer holds the tokens of a stream, some printed and some waiting, and what its calls do to that.
 use Rattle.std.specs.Prelude.{◌≡◌, ℕ, ◌+◌, ◌≤◌, ◌<◌, Bool, true, false, nat_lt, pos, negsuc}
-use Rattle.std.specs.Prelude.{List, [], ◌∷◌, ◌++◌, length, Option, Some, None, Result, OnOk, OnErr}
+use Rattle.std.specs.Prelude.{List, [], ◌∷◌, ◌++◌, Option, Some, None, Result, OnOk, OnErr}
 use Rattle.lay_layout.specs.declared.layout.Tok.{Tok}
-use Rattle.lay_layout.specs.declared.layout.Tok.TheVariants as tok
 use Rattle.lay_layout.specs.declared.layout.Frame.{Frame}
-use Rattle.lay_layout.specs.Document.{over, width_of_break}
-use Rattle.lay_layout.specs.Machine.{Layout, act, measure, text}
-use Rattle.lay_ring.specs.Held.{number_of}
+use Rattle.lay_layout.specs.Document.{over}
+use Rattle.lay_layout.specs.Machine.{Layout, act, begun, measure, play, text}
 use Rattle.lay_ring.specs.declared.entry.Size.{Size}
 use Rattle.lay_ring.specs.declared.entry.Size.TheVariants.{Unknown, Known, Forced}
 use Rattle.lay_ring.specs.declared.entry.Entry.{Entry}
-use Rattle.lay_printer.specs.declared.close.Note.{Note}
+use Rattle.lay_queue.specs.Entries.{least_width}
+use Rattle.lay_queue.specs.Scan.{sized}
 use Rattle.lay_printer.specs.declared.line.Line.{Line}
-use Rattle.lay_printer.specs.Scan.{MayFollow, Holds}
 use Rattle.lay_printer.specs.Pages.{Is, Wrote, Cut}
 
--- the number that the next entry gets
-abbrev pub next_of : ℕ → List Entry → ℕ
-next_of first entries = number_of first (length entries)
+-- the tokens that may follow
+abbrev pub MayFollow : Bool → List Tok → Type 0
+MayFollow false r = Unit {0}
+MayFollow true r = r ≡ []
 
--- the notes that are left when an entry of this size is printed
-abbrev pub notes_after : Size → List Note → List Note
-notes_after Unknown [] = []
-notes_after Unknown (m ∷ ms) = ms
-notes_after size ms = ms
-
--- what a token's measure has at the least beside texts
-abbrev pub least_width : Tok → ℕ
-least_width (tok.Break b) = width_of_break b
-least_width t = 0
+-- The printer after the tokens s: the first ones are printed, whatever follows s, and the others wait.
+pub record Holds (ended : Bool) (s : List Tok) (entries : List Entry) (layout : Layout) : Type 0 where
+  pub printed : List Tok
+  pub waits : List Tok
+  pub all : printed ++ waits ≡ s
+  pub are_sized : entries ≡ sized ended waits
+  pub small : layout.state.room ≤ 89
+  pub shown : (r : List Tok) → MayFollow ended r → play printed (waits ++ r) begun ≡ layout
 
 -- Is the oldest entry too big, where it has so many columns at the least and the text that waits? None: undecided.
 abbrev pub Says : Size → (least wait : ℕ) → Line → Option Bool → Type 0

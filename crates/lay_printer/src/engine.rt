@@ -3,14 +3,15 @@ ghost use Rattle.std.specs.Prelude.{◌≡◌, ◌+◌, ◌%◌, ◌^◌, ◌<�
 ghost use Rattle.lay_layout.specs.declared.layout.Tok.TheVariants as tok;
 ghost use Rattle.lay_layout.specs.Machine.{opened, IsNested};
 ghost use Rattle.lay_io.specs.Faults.{HasCause, SameLoan};
-ghost use Rattle.lay_printer.specs.Closed.{toks_of};
-ghost use Rattle.lay_printer.specs.Queued.{Advances, Decided, Ends, IsClear, next_of};
+ghost use Rattle.lay_queue.specs.Closed.{toks_of};
+ghost use Rattle.lay_printer.specs.Queued.{Advances, Decided, Ends, IsClear};
+ghost use Rattle.lay_queue.specs.Entries.{next_of};
 
 use crate::line::exceeds;
 use crate::page::Page;
-use crate::queue::{Queue, least_width};
 use lay_io::{Failed, Sink};
 use lay_layout::{Break, Tok};
+use lay_queue::{Queue, least_width};
 use lay_ring::Size;
 use lay_text::NoMemory;
 
@@ -33,7 +34,8 @@ pub struct Engine {
 }
 
 impl Engine {
-    ghost use Rattle.lay_printer.specs.Engines.{Comes, Passes, Stays, room_of};
+    ghost use Rattle.lay_queue.specs.Queues.{Comes};
+    ghost use Rattle.lay_printer.specs.Engines.{Passes, Stays, room_of};
     ghost use Rattle.lay_printer.specs.Printers.{Blames};
     ghost use Rattle.lay_printer.specs.declared.engine.PrintError.TheVariants.{WriteFailed};
 

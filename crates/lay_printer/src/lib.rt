@@ -26,7 +26,6 @@
 //! stands at a line's end but a text's own. After a call that failed the sink has grown by a front of the text.
 #![tactic(auto)]
 
-mod close;
 mod engine;
 mod frames;
 pub mod laws;
@@ -34,7 +33,6 @@ mod line;
 mod page;
 mod press;
 mod printer;
-mod queue;
 
 pub use engine::PrintError;
 pub use press::{Press, PrintFault, Printer};

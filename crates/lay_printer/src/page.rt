@@ -9,9 +9,9 @@ ghost use Rattle.lay_stream.specs.Indents.{IsKept};
 
 use crate::frames::Frames;
 use crate::line::{Line, exceeds, shifted};
-use crate::queue::width_of;
 use lay_io::{Failed, Sink};
 use lay_layout::{Break, Frame, Tok};
+use lay_queue::width_of;
 
 /// Where the layout stands: the line that is being written, and the frames of the groups that are open there.
 #[derive(Drop)]

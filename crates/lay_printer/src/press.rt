@@ -8,7 +8,7 @@ ghost use Rattle.lay_printer.specs.Pages.{Wrote, Cut};
 ghost use Rattle.lay_printer.specs.Printers.{CauseOf, FedBy, Finishes, IsWhole, Repeats, TakesRoom};
 ghost use Rattle.lay_printer.specs.Printers.{lent_core, lent_sink, lent_as, press_loans, press_meanings, owner_meanings};
 ghost use Rattle.lay_printer.specs.Promises.{FitSpace, IsSame, IsSpace, RunsAs, RunsFresh};
-ghost use Rattle.lay_printer.specs.Scan.{waiting as sum_waiting};
+ghost use Rattle.lay_queue.specs.Scan.{waiting as sum_waiting};
 ghost use Rattle.lay_printer.specs.declared.engine.PrintError.{PrintError};
 ghost use Rattle.lay_printer.specs.declared.engine.PrintError.TheVariants.{WriteFailed};
 

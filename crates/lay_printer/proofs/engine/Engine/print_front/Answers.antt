@@ -1,6 +1,7 @@
 use Rattle.std.proofs.Common.{◌∷◌, sym, ap, ◌∙◌, List}
 use Rattle.lay_ring.specs.declared.entry.Entry.{Entry}
-use Rattle.lay_printer.proofs.Running.{prints_front, front_is}
+use Rattle.lay_queue.proofs.Queueing.{front_is}
+use Rattle.lay_printer.proofs.Running.{prints_front}
 use Rattle.lay_printer.proofs.engine.Engine.print_front.Goals as goal
 
 pub returns-clause-prints : goal.returns-clause-prints

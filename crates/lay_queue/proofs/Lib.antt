@@ -1,0 +1,7 @@
+mod Advancing
+mod Fitting
+mod WriteBack
+mod Feeding
+mod Closing
+mod Splitting
+pub mod Queueing

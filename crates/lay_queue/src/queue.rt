@@ -1,0 +1,295 @@
+//! The scanning side: tokens that wait, with the sizes that are known of them.
+ghost use Rattle.std.specs.Prelude.{◌≡◌, ℕ, ◌+◌, ◌-◌, ◌%◌, ◌^◌, ◌<◌, ◌≤◌, [], ◌∷◌, ◌++◌, length, drop, slice_get, OnOk, OnErr, IfOk, IsOk, map, true, false};
+ghost use Rattle.lay_layout.specs.declared.layout.Tok.TheVariants as tok;
+ghost use Rattle.lay_layout.specs.Document.{bytes_of_mark, width_of_break};
+ghost use Rattle.lay_queue.specs.Closed.{toks_of, sizes_of};
+ghost use Rattle.lay_queue.specs.Scan.{at_end, text_length, size_of_scan, waiting as sum_waiting, cap};
+ghost use Rattle.lay_queue.specs.Notes.{Fits, scans};
+ghost use Rattle.lay_queue.specs.Entries.{least_width, notes_after, next_of};
+ghost use Rattle.lay_layout.specs.Machine.{IsNested};
+
+use crate::close::{CAP, Note, close};
+use lay_layout::{Break, Mark, Tok};
+use lay_ring::{Entry, Marks, Ring, Size};
+use lay_text::{NoMemory, Text};
+use std::alloc::Global;
+
+/// Tokens that wait, oldest first, and what is kept of those whose size isn't known.
+#[derive(Drop)]
+pub struct Queue {
+    pub ring: Ring,
+    pub notes: Marks<Note>,
+    /// The width from the newest note on, or the cap where that is less.
+    pub acc: u64,
+    /// How many groups are open after all tokens.
+    pub groups: u64,
+    /// How many bytes of text wait.
+    pub waiting: u64,
+    /// No more tokens come.
+    pub ended: bool,
+    ghost sizes: { sizes_of ring.entries ≡ map size_of_scan (map (at_end ended) (scans (toks_of ring.entries))) },
+    ghost fits: { Fits ring.first acc groups groups (map (at_end ended) (scans (toks_of ring.entries))) notes.items },
+    ghost acc_small: { acc ≤ cap },
+    ghost wait_is: { waiting ≡ sum_waiting ring.entries },
+    ghost number: { ring.first < 2 ^ 64 },
+    ghost held: { length ring.entries ≤ 2 ^ 63 },
+}
+
+#[inline(always)]
+fn mark_len(mark: Mark) -> u64
+    ensures value { result ≡ length (bytes_of_mark mark) }
+    ensures small { result ≤ 1 }
+{
+    match mark {
+        Mark::Absent => 0,
+        Mark::Comma | Mark::OpenBrace | Mark::CloseBrace => 1,
+    }
+}
+
+/// The width of a break that is no newline.
+#[inline(always)]
+pub fn width_of(brk: Break) -> u64
+    ensures value { result ≡ width_of_break brk }
+    ensures small { result ≤ 65536 }
+{
+    brk.blank as u64 + mark_len(brk.instead)
+}
+
+/// What a token's measure has at the least beside texts: the width of a break.
+#[inline(always)]
+pub fn least_width(tok: &Tok) -> u64
+    ensures { result ≡ least_width tok.now }
+{
+    match tok {
+        Tok::Break(brk) => width_of(*brk),
+        _ => 0,
+    }
+}
+
+fn text_len(tok: &Tok) -> u64
+    ensures { result ≡ text_length tok.now }
+{
+    match tok {
+        Tok::Text(text) => text.as_bytes().len() as u64,
+        _ => 0,
+    }
+}
+
+/// Takes the oldest note, where it is that of an entry with this size.
+fn drop_note(notes: &mut Marks<Note>, size: Size)
+    ensures items { notes.new.items ≡ notes_after size notes.old.items }
+    ensures spare { notes.old.spare ≤ notes.new.spare }
+{
+    if let Size::Unknown = size {
+        let _ = notes.pop_oldest();
+    }
+}
+
+impl Queue {
+    ghost use Rattle.lay_queue.specs.Queues.{Comes, Ready, Roomier, room_in};
+
+    /// Nothing waits.
+    pub fn new(alloc: Global) -> Result<Queue, NoMemory>
+        ensures entries { IfOk result (λ q. q.ring.entries ≡ []) }
+        ensures first { IfOk result (λ q. q.ring.first ≡ 0) }
+        ensures groups { IfOk result (λ q. q.groups ≡ 0) }
+        ensures ended { IfOk result (λ q. q.ended ≡ false) }
+    {
+        let ring = Ring::new(alloc, 0)?;
+        let notes = Marks::new(alloc, 0)?;
+        Ok(Queue {
+            ring,
+            notes,
+            acc: 0,
+            groups: 0,
+            waiting: 0,
+            ended: false,
+        })
+    }
+
+    /// How many tokens may come before memory is taken.
+    #[inline(always)]
+    pub fn room(&self) -> usize
+        ensures { result ≡ room_in self.now }
+    {
+        self.ring.spare().min(self.notes.spare())
+    }
+
+    /// Makes room for so many more tokens, of which each may have a note.
+    #[inline(always)]
+    pub fn reserve(&mut self, n: usize) -> Result<(), NoMemory>
+        ensures same { Roomier self.old self.new }
+        ensures ring { OnOk result (n ≤ self.new.ring.spare) }
+        ensures notes { OnOk result (n ≤ self.new.notes.spare) }
+        ensures sure { n ≤ room_in self.old → IsOk result }
+    {
+        self.ring.reserve(n)?;
+        self.notes.reserve(n)
+    }
+
+    /// A token comes for which there is room.
+    #[inline(always)]
+    pub fn scan(&mut self, tok: Tok)
+        requires ready { Ready self.old }
+        requires nested { IsNested self.old.groups (tok ∷ []) }
+        ensures { Comes self.old self.new tok }
+    {
+        match tok {
+            Tok::Text(text) => self.scan_text(text),
+            Tok::Break(brk) => self.scan_break(brk),
+            Tok::Begin { consistent, offset } => self.scan_begin(consistent, offset),
+            Tok::End => self.scan_end(),
+        }
+    }
+
+    /// A text has its size at once.
+    #[inline(always)]
+    fn scan_text(&mut self, text: Text)
+        requires { Ready self.old }
+        ensures { Comes self.old self.new (tok.Text text) }
+    {
+        let len = text.as_bytes().len() as u64;
+        let entry = Entry {
+            tok: Tok::Text(text),
+            size: Size::Known(len.min(CAP) as i64),
+        };
+        match self.ring.push(entry) {
+            Ok(_) => {
+                self.acc = self.acc.saturating_add(len).min(CAP);
+                self.waiting += len;
+            }
+            Err(_) => unreachable!(),
+        }
+    }
+
+    /// A break ends the measures of what was noted with no fewer groups open.
+    #[inline(always)]
+    fn scan_break(&mut self, brk: Break)
+        requires { Ready self.old }
+        ensures { Comes self.old self.new (tok.Break brk) }
+    {
+        let width = brk.blank as u64 + mark_len(brk.instead);
+        let delta = close(&mut self.ring, &mut self.notes, self.acc, self.groups);
+        let entry = Entry {
+            tok: Tok::Break(brk),
+            size: Size::Unknown,
+        };
+        match self.ring.push(entry) {
+            Ok(number) => {
+                let note = Note {
+                    number,
+                    level: self.groups,
+                    delta,
+                };
+                match self.notes.push(note) {
+                    Ok(()) => self.acc = width,
+                    Err(_) => unreachable!(),
+                }
+            }
+            Err(_) => unreachable!(),
+        }
+    }
+
+    /// A group begins.
+    #[inline(always)]
+    fn scan_begin(&mut self, consistent: bool, offset: i8)
+        requires { Ready self.old }
+        ensures { Comes self.old self.new (tok.Begin consistent offset) }
+    {
+        let entry = Entry {
+            tok: Tok::Begin { consistent, offset },
+            size: Size::Unknown,
+        };
+        match self.ring.push(entry) {
+            Ok(number) => {
+                let note = Note {
+                    number,
+                    level: self.groups,
+                    delta: self.acc,
+                };
+                match self.notes.push(note) {
+                    Ok(()) => {
+                        self.acc = 0;
+                        self.groups += 1;
+                    }
+                    Err(_) => unreachable!(),
+                }
+            }
+            Err(_) => unreachable!(),
+        }
+    }
+
+    /// The group that was begun last ends. Measures go on past it.
+    #[inline(always)]
+    fn scan_end(&mut self)
+        requires ready { Ready self.old }
+        requires groups { 0 < self.old.groups }
+        ensures { Comes self.old self.new tok.End }
+    {
+        let entry = Entry {
+            tok: Tok::End,
+            size: Size::Known(0),
+        };
+        match self.ring.push(entry) {
+            Ok(_) => self.groups -= 1,
+            Err(_) => unreachable!(),
+        }
+    }
+
+    /// No more tokens come: every measure ends.
+    pub fn end_all(&mut self)
+        requires ended { self.old.ended ≡ false }
+        requires groups { self.old.groups ≡ 0 }
+        ensures toks { toks_of self.new.ring.entries ≡ toks_of self.old.ring.entries }
+        ensures length { length self.new.ring.entries ≤ length self.old.ring.entries }
+        ensures groups { self.new.groups ≡ self.old.groups }
+        ensures ring_spare { self.old.ring.spare ≤ self.new.ring.spare }
+        ensures notes_spare { self.old.notes.spare ≤ self.new.notes.spare }
+        ensures ended { self.new.ended ≡ true }
+    {
+        self.acc = close(&mut self.ring, &mut self.notes, self.acc, 0);
+        self.ended = true;
+    }
+
+    /// A token that is printed at once, where none waits, takes a number alone.
+    #[inline(always)]
+    pub fn pass(&mut self)
+        requires { self.old.ring.entries ≡ [] }
+        ensures entries { self.new.ring.entries ≡ [] }
+        ensures groups { self.new.groups ≡ self.old.groups }
+        ensures ring_spare { self.new.ring.spare ≡ self.old.ring.spare }
+        ensures notes_spare { self.new.notes.spare ≡ self.old.notes.spare }
+        ensures number { next_of self.new.ring.first self.new.ring.entries ≡ (next_of self.old.ring.first self.old.ring.entries + 1) % 2 ^ 64 }
+        ensures ended { self.new.ended ≡ self.old.ended }
+    {
+        self.ring.pass();
+    }
+
+    /// Takes the oldest entry away.
+    #[inline(always)]
+    pub fn drop_front(&mut self)
+        ensures entries { self.new.ring.entries ≡ drop 1 self.old.ring.entries }
+        ensures groups { self.new.groups ≡ self.old.groups }
+        ensures ring_spare { self.old.ring.spare ≤ self.new.ring.spare }
+        ensures notes_spare { self.old.notes.spare ≤ self.new.notes.spare }
+        ensures number { next_of self.new.ring.first self.new.ring.entries ≡ next_of self.old.ring.first self.old.ring.entries }
+        ensures ended { self.new.ended ≡ self.old.ended }
+    {
+        if let Some(entry) = self.ring.pop_front() {
+            drop_note(&mut self.notes, entry.size);
+            self.waiting -= text_len(&entry.tok);
+        }
+    }
+
+    /// Nothing waits: tokens may come again.
+    pub fn restart(&mut self)
+        ensures ring { self.new.ring ≡ self.old.ring }
+        ensures notes { self.new.notes.spare ≡ self.old.notes.spare }
+        ensures groups { self.new.groups ≡ self.old.groups }
+        ensures ended { self.old.ring.entries ≡ [] → self.new.ended ≡ false }
+    {
+        if self.ring.len() == 0 {
+            self.ended = false;
+        }
+    }
+}
