@@ -1,4 +1,4 @@
-//! Trees of Rust files, and the definitions that say which tokens spell a tree and how it is laid out.
+//! The nodes of code, and the definitions that say which tokens spell a tree and how it is laid out.
 //!
 //! Expressions, items and files stand here, over the nodes of `lay_node`, whose names are handed on. The families are the
 //! same in the sources, in `specs/` and in `proofs/`.

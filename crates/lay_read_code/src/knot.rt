@@ -10,6 +10,7 @@ ghost use Rattle.lay_read_code.specs.Begun.{deeper, value_end};
 
 use crate::begun::read_begun;
 use crate::bodies::{Body, body_of, with_block, with_items, with_value};
+use lay_climb::Climber;
 use lay_code::{Attr, Block, Expr, Item, ItemKind, Place, Site, Vis};
 use lay_head_rules::level::kept_if;
 use lay_head_rules::vis::vis_ahead;
@@ -50,9 +51,8 @@ pub fn expr_ahead(
         alloc,
         depth: depth - 1,
         exprs: expr_ahead,
-        heads,
     };
-    rules.expr_by(at, place)
+    Climber { rules, heads }.expr_by(at, place)
 }
 
 /// A block behind an `else`, within a depth. It stands one level deeper than what is around it.

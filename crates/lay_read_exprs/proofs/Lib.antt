@@ -1,4 +1,2 @@
 pub mod Steps
 pub mod Digits
-pub mod Budgets
-mod Climbing

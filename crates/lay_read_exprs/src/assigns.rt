@@ -36,10 +36,7 @@ fn split(
     Ok((targets, value))
 }
 
-impl<P: Fn(Global, &mut Ahead<'_>, Place, u32) -> Result<Found<Expr>, ReadNone>, H> ExprRules<
-    P,
-    H,
-> {
+impl<P: Fn(Global, &mut Ahead<'_>, Place, u32) -> Result<Found<Expr>, ReadNone>> ExprRules<P> {
     /// An expression with assignments behind it.
     #[tactic(auto, unfolding(lay_code::specs::reader::Exprs::assign_expr))]
     #[inline(never)]

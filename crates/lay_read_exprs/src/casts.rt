@@ -27,10 +27,7 @@ impl Part<Ty, ()> for Types {
     ghost reads = { λ depth place ts. reader.one_type (code_within depth) ts };
 }
 
-impl<P: Fn(Global, &mut Ahead<'_>, Place, u32) -> Result<Found<Expr>, ReadNone>, H> ExprRules<
-    P,
-    H,
-> {
+impl<P: Fn(Global, &mut Ahead<'_>, Place, u32) -> Result<Found<Expr>, ReadNone>> ExprRules<P> {
     /// Types, as long as an `as` stands at the front.
     #[tactic(auto, using(lay_read_blocks::proofs::Left::type_leaves))]
     #[inline(never)]
@@ -39,7 +36,7 @@ impl<P: Fn(Global, &mut Ahead<'_>, Place, u32) -> Result<Found<Expr>, ReadNone>,
         ensures read { IsHeld AreFound (repeat (first (is_keyword (codes "as"))) (reader.one_type (code_within self.now.depth)) at.old) result at.new }
         ensures within { IfOk result (λ found. found.need ≤ self.now.depth) }
     {
-        read_parts::<Types, ExprRules<P, H>, Ty, (), _>(
+        read_parts::<Types, ExprRules<P>, Ty, (), _>(
             self.alloc,
             at,
             self.depth,

@@ -49,10 +49,7 @@ fn repeat_by(
     })
 }
 
-impl<P: Fn(Global, &mut Ahead<'_>, Place, u32) -> Result<Found<Expr>, ReadNone>, H> ExprRules<
-    P,
-    H,
-> {
+impl<P: Fn(Global, &mut Ahead<'_>, Place, u32) -> Result<Found<Expr>, ReadNone>> ExprRules<P> {
     /// Expressions with commas, and the closing delimiter behind them.
     #[tactic(auto, using(lay_read_blocks::proofs::Left::exprs_leave))]
     #[inline(never)]
@@ -65,7 +62,7 @@ impl<P: Fn(Global, &mut Ahead<'_>, Place, u32) -> Result<Found<Expr>, ReadNone>,
         ensures read { IsFound (reader.free_elements (code_within self.now.depth) (closes delim) at.old) result at.new }
         ensures within { IfOk result (λ found. found.need ≤ self.now.depth) }
     {
-        read_elements::<Elements, ExprRules<P, H>, Expr, Place, _>(
+        read_elements::<Elements, ExprRules<P>, Expr, Place, _>(
             self.alloc,
             at,
             self.depth,

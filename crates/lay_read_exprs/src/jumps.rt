@@ -27,10 +27,7 @@ pub fn continue_expr(alloc: Global, at: &mut Ahead<'_>) -> Result<Found<Expr>, R
     })
 }
 
-impl<P: Fn(Global, &mut Ahead<'_>, Place, u32) -> Result<Found<Expr>, ReadNone>, H> ExprRules<
-    P,
-    H,
-> {
+impl<P: Fn(Global, &mut Ahead<'_>, Place, u32) -> Result<Found<Expr>, ReadNone>> ExprRules<P> {
     /// An operand at a level, if one begins.
     #[inline(never)]
     pub fn operand_if(

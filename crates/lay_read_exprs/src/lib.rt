@@ -1,14 +1,11 @@
-//! From nested tokens to expressions: each rule by itself, over a function that reads expressions one level deeper,
-//! and what reads those that hold blocks.
+//! From nested tokens to expressions: each rule by itself, over a function that reads expressions one level deeper.
 //!
 //! Each rule is proved equal to a function of the tokens ahead that `lay_code` defines, and that function reads what is
 //! spelled and nothing else.
 #![tactic(auto)]
 
 mod assigns;
-mod block_heads;
 mod casts;
-mod climb;
 mod groups;
 mod heads;
 mod jumps;
@@ -21,5 +18,4 @@ mod ranges;
 mod rules;
 mod structs;
 
-pub use block_heads::BlockHeads;
 pub use rules::ExprRules;

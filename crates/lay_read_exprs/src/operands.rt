@@ -46,10 +46,7 @@ fn operand_ends(at: &Ahead<'_>, operand: &Expr, level: u8, no_struct: bool) -> b
     }
 }
 
-impl<P: Fn(Global, &mut Ahead<'_>, Place, u32) -> Result<Found<Expr>, ReadNone>, H> ExprRules<
-    P,
-    H,
-> {
+impl<P: Fn(Global, &mut Ahead<'_>, Place, u32) -> Result<Found<Expr>, ReadNone>> ExprRules<P> {
     /// Operators of a level and their operands, as long as one begins.
     #[tactic(auto, unfolding(lay_code::specs::reader::Exprs::operands), using(lay_read_blocks::proofs::Left::operand_leaves))]
     #[inline(never)]
@@ -64,7 +61,7 @@ impl<P: Fn(Global, &mut Ahead<'_>, Place, u32) -> Result<Found<Expr>, ReadNone>,
         ensures read { IsHeld AreFound (reader.operands (code_within self.now.depth) level no_struct at.old) result at.new }
         ensures within { IfOk result (λ found. found.need ≤ self.now.depth) }
     {
-        read_parts::<Operands, ExprRules<P, H>, (Op, Expr), (u8, bool), _>(
+        read_parts::<Operands, ExprRules<P>, (Op, Expr), (u8, bool), _>(
             self.alloc,
             at,
             self.depth,

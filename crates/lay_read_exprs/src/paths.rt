@@ -43,10 +43,7 @@ fn plain_path(at: &Ahead<'_>, path: Found<Path>) -> Result<Found<Expr>, ReadNone
     })
 }
 
-impl<P: Fn(Global, &mut Ahead<'_>, Place, u32) -> Result<Found<Expr>, ReadNone>, H> ExprRules<
-    P,
-    H,
-> {
+impl<P: Fn(Global, &mut Ahead<'_>, Place, u32) -> Result<Found<Expr>, ReadNone>> ExprRules<P> {
     /// A macro call, or what begins with a path.
     #[inline(never)]
     pub fn path_or_call(&self, at: &mut Ahead<'_>, no_struct: bool) -> Result<Found<Expr>, ReadNone>

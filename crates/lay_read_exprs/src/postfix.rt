@@ -52,10 +52,7 @@ fn read_late_args(
     }
 }
 
-impl<P: Fn(Global, &mut Ahead<'_>, Place, u32) -> Result<Found<Expr>, ReadNone>, H> ExprRules<
-    P,
-    H,
-> {
+impl<P: Fn(Global, &mut Ahead<'_>, Place, u32) -> Result<Found<Expr>, ReadNone>> ExprRules<P> {
     /// An expression with postfix steps behind it. A tuple index doesn't stand directly behind a number without suffix.
     #[tactic(auto, unfolding(lay_code::specs::reader::Exprs::postfix_expr))]
     #[inline(never)]
@@ -89,7 +86,7 @@ impl<P: Fn(Global, &mut Ahead<'_>, Place, u32) -> Result<Found<Expr>, ReadNone>,
         ensures read { IsHeld AreFound (steps (code_within self.now.depth) at.old) result at.new }
         ensures within { IfOk result (λ found. found.need ≤ self.now.depth) }
     {
-        read_parts::<Steps, ExprRules<P, H>, Step, (), _>(
+        read_parts::<Steps, ExprRules<P>, Step, (), _>(
             self.alloc,
             at,
             self.depth,

@@ -13,10 +13,7 @@ use lay_read_tokens::front::{pass, pass_two};
 use lay_read_tokens::{Ahead, Found, ReadNone};
 use std::alloc::Global;
 
-impl<P: Fn(Global, &mut Ahead<'_>, Place, u32) -> Result<Found<Expr>, ReadNone>, H> ExprRules<
-    P,
-    H,
-> {
+impl<P: Fn(Global, &mut Ahead<'_>, Place, u32) -> Result<Found<Expr>, ReadNone>> ExprRules<P> {
     /// A range, from its `..` or `..=` on.
     #[tactic(auto, unfolding(lay_code::specs::reader::Exprs::range_expr))]
     #[inline(never)]

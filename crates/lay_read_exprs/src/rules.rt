@@ -11,19 +11,14 @@ use std::alloc::Global;
 
 /// The rules of a level, over the reader of expressions one level deeper, at a place.
 #[derive(Drop)]
-pub struct ExprRules<P, H> {
+pub struct ExprRules<P> {
     pub alloc: Global,
     /// At this depth what is one level deeper is read.
     pub depth: u32,
     pub exprs: P,
-    /// What reads expressions that begin with blocks, and closures.
-    pub heads: H,
 }
 
-impl<P: Fn(Global, &mut Ahead<'_>, Place, u32) -> Result<Found<Expr>, ReadNone>, H> ExprRules<
-    P,
-    H,
-> {
+impl<P: Fn(Global, &mut Ahead<'_>, Place, u32) -> Result<Found<Expr>, ReadNone>> ExprRules<P> {
     /// An expression one level deeper.
     #[inline(never)]
     pub fn inner(&self, at: &mut Ahead<'_>, place: Place) -> Result<Found<Expr>, ReadNone>

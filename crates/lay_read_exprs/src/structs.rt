@@ -26,10 +26,7 @@ impl Part<FieldExpr, ()> for Fields {
     ghost reads = { λ depth place ts. reader.one_field (code_within depth) ts };
 }
 
-impl<P: Fn(Global, &mut Ahead<'_>, Place, u32) -> Result<Found<Expr>, ReadNone>, H> ExprRules<
-    P,
-    H,
-> {
+impl<P: Fn(Global, &mut Ahead<'_>, Place, u32) -> Result<Found<Expr>, ReadNone>> ExprRules<P> {
     /// Fields in braces, behind a path and the `{`.
     #[tactic(auto, unfolding(lay_code::specs::reader::Exprs::struct_expr), using(lay_read_blocks::proofs::Left::field_leaves))]
     #[inline(never)]
@@ -45,7 +42,7 @@ impl<P: Fn(Global, &mut Ahead<'_>, Place, u32) -> Result<Found<Expr>, ReadNone>,
     {
         let (path, found) = both(
             path,
-            read_open_elements::<Fields, ExprRules<P, H>, FieldExpr, (), _>(
+            read_open_elements::<Fields, ExprRules<P>, FieldExpr, (), _>(
                 self.alloc,
                 at,
                 self.depth,

@@ -6,14 +6,14 @@ use Rattle.lay_code.specs.declared.exprs.Expr.{Expr}
 use Rattle.lay_read_tokens.proofs.Steps.{lost}
 use Rattle.lay_read_types.proofs.Steps.{found_by}
 use Rattle.lay_read_blocks.specs.Answers.{code_within, fits}
-use Rattle.lay_read_exprs.specs.Answers.{climbed}
-use Rattle.lay_read_exprs.proofs.Climbing.{ended_head, going_head, lost_head}
-use Rattle.lay_read_exprs.proofs.rules.ExprRules.expr_by.Goals as goal
+use Rattle.lay_climb.specs.Answers.{climbed}
+use Rattle.lay_climb.proofs.Climbing.{ended_head, going_head, lost_head}
+use Rattle.lay_climb.proofs.climb.Climber.expr_by.Goals as goal
 
 pub returns-in_err-head-clause-read : goal.returns-in_err-head-clause-read
 returns-in_err-head-clause-read g c =
-    let deeper = code_within c.args.self.now.depth in
-    let budget = c.args.self.now.depth + 1 in
+    let deeper = code_within c.args.self.now.rules.depth in
+    let budget = c.args.self.now.rules.depth + 1 in
     let place = c.args.place in
     let ts = c.args.at.now in
     let p = err_from_is_err_and c.from_residual.result c.from_residual.ensures.1 in
@@ -22,8 +22,8 @@ returns-in_err-head-clause-read g c =
 
 pub returns-then-is_ended-clause-read : goal.returns-then-is_ended-clause-read
 returns-then-is_ended-clause-read g c =
-    let deeper = code_within c.args.self.now.depth in
-    let budget = c.args.self.now.depth + 1 in
+    let deeper = code_within c.args.self.now.rules.depth in
+    let budget = c.args.self.now.rules.depth + 1 in
     let place = c.args.place in
     let ts = c.args.at.now in
     let mid = c.head.new.at in
@@ -34,8 +34,8 @@ returns-then-is_ended-clause-read g c =
 
 pub returns-else-is_ended-clause-read : goal.returns-else-is_ended-clause-read
 returns-else-is_ended-clause-read g c =
-    let deeper = code_within c.args.self.now.depth in
-    let budget = c.args.self.now.depth + 1 in
+    let deeper = code_within c.args.self.now.rules.depth in
+    let budget = c.args.self.now.rules.depth + 1 in
     let place = c.args.place in
     let ts = c.args.at.now in
     let mid = c.head.new.at in

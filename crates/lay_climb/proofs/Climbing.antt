@@ -15,7 +15,7 @@ use Rattle.lay_code.specs.reader.Within.{ExprWithin}
 use Rattle.lay_code.specs.declared.exprs.Expr.{Expr}
 use Rattle.lay_code.specs.declared.exprs.Place.{Place}
 use Rattle.lay_read_blocks.specs.Answers.{fits}
-use Rattle.lay_read_exprs.specs.Answers.{climb_once, climbed}
+use Rattle.lay_climb.specs.Answers.{climb_once, climbed}
 
 -- ---- needs
 

@@ -7,18 +7,27 @@ ghost use Rattle.lay_code.specs.nodes.Places as places;
 ghost use Rattle.lay_code.specs.reader.Exprs as reader;
 ghost use Rattle.lay_read_tokens.specs.Answers.{IsFound};
 ghost use Rattle.lay_read_blocks.specs.Answers.{code_within};
-ghost use Rattle.lay_read_exprs.specs.Answers.{AreExprs, climb_once, climbed};
+ghost use Rattle.lay_read_exprs.specs.Answers.{AreExprs};
+ghost use Rattle.lay_climb.specs.Answers.{climb_once, climbed};
 
 use crate::block_heads::BlockHeads;
-use crate::rules::ExprRules;
 use lay_code::{Expr, Place, Start};
 use lay_ops::ahead::{is_angle, is_dot_or_try, strength};
 use lay_ops::{is_block_like, stands};
 use lay_read_blocks::places::before_op;
+use lay_read_exprs::ExprRules;
 use lay_read_parts::joins::refused;
 use lay_read_tokens::stop::boxed;
 use lay_read_tokens::{Ahead, Found, ReadNone};
 use std::alloc::Global;
+
+/// The rules of expressions of a level, with what reads those that begin with a block.
+#[derive(Drop)]
+pub struct Climber<P, H> {
+    pub rules: ExprRules<P>,
+    /// What reads expressions that begin with blocks, and closures.
+    pub heads: H,
+}
 
 /// Whether an expression begins a statement or the body of an arm.
 fn begins(start: Start) -> bool
@@ -88,20 +97,20 @@ fn goes_on(at: &Ahead<'_>, place: Place, reached: u8) -> bool
 impl<
     P: Fn(Global, &mut Ahead<'_>, Place, u32) -> Result<Found<Expr>, ReadNone>,
     H: BlockHeads,
-> ExprRules<P, H> {
+> Climber<P, H> {
     /// An expression at a place, with what is within it one level deeper.
     #[tactic(auto, unfolding(lay_code::specs::reader::Exprs::expr_by))]
     #[inline(never)]
     pub fn expr_by(&self, at: &mut Ahead<'_>, place: Place) -> Result<Found<Expr>, ReadNone>
-        requires deeper { AreExprs self.now.depth (P.pre self.now.exprs) (P.post self.now.exprs) }
+        requires deeper { AreExprs self.now.rules.depth (P.pre self.now.rules.exprs) (P.post self.now.rules.exprs) }
         requires heads { H.are_ready self.now.heads }
-        requires same { H.depth self.now.heads ≡ self.now.depth }
-        ensures read { IsFound (reader.expr_by (code_within self.now.depth) (self.now.depth + 1) place at.old) result at.new }
-        ensures within { IfOk result (λ found. found.need ≤ self.now.depth + 1) }
+        requires same { H.depth self.now.heads ≡ self.now.rules.depth }
+        ensures read { IsFound (reader.expr_by (code_within self.now.rules.depth) (self.now.rules.depth + 1) place at.old) result at.new }
+        ensures within { IfOk result (λ found. found.need ≤ self.now.rules.depth + 1) }
     {
         let head = self.head(at, place.no_struct)?;
         if is_ended(at, place, &head.node) {
-            accepted(at, place, head, self.depth + 1)
+            accepted(at, place, head, self.rules.depth + 1)
         } else {
             self.climb(at, place, head)
         }
@@ -115,10 +124,10 @@ impl<
         place: Place,
         head: Found<Expr>,
     ) -> Result<Found<Expr>, ReadNone>
-        requires deeper { AreExprs self.now.depth (P.pre self.now.exprs) (P.post self.now.exprs) }
-        requires within { head.need ≤ self.now.depth + 1 }
-        ensures read { IsFound (climbed (code_within self.now.depth) (self.now.depth + 1) place 14 (head.node, head.need) at.old) result at.new }
-        ensures within { IfOk result (λ found. found.need ≤ self.now.depth + 1) }
+        requires deeper { AreExprs self.now.rules.depth (P.pre self.now.rules.exprs) (P.post self.now.rules.exprs) }
+        requires within { head.need ≤ self.now.rules.depth + 1 }
+        ensures read { IsFound (climbed (code_within self.now.rules.depth) (self.now.rules.depth + 1) place 14 (head.node, head.need) at.old) result at.new }
+        ensures within { IfOk result (λ found. found.need ≤ self.now.rules.depth + 1) }
     {
         let mut lhs = head;
         let mut reached = 14;
@@ -126,7 +135,7 @@ impl<
             reached = strength(at) - 1;
             lhs = self.climb_once(at, place, reached, lhs)?;
         }
-        accepted(at, place, lhs, self.depth + 1)
+        accepted(at, place, lhs, self.rules.depth + 1)
     }
 
     /// What the operator of the level at the front makes of the expression before it, if that may stand there, and what
@@ -139,12 +148,12 @@ impl<
         level: u8,
         lhs: Found<Expr>,
     ) -> Result<Found<Expr>, ReadNone>
-        requires deeper { AreExprs self.now.depth (P.pre self.now.exprs) (P.post self.now.exprs) }
+        requires deeper { AreExprs self.now.rules.depth (P.pre self.now.rules.exprs) (P.post self.now.rules.exprs) }
         requires level { level < 14 }
-        ensures read { IsFound (climb_once (code_within self.now.depth) (self.now.depth + 1) place level (lhs.node, lhs.need) at.old) result at.new }
-        ensures within { IfOk result (λ found. found.need ≤ self.now.depth + 1) }
+        ensures read { IsFound (climb_once (code_within self.now.rules.depth) (self.now.rules.depth + 1) place level (lhs.node, lhs.need) at.old) result at.new }
+        ensures within { IfOk result (λ found. found.need ≤ self.now.rules.depth + 1) }
     {
-        if lhs.need > self.depth || !stands(&lhs.node, left_place(at, place, level)) {
+        if lhs.need > self.rules.depth || !stands(&lhs.node, left_place(at, place, level)) {
             return refused(lhs);
         }
         self.stage(at, level, place.no_struct, lhs)
@@ -159,18 +168,18 @@ impl<
         no_struct: bool,
         lhs: Found<Expr>,
     ) -> Result<Found<Expr>, ReadNone>
-        requires deeper { AreExprs self.now.depth (P.pre self.now.exprs) (P.post self.now.exprs) }
+        requires deeper { AreExprs self.now.rules.depth (P.pre self.now.rules.exprs) (P.post self.now.rules.exprs) }
         requires level { level < 14 }
-        requires within { lhs.need ≤ self.now.depth }
-        ensures read { IsFound (reader.stage (code_within self.now.depth) level no_struct (lhs.node, lhs.need) at.old) result at.new }
-        ensures within { IfOk result (λ found. found.need ≤ self.now.depth + 1) }
+        requires within { lhs.need ≤ self.now.rules.depth }
+        ensures read { IsFound (reader.stage (code_within self.now.rules.depth) level no_struct (lhs.node, lhs.need) at.old) result at.new }
+        ensures within { IfOk result (λ found. found.need ≤ self.now.rules.depth + 1) }
     {
         match level {
-            0 => self.assign_expr(at, no_struct, lhs),
+            0 => self.rules.assign_expr(at, no_struct, lhs),
             1 => self.range_from(at, no_struct, lhs),
-            11 => self.cast_expr(at, lhs),
-            13 => self.postfix_expr(at, lhs),
-            _ => self.chain_expr(at, level, no_struct, lhs),
+            11 => self.rules.cast_expr(at, lhs),
+            13 => self.rules.postfix_expr(at, lhs),
+            _ => self.rules.chain_expr(at, level, no_struct, lhs),
         }
     }
 
@@ -182,17 +191,17 @@ impl<
         no_struct: bool,
         start: Found<Expr>,
     ) -> Result<Found<Expr>, ReadNone>
-        requires deeper { AreExprs self.now.depth (P.pre self.now.exprs) (P.post self.now.exprs) }
-        requires within { start.need ≤ self.now.depth }
-        ensures read { IsFound (reader.range_expr (code_within self.now.depth) no_struct (Some start.node) start.need at.old) result at.new }
-        ensures within { IfOk result (λ found. found.need ≤ self.now.depth + 1) }
+        requires deeper { AreExprs self.now.rules.depth (P.pre self.now.rules.exprs) (P.post self.now.rules.exprs) }
+        requires within { start.need ≤ self.now.rules.depth }
+        ensures read { IsFound (reader.range_expr (code_within self.now.rules.depth) no_struct (Some start.node) start.need at.old) result at.new }
+        ensures within { IfOk result (λ found. found.need ≤ self.now.rules.depth + 1) }
     {
         let need = start.need;
-        let node = boxed(self.alloc, start.node)?;
+        let node = boxed(self.rules.alloc, start.node)?;
         let start = Found {
             node: Some(node),
             need,
         };
-        self.range_expr(at, no_struct, start)
+        self.rules.range_expr(at, no_struct, start)
     }
 }
