@@ -12,7 +12,7 @@ use Rattle.lay_code.specs.declared.file.File.{File}
 use Rattle.lay_reparse.proofs.file.OneAnswer.{one_refusal, never_both}
 use Rattle.lay_front.proofs.OutcomeLemmas.{wrote, told_as, complete_refused}
 use Rattle.lay_sample.specs.Sample.{sample_text}
-use Rattle.lay_front.specs.Inputs.{InputAs, IsPlaced, given_to, input_of}
+use Rattle.lay_front.specs.Inputs.{InputAs, IsPlaced, input_of}
 use Rattle.lay_front.specs.Messages.{Says, line_of_end, message, refusal_line}
 use Rattle.lay_front.specs.Outcome.{CheckRun, FormatRun, LineRun, SampleRun, WasRead, Wrote, WrotePart, IsItsText, IsNotItsText}
 use Rattle.lay_front.specs.Stops.{status_of}
@@ -267,18 +267,3 @@ done_says (Err (stop.Refused refusal place)) before now h e = let never : ⊥ = 
 done_says (Err stop.WriteFailed) before now h e = let never : ⊥ = cc in absurd never
 done_says (Err stop.Differs) before now h e = let never : ⊥ = cc in absurd never
 done_says (Err stop.NoMemory) before now h e = let never : ⊥ = cc in absurd never
-
--- ---- a run of a line that is named in another way
-
-module _ (name other : Line) (same : other ≡ name) where
-  pub named_run : {K I : Type 0} (written : K → Option (List ℕ)) (writes : K → ℕ) (left : I → Which → Option (List ℕ)) (reads : I → ℕ)
-      (i j : I) (k l : K) (status : Status) → LineRun written writes left reads other i j k l status
-      → LineRun written writes left reads name i j k l status
-  named_run written writes left reads i j k l status h = subst (λ (n : Line). LineRun written writes left reads n i j k l status) same h
-
-  pub named_place : (left : Which → Option (List ℕ)) (ended : Result (Unit {0}) Stop) → IsPlaced (given_to other left) ended
-      → IsPlaced (given_to name left) ended
-  named_place left ended h = subst (λ (n : Line). IsPlaced (given_to n left) ended) same h
-
-  pub named_choice : (chosen : Option Which) → chosen ≡ input_of other → chosen ≡ input_of name
-  named_choice chosen h = h ∙ ap input_of same
