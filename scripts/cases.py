@@ -13,8 +13,8 @@ Each line of a file is a case, a JSON object:
   err     standard error, where it is compared
   note    what the case is for
 
-The answers were made by a program that was written apart from this one. The last line is `N passed, M failed`; the exit
-status is 0 where none failed."""
+The answers were made by a program that was written apart from this one, and those of by_hand.jsonl by hand from the rules.
+The last line is `N passed, M failed`; the exit status is 0 where none failed."""
 import base64
 import concurrent.futures
 import json

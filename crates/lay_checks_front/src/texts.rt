@@ -1,9 +1,9 @@
-//! Texts of trees.
+//! Texts of files, from their bytes and from their trees.
 
 use lay_files::read_bytes;
-use lay_front::unparse;
+use lay_front::{format, unparse};
 use lay_laws::is_written;
-use lay_token::{List, NoMemory, Text};
+use lay_token::{FormatError, List, NoMemory, Refusal, Text};
 use lay_tree::{File, ItemKind};
 use std::alloc::Global;
 use std::test::Fail;
@@ -29,6 +29,24 @@ const LAID: &str = "#![allow(non_camel_case_types)]\n\
     impl Default for point_t {\n    fn default() -> Self {\n        unsafe { ::std::mem::zeroed() }\n    }\n}\n\
     #[test]\n\
     fn layout() {\n    assert_eq!(::std::mem::size_of::<point_t>(), 68usize, \"size of point_t\");\n}\n";
+
+// The text of a file is given whole, or the refusal of its bytes.
+#[test]
+fn texts_of_bytes(rt: HostRuntime) -> Result<(), Fail> {
+    let alloc = rt.alloc();
+    for given in [GENERATED, LAID] {
+        let text = format(alloc, given.as_bytes())?;
+        assert_eq!(rt; text.as_bytes(), LAID.as_bytes());
+    }
+    let refused = format(alloc, b"struct A;fn f(){let x=1}");
+    assert!(rt;
+        matches!(
+            refused,
+            Err(FormatError::Refused(Refusal::NoItem { at: 9 }))
+        )
+    );
+    Ok(())
+}
 
 /// The text of a file, or none where the file can't be written.
 fn text(alloc: Global, file: &File) -> Result<Option<Text>, NoMemory> {

@@ -1,13 +1,12 @@
 -- Tokens that are printed as ones that don't fit, whatever follows them.
-use Rattle.std.proofs.Common.{◌≡◌, ℕ, ◌+◌, ◌<◌, Bool, true, List, [], ◌∷◌, length, refl, sym, ap, ◌∙◌, subst, arith, lt-ltb}
+use Rattle.std.proofs.Common.{◌≡◌, ℕ, ◌+◌, ◌<◌, Bool, true, List, [], ◌∷◌, length, refl, ap, subst, arith, lt-ltb}
 use Rattle.lay_layout.specs.declared.layout.Break.{Break}
 use Rattle.lay_layout.specs.declared.layout.Frame.{Frame}
-use Rattle.lay_layout.specs.declared.layout.Tok.{Tok}
 use Rattle.lay_layout.specs.declared.layout.Tok.TheVariants as tok
 use Rattle.lay_layout.specs.Document.{State, break_in, over, width_of_break}
-use Rattle.lay_layout.specs.Machine.{Layout, act, measure, reach, top}
+use Rattle.lay_layout.specs.Machine.{act, measure, reach, top}
 use Rattle.lay_printer.specs.declared.line.Line.{Line}
-use Rattle.lay_printer.specs.Queued.{At, IsClear}
+use Rattle.lay_printer.specs.Queued.{IsClear}
 
 pub clear_text : (p : Line) (fs : List Frame) (t : List ℕ) → IsClear p fs (tok.Text t)
 clear_text p fs t m a r = refl

@@ -1,8 +1,6 @@
 //! Sizes that are written back at a break.
-ghost use Rattle.std.specs.Prelude.{◌≡◌, ℕ, ◌+◌, ◌-◌, ◌*◌, ◌^◌, ◌<◌, ◌≤◌, [], ◌∷◌, ◌++◌, length, map, MatchOption};
-ghost use Rattle.lay_queue.specs.Scan.{size_of_scan};
-ghost use Rattle.lay_queue.specs.Notes.{scans, Fits};
-ghost use Rattle.lay_queue.specs.Closed.{Left, Closed, toks_of, sizes_of, NoteKept};
+ghost use Rattle.std.specs.Prelude.{◌≡◌, ◌+◌, ◌-◌, ◌^◌, ◌<◌, ◌≤◌, [], ◌∷◌, ◌++◌, length, MatchOption};
+ghost use Rattle.lay_queue.specs.Closed.{Left, Closed, toks_of, NoteKept};
 
 use lay_ring::{Marks, Ring, Size};
 

@@ -33,7 +33,7 @@ impl<T> List<T> {
     }
 
     /// Adds an item at the end. `Err` hands the item back for want of memory. The first item takes room for itself alone, since
-    /// most lists of a tree have one.
+    /// a tree has many lists of one item.
     pub fn push(&mut self, item: T) -> Result<(), T>
         ensures ok { OnOk result (self.new ≡ self.old ++ item ∷ []) }
         ensures err { OnErr result (self.new ≡ self.old) }

@@ -33,7 +33,7 @@ pub enum Refusal {
     /// This delimiter has no partner.
     #[error("unbalanced delimiter")]
     Unbalanced { at: usize },
-    /// From this token on nothing spells an item.
+    /// The longest run of inner attributes and then items ends before this token.
     #[error("no item")]
     NoItem { at: usize },
 }
