@@ -18,5 +18,6 @@ mv examples/lay_example crates/
 mv crates/lay_example/src/main.rs crates/lay_example/src/main.rt
 echo "lay_example: lay_text lay_io lay_tree lay_laws lay_front" >>crates.txt
 cd crates/lay_example
-rt run >&2
+# Run without words it ends with 2, so what counts is that it was built.
+rt run >&2 || [ -x out/lay_example ]
 exec out/lay_example "$@"
