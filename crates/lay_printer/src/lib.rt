@@ -6,10 +6,8 @@
 //! of the group. So a token can't be printed before enough of what follows has been seen, but the text that
 //! waits never needs to be longer than a line.
 //!
-//! Two sides work on a ring of entries, each a token with its size. The scanning side ([`queue`]) takes the
-//! tokens that are fed. A text has its size at once. A begin and a break enter with an unknown size, and a note
-//! of each is kept. A break ends the measures of what was noted with no fewer groups open than now, so it
-//! writes their sizes back ([`close`]) before it enters itself. The printing side ([`page`]) puts tokens on the
+//! Two sides work on a ring of entries, each a token with its size. The scanning side, which is `lay_queue`, takes the
+//! tokens that are fed, and writes their sizes back when their measures end. The printing side ([`page`]) puts tokens on the
 //! line that is being written ([`line`]) and keeps the frames of the groups that are open there ([`frames`]).
 //!
 //! The two meet at the front of the ring ([`engine`]). After each token that is fed, entries are printed while

@@ -1,4 +1,4 @@
--- The notes that the printer keeps of the entries whose size isn't known, oldest first.
+-- The notes that are kept of the entries whose size isn't known, oldest first.
 use Rattle.std.specs.Prelude.{◌≡◌, ℕ, zero, ◌+◌, ◌-◌, ◌%◌, ◌^◌, min, List, [], ◌∷◌}
 use Rattle.lay_layout.specs.declared.layout.Tok.{Tok}
 use Rattle.lay_queue.specs.declared.close.Note.{Note}
