@@ -15,42 +15,54 @@ use Rattle.lay_code.specs.declared.file.File.{File}
 abbrev pub top : ℕ
 top = 256
 
--- The tokens spell the inner attributes and the items of a file that can be written, and nothing else.
-abbrev pub SpellsFile : File → List Token → Type 0
-SpellsFile file tokens = Written file × Spells (form_of_file file) top tokens []
+-- ---- at a depth
+
+-- At this depth the tokens spell the inner attributes and the items of a file that can be written, and nothing else.
+abbrev pub SpellsFile : ℕ → File → List Token → Type 0
+SpellsFile depth file tokens = Written file × Spells (form_of_file file) depth tokens []
 
 -- The first tokens, so many, spell the inner attributes and the items of a file that can be written. What stands behind
 -- them doesn't matter: an attribute and an item end in a `;`, in a delimiter, or with a comment.
-abbrev pub SpellsFront : ℕ → List Token → Type 0
-SpellsFront count tokens =
-    (count ≤ length tokens) × ((file : File) × Written file × Spells (form_of_file file) top tokens (drop count tokens))
+abbrev pub SpellsFront : ℕ → ℕ → List Token → Type 0
+SpellsFront depth count tokens =
+    (count ≤ length tokens) × ((file : File) × Written file × Spells (form_of_file file) depth tokens (drop count tokens))
 
 -- The tokens spell no file; the longest run of inner attributes and then items ends before the token at this place.
-pub record NoItemAt (tokens : List Token) (at : ℕ) : Type 0 where
+pub record NoItemAt (depth : ℕ) (tokens : List Token) (at : ℕ) : Type 0 where
   pub count : ℕ
   pub token : Token
   pub rest : List Token
   pub behind : drop count tokens ≡ token ∷ rest
   pub place : at ≡ token.at
-  pub front : SpellsFront count tokens
-  pub longest : (more : ℕ) → count < more → SpellsFront more tokens → ⊥
+  pub front : SpellsFront depth count tokens
+  pub longest : (more : ℕ) → count < more → SpellsFront depth more tokens → ⊥
 
 -- The bytes are a text that lexes to balanced tokens which spell the file, behind the file's shebang.
-pub record Reads (bytes : List ℕ) (file : File) : Type 0 where
+pub record ReadsAt (depth : ℕ) (bytes : List ℕ) (file : File) : Type 0 where
   pub from : Source
   pub tokens : List Token
   pub text : source bytes ≡ Ok from
   pub shebang : from.shebang ≡ file.shebang
   pub lexes : Lexes from.text from.start tokens
   pub balanced : Balanced tokens
-  pub spells : SpellsFile file tokens
+  pub spells : SpellsFile depth file tokens
 
 -- Why the bytes are refused: they are no UTF-8; or at a place there is no token; or the delimiters are unbalanced at a
 -- place; or the longest run of inner attributes and items ends at a place before the end.
-abbrev pub IsRefused : List ℕ → Refusal → Type 0
-IsRefused bytes (NotUtf8 at) = source bytes ≡ Err (NotUtf8 at)
-IsRefused bytes (NoToken at) = (from : Source) × (source bytes ≡ Ok from) × NoTokenAt from.text from.start at
-IsRefused bytes (Unbalanced at) = (from : Source) × (tokens : List Token)
+abbrev pub IsRefusedAt : ℕ → List ℕ → Refusal → Type 0
+IsRefusedAt depth bytes (NotUtf8 at) = source bytes ≡ Err (NotUtf8 at)
+IsRefusedAt depth bytes (NoToken at) = (from : Source) × (source bytes ≡ Ok from) × NoTokenAt from.text from.start at
+IsRefusedAt depth bytes (Unbalanced at) = (from : Source) × (tokens : List Token)
     × (source bytes ≡ Ok from) × Lexes from.text from.start tokens × UnbalancedAt tokens at
-IsRefused bytes (NoItem at) = (from : Source) × (tokens : List Token)
-    × (source bytes ≡ Ok from) × Lexes from.text from.start tokens × Balanced tokens × NoItemAt tokens at
+IsRefusedAt depth bytes (NoItem at) = (from : Source) × (tokens : List Token)
+    × (source bytes ≡ Ok from) × Lexes from.text from.start tokens × Balanced tokens × NoItemAt depth tokens at
+
+-- ---- at the depth of files
+
+-- The bytes read to the file.
+abbrev pub Reads : List ℕ → File → Type 0
+Reads bytes file = ReadsAt top bytes file
+
+-- The bytes are refused.
+abbrev pub IsRefused : List ℕ → Refusal → Type 0
+IsRefused bytes refusal = IsRefusedAt top bytes refusal

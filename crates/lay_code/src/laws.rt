@@ -25,6 +25,6 @@ pub fn node_law()
         → ExprFront place (about_expr node) ts n depth → ExprFront place (about_expr other) ts m depth → (node ≡ other) × (n ≡ m) }
     ensures one_item { (node other : Item) (site : Site) (ts : List Token) (n m depth : ℕ)
         → Front (about_item site node) ts n depth → Front (about_item site other) ts m depth → (node ≡ other) × (n ≡ m) }
-    ensures one_file { (file other : File) (ts : List Token) → file.shebang ≡ other.shebang
-        → SpellsFile file ts → SpellsFile other ts → file ≡ other }
+    ensures one_file { (depth : ℕ) (file other : File) (ts : List Token) → file.shebang ≡ other.shebang
+        → SpellsFile depth file ts → SpellsFile depth other ts → file ≡ other }
 {}

@@ -1,5 +1,6 @@
 //! From bytes to the tree of a file.
 ghost use Rattle.std.specs.Prelude.{◌≡◌};
+ghost use Rattle.lay_code.specs.Reading.{top};
 ghost use Rattle.lay_files.specs.Places.{number_of};
 ghost use Rattle.lay_files.specs.Readings.{ReadAs, placed_in};
 
@@ -19,10 +20,21 @@ pub enum FileError {
     NoMemory,
 }
 
+/// The items of a file stand at this depth.
+pub const DEPTH: u32 = 256;
+
 /// The one file that the bytes read to, or their refusal and its place: bytes that are no UTF-8, a place where there is
 /// no token, a delimiter without a partner, or tokens that spell no file.
 pub fn read_bytes(alloc: Global, bytes: &[u8]) -> Result<File, FileError>
-    ensures { ReadAs bytes.now result }
+    ensures { ReadAs top bytes.now result }
+{
+    read_within(alloc, bytes, DEPTH)
+}
+
+/// The same where the items of the file stand at this depth. No more of the stack is taken than a file of this depth needs,
+/// whatever the bytes are.
+pub fn read_within(alloc: Global, bytes: &[u8], depth: u32) -> Result<File, FileError>
+    ensures { ReadAs depth bytes.now result }
 {
     let source = match normalise(alloc, bytes) {
         Ok(source) => source,
@@ -36,7 +48,7 @@ pub fn read_bytes(alloc: Global, bytes: &[u8]) -> Result<File, FileError>
         Ok(nested) => nested,
         Err(error) => return Err(placed(error, source.text.as_slice())),
     };
-    match lay_read_code::read_file(alloc, &nested, source.shebang) {
+    match lay_read_code::read_file(alloc, &nested, source.shebang, depth) {
         Ok(file) => Ok(file),
         Err(error) => Err(placed(error, source.text.as_slice())),
     }

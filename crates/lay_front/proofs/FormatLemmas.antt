@@ -30,7 +30,7 @@ module _ (bytes : List ℕ) where
   pub text_refused : (refusal : Refusal) (result : Result (List ℕ) FormatError) → FormatsTo bytes result → IsRefused bytes refusal
       → (result ≡ Err (error.Refused refusal)) ⊎ (result ≡ Err error.NoMemory)
   text_refused refusal (Ok text) h r = absurd (never_both bytes h.file refusal h.reads.reads r)
-  text_refused refusal (Err (error.Refused other)) h r = inl (ap (λ (x : Refusal). Err (error.Refused x)) (one_refusal bytes other refusal h r))
+  text_refused refusal (Err (error.Refused other)) h r = inl (ap (λ (x : Refusal). Err (error.Refused x)) (one_refusal top bytes other refusal h r))
   text_refused refusal (Err error.NoMemory) h r = inr refl
 
   pub text_again : (given : List ℕ) (file : File) (result : Result (List ℕ) FormatError) → FormatsTo bytes result → Reads given file

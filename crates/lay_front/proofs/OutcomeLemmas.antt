@@ -5,7 +5,7 @@ use Rattle.lay_io.specs.Faults.{Rose}
 use Rattle.lay_io.specs.declared.outside.Which.{Which}
 use Rattle.lay_text.specs.declared.refusal.Refusal.{Refusal}
 use Rattle.lay_code.specs.Out.{out}
-use Rattle.lay_code.specs.Reading.{Reads, IsRefused}
+use Rattle.lay_code.specs.Reading.{Reads, IsRefused, top}
 use Rattle.lay_code.specs.declared.file.File.{File}
 use Rattle.lay_reparse.proofs.file.OneAnswer.{one_file, one_refusal, never_both}
 use Rattle.lay_reparse.proofs.file.Reparse.{again}
@@ -45,7 +45,7 @@ module _ {K T : Type 0} (written : K → Option (List ℕ)) (writes : K → ℕ)
       → (result ≡ Err (into.Refused refusal)) ⊎ (result ≡ Err into.NoMemory)
   into_refused (Ok done) refusal h r = absurd (never_both bytes h.file refusal h.reads.reads r)
   into_refused (Err (into.Refused other)) refusal h r =
-      inl (ap (λ (x : Refusal). Err (into.Refused x)) (one_refusal bytes other refusal h.0 r))
+      inl (ap (λ (x : Refusal). Err (into.Refused x)) (one_refusal top bytes other refusal h.0 r))
   into_refused (Err into.WriteFailed) refusal h r = absurd (never_both bytes h.1.file refusal h.1.reads.reads r)
   into_refused (Err into.NoMemory) refusal h r = inr refl
 
@@ -88,7 +88,7 @@ module _ {K I : Type 0} (written : K → Option (List ℕ)) (writes : K → ℕ)
   complete_refused Usage refusal h no_read e within k = absurd h
   complete_refused ReadFailed refusal h no_read e within k = absurd (no_read h.0)
   complete_refused (Refused other) refusal h no_read e within k =
-      inl (ap Refused (one_refusal h.0.bytes other refusal h.0.holds (refused_as h.0.bytes refusal e h.0.all k)))
+      inl (ap Refused (one_refusal top h.0.bytes other refusal h.0.holds (refused_as h.0.bytes refusal e h.0.all k)))
   complete_refused WriteFailed refusal h no_read e within k =
       absurd (never_both h.1.bytes h.1.holds.file refusal h.1.holds.reads.reads (refused_as h.1.bytes refusal e h.1.all k))
   complete_refused TooLong refusal h no_read e within k = absurd (not_too_long e within h.0)

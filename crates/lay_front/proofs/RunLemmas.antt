@@ -7,7 +7,7 @@ use Rattle.lay_line.specs.declared.lines.Line.{Line}
 use Rattle.lay_line.specs.declared.lines.Line.TheVariants as line
 use Rattle.lay_text.specs.declared.refusal.Refusal.{Refusal}
 use Rattle.lay_code.specs.Out.{out}
-use Rattle.lay_code.specs.Reading.{Reads, IsRefused}
+use Rattle.lay_code.specs.Reading.{Reads, IsRefused, top}
 use Rattle.lay_code.specs.declared.file.File.{File}
 use Rattle.lay_reparse.proofs.file.OneAnswer.{one_refusal, never_both}
 use Rattle.lay_front.proofs.OutcomeLemmas.{wrote, told_as, complete_refused}
@@ -168,7 +168,7 @@ module _ {I : Type 0} (left : I → Which → Option (List ℕ)) (reads : I → 
   check_refused Differs refusal h within k = absurd (never_both h.bytes h.holds.file refusal h.holds.reads.reads (is_refused h refusal k))
   check_refused Usage refusal h within k = absurd h
   check_refused ReadFailed refusal h within k = absurd (no_read h)
-  check_refused (Refused other) refusal h within k = inl (ap Refused (one_refusal h.bytes other refusal h.holds (is_refused h refusal k)))
+  check_refused (Refused other) refusal h within k = inl (ap Refused (one_refusal top h.bytes other refusal h.holds (is_refused h refusal k)))
   check_refused WriteFailed refusal h within k = absurd h
   check_refused TooLong refusal h within k = absurd (short within h)
   check_refused NoMemory refusal h within k = inr refl

@@ -5,7 +5,7 @@ use Rattle.lay_io.specs.Faults.{Rose}
 use Rattle.lay_io.specs.Told.{GrewBy}
 use Rattle.lay_text.specs.declared.refusal.Refusal.{Refusal}
 use Rattle.lay_code.specs.Out.{out}
-use Rattle.lay_code.specs.Reading.{Reads, IsRefused}
+use Rattle.lay_code.specs.Reading.{Reads, IsRefused, top}
 use Rattle.lay_code.specs.declared.file.File.{File}
 use Rattle.lay_reparse.proofs.file.OneAnswer.{one_refusal, never_both}
 use Rattle.lay_front.specs.Outcome.{SampleRun}
@@ -33,7 +33,7 @@ module _ {K : Type 0} (written : K → Option (List ℕ)) (writes : K → ℕ) (
   sample_refused Differs refusal h r = absurd h
   sample_refused Usage refusal h r = absurd h
   sample_refused ReadFailed refusal h r = absurd h
-  sample_refused (Refused other) refusal h r = inl (ap Refused (one_refusal bytes other refusal h.0 r))
+  sample_refused (Refused other) refusal h r = inl (ap Refused (one_refusal top bytes other refusal h.0 r))
   sample_refused WriteFailed refusal h r = absurd (never_both bytes h.1.file refusal h.1.reads.reads r)
   sample_refused TooLong refusal h r = absurd h
   sample_refused NoMemory refusal h r = inr refl

@@ -9,7 +9,7 @@ use Rattle.lay_form.proofs.FormLaws.{is_end}
 use Rattle.lay_node.specs.reader.Attr.{attribute}
 use Rattle.lay_node.specs.declared.attr.Attr.{Attr}
 use Rattle.lay_node.proofs.Pieces.{pieces_spelled}
-use Rattle.lay_code.specs.Reading.{NoItemAt, SpellsFile, SpellsFront, top}
+use Rattle.lay_code.specs.Reading.{NoItemAt, SpellsFile, SpellsFront}
 use Rattle.lay_code.specs.Written.{Written, is_good_shebang}
 use Rattle.lay_code.specs.nodes.File.{form_of_file}
 use Rattle.lay_code.specs.reader.File.{front}
@@ -20,46 +20,46 @@ use Rattle.lay_read_tokens.specs.Answers.{AreLexed}
 use Rattle.lay_read_tokens.proofs.Left.{attribute_left, left_by}
 use Rattle.lay_read_tokens.proofs.Lexed.{lexed_in_text, lexed_texts}
 
-module _ (tokens : List Token) (l : AreLexed tokens) (attrs : List Attr) (items : List Item) (left : List Token)
-    (e : front tokens ≡ ((attrs, items), left)) where
+module _ (depth : ℕ) (tokens : List Token) (l : AreLexed tokens) (attrs : List Attr) (items : List Item) (left : List Token)
+    (e : front depth tokens ≡ ((attrs, items), left)) where
   -- The run that is read is spelled, as a file that can be written behind any good shebang.
   front_spelled : (shebang : Option (List ℕ)) → IsTrue (is_good_shebang shebang)
-      → (let file : File = record { shebang = shebang; attrs = attrs; items = items } in Written file × Spells (form_of_file file) top tokens left)
+      → (let file : File = record { shebang = shebang; attrs = attrs; items = items } in Written file × Spells (form_of_file file) depth tokens left)
   front_spelled shebang good =
       let file : File = record { shebang = shebang; attrs = attrs; items = items } in
       let read = ap (λ (run : (List Attr × List Item) × List Token). run.0) e in
-      let sound = front_sound tokens (lexed_in_text tokens l) file (sym (ap (λ (run : List Attr × List Item). run.0) read))
+      let sound = front_sound depth tokens (lexed_in_text tokens l) file (sym (ap (λ (run : List Attr × List Item). run.0) read))
       (sym (ap (λ (run : List Attr × List Item). run.1) read)) in
-      let spelled : Spells (form_of_file file) top tokens left =
-      subst (λ (us : List Token). Spells (form_of_file file) top tokens us) (ap (λ (run : (List Attr × List Item) × List Token). run.1) e) sound.0 in
-      let pieces = pieces_spelled (form_of_file file) top tokens left (lexed_texts tokens l) spelled in
+      let spelled : Spells (form_of_file file) depth tokens left =
+      subst (λ (us : List Token). Spells (form_of_file file) depth tokens us) (ap (λ (run : (List Attr × List Item) × List Token). run.1) e) sound.0 in
+      let pieces = pieces_spelled (form_of_file file) depth tokens left (lexed_texts tokens l) spelled in
       (record { shebang = good; normal = sound.1; pieces = pieces }, spelled)
 
   -- A run that is spelled is no longer than the one that is read.
-  none_longer : (more : ℕ) → SpellsFront more tokens → more + length left ≤ length tokens
+  none_longer : (more : ℕ) → SpellsFront depth more tokens → more + length left ≤ length tokens
   none_longer more f =
       let file = f.1 in
-      let least = front_longest file.0 tokens (drop more tokens) (lexed_in_text tokens l) file.2 file.1.normal in
+      let least = front_longest depth file.0 tokens (drop more tokens) (lexed_in_text tokens l) file.2 file.1.normal in
       omega (arith, least, f.0, length-drop more tokens, ap (λ (run : (List Attr × List Item) × List Token). length run.1) e)
 
 -- Where nothing is left behind the run, it is a file.
-pub file_spelled : (tokens : List Token) (shebang : Option (List ℕ)) (attrs : List Attr) (items : List Item)
+pub file_spelled : (depth : ℕ) (tokens : List Token) (shebang : Option (List ℕ)) (attrs : List Attr) (items : List Item)
     → AreLexed tokens → IsTrue (is_good_shebang shebang)
-    → front tokens ≡ ((attrs, items), []) → SpellsFile (record { shebang = shebang; attrs = attrs; items = items }) tokens
-file_spelled tokens shebang attrs items l good e = front_spelled tokens l attrs items [] e shebang good
+    → front depth tokens ≡ ((attrs, items), []) → SpellsFile depth (record { shebang = shebang; attrs = attrs; items = items }) tokens
+file_spelled depth tokens shebang attrs items l good e = front_spelled depth tokens l attrs items [] e shebang good
 
 -- Where a token is left behind it, no item begins there.
-pub no_item : (tokens : List Token) (attrs : List Attr) (items : List Item) (token : Token) (rest : List Token)
-    → AreLexed tokens → front tokens ≡ ((attrs, items), token ∷ rest) → NoItemAt tokens token.at
-no_item tokens attrs items token rest l e =
+pub no_item : (depth : ℕ) (tokens : List Token) (attrs : List Attr) (items : List Item) (token : Token) (rest : List Token)
+    → AreLexed tokens → front depth tokens ≡ ((attrs, items), token ∷ rest) → NoItemAt depth tokens token.at
+no_item depth tokens attrs items token rest l e =
     let file : File = record { shebang = None; attrs = attrs; items = items } in
-    let run = front_spelled tokens l attrs items (token ∷ rest) e None refl in
-    let end = is_end (form_of_file file) top tokens (token ∷ rest) run.1 in
+    let run = front_spelled depth tokens l attrs items (token ∷ rest) e None refl in
+    let end = is_end (form_of_file file) depth tokens (token ∷ rest) run.1 in
     let count = length end.before in
     let behind : drop count tokens ≡ token ∷ rest = ap (drop count) end.whole ∙ drop-append_seam end.before (token ∷ rest) in
     let all = ap length end.whole ∙ length-append end.before (token ∷ rest) in
     let within : count ≤ length tokens = omega (arith, all) in
-    let spelled = subst (λ (us : List Token). Spells (form_of_file file) top tokens us) (sym behind) run.1 in
+    let spelled = subst (λ (us : List Token). Spells (form_of_file file) depth tokens us) (sym behind) run.1 in
     record {
       count = count;
       token = token;
@@ -67,7 +67,7 @@ no_item tokens attrs items token rest l e =
       behind = behind;
       place = refl;
       front = (within, (file, run.0, spelled));
-      longest = λ more less f. omega (arith, less, all, none_longer tokens l attrs items (token ∷ rest) e more f);
+      longest = λ more less f. omega (arith, less, all, none_longer depth tokens l attrs items (token ∷ rest) e more f);
     }
 
 -- Tokens that are parted stand in the same row.

@@ -6,8 +6,7 @@ use Rattle.lay_node.specs.reader.Attr.{attribute}
 use Rattle.lay_node.specs.declared.attr.Attr.{Attr}
 use Rattle.lay_node.specs.declared.heads.Site.TheVariants.{Module}
 use Rattle.lay_node.proofs.Steps.{bind_some, got_same}
-use Rattle.lay_code.specs.Reading.{top}
-use Rattle.lay_code.specs.reader.File.{front, longest, longest_from, top_item}
+use Rattle.lay_code.specs.reader.File.{file_item, front, longest, longest_from}
 use Rattle.lay_code.specs.reader.Code.{item_at}
 use Rattle.lay_code.specs.declared.item.Item.{Item}
 use Rattle.lay_code.proofs.reader.Longest.{longest_end}
@@ -42,11 +41,11 @@ module _ {A : Type 0} (one : Tokens → Got A) where
     longest-step x rest e less = some_turns t.turns whole found ts x rest t.enough e less t.same
 
 -- An item of a file leaves fewer tokens.
-pub item_shorter : (ts : Tokens) (one : Item) (rest : Tokens) → top_item ts ≡ Some (one, rest) → length rest < length ts
-item_shorter ts one rest e =
-    let b = bind_some (item_at Module top ts) (λ x. let found : Got Item = Some (x.0.0, x.1) in found) (one, rest) e in
+pub item_shorter : (depth : ℕ) (ts : Tokens) (one : Item) (rest : Tokens) → file_item depth ts ≡ Some (one, rest) → length rest < length ts
+item_shorter depth ts one rest e =
+    let b = bind_some (item_at Module depth ts) (λ x. let found : Got Item = Some (x.0.0, x.1) in found) (one, rest) e in
     let same = got_same b.0.0.0 one b.0.1 rest b.2 in
-    let less = shorter ts (item_at Module top ts) b.0.0 b.0.1 (item_left top Module ts) b.1 in
+    let less = shorter ts (item_at Module depth ts) b.0.0 b.0.1 (item_left depth Module ts) b.1 in
     rw (← same.1) less
 
 -- what stands next, where it was read, and where there is none
@@ -59,7 +58,7 @@ pub next_none : {A : Type 0} (got : Got A) (o : Option A) (ahead left : Tokens) 
 next_none got o ahead left h e = let there : (got ≡ None) × (left ≡ ahead) = rw e at h in there
 
 -- both runs, one behind the other
-pub front_is : (ts mid rest : Tokens) (attrs : List Attr) (items : List Item) → longest (attribute true) ts ≡ (attrs, mid)
-    → longest top_item mid ≡ (items, rest) → front ts ≡ ((attrs, items), rest)
+pub front_is : (depth : ℕ) (ts mid rest : Tokens) (attrs : List Attr) (items : List Item) → longest (attribute true) ts ≡ (attrs, mid)
+    → longest (file_item depth) mid ≡ (items, rest) → front depth ts ≡ ((attrs, items), rest)
 unfolding front
-front_is ts mid rest attrs items a i = rw (a, i) refl
+front_is depth ts mid rest attrs items a i = rw (a, i) refl

@@ -27,12 +27,12 @@ IsNext got (Ok (Some a)) ahead left = got ≡ Some (a, left)
 IsNext got (Ok None) ahead left = (got ≡ None) × (left ≡ ahead)
 IsNext got (Err none) ahead left = Unit {0}
 
--- What a reader of files answers; memory may always be wanting.
-abbrev pub FileAs : List Token → Option (List ℕ) → Result File FormatError → Type 0
-FileAs tokens shebang (Ok file) = (file.shebang ≡ shebang) × SpellsFile file tokens
-FileAs tokens shebang (Err (format.Refused (NoItem at))) = NoItemAt tokens at
-FileAs tokens shebang (Err (format.Refused refusal)) = ⊥
-FileAs tokens shebang (Err format.NoMemory) = Unit {0}
+-- What a reader of files answers at a depth; memory may always be wanting.
+abbrev pub FileAs : ℕ → List Token → Option (List ℕ) → Result File FormatError → Type 0
+FileAs depth tokens shebang (Ok file) = (file.shebang ≡ shebang) × SpellsFile depth file tokens
+FileAs depth tokens shebang (Err (format.Refused (NoItem at))) = NoItemAt depth tokens at
+FileAs depth tokens shebang (Err (format.Refused refusal)) = ⊥
+FileAs depth tokens shebang (Err format.NoMemory) = Unit {0}
 
 -- An item has a head, where it is no macro call and declares no macro.
 abbrev pub has_head : ItemKind → Bool

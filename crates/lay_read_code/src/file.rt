@@ -2,7 +2,7 @@
 ghost use Rattle.std.specs.Prelude.{◌≡◌, ◌++◌, ◌∷◌, [], IsTrue, OnOk, true};
 ghost use Rattle.lay_node.specs.reader.Attr.{attribute};
 ghost use Rattle.lay_code.specs.Written.{is_good_shebang};
-ghost use Rattle.lay_code.specs.reader.File.{front, longest, top_item};
+ghost use Rattle.lay_code.specs.reader.File.{file_item, front, longest};
 ghost use Rattle.lay_read_tokens.specs.Answers.{AreLexed};
 ghost use Rattle.lay_read_code.specs.Answers.{FileAs, IsNext, IsRun};
 
@@ -13,21 +13,26 @@ use lay_read_tokens::{Ahead, ReadNone, read_attr};
 use lay_token::{FormatError, List, NoMemory, Refusal, Text};
 use std::alloc::Global;
 
-/// The items of a file stand at this depth, and those within another item one lower. At 0 nothing is read.
-const DEPTH: u32 = 256;
-
 /// The one file that the tokens spell behind this shebang, or the refusal where they spell none: at the token before
 /// which the longest run of inner attributes and then items ends.
 ///
+/// The items of the file stand at the depth, and those within another item one lower; at 0 none is read. So no more of the
+/// stack is taken than a file of this depth needs.
+///
 /// The tokens are those that some text lexes to, and the shebang, if there is one, is given back whole where it
 /// stands alone as the first line.
-pub fn read_file(alloc: Global, nested: &Nested, shebang: Option<Text>) -> Result<File, FormatError>
+pub fn read_file(
+    alloc: Global,
+    nested: &Nested,
+    shebang: Option<Text>,
+    depth: u32,
+) -> Result<File, FormatError>
     requires lexed { AreLexed nested.now }
     requires good { IsTrue (is_good_shebang shebang) }
-    ensures { FileAs nested.now shebang result }
+    ensures { FileAs depth nested.now shebang result }
 {
     let mut at = nested.cursor();
-    match read_front(alloc, &mut at) {
+    match read_front(alloc, &mut at, depth) {
         Ok((attrs, items)) => match at.peek(0) {
             Some(token) => Err(FormatError::Refused(Refusal::NoItem { at: token.at })),
             None => Ok(File {
@@ -41,13 +46,17 @@ pub fn read_file(alloc: Global, nested: &Nested, shebang: Option<Text>) -> Resul
 }
 
 /// Inner attributes and then items, one by one, as long as they are read.
-fn read_front(alloc: Global, at: &mut Cursor<'_>) -> Result<(List<Attr>, List<Item>), NoMemory>
+fn read_front(
+    alloc: Global,
+    at: &mut Cursor<'_>,
+    depth: u32,
+) -> Result<(List<Attr>, List<Item>), NoMemory>
     requires { AreLexed at.old }
-    ensures { IsRun (front at.old) result at.new }
+    ensures { IsRun (front depth at.old) result at.new }
 {
     let attrs = inner_attrs(alloc, at)?;
     let mut ahead = Ahead::new(at.fork());
-    let items = top_items(alloc, &mut ahead)?;
+    let items = top_items(alloc, &mut ahead, depth)?;
     *at = ahead.into_cursor();
     Ok((attrs, items))
 }
@@ -79,22 +88,22 @@ fn next_attr(alloc: Global, at: &mut Cursor<'_>) -> Result<Option<Attr>, NoMemor
 }
 
 /// Items of a file, as long as one is read.
-fn top_items(alloc: Global, at: &mut Ahead<'_>) -> Result<List<Item>, NoMemory>
-    ensures { IsRun (longest top_item at.old) result at.new }
+fn top_items(alloc: Global, at: &mut Ahead<'_>, depth: u32) -> Result<List<Item>, NoMemory>
+    ensures { IsRun (longest (file_item depth) at.old) result at.new }
 {
     let mut items = List::new(alloc);
-    while let Some(item) = next_item(alloc, at)? {
+    while let Some(item) = next_item(alloc, at, depth)? {
         hold(&mut items, item)?;
     }
     Ok(items)
 }
 
 /// The item of a file at the front, or none. Where there is none the place stays.
-fn next_item(alloc: Global, at: &mut Ahead<'_>) -> Result<Option<Item>, NoMemory>
-    ensures { IsNext (top_item at.old) result at.old at.new }
+fn next_item(alloc: Global, at: &mut Ahead<'_>, depth: u32) -> Result<Option<Item>, NoMemory>
+    ensures { IsNext (file_item depth at.old) result at.old at.new }
 {
     let mut behind = at.fork();
-    match item_ahead(alloc, &mut behind, Site::Module, DEPTH) {
+    match item_ahead(alloc, &mut behind, Site::Module, depth) {
         Ok(found) => {
             *at = behind;
             Ok(Some(found.node))

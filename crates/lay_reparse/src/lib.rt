@@ -43,9 +43,9 @@ ghost use Rattle.lay_node.specs.declared.token.Listed.{Listed};
 ghost use Rattle.lay_node.specs.tokens.Lexed.{IsTokenList, ReadsTokens, is_token_list};
 ghost use Rattle.lay_node.specs.tokens.Lists.{token_list};
 ghost use Rattle.lay_code.specs.Out.{layout_of_file, out};
-ghost use Rattle.lay_code.specs.Reading.{IsRefused, Reads, top};
+ghost use Rattle.lay_code.specs.Reading.{IsRefusedAt, Reads, ReadsAt, top};
 ghost use Rattle.lay_reparse.specs.Join.{Joinable, Joins};
-ghost use Rattle.lay_reparse.specs.Reparse.{IsSpelled, ReadsAt};
+ghost use Rattle.lay_reparse.specs.Reparse.{IsSpelled};
 ghost use Rattle.lay_code.specs.Written.{Written};
 ghost use Rattle.lay_code.specs.declared.file.File.{File};
 
@@ -55,7 +55,7 @@ ghost use Rattle.lay_code.specs.declared.file.File.{File};
 /// it is the same.
 pub fn reparse_law()
     ensures each_text { (file : File) (depth : ℕ) (text : List ℕ)
-        → Written file → IsSpelled file depth → Anyway (layout_of_file file) text → ReadsAt text file depth }
+        → Written file → IsSpelled file depth → Anyway (layout_of_file file) text → ReadsAt depth text file }
     ensures own_text { (file : File) → Written file → IsSpelled file top → Reads (out file) file }
     ensures again { (bytes : List ℕ) (file : File) → Reads bytes file → Reads (out file) file }
 {}
@@ -74,11 +74,13 @@ pub fn join_law()
         → IsUtf8 left → IsUtf8 right → Joinable left right a b → Joins left right a b }
 {}
 
-/// Bytes have one answer at most: they read to one file, or are refused for one cause at one place, and never both.
+/// At each depth bytes have one answer at most: they read to one file, or are refused for one cause at one place, and never
+/// both.
 pub fn unique_law()
-    ensures one_file { (bytes : List ℕ) (file other : File) → Reads bytes file → Reads bytes other → other ≡ file }
-    ensures one_refusal { (bytes : List ℕ) (refusal other : Refusal)
-        → IsRefused bytes refusal → IsRefused bytes other → refusal ≡ other }
-    ensures never_both { (bytes : List ℕ) (file : File) (refusal : Refusal)
-        → Reads bytes file → IsRefused bytes refusal → ⊥ }
+    ensures one_file { (depth : ℕ) (bytes : List ℕ) (file other : File)
+        → ReadsAt depth bytes file → ReadsAt depth bytes other → other ≡ file }
+    ensures one_refusal { (depth : ℕ) (bytes : List ℕ) (refusal other : Refusal)
+        → IsRefusedAt depth bytes refusal → IsRefusedAt depth bytes other → refusal ≡ other }
+    ensures never_both { (depth : ℕ) (bytes : List ℕ) (file : File) (refusal : Refusal)
+        → ReadsAt depth bytes file → IsRefusedAt depth bytes refusal → ⊥ }
 {}

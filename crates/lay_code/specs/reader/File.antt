@@ -5,7 +5,6 @@ use Rattle.lay_node.specs.reader.Attr.{attribute}
 use Rattle.lay_node.specs.reader.Loops.{Got, ◌>>=◌}
 use Rattle.lay_node.specs.declared.attr.Attr.{Attr}
 use Rattle.lay_node.specs.declared.heads.Site.TheVariants.{Module}
-use Rattle.lay_code.specs.Reading.{top}
 use Rattle.lay_code.specs.reader.Code.{item_at}
 use Rattle.lay_code.specs.declared.item.Item.{Item}
 
@@ -23,12 +22,12 @@ longest_from one (suc n) found ts = behind_one (longest_from one n) found ts (on
 unfoldable pub longest : {A : Type 0} → (Tokens → Got A) → Tokens → List A × Tokens
 longest one ts = longest_from one (length ts) [] ts
 
--- an item of a file
-abbrev pub top_item : Tokens → Got Item
-top_item ts = do x ← item_at Module top ts; Some (x.0.0, x.1)
+-- an item of a file, at a depth
+abbrev pub file_item : ℕ → Tokens → Got Item
+file_item depth ts = do x ← item_at Module depth ts; Some (x.0.0, x.1)
 
 -- the longest run of inner attributes and then items, and what is left
-unfoldable pub front : Tokens → (List Attr × List Item) × Tokens
-front ts =
+unfoldable pub front : ℕ → Tokens → (List Attr × List Item) × Tokens
+front depth ts =
     let attrs = longest (attribute true) ts in
-    let items = longest top_item attrs.1 in ((attrs.0, items.0), items.1)
+    let items = longest (file_item depth) attrs.1 in ((attrs.0, items.0), items.1)

@@ -1,4 +1,4 @@
--- Bytes have one answer at most: they read to one file, or have one refusal, and never both.
+-- At each depth bytes have one answer at most: they read to one file, or have one refusal, and never both.
 use Rattle.std.proofs.Common.{◌≡◌, ◌<◌, ◌≤◌, ℕ, List, [], ◌∷◌, length, drop, Some, None, Ok, Err, inl, inr, sym, ap, ◌∙◌, subst, arith, length-drop}
 use Rattle.std.proofs.Math.Seq.{drop-length}
 use Rattle.std.proofs.lemmas.Bool.{cases_order}
@@ -11,7 +11,7 @@ use Rattle.lay_token.specs.Delimiters.{Balanced, UnbalancedAt}
 use Rattle.lay_token.proofs.Unique as unique
 use Rattle.lay_nest.proofs.Machine.{place, place-unbalanced, run-balanced}
 use Rattle.lay_form.specs.Spelled.{Spells}
-use Rattle.lay_code.specs.Reading.{NoItemAt, Reads, IsRefused, SpellsFile, SpellsFront, top}
+use Rattle.lay_code.specs.Reading.{NoItemAt, ReadsAt, IsRefusedAt, SpellsFile, SpellsFront}
 use Rattle.lay_code.specs.Written.{Written}
 use Rattle.lay_code.specs.nodes.File.{form_of_file}
 use Rattle.lay_code.specs.declared.file.File.{File}
@@ -45,13 +45,13 @@ unbalanced_or_balanced ts at u b =
     let both : Some at ≡ None = sym (place-unbalanced ts at u) ∙ ap place (run-balanced [] ts b) in cc
 
 -- Bytes read to one file.
-pub one_file : (bytes : List ℕ) (file other : File) → Reads bytes file → Reads bytes other → other ≡ file
-one_file bytes file other r s =
+pub one_file : {depth : ℕ} (bytes : List ℕ) (file other : File) → ReadsAt depth bytes file → ReadsAt depth bytes other → other ≡ file
+one_file {depth} bytes file other r s =
     let line : other.shebang ≡ file.shebang = sym s.shebang
     ∙ ap (λ (f : Source). f.shebang) (same_source bytes s.from r.from s.text r.text) ∙ r.shebang in
     let one : s.tokens ≡ r.tokens = same_tokens bytes s.from r.from s.tokens r.tokens s.text r.text s.lexes r.lexes in
-    let spelled : SpellsFile other r.tokens = subst (SpellsFile other) one s.spells in
-    file_unique other file r.tokens spelled.1 spelled.0.normal r.spells.1 r.spells.0.normal line
+    let spelled : SpellsFile depth other r.tokens = subst (SpellsFile depth other) one s.spells in
+    file_unique depth other file r.tokens spelled.1 spelled.0.normal r.spells.1 r.spells.0.normal line
 
 -- no bytes are balanced and unbalanced
 balanced_or_not : (bytes : List ℕ) (from other : Source) (ts us : List Token) (at : ℕ) → source bytes ≡ Ok from
@@ -61,10 +61,10 @@ balanced_or_not bytes from other ts us at e h l m b u =
     unbalanced_or_balanced us at u (subst Balanced (same_tokens bytes from other ts us e h l m) b)
 
 -- Tokens that spell a file are a run of inner attributes and items by themselves, up to where none is left.
-whole_front : (tokens : List Token) (file : File) → SpellsFile file tokens → SpellsFront (length tokens) tokens
-whole_front tokens file s =
+whole_front : (depth : ℕ) (tokens : List Token) (file : File) → SpellsFile depth file tokens → SpellsFront depth (length tokens) tokens
+whole_front depth tokens file s =
     let behind : length tokens ≤ length tokens = omega arith in
-    (behind, subst (λ us. (f : File) × Written f × Spells (form_of_file f) top tokens us) (sym (drop-length tokens)) (file, s.0, s.1))
+    (behind, subst (λ us. (f : File) × Written f × Spells (form_of_file f) depth tokens us) (sym (drop-length tokens)) (file, s.0, s.1))
 
 -- tokens behind which a token stands are fewer than all
 fewer : (count : ℕ) (tokens : List Token) (token : Token) (rest : List Token) → drop count tokens ≡ token ∷ rest
@@ -72,13 +72,13 @@ fewer : (count : ℕ) (tokens : List Token) (token : Token) (rest : List Token) 
 fewer count tokens token rest e = omega (arith, sym (length-drop count tokens) ∙ ap length e)
 
 -- no tokens spell a file and none
-item_or_not : (tokens : List Token) (file : File) (at : ℕ) → SpellsFile file tokens → NoItemAt tokens at → ⊥
-item_or_not tokens file at s n =
-    n.longest (length tokens) (fewer n.count tokens n.token n.rest n.behind) (whole_front tokens file s)
+item_or_not : (depth : ℕ) (tokens : List Token) (file : File) (at : ℕ) → SpellsFile depth file tokens → NoItemAt depth tokens at → ⊥
+item_or_not depth tokens file at s n =
+    n.longest (length tokens) (fewer n.count tokens n.token n.rest n.behind) (whole_front depth tokens file s)
 
 -- The longest run is one, and so is the place where it ends.
-same_count : (tokens : List Token) (at other : ℕ) (n : NoItemAt tokens at) (m : NoItemAt tokens other) → n.count ≡ m.count
-same_count tokens at other n m = elim (cases_order n.count m.count) [
+same_count : (depth : ℕ) (tokens : List Token) (at other : ℕ) (n : NoItemAt depth tokens at) (m : NoItemAt depth tokens other) → n.count ≡ m.count
+same_count depth tokens at other n m = elim (cases_order n.count m.count) [
   | inl same ↦ same
   | inr differ ↦ elim differ [
     | inl less ↦ absurd (n.longest m.count less m.front)
@@ -86,47 +86,48 @@ same_count tokens at other n m = elim (cases_order n.count m.count) [
   ]
 ]
 
-no_item_once : (tokens : List Token) (at other : ℕ) → NoItemAt tokens at → NoItemAt tokens other → at ≡ other
-no_item_once tokens at other n m =
+no_item_once : (depth : ℕ) (tokens : List Token) (at other : ℕ) → NoItemAt depth tokens at → NoItemAt depth tokens other → at ≡ other
+no_item_once depth tokens at other n m =
     let same : n.token ∷ n.rest ≡ m.token ∷ m.rest =
-    sym n.behind ∙ ap (λ k. drop k tokens) (same_count tokens at other n m) ∙ m.behind in
+    sym n.behind ∙ ap (λ k. drop k tokens) (same_count depth tokens at other n m) ∙ m.behind in
     let one : n.token ≡ m.token = cc same in n.place ∙ ap (λ (t : Token). t.at) one ∙ sym m.place
 
 -- no bytes are read and refused
-pub never_both : (bytes : List ℕ) (file : File) (refusal : Refusal) → Reads bytes file → IsRefused bytes refusal → ⊥
-never_both bytes file (NotUtf8 at) r h = no_source bytes r.from (NotUtf8 at) r.text h
-never_both bytes file (NoToken at) r h = token_missing bytes r.from h.0 r.tokens at r.text h.1 r.lexes h.2
-never_both bytes file (Unbalanced at) r h =
+pub never_both : {depth : ℕ} (bytes : List ℕ) (file : File) (refusal : Refusal) → ReadsAt depth bytes file
+    → IsRefusedAt depth bytes refusal → ⊥
+never_both {depth} bytes file (NotUtf8 at) r h = no_source bytes r.from (NotUtf8 at) r.text h
+never_both {depth} bytes file (NoToken at) r h = token_missing bytes r.from h.0 r.tokens at r.text h.1 r.lexes h.2
+never_both {depth} bytes file (Unbalanced at) r h =
     balanced_or_not bytes r.from h.0 r.tokens h.1 at r.text h.2 r.lexes h.3 r.balanced h.4
-never_both bytes file (NoItem at) r h =
-    item_or_not h.1 file at
-    (subst (SpellsFile file) (same_tokens bytes r.from h.0 r.tokens h.1 r.text h.2 r.lexes h.3) r.spells) h.5
+never_both {depth} bytes file (NoItem at) r h =
+    item_or_not depth h.1 file at
+    (subst (SpellsFile depth file) (same_tokens bytes r.from h.0 r.tokens h.1 r.text h.2 r.lexes h.3) r.spells) h.5
 
 -- no bytes are refused twice
-pub one_refusal : (bytes : List ℕ) (r s : Refusal) → IsRefused bytes r → IsRefused bytes s → r ≡ s
-one_refusal bytes (NotUtf8 a) (NotUtf8 b) h k = cc
-one_refusal bytes (NotUtf8 a) (NoToken b) h k = no_source bytes k.0 (NotUtf8 a) k.1 h
-one_refusal bytes (NotUtf8 a) (Unbalanced b) h k = no_source bytes k.0 (NotUtf8 a) k.2 h
-one_refusal bytes (NotUtf8 a) (NoItem b) h k = no_source bytes k.0 (NotUtf8 a) k.2 h
-one_refusal bytes (NoToken a) (NotUtf8 b) h k = no_source bytes h.0 (NotUtf8 b) h.1 k
-one_refusal bytes (NoToken a) (NoToken b) h k =
+pub one_refusal : (depth : ℕ) (bytes : List ℕ) (r s : Refusal) → IsRefusedAt depth bytes r → IsRefusedAt depth bytes s → r ≡ s
+one_refusal depth bytes (NotUtf8 a) (NotUtf8 b) h k = cc
+one_refusal depth bytes (NotUtf8 a) (NoToken b) h k = no_source bytes k.0 (NotUtf8 a) k.1 h
+one_refusal depth bytes (NotUtf8 a) (Unbalanced b) h k = no_source bytes k.0 (NotUtf8 a) k.2 h
+one_refusal depth bytes (NotUtf8 a) (NoItem b) h k = no_source bytes k.0 (NotUtf8 a) k.2 h
+one_refusal depth bytes (NoToken a) (NotUtf8 b) h k = no_source bytes h.0 (NotUtf8 b) h.1 k
+one_refusal depth bytes (NoToken a) (NoToken b) h k =
     ap NoToken (unique.no_token_once k.0.text k.0.start a b
     (subst (λ (s : Source). NoTokenAt s.text s.start a) (same_source bytes h.0 k.0 h.1 k.1) h.2) k.2)
-one_refusal bytes (NoToken a) (Unbalanced b) h k = absurd (token_missing bytes k.0 h.0 k.1 a k.2 h.1 k.3 h.2)
-one_refusal bytes (NoToken a) (NoItem b) h k =
+one_refusal depth bytes (NoToken a) (Unbalanced b) h k = absurd (token_missing bytes k.0 h.0 k.1 a k.2 h.1 k.3 h.2)
+one_refusal depth bytes (NoToken a) (NoItem b) h k =
     absurd (token_missing bytes k.0 h.0 k.1 a k.2 h.1 k.3 h.2)
-one_refusal bytes (Unbalanced a) (NotUtf8 b) h k = no_source bytes h.0 (NotUtf8 b) h.2 k
-one_refusal bytes (Unbalanced a) (NoToken b) h k = absurd (token_missing bytes h.0 k.0 h.1 b h.2 k.1 h.3 k.2)
-one_refusal bytes (Unbalanced a) (Unbalanced b) h k =
+one_refusal depth bytes (Unbalanced a) (NotUtf8 b) h k = no_source bytes h.0 (NotUtf8 b) h.2 k
+one_refusal depth bytes (Unbalanced a) (NoToken b) h k = absurd (token_missing bytes h.0 k.0 h.1 b h.2 k.1 h.3 k.2)
+one_refusal depth bytes (Unbalanced a) (Unbalanced b) h k =
     ap Unbalanced (unbalanced_once k.1 a b
     (subst (λ (ts : List Token). UnbalancedAt ts a) (same_tokens bytes h.0 k.0 h.1 k.1 h.2 k.2 h.3 k.3) h.4) k.4)
-one_refusal bytes (Unbalanced a) (NoItem b) h k =
+one_refusal depth bytes (Unbalanced a) (NoItem b) h k =
     absurd (balanced_or_not bytes k.0 h.0 k.1 h.1 a k.2 h.2 k.3 h.3 k.4 h.4)
-one_refusal bytes (NoItem a) (NotUtf8 b) h k = no_source bytes h.0 (NotUtf8 b) h.2 k
-one_refusal bytes (NoItem a) (NoToken b) h k =
+one_refusal depth bytes (NoItem a) (NotUtf8 b) h k = no_source bytes h.0 (NotUtf8 b) h.2 k
+one_refusal depth bytes (NoItem a) (NoToken b) h k =
     absurd (token_missing bytes h.0 k.0 h.1 b h.2 k.1 h.3 k.2)
-one_refusal bytes (NoItem a) (Unbalanced b) h k =
+one_refusal depth bytes (NoItem a) (Unbalanced b) h k =
     absurd (balanced_or_not bytes h.0 k.0 h.1 k.1 b h.2 k.2 h.3 k.3 h.4 k.4)
-one_refusal bytes (NoItem a) (NoItem b) h k =
-    ap NoItem (no_item_once k.1 a b
-    (subst (λ (ts : List Token). NoItemAt ts a) (same_tokens bytes h.0 k.0 h.1 k.1 h.2 k.2 h.3 k.3) h.5) k.5)
+one_refusal depth bytes (NoItem a) (NoItem b) h k =
+    ap NoItem (no_item_once depth k.1 a b
+    (subst (λ (ts : List Token). NoItemAt depth ts a) (same_tokens bytes h.0 k.0 h.1 k.1 h.2 k.2 h.3 k.3) h.5) k.5)

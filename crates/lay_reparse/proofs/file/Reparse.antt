@@ -21,16 +21,15 @@ use Rattle.lay_form.specs.Layout.{laid_out, break_of}
 use Rattle.lay_node.proofs.Scalars.{text_utf8, scalars_append}
 use Rattle.lay_code.specs.Out.{behind_shebang, layout_of_file, out}
 use Rattle.lay_code.specs.nodes.File.{form_of_file}
-use Rattle.lay_code.specs.Reading as reading
 use Rattle.lay_form.specs.Pieces.{are_pieces}
 use Rattle.lay_form.specs.Depth.{least_depth}
 use Rattle.lay_form.specs.Spelled.{Spells}
-use Rattle.lay_code.specs.Reading.{top, SpellsFile}
+use Rattle.lay_code.specs.Reading.{top, Reads, ReadsAt}
 use Rattle.lay_code.specs.Written.{Written, is_good_shebang}
 use Rattle.lay_form.proofs.FormLaws.{least}
 use Rattle.lay_code.specs.declared.file.File.{File}
 use Rattle.lay_layout.specs.Anyway.{Leads, Anyway}
-use Rattle.lay_reparse.specs.Reparse.{ReadsAt, IsSpelled}
+use Rattle.lay_reparse.specs.Reparse.{IsSpelled}
 use Rattle.lay_layout.proofs.AnywayLaws.{text_anyway}
 use Rattle.lay_reparse.proofs.texts.Characters.{is_clean, clean_scalars, clean_folded}
 use Rattle.lay_reparse.proofs.forms.Opened.{even}
@@ -57,12 +56,12 @@ source_is cs s m f =
     read : List ℕ → Result Source Refusal
     read z = Ok (source_of (folded (without_mark z)))
 
-made : (file : File) (depth : ℕ) (bytes : List ℕ) (from : Source) (added : List ℕ) (parts : List Part) (last : List ℕ)
+made : (file : File) (written : Written file) (depth : ℕ) (bytes : List ℕ) (from : Source) (added : List ℕ) (parts : List Part) (last : List ℕ)
     → source bytes ≡ Ok from → from.shebang ≡ file.shebang
     → chars (drop from.start from.text) ≡ added → AreParts added parts last
     → ((at : ℕ) → Spells (form_of_file file) depth (tokens_from at parts) [])
-    → Passes even false (form_of_file file) plain plain → ReadsAt bytes file depth
-made file depth bytes from added parts last t s e r k p = record {
+    → Passes even false (form_of_file file) plain plain → ReadsAt depth bytes file
+made file written depth bytes from added parts last t s e r k p = record {
   from = from;
   tokens = tokens_from from.start parts;
   text = t;
@@ -70,7 +69,7 @@ made file depth bytes from added parts last t s e r k p = record {
   lexes = (parts, last, subst (λ z. AreParts z parts last) (sym e) r, refl);
   balanced = balanced (form_of_file file) false plain plain depth (tokens_from from.start parts)
       (parts_single Other parts last from.start r.fit) p (k from.start);
-  spells = k from.start;
+  spells = (written, k from.start);
 }
 
 -- ---- without a shebang
@@ -96,12 +95,12 @@ open_of file added end w c e l = elim (file_fair file w) [
       subst Open same (record { mark = f.mark (chars g.0); plain_line = f.plain (chars g.0) })
 ]
 
-plain_reads : (file : File) (depth : ℕ) (text : List ℕ) (end : State) → are_pieces (form_of_file file) ≡ true
+plain_reads : (file : File) (written : Written file) (depth : ℕ) (text : List ℕ) (end : State)
     → file.shebang ≡ None → end.text ≡ text
     → Leads outside (laid_out false (form_of_file file) Empty) start end → Laid (form_of_file file) depth start end
-    → Passes even false (form_of_file file) plain plain → ReadsAt text file depth
-plain_reads file depth text end w n e l k p =
-    let o = open_of file k.added end w k.clean k.grown l in
+    → Passes even false (form_of_file file) plain plain → ReadsAt depth text file
+plain_reads file written depth text end n e l k p =
+    let o = open_of file k.added end written.pieces k.clean k.grown l in
     let s = clean_scalars k.added k.clean in
     let from : Source = source_of k.added in
     let at : source (encode_utf8_all k.added) ≡ Ok from = source_is k.added s o.mark (clean_folded k.added k.clean) in
@@ -109,8 +108,8 @@ plain_reads file depth text end w n e l k p =
     let none : from.shebang ≡ None = ap (λ b. cond b
     (Some (encode_utf8_all (without_end 13 (front is_in_line k.added)))) None) o.plain_line in
     let zero : from.start ≡ 0 = ap (λ b. cond b (line_size k.added) 0) o.plain_line in
-    subst (λ t. ReadsAt t file depth) same
-    (made file depth (encode_utf8_all k.added) from k.added k.parts k.last at (none ∙ sym n)
+    subst (λ t. ReadsAt depth t file) same
+    (made file written depth (encode_utf8_all k.added) from k.added k.parts k.last at (none ∙ sym n)
     (ap (λ i. chars (drop i (encode_utf8_all k.added))) zero ∙ chars-encodes k.added s) k.reads k.spells p)
 
 -- ---- behind a shebang
@@ -183,10 +182,10 @@ good_of line h =
       stays = encodes_same (without_end 13 (chars line)) (chars line) (back ∙ sym same);
     }
 
-line_reads : (file : File) (depth : ℕ) (line text : List ℕ) (s end : State) → file.shebang ≡ Some line
+line_reads : (file : File) (written : Written file) (depth : ℕ) (line text : List ℕ) (s end : State) → file.shebang ≡ Some line
     → is_good_shebang (Some line) ≡ true → end.text ≡ text → s.text ≡ line ++ 10 ∷ []
-    → Laid (form_of_file file) depth s end → Passes even false (form_of_file file) plain plain → ReadsAt text file depth
-line_reads file depth line text s end n good e at k p =
+    → Laid (form_of_file file) depth s end → Passes even false (form_of_file file) plain plain → ReadsAt depth text file
+line_reads file written depth line text s end n good e at k p =
     let g = good_of line good in
     let l = chars line in
     let cs = l ++ 10 ∷ k.added in
@@ -213,8 +212,8 @@ line_reads file depth line text s end n good e at k p =
     (λ i. drop (starts i) (bytes i)) ∙ ap (drop (length line + 1))
     (sym (append_assoc line (10 ∷ []) (encode_utf8_all k.added)))
     ∙ drop_at (line ++ 10 ∷ []) (encode_utf8_all k.added) (length line + 1) (one_more line) in
-    subst (λ t. ReadsAt t file depth) same
-    (made file depth (encode_utf8_all cs) from k.added k.parts k.last
+    subst (λ t. ReadsAt depth t file) same
+    (made file written depth (encode_utf8_all cs) from k.added k.parts k.last
     (source_is cs fine (line_unmarked l (10 ∷ k.added) g.shebang) fold) (shebang ∙ sym n)
     (ap chars left ∙ chars-encodes k.added (clean_scalars k.added k.clean)) k.reads k.spells p)
   where
@@ -227,15 +226,13 @@ line_reads file depth line text s end n good e at k p =
 
 -- ---- files
 
-pub reparse_file : (file : File) (depth : ℕ) (text : List ℕ) → Written file → IsSpelled file depth
-    → Anyway (layout_of_file file) text → ReadsAt text file depth
-reparse_file file depth text w s l = by file.shebang refl l.1
+-- Every text of the layout of a file that is written reads to it at each depth that is enough for its form.
+pub reparse_at : (file : File) (depth : ℕ) (text : List ℕ) → Written file → least_depth (form_of_file file) ≤ depth
+    → Anyway (layout_of_file file) text → ReadsAt depth text file
+reparse_at file depth text w n l = by file.shebang refl l.1
   where
     p : Passes even false (form_of_file file) plain plain
     p = (file_passes file w.normal w.pieces).go false
-
-    n : least_depth (form_of_file file) ≤ depth
-    n = least (form_of_file file) depth s.0 [] s.1
 
     laid : (m : State) → Leads outside (laid_out false (form_of_file file) Empty) m l.0
         → Laid (form_of_file file) depth m l.0
@@ -243,30 +240,24 @@ reparse_file file depth text w s l = by file.shebang refl l.1
 
     by : (o : Option (List ℕ)) → file.shebang ≡ o
         → Leads outside (behind_shebang o (laid_out false (form_of_file file) Empty)) start l.0
-        → ReadsAt text file depth
-    by None e h = plain_reads file depth text l.0 w.pieces e l.2 h (laid start h) p
+        → ReadsAt depth text file
+    by None e h = plain_reads file w depth text l.0 e l.2 h (laid start h) p
     by (Some line) e (inl h) =
         let m = newline (break_of (Hard false)) 0 (write line start) in
-        line_reads file depth line text m l.0 e (ap is_good_shebang (sym e) ∙ w.shebang) l.2 refl (laid m h.1) p
+        line_reads file w depth line text m l.0 e (ap is_good_shebang (sym e) ∙ w.shebang) l.2 refl (laid m h.1) p
     by (Some line) e (inr h) = absurd (let f : false ≡ true = h.0 in cc)
 
--- The text of a file that is written and spelled reads to the file.
-pub out_reads : (file : File) → Written file → IsSpelled file top → reading.Reads (out file) file
-out_reads file w s =
-    let r = reparse_file file top (out file) w s (text_anyway (layout_of_file file)) in
-    record {
-      from = r.from;
-      tokens = r.tokens;
-      text = r.text;
-      shebang = r.shebang;
-      lexes = r.lexes;
-      balanced =
-          r.balanced;
-      spells = (w, r.spells);
-    }
+-- A depth at which it is spelled is enough.
+pub reparse_file : (file : File) (depth : ℕ) (text : List ℕ) → Written file → IsSpelled file depth
+    → Anyway (layout_of_file file) text → ReadsAt depth text file
+reparse_file file depth text w s l = reparse_at file depth text w (least (form_of_file file) depth s.0 [] s.1) l
+
+-- The text that is laid out is one of them.
+pub out_reads : (file : File) → Written file → IsSpelled file top → Reads (out file) file
+out_reads file w s = reparse_file file top (out file) w s (text_anyway (layout_of_file file))
 
 -- ---- formatted again
 
 -- What bytes read to is laid out as a text that reads to it again.
-pub again : (bytes : List ℕ) (file : File) → reading.Reads bytes file → reading.Reads (out file) file
+pub again : (bytes : List ℕ) (file : File) → Reads bytes file → Reads (out file) file
 again bytes file r = out_reads file r.spells.0 (r.tokens, r.spells.1)

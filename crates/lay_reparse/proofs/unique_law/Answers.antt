@@ -2,4 +2,8 @@ use Rattle.lay_reparse.proofs.file.OneAnswer as answer
 use Rattle.lay_reparse.proofs.unique_law.Goals as goal
 
 pub returns : goal.returns
-returns c = record { one_file = answer.one_file; one_refusal = answer.one_refusal; never_both = answer.never_both }
+returns c = record {
+  one_file = λ depth. answer.one_file;
+  one_refusal = answer.one_refusal;
+  never_both = λ depth. answer.never_both;
+}

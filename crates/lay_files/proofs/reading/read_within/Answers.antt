@@ -5,7 +5,7 @@ use Rattle.lay_token.specs.declared.token.Token.{Token}
 use Rattle.lay_lex.specs.Source.{seen}
 use Rattle.lay_code.proofs.GoodShebang.{source_good}
 use Rattle.lay_files.proofs.ReadingLemmas.{placed, read_as, read_no_file, unlexed, unnested, unread}
-use Rattle.lay_files.proofs.reading.read_bytes.Goals as goal
+use Rattle.lay_files.proofs.reading.read_within.Goals as goal
 
 pub read_file-requires-clause-lexed : goal.read_file-requires-clause-lexed
 read_file-requires-clause-lexed c =
@@ -27,29 +27,29 @@ pub read_file-requires-clause-good : goal.read_file-requires-clause-good
 read_file-requires-clause-good c = source_good c.args.bytes.now (seen c.in-Ok.source) c.in-Ok.ensures.answer
 
 pub returns-in-Err : goal.returns-in-Err
-returns-in-Err c = unread c.args.bytes.now c.in-Err.error c.placed.result c.in-Err.ensures.answer c.placed.ensures
+returns-in-Err c = unread c.args.depth c.args.bytes.now c.in-Err.error c.placed.result c.in-Err.ensures.answer c.placed.ensures
 
 pub returns-in-Err-lex : goal.returns-in-Err-lex
 returns-in-Err-lex c =
-    placed c.args.bytes.now (seen c.in-Ok.source) c.in-Err-lex.error c.placed-in-Err-lex.result c.in-Ok.ensures.answer
-    (unlexed c.args.bytes.now (seen c.in-Ok.source) c.in-Err-lex.error c.in-Ok.ensures.answer c.in-Err-lex.ensures.answer)
+    placed c.args.depth c.args.bytes.now (seen c.in-Ok.source) c.in-Err-lex.error c.placed-in-Err-lex.result c.in-Ok.ensures.answer
+    (unlexed c.args.depth c.args.bytes.now (seen c.in-Ok.source) c.in-Err-lex.error c.in-Ok.ensures.answer c.in-Err-lex.ensures.answer)
     (rw c.as_slice.ensures at c.placed-in-Err-lex.ensures)
 
 pub returns-in-Err-nest : goal.returns-in-Err-nest
 returns-in-Err-nest c =
-    placed c.args.bytes.now (seen c.in-Ok.source) c.in-Err-nest.error c.placed-in-Err-nest.result c.in-Ok.ensures.answer
-    (unnested c.args.bytes.now (seen c.in-Ok.source) c.in-Ok-lex.tokens c.in-Err-nest.error c.in-Ok.ensures.answer
+    placed c.args.depth c.args.bytes.now (seen c.in-Ok.source) c.in-Err-nest.error c.placed-in-Err-nest.result c.in-Ok.ensures.answer
+    (unnested c.args.depth c.args.bytes.now (seen c.in-Ok.source) c.in-Ok-lex.tokens c.in-Err-nest.error c.in-Ok.ensures.answer
     c.in-Ok-lex.ensures.answer c.in-Err-nest.ensures)
     (rw c.as_slice-in-Err-nest.ensures at c.placed-in-Err-nest.ensures)
 
 pub returns-in-Ok-read_file : goal.returns-in-Ok-read_file
 returns-in-Ok-read_file c =
-    read_as c.args.bytes.now (seen c.in-Ok.source) c.in-Ok-lex.tokens c.in-Ok-nest.nested c.in-Ok-read_file.file
+    read_as c.args.depth c.args.bytes.now (seen c.in-Ok.source) c.in-Ok-lex.tokens c.in-Ok-nest.nested c.in-Ok-read_file.file
     c.in-Ok.ensures.answer c.in-Ok-lex.ensures.answer c.in-Ok-nest.ensures.0 c.in-Ok-nest.ensures.1 c.in-Ok-read_file.ensures
 
 pub returns : goal.returns
 returns c =
-    placed c.args.bytes.now (seen c.in-Ok.source) c.in-Err-read_file.error c.placed-in-Err-read_file.result c.in-Ok.ensures.answer
-    (read_no_file c.args.bytes.now (seen c.in-Ok.source) c.in-Ok-lex.tokens c.in-Ok-nest.nested c.in-Err-read_file.error
+    placed c.args.depth c.args.bytes.now (seen c.in-Ok.source) c.in-Err-read_file.error c.placed-in-Err-read_file.result c.in-Ok.ensures.answer
+    (read_no_file c.args.depth c.args.bytes.now (seen c.in-Ok.source) c.in-Ok-lex.tokens c.in-Ok-nest.nested c.in-Err-read_file.error
     c.in-Ok.ensures.answer c.in-Ok-lex.ensures.answer c.in-Ok-nest.ensures.0 c.in-Ok-nest.ensures.1 c.in-Err-read_file.ensures)
     (rw c.as_slice-in-Err-read_file.ensures at c.placed-in-Err-read_file.ensures)
