@@ -1,0 +1,114 @@
+//! Blocks, statements, branches and arms.
+ghost use Rattle.std.specs.Prelude.{◌≡◌, map, true};
+ghost use Rattle.lay_form.specs.Depth.{least_depth};
+ghost use Rattle.lay_code.specs.nodes.Code.{about_block, about_stmt};
+ghost use Rattle.lay_depth_nodes.specs.Depths.{counted, greatest};
+ghost use Rattle.lay_depth.specs.Parts.{arm_form, block_if, branch_form, pat_if};
+
+use crate::exprs::{expr_depth, value_depth};
+use crate::items::item_depth;
+use lay_code::{Arm, Block, Branch, Stmt};
+use lay_depth_nodes::{deeper, pat_depth, type_or_none_depth};
+use lay_node::Pat;
+
+/// The depth of a block: that of its deepest statement.
+#[cycle(code)]
+pub(crate) fn block_depth(block: &Block) -> u32
+    ensures { result ≡ counted (least_depth ((about_block block.now).form true)) }
+{
+    let mut most = 0u32;
+    for stmt in block.stmts.as_slice() {
+        most = most.max(stmt_depth(stmt));
+    }
+    most
+}
+
+/// The depth of a block that may be left out: 0 where it is.
+#[cycle(code)]
+pub(crate) fn block_or_none_depth(block: &Option<Block>) -> u32
+    ensures { result ≡ counted (block_if block.now) }
+{
+    match block {
+        Some(block) => block_depth(block),
+        None => 0,
+    }
+}
+
+/// The depth of a statement. The block behind an `else` stands one level deeper.
+#[cycle(code)]
+fn stmt_depth(stmt: &Stmt) -> u32
+    ensures { result ≡ counted (least_depth (about_stmt stmt.now).form) }
+{
+    match stmt {
+        Stmt::Let {
+            pat,
+            ty,
+            value,
+            otherwise,
+            ..
+        } => {
+            let bound = pat_depth(pat).max(type_or_none_depth(ty));
+            let given = bound.max(value_depth(value));
+            match otherwise {
+                Some(block) => given.max(deeper(block_depth(block))),
+                None => given,
+            }
+        },
+        Stmt::Item { item } => item_depth(item.get()),
+        Stmt::Expr { expr, .. } => expr_depth(expr),
+    }
+}
+
+/// The depth of the deepest of the branches.
+#[cycle(code)]
+pub(crate) fn branches_depth(branches: &[Branch]) -> u32
+    ensures { result ≡ counted (greatest (map branch_form branches.now)) }
+{
+    let mut most = 0u32;
+    for branch in branches {
+        most = most.max(branch_depth(branch));
+    }
+    most
+}
+
+/// The depth of a branch.
+#[cycle(code)]
+fn branch_depth(branch: &Branch) -> u32
+    ensures { result ≡ counted (least_depth (branch_form branch.now)) }
+{
+    pat_or_none_depth(&branch.pat)
+        .max(expr_depth(&branch.condition))
+        .max(block_depth(&branch.body))
+}
+
+/// The depth of the deepest of the arms.
+#[cycle(code)]
+pub(crate) fn arms_depth(arms: &[Arm]) -> u32
+    ensures { result ≡ counted (greatest (map arm_form arms.now)) }
+{
+    let mut most = 0u32;
+    for arm in arms {
+        most = most.max(arm_depth(arm));
+    }
+    most
+}
+
+/// The depth of an arm. Its body stands one level deeper.
+#[cycle(code)]
+fn arm_depth(arm: &Arm) -> u32
+    ensures { result ≡ counted (least_depth (arm_form arm.now)) }
+{
+    pat_depth(&arm.pat)
+        .max(value_depth(&arm.guard))
+        .max(deeper(expr_depth(&arm.body)))
+}
+
+/// The depth of a pattern that may be left out: 0 where it is.
+pub(crate) fn pat_or_none_depth(pat: &Option<Pat>) -> u32
+    ensures { result ≡ counted (pat_if pat.now) }
+{
+    match pat {
+        Some(pat) => pat_depth(pat),
+        None => 0,
+    }
+}

@@ -1,0 +1,240 @@
+//! Expressions, and the fields and steps that they are made of.
+ghost use Rattle.std.specs.Prelude.{◌≡◌, map, option_map};
+ghost use Rattle.lay_form.specs.Depth.{least_depth};
+ghost use Rattle.lay_node.specs.nodes.Facts.{forms};
+ghost use Rattle.lay_code.specs.nodes.Code.{about_expr, about_field_expr, about_step};
+ghost use Rattle.lay_code.specs.nodes.Exprs.{base_form, closure_param, expr_forms};
+ghost use Rattle.lay_depth_nodes.specs.Depths.{counted, greatest};
+ghost use Rattle.lay_depth.specs.Parts.{expr_if, operand_form, step_form, target_form};
+
+use crate::blocks::{
+    arms_depth, block_depth, block_or_none_depth, branches_depth, pat_or_none_depth,
+};
+use lay_code::{ClosureParam, Expr, FieldExpr, Op, Step};
+use lay_depth_nodes::{
+    arguments_depth, deeper, pat_depth, path_depth, type_depth, type_or_none_depth, types_depth,
+};
+use lay_node::Boxed;
+
+/// The depth of an expression.
+#[cycle(code)]
+pub(crate) fn expr_depth(expr: &Expr) -> u32
+    ensures { result ≡ counted (least_depth (about_expr expr.now).form) }
+{
+    match expr {
+        Expr::Lit { .. } | Expr::Underscore | Expr::Call { .. } | Expr::Continue { .. } => 1,
+        Expr::Path { path } => deeper(path_depth(path)),
+        Expr::Tuple { elements } | Expr::Array { elements } => {
+            deeper(exprs_depth(elements.as_slice()))
+        },
+        Expr::Paren { inner: part }
+        | Expr::Repeat { element: part, .. }
+        | Expr::Unary { operand: part, .. } => deeper(expr_depth(part.get())),
+        Expr::Struct { path, fields, base } => {
+            let within = path_depth(path).max(fields_depth(fields.as_slice()));
+            deeper(within.max(base_depth(base)))
+        },
+        Expr::Chain { first, rest } => {
+            deeper(expr_depth(first.get()).max(operands_depth(rest.as_slice())))
+        },
+        Expr::Cast { operand, types } => {
+            deeper(expr_depth(operand.get()).max(types_depth(types.as_slice())))
+        },
+        Expr::Range { start, end, .. } => deeper(operand_depth(start).max(operand_depth(end))),
+        Expr::Assign { targets, value } => {
+            deeper(targets_depth(targets.as_slice()).max(expr_depth(value.get())))
+        },
+        Expr::Postfix { base, steps } => {
+            deeper(expr_depth(base.get()).max(steps_depth(steps.as_slice())))
+        },
+        Expr::Block { body, .. }
+        | Expr::Unsafe { body }
+        | Expr::ConstBlock { body }
+        | Expr::Async { body, .. }
+        | Expr::Loop { body, .. } => deeper(block_depth(body)),
+        Expr::If {
+            branches,
+            otherwise,
+        } => deeper(branches_depth(branches.as_slice()).max(block_or_none_depth(otherwise))),
+        Expr::Match {
+            scrutinee,
+            arms,
+            ..
+        } => deeper(expr_depth(scrutinee.get()).max(arms_depth(arms.as_slice()))),
+        Expr::While {
+            pat,
+            condition,
+            body,
+            ..
+        } => {
+            let head = pat_or_none_depth(pat).max(expr_depth(condition.get()));
+            deeper(head.max(block_depth(body)))
+        },
+        Expr::For {
+            pat,
+            iterated,
+            body,
+            ..
+        } => {
+            let head = pat_depth(pat).max(expr_depth(iterated.get()));
+            deeper(head.max(block_depth(body)))
+        },
+        Expr::Closure { params, body, .. } => {
+            deeper(params_depth(params.as_slice()).max(expr_depth(body.get())))
+        },
+        Expr::TypedClosure {
+            params,
+            output,
+            body,
+            ..
+        } => {
+            let head = params_depth(params.as_slice()).max(type_depth(output));
+            deeper(head.max(block_depth(body)))
+        },
+        Expr::Return { operand } | Expr::Break { operand, .. } => deeper(operand_depth(operand)),
+    }
+}
+
+/// The depth of the deepest of the expressions.
+#[cycle(code)]
+fn exprs_depth(exprs: &[Expr]) -> u32
+    ensures { result ≡ counted (greatest (expr_forms (map about_expr exprs.now))) }
+{
+    let mut most = 0u32;
+    for expr in exprs {
+        most = most.max(expr_depth(expr));
+    }
+    most
+}
+
+/// The depth of an operand that may be left out: 0 where it is.
+#[cycle(code)]
+fn operand_depth(operand: &Option<Boxed<Expr>>) -> u32
+    ensures { result ≡ counted (expr_if operand.now) }
+{
+    match operand {
+        Some(operand) => expr_depth(operand.get()),
+        None => 0,
+    }
+}
+
+/// The depth of a value that may be left out: 0 where it is.
+#[cycle(code)]
+pub(crate) fn value_depth(value: &Option<Expr>) -> u32
+    ensures { result ≡ counted (expr_if value.now) }
+{
+    match value {
+        Some(value) => expr_depth(value),
+        None => 0,
+    }
+}
+
+/// The depth of the deepest operand behind an operator.
+#[cycle(code)]
+fn operands_depth(operands: &[(Op, Expr)]) -> u32
+    ensures { result ≡ counted (greatest (map operand_form operands.now)) }
+{
+    let mut most = 0u32;
+    for (_, operand) in operands {
+        most = most.max(expr_depth(operand));
+    }
+    most
+}
+
+/// The depth of the deepest target of an assignment.
+#[cycle(code)]
+fn targets_depth(targets: &[(Expr, Op)]) -> u32
+    ensures { result ≡ counted (greatest (map target_form targets.now)) }
+{
+    let mut most = 0u32;
+    for (target, _) in targets {
+        most = most.max(expr_depth(target));
+    }
+    most
+}
+
+/// The depth of the deepest field of a struct literal.
+#[cycle(code)]
+fn fields_depth(fields: &[FieldExpr]) -> u32
+    ensures { result ≡ counted (greatest (forms (map about_field_expr fields.now))) }
+{
+    let mut most = 0u32;
+    for field in fields {
+        most = most.max(field_depth(field));
+    }
+    most
+}
+
+/// The depth of a field of a struct literal.
+#[cycle(code)]
+fn field_depth(field: &FieldExpr) -> u32
+    ensures { result ≡ counted (least_depth (about_field_expr field.now).form) }
+{
+    match field {
+        FieldExpr::Named { value, .. } | FieldExpr::Numbered { value, .. } => expr_depth(value),
+        FieldExpr::Short { .. } => 0,
+    }
+}
+
+/// The depth of the base of a struct literal, and 0 without one.
+#[cycle(code)]
+fn base_depth(base: &Option<Option<Boxed<Expr>>>) -> u32
+    ensures { result ≡ counted (greatest (base_form (option_map (option_map about_expr) base.now))) }
+{
+    match base {
+        Some(base) => match base {
+            Some(base) => expr_depth(base.get()),
+            None => 0,
+        },
+        None => 0,
+    }
+}
+
+/// The depth of the deepest of the steps behind an expression.
+#[cycle(code)]
+fn steps_depth(steps: &[Step]) -> u32
+    ensures { result ≡ counted (greatest (map step_form steps.now)) }
+{
+    let mut most = 0u32;
+    for step in steps {
+        most = most.max(step_depth(step));
+    }
+    most
+}
+
+/// The depth of a step.
+#[cycle(code)]
+fn step_depth(step: &Step) -> u32
+    ensures { result ≡ counted (least_depth (about_step step.now).form) }
+{
+    match step {
+        Step::Field { .. } | Step::TupleIndex { .. } | Step::Try | Step::Await => 0,
+        Step::Method { generics, args, .. } => {
+            let within = exprs_depth(args.as_slice());
+            match generics {
+                Some(generics) => arguments_depth(generics.as_slice()).max(within),
+                None => within,
+            }
+        },
+        Step::Apply { args } => exprs_depth(args.as_slice()),
+        Step::Index { index } => expr_depth(index),
+    }
+}
+
+/// The depth of the deepest of the parameters of a closure.
+fn params_depth(params: &[ClosureParam]) -> u32
+    ensures { result ≡ counted (greatest (map closure_param params.now)) }
+{
+    let mut most = 0u32;
+    for param in params {
+        most = most.max(param_depth(param));
+    }
+    most
+}
+
+/// The depth of a parameter of a closure.
+fn param_depth(param: &ClosureParam) -> u32
+    ensures { result ≡ counted (least_depth (closure_param param.now)) }
+{
+    pat_depth(&param.pat).max(type_or_none_depth(&param.ty))
+}
