@@ -1,6 +1,8 @@
-//! How deep bodies and values may be.
+//! How deep bodies and values may be, and how deep files are.
 
 use crate::runs::ran;
+use lay_depth::file_depth;
+use lay_files::{DEPTH, read_within};
 use lay_front::Status;
 use lay_given::repeated;
 use lay_token::{List, NoMemory, Refusal};
@@ -92,6 +94,49 @@ fn values(rt: HostRuntime) -> Result<(), Fail> {
             Status::Done,
             "{before}{after}"
         );
+    }
+    Ok(())
+}
+
+/// The depth of the file that a text reads to within a depth.
+fn depth_within(alloc: Global, text: &str, depth: u32) -> Option<u32> {
+    let file = read_within(alloc, text.as_bytes(), depth).ok()?;
+    Some(file_depth(&file))
+}
+
+// The depth of a file is the least within which its text reads.
+#[test]
+fn counted(rt: HostRuntime) -> Result<(), Fail> {
+    let alloc = rt.alloc();
+    for (text, depth) in [
+        ("", 0),
+        ("#![a]", 0),
+        ("struct A;", 1),
+        ("mod a{struct B;}", 2),
+        ("use a::{b,c};", 3),
+        ("macro_rules! a{(((b)))=>{}}", 1),
+        ("struct A<B:C>(D);", 2),
+        ("fn f(a:B)->C where D:E{}", 2),
+        ("type A=&B;", 3),
+        ("type A=B<C>;", 3),
+        ("type A=B<C=D>;", 4),
+        ("type A=<B as C>::D;", 3),
+        ("type A=<B as C<D>>::E;", 4),
+        ("fn f(){a}", 2),
+        ("fn f(){let a:B=c else{d};}", 3),
+        ("fn f(){match a{b=>c}}", 4),
+        ("fn f(){match a{B(c)=>d,}}", 4),
+        ("const A:B=c+d+e;", 3),
+        ("const A:B=-&*c;", 3),
+        ("const A:B=c.d(e)[f]?;", 3),
+        ("const A:B=C{d:e,..f};", 3),
+        ("const A:B=|c:D|e=f=g;", 4),
+    ] {
+        assert_eq!(rt; depth_within(alloc, text, DEPTH), Some(depth), "{text}");
+        assert_eq!(rt; depth_within(alloc, text, depth), Some(depth), "{text}");
+        if depth > 0 {
+            assert_eq!(rt; depth_within(alloc, text, depth - 1), None, "{text}");
+        }
     }
     Ok(())
 }
