@@ -1,11 +1,12 @@
 -- Laying out token by token is laying out the document.
-use Rattle.std.proofs.Common.{◌≡◌, ℕ, ℤ, Bool, suc, ◌+◌, List, [], ◌∷◌, ◌++◌, refl, ap, ◌∙◌, append_assoc, append-nil, arith}
+use Rattle.std.proofs.Common.{◌≡◌, ℕ, ℤ, Bool, suc, ◌+◌, List, [], ◌∷◌, ◌++◌, length, refl, ap, ap₂, subst, ◌∙◌, append_assoc, append-nil, arith}
 use Rattle.lay_layout.specs.declared.layout.Break.{Break}
 use Rattle.lay_layout.specs.declared.layout.Frame.{Frame}
 use Rattle.lay_layout.specs.declared.layout.Tok.{Tok}
 use Rattle.lay_layout.specs.declared.layout.Tok.TheVariants as tok
-use Rattle.lay_layout.specs.Document.{Document, Empty, AddText, AddBreak, AddGroup, State, flat, stream, ahead, render, width_of_break, over, write, enter, break_in, outside, start, text_of}
-use Rattle.lay_layout.specs.Machine.{measure, reach, play, Layout, top, begun, text}
+use Rattle.lay_layout.specs.Document.{Document, Empty, AddText, AddBreak, AddGroup, State, flat, stream, ahead, render, width_of_break, over, write, enter, break_in, outside, start, text_of, space_of}
+use Rattle.lay_layout.specs.Machine.{measure, reach, play, Layout, layout_after, top, begun, text, shown, space}
+use Rattle.std.proofs.Math.Seq.{take-append_seam, drop-append_seam}
 
 pub reach_flat : (d : Document) (k : ℕ) (more : List Tok) → reach (suc k) (stream d ++ more) ≡ flat d + reach (suc k) more
 reach_flat Empty k more = omega arith
@@ -63,3 +64,19 @@ text_stream d =
     let h : play (stream d ++ []) [] begun ≡ play [] [] (record { frames = []; state = render d outside start 0 }) = play_render d [] start [] [] in
     let k : play (stream d) [] begun ≡ record { frames = []; state = render d outside start 0 } = rw e at h in
     ap (λ (m : Layout). m.state.text) k
+
+-- where the tokens of a document stand at the front, they are laid out as the document before what follows it
+layout_front : (d : Document) (more : List Tok)
+    → layout_after (stream d ++ more) (length (stream d)) ≡ record { frames = []; state = render d outside start (reach 0 more) }
+layout_front d more =
+    let P : List Tok → Type 0 = λ front. play front more begun ≡ record { frames = []; state = render d outside start (reach 0 more) } in
+    let k : P (stream d) = subst P (append-nil (stream d)) (play_render d [] start [] more) in
+    ap₂ (λ (front behind : List Tok). play front behind begun) (take-append_seam (stream d) more) (drop-append_seam (stream d) more) ∙ k
+
+pub shown_front : (d : Document) (more : List Tok)
+    → shown (stream d ++ more) (length (stream d)) ≡ (render d outside start (reach 0 more)).text
+shown_front d more = ap (λ (m : Layout). m.state.text) (layout_front d more)
+
+pub space_front : (d : Document) (more : List Tok)
+    → space (stream d ++ more) (length (stream d)) ≡ space_of (render d outside start (reach 0 more))
+space_front d more = ap (λ (m : Layout). space_of m.state) (layout_front d more)

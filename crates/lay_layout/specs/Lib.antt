@@ -1,3 +1,4 @@
 pub mod Anyway
 pub mod Document
+pub mod Indents
 pub mod Machine

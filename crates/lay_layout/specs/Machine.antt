@@ -11,7 +11,7 @@ abbrev pub outer : ℕ → ℕ
 outer zero = zero
 outer (suc n) = n
 
--- the groups that are open layout_after tokens, where n are open before
+-- the groups that are open after tokens, where n are open before
 abbrev pub opened : List Tok → ℕ → ℕ
 opened [] n = n
 opened (tok.Text t ∷ ts) n = opened ts n

@@ -1,11 +1,11 @@
 //! The tokens of a layout.
-ghost use Rattle.std.specs.Prelude.{◌≡◌, ◌+◌, ◌++◌, ◌∷◌, Bool, List, ℤ};
+ghost use Rattle.std.specs.Prelude.{◌≡◌, ◌+◌, ◌++◌, ◌∷◌, Bool, List, ℤ, length};
 ghost use Rattle.lay_layout.specs.declared.layout.Break.{Break};
 ghost use Rattle.lay_layout.specs.declared.layout.Tok.{Tok};
 ghost use Rattle.lay_layout.specs.declared.layout.Tok.TheVariants as tok;
 ghost use Rattle.lay_layout.specs.Anyway.{Anyway};
-ghost use Rattle.lay_layout.specs.Document.{Document, ahead, flat, stream, text_of, width_of_break};
-ghost use Rattle.lay_layout.specs.Machine.{IsClosed, measure, reach, text};
+ghost use Rattle.lay_layout.specs.Document.{Document, ahead, flat, outside, render, space_of, start, stream, text_of, width_of_break};
+ghost use Rattle.lay_layout.specs.Machine.{IsClosed, measure, reach, shown, space, text};
 
 use lay_text::Text;
 
@@ -65,8 +65,9 @@ pub enum Frame {
 /// The text that the machine over tokens gives to a document's flattening is the text of the document. A
 /// list of tokens is the flattening of a document exactly where each of its groups is closed, and then of
 /// one document only. Of a group and of a break in it the machine measures what the document does: the flat width,
-/// and what is ahead of it. The text of a document is one of those that it may be laid out as where the space decides
-/// nothing.
+/// and what is ahead of it. Where a document's tokens stand at the front of others, the text and the space behind them are
+/// the document's, before what follows it. The text of a document is one of those that it may be laid out as where the
+/// space decides nothing.
 pub fn layout_law()
     ensures same_text { (d : Document) → text (stream d) ≡ text_of d }
     ensures closed { (d : Document) → IsClosed 0 (stream d) }
@@ -76,5 +77,9 @@ pub fn layout_law()
         → measure (tok.Begin c o) (stream inner ++ tok.End ∷ (stream rest ++ more)) ≡ flat inner + ahead rest (reach 0 more) }
     ensures measured_break { (b : Break) (rest : Document) (more : List Tok)
         → measure (tok.Break b) (stream rest ++ more) ≡ width_of_break b + ahead rest (reach 0 more) }
+    ensures shown_front { (d : Document) (more : List Tok)
+        → shown (stream d ++ more) (length (stream d)) ≡ (render d outside start (reach 0 more)).text }
+    ensures space_front { (d : Document) (more : List Tok)
+        → space (stream d ++ more) (length (stream d)) ≡ space_of (render d outside start (reach 0 more)) }
     ensures anyway { (d : Document) → Anyway d (text_of d) }
 {}

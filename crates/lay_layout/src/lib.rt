@@ -2,9 +2,14 @@
 //!
 //! The crate defines documents, their flattening to tokens, and the text that Oppen's algorithm gives to them
 //! ("Prettyprinting", TOPLAS 2(4), 1980). [`layout_law`] says that laying out token by token and laying out a nested
-//! document are one. Every printer is proved against these definitions.
+//! document are one. Every printer is proved against these definitions, and takes from here the margins of a line, the
+//! widths of breaks ([`widths`]), and what becomes of a break and of a group in a frame ([`frames`]).
 #![tactic(auto)]
 
+pub mod frames;
 pub mod layout;
+pub mod widths;
 
+pub use frames::{GREATEST_INDENT, OUTSIDE, asks_at_break, entered, shifted};
 pub use layout::{Break, Frame, Mark, Tok, layout_law};
+pub use widths::{GREATEST_BLANKS, LEAST_SPACE, MARGIN, mark_len, width_of};

@@ -67,7 +67,7 @@ impl Engine {
         }
     }
 
-    /// Does nothing wait?
+    /// Whether nothing waits.
     #[inline(always)]
     pub fn is_idle(&self) -> bool
         ensures { IsTrue result → self.now.queue.ring.entries ≡ [] }
@@ -88,7 +88,7 @@ impl Engine {
         self.page.print_text(sink, text)
     }
 
-    /// Is a break printed at once, since nothing waits and what follows it doesn't count?
+    /// Whether a break is printed at once, since nothing waits and what follows it doesn't count.
     #[inline(always)]
     pub fn is_clear(&self, brk: Break) -> bool
         ensures idle { IsTrue result → self.now.queue.ring.entries ≡ [] }

@@ -1,9 +1,9 @@
 //! The frames of the groups that are open, and room for more.
 ghost use Rattle.std.specs.Prelude.{◌≡◌, ◌+◌, ◌^◌, ◌<◌, ◌≤◌, [], ◌∷◌, length, OnOk};
 ghost use Rattle.lay_layout.specs.Machine.{top, below};
-ghost use Rattle.lay_stream.specs.Indents.{IsKept};
+ghost use Rattle.lay_layout.specs.Indents.{IsKept};
 
-use lay_layout::Frame;
+use lay_layout::{Frame, OUTSIDE};
 use lay_text::NoMemory;
 use std::alloc::Global;
 use std::marker::Model;
@@ -17,7 +17,7 @@ pub struct Frames {
 impl Model for Frames {
     ghost use Rattle.std.specs.Prelude.{List, reverse, ◌-◌, vec_len, vec_capacity};
     ghost use Rattle.lay_layout.specs.declared.layout.Frame.{Frame};
-    ghost use Rattle.lay_stream.specs.Indents.{AreKept};
+    ghost use Rattle.lay_layout.specs.Indents.{AreKept};
     ghost use Rattle.lay_printer.specs.Printing.{Framed};
 
     ghost Value = { Framed };
@@ -28,6 +28,7 @@ impl Model for Frames {
 }
 
 impl Frames {
+    /// No group is open.
     pub fn new(alloc: Global) -> Frames
         ensures { result.frames ≡ [] }
     {
@@ -64,10 +65,7 @@ impl Frames {
     {
         match self.items.last() {
             Some(frame) => *frame,
-            None => Frame::Broken {
-                consistent: false,
-                indent: 0,
-            },
+            None => OUTSIDE,
         }
     }
 

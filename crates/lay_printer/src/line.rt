@@ -1,12 +1,12 @@
 //! The line that is being written, and what is put on it.
-ghost use Rattle.std.specs.Prelude.{◌≡◌, ℕ, ◌<◌, ◌≤◌, min, max, ◌+◌, ◌∷◌, ◌++◌, [], replicate, OnOk, OnErr, IsTrue, length, nat_lt};
-ghost use Rattle.lay_layout.specs.Document.{State, shift, write as written_on, put_mark as marked, line as on_line, newline as on_newline, skip as skipped, break_in};
+ghost use Rattle.std.specs.Prelude.{◌≡◌, ℕ, ◌≤◌, min, max, ◌+◌, ◌∷◌, ◌++◌, [], replicate, OnOk, OnErr, IsTrue, length, nat_lt};
+ghost use Rattle.lay_layout.specs.Document.{State, write as written_on, put_mark as marked, line as on_line, newline as on_newline, skip as skipped, break_in};
 ghost use Rattle.lay_io.specs.Calls.{Writes};
 ghost use Rattle.lay_io.specs.Faults.{HasCause, SameLoan};
-ghost use Rattle.lay_stream.specs.Indents.{IsKept};
+ghost use Rattle.lay_layout.specs.Indents.{IsKept};
 
 use lay_io::{Failed, Sink};
-use lay_layout::{Break, Frame, Mark};
+use lay_layout::{Break, Frame, GREATEST_BLANKS, LEAST_SPACE, MARGIN, Mark, shifted};
 
 /// The blanks that are to be written before what comes next, the room of the line and what was used of it.
 #[derive(Clone, Copy, Debug)]
@@ -18,19 +18,9 @@ pub struct Line {
 }
 
 /// The greatest count of what was used of a line: the space is exact down to -2^62.
-const USED: u64 = 0x4000_0000_0000_0059;
+const USED: u64 = 0x4000_0000_0000_0000 + MARGIN;
 
-/// What an indent and an offset make, from 0 on.
-pub fn shifted(indent: u64, offset: i8) -> u64
-    requires { indent ≤ 240 }
-    ensures value { result ≡ shift indent offset }
-    ensures small { result < 368 }
-{
-    let sum = indent as i64 + offset as i64;
-    if sum < 0 { 0 } else { sum as u64 }
-}
-
-/// Is the sum of a width and a length greater than the space?
+/// Whether the sum of a width and a length is greater than the space.
 #[inline(always)]
 pub fn exceeds(line: &Line, width: u64, length: u64) -> bool
     ensures { result ≡ nat_lt line.now.room (line.now.used + (width + length)) }
@@ -95,6 +85,7 @@ impl Line {
         Ok(())
     }
 
+    /// Writes a mark, if there is one.
     #[inline(always)]
     fn put_mark<K: Sink>(&mut self, sink: &mut K, mark: Mark) -> Result<(), Failed>
         ensures moves { Moves self.old (K.written sink.old) result self.new (K.written sink.new) (marked mark) }
@@ -109,6 +100,7 @@ impl Line {
         }
     }
 
+    /// Begins a line with so many blanks, which wait.
     fn start_line<K: Sink>(&mut self, sink: &mut K, blanks: u64) -> Result<(), Failed>
         ensures moves { Moves self.old (K.written sink.old) result self.new (K.written sink.new) (on_line blanks) }
         ensures cause { HasCause (K.faults sink.old) (K.faults sink.new) result }
@@ -116,11 +108,12 @@ impl Line {
     {
         sink.write(b"\n")?;
         self.pending = blanks;
-        self.room = 89u64.saturating_sub(blanks).max(60);
+        self.room = MARGIN.saturating_sub(blanks).max(LEAST_SPACE);
         self.used = 0;
         Ok(())
     }
 
+    /// A break that is a newline, in a frame of this indent.
     #[inline(never)]
     fn newline<K: Sink>(&mut self, sink: &mut K, brk: Break, indent: u64) -> Result<(), Failed>
         requires { indent ≤ 240 }
@@ -140,7 +133,10 @@ impl Line {
         ensures used { self.new.used ≡ min (self.old.used + blank) USED }
         ensures room { self.new.room ≡ self.old.room }
     {
-        self.pending = self.pending.saturating_add(blank as u64).min(1_000_000);
+        self.pending = self
+            .pending
+            .saturating_add(blank as u64)
+            .min(GREATEST_BLANKS);
         self.used = self.used.saturating_add(blank as u64).min(USED);
     }
 

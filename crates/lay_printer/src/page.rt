@@ -1,17 +1,14 @@
 //! The printing side: tokens are printed where the layout stands.
-ghost use Rattle.std.specs.Prelude.{◌≡◌, ◌+◌, ◌<◌, ◌≤◌, Bool, true, [], ◌∷◌, length, IsFalse, IsTrue};
+ghost use Rattle.std.specs.Prelude.{◌≡◌, ◌+◌, ◌<◌, ◌≤◌, true, [], ◌∷◌, length, IsTrue};
 ghost use Rattle.lay_layout.specs.declared.layout.Tok.TheVariants as tok;
-ghost use Rattle.lay_layout.specs.Document.{State, break_in, enter};
 ghost use Rattle.lay_layout.specs.Machine.{opened};
 ghost use Rattle.lay_io.specs.Faults.{HasCause, SameLoan};
 ghost use Rattle.lay_printer.specs.Queued.{IsClear, Prints};
-ghost use Rattle.lay_stream.specs.Indents.{IsKept};
 
 use crate::frames::Frames;
-use crate::line::{Line, exceeds, shifted};
+use crate::line::{Line, exceeds};
 use lay_io::{Failed, Sink};
-use lay_layout::{Break, Frame, Tok};
-use lay_queue::width_of;
+use lay_layout::{Break, Tok, asks_at_break, entered, width_of};
 
 /// Where the layout stands: the line that is being written, and the frames of the groups that are open there.
 #[derive(Drop)]
@@ -43,12 +40,12 @@ impl Page {
         self.line.put_break(sink, self.frames.top(), brk, true)
     }
 
-    /// Is a break printed as one that doesn't fit, whatever follows it?
+    /// Whether a break is printed as one that doesn't fit, whatever follows it.
     #[inline(always)]
     pub fn is_clear(&self, brk: Break) -> bool
         ensures { IsTrue result → IsClear self.now.line self.now.frames.frames (tok.Break brk) }
     {
-        if asks(self.frames.top(), brk) {
+        if asks_at_break(self.frames.top(), brk) {
             return exceeds(&self.line, width_of(brk), 0);
         }
         true
@@ -74,40 +71,6 @@ impl Page {
             Tok::End => {
                 self.frames.pop();
                 Ok(())
-            }
-        }
-    }
-}
-
-/// Does it count for a break in a frame that its measure is greater than the space?
-#[inline(always)]
-fn asks(frame: Frame, brk: Break) -> bool
-    ensures { IsFalse result → (big : Bool) (s : State) → break_in frame brk big s ≡ break_in frame brk true s }
-{
-    match frame {
-        Frame::Broken { consistent, .. } => !consistent && !brk.never,
-        Frame::Flat => false,
-    }
-}
-
-fn entered(frame: Frame, consistent: bool, offset: i8, big: bool) -> Frame
-    requires { IsKept frame }
-    ensures value { result ≡ enter frame consistent offset big }
-    ensures small { IsKept result }
-{
-    match frame {
-        Frame::Flat => Frame::Flat,
-        Frame::Broken {
-            consistent: _,
-            indent,
-        } => {
-            if big {
-                Frame::Broken {
-                    consistent,
-                    indent: shifted(indent, offset).min(240),
-                }
-            } else {
-                Frame::Flat
             }
         }
     }

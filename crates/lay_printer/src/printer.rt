@@ -15,7 +15,7 @@ use crate::frames::Frames;
 use crate::line::Line;
 use crate::page::Page;
 use lay_io::{Failed, Sink};
-use lay_layout::{Break, Tok};
+use lay_layout::{Break, MARGIN, Tok};
 use lay_queue::Queue;
 use lay_text::{NoMemory, Text};
 use std::alloc::Global;
@@ -43,6 +43,7 @@ impl Model for Core {
     ghost invariant = { λ c. Sound c.engine c.failed c.spare };
 }
 
+/// What is left of one number after another is taken from it, which may be below zero.
 fn difference(a: u64, b: u64) -> i64
     requires small { a ≤ 89 }
     requires bound { b ≤ 0x4000_0000_0000_0059 }
@@ -61,7 +62,7 @@ impl Core {
         let queue = Queue::new(alloc)?;
         let line = Line {
             pending: 0,
-            room: 89,
+            room: MARGIN,
             used: 0,
         };
         let frames = Frames::new(alloc);
@@ -263,7 +264,7 @@ impl Core {
         ensures { IsSpace self.now result }
     {
         let line = &self.engine.page.line;
-        let room = line.room.min(89);
+        let room = line.room.min(MARGIN);
         let used = line.used.min(room + 0x4000_0000_0000_0000);
         difference(room, used)
     }

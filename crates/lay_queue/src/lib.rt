@@ -11,4 +11,4 @@ mod close;
 mod queue;
 
 pub use close::Note;
-pub use queue::{Queue, least_width, width_of};
+pub use queue::{Queue, least_width};

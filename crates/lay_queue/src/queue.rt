@@ -1,7 +1,6 @@
 //! The scanning side: tokens that wait, with the sizes that are known of them.
 ghost use Rattle.std.specs.Prelude.{◌≡◌, ◌+◌, ◌-◌, ◌%◌, ◌^◌, ◌<◌, ◌≤◌, [], ◌∷◌, length, drop, OnOk, IfOk, IsOk, map, true, false};
 ghost use Rattle.lay_layout.specs.declared.layout.Tok.TheVariants as tok;
-ghost use Rattle.lay_layout.specs.Document.{bytes_of_mark, width_of_break};
 ghost use Rattle.lay_queue.specs.Closed.{toks_of, sizes_of};
 ghost use Rattle.lay_queue.specs.Scan.{at_end, text_length, size_of_scan, waiting as sum_waiting, cap};
 ghost use Rattle.lay_queue.specs.Notes.{Fits, scans};
@@ -9,7 +8,7 @@ ghost use Rattle.lay_queue.specs.Entries.{least_width, notes_after, next_of};
 ghost use Rattle.lay_layout.specs.Machine.{IsNested};
 
 use crate::close::{CAP, Note, close};
-use lay_layout::{Break, Mark, Tok};
+use lay_layout::{Break, Tok, width_of};
 use lay_ring::{Entry, Marks, Ring, Size};
 use lay_text::{NoMemory, Text};
 use std::alloc::Global;
@@ -35,26 +34,6 @@ pub struct Queue {
     ghost held: { length ring.entries ≤ 2 ^ 63 },
 }
 
-#[inline(always)]
-fn mark_len(mark: Mark) -> u64
-    ensures value { result ≡ length (bytes_of_mark mark) }
-    ensures small { result ≤ 1 }
-{
-    match mark {
-        Mark::Absent => 0,
-        Mark::Comma | Mark::OpenBrace | Mark::CloseBrace => 1,
-    }
-}
-
-/// The width of a break that is no newline.
-#[inline(always)]
-pub fn width_of(brk: Break) -> u64
-    ensures value { result ≡ width_of_break brk }
-    ensures small { result ≤ 65536 }
-{
-    brk.blank as u64 + mark_len(brk.instead)
-}
-
 /// What a token's measure has at the least beside texts: the width of a break.
 #[inline(always)]
 pub fn least_width(tok: &Tok) -> u64
@@ -66,6 +45,7 @@ pub fn least_width(tok: &Tok) -> u64
     }
 }
 
+/// How many bytes of text a token has.
 fn text_len(tok: &Tok) -> u64
     ensures { result ≡ text_length tok.now }
 {
@@ -168,7 +148,7 @@ impl Queue {
         requires { Ready self.old }
         ensures { Comes self.old self.new (tok.Break brk) }
     {
-        let width = brk.blank as u64 + mark_len(brk.instead);
+        let width = width_of(brk);
         let delta = close(&mut self.ring, &mut self.notes, self.acc, self.groups);
         let entry = Entry {
             tok: Tok::Break(brk),

@@ -1,4 +1,3 @@
 pub mod Fed
 pub mod Listed
-pub mod Indents
 pub mod Pages

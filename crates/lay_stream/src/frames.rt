@@ -1,11 +1,10 @@
 //! The frames of the groups that are open.
 ghost use Rattle.std.specs.Prelude.{◌≡◌, Bool, false, ℤ, [], ◌∷◌, OnOk, IsFalse};
-ghost use Rattle.lay_layout.specs.Document.{State, break_in, enter};
+ghost use Rattle.lay_layout.specs.Document.{enter};
 ghost use Rattle.lay_layout.specs.Machine.{top, below};
-ghost use Rattle.lay_stream.specs.Indents.{IsKept};
+ghost use Rattle.lay_layout.specs.Indents.{IsKept};
 
-use crate::page::shifted;
-use lay_layout::{Break, Frame};
+use lay_layout::{Frame, OUTSIDE};
 use lay_text::NoMemory;
 use std::alloc::Global;
 use std::marker::Model;
@@ -19,7 +18,7 @@ pub struct Frames {
 impl Model for Frames {
     ghost use Rattle.std.specs.Prelude.{List, reverse};
     ghost use Rattle.lay_layout.specs.declared.layout.Frame.{Frame};
-    ghost use Rattle.lay_stream.specs.Indents.{AreKept};
+    ghost use Rattle.lay_layout.specs.Indents.{AreKept};
 
     ghost Value = { List Frame };
 
@@ -63,22 +62,8 @@ impl Frames {
     {
         match self.items.last() {
             Some(frame) => *frame,
-            None => Frame::Broken {
-                consistent: false,
-                indent: 0,
-            },
+            None => OUTSIDE,
         }
-    }
-}
-
-/// Whether it counts for a break in a frame that its measure is greater than the space.
-pub fn asks_at_break(frame: Frame, brk: Break) -> bool
-    ensures { IsFalse result → (big : Bool) (s : State)
-        → break_in frame brk false s ≡ break_in frame brk big s }
-{
-    match frame {
-        Frame::Broken { consistent, .. } => !consistent && !brk.never,
-        Frame::Flat => false,
     }
 }
 
@@ -90,29 +75,5 @@ pub fn asks_at_begin(frame: Frame) -> bool
     match frame {
         Frame::Broken { .. } => true,
         Frame::Flat => false,
-    }
-}
-
-/// The frame of a group in a frame; `big` says that its measure is greater than the space.
-pub fn entered(frame: Frame, consistent: bool, offset: i8, big: bool) -> Frame
-    requires { IsKept frame }
-    ensures value { result ≡ enter frame consistent offset big }
-    ensures kept { IsKept result }
-{
-    match frame {
-        Frame::Flat => Frame::Flat,
-        Frame::Broken {
-            consistent: _,
-            indent,
-        } => {
-            if big {
-                Frame::Broken {
-                    consistent,
-                    indent: shifted(indent, offset).min(240),
-                }
-            } else {
-                Frame::Flat
-            }
-        }
     }
 }

@@ -1,14 +1,14 @@
 //! The text so far, the blanks that wait and the space that is left.
-ghost use Rattle.std.specs.Prelude.{◌≡◌, ◌<◌, ◌≤◌, min, ◌+◌, ◌++◌, replicate, OnOk};
-ghost use Rattle.lay_layout.specs.Document.{State, shift, write as written, put_mark as marked, line as on_line, newline as on_newline, skip as skipped, break_in};
+ghost use Rattle.std.specs.Prelude.{◌≡◌, ◌≤◌, min, ◌+◌, ◌++◌, replicate, OnOk};
+ghost use Rattle.lay_layout.specs.Document.{State, write as written, put_mark as marked, line as on_line, newline as on_newline, skip as skipped, break_in};
 ghost use Rattle.lay_stream.specs.Pages.{Is};
-ghost use Rattle.lay_stream.specs.Indents.{IsKept};
+ghost use Rattle.lay_layout.specs.Indents.{IsKept};
 
-use lay_layout::{Break, Frame, Mark};
+use lay_layout::{Break, Frame, GREATEST_BLANKS, LEAST_SPACE, MARGIN, Mark, shifted};
 use lay_text::{NoMemory, Text};
 
 /// The greatest count of what was used of a line. No comparison sees more than this, since the room is at
-/// most 89.
+/// most the margin.
 const CAP: u64 = 0x4000_0000_0000_0000;
 
 /// The text so far, the blanks that are to be written before what comes next, the room of this line and what
@@ -58,7 +58,7 @@ impl Page {
     {
         self.text.push(b'\n')?;
         self.pending = blanks;
-        self.room = 89u64.saturating_sub(blanks).max(60);
+        self.room = MARGIN.saturating_sub(blanks).max(LEAST_SPACE);
         self.used = 0;
         Ok(())
     }
@@ -78,7 +78,10 @@ impl Page {
         ensures room { self.new.room ≡ self.old.room }
         ensures text { self.new.text ≡ self.old.text }
     {
-        self.pending = self.pending.saturating_add(blank as u64).min(1_000_000);
+        self.pending = self
+            .pending
+            .saturating_add(blank as u64)
+            .min(GREATEST_BLANKS);
         self.used = self.used.saturating_add(blank as u64).min(CAP);
     }
 
@@ -119,14 +122,4 @@ impl Page {
         }
         Ok(())
     }
-}
-
-/// What an indent and an offset make, or 0 where that is below 0.
-pub fn shifted(indent: u64, offset: i8) -> u64
-    requires { indent ≤ 240 }
-    ensures value { result ≡ shift indent offset }
-    ensures small { result < 368 }
-{
-    let sum = indent as i64 + offset as i64;
-    if sum < 0 { 0 } else { sum as u64 }
 }

@@ -1,13 +1,13 @@
 //! The slow printer: each group and each break is measured anew.
-ghost use Rattle.std.specs.Prelude.{◌≡◌, ◌≤◌, ◌+◌, length, nat_lt, OnOk, IfOk};
+ghost use Rattle.std.specs.Prelude.{◌≡◌, ◌≤◌, ◌+◌, nat_lt, OnOk, IfOk};
 ghost use Rattle.lay_layout.specs.Machine.{opened, reach, Layout, step, text};
-ghost use Rattle.lay_layout.specs.Document.{bytes_of_mark, width_of_break, Document, stream as stream_of, text_of};
+ghost use Rattle.lay_layout.specs.Document.{Document, stream as stream_of, text_of};
 ghost use Rattle.lay_stream.specs.Pages.{At};
 
-use crate::frames::{Frames, asks_at_begin, asks_at_break, entered};
+use crate::frames::{Frames, asks_at_begin};
 use crate::page::Page;
 use crate::stream::Stream;
-use lay_layout::{Break, Mark, Tok};
+use lay_layout::{MARGIN, Tok, asks_at_break, entered, width_of};
 use lay_text::{NoMemory, Text};
 use std::alloc::Global;
 
@@ -28,7 +28,7 @@ fn lay(alloc: Global, toks: &[Tok]) -> Result<Text, NoMemory>
     let mut page = Page {
         text: Text::new(alloc),
         pending: 0,
-        room: 89,
+        room: MARGIN,
         used: 0,
     };
     let mut frames = Frames::new(alloc);
@@ -70,7 +70,7 @@ fn lay_one(page: &mut Page, frames: &mut Frames, tok: &Tok, more: &[Tok]) -> Res
     }
 }
 
-/// Is a measure greater than the space? It is a width and what tokens reach up to a break at depth 0.
+/// Whether a measure is greater than the space. It is a width and what tokens reach up to a break at depth 0.
 fn is_over(page: &Page, width: u64, more: &[Tok], depth: usize) -> bool
     requires depth { depth ≤ 1 }
     requires room { page.now.room ≤ 89 }
@@ -86,7 +86,7 @@ fn is_over(page: &Page, width: u64, more: &[Tok], depth: usize) -> bool
     exceeds(more, depth, limit - width)
 }
 
-/// Is what tokens reach, up to a break at depth 0, greater than a limit? It looks no further than the limit.
+/// Whether what tokens reach, up to a break at depth 0, is greater than a limit. It looks no further than the limit.
 fn exceeds(toks: &[Tok], depth: usize, limit: u64) -> bool
     requires { depth ≤ 1 }
     ensures { result ≡ nat_lt limit (reach depth toks.now) }
@@ -114,21 +114,4 @@ fn exceeds(toks: &[Tok], depth: usize, limit: u64) -> bool
         rest = more;
     }
     false
-}
-
-/// The width of a break that is no newline.
-fn width_of(brk: Break) -> u64
-    ensures { result ≡ width_of_break brk }
-{
-    brk.blank as u64 + mark_len(brk.instead)
-}
-
-/// A mark's length.
-fn mark_len(mark: Mark) -> u64
-    ensures { result ≡ length (bytes_of_mark mark) }
-{
-    match mark {
-        Mark::Absent => 0,
-        Mark::Comma | Mark::OpenBrace | Mark::CloseBrace => 1,
-    }
 }

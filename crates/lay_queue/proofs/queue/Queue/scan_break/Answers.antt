@@ -1,7 +1,6 @@
-use Rattle.std.proofs.Common.{◌≡◌, ℕ, ◌+◌, List, [], ◌∷◌, ◌++◌, refl, ap, ◌∙◌, arith}
+use Rattle.std.proofs.Common.{List, [], ◌∷◌, ◌++◌, refl, ap, ◌∙◌, arith}
 use Rattle.lay_layout.specs.declared.layout.Tok.{Tok}
 use Rattle.lay_layout.specs.declared.layout.Tok.TheVariants as tok
-use Rattle.lay_layout.specs.Document.{width_of_break}
 use Rattle.lay_queue.specs.Closed.{toks_of}
 use Rattle.lay_queue.proofs.Queueing.{Good, good_break, left_begin, toks_more}
 use Rattle.lay_queue.proofs.queue.Queue.scan_break.Goals as goal
@@ -17,9 +16,8 @@ invariant_of-self c =
     let q = c.args.self.now in
     let h : Good q.ended q.ring q.notes.items q.acc q.groups q.waiting = record { sizes = q.sizes; fits = q.fits; acc_small = q.acc_small; wait_is = q.wait_is; number = q.number; held = q.held } in
     let s = c.close-delta.new.ring in
-    let wide : c.args.brk.blank + c.mark_len.result ≡ width_of_break c.args.brk = ap (λ (x : ℕ). c.args.brk.blank + x) c.mark_len.ensures.value in
-    let k = good_break q.ended q.ring s c.push.new.self q.notes.items c.close-delta.new.notes.items c.push-in-Ok.new.self.items q.acc (c.args.brk.blank + c.mark_len.result) c.close-delta.result q.groups q.waiting c.in-Ok.number c.args.brk c.requires.ended h
-    c.close-delta.ensures.closed c.close-delta.ensures.width c.in-Ok.ensures.ok c.push.ensures.first c.close-delta.ensures.first c.requires.held c.in-Ok.ensures.number c.in-Ok-push.ensures.ok wide (omega (arith, c.mark_len.ensures.small)) in
+    let k = good_break q.ended q.ring s c.push.new.self q.notes.items c.close-delta.new.notes.items c.push-in-Ok.new.self.items q.acc c.width_of-width.result c.close-delta.result q.groups q.waiting c.in-Ok.number c.args.brk c.requires.ended h
+    c.close-delta.ensures.closed c.close-delta.ensures.width c.in-Ok.ensures.ok c.push.ensures.first c.close-delta.ensures.first c.requires.held c.in-Ok.ensures.number c.in-Ok-push.ensures.ok c.width_of-width.ensures.value (omega (arith, c.width_of-width.ensures.small)) in
     record { sizes = k.sizes; fits = k.fits; acc_small = k.acc_small; wait_is = k.wait_is; number = k.number; held = k.held }
 
 pub returns : goal.returns

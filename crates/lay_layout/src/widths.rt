@@ -1,0 +1,35 @@
+//! The width of a line, and that of a break which is no newline.
+ghost use Rattle.std.specs.Prelude.{◌≡◌, ◌≤◌, length};
+ghost use Rattle.lay_layout.specs.Document.{bytes_of_mark, width_of_break};
+
+use crate::layout::{Break, Mark};
+
+/// How many columns a line has.
+pub const MARGIN: u64 = 89;
+
+/// The least space that a new line has, in columns, however many blanks it begins with.
+pub const LEAST_SPACE: u64 = 60;
+
+/// The greatest count of blanks that wait to be written.
+pub const GREATEST_BLANKS: u64 = 1_000_000;
+
+/// A mark's length, in bytes.
+#[inline(always)]
+pub fn mark_len(mark: Mark) -> u64
+    ensures value { result ≡ length (bytes_of_mark mark) }
+    ensures small { result ≤ 1 }
+{
+    match mark {
+        Mark::Absent => 0,
+        Mark::Comma | Mark::OpenBrace | Mark::CloseBrace => 1,
+    }
+}
+
+/// The width of a break that is no newline: a column for each of its blanks and for each byte of its mark.
+#[inline(always)]
+pub fn width_of(brk: Break) -> u64
+    ensures value { result ≡ width_of_break brk }
+    ensures small { result ≤ 65536 }
+{
+    brk.blank as u64 + mark_len(brk.instead)
+}
