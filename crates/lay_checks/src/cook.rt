@@ -7,7 +7,7 @@ use std::alloc::Global;
 
 /// What the first piece of a text says as a string.
 fn cooked(alloc: Global, text: &str) -> Result<Cooked, NoMemory> {
-    match piece_at(text.as_bytes(), false) {
+    match piece_at(text, false) {
         None => Ok(Cooked::NotText),
         Some(piece) => {
             let token = Token {

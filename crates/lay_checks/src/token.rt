@@ -21,7 +21,7 @@ fn is_shown(alloc: Global, value: &impl Debug, wanted: &str) -> bool {
 /// Whether a text begins with a piece of the kind with this name, of so many bytes; `index` says that it stands behind
 /// the `.` of a field.
 fn begins(alloc: Global, text: &str, index: bool, kind: &str, len: usize) -> bool {
-    match piece_at(text.as_bytes(), index) {
+    match piece_at(text, index) {
         Some(piece) => piece.len == len && is_shown(alloc, &piece.kind, kind),
         None => false,
     }
@@ -65,12 +65,12 @@ fn front_behind_point(alloc: Global, row: &str) -> bool {
 
 /// A text begins with no piece.
 fn no_piece(_: Global, text: &str) -> bool {
-    piece_at(text.as_bytes(), false).is_none()
+    piece_at(text, false).is_none()
 }
 
 /// The same behind the point of a field.
 fn no_piece_behind_point(_: Global, text: &str) -> bool {
-    piece_at(text.as_bytes(), true).is_none()
+    piece_at(text, true).is_none()
 }
 
 #[test]

@@ -37,7 +37,7 @@ fn tokens_of(alloc: Global, text: &str, start: usize) -> Result<List<Token>, For
     while let Some(rest) = after_gap(ahead) {
         let at = text.len() - rest.len();
         let touches = rest.len() == ahead.len();
-        match piece_at(rest.as_bytes(), tokens.is_index_place()) {
+        match piece_at(rest, tokens.is_index_place()) {
             None => return Err(FormatError::Refused(Refusal::NoToken { at })),
             Some(found) => {
                 let (piece, behind) = cut(rest, found.len);

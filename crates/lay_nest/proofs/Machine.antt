@@ -101,6 +101,15 @@ place-unclosed ts at u = ap place (run-left (u.last ∷ u.others) ts u.left) ∙
 pub place-unbalanced : (ts : List Token) (at : ℕ) → UnbalancedAt ts at → place (run (Open []) ts) ≡ Some at
 place-unbalanced ts at u = elim u [ inl s ↦ place-stray ts at s | inr c ↦ place-unclosed ts at c ]
 
+-- Tokens are unbalanced at one place at most, and never balanced too.
+pub once_unbalanced : (ts : List Token) (at other : ℕ) → UnbalancedAt ts at → UnbalancedAt ts other → at ≡ other
+once_unbalanced ts at other u v =
+    let same : Some at ≡ Some other = sym (place-unbalanced ts at u) ∙ place-unbalanced ts other v in cc
+
+pub unbalanced_or_balanced : (ts : List Token) (at : ℕ) → UnbalancedAt ts at → Balanced ts → ⊥
+unbalanced_or_balanced ts at u b =
+    let both : Some at ≡ None = sym (place-unbalanced ts at u) ∙ ap place (run-balanced [] ts b) in cc
+
 -- A run that has stopped does not go on.
 open_before : (r : Run) (ts : List Token) → is_open (run r ts) ≡ true → is_open r ≡ true
 open_before (Open os) ts h = refl

@@ -1,6 +1,7 @@
 //! Balanced tokens, and the partner of each delimiter.
-ghost use Rattle.std.specs.Prelude.{◌≡◌};
-ghost use Rattle.lay_token.specs.Delimiters.{Balanced};
+ghost use Rattle.std.specs.Prelude.{◌≡◌, ◌⊎◌, ℕ, Ok, Err};
+ghost use Rattle.lay_text.specs.declared.refusal.Refusal.TheVariants as refusal;
+ghost use Rattle.lay_token.specs.Delimiters.{Balanced, UnbalancedAt};
 ghost use Rattle.lay_nest.specs.Nested.{NestedAs};
 
 use crate::cursor::Cursor;
@@ -44,7 +45,10 @@ impl Nested {
 /// It refuses the place of the first closer that isn't the partner of the last opener still open; with no such
 /// closer, that of the last opener left open.
 pub fn nest(alloc: Global, tokens: List<Token>) -> Result<Nested, FormatError>
-    ensures { NestedAs tokens result }
+    ensures answer { NestedAs tokens result }
+    ensures balanced { Balanced tokens → (result ≡ Ok tokens) ⊎ (result ≡ Err FormatError.NoMemory) }
+    ensures unbalanced { (at : ℕ) → UnbalancedAt tokens at
+        → (result ≡ Err (FormatError.Refused (refusal.Unbalanced at))) ⊎ (result ≡ Err FormatError.NoMemory) }
 {
     match spans_of(alloc, tokens.as_slice()) {
         Ok(spans) => Ok(Nested { tokens, spans }),

@@ -34,7 +34,7 @@ pub use heads::{
 pub use laws::{node_law, reading_law};
 pub use patterns::{FieldPat, Pat, PatPlace, PatValue, SpanEnd};
 pub use simple_path::SimplePath;
-pub use token::{GivenName, Lifetime, Listed, Literal, Name, Word};
+pub use token::{GivenName, Lifetime, Listed, Literal, Name, Word, are_digits};
 pub use tokens::{Group, MacroCall, Tokens};
 pub use types::{
     Abi, Arg, Args, Binder, Bound, ConstArg, Constraint, FuncParam, LifetimeParam, Path, PathStart,

@@ -1,4 +1,8 @@
 //! Tokens of a tree: names, words, and the tokens of token lists.
+ghost use Rattle.std.specs.Prelude.{◌≡◌};
+ghost use Rattle.std.specs.Char.{is_ascii_digit};
+ghost use Rattle.std.specs.List.{list_all};
+
 use lay_token::{Kind, Text};
 
 /// A name: an identifier that is no keyword, or a raw identifier, whose text is without `r#`.
@@ -43,4 +47,17 @@ pub struct Lifetime {
 pub struct Literal {
     pub kind: Kind,
     pub text: Text,
+}
+
+/// Whether each byte of a text is a decimal digit, as in the index of a tuple's field (Rust Reference, "Tuple index"). So it is
+/// of an empty text.
+pub fn are_digits(text: &[u8]) -> bool
+    ensures { result ≡ list_all is_ascii_digit text.now }
+{
+    for byte in text {
+        if !byte.is_ascii_digit() {
+            return false;
+        }
+    }
+    true
 }

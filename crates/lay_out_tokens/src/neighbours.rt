@@ -1,7 +1,5 @@
 //! What stands beside a place of a token list.
 ghost use Rattle.std.specs.Prelude.{◌≡◌, ◌&&◌, ◌<◌, [], ◌∷◌, not};
-ghost use Rattle.std.specs.Char.{is_ascii_digit};
-ghost use Rattle.std.specs.List.{list_all};
 ghost use Rattle.std.specs.Str.{bytes_eq};
 ghost use Rattle.lay_token.specs.Lexes.{is_punct};
 ghost use Rattle.lay_piece.specs.Number.{is_index};
@@ -10,7 +8,7 @@ ghost use Rattle.lay_node.specs.tokens.Pairs as pairs;
 ghost use Rattle.lay_out_tokens.specs.Neighbours.{neighbour_of};
 
 use crate::words::is_block;
-use lay_node::Listed;
+use lay_node::{Listed, are_digits};
 use lay_token::{Class, Delim, Kind, word_class};
 
 /// A neighbour of a place: none, a single token, or a group in delimiters.
@@ -283,15 +281,4 @@ fn is_index(text: &[u8]) -> bool
         [] => false,
         _ => are_digits(text),
     }
-}
-
-fn are_digits(text: &[u8]) -> bool
-    ensures { result ≡ list_all is_ascii_digit text.now }
-{
-    for byte in text {
-        if !byte.is_ascii_digit() {
-            return false;
-        }
-    }
-    true
 }

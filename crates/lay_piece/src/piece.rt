@@ -1,5 +1,5 @@
 //! The piece at the front of a text.
-ghost use Rattle.std.specs.Prelude.{◌≡◌, ◌≢◌, ℕ, Bool, List, [], ◌∷◌, ◌++◌, length, IsTrue, IfSome, IsSomeAnd, IsUtf8, encode_utf8_all};
+ghost use Rattle.std.specs.Prelude.{◌≡◌, ◌≢◌, ℕ, Bool, List, [], ◌∷◌, ◌++◌, length, IsTrue, IfSome, IsSomeAnd, encode_utf8_all};
 ghost use Rattle.std.specs.Str.{chars};
 ghost use Rattle.lay_piece.specs.Forms.{Had, had, is_punct_char};
 ghost use Rattle.lay_piece.specs.Found.{Finds, front_of, other, single};
@@ -26,16 +26,14 @@ pub struct Piece {
 /// The piece that stands at the front of a text, if one does (Rust Reference, "Tokens").
 ///
 /// `index` says that the text follows the `.` of a field, where digits may be the index of a tuple's field.
-pub fn piece_at(rest: &[u8], index: bool) -> Option<Piece>
-    requires { IsUtf8 rest.now }
+pub fn piece_at(rest: &str, index: bool) -> Option<Piece>
     ensures found { IfSome result (λ p. (piece more : List ℕ) × (chars rest.now ≡ piece ++ more)
         × Had p.kind piece more index × (p.len ≡ length (encode_utf8_all piece))) }
     ensures only { (kind : Kind) (piece more : List ℕ)
         → chars rest.now ≡ piece ++ more → Had kind piece more index
         → IsSomeAnd result (λ p. (p.kind ≡ kind) × (p.len ≡ length (encode_utf8_all piece))) }
 {
-    let text = unsafe { std::str::from_utf8_unchecked(rest) };
-    let (kind, tail) = front(index, text)?;
+    let (kind, tail) = front(index, rest)?;
     Some(Piece {
         kind,
         len: rest.len() - tail.len(),

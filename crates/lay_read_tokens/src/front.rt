@@ -11,7 +11,8 @@ use crate::ahead::Ahead;
 use lay_token::{Delim, Kind, Token};
 
 /// Whether the token is the keyword.
-fn is_keyword(token: &Token, word: &[u8]) -> bool
+#[inline]
+pub fn is_keyword(token: &Token, word: &[u8]) -> bool
     ensures { result ≡ ahead.is_keyword word.now token.now }
 {
     matches!(token.kind, Kind::Ident) && token.text.as_bytes() == word

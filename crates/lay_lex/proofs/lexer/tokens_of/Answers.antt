@@ -22,7 +22,7 @@ returns-in-None c =
     let r = reach c.args.text.now c.loop-rest.ahead.now c.in-Some.rest.now c.loop-rest.invariant.read c.in-Some.ensures
     c.utf8.text c.requires c.loop-rest.invariant.text ur in
     let none : BeginsNoPiece (chars c.in-Some.rest.now) (is_index_place (before c.loop-rest.tokens.before)) = λ k piece more e h.
-    c.in-None.ensures.only k piece more (ap chars c.as_bytes.ensures.value ∙ e)
+    c.in-None.ensures.only k piece more e
     (subst (λ i. Had k piece more i) (sym c.is_index_place.ensures) h) in
     stopped r none
 
@@ -33,7 +33,7 @@ loop-rest-smaller c =
     let r = reach c.args.text.now c.loop-rest.ahead.now c.in-Some.rest.now c.loop-rest.invariant.read c.in-Some.ensures
     c.utf8.text c.requires c.loop-rest.invariant.text ur in
     let f = c.in-Some-piece_at.ensures.found in
-    let whole : chars c.in-Some.rest.now ≡ f.0 ++ f.1 = ap chars (sym c.as_bytes.ensures.value) ∙ f.2 in
+    let whole : chars c.in-Some.rest.now ≡ f.0 ++ f.1 = f.2 in
     let parts = c.cut.ensures f.0 f.1 whole f.4 in
     shrinks c.in-Some-piece_at.found.kind f.0 f.1 c.cut.result.1.now c.is_index_place.result r whole f.3 parts.1 ur ub
 
@@ -43,7 +43,7 @@ loop-rest-preserved c =
     let r = reach c.args.text.now c.loop-rest.ahead.now c.in-Some.rest.now c.loop-rest.invariant.read c.in-Some.ensures
     c.utf8.text c.requires c.loop-rest.invariant.text ur in
     let f = c.in-Some-piece_at.ensures.found in
-    let whole : chars c.in-Some.rest.now ≡ f.0 ++ f.1 = ap chars (sym c.as_bytes.ensures.value) ∙ f.2 in
+    let whole : chars c.in-Some.rest.now ≡ f.0 ++ f.1 = f.2 in
     let had = subst (λ i. Had c.in-Some-piece_at.found.kind f.0 f.1 i) c.is_index_place.ensures f.3 in
     let parts = c.cut.ensures f.0 f.1 whole f.4 in
     record {

@@ -1,14 +1,12 @@
-use Rattle.std.proofs.Common.{◌≡◌, [], Some, None, sym, ap, ◌∙◌}
-use Rattle.lay_nest.proofs.Machine.{Open, place, place-unbalanced, run-balanced, one_stop, stops, goes_on}
+use Rattle.std.proofs.Common.{[]}
+use Rattle.lay_nest.proofs.Machine.{Open, once_unbalanced, unbalanced_or_balanced, one_stop, stops, goes_on}
 use Rattle.lay_nest.proofs.law.nesting_law.Goals as goal
 
 pub returns-clause-one_place : goal.returns-clause-one_place
-returns-clause-one_place c ts at other u v =
-    let same : Some at ≡ Some other = sym (place-unbalanced ts at u) ∙ place-unbalanced ts other v in cc
+returns-clause-one_place c = once_unbalanced
 
 pub returns-clause-never_both : goal.returns-clause-never_both
-returns-clause-never_both c ts at u b =
-    let both : Some at ≡ None = sym (place-unbalanced ts at u) ∙ ap place (run-balanced [] ts b) in cc
+returns-clause-never_both c = unbalanced_or_balanced
 
 pub returns-clause-one_group : goal.returns-clause-one_group
 returns-clause-one_group c inside others rest more closer last h g e b d =

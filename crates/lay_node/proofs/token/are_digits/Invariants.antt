@@ -1,7 +1,7 @@
 use Rattle.std.proofs.Common.{◌≡◌, drop}
 use Rattle.std.specs.Char.{is_ascii_digit}
 use Rattle.std.specs.List.{list_all}
-use Rattle.lay_out_tokens.proofs.neighbours.are_digits.Given as goal
+use Rattle.lay_node.proofs.token.are_digits.Given as goal
 
 -- whether the rest are digits says whether all are
 abbrev pub invariant-loop-byte : goal.invariant-loop-byte
