@@ -1,10 +1,11 @@
 //! The tests of the top call and of what stands beside it. They stand here for the reason that lay_checks gives.
 //!
-//! `files` holds what texts read and are laid out to, and what is refused; `depths` how deep bodies and values may be; `command` the
-//! modes, the lines on `err`, and reads and writes that fail; `samples` samples and their runs, `texts` the texts of files, `counts`
-//! the sink that counts. `spoilt` is a table of trees that can't be written, each for one reason, and beside each one that can, which
-//! differs from it in that alone; more of them than can be proved each stand under `tried/`. Most rows of what bodies and values are
-//! laid out to stand under `cases/`.
+//! A test is a literal of rows. Each row asks something, and behind `⇒` stands what it is told; so each test is one call, which is lent
+//! the function that tells (`each`). `command` holds runs of the command (`runs`): its modes, its lines on `err`, reads and writes that
+//! fail, and how deep and how long a text may be. `texts` holds texts of files, from their bytes and from their trees, and how deep
+//! files are, `samples` samples and their runs, `counts` the sink that counts. `spoilt` is a table of trees that can't be written, each
+//! for one reason, and beside each one that can, which differs from it in that alone (`made`); more of them than can be proved each
+//! stand under `tried/`. What texts are laid out to, and which are refused, stands under `cases/`.
 #![tactic(auto)]
 
 #[cfg(test)]
@@ -12,9 +13,7 @@ mod command;
 #[cfg(test)]
 mod counts;
 #[cfg(test)]
-mod depths;
-#[cfg(test)]
-mod files;
+mod each;
 #[cfg(test)]
 mod made;
 #[cfg(test)]

@@ -5,37 +5,60 @@ ghost use Rattle.std.specs.Prelude.{◌≡◌, [], IfSome, Some};
 ghost use Rattle.lay_node.specs.tokens.Listing.{turned};
 
 use lay_files::read_bytes;
-use lay_given::repeated;
 use lay_token::{Kind, List, Text};
 use lay_tree::{
     Arm, Block, Boxed, Branch, Expr, File, GivenName, Item, ItemKind, Literal, Name, Op, Pat, Stmt,
     Ty, ValueHead, Vis,
 };
 use std::alloc::Global;
+use std::mem;
 
-/// The file in which a text stands in a place: `mod a;` of a name, and else `const _: _ = a;` of a literal or an expression.
+/// The file of an item that is read, and behind it `mod a;` of a name in which a text stands, or `const _: _ = a;` of a literal or an
+/// expression.
 pub fn made(alloc: Global, place: &str, text: &str) -> Option<File> {
+    let File {
+        shebang,
+        attrs,
+        items,
+    } = match read_bytes(alloc, b"#![a]struct A;") {
+        Ok(file) => file,
+        Err(_) => return None,
+    };
+    match more(items, item(alloc, place, text)) {
+        Some(items) => Some(File {
+            shebang,
+            attrs,
+            items,
+        }),
+        None => None,
+    }
+}
+
+/// A list and one node more behind it, if there is one.
+fn more<T: Drop>(mut list: List<T>, node: Option<T>) -> Option<List<T>> {
+    list.push(node?).ok()?;
+    Some(list)
+}
+
+/// The item in which a text has a place.
+fn item(alloc: Global, place: &str, text: &str) -> Option<Item> {
     let kind = if place == "name" {
         ItemKind::FileModule {
             name: name(alloc, text)?,
         }
     } else {
-        let value = Some(value(alloc, place, text)?);
-        let head = ValueHead::Const {
-            name: GivenName::Underscore,
-            ty: Ty::Infer,
-        };
-        ItemKind::Value { head, value }
+        ItemKind::Value {
+            head: ValueHead::Const {
+                name: GivenName::Underscore,
+                ty: Ty::Infer,
+            },
+            value: Some(value(alloc, place, text)?),
+        }
     };
-    let item = Item {
+    Some(Item {
         attrs: List::new(alloc),
         vis: Vis::Inherited,
-        kind,
-    };
-    Some(File {
-        shebang: None,
-        attrs: List::new(alloc),
-        items: one(alloc, item)?,
+        kind: Boxed::new(alloc, kind).ok()?,
     })
 }
 
@@ -51,43 +74,106 @@ fn name(alloc: Global, text: &str) -> Option<Name> {
     })
 }
 
-/// The expression in which what a text stands for has this place.
-fn value(alloc: Global, place: &str, text: &str) -> Option<Expr> {
-    match place {
-        "literal" => literal(alloc, text),
-        "a * _" => multiplied(alloc, expr(alloc, text)?),
-        "if a {}" => condition(alloc, expr(alloc, text)?),
-        "let _ = a else {};" => before_else(alloc, expr(alloc, text)?),
-        "_ => a" => body_of_arm(alloc, expr(alloc, text)?),
-        _ => None,
+/// The expression in which what a text stands for has this place: itself, or a part of `a * _`, `if a {}`, `{ let _ = a else {}; }`, or
+/// `match _ { _ => a }`.
+fn value(alloc: Global, place: &str, text: &str) -> Option<Boxed<Expr>> {
+    let node = node(alloc, place, text)?;
+    let whole = match place {
+        "a * _" => Expr::Chain {
+            first: node,
+            rest: one(alloc, (Op::Mul, underscore(alloc)?))?,
+        },
+        "if a {}" => Expr::If {
+            branches: one(
+                alloc,
+                Branch {
+                    pat: None,
+                    condition: node,
+                    body: block(alloc, List::new(alloc)),
+                },
+            )?,
+            otherwise: None,
+        },
+        "let _ = a else {};" => Expr::Block {
+            label: None,
+            body: block(
+                alloc,
+                one(
+                    alloc,
+                    Stmt::Let {
+                        attrs: List::new(alloc),
+                        pat: Pat::Wild,
+                        ty: None,
+                        value: Some(node),
+                        otherwise: Some(block(alloc, List::new(alloc))),
+                    },
+                )?,
+            ),
+        },
+        "_ => a" => Expr::Match {
+            arms: one(
+                alloc,
+                Arm {
+                    attrs: List::new(alloc),
+                    pat: Pat::Wild,
+                    guard: None,
+                    body: node,
+                },
+            )?,
+            scrutinee: underscore(alloc)?,
+            attrs: List::new(alloc),
+        },
+        _ => return Some(node),
+    };
+    Boxed::new(alloc, whole).ok()
+}
+
+/// `_`
+fn underscore(alloc: Global) -> Option<Boxed<Expr>> {
+    Boxed::new(alloc, Expr::Underscore).ok()
+}
+
+/// A block of these statements.
+fn block(alloc: Global, stmts: List<Stmt>) -> Block {
+    Block {
+        attrs: List::new(alloc),
+        stmts,
     }
 }
 
-/// The expression that a text reads to.
-fn expr(alloc: Global, text: &str) -> Option<Expr> {
-    let mut all = repeated(alloc, b"const A:B=", 1).ok()?;
-    all.extend_from_slice(text.as_bytes()).ok()?;
-    all.push(b';').ok()?;
-    let File {
-        shebang: _,
-        attrs: _,
-        items,
-    } = read_bytes(alloc, all.as_slice()).ok()?;
-    let mut item = items.into_vec().pop()?;
-    match &mut item.kind {
+/// A list of one node.
+fn one<T: Drop>(alloc: Global, node: T) -> Option<List<T>> {
+    more(List::new(alloc), Some(node))
+}
+
+/// What a text stands for: a literal in a place of a literal, and else the expression that it reads to.
+fn node(alloc: Global, place: &str, text: &str) -> Option<Boxed<Expr>> {
+    if place == "literal" {
+        let literal = literal(alloc, text)?;
+        return Boxed::new(alloc, Expr::Lit { literal }).ok();
+    }
+    let other = ItemKind::FileModule {
+        name: name(alloc, "a")?,
+    };
+    let other = Boxed::new(alloc, other).ok()?;
+    let given = format!(in alloc; "const A:B={text};").ok()?;
+    let file = read_bytes(alloc, given.as_bytes()).ok()?;
+    let mut item = file.items.into_vec().pop()?;
+    // Only the crate of items may take one apart.
+    let mut kind = mem::replace(&mut item.kind, other).into_inner();
+    match &mut kind {
         ItemKind::Value { head: _, value } => value.take(),
         _ => None,
     }
 }
 
 /// A literal of a kind and a text, between which a blank stands.
-fn literal(alloc: Global, row: &str) -> Option<Expr> {
+fn literal(alloc: Global, row: &str) -> Option<Literal> {
     let (kind, text) = row.split_once(' ')?;
-    let literal = Literal {
+    Some(Literal {
         kind: kind_called(kind)?,
         text: Text::from_bytes(alloc, text.as_bytes()).ok()?,
-    };
-    Some(Expr::Lit { literal })
+    })
 }
 
 /// The kind of tokens that is called so, which is none of delimiters.
@@ -106,70 +192,4 @@ fn kind_called(kind: &str) -> Option<Kind>
         "Float" => Some(Kind::Float),
         _ => None,
     }
-}
-
-/// `a * _`
-fn multiplied(alloc: Global, operand: Expr) -> Option<Expr> {
-    let first = Boxed::new(alloc, operand).ok()?;
-    let rest = one(alloc, (Op::Mul, Expr::Underscore))?;
-    Some(Expr::Chain { first, rest })
-}
-
-/// `if a {}`
-fn condition(alloc: Global, condition: Expr) -> Option<Expr> {
-    let branch = Branch {
-        pat: None,
-        condition,
-        body: block(alloc, List::new(alloc)),
-    };
-    Some(Expr::If {
-        branches: one(alloc, branch)?,
-        otherwise: None,
-    })
-}
-
-/// `{ let _ = a else {}; }`
-fn before_else(alloc: Global, value: Expr) -> Option<Expr> {
-    let stmt = Stmt::Let {
-        attrs: List::new(alloc),
-        pat: Pat::Wild,
-        ty: None,
-        value: Some(value),
-        otherwise: Some(block(alloc, List::new(alloc))),
-    };
-    Some(Expr::Block {
-        label: None,
-        body: block(alloc, one(alloc, stmt)?),
-    })
-}
-
-/// `match _ { _ => a }`
-fn body_of_arm(alloc: Global, body: Expr) -> Option<Expr> {
-    let arm = Arm {
-        attrs: List::new(alloc),
-        pat: Pat::Wild,
-        guard: None,
-        body,
-    };
-    let arms = one(alloc, arm)?;
-    Some(Expr::Match {
-        scrutinee: Boxed::new(alloc, Expr::Underscore).ok()?,
-        attrs: List::new(alloc),
-        arms,
-    })
-}
-
-/// A block of these statements.
-fn block(alloc: Global, stmts: List<Stmt>) -> Block {
-    Block {
-        attrs: List::new(alloc),
-        stmts,
-    }
-}
-
-/// A list of one node.
-fn one<T: Drop>(alloc: Global, node: T) -> Option<List<T>> {
-    let mut list = List::new(alloc);
-    list.push(node).ok()?;
-    Some(list)
 }

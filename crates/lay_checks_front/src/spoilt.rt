@@ -1,10 +1,12 @@
 //! Which trees can be written, and which can't.
 
+use crate::each::{column, each_is_told};
 use crate::made::made;
-use lay_given::{BETWEEN, parts};
 use lay_laws::is_written;
+use lay_token::NoMemory;
 use lay_tree::same;
 use std::alloc::Global;
+use std::test::Fail;
 
 /// Stands between the texts of a row of which each breaks the row's condition.
 const OTHER: char = '¶';
@@ -19,6 +21,8 @@ const ROWS: &str = "name→no keyword→a→fn¶true¶self¶crate¶Self¶dyn§\
     name→no comment→a→a/**/¶a//¶/**/a§\
     name→no punctuation→a→a;¶a{}¶:¶a(§\
     name→not the sign of no name→_a→_§\
+    name→no keyword, as the others→layout→fn§\
+    name→no keyword, in another name→drawn→fn§\
     name→raw, no word of paths→#fn→#self¶#super¶#crate¶#Self§\
     name→raw by its flag→#fn→r#fn§\
     name→raw, without its mark→#fn→#r#fn§\
@@ -50,32 +54,47 @@ const ROWS: &str = "name→no keyword→a→fn¶true¶self¶crate¶Self¶dyn§\
     _ => a→no braces around one expression, but with a label→'b:{a}→{a}§\
     _ => a→no block-like expression at its front→(match a{})+b→match a{}+b¶m!{}-a¶{}()";
 
-/// Whether the file in which a text stands in a place can be written, if there is one.
-fn written(alloc: Global, place: &str, text: &str) -> Option<bool> {
-    is_written(alloc, &made(alloc, place, text)?).ok()
+/// Of two texts in a place: whether the file of the second can be written, and whether it is that of the first. Nothing is told where
+/// there is no file.
+fn judged(alloc: Global, place: &str, whole: &str, text: &str) -> Option<(bool, bool)> {
+    let (whole, file) = match both(made(alloc, place, whole), made(alloc, place, text)) {
+        Some(files) => files,
+        None => return None,
+    };
+    match is_written(alloc, &file) {
+        Ok(is_written) => Some((is_written, same(&whole, &file))),
+        Err(NoMemory) => None,
+    }
 }
 
-/// Whether the files of two texts in a place are equal, if there are two.
-fn equal(alloc: Global, place: &str, text: &str, other: &str) -> Option<bool> {
-    Some(same(&made(alloc, place, text)?, &made(alloc, place, other)?))
+/// Both, where both are there.
+fn both<A: Drop, B: Drop>(first: Option<A>, second: Option<B>) -> Option<(A, B)> {
+    match (first, second) {
+        (Some(first), Some(second)) => Some((first, second)),
+        _ => None,
+    }
+}
+
+/// The texts of a row that aren't judged as they should be, each behind a blank: the first one's file can be written and is itself, and
+/// that of each other can't, and is another one.
+fn misjudged(alloc: Global, row: &str) -> Result<String, NoMemory> {
+    let (place, rest) = column(row);
+    let (_, rest) = column(rest);
+    let (whole, broken) = column(rest);
+    let mut texts = String::new(alloc);
+    if judged(alloc, place, whole, whole) != Some((true, true)) {
+        texts = format!(in alloc; " {whole}")?;
+    }
+    for text in broken.split(OTHER) {
+        if judged(alloc, place, whole, text) != Some((false, false)) {
+            texts = format!(in alloc; "{texts} {text}")?;
+        }
+    }
+    Ok(texts)
 }
 
 #[test]
-fn spoilt_in_one_condition(rt: HostRuntime) {
-    let alloc = rt.alloc();
-    for row in ROWS.split(BETWEEN) {
-        let (place, rest) = parts(row);
-        let (condition, rest) = parts(rest);
-        let (whole, broken) = parts(rest);
-        let answer = written(alloc, place, whole);
-        assert_eq!(rt; answer, Some(true), "{place}, {condition}: {whole}");
-        let answer = equal(alloc, place, whole, whole);
-        assert_eq!(rt; answer, Some(true), "{place}: {whole} twice");
-        for spoilt in broken.split(OTHER) {
-            let answer = written(alloc, place, spoilt);
-            assert_eq!(rt; answer, Some(false), "{place}, {condition}: {spoilt}");
-            let answer = equal(alloc, place, whole, spoilt);
-            assert_eq!(rt; answer, Some(false), "{place}: {whole} and {spoilt}");
-        }
-    }
+fn spoilt_in_one_condition(rt: HostRuntime) -> Result<(), Fail> {
+    each_is_told(&rt, rt.alloc(), ROWS, misjudged)?;
+    Ok(())
 }

@@ -1,10 +1,12 @@
-//! Texts of files, from their bytes and from their trees.
+//! Texts of files, from their bytes and from their trees, and how deep files are.
 
-use lay_files::read_bytes;
-use lay_front::{format, unparse};
+use crate::each::{each_is_told, string};
+use lay_depth::file_depth;
+use lay_files::{DEPTH, read_within};
+use lay_front::{format, format_into, unparse};
+use lay_io::QuietSink;
 use lay_laws::is_written;
-use lay_token::{FormatError, List, NoMemory, Refusal, Text};
-use lay_tree::{File, ItemKind};
+use lay_token::{NoMemory, Text};
 use std::alloc::Global;
 use std::test::Fail;
 
@@ -30,76 +32,112 @@ const LAID: &str = "#![allow(non_camel_case_types)]\n\
     #[test]\n\
     fn layout() {\n    assert_eq!(::std::mem::size_of::<point_t>(), 68usize, \"size of point_t\");\n}\n";
 
-// The text of a file is given whole, or the refusal of its bytes.
-#[test]
-fn texts_of_bytes(rt: HostRuntime) -> Result<(), Fail> {
-    let alloc = rt.alloc();
-    for given in [GENERATED, LAID] {
-        let text = format(alloc, given.as_bytes())?;
-        assert_eq!(rt; text.as_bytes(), LAID.as_bytes());
+/// The text of a file's bytes, or why there is none.
+pub fn formatted(alloc: Global, given: &str) -> Result<String, NoMemory> {
+    match format(alloc, given.as_bytes()) {
+        Ok(text) => string(alloc, text.as_bytes()),
+        Err(error) => Ok(format!(in alloc; "{error:?}")?),
     }
-    let refused = format(alloc, b"struct A;fn f(){let x=1}");
-    assert!(rt;
-        matches!(
-            refused,
-            Err(FormatError::Refused(Refusal::NoItem { at: 9 }))
-        )
-    );
+}
+
+/// The same, written to a sink; and what stands there where it is refused.
+fn written(alloc: Global, given: &str) -> Result<String, NoMemory> {
+    let mut out = QuietSink::with_room(alloc, 1000)?;
+    let answer = format_into(alloc, given.as_bytes(), &mut out);
+    let text = string(alloc, out.bytes())?;
+    match answer {
+        Ok(()) => Ok(text),
+        Err(error) => Ok(format!(in alloc; "{error:?}{text}")?),
+    }
+}
+
+/// The text of the tree that a file's bytes read to.
+fn unparsed(alloc: Global, given: &str) -> Result<String, NoMemory> {
+    match seen(alloc, given, DEPTH) {
+        Some((_, text)) => string(alloc, text.as_bytes()),
+        None => Ok(format!(in alloc; "no text")?),
+    }
+}
+
+/// The depth of the file that a text reads to within a depth, and its text.
+fn seen(alloc: Global, given: &str, depth: u32) -> Option<(u32, Text)> {
+    let file = match read_within(alloc, given.as_bytes(), depth) {
+        Ok(file) => file,
+        Err(_) => return None,
+    };
+    let depth = file_depth(&file);
+    let text = match is_written(alloc, &file) {
+        Ok(true) => unparse(alloc, &file).ok(),
+        _ => None,
+    };
+    match text {
+        Some(text) => Some((depth, text)),
+        None => None,
+    }
+}
+
+// The text of a file is given whole, and is given again of itself; or the refusal of the bytes is given.
+#[test]
+fn texts(rt: HostRuntime) -> Result<(), Fail> {
+    let alloc = rt.alloc();
+    let rows = format!(in alloc;
+        "⇒§struct A;struct B;⇒struct A;\nstruct B;\n§{GENERATED}⇒{LAID}§{LAID}⇒{LAID}"
+    )?;
+    let refused =
+        "}⇒Refused(Unbalanced { at: 0 })§struct A;fn f(){let x=1}⇒Refused(NoItem { at: 9 })";
+    each_is_told(&rt, alloc, rows.as_str(), formatted)?;
+    each_is_told(&rt, alloc, rows.as_str(), written)?;
+    each_is_told(&rt, alloc, rows.as_str(), unparsed)?;
+    each_is_told(&rt, alloc, refused, formatted)?;
+    each_is_told(&rt, alloc, refused, written)?;
     Ok(())
 }
 
-/// The text of a file, or none where the file can't be written.
-fn text(alloc: Global, file: &File) -> Result<Option<Text>, NoMemory> {
-    if !is_written(alloc, file)? {
-        return Ok(None);
+/// The depth of the file that a text reads to within a depth, if it reads to one.
+fn depth_within(alloc: Global, given: &str, depth: u32) -> Option<u32> {
+    match seen(alloc, given, depth) {
+        Some((depth, _)) => Some(depth),
+        None => None,
     }
-    Ok(Some(unparse(alloc, file)?))
 }
 
-/// The text of the file that a text reads to.
-fn text_of_read(alloc: Global, given: &str) -> Option<Text> {
-    let file = read_bytes(alloc, given.as_bytes()).ok()?;
-    text(alloc, &file).ok()?
+/// The depth of the file that a text reads to: once of what is read within the greatest depth, once of what is read within that depth,
+/// and none of what is read within one level less.
+fn depths(alloc: Global, given: &str) -> Result<String, NoMemory> {
+    let depth = depth_within(alloc, given, DEPTH).unwrap_or(0);
+    let again = depth_within(alloc, given, depth);
+    let less = match depth.checked_sub(1) {
+        Some(less) => depth_within(alloc, given, less),
+        None => None,
+    };
+    Ok(format!(in alloc; "{depth} {again:?} {less:?}")?)
 }
 
+// The depth of a file is the least within which its text reads.
 #[test]
-fn texts_of_read_files(rt: HostRuntime) -> Result<(), Fail> {
-    let alloc = rt.alloc();
-    for (given, wanted) in [(GENERATED, LAID), (LAID, LAID), ("", "")] {
-        let text = text_of_read(alloc, given).ok_or("no text")?;
-        assert_eq!(rt; text.as_bytes(), wanted.as_bytes());
-    }
-    Ok(())
-}
-
-/// The file of a text, with another name of its last item, which is a function.
-fn renamed(alloc: Global, given: &str, name: &[u8]) -> Option<File> {
-    let File {
-        shebang,
-        attrs,
-        items,
-    } = read_bytes(alloc, given.as_bytes()).ok()?;
-    let mut items = items.into_vec();
-    let mut last = items.pop()?;
-    if let ItemKind::Function { head, .. } = &mut last.kind {
-        head.name.text = Text::from_bytes(alloc, name).ok()?;
-    }
-    items.push(last).ok()?;
-    Some(File {
-        shebang,
-        attrs,
-        items: List::from_vec(items),
-    })
-}
-
-// A name that is a keyword spoils the whole file.
-#[test]
-fn renamed_files(rt: HostRuntime) -> Result<(), Fail> {
-    let alloc = rt.alloc();
-    for (name, wanted) in [("layout", true), ("drawn", true), ("fn", false)] {
-        let file = renamed(alloc, GENERATED, name.as_bytes()).ok_or("no file")?;
-        assert_eq!(rt; is_written(alloc, &file)?, wanted, "{name}");
-        assert_eq!(rt; text(alloc, &file)?.is_some(), wanted, "{name}");
-    }
+fn depths_of_texts(rt: HostRuntime) -> Result<(), Fail> {
+    let rows = "⇒0 Some(0) None§\
+        #![a]⇒0 Some(0) None§\
+        struct A;⇒1 Some(1) None§\
+        mod a{struct B;}⇒2 Some(2) None§\
+        use a::{b,c};⇒3 Some(3) None§\
+        macro_rules! a{(((b)))=>{}}⇒1 Some(1) None§\
+        struct A<B:C>(D);⇒2 Some(2) None§\
+        fn f(a:B)->C where D:E{}⇒2 Some(2) None§\
+        type A=&B;⇒3 Some(3) None§\
+        type A=B<C>;⇒3 Some(3) None§\
+        type A=B<C=D>;⇒4 Some(4) None§\
+        type A=<B as C>::D;⇒3 Some(3) None§\
+        type A=<B as C<D>>::E;⇒4 Some(4) None§\
+        fn f(){a}⇒2 Some(2) None§\
+        fn f(){let a:B=c else{d};}⇒3 Some(3) None§\
+        fn f(){match a{b=>c}}⇒4 Some(4) None§\
+        fn f(){match a{B(c)=>d,}}⇒4 Some(4) None§\
+        const A:B=c+d+e;⇒3 Some(3) None§\
+        const A:B=-&*c;⇒3 Some(3) None§\
+        const A:B=c.d(e)[f]?;⇒3 Some(3) None§\
+        const A:B=C{d:e,..f};⇒3 Some(3) None§\
+        const A:B=|c:D|e=f=g;⇒4 Some(4) None";
+    each_is_told(&rt, rt.alloc(), rows, depths)?;
     Ok(())
 }

@@ -1,7 +1,8 @@
 //! What begins an expression that holds blocks, or a closure, as the rules of expressions ask for it.
 ghost use Rattle.std.specs.Prelude.{ℕ, ◌+◌, ◌≤◌, IfOk};
 ghost use Rattle.lay_read_tokens.specs.Answers.{IsFound};
-ghost use Rattle.lay_read_blocks.specs.Answers.{AreCode, block_head, code_within, fits};
+ghost use Rattle.lay_read_shared.specs.Code.{code_within};
+ghost use Rattle.lay_read_blocks.specs.Answers.{AreCode, block_head, fits};
 
 use lay_code::{Block, Expr, Item, Place, Site};
 use lay_ops::operands::ExprLead;

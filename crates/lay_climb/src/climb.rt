@@ -1,22 +1,22 @@
 //! Expressions: what begins one, and the operators behind it, from the strongest on.
-ghost use Rattle.std.specs.Prelude.{◌≡◌, ◌+◌, ◌<◌, ◌≤◌, nat_le, nat_lt, ◌&&◌, Some, IfOk};
+ghost use Rattle.std.specs.Prelude.{◌≡◌, ◌+◌, ◌<◌, ◌≤◌, nat_le, nat_lt, ◌&&◌, Some, IfErr, IfOk};
 ghost use Rattle.lay_code.specs.Operators as operators;
 ghost use Rattle.lay_code.specs.nodes.Exprs as nodes;
 ghost use Rattle.lay_code.specs.nodes.Code.{about_expr};
 ghost use Rattle.lay_code.specs.nodes.Places as places;
 ghost use Rattle.lay_code.specs.reader.Exprs as reader;
 ghost use Rattle.lay_read_tokens.specs.Answers.{IsFound};
-ghost use Rattle.lay_read_blocks.specs.Answers.{code_within};
+ghost use Rattle.lay_read_shared.specs.Code.{code_within};
 ghost use Rattle.lay_read_exprs.specs.Answers.{AreExprs};
 ghost use Rattle.lay_climb.specs.Answers.{climb_once, climbed};
 
 use crate::block_heads::BlockHeads;
-use lay_code::{Expr, Place, Start};
+use lay_code::{Boxed, Expr, Place, Start};
 use lay_ops::ahead::{is_angle, is_dot_or_try, strength};
 use lay_ops::{is_block_like, stands};
-use lay_read_blocks::places::before_op;
 use lay_read_exprs::ExprRules;
 use lay_read_parts::joins::refused;
+use lay_read_shared::places::before_op;
 use lay_read_tokens::stop::boxed;
 use lay_read_tokens::{Ahead, Found, ReadNone};
 use std::alloc::Global;
@@ -92,6 +92,19 @@ fn goes_on(at: &Ahead<'_>, place: Place, reached: u8) -> bool
 {
     let strength = strength(at);
     place.level < strength && strength <= reached
+}
+
+/// What was found, in a box, as what may be there.
+fn boxed_there<T: Drop>(alloc: Global, found: Found<T>) -> Result<Found<Option<Boxed<T>>>, ReadNone>
+    ensures node { IfOk result (λ there. there.node ≡ Some found.node) }
+    ensures need { IfOk result (λ there. there.need ≡ found.need) }
+    ensures err { IfErr result (λ none. none ≡ ReadNone.NoMemory) }
+{
+    let node = boxed(alloc, found.node)?;
+    Ok(Found {
+        node: Some(node),
+        need: found.need,
+    })
 }
 
 impl<
@@ -176,32 +189,13 @@ impl<
     {
         match level {
             0 => self.rules.assign_expr(at, no_struct, lhs),
-            1 => self.range_from(at, no_struct, lhs),
+            1 => {
+                let start = boxed_there(self.rules.alloc, lhs)?;
+                self.rules.range_expr(at, no_struct, start)
+            }
             11 => self.rules.cast_expr(at, lhs),
             13 => self.rules.postfix_expr(at, lhs),
             _ => self.rules.chain_expr(at, level, no_struct, lhs),
         }
-    }
-
-    /// A range from an expression on.
-    #[inline(never)]
-    fn range_from(
-        &self,
-        at: &mut Ahead<'_>,
-        no_struct: bool,
-        start: Found<Expr>,
-    ) -> Result<Found<Expr>, ReadNone>
-        requires deeper { AreExprs self.now.rules.depth (P.pre self.now.rules.exprs) (P.post self.now.rules.exprs) }
-        requires within { start.need ≤ self.now.rules.depth }
-        ensures read { IsFound (reader.range_expr (code_within self.now.rules.depth) no_struct (Some start.node) start.need at.old) result at.new }
-        ensures within { IfOk result (λ found. found.need ≤ self.now.rules.depth + 1) }
-    {
-        let need = start.need;
-        let node = boxed(self.rules.alloc, start.node)?;
-        let start = Found {
-            node: Some(node),
-            need,
-        };
-        self.rules.range_expr(at, no_struct, start)
     }
 }

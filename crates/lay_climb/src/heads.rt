@@ -4,7 +4,8 @@ ghost use Rattle.lay_code.specs.Operands.{expr_lead_at};
 ghost use Rattle.lay_code.specs.reader.Exprs as reader;
 ghost use Rattle.lay_ops.specs.Leads.{told};
 ghost use Rattle.lay_read_tokens.specs.Answers.{IsFound};
-ghost use Rattle.lay_read_blocks.specs.Answers.{code_within, fits};
+ghost use Rattle.lay_read_shared.specs.Code.{code_within};
+ghost use Rattle.lay_read_blocks.specs.Answers.{fits};
 ghost use Rattle.lay_read_exprs.specs.Answers.{AreExprs};
 
 use crate::block_heads::BlockHeads;

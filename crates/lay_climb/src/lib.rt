@@ -2,6 +2,9 @@
 //!
 //! What begins an expression is read, and then the operators behind it that its place allows, from the strongest on. Each
 //! call is proved equal to a function of the tokens ahead that `lay_code` defines.
+//!
+//! Calls that lead to deeper nodes carry `#[inline(never)]`: what is nested 254 deep has to be read within the stack of a
+//! thread, so the frame of each is kept small (docs/DECISIONS.md, "Trees").
 #![tactic(auto)]
 
 mod block_heads;

@@ -2,7 +2,9 @@
 ghost use Rattle.std.specs.Prelude.{◌≡◌};
 ghost use Rattle.lay_code.specs.nodes.Parts.{expr_of};
 
-use crate::drops::{discard_boxed_item, discard_otherwise, discard_stmts, discard_value};
+use crate::drops::{
+    discard_boxed, discard_boxed_item, discard_operand, discard_otherwise, discard_stmts,
+};
 use crate::exprs::Expr;
 use crate::item::Item;
 use lay_node::{Attr, Boxed, Pat, Ty};
@@ -42,7 +44,7 @@ pub enum Stmt {
         attrs: List<Attr>,
         pat: Pat,
         ty: Option<Ty>,
-        value: Option<Expr>,
+        value: Option<Boxed<Expr>>,
         otherwise: Option<Block>,
     },
     /// `fn a() {}`
@@ -52,7 +54,7 @@ pub enum Stmt {
     /// `a;` or, without its `;`, `a`
     Expr {
         attrs: List<Attr>,
-        expr: Expr,
+        expr: Boxed<Expr>,
         ended: bool,
     },
 }
@@ -71,7 +73,7 @@ impl Drop for Stmt {
                 drop(attrs);
                 drop(pat);
                 drop(ty);
-                discard_value(value);
+                discard_operand(value);
                 discard_otherwise(otherwise);
             }
             Stmt::Item { item } => {
@@ -83,7 +85,7 @@ impl Drop for Stmt {
                 ended: _,
             } => {
                 drop(attrs);
-                drop(expr);
+                discard_boxed(expr);
             }
         }
     }
@@ -91,7 +93,7 @@ impl Drop for Stmt {
 
 impl Stmt {
     /// The expression, where it is one.
-    pub fn into_expr(self) -> Option<Expr>
+    pub fn into_expr(self) -> Option<Boxed<Expr>>
         ensures { result ≡ expr_of self }
     {
         match self {
@@ -110,7 +112,7 @@ impl Stmt {
 #[cycle(code)]
 pub struct Branch {
     pub pat: Option<Pat>,
-    pub condition: Expr,
+    pub condition: Boxed<Expr>,
     pub body: Block,
 }
 
@@ -123,14 +125,14 @@ impl Drop for Branch {
             body,
         } = self;
         drop(pat);
-        drop(condition);
+        discard_boxed(condition);
         drop(body);
     }
 }
 
 impl Branch {
     /// Its pattern if it has one, its condition, and its block.
-    pub fn into_parts(self) -> (Option<Pat>, Expr, Block)
+    pub fn into_parts(self) -> (Option<Pat>, Boxed<Expr>, Block)
         ensures { result ≡ (self.pat, self.condition, self.body) }
     {
         let Branch {
@@ -147,8 +149,8 @@ impl Branch {
 pub struct Arm {
     pub attrs: List<Attr>,
     pub pat: Pat,
-    pub guard: Option<Expr>,
-    pub body: Expr,
+    pub guard: Option<Boxed<Expr>>,
+    pub body: Boxed<Expr>,
 }
 
 impl Drop for Arm {
@@ -162,7 +164,7 @@ impl Drop for Arm {
         } = self;
         drop(attrs);
         drop(pat);
-        discard_value(guard);
-        drop(body);
+        discard_operand(guard);
+        discard_boxed(body);
     }
 }

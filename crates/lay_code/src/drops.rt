@@ -47,15 +47,15 @@ pub(crate) fn discard_base(node: Option<Option<Boxed<Expr>>>) {
 
 /// Each operand behind its operator.
 #[cycle(drops)]
-pub(crate) fn discard_operands(nodes: List<(Op, Expr)>) {
+pub(crate) fn discard_operands(nodes: List<(Op, Boxed<Expr>)>) {
     let mut left = nodes.into_vec();
     while let Some((_, node)) = left.pop() {
-        drop(node);
+        drop(node.into_inner());
     }
     left.destroy_empty();
 }
 
-/// An operand, if it is there.
+/// An operand, a value or a guard, if it is there.
 #[cycle(drops)]
 pub(crate) fn discard_operand(node: Option<Boxed<Expr>>) {
     match node {
@@ -66,10 +66,10 @@ pub(crate) fn discard_operand(node: Option<Boxed<Expr>>) {
 
 /// Each target before its operator.
 #[cycle(drops)]
-pub(crate) fn discard_targets(nodes: List<(Expr, Op)>) {
+pub(crate) fn discard_targets(nodes: List<(Boxed<Expr>, Op)>) {
     let mut left = nodes.into_vec();
     while let Some((node, _)) = left.pop() {
-        drop(node);
+        drop(node.into_inner());
     }
     left.destroy_empty();
 }
@@ -113,18 +113,15 @@ pub(crate) fn discard_arms(nodes: List<Arm>) {
     left.destroy_empty();
 }
 
-/// A value, if it is there.
+/// What a box holds.
 #[cycle(drops)]
-pub(crate) fn discard_value(node: Option<Expr>) {
-    match node {
-        Some(node) => drop(node),
-        None => {}
-    }
+pub(crate) fn discard_boxed_item(node: Boxed<Item>) {
+    drop(node.into_inner());
 }
 
 /// What a box holds.
 #[cycle(drops)]
-pub(crate) fn discard_boxed_item(node: Boxed<Item>) {
+pub(crate) fn discard_kind(node: Boxed<ItemKind>) {
     drop(node.into_inner());
 }
 

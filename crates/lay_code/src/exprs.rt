@@ -80,7 +80,7 @@ pub enum Expr {
     /// `a + b - c`: operators of one level, and not the first operand's
     Chain {
         first: Boxed<Expr>,
-        rest: List<(Op, Expr)>,
+        rest: List<(Op, Boxed<Expr>)>,
     },
     /// `a as B as C`, of one type at least
     Cast {
@@ -100,7 +100,7 @@ pub enum Expr {
     },
     /// `a = b += c`, of one target at least
     Assign {
-        targets: List<(Expr, Op)>,
+        targets: List<(Boxed<Expr>, Op)>,
         value: Boxed<Expr>,
     },
     /// `a.b.0.c::<D>(e)(f)[g]?.await`, of one step at least
@@ -354,13 +354,13 @@ pub enum FieldExpr {
     Named {
         attrs: List<Attr>,
         name: Name,
-        value: Expr,
+        value: Boxed<Expr>,
     },
     /// `0: b`
     Numbered {
         attrs: List<Attr>,
         index: Text,
-        value: Expr,
+        value: Boxed<Expr>,
     },
     /// `a`: the field and its value have this name
     Short {
@@ -376,7 +376,7 @@ impl Drop for FieldExpr {
             FieldExpr::Named { attrs, name, value } => {
                 drop(attrs);
                 drop(name);
-                drop(value);
+                discard_boxed(value);
             }
             FieldExpr::Numbered {
                 attrs,
@@ -385,7 +385,7 @@ impl Drop for FieldExpr {
             } => {
                 drop(attrs);
                 drop(index);
-                drop(value);
+                discard_boxed(value);
             }
             FieldExpr::Short { attrs, name } => {
                 drop(attrs);
@@ -418,7 +418,7 @@ pub enum Step {
     },
     /// `[a]`
     Index {
-        index: Expr,
+        index: Boxed<Expr>,
     },
     /// `?`
     Try,
@@ -449,7 +449,7 @@ impl Drop for Step {
                 discard_exprs(args);
             }
             Step::Index { index } => {
-                drop(index);
+                discard_boxed(index);
             }
             Step::Try => {}
             Step::Await => {}

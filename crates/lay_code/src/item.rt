@@ -1,6 +1,6 @@
 //! Items.
 use crate::blocks::Block;
-use crate::drops::{discard_items, discard_otherwise, discard_value};
+use crate::drops::{discard_items, discard_kind, discard_operand, discard_otherwise};
 use crate::exprs::Expr;
 use lay_node::{
     Alias, Attr, Boxed, Enum, ExternCrate, FnHead, Group, ImplHead, Literal, MacroCall, Name,
@@ -14,7 +14,7 @@ pub struct Item {
     pub attrs: List<Attr>,
     /// Nothing, where it is a macro call or declares a macro.
     pub vis: Vis,
-    pub kind: ItemKind,
+    pub kind: Boxed<ItemKind>,
 }
 
 impl Drop for Item {
@@ -23,7 +23,7 @@ impl Drop for Item {
         let Item { attrs, vis, kind } = self;
         drop(attrs);
         drop(vis);
-        drop(kind);
+        discard_kind(kind);
     }
 }
 
@@ -73,7 +73,7 @@ pub enum ItemKind {
     /// `const A: B = c;` or `static A: B;`
     Value {
         head: ValueHead,
-        value: Option<Expr>,
+        value: Option<Boxed<Expr>>,
     },
     /// `trait A { fn b(); }`, with its inner attributes and its members
     Trait {
@@ -144,7 +144,7 @@ impl Drop for ItemKind {
             }
             ItemKind::Value { head, value } => {
                 drop(head);
-                discard_value(value);
+                discard_operand(value);
             }
             ItemKind::Trait {
                 head,

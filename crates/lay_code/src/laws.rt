@@ -1,10 +1,12 @@
 //! What holds of every expression, item and file.
-ghost use Rattle.std.specs.Prelude.{◌≡◌, ℕ, List};
+ghost use Rattle.std.specs.Prelude.{◌≡◌, ℕ, List, Ok, IsTrue};
+ghost use Rattle.lay_token.specs.Source.{Source, source};
 ghost use Rattle.lay_token.specs.declared.token.Token.{Token};
 ghost use Rattle.lay_node.specs.nodes.Facts.{Front};
 ghost use Rattle.lay_node.specs.reader.Exact.{Exact};
 ghost use Rattle.lay_node.specs.declared.heads.Site.{Site};
 ghost use Rattle.lay_code.specs.Reading.{SpellsFile};
+ghost use Rattle.lay_code.specs.Written.{is_good_shebang};
 ghost use Rattle.lay_code.specs.nodes.Code.{about_expr, about_item};
 ghost use Rattle.lay_code.specs.nodes.Exprs.{ExprFront};
 ghost use Rattle.lay_code.specs.reader.Code.{expr_at, item_at};
@@ -13,10 +15,12 @@ ghost use Rattle.lay_code.specs.declared.exprs.Place.{Place};
 ghost use Rattle.lay_code.specs.declared.file.File.{File};
 ghost use Rattle.lay_code.specs.declared.item.Item.{Item};
 
-/// The functions that read expressions and items read exactly what stands at the front of the tokens.
+/// The functions that read expressions and items read exactly what stands at the front of the tokens; and the shebang line of
+/// each source is one that a file may have.
 pub fn reading_law()
     ensures exprs { (place : Place) → Exact (expr_at place) (λ (x : Expr). ExprFront place (about_expr x)) }
     ensures items { (site : Site) → Exact (item_at site) (λ (x : Item). Front (about_item site x)) }
+    ensures good_shebang { (bytes : List ℕ) (from : Source) → source bytes ≡ Ok from → IsTrue (is_good_shebang from.shebang) }
 {}
 
 /// At most one expression or item and one count of tokens fit at a place, and one file a list of tokens.

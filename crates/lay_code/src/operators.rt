@@ -1,4 +1,6 @@
 //! Operators of expressions.
+ghost use Rattle.std.specs.Prelude.{◌≡◌};
+ghost use Rattle.lay_code.specs.Operators as operators;
 
 /// An operator between two operands (Rust Reference, "Operator expressions").
 #[derive(Clone, Copy)]
@@ -65,6 +67,48 @@ pub enum Op {
     Div,
     /// `%`
     Rem,
+}
+
+impl Op {
+    /// Its text.
+    #[inline]
+    pub fn text(self) -> &'static [u8]
+        ensures { result.now ≡ operators.op_text self }
+    {
+        match self {
+            Op::Set => b"=",
+            Op::AddSet => b"+=",
+            Op::SubSet => b"-=",
+            Op::MulSet => b"*=",
+            Op::DivSet => b"/=",
+            Op::RemSet => b"%=",
+            Op::XorSet => b"^=",
+            Op::AndSet => b"&=",
+            Op::OrSet => b"|=",
+            Op::ShlSet => b"<<=",
+            Op::ShrSet => b">>=",
+            Op::Upto => b"..",
+            Op::UptoEq => b"..=",
+            Op::OrOr => b"||",
+            Op::AndAnd => b"&&",
+            Op::EqEq => b"==",
+            Op::Differ => b"!=",
+            Op::Less => b"<",
+            Op::Greater => b">",
+            Op::LessEq => b"<=",
+            Op::GreaterEq => b">=",
+            Op::BitOr => b"|",
+            Op::BitXor => b"^",
+            Op::BitAnd => b"&",
+            Op::Shl => b"<<",
+            Op::Shr => b">>",
+            Op::Add => b"+",
+            Op::Sub => b"-",
+            Op::Mul => b"*",
+            Op::Div => b"/",
+            Op::Rem => b"%",
+        }
+    }
 }
 
 /// An operator before its operand (Rust Reference, "Borrow operators", "Dereference operator", "Negation operators").

@@ -5,7 +5,7 @@ ghost use Rattle.lay_code.specs.nodes.Code.{about_block, about_stmt};
 ghost use Rattle.lay_depth_nodes.specs.Depths.{counted, greatest};
 ghost use Rattle.lay_depth.specs.Parts.{arm_form, block_if, branch_form, pat_if};
 
-use crate::exprs::{expr_depth, value_depth};
+use crate::exprs::{expr_depth, operand_depth};
 use crate::items::item_depth;
 use lay_code::{Arm, Block, Branch, Stmt};
 use lay_depth_nodes::{deeper, pat_depth, type_or_none_depth};
@@ -48,14 +48,14 @@ fn stmt_depth(stmt: &Stmt) -> u32
             ..
         } => {
             let bound = pat_depth(pat).max(type_or_none_depth(ty));
-            let given = bound.max(value_depth(value));
+            let given = bound.max(operand_depth(value));
             match otherwise {
                 Some(block) => given.max(deeper(block_depth(block))),
                 None => given,
             }
         },
         Stmt::Item { item } => item_depth(item.get()),
-        Stmt::Expr { expr, .. } => expr_depth(expr),
+        Stmt::Expr { expr, .. } => expr_depth(expr.get()),
     }
 }
 
@@ -66,41 +66,23 @@ pub(crate) fn branches_depth(branches: &[Branch]) -> u32
 {
     let mut most = 0u32;
     for branch in branches {
-        most = most.max(branch_depth(branch));
+        let head = pat_or_none_depth(&branch.pat).max(expr_depth(branch.condition.get()));
+        most = most.max(head.max(block_depth(&branch.body)));
     }
     most
 }
 
-/// The depth of a branch.
-#[cycle(code)]
-fn branch_depth(branch: &Branch) -> u32
-    ensures { result ≡ counted (least_depth (branch_form branch.now)) }
-{
-    pat_or_none_depth(&branch.pat)
-        .max(expr_depth(&branch.condition))
-        .max(block_depth(&branch.body))
-}
-
-/// The depth of the deepest of the arms.
+/// The depth of the deepest of the arms. The body of an arm stands one level deeper.
 #[cycle(code)]
 pub(crate) fn arms_depth(arms: &[Arm]) -> u32
     ensures { result ≡ counted (greatest (map arm_form arms.now)) }
 {
     let mut most = 0u32;
     for arm in arms {
-        most = most.max(arm_depth(arm));
+        let head = pat_depth(&arm.pat).max(operand_depth(&arm.guard));
+        most = most.max(head.max(deeper(expr_depth(arm.body.get()))));
     }
     most
-}
-
-/// The depth of an arm. Its body stands one level deeper.
-#[cycle(code)]
-fn arm_depth(arm: &Arm) -> u32
-    ensures { result ≡ counted (least_depth (arm_form arm.now)) }
-{
-    pat_depth(&arm.pat)
-        .max(value_depth(&arm.guard))
-        .max(deeper(expr_depth(&arm.body)))
 }
 
 /// The depth of a pattern that may be left out: 0 where it is.

@@ -107,9 +107,9 @@ fn exprs_depth(exprs: &[Expr]) -> u32
     most
 }
 
-/// The depth of an operand that may be left out: 0 where it is.
+/// The depth of an expression that may be left out: 0 where it is.
 #[cycle(code)]
-fn operand_depth(operand: &Option<Boxed<Expr>>) -> u32
+pub(crate) fn operand_depth(operand: &Option<Boxed<Expr>>) -> u32
     ensures { result ≡ counted (expr_if operand.now) }
 {
     match operand {
@@ -118,37 +118,26 @@ fn operand_depth(operand: &Option<Boxed<Expr>>) -> u32
     }
 }
 
-/// The depth of a value that may be left out: 0 where it is.
-#[cycle(code)]
-pub(crate) fn value_depth(value: &Option<Expr>) -> u32
-    ensures { result ≡ counted (expr_if value.now) }
-{
-    match value {
-        Some(value) => expr_depth(value),
-        None => 0,
-    }
-}
-
 /// The depth of the deepest operand behind an operator.
 #[cycle(code)]
-fn operands_depth(operands: &[(Op, Expr)]) -> u32
+fn operands_depth(operands: &[(Op, Boxed<Expr>)]) -> u32
     ensures { result ≡ counted (greatest (map operand_form operands.now)) }
 {
     let mut most = 0u32;
     for (_, operand) in operands {
-        most = most.max(expr_depth(operand));
+        most = most.max(expr_depth(operand.get()));
     }
     most
 }
 
 /// The depth of the deepest target of an assignment.
 #[cycle(code)]
-fn targets_depth(targets: &[(Expr, Op)]) -> u32
+fn targets_depth(targets: &[(Boxed<Expr>, Op)]) -> u32
     ensures { result ≡ counted (greatest (map target_form targets.now)) }
 {
     let mut most = 0u32;
     for (target, _) in targets {
-        most = most.max(expr_depth(target));
+        most = most.max(expr_depth(target.get()));
     }
     most
 }
@@ -171,7 +160,9 @@ fn field_depth(field: &FieldExpr) -> u32
     ensures { result ≡ counted (least_depth (about_field_expr field.now).form) }
 {
     match field {
-        FieldExpr::Named { value, .. } | FieldExpr::Numbered { value, .. } => expr_depth(value),
+        FieldExpr::Named { value, .. } | FieldExpr::Numbered { value, .. } => expr_depth(
+            value.get(),
+        ),
         FieldExpr::Short { .. } => 0,
     }
 }
@@ -217,7 +208,7 @@ fn step_depth(step: &Step) -> u32
             }
         },
         Step::Apply { args } => exprs_depth(args.as_slice()),
-        Step::Index { index } => expr_depth(index),
+        Step::Index { index } => expr_depth(index.get()),
     }
 }
 

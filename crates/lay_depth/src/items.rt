@@ -6,7 +6,7 @@ ghost use Rattle.lay_depth_nodes.specs.Depths.{counted, greatest};
 ghost use Rattle.lay_depth.specs.Parts.{kind_need};
 
 use crate::blocks::block_or_none_depth;
-use crate::exprs::value_depth;
+use crate::exprs::operand_depth;
 use lay_code::{Item, ItemKind};
 use lay_depth_nodes::{
     alias_depth, deeper, enum_depth, fn_head_depth, impl_head_depth, struct_depth,
@@ -18,7 +18,7 @@ use lay_depth_nodes::{
 pub(crate) fn item_depth(item: &Item) -> u32
     ensures { result ≡ counted (least_depth (form_of_item item.now)) }
 {
-    deeper(kind_depth(&item.kind))
+    deeper(kind_depth(item.kind.get()))
 }
 
 /// The depth of the deepest of the items.
@@ -54,7 +54,7 @@ fn kind_depth(kind: &ItemKind) -> u32
         ItemKind::Struct { item } => struct_depth(item),
         ItemKind::Union { item } => union_depth(item),
         ItemKind::Enum { item } => enum_depth(item),
-        ItemKind::Value { head, value } => value_head_depth(head).max(value_depth(value)),
+        ItemKind::Value { head, value } => value_head_depth(head).max(operand_depth(value)),
         ItemKind::Trait {
             head,
             wheres,

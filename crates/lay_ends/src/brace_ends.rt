@@ -78,7 +78,7 @@ fn closure_edge(expr: &Expr) -> ClosureEdge<'_>
 {
     match expr {
         Expr::Chain { rest, .. } => match rest.as_slice().last() {
-            Some((_, operand)) => ClosureEdge::In(operand),
+            Some((_, operand)) => ClosureEdge::In(operand.get()),
             None => ClosureEdge::Shut,
         },
         Expr::Unary { operand, .. } => ClosureEdge::In(operand.get()),
@@ -121,7 +121,7 @@ fn last_part(expr: &Expr) -> Edge<'_>
         Expr::Path { path } => type_edge_of(code_edge(path)),
         Expr::Call { call } => Edge::Token(is_brace(call.tokens.delim)),
         Expr::Chain { rest, first } => match rest.as_slice().last() {
-            Some((_, operand)) => Edge::In(operand),
+            Some((_, operand)) => Edge::In(operand.get()),
             None => Edge::In(first.get()),
         },
         Expr::Cast { types, operand } => match types.as_slice().last() {

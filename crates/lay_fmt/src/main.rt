@@ -6,12 +6,12 @@ ghost use Rattle.lay_io.specs.Told.{GrewByPrefix};
 ghost use Rattle.lay_front.specs.Messages.{message};
 ghost use Rattle.lay_fmt.specs.Exit.{number_of};
 
-use lay_front::{Status, run};
+use lay_front::{Status, run, tell_failed_write};
 use lay_io::{Failed, HostInputs, HostSink, Sink};
 use lay_text::{NoMemory, Text};
 use std::alloc::Global;
 use std::process::ExitCode;
-use std::rt::Env;
+use std::rt::{Env, Files};
 use std::{env, io};
 
 /// Why the words aren't at hand.
@@ -28,20 +28,23 @@ impl From<NoMemory> for NoWords {
 
 fn main(rt: HostRuntime) -> ExitCode {
     let alloc = rt.alloc();
-    let words = match words(&rt, alloc) {
-        Ok(words) => words,
-        Err(NoWords::NotText) => return ExitCode::from(8),
-        Err(NoWords::NoMemory) => return ExitCode::from(7),
-    };
-    let mut out = match HostSink::stdout(alloc, &rt) {
+    match words(&rt, alloc) {
+        Ok(words) => ExitCode::from(exit_status(outcome(&rt, alloc, words.as_slice()))),
+        Err(NoWords::NotText) => ExitCode::from(8),
+        Err(NoWords::NoMemory) => ExitCode::from(7),
+    }
+}
+
+/// The status of a run over the system's objects. It is generic over the system, so that what its files drop isn't proved here again.
+fn outcome<R: Input + Files + Print + Eprint>(rt: &R, alloc: Global, words: &[Text]) -> Status {
+    let mut out = match HostSink::stdout(alloc, rt) {
         Ok(out) => out,
-        Err(NoMemory) => return ExitCode::from(7),
+        Err(NoMemory) => return Status::NoMemory,
     };
-    let mut inputs = HostInputs::new(&rt);
-    let mut err = HostSink::stderr(&rt);
-    let status = run(alloc, words.as_slice(), &mut inputs, &mut out, &mut err);
-    let status = finished(status, out.flush(), &mut err);
-    ExitCode::from(exit_status(status))
+    let mut inputs = HostInputs::new(rt);
+    let mut err = HostSink::stderr(rt);
+    let status = run(alloc, words, &mut inputs, &mut out, &mut err);
+    finished(status, out.flush(), &mut err)
 }
 
 /// The status of a run, or `WriteFailed` where its output wasn't handed to the system, which is told in one line.
@@ -53,7 +56,7 @@ fn finished<E: Sink>(status: Status, flushed: Result<(), Failed>, err: &mut E) -
     match flushed {
         Ok(()) => status,
         Err(Failed) => {
-            let _ = err.write(b"write failed\n");
+            tell_failed_write(err);
             Status::WriteFailed
         }
     }

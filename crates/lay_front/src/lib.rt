@@ -15,3 +15,4 @@ mod stop;
 
 pub use command::{LIMIT, Status, run};
 pub use formatting::{IntoError, format, format_into, unparse};
+pub use messages::tell_failed_write;

@@ -1,11 +1,12 @@
 //! The lines that say why a run stopped.
-ghost use Rattle.std.specs.Prelude.{◌≡◌, ◌≤◌, ◌++◌, Err, OnOk, codes};
+ghost use Rattle.std.specs.Prelude.{◌≡◌, ◌≤◌, ◌++◌, [], Err, OnOk, codes};
 ghost use Rattle.std.specs.Fmt.{decimal};
 ghost use Rattle.lay_io.specs.Calls.{Writes};
 ghost use Rattle.lay_io.specs.Faults.{HasCause, Rose, SameLoan};
 ghost use Rattle.lay_io.specs.Told.{GrewBy, GrewByPrefix};
-ghost use Rattle.lay_front.specs.Messages.{line_of_end, reason, refusal_line};
+ghost use Rattle.lay_front.specs.Messages.{line_of_end, message, reason, refusal_line};
 
+use crate::command::Status;
 use crate::stop::Stop;
 use itoa::Buffer;
 use lay_io::{Failed, Sink};
@@ -25,6 +26,13 @@ pub fn tell<E: Sink>(ended: Result<(), Stop>, err: &mut E)
         return;
     };
     let _ = write_line(stop, err);
+}
+
+/// Says on `err` that a write failed: its line, or a front of it where `err` fails too.
+pub fn tell_failed_write<E: Sink>(err: &mut E)
+    ensures { GrewByPrefix (E.written err.old) (E.written err.new) (message [] Status.WriteFailed) }
+{
+    tell(Err(Stop::WriteFailed), err);
 }
 
 /// Writes the line of a run that stopped.

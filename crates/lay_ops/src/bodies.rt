@@ -15,7 +15,7 @@ pub fn ends(stmt: &Stmt) -> bool
 {
     match stmt {
         Stmt::Let { .. } | Stmt::Item { .. } => true,
-        Stmt::Expr { expr, ended, .. } => *ended || is_block_like(expr),
+        Stmt::Expr { expr, ended, .. } => *ended || is_block_like(expr.get()),
     }
 }
 
@@ -32,7 +32,7 @@ fn is_lone_stmt(stmt: &Stmt) -> bool
     ensures { result ≡ ((about_stmt stmt.now).bare && not (about_stmt stmt.now).call) }
 {
     match stmt {
-        Stmt::Expr { attrs, expr, ended } => is_lone_expr(attrs.as_slice(), *ended, expr),
+        Stmt::Expr { attrs, expr, ended } => is_lone_expr(attrs.as_slice(), *ended, expr.get()),
         _ => false,
     }
 }
@@ -81,5 +81,5 @@ pub fn is_lone_body(expr: &Expr) -> bool
 pub fn is_call(item: &Item) -> bool
     ensures { result ≡ (told_of_item item.now).call }
 {
-    matches!(item.kind, ItemKind::Call { .. })
+    matches!(item.kind.get(), ItemKind::Call { .. })
 }

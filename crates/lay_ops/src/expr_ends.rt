@@ -46,7 +46,7 @@ fn expr_end(expr: &Expr) -> ExprEnd<'_>
 {
     match expr {
         Expr::Chain { rest, .. } => match rest.as_slice().last() {
-            Some((_, operand)) => ExprEnd::In(operand),
+            Some((_, operand)) => ExprEnd::In(operand.get()),
             None => ExprEnd::Shut,
         },
         Expr::Unary { operand, .. } => ExprEnd::In(operand.get()),

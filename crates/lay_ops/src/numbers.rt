@@ -59,61 +59,64 @@ fn reads(text: &[u8], start: Reading) -> bool
     let mut reading = start;
     let mut rest = text;
     while let Some((character, behind)) = split_char(rest) {
-        reading = leads_to(reading, character);
+        reading = match u8::try_from(character) {
+            Ok(byte) => leads_to(reading, byte),
+            Err(_) => Reading::Refused,
+        };
         rest = behind;
     }
     !matches!(reading, Reading::Refused)
 }
 
-/// How far a number is read with one more character.
-fn leads_to(reading: Reading, character: u64) -> Reading
-    ensures { result ≡ leads_to reading character }
+/// How far a number is read with one more character, of those that are one byte in ASCII or Latin-1.
+fn leads_to(reading: Reading, byte: u8) -> Reading
+    ensures { result ≡ leads_to reading byte }
 {
     match reading {
-        Reading::Start => if character == 48 {
+        Reading::Start => if byte == b'0' {
             Reading::Zero
         } else {
-            digits(character)
+            digits(byte)
         },
-        Reading::Zero => if character == 120 {
+        Reading::Zero => if byte == b'x' {
             Reading::Hex
-        } else if character == 111 || character == 98 {
+        } else if byte == b'o' || byte == b'b' {
             Reading::Digits
         } else {
-            digits(character)
+            digits(byte)
         },
-        Reading::Digits => digits(character),
-        Reading::Hex => if in_hex(character) {
+        Reading::Digits => digits(byte),
+        Reading::Hex => if in_hex(byte) {
             Reading::Hex
         } else {
             Reading::Refused
         },
-        Reading::Whole => if in_digits(character) {
+        Reading::Whole => if in_digits(byte) {
             Reading::Whole
-        } else if character == 46 {
+        } else if byte == b'.' {
             Reading::Fraction
         } else {
-            exponent(character)
+            exponent(byte)
         },
-        Reading::Fraction => if in_digits(character) {
+        Reading::Fraction => if in_digits(byte) {
             Reading::Fraction
         } else {
-            exponent(character)
+            exponent(byte)
         },
-        Reading::Exponent => if character == 43 || character == 45 {
+        Reading::Exponent => if byte == b'+' || byte == b'-' {
             Reading::Digits
         } else {
-            digits(character)
+            digits(byte)
         },
         Reading::Refused => Reading::Refused,
     }
 }
 
 /// Digits, if the character is one.
-fn digits(character: u64) -> Reading
-    ensures { result ≡ digits character }
+fn digits(byte: u8) -> Reading
+    ensures { result ≡ digits byte }
 {
-    if in_digits(character) {
+    if in_digits(byte) {
         Reading::Digits
     } else {
         Reading::Refused
@@ -121,10 +124,10 @@ fn digits(character: u64) -> Reading
 }
 
 /// An exponent, if the character is its letter.
-fn exponent(character: u64) -> Reading
-    ensures { result ≡ exponent character }
+fn exponent(byte: u8) -> Reading
+    ensures { result ≡ exponent byte }
 {
-    if character == 101 || character == 69 {
+    if byte == b'e' || byte == b'E' {
         Reading::Exponent
     } else {
         Reading::Refused
@@ -132,19 +135,17 @@ fn exponent(character: u64) -> Reading
 }
 
 /// Whether the character is a digit or an underscore.
-fn in_digits(character: u64) -> bool
-    ensures { result ≡ in_digits character }
+fn in_digits(byte: u8) -> bool
+    ensures { result ≡ in_digits byte }
 {
-    48 <= character && character <= 57 || character == 95
+    b'0' <= byte && byte <= b'9' || byte == b'_'
 }
 
 /// Whether the character is a hexadecimal digit or an underscore.
-fn in_hex(character: u64) -> bool
-    ensures { result ≡ in_hex character }
+fn in_hex(byte: u8) -> bool
+    ensures { result ≡ in_hex byte }
 {
-    in_digits(character)
-        || 65 <= character && character <= 70
-        || 97 <= character && character <= 102
+    in_digits(byte) || b'A' <= byte && byte <= b'F' || b'a' <= byte && byte <= b'f'
 }
 
 /// The first character of a text and what stands behind it, if there is one. A text needn't be UTF-8.

@@ -8,46 +8,8 @@ ghost use Rattle.lay_ops.specs.Leads.{led_by};
 
 use lay_code::{Op, Prefix};
 use lay_nest::Cursor;
-use lay_token::{Kind, Token};
-
-/// The text of an operator between operands.
-pub fn op_text(op: Op) -> &'static [u8]
-    ensures { result.now ≡ operators.op_text op }
-{
-    match op {
-        Op::Set => b"=",
-        Op::AddSet => b"+=",
-        Op::SubSet => b"-=",
-        Op::MulSet => b"*=",
-        Op::DivSet => b"/=",
-        Op::RemSet => b"%=",
-        Op::XorSet => b"^=",
-        Op::AndSet => b"&=",
-        Op::OrSet => b"|=",
-        Op::ShlSet => b"<<=",
-        Op::ShrSet => b">>=",
-        Op::Upto => b"..",
-        Op::UptoEq => b"..=",
-        Op::OrOr => b"||",
-        Op::AndAnd => b"&&",
-        Op::EqEq => b"==",
-        Op::Differ => b"!=",
-        Op::Less => b"<",
-        Op::Greater => b">",
-        Op::LessEq => b"<=",
-        Op::GreaterEq => b">=",
-        Op::BitOr => b"|",
-        Op::BitXor => b"^",
-        Op::BitAnd => b"&",
-        Op::Shl => b"<<",
-        Op::Shr => b">>",
-        Op::Add => b"+",
-        Op::Sub => b"-",
-        Op::Mul => b"*",
-        Op::Div => b"/",
-        Op::Rem => b"%",
-    }
-}
+use lay_read_tokens::front::is_keyword;
+use lay_token::Kind;
 
 /// The level of an operator between operands, from 0 of an assignment to 10 of a product.
 pub fn op_level(op: Op) -> u8
@@ -109,19 +71,12 @@ fn first_of(at: &Cursor<'_>, ops: &[Op]) -> Option<Op>
 {
     let mut rest = ops;
     while let [op, others @ ..] = rest {
-        if at.op_is(op_text(*op)) {
+        if at.op_is(op.text()) {
             return Some(*op);
         }
         rest = others;
     }
     None
-}
-
-/// Whether the token is the keyword.
-fn is_keyword(token: &Token, word: &[u8]) -> bool
-    ensures { result ≡ ahead.is_keyword word.now token.now }
-{
-    matches!(token.kind, Kind::Ident) && token.text.as_bytes() == word
 }
 
 /// Whether the keyword stands behind this many other tokens.

@@ -8,7 +8,7 @@ ghost use Rattle.lay_ops.specs.RootFacts.{first_level};
 
 use crate::operators::op_level;
 use crate::type_ends::type_lacks_args;
-use lay_code::{Expr, Op, Ty};
+use lay_code::{Boxed, Expr, Op, Ty};
 use lay_token::Delim;
 
 /// The level of an expression, from 0 of an assignment to 14 of what is no operator's.
@@ -32,7 +32,7 @@ pub fn level(expr: &Expr) -> u8
 }
 
 /// The level of the operators of a chain.
-fn first_level(rest: &[(Op, Expr)]) -> u8
+fn first_level(rest: &[(Op, Boxed<Expr>)]) -> u8
     ensures { result ≡ first_level rest.now }
 {
     match rest {

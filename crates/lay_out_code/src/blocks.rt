@@ -12,7 +12,7 @@ ghost use Rattle.lay_out_code.specs.Parts.{stmt_told};
 
 use crate::exprs::add_expr;
 use crate::items::{add_inner_attrs, add_item};
-use lay_code::{Block, Expr, Stmt};
+use lay_code::{Block, Boxed, Expr, Stmt};
 use lay_layout::Break;
 use lay_out_exprs::blocks::{close_soft, is_single};
 use lay_out_exprs::flags::both;
@@ -119,7 +119,7 @@ fn add_stmt<E: Emit>(out: &mut E, before: Result<(), E::Fault>, stmt: &Stmt) -> 
         Stmt::Item { item } => add_item(out, before, item.get()),
         Stmt::Expr { attrs, expr, ended } => {
             let attrs = add_attrs(out, before, attrs.as_slice());
-            let expr = add_expr(out, attrs, false, expr);
+            let expr = add_expr(out, attrs, false, expr.get());
             add_if(out, expr, *ended, b";")
         },
     }
@@ -148,7 +148,7 @@ fn add_otherwise<E: Emit>(
 pub fn add_value<E: Emit>(
     out: &mut E,
     before: Result<(), E::Fault>,
-    value: &Option<Expr>,
+    value: &Option<Boxed<Expr>>,
 ) -> Result<(), E::Fault>
     ensures { Adds E.meanings before out.old (stream_of (value_form (option_map about_expr value.now))) result out.new }
 {
@@ -157,7 +157,7 @@ pub fn add_value<E: Emit>(
         Some(expr) => {
             let equals = add_text(out, before, b" = ");
             let lead = add_break(out, equals, NEVER_BREAK);
-            add_expr(out, lead, false, expr)
+            add_expr(out, lead, false, expr.get())
         },
     }
 }

@@ -17,7 +17,7 @@ ghost use Rattle.lay_out_code.specs.Parts.{arm_told, branch_told, head_end};
 use crate::blocks::add_soft;
 use crate::exprs::add_expr;
 use crate::items::add_inner_attrs;
-use lay_code::{Arm, Attr, Block, Branch, Expr, Pat};
+use lay_code::{Arm, Attr, Block, Boxed, Branch, Expr, Pat};
 use lay_out_exprs::arms::{arm_body, close_arm, open_arm};
 use lay_out_exprs::blocks::{add_condition_lead, add_else_word};
 use lay_out_exprs::flags::both;
@@ -59,22 +59,10 @@ pub fn add_branches<E: Emit>(
     let mut done = before;
     for (index, branch) in branches.iter().enumerate() {
         done = add_else_word(out, done, index == 0);
-        done = add_branch(out, done, branch);
+        done = add_condition(out, done, b"if ", &branch.pat, branch.condition.get());
+        done = add_soft(out, done, &branch.body);
     }
     done
-}
-
-/// A branch.
-#[cycle(code)]
-fn add_branch<E: Emit>(
-    out: &mut E,
-    before: Result<(), E::Fault>,
-    branch: &Branch,
-) -> Result<(), E::Fault>
-    ensures { Adds E.meanings before out.old (stream_of (branch_told branch.now)) result out.new }
-{
-    let head = add_condition(out, before, b"if ", &branch.pat, &branch.condition);
-    add_soft(out, head, &branch.body)
 }
 
 /// The block behind the last branch, if there is one, behind its `else`.
@@ -152,9 +140,9 @@ fn add_arm<E: Emit>(out: &mut E, before: Result<(), E::Fault>, arm: &Arm) -> Res
     let head = add_end(out, guard);
     let arrow = add_text(out, head, b" => ");
     let never = add_break(out, arrow, NEVER_BREAK);
-    let kind = arm_body(&arm.body);
+    let kind = arm_body(arm.body.get());
     let opened = open_arm(out, never, kind);
-    let inner = add_expr(out, opened, false, &arm.body);
+    let inner = add_expr(out, opened, false, arm.body.get());
     close_arm(out, inner, kind)
 }
 
@@ -163,7 +151,7 @@ fn add_arm<E: Emit>(out: &mut E, before: Result<(), E::Fault>, arm: &Arm) -> Res
 fn add_guard<E: Emit>(
     out: &mut E,
     before: Result<(), E::Fault>,
-    guard: &Option<Expr>,
+    guard: &Option<Boxed<Expr>>,
 ) -> Result<(), E::Fault>
     ensures { Adds E.meanings before out.old (stream_of (guard_form (option_map about_expr guard.now))) result out.new }
 {
@@ -171,7 +159,7 @@ fn add_guard<E: Emit>(
         None => before,
         Some(guard) => {
             let word = add_text(out, before, b" if ");
-            add_expr(out, word, false, guard)
+            add_expr(out, word, false, guard.get())
         },
     }
 }

@@ -18,7 +18,7 @@ use crate::blocks::{add_block, add_value};
 use crate::calls::{add_alias, add_bare_attr, add_enum, add_extern_crate, add_struct, add_union};
 use crate::heads::{Head, add_clause, add_ended, add_ended_clause, add_foreign_head, add_head};
 use crate::macros::{add_call_item, add_macro_rules};
-use lay_code::{Attr, Block, Expr, FnHead, Item, ItemKind, ValueHead, Vis, Wheres};
+use lay_code::{Attr, Block, Boxed, Expr, FnHead, Item, ItemKind, ValueHead, Vis, Wheres};
 use lay_out_exprs::flags::both;
 use lay_out_heads::calls::add_break;
 use lay_out_heads::items::{leads, open_head};
@@ -46,7 +46,7 @@ pub fn add_item<E: Emit>(
     ensures { Adds E.meanings before out.old (stream_of (form_of_item item.now)) result out.new }
 {
     let attrs = add_attrs(out, before, item.attrs.as_slice());
-    add_kind(out, attrs, &item.vis, &item.kind)
+    add_kind(out, attrs, &item.vis, item.kind.get())
 }
 
 /// An item without its attributes.
@@ -148,7 +148,7 @@ fn add_valued<E: Emit>(
     before: Result<(), E::Fault>,
     vis: &Vis,
     head: &ValueHead,
-    value: &Option<Expr>,
+    value: &Option<Boxed<Expr>>,
 ) -> Result<(), E::Fault>
     ensures { let whole = Part (value_head_form head.now) (value_form (option_map about_expr value.now)) in
         Adds E.meanings before out.old (head_row vis.now whole ++ stream_of (piece semicolon)) result out.new }

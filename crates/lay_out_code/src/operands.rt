@@ -68,7 +68,7 @@ fn add_field<E: Emit>(
             let attrs = add_attrs(out, before, attrs.as_slice());
             let name = add_word(out, attrs, name.raw, &name.text);
             let colon = add_text(out, name, b": ");
-            add_expr(out, colon, false, value)
+            add_expr(out, colon, false, value.get())
         },
         FieldExpr::Numbered {
             attrs,
@@ -78,7 +78,7 @@ fn add_field<E: Emit>(
             let attrs = add_attrs(out, before, attrs.as_slice());
             let index = add_text(out, attrs, index.as_bytes());
             let colon = add_text(out, index, b": ");
-            add_expr(out, colon, false, value)
+            add_expr(out, colon, false, value.get())
         },
         FieldExpr::Short { attrs, name } => {
             let attrs = add_attrs(out, before, attrs.as_slice());
@@ -92,14 +92,14 @@ fn add_field<E: Emit>(
 pub fn add_operands<E: Emit>(
     out: &mut E,
     before: Result<(), E::Fault>,
-    operands: &[(Op, Expr)],
+    operands: &[(Op, Boxed<Expr>)],
 ) -> Result<(), E::Fault>
     ensures { Adds E.meanings before out.old (stream_of (operands_form (map behind_op operands.now))) result out.new }
 {
     let mut done = before;
     for (op, operand) in operands {
         done = add_operator(out, done, *op);
-        done = add_expr(out, done, false, operand);
+        done = add_expr(out, done, false, operand.get());
     }
     done
 }
@@ -110,14 +110,14 @@ pub fn add_targets<E: Emit>(
     out: &mut E,
     before: Result<(), E::Fault>,
     point: bool,
-    targets: &[(Expr, Op)],
+    targets: &[(Boxed<Expr>, Op)],
 ) -> Result<(), E::Fault>
     ensures { Adds E.meanings before out.old (fed point (targets_form (map before_op targets.now) Done) []) result out.new }
 {
     let mut done = before;
     let mut point = point;
     for (target, op) in targets {
-        done = add_expr(out, done, point, target);
+        done = add_expr(out, done, point, target.get());
         done = add_assignment(out, done, *op);
         point = false;
     }
@@ -182,7 +182,7 @@ fn add_step<E: Emit>(
         Step::Apply { args } => add_exprs(out, before, args.as_slice(), b"(", b"()", b")"),
         Step::Index { index } => {
             let opener = add_lead(out, before, true, b"[");
-            let index = add_expr(out, opener, false, index);
+            let index = add_expr(out, opener, false, index.get());
             add_close(out, index, false, false, b"[]", b"]")
         },
         Step::Try => add_text(out, before, b"?"),

@@ -27,7 +27,7 @@ pub fn add_operator<E: Emit>(
 {
     before?;
     out.brk(SPACE_BREAK)?;
-    out.text(op_text(op))?;
+    out.text(op.text())?;
     out.text(b" ")
 }
 
@@ -44,48 +44,9 @@ pub fn add_assignment<E: Emit>(
 {
     before?;
     out.text(b" ")?;
-    out.text(op_text(op))?;
+    out.text(op.text())?;
     out.text(b" ")?;
     out.brk(NEVER_BREAK)
-}
-
-/// The text of an operator between operands.
-fn op_text(op: Op) -> &'static [u8]
-    ensures { result.now ≡ op_text op }
-{
-    match op {
-        Op::Set => b"=",
-        Op::AddSet => b"+=",
-        Op::SubSet => b"-=",
-        Op::MulSet => b"*=",
-        Op::DivSet => b"/=",
-        Op::RemSet => b"%=",
-        Op::XorSet => b"^=",
-        Op::AndSet => b"&=",
-        Op::OrSet => b"|=",
-        Op::ShlSet => b"<<=",
-        Op::ShrSet => b">>=",
-        Op::Upto => b"..",
-        Op::UptoEq => b"..=",
-        Op::OrOr => b"||",
-        Op::AndAnd => b"&&",
-        Op::EqEq => b"==",
-        Op::Differ => b"!=",
-        Op::Less => b"<",
-        Op::Greater => b">",
-        Op::LessEq => b"<=",
-        Op::GreaterEq => b">=",
-        Op::BitOr => b"|",
-        Op::BitXor => b"^",
-        Op::BitAnd => b"&",
-        Op::Shl => b"<<",
-        Op::Shr => b">>",
-        Op::Add => b"+",
-        Op::Sub => b"-",
-        Op::Mul => b"*",
-        Op::Div => b"/",
-        Op::Rem => b"%",
-    }
 }
 
 /// The operators before an operand.

@@ -22,7 +22,7 @@ pub fn ends_in_point(point: bool, node: &Expr) -> bool
         Expr::Path { path } => both(point, is_nothing(path)),
         Expr::Chain { first, rest } => match rest.as_slice() {
             [] => ends_in_point(point, first.get()),
-            [.., (_, operand)] => ends_in_point(false, operand),
+            [.., (_, operand)] => ends_in_point(false, operand.get()),
         },
         Expr::Cast { operand, types } => {
             types.as_slice().is_empty() && ends_in_point(point, operand.get())

@@ -1,5 +1,5 @@
 -- What was found behind something else, which is kept beside it.
-use Rattle.std.proofs.Common.{◌≡◌, ℕ, ◌≤◌, Some, Result, Ok, Err, IfOk, MatchResult, ap, sym}
+use Rattle.std.proofs.Common.{◌≡◌, ℕ, ◌≤◌, Some, Result, Ok, Err, IfOk, MatchResult, ap}
 use Rattle.lay_node.specs.Ahead.{Tokens}
 use Rattle.lay_node.specs.reader.Loops.{Got, Read}
 use Rattle.lay_read_tokens.specs.Answers.{IsFound, IsHeld, Stopped}
@@ -37,13 +37,3 @@ pub second_held : {A B C : Type 0} (Holds : C → B → Type 0) (read : Got C) (
     → IsHeld Holds read r rest → (c : C) × (read ≡ Some (c, rest))
 second_held Holds read first rest (Ok x) a b m h = (h.0, h.1)
 second_held Holds read first rest (Err e) a b m h = absurd (cc)
-
--- What was made behind it.
-pub second_kept : {A B : Type 0} (first : A) (r : Result B ReadNone) (a : A) (b : B)
-    → MatchResult r (λ x. ◌≡◌ {A = Result (A × B) ReadNone} (Ok (a, b)) (Ok (first, x))) (λ e. ◌≡◌ {A = Result (A × B) ReadNone} (Ok (a, b)) (Err e))
-    → (a ≡ first) × (r ≡ Ok b)
-second_kept {A} {B} first (Ok x) a b m =
-    let pair : ◌≡◌ {A = A × B} (a, b) (first, x) = cc in
-    let same : x ≡ b = sym (ap (λ p. p.1) pair) in
-    (ap (λ p. p.0) pair, ap Ok same)
-second_kept first (Err e) a b m = absurd (cc)

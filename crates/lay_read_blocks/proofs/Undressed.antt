@@ -42,8 +42,8 @@ use Rattle.lay_code.proofs.reader.ArmsSoundBodies.{IsAlone, Lone, alone, alone_b
 use Rattle.lay_code.proofs.reader.ExprSoundLeads.{code_led}
 use Rattle.lay_read_tokens.proofs.Left.{Leaves, Left, attributes_left, passed_left, Passes}
 use Rattle.lay_ends.specs.Bodies.{IsBare}
-use Rattle.lay_read_blocks.proofs.BlocksLeft.{LeftCode, in_block_left, semicolons_left}
-use Rattle.lay_read_blocks.proofs.Left.{in_left}
+use Rattle.lay_read_shared.proofs.BlocksLeft.{LeftCode, in_block_left, semicolons_left}
+use Rattle.lay_read_shared.proofs.Left.{in_left}
 
 -- No such braces are left.
 abbrev pub Bare : Expr → Type 0

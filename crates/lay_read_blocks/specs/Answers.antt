@@ -6,8 +6,7 @@ use Rattle.lay_token.specs.Operators.{is_op}
 use Rattle.lay_node.specs.Ahead.{Tokens, first, tail, is_keyword}
 use Rattle.lay_node.specs.reader.Heads.{semicolon}
 use Rattle.lay_node.specs.reader.Loops.{Read, ◌>>=◌}
-use Rattle.lay_node.specs.reader.Patterns.{pat_at}
-use Rattle.lay_node.specs.reader.Types.{if_read, within}
+use Rattle.lay_node.specs.reader.Types.{if_read}
 use Rattle.lay_node.specs.declared.attr.Attr.{Attr}
 use Rattle.lay_node.specs.declared.heads.Site.{Site}
 use Rattle.lay_node.specs.declared.patterns.Pat.{Pat}
@@ -29,24 +28,13 @@ use Rattle.lay_code.specs.declared.exprs.Expr.{Expr}
 use Rattle.lay_code.specs.declared.exprs.Expr.TheVariants as expr
 use Rattle.lay_code.specs.declared.exprs.Place.{Place}
 use Rattle.lay_code.specs.declared.item.Item.{Item}
-use Rattle.lay_fronts.specs.ArmFronts.{arm_alone, body_begun}
-use Rattle.lay_fronts.specs.Fronts.{stmt_alone}
+use Rattle.lay_alone.specs.ArmFronts.{arm_alone, body_begun}
+use Rattle.lay_alone.specs.Fronts.{stmt_alone}
 use Rattle.lay_ops.specs.declared.operands.ExprLead.{ExprLead}
 use Rattle.lay_ops.specs.declared.operands.ExprLead.TheVariants as lead
 use Rattle.lay_read_tokens.specs.Answers.{IsFound}
 use Rattle.lay_read_tokens.specs.declared.found.Found.{Found}
 use Rattle.lay_read_tokens.specs.declared.stop.ReadNone.{ReadNone}
-
--- How code is read within a depth. It is `code_in`, which computes only where the depth is known to be zero or not; here
--- types and patterns do at each depth.
-abbrev pub code_within : ℕ → ExprWithin
-code_within depth = record {
-  exprs = λ place ts. expr_at place depth ts;
-  kinds = within depth;
-  pats = λ place ts. pat_at place depth ts;
-  blocks = λ ts. (code_in depth).blocks ts;
-  items = λ at ts. item_at at depth ts;
-}
 
 -- These functions read expressions, blocks behind an `else`, and items at this depth, and the depth one above is a number.
 pub record AreCode (depth : ℕ)

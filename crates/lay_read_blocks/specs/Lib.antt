@@ -1,3 +1,2 @@
 pub mod Answers
 pub mod Front
-pub mod Loops

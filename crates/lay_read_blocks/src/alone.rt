@@ -1,8 +1,9 @@
 //! Statements and arms by themselves.
 ghost use Rattle.std.specs.Prelude.{◌≡◌, ◌+◌, ◌≤◌, if◌then◌else◌, Some, None, IfOk};
-ghost use Rattle.lay_fronts.specs.ArmFronts.{alone_end};
+ghost use Rattle.lay_alone.specs.ArmFronts.{alone_end};
 ghost use Rattle.lay_read_tokens.specs.Answers.{IsFound};
-ghost use Rattle.lay_read_blocks.specs.Answers.{AreCode, code_within, deeper_arm, deeper_stmt};
+ghost use Rattle.lay_read_shared.specs.Code.{code_within};
+ghost use Rattle.lay_read_blocks.specs.Answers.{AreCode, deeper_arm, deeper_stmt};
 
 use crate::rules::BlockRules;
 use lay_code::{Arm, Block, Expr, Item, Place, Site, Stmt};

@@ -1,7 +1,6 @@
 //! The arms of a match.
 ghost use Rattle.std.specs.Prelude.{ℕ, ◌≡◌, ◌+◌, ◌^◌, ◌<◌, ◌≤◌, codes, if◌then◌else◌, Some, None, IfOk};
-ghost use Rattle.lay_node.specs.Ahead.{first, is_keyword, more_items, tail};
-ghost use Rattle.lay_node.specs.reader.Loops.{repeat};
+ghost use Rattle.lay_node.specs.Ahead.{first, is_keyword, tail};
 ghost use Rattle.lay_node.specs.reader.Types.{if_read};
 ghost use Rattle.lay_code.specs.nodes.Blocks.{is_lone_body};
 ghost use Rattle.lay_code.specs.nodes.Code.{about_expr};
@@ -9,20 +8,21 @@ ghost use Rattle.lay_code.specs.nodes.Places.{FREE as free};
 ghost use Rattle.lay_code.specs.reader.Blocks as reader;
 ghost use Rattle.lay_code.specs.reader.Code.{expr_at};
 ghost use Rattle.lay_code.specs.reader.Exprs as exprs;
-ghost use Rattle.lay_fronts.specs.ArmFronts.{arm_begun, body_begun};
-ghost use Rattle.lay_read_tokens.specs.Answers.{AreFound, IsFound, IsHeld};
+ghost use Rattle.lay_alone.specs.ArmFronts.{arm_begun, body_begun};
+ghost use Rattle.lay_read_tokens.specs.Answers.{IsFound};
 ghost use Rattle.lay_ends.specs.Bodies.{IsBare};
-ghost use Rattle.lay_read_blocks.specs.Answers.{AreCode, arm_behind, code_within, fits};
+ghost use Rattle.lay_read_shared.specs.Code.{code_within};
+ghost use Rattle.lay_read_blocks.specs.Answers.{AreCode, arm_behind, fits};
 
-use crate::loops::{Going, read_parts};
-use crate::places::{FREE, STATEMENT, plain};
 use crate::rules::BlockRules;
-use lay_code::{Arm, Attr, Block, Expr, Item, Pat, PatPlace, Place, Site, Stmt};
+use lay_code::{Arm, Attr, Block, Boxed, Expr, Item, Pat, PatPlace, Place, Site, Stmt};
 use lay_ends::undressed;
 use lay_ops::{is_free, is_lone_body};
 use lay_read_parts::joins::{both, refused};
 use lay_read_parts::loops::Part;
 use lay_read_pats::pat_ahead;
+use lay_read_shared::loops::{Going, read_parts};
+use lay_read_shared::places::{FREE, STATEMENT, plain};
 use lay_read_tokens::attributes::attrs_ahead;
 use lay_read_tokens::found::greater;
 use lay_read_tokens::front::{
@@ -47,12 +47,12 @@ fn takes_arm_end(at: &mut Ahead<'_>, free: bool) -> bool
 }
 
 /// The body of an arm, and the need of it: within braces that aren't in the tree it needs as much as they do.
-fn body_of(found: Found<Expr>) -> Found<Expr>
+fn body_of(found: Found<Boxed<Expr>>) -> Found<Boxed<Expr>>
     requires { found.need + 1 < 2 ^ 32 }
     ensures node { (turns : ℕ) × IsBare turns found.node result.node }
     ensures need { result.need ≡ reader.body_need (is_lone_body (about_expr found.node).kind) found.need }
 {
-    let need = if is_lone_body(&found.node) {
+    let need = if is_lone_body(found.node.get()) {
         found.need
     } else {
         found.need + 1
@@ -70,13 +70,13 @@ impl<
 > BlockRules<P, B, I> {
     /// What stands behind an `=>`, and whether the arm may lack its comma by that.
     #[inline(never)]
-    fn body_begun(&self, at: &mut Ahead<'_>) -> Result<Found<(Expr, bool)>, ReadNone>
+    fn body_begun(&self, at: &mut Ahead<'_>) -> Result<Found<(Boxed<Expr>, bool)>, ReadNone>
         requires { AreCode self.now.depth (P.pre self.now.exprs) (P.post self.now.exprs) (B.pre self.now.blocks) (B.post self.now.blocks) (I.pre self.now.items) (I.post self.now.items) }
         ensures read { IsFound (body_begun (code_within self.now.depth) at.old) result at.new }
         ensures within { IfOk result (λ found. found.need ≤ self.now.depth + 1) }
     {
         let found = self.expr(at, STATEMENT)?;
-        let free = is_free(&found.node);
+        let free = is_free(found.node.get());
         let body = body_of(found);
         Ok(Found {
             need: body.need,
@@ -86,7 +86,7 @@ impl<
 
     /// A guard, if one stands there.
     #[inline(never)]
-    fn guard_if(&self, at: &mut Ahead<'_>) -> Result<Found<Option<Expr>>, ReadNone>
+    fn guard_if(&self, at: &mut Ahead<'_>) -> Result<Found<Option<Boxed<Expr>>>, ReadNone>
         requires { AreCode self.now.depth (P.pre self.now.exprs) (P.post self.now.exprs) (B.pre self.now.blocks) (B.post self.now.blocks) (I.pre self.now.items) (I.post self.now.items) }
         ensures read { IsFound (if_read (first (is_keyword (codes "if")) at.old) (λ us. expr_at free self.now.depth (tail us)) at.old) result at.new }
         ensures within { IfOk result (λ found. found.need ≤ self.now.depth) }
@@ -105,7 +105,7 @@ impl<
     }
 
     /// An arm. What is within it is read at the depth of these rules, and it needs one more at the most.
-    #[tactic(auto, using(lay_fronts::proofs::ArmBegun::arm_by_is))]
+    #[tactic(auto, using(lay_alone::proofs::ArmBegun::arm_by_is))]
     #[inline(never)]
     fn arm_by(&self, at: &mut Ahead<'_>, _depth: u32) -> Result<Found<Arm>, ReadNone>
         requires { AreCode self.now.depth (P.pre self.now.exprs) (P.post self.now.exprs) (B.pre self.now.blocks) (B.post self.now.blocks) (I.pre self.now.items) (I.post self.now.items) }
@@ -121,7 +121,7 @@ impl<
     }
 
     /// An arm up to its comma, and whether it may lack that by its body.
-    #[tactic(auto, unfolding(lay_fronts::specs::ArmFronts::arm_begun))]
+    #[tactic(auto, unfolding(lay_alone::specs::ArmFronts::arm_begun))]
     #[inline(never)]
     pub fn arm_begun(&self, at: &mut Ahead<'_>) -> Result<Found<(Arm, bool)>, ReadNone>
         requires { AreCode self.now.depth (P.pre self.now.exprs) (P.post self.now.exprs) (B.pre self.now.blocks) (B.post self.now.blocks) (I.pre self.now.items) (I.post self.now.items) }
@@ -144,7 +144,7 @@ impl<
         at: &mut Ahead<'_>,
         attrs: List<Attr>,
         pat: Found<Pat>,
-        guard: Found<Option<Expr>>,
+        guard: Found<Option<Boxed<Expr>>>,
     ) -> Result<Found<(Arm, bool)>, ReadNone>
         requires code { AreCode self.now.depth (P.pre self.now.exprs) (P.post self.now.exprs) (B.pre self.now.blocks) (B.post self.now.blocks) (I.pre self.now.items) (I.post self.now.items) }
         requires pat { pat.need ≤ self.now.depth }
@@ -172,39 +172,31 @@ impl<
         })
     }
 
-    /// Arms, up to where the match ends.
-    #[tactic(auto, using(crate::proofs::Left::arm_leaves))]
-    #[inline(never)]
-    fn arms(&self, at: &mut Ahead<'_>) -> Result<Found<List<Arm>>, ReadNone>
-        requires { AreCode self.now.depth (P.pre self.now.exprs) (P.post self.now.exprs) (B.pre self.now.blocks) (B.post self.now.blocks) (I.pre self.now.items) (I.post self.now.items) }
-        ensures read { IsHeld AreFound (repeat more_items (reader.arm_by (code_within self.now.depth)) at.old) result at.new }
-        ensures within { IfOk result (λ found. found.need ≤ self.now.depth + 1) }
-    {
-        read_parts::<Arms, BlockRules<P, B, I>, Arm, u32, _>(
-            self.alloc,
-            at,
-            self.depth + 1,
-            Going::Items,
-            self,
-            BlockRules::arm_by,
-            self.depth,
-        )
-    }
-
     /// What stands behind `match`, unless it is deeper than may be.
-    #[tactic(auto, unfolding(lay_code::specs::reader::Exprs::match_expr))]
+    #[tactic(auto, unfolding(lay_code::specs::reader::Exprs::match_expr), using(lay_read_shared::proofs::Left::arm_leaves))]
     #[inline(never)]
     pub fn match_expr(&self, at: &mut Ahead<'_>) -> Result<Found<Expr>, ReadNone>
         requires { AreCode self.now.depth (P.pre self.now.exprs) (P.post self.now.exprs) (B.pre self.now.blocks) (B.post self.now.blocks) (I.pre self.now.items) (I.post self.now.items) }
         ensures read { IsFound (fits (self.now.depth + 1) (exprs.match_expr (code_within self.now.depth) at.old)) result at.new }
         ensures within { IfOk result (λ found. found.need ≤ self.now.depth + 1) }
     {
-        let scrutinee = self.boxed_expr(at, plain(0, true))?;
+        let scrutinee = self.expr(at, plain(0, true))?;
         if !takes_opener(at, Delim::Brace) {
             return refused(scrutinee);
         }
         let (scrutinee, attrs) = both(scrutinee, attrs_ahead(self.alloc, at, true))?;
-        let ((scrutinee, attrs), arms) = both((scrutinee, attrs), self.arms(at))?;
+        let ((scrutinee, attrs), arms) = both(
+            (scrutinee, attrs),
+            read_parts::<Arms, BlockRules<P, B, I>, Arm, u32, _>(
+                self.alloc,
+                at,
+                self.depth + 1,
+                Going::Items,
+                self,
+                BlockRules::arm_by,
+                self.depth,
+            ),
+        )?;
         let need = greater(scrutinee.need, arms.need);
         if !takes_closer(at, Delim::Brace) || need > self.depth {
             return refused(((scrutinee, attrs), arms));

@@ -5,15 +5,16 @@ ghost use Rattle.lay_node.specs.reader.Loops.{repeat};
 ghost use Rattle.lay_code.specs.reader.Blocks as reader;
 ghost use Rattle.lay_code.specs.reader.Code as code;
 ghost use Rattle.lay_read_tokens.specs.Answers.{AreFound, IsFound, IsHeld};
-ghost use Rattle.lay_read_blocks.specs.Answers.{AreCode, body_if, code_within};
+ghost use Rattle.lay_read_shared.specs.Code.{code_within};
+ghost use Rattle.lay_read_blocks.specs.Answers.{AreCode, body_if};
 
 use crate::front::pass_semicolons;
-use crate::loops::{Going, read_parts};
 use crate::rules::BlockRules;
 use lay_code::{Block, Expr, Item, Place, Site, Stmt};
 use lay_ops::ends;
 use lay_read_parts::joins::{both, refused};
 use lay_read_parts::loops::Part;
+use lay_read_shared::loops::{Going, read_parts};
 use lay_read_tokens::attributes::attrs_ahead;
 use lay_read_tokens::front::{is_at_closer, is_at_opened, takes_closer, takes_mark, takes_opener};
 use lay_read_tokens::{Ahead, Found, ReadNone};
@@ -96,7 +97,7 @@ impl<
     }
 
     /// Statements, up to where the block ends.
-    #[tactic(auto, using(crate::proofs::Left::stmt_leaves))]
+    #[tactic(auto, using(lay_read_shared::proofs::Left::stmt_leaves))]
     #[inline(never)]
     fn stmts(&self, at: &mut Ahead<'_>) -> Result<Found<List<Stmt>>, ReadNone>
         requires { AreCode self.now.depth (P.pre self.now.exprs) (P.post self.now.exprs) (B.pre self.now.blocks) (B.post self.now.blocks) (I.pre self.now.items) (I.post self.now.items) }

@@ -1,23 +1,22 @@
 //! Conditions, branches, and the expressions with conditions.
 ghost use Rattle.std.specs.Prelude.{◌≡◌, ◌+◌, ◌≤◌, codes, drop, max, IfOk};
 ghost use Rattle.lay_node.specs.Ahead.{first, is_keyword, tail};
-ghost use Rattle.lay_node.specs.reader.Loops.{repeat};
 ghost use Rattle.lay_node.specs.reader.Types.{if_read};
 ghost use Rattle.lay_code.specs.reader.Blocks as reader;
 ghost use Rattle.lay_code.specs.reader.Exprs as exprs;
-ghost use Rattle.lay_read_tokens.specs.Answers.{AreFound, IsFound, IsHeld};
-ghost use Rattle.lay_read_blocks.specs.Answers.{AreCode, code_within, matched};
+ghost use Rattle.lay_read_tokens.specs.Answers.{IsFound};
+ghost use Rattle.lay_read_shared.specs.Code.{code_within};
+ghost use Rattle.lay_read_blocks.specs.Answers.{AreCode, matched};
 
-use crate::loops::{Going, read_parts};
-use crate::places::plain;
 use crate::rules::BlockRules;
-use lay_code::{Block, Branch, Expr, Item, Lifetime, Pat, PatPlace, Place, Site};
+use lay_code::{Block, Boxed, Branch, Expr, Item, Lifetime, Pat, PatPlace, Place, Site};
 use lay_read_parts::joins::{both, prepended, refused};
 use lay_read_parts::loops::Part;
 use lay_read_pats::pat_ahead;
+use lay_read_shared::loops::{Going, read_parts};
+use lay_read_shared::places::plain;
 use lay_read_tokens::found::greater;
 use lay_read_tokens::front::{pass_two, takes_keyword, takes_op};
-use lay_read_tokens::stop::boxed;
 use lay_read_tokens::{Ahead, Found, ReadNone};
 use lay_token::List;
 use std::alloc::Global;
@@ -37,7 +36,10 @@ impl<
     /// A condition, or a pattern and what it is matched with.
     #[tactic(auto, unfolding(lay_code::specs::reader::Blocks::condition_by))]
     #[inline(never)]
-    pub fn condition_by(&self, at: &mut Ahead<'_>) -> Result<Found<(Option<Pat>, Expr)>, ReadNone>
+    pub fn condition_by(
+        &self,
+        at: &mut Ahead<'_>,
+    ) -> Result<Found<(Option<Pat>, Boxed<Expr>)>, ReadNone>
         requires { AreCode self.now.depth (P.pre self.now.exprs) (P.post self.now.exprs) (B.pre self.now.blocks) (B.post self.now.blocks) (I.pre self.now.items) (I.post self.now.items) }
         ensures read { IsFound (reader.condition_by (code_within self.now.depth) at.old) result at.new }
         ensures within { IfOk result (λ found. found.need ≤ self.now.depth) }
@@ -54,7 +56,7 @@ impl<
 
     /// A pattern and what it is matched with.
     #[inline(never)]
-    fn matched(&self, at: &mut Ahead<'_>) -> Result<Found<(Option<Pat>, Expr)>, ReadNone>
+    fn matched(&self, at: &mut Ahead<'_>) -> Result<Found<(Option<Pat>, Boxed<Expr>)>, ReadNone>
         requires { AreCode self.now.depth (P.pre self.now.exprs) (P.post self.now.exprs) (B.pre self.now.blocks) (B.post self.now.blocks) (I.pre self.now.items) (I.post self.now.items) }
         ensures read { IsFound (matched (code_within self.now.depth) at.old) result at.new }
         ensures within { IfOk result (λ found. found.need ≤ self.now.depth) }
@@ -92,25 +94,6 @@ impl<
         })
     }
 
-    /// Further branches, each behind its `else if`.
-    #[tactic(auto, using(crate::proofs::Left::branch_leaves))]
-    #[inline(never)]
-    fn branches(&self, at: &mut Ahead<'_>) -> Result<Found<List<Branch>>, ReadNone>
-        requires { AreCode self.now.depth (P.pre self.now.exprs) (P.post self.now.exprs) (B.pre self.now.blocks) (B.post self.now.blocks) (I.pre self.now.items) (I.post self.now.items) }
-        ensures read { IsHeld AreFound (repeat exprs.begins_else_if (λ us. reader.branch_by (code_within self.now.depth) (drop 2 us)) at.old) result at.new }
-        ensures within { IfOk result (λ found. found.need ≤ self.now.depth) }
-    {
-        read_parts::<Branches, BlockRules<P, B, I>, Branch, (), _>(
-            self.alloc,
-            at,
-            self.depth,
-            Going::ElseIfs,
-            self,
-            BlockRules::else_branch,
-            (),
-        )
-    }
-
     /// A branch behind its `else if`.
     #[inline(never)]
     fn else_branch(&self, at: &mut Ahead<'_>, _place: ()) -> Result<Found<Branch>, ReadNone>
@@ -143,7 +126,7 @@ impl<
     }
 
     /// What stands behind an `if`, with all its branches.
-    #[tactic(auto, unfolding(lay_code::specs::reader::Exprs::if_expr))]
+    #[tactic(auto, unfolding(lay_code::specs::reader::Exprs::if_expr), using(lay_read_shared::proofs::Left::branch_leaves))]
     #[inline(never)]
     pub fn if_expr(&self, at: &mut Ahead<'_>) -> Result<Found<Expr>, ReadNone>
         requires { AreCode self.now.depth (P.pre self.now.exprs) (P.post self.now.exprs) (B.pre self.now.blocks) (B.post self.now.blocks) (I.pre self.now.items) (I.post self.now.items) }
@@ -151,7 +134,18 @@ impl<
         ensures within { IfOk result (λ found. found.need ≤ self.now.depth + 1) }
     {
         let first = self.branch_by(at)?;
-        let (first, more) = both(first, self.branches(at))?;
+        let (first, more) = both(
+            first,
+            read_parts::<Branches, BlockRules<P, B, I>, Branch, (), _>(
+                self.alloc,
+                at,
+                self.depth,
+                Going::ElseIfs,
+                self,
+                BlockRules::else_branch,
+                (),
+            ),
+        )?;
         let ((first, more), otherwise) = both((first, more), self.otherwise(at))?;
         let need = greater(first.need, greater(more.need, otherwise.need)) + 1;
         let (otherwise, branches) = both(otherwise.node, prepended(first.node, more.node))?;
@@ -179,10 +173,6 @@ impl<
         let (label, found) = both(label, self.branch_by(at))?;
         let Found { node, need } = found;
         let (pat, condition, body) = node.into_parts();
-        let ((label, (pat, body)), condition) = both(
-            (label, (pat, body)),
-            boxed(self.alloc, condition),
-        )?;
         Ok(Found {
             node: Expr::While {
                 label,
@@ -213,7 +203,7 @@ impl<
         if !takes_keyword(at, b"in") {
             return refused((label, pat));
         }
-        let ((label, pat), iterated) = both((label, pat), self.boxed_expr(at, plain(0, true)))?;
+        let ((label, pat), iterated) = both((label, pat), self.expr(at, plain(0, true)))?;
         let ((label, (pat, iterated)), body) = both((label, (pat, iterated)), self.block_by(at))?;
         Ok(Found {
             need: greater(pat.need, greater(iterated.need, body.need)) + 1,

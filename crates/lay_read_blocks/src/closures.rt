@@ -4,15 +4,16 @@ ghost use Rattle.lay_node.specs.Ahead.{is_mark};
 ghost use Rattle.lay_node.specs.reader.Loops.{elements};
 ghost use Rattle.lay_code.specs.reader.Exprs as exprs;
 ghost use Rattle.lay_read_tokens.specs.Answers.{AreFound, IsFound, IsHeld};
-ghost use Rattle.lay_read_blocks.specs.Answers.{AreCode, code_within, typed_closure};
+ghost use Rattle.lay_read_shared.specs.Code.{code_within};
+ghost use Rattle.lay_read_blocks.specs.Answers.{AreCode, typed_closure};
 
-use crate::places::plain;
 use crate::rules::BlockRules;
 use lay_code::{Block, ClosureParam, Expr, Item, PatPlace, Place, Site, TypePlace};
-use lay_head_rules::level::type_if;
 use lay_read_parts::joins::{both, refused};
 use lay_read_parts::loops::{Closer, Part, read_elements};
 use lay_read_pats::pat_ahead;
+use lay_read_shared::places::plain;
+use lay_read_shared::types::type_if;
 use lay_read_tokens::attributes::attrs_ahead;
 use lay_read_tokens::found::greater;
 use lay_read_tokens::front::{pass_two, takes_keyword, takes_mark};
@@ -58,7 +59,7 @@ impl<
     }
 
     /// Parameters, and the `|` behind them.
-    #[tactic(auto, using(crate::proofs::Left::param_leaves))]
+    #[tactic(auto, using(lay_read_shared::proofs::Left::param_leaves))]
     #[inline(never)]
     fn params(&self, at: &mut Ahead<'_>) -> Result<Found<List<ClosureParam>>, ReadNone>
         requires { AreCode self.now.depth (P.pre self.now.exprs) (P.post self.now.exprs) (B.pre self.now.blocks) (B.post self.now.blocks) (I.pre self.now.items) (I.post self.now.items) }
@@ -109,7 +110,7 @@ impl<
         if at.op_is(b"->") {
             return self.typed_closure(at, moves, params);
         }
-        let (params, body) = both(params, self.boxed_expr(at, plain(0, no_struct)))?;
+        let (params, body) = both(params, self.expr(at, plain(0, no_struct)))?;
         Ok(Found {
             need: greater(params.need, body.need) + 1,
             node: Expr::Closure {

@@ -2,7 +2,8 @@
 ghost use Rattle.std.specs.Prelude.{◌≡◌, ◌+◌, ◌≤◌, None, IfOk};
 ghost use Rattle.lay_code.specs.reader.Exprs as exprs;
 ghost use Rattle.lay_read_tokens.specs.Answers.{IsFound};
-ghost use Rattle.lay_read_blocks.specs.Answers.{AreCode, block_head, code_within, fits, worded};
+ghost use Rattle.lay_read_shared.specs.Code.{code_within};
+ghost use Rattle.lay_read_blocks.specs.Answers.{AreCode, block_head, fits, worded};
 
 use crate::rules::BlockRules;
 use lay_code::{Block, Expr, Item, Lifetime, Place, Site};
@@ -115,28 +116,18 @@ impl<
                 node: Expr::ConstBlock { body: body.node },
             })
         } else if takes_keyword(at, b"async") {
-            self.async_expr(at)
+            let moves = takes_keyword(at, b"move");
+            let body = self.block_by(at)?;
+            Ok(Found {
+                need: body.need + 1,
+                node: Expr::Async {
+                    moves,
+                    body: body.node,
+                },
+            })
         } else {
             self.worded(at)
         }
-    }
-
-    /// What stands behind `async`.
-    #[inline(never)]
-    fn async_expr(&self, at: &mut Ahead<'_>) -> Result<Found<Expr>, ReadNone>
-        requires { AreCode self.now.depth (P.pre self.now.exprs) (P.post self.now.exprs) (B.pre self.now.blocks) (B.post self.now.blocks) (I.pre self.now.items) (I.post self.now.items) }
-        ensures read { IsFound (exprs.async_expr (code_within self.now.depth) at.old) result at.new }
-        ensures within { IfOk result (λ found. found.need ≤ self.now.depth + 1) }
-    {
-        let moves = takes_keyword(at, b"move");
-        let body = self.block_by(at)?;
-        Ok(Found {
-            need: body.need + 1,
-            node: Expr::Async {
-                moves,
-                body: body.node,
-            },
-        })
     }
 
     /// What begins with `if` or `match`, or is a loop.

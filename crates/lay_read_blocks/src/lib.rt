@@ -2,7 +2,10 @@
 //! expressions, blocks and items one level deeper.
 //!
 //! Each rule is proved equal to a function of the tokens ahead that `lay_code` defines, and that function reads what is
-//! spelled and nothing else. [`loops`] and [`places`] have what these rules share with those of expressions.
+//! spelled and nothing else.
+//!
+//! Most rules carry `#[inline(never)]`: what is nested 254 deep has to be read within the stack of a thread, so the frame of
+//! each rule is kept small (docs/DECISIONS.md, "Trees").
 #![tactic(auto)]
 
 mod alone;
@@ -12,8 +15,6 @@ mod branches;
 mod closures;
 pub mod front;
 mod heads;
-pub mod loops;
-pub mod places;
 mod rules;
 mod stmts;
 

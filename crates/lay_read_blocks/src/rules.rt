@@ -3,12 +3,12 @@ ghost use Rattle.std.specs.Prelude.{◌≡◌, ◌≤◌, codes, drop, IfOk};
 ghost use Rattle.lay_token.specs.Operators.{is_op};
 ghost use Rattle.lay_node.specs.reader.Types.{if_read};
 ghost use Rattle.lay_code.specs.nodes.Places as places;
-ghost use Rattle.lay_code.specs.reader.Code.{code_in, expr_at, item_at};
+ghost use Rattle.lay_code.specs.reader.Code.{expr_at};
 ghost use Rattle.lay_read_tokens.specs.Answers.{IsFound};
 ghost use Rattle.lay_read_blocks.specs.Answers.{AreCode};
 
-use crate::places::FREE;
 use lay_code::{Block, Boxed, Expr, Item, Place, Site};
+use lay_read_shared::places::FREE;
 use lay_read_tokens::front::takes_op;
 use lay_read_tokens::stop::boxed;
 use lay_read_tokens::{Ahead, Found, ReadNone};
@@ -31,26 +31,14 @@ impl<
     B: Fn(Global, &mut Ahead<'_>, u32) -> Result<Found<Block>, ReadNone>,
     I: Fn(Global, &mut Ahead<'_>, Site, u32) -> Result<Found<Item>, ReadNone>,
 > BlockRules<P, B, I> {
-    /// An expression one level deeper.
-    pub fn expr(&self, at: &mut Ahead<'_>, place: Place) -> Result<Found<Expr>, ReadNone>
+    /// An expression one level deeper, in a box.
+    #[inline(never)]
+    pub fn expr(&self, at: &mut Ahead<'_>, place: Place) -> Result<Found<Boxed<Expr>>, ReadNone>
         requires { AreCode self.now.depth (P.pre self.now.exprs) (P.post self.now.exprs) (B.pre self.now.blocks) (B.post self.now.blocks) (I.pre self.now.items) (I.post self.now.items) }
         ensures read { IsFound (expr_at place self.now.depth at.old) result at.new }
         ensures within { IfOk result (λ found. found.need ≤ self.now.depth) }
     {
-        (self.exprs)(self.alloc, at, place, self.depth)
-    }
-
-    /// The same in a box.
-    pub fn boxed_expr(
-        &self,
-        at: &mut Ahead<'_>,
-        place: Place,
-    ) -> Result<Found<Boxed<Expr>>, ReadNone>
-        requires { AreCode self.now.depth (P.pre self.now.exprs) (P.post self.now.exprs) (B.pre self.now.blocks) (B.post self.now.blocks) (I.pre self.now.items) (I.post self.now.items) }
-        ensures read { IsFound (expr_at place self.now.depth at.old) result at.new }
-        ensures within { IfOk result (λ found. found.need ≤ self.now.depth) }
-    {
-        let found = self.expr(at, place)?;
+        let found = (self.exprs)(self.alloc, at, place, self.depth)?;
         let node = boxed(self.alloc, found.node)?;
         Ok(Found {
             node,
@@ -59,7 +47,7 @@ impl<
     }
 
     /// A value behind an `=`, if one stands there.
-    pub fn value_if(&self, at: &mut Ahead<'_>) -> Result<Found<Option<Expr>>, ReadNone>
+    pub fn value_if(&self, at: &mut Ahead<'_>) -> Result<Found<Option<Boxed<Expr>>>, ReadNone>
         requires { AreCode self.now.depth (P.pre self.now.exprs) (P.post self.now.exprs) (B.pre self.now.blocks) (B.post self.now.blocks) (I.pre self.now.items) (I.post self.now.items) }
         ensures read { IsFound (if_read (is_op (codes "=") at.old) (λ ts. expr_at places.FREE self.now.depth (drop 1 ts)) at.old) result at.new }
         ensures within { IfOk result (λ found. found.need ≤ self.now.depth) }
@@ -75,23 +63,5 @@ impl<
             node: Some(value.node),
             need: value.need,
         })
-    }
-
-    /// A block one level deeper.
-    pub fn block_behind(&self, at: &mut Ahead<'_>) -> Result<Found<Block>, ReadNone>
-        requires { AreCode self.now.depth (P.pre self.now.exprs) (P.post self.now.exprs) (B.pre self.now.blocks) (B.post self.now.blocks) (I.pre self.now.items) (I.post self.now.items) }
-        ensures read { IsFound ((code_in self.now.depth).blocks at.old) result at.new }
-        ensures within { IfOk result (λ found. found.need ≤ self.now.depth) }
-    {
-        (self.blocks)(self.alloc, at, self.depth)
-    }
-
-    /// An item one level deeper.
-    pub fn item(&self, at: &mut Ahead<'_>, site: Site) -> Result<Found<Item>, ReadNone>
-        requires { AreCode self.now.depth (P.pre self.now.exprs) (P.post self.now.exprs) (B.pre self.now.blocks) (B.post self.now.blocks) (I.pre self.now.items) (I.post self.now.items) }
-        ensures read { IsFound (item_at site self.now.depth at.old) result at.new }
-        ensures within { IfOk result (λ found. found.need ≤ self.now.depth) }
-    {
-        (self.items)(self.alloc, at, site, self.depth)
     }
 }

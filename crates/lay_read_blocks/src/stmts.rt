@@ -6,17 +6,18 @@ ghost use Rattle.lay_code.specs.nodes.Code.{about_expr};
 ghost use Rattle.lay_code.specs.reader.Blocks as reader;
 ghost use Rattle.lay_code.specs.reader.Code.{code_in};
 ghost use Rattle.lay_read_tokens.specs.Answers.{IsFound};
-ghost use Rattle.lay_read_blocks.specs.Answers.{AreCode, code_within, let_behind};
+ghost use Rattle.lay_read_shared.specs.Code.{code_within};
+ghost use Rattle.lay_read_blocks.specs.Answers.{AreCode, let_behind};
 
 use crate::front::begins_item;
-use crate::places::STATEMENT;
 use crate::rules::BlockRules;
-use lay_code::{Attr, Block, Expr, Item, Pat, PatPlace, Place, Site, Stmt, Ty};
+use lay_code::{Attr, Block, Boxed, Expr, Item, Pat, PatPlace, Place, Site, Stmt, Ty};
 use lay_ends::may_precede_else;
-use lay_head_rules::level::type_if;
 use lay_ops::is_call;
 use lay_read_parts::joins::{both, refused};
 use lay_read_pats::pat_ahead;
+use lay_read_shared::places::STATEMENT;
+use lay_read_shared::types::type_if;
 use lay_read_tokens::attributes::attrs_ahead;
 use lay_read_tokens::found::greater;
 use lay_read_tokens::front::{takes_keyword, takes_mark};
@@ -26,14 +27,14 @@ use lay_token::List;
 use std::alloc::Global;
 
 /// Whether an `else` may stand behind this value, if one stands there.
-fn else_stands(value: &Option<Expr>, otherwise: bool) -> bool
+fn else_stands(value: &Option<Boxed<Expr>>, otherwise: bool) -> bool
     ensures { result ≡ reader.else_stands value.now otherwise }
 {
     if !otherwise {
         return true;
     }
     match value {
-        Some(value) => may_precede_else(value),
+        Some(value) => may_precede_else(value.get()),
         None => false,
     }
 }
@@ -71,7 +72,7 @@ impl<
         ensures read { IsFound (reader.item_stmt (code_within self.now.depth) at.old) result at.new }
         ensures within { IfOk result (λ found. found.need ≤ self.now.depth) }
     {
-        let found = self.item(at, Site::Module)?;
+        let found = (self.items)(self.alloc, at, Site::Module, self.depth)?;
         if is_call(&found.node) {
             return refused(found);
         }
@@ -169,7 +170,7 @@ impl<
                 need: 0,
             });
         }
-        let block = self.block_behind(at)?;
+        let block = (self.blocks)(self.alloc, at, self.depth)?;
         Ok(Found {
             node: Some(block.node),
             need: block.need,

@@ -7,8 +7,8 @@ use Rattle.lay_code.specs.nodes.Code.{about_arm, about_expr}
 use Rattle.lay_code.specs.declared.blocks.Arm.{Arm}
 use Rattle.lay_code.specs.declared.blocks.Block.{Block}
 use Rattle.lay_code.specs.declared.blocks.Stmt.{Stmt}
-use Rattle.lay_fronts.specs.ArmFronts.{ArmFront, arm_follows, arm_shape}
-use Rattle.lay_fronts.specs.Fronts.{BlockFront, StmtFront, block_told, stmt_told}
+use Rattle.lay_alone.specs.ArmFronts.{ArmFront, arm_follows, arm_shape}
+use Rattle.lay_alone.specs.Fronts.{BlockFront, StmtFront, block_told, stmt_told}
 use Rattle.lay_read_parts.proofs.AtFront.{front_deeper}
 
 pub block_lifts : (x : Block) (ts : Tokens) (n m depth : ℕ) → m ≤ depth → BlockFront x ts n m → BlockFront x ts n depth

@@ -4,8 +4,10 @@ use Rattle.lay_token.specs.Operators.{is_op}
 use Rattle.lay_piece.specs.declared.kind.Delim.TheVariants.{Brace}
 use Rattle.lay_node.specs.Ahead.{Tokens, first, tail, closes, is_keyword, is_mark, opens}
 use Rattle.lay_node.specs.reader.Attr.{attributes}
+use Rattle.lay_node.specs.reader.Call.{behind_end, call}
 use Rattle.lay_node.specs.reader.Heads.{alias, enum, extern_crate, impl_head, struct, trait_head, union, unsafe_flag}
 use Rattle.lay_node.specs.reader.Loops.{Got, Read, ◌>>=◌, passed}
+use Rattle.lay_node.specs.reader.Tokens.{group}
 use Rattle.lay_node.specs.reader.Types.{abi, if_read, if_there, is_string_token, literal}
 use Rattle.lay_node.specs.reader.Where.{wheres}
 use Rattle.lay_node.specs.reader.Words.{name}
@@ -32,10 +34,12 @@ use Rattle.lay_read_tokens.specs.Answers.{AreFound, IsFound}
 use Rattle.lay_read_tokens.specs.declared.found.Found.{Found}
 use Rattle.lay_read_tokens.specs.declared.stop.ReadNone.{ReadNone}
 use Rattle.lay_read_tokens.specs.declared.stop.ReadNone.TheVariants.{NoReading, NoMemory}
-use Rattle.lay_read_code.specs.Begun.{begun_at, begun_by, body_of as body_in, finished, foreign_begun, kept, made, node_alone, value_end, whole, with_block, with_items, with_value}
+use Rattle.lay_read_code.specs.Begun.{begun_at, begun_by, body_of as body_in, finished, foreign_begun, kept, kind_of, made, node_alone, value_end, with_block, with_items, with_value}
 use Rattle.lay_read_code.specs.declared.bodies.Body.TheVariants as body
 use Rattle.lay_read_code.specs.declared.begun.Begun.{Begun}
 use Rattle.lay_read_code.specs.declared.begun.Begun.TheVariants as begun
+use Rattle.lay_read_code.specs.declared.begun.Whole.{Whole}
+use Rattle.lay_read_code.specs.declared.begun.Whole.TheVariants as whole
 
 -- ---- where an item may stand
 
@@ -98,17 +102,13 @@ module _ (at : Site) (within : ItemWithin) where
   abbrev go_on : (Begun × ℕ) × Tokens → Read ItemKind
   go_on x = finished within at x.0 x.1
 
-  whole_finished : (o : Read ItemKind) → o ≡ (whole o >>= go_on)
-  whole_finished None = refl
-  whole_finished (Some k) = refl
-
-  alone_finished : {A : Type 0} (make : A → ItemKind) (o : Read A)
-      → (o >>= (λ x. let k : Read ItemKind = Some ((make x.0.0, x.0.1), x.1) in k)) ≡ (node_alone make o >>= go_on)
+  alone_finished : {A : Type 0} (make : A → Whole) (o : Read A)
+      → (o >>= (λ x. let k : Read ItemKind = Some ((kind_of (make x.0.0), x.0.1), x.1) in k)) ≡ (node_alone make o >>= go_on)
   alone_finished make None = refl
   alone_finished make (Some x) = refl
 
-  free_finished : {A : Type 0} (make : A → ItemKind) (o : Got A)
-      → (o >>= (λ x. let k : Read ItemKind = Some ((make x.0, 0), x.1) in k))
+  free_finished : {A : Type 0} (make : A → Whole) (o : Got A)
+      → (o >>= (λ x. let k : Read ItemKind = Some ((kind_of (make x.0), 0), x.1) in k))
       ≡ (node_alone make (o >>= (λ x. let free : Read A = Some ((x.0, 0), x.1) in free)) >>= go_on)
   free_finished make None = refl
   free_finished make (Some x) = refl
@@ -121,7 +121,7 @@ module _ (at : Site) (within : ItemWithin) where
   module_behind : (b : Bool) (n : Name) (ts : Tokens)
       → (let kind : Read ItemKind = if b then Some ((item.FileModule n, 0), tail ts)
       else (reader.item_body within site.Module ts >>= (λ b. Some ((item.Module n b.0.0.0 b.0.0.1, b.0.1), b.1))) in kind)
-      ≡ ((let x : Read Begun = if b then Some ((begun.Whole (item.FileModule n), 0), tail ts) else Some ((begun.Module n, 0), ts) in x) >>= go_on)
+      ≡ ((let x : Read Begun = if b then Some ((begun.Whole (whole.FileModule n), 0), tail ts) else Some ((begun.Module n, 0), ts) in x) >>= go_on)
   module_behind true n ts = refl
   module_behind false n ts = body_of (λ attrs items. item.Module n attrs items) site.Module ts
 
@@ -158,19 +158,20 @@ module _ (at : Site) (within : ItemWithin) where
       by (Some rest) = ended rest (may_be_valued at head (is_some v.0.0))
 
   by_lead : (lead : ItemLead) (ts : Tokens) → reader.kind_by at within lead ts ≡ (begun_by at within lead ts >>= go_on)
-  unfolding reader.module_by reader.function_by reader.value_by reader.trait_by reader.impl_by reader.foreign_by
-  by_lead OfExternCrate ts = free_finished item.ExternCrate (extern_crate ts)
-  by_lead OfImport ts = whole_finished (reader.import_by within ts)
+  unfolding reader.import_by reader.rules_item reader.call_item reader.module_by reader.function_by reader.value_by reader.trait_by reader.impl_by reader.foreign_by
+  by_lead OfExternCrate ts = free_finished whole.ExternCrate (extern_crate ts)
+  by_lead OfImport ts = step (passed (is_keyword (codes "use")) ts) _ _ go_on
+      (λ behind. step (within.trees behind) _ _ go_on (λ t. step (semicolon t.1) _ _ go_on (λ rest. refl)))
   by_lead OfModule ts = step (passed (is_keyword (codes "mod")) ts) _ _ go_on
       (λ behind. step (name behind) _ _ go_on (λ n. module_behind (first (is_mark (codes ";")) n.1) n.0 n.1))
   by_lead OfFunction ts = step (fn_head at within.heads ts) _ _ go_on
       (λ h. step (wheres within.heads.kinds h.1) _ _ go_on
       (λ w. function_behind (λ b. item.Function h.0.0 w.0.0.0 b) (λ n. max h.0.1 (max w.0.1 n)) (λ n. max (max h.0.1 w.0.1) n)
       (reader.fn_body within.code w.1) (greatest h.0.1 w.0.1)))
-  by_lead OfAlias ts = alone_finished item.Alias (alias at within.heads.kinds ts)
-  by_lead OfStruct ts = alone_finished item.Struct (struct within.heads.kinds ts)
-  by_lead OfUnion ts = alone_finished item.Union (union within.heads.kinds ts)
-  by_lead OfEnum ts = alone_finished item.Enum (enum within.heads.kinds ts)
+  by_lead OfAlias ts = alone_finished whole.Alias (alias at within.heads.kinds ts)
+  by_lead OfStruct ts = alone_finished whole.Struct (struct within.heads.kinds ts)
+  by_lead OfUnion ts = alone_finished whole.Union (union within.heads.kinds ts)
+  by_lead OfEnum ts = alone_finished whole.Enum (enum within.heads.kinds ts)
   by_lead OfValue ts = step (value_head within.heads.kinds ts) _ _ go_on
       (λ h. value_behind h.0.0 h.0.1 (if_read (is_op (codes "=") h.1) (λ us. within.code.exprs FREE (drop 1 us)) h.1))
   by_lead OfTrait ts = step (trait_head within.heads.kinds ts) _ _ go_on
@@ -184,8 +185,9 @@ module _ (at : Site) (within : ItemWithin) where
   by_lead OfForeign ts = step (passed (is_keyword (codes "extern")) (unsafe_flag ts).1) _ _ go_on
       (λ behind. step (if_there (first is_string_token behind) (literal is_string_token) behind) _ _ go_on
       (λ l. body_of (λ attrs items. item.Foreign (unsafe_flag ts).0 l.0 attrs items) site.Foreign l.1))
-  by_lead OfRules ts = whole_finished (reader.rules_item ts)
-  by_lead OfCall ts = whole_finished (reader.call_item ts)
+  by_lead OfRules ts = step (name (drop 2 ts)) _ _ go_on
+      (λ n. step (group n.1) _ _ go_on (λ g. step (behind_end g.0.delim g.1) _ _ go_on (λ rest. refl)))
+  by_lead OfCall ts = step (call ts) _ _ go_on (λ c. step (behind_end c.0.tokens.delim c.1) _ _ go_on (λ rest. refl))
 
   module _ (ts : Tokens) where
     kind_is : reader.kind_at at within ts ≡ (begun_at at within ts >>= go_on)

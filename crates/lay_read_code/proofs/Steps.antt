@@ -23,15 +23,16 @@ use Rattle.lay_read_tokens.specs.declared.stop.ReadNone.{ReadNone}
 use Rattle.lay_read_tokens.specs.declared.stop.ReadNone.TheVariants.{NoReading}
 use Rattle.lay_read_code.specs.Answers.{has_head}
 use Rattle.lay_read_code.specs.Begun.{deeper as within_depth}
-use Rattle.lay_head_rules.proofs.UseSteps.{deeper}
+use Rattle.lay_read_head_rules.proofs.UseSteps.{deeper}
 use Rattle.lay_read_types.proofs.Steps.{above_zero}
 use Rattle.lay_node.specs.reader.Functions.{insides}
 use Rattle.lay_node.specs.reader.Use.{use_at}
-use Rattle.lay_fronts.specs.ArmFronts.{alone_arm}
-use Rattle.lay_fronts.specs.Fronts.{alone, stmt_alone}
+use Rattle.lay_alone.specs.ArmFronts.{alone_arm}
+use Rattle.lay_alone.specs.Fronts.{alone, stmt_alone}
 use Rattle.lay_code.specs.reader.Blocks.{block_by}
-use Rattle.lay_read_blocks.specs.Answers.{code_within, deeper_arm, deeper_stmt}
-use Rattle.lay_read_blocks.proofs.Left.{code_is}
+use Rattle.lay_read_shared.specs.Code.{code_within}
+use Rattle.lay_read_blocks.specs.Answers.{deeper_arm, deeper_stmt}
+use Rattle.lay_read_shared.proofs.Left.{code_is}
 
 -- ---- items
 

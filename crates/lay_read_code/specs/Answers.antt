@@ -14,7 +14,7 @@ use Rattle.lay_code.specs.declared.item.ItemKind.{ItemKind}
 use Rattle.lay_code.specs.declared.item.ItemKind.TheVariants as item
 use Rattle.lay_read_tokens.specs.declared.stop.ReadNone.{ReadNone}
 use Rattle.lay_read_tokens.specs.declared.stop.ReadNone.TheVariants as stop
-use Rattle.lay_read_blocks.specs.Answers.{code_within}
+use Rattle.lay_read_shared.specs.Code.{code_within}
 
 -- What was read one by one, and what is left, is this run; memory may always be wanting.
 abbrev pub IsRun : {A : Type 0} → A × Tokens → Result A NoMemory → Tokens → Type 0

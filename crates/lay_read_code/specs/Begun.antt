@@ -2,10 +2,12 @@
 use Rattle.std.specs.Prelude.{ℕ, max, Bool, if◌then◌else◌, List, [], codes, drop, Option, Some, None, is_some, Result, Ok, Err}
 use Rattle.lay_token.specs.Operators.{is_op}
 use Rattle.lay_node.specs.Ahead.{Tokens, first, tail, is_keyword, is_mark}
+use Rattle.lay_node.specs.reader.Call.{behind_end, call}
 use Rattle.lay_node.specs.reader.Exact.{needless}
 use Rattle.lay_node.specs.reader.Functions.{fn_head, insides}
 use Rattle.lay_node.specs.reader.Heads.{alias, enum, extern_crate, impl_head, semicolon, struct, trait_head, union, unsafe_flag, value_head}
 use Rattle.lay_node.specs.reader.Loops.{Read, ◌>>=◌, passed}
+use Rattle.lay_node.specs.reader.Tokens.{group}
 use Rattle.lay_node.specs.reader.Types.{Within, if_read, if_there, is_string_token, literal}
 use Rattle.lay_node.specs.reader.Use.{use_at}
 use Rattle.lay_node.specs.reader.Where.{wheres}
@@ -26,12 +28,14 @@ use Rattle.lay_code.specs.declared.item.ItemKind.{ItemKind}
 use Rattle.lay_code.specs.declared.item.ItemKind.TheVariants as item
 use Rattle.lay_read_code.specs.declared.begun.Begun.{Begun}
 use Rattle.lay_read_code.specs.declared.begun.Begun.TheVariants as begun
+use Rattle.lay_read_code.specs.declared.begun.Whole.{Whole}
+use Rattle.lay_read_code.specs.declared.begun.Whole.TheVariants as whole
 use Rattle.lay_read_code.specs.declared.bodies.Body.{Body}
 use Rattle.lay_read_code.specs.declared.bodies.Body.TheVariants as body
 use Rattle.lay_read_tokens.specs.declared.found.Found.{Found}
 use Rattle.lay_read_tokens.specs.declared.stop.ReadNone.{ReadNone}
 use Rattle.lay_read_tokens.specs.declared.stop.ReadNone.TheVariants.{NoReading}
-use Rattle.lay_read_blocks.specs.Answers.{code_within}
+use Rattle.lay_read_shared.specs.Code.{code_within}
 
 -- how what is one level deeper is read within a depth
 abbrev pub deeper : ℕ → ItemWithin
@@ -39,20 +43,34 @@ deeper depth = record { items = λ s ts. item_at s depth ts; trees = use_at dept
 
 -- ---- items up to their bodies
 
--- an item without a body
-abbrev pub whole : Read ItemKind → Read Begun
-whole read = do k ← read; Some ((begun.Whole k.0.0, k.0.1), k.1)
-
 -- an item that is this node alone
-abbrev pub node_alone : {A : Type 0} → (A → ItemKind) → Read A → Read Begun
+abbrev pub node_alone : {A : Type 0} → (A → Whole) → Read A → Read Begun
 node_alone make read = do x ← read; Some ((begun.Whole (make x.0.0), x.0.1), x.1)
+
+abbrev pub import_begun : ItemWithin → Tokens → Read Begun
+import_begun within ts = do
+  behind ← passed (is_keyword (codes "use")) ts
+  t ← within.trees behind
+  rest ← semicolon t.1
+  Some ((begun.Whole (whole.Import t.0.0), t.0.1), rest)
+
+-- the declaration of a macro
+abbrev pub rules_begun : Tokens → Read Begun
+rules_begun ts = do
+  n ← name (drop 2 ts)
+  g ← group n.1
+  rest ← behind_end g.0.delim g.1
+  Some ((begun.Whole (whole.MacroRules n.0 g.0), 0), rest)
+
+abbrev pub call_begun : Tokens → Read Begun
+call_begun ts = do c ← call ts; rest ← behind_end c.0.tokens.delim c.1; Some ((begun.Whole (whole.Call c.0), 0), rest)
 
 -- a module in a file of its own, or the head of another
 abbrev pub module_begun : Tokens → Read Begun
 module_begun ts = do
   behind ← passed (is_keyword (codes "mod")) ts
   n ← name behind
-  if first (is_mark (codes ";")) n.1 then Some ((begun.Whole (item.FileModule n.0), 0), tail n.1) else Some ((begun.Module n.0, 0), n.1)
+  if first (is_mark (codes ";")) n.1 then Some ((begun.Whole (whole.FileModule n.0), 0), tail n.1) else Some ((begun.Module n.0, 0), n.1)
 
 abbrev pub trait_begun : Within → Tokens → Read Begun
 trait_begun within ts = do
@@ -82,20 +100,20 @@ abbrev pub value_begun : ItemWithin → Tokens → Read Begun
 value_begun within ts = do h ← value_head within.heads.kinds ts; Some ((begun.Value h.0.0, h.0.1), h.1)
 
 abbrev pub begun_by : Site → ItemWithin → ItemLead → Tokens → Read Begun
-begun_by at within OfExternCrate ts = node_alone item.ExternCrate (needless extern_crate 0 ts)
-begun_by at within OfImport ts = whole (reader.import_by within ts)
+begun_by at within OfExternCrate ts = node_alone whole.ExternCrate (needless extern_crate 0 ts)
+begun_by at within OfImport ts = import_begun within ts
 begun_by at within OfModule ts = module_begun ts
 begun_by at within OfFunction ts = function_begun at within ts
-begun_by at within OfAlias ts = node_alone item.Alias (alias at within.heads.kinds ts)
-begun_by at within OfStruct ts = node_alone item.Struct (struct within.heads.kinds ts)
-begun_by at within OfUnion ts = node_alone item.Union (union within.heads.kinds ts)
-begun_by at within OfEnum ts = node_alone item.Enum (enum within.heads.kinds ts)
+begun_by at within OfAlias ts = node_alone whole.Alias (alias at within.heads.kinds ts)
+begun_by at within OfStruct ts = node_alone whole.Struct (struct within.heads.kinds ts)
+begun_by at within OfUnion ts = node_alone whole.Union (union within.heads.kinds ts)
+begun_by at within OfEnum ts = node_alone whole.Enum (enum within.heads.kinds ts)
 begun_by at within OfValue ts = value_begun within ts
 begun_by at within OfTrait ts = trait_begun within.heads.kinds ts
 begun_by at within OfImpl ts = impl_begun within.heads.kinds ts
 begun_by at within OfForeign ts = foreign_begun ts
-begun_by at within OfRules ts = whole (reader.rules_item ts)
-begun_by at within OfCall ts = whole (reader.call_item ts)
+begun_by at within OfRules ts = rules_begun ts
+begun_by at within OfCall ts = call_begun ts
 
 unfoldable pub begun_at : Site → ItemWithin → Tokens → Read Begun
 begun_at at within ts = if reader.may_stand at (item_lead ts) then begun_by at within (item_lead ts) ts else None
@@ -104,7 +122,7 @@ begun_at at within ts = if reader.may_stand at (item_lead ts) then begun_by at w
 
 -- what the body of an item is
 abbrev pub body_of : Begun → Body
-body_of (begun.Whole kind) = body.None
+body_of (begun.Whole x) = body.None
 body_of (begun.Module name) = body.Items site.Module
 body_of (begun.Trait head wheres) = body.Items site.TraitMember
 body_of (begun.Impl head wheres) = body.Items site.Member
@@ -112,9 +130,21 @@ body_of (begun.Foreign is_unsafe abi) = body.Items site.Foreign
 body_of (begun.Function head wheres) = body.Block
 body_of (begun.Value head) = body.Value
 
+-- an item that has no body, as an item
+abbrev pub kind_of : Whole → ItemKind
+kind_of (whole.ExternCrate x) = item.ExternCrate x
+kind_of (whole.Import tree) = item.Import tree
+kind_of (whole.FileModule name) = item.FileModule name
+kind_of (whole.Alias x) = item.Alias x
+kind_of (whole.Struct x) = item.Struct x
+kind_of (whole.Union x) = item.Union x
+kind_of (whole.Enum x) = item.Enum x
+kind_of (whole.MacroRules name rules) = item.MacroRules name rules
+kind_of (whole.Call call) = item.Call call
+
 -- an item with what stands in its body, if it has one
 abbrev pub with_items : Begun → List Attr → List Item → ItemKind
-with_items (begun.Whole kind) attrs items = kind
+with_items (begun.Whole x) attrs items = kind_of x
 with_items (begun.Module name) attrs items = item.Module name attrs items
 with_items (begun.Trait head wheres) attrs items = item.Trait head wheres attrs items
 with_items (begun.Impl head wheres) attrs items = item.Impl head wheres attrs items

@@ -3,23 +3,25 @@ ghost use Rattle.std.specs.Prelude.{◌≡◌, ◌≤◌, IfOk};
 ghost use Rattle.lay_node.specs.reader.Exact.{needless};
 ghost use Rattle.lay_node.specs.reader.Heads as heads;
 ghost use Rattle.lay_node.specs.reader.Types.{within};
-ghost use Rattle.lay_code.specs.reader.Item as reader;
-ghost use Rattle.lay_code.specs.declared.item.ItemKind.TheVariants as item;
 ghost use Rattle.lay_read_tokens.specs.Answers.{IsFound};
 ghost use Rattle.lay_read_code.specs.Begun as bodies;
-ghost use Rattle.lay_read_code.specs.Begun.{deeper, node_alone, whole};
+ghost use Rattle.lay_read_code.specs.Begun.{deeper, node_alone};
 ghost use Rattle.lay_read_code.specs.Leads.{told};
+ghost use Rattle.lay_read_code.specs.declared.begun.Whole.TheVariants as whole;
 
 use crate::leads::{ItemLead, item_lead, may_stand};
-use lay_code::{FnHead, ImplHead, ItemKind, Literal, Name, Site, TraitHead, ValueHead, Wheres};
-use lay_head_rules::functions::fn_head_ahead;
-use lay_head_rules::heads::{
+use lay_code::{
+    Alias, Boxed, Enum, ExternCrate, FnHead, Group, ImplHead, Literal, MacroCall, Name, Site,
+    Struct, TraitHead, Union, UseTree, ValueHead, Wheres,
+};
+use lay_read_generics::wheres_ahead;
+use lay_read_head_rules::functions::fn_head_ahead;
+use lay_read_head_rules::heads::{
     alias_ahead, enum_ahead, extern_crate_ahead, impl_head_ahead, struct_ahead, trait_head_ahead,
     union_ahead, value_head_ahead,
 };
-use lay_head_rules::level::{kept_if, takes_flag};
-use lay_head_rules::uses::use_ahead;
-use lay_read_generics::wheres_ahead;
+use lay_read_head_rules::level::{kept_if, takes_flag};
+use lay_read_head_rules::uses::use_ahead;
 use lay_read_parts::joins::both;
 use lay_read_parts::parts::read_abi_if;
 use lay_read_tokens::calls::{call_ahead, takes_end};
@@ -31,11 +33,26 @@ use lay_read_tokens::tokens::read_group;
 use lay_read_tokens::{Ahead, Found, ReadNone};
 use std::alloc::Global;
 
+/// An item that has no body. What begins items stays within the nodes that hold no code, since a function that has an
+/// `ItemKind` takes ten times as long to be proved.
+#[derive(Drop)]
+pub enum Whole {
+    ExternCrate { item: ExternCrate },
+    Import { tree: Boxed<UseTree> },
+    FileModule { name: Name },
+    Alias { item: Alias },
+    Struct { item: Struct },
+    Union { item: Union },
+    Enum { item: Enum },
+    MacroRules { name: Name, rules: Group },
+    Call { call: MacroCall },
+}
+
 /// An item up to its body, or the whole item where it has none.
 #[derive(Drop)]
 pub enum Begun {
     Whole {
-        kind: ItemKind,
+        item: Whole,
     },
     Module {
         name: Name,
@@ -109,29 +126,28 @@ fn begun_by(
 }
 
 /// An item without a body, which needs this depth.
-fn whole_item(kind: ItemKind, need: u32) -> Found<Begun>
-    ensures node { result.node ≡ Begun.Whole kind }
+fn whole_item(item: Whole, need: u32) -> Found<Begun>
+    ensures node { result.node ≡ Begun.Whole item }
     ensures need { result.need ≡ need }
 {
     Found {
-        node: Begun::Whole { kind },
+        node: Begun::Whole { item },
         need,
     }
 }
 
 /// An extern crate declaration.
 fn begin_extern_crate(alloc: Global, at: &mut Ahead<'_>) -> Result<Found<Begun>, ReadNone>
-    ensures read { IsFound (node_alone item.ExternCrate (needless heads.extern_crate 0 at.old)) result at.new }
+    ensures read { IsFound (node_alone whole.ExternCrate (needless heads.extern_crate 0 at.old)) result at.new }
     ensures within { IfOk result (λ found. found.need ≡ 0) }
 {
     let item = extern_crate_ahead(alloc, at)?;
-    Ok(whole_item(ItemKind::ExternCrate { item }, 0))
+    Ok(whole_item(Whole::ExternCrate { item }, 0))
 }
 
 /// An import.
-#[tactic(auto, unfolding(lay_code::specs::reader::Item::import_by))]
 fn begin_import(alloc: Global, at: &mut Ahead<'_>, depth: u32) -> Result<Found<Begun>, ReadNone>
-    ensures read { IsFound (whole (reader.import_by (deeper depth) at.old)) result at.new }
+    ensures read { IsFound (bodies.import_begun (deeper depth) at.old) result at.new }
     ensures within { IfOk result (λ found. found.need ≤ depth) }
 {
     if !takes_keyword(at, b"use") {
@@ -140,7 +156,7 @@ fn begin_import(alloc: Global, at: &mut Ahead<'_>, depth: u32) -> Result<Found<B
     let Found { node, need } = use_ahead(alloc, at, depth)?;
     let tree = boxed(alloc, node)?;
     let keeps = takes_mark(at, b";");
-    kept_if(whole_item(ItemKind::Import { tree }, need), keeps)
+    kept_if(whole_item(Whole::Import { tree }, need), keeps)
 }
 
 /// A module in a file of its own, or the head of another.
@@ -153,7 +169,7 @@ fn begin_module(alloc: Global, at: &mut Ahead<'_>) -> Result<Found<Begun>, ReadN
     }
     let name = read_name(alloc, at)?;
     if takes_mark(at, b";") {
-        Ok(whole_item(ItemKind::FileModule { name }, 0))
+        Ok(whole_item(Whole::FileModule { name }, 0))
     } else {
         Ok(Found {
             node: Begun::Module { name },
@@ -190,38 +206,38 @@ fn begin_alias(
     site: Site,
     depth: u32,
 ) -> Result<Found<Begun>, ReadNone>
-    ensures read { IsFound (node_alone item.Alias (heads.alias site (within depth) at.old)) result at.new }
+    ensures read { IsFound (node_alone whole.Alias (heads.alias site (within depth) at.old)) result at.new }
     ensures within { IfOk result (λ found. found.need ≤ depth) }
 {
     let alias = alias_ahead(alloc, at, site, depth)?;
-    Ok(whole_item(ItemKind::Alias { item: alias.node }, alias.need))
+    Ok(whole_item(Whole::Alias { item: alias.node }, alias.need))
 }
 
 /// A struct.
 fn begin_struct(alloc: Global, at: &mut Ahead<'_>, depth: u32) -> Result<Found<Begun>, ReadNone>
-    ensures read { IsFound (node_alone item.Struct (heads.struct (within depth) at.old)) result at.new }
+    ensures read { IsFound (node_alone whole.Struct (heads.struct (within depth) at.old)) result at.new }
     ensures within { IfOk result (λ found. found.need ≤ depth) }
 {
     let item = struct_ahead(alloc, at, depth)?;
-    Ok(whole_item(ItemKind::Struct { item: item.node }, item.need))
+    Ok(whole_item(Whole::Struct { item: item.node }, item.need))
 }
 
 /// A union.
 fn begin_union(alloc: Global, at: &mut Ahead<'_>, depth: u32) -> Result<Found<Begun>, ReadNone>
-    ensures read { IsFound (node_alone item.Union (heads.union (within depth) at.old)) result at.new }
+    ensures read { IsFound (node_alone whole.Union (heads.union (within depth) at.old)) result at.new }
     ensures within { IfOk result (λ found. found.need ≤ depth) }
 {
     let item = union_ahead(alloc, at, depth)?;
-    Ok(whole_item(ItemKind::Union { item: item.node }, item.need))
+    Ok(whole_item(Whole::Union { item: item.node }, item.need))
 }
 
 /// An enumeration.
 fn begin_enum(alloc: Global, at: &mut Ahead<'_>, depth: u32) -> Result<Found<Begun>, ReadNone>
-    ensures read { IsFound (node_alone item.Enum (heads.enum (within depth) at.old)) result at.new }
+    ensures read { IsFound (node_alone whole.Enum (heads.enum (within depth) at.old)) result at.new }
     ensures within { IfOk result (λ found. found.need ≤ depth) }
 {
     let item = enum_ahead(alloc, at, depth)?;
-    Ok(whole_item(ItemKind::Enum { item: item.node }, item.need))
+    Ok(whole_item(Whole::Enum { item: item.node }, item.need))
 }
 
 /// A constant or a static, up to its value.
@@ -288,30 +304,28 @@ fn begin_foreign(alloc: Global, at: &mut Ahead<'_>) -> Result<Found<Begun>, Read
 }
 
 /// The declaration of a macro. The tokens before its name are known.
-#[tactic(auto, unfolding(lay_code::specs::reader::Item::rules_item))]
 fn begin_rules(alloc: Global, at: &mut Ahead<'_>) -> Result<Found<Begun>, ReadNone>
-    ensures read { IsFound (whole (reader.rules_item at.old)) result at.new }
+    ensures read { IsFound (bodies.rules_begun at.old) result at.new }
     ensures within { IfOk result (λ found. found.need ≡ 0) }
 {
     pass_two(at);
     let name = read_name(alloc, at)?;
     let rules = read_group(alloc, at)?;
     if takes_end(at, rules.delim) {
-        Ok(whole_item(ItemKind::MacroRules { name, rules }, 0))
+        Ok(whole_item(Whole::MacroRules { name, rules }, 0))
     } else {
         Err(ReadNone::NoReading)
     }
 }
 
 /// A macro call, and what ends it.
-#[tactic(auto, unfolding(lay_code::specs::reader::Item::call_item))]
 fn begin_call(alloc: Global, at: &mut Ahead<'_>) -> Result<Found<Begun>, ReadNone>
-    ensures read { IsFound (whole (reader.call_item at.old)) result at.new }
+    ensures read { IsFound (bodies.call_begun at.old) result at.new }
     ensures within { IfOk result (λ found. found.need ≡ 0) }
 {
     let call = call_ahead(alloc, at)?;
     if takes_end(at, call.tokens.delim) {
-        Ok(whole_item(ItemKind::Call { call }, 0))
+        Ok(whole_item(Whole::Call { call }, 0))
     } else {
         Err(ReadNone::NoReading)
     }

@@ -3,9 +3,10 @@ ghost use Rattle.std.specs.Prelude.{◌≡◌, ◌≤◌, is_some, IfOk, Ok, Err
 ghost use Rattle.lay_code.specs.nodes.Item as nodes;
 ghost use Rattle.lay_read_code.specs.Begun as bodies;
 
-use crate::begun::Begun;
-use lay_code::{Attr, Block, Expr, FnHead, Item, ItemKind, Site, ValueHead, Wheres};
-use lay_head_rules::level::kept_if;
+use crate::begun::{Begun, Whole};
+use lay_code::{Attr, Block, Boxed, Expr, FnHead, Item, ItemKind, Site, ValueHead, Wheres};
+use lay_read_head_rules::level::kept_if;
+use lay_read_parts::joins::refused;
 use lay_read_tokens::found::greater;
 use lay_read_tokens::{Found, ReadNone};
 use lay_token::List;
@@ -38,12 +39,29 @@ pub fn body_of(begun: &Begun) -> Body
     }
 }
 
+/// An item that has no body, as an item.
+fn kind_of(item: Whole) -> ItemKind
+    ensures { result ≡ bodies.kind_of item }
+{
+    match item {
+        Whole::ExternCrate { item } => ItemKind::ExternCrate { item },
+        Whole::Import { tree } => ItemKind::Import { tree },
+        Whole::FileModule { name } => ItemKind::FileModule { name },
+        Whole::Alias { item } => ItemKind::Alias { item },
+        Whole::Struct { item } => ItemKind::Struct { item },
+        Whole::Union { item } => ItemKind::Union { item },
+        Whole::Enum { item } => ItemKind::Enum { item },
+        Whole::MacroRules { name, rules } => ItemKind::MacroRules { name, rules },
+        Whole::Call { call } => ItemKind::Call { call },
+    }
+}
+
 /// An item with what stands in its body, if it has one.
 pub fn with_items(begun: Begun, attrs: List<Attr>, items: List<Item>) -> ItemKind
     ensures { result ≡ bodies.with_items begun attrs items }
 {
     match begun {
-        Begun::Whole { kind } => kind,
+        Begun::Whole { item } => kind_of(item),
         Begun::Module { name } => ItemKind::Module { name, attrs, items },
         Begun::Trait { head, wheres } => ItemKind::Trait {
             head,
@@ -118,7 +136,7 @@ pub fn with_block(
             },
             keeps,
         ),
-        _ => Err(ReadNone::NoReading),
+        other => refused(other),
     }
 }
 
@@ -126,7 +144,7 @@ pub fn with_block(
 pub fn with_value(
     begun: Found<Begun>,
     site: Site,
-    value: Found<Option<Expr>>,
+    value: Found<Option<Boxed<Expr>>>,
 ) -> Result<Found<ItemKind>, ReadNone>
     ensures { result ≡ bodies.with_value (begun.node, begun.need) site (value.node, value.need) }
 {
@@ -145,6 +163,6 @@ pub fn with_value(
                 keeps,
             )
         }
-        _ => Err(ReadNone::NoReading),
+        other => refused(other),
     }
 }

@@ -5,22 +5,22 @@ ghost use Rattle.lay_code.specs.reader.Code.{code_in, expr_at, item_at};
 ghost use Rattle.lay_code.specs.reader.Item as reader;
 ghost use Rattle.lay_read_tokens.specs.Answers.{AreFound, IsFound, IsHeld};
 ghost use Rattle.lay_read_code.specs.Answers.{has_head};
-ghost use Rattle.lay_read_blocks.specs.Answers.{code_within};
+ghost use Rattle.lay_read_shared.specs.Code.{code_within};
 ghost use Rattle.lay_read_code.specs.Begun.{deeper, value_end};
 
 use crate::begun::read_begun;
 use crate::bodies::{Body, body_of, with_block, with_items, with_value};
 use lay_climb::Climber;
-use lay_code::{Attr, Block, Expr, Item, ItemKind, Place, Site, Vis};
-use lay_head_rules::level::kept_if;
-use lay_head_rules::vis::vis_ahead;
+use lay_code::{Attr, Block, Boxed, Expr, Item, ItemKind, Place, Site, Vis};
 use lay_read_blocks::BlockRules;
 use lay_read_exprs::ExprRules;
+use lay_read_head_rules::level::kept_if;
+use lay_read_head_rules::vis::vis_ahead;
 use lay_read_parts::joins::both;
 use lay_read_tokens::attributes::attrs_ahead;
 use lay_read_tokens::found::greater;
 use lay_read_tokens::front::{has_items, takes_closer, takes_mark, takes_opener};
-use lay_read_tokens::stop::keep;
+use lay_read_tokens::stop::{boxed, keep};
 use lay_read_tokens::{Ahead, Found, ReadNone};
 use lay_token::{Delim, List};
 use std::alloc::Global;
@@ -116,13 +116,14 @@ pub fn item_ahead(
     let vis = vis_ahead(alloc, at)?;
     let kind = read_kind(alloc, at, site, depth - 1)?;
     let keeps = may_have(&kind.node, &vis);
+    let node = boxed(alloc, kind.node)?;
     kept_if(
         Found {
             need: kind.need + 1,
             node: Item {
                 attrs,
                 vis,
-                kind: kind.node,
+                kind: node,
             },
         },
         keeps,
@@ -196,7 +197,7 @@ fn read_value_if(
     alloc: Global,
     at: &mut Ahead<'_>,
     depth: u32,
-) -> Result<Found<Option<Expr>>, ReadNone>
+) -> Result<Found<Option<Boxed<Expr>>>, ReadNone>
     requires { depth + 1 < 2 ^ 32 }
     ensures read { IsFound (value_end (deeper depth) at.old) result at.new }
     ensures within { IfOk result (λ found. found.need ≤ depth) }

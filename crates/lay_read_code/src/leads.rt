@@ -8,8 +8,8 @@ ghost use Rattle.lay_code.specs.reader.ItemLeads as reader;
 ghost use Rattle.lay_read_code.specs.Leads.{led_by, lead_of_word, may_lead_function, told};
 
 use lay_code::Site;
-use lay_head_rules::level::takes_flag;
 use lay_read_blocks::front::{begins_rules, begins_union};
+use lay_read_head_rules::level::takes_flag;
 use lay_read_tokens::Ahead;
 use lay_read_tokens::front::{is_at_keyword, pass, takes_keyword};
 use lay_token::Kind;

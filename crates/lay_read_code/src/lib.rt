@@ -7,6 +7,9 @@
 //!
 //! An item is read up to its body first, which goes through no cycle (`begun`), and then its body, if it has one. What
 //! holds itself in the end is read by one cycle of calls (`knot`), over the rules of the crates below.
+//!
+//! The calls of the cycle carry `#[inline(never)]`: what is nested 254 deep has to be read within the stack of a thread, so
+//! the frame of each is kept small (docs/DECISIONS.md, "Trees").
 #![tactic(auto)]
 
 mod begun;

@@ -3,18 +3,16 @@ use Rattle.std.specs.Prelude.{ℕ, suc, max, ◌+◌, ◌^◌, ◌<◌, ◌≤�
 use Rattle.std.specs.declared.alloc.Global.{Global}
 use denote.Ref.{MutBor}
 use Rattle.lay_piece.specs.declared.kind.Delim.TheVariants.{Bracket, Brace}
-use Rattle.lay_token.specs.Operators.{is_op}
 use Rattle.lay_node.specs.Ahead.{Tokens, first, tail, is_mark, opens, closes}
-use Rattle.lay_node.specs.reader.Loops.{Got, Read, ◌>>=◌, passed, repeat}
+use Rattle.lay_node.specs.reader.Loops.{Read, ◌>>=◌, passed}
 use Rattle.lay_node.specs.reader.Types.{Within, angled, begins_call, one_arg}
 use Rattle.lay_node.specs.declared.attr.Attr.{Attr}
 use Rattle.lay_node.specs.declared.token.Name.{Name}
 use Rattle.lay_node.specs.declared.types.Arg.{Arg}
 use Rattle.lay_node.specs.declared.types.Path.{Path}
 use Rattle.lay_code.specs.reader.Code.{expr_at}
-use Rattle.lay_code.specs.reader.Exprs.{base, bracket_expr, break_expr, call_expr, continue_expr, field_by, free_elements, generics_by, index_step, one_step, paren_expr, path_expr, return_expr}
+use Rattle.lay_code.specs.reader.Exprs.{base, bracket_expr, break_expr, call_expr, continue_expr, field_by, free_elements, generics_by, index_step, paren_expr, path_expr, return_expr}
 use Rattle.lay_code.specs.reader.Within.{ExprWithin}
-use Rattle.lay_code.specs.Operators.{begins_step}
 use Rattle.lay_code.specs.declared.exprs.Expr.{Expr}
 use Rattle.lay_code.specs.declared.exprs.Expr.TheVariants as expr
 use Rattle.lay_code.specs.declared.exprs.FieldExpr.{FieldExpr}
@@ -61,10 +59,6 @@ struct_by within p fields ts = do
   rest ← passed (closes Brace) b.1
   Some ((expr.Struct p.0 fields.0.0 b.0.0, suc (max p.1 (max fields.1 b.0.1))), rest)
 
--- a path, if no `!` stands behind it
-abbrev pub plain_path : Path × ℕ → Tokens → Read Expr
-plain_path p ts = if is_op (codes "!") ts then None else Some ((expr.Path p.0, suc p.1), ts)
-
 -- a macro call, or what begins with a path
 abbrev pub path_or_call : ExprWithin → Bool → Tokens → Read Expr
 path_or_call within no_struct ts = if begins_call ts then call_expr ts else path_expr within no_struct ts
@@ -82,9 +76,6 @@ marked within no_struct lead.Return ts = return_expr within no_struct ts
 marked within no_struct _ ts = None
 
 -- ---- steps
-
-abbrev pub steps : ExprWithin → Tokens → Got (List (Step × ℕ))
-steps within ts = repeat begins_step (one_step within) ts
 
 -- an index in brackets
 abbrev pub bracket_step : ExprWithin → Tokens → Read Step

@@ -3,11 +3,11 @@ ghost use Rattle.std.specs.Prelude.{◌≡◌, ◌+◌, ◌≤◌, IfOk, IfErr};
 ghost use Rattle.lay_code.specs.reader.Exprs as reader;
 ghost use Rattle.lay_code.specs.reader.Exprs.{targets_of, value_of};
 ghost use Rattle.lay_read_tokens.specs.Answers.{IsFound};
-ghost use Rattle.lay_read_blocks.specs.Answers.{code_within};
+ghost use Rattle.lay_read_shared.specs.Code.{code_within};
 ghost use Rattle.lay_read_exprs.specs.Answers.{AreExprs};
 
 use crate::rules::ExprRules;
-use lay_code::{Expr, Op, Place};
+use lay_code::{Boxed, Expr, Op, Place};
 use lay_read_parts::joins::both;
 use lay_read_tokens::found::greater;
 use lay_read_tokens::stop::{boxed, keep};
@@ -18,9 +18,9 @@ use std::alloc::Global;
 /// Operands with operators between them, as targets and a value.
 fn split(
     alloc: Global,
-    first: Expr,
-    rest: List<(Op, Expr)>,
-) -> Result<(List<(Expr, Op)>, Expr), ReadNone>
+    first: Boxed<Expr>,
+    rest: List<(Op, Boxed<Expr>)>,
+) -> Result<(List<(Boxed<Expr>, Op)>, Boxed<Expr>), ReadNone>
     ensures targets { IfOk result (λ split. split.0 ≡ targets_of first rest) }
     ensures value { IfOk result (λ split. split.1 ≡ value_of first rest) }
     ensures err { IfErr result (λ none. none ≡ ReadNone.NoMemory) }
@@ -53,8 +53,8 @@ impl<P: Fn(Global, &mut Ahead<'_>, Place, u32) -> Result<Found<Expr>, ReadNone>>
     {
         let (lhs, more) = both(lhs, self.operands(at, 0, no_struct))?;
         let need = greater(lhs.need, more.need) + 1;
-        let (targets, value) = split(self.alloc, lhs.node, more.node)?;
-        let (targets, value) = both(targets, boxed(self.alloc, value))?;
+        let (rest, first) = both(more.node, boxed(self.alloc, lhs.node))?;
+        let (targets, value) = split(self.alloc, first, rest)?;
         Ok(Found {
             node: Expr::Assign { targets, value },
             need,

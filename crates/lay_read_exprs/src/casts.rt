@@ -1,17 +1,15 @@
 //! Casts.
-ghost use Rattle.std.specs.Prelude.{◌≡◌, ◌+◌, ◌≤◌, codes, IfOk};
-ghost use Rattle.lay_node.specs.Ahead.{first, is_keyword};
-ghost use Rattle.lay_node.specs.reader.Loops.{repeat};
+ghost use Rattle.std.specs.Prelude.{◌≡◌, ◌+◌, ◌≤◌, IfOk};
 ghost use Rattle.lay_code.specs.reader.Exprs as reader;
-ghost use Rattle.lay_read_tokens.specs.Answers.{AreFound, IsFound, IsHeld};
-ghost use Rattle.lay_read_blocks.specs.Answers.{code_within};
+ghost use Rattle.lay_read_tokens.specs.Answers.{IsFound};
+ghost use Rattle.lay_read_shared.specs.Code.{code_within};
 ghost use Rattle.lay_read_exprs.specs.Answers.{AreExprs};
 
 use crate::rules::ExprRules;
 use lay_code::{Expr, Place, Ty, TypePlace};
-use lay_read_blocks::loops::{Going, read_parts};
 use lay_read_parts::joins::both;
 use lay_read_parts::loops::Part;
+use lay_read_shared::loops::{Going, read_parts};
 use lay_read_tokens::found::greater;
 use lay_read_tokens::front::takes_keyword;
 use lay_read_tokens::stop::boxed;
@@ -28,25 +26,6 @@ impl Part<Ty, ()> for Types {
 }
 
 impl<P: Fn(Global, &mut Ahead<'_>, Place, u32) -> Result<Found<Expr>, ReadNone>> ExprRules<P> {
-    /// Types, as long as an `as` stands at the front.
-    #[tactic(auto, using(lay_read_blocks::proofs::Left::type_leaves))]
-    #[inline(never)]
-    fn types(&self, at: &mut Ahead<'_>) -> Result<Found<List<Ty>>, ReadNone>
-        requires { AreExprs self.now.depth (P.pre self.now.exprs) (P.post self.now.exprs) }
-        ensures read { IsHeld AreFound (repeat (first (is_keyword (codes "as"))) (reader.one_type (code_within self.now.depth)) at.old) result at.new }
-        ensures within { IfOk result (λ found. found.need ≤ self.now.depth) }
-    {
-        read_parts::<Types, ExprRules<P>, Ty, (), _>(
-            self.alloc,
-            at,
-            self.depth,
-            Going::Types,
-            self,
-            ExprRules::one_type,
-            (),
-        )
-    }
-
     /// A type behind its `as`.
     #[tactic(auto, unfolding(lay_code::specs::reader::Exprs::one_type))]
     #[inline(never)]
@@ -63,7 +42,7 @@ impl<P: Fn(Global, &mut Ahead<'_>, Place, u32) -> Result<Found<Expr>, ReadNone>>
     }
 
     /// An expression with types behind it.
-    #[tactic(auto, unfolding(lay_code::specs::reader::Exprs::cast_expr))]
+    #[tactic(auto, unfolding(lay_code::specs::reader::Exprs::cast_expr), using(lay_read_shared::proofs::Left::type_leaves))]
     #[inline(never)]
     pub fn cast_expr(&self, at: &mut Ahead<'_>, lhs: Found<Expr>) -> Result<Found<Expr>, ReadNone>
         requires deeper { AreExprs self.now.depth (P.pre self.now.exprs) (P.post self.now.exprs) }
@@ -71,7 +50,18 @@ impl<P: Fn(Global, &mut Ahead<'_>, Place, u32) -> Result<Found<Expr>, ReadNone>>
         ensures read { IsFound (reader.cast_expr (code_within self.now.depth) (lhs.node, lhs.need) at.old) result at.new }
         ensures within { IfOk result (λ found. found.need ≤ self.now.depth + 1) }
     {
-        let (lhs, found) = both(lhs, self.types(at))?;
+        let (lhs, found) = both(
+            lhs,
+            read_parts::<Types, ExprRules<P>, Ty, (), _>(
+                self.alloc,
+                at,
+                self.depth,
+                Going::Types,
+                self,
+                ExprRules::one_type,
+                (),
+            ),
+        )?;
         let need = greater(lhs.need, found.need) + 1;
         let (types, operand) = both(found.node, boxed(self.alloc, lhs.node))?;
         Ok(Found {

@@ -4,14 +4,14 @@ ghost use Rattle.lay_node.specs.Ahead.{closes};
 ghost use Rattle.lay_code.specs.reader.Exprs as reader;
 ghost use Rattle.lay_code.specs.reader.Code.{expr_at};
 ghost use Rattle.lay_read_tokens.specs.Answers.{IsFound};
-ghost use Rattle.lay_read_blocks.specs.Answers.{code_within};
+ghost use Rattle.lay_read_shared.specs.Code.{code_within};
 ghost use Rattle.lay_read_exprs.specs.Answers.{AreExprs, array_by};
 
 use crate::rules::ExprRules;
 use lay_code::{Expr, Place};
-use lay_read_blocks::places::FREE;
 use lay_read_parts::joins::{both, prepended, refused};
 use lay_read_parts::loops::{Closer, Part, read_elements};
+use lay_read_shared::places::FREE;
 use lay_read_tokens::found::greater;
 use lay_read_tokens::front::{takes_closer, takes_mark};
 use lay_read_tokens::stop::boxed;
@@ -51,7 +51,7 @@ fn repeat_by(
 
 impl<P: Fn(Global, &mut Ahead<'_>, Place, u32) -> Result<Found<Expr>, ReadNone>> ExprRules<P> {
     /// Expressions with commas, and the closing delimiter behind them.
-    #[tactic(auto, using(lay_read_blocks::proofs::Left::exprs_leave))]
+    #[tactic(auto, using(lay_read_shared::proofs::Left::exprs_leave))]
     #[inline(never)]
     pub fn free_elements(
         &self,

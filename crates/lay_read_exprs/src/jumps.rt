@@ -2,15 +2,15 @@
 ghost use Rattle.std.specs.Prelude.{◌≡◌, ◌+◌, ◌≤◌, IfOk};
 ghost use Rattle.lay_code.specs.reader.Exprs as reader;
 ghost use Rattle.lay_read_tokens.specs.Answers.{IsFound};
-ghost use Rattle.lay_read_blocks.specs.Answers.{code_within};
+ghost use Rattle.lay_read_shared.specs.Code.{code_within};
 ghost use Rattle.lay_read_exprs.specs.Answers.{AreExprs};
 
 use crate::rules::ExprRules;
 use lay_code::{Boxed, Expr, Place};
 use lay_ops::ahead::begins_operand;
-use lay_read_blocks::places::plain;
 use lay_read_parts::joins::both;
 use lay_read_parts::parts::read_lifetime_if;
+use lay_read_shared::places::plain;
 use lay_read_tokens::{Ahead, Found, ReadNone};
 use std::alloc::Global;
 

@@ -2,6 +2,9 @@
 //!
 //! Each rule is proved equal to a function of the tokens ahead that `lay_code` defines, and that function reads what is
 //! spelled and nothing else.
+//!
+//! Most rules carry `#[inline(never)]`: what is nested 254 deep has to be read within the stack of a thread, so the frame of
+//! each rule is kept small (docs/DECISIONS.md, "Trees").
 #![tactic(auto)]
 
 mod assigns;

@@ -1,12 +1,11 @@
 //! Numbers, and the indices of tuples.
 ghost use Rattle.std.specs.Prelude.{◌≡◌, IsUtf8};
-ghost use Rattle.std.specs.Char.{is_ascii_digit};
-ghost use Rattle.std.specs.List.{list_all};
 ghost use Rattle.std.specs.Str.{chars};
 ghost use Rattle.lay_piece.specs.Number.{is_index};
 ghost use Rattle.lay_node.specs.Ahead.{first};
 ghost use Rattle.lay_code.specs.reader.Exprs as reader;
 
+use lay_node::are_digits;
 use lay_read_tokens::Ahead;
 use lay_read_tokens::front::takes_op;
 use lay_token::Kind;
@@ -39,16 +38,4 @@ fn is_index(text: &[u8]) -> bool
         [] => false,
         _ => are_digits(text),
     }
-}
-
-/// Whether each byte is a digit.
-fn are_digits(text: &[u8]) -> bool
-    ensures { result ≡ list_all is_ascii_digit text.now }
-{
-    for byte in text {
-        if !byte.is_ascii_digit() {
-            return false;
-        }
-    }
-    true
 }

@@ -4,19 +4,18 @@ ghost use Rattle.lay_code.specs.nodes.Code.{about_expr};
 ghost use Rattle.lay_code.specs.nodes.Places as places;
 ghost use Rattle.lay_code.specs.reader.Exprs as reader;
 ghost use Rattle.lay_read_tokens.specs.Answers.{AreFound, IsFound, IsHeld};
-ghost use Rattle.lay_read_blocks.specs.Answers.{code_within};
+ghost use Rattle.lay_read_shared.specs.Code.{code_within};
 ghost use Rattle.lay_read_exprs.specs.Answers.{AreExprs};
 
 use crate::prefixes::pass_tokens;
 use crate::rules::ExprRules;
-use lay_code::{Expr, Op, Place};
+use lay_code::{Boxed, Expr, Op, Place};
 use lay_ops::ahead::{binary, is_angle, strength};
-use lay_ops::operators::op_text;
 use lay_ops::stands;
-use lay_read_blocks::loops::{Going, read_parts};
-use lay_read_blocks::places::{before_op, plain};
 use lay_read_parts::joins::{both, refused};
 use lay_read_parts::loops::Part;
+use lay_read_shared::loops::{Going, read_parts};
+use lay_read_shared::places::{before_op, plain};
 use lay_read_tokens::found::greater;
 use lay_read_tokens::stop::boxed;
 use lay_read_tokens::{Ahead, Found, ReadNone};
@@ -26,7 +25,7 @@ use std::alloc::Global;
 /// Operators and their operands, as parts that stand one behind another.
 pub struct Operands;
 
-impl Part<(Op, Expr), (u8, bool)> for Operands {
+impl Part<(Op, Boxed<Expr>), (u8, bool)> for Operands {
     ghost reads = { λ depth place ts. reader.operand (code_within depth) place.0 place.1 ts };
 }
 
@@ -48,20 +47,20 @@ fn operand_ends(at: &Ahead<'_>, operand: &Expr, level: u8, no_struct: bool) -> b
 
 impl<P: Fn(Global, &mut Ahead<'_>, Place, u32) -> Result<Found<Expr>, ReadNone>> ExprRules<P> {
     /// Operators of a level and their operands, as long as one begins.
-    #[tactic(auto, unfolding(lay_code::specs::reader::Exprs::operands), using(lay_read_blocks::proofs::Left::operand_leaves))]
+    #[tactic(auto, unfolding(lay_code::specs::reader::Exprs::operands), using(lay_read_shared::proofs::Left::operand_leaves))]
     #[inline(never)]
     pub fn operands(
         &self,
         at: &mut Ahead<'_>,
         level: u8,
         no_struct: bool,
-    ) -> Result<Found<List<(Op, Expr)>>, ReadNone>
+    ) -> Result<Found<List<(Op, Boxed<Expr>)>>, ReadNone>
         requires deeper { AreExprs self.now.depth (P.pre self.now.exprs) (P.post self.now.exprs) }
         requires level { level < 14 }
         ensures read { IsHeld AreFound (reader.operands (code_within self.now.depth) level no_struct at.old) result at.new }
         ensures within { IfOk result (λ found. found.need ≤ self.now.depth) }
     {
-        read_parts::<Operands, ExprRules<P>, (Op, Expr), (u8, bool), _>(
+        read_parts::<Operands, ExprRules<P>, (Op, Boxed<Expr>), (u8, bool), _>(
             self.alloc,
             at,
             self.depth,
@@ -75,7 +74,11 @@ impl<P: Fn(Global, &mut Ahead<'_>, Place, u32) -> Result<Found<Expr>, ReadNone>>
     /// An operator of a level, and its operand.
     #[tactic(auto, unfolding(lay_code::specs::reader::Exprs::operand))]
     #[inline(never)]
-    fn operand(&self, at: &mut Ahead<'_>, place: (u8, bool)) -> Result<Found<(Op, Expr)>, ReadNone>
+    fn operand(
+        &self,
+        at: &mut Ahead<'_>,
+        place: (u8, bool),
+    ) -> Result<Found<(Op, Boxed<Expr>)>, ReadNone>
         requires deeper { AreExprs self.now.depth (P.pre self.now.exprs) (P.post self.now.exprs) }
         requires level { place.0 < 14 }
         ensures read { IsFound (reader.operand (code_within self.now.depth) place.0 place.1 at.old) result at.new }
@@ -86,9 +89,9 @@ impl<P: Fn(Global, &mut Ahead<'_>, Place, u32) -> Result<Found<Expr>, ReadNone>>
             Some(op) => op,
             None => return Err(ReadNone::NoReading),
         };
-        pass_tokens(at, op_text(op).len());
-        let found = self.inner(at, plain(level + 1, no_struct))?;
-        if !operand_ends(at, &found.node, level, no_struct) {
+        pass_tokens(at, op.text().len());
+        let found = self.boxed_inner(at, plain(level + 1, no_struct))?;
+        if !operand_ends(at, found.node.get(), level, no_struct) {
             return refused(found);
         }
         Ok(Found {

@@ -1,12 +1,12 @@
 //! What begins with a path.
-ghost use Rattle.std.specs.Prelude.{◌≡◌, ◌+◌, ◌^◌, ◌<◌, ◌≤◌, IfOk};
+ghost use Rattle.std.specs.Prelude.{◌≡◌, ◌+◌, ◌≤◌, IfOk};
 ghost use Rattle.lay_code.specs.reader.Exprs as reader;
 ghost use Rattle.lay_read_tokens.specs.Answers.{IsFound};
-ghost use Rattle.lay_read_blocks.specs.Answers.{code_within};
-ghost use Rattle.lay_read_exprs.specs.Answers.{AreExprs, path_or_call, plain_path};
+ghost use Rattle.lay_read_shared.specs.Code.{code_within};
+ghost use Rattle.lay_read_exprs.specs.Answers.{AreExprs, path_or_call};
 
 use crate::rules::ExprRules;
-use lay_code::{Expr, Path, PathStyle, Place};
+use lay_code::{Expr, PathStyle, Place};
 use lay_read_parts::joins::refused;
 use lay_read_tokens::calls::call_ahead;
 use lay_read_tokens::front::{is_at_opened, pass};
@@ -25,21 +25,6 @@ fn call_expr(alloc: Global, at: &mut Ahead<'_>) -> Result<Found<Expr>, ReadNone>
     Ok(Found {
         node: Expr::Call { call },
         need: 1,
-    })
-}
-
-/// A path that is an expression, if no `!` stands behind it.
-fn plain_path(at: &Ahead<'_>, path: Found<Path>) -> Result<Found<Expr>, ReadNone>
-    requires { path.need + 1 < 2 ^ 32 }
-    ensures read { IsFound (plain_path (path.node, path.need) at.now) result at.now }
-    ensures within { IfOk result (λ found. found.need ≡ path.need + 1) }
-{
-    if at.op_is(b"!") {
-        return refused(path);
-    }
-    Ok(Found {
-        node: Expr::Path { path: path.node },
-        need: path.need + 1,
     })
 }
 
@@ -67,27 +52,16 @@ impl<P: Fn(Global, &mut Ahead<'_>, Place, u32) -> Result<Found<Expr>, ReadNone>>
         ensures within { IfOk result (λ found. found.need ≤ self.now.depth + 1) }
     {
         let path = path_ahead(self.alloc, at, PathStyle::Code, self.depth)?;
-        self.path_by(at, no_struct, path)
-    }
-
-    /// What stands behind a path.
-    #[inline(never)]
-    fn path_by(
-        &self,
-        at: &mut Ahead<'_>,
-        no_struct: bool,
-        path: Found<Path>,
-    ) -> Result<Found<Expr>, ReadNone>
-        requires deeper { AreExprs self.now.depth (P.pre self.now.exprs) (P.post self.now.exprs) }
-        requires within { path.need ≤ self.now.depth }
-        ensures read { IsFound (reader.path_by (code_within self.now.depth) no_struct (path.node, path.need) at.old) result at.new }
-        ensures within { IfOk result (λ found. found.need ≤ self.now.depth + 1) }
-    {
         if !no_struct && is_at_opened(at, Delim::Brace) {
             pass(at);
             self.struct_expr(at, path)
+        } else if at.op_is(b"!") {
+            refused(path)
         } else {
-            plain_path(at, path)
+            Ok(Found {
+                node: Expr::Path { path: path.node },
+                need: path.need + 1,
+            })
         }
     }
 }

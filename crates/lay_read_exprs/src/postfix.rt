@@ -3,20 +3,20 @@ ghost use Rattle.std.specs.Prelude.{◌≡◌, ◌+◌, ◌≤◌, true, IfOk};
 ghost use Rattle.lay_node.specs.Ahead.{opens_args_late};
 ghost use Rattle.lay_node.specs.reader.Types.{within};
 ghost use Rattle.lay_code.specs.reader.Exprs as reader;
-ghost use Rattle.lay_read_tokens.specs.Answers.{AreFound, IsFound, IsHeld};
-ghost use Rattle.lay_read_blocks.specs.Answers.{code_within};
-ghost use Rattle.lay_read_exprs.specs.Answers.{AreExprs, bracket_step, generic_method, late_args, steps};
+ghost use Rattle.lay_read_tokens.specs.Answers.{IsFound};
+ghost use Rattle.lay_read_shared.specs.Code.{code_within};
+ghost use Rattle.lay_read_exprs.specs.Answers.{AreExprs, bracket_step, generic_method, late_args};
 
 use crate::numbers::{begins_tuple_index, is_at_tuple_index};
 use crate::rules::ExprRules;
 use lay_code::{Arg, Args, Expr, Name, PathStyle, Place, Step};
 use lay_ops::is_number;
-use lay_read_blocks::loops::{Going, read_parts};
-use lay_read_blocks::places::FREE;
 use lay_read_parts::joins::{both, refused};
 use lay_read_parts::leads::opens_args_late;
 use lay_read_parts::loops::Part;
 use lay_read_parts::parts::read_literal;
+use lay_read_shared::loops::{Going, read_parts};
+use lay_read_shared::places::FREE;
 use lay_read_tokens::found::greater;
 use lay_read_tokens::front::{is_at_opened, takes_closer, takes_keyword, takes_op, takes_opener};
 use lay_read_tokens::names::read_name;
@@ -54,7 +54,7 @@ fn read_late_args(
 
 impl<P: Fn(Global, &mut Ahead<'_>, Place, u32) -> Result<Found<Expr>, ReadNone>> ExprRules<P> {
     /// An expression with postfix steps behind it. A tuple index doesn't stand directly behind a number without suffix.
-    #[tactic(auto, unfolding(lay_code::specs::reader::Exprs::postfix_expr))]
+    #[tactic(auto, unfolding(lay_code::specs::reader::Exprs::postfix_expr), using(lay_read_shared::proofs::Left::step_leaves))]
     #[inline(never)]
     pub fn postfix_expr(
         &self,
@@ -69,32 +69,24 @@ impl<P: Fn(Global, &mut Ahead<'_>, Place, u32) -> Result<Found<Expr>, ReadNone>>
         if is_number(&lhs.node) && begins_tuple_index(at) {
             return refused(lhs);
         }
-        let (lhs, found) = both(lhs, self.steps(at))?;
+        let (lhs, found) = both(
+            lhs,
+            read_parts::<Steps, ExprRules<P>, Step, (), _>(
+                self.alloc,
+                at,
+                self.depth,
+                Going::Steps,
+                self,
+                ExprRules::one_step,
+                (),
+            ),
+        )?;
         let need = greater(lhs.need, found.need) + 1;
         let (steps, base) = both(found.node, boxed(self.alloc, lhs.node))?;
         Ok(Found {
             node: Expr::Postfix { base, steps },
             need,
         })
-    }
-
-    /// Steps, as long as one begins.
-    #[tactic(auto, using(lay_read_blocks::proofs::Left::step_leaves))]
-    #[inline(never)]
-    fn steps(&self, at: &mut Ahead<'_>) -> Result<Found<List<Step>>, ReadNone>
-        requires { AreExprs self.now.depth (P.pre self.now.exprs) (P.post self.now.exprs) }
-        ensures read { IsHeld AreFound (steps (code_within self.now.depth) at.old) result at.new }
-        ensures within { IfOk result (λ found. found.need ≤ self.now.depth) }
-    {
-        read_parts::<Steps, ExprRules<P>, Step, (), _>(
-            self.alloc,
-            at,
-            self.depth,
-            Going::Steps,
-            self,
-            ExprRules::one_step,
-            (),
-        )
     }
 
     /// A step.
@@ -113,24 +105,14 @@ impl<P: Fn(Global, &mut Ahead<'_>, Place, u32) -> Result<Found<Expr>, ReadNone>>
                 need: 0,
             })
         } else if takes_opener(at, Delim::Paren) {
-            self.call_step(at)
+            let found = self.free_elements(at, Delim::Paren)?;
+            Ok(Found {
+                node: Step::Apply { args: found.node },
+                need: found.need,
+            })
         } else {
             self.bracket_step(at)
         }
-    }
-
-    /// Arguments, behind a `(`.
-    #[inline(never)]
-    fn call_step(&self, at: &mut Ahead<'_>) -> Result<Found<Step>, ReadNone>
-        requires { AreExprs self.now.depth (P.pre self.now.exprs) (P.post self.now.exprs) }
-        ensures read { IsFound (reader.call_step (code_within self.now.depth) at.old) result at.new }
-        ensures within { IfOk result (λ found. found.need ≤ self.now.depth) }
-    {
-        let found = self.free_elements(at, Delim::Paren)?;
-        Ok(Found {
-            node: Step::Apply { args: found.node },
-            need: found.need,
-        })
     }
 
     /// An index in brackets.
@@ -143,7 +125,7 @@ impl<P: Fn(Global, &mut Ahead<'_>, Place, u32) -> Result<Found<Expr>, ReadNone>>
         if !takes_opener(at, Delim::Bracket) {
             return Err(ReadNone::NoReading);
         }
-        let found = self.inner(at, FREE)?;
+        let found = self.boxed_inner(at, FREE)?;
         if !takes_closer(at, Delim::Bracket) {
             return refused(found);
         }

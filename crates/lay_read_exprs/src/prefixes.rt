@@ -4,15 +4,15 @@ ghost use Rattle.lay_node.specs.reader.Loops.{repeat};
 ghost use Rattle.lay_code.specs.Operators as operators;
 ghost use Rattle.lay_code.specs.reader.Exprs as reader;
 ghost use Rattle.lay_read_tokens.specs.Answers.{IsFound, IsGot};
-ghost use Rattle.lay_read_blocks.specs.Answers.{code_within};
+ghost use Rattle.lay_read_shared.specs.Code.{code_within};
 ghost use Rattle.lay_read_exprs.specs.Answers.{AreExprs};
 
 use crate::rules::ExprRules;
 use lay_code::{Expr, Place, Prefix};
 use lay_ops::ahead::prefix;
 use lay_ops::operators::prefix_length;
-use lay_read_blocks::places::plain;
 use lay_read_parts::joins::both;
+use lay_read_shared::places::plain;
 use lay_read_tokens::front::pass;
 use lay_read_tokens::stop::keep;
 use lay_read_tokens::{Ahead, Found, ReadNone};

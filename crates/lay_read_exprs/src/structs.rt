@@ -2,15 +2,15 @@
 ghost use Rattle.std.specs.Prelude.{◌≡◌, ◌+◌, ◌≤◌, None, IfOk};
 ghost use Rattle.lay_code.specs.reader.Exprs as reader;
 ghost use Rattle.lay_read_tokens.specs.Answers.{IsFound};
-ghost use Rattle.lay_read_blocks.specs.Answers.{code_within};
+ghost use Rattle.lay_read_shared.specs.Code.{code_within};
 ghost use Rattle.lay_read_exprs.specs.Answers.{AreExprs, numbered_field, struct_by};
 
 use crate::rules::ExprRules;
 use lay_code::{Attr, Boxed, Expr, FieldExpr, Name, Path, Place};
-use lay_read_blocks::places::FREE;
 use lay_read_parts::joins::{both, refused};
 use lay_read_parts::loops::{Opening, Part, read_open_elements};
 use lay_read_pats::structs::read_index_if;
+use lay_read_shared::places::FREE;
 use lay_read_tokens::attributes::attrs_ahead;
 use lay_read_tokens::found::greater;
 use lay_read_tokens::front::{is_at_closer, pass_two, takes_closer, takes_op};
@@ -28,7 +28,7 @@ impl Part<FieldExpr, ()> for Fields {
 
 impl<P: Fn(Global, &mut Ahead<'_>, Place, u32) -> Result<Found<Expr>, ReadNone>> ExprRules<P> {
     /// Fields in braces, behind a path and the `{`.
-    #[tactic(auto, unfolding(lay_code::specs::reader::Exprs::struct_expr), using(lay_read_blocks::proofs::Left::field_leaves))]
+    #[tactic(auto, unfolding(lay_code::specs::reader::Exprs::struct_expr), using(lay_read_shared::proofs::Left::field_leaves))]
     #[inline(never)]
     pub fn struct_expr(
         &self,
@@ -145,7 +145,7 @@ impl<P: Fn(Global, &mut Ahead<'_>, Place, u32) -> Result<Found<Expr>, ReadNone>>
         ensures read { IsFound (numbered_field (code_within self.now.depth) attrs index at.old) result at.new }
         ensures within { IfOk result (λ found. found.need ≤ self.now.depth) }
     {
-        let ((attrs, index), found) = both((attrs, index), self.inner(at, FREE))?;
+        let ((attrs, index), found) = both((attrs, index), self.boxed_inner(at, FREE))?;
         Ok(Found {
             need: found.need,
             node: FieldExpr::Numbered {
@@ -189,7 +189,7 @@ impl<P: Fn(Global, &mut Ahead<'_>, Place, u32) -> Result<Found<Expr>, ReadNone>>
                 need: 0,
             });
         }
-        let ((attrs, name), found) = both((attrs, name), self.inner(at, FREE))?;
+        let ((attrs, name), found) = both((attrs, name), self.boxed_inner(at, FREE))?;
         Ok(Found {
             need: found.need,
             node: FieldExpr::Named {

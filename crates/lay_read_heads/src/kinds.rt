@@ -7,10 +7,10 @@ ghost use Rattle.lay_read_parts.specs.Answers.{IsReadAt};
 ghost use Rattle.lay_read_heads.specs.Answers.{OfKind, StructFront};
 
 use lay_code::{ItemKind, Site};
-use lay_head_rules::heads::{
+use lay_nest::Cursor;
+use lay_read_head_rules::heads::{
     alias_ahead, enum_ahead, extern_crate_ahead, struct_ahead, union_ahead,
 };
-use lay_nest::Cursor;
 use lay_read_tokens::front::is_at_keyword;
 use lay_read_tokens::{Ahead, ReadNone};
 use std::alloc::Global;

@@ -14,11 +14,11 @@ ghost use Rattle.lay_read_tokens.specs.Answers.{AreLexed, IsGot, IsRead};
 ghost use Rattle.lay_read_parts.specs.Answers.{IsReadAt};
 
 use lay_code::{FnHead, ImplHead, Site, TraitHead, UseTree, ValueHead, Vis};
-use lay_head_rules::functions::fn_head_ahead;
-use lay_head_rules::heads::{impl_head_ahead, trait_head_ahead, value_head_ahead};
-use lay_head_rules::uses::use_ahead;
-use lay_head_rules::vis::vis_ahead;
 use lay_nest::Cursor;
+use lay_read_head_rules::functions::fn_head_ahead;
+use lay_read_head_rules::heads::{impl_head_ahead, trait_head_ahead, value_head_ahead};
+use lay_read_head_rules::uses::use_ahead;
+use lay_read_head_rules::vis::vis_ahead;
 use lay_read_tokens::{Ahead, ReadNone};
 use std::alloc::Global;
 

@@ -268,7 +268,9 @@ fn same_field(field: &FieldExpr, other: &FieldExpr) -> bool
                 name: other_name,
                 value: other_value,
             } => {
-                attrs.same(other_attrs) && name.same(other_name) && same_expr(value, other_value)
+                attrs.same(other_attrs)
+                    && name.same(other_name)
+                    && same_expr(value.get(), other_value.get())
             }
             _ => false,
         },
@@ -282,7 +284,9 @@ fn same_field(field: &FieldExpr, other: &FieldExpr) -> bool
                 index: other_index,
                 value: other_value,
             } => {
-                attrs.same(other_attrs) && index.same(other_index) && same_expr(value, other_value)
+                attrs.same(other_attrs)
+                    && index.same(other_index)
+                    && same_expr(value.get(), other_value.get())
             }
             _ => false,
         },
@@ -327,7 +331,7 @@ fn same_step(step: &Step, other: &Step) -> bool
             _ => false,
         },
         Step::Index { index } => {
-            matches!(other, Step::Index { index: given } if same_expr(index, given))
+            matches!(other, Step::Index { index: given } if same_expr(index.get(), given.get()))
         }
         Step::Try => matches!(other, Step::Try),
         Step::Await => matches!(other, Step::Await),
@@ -365,7 +369,7 @@ pub fn same_stmt(stmt: &Stmt, other: &Stmt) -> bool
                 attrs.same(other_attrs)
                     && pat.same(other_pat)
                     && ty.same(other_ty)
-                    && same_value(value, other_value)
+                    && same_operand(value, other_value)
                     && same_body(otherwise, other_otherwise)
             }
             _ => false,
@@ -379,7 +383,9 @@ pub fn same_stmt(stmt: &Stmt, other: &Stmt) -> bool
                 expr: other_expr,
                 ended: other_ended,
             } => {
-                attrs.same(other_attrs) && same_expr(expr, other_expr) && *ended == *other_ended
+                attrs.same(other_attrs)
+                    && same_expr(expr.get(), other_expr.get())
+                    && *ended == *other_ended
             }
             _ => false,
         },
@@ -392,7 +398,7 @@ fn same_branch(branch: &Branch, other: &Branch) -> bool
     ensures { IsTrue result ↔ branch.now ≡ other.now }
 {
     branch.pat.same(&other.pat)
-        && same_expr(&branch.condition, &other.condition)
+        && same_expr(branch.condition.get(), other.condition.get())
         && same_block(&branch.body, &other.body)
 }
 
@@ -403,8 +409,8 @@ pub fn same_arm(arm: &Arm, other: &Arm) -> bool
 {
     arm.attrs.same(&other.attrs)
         && arm.pat.same(&other.pat)
-        && same_value(&arm.guard, &other.guard)
-        && same_expr(&arm.body, &other.body)
+        && same_operand(&arm.guard, &other.guard)
+        && same_expr(arm.body.get(), other.body.get())
 }
 
 /// Whether two items are equal.
@@ -412,7 +418,9 @@ pub fn same_arm(arm: &Arm, other: &Arm) -> bool
 pub fn same_item(item: &Item, other: &Item) -> bool
     ensures { IsTrue result ↔ item.now ≡ other.now }
 {
-    item.attrs.same(&other.attrs) && item.vis.same(&other.vis) && same_kind(&item.kind, &other.kind)
+    item.attrs.same(&other.attrs)
+        && item.vis.same(&other.vis)
+        && same_kind(item.kind.get(), other.kind.get())
 }
 
 /// Whether two items without their attributes and visibilities are equal.
@@ -468,7 +476,7 @@ fn same_kind(kind: &ItemKind, other: &ItemKind) -> bool
             ItemKind::Value {
                 head: other_head,
                 value: other_value,
-            } => { head.same(other_head) && same_value(value, other_value) }
+            } => { head.same(other_head) && same_operand(value, other_value) }
             _ => false,
         },
         ItemKind::Trait {
@@ -655,14 +663,14 @@ pub fn same_items(items: &[Item], others: &[Item]) -> bool
 
 /// Whether the operators and operands of two chains are equal.
 #[cycle(code)]
-fn same_operands(operands: &[(Op, Expr)], others: &[(Op, Expr)]) -> bool
+fn same_operands(operands: &[(Op, Boxed<Expr>)], others: &[(Op, Boxed<Expr>)]) -> bool
     ensures { IsTrue result ↔ operands.now ≡ others.now }
 {
     if operands.len() != others.len() {
         return false;
     }
     for ((op, operand), (other_op, other_operand)) in operands.iter().zip(others) {
-        if !same_op(op, other_op) || !same_expr(operand, other_operand) {
+        if !same_op(op, other_op) || !same_expr(operand.get(), other_operand.get()) {
             return false;
         }
     }
@@ -671,21 +679,21 @@ fn same_operands(operands: &[(Op, Expr)], others: &[(Op, Expr)]) -> bool
 
 /// Whether the targets of two assignments are equal.
 #[cycle(code)]
-fn same_targets(targets: &[(Expr, Op)], others: &[(Expr, Op)]) -> bool
+fn same_targets(targets: &[(Boxed<Expr>, Op)], others: &[(Boxed<Expr>, Op)]) -> bool
     ensures { IsTrue result ↔ targets.now ≡ others.now }
 {
     if targets.len() != others.len() {
         return false;
     }
     for ((target, op), (other_target, other_op)) in targets.iter().zip(others) {
-        if !same_expr(target, other_target) || !same_op(op, other_op) {
+        if !same_expr(target.get(), other_target.get()) || !same_op(op, other_op) {
             return false;
         }
     }
     true
 }
 
-/// Whether two operands that may be left out are equal.
+/// Whether two expressions that may be left out are equal.
 #[cycle(code)]
 fn same_operand(operand: &Option<Boxed<Expr>>, other: &Option<Boxed<Expr>>) -> bool
     ensures { IsTrue result ↔ operand.now ≡ other.now }
@@ -693,17 +701,6 @@ fn same_operand(operand: &Option<Boxed<Expr>>, other: &Option<Boxed<Expr>>) -> b
     match operand {
         None => other.is_none(),
         Some(operand) => matches!(other, Some(given) if same_expr(operand.get(), given.get())),
-    }
-}
-
-/// Whether two expressions that may be left out are equal.
-#[cycle(code)]
-fn same_value(value: &Option<Expr>, other: &Option<Expr>) -> bool
-    ensures { IsTrue result ↔ value.now ≡ other.now }
-{
-    match value {
-        None => other.is_none(),
-        Some(value) => matches!(other, Some(given) if same_expr(value, given)),
     }
 }
 

@@ -10,8 +10,8 @@ use lay_io::{HostSink, Sink};
 use lay_laws::is_written;
 use lay_text::{List, NoMemory, Text};
 use lay_tree::{
-    Args, Attr, Field, Fields, File, Generics, Item, ItemKind, Name, Path, PathStart, Struct, Ty,
-    Vis, Wheres, Word,
+    Args, Attr, Boxed, Field, Fields, File, Generics, Item, ItemKind, Name, Path, PathStart,
+    Struct, Ty, Vis, Wheres, Word,
 };
 use std::alloc::Global;
 use std::env;
@@ -97,7 +97,7 @@ fn file(alloc: Global, name: &str, fields: List<Field>) -> Result<File, NoMemory
     let item = Item {
         attrs,
         vis: Vis::Public,
-        kind: ItemKind::Struct { item: made },
+        kind: Boxed::new(alloc, ItemKind::Struct { item: made })?,
     };
     add(&mut items, item)?;
     Ok(File {

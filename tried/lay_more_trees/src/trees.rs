@@ -55,19 +55,50 @@ fn last_item(file: File) -> Option<Item> {
     items.into_vec().pop()
 }
 
+/// What the last item of a text is, without its attributes and its visibility.
+pub fn item_kind(alloc: Global, text: &[u8]) -> Option<ItemKind> {
+    kind_of(alloc, item(alloc, text)?)
+}
+
+/// The same of a text that stands between two others.
+pub fn item_kind_within(alloc: Global, before: &str, text: &str, after: &str) -> Option<ItemKind> {
+    kind_of(alloc, item_within(alloc, before, text, after)?)
+}
+
+/// What an item is. It leaves `extern {}` there, which is dropped.
+fn kind_of(alloc: Global, mut item: Item) -> Option<ItemKind> {
+    let left = ItemKind::Foreign {
+        is_unsafe: false,
+        abi: None,
+        attrs: List::new(alloc),
+        items: List::new(alloc),
+    };
+    let left = boxed(alloc, left)?;
+    Some(mem::replace(&mut item.kind, left).into_inner())
+}
+
 /// The expression that a text reads to.
 pub fn expr(alloc: Global, text: &str) -> Option<Expr> {
-    let mut item = item_within(alloc, "const A:B=", text, ";")?;
-    match &mut item.kind {
-        ItemKind::Value { head: _, value } => value.take(),
+    expr_within(alloc, "", text, "")
+}
+
+/// The expression that a text reads to between two others.
+fn expr_within(alloc: Global, before: &str, text: &str, after: &str) -> Option<Expr> {
+    let mut all = repeated(alloc, b"const A:B=", 1).ok()?;
+    for part in [before, text, after, ";"] {
+        all.extend_from_slice(part.as_bytes()).ok()?;
+    }
+    let mut kind = item_kind(alloc, all.as_slice())?;
+    match &mut kind {
+        ItemKind::Value { head: _, value } => Some(value.take()?.into_inner()),
         _ => None,
     }
 }
 
 /// The block that a text reads to within braces.
 pub fn block(alloc: Global, text: &str) -> Option<Block> {
-    let mut item = item_within(alloc, "fn f(){", text, "}")?;
-    match &mut item.kind {
+    let mut kind = item_kind_within(alloc, "fn f(){", text, "}")?;
+    match &mut kind {
         ItemKind::Function {
             head: _,
             wheres: _,
@@ -84,8 +115,8 @@ pub fn stmt(alloc: Global, text: &str) -> Option<Stmt> {
 
 /// The type that a text reads to.
 pub fn ty(alloc: Global, text: &str) -> Option<Ty> {
-    let mut item = item_within(alloc, "type A=", text, ";")?;
-    match &mut item.kind {
+    let mut kind = item_kind_within(alloc, "type A=", text, ";")?;
+    match &mut kind {
         ItemKind::Alias { item } => item.ty.take(),
         _ => None,
     }
@@ -101,20 +132,17 @@ pub fn path(alloc: Global, text: &str) -> Option<Path> {
 
 /// The pattern that a text reads to where alternatives may stand.
 pub fn pat(alloc: Global, text: &str) -> Option<Pat> {
-    let mut item = item_within(alloc, "const A:B=for ", text, " in a{};")?;
-    match &mut item.kind {
-        ItemKind::Value {
-            head: _,
-            value: Some(Expr::For { pat, .. }),
-        } => Some(mem::replace(pat, Pat::Wild)),
+    let mut looped = expr_within(alloc, "for ", text, " in a{}")?;
+    match &mut looped {
+        Expr::For { pat, .. } => Some(mem::replace(pat, Pat::Wild)),
         _ => None,
     }
 }
 
 /// The token list that a text reads to.
 pub fn tokens(alloc: Global, text: &str) -> Option<Tokens> {
-    let mut item = item_within(alloc, "m!{", text, "}")?;
-    match &mut item.kind {
+    let mut kind = item_kind_within(alloc, "m!{", text, "}")?;
+    match &mut kind {
         ItemKind::Call { call } => Some(mem::replace(
             &mut call.tokens.tokens,
             Tokens::new(List::new(alloc)),
@@ -236,12 +264,12 @@ pub fn empty_block(alloc: Global) -> Block {
 }
 
 /// An expression as a statement without a `;`.
-pub fn unended(alloc: Global, expr: Expr) -> Stmt {
-    Stmt::Expr {
+pub fn unended(alloc: Global, expr: Expr) -> Option<Stmt> {
+    Some(Stmt::Expr {
         attrs: List::new(alloc),
-        expr,
+        expr: boxed(alloc, expr)?,
         ended: false,
-    }
+    })
 }
 
 /// A box of a node.
@@ -279,7 +307,7 @@ pub fn file_of_kind(alloc: Global, kind: ItemKind) -> Option<File> {
         Item {
             attrs: List::new(alloc),
             vis: Vis::Inherited,
-            kind,
+            kind: boxed(alloc, kind)?,
         },
     )
 }
@@ -304,7 +332,7 @@ pub fn file_of_value(alloc: Global, ty: Ty, value: Expr) -> Option<File> {
         alloc,
         ItemKind::Value {
             head,
-            value: Some(value),
+            value: Some(boxed(alloc, value)?),
         },
     )
 }
@@ -344,7 +372,7 @@ pub fn file_of_stmt(alloc: Global, stmt: Stmt) -> Option<File> {
 
 /// `fn f() { a }`, of one expression without a `;`.
 pub fn file_of_tail(alloc: Global, expr: Expr) -> Option<File> {
-    file_of_stmt(alloc, unended(alloc, expr))
+    file_of_stmt(alloc, unended(alloc, expr)?)
 }
 
 /// `const _: _ = for a in _ {};`

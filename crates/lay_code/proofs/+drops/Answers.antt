@@ -1,4 +1,4 @@
-use Rattle.std.proofs.Common.{ℕ, ◌≤◌, length, arith}
+use Rattle.std.proofs.Common.{ℕ, ◌≤◌, ◌≡◌, length, ap, arith}
 use Rattle.std.specs.Prelude.{max}
 use Rattle.lay_code.specs.declared.blocks.Arm.{size-Arm}
 use Rattle.lay_code.specs.declared.blocks.Branch.{size-Branch}
@@ -67,7 +67,8 @@ drops::discard_operands-drop-requires t c =
     let left = c.loop-node.left.items in
     let under = popped_under weight c.args.nodes left c.pop.new.self.items (length left) c.pop.result
     (c.in-Some.field-0-0, c.in-Some.node) c.loop-node.invariant c.pop.ensures.items c.in-Some.is in
-    (omega (arith, under, c.decreases), tt)
+    let held : size-Expr c.into_inner.result ≡ size-Expr c.in-Some.node = ap size-Expr c.into_inner.ensures in
+    (omega (arith, under, held, c.decreases), tt)
 
 pub drops::discard_targets-drop-requires : goal.drops::discard_targets-drop-requires
 drops::discard_targets-drop-requires t c =
@@ -75,4 +76,5 @@ drops::discard_targets-drop-requires t c =
     let left = c.loop-node.left.items in
     let under = popped_under weight c.args.nodes left c.pop.new.self.items (length left) c.pop.result
     (c.in-Some.node, c.in-Some.field-0-1) c.loop-node.invariant c.pop.ensures.items c.in-Some.is in
-    (omega (arith, under, c.decreases), tt)
+    let held : size-Expr c.into_inner.result ≡ size-Expr c.in-Some.node = ap size-Expr c.into_inner.ensures in
+    (omega (arith, under, held, c.decreases), tt)

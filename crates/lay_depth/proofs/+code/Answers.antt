@@ -1,5 +1,6 @@
 use Rattle.std.proofs.Common.{◌≡◌, ◌∙◌, ℕ, ◌+◌, max, true, sym, ap, arith}
 use Rattle.lay_code.specs.nodes.Code.{about_field_expr, form_of_item}
+use Rattle.lay_form.specs.Depth.{least_depth}
 use Rattle.lay_depth_nodes.specs.Depths.{counted, greatest}
 use Rattle.lay_depth_nodes.proofs.Loops.{all_told, all_turns, form_of, turn}
 use Rattle.lay_depth.specs.Parts.{arm_form, block_if, branch_form, expr_if, operand_form, step_form, target_form}
@@ -163,24 +164,20 @@ exprs::operand_depth-returns-in-Some g c =
 pub exprs::operand_depth-returns-in-None : goal.exprs::operand_depth-returns-in-None
 exprs::operand_depth-returns-in-None g c = let m = ap expr_if c.in-None.is in omega (arith, m)
 
-pub exprs::value_depth-returns-in-Some : goal.exprs::value_depth-returns-in-Some
-exprs::value_depth-returns-in-Some g c = let m = ap expr_if c.in-Some.is in omega (arith, m, c.expr_depth.ensures)
-
-pub exprs::value_depth-returns-in-None : goal.exprs::value_depth-returns-in-None
-exprs::value_depth-returns-in-None g c = let m = ap expr_if c.in-None.is in omega (arith, m)
-
 pub exprs::operands_depth-loop-operand-preserved : goal.exprs::operands_depth-loop-operand-preserved
 exprs::operands_depth-loop-operand-preserved g c =
+    let deep = rw c.get.ensures at c.expr_depth.ensures in
     turn operand_form c.args.operands.now _ _ _ _ _ c.loop-operand-test.true c.loop-operand-item.is c.loop-operand.invariant
-    c.expr_depth.ensures c.max-most.ensures
+    deep c.max-most.ensures
 
 pub exprs::operands_depth-returns : goal.exprs::operands_depth-returns
 exprs::operands_depth-returns g c = all_turns operand_form c.args.operands.now _ _ c.loop-operand-test.false c.loop-operand.invariant
 
 pub exprs::targets_depth-loop-target-preserved : goal.exprs::targets_depth-loop-target-preserved
 exprs::targets_depth-loop-target-preserved g c =
+    let deep = rw c.get.ensures at c.expr_depth.ensures in
     turn target_form c.args.targets.now _ _ _ _ _ c.loop-target-test.true c.loop-target-item.is c.loop-target.invariant
-    c.expr_depth.ensures c.max-most.ensures
+    deep c.max-most.ensures
 
 pub exprs::targets_depth-returns : goal.exprs::targets_depth-returns
 exprs::targets_depth-returns g c = all_turns target_form c.args.targets.now _ _ c.loop-target-test.false c.loop-target.invariant
@@ -195,7 +192,8 @@ exprs::fields_depth-returns g c = all_told about_field_expr c.args.fields.now _ 
 
 pub exprs::field_depth-returns-in-Named : goal.exprs::field_depth-returns-in-Named
 exprs::field_depth-returns-in-Named g c =
-    let m = of.field_value_is c.args.field.now c.in-Named.value c.in-Named.is in omega (arith, m, c.expr_depth.ensures)
+    let m = of.field_value_is c.args.field.now c.in-Named.value c.in-Named.is in
+    let n = rw c.get.ensures at c.expr_depth.ensures in omega (arith, m, n)
 
 pub exprs::field_depth-returns-in-Short : goal.exprs::field_depth-returns-in-Short
 exprs::field_depth-returns-in-Short g c =
@@ -241,7 +239,8 @@ exprs::step_depth-returns-in-Apply g c =
 
 pub exprs::step_depth-returns-in-Index : goal.exprs::step_depth-returns-in-Index
 exprs::step_depth-returns-in-Index g c =
-    let m = of.index_is c.args.step.now c.in-Index.index c.in-Index.is in omega (arith, m, c.expr_depth.ensures)
+    let m = of.index_is c.args.step.now c.in-Index.index c.in-Index.is in
+    let n = rw c.get.ensures at c.expr_depth.ensures in omega (arith, m, n)
 
 -- ---- blocks
 
@@ -267,12 +266,12 @@ pub blocks::stmt_depth-returns-in-None : goal.blocks::stmt_depth-returns-in-None
 blocks::stmt_depth-returns-in-None g c =
     let m = blocks.let_alone_is c.args.stmt.now c.in-Let.attrs c.in-Let.pat c.in-Let.ty c.in-Let.value c.in-Let.otherwise
     c.in-Let.is c.in-None.is in
-    omega (arith, m, c.pat_depth.ensures, c.type_or_none_depth.ensures, c.max-bound.ensures, c.value_depth.ensures, c.max-given.ensures)
+    omega (arith, m, c.pat_depth.ensures, c.type_or_none_depth.ensures, c.max-bound.ensures, c.operand_depth.ensures, c.max-given.ensures)
 
 pub blocks::stmt_depth-returns-in-Some : goal.blocks::stmt_depth-returns-in-Some
 blocks::stmt_depth-returns-in-Some g c =
     let bound = max_counted _ _ c.pat_depth.ensures c.type_or_none_depth.ensures c.max-bound.ensures in
-    let given = max_counted _ _ bound c.value_depth.ensures c.max-given.ensures in
+    let given = max_counted _ _ bound c.operand_depth.ensures c.max-given.ensures in
     let all = max_counted _ _ given (one_deeper _ c.block_depth.ensures c.deeper.ensures) c.max.ensures in
     all ∙ ap counted (sym (blocks.let_else_is c.args.stmt.now c.in-Let.attrs c.in-Let.pat c.in-Let.ty c.in-Let.value c.in-Let.otherwise
     c.in-Some.block c.in-Let.is c.in-Some.is))
@@ -284,38 +283,41 @@ blocks::stmt_depth-returns-in-Item g c =
 
 pub blocks::stmt_depth-returns-in-Expr : goal.blocks::stmt_depth-returns-in-Expr
 blocks::stmt_depth-returns-in-Expr g c =
-    let m = blocks.expr_is c.args.stmt.now c.in-Expr.attrs c.in-Expr.expr c.in-Expr.ended c.in-Expr.is in omega (arith, m, c.expr_depth.ensures)
+    let m = blocks.expr_is c.args.stmt.now c.in-Expr.attrs c.in-Expr.expr c.in-Expr.ended c.in-Expr.is in
+    let n = rw c.get-in-Expr.ensures at c.expr_depth.ensures in omega (arith, m, n)
 
 pub blocks::branches_depth-loop-branch-preserved : goal.blocks::branches_depth-loop-branch-preserved
 blocks::branches_depth-loop-branch-preserved g c =
+    let branch = c.branch-item.result in
+    let m = blocks.branch_is branch in
+    let n = rw c.get.ensures at c.expr_depth.ensures in
+    let one : c.max.result ≡ counted (least_depth (branch_form branch)) =
+    omega (arith, m, n, c.pat_or_none_depth.ensures, c.max-head.ensures, c.block_depth.ensures, c.max.ensures) in
     turn branch_form c.args.branches.now _ _ _ _ _ c.loop-branch-test.true c.branch-item.is c.loop-branch.invariant
-    c.branch_depth.ensures c.max-most.ensures
+    one c.max-most.ensures
 
 pub blocks::branches_depth-returns : goal.blocks::branches_depth-returns
 blocks::branches_depth-returns g c = all_turns branch_form c.args.branches.now _ _ c.loop-branch-test.false c.loop-branch.invariant
 
-pub blocks::branch_depth-returns : goal.blocks::branch_depth-returns
-blocks::branch_depth-returns g c =
-    let m = blocks.branch_is c.args.branch.now in
-    omega (arith, m, c.pat_or_none_depth.ensures, c.expr_depth.ensures, c.max.ensures, c.block_depth.ensures, c.max-2.ensures)
-
 pub blocks::arms_depth-loop-arm-preserved : goal.blocks::arms_depth-loop-arm-preserved
 blocks::arms_depth-loop-arm-preserved g c =
+    let arm = c.arm-item.result in
+    let m = blocks.arm_is arm true in
+    let n = rw c.get.ensures at c.expr_depth.ensures in
+    let one : c.max.result ≡ counted (least_depth (arm_form arm)) =
+    omega (arith, m, n, c.pat_depth.ensures, c.operand_depth.ensures, c.max-head.ensures, c.deeper.ensures, c.max.ensures) in
     turn arm_form c.args.arms.now _ _ _ _ _ c.loop-arm-test.true c.arm-item.is c.loop-arm.invariant
-    c.arm_depth.ensures c.max-most.ensures
+    one c.max-most.ensures
 
 pub blocks::arms_depth-returns : goal.blocks::arms_depth-returns
 blocks::arms_depth-returns g c = all_turns arm_form c.args.arms.now _ _ c.loop-arm-test.false c.loop-arm.invariant
 
-pub blocks::arm_depth-returns : goal.blocks::arm_depth-returns
-blocks::arm_depth-returns g c =
-    let m = blocks.arm_is c.args.arm.now true in
-    omega (arith, m, c.pat_depth.ensures, c.value_depth.ensures, c.max.ensures, c.expr_depth.ensures, c.deeper.ensures, c.max-2.ensures)
-
 -- ---- items
 
 pub items::item_depth-returns : goal.items::item_depth-returns
-items::item_depth-returns g c = let m = items.item_is c.args.item.now in omega (arith, m, c.kind_depth.ensures, c.deeper.ensures)
+items::item_depth-returns g c =
+    let m = items.item_is c.args.item.now in
+    let n = rw c.get.ensures at c.kind_depth.ensures in omega (arith, m, n, c.deeper.ensures)
 
 pub items::items_depth-loop-item-preserved : goal.items::items_depth-loop-item-preserved
 items::items_depth-loop-item-preserved g c =
@@ -377,7 +379,7 @@ items::kind_depth-returns-in-Enum g c =
 pub items::kind_depth-returns-in-Value : goal.items::kind_depth-returns-in-Value
 items::kind_depth-returns-in-Value g c =
     let m = items.valued_is c.args.kind.now c.in-Value.head c.in-Value.value c.in-Value.is in
-    omega (arith, m, c.value_head_depth.ensures, c.value_depth.ensures, c.max-in-Value.ensures)
+    omega (arith, m, c.value_head_depth.ensures, c.operand_depth.ensures, c.max-in-Value.ensures)
 
 pub items::kind_depth-returns-in-Trait : goal.items::kind_depth-returns-in-Trait
 items::kind_depth-returns-in-Trait g c =

@@ -52,7 +52,8 @@ operands::add_operands-loop-op-init g t c = nothing_yet refl
 
 pub operands::add_operands-loop-op-preserved : goal.operands::add_operands-loop-op-preserved
 operands::add_operands-loop-op-preserved g t c =
-    one_turn c.loop-op.invariant (adds_on c.add_operator-done.ensures c.add_expr-done.ensures)
+    let put = rw c.get.ensures at c.add_expr-done.ensures in
+    one_turn c.loop-op.invariant (adds_on c.add_operator-done.ensures put)
     (loop_step (λ (xs : List (Op × Expr)). stream_of (operands_form (map behind_op xs))) c.args.operands.now _ _ _
     c.loop-op-test.true c.loop-op-item.is (steps.operand_turn _ _))
 
@@ -67,7 +68,8 @@ operands::add_targets-loop-target-init g t c = nothing_yet refl
 
 pub operands::add_targets-loop-target-preserved : goal.operands::add_targets-loop-target-preserved
 operands::add_targets-loop-target-preserved g t c =
-    one_turn c.loop-target.invariant (adds_on c.add_expr-done.ensures c.add_assignment-done.ensures)
+    let put = rw c.get.ensures at c.add_expr-done.ensures in
+    one_turn c.loop-target.invariant (adds_on put c.add_assignment-done.ensures)
     (loop_step (λ (xs : List (Expr × Op)). fed c.loop-target.point (targets_form (map before_op xs) Done) [])
     c.args.targets.now _ _ _ c.loop-target-test.true c.loop-target-item.is (steps.target_turn _ _ _ Done))
 
@@ -114,14 +116,15 @@ exprs::add_tuple-returns-in-len2-up g t c =
 
 pub operands::add_field-returns-in-Named : goal.operands::add_field-returns-in-Named
 operands::add_field-returns-in-Named g t c =
-    adds (adds_on c.add_attrs-attrs.ensures (adds_on c.add_word-name.ensures
-    (adds_on c.add_text-colon.ensures c.add_expr.ensures)))
+    let put = rw c.get.ensures at c.add_expr.ensures in
+    adds (adds_on c.add_attrs-attrs.ensures (adds_on c.add_word-name.ensures (adds_on c.add_text-colon.ensures put)))
     (fields.named_field _ c.in-Named.attrs _ c.in-Named.name c.in-Named.value c.in-Named.is c.as_slice.ensures)
 
 pub operands::add_field-returns-in-Numbered : goal.operands::add_field-returns-in-Numbered
 operands::add_field-returns-in-Numbered g t c =
+    let put = rw c.get-in-Numbered.ensures at c.add_expr-in-Numbered.ensures in
     adds (adds_on c.add_attrs-attrs-in-Numbered.ensures (adds_on c.add_text-index.ensures
-    (adds_on c.add_text-colon-in-Numbered.ensures c.add_expr-in-Numbered.ensures)))
+    (adds_on c.add_text-colon-in-Numbered.ensures put)))
     (fields.numbered_field _ c.in-Numbered.attrs _ c.in-Numbered.index _ c.in-Numbered.value c.in-Numbered.is
     c.as_slice-in-Numbered.ensures c.as_bytes.ensures)
 
@@ -203,11 +206,13 @@ operands::add_step-returns-in-Apply g t c =
 
 pub operands::add_step-add_close-requires : goal.operands::add_step-add_close-requires
 operands::add_step-add_close-requires g t c =
-    steps.may_close_index (expr_told c.in-Index.index) (adds_on c.add_lead-opener.ensures c.add_expr-index.ensures)
+    let put = rw c.get.ensures at c.add_expr-index.ensures in
+    steps.may_close_index (expr_told c.in-Index.index) (adds_on c.add_lead-opener.ensures put)
 
 pub operands::add_step-returns-in-Index : goal.operands::add_step-returns-in-Index
 operands::add_step-returns-in-Index g t c =
-    adds (adds_on c.add_lead-opener.ensures (adds_on c.add_expr-index.ensures c.add_close.ensures))
+    let put = rw c.get.ensures at c.add_expr-index.ensures in
+    adds (adds_on c.add_lead-opener.ensures (adds_on put c.add_close.ensures))
     (steps.index_step c.args.point _ c.in-Index.index c.in-Index.is)
 
 pub operands::add_step-returns-in-Try : goal.operands::add_step-returns-in-Try
@@ -400,7 +405,8 @@ blocks::add_stmt-returns-in-Item g t c = adds c.add_item.ensures (item_stmt c.ar
 
 pub blocks::add_stmt-returns-in-Expr : goal.blocks::add_stmt-returns-in-Expr
 blocks::add_stmt-returns-in-Expr g t c =
-    adds (adds_on c.add_attrs-attrs-in-Expr.ensures (adds_on c.add_expr-expr.ensures c.add_if.ensures))
+    let put = rw c.get-in-Expr.ensures at c.add_expr-expr.ensures in
+    adds (adds_on c.add_attrs-attrs-in-Expr.ensures (adds_on put c.add_if.ensures))
     (expr_stmt c.args.stmt.now c.in-Expr.attrs _ c.in-Expr.expr c.in-Expr.ended c.in-Expr.is c.as_slice-in-Expr.ensures)
 
 pub blocks::add_otherwise-returns-in-Some : goal.blocks::add_otherwise-returns-in-Some
@@ -420,17 +426,15 @@ branches::add_condition-returns g t c =
 
 pub branches::add_branches-loop-index-preserved : goal.branches::add_branches-loop-index-preserved
 branches::add_branches-loop-index-preserved g t c =
-    adds (adds_on c.loop-index.invariant (adds_on c.add_else_word-done.ensures c.add_branch-done.ensures))
+    let head = rw c.get.ensures at c.add_condition-done.ensures in
+    adds (adds_on c.loop-index.invariant (adds_on c.add_else_word-done.ensures
+    (adds (adds_on head c.add_soft-done.ensures) (branch_parts _))))
     (turn branch_told [] else_between c.args.branches.now _ _ c.loop-index-test.true c.index-branches-index.is _ refl)
 
 pub branches::add_branches-returns : goal.branches::add_branches-returns
 branches::add_branches-returns g t c =
     adds c.loop-index.invariant
     (all_turns (λ (xs : List Branch). row [] else_between (map branch_told xs)) c.args.branches.now _ c.loop-index-test.false)
-
-pub branches::add_branch-returns : goal.branches::add_branch-returns
-branches::add_branch-returns g t c =
-    adds (adds_on c.add_condition-head.ensures c.add_soft.ensures) (branch_parts c.args.branch.now)
 
 pub branches::add_else-returns-in-Some : goal.branches::add_else-returns-in-Some
 branches::add_else-returns-in-Some g t c =
@@ -473,19 +477,23 @@ branches::add_arm-add_end-head-requires g t c =
 
 pub branches::add_arm-close_arm-requires : goal.branches::add_arm-close_arm-requires
 branches::add_arm-close_arm-requires g t c =
+    let put = rw c.get-2.ensures at c.add_expr-inner.ensures in
     may_close_arm (seen_as c.arm_body-kind.result) (expr_told c.args.arm.now.body)
-    (adds_on c.open_arm-opened.ensures c.add_expr-inner.ensures)
+    (adds_on c.open_arm-opened.ensures put)
 
 pub branches::add_arm-returns : goal.branches::add_arm-returns
 branches::add_arm-returns g t c =
+    let kind = rw c.get.ensures at c.arm_body-kind.ensures in
+    let put = rw c.get-2.ensures at c.add_expr-inner.ensures in
     adds (adds_on c.add_attrs-attrs.ensures (adds_on c.add_group-group.ensures (adds_on c.add_pat-pat.ensures
     (adds_on c.add_guard-guard.ensures (adds_on c.add_end-head.ensures (adds_on c.add_text-arrow.ensures
-    (adds_on c.add_break-never.ensures (adds_on c.open_arm-opened.ensures (adds_on c.add_expr-inner.ensures c.close_arm.ensures)))))))))
-    (arm_parts c.args.arm.now _ _ true c.as_slice.ensures c.arm_body-kind.ensures)
+    (adds_on c.add_break-never.ensures (adds_on c.open_arm-opened.ensures (adds_on put c.close_arm.ensures)))))))))
+    (arm_parts c.args.arm.now _ _ true c.as_slice.ensures kind)
 
 pub branches::add_guard-returns-in-Some : goal.branches::add_guard-returns-in-Some
 branches::add_guard-returns-in-Some g t c =
-    adds (adds_on c.add_text-word.ensures c.add_expr.ensures) (some_guard c.args.guard.now _ c.in-Some.is)
+    let put = rw c.get.ensures at c.add_expr.ensures in
+    adds (adds_on c.add_text-word.ensures put) (some_guard c.args.guard.now _ c.in-Some.is)
 
 -- ---- expressions that end in blocks
 
@@ -562,7 +570,8 @@ exprs::add_expr-returns-in-TypedClosure g t c =
 
 pub items::add_item-returns : goal.items::add_item-returns
 items::add_item-returns g t c =
-    adds (adds_on c.add_attrs-attrs.ensures c.add_kind.ensures) (item_parts c.args.item.now _ c.as_slice.ensures)
+    let put = rw c.get.ensures at c.add_kind.ensures in
+    adds (adds_on c.add_attrs-attrs.ensures put) (item_parts c.args.item.now _ c.as_slice.ensures)
 
 pub items::add_kind-returns-in-ExternCrate : goal.items::add_kind-returns-in-ExternCrate
 items::add_kind-returns-in-ExternCrate g t c =
@@ -696,5 +705,6 @@ items::add_valued-returns g t c =
 
 pub blocks::add_value-returns-in-Some : goal.blocks::add_value-returns-in-Some
 blocks::add_value-returns-in-Some g t c =
-    adds (adds_on c.add_text-equals.ensures (adds_on c.add_break-lead.ensures c.add_expr.ensures))
+    let put = rw c.get.ensures at c.add_expr.ensures in
+    adds (adds_on c.add_text-equals.ensures (adds_on c.add_break-lead.ensures put))
     (some_value c.args.value.now _ c.in-Some.is)

@@ -2,13 +2,14 @@
 
 use super::{BESIDE, each_spoils};
 use crate::trees::{
-    block, boxed_expr, bytes, expr, file_of_block, file_of_expr, file_of_item, file_of_pat,
-    file_of_stmt, file_of_type, item, name, one, pat, path_of_words, simple_path, tokens, ty,
+    block, boxed, boxed_expr, bytes, expr, file_of_block, file_of_expr, file_of_item, file_of_kind,
+    file_of_pat, file_of_stmt, file_of_type, item, item_kind, name, one, pat, path_of_words,
+    simple_path, tokens, ty,
 };
 use lay_token::List;
 use lay_tree::{
     Arm, Attr, ClosureParam, Expr, Field, FieldExpr, FieldPat, Fields, File, FuncParam,
-    GenericParam, Item, ItemKind, MetaInput, MetaPath, Param, ParamKind, Pat, Stmt, Ty, Variant,
+    GenericParam, ItemKind, MetaInput, MetaPath, Param, ParamKind, Pat, Stmt, Ty, Variant,
     Vis,
 };
 use std::alloc::Global;
@@ -33,11 +34,11 @@ fn before_item(alloc: Global, row: &str) -> Option<File> {
 /// `struct A { #[a] b: C }`
 fn before_field(alloc: Global, row: &str) -> Option<File> {
     let fields = one(alloc, field(alloc, row)?)?;
-    let mut item = item(alloc, b"struct A{}")?;
-    if let ItemKind::Struct { item } = &mut item.kind {
+    let mut kind = item_kind(alloc, b"struct A{}")?;
+    if let ItemKind::Struct { item } = &mut kind {
         item.fields = Fields::Named { fields };
     }
-    file_of_item(alloc, item)
+    file_of_kind(alloc, kind)
 }
 
 /// `#[a] b: C`
@@ -60,11 +61,11 @@ fn before_param(alloc: Global, row: &str) -> Option<File> {
         kind: ParamKind::Variadic,
     };
     let params = one(alloc, param)?;
-    let mut item = item(alloc, b"fn f(){}")?;
-    if let ItemKind::Function { head, .. } = &mut item.kind {
+    let mut kind = item_kind(alloc, b"fn f(){}")?;
+    if let ItemKind::Function { head, .. } = &mut kind {
         head.params = params;
     }
-    file_of_item(alloc, item)
+    file_of_kind(alloc, kind)
 }
 
 /// `fn f<#[a] B>() {}`
@@ -76,17 +77,17 @@ fn before_generic_param(alloc: Global, row: &str) -> Option<File> {
         default: None,
     };
     let params = one(alloc, param)?;
-    let mut item = item(alloc, b"fn f(){}")?;
-    if let ItemKind::Function { head, .. } = &mut item.kind {
+    let mut kind = item_kind(alloc, b"fn f(){}")?;
+    if let ItemKind::Function { head, .. } = &mut kind {
         head.generics.params = params;
     }
-    file_of_item(alloc, item)
+    file_of_kind(alloc, kind)
 }
 
 /// `#[a] b`, a statement
 fn before_statement(alloc: Global, row: &str) -> Option<File> {
     let attrs = side(alloc, row)?;
-    let expr = expr(alloc, "b")?;
+    let expr = boxed_expr(alloc, "b")?;
     file_of_stmt(
         alloc,
         Stmt::Expr {
@@ -142,11 +143,11 @@ fn before_variant(alloc: Global, row: &str) -> Option<File> {
         discriminant: None,
     };
     let variants = one(alloc, variant)?;
-    let mut item = item(alloc, b"enum A{}")?;
-    if let ItemKind::Enum { item } = &mut item.kind {
+    let mut kind = item_kind(alloc, b"enum A{}")?;
+    if let ItemKind::Enum { item } = &mut kind {
         item.variants = variants;
     }
-    file_of_item(alloc, item)
+    file_of_kind(alloc, kind)
 }
 
 /// `fn(#[a] _)`, a type
@@ -208,7 +209,7 @@ fn before_arm(alloc: Global, row: &str) -> Option<File> {
         attrs: side(alloc, row)?,
         pat: Pat::Wild,
         guard: None,
-        body: Expr::Underscore,
+        body: boxed(alloc, Expr::Underscore)?,
     };
     let given = one(alloc, arm)?;
     let mut matched = expr(alloc, "match b{}")?;
@@ -266,14 +267,14 @@ fn in_match(alloc: Global, row: &str) -> Option<File> {
 /// The item of a text, with an attribute in its body.
 fn in_item(alloc: Global, row: &str) -> Option<File> {
     let (text, row) = row.split_once(BESIDE)?;
-    let mut item = item(alloc, text.as_bytes())?;
-    set_within(&mut item, side(alloc, row)?);
-    file_of_item(alloc, item)
+    let mut kind = item_kind(alloc, text.as_bytes())?;
+    set_within(&mut kind, side(alloc, row)?);
+    file_of_kind(alloc, kind)
 }
 
 /// Sets the inner attributes of an item that has such.
-fn set_within(item: &mut Item, given: List<Attr>) {
-    match &mut item.kind {
+fn set_within(kind: &mut ItemKind, given: List<Attr>) {
+    match kind {
         ItemKind::Module { attrs, .. }
         | ItemKind::Trait { attrs, .. }
         | ItemKind::Impl { attrs, .. }

@@ -2,7 +2,7 @@
 
 use super::each_spoils;
 use crate::trees::{
-    boxed, boxed_expr, bytes, empty_block, expr, file_of_expr, file_of_tail, name, one, pat,
+    boxed, boxed_expr, bytes, empty_block, file_of_expr, file_of_tail, name, one, pat,
     path_of_words, written,
 };
 use lay_token::List;
@@ -123,7 +123,7 @@ fn steps_behind_operands(rt: HostRuntime) {
 fn condition(alloc: Global, text: &str) -> Option<File> {
     let branch = Branch {
         pat: None,
-        condition: expr(alloc, text)?,
+        condition: boxed_expr(alloc, text)?,
         body: empty_block(alloc),
     };
     file_of_branches(alloc, one(alloc, branch)?)
@@ -133,7 +133,7 @@ fn condition(alloc: Global, text: &str) -> Option<File> {
 fn behind_let(alloc: Global, text: &str) -> Option<File> {
     let branch = Branch {
         pat: Some(pat(alloc, "_")?),
-        condition: expr(alloc, text)?,
+        condition: boxed_expr(alloc, text)?,
         body: empty_block(alloc),
     };
     file_of_branches(alloc, one(alloc, branch)?)
@@ -145,7 +145,7 @@ fn branches(alloc: Global, row: &str) -> Option<File> {
     for text in row.split_whitespace() {
         let branch = Branch {
             pat: None,
-            condition: expr(alloc, text)?,
+            condition: boxed_expr(alloc, text)?,
             body: empty_block(alloc),
         };
         branches.push(branch).ok()?;
@@ -277,7 +277,7 @@ fn jumps(rt: HostRuntime) {
 
 /// `S { 0: a }`
 fn numbered_field(alloc: Global, text: &str) -> Option<File> {
-    let value = expr(alloc, "a")?;
+    let value = boxed_expr(alloc, "a")?;
     let index = bytes(alloc, text)?;
     file_of_field(
         alloc,
@@ -291,7 +291,7 @@ fn numbered_field(alloc: Global, text: &str) -> Option<File> {
 
 /// `S { a: b }`
 fn named_field(alloc: Global, text: &str) -> Option<File> {
-    let value = expr(alloc, "b")?;
+    let value = boxed_expr(alloc, "b")?;
     let name = name(alloc, text)?;
     file_of_field(
         alloc,

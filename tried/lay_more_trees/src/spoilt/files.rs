@@ -48,7 +48,7 @@ fn modules(alloc: Global, text: &str) -> Option<File> {
         inner = Item {
             attrs: List::new(alloc),
             vis: Vis::Inherited,
-            kind,
+            kind: boxed(alloc, kind)?,
         };
     }
     file_of_item(alloc, inner)

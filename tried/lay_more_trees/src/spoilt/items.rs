@@ -1,7 +1,10 @@
 //! Items: their visibilities, where they stand, and their heads.
 
 use super::{BESIDE, each_spoils};
-use crate::trees::{boxed, file_of_item, file_of_stmt, item, item_within, one, ty};
+use crate::trees::{
+    boxed, file_of_item, file_of_kind, file_of_stmt, item, item_kind, item_kind_within, item_within,
+    one, ty,
+};
 use lay_token::List;
 use lay_tree::{Fields, File, Item, ItemKind, Param, Predicate, Safety, Stmt, TupleField, Vis};
 use std::alloc::Global;
@@ -24,11 +27,11 @@ fn visible(alloc: Global, row: &str) -> Option<File> {
 /// `struct A(pub (a));`, with the visibility and the type of two texts.
 fn visible_field(alloc: Global, row: &str) -> Option<File> {
     let fields = one(alloc, tuple_field(alloc, row)?)?;
-    let mut item = item(alloc, b"struct A;")?;
-    if let ItemKind::Struct { item } = &mut item.kind {
+    let mut kind = item_kind(alloc, b"struct A;")?;
+    if let ItemKind::Struct { item } = &mut kind {
         item.fields = Fields::Tuple { fields };
     }
-    file_of_item(alloc, item)
+    file_of_kind(alloc, kind)
 }
 
 /// `pub (a)`
@@ -58,8 +61,8 @@ fn visibilities(rt: HostRuntime) {
 
 /// The last item within the last item of a text.
 fn member(alloc: Global, text: &str) -> Option<Item> {
-    let mut outside = item(alloc, text.as_bytes())?;
-    match &mut outside.kind {
+    let mut outside = item_kind(alloc, text.as_bytes())?;
+    match &mut outside {
         ItemKind::Module { items, .. }
         | ItemKind::Trait { items, .. }
         | ItemKind::Impl { items, .. }
@@ -72,9 +75,9 @@ fn member(alloc: Global, text: &str) -> Option<Item> {
 
 /// The item of a text with this one in its body.
 fn around(alloc: Global, text: &[u8], within: Item) -> Option<File> {
-    let mut outside = item(alloc, text)?;
+    let mut outside = item_kind(alloc, text)?;
     let given = one(alloc, within)?;
-    match &mut outside.kind {
+    match &mut outside {
         ItemKind::Module { items, .. }
         | ItemKind::Trait { items, .. }
         | ItemKind::Impl { items, .. }
@@ -83,7 +86,7 @@ fn around(alloc: Global, text: &[u8], within: Item) -> Option<File> {
         }
         _ => {}
     }
-    file_of_item(alloc, outside)
+    file_of_kind(alloc, outside)
 }
 
 /// The item within that of a text, by itself.
@@ -155,8 +158,8 @@ fn sites(rt: HostRuntime) {
 
 /// The parameter that a text reads to.
 fn param(alloc: Global, text: &str) -> Option<Param> {
-    let mut item = item_within(alloc, "fn f(", text, "){}")?;
-    match &mut item.kind {
+    let mut kind = item_kind_within(alloc, "fn f(", text, "){}")?;
+    match &mut kind {
         ItemKind::Function { head, .. } => {
             mem::replace(&mut head.params, List::new(alloc))
                 .into_vec()
@@ -172,24 +175,24 @@ fn with_params(alloc: Global, row: &str) -> Option<File> {
     for text in row.split(BESIDE) {
         params.push(param(alloc, text)?).ok()?;
     }
-    let mut item = item(alloc, b"fn f(){}")?;
-    if let ItemKind::Function { head, .. } = &mut item.kind {
+    let mut kind = item_kind(alloc, b"fn f(){}")?;
+    if let ItemKind::Function { head, .. } = &mut kind {
         head.params = params;
     }
-    file_of_item(alloc, item)
+    file_of_kind(alloc, kind)
 }
 
 /// `unsafe fn f() {}`, or what else the row says.
 fn safe_or_not(alloc: Global, row: &str) -> Option<File> {
-    let mut item = item(alloc, b"fn f(){}")?;
-    if let ItemKind::Function { head, .. } = &mut item.kind {
+    let mut kind = item_kind(alloc, b"fn f(){}")?;
+    if let ItemKind::Function { head, .. } = &mut kind {
         head.safety = match row {
             "safe" => Some(Safety::Safe),
             "unsafe" => Some(Safety::Unsafe),
             _ => None,
         };
     }
-    file_of_item(alloc, item)
+    file_of_kind(alloc, kind)
 }
 
 #[test]
@@ -204,11 +207,11 @@ fn functions(rt: HostRuntime) {
 
 /// The implementation of a text, without its generics.
 fn without_generics(alloc: Global, text: &str) -> Option<File> {
-    let mut item = item(alloc, text.as_bytes())?;
-    if let ItemKind::Impl { head, .. } = &mut item.kind {
+    let mut kind = item_kind(alloc, text.as_bytes())?;
+    if let ItemKind::Impl { head, .. } = &mut kind {
         head.generics.params = List::new(alloc);
     }
-    file_of_item(alloc, item)
+    file_of_kind(alloc, kind)
 }
 
 /// `struct A where b:;`, of the type of a text
@@ -219,11 +222,11 @@ fn bounded(alloc: Global, text: &str) -> Option<File> {
         bounds: List::new(alloc),
     };
     let predicates = one(alloc, predicate)?;
-    let mut item = item(alloc, b"struct A;")?;
-    if let ItemKind::Struct { item } = &mut item.kind {
+    let mut kind = item_kind(alloc, b"struct A;")?;
+    if let ItemKind::Struct { item } = &mut kind {
         item.wheres.predicates = predicates;
     }
-    file_of_item(alloc, item)
+    file_of_kind(alloc, kind)
 }
 
 #[test]

@@ -4,8 +4,8 @@ ghost use Rattle.lay_node.specs.tokens.Listing.{kind_of, turned};
 
 use super::{BESIDE, each_spoils};
 use crate::trees::{
-    boxed, bytes, call, file_of_expr, file_of_item, file_of_kind, file_of_type, item, kind_called,
-    name, one, simple_path, tokens,
+    boxed, bytes, call, file_of_expr, file_of_kind, file_of_type, item_kind, kind_called, name, one,
+    simple_path, tokens,
 };
 use lay_token::{Kind, List};
 use lay_tree::{Expr, Fields, File, ItemKind, Listed, Tokens, Ty, Variant, Vis};
@@ -122,11 +122,11 @@ fn repeat(alloc: Global, text: &str) -> Option<File> {
 /// `enum A { B = c }`
 fn discriminant(alloc: Global, text: &str) -> Option<File> {
     let variants = one(alloc, variant(alloc, text)?)?;
-    let mut item = item(alloc, b"enum A{}")?;
-    if let ItemKind::Enum { item } = &mut item.kind {
+    let mut kind = item_kind(alloc, b"enum A{}")?;
+    if let ItemKind::Enum { item } = &mut kind {
         item.variants = variants;
     }
-    file_of_item(alloc, item)
+    file_of_kind(alloc, kind)
 }
 
 /// `B = c`

@@ -2,7 +2,7 @@
 
 use super::each_spoils;
 use crate::trees::{
-    file_of_expr, file_of_item, file_of_kind, file_of_pat, file_of_type, item, literal, one, word,
+    file_of_expr, file_of_kind, file_of_pat, file_of_type, item_kind, literal, one, word,
 };
 use lay_token::List;
 use lay_tree::{
@@ -113,11 +113,11 @@ fn function(alloc: Global, row: &str) -> Option<File> {
     let abi = Abi {
         name: Some(literal(alloc, row)?),
     };
-    let mut item = item(alloc, b"fn f(){}")?;
-    if let ItemKind::Function { head, .. } = &mut item.kind {
+    let mut kind = item_kind(alloc, b"fn f(){}")?;
+    if let ItemKind::Function { head, .. } = &mut kind {
         head.abi = Some(abi);
     }
-    file_of_item(alloc, item)
+    file_of_kind(alloc, kind)
 }
 
 /// `extern "C" {}`

@@ -27,7 +27,7 @@ fn op(text: &str) -> Option<Op> {
 
 /// Two operands and the operator between them.
 fn binary(alloc: Global, first: Expr, op: Op, second: Expr) -> Option<Expr> {
-    let rest = one(alloc, (op, second))?;
+    let rest = one(alloc, (op, boxed(alloc, second)?))?;
     let first = boxed(alloc, first)?;
     Some(Expr::Chain { first, rest })
 }
@@ -91,8 +91,8 @@ fn before_less_or_equal(alloc: Global, text: &str) -> Option<File> {
 
 /// `_ + a + _`
 fn between_sums(alloc: Global, text: &str) -> Option<File> {
-    let mut rest = one(alloc, (Op::Add, expr(alloc, text)?))?;
-    rest.push((Op::Add, Expr::Underscore)).ok()?;
+    let mut rest = one(alloc, (Op::Add, boxed_expr(alloc, text)?))?;
+    rest.push((Op::Add, boxed(alloc, Expr::Underscore)?)).ok()?;
     let first = boxed(alloc, Expr::Underscore)?;
     file_of_expr(alloc, Expr::Chain { first, rest })
 }
@@ -101,7 +101,7 @@ fn between_sums(alloc: Global, text: &str) -> Option<File> {
 fn chain(alloc: Global, row: &str) -> Option<File> {
     let mut rest = List::new(alloc);
     for text in row.split_whitespace() {
-        rest.push((op(text)?, Expr::Underscore)).ok()?;
+        rest.push((op(text)?, boxed(alloc, Expr::Underscore)?)).ok()?;
     }
     let first = boxed(alloc, Expr::Underscore)?;
     file_of_expr(alloc, Expr::Chain { first, rest })
@@ -255,14 +255,14 @@ fn inclusive_range(alloc: Global, text: &str) -> Option<File> {
 
 /// `a = _`
 fn target(alloc: Global, text: &str) -> Option<File> {
-    let targets = one(alloc, (expr(alloc, text)?, Op::Set))?;
+    let targets = one(alloc, (boxed_expr(alloc, text)?, Op::Set))?;
     let value = boxed(alloc, Expr::Underscore)?;
     file_of_expr(alloc, Expr::Assign { targets, value })
 }
 
 /// `_ = a`
 fn assigned(alloc: Global, text: &str) -> Option<File> {
-    let targets = one(alloc, (Expr::Underscore, Op::Set))?;
+    let targets = one(alloc, (boxed(alloc, Expr::Underscore)?, Op::Set))?;
     let value = boxed_expr(alloc, text)?;
     file_of_expr(alloc, Expr::Assign { targets, value })
 }
@@ -271,7 +271,7 @@ fn assigned(alloc: Global, text: &str) -> Option<File> {
 fn assignments(alloc: Global, row: &str) -> Option<File> {
     let mut targets = List::new(alloc);
     for text in row.split_whitespace() {
-        targets.push((Expr::Underscore, op(text)?)).ok()?;
+        targets.push((boxed(alloc, Expr::Underscore)?, op(text)?)).ok()?;
     }
     let value = boxed(alloc, Expr::Underscore)?;
     file_of_expr(alloc, Expr::Assign { targets, value })
@@ -326,7 +326,7 @@ fn range_first(alloc: Global, text: &str) -> Option<File> {
 
 /// `a = _`, a statement
 fn assigned_first(alloc: Global, text: &str) -> Option<File> {
-    let targets = one(alloc, (expr(alloc, text)?, Op::Set))?;
+    let targets = one(alloc, (boxed_expr(alloc, text)?, Op::Set))?;
     let value = boxed(alloc, Expr::Underscore)?;
     file_of_tail(alloc, Expr::Assign { targets, value })
 }

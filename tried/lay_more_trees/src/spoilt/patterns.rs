@@ -2,8 +2,8 @@
 
 use super::{BESIDE, each_spoils};
 use crate::trees::{
-    boxed, boxed_expr, bytes, file_of_expr, file_of_item, file_of_pat, file_of_stmt, item, name,
-    one, pat, path_of_words, ty,
+    boxed, boxed_expr, bytes, file_of_expr, file_of_kind, file_of_pat, file_of_stmt, item_kind,
+    name, one, pat, path_of_words, ty,
 };
 use lay_token::{Kind, List};
 use lay_tree::{
@@ -83,11 +83,11 @@ fn file_of_param(alloc: Global, kind: ParamKind) -> Option<File> {
         kind,
     };
     let params = one(alloc, param)?;
-    let mut item = item(alloc, b"fn f(){}")?;
-    if let ItemKind::Function { head, .. } = &mut item.kind {
+    let mut kind = item_kind(alloc, b"fn f(){}")?;
+    if let ItemKind::Function { head, .. } = &mut kind {
         head.params = params;
     }
-    file_of_item(alloc, item)
+    file_of_kind(alloc, kind)
 }
 
 /// `a @ B`

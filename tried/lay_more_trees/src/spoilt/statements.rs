@@ -11,8 +11,8 @@ use std::alloc::Global;
 
 /// `a b`, two statements without a `;`
 fn before_another(alloc: Global, text: &str) -> Option<File> {
-    let mut stmts = one(alloc, unended(alloc, expr(alloc, text)?))?;
-    stmts.push(unended(alloc, expr(alloc, "b")?)).ok()?;
+    let mut stmts = one(alloc, unended(alloc, expr(alloc, text)?)?)?;
+    stmts.push(unended(alloc, expr(alloc, "b")?)?).ok()?;
     file_of_block(alloc, block_of(alloc, stmts))
 }
 
@@ -20,11 +20,11 @@ fn before_another(alloc: Global, text: &str) -> Option<File> {
 fn ended_before_another(alloc: Global, text: &str) -> Option<File> {
     let first = Stmt::Expr {
         attrs: List::new(alloc),
-        expr: expr(alloc, text)?,
+        expr: boxed_expr(alloc, text)?,
         ended: true,
     };
     let mut stmts = one(alloc, first)?;
-    stmts.push(unended(alloc, expr(alloc, "b")?)).ok()?;
+    stmts.push(unended(alloc, expr(alloc, "b")?)?).ok()?;
     file_of_block(alloc, block_of(alloc, stmts))
 }
 
@@ -47,7 +47,7 @@ fn before_else(alloc: Global, text: &str) -> Option<File> {
     let value = if text.is_empty() {
         None
     } else {
-        Some(expr(alloc, text)?)
+        Some(boxed_expr(alloc, text)?)
     };
     let pat = pat(alloc, "A")?;
     file_of_stmt(
@@ -78,7 +78,7 @@ fn arm(alloc: Global, text: &str) -> Option<File> {
         attrs: List::new(alloc),
         pat: pat(alloc, "_")?,
         guard: None,
-        body: expr(alloc, text)?,
+        body: boxed_expr(alloc, text)?,
     };
     let arms = one(alloc, arm)?;
     let scrutinee = boxed_expr(alloc, "_")?;

@@ -2,7 +2,7 @@
 
 use super::each_spoils;
 use crate::trees::{
-    boxed, empty_block, file_of_expr, file_of_pat, file_of_type, item_within, name, one, path,
+    boxed, empty_block, file_of_expr, file_of_pat, file_of_type, item_kind_within, name, one, path,
     path_of_words, ty, word,
 };
 use lay_token::List;
@@ -178,8 +178,8 @@ fn bounds(alloc: Global, text: &str) -> Option<List<Bound>> {
     if text.is_empty() {
         return Some(List::new(alloc));
     }
-    let mut item = item_within(alloc, "trait A:", text, "{}")?;
-    match &mut item.kind {
+    let mut kind = item_kind_within(alloc, "trait A:", text, "{}")?;
+    match &mut kind {
         ItemKind::Trait { head, .. } => { Some(mem::replace(&mut head.bounds, List::new(alloc))) }
         _ => None,
     }

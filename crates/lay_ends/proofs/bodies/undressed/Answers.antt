@@ -1,4 +1,4 @@
-use Rattle.std.proofs.Common.{ℕ, suc, ◌≡◌, ◌+◌, ◌∙◌, true, sym, ap, subst, arith}
+use Rattle.std.proofs.Common.{ℕ, suc, ◌≡◌, ◌+◌, ◌∙◌, true, Some, None, sym, ap, subst, arith}
 use Rattle.std.specs.Option.{unwrap_or}
 use Rattle.lay_code.specs.nodes.Blocks.{is_lone_body}
 use Rattle.lay_code.specs.nodes.Code.{about_expr}
@@ -11,17 +11,18 @@ use Rattle.lay_ends.proofs.bodies.undressed.Goals as goal
 pub loop-body-smaller : goal.loop-body-smaller
 loop-body-smaller c =
     let h = c.held.ensures in
-    let same : c.unwrap_or-body.result ≡ h.0 = c.unwrap_or-body.ensures ∙ ap (λ o. unwrap_or o expr.Underscore) h.2 in
-    let less : layers c.unwrap_or-body.result ≡ layers h.0 = ap layers same in
-    let more : layers c.loop-body.body ≡ suc (layers h.0) = ap layers h.1 ∙ one_layer h.0 in
-    omega (arith, less, more)
+    let same : c.in-Some.inner ≡ h.0 = ap (λ o. unwrap_or o expr.Underscore) (sym c.in-Some.is ∙ h.2) in
+    let less : layers c.in-Some.inner ≡ layers h.0 = ap layers same in
+    let lone : layers c.loop-body.body ≡ suc (layers h.0) = ap layers h.1 ∙ one_layer h.0 in
+    omega (arith, less, lone)
 
 pub loop-body-preserved : goal.loop-body-preserved
 loop-body-preserved c =
     let h = c.held.ensures in
-    let same : c.unwrap_or-body.result ≡ h.0 = c.unwrap_or-body.ensures ∙ ap (λ o. unwrap_or o expr.Underscore) h.2 in
+    let same : c.in-Some.inner ≡ h.0 = ap (λ o. unwrap_or o expr.Underscore) (sym c.in-Some.is ∙ h.2) in
     let turns = c.loop-body.invariant.0 in
-    let lone = subst (λ (x : Expr). is_lone_body (about_expr x).kind ≡ true) h.1 (sym c.loop-body-test.ensures) in (
+    let bare = rw c.get.ensures at c.loop-body-test.ensures in
+    let lone = subst (λ (x : Expr). is_lone_body (about_expr x).kind ≡ true) h.1 (sym bare) in (
       suc turns,
       λ n.
           let one : suc turns + n ≡ turns + suc n = omega arith in
@@ -34,4 +35,5 @@ unfolding undressed
 returns c =
     let turns = c.loop-body.invariant.0 in
     let none : turns ≡ turns + 0 = omega arith in
-    (turns, (ap (λ k. undressed k c.args.expr) none ∙ c.loop-body.invariant.1 0, sym c.loop-body-test.ensures))
+    let bare = rw c.get.ensures at c.loop-body-test.ensures in
+    (turns, (ap (λ k. undressed k c.args.expr) none ∙ c.loop-body.invariant.1 0, sym bare))

@@ -1,4 +1,7 @@
-use Rattle.std.proofs.Common.{◌∙◌}
+use Rattle.std.proofs.Common.{ap, ◌∙◌}
+use Rattle.lay_code.specs.nodes.Code.{about_expr}
+use Rattle.lay_code.specs.nodes.Ends.{ends_in_brace}
+use Rattle.lay_code.specs.declared.exprs.Expr.{Expr}
 use Rattle.lay_ends.proofs.ExprBraces.{no_cast, no_chain, no_steps, of_assign, of_call, of_cast, of_chain, of_closure, of_if, of_lit, of_path, of_unary, some_steps}
 use Rattle.lay_ends.proofs.brace_ends.last_part.Goals as goal
 
@@ -15,14 +18,15 @@ returns-in-Call-clause-told c = c.is_brace.ensures ∙ of_call c.args.expr.now c
 pub returns-in-Some-clause-told : goal.returns-in-Some-clause-told
 returns-in-Some-clause-told c =
     let x = c.in-Chain in
-    of_chain c.args.expr.now x.first x.rest c.as_slice.result.now c.in-Some.field-0.now x.is c.as_slice.ensures
+    ap (λ (y : Expr). ends_in_brace (about_expr y).form) c.get.ensures
+    ∙ of_chain c.args.expr.now x.first x.rest c.as_slice.result.now c.in-Some.field-0.now x.is c.as_slice.ensures
     c.in-Some.ensures.value
 
 pub returns-in-None-clause-told : goal.returns-in-None-clause-told
 returns-in-None-clause-told c =
     let x = c.in-Chain in
-    no_chain c.args.expr.now x.first c.get.result.now x.rest c.as_slice.result.now x.is c.as_slice.ensures
-    c.in-None.ensures.value c.get.ensures
+    no_chain c.args.expr.now x.first c.get-in-None.result.now x.rest c.as_slice.result.now x.is c.as_slice.ensures
+    c.in-None.ensures.value c.get-in-None.ensures
 
 pub returns-in-Some-last-clause-told : goal.returns-in-Some-last-clause-told
 returns-in-Some-last-clause-told c =

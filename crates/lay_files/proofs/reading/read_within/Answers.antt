@@ -9,7 +9,7 @@ use Rattle.lay_files.proofs.reading.read_within.Goals as goal
 
 pub read_file-requires-clause-lexed : goal.read_file-requires-clause-lexed
 read_file-requires-clause-lexed c =
-    let nested = c.in-Ok-nest.ensures.0 in
+    let nested = c.in-Ok-nest.ensures.answer.0 in
     let text = c.in-Ok.source.text in
     let start = c.in-Ok.source.start in
     record {
@@ -39,17 +39,17 @@ pub returns-in-Err-nest : goal.returns-in-Err-nest
 returns-in-Err-nest c =
     placed c.args.depth c.args.bytes.now (seen c.in-Ok.source) c.in-Err-nest.error c.placed-in-Err-nest.result c.in-Ok.ensures.answer
     (unnested c.args.depth c.args.bytes.now (seen c.in-Ok.source) c.in-Ok-lex.tokens c.in-Err-nest.error c.in-Ok.ensures.answer
-    c.in-Ok-lex.ensures.answer c.in-Err-nest.ensures)
+    c.in-Ok-lex.ensures.answer c.in-Err-nest.ensures.answer)
     (rw c.as_slice-in-Err-nest.ensures at c.placed-in-Err-nest.ensures)
 
 pub returns-in-Ok-read_file : goal.returns-in-Ok-read_file
 returns-in-Ok-read_file c =
     read_as c.args.depth c.args.bytes.now (seen c.in-Ok.source) c.in-Ok-lex.tokens c.in-Ok-nest.nested c.in-Ok-read_file.file
-    c.in-Ok.ensures.answer c.in-Ok-lex.ensures.answer c.in-Ok-nest.ensures.0 c.in-Ok-nest.ensures.1 c.in-Ok-read_file.ensures
+    c.in-Ok.ensures.answer c.in-Ok-lex.ensures.answer c.in-Ok-nest.ensures.answer.0 c.in-Ok-nest.ensures.answer.1 c.in-Ok-read_file.ensures
 
 pub returns : goal.returns
 returns c =
     placed c.args.depth c.args.bytes.now (seen c.in-Ok.source) c.in-Err-read_file.error c.placed-in-Err-read_file.result c.in-Ok.ensures.answer
     (read_no_file c.args.depth c.args.bytes.now (seen c.in-Ok.source) c.in-Ok-lex.tokens c.in-Ok-nest.nested c.in-Err-read_file.error
-    c.in-Ok.ensures.answer c.in-Ok-lex.ensures.answer c.in-Ok-nest.ensures.0 c.in-Ok-nest.ensures.1 c.in-Err-read_file.ensures)
+    c.in-Ok.ensures.answer c.in-Ok-lex.ensures.answer c.in-Ok-nest.ensures.answer.0 c.in-Ok-nest.ensures.answer.1 c.in-Err-read_file.ensures)
     (rw c.as_slice-in-Err-read_file.ensures at c.placed-in-Err-read_file.ensures)

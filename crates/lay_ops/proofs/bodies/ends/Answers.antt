@@ -12,4 +12,5 @@ pub returns-else-ended : goal.returns-else-ended
 returns-else-ended c =
     let x = c.in-Expr in
     let told = of_stmt c.args.stmt.now x.attrs x.expr x.ended x.is in
-    rw (told, c.if-ended.false) c.is_block_like.ensures
+    let like = rw c.get.ensures at c.is_block_like.ensures in
+    rw (told, c.if-ended.false) like

@@ -1,18 +1,22 @@
 use Rattle.std.proofs.Common.{ap, ◌∙◌}
+use Rattle.lay_code.specs.nodes.Code.{about_expr}
 use Rattle.lay_code.specs.nodes.Exprs.{is_open, is_typed}
+use Rattle.lay_code.specs.declared.exprs.Expr.{Expr}
 use Rattle.lay_ops.proofs.ExprEnds.{no_chain, of_assign, of_cast, of_chain, of_path, unary_open, unary_typed}
 use Rattle.lay_ops.proofs.expr_ends.expr_end.Goals as goal
 
 pub returns-in-Some-clause-open : goal.returns-in-Some-clause-open
 returns-in-Some-clause-open c =
     let x = c.in-Chain in
-    ap is_open (of_chain c.args.expr.now x.first x.rest c.as_slice.result.now c.in-Some.field-0.now x.is c.as_slice.ensures
+    ap (λ (y : Expr). is_open (about_expr y).tail) c.get.ensures
+    ∙ ap is_open (of_chain c.args.expr.now x.first x.rest c.as_slice.result.now c.in-Some.field-0.now x.is c.as_slice.ensures
     c.in-Some.ensures.value)
 
 pub returns-in-Some-clause-typed : goal.returns-in-Some-clause-typed
 returns-in-Some-clause-typed c =
     let x = c.in-Chain in
-    ap is_typed (of_chain c.args.expr.now x.first x.rest c.as_slice.result.now c.in-Some.field-0.now x.is c.as_slice.ensures
+    ap (λ (y : Expr). is_typed (about_expr y).tail) c.get.ensures
+    ∙ ap is_typed (of_chain c.args.expr.now x.first x.rest c.as_slice.result.now c.in-Some.field-0.now x.is c.as_slice.ensures
     c.in-Some.ensures.value)
 
 pub returns-in-None-clause-open : goal.returns-in-None-clause-open
@@ -27,11 +31,11 @@ returns-in-None-clause-typed c =
 
 pub returns-in-Unary-clause-open : goal.returns-in-Unary-clause-open
 returns-in-Unary-clause-open c =
-    let x = c.in-Unary in unary_open c.args.expr.now x.operand c.get.result.now x.prefixes x.is c.get.ensures
+    let x = c.in-Unary in unary_open c.args.expr.now x.operand c.get-in-Unary.result.now x.prefixes x.is c.get-in-Unary.ensures
 
 pub returns-in-Unary-clause-typed : goal.returns-in-Unary-clause-typed
 returns-in-Unary-clause-typed c =
-    let x = c.in-Unary in unary_typed c.args.expr.now x.operand c.get.result.now x.prefixes x.is c.get.ensures
+    let x = c.in-Unary in unary_typed c.args.expr.now x.operand c.get-in-Unary.result.now x.prefixes x.is c.get-in-Unary.ensures
 
 pub returns-in-Assign-clause-open : goal.returns-in-Assign-clause-open
 returns-in-Assign-clause-open c =

@@ -11,9 +11,9 @@ pub returns-in_err-text : goal.returns-in_err-text
 returns-in_err-text g c =
     went_well c.in_ok-before.was
     (last (call_on c.in_ok-brk.ensures (leave_on c.in_err-text.ensures c.from_residual-in_err-text.ensures.1))
-    (operator_row c.op_text.ensures))
+    (operator_row c.text.ensures))
 
 pub returns : goal.returns
 returns g c =
     went_well c.in_ok-before.was
-    (last (call_on c.in_ok-brk.ensures (call_on c.in_ok-text.ensures c.text-2.ensures)) (operator_row c.op_text.ensures))
+    (last (call_on c.in_ok-brk.ensures (call_on c.in_ok-text.ensures c.text-3.ensures)) (operator_row c.text.ensures))

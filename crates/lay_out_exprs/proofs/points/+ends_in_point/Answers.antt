@@ -16,8 +16,9 @@ ends_in_point-returns-in-empty t c =
 
 pub ends_in_point-returns-in-len1-up : goal.ends_in_point-returns-in-len1-up
 ends_in_point-returns-in-len1-up t c =
+    let last = rw c.get-in-len1-up.ensures at c.ends_in_point-in-len1-up.ensures in
     of.last_operand c.args.point _ c.in-Chain.first c.in-Chain.rest _ c.index-operand.result _ c.in-Chain.is c.as_slice.ensures
-    c.in-len1-up.len_at_least c.ends_in_point-in-len1-up.ensures
+    c.in-len1-up.len_at_least last
 
 pub ends_in_point-returns-then-is_empty : goal.ends_in_point-returns-then-is_empty
 ends_in_point-returns-then-is_empty t c =

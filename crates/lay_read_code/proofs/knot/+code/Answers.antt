@@ -7,12 +7,12 @@ use Rattle.lay_code.specs.reader.Code.{expr_at, item_at}
 use Rattle.lay_code.specs.reader.Exprs.{expr_by}
 use Rattle.lay_code.specs.reader.Item.{fn_body, item_body, items_by, kind_at}
 use Rattle.lay_read_tokens.proofs.Left.{shorter}
-use Rattle.lay_read_blocks.proofs.Left.{item_left}
+use Rattle.lay_read_shared.proofs.Left.{item_left}
 use Rattle.lay_read_tokens.proofs.Steps.{lost}
 use Rattle.lay_read_tokens.proofs.Turns.{repeat-start, repeat-end, repeat-none, repeat-step}
 use Rattle.lay_read_tokens.proofs.Holding.{holding_more}
 use Rattle.lay_read_types.proofs.Steps.{found_by}
-use Rattle.lay_read_blocks.specs.Answers.{code_within}
+use Rattle.lay_read_shared.specs.Code.{code_within}
 use Rattle.lay_read_blocks.proofs.Second.{second_found, second_stopped, second_within}
 use Rattle.lay_read_code.specs.Begun.{begun_at, deeper, value_end}
 use Rattle.lay_read_code.proofs.ItemBodies.{block_within, braced, kind_no_block, kind_no_body, kind_no_value, kind_none, kind_whole, kind_with_block, kind_with_body, kind_with_value, made_found, value_within}
@@ -138,9 +138,11 @@ pub item_ahead-returns-clause-read : goal.item_ahead-returns-clause-read
 item_ahead-returns-clause-read t c =
     let some : 0 < c.args.depth = omega arith in
     let kind = c.in_ok-kind.kind in
+    let node = c.in_ok-node.node in
+    let same : node ≡ kind.node = c.in_ok-node.ensures.ok in
     item_kept c.args.site c.args.depth c.args.at.now some c.in_ok-attrs.attrs c.attrs_ahead.new.at c.in_ok-attrs.ensures
-    c.in_ok-vis.vis c.vis_ahead.new.at c.in_ok-vis.ensures kind.node kind.need c.read_kind.new.at c.in_ok-kind.ensures.read
-    c.may_have-keeps.result c.may_have-keeps.ensures c.kept_if.result c.kept_if.ensures
+    c.in_ok-vis.vis c.vis_ahead.new.at c.in_ok-vis.ensures node kind.need c.read_kind.new.at (rw same c.in_ok-kind.ensures.read)
+    c.may_have-keeps.result (rw same c.may_have-keeps.ensures) c.kept_if.result c.kept_if.ensures
 
 -- ---- what items are
 

@@ -1,7 +1,8 @@
 use Rattle.std.proofs.Common.{◌≡◌, ◌-◌, ap, arith}
-use Rattle.lay_fronts.specs.ArmFronts.{alone_arm}
+use Rattle.lay_alone.specs.ArmFronts.{alone_arm}
 use Rattle.lay_read_types.proofs.Steps.{found_by}
-use Rattle.lay_read_blocks.specs.Answers.{code_within, deeper_arm}
+use Rattle.lay_read_shared.specs.Code.{code_within}
+use Rattle.lay_read_blocks.specs.Answers.{deeper_arm}
 use Rattle.lay_read_code.proofs.Steps.{arm_alone_is}
 use Rattle.lay_read_code.proofs.reads.arm_ahead.Goals as goal
 

@@ -4,7 +4,7 @@ use Rattle.lay_code.specs.Operators.{prefix}
 use Rattle.lay_code.specs.reader.Exprs.{one_prefix}
 use Rattle.lay_read_tokens.proofs.Left.{shorter}
 use Rattle.lay_read_tokens.proofs.Turns.{repeat-start, repeat-end, repeat-step}
-use Rattle.lay_read_blocks.proofs.ExprsLeft.{prefix_left}
+use Rattle.lay_read_shared.proofs.ExprsLeft.{prefix_left}
 use Rattle.lay_read_exprs.proofs.Steps.{prefix_read}
 use Rattle.lay_read_exprs.proofs.prefixes.read_prefixes.Goals as goal
 

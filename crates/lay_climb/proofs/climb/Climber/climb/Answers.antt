@@ -4,7 +4,7 @@ use Rattle.lay_code.specs.declared.exprs.Expr.{Expr}
 use Rattle.lay_code.specs.reader.Exprs.{accepted}
 use Rattle.lay_read_tokens.proofs.Steps.{lost}
 use Rattle.lay_read_types.proofs.Steps.{found_by}
-use Rattle.lay_read_blocks.specs.Answers.{code_within}
+use Rattle.lay_read_shared.specs.Code.{code_within}
 use Rattle.lay_climb.specs.Answers.{climb_once, climbed}
 use Rattle.lay_climb.proofs.Climbing.{climb_done, climbs_none, climbs_on, level_reached}
 use Rattle.lay_climb.proofs.climb.Climber.climb.Goals as goal

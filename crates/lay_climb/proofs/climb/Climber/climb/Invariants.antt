@@ -1,5 +1,5 @@
 use Rattle.std.proofs.Common.{◌≡◌, ◌≤◌, ◌+◌}
-use Rattle.lay_read_blocks.specs.Answers.{code_within}
+use Rattle.lay_read_shared.specs.Code.{code_within}
 use Rattle.lay_climb.specs.Answers.{climbed}
 use Rattle.lay_climb.proofs.climb.Climber.climb.Given as goal
 

@@ -5,7 +5,8 @@ use Rattle.lay_code.specs.reader.Exprs.{accepted, expr_by, head_by}
 use Rattle.lay_code.specs.declared.exprs.Expr.{Expr}
 use Rattle.lay_read_tokens.proofs.Steps.{lost}
 use Rattle.lay_read_types.proofs.Steps.{found_by}
-use Rattle.lay_read_blocks.specs.Answers.{code_within, fits}
+use Rattle.lay_read_shared.specs.Code.{code_within}
+use Rattle.lay_read_blocks.specs.Answers.{fits}
 use Rattle.lay_climb.specs.Answers.{climbed}
 use Rattle.lay_climb.proofs.Climbing.{ended_head, going_head, lost_head}
 use Rattle.lay_climb.proofs.climb.Climber.expr_by.Goals as goal

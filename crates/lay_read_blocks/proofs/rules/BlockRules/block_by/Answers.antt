@@ -4,7 +4,7 @@ use Rattle.lay_node.specs.reader.Attr.{attributes}
 use Rattle.lay_node.specs.reader.Loops.{repeat}
 use Rattle.lay_code.specs.reader.Blocks.{stmt_in_block}
 use Rattle.lay_read_tokens.specs.Answers.{AreFound}
-use Rattle.lay_read_blocks.specs.Answers.{code_within}
+use Rattle.lay_read_shared.specs.Code.{code_within}
 use Rattle.lay_read_blocks.proofs.Chains.{block_refused}
 use Rattle.lay_read_blocks.proofs.Second.{second_held}
 use Rattle.lay_read_blocks.proofs.rules.BlockRules.block_by.Goals as goal

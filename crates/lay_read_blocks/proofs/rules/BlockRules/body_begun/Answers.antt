@@ -9,4 +9,4 @@ returns-clause-read g c =
     let bare = c.body_of-body.ensures.node in
     let same = undressed_read c.args.self.now.depth statement c.args.at.now c.expr.new.at found.node c.body_of-body.result.node
     found.need bare.0 c.in_ok-found.ensures.read bare.1 in
-    rw (c.in_ok-found.ensures.read, same, c.body_of-body.ensures.need, c.is_free-free.ensures) refl
+    rw (c.in_ok-found.ensures.read, same, c.body_of-body.ensures.need, c.is_free-free.ensures, c.get.ensures) refl

@@ -3,7 +3,7 @@ use Rattle.lay_node.specs.Ahead.{is_mark, tail}
 use Rattle.lay_node.specs.reader.Loops.{deepest, elements}
 use Rattle.lay_code.specs.reader.Exprs.{closure_body, closure_expr, closure_param}
 use Rattle.lay_read_types.proofs.Steps.{found_by}
-use Rattle.lay_read_blocks.specs.Answers.{code_within}
+use Rattle.lay_read_shared.specs.Code.{code_within}
 use Rattle.lay_read_blocks.proofs.Chains.{closure_is}
 use Rattle.lay_read_blocks.proofs.rules.BlockRules.closure_expr.Goals as goal
 

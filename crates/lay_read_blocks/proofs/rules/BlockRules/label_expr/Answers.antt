@@ -1,7 +1,7 @@
 use Rattle.std.proofs.Common.{drop, Some, sym, ap, ◌∙◌, if◌then◌else◌}
 use Rattle.lay_code.specs.reader.Exprs.{label_expr, labelled_expr}
 use Rattle.lay_read_types.proofs.Steps.{found_by}
-use Rattle.lay_read_blocks.specs.Answers.{code_within}
+use Rattle.lay_read_shared.specs.Code.{code_within}
 use Rattle.lay_read_blocks.proofs.Chains.{label_is}
 use Rattle.lay_read_blocks.proofs.rules.BlockRules.label_expr.Goals as goal
 

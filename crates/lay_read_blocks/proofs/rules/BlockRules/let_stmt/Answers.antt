@@ -10,7 +10,8 @@ use Rattle.lay_node.specs.declared.types.TypePlace.TheVariants.{Bounds}
 use Rattle.lay_code.specs.reader.Blocks.{let_stmt}
 use Rattle.lay_read_tokens.specs.declared.found.Found.{Found}
 use Rattle.lay_read_types.proofs.Steps.{found_by}
-use Rattle.lay_read_blocks.specs.Answers.{code_within, let_behind}
+use Rattle.lay_read_shared.specs.Code.{code_within}
+use Rattle.lay_read_blocks.specs.Answers.{let_behind}
 use Rattle.lay_read_blocks.proofs.Chains.{let_is}
 use Rattle.lay_read_blocks.proofs.Second.{second_found}
 use Rattle.lay_read_blocks.proofs.rules.BlockRules.let_stmt.Goals as goal

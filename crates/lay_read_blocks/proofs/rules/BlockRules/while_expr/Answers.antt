@@ -1,16 +1,14 @@
-use Rattle.std.proofs.Common.{◌≡◌, suc, ◌+◌, Option, Some, IfOk, Result, subst, ap, ◌∙◌, arith}
+use Rattle.std.proofs.Common.{◌≡◌, suc, ◌+◌, Option, ap, arith}
 use Rattle.std.proofs.lemmas.Result.{err_from_is_err_and}
 use Rattle.lay_node.specs.declared.patterns.Pat.{Pat}
-use Rattle.lay_node.specs.declared.token.Lifetime.{Lifetime}
 use Rattle.lay_code.specs.reader.Blocks.{branch_by}
 use Rattle.lay_code.specs.reader.Exprs.{while_expr}
 use Rattle.lay_code.specs.declared.blocks.Block.{Block}
 use Rattle.lay_code.specs.declared.exprs.Expr.{Expr}
 use Rattle.lay_read_tokens.proofs.Steps.{lost}
-use Rattle.lay_read_tokens.specs.declared.stop.ReadNone.{ReadNone}
-use Rattle.lay_read_blocks.specs.Answers.{code_within}
+use Rattle.lay_read_shared.specs.Code.{code_within}
 use Rattle.lay_read_blocks.proofs.Chains.{while_none, while_read}
-use Rattle.lay_read_blocks.proofs.Second.{second_found, second_kept, second_stopped}
+use Rattle.lay_read_blocks.proofs.Second.{second_found, second_stopped}
 use Rattle.lay_read_blocks.proofs.rules.BlockRules.while_expr.Goals as goal
 
 pub returns-in_err-label-clause-read : goal.returns-in_err-label-clause-read
@@ -29,18 +27,11 @@ returns-clause-read g c =
     let ts = c.args.at.now in
     let left = c.branch_by.new.at in
     let one = c.in_ok-label in
-    let two = c.in_ok-label-2 in
     let parts = c.into_parts-pat in
     let branch = second_found (branch_by deeper ts) c.args.label left c.branch_by.result one.label one.found one.ensures
     c.branch_by.ensures.read in
-    let kept = second_kept (one.label, (parts.result.0, parts.result.2)) c.boxed.result (two.label, (two.pat, two.body)) two.condition
-    two.ensures in
-    let label = ap (λ (q : Option Lifetime × (Option Pat × Block)). q.0) kept.0 ∙ branch.0 in
-    let pat = ap (λ (q : Option Lifetime × (Option Pat × Block)). q.1.0) kept.0
-    ∙ ap (λ (q : Option Pat × Expr × Block). q.0) parts.ensures in
-    let body = ap (λ (q : Option Lifetime × (Option Pat × Block)). q.1.1) kept.0
-    ∙ ap (λ (q : Option Pat × Expr × Block). q.2) parts.ensures in
-    let boxed : two.condition ≡ parts.result.1 = subst (λ (r : Result Expr ReadNone). IfOk r (λ x. x ≡ parts.result.1)) kept.1 c.boxed.ensures.ok in
-    let condition = boxed ∙ ap (λ (q : Option Pat × Expr × Block). q.1) parts.ensures in
+    let pat = ap (λ (q : Option Pat × Expr × Block). q.0) parts.ensures in
+    let condition = ap (λ (q : Option Pat × Expr × Block). q.1) parts.ensures in
+    let body = ap (λ (q : Option Pat × Expr × Block). q.2) parts.ensures in
     let need : one.found.need + 1 ≡ suc one.found.need = omega arith in
-    rw (label, pat, condition, body, need) (while_read deeper ts c.args.label one.found.node one.found.need left branch.1)
+    rw (branch.0, pat, condition, body, need) (while_read deeper ts c.args.label one.found.node one.found.need left branch.1)

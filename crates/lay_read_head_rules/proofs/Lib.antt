@@ -1,0 +1,2 @@
+pub mod UseSteps
+pub mod Steps

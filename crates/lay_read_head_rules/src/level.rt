@@ -1,0 +1,55 @@
+//! What the readers of heads share.
+ghost use Rattle.std.specs.Prelude.{◌≡◌, ◌≤◌, if◌then◌else◌, IfOk, Ok, Err};
+ghost use Rattle.lay_node.specs.Ahead.{is_keyword};
+ghost use Rattle.lay_node.specs.reader.Generics.{met_if};
+ghost use Rattle.lay_node.specs.reader.Types.{flag, within};
+ghost use Rattle.lay_read_tokens.specs.Answers.{IsFound};
+
+use lay_node::Bound;
+use lay_read_parts::leads::begins_bound;
+use lay_read_tokens::front::{takes_keyword, takes_op};
+use lay_read_tokens::{Ahead, Found, ReadNone};
+use lay_read_types::bounds_ahead;
+use lay_token::List;
+use std::alloc::Global;
+
+/// The depth of what is within the parts of a list.
+#[derive(Clone, Copy)]
+pub struct Level {
+    pub alloc: Global,
+    pub depth: u32,
+}
+
+/// What was found, where it is kept.
+pub fn kept_if<T: Drop>(found: T, keeps: bool) -> Result<T, ReadNone>
+    ensures { result ≡ (if keeps then Ok found else Err ReadNone.NoReading) }
+{
+    if keeps {
+        Ok(found)
+    } else {
+        Err(ReadNone::NoReading)
+    }
+}
+
+/// Passes the keyword, if it stands at the front, and tells whether it did.
+pub fn takes_flag(at: &mut Ahead<'_>, word: &[u8]) -> bool
+    ensures found { result ≡ (flag (is_keyword word.now) at.old).0 }
+    ensures passed { at.new ≡ (flag (is_keyword word.now) at.old).1 }
+{
+    takes_keyword(at, word)
+}
+
+/// What is met, if anything is said of it: a `:`, and bounds where one begins.
+pub fn met_if(alloc: Global, at: &mut Ahead<'_>, depth: u32) -> Result<Found<List<Bound>>, ReadNone>
+    ensures read { IsFound (met_if (within depth) at.old) result at.new }
+    ensures within { IfOk result (λ found. found.need ≤ depth) }
+{
+    if takes_op(at, b":") && begins_bound(at) {
+        bounds_ahead(alloc, at, depth)
+    } else {
+        Ok(Found {
+            node: List::new(alloc),
+            need: 0,
+        })
+    }
+}
