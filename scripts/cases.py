@@ -6,7 +6,8 @@ in, and has to give itself.
 usage: cases.py COMMAND [FILE..]
 
 Each line of a file is a case, a JSON object:
-  in      the input, or in64, the same in base64, or blanks, so many blanks
+  in      the input, or in64, the same in base64
+  times   how many times that stands there, where it isn't once
   words   the command's words, where it has any; {file} stands for a file that holds the input
   status  the exit status
   out     standard output, where it isn't empty
@@ -23,13 +24,14 @@ import subprocess
 import sys
 import tempfile
 
+import usage
+
 HERE = os.path.join(os.path.dirname(os.path.abspath(__file__)), '..', 'cases')
 
 
 def input_of(case):
-    if 'blanks' in case:
-        return b' ' * case['blanks']
-    return base64.b64decode(case['in64']) if 'in64' in case else case['in'].encode()
+    once = base64.b64decode(case['in64']) if 'in64' in case else case['in'].encode()
+    return once * case.get('times', 1)
 
 
 def answer(command, data, words):
@@ -67,8 +69,11 @@ def differences(command, case):
 
 
 def main():
-    command = os.path.abspath(sys.argv[1])
-    files = sys.argv[2:] or sorted(os.path.join(HERE, name) for name in os.listdir(HERE) if name.endswith('.jsonl'))
+    command, *files = usage.words(__doc__, least=1)
+    command = os.path.abspath(command)
+    if missing := [path for path in (command, *files) if not os.path.isfile(path)]:
+        usage.refuse(__doc__, f"not there: {', '.join(missing)}")
+    files = files or sorted(os.path.join(HERE, name) for name in os.listdir(HERE) if name.endswith('.jsonl'))
     passed = failed = 0
     for path in files:
         with open(path, encoding='utf-8') as lines:

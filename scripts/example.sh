@@ -6,10 +6,8 @@
 # It is the gate that proves and builds it, so what a gate has kept on this machine is taken over; with nothing kept it takes as long
 # as the gate. The file is named `.rs` here, since the gate proves whatever is named `.rt`.
 set -eu
-if [ $# -lt 2 ]; then
-    sed -n '2,7s/^# \{0,1\}//p' "$0"
-    exit 2
-fi
+. "$(dirname "$0")/usage.sh"
+words 2 1000 "$@"
 folder=$1
 shift
 git clone -q "$(cd "$(dirname "$0")/.." && pwd)" "$folder"

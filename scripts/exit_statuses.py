@@ -7,6 +7,7 @@ It prints one line a case: the status that is wanted, the one that was had, and 
 where no case differs. The files that it needs lie in a folder of their own, which it removes.
 """
 import os, resource, shlex, subprocess, sys, tempfile
+import usage
 
 PLAIN = b"struct A;\n"
 MOST = 16 << 20
@@ -100,9 +101,8 @@ def cases(path, folder):
 
 
 def main():
-    if len(sys.argv) != 2:
-        sys.exit(__doc__)
-    command = shlex.split(sys.argv[1])
+    (command,) = usage.words(__doc__, least=1, most=1)
+    command = shlex.split(command)
     differing = 0
     with tempfile.TemporaryDirectory() as folder:
         for wanted, name, run in cases(files(folder), folder):

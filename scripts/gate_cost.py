@@ -1,12 +1,13 @@
 #!/usr/bin/env python3
 """Runs the gate from nothing and tells what it costs for each crate, in seconds of one core: proofs, tests, must-fail edits.
 
-usage: gate_cost.py [WORD..]    runs `rt ci WORD..`; a toolchain that keeps what passed needs the word --anew
+usage: gate_cost.py [--anew]    runs `rt ci` with the same word, which a toolchain that keeps what passed needs
 
 Every half second it looks at the processes that the gate has started, and keeps what each has used of a core when it was seen
 last. So the last moment of each process is missing, a percent or two of the whole. It reads /proc, as Linux has it.
 """
 import os, subprocess, sys, time
+import usage
 
 TICK = os.sysconf("SC_CLK_TCK")
 KINDS = ("proofs", "tests", "edits")
@@ -43,7 +44,8 @@ def part(number, found, gate):
 
 
 def main():
-    gate = subprocess.Popen(["rt", "ci", *sys.argv[1:]], stdout=subprocess.DEVNULL, stderr=subprocess.DEVNULL)
+    words = usage.words(__doc__, most=1, options=("--anew",))
+    gate = subprocess.Popen(["rt", "ci", *words], stdout=subprocess.DEVNULL, stderr=subprocess.DEVNULL)
     used = {}
     while gate.poll() is None:
         found = processes()

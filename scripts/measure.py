@@ -3,7 +3,8 @@
 
 usage: measure.py FILE COMMAND..    each COMMAND is one word, split at blanks; it reads FILE on standard input
 """
-import os, shlex, subprocess, sys, time
+import os, shlex, subprocess, time
+import usage
 
 RUNS = 5
 
@@ -18,7 +19,9 @@ def measure(words, path):
 
 
 def main():
-    path, commands = sys.argv[1], sys.argv[2:]
+    path, *commands = usage.words(__doc__, least=2)
+    if not os.path.isfile(path):
+        usage.refuse(__doc__, f"not there: {path}")
     size = os.path.getsize(path) / 1e6
     print(f"{path}: {size:.2f} MB, best of {RUNS} runs")
     for command in commands:

@@ -1,12 +1,14 @@
 #!/bin/sh
 # Measures the streaming printer and the slow one on the same streams, of 112,000 and of 1,120,000 tokens, in one run.
 #
-# usage: printers.sh FOLDER
+# usage: printers.sh FOLDER    FOLDER isn't there yet
 #
-# It makes FOLDER, which must not be there, a clone of what is committed, and adds the program below to it. There it
+# It makes FOLDER a clone of what is committed, and adds the program below to it. There it
 # proves the program and the crates that it stands on, which takes minutes, and runs it. So the program costs the
 # repository's own gate nothing.
 set -e
+. "$(dirname "$0")/usage.sh"
+words 1 1 "$@"
 top=$(cd "$(dirname "$0")/.." && pwd)
 git clone --quiet "$top" "$1"
 cd "$1"

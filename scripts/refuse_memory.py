@@ -10,6 +10,7 @@ panic or an answer in place of the error is seen. The sweep over a test ends wit
 refused, which must pass.
 """
 import os, subprocess, sys, tempfile
+import usage
 
 TOP = os.path.dirname(os.path.dirname(os.path.abspath(__file__)))
 
@@ -64,8 +65,10 @@ def sweep(program, test, library):
 
 
 def main():
-    crate, *words = sys.argv[1:]
+    crate, *words = usage.words(__doc__, least=1, most=2)
     folder = f"{TOP}/crates/{crate}"
+    if not os.path.isdir(folder):
+        usage.refuse(__doc__, f"no crate: {crate}")
     subprocess.run(["rt", "test"], cwd=folder, check=True, stdout=sys.stderr)
     program = f"{folder}/out/{crate}_tests"
     listed = subprocess.run([program, "--list"], capture_output=True, text=True).stdout

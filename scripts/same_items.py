@@ -2,7 +2,7 @@
 """Formats files of Rust with a built command, and shows that nothing in them changed: the output is given back by a second
 run byte for byte, and `rustc` makes the same of it as of the input. What rustc makes is its high-level representation, as it
 prints that without places (`-Zunpretty=hir`), with names resolved and macros expanded; and where the input compiles, the
-output compiles as well.
+output compiles as well. Comments aren't compared, nor braces around the body of an arm or a closure, which the layout puts and takes away.
 
 usage: same_items.py COMMAND FILE..
 
@@ -12,6 +12,8 @@ import re
 import subprocess
 import sys
 import tempfile
+
+import usage
 
 RUSTC = ['rustc', '--edition', '2021', '--crate-type', 'lib', '--crate-name', 'formatted', '-A', 'warnings']
 
@@ -23,12 +25,31 @@ def formatted(command, data):
     return ran.stdout
 
 
+TOKEN = re.compile(rb'''"(?:\\.|[^"\\])*"|'(?:\\[^']*|[^'\\])'|//(?![/!])[^\n]*|/\*(?![*!]).*?\*/|\w+|=>|[^\s\w]''', re.S)
+
+
+def without_braces(tokens):
+    """Without the braces around bodies of arms and closures, and without the commas behind what ends in a brace."""
+    out, bodies = [], []
+    for token in tokens:
+        if token == b'{':
+            bodies.append(out[-1] if out and out[-1] in (b'=>', b'|') else b'')
+            if bodies[-1]:
+                continue
+        elif token == b'}':
+            body = bodies.pop() if bodies else b''
+            if body:
+                token = b',' if body == b'=>' else b''
+        if token and not (token == b',' and out and out[-1] in (b'}', b',')):
+            out.append(token)
+    return out
+
+
 def representation(path):
-    """What rustc makes of a file, and how many errors it names. Comments of the source, which it prints too, are left out."""
+    """What rustc makes of a file, token by token, and how many errors it names."""
     ran = subprocess.run([*RUSTC, '-Zunpretty=hir', path], capture_output=True, env={**os.environ, 'RUSTC_BOOTSTRAP': '1'})
-    text = re.sub(rb'^\s*(//[^/!].*|/\*[^*!].*\*/)$', b'', ran.stdout, flags=re.M)
-    lines = [line.strip() for line in text.split(b'\n')]
-    return [line for line in lines if line], len(re.findall(rb'^error', ran.stderr, flags=re.M))
+    tokens = [token for token in TOKEN.findall(ran.stdout) if not re.match(rb'//(?![/!])|/\*(?![*!])', token)]
+    return without_braces(tokens), len(re.findall(rb'^error', ran.stderr, flags=re.M))
 
 
 def compiles(path, folder):
@@ -52,13 +73,16 @@ def is_same(command, path):
         print(f'{path}: rustc makes something else of the output')
         return False
     words = 'compiles before and after' if both[0] else f'{before[1]} errors of names before and after'
-    print(f'{path}: {len(data)} bytes in, {len(text)} out, {len(before[0])} lines of items are the same; {words}')
+    print(f'{path}: {len(data)} bytes in, {len(text)} out, {len(before[0])} tokens of items are the same; {words}')
     return True
 
 
 def main():
-    command = os.path.abspath(sys.argv[1])
-    same = [is_same(command, path) for path in sys.argv[2:]]
+    command, *paths = usage.words(__doc__, least=2)
+    command = os.path.abspath(command)
+    if missing := [path for path in (command, *paths) if not os.path.isfile(path)]:
+        usage.refuse(__doc__, f"not there: {', '.join(missing)}")
+    same = [is_same(command, path) for path in paths]
     print(f'{sum(same)} the same, {len(same) - sum(same)} not')
     return 0 if all(same) and same else 1
 

@@ -9,6 +9,7 @@ size (1.0 is linear), the peak memory at the greatest size in times the input, a
 least of three runs, or of one that takes more than two seconds.
 """
 import itertools, os, random, shlex, subprocess, sys, tempfile
+import usage
 
 MIB = 1 << 20
 SIZES = [MIB, 2 * MIB, 4 * MIB, 8 * MIB, 16 * MIB]
@@ -146,10 +147,13 @@ def line(words, kind, path):
 
 
 def main():
-    if sys.argv[1] == "--make":
-        sys.stdout.write(KINDS[sys.argv[2]](int(sys.argv[3])))
+    command, *kinds = usage.words(__doc__, least=1, options=("--make",))
+    if command == "--make" and len(kinds) == 2 and kinds[0] in KINDS and kinds[1].isdigit():
+        sys.stdout.write(KINDS[kinds[0]](int(kinds[1])))
         return
-    words, kinds = shlex.split(sys.argv[1]), sys.argv[2:] or KINDS
+    if command == "--make" or any(kind not in KINDS for kind in kinds):
+        usage.refuse(__doc__, f"the kinds are: {', '.join(KINDS)}")
+    words, kinds = shlex.split(command), kinds or KINDS
     with tempfile.TemporaryDirectory() as folder:
         for kind in kinds:
             print(line(words, kind, f"{folder}/input"), flush=True)

@@ -6,10 +6,8 @@
 # The exit status is 0 where every test passed. It takes two to four minutes. The files are named `.rs` here, since the gate
 # proves whatever is named `.rt`.
 set -eu
-if [ $# -ne 1 ]; then
-    sed -n '2,7s/^# \{0,1\}//p' "$0"
-    exit 2
-fi
+. "$(dirname "$0")/usage.sh"
+words 1 1 "$@"
 git clone -q "$(cd "$(dirname "$0")/.." && pwd)" "$1"
 cd "$1"
 mv tried/lay_more_trees crates/

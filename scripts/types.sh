@@ -2,12 +2,14 @@
 # Measures how the readers and layouts of types and patterns grow: wide ones of up to 100,000 elements, and ones nested
 # up to 255 deep, each in one line.
 #
-# usage: types.sh FOLDER
+# usage: types.sh FOLDER    FOLDER isn't there yet
 #
-# It makes FOLDER, which must not be there, a clone of what is committed, and adds the program below to it, which takes
+# It makes FOLDER a clone of what is committed, and adds the program below to it, which takes
 # what reads and lays out from the tests of types. There it proves the program and the crates that it stands on, which
 # takes minutes, and runs it. So the program costs the repository's own gate nothing.
 set -e
+. "$(dirname "$0")/usage.sh"
+words 1 1 "$@"
 top=$(cd "$(dirname "$0")/.." && pwd)
 git clone --quiet "$top" "$1"
 cd "$1"

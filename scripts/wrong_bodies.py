@@ -10,6 +10,7 @@ committed, puts the edits of the named crates, or of all, among the others there
 status other than 0 where one of them doesn't fit the code, was proved, or couldn't be tried.
 """
 import pathlib, shutil, subprocess, sys
+import usage
 
 TOP = pathlib.Path(__file__).resolve().parent.parent
 
@@ -24,10 +25,11 @@ def misfits(edit):
 
 
 def main():
+    words = usage.words(__doc__)
     misfit = [f"{edit.relative_to(TOP)}: {line}" for edit in sorted(TOP.glob("wrong_bodies/*/*.edit")) for line in misfits(edit)]
-    if misfit or len(sys.argv) < 2:
+    if misfit or not words:
         sys.exit("\n".join(misfit) or 0)
-    clone, wanted = pathlib.Path(sys.argv[1]), sys.argv[2:]
+    clone, wanted = pathlib.Path(words[0]), words[1:]
     subprocess.run(["git", "clone", "--quiet", TOP, clone], check=True)
     crates = [folder.name for folder in sorted((clone / "wrong_bodies").iterdir()) if not wanted or folder.name in wanted]
     if missing := set(wanted) - set(crates):

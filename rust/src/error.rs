@@ -1,0 +1,110 @@
+//! Why there is no text.
+use crate::generated::lay_files::FileError;
+use crate::generated::lay_text::{NoMemory, Refusal};
+use core::fmt;
+
+/// Why there is no text.
+#[derive(Clone, Copy, Debug, PartialEq, Eq, Hash)]
+#[non_exhaustive]
+pub enum Cause {
+    /// The source is no UTF-8.
+    NotUtf8,
+    /// No token stands at the place.
+    NoToken,
+    /// The delimiter at the place has no partner.
+    Unbalanced,
+    /// No item that is accepted begins at the place.
+    NoItem,
+    /// The tree is one that no source reads to, as one with a keyword for a name. It has no place.
+    NotWritten,
+    /// The source has more than 16 MiB, on a system with less than 64 bits. It has no place.
+    TooLong,
+    /// Memory was not found. It says nothing of the source, and has no place.
+    NoMemory,
+}
+
+/// Why there is no text, and at which place of the source.
+#[derive(Clone, Copy, Debug, PartialEq, Eq, Hash)]
+pub struct Error {
+    cause: Cause,
+    offset: usize,
+    line: usize,
+    column: usize,
+}
+
+impl Error {
+    pub(crate) const NO_MEMORY: Error = Error::without_place(Cause::NoMemory);
+    pub(crate) const NOT_WRITTEN: Error = Error::without_place(Cause::NotWritten);
+    pub(crate) const TOO_LONG: Error = Error::without_place(Cause::TooLong);
+
+    const fn without_place(cause: Cause) -> Error {
+        Error { cause, offset: 0, line: 0, column: 0 }
+    }
+
+    /// Why there is none.
+    pub fn cause(&self) -> Cause {
+        self.cause
+    }
+
+    /// The line, from 1, or 0 where the cause has no place.
+    pub fn line(&self) -> usize {
+        self.line
+    }
+
+    /// The column in bytes, from 1, or 0 where the cause has no place.
+    pub fn column(&self) -> usize {
+        self.column
+    }
+
+    /// How many bytes stand before the place: of the source for [`Cause::NotUtf8`], else of the source without a byte order
+    /// mark and with each CR LF as one LF.
+    pub fn offset(&self) -> usize {
+        self.offset
+    }
+
+    /// The cause in words.
+    fn message(&self) -> &'static str {
+        match self.cause {
+            Cause::NotUtf8 => "not UTF-8",
+            Cause::NoToken => "no token",
+            Cause::Unbalanced => "unbalanced delimiter",
+            Cause::NoItem => "no item",
+            Cause::NotWritten => "no source reads to the tree",
+            Cause::TooLong => "input is longer than 16777216 bytes",
+            Cause::NoMemory => "no memory",
+        }
+    }
+}
+
+/// The line that the command writes: `L:C: CAUSE`, or the cause alone where it has no place.
+impl fmt::Display for Error {
+    fn fmt(&self, out: &mut fmt::Formatter<'_>) -> fmt::Result {
+        if self.line > 0 {
+            write!(out, "{}:{}: ", self.line, self.column)?;
+        }
+        out.write_str(self.message())
+    }
+}
+
+impl core::error::Error for Error {}
+
+impl From<NoMemory> for Error {
+    fn from(_: NoMemory) -> Error {
+        Error::NO_MEMORY
+    }
+}
+
+impl From<FileError> for Error {
+    fn from(error: FileError) -> Error {
+        let FileError::Refused { refusal, place } = error else {
+            return Error::NO_MEMORY;
+        };
+        let (cause, offset) = match refusal {
+            Refusal::NotUtf8 { at } => (Cause::NotUtf8, at),
+            Refusal::NoToken { at } => (Cause::NoToken, at),
+            Refusal::Unbalanced { at } => (Cause::Unbalanced, at),
+            Refusal::NoItem { at } => (Cause::NoItem, at),
+        };
+        Error { cause, offset, line: place.line, column: place.column }
+    }
+}

@@ -1,0 +1,60 @@
+//! Made by scripts/rust.sh from crates/lay_climb/src/heads.rt, which is proved: change that.
+//!
+//! What begins an expression.
+use crate::generated::lay_climb::block_heads::BlockHeads;
+use crate::generated::lay_climb::climb::Climber;
+use crate::generated::lay_code::{Expr, Place};
+use crate::generated::lay_ops::ahead::expr_lead_at;
+use crate::generated::lay_ops::operands::ExprLead;
+use crate::generated::lay_read_parts::leads::is_at_literal;
+use crate::generated::lay_read_parts::parts::read_literal;
+use crate::generated::lay_read_tokens::front::pass;
+use crate::generated::lay_read_tokens::{Ahead, Found, ReadNone};
+use crate::shims::Global;
+/// A literal.
+fn literal_expr(alloc: Global, at: &mut Ahead<'_>) -> Result<Found<Expr>, ReadNone> {
+    let passes = is_at_literal(at);
+    let literal = read_literal(alloc, at, passes)?;
+    Ok(Found { node: Expr::Lit { literal }, need: 1 })
+}
+impl<
+    P: Fn(Global, &mut Ahead<'_>, Place, u32) -> Result<Found<Expr>, ReadNone>,
+    H: BlockHeads,
+> Climber<P, H> {
+    /// What begins an expression, without the operators behind it, unless it is deeper than may be.
+    #[inline(never)]
+    pub fn head(
+        &self,
+        at: &mut Ahead<'_>,
+        no_struct: bool,
+    ) -> Result<Found<Expr>, ReadNone> {
+        match expr_lead_at(at) {
+            Some(lead) => self.head_by(at, no_struct, lead),
+            None => Err(ReadNone::NoReading),
+        }
+    }
+    /// The same, told from what the first token begins.
+    #[inline(never)]
+    fn head_by(
+        &self,
+        at: &mut Ahead<'_>,
+        no_struct: bool,
+        lead: ExprLead,
+    ) -> Result<Found<Expr>, ReadNone> {
+        match lead {
+            ExprLead::Literal => literal_expr(self.rules.alloc, at),
+            ExprLead::Path => self.rules.path_or_call(at, no_struct),
+            ExprLead::Prefix => self.rules.unary_expr(at, no_struct),
+            ExprLead::Label | ExprLead::Brace | ExprLead::BlockWord
+            | ExprLead::Closure => self.heads.block_head(at, no_struct, lead),
+            ExprLead::Range => {
+                let start = Found { node: None, need: 0 };
+                self.rules.range_expr(at, no_struct, start)
+            }
+            _ => {
+                pass(at);
+                self.rules.marked(at, no_struct, lead)
+            }
+        }
+    }
+}

@@ -1,0 +1,83 @@
+//! Made by scripts/rust.sh from crates/lay_code/src/lib.rt, which is proved: change that.
+//!
+//! The nodes of code, and the definitions that say which tokens spell a tree and how it is laid out.
+//!
+//! Expressions, items and files stand here, over the nodes of `lay_node`, whose names are handed on. The families are the
+//! same in the sources, in `specs/` and in `proofs/`.
+//! `specs/nodes/` says of each which nodes are well formed, which form they have (in the signs of `lay_form`), and what
+//! may not follow them. `Reading` says which bytes read to which file, and `Out` what a file's text is.
+//! `specs/reader/` holds the functions that code which reads is proved equal to. [`node_law`] and [`reading_law`] say what
+//! holds of every expression, item and file.
+pub mod blocks;
+mod drops;
+pub mod exprs;
+pub mod file;
+pub mod item;
+mod laws;
+pub mod operators;
+pub use blocks::{Arm, Block, Branch, Stmt};
+pub use exprs::{ClosureParam, Expr, FieldExpr, Place, Start, Step};
+pub use file::File;
+pub use item::{Item, ItemKind};
+pub use crate::generated::lay_node::{
+    Abi,
+    Alias,
+    Arg,
+    Args,
+    Attr,
+    Binder,
+    Bound,
+    Boxed,
+    ConstArg,
+    ConstDefault,
+    Constraint,
+    Enum,
+    ExternCrate,
+    Field,
+    FieldPat,
+    Fields,
+    FnHead,
+    FuncParam,
+    GenericParam,
+    Generics,
+    GivenName,
+    Group,
+    ImplHead,
+    Lifetime,
+    LifetimeParam,
+    Listed,
+    Literal,
+    MacroCall,
+    MetaInput,
+    MetaPath,
+    Name,
+    Param,
+    ParamKind,
+    Pat,
+    PatPlace,
+    PatValue,
+    Path,
+    PathStart,
+    PathStyle,
+    Predicate,
+    Safety,
+    SimplePath,
+    Site,
+    SpanEnd,
+    Struct,
+    Tokens,
+    TraitHead,
+    TraitRef,
+    TupleField,
+    Ty,
+    TypePlace,
+    Union,
+    UseEnd,
+    UseTree,
+    ValueHead,
+    Variant,
+    Vis,
+    Wheres,
+    Word,
+};
+pub use operators::{Op, Prefix};

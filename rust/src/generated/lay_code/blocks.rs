@@ -1,0 +1,77 @@
+//! Made by scripts/rust.sh from crates/lay_code/src/blocks.rt, which is proved: change that.
+//!
+//! Blocks, statements, and the arms of a match.
+use crate::generated::lay_code::drops::{
+    discard_boxed,
+    discard_boxed_item,
+    discard_operand,
+    discard_otherwise,
+    discard_stmts,
+};
+use crate::generated::lay_code::exprs::Expr;
+use crate::generated::lay_code::item::Item;
+use crate::generated::lay_node::{Attr, Boxed, Pat, Ty};
+use crate::generated::lay_token::List;
+/// A block, with its inner attributes (Rust Reference, "Block expressions").
+pub struct Block {
+    pub attrs: List<Attr>,
+    pub stmts: List<Stmt>,
+}
+impl Block {
+    /// The statements.
+    pub fn into_stmts(self) -> List<Stmt> {
+        let Block { attrs: _, stmts } = self;
+        stmts
+    }
+}
+/// A statement (Rust Reference, "Statements").
+pub enum Stmt {
+    /// `let a: B = c else { d };`, where `else` stands behind a value alone
+    Let {
+        attrs: List<Attr>,
+        pat: Pat,
+        ty: Option<Ty>,
+        value: Option<Boxed<Expr>>,
+        otherwise: Option<Block>,
+    },
+    /// `fn a() {}`
+    Item {
+        item: Boxed<Item>,
+    },
+    /// `a;` or, without its `;`, `a`
+    Expr {
+        attrs: List<Attr>,
+        expr: Boxed<Expr>,
+        ended: bool,
+    },
+}
+impl Stmt {
+    /// The expression, where it is one.
+    pub fn into_expr(self) -> Option<Boxed<Expr>> {
+        match self {
+            Stmt::Expr { attrs: _, expr, ended: _ } => Some(expr),
+            _ => None,
+        }
+    }
+}
+/// A condition, which may be a pattern and what it is matched with, and the block that it leads to (Rust Reference, "`if` and
+/// `if let` expressions").
+pub struct Branch {
+    pub pat: Option<Pat>,
+    pub condition: Boxed<Expr>,
+    pub body: Block,
+}
+impl Branch {
+    /// Its pattern if it has one, its condition, and its block.
+    pub fn into_parts(self) -> (Option<Pat>, Boxed<Expr>, Block) {
+        let Branch { pat, condition, body } = self;
+        (pat, condition, body)
+    }
+}
+/// An arm of a match (Rust Reference, "Match expressions").
+pub struct Arm {
+    pub attrs: List<Attr>,
+    pub pat: Pat,
+    pub guard: Option<Boxed<Expr>>,
+    pub body: Boxed<Expr>,
+}

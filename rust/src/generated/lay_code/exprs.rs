@@ -1,0 +1,261 @@
+//! Made by scripts/rust.sh from crates/lay_code/src/exprs.rt, which is proved: change that.
+//!
+//! Expressions, and the places where they stand.
+use crate::generated::lay_code::blocks::{Arm, Block, Branch};
+use crate::generated::lay_code::drops::{
+    discard_arms,
+    discard_base,
+    discard_boxed,
+    discard_branches,
+    discard_exprs,
+    discard_fields,
+    discard_operand,
+    discard_operands,
+    discard_otherwise,
+    discard_steps,
+    discard_targets,
+};
+use crate::generated::lay_code::operators::{Op, Prefix};
+use crate::generated::lay_node::{
+    Arg,
+    Attr,
+    Boxed,
+    Lifetime,
+    Literal,
+    MacroCall,
+    Name,
+    Pat,
+    Path,
+    Tokens,
+    Ty,
+};
+use crate::generated::lay_token::{List, Text};
+/// Whether an expression begins a statement or the body of an arm, and is the whole of it or a part.
+#[derive(Clone, Copy,)]
+pub enum Start {
+    No,
+    Whole,
+    Part,
+}
+/// The place where an expression stands.
+#[derive(Clone, Copy,)]
+pub struct Place {
+    /// The least level of an expression that may stand here, from 0 to 14.
+    pub level: u8,
+    /// No struct literal may stand here, as in a condition.
+    pub no_struct: bool,
+    pub start: Start,
+    /// An operator follows.
+    pub op_after: bool,
+    /// The operator `<` or `<<` follows.
+    pub lt_after: bool,
+}
+/// An expression (Rust Reference, "Expressions"). One within another stands one level deeper.
+pub enum Expr {
+    /// `1`, `true`, `"a"`
+    Lit {
+        literal: Literal,
+    },
+    /// `a`, `a::B`, `A::<B>::c`
+    Path {
+        path: Path,
+    },
+    /// `_`, on the left of an assignment
+    Underscore,
+    /// `m!(a)`
+    Call {
+        call: MacroCall,
+    },
+    /// `(a)`
+    Paren {
+        inner: Boxed<Expr>,
+    },
+    /// `continue 'a`
+    Continue {
+        label: Option<Lifetime>,
+    },
+    /// `(a, b)`
+    Tuple {
+        elements: List<Expr>,
+    },
+    /// `[a, b]`
+    Array {
+        elements: List<Expr>,
+    },
+    /// `[a; 2]`
+    Repeat {
+        element: Boxed<Expr>,
+        length: Tokens,
+    },
+    /// `A { b: c, 0: d, e, ..f }`, where the base behind `..` may be left out
+    Struct {
+        path: Path,
+        fields: List<FieldExpr>,
+        base: Option<Option<Boxed<Expr>>>,
+    },
+    /// `a + b - c`: operators of one level, and not the first operand's
+    Chain {
+        first: Boxed<Expr>,
+        rest: List<(Op, Boxed<Expr>)>,
+    },
+    /// `a as B as C`, of one type at least
+    Cast {
+        operand: Boxed<Expr>,
+        types: List<Ty>,
+    },
+    /// `-*a`, of one operator at least
+    Unary {
+        prefixes: List<Prefix>,
+        operand: Boxed<Expr>,
+    },
+    /// `a..b`, `a..`, `..=b`, `..`
+    Range {
+        start: Option<Boxed<Expr>>,
+        inclusive: bool,
+        end: Option<Boxed<Expr>>,
+    },
+    /// `a = b += c`, of one target at least
+    Assign {
+        targets: List<(Boxed<Expr>, Op)>,
+        value: Boxed<Expr>,
+    },
+    /// `a.b.0.c::<D>(e)(f)[g]?.await`, of one step at least
+    Postfix {
+        base: Boxed<Expr>,
+        steps: List<Step>,
+    },
+    /// `'a: { b; c }`
+    Block {
+        label: Option<Lifetime>,
+        body: Block,
+    },
+    /// `unsafe { a }`
+    Unsafe {
+        body: Block,
+    },
+    /// `const { a }`
+    ConstBlock {
+        body: Block,
+    },
+    /// `async move { a }`
+    Async {
+        moves: bool,
+        body: Block,
+    },
+    /// `if a { b } else if let c = d { e } else { f }`, of one branch at least
+    If {
+        branches: List<Branch>,
+        otherwise: Option<Block>,
+    },
+    /// `match a { b => c }`
+    Match {
+        scrutinee: Boxed<Expr>,
+        attrs: List<Attr>,
+        arms: List<Arm>,
+    },
+    /// `'a: loop { b }`
+    Loop {
+        label: Option<Lifetime>,
+        body: Block,
+    },
+    /// `'a: while b { c }`, `while let b = c { d }`
+    While {
+        label: Option<Lifetime>,
+        pat: Option<Pat>,
+        condition: Boxed<Expr>,
+        body: Block,
+    },
+    /// `'a: for b in c { d }`
+    For {
+        label: Option<Lifetime>,
+        pat: Pat,
+        iterated: Boxed<Expr>,
+        body: Block,
+    },
+    /// `move |a, b: C| d`
+    Closure {
+        moves: bool,
+        params: List<ClosureParam>,
+        body: Boxed<Expr>,
+    },
+    /// `|a| -> B { c }`
+    TypedClosure {
+        moves: bool,
+        params: List<ClosureParam>,
+        output: Ty,
+        body: Block,
+    },
+    /// `return a`
+    Return {
+        operand: Option<Boxed<Expr>>,
+    },
+    /// `break 'a b`
+    Break {
+        label: Option<Lifetime>,
+        operand: Option<Boxed<Expr>>,
+    },
+}
+impl Expr {
+    /// The block, where it is one, with a label or without.
+    pub fn into_block(self) -> Option<Block> {
+        match self {
+            Expr::Block { label: _, body } => Some(body),
+            _ => None,
+        }
+    }
+}
+/// A parameter of a closure.
+pub struct ClosureParam {
+    pub attrs: List<Attr>,
+    pub pat: Pat,
+    pub ty: Option<Ty>,
+}
+/// A field in a struct literal (Rust Reference, "Struct expressions").
+pub enum FieldExpr {
+    /// `a: b`
+    Named {
+        attrs: List<Attr>,
+        name: Name,
+        value: Boxed<Expr>,
+    },
+    /// `0: b`
+    Numbered {
+        attrs: List<Attr>,
+        index: Text,
+        value: Boxed<Expr>,
+    },
+    /// `a`: the field and its value have this name
+    Short {
+        attrs: List<Attr>,
+        name: Name,
+    },
+}
+/// What follows the base of a postfix expression.
+pub enum Step {
+    /// `.a`
+    Field {
+        name: Name,
+    },
+    /// `.0`
+    TupleIndex {
+        index: Text,
+    },
+    /// `.a::<B>(c)`
+    Method {
+        name: Name,
+        generics: Option<List<Arg>>,
+        args: List<Expr>,
+    },
+    /// `(a, b)`: a call
+    Apply {
+        args: List<Expr>,
+    },
+    /// `[a]`
+    Index {
+        index: Boxed<Expr>,
+    },
+    /// `?`
+    Try,
+    /// `.await`
+    Await,
+}

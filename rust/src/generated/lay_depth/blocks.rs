@@ -1,0 +1,65 @@
+//! Made by scripts/rust.sh from crates/lay_depth/src/blocks.rt, which is proved: change that.
+//!
+//! Blocks, statements, branches and arms.
+use crate::generated::lay_depth::exprs::{expr_depth, operand_depth};
+use crate::generated::lay_depth::items::item_depth;
+use crate::generated::lay_code::{Arm, Block, Branch, Stmt};
+use crate::generated::lay_depth_nodes::{deeper, pat_depth, type_or_none_depth};
+use crate::generated::lay_node::Pat;
+/// The depth of a block: that of its deepest statement.
+pub(crate) fn block_depth(block: &Block) -> u32 {
+    let mut most = 0u32;
+    for stmt in block.stmts.as_slice() {
+        most = most.max(stmt_depth(stmt));
+    }
+    most
+}
+/// The depth of a block that may be left out: 0 where it is.
+pub(crate) fn block_or_none_depth(block: &Option<Block>) -> u32 {
+    match block {
+        Some(block) => block_depth(block),
+        None => 0,
+    }
+}
+/// The depth of a statement. The block behind an `else` stands one level deeper.
+fn stmt_depth(stmt: &Stmt) -> u32 {
+    match stmt {
+        Stmt::Let { pat, ty, value, otherwise, .. } => {
+            let bound = pat_depth(pat).max(type_or_none_depth(ty));
+            let given = bound.max(operand_depth(value));
+            match otherwise {
+                Some(block) => given.max(deeper(block_depth(block))),
+                None => given,
+            }
+        }
+        Stmt::Item { item } => item_depth(item.get()),
+        Stmt::Expr { expr, .. } => expr_depth(expr.get()),
+    }
+}
+/// The depth of the deepest of the branches.
+pub(crate) fn branches_depth(branches: &[Branch]) -> u32 {
+    let mut most = 0u32;
+    for branch in branches {
+        let head = pat_or_none_depth(
+            &branch.pat,
+        ).max(expr_depth(branch.condition.get()));
+        most = most.max(head.max(block_depth(&branch.body)));
+    }
+    most
+}
+/// The depth of the deepest of the arms. The body of an arm stands one level deeper.
+pub(crate) fn arms_depth(arms: &[Arm]) -> u32 {
+    let mut most = 0u32;
+    for arm in arms {
+        let head = pat_depth(&arm.pat).max(operand_depth(&arm.guard));
+        most = most.max(head.max(deeper(expr_depth(arm.body.get()))));
+    }
+    most
+}
+/// The depth of a pattern that may be left out: 0 where it is.
+pub(crate) fn pat_or_none_depth(pat: &Option<Pat>) -> u32 {
+    match pat {
+        Some(pat) => pat_depth(pat),
+        None => 0,
+    }
+}

@@ -1,0 +1,13 @@
+//! Made by scripts/rust.sh from crates/lay_files/src/lib.rt, which is proved: change that.
+//!
+//! Whole files, both ways: from bytes to a tree, and from a tree to its text.
+//!
+//! [`read_bytes`] gives the one file that bytes read to, or their refusal and its place, and [`read_within`] the same for
+//! files of a depth. [`write_file`] writes the text of
+//! a file's layout to a sink, and [`text_of`] gives it as one text. Which bytes read to which file, and what a file's text
+//! is, is defined in `lay_code`.
+mod keep;
+pub mod reading;
+mod writing;
+pub use reading::{DEPTH, FileError, read_bytes, read_within};
+pub use writing::{text_of, write_file};

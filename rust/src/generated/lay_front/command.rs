@@ -1,0 +1,122 @@
+//! Made by scripts/rust.sh from crates/lay_front/src/command.rt, which is proved: change that.
+//!
+//! The command.
+use crate::generated::lay_front::compare::is_text;
+use crate::generated::lay_front::messages::tell;
+use crate::generated::lay_front::samples::sum_up_sample;
+use crate::generated::lay_front::stop::Stop;
+use crate::generated::lay_code::File;
+use crate::generated::lay_files::{FileError, read_bytes, write_file};
+use crate::generated::lay_io::{Inputs, ReadError, Sink, Which, read_all};
+use crate::generated::lay_line::{Line, line};
+use crate::generated::lay_printer::PrintError;
+use crate::generated::lay_token::{List, NoMemory, Refusal, Text};
+use crate::shims::Global;
+/// How a run comes out.
+#[derive(Clone, Copy, Debug, PartialEq, Eq,)]
+pub enum Status {
+    /// The text was written whole; or the input was checked, and is its text; or the sample was summed up.
+    Done,
+    /// The input was checked, and isn't its text. Nothing was written.
+    Differs,
+    /// The words are no line of the command. Nothing was read.
+    Usage,
+    /// A read failed. Nothing was written.
+    ReadFailed,
+    /// The input reads to no file. Nothing was written.
+    Refused(Refusal),
+    /// A write failed. A prefix of the text was written.
+    WriteFailed,
+    /// The input holds more than 16 MiB. Nothing was written.
+    TooLong,
+    /// Memory was not found. A prefix of the text was written.
+    NoMemory,
+}
+/// The greatest input of the command, in bytes.
+pub const LIMIT: usize = 16_777_216;
+/// Runs the command with its words, without the program's name: `[FILE]` writes the text of an input to `out`, and
+/// `--check [FILE]` tells whether the input is its text, and `--sample SEED --items N` makes a sample, formats it, and
+/// writes one line that sums it up. Every other outcome is told in one line on `err`.
+pub fn run<
+    I: Inputs,
+    K: Sink,
+    E: Sink,
+>(alloc: Global, words: &[Text], inputs: &mut I, out: &mut K, err: &mut E) -> Status {
+    let ended = execute(alloc, words, inputs, out);
+    tell(ended, err);
+    status_after(ended)
+}
+/// The status of a run that ended so.
+fn status_after(ended: Result<(), Stop>) -> Status {
+    match ended {
+        Ok(()) => Status::Done,
+        Err(Stop::Usage) => Status::Usage,
+        Err(Stop::ReadFailed) => Status::ReadFailed,
+        Err(Stop::TooLong) => Status::TooLong,
+        Err(Stop::Refused { refusal, .. }) => Status::Refused(refusal),
+        Err(Stop::WriteFailed) => Status::WriteFailed,
+        Err(Stop::Differs) => Status::Differs,
+        Err(Stop::NoMemory) => Status::NoMemory,
+    }
+}
+/// Does what the words ask for.
+fn execute<
+    I: Inputs,
+    K: Sink,
+>(alloc: Global, words: &[Text], inputs: &mut I, out: &mut K) -> Result<(), Stop> {
+    match line(alloc, words) {
+        Ok(Line::Usage) => Err(Stop::Usage),
+        Ok(Line::Format(which)) => format_input(alloc, which, inputs, out),
+        Ok(Line::Check(which)) => check_input(alloc, which, inputs),
+        Ok(Line::Sample { seed, items }) => sum_up_sample(alloc, seed, items, out),
+        Err(NoMemory) => Err(Stop::NoMemory),
+    }
+}
+/// Writes the text of an input.
+fn format_input<
+    I: Inputs,
+    K: Sink,
+>(alloc: Global, which: Which, inputs: &mut I, out: &mut K) -> Result<(), Stop> {
+    let given = match read_input(alloc, which, inputs) {
+        Ok(given) => given,
+        Err(stop) => return Err(stop),
+    };
+    match write_file(alloc, &given.1, out) {
+        Ok(()) => Ok(()),
+        Err(PrintError::WriteFailed) => Err(Stop::WriteFailed),
+        Err(PrintError::NoMemory) => Err(Stop::NoMemory),
+    }
+}
+/// Compares an input with its text.
+fn check_input<
+    I: Inputs,
+>(alloc: Global, which: Which, inputs: &mut I) -> Result<(), Stop> {
+    let (bytes, file) = match read_input(alloc, which, inputs) {
+        Ok(given) => given,
+        Err(stop) => return Err(stop),
+    };
+    match is_text(alloc, &file, bytes) {
+        Ok(true) => Ok(()),
+        Ok(false) => Err(Stop::Differs),
+        Err(NoMemory) => Err(Stop::NoMemory),
+    }
+}
+/// The bytes of an input, and the file that they read to.
+fn read_input<
+    I: Inputs,
+>(alloc: Global, which: Which, inputs: &mut I) -> Result<(List<u8>, File), Stop> {
+    inputs.choose(which);
+    let bytes = match read_all(alloc, inputs, LIMIT) {
+        Ok(bytes) => bytes,
+        Err(ReadError::ReadFailed) => return Err(Stop::ReadFailed),
+        Err(ReadError::TooLong) => return Err(Stop::TooLong),
+        Err(ReadError::NoMemory) => return Err(Stop::NoMemory),
+    };
+    match read_bytes(alloc, bytes.as_slice()) {
+        Ok(file) => Ok((bytes, file)),
+        Err(FileError::Refused { refusal, place }) => {
+            Err(Stop::Refused { refusal, place })
+        }
+        Err(FileError::NoMemory) => Err(Stop::NoMemory),
+    }
+}

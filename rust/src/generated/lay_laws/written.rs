@@ -1,0 +1,28 @@
+//! Made by scripts/rust.sh from crates/lay_laws/src/written.rt, which is proved: change that.
+//!
+//! Which trees are files that can be written.
+use crate::generated::lay_depth::file_depth;
+use crate::generated::lay_files::{DEPTH, FileError, read_within, text_of};
+use crate::generated::lay_token::NoMemory;
+use crate::generated::lay_tree::{File, same};
+use crate::shims::Global;
+/// Whether the file can be written: it is normal, each of its nodes meets the conditions of its form, each name, word and
+/// literal is a piece of its kind, and it is no deeper than files may be. So some text reads to it, and what its layout
+/// gives is one.
+///
+/// The depth of the file is counted, and a file that is too deep is none. The file is laid out whatever it holds, its text
+/// is read within its own depth, and what was read is compared with it: a file that can be written reads back, and what
+/// was read can be written. This takes time and memory in proportion to the text, and of the stack what a file of its
+/// depth needs: its names may spell a deeper one, which is refused there.
+pub fn is_written(alloc: Global, file: &File) -> Result<bool, NoMemory> {
+    let depth = file_depth(file);
+    if depth > DEPTH {
+        return Ok(false);
+    }
+    let text = text_of(alloc, file)?;
+    match read_within(alloc, text.as_bytes(), depth) {
+        Ok(read) => Ok(same(&read, file)),
+        Err(FileError::Refused { .. }) => Ok(false),
+        Err(FileError::NoMemory) => Err(NoMemory),
+    }
+}

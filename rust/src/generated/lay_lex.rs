@@ -1,0 +1,14 @@
+//! Made by scripts/rust.sh from crates/lay_lex/src/lib.rt, which is proved: change that.
+//!
+//! From bytes to tokens.
+//!
+//! [`normalise`] gives what is lexed of an input: without a byte order mark, with each CR LF as one LF, and
+//! without a shebang line. [`lex`] gives its tokens. Both are proved equal to the definitions that
+//! `lay_token` states, in both directions.
+mod ends;
+mod gap;
+mod lexer;
+mod source;
+mod tokens;
+pub use lexer::lex;
+pub use source::{Source, normalise};

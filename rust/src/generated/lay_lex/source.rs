@@ -1,0 +1,135 @@
+//! Made by scripts/rust.sh from crates/lay_lex/src/source.rt, which is proved: change that.
+//!
+//! What is lexed of an input.
+use crate::shims::Vec;
+use crate::generated::lay_lex::ends::without_end;
+use crate::generated::lay_lex::gap::is_white;
+use crate::generated::lay_token::piece::chars::first;
+use crate::generated::lay_token::{FormatError, List, NoMemory, Refusal, Text};
+use crate::shims::Global;
+/// What is lexed of an input.
+#[derive(Debug,)]
+pub struct Source {
+    /// The shebang line, without the LF that ends it and without CRs before that.
+    pub shebang: Option<Text>,
+    /// The whole text, without a byte order mark and with each CR LF as one LF.
+    pub text: List<u8>,
+    /// Where lexing begins, behind a shebang line.
+    pub start: usize,
+}
+/// What is lexed of an input (Rust Reference, "Input format"). Bytes that are no UTF-8 are refused.
+pub fn normalise(alloc: Global, bytes: &[u8]) -> Result<Source, FormatError> {
+    let text = match core::str::from_utf8(bytes) {
+        Ok(text) => text,
+        Err(error) => {
+            let at = error.valid_up_to();
+            return Err(FormatError::Refused(Refusal::NotUtf8 { at }));
+        }
+    };
+    match source_of(alloc, text) {
+        Ok(source) => Ok(source),
+        Err(_) => Err(FormatError::NoMemory),
+    }
+}
+/// What is lexed of a text.
+fn source_of(alloc: Global, s: &str) -> Result<Source, NoMemory> {
+    let text = folded(alloc, without_mark(s))?;
+    let whole = crate::shims::text(text.as_slice());
+    let (shebang, start) = shebang(alloc, whole)?;
+    Ok(Source { shebang, text: List::from_vec(text), start })
+}
+/// The text without a byte order mark at its start.
+fn without_mark(s: &str) -> &str {
+    match first(s) {
+        Some(('\u{feff}', tail)) => tail,
+        _ => s,
+    }
+}
+/// The text with each CR LF as one LF.
+fn folded(alloc: Global, s: &str) -> Result<Vec<u8>, NoMemory> {
+    let mut text = Vec::with_capacity(alloc, s.len())?;
+    let mut rest = s.as_bytes();
+    if !has_return(rest) {
+        text.extend_from_slice(rest)?;
+        return Ok(text);
+    }
+    while let Some((byte, tail)) = rest.split_first() {
+        if !(*byte == b'\r' && begins_line_feed(tail)) {
+            text.push(*byte)?;
+        }
+        rest = tail;
+    }
+    Ok(text)
+}
+/// Whether the bytes hold a CR.
+fn has_return(bytes: &[u8]) -> bool {
+    bytes.contains(&b'\r')
+}
+/// Whether the bytes begin with an LF.
+fn begins_line_feed(bytes: &[u8]) -> bool {
+    match bytes.first() {
+        Some(byte) => *byte == b'\n',
+        None => false,
+    }
+}
+/// The shebang of a text, and where lexing begins.
+fn shebang(alloc: Global, text: &str) -> Result<(Option<Text>, usize), NoMemory> {
+    let line = first_line(text);
+    if !is_shebang(line) {
+        return Ok((None, 0));
+    }
+    let shebang = Text::from_bytes(alloc, without_end(b'\r', line))?;
+    let start = if line.len() < text.len() { line.len() + 1 } else { line.len() };
+    Ok((Some(shebang), start))
+}
+/// The first line, without the LF that ends it.
+fn first_line(s: &str) -> &str {
+    &s[..s.len() - after_line(s).len()]
+}
+/// What follows the first line, from the LF on that ends it.
+fn after_line(s: &str) -> &str {
+    let mut rest = s;
+    while let Some((c, tail)) = first(rest) {
+        if c == '\n' {
+            break;
+        }
+        rest = tail;
+    }
+    rest
+}
+/// Whether the first line is a shebang line.
+fn is_shebang(line: &str) -> bool {
+    match first(line) {
+        Some(('#', tail)) => {
+            match first(tail) {
+                Some(('!', rest)) => !is_no_command(after_white(rest)),
+                _ => false,
+            }
+        }
+        _ => false,
+    }
+}
+/// Whether nothing stands there, or what begins an attribute or a comment.
+fn is_no_command(s: &str) -> bool {
+    match first(s) {
+        Some(('[', _)) | None => true,
+        Some(('/', tail)) => {
+            match first(tail) {
+                Some(('/', _)) | Some(('*', _)) => true,
+                _ => false,
+            }
+        }
+        _ => false,
+    }
+}
+/// What follows the white space at the front.
+fn after_white(s: &str) -> &str {
+    let mut rest = s;
+    while let Some((c, tail)) = first(rest) {
+        if !is_white(c) {
+            break;
+        }
+        rest = tail;
+    }
+    rest
+}

@@ -1,0 +1,94 @@
+//! Made by scripts/rust.sh from crates/lay_nest/src/operator.rt, which is proved: change that.
+//!
+//! The operator at the front of tokens.
+use crate::generated::lay_token::{Kind, Token};
+/// Whether the operator at the front of the tokens is this one: the longest that they begin with (Rust Reference,
+/// "Punctuation").
+pub fn is_op(tokens: &[Token], op: &[u8]) -> bool {
+    match tokens.split_first() {
+        Some((front, behind)) => {
+            if front.joint { is_longest(front, behind, op) } else { is_alone(front, op) }
+        }
+        None => false,
+    }
+}
+/// Whether the longest operator that begins with a joint token is this one.
+fn is_longest(front: &Token, behind: &[Token], op: &[u8]) -> bool {
+    let first = mark(front);
+    let second = first_mark(behind);
+    let third = second_mark(behind);
+    if is_three(first, second, third) {
+        op == [first, second, third].as_slice()
+    } else if is_two(first, second) { op == [first, second].as_slice() } else {
+        is_alone(front, op)
+    }
+}
+/// Whether the token alone is this operator.
+fn is_alone(token: &Token, op: &[u8]) -> bool {
+    match token.kind {
+        Kind::Punct => op == token.text.as_bytes(),
+        _ => false,
+    }
+}
+/// The character of a token that is punctuation, and else 0.
+fn mark(token: &Token) -> u8 {
+    match token.kind {
+        Kind::Punct => one(token.text.as_bytes()),
+        _ => 0,
+    }
+}
+/// The one byte of a text, or else 0.
+fn one(text: &[u8]) -> u8 {
+    match text {
+        [byte] => *byte,
+        _ => 0,
+    }
+}
+fn first_mark(tokens: &[Token]) -> u8 {
+    match tokens.first() {
+        Some(token) => mark(token),
+        None => 0,
+    }
+}
+fn second_mark(tokens: &[Token]) -> u8 {
+    match tokens.split_first() {
+        Some((token, behind)) if token.joint => first_mark(behind),
+        _ => 0,
+    }
+}
+/// Whether the characters are an operator.
+fn is_three(first: u8, second: u8, third: u8) -> bool {
+    match third {
+        b'=' => {
+            match first {
+                b'<' | b'>' | b'.' => first == second,
+                _ => false,
+            }
+        }
+        b'.' => first == b'.' && second == b'.',
+        _ => false,
+    }
+}
+/// Whether the characters are an operator.
+fn is_two(first: u8, second: u8) -> bool {
+    match second {
+        b'=' => is_before_equals(first),
+        b'>' => {
+            match first {
+                b'>' | b'-' | b'=' => true,
+                _ => false,
+            }
+        }
+        b'-' => first == b'<',
+        b'&' | b'|' | b'<' | b':' | b'.' => first == second,
+        _ => false,
+    }
+}
+/// Whether the character and `=` are an operator.
+fn is_before_equals(first: u8) -> bool {
+    match first {
+        b'=' | b'!' | b'<' | b'>' | b'+' | b'-' | b'*' | b'/' | b'%' | b'^' | b'&'
+        | b'|' => true,
+        _ => false,
+    }
+}

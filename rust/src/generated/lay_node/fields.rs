@@ -1,0 +1,44 @@
+//! Made by scripts/rust.sh from crates/lay_node/src/fields.rt, which is proved: change that.
+//!
+//! Fields, and the variants of enumerations.
+use crate::generated::lay_node::attr::Attr;
+use crate::generated::lay_node::token::Name;
+use crate::generated::lay_node::tokens::Tokens;
+use crate::generated::lay_node::types::Ty;
+use crate::generated::lay_node::vis::Vis;
+use crate::generated::lay_token::List;
+/// The fields of a struct or of a variant (Rust Reference, "Structs", "Enumerations").
+pub enum Fields {
+    /// Nothing.
+    Unit,
+    /// `(pub A, B)`
+    Tuple {
+        fields: List<TupleField>,
+    },
+    /// `{ pub a: A, b: B }`
+    Named {
+        fields: List<Field>,
+    },
+}
+/// A field without a name. Behind `pub` its type is no `(crate)`, `(self)` or `(super)`, which would restrict it.
+pub struct TupleField {
+    pub attrs: List<Attr>,
+    pub vis: Vis,
+    pub ty: Ty,
+}
+/// A field with a name.
+pub struct Field {
+    pub attrs: List<Attr>,
+    pub vis: Vis,
+    pub name: Name,
+    pub ty: Ty,
+}
+/// A variant of an enumeration.
+pub struct Variant {
+    pub attrs: List<Attr>,
+    pub vis: Vis,
+    pub name: Name,
+    pub fields: Fields,
+    /// ` = 1`, of one token at least, and without a `,` outside its groups
+    pub discriminant: Option<Tokens>,
+}

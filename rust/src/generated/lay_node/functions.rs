@@ -1,0 +1,58 @@
+//! Made by scripts/rust.sh from crates/lay_node/src/functions.rt, which is proved: change that.
+//!
+//! The heads of functions.
+use crate::generated::lay_node::attr::Attr;
+use crate::generated::lay_node::generics::Generics;
+use crate::generated::lay_node::patterns::Pat;
+use crate::generated::lay_node::token::{Lifetime, Name};
+use crate::generated::lay_node::types::{Abi, Ty};
+use crate::generated::lay_token::List;
+/// What a function says of its safety.
+#[derive(Clone, Copy,)]
+pub enum Safety {
+    /// `unsafe`
+    Unsafe,
+    /// `safe`, which a function of a foreign block may say
+    Safe,
+}
+/// The head of a function (Rust Reference, "Functions"): all up to its where clause.
+pub struct FnHead {
+    pub is_const: bool,
+    pub is_async: bool,
+    pub safety: Option<Safety>,
+    pub abi: Option<Abi>,
+    pub name: Name,
+    pub generics: Generics,
+    /// A receiver stands first alone, and `...` last alone.
+    pub params: List<Param>,
+    pub output: Option<Ty>,
+}
+/// A parameter of a function.
+pub struct Param {
+    pub attrs: List<Attr>,
+    pub kind: ParamKind,
+}
+/// What a parameter of a function is.
+pub enum ParamKind {
+    /// `&'a mut self`
+    RefSelf {
+        lifetime: Option<Lifetime>,
+        mutable: bool,
+    },
+    /// `mut self: A`
+    OwnSelf {
+        mutable: bool,
+        ty: Option<Ty>,
+    },
+    /// `a: A`
+    Typed {
+        pat: Pat,
+        ty: Ty,
+    },
+    /// `...`
+    Variadic,
+    /// `a: ...`
+    NamedVariadic {
+        pat: Pat,
+    },
+}

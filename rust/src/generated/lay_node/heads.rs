@@ -1,0 +1,89 @@
+//! Made by scripts/rust.sh from crates/lay_node/src/heads.rt, which is proved: change that.
+//!
+//! The heads of items, and the items that are heads alone.
+use crate::generated::lay_node::fields::{Field, Fields, Variant};
+use crate::generated::lay_node::generics::{Generics, Wheres};
+use crate::generated::lay_node::token::{GivenName, Name, Word};
+use crate::generated::lay_node::types::{Bound, Path, Ty};
+use crate::generated::lay_token::List;
+/// Where an item stands.
+#[derive(Clone, Copy,)]
+pub enum Site {
+    /// In a file or a module.
+    Module,
+    /// In an implementation.
+    Member,
+    /// In a trait.
+    TraitMember,
+    /// In a foreign block.
+    Foreign,
+}
+/// `extern crate a as b` (Rust Reference, "Extern crate declarations")
+pub struct ExternCrate {
+    /// A name, or `self`.
+    pub word: Word,
+    pub renamed: Option<GivenName>,
+}
+/// `type A<B>: C = D where E` (Rust Reference, "Type aliases", "Associated Items")
+pub struct Alias {
+    pub name: Name,
+    pub generics: Generics,
+    pub bounds: List<Bound>,
+    pub ty: Option<Ty>,
+    pub wheres: Wheres,
+}
+/// `struct A<B>(C) where D` (Rust Reference, "Structs"). The where clause stands before fields with names, and behind
+/// others.
+pub struct Struct {
+    pub name: Name,
+    pub generics: Generics,
+    pub fields: Fields,
+    pub wheres: Wheres,
+}
+/// `union A<B> where C { d: E }` (Rust Reference, "Unions")
+pub struct Union {
+    pub name: Name,
+    pub generics: Generics,
+    pub wheres: Wheres,
+    pub fields: List<Field>,
+}
+/// `enum A<B> where C { D }` (Rust Reference, "Enumerations")
+pub struct Enum {
+    pub name: Name,
+    pub generics: Generics,
+    pub wheres: Wheres,
+    pub variants: List<Variant>,
+}
+/// The head of a constant or of a static (Rust Reference, "Constant items", "Static items"): all up to its value.
+pub enum ValueHead {
+    /// `const A: B`
+    Const {
+        name: GivenName,
+        ty: Ty,
+    },
+    /// `static mut A: B`
+    Static {
+        mutable: bool,
+        name: Name,
+        ty: Ty,
+    },
+}
+/// The head of a trait (Rust Reference, "Traits"): all up to its where clause.
+pub struct TraitHead {
+    pub is_unsafe: bool,
+    pub name: Name,
+    pub generics: Generics,
+    pub bounds: List<Bound>,
+}
+/// The head of an implementation (Rust Reference, "Implementations"): all up to its where clause.
+pub struct ImplHead {
+    pub is_unsafe: bool,
+    pub generics: Generics,
+    pub of: Option<TraitRef>,
+    pub ty: Ty,
+}
+/// The trait that is implemented: `A for` or, where it is said that it isn't, `!A for`.
+pub struct TraitRef {
+    pub negative: bool,
+    pub path: Path,
+}

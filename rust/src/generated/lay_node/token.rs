@@ -1,0 +1,57 @@
+//! Made by scripts/rust.sh from crates/lay_node/src/token.rt, which is proved: change that.
+//!
+//! Tokens of a tree: names, words, and the tokens of token lists.
+use crate::generated::lay_token::{Kind, Text};
+/// A name: an identifier that is no keyword, or a raw identifier, whose text is without `r#`.
+#[derive(Debug,)]
+pub struct Name {
+    pub raw: bool,
+    pub text: Text,
+}
+/// A name that is given, or `_` where none is.
+#[derive(Debug,)]
+pub enum GivenName {
+    Name(Name),
+    /// `_`
+    Underscore,
+}
+/// A word of a path: a name, or `crate`, `self`, `super` or `Self`.
+#[derive(Debug,)]
+pub struct Word {
+    pub raw: bool,
+    pub text: Text,
+}
+/// A token of a token list. Where it stood isn't in the tree, nor whether documentation was a block.
+#[derive(Debug,)]
+pub enum Listed {
+    /// Any token but documentation, with its joint mark: another punctuation token stands directly behind it.
+    Token {
+        kind: Kind,
+        text: Text,
+        joint: bool,
+    },
+    /// Documentation.
+    Doc {
+        inner: bool,
+        text: Text,
+    },
+}
+/// A lifetime, with its `'` (Rust Reference, "Lifetimes and loop labels").
+pub struct Lifetime {
+    pub text: Text,
+}
+/// A literal token, or `true` or `false`, which are identifiers (Rust Reference, "Literal expressions").
+pub struct Literal {
+    pub kind: Kind,
+    pub text: Text,
+}
+/// Whether each byte of a text is a decimal digit, as in the index of a tuple's field (Rust Reference, "Tuple index"). So it is
+/// of an empty text.
+pub fn are_digits(text: &[u8]) -> bool {
+    for byte in text {
+        if !byte.is_ascii_digit() {
+            return false;
+        }
+    }
+    true
+}

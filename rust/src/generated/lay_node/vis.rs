@@ -1,0 +1,20 @@
+//! Made by scripts/rust.sh from crates/lay_node/src/vis.rt, which is proved: change that.
+//!
+//! Visibilities.
+use crate::generated::lay_node::simple_path::SimplePath;
+/// Where an item or a field may be named (Rust Reference, "Visibility and privacy").
+#[derive(Debug,)]
+pub enum Vis {
+    /// Nothing: where it stands.
+    Inherited,
+    /// `pub`
+    Public,
+    /// `pub(crate)`
+    Crate,
+    /// `pub(self)`
+    Own,
+    /// `pub(super)`
+    Super,
+    /// `pub(in a::b)`
+    In(SimplePath),
+}

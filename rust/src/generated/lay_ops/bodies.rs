@@ -1,0 +1,54 @@
+//! Made by scripts/rust.sh from crates/lay_ops/src/bodies.rt, which is proved: change that.
+//!
+//! What is told of blocks, statements and items by their roots.
+use crate::generated::lay_ops::roots::{is_block_like, is_macro};
+use crate::generated::lay_code::{Attr, Block, Expr, Item, ItemKind, Lifetime, Stmt};
+/// Whether another statement may stand behind it.
+pub fn ends(stmt: &Stmt) -> bool {
+    match stmt {
+        Stmt::Let { .. } | Stmt::Item { .. } => true,
+        Stmt::Expr { expr, ended, .. } => *ended || is_block_like(expr.get()),
+    }
+}
+/// Whether an expression with these attributes is no macro call, and has neither attributes nor a `;`.
+fn is_lone_expr(attrs: &[Attr], ended: bool, expr: &Expr) -> bool {
+    attrs.is_empty() && !ended && !is_macro(expr)
+}
+/// Whether it is such an expression.
+fn is_lone_stmt(stmt: &Stmt) -> bool {
+    match stmt {
+        Stmt::Expr { attrs, expr, ended } => {
+            is_lone_expr(attrs.as_slice(), *ended, expr.get())
+        }
+        _ => false,
+    }
+}
+/// Whether it is one statement, which is such an expression.
+fn is_lone_list(stmts: &[Stmt]) -> bool {
+    match stmts {
+        [stmt] => is_lone_stmt(stmt),
+        _ => false,
+    }
+}
+/// Whether a block holds such an expression and nothing else.
+fn is_lone(block: &Block) -> bool {
+    block.attrs.as_slice().is_empty() && is_lone_list(block.stmts.as_slice())
+}
+/// Whether there is no label.
+fn is_unlabelled(label: &Option<Lifetime>) -> bool {
+    match label {
+        Some(_) => false,
+        None => true,
+    }
+}
+/// Whether it is a block whose braces are dropped where it is the body of an arm.
+pub fn is_lone_body(expr: &Expr) -> bool {
+    match expr {
+        Expr::Block { label, body } => is_unlabelled(label) && is_lone(body),
+        _ => false,
+    }
+}
+/// Whether an item is a macro call.
+pub fn is_call(item: &Item) -> bool {
+    matches!(item.kind.get(), ItemKind::Call { .. })
+}

@@ -1,0 +1,122 @@
+//! Made by scripts/rust.sh from crates/lay_ops/src/numbers.rt, which is proved: change that.
+//!
+//! Numbers without suffix.
+use crate::generated::lay_code::Expr;
+use crate::generated::lay_token::Kind;
+/// How far a number without suffix is read.
+#[derive(Clone, Copy,)]
+pub enum Reading {
+    /// Nothing of an integer.
+    Start,
+    /// `0`
+    Zero,
+    /// Digits, and nothing else can follow.
+    Digits,
+    /// `0x` and hexadecimal digits.
+    Hex,
+    /// Digits of a float.
+    Whole,
+    /// Digits behind a point.
+    Fraction,
+    /// The letter of an exponent.
+    Exponent,
+    /// What is no number without suffix.
+    Refused,
+}
+/// Whether an expression is a number without suffix.
+pub fn is_number(expr: &Expr) -> bool {
+    match expr {
+        Expr::Lit { literal } => is_bare_number(literal.kind, literal.text.as_bytes()),
+        _ => false,
+    }
+}
+/// Whether a number has no suffix.
+fn is_bare_number(kind: Kind, text: &[u8]) -> bool {
+    match kind {
+        Kind::Int => reads(text, Reading::Start),
+        Kind::Float => reads(text, Reading::Whole),
+        _ => false,
+    }
+}
+/// Whether the text goes on to its end with what is read.
+fn reads(text: &[u8], start: Reading) -> bool {
+    let mut reading = start;
+    let mut rest = text;
+    while let Some((character, behind)) = split_char(rest) {
+        reading = match u8::try_from(character) {
+            Ok(byte) => leads_to(reading, byte),
+            Err(_) => Reading::Refused,
+        };
+        rest = behind;
+    }
+    !matches!(reading, Reading::Refused)
+}
+/// How far a number is read with one more character, of those that are one byte in ASCII or Latin-1.
+fn leads_to(reading: Reading, byte: u8) -> Reading {
+    match reading {
+        Reading::Start => if byte == b'0' { Reading::Zero } else { digits(byte) },
+        Reading::Zero => {
+            if byte == b'x' { Reading::Hex } else if byte == b'o' || byte == b'b' {
+                Reading::Digits
+            } else { digits(byte) }
+        }
+        Reading::Digits => digits(byte),
+        Reading::Hex => if in_hex(byte) { Reading::Hex } else { Reading::Refused },
+        Reading::Whole => {
+            if in_digits(byte) { Reading::Whole } else if byte == b'.' {
+                Reading::Fraction
+            } else { exponent(byte) }
+        }
+        Reading::Fraction => {
+            if in_digits(byte) { Reading::Fraction } else { exponent(byte) }
+        }
+        Reading::Exponent => {
+            if byte == b'+' || byte == b'-' { Reading::Digits } else { digits(byte) }
+        }
+        Reading::Refused => Reading::Refused,
+    }
+}
+/// Digits, if the character is one.
+fn digits(byte: u8) -> Reading {
+    if in_digits(byte) { Reading::Digits } else { Reading::Refused }
+}
+/// An exponent, if the character is its letter.
+fn exponent(byte: u8) -> Reading {
+    if byte == b'e' || byte == b'E' { Reading::Exponent } else { Reading::Refused }
+}
+/// Whether the character is a digit or an underscore.
+fn in_digits(byte: u8) -> bool {
+    b'0' <= byte && byte <= b'9' || byte == b'_'
+}
+/// Whether the character is a hexadecimal digit or an underscore.
+fn in_hex(byte: u8) -> bool {
+    in_digits(byte) || b'A' <= byte && byte <= b'F' || b'a' <= byte && byte <= b'f'
+}
+/// The first character of a text and what stands behind it, if there is one. A text needn't be UTF-8.
+fn split_char(text: &[u8]) -> Option<(u64, &[u8])> {
+    match text {
+        [lead, behind @ ..] => split_behind(*lead, behind),
+        [] => None,
+    }
+}
+/// The same of a text that begins with this byte.
+fn split_behind(lead: u8, behind: &[u8]) -> Option<(u64, &[u8])> {
+    let bits = u64::from(lead);
+    if lead < 128 { Some((bits, behind)) } else if lead < 224 {
+        gather(1, bits.saturating_sub(192), behind)
+    } else if lead < 240 { gather(2, bits - 224, behind) } else {
+        gather(3, bits - 240, behind)
+    }
+}
+/// A character of these bits and those of so many bytes more, and what stands behind it.
+fn gather(count: u8, bits: u64, text: &[u8]) -> Option<(u64, &[u8])> {
+    if count == 0 {
+        return Some((bits, text));
+    }
+    match text {
+        [byte, behind @ ..] => {
+            gather(count - 1, bits * 64 + u64::from(*byte).saturating_sub(128), behind)
+        }
+        [] => None,
+    }
+}

@@ -1,0 +1,116 @@
+//! Made by scripts/rust.sh from crates/lay_ops/src/operands.rt, which is proved: change that.
+//!
+//! What the tokens ahead begin, if it is an expression.
+use crate::generated::lay_code::Place;
+use crate::generated::lay_nest::Cursor;
+use crate::generated::lay_token::word::{Class, word_class};
+use crate::generated::lay_token::{Delim, Kind, Token};
+/// What begins an expression.
+#[derive(Clone, Copy,)]
+pub enum ExprLead {
+    Literal,
+    /// A path, or a macro call.
+    Path,
+    Underscore,
+    /// A lifetime, which names a block or a loop.
+    Label,
+    Paren,
+    Bracket,
+    Brace,
+    /// An operator before its operand.
+    Prefix,
+    /// `..` or `..=`
+    Range,
+    Continue,
+    Break,
+    Return,
+    /// A word of an expression that holds a block.
+    BlockWord,
+    Closure,
+}
+/// Whether an operand begins at the front, at this place.
+pub fn begins_operand(at: &Cursor<'_>, place: Place) -> bool {
+    is_operand_lead(expr_lead_at(at), place.no_struct)
+}
+/// Whether this begins an operand, where no struct literal may stand or where one may.
+pub(crate) fn is_operand_lead(lead: Option<ExprLead>, no_struct: bool) -> bool {
+    match lead {
+        None => false,
+        Some(ExprLead::Brace) => !no_struct,
+        Some(_) => true,
+    }
+}
+/// What the tokens ahead begin, if it is an expression.
+pub fn expr_lead_at(at: &Cursor<'_>) -> Option<ExprLead> {
+    match at.peek(0) {
+        Some(token) => expr_lead_by(token.kind, token.text.as_bytes(), at),
+        None => None,
+    }
+}
+/// What a token of this kind and this text begins, which is the first of those ahead.
+fn expr_lead_by(kind: Kind, text: &[u8], at: &Cursor<'_>) -> Option<ExprLead> {
+    match kind {
+        Kind::Ident => lead_of_word(text, at),
+        Kind::RawIdent => Some(ExprLead::Path),
+        Kind::Underscore => Some(ExprLead::Underscore),
+        Kind::Lifetime => Some(ExprLead::Label),
+        Kind::Punct => lead_of_punct(text, at),
+        Kind::Opener(Delim::Paren) => Some(ExprLead::Paren),
+        Kind::Opener(Delim::Bracket) => Some(ExprLead::Bracket),
+        Kind::Opener(Delim::Brace) => Some(ExprLead::Brace),
+        Kind::Closer(_) | Kind::Doc { .. } => None,
+        _ => Some(ExprLead::Literal),
+    }
+}
+/// What a word begins.
+fn lead_of_word(word: &[u8], at: &Cursor<'_>) -> Option<ExprLead> {
+    if matches!(word_class(word), Class::Plain | Class::PathWord) {
+        Some(ExprLead::Path)
+    } else if word == b"true".as_slice() || word == b"false".as_slice() {
+        Some(ExprLead::Literal)
+    } else if word == b"continue".as_slice() {
+        Some(ExprLead::Continue)
+    } else if word == b"break".as_slice() {
+        Some(ExprLead::Break)
+    } else if word == b"return".as_slice() {
+        Some(ExprLead::Return)
+    } else if word == b"move".as_slice() {
+        Some(ExprLead::Closure)
+    } else if is_block_word(word, at) { Some(ExprLead::BlockWord) } else { None }
+}
+/// Whether a word begins an expression that holds a block. `const` does so before a `{` alone.
+fn is_block_word(word: &[u8], at: &Cursor<'_>) -> bool {
+    holds_block(word) || word == b"const".as_slice() && is_before_brace(at)
+}
+/// Whether the word begins an expression that holds a block, whatever stands behind it.
+fn holds_block(word: &[u8]) -> bool {
+    word == b"async".as_slice() || word == b"for".as_slice() || word == b"if".as_slice()
+        || word == b"loop".as_slice() || word == b"match".as_slice()
+        || word == b"unsafe".as_slice() || word == b"while".as_slice()
+}
+/// Whether a `{` stands behind the first token.
+fn is_before_brace(at: &Cursor<'_>) -> bool {
+    match at.peek(1) {
+        Some(token) => is_brace(token),
+        _ => false,
+    }
+}
+/// Whether the token is a `{`.
+fn is_brace(token: &Token) -> bool {
+    matches!(token.kind, Kind::Opener(Delim::Brace))
+}
+/// What punctuation begins.
+fn lead_of_punct(character: &[u8], at: &Cursor<'_>) -> Option<ExprLead> {
+    match character {
+        b"-" | b"*" | b"!" | b"&" => Some(ExprLead::Prefix),
+        b"|" => Some(ExprLead::Closure),
+        b"<" => Some(ExprLead::Path),
+        _ => lead_of_run(at),
+    }
+}
+/// What `::`, `..` and `..=` begin.
+fn lead_of_run(at: &Cursor<'_>) -> Option<ExprLead> {
+    if at.op_is(b"::") {
+        Some(ExprLead::Path)
+    } else if at.op_is(b"..") || at.op_is(b"..=") { Some(ExprLead::Range) } else { None }
+}

@@ -1,0 +1,128 @@
+//! Made by scripts/rust.sh from crates/lay_out_code/src/blocks.rt, which is proved: change that.
+//!
+//! Blocks and statements.
+use crate::generated::lay_out_code::exprs::add_expr;
+use crate::generated::lay_out_code::items::{add_inner_attrs, add_item};
+use crate::generated::lay_code::{Block, Boxed, Expr, Stmt};
+use crate::generated::lay_layout::Break;
+use crate::generated::lay_out_exprs::blocks::{close_soft, is_single};
+use crate::generated::lay_out_exprs::flags::both;
+use crate::generated::lay_out_heads::add_self_type;
+use crate::generated::lay_out_heads::calls::add_break;
+use crate::generated::lay_out_heads::loops::{close_body, open_body};
+use crate::generated::lay_out_tokens::HARD_BREAK;
+use crate::generated::lay_out_tokens::notation::{NEVER_BREAK, SPACE_BREAK};
+use crate::generated::lay_out_types::calls::{add_either, add_if, add_text};
+use crate::generated::lay_out_types::{add_attrs, add_pat};
+use crate::generated::lay_stream::Emit;
+/// Feeds the layout of a block, whose braces have a leading blank or not.
+pub fn put_block<
+    E: Emit,
+>(out: &mut E, lead: bool, block: &Block) -> Result<(), E::Fault> {
+    add_block(out, Ok(()), lead, block)
+}
+/// A block, with each statement on a line of its own. The braces have a leading blank or not.
+pub fn add_block<
+    E: Emit,
+>(
+    out: &mut E,
+    before: Result<(), E::Fault>,
+    lead: bool,
+    block: &Block,
+) -> Result<(), E::Fault> {
+    let attrs = block.attrs.as_slice();
+    let stmts = block.stmts.as_slice();
+    if both(attrs.is_empty(), stmts.is_empty()) {
+        return add_either(out, before, lead, b" {}", b"{}");
+    }
+    let opened = open_body(out, before, lead);
+    let attrs = add_inner_attrs(out, opened, attrs);
+    let stmts = add_stmts(out, attrs, HARD_BREAK, stmts);
+    close_body(out, stmts)
+}
+/// A block that may stand on one line where it is one expression.
+pub fn add_soft<
+    E: Emit,
+>(out: &mut E, before: Result<(), E::Fault>, block: &Block) -> Result<(), E::Fault> {
+    if is_single(block) {
+        let opened = open_body(out, before, true);
+        let stmts = add_stmts(out, opened, SPACE_BREAK, block.stmts.as_slice());
+        return close_soft(out, stmts);
+    }
+    add_block(out, before, true, block)
+}
+/// Statements, each behind a break.
+fn add_stmts<
+    E: Emit,
+>(
+    out: &mut E,
+    before: Result<(), E::Fault>,
+    lead: Break,
+    stmts: &[Stmt],
+) -> Result<(), E::Fault> {
+    let mut done = before;
+    for stmt in stmts {
+        done = add_break(out, done, lead);
+        done = add_stmt(out, done, stmt);
+    }
+    done
+}
+/// Feeds the layout of a statement.
+pub fn put_stmt<E: Emit>(out: &mut E, stmt: &Stmt) -> Result<(), E::Fault> {
+    add_stmt(out, Ok(()), stmt)
+}
+/// A statement.
+fn add_stmt<
+    E: Emit,
+>(out: &mut E, before: Result<(), E::Fault>, stmt: &Stmt) -> Result<(), E::Fault> {
+    match stmt {
+        Stmt::Let { attrs, pat, ty, value, otherwise } => {
+            let attrs = add_attrs(out, before, attrs.as_slice());
+            let word = add_text(out, attrs, b"let ");
+            let pat = add_pat(out, word, pat);
+            let ty = add_self_type(out, pat, ty);
+            let value = add_value(out, ty, value);
+            let otherwise = add_otherwise(out, value, otherwise);
+            add_text(out, otherwise, b";")
+        }
+        Stmt::Item { item } => add_item(out, before, item.get()),
+        Stmt::Expr { attrs, expr, ended } => {
+            let attrs = add_attrs(out, before, attrs.as_slice());
+            let expr = add_expr(out, attrs, false, expr.get());
+            add_if(out, expr, *ended, b";")
+        }
+    }
+}
+/// The block that a binding leads to where its pattern isn't matched, if there is one, behind its `else`.
+fn add_otherwise<
+    E: Emit,
+>(
+    out: &mut E,
+    before: Result<(), E::Fault>,
+    otherwise: &Option<Block>,
+) -> Result<(), E::Fault> {
+    match otherwise {
+        None => before,
+        Some(block) => {
+            let word = add_text(out, before, b" else");
+            add_block(out, word, true, block)
+        }
+    }
+}
+/// A value, if there is one, behind its `=`.
+pub fn add_value<
+    E: Emit,
+>(
+    out: &mut E,
+    before: Result<(), E::Fault>,
+    value: &Option<Boxed<Expr>>,
+) -> Result<(), E::Fault> {
+    match value {
+        None => before,
+        Some(expr) => {
+            let equals = add_text(out, before, b" = ");
+            let lead = add_break(out, equals, NEVER_BREAK);
+            add_expr(out, lead, false, expr.get())
+        }
+    }
+}

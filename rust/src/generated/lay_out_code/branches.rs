@@ -1,0 +1,128 @@
+//! Made by scripts/rust.sh from crates/lay_out_code/src/branches.rt, which is proved: change that.
+//!
+//! Conditions, branches and arms.
+use crate::generated::lay_out_code::blocks::add_soft;
+use crate::generated::lay_out_code::exprs::add_expr;
+use crate::generated::lay_out_code::items::add_inner_attrs;
+use crate::generated::lay_code::{Arm, Attr, Block, Boxed, Branch, Expr, Pat};
+use crate::generated::lay_out_exprs::arms::{arm_body, close_arm, open_arm};
+use crate::generated::lay_out_exprs::blocks::{add_condition_lead, add_else_word};
+use crate::generated::lay_out_exprs::flags::both;
+use crate::generated::lay_out_heads::calls::add_break;
+use crate::generated::lay_out_heads::loops::{close_body, open_body};
+use crate::generated::lay_out_tokens::HARD_BREAK;
+use crate::generated::lay_out_tokens::notation::NEVER_BREAK;
+use crate::generated::lay_out_types::calls::add_text;
+use crate::generated::lay_out_types::lists::add_end;
+use crate::generated::lay_out_types::{add_attrs, add_group, add_pat};
+use crate::generated::lay_stream::Emit;
+/// A condition behind its word, in a group of its own. It may be what a pattern is matched with.
+pub fn add_condition<
+    E: Emit,
+>(
+    out: &mut E,
+    before: Result<(), E::Fault>,
+    word: &[u8],
+    pat: &Option<Pat>,
+    condition: &Expr,
+) -> Result<(), E::Fault> {
+    let lead = add_condition_lead(out, before, word, pat);
+    let condition = add_expr(out, lead, false, condition);
+    add_end(out, condition)
+}
+/// Branches, with `else` between them.
+pub fn add_branches<
+    E: Emit,
+>(
+    out: &mut E,
+    before: Result<(), E::Fault>,
+    branches: &[Branch],
+) -> Result<(), E::Fault> {
+    let mut done = before;
+    for (index, branch) in branches.iter().enumerate() {
+        done = add_else_word(out, done, index == 0);
+        done = add_condition(out, done, b"if ", &branch.pat, branch.condition.get());
+        done = add_soft(out, done, &branch.body);
+    }
+    done
+}
+/// The block behind the last branch, if there is one, behind its `else`.
+pub fn add_else<
+    E: Emit,
+>(
+    out: &mut E,
+    before: Result<(), E::Fault>,
+    otherwise: &Option<Block>,
+) -> Result<(), E::Fault> {
+    match otherwise {
+        None => before,
+        Some(block) => {
+            let word = add_text(out, before, b" else");
+            add_soft(out, word, block)
+        }
+    }
+}
+/// Inner attributes and arms in braces, each on a line of its own.
+pub fn add_arms<
+    E: Emit,
+>(
+    out: &mut E,
+    before: Result<(), E::Fault>,
+    attrs: &[Attr],
+    arms: &[Arm],
+) -> Result<(), E::Fault> {
+    if both(attrs.is_empty(), arms.is_empty()) {
+        return add_text(out, before, b" {}");
+    }
+    let opened = open_body(out, before, true);
+    let attrs = add_inner_attrs(out, opened, attrs);
+    let arms = add_arm_lines(out, attrs, arms);
+    close_body(out, arms)
+}
+/// Arms, each behind a newline.
+fn add_arm_lines<
+    E: Emit,
+>(out: &mut E, before: Result<(), E::Fault>, arms: &[Arm]) -> Result<(), E::Fault> {
+    let mut done = before;
+    for arm in arms {
+        done = add_break(out, done, HARD_BREAK);
+        done = add_arm(out, done, arm);
+    }
+    done
+}
+/// Feeds the layout of an arm, which is the same whether or not it is the last.
+pub fn put_arm<E: Emit>(out: &mut E, arm: &Arm) -> Result<(), E::Fault> {
+    add_arm(out, Ok(()), arm)
+}
+/// An arm.
+fn add_arm<
+    E: Emit,
+>(out: &mut E, before: Result<(), E::Fault>, arm: &Arm) -> Result<(), E::Fault> {
+    let attrs = add_attrs(out, before, arm.attrs.as_slice());
+    let group = add_group(out, attrs);
+    let pat = add_pat(out, group, &arm.pat);
+    let guard = add_guard(out, pat, &arm.guard);
+    let head = add_end(out, guard);
+    let arrow = add_text(out, head, b" => ");
+    let never = add_break(out, arrow, NEVER_BREAK);
+    let kind = arm_body(arm.body.get());
+    let opened = open_arm(out, never, kind);
+    let inner = add_expr(out, opened, false, arm.body.get());
+    close_arm(out, inner, kind)
+}
+/// The guard of an arm, if it has one, behind its `if`.
+fn add_guard<
+    E: Emit,
+>(
+    out: &mut E,
+    before: Result<(), E::Fault>,
+    guard: &Option<Boxed<Expr>>,
+) -> Result<(), E::Fault> {
+    match guard {
+        None => before,
+        Some(guard) => {
+            let word = add_text(out, before, b" if ");
+            add_expr(out, word, false, guard.get())
+        }
+    }
+}

@@ -1,0 +1,263 @@
+//! Made by scripts/rust.sh from crates/lay_out_code/src/exprs.rt, which is proved: change that.
+//!
+//! Expressions.
+use crate::generated::lay_out_code::blocks::{add_block, add_soft};
+use crate::generated::lay_out_code::branches::{
+    add_arms,
+    add_branches,
+    add_condition,
+    add_else,
+};
+use crate::generated::lay_out_code::operands::{
+    add_base,
+    add_fields,
+    add_operands,
+    add_steps,
+    add_targets,
+};
+use crate::generated::lay_code::{Boxed, Expr, PathStyle};
+use crate::generated::lay_out_exprs::add_closure_head;
+use crate::generated::lay_out_exprs::blocks::add_labelled;
+use crate::generated::lay_out_exprs::flags::both;
+use crate::generated::lay_out_exprs::operators::{add_casts, add_label, add_prefixes};
+use crate::generated::lay_out_exprs::points::{ends_in_point, operand_ends_in_point};
+use crate::generated::lay_out_exprs::steps::{
+    add_steps_end,
+    add_steps_start,
+    are_several_methods,
+};
+use crate::generated::lay_out_types::calls::{
+    add_call,
+    add_if,
+    add_literal,
+    add_text,
+    add_tokens,
+};
+use crate::generated::lay_out_types::lists::{add_begin, add_close, add_end, add_lead};
+use crate::generated::lay_out_types::{
+    add_closing_brace,
+    add_dots_behind,
+    add_group,
+    add_pat,
+    add_path,
+    add_type,
+};
+use crate::generated::lay_stream::Emit;
+/// Feeds the layout of an expression.
+pub fn put_expr<E: Emit>(out: &mut E, node: &Expr) -> Result<(), E::Fault> {
+    add_expr(out, Ok(()), false, node)
+}
+/// An expression. The flag says that a point stands before it.
+pub fn add_expr<
+    E: Emit,
+>(
+    out: &mut E,
+    before: Result<(), E::Fault>,
+    point: bool,
+    node: &Expr,
+) -> Result<(), E::Fault> {
+    match node {
+        Expr::Lit { literal } => add_literal(out, before, literal),
+        Expr::Path { path } => add_path(out, before, path, PathStyle::Code),
+        Expr::Underscore => add_text(out, before, b"_"),
+        Expr::Call { call } => add_call(out, before, call),
+        Expr::Paren { inner } => {
+            let opener = add_text(out, before, b"(");
+            let inner = add_expr(out, opener, false, inner.get());
+            add_text(out, inner, b")")
+        }
+        Expr::Continue { label } => {
+            let word = add_text(out, before, b"continue");
+            add_label(out, word, label)
+        }
+        Expr::Tuple { elements } => add_tuple(out, before, elements.as_slice()),
+        Expr::Array { elements } => {
+            add_exprs(out, before, elements.as_slice(), b"[", b"[]", b"]")
+        }
+        Expr::Repeat { element, length } => {
+            let opener = add_text(out, before, b"[");
+            let element = add_expr(out, opener, false, element.get());
+            let semicolon = add_text(out, element, b"; ");
+            let length = add_tokens(out, semicolon, length);
+            add_text(out, length, b"]")
+        }
+        Expr::Struct { path, fields, base } => {
+            let path = add_path(out, before, path, PathStyle::Code);
+            let fields = fields.as_slice();
+            let inner = add_fields(out, path, fields);
+            match base {
+                None => add_closing_brace(out, inner, true, fields.is_empty()),
+                Some(base) => {
+                    let base = add_base(out, inner, fields.is_empty(), base);
+                    add_closing_brace(out, base, false, false)
+                }
+            }
+        }
+        Expr::Chain { first, rest } => {
+            let group = add_begin(out, before);
+            let first = add_expr(out, group, point, first.get());
+            let rest = add_operands(out, first, rest.as_slice());
+            add_end(out, rest)
+        }
+        Expr::Cast { operand, types } => {
+            let operand = add_expr(out, before, point, operand.get());
+            add_casts(out, operand, types.as_slice())
+        }
+        Expr::Unary { prefixes, operand } => {
+            let prefixes = prefixes.as_slice();
+            let signs = add_prefixes(out, before, prefixes);
+            add_expr(out, signs, both(point, prefixes.is_empty()), operand.get())
+        }
+        Expr::Range { start, inclusive, end } => {
+            let first = add_optional(out, before, point, start);
+            let dots = add_dots_behind(
+                out,
+                first,
+                *inclusive,
+                operand_ends_in_point(point, start),
+            );
+            add_optional(out, dots, !*inclusive, end)
+        }
+        Expr::Assign { targets, value } => {
+            let targets = targets.as_slice();
+            let assigned = add_targets(out, before, point, targets);
+            add_expr(out, assigned, both(point, targets.is_empty()), value.get())
+        }
+        Expr::Postfix { base, steps } => {
+            let base = base.get();
+            let steps = steps.as_slice();
+            let several = are_several_methods(steps);
+            let start = add_steps_start(out, before, several);
+            let first = add_expr(out, start, point, base);
+            let rest = add_steps(out, first, ends_in_point(point, base), several, steps);
+            add_steps_end(out, rest, several)
+        }
+        Expr::Block { label, body } => {
+            let label = add_labelled(out, before, label);
+            add_block(out, label, false, body)
+        }
+        Expr::Unsafe { body } => {
+            let word = add_text(out, before, b"unsafe");
+            add_soft(out, word, body)
+        }
+        Expr::ConstBlock { body } => {
+            let word = add_text(out, before, b"const");
+            add_soft(out, word, body)
+        }
+        Expr::Async { moves, body } => {
+            let word = add_text(out, before, b"async");
+            let word = add_if(out, word, *moves, b" move");
+            add_block(out, word, true, body)
+        }
+        Expr::If { branches, otherwise } => {
+            let branches = add_branches(out, before, branches.as_slice());
+            add_else(out, branches, otherwise)
+        }
+        Expr::Match { scrutinee, attrs, arms } => {
+            let head = add_condition(out, before, b"match ", &None, scrutinee.get());
+            add_arms(out, head, attrs.as_slice(), arms.as_slice())
+        }
+        Expr::Loop { label, body } => {
+            let label = add_labelled(out, before, label);
+            let word = add_text(out, label, b"loop");
+            add_block(out, word, true, body)
+        }
+        Expr::While { label, pat, condition, body } => {
+            let label = add_labelled(out, before, label);
+            let head = add_condition(out, label, b"while ", pat, condition.get());
+            add_block(out, head, true, body)
+        }
+        Expr::For { label, pat, iterated, body } => {
+            let label = add_labelled(out, before, label);
+            let group = add_group(out, label);
+            let word = add_text(out, group, b"for ");
+            let pat = add_pat(out, word, pat);
+            let word = add_text(out, pat, b" in ");
+            let iterated = add_expr(out, word, false, iterated.get());
+            let head = add_end(out, iterated);
+            add_block(out, head, true, body)
+        }
+        Expr::Closure { moves, params, body } => {
+            let head = add_closure_head(out, before, *moves, params.as_slice());
+            let blank = add_text(out, head, b" ");
+            add_expr(out, blank, false, body.get())
+        }
+        Expr::TypedClosure { moves, params, output, body } => {
+            let head = add_closure_head(out, before, *moves, params.as_slice());
+            let arrow = add_text(out, head, b" -> ");
+            let output = add_type(out, arrow, output);
+            add_block(out, output, true, body)
+        }
+        Expr::Return { operand } => {
+            let word = add_text(out, before, b"return");
+            add_operand(out, word, operand)
+        }
+        Expr::Break { label, operand } => {
+            let word = add_text(out, before, b"break");
+            let label = add_label(out, word, label);
+            add_operand(out, label, operand)
+        }
+    }
+}
+/// A tuple, which has a comma behind a single element.
+fn add_tuple<
+    E: Emit,
+>(out: &mut E, before: Result<(), E::Fault>, elements: &[Expr]) -> Result<(), E::Fault> {
+    match elements {
+        [] => add_text(out, before, b"()"),
+        [element] => {
+            let opener = add_text(out, before, b"(");
+            let element = add_expr(out, opener, false, element);
+            add_text(out, element, b",)")
+        }
+        [_, _, ..] => add_exprs(out, before, elements, b"(", b"()", b")"),
+    }
+}
+/// Expressions in brackets, with a `,` between them. Without an expression the brackets are one text.
+pub fn add_exprs<
+    E: Emit,
+>(
+    out: &mut E,
+    before: Result<(), E::Fault>,
+    exprs: &[Expr],
+    opener: &[u8],
+    both: &[u8],
+    closer: &[u8],
+) -> Result<(), E::Fault> {
+    let mut done = before;
+    for (index, expr) in exprs.iter().enumerate() {
+        done = add_lead(out, done, index == 0, opener);
+        done = add_expr(out, done, false, expr);
+    }
+    add_close(out, done, true, exprs.is_empty(), both, closer)
+}
+/// An expression, if there is one.
+pub fn add_optional<
+    E: Emit,
+>(
+    out: &mut E,
+    before: Result<(), E::Fault>,
+    point: bool,
+    node: &Option<Boxed<Expr>>,
+) -> Result<(), E::Fault> {
+    match node {
+        None => before,
+        Some(node) => add_expr(out, before, point, node.get()),
+    }
+}
+/// The operand of a `return` or a `break` behind its blank, if there is one.
+fn add_operand<
+    E: Emit,
+>(
+    out: &mut E,
+    before: Result<(), E::Fault>,
+    operand: &Option<Boxed<Expr>>,
+) -> Result<(), E::Fault> {
+    match operand {
+        None => before,
+        Some(operand) => {
+            let blank = add_text(out, before, b" ");
+            add_expr(out, blank, false, operand.get())
+        }
+    }
+}

@@ -1,0 +1,81 @@
+//! Made by scripts/rust.sh from crates/lay_out_exprs/src/blocks.rt, which is proved: change that.
+//!
+//! What stands round blocks, and before them.
+use crate::generated::lay_out_exprs::flags::both;
+use crate::generated::lay_code::{Attr, Block, Lifetime, Pat, Stmt};
+use crate::generated::lay_out_heads::calls::add_break;
+use crate::generated::lay_out_tokens::notation::CLOSING_SPACE_BREAK;
+use crate::generated::lay_out_types::calls::add_text;
+use crate::generated::lay_out_types::lists::add_end;
+use crate::generated::lay_out_types::{add_group, add_pat};
+use crate::generated::lay_stream::Emit;
+/// A label before a loop or a block, if there is one.
+pub fn add_labelled<
+    E: Emit,
+>(
+    out: &mut E,
+    before: Result<(), E::Fault>,
+    label: &Option<Lifetime>,
+) -> Result<(), E::Fault> {
+    match label {
+        None => before,
+        Some(label) => {
+            let label = add_text(out, before, label.text.as_bytes());
+            add_text(out, label, b": ")
+        }
+    }
+}
+/// What stands before a condition: what opens its group, the word, and a pattern that it is matched with, if there is one.
+pub fn add_condition_lead<
+    E: Emit,
+>(
+    out: &mut E,
+    before: Result<(), E::Fault>,
+    word: &[u8],
+    pat: &Option<Pat>,
+) -> Result<(), E::Fault> {
+    let group = add_group(out, before);
+    let word = add_text(out, group, word);
+    match pat {
+        None => word,
+        Some(pat) => {
+            let word = add_text(out, word, b"let ");
+            let pat = add_pat(out, word, pat);
+            add_text(out, pat, b" = ")
+        }
+    }
+}
+/// What stands before a branch: the word `else`, unless it is the first one.
+pub fn add_else_word<
+    E: Emit,
+>(out: &mut E, before: Result<(), E::Fault>, first: bool) -> Result<(), E::Fault> {
+    if first {
+        return before;
+    }
+    add_text(out, before, b" else ")
+}
+/// Whether a block is one expression without a `;`.
+pub fn is_single(block: &Block) -> bool {
+    if !block.attrs.as_slice().is_empty() {
+        return false;
+    }
+    match block.stmts.as_slice() {
+        [stmt] => is_bare(stmt),
+        _ => false,
+    }
+}
+/// Whether a statement is an expression without attributes and without a `;`.
+fn is_bare(stmt: &Stmt) -> bool {
+    match stmt {
+        Stmt::Expr { attrs, ended, .. } => both(attrs.as_slice().is_empty(), !*ended),
+        _ => false,
+    }
+}
+/// Closes a block of one expression, on its line or on one of its own.
+pub fn close_soft<
+    E: Emit,
+>(out: &mut E, before: Result<(), E::Fault>) -> Result<(), E::Fault> {
+    let line = add_break(out, before, CLOSING_SPACE_BREAK);
+    let end = add_end(out, line);
+    add_text(out, end, b"}")
+}

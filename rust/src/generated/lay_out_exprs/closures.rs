@@ -1,0 +1,49 @@
+//! Made by scripts/rust.sh from crates/lay_out_exprs/src/closures.rt, which is proved: change that.
+//!
+//! What stands before the body of a closure.
+use crate::generated::lay_code::ClosureParam;
+use crate::generated::lay_out_heads::add_self_type;
+use crate::generated::lay_out_types::add_pat;
+use crate::generated::lay_out_types::calls::add_if;
+use crate::generated::lay_out_types::lists::{add_close, add_lead};
+use crate::generated::lay_out_types::parts::add_param_attrs;
+use crate::generated::lay_stream::Emit;
+/// The word `move`, if it is said, and parameters.
+pub fn add_closure_head<
+    E: Emit,
+>(
+    out: &mut E,
+    before: Result<(), E::Fault>,
+    moves: bool,
+    params: &[ClosureParam],
+) -> Result<(), E::Fault> {
+    let word = add_if(out, before, moves, b"move ");
+    add_params(out, word, params)
+}
+/// Parameters between bars, with a `,` between them.
+fn add_params<
+    E: Emit,
+>(
+    out: &mut E,
+    before: Result<(), E::Fault>,
+    params: &[ClosureParam],
+) -> Result<(), E::Fault> {
+    let mut done = before;
+    for (index, param) in params.iter().enumerate() {
+        done = add_lead(out, done, index == 0, b"|");
+        done = add_param(out, done, param);
+    }
+    add_close(out, done, true, params.is_empty(), b"||", b"|")
+}
+/// A parameter, behind its attributes.
+fn add_param<
+    E: Emit,
+>(
+    out: &mut E,
+    before: Result<(), E::Fault>,
+    param: &ClosureParam,
+) -> Result<(), E::Fault> {
+    let attrs = add_param_attrs(out, before, param.attrs.as_slice());
+    let pat = add_pat(out, attrs, &param.pat);
+    add_self_type(out, pat, &param.ty)
+}

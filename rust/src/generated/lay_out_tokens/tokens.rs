@@ -1,0 +1,182 @@
+//! Made by scripts/rust.sh from crates/lay_out_tokens/src/tokens.rt, which is proved: change that.
+//!
+//! Token lists and groups.
+use crate::generated::lay_out_tokens::neighbours::{Neighbour, kind_of};
+use crate::generated::lay_out_tokens::notation::{
+    CLOSING_HARD_BREAK,
+    CLOSING_SOFT_BREAK,
+    CLOSING_SPACE_BREAK,
+    HARD_BREAK,
+    SOFT_BREAK,
+    SPACE_BREAK,
+};
+use crate::generated::lay_out_tokens::separation::{Seen, Separation, between};
+use crate::generated::lay_out_tokens::words::{put_doc, put_token};
+use crate::generated::lay_node::{Group, Listed, Tokens};
+use crate::generated::lay_stream::Emit;
+use crate::generated::lay_token::{Break, Delim, Kind};
+/// Feeds the layout of a token list.
+pub fn put_tokens<E: Emit>(out: &mut E, tokens: &Tokens) -> Result<(), E::Fault> {
+    out.begin(false, 4)?;
+    let line = put_list(out, tokens.as_slice())?;
+    out.end()?;
+    put_list_end(out, line)
+}
+/// A newline behind a list that ends in documentation on a line.
+fn put_list_end<E: Emit>(out: &mut E, line: bool) -> Result<(), E::Fault> {
+    if line {
+        return out.brk(HARD_BREAK);
+    }
+    Ok(())
+}
+/// Feeds the layout of a group.
+pub fn put_group<E: Emit>(out: &mut E, group: &Group) -> Result<(), E::Fault> {
+    put_enclosed(out, group.delim, &group.tokens)
+}
+/// Feeds the layout of a token list in delimiters, which is that of a group.
+pub fn put_enclosed<
+    E: Emit,
+>(out: &mut E, delim: Delim, tokens: &Tokens) -> Result<(), E::Fault> {
+    let tokens = tokens.as_slice();
+    if tokens.is_empty() {
+        return put_empty_group(out, delim);
+    }
+    put_full_group(out, delim, tokens)
+}
+/// A group of these tokens.
+fn put_full_group<
+    E: Emit,
+>(out: &mut E, delim: Delim, tokens: &[Listed]) -> Result<(), E::Fault> {
+    open_group(out, delim)?;
+    let line = put_list(out, tokens)?;
+    close_group(out, delim, line)
+}
+/// Tokens whose delimiters are balanced. Answers whether the last one is documentation on a line.
+fn put_list<E: Emit>(out: &mut E, tokens: &[Listed]) -> Result<bool, E::Fault> {
+    let mut seen = Seen::at_start(0);
+    let mut rest = tokens;
+    while let Some((token, more)) = rest.split_first() {
+        put_next(out, &seen, token, more)?;
+        seen = seen.behind(token);
+        rest = more;
+    }
+    Ok(seen.last.is_line_doc())
+}
+/// One token, which others follow.
+fn put_next<
+    E: Emit,
+>(
+    out: &mut E,
+    seen: &Seen<'_>,
+    token: &Listed,
+    more: &[Listed],
+) -> Result<(), E::Fault> {
+    match kind_of(token) {
+        Kind::Opener(delim) => put_opener(out, seen, delim, closes_at_once(more)),
+        Kind::Closer(delim) => put_closer(out, seen, delim),
+        _ => put_single(out, seen, token),
+    }
+}
+/// Whether a closer is the next token.
+fn closes_at_once(more: &[Listed]) -> bool {
+    match more {
+        [] => false,
+        [first, ..] => is_closer(kind_of(first)),
+    }
+}
+fn is_closer(kind: Kind) -> bool {
+    matches!(kind, Kind::Closer(_))
+}
+/// What opens a group, or all of a group without tokens.
+fn put_opener<
+    E: Emit,
+>(out: &mut E, seen: &Seen<'_>, delim: Delim, empty: bool) -> Result<(), E::Fault> {
+    put_gap(out, between(seen, &Neighbour::Enclosed(delim)))?;
+    if empty {
+        return put_empty_group(out, delim);
+    }
+    open_group(out, delim)
+}
+/// What closes a group, unless it has no tokens.
+fn put_closer<
+    E: Emit,
+>(out: &mut E, seen: &Seen<'_>, delim: Delim) -> Result<(), E::Fault> {
+    if seen.last.is_nothing() {
+        return Ok(());
+    }
+    close_group(out, delim, seen.last.is_line_doc())
+}
+/// A token that is no delimiter.
+fn put_single<
+    E: Emit,
+>(out: &mut E, seen: &Seen<'_>, token: &Listed) -> Result<(), E::Fault> {
+    put_gap(out, between(seen, &Neighbour::Single(token)))?;
+    put_listed(out, token)
+}
+fn put_listed<E: Emit>(out: &mut E, token: &Listed) -> Result<(), E::Fault> {
+    match token {
+        Listed::Token { kind, text, .. } => put_token(out, *kind, text.as_bytes()),
+        Listed::Doc { inner, text } => put_doc(out, *inner, text.as_bytes()),
+    }
+}
+/// What stands between two neighbours.
+fn put_gap<E: Emit>(out: &mut E, separation: Separation) -> Result<(), E::Fault> {
+    match separation {
+        Separation::NoBreak => Ok(()),
+        Separation::SoftBreak => out.brk(SPACE_BREAK),
+        Separation::HardBreak => out.brk(HARD_BREAK),
+    }
+}
+/// A group without tokens is one text.
+fn put_empty_group<E: Emit>(out: &mut E, delim: Delim) -> Result<(), E::Fault> {
+    match delim {
+        Delim::Paren => out.text(b"()"),
+        Delim::Bracket => out.text(b"[]"),
+        Delim::Brace => out.text(b"{}"),
+    }
+}
+/// What opens a group with tokens.
+fn open_group<E: Emit>(out: &mut E, delim: Delim) -> Result<(), E::Fault> {
+    out.begin(true, 4)?;
+    out.text(opening(delim))?;
+    out.brk(opening_break(delim))?;
+    out.begin(false, 0)
+}
+/// What closes a group with tokens; the last one may be documentation on a line.
+fn close_group<E: Emit>(out: &mut E, delim: Delim, line: bool) -> Result<(), E::Fault> {
+    out.end()?;
+    out.brk(closing_break(delim, line))?;
+    out.text(closing(delim))?;
+    out.end()
+}
+fn opening(delim: Delim) -> &'static [u8] {
+    match delim {
+        Delim::Paren => b"(",
+        Delim::Bracket => b"[",
+        Delim::Brace => b"{",
+    }
+}
+fn closing(delim: Delim) -> &'static [u8] {
+    match delim {
+        Delim::Paren => b")",
+        Delim::Bracket => b"]",
+        Delim::Brace => b"}",
+    }
+}
+/// The break behind an opener: braces have blanks within.
+fn opening_break(delim: Delim) -> Break {
+    match delim {
+        Delim::Brace => SPACE_BREAK,
+        _ => SOFT_BREAK,
+    }
+}
+/// The break before a closer.
+fn closing_break(delim: Delim, line: bool) -> Break {
+    if line {
+        return CLOSING_HARD_BREAK;
+    }
+    match delim {
+        Delim::Brace => CLOSING_SPACE_BREAK,
+        _ => CLOSING_SOFT_BREAK,
+    }
+}

@@ -1,0 +1,167 @@
+//! Made by scripts/rust.sh from crates/lay_out_types/src/parts.rt, which is proved: change that.
+//!
+//! What types and generic parameters are made of, with no type within it.
+use crate::generated::lay_out_types::calls::{
+    add_attr,
+    add_braces,
+    add_either,
+    add_literal,
+    add_text,
+    add_word,
+};
+use crate::generated::lay_out_types::lists::{add_close, add_lead};
+use crate::generated::lay_node::{
+    Abi,
+    Attr,
+    Binder,
+    ConstArg,
+    GivenName,
+    Lifetime,
+    LifetimeParam,
+};
+use crate::generated::lay_stream::Emit;
+/// Attributes of a parameter.
+pub fn add_param_attrs<
+    E: Emit,
+>(out: &mut E, before: Result<(), E::Fault>, attrs: &[Attr]) -> Result<(), E::Fault> {
+    let mut done = before;
+    for attr in attrs {
+        done = add_attr(out, done, attr);
+    }
+    done
+}
+/// Lifetimes that another one outlives, behind a `:`; nothing without them.
+pub fn add_outlived<
+    E: Emit,
+>(
+    out: &mut E,
+    before: Result<(), E::Fault>,
+    lifetimes: &[Lifetime],
+) -> Result<(), E::Fault> {
+    let mut done = before;
+    for (index, lifetime) in lifetimes.iter().enumerate() {
+        done = add_either(out, done, index == 0, b": ", b" + ");
+        done = add_text(out, done, lifetime.text.as_bytes());
+    }
+    done
+}
+/// A generic parameter that is a lifetime.
+pub fn add_lifetime_param<
+    E: Emit,
+>(
+    out: &mut E,
+    before: Result<(), E::Fault>,
+    param: &LifetimeParam,
+) -> Result<(), E::Fault> {
+    let attrs = add_param_attrs(out, before, param.attrs.as_slice());
+    let lifetime = add_text(out, attrs, param.lifetime.text.as_bytes());
+    add_outlived(out, lifetime, param.bounds.as_slice())
+}
+/// A binder, and a blank behind it.
+pub fn add_binder<
+    E: Emit,
+>(
+    out: &mut E,
+    before: Result<(), E::Fault>,
+    binder: &Option<Binder>,
+) -> Result<(), E::Fault> {
+    match binder {
+        None => before,
+        Some(binder) => {
+            let word = add_text(out, before, b"for");
+            let params = add_lifetime_params(out, word, binder.params.as_slice());
+            add_text(out, params, b" ")
+        }
+    }
+}
+/// Lifetimes in `<` and `>`.
+fn add_lifetime_params<
+    E: Emit,
+>(
+    out: &mut E,
+    before: Result<(), E::Fault>,
+    params: &[LifetimeParam],
+) -> Result<(), E::Fault> {
+    let mut done = before;
+    for (index, param) in params.iter().enumerate() {
+        done = add_lead(out, done, index == 0, b"<");
+        done = add_lifetime_param(out, done, param);
+    }
+    add_close(out, done, true, params.is_empty(), b"<>", b">")
+}
+/// A generic argument that is a constant.
+pub fn add_const<
+    E: Emit,
+>(out: &mut E, before: Result<(), E::Fault>, value: &ConstArg) -> Result<(), E::Fault> {
+    match value {
+        ConstArg::Literal(literal) => add_literal(out, before, literal),
+        ConstArg::Negative(literal) => {
+            let minus = add_text(out, before, b"-");
+            add_literal(out, minus, literal)
+        }
+        ConstArg::Braces(tokens) => add_braces(out, before, tokens),
+    }
+}
+/// An ABI, and a blank behind it.
+pub fn add_abi<
+    E: Emit,
+>(out: &mut E, before: Result<(), E::Fault>, abi: &Option<Abi>) -> Result<(), E::Fault> {
+    match abi {
+        None => before,
+        Some(abi) => {
+            let word = add_text(out, before, b"extern ");
+            match &abi.name {
+                None => word,
+                Some(name) => {
+                    let name = add_literal(out, word, name);
+                    add_text(out, name, b" ")
+                }
+            }
+        }
+    }
+}
+/// The `&` of a reference, and its lifetime with a blank behind it.
+pub fn add_reference<
+    E: Emit,
+>(
+    out: &mut E,
+    before: Result<(), E::Fault>,
+    lifetime: &Option<Lifetime>,
+) -> Result<(), E::Fault> {
+    let reference = add_text(out, before, b"&");
+    match lifetime {
+        None => reference,
+        Some(lifetime) => {
+            let lifetime = add_text(out, reference, lifetime.text.as_bytes());
+            add_text(out, lifetime, b" ")
+        }
+    }
+}
+/// What a parameter of a function type is called, and a `:` behind it.
+pub fn add_param_name<
+    E: Emit,
+>(
+    out: &mut E,
+    before: Result<(), E::Fault>,
+    name: &Option<GivenName>,
+) -> Result<(), E::Fault> {
+    match name {
+        None => before,
+        Some(name) => add_given_name(out, before, name),
+    }
+}
+/// A name that is given, or the `_` of none, and a `:` behind it.
+pub fn add_given_name<
+    E: Emit,
+>(out: &mut E, before: Result<(), E::Fault>, name: &GivenName) -> Result<(), E::Fault> {
+    match name {
+        GivenName::Underscore => {
+            let name = add_text(out, before, b"_");
+            add_text(out, name, b": ")
+        }
+        GivenName::Name(name) => {
+            let name = add_word(out, before, name.raw, &name.text);
+            add_text(out, name, b": ")
+        }
+    }
+}

@@ -1,0 +1,57 @@
+//! Made by scripts/rust.sh from crates/lay_piece/src/kind.rt, which is proved: change that.
+//!
+//! The kinds of tokens.
+/// What a delimiter is made of.
+#[derive(Clone, Copy, Debug, PartialEq, Eq,)]
+pub enum Delim {
+    /// `(` and `)`
+    Paren,
+    /// `[` and `]`
+    Bracket,
+    /// `{` and `}`
+    Brace,
+}
+/// The kind of a token (Rust Reference, "Tokens"). A kind's example is a whole piece of it.
+#[derive(Clone, Copy, Debug, PartialEq, Eq,)]
+pub enum Kind {
+    /// `name`, a keyword too
+    Ident,
+    /// `r#type`
+    RawIdent,
+    /// `_`
+    Underscore,
+    /// `'a`
+    Lifetime,
+    /// `'x'`
+    Char,
+    /// `"x\n"`
+    Str,
+    /// `r#"x"#`
+    RawStr,
+    /// `b'x'`
+    Byte,
+    /// `b"x\xff"`
+    ByteStr,
+    /// `br#"x"#`
+    RawByteStr,
+    /// `c"x"`
+    CStr,
+    /// `cr#"x"#`
+    RawCStr,
+    /// `0xff_u8`
+    Int,
+    /// `1.5e-3f64`
+    Float,
+    /// `+`, one character
+    Punct,
+    /// `(`
+    Opener(Delim),
+    /// `)`
+    Closer(Delim),
+    /// `/// text`, `//! text`, `/** text */` or `/*! text */`: documentation of what follows, or with `inner`
+    /// of what it stands in, as a line or as a block.
+    Doc {
+        inner: bool,
+        block: bool,
+    },
+}

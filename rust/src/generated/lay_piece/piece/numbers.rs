@@ -1,0 +1,128 @@
+//! Made by scripts/rust.sh from crates/lay_piece/src/piece/numbers.rt, which is proved: change that.
+//!
+//! Numbers.
+use crate::generated::lay_piece::kind::Kind;
+use crate::generated::lay_piece::piece::chars::{CharSet, first};
+/// The base of a number.
+#[derive(Clone, Copy, Debug, PartialEq, Eq,)]
+pub enum Base {
+    Binary,
+    Octal,
+    Decimal,
+    Hexadecimal,
+}
+impl Base {
+    /// Whether the character is a digit of the base.
+    pub fn has_digit(self, c: char) -> bool {
+        match self {
+            Base::Binary => '0' <= c && c <= '1',
+            Base::Octal => '0' <= c && c <= '7',
+            Base::Decimal => c.is_ascii_digit(),
+            Base::Hexadecimal => c.is_ascii_hexdigit(),
+        }
+    }
+    fn is_decimal(self) -> bool {
+        match self {
+            Base::Decimal => true,
+            _ => false,
+        }
+    }
+    /// Whether a run of digits goes on with the character, which needn't be one of the base.
+    pub fn goes_on(self, c: char) -> bool {
+        match self {
+            Base::Hexadecimal => c.is_ascii_hexdigit() || c == '_',
+            _ => c.is_ascii_digit() || c == '_',
+        }
+    }
+}
+/// A number, of which `s` is the whole text and `c` the first character. Where `index` is true, it is the digits
+/// at the front if no more of a word follows them.
+pub fn number(index: bool, s: &str) -> Option<(Kind, &str)> {
+    if index {
+        let rest = CharSet::Digit(Base::Decimal).after(s);
+        if !CharSet::Word.begins(rest) {
+            return Some((Kind::Int, rest));
+        }
+    }
+    plain_number(s)
+}
+fn plain_number(s: &str) -> Option<(Kind, &str)> {
+    let (base, digits) = split_base(s);
+    whole(base, after_run(base, digits)?)
+}
+/// The base of a number, and its digits with what follows them.
+fn split_base(s: &str) -> (Base, &str) {
+    let Some(('0', tail)) = first(s) else {
+        return (Base::Decimal, s);
+    };
+    match first(tail) {
+        Some(('x', digits)) => (Base::Hexadecimal, digits),
+        Some(('o', digits)) => (Base::Octal, digits),
+        Some(('b', digits)) => (Base::Binary, digits),
+        _ => (Base::Decimal, s),
+    }
+}
+/// What follows a run of digits and underscores, if it holds a digit and none outside the base.
+fn after_run(base: Base, s: &str) -> Option<&str> {
+    let digits = CharSet::Only('_').after(s);
+    if !CharSet::Digit(base).begins(digits) {
+        return None;
+    }
+    let rest = CharSet::Digits(base).after(digits);
+    if CharSet::Run(base).begins(rest) {
+        return None;
+    }
+    Some(rest)
+}
+/// What stands behind the digits of a number: a point or an exponent makes a decimal one a Float.
+fn whole(base: Base, s: &str) -> Option<(Kind, &str)> {
+    match first(s) {
+        None => Some((Kind::Int, s)),
+        Some((c, tail)) => {
+            if is_point(c, tail) {
+                if base.is_decimal() { point(tail) } else { None }
+            } else if CharSet::ExponentLetter.contains(c) {
+                if base.is_decimal() { exponent(tail) } else { None }
+            } else { suffixed(Kind::Int, s) }
+        }
+    }
+}
+/// Whether a character is a point that makes a number a Float: not one of a range, a field or a method.
+fn is_point(c: char, tail: &str) -> bool {
+    if c != '.' {
+        return false;
+    }
+    match first(tail) {
+        Some((d, _)) => !(d == '.' || CharSet::WordStart.contains(d)),
+        None => true,
+    }
+}
+/// What stands behind the point of a Float.
+fn point(s: &str) -> Option<(Kind, &str)> {
+    if CharSet::Digit(Base::Decimal).begins(s) {
+        fraction(CharSet::Digits(Base::Decimal).after(s))
+    } else { Some((Kind::Float, s)) }
+}
+/// What stands behind the digits of a fraction.
+fn fraction(s: &str) -> Option<(Kind, &str)> {
+    match first(s) {
+        None => suffixed(Kind::Float, s),
+        Some((c, tail)) => {
+            if CharSet::ExponentLetter.contains(c) { exponent(tail) } else {
+                suffixed(Kind::Float, s)
+            }
+        }
+    }
+}
+/// An exponent, behind its letter.
+fn exponent(s: &str) -> Option<(Kind, &str)> {
+    let (c, tail) = first(s)?;
+    let digits = if CharSet::Sign.contains(c) { tail } else { s };
+    suffixed(Kind::Float, after_run(Base::Decimal, digits)?)
+}
+/// A number that may have a suffix here.
+fn suffixed(kind: Kind, s: &str) -> Option<(Kind, &str)> {
+    if CharSet::WordStart.begins(s) {
+        Some((kind, CharSet::Word.after(s)))
+    } else if CharSet::Word.begins(s) { None } else { Some((kind, s)) }
+}

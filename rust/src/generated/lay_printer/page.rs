@@ -1,0 +1,54 @@
+//! Made by scripts/rust.sh from crates/lay_printer/src/page.rt, which is proved: change that.
+//!
+//! The printing side: tokens are printed where the layout stands.
+use crate::generated::lay_printer::frames::Frames;
+use crate::generated::lay_printer::line::{Line, exceeds};
+use crate::generated::lay_io::{Failed, Sink};
+use crate::generated::lay_layout::{Break, Tok, asks_at_break, entered, width_of};
+/// Where the layout stands: the line that is being written, and the frames of the groups that are open there.
+pub struct Page {
+    pub line: Line,
+    pub frames: Frames,
+}
+impl Page {
+    /// Prints a text.
+    #[inline(always)]
+    pub fn print_text<
+        K: Sink,
+    >(&mut self, sink: &mut K, text: &[u8]) -> Result<(), Failed> {
+        self.line.write(sink, text)
+    }
+    /// Prints a break as one that doesn't fit.
+    #[inline(always)]
+    pub fn print_break<
+        K: Sink,
+    >(&mut self, sink: &mut K, brk: Break) -> Result<(), Failed> {
+        self.line.put_break(sink, self.frames.top(), brk, true)
+    }
+    /// Whether a break is printed as one that doesn't fit, whatever follows it.
+    #[inline(always)]
+    pub fn is_clear(&self, brk: Break) -> bool {
+        if asks_at_break(self.frames.top(), brk) {
+            return exceeds(&self.line, width_of(brk), 0);
+        }
+        true
+    }
+    /// Prints a token, of which it is known whether its measure is greater than the space.
+    pub fn print<
+        K: Sink,
+    >(&mut self, sink: &mut K, tok: &Tok, big: bool) -> Result<(), Failed> {
+        match tok {
+            Tok::Text(text) => self.line.write(sink, text.as_bytes()),
+            Tok::Break(brk) => self.line.put_break(sink, self.frames.top(), *brk, big),
+            Tok::Begin { consistent, offset } => {
+                let frame = entered(self.frames.top(), *consistent, *offset, big);
+                self.frames.push(frame);
+                Ok(())
+            }
+            Tok::End => {
+                self.frames.pop();
+                Ok(())
+            }
+        }
+    }
+}

@@ -1,0 +1,167 @@
+//! Made by scripts/rust.sh from crates/lay_printer/src/printer.rt, which is proved: change that.
+//!
+//! What a printer keeps beside its sink.
+use crate::generated::lay_printer::engine::{Engine, PrintError};
+use crate::generated::lay_printer::frames::Frames;
+use crate::generated::lay_printer::line::Line;
+use crate::generated::lay_printer::page::Page;
+use crate::generated::lay_io::{Failed, Sink};
+use crate::generated::lay_layout::{Break, MARGIN, Tok};
+use crate::generated::lay_queue::Queue;
+use crate::generated::lay_text::{NoMemory, Text};
+use crate::shims::Global;
+/// What a printer keeps beside its sink: it owns the memory. Contracts see the tokens that wait with their
+/// sizes and the number of the first, how many groups are open, how many tokens may come before memory is
+/// taken, why a call failed, if one did, and where the layout stands.
+pub struct Core {
+    alloc: Global,
+    engine: Engine,
+    failed: Option<PrintError>,
+    spare: usize,
+}
+/// What is left of one number after another is taken from it, which may be below zero.
+fn difference(a: u64, b: u64) -> i64 {
+    a as i64 - b as i64
+}
+impl Core {
+    /// A printer that was fed nothing.
+    pub fn new(alloc: Global) -> Result<Core, NoMemory> {
+        let queue = Queue::new(alloc)?;
+        let line = Line { pending: 0, room: MARGIN, used: 0 };
+        let frames = Frames::new(alloc);
+        let page = Page { line, frames };
+        Ok(Core { alloc, engine: Engine { queue, page }, failed: None, spare: 0 })
+    }
+    /// Feeds a text.
+    pub fn text<
+        K: Sink,
+    >(&mut self, sink: &mut K, text: &[u8]) -> Result<(), PrintError> {
+        if let Some(fault) = self.failed {
+            return Err(fault);
+        }
+        if self.engine.is_idle() {
+            return self.print_text(sink, text);
+        }
+        match Text::from_bytes(self.alloc, text) {
+            Ok(text) => self.text_owned(sink, text),
+            Err(NoMemory) => {
+                self.failed = Some(PrintError::NoMemory);
+                Err(PrintError::NoMemory)
+            }
+        }
+    }
+    /// Feeds a text, which isn't copied.
+    pub fn text_owned<
+        K: Sink,
+    >(&mut self, sink: &mut K, text: Text) -> Result<(), PrintError> {
+        self.feed(sink, Tok::Text(text))
+    }
+    /// Feeds a break.
+    pub fn brk<K: Sink>(&mut self, sink: &mut K, brk: Break) -> Result<(), PrintError> {
+        if self.failed.is_none() && self.engine.is_clear(brk) {
+            return self.print_break(sink, brk);
+        }
+        self.feed(sink, Tok::Break(brk))
+    }
+    /// Begins a group.
+    pub fn begin<
+        K: Sink,
+    >(&mut self, sink: &mut K, consistent: bool, offset: i8) -> Result<(), PrintError> {
+        self.feed(sink, Tok::Begin { consistent, offset })
+    }
+    /// Ends the group that was begun last.
+    pub fn end<K: Sink>(&mut self, sink: &mut K) -> Result<(), PrintError> {
+        self.feed(sink, Tok::End)
+    }
+    /// Feeds a text where nothing waits.
+    #[inline(always)]
+    fn print_text<
+        K: Sink,
+    >(&mut self, sink: &mut K, text: &[u8]) -> Result<(), PrintError> {
+        match self.engine.print_text(sink, text) {
+            Ok(()) => Ok(()),
+            Err(Failed) => {
+                self.failed = Some(PrintError::WriteFailed);
+                Err(PrintError::WriteFailed)
+            }
+        }
+    }
+    /// Feeds a break that is printed at once.
+    #[inline(always)]
+    fn print_break<
+        K: Sink,
+    >(&mut self, sink: &mut K, brk: Break) -> Result<(), PrintError> {
+        match self.engine.print_break(sink, brk) {
+            Ok(()) => Ok(()),
+            Err(Failed) => {
+                self.failed = Some(PrintError::WriteFailed);
+                Err(PrintError::WriteFailed)
+            }
+        }
+    }
+    /// Feeds a token, unless a call has failed.
+    #[inline(always)]
+    fn feed<K: Sink>(&mut self, sink: &mut K, tok: Tok) -> Result<(), PrintError> {
+        if let Some(fault) = self.failed {
+            return Err(fault);
+        }
+        match self.engine.feed(sink, tok, self.spare > 0) {
+            Ok(()) => {
+                self.spare = self.engine.room_after(self.spare);
+                Ok(())
+            }
+            Err(fault) => {
+                self.spare = self.engine.room();
+                self.failed = Some(fault);
+                Err(fault)
+            }
+        }
+    }
+    /// Prints the rest, since no more tokens come. Every group must have ended, unless a call failed. A printer
+    /// that failed leaves the sink as it is.
+    pub fn finish<K: Sink>(&mut self, sink: &mut K) -> Result<(), PrintError> {
+        if let Some(fault) = self.failed {
+            return Err(fault);
+        }
+        match self.engine.finish(sink) {
+            Ok(()) => {
+                self.spare = self.engine.room();
+                Ok(())
+            }
+            Err(Failed) => {
+                self.spare = self.engine.room();
+                self.failed = Some(PrintError::WriteFailed);
+                Err(PrintError::WriteFailed)
+            }
+        }
+    }
+    /// How many groups are open: `end` asks for one, and `finish` for none.
+    pub fn open_groups(&self) -> u64 {
+        self.engine.queue.groups
+    }
+    /// How many bytes of text were fed and aren't in the sink: no more than the space.
+    pub fn waiting(&self) -> usize {
+        self.engine.queue.waiting as usize
+    }
+    /// How many tokens wait.
+    pub fn len(&self) -> usize {
+        self.engine.queue.ring.len()
+    }
+    /// The space, at the least -2^62.
+    pub fn space(&self) -> i64 {
+        let line = &self.engine.page.line;
+        let room = line.room.min(MARGIN);
+        let used = line.used.min(room + 0x4000_0000_0000_0000);
+        difference(room, used)
+    }
+    /// How many tokens may come before memory is taken.
+    pub fn spare(&self) -> usize {
+        self.spare
+    }
+    /// Makes room for so many more tokens. All else stays as it was, and after `NoMemory` all does.
+    pub fn reserve(&mut self, n: usize) -> Result<(), NoMemory> {
+        self.engine.reserve(n)?;
+        self.spare = self.spare.max(n);
+        Ok(())
+    }
+}

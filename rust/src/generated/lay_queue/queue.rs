@@ -1,0 +1,158 @@
+//! Made by scripts/rust.sh from crates/lay_queue/src/queue.rt, which is proved: change that.
+//!
+//! The scanning side: tokens that wait, with the sizes that are known of them.
+use crate::generated::lay_queue::close::{CAP, Note, close};
+use crate::generated::lay_layout::{Break, Tok, width_of};
+use crate::generated::lay_ring::{Entry, Marks, Ring, Size};
+use crate::generated::lay_text::{NoMemory, Text};
+use crate::shims::Global;
+/// Tokens that wait, oldest first, and what is kept of those whose size isn't known.
+pub struct Queue {
+    pub ring: Ring,
+    pub notes: Marks<Note>,
+    /// The width from the newest note on, or the cap where that is less.
+    pub acc: u64,
+    /// How many groups are open after all tokens.
+    pub groups: u64,
+    /// How many bytes of text wait.
+    pub waiting: u64,
+    /// No more tokens come.
+    pub ended: bool,
+}
+/// What a token's measure has at the least beside texts: the width of a break.
+#[inline(always)]
+pub fn least_width(tok: &Tok) -> u64 {
+    match tok {
+        Tok::Break(brk) => width_of(*brk),
+        _ => 0,
+    }
+}
+/// How many bytes of text a token has.
+fn text_len(tok: &Tok) -> u64 {
+    match tok {
+        Tok::Text(text) => text.as_bytes().len() as u64,
+        _ => 0,
+    }
+}
+/// Takes the oldest note, where it is that of an entry with this size.
+fn drop_note(notes: &mut Marks<Note>, size: Size) {
+    if let Size::Unknown = size {
+        let _ = notes.pop_oldest();
+    }
+}
+impl Queue {
+    /// Nothing waits.
+    pub fn new(alloc: Global) -> Result<Queue, NoMemory> {
+        let ring = Ring::new(alloc, 0)?;
+        let notes = Marks::new(alloc, 0)?;
+        Ok(Queue { ring, notes, acc: 0, groups: 0, waiting: 0, ended: false })
+    }
+    /// How many tokens may come before memory is taken.
+    #[inline(always)]
+    pub fn room(&self) -> usize {
+        self.ring.spare().min(self.notes.spare())
+    }
+    /// Makes room for so many more tokens, of which each may have a note.
+    #[inline(always)]
+    pub fn reserve(&mut self, n: usize) -> Result<(), NoMemory> {
+        self.ring.reserve(n)?;
+        self.notes.reserve(n)
+    }
+    /// A token comes for which there is room.
+    #[inline(always)]
+    pub fn scan(&mut self, tok: Tok) {
+        match tok {
+            Tok::Text(text) => self.scan_text(text),
+            Tok::Break(brk) => self.scan_break(brk),
+            Tok::Begin { consistent, offset } => self.scan_begin(consistent, offset),
+            Tok::End => self.scan_end(),
+        }
+    }
+    /// A text has its size at once.
+    #[inline(always)]
+    fn scan_text(&mut self, text: Text) {
+        let len = text.as_bytes().len() as u64;
+        let entry = Entry {
+            tok: Tok::Text(text),
+            size: Size::Known(len.min(CAP) as i64),
+        };
+        match self.ring.push(entry) {
+            Ok(_) => {
+                self.acc = self.acc.saturating_add(len).min(CAP);
+                self.waiting += len;
+            }
+            Err(_) => unreachable!(),
+        }
+    }
+    /// A break ends the measures of what was noted with no fewer groups open.
+    #[inline(always)]
+    fn scan_break(&mut self, brk: Break) {
+        let width = width_of(brk);
+        let delta = close(&mut self.ring, &mut self.notes, self.acc, self.groups);
+        let entry = Entry { tok: Tok::Break(brk), size: Size::Unknown };
+        match self.ring.push(entry) {
+            Ok(number) => {
+                let note = Note { number, level: self.groups, delta };
+                match self.notes.push(note) {
+                    Ok(()) => self.acc = width,
+                    Err(_) => unreachable!(),
+                }
+            }
+            Err(_) => unreachable!(),
+        }
+    }
+    /// A group begins.
+    #[inline(always)]
+    fn scan_begin(&mut self, consistent: bool, offset: i8) {
+        let entry = Entry {
+            tok: Tok::Begin { consistent, offset },
+            size: Size::Unknown,
+        };
+        match self.ring.push(entry) {
+            Ok(number) => {
+                let note = Note { number, level: self.groups, delta: self.acc };
+                match self.notes.push(note) {
+                    Ok(()) => {
+                        self.acc = 0;
+                        self.groups += 1;
+                    }
+                    Err(_) => unreachable!(),
+                }
+            }
+            Err(_) => unreachable!(),
+        }
+    }
+    /// The group that was begun last ends. Measures go on past it.
+    #[inline(always)]
+    fn scan_end(&mut self) {
+        let entry = Entry { tok: Tok::End, size: Size::Known(0) };
+        match self.ring.push(entry) {
+            Ok(_) => self.groups -= 1,
+            Err(_) => unreachable!(),
+        }
+    }
+    /// No more tokens come: every measure ends.
+    pub fn end_all(&mut self) {
+        self.acc = close(&mut self.ring, &mut self.notes, self.acc, 0);
+        self.ended = true;
+    }
+    /// A token that is printed at once, where none waits, takes a number alone.
+    #[inline(always)]
+    pub fn pass(&mut self) {
+        self.ring.pass();
+    }
+    /// Takes the oldest entry away.
+    #[inline(always)]
+    pub fn drop_front(&mut self) {
+        if let Some(entry) = self.ring.pop_front() {
+            drop_note(&mut self.notes, entry.size);
+            self.waiting -= text_len(&entry.tok);
+        }
+    }
+    /// Nothing waits: tokens may come again.
+    pub fn restart(&mut self) {
+        if self.ring.len() == 0 {
+            self.ended = false;
+        }
+    }
+}

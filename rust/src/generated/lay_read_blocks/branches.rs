@@ -1,0 +1,174 @@
+//! Made by scripts/rust.sh from crates/lay_read_blocks/src/branches.rt, which is proved: change that.
+//!
+//! Conditions, branches, and the expressions with conditions.
+use crate::generated::lay_read_blocks::rules::BlockRules;
+use crate::generated::lay_code::{
+    Block,
+    Boxed,
+    Branch,
+    Expr,
+    Item,
+    Lifetime,
+    Pat,
+    PatPlace,
+    Place,
+    Site,
+};
+use crate::generated::lay_read_parts::joins::{both, prepended, refused};
+use crate::generated::lay_read_parts::loops::Part;
+use crate::generated::lay_read_pats::pat_ahead;
+use crate::generated::lay_read_shared::loops::{Going, read_parts};
+use crate::generated::lay_read_shared::places::plain;
+use crate::generated::lay_read_tokens::found::greater;
+use crate::generated::lay_read_tokens::front::{pass_two, takes_keyword, takes_op};
+use crate::generated::lay_read_tokens::{Ahead, Found, ReadNone};
+use crate::generated::lay_token::List;
+use crate::shims::Global;
+/// Branches behind `else if`, as parts that stand one behind another.
+pub struct Branches;
+impl Part<Branch, ()> for Branches {}
+impl<
+    P: Fn(Global, &mut Ahead<'_>, Place, u32) -> Result<Found<Expr>, ReadNone>,
+    B: Fn(Global, &mut Ahead<'_>, u32) -> Result<Found<Block>, ReadNone>,
+    I: Fn(Global, &mut Ahead<'_>, Site, u32) -> Result<Found<Item>, ReadNone>,
+> BlockRules<P, B, I> {
+    /// A condition, or a pattern and what it is matched with.
+    #[inline(never)]
+    pub fn condition_by(
+        &self,
+        at: &mut Ahead<'_>,
+    ) -> Result<Found<(Option<Pat>, Boxed<Expr>)>, ReadNone> {
+        if takes_keyword(at, b"let") {
+            return self.matched(at);
+        }
+        let found = self.expr(at, plain(0, true))?;
+        Ok(Found { need: found.need, node: (None, found.node) })
+    }
+    /// A pattern and what it is matched with.
+    #[inline(never)]
+    fn matched(
+        &self,
+        at: &mut Ahead<'_>,
+    ) -> Result<Found<(Option<Pat>, Boxed<Expr>)>, ReadNone> {
+        let pat = pat_ahead(self.alloc, at, PatPlace::Alternatives, self.depth)?;
+        if !takes_op(at, b"=") {
+            return refused(pat);
+        }
+        let (pat, found) = both(pat, self.expr(at, plain(4, true)))?;
+        Ok(
+            Found {
+                need: greater(pat.need, found.need),
+                node: (Some(pat.node), found.node),
+            },
+        )
+    }
+    /// What stands behind an `if`.
+    #[inline(never)]
+    pub fn branch_by(&self, at: &mut Ahead<'_>) -> Result<Found<Branch>, ReadNone> {
+        let condition = self.condition_by(at)?;
+        let (condition, body) = both(condition, self.block_by(at))?;
+        let Found { node, need } = condition;
+        let (pat, condition) = node;
+        Ok(
+            Found {
+                need: greater(need, body.need),
+                node: Branch { pat, condition, body: body.node },
+            },
+        )
+    }
+    /// A branch behind its `else if`.
+    #[inline(never)]
+    fn else_branch(
+        &self,
+        at: &mut Ahead<'_>,
+        _place: (),
+    ) -> Result<Found<Branch>, ReadNone> {
+        pass_two(at);
+        self.branch_by(at)
+    }
+    /// The block behind an `else`, if one stands there. It is as deep as those of the branches.
+    #[inline(never)]
+    fn otherwise(&self, at: &mut Ahead<'_>) -> Result<Found<Option<Block>>, ReadNone> {
+        if !takes_keyword(at, b"else") {
+            return Ok(Found { node: None, need: 0 });
+        }
+        let block = self.block_by(at)?;
+        Ok(Found { node: Some(block.node), need: block.need })
+    }
+    /// What stands behind an `if`, with all its branches.
+    #[inline(never)]
+    pub fn if_expr(&self, at: &mut Ahead<'_>) -> Result<Found<Expr>, ReadNone> {
+        let first = self.branch_by(at)?;
+        let (first, more) = both(
+            first,
+            read_parts::<
+                Branches,
+                BlockRules<P, B, I>,
+                Branch,
+                (),
+                _,
+            >(
+                self.alloc,
+                at,
+                self.depth,
+                Going::ElseIfs,
+                self,
+                BlockRules::else_branch,
+                (),
+            ),
+        )?;
+        let ((first, more), otherwise) = both((first, more), self.otherwise(at))?;
+        let need = greater(first.need, greater(more.need, otherwise.need)) + 1;
+        let (otherwise, branches) = both(
+            otherwise.node,
+            prepended(first.node, more.node),
+        )?;
+        Ok(Found { node: Expr::If { branches, otherwise }, need })
+    }
+    /// What stands behind `while`.
+    #[inline(never)]
+    pub fn while_expr(
+        &self,
+        at: &mut Ahead<'_>,
+        label: Option<Lifetime>,
+    ) -> Result<Found<Expr>, ReadNone> {
+        let (label, found) = both(label, self.branch_by(at))?;
+        let Found { node, need } = found;
+        let (pat, condition, body) = node.into_parts();
+        Ok(Found { node: Expr::While { label, pat, condition, body }, need: need + 1 })
+    }
+    /// What stands behind `for`.
+    #[inline(never)]
+    pub fn for_expr(
+        &self,
+        at: &mut Ahead<'_>,
+        label: Option<Lifetime>,
+    ) -> Result<Found<Expr>, ReadNone> {
+        let (label, pat) = both(
+            label,
+            pat_ahead(self.alloc, at, PatPlace::Alternatives, self.depth),
+        )?;
+        if !takes_keyword(at, b"in") {
+            return refused((label, pat));
+        }
+        let ((label, pat), iterated) = both(
+            (label, pat),
+            self.expr(at, plain(0, true)),
+        )?;
+        let ((label, (pat, iterated)), body) = both(
+            (label, (pat, iterated)),
+            self.block_by(at),
+        )?;
+        Ok(
+            Found {
+                need: greater(pat.need, greater(iterated.need, body.need)) + 1,
+                node: Expr::For {
+                    label,
+                    pat: pat.node,
+                    iterated: iterated.node,
+                    body: body.node,
+                },
+            },
+        )
+    }
+}

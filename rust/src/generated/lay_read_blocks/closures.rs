@@ -1,0 +1,129 @@
+//! Made by scripts/rust.sh from crates/lay_read_blocks/src/closures.rt, which is proved: change that.
+//!
+//! Closures.
+use crate::generated::lay_read_blocks::rules::BlockRules;
+use crate::generated::lay_code::{
+    Block,
+    ClosureParam,
+    Expr,
+    Item,
+    PatPlace,
+    Place,
+    Site,
+    TypePlace,
+};
+use crate::generated::lay_read_parts::joins::{both, refused};
+use crate::generated::lay_read_parts::loops::{Closer, Part, read_elements};
+use crate::generated::lay_read_pats::pat_ahead;
+use crate::generated::lay_read_shared::places::plain;
+use crate::generated::lay_read_shared::types::type_if;
+use crate::generated::lay_read_tokens::attributes::attrs_ahead;
+use crate::generated::lay_read_tokens::found::greater;
+use crate::generated::lay_read_tokens::front::{pass_two, takes_keyword, takes_mark};
+use crate::generated::lay_read_tokens::{Ahead, Found, ReadNone};
+use crate::generated::lay_read_types::type_ahead;
+use crate::generated::lay_token::List;
+use crate::shims::Global;
+/// Parameters of a closure, as elements of a list.
+pub struct Params;
+impl Part<ClosureParam, ()> for Params {}
+impl<
+    P: Fn(Global, &mut Ahead<'_>, Place, u32) -> Result<Found<Expr>, ReadNone>,
+    B: Fn(Global, &mut Ahead<'_>, u32) -> Result<Found<Block>, ReadNone>,
+    I: Fn(Global, &mut Ahead<'_>, Site, u32) -> Result<Found<Item>, ReadNone>,
+> BlockRules<P, B, I> {
+    /// A parameter of a closure.
+    #[inline(never)]
+    fn closure_param(
+        &self,
+        at: &mut Ahead<'_>,
+        _place: (),
+    ) -> Result<Found<ClosureParam>, ReadNone> {
+        let attrs = attrs_ahead(self.alloc, at, false)?;
+        let (attrs, pat) = both(
+            attrs,
+            pat_ahead(self.alloc, at, PatPlace::Single, self.depth),
+        )?;
+        let ((attrs, pat), ty) = both(
+            (attrs, pat),
+            type_if(self.alloc, at, b":", self.depth),
+        )?;
+        Ok(
+            Found {
+                need: greater(pat.need, ty.need),
+                node: ClosureParam { attrs, pat: pat.node, ty: ty.node },
+            },
+        )
+    }
+    /// Parameters, and the `|` behind them.
+    #[inline(never)]
+    fn params(&self, at: &mut Ahead<'_>) -> Result<Found<List<ClosureParam>>, ReadNone> {
+        read_elements::<
+            Params,
+            BlockRules<P, B, I>,
+            ClosureParam,
+            (),
+            _,
+        >(self.alloc, at, self.depth, Closer::Bar, self, BlockRules::closure_param, ())
+    }
+    /// A closure.
+    #[inline(never)]
+    pub fn closure_expr(
+        &self,
+        at: &mut Ahead<'_>,
+        no_struct: bool,
+    ) -> Result<Found<Expr>, ReadNone> {
+        let moves = takes_keyword(at, b"move");
+        if !takes_mark(at, b"|") {
+            return Err(ReadNone::NoReading);
+        }
+        let params = self.params(at)?;
+        self.closure_body(at, no_struct, moves, params)
+    }
+    /// What stands behind the parameters of a closure.
+    #[inline(never)]
+    fn closure_body(
+        &self,
+        at: &mut Ahead<'_>,
+        no_struct: bool,
+        moves: bool,
+        params: Found<List<ClosureParam>>,
+    ) -> Result<Found<Expr>, ReadNone> {
+        if at.op_is(b"->") {
+            return self.typed_closure(at, moves, params);
+        }
+        let (params, body) = both(params, self.expr(at, plain(0, no_struct)))?;
+        Ok(
+            Found {
+                need: greater(params.need, body.need) + 1,
+                node: Expr::Closure { moves, params: params.node, body: body.node },
+            },
+        )
+    }
+    /// What stands behind the parameters of a closure, from its `->` on.
+    #[inline(never)]
+    fn typed_closure(
+        &self,
+        at: &mut Ahead<'_>,
+        moves: bool,
+        params: Found<List<ClosureParam>>,
+    ) -> Result<Found<Expr>, ReadNone> {
+        pass_two(at);
+        let (params, output) = both(
+            params,
+            type_ahead(self.alloc, at, TypePlace::NoBounds, self.depth),
+        )?;
+        let ((params, output), body) = both((params, output), self.block_by(at))?;
+        Ok(
+            Found {
+                need: greater(params.need, greater(output.need, body.need)) + 1,
+                node: Expr::TypedClosure {
+                    moves,
+                    params: params.node,
+                    output: output.node,
+                    body: body.node,
+                },
+            },
+        )
+    }
+}

@@ -1,0 +1,102 @@
+//! Made by scripts/rust.sh from crates/lay_read_blocks/src/heads.rt, which is proved: change that.
+//!
+//! What begins with a block, with a word before one, with a label, or as a closure does.
+use crate::generated::lay_read_blocks::rules::BlockRules;
+use crate::generated::lay_code::{Block, Expr, Item, Lifetime, Place, Site};
+use crate::generated::lay_ops::operands::ExprLead;
+use crate::generated::lay_read_parts::joins::{both, refused};
+use crate::generated::lay_read_parts::parts::read_lifetime;
+use crate::generated::lay_read_tokens::front::{is_at_opened, takes_keyword, takes_op};
+use crate::generated::lay_read_tokens::{Ahead, Found, ReadNone};
+use crate::generated::lay_token::Delim;
+use crate::shims::Global;
+impl<
+    P: Fn(Global, &mut Ahead<'_>, Place, u32) -> Result<Found<Expr>, ReadNone>,
+    B: Fn(Global, &mut Ahead<'_>, u32) -> Result<Found<Block>, ReadNone>,
+    I: Fn(Global, &mut Ahead<'_>, Site, u32) -> Result<Found<Item>, ReadNone>,
+> BlockRules<P, B, I> {
+    /// What begins an expression that holds blocks, or a closure, told from what the first token begins, unless it is deeper
+    /// than may be.
+    #[inline(never)]
+    pub fn block_head(
+        &self,
+        at: &mut Ahead<'_>,
+        no_struct: bool,
+        lead: ExprLead,
+    ) -> Result<Found<Expr>, ReadNone> {
+        match lead {
+            ExprLead::Label => self.label_expr(at),
+            ExprLead::Brace => self.labelled_expr(at, None),
+            ExprLead::BlockWord => self.block_word_expr(at),
+            ExprLead::Closure => self.closure_expr(at, no_struct),
+            _ => Err(ReadNone::NoReading),
+        }
+    }
+    /// A block or a loop behind its label.
+    #[inline(never)]
+    fn label_expr(&self, at: &mut Ahead<'_>) -> Result<Found<Expr>, ReadNone> {
+        let label = read_lifetime(self.alloc, at)?;
+        if !takes_op(at, b":") {
+            return refused(label);
+        }
+        self.labelled_expr(at, Some(label))
+    }
+    /// A block or a loop, behind its label if it has one.
+    #[inline(never)]
+    fn labelled_expr(
+        &self,
+        at: &mut Ahead<'_>,
+        label: Option<Lifetime>,
+    ) -> Result<Found<Expr>, ReadNone> {
+        if is_at_opened(at, Delim::Brace) {
+            let (label, body) = both(label, self.block_by(at))?;
+            Ok(
+                Found {
+                    need: body.need + 1,
+                    node: Expr::Block { label, body: body.node },
+                },
+            )
+        } else if takes_keyword(at, b"loop") {
+            let (label, body) = both(label, self.block_by(at))?;
+            Ok(
+                Found {
+                    need: body.need + 1,
+                    node: Expr::Loop { label, body: body.node },
+                },
+            )
+        } else if takes_keyword(at, b"while") {
+            self.while_expr(at, label)
+        } else if takes_keyword(at, b"for") { self.for_expr(at, label) } else {
+            refused(label)
+        }
+    }
+    /// What begins with a word of an expression that holds a block.
+    #[inline(never)]
+    fn block_word_expr(&self, at: &mut Ahead<'_>) -> Result<Found<Expr>, ReadNone> {
+        if takes_keyword(at, b"unsafe") {
+            let body = self.block_by(at)?;
+            Ok(Found { need: body.need + 1, node: Expr::Unsafe { body: body.node } })
+        } else if takes_keyword(at, b"const") {
+            let body = self.block_by(at)?;
+            Ok(Found { need: body.need + 1, node: Expr::ConstBlock { body: body.node } })
+        } else if takes_keyword(at, b"async") {
+            let moves = takes_keyword(at, b"move");
+            let body = self.block_by(at)?;
+            Ok(
+                Found {
+                    need: body.need + 1,
+                    node: Expr::Async { moves, body: body.node },
+                },
+            )
+        } else { self.worded(at) }
+    }
+    /// What begins with `if` or `match`, or is a loop.
+    #[inline(never)]
+    fn worded(&self, at: &mut Ahead<'_>) -> Result<Found<Expr>, ReadNone> {
+        if takes_keyword(at, b"if") {
+            self.if_expr(at)
+        } else if takes_keyword(at, b"match") { self.match_expr(at) } else {
+            self.labelled_expr(at, None)
+        }
+    }
+}

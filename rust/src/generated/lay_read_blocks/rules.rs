@@ -1,0 +1,47 @@
+//! Made by scripts/rust.sh from crates/lay_read_blocks/src/rules.rt, which is proved: change that.
+//!
+//! The rules of blocks of a level, and how what is one level deeper is read.
+use crate::generated::lay_code::{Block, Boxed, Expr, Item, Place, Site};
+use crate::generated::lay_read_shared::places::FREE;
+use crate::generated::lay_read_tokens::front::takes_op;
+use crate::generated::lay_read_tokens::stop::boxed;
+use crate::generated::lay_read_tokens::{Ahead, Found, ReadNone};
+use crate::shims::Global;
+/// The rules of blocks of a level, over the readers of what is one level deeper: of expressions, at a place, of blocks
+/// behind an `else`, and of items, at a site.
+pub struct BlockRules<P, B, I> {
+    pub alloc: Global,
+    /// At this depth what is one level deeper is read.
+    pub depth: u32,
+    pub exprs: P,
+    pub blocks: B,
+    pub items: I,
+}
+impl<
+    P: Fn(Global, &mut Ahead<'_>, Place, u32) -> Result<Found<Expr>, ReadNone>,
+    B: Fn(Global, &mut Ahead<'_>, u32) -> Result<Found<Block>, ReadNone>,
+    I: Fn(Global, &mut Ahead<'_>, Site, u32) -> Result<Found<Item>, ReadNone>,
+> BlockRules<P, B, I> {
+    /// An expression one level deeper, in a box.
+    #[inline(never)]
+    pub fn expr(
+        &self,
+        at: &mut Ahead<'_>,
+        place: Place,
+    ) -> Result<Found<Boxed<Expr>>, ReadNone> {
+        let found = (self.exprs)(self.alloc, at, place, self.depth)?;
+        let node = boxed(self.alloc, found.node)?;
+        Ok(Found { node, need: found.need })
+    }
+    /// A value behind an `=`, if one stands there.
+    pub fn value_if(
+        &self,
+        at: &mut Ahead<'_>,
+    ) -> Result<Found<Option<Boxed<Expr>>>, ReadNone> {
+        if !takes_op(at, b"=") {
+            return Ok(Found { node: None, need: 0 });
+        }
+        let value = self.expr(at, FREE)?;
+        Ok(Found { node: Some(value.node), need: value.need })
+    }
+}

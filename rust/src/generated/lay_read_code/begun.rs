@@ -1,0 +1,298 @@
+//! Made by scripts/rust.sh from crates/lay_read_code/src/begun.rt, which is proved: change that.
+//!
+//! Items up to their bodies.
+use crate::generated::lay_read_code::leads::{ItemLead, item_lead, may_stand};
+use crate::generated::lay_code::{
+    Alias,
+    Boxed,
+    Enum,
+    ExternCrate,
+    FnHead,
+    Group,
+    ImplHead,
+    Literal,
+    MacroCall,
+    Name,
+    Site,
+    Struct,
+    TraitHead,
+    Union,
+    UseTree,
+    ValueHead,
+    Wheres,
+};
+use crate::generated::lay_read_generics::wheres_ahead;
+use crate::generated::lay_read_head_rules::functions::fn_head_ahead;
+use crate::generated::lay_read_head_rules::heads::{
+    alias_ahead,
+    enum_ahead,
+    extern_crate_ahead,
+    impl_head_ahead,
+    struct_ahead,
+    trait_head_ahead,
+    union_ahead,
+    value_head_ahead,
+};
+use crate::generated::lay_read_head_rules::level::{kept_if, takes_flag};
+use crate::generated::lay_read_head_rules::uses::use_ahead;
+use crate::generated::lay_read_parts::joins::both;
+use crate::generated::lay_read_parts::parts::read_abi_if;
+use crate::generated::lay_read_tokens::calls::{call_ahead, takes_end};
+use crate::generated::lay_read_tokens::found::greater;
+use crate::generated::lay_read_tokens::front::{pass_two, takes_keyword, takes_mark};
+use crate::generated::lay_read_tokens::names::read_name;
+use crate::generated::lay_read_tokens::stop::boxed;
+use crate::generated::lay_read_tokens::tokens::read_group;
+use crate::generated::lay_read_tokens::{Ahead, Found, ReadNone};
+use crate::shims::Global;
+/// An item that has no body. What begins items stays within the nodes that hold no code, since a function that has an
+/// `ItemKind` takes ten times as long to be proved.
+pub enum Whole {
+    ExternCrate {
+        item: ExternCrate,
+    },
+    Import {
+        tree: Boxed<UseTree>,
+    },
+    FileModule {
+        name: Name,
+    },
+    Alias {
+        item: Alias,
+    },
+    Struct {
+        item: Struct,
+    },
+    Union {
+        item: Union,
+    },
+    Enum {
+        item: Enum,
+    },
+    MacroRules {
+        name: Name,
+        rules: Group,
+    },
+    Call {
+        call: MacroCall,
+    },
+}
+/// An item up to its body, or the whole item where it has none.
+pub enum Begun {
+    Whole {
+        item: Whole,
+    },
+    Module {
+        name: Name,
+    },
+    Trait {
+        head: TraitHead,
+        wheres: Wheres,
+    },
+    Impl {
+        head: ImplHead,
+        wheres: Wheres,
+    },
+    Foreign {
+        is_unsafe: bool,
+        abi: Option<Literal>,
+    },
+    Function {
+        head: FnHead,
+        wheres: Wheres,
+    },
+    Value {
+        head: ValueHead,
+    },
+}
+/// An item at its site up to its body, told from what it begins with. What is within it stands within the depth.
+pub fn read_begun(
+    alloc: Global,
+    at: &mut Ahead<'_>,
+    site: Site,
+    depth: u32,
+) -> Result<Found<Begun>, ReadNone> {
+    let lead = item_lead(at);
+    if may_stand(site, lead) { begun_by(alloc, at, site, lead, depth) } else {
+        Err(ReadNone::NoReading)
+    }
+}
+/// An item with this lead, up to its body.
+fn begun_by(
+    alloc: Global,
+    at: &mut Ahead<'_>,
+    site: Site,
+    lead: ItemLead,
+    depth: u32,
+) -> Result<Found<Begun>, ReadNone> {
+    match lead {
+        ItemLead::ExternCrate => begin_extern_crate(alloc, at),
+        ItemLead::Import => begin_import(alloc, at, depth),
+        ItemLead::Module => begin_module(alloc, at),
+        ItemLead::Function => begin_function(alloc, at, site, depth),
+        ItemLead::Alias => begin_alias(alloc, at, site, depth),
+        ItemLead::Struct => begin_struct(alloc, at, depth),
+        ItemLead::Union => begin_union(alloc, at, depth),
+        ItemLead::Enum => begin_enum(alloc, at, depth),
+        ItemLead::Value => begin_value(alloc, at, depth),
+        ItemLead::Trait => begin_trait(alloc, at, depth),
+        ItemLead::Impl => begin_impl(alloc, at, depth),
+        ItemLead::Foreign => begin_foreign(alloc, at),
+        ItemLead::Rules => begin_rules(alloc, at),
+        ItemLead::Call => begin_call(alloc, at),
+    }
+}
+/// An item without a body, which needs this depth.
+fn whole_item(item: Whole, need: u32) -> Found<Begun> {
+    Found { node: Begun::Whole { item }, need }
+}
+/// An extern crate declaration.
+fn begin_extern_crate(
+    alloc: Global,
+    at: &mut Ahead<'_>,
+) -> Result<Found<Begun>, ReadNone> {
+    let item = extern_crate_ahead(alloc, at)?;
+    Ok(whole_item(Whole::ExternCrate { item }, 0))
+}
+/// An import.
+fn begin_import(
+    alloc: Global,
+    at: &mut Ahead<'_>,
+    depth: u32,
+) -> Result<Found<Begun>, ReadNone> {
+    if !takes_keyword(at, b"use") {
+        return Err(ReadNone::NoReading);
+    }
+    let Found { node, need } = use_ahead(alloc, at, depth)?;
+    let tree = boxed(alloc, node)?;
+    let keeps = takes_mark(at, b";");
+    kept_if(whole_item(Whole::Import { tree }, need), keeps)
+}
+/// A module in a file of its own, or the head of another.
+fn begin_module(alloc: Global, at: &mut Ahead<'_>) -> Result<Found<Begun>, ReadNone> {
+    if !takes_keyword(at, b"mod") {
+        return Err(ReadNone::NoReading);
+    }
+    let name = read_name(alloc, at)?;
+    if takes_mark(at, b";") { Ok(whole_item(Whole::FileModule { name }, 0)) } else {
+        Ok(Found { node: Begun::Module { name }, need: 0 })
+    }
+}
+/// A function, up to its body.
+fn begin_function(
+    alloc: Global,
+    at: &mut Ahead<'_>,
+    site: Site,
+    depth: u32,
+) -> Result<Found<Begun>, ReadNone> {
+    let head = fn_head_ahead(alloc, at, site, depth)?;
+    let (head, wheres) = both(head, wheres_ahead(alloc, at, depth))?;
+    Ok(
+        Found {
+            need: greater(head.need, wheres.need),
+            node: Begun::Function { head: head.node, wheres: wheres.node.0 },
+        },
+    )
+}
+/// A type alias.
+fn begin_alias(
+    alloc: Global,
+    at: &mut Ahead<'_>,
+    site: Site,
+    depth: u32,
+) -> Result<Found<Begun>, ReadNone> {
+    let alias = alias_ahead(alloc, at, site, depth)?;
+    Ok(whole_item(Whole::Alias { item: alias.node }, alias.need))
+}
+/// A struct.
+fn begin_struct(
+    alloc: Global,
+    at: &mut Ahead<'_>,
+    depth: u32,
+) -> Result<Found<Begun>, ReadNone> {
+    let item = struct_ahead(alloc, at, depth)?;
+    Ok(whole_item(Whole::Struct { item: item.node }, item.need))
+}
+/// A union.
+fn begin_union(
+    alloc: Global,
+    at: &mut Ahead<'_>,
+    depth: u32,
+) -> Result<Found<Begun>, ReadNone> {
+    let item = union_ahead(alloc, at, depth)?;
+    Ok(whole_item(Whole::Union { item: item.node }, item.need))
+}
+/// An enumeration.
+fn begin_enum(
+    alloc: Global,
+    at: &mut Ahead<'_>,
+    depth: u32,
+) -> Result<Found<Begun>, ReadNone> {
+    let item = enum_ahead(alloc, at, depth)?;
+    Ok(whole_item(Whole::Enum { item: item.node }, item.need))
+}
+/// A constant or a static, up to its value.
+fn begin_value(
+    alloc: Global,
+    at: &mut Ahead<'_>,
+    depth: u32,
+) -> Result<Found<Begun>, ReadNone> {
+    let head = value_head_ahead(alloc, at, depth)?;
+    Ok(Found { need: head.need, node: Begun::Value { head: head.node } })
+}
+/// A trait, up to its body.
+fn begin_trait(
+    alloc: Global,
+    at: &mut Ahead<'_>,
+    depth: u32,
+) -> Result<Found<Begun>, ReadNone> {
+    let head = trait_head_ahead(alloc, at, depth)?;
+    let (head, wheres) = both(head, wheres_ahead(alloc, at, depth))?;
+    Ok(
+        Found {
+            need: greater(head.need, wheres.need),
+            node: Begun::Trait { head: head.node.0, wheres: wheres.node.0 },
+        },
+    )
+}
+/// An implementation, up to its body.
+fn begin_impl(
+    alloc: Global,
+    at: &mut Ahead<'_>,
+    depth: u32,
+) -> Result<Found<Begun>, ReadNone> {
+    let head = impl_head_ahead(alloc, at, depth)?;
+    let (head, wheres) = both(head, wheres_ahead(alloc, at, depth))?;
+    Ok(
+        Found {
+            need: greater(head.need, wheres.need),
+            node: Begun::Impl { head: head.node, wheres: wheres.node.0 },
+        },
+    )
+}
+/// A foreign block, up to its body.
+fn begin_foreign(alloc: Global, at: &mut Ahead<'_>) -> Result<Found<Begun>, ReadNone> {
+    let is_unsafe = takes_flag(at, b"unsafe");
+    match read_abi_if(alloc, at)? {
+        Some(abi) => {
+            Ok(Found { node: Begun::Foreign { is_unsafe, abi: abi.name }, need: 0 })
+        }
+        None => Err(ReadNone::NoReading),
+    }
+}
+/// The declaration of a macro. The tokens before its name are known.
+fn begin_rules(alloc: Global, at: &mut Ahead<'_>) -> Result<Found<Begun>, ReadNone> {
+    pass_two(at);
+    let name = read_name(alloc, at)?;
+    let rules = read_group(alloc, at)?;
+    if takes_end(at, rules.delim) {
+        Ok(whole_item(Whole::MacroRules { name, rules }, 0))
+    } else { Err(ReadNone::NoReading) }
+}
+/// A macro call, and what ends it.
+fn begin_call(alloc: Global, at: &mut Ahead<'_>) -> Result<Found<Begun>, ReadNone> {
+    let call = call_ahead(alloc, at)?;
+    if takes_end(at, call.tokens.delim) {
+        Ok(whole_item(Whole::Call { call }, 0))
+    } else { Err(ReadNone::NoReading) }
+}

@@ -1,0 +1,215 @@
+//! Made by scripts/rust.sh from crates/lay_read_code/src/knot.rt, which is proved: change that.
+//!
+//! The knot of expressions, blocks and items, each read over what is one level deeper.
+use crate::generated::lay_read_code::begun::read_begun;
+use crate::generated::lay_read_code::bodies::{
+    Body,
+    body_of,
+    with_block,
+    with_items,
+    with_value,
+};
+use crate::generated::lay_climb::Climber;
+use crate::generated::lay_code::{
+    Attr,
+    Block,
+    Boxed,
+    Expr,
+    Item,
+    ItemKind,
+    Place,
+    Site,
+    Vis,
+};
+use crate::generated::lay_read_blocks::BlockRules;
+use crate::generated::lay_read_exprs::ExprRules;
+use crate::generated::lay_read_head_rules::level::kept_if;
+use crate::generated::lay_read_head_rules::vis::vis_ahead;
+use crate::generated::lay_read_parts::joins::both;
+use crate::generated::lay_read_tokens::attributes::attrs_ahead;
+use crate::generated::lay_read_tokens::found::greater;
+use crate::generated::lay_read_tokens::front::{
+    has_items,
+    takes_closer,
+    takes_mark,
+    takes_opener,
+};
+use crate::generated::lay_read_tokens::stop::{boxed, keep};
+use crate::generated::lay_read_tokens::{Ahead, Found, ReadNone};
+use crate::generated::lay_token::{Delim, List};
+use crate::shims::Global;
+/// An expression at its place, within a depth. Recursion goes one level deeper alone.
+#[inline(never)]
+pub fn expr_ahead(
+    alloc: Global,
+    at: &mut Ahead<'_>,
+    place: Place,
+    depth: u32,
+) -> Result<Found<Expr>, ReadNone> {
+    if depth == 0 {
+        return Err(ReadNone::NoReading);
+    }
+    let heads = BlockRules {
+        alloc,
+        depth: depth - 1,
+        exprs: expr_ahead,
+        blocks: block_ahead,
+        items: item_ahead,
+    };
+    let rules = ExprRules { alloc, depth: depth - 1, exprs: expr_ahead };
+    Climber { rules, heads }.expr_by(at, place)
+}
+/// A block behind an `else`, within a depth. It stands one level deeper than what is around it.
+#[inline(never)]
+pub fn block_ahead(
+    alloc: Global,
+    at: &mut Ahead<'_>,
+    depth: u32,
+) -> Result<Found<Block>, ReadNone> {
+    if depth == 0 {
+        return Err(ReadNone::NoReading);
+    }
+    let rules = BlockRules {
+        alloc,
+        depth: depth - 1,
+        exprs: expr_ahead,
+        blocks: block_ahead,
+        items: item_ahead,
+    };
+    rules.deeper_block(at)
+}
+/// Items at their site within a depth, up to where they end.
+#[inline(never)]
+pub fn read_items(
+    alloc: Global,
+    at: &mut Ahead<'_>,
+    site: Site,
+    depth: u32,
+) -> Result<Found<List<Item>>, ReadNone> {
+    let mut items = List::new(alloc);
+    let mut need = 0;
+    while has_items(at) {
+        let item = item_ahead(alloc, at, site, depth)?;
+        need = greater(need, item.need);
+        keep(&mut items, item.node)?;
+    }
+    Ok(Found { node: items, need })
+}
+/// An item at its site within a depth, with its attributes and its visibility. A macro has none.
+#[inline(never)]
+pub fn item_ahead(
+    alloc: Global,
+    at: &mut Ahead<'_>,
+    site: Site,
+    depth: u32,
+) -> Result<Found<Item>, ReadNone> {
+    if depth == 0 {
+        return Err(ReadNone::NoReading);
+    }
+    let attrs = attrs_ahead(alloc, at, false)?;
+    let vis = vis_ahead(alloc, at)?;
+    let kind = read_kind(alloc, at, site, depth - 1)?;
+    let keeps = may_have(&kind.node, &vis);
+    let node = boxed(alloc, kind.node)?;
+    kept_if(Found { need: kind.need + 1, node: Item { attrs, vis, kind: node } }, keeps)
+}
+/// What an item is at its site: what it begins with, and then its body, if it has one. What is within it stands within
+/// the depth.
+#[inline(never)]
+fn read_kind(
+    alloc: Global,
+    at: &mut Ahead<'_>,
+    site: Site,
+    depth: u32,
+) -> Result<Found<ItemKind>, ReadNone> {
+    let begun = read_begun(alloc, at, site, depth)?;
+    match body_of(&begun.node) {
+        Body::None => {
+            Ok(
+                Found {
+                    need: begun.need,
+                    node: with_items(begun.node, List::new(alloc), List::new(alloc)),
+                },
+            )
+        }
+        Body::Items(inner) => {
+            let (begun, body) = both(begun, read_body(alloc, at, inner, depth))?;
+            Ok(
+                Found {
+                    need: greater(begun.need, body.need),
+                    node: with_items(begun.node, body.node.0, body.node.1),
+                },
+            )
+        }
+        Body::Block => {
+            let (begun, body) = both(begun, read_block_if(alloc, at, depth))?;
+            with_block(begun, site, body)
+        }
+        Body::Value => {
+            let (begun, value) = both(begun, read_value_if(alloc, at, depth))?;
+            with_value(begun, site, value)
+        }
+    }
+}
+/// The body of a function, or the `;` where it has none. What is within it stands within the depth.
+#[inline(never)]
+fn read_block_if(
+    alloc: Global,
+    at: &mut Ahead<'_>,
+    depth: u32,
+) -> Result<Found<Option<Block>>, ReadNone> {
+    let rules = BlockRules {
+        alloc,
+        depth,
+        exprs: expr_ahead,
+        blocks: block_ahead,
+        items: item_ahead,
+    };
+    rules.fn_body(at)
+}
+/// The value of a constant or a static, if it has one, and the `;` behind it. The value stands within the depth.
+#[inline(never)]
+fn read_value_if(
+    alloc: Global,
+    at: &mut Ahead<'_>,
+    depth: u32,
+) -> Result<Found<Option<Boxed<Expr>>>, ReadNone> {
+    let rules = BlockRules {
+        alloc,
+        depth,
+        exprs: expr_ahead,
+        blocks: block_ahead,
+        items: item_ahead,
+    };
+    let value = rules.value_if(at)?;
+    let keeps = takes_mark(at, b";");
+    kept_if(value, keeps)
+}
+/// Inner attributes and items at their site, in braces. The items stand within the depth.
+#[inline(never)]
+fn read_body(
+    alloc: Global,
+    at: &mut Ahead<'_>,
+    site: Site,
+    depth: u32,
+) -> Result<Found<(List<Attr>, List<Item>)>, ReadNone> {
+    if !takes_opener(at, Delim::Brace) {
+        return Err(ReadNone::NoReading);
+    }
+    let attrs = attrs_ahead(alloc, at, true)?;
+    let items = read_items(alloc, at, site, depth)?;
+    let keeps = takes_closer(at, Delim::Brace);
+    kept_if(Found { need: items.need, node: (attrs, items.node) }, keeps)
+}
+/// Whether an item of this kind may have this visibility.
+fn may_have(kind: &ItemKind, vis: &Vis) -> bool {
+    has_head(kind) || is_inherited(vis)
+}
+/// Whether an item has a head: it is no macro call, and declares no macro.
+fn has_head(kind: &ItemKind) -> bool {
+    !matches!(kind, ItemKind::MacroRules { .. } | ItemKind::Call { .. })
+}
+/// Whether nothing is said of who may name an item.
+fn is_inherited(vis: &Vis) -> bool {
+    matches!(vis, Vis::Inherited)
+}

@@ -1,0 +1,105 @@
+//! Made by scripts/rust.sh from crates/lay_read_code/src/reads.rt, which is proved: change that.
+//!
+//! What stands at the front of the tokens of a text.
+use crate::generated::lay_read_code::knot::{block_ahead, expr_ahead, item_ahead};
+use crate::generated::lay_code::{Arm, Block, Expr, Item, Place, Site, Stmt};
+use crate::generated::lay_nest::Cursor;
+use crate::generated::lay_read_blocks::BlockRules;
+use crate::generated::lay_read_tokens::{Ahead, Found, ReadNone};
+use crate::shims::Global;
+/// The expression at the front, at its place and within the depth. Where there is none the cursor stays.
+pub fn read_expr(
+    alloc: Global,
+    at: &mut Cursor<'_>,
+    place: Place,
+    depth: u32,
+) -> Result<Expr, ReadNone> {
+    let mut ahead = Ahead::new(at.fork());
+    let found = expr_ahead(alloc, &mut ahead, place, depth)?;
+    *at = ahead.into_cursor();
+    Ok(found.node)
+}
+/// The item at the front, at its site and within the depth. Where there is none the cursor stays.
+pub fn read_item(
+    alloc: Global,
+    at: &mut Cursor<'_>,
+    site: Site,
+    depth: u32,
+) -> Result<Item, ReadNone> {
+    let mut ahead = Ahead::new(at.fork());
+    let found = item_ahead(alloc, &mut ahead, site, depth)?;
+    *at = ahead.into_cursor();
+    Ok(found.node)
+}
+/// The block at the front, within the depth. What is within it stands one level deeper. Where there is none the cursor
+/// stays.
+pub fn read_block(
+    alloc: Global,
+    at: &mut Cursor<'_>,
+    depth: u32,
+) -> Result<Block, ReadNone> {
+    let mut ahead = Ahead::new(at.fork());
+    let found = block_ahead(alloc, &mut ahead, depth)?;
+    *at = ahead.into_cursor();
+    Ok(found.node)
+}
+/// The statement at the front, within the depth. What is within it stands one level deeper. An expression without a `;` that
+/// neither is block-like nor a macro call in braces is one only where no token follows. Where there is none the cursor stays.
+pub fn read_stmt(
+    alloc: Global,
+    at: &mut Cursor<'_>,
+    depth: u32,
+) -> Result<Stmt, ReadNone> {
+    let mut ahead = Ahead::new(at.fork());
+    let found = stmt_ahead(alloc, &mut ahead, depth)?;
+    *at = ahead.into_cursor();
+    Ok(found.node)
+}
+/// The arm of a match at the front, within the depth. What is within it stands one level deeper. A comma behind it is its own;
+/// it may lack that where its body lets it, and where no token follows. Where there is none the cursor stays.
+pub fn read_arm(
+    alloc: Global,
+    at: &mut Cursor<'_>,
+    depth: u32,
+) -> Result<Arm, ReadNone> {
+    let mut ahead = Ahead::new(at.fork());
+    let found = arm_ahead(alloc, &mut ahead, depth)?;
+    *at = ahead.into_cursor();
+    Ok(found.node)
+}
+/// A statement by itself, within a depth.
+fn stmt_ahead(
+    alloc: Global,
+    at: &mut Ahead<'_>,
+    depth: u32,
+) -> Result<Found<Stmt>, ReadNone> {
+    if depth == 0 {
+        return Err(ReadNone::NoReading);
+    }
+    let rules = BlockRules {
+        alloc,
+        depth: depth - 1,
+        exprs: expr_ahead,
+        blocks: block_ahead,
+        items: item_ahead,
+    };
+    rules.deeper_stmt(at)
+}
+/// An arm by itself, within a depth.
+fn arm_ahead(
+    alloc: Global,
+    at: &mut Ahead<'_>,
+    depth: u32,
+) -> Result<Found<Arm>, ReadNone> {
+    if depth == 0 {
+        return Err(ReadNone::NoReading);
+    }
+    let rules = BlockRules {
+        alloc,
+        depth: depth - 1,
+        exprs: expr_ahead,
+        blocks: block_ahead,
+        items: item_ahead,
+    };
+    rules.deeper_arm(at)
+}

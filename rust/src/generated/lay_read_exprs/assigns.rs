@@ -1,0 +1,45 @@
+//! Made by scripts/rust.sh from crates/lay_read_exprs/src/assigns.rt, which is proved: change that.
+//!
+//! Assignments.
+use crate::generated::lay_read_exprs::rules::ExprRules;
+use crate::generated::lay_code::{Boxed, Expr, Op, Place};
+use crate::generated::lay_read_parts::joins::both;
+use crate::generated::lay_read_tokens::found::greater;
+use crate::generated::lay_read_tokens::stop::{boxed, keep};
+use crate::generated::lay_read_tokens::{Ahead, Found, ReadNone};
+use crate::generated::lay_token::List;
+use crate::shims::Global;
+/// Operands with operators between them, as targets and a value.
+fn split(
+    alloc: Global,
+    first: Boxed<Expr>,
+    rest: List<(Op, Boxed<Expr>)>,
+) -> Result<(List<(Boxed<Expr>, Op)>, Boxed<Expr>), ReadNone> {
+    let mut targets = List::new(alloc);
+    let mut value = first;
+    let mut rest = rest.into_vec();
+    rest.reverse();
+    while let Some((op, operand)) = rest.pop() {
+        keep(&mut targets, (value, op))?;
+        value = operand;
+    }
+    Ok((targets, value))
+}
+impl<
+    P: Fn(Global, &mut Ahead<'_>, Place, u32) -> Result<Found<Expr>, ReadNone>,
+> ExprRules<P> {
+    /// An expression with assignments behind it.
+    #[inline(never)]
+    pub fn assign_expr(
+        &self,
+        at: &mut Ahead<'_>,
+        no_struct: bool,
+        lhs: Found<Expr>,
+    ) -> Result<Found<Expr>, ReadNone> {
+        let (lhs, more) = both(lhs, self.operands(at, 0, no_struct))?;
+        let need = greater(lhs.need, more.need) + 1;
+        let (rest, first) = both(more.node, boxed(self.alloc, lhs.node))?;
+        let (targets, value) = split(self.alloc, first, rest)?;
+        Ok(Found { node: Expr::Assign { targets, value }, need })
+    }
+}

@@ -1,0 +1,50 @@
+//! Made by scripts/rust.sh from crates/lay_read_exprs/src/casts.rt, which is proved: change that.
+//!
+//! Casts.
+use crate::generated::lay_read_exprs::rules::ExprRules;
+use crate::generated::lay_code::{Expr, Place, Ty, TypePlace};
+use crate::generated::lay_read_parts::joins::both;
+use crate::generated::lay_read_parts::loops::Part;
+use crate::generated::lay_read_shared::loops::{Going, read_parts};
+use crate::generated::lay_read_tokens::found::greater;
+use crate::generated::lay_read_tokens::front::takes_keyword;
+use crate::generated::lay_read_tokens::stop::boxed;
+use crate::generated::lay_read_tokens::{Ahead, Found, ReadNone};
+use crate::generated::lay_read_types::type_ahead;
+use crate::generated::lay_token::List;
+use crate::shims::Global;
+/// Types behind `as`, as parts that stand one behind another.
+pub struct Types;
+impl Part<Ty, ()> for Types {}
+impl<
+    P: Fn(Global, &mut Ahead<'_>, Place, u32) -> Result<Found<Expr>, ReadNone>,
+> ExprRules<P> {
+    /// A type behind its `as`.
+    #[inline(never)]
+    fn one_type(&self, at: &mut Ahead<'_>, _place: ()) -> Result<Found<Ty>, ReadNone> {
+        if takes_keyword(at, b"as") {
+            type_ahead(self.alloc, at, TypePlace::NoBounds, self.depth)
+        } else { Err(ReadNone::NoReading) }
+    }
+    /// An expression with types behind it.
+    #[inline(never)]
+    pub fn cast_expr(
+        &self,
+        at: &mut Ahead<'_>,
+        lhs: Found<Expr>,
+    ) -> Result<Found<Expr>, ReadNone> {
+        let (lhs, found) = both(
+            lhs,
+            read_parts::<
+                Types,
+                ExprRules<P>,
+                Ty,
+                (),
+                _,
+            >(self.alloc, at, self.depth, Going::Types, self, ExprRules::one_type, ()),
+        )?;
+        let need = greater(lhs.need, found.need) + 1;
+        let (types, operand) = both(found.node, boxed(self.alloc, lhs.node))?;
+        Ok(Found { node: Expr::Cast { operand, types }, need })
+    }
+}

@@ -1,0 +1,28 @@
+//! Made by scripts/rust.sh from crates/lay_read_exprs/src/numbers.rt, which is proved: change that.
+//!
+//! Numbers, and the indices of tuples.
+use crate::generated::lay_node::are_digits;
+use crate::generated::lay_read_tokens::Ahead;
+use crate::generated::lay_read_tokens::front::takes_op;
+use crate::generated::lay_token::Kind;
+/// Whether the index of a tuple stands at the front.
+pub fn is_at_tuple_index(at: &Ahead<'_>) -> bool {
+    match at.front() {
+        Some(token) => {
+            matches!(token.kind, Kind::Int) && is_index(token.text.as_bytes())
+        }
+        None => false,
+    }
+}
+/// Whether a `.` and the index of a tuple stand at the front.
+pub fn begins_tuple_index(at: &Ahead<'_>) -> bool {
+    let mut behind = at.fork();
+    takes_op(&mut behind, b".") && is_at_tuple_index(&behind)
+}
+/// Whether the text is digits and nothing more.
+fn is_index(text: &[u8]) -> bool {
+    match text {
+        [] => false,
+        _ => are_digits(text),
+    }
+}

@@ -1,0 +1,88 @@
+//! Made by scripts/rust.sh from crates/lay_read_exprs/src/operands.rt, which is proved: change that.
+//!
+//! Operators of one level, and the operands behind them.
+use crate::generated::lay_read_exprs::prefixes::pass_tokens;
+use crate::generated::lay_read_exprs::rules::ExprRules;
+use crate::generated::lay_code::{Boxed, Expr, Op, Place};
+use crate::generated::lay_ops::ahead::{binary, is_angle, strength};
+use crate::generated::lay_ops::stands;
+use crate::generated::lay_read_parts::joins::{both, refused};
+use crate::generated::lay_read_parts::loops::Part;
+use crate::generated::lay_read_shared::loops::{Going, read_parts};
+use crate::generated::lay_read_shared::places::{before_op, plain};
+use crate::generated::lay_read_tokens::found::greater;
+use crate::generated::lay_read_tokens::stop::boxed;
+use crate::generated::lay_read_tokens::{Ahead, Found, ReadNone};
+use crate::generated::lay_token::List;
+use crate::shims::Global;
+/// Operators and their operands, as parts that stand one behind another.
+pub struct Operands;
+impl Part<(Op, Boxed<Expr>), (u8, bool)> for Operands {}
+/// Whether an operand of the level may end where the tokens ahead stand.
+fn operand_ends(at: &Ahead<'_>, operand: &Expr, level: u8, no_struct: bool) -> bool {
+    if strength(at) == level + 1 {
+        level != 4
+            && stands(operand, before_op(level + 1, no_struct, false, is_angle(at)))
+    } else { true }
+}
+impl<
+    P: Fn(Global, &mut Ahead<'_>, Place, u32) -> Result<Found<Expr>, ReadNone>,
+> ExprRules<P> {
+    /// Operators of a level and their operands, as long as one begins.
+    #[inline(never)]
+    pub fn operands(
+        &self,
+        at: &mut Ahead<'_>,
+        level: u8,
+        no_struct: bool,
+    ) -> Result<Found<List<(Op, Boxed<Expr>)>>, ReadNone> {
+        read_parts::<
+            Operands,
+            ExprRules<P>,
+            (Op, Boxed<Expr>),
+            (u8, bool),
+            _,
+        >(
+            self.alloc,
+            at,
+            self.depth,
+            Going::Operands(level),
+            self,
+            ExprRules::operand,
+            (level, no_struct),
+        )
+    }
+    /// An operator of a level, and its operand.
+    #[inline(never)]
+    fn operand(
+        &self,
+        at: &mut Ahead<'_>,
+        place: (u8, bool),
+    ) -> Result<Found<(Op, Boxed<Expr>)>, ReadNone> {
+        let (level, no_struct) = place;
+        let op = match binary(at) {
+            Some(op) => op,
+            None => return Err(ReadNone::NoReading),
+        };
+        pass_tokens(at, op.text().len());
+        let found = self.boxed_inner(at, plain(level + 1, no_struct))?;
+        if !operand_ends(at, found.node.get(), level, no_struct) {
+            return refused(found);
+        }
+        Ok(Found { need: found.need, node: (op, found.node) })
+    }
+    /// An expression with operators of a level behind it.
+    #[inline(never)]
+    pub fn chain_expr(
+        &self,
+        at: &mut Ahead<'_>,
+        level: u8,
+        no_struct: bool,
+        lhs: Found<Expr>,
+    ) -> Result<Found<Expr>, ReadNone> {
+        let (lhs, more) = both(lhs, self.operands(at, level, no_struct))?;
+        let need = greater(lhs.need, more.need) + 1;
+        let (rest, first) = both(more.node, boxed(self.alloc, lhs.node))?;
+        Ok(Found { node: Expr::Chain { first, rest }, need })
+    }
+}

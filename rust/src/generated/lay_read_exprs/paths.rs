@@ -1,0 +1,48 @@
+//! Made by scripts/rust.sh from crates/lay_read_exprs/src/paths.rt, which is proved: change that.
+//!
+//! What begins with a path.
+use crate::generated::lay_read_exprs::rules::ExprRules;
+use crate::generated::lay_code::{Expr, PathStyle, Place};
+use crate::generated::lay_read_parts::joins::refused;
+use crate::generated::lay_read_tokens::calls::call_ahead;
+use crate::generated::lay_read_tokens::front::{is_at_opened, pass};
+use crate::generated::lay_read_tokens::{Ahead, Found, ReadNone};
+use crate::generated::lay_read_types::path_ahead;
+use crate::generated::lay_read_types::types::begins_call;
+use crate::generated::lay_token::Delim;
+use crate::shims::Global;
+/// A macro call that is an expression.
+fn call_expr(alloc: Global, at: &mut Ahead<'_>) -> Result<Found<Expr>, ReadNone> {
+    let call = call_ahead(alloc, at)?;
+    Ok(Found { node: Expr::Call { call }, need: 1 })
+}
+impl<
+    P: Fn(Global, &mut Ahead<'_>, Place, u32) -> Result<Found<Expr>, ReadNone>,
+> ExprRules<P> {
+    /// A macro call, or what begins with a path.
+    #[inline(never)]
+    pub fn path_or_call(
+        &self,
+        at: &mut Ahead<'_>,
+        no_struct: bool,
+    ) -> Result<Found<Expr>, ReadNone> {
+        if begins_call(self.alloc, at)? { call_expr(self.alloc, at) } else {
+            self.path_expr(at, no_struct)
+        }
+    }
+    /// A path, and what stands behind it.
+    #[inline(never)]
+    fn path_expr(
+        &self,
+        at: &mut Ahead<'_>,
+        no_struct: bool,
+    ) -> Result<Found<Expr>, ReadNone> {
+        let path = path_ahead(self.alloc, at, PathStyle::Code, self.depth)?;
+        if !no_struct && is_at_opened(at, Delim::Brace) {
+            pass(at);
+            self.struct_expr(at, path)
+        } else if at.op_is(b"!") { refused(path) } else {
+            Ok(Found { node: Expr::Path { path: path.node }, need: path.need + 1 })
+        }
+    }
+}

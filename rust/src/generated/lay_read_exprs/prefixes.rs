@@ -1,0 +1,52 @@
+//! Made by scripts/rust.sh from crates/lay_read_exprs/src/prefixes.rt, which is proved: change that.
+//!
+//! Operators before an operand.
+use crate::generated::lay_read_exprs::rules::ExprRules;
+use crate::generated::lay_code::{Expr, Place, Prefix};
+use crate::generated::lay_ops::ahead::prefix;
+use crate::generated::lay_ops::operators::prefix_length;
+use crate::generated::lay_read_parts::joins::both;
+use crate::generated::lay_read_shared::places::plain;
+use crate::generated::lay_read_tokens::front::pass;
+use crate::generated::lay_read_tokens::stop::keep;
+use crate::generated::lay_read_tokens::{Ahead, Found, ReadNone};
+use crate::generated::lay_token::List;
+use crate::shims::Global;
+/// Passes so many tokens, or all there are.
+pub fn pass_tokens(at: &mut Ahead<'_>, count: usize) {
+    for _passed in 0..count {
+        pass(at);
+    }
+}
+/// Operators before an operand, as long as one stands at the front.
+fn read_prefixes(alloc: Global, at: &mut Ahead<'_>) -> Result<List<Prefix>, ReadNone> {
+    let mut prefixes = List::new(alloc);
+    while let Some(one) = prefix(at) {
+        pass_tokens(at, prefix_length(one));
+        keep(&mut prefixes, one)?;
+    }
+    Ok(prefixes)
+}
+impl<
+    P: Fn(Global, &mut Ahead<'_>, Place, u32) -> Result<Found<Expr>, ReadNone>,
+> ExprRules<P> {
+    /// Operators, and the operand behind them.
+    #[inline(never)]
+    pub fn unary_expr(
+        &self,
+        at: &mut Ahead<'_>,
+        no_struct: bool,
+    ) -> Result<Found<Expr>, ReadNone> {
+        let prefixes = read_prefixes(self.alloc, at)?;
+        let (prefixes, found) = both(
+            prefixes,
+            self.boxed_inner(at, plain(12, no_struct)),
+        )?;
+        Ok(
+            Found {
+                node: Expr::Unary { prefixes, operand: found.node },
+                need: found.need + 1,
+            },
+        )
+    }
+}

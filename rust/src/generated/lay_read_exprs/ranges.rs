@@ -1,0 +1,49 @@
+//! Made by scripts/rust.sh from crates/lay_read_exprs/src/ranges.rt, which is proved: change that.
+//!
+//! Ranges.
+use crate::generated::lay_read_exprs::rules::ExprRules;
+use crate::generated::lay_code::{Boxed, Expr, Place};
+use crate::generated::lay_read_parts::joins::{both, refused};
+use crate::generated::lay_read_tokens::found::greater;
+use crate::generated::lay_read_tokens::front::{pass, pass_two};
+use crate::generated::lay_read_tokens::{Ahead, Found, ReadNone};
+use crate::shims::Global;
+impl<
+    P: Fn(Global, &mut Ahead<'_>, Place, u32) -> Result<Found<Expr>, ReadNone>,
+> ExprRules<P> {
+    /// A range, from its `..` or `..=` on.
+    #[inline(never)]
+    pub fn range_expr(
+        &self,
+        at: &mut Ahead<'_>,
+        no_struct: bool,
+        start: Found<Option<Boxed<Expr>>>,
+    ) -> Result<Found<Expr>, ReadNone> {
+        let inclusive = at.op_is(b"..=");
+        pass_two(at);
+        if inclusive {
+            pass(at);
+        }
+        self.range_by(at, no_struct, start, inclusive)
+    }
+    /// What stands behind the operator of a range.
+    #[inline(never)]
+    fn range_by(
+        &self,
+        at: &mut Ahead<'_>,
+        no_struct: bool,
+        start: Found<Option<Boxed<Expr>>>,
+        inclusive: bool,
+    ) -> Result<Found<Expr>, ReadNone> {
+        let (start, end) = both(start, self.operand_if(at, 2, no_struct))?;
+        if inclusive && end.node.is_none() {
+            return refused((start, end));
+        }
+        Ok(
+            Found {
+                need: greater(start.need, end.need) + 1,
+                node: Expr::Range { start: start.node, inclusive, end: end.node },
+            },
+        )
+    }
+}

@@ -1,0 +1,144 @@
+//! Made by scripts/rust.sh from crates/lay_read_exprs/src/structs.rt, which is proved: change that.
+//!
+//! Struct literals.
+use crate::generated::lay_read_exprs::rules::ExprRules;
+use crate::generated::lay_code::{Attr, Boxed, Expr, FieldExpr, Name, Path, Place};
+use crate::generated::lay_read_parts::joins::{both, refused};
+use crate::generated::lay_read_parts::loops::{Opening, Part, read_open_elements};
+use crate::generated::lay_read_pats::structs::read_index_if;
+use crate::generated::lay_read_shared::places::FREE;
+use crate::generated::lay_read_tokens::attributes::attrs_ahead;
+use crate::generated::lay_read_tokens::found::greater;
+use crate::generated::lay_read_tokens::front::{
+    is_at_closer,
+    pass_two,
+    takes_closer,
+    takes_op,
+};
+use crate::generated::lay_read_tokens::names::read_name;
+use crate::generated::lay_read_tokens::{Ahead, Found, ReadNone};
+use crate::generated::lay_token::{Delim, List, Text};
+use crate::shims::Global;
+/// Fields, as elements of a struct literal.
+pub struct Fields;
+impl Part<FieldExpr, ()> for Fields {}
+impl<
+    P: Fn(Global, &mut Ahead<'_>, Place, u32) -> Result<Found<Expr>, ReadNone>,
+> ExprRules<P> {
+    /// Fields in braces, behind a path and the `{`.
+    #[inline(never)]
+    pub fn struct_expr(
+        &self,
+        at: &mut Ahead<'_>,
+        path: Found<Path>,
+    ) -> Result<Found<Expr>, ReadNone> {
+        let (path, found) = both(
+            path,
+            read_open_elements::<
+                Fields,
+                ExprRules<P>,
+                FieldExpr,
+                (),
+                _,
+            >(self.alloc, at, self.depth, Opening::Field, self, ExprRules::one_field, ()),
+        )?;
+        self.struct_by(at, path, found)
+    }
+    /// What stands behind the fields, of which it is known whether they ended.
+    #[inline(never)]
+    fn struct_by(
+        &self,
+        at: &mut Ahead<'_>,
+        path: Found<Path>,
+        found: Found<(List<FieldExpr>, bool)>,
+    ) -> Result<Found<Expr>, ReadNone> {
+        let Found { node, need } = found;
+        let (fields, ended) = node;
+        let ((path, fields), base) = both((path, fields), self.base(at, ended))?;
+        if !takes_closer(at, Delim::Brace) {
+            return refused((path, (fields, base)));
+        }
+        Ok(
+            Found {
+                need: greater(path.need, greater(need, base.need)) + 1,
+                node: Expr::Struct { path: path.node, fields, base: base.node },
+            },
+        )
+    }
+    /// A base, if the fields ended and a `..` stands behind them.
+    #[inline(never)]
+    fn base(
+        &self,
+        at: &mut Ahead<'_>,
+        ended: bool,
+    ) -> Result<Found<Option<Option<Boxed<Expr>>>>, ReadNone> {
+        if !(ended && at.op_is(b"..")) {
+            return Ok(Found { node: None, need: 0 });
+        }
+        pass_two(at);
+        if is_at_closer(at, Delim::Brace) {
+            return Ok(Found { node: Some(None), need: 0 });
+        }
+        let found = self.boxed_inner(at, FREE)?;
+        Ok(Found { node: Some(Some(found.node)), need: found.need })
+    }
+    /// A field, with its attributes.
+    #[inline(never)]
+    fn one_field(
+        &self,
+        at: &mut Ahead<'_>,
+        _place: (),
+    ) -> Result<Found<FieldExpr>, ReadNone> {
+        let attrs = attrs_ahead(self.alloc, at, false)?;
+        let (attrs, index) = both(attrs, read_index_if(self.alloc, at))?;
+        match index {
+            Some(index) => self.numbered_field(at, attrs, index),
+            None => self.worded_field(at, attrs),
+        }
+    }
+    /// A field behind its number and the `:`.
+    #[inline(never)]
+    fn numbered_field(
+        &self,
+        at: &mut Ahead<'_>,
+        attrs: List<Attr>,
+        index: Text,
+    ) -> Result<Found<FieldExpr>, ReadNone> {
+        let ((attrs, index), found) = both((attrs, index), self.boxed_inner(at, FREE))?;
+        Ok(
+            Found {
+                need: found.need,
+                node: FieldExpr::Numbered { attrs, index, value: found.node },
+            },
+        )
+    }
+    /// A field that is called by its name, behind its attributes.
+    #[inline(never)]
+    fn worded_field(
+        &self,
+        at: &mut Ahead<'_>,
+        attrs: List<Attr>,
+    ) -> Result<Found<FieldExpr>, ReadNone> {
+        let (attrs, name) = both(attrs, read_name(self.alloc, at))?;
+        self.named_field(at, attrs, name)
+    }
+    /// A field behind its name.
+    #[inline(never)]
+    fn named_field(
+        &self,
+        at: &mut Ahead<'_>,
+        attrs: List<Attr>,
+        name: Name,
+    ) -> Result<Found<FieldExpr>, ReadNone> {
+        if !takes_op(at, b":") {
+            return Ok(Found { node: FieldExpr::Short { attrs, name }, need: 0 });
+        }
+        let ((attrs, name), found) = both((attrs, name), self.boxed_inner(at, FREE))?;
+        Ok(
+            Found {
+                need: found.need,
+                node: FieldExpr::Named { attrs, name, value: found.node },
+            },
+        )
+    }
+}

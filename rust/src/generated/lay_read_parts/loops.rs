@@ -1,0 +1,174 @@
+//! Made by scripts/rust.sh from crates/lay_read_parts/src/loops.rt, which is proved: change that.
+//!
+//! The loops of all rules, over a function that reads one part.
+use crate::generated::lay_read_parts::leads::{
+    begins_field,
+    begins_fn_param,
+    begins_param,
+    begins_predicate,
+};
+use crate::generated::lay_read_tokens::found::greater;
+use crate::generated::lay_read_tokens::front::{
+    is_at_closer,
+    is_at_mark,
+    takes_closer,
+    takes_colons,
+    takes_mark,
+    takes_op,
+};
+use crate::generated::lay_read_tokens::stop::keep;
+use crate::generated::lay_read_tokens::{Ahead, Found, ReadNone};
+use crate::generated::lay_token::{Delim, List};
+use crate::shims::Global;
+/// What closes a list.
+#[derive(Clone, Copy,)]
+pub enum Closer {
+    Group(Delim),
+    /// `>`
+    Angle,
+    /// `|`
+    Bar,
+}
+/// What stands between the parts of a chain.
+#[derive(Clone, Copy,)]
+pub enum Joint {
+    /// `+`
+    Plus,
+    /// `::`
+    Colons,
+    /// `|`
+    Bar,
+}
+/// What goes on as long as a part of it begins.
+#[derive(Clone, Copy,)]
+pub enum Opening {
+    /// The parameters of a function type.
+    Param,
+    /// A where clause.
+    Predicate,
+    /// The fields in the pattern of a struct.
+    Field,
+    /// The parameters of a function.
+    FnParam,
+}
+/// How parts are read within a depth and at a place.
+pub trait Part<T, X> {}
+/// Whether what closes the list stands at the front.
+fn is_at_end(at: &Ahead<'_>, closer: Closer) -> bool {
+    match closer {
+        Closer::Group(delim) => is_at_closer(at, delim),
+        Closer::Angle => is_at_mark(at, b">"),
+        Closer::Bar => is_at_mark(at, b"|"),
+    }
+}
+/// Passes what closes the list, if it stands at the front.
+fn takes_end(at: &mut Ahead<'_>, closer: Closer) -> bool {
+    match closer {
+        Closer::Group(delim) => takes_closer(at, delim),
+        Closer::Angle => takes_mark(at, b">"),
+        Closer::Bar => takes_mark(at, b"|"),
+    }
+}
+/// Behind an element a `,` is passed, and where there is none what closes the list stands.
+fn takes_element_end(at: &mut Ahead<'_>, closer: Closer) -> bool {
+    takes_mark(at, b",") || is_at_end(at, closer)
+}
+/// Passes what stands between two parts, if it stands at the front.
+fn takes_joint(at: &mut Ahead<'_>, joint: Joint) -> bool {
+    match joint {
+        Joint::Plus => takes_op(at, b"+"),
+        Joint::Colons => takes_colons(at),
+        Joint::Bar => takes_op(at, b"|"),
+    }
+}
+/// Elements with commas, and what closes them.
+pub fn read_elements<
+    P: Part<T, X>,
+    R,
+    T,
+    X: Copy,
+    E: Fn(&R, &mut Ahead<'_>, X) -> Result<Found<T>, ReadNone>,
+>(
+    alloc: Global,
+    at: &mut Ahead<'_>,
+    depth: u32,
+    closer: Closer,
+    rules: &R,
+    part: E,
+    place: X,
+) -> Result<Found<List<T>>, ReadNone> {
+    let mut nodes = List::new(alloc);
+    let mut need = 0;
+    while !takes_end(at, closer) {
+        let found = part(rules, at, place)?;
+        need = greater(need, found.need);
+        keep(&mut nodes, found.node)?;
+        if !takes_element_end(at, closer) {
+            return Err(ReadNone::NoReading);
+        }
+    }
+    Ok(Found { node: nodes, need })
+}
+/// Parts with what stands between them, one at least.
+pub fn read_chain<
+    P: Part<T, X>,
+    R,
+    T,
+    X: Copy,
+    E: Fn(&R, &mut Ahead<'_>, X) -> Result<Found<T>, ReadNone>,
+>(
+    alloc: Global,
+    at: &mut Ahead<'_>,
+    depth: u32,
+    joint: Joint,
+    rules: &R,
+    part: E,
+    place: X,
+) -> Result<Found<List<T>>, ReadNone> {
+    let Found { node, mut need } = part(rules, at, place)?;
+    let mut nodes = List::new(alloc);
+    keep(&mut nodes, node)?;
+    while takes_joint(at, joint) {
+        let found = part(rules, at, place)?;
+        need = greater(need, found.need);
+        keep(&mut nodes, found.node)?;
+    }
+    Ok(Found { node: nodes, need })
+}
+/// Whether a part that goes on begins at the front.
+fn goes_on(at: &Ahead<'_>, opening: Opening) -> bool {
+    match opening {
+        Opening::Param => begins_param(at),
+        Opening::Predicate => begins_predicate(at),
+        Opening::Field => begins_field(at),
+        Opening::FnParam => begins_fn_param(at),
+    }
+}
+/// Elements with commas as long as one begins; and whether a comma stands behind the last of them, or there is none.
+pub fn read_open_elements<
+    P: Part<T, X>,
+    R,
+    T,
+    X: Copy,
+    E: Fn(&R, &mut Ahead<'_>, X) -> Result<Found<T>, ReadNone>,
+>(
+    alloc: Global,
+    at: &mut Ahead<'_>,
+    depth: u32,
+    opening: Opening,
+    rules: &R,
+    part: E,
+    place: X,
+) -> Result<Found<(List<T>, bool)>, ReadNone> {
+    let mut nodes = List::new(alloc);
+    let mut need = 0;
+    while goes_on(at, opening) {
+        let found = part(rules, at, place)?;
+        need = greater(need, found.need);
+        keep(&mut nodes, found.node)?;
+        if !takes_mark(at, b",") {
+            return Ok(Found { node: (nodes, false), need });
+        }
+    }
+    Ok(Found { node: (nodes, true), need })
+}

@@ -1,0 +1,229 @@
+//! Made by scripts/rust.sh from crates/lay_read_parts/src/parts.rt, which is proved: change that.
+//!
+//! Lifetimes, literals, binders, constants and ABIs.
+use crate::generated::lay_read_parts::joins::{both, refused};
+use crate::generated::lay_read_parts::leads::{
+    is_at_lifetime,
+    is_at_literal,
+    is_at_number,
+};
+use crate::generated::lay_read_parts::loops::{
+    Closer,
+    Joint,
+    Part,
+    read_chain,
+    read_elements,
+};
+use crate::generated::lay_cook::{Cooked, cook};
+use crate::generated::lay_node::{
+    Abi,
+    Attr,
+    Binder,
+    ConstArg,
+    Lifetime,
+    LifetimeParam,
+    Literal,
+};
+use crate::generated::lay_read_tokens::attributes::attrs_ahead;
+use crate::generated::lay_read_tokens::front::{
+    pass,
+    takes_closer,
+    takes_keyword,
+    takes_mark,
+    takes_op,
+    takes_opener,
+};
+use crate::generated::lay_read_tokens::stop::copy_of;
+use crate::generated::lay_read_tokens::tokens::read_tokens;
+use crate::generated::lay_read_tokens::{Ahead, Found, ReadNone};
+use crate::generated::lay_token::{Delim, List, NoMemory};
+use crate::shims::Global;
+/// A lifetime.
+pub fn read_lifetime(alloc: Global, at: &mut Ahead<'_>) -> Result<Lifetime, ReadNone> {
+    let token = match at.peek(0) {
+        Some(token) => token,
+        None => return Err(ReadNone::NoReading),
+    };
+    if !is_at_lifetime(at) {
+        return Err(ReadNone::NoReading);
+    }
+    let text = copy_of(alloc, &token.text)?;
+    pass(at);
+    Ok(Lifetime { text })
+}
+/// A lifetime, if one stands at the front.
+pub fn read_lifetime_if(
+    alloc: Global,
+    at: &mut Ahead<'_>,
+) -> Result<Option<Lifetime>, ReadNone> {
+    if !is_at_lifetime(at) {
+        return Ok(None);
+    }
+    let lifetime = read_lifetime(alloc, at)?;
+    Ok(Some(lifetime))
+}
+/// Lifetimes, as parts of a chain.
+struct Lifetimes;
+impl Part<Lifetime, ()> for Lifetimes {}
+/// A lifetime, which needs no depth.
+fn free_lifetime(
+    alloc: &Global,
+    at: &mut Ahead<'_>,
+    _place: (),
+) -> Result<Found<Lifetime>, ReadNone> {
+    let node = read_lifetime(*alloc, at)?;
+    Ok(Found { node, need: 0 })
+}
+/// Lifetimes behind a `:`.
+pub fn read_lifetimes(
+    alloc: Global,
+    at: &mut Ahead<'_>,
+) -> Result<List<Lifetime>, ReadNone> {
+    if !is_at_lifetime(at) {
+        return Ok(List::new(alloc));
+    }
+    let found = read_chain::<
+        Lifetimes,
+        Global,
+        Lifetime,
+        (),
+        _,
+    >(alloc, at, 0, Joint::Plus, &alloc, free_lifetime, ())?;
+    Ok(found.node)
+}
+/// What a lifetime outlives, if anything is said of it.
+fn read_outlived(alloc: Global, at: &mut Ahead<'_>) -> Result<List<Lifetime>, ReadNone> {
+    if takes_op(at, b":") { read_lifetimes(alloc, at) } else { Ok(List::new(alloc)) }
+}
+/// A lifetime that is a parameter, behind its attributes.
+pub fn read_lifetime_behind(
+    alloc: Global,
+    at: &mut Ahead<'_>,
+    attrs: List<Attr>,
+) -> Result<LifetimeParam, ReadNone> {
+    let (attrs, lifetime) = both(attrs, read_lifetime(alloc, at))?;
+    let ((attrs, lifetime), bounds) = both((attrs, lifetime), read_outlived(alloc, at))?;
+    Ok(LifetimeParam { attrs, lifetime, bounds })
+}
+/// A lifetime that is a parameter, with its attributes.
+fn read_lifetime_param(
+    alloc: Global,
+    at: &mut Ahead<'_>,
+) -> Result<LifetimeParam, ReadNone> {
+    let attrs = attrs_ahead(alloc, at, false)?;
+    read_lifetime_behind(alloc, at, attrs)
+}
+/// Lifetimes that are parameters, as elements of a list.
+struct LifetimeParams;
+impl Part<LifetimeParam, ()> for LifetimeParams {}
+/// A lifetime that is a parameter, which needs no depth.
+fn free_param(
+    alloc: &Global,
+    at: &mut Ahead<'_>,
+    _place: (),
+) -> Result<Found<LifetimeParam>, ReadNone> {
+    let node = read_lifetime_param(*alloc, at)?;
+    Ok(Found { node, need: 0 })
+}
+/// The parameters of a binder, behind its `<`.
+fn read_params(
+    alloc: Global,
+    at: &mut Ahead<'_>,
+) -> Result<List<LifetimeParam>, ReadNone> {
+    let found = read_elements::<
+        LifetimeParams,
+        Global,
+        LifetimeParam,
+        (),
+        _,
+    >(alloc, at, 0, Closer::Angle, &alloc, free_param, ())?;
+    Ok(found.node)
+}
+/// A binder, if one stands at the front.
+pub fn read_binder_if(
+    alloc: Global,
+    at: &mut Ahead<'_>,
+) -> Result<Option<Binder>, ReadNone> {
+    if !takes_keyword(at, b"for") {
+        return Ok(None);
+    }
+    if !takes_mark(at, b"<") {
+        return Err(ReadNone::NoReading);
+    }
+    let params = read_params(alloc, at)?;
+    Ok(Some(Binder { params }))
+}
+/// The first token as a literal, if it passes.
+pub fn read_literal(
+    alloc: Global,
+    at: &mut Ahead<'_>,
+    passes: bool,
+) -> Result<Literal, ReadNone> {
+    let token = match at.peek(0) {
+        Some(token) => token,
+        None => return Err(ReadNone::NoReading),
+    };
+    if !passes {
+        return Err(ReadNone::NoReading);
+    }
+    let text = copy_of(alloc, &token.text)?;
+    pass(at);
+    Ok(Literal { kind: token.kind, text })
+}
+/// A generic argument that is a constant.
+pub fn read_const(alloc: Global, at: &mut Ahead<'_>) -> Result<ConstArg, ReadNone> {
+    if is_at_literal(at) {
+        let literal = read_literal(alloc, at, true)?;
+        Ok(ConstArg::Literal(literal))
+    } else if takes_mark(at, b"-") { read_negative(alloc, at) } else {
+        read_braces(alloc, at)
+    }
+}
+/// A number, behind its `-`.
+fn read_negative(alloc: Global, at: &mut Ahead<'_>) -> Result<ConstArg, ReadNone> {
+    let passes = is_at_number(at);
+    let literal = read_literal(alloc, at, passes)?;
+    Ok(ConstArg::Negative(literal))
+}
+/// A constant in braces.
+fn read_braces(alloc: Global, at: &mut Ahead<'_>) -> Result<ConstArg, ReadNone> {
+    if !takes_opener(at, Delim::Brace) {
+        return Err(ReadNone::NoReading);
+    }
+    let tokens = read_tokens(alloc, at)?;
+    if takes_closer(at, Delim::Brace) { Ok(ConstArg::Braces(tokens)) } else {
+        refused(tokens)
+    }
+}
+/// Whether a string without suffix stands at the front.
+fn is_at_string(alloc: Global, at: &Ahead<'_>) -> Result<bool, ReadNone> {
+    match at.front() {
+        Some(token) => {
+            match cook(alloc, token) {
+                Ok(Cooked::Str(_)) => Ok(true),
+                Ok(Cooked::NotText) => Ok(false),
+                Err(NoMemory) => Err(ReadNone::NoMemory),
+            }
+        }
+        None => Ok(false),
+    }
+}
+/// An ABI, behind `extern`.
+fn read_abi_name(
+    alloc: Global,
+    at: &mut Ahead<'_>,
+) -> Result<Option<Literal>, ReadNone> {
+    if !is_at_string(alloc, at)? {
+        return Ok(None);
+    }
+    let name = read_literal(alloc, at, true)?;
+    Ok(Some(name))
+}
+/// An ABI, if one stands at the front.
+pub fn read_abi_if(alloc: Global, at: &mut Ahead<'_>) -> Result<Option<Abi>, ReadNone> {
+    if !takes_keyword(at, b"extern") {
+        return Ok(None);
+    }
+    let name = read_abi_name(alloc, at)?;
+    Ok(Some(Abi { name }))
+}

@@ -1,0 +1,36 @@
+//! Made by scripts/rust.sh from crates/lay_read_pats/src/reads.rt, which is proved: change that.
+//!
+//! The pattern at a cursor.
+use crate::generated::lay_read_pats::pats::pat_ahead;
+use crate::generated::lay_nest::Cursor;
+use crate::generated::lay_node::{Pat, PatPlace};
+use crate::generated::lay_read_tokens::{Ahead, ReadNone};
+use crate::shims::Global;
+/// The pattern at the front, which may be several alternatives, within a depth. Where there is none the cursor stays.
+pub fn read_pat(
+    alloc: Global,
+    at: &mut Cursor<'_>,
+    depth: u32,
+) -> Result<Pat, ReadNone> {
+    read_at(alloc, at, PatPlace::Alternatives, depth)
+}
+/// The pattern at the front, which is no alternatives, within a depth. Where there is none the cursor stays.
+pub fn read_pat_no_alt(
+    alloc: Global,
+    at: &mut Cursor<'_>,
+    depth: u32,
+) -> Result<Pat, ReadNone> {
+    read_at(alloc, at, PatPlace::Single, depth)
+}
+/// The pattern at the front, at its place and within a depth. Where there is none the cursor stays.
+fn read_at(
+    alloc: Global,
+    at: &mut Cursor<'_>,
+    place: PatPlace,
+    depth: u32,
+) -> Result<Pat, ReadNone> {
+    let mut ahead = Ahead::new(at.fork());
+    let found = pat_ahead(alloc, &mut ahead, place, depth)?;
+    *at = ahead.into_cursor();
+    Ok(found.node)
+}

@@ -1,0 +1,66 @@
+//! Made by scripts/rust.sh from crates/lay_read_shared/src/loops.rt, which is proved: change that.
+//!
+//! The loop of parts that stand one behind another, over a function that reads one of them.
+use crate::generated::lay_ops::ahead::{begins_step, strength};
+use crate::generated::lay_read_parts::loops::Part;
+use crate::generated::lay_read_tokens::found::greater;
+use crate::generated::lay_read_tokens::front::{has_items, is_at_keyword, takes_keyword};
+use crate::generated::lay_read_tokens::stop::keep;
+use crate::generated::lay_read_tokens::{Ahead, Found, ReadNone};
+use crate::generated::lay_token::List;
+use crate::shims::Global;
+/// What goes on as long as a part of it begins.
+#[derive(Clone, Copy,)]
+pub enum Going {
+    /// Postfix steps.
+    Steps,
+    /// Operators of this level and their operands.
+    Operands(u8),
+    /// Types behind `as`.
+    Types,
+    /// What stands within braces.
+    Items,
+    /// Branches behind `else if`.
+    ElseIfs,
+}
+/// Whether `else if` stands at the front.
+fn begins_else_if(at: &Ahead<'_>) -> bool {
+    let mut behind = at.fork();
+    takes_keyword(&mut behind, b"else") && is_at_keyword(&behind, b"if")
+}
+/// Whether one more part begins at the front.
+fn goes_on(at: &Ahead<'_>, going: Going) -> bool {
+    match going {
+        Going::Steps => begins_step(at),
+        Going::Operands(level) => strength(at) as u16 == level as u16 + 1,
+        Going::Types => is_at_keyword(at, b"as"),
+        Going::Items => has_items(at),
+        Going::ElseIfs => begins_else_if(at),
+    }
+}
+/// Parts as long as one begins.
+#[inline(never)]
+pub fn read_parts<
+    P: Part<T, X>,
+    R,
+    T,
+    X: Copy,
+    E: Fn(&R, &mut Ahead<'_>, X) -> Result<Found<T>, ReadNone>,
+>(
+    alloc: Global,
+    at: &mut Ahead<'_>,
+    depth: u32,
+    going: Going,
+    rules: &R,
+    part: E,
+    place: X,
+) -> Result<Found<List<T>>, ReadNone> {
+    let mut nodes = List::new(alloc);
+    let mut need = 0;
+    while goes_on(at, going) {
+        let found = part(rules, at, place)?;
+        need = greater(need, found.need);
+        keep(&mut nodes, found.node)?;
+    }
+    Ok(Found { node: nodes, need })
+}

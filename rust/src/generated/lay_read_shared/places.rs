@@ -1,0 +1,30 @@
+//! Made by scripts/rust.sh from crates/lay_read_shared/src/places.rt, which is proved: change that.
+//!
+//! The places where parts of expressions stand.
+use crate::generated::lay_code::{Place, Start};
+/// Within delimiters, and where nothing is asked.
+pub const FREE: Place = Place {
+    level: 0,
+    no_struct: false,
+    start: Start::No,
+    op_after: false,
+    lt_after: false,
+};
+/// The whole of a statement, or of the body of an arm.
+pub const STATEMENT: Place = Place {
+    level: 0,
+    no_struct: false,
+    start: Start::Whole,
+    op_after: false,
+    lt_after: false,
+};
+/// A place of this level, where no struct literal may stand if it is said.
+pub fn plain(level: u8, no_struct: bool) -> Place {
+    Place { level, no_struct, start: Start::No, op_after: false, lt_after: false }
+}
+/// An operand that an operator follows. It begins a part of what begins a statement, and the operator is `<` or `<<`, if
+/// it is said.
+pub fn before_op(level: u8, no_struct: bool, first: bool, angle: bool) -> Place {
+    let start = if first { Start::Part } else { Start::No };
+    Place { level, no_struct, start, op_after: true, lt_after: angle }
+}

@@ -1,0 +1,21 @@
+//! Made by scripts/rust.sh from crates/lay_read_tokens/src/lib.rt, which is proved: change that.
+//!
+//! From nested tokens to what all nodes are made of: names, simple paths, token lists, macro calls and
+//! attributes.
+//!
+//! Each reader is proved equal to a function of the tokens ahead that `lay_node` defines, and that function reads what
+//! is spelled and nothing else. Where a reader reads none, [`ReadNone`] says why.
+pub mod ahead;
+pub mod attributes;
+pub mod calls;
+pub mod found;
+pub mod front;
+pub mod names;
+pub mod simple_paths;
+pub mod stop;
+pub mod tokens;
+pub use ahead::Ahead;
+pub use attributes::{read_attr, read_attrs};
+pub use calls::read_call;
+pub use found::Found;
+pub use stop::ReadNone;

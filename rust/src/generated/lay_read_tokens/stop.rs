@@ -1,0 +1,35 @@
+//! Made by scripts/rust.sh from crates/lay_read_tokens/src/stop.rt, which is proved: change that.
+//!
+//! Why a reader stops.
+use crate::generated::lay_node::Boxed;
+use crate::generated::lay_token::{List, NoMemory, Text};
+use crate::shims::Global;
+/// Why nothing was read.
+#[derive(Clone, Copy, Debug,)]
+pub enum ReadNone {
+    /// The tokens ahead spell nothing of the kind.
+    NoReading,
+    /// Memory was not found, which says nothing of the tokens.
+    NoMemory,
+}
+/// Adds an item at the end.
+pub fn keep<T>(list: &mut List<T>, item: T) -> Result<(), ReadNone> {
+    match list.push(item) {
+        Ok(()) => Ok(()),
+        Err(_) => Err(ReadNone::NoMemory),
+    }
+}
+/// The value in a box of its own.
+pub fn boxed<T>(alloc: Global, value: T) -> Result<Boxed<T>, ReadNone> {
+    match Boxed::new(alloc, value) {
+        Ok(boxed) => Ok(boxed),
+        Err(NoMemory) => Err(ReadNone::NoMemory),
+    }
+}
+/// The text once more, on its own.
+pub fn copy_of(alloc: Global, text: &Text) -> Result<Text, ReadNone> {
+    match Text::from_bytes(alloc, text.as_bytes()) {
+        Ok(copy) => Ok(copy),
+        Err(NoMemory) => Err(ReadNone::NoMemory),
+    }
+}

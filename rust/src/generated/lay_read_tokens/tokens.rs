@@ -1,0 +1,118 @@
+//! Made by scripts/rust.sh from crates/lay_read_tokens/src/tokens.rt, which is proved: change that.
+//!
+//! Token lists and groups.
+use crate::generated::lay_read_tokens::ahead::Ahead;
+use crate::generated::lay_read_tokens::front::is_at_mark;
+use crate::generated::lay_read_tokens::stop::{ReadNone, copy_of, keep};
+use crate::generated::lay_node::{Group, Listed, Tokens};
+use crate::generated::lay_token::{Delim, DocForm, Kind, List, Text, Token, doc_form};
+use crate::shims::Global;
+/// The token list at the front: the tokens up to the closer of the group that they stand in, or to the end.
+pub fn read_tokens(alloc: Global, at: &mut Ahead<'_>) -> Result<Tokens, ReadNone> {
+    read_list(alloc, at, false)
+}
+/// The same, up to a comma that stands in no group of it.
+pub fn read_tokens_before_comma(
+    alloc: Global,
+    at: &mut Ahead<'_>,
+) -> Result<Tokens, ReadNone> {
+    read_list(alloc, at, true)
+}
+/// The token list at the front, up to a comma that stands in no group of it, if it is asked for.
+fn read_list(
+    alloc: Global,
+    at: &mut Ahead<'_>,
+    to_comma: bool,
+) -> Result<Tokens, ReadNone> {
+    let mut list = List::new(alloc);
+    while goes_on(at, to_comma) {
+        add_tokens(alloc, &mut list, at.tree())?;
+    }
+    Ok(Tokens::new(list))
+}
+/// Whether a token tree begins that a list goes on to.
+fn goes_on(at: &Ahead<'_>, to_comma: bool) -> bool {
+    is_at_tree(at) && !(to_comma && is_at_mark(at, b","))
+}
+/// Whether a token tree begins at the front.
+fn is_at_tree(at: &Ahead<'_>) -> bool {
+    match at.peek(0) {
+        Some(token) => !matches!(token.kind, Kind::Closer(_)),
+        None => false,
+    }
+}
+/// The group at the front.
+pub fn read_group(alloc: Global, at: &mut Ahead<'_>) -> Result<Group, ReadNone> {
+    match opener(at) {
+        Some(delim) => read_opened(alloc, at, delim),
+        None => Err(ReadNone::NoReading),
+    }
+}
+/// The delimiter of the opener at the front.
+fn opener(at: &Ahead<'_>) -> Option<Delim> {
+    match at.peek(0) {
+        Some(token) => {
+            match token.kind {
+                Kind::Opener(delim) => Some(delim),
+                _ => None,
+            }
+        }
+        None => None,
+    }
+}
+/// The group that an opener of this delimiter begins.
+fn read_opened(
+    alloc: Global,
+    at: &mut Ahead<'_>,
+    delim: Delim,
+) -> Result<Group, ReadNone> {
+    let inside = at.group();
+    let tokens = list_of(alloc, inside.as_slice())?;
+    Ok(Group { delim, tokens })
+}
+/// The list of balanced tokens.
+fn list_of(alloc: Global, tokens: &[Token]) -> Result<Tokens, ReadNone> {
+    let mut list = List::new(alloc);
+    add_tokens(alloc, &mut list, tokens)?;
+    Ok(Tokens::new(list))
+}
+/// Adds the tokens, as they stand in a list.
+fn add_tokens(
+    alloc: Global,
+    list: &mut List<Listed>,
+    tokens: &[Token],
+) -> Result<(), ReadNone> {
+    for token in tokens {
+        let listed = listed(alloc, token)?;
+        keep(list, listed)?;
+    }
+    Ok(())
+}
+/// The token as it stands in a list. There is none of documentation that can't be laid out.
+fn listed(alloc: Global, token: &Token) -> Result<Listed, ReadNone> {
+    match token.kind {
+        Kind::Doc { inner, .. } => listed_doc(alloc, inner, &token.text),
+        kind => listed_token(alloc, kind, token),
+    }
+}
+/// Documentation as it stands in a list.
+fn listed_doc(alloc: Global, inner: bool, text: &Text) -> Result<Listed, ReadNone> {
+    if !is_doc_text(text.as_bytes(), inner) {
+        return Err(ReadNone::NoReading);
+    }
+    let text = copy_of(alloc, text)?;
+    Ok(Listed::Doc { inner, text })
+}
+/// A token that is no documentation as it stands in a list. Only punctuation is joint.
+fn listed_token(alloc: Global, kind: Kind, token: &Token) -> Result<Listed, ReadNone> {
+    let text = copy_of(alloc, &token.text)?;
+    Ok(Listed::Token { kind, text, joint: matches!(kind, Kind::Punct) && token.joint })
+}
+/// Whether documentation can be written with the text.
+pub(crate) fn is_doc_text(text: &[u8], inner: bool) -> bool {
+    match doc_form(text, inner) {
+        DocForm::Line => true,
+        DocForm::Block => true,
+        DocForm::Neither => false,
+    }
+}

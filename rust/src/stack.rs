@@ -1,0 +1,24 @@
+//! The stack that the deepest sources need.
+#[cfg(feature = "std")]
+use std::{io, panic, thread};
+
+/// Of the deepest source some 1.7 MB are needed where the crate is optimised, and 8 MB where it isn't.
+#[cfg(feature = "std")]
+const STACK: usize = 16 * 1024 * 1024;
+
+/// What a call answers that has the stack which the deepest sources need, whatever the caller's thread has left; or nothing where memory for
+/// a thread was wanting. On a system without threads the call has the caller's stack.
+#[cfg(feature = "std")]
+pub fn with_stack<T: Send>(call: &(dyn Fn() -> T + Sync)) -> Option<T> {
+    thread::scope(|scope| match thread::Builder::new().stack_size(STACK).spawn_scoped(scope, call) {
+        Ok(run) => Some(run.join().unwrap_or_else(|fault| panic::resume_unwind(fault))),
+        Err(error) if error.kind() == io::ErrorKind::Unsupported => Some(call()),
+        Err(_) => None,
+    })
+}
+
+/// Without std the call has the caller's stack.
+#[cfg(not(feature = "std"))]
+pub fn with_stack<T>(call: &dyn Fn() -> T) -> Option<T> {
+    Some(call())
+}

@@ -1,0 +1,60 @@
+#!/bin/sh
+# Tests what release.sh makes, as somebody would who has nothing else: each of the two is unpacked into an empty folder.
+#
+# usage: release_test.sh [COMMAND LIBRARY]
+#
+# COMMAND and LIBRARY are as release.sh takes them. Both files are made twice and compared. Of what they hold, the command runs, c/test.c is built
+# over the library, the crate's documentation is tested, and a package with a build script is built over the crate, which warns of a
+# text that is refused and goes on. It needs dpkg-deb, a C compiler as `cc`, and cargo.
+set -eu
+. "$(dirname "$0")/usage.sh"
+words 0 2 "$@"
+[ $# -ne 1 ] || usage 2 >&2
+top=$(cd "$(dirname "$0")/.." && pwd)
+made=$(mktemp -d)
+trap 'rm -rf "$made"' EXIT
+fail() {
+    echo "release: $1" >&2
+    exit 1
+}
+"$top/scripts/release.sh" 0.1.0 "$made/first" "$@" > /dev/null
+"$top/scripts/release.sh" 0.1.0 "$made/second" "$@" > /dev/null
+diff -r "$made/first" "$made/second" || fail "a second run makes other bytes"
+mkdir "$made/tar" "$made/deb"
+tar -xzf "$made/first/froesaffron-0.1.0-x86_64-linux.tar.gz" -C "$made/tar" --strip-components=1
+dpkg-deb -x "$made/first/froesaffron_0.1.0_amd64.deb" "$made/deb"
+tar=$made/tar deb=$made/deb/usr
+
+printf 'struct A;struct B{a:u8}' > "$made/source.rs"
+printf 'struct A;\nstruct B {\n    a: u8,\n}\n' > "$made/text.rs"
+for command in "$tar/bin/lay_fmt" "$deb/bin/lay_fmt"; do
+    "$command" "$made/source.rs" | cmp - "$made/text.rs" || fail "the command gives another text"
+done
+cmp "$tar/lib/liblay.a" "$deb/lib/x86_64-linux-gnu/liblay.a"
+cmp "$tar/include/lay.h" "$deb/include/lay.h"
+zcat "$deb/share/man/man1/lay_fmt.1.gz" | cmp - "$tar/share/man/man1/lay_fmt.1"
+diff -r "$tar/rust" "$deb/share/froesaffron/rust"
+cat "$tar/LICENSE-APACHE" "$tar/LICENSE-MIT" | cmp - "$deb/share/doc/froesaffron/copyright"
+
+for standard in gnu99 gnu11; do
+    cc -std=$standard -Wall -Wextra -Werror -O1 -I "$tar/include" -o "$made/test" "$top/c/test.c" "$tar/lib/liblay.a" 2> "$made/log" || {
+        cat "$made/log" >&2
+        fail "c/test.c isn't built"
+    }
+done
+"$made/test" "$made/source.rs" "$made/text.rs" || fail "c/test.c fails"
+
+export CARGO_TARGET_DIR="$made/target"
+(cd "$tar/rust" && cargo test --quiet --offline --doc) > "$made/log" 2>&1 || {
+    cat "$made/log" >&2
+    fail "the crate's documentation isn't as the crate is"
+}
+cp -r "$top/examples/build_script" "$made/package"
+sed -i "s|path = \".*\"|path = \"$tar/rust\"|" "$made/package/Cargo.toml"
+(cd "$made/package" && cargo run --offline) > "$made/out" 2> "$made/log" || {
+    cat "$made/log" >&2
+    fail "the example of a build script isn't built"
+}
+grep -q 'warning: .*refused.rs:1:1: no item' "$made/log" || fail "the build script doesn't warn"
+printf 'pub const NAMES: [&str; 2] = ["a", "b"];\npub fn later()->impl Sized{async||1}\n' | cmp - "$made/out"
+echo "release: passed"

@@ -1,0 +1,102 @@
+#!/usr/bin/env python3
+"""Tests the translator: what it doesn't know has to end its run with the file and the line where it stands, and trees are offered whole.
+
+usage: test.py"""
+import os
+import re
+import subprocess
+import sys
+import tempfile
+
+HERE = os.path.dirname(os.path.abspath(__file__))
+TOP = os.path.dirname(os.path.dirname(HERE))
+
+# Sources that are planted, each in a crate of its own beside a part that is known, the line where it isn't, and what is said.
+PLANTED = [
+    ('#[strange]\nfn a() {}', 1, 'the attribute strange'),
+    ('#[derive(Clone, Strange)]\nstruct A;', 1, 'the derive Strange'),
+    ('use std::sync::Arc;', 1, 'the path std::sync'),
+    ('fn a() {\n    std::mem::swap(b, c)\n}', 2, 'the path std::mem'),
+    ('fn a() {\n    println!("b")\n}', 2, 'the macro println'),
+    ('fn a() {\n    b ⊎ c\n}', 2, 'the sign ⊎'),
+    ('/* a */', 1, 'a block comment'),
+    ('fn a(b: u8) -> u8\n    promises { result }\n{\n    b\n}', 2, 'the word promises'),
+    ('fn a() {\n    loop\n        bound { n }\n    {}\n}', 3, 'the word bound behind loop'),
+    ('fn a(b: &mut A)\n    keeps b { b.old ≡ b.new }\n{}', 2, 'the sign ≡'),
+    ('fn a(b: &mut A)\n    keeps b { b.old }\n{}', 2, 'the word keeps'),
+    ('opaque fn a() {}', 1, 'the word opaque before fn'),
+    ('fn a(b: &[u8]) -> &str {\n    unsafe { b.get_unchecked(0) }\n}', 2, 'the word unsafe'),
+    ('pub ghost fn a() {}', 1, 'what follows ghost'),
+    ('use regex::Regex;', 1, 'the library regex'),
+    ('fn a() {\n    regex::compile(b)\n}', 2, 'the path regex::compile'),
+]
+KNOWN = '''//! A crate.
+#![tactic(auto)]
+ghost use Rattle.std.specs.Prelude.{◌≡◌};
+
+/// A number.
+pub fn number(of: u8) -> u8
+    requires { of ≡ 1 }
+    ensures same { result ≡ of } // and no other
+{
+    of
+}
+'''
+
+
+def translate(source):
+    """What the translator says of a repository of one crate, and what it makes of that."""
+    with tempfile.TemporaryDirectory() as top:
+        with open(os.path.join(top, 'crates.txt'), 'w', encoding='utf-8') as file:
+            file.write('lay_front: regex smallvec\nlay_laws: lay_front\n')
+        for crate in ('lay_front', 'lay_laws'):
+            os.makedirs(os.path.join(top, 'crates', crate, 'src'))
+            with open(os.path.join(top, 'crates', crate, 'src', 'lib.rt'), 'w', encoding='utf-8') as file:
+                file.write(source if crate == 'lay_front' else KNOWN)
+        made = os.path.join(top, 'made')
+        ran = subprocess.run([sys.executable, os.path.join(HERE, 'to_rust.py'), top, made], capture_output=True, text=True)
+        text = None
+        if ran.returncode == 0:
+            with open(os.path.join(made, 'lay_front.rs'), encoding='utf-8') as file:
+                text = file.read()
+        return ran.returncode, ran.stderr.strip(), text
+
+
+def planted_failures():
+    for source, line, said in PLANTED:
+        wanted = f"crates/lay_front/src/lib.rt:{line + KNOWN.count(chr(10))}: {said} isn't known"
+        status, error, text = translate(KNOWN + source + '\n')
+        if status == 0 or error != wanted or text is not None:
+            yield f'{source!r}: {error!r} and not {wanted!r}'
+    status, error, text = translate(KNOWN)
+    if status != 0 or 'pub fn number(of: u8) -> u8 {' not in ' '.join(text.split()) or 'same' in text:
+        yield f'what is known is not translated: {error} {text}'
+
+
+def listed(path, start):
+    with open(os.path.join(TOP, path), encoding='utf-8') as file:
+        text = file.read()
+    return set(re.findall(r'\w+', text[text.index(start) + len(start):].split('};')[0]))
+
+
+def tree_failures():
+    """The crate's trees have each type that lay_tree passes on."""
+    ours = listed('rust/src/tree.rs', 'pub use crate::generated::lay_tree::{')
+    theirs = listed('crates/lay_tree/src/lib.rt', 'pub use lay_code::{')
+    if ours != theirs:
+        yield f'rust/src/tree.rs and lay_tree differ in {sorted(ours ^ theirs)}'
+
+
+def main():
+    if sys.argv[1:]:
+        print('usage: test.py')
+        sys.exit(0 if sys.argv[1:] == ['--help'] else 2)
+    failures = [*planted_failures(), *tree_failures()]
+    for failure in failures:
+        print(failure)
+    print(f'{len(PLANTED)} planted, {len(failures)} failures')
+    sys.exit(1 if failures else 0)
+
+
+if __name__ == '__main__':
+    main()
