@@ -52,7 +52,7 @@ def main():
     words += ["--toolchain", f"{kit}/toolchain", "--backend", "llvm", "--links", f"{CRATE}="]
     folder = f"{TOP}/crates/{CRATE}"
     os.makedirs(f"{folder}/out", exist_ok=True)
-    built = subprocess.run([f"{kit}/bin/rattle", *words, "-o", f"out/lib{CRATE}.a"], cwd=folder, stdout=subprocess.PIPE, text=True)
+    built = subprocess.run([f"{kit}/bin/rattle", *words, "-o", f"out/lib{CRATE}.a"], cwd=folder, stdout=subprocess.PIPE, stderr=subprocess.STDOUT, text=True)
     if built.returncode:
         print(built.stdout)
     sys.exit(built.returncode)
