@@ -1,11 +1,12 @@
 -- How many groups are open.
-use Rattle.std.proofs.Common.{◌≡◌, ℕ, zero, suc, ◌+◌, ◌≤◌, List, [], ◌∷◌, ◌++◌, length, refl, sym, ap, ◌∙◌, arith}
+use Rattle.std.proofs.Common.{◌≡◌, ℕ, zero, suc, ◌+◌, ◌≤◌, List, [], ◌∷◌, ◌++◌, length, drop, refl, sym, ap, ◌∙◌, arith}
 use Rattle.lay_layout.specs.declared.layout.Frame.{Frame}
 use Rattle.lay_layout.specs.declared.layout.Tok.{Tok}
 use Rattle.lay_layout.specs.declared.layout.Tok.TheVariants as tok
 use Rattle.lay_layout.specs.Machine.{opened, outer}
 use Rattle.lay_stream.proofs.Calls.{opened_append}
 use Rattle.lay_ring.specs.declared.entry.Entry.{Entry}
+use Rattle.lay_ring.specs.Rows.{IsRun}
 use Rattle.lay_queue.specs.Closed.{toks_of}
 
 -- how many groups are open after entries that wait, where these frames are before them
@@ -41,3 +42,9 @@ open_more es es' fs fs' t g g' a f e h =
 
 pub open_same : (es es' : List Entry) (fs : List Frame) → toks_of es' ≡ toks_of es → open_in es' fs ≡ open_in es fs
 open_same es es' fs e = ap (λ (x : List Tok). opened x (length fs)) e
+
+-- texts open no group
+pub run_level : (count : ℕ) (es : List Entry) (bytes : List ℕ) (g : ℕ) → IsRun count es bytes → opened (toks_of (drop count es)) g ≡ opened (toks_of es) g
+run_level zero es bytes g h = refl
+run_level (suc count) [] bytes g h = absurd h
+run_level (suc count) (e ∷ es) bytes g h = run_level count es h.1 g h.4 ∙ sym (ap (λ (t : Tok). opened (t ∷ toks_of es) g) h.2)

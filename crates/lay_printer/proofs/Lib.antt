@@ -9,3 +9,4 @@ pub mod Lockstep
 pub mod Measures
 pub mod Depths
 pub mod Staying
+pub mod Undecided

@@ -1,15 +1,18 @@
 -- The printer holds tokens, and prints them.
-use Rattle.std.proofs.Common.{pos, negsuc, ◌≡◌, ℕ, ◌+◌, nat_lt, Bool, true, false, List, [], ◌∷◌, ◌++◌, map, Option, Some, None, Result, Ok, Err, OnOk, refl, sym, ap, ◌∙◌, subst, append_assoc, append-nil, arith}
+use Rattle.std.proofs.Common.{pos, negsuc, ◌≡◌, ℕ, zero, suc, ◌+◌, ◌<◌, min, nat_lt, Bool, true, false, List, [], ◌∷◌, ◌++◌, map, length, drop, replicate, Option, Some, None, Result, Ok, Err, OnOk, refl, sym, ap, ap₂, ◌∙◌, subst, append_assoc, append-nil, length-append, arith}
 use Rattle.std.proofs.lemmas.Bool.Decides.{nat_tests}
 use Rattle.lay_layout.specs.declared.layout.Frame.{Frame}
 use Rattle.lay_layout.specs.declared.layout.Tok.{Tok}
+use Rattle.lay_layout.specs.declared.layout.Tok.TheVariants as tok
 use Rattle.lay_layout.specs.Document.{State, over}
 use Rattle.lay_layout.specs.Machine.{Layout, act, measure, play, step, begun, text}
 use Rattle.lay_ring.specs.declared.entry.Size.{Size}
 use Rattle.lay_ring.specs.declared.entry.Size.TheVariants.{Unknown, Known, Forced}
 use Rattle.lay_ring.specs.declared.entry.Entry.{Entry}
 use Rattle.lay_printer.specs.declared.line.Line.{Line}
-use Rattle.lay_queue.specs.Scan.{Scan, Stopped, Going, at_end, size_of_scan, scan_of, sized, waiting}
+use Rattle.lay_queue.specs.Scan.{Scan, Stopped, Going, at_end, cap, size_of_scan, scan_of, sized, waiting}
+use Rattle.lay_ring.specs.Rows.{IsRun}
+use Rattle.lay_queue.proofs.Queueing.{sizes_text, text_size, toks_more}
 use Rattle.lay_printer.specs.Queued.{MayFollow, Holds}
 use Rattle.lay_queue.specs.Notes.{scans}
 use Rattle.lay_queue.specs.Closed.{toks_of, sizes_of}
@@ -215,3 +218,105 @@ feeds_lost es mid es' false p mp p' fs mfs fs' b n t e f g m k y q h = record {
   ok = tt;
   err = λ content s r. h.err content (s ++ t ∷ []) (fed_first es mid p mp fs mfs b content s t g m k q r);
 }
+
+waiting_append : (a b : List Entry) → waiting (a ++ b) ≡ waiting a + waiting b
+waiting_append [] b = omega arith
+waiting_append (e ∷ a) b = omega (arith, waiting_append a b)
+
+-- the oldest entry is printed, and some wait behind those that are held
+pub prints_front_on : {T E : Type 0} (x : Bool) (es es' tail : List Entry) (e : Entry) (p p' : Line) (fs fs' : List Frame) (b n : Option (List ℕ)) (wait : ℕ) (big : Bool) (res : Result T E) →
+    es ≡ e ∷ es' → wait ≡ waiting es → Decided es (wait + waiting tail) p (Some big) → Prints p fs b res p' fs' n e.tok big → Advances x (es ++ tail) p fs b res (es' ++ tail) p' fs' n (λ s. s)
+prints_front_on x es es' tail e p p' fs fs' b n wait big res a w d k =
+    let all : es ++ tail ≡ e ∷ (es' ++ tail) = ap (λ (y : List Entry). y ++ tail) a in
+    let d' : Decided (e ∷ es') (wait + waiting tail) p (Some big) = subst (λ (y : List Entry). Decided y (wait + waiting tail) p (Some big)) a d in
+    prints_front x (es ++ tail) (es' ++ tail) e p p' fs fs' b n (wait + waiting tail) big res all (omega (arith, w, waiting_append es tail))
+    (subst (λ (y : List Entry). Decided y (wait + waiting tail) p (Some big)) (sym all) d') k
+
+front_text : (x : Bool) (e : Entry) (es : List Entry) (w : List Tok) (t : List ℕ) → e ∷ es ≡ sized x w → e.tok ≡ tok.Text t → e.size ≡ Known (pos (min (length t) cap))
+front_text x e es [] t h k = cc
+front_text x e es (y ∷ w) t h k =
+    let q : e ≡ record { tok = y; size = size_of x y w } = cc in
+    let a : y ≡ tok.Text t = sym (ap (λ (z : Entry). z.tok) q) ∙ k in
+    ap (λ (z : Entry). z.size) q ∙ ap (λ (z : Tok). size_of x z w) a ∙ text_size x t w
+
+-- a text at the front is printed
+holds_text : (x : Bool) (s : List Tok) (e : Entry) (es : List Entry) (t : List ℕ) (m : Layout) → e.tok ≡ tok.Text t → Holds x s (e ∷ es) m → Holds x s es (act (tok.Text t) true m)
+holds_text x s e es t m k h =
+    let z = front_text x e es h.waits t h.are_sized k in
+    let a : e ≡ record { tok = tok.Text t; size = Known (pos (min (length t) cap)) } = ap₂ (λ (y : Tok) (v : Size). record { tok = y; size = v }) k z in
+    print_known x s (tok.Text t) (min (length t) cap) es m (subst (λ (y : Entry). Holds x s (y ∷ es) m) a h)
+
+-- one text behind another is printed as both in one
+act_texts : (a b : List ℕ) (m : Layout) → act (tok.Text b) true (act (tok.Text a) true m) ≡ act (tok.Text (a ++ b)) true m
+act_texts a b m =
+    let k : List ℕ = replicate m.state.pending 32 in
+    let t : (m.state.text ++ (k ++ a)) ++ ([] ++ b) ≡ m.state.text ++ (k ++ (a ++ b)) = append_assoc m.state.text (k ++ a) b ∙ ap (λ (y : List ℕ). m.state.text ++ y) (append_assoc k a b) in
+    let u : m.state.used + length a + length b ≡ m.state.used + length (a ++ b) = omega (arith, length-append a b) in
+    ap₂ (λ (y : List ℕ) (n : ℕ). record { frames = m.frames; state = record { text = y; pending = 0; room = m.state.room; used = n } }) t u
+
+-- texts at the front are printed
+holds_texts : (count : ℕ) (x : Bool) (s : List Tok) (es tail : List Entry) (bytes : List ℕ) (m : Layout) → IsRun (suc count) es bytes → Holds x s (es ++ tail) m →
+    Holds x s (drop (suc count) es ++ tail) (act (tok.Text bytes) true m)
+holds_texts count x s [] tail bytes m r h = absurd r
+holds_texts zero x s (e ∷ es) tail bytes m r h =
+    let a : bytes ≡ r.0 = r.3 ∙ ap (λ (y : List ℕ). r.0 ++ y) r.4 ∙ append-nil r.0 in
+    subst (λ (y : List ℕ). Holds x s (es ++ tail) (act (tok.Text y) true m)) (sym a) (holds_text x s e (es ++ tail) r.0 m r.2 h)
+holds_texts (suc count) x s (e ∷ es) tail bytes m r h =
+    let one = holds_text x s e (es ++ tail) r.0 m r.2 h in
+    let more = holds_texts count x s es tail r.1 (act (tok.Text r.0) true m) r.4 one in
+    subst (λ (l : Layout). Holds x s (drop (suc count) es ++ tail) l) (act_texts r.0 r.1 m ∙ ap (λ (y : List ℕ). act (tok.Text y) true m) (sym r.3)) more
+
+pub prints_texts : {T E : Type 0} (count : ℕ) (x : Bool) (es es' tail : List Entry) (bytes : List ℕ) (p p' : Line) (fs fs' : List Frame) (b n : Option (List ℕ)) (res : Result T E) →
+    0 < count → IsRun count es bytes → es' ≡ drop count es → Prints p fs b res p' fs' n (tok.Text bytes) true → Advances x (es ++ tail) p fs b res (es' ++ tail) p' fs' n (λ s. s)
+prints_texts zero x es es' tail bytes p p' fs fs' b n res c r a k = absurd (omega (arith, c))
+prints_texts (suc count) x es es' tail bytes p p' fs fs' b n res c r a k =
+    prints_by x (es ++ tail) (es' ++ tail) (tok.Text bytes) p p' fs fs' b n true res
+    (λ s m i h. subst (λ (y : List Entry). Holds x s (y ++ tail) (act (tok.Text bytes) true m)) (sym a) (holds_texts count x s es tail bytes m r h)) k
+
+-- nothing stands behind those that are held
+pub without_tail : {T E : Type 0} (x : Bool) (es es' : List Entry) (p p' : Line) (fs fs' : List Frame) (b n : Option (List ℕ)) (res : Result T E) →
+    ((tail : List Entry) → waiting tail ≡ 0 → Advances x (es ++ tail) p fs b res (es' ++ tail) p' fs' n (λ s. s)) → Advances x es p fs b res es' p' fs' n (λ s. s)
+without_tail x es es' p p' fs fs' b n res h =
+    subst (λ (y : List Entry). Advances x y p fs b res es' p' fs' n (λ s. s)) (append-nil es)
+    (subst (λ (y : List Entry). Advances x (es ++ []) p fs b res y p' fs' n (λ s. s)) (append-nil es') (h [] refl))
+
+-- nothing is printed
+pub advances_not : {T E : Type 0} (x : Bool) (es : List Entry) (p : Line) (fs : List Frame) (b : Option (List ℕ)) (v : T) → Advances {E = E} x es p fs b (Ok v) es p fs b (λ s. s)
+advances_not x es p fs b v = record { ok = λ content s r. r; err = tt }
+
+advances_then : {U T E : Type 0} (x : Bool) (es es1 es2 : List Entry) (p p1 p2 : Line) (fs fs1 fs2 : List Frame) (b m n : Option (List ℕ)) (u : U) (res : Result T E) →
+    Advances {E = E} x es p fs b (Ok u) es1 p1 fs1 m (λ s. s) → Advances x es1 p1 fs1 m res es2 p2 fs2 n (λ s. s) → Advances x es p fs b res es2 p2 fs2 n (λ s. s)
+advances_then x es es1 es2 p p1 p2 fs fs1 fs2 b m n u (Ok v) h k = record { ok = λ content s r. k.ok content s (h.ok content s r); err = tt }
+advances_then x es es1 es2 p p1 p2 fs fs1 fs2 b m n u (Err v) h k = record { ok = tt; err = λ content s r. k.err content s (h.ok content s r) }
+
+abbrev text_entry : List ℕ → Entry
+text_entry t = record { tok = tok.Text t; size = Known (pos (min (length t) cap)) }
+
+pub feeds_by : {T E : Type 0} (es mid es' : List Entry) (p p' : Line) (fs fs' : List Frame) (b n : Option (List ℕ)) (t : Tok) (res : Result T E) → toks_of mid ≡ toks_of es ++ t ∷ [] →
+    sizes_of mid ≡ map size_of_scan (map (at_end false) (scans (toks_of mid))) → Advances false mid p fs b res es' p' fs' n (λ s. s) → Advances false es p fs b res es' p' fs' n (λ s. s ++ t ∷ [])
+feeds_by es mid es' p p' fs fs' b n t (Ok v) k q h = feeds_won es mid es' false p p p' fs fs fs' b n t v v refl refl k refl q h
+feeds_by es mid es' p p' fs fs' b n t (Err v) k q h = feeds_lost es mid es' false p p p' fs fs fs' b n t v v refl refl k refl q h
+
+-- a long text is fed: first what waits is printed
+pub long_lost : {U T E : Type 0} (es es' : List Entry) (z : Bool) (p p' : Line) (fs fs' : List Frame) (b n : Option (List ℕ)) (t : List ℕ) (v : E) → z ≡ false →
+    sizes_of es ≡ map size_of_scan (map (at_end z) (scans (toks_of es))) →
+    ((tail : List Entry) → waiting tail ≡ length t → Advances {T = U} z (es ++ tail) p fs b (Err v) (es' ++ tail) p' fs' n (λ s. s)) →
+    Advances {T = T} false es p fs b (Err v) es' p' fs' n (λ s. s ++ tok.Text t ∷ [])
+long_lost es es' true p p' fs fs' b n t v y q h = cc
+long_lost {U = U} es es' false p p' fs fs' b n t v y q h =
+    let x = text_entry t in
+    let k = h (x ∷ []) (omega arith) in
+    feeds_lost {T = U} es (es ++ x ∷ []) es' false p p p' fs fs fs' b n (tok.Text t) v v refl refl (toks_more es x) refl (sizes_text es t q) (record { ok = tt; err = k.err })
+
+pub long_printed : {U T E : Type 0} (es es1 es2 : List Entry) (z : Bool) (p p1 p2 : Line) (fs fs1 fs2 : List Frame) (b m n : Option (List ℕ)) (t : List ℕ) (u : U) (res : Result T E) → z ≡ false →
+    sizes_of es ≡ map size_of_scan (map (at_end z) (scans (toks_of es))) → es1 ≡ [] → es2 ≡ [] →
+    ((tail : List Entry) → waiting tail ≡ length t → Advances {E = E} z (es ++ tail) p fs b (Ok u) (es1 ++ tail) p1 fs1 m (λ s. s)) →
+    Prints p1 fs1 m res p2 fs2 n (tok.Text t) true → Advances false es p fs b res es2 p2 fs2 n (λ s. s ++ tok.Text t ∷ [])
+long_printed es es1 es2 true p p1 p2 fs fs1 fs2 b m n t u res y q a c h k = cc
+long_printed {U = U} {E = E} es es1 es2 false p p1 p2 fs fs1 fs2 b m n t u res y q a c h k =
+    let x = text_entry t in
+    let one = h (x ∷ []) (omega arith) in
+    let one' : Advances {T = U} {E = E} false (es ++ x ∷ []) p fs b (Ok u) (x ∷ []) p1 fs1 m (λ s. s) = subst (λ (l : List Entry). Advances {T = U} {E = E} false (es ++ x ∷ []) p fs b (Ok u) (l ++ x ∷ []) p1 fs1 m (λ s. s)) a one in
+    let two : Advances false (x ∷ []) p1 fs1 m res es2 p2 fs2 n (λ s. s) =
+    prints_by false (x ∷ []) es2 (tok.Text t) p1 p2 fs1 fs2 m n true res (λ s l i g. subst (λ (e : List Entry). Holds false s e (act (tok.Text t) true l)) (sym c) (holds_text false s x [] t l refl g)) k in
+    feeds_by es (es ++ x ∷ []) es2 p p2 fs fs2 b n (tok.Text t) res (toks_more es x) (sizes_text es t q) (advances_then false (es ++ x ∷ []) (x ∷ []) es2 p p1 p2 fs fs1 fs2 b m n u res one' two)

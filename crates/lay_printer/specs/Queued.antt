@@ -2,6 +2,7 @@
 use Rattle.std.specs.Prelude.{◌≡◌, ℕ, ◌+◌, ◌≤◌, ◌<◌, Bool, true, false, nat_lt, pos, negsuc}
 use Rattle.std.specs.Prelude.{List, [], ◌∷◌, ◌++◌, Option, Some, None, Result, OnOk, OnErr}
 use Rattle.lay_layout.specs.declared.layout.Tok.{Tok}
+use Rattle.lay_layout.specs.declared.layout.Tok.TheVariants as tok
 use Rattle.lay_layout.specs.declared.layout.Frame.{Frame}
 use Rattle.lay_layout.specs.Document.{over}
 use Rattle.lay_layout.specs.Machine.{Layout, act, begun, measure, play, text}
@@ -38,6 +39,28 @@ Says Forced least wait line r = r ≡ Some true
 abbrev pub Decided : List Entry → ℕ → Line → Option Bool → Type 0
 Decided [] wait line r = r ≡ None
 Decided (e ∷ es) wait line r = Says e.size (least_width e.tok) wait line r
+
+-- the oldest entry, if there is one, isn't decided where some text waits
+abbrev pub IsUndecided : List Entry → Line → Type 0
+IsUndecided [] line = Unit {0}
+IsUndecided (e ∷ es) line = (wait : ℕ) × Says e.size (least_width e.tok) wait line None
+
+-- The oldest entry, if there is one, has no size yet, and it is forced where more text than this waits.
+abbrev pub IsLimit : List Entry → Line → ℕ → Type 0
+IsLimit [] line limit = Unit {0}
+IsLimit (e ∷ es) line limit = (e.size ≡ Unknown) × (line.used + (least_width e.tok + limit) ≡ line.room)
+
+-- there is an oldest entry, and it has no size yet
+abbrev pub IsOpenAtFront : List Entry → Type 0
+IsOpenAtFront [] = ⊥
+IsOpenAtFront (e ∷ es) = e.size ≡ Unknown
+
+-- A token that came last doesn't decide the oldest entry, which wasn't before: where no more text waits than the limit,
+-- and where a break leaves it without a size.
+abbrev pub MayStay : Tok → List Entry → (wait limit : ℕ) → Type 0
+MayStay (tok.Text t) entries wait limit = wait ≤ limit
+MayStay (tok.Break b) entries wait limit = IsOpenAtFront entries
+MayStay t entries wait limit = Unit {0}
 
 -- a line and frames are at a layout
 pub record At (line : Line) (frames : List Frame) (m : Layout) : Type 0 where

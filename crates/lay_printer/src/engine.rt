@@ -1,18 +1,22 @@
-//! Where scanning and printing meet: the entry at the front of the ring is printed once it is decided.
-ghost use Rattle.std.specs.Prelude.{◌≡◌, ◌+◌, ◌%◌, ◌^◌, ◌<◌, ◌≤◌, [], ◌∷◌, ◌++◌, length, nat_lt, OnOk, OnErr, IfOk, IfErr, IsOk, IsTrue, Some, None, false};
+//! Where scanning and printing meet: the entry at the front of the row is printed once it is decided.
+ghost use Rattle.std.specs.Prelude.{◌≡◌, ◌+◌, ◌%◌, ◌^◌, ◌<◌, ◌≤◌, List, [], ◌∷◌, ◌++◌, length, nat_lt, OnOk, OnErr, IfOk, IfErr, IsOk, IsTrue, Some, None, false};
 ghost use Rattle.lay_layout.specs.declared.layout.Tok.TheVariants as tok;
 ghost use Rattle.lay_layout.specs.Machine.{opened, IsNested};
 ghost use Rattle.lay_io.specs.Faults.{HasCause, SameLoan};
+ghost use Rattle.lay_ring.specs.Rows.{tok_of};
+ghost use Rattle.lay_ring.specs.declared.entry.Entry.{Entry};
 ghost use Rattle.lay_queue.specs.Closed.{toks_of};
-ghost use Rattle.lay_printer.specs.Queued.{Advances, Decided, Ends, IsClear};
+ghost use Rattle.lay_queue.specs.Scan.{text_length, waiting as sum_waiting};
+ghost use Rattle.lay_queue.specs.Queues.{IsAdded};
+ghost use Rattle.lay_printer.specs.Queued.{Advances, Decided, Ends, IsClear, IsLimit, IsOpenAtFront, IsUndecided, MayStay};
 ghost use Rattle.lay_queue.specs.Entries.{next_of};
 
 use crate::line::exceeds;
 use crate::page::Page;
 use lay_io::{Failed, Sink};
-use lay_layout::{Break, Tok};
+use lay_layout::Break;
 use lay_queue::{Queue, least_width};
-use lay_ring::Size;
+use lay_ring::LentTok;
 use lay_text::NoMemory;
 
 /// Why a call of a printer failed.
@@ -29,6 +33,8 @@ pub enum PrintError {
 pub struct Engine {
     pub queue: Queue,
     pub page: Page,
+    /// How many bytes of text may wait before the oldest entry is forced, once it is found undecided.
+    pub limit: u64,
     ghost room: { length queue.ring.entries ≤ page.frames.spare },
     ghost level: { queue.groups ≡ opened (toks_of queue.ring.entries) (length page.frames.frames) },
 }
@@ -40,30 +46,75 @@ impl Engine {
     ghost use Rattle.lay_printer.specs.declared.engine.PrintError.TheVariants.{WriteFailed};
 
     /// A token is fed: it waits, and then what is decided is printed. `roomy` says that there is room for it, so that
-    /// it need not be looked for.
+    /// it need not be looked for. The oldest entry wasn't decided before, so few tokens decide it.
     #[inline(always)]
-    pub fn feed<K: Sink>(&mut self, sink: &mut K, tok: Tok, roomy: bool) -> Result<(), PrintError>
+    pub fn feed<K: Sink>(
+        &mut self,
+        sink: &mut K,
+        tok: LentTok<'_>,
+        roomy: bool,
+    ) -> Result<(), PrintError>
         requires roomy { IsTrue roomy → 0 < room_of self.old }
         requires ended { self.old.queue.ended ≡ false }
         requires few { self.old.queue.waiting ≤ 89 }
-        requires nested { IsNested self.old.queue.groups (tok ∷ []) }
-        ensures feeds { Advances false self.old.queue.ring.entries self.old.page.line self.old.page.frames.frames (K.written sink.old) result self.new.queue.ring.entries self.new.page.line self.new.page.frames.frames (K.written sink.new) (λ s. s ++ tok ∷ []) }
+        requires short { text_length (tok_of tok) ≤ 89 }
+        requires nested { IsNested self.old.queue.groups (tok_of tok ∷ []) }
+        requires undecided { Decided self.old.queue.ring.entries self.old.queue.waiting self.old.page.line None }
+        requires limit { IsLimit self.old.queue.ring.entries self.old.page.line self.old.limit }
+        ensures feeds { Advances false self.old.queue.ring.entries self.old.page.line self.old.page.frames.frames (K.written sink.old) result self.new.queue.ring.entries self.new.page.line self.new.page.frames.frames (K.written sink.new) (λ s. s ++ tok_of tok.entry ∷ []) }
         ensures sure { IsTrue roomy → IfErr result (λ e. e ≡ WriteFailed) }
         ensures stops { OnOk result (Decided self.new.queue.ring.entries self.new.queue.waiting self.new.page.line None) }
-        ensures groups { OnOk result (self.new.queue.groups ≡ opened (tok ∷ []) self.old.queue.groups) }
+        ensures limit { OnOk result (IsLimit self.new.queue.ring.entries self.new.page.line self.new.limit) }
+        ensures groups { OnOk result (self.new.queue.groups ≡ opened (tok_of tok.entry ∷ []) self.old.queue.groups) }
         ensures ended { OnOk result (self.new.queue.ended ≡ false) }
         ensures room { room_of self.old ≤ room_of self.new + 1 }
         ensures number { OnOk result (next_of self.new.queue.ring.first self.new.queue.ring.entries ≡ (next_of self.old.queue.ring.first self.old.queue.ring.entries + 1) % 2 ^ 64) }
         ensures cause { Blames (K.faults sink.old) (K.faults sink.new) result }
         ensures loan { SameLoan (K.loan sink.old) (K.loan sink.new) }
     {
+        let waits = self.waits();
         match self.take(tok, roomy) {
             Ok(()) => {}
             Err(NoMemory) => return Err(PrintError::NoMemory),
         }
-        match self.drain(sink) {
+        if waits && self.stays(tok) {
+            return Ok(());
+        }
+        match self.print_decided(sink, 0) {
             Ok(()) => Ok(()),
             Err(Failed) => Err(PrintError::WriteFailed),
+        }
+    }
+
+    /// Whether a token waits.
+    #[inline(always)]
+    fn waits(&self) -> bool
+        ensures { IsTrue result → 0 < length self.now.queue.ring.entries }
+    {
+        self.queue.ring.len() > 0
+    }
+
+    /// Whether the oldest entry, which wasn't decided, isn't by this token, which came: a text decides it where more
+    /// waits than may, and a break where it ends its measure.
+    #[inline(always)]
+    fn stays(&self, tok: LentTok<'_>) -> bool
+        ensures { IsTrue result → MayStay (tok_of tok.entry) self.now.queue.ring.entries self.now.queue.waiting self.now.limit }
+    {
+        match tok {
+            LentTok::Text(_) => self.queue.waiting <= self.limit,
+            LentTok::Break(_) => self.is_open_at_front(),
+            _ => true,
+        }
+    }
+
+    /// Whether the oldest entry has no size yet.
+    #[inline(always)]
+    fn is_open_at_front(&self) -> bool
+        ensures { IsTrue result → IsOpenAtFront self.now.queue.ring.entries }
+    {
+        match self.queue.ring.front() {
+            Some(entry) => entry.size < 0,
+            None => false,
         }
     }
 
@@ -84,6 +135,26 @@ impl Engine {
         ensures cause { HasCause (K.faults sink.old) (K.faults sink.new) result }
         ensures loan { SameLoan (K.loan sink.old) (K.loan sink.new) }
     {
+        self.queue.pass();
+        self.page.print_text(sink, text)
+    }
+
+    /// A text is fed that is longer than the space of any line: it decides all that waits, so that is printed, and then
+    /// the text.
+    #[inline(never)]
+    pub fn print_long<K: Sink>(&mut self, sink: &mut K, text: &[u8]) -> Result<(), Failed>
+        requires ended { self.old.queue.ended ≡ false }
+        requires long { 89 < length text.now }
+        ensures feeds { Advances false self.old.queue.ring.entries self.old.page.line self.old.page.frames.frames (K.written sink.old) result self.new.queue.ring.entries self.new.page.line self.new.page.frames.frames (K.written sink.new) (λ s. s ++ tok.Text text.now ∷ []) }
+        ensures passes { OnOk result (Passes self.old self.new) }
+        ensures room { room_of self.old ≤ room_of self.new }
+        ensures cause { HasCause (K.faults sink.old) (K.faults sink.new) result }
+        ensures loan { SameLoan (K.loan sink.old) (K.loan sink.new) }
+    {
+        match self.print_decided(sink, text.len() as u64) {
+            Ok(()) => {}
+            Err(Failed) => return Err(Failed),
+        }
         self.queue.pass();
         self.page.print_text(sink, text)
     }
@@ -127,7 +198,7 @@ impl Engine {
         ensures loan { SameLoan (K.loan sink.old) (K.loan sink.new) }
     {
         self.queue.end_all();
-        match self.drain(sink) {
+        match self.print_decided(sink, 0) {
             Ok(()) => {
                 self.queue.restart();
                 Ok(())
@@ -138,13 +209,17 @@ impl Engine {
 
     /// A token comes, for which room is made if there may be none.
     #[inline(always)]
-    fn take(&mut self, tok: Tok, roomy: bool) -> Result<(), NoMemory>
+    fn take(&mut self, tok: LentTok<'_>, roomy: bool) -> Result<(), NoMemory>
         requires roomy { IsTrue roomy → 0 < room_of self.old }
         requires ended { self.old.queue.ended ≡ false }
         requires few { self.old.queue.waiting ≤ 89 }
-        requires nested { IsNested self.old.queue.groups (tok ∷ []) }
-        ensures toks { OnOk result (toks_of self.new.queue.ring.entries ≡ toks_of self.old.queue.ring.entries ++ tok ∷ []) }
-        ensures groups { OnOk result (self.new.queue.groups ≡ opened (tok ∷ []) self.old.queue.groups) }
+        requires short { text_length (tok_of tok) ≤ 89 }
+        requires nested { IsNested self.old.queue.groups (tok_of tok ∷ []) }
+        ensures toks { OnOk result (toks_of self.new.queue.ring.entries ≡ toks_of self.old.queue.ring.entries ++ tok_of tok.entry ∷ []) }
+        ensures added { OnOk result (IsAdded (tok_of tok.entry) self.old.queue.ring.entries self.new.queue.ring.entries) }
+        ensures waiting { OnOk result (self.new.queue.waiting ≡ self.old.queue.waiting + text_length (tok_of tok.entry)) }
+        ensures limit { self.new.limit ≡ self.old.limit }
+        ensures groups { OnOk result (self.new.queue.groups ≡ opened (tok_of tok.entry ∷ []) self.old.queue.groups) }
         ensures first { OnOk result (self.new.queue.ring.first ≡ self.old.queue.ring.first) }
         ensures ended { OnOk result (self.new.queue.ended ≡ false) }
         ensures line { self.new.page.line ≡ self.old.page.line }
@@ -161,12 +236,14 @@ impl Engine {
 
     /// A token comes for which there is room. It waits, with room for a frame.
     #[inline(always)]
-    fn put(&mut self, tok: Tok)
+    fn put(&mut self, tok: LentTok<'_>)
         requires room { 0 < room_of self.old }
         requires ended { self.old.queue.ended ≡ false }
         requires few { self.old.queue.waiting ≤ 89 }
-        requires nested { IsNested self.old.queue.groups (tok ∷ []) }
-        ensures comes { Comes self.old.queue self.new.queue tok }
+        requires short { text_length (tok_of tok) ≤ 89 }
+        requires nested { IsNested self.old.queue.groups (tok_of tok ∷ []) }
+        ensures comes { Comes self.old.queue self.new.queue (tok_of tok.entry) }
+        ensures limit { self.new.limit ≡ self.old.limit }
         ensures line { self.new.page.line ≡ self.old.page.line }
         ensures frames { self.new.page.frames.frames ≡ self.old.page.frames.frames }
         ensures room { room_of self.old ≤ room_of self.new + 1 }
@@ -178,75 +255,77 @@ impl Engine {
         self.queue.scan(tok);
     }
 
-    /// Prints entries while they are decided.
-    #[inline(always)]
-    fn drain<K: Sink>(&mut self, sink: &mut K) -> Result<(), Failed>
-        ensures prints { Advances self.old.queue.ended self.old.queue.ring.entries self.old.page.line self.old.page.frames.frames (K.written sink.old) result self.new.queue.ring.entries self.new.page.line self.new.page.frames.frames (K.written sink.new) (λ s. s) }
+    /// Prints entries while they are decided, where so many bytes of text stand behind those that wait.
+    #[inline(never)]
+    fn print_decided<K: Sink>(&mut self, sink: &mut K, behind: u64) -> Result<(), Failed>
+        ensures prints { (tail : List Entry) → sum_waiting tail ≡ behind → Advances self.old.queue.ended (self.old.queue.ring.entries ++ tail) self.old.page.line self.old.page.frames.frames (K.written sink.old) result (self.new.queue.ring.entries ++ tail) self.new.page.line self.new.page.frames.frames (K.written sink.new) (λ s. s) }
         ensures stays { Stays self.old self.new }
-        ensures stops { OnOk result (Decided self.new.queue.ring.entries self.new.queue.waiting self.new.page.line None) }
+        ensures stops { OnOk result (Decided self.new.queue.ring.entries (self.new.queue.waiting + behind) self.new.page.line None) }
+        ensures limit { OnOk result (IsLimit self.new.queue.ring.entries self.new.page.line self.new.limit) }
         ensures cause { HasCause (K.faults sink.old) (K.faults sink.new) result }
         ensures loan { SameLoan (K.loan sink.old) (K.loan sink.new) }
     {
-        if self.decide().is_none() {
-            return Ok(());
-        }
-        self.print_decided(sink)
-    }
-
-    /// Prints entries while they are decided.
-    fn print_decided<K: Sink>(&mut self, sink: &mut K) -> Result<(), Failed>
-        ensures prints { Advances self.old.queue.ended self.old.queue.ring.entries self.old.page.line self.old.page.frames.frames (K.written sink.old) result self.new.queue.ring.entries self.new.page.line self.new.page.frames.frames (K.written sink.new) (λ s. s) }
-        ensures stays { Stays self.old self.new }
-        ensures stops { OnOk result (Decided self.new.queue.ring.entries self.new.queue.waiting self.new.page.line None) }
-        ensures cause { HasCause (K.faults sink.old) (K.faults sink.new) result }
-        ensures loan { SameLoan (K.loan sink.old) (K.loan sink.new) }
-    {
-        while let Some(big) = self.decide() {
+        while let Some(big) = self.decide(behind) {
             self.print_front(sink, big)?;
         }
+        self.limit = self.slack();
         Ok(())
     }
 
-    /// Whether the oldest entry doesn't fit, once that is decided.
+    /// Whether the oldest entry doesn't fit, once that is decided, where so many bytes of text stand behind those that
+    /// wait.
     #[inline(always)]
-    fn decide(&self) -> Option<bool>
-        ensures { Decided self.now.queue.ring.entries self.now.queue.waiting self.now.page.line result }
+    fn decide(&self, behind: u64) -> Option<bool>
+        ensures { Decided self.now.queue.ring.entries (self.now.queue.waiting + behind) self.now.page.line result }
     {
         match self.queue.ring.front() {
             None => None,
-            Some(entry) => match entry.size {
-                Size::Forced => Some(true),
-                Size::Known(size) => {
-                    if size < 0 {
-                        Some(false)
-                    } else {
-                        Some(exceeds(&self.page.line, 0, size as u64))
-                    }
+            Some(entry) => {
+                if entry.size >= 0 {
+                    return Some(exceeds(&self.page.line, 0, entry.size as u64));
                 }
-                Size::Unknown => {
-                    let width = least_width(&entry.tok);
-                    if exceeds(&self.page.line, width, self.queue.waiting) {
-                        Some(true)
-                    } else {
-                        None
-                    }
+                let waiting = self.queue.waiting.saturating_add(behind);
+                if exceeds(&self.page.line, least_width(entry.tok), waiting) {
+                    Some(true)
+                } else {
+                    None
                 }
-            },
+            }
         }
     }
 
-    /// Prints the oldest entry where it stands, and takes it away.
+    /// How many bytes of text may wait before the oldest entry, which isn't decided, is forced.
+    #[inline(always)]
+    fn slack(&self) -> u64
+        requires { IsUndecided self.now.queue.ring.entries self.now.page.line }
+        ensures { IsLimit self.now.queue.ring.entries self.now.page.line result }
+    {
+        match self.queue.ring.front() {
+            None => 0,
+            Some(entry) => self.page.line.room - self.page.line.used - least_width(entry.tok),
+        }
+    }
+
+    /// Prints the oldest entry where it stands, and takes it away, and with a text the texts that follow it.
+    #[inline(always)]
     fn print_front<K: Sink>(&mut self, sink: &mut K, big: bool) -> Result<(), Failed>
-        requires { Decided self.old.queue.ring.entries self.old.queue.waiting self.old.page.line (Some big) }
-        ensures prints { Advances self.old.queue.ended self.old.queue.ring.entries self.old.page.line self.old.page.frames.frames (K.written sink.old) result self.new.queue.ring.entries self.new.page.line self.new.page.frames.frames (K.written sink.new) (λ s. s) }
+        requires { 0 < length self.old.queue.ring.entries }
+        ensures prints { (tail : List Entry) → Decided self.old.queue.ring.entries (self.old.queue.waiting + sum_waiting tail) self.old.page.line (Some big) → Advances self.old.queue.ended (self.old.queue.ring.entries ++ tail) self.old.page.line self.old.page.frames.frames (K.written sink.old) result (self.new.queue.ring.entries ++ tail) self.new.page.line self.new.page.frames.frames (K.written sink.new) (λ s. s) }
         ensures stays { Stays self.old self.new }
         ensures fewer { length self.new.queue.ring.entries < length self.old.queue.ring.entries }
         ensures cause { HasCause (K.faults sink.old) (K.faults sink.new) result }
         ensures loan { SameLoan (K.loan sink.old) (K.loan sink.new) }
     {
         let queue = &self.queue;
+        let texts = queue.ring.texts();
+        if texts.count > 0 {
+            let (count, len) = (texts.count, texts.bytes.len());
+            let printed = self.page.print_text(sink, texts.bytes);
+            self.queue.drop_texts(count, len);
+            return printed;
+        }
         let printed = match queue.ring.front() {
-            Some(entry) => self.page.print(sink, &entry.tok, big),
+            Some(entry) => self.page.print(sink, entry.tok, big),
             None => unreachable!(),
         };
         self.queue.drop_front();
@@ -282,6 +361,7 @@ impl Engine {
         ensures entries { self.new.queue.ring.entries ≡ self.old.queue.ring.entries }
         ensures first { self.new.queue.ring.first ≡ self.old.queue.ring.first }
         ensures waiting { self.new.queue.waiting ≡ self.old.queue.waiting }
+        ensures limit { self.new.limit ≡ self.old.limit }
         ensures line { self.new.page.line ≡ self.old.page.line }
         ensures frames { self.new.page.frames.frames ≡ self.old.page.frames.frames }
         ensures ok { OnOk result (n ≤ room_of self.new) }

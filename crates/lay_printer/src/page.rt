@@ -3,12 +3,14 @@ ghost use Rattle.std.specs.Prelude.{◌≡◌, ◌+◌, ◌<◌, ◌≤◌, true
 ghost use Rattle.lay_layout.specs.declared.layout.Tok.TheVariants as tok;
 ghost use Rattle.lay_layout.specs.Machine.{opened};
 ghost use Rattle.lay_io.specs.Faults.{HasCause, SameLoan};
+ghost use Rattle.lay_ring.specs.Rows.{tok_of};
 ghost use Rattle.lay_printer.specs.Queued.{IsClear, Prints};
 
 use crate::frames::Frames;
 use crate::line::{Line, exceeds};
 use lay_io::{Failed, Sink};
-use lay_layout::{Break, Tok, asks_at_break, entered, width_of};
+use lay_layout::{Break, asks_at_break, entered, width_of};
+use lay_ring::LentTok;
 
 /// Where the layout stands: the line that is being written, and the frames of the groups that are open there.
 #[derive(Drop)]
@@ -52,23 +54,28 @@ impl Page {
     }
 
     /// Prints a token, of which it is known whether its measure is greater than the space.
-    pub fn print<K: Sink>(&mut self, sink: &mut K, tok: &Tok, big: bool) -> Result<(), Failed>
+    pub fn print<K: Sink>(
+        &mut self,
+        sink: &mut K,
+        tok: LentTok<'_>,
+        big: bool,
+    ) -> Result<(), Failed>
         requires { 0 < self.old.frames.spare }
-        ensures prints { Prints self.old.line self.old.frames.frames (K.written sink.old) result self.new.line self.new.frames.frames (K.written sink.new) tok.now big }
-        ensures depth { length self.new.frames.frames ≡ opened (tok.now ∷ []) (length self.old.frames.frames) }
+        ensures prints { Prints self.old.line self.old.frames.frames (K.written sink.old) result self.new.line self.new.frames.frames (K.written sink.new) (tok_of tok.entry) big }
+        ensures depth { length self.new.frames.frames ≡ opened (tok_of tok.entry ∷ []) (length self.old.frames.frames) }
         ensures spare { self.old.frames.spare ≤ self.new.frames.spare + 1 }
         ensures cause { HasCause (K.faults sink.old) (K.faults sink.new) result }
         ensures loan { SameLoan (K.loan sink.old) (K.loan sink.new) }
     {
         match tok {
-            Tok::Text(text) => self.line.write(sink, text.as_bytes()),
-            Tok::Break(brk) => self.line.put_break(sink, self.frames.top(), *brk, big),
-            Tok::Begin { consistent, offset } => {
-                let frame = entered(self.frames.top(), *consistent, *offset, big);
+            LentTok::Text(text) => self.line.write(sink, text),
+            LentTok::Break(brk) => self.line.put_break(sink, self.frames.top(), brk, big),
+            LentTok::Begin { consistent, offset } => {
+                let frame = entered(self.frames.top(), consistent, offset, big);
                 self.frames.push(frame);
                 Ok(())
             }
-            Tok::End => {
+            LentTok::End => {
                 self.frames.pop();
                 Ok(())
             }

@@ -54,7 +54,7 @@ impl<'p, K: Sink> Press<'p, K> {
         self.core.finish(self.sink)
     }
 
-    /// Feeds a text, which isn't copied.
+    /// Feeds a text that is owned: with room for a token it wants no memory.
     pub fn text_owned(&mut self, text: Text) -> Result<(), PrintError>
         ensures did { Did (press_meanings K.written K.faults K.loan) self.old (tok.Text text ∷ []) result self.new }
         ensures room { TakesRoom (lent_core self.old) result (lent_core self.new) }
@@ -198,7 +198,7 @@ impl<K: Sink> Printer<K> {
         }
     }
 
-    /// Feeds a text, which isn't copied.
+    /// Feeds a text that is owned: with room for a token it wants no memory.
     pub fn text_owned(&mut self, text: Text) -> Result<(), PrintError>
         ensures did { Did (owner_meanings K.written K.faults K.loan) self.old (tok.Text text ∷ []) result self.new }
         ensures room { TakesRoom self.old.core result self.new.core }

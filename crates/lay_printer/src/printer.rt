@@ -6,7 +6,8 @@ ghost use Rattle.lay_io.specs.Faults.{SameLoan};
 ghost use Rattle.lay_printer.specs.Printers.{Calls, Finishes, IsWhole, Repeats, TakesRoom};
 ghost use Rattle.lay_printer.specs.Promises.{FitSpace, IsSame, IsSpace, KeepsStep, RunsAs, RunsFresh};
 ghost use Rattle.lay_printer.specs.Queued.{IsClear};
-ghost use Rattle.lay_queue.specs.Scan.{waiting as sum_waiting};
+ghost use Rattle.lay_ring.specs.Rows.{tok_of};
+ghost use Rattle.lay_queue.specs.Scan.{text_length, waiting as sum_waiting};
 ghost use Rattle.lay_printer.specs.declared.engine.PrintError.{PrintError};
 ghost use Rattle.lay_printer.specs.declared.engine.PrintError.TheVariants.{WriteFailed};
 
@@ -15,8 +16,9 @@ use crate::frames::Frames;
 use crate::line::Line;
 use crate::page::Page;
 use lay_io::{Failed, Sink};
-use lay_layout::{Break, MARGIN, Tok};
+use lay_layout::{Break, MARGIN};
 use lay_queue::Queue;
+use lay_ring::LentTok;
 use lay_text::{NoMemory, Text};
 use std::alloc::Global;
 use std::marker::Model;
@@ -26,7 +28,6 @@ use std::marker::Model;
 /// taken, why a call failed, if one did, and where the layout stands.
 #[derive(Drop)]
 pub struct Core {
-    alloc: Global,
     engine: Engine,
     failed: Option<PrintError>,
     spare: usize,
@@ -68,8 +69,11 @@ impl Core {
         let frames = Frames::new(alloc);
         let page = Page { line, frames };
         Ok(Core {
-            alloc,
-            engine: Engine { queue, page },
+            engine: Engine {
+                queue,
+                page,
+                limit: 0,
+            },
             failed: None,
             spare: 0,
         })
@@ -81,29 +85,17 @@ impl Core {
         ensures same { Repeats self.old result }
         ensures loan { SameLoan (K.loan sink.old) (K.loan sink.new) }
     {
-        if let Some(fault) = self.failed {
-            return Err(fault);
-        }
-        if self.engine.is_idle() {
-            return self.print_text(sink, text);
-        }
-        match Text::from_bytes(self.alloc, text) {
-            Ok(text) => self.text_owned(sink, text),
-            Err(NoMemory) => {
-                self.failed = Some(PrintError::NoMemory);
-                Err(PrintError::NoMemory)
-            }
-        }
+        self.put_text(sink, text)
     }
 
-    /// Feeds a text, which isn't copied.
+    /// Feeds a text that is owned: with room for a token it wants no memory.
     pub fn text_owned<K: Sink>(&mut self, sink: &mut K, text: Text) -> Result<(), PrintError>
         ensures calls { Calls self.old (K.written sink.old) (K.faults sink.old) result self.new (K.written sink.new) (K.faults sink.new) (tok.Text text) }
         ensures room { TakesRoom self.old result self.new }
         ensures same { Repeats self.old result }
         ensures loan { SameLoan (K.loan sink.old) (K.loan sink.new) }
     {
-        self.feed(sink, Tok::Text(text))
+        self.put_text(sink, text.as_bytes())
     }
 
     /// Feeds a break.
@@ -116,7 +108,7 @@ impl Core {
         if self.failed.is_none() && self.engine.is_clear(brk) {
             return self.print_break(sink, brk);
         }
-        self.feed(sink, Tok::Break(brk))
+        self.feed(sink, LentTok::Break(brk))
     }
 
     /// Begins a group.
@@ -131,7 +123,7 @@ impl Core {
         ensures same { Repeats self.old result }
         ensures loan { SameLoan (K.loan sink.old) (K.loan sink.new) }
     {
-        self.feed(sink, Tok::Begin { consistent, offset })
+        self.feed(sink, LentTok::Begin { consistent, offset })
     }
 
     /// Ends the group that was begun last.
@@ -142,7 +134,45 @@ impl Core {
         ensures same { Repeats self.old result }
         ensures loan { SameLoan (K.loan sink.old) (K.loan sink.new) }
     {
-        self.feed(sink, Tok::End)
+        self.feed(sink, LentTok::End)
+    }
+
+    /// Feeds a text, which is copied where it waits.
+    #[inline(always)]
+    fn put_text<K: Sink>(&mut self, sink: &mut K, text: &[u8]) -> Result<(), PrintError>
+        ensures calls { Calls self.old (K.written sink.old) (K.faults sink.old) result self.new (K.written sink.new) (K.faults sink.new) (tok.Text text.now) }
+        ensures room { TakesRoom self.old result self.new }
+        ensures same { Repeats self.old result }
+        ensures loan { SameLoan (K.loan sink.old) (K.loan sink.new) }
+    {
+        if let Some(fault) = self.failed {
+            return Err(fault);
+        }
+        if self.engine.is_idle() {
+            return self.print_text(sink, text);
+        }
+        if text.len() as u64 > MARGIN {
+            return self.print_long(sink, text);
+        }
+        self.feed(sink, LentTok::Text(text))
+    }
+
+    /// Feeds a text that is longer than the space of any line.
+    #[inline(never)]
+    fn print_long<K: Sink>(&mut self, sink: &mut K, text: &[u8]) -> Result<(), PrintError>
+        requires live { self.old.failed ≡ None }
+        requires long { 89 < length text.now }
+        ensures calls { Calls self.old (K.written sink.old) (K.faults sink.old) result self.new (K.written sink.new) (K.faults sink.new) (tok.Text text.now) }
+        ensures room { TakesRoom self.old result self.new }
+        ensures loan { SameLoan (K.loan sink.old) (K.loan sink.new) }
+    {
+        match self.engine.print_long(sink, text) {
+            Ok(()) => Ok(()),
+            Err(Failed) => {
+                self.failed = Some(PrintError::WriteFailed);
+                Err(PrintError::WriteFailed)
+            }
+        }
     }
 
     /// Feeds a text where nothing waits.
@@ -184,9 +214,10 @@ impl Core {
 
     /// Feeds a token, unless a call has failed.
     #[inline(always)]
-    fn feed<K: Sink>(&mut self, sink: &mut K, tok: Tok) -> Result<(), PrintError>
-        requires { IsNested self.old.groups (tok ∷ []) }
-        ensures calls { Calls self.old (K.written sink.old) (K.faults sink.old) result self.new (K.written sink.new) (K.faults sink.new) tok }
+    fn feed<K: Sink>(&mut self, sink: &mut K, tok: LentTok<'_>) -> Result<(), PrintError>
+        requires nested { IsNested self.old.groups (tok_of tok ∷ []) }
+        requires short { text_length (tok_of tok) ≤ 89 }
+        ensures calls { Calls self.old (K.written sink.old) (K.faults sink.old) result self.new (K.written sink.new) (K.faults sink.new) (tok_of tok.entry) }
         ensures room { TakesRoom self.old result self.new }
         ensures same { Repeats self.old result }
         ensures loan { SameLoan (K.loan sink.old) (K.loan sink.new) }

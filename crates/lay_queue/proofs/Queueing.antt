@@ -1,10 +1,12 @@
 -- What is kept fits the tokens that wait again, when a token is fed or no more come.
-use Rattle.std.proofs.Common.{pos, ◌≡◌, ℕ, zero, suc, ◌+◌, ◌-◌, ◌<◌, ◌≤◌, ◌%◌, ◌^◌, min, Bool, true, false, Some, slice_get, drop, List, [], ◌∷◌, ◌++◌, map, length, refl, sym, ap, ap₂, ◌∙◌, subst, arith}
+use Rattle.std.proofs.Common.{pos, ◌≡◌, ℕ, zero, suc, ◌+◌, ◌-◌, ◌<◌, ◌≤◌, ◌%◌, ◌^◌, min, Bool, true, false, Some, drop, List, [], ◌∷◌, ◌++◌, map, length, refl, sym, ap, ap₂, ◌∙◌, subst, length-append, arith}
 use Rattle.lay_layout.specs.declared.layout.Break.{Break}
 use Rattle.lay_layout.specs.declared.layout.Tok.{Tok}
 use Rattle.lay_layout.specs.declared.layout.Tok.TheVariants as tok
 use Rattle.lay_layout.specs.Document.{width_of_break}
 use Rattle.lay_ring.specs.Held.{Held}
+use Rattle.lay_ring.specs.Rows.{IsFirst, IsRun, bytes_in, entry_of, text_bytes}
+use Rattle.lay_ring.specs.declared.row.LentEntry.{LentEntry}
 use Rattle.lay_ring.specs.declared.entry.Size.{Size}
 use Rattle.lay_ring.specs.declared.entry.Size.TheVariants.{Unknown, Known}
 use Rattle.lay_ring.specs.declared.entry.Entry.{Entry}
@@ -95,6 +97,11 @@ plain_fits : (i acc low cur : ℕ) (w : List Tok) (ms : List Note) → Fits i ac
 plain_fits i acc low cur w ms h =
     subst (λ (y : List Scan). EachFits i acc low cur y ms) (at_end_false (scans w)) (each_fits i acc low cur (map (at_end false) (scans w)) ms h)
 
+-- the sizes with one text more
+pub sizes_text : (es : List Entry) (t : List ℕ) → sizes_of es ≡ map size_of_scan (map (at_end false) (scans (toks_of es))) →
+    sizes_of (es ++ record { tok = tok.Text t; size = Known (pos (min (length t) cap)) } ∷ []) ≡ map size_of_scan (map (at_end false) (scans (toks_of (es ++ record { tok = tok.Text t; size = Known (pos (min (length t) cap)) } ∷ []))))
+sizes_text es t h = sizes_with es (es ++ record { tok = tok.Text t; size = Known (pos (min (length t) cap)) } ∷ []) (record { tok = tok.Text t; size = Known (pos (min (length t) cap)) }) refl h (sizes_fed (tok.Text t) (toks_of es) (same_text t))
+
 pub good_text : (x : Bool) (r r' : Held) (ms : List Note) (acc acc' g wait wait' : ℕ) (t : List ℕ) (z : Size) → x ≡ false → Good x r ms acc g wait →
     z ≡ Known (pos (min (length t) cap)) → r'.entries ≡ r.entries ++ record { tok = tok.Text t; size = z } ∷ [] → r'.first ≡ r.first → length r.entries < 2 ^ 63 →
     acc' ≡ min (acc + length t) cap → wait' ≡ wait + length t → Good x r' ms acc' g wait'
@@ -162,7 +169,7 @@ left_begin false r ms acc g wait b h = record {
   fits = all_fit r.first acc g g (scans (toks_of r.entries)) ms (plain_fits r.first acc g g (toks_of r.entries) ms h.fits);
 }
 
-waiting_toks : (a b : List Entry) → toks_of a ≡ toks_of b → waiting a ≡ waiting b
+pub waiting_toks : (a b : List Entry) → toks_of a ≡ toks_of b → waiting a ≡ waiting b
 waiting_toks [] [] h = refl
 waiting_toks [] (y ∷ b) h = cc
 waiting_toks (x ∷ a) [] h = cc
@@ -286,6 +293,70 @@ good_pop x r r' e ms ms' acc g wait wait' h a f m l =
       held = omega (arith, h.held, ap length a);
     }
 
-pub front_is : (es : List Entry) (e : Entry) → Some e ≡ slice_get es 0 → es ≡ e ∷ drop 1 es
-front_is [] e h = cc
-front_is (x ∷ es) e h = let k : x ≡ e = cc in ap (λ (y : Entry). y ∷ es) k
+pub front_is : (es : List Entry) (w : LentEntry) → IsFirst es (Some w) → es ≡ entry_of w.tok w.size ∷ drop 1 es
+front_is [] w h = cc
+front_is (e ∷ es) w h = ap₂ (λ (t : Tok) (z : Size). record { tok = t; size = z } ∷ es) (sym h.0) (sym h.1)
+
+text_length_is : (t : Tok) → text_bytes t ≡ text_length t
+text_length_is (tok.Text text) = refl
+text_length_is (tok.Break b) = refl
+text_length_is (tok.Begin c o) = refl
+text_length_is tok.End = refl
+
+pub text_size : (x : Bool) (text : List ℕ) (ts : List Tok) → size_of_scan (at_end x (scan_of (tok.Text text) ts)) ≡ Known (pos (min (length text) cap))
+text_size true text ts = refl
+text_size false text ts = refl
+
+pub bytes_waiting : (es : List Entry) → bytes_in es ≡ waiting es
+bytes_waiting [] = refl
+bytes_waiting (e ∷ es) = ap₂ (λ (a b : ℕ). a + b) (text_length_is e.tok) (bytes_waiting es)
+
+-- how much text waits behind texts at the front
+pub run_waiting : (count : ℕ) (es : List Entry) (bytes : List ℕ) → IsRun count es bytes → waiting (drop count es) + length bytes ≡ waiting es
+run_waiting zero es bytes h = omega (arith, ap length h)
+run_waiting (suc count) [] bytes h = absurd h
+run_waiting (suc count) (e ∷ es) bytes h =
+    omega (arith, run_waiting count es h.1 h.4, ap length h.3, length-append h.0 h.1, ap text_length h.2)
+
+pub run_within : (count : ℕ) (es : List Entry) (bytes : List ℕ) → IsRun count es bytes → count ≤ length es
+run_within zero es bytes h = omega arith
+run_within (suc count) [] bytes h = absurd h
+run_within (suc count) (e ∷ es) bytes h = omega (arith, run_within count es h.1 h.4)
+
+-- a text has no note
+text_known : (x : Bool) (t : Tok) (text : List ℕ) (ts : List Tok) (z : Size) (ms : List Note) → t ≡ tok.Text text → z ≡ size_of_scan (at_end x (scan_of t ts)) → ms ≡ notes_after z ms
+text_known x t text ts z ms e h =
+    ap (λ (y : Size). notes_after y ms) (sym (h ∙ ap (λ (y : Tok). size_of_scan (at_end x (scan_of y ts))) e ∙ text_size x text ts))
+
+next_number : (f count : ℕ) → (f + suc count) % 2 ^ 64 ≡ ((f + 1) % 2 ^ 64 + count) % 2 ^ 64
+next_number f count = omega arith
+
+same_first : (f f' : ℕ) → f < 2 ^ 64 → f' ≡ (f + 0) % 2 ^ 64 → f' ≡ f
+same_first f f' l e = omega arith
+
+texts_taken : (count : ℕ) (x : Bool) (es : List Entry) (f s : ℕ) (r' : Held) (ms : List Note) (acc g wait : ℕ) (bytes : List ℕ) → Good x (record { entries = es; first = f; spare = s }) ms acc g wait →
+    IsRun count es bytes → r'.entries ≡ drop count es → r'.first ≡ (f + count) % 2 ^ 64 → Good x r' ms acc g (wait - length bytes)
+texts_taken zero x es f s r' ms acc g wait bytes h n a b =
+    let e : r'.first ≡ f = same_first f r'.first h.number b in
+    record {
+      sizes = subst (λ (y : List Entry). sizes_of y ≡ map size_of_scan (map (at_end x) (scans (toks_of y)))) (sym a) h.sizes;
+      fits = subst (λ (i : ℕ). Fits i acc g g (map (at_end x) (scans (toks_of r'.entries))) ms) (sym e) (subst (λ (y : List Entry). Fits f acc g g (map (at_end x) (scans (toks_of y))) ms) (sym a) h.fits);
+      acc_small = h.acc_small;
+      wait_is = omega (arith, h.wait_is, ap waiting a, ap length n);
+      number = omega (arith, h.number, e);
+      held = omega (arith, h.held, ap length a);
+    }
+texts_taken (suc count) x [] f s r' ms acc g wait bytes h n a b = absurd n
+texts_taken (suc count) x (e ∷ es) f s r' ms acc g wait bytes h n a b =
+    let m : Held = record { entries = es; first = (f + 1) % 2 ^ 64; spare = s } in
+    let z : e.size ∷ sizes_of es ≡ size_of_scan (at_end x (scan_of e.tok (toks_of es))) ∷ map size_of_scan (map (at_end x) (scans (toks_of es))) = h.sizes in
+    let z0 : e.size ≡ size_of_scan (at_end x (scan_of e.tok (toks_of es))) = cc in
+    let k = good_pop x (record { entries = e ∷ es; first = f; spare = s }) m e ms ms acc g wait (wait - text_length e.tok) h refl refl (text_known x e.tok n.0 (toks_of es) e.size ms n.2 z0) refl in
+    let l : r'.first ≡ ((f + 1) % 2 ^ 64 + count) % 2 ^ 64 = b ∙ next_number f count in
+    let w : wait - text_length e.tok - length n.1 ≡ wait - length bytes = omega (arith, ap text_length n.2, ap length n.3, length-append n.0 n.1) in
+    subst (λ (i : ℕ). Good x r' ms acc g i) w (texts_taken count x es ((f + 1) % 2 ^ 64) s r' ms acc g (wait - text_length e.tok) n.1 k n.4 a l)
+
+-- texts at the front are taken
+pub good_texts : (count : ℕ) (x : Bool) (r r' : Held) (ms : List Note) (acc g wait : ℕ) (bytes : List ℕ) → Good x r ms acc g wait →
+    IsRun count r.entries bytes → r'.entries ≡ drop count r.entries → r'.first ≡ (r.first + count) % 2 ^ 64 → Good x r' ms acc g (wait - length bytes)
+good_texts count x r r' ms acc g wait bytes h n a b = texts_taken count x r.entries r.first r.spare r' ms acc g wait bytes h n a b

@@ -1,7 +1,11 @@
 -- What calls of a queue do.
-use Rattle.std.specs.Prelude.{◌≡◌, ℕ, ◌+◌, ◌^◌, ◌<◌, ◌≤◌, min, false, [], ◌∷◌, ◌++◌, length}
+use Rattle.std.specs.Prelude.{◌≡◌, ℕ, ◌+◌, ◌^◌, ◌<◌, ◌≤◌, min, false, List, [], ◌∷◌, ◌++◌, length}
 use Rattle.lay_layout.specs.declared.layout.Tok.{Tok}
+use Rattle.lay_layout.specs.declared.layout.Tok.TheVariants as tok
 use Rattle.lay_layout.specs.Machine.{opened}
+use Rattle.lay_ring.specs.declared.entry.Size.{Size}
+use Rattle.lay_ring.specs.declared.entry.Entry.{Entry}
+use Rattle.lay_queue.specs.Scan.{text_length}
 use Rattle.lay_queue.specs.declared.queue.Queue.{Queue}
 use Rattle.lay_queue.specs.Closed.{toks_of}
 
@@ -18,9 +22,16 @@ pub record Ready (q : Queue) : Type 0 where
   pub few : q.waiting ≤ 89
   pub groups : q.groups + 1 < 2 ^ 64
 
+-- A token but a break is added behind the others, which stay as they are. A break may end the measures of others.
+abbrev pub IsAdded : Tok → (old new : List Entry) → Type 0
+IsAdded (tok.Break b) old new = Unit {0}
+IsAdded t old new = (size : Size) × (new ≡ old ++ record { tok = t; size = size } ∷ [])
+
 -- A token came, and waits behind the others.
 pub record Comes (old new : Queue) (t : Tok) : Type 0 where
   pub toks : toks_of new.ring.entries ≡ toks_of old.ring.entries ++ t ∷ []
+  pub added : IsAdded t old.ring.entries new.ring.entries
+  pub waiting : new.waiting ≡ old.waiting + text_length t
   pub groups : new.groups ≡ opened (t ∷ []) old.groups
   pub first : new.ring.first ≡ old.ring.first
   pub ended : new.ended ≡ false

@@ -2,7 +2,7 @@
 ghost use Rattle.std.specs.Prelude.{◌≡◌, ◌+◌, ◌-◌, ◌^◌, ◌<◌, ◌≤◌, [], ◌∷◌, ◌++◌, length, MatchOption};
 ghost use Rattle.lay_queue.specs.Closed.{Left, Closed, toks_of, NoteKept};
 
-use lay_ring::{Marks, Ring, Size};
+use lay_ring::{Marks, Row};
 
 /// The greatest size that is kept.
 pub const CAP: u64 = 0x4000_0000_0000_0000;
@@ -37,7 +37,7 @@ fn take_newest(notes: &mut Marks<Note>, cur: u64) -> Option<Note>
 
 /// Writes back the sizes of the newest entries, whose measures end at a break where `cur` groups are open, and
 /// takes their notes. `width` is that from the newest note on, and so is what is answered.
-pub fn close(ring: &mut Ring, notes: &mut Marks<Note>, width: u64, cur: u64) -> u64
+pub fn close(ring: &mut Row, notes: &mut Marks<Note>, width: u64, cur: u64) -> u64
     requires left { Left (toks_of ring.old.entries) ring.old.first width cur ring.old.entries notes.old.items }
     requires first { ring.old.first < 2 ^ 64 }
     requires held { length ring.old.entries ≤ 2 ^ 63 }
@@ -50,7 +50,7 @@ pub fn close(ring: &mut Ring, notes: &mut Marks<Note>, width: u64, cur: u64) -> 
 {
     let mut acc = width;
     while let Some(note) = take_newest(notes, cur) {
-        ring.size_at(note.number, Size::Known(acc as i64));
+        ring.size_at(note.number, acc);
         acc = acc.saturating_add(note.delta).min(CAP);
     }
     acc

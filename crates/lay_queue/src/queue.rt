@@ -1,6 +1,7 @@
 //! The scanning side: tokens that wait, with the sizes that are known of them.
 ghost use Rattle.std.specs.Prelude.{◌≡◌, ◌+◌, ◌-◌, ◌%◌, ◌^◌, ◌<◌, ◌≤◌, [], ◌∷◌, length, drop, OnOk, IfOk, IsOk, map, true, false};
 ghost use Rattle.lay_layout.specs.declared.layout.Tok.TheVariants as tok;
+ghost use Rattle.lay_ring.specs.Rows.{AreTexts, size_of, tok_of};
 ghost use Rattle.lay_queue.specs.Closed.{toks_of, sizes_of};
 ghost use Rattle.lay_queue.specs.Scan.{at_end, text_length, size_of_scan, waiting as sum_waiting, cap};
 ghost use Rattle.lay_queue.specs.Notes.{Fits, scans};
@@ -8,15 +9,15 @@ ghost use Rattle.lay_queue.specs.Entries.{least_width, notes_after, next_of};
 ghost use Rattle.lay_layout.specs.Machine.{IsNested};
 
 use crate::close::{CAP, Note, close};
-use lay_layout::{Break, Tok, width_of};
-use lay_ring::{Entry, Marks, Ring, Size};
-use lay_text::{NoMemory, Text};
+use lay_layout::{Break, width_of};
+use lay_ring::{LentTok, Marks, Row, UNKNOWN};
+use lay_text::NoMemory;
 use std::alloc::Global;
 
 /// Tokens that wait, oldest first, and what is kept of those whose size isn't known.
 #[derive(Drop)]
 pub struct Queue {
-    pub ring: Ring,
+    pub ring: Row,
     pub notes: Marks<Note>,
     /// The width from the newest note on, or the cap where that is less.
     pub acc: u64,
@@ -36,31 +37,31 @@ pub struct Queue {
 
 /// What a token's measure has at the least beside texts: the width of a break.
 #[inline(always)]
-pub fn least_width(tok: &Tok) -> u64
-    ensures { result ≡ least_width tok.now }
+pub fn least_width(tok: LentTok<'_>) -> u64
+    ensures { result ≡ least_width (tok_of tok.entry) }
 {
     match tok {
-        Tok::Break(brk) => width_of(*brk),
+        LentTok::Break(brk) => width_of(brk),
         _ => 0,
     }
 }
 
 /// How many bytes of text a token has.
-fn text_len(tok: &Tok) -> u64
-    ensures { result ≡ text_length tok.now }
+fn text_len(tok: LentTok<'_>) -> u64
+    ensures { result ≡ text_length (tok_of tok.entry) }
 {
     match tok {
-        Tok::Text(text) => text.as_bytes().len() as u64,
+        LentTok::Text(text) => text.len() as u64,
         _ => 0,
     }
 }
 
 /// Takes the oldest note, where it is that of an entry with this size.
-fn drop_note(notes: &mut Marks<Note>, size: Size)
-    ensures items { notes.new.items ≡ notes_after size notes.old.items }
+fn drop_note(notes: &mut Marks<Note>, size: i64)
+    ensures items { notes.new.items ≡ notes_after (size_of size) notes.old.items }
     ensures spare { notes.old.spare ≤ notes.new.spare }
 {
-    if let Size::Unknown = size {
+    if size < 0 {
         let _ = notes.pop_oldest();
     }
 }
@@ -75,7 +76,7 @@ impl Queue {
         ensures groups { IfOk result (λ q. q.groups ≡ 0) }
         ensures ended { IfOk result (λ q. q.ended ≡ false) }
     {
-        let ring = Ring::new(alloc, 0)?;
+        let ring = Row::new(alloc)?;
         let notes = Marks::new(alloc, 0)?;
         Ok(Queue {
             ring,
@@ -109,37 +110,31 @@ impl Queue {
 
     /// A token comes for which there is room.
     #[inline(always)]
-    pub fn scan(&mut self, tok: Tok)
+    pub fn scan(&mut self, tok: LentTok<'_>)
         requires ready { Ready self.old }
-        requires nested { IsNested self.old.groups (tok ∷ []) }
-        ensures { Comes self.old self.new tok }
+        requires short { text_length (tok_of tok) ≤ 89 }
+        requires nested { IsNested self.old.groups (tok_of tok ∷ []) }
+        ensures { Comes self.old self.new (tok_of tok.entry) }
     {
         match tok {
-            Tok::Text(text) => self.scan_text(text),
-            Tok::Break(brk) => self.scan_break(brk),
-            Tok::Begin { consistent, offset } => self.scan_begin(consistent, offset),
-            Tok::End => self.scan_end(),
+            LentTok::Text(text) => self.scan_text(text),
+            LentTok::Break(brk) => self.scan_break(brk),
+            LentTok::Begin { consistent, offset } => self.scan_begin(consistent, offset),
+            LentTok::End => self.scan_end(),
         }
     }
 
     /// A text has its size at once.
     #[inline(always)]
-    fn scan_text(&mut self, text: Text)
-        requires { Ready self.old }
-        ensures { Comes self.old self.new (tok.Text text) }
+    fn scan_text(&mut self, text: &[u8])
+        requires ready { Ready self.old }
+        requires short { length text.now ≤ 89 }
+        ensures { Comes self.old self.new (tok.Text text.now) }
     {
-        let len = text.as_bytes().len() as u64;
-        let entry = Entry {
-            tok: Tok::Text(text),
-            size: Size::Known(len.min(CAP) as i64),
-        };
-        match self.ring.push(entry) {
-            Ok(_) => {
-                self.acc = self.acc.saturating_add(len).min(CAP);
-                self.waiting += len;
-            }
-            Err(_) => unreachable!(),
-        }
+        let len = text.len() as u64;
+        let _ = self.ring.push(LentTok::Text(text), len as i64);
+        self.acc = (self.acc + len).min(CAP);
+        self.waiting += len;
     }
 
     /// A break ends the measures of what was noted with no fewer groups open.
@@ -150,24 +145,14 @@ impl Queue {
     {
         let width = width_of(brk);
         let delta = close(&mut self.ring, &mut self.notes, self.acc, self.groups);
-        let entry = Entry {
-            tok: Tok::Break(brk),
-            size: Size::Unknown,
+        let number = self.ring.push(LentTok::Break(brk), UNKNOWN);
+        let note = Note {
+            number,
+            level: self.groups,
+            delta,
         };
-        match self.ring.push(entry) {
-            Ok(number) => {
-                let note = Note {
-                    number,
-                    level: self.groups,
-                    delta,
-                };
-                match self.notes.push(note) {
-                    Ok(()) => self.acc = width,
-                    Err(_) => unreachable!(),
-                }
-            }
-            Err(_) => unreachable!(),
-        }
+        self.notes.add(note);
+        self.acc = width;
     }
 
     /// A group begins.
@@ -176,27 +161,17 @@ impl Queue {
         requires { Ready self.old }
         ensures { Comes self.old self.new (tok.Begin consistent offset) }
     {
-        let entry = Entry {
-            tok: Tok::Begin { consistent, offset },
-            size: Size::Unknown,
+        let number = self
+            .ring
+            .push(LentTok::Begin { consistent, offset }, UNKNOWN);
+        let note = Note {
+            number,
+            level: self.groups,
+            delta: self.acc,
         };
-        match self.ring.push(entry) {
-            Ok(number) => {
-                let note = Note {
-                    number,
-                    level: self.groups,
-                    delta: self.acc,
-                };
-                match self.notes.push(note) {
-                    Ok(()) => {
-                        self.acc = 0;
-                        self.groups += 1;
-                    }
-                    Err(_) => unreachable!(),
-                }
-            }
-            Err(_) => unreachable!(),
-        }
+        self.notes.add(note);
+        self.acc = 0;
+        self.groups += 1;
     }
 
     /// The group that was begun last ends. Measures go on past it.
@@ -206,14 +181,8 @@ impl Queue {
         requires groups { 0 < self.old.groups }
         ensures { Comes self.old self.new tok.End }
     {
-        let entry = Entry {
-            tok: Tok::End,
-            size: Size::Known(0),
-        };
-        match self.ring.push(entry) {
-            Ok(_) => self.groups -= 1,
-            Err(_) => unreachable!(),
-        }
+        let _ = self.ring.push(LentTok::End, 0);
+        self.groups -= 1;
     }
 
     /// No more tokens come: every measure ends.
@@ -255,10 +224,27 @@ impl Queue {
         ensures number { next_of self.new.ring.first self.new.ring.entries ≡ next_of self.old.ring.first self.old.ring.entries }
         ensures ended { self.new.ended ≡ self.old.ended }
     {
-        if let Some(entry) = self.ring.pop_front() {
+        if let Some(entry) = self.ring.front() {
+            let len = text_len(entry.tok);
             drop_note(&mut self.notes, entry.size);
-            self.waiting -= text_len(&entry.tok);
+            self.waiting -= len;
+            self.ring.pop_front();
         }
+    }
+
+    /// Takes so many texts away that stand at the front, of so many bytes in all.
+    #[inline(always)]
+    pub fn drop_texts(&mut self, count: usize, len: usize)
+        requires { AreTexts count len self.old.ring.entries }
+        ensures entries { self.new.ring.entries ≡ drop count self.old.ring.entries }
+        ensures groups { self.new.groups ≡ self.old.groups }
+        ensures ring_spare { self.old.ring.spare ≤ self.new.ring.spare }
+        ensures notes_spare { self.old.notes.spare ≤ self.new.notes.spare }
+        ensures number { next_of self.new.ring.first self.new.ring.entries ≡ next_of self.old.ring.first self.old.ring.entries }
+        ensures ended { self.new.ended ≡ self.old.ended }
+    {
+        self.ring.pop_texts(count, len);
+        self.waiting -= len as u64;
     }
 
     /// Nothing waits: tokens may come again.

@@ -1,26 +1,31 @@
 //! A list of items that is open at both ends.
-ghost use Rattle.std.specs.Prelude.{◌≡◌, ◌+◌, ◌-◌, ◌<◌, ◌≤◌, [], ◌∷◌, ◌++◌, length, slice_get, take, drop, IfOk, IsOk, OnOk, OnErr};
+ghost use Rattle.std.specs.Prelude.{◌≡◌, ◌+◌, ◌-◌, ◌^◌, ◌<◌, ◌≤◌, [], ◌∷◌, ◌++◌, length, slice_get, slice_set, take, drop, IfOk, IsOk, OnOk, OnErr};
 
-use crate::room;
-use circular_buffer::HeapCircularBuffer;
 use lay_text::NoMemory;
 use std::alloc::Global;
 use std::marker::Model;
+
+/// Room is made for so many items at once, so that those which wait are seldom moved to its front.
+const FEW: usize = 256;
 
 /// Items, of which the oldest is the first, and how many more there is room for. After `NoMemory` they are
 /// as they were.
 #[derive(Drop)]
 pub struct Marks<T> {
-    buffer: HeapCircularBuffer<T>,
+    /// The items, from `first` on. Before it are some that were taken.
+    kept: Vec<T>,
+    first: usize,
 }
 
 impl<T> Model for Marks<T> {
-    ghost use Rattle.std.specs.Prelude.{◌-◌, length};
+    ghost use Rattle.std.specs.Prelude.{◌-◌, ◌≤◌, drop, length, vec_capacity, vec_len};
     ghost use Rattle.lay_ring.specs.Held.{Marked};
 
     ghost Value = { Marked T };
 
-    ghost view = { λ marks. record { items = marks.buffer.items; spare = marks.buffer.capacity - length marks.buffer.items } };
+    ghost view = { λ marks. record { items = drop marks.first marks.kept.items; spare = vec_capacity marks.kept - vec_len marks.kept } };
+
+    ghost invariant = { λ marks. marks.first ≤ vec_len marks.kept };
 }
 
 impl<T: Copy> Marks<T> {
@@ -29,13 +34,14 @@ impl<T: Copy> Marks<T> {
         ensures empty { IfOk result (λ marks. marks.items ≡ []) }
         ensures spare { IfOk result (λ marks. room ≤ marks.spare) }
     {
-        match HeapCircularBuffer::with_capacity(alloc, room) {
-            Ok(buffer) => Ok(Marks { buffer }),
+        match Vec::with_capacity(alloc, room) {
+            Ok(kept) => Ok(Marks { kept, first: 0 }),
             Err(_) => Err(NoMemory),
         }
     }
 
     /// Adds an item as the newest.
+    #[inline(always)]
     pub fn push(&mut self, item: T) -> Result<(), NoMemory>
         ensures ok { OnOk result (self.new.items ≡ self.old.items ++ item ∷ []) }
         ensures err { OnErr result (self.new ≡ self.old) }
@@ -44,39 +50,103 @@ impl<T: Copy> Marks<T> {
         ensures sure { 0 < self.old.spare → IsOk result }
         ensures spare { 0 < self.old.spare → self.new.spare + 1 ≡ self.old.spare }
     {
-        room::reserve(&mut self.buffer, 1)?;
-        match self.buffer.try_push_back(item) {
-            Ok(()) => Ok(()),
-            Err(_) => Err(NoMemory),
-        }
+        self.reserve(1)?;
+        self.add(item);
+        Ok(())
+    }
+
+    /// Adds an item as the newest, where there is room.
+    #[inline(always)]
+    pub fn add(&mut self, item: T)
+        requires { 0 < self.old.spare }
+        ensures items { self.new.items ≡ self.old.items ++ item ∷ [] }
+        ensures spare { self.new.spare + 1 ≡ self.old.spare }
+    {
+        self.kept.push_reserved(item);
     }
 
     /// Takes the newest item.
+    #[inline(always)]
     pub fn pop(&mut self) -> Option<T>
         ensures value { result ≡ slice_get self.old.items (length self.old.items - 1) }
         ensures items { self.new.items ≡ take (length self.old.items - 1) self.old.items }
         ensures spare { self.old.spare ≤ self.new.spare }
     {
-        self.buffer.pop_back()
+        if self.kept.len() == self.first {
+            return None;
+        }
+        Some(self.kept.take_last())
     }
 
     /// Takes the oldest item.
+    #[inline(always)]
     pub fn pop_oldest(&mut self) -> Option<T>
         ensures value { result ≡ slice_get self.old.items 0 }
         ensures items { self.new.items ≡ drop 1 self.old.items }
         ensures spare { self.old.spare ≤ self.new.spare }
     {
-        self.buffer.pop_front()
+        let oldest = self.get(0)?;
+        self.drop_oldest(1);
+        Some(oldest)
+    }
+
+    /// Takes so many of the oldest items.
+    #[inline(always)]
+    pub fn drop_oldest(&mut self, count: usize)
+        requires { count ≤ length self.old.items }
+        ensures items { self.new.items ≡ drop count self.old.items }
+        ensures spare { self.old.spare ≤ self.new.spare }
+    {
+        self.first += count;
+        if self.first == self.kept.len() {
+            self.kept.clear();
+            self.first = 0;
+        }
     }
 
     /// The newest item.
+    #[inline(always)]
     pub fn last(&self) -> Option<T>
         ensures { result ≡ slice_get self.now.items (length self.now.items - 1) }
     {
-        self.buffer.back().copied()
+        if self.kept.len() == self.first {
+            return None;
+        }
+        Some(self.kept[self.kept.len() - 1])
+    }
+
+    /// The item at a place, counted from the oldest.
+    #[inline(always)]
+    pub fn get(&self, place: usize) -> Option<T>
+        ensures { result ≡ slice_get self.now.items place }
+    {
+        if place >= self.kept.len() - self.first {
+            return None;
+        }
+        Some(self.kept[self.first + place])
+    }
+
+    /// Puts an item at a place in place of the one that stands there.
+    #[inline(always)]
+    pub fn set(&mut self, place: usize, item: T)
+        requires { place < length self.old.items }
+        ensures items { self.new.items ≡ slice_set self.old.items place item }
+        ensures spare { self.new.spare ≡ self.old.spare }
+    {
+        self.kept[self.first + place] = item;
+    }
+
+    /// How many items there are.
+    #[inline(always)]
+    pub fn len(&self) -> usize
+        ensures value { result ≡ length self.now.items }
+        ensures small { result < 2 ^ 63 }
+    {
+        self.kept.len() - self.first
     }
 
     /// Makes room for so many more items.
+    #[inline(always)]
     pub fn reserve(&mut self, n: usize) -> Result<(), NoMemory>
         ensures items { self.new.items ≡ self.old.items }
         ensures spare { self.old.spare ≤ self.new.spare }
@@ -87,13 +157,40 @@ impl<T: Copy> Marks<T> {
         ensures sure { n ≤ self.old.spare → IsOk result }
         ensures as_it_was { n ≤ self.old.spare → self.new ≡ self.old }
     {
-        room::reserve(&mut self.buffer, n)
+        if n <= self.kept.capacity() - self.kept.len() {
+            return Ok(());
+        }
+        self.grow(n)
+    }
+
+    /// Makes room for so many more items: that of those that were taken, where they are half of all and it is
+    /// enough, and otherwise new room, of [`FEW`] items at least.
+    #[inline(never)]
+    fn grow(&mut self, n: usize) -> Result<(), NoMemory>
+        requires { self.old.spare < n }
+        ensures items { self.new.items ≡ self.old.items }
+        ensures spare { self.old.spare ≤ self.new.spare }
+        ensures ok { OnOk result (n ≤ self.new.spare) }
+        ensures err { OnErr result (self.new ≡ self.old) }
+    {
+        let held = self.kept.len() - self.first;
+        if held <= self.first && n <= self.kept.capacity() - held {
+            self.kept.rotate_left(self.first);
+            self.kept.truncate(held);
+            self.first = 0;
+            return Ok(());
+        }
+        match self.kept.reserve(n.max(FEW)) {
+            Ok(()) => Ok(()),
+            Err(_) => Err(NoMemory),
+        }
     }
 
     /// How many more items there is room for.
+    #[inline(always)]
     pub fn spare(&self) -> usize
         ensures { result ≡ self.now.spare }
     {
-        room::spare(&self.buffer)
+        self.kept.capacity() - self.kept.len()
     }
 }

@@ -1,13 +1,9 @@
-use Rattle.std.proofs.Common.{pos, to_z, w64, ◌≡◌, ℕ, ◌≤◌, length, sym, ap, ◌∙◌, subst, arith}
-use Rattle.std.proofs.lemmas.Int.{to_z_pos}
+use Rattle.std.proofs.Common.{pos, ◌≡◌, length, sym, ap, ◌∙◌, subst, arith}
 use Rattle.lay_ring.specs.declared.entry.Size.TheVariants.{Known}
 use Rattle.lay_ring.specs.Held.{place_of, sized_at}
 use Rattle.lay_queue.specs.Closed.{Closed, toks_of}
 use Rattle.lay_queue.proofs.Closing.{place_unknown, left_pop, closed, length_set, left_along}
 use Rattle.lay_queue.proofs.close.close.Goals as goal
-
-small_cast : (n : ℕ) → n ≤ 0x4000_0000_0000_0000 → to_z w64 n ≡ pos n
-small_cast n h = to_z_pos w64 n (omega arith)
 
 pub size_at-requires-clause-unknown : goal.size_at-requires-clause-unknown
 size_at-requires-clause-unknown c =
@@ -20,7 +16,7 @@ loop-note-preserved c =
     let r = c.loop-note.ring in
     let place = place_of r.first c.in-Some.note.number in
     let e : c.size_at.new.self.entries ≡ sized_at r.entries place (Known (pos c.loop-note.acc)) =
-    c.size_at.ensures.entries ∙ ap (λ z. sized_at r.entries place (Known z)) (small_cast c.loop-note.acc i.width) in
+    c.size_at.ensures.entries in
     record {
       left = left_along _ _ _ c.size_at.ensures.first (omega arith) e (left_pop i.left _ _ c.in-Some.ensures.rest c.in-Some.ensures.level i.number i.held);
       number = omega (arith, i.number, c.size_at.ensures.first);

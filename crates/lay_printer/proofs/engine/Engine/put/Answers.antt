@@ -1,4 +1,5 @@
 use Rattle.std.proofs.Common.{refl, arith}
+use Rattle.lay_ring.specs.Rows.{tok_of}
 use Rattle.lay_printer.proofs.Depths.{open_le, open_more}
 use Rattle.lay_printer.proofs.Staying.{length_comes}
 use Rattle.lay_printer.proofs.engine.Engine.put.Goals as goal
@@ -21,11 +22,11 @@ invariant_of-self c =
     let e = c.args.self.now in
     let k = c.scan.ensures in
     record {
-      room = omega (arith, c.requires.room, length_comes e.queue.ring.entries c.scan.new.self.ring.entries c.args.tok k.toks);
-      level = open_more e.queue.ring.entries c.scan.new.self.ring.entries e.page.frames.frames e.page.frames.frames c.args.tok e.queue.groups c.scan.new.self.groups e.level refl k.toks k.groups;
+      room = omega (arith, c.requires.room, length_comes e.queue.ring.entries c.scan.new.self.ring.entries (tok_of c.args.tok) k.toks);
+      level = open_more e.queue.ring.entries c.scan.new.self.ring.entries e.page.frames.frames e.page.frames.frames (tok_of c.args.tok) e.queue.groups c.scan.new.self.groups e.level refl k.toks k.groups;
     }
 
 pub returns-clause-room : goal.returns-clause-room
 returns-clause-room c =
     let e = c.args.self.now in
-    omega (arith, c.scan.ensures.room, length_comes e.queue.ring.entries c.scan.new.self.ring.entries c.args.tok c.scan.ensures.toks)
+    omega (arith, c.scan.ensures.room, length_comes e.queue.ring.entries c.scan.new.self.ring.entries (tok_of c.args.tok) c.scan.ensures.toks)
