@@ -9,7 +9,8 @@ use Rattle.lay_token.specs.Lexes.{is_punct}
 use Rattle.lay_token.specs.Operators.{operators, begins_op, first_op, lone_op, or_lone, op_at, is_op_of, is_op}
 use Rattle.lay_piece.specs.Word.{is_among}
 use Rattle.lay_token.specs.declared.token.Token.{Token}
-use Rattle.lay_nest.specs.Marks.{threes, twos, one, mark, first_mark, second_mark}
+use Rattle.lay_piece.specs.Chars.{is_nil}
+use Rattle.lay_nest.specs.Marks.{threes, twos, one, mark, first_mark, second_mark, is_same_first, may_begin}
 
 turned : (c d : ℕ) → c == d ≡ (d == c)
 turned c d = elim (cases_Bool (d == c)) [
@@ -174,3 +175,46 @@ one_joint op t ts a b c j e f g h i =
     let no_three : is_among threes (mark t ∷ first_mark ts ∷ second_mark ts ∷ []) ≡ false = rw (← e, ← f, ← g) h in
     let no_two : is_among twos (mark t ∷ first_mark ts ∷ []) ≡ false = rw (← e, ← f) i in
     sym (ap (is_op_of op) (longest t ts j) ∙ rw (no_three, no_two) (is_lone op t ts))
+
+-- ---- an operator that can't begin with the first token
+
+unlike_text : (text op : List ℕ) → is_same_first text op ≡ false → bytes_eq op text ≡ false
+unlike_text [] [] h = absurd (false≢true (sym h))
+unlike_text [] (d ∷ ds) h = refl
+unlike_text (c ∷ cs) [] h = refl
+unlike_text (c ∷ cs) (d ∷ ds) h = rw (turned d c, h) refl
+
+unlike_first : (c : ℕ) (cs op : List ℕ) → is_same_first (c ∷ []) op ≡ false → bytes_eq op (c ∷ cs) ≡ false
+unlike_first c cs [] h = refl
+unlike_first c cs (d ∷ ds) h = rw (turned d c, h) refl
+
+-- an operator that the tokens do begin with
+unlike_begun : (c : ℕ) (cs op : List ℕ) (t : Token) (ts : List Token) → may_begin t op ≡ false
+    → begins_op (c ∷ cs) (t ∷ ts) ≡ true → bytes_eq op (c ∷ cs) ≡ false
+unlike_begun c cs op t ts h b =
+    let p = and_parts (is_punct t.kind && bytes_eq t.text (c ∷ [])) (is_nil cs || t.joint && begins_op cs ts) b in
+    let q = and_parts (is_punct t.kind) (bytes_eq t.text (c ∷ [])) p.0 in
+    let same : t.text ≡ c ∷ [] = (bytes_eq-Decides t.text (c ∷ [])).0 q.1 in
+    let apart : is_same_first (c ∷ []) op ≡ false = rw (← same) (ap (λ b. b && is_same_first t.text op) (sym q.0) ∙ h) in
+    unlike_first c cs op apart
+
+abbrev is_some_op : List ℕ → Bool
+is_some_op [] = false
+is_some_op (c ∷ cs) = true
+
+unlike_ops : (ops : List (List ℕ)) (op : List ℕ) (t : Token) (ts : List Token) → may_begin t op ≡ false
+    → list_all is_some_op ops ≡ true → is_op_of op (or_lone (first_op ops (t ∷ ts)) (t ∷ ts)) ≡ false
+unlike_ops [] op t ts h g = is_lone op t ts ∙ unlike_lone (is_punct t.kind) h
+  where
+    unlike_lone : (b : Bool) → b && is_same_first t.text op ≡ false → b && bytes_eq op t.text ≡ false
+    unlike_lone true e = unlike_text t.text op e
+    unlike_lone false e = refl
+unlike_ops ([] ∷ ops) op t ts h g = absurd (false≢true g)
+unlike_ops ((c ∷ cs) ∷ ops) op t ts h g = elim (cases_Bool (begins_op (c ∷ cs) (t ∷ ts))) [
+  | inl e ↦ rw e (unlike_begun c cs op t ts h e)
+  | inr e ↦ rw e (unlike_ops ops op t ts h g)
+]
+
+pub unlike : (op : List ℕ) (t : Token) (ts : List Token) → may_begin t op ≡ false → is_op op (t ∷ ts) ≡ false
+unfolding op_at
+unlike op t ts h = unlike_ops operators op t ts h refl

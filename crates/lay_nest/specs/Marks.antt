@@ -1,5 +1,5 @@
 -- The characters of the operator at the front of tokens.
-use Rattle.std.specs.Prelude.{ℕ, cond, List, [], ◌∷◌, take, drop}
+use Rattle.std.specs.Prelude.{ℕ, ◌==◌, Bool, true, false, ◌&&◌, cond, List, [], ◌∷◌, take, drop}
 use Rattle.lay_token.specs.Lexes.{is_punct}
 use Rattle.lay_token.specs.Operators.{operators}
 use Rattle.lay_token.specs.declared.token.Token.{Token}
@@ -30,3 +30,13 @@ first_mark (t ∷ ts) = mark t
 abbrev pub second_mark : List Token → ℕ
 second_mark [] = 0
 second_mark (t ∷ ts) = cond t.joint (first_mark ts) 0
+
+-- Two texts have the same first byte, or neither has any.
+abbrev pub is_same_first : List ℕ → List ℕ → Bool
+is_same_first [] [] = true
+is_same_first (c ∷ cs) (d ∷ ds) = c == d
+is_same_first _ _ = false
+
+-- The operator may begin with the token.
+abbrev pub may_begin : Token → List ℕ → Bool
+may_begin t op = is_punct t.kind && is_same_first t.text op

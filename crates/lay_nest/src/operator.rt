@@ -4,7 +4,7 @@ ghost use Rattle.std.specs.Str.{bytes_eq};
 ghost use Rattle.lay_token.specs.Lexes.{is_punct};
 ghost use Rattle.lay_token.specs.Operators.{is_op};
 ghost use Rattle.lay_piece.specs.Word.{is_among};
-ghost use Rattle.lay_nest.specs.Marks.{first_mark, mark, one, second_mark, threes, twos};
+ghost use Rattle.lay_nest.specs.Marks.{first_mark, is_same_first, mark, may_begin, one, second_mark, threes, twos};
 
 use lay_token::{Kind, Token};
 
@@ -14,12 +14,41 @@ pub fn is_op(tokens: &[Token], op: &[u8]) -> bool
     ensures { result ≡ is_op op.now tokens.now }
 {
     match tokens.split_first() {
-        Some((front, behind)) => if front.joint {
-            is_longest(front, behind, op)
-        } else {
-            is_alone(front, op)
-        },
+        Some((front, behind)) => may_begin(front, op) && is_begun(front, behind, op),
         None => false,
+    }
+}
+
+/// Whether the operator may begin with the token: it is punctuation, and their first characters are the same.
+fn may_begin(token: &Token, op: &[u8]) -> bool
+    ensures { result ≡ may_begin token.now op.now }
+{
+    match token.kind {
+        Kind::Punct => is_same_first(token.text.as_bytes(), op),
+        _ => false,
+    }
+}
+
+/// Whether two texts have the same first byte, or neither has any.
+fn is_same_first(text: &[u8], op: &[u8]) -> bool
+    ensures { result ≡ is_same_first text.now op.now }
+{
+    match (text, op) {
+        ([], []) => true,
+        ([first, ..], [other, ..]) => *first == *other,
+        _ => false,
+    }
+}
+
+/// Whether the operator at the front of the tokens is this one.
+#[inline(never)]
+fn is_begun(front: &Token, behind: &[Token], op: &[u8]) -> bool
+    ensures { result ≡ is_op op.now (front.now ∷ behind.now) }
+{
+    if front.joint {
+        is_longest(front, behind, op)
+    } else {
+        is_alone(front, op)
     }
 }
 

@@ -1,3 +1,4 @@
 pub mod Parts
 pub mod Neighbours
+pub mod Separations
 pub mod Fed

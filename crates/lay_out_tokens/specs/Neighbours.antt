@@ -1,27 +1,23 @@
--- What the neighbours of the code stand for.
+-- What the neighbours of the code stand for, and what is told of them at once.
+use Rattle.std.specs.Prelude.{ℕ, List, [], ◌∷◌, cond}
+use Rattle.lay_token.specs.Lexes.{is_punct}
+use Rattle.lay_node.specs.tokens.Listing.{kind_of, text_of}
 use Rattle.lay_node.specs.tokens.Pairs as pairs
 use Rattle.lay_out_tokens.specs.declared.neighbours.Neighbour.{Neighbour}
 use Rattle.lay_out_tokens.specs.declared.neighbours.Neighbour.TheVariants as neighbour
-use Rattle.lay_out_tokens.specs.declared.separation.Seen.{Seen}
-use Rattle.lay_out_tokens.specs.declared.separation.Separation.{Separation}
-use Rattle.lay_out_tokens.specs.declared.separation.Separation.TheVariants as separation
 
 abbrev pub neighbour_of : Neighbour → pairs.Neighbour
 neighbour_of neighbour.Nothing = pairs.Nothing
 neighbour_of (neighbour.Single t) = pairs.Single t.now
 neighbour_of (neighbour.Enclosed d) = pairs.Enclosed d
 
-abbrev pub seen_of : Seen → pairs.Seen
-seen_of s = record {
-  before = neighbour_of s.before;
-  last = neighbour_of s.last;
-  place = s.place;
-  opens = s.opens;
-  closes = s.closes;
-  count = s.count;
-}
+-- the one character of a text, or else 0
+abbrev pub one : List ℕ → ℕ
+one [] = 0
+one (c ∷ []) = c
+one (c ∷ d ∷ ds) = 0
 
-abbrev pub separation_of : Separation → pairs.Separation
-separation_of separation.NoBreak = pairs.NoBreak
-separation_of separation.SoftBreak = pairs.SoftBreak
-separation_of separation.HardBreak = pairs.HardBreak
+-- the character of a neighbour that is punctuation of one, or else 0
+abbrev pub mark_of : pairs.Neighbour → ℕ
+mark_of (pairs.Single t) = cond (is_punct (kind_of t)) (one (text_of t)) 0
+mark_of _ = 0

@@ -5,9 +5,10 @@ ghost use Rattle.lay_node.specs.tokens.Pairs.{ends_turbofish, is_any_word, is_br
 ghost use Rattle.lay_node.specs.tokens.Pairs.{is_joint_mark, is_joint_neighbour, is_keyword, is_mark, is_nothing};
 ghost use Rattle.lay_node.specs.tokens.Pairs.{is_number, is_paren, is_positive, is_punct_neighbour, opens_turbofish};
 ghost use Rattle.lay_out_tokens.specs.Fed.{seen_behind};
-ghost use Rattle.lay_out_tokens.specs.Neighbours.{neighbour_of, seen_of, separation_of};
+ghost use Rattle.lay_out_tokens.specs.Separations.{seen_next, seen_of, separation_of, told_of};
 
-use crate::neighbours::{Neighbour, kind_of};
+use crate::neighbours::kind_of;
+use crate::told::Told;
 use lay_node::Listed;
 use lay_token::{Delim, Kind};
 
@@ -15,8 +16,8 @@ use lay_token::{Delim, Kind};
 #[derive(Clone, Copy)]
 pub struct Seen<'a> {
     /// The last two neighbours.
-    pub before: Neighbour<'a>,
-    pub last: Neighbour<'a>,
+    pub before: Told<'a>,
+    pub last: Told<'a>,
     /// Whether the last one stands where a number may be an index.
     pub place: bool,
     /// Whether it is a `<` of a turbofish.
@@ -37,12 +38,13 @@ pub enum Separation {
 
 impl<'a> Seen<'a> {
     /// At the start of a list or of a group.
+    #[inline(always)]
     pub fn at_start(count: usize) -> Seen<'a>
         ensures { seen_of result ≡ pairs.at_start count }
     {
         Seen {
-            before: Neighbour::Nothing,
-            last: Neighbour::Nothing,
+            before: Told::nothing(),
+            last: Told::nothing(),
             place: false,
             opens: false,
             closes: false,
@@ -51,12 +53,13 @@ impl<'a> Seen<'a> {
     }
 
     /// Behind a group.
+    #[inline(always)]
     fn behind_group(delim: Delim, count: usize) -> Seen<'a>
         ensures { seen_of result ≡ pairs.behind_group delim count }
     {
         Seen {
-            before: Neighbour::Nothing,
-            last: Neighbour::Enclosed(delim),
+            before: Told::nothing(),
+            last: Told::enclosed(delim),
             place: false,
             opens: false,
             closes: false,
@@ -66,27 +69,29 @@ impl<'a> Seen<'a> {
 
     /// What is seen behind one more token.
     #[tactic(auto, unfolding(crate::specs::Fed::seen_behind))]
-    pub fn behind(&self, token: &'a Listed) -> Seen<'a>
-        requires { self.now.count < usize.MAX }
+    #[inline(always)]
+    pub fn behind(&self, token: &'a Listed, next: Told<'a>) -> Seen<'a>
+        requires told { told_of next ≡ pairs.Single token.now }
+        requires few { self.now.count < usize.MAX }
         ensures seen { seen_of result ≡ seen_behind (seen_of self.now) token.now }
         ensures count { result.count ≤ self.now.count + 1 }
     {
         match kind_of(token) {
             Kind::Opener(_) => Seen::at_start(self.count),
             Kind::Closer(delim) => Seen::behind_group(delim, self.count),
-            _ => self.behind_single(token),
+            _ => self.behind_single(next),
         }
     }
 
     /// Behind a token that is no delimiter.
-    fn behind_single(&self, token: &'a Listed) -> Seen<'a>
+    #[inline(always)]
+    fn behind_single(&self, next: Told<'a>) -> Seen<'a>
         requires { self.now.count < usize.MAX }
-        ensures seen { seen_of result ≡ pairs.seen_token (seen_of self.now) token.now }
+        ensures seen { seen_of result ≡ seen_next (seen_of self.now) (told_of next.entry) }
         ensures count { result.count ≤ self.now.count + 1 }
     {
-        let next = Neighbour::Single(token);
         if is_angle(&next) {
-            return self.behind_angle(token);
+            return self.behind_angle(next);
         }
         Seen {
             before: self.last,
@@ -99,12 +104,12 @@ impl<'a> Seen<'a> {
     }
 
     /// Behind a `<` or a `>`.
-    fn behind_angle(&self, token: &'a Listed) -> Seen<'a>
+    #[inline(always)]
+    fn behind_angle(&self, next: Told<'a>) -> Seen<'a>
         requires { self.now.count < usize.MAX }
-        ensures seen { seen_of result ≡ pairs.seen_token (seen_of self.now) token.now }
+        ensures seen { seen_of result ≡ seen_next (seen_of self.now) (told_of next.entry) }
         ensures count { result.count ≤ self.now.count + 1 }
     {
-        let next = Neighbour::Single(token);
         Seen {
             before: self.last,
             last: next,
@@ -116,6 +121,7 @@ impl<'a> Seen<'a> {
     }
 
     /// Whether a number here may be an index: behind a point, but not behind `..`.
+    #[inline(always)]
     fn is_index_place(&self) -> bool
         ensures { result ≡ pairs.is_index_place (seen_of self.now).before (seen_of self.now).last }
     {
@@ -123,9 +129,10 @@ impl<'a> Seen<'a> {
     }
 
     /// The turbofish's count behind this one.
-    fn count_behind(&self, next: &Neighbour<'_>) -> usize
+    #[inline(always)]
+    fn count_behind(&self, next: &Told<'_>) -> usize
         requires { self.now.count < usize.MAX }
-        ensures { result ≡ pairs.count_behind (seen_of self.now) (neighbour_of next.now) }
+        ensures { result ≡ pairs.count_behind (seen_of self.now) (told_of next.now) }
     {
         if next.is_mark(b'<') {
             return self.raised();
@@ -137,6 +144,7 @@ impl<'a> Seen<'a> {
     }
 
     /// The turbofish's count behind a `<`.
+    #[inline(always)]
     fn raised(&self) -> usize
         requires { self.now.count < usize.MAX }
         ensures { result ≡ pairs.raised (seen_of self.now) }
@@ -148,14 +156,16 @@ impl<'a> Seen<'a> {
     }
 
     /// Whether a `<` here is one of a turbofish.
+    #[inline(always)]
     fn may_open_turbofish(&self) -> bool
-        ensures { let l = neighbour_of self.now.last in
+        ensures { let l = told_of self.now.last in
             result ≡ (is_positive self.now.count || is_joint_mark (codes ":") l) }
     {
         self.count > 0 || self.last.is_joint_mark(b':')
     }
 
     /// The turbofish's count behind a `>`. That of an arrow closes none.
+    #[inline(always)]
     fn lowered(&self) -> usize
         ensures { result ≡ pairs.lowered (seen_of self.now) }
     {
@@ -166,38 +176,43 @@ impl<'a> Seen<'a> {
     }
 
     /// Whether a `>` here ends an arrow.
+    #[inline(always)]
     fn is_arrow(&self) -> bool
-        ensures { let l = neighbour_of self.now.last in
+        ensures { let l = told_of self.now.last in
             result ≡ (is_joint_mark (codes "-") l || is_joint_mark (codes "=") l) }
     {
         self.last.is_joint_mark(b'-') || self.last.is_joint_mark(b'=')
     }
 
     /// Whether this one is a `<` of a turbofish.
-    fn opens_turbofish(&self, next: &Neighbour<'_>) -> bool
-        ensures { result ≡ pairs.opens_turbofish (seen_of self.now) (neighbour_of next.now) }
+    #[inline(always)]
+    fn opens_turbofish(&self, next: &Told<'_>) -> bool
+        ensures { result ≡ pairs.opens_turbofish (seen_of self.now) (told_of next.now) }
     {
         next.is_mark(b'<') && self.may_open_turbofish()
     }
 
     /// Whether this one is a `>` within a turbofish.
-    fn ends_turbofish(&self, next: &Neighbour<'_>) -> bool
-        ensures { result ≡ pairs.ends_turbofish (seen_of self.now) (neighbour_of next.now) }
+    #[inline(always)]
+    fn ends_turbofish(&self, next: &Told<'_>) -> bool
+        ensures { result ≡ pairs.ends_turbofish (seen_of self.now) (told_of next.now) }
     {
         next.is_mark(b'>') && self.count > 0
     }
 
     /// Whether this one is the `>` that closes a turbofish.
-    fn closes_turbofish(&self, next: &Neighbour<'_>) -> bool
-        ensures { result ≡ pairs.closes_turbofish (seen_of self.now) (neighbour_of next.now) }
+    #[inline(always)]
+    fn closes_turbofish(&self, next: &Told<'_>) -> bool
+        ensures { result ≡ pairs.closes_turbofish (seen_of self.now) (told_of next.now) }
     {
         self.ends_turbofish(next) && self.lowered() == 0
     }
 }
 
 /// What stands between what was seen and this one: the first row of the table that fits.
-pub fn between(seen: &Seen<'_>, next: &Neighbour<'_>) -> Separation
-    ensures { separation_of result ≡ pairs.between (seen_of seen.now) (neighbour_of next.now) }
+#[inline(always)]
+pub fn between(seen: &Seen<'_>, next: &Told<'_>) -> Separation
+    ensures { separation_of result ≡ pairs.between (seen_of seen.now) (told_of next.now) }
 {
     if seen.last.is_nothing() {
         return Separation::NoBreak;
@@ -215,8 +230,9 @@ pub fn between(seen: &Seen<'_>, next: &Neighbour<'_>) -> Separation
 }
 
 /// The rows of tokens, where neither is documentation and the first one isn't joint.
-fn between_tokens(seen: &Seen<'_>, next: &Neighbour<'_>) -> Separation
-    ensures { separation_of result ≡ pairs.first_row (drop 4 (pairs.rows (seen_of seen.now) (neighbour_of next.now))) }
+#[inline(always)]
+fn between_tokens(seen: &Seen<'_>, next: &Told<'_>) -> Separation
+    ensures { separation_of result ≡ pairs.first_row (drop 4 (pairs.rows (seen_of seen.now) (told_of next.now))) }
 {
     if next.is_punct() {
         return before_mark(seen, next);
@@ -228,9 +244,10 @@ fn between_tokens(seen: &Seen<'_>, next: &Neighbour<'_>) -> Separation
 }
 
 /// The rows of a mark that follows.
-fn before_mark(seen: &Seen<'_>, next: &Neighbour<'_>) -> Separation
-    requires { pairs.is_punct_neighbour (neighbour_of next.now) ≡ true }
-    ensures { separation_of result ≡ pairs.first_row (drop 4 (pairs.rows (seen_of seen.now) (neighbour_of next.now))) }
+#[inline(always)]
+fn before_mark(seen: &Seen<'_>, next: &Told<'_>) -> Separation
+    requires { pairs.is_punct_neighbour (told_of next.now) ≡ true }
+    ensures { separation_of result ≡ pairs.first_row (drop 4 (pairs.rows (seen_of seen.now) (told_of next.now))) }
 {
     if is_end_mark(next) {
         return Separation::NoBreak;
@@ -251,8 +268,9 @@ fn before_mark(seen: &Seen<'_>, next: &Neighbour<'_>) -> Separation
 }
 
 /// The rows of a mark that stands before.
-fn behind_mark(seen: &Seen<'_>, next: &Neighbour<'_>) -> Separation
-    ensures { separation_of result ≡ pairs.first_row (drop 9 (pairs.rows (seen_of seen.now) (neighbour_of next.now))) }
+#[inline(always)]
+fn behind_mark(seen: &Seen<'_>, next: &Told<'_>) -> Separation
+    ensures { separation_of result ≡ pairs.first_row (drop 9 (pairs.rows (seen_of seen.now) (told_of next.now))) }
 {
     if is_behind_point_or_path(seen, next) {
         return Separation::NoBreak;
@@ -270,8 +288,9 @@ fn behind_mark(seen: &Seen<'_>, next: &Neighbour<'_>) -> Separation
 }
 
 /// The rows of a turbofish, and of a group that follows.
-fn around_group(seen: &Seen<'_>, next: &Neighbour<'_>) -> Separation
-    ensures { separation_of result ≡ pairs.first_row (drop 13 (pairs.rows (seen_of seen.now) (neighbour_of next.now))) }
+#[inline(always)]
+fn around_group(seen: &Seen<'_>, next: &Told<'_>) -> Separation
+    ensures { separation_of result ≡ pairs.first_row (drop 13 (pairs.rows (seen_of seen.now) (told_of next.now))) }
 {
     if is_within_turbofish(seen, next) {
         return Separation::NoBreak;
@@ -282,85 +301,96 @@ fn around_group(seen: &Seen<'_>, next: &Neighbour<'_>) -> Separation
     Separation::SoftBreak
 }
 
-fn is_beside_doc(seen: &Seen<'_>, next: &Neighbour<'_>) -> bool
-    ensures { result ≡ (pairs.is_doc (seen_of seen.now).last || pairs.is_doc (neighbour_of next.now)) }
+#[inline(always)]
+fn is_beside_doc(seen: &Seen<'_>, next: &Told<'_>) -> bool
+    ensures { result ≡ (pairs.is_doc (seen_of seen.now).last || pairs.is_doc (told_of next.now)) }
 {
     seen.last.is_doc() || next.is_doc()
 }
 
 /// `<` or `>`
-fn is_angle(next: &Neighbour<'_>) -> bool
-    ensures { let r = neighbour_of next.now in
+#[inline(always)]
+fn is_angle(next: &Told<'_>) -> bool
+    ensures { let r = told_of next.now in
         result ≡ (is_mark (codes "<") r || is_mark (codes ">") r) }
 {
     next.is_mark(b'<') || next.is_mark(b'>')
 }
 
 /// `,` or `;`
-fn is_end_mark(next: &Neighbour<'_>) -> bool
-    ensures { let r = neighbour_of next.now in
+#[inline(always)]
+fn is_end_mark(next: &Told<'_>) -> bool
+    ensures { let r = told_of next.now in
         result ≡ (is_mark (codes ",") r || is_mark (codes ";") r) }
 {
     next.is_mark(b',') || next.is_mark(b';')
 }
 
-fn is_point_behind_number(seen: &Seen<'_>, next: &Neighbour<'_>) -> bool
-    ensures { let l = neighbour_of seen.now.last in let r = neighbour_of next.now in
+#[inline(always)]
+fn is_point_behind_number(seen: &Seen<'_>, next: &Told<'_>) -> bool
+    ensures { let l = told_of seen.now.last in let r = told_of next.now in
         result ≡ (is_mark (codes ".") r && is_number seen.now.place l) }
 {
     next.is_mark(b'.') && seen.last.is_number(seen.place)
 }
 
 /// `.`, `?` or `:`
-fn is_mark_without_gap(next: &Neighbour<'_>) -> bool
-    ensures { let r = neighbour_of next.now in
+#[inline(always)]
+fn is_mark_without_gap(next: &Told<'_>) -> bool
+    ensures { let r = told_of next.now in
         result ≡ (is_mark (codes ".") r || is_mark (codes "?") r || is_mark (codes ":") r) }
 {
     next.is_mark(b'.') || next.is_mark(b'?') || next.is_mark(b':')
 }
 
 /// The `!` of `name!(..)`
-fn is_bang_of_call(seen: &Seen<'_>, next: &Neighbour<'_>) -> bool
-    ensures { let l = neighbour_of seen.now.last in let r = neighbour_of next.now in
+#[inline(always)]
+fn is_bang_of_call(seen: &Seen<'_>, next: &Told<'_>) -> bool
+    ensures { let l = told_of seen.now.last in let r = told_of next.now in
         result ≡ (is_mark (codes "!") r && not (is_joint_neighbour r) && is_free_word l) }
 {
     next.is_mark(b'!') && !next.is_joint() && seen.last.is_free_word()
 }
 
 /// Behind `.`, or a word behind `::`
-fn is_behind_point_or_path(seen: &Seen<'_>, next: &Neighbour<'_>) -> bool
-    ensures { let b = neighbour_of seen.now.before in let l = neighbour_of seen.now.last in
-        let r = neighbour_of next.now in
+#[inline(always)]
+fn is_behind_point_or_path(seen: &Seen<'_>, next: &Told<'_>) -> bool
+    ensures { let b = told_of seen.now.before in let l = told_of seen.now.last in
+        let r = told_of next.now in
         result ≡ (is_mark (codes ".") l || (is_mark (codes ":") l && is_joint_mark (codes ":") b && is_any_word r)) }
 {
     seen.last.is_mark(b'.') || is_behind_path(seen, next)
 }
 
-fn is_behind_path(seen: &Seen<'_>, next: &Neighbour<'_>) -> bool
-    ensures { let b = neighbour_of seen.now.before in let l = neighbour_of seen.now.last in
-        let r = neighbour_of next.now in
+#[inline(always)]
+fn is_behind_path(seen: &Seen<'_>, next: &Told<'_>) -> bool
+    ensures { let b = told_of seen.now.before in let l = told_of seen.now.last in
+        let r = told_of next.now in
         result ≡ (is_mark (codes ":") l && is_joint_mark (codes ":") b && is_any_word r) }
 {
     seen.last.is_mark(b':') && seen.before.is_joint_mark(b':') && next.is_any_word()
 }
 
-fn is_behind_bang_or_dollar(seen: &Seen<'_>, next: &Neighbour<'_>) -> bool
-    ensures { let l = neighbour_of seen.now.last in let r = neighbour_of next.now in
+#[inline(always)]
+fn is_behind_bang_or_dollar(seen: &Seen<'_>, next: &Told<'_>) -> bool
+    ensures { let l = told_of seen.now.last in let r = told_of next.now in
         result ≡ ((is_mark (codes "!") l || is_mark (codes "$") l) && not (is_brace r)) }
 {
     (seen.last.is_mark(b'!') || seen.last.is_mark(b'$')) && !next.is_brace()
 }
 
 /// The brackets of `#[..]`
-fn is_attribute(seen: &Seen<'_>, next: &Neighbour<'_>) -> bool
-    ensures { result ≡ (pairs.is_mark (codes "#") (seen_of seen.now).last && pairs.is_bracket (neighbour_of next.now)) }
+#[inline(always)]
+fn is_attribute(seen: &Seen<'_>, next: &Told<'_>) -> bool
+    ensures { result ≡ (pairs.is_mark (codes "#") (seen_of seen.now).last && pairs.is_bracket (told_of next.now)) }
 {
     seen.last.is_mark(b'#') && next.is_bracket()
 }
 
 /// Behind `&`, `*` or `-` that has no left operand
+#[inline(always)]
 fn is_prefix(seen: &Seen<'_>) -> bool
-    ensures { let b = neighbour_of seen.now.before in let l = neighbour_of seen.now.last in
+    ensures { let b = told_of seen.now.before in let l = told_of seen.now.last in
         result ≡ ((is_mark (codes "&") l || is_mark (codes "*") l || is_mark (codes "-") l)
         && not (is_punct_neighbour b && is_joint_neighbour b)
         && (is_nothing b || (is_punct_neighbour b && not (is_mark (codes "?") b)) || is_keyword b)) }
@@ -369,30 +399,34 @@ fn is_prefix(seen: &Seen<'_>) -> bool
 }
 
 /// `&`, `*` or `-`
-fn is_prefix_mark(last: &Neighbour<'_>) -> bool
-    ensures { let l = neighbour_of last.now in
+#[inline(always)]
+fn is_prefix_mark(last: &Told<'_>) -> bool
+    ensures { let l = told_of last.now in
         result ≡ (is_mark (codes "&") l || is_mark (codes "*") l || is_mark (codes "-") l) }
 {
     last.is_mark(b'&') || last.is_mark(b'*') || last.is_mark(b'-')
 }
 
-fn is_joint_punct(before: &Neighbour<'_>) -> bool
-    ensures { let b = neighbour_of before.now in
+#[inline(always)]
+fn is_joint_punct(before: &Told<'_>) -> bool
+    ensures { let b = told_of before.now in
         result ≡ (is_punct_neighbour b && is_joint_neighbour b) }
 {
     before.is_punct() && before.is_joint()
 }
 
 /// Whether it is no operand of an operator behind it
-fn has_no_operand(before: &Neighbour<'_>) -> bool
-    ensures { let b = neighbour_of before.now in
+#[inline(always)]
+fn has_no_operand(before: &Told<'_>) -> bool
+    ensures { let b = told_of before.now in
         result ≡ (is_nothing b || (is_punct_neighbour b && not (is_mark (codes "?") b)) || is_keyword b) }
 {
     before.is_nothing() || (before.is_punct() && !before.is_mark(b'?')) || before.is_keyword()
 }
 
-fn is_within_turbofish(seen: &Seen<'_>, next: &Neighbour<'_>) -> bool
-    ensures { let s = seen_of seen.now in let r = neighbour_of next.now in
+#[inline(always)]
+fn is_within_turbofish(seen: &Seen<'_>, next: &Told<'_>) -> bool
+    ensures { let s = seen_of seen.now in let r = told_of next.now in
         result ≡ (s.opens || opens_turbofish s r || ends_turbofish s r || (s.closes && is_paren r)) }
 {
     seen.opens
@@ -402,15 +436,17 @@ fn is_within_turbofish(seen: &Seen<'_>, next: &Neighbour<'_>) -> bool
 }
 
 /// The group of `name(..)` and `name[..]`, or one behind another
-fn is_call_or_index(seen: &Seen<'_>, next: &Neighbour<'_>) -> bool
-    ensures { let l = neighbour_of seen.now.last in let r = neighbour_of next.now in
+#[inline(always)]
+fn is_call_or_index(seen: &Seen<'_>, next: &Told<'_>) -> bool
+    ensures { let l = told_of seen.now.last in let r = told_of next.now in
         result ≡ ((is_paren r || is_bracket r) && (is_free_word l || is_paren l || is_bracket l)) }
 {
     (next.is_paren() || next.is_bracket()) && is_before_group(&seen.last)
 }
 
-fn is_before_group(last: &Neighbour<'_>) -> bool
-    ensures { let l = neighbour_of last.now in
+#[inline(always)]
+fn is_before_group(last: &Told<'_>) -> bool
+    ensures { let l = told_of last.now in
         result ≡ (is_free_word l || is_paren l || is_bracket l) }
 {
     last.is_free_word() || last.is_paren() || last.is_bracket()

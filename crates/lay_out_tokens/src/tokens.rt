@@ -13,15 +13,16 @@ ghost use Rattle.lay_node.specs.tokens.Pairs.{at_start};
 ghost use Rattle.lay_node.specs.tokens.Pairs as pairs;
 ghost use Rattle.lay_out_tokens.specs.Fed.{closed, closes_at_once, closing_space, empty_group, fed_closer, fed_gap};
 ghost use Rattle.lay_out_tokens.specs.Fed.{fed_opener, fed_token, opened, opening_space};
-ghost use Rattle.lay_out_tokens.specs.Neighbours.{neighbour_of, seen_of, separation_of};
+ghost use Rattle.lay_out_tokens.specs.Separations.{seen_of, separation_of, told_of};
 ghost use Rattle.lay_out_tokens.specs.Parts.{enclosed};
 
-use crate::neighbours::{Neighbour, kind_of};
+use crate::neighbours::kind_of;
 use crate::notation::{
     CLOSING_HARD_BREAK, CLOSING_SOFT_BREAK, CLOSING_SPACE_BREAK, HARD_BREAK, SOFT_BREAK,
     SPACE_BREAK,
 };
 use crate::separation::{Seen, Separation, between};
+use crate::told::Told;
 use crate::words::{put_doc, put_token};
 use lay_node::{Group, Listed, Tokens};
 use lay_stream::Emit;
@@ -86,8 +87,9 @@ fn put_list<E: Emit>(out: &mut E, tokens: &[Listed]) -> Result<bool, E::Fault>
     let mut seen = Seen::at_start(0);
     let mut rest = tokens;
     while let Some((token, more)) = rest.split_first() {
-        put_next(out, &seen, token, more)?;
-        seen = seen.behind(token);
+        let next = Told::single(token);
+        put_next(out, &seen, token, &next, more)?;
+        seen = seen.behind(token, next);
         rest = more;
     }
     Ok(seen.last.is_line_doc())
@@ -95,19 +97,22 @@ fn put_list<E: Emit>(out: &mut E, tokens: &[Listed]) -> Result<bool, E::Fault>
 
 /// One token, which others follow.
 #[tactic(auto, unfolding(crate::specs::Fed::fed_token))]
+#[inline(always)]
 fn put_next<E: Emit>(
     out: &mut E,
     seen: &Seen<'_>,
     token: &Listed,
+    next: &Told<'_>,
     more: &[Listed],
 ) -> Result<(), E::Fault>
-    requires { IsNested (E.meanings.groups out.old) (fed_token (seen_of seen.now) token.now more.now) }
+    requires told { told_of next.now ≡ pairs.Single token.now }
+    requires nested { IsNested (E.meanings.groups out.old) (fed_token (seen_of seen.now) token.now more.now) }
     ensures { Did E.meanings out.old (fed_token (seen_of seen.now) token.now more.now) result out.new }
 {
     match kind_of(token) {
         Kind::Opener(delim) => put_opener(out, seen, delim, closes_at_once(more)),
         Kind::Closer(delim) => put_closer(out, seen, delim),
-        _ => put_single(out, seen, token),
+        _ => put_single(out, seen, token, next),
     }
 }
 
@@ -128,6 +133,7 @@ fn is_closer(kind: Kind) -> bool
 }
 
 /// What opens a group, or all of a group without tokens.
+#[inline(always)]
 fn put_opener<E: Emit>(
     out: &mut E,
     seen: &Seen<'_>,
@@ -137,7 +143,7 @@ fn put_opener<E: Emit>(
     ensures { let gap = fed_gap (pairs.between (seen_of seen.now) (pairs.Enclosed delim)) in
         Did E.meanings out.old (gap ++ fed_opener empty delim) result out.new }
 {
-    put_gap(out, between(seen, &Neighbour::Enclosed(delim)))?;
+    put_gap(out, between(seen, &Told::enclosed(delim)))?;
     if empty {
         return put_empty_group(out, delim);
     }
@@ -145,6 +151,7 @@ fn put_opener<E: Emit>(
 }
 
 /// What closes a group, unless it has no tokens.
+#[inline(always)]
 fn put_closer<E: Emit>(out: &mut E, seen: &Seen<'_>, delim: Delim) -> Result<(), E::Fault>
     requires { IsNested (E.meanings.groups out.old) (fed_closer (seen_of seen.now) delim) }
     ensures { Did E.meanings out.old (fed_closer (seen_of seen.now) delim) result out.new }
@@ -156,11 +163,18 @@ fn put_closer<E: Emit>(out: &mut E, seen: &Seen<'_>, delim: Delim) -> Result<(),
 }
 
 /// A token that is no delimiter.
-fn put_single<E: Emit>(out: &mut E, seen: &Seen<'_>, token: &Listed) -> Result<(), E::Fault>
+#[inline(always)]
+fn put_single<E: Emit>(
+    out: &mut E,
+    seen: &Seen<'_>,
+    token: &Listed,
+    next: &Told<'_>,
+) -> Result<(), E::Fault>
+    requires { told_of next.now ≡ pairs.Single token.now }
     ensures { let gap = fed_gap (pairs.between (seen_of seen.now) (pairs.Single token.now)) in
         Did E.meanings out.old (gap ++ stream_of (listed_form token.now Done)) result out.new }
 {
-    put_gap(out, between(seen, &Neighbour::Single(token)))?;
+    put_gap(out, between(seen, next))?;
     put_listed(out, token)
 }
 

@@ -15,6 +15,17 @@ pub enum ReadNone {
     NoMemory,
 }
 
+/// An empty list with room for so many items, and for no more.
+pub fn room_for<T>(alloc: Global, count: usize) -> Result<List<T>, ReadNone>
+    ensures ok { IfOk result (λ list. list ≡ []) }
+    ensures err { IfErr result (λ none. none ≡ ReadNone.NoMemory) }
+{
+    match Vec::with_capacity(alloc, count) {
+        Ok(items) => Ok(List::from_vec(items)),
+        Err(_) => Err(ReadNone::NoMemory),
+    }
+}
+
 /// Adds an item at the end.
 pub fn keep<T: Drop>(list: &mut List<T>, item: T) -> Result<(), ReadNone>
     ensures ok { OnOk result (list.new ≡ list.old ++ item ∷ []) }

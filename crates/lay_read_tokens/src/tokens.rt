@@ -10,7 +10,7 @@ ghost use Rattle.lay_read_tokens.specs.Answers.{AreAdded, AreListed, IsGot, IsLa
 
 use crate::ahead::Ahead;
 use crate::front::is_at_mark;
-use crate::stop::{ReadNone, copy_of, keep};
+use crate::stop::{ReadNone, copy_of, keep, room_for};
 use lay_node::{Group, Listed, Tokens};
 use lay_token::{Delim, DocForm, Kind, List, Text, Token, doc_form};
 use std::alloc::Global;
@@ -95,7 +95,7 @@ fn list_of(alloc: Global, tokens: &[Token]) -> Result<Tokens, ReadNone>
     requires { Balanced tokens.now }
     ensures { AreListed tokens.now result }
 {
-    let mut list = List::new(alloc);
+    let mut list = room_for(alloc, tokens.len())?;
     add_tokens(alloc, &mut list, tokens)?;
     Ok(Tokens::new(list))
 }

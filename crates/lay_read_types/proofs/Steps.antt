@@ -1,13 +1,11 @@
 -- One step of a reader, from what the readers within it give.
-use Rattle.std.proofs.Common.{◌≡◌, ℕ, suc, ◌-◌, ◌<◌, true, false, refl, codes, arith, length, is_some, option_map, Result, List, [], ◌∷◌, Option, Some, None, sym, ap, ◌∙◌}
+use Rattle.std.proofs.Common.{◌≡◌, ℕ, suc, ◌-◌, ◌<◌, true, false, refl, codes, arith, is_some, option_map, Result, List, Option, Some, None, sym, ap, ◌∙◌}
 use Rattle.lay_node.specs.Ahead.{Tokens, first, tail, is_mark}
 use Rattle.lay_node.specs.Begins.{lead_at}
 use Rattle.lay_node.specs.nodes.Types.{ArgsFacts, about_args, about_type}
 use Rattle.lay_node.specs.reader.Loops.{Read, elements}
-use Rattle.lay_node.specs.reader.Types.{Within, within, angle, one_arg, returns_last, type_at, type_by, constraint_by}
-use Rattle.lay_node.specs.declared.token.Word.{Word}
+use Rattle.lay_node.specs.reader.Types.{Within, within, angle, one_arg, type_at, type_by, constraint_by}
 use Rattle.lay_node.specs.declared.types.Arg.{Arg}
-use Rattle.lay_node.specs.declared.types.Args.{Args}
 use Rattle.lay_node.specs.declared.types.Args.TheVariants as args
 use Rattle.lay_node.specs.declared.types.Ty.{Ty}
 use Rattle.lay_node.specs.declared.types.TypePlace.{TypePlace}

@@ -65,6 +65,7 @@ impl<
     }
 
     /// What a type among generic arguments is: the argument, or a name of which something is asked behind it.
+    #[inline(never)]
     fn arg_rest(&self, at: &mut Ahead<'_>, ty: Found<Ty>) -> Result<Found<Arg>, ReadNone>
         requires deeper { AreDeeper self.now.depth (F.pre self.now.types) (F.post self.now.types) (G.pre self.now.constraints) (G.post self.now.constraints) }
         requires within { ty.need ≤ self.now.depth }

@@ -12,6 +12,7 @@ ghost use Rattle.lay_read_tokens.specs.Answers.{IsFound, IsGot, IsMade};
 ghost use Rattle.lay_read_parts.specs.Answers.{gathered, gathered_open};
 ghost use Rattle.lay_read_types.specs.Answers.{AreDeeper, marked, path_or_call};
 
+use crate::passed::takes_simple_path;
 use crate::rules::Rules;
 use lay_node::{Constraint, FuncParam, GivenName, PathStyle, Ty, TypePlace};
 use lay_read_parts::joins::{both, prepended, refused};
@@ -25,7 +26,6 @@ use lay_read_tokens::front::{
     pass, pass_two, takes_closer, takes_keyword, takes_mark, takes_op, takes_opener,
 };
 use lay_read_tokens::names::read_given_name;
-use lay_read_tokens::simple_paths::read_simple_path;
 use lay_read_tokens::stop::boxed;
 use lay_read_tokens::tokens::read_tokens;
 use lay_read_tokens::{Ahead, Found, ReadNone};
@@ -120,6 +120,7 @@ impl<
 
     /// What stands behind a `(`.
     #[tactic(auto, unfolding(lay_node::specs::reader::Types::paren_type))]
+    #[inline(never)]
     fn paren_type(&self, at: &mut Ahead<'_>) -> Result<Found<Ty>, ReadNone>
         requires deeper { AreDeeper self.now.depth (F.pre self.now.types) (F.post self.now.types) (G.pre self.now.constraints) (G.post self.now.constraints) }
         requires room { self.now.depth + 1 < 2 ^ 32 }
@@ -166,6 +167,7 @@ impl<
 
     /// What stands behind a `[`.
     #[tactic(auto, unfolding(lay_node::specs::reader::Types::bracket_type))]
+    #[inline(never)]
     fn bracket_type(&self, at: &mut Ahead<'_>) -> Result<Found<Ty>, ReadNone>
         requires deeper { AreDeeper self.now.depth (F.pre self.now.types) (F.post self.now.types) (G.pre self.now.constraints) (G.post self.now.constraints) }
         requires room { self.now.depth + 1 < 2 ^ 32 }
@@ -189,6 +191,7 @@ impl<
 
     /// What stands behind a `&`.
     #[tactic(auto, unfolding(lay_node::specs::reader::Types::reference_type))]
+    #[inline(never)]
     fn reference_type(&self, at: &mut Ahead<'_>) -> Result<Found<Ty>, ReadNone>
         requires deeper { AreDeeper self.now.depth (F.pre self.now.types) (F.post self.now.types) (G.pre self.now.constraints) (G.post self.now.constraints) }
         requires room { self.now.depth + 1 < 2 ^ 32 }
@@ -252,6 +255,7 @@ impl<
     }
 
     /// A macro call, or a path.
+    #[inline(never)]
     fn path_or_call(&self, at: &mut Ahead<'_>) -> Result<Found<Ty>, ReadNone>
         requires deeper { AreDeeper self.now.depth (F.pre self.now.types) (F.post self.now.types) (G.pre self.now.constraints) (G.post self.now.constraints) }
         requires room { self.now.depth + 1 < 2 ^ 32 }
@@ -349,6 +353,7 @@ impl<
 
     /// A function type.
     #[tactic(auto, unfolding(lay_node::specs::reader::Types::func_type))]
+    #[inline(never)]
     fn func_type(&self, at: &mut Ahead<'_>) -> Result<Found<Ty>, ReadNone>
         requires deeper { AreDeeper self.now.depth (F.pre self.now.types) (F.post self.now.types) (G.pre self.now.constraints) (G.post self.now.constraints) }
         requires room { self.now.depth + 1 < 2 ^ 32 }
@@ -411,16 +416,12 @@ fn array(alloc: Global, at: &mut Ahead<'_>, element: Found<Ty>) -> Result<Found<
     })
 }
 
-/// Whether a macro call begins at the front: a path of words before a `!`.
+/// Whether a macro call begins at the front: a path of words before a `!`. Nothing of it is kept, so no memory is taken.
 pub fn begins_call(alloc: Global, at: &Ahead<'_>) -> Result<bool, ReadNone>
     ensures { IsMade (reader.begins_call at.now) result }
 {
     let mut behind = at.fork();
-    match read_simple_path(alloc, &mut behind) {
-        Ok(_) => Ok(behind.op_is(b"!")),
-        Err(ReadNone::NoReading) => Ok(false),
-        Err(ReadNone::NoMemory) => Err(ReadNone::NoMemory),
-    }
+    Ok(takes_simple_path(&mut behind) && behind.op_is(b"!"))
 }
 
 /// The name of a parameter and the `:` behind it, if they stand there.

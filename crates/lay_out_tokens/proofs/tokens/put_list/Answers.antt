@@ -2,7 +2,7 @@ use Rattle.std.proofs.Common.{length, refl, ap, ◌∙◌, arith}
 use Rattle.lay_stream.proofs.Calls.{last, stream_on, stream_leave, level_of, no_call}
 use Rattle.lay_node.specs.tokens.Pairs.{Seen, is_line_doc}
 use Rattle.lay_out_tokens.specs.Fed.{fed_tokens, seen_over}
-use Rattle.lay_out_tokens.specs.Neighbours.{seen_of}
+use Rattle.lay_out_tokens.specs.Separations.{seen_of}
 use Rattle.lay_out_tokens.proofs.TokenFeeds.{list_fed, list_seen, list_nested, step_fed, step_seen, step_nested}
 use Rattle.lay_out_tokens.proofs.TokenFeeds.{end_fed, end_seen}
 use Rattle.lay_out_tokens.proofs.tokens.put_list.Goals as goal
@@ -16,9 +16,12 @@ loop-token-init g c = record {
 }
 
 pub put_next-requires : goal.put_next-requires
-put_next-requires g c =
-    (step_nested (seen_of c.loop-token.seen) c.in-Some.token.now c.in-Some.more.now _ _ _ _
-    c.in-Some.ensures.cases.0 c.loop-token.invariant.nested refl refl).0
+put_next-requires g c = record {
+  told = c.single-next.ensures;
+  nested =
+      (step_nested (seen_of c.loop-token.seen) c.in-Some.token.now c.in-Some.more.now _ _ _ _
+      c.in-Some.ensures.cases.0 c.loop-token.invariant.nested refl refl).0;
+}
 
 pub returns-in_err-put_next-clause-did : goal.returns-in_err-put_next-clause-did
 returns-in_err-put_next-clause-did g c =

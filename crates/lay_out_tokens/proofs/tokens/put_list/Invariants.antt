@@ -3,7 +3,7 @@ use Rattle.lay_layout.specs.Machine.{IsNested}
 use Rattle.lay_stream.specs.Fed.{Did}
 use Rattle.lay_node.specs.tokens.Pairs.{at_start}
 use Rattle.lay_out_tokens.specs.Fed.{fed_tokens, seen_over}
-use Rattle.lay_out_tokens.specs.Neighbours.{seen_of}
+use Rattle.lay_out_tokens.specs.Separations.{seen_of}
 use Rattle.lay_out_tokens.proofs.tokens.put_list.Given as goal
 
 -- calls that put the rest, put all; the rest closes no group that it doesn't open

@@ -1,8 +1,9 @@
 use Rattle.std.proofs.Common.{◌≡◌, Bool, true, false, ◌++◌, sym, ap, ◌∙◌}
 use Rattle.lay_piece.specs.declared.kind.Delim.{Delim}
 use Rattle.lay_stream.proofs.Calls.{last, stream_on, stream_leave}
-use Rattle.lay_node.specs.tokens.Pairs.{Separation}
+use Rattle.lay_node.specs.tokens.Pairs.{Separation, between}
 use Rattle.lay_out_tokens.specs.Fed.{empty_group, fed_gap, fed_opener, opened}
+use Rattle.lay_out_tokens.specs.Separations.{seen_of}
 use Rattle.lay_out_tokens.proofs.tokens.put_opener.Goals as goal
 
 at_once : (x y : Separation) (empty : Bool) (d : Delim) → x ≡ y → empty ≡ true
@@ -18,14 +19,14 @@ later x y empty d e h =
 pub returns-in_err-put_gap : goal.returns-in_err-put_gap
 returns-in_err-put_gap g c =
     last (stream_leave _ c.in_err-put_gap.ensures c.from_residual.ensures.1)
-    (ap (λ (z : Separation). fed_gap z ++ fed_opener c.args.empty c.args.delim) c.between.ensures)
+    (ap (λ (z : Separation). fed_gap z ++ fed_opener c.args.empty c.args.delim) (c.between.ensures ∙ ap (between (seen_of c.args.seen.now)) c.enclosed.ensures))
 
 pub returns-then-empty : goal.returns-then-empty
 returns-then-empty g c =
     last (stream_on c.in_ok-put_gap.ensures c.put_empty_group.ensures)
-    (at_once _ _ c.args.empty c.args.delim c.between.ensures c.if-empty.true)
+    (at_once _ _ c.args.empty c.args.delim (c.between.ensures ∙ ap (between (seen_of c.args.seen.now)) c.enclosed.ensures) c.if-empty.true)
 
 pub returns : goal.returns
 returns g c =
     last (stream_on c.in_ok-put_gap.ensures c.open_group.ensures)
-    (later _ _ c.args.empty c.args.delim c.between.ensures c.if-empty.false)
+    (later _ _ c.args.empty c.args.delim (c.between.ensures ∙ ap (between (seen_of c.args.seen.now)) c.enclosed.ensures) c.if-empty.false)

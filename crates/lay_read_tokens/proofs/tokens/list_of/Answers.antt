@@ -7,5 +7,5 @@ use Rattle.lay_read_tokens.proofs.tokens.list_of.Goals as goal
 pub new-requires : goal.new-requires
 new-requires c =
     ap is_balanced (c.in_ok-add_tokens.ensures.0 ∙ ap (λ (us : List Listed). us ++ map as_listed c.args.tokens.now)
-    c.new-list.ensures)
+    c.in_ok-list.ensures.ok)
     ∙ balanced_listed c.args.tokens.now c.requires
