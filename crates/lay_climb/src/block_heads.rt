@@ -4,7 +4,7 @@ ghost use Rattle.lay_read_tokens.specs.Answers.{IsFound};
 ghost use Rattle.lay_read_shared.specs.Code.{code_within};
 ghost use Rattle.lay_read_blocks.specs.Answers.{AreCode, block_head, fits};
 
-use lay_code::{Block, Expr, Item, Place, Site};
+use lay_code::{Block, Boxed, Expr, Item, Place, Site};
 use lay_ops::operands::ExprLead;
 use lay_read_blocks::BlockRules;
 use lay_read_tokens::{Ahead, Found, ReadNone};
@@ -24,14 +24,14 @@ pub trait BlockHeads {
         at: &mut Ahead<'_>,
         no_struct: bool,
         lead: ExprLead,
-    ) -> Result<Found<Expr>, ReadNone>
+    ) -> Result<Found<Boxed<Expr>>, ReadNone>
         requires { are_ready self.now }
         ensures read { IsFound (fits (depth self.now + 1) (block_head (code_within (depth self.now)) no_struct lead at.old)) result at.new }
         ensures within { IfOk result (λ found. found.need ≤ depth self.now + 1) };
 }
 
 impl<
-    P: Fn(Global, &mut Ahead<'_>, Place, u32) -> Result<Found<Expr>, ReadNone>,
+    P: Fn(Global, &mut Ahead<'_>, Place, u32) -> Result<Found<Boxed<Expr>>, ReadNone>,
     B: Fn(Global, &mut Ahead<'_>, u32) -> Result<Found<Block>, ReadNone>,
     I: Fn(Global, &mut Ahead<'_>, Site, u32) -> Result<Found<Item>, ReadNone>,
 > BlockHeads for BlockRules<P, B, I> {
@@ -44,7 +44,7 @@ impl<
         at: &mut Ahead<'_>,
         no_struct: bool,
         lead: ExprLead,
-    ) -> Result<Found<Expr>, ReadNone> {
+    ) -> Result<Found<Boxed<Expr>>, ReadNone> {
         BlockRules::block_head(self, at, no_struct, lead)
     }
 }

@@ -1,5 +1,5 @@
 //! Expressions: what begins one, and the operators behind it, from the strongest on.
-ghost use Rattle.std.specs.Prelude.{◌≡◌, ◌+◌, ◌<◌, ◌≤◌, nat_le, nat_lt, ◌&&◌, Some, IfErr, IfOk};
+ghost use Rattle.std.specs.Prelude.{◌≡◌, ◌+◌, ◌<◌, ◌≤◌, nat_le, nat_lt, ◌&&◌, IfOk};
 ghost use Rattle.lay_code.specs.Operators as operators;
 ghost use Rattle.lay_code.specs.nodes.Exprs as nodes;
 ghost use Rattle.lay_code.specs.nodes.Code.{about_expr};
@@ -17,7 +17,6 @@ use lay_ops::{is_block_like, stands};
 use lay_read_exprs::ExprRules;
 use lay_read_parts::joins::refused;
 use lay_read_shared::places::before_op;
-use lay_read_tokens::stop::boxed;
 use lay_read_tokens::{Ahead, Found, ReadNone};
 use std::alloc::Global;
 
@@ -74,14 +73,14 @@ fn root_follows(at: &Ahead<'_>, place: Place, expr: &Expr) -> bool
 fn accepted(
     at: &Ahead<'_>,
     place: Place,
-    found: Found<Expr>,
+    found: Found<Boxed<Expr>>,
     budget: u32,
-) -> Result<Found<Expr>, ReadNone>
+) -> Result<Found<Boxed<Expr>>, ReadNone>
     ensures read { IsFound (reader.accepted budget place (found.node, found.need) at.now) result at.now }
     ensures within { IfOk result (λ read. read.need ≤ budget) }
 {
-    let passes = stands(&found.node, place)
-        && root_follows(at, place, &found.node)
+    let passes = stands(found.node.get(), place)
+        && root_follows(at, place, found.node.get())
         && found.need <= budget;
     if passes { Ok(found) } else { refused(found) }
 }
@@ -94,27 +93,14 @@ fn goes_on(at: &Ahead<'_>, place: Place, reached: u8) -> bool
     place.level < strength && strength <= reached
 }
 
-/// What was found, in a box, as what may be there.
-fn boxed_there<T: Drop>(alloc: Global, found: Found<T>) -> Result<Found<Option<Boxed<T>>>, ReadNone>
-    ensures node { IfOk result (λ there. there.node ≡ Some found.node) }
-    ensures need { IfOk result (λ there. there.need ≡ found.need) }
-    ensures err { IfErr result (λ none. none ≡ ReadNone.NoMemory) }
-{
-    let node = boxed(alloc, found.node)?;
-    Ok(Found {
-        node: Some(node),
-        need: found.need,
-    })
-}
-
 impl<
-    P: Fn(Global, &mut Ahead<'_>, Place, u32) -> Result<Found<Expr>, ReadNone>,
+    P: Fn(Global, &mut Ahead<'_>, Place, u32) -> Result<Found<Boxed<Expr>>, ReadNone>,
     H: BlockHeads,
 > Climber<P, H> {
     /// An expression at a place, with what is within it one level deeper.
     #[tactic(auto, unfolding(lay_code::specs::reader::Exprs::expr_by))]
     #[inline(never)]
-    pub fn expr_by(&self, at: &mut Ahead<'_>, place: Place) -> Result<Found<Expr>, ReadNone>
+    pub fn expr_by(&self, at: &mut Ahead<'_>, place: Place) -> Result<Found<Boxed<Expr>>, ReadNone>
         requires deeper { AreExprs self.now.rules.depth (P.pre self.now.rules.exprs) (P.post self.now.rules.exprs) }
         requires heads { H.are_ready self.now.heads }
         requires same { H.depth self.now.heads ≡ self.now.rules.depth }
@@ -122,7 +108,7 @@ impl<
         ensures within { IfOk result (λ found. found.need ≤ self.now.rules.depth + 1) }
     {
         let head = self.head(at, place.no_struct)?;
-        if is_ended(at, place, &head.node) {
+        if is_ended(at, place, head.node.get()) {
             accepted(at, place, head, self.rules.depth + 1)
         } else {
             self.climb(at, place, head)
@@ -135,8 +121,8 @@ impl<
         &self,
         at: &mut Ahead<'_>,
         place: Place,
-        head: Found<Expr>,
-    ) -> Result<Found<Expr>, ReadNone>
+        head: Found<Boxed<Expr>>,
+    ) -> Result<Found<Boxed<Expr>>, ReadNone>
         requires deeper { AreExprs self.now.rules.depth (P.pre self.now.rules.exprs) (P.post self.now.rules.exprs) }
         requires within { head.need ≤ self.now.rules.depth + 1 }
         ensures read { IsFound (climbed (code_within self.now.rules.depth) (self.now.rules.depth + 1) place 14 (head.node, head.need) at.old) result at.new }
@@ -159,14 +145,14 @@ impl<
         at: &mut Ahead<'_>,
         place: Place,
         level: u8,
-        lhs: Found<Expr>,
-    ) -> Result<Found<Expr>, ReadNone>
+        lhs: Found<Boxed<Expr>>,
+    ) -> Result<Found<Boxed<Expr>>, ReadNone>
         requires deeper { AreExprs self.now.rules.depth (P.pre self.now.rules.exprs) (P.post self.now.rules.exprs) }
         requires level { level < 14 }
         ensures read { IsFound (climb_once (code_within self.now.rules.depth) (self.now.rules.depth + 1) place level (lhs.node, lhs.need) at.old) result at.new }
         ensures within { IfOk result (λ found. found.need ≤ self.now.rules.depth + 1) }
     {
-        if lhs.need > self.rules.depth || !stands(&lhs.node, left_place(at, place, level)) {
+        if lhs.need > self.rules.depth || !stands(lhs.node.get(), left_place(at, place, level)) {
             return refused(lhs);
         }
         self.stage(at, level, place.no_struct, lhs)
@@ -179,8 +165,8 @@ impl<
         at: &mut Ahead<'_>,
         level: u8,
         no_struct: bool,
-        lhs: Found<Expr>,
-    ) -> Result<Found<Expr>, ReadNone>
+        lhs: Found<Boxed<Expr>>,
+    ) -> Result<Found<Boxed<Expr>>, ReadNone>
         requires deeper { AreExprs self.now.rules.depth (P.pre self.now.rules.exprs) (P.post self.now.rules.exprs) }
         requires level { level < 14 }
         requires within { lhs.need ≤ self.now.rules.depth }
@@ -190,7 +176,10 @@ impl<
         match level {
             0 => self.rules.assign_expr(at, no_struct, lhs),
             1 => {
-                let start = boxed_there(self.rules.alloc, lhs)?;
+                let start = Found {
+                    node: Some(lhs.node),
+                    need: lhs.need,
+                };
                 self.rules.range_expr(at, no_struct, start)
             }
             11 => self.rules.cast_expr(at, lhs),

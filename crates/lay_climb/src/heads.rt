@@ -10,36 +10,34 @@ ghost use Rattle.lay_read_exprs.specs.Answers.{AreExprs};
 
 use crate::block_heads::BlockHeads;
 use crate::climb::Climber;
-use lay_code::{Expr, Place};
+use lay_code::{Boxed, Expr, Place};
 use lay_ops::ahead::expr_lead_at;
 use lay_ops::operands::ExprLead;
 use lay_read_parts::leads::is_at_literal;
 use lay_read_parts::parts::read_literal;
+use lay_read_shared::boxes::boxed_found;
 use lay_read_tokens::front::pass;
 use lay_read_tokens::{Ahead, Found, ReadNone};
 use std::alloc::Global;
 
 /// A literal.
 #[tactic(auto, using(lay_read_parts::proofs::Steps::literal_is))]
-fn literal_expr(alloc: Global, at: &mut Ahead<'_>) -> Result<Found<Expr>, ReadNone>
+fn literal_expr(alloc: Global, at: &mut Ahead<'_>) -> Result<Found<Boxed<Expr>>, ReadNone>
     ensures read { IsFound (reader.literal_expr at.old) result at.new }
     ensures within { IfOk result (λ found. found.need ≡ 1) }
 {
     let passes = is_at_literal(at);
     let literal = read_literal(alloc, at, passes)?;
-    Ok(Found {
-        node: Expr::Lit { literal },
-        need: 1,
-    })
+    boxed_found(alloc, Expr::Lit { literal }, 1)
 }
 
 impl<
-    P: Fn(Global, &mut Ahead<'_>, Place, u32) -> Result<Found<Expr>, ReadNone>,
+    P: Fn(Global, &mut Ahead<'_>, Place, u32) -> Result<Found<Boxed<Expr>>, ReadNone>,
     H: BlockHeads,
 > Climber<P, H> {
     /// What begins an expression, without the operators behind it, unless it is deeper than may be.
     #[inline(never)]
-    pub fn head(&self, at: &mut Ahead<'_>, no_struct: bool) -> Result<Found<Expr>, ReadNone>
+    pub fn head(&self, at: &mut Ahead<'_>, no_struct: bool) -> Result<Found<Boxed<Expr>>, ReadNone>
         requires deeper { AreExprs self.now.rules.depth (P.pre self.now.rules.exprs) (P.post self.now.rules.exprs) }
         requires heads { H.are_ready self.now.heads }
         requires same { H.depth self.now.heads ≡ self.now.rules.depth }
@@ -59,7 +57,7 @@ impl<
         at: &mut Ahead<'_>,
         no_struct: bool,
         lead: ExprLead,
-    ) -> Result<Found<Expr>, ReadNone>
+    ) -> Result<Found<Boxed<Expr>>, ReadNone>
         requires deeper { AreExprs self.now.rules.depth (P.pre self.now.rules.exprs) (P.post self.now.rules.exprs) }
         requires heads { H.are_ready self.now.heads }
         requires same { H.depth self.now.heads ≡ self.now.rules.depth }

@@ -1,10 +1,11 @@
 -- What a rule gives, from what each of its steps gives.
-use Rattle.std.proofs.Common.{◌≡◌, ℕ, suc, Bool, true, false, List, drop, codes, Option, Some, None, refl, ap, ◌∙◌, if◌then◌else◌}
+use Rattle.std.proofs.Common.{◌≡◌, ◌≤◌, ℕ, suc, Bool, true, false, List, ◌∷◌, drop, codes, Option, Some, None, is_some, Result, Ok, Err, IfOk, refl, ap, ◌∙◌, if◌then◌else◌, arith}
 use Rattle.std.specs.Prelude.{max}
 use Rattle.lay_token.specs.Operators.{is_op}
 use Rattle.lay_piece.specs.declared.kind.Delim.TheVariants.{Brace}
 use Rattle.lay_node.specs.Ahead.{Tokens, first, tail, is_keyword, is_mark, opens, closes, more_items}
 use Rattle.lay_node.specs.reader.Attr.{attributes}
+use Rattle.lay_node.specs.reader.Heads.{semicolon}
 use Rattle.lay_node.specs.reader.Loops.{Read, ◌>>=◌, nodes, deepest, elements, repeat}
 use Rattle.lay_node.specs.reader.Types.{if_read, lifetime}
 use Rattle.lay_node.specs.declared.attr.Attr.{Attr}
@@ -13,23 +14,115 @@ use Rattle.lay_node.specs.declared.patterns.PatPlace.TheVariants.{Single}
 use Rattle.lay_node.specs.declared.token.Lifetime.{Lifetime}
 use Rattle.lay_node.specs.declared.types.Ty.{Ty}
 use Rattle.lay_node.specs.declared.types.TypePlace.TheVariants.{Bounds}
-use Rattle.lay_code.specs.reader.Blocks.{behind_semicolons, block_by, branch_by, condition_by, let_stmt, stmt_in_block}
-use Rattle.lay_code.specs.reader.Exprs.{closure_body, closure_expr, closure_param, label_expr, labelled_expr, while_expr}
+use Rattle.lay_code.specs.nodes.Places.{FREE}
+use Rattle.lay_code.specs.reader.Blocks.{behind_semicolons, block_by, branch_by, condition_by, else_stands, let_stmt, stmt_in_block}
+use Rattle.lay_code.specs.reader.Exprs.{begins_else_if, closure_body, closure_expr, closure_param, if_expr, label_expr, labelled_expr, while_expr}
 use Rattle.lay_code.specs.reader.Within.{ExprWithin}
 use Rattle.lay_code.specs.declared.blocks.Block.{Block}
 use Rattle.lay_code.specs.declared.blocks.Branch.{Branch}
 use Rattle.lay_code.specs.declared.blocks.Stmt.{Stmt}
+use Rattle.lay_code.specs.declared.blocks.Stmt.TheVariants as stmt
 use Rattle.lay_code.specs.declared.exprs.ClosureParam.{ClosureParam}
 use Rattle.lay_code.specs.declared.exprs.Expr.{Expr}
 use Rattle.lay_code.specs.declared.exprs.Expr.TheVariants as expr
-use Rattle.lay_read_blocks.specs.Answers.{let_behind}
+use Rattle.lay_read_tokens.specs.Answers.{AreFound, IsFound, IsHeld}
+use Rattle.lay_read_tokens.proofs.Steps.{lost}
+use Rattle.lay_read_tokens.specs.declared.found.Found.{Found}
+use Rattle.lay_read_tokens.specs.declared.stop.ReadNone.{ReadNone}
+use Rattle.lay_read_tokens.specs.declared.stop.ReadNone.TheVariants.{NoReading, NoMemory}
+use Rattle.lay_read_blocks.specs.Answers.{AreBranches, branches, let_behind, let_head, let_of}
+
+-- What is read step by step, and then goes on, goes on in each step.
+step : {A B C : Type 0} (o : Option A) (f : A → Option C) (g : A → Option B) (h : B → Option C) → ((x : A) → f x ≡ (g x >>= h))
+    → (o >>= f) ≡ ((o >>= g) >>= h)
+step None f g h e = refl
+step (Some x) f g h e = e x
+
+-- What is put together needs no more than its parts.
+pub let_in : (attrs : List Attr) (head : Found (Pat × Option Ty)) (r : Result (Found (Option Expr × Option Block)) ReadNone) (depth : ℕ)
+    → head.need ≤ depth → IfOk r (λ found. found.need ≤ depth) → IfOk (let_of attrs head r) (λ found. found.need ≤ depth)
+let_in attrs head (Ok behind) depth le less = omega (arith, le, less)
+let_in attrs head (Err none) depth le less = tt
+
+pub branches_in : (one : Found Branch) (more all : Result (Found (List Branch)) ReadNone) (depth : ℕ) → one.need ≤ depth
+    → IfOk more (λ found. found.need ≤ depth) → AreBranches one more all → IfOk all (λ found. found.need ≤ depth)
+branches_in one (Ok more) (Ok all) depth le less h = omega (arith, le, less, h.1)
+branches_in one (Ok more) (Err none) depth le less h = tt
+branches_in one (Err none) (Ok all) depth le less h = absurd h
+branches_in one (Err none) (Err other) depth le less h = tt
 
 module _ (within : ExprWithin) (ts : Tokens) where
-  pub let_is : (attrs : List Attr) (p : Pat × ℕ) (mid : Tokens) (t : Option Ty × ℕ) (left : Tokens) → within.pats Single ts ≡ Some (p, mid)
-      → if_read (is_op (codes ":") mid) (λ us. within.kinds.types Bounds (drop 1 us)) mid ≡ Some (t, left)
-      → let_stmt within attrs ts ≡ let_behind within attrs p t left
+  -- ---- `let`: what stands up to its type, and then what stands behind that
+
+  abbrev let_made : List Attr → (Pat × Option Ty) × ℕ → ((Option Expr × Option Block) × ℕ) × Tokens → Read Stmt
+  let_made attrs h b = Some ((stmt.Let attrs h.0.0 h.0.1 b.0.0.0 b.0.0.1, max h.1 b.0.1), b.1)
+
+  abbrev let_further : List Attr → ((Pat × Option Ty) × ℕ) × Tokens → Read Stmt
+  let_further attrs h = let_behind within h.1 >>= let_made attrs h.0
+
+  let_ended : (attrs : List Attr) (p : Pat × ℕ) (t : Option Ty × ℕ) (x : Option Expr × ℕ) (b : Option Block × ℕ) (stands : Bool) (o : Option Tokens)
+      → (o >>= (λ rest. let s : Read Stmt = if stands then Some ((stmt.Let attrs p.0 t.0 x.0 b.0, max p.1 (max t.1 (max x.1 b.1))), rest) else None in s))
+      ≡ ((o >>= (λ rest. let y : Read (Option Expr × Option Block) = if stands then Some (((x.0, b.0), max x.1 b.1), rest) else None in y))
+      >>= let_made attrs ((p.0, t.0), max p.1 t.1))
+  let_ended attrs p t x b stands None = refl
+  let_ended attrs p t x b true (Some rest) =
+      let same : max p.1 (max t.1 (max x.1 b.1)) ≡ max (max p.1 t.1) (max x.1 b.1) = omega arith in rw same refl
+  let_ended attrs p t x b false (Some rest) = refl
+
+  let_is : (attrs : List Attr) → let_stmt within attrs ts ≡ (let_head within ts >>= let_further attrs)
   unfolding let_stmt
-  let_is attrs p mid t left h k = rw (h, k) refl
+  let_is attrs = step (within.pats Single ts) _ _ (let_further attrs)
+      (λ p. step (if_read (is_op (codes ":") p.1) (λ us. within.kinds.types Bounds (drop 1 us)) p.1) _ _ (let_further attrs)
+      (λ t. step (if_read (is_op (codes "=") t.1) (λ us. within.exprs FREE (drop 1 us)) t.1) _ _ (let_made attrs ((p.0.0, t.0.0), max p.0.1 t.0.1))
+      (λ x. step (if_read (first (is_keyword (codes "else")) x.1) (λ us. within.blocks (tail us)) x.1) _ _
+      (let_made attrs ((p.0.0, t.0.0), max p.0.1 t.0.1))
+      (λ b. let_ended attrs p.0 t.0 x.0 b.0 (else_stands x.0.0 (is_some b.0.0)) (semicolon b.1)))))
+
+  pub let_none : (attrs : List Attr) → let_head within ts ≡ None → let_stmt within attrs ts ≡ None
+  let_none attrs h = let_is attrs ∙ ap (λ y. y >>= let_further attrs) h
+
+  pub let_read : (attrs : List Attr) (head : Found (Pat × Option Ty)) (mid : Tokens) (r : Result (Found (Option Expr × Option Block)) ReadNone)
+      (left : Tokens) → let_head within ts ≡ Some ((head.node, head.need), mid) → IsFound (let_behind within mid) r left
+      → IsFound (let_stmt within attrs ts) (let_of attrs head r) left
+  let_read attrs head mid (Ok behind) left h b =
+      let_is attrs ∙ ap (λ y. y >>= let_further attrs) h ∙ ap (λ y. y >>= let_made attrs (head.node, head.need)) b
+  let_read attrs head mid (Err NoReading) left h b =
+      let_is attrs ∙ ap (λ y. y >>= let_further attrs) h ∙ ap (λ y. y >>= let_made attrs (head.node, head.need)) b
+  let_read attrs head mid (Err NoMemory) left h b = tt
+
+  -- ---- branches
+
+  pub branches_none : branch_by within ts ≡ None → branches within ts ≡ None
+  branches_none h = rw h refl
+
+  pub branches_read : (one : Found Branch) (mid : Tokens) (more : Result (Found (List Branch)) ReadNone) (left : Tokens)
+      (all : Result (Found (List Branch)) ReadNone) → branch_by within ts ≡ Some ((one.node, one.need), mid)
+      → IsHeld AreFound (repeat begins_else_if (λ us. branch_by within (drop 2 us)) mid) more left → AreBranches one more all
+      → IsFound (branches within ts) all left
+  branches_read one mid (Ok more) left (Ok all) e h k = rw (e, h.1, h.2.0, h.2.1, k.0, k.1) refl
+  branches_read one mid (Ok more) left (Err none) e h k = rw k tt
+  branches_read one mid (Err none) left (Ok all) e h k = absurd k
+  branches_read one mid (Err none) left (Err other) e h k =
+      rw k (lost (repeat begins_else_if (λ us. branch_by within (drop 2 us)) mid) (branches within ts) none h (λ n. rw (e, n) refl))
+
+  -- ---- `if`: the branches, and then the block behind an `else`
+
+  abbrev if_further : (List Branch × ℕ) × Tokens → Read Expr
+  if_further xs = if_read (first (is_keyword (codes "else")) xs.1) (λ us. block_by within (tail us)) xs.1
+      >>= (λ o. Some ((expr.If xs.0.0 o.0.0, suc (max xs.0.1 o.0.1)), o.1))
+
+  otherwise_made : (bs : List Branch) (n m : ℕ) (o : Read (Option Block))
+      → (o >>= (λ o. let x : Read Expr = Some ((expr.If bs o.0.0, suc (max n (max m o.0.1))), o.1) in x))
+      ≡ (o >>= (λ o. Some ((expr.If bs o.0.0, suc (max (max n m) o.0.1)), o.1)))
+  otherwise_made bs n m None = refl
+  otherwise_made bs n m (Some o) = let same : max n (max m o.0.1) ≡ max (max n m) o.0.1 = omega arith in rw same refl
+
+  pub if_is : if_expr within ts ≡ (branches within ts >>= if_further)
+  unfolding if_expr
+  if_is = step (branch_by within ts) _ _ if_further
+      (λ b. step (repeat begins_else_if (λ us. branch_by within (drop 2 us)) b.1) _ _ if_further
+      (λ more. otherwise_made (b.0.0 ∷ nodes more.0) b.0.1 (deepest more.0)
+      (if_read (first (is_keyword (codes "else")) more.1) (λ us. block_by within (tail us)) more.1)))
 
   pub label_is : (x : Lifetime) (left : Tokens) → lifetime ts ≡ Some (x, left) → is_op (codes ":") left ≡ true
       → label_expr within ts ≡ labelled_expr within (Some x) (drop 1 left)

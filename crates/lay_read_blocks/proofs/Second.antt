@@ -1,10 +1,11 @@
 -- What was found behind something else, which is kept beside it.
-use Rattle.std.proofs.Common.{◌≡◌, ℕ, ◌≤◌, Some, Result, Ok, Err, IfOk, MatchResult, ap}
+use Rattle.std.proofs.Common.{◌≡◌, ℕ, ◌≤◌, Some, Result, Ok, Err, IfErr, IfOk, MatchResult, ap}
 use Rattle.lay_node.specs.Ahead.{Tokens}
 use Rattle.lay_node.specs.reader.Loops.{Got, Read}
 use Rattle.lay_read_tokens.specs.Answers.{IsFound, IsHeld, Stopped}
 use Rattle.lay_read_tokens.specs.declared.found.Found.{Found}
 use Rattle.lay_read_tokens.specs.declared.stop.ReadNone.{ReadNone}
+use Rattle.lay_read_tokens.specs.declared.stop.ReadNone.TheVariants.{NoMemory}
 
 module _ {A B : Type 0} (read : Read B) (first : A) (rest : Tokens) where
   pub second_stopped : (r : Result (Found B) ReadNone) (none : ReadNone)
@@ -37,3 +38,9 @@ pub second_held : {A B C : Type 0} (Holds : C → B → Type 0) (read : Got C) (
     → IsHeld Holds read r rest → (c : C) × (read ≡ Some (c, rest))
 second_held Holds read first rest (Ok x) a b m h = (h.0, h.1)
 second_held Holds read first rest (Err e) a b m h = absurd (cc)
+
+-- What was read is found, unless memory ran out for its box.
+pub boxed_read : {A : Type 0} (read : Read A) (node : A) (need : ℕ) (left : Tokens) (r : Result (Found A) ReadNone) → read ≡ Some ((node, need), left)
+    → IfOk r (λ found. found.node ≡ node) → IfOk r (λ found. found.need ≡ need) → IfErr r (λ none. none ≡ NoMemory) → IsFound read r left
+boxed_read read node need left (Ok found) h n m e = rw (n, m) h
+boxed_read read node need left (Err none) h n m e = rw e tt

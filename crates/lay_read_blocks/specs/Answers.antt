@@ -1,26 +1,27 @@
 -- What readers of blocks ask for and what they answer.
-use Rattle.std.specs.Prelude.{ℕ, suc, max, nat_le, ◌≡◌, true, false, ◌+◌, ◌^◌, ◌<◌, ◌≤◌, Bool, if◌then◌else◌, List, [], ◌∷◌, drop, codes, Option, Some, None, is_some, Result, IfOk}
+use Rattle.std.specs.Prelude.{ℕ, suc, max, nat_le, ◌≡◌, true, false, ◌+◌, ◌^◌, ◌<◌, ◌≤◌, Bool, if◌then◌else◌, List, [], ◌∷◌, drop, codes, Option, Some, None, is_some, Result, Ok, Err, IfOk}
 use Rattle.std.specs.declared.alloc.Global.{Global}
 use denote.Ref.{MutBor}
 use Rattle.lay_token.specs.Operators.{is_op}
 use Rattle.lay_node.specs.Ahead.{Tokens, first, tail, is_keyword}
 use Rattle.lay_node.specs.reader.Heads.{semicolon}
-use Rattle.lay_node.specs.reader.Loops.{Read, ◌>>=◌}
+use Rattle.lay_node.specs.reader.Loops.{Read, ◌>>=◌, nodes, deepest, repeat}
 use Rattle.lay_node.specs.reader.Types.{if_read}
 use Rattle.lay_node.specs.declared.attr.Attr.{Attr}
 use Rattle.lay_node.specs.declared.heads.Site.{Site}
 use Rattle.lay_node.specs.declared.patterns.Pat.{Pat}
-use Rattle.lay_node.specs.declared.patterns.PatPlace.TheVariants.{Alternatives}
+use Rattle.lay_node.specs.declared.patterns.PatPlace.TheVariants.{Alternatives, Single}
 use Rattle.lay_node.specs.declared.types.Ty.{Ty}
-use Rattle.lay_node.specs.declared.types.TypePlace.TheVariants.{NoBounds}
+use Rattle.lay_node.specs.declared.types.TypePlace.TheVariants.{Bounds, NoBounds}
 use Rattle.lay_code.specs.nodes.Places.{FREE, plain}
-use Rattle.lay_code.specs.reader.Blocks.{block_by, else_stands}
+use Rattle.lay_code.specs.reader.Blocks.{block_by, branch_by, else_stands}
 use Rattle.lay_code.specs.reader.Code.{code_in, expr_at, item_at}
-use Rattle.lay_code.specs.reader.Exprs.{closure_expr, if_expr, label_expr, labelled_expr, match_expr, block_word_expr}
+use Rattle.lay_code.specs.reader.Exprs.{async_expr, begins_else_if, block_expr, closure_expr, if_expr, label_expr, labelled_expr, match_expr, block_word_expr}
 use Rattle.lay_code.specs.reader.Item.{fn_body}
 use Rattle.lay_code.specs.reader.Within.{ExprWithin}
 use Rattle.lay_code.specs.declared.blocks.Arm.{Arm}
 use Rattle.lay_code.specs.declared.blocks.Block.{Block}
+use Rattle.lay_code.specs.declared.blocks.Branch.{Branch}
 use Rattle.lay_code.specs.declared.blocks.Stmt.{Stmt}
 use Rattle.lay_code.specs.declared.blocks.Stmt.TheVariants as stmt
 use Rattle.lay_code.specs.declared.exprs.ClosureParam.{ClosureParam}
@@ -35,6 +36,7 @@ use Rattle.lay_ops.specs.declared.operands.ExprLead.TheVariants as lead
 use Rattle.lay_read_tokens.specs.Answers.{IsFound}
 use Rattle.lay_read_tokens.specs.declared.found.Found.{Found}
 use Rattle.lay_read_tokens.specs.declared.stop.ReadNone.{ReadNone}
+use Rattle.lay_read_tokens.specs.declared.stop.ReadNone.TheVariants.{NoMemory}
 
 -- These functions read expressions, blocks behind an `else`, and items at this depth, and the depth one above is a number.
 pub record AreCode (depth : ℕ)
@@ -67,15 +69,26 @@ fits budget read = do x ← read; if nat_le x.0.1 budget then Some x else None
 
 -- ---- statements
 
--- what stands behind `let`, a pattern, and its type if it has one
-abbrev pub let_behind : ExprWithin → List Attr → Pat × ℕ → Option Ty × ℕ → Tokens → Read Stmt
-let_behind within attrs p t ts = do
+-- the pattern behind `let`, and its type if it has one
+abbrev pub let_head : ExprWithin → Tokens → Read (Pat × Option Ty)
+let_head within ts = do
+  p ← within.pats Single ts
+  t ← if_read (is_op (codes ":") p.1) (λ us. within.kinds.types Bounds (drop 1 us)) p.1
+  Some (((p.0.0, t.0.0), max p.0.1 t.0.1), t.1)
+
+-- what stands behind these: a value and a block behind an `else`, if they stand there, and a `;`
+abbrev pub let_behind : ExprWithin → Tokens → Read (Option Expr × Option Block)
+let_behind within ts = do
   x ← if_read (is_op (codes "=") ts) (λ us. within.exprs FREE (drop 1 us)) ts
   b ← if_read (first (is_keyword (codes "else")) x.1) (λ us. within.blocks (tail us)) x.1
   rest ← semicolon b.1
-  if else_stands x.0.0 (is_some b.0.0)
-      then Some ((stmt.Let attrs p.0 t.0 x.0.0 b.0.0, max p.1 (max t.1 (max x.0.1 b.0.1))), rest)
-      else None
+  if else_stands x.0.0 (is_some b.0.0) then Some (((x.0.0, b.0.0), max x.0.1 b.0.1), rest) else None
+
+-- a `let` of both
+abbrev pub let_of : List Attr → Found (Pat × Option Ty) → Result (Found (Option Expr × Option Block)) ReadNone → Result (Found Stmt) ReadNone
+let_of attrs head (Ok behind) =
+    Ok (record { node = stmt.Let attrs head.node.0 head.node.1 behind.node.0 behind.node.1; need = max head.need behind.need })
+let_of attrs head (Err none) = Err none
 
 -- the body of a function, or the `;` where it has none
 abbrev pub body_if : ExprWithin → Tokens → Read (Option Block)
@@ -89,6 +102,20 @@ matched within ts = do
   p ← within.pats Alternatives ts
   x ← (if is_op (codes "=") p.1 then within.exprs (plain 4 true) (drop 1 p.1) else None)
   Some (((Some p.0.0, x.0.0), max p.0.1 x.0.1), x.1)
+
+-- what stands behind an `if`, and the branches behind `else if`
+abbrev pub branches : ExprWithin → Tokens → Read (List Branch)
+branches within ts = do
+  b ← branch_by within ts
+  more ← repeat begins_else_if (λ us. branch_by within (drop 2 us)) b.1
+  Some ((b.0.0 ∷ nodes more.0, max b.0.1 (deepest more.0)), more.1)
+
+-- A branch and those behind it were put into one list, or memory ran out.
+abbrev pub AreBranches : Found Branch → Result (Found (List Branch)) ReadNone → Result (Found (List Branch)) ReadNone → Type 0
+AreBranches one (Ok more) (Ok all) = (all.node ≡ one.node ∷ more.node) × (all.need ≡ max one.need more.need)
+AreBranches one (Ok more) (Err none) = none ≡ NoMemory
+AreBranches one (Err none) (Ok all) = ⊥
+AreBranches one (Err none) (Err other) = other ≡ none
 
 -- ---- arms
 
@@ -108,6 +135,13 @@ typed_closure within moves params need ts = do
   Some ((expr.TypedClosure moves params t.0.0 b.0.0, suc (max need (max t.0.1 b.0.1))), b.1)
 
 -- ---- what begins an expression
+
+-- a block behind its `unsafe`, `const` or `async`
+abbrev pub worded_block : ExprWithin → Tokens → Read Expr
+worded_block within ts =
+    if first (is_keyword (codes "unsafe")) ts then block_expr within expr.Unsafe (tail ts)
+    else (if first (is_keyword (codes "const")) ts then block_expr within expr.ConstBlock (tail ts)
+    else (if first (is_keyword (codes "async")) ts then async_expr within (tail ts) else None))
 
 -- what begins with `if` or `match`, or is a loop
 abbrev pub worded : ExprWithin → Tokens → Read Expr

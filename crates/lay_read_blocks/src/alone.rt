@@ -6,7 +6,7 @@ ghost use Rattle.lay_read_shared.specs.Code.{code_within};
 ghost use Rattle.lay_read_blocks.specs.Answers.{AreCode, deeper_arm, deeper_stmt};
 
 use crate::rules::BlockRules;
-use lay_code::{Arm, Block, Expr, Item, Place, Site, Stmt};
+use lay_code::{Arm, Block, Boxed, Expr, Item, Place, Site, Stmt};
 use lay_ops::ends;
 use lay_read_parts::joins::refused;
 use lay_read_tokens::front::takes_mark;
@@ -21,7 +21,7 @@ fn takes_alone_end(at: &mut Ahead<'_>, free: bool) -> bool
 }
 
 impl<
-    P: Fn(Global, &mut Ahead<'_>, Place, u32) -> Result<Found<Expr>, ReadNone>,
+    P: Fn(Global, &mut Ahead<'_>, Place, u32) -> Result<Found<Boxed<Expr>>, ReadNone>,
     B: Fn(Global, &mut Ahead<'_>, u32) -> Result<Found<Block>, ReadNone>,
     I: Fn(Global, &mut Ahead<'_>, Site, u32) -> Result<Found<Item>, ReadNone>,
 > BlockRules<P, B, I> {

@@ -21,6 +21,7 @@ use lay_ops::{is_free, is_lone_body};
 use lay_read_parts::joins::{both, refused};
 use lay_read_parts::loops::Part;
 use lay_read_pats::pat_ahead;
+use lay_read_shared::boxes::boxed_found;
 use lay_read_shared::loops::{Going, read_parts};
 use lay_read_shared::places::{FREE, STATEMENT, plain};
 use lay_read_tokens::attributes::attrs_ahead;
@@ -64,7 +65,7 @@ fn body_of(found: Found<Boxed<Expr>>) -> Found<Boxed<Expr>>
 }
 
 impl<
-    P: Fn(Global, &mut Ahead<'_>, Place, u32) -> Result<Found<Expr>, ReadNone>,
+    P: Fn(Global, &mut Ahead<'_>, Place, u32) -> Result<Found<Boxed<Expr>>, ReadNone>,
     B: Fn(Global, &mut Ahead<'_>, u32) -> Result<Found<Block>, ReadNone>,
     I: Fn(Global, &mut Ahead<'_>, Site, u32) -> Result<Found<Item>, ReadNone>,
 > BlockRules<P, B, I> {
@@ -175,7 +176,7 @@ impl<
     /// What stands behind `match`, unless it is deeper than may be.
     #[tactic(auto, unfolding(lay_code::specs::reader::Exprs::match_expr), using(lay_read_shared::proofs::Left::arm_leaves))]
     #[inline(never)]
-    pub fn match_expr(&self, at: &mut Ahead<'_>) -> Result<Found<Expr>, ReadNone>
+    pub fn match_expr(&self, at: &mut Ahead<'_>) -> Result<Found<Boxed<Expr>>, ReadNone>
         requires { AreCode self.now.depth (P.pre self.now.exprs) (P.post self.now.exprs) (B.pre self.now.blocks) (B.post self.now.blocks) (I.pre self.now.items) (I.post self.now.items) }
         ensures read { IsFound (fits (self.now.depth + 1) (exprs.match_expr (code_within self.now.depth) at.old)) result at.new }
         ensures within { IfOk result (λ found. found.need ≤ self.now.depth + 1) }
@@ -201,13 +202,14 @@ impl<
         if !takes_closer(at, Delim::Brace) || need > self.depth {
             return refused(((scrutinee, attrs), arms));
         }
-        Ok(Found {
-            need: need + 1,
-            node: Expr::Match {
+        boxed_found(
+            self.alloc,
+            Expr::Match {
                 scrutinee: scrutinee.node,
                 attrs,
                 arms: arms.node,
             },
-        })
+            need + 1,
+        )
     }
 }

@@ -10,7 +10,7 @@ ghost use Rattle.lay_read_blocks.specs.Answers.{AreCode, body_if};
 
 use crate::front::pass_semicolons;
 use crate::rules::BlockRules;
-use lay_code::{Block, Expr, Item, Place, Site, Stmt};
+use lay_code::{Block, Boxed, Expr, Item, Place, Site, Stmt};
 use lay_ops::ends;
 use lay_read_parts::joins::{both, refused};
 use lay_read_parts::loops::Part;
@@ -29,7 +29,7 @@ impl Part<Stmt, ()> for Stmts {
 }
 
 impl<
-    P: Fn(Global, &mut Ahead<'_>, Place, u32) -> Result<Found<Expr>, ReadNone>,
+    P: Fn(Global, &mut Ahead<'_>, Place, u32) -> Result<Found<Boxed<Expr>>, ReadNone>,
     B: Fn(Global, &mut Ahead<'_>, u32) -> Result<Found<Block>, ReadNone>,
     I: Fn(Global, &mut Ahead<'_>, Site, u32) -> Result<Found<Item>, ReadNone>,
 > BlockRules<P, B, I> {

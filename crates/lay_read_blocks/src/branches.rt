@@ -1,18 +1,20 @@
 //! Conditions, branches, and the expressions with conditions.
 ghost use Rattle.std.specs.Prelude.{◌≡◌, ◌+◌, ◌≤◌, codes, drop, max, IfOk};
 ghost use Rattle.lay_node.specs.Ahead.{first, is_keyword, tail};
+ghost use Rattle.lay_node.specs.reader.Loops.{repeat};
 ghost use Rattle.lay_node.specs.reader.Types.{if_read};
 ghost use Rattle.lay_code.specs.reader.Blocks as reader;
 ghost use Rattle.lay_code.specs.reader.Exprs as exprs;
-ghost use Rattle.lay_read_tokens.specs.Answers.{IsFound};
+ghost use Rattle.lay_read_tokens.specs.Answers.{AreFound, IsFound, IsHeld};
 ghost use Rattle.lay_read_shared.specs.Code.{code_within};
-ghost use Rattle.lay_read_blocks.specs.Answers.{AreCode, matched};
+ghost use Rattle.lay_read_blocks.specs.Answers.{AreBranches, AreCode, branches, matched};
 
 use crate::rules::BlockRules;
 use lay_code::{Block, Boxed, Branch, Expr, Item, Lifetime, Pat, PatPlace, Place, Site};
 use lay_read_parts::joins::{both, prepended, refused};
 use lay_read_parts::loops::Part;
 use lay_read_pats::pat_ahead;
+use lay_read_shared::boxes::boxed_found;
 use lay_read_shared::loops::{Going, read_parts};
 use lay_read_shared::places::plain;
 use lay_read_tokens::found::greater;
@@ -28,8 +30,23 @@ impl Part<Branch, ()> for Branches {
     ghost reads = { λ depth place ts. reader.branch_by (code_within depth) (drop 2 ts) };
 }
 
+/// A branch and those behind it, in one list. They are put together in a call of its own, so that no room for the moves is held
+/// while branches are read.
+#[inline(never)]
+fn branches_of(
+    first: Found<Branch>,
+    more: Result<Found<List<Branch>>, ReadNone>,
+) -> Result<Found<List<Branch>>, ReadNone>
+    ensures { AreBranches first more result }
+{
+    let (first, more) = both(first, more)?;
+    let need = greater(first.need, more.need);
+    let node = prepended(first.node, more.node)?;
+    Ok(Found { node, need })
+}
+
 impl<
-    P: Fn(Global, &mut Ahead<'_>, Place, u32) -> Result<Found<Expr>, ReadNone>,
+    P: Fn(Global, &mut Ahead<'_>, Place, u32) -> Result<Found<Boxed<Expr>>, ReadNone>,
     B: Fn(Global, &mut Ahead<'_>, u32) -> Result<Found<Block>, ReadNone>,
     I: Fn(Global, &mut Ahead<'_>, Site, u32) -> Result<Found<Item>, ReadNone>,
 > BlockRules<P, B, I> {
@@ -125,37 +142,59 @@ impl<
         })
     }
 
-    /// What stands behind an `if`, with all its branches.
-    #[tactic(auto, unfolding(lay_code::specs::reader::Exprs::if_expr), using(lay_read_shared::proofs::Left::branch_leaves))]
+    /// What stands behind an `if`, and the branches behind `else if`.
     #[inline(never)]
-    pub fn if_expr(&self, at: &mut Ahead<'_>) -> Result<Found<Expr>, ReadNone>
+    fn branches(&self, at: &mut Ahead<'_>) -> Result<Found<List<Branch>>, ReadNone>
+        requires { AreCode self.now.depth (P.pre self.now.exprs) (P.post self.now.exprs) (B.pre self.now.blocks) (B.post self.now.blocks) (I.pre self.now.items) (I.post self.now.items) }
+        ensures read { IsFound (branches (code_within self.now.depth) at.old) result at.new }
+        ensures within { IfOk result (λ found. found.need ≤ self.now.depth) }
+    {
+        match self.branch_by(at) {
+            Ok(first) => {
+                let more = self.else_branches(at);
+                branches_of(first, more)
+            }
+            Err(none) => Err(none),
+        }
+    }
+
+    /// The branches behind `else if`, as long as one begins.
+    #[tactic(auto, using(lay_read_shared::proofs::Left::branch_leaves))]
+    #[inline(never)]
+    fn else_branches(&self, at: &mut Ahead<'_>) -> Result<Found<List<Branch>>, ReadNone>
+        requires { AreCode self.now.depth (P.pre self.now.exprs) (P.post self.now.exprs) (B.pre self.now.blocks) (B.post self.now.blocks) (I.pre self.now.items) (I.post self.now.items) }
+        ensures read { IsHeld AreFound (repeat exprs.begins_else_if (λ us. reader.branch_by (code_within self.now.depth) (drop 2 us)) at.old) result at.new }
+        ensures within { IfOk result (λ found. found.need ≤ self.now.depth) }
+    {
+        read_parts::<Branches, BlockRules<P, B, I>, Branch, (), _>(
+            self.alloc,
+            at,
+            self.depth,
+            Going::ElseIfs,
+            self,
+            BlockRules::else_branch,
+            (),
+        )
+    }
+
+    /// What stands behind an `if`, with all its branches.
+    #[tactic(auto, using(crate::proofs::Chains::if_is))]
+    #[inline(never)]
+    pub fn if_expr(&self, at: &mut Ahead<'_>) -> Result<Found<Boxed<Expr>>, ReadNone>
         requires { AreCode self.now.depth (P.pre self.now.exprs) (P.post self.now.exprs) (B.pre self.now.blocks) (B.post self.now.blocks) (I.pre self.now.items) (I.post self.now.items) }
         ensures read { IsFound (exprs.if_expr (code_within self.now.depth) at.old) result at.new }
         ensures within { IfOk result (λ found. found.need ≤ self.now.depth + 1) }
     {
-        let first = self.branch_by(at)?;
-        let (first, more) = both(
-            first,
-            read_parts::<Branches, BlockRules<P, B, I>, Branch, (), _>(
-                self.alloc,
-                at,
-                self.depth,
-                Going::ElseIfs,
-                self,
-                BlockRules::else_branch,
-                (),
-            ),
-        )?;
-        let ((first, more), otherwise) = both((first, more), self.otherwise(at))?;
-        let need = greater(first.need, greater(more.need, otherwise.need)) + 1;
-        let (otherwise, branches) = both(otherwise.node, prepended(first.node, more.node))?;
-        Ok(Found {
-            node: Expr::If {
-                branches,
-                otherwise,
+        let branches = self.branches(at)?;
+        let (branches, otherwise) = both(branches, self.otherwise(at))?;
+        boxed_found(
+            self.alloc,
+            Expr::If {
+                branches: branches.node,
+                otherwise: otherwise.node,
             },
-            need,
-        })
+            greater(branches.need, otherwise.need) + 1,
+        )
     }
 
     /// What stands behind `while`.
@@ -165,7 +204,7 @@ impl<
         &self,
         at: &mut Ahead<'_>,
         label: Option<Lifetime>,
-    ) -> Result<Found<Expr>, ReadNone>
+    ) -> Result<Found<Boxed<Expr>>, ReadNone>
         requires { AreCode self.now.depth (P.pre self.now.exprs) (P.post self.now.exprs) (B.pre self.now.blocks) (B.post self.now.blocks) (I.pre self.now.items) (I.post self.now.items) }
         ensures read { IsFound (exprs.while_expr (code_within self.now.depth) label at.old) result at.new }
         ensures within { IfOk result (λ found. found.need ≤ self.now.depth + 1) }
@@ -173,15 +212,16 @@ impl<
         let (label, found) = both(label, self.branch_by(at))?;
         let Found { node, need } = found;
         let (pat, condition, body) = node.into_parts();
-        Ok(Found {
-            node: Expr::While {
+        boxed_found(
+            self.alloc,
+            Expr::While {
                 label,
                 pat,
                 condition,
                 body,
             },
-            need: need + 1,
-        })
+            need + 1,
+        )
     }
 
     /// What stands behind `for`.
@@ -191,7 +231,7 @@ impl<
         &self,
         at: &mut Ahead<'_>,
         label: Option<Lifetime>,
-    ) -> Result<Found<Expr>, ReadNone>
+    ) -> Result<Found<Boxed<Expr>>, ReadNone>
         requires { AreCode self.now.depth (P.pre self.now.exprs) (P.post self.now.exprs) (B.pre self.now.blocks) (B.post self.now.blocks) (I.pre self.now.items) (I.post self.now.items) }
         ensures read { IsFound (exprs.for_expr (code_within self.now.depth) label at.old) result at.new }
         ensures within { IfOk result (λ found. found.need ≤ self.now.depth + 1) }
@@ -205,14 +245,15 @@ impl<
         }
         let ((label, pat), iterated) = both((label, pat), self.expr(at, plain(0, true)))?;
         let ((label, (pat, iterated)), body) = both((label, (pat, iterated)), self.block_by(at))?;
-        Ok(Found {
-            need: greater(pat.need, greater(iterated.need, body.need)) + 1,
-            node: Expr::For {
+        boxed_found(
+            self.alloc,
+            Expr::For {
                 label,
                 pat: pat.node,
                 iterated: iterated.node,
                 body: body.node,
             },
-        })
+            greater(pat.need, greater(iterated.need, body.need)) + 1,
+        )
     }
 }

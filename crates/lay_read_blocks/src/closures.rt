@@ -8,10 +8,11 @@ ghost use Rattle.lay_read_shared.specs.Code.{code_within};
 ghost use Rattle.lay_read_blocks.specs.Answers.{AreCode, typed_closure};
 
 use crate::rules::BlockRules;
-use lay_code::{Block, ClosureParam, Expr, Item, PatPlace, Place, Site, TypePlace};
+use lay_code::{Block, Boxed, ClosureParam, Expr, Item, PatPlace, Place, Site, TypePlace};
 use lay_read_parts::joins::{both, refused};
 use lay_read_parts::loops::{Closer, Part, read_elements};
 use lay_read_pats::pat_ahead;
+use lay_read_shared::boxes::boxed_found;
 use lay_read_shared::places::plain;
 use lay_read_shared::types::type_if;
 use lay_read_tokens::attributes::attrs_ahead;
@@ -30,7 +31,7 @@ impl Part<ClosureParam, ()> for Params {
 }
 
 impl<
-    P: Fn(Global, &mut Ahead<'_>, Place, u32) -> Result<Found<Expr>, ReadNone>,
+    P: Fn(Global, &mut Ahead<'_>, Place, u32) -> Result<Found<Boxed<Expr>>, ReadNone>,
     B: Fn(Global, &mut Ahead<'_>, u32) -> Result<Found<Block>, ReadNone>,
     I: Fn(Global, &mut Ahead<'_>, Site, u32) -> Result<Found<Item>, ReadNone>,
 > BlockRules<P, B, I> {
@@ -80,7 +81,11 @@ impl<
     /// A closure.
     #[tactic(auto, unfolding(lay_code::specs::reader::Exprs::closure_expr))]
     #[inline(never)]
-    pub fn closure_expr(&self, at: &mut Ahead<'_>, no_struct: bool) -> Result<Found<Expr>, ReadNone>
+    pub fn closure_expr(
+        &self,
+        at: &mut Ahead<'_>,
+        no_struct: bool,
+    ) -> Result<Found<Boxed<Expr>>, ReadNone>
         requires { AreCode self.now.depth (P.pre self.now.exprs) (P.post self.now.exprs) (B.pre self.now.blocks) (B.post self.now.blocks) (I.pre self.now.items) (I.post self.now.items) }
         ensures read { IsFound (exprs.closure_expr (code_within self.now.depth) no_struct at.old) result at.new }
         ensures within { IfOk result (λ found. found.need ≤ self.now.depth + 1) }
@@ -101,7 +106,7 @@ impl<
         no_struct: bool,
         moves: bool,
         params: Found<List<ClosureParam>>,
-    ) -> Result<Found<Expr>, ReadNone>
+    ) -> Result<Found<Boxed<Expr>>, ReadNone>
         requires code { AreCode self.now.depth (P.pre self.now.exprs) (P.post self.now.exprs) (B.pre self.now.blocks) (B.post self.now.blocks) (I.pre self.now.items) (I.post self.now.items) }
         requires within { params.need ≤ self.now.depth }
         ensures read { IsFound (exprs.closure_body (code_within self.now.depth) no_struct moves params.node params.need at.old) result at.new }
@@ -111,14 +116,15 @@ impl<
             return self.typed_closure(at, moves, params);
         }
         let (params, body) = both(params, self.expr(at, plain(0, no_struct)))?;
-        Ok(Found {
-            need: greater(params.need, body.need) + 1,
-            node: Expr::Closure {
+        boxed_found(
+            self.alloc,
+            Expr::Closure {
                 moves,
                 params: params.node,
                 body: body.node,
             },
-        })
+            greater(params.need, body.need) + 1,
+        )
     }
 
     /// What stands behind the parameters of a closure, from its `->` on.
@@ -128,7 +134,7 @@ impl<
         at: &mut Ahead<'_>,
         moves: bool,
         params: Found<List<ClosureParam>>,
-    ) -> Result<Found<Expr>, ReadNone>
+    ) -> Result<Found<Boxed<Expr>>, ReadNone>
         requires code { AreCode self.now.depth (P.pre self.now.exprs) (P.post self.now.exprs) (B.pre self.now.blocks) (B.post self.now.blocks) (I.pre self.now.items) (I.post self.now.items) }
         requires within { params.need ≤ self.now.depth }
         ensures read { IsFound (typed_closure (code_within self.now.depth) moves params.node params.need at.old) result at.new }
@@ -140,14 +146,15 @@ impl<
             type_ahead(self.alloc, at, TypePlace::NoBounds, self.depth),
         )?;
         let ((params, output), body) = both((params, output), self.block_by(at))?;
-        Ok(Found {
-            need: greater(params.need, greater(output.need, body.need)) + 1,
-            node: Expr::TypedClosure {
+        boxed_found(
+            self.alloc,
+            Expr::TypedClosure {
                 moves,
                 params: params.node,
                 output: output.node,
                 body: body.node,
             },
-        })
+            greater(params.need, greater(output.need, body.need)) + 1,
+        )
     }
 }

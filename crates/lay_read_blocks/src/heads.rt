@@ -3,20 +3,21 @@ ghost use Rattle.std.specs.Prelude.{◌≡◌, ◌+◌, ◌≤◌, None, IfOk};
 ghost use Rattle.lay_code.specs.reader.Exprs as exprs;
 ghost use Rattle.lay_read_tokens.specs.Answers.{IsFound};
 ghost use Rattle.lay_read_shared.specs.Code.{code_within};
-ghost use Rattle.lay_read_blocks.specs.Answers.{AreCode, block_head, fits, worded};
+ghost use Rattle.lay_read_blocks.specs.Answers.{AreCode, block_head, fits, worded, worded_block};
 
 use crate::rules::BlockRules;
-use lay_code::{Block, Expr, Item, Lifetime, Place, Site};
+use lay_code::{Block, Boxed, Expr, Item, Lifetime, Place, Site};
 use lay_ops::operands::ExprLead;
 use lay_read_parts::joins::{both, refused};
 use lay_read_parts::parts::read_lifetime;
-use lay_read_tokens::front::{is_at_opened, takes_keyword, takes_op};
+use lay_read_shared::boxes::boxed_found;
+use lay_read_tokens::front::{is_at_keyword, is_at_opened, takes_keyword, takes_op};
 use lay_read_tokens::{Ahead, Found, ReadNone};
 use lay_token::Delim;
 use std::alloc::Global;
 
 impl<
-    P: Fn(Global, &mut Ahead<'_>, Place, u32) -> Result<Found<Expr>, ReadNone>,
+    P: Fn(Global, &mut Ahead<'_>, Place, u32) -> Result<Found<Boxed<Expr>>, ReadNone>,
     B: Fn(Global, &mut Ahead<'_>, u32) -> Result<Found<Block>, ReadNone>,
     I: Fn(Global, &mut Ahead<'_>, Site, u32) -> Result<Found<Item>, ReadNone>,
 > BlockRules<P, B, I> {
@@ -28,7 +29,7 @@ impl<
         at: &mut Ahead<'_>,
         no_struct: bool,
         lead: ExprLead,
-    ) -> Result<Found<Expr>, ReadNone>
+    ) -> Result<Found<Boxed<Expr>>, ReadNone>
         requires { AreCode self.now.depth (P.pre self.now.exprs) (P.post self.now.exprs) (B.pre self.now.blocks) (B.post self.now.blocks) (I.pre self.now.items) (I.post self.now.items) }
         ensures read { IsFound (fits (self.now.depth + 1) (block_head (code_within self.now.depth) no_struct lead at.old)) result at.new }
         ensures within { IfOk result (λ found. found.need ≤ self.now.depth + 1) }
@@ -45,7 +46,7 @@ impl<
     /// A block or a loop behind its label.
     #[tactic(auto, unfolding(lay_code::specs::reader::Exprs::label_expr))]
     #[inline(never)]
-    fn label_expr(&self, at: &mut Ahead<'_>) -> Result<Found<Expr>, ReadNone>
+    fn label_expr(&self, at: &mut Ahead<'_>) -> Result<Found<Boxed<Expr>>, ReadNone>
         requires { AreCode self.now.depth (P.pre self.now.exprs) (P.post self.now.exprs) (B.pre self.now.blocks) (B.post self.now.blocks) (I.pre self.now.items) (I.post self.now.items) }
         ensures read { IsFound (exprs.label_expr (code_within self.now.depth) at.old) result at.new }
         ensures within { IfOk result (λ found. found.need ≤ self.now.depth + 1) }
@@ -63,86 +64,106 @@ impl<
         &self,
         at: &mut Ahead<'_>,
         label: Option<Lifetime>,
-    ) -> Result<Found<Expr>, ReadNone>
+    ) -> Result<Found<Boxed<Expr>>, ReadNone>
         requires { AreCode self.now.depth (P.pre self.now.exprs) (P.post self.now.exprs) (B.pre self.now.blocks) (B.post self.now.blocks) (I.pre self.now.items) (I.post self.now.items) }
         ensures read { IsFound (exprs.labelled_expr (code_within self.now.depth) label at.old) result at.new }
         ensures within { IfOk result (λ found. found.need ≤ self.now.depth + 1) }
     {
         if is_at_opened(at, Delim::Brace) {
             let (label, body) = both(label, self.block_by(at))?;
-            Ok(Found {
-                need: body.need + 1,
-                node: Expr::Block {
+            return boxed_found(
+                self.alloc,
+                Expr::Block {
                     label,
                     body: body.node,
                 },
-            })
-        } else if takes_keyword(at, b"loop") {
-            let (label, body) = both(label, self.block_by(at))?;
-            Ok(Found {
-                need: body.need + 1,
-                node: Expr::Loop {
-                    label,
-                    body: body.node,
-                },
-            })
-        } else if takes_keyword(at, b"while") {
-            self.while_expr(at, label)
-        } else if takes_keyword(at, b"for") {
-            self.for_expr(at, label)
-        } else {
-            refused(label)
+                body.need + 1,
+            );
         }
+        if takes_keyword(at, b"loop") {
+            let (label, body) = both(label, self.block_by(at))?;
+            return boxed_found(
+                self.alloc,
+                Expr::Loop {
+                    label,
+                    body: body.node,
+                },
+                body.need + 1,
+            );
+        }
+        if takes_keyword(at, b"while") {
+            return self.while_expr(at, label);
+        }
+        if takes_keyword(at, b"for") {
+            return self.for_expr(at, label);
+        }
+        refused(label)
     }
 
     /// What begins with a word of an expression that holds a block.
     #[tactic(auto, unfolding(lay_code::specs::reader::Exprs::block_word_expr))]
     #[inline(never)]
-    fn block_word_expr(&self, at: &mut Ahead<'_>) -> Result<Found<Expr>, ReadNone>
+    fn block_word_expr(&self, at: &mut Ahead<'_>) -> Result<Found<Boxed<Expr>>, ReadNone>
         requires { AreCode self.now.depth (P.pre self.now.exprs) (P.post self.now.exprs) (B.pre self.now.blocks) (B.post self.now.blocks) (I.pre self.now.items) (I.post self.now.items) }
         ensures read { IsFound (fits (self.now.depth + 1) (exprs.block_word_expr (code_within self.now.depth) at.old)) result at.new }
         ensures within { IfOk result (λ found. found.need ≤ self.now.depth + 1) }
     {
+        if is_at_keyword(at, b"unsafe")
+            || is_at_keyword(at, b"const")
+            || is_at_keyword(at, b"async")
+        {
+            return self.worded_block(at);
+        }
+        self.worded(at)
+    }
+
+    /// A block behind its `unsafe`, `const` or `async`.
+    #[inline(never)]
+    fn worded_block(&self, at: &mut Ahead<'_>) -> Result<Found<Boxed<Expr>>, ReadNone>
+        requires { AreCode self.now.depth (P.pre self.now.exprs) (P.post self.now.exprs) (B.pre self.now.blocks) (B.post self.now.blocks) (I.pre self.now.items) (I.post self.now.items) }
+        ensures read { IsFound (worded_block (code_within self.now.depth) at.old) result at.new }
+        ensures within { IfOk result (λ found. found.need ≤ self.now.depth + 1) }
+    {
         if takes_keyword(at, b"unsafe") {
             let body = self.block_by(at)?;
-            Ok(Found {
-                need: body.need + 1,
-                node: Expr::Unsafe { body: body.node },
-            })
-        } else if takes_keyword(at, b"const") {
+            return boxed_found(self.alloc, Expr::Unsafe { body: body.node }, body.need + 1);
+        }
+        if takes_keyword(at, b"const") {
             let body = self.block_by(at)?;
-            Ok(Found {
-                need: body.need + 1,
-                node: Expr::ConstBlock { body: body.node },
-            })
-        } else if takes_keyword(at, b"async") {
+            return boxed_found(
+                self.alloc,
+                Expr::ConstBlock { body: body.node },
+                body.need + 1,
+            );
+        }
+        if takes_keyword(at, b"async") {
             let moves = takes_keyword(at, b"move");
             let body = self.block_by(at)?;
-            Ok(Found {
-                need: body.need + 1,
-                node: Expr::Async {
+            return boxed_found(
+                self.alloc,
+                Expr::Async {
                     moves,
                     body: body.node,
                 },
-            })
-        } else {
-            self.worded(at)
+                body.need + 1,
+            );
         }
+        Err(ReadNone::NoReading)
     }
 
     /// What begins with `if` or `match`, or is a loop.
-    #[inline(never)]
-    fn worded(&self, at: &mut Ahead<'_>) -> Result<Found<Expr>, ReadNone>
+    #[inline(always)]
+    fn worded(&self, at: &mut Ahead<'_>) -> Result<Found<Boxed<Expr>>, ReadNone>
         requires { AreCode self.now.depth (P.pre self.now.exprs) (P.post self.now.exprs) (B.pre self.now.blocks) (B.post self.now.blocks) (I.pre self.now.items) (I.post self.now.items) }
         ensures read { IsFound (fits (self.now.depth + 1) (worded (code_within self.now.depth) at.old)) result at.new }
         ensures within { IfOk result (λ found. found.need ≤ self.now.depth + 1) }
     {
         if takes_keyword(at, b"if") {
-            self.if_expr(at)
-        } else if takes_keyword(at, b"match") {
-            self.match_expr(at)
-        } else {
-            self.labelled_expr(at, None)
+            return self.if_expr(at);
         }
+        if takes_keyword(at, b"match") {
+            return self.match_expr(at);
+        }
+        self.labelled_expr(at, None)
     }
 }

@@ -10,7 +10,6 @@ ghost use Rattle.lay_read_blocks.specs.Answers.{AreCode};
 use lay_code::{Block, Boxed, Expr, Item, Place, Site};
 use lay_read_shared::places::FREE;
 use lay_read_tokens::front::takes_op;
-use lay_read_tokens::stop::boxed;
 use lay_read_tokens::{Ahead, Found, ReadNone};
 use std::alloc::Global;
 
@@ -27,23 +26,18 @@ pub struct BlockRules<P, B, I> {
 }
 
 impl<
-    P: Fn(Global, &mut Ahead<'_>, Place, u32) -> Result<Found<Expr>, ReadNone>,
+    P: Fn(Global, &mut Ahead<'_>, Place, u32) -> Result<Found<Boxed<Expr>>, ReadNone>,
     B: Fn(Global, &mut Ahead<'_>, u32) -> Result<Found<Block>, ReadNone>,
     I: Fn(Global, &mut Ahead<'_>, Site, u32) -> Result<Found<Item>, ReadNone>,
 > BlockRules<P, B, I> {
-    /// An expression one level deeper, in a box.
+    /// An expression one level deeper, in its box.
     #[inline(never)]
     pub fn expr(&self, at: &mut Ahead<'_>, place: Place) -> Result<Found<Boxed<Expr>>, ReadNone>
         requires { AreCode self.now.depth (P.pre self.now.exprs) (P.post self.now.exprs) (B.pre self.now.blocks) (B.post self.now.blocks) (I.pre self.now.items) (I.post self.now.items) }
         ensures read { IsFound (expr_at place self.now.depth at.old) result at.new }
         ensures within { IfOk result (λ found. found.need ≤ self.now.depth) }
     {
-        let found = (self.exprs)(self.alloc, at, place, self.depth)?;
-        let node = boxed(self.alloc, found.node)?;
-        Ok(Found {
-            node,
-            need: found.need,
-        })
+        (self.exprs)(self.alloc, at, place, self.depth)
     }
 
     /// A value behind an `=`, if one stands there.

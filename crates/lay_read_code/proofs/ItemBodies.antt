@@ -34,7 +34,7 @@ use Rattle.lay_read_tokens.specs.Answers.{AreFound, IsFound}
 use Rattle.lay_read_tokens.specs.declared.found.Found.{Found}
 use Rattle.lay_read_tokens.specs.declared.stop.ReadNone.{ReadNone}
 use Rattle.lay_read_tokens.specs.declared.stop.ReadNone.TheVariants.{NoReading, NoMemory}
-use Rattle.lay_read_code.specs.Begun.{begun_at, begun_by, body_of as body_in, finished, foreign_begun, kept, kind_of, made, node_alone, value_end, with_block, with_items, with_value}
+use Rattle.lay_read_code.specs.Begun.{IsBoxed, begun_at, begun_by, block_kind, body_of as body_in, finished, foreign_begun, items_kind, kept, kind_of, made, node_alone, value_end, value_kind, with_block, with_items, with_value}
 use Rattle.lay_read_code.specs.declared.bodies.Body.TheVariants as body
 use Rattle.lay_read_code.specs.declared.begun.Begun.{Begun}
 use Rattle.lay_read_code.specs.declared.begun.Begun.TheVariants as begun
@@ -205,40 +205,40 @@ module _ (at : Site) (within : ItemWithin) where
     kind_none h = kind_is ∙ rw h refl
 
     module _ (x : Begun) (need : ℕ) (mid : Tokens) (h : begun_at at within ts ≡ Some ((x, need), mid)) where
-      pub kind_whole : body_in x ≡ body.None → reader.kind_at at within ts ≡ Some ((with_items x [] [], need), mid)
+      kind_whole : body_in x ≡ body.None → reader.kind_at at within ts ≡ Some ((with_items x [] [], need), mid)
       kind_whole m = kind_is ∙ rw (h, m) refl
 
       module _ (s : Site) (m : body_in x ≡ body.Items s) where
-        pub kind_no_body : reader.item_body within s mid ≡ None → reader.kind_at at within ts ≡ None
+        kind_no_body : reader.item_body within s mid ≡ None → reader.kind_at at within ts ≡ None
         kind_no_body b = kind_is ∙ rw (h, m, b) refl
 
-        pub kind_with_body : (attrs : List Attr) (items : List Item) (n : ℕ) (rest : Tokens)
+        kind_with_body : (attrs : List Attr) (items : List Item) (n : ℕ) (rest : Tokens)
             → reader.item_body within s mid ≡ Some (((attrs, items), n), rest)
             → reader.kind_at at within ts ≡ Some ((with_items x attrs items, max need n), rest)
         kind_with_body attrs items n rest b = kind_is ∙ rw (h, m, b) refl
 
       -- a function
       module _ (m : body_in x ≡ body.Block) where
-        pub kind_no_block : reader.fn_body within.code mid ≡ None → reader.kind_at at within ts ≡ None
+        kind_no_block : reader.fn_body within.code mid ≡ None → reader.kind_at at within ts ≡ None
         kind_no_block b = kind_is ∙ rw (h, m, b) refl
 
-        pub kind_with_block : (b : Option Block) (n : ℕ) (rest : Tokens) → reader.fn_body within.code mid ≡ Some ((b, n), rest)
+        kind_with_block : (b : Option Block) (n : ℕ) (rest : Tokens) → reader.fn_body within.code mid ≡ Some ((b, n), rest)
             → reader.kind_at at within ts ≡ made (with_block (x, need) at (b, n)) rest
         kind_with_block b n rest e = kind_is ∙ rw (h, m, e) refl
 
       -- a constant or a static
       module _ (m : body_in x ≡ body.Value) where
-        pub kind_no_value : value_end within mid ≡ None → reader.kind_at at within ts ≡ None
+        kind_no_value : value_end within mid ≡ None → reader.kind_at at within ts ≡ None
         kind_no_value v = kind_is ∙ rw (h, m, v) refl
 
-        pub kind_with_value : (v : Option Expr) (n : ℕ) (rest : Tokens) → value_end within mid ≡ Some ((v, n), rest)
+        kind_with_value : (v : Option Expr) (n : ℕ) (rest : Tokens) → value_end within mid ≡ Some ((v, n), rest)
             → reader.kind_at at within ts ≡ made (with_value (x, need) at (v, n)) rest
         kind_with_value v n rest e = kind_is ∙ rw (h, m, e) refl
 
 -- ---- what is made
 
 -- What is made is what is found.
-pub made_found : (read : Read ItemKind) (r : Result (Found ItemKind) ReadNone) (rest : Tokens) → read ≡ made r rest → IsFound read r rest
+made_found : (read : Read ItemKind) (r : Result (Found ItemKind) ReadNone) (rest : Tokens) → read ≡ made r rest → IsFound read r rest
 made_found read (Ok found) rest e = e
 made_found read (Err NoReading) rest e = e
 made_found read (Err NoMemory) rest e = tt
@@ -248,17 +248,90 @@ kept_within : (keeps : Bool) (kind : ItemKind) (need depth : ℕ) → need ≤ d
 kept_within true kind need depth le = le
 kept_within false kind need depth le = tt
 
-pub block_within : (x : Begun) (need : ℕ) (at : Site) (b : Option Block) (n depth : ℕ) → need ≤ depth → n ≤ depth
+block_within : (x : Begun) (need : ℕ) (at : Site) (b : Option Block) (n depth : ℕ) → need ≤ depth → n ≤ depth
     → IfOk (with_block (x, need) at (b, n)) (λ found. found.need ≤ depth)
 block_within (begun.Function head wheres) need at b n depth le less =
     kept_within (may_be_bodied at (is_some b)) (item.Function head wheres b) (max need n) depth (omega (arith, le, less))
 block_within _ need at b n depth le less = tt
 
-pub value_within : (x : Begun) (need : ℕ) (at : Site) (v : Option Expr) (n depth : ℕ) → need ≤ depth → n ≤ depth
+value_within : (x : Begun) (need : ℕ) (at : Site) (v : Option Expr) (n depth : ℕ) → need ≤ depth → n ≤ depth
     → IfOk (with_value (x, need) at (v, n)) (λ found. found.need ≤ depth)
 value_within (begun.Value head) need at v n depth le less =
     kept_within (may_be_valued at head (is_some v)) (item.Value head v) (max need n) depth (omega (arith, le, less))
 value_within _ need at v n depth le less = tt
+
+-- What is put into a box is what was made.
+boxed_found : (read : Read ItemKind) (m r : Result (Found ItemKind) ReadNone) (rest : Tokens) → IsFound read m rest → IsBoxed m r → IsFound read r rest
+boxed_found read (Ok kind) (Ok found) rest h e = rw e h
+boxed_found read (Ok kind) (Err none) rest h e = rw e tt
+boxed_found read (Err none) (Ok found) rest h e = absurd e
+boxed_found read (Err none) (Err other) rest h e = rw e h
+
+boxed_within : (m r : Result (Found ItemKind) ReadNone) (depth : ℕ) → IfOk m (λ found. found.need ≤ depth) → IsBoxed m r
+    → IfOk r (λ found. found.need ≤ depth)
+boxed_within (Ok kind) (Ok found) depth h e = rw e h
+boxed_within (Ok kind) (Err none) depth h e = tt
+boxed_within (Err none) (Ok found) depth h e = absurd e
+boxed_within (Err none) (Err other) depth h e = tt
+
+-- ---- an item of what it begins with and of what was read of its body
+
+module _ (at : Site) (within : ItemWithin) (ts : Tokens) (x : Found Begun) (mid : Tokens)
+    (h : begun_at at within ts ≡ Some ((x.node, x.need), mid)) (r : Result (Found ItemKind) ReadNone) where
+  pub whole_made : body_in x.node ≡ body.None → (attrs : List Attr) (items : List Item) → attrs ≡ [] → items ≡ []
+      → IsBoxed (items_kind x (Ok (record { node = (attrs, items); need = 0 }))) r → IsFound (reader.kind_at at within ts) r mid
+  whole_made m attrs items a i = boxed_found (reader.kind_at at within ts) (items_kind x (Ok (record { node = (attrs, items); need = 0 }))) r mid
+      (let same : x.need ≡ max x.need 0 = omega arith in rw (a, i, sym same) (kind_whole at within ts x.node x.need mid h m))
+
+  pub items_made : (s : Site) → body_in x.node ≡ body.Items s → (b : Result (Found (List Attr × List Item)) ReadNone) (rest : Tokens)
+      → IsFound (reader.item_body within s mid) b rest → IsBoxed (items_kind x b) r → IsFound (reader.kind_at at within ts) r rest
+  items_made s m b rest f = boxed_found (reader.kind_at at within ts) (items_kind x b) r rest (by b f)
+    where
+      by : (b : Result (Found (List Attr × List Item)) ReadNone) → IsFound (reader.item_body within s mid) b rest
+          → IsFound (reader.kind_at at within ts) (items_kind x b) rest
+      by (Ok body) f = kind_with_body at within ts x.node x.need mid h s m body.node.0 body.node.1 body.need rest f
+      by (Err NoReading) f = kind_no_body at within ts x.node x.need mid h s m f
+      by (Err NoMemory) f = tt
+
+  pub block_made : body_in x.node ≡ body.Block → (b : Result (Found (Option Block)) ReadNone) (rest : Tokens)
+      → IsFound (reader.fn_body within.code mid) b rest → IsBoxed (block_kind x at b) r → IsFound (reader.kind_at at within ts) r rest
+  block_made m b rest f = boxed_found (reader.kind_at at within ts) (block_kind x at b) r rest (by b f)
+    where
+      by : (b : Result (Found (Option Block)) ReadNone) → IsFound (reader.fn_body within.code mid) b rest
+          → IsFound (reader.kind_at at within ts) (block_kind x at b) rest
+      by (Ok body) f = made_found (reader.kind_at at within ts) (with_block (x.node, x.need) at (body.node, body.need)) rest
+          (kind_with_block at within ts x.node x.need mid h m body.node body.need rest f)
+      by (Err NoReading) f = kind_no_block at within ts x.node x.need mid h m f
+      by (Err NoMemory) f = tt
+
+  pub value_made : body_in x.node ≡ body.Value → (v : Result (Found (Option Expr)) ReadNone) (rest : Tokens)
+      → IsFound (value_end within mid) v rest → IsBoxed (value_kind x at v) r → IsFound (reader.kind_at at within ts) r rest
+  value_made m v rest f = boxed_found (reader.kind_at at within ts) (value_kind x at v) r rest (by v f)
+    where
+      by : (v : Result (Found (Option Expr)) ReadNone) → IsFound (value_end within mid) v rest
+          → IsFound (reader.kind_at at within ts) (value_kind x at v) rest
+      by (Ok value) f = made_found (reader.kind_at at within ts) (with_value (x.node, x.need) at (value.node, value.need)) rest
+          (kind_with_value at within ts x.node x.need mid h m value.node value.need rest f)
+      by (Err NoReading) f = kind_no_value at within ts x.node x.need mid h m f
+      by (Err NoMemory) f = tt
+
+module _ (x : Found Begun) (depth : ℕ) (le : x.need ≤ depth) (r : Result (Found ItemKind) ReadNone) where
+  pub items_in : (b : Result (Found (List Attr × List Item)) ReadNone) → IfOk b (λ found. found.need ≤ depth) → IsBoxed (items_kind x b) r
+      → IfOk r (λ found. found.need ≤ depth)
+  items_in (Ok body) less = boxed_within (items_kind x (Ok body)) r depth (omega (arith, le, less))
+  items_in (Err none) less = boxed_within (Err none) r depth tt
+
+  pub block_in : (at : Site) (b : Result (Found (Option Block)) ReadNone) → IfOk b (λ found. found.need ≤ depth) → IsBoxed (block_kind x at b) r
+      → IfOk r (λ found. found.need ≤ depth)
+  block_in at (Ok body) less = boxed_within (block_kind x at (Ok body)) r depth
+      (block_within x.node x.need at body.node body.need depth le less)
+  block_in at (Err none) less = boxed_within (Err none) r depth tt
+
+  pub value_in : (at : Site) (v : Result (Found (Option Expr)) ReadNone) → IfOk v (λ found. found.need ≤ depth) → IsBoxed (value_kind x at v) r
+      → IfOk r (λ found. found.need ≤ depth)
+  value_in at (Ok value) less = boxed_within (value_kind x at (Ok value)) r depth
+      (value_within x.node x.need at value.node value.need depth le less)
+  value_in at (Err none) less = boxed_within (Err none) r depth tt
 
 -- ---- inner attributes and items in braces
 

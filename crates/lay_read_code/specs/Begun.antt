@@ -1,5 +1,5 @@
 -- Items up to their bodies, and what the bodies make of them.
-use Rattle.std.specs.Prelude.{ℕ, max, Bool, if◌then◌else◌, List, [], codes, drop, Option, Some, None, is_some, Result, Ok, Err}
+use Rattle.std.specs.Prelude.{ℕ, ◌≡◌, max, Bool, if◌then◌else◌, List, [], codes, drop, Option, Some, None, is_some, Result, Ok, Err}
 use Rattle.lay_token.specs.Operators.{is_op}
 use Rattle.lay_node.specs.Ahead.{Tokens, first, tail, is_keyword, is_mark}
 use Rattle.lay_node.specs.reader.Call.{behind_end, call}
@@ -34,7 +34,7 @@ use Rattle.lay_read_code.specs.declared.bodies.Body.{Body}
 use Rattle.lay_read_code.specs.declared.bodies.Body.TheVariants as body
 use Rattle.lay_read_tokens.specs.declared.found.Found.{Found}
 use Rattle.lay_read_tokens.specs.declared.stop.ReadNone.{ReadNone}
-use Rattle.lay_read_tokens.specs.declared.stop.ReadNone.TheVariants.{NoReading}
+use Rattle.lay_read_tokens.specs.declared.stop.ReadNone.TheVariants.{NoReading, NoMemory}
 use Rattle.lay_read_shared.specs.Code.{code_within}
 
 -- how what is one level deeper is read within a depth
@@ -164,6 +164,30 @@ with_block _ at b = Err NoReading
 abbrev pub with_value : Begun × ℕ → Site → Option Expr × ℕ → Result (Found ItemKind) ReadNone
 with_value (begun.Value head, need) at v = kept (may_be_valued at head (is_some v.0)) (item.Value head v.0) (max need v.1)
 with_value _ at v = Err NoReading
+
+-- ---- an item of what it begins with and of what was read of its body
+
+-- an item with what was read in its braces
+abbrev pub items_kind : Found Begun → Result (Found (List Attr × List Item)) ReadNone → Result (Found ItemKind) ReadNone
+items_kind begun (Ok body) = Ok (record { node = with_items begun.node body.node.0 body.node.1; need = max begun.need body.need })
+items_kind begun (Err none) = Err none
+
+-- a function with what was read of its body
+abbrev pub block_kind : Found Begun → Site → Result (Found (Option Block)) ReadNone → Result (Found ItemKind) ReadNone
+block_kind begun at (Ok body) = with_block (begun.node, begun.need) at (body.node, body.need)
+block_kind begun at (Err none) = Err none
+
+-- a constant or a static with what was read of its value
+abbrev pub value_kind : Found Begun → Site → Result (Found (Option Expr)) ReadNone → Result (Found ItemKind) ReadNone
+value_kind begun at (Ok value) = with_value (begun.node, begun.need) at (value.node, value.need)
+value_kind begun at (Err none) = Err none
+
+-- What was made was put into a box, or memory ran out.
+abbrev pub IsBoxed : Result (Found ItemKind) ReadNone → Result (Found ItemKind) ReadNone → Type 0
+IsBoxed (Ok kind) (Ok found) = found ≡ kind
+IsBoxed (Ok kind) (Err none) = none ≡ NoMemory
+IsBoxed (Err none) (Ok found) = ⊥
+IsBoxed (Err none) (Err other) = other ≡ none
 
 -- a value, if one stands there, and the `;`
 abbrev pub value_end : ItemWithin → Tokens → Read (Option Expr)

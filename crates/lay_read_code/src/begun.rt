@@ -48,21 +48,22 @@ pub enum Whole {
     Call { call: MacroCall },
 }
 
-/// An item up to its body, or the whole item where it has none.
+/// An item up to its body, or the whole item where it has none. What is large in it stands in a box, since an item that is
+/// begun is moved many times.
 #[derive(Drop)]
 pub enum Begun {
     Whole {
-        item: Whole,
+        item: Boxed<Whole>,
     },
     Module {
         name: Name,
     },
     Trait {
-        head: TraitHead,
+        head: Boxed<TraitHead>,
         wheres: Wheres,
     },
     Impl {
-        head: ImplHead,
+        head: Boxed<ImplHead>,
         wheres: Wheres,
     },
     Foreign {
@@ -70,11 +71,11 @@ pub enum Begun {
         abi: Option<Literal>,
     },
     Function {
-        head: FnHead,
+        head: Boxed<FnHead>,
         wheres: Wheres,
     },
     Value {
-        head: ValueHead,
+        head: Boxed<ValueHead>,
     },
 }
 
@@ -126,7 +127,7 @@ fn begun_by(
 }
 
 /// An item without a body, which needs this depth.
-fn whole_item(item: Whole, need: u32) -> Found<Begun>
+fn whole_item(item: Boxed<Whole>, need: u32) -> Found<Begun>
     ensures node { result.node ≡ Begun.Whole item }
     ensures need { result.need ≡ need }
 {
@@ -142,7 +143,8 @@ fn begin_extern_crate(alloc: Global, at: &mut Ahead<'_>) -> Result<Found<Begun>,
     ensures within { IfOk result (λ found. found.need ≡ 0) }
 {
     let item = extern_crate_ahead(alloc, at)?;
-    Ok(whole_item(Whole::ExternCrate { item }, 0))
+    let item = boxed(alloc, Whole::ExternCrate { item })?;
+    Ok(whole_item(item, 0))
 }
 
 /// An import.
@@ -155,8 +157,9 @@ fn begin_import(alloc: Global, at: &mut Ahead<'_>, depth: u32) -> Result<Found<B
     }
     let Found { node, need } = use_ahead(alloc, at, depth)?;
     let tree = boxed(alloc, node)?;
+    let item = boxed(alloc, Whole::Import { tree })?;
     let keeps = takes_mark(at, b";");
-    kept_if(whole_item(Whole::Import { tree }, need), keeps)
+    kept_if(whole_item(item, need), keeps)
 }
 
 /// A module in a file of its own, or the head of another.
@@ -169,7 +172,8 @@ fn begin_module(alloc: Global, at: &mut Ahead<'_>) -> Result<Found<Begun>, ReadN
     }
     let name = read_name(alloc, at)?;
     if takes_mark(at, b";") {
-        Ok(whole_item(Whole::FileModule { name }, 0))
+        let item = boxed(alloc, Whole::FileModule { name })?;
+        Ok(whole_item(item, 0))
     } else {
         Ok(Found {
             node: Begun::Module { name },
@@ -188,12 +192,13 @@ fn begin_function(
     ensures read { IsFound (bodies.function_begun site (deeper depth) at.old) result at.new }
     ensures within { IfOk result (λ found. found.need ≤ depth) }
 {
-    let head = fn_head_ahead(alloc, at, site, depth)?;
+    let Found { node, need } = fn_head_ahead(alloc, at, site, depth)?;
+    let head = boxed(alloc, node)?;
     let (head, wheres) = both(head, wheres_ahead(alloc, at, depth))?;
     Ok(Found {
-        need: greater(head.need, wheres.need),
+        need: greater(need, wheres.need),
         node: Begun::Function {
-            head: head.node,
+            head,
             wheres: wheres.node.0,
         },
     })
@@ -209,8 +214,9 @@ fn begin_alias(
     ensures read { IsFound (node_alone whole.Alias (heads.alias site (within depth) at.old)) result at.new }
     ensures within { IfOk result (λ found. found.need ≤ depth) }
 {
-    let alias = alias_ahead(alloc, at, site, depth)?;
-    Ok(whole_item(Whole::Alias { item: alias.node }, alias.need))
+    let Found { node, need } = alias_ahead(alloc, at, site, depth)?;
+    let item = boxed(alloc, Whole::Alias { item: node })?;
+    Ok(whole_item(item, need))
 }
 
 /// A struct.
@@ -218,8 +224,9 @@ fn begin_struct(alloc: Global, at: &mut Ahead<'_>, depth: u32) -> Result<Found<B
     ensures read { IsFound (node_alone whole.Struct (heads.struct (within depth) at.old)) result at.new }
     ensures within { IfOk result (λ found. found.need ≤ depth) }
 {
-    let item = struct_ahead(alloc, at, depth)?;
-    Ok(whole_item(Whole::Struct { item: item.node }, item.need))
+    let Found { node, need } = struct_ahead(alloc, at, depth)?;
+    let item = boxed(alloc, Whole::Struct { item: node })?;
+    Ok(whole_item(item, need))
 }
 
 /// A union.
@@ -227,8 +234,9 @@ fn begin_union(alloc: Global, at: &mut Ahead<'_>, depth: u32) -> Result<Found<Be
     ensures read { IsFound (node_alone whole.Union (heads.union (within depth) at.old)) result at.new }
     ensures within { IfOk result (λ found. found.need ≤ depth) }
 {
-    let item = union_ahead(alloc, at, depth)?;
-    Ok(whole_item(Whole::Union { item: item.node }, item.need))
+    let Found { node, need } = union_ahead(alloc, at, depth)?;
+    let item = boxed(alloc, Whole::Union { item: node })?;
+    Ok(whole_item(item, need))
 }
 
 /// An enumeration.
@@ -236,8 +244,9 @@ fn begin_enum(alloc: Global, at: &mut Ahead<'_>, depth: u32) -> Result<Found<Beg
     ensures read { IsFound (node_alone whole.Enum (heads.enum (within depth) at.old)) result at.new }
     ensures within { IfOk result (λ found. found.need ≤ depth) }
 {
-    let item = enum_ahead(alloc, at, depth)?;
-    Ok(whole_item(Whole::Enum { item: item.node }, item.need))
+    let Found { node, need } = enum_ahead(alloc, at, depth)?;
+    let item = boxed(alloc, Whole::Enum { item: node })?;
+    Ok(whole_item(item, need))
 }
 
 /// A constant or a static, up to its value.
@@ -245,10 +254,11 @@ fn begin_value(alloc: Global, at: &mut Ahead<'_>, depth: u32) -> Result<Found<Be
     ensures read { IsFound (bodies.value_begun (deeper depth) at.old) result at.new }
     ensures within { IfOk result (λ found. found.need ≤ depth) }
 {
-    let head = value_head_ahead(alloc, at, depth)?;
+    let Found { node, need } = value_head_ahead(alloc, at, depth)?;
+    let head = boxed(alloc, node)?;
     Ok(Found {
-        need: head.need,
-        node: Begun::Value { head: head.node },
+        need,
+        node: Begun::Value { head },
     })
 }
 
@@ -257,12 +267,13 @@ fn begin_trait(alloc: Global, at: &mut Ahead<'_>, depth: u32) -> Result<Found<Be
     ensures read { IsFound (bodies.trait_begun (within depth) at.old) result at.new }
     ensures within { IfOk result (λ found. found.need ≤ depth) }
 {
-    let head = trait_head_ahead(alloc, at, depth)?;
+    let Found { node, need } = trait_head_ahead(alloc, at, depth)?;
+    let head = boxed(alloc, node.0)?;
     let (head, wheres) = both(head, wheres_ahead(alloc, at, depth))?;
     Ok(Found {
-        need: greater(head.need, wheres.need),
+        need: greater(need, wheres.need),
         node: Begun::Trait {
-            head: head.node.0,
+            head,
             wheres: wheres.node.0,
         },
     })
@@ -273,12 +284,13 @@ fn begin_impl(alloc: Global, at: &mut Ahead<'_>, depth: u32) -> Result<Found<Beg
     ensures read { IsFound (bodies.impl_begun (within depth) at.old) result at.new }
     ensures within { IfOk result (λ found. found.need ≤ depth) }
 {
-    let head = impl_head_ahead(alloc, at, depth)?;
+    let Found { node, need } = impl_head_ahead(alloc, at, depth)?;
+    let head = boxed(alloc, node)?;
     let (head, wheres) = both(head, wheres_ahead(alloc, at, depth))?;
     Ok(Found {
-        need: greater(head.need, wheres.need),
+        need: greater(need, wheres.need),
         node: Begun::Impl {
-            head: head.node,
+            head,
             wheres: wheres.node.0,
         },
     })
@@ -312,7 +324,8 @@ fn begin_rules(alloc: Global, at: &mut Ahead<'_>) -> Result<Found<Begun>, ReadNo
     let name = read_name(alloc, at)?;
     let rules = read_group(alloc, at)?;
     if takes_end(at, rules.delim) {
-        Ok(whole_item(Whole::MacroRules { name, rules }, 0))
+        let item = boxed(alloc, Whole::MacroRules { name, rules })?;
+        Ok(whole_item(item, 0))
     } else {
         Err(ReadNone::NoReading)
     }
@@ -325,7 +338,8 @@ fn begin_call(alloc: Global, at: &mut Ahead<'_>) -> Result<Found<Begun>, ReadNon
 {
     let call = call_ahead(alloc, at)?;
     if takes_end(at, call.tokens.delim) {
-        Ok(whole_item(Whole::Call { call }, 0))
+        let item = boxed(alloc, Whole::Call { call })?;
+        Ok(whole_item(item, 0))
     } else {
         Err(ReadNone::NoReading)
     }

@@ -61,16 +61,16 @@ pub fn with_items(begun: Begun, attrs: List<Attr>, items: List<Item>) -> ItemKin
     ensures { result ≡ bodies.with_items begun attrs items }
 {
     match begun {
-        Begun::Whole { item } => kind_of(item),
+        Begun::Whole { item } => kind_of(item.into_inner()),
         Begun::Module { name } => ItemKind::Module { name, attrs, items },
         Begun::Trait { head, wheres } => ItemKind::Trait {
-            head,
+            head: head.into_inner(),
             wheres,
             attrs,
             items,
         },
         Begun::Impl { head, wheres } => ItemKind::Impl {
-            head,
+            head: head.into_inner(),
             wheres,
             attrs,
             items,
@@ -82,11 +82,14 @@ pub fn with_items(begun: Begun, attrs: List<Attr>, items: List<Item>) -> ItemKin
             items,
         },
         Begun::Function { head, wheres } => ItemKind::Function {
-            head,
+            head: head.into_inner(),
             wheres,
             body: None,
         },
-        Begun::Value { head } => ItemKind::Value { head, value: None },
+        Begun::Value { head } => ItemKind::Value {
+            head: head.into_inner(),
+            value: None,
+        },
     }
 }
 
@@ -129,7 +132,7 @@ pub fn with_block(
             Found {
                 need,
                 node: ItemKind::Function {
-                    head,
+                    head: head.into_inner(),
                     wheres,
                     body: body.node,
                 },
@@ -151,12 +154,12 @@ pub fn with_value(
     let need = greater(begun.need, value.need);
     match begun.node {
         Begun::Value { head } => {
-            let keeps = may_be_valued(site, &head, value.node.is_some());
+            let keeps = may_be_valued(site, head.get(), value.node.is_some());
             kept_if(
                 Found {
                     need,
                     node: ItemKind::Value {
-                        head,
+                        head: head.into_inner(),
                         value: value.node,
                     },
                 },

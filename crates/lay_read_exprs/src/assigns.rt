@@ -9,8 +9,9 @@ ghost use Rattle.lay_read_exprs.specs.Answers.{AreExprs};
 use crate::rules::ExprRules;
 use lay_code::{Boxed, Expr, Op, Place};
 use lay_read_parts::joins::both;
+use lay_read_shared::boxes::boxed_found;
 use lay_read_tokens::found::greater;
-use lay_read_tokens::stop::{boxed, keep};
+use lay_read_tokens::stop::keep;
 use lay_read_tokens::{Ahead, Found, ReadNone};
 use lay_token::List;
 use std::alloc::Global;
@@ -36,7 +37,9 @@ fn split(
     Ok((targets, value))
 }
 
-impl<P: Fn(Global, &mut Ahead<'_>, Place, u32) -> Result<Found<Expr>, ReadNone>> ExprRules<P> {
+impl<P: Fn(Global, &mut Ahead<'_>, Place, u32) -> Result<Found<Boxed<Expr>>, ReadNone>> ExprRules<
+    P,
+> {
     /// An expression with assignments behind it.
     #[tactic(auto, unfolding(lay_code::specs::reader::Exprs::assign_expr))]
     #[inline(never)]
@@ -44,8 +47,8 @@ impl<P: Fn(Global, &mut Ahead<'_>, Place, u32) -> Result<Found<Expr>, ReadNone>>
         &self,
         at: &mut Ahead<'_>,
         no_struct: bool,
-        lhs: Found<Expr>,
-    ) -> Result<Found<Expr>, ReadNone>
+        lhs: Found<Boxed<Expr>>,
+    ) -> Result<Found<Boxed<Expr>>, ReadNone>
         requires deeper { AreExprs self.now.depth (P.pre self.now.exprs) (P.post self.now.exprs) }
         requires within { lhs.need ≤ self.now.depth }
         ensures read { IsFound (reader.assign_expr (code_within self.now.depth) no_struct (lhs.node, lhs.need) at.old) result at.new }
@@ -53,11 +56,7 @@ impl<P: Fn(Global, &mut Ahead<'_>, Place, u32) -> Result<Found<Expr>, ReadNone>>
     {
         let (lhs, more) = both(lhs, self.operands(at, 0, no_struct))?;
         let need = greater(lhs.need, more.need) + 1;
-        let (rest, first) = both(more.node, boxed(self.alloc, lhs.node))?;
-        let (targets, value) = split(self.alloc, first, rest)?;
-        Ok(Found {
-            node: Expr::Assign { targets, value },
-            need,
-        })
+        let (targets, value) = split(self.alloc, lhs.node, more.node)?;
+        boxed_found(self.alloc, Expr::Assign { targets, value }, need)
     }
 }

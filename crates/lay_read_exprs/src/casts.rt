@@ -6,13 +6,13 @@ ghost use Rattle.lay_read_shared.specs.Code.{code_within};
 ghost use Rattle.lay_read_exprs.specs.Answers.{AreExprs};
 
 use crate::rules::ExprRules;
-use lay_code::{Expr, Place, Ty, TypePlace};
+use lay_code::{Boxed, Expr, Place, Ty, TypePlace};
 use lay_read_parts::joins::both;
 use lay_read_parts::loops::Part;
+use lay_read_shared::boxes::boxed_found;
 use lay_read_shared::loops::{Going, read_parts};
 use lay_read_tokens::found::greater;
 use lay_read_tokens::front::takes_keyword;
-use lay_read_tokens::stop::boxed;
 use lay_read_tokens::{Ahead, Found, ReadNone};
 use lay_read_types::type_ahead;
 use lay_token::List;
@@ -25,7 +25,9 @@ impl Part<Ty, ()> for Types {
     ghost reads = { λ depth place ts. reader.one_type (code_within depth) ts };
 }
 
-impl<P: Fn(Global, &mut Ahead<'_>, Place, u32) -> Result<Found<Expr>, ReadNone>> ExprRules<P> {
+impl<P: Fn(Global, &mut Ahead<'_>, Place, u32) -> Result<Found<Boxed<Expr>>, ReadNone>> ExprRules<
+    P,
+> {
     /// A type behind its `as`.
     #[tactic(auto, unfolding(lay_code::specs::reader::Exprs::one_type))]
     #[inline(never)]
@@ -44,7 +46,11 @@ impl<P: Fn(Global, &mut Ahead<'_>, Place, u32) -> Result<Found<Expr>, ReadNone>>
     /// An expression with types behind it.
     #[tactic(auto, unfolding(lay_code::specs::reader::Exprs::cast_expr), using(lay_read_shared::proofs::Left::type_leaves))]
     #[inline(never)]
-    pub fn cast_expr(&self, at: &mut Ahead<'_>, lhs: Found<Expr>) -> Result<Found<Expr>, ReadNone>
+    pub fn cast_expr(
+        &self,
+        at: &mut Ahead<'_>,
+        lhs: Found<Boxed<Expr>>,
+    ) -> Result<Found<Boxed<Expr>>, ReadNone>
         requires deeper { AreExprs self.now.depth (P.pre self.now.exprs) (P.post self.now.exprs) }
         requires within { lhs.need ≤ self.now.depth }
         ensures read { IsFound (reader.cast_expr (code_within self.now.depth) (lhs.node, lhs.need) at.old) result at.new }
@@ -62,11 +68,13 @@ impl<P: Fn(Global, &mut Ahead<'_>, Place, u32) -> Result<Found<Expr>, ReadNone>>
                 (),
             ),
         )?;
-        let need = greater(lhs.need, found.need) + 1;
-        let (types, operand) = both(found.node, boxed(self.alloc, lhs.node))?;
-        Ok(Found {
-            node: Expr::Cast { operand, types },
-            need,
-        })
+        boxed_found(
+            self.alloc,
+            Expr::Cast {
+                operand: lhs.node,
+                types: found.node,
+            },
+            greater(lhs.need, found.need) + 1,
+        )
     }
 }

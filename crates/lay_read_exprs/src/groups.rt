@@ -8,13 +8,13 @@ ghost use Rattle.lay_read_shared.specs.Code.{code_within};
 ghost use Rattle.lay_read_exprs.specs.Answers.{AreExprs, array_by};
 
 use crate::rules::ExprRules;
-use lay_code::{Expr, Place};
+use lay_code::{Boxed, Expr, Place};
 use lay_read_parts::joins::{both, prepended, refused};
 use lay_read_parts::loops::{Closer, Part, read_elements};
+use lay_read_shared::boxes::{boxed_found, unboxed};
 use lay_read_shared::places::FREE;
 use lay_read_tokens::found::greater;
 use lay_read_tokens::front::{takes_closer, takes_mark};
-use lay_read_tokens::stop::boxed;
 use lay_read_tokens::tokens::read_tokens;
 use lay_read_tokens::{Ahead, Found, ReadNone};
 use lay_token::{Delim, List};
@@ -23,7 +23,7 @@ use std::alloc::Global;
 /// Expressions one level deeper, as elements of a list.
 pub struct Elements;
 
-impl Part<Expr, Place> for Elements {
+impl Part<Boxed<Expr>, Place> for Elements {
     ghost reads = { λ depth place ts. expr_at place depth ts };
 }
 
@@ -31,8 +31,8 @@ impl Part<Expr, Place> for Elements {
 fn repeat_by(
     alloc: Global,
     at: &mut Ahead<'_>,
-    element: Found<Expr>,
-) -> Result<Found<Expr>, ReadNone>
+    element: Found<Boxed<Expr>>,
+) -> Result<Found<Boxed<Expr>>, ReadNone>
     requires { element.need + 1 < 2 ^ 32 }
     ensures read { IsFound (reader.repeat_by (element.node, element.need) at.old) result at.new }
     ensures within { IfOk result (λ found. found.need ≡ element.need + 1) }
@@ -41,28 +41,32 @@ fn repeat_by(
     if !takes_closer(at, Delim::Bracket) || length.as_slice().is_empty() {
         return refused((element, length));
     }
-    let need = element.need + 1;
-    let (length, element) = both(length, boxed(alloc, element.node))?;
-    Ok(Found {
-        node: Expr::Repeat { element, length },
-        need,
-    })
+    boxed_found(
+        alloc,
+        Expr::Repeat {
+            element: element.node,
+            length,
+        },
+        element.need + 1,
+    )
 }
 
-impl<P: Fn(Global, &mut Ahead<'_>, Place, u32) -> Result<Found<Expr>, ReadNone>> ExprRules<P> {
-    /// Expressions with commas, and the closing delimiter behind them.
+impl<P: Fn(Global, &mut Ahead<'_>, Place, u32) -> Result<Found<Boxed<Expr>>, ReadNone>> ExprRules<
+    P,
+> {
+    /// Expressions with commas, and the closing delimiter behind them, each in its box.
     #[tactic(auto, using(lay_read_shared::proofs::Left::exprs_leave))]
     #[inline(never)]
-    pub fn free_elements(
+    fn boxed_elements(
         &self,
         at: &mut Ahead<'_>,
         delim: Delim,
-    ) -> Result<Found<List<Expr>>, ReadNone>
+    ) -> Result<Found<List<Boxed<Expr>>>, ReadNone>
         requires { AreExprs self.now.depth (P.pre self.now.exprs) (P.post self.now.exprs) }
         ensures read { IsFound (reader.free_elements (code_within self.now.depth) (closes delim) at.old) result at.new }
         ensures within { IfOk result (λ found. found.need ≤ self.now.depth) }
     {
-        read_elements::<Elements, ExprRules<P>, Expr, Place, _>(
+        read_elements::<Elements, ExprRules<P>, Boxed<Expr>, Place, _>(
             self.alloc,
             at,
             self.depth,
@@ -73,21 +77,41 @@ impl<P: Fn(Global, &mut Ahead<'_>, Place, u32) -> Result<Found<Expr>, ReadNone>>
         )
     }
 
+    /// Expressions with commas, and the closing delimiter behind them.
+    #[inline(never)]
+    pub fn free_elements(
+        &self,
+        at: &mut Ahead<'_>,
+        delim: Delim,
+    ) -> Result<Found<List<Expr>>, ReadNone>
+        requires { AreExprs self.now.depth (P.pre self.now.exprs) (P.post self.now.exprs) }
+        ensures read { IsFound (reader.free_elements (code_within self.now.depth) (closes delim) at.old) result at.new }
+        ensures within { IfOk result (λ found. found.need ≤ self.now.depth) }
+    {
+        let found = self.boxed_elements(at, delim)?;
+        let node = unboxed(self.alloc, found.node)?;
+        Ok(Found {
+            node,
+            need: found.need,
+        })
+    }
+
     /// What stands behind a `(`.
     #[tactic(auto, unfolding(lay_code::specs::reader::Exprs::paren_expr))]
     #[inline(never)]
-    pub fn paren_expr(&self, at: &mut Ahead<'_>) -> Result<Found<Expr>, ReadNone>
+    pub fn paren_expr(&self, at: &mut Ahead<'_>) -> Result<Found<Boxed<Expr>>, ReadNone>
         requires { AreExprs self.now.depth (P.pre self.now.exprs) (P.post self.now.exprs) }
         ensures read { IsFound (reader.paren_expr (code_within self.now.depth) at.old) result at.new }
         ensures within { IfOk result (λ found. found.need ≤ self.now.depth + 1) }
     {
         if takes_closer(at, Delim::Paren) {
-            return Ok(Found {
-                node: Expr::Tuple {
+            return boxed_found(
+                self.alloc,
+                Expr::Tuple {
                     elements: List::new(self.alloc),
                 },
-                need: 1,
-            });
+                1,
+            );
         }
         let first = self.inner(at, FREE)?;
         self.paren_by(at, first)
@@ -95,45 +119,51 @@ impl<P: Fn(Global, &mut Ahead<'_>, Place, u32) -> Result<Found<Expr>, ReadNone>>
 
     /// What stands behind a `(` and an expression.
     #[inline(never)]
-    fn paren_by(&self, at: &mut Ahead<'_>, first: Found<Expr>) -> Result<Found<Expr>, ReadNone>
+    fn paren_by(
+        &self,
+        at: &mut Ahead<'_>,
+        first: Found<Boxed<Expr>>,
+    ) -> Result<Found<Boxed<Expr>>, ReadNone>
         requires deeper { AreExprs self.now.depth (P.pre self.now.exprs) (P.post self.now.exprs) }
         requires within { first.need ≤ self.now.depth }
         ensures read { IsFound (reader.paren_by (code_within self.now.depth) (first.node, first.need) at.old) result at.new }
         ensures within { IfOk result (λ found. found.need ≤ self.now.depth + 1) }
     {
         if takes_closer(at, Delim::Paren) {
-            let inner = boxed(self.alloc, first.node)?;
-            return Ok(Found {
-                node: Expr::Paren { inner },
-                need: first.need + 1,
-            });
+            return boxed_found(
+                self.alloc,
+                Expr::Paren { inner: first.node },
+                first.need + 1,
+            );
         }
         if !takes_mark(at, b",") {
             return refused(first);
         }
-        let (first, more) = both(first, self.free_elements(at, Delim::Paren))?;
-        let elements = prepended(first.node, more.node)?;
-        Ok(Found {
-            node: Expr::Tuple { elements },
-            need: greater(first.need, more.need) + 1,
-        })
+        let (first, more) = both(first, self.boxed_elements(at, Delim::Paren))?;
+        let elements = unboxed(self.alloc, prepended(first.node, more.node)?)?;
+        boxed_found(
+            self.alloc,
+            Expr::Tuple { elements },
+            greater(first.need, more.need) + 1,
+        )
     }
 
     /// What stands behind a `[`.
     #[tactic(auto, unfolding(lay_code::specs::reader::Exprs::bracket_expr))]
     #[inline(never)]
-    pub fn bracket_expr(&self, at: &mut Ahead<'_>) -> Result<Found<Expr>, ReadNone>
+    pub fn bracket_expr(&self, at: &mut Ahead<'_>) -> Result<Found<Boxed<Expr>>, ReadNone>
         requires { AreExprs self.now.depth (P.pre self.now.exprs) (P.post self.now.exprs) }
         ensures read { IsFound (reader.bracket_expr (code_within self.now.depth) at.old) result at.new }
         ensures within { IfOk result (λ found. found.need ≤ self.now.depth + 1) }
     {
         if takes_closer(at, Delim::Bracket) {
-            return Ok(Found {
-                node: Expr::Array {
+            return boxed_found(
+                self.alloc,
+                Expr::Array {
                     elements: List::new(self.alloc),
                 },
-                need: 1,
-            });
+                1,
+            );
         }
         let first = self.inner(at, FREE)?;
         if takes_mark(at, b";") {
@@ -145,27 +175,29 @@ impl<P: Fn(Global, &mut Ahead<'_>, Place, u32) -> Result<Found<Expr>, ReadNone>>
 
     /// What stands behind a `[` and an expression, where it is no `;`.
     #[inline(never)]
-    fn array_by(&self, at: &mut Ahead<'_>, first: Found<Expr>) -> Result<Found<Expr>, ReadNone>
+    fn array_by(
+        &self,
+        at: &mut Ahead<'_>,
+        first: Found<Boxed<Expr>>,
+    ) -> Result<Found<Boxed<Expr>>, ReadNone>
         requires deeper { AreExprs self.now.depth (P.pre self.now.exprs) (P.post self.now.exprs) }
         requires within { first.need ≤ self.now.depth }
         ensures read { IsFound (array_by (code_within self.now.depth) (first.node, first.need) at.old) result at.new }
         ensures within { IfOk result (λ found. found.need ≤ self.now.depth + 1) }
     {
         if takes_closer(at, Delim::Bracket) {
-            let elements = prepended(first.node, List::new(self.alloc))?;
-            return Ok(Found {
-                node: Expr::Array { elements },
-                need: first.need + 1,
-            });
+            let elements = unboxed(self.alloc, prepended(first.node, List::new(self.alloc))?)?;
+            return boxed_found(self.alloc, Expr::Array { elements }, first.need + 1);
         }
         if !takes_mark(at, b",") {
             return refused(first);
         }
-        let (first, more) = both(first, self.free_elements(at, Delim::Bracket))?;
-        let elements = prepended(first.node, more.node)?;
-        Ok(Found {
-            node: Expr::Array { elements },
-            need: greater(first.need, more.need) + 1,
-        })
+        let (first, more) = both(first, self.boxed_elements(at, Delim::Bracket))?;
+        let elements = unboxed(self.alloc, prepended(first.node, more.node)?)?;
+        boxed_found(
+            self.alloc,
+            Expr::Array { elements },
+            greater(first.need, more.need) + 1,
+        )
     }
 }

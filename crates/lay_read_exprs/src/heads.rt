@@ -6,12 +6,15 @@ ghost use Rattle.lay_read_exprs.specs.Answers.{AreExprs, marked};
 
 use crate::jumps::continue_expr;
 use crate::rules::ExprRules;
-use lay_code::{Expr, Place};
+use lay_code::{Boxed, Expr, Place};
 use lay_ops::operands::ExprLead;
+use lay_read_shared::boxes::boxed_found;
 use lay_read_tokens::{Ahead, Found, ReadNone};
 use std::alloc::Global;
 
-impl<P: Fn(Global, &mut Ahead<'_>, Place, u32) -> Result<Found<Expr>, ReadNone>> ExprRules<P> {
+impl<P: Fn(Global, &mut Ahead<'_>, Place, u32) -> Result<Found<Boxed<Expr>>, ReadNone>> ExprRules<
+    P,
+> {
     /// What begins an expression, behind its first token.
     #[inline(never)]
     pub fn marked(
@@ -19,16 +22,13 @@ impl<P: Fn(Global, &mut Ahead<'_>, Place, u32) -> Result<Found<Expr>, ReadNone>>
         at: &mut Ahead<'_>,
         no_struct: bool,
         lead: ExprLead,
-    ) -> Result<Found<Expr>, ReadNone>
+    ) -> Result<Found<Boxed<Expr>>, ReadNone>
         requires { AreExprs self.now.depth (P.pre self.now.exprs) (P.post self.now.exprs) }
         ensures read { IsFound (marked (code_within self.now.depth) no_struct lead at.old) result at.new }
         ensures within { IfOk result (λ found. found.need ≤ self.now.depth + 1) }
     {
         match lead {
-            ExprLead::Underscore => Ok(Found {
-                node: Expr::Underscore,
-                need: 1,
-            }),
+            ExprLead::Underscore => boxed_found(self.alloc, Expr::Underscore, 1),
             ExprLead::Paren => self.paren_expr(at),
             ExprLead::Bracket => self.bracket_expr(at),
             ExprLead::Continue => continue_expr(self.alloc, at),

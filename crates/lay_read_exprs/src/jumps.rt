@@ -10,24 +10,24 @@ use lay_code::{Boxed, Expr, Place};
 use lay_ops::ahead::begins_operand;
 use lay_read_parts::joins::both;
 use lay_read_parts::parts::read_lifetime_if;
+use lay_read_shared::boxes::boxed_found;
 use lay_read_shared::places::plain;
 use lay_read_tokens::{Ahead, Found, ReadNone};
 use std::alloc::Global;
 
 /// What stands behind `continue`.
 #[tactic(auto, unfolding(lay_code::specs::reader::Exprs::continue_expr))]
-pub fn continue_expr(alloc: Global, at: &mut Ahead<'_>) -> Result<Found<Expr>, ReadNone>
+pub fn continue_expr(alloc: Global, at: &mut Ahead<'_>) -> Result<Found<Boxed<Expr>>, ReadNone>
     ensures read { IsFound (reader.continue_expr at.old) result at.new }
     ensures within { IfOk result (λ found. found.need ≡ 1) }
 {
     let label = read_lifetime_if(alloc, at)?;
-    Ok(Found {
-        node: Expr::Continue { label },
-        need: 1,
-    })
+    boxed_found(alloc, Expr::Continue { label }, 1)
 }
 
-impl<P: Fn(Global, &mut Ahead<'_>, Place, u32) -> Result<Found<Expr>, ReadNone>> ExprRules<P> {
+impl<P: Fn(Global, &mut Ahead<'_>, Place, u32) -> Result<Found<Boxed<Expr>>, ReadNone>> ExprRules<
+    P,
+> {
     /// An operand at a level, if one begins.
     #[inline(never)]
     pub fn operand_if(
@@ -46,7 +46,7 @@ impl<P: Fn(Global, &mut Ahead<'_>, Place, u32) -> Result<Found<Expr>, ReadNone>>
                 need: 0,
             });
         }
-        let found = self.boxed_inner(at, plain(level, no_struct))?;
+        let found = self.inner(at, plain(level, no_struct))?;
         Ok(Found {
             node: Some(found.node),
             need: found.need,
@@ -56,36 +56,46 @@ impl<P: Fn(Global, &mut Ahead<'_>, Place, u32) -> Result<Found<Expr>, ReadNone>>
     /// What stands behind `return`.
     #[tactic(auto, unfolding(lay_code::specs::reader::Exprs::return_expr))]
     #[inline(never)]
-    pub fn return_expr(&self, at: &mut Ahead<'_>, no_struct: bool) -> Result<Found<Expr>, ReadNone>
+    pub fn return_expr(
+        &self,
+        at: &mut Ahead<'_>,
+        no_struct: bool,
+    ) -> Result<Found<Boxed<Expr>>, ReadNone>
         requires { AreExprs self.now.depth (P.pre self.now.exprs) (P.post self.now.exprs) }
         ensures read { IsFound (reader.return_expr (code_within self.now.depth) no_struct at.old) result at.new }
         ensures within { IfOk result (λ found. found.need ≤ self.now.depth + 1) }
     {
         let found = self.operand_if(at, 0, no_struct)?;
-        Ok(Found {
-            node: Expr::Return {
+        boxed_found(
+            self.alloc,
+            Expr::Return {
                 operand: found.node,
             },
-            need: found.need + 1,
-        })
+            found.need + 1,
+        )
     }
 
     /// What stands behind `break`.
     #[tactic(auto, unfolding(lay_code::specs::reader::Exprs::break_expr))]
     #[inline(never)]
-    pub fn break_expr(&self, at: &mut Ahead<'_>, no_struct: bool) -> Result<Found<Expr>, ReadNone>
+    pub fn break_expr(
+        &self,
+        at: &mut Ahead<'_>,
+        no_struct: bool,
+    ) -> Result<Found<Boxed<Expr>>, ReadNone>
         requires { AreExprs self.now.depth (P.pre self.now.exprs) (P.post self.now.exprs) }
         ensures read { IsFound (reader.break_expr (code_within self.now.depth) no_struct at.old) result at.new }
         ensures within { IfOk result (λ found. found.need ≤ self.now.depth + 1) }
     {
         let label = read_lifetime_if(self.alloc, at)?;
         let (label, found) = both(label, self.operand_if(at, 0, no_struct))?;
-        Ok(Found {
-            node: Expr::Break {
+        boxed_found(
+            self.alloc,
+            Expr::Break {
                 label,
                 operand: found.node,
             },
-            need: found.need + 1,
-        })
+            found.need + 1,
+        )
     }
 }

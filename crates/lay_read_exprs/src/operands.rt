@@ -14,10 +14,10 @@ use lay_ops::ahead::{binary, is_angle, strength};
 use lay_ops::stands;
 use lay_read_parts::joins::{both, refused};
 use lay_read_parts::loops::Part;
+use lay_read_shared::boxes::boxed_found;
 use lay_read_shared::loops::{Going, read_parts};
 use lay_read_shared::places::{before_op, plain};
 use lay_read_tokens::found::greater;
-use lay_read_tokens::stop::boxed;
 use lay_read_tokens::{Ahead, Found, ReadNone};
 use lay_token::List;
 use std::alloc::Global;
@@ -45,7 +45,9 @@ fn operand_ends(at: &Ahead<'_>, operand: &Expr, level: u8, no_struct: bool) -> b
     }
 }
 
-impl<P: Fn(Global, &mut Ahead<'_>, Place, u32) -> Result<Found<Expr>, ReadNone>> ExprRules<P> {
+impl<P: Fn(Global, &mut Ahead<'_>, Place, u32) -> Result<Found<Boxed<Expr>>, ReadNone>> ExprRules<
+    P,
+> {
     /// Operators of a level and their operands, as long as one begins.
     #[tactic(auto, unfolding(lay_code::specs::reader::Exprs::operands), using(lay_read_shared::proofs::Left::operand_leaves))]
     #[inline(never)]
@@ -90,7 +92,7 @@ impl<P: Fn(Global, &mut Ahead<'_>, Place, u32) -> Result<Found<Expr>, ReadNone>>
             None => return Err(ReadNone::NoReading),
         };
         pass_tokens(at, op.text().len());
-        let found = self.boxed_inner(at, plain(level + 1, no_struct))?;
+        let found = self.inner(at, plain(level + 1, no_struct))?;
         if !operand_ends(at, found.node.get(), level, no_struct) {
             return refused(found);
         }
@@ -108,8 +110,8 @@ impl<P: Fn(Global, &mut Ahead<'_>, Place, u32) -> Result<Found<Expr>, ReadNone>>
         at: &mut Ahead<'_>,
         level: u8,
         no_struct: bool,
-        lhs: Found<Expr>,
-    ) -> Result<Found<Expr>, ReadNone>
+        lhs: Found<Boxed<Expr>>,
+    ) -> Result<Found<Boxed<Expr>>, ReadNone>
         requires deeper { AreExprs self.now.depth (P.pre self.now.exprs) (P.post self.now.exprs) }
         requires level { level < 14 }
         requires within { lhs.need ≤ self.now.depth }
@@ -117,11 +119,13 @@ impl<P: Fn(Global, &mut Ahead<'_>, Place, u32) -> Result<Found<Expr>, ReadNone>>
         ensures within { IfOk result (λ found. found.need ≤ self.now.depth + 1) }
     {
         let (lhs, more) = both(lhs, self.operands(at, level, no_struct))?;
-        let need = greater(lhs.need, more.need) + 1;
-        let (rest, first) = both(more.node, boxed(self.alloc, lhs.node))?;
-        Ok(Found {
-            node: Expr::Chain { first, rest },
-            need,
-        })
+        boxed_found(
+            self.alloc,
+            Expr::Chain {
+                first: lhs.node,
+                rest: more.node,
+            },
+            greater(lhs.need, more.need) + 1,
+        )
     }
 }

@@ -6,8 +6,9 @@ ghost use Rattle.lay_read_shared.specs.Code.{code_within};
 ghost use Rattle.lay_read_exprs.specs.Answers.{AreExprs, path_or_call};
 
 use crate::rules::ExprRules;
-use lay_code::{Expr, PathStyle, Place};
+use lay_code::{Boxed, Expr, PathStyle, Place};
 use lay_read_parts::joins::refused;
+use lay_read_shared::boxes::boxed_found;
 use lay_read_tokens::calls::call_ahead;
 use lay_read_tokens::front::{is_at_opened, pass};
 use lay_read_tokens::{Ahead, Found, ReadNone};
@@ -17,21 +18,24 @@ use lay_token::Delim;
 use std::alloc::Global;
 
 /// A macro call that is an expression.
-fn call_expr(alloc: Global, at: &mut Ahead<'_>) -> Result<Found<Expr>, ReadNone>
+fn call_expr(alloc: Global, at: &mut Ahead<'_>) -> Result<Found<Boxed<Expr>>, ReadNone>
     ensures read { IsFound (reader.call_expr at.old) result at.new }
     ensures within { IfOk result (λ found. found.need ≡ 1) }
 {
     let call = call_ahead(alloc, at)?;
-    Ok(Found {
-        node: Expr::Call { call },
-        need: 1,
-    })
+    boxed_found(alloc, Expr::Call { call }, 1)
 }
 
-impl<P: Fn(Global, &mut Ahead<'_>, Place, u32) -> Result<Found<Expr>, ReadNone>> ExprRules<P> {
+impl<P: Fn(Global, &mut Ahead<'_>, Place, u32) -> Result<Found<Boxed<Expr>>, ReadNone>> ExprRules<
+    P,
+> {
     /// A macro call, or what begins with a path.
     #[inline(never)]
-    pub fn path_or_call(&self, at: &mut Ahead<'_>, no_struct: bool) -> Result<Found<Expr>, ReadNone>
+    pub fn path_or_call(
+        &self,
+        at: &mut Ahead<'_>,
+        no_struct: bool,
+    ) -> Result<Found<Boxed<Expr>>, ReadNone>
         requires { AreExprs self.now.depth (P.pre self.now.exprs) (P.post self.now.exprs) }
         ensures read { IsFound (path_or_call (code_within self.now.depth) no_struct at.old) result at.new }
         ensures within { IfOk result (λ found. found.need ≤ self.now.depth + 1) }
@@ -46,7 +50,7 @@ impl<P: Fn(Global, &mut Ahead<'_>, Place, u32) -> Result<Found<Expr>, ReadNone>>
     /// A path, and what stands behind it.
     #[tactic(auto, unfolding(lay_code::specs::reader::Exprs::path_expr))]
     #[inline(never)]
-    fn path_expr(&self, at: &mut Ahead<'_>, no_struct: bool) -> Result<Found<Expr>, ReadNone>
+    fn path_expr(&self, at: &mut Ahead<'_>, no_struct: bool) -> Result<Found<Boxed<Expr>>, ReadNone>
         requires { AreExprs self.now.depth (P.pre self.now.exprs) (P.post self.now.exprs) }
         ensures read { IsFound (reader.path_expr (code_within self.now.depth) no_struct at.old) result at.new }
         ensures within { IfOk result (λ found. found.need ≤ self.now.depth + 1) }
@@ -58,10 +62,7 @@ impl<P: Fn(Global, &mut Ahead<'_>, Place, u32) -> Result<Found<Expr>, ReadNone>>
         } else if at.op_is(b"!") {
             refused(path)
         } else {
-            Ok(Found {
-                node: Expr::Path { path: path.node },
-                need: path.need + 1,
-            })
+            boxed_found(self.alloc, Expr::Path { path: path.node }, path.need + 1)
         }
     }
 }

@@ -9,18 +9,18 @@ ghost use Rattle.lay_read_exprs.specs.Answers.{AreExprs, bracket_step, generic_m
 
 use crate::numbers::{begins_tuple_index, is_at_tuple_index};
 use crate::rules::ExprRules;
-use lay_code::{Arg, Args, Expr, Name, PathStyle, Place, Step};
+use lay_code::{Arg, Args, Boxed, Expr, Name, PathStyle, Place, Step};
 use lay_ops::is_number;
 use lay_read_parts::joins::{both, refused};
 use lay_read_parts::leads::opens_args_late;
 use lay_read_parts::loops::Part;
 use lay_read_parts::parts::read_literal;
+use lay_read_shared::boxes::boxed_found;
 use lay_read_shared::loops::{Going, read_parts};
 use lay_read_shared::places::FREE;
 use lay_read_tokens::found::greater;
 use lay_read_tokens::front::{is_at_opened, takes_closer, takes_keyword, takes_op, takes_opener};
 use lay_read_tokens::names::read_name;
-use lay_read_tokens::stop::boxed;
 use lay_read_tokens::{Ahead, Found, ReadNone};
 use lay_read_types::args_ahead;
 use lay_token::{Delim, List};
@@ -52,21 +52,23 @@ fn read_late_args(
     }
 }
 
-impl<P: Fn(Global, &mut Ahead<'_>, Place, u32) -> Result<Found<Expr>, ReadNone>> ExprRules<P> {
+impl<P: Fn(Global, &mut Ahead<'_>, Place, u32) -> Result<Found<Boxed<Expr>>, ReadNone>> ExprRules<
+    P,
+> {
     /// An expression with postfix steps behind it. A tuple index doesn't stand directly behind a number without suffix.
     #[tactic(auto, unfolding(lay_code::specs::reader::Exprs::postfix_expr), using(lay_read_shared::proofs::Left::step_leaves))]
     #[inline(never)]
     pub fn postfix_expr(
         &self,
         at: &mut Ahead<'_>,
-        lhs: Found<Expr>,
-    ) -> Result<Found<Expr>, ReadNone>
+        lhs: Found<Boxed<Expr>>,
+    ) -> Result<Found<Boxed<Expr>>, ReadNone>
         requires deeper { AreExprs self.now.depth (P.pre self.now.exprs) (P.post self.now.exprs) }
         requires within { lhs.need ≤ self.now.depth }
         ensures read { IsFound (reader.postfix_expr (code_within self.now.depth) (lhs.node, lhs.need) at.old) result at.new }
         ensures within { IfOk result (λ found. found.need ≤ self.now.depth + 1) }
     {
-        if is_number(&lhs.node) && begins_tuple_index(at) {
+        if is_number(lhs.node.get()) && begins_tuple_index(at) {
             return refused(lhs);
         }
         let (lhs, found) = both(
@@ -81,12 +83,14 @@ impl<P: Fn(Global, &mut Ahead<'_>, Place, u32) -> Result<Found<Expr>, ReadNone>>
                 (),
             ),
         )?;
-        let need = greater(lhs.need, found.need) + 1;
-        let (steps, base) = both(found.node, boxed(self.alloc, lhs.node))?;
-        Ok(Found {
-            node: Expr::Postfix { base, steps },
-            need,
-        })
+        boxed_found(
+            self.alloc,
+            Expr::Postfix {
+                base: lhs.node,
+                steps: found.node,
+            },
+            greater(lhs.need, found.need) + 1,
+        )
     }
 
     /// A step.
@@ -125,7 +129,7 @@ impl<P: Fn(Global, &mut Ahead<'_>, Place, u32) -> Result<Found<Expr>, ReadNone>>
         if !takes_opener(at, Delim::Bracket) {
             return Err(ReadNone::NoReading);
         }
-        let found = self.boxed_inner(at, FREE)?;
+        let found = self.inner(at, FREE)?;
         if !takes_closer(at, Delim::Bracket) {
             return refused(found);
         }

@@ -8,10 +8,11 @@ ghost use Rattle.lay_read_shared.specs.Code.{code_within};
 ghost use Rattle.lay_read_exprs.specs.Answers.{AreExprs};
 
 use crate::rules::ExprRules;
-use lay_code::{Expr, Place, Prefix};
+use lay_code::{Boxed, Expr, Place, Prefix};
 use lay_ops::ahead::prefix;
 use lay_ops::operators::prefix_length;
 use lay_read_parts::joins::both;
+use lay_read_shared::boxes::boxed_found;
 use lay_read_shared::places::plain;
 use lay_read_tokens::front::pass;
 use lay_read_tokens::stop::keep;
@@ -41,23 +42,30 @@ fn read_prefixes(alloc: Global, at: &mut Ahead<'_>) -> Result<List<Prefix>, Read
     Ok(prefixes)
 }
 
-impl<P: Fn(Global, &mut Ahead<'_>, Place, u32) -> Result<Found<Expr>, ReadNone>> ExprRules<P> {
+impl<P: Fn(Global, &mut Ahead<'_>, Place, u32) -> Result<Found<Boxed<Expr>>, ReadNone>> ExprRules<
+    P,
+> {
     /// Operators, and the operand behind them.
     #[tactic(auto, unfolding(lay_code::specs::reader::Exprs::unary_expr))]
     #[inline(never)]
-    pub fn unary_expr(&self, at: &mut Ahead<'_>, no_struct: bool) -> Result<Found<Expr>, ReadNone>
+    pub fn unary_expr(
+        &self,
+        at: &mut Ahead<'_>,
+        no_struct: bool,
+    ) -> Result<Found<Boxed<Expr>>, ReadNone>
         requires { AreExprs self.now.depth (P.pre self.now.exprs) (P.post self.now.exprs) }
         ensures read { IsFound (reader.unary_expr (code_within self.now.depth) no_struct at.old) result at.new }
         ensures within { IfOk result (λ found. found.need ≤ self.now.depth + 1) }
     {
         let prefixes = read_prefixes(self.alloc, at)?;
-        let (prefixes, found) = both(prefixes, self.boxed_inner(at, plain(12, no_struct)))?;
-        Ok(Found {
-            node: Expr::Unary {
+        let (prefixes, found) = both(prefixes, self.inner(at, plain(12, no_struct)))?;
+        boxed_found(
+            self.alloc,
+            Expr::Unary {
                 prefixes,
                 operand: found.node,
             },
-            need: found.need + 1,
-        })
+            found.need + 1,
+        )
     }
 }

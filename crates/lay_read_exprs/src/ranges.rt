@@ -8,12 +8,15 @@ ghost use Rattle.lay_read_exprs.specs.Answers.{AreExprs};
 use crate::rules::ExprRules;
 use lay_code::{Boxed, Expr, Place};
 use lay_read_parts::joins::{both, refused};
+use lay_read_shared::boxes::boxed_found;
 use lay_read_tokens::found::greater;
 use lay_read_tokens::front::{pass, pass_two};
 use lay_read_tokens::{Ahead, Found, ReadNone};
 use std::alloc::Global;
 
-impl<P: Fn(Global, &mut Ahead<'_>, Place, u32) -> Result<Found<Expr>, ReadNone>> ExprRules<P> {
+impl<P: Fn(Global, &mut Ahead<'_>, Place, u32) -> Result<Found<Boxed<Expr>>, ReadNone>> ExprRules<
+    P,
+> {
     /// A range, from its `..` or `..=` on.
     #[tactic(auto, unfolding(lay_code::specs::reader::Exprs::range_expr))]
     #[inline(never)]
@@ -22,7 +25,7 @@ impl<P: Fn(Global, &mut Ahead<'_>, Place, u32) -> Result<Found<Expr>, ReadNone>>
         at: &mut Ahead<'_>,
         no_struct: bool,
         start: Found<Option<Boxed<Expr>>>,
-    ) -> Result<Found<Expr>, ReadNone>
+    ) -> Result<Found<Boxed<Expr>>, ReadNone>
         requires deeper { AreExprs self.now.depth (P.pre self.now.exprs) (P.post self.now.exprs) }
         requires within { start.need ≤ self.now.depth }
         ensures read { IsFound (reader.range_expr (code_within self.now.depth) no_struct start.node start.need at.old) result at.new }
@@ -44,7 +47,7 @@ impl<P: Fn(Global, &mut Ahead<'_>, Place, u32) -> Result<Found<Expr>, ReadNone>>
         no_struct: bool,
         start: Found<Option<Boxed<Expr>>>,
         inclusive: bool,
-    ) -> Result<Found<Expr>, ReadNone>
+    ) -> Result<Found<Boxed<Expr>>, ReadNone>
         requires deeper { AreExprs self.now.depth (P.pre self.now.exprs) (P.post self.now.exprs) }
         requires within { start.need ≤ self.now.depth }
         ensures read { IsFound (reader.range_by (code_within self.now.depth) no_struct start.node start.need inclusive at.old) result at.new }
@@ -54,13 +57,14 @@ impl<P: Fn(Global, &mut Ahead<'_>, Place, u32) -> Result<Found<Expr>, ReadNone>>
         if inclusive && end.node.is_none() {
             return refused((start, end));
         }
-        Ok(Found {
-            need: greater(start.need, end.need) + 1,
-            node: Expr::Range {
+        boxed_found(
+            self.alloc,
+            Expr::Range {
                 start: start.node,
                 inclusive,
                 end: end.node,
             },
-        })
+            greater(start.need, end.need) + 1,
+        )
     }
 }

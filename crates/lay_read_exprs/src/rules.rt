@@ -5,7 +5,6 @@ ghost use Rattle.lay_read_tokens.specs.Answers.{IsFound};
 ghost use Rattle.lay_read_exprs.specs.Answers.{AreExprs};
 
 use lay_code::{Boxed, Expr, Place};
-use lay_read_tokens::stop::boxed;
 use lay_read_tokens::{Ahead, Found, ReadNone};
 use std::alloc::Global;
 
@@ -18,33 +17,16 @@ pub struct ExprRules<P> {
     pub exprs: P,
 }
 
-impl<P: Fn(Global, &mut Ahead<'_>, Place, u32) -> Result<Found<Expr>, ReadNone>> ExprRules<P> {
-    /// An expression one level deeper.
+impl<P: Fn(Global, &mut Ahead<'_>, Place, u32) -> Result<Found<Boxed<Expr>>, ReadNone>> ExprRules<
+    P,
+> {
+    /// An expression one level deeper, in its box.
     #[inline(never)]
-    pub fn inner(&self, at: &mut Ahead<'_>, place: Place) -> Result<Found<Expr>, ReadNone>
+    pub fn inner(&self, at: &mut Ahead<'_>, place: Place) -> Result<Found<Boxed<Expr>>, ReadNone>
         requires { AreExprs self.now.depth (P.pre self.now.exprs) (P.post self.now.exprs) }
         ensures read { IsFound (expr_at place self.now.depth at.old) result at.new }
         ensures within { IfOk result (λ found. found.need ≤ self.now.depth) }
     {
         (self.exprs)(self.alloc, at, place, self.depth)
-    }
-
-    /// The same in a box.
-    #[inline(never)]
-    pub fn boxed_inner(
-        &self,
-        at: &mut Ahead<'_>,
-        place: Place,
-    ) -> Result<Found<Boxed<Expr>>, ReadNone>
-        requires { AreExprs self.now.depth (P.pre self.now.exprs) (P.post self.now.exprs) }
-        ensures read { IsFound (expr_at place self.now.depth at.old) result at.new }
-        ensures within { IfOk result (λ found. found.need ≤ self.now.depth) }
-    {
-        let found = self.inner(at, place)?;
-        let node = boxed(self.alloc, found.node)?;
-        Ok(Found {
-            node,
-            need: found.need,
-        })
     }
 }

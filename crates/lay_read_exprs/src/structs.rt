@@ -10,6 +10,7 @@ use lay_code::{Attr, Boxed, Expr, FieldExpr, Name, Path, Place};
 use lay_read_parts::joins::{both, refused};
 use lay_read_parts::loops::{Opening, Part, read_open_elements};
 use lay_read_pats::structs::read_index_if;
+use lay_read_shared::boxes::boxed_found;
 use lay_read_shared::places::FREE;
 use lay_read_tokens::attributes::attrs_ahead;
 use lay_read_tokens::found::greater;
@@ -26,7 +27,9 @@ impl Part<FieldExpr, ()> for Fields {
     ghost reads = { λ depth place ts. reader.one_field (code_within depth) ts };
 }
 
-impl<P: Fn(Global, &mut Ahead<'_>, Place, u32) -> Result<Found<Expr>, ReadNone>> ExprRules<P> {
+impl<P: Fn(Global, &mut Ahead<'_>, Place, u32) -> Result<Found<Boxed<Expr>>, ReadNone>> ExprRules<
+    P,
+> {
     /// Fields in braces, behind a path and the `{`.
     #[tactic(auto, unfolding(lay_code::specs::reader::Exprs::struct_expr), using(lay_read_shared::proofs::Left::field_leaves))]
     #[inline(never)]
@@ -34,7 +37,7 @@ impl<P: Fn(Global, &mut Ahead<'_>, Place, u32) -> Result<Found<Expr>, ReadNone>>
         &self,
         at: &mut Ahead<'_>,
         path: Found<Path>,
-    ) -> Result<Found<Expr>, ReadNone>
+    ) -> Result<Found<Boxed<Expr>>, ReadNone>
         requires deeper { AreExprs self.now.depth (P.pre self.now.exprs) (P.post self.now.exprs) }
         requires within { path.need ≤ self.now.depth }
         ensures read { IsFound (reader.struct_expr (code_within self.now.depth) (path.node, path.need) at.old) result at.new }
@@ -62,7 +65,7 @@ impl<P: Fn(Global, &mut Ahead<'_>, Place, u32) -> Result<Found<Expr>, ReadNone>>
         at: &mut Ahead<'_>,
         path: Found<Path>,
         found: Found<(List<FieldExpr>, bool)>,
-    ) -> Result<Found<Expr>, ReadNone>
+    ) -> Result<Found<Boxed<Expr>>, ReadNone>
         requires deeper { AreExprs self.now.depth (P.pre self.now.exprs) (P.post self.now.exprs) }
         requires within { path.need ≤ self.now.depth }
         requires fields_within { found.need ≤ self.now.depth }
@@ -75,14 +78,15 @@ impl<P: Fn(Global, &mut Ahead<'_>, Place, u32) -> Result<Found<Expr>, ReadNone>>
         if !takes_closer(at, Delim::Brace) {
             return refused((path, (fields, base)));
         }
-        Ok(Found {
-            need: greater(path.need, greater(need, base.need)) + 1,
-            node: Expr::Struct {
+        boxed_found(
+            self.alloc,
+            Expr::Struct {
                 path: path.node,
                 fields,
                 base: base.node,
             },
-        })
+            greater(path.need, greater(need, base.need)) + 1,
+        )
     }
 
     /// A base, if the fields ended and a `..` stands behind them.
@@ -110,7 +114,7 @@ impl<P: Fn(Global, &mut Ahead<'_>, Place, u32) -> Result<Found<Expr>, ReadNone>>
                 need: 0,
             });
         }
-        let found = self.boxed_inner(at, FREE)?;
+        let found = self.inner(at, FREE)?;
         Ok(Found {
             node: Some(Some(found.node)),
             need: found.need,
@@ -145,7 +149,7 @@ impl<P: Fn(Global, &mut Ahead<'_>, Place, u32) -> Result<Found<Expr>, ReadNone>>
         ensures read { IsFound (numbered_field (code_within self.now.depth) attrs index at.old) result at.new }
         ensures within { IfOk result (λ found. found.need ≤ self.now.depth) }
     {
-        let ((attrs, index), found) = both((attrs, index), self.boxed_inner(at, FREE))?;
+        let ((attrs, index), found) = both((attrs, index), self.inner(at, FREE))?;
         Ok(Found {
             need: found.need,
             node: FieldExpr::Numbered {
@@ -189,7 +193,7 @@ impl<P: Fn(Global, &mut Ahead<'_>, Place, u32) -> Result<Found<Expr>, ReadNone>>
                 need: 0,
             });
         }
-        let ((attrs, name), found) = both((attrs, name), self.boxed_inner(at, FREE))?;
+        let ((attrs, name), found) = both((attrs, name), self.inner(at, FREE))?;
         Ok(Found {
             need: found.need,
             node: FieldExpr::Named {

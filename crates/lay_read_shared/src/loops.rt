@@ -1,5 +1,5 @@
 //! The loop of parts that stand one behind another, over a function that reads one of them.
-ghost use Rattle.std.specs.Prelude.{◌≡◌, ◌≤◌, IfOk};
+ghost use Rattle.std.specs.Prelude.{◌≡◌, ◌≤◌, ◌++◌, ◌∷◌, [], IfErr, IfOk, MatchResult};
 ghost use Rattle.lay_node.specs.reader.Loops.{repeat};
 ghost use Rattle.lay_code.specs.reader.Exprs.{begins_else_if};
 ghost use Rattle.lay_read_tokens.specs.Answers.{AreFound, IsHeld};
@@ -51,6 +51,25 @@ fn goes_on(at: &Ahead<'_>, going: Going) -> bool
     }
 }
 
+/// Keeps a part behind those before it, and tells what it needs. It is taken apart in a call of its own, so that the loop holds no
+/// room for the moves while a part is read.
+#[inline(never)]
+fn keep_part<T: Drop>(
+    nodes: &mut List<T>,
+    part: Result<Found<T>, ReadNone>,
+) -> Result<u32, ReadNone>
+    ensures ok { IfOk result (λ need. MatchResult part (λ found. (need ≡ found.need) × (nodes.new ≡ nodes.old ++ found.node ∷ [])) (λ none. ⊥)) }
+    ensures err { IfErr result (λ none. MatchResult part (λ found. none ≡ ReadNone.NoMemory) (λ stopped. none ≡ stopped)) }
+{
+    match part {
+        Ok(found) => {
+            keep(nodes, found.node)?;
+            Ok(found.need)
+        }
+        Err(none) => Err(none),
+    }
+}
+
 /// Parts as long as one begins.
 #[inline(never)]
 pub fn read_parts<
@@ -75,9 +94,8 @@ pub fn read_parts<
     let mut nodes = List::new(alloc);
     let mut need = 0;
     while goes_on(at, going) {
-        let found = part(rules, at, place)?;
-        need = greater(need, found.need);
-        keep(&mut nodes, found.node)?;
+        let needed = keep_part(&mut nodes, part(rules, at, place))?;
+        need = greater(need, needed);
     }
     Ok(Found { node: nodes, need })
 }

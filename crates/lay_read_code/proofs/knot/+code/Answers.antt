@@ -1,11 +1,11 @@
-use Rattle.std.proofs.Common.{◌≡◌, ◌+◌, ◌-◌, ◌<◌, ◌++◌, ◌∷◌, [], false, refl, sym, arith}
+use Rattle.std.proofs.Common.{◌≡◌, ◌+◌, ◌-◌, ◌<◌, ◌++◌, ◌∷◌, [], Ok, false, refl, sym, arith}
 use Rattle.std.proofs.lemmas.Result.{err_from_is_err_and}
 use Rattle.lay_node.specs.Ahead.{more_items}
 use Rattle.lay_node.specs.reader.Attr.{attributes}
 use Rattle.lay_node.specs.reader.Vis.{visibility}
 use Rattle.lay_code.specs.reader.Code.{expr_at, item_at}
 use Rattle.lay_code.specs.reader.Exprs.{expr_by}
-use Rattle.lay_code.specs.reader.Item.{fn_body, item_body, items_by, kind_at}
+use Rattle.lay_code.specs.reader.Item.{items_by, kind_at}
 use Rattle.lay_read_tokens.proofs.Left.{shorter}
 use Rattle.lay_read_shared.proofs.Left.{item_left}
 use Rattle.lay_read_tokens.proofs.Steps.{lost}
@@ -13,9 +13,8 @@ use Rattle.lay_read_tokens.proofs.Turns.{repeat-start, repeat-end, repeat-none, 
 use Rattle.lay_read_tokens.proofs.Holding.{holding_more}
 use Rattle.lay_read_types.proofs.Steps.{found_by}
 use Rattle.lay_read_shared.specs.Code.{code_within}
-use Rattle.lay_read_blocks.proofs.Second.{second_found, second_stopped, second_within}
-use Rattle.lay_read_code.specs.Begun.{begun_at, deeper, value_end}
-use Rattle.lay_read_code.proofs.ItemBodies.{block_within, braced, kind_no_block, kind_no_body, kind_no_value, kind_none, kind_whole, kind_with_block, kind_with_body, kind_with_value, made_found, value_within}
+use Rattle.lay_read_code.specs.Begun.{begun_at, deeper}
+use Rattle.lay_read_code.proofs.ItemBodies.{block_in, block_made, braced, items_in, items_made, kind_none, value_in, value_made, whole_made}
 use Rattle.lay_read_code.proofs.Steps.{block_found, block_nowhere, expr_deeper, expr_nowhere, item_kept, item_no_attrs, item_no_kind, item_no_vis, item_nowhere}
 use Rattle.lay_read_code.proofs.knot.+code.Goals as goal
 
@@ -138,116 +137,61 @@ pub item_ahead-returns-clause-read : goal.item_ahead-returns-clause-read
 item_ahead-returns-clause-read t c =
     let some : 0 < c.args.depth = omega arith in
     let kind = c.in_ok-kind.kind in
-    let node = c.in_ok-node.node in
-    let same : node ≡ kind.node = c.in_ok-node.ensures.ok in
     item_kept c.args.site c.args.depth c.args.at.now some c.in_ok-attrs.attrs c.attrs_ahead.new.at c.in_ok-attrs.ensures
-    c.in_ok-vis.vis c.vis_ahead.new.at c.in_ok-vis.ensures node kind.need c.read_kind.new.at (rw same c.in_ok-kind.ensures.read)
-    c.may_have-keeps.result (rw same c.may_have-keeps.ensures) c.kept_if.result c.kept_if.ensures
+    c.in_ok-vis.vis c.vis_ahead.new.at c.in_ok-vis.ensures kind.node kind.need c.read_kind.new.at c.in_ok-kind.ensures.read
+    c.may_have-keeps.result (rw c.get.ensures at c.may_have-keeps.ensures) c.kept_if.result c.kept_if.ensures
 
 -- ---- what items are
 
-pub read_kind-returns-in_err-begun-clause-read : goal.read_kind-returns-in_err-begun-clause-read
-read_kind-returns-in_err-begun-clause-read t c =
+pub read_kind-returns-in-Err-clause-read : goal.read_kind-returns-in-Err-clause-read
+read_kind-returns-in-Err-clause-read t c =
     let within = deeper c.args.depth in
-    let p = err_from_is_err_and c.from_residual.result c.from_residual.ensures.1 in
-    rw (p.1, p.2) (lost (begun_at c.args.site within c.args.at.now) (kind_at c.args.site within c.args.at.now)
-    c.in_err-begun.field-0.0 c.in_err-begun.ensures.read (kind_none c.args.site within c.args.at.now))
+    lost (begun_at c.args.site within c.args.at.now) (kind_at c.args.site within c.args.at.now) c.in-Err.none c.in-Err.ensures.read
+    (kind_none c.args.site within c.args.at.now)
 
 pub read_kind-returns-in-None-clause-read : goal.read_kind-returns-in-None-clause-read
 read_kind-returns-in-None-clause-read t c =
-    let begun = c.in_ok-begun.begun in
-    rw (c.with_items.ensures, c.new.ensures, c.new-in-None.ensures)
-    (kind_whole c.args.site (deeper c.args.depth) c.args.at.now begun.node begun.need c.read_begun.new.at c.in_ok-begun.ensures.read
-    (sym c.in-None.ensures))
+    whole_made c.args.site (deeper c.args.depth) c.args.at.now c.in-Ok.begun c.read_begun.new.at c.in-Ok.ensures.read c.items_kind.result
+    (sym c.in-None.ensures) c.new.result c.new-in-None.result c.new.ensures c.new-in-None.ensures c.items_kind.ensures
 
-pub read_kind-returns-in_err-begun-in-Items-clause-read : goal.read_kind-returns-in_err-begun-in-Items-clause-read
-read_kind-returns-in_err-begun-in-Items-clause-read t c =
-    let within = deeper c.args.depth in
-    let begun = c.in_ok-begun.begun in
-    let body = item_body within c.in-Items.inner c.read_begun.new.at in
-    let none = c.in_err-begun-in-Items.field-0.0 in
-    let p = err_from_is_err_and c.from_residual-in_err-begun-in-Items.result c.from_residual-in_err-begun-in-Items.ensures.1 in
-    rw (p.1, p.2) (lost body (kind_at c.args.site within c.args.at.now) none
-    (second_stopped body begun c.read_body.new.at c.read_body.result none c.in_err-begun-in-Items.ensures c.read_body.ensures.read)
-    (kind_no_body c.args.site within c.args.at.now begun.node begun.need c.read_begun.new.at c.in_ok-begun.ensures.read
-    c.in-Items.inner (sym c.in-Items.ensures)))
+pub read_kind-returns-in-None-clause-within : goal.read_kind-returns-in-None-clause-within
+read_kind-returns-in-None-clause-within t c =
+    items_in c.in-Ok.begun c.args.depth c.in-Ok.ensures.within c.items_kind.result
+    (Ok (record { node = (c.new.result, c.new-in-None.result); need = 0 })) (omega arith) c.items_kind.ensures
 
-pub read_kind-returns-in_ok-begun-in-Items-clause-read : goal.read_kind-returns-in_ok-begun-in-Items-clause-read
-read_kind-returns-in_ok-begun-in-Items-clause-read t c =
-    let within = deeper c.args.depth in
-    let begun = c.in_ok-begun.begun in
-    let body = c.in_ok-begun-in-Items.body in
-    let found = second_found (item_body within c.in-Items.inner c.read_begun.new.at) begun c.read_body.new.at c.read_body.result
-    c.in_ok-begun-in-Items.begun body c.in_ok-begun-in-Items.ensures c.read_body.ensures.read in
-    rw (c.with_items-in-Items.ensures, c.greater.ensures, found.0)
-    (kind_with_body c.args.site within c.args.at.now begun.node begun.need c.read_begun.new.at c.in_ok-begun.ensures.read
-    c.in-Items.inner (sym c.in-Items.ensures) body.node.0 body.node.1 body.need c.read_body.new.at found.1)
+pub read_kind-returns-in-Items-clause-read : goal.read_kind-returns-in-Items-clause-read
+read_kind-returns-in-Items-clause-read t c =
+    let body = c.read_body-body in
+    items_made c.args.site (deeper c.args.depth) c.args.at.now c.in-Ok.begun c.read_begun.new.at c.in-Ok.ensures.read
+    c.items_kind-in-Items.result c.in-Items.inner (sym c.in-Items.ensures) body.result body.new.at body.ensures.read
+    c.items_kind-in-Items.ensures
 
-pub read_kind-returns-in_err-begun-in-Block-clause-read : goal.read_kind-returns-in_err-begun-in-Block-clause-read
-read_kind-returns-in_err-begun-in-Block-clause-read t c =
-    let within = deeper c.args.depth in
-    let begun = c.in_ok-begun.begun in
-    let body = fn_body (code_within c.args.depth) c.read_begun.new.at in
-    let none = c.in_err-begun-in-Block.field-0.0 in
-    let p = err_from_is_err_and c.from_residual-in_err-begun-in-Block.result c.from_residual-in_err-begun-in-Block.ensures.1 in
-    rw (p.1, p.2) (lost body (kind_at c.args.site within c.args.at.now) none
-    (second_stopped body begun c.read_block_if.new.at c.read_block_if.result none c.in_err-begun-in-Block.ensures c.read_block_if.ensures.read)
-    (kind_no_block c.args.site within c.args.at.now begun.node begun.need c.read_begun.new.at c.in_ok-begun.ensures.read
-    (sym c.in-Block.ensures)))
+pub read_kind-returns-in-Items-clause-within : goal.read_kind-returns-in-Items-clause-within
+read_kind-returns-in-Items-clause-within t c =
+    items_in c.in-Ok.begun c.args.depth c.in-Ok.ensures.within c.items_kind-in-Items.result c.read_body-body.result
+    c.read_body-body.ensures.within c.items_kind-in-Items.ensures
 
-pub read_kind-returns-in_ok-begun-in-Block-clause-read : goal.read_kind-returns-in_ok-begun-in-Block-clause-read
-read_kind-returns-in_ok-begun-in-Block-clause-read t c =
-    let within = deeper c.args.depth in
-    let begun = c.in_ok-begun.begun in
-    let body = c.in_ok-begun-in-Block.body in
-    let found = second_found (fn_body (code_within c.args.depth) c.read_begun.new.at) begun c.read_block_if.new.at c.read_block_if.result
-    c.in_ok-begun-in-Block.begun body c.in_ok-begun-in-Block.ensures c.read_block_if.ensures.read in
-    made_found (kind_at c.args.site within c.args.at.now) c.with_block.result c.read_block_if.new.at
-    (rw (c.with_block.ensures, found.0) (kind_with_block c.args.site within c.args.at.now begun.node begun.need c.read_begun.new.at
-    c.in_ok-begun.ensures.read (sym c.in-Block.ensures) body.node body.need c.read_block_if.new.at found.1))
+pub read_kind-returns-in-Block-clause-read : goal.read_kind-returns-in-Block-clause-read
+read_kind-returns-in-Block-clause-read t c =
+    let body = c.read_block_if-body in
+    block_made c.args.site (deeper c.args.depth) c.args.at.now c.in-Ok.begun c.read_begun.new.at c.in-Ok.ensures.read c.block_kind.result
+    (sym c.in-Block.ensures) body.result body.new.at body.ensures.read c.block_kind.ensures
 
-pub read_kind-returns-in_ok-begun-in-Block-clause-within : goal.read_kind-returns-in_ok-begun-in-Block-clause-within
-read_kind-returns-in_ok-begun-in-Block-clause-within t c =
-    let begun = c.in_ok-begun.begun in
-    let body = c.in_ok-begun-in-Block.body in
-    let found = second_found (fn_body (code_within c.args.depth) c.read_begun.new.at) begun c.read_block_if.new.at c.read_block_if.result
-    c.in_ok-begun-in-Block.begun body c.in_ok-begun-in-Block.ensures c.read_block_if.ensures.read in
-    rw (c.with_block.ensures, found.0) (block_within begun.node begun.need c.args.site body.node body.need c.args.depth c.in_ok-begun.ensures.within
-    (second_within begun c.args.depth c.read_block_if.result c.in_ok-begun-in-Block.begun body c.in_ok-begun-in-Block.ensures
-    c.read_block_if.ensures.within))
+pub read_kind-returns-in-Block-clause-within : goal.read_kind-returns-in-Block-clause-within
+read_kind-returns-in-Block-clause-within t c =
+    block_in c.in-Ok.begun c.args.depth c.in-Ok.ensures.within c.block_kind.result c.args.site c.read_block_if-body.result
+    c.read_block_if-body.ensures.within c.block_kind.ensures
 
-pub read_kind-returns-in_err-begun-in-Value-clause-read : goal.read_kind-returns-in_err-begun-in-Value-clause-read
-read_kind-returns-in_err-begun-in-Value-clause-read t c =
-    let within = deeper c.args.depth in
-    let begun = c.in_ok-begun.begun in
-    let value = value_end within c.read_begun.new.at in
-    let none = c.in_err-begun-in-Value.field-0.0 in
-    let p = err_from_is_err_and c.from_residual-in_err-begun-in-Value.result c.from_residual-in_err-begun-in-Value.ensures.1 in
-    rw (p.1, p.2) (lost value (kind_at c.args.site within c.args.at.now) none
-    (second_stopped value begun c.read_value_if.new.at c.read_value_if.result none c.in_err-begun-in-Value.ensures c.read_value_if.ensures.read)
-    (kind_no_value c.args.site within c.args.at.now begun.node begun.need c.read_begun.new.at c.in_ok-begun.ensures.read
-    (sym c.in-Value.ensures)))
+pub read_kind-returns-in-Value-clause-read : goal.read_kind-returns-in-Value-clause-read
+read_kind-returns-in-Value-clause-read t c =
+    let value = c.read_value_if-value in
+    value_made c.args.site (deeper c.args.depth) c.args.at.now c.in-Ok.begun c.read_begun.new.at c.in-Ok.ensures.read c.value_kind.result
+    (sym c.in-Value.ensures) value.result value.new.at value.ensures.read c.value_kind.ensures
 
-pub read_kind-returns-in_ok-begun-in-Value-clause-read : goal.read_kind-returns-in_ok-begun-in-Value-clause-read
-read_kind-returns-in_ok-begun-in-Value-clause-read t c =
-    let within = deeper c.args.depth in
-    let begun = c.in_ok-begun.begun in
-    let value = c.in_ok-begun-in-Value.value in
-    let found = second_found (value_end within c.read_begun.new.at) begun c.read_value_if.new.at c.read_value_if.result
-    c.in_ok-begun-in-Value.begun value c.in_ok-begun-in-Value.ensures c.read_value_if.ensures.read in
-    made_found (kind_at c.args.site within c.args.at.now) c.with_value.result c.read_value_if.new.at
-    (rw (c.with_value.ensures, found.0) (kind_with_value c.args.site within c.args.at.now begun.node begun.need c.read_begun.new.at
-    c.in_ok-begun.ensures.read (sym c.in-Value.ensures) value.node value.need c.read_value_if.new.at found.1))
-
-pub read_kind-returns-in_ok-begun-in-Value-clause-within : goal.read_kind-returns-in_ok-begun-in-Value-clause-within
-read_kind-returns-in_ok-begun-in-Value-clause-within t c =
-    let begun = c.in_ok-begun.begun in
-    let value = c.in_ok-begun-in-Value.value in
-    let found = second_found (value_end (deeper c.args.depth) c.read_begun.new.at) begun c.read_value_if.new.at c.read_value_if.result
-    c.in_ok-begun-in-Value.begun value c.in_ok-begun-in-Value.ensures c.read_value_if.ensures.read in
-    rw (c.with_value.ensures, found.0) (value_within begun.node begun.need c.args.site value.node value.need c.args.depth c.in_ok-begun.ensures.within
-    (second_within begun c.args.depth c.read_value_if.result c.in_ok-begun-in-Value.begun value c.in_ok-begun-in-Value.ensures
-    c.read_value_if.ensures.within))
+pub read_kind-returns-in-Value-clause-within : goal.read_kind-returns-in-Value-clause-within
+read_kind-returns-in-Value-clause-within t c =
+    value_in c.in-Ok.begun c.args.depth c.in-Ok.ensures.within c.value_kind.result c.args.site c.read_value_if-value.result
+    c.read_value_if-value.ensures.within c.value_kind.ensures
 
 -- ---- inner attributes and items in braces
 

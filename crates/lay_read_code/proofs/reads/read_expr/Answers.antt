@@ -21,7 +21,7 @@ pub returns : goal.returns
 returns c =
     let place = c.args.place in
     let found = c.in_ok-found.found in
-    rw c.into_cursor.ensures (node_read (expr_at place) (λ (x : Expr). ExprFront place (about_expr x)) (exprs_exact place)
+    rw (c.into_cursor.ensures, c.into_inner.ensures) (node_read (expr_at place) (λ (x : Expr). ExprFront place (about_expr x)) (exprs_exact place)
     (λ x. front_deeper (about_expr x).form (placed (about_expr x) place) (follows (about_expr x) place))
     c.args.depth c.args.at.now c.requires c.new-ahead.result (c.new-ahead.ensures ∙ c.fork.ensures)
     found.node found.need c.expr_ahead.new.at c.in_ok-found.ensures.read)

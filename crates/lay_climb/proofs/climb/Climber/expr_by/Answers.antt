@@ -29,8 +29,9 @@ returns-then-is_ended-clause-read g c =
     let ts = c.args.at.now in
     let mid = c.head.new.at in
     let head : Expr × ℕ = (c.in_ok-head.head.node, c.in_ok-head.head.need) in
+    let ends = rw c.get.ensures at c.is_ended.ensures in
     found_by (expr_by deeper budget place ts) (accepted budget place head mid) c.accepted.result mid
-    (ended_head deeper budget place ts head mid c.in_ok-head.ensures.read (sym c.is_ended.ensures ∙ c.if-is_ended.true))
+    (ended_head deeper budget place ts head mid c.in_ok-head.ensures.read (sym ends ∙ c.if-is_ended.true))
     c.accepted.ensures.read
 
 pub returns-else-is_ended-clause-read : goal.returns-else-is_ended-clause-read
@@ -41,6 +42,7 @@ returns-else-is_ended-clause-read g c =
     let ts = c.args.at.now in
     let mid = c.head.new.at in
     let head : Expr × ℕ = (c.in_ok-head.head.node, c.in_ok-head.head.need) in
+    let ends = rw c.get.ensures at c.is_ended.ensures in
     found_by (expr_by deeper budget place ts) (climbed deeper budget place 14 head mid) c.climb.result c.climb.new.at
-    (going_head deeper budget place ts head mid c.in_ok-head.ensures.read (sym c.is_ended.ensures ∙ c.if-is_ended.false))
+    (going_head deeper budget place ts head mid c.in_ok-head.ensures.read (sym ends ∙ c.if-is_ended.false))
     c.climb.ensures.read

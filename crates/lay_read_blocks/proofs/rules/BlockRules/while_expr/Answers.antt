@@ -1,14 +1,15 @@
-use Rattle.std.proofs.Common.{◌≡◌, suc, ◌+◌, Option, ap, arith}
+use Rattle.std.proofs.Common.{◌≡◌, suc, ◌+◌, Option, Some, ap, arith}
 use Rattle.std.proofs.lemmas.Result.{err_from_is_err_and}
 use Rattle.lay_node.specs.declared.patterns.Pat.{Pat}
 use Rattle.lay_code.specs.reader.Blocks.{branch_by}
 use Rattle.lay_code.specs.reader.Exprs.{while_expr}
 use Rattle.lay_code.specs.declared.blocks.Block.{Block}
 use Rattle.lay_code.specs.declared.exprs.Expr.{Expr}
+use Rattle.lay_code.specs.declared.exprs.Expr.TheVariants as expr
 use Rattle.lay_read_tokens.proofs.Steps.{lost}
 use Rattle.lay_read_shared.specs.Code.{code_within}
 use Rattle.lay_read_blocks.proofs.Chains.{while_none, while_read}
-use Rattle.lay_read_blocks.proofs.Second.{second_found, second_stopped}
+use Rattle.lay_read_blocks.proofs.Second.{boxed_read, second_found, second_stopped}
 use Rattle.lay_read_blocks.proofs.rules.BlockRules.while_expr.Goals as goal
 
 pub returns-in_err-label-clause-read : goal.returns-in_err-label-clause-read
@@ -34,4 +35,7 @@ returns-clause-read g c =
     let condition = ap (λ (q : Option Pat × Expr × Block). q.1) parts.ensures in
     let body = ap (λ (q : Option Pat × Expr × Block). q.2) parts.ensures in
     let need : one.found.need + 1 ≡ suc one.found.need = omega arith in
-    rw (branch.0, pat, condition, body, need) (while_read deeper ts c.args.label one.found.node one.found.need left branch.1)
+    let read : while_expr deeper c.args.label ts ≡ Some ((expr.While one.label c.into_parts-pat.result.0 c.into_parts-pat.result.1 c.into_parts-pat.result.2, one.found.need + 1), left) =
+    rw (branch.0, pat, condition, body, need) (while_read deeper ts c.args.label one.found.node one.found.need left branch.1) in
+    boxed_read (while_expr deeper c.args.label ts) _ _ left c.boxed_found.result read c.boxed_found.ensures.node c.boxed_found.ensures.need
+    c.boxed_found.ensures.err

@@ -13,7 +13,7 @@ returns-then-not-operand_ends-clause-read g c =
     let ends = rw c.get.ensures at c.operand_ends.ensures in
     let read = ap (λ p. expr_at p c.args.self.now.depth mid) (sym c.plain.ensures) ∙ c.in_ok-found.ensures.read in
     rw c.refused.ensures (operand_stops (code_within c.args.self.now.depth) c.args.place.0 c.args.place.1 ts c.in-Some.op
-    mid found.node found.need c.boxed_inner.new.at (sym c.binary.ensures ∙ c.in-Some.is) passed read
+    mid found.node found.need c.inner.new.at (sym c.binary.ensures ∙ c.in-Some.is) passed read
     (sym ends ∙ c.if-not-operand_ends.true))
 
 pub returns-clause-read : goal.returns-clause-read
@@ -25,5 +25,5 @@ returns-clause-read g c =
     let ends = rw c.get.ensures at c.operand_ends.ensures in
     let read = ap (λ p. expr_at p c.args.self.now.depth mid) (sym c.plain.ensures) ∙ c.in_ok-found.ensures.read in
     operand_read (code_within c.args.self.now.depth) c.args.place.0 c.args.place.1 ts c.in-Some.op mid found.node
-    found.need c.boxed_inner.new.at (sym c.binary.ensures ∙ c.in-Some.is) passed read
+    found.need c.inner.new.at (sym c.binary.ensures ∙ c.in-Some.is) passed read
     (sym ends ∙ c.if-not-operand_ends.false)
