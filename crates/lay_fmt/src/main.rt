@@ -2,7 +2,8 @@
 #![tactic(auto)]
 
 ghost use Rattle.std.specs.Prelude.{◌≡◌, [], OnOk, OnErr};
-ghost use Rattle.lay_io.specs.Told.{GrewByPrefix};
+ghost use Rattle.lay_io.specs.Faults.{Rose};
+ghost use Rattle.lay_io.specs.Told.{GrewBy, GrewByPrefix};
 ghost use Rattle.lay_front.specs.Messages.{message};
 ghost use Rattle.lay_fmt.specs.Exit.{number_of};
 
@@ -52,6 +53,8 @@ fn finished<E: Sink>(status: Status, flushed: Result<(), Failed>, err: &mut E) -
     ensures same { OnOk flushed ((result ≡ status) × (err.new ≡ err.old)) }
     ensures failed { OnErr flushed ((result ≡ Status.WriteFailed)
         × GrewByPrefix (E.written err.old) (E.written err.new) (message [] Status.WriteFailed)) }
+    ensures whole { OnErr flushed (¬ (Rose (E.faults err.old) (E.faults err.new))
+        → GrewBy (E.written err.old) (E.written err.new) (message [] Status.WriteFailed)) }
 {
     match flushed {
         Ok(()) => status,

@@ -1,5 +1,5 @@
 -- A text that is given is the one that the bytes have.
-use Rattle.std.proofs.Common.{◌≡◌, ◌⊎◌, inl, inr, ℕ, List, Result, Ok, Err, IfOk, refl, sym, ap, ◌∙◌, subst}
+use Rattle.std.proofs.Common.{◌≡◌, ◌≤◌, ◌⊎◌, inl, inr, ℕ, List, Result, Ok, Err, IfOk, refl, sym, ap, ◌∙◌, subst}
 use Rattle.lay_text.specs.declared.refusal.FormatError.{FormatError}
 use Rattle.lay_text.specs.declared.refusal.FormatError.TheVariants as error
 use Rattle.lay_text.specs.declared.refusal.Refusal.{Refusal}
@@ -9,7 +9,8 @@ use Rattle.lay_code.specs.Written.{Written}
 use Rattle.lay_code.specs.declared.file.File.{File}
 use Rattle.lay_reparse.proofs.file.OneAnswer.{one_file, one_refusal, never_both}
 use Rattle.lay_reparse.proofs.file.Reparse.{again, out_reads}
-use Rattle.lay_reparse.specs.Reparse.{IsSpelled}
+use Rattle.lay_code.specs.nodes.File.{form_of_file}
+use Rattle.lay_form.specs.Depth.{least_depth}
 use Rattle.lay_files.specs.Readings.{ReadsOnlyTo}
 use Rattle.lay_front.specs.Outcome.{FormatsTo, IsTextFor}
 
@@ -40,7 +41,7 @@ module _ (bytes : List ℕ) where
       (text_whole file result h (subst (λ (b : List ℕ). Reads b file) (sym e) (again given file r)))
 
 -- The text of a file that can be written reads to the file.
-pub reads_back : {E : Type 0} (file : File) (result : Result (List ℕ) E) → Written file → IsSpelled file top → IfOk result (λ text. text ≡ out file)
+pub reads_back : {E : Type 0} (file : File) (result : Result (List ℕ) E) → Written file → least_depth (form_of_file file) ≤ top → IfOk result (λ text. text ≡ out file)
     → IfOk result (λ text. Reads text file)
-reads_back file (Ok text) w s is = subst (λ (t : List ℕ). Reads t file) (sym is) (out_reads file w s)
-reads_back file (Err error) w s is = tt
+reads_back file (Ok text) w n is = subst (λ (t : List ℕ). Reads t file) (sym is) (out_reads file w n)
+reads_back file (Err error) w n is = tt

@@ -13,7 +13,7 @@ use Rattle.lay_reparse.proofs.file.OneAnswer.{one_refusal, never_both}
 use Rattle.lay_front.proofs.OutcomeLemmas.{wrote, told_as, complete_refused}
 use Rattle.lay_sample.specs.Sample.{sample_text}
 use Rattle.lay_front.specs.Inputs.{InputAs, IsPlaced, input_of}
-use Rattle.lay_front.specs.Messages.{Says, line_of_end, message, refusal_line}
+use Rattle.lay_front.specs.Messages.{RefusedIn, Says, line_of_end, message, refusal_line}
 use Rattle.lay_front.specs.Outcome.{CheckRun, FormatRun, LineRun, SampleRun, WasRead, Wrote, WrotePart, IsItsText, IsNotItsText}
 use Rattle.lay_front.specs.Stops.{status_of}
 use Rattle.lay_front.specs.declared.command.Status.{Status}
@@ -68,7 +68,7 @@ pub stopped_placed : (before now : Option (List ℕ)) (f g : ℕ) (s : Stop) →
 stopped_placed before now f g stop.Usage h = tt
 stopped_placed before now f g stop.ReadFailed h = tt
 stopped_placed before now f g stop.TooLong h = tt
-stopped_placed before now f g (stop.Refused refusal place) h = (h.bytes, h.all, h.holds.1)
+stopped_placed before now f g (stop.Refused refusal place) h = (h.bytes, h.all, h.holds.0, h.holds.1)
 stopped_placed before now f g stop.WriteFailed h = tt
 stopped_placed before now f g stop.Differs h = tt
 stopped_placed before now f g stop.NoMemory h = tt
@@ -88,30 +88,33 @@ tells_some None = ([], tt)
 tells_some (Some all) = (all, refl)
 
 module _ (told before now : Option (List ℕ)) (f g : ℕ) where
-  says_any : (status : Status) → ((bytes : List ℕ) → message bytes status ≡ message [] status) → GrewByPrefix before now (message [] status)
+  says_any : (status : Status) → ((bytes : List ℕ) → message bytes status ≡ message [] status)
+      → ((bytes : List ℕ) → RefusedIn bytes status) → GrewByPrefix before now (message [] status)
       → ((Rose f g → ⊥) → GrewBy before now (message [] status)) → Says told status before now f g
-  says_any status same part whole = record {
+  says_any status same refused part whole = record {
     bytes = (tells_some told).0;
     given = (tells_some told).1;
+    refused = refused (tells_some told).0;
     part = subst (λ (m : List ℕ). GrewByPrefix before now m) (sym (same (tells_some told).0)) part;
     whole = λ none. subst (λ (m : List ℕ). GrewBy before now m) (sym (same (tells_some told).0)) (whole none);
   }
 
   pub says : (ended : Result (Unit {0}) Stop) → IsPlaced told ended → GrewByPrefix before now (line_of_end ended)
       → ((Rose f g → ⊥) → GrewBy before now (line_of_end ended)) → Says told (status_of ended) before now f g
-  says (Ok done) p part whole = says_any Done (λ bytes. refl) part whole
-  says (Err stop.Usage) p part whole = says_any Usage (λ bytes. refl) part whole
-  says (Err stop.ReadFailed) p part whole = says_any ReadFailed (λ bytes. refl) part whole
-  says (Err stop.TooLong) p part whole = says_any TooLong (λ bytes. refl) part whole
+  says (Ok done) p part whole = says_any Done (λ bytes. refl) (λ bytes. tt) part whole
+  says (Err stop.Usage) p part whole = says_any Usage (λ bytes. refl) (λ bytes. tt) part whole
+  says (Err stop.ReadFailed) p part whole = says_any ReadFailed (λ bytes. refl) (λ bytes. tt) part whole
+  says (Err stop.TooLong) p part whole = says_any TooLong (λ bytes. refl) (λ bytes. tt) part whole
   says (Err (stop.Refused refusal place)) p part whole = record {
     bytes = p.0;
     given = p.1;
-    part = subst (λ (at : Place2). GrewByPrefix before now (refusal_line refusal at)) p.2 part;
-    whole = λ none. subst (λ (at : Place2). GrewBy before now (refusal_line refusal at)) p.2 (whole none);
+    refused = p.2;
+    part = subst (λ (at : Place2). GrewByPrefix before now (refusal_line refusal at)) p.3 part;
+    whole = λ none. subst (λ (at : Place2). GrewBy before now (refusal_line refusal at)) p.3 (whole none);
   }
-  says (Err stop.WriteFailed) p part whole = says_any WriteFailed (λ bytes. refl) part whole
-  says (Err stop.Differs) p part whole = says_any Differs (λ bytes. refl) part whole
-  says (Err stop.NoMemory) p part whole = says_any NoMemory (λ bytes. refl) part whole
+  says (Err stop.WriteFailed) p part whole = says_any WriteFailed (λ bytes. refl) (λ bytes. tt) part whole
+  says (Err stop.Differs) p part whole = says_any Differs (λ bytes. refl) (λ bytes. tt) part whole
+  says (Err stop.NoMemory) p part whole = says_any NoMemory (λ bytes. refl) (λ bytes. tt) part whole
 
 -- ---- from the bytes to the status
 

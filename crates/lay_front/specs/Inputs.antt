@@ -1,7 +1,7 @@
 -- Which bytes a run is given, and what is read of them before anything is written.
-use Rattle.std.specs.Prelude.{ℕ, ◌≡◌, ◌<◌, List, length, Option, None, Some, IfSome, Result, Ok, Err}
+use Rattle.std.specs.Prelude.{ℕ, ◌≡◌, ◌≢◌, ◌<◌, List, length, Option, None, Some, IfSome, Result, Ok, Err}
 use Rattle.lay_io.specs.Faults.{Rose}
-use Rattle.lay_io.specs.Told.{TellsAs}
+use Rattle.lay_io.specs.Told.{IsEnd, TellsAs}
 use Rattle.lay_io.specs.declared.outside.Which.{Which}
 use Rattle.lay_line.specs.declared.lines.Line.{Line}
 use Rattle.lay_line.specs.declared.lines.Line.TheVariants as line
@@ -21,6 +21,11 @@ input_of (line.Format which) = Some which
 input_of (line.Check which) = Some which
 input_of (line.Sample seed items) = None
 
+-- Of the named input an end is left, and of each other what was left.
+pub record TookFrom (named : Option Which) (before now : Which → Option (List ℕ)) : Type 0 where
+  pub others : (which : Which) → named ≢ Some which → now which ≡ before which
+  pub rest : (which : Which) → named ≡ Some which → IsEnd (before which) (now which)
+
 -- What is told of the bytes that a line formats: of the input that it names, or the sample that it asks for.
 abbrev pub given_to : Line → (Which → Option (List ℕ)) → Option (List ℕ)
 given_to line.Usage left = None
@@ -39,7 +44,8 @@ InputAs before now f g (Err (Refused refusal place)) =
 InputAs before now f g (Err NoMemory) = Unit {0}
 InputAs before now f g (Err stop) = ⊥
 
--- A refusal stands at its place in the bytes that are told.
+-- The bytes that are told have the refusal, and this is its place in them.
 abbrev pub IsPlaced : Option (List ℕ) → Result (Unit {0}) Stop → Type 0
-IsPlaced told (Err (Refused refusal place)) = (bytes : List ℕ) × TellsAs told bytes × (place ≡ place_in bytes refusal)
+IsPlaced told (Err (Refused refusal place)) =
+    (bytes : List ℕ) × TellsAs told bytes × IsRefused bytes refusal × (place ≡ place_in bytes refusal)
 IsPlaced told ended = Unit {0}

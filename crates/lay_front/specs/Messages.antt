@@ -6,6 +6,7 @@ use Rattle.lay_io.specs.Told.{TellsAs, GrewBy, GrewByPrefix}
 use Rattle.lay_text.specs.declared.refusal.Refusal.{Refusal}
 use Rattle.lay_text.specs.declared.refusal.Refusal.TheVariants.{NotUtf8, NoToken, Unbalanced, NoItem}
 use Rattle.lay_token.specs.declared.place.Place2.{Place2}
+use Rattle.lay_code.specs.Reading.{IsRefused}
 use Rattle.lay_files.specs.Places.{place_in}
 use Rattle.lay_front.specs.declared.stop.Stop.{Stop}
 use Rattle.lay_front.specs.declared.stop.Stop.TheVariants as stop
@@ -35,11 +36,18 @@ message bytes WriteFailed = codes "write failed\n"
 message bytes TooLong = codes "input is longer than 16777216 bytes\n"
 message bytes NoMemory = codes "no memory\n"
 
--- A run over the bytes that are told said the line of its status: a prefix of it, and all of it where no write failed.
+-- Where the status is a refusal, the bytes have it.
+abbrev pub RefusedIn : List ℕ → Status → Type 0
+RefusedIn bytes (Refused refusal) = IsRefused bytes refusal
+RefusedIn bytes status = Unit {0}
+
+-- A run over the bytes that are told said the line of its status: a prefix of it, and all of it where no write failed. Where
+-- it told a refusal, these bytes have it.
 pub record Says (told : Option (List ℕ)) (status : Status) (before now : Option (List ℕ)) (faults later : ℕ)
     : Type 0 where
   pub bytes : List ℕ
   pub given : TellsAs told bytes
+  pub refused : RefusedIn bytes status
   pub part : GrewByPrefix before now (message bytes status)
   pub whole : (Rose faults later → ⊥) → GrewBy before now (message bytes status)
 

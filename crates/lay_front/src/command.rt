@@ -1,14 +1,14 @@
 //! The command.
 ghost use Rattle.std.specs.Prelude.{◌≡◌, ◌≢◌, ◌<◌, ◌≤◌, ◌⊎◌, ℕ, List as Items, length, None, Some, Err};
 ghost use Rattle.lay_io.specs.Faults.{Rose, SameLoan};
-ghost use Rattle.lay_io.specs.Told.{GrewBy};
+ghost use Rattle.lay_io.specs.Told.{GrewBy, IsEnd};
 ghost use Rattle.lay_io.specs.declared.outside.Which.{Which};
 ghost use Rattle.lay_line.specs.Line.{line_of};
 ghost use Rattle.lay_line.specs.declared.lines.Line.TheVariants as line;
 ghost use Rattle.lay_text.specs.declared.refusal.Refusal.{Refusal};
 ghost use Rattle.lay_code.specs.Out.{out as text_of_file};
 ghost use Rattle.lay_code.specs.Reading.{IsRefused, Reads};
-ghost use Rattle.lay_front.specs.Inputs.{InputAs, IsPlaced, given_to, input_of};
+ghost use Rattle.lay_front.specs.Inputs.{InputAs, IsPlaced, TookFrom, given_to, input_of};
 ghost use Rattle.lay_front.specs.Messages.{Says};
 ghost use Rattle.lay_front.specs.Outcome.{CheckRun, FormatRun, LineRun, SampleRun};
 ghost use Rattle.lay_front.specs.Stops.{status_of};
@@ -72,6 +72,12 @@ pub fn run<I: Inputs, K: Sink, E: Sink>(
     // The input that the line names is chosen, and none where it names none, unless memory was wanting for the words.
     ensures chosen { (I.chosen inputs.new ≡ input_of (line_of words.now))
         ⊎ ((result ≡ Status.NoMemory) × (inputs.new ≡ inputs.old)) }
+
+    // Of the input that the line names an end is left, and of each other what was left.
+    ensures others { (which : Which) → input_of (line_of words.now) ≢ Some which
+        → I.left inputs.new which ≡ I.left inputs.old which }
+    ensures rest { (which : Which) → input_of (line_of words.now) ≡ Some which
+        → IsEnd (I.left inputs.old which) (I.left inputs.new which) }
 
     // No count falls, and each sink that comes back holds the loan that it held.
     ensures later { (I.faults inputs.old ≤ I.faults inputs.new) × (K.faults out.old ≤ K.faults out.new)
@@ -164,6 +170,7 @@ fn execute<I: Inputs, K: Sink>(
     requires { I.chosen inputs.old ≡ None }
     ensures chosen { (I.chosen inputs.new ≡ input_of (line_of words.now))
         ⊎ ((result ≡ Err Stop.NoMemory) × (inputs.new ≡ inputs.old)) }
+    ensures took { TookFrom (input_of (line_of words.now)) (I.left inputs.old) (I.left inputs.new) }
     ensures run { LineRun K.written K.faults I.left I.faults (line_of words.now)
         inputs.old inputs.new out.old out.new (status_of result) }
     ensures placed { IsPlaced (given_to (line_of words.now) (I.left inputs.old)) result }
@@ -188,6 +195,7 @@ fn format_input<I: Inputs, K: Sink>(
 ) -> Result<(), Stop>
     requires { I.chosen inputs.old ≡ None }
     ensures chosen { I.chosen inputs.new ≡ Some which }
+    ensures took { TookFrom (Some which) (I.left inputs.old) (I.left inputs.new) }
     ensures run { FormatRun K.written K.faults I.left I.faults which
         inputs.old inputs.new out.old out.new (status_of result) }
     ensures placed { IsPlaced (I.left inputs.old which) result }
@@ -209,6 +217,7 @@ fn format_input<I: Inputs, K: Sink>(
 fn check_input<I: Inputs>(alloc: Global, which: Which, inputs: &mut I) -> Result<(), Stop>
     requires { I.chosen inputs.old ≡ None }
     ensures chosen { I.chosen inputs.new ≡ Some which }
+    ensures took { TookFrom (Some which) (I.left inputs.old) (I.left inputs.new) }
     ensures run { CheckRun I.left I.faults which inputs.old inputs.new (status_of result) }
     ensures placed { IsPlaced (I.left inputs.old which) result }
     ensures later { I.faults inputs.old ≤ I.faults inputs.new }
@@ -232,6 +241,7 @@ fn read_input<I: Inputs>(
 ) -> Result<(List<u8>, File), Stop>
     requires { I.chosen inputs.old ≡ None }
     ensures chosen { I.chosen inputs.new ≡ Some which }
+    ensures took { TookFrom (Some which) (I.left inputs.old) (I.left inputs.new) }
     ensures input { InputAs (I.left inputs.old which) (I.left inputs.new which)
         (I.faults inputs.old) (I.faults inputs.new) result }
     ensures later { I.faults inputs.old ≤ I.faults inputs.new }

@@ -6,7 +6,8 @@ ghost use Rattle.lay_text.specs.declared.refusal.Refusal.{Refusal};
 ghost use Rattle.lay_code.specs.Out.{out as text_of_file};
 ghost use Rattle.lay_code.specs.Reading.{IsRefused, Reads, top};
 ghost use Rattle.lay_code.specs.Written.{Written};
-ghost use Rattle.lay_reparse.specs.Reparse.{IsSpelled};
+ghost use Rattle.lay_code.specs.nodes.File.{form_of_file};
+ghost use Rattle.lay_form.specs.Depth.{least_depth};
 ghost use Rattle.lay_code.specs.declared.file.File.{File};
 ghost use Rattle.lay_front.specs.Outcome.{Formats, FormatsTo};
 
@@ -51,7 +52,7 @@ pub fn format(alloc: Global, bytes: &[u8]) -> Result<Text, FormatError>
 /// `is_written` of `lay_laws`.
 pub fn unparse(alloc: Global, file: &File) -> Result<Text, NoMemory>
     requires written { Written file.now }
-    requires spelled { IsSpelled file.now top }
+    requires depth { least_depth (form_of_file file.now) ≤ top }
     ensures text { IfOk result (λ text. text ≡ text_of_file file.now) }
     ensures reads { IfOk result (λ text. Reads text file.now) }
 {

@@ -30,7 +30,9 @@ pub fn tell<E: Sink>(ended: Result<(), Stop>, err: &mut E)
 
 /// Says on `err` that a write failed: its line, or a front of it where `err` fails too.
 pub fn tell_failed_write<E: Sink>(err: &mut E)
-    ensures { GrewByPrefix (E.written err.old) (E.written err.new) (message [] Status.WriteFailed) }
+    ensures part { GrewByPrefix (E.written err.old) (E.written err.new) (message [] Status.WriteFailed) }
+    ensures whole { ¬ (Rose (E.faults err.old) (E.faults err.new))
+        → GrewBy (E.written err.old) (E.written err.new) (message [] Status.WriteFailed) }
 {
     tell(Err(Stop::WriteFailed), err);
 }

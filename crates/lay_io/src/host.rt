@@ -1,8 +1,9 @@
 //! The trusted edge: the system's streams and files. These objects tell nothing of content.
-ghost use Rattle.std.specs.Prelude.{◌≡◌, ◌≢◌, [], None, Some, IfOk, OnErr, IsSome};
+ghost use Rattle.std.specs.Prelude.{◌≡◌, ◌≢◌, [], None, Some, IfOk, OnOk, OnErr, IsSome};
 ghost use Rattle.std.specs.Io.{ReadsAtMost};
 ghost use Rattle.lay_io.specs.Calls.{Takes, left_of};
 ghost use Rattle.lay_io.specs.Faults.{CountsOnce, HasCause};
+ghost use Rattle.lay_io.specs.Gathered.{Waits};
 ghost use Rattle.lay_io.specs.Kept.{kept_in};
 ghost use Rattle.lay_io.specs.declared.outside.Which.{Which};
 
@@ -206,14 +207,15 @@ fn write_waiting<R: Print>(runtime: &R, waiting: &mut Room) -> Result<(), Failed
 
 /// Keeps the piece behind what waits, or writes what waits first. After a failure nothing waits.
 fn gather<R: Print>(runtime: &R, waiting: &mut Room, piece: &[u8]) -> Result<(), Failed>
-    ensures { OnErr result ((kept_in waiting.new).bytes ≡ Some []) }
+    ensures kept { OnOk result (Waits (kept_in waiting.old) piece.now (kept_in waiting.new).bytes) }
+    ensures dropped { OnErr result ((kept_in waiting.new).bytes ≡ Some []) }
 {
     if piece.len() <= waiting.left() {
         waiting.put(piece);
         return Ok(());
     }
     write_waiting(runtime, waiting)?;
-    if piece.len() < GATHERED {
+    if piece.len() < waiting.left() {
         waiting.put(piece);
         return Ok(());
     }
@@ -233,7 +235,7 @@ impl<'a, R: Print + Eprint> Sink for HostSink<'a, R> {
 
     ghost faults = { λ s. s.faults };
 
-    ghost wrote = { λ s _ answer t. HostWrite s answer t };
+    ghost wrote = { λ s piece answer t. HostWrite s piece answer t };
 
     fn write(&mut self, piece: &[u8]) -> Result<(), Failed> {
         let answer = match &mut self.stream {

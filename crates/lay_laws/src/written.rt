@@ -1,6 +1,7 @@
 //! Which trees are files that can be written.
-ghost use Rattle.std.specs.Prelude.{◌↔◌, IfOk, IsTrue};
-ghost use Rattle.lay_reparse.specs.Reparse.{IsSpelled};
+ghost use Rattle.std.specs.Prelude.{◌↔◌, ◌≤◌, IfOk, IsTrue};
+ghost use Rattle.lay_form.specs.Depth.{least_depth};
+ghost use Rattle.lay_code.specs.nodes.File.{form_of_file};
 ghost use Rattle.lay_code.specs.Reading.{top};
 ghost use Rattle.lay_code.specs.Written.{Written};
 
@@ -19,7 +20,7 @@ use std::alloc::Global;
 /// was read can be written. This takes time and memory in proportion to the text, and of the stack what a file of its
 /// depth needs: its names may spell a deeper one, which is refused there.
 pub fn is_written(alloc: Global, file: &File) -> Result<bool, NoMemory>
-    ensures { IfOk result (λ answer. IsTrue answer ↔ (Written file.now × IsSpelled file.now top)) }
+    ensures { IfOk result (λ answer. IsTrue answer ↔ (Written file.now × (least_depth (form_of_file file.now) ≤ top))) }
 {
     let depth = file_depth(file);
     if depth > DEPTH {

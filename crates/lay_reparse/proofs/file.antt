@@ -25,6 +25,9 @@ pub mod PatternParts
 pub mod Patterns
 pub mod Reparse
 pub mod Singles
+pub mod SomeAnswer
+pub mod SomeNesting
+pub mod SomeTokens
 pub mod TypeArgs
 pub mod TypeKinds
 pub mod TypeParts

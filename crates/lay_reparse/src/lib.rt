@@ -27,6 +27,9 @@
 //! - **Files** (`file`: `FirstText`, `forms/HeadsFirst`, `file/FirstItems`, `Singles`, `Reparse`, `OneAnswer`). The
 //!   text begins with nothing that would be taken for a byte order mark or a shebang, and the rest follows: what it
 //!   lexes to is balanced, and spells the file.
+//! - **Each input** (`file`: `SomeTokens`, `SomeNesting`, `SomeAnswer`). A text is gaps and pieces to its end, or up to a
+//!   place where neither stands; its tokens are balanced, or a delimiter has no partner; and the longest run of inner
+//!   attributes and items that they begin with is all of them, or a token stands behind it.
 //! - **Token lists** (`tokens`: `Table`, `Neighbours`, `Rows`, `Lexed`, `TokenLists`, `Within`). What stands between
 //!   two tokens of a list is told by a table. Where that leaves nothing, the right token meets what the left one
 //!   needs, because the list passes the test of token lists. So a list passes as a part of any node, and so does a
@@ -34,14 +37,16 @@
 //! - **Texts joined** (`join`: `Joining`). The same question for any two texts, without a layout.
 #![tactic(auto)]
 
-ghost use Rattle.std.specs.Prelude.{◌≡◌, ◌↔◌, ℕ, List, IsTrue, IsUtf8};
+ghost use Rattle.std.specs.Prelude.{◌≡◌, ◌≤◌, ◌⊎◌, ◌↔◌, ℕ, List, IsTrue, IsUtf8};
 ghost use Rattle.lay_layout.specs.Anyway.{Anyway};
 ghost use Rattle.lay_text.specs.declared.refusal.Refusal.{Refusal};
 ghost use Rattle.lay_token.specs.declared.token.Token.{Token};
+ghost use Rattle.lay_form.specs.Depth.{least_depth};
 ghost use Rattle.lay_form.specs.Layout.{document};
 ghost use Rattle.lay_node.specs.declared.token.Listed.{Listed};
 ghost use Rattle.lay_node.specs.tokens.Lexed.{IsTokenList, ReadsTokens, is_token_list};
 ghost use Rattle.lay_node.specs.tokens.Lists.{token_list};
+ghost use Rattle.lay_code.specs.nodes.File.{form_of_file};
 ghost use Rattle.lay_code.specs.Out.{layout_of_file, out};
 ghost use Rattle.lay_code.specs.Reading.{IsRefusedAt, Reads, ReadsAt, top};
 ghost use Rattle.lay_reparse.specs.Join.{Joinable, Joins};
@@ -50,13 +55,15 @@ ghost use Rattle.lay_code.specs.Written.{Written};
 ghost use Rattle.lay_code.specs.declared.file.File.{File};
 
 /// Every text that the layout of a file that is written can give, whatever fits on a line, reads to the file again, at
-/// each depth at which the file is spelled; the text that is laid out does so at the depth of files.
+/// each depth from the least one of the file's form on, and at that one the file is spelled. The text that is laid out does
+/// so at the depth of files, if the file is no deeper.
 /// So what bytes read to is laid out as a text that reads to it, and by [`unique_law`] to nothing else: laid out again,
 /// it is the same.
 pub fn reparse_law()
     ensures each_text { (file : File) (depth : ℕ) (text : List ℕ)
-        → Written file → IsSpelled file depth → Anyway (layout_of_file file) text → ReadsAt depth text file }
-    ensures own_text { (file : File) → Written file → IsSpelled file top → Reads (out file) file }
+        → Written file → least_depth (form_of_file file) ≤ depth → Anyway (layout_of_file file) text → ReadsAt depth text file }
+    ensures attained { (file : File) → Written file → IsSpelled file (least_depth (form_of_file file)) }
+    ensures own_text { (file : File) → Written file → least_depth (form_of_file file) ≤ top → Reads (out file) file }
     ensures again { (bytes : List ℕ) (file : File) → Reads bytes file → Reads (out file) file }
 {}
 
@@ -74,9 +81,10 @@ pub fn join_law()
         → IsUtf8 left → IsUtf8 right → Joinable left right a b → Joins left right a b }
 {}
 
-/// At each depth bytes have one answer at most: they read to one file, or are refused for one cause at one place, and never
-/// both.
+/// At each depth bytes have one answer: they read to one file, or are refused for one cause at one place, and never both.
 pub fn unique_law()
+    ensures some_answer { (depth : ℕ) (bytes : List ℕ)
+        → ((file : File) × ReadsAt depth bytes file) ⊎ ((refusal : Refusal) × IsRefusedAt depth bytes refusal) }
     ensures one_file { (depth : ℕ) (bytes : List ℕ) (file other : File)
         → ReadsAt depth bytes file → ReadsAt depth bytes other → other ≡ file }
     ensures one_refusal { (depth : ℕ) (bytes : List ℕ) (refusal other : Refusal)

@@ -247,17 +247,18 @@ reparse_at file depth text w n l = by file.shebang refl l.1
         line_reads file w depth line text m l.0 e (ap is_good_shebang (sym e) ∙ w.shebang) l.2 refl (laid m h.1) p
     by (Some line) e (inr h) = absurd (let f : false ≡ true = h.0 in cc)
 
--- A depth at which it is spelled is enough.
-pub reparse_file : (file : File) (depth : ℕ) (text : List ℕ) → Written file → IsSpelled file depth
-    → Anyway (layout_of_file file) text → ReadsAt depth text file
-reparse_file file depth text w s l = reparse_at file depth text w (least (form_of_file file) depth s.0 [] s.1) l
+-- The least depth of its form is one at which it is spelled.
+pub attained : (file : File) → Written file → IsSpelled file (least_depth (form_of_file file))
+attained file w =
+    let r = reparse_at file (least_depth (form_of_file file)) (out file) w (omega arith) (text_anyway (layout_of_file file)) in
+    (r.tokens, r.spells.1)
 
 -- The text that is laid out is one of them.
-pub out_reads : (file : File) → Written file → IsSpelled file top → Reads (out file) file
-out_reads file w s = reparse_file file top (out file) w s (text_anyway (layout_of_file file))
+pub out_reads : (file : File) → Written file → least_depth (form_of_file file) ≤ top → Reads (out file) file
+out_reads file w n = reparse_at file top (out file) w n (text_anyway (layout_of_file file))
 
 -- ---- formatted again
 
 -- What bytes read to is laid out as a text that reads to it again.
 pub again : (bytes : List ℕ) (file : File) → Reads bytes file → Reads (out file) file
-again bytes file r = out_reads file r.spells.0 (r.tokens, r.spells.1)
+again bytes file r = out_reads file r.spells.0 (least (form_of_file file) top r.tokens [] r.spells.1)

@@ -28,6 +28,12 @@ pub returns-clause-chosen : goal.returns-clause-chosen
 returns-clause-chosen g c = rw c.status_after.ensures
     (chosen_or c.execute-ended.result _ _ c.args.inputs.now c.execute-ended.new.inputs c.execute-ended.ensures.chosen)
 
+pub returns-clause-others : goal.returns-clause-others
+returns-clause-others g c = c.execute-ended.ensures.took.others
+
+pub returns-clause-rest : goal.returns-clause-rest
+returns-clause-rest g c = c.execute-ended.ensures.took.rest
+
 pub returns-clause-format : goal.returns-clause-format
 returns-clause-format g c = rw c.status_after.ensures
     (line_format g.K.Sink.written g.K.Sink.faults g.I.Inputs.left g.I.Inputs.faults c.args.inputs.now c.execute-ended.new.inputs c.args.out.now c.execute-ended.new.out
