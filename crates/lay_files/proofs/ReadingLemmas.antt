@@ -1,18 +1,24 @@
 -- What a reader of bytes answers.
-use Rattle.std.proofs.Common.{◌≡◌, ℕ, List, Result, Ok, Err, sym, ap, subst, Bool, true, false, cond}
+use Rattle.std.proofs.Common.{◌≡◌, ℕ, List, Result, Ok, Err, Option, None, refl, sym, ap, ◌∙◌, subst, Bool, true, false, cond}
 use Rattle.std.specs.Str.{is_utf8}
 use Rattle.std.specs.Str.Lossy.{utf8_valid_len}
 use Rattle.lay_token.specs.Source.{Source, source}
 use Rattle.lay_token.specs.Delimiters.{Balanced}
-use Rattle.lay_token.specs.Lexes.{Lexes}
+use Rattle.lay_token.specs.Lexes.{Lexes, Other}
 use Rattle.lay_token.specs.declared.token.Token.{Token}
 use Rattle.lay_text.specs.declared.refusal.Refusal.{Refusal}
 use Rattle.lay_text.specs.declared.refusal.Refusal.TheVariants.{NotUtf8, NoToken, Unbalanced, NoItem}
 use Rattle.lay_text.specs.declared.refusal.FormatError.{FormatError}
 use Rattle.lay_text.specs.declared.refusal.FormatError.TheVariants as error
 use Rattle.lay_code.specs.Reading.{NoItemAt, ReadsAt, IsRefusedAt, SpellsFile}
+use Rattle.lay_code.specs.Written.{is_good_shebang}
+use Rattle.lay_code.specs.nodes.File.{form_of_file}
 use Rattle.lay_code.specs.declared.file.File.{File}
+use Rattle.lay_reparse.proofs.file.Items.{file_passes}
 use Rattle.lay_reparse.proofs.file.OneAnswer.{one_file}
+use Rattle.lay_reparse.proofs.file.Singles.{parts_single}
+use Rattle.lay_reparse.proofs.forms.Balance.{are_single, balanced}
+use Rattle.lay_reparse.proofs.forms.Passes.{plain}
 use Rattle.lay_read_code.specs.Answers.{FileAs}
 use Rattle.lay_lex.specs.Lexer.{LexedAs}
 use Rattle.lay_lex.specs.Source.{Answers}
@@ -89,3 +95,20 @@ read_no_file depth bytes from tokens nested (error.Refused (Unbalanced at)) e le
 read_no_file depth bytes from tokens nested (error.Refused (NoItem at)) e lexes same balanced h =
     (from, tokens, e, lexes, balanced, subst (λ (ts : List Token). NoItemAt depth ts at) same h)
 read_no_file depth bytes from tokens nested error.NoMemory e lexes same balanced h = tt
+
+-- ---- by windows
+
+-- A file without its shebang, spelled by tokens to which the text lexes, is read with it.
+pub read_by_windows : (depth : ℕ) (bytes : List ℕ) (from : Source) (file : File) → source bytes ≡ Ok from → is_good_shebang from.shebang ≡ true
+    → (file.shebang ≡ None) × ((tokens : List Token) × Lexes from.text from.start tokens × SpellsFile depth file tokens)
+    → ReadsOnlyAt depth bytes (record { shebang = from.shebang; attrs = file.attrs; items = file.items })
+read_by_windows depth bytes from file e good h =
+    let tokens = h.1.0 in
+    let lexes = h.1.1 in
+    let written = h.1.2.0 in
+    let whole : File = record { shebang = from.shebang; attrs = file.attrs; items = file.items } in
+    let single = ap are_single lexes.3 ∙ parts_single Other lexes.0 lexes.1 from.start lexes.2.fit in
+    let passes = (file_passes file written.normal written.pieces).go false in
+    let trees = balanced (form_of_file file) false plain plain depth tokens single passes h.1.2.1 in
+    read_only depth bytes from tokens whole e lexes trees refl
+    (record { shebang = good; normal = written.normal; pieces = written.pieces }, h.1.2.1)

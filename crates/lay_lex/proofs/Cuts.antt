@@ -39,6 +39,7 @@ pub record Cut (s piece more : List ℕ) : Type 0 where
   pub front : chars (encode_utf8_all piece) ≡ piece
   pub back : chars (encode_utf8_all more) ≡ more
   pub text : IsUtf8 (encode_utf8_all more)
+  pub piece_text : IsUtf8 (encode_utf8_all piece)
 
 pub cut_at : (s piece more : List ℕ) → IsUtf8 s → chars s ≡ piece ++ more → Cut s piece more
 cut_at s piece more u e =
@@ -48,6 +49,7 @@ cut_at s piece more u e =
       front = chars-encodes piece p.0;
       back = chars-encodes more p.1;
       text = (more, (p.1, refl));
+      piece_text = (piece, (p.0, refl));
     }
 
 pub cut_border : (s piece more : List ℕ) (n : ℕ) → IsUtf8 s → chars s ≡ piece ++ more → n ≡ size piece → IsCharBoundary s n

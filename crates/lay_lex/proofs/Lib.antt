@@ -1,7 +1,9 @@
 pub mod Cuts
 pub mod Folds
 pub mod Gaps
+pub mod Joined
 pub mod Lines
 pub mod Marks
 pub mod Parts
 pub mod Trims
+pub mod Windows

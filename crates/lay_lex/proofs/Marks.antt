@@ -16,7 +16,7 @@ one_byte : (d : ℕ) → d < 128 → encode_utf8_all (d ∷ []) ≡ d ∷ []
 one_byte d h = append-nil _ ∙ encode_ascii d h
 
 -- one ASCII character is told from its byte
-same_test : (d : ℕ) (cs : List ℕ) → d < 128 → bytes_eq (encode_utf8_all cs) (d ∷ []) ≡ bytes_eq cs (d ∷ [])
+pub same_test : (d : ℕ) (cs : List ℕ) → d < 128 → bytes_eq (encode_utf8_all cs) (d ∷ []) ≡ bytes_eq cs (d ∷ [])
 same_test d cs h =
     same_from_decides {P = encode_utf8_all cs ≡ d ∷ []} _ _ (bytes_eq-Decides (encode_utf8_all cs) (d ∷ []))
     (Decides-like (bytes_eq cs (d ∷ [])) (λ e. ap encode_utf8_all e ∙ one_byte d h)

@@ -2,3 +2,4 @@ pub mod Gap
 pub mod Lexer
 pub mod Source
 pub mod Tokens
+pub mod Window

@@ -1,13 +1,16 @@
 //! The tokens of a text.
-ghost use Rattle.std.specs.Prelude.{◌≡◌, ◌⊎◌, ℕ, List as Items, ◌++◌, IsUtf8};
+ghost use Rattle.std.specs.Prelude.{◌≡◌, ◌⊎◌, ℕ, List as Items, ◌++◌, IfOk, IsUtf8};
 ghost use Rattle.std.specs.Str.{chars, IsCharBoundary};
 ghost use Rattle.lay_token.specs.Lexes.{Lexes, NoTokenAt, size};
 ghost use Rattle.lay_token.specs.declared.token.Token.{Token as TokenValue};
 ghost use Rattle.lay_lex.specs.Lexer.{LexedAs};
+ghost use Rattle.lay_lex.specs.Window.{WindowAs};
 
+use crate::border::{ends_before, ends_behind, open_behind};
 use crate::gap::after_gap;
 use crate::source::Source;
 use crate::tokens::Tokens;
+use crate::window::{Stop, Window};
 use lay_token::{FormatError, List, Refusal, Token, piece_at};
 use std::alloc::Global;
 
@@ -32,8 +35,46 @@ fn tokens_of(alloc: Global, text: &str, start: usize) -> Result<List<Token>, For
     requires { IsCharBoundary text.now start }
     ensures { LexedAs text.now start result }
 {
-    let mut tokens = Tokens::new(alloc);
+    match window_of(alloc, text, start, None) {
+        Ok(window) => Ok(window.tokens),
+        Err(error) => Err(error),
+    }
+}
+
+/// The tokens of a text from a place on, and how far they go: to the end, or, behind so many tokens at least, to where an item
+/// may end and another begin outside all groups. They end behind the opening brace of a module too, and behind a closing
+/// brace that is the partner of none of them.
+///
+/// It refuses the first place past gaps where no token is had, if it comes to that.
+pub fn lex_window(
+    alloc: Global,
+    text: &str,
+    start: usize,
+    least: usize,
+) -> Result<Window, FormatError>
+    requires { IsCharBoundary text.now start }
+    ensures { WindowAs text.now start result }
+{
+    window_of(alloc, text, start, Some(least))
+}
+
+/// The tokens of a text from this place on: all of them, or those of a window.
+fn window_of(
+    alloc: Global,
+    text: &str,
+    start: usize,
+    least: Option<usize>,
+) -> Result<Window, FormatError>
+    requires { IsCharBoundary text.now start }
+    ensures window { WindowAs text.now start result }
+    ensures all { least ≡ None → IfOk result (λ window. window.stop ≡ Stop.End) }
+{
     let mut ahead = &text[start..];
+    let mut tokens = match Tokens::new(alloc, room(least, ahead.len())) {
+        Ok(tokens) => tokens,
+        Err(_) => return Err(FormatError::NoMemory),
+    };
+    let mut open = 0;
     while let Some(rest) = after_gap(ahead) {
         let at = text.len() - rest.len();
         let touches = rest.len() == ahead.len();
@@ -41,14 +82,29 @@ fn tokens_of(alloc: Global, text: &str, start: usize) -> Result<List<Token>, For
             None => return Err(FormatError::Refused(Refusal::NoToken { at })),
             Some(found) => {
                 let (piece, behind) = cut(rest, found.len);
+                if ends_before(least, open, tokens.as_slice(), found.kind, piece) {
+                    return Ok(tokens.window(Stop::More, text.len() - ahead.len()));
+                }
                 match tokens.add(alloc, found.kind, piece, at, touches) {
                     Ok(()) => ahead = behind,
                     Err(_) => return Err(FormatError::NoMemory),
                 }
+                if let Some(stop) = ends_behind(least, open, tokens.as_slice()) {
+                    return Ok(tokens.window(stop, text.len() - ahead.len()));
+                }
+                open = open_behind(open, found.kind);
             }
         }
     }
-    Ok(tokens.finish())
+    Ok(tokens.window(Stop::End, text.len()))
+}
+
+/// The tokens for which room is taken at once, where so many bytes are ahead.
+fn room(least: Option<usize>, ahead: usize) -> usize {
+    match least {
+        Some(least) => least.saturating_add(least / 4).min(ahead),
+        None => 0,
+    }
 }
 
 /// The characters that take so many bytes, and what follows them.

@@ -5,11 +5,14 @@
 //! `lay_token` states, in both directions.
 #![tactic(auto)]
 
+mod border;
 mod ends;
 mod gap;
 mod lexer;
 mod source;
 mod tokens;
+mod window;
 
-pub use lexer::lex;
+pub use lexer::{lex, lex_window};
 pub use source::{Source, normalise};
+pub use window::{Stop, Window};

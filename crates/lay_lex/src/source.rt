@@ -23,6 +23,16 @@ pub struct Source {
     pub start: usize,
 }
 
+impl Source {
+    /// The whole text.
+    pub fn as_str(&self) -> &str
+        requires { IsUtf8 self.now.text }
+        ensures { result.now ≡ self.now.text }
+    {
+        unsafe { std::str::from_utf8_unchecked(self.text.as_slice()) }
+    }
+}
+
 /// What is lexed of an input (Rust Reference, "Input format"). Bytes that are no UTF-8 are refused.
 pub fn normalise(alloc: Global, bytes: &[u8]) -> Result<Source, FormatError>
     ensures answer { Answers (source bytes.now) result }

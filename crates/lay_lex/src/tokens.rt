@@ -5,6 +5,7 @@ ghost use Rattle.lay_token.specs.Lexes.{doc_text, is_index_place, is_separator, 
 ghost use Rattle.lay_lex.specs.Tokens.{Adds, IsBegun, added, before, behind, is_mark, is_point_token, so_far, token_of, within};
 
 use crate::ends::{before_last, behind_first, has_line_feed, without_end};
+use crate::window::{Stop, Window};
 use lay_token::{Kind, List, NoMemory, Text, Token};
 use std::alloc::Global;
 
@@ -137,14 +138,14 @@ pub struct Tokens {
 }
 
 impl Tokens {
-    /// No tokens, before the first place.
-    pub fn new(alloc: Global) -> Tokens
-        ensures { IsBegun result }
+    /// No tokens, before the first place, and room for so many.
+    pub fn new(alloc: Global, room: usize) -> Result<Tokens, NoMemory>
+        ensures { IfOk result IsBegun }
     {
-        Tokens {
-            read: Vec::new(alloc),
+        Ok(Tokens {
+            read: Vec::with_capacity(alloc, room)?,
             before: Before::Other,
-        }
+        })
     }
 
     /// Whether a number behind the tokens may be an index.
@@ -179,11 +180,22 @@ impl Tokens {
         Ok(())
     }
 
-    /// All the tokens.
-    pub fn finish(self) -> List<Token>
-        ensures { result ≡ so_far self }
+    /// The tokens read so far.
+    pub fn as_slice(&self) -> &[Token]
+        ensures { result.now ≡ so_far self.now }
+    {
+        self.read.as_slice()
+    }
+
+    /// All the tokens, as a window that ends there.
+    pub fn window(self, stop: Stop, end: usize) -> Window
+        ensures { result ≡ record { tokens = so_far self; stop = stop; end = end } }
     {
         let Tokens { read, before: _ } = self;
-        List::from_vec(read)
+        Window {
+            tokens: List::from_vec(read),
+            stop,
+            end,
+        }
     }
 }

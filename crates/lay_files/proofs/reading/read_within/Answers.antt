@@ -4,7 +4,7 @@ use Rattle.lay_token.specs.Lexes.{Lexes}
 use Rattle.lay_token.specs.declared.token.Token.{Token}
 use Rattle.lay_lex.specs.Source.{seen}
 use Rattle.lay_code.proofs.GoodShebang.{source_good}
-use Rattle.lay_files.proofs.ReadingLemmas.{placed, read_as, read_no_file, unlexed, unnested, unread}
+use Rattle.lay_files.proofs.ReadingLemmas.{placed, read_as, read_by_windows, read_no_file, unlexed, unnested, unread}
 use Rattle.lay_files.proofs.reading.read_within.Goals as goal
 
 pub read_file-requires-clause-lexed : goal.read_file-requires-clause-lexed
@@ -53,3 +53,8 @@ returns c =
     (read_no_file c.args.depth c.args.bytes.now (seen c.in-Ok.source) c.in-Ok-lex.tokens c.in-Ok-nest.nested c.in-Err-read_file.error
     c.in-Ok.ensures.answer c.in-Ok-lex.ensures.answer c.in-Ok-nest.ensures.answer.0 c.in-Ok-nest.ensures.answer.1 c.in-Err-read_file.ensures)
     (rw c.as_slice-in-Err-read_file.ensures at c.placed-in-Err-read_file.ensures)
+
+pub returns-in-Ok-read_source : goal.returns-in-Ok-read_source
+returns-in-Ok-read_source c =
+    read_by_windows c.args.depth c.args.bytes.now (seen c.in-Ok.source) c.in-Ok-read_source.file c.in-Ok.ensures.answer
+    (source_good c.args.bytes.now (seen c.in-Ok.source) c.in-Ok.ensures.answer) c.in-Ok-read_source.ensures

@@ -3,7 +3,7 @@ use denote.Text.{Utf8}
 use denote.Shadow.{shadow}
 use Rattle.lay_lex.specs.Tokens.{before, so_far}
 use Rattle.lay_lex.proofs.Parts.{SoFar}
-use Rattle.lay_lex.proofs.lexer.tokens_of.Given as goal
+use Rattle.lay_lex.proofs.lexer.window_of.Given as goal
 
 abbrev pub invariant-loop-rest : goal.invariant-loop-rest
 invariant-loop-rest l = record {

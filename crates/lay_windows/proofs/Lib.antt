@@ -1,0 +1,5 @@
+pub mod Modules
+pub mod Moved
+pub mod Reading
+pub mod Standing
+pub mod Tokens
