@@ -58,8 +58,8 @@ fn outcomes(rt: HostRuntime) -> Result<(), Fail> {
     Ok(())
 }
 
-// 8,000 items take five reads of at most 16 KiB and one that finds the end, and four writes each: `struct `, `A`, `;` and the newline.
-// A text of 50,000 bytes is written as it is laid out: of 5,000 items 25 take the first 100 writes, and one of the next item's fails.
+// 8,000 items take five reads of at most 16 KiB and one that finds the end, and three writes each: `struct A`, `;` and the newline.
+// A text of 50,000 bytes is written as it is laid out: of 5,000 items 25 take the first 75 writes, and one of the next item's fails.
 //
 // The line of a refusal is written in four pieces. A write of `err` that fails changes no status, and nothing more is written. The line
 // of a sample is written in one piece.
@@ -74,13 +74,13 @@ fn failures(rt: HostRuntime) -> Result<(), Fail> {
         →8000×struct A;→→6⇒Done→8000→→§\
         →8000×struct A;→→7⇒Done→8000→→§\
         →2×struct A;→→→0→2⇒WriteFailed→0→st→write failed\n§\
-        →2×struct A;→→→4→2⇒WriteFailed→1→st→write failed\n§\
-        →2×struct A;→→→7→2⇒WriteFailed→2→→write failed\n§\
-        →2×struct A;→→→8→2⇒Done→2→→§\
+        →2×struct A;→→→3→2⇒WriteFailed→1→st→write failed\n§\
+        →2×struct A;→→→5→2⇒WriteFailed→2→→write failed\n§\
+        →2×struct A;→→→6→2⇒Done→2→→§\
         →8000×struct A;→→→0→2⇒WriteFailed→0→st→write failed\n§\
-        →8000×struct A;→→→31996→2⇒WriteFailed→7999→st→write failed\n§\
+        →8000×struct A;→→→23997→2⇒WriteFailed→7999→st→write failed\n§\
         →8000×struct A;→→→→2⇒Done→8000→→§\
-        →5000×struct A;→→→100→2⇒WriteFailed→25→st→write failed\n§\
+        →5000×struct A;→→→75→2⇒WriteFailed→25→st→write failed\n§\
         →}→→→→→0⇒Refused(Unbalanced { at: 0 })→0→→1§\
         →}→→→→→1⇒Refused(Unbalanced { at: 0 })→0→→1:§\
         →}→→→→→2⇒Refused(Unbalanced { at: 0 })→0→→1:1§\

@@ -4,9 +4,12 @@ use crate::each::{each_is_told, string};
 use lay_depth::file_depth;
 use lay_files::{DEPTH, read_within};
 use lay_front::{format, format_into, unparse};
+use lay_given::repeated;
 use lay_io::QuietSink;
 use lay_laws::is_written;
+use lay_lex::normalise;
 use lay_token::{NoMemory, Text};
+use lay_windows::read_source;
 use std::alloc::Global;
 use std::test::Fail;
 
@@ -90,6 +93,36 @@ fn texts(rt: HostRuntime) -> Result<(), Fail> {
     each_is_told(&rt, alloc, rows.as_str(), unparsed)?;
     each_is_told(&rt, alloc, refused, formatted)?;
     each_is_told(&rt, alloc, refused, written)?;
+    Ok(())
+}
+
+/// How many inner attributes and items a text has that is read by windows of its tokens, or that it isn't read so.
+fn by_windows(alloc: Global, given: &str) -> Result<String, NoMemory> {
+    let source = match normalise(alloc, given.as_bytes()) {
+        Ok(source) => source,
+        Err(_) => return Ok(format!(in alloc; "no text")?),
+    };
+    match read_source(alloc, &source, DEPTH) {
+        Ok(file) => {
+            let (attrs, items) = (file.attrs.as_slice().len(), file.items.as_slice().len());
+            Ok(format!(in alloc; "{attrs} {items}")?)
+        }
+        Err(_) => Ok(format!(in alloc; "none")?),
+    }
+}
+
+// Whole items and modules are read by windows, however large they are, and what spells no file isn't.
+#[test]
+fn windows(rt: HostRuntime) -> Result<(), Fail> {
+    let alloc = rt.alloc();
+    let many = repeated(alloc, b"struct A{b:[C;{1}]}const D:E=F{}as G;", 700)?;
+    let items = string(alloc, many.as_slice())?;
+    let rows = format!(in alloc;
+        "⇒0 0§#!/x\n#![a]struct A;⇒1 1§mod a{{#![b]mod c{{struct D;}}fn e(){{}}}}struct F;⇒0 2§{items}⇒0 1400\
+         §mod a{{{items}}}#[b]pub mod r#c{{//! d\n{items}}}{items}⇒0 1402§fn a(){{{items}}}⇒0 1\
+         §mod a{{⇒none§}}⇒none§mod a{{struct B}}⇒none§struct A;;⇒none§mod a{{)}}⇒none§'⇒none"
+    )?;
+    each_is_told(&rt, alloc, rows.as_str(), by_windows)?;
     Ok(())
 }
 
