@@ -91,8 +91,54 @@ impl<T> Vec<T> {
         self.0.capacity()
     }
 
+    /// Adds an item where there is room for it.
+    #[inline]
+    pub fn push_reserved(&mut self, item: T) {
+        debug_assert!(self.0.len() < self.0.capacity());
+        self.0.push(item);
+    }
+
     /// Ends a vector that holds nothing.
     pub fn destroy_empty(self) {}
+
+    /// The items, without room for more.
+    pub fn into_boxed_slice(self) -> BoxedSlice<T> {
+        BoxedSlice(self.0.into_boxed_slice())
+    }
+}
+
+impl<T: Copy> Vec<T> {
+    /// Takes the last item of a vector that has one.
+    #[inline]
+    pub fn take_last(&mut self) -> T {
+        let last = self.0[self.0.len() - 1];
+        self.0.truncate(self.0.len() - 1);
+        last
+    }
+}
+
+/// A vector of an item, as often as is asked for.
+pub fn filled<T: Copy>(_: Global, item: T, count: usize) -> Result<Vec<T>, AllocError> {
+    let mut items = Vec(alloc::vec::Vec::new());
+    items.reserve_exact(count)?;
+    items.0.resize(count, item);
+    Ok(items)
+}
+
+/// Items in room for them alone.
+#[derive(Debug)]
+pub struct BoxedSlice<T>(alloc::boxed::Box<[T]>);
+
+impl<T> BoxedSlice<T> {
+    #[inline]
+    pub fn as_slice(&self) -> &[T] {
+        &self.0
+    }
+
+    #[inline]
+    pub fn as_mut_slice(&mut self) -> &mut [T] {
+        &mut self.0
+    }
 }
 
 impl<T: Copy> Vec<T> {
@@ -282,11 +328,6 @@ impl<T> HeapCircularBuffer<T> {
     }
 
     #[inline(always)]
-    pub fn pop_back(&mut self) -> Option<T> {
-        self.items.pop_back()
-    }
-
-    #[inline(always)]
     pub fn pop_front(&mut self) -> Option<T> {
         self.items.pop_front()
     }
@@ -294,11 +335,6 @@ impl<T> HeapCircularBuffer<T> {
     #[inline(always)]
     pub fn front(&self) -> Option<&T> {
         self.items.front()
-    }
-
-    #[inline(always)]
-    pub fn back(&self) -> Option<&T> {
-        self.items.back()
     }
 
     #[inline(always)]

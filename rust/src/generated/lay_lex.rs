@@ -5,10 +5,13 @@
 //! [`normalise`] gives what is lexed of an input: without a byte order mark, with each CR LF as one LF, and
 //! without a shebang line. [`lex`] gives its tokens. Both are proved equal to the definitions that
 //! `lay_token` states, in both directions.
+mod border;
 mod ends;
 mod gap;
 mod lexer;
 mod source;
 mod tokens;
-pub use lexer::lex;
+mod window;
+pub use lexer::{lex, lex_window};
 pub use source::{Source, normalise};
+pub use window::{Stop, Window};

@@ -12,6 +12,7 @@ pub mod notation;
 mod separation;
 mod simple_paths;
 mod tokens;
+mod told;
 mod words;
 pub use attributes::{put_attr, put_bare_attr};
 pub use calls::put_call;

@@ -8,16 +8,17 @@
 //! of the group. So a token can't be printed before enough of what follows has been seen, but the text that
 //! waits never needs to be longer than a line.
 //!
-//! Two sides work on a ring of entries, each a token with its size. The scanning side, which is `lay_queue`, takes the
+//! Two sides work on a row of entries, each a token with its size. The scanning side, which is `lay_queue`, takes the
 //! tokens that are fed, and writes their sizes back when their measures end. The printing side ([`page`]) puts tokens on the
 //! line that is being written ([`line`]) and keeps the frames of the groups that are open there ([`frames`]).
 //!
-//! The two meet at the front of the ring ([`engine`]). After each token that is fed, entries are printed while
-//! it is decided whether they fit. A known size decides by itself. While the first entry's size is unknown and
+//! The two meet at the front of the row ([`engine`]). After each token that may decide it, entries are printed while
+//! it is decided whether they fit, and texts that follow each other at once. A known size decides by itself. While the first entry's size is unknown and
 //! its own width with the text that waits is longer than the space, its measure is greater than the space too,
 //! whatever comes: it is forced, which means that it is printed as one that doesn't fit. So no more text waits
 //! than the space, and at the end of the stream every size is known. Where nothing waits, a text goes straight
-//! to the line, and so does a break for which nothing that follows counts. They take a number alone.
+//! to the line, and so does a break for which nothing that follows counts. They take a number alone. A text that is longer
+//! than any space decides all that waits: that is printed, and then the text, which is never copied.
 //!
 //! A [`Core`] is an engine that remembers whether a call has failed: then each later one answers the same
 //! error and leaves the sink as it is. [`Press`] is lent a core and a sink, so it serves a sink that was handed

@@ -4,9 +4,13 @@
 //!
 //! Each reader is proved equal to a function of the tokens ahead that `lay_node` defines, and that function reads what
 //! is spelled and nothing else.
+//!
+//! Rules that hold large values and don't stand on the way from a type to one within it carry `#[inline(never)]`: what is nested
+//! 254 deep has to be read within the stack of a thread, so the frames on that way are kept small (docs/DECISIONS.md, "Trees").
 mod arguments;
 mod bounds;
 mod knot;
+mod passed;
 mod paths;
 mod reads;
 pub mod rules;

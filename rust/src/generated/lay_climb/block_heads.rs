@@ -1,7 +1,7 @@
 //! Made by scripts/rust.sh from crates/lay_climb/src/block_heads.rt, which is proved: change that.
 //!
 //! What begins an expression that holds blocks, or a closure, as the rules of expressions ask for it.
-use crate::generated::lay_code::{Block, Expr, Item, Place, Site};
+use crate::generated::lay_code::{Block, Boxed, Expr, Item, Place, Site};
 use crate::generated::lay_ops::operands::ExprLead;
 use crate::generated::lay_read_blocks::BlockRules;
 use crate::generated::lay_read_tokens::{Ahead, Found, ReadNone};
@@ -14,10 +14,10 @@ pub trait BlockHeads {
         at: &mut Ahead<'_>,
         no_struct: bool,
         lead: ExprLead,
-    ) -> Result<Found<Expr>, ReadNone>;
+    ) -> Result<Found<Boxed<Expr>>, ReadNone>;
 }
 impl<
-    P: Fn(Global, &mut Ahead<'_>, Place, u32) -> Result<Found<Expr>, ReadNone>,
+    P: Fn(Global, &mut Ahead<'_>, Place, u32) -> Result<Found<Boxed<Expr>>, ReadNone>,
     B: Fn(Global, &mut Ahead<'_>, u32) -> Result<Found<Block>, ReadNone>,
     I: Fn(Global, &mut Ahead<'_>, Site, u32) -> Result<Found<Item>, ReadNone>,
 > BlockHeads for BlockRules<P, B, I> {
@@ -26,7 +26,7 @@ impl<
         at: &mut Ahead<'_>,
         no_struct: bool,
         lead: ExprLead,
-    ) -> Result<Found<Expr>, ReadNone> {
+    ) -> Result<Found<Boxed<Expr>>, ReadNone> {
         BlockRules::block_head(self, at, no_struct, lead)
     }
 }

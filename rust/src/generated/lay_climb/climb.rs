@@ -8,7 +8,6 @@ use crate::generated::lay_ops::{is_block_like, stands};
 use crate::generated::lay_read_exprs::ExprRules;
 use crate::generated::lay_read_parts::joins::refused;
 use crate::generated::lay_read_shared::places::before_op;
-use crate::generated::lay_read_tokens::stop::boxed;
 use crate::generated::lay_read_tokens::{Ahead, Found, ReadNone};
 use crate::shims::Global;
 /// The rules of expressions of a level, with what reads those that begin with a block.
@@ -44,11 +43,11 @@ fn root_follows(at: &Ahead<'_>, place: Place, expr: &Expr) -> bool {
 fn accepted(
     at: &Ahead<'_>,
     place: Place,
-    found: Found<Expr>,
+    found: Found<Boxed<Expr>>,
     budget: u32,
-) -> Result<Found<Expr>, ReadNone> {
-    let passes = stands(&found.node, place) && root_follows(at, place, &found.node)
-        && found.need <= budget;
+) -> Result<Found<Boxed<Expr>>, ReadNone> {
+    let passes = stands(found.node.get(), place)
+        && root_follows(at, place, found.node.get()) && found.need <= budget;
     if passes { Ok(found) } else { refused(found) }
 }
 /// Whether an operator that the place allows goes on, below the level that is reached.
@@ -56,15 +55,8 @@ fn goes_on(at: &Ahead<'_>, place: Place, reached: u8) -> bool {
     let strength = strength(at);
     place.level < strength && strength <= reached
 }
-/// What was found, in a box, as what may be there.
-fn boxed_there<
-    T,
->(alloc: Global, found: Found<T>) -> Result<Found<Option<Boxed<T>>>, ReadNone> {
-    let node = boxed(alloc, found.node)?;
-    Ok(Found { node: Some(node), need: found.need })
-}
 impl<
-    P: Fn(Global, &mut Ahead<'_>, Place, u32) -> Result<Found<Expr>, ReadNone>,
+    P: Fn(Global, &mut Ahead<'_>, Place, u32) -> Result<Found<Boxed<Expr>>, ReadNone>,
     H: BlockHeads,
 > Climber<P, H> {
     /// An expression at a place, with what is within it one level deeper.
@@ -73,9 +65,9 @@ impl<
         &self,
         at: &mut Ahead<'_>,
         place: Place,
-    ) -> Result<Found<Expr>, ReadNone> {
+    ) -> Result<Found<Boxed<Expr>>, ReadNone> {
         let head = self.head(at, place.no_struct)?;
-        if is_ended(at, place, &head.node) {
+        if is_ended(at, place, head.node.get()) {
             accepted(at, place, head, self.rules.depth + 1)
         } else { self.climb(at, place, head) }
     }
@@ -85,8 +77,8 @@ impl<
         &self,
         at: &mut Ahead<'_>,
         place: Place,
-        head: Found<Expr>,
-    ) -> Result<Found<Expr>, ReadNone> {
+        head: Found<Boxed<Expr>>,
+    ) -> Result<Found<Boxed<Expr>>, ReadNone> {
         let mut lhs = head;
         let mut reached = 14;
         while goes_on(at, place, reached) {
@@ -103,10 +95,10 @@ impl<
         at: &mut Ahead<'_>,
         place: Place,
         level: u8,
-        lhs: Found<Expr>,
-    ) -> Result<Found<Expr>, ReadNone> {
+        lhs: Found<Boxed<Expr>>,
+    ) -> Result<Found<Boxed<Expr>>, ReadNone> {
         if lhs.need > self.rules.depth
-            || !stands(&lhs.node, left_place(at, place, level)) {
+            || !stands(lhs.node.get(), left_place(at, place, level)) {
             return refused(lhs);
         }
         self.stage(at, level, place.no_struct, lhs)
@@ -118,12 +110,12 @@ impl<
         at: &mut Ahead<'_>,
         level: u8,
         no_struct: bool,
-        lhs: Found<Expr>,
-    ) -> Result<Found<Expr>, ReadNone> {
+        lhs: Found<Boxed<Expr>>,
+    ) -> Result<Found<Boxed<Expr>>, ReadNone> {
         match level {
             0 => self.rules.assign_expr(at, no_struct, lhs),
             1 => {
-                let start = boxed_there(self.rules.alloc, lhs)?;
+                let start = Found { node: Some(lhs.node), need: lhs.need };
                 self.rules.range_expr(at, no_struct, start)
             }
             11 => self.rules.cast_expr(at, lhs),

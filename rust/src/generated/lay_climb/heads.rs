@@ -3,22 +3,26 @@
 //! What begins an expression.
 use crate::generated::lay_climb::block_heads::BlockHeads;
 use crate::generated::lay_climb::climb::Climber;
-use crate::generated::lay_code::{Expr, Place};
+use crate::generated::lay_code::{Boxed, Expr, Place};
 use crate::generated::lay_ops::ahead::expr_lead_at;
 use crate::generated::lay_ops::operands::ExprLead;
 use crate::generated::lay_read_parts::leads::is_at_literal;
 use crate::generated::lay_read_parts::parts::read_literal;
+use crate::generated::lay_read_shared::boxes::boxed_found;
 use crate::generated::lay_read_tokens::front::pass;
 use crate::generated::lay_read_tokens::{Ahead, Found, ReadNone};
 use crate::shims::Global;
 /// A literal.
-fn literal_expr(alloc: Global, at: &mut Ahead<'_>) -> Result<Found<Expr>, ReadNone> {
+fn literal_expr(
+    alloc: Global,
+    at: &mut Ahead<'_>,
+) -> Result<Found<Boxed<Expr>>, ReadNone> {
     let passes = is_at_literal(at);
     let literal = read_literal(alloc, at, passes)?;
-    Ok(Found { node: Expr::Lit { literal }, need: 1 })
+    boxed_found(alloc, Expr::Lit { literal }, 1)
 }
 impl<
-    P: Fn(Global, &mut Ahead<'_>, Place, u32) -> Result<Found<Expr>, ReadNone>,
+    P: Fn(Global, &mut Ahead<'_>, Place, u32) -> Result<Found<Boxed<Expr>>, ReadNone>,
     H: BlockHeads,
 > Climber<P, H> {
     /// What begins an expression, without the operators behind it, unless it is deeper than may be.
@@ -27,7 +31,7 @@ impl<
         &self,
         at: &mut Ahead<'_>,
         no_struct: bool,
-    ) -> Result<Found<Expr>, ReadNone> {
+    ) -> Result<Found<Boxed<Expr>>, ReadNone> {
         match expr_lead_at(at) {
             Some(lead) => self.head_by(at, no_struct, lead),
             None => Err(ReadNone::NoReading),
@@ -40,7 +44,7 @@ impl<
         at: &mut Ahead<'_>,
         no_struct: bool,
         lead: ExprLead,
-    ) -> Result<Found<Expr>, ReadNone> {
+    ) -> Result<Found<Boxed<Expr>>, ReadNone> {
         match lead {
             ExprLead::Literal => literal_expr(self.rules.alloc, at),
             ExprLead::Path => self.rules.path_or_call(at, no_struct),

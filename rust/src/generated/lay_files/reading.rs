@@ -4,7 +4,9 @@
 use crate::generated::lay_code::File;
 use crate::generated::lay_lex::{lex, normalise};
 use crate::generated::lay_nest::nest;
+use crate::generated::lay_read_tokens::ReadNone;
 use crate::generated::lay_token::{FormatError, Place2, Refusal, place_of};
+use crate::generated::lay_windows::read_source;
 use crate::shims::Global;
 /// Why bytes read to no file.
 #[derive(Clone, Copy, Debug, PartialEq, Eq,)]
@@ -27,11 +29,22 @@ pub fn read_bytes(alloc: Global, bytes: &[u8]) -> Result<File, FileError> {
 }
 /// The same where the items of the file stand at this depth. No more of the stack is taken than a file of this depth needs,
 /// whatever the bytes are.
+///
+/// It is read by windows of tokens first. Where that reads none, it is read from all its tokens, which tells why there is none.
 pub fn read_within(alloc: Global, bytes: &[u8], depth: u32) -> Result<File, FileError> {
     let source = match normalise(alloc, bytes) {
         Ok(source) => source,
         Err(error) => return Err(placed(error, bytes)),
     };
+    match read_source(alloc, &source, depth) {
+        Ok(file) => {
+            return Ok(
+                File { shebang: source.shebang, attrs: file.attrs, items: file.items },
+            );
+        }
+        Err(ReadNone::NoMemory) => return Err(FileError::NoMemory),
+        Err(ReadNone::NoReading) => {}
+    }
     let tokens = match lex(alloc, &source) {
         Ok(tokens) => tokens,
         Err(error) => return Err(placed(error, source.text.as_slice())),

@@ -17,6 +17,12 @@ pub struct Source {
     /// Where lexing begins, behind a shebang line.
     pub start: usize,
 }
+impl Source {
+    /// The whole text.
+    pub fn as_str(&self) -> &str {
+        crate::shims::text(self.text.as_slice())
+    }
+}
 /// What is lexed of an input (Rust Reference, "Input format"). Bytes that are no UTF-8 are refused.
 pub fn normalise(alloc: Global, bytes: &[u8]) -> Result<Source, FormatError> {
     let text = match core::str::from_utf8(bytes) {

@@ -8,6 +8,7 @@ use crate::generated::lay_lex::ends::{
     has_line_feed,
     without_end,
 };
+use crate::generated::lay_lex::window::{Stop, Window};
 use crate::generated::lay_token::{Kind, List, NoMemory, Text, Token};
 use crate::shims::Global;
 /// What stands before a place.
@@ -93,9 +94,9 @@ pub struct Tokens {
     before: Before,
 }
 impl Tokens {
-    /// No tokens, before the first place.
-    pub fn new(alloc: Global) -> Tokens {
-        Tokens { read: Vec::new(alloc), before: Before::Other }
+    /// No tokens, before the first place, and room for so many.
+    pub fn new(alloc: Global, room: usize) -> Result<Tokens, NoMemory> {
+        Ok(Tokens { read: Vec::with_capacity(alloc, room)?, before: Before::Other })
     }
     /// Whether a number behind the tokens may be an index.
     pub fn is_index_place(&self) -> bool {
@@ -120,9 +121,13 @@ impl Tokens {
         self.read.push(token)?;
         Ok(())
     }
-    /// All the tokens.
-    pub fn finish(self) -> List<Token> {
+    /// The tokens read so far.
+    pub fn as_slice(&self) -> &[Token] {
+        self.read.as_slice()
+    }
+    /// All the tokens, as a window that ends there.
+    pub fn window(self, stop: Stop, end: usize) -> Window {
         let Tokens { read, before: _ } = self;
-        List::from_vec(read)
+        Window { tokens: List::from_vec(read), stop, end }
     }
 }

@@ -6,11 +6,29 @@ use crate::generated::lay_token::{Kind, Token};
 /// "Punctuation").
 pub fn is_op(tokens: &[Token], op: &[u8]) -> bool {
     match tokens.split_first() {
-        Some((front, behind)) => {
-            if front.joint { is_longest(front, behind, op) } else { is_alone(front, op) }
-        }
+        Some((front, behind)) => may_begin(front, op) && is_begun(front, behind, op),
         None => false,
     }
+}
+/// Whether the operator may begin with the token: it is punctuation, and their first characters are the same.
+fn may_begin(token: &Token, op: &[u8]) -> bool {
+    match token.kind {
+        Kind::Punct => is_same_first(token.text.as_bytes(), op),
+        _ => false,
+    }
+}
+/// Whether two texts have the same first byte, or neither has any.
+fn is_same_first(text: &[u8], op: &[u8]) -> bool {
+    match (text, op) {
+        ([], []) => true,
+        ([first, ..], [other, ..]) => *first == *other,
+        _ => false,
+    }
+}
+/// Whether the operator at the front of the tokens is this one.
+#[inline(never)]
+fn is_begun(front: &Token, behind: &[Token], op: &[u8]) -> bool {
+    if front.joint { is_longest(front, behind, op) } else { is_alone(front, op) }
 }
 /// Whether the longest operator that begins with a joint token is this one.
 fn is_longest(front: &Token, behind: &[Token], op: &[u8]) -> bool {

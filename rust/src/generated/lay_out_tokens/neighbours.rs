@@ -11,91 +11,6 @@ pub enum Neighbour<'a> {
     Single(&'a Listed),
     Enclosed(Delim),
 }
-impl Neighbour<'_> {
-    /// Whether there is none.
-    pub fn is_nothing(&self) -> bool {
-        matches!(self, Neighbour::Nothing)
-    }
-    /// Whether it is the punctuation of this character.
-    pub fn is_mark(&self, character: u8) -> bool {
-        match self {
-            Neighbour::Single(token) => is_mark(token, character),
-            _ => false,
-        }
-    }
-    /// Whether it is joint to what follows it.
-    pub fn is_joint(&self) -> bool {
-        match self {
-            Neighbour::Single(token) => is_joint(token),
-            _ => false,
-        }
-    }
-    /// Whether it is the punctuation of this character, and joint to what follows it.
-    pub fn is_joint_mark(&self, character: u8) -> bool {
-        self.is_mark(character) && self.is_joint()
-    }
-    /// Whether it is punctuation.
-    pub fn is_punct(&self) -> bool {
-        match self {
-            Neighbour::Single(token) => is_punct(token),
-            _ => false,
-        }
-    }
-    /// Whether it is documentation.
-    pub fn is_doc(&self) -> bool {
-        match self {
-            Neighbour::Single(token) => is_doc(token),
-            _ => false,
-        }
-    }
-    /// Whether it is documentation that is laid out on a line.
-    pub fn is_line_doc(&self) -> bool {
-        match self {
-            Neighbour::Single(token) => is_line_doc(token),
-            _ => false,
-        }
-    }
-    /// Whether it is a word that is no keyword.
-    pub fn is_free_word(&self) -> bool {
-        match self {
-            Neighbour::Single(token) => is_free_word(token),
-            _ => false,
-        }
-    }
-    /// Whether it is a keyword.
-    pub fn is_keyword(&self) -> bool {
-        match self {
-            Neighbour::Single(token) => is_keyword(token),
-            _ => false,
-        }
-    }
-    /// Whether it is a word.
-    pub fn is_any_word(&self) -> bool {
-        match self {
-            Neighbour::Single(token) => is_any_word(token),
-            _ => false,
-        }
-    }
-    /// Whether it is a number, where the place is one of an index or not: a Float, or an Int that is no index.
-    pub fn is_number(&self, place: bool) -> bool {
-        match self {
-            Neighbour::Single(token) => is_number(token, place),
-            _ => false,
-        }
-    }
-    /// Whether it is a group in braces.
-    pub fn is_brace(&self) -> bool {
-        matches!(self, Neighbour::Enclosed(Delim::Brace))
-    }
-    /// Whether it is a group in brackets.
-    pub fn is_bracket(&self) -> bool {
-        matches!(self, Neighbour::Enclosed(Delim::Bracket))
-    }
-    /// Whether it is a group in parentheses.
-    pub fn is_paren(&self) -> bool {
-        matches!(self, Neighbour::Enclosed(Delim::Paren))
-    }
-}
 /// The kind of a token of a list.
 pub fn kind_of(token: &Listed) -> Kind {
     match token {
@@ -103,43 +18,15 @@ pub fn kind_of(token: &Listed) -> Kind {
         Listed::Doc { inner, .. } => Kind::Doc { inner: *inner, block: false },
     }
 }
-fn is_punct(token: &Listed) -> bool {
-    match token {
-        Listed::Token { kind, .. } => matches!(kind, Kind::Punct),
-        Listed::Doc { .. } => false,
-    }
-}
-fn is_mark(token: &Listed, character: u8) -> bool {
-    match token {
-        Listed::Token { kind, text, .. } => {
-            matches!(kind, Kind::Punct) && is_byte(text.as_bytes(), character)
-        }
-        Listed::Doc { .. } => false,
-    }
-}
-/// Whether the text is this byte alone.
-fn is_byte(text: &[u8], byte: u8) -> bool {
-    match text {
-        [only] => *only == byte,
-        _ => false,
-    }
-}
-fn is_joint(token: &Listed) -> bool {
-    match token {
-        Listed::Token { joint, .. } => *joint,
-        Listed::Doc { .. } => false,
-    }
-}
-fn is_doc(token: &Listed) -> bool {
-    matches!(token, Listed::Doc { .. })
-}
-fn is_line_doc(token: &Listed) -> bool {
+/// Whether it is documentation that is laid out on a line.
+pub fn is_line_doc(token: &Listed) -> bool {
     match token {
         Listed::Token { .. } => false,
         Listed::Doc { inner, text } => !is_block(*inner, text.as_bytes()),
     }
 }
-fn is_free_word(token: &Listed) -> bool {
+/// Whether it is a word that is no keyword.
+pub fn is_free_word(token: &Listed) -> bool {
     match token {
         Listed::Token { kind, text, .. } => {
             match kind {
@@ -151,7 +38,8 @@ fn is_free_word(token: &Listed) -> bool {
         Listed::Doc { .. } => false,
     }
 }
-fn is_keyword(token: &Listed) -> bool {
+/// Whether it is a keyword.
+pub fn is_keyword(token: &Listed) -> bool {
     match token {
         Listed::Token { kind, text, .. } => {
             match kind {
@@ -162,7 +50,8 @@ fn is_keyword(token: &Listed) -> bool {
         Listed::Doc { .. } => false,
     }
 }
-fn is_any_word(token: &Listed) -> bool {
+/// Whether it is a word.
+pub fn is_any_word(token: &Listed) -> bool {
     match token {
         Listed::Token { kind, .. } => matches!(kind, Kind::Ident | Kind::RawIdent),
         Listed::Doc { .. } => false,
@@ -172,7 +61,8 @@ fn is_any_word(token: &Listed) -> bool {
 fn is_strict(text: &[u8]) -> bool {
     matches!(word_class(text), Class::Strict)
 }
-fn is_number(token: &Listed, place: bool) -> bool {
+/// Whether it is a number, where the place is one of an index or not: a Float, or an Int that is no index.
+pub fn is_number(token: &Listed, place: bool) -> bool {
     match token {
         Listed::Token { kind, text, .. } => {
             match kind {

@@ -1,15 +1,16 @@
 //! Made by scripts/rust.sh from crates/lay_out_tokens/src/separation.rt, which is proved: change that.
 //!
 //! What stands between two neighbours of a token list.
-use crate::generated::lay_out_tokens::neighbours::{Neighbour, kind_of};
+use crate::generated::lay_out_tokens::neighbours::kind_of;
+use crate::generated::lay_out_tokens::told::Told;
 use crate::generated::lay_node::Listed;
 use crate::generated::lay_token::{Delim, Kind};
 /// What stands before a place of a token list.
 #[derive(Clone, Copy,)]
 pub struct Seen<'a> {
     /// The last two neighbours.
-    pub before: Neighbour<'a>,
-    pub last: Neighbour<'a>,
+    pub before: Told<'a>,
+    pub last: Told<'a>,
     /// Whether the last one stands where a number may be an index.
     pub place: bool,
     /// Whether it is a `<` of a turbofish.
@@ -28,10 +29,11 @@ pub enum Separation {
 }
 impl<'a> Seen<'a> {
     /// At the start of a list or of a group.
+    #[inline(always)]
     pub fn at_start(count: usize) -> Seen<'a> {
         Seen {
-            before: Neighbour::Nothing,
-            last: Neighbour::Nothing,
+            before: Told::nothing(),
+            last: Told::nothing(),
             place: false,
             opens: false,
             closes: false,
@@ -39,10 +41,11 @@ impl<'a> Seen<'a> {
         }
     }
     /// Behind a group.
+    #[inline(always)]
     fn behind_group(delim: Delim, count: usize) -> Seen<'a> {
         Seen {
-            before: Neighbour::Nothing,
-            last: Neighbour::Enclosed(delim),
+            before: Told::nothing(),
+            last: Told::enclosed(delim),
             place: false,
             opens: false,
             closes: false,
@@ -50,18 +53,19 @@ impl<'a> Seen<'a> {
         }
     }
     /// What is seen behind one more token.
-    pub fn behind(&self, token: &'a Listed) -> Seen<'a> {
+    #[inline(always)]
+    pub fn behind(&self, token: &'a Listed, next: Told<'a>) -> Seen<'a> {
         match kind_of(token) {
             Kind::Opener(_) => Seen::at_start(self.count),
             Kind::Closer(delim) => Seen::behind_group(delim, self.count),
-            _ => self.behind_single(token),
+            _ => self.behind_single(next),
         }
     }
     /// Behind a token that is no delimiter.
-    fn behind_single(&self, token: &'a Listed) -> Seen<'a> {
-        let next = Neighbour::Single(token);
+    #[inline(always)]
+    fn behind_single(&self, next: Told<'a>) -> Seen<'a> {
         if is_angle(&next) {
-            return self.behind_angle(token);
+            return self.behind_angle(next);
         }
         Seen {
             before: self.last,
@@ -73,8 +77,8 @@ impl<'a> Seen<'a> {
         }
     }
     /// Behind a `<` or a `>`.
-    fn behind_angle(&self, token: &'a Listed) -> Seen<'a> {
-        let next = Neighbour::Single(token);
+    #[inline(always)]
+    fn behind_angle(&self, next: Told<'a>) -> Seen<'a> {
         Seen {
             before: self.last,
             last: next,
@@ -85,11 +89,13 @@ impl<'a> Seen<'a> {
         }
     }
     /// Whether a number here may be an index: behind a point, but not behind `..`.
+    #[inline(always)]
     fn is_index_place(&self) -> bool {
         self.last.is_mark(b'.') && !self.before.is_joint_mark(b'.')
     }
     /// The turbofish's count behind this one.
-    fn count_behind(&self, next: &Neighbour<'_>) -> usize {
+    #[inline(always)]
+    fn count_behind(&self, next: &Told<'_>) -> usize {
         if next.is_mark(b'<') {
             return self.raised();
         }
@@ -99,6 +105,7 @@ impl<'a> Seen<'a> {
         self.count
     }
     /// The turbofish's count behind a `<`.
+    #[inline(always)]
     fn raised(&self) -> usize {
         if self.may_open_turbofish() {
             return self.count + 1;
@@ -106,10 +113,12 @@ impl<'a> Seen<'a> {
         self.count
     }
     /// Whether a `<` here is one of a turbofish.
+    #[inline(always)]
     fn may_open_turbofish(&self) -> bool {
         self.count > 0 || self.last.is_joint_mark(b':')
     }
     /// The turbofish's count behind a `>`. That of an arrow closes none.
+    #[inline(always)]
     fn lowered(&self) -> usize {
         if self.is_arrow() {
             return self.count;
@@ -117,24 +126,29 @@ impl<'a> Seen<'a> {
         self.count.saturating_sub(1)
     }
     /// Whether a `>` here ends an arrow.
+    #[inline(always)]
     fn is_arrow(&self) -> bool {
         self.last.is_joint_mark(b'-') || self.last.is_joint_mark(b'=')
     }
     /// Whether this one is a `<` of a turbofish.
-    fn opens_turbofish(&self, next: &Neighbour<'_>) -> bool {
+    #[inline(always)]
+    fn opens_turbofish(&self, next: &Told<'_>) -> bool {
         next.is_mark(b'<') && self.may_open_turbofish()
     }
     /// Whether this one is a `>` within a turbofish.
-    fn ends_turbofish(&self, next: &Neighbour<'_>) -> bool {
+    #[inline(always)]
+    fn ends_turbofish(&self, next: &Told<'_>) -> bool {
         next.is_mark(b'>') && self.count > 0
     }
     /// Whether this one is the `>` that closes a turbofish.
-    fn closes_turbofish(&self, next: &Neighbour<'_>) -> bool {
+    #[inline(always)]
+    fn closes_turbofish(&self, next: &Told<'_>) -> bool {
         self.ends_turbofish(next) && self.lowered() == 0
     }
 }
 /// What stands between what was seen and this one: the first row of the table that fits.
-pub fn between(seen: &Seen<'_>, next: &Neighbour<'_>) -> Separation {
+#[inline(always)]
+pub fn between(seen: &Seen<'_>, next: &Told<'_>) -> Separation {
     if seen.last.is_nothing() {
         return Separation::NoBreak;
     }
@@ -150,7 +164,8 @@ pub fn between(seen: &Seen<'_>, next: &Neighbour<'_>) -> Separation {
     between_tokens(seen, next)
 }
 /// The rows of tokens, where neither is documentation and the first one isn't joint.
-fn between_tokens(seen: &Seen<'_>, next: &Neighbour<'_>) -> Separation {
+#[inline(always)]
+fn between_tokens(seen: &Seen<'_>, next: &Told<'_>) -> Separation {
     if next.is_punct() {
         return before_mark(seen, next);
     }
@@ -160,7 +175,8 @@ fn between_tokens(seen: &Seen<'_>, next: &Neighbour<'_>) -> Separation {
     around_group(seen, next)
 }
 /// The rows of a mark that follows.
-fn before_mark(seen: &Seen<'_>, next: &Neighbour<'_>) -> Separation {
+#[inline(always)]
+fn before_mark(seen: &Seen<'_>, next: &Told<'_>) -> Separation {
     if is_end_mark(next) {
         return Separation::NoBreak;
     }
@@ -179,7 +195,8 @@ fn before_mark(seen: &Seen<'_>, next: &Neighbour<'_>) -> Separation {
     around_group(seen, next)
 }
 /// The rows of a mark that stands before.
-fn behind_mark(seen: &Seen<'_>, next: &Neighbour<'_>) -> Separation {
+#[inline(always)]
+fn behind_mark(seen: &Seen<'_>, next: &Told<'_>) -> Separation {
     if is_behind_point_or_path(seen, next) {
         return Separation::NoBreak;
     }
@@ -195,7 +212,8 @@ fn behind_mark(seen: &Seen<'_>, next: &Neighbour<'_>) -> Separation {
     around_group(seen, next)
 }
 /// The rows of a turbofish, and of a group that follows.
-fn around_group(seen: &Seen<'_>, next: &Neighbour<'_>) -> Separation {
+#[inline(always)]
+fn around_group(seen: &Seen<'_>, next: &Told<'_>) -> Separation {
     if is_within_turbofish(seen, next) {
         return Separation::NoBreak;
     }
@@ -204,67 +222,84 @@ fn around_group(seen: &Seen<'_>, next: &Neighbour<'_>) -> Separation {
     }
     Separation::SoftBreak
 }
-fn is_beside_doc(seen: &Seen<'_>, next: &Neighbour<'_>) -> bool {
+#[inline(always)]
+fn is_beside_doc(seen: &Seen<'_>, next: &Told<'_>) -> bool {
     seen.last.is_doc() || next.is_doc()
 }
 /// `<` or `>`
-fn is_angle(next: &Neighbour<'_>) -> bool {
+#[inline(always)]
+fn is_angle(next: &Told<'_>) -> bool {
     next.is_mark(b'<') || next.is_mark(b'>')
 }
 /// `,` or `;`
-fn is_end_mark(next: &Neighbour<'_>) -> bool {
+#[inline(always)]
+fn is_end_mark(next: &Told<'_>) -> bool {
     next.is_mark(b',') || next.is_mark(b';')
 }
-fn is_point_behind_number(seen: &Seen<'_>, next: &Neighbour<'_>) -> bool {
+#[inline(always)]
+fn is_point_behind_number(seen: &Seen<'_>, next: &Told<'_>) -> bool {
     next.is_mark(b'.') && seen.last.is_number(seen.place)
 }
 /// `.`, `?` or `:`
-fn is_mark_without_gap(next: &Neighbour<'_>) -> bool {
+#[inline(always)]
+fn is_mark_without_gap(next: &Told<'_>) -> bool {
     next.is_mark(b'.') || next.is_mark(b'?') || next.is_mark(b':')
 }
 /// The `!` of `name!(..)`
-fn is_bang_of_call(seen: &Seen<'_>, next: &Neighbour<'_>) -> bool {
+#[inline(always)]
+fn is_bang_of_call(seen: &Seen<'_>, next: &Told<'_>) -> bool {
     next.is_mark(b'!') && !next.is_joint() && seen.last.is_free_word()
 }
 /// Behind `.`, or a word behind `::`
-fn is_behind_point_or_path(seen: &Seen<'_>, next: &Neighbour<'_>) -> bool {
+#[inline(always)]
+fn is_behind_point_or_path(seen: &Seen<'_>, next: &Told<'_>) -> bool {
     seen.last.is_mark(b'.') || is_behind_path(seen, next)
 }
-fn is_behind_path(seen: &Seen<'_>, next: &Neighbour<'_>) -> bool {
+#[inline(always)]
+fn is_behind_path(seen: &Seen<'_>, next: &Told<'_>) -> bool {
     seen.last.is_mark(b':') && seen.before.is_joint_mark(b':') && next.is_any_word()
 }
-fn is_behind_bang_or_dollar(seen: &Seen<'_>, next: &Neighbour<'_>) -> bool {
+#[inline(always)]
+fn is_behind_bang_or_dollar(seen: &Seen<'_>, next: &Told<'_>) -> bool {
     (seen.last.is_mark(b'!') || seen.last.is_mark(b'$')) && !next.is_brace()
 }
 /// The brackets of `#[..]`
-fn is_attribute(seen: &Seen<'_>, next: &Neighbour<'_>) -> bool {
+#[inline(always)]
+fn is_attribute(seen: &Seen<'_>, next: &Told<'_>) -> bool {
     seen.last.is_mark(b'#') && next.is_bracket()
 }
 /// Behind `&`, `*` or `-` that has no left operand
+#[inline(always)]
 fn is_prefix(seen: &Seen<'_>) -> bool {
     is_prefix_mark(&seen.last) && !is_joint_punct(&seen.before)
         && has_no_operand(&seen.before)
 }
 /// `&`, `*` or `-`
-fn is_prefix_mark(last: &Neighbour<'_>) -> bool {
+#[inline(always)]
+fn is_prefix_mark(last: &Told<'_>) -> bool {
     last.is_mark(b'&') || last.is_mark(b'*') || last.is_mark(b'-')
 }
-fn is_joint_punct(before: &Neighbour<'_>) -> bool {
+#[inline(always)]
+fn is_joint_punct(before: &Told<'_>) -> bool {
     before.is_punct() && before.is_joint()
 }
 /// Whether it is no operand of an operator behind it
-fn has_no_operand(before: &Neighbour<'_>) -> bool {
+#[inline(always)]
+fn has_no_operand(before: &Told<'_>) -> bool {
     before.is_nothing() || (before.is_punct() && !before.is_mark(b'?'))
         || before.is_keyword()
 }
-fn is_within_turbofish(seen: &Seen<'_>, next: &Neighbour<'_>) -> bool {
+#[inline(always)]
+fn is_within_turbofish(seen: &Seen<'_>, next: &Told<'_>) -> bool {
     seen.opens || seen.opens_turbofish(next) || seen.ends_turbofish(next)
         || (seen.closes && next.is_paren())
 }
 /// The group of `name(..)` and `name[..]`, or one behind another
-fn is_call_or_index(seen: &Seen<'_>, next: &Neighbour<'_>) -> bool {
+#[inline(always)]
+fn is_call_or_index(seen: &Seen<'_>, next: &Told<'_>) -> bool {
     (next.is_paren() || next.is_bracket()) && is_before_group(&seen.last)
 }
-fn is_before_group(last: &Neighbour<'_>) -> bool {
+#[inline(always)]
+fn is_before_group(last: &Told<'_>) -> bool {
     last.is_free_word() || last.is_paren() || last.is_bracket()
 }

@@ -1,7 +1,7 @@
 //! Made by scripts/rust.sh from crates/lay_out_tokens/src/tokens.rt, which is proved: change that.
 //!
 //! Token lists and groups.
-use crate::generated::lay_out_tokens::neighbours::{Neighbour, kind_of};
+use crate::generated::lay_out_tokens::neighbours::kind_of;
 use crate::generated::lay_out_tokens::notation::{
     CLOSING_HARD_BREAK,
     CLOSING_SOFT_BREAK,
@@ -11,6 +11,7 @@ use crate::generated::lay_out_tokens::notation::{
     SPACE_BREAK,
 };
 use crate::generated::lay_out_tokens::separation::{Seen, Separation, between};
+use crate::generated::lay_out_tokens::told::Told;
 use crate::generated::lay_out_tokens::words::{put_doc, put_token};
 use crate::generated::lay_node::{Group, Listed, Tokens};
 use crate::generated::lay_stream::Emit;
@@ -56,25 +57,28 @@ fn put_list<E: Emit>(out: &mut E, tokens: &[Listed]) -> Result<bool, E::Fault> {
     let mut seen = Seen::at_start(0);
     let mut rest = tokens;
     while let Some((token, more)) = rest.split_first() {
-        put_next(out, &seen, token, more)?;
-        seen = seen.behind(token);
+        let next = Told::single(token);
+        put_next(out, &seen, token, &next, more)?;
+        seen = seen.behind(token, next);
         rest = more;
     }
     Ok(seen.last.is_line_doc())
 }
 /// One token, which others follow.
+#[inline(always)]
 fn put_next<
     E: Emit,
 >(
     out: &mut E,
     seen: &Seen<'_>,
     token: &Listed,
+    next: &Told<'_>,
     more: &[Listed],
 ) -> Result<(), E::Fault> {
     match kind_of(token) {
         Kind::Opener(delim) => put_opener(out, seen, delim, closes_at_once(more)),
         Kind::Closer(delim) => put_closer(out, seen, delim),
-        _ => put_single(out, seen, token),
+        _ => put_single(out, seen, token, next),
     }
 }
 /// Whether a closer is the next token.
@@ -88,16 +92,18 @@ fn is_closer(kind: Kind) -> bool {
     matches!(kind, Kind::Closer(_))
 }
 /// What opens a group, or all of a group without tokens.
+#[inline(always)]
 fn put_opener<
     E: Emit,
 >(out: &mut E, seen: &Seen<'_>, delim: Delim, empty: bool) -> Result<(), E::Fault> {
-    put_gap(out, between(seen, &Neighbour::Enclosed(delim)))?;
+    put_gap(out, between(seen, &Told::enclosed(delim)))?;
     if empty {
         return put_empty_group(out, delim);
     }
     open_group(out, delim)
 }
 /// What closes a group, unless it has no tokens.
+#[inline(always)]
 fn put_closer<
     E: Emit,
 >(out: &mut E, seen: &Seen<'_>, delim: Delim) -> Result<(), E::Fault> {
@@ -107,10 +113,16 @@ fn put_closer<
     close_group(out, delim, seen.last.is_line_doc())
 }
 /// A token that is no delimiter.
+#[inline(always)]
 fn put_single<
     E: Emit,
->(out: &mut E, seen: &Seen<'_>, token: &Listed) -> Result<(), E::Fault> {
-    put_gap(out, between(seen, &Neighbour::Single(token)))?;
+>(
+    out: &mut E,
+    seen: &Seen<'_>,
+    token: &Listed,
+    next: &Told<'_>,
+) -> Result<(), E::Fault> {
+    put_gap(out, between(seen, next))?;
     put_listed(out, token)
 }
 fn put_listed<E: Emit>(out: &mut E, token: &Listed) -> Result<(), E::Fault> {

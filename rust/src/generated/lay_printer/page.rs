@@ -4,7 +4,8 @@
 use crate::generated::lay_printer::frames::Frames;
 use crate::generated::lay_printer::line::{Line, exceeds};
 use crate::generated::lay_io::{Failed, Sink};
-use crate::generated::lay_layout::{Break, Tok, asks_at_break, entered, width_of};
+use crate::generated::lay_layout::{Break, asks_at_break, entered, width_of};
+use crate::generated::lay_ring::LentTok;
 /// Where the layout stands: the line that is being written, and the frames of the groups that are open there.
 pub struct Page {
     pub line: Line,
@@ -36,16 +37,18 @@ impl Page {
     /// Prints a token, of which it is known whether its measure is greater than the space.
     pub fn print<
         K: Sink,
-    >(&mut self, sink: &mut K, tok: &Tok, big: bool) -> Result<(), Failed> {
+    >(&mut self, sink: &mut K, tok: LentTok<'_>, big: bool) -> Result<(), Failed> {
         match tok {
-            Tok::Text(text) => self.line.write(sink, text.as_bytes()),
-            Tok::Break(brk) => self.line.put_break(sink, self.frames.top(), *brk, big),
-            Tok::Begin { consistent, offset } => {
-                let frame = entered(self.frames.top(), *consistent, *offset, big);
+            LentTok::Text(text) => self.line.write(sink, text),
+            LentTok::Break(brk) => {
+                self.line.put_break(sink, self.frames.top(), brk, big)
+            }
+            LentTok::Begin { consistent, offset } => {
+                let frame = entered(self.frames.top(), consistent, offset, big);
                 self.frames.push(frame);
                 Ok(())
             }
-            Tok::End => {
+            LentTok::End => {
                 self.frames.pop();
                 Ok(())
             }

@@ -23,7 +23,7 @@ impl<'p, K: Sink> Press<'p, K> {
     pub fn finish(&mut self) -> Result<(), PrintError> {
         self.core.finish(self.sink)
     }
-    /// Feeds a text, which isn't copied.
+    /// Feeds a text that is owned: with room for a token it wants no memory.
     pub fn text_owned(&mut self, text: Text) -> Result<(), PrintError> {
         self.core.text_owned(self.sink, text)
     }
@@ -90,7 +90,7 @@ impl<K: Sink> Printer<K> {
             Err(error) => Err(PrintFault { error, sink }),
         }
     }
-    /// Feeds a text, which isn't copied.
+    /// Feeds a text that is owned: with room for a token it wants no memory.
     pub fn text_owned(&mut self, text: Text) -> Result<(), PrintError> {
         self.core.text_owned(&mut self.sink, text)
     }

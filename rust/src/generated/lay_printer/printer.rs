@@ -6,15 +6,15 @@ use crate::generated::lay_printer::frames::Frames;
 use crate::generated::lay_printer::line::Line;
 use crate::generated::lay_printer::page::Page;
 use crate::generated::lay_io::{Failed, Sink};
-use crate::generated::lay_layout::{Break, MARGIN, Tok};
+use crate::generated::lay_layout::{Break, MARGIN};
 use crate::generated::lay_queue::Queue;
+use crate::generated::lay_ring::LentTok;
 use crate::generated::lay_text::{NoMemory, Text};
 use crate::shims::Global;
 /// What a printer keeps beside its sink: it owns the memory. Contracts see the tokens that wait with their
 /// sizes and the number of the first, how many groups are open, how many tokens may come before memory is
 /// taken, why a call failed, if one did, and where the layout stands.
 pub struct Core {
-    alloc: Global,
     engine: Engine,
     failed: Option<PrintError>,
     spare: usize,
@@ -30,10 +30,40 @@ impl Core {
         let line = Line { pending: 0, room: MARGIN, used: 0 };
         let frames = Frames::new(alloc);
         let page = Page { line, frames };
-        Ok(Core { alloc, engine: Engine { queue, page }, failed: None, spare: 0 })
+        Ok(Core { engine: Engine { queue, page, limit: 0 }, failed: None, spare: 0 })
     }
     /// Feeds a text.
     pub fn text<
+        K: Sink,
+    >(&mut self, sink: &mut K, text: &[u8]) -> Result<(), PrintError> {
+        self.put_text(sink, text)
+    }
+    /// Feeds a text that is owned: with room for a token it wants no memory.
+    pub fn text_owned<
+        K: Sink,
+    >(&mut self, sink: &mut K, text: Text) -> Result<(), PrintError> {
+        self.put_text(sink, text.as_bytes())
+    }
+    /// Feeds a break.
+    pub fn brk<K: Sink>(&mut self, sink: &mut K, brk: Break) -> Result<(), PrintError> {
+        if self.failed.is_none() && self.engine.is_clear(brk) {
+            return self.print_break(sink, brk);
+        }
+        self.feed(sink, LentTok::Break(brk))
+    }
+    /// Begins a group.
+    pub fn begin<
+        K: Sink,
+    >(&mut self, sink: &mut K, consistent: bool, offset: i8) -> Result<(), PrintError> {
+        self.feed(sink, LentTok::Begin { consistent, offset })
+    }
+    /// Ends the group that was begun last.
+    pub fn end<K: Sink>(&mut self, sink: &mut K) -> Result<(), PrintError> {
+        self.feed(sink, LentTok::End)
+    }
+    /// Feeds a text, which is copied where it waits.
+    #[inline(always)]
+    fn put_text<
         K: Sink,
     >(&mut self, sink: &mut K, text: &[u8]) -> Result<(), PrintError> {
         if let Some(fault) = self.failed {
@@ -42,36 +72,23 @@ impl Core {
         if self.engine.is_idle() {
             return self.print_text(sink, text);
         }
-        match Text::from_bytes(self.alloc, text) {
-            Ok(text) => self.text_owned(sink, text),
-            Err(NoMemory) => {
-                self.failed = Some(PrintError::NoMemory);
-                Err(PrintError::NoMemory)
+        if text.len() as u64 > MARGIN {
+            return self.print_long(sink, text);
+        }
+        self.feed(sink, LentTok::Text(text))
+    }
+    /// Feeds a text that is longer than the space of any line.
+    #[inline(never)]
+    fn print_long<
+        K: Sink,
+    >(&mut self, sink: &mut K, text: &[u8]) -> Result<(), PrintError> {
+        match self.engine.print_long(sink, text) {
+            Ok(()) => Ok(()),
+            Err(Failed) => {
+                self.failed = Some(PrintError::WriteFailed);
+                Err(PrintError::WriteFailed)
             }
         }
-    }
-    /// Feeds a text, which isn't copied.
-    pub fn text_owned<
-        K: Sink,
-    >(&mut self, sink: &mut K, text: Text) -> Result<(), PrintError> {
-        self.feed(sink, Tok::Text(text))
-    }
-    /// Feeds a break.
-    pub fn brk<K: Sink>(&mut self, sink: &mut K, brk: Break) -> Result<(), PrintError> {
-        if self.failed.is_none() && self.engine.is_clear(brk) {
-            return self.print_break(sink, brk);
-        }
-        self.feed(sink, Tok::Break(brk))
-    }
-    /// Begins a group.
-    pub fn begin<
-        K: Sink,
-    >(&mut self, sink: &mut K, consistent: bool, offset: i8) -> Result<(), PrintError> {
-        self.feed(sink, Tok::Begin { consistent, offset })
-    }
-    /// Ends the group that was begun last.
-    pub fn end<K: Sink>(&mut self, sink: &mut K) -> Result<(), PrintError> {
-        self.feed(sink, Tok::End)
     }
     /// Feeds a text where nothing waits.
     #[inline(always)]
@@ -101,7 +118,9 @@ impl Core {
     }
     /// Feeds a token, unless a call has failed.
     #[inline(always)]
-    fn feed<K: Sink>(&mut self, sink: &mut K, tok: Tok) -> Result<(), PrintError> {
+    fn feed<
+        K: Sink,
+    >(&mut self, sink: &mut K, tok: LentTok<'_>) -> Result<(), PrintError> {
         if let Some(fault) = self.failed {
             return Err(fault);
         }

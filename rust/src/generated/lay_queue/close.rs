@@ -1,7 +1,7 @@
 //! Made by scripts/rust.sh from crates/lay_queue/src/close.rt, which is proved: change that.
 //!
 //! Sizes that are written back at a break.
-use crate::generated::lay_ring::{Marks, Ring, Size};
+use crate::generated::lay_ring::{Marks, Row};
 /// The greatest size that is kept.
 pub const CAP: u64 = 0x4000_0000_0000_0000;
 /// A note of an entry whose size isn't known.
@@ -28,10 +28,10 @@ fn take_newest(notes: &mut Marks<Note>, cur: u64) -> Option<Note> {
 }
 /// Writes back the sizes of the newest entries, whose measures end at a break where `cur` groups are open, and
 /// takes their notes. `width` is that from the newest note on, and so is what is answered.
-pub fn close(ring: &mut Ring, notes: &mut Marks<Note>, width: u64, cur: u64) -> u64 {
+pub fn close(ring: &mut Row, notes: &mut Marks<Note>, width: u64, cur: u64) -> u64 {
     let mut acc = width;
     while let Some(note) = take_newest(notes, cur) {
-        ring.size_at(note.number, Size::Known(acc as i64));
+        ring.size_at(note.number, acc);
         acc = acc.saturating_add(note.delta).min(CAP);
     }
     acc

@@ -2,13 +2,13 @@
 //!
 //! The scanning side: tokens that wait, with the sizes that are known of them.
 use crate::generated::lay_queue::close::{CAP, Note, close};
-use crate::generated::lay_layout::{Break, Tok, width_of};
-use crate::generated::lay_ring::{Entry, Marks, Ring, Size};
-use crate::generated::lay_text::{NoMemory, Text};
+use crate::generated::lay_layout::{Break, width_of};
+use crate::generated::lay_ring::{LentTok, Marks, Row, UNKNOWN};
+use crate::generated::lay_text::NoMemory;
 use crate::shims::Global;
 /// Tokens that wait, oldest first, and what is kept of those whose size isn't known.
 pub struct Queue {
-    pub ring: Ring,
+    pub ring: Row,
     pub notes: Marks<Note>,
     /// The width from the newest note on, or the cap where that is less.
     pub acc: u64,
@@ -21,29 +21,29 @@ pub struct Queue {
 }
 /// What a token's measure has at the least beside texts: the width of a break.
 #[inline(always)]
-pub fn least_width(tok: &Tok) -> u64 {
+pub fn least_width(tok: LentTok<'_>) -> u64 {
     match tok {
-        Tok::Break(brk) => width_of(*brk),
+        LentTok::Break(brk) => width_of(brk),
         _ => 0,
     }
 }
 /// How many bytes of text a token has.
-fn text_len(tok: &Tok) -> u64 {
+fn text_len(tok: LentTok<'_>) -> u64 {
     match tok {
-        Tok::Text(text) => text.as_bytes().len() as u64,
+        LentTok::Text(text) => text.len() as u64,
         _ => 0,
     }
 }
 /// Takes the oldest note, where it is that of an entry with this size.
-fn drop_note(notes: &mut Marks<Note>, size: Size) {
-    if let Size::Unknown = size {
+fn drop_note(notes: &mut Marks<Note>, size: i64) {
+    if size < 0 {
         let _ = notes.pop_oldest();
     }
 }
 impl Queue {
     /// Nothing waits.
     pub fn new(alloc: Global) -> Result<Queue, NoMemory> {
-        let ring = Ring::new(alloc, 0)?;
+        let ring = Row::new(alloc)?;
         let notes = Marks::new(alloc, 0)?;
         Ok(Queue { ring, notes, acc: 0, groups: 0, waiting: 0, ended: false })
     }
@@ -60,76 +60,46 @@ impl Queue {
     }
     /// A token comes for which there is room.
     #[inline(always)]
-    pub fn scan(&mut self, tok: Tok) {
+    pub fn scan(&mut self, tok: LentTok<'_>) {
         match tok {
-            Tok::Text(text) => self.scan_text(text),
-            Tok::Break(brk) => self.scan_break(brk),
-            Tok::Begin { consistent, offset } => self.scan_begin(consistent, offset),
-            Tok::End => self.scan_end(),
+            LentTok::Text(text) => self.scan_text(text),
+            LentTok::Break(brk) => self.scan_break(brk),
+            LentTok::Begin { consistent, offset } => self.scan_begin(consistent, offset),
+            LentTok::End => self.scan_end(),
         }
     }
     /// A text has its size at once.
     #[inline(always)]
-    fn scan_text(&mut self, text: Text) {
-        let len = text.as_bytes().len() as u64;
-        let entry = Entry {
-            tok: Tok::Text(text),
-            size: Size::Known(len.min(CAP) as i64),
-        };
-        match self.ring.push(entry) {
-            Ok(_) => {
-                self.acc = self.acc.saturating_add(len).min(CAP);
-                self.waiting += len;
-            }
-            Err(_) => unreachable!(),
-        }
+    fn scan_text(&mut self, text: &[u8]) {
+        let len = text.len() as u64;
+        let _ = self.ring.push(LentTok::Text(text), len as i64);
+        self.acc = (self.acc + len).min(CAP);
+        self.waiting += len;
     }
     /// A break ends the measures of what was noted with no fewer groups open.
     #[inline(always)]
     fn scan_break(&mut self, brk: Break) {
         let width = width_of(brk);
         let delta = close(&mut self.ring, &mut self.notes, self.acc, self.groups);
-        let entry = Entry { tok: Tok::Break(brk), size: Size::Unknown };
-        match self.ring.push(entry) {
-            Ok(number) => {
-                let note = Note { number, level: self.groups, delta };
-                match self.notes.push(note) {
-                    Ok(()) => self.acc = width,
-                    Err(_) => unreachable!(),
-                }
-            }
-            Err(_) => unreachable!(),
-        }
+        let number = self.ring.push(LentTok::Break(brk), UNKNOWN);
+        let note = Note { number, level: self.groups, delta };
+        self.notes.add(note);
+        self.acc = width;
     }
     /// A group begins.
     #[inline(always)]
     fn scan_begin(&mut self, consistent: bool, offset: i8) {
-        let entry = Entry {
-            tok: Tok::Begin { consistent, offset },
-            size: Size::Unknown,
-        };
-        match self.ring.push(entry) {
-            Ok(number) => {
-                let note = Note { number, level: self.groups, delta: self.acc };
-                match self.notes.push(note) {
-                    Ok(()) => {
-                        self.acc = 0;
-                        self.groups += 1;
-                    }
-                    Err(_) => unreachable!(),
-                }
-            }
-            Err(_) => unreachable!(),
-        }
+        let number = self.ring.push(LentTok::Begin { consistent, offset }, UNKNOWN);
+        let note = Note { number, level: self.groups, delta: self.acc };
+        self.notes.add(note);
+        self.acc = 0;
+        self.groups += 1;
     }
     /// The group that was begun last ends. Measures go on past it.
     #[inline(always)]
     fn scan_end(&mut self) {
-        let entry = Entry { tok: Tok::End, size: Size::Known(0) };
-        match self.ring.push(entry) {
-            Ok(_) => self.groups -= 1,
-            Err(_) => unreachable!(),
-        }
+        let _ = self.ring.push(LentTok::End, 0);
+        self.groups -= 1;
     }
     /// No more tokens come: every measure ends.
     pub fn end_all(&mut self) {
@@ -144,10 +114,18 @@ impl Queue {
     /// Takes the oldest entry away.
     #[inline(always)]
     pub fn drop_front(&mut self) {
-        if let Some(entry) = self.ring.pop_front() {
+        if let Some(entry) = self.ring.front() {
+            let len = text_len(entry.tok);
             drop_note(&mut self.notes, entry.size);
-            self.waiting -= text_len(&entry.tok);
+            self.waiting -= len;
+            self.ring.pop_front();
         }
+    }
+    /// Takes so many texts away that stand at the front, of so many bytes in all.
+    #[inline(always)]
+    pub fn drop_texts(&mut self, count: usize, len: usize) {
+        self.ring.pop_texts(count, len);
+        self.waiting -= len as u64;
     }
     /// Nothing waits: tokens may come again.
     pub fn restart(&mut self) {

@@ -2,7 +2,7 @@
 //!
 //! Statements and arms by themselves.
 use crate::generated::lay_read_blocks::rules::BlockRules;
-use crate::generated::lay_code::{Arm, Block, Expr, Item, Place, Site, Stmt};
+use crate::generated::lay_code::{Arm, Block, Boxed, Expr, Item, Place, Site, Stmt};
 use crate::generated::lay_ops::ends;
 use crate::generated::lay_read_parts::joins::refused;
 use crate::generated::lay_read_tokens::front::takes_mark;
@@ -13,7 +13,7 @@ fn takes_alone_end(at: &mut Ahead<'_>, free: bool) -> bool {
     takes_mark(at, b",") || free || at.is_end()
 }
 impl<
-    P: Fn(Global, &mut Ahead<'_>, Place, u32) -> Result<Found<Expr>, ReadNone>,
+    P: Fn(Global, &mut Ahead<'_>, Place, u32) -> Result<Found<Boxed<Expr>>, ReadNone>,
     B: Fn(Global, &mut Ahead<'_>, u32) -> Result<Found<Block>, ReadNone>,
     I: Fn(Global, &mut Ahead<'_>, Site, u32) -> Result<Found<Item>, ReadNone>,
 > BlockRules<P, B, I> {

@@ -20,6 +20,7 @@ use crate::generated::lay_ops::{is_free, is_lone_body};
 use crate::generated::lay_read_parts::joins::{both, refused};
 use crate::generated::lay_read_parts::loops::Part;
 use crate::generated::lay_read_pats::pat_ahead;
+use crate::generated::lay_read_shared::boxes::boxed_found;
 use crate::generated::lay_read_shared::loops::{Going, read_parts};
 use crate::generated::lay_read_shared::places::{FREE, STATEMENT, plain};
 use crate::generated::lay_read_tokens::attributes::attrs_ahead;
@@ -48,7 +49,7 @@ fn body_of(found: Found<Boxed<Expr>>) -> Found<Boxed<Expr>> {
     Found { node: undressed(found.node), need }
 }
 impl<
-    P: Fn(Global, &mut Ahead<'_>, Place, u32) -> Result<Found<Expr>, ReadNone>,
+    P: Fn(Global, &mut Ahead<'_>, Place, u32) -> Result<Found<Boxed<Expr>>, ReadNone>,
     B: Fn(Global, &mut Ahead<'_>, u32) -> Result<Found<Block>, ReadNone>,
     I: Fn(Global, &mut Ahead<'_>, Site, u32) -> Result<Found<Item>, ReadNone>,
 > BlockRules<P, B, I> {
@@ -123,7 +124,10 @@ impl<
     }
     /// What stands behind `match`, unless it is deeper than may be.
     #[inline(never)]
-    pub fn match_expr(&self, at: &mut Ahead<'_>) -> Result<Found<Expr>, ReadNone> {
+    pub fn match_expr(
+        &self,
+        at: &mut Ahead<'_>,
+    ) -> Result<Found<Boxed<Expr>>, ReadNone> {
         let scrutinee = self.expr(at, plain(0, true))?;
         if !takes_opener(at, Delim::Brace) {
             return refused(scrutinee);
@@ -151,11 +155,10 @@ impl<
         if !takes_closer(at, Delim::Brace) || need > self.depth {
             return refused(((scrutinee, attrs), arms));
         }
-        Ok(
-            Found {
-                need: need + 1,
-                node: Expr::Match { scrutinee: scrutinee.node, attrs, arms: arms.node },
-            },
+        boxed_found(
+            self.alloc,
+            Expr::Match { scrutinee: scrutinee.node, attrs, arms: arms.node },
+            need + 1,
         )
     }
 }

@@ -3,7 +3,7 @@
 //! Blocks.
 use crate::generated::lay_read_blocks::front::pass_semicolons;
 use crate::generated::lay_read_blocks::rules::BlockRules;
-use crate::generated::lay_code::{Block, Expr, Item, Place, Site, Stmt};
+use crate::generated::lay_code::{Block, Boxed, Expr, Item, Place, Site, Stmt};
 use crate::generated::lay_ops::ends;
 use crate::generated::lay_read_parts::joins::{both, refused};
 use crate::generated::lay_read_parts::loops::Part;
@@ -23,7 +23,7 @@ use crate::shims::Global;
 pub struct Stmts;
 impl Part<Stmt, ()> for Stmts {}
 impl<
-    P: Fn(Global, &mut Ahead<'_>, Place, u32) -> Result<Found<Expr>, ReadNone>,
+    P: Fn(Global, &mut Ahead<'_>, Place, u32) -> Result<Found<Boxed<Expr>>, ReadNone>,
     B: Fn(Global, &mut Ahead<'_>, u32) -> Result<Found<Block>, ReadNone>,
     I: Fn(Global, &mut Ahead<'_>, Site, u32) -> Result<Found<Item>, ReadNone>,
 > BlockRules<P, B, I> {

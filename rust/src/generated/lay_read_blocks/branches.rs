@@ -17,6 +17,7 @@ use crate::generated::lay_code::{
 use crate::generated::lay_read_parts::joins::{both, prepended, refused};
 use crate::generated::lay_read_parts::loops::Part;
 use crate::generated::lay_read_pats::pat_ahead;
+use crate::generated::lay_read_shared::boxes::boxed_found;
 use crate::generated::lay_read_shared::loops::{Going, read_parts};
 use crate::generated::lay_read_shared::places::plain;
 use crate::generated::lay_read_tokens::found::greater;
@@ -27,8 +28,20 @@ use crate::shims::Global;
 /// Branches behind `else if`, as parts that stand one behind another.
 pub struct Branches;
 impl Part<Branch, ()> for Branches {}
+/// A branch and those behind it, in one list. They are put together in a call of its own, so that no room for the moves is held
+/// while branches are read.
+#[inline(never)]
+fn branches_of(
+    first: Found<Branch>,
+    more: Result<Found<List<Branch>>, ReadNone>,
+) -> Result<Found<List<Branch>>, ReadNone> {
+    let (first, more) = both(first, more)?;
+    let need = greater(first.need, more.need);
+    let node = prepended(first.node, more.node)?;
+    Ok(Found { node, need })
+}
 impl<
-    P: Fn(Global, &mut Ahead<'_>, Place, u32) -> Result<Found<Expr>, ReadNone>,
+    P: Fn(Global, &mut Ahead<'_>, Place, u32) -> Result<Found<Boxed<Expr>>, ReadNone>,
     B: Fn(Global, &mut Ahead<'_>, u32) -> Result<Found<Block>, ReadNone>,
     I: Fn(Global, &mut Ahead<'_>, Site, u32) -> Result<Found<Item>, ReadNone>,
 > BlockRules<P, B, I> {
@@ -95,35 +108,41 @@ impl<
         let block = self.block_by(at)?;
         Ok(Found { node: Some(block.node), need: block.need })
     }
+    /// What stands behind an `if`, and the branches behind `else if`.
+    #[inline(never)]
+    fn branches(&self, at: &mut Ahead<'_>) -> Result<Found<List<Branch>>, ReadNone> {
+        match self.branch_by(at) {
+            Ok(first) => {
+                let more = self.else_branches(at);
+                branches_of(first, more)
+            }
+            Err(none) => Err(none),
+        }
+    }
+    /// The branches behind `else if`, as long as one begins.
+    #[inline(never)]
+    fn else_branches(
+        &self,
+        at: &mut Ahead<'_>,
+    ) -> Result<Found<List<Branch>>, ReadNone> {
+        read_parts::<
+            Branches,
+            BlockRules<P, B, I>,
+            Branch,
+            (),
+            _,
+        >(self.alloc, at, self.depth, Going::ElseIfs, self, BlockRules::else_branch, ())
+    }
     /// What stands behind an `if`, with all its branches.
     #[inline(never)]
-    pub fn if_expr(&self, at: &mut Ahead<'_>) -> Result<Found<Expr>, ReadNone> {
-        let first = self.branch_by(at)?;
-        let (first, more) = both(
-            first,
-            read_parts::<
-                Branches,
-                BlockRules<P, B, I>,
-                Branch,
-                (),
-                _,
-            >(
-                self.alloc,
-                at,
-                self.depth,
-                Going::ElseIfs,
-                self,
-                BlockRules::else_branch,
-                (),
-            ),
-        )?;
-        let ((first, more), otherwise) = both((first, more), self.otherwise(at))?;
-        let need = greater(first.need, greater(more.need, otherwise.need)) + 1;
-        let (otherwise, branches) = both(
-            otherwise.node,
-            prepended(first.node, more.node),
-        )?;
-        Ok(Found { node: Expr::If { branches, otherwise }, need })
+    pub fn if_expr(&self, at: &mut Ahead<'_>) -> Result<Found<Boxed<Expr>>, ReadNone> {
+        let branches = self.branches(at)?;
+        let (branches, otherwise) = both(branches, self.otherwise(at))?;
+        boxed_found(
+            self.alloc,
+            Expr::If { branches: branches.node, otherwise: otherwise.node },
+            greater(branches.need, otherwise.need) + 1,
+        )
     }
     /// What stands behind `while`.
     #[inline(never)]
@@ -131,11 +150,11 @@ impl<
         &self,
         at: &mut Ahead<'_>,
         label: Option<Lifetime>,
-    ) -> Result<Found<Expr>, ReadNone> {
+    ) -> Result<Found<Boxed<Expr>>, ReadNone> {
         let (label, found) = both(label, self.branch_by(at))?;
         let Found { node, need } = found;
         let (pat, condition, body) = node.into_parts();
-        Ok(Found { node: Expr::While { label, pat, condition, body }, need: need + 1 })
+        boxed_found(self.alloc, Expr::While { label, pat, condition, body }, need + 1)
     }
     /// What stands behind `for`.
     #[inline(never)]
@@ -143,7 +162,7 @@ impl<
         &self,
         at: &mut Ahead<'_>,
         label: Option<Lifetime>,
-    ) -> Result<Found<Expr>, ReadNone> {
+    ) -> Result<Found<Boxed<Expr>>, ReadNone> {
         let (label, pat) = both(
             label,
             pat_ahead(self.alloc, at, PatPlace::Alternatives, self.depth),
@@ -159,16 +178,10 @@ impl<
             (label, (pat, iterated)),
             self.block_by(at),
         )?;
-        Ok(
-            Found {
-                need: greater(pat.need, greater(iterated.need, body.need)) + 1,
-                node: Expr::For {
-                    label,
-                    pat: pat.node,
-                    iterated: iterated.node,
-                    body: body.node,
-                },
-            },
+        boxed_found(
+            self.alloc,
+            Expr::For { label, pat: pat.node, iterated: iterated.node, body: body.node },
+            greater(pat.need, greater(iterated.need, body.need)) + 1,
         )
     }
 }

@@ -4,6 +4,7 @@
 use crate::generated::lay_read_blocks::rules::BlockRules;
 use crate::generated::lay_code::{
     Block,
+    Boxed,
     ClosureParam,
     Expr,
     Item,
@@ -15,6 +16,7 @@ use crate::generated::lay_code::{
 use crate::generated::lay_read_parts::joins::{both, refused};
 use crate::generated::lay_read_parts::loops::{Closer, Part, read_elements};
 use crate::generated::lay_read_pats::pat_ahead;
+use crate::generated::lay_read_shared::boxes::boxed_found;
 use crate::generated::lay_read_shared::places::plain;
 use crate::generated::lay_read_shared::types::type_if;
 use crate::generated::lay_read_tokens::attributes::attrs_ahead;
@@ -28,7 +30,7 @@ use crate::shims::Global;
 pub struct Params;
 impl Part<ClosureParam, ()> for Params {}
 impl<
-    P: Fn(Global, &mut Ahead<'_>, Place, u32) -> Result<Found<Expr>, ReadNone>,
+    P: Fn(Global, &mut Ahead<'_>, Place, u32) -> Result<Found<Boxed<Expr>>, ReadNone>,
     B: Fn(Global, &mut Ahead<'_>, u32) -> Result<Found<Block>, ReadNone>,
     I: Fn(Global, &mut Ahead<'_>, Site, u32) -> Result<Found<Item>, ReadNone>,
 > BlockRules<P, B, I> {
@@ -72,7 +74,7 @@ impl<
         &self,
         at: &mut Ahead<'_>,
         no_struct: bool,
-    ) -> Result<Found<Expr>, ReadNone> {
+    ) -> Result<Found<Boxed<Expr>>, ReadNone> {
         let moves = takes_keyword(at, b"move");
         if !takes_mark(at, b"|") {
             return Err(ReadNone::NoReading);
@@ -88,16 +90,15 @@ impl<
         no_struct: bool,
         moves: bool,
         params: Found<List<ClosureParam>>,
-    ) -> Result<Found<Expr>, ReadNone> {
+    ) -> Result<Found<Boxed<Expr>>, ReadNone> {
         if at.op_is(b"->") {
             return self.typed_closure(at, moves, params);
         }
         let (params, body) = both(params, self.expr(at, plain(0, no_struct)))?;
-        Ok(
-            Found {
-                need: greater(params.need, body.need) + 1,
-                node: Expr::Closure { moves, params: params.node, body: body.node },
-            },
+        boxed_found(
+            self.alloc,
+            Expr::Closure { moves, params: params.node, body: body.node },
+            greater(params.need, body.need) + 1,
         )
     }
     /// What stands behind the parameters of a closure, from its `->` on.
@@ -107,23 +108,22 @@ impl<
         at: &mut Ahead<'_>,
         moves: bool,
         params: Found<List<ClosureParam>>,
-    ) -> Result<Found<Expr>, ReadNone> {
+    ) -> Result<Found<Boxed<Expr>>, ReadNone> {
         pass_two(at);
         let (params, output) = both(
             params,
             type_ahead(self.alloc, at, TypePlace::NoBounds, self.depth),
         )?;
         let ((params, output), body) = both((params, output), self.block_by(at))?;
-        Ok(
-            Found {
-                need: greater(params.need, greater(output.need, body.need)) + 1,
-                node: Expr::TypedClosure {
-                    moves,
-                    params: params.node,
-                    output: output.node,
-                    body: body.node,
-                },
+        boxed_found(
+            self.alloc,
+            Expr::TypedClosure {
+                moves,
+                params: params.node,
+                output: output.node,
+                body: body.node,
             },
+            greater(params.need, greater(output.need, body.need)) + 1,
         )
     }
 }

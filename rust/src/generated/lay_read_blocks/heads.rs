@@ -2,16 +2,22 @@
 //!
 //! What begins with a block, with a word before one, with a label, or as a closure does.
 use crate::generated::lay_read_blocks::rules::BlockRules;
-use crate::generated::lay_code::{Block, Expr, Item, Lifetime, Place, Site};
+use crate::generated::lay_code::{Block, Boxed, Expr, Item, Lifetime, Place, Site};
 use crate::generated::lay_ops::operands::ExprLead;
 use crate::generated::lay_read_parts::joins::{both, refused};
 use crate::generated::lay_read_parts::parts::read_lifetime;
-use crate::generated::lay_read_tokens::front::{is_at_opened, takes_keyword, takes_op};
+use crate::generated::lay_read_shared::boxes::boxed_found;
+use crate::generated::lay_read_tokens::front::{
+    is_at_keyword,
+    is_at_opened,
+    takes_keyword,
+    takes_op,
+};
 use crate::generated::lay_read_tokens::{Ahead, Found, ReadNone};
 use crate::generated::lay_token::Delim;
 use crate::shims::Global;
 impl<
-    P: Fn(Global, &mut Ahead<'_>, Place, u32) -> Result<Found<Expr>, ReadNone>,
+    P: Fn(Global, &mut Ahead<'_>, Place, u32) -> Result<Found<Boxed<Expr>>, ReadNone>,
     B: Fn(Global, &mut Ahead<'_>, u32) -> Result<Found<Block>, ReadNone>,
     I: Fn(Global, &mut Ahead<'_>, Site, u32) -> Result<Found<Item>, ReadNone>,
 > BlockRules<P, B, I> {
@@ -23,7 +29,7 @@ impl<
         at: &mut Ahead<'_>,
         no_struct: bool,
         lead: ExprLead,
-    ) -> Result<Found<Expr>, ReadNone> {
+    ) -> Result<Found<Boxed<Expr>>, ReadNone> {
         match lead {
             ExprLead::Label => self.label_expr(at),
             ExprLead::Brace => self.labelled_expr(at, None),
@@ -34,7 +40,7 @@ impl<
     }
     /// A block or a loop behind its label.
     #[inline(never)]
-    fn label_expr(&self, at: &mut Ahead<'_>) -> Result<Found<Expr>, ReadNone> {
+    fn label_expr(&self, at: &mut Ahead<'_>) -> Result<Found<Boxed<Expr>>, ReadNone> {
         let label = read_lifetime(self.alloc, at)?;
         if !takes_op(at, b":") {
             return refused(label);
@@ -47,56 +53,82 @@ impl<
         &self,
         at: &mut Ahead<'_>,
         label: Option<Lifetime>,
-    ) -> Result<Found<Expr>, ReadNone> {
+    ) -> Result<Found<Boxed<Expr>>, ReadNone> {
         if is_at_opened(at, Delim::Brace) {
             let (label, body) = both(label, self.block_by(at))?;
-            Ok(
-                Found {
-                    need: body.need + 1,
-                    node: Expr::Block { label, body: body.node },
-                },
-            )
-        } else if takes_keyword(at, b"loop") {
-            let (label, body) = both(label, self.block_by(at))?;
-            Ok(
-                Found {
-                    need: body.need + 1,
-                    node: Expr::Loop { label, body: body.node },
-                },
-            )
-        } else if takes_keyword(at, b"while") {
-            self.while_expr(at, label)
-        } else if takes_keyword(at, b"for") { self.for_expr(at, label) } else {
-            refused(label)
+            return boxed_found(
+                self.alloc,
+                Expr::Block { label, body: body.node },
+                body.need + 1,
+            );
         }
+        if takes_keyword(at, b"loop") {
+            let (label, body) = both(label, self.block_by(at))?;
+            return boxed_found(
+                self.alloc,
+                Expr::Loop { label, body: body.node },
+                body.need + 1,
+            );
+        }
+        if takes_keyword(at, b"while") {
+            return self.while_expr(at, label);
+        }
+        if takes_keyword(at, b"for") {
+            return self.for_expr(at, label);
+        }
+        refused(label)
     }
     /// What begins with a word of an expression that holds a block.
     #[inline(never)]
-    fn block_word_expr(&self, at: &mut Ahead<'_>) -> Result<Found<Expr>, ReadNone> {
+    fn block_word_expr(
+        &self,
+        at: &mut Ahead<'_>,
+    ) -> Result<Found<Boxed<Expr>>, ReadNone> {
+        if is_at_keyword(at, b"unsafe") || is_at_keyword(at, b"const")
+            || is_at_keyword(at, b"async") {
+            return self.worded_block(at);
+        }
+        self.worded(at)
+    }
+    /// A block behind its `unsafe`, `const` or `async`.
+    #[inline(never)]
+    fn worded_block(&self, at: &mut Ahead<'_>) -> Result<Found<Boxed<Expr>>, ReadNone> {
         if takes_keyword(at, b"unsafe") {
             let body = self.block_by(at)?;
-            Ok(Found { need: body.need + 1, node: Expr::Unsafe { body: body.node } })
-        } else if takes_keyword(at, b"const") {
+            return boxed_found(
+                self.alloc,
+                Expr::Unsafe { body: body.node },
+                body.need + 1,
+            );
+        }
+        if takes_keyword(at, b"const") {
             let body = self.block_by(at)?;
-            Ok(Found { need: body.need + 1, node: Expr::ConstBlock { body: body.node } })
-        } else if takes_keyword(at, b"async") {
+            return boxed_found(
+                self.alloc,
+                Expr::ConstBlock { body: body.node },
+                body.need + 1,
+            );
+        }
+        if takes_keyword(at, b"async") {
             let moves = takes_keyword(at, b"move");
             let body = self.block_by(at)?;
-            Ok(
-                Found {
-                    need: body.need + 1,
-                    node: Expr::Async { moves, body: body.node },
-                },
-            )
-        } else { self.worded(at) }
+            return boxed_found(
+                self.alloc,
+                Expr::Async { moves, body: body.node },
+                body.need + 1,
+            );
+        }
+        Err(ReadNone::NoReading)
     }
     /// What begins with `if` or `match`, or is a loop.
-    #[inline(never)]
-    fn worded(&self, at: &mut Ahead<'_>) -> Result<Found<Expr>, ReadNone> {
+    #[inline(always)]
+    fn worded(&self, at: &mut Ahead<'_>) -> Result<Found<Boxed<Expr>>, ReadNone> {
         if takes_keyword(at, b"if") {
-            self.if_expr(at)
-        } else if takes_keyword(at, b"match") { self.match_expr(at) } else {
-            self.labelled_expr(at, None)
+            return self.if_expr(at);
         }
+        if takes_keyword(at, b"match") {
+            return self.match_expr(at);
+        }
+        self.labelled_expr(at, None)
     }
 }

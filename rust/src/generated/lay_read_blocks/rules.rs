@@ -4,7 +4,6 @@
 use crate::generated::lay_code::{Block, Boxed, Expr, Item, Place, Site};
 use crate::generated::lay_read_shared::places::FREE;
 use crate::generated::lay_read_tokens::front::takes_op;
-use crate::generated::lay_read_tokens::stop::boxed;
 use crate::generated::lay_read_tokens::{Ahead, Found, ReadNone};
 use crate::shims::Global;
 /// The rules of blocks of a level, over the readers of what is one level deeper: of expressions, at a place, of blocks
@@ -18,20 +17,18 @@ pub struct BlockRules<P, B, I> {
     pub items: I,
 }
 impl<
-    P: Fn(Global, &mut Ahead<'_>, Place, u32) -> Result<Found<Expr>, ReadNone>,
+    P: Fn(Global, &mut Ahead<'_>, Place, u32) -> Result<Found<Boxed<Expr>>, ReadNone>,
     B: Fn(Global, &mut Ahead<'_>, u32) -> Result<Found<Block>, ReadNone>,
     I: Fn(Global, &mut Ahead<'_>, Site, u32) -> Result<Found<Item>, ReadNone>,
 > BlockRules<P, B, I> {
-    /// An expression one level deeper, in a box.
+    /// An expression one level deeper, in its box.
     #[inline(never)]
     pub fn expr(
         &self,
         at: &mut Ahead<'_>,
         place: Place,
     ) -> Result<Found<Boxed<Expr>>, ReadNone> {
-        let found = (self.exprs)(self.alloc, at, place, self.depth)?;
-        let node = boxed(self.alloc, found.node)?;
-        Ok(Found { node, need: found.need })
+        (self.exprs)(self.alloc, at, place, self.depth)
     }
     /// A value behind an `=`, if one stands there.
     pub fn value_if(

@@ -39,15 +39,44 @@ fn else_stands(value: &Option<Boxed<Expr>>, otherwise: bool) -> bool {
         None => false,
     }
 }
+/// The pattern behind `let`, and its type if it has one.
+#[inline(never)]
+fn let_head(
+    alloc: Global,
+    at: &mut Ahead<'_>,
+    depth: u32,
+) -> Result<Found<(Pat, Option<Ty>)>, ReadNone> {
+    let pat = pat_ahead(alloc, at, PatPlace::Single, depth)?;
+    let (pat, ty) = both(pat, type_if(alloc, at, b":", depth))?;
+    Ok(Found { need: greater(pat.need, ty.need), node: (pat.node, ty.node) })
+}
+/// A `let` of what was read up to its type and behind that. They are put together in a call of its own, so that no room for the
+/// moves is held while the value is read.
+#[inline(never)]
+fn let_of(
+    attrs: List<Attr>,
+    head: Found<(Pat, Option<Ty>)>,
+    behind: Result<Found<(Option<Boxed<Expr>>, Option<Block>)>, ReadNone>,
+) -> Result<Found<Stmt>, ReadNone> {
+    let (head, behind) = both(head, behind)?;
+    let (pat, ty) = head.node;
+    let (value, otherwise) = behind.node;
+    Ok(
+        Found {
+            need: greater(head.need, behind.need),
+            node: Stmt::Let { attrs, pat, ty, value, otherwise },
+        },
+    )
+}
 impl<
-    P: Fn(Global, &mut Ahead<'_>, Place, u32) -> Result<Found<Expr>, ReadNone>,
+    P: Fn(Global, &mut Ahead<'_>, Place, u32) -> Result<Found<Boxed<Expr>>, ReadNone>,
     B: Fn(Global, &mut Ahead<'_>, u32) -> Result<Found<Block>, ReadNone>,
     I: Fn(Global, &mut Ahead<'_>, Site, u32) -> Result<Found<Item>, ReadNone>,
 > BlockRules<P, B, I> {
     /// A statement.
-    #[inline(never)]
+    #[inline(always)]
     pub fn stmt_by(&self, at: &mut Ahead<'_>) -> Result<Found<Stmt>, ReadNone> {
-        let mut begun = at.fork();
+        let begun = at.fork();
         let attrs = attrs_ahead(self.alloc, at, false)?;
         if takes_keyword(at, b"let") {
             return self.let_stmt(at, attrs);
@@ -55,9 +84,8 @@ impl<
         if !begins_item(at) {
             return self.expr_stmt(at, attrs);
         }
-        let (_, found) = both(attrs, self.item_stmt(&mut begun))?;
         *at = begun;
-        Ok(found)
+        self.item_stmt(at)
     }
     /// An item, which is no macro call.
     #[inline(never)]
@@ -92,46 +120,30 @@ impl<
         at: &mut Ahead<'_>,
         attrs: List<Attr>,
     ) -> Result<Found<Stmt>, ReadNone> {
-        let (attrs, pat) = both(
-            attrs,
-            pat_ahead(self.alloc, at, PatPlace::Single, self.depth),
-        )?;
-        let ((attrs, pat), ty) = both(
-            (attrs, pat),
-            type_if(self.alloc, at, b":", self.depth),
-        )?;
-        self.let_behind(at, attrs, pat, ty)
+        match let_head(self.alloc, at, self.depth) {
+            Ok(head) => {
+                let behind = self.let_behind(at);
+                let_of(attrs, head, behind)
+            }
+            Err(none) => Err(none),
+        }
     }
-    /// What stands behind `let`, a pattern, and its type if it has one.
+    /// What stands behind the pattern of a `let`, and its type if it has one: a value and a block behind an `else`, if they
+    /// stand there, and a `;`.
     #[inline(never)]
     fn let_behind(
         &self,
         at: &mut Ahead<'_>,
-        attrs: List<Attr>,
-        pat: Found<Pat>,
-        ty: Found<Option<Ty>>,
-    ) -> Result<Found<Stmt>, ReadNone> {
-        let ((attrs, (pat, ty)), value) = both((attrs, (pat, ty)), self.value_if(at))?;
-        let ((attrs, (pat, ty)), (value, otherwise)) = both(
-            (attrs, (pat, ty)),
-            both(value, self.else_if(at)),
-        )?;
+    ) -> Result<Found<(Option<Boxed<Expr>>, Option<Block>)>, ReadNone> {
+        let value = self.value_if(at)?;
+        let (value, otherwise) = both(value, self.else_if(at))?;
         if !takes_mark(at, b";") || !else_stands(&value.node, otherwise.node.is_some()) {
-            return refused((attrs, (pat, (ty, (value, otherwise)))));
+            return refused((value, otherwise));
         }
         Ok(
             Found {
-                need: greater(
-                    pat.need,
-                    greater(ty.need, greater(value.need, otherwise.need)),
-                ),
-                node: Stmt::Let {
-                    attrs,
-                    pat: pat.node,
-                    ty: ty.node,
-                    value: value.node,
-                    otherwise: otherwise.node,
-                },
+                need: greater(value.need, otherwise.need),
+                node: (value.node, otherwise.node),
             },
         )
     }

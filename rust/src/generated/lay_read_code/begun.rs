@@ -77,20 +77,21 @@ pub enum Whole {
         call: MacroCall,
     },
 }
-/// An item up to its body, or the whole item where it has none.
+/// An item up to its body, or the whole item where it has none. What is large in it stands in a box, since an item that is
+/// begun is moved many times.
 pub enum Begun {
     Whole {
-        item: Whole,
+        item: Boxed<Whole>,
     },
     Module {
         name: Name,
     },
     Trait {
-        head: TraitHead,
+        head: Boxed<TraitHead>,
         wheres: Wheres,
     },
     Impl {
-        head: ImplHead,
+        head: Boxed<ImplHead>,
         wheres: Wheres,
     },
     Foreign {
@@ -98,11 +99,11 @@ pub enum Begun {
         abi: Option<Literal>,
     },
     Function {
-        head: FnHead,
+        head: Boxed<FnHead>,
         wheres: Wheres,
     },
     Value {
-        head: ValueHead,
+        head: Boxed<ValueHead>,
     },
 }
 /// An item at its site up to its body, told from what it begins with. What is within it stands within the depth.
@@ -143,7 +144,7 @@ fn begun_by(
     }
 }
 /// An item without a body, which needs this depth.
-fn whole_item(item: Whole, need: u32) -> Found<Begun> {
+fn whole_item(item: Boxed<Whole>, need: u32) -> Found<Begun> {
     Found { node: Begun::Whole { item }, need }
 }
 /// An extern crate declaration.
@@ -152,7 +153,8 @@ fn begin_extern_crate(
     at: &mut Ahead<'_>,
 ) -> Result<Found<Begun>, ReadNone> {
     let item = extern_crate_ahead(alloc, at)?;
-    Ok(whole_item(Whole::ExternCrate { item }, 0))
+    let item = boxed(alloc, Whole::ExternCrate { item })?;
+    Ok(whole_item(item, 0))
 }
 /// An import.
 fn begin_import(
@@ -165,8 +167,9 @@ fn begin_import(
     }
     let Found { node, need } = use_ahead(alloc, at, depth)?;
     let tree = boxed(alloc, node)?;
+    let item = boxed(alloc, Whole::Import { tree })?;
     let keeps = takes_mark(at, b";");
-    kept_if(whole_item(Whole::Import { tree }, need), keeps)
+    kept_if(whole_item(item, need), keeps)
 }
 /// A module in a file of its own, or the head of another.
 fn begin_module(alloc: Global, at: &mut Ahead<'_>) -> Result<Found<Begun>, ReadNone> {
@@ -174,9 +177,10 @@ fn begin_module(alloc: Global, at: &mut Ahead<'_>) -> Result<Found<Begun>, ReadN
         return Err(ReadNone::NoReading);
     }
     let name = read_name(alloc, at)?;
-    if takes_mark(at, b";") { Ok(whole_item(Whole::FileModule { name }, 0)) } else {
-        Ok(Found { node: Begun::Module { name }, need: 0 })
-    }
+    if takes_mark(at, b";") {
+        let item = boxed(alloc, Whole::FileModule { name })?;
+        Ok(whole_item(item, 0))
+    } else { Ok(Found { node: Begun::Module { name }, need: 0 }) }
 }
 /// A function, up to its body.
 fn begin_function(
@@ -185,12 +189,13 @@ fn begin_function(
     site: Site,
     depth: u32,
 ) -> Result<Found<Begun>, ReadNone> {
-    let head = fn_head_ahead(alloc, at, site, depth)?;
+    let Found { node, need } = fn_head_ahead(alloc, at, site, depth)?;
+    let head = boxed(alloc, node)?;
     let (head, wheres) = both(head, wheres_ahead(alloc, at, depth))?;
     Ok(
         Found {
-            need: greater(head.need, wheres.need),
-            node: Begun::Function { head: head.node, wheres: wheres.node.0 },
+            need: greater(need, wheres.need),
+            node: Begun::Function { head, wheres: wheres.node.0 },
         },
     )
 }
@@ -201,8 +206,9 @@ fn begin_alias(
     site: Site,
     depth: u32,
 ) -> Result<Found<Begun>, ReadNone> {
-    let alias = alias_ahead(alloc, at, site, depth)?;
-    Ok(whole_item(Whole::Alias { item: alias.node }, alias.need))
+    let Found { node, need } = alias_ahead(alloc, at, site, depth)?;
+    let item = boxed(alloc, Whole::Alias { item: node })?;
+    Ok(whole_item(item, need))
 }
 /// A struct.
 fn begin_struct(
@@ -210,8 +216,9 @@ fn begin_struct(
     at: &mut Ahead<'_>,
     depth: u32,
 ) -> Result<Found<Begun>, ReadNone> {
-    let item = struct_ahead(alloc, at, depth)?;
-    Ok(whole_item(Whole::Struct { item: item.node }, item.need))
+    let Found { node, need } = struct_ahead(alloc, at, depth)?;
+    let item = boxed(alloc, Whole::Struct { item: node })?;
+    Ok(whole_item(item, need))
 }
 /// A union.
 fn begin_union(
@@ -219,8 +226,9 @@ fn begin_union(
     at: &mut Ahead<'_>,
     depth: u32,
 ) -> Result<Found<Begun>, ReadNone> {
-    let item = union_ahead(alloc, at, depth)?;
-    Ok(whole_item(Whole::Union { item: item.node }, item.need))
+    let Found { node, need } = union_ahead(alloc, at, depth)?;
+    let item = boxed(alloc, Whole::Union { item: node })?;
+    Ok(whole_item(item, need))
 }
 /// An enumeration.
 fn begin_enum(
@@ -228,8 +236,9 @@ fn begin_enum(
     at: &mut Ahead<'_>,
     depth: u32,
 ) -> Result<Found<Begun>, ReadNone> {
-    let item = enum_ahead(alloc, at, depth)?;
-    Ok(whole_item(Whole::Enum { item: item.node }, item.need))
+    let Found { node, need } = enum_ahead(alloc, at, depth)?;
+    let item = boxed(alloc, Whole::Enum { item: node })?;
+    Ok(whole_item(item, need))
 }
 /// A constant or a static, up to its value.
 fn begin_value(
@@ -237,8 +246,9 @@ fn begin_value(
     at: &mut Ahead<'_>,
     depth: u32,
 ) -> Result<Found<Begun>, ReadNone> {
-    let head = value_head_ahead(alloc, at, depth)?;
-    Ok(Found { need: head.need, node: Begun::Value { head: head.node } })
+    let Found { node, need } = value_head_ahead(alloc, at, depth)?;
+    let head = boxed(alloc, node)?;
+    Ok(Found { need, node: Begun::Value { head } })
 }
 /// A trait, up to its body.
 fn begin_trait(
@@ -246,12 +256,13 @@ fn begin_trait(
     at: &mut Ahead<'_>,
     depth: u32,
 ) -> Result<Found<Begun>, ReadNone> {
-    let head = trait_head_ahead(alloc, at, depth)?;
+    let Found { node, need } = trait_head_ahead(alloc, at, depth)?;
+    let head = boxed(alloc, node.0)?;
     let (head, wheres) = both(head, wheres_ahead(alloc, at, depth))?;
     Ok(
         Found {
-            need: greater(head.need, wheres.need),
-            node: Begun::Trait { head: head.node.0, wheres: wheres.node.0 },
+            need: greater(need, wheres.need),
+            node: Begun::Trait { head, wheres: wheres.node.0 },
         },
     )
 }
@@ -261,12 +272,13 @@ fn begin_impl(
     at: &mut Ahead<'_>,
     depth: u32,
 ) -> Result<Found<Begun>, ReadNone> {
-    let head = impl_head_ahead(alloc, at, depth)?;
+    let Found { node, need } = impl_head_ahead(alloc, at, depth)?;
+    let head = boxed(alloc, node)?;
     let (head, wheres) = both(head, wheres_ahead(alloc, at, depth))?;
     Ok(
         Found {
-            need: greater(head.need, wheres.need),
-            node: Begun::Impl { head: head.node, wheres: wheres.node.0 },
+            need: greater(need, wheres.need),
+            node: Begun::Impl { head, wheres: wheres.node.0 },
         },
     )
 }
@@ -286,13 +298,15 @@ fn begin_rules(alloc: Global, at: &mut Ahead<'_>) -> Result<Found<Begun>, ReadNo
     let name = read_name(alloc, at)?;
     let rules = read_group(alloc, at)?;
     if takes_end(at, rules.delim) {
-        Ok(whole_item(Whole::MacroRules { name, rules }, 0))
+        let item = boxed(alloc, Whole::MacroRules { name, rules })?;
+        Ok(whole_item(item, 0))
     } else { Err(ReadNone::NoReading) }
 }
 /// A macro call, and what ends it.
 fn begin_call(alloc: Global, at: &mut Ahead<'_>) -> Result<Found<Begun>, ReadNone> {
     let call = call_ahead(alloc, at)?;
     if takes_end(at, call.tokens.delim) {
-        Ok(whole_item(Whole::Call { call }, 0))
+        let item = boxed(alloc, Whole::Call { call })?;
+        Ok(whole_item(item, 0))
     } else { Err(ReadNone::NoReading) }
 }

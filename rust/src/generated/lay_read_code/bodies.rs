@@ -60,17 +60,23 @@ fn kind_of(item: Whole) -> ItemKind {
 /// An item with what stands in its body, if it has one.
 pub fn with_items(begun: Begun, attrs: List<Attr>, items: List<Item>) -> ItemKind {
     match begun {
-        Begun::Whole { item } => kind_of(item),
+        Begun::Whole { item } => kind_of(item.into_inner()),
         Begun::Module { name } => ItemKind::Module { name, attrs, items },
-        Begun::Trait { head, wheres } => ItemKind::Trait { head, wheres, attrs, items },
-        Begun::Impl { head, wheres } => ItemKind::Impl { head, wheres, attrs, items },
+        Begun::Trait { head, wheres } => {
+            ItemKind::Trait { head: head.into_inner(), wheres, attrs, items }
+        }
+        Begun::Impl { head, wheres } => {
+            ItemKind::Impl { head: head.into_inner(), wheres, attrs, items }
+        }
         Begun::Foreign { is_unsafe, abi } => {
             ItemKind::Foreign { is_unsafe, abi, attrs, items }
         }
         Begun::Function { head, wheres } => {
-            ItemKind::Function { head, wheres, body: None }
+            ItemKind::Function { head: head.into_inner(), wheres, body: None }
         }
-        Begun::Value { head } => ItemKind::Value { head, value: None },
+        Begun::Value { head } => {
+            ItemKind::Value { head: head.into_inner(), value: None }
+        }
     }
 }
 /// Whether a function may have a body at its site, or may lack it.
@@ -104,7 +110,11 @@ pub fn with_block(
             kept_if(
                 Found {
                     need,
-                    node: ItemKind::Function { head, wheres, body: body.node },
+                    node: ItemKind::Function {
+                        head: head.into_inner(),
+                        wheres,
+                        body: body.node,
+                    },
                 },
                 keeps,
             )
@@ -121,9 +131,12 @@ pub fn with_value(
     let need = greater(begun.need, value.need);
     match begun.node {
         Begun::Value { head } => {
-            let keeps = may_be_valued(site, &head, value.node.is_some());
+            let keeps = may_be_valued(site, head.get(), value.node.is_some());
             kept_if(
-                Found { need, node: ItemKind::Value { head, value: value.node } },
+                Found {
+                    need,
+                    node: ItemKind::Value { head: head.into_inner(), value: value.node },
+                },
                 keeps,
             )
         }

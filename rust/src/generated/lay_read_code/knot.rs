@@ -1,7 +1,7 @@
 //! Made by scripts/rust.sh from crates/lay_read_code/src/knot.rt, which is proved: change that.
 //!
 //! The knot of expressions, blocks and items, each read over what is one level deeper.
-use crate::generated::lay_read_code::begun::read_begun;
+use crate::generated::lay_read_code::begun::{Begun, read_begun};
 use crate::generated::lay_read_code::bodies::{
     Body,
     body_of,
@@ -45,7 +45,7 @@ pub fn expr_ahead(
     at: &mut Ahead<'_>,
     place: Place,
     depth: u32,
-) -> Result<Found<Expr>, ReadNone> {
+) -> Result<Found<Boxed<Expr>>, ReadNone> {
     if depth == 0 {
         return Err(ReadNone::NoReading);
     }
@@ -109,9 +109,11 @@ pub fn item_ahead(
     let attrs = attrs_ahead(alloc, at, false)?;
     let vis = vis_ahead(alloc, at)?;
     let kind = read_kind(alloc, at, site, depth - 1)?;
-    let keeps = may_have(&kind.node, &vis);
-    let node = boxed(alloc, kind.node)?;
-    kept_if(Found { need: kind.need + 1, node: Item { attrs, vis, kind: node } }, keeps)
+    let keeps = may_have(kind.node.get(), &vis);
+    kept_if(
+        Found { need: kind.need + 1, node: Item { attrs, vis, kind: kind.node } },
+        keeps,
+    )
 }
 /// What an item is at its site: what it begins with, and then its body, if it has one. What is within it stands within
 /// the depth.
@@ -121,35 +123,80 @@ fn read_kind(
     at: &mut Ahead<'_>,
     site: Site,
     depth: u32,
-) -> Result<Found<ItemKind>, ReadNone> {
-    let begun = read_begun(alloc, at, site, depth)?;
+) -> Result<Found<Boxed<ItemKind>>, ReadNone> {
+    let begun = match read_begun(alloc, at, site, depth) {
+        Ok(begun) => begun,
+        Err(none) => return Err(none),
+    };
     match body_of(&begun.node) {
         Body::None => {
-            Ok(
-                Found {
-                    need: begun.need,
-                    node: with_items(begun.node, List::new(alloc), List::new(alloc)),
-                },
-            )
+            let nothing = Found { node: (List::new(alloc), List::new(alloc)), need: 0 };
+            items_kind(alloc, begun, Ok(nothing))
         }
         Body::Items(inner) => {
-            let (begun, body) = both(begun, read_body(alloc, at, inner, depth))?;
-            Ok(
-                Found {
-                    need: greater(begun.need, body.need),
-                    node: with_items(begun.node, body.node.0, body.node.1),
-                },
-            )
+            let body = read_body(alloc, at, inner, depth);
+            items_kind(alloc, begun, body)
         }
         Body::Block => {
-            let (begun, body) = both(begun, read_block_if(alloc, at, depth))?;
-            with_block(begun, site, body)
+            let body = read_block_if(alloc, at, depth);
+            block_kind(alloc, begun, site, body)
         }
         Body::Value => {
-            let (begun, value) = both(begun, read_value_if(alloc, at, depth))?;
-            with_value(begun, site, value)
+            let value = read_value_if(alloc, at, depth);
+            value_kind(alloc, begun, site, value)
         }
     }
+}
+/// An item that was made, in a box.
+fn boxed_kind(
+    alloc: Global,
+    made: Result<Found<ItemKind>, ReadNone>,
+) -> Result<Found<Boxed<ItemKind>>, ReadNone> {
+    let kind = made?;
+    let node = boxed(alloc, kind.node)?;
+    Ok(Found { node, need: kind.need })
+}
+/// An item with what was read in its braces, in a box. This and the next two put it together in a call of their own, so that no room
+/// for the moves is held while the body is read.
+#[inline(never)]
+fn items_kind(
+    alloc: Global,
+    begun: Found<Begun>,
+    body: Result<Found<(List<Attr>, List<Item>)>, ReadNone>,
+) -> Result<Found<Boxed<ItemKind>>, ReadNone> {
+    let (begun, body) = both(begun, body)?;
+    let (attrs, items) = body.node;
+    boxed_kind(
+        alloc,
+        Ok(
+            Found {
+                need: greater(begun.need, body.need),
+                node: with_items(begun.node, attrs, items),
+            },
+        ),
+    )
+}
+/// A function with what was read of its body, in a box.
+#[inline(never)]
+fn block_kind(
+    alloc: Global,
+    begun: Found<Begun>,
+    site: Site,
+    body: Result<Found<Option<Block>>, ReadNone>,
+) -> Result<Found<Boxed<ItemKind>>, ReadNone> {
+    let (begun, body) = both(begun, body)?;
+    boxed_kind(alloc, with_block(begun, site, body))
+}
+/// A constant or a static with what was read of its value, in a box.
+#[inline(never)]
+fn value_kind(
+    alloc: Global,
+    begun: Found<Begun>,
+    site: Site,
+    value: Result<Found<Option<Boxed<Expr>>>, ReadNone>,
+) -> Result<Found<Boxed<ItemKind>>, ReadNone> {
+    let (begun, value) = both(begun, value)?;
+    boxed_kind(alloc, with_value(begun, site, value))
 }
 /// The body of a function, or the `;` where it has none. What is within it stands within the depth.
 #[inline(never)]

@@ -17,7 +17,7 @@ pub fn read_expr(
     let mut ahead = Ahead::new(at.fork());
     let found = expr_ahead(alloc, &mut ahead, place, depth)?;
     *at = ahead.into_cursor();
-    Ok(found.node)
+    Ok(found.node.into_inner())
 }
 /// The item at the front, at its site and within the depth. Where there is none the cursor stays.
 pub fn read_item(

@@ -4,8 +4,9 @@
 use crate::generated::lay_read_exprs::rules::ExprRules;
 use crate::generated::lay_code::{Boxed, Expr, Op, Place};
 use crate::generated::lay_read_parts::joins::both;
+use crate::generated::lay_read_shared::boxes::boxed_found;
 use crate::generated::lay_read_tokens::found::greater;
-use crate::generated::lay_read_tokens::stop::{boxed, keep};
+use crate::generated::lay_read_tokens::stop::keep;
 use crate::generated::lay_read_tokens::{Ahead, Found, ReadNone};
 use crate::generated::lay_token::List;
 use crate::shims::Global;
@@ -26,7 +27,7 @@ fn split(
     Ok((targets, value))
 }
 impl<
-    P: Fn(Global, &mut Ahead<'_>, Place, u32) -> Result<Found<Expr>, ReadNone>,
+    P: Fn(Global, &mut Ahead<'_>, Place, u32) -> Result<Found<Boxed<Expr>>, ReadNone>,
 > ExprRules<P> {
     /// An expression with assignments behind it.
     #[inline(never)]
@@ -34,12 +35,11 @@ impl<
         &self,
         at: &mut Ahead<'_>,
         no_struct: bool,
-        lhs: Found<Expr>,
-    ) -> Result<Found<Expr>, ReadNone> {
+        lhs: Found<Boxed<Expr>>,
+    ) -> Result<Found<Boxed<Expr>>, ReadNone> {
         let (lhs, more) = both(lhs, self.operands(at, 0, no_struct))?;
         let need = greater(lhs.need, more.need) + 1;
-        let (rest, first) = both(more.node, boxed(self.alloc, lhs.node))?;
-        let (targets, value) = split(self.alloc, first, rest)?;
-        Ok(Found { node: Expr::Assign { targets, value }, need })
+        let (targets, value) = split(self.alloc, lhs.node, more.node)?;
+        boxed_found(self.alloc, Expr::Assign { targets, value }, need)
     }
 }

@@ -2,13 +2,13 @@
 //!
 //! Casts.
 use crate::generated::lay_read_exprs::rules::ExprRules;
-use crate::generated::lay_code::{Expr, Place, Ty, TypePlace};
+use crate::generated::lay_code::{Boxed, Expr, Place, Ty, TypePlace};
 use crate::generated::lay_read_parts::joins::both;
 use crate::generated::lay_read_parts::loops::Part;
+use crate::generated::lay_read_shared::boxes::boxed_found;
 use crate::generated::lay_read_shared::loops::{Going, read_parts};
 use crate::generated::lay_read_tokens::found::greater;
 use crate::generated::lay_read_tokens::front::takes_keyword;
-use crate::generated::lay_read_tokens::stop::boxed;
 use crate::generated::lay_read_tokens::{Ahead, Found, ReadNone};
 use crate::generated::lay_read_types::type_ahead;
 use crate::generated::lay_token::List;
@@ -17,7 +17,7 @@ use crate::shims::Global;
 pub struct Types;
 impl Part<Ty, ()> for Types {}
 impl<
-    P: Fn(Global, &mut Ahead<'_>, Place, u32) -> Result<Found<Expr>, ReadNone>,
+    P: Fn(Global, &mut Ahead<'_>, Place, u32) -> Result<Found<Boxed<Expr>>, ReadNone>,
 > ExprRules<P> {
     /// A type behind its `as`.
     #[inline(never)]
@@ -31,8 +31,8 @@ impl<
     pub fn cast_expr(
         &self,
         at: &mut Ahead<'_>,
-        lhs: Found<Expr>,
-    ) -> Result<Found<Expr>, ReadNone> {
+        lhs: Found<Boxed<Expr>>,
+    ) -> Result<Found<Boxed<Expr>>, ReadNone> {
         let (lhs, found) = both(
             lhs,
             read_parts::<
@@ -43,8 +43,10 @@ impl<
                 _,
             >(self.alloc, at, self.depth, Going::Types, self, ExprRules::one_type, ()),
         )?;
-        let need = greater(lhs.need, found.need) + 1;
-        let (types, operand) = both(found.node, boxed(self.alloc, lhs.node))?;
-        Ok(Found { node: Expr::Cast { operand, types }, need })
+        boxed_found(
+            self.alloc,
+            Expr::Cast { operand: lhs.node, types: found.node },
+            greater(lhs.need, found.need) + 1,
+        )
     }
 }

@@ -2,37 +2,50 @@
 //!
 //! Expressions in delimiters.
 use crate::generated::lay_read_exprs::rules::ExprRules;
-use crate::generated::lay_code::{Expr, Place};
+use crate::generated::lay_code::{Boxed, Expr, Place};
 use crate::generated::lay_read_parts::joins::{both, prepended, refused};
 use crate::generated::lay_read_parts::loops::{Closer, Part, read_elements};
+use crate::generated::lay_read_shared::boxes::{boxed_found, unboxed};
 use crate::generated::lay_read_shared::places::FREE;
 use crate::generated::lay_read_tokens::found::greater;
 use crate::generated::lay_read_tokens::front::{takes_closer, takes_mark};
-use crate::generated::lay_read_tokens::stop::boxed;
 use crate::generated::lay_read_tokens::tokens::read_tokens;
 use crate::generated::lay_read_tokens::{Ahead, Found, ReadNone};
 use crate::generated::lay_token::{Delim, List};
 use crate::shims::Global;
 /// Expressions one level deeper, as elements of a list.
 pub struct Elements;
-impl Part<Expr, Place> for Elements {}
+impl Part<Boxed<Expr>, Place> for Elements {}
 /// How often an expression stands in an array, behind the `;`.
 fn repeat_by(
     alloc: Global,
     at: &mut Ahead<'_>,
-    element: Found<Expr>,
-) -> Result<Found<Expr>, ReadNone> {
+    element: Found<Boxed<Expr>>,
+) -> Result<Found<Boxed<Expr>>, ReadNone> {
     let (element, length) = both(element, read_tokens(alloc, at))?;
     if !takes_closer(at, Delim::Bracket) || length.as_slice().is_empty() {
         return refused((element, length));
     }
-    let need = element.need + 1;
-    let (length, element) = both(length, boxed(alloc, element.node))?;
-    Ok(Found { node: Expr::Repeat { element, length }, need })
+    boxed_found(alloc, Expr::Repeat { element: element.node, length }, element.need + 1)
 }
 impl<
-    P: Fn(Global, &mut Ahead<'_>, Place, u32) -> Result<Found<Expr>, ReadNone>,
+    P: Fn(Global, &mut Ahead<'_>, Place, u32) -> Result<Found<Boxed<Expr>>, ReadNone>,
 > ExprRules<P> {
+    /// Expressions with commas, and the closing delimiter behind them, each in its box.
+    #[inline(never)]
+    fn boxed_elements(
+        &self,
+        at: &mut Ahead<'_>,
+        delim: Delim,
+    ) -> Result<Found<List<Boxed<Expr>>>, ReadNone> {
+        read_elements::<
+            Elements,
+            ExprRules<P>,
+            Boxed<Expr>,
+            Place,
+            _,
+        >(self.alloc, at, self.depth, Closer::Group(delim), self, ExprRules::inner, FREE)
+    }
     /// Expressions with commas, and the closing delimiter behind them.
     #[inline(never)]
     pub fn free_elements(
@@ -40,20 +53,21 @@ impl<
         at: &mut Ahead<'_>,
         delim: Delim,
     ) -> Result<Found<List<Expr>>, ReadNone> {
-        read_elements::<
-            Elements,
-            ExprRules<P>,
-            Expr,
-            Place,
-            _,
-        >(self.alloc, at, self.depth, Closer::Group(delim), self, ExprRules::inner, FREE)
+        let found = self.boxed_elements(at, delim)?;
+        let node = unboxed(self.alloc, found.node)?;
+        Ok(Found { node, need: found.need })
     }
     /// What stands behind a `(`.
     #[inline(never)]
-    pub fn paren_expr(&self, at: &mut Ahead<'_>) -> Result<Found<Expr>, ReadNone> {
+    pub fn paren_expr(
+        &self,
+        at: &mut Ahead<'_>,
+    ) -> Result<Found<Boxed<Expr>>, ReadNone> {
         if takes_closer(at, Delim::Paren) {
-            return Ok(
-                Found { node: Expr::Tuple { elements: List::new(self.alloc) }, need: 1 },
+            return boxed_found(
+                self.alloc,
+                Expr::Tuple { elements: List::new(self.alloc) },
+                1,
             );
         }
         let first = self.inner(at, FREE)?;
@@ -64,30 +78,37 @@ impl<
     fn paren_by(
         &self,
         at: &mut Ahead<'_>,
-        first: Found<Expr>,
-    ) -> Result<Found<Expr>, ReadNone> {
+        first: Found<Boxed<Expr>>,
+    ) -> Result<Found<Boxed<Expr>>, ReadNone> {
         if takes_closer(at, Delim::Paren) {
-            let inner = boxed(self.alloc, first.node)?;
-            return Ok(Found { node: Expr::Paren { inner }, need: first.need + 1 });
+            return boxed_found(
+                self.alloc,
+                Expr::Paren { inner: first.node },
+                first.need + 1,
+            );
         }
         if !takes_mark(at, b",") {
             return refused(first);
         }
-        let (first, more) = both(first, self.free_elements(at, Delim::Paren))?;
-        let elements = prepended(first.node, more.node)?;
-        Ok(
-            Found {
-                node: Expr::Tuple { elements },
-                need: greater(first.need, more.need) + 1,
-            },
+        let (first, more) = both(first, self.boxed_elements(at, Delim::Paren))?;
+        let elements = unboxed(self.alloc, prepended(first.node, more.node)?)?;
+        boxed_found(
+            self.alloc,
+            Expr::Tuple { elements },
+            greater(first.need, more.need) + 1,
         )
     }
     /// What stands behind a `[`.
     #[inline(never)]
-    pub fn bracket_expr(&self, at: &mut Ahead<'_>) -> Result<Found<Expr>, ReadNone> {
+    pub fn bracket_expr(
+        &self,
+        at: &mut Ahead<'_>,
+    ) -> Result<Found<Boxed<Expr>>, ReadNone> {
         if takes_closer(at, Delim::Bracket) {
-            return Ok(
-                Found { node: Expr::Array { elements: List::new(self.alloc) }, need: 1 },
+            return boxed_found(
+                self.alloc,
+                Expr::Array { elements: List::new(self.alloc) },
+                1,
             );
         }
         let first = self.inner(at, FREE)?;
@@ -100,22 +121,24 @@ impl<
     fn array_by(
         &self,
         at: &mut Ahead<'_>,
-        first: Found<Expr>,
-    ) -> Result<Found<Expr>, ReadNone> {
+        first: Found<Boxed<Expr>>,
+    ) -> Result<Found<Boxed<Expr>>, ReadNone> {
         if takes_closer(at, Delim::Bracket) {
-            let elements = prepended(first.node, List::new(self.alloc))?;
-            return Ok(Found { node: Expr::Array { elements }, need: first.need + 1 });
+            let elements = unboxed(
+                self.alloc,
+                prepended(first.node, List::new(self.alloc))?,
+            )?;
+            return boxed_found(self.alloc, Expr::Array { elements }, first.need + 1);
         }
         if !takes_mark(at, b",") {
             return refused(first);
         }
-        let (first, more) = both(first, self.free_elements(at, Delim::Bracket))?;
-        let elements = prepended(first.node, more.node)?;
-        Ok(
-            Found {
-                node: Expr::Array { elements },
-                need: greater(first.need, more.need) + 1,
-            },
+        let (first, more) = both(first, self.boxed_elements(at, Delim::Bracket))?;
+        let elements = unboxed(self.alloc, prepended(first.node, more.node)?)?;
+        boxed_found(
+            self.alloc,
+            Expr::Array { elements },
+            greater(first.need, more.need) + 1,
         )
     }
 }

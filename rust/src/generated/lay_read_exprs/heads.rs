@@ -3,12 +3,13 @@
 //! What begins an expression with a token of its own.
 use crate::generated::lay_read_exprs::jumps::continue_expr;
 use crate::generated::lay_read_exprs::rules::ExprRules;
-use crate::generated::lay_code::{Expr, Place};
+use crate::generated::lay_code::{Boxed, Expr, Place};
 use crate::generated::lay_ops::operands::ExprLead;
+use crate::generated::lay_read_shared::boxes::boxed_found;
 use crate::generated::lay_read_tokens::{Ahead, Found, ReadNone};
 use crate::shims::Global;
 impl<
-    P: Fn(Global, &mut Ahead<'_>, Place, u32) -> Result<Found<Expr>, ReadNone>,
+    P: Fn(Global, &mut Ahead<'_>, Place, u32) -> Result<Found<Boxed<Expr>>, ReadNone>,
 > ExprRules<P> {
     /// What begins an expression, behind its first token.
     #[inline(never)]
@@ -17,9 +18,9 @@ impl<
         at: &mut Ahead<'_>,
         no_struct: bool,
         lead: ExprLead,
-    ) -> Result<Found<Expr>, ReadNone> {
+    ) -> Result<Found<Boxed<Expr>>, ReadNone> {
         match lead {
-            ExprLead::Underscore => Ok(Found { node: Expr::Underscore, need: 1 }),
+            ExprLead::Underscore => boxed_found(self.alloc, Expr::Underscore, 1),
             ExprLead::Paren => self.paren_expr(at),
             ExprLead::Bracket => self.bracket_expr(at),
             ExprLead::Continue => continue_expr(self.alloc, at),

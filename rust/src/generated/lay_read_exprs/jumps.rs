@@ -6,6 +6,7 @@ use crate::generated::lay_code::{Boxed, Expr, Place};
 use crate::generated::lay_ops::ahead::begins_operand;
 use crate::generated::lay_read_parts::joins::both;
 use crate::generated::lay_read_parts::parts::read_lifetime_if;
+use crate::generated::lay_read_shared::boxes::boxed_found;
 use crate::generated::lay_read_shared::places::plain;
 use crate::generated::lay_read_tokens::{Ahead, Found, ReadNone};
 use crate::shims::Global;
@@ -13,12 +14,12 @@ use crate::shims::Global;
 pub fn continue_expr(
     alloc: Global,
     at: &mut Ahead<'_>,
-) -> Result<Found<Expr>, ReadNone> {
+) -> Result<Found<Boxed<Expr>>, ReadNone> {
     let label = read_lifetime_if(alloc, at)?;
-    Ok(Found { node: Expr::Continue { label }, need: 1 })
+    boxed_found(alloc, Expr::Continue { label }, 1)
 }
 impl<
-    P: Fn(Global, &mut Ahead<'_>, Place, u32) -> Result<Found<Expr>, ReadNone>,
+    P: Fn(Global, &mut Ahead<'_>, Place, u32) -> Result<Found<Boxed<Expr>>, ReadNone>,
 > ExprRules<P> {
     /// An operand at a level, if one begins.
     #[inline(never)]
@@ -31,7 +32,7 @@ impl<
         if !begins_operand(at, no_struct) {
             return Ok(Found { node: None, need: 0 });
         }
-        let found = self.boxed_inner(at, plain(level, no_struct))?;
+        let found = self.inner(at, plain(level, no_struct))?;
         Ok(Found { node: Some(found.node), need: found.need })
     }
     /// What stands behind `return`.
@@ -40,9 +41,9 @@ impl<
         &self,
         at: &mut Ahead<'_>,
         no_struct: bool,
-    ) -> Result<Found<Expr>, ReadNone> {
+    ) -> Result<Found<Boxed<Expr>>, ReadNone> {
         let found = self.operand_if(at, 0, no_struct)?;
-        Ok(Found { node: Expr::Return { operand: found.node }, need: found.need + 1 })
+        boxed_found(self.alloc, Expr::Return { operand: found.node }, found.need + 1)
     }
     /// What stands behind `break`.
     #[inline(never)]
@@ -50,14 +51,13 @@ impl<
         &self,
         at: &mut Ahead<'_>,
         no_struct: bool,
-    ) -> Result<Found<Expr>, ReadNone> {
+    ) -> Result<Found<Boxed<Expr>>, ReadNone> {
         let label = read_lifetime_if(self.alloc, at)?;
         let (label, found) = both(label, self.operand_if(at, 0, no_struct))?;
-        Ok(
-            Found {
-                node: Expr::Break { label, operand: found.node },
-                need: found.need + 1,
-            },
+        boxed_found(
+            self.alloc,
+            Expr::Break { label, operand: found.node },
+            found.need + 1,
         )
     }
 }

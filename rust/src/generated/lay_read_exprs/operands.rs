@@ -8,10 +8,10 @@ use crate::generated::lay_ops::ahead::{binary, is_angle, strength};
 use crate::generated::lay_ops::stands;
 use crate::generated::lay_read_parts::joins::{both, refused};
 use crate::generated::lay_read_parts::loops::Part;
+use crate::generated::lay_read_shared::boxes::boxed_found;
 use crate::generated::lay_read_shared::loops::{Going, read_parts};
 use crate::generated::lay_read_shared::places::{before_op, plain};
 use crate::generated::lay_read_tokens::found::greater;
-use crate::generated::lay_read_tokens::stop::boxed;
 use crate::generated::lay_read_tokens::{Ahead, Found, ReadNone};
 use crate::generated::lay_token::List;
 use crate::shims::Global;
@@ -26,7 +26,7 @@ fn operand_ends(at: &Ahead<'_>, operand: &Expr, level: u8, no_struct: bool) -> b
     } else { true }
 }
 impl<
-    P: Fn(Global, &mut Ahead<'_>, Place, u32) -> Result<Found<Expr>, ReadNone>,
+    P: Fn(Global, &mut Ahead<'_>, Place, u32) -> Result<Found<Boxed<Expr>>, ReadNone>,
 > ExprRules<P> {
     /// Operators of a level and their operands, as long as one begins.
     #[inline(never)]
@@ -65,7 +65,7 @@ impl<
             None => return Err(ReadNone::NoReading),
         };
         pass_tokens(at, op.text().len());
-        let found = self.boxed_inner(at, plain(level + 1, no_struct))?;
+        let found = self.inner(at, plain(level + 1, no_struct))?;
         if !operand_ends(at, found.node.get(), level, no_struct) {
             return refused(found);
         }
@@ -78,11 +78,13 @@ impl<
         at: &mut Ahead<'_>,
         level: u8,
         no_struct: bool,
-        lhs: Found<Expr>,
-    ) -> Result<Found<Expr>, ReadNone> {
+        lhs: Found<Boxed<Expr>>,
+    ) -> Result<Found<Boxed<Expr>>, ReadNone> {
         let (lhs, more) = both(lhs, self.operands(at, level, no_struct))?;
-        let need = greater(lhs.need, more.need) + 1;
-        let (rest, first) = both(more.node, boxed(self.alloc, lhs.node))?;
-        Ok(Found { node: Expr::Chain { first, rest }, need })
+        boxed_found(
+            self.alloc,
+            Expr::Chain { first: lhs.node, rest: more.node },
+            greater(lhs.need, more.need) + 1,
+        )
     }
 }

@@ -2,8 +2,9 @@
 //!
 //! What begins with a path.
 use crate::generated::lay_read_exprs::rules::ExprRules;
-use crate::generated::lay_code::{Expr, PathStyle, Place};
+use crate::generated::lay_code::{Boxed, Expr, PathStyle, Place};
 use crate::generated::lay_read_parts::joins::refused;
+use crate::generated::lay_read_shared::boxes::boxed_found;
 use crate::generated::lay_read_tokens::calls::call_ahead;
 use crate::generated::lay_read_tokens::front::{is_at_opened, pass};
 use crate::generated::lay_read_tokens::{Ahead, Found, ReadNone};
@@ -12,12 +13,12 @@ use crate::generated::lay_read_types::types::begins_call;
 use crate::generated::lay_token::Delim;
 use crate::shims::Global;
 /// A macro call that is an expression.
-fn call_expr(alloc: Global, at: &mut Ahead<'_>) -> Result<Found<Expr>, ReadNone> {
+fn call_expr(alloc: Global, at: &mut Ahead<'_>) -> Result<Found<Boxed<Expr>>, ReadNone> {
     let call = call_ahead(alloc, at)?;
-    Ok(Found { node: Expr::Call { call }, need: 1 })
+    boxed_found(alloc, Expr::Call { call }, 1)
 }
 impl<
-    P: Fn(Global, &mut Ahead<'_>, Place, u32) -> Result<Found<Expr>, ReadNone>,
+    P: Fn(Global, &mut Ahead<'_>, Place, u32) -> Result<Found<Boxed<Expr>>, ReadNone>,
 > ExprRules<P> {
     /// A macro call, or what begins with a path.
     #[inline(never)]
@@ -25,7 +26,7 @@ impl<
         &self,
         at: &mut Ahead<'_>,
         no_struct: bool,
-    ) -> Result<Found<Expr>, ReadNone> {
+    ) -> Result<Found<Boxed<Expr>>, ReadNone> {
         if begins_call(self.alloc, at)? { call_expr(self.alloc, at) } else {
             self.path_expr(at, no_struct)
         }
@@ -36,13 +37,13 @@ impl<
         &self,
         at: &mut Ahead<'_>,
         no_struct: bool,
-    ) -> Result<Found<Expr>, ReadNone> {
+    ) -> Result<Found<Boxed<Expr>>, ReadNone> {
         let path = path_ahead(self.alloc, at, PathStyle::Code, self.depth)?;
         if !no_struct && is_at_opened(at, Delim::Brace) {
             pass(at);
             self.struct_expr(at, path)
         } else if at.op_is(b"!") { refused(path) } else {
-            Ok(Found { node: Expr::Path { path: path.node }, need: path.need + 1 })
+            boxed_found(self.alloc, Expr::Path { path: path.node }, path.need + 1)
         }
     }
 }

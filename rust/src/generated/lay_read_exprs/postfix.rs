@@ -3,12 +3,13 @@
 //! Postfix steps.
 use crate::generated::lay_read_exprs::numbers::{begins_tuple_index, is_at_tuple_index};
 use crate::generated::lay_read_exprs::rules::ExprRules;
-use crate::generated::lay_code::{Arg, Args, Expr, Name, PathStyle, Place, Step};
+use crate::generated::lay_code::{Arg, Args, Boxed, Expr, Name, PathStyle, Place, Step};
 use crate::generated::lay_ops::is_number;
 use crate::generated::lay_read_parts::joins::{both, refused};
 use crate::generated::lay_read_parts::leads::opens_args_late;
 use crate::generated::lay_read_parts::loops::Part;
 use crate::generated::lay_read_parts::parts::read_literal;
+use crate::generated::lay_read_shared::boxes::boxed_found;
 use crate::generated::lay_read_shared::loops::{Going, read_parts};
 use crate::generated::lay_read_shared::places::FREE;
 use crate::generated::lay_read_tokens::found::greater;
@@ -20,7 +21,6 @@ use crate::generated::lay_read_tokens::front::{
     takes_opener,
 };
 use crate::generated::lay_read_tokens::names::read_name;
-use crate::generated::lay_read_tokens::stop::boxed;
 use crate::generated::lay_read_tokens::{Ahead, Found, ReadNone};
 use crate::generated::lay_read_types::args_ahead;
 use crate::generated::lay_token::{Delim, List};
@@ -42,16 +42,16 @@ fn read_late_args(
     }
 }
 impl<
-    P: Fn(Global, &mut Ahead<'_>, Place, u32) -> Result<Found<Expr>, ReadNone>,
+    P: Fn(Global, &mut Ahead<'_>, Place, u32) -> Result<Found<Boxed<Expr>>, ReadNone>,
 > ExprRules<P> {
     /// An expression with postfix steps behind it. A tuple index doesn't stand directly behind a number without suffix.
     #[inline(never)]
     pub fn postfix_expr(
         &self,
         at: &mut Ahead<'_>,
-        lhs: Found<Expr>,
-    ) -> Result<Found<Expr>, ReadNone> {
-        if is_number(&lhs.node) && begins_tuple_index(at) {
+        lhs: Found<Boxed<Expr>>,
+    ) -> Result<Found<Boxed<Expr>>, ReadNone> {
+        if is_number(lhs.node.get()) && begins_tuple_index(at) {
             return refused(lhs);
         }
         let (lhs, found) = both(
@@ -64,9 +64,11 @@ impl<
                 _,
             >(self.alloc, at, self.depth, Going::Steps, self, ExprRules::one_step, ()),
         )?;
-        let need = greater(lhs.need, found.need) + 1;
-        let (steps, base) = both(found.node, boxed(self.alloc, lhs.node))?;
-        Ok(Found { node: Expr::Postfix { base, steps }, need })
+        boxed_found(
+            self.alloc,
+            Expr::Postfix { base: lhs.node, steps: found.node },
+            greater(lhs.need, found.need) + 1,
+        )
     }
     /// A step.
     #[inline(never)]
@@ -84,7 +86,7 @@ impl<
         if !takes_opener(at, Delim::Bracket) {
             return Err(ReadNone::NoReading);
         }
-        let found = self.boxed_inner(at, FREE)?;
+        let found = self.inner(at, FREE)?;
         if !takes_closer(at, Delim::Bracket) {
             return refused(found);
         }

@@ -2,10 +2,11 @@
 //!
 //! Operators before an operand.
 use crate::generated::lay_read_exprs::rules::ExprRules;
-use crate::generated::lay_code::{Expr, Place, Prefix};
+use crate::generated::lay_code::{Boxed, Expr, Place, Prefix};
 use crate::generated::lay_ops::ahead::prefix;
 use crate::generated::lay_ops::operators::prefix_length;
 use crate::generated::lay_read_parts::joins::both;
+use crate::generated::lay_read_shared::boxes::boxed_found;
 use crate::generated::lay_read_shared::places::plain;
 use crate::generated::lay_read_tokens::front::pass;
 use crate::generated::lay_read_tokens::stop::keep;
@@ -28,7 +29,7 @@ fn read_prefixes(alloc: Global, at: &mut Ahead<'_>) -> Result<List<Prefix>, Read
     Ok(prefixes)
 }
 impl<
-    P: Fn(Global, &mut Ahead<'_>, Place, u32) -> Result<Found<Expr>, ReadNone>,
+    P: Fn(Global, &mut Ahead<'_>, Place, u32) -> Result<Found<Boxed<Expr>>, ReadNone>,
 > ExprRules<P> {
     /// Operators, and the operand behind them.
     #[inline(never)]
@@ -36,17 +37,13 @@ impl<
         &self,
         at: &mut Ahead<'_>,
         no_struct: bool,
-    ) -> Result<Found<Expr>, ReadNone> {
+    ) -> Result<Found<Boxed<Expr>>, ReadNone> {
         let prefixes = read_prefixes(self.alloc, at)?;
-        let (prefixes, found) = both(
-            prefixes,
-            self.boxed_inner(at, plain(12, no_struct)),
-        )?;
-        Ok(
-            Found {
-                node: Expr::Unary { prefixes, operand: found.node },
-                need: found.need + 1,
-            },
+        let (prefixes, found) = both(prefixes, self.inner(at, plain(12, no_struct)))?;
+        boxed_found(
+            self.alloc,
+            Expr::Unary { prefixes, operand: found.node },
+            found.need + 1,
         )
     }
 }

@@ -4,12 +4,13 @@
 use crate::generated::lay_read_exprs::rules::ExprRules;
 use crate::generated::lay_code::{Boxed, Expr, Place};
 use crate::generated::lay_read_parts::joins::{both, refused};
+use crate::generated::lay_read_shared::boxes::boxed_found;
 use crate::generated::lay_read_tokens::found::greater;
 use crate::generated::lay_read_tokens::front::{pass, pass_two};
 use crate::generated::lay_read_tokens::{Ahead, Found, ReadNone};
 use crate::shims::Global;
 impl<
-    P: Fn(Global, &mut Ahead<'_>, Place, u32) -> Result<Found<Expr>, ReadNone>,
+    P: Fn(Global, &mut Ahead<'_>, Place, u32) -> Result<Found<Boxed<Expr>>, ReadNone>,
 > ExprRules<P> {
     /// A range, from its `..` or `..=` on.
     #[inline(never)]
@@ -18,7 +19,7 @@ impl<
         at: &mut Ahead<'_>,
         no_struct: bool,
         start: Found<Option<Boxed<Expr>>>,
-    ) -> Result<Found<Expr>, ReadNone> {
+    ) -> Result<Found<Boxed<Expr>>, ReadNone> {
         let inclusive = at.op_is(b"..=");
         pass_two(at);
         if inclusive {
@@ -34,16 +35,15 @@ impl<
         no_struct: bool,
         start: Found<Option<Boxed<Expr>>>,
         inclusive: bool,
-    ) -> Result<Found<Expr>, ReadNone> {
+    ) -> Result<Found<Boxed<Expr>>, ReadNone> {
         let (start, end) = both(start, self.operand_if(at, 2, no_struct))?;
         if inclusive && end.node.is_none() {
             return refused((start, end));
         }
-        Ok(
-            Found {
-                need: greater(start.need, end.need) + 1,
-                node: Expr::Range { start: start.node, inclusive, end: end.node },
-            },
+        boxed_found(
+            self.alloc,
+            Expr::Range { start: start.node, inclusive, end: end.node },
+            greater(start.need, end.need) + 1,
         )
     }
 }

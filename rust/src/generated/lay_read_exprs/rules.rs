@@ -2,7 +2,6 @@
 //!
 //! The rules of a level, and how what is one level deeper is read.
 use crate::generated::lay_code::{Boxed, Expr, Place};
-use crate::generated::lay_read_tokens::stop::boxed;
 use crate::generated::lay_read_tokens::{Ahead, Found, ReadNone};
 use crate::shims::Global;
 /// The rules of a level, over the reader of expressions one level deeper, at a place.
@@ -13,26 +12,15 @@ pub struct ExprRules<P> {
     pub exprs: P,
 }
 impl<
-    P: Fn(Global, &mut Ahead<'_>, Place, u32) -> Result<Found<Expr>, ReadNone>,
+    P: Fn(Global, &mut Ahead<'_>, Place, u32) -> Result<Found<Boxed<Expr>>, ReadNone>,
 > ExprRules<P> {
-    /// An expression one level deeper.
+    /// An expression one level deeper, in its box.
     #[inline(never)]
     pub fn inner(
         &self,
         at: &mut Ahead<'_>,
         place: Place,
-    ) -> Result<Found<Expr>, ReadNone> {
-        (self.exprs)(self.alloc, at, place, self.depth)
-    }
-    /// The same in a box.
-    #[inline(never)]
-    pub fn boxed_inner(
-        &self,
-        at: &mut Ahead<'_>,
-        place: Place,
     ) -> Result<Found<Boxed<Expr>>, ReadNone> {
-        let found = self.inner(at, place)?;
-        let node = boxed(self.alloc, found.node)?;
-        Ok(Found { node, need: found.need })
+        (self.exprs)(self.alloc, at, place, self.depth)
     }
 }

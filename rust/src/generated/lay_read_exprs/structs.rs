@@ -6,6 +6,7 @@ use crate::generated::lay_code::{Attr, Boxed, Expr, FieldExpr, Name, Path, Place
 use crate::generated::lay_read_parts::joins::{both, refused};
 use crate::generated::lay_read_parts::loops::{Opening, Part, read_open_elements};
 use crate::generated::lay_read_pats::structs::read_index_if;
+use crate::generated::lay_read_shared::boxes::boxed_found;
 use crate::generated::lay_read_shared::places::FREE;
 use crate::generated::lay_read_tokens::attributes::attrs_ahead;
 use crate::generated::lay_read_tokens::found::greater;
@@ -23,7 +24,7 @@ use crate::shims::Global;
 pub struct Fields;
 impl Part<FieldExpr, ()> for Fields {}
 impl<
-    P: Fn(Global, &mut Ahead<'_>, Place, u32) -> Result<Found<Expr>, ReadNone>,
+    P: Fn(Global, &mut Ahead<'_>, Place, u32) -> Result<Found<Boxed<Expr>>, ReadNone>,
 > ExprRules<P> {
     /// Fields in braces, behind a path and the `{`.
     #[inline(never)]
@@ -31,7 +32,7 @@ impl<
         &self,
         at: &mut Ahead<'_>,
         path: Found<Path>,
-    ) -> Result<Found<Expr>, ReadNone> {
+    ) -> Result<Found<Boxed<Expr>>, ReadNone> {
         let (path, found) = both(
             path,
             read_open_elements::<
@@ -51,18 +52,17 @@ impl<
         at: &mut Ahead<'_>,
         path: Found<Path>,
         found: Found<(List<FieldExpr>, bool)>,
-    ) -> Result<Found<Expr>, ReadNone> {
+    ) -> Result<Found<Boxed<Expr>>, ReadNone> {
         let Found { node, need } = found;
         let (fields, ended) = node;
         let ((path, fields), base) = both((path, fields), self.base(at, ended))?;
         if !takes_closer(at, Delim::Brace) {
             return refused((path, (fields, base)));
         }
-        Ok(
-            Found {
-                need: greater(path.need, greater(need, base.need)) + 1,
-                node: Expr::Struct { path: path.node, fields, base: base.node },
-            },
+        boxed_found(
+            self.alloc,
+            Expr::Struct { path: path.node, fields, base: base.node },
+            greater(path.need, greater(need, base.need)) + 1,
         )
     }
     /// A base, if the fields ended and a `..` stands behind them.
@@ -79,7 +79,7 @@ impl<
         if is_at_closer(at, Delim::Brace) {
             return Ok(Found { node: Some(None), need: 0 });
         }
-        let found = self.boxed_inner(at, FREE)?;
+        let found = self.inner(at, FREE)?;
         Ok(Found { node: Some(Some(found.node)), need: found.need })
     }
     /// A field, with its attributes.
@@ -104,7 +104,7 @@ impl<
         attrs: List<Attr>,
         index: Text,
     ) -> Result<Found<FieldExpr>, ReadNone> {
-        let ((attrs, index), found) = both((attrs, index), self.boxed_inner(at, FREE))?;
+        let ((attrs, index), found) = both((attrs, index), self.inner(at, FREE))?;
         Ok(
             Found {
                 need: found.need,
@@ -133,7 +133,7 @@ impl<
         if !takes_op(at, b":") {
             return Ok(Found { node: FieldExpr::Short { attrs, name }, need: 0 });
         }
-        let ((attrs, name), found) = both((attrs, name), self.boxed_inner(at, FREE))?;
+        let ((attrs, name), found) = both((attrs, name), self.inner(at, FREE))?;
         Ok(
             Found {
                 need: found.need,

@@ -38,6 +38,20 @@ fn goes_on(at: &Ahead<'_>, going: Going) -> bool {
         Going::ElseIfs => begins_else_if(at),
     }
 }
+/// Keeps a part behind those before it, and tells what it needs. It is taken apart in a call of its own, so that the loop holds no
+/// room for the moves while a part is read.
+#[inline(never)]
+fn keep_part<
+    T,
+>(nodes: &mut List<T>, part: Result<Found<T>, ReadNone>) -> Result<u32, ReadNone> {
+    match part {
+        Ok(found) => {
+            keep(nodes, found.node)?;
+            Ok(found.need)
+        }
+        Err(none) => Err(none),
+    }
+}
 /// Parts as long as one begins.
 #[inline(never)]
 pub fn read_parts<
@@ -58,9 +72,8 @@ pub fn read_parts<
     let mut nodes = List::new(alloc);
     let mut need = 0;
     while goes_on(at, going) {
-        let found = part(rules, at, place)?;
-        need = greater(need, found.need);
-        keep(&mut nodes, found.node)?;
+        let needed = keep_part(&mut nodes, part(rules, at, place))?;
+        need = greater(need, needed);
     }
     Ok(Found { node: nodes, need })
 }

@@ -1,6 +1,7 @@
 //! Made by scripts/rust.sh from crates/lay_read_tokens/src/stop.rt, which is proved: change that.
 //!
 //! Why a reader stops.
+use crate::shims::Vec;
 use crate::generated::lay_node::Boxed;
 use crate::generated::lay_token::{List, NoMemory, Text};
 use crate::shims::Global;
@@ -11,6 +12,13 @@ pub enum ReadNone {
     NoReading,
     /// Memory was not found, which says nothing of the tokens.
     NoMemory,
+}
+/// An empty list with room for so many items, and for no more.
+pub fn room_for<T>(alloc: Global, count: usize) -> Result<List<T>, ReadNone> {
+    match Vec::with_capacity(alloc, count) {
+        Ok(items) => Ok(List::from_vec(items)),
+        Err(_) => Err(ReadNone::NoMemory),
+    }
 }
 /// Adds an item at the end.
 pub fn keep<T>(list: &mut List<T>, item: T) -> Result<(), ReadNone> {

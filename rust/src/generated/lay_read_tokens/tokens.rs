@@ -3,7 +3,7 @@
 //! Token lists and groups.
 use crate::generated::lay_read_tokens::ahead::Ahead;
 use crate::generated::lay_read_tokens::front::is_at_mark;
-use crate::generated::lay_read_tokens::stop::{ReadNone, copy_of, keep};
+use crate::generated::lay_read_tokens::stop::{ReadNone, copy_of, keep, room_for};
 use crate::generated::lay_node::{Group, Listed, Tokens};
 use crate::generated::lay_token::{Delim, DocForm, Kind, List, Text, Token, doc_form};
 use crate::shims::Global;
@@ -72,7 +72,7 @@ fn read_opened(
 }
 /// The list of balanced tokens.
 fn list_of(alloc: Global, tokens: &[Token]) -> Result<Tokens, ReadNone> {
-    let mut list = List::new(alloc);
+    let mut list = room_for(alloc, tokens.len())?;
     add_tokens(alloc, &mut list, tokens)?;
     Ok(Tokens::new(list))
 }

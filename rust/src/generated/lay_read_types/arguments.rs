@@ -58,6 +58,7 @@ impl<
         self.arg_rest(at, ty)
     }
     /// What a type among generic arguments is: the argument, or a name of which something is asked behind it.
+    #[inline(never)]
     fn arg_rest(
         &self,
         at: &mut Ahead<'_>,

@@ -1,6 +1,7 @@
 //! Made by scripts/rust.sh from crates/lay_read_types/src/types.rt, which is proved: change that.
 //!
 //! Types.
+use crate::generated::lay_read_types::passed::takes_simple_path;
 use crate::generated::lay_read_types::rules::Rules;
 use crate::generated::lay_node::{
     Constraint,
@@ -37,7 +38,6 @@ use crate::generated::lay_read_tokens::front::{
     takes_opener,
 };
 use crate::generated::lay_read_tokens::names::read_given_name;
-use crate::generated::lay_read_tokens::simple_paths::read_simple_path;
 use crate::generated::lay_read_tokens::stop::boxed;
 use crate::generated::lay_read_tokens::tokens::read_tokens;
 use crate::generated::lay_read_tokens::{Ahead, Found, ReadNone};
@@ -108,6 +108,7 @@ impl<
         )
     }
     /// What stands behind a `(`.
+    #[inline(never)]
     fn paren_type(&self, at: &mut Ahead<'_>) -> Result<Found<Ty>, ReadNone> {
         if takes_closer(at, Delim::Paren) {
             return Ok(
@@ -140,6 +141,7 @@ impl<
         )
     }
     /// What stands behind a `[`.
+    #[inline(never)]
     fn bracket_type(&self, at: &mut Ahead<'_>) -> Result<Found<Ty>, ReadNone> {
         let inner = self.inner(at, TypePlace::Bounds)?;
         if takes_mark(at, b";") {
@@ -151,6 +153,7 @@ impl<
         } else { refused(inner) }
     }
     /// What stands behind a `&`.
+    #[inline(never)]
     fn reference_type(&self, at: &mut Ahead<'_>) -> Result<Found<Ty>, ReadNone> {
         let lifetime = read_lifetime_if(self.alloc, at)?;
         let mutable = takes_keyword(at, b"mut");
@@ -183,6 +186,7 @@ impl<
         )
     }
     /// A macro call, or a path.
+    #[inline(never)]
     fn path_or_call(&self, at: &mut Ahead<'_>) -> Result<Found<Ty>, ReadNone> {
         if begins_call(self.alloc, at)? {
             let call = call_ahead(self.alloc, at)?;
@@ -241,6 +245,7 @@ impl<
         } else { refused(params) }
     }
     /// A function type.
+    #[inline(never)]
     fn func_type(&self, at: &mut Ahead<'_>) -> Result<Found<Ty>, ReadNone> {
         let binder = read_binder_if(self.alloc, at)?;
         let is_unsafe = takes_keyword(at, b"unsafe");
@@ -288,14 +293,10 @@ fn array(
     let (length, inner) = both(length, boxed(alloc, element.node))?;
     Ok(Found { node: Ty::Array { inner, length }, need })
 }
-/// Whether a macro call begins at the front: a path of words before a `!`.
+/// Whether a macro call begins at the front: a path of words before a `!`. Nothing of it is kept, so no memory is taken.
 pub fn begins_call(alloc: Global, at: &Ahead<'_>) -> Result<bool, ReadNone> {
     let mut behind = at.fork();
-    match read_simple_path(alloc, &mut behind) {
-        Ok(_) => Ok(behind.op_is(b"!")),
-        Err(ReadNone::NoReading) => Ok(false),
-        Err(ReadNone::NoMemory) => Err(ReadNone::NoMemory),
-    }
+    Ok(takes_simple_path(&mut behind) && behind.op_is(b"!"))
 }
 /// The name of a parameter and the `:` behind it, if they stand there.
 fn read_param_name_if(

@@ -1,0 +1,18 @@
+//! Made by scripts/rust.sh from crates/lay_read_heads/src/lib.rt, which is proved: change that.
+//!
+//! From nested tokens to the heads of items: visibilities, use trees, the heads of functions, of constants, traits and
+//! impls, and the items that are heads alone.
+//!
+//! Each call reads exactly what stands at the front of the tokens, by the rules of `lay_read_head_rules`.
+mod kinds;
+mod reads;
+pub use kinds::{read_alias, read_enum, read_extern_crate, read_struct};
+pub use crate::generated::lay_read_tokens::{ReadNone, read_attr, read_attrs, read_call};
+pub use reads::{
+    read_fn_head,
+    read_impl_head,
+    read_trait_head,
+    read_use,
+    read_value_head,
+    read_vis,
+};
