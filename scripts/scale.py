@@ -1,14 +1,15 @@
 #!/usr/bin/env python3
 """Times a command on inputs that double from 1 to 16 MiB, a line for each kind of input.
 
-usage: scale.py COMMAND [KIND..]     COMMAND is one word, split at blanks; without a kind it goes through all of them
-       scale.py --make KIND BYTES    writes one input to standard output, of at most so many bytes
+usage: scale.py [--instructions] COMMAND [KIND..]    COMMAND is one word, split at blanks; without a kind it goes through all of them
+       scale.py --make KIND BYTES                    writes one input to standard output, of at most so many bytes
 
 A line tells the seconds on a core at each size, the growth from half the greatest size to the greatest over that of the
 size (1.0 is linear), the peak memory at the greatest size in times the input, and the exit statuses. Each time is the
-least of three runs, or of one that takes more than two seconds.
+least of three runs, or of one that takes more than two seconds. With --instructions it tells millions of instructions in
+place of seconds, as valgrind's callgrind counts them, which don't depend on what else the machine does.
 """
-import itertools, os, random, shlex, subprocess, sys, tempfile
+import itertools, os, random, re, shlex, subprocess, sys, tempfile
 import usage
 
 MIB = 1 << 20
@@ -132,31 +133,42 @@ def least(words, path):
     return min(runs)
 
 
-def line(words, kind, path):
-    seconds, statuses = [], []
+def instructions(words, path):
+    """Millions of instructions that a command takes on an input."""
+    with open(path, "rb") as given:
+        counted = ["valgrind", "--tool=callgrind", "--callgrind-out-file=/dev/null", *words]
+        ran = subprocess.run(counted, stdin=given, stdout=subprocess.DEVNULL, stderr=subprocess.PIPE, text=True)
+    return int(re.search(r"Collected : (\d+)", ran.stderr)[1]) / 1e6
+
+
+def line(words, kind, path, is_counted):
+    costs, statuses = [], []
     for size in SIZES:
         # another process makes it, since the memory of this one is counted with that of its children
         with open(path, "wb") as file:
             subprocess.run([sys.executable, __file__, "--make", kind, str(size)], stdout=file, check=True)
-        core, memory, status = least(words, path)
-        seconds.append(core)
+        core, memory, status = run(words, path) if is_counted else least(words, path)
+        costs.append(instructions(words, path) if is_counted else core)
         statuses.append(status)
-    growth = seconds[-1] / max(seconds[-2], 1e-9) / 2
-    times = " ".join(f"{it:7.3f}" for it in seconds)
-    return f"{kind:20} {times} s  growth {growth:4.2f}  {memory / os.path.getsize(path):6.1f} times the input  status {' '.join(map(str, statuses))}"
+    growth = costs[-1] / max(costs[-2], 1e-9) / 2
+    told = " ".join(f"{it:7.0f}" for it in costs) + " M" if is_counted else " ".join(f"{it:7.3f}" for it in costs) + " s"
+    return f"{kind:20} {told}  growth {growth:4.2f}  {memory / os.path.getsize(path):6.1f} times the input  status {' '.join(map(str, statuses))}"
 
 
 def main():
-    command, *kinds = usage.words(__doc__, least=1, options=("--make",))
+    command, *kinds = usage.words(__doc__, least=1, options=("--make", "--instructions"))
     if command == "--make" and len(kinds) == 2 and kinds[0] in KINDS and kinds[1].isdigit():
         sys.stdout.write(KINDS[kinds[0]](int(kinds[1])))
         return
-    if command == "--make" or any(kind not in KINDS for kind in kinds):
+    is_counted = command == "--instructions"
+    if is_counted and kinds:
+        command, *kinds = kinds
+    if command.startswith("--") or any(kind not in KINDS for kind in kinds):
         usage.refuse(__doc__, f"the kinds are: {', '.join(KINDS)}")
     words, kinds = shlex.split(command), kinds or KINDS
     with tempfile.TemporaryDirectory() as folder:
         for kind in kinds:
-            print(line(words, kind, f"{folder}/input"), flush=True)
+            print(line(words, kind, f"{folder}/input", is_counted), flush=True)
 
 
 main()

@@ -1,11 +1,12 @@
 #!/usr/bin/env python3
 """Measures the least stack with which a built command takes the deepest texts, a line for each kind of nesting.
 
-usage: stack.py COMMAND [KIND..]    COMMAND is one word, split at blanks; without a kind it goes through all of them
+usage: stack.py [--within KIB] COMMAND [KIND..]    COMMAND is one word, split at blanks; without a kind it goes through all of them
 
 A text of a kind holds so many levels of it as the command takes with ample stack, or 10,000 where it takes any number. Then the least
 stack with which it takes that text is found by halving, to 16 KiB. A line tells both, and what a level took on average. The last one
-tells the greatest stack.
+tells the greatest stack. With --within nothing is measured: each kind that the command doesn't take within so much stack, at its deepest or one
+level deeper, where it is refused, is told by a line, and the exit status is 0 where there is none.
 """
 import os, resource, shlex, subprocess, sys
 import usage
@@ -127,15 +128,20 @@ def text(kind, levels):
     return (begin + before * levels + inner + behind * levels + end).encode()
 
 
-def takes(command, data, stack=AMPLE):
-    """Whether the command takes a text with so much stack."""
+def status(command, data, stack):
+    """The exit status of the command for a text with so much stack."""
 
     def limited():
         resource.setrlimit(resource.RLIMIT_STACK, (stack, stack))
 
     # what stands in the environment lies on the stack
     ran = subprocess.run(command, input=data, stdout=subprocess.DEVNULL, stderr=subprocess.DEVNULL, env={}, preexec_fn=limited)
-    return ran.returncode == 0
+    return ran.returncode
+
+
+def takes(command, data, stack=AMPLE):
+    """Whether the command takes a text with so much stack."""
+    return status(command, data, stack) == 0
 
 
 def greatest(holds, low, high):
@@ -159,11 +165,28 @@ def least_stack(command, data):
     return STEP * (1 + greatest(lambda steps: not takes(command, data, steps * STEP), 0, AMPLE // STEP))
 
 
+def dies(command, kind, stack):
+    """Whether the command ends otherwise than with its answer, within so much stack, for the deepest text of a kind or for one that is refused."""
+    levels = deepest(command, kind)
+    deeper = [] if levels == ANY else [(levels + 1, 4)]
+    return any(status(command, text(kind, many), stack) != wanted for many, wanted in [(levels, 0), *deeper])
+
+
 def main():
-    command, *kinds = usage.words(__doc__, least=1)
-    command = shlex.split(command)
+    given = usage.words(__doc__, least=1, options=("--within",))
+    within = None
+    if given[0] == "--within":
+        if len(given) < 3 or not given[1].isdigit():
+            usage.refuse(__doc__, "KIB is a number, and a command stands behind it")
+        within, given = int(given[1]), given[2:]
+    command, kinds = shlex.split(given[0]), given[1:]
     if unknown := [kind for kind in kinds if kind not in KINDS]:
         usage.refuse(__doc__, f"no kinds: {', '.join(unknown)}", f"the kinds are: {', '.join(KINDS)}")
+    if within is not None:
+        dead = [kind for kind in kinds or KINDS if dies(command, kind, within * KIB)]
+        for kind in dead:
+            print(f"{kind}: takes more than {within} KiB")
+        return 1 if dead else 0
     found = {}
     for kind in kinds or KINDS:
         levels = deepest(command, kind)
@@ -171,6 +194,7 @@ def main():
         print(f"{kind:30} {levels:6} levels {found[kind] // KIB:7} KiB {found[kind] / levels / KIB:8.2f} KiB a level", flush=True)
     kind = max(found, key=found.get)
     print(f"greatest: {found[kind] / KIB / KIB:.1f} MiB, {kind}")
+    return 0
 
 
-main()
+sys.exit(main())
