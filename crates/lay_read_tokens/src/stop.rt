@@ -49,6 +49,7 @@ pub fn boxed<T: Drop>(alloc: Global, value: T) -> Result<Boxed<T>, ReadNone>
 }
 
 /// The text once more, on its own.
+#[inline(always)]
 pub fn copy_of(alloc: Global, text: &Text) -> Result<Text, ReadNone>
     ensures { IsCopy text.now result }
 {

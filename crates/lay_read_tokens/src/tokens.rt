@@ -101,6 +101,7 @@ fn list_of(alloc: Global, tokens: &[Token]) -> Result<Tokens, ReadNone>
 }
 
 /// Adds the tokens, as they stand in a list.
+#[inline]
 fn add_tokens(alloc: Global, list: &mut List<Listed>, tokens: &[Token]) -> Result<(), ReadNone>
     ensures { AreAdded list.old tokens.now result list.new }
 {
@@ -112,6 +113,7 @@ fn add_tokens(alloc: Global, list: &mut List<Listed>, tokens: &[Token]) -> Resul
 }
 
 /// The token as it stands in a list. There is none of documentation that can't be laid out.
+#[inline(always)]
 fn listed(alloc: Global, token: &Token) -> Result<Listed, ReadNone>
     ensures { IsLaid (as_listed token.now) result }
 {
@@ -133,6 +135,7 @@ fn listed_doc(alloc: Global, inner: bool, text: &Text) -> Result<Listed, ReadNon
 }
 
 /// A token that is no documentation as it stands in a list. Only punctuation is joint.
+#[inline(always)]
 fn listed_token(alloc: Global, kind: Kind, token: &Token) -> Result<Listed, ReadNone>
     ensures { IsLaid (listed.Token kind token.now.text (is_punct kind && token.now.joint)) result }
 {
