@@ -12,6 +12,7 @@ use lay_read_parts::leads::{Lead, is_at_literal, is_at_number, lead_at};
 use lay_read_parts::parts::read_literal;
 use lay_read_tokens::found::greater;
 use lay_read_tokens::front::{is_at_mark, pass, pass_two, takes_mark};
+use lay_read_tokens::stop::boxed;
 use lay_read_tokens::{Ahead, Found, ReadNone};
 use lay_read_types::path_ahead;
 use std::alloc::Global;
@@ -102,32 +103,43 @@ fn closed_span(
     ensures within { IfOk result (λ found. found.need ≤ depth + 1) }
 {
     let (start, end) = both(start, one_end(alloc, at, depth))?;
+    let need = greater(start.need, end.need) + 1;
+    let (end, start) = both(Some(end.node), boxed(alloc, start.node))?;
+    let (start, end) = both(start, boxed(alloc, end))?;
     Ok(Found {
-        need: greater(start.need, end.need) + 1,
         node: Pat::Span {
-            start: start.node,
+            start,
             inclusive,
-            end: Some(end.node),
+            end,
         },
+        need,
     })
 }
 
 /// A `..` without an end behind it: a rest, or a span with its first end alone.
-fn open_span(at: &Ahead<'_>, start: Found<Option<SpanEnd>>) -> Result<Found<Pat>, ReadNone>
+fn open_span(
+    alloc: Global,
+    at: &Ahead<'_>,
+    start: Found<Option<SpanEnd>>,
+) -> Result<Found<Pat>, ReadNone>
     requires { start.need + 1 < 2 ^ 32 }
     ensures read { IsFound (reader.open_span start.node start.need at.now) result at.now }
     ensures within { IfOk result (λ found. found.need ≤ start.need + 1) }
 {
     let need = start.need + 1;
     match start.node {
-        Some(end) => Ok(Found {
-            node: Pat::Span {
-                start: Some(end),
-                inclusive: false,
-                end: None,
-            },
-            need,
-        }),
+        Some(end) => {
+            let start = boxed(alloc, Some(end))?;
+            let (start, end) = both(start, boxed(alloc, None))?;
+            Ok(Found {
+                node: Pat::Span {
+                    start,
+                    inclusive: false,
+                    end,
+                },
+                need,
+            })
+        }
         None => Ok(Found {
             node: Pat::Rest,
             need: 1,
@@ -156,7 +168,7 @@ pub fn span(
     if begins_span_end(at) {
         closed_span(alloc, at, depth, start, false)
     } else {
-        open_span(at, start)
+        open_span(alloc, at, start)
     }
 }
 
