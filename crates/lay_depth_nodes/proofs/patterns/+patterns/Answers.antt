@@ -40,7 +40,9 @@ pat_depth-returns-in-Path g c =
 pub pat_depth-returns-in-Span : goal.pat_depth-returns-in-Span
 pat_depth-returns-in-Span g c =
     let m = of.span_is c.args.pat.now c.in-Span.start c.in-Span.inclusive c.in-Span.end c.in-Span.is in
-    omega (arith, m, c.end_depth.ensures, c.end_depth-in-Span.ensures, c.max.ensures, c.deeper-in-Span.ensures)
+    let start = rw c.get-in-Span.ensures at c.end_depth.ensures in
+    let end = rw c.get-in-Span-2.ensures at c.end_depth-in-Span.ensures in
+    omega (arith, m, start, end, c.max.ensures, c.deeper-in-Span.ensures)
 
 pub pat_depth-returns-in-Struct : goal.pat_depth-returns-in-Struct
 pat_depth-returns-in-Struct g c =

@@ -137,7 +137,9 @@ add_pat-returns-in-Some g t c =
 
 pub add_pat-returns-in-Span : goal.add_pat-returns-in-Span
 add_pat-returns-in-Span g t c =
-    adds (adds_on c.add_dots-dots.ensures c.add_last_end.ensures)
+    let start = rw c.get-in-Span.ensures at c.add_dots-dots.ensures in
+    let end = rw c.get-in-Span-2.ensures at c.add_last_end.ensures in
+    adds (adds_on start end)
     (of.span_pat _ c.in-Span.start c.in-Span.inclusive c.in-Span.end c.in-Span.is)
 
 pub add_pat-returns-in-Ref : goal.add_pat-returns-in-Ref

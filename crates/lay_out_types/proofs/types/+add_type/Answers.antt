@@ -269,9 +269,11 @@ add_type-returns-in-Array g t c =
 
 pub add_type-returns-in-Func : goal.add_type-returns-in-Func
 add_type-returns-in-Func g t c =
-    adds (adds_on c.add_binder-binder.ensures
+    let binder = rw c.get-in-Func.ensures at c.add_binder-binder.ensures in
+    let abi = rw c.get-in-Func-2.ensures at c.add_abi-abi.ensures in
+    adds (adds_on binder
     (adds_on c.add_if-word-in-Func.ensures
-    (adds_on c.add_abi-abi.ensures (adds_on c.add_text-word.ensures
+    (adds_on abi (adds_on c.add_text-word.ensures
     (adds_on c.add_params-params.ensures c.add_output.ensures)))))
     (of.function_type _ c.in-Func.binder c.in-Func.is_unsafe c.in-Func.abi c.in-Func.params _ c.in-Func.variadic
     c.in-Func.output c.in-Func.is c.as_slice.ensures)
