@@ -1,12 +1,22 @@
 -- What the scanner of gaps finds.
-use Rattle.std.proofs.Common.{◌≡◌, ◌≢◌, ◌⊎◌, inl, inr, ℕ, List, [], ◌∷◌, ◌++◌, Bool, true, false, cond, Some, None, sym, refl, ap, ◌∙◌, subst}
+use Rattle.std.proofs.Common.{◌≡◌, ◌≢◌, ◌⊎◌, inl, inr, ℕ, List, [], ◌∷◌, ◌++◌, Bool, true, false, cond, ◌&&◌, ◌≤◌, nat_le, leb-true, arith, Some, None, sym, refl, ap, ◌∙◌, subst}
 use Rattle.std.specs.Prelude.{IsTrue, IsFalse}
-use Rattle.std.proofs.lemmas.Bool.{cases_Bool, ne_eqb}
+use Rattle.std.proofs.lemmas.Bool.{agree_below, agree_below_at, and_parts, cases_Bool, ne_eqb}
+use Rattle.std.specs.Char.{is_ascii_graphic}
 use Rattle.lay_piece.specs.Chars.{is_white}
 use Rattle.lay_piece.specs.Gap.{InGap, Outside, Spoilt, gap_step, gap_end, is_closed, is_closed_or_line, is_gap, is_last_gap}
 use Rattle.lay_piece.specs.Begins.{BeginsNoGap}
 use Rattle.lay_piece.proofs.GapLaws.{closed_is_outside}
 use Rattle.lay_lex.specs.Gap.{rest_of}
+
+graphic_table : agree_below (λ c. is_ascii_graphic c && is_white c) (λ _. false) 128 ≡ true
+graphic_table = refl
+
+pub graphic_stays : (c : ℕ) → is_ascii_graphic c ≡ true → is_white c ≡ false
+graphic_stays c h =
+    let most : c ≤ 126 = leb-true c 126 (and_parts (nat_le 33 c) (nat_le c 126) h).1 in
+    sym (ap (λ b. b && is_white c) h)
+    ∙ agree_below_at (λ d. is_ascii_graphic d && is_white d) (λ _. false) 128 c graphic_table (omega (arith, most))
 
 pub rest_of-spoilt : (closed cs : List ℕ) → rest_of Spoilt closed cs ≡ Some closed
 unfolding gap_step

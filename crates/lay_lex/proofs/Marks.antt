@@ -10,7 +10,7 @@ use Rattle.lay_piece.specs.Chars.{is_nil}
 use Rattle.lay_token.specs.Lexes.{Part, Before, Other, Point, Points, is_punct, is_point, is_separator, is_joint, step, text_of_piece}
 use Rattle.lay_piece.specs.declared.kind.Kind.{Kind}
 use Rattle.lay_piece.specs.declared.kind.Kind.TheVariants.{Punct}
-use Rattle.lay_lex.specs.Tokens.{behind, is_mark, token_of}
+use Rattle.lay_lex.specs.Added.{behind, is_mark, token_of}
 
 one_byte : (d : ℕ) → d < 128 → encode_utf8_all (d ∷ []) ≡ d ∷ []
 one_byte d h = append-nil _ ∙ encode_ascii d h

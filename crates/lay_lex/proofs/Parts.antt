@@ -14,7 +14,8 @@ use Rattle.lay_token.specs.declared.token.Token.{Token}
 use Rattle.lay_piece.proofs.Texts.{length_parts}
 use Rattle.lay_token.proofs.Parts.{spell-append, spell-out, steps-append, had_some}
 use Rattle.lay_lex.specs.Gap.{rest_of}
-use Rattle.lay_lex.specs.Tokens.{Adds, added, before as seen, behind, joined, so_far, token_of}
+use Rattle.lay_lex.specs.Added.{added, before as seen, behind, joined, token_of}
+use Rattle.lay_lex.specs.Tokens.{Adds, so_far}
 use Rattle.lay_lex.specs.declared.tokens.Tokens.{Tokens}
 use Rattle.lay_lex.proofs.Gaps.{longest}
 use Rattle.lay_lex.proofs.Lines.{size-append}

@@ -1,3 +1,4 @@
+pub mod Added
 pub mod Gap
 pub mod Lexer
 pub mod Source

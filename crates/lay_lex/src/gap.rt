@@ -1,5 +1,5 @@
 //! Gaps: white space and plain comments.
-ghost use Rattle.std.specs.Prelude.{◌≡◌, ◌<◌, ◌≤◌, ◌+◌, ◌^◌};
+ghost use Rattle.std.specs.Prelude.{◌≡◌, ◌≢◌, ◌<◌, ◌≤◌, ◌+◌, ◌^◌};
 ghost use Rattle.std.specs.Str.{chars};
 ghost use Rattle.lay_piece.specs.Chars.{is_white};
 ghost use Rattle.lay_piece.specs.Quoted.{block_step, deep_step};
@@ -9,20 +9,24 @@ ghost use Rattle.lay_lex.specs.Gap.{depth, in_comment, in_gap, open_around, rest
 
 use lay_token::piece::chars::first;
 
-/// White space (Rust Reference, "Whitespace").
+/// White space (Rust Reference, "Whitespace"). Most characters are a blank or can be seen, and are told first.
+#[inline]
+#[tactic(auto, using(crate::proofs::Gaps::graphic_stays))]
 pub fn is_white(c: char) -> bool
     ensures { result ≡ is_white c }
 {
-    match c {
-        '\t'..='\r' => true,
-        ' ' => true,
-        '\u{85}' => true,
-        '\u{200e}' => true,
-        '\u{200f}' => true,
-        '\u{2028}' => true,
-        '\u{2029}' => true,
-        _ => false,
-    }
+    c == ' ' || (!c.is_ascii_graphic() && is_rare_white(c))
+}
+
+/// White space, of a character that is no blank.
+fn is_rare_white(c: char) -> bool
+    requires { c ≢ 32 }
+    ensures { result ≡ is_white c }
+{
+    matches!(
+        c,
+        '\t'..='\r' | '\u{85}' | '\u{200e}' | '\u{200f}' | '\u{2028}' | '\u{2029}'
+    )
 }
 
 /// How far a gap is read.

@@ -1,8 +1,9 @@
 //! The tokens of pieces.
-ghost use Rattle.std.specs.Prelude.{◌≡◌, ◌&&◌, ◌++◌, ◌∷◌, [], IfOk, OnOk, encode_utf8_all};
-ghost use Rattle.std.specs.Str.{chars};
-ghost use Rattle.lay_token.specs.Lexes.{doc_text, is_index_place, is_separator, text_of_piece};
-ghost use Rattle.lay_lex.specs.Tokens.{Adds, IsBegun, added, before, behind, is_mark, is_point_token, so_far, token_of, within};
+ghost use Rattle.std.specs.Prelude.{◌≡◌, ◌&&◌, ◌<◌, Bool, codes, cond, if◌then◌else◌, true, false, length, vec_len, vec_capacity, IfOk, OnOk, encode_utf8_all};
+ghost use Rattle.std.specs.Str.{bytes_eq, chars};
+ghost use Rattle.lay_token.specs.Lexes as lexes;
+ghost use Rattle.lay_token.specs.Lexes.{doc_text, is_index_place, is_point, is_punct, is_separator, text_of_piece};
+ghost use Rattle.lay_lex.specs.Added.{before, ends_in_mark, ends_joint, last_joint, token_of, within};
 
 use crate::ends::{before_last, behind_first, has_line_feed, without_end};
 use crate::window::{Stop, Window};
@@ -21,11 +22,11 @@ enum Before {
 }
 
 impl Before {
-    /// What stands behind a token; `touches` says that no gap stands before it.
-    fn behind(self, token: &Token, touches: bool) -> Before
-        ensures { before result ≡ behind (before self) touches token.now }
+    /// What stands behind punctuation, which is a point or isn't; `touches` says that no gap stands before it.
+    fn behind(self, point: bool, touches: bool) -> Before
+        ensures { before result ≡ cond point (cond (is_point (before self) && touches) lexes.Points lexes.Point) lexes.Other }
     {
-        if !is_point(token) {
+        if !point {
             Before::Other
         } else if touches && self != Before::Other {
             Before::Points
@@ -35,24 +36,11 @@ impl Before {
     }
 }
 
-/// Whether the token is a point.
-fn is_point(token: &Token) -> bool
-    ensures { result ≡ is_point_token token.now }
+/// Whether the bytes are a point.
+fn is_point(bytes: &[u8]) -> bool
+    ensures { result ≡ bytes_eq bytes.now (codes ".") }
 {
-    match token.kind {
-        Kind::Punct => matches!(token.text.as_bytes(), b"."),
-        _ => false,
-    }
-}
-
-/// Whether the token may be joint, or stand behind one that is.
-fn is_mark(token: &Token) -> bool
-    ensures { result ≡ is_mark token.now }
-{
-    match token.kind {
-        Kind::Punct => !is_separator(token.text.as_bytes()),
-        _ => false,
-    }
+    matches!(bytes, b".")
 }
 
 /// Whether the bytes are a comma or a semicolon.
@@ -111,23 +99,24 @@ fn within(block: bool, piece: &str) -> &str
     }
 }
 
-/// The tokens with the next behind them: whether the last of them is joint.
-fn join_last(tokens: &mut Vec<Token>, next: &Token, touches: bool)
-    ensures { tokens.new.items ++ next.now ∷ [] ≡ added touches next.now tokens.old.items }
+/// Whether what may be joint is joint with what follows it.
+fn is_joint(mark: bool, next: bool, touches: bool) -> bool
+    ensures { result ≡ (touches && next && mark) }
 {
-    if tokens.is_empty() {
-        return;
-    }
-    let last = tokens.len() - 1;
-    let joint = is_joint(&tokens[last], next, touches);
-    tokens[last].joint = joint;
+    touches && next && mark
 }
 
-/// Whether the token before the next is joint.
-fn is_joint(last: &Token, next: &Token, touches: bool) -> bool
-    ensures { result ≡ (touches && is_mark next.now && is_mark last.now) }
+/// Makes the last of the tokens joint, if it is joint with what follows.
+fn join_last(tokens: &mut Vec<Token>, joint: bool)
+    requires { joint ≡ true → 0 < length tokens.old.items }
+    ensures items { tokens.new.items ≡ (if joint then last_joint tokens.old.items else tokens.old.items) }
+    ensures len { vec_len tokens.new ≡ vec_len tokens.old }
+    ensures capacity { vec_capacity tokens.new ≡ vec_capacity tokens.old }
 {
-    touches && is_mark(next) && is_mark(last)
+    if joint {
+        let last = tokens.len() - 1;
+        tokens[last].joint = true;
+    }
 }
 
 /// The tokens read so far. The next tells whether the last of them is joint.
@@ -135,9 +124,16 @@ fn is_joint(last: &Token, next: &Token, touches: bool) -> bool
 pub struct Tokens {
     read: Vec<Token>,
     before: Before,
+    /// Whether the last token may be joint.
+    mark: bool,
+    ghost last: { mark ≡ ends_in_mark read.items },
+    // It isn't so far.
+    ghost apart: { ends_joint read.items ≡ false },
 }
 
 impl Tokens {
+    ghost use Rattle.lay_lex.specs.Tokens.{Adds, IsBegun, so_far};
+
     /// No tokens, before the first place, and room for so many.
     pub fn new(alloc: Global, room: usize) -> Result<Tokens, NoMemory>
         ensures { IfOk result IsBegun }
@@ -145,6 +141,7 @@ impl Tokens {
         Ok(Tokens {
             read: Vec::with_capacity(alloc, room)?,
             before: Before::Other,
+            mark: false,
         })
     }
 
@@ -167,16 +164,39 @@ impl Tokens {
         ensures { OnOk result (Adds touches (token_of at kind (chars piece.now)) self.old self.new) }
     {
         let token = token_of(alloc, kind, piece, at)?;
-        self.push(token, touches)
+        match kind {
+            Kind::Punct => self.push_punct(token, piece.as_bytes(), touches),
+            _ => self.push(token),
+        }
     }
 
-    /// Adds a token that is not joint.
-    fn push(&mut self, token: Token, touches: bool) -> Result<(), NoMemory>
+    /// Adds a token that is no punctuation, and so is joint with nothing.
+    fn push(&mut self, token: Token) -> Result<(), NoMemory>
+        requires kind { is_punct token.kind ≡ false }
+        requires apart { token.joint ≡ false }
+        ensures { (touches : Bool) → OnOk result (Adds touches token self.old self.new) }
+    {
+        self.read.push(token)?;
+        self.before = Before::Other;
+        self.mark = false;
+        Ok(())
+    }
+
+    /// Adds punctuation with this text, which is not joint.
+    fn push_punct(&mut self, token: Token, text: &[u8], touches: bool) -> Result<(), NoMemory>
+        requires kind { is_punct token.kind ≡ true }
+        requires text { token.text ≡ text.now }
+        requires apart { token.joint ≡ false }
         ensures { OnOk result (Adds touches token self.old self.new) }
     {
-        self.before = self.before.behind(&token, touches);
-        join_last(&mut self.read, &token, touches);
-        self.read.push(token)?;
+        let mark = !is_separator(text);
+        let joint = is_joint(self.mark, mark, touches);
+        let before = self.before.behind(is_point(text), touches);
+        self.read.reserve(1)?;
+        join_last(&mut self.read, joint);
+        self.read.push_reserved(token);
+        self.before = before;
+        self.mark = mark;
         Ok(())
     }
 
@@ -191,7 +211,11 @@ impl Tokens {
     pub fn window(self, stop: Stop, end: usize) -> Window
         ensures { result ≡ record { tokens = so_far self; stop = stop; end = end } }
     {
-        let Tokens { read, before: _ } = self;
+        let Tokens {
+            read,
+            before: _,
+            mark: _,
+        } = self;
         Window {
             tokens: List::from_vec(read),
             stop,

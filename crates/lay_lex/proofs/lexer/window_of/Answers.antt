@@ -3,7 +3,8 @@ use Rattle.std.specs.Str.{chars}
 use Rattle.lay_piece.specs.Forms.{Had}
 use Rattle.lay_piece.specs.Begins.{BeginsNoPiece}
 use Rattle.lay_token.specs.Lexes.{is_index_place}
-use Rattle.lay_lex.specs.Tokens.{before, so_far}
+use Rattle.lay_lex.specs.Added.{before}
+use Rattle.lay_lex.specs.Tokens.{so_far}
 use Rattle.lay_lex.proofs.Gaps.{last_gap}
 use Rattle.lay_lex.specs.Window.{ends_in_stop}
 use Rattle.lay_lex.specs.declared.window.Stop.TheVariants.{More}

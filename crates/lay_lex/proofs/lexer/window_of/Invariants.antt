@@ -1,7 +1,8 @@
 use Rattle.std.proofs.Common.{length}
 use denote.Text.{Utf8}
 use denote.Shadow.{shadow}
-use Rattle.lay_lex.specs.Tokens.{before, so_far}
+use Rattle.lay_lex.specs.Added.{before}
+use Rattle.lay_lex.specs.Tokens.{so_far}
 use Rattle.lay_lex.proofs.Parts.{SoFar}
 use Rattle.lay_lex.proofs.lexer.window_of.Given as goal
 

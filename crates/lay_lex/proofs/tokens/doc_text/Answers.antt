@@ -6,7 +6,7 @@ use Rattle.std.proofs.lemmas.Bool.{cond-true, cond-false}
 use Rattle.std.proofs.lemmas.Str.{encodes-chars}
 use Rattle.lay_token.specs.Lexes.{doc_text}
 use Rattle.lay_piece.specs.Chars.{without_end}
-use Rattle.lay_lex.specs.Tokens.{within}
+use Rattle.lay_lex.specs.Added.{within}
 use Rattle.lay_lex.proofs.tokens.doc_text.Goals as goal
 
 -- what documentation says, of which this stands within its marks

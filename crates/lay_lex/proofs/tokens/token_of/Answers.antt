@@ -4,7 +4,7 @@ use Rattle.std.proofs.lemmas.Str.{encodes-chars}
 use Rattle.lay_token.specs.Lexes.{size, text_of_piece}
 use Rattle.lay_token.specs.declared.token.Token.{Token}
 use Rattle.lay_piece.specs.declared.kind.Kind.{Kind}
-use Rattle.lay_lex.specs.Tokens.{token_of}
+use Rattle.lay_lex.specs.Added.{token_of}
 use Rattle.lay_lex.proofs.tokens.token_of.Goals as goal
 
 token_is : (at len : ℕ) (kind : Kind) (piece text : List ℕ) → text ≡ encode_utf8_all (text_of_piece kind piece)
