@@ -26,6 +26,7 @@ LEFT_OUT = {
 PLACES = {
     'std::alloc': 'crate::shims',
     'std::boxed': 'crate::shims',
+    'std::mem::forget': 'core::mem::forget',
     'std::str': 'core::str',
     'smallvec': 'crate::shims',
     'circular_buffer': 'crate::shims',
@@ -374,7 +375,7 @@ class Paths:
             return ['crate', 'generated', self.crate] + path[1:]
         if first in self.crates:
             return ['crate', 'generated'] + path
-        for count in (2, 1):
+        for count in (3, 2, 1):
             place = PLACES.get('::'.join(path[:count]))
             if place:
                 return place.split('::') + path[count:]

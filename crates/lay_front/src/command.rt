@@ -27,6 +27,7 @@ use lay_line::{Line, line};
 use lay_printer::PrintError;
 use lay_token::{List, NoMemory, Refusal, Text};
 use std::alloc::Global;
+use std::mem::forget;
 
 /// How a run comes out.
 #[derive(Clone, Copy, Debug, PartialEq, Eq)]
@@ -55,6 +56,8 @@ pub const LIMIT: usize = 16_777_216;
 /// Runs the command with its words, without the program's name: `[FILE]` writes the text of an input to `out`, and
 /// `--check [FILE]` tells whether the input is its text, and `--sample SEED --items N` makes a sample, formats it, and
 /// writes one line that sums it up. Every other outcome is told in one line on `err`.
+///
+/// The program is to end behind its run: what an input was read to isn't taken apart, and its memory not given back.
 pub fn run<I: Inputs, K: Sink, E: Sink>(
     alloc: Global,
     words: &[Text],
@@ -206,11 +209,14 @@ fn format_input<I: Inputs, K: Sink>(
         Ok(given) => given,
         Err(stop) => return Err(stop),
     };
-    match write_file(alloc, &given.1, out) {
+    let written = match write_file(alloc, &given.1, out) {
         Ok(()) => Ok(()),
         Err(PrintError::WriteFailed) => Err(Stop::WriteFailed),
         Err(PrintError::NoMemory) => Err(Stop::NoMemory),
-    }
+    };
+    // The program ends behind its run, so the tree isn't taken apart.
+    forget(given);
+    written
 }
 
 /// Compares an input with its text.
@@ -226,11 +232,14 @@ fn check_input<I: Inputs>(alloc: Global, which: Which, inputs: &mut I) -> Result
         Ok(given) => given,
         Err(stop) => return Err(stop),
     };
-    match is_text(alloc, &file, bytes) {
+    let compared = match is_text(alloc, &file, bytes) {
         Ok(true) => Ok(()),
         Ok(false) => Err(Stop::Differs),
         Err(NoMemory) => Err(Stop::NoMemory),
-    }
+    };
+    // As above.
+    forget(file);
+    compared
 }
 
 /// The bytes of an input, and the file that they read to.

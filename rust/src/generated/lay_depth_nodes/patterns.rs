@@ -16,7 +16,9 @@ pub fn pat_depth(pat: &Pat) -> u32 {
         }
         Pat::Or { alternatives } => deeper(pats_depth(alternatives.as_slice())),
         Pat::Path { path } => deeper(path_depth(path)),
-        Pat::Span { start, end, .. } => deeper(end_depth(start).max(end_depth(end))),
+        Pat::Span { start, end, .. } => {
+            deeper(end_depth(start.get()).max(end_depth(end.get())))
+        }
         Pat::Ref { inner, .. } | Pat::Paren { inner } => deeper(pat_depth(inner.get())),
         Pat::Struct { path, fields, .. } => {
             deeper(path_depth(path).max(fields_depth(fields.as_slice())))

@@ -12,6 +12,7 @@ use crate::generated::lay_line::{Line, line};
 use crate::generated::lay_printer::PrintError;
 use crate::generated::lay_token::{List, NoMemory, Refusal, Text};
 use crate::shims::Global;
+use core::mem::forget;
 /// How a run comes out.
 #[derive(Clone, Copy, Debug, PartialEq, Eq,)]
 pub enum Status {
@@ -37,6 +38,8 @@ pub const LIMIT: usize = 16_777_216;
 /// Runs the command with its words, without the program's name: `[FILE]` writes the text of an input to `out`, and
 /// `--check [FILE]` tells whether the input is its text, and `--sample SEED --items N` makes a sample, formats it, and
 /// writes one line that sums it up. Every other outcome is told in one line on `err`.
+///
+/// The program is to end behind its run: what an input was read to isn't taken apart, and its memory not given back.
 pub fn run<
     I: Inputs,
     K: Sink,
@@ -81,11 +84,13 @@ fn format_input<
         Ok(given) => given,
         Err(stop) => return Err(stop),
     };
-    match write_file(alloc, &given.1, out) {
+    let written = match write_file(alloc, &given.1, out) {
         Ok(()) => Ok(()),
         Err(PrintError::WriteFailed) => Err(Stop::WriteFailed),
         Err(PrintError::NoMemory) => Err(Stop::NoMemory),
-    }
+    };
+    forget(given);
+    written
 }
 /// Compares an input with its text.
 fn check_input<
@@ -95,11 +100,13 @@ fn check_input<
         Ok(given) => given,
         Err(stop) => return Err(stop),
     };
-    match is_text(alloc, &file, bytes) {
+    let compared = match is_text(alloc, &file, bytes) {
         Ok(true) => Ok(()),
         Ok(false) => Err(Stop::Differs),
         Err(NoMemory) => Err(Stop::NoMemory),
-    }
+    };
+    forget(file);
+    compared
 }
 /// The bytes of an input, and the file that they read to.
 fn read_input<

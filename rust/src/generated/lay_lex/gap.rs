@@ -2,18 +2,16 @@
 //!
 //! Gaps: white space and plain comments.
 use crate::generated::lay_token::piece::chars::first;
-/// White space (Rust Reference, "Whitespace").
+/// White space (Rust Reference, "Whitespace"). Most characters are a blank or can be seen, and are told first.
+#[inline]
 pub fn is_white(c: char) -> bool {
-    match c {
-        '\t'..='\r' => true,
-        ' ' => true,
-        '\u{85}' => true,
-        '\u{200e}' => true,
-        '\u{200f}' => true,
-        '\u{2028}' => true,
-        '\u{2029}' => true,
-        _ => false,
-    }
+    c == ' ' || (!c.is_ascii_graphic() && is_rare_white(c))
+}
+/// White space, of a character that is no blank.
+fn is_rare_white(c: char) -> bool {
+    matches!(
+        c, '\t'..= '\r' | '\u{85}' | '\u{200e}' | '\u{200f}' | '\u{2028}' | '\u{2029}'
+    )
 }
 /// How far a gap is read.
 #[derive(Clone, Copy,)]

@@ -22,26 +22,16 @@ enum Before {
     Points,
 }
 impl Before {
-    /// What stands behind a token; `touches` says that no gap stands before it.
-    fn behind(self, token: &Token, touches: bool) -> Before {
-        if !is_point(token) { Before::Other } else if touches && self != Before::Other {
+    /// What stands behind punctuation, which is a point or isn't; `touches` says that no gap stands before it.
+    fn behind(self, point: bool, touches: bool) -> Before {
+        if !point { Before::Other } else if touches && self != Before::Other {
             Before::Points
         } else { Before::Point }
     }
 }
-/// Whether the token is a point.
-fn is_point(token: &Token) -> bool {
-    match token.kind {
-        Kind::Punct => matches!(token.text.as_bytes(), b"."),
-        _ => false,
-    }
-}
-/// Whether the token may be joint, or stand behind one that is.
-fn is_mark(token: &Token) -> bool {
-    match token.kind {
-        Kind::Punct => !is_separator(token.text.as_bytes()),
-        _ => false,
-    }
+/// Whether the bytes are a point.
+fn is_point(bytes: &[u8]) -> bool {
+    matches!(bytes, b".")
 }
 /// Whether the bytes are a comma or a semicolon.
 fn is_separator(bytes: &[u8]) -> bool {
@@ -75,28 +65,34 @@ fn within(block: bool, piece: &str) -> &str {
     let behind = behind_first(behind_first(behind_first(piece)));
     if block { before_last(before_last(behind)) } else { behind }
 }
-/// The tokens with the next behind them: whether the last of them is joint.
-fn join_last(tokens: &mut Vec<Token>, next: &Token, touches: bool) {
-    if tokens.is_empty() {
-        return;
-    }
-    let last = tokens.len() - 1;
-    let joint = is_joint(&tokens[last], next, touches);
-    tokens[last].joint = joint;
+/// Whether what may be joint is joint with what follows it.
+fn is_joint(mark: bool, next: bool, touches: bool) -> bool {
+    touches && next && mark
 }
-/// Whether the token before the next is joint.
-fn is_joint(last: &Token, next: &Token, touches: bool) -> bool {
-    touches && is_mark(next) && is_mark(last)
+/// Makes the last of the tokens joint, if it is joint with what follows.
+fn join_last(tokens: &mut Vec<Token>, joint: bool) {
+    if joint {
+        let last = tokens.len() - 1;
+        tokens[last].joint = true;
+    }
 }
 /// The tokens read so far. The next tells whether the last of them is joint.
 pub struct Tokens {
     read: Vec<Token>,
     before: Before,
+    /// Whether the last token may be joint.
+    mark: bool,
 }
 impl Tokens {
     /// No tokens, before the first place, and room for so many.
     pub fn new(alloc: Global, room: usize) -> Result<Tokens, NoMemory> {
-        Ok(Tokens { read: Vec::with_capacity(alloc, room)?, before: Before::Other })
+        Ok(
+            Tokens {
+                read: Vec::with_capacity(alloc, room)?,
+                before: Before::Other,
+                mark: false,
+            },
+        )
     }
     /// Whether a number behind the tokens may be an index.
     pub fn is_index_place(&self) -> bool {
@@ -112,13 +108,33 @@ impl Tokens {
         touches: bool,
     ) -> Result<(), NoMemory> {
         let token = token_of(alloc, kind, piece, at)?;
-        self.push(token, touches)
+        match kind {
+            Kind::Punct => self.push_punct(token, piece.as_bytes(), touches),
+            _ => self.push(token),
+        }
     }
-    /// Adds a token that is not joint.
-    fn push(&mut self, token: Token, touches: bool) -> Result<(), NoMemory> {
-        self.before = self.before.behind(&token, touches);
-        join_last(&mut self.read, &token, touches);
+    /// Adds a token that is no punctuation, and so is joint with nothing.
+    fn push(&mut self, token: Token) -> Result<(), NoMemory> {
         self.read.push(token)?;
+        self.before = Before::Other;
+        self.mark = false;
+        Ok(())
+    }
+    /// Adds punctuation with this text, which is not joint.
+    fn push_punct(
+        &mut self,
+        token: Token,
+        text: &[u8],
+        touches: bool,
+    ) -> Result<(), NoMemory> {
+        let mark = !is_separator(text);
+        let joint = is_joint(self.mark, mark, touches);
+        let before = self.before.behind(is_point(text), touches);
+        self.read.reserve(1)?;
+        join_last(&mut self.read, joint);
+        self.read.push_reserved(token);
+        self.before = before;
+        self.mark = mark;
         Ok(())
     }
     /// The tokens read so far.
@@ -127,7 +143,7 @@ impl Tokens {
     }
     /// All the tokens, as a window that ends there.
     pub fn window(self, stop: Stop, end: usize) -> Window {
-        let Tokens { read, before: _ } = self;
+        let Tokens { read, before: _, mark: _ } = self;
         Window { tokens: List::from_vec(read), stop, end }
     }
 }

@@ -42,11 +42,11 @@ pub enum Pat {
         name: Name,
         of: Option<Boxed<Pat>>,
     },
-    /// `1..=2`, `a::B..`, `..1`, with one end at least
+    /// `1..=2`, `a::B..`, `..1`, with one end at least. The boxes keep other patterns small.
     Span {
-        start: Option<SpanEnd>,
+        start: Boxed<Option<SpanEnd>>,
         inclusive: bool,
-        end: Option<SpanEnd>,
+        end: Boxed<Option<SpanEnd>>,
     },
     /// `&mut A`
     Ref {

@@ -61,11 +61,11 @@ pub enum Ty {
         inner: Boxed<Ty>,
         length: Tokens,
     },
-    /// `for<'a> unsafe extern "C" fn(a: A, ...) -> B`
+    /// `for<'a> unsafe extern "C" fn(a: A, ...) -> B` The boxes keep other types small.
     Func {
-        binder: Option<Binder>,
+        binder: Boxed<Option<Binder>>,
         is_unsafe: bool,
-        abi: Option<Abi>,
+        abi: Boxed<Option<Abi>>,
         params: List<FuncParam>,
         variadic: bool,
         output: Option<Boxed<Ty>>,

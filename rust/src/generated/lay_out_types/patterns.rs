@@ -60,8 +60,8 @@ pub fn add_pat<
             }
         }
         Pat::Span { start, inclusive, end } => {
-            let dots = add_dots(out, before, start, *inclusive);
-            add_last_end(out, dots, end)
+            let dots = add_dots(out, before, start.get(), *inclusive);
+            add_last_end(out, dots, end.get())
         }
         Pat::Ref { mutable, inner } => {
             let reference = add_text(out, before, b"&");

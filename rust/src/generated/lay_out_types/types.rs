@@ -245,9 +245,9 @@ pub fn add_type<
             add_text(out, length, b"]")
         }
         Ty::Func { binder, is_unsafe, abi, params, variadic, output } => {
-            let binder = add_binder(out, before, binder);
+            let binder = add_binder(out, before, binder.get());
             let word = add_if(out, binder, *is_unsafe, b"unsafe ");
-            let abi = add_abi(out, word, abi);
+            let abi = add_abi(out, word, abi.get());
             let word = add_text(out, abi, b"fn");
             let params = add_params(out, word, params.as_slice(), *variadic);
             add_output(out, params, output)

@@ -12,6 +12,7 @@ use crate::generated::lay_read_parts::leads::{
 use crate::generated::lay_read_parts::parts::read_literal;
 use crate::generated::lay_read_tokens::found::greater;
 use crate::generated::lay_read_tokens::front::{is_at_mark, pass, pass_two, takes_mark};
+use crate::generated::lay_read_tokens::stop::boxed;
 use crate::generated::lay_read_tokens::{Ahead, Found, ReadNone};
 use crate::generated::lay_read_types::path_ahead;
 use crate::shims::Global;
@@ -67,27 +68,23 @@ fn closed_span(
     inclusive: bool,
 ) -> Result<Found<Pat>, ReadNone> {
     let (start, end) = both(start, one_end(alloc, at, depth))?;
-    Ok(
-        Found {
-            need: greater(start.need, end.need) + 1,
-            node: Pat::Span { start: start.node, inclusive, end: Some(end.node) },
-        },
-    )
+    let need = greater(start.need, end.need) + 1;
+    let (end, start) = both(Some(end.node), boxed(alloc, start.node))?;
+    let (start, end) = both(start, boxed(alloc, end))?;
+    Ok(Found { node: Pat::Span { start, inclusive, end }, need })
 }
 /// A `..` without an end behind it: a rest, or a span with its first end alone.
 fn open_span(
+    alloc: Global,
     at: &Ahead<'_>,
     start: Found<Option<SpanEnd>>,
 ) -> Result<Found<Pat>, ReadNone> {
     let need = start.need + 1;
     match start.node {
         Some(end) => {
-            Ok(
-                Found {
-                    node: Pat::Span { start: Some(end), inclusive: false, end: None },
-                    need,
-                },
-            )
+            let start = boxed(alloc, Some(end))?;
+            let (start, end) = both(start, boxed(alloc, None))?;
+            Ok(Found { node: Pat::Span { start, inclusive: false, end }, need })
         }
         None => Ok(Found { node: Pat::Rest, need: 1 }),
     }
@@ -105,7 +102,7 @@ pub fn span(
     }
     pass_two(at);
     if begins_span_end(at) { closed_span(alloc, at, depth, start, false) } else {
-        open_span(at, start)
+        open_span(alloc, at, start)
     }
 }
 /// A value, or a span that it begins.

@@ -35,6 +35,7 @@ pub fn boxed<T>(alloc: Global, value: T) -> Result<Boxed<T>, ReadNone> {
     }
 }
 /// The text once more, on its own.
+#[inline(always)]
 pub fn copy_of(alloc: Global, text: &Text) -> Result<Text, ReadNone> {
     match Text::from_bytes(alloc, text.as_bytes()) {
         Ok(copy) => Ok(copy),

@@ -77,6 +77,7 @@ fn list_of(alloc: Global, tokens: &[Token]) -> Result<Tokens, ReadNone> {
     Ok(Tokens::new(list))
 }
 /// Adds the tokens, as they stand in a list.
+#[inline]
 fn add_tokens(
     alloc: Global,
     list: &mut List<Listed>,
@@ -89,6 +90,7 @@ fn add_tokens(
     Ok(())
 }
 /// The token as it stands in a list. There is none of documentation that can't be laid out.
+#[inline(always)]
 fn listed(alloc: Global, token: &Token) -> Result<Listed, ReadNone> {
     match token.kind {
         Kind::Doc { inner, .. } => listed_doc(alloc, inner, &token.text),
@@ -104,6 +106,7 @@ fn listed_doc(alloc: Global, inner: bool, text: &Text) -> Result<Listed, ReadNon
     Ok(Listed::Doc { inner, text })
 }
 /// A token that is no documentation as it stands in a list. Only punctuation is joint.
+#[inline(always)]
 fn listed_token(alloc: Global, kind: Kind, token: &Token) -> Result<Listed, ReadNone> {
     let text = copy_of(alloc, &token.text)?;
     Ok(Listed::Token { kind, text, joint: matches!(kind, Kind::Punct) && token.joint })

@@ -253,6 +253,8 @@ impl<
         if !takes_keyword(at, b"fn") {
             return refused((binder, abi));
         }
+        let (abi, binder) = both(abi, boxed(self.alloc, binder))?;
+        let (binder, abi) = both(binder, boxed(self.alloc, abi))?;
         let (head, params) = both((binder, abi), self.func_params(at))?;
         let ((head, params), output) = both((head, params), self.output(at))?;
         let (binder, abi) = head;
