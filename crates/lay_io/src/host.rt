@@ -1,5 +1,5 @@
 //! The trusted edge: the system's streams and files. These objects tell nothing of content.
-ghost use Rattle.std.specs.Prelude.{◌≡◌, ◌≢◌, [], None, Some, IfOk, OnOk, OnErr, IsSome};
+ghost use Rattle.std.specs.Prelude.{◌≡◌, ◌≢◌, ◌<◌, length, [], None, Some, IfOk, OnOk, OnErr, IsSome};
 ghost use Rattle.std.specs.Io.{ReadsAtMost};
 ghost use Rattle.lay_io.specs.Calls.{Takes, left_of};
 ghost use Rattle.lay_io.specs.Faults.{CountsOnce, HasCause};
@@ -206,6 +206,7 @@ fn write_waiting<R: Print>(runtime: &R, waiting: &mut Room) -> Result<(), Failed
 }
 
 /// Keeps the piece behind what waits, or writes what waits first. After a failure nothing waits.
+#[inline]
 fn gather<R: Print>(runtime: &R, waiting: &mut Room, piece: &[u8]) -> Result<(), Failed>
     ensures kept { OnOk result (Waits (kept_in waiting.old) piece.now (kept_in waiting.new).bytes) }
     ensures dropped { OnErr result ((kept_in waiting.new).bytes ≡ Some []) }
@@ -214,6 +215,18 @@ fn gather<R: Print>(runtime: &R, waiting: &mut Room, piece: &[u8]) -> Result<(),
         waiting.put(piece);
         return Ok(());
     }
+    write_through(runtime, waiting, piece)
+}
+
+/// A piece for which there isn't room: what waits is written, and then the piece waits, or is written too where it would fill the
+/// room. After a failure nothing waits.
+#[cold]
+#[inline(never)]
+fn write_through<R: Print>(runtime: &R, waiting: &mut Room, piece: &[u8]) -> Result<(), Failed>
+    requires { (kept_in waiting.old).spare < length piece.now }
+    ensures kept { OnOk result (Waits (kept_in waiting.old) piece.now (kept_in waiting.new).bytes) }
+    ensures dropped { OnErr result ((kept_in waiting.new).bytes ≡ Some []) }
+{
     write_waiting(runtime, waiting)?;
     if piece.len() < waiting.left() {
         waiting.put(piece);
