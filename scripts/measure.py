@@ -1,33 +1,36 @@
 #!/usr/bin/env python3
-"""Measures commands on one file: seconds, those of them on a core, and peak memory, the best of several runs.
+"""Measures commands on one file: seconds of a core, user's and system's together, and peak memory. The commands run in turns, seven times each,
+and the least counts, so that other work on the machine is nobody's in particular.
 
 usage: measure.py FILE COMMAND..    each COMMAND is one word, split at blanks; it reads FILE on standard input
 """
-import os, shlex, subprocess, time
+import os, shlex, subprocess
 import usage
 
-RUNS = 5
+RUNS = 7
 
 
 def measure(words, path):
+    """The core seconds of a run, its peak memory in MiB, and its status."""
     with open(path, "rb") as given, open(os.devnull, "wb") as taken:
-        start = time.perf_counter()
-        process = subprocess.Popen(words, stdin=given, stdout=taken)
-        _, status, usage = os.wait4(process.pid, 0)
-        seconds = time.perf_counter() - start
-        return seconds, usage.ru_utime + usage.ru_stime, usage.ru_maxrss / 1024, os.waitstatus_to_exitcode(status)
+        process = subprocess.Popen(words, stdin=given, stdout=taken, stderr=subprocess.DEVNULL)
+        _, status, used = os.wait4(process.pid, 0)
+        return used.ru_utime + used.ru_stime, used.ru_maxrss / 1024, os.waitstatus_to_exitcode(status)
 
 
 def main():
     path, *commands = usage.words(__doc__, least=2)
     if not os.path.isfile(path):
         usage.refuse(__doc__, f"not there: {path}")
-    size = os.path.getsize(path) / 1e6
-    print(f"{path}: {size:.2f} MB, best of {RUNS} runs")
+    size = os.path.getsize(path)
+    print(f"{path}: {size / 1e6:.2f} MB, the least of {RUNS} runs in turns")
+    runs = {command: [] for command in commands}
+    for _ in range(RUNS):
+        for command in commands:
+            runs[command].append(measure(shlex.split(command), path))
     for command in commands:
-        runs = [measure(shlex.split(command), path) for _ in range(RUNS)]
-        seconds, core, memory, status = min(runs)
-        print(f"{command}: {seconds:.3f} s, {core:.3f} s on a core, {size / seconds:.1f} MB/s, {memory:.1f} MiB, {memory * 1.048576 / size:.1f} times the input, status {status}")
+        seconds, memory, status = min(runs[command])
+        print(f"{command}: {seconds:.3f} s, {memory:.1f} MiB, {memory * 1048576 / size:.1f} times the input, status {status}")
 
 
 main()
