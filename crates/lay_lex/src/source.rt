@@ -1,8 +1,8 @@
 //! What is lexed of an input.
-ghost use Rattle.std.specs.Prelude.{◌≡◌, ◌==◌, IfOk, IsUtf8, encode_utf8_all};
+ghost use Rattle.std.specs.Prelude.{◌≡◌, ◌==◌, codes, true, false, IfOk, IsUtf8, encode_utf8_all};
 ghost use Rattle.std.specs.List.{list_any};
 ghost use Rattle.std.specs.Str.{chars, IsCharBoundary};
-ghost use Rattle.lay_piece.specs.Chars.{after, begins, front, is_white};
+ghost use Rattle.lay_piece.specs.Chars.{after, begins, behind, front, is_white};
 ghost use Rattle.lay_token.specs.Source.{folded, is_in_line, is_no_command, is_shebang, source, source_of, without_mark};
 ghost use Rattle.lay_lex.specs.Source.{Answers, seen};
 
@@ -118,6 +118,9 @@ fn shebang(alloc: Global, text: &str) -> Result<(Option<Text>, usize), NoMemory>
     ensures { IfOk result (λ given. (given.0 ≡ (source_of (chars text.now)).shebang)
         × (given.1 ≡ (source_of (chars text.now)).start)) }
 {
+    if !begins_shebang(text) {
+        return Ok((None, 0));
+    }
     let line = first_line(text);
     if !is_shebang(line) {
         return Ok((None, 0));
@@ -129,6 +132,19 @@ fn shebang(alloc: Global, text: &str) -> Result<(Option<Text>, usize), NoMemory>
         line.len()
     };
     Ok((Some(shebang), start))
+}
+
+/// Whether the text begins with `#!`. Of others no line is looked for, which may be all of the text.
+fn begins_shebang(text: &str) -> bool
+    ensures { result ≡ behind false (codes "#!") (λ _. true) (chars text.now) }
+{
+    match first(text) {
+        Some(('#', tail)) => match first(tail) {
+            Some(('!', _)) => true,
+            _ => false,
+        },
+        _ => false,
+    }
 }
 
 /// The first line, without the LF that ends it.

@@ -80,6 +80,9 @@ fn begins_line_feed(bytes: &[u8]) -> bool {
 }
 /// The shebang of a text, and where lexing begins.
 fn shebang(alloc: Global, text: &str) -> Result<(Option<Text>, usize), NoMemory> {
+    if !begins_shebang(text) {
+        return Ok((None, 0));
+    }
     let line = first_line(text);
     if !is_shebang(line) {
         return Ok((None, 0));
@@ -87,6 +90,18 @@ fn shebang(alloc: Global, text: &str) -> Result<(Option<Text>, usize), NoMemory>
     let shebang = Text::from_bytes(alloc, without_end(b'\r', line))?;
     let start = if line.len() < text.len() { line.len() + 1 } else { line.len() };
     Ok((Some(shebang), start))
+}
+/// Whether the text begins with `#!`. Of others no line is looked for, which may be all of the text.
+fn begins_shebang(text: &str) -> bool {
+    match first(text) {
+        Some(('#', tail)) => {
+            match first(tail) {
+                Some(('!', _)) => true,
+                _ => false,
+            }
+        }
+        _ => false,
+    }
 }
 /// The first line, without the LF that ends it.
 fn first_line(s: &str) -> &str {
