@@ -96,7 +96,7 @@ def main():
         while number < count:
             mutants = [mutant(draw, draw.choice(accepted)) for _ in range(min(count - number, 1000))]
             for data, (is_accepted, found) in zip(mutants, pool.map(lambda it: fault(command, it), mutants)):
-                taken += is_accepted
+                taken += is_accepted and not found
                 if found:
                     wrong += 1
                     print(f'{found}: {data[:400]}')
