@@ -1,7 +1,7 @@
 //! Inputs and texts, worked out by hand from the Rust Reference's rules and this format's.
 use crate::each::each_holds;
 use lay_given::{BETWEEN, parts, tokens};
-use lay_lex::normalise;
+use lay_lex::{lex_window, normalise};
 use lay_token::{FormatError, Refusal, Text, Token};
 use std::alloc::{AllocError, Global};
 use std::str;
@@ -189,4 +189,63 @@ fn no_tokens(rt: HostRuntime) {
         #!/x\n\u{a0}→5§\
         a // \u{e9}\n\"→8";
     each_holds(&rt, rt.alloc(), rows, BETWEEN, no_token);
+}
+
+/// The window of a text behind so many tokens at least, in words: how many it has, where it ends, and where the text goes
+/// on; or the error.
+fn window(alloc: Global, text: &str, least: usize) -> Result<String, AllocError> {
+    let found = match normalise(alloc, text.as_bytes()) {
+        Ok(source) => lex_window(alloc, source.as_str(), source.start, least),
+        Err(error) => Err(error),
+    };
+    match found {
+        Ok(window) => {
+            format!(in alloc;
+                "{} {:?} {}",
+                window.tokens.as_slice().len(),
+                window.stop,
+                window.end
+            )
+        }
+        Err(error) => format!(in alloc; "{error:?}"),
+    }
+}
+
+/// The text of a row has this window behind the number of tokens that stands before it.
+fn is_window(alloc: Global, row: &str) -> bool {
+    let (least, rest) = parts(row);
+    let (text, wanted) = parts(rest);
+    match window(alloc, text, least.parse::<usize>().unwrap_or(usize::MAX)) {
+        Ok(window) => window.as_str() == wanted,
+        Err(_) => false,
+    }
+}
+
+#[test]
+fn windows(rt: HostRuntime) {
+    let rows = "0→→0 End 0§\
+        9→ /*a*/ →0 End 7§\
+        9→#!/x\na→1 End 6§\
+        3→struct A; struct B;→3 More 9§\
+        4→struct A; struct B;→6 End 19§\
+        0→a b;c→3 More 4§\
+        1→fn a(){}mod b{}→6 More 8§\
+        1→a;#[b]c→2 More 2§\
+        1→a;/// b→2 More 2§\
+        1→a;\"b\"→3 End 5§\
+        1→a{};b→4 More 4§\
+        1→{}else{}→5 End 8§\
+        1→{}as a;b→5 More 7§\
+        1→(a;b)c→6 End 6§\
+        1→[{}a;b]→7 End 7§\
+        9→mod a{struct B;}→3 Opened 6§\
+        9→mod r#a {}→3 Opened 9§\
+        9→r#mod a{}→4 End 9§\
+        9→fn a(){mod b{}}→10 End 15§\
+        9→struct B;}c→4 Closed 10§\
+        1→}c→1 Closed 1§\
+        9→)}→2 Closed 2§\
+        9→a;'→Refused(NoToken { at: 2 })§\
+        1→a;b '→2 More 2";
+    each_holds(&rt, rt.alloc(), rows, BETWEEN, is_window);
 }
