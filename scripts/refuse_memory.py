@@ -2,20 +2,30 @@
 """Runs each test of a crate once for each allocation that it makes, with that one refused.
 
 usage: refuse_memory.py CRATE [WORD]    of the tests of crates/CRATE, those whose names have WORD
+       refuse_memory.py --built PROGRAM [WORD]    of the tests of a program that was built of such tests
 
 `rt test` proves and builds the tests first. `cc` compiles what stands before the allocator of the GNU C library: it
 counts the calls, of which a test makes the same each time, and refuses one. A run in which one was refused must end
-with an error that says so, NoMemory or, of a list that the test itself makes, std's own: so a failed comparison, a
+with an error that says so, NoMemory or, of a list that the test itself makes, std's own; or end well behind one line,
+an answer and how many bytes were written, which the test has itself compared with the text. So a failed comparison, a
 panic or an answer in place of the error is seen. The sweep over a test ends with the first run in which nothing was
-refused, which must pass.
-"""
-import os, subprocess, sys, tempfile
+refused, which must pass. For each test the script prints how many calls were refused, how many of these runs ended for
+want of memory, and how many printed which line. Where bytes have to be written before memory was wanting (`PARTLY`), at
+least one run must have done so."""
+import collections, os, re, subprocess, sys, tempfile
 import usage
 
 TOP = os.path.dirname(os.path.dirname(os.path.abspath(__file__)))
 
 # What a test writes that ends for want of memory.
 ERRORS = ("error: NoMemory\n", "error: AllocError\n", "error: AllocFailed ")
+
+# What a test prints that ends well although a call was refused: its answer, and how many bytes were written.
+TOLD = re.compile(r"(\w+) (\d+)")
+
+# Tests of which a run must answer NoMemory behind so many bytes, and how many these may be: a command that lays out all of its text
+# before it writes any has none.
+PARTLY = {"memory::run_over_a_last_list": range(801, 1015)}
 
 # A refusal is told on the descriptor TELL.
 ALLOCATOR = """
@@ -53,35 +63,60 @@ def run(program, test, library, number):
 
 
 def sweep(program, test, library):
-    """The number of calls, and of runs that ended otherwise than they must."""
-    wrong = 0
+    """The number of calls, the lines that were printed with how often each was, and the number of runs that ended otherwise than they
+    must."""
+    lines, wrong = collections.Counter(), 0
     for number in range(1, 10**9):
         was_refused, status, said = run(program, test, library, number)
-        if not (said.startswith(ERRORS) and status == 101 if was_refused else status == 0):
+        told = TOLD.fullmatch(said)
+        if was_refused and status == 0 and told:
+            lines[said] += 1
+        elif not (said.startswith(ERRORS) and status == 101 if was_refused else status == 0):
             wrong += 1
             print(f"{test}: call {number}: status {status}: {said}")
         if not was_refused:
-            return number - 1, wrong
+            return number - 1, lines, wrong
 
 
-def main():
-    crate, *words = usage.words(__doc__, least=1, most=2)
+def is_partly_written(test, lines):
+    """Whether a run of a test wrote as much as it has to before memory was wanting."""
+    told = [TOLD.fullmatch(line) for line in lines]
+    return any(it[1] == "NoMemory" and int(it[2]) in PARTLY[test] for it in told)
+
+
+def tests_of(crate):
+    """The program of a crate's tests, which is proved and built."""
     folder = f"{TOP}/crates/{crate}"
     if not os.path.isdir(folder):
         usage.refuse(__doc__, f"no crate: {crate}")
     subprocess.run(["rt", "test"], cwd=folder, check=True, stdout=sys.stderr)
-    program = f"{folder}/out/{crate}_tests"
+    return f"{folder}/out/{crate}_tests"
+
+
+def main():
+    words = usage.words(__doc__, least=1, most=3, options=("--built",))
+    is_built = words[0] == "--built"
+    if len(words) not in ((2, 3) if is_built else (1, 2)):
+        usage.refuse(__doc__)
+    name, *words = words[is_built:]
+    program = name if is_built else tests_of(name)
     listed = subprocess.run([program, "--list"], capture_output=True, text=True).stdout
     tests = [line.removesuffix(": test") for line in listed.splitlines() if line.endswith(": test")]
-    wrong = 0
+    failed = False
     with tempfile.TemporaryDirectory() as made:
         library = allocator(made)
         for test in tests:
             if all(word in test for word in words):
-                calls, others = sweep(program, test, library)
-                wrong += others
-                print(f"{test}: {calls} refused in turn, {calls - others} ended for want of memory", flush=True)
-    sys.exit(wrong > 0)
+                calls, lines, wrong = sweep(program, test, library)
+                ended = calls - wrong - sum(lines.values())
+                print(f"{test}: {calls} refused in turn, {ended} ended for want of memory", flush=True)
+                for line, count in lines.items():
+                    print(f"    {line}: {count}", flush=True)
+                if test in PARTLY and not is_partly_written(test, lines):
+                    print(f"{test}: no run was without memory behind a part of the text")
+                    failed = True
+                failed |= wrong > 0
+    sys.exit(failed)
 
 
 main()
