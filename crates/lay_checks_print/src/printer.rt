@@ -114,11 +114,13 @@ fn owner_prints(
     Ok(())
 }
 
-/// Each printer makes this text of a stream.
+/// Each printer makes this text of a stream. What the one that is lent its sink has written is a front of it, whatever it answers.
 fn prints(rt: &impl Abort, alloc: Global, stream: &Stream, wanted: &[u8]) -> Result<(), Fail> {
     owner_prints(rt, alloc, stream, wanted)?;
     let mut lent = QuietSink::with_room(alloc, 20_000)?;
-    print(alloc, &mut lent, stream)?;
+    let answer = print(alloc, &mut lent, stream);
+    assert!(rt; wanted.starts_with(lent.bytes()));
+    answer?;
     is_made(rt, lent.bytes(), wanted);
     Ok(())
 }
