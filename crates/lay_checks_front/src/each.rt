@@ -24,7 +24,7 @@ pub fn each_is_told(
 }
 
 /// What stands before a sign and behind it: nothing where there is none.
-fn cut(text: &str, sign: char) -> (&str, &str) {
+pub fn cut(text: &str, sign: char) -> (&str, &str) {
     match text.split_once(sign) {
         Some(both) => both,
         None => (text, ""),

@@ -8,9 +8,12 @@ use lay_io::{Inputs, MemoryInputs, MemorySink, NamedFile, Sink};
 use lay_token::{List, NoMemory, Text};
 use std::alloc::Global;
 
+/// Room for the texts of most rows.
+const ROOM: usize = 100_000;
+
 /// The status of a run, and what stands on `out` and on `err`.
 pub fn outcome(alloc: Global, row: &str) -> Result<String, NoMemory> {
-    let (status, out, err) = ran(alloc, row)?;
+    let (status, out, err) = ran(alloc, row, ROOM)?;
     let text = string(alloc, out.bytes())?;
     let line = string(alloc, err.bytes())?;
     Ok(format!(in alloc; "{status:?}→{text}→{line}")?)
@@ -18,7 +21,7 @@ pub fn outcome(alloc: Global, row: &str) -> Result<String, NoMemory> {
 
 /// The same of a run that writes many lines `struct A;`: their number stands there for them, and then what stands behind them.
 pub fn counted_outcome(alloc: Global, row: &str) -> Result<String, NoMemory> {
-    let (status, out, err) = ran(alloc, row)?;
+    let (status, out, err) = ran(alloc, row, ROOM)?;
     let text = string(alloc, out.bytes())?;
     let line = string(alloc, err.bytes())?;
     let rest = text.as_str().trim_start_matches("struct A;\n");
@@ -28,14 +31,18 @@ pub fn counted_outcome(alloc: Global, row: &str) -> Result<String, NoMemory> {
 
 /// The status of a run.
 pub fn status_of(alloc: Global, row: &str) -> Result<String, NoMemory> {
-    let (status, ..) = ran(alloc, row)?;
+    let (status, ..) = ran(alloc, row, ROOM)?;
     Ok(format!(in alloc; "{status:?}")?)
 }
 
-/// A run of a row: the words, standard input, the file `f`, the numbers of the read that fails, of the write of `out` that fails, how
-/// many bytes of its piece that keeps, and the number of the write of `err` that fails and keeps one byte. Columns at the end may be
-/// left out.
-fn ran(alloc: Global, row: &str) -> Result<(Status, MemorySink, MemorySink), NoMemory> {
+/// A run of a row, which writes into this room: the words, standard input, the file `f`, the numbers of the read that fails, of the write
+/// of `out` that fails, how many bytes of its piece that keeps, and the number of the write of `err` that fails and keeps one byte.
+/// Columns at the end may be left out.
+pub fn ran(
+    alloc: Global,
+    row: &str,
+    room: usize,
+) -> Result<(Status, MemorySink, MemorySink), NoMemory> {
     let (line, rest) = column(row);
     let (stdin, rest) = column(rest);
     let (file, rest) = column(rest);
@@ -44,14 +51,14 @@ fn ran(alloc: Global, row: &str) -> Result<(Status, MemorySink, MemorySink), NoM
     let (keep, told) = column(rest);
     let words = words(alloc, line)?;
     let mut inputs = inputs(alloc, stdin, file, read)?;
-    let mut out = MemorySink::new(alloc, 100_000, numbers(alloc, write)?, number(keep))?;
+    let mut out = MemorySink::new(alloc, room, numbers(alloc, write)?, number(keep))?;
     let mut err = MemorySink::new(alloc, 100, numbers(alloc, told)?, 1)?;
     let status = status(alloc, words.as_slice(), &mut inputs, &mut out, &mut err);
     Ok((status, out, err))
 }
 
 /// The status of a run, which is the one call of it here, so that its clauses are read once.
-fn status<I: Inputs, K: Sink, E: Sink>(
+pub fn status<I: Inputs, K: Sink, E: Sink>(
     alloc: Global,
     words: &[Text],
     inputs: &mut I,
@@ -91,7 +98,7 @@ fn inputs(alloc: Global, stdin: &str, file: &str, read: &str) -> Result<MemoryIn
 }
 
 /// The bytes of pieces that stand between `·`, of which `3×a` is three times `a`.
-fn given(alloc: Global, text: &str) -> Result<List<u8>, NoMemory> {
+pub fn given(alloc: Global, text: &str) -> Result<List<u8>, NoMemory> {
     let mut all = Vec::new(alloc);
     for piece in text.split('·') {
         let (count, part) = match piece.split_once('×') {

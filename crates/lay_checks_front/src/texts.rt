@@ -2,7 +2,7 @@
 
 use crate::each::{each_is_told, string};
 use lay_depth::file_depth;
-use lay_files::{DEPTH, read_within};
+use lay_files::{DEPTH, FileError, read_within};
 use lay_front::{format, format_into, unparse};
 use lay_given::repeated;
 use lay_io::QuietSink;
@@ -14,7 +14,7 @@ use std::alloc::Global;
 use std::test::Fail;
 
 /// A file as a generator of bindings writes it.
-const GENERATED: &str = "/* automatically generated */\n\
+pub const GENERATED: &str = "/* automatically generated */\n\
     #![allow(non_camel_case_types)]\n\
     pub const MAX_NAME: u32 = 64;\n\
     #[repr(C)] #[derive(Debug,Copy,Clone)]\n\
@@ -25,7 +25,7 @@ const GENERATED: &str = "/* automatically generated */\n\
     fn layout() { assert_eq!(::std::mem::size_of::<point_t>(), 68usize, \"size of point_t\"); }\n";
 
 /// Its text.
-const LAID: &str = "#![allow(non_camel_case_types)]\n\
+pub const LAID: &str = "#![allow(non_camel_case_types)]\n\
     pub const MAX_NAME: u32 = 64;\n\
     #[repr(C)]\n\
     #[derive(Debug, Copy, Clone)]\n\
@@ -57,16 +57,16 @@ fn written(alloc: Global, given: &str) -> Result<String, NoMemory> {
 /// The text of the tree that a file's bytes read to.
 fn unparsed(alloc: Global, given: &str) -> Result<String, NoMemory> {
     match seen(alloc, given, DEPTH) {
-        Some((_, text)) => string(alloc, text.as_bytes()),
-        None => Ok(format!(in alloc; "no text")?),
+        Ok((_, text)) => string(alloc, text.as_bytes()),
+        Err(error) => Ok(format!(in alloc; "{error:?}")?),
     }
 }
 
-/// The depth of the file that a text reads to within a depth, and its text.
-fn seen(alloc: Global, given: &str, depth: u32) -> Option<(u32, Text)> {
+/// The depth of the file that a text reads to within a depth, and its text, or why there is none.
+pub fn seen(alloc: Global, given: &str, depth: u32) -> Result<(u32, Text), FileError> {
     let file = match read_within(alloc, given.as_bytes(), depth) {
         Ok(file) => file,
-        Err(_) => return None,
+        Err(error) => return Err(error),
     };
     let depth = file_depth(&file);
     let text = match is_written(alloc, &file) {
@@ -74,8 +74,8 @@ fn seen(alloc: Global, given: &str, depth: u32) -> Option<(u32, Text)> {
         _ => None,
     };
     match text {
-        Some(text) => Some((depth, text)),
-        None => None,
+        Some(text) => Ok((depth, text)),
+        None => Err(FileError::NoMemory),
     }
 }
 
@@ -129,8 +129,8 @@ fn windows(rt: HostRuntime) -> Result<(), Fail> {
 /// The depth of the file that a text reads to within a depth, if it reads to one.
 fn depth_within(alloc: Global, given: &str, depth: u32) -> Option<u32> {
     match seen(alloc, given, depth) {
-        Some((depth, _)) => Some(depth),
-        None => None,
+        Ok((depth, _)) => Some(depth),
+        Err(_) => None,
     }
 }
 
