@@ -49,7 +49,7 @@ fn ring_rows(rt: &impl Abort, alloc: Global, ring: &mut Ring) {
     assert!(rt; ring.spare() >= 3);
 }
 
-/// Whether the first entry of a row is this text with this size.
+/// Whether these are the first entry of a row, where it is a text, and its size.
 fn is_front(row: &Row, text: &[u8], size: i64) -> bool {
     match row.front() {
         Some(entry) => match entry.tok {
@@ -60,10 +60,10 @@ fn is_front(row: &Row, text: &[u8], size: i64) -> bool {
     }
 }
 
-/// Whether so many texts stand at the front of a row, and these are their bytes.
-fn are_texts(row: &Row, count: usize, bytes: &[u8]) -> bool {
+/// Whether a row has so many entries, of which so many texts stand at the front, and these are their bytes.
+fn is_row(row: &Row, len: usize, count: usize, bytes: &[u8]) -> bool {
     let texts = row.texts();
-    texts.count == count && texts.bytes == bytes
+    row.len() == len && texts.count == count && texts.bytes == bytes
 }
 
 /// Takes the texts at the front of a row away.
@@ -73,28 +73,48 @@ fn pop_all_texts(row: &mut Row) {
     row.pop_texts(count, len);
 }
 
+/// Takes entries away: texts up to one that is none, that one, and the texts behind it.
+fn empties(row: &mut Row) -> [bool; 5] {
+    row.pop_front();
+    let one = is_row(row, 3, 1, b"c");
+    pop_all_texts(row);
+    let end = is_row(row, 2, 0, b"");
+    row.pop_front();
+    let last = is_row(row, 1, 1, b"def");
+    pop_all_texts(row);
+    [
+        one,
+        end,
+        last,
+        is_row(row, 0, 0, b""),
+        row.front().is_none(),
+    ]
+}
+
+/// A text, a text, an end and a text are pushed behind an entry that was passed.
 fn row_rows(rt: &impl Abort, alloc: Global) -> Result<(), NoMemory> {
     let mut row = Row::new(alloc)?;
-    assert!(rt; row.front().is_none() && row.len() == 0 && are_texts(&row, 0, b""));
+    let empty = is_row(&row, 0, 0, b"");
     row.pass();
     row.reserve(4)?;
-    assert!(rt; row.spare() >= 4);
-    let first = row.push(LentTok::Text(b"ab"), UNKNOWN);
-    let second = row.push(LentTok::Text(b"c"), 1);
-    let third = row.push(LentTok::End, 0);
-    let fourth = row.push(LentTok::Text(b"def"), 3);
-    assert_eq!(rt; (first, second, third, fourth), (1, 2, 3, 4));
-    assert!(rt; row.len() == 4 && is_front(&row, b"ab", UNKNOWN) && are_texts(&row, 2, b"abc"));
+    let numbers = [
+        row.push(LentTok::Text(b"ab"), UNKNOWN),
+        row.push(LentTok::Text(b"c"), 1),
+        row.push(LentTok::End, 0),
+        row.push(LentTok::Text(b"def"), 3),
+    ];
+    let pushed = [
+        empty,
+        is_row(&row, 4, 2, b"abc"),
+        is_front(&row, b"ab", UNKNOWN),
+    ];
     row.size_at(1, 7);
-    assert!(rt; is_front(&row, b"ab", 7));
-    row.pop_front();
-    assert!(rt; row.len() == 3 && is_front(&row, b"c", 1) && are_texts(&row, 1, b"c"));
-    pop_all_texts(&mut row);
-    assert!(rt; row.len() == 2 && are_texts(&row, 0, b""));
-    row.pop_front();
-    assert!(rt; row.len() == 1 && is_front(&row, b"def", 3));
-    pop_all_texts(&mut row);
-    assert!(rt; row.len() == 0 && row.front().is_none());
+    let sized = is_front(&row, b"ab", 7);
+    let emptied = empties(&mut row);
+    assert_eq!(rt;
+        (numbers, pushed, sized, emptied),
+        ([1, 2, 3, 4], [true; 3], true, [true; 5])
+    );
     Ok(())
 }
 
@@ -135,9 +155,18 @@ fn are_marks(marks: &Marks<u64>, items: &[u64]) -> bool {
     marks.len() == items.len() && marks.get(items.len()).is_none()
 }
 
+/// Changes the one mark that is held, 7.
+fn changes(marks: &mut Marks<u64>) -> [bool; 8] {
+    let added = [adds(marks, 8), adds(marks, 6), are_marks(marks, &[7, 8, 6])];
+    let set = [sets(marks, 1, 3), are_marks(marks, &[7, 3, 6])];
+    let dropped = [drops(marks, 2), are_marks(marks, &[6]), drops(marks, 1)];
+    [
+        added[0], added[1], added[2], set[0], set[1], dropped[0], dropped[1], dropped[2],
+    ]
+}
+
 fn marks_rows(rt: &impl Abort, alloc: Global) -> Result<(), NoMemory> {
     let mut marks = Marks::new(alloc, 0)?;
-    assert!(rt; are_marks(&marks, &[]) && marks.last().is_none() && marks.pop().is_none());
     for item in [5u64, 7, 9] {
         marks.push(item)?;
     }
@@ -145,10 +174,9 @@ fn marks_rows(rt: &impl Abort, alloc: Global) -> Result<(), NoMemory> {
     assert_eq!(rt; taken, (Some(5), Some(9), Some(7)));
     marks.reserve(2)?;
     assert!(rt; marks.spare() >= 2);
-    assert!(rt; adds(&mut marks, 8) && adds(&mut marks, 6) && are_marks(&marks, &[7, 8, 6]));
-    assert!(rt; sets(&mut marks, 1, 3) && are_marks(&marks, &[7, 3, 6]));
-    assert!(rt; drops(&mut marks, 2) && are_marks(&marks, &[6]));
-    assert!(rt; drops(&mut marks, 0) && drops(&mut marks, 1) && are_marks(&marks, &[]));
+    assert_eq!(rt; changes(&mut marks), [true; 8]);
+    let emptied = (are_marks(&marks, &[]), marks.pop(), marks.last());
+    assert_eq!(rt; emptied, (true, None, None));
     Ok(())
 }
 
