@@ -15,7 +15,7 @@ find crates/lay_more_trees crates/lay_more_nodes -name '*.rs' | while read -r fi
 cp crates/lay_checks_front/src/each.rt crates/lay_more_nodes/src/
 cat >> crates.txt <<'END'
 lay_more_trees: lay_token lay_node lay_code lay_tree lay_files lay_laws lay_given
-lay_more_nodes: lay_token lay_io lay_lex lay_nest lay_tree lay_read_tokens lay_read_heads lay_read_code lay_printer lay_out_tokens lay_out_heads lay_out_code
+lay_more_nodes: lay_token lay_given lay_io lay_lex lay_nest lay_tree lay_read_tokens lay_read_heads lay_read_code lay_printer lay_out_tokens lay_out_heads lay_out_code
 END
 failed=
 for crate in lay_more_trees lay_more_nodes; do

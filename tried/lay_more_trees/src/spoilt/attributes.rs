@@ -161,9 +161,9 @@ fn before_type_param(alloc: Global, row: &str) -> Option<File> {
     file_of_type(
         alloc,
         Ty::Func {
-            binder: None,
+            binder: boxed(alloc, None)?,
             is_unsafe: false,
-            abi: None,
+            abi: boxed(alloc, None)?,
             params,
             variadic: false,
             output: None,

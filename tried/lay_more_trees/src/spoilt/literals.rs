@@ -2,7 +2,7 @@
 
 use super::each_spoils;
 use crate::trees::{
-    file_of_expr, file_of_kind, file_of_pat, file_of_type, item_kind, literal, one, word,
+    boxed, file_of_expr, file_of_kind, file_of_pat, file_of_type, item_kind, literal, one, word,
 };
 use lay_token::List;
 use lay_tree::{
@@ -98,9 +98,9 @@ fn function_type(alloc: Global, row: &str) -> Option<File> {
     file_of_type(
         alloc,
         Ty::Func {
-            binder: None,
+            binder: boxed(alloc, None)?,
             is_unsafe: false,
-            abi: Some(abi),
+            abi: boxed(alloc, Some(abi))?,
             params: List::new(alloc),
             variadic: false,
             output: None,

@@ -159,9 +159,9 @@ fn span(alloc: Global, row: &str, inclusive: bool) -> Option<File> {
     file_of_pat(
         alloc,
         Pat::Span {
-            start,
+            start: boxed(alloc, start)?,
             inclusive,
-            end,
+            end: boxed(alloc, end)?,
         },
     )
 }

@@ -119,9 +119,9 @@ fn in_span(alloc: Global, text: &str) -> Option<File> {
     file_of_pat(
         alloc,
         Pat::Span {
-            start,
+            start: boxed(alloc, start)?,
             inclusive: false,
-            end: None,
+            end: boxed(alloc, None)?,
         },
     )
 }
@@ -252,9 +252,9 @@ fn behind_arrow(alloc: Global, text: &str) -> Option<File> {
     file_of_type(
         alloc,
         Ty::Func {
-            binder: None,
+            binder: boxed(alloc, None)?,
             is_unsafe: false,
-            abi: None,
+            abi: boxed(alloc, None)?,
             params: List::new(alloc),
             variadic: false,
             output,
