@@ -209,14 +209,14 @@ fn format_input<I: Inputs, K: Sink>(
         Ok(given) => given,
         Err(stop) => return Err(stop),
     };
-    let written = match write_file(alloc, &given.1, out) {
+    let written = write_file(alloc, &given.1, out);
+    // The program ends behind its run, so the tree isn't taken apart.
+    forget(given);
+    match written {
         Ok(()) => Ok(()),
         Err(PrintError::WriteFailed) => Err(Stop::WriteFailed),
         Err(PrintError::NoMemory) => Err(Stop::NoMemory),
-    };
-    // The program ends behind its run, so the tree isn't taken apart.
-    forget(given);
-    written
+    }
 }
 
 /// Compares an input with its text.
@@ -232,14 +232,14 @@ fn check_input<I: Inputs>(alloc: Global, which: Which, inputs: &mut I) -> Result
         Ok(given) => given,
         Err(stop) => return Err(stop),
     };
-    let compared = match is_text(alloc, &file, bytes) {
+    let compared = is_text(alloc, &file, bytes);
+    // As above.
+    forget(file);
+    match compared {
         Ok(true) => Ok(()),
         Ok(false) => Err(Stop::Differs),
         Err(NoMemory) => Err(Stop::NoMemory),
-    };
-    // As above.
-    forget(file);
-    compared
+    }
 }
 
 /// The bytes of an input, and the file that they read to.

@@ -84,13 +84,13 @@ fn format_input<
         Ok(given) => given,
         Err(stop) => return Err(stop),
     };
-    let written = match write_file(alloc, &given.1, out) {
+    let written = write_file(alloc, &given.1, out);
+    forget(given);
+    match written {
         Ok(()) => Ok(()),
         Err(PrintError::WriteFailed) => Err(Stop::WriteFailed),
         Err(PrintError::NoMemory) => Err(Stop::NoMemory),
-    };
-    forget(given);
-    written
+    }
 }
 /// Compares an input with its text.
 fn check_input<
@@ -100,13 +100,13 @@ fn check_input<
         Ok(given) => given,
         Err(stop) => return Err(stop),
     };
-    let compared = match is_text(alloc, &file, bytes) {
+    let compared = is_text(alloc, &file, bytes);
+    forget(file);
+    match compared {
         Ok(true) => Ok(()),
         Ok(false) => Err(Stop::Differs),
         Err(NoMemory) => Err(Stop::NoMemory),
-    };
-    forget(file);
-    compared
+    }
 }
 /// The bytes of an input, and the file that they read to.
 fn read_input<
