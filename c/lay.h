@@ -31,7 +31,7 @@ lay_answer lay_format_slices(const uint8_t *input, size_t input_length, uint8_t 
    is above buffer_length, call again with a buffer of that length. Where there is no text, nothing is written. A pointer to no bytes may
    be null. The input may have any length: the command alone stops at 16 MiB. Memory is taken by malloc, and all of it is given back.
 
-   The deepest input takes some 2 MiB of stack, and a thread with less than 4 MiB may end in a fault. */
+   The deepest input takes some 1.7 MiB of stack, and a thread with less than 2 MiB may end in a fault. */
 static inline lay_answer lay_format(const uint8_t *input, size_t input_length, uint8_t *buffer, size_t buffer_length) {
     uint8_t none[1];
     return lay_format_slices(input ? input : (const uint8_t *)"", input_length, buffer ? buffer : none, buffer_length);
