@@ -20,6 +20,9 @@ TOP = os.path.dirname(os.path.dirname(os.path.abspath(__file__)))
 # What a test writes that ends for want of memory.
 ERRORS = ("error: NoMemory\n", "error: AllocError\n", "error: AllocFailed ")
 
+# What the program of the tests ends with where a test passed.
+PASSED = "\ntest result: ok\n"
+
 # What a test prints that ends well although a call was refused: its answer, and how many bytes were written.
 TOLD = re.compile(r"(\w+) (\d+)")
 
@@ -59,7 +62,7 @@ def run(program, test, library, number):
     ran = subprocess.run([program, test], env=given, capture_output=True, pass_fds=(tell,), timeout=60)
     os.close(tell)
     with os.fdopen(told, "rb") as it:
-        return it.read() != b"", ran.returncode, (ran.stdout + ran.stderr).decode(errors="replace").strip()
+        return it.read() != b"", ran.returncode, (ran.stdout + ran.stderr).decode(errors="replace").removesuffix(PASSED).strip()
 
 
 def sweep(program, test, library):
