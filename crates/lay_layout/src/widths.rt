@@ -15,7 +15,7 @@ pub const GREATEST_BLANKS: u64 = 1_000_000;
 
 /// A mark's length, in bytes.
 #[inline(always)]
-pub fn mark_len(mark: Mark) -> u64
+pub(crate) fn mark_len(mark: Mark) -> u64
     ensures value { result ≡ length (bytes_of_mark mark) }
     ensures small { result ≤ 1 }
 {

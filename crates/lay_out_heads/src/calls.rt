@@ -34,7 +34,7 @@ pub fn add_inside<E: Emit>(out: &mut E, before: Result<(), E::Fault>) -> Result<
 }
 
 /// A simple path.
-pub fn add_simple_path<E: Emit>(
+pub(crate) fn add_simple_path<E: Emit>(
     out: &mut E,
     before: Result<(), E::Fault>,
     path: &SimplePath,

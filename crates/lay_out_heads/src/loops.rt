@@ -27,7 +27,7 @@ pub trait Part {
 }
 
 /// Parts in parentheses, with a `,` between them. Behind the last one a comma may stand or not.
-pub fn add_parens<E: Emit, P: Part>(
+pub(crate) fn add_parens<E: Emit, P: Part>(
     out: &mut E,
     before: Result<(), E::Fault>,
     parts: &[P],

@@ -111,7 +111,7 @@ pub fn add_braces<E: Emit>(
 }
 
 /// An attribute within other parts.
-pub fn add_attr<E: Emit>(
+pub(crate) fn add_attr<E: Emit>(
     out: &mut E,
     before: Result<(), E::Fault>,
     attr: &Attr,

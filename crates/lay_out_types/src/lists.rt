@@ -85,7 +85,7 @@ pub fn add_begin<E: Emit>(out: &mut E, before: Result<(), E::Fault>) -> Result<(
 }
 
 /// What stands before a bound: a `+`, unless it is the first one.
-pub fn add_plus<E: Emit>(
+pub(crate) fn add_plus<E: Emit>(
     out: &mut E,
     before: Result<(), E::Fault>,
     first: bool,
@@ -110,7 +110,7 @@ pub fn add_end<E: Emit>(out: &mut E, before: Result<(), E::Fault>) -> Result<(),
 }
 
 /// What stands before a predicate of a where clause: before the first one the word `where`, and else a comma.
-pub fn add_predicates_lead<E: Emit>(
+pub(crate) fn add_predicates_lead<E: Emit>(
     out: &mut E,
     before: Result<(), E::Fault>,
     first: bool,
@@ -136,7 +136,7 @@ fn open_predicates<E: Emit>(out: &mut E) -> Result<(), E::Fault>
 }
 
 /// What closes a where clause, if it has predicates: before a body a break, with a `,` before its newline.
-pub fn add_predicates_close<E: Emit>(
+pub(crate) fn add_predicates_close<E: Emit>(
     out: &mut E,
     before: Result<(), E::Fault>,
     body: bool,

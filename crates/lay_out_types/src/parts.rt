@@ -29,7 +29,7 @@ pub fn add_param_attrs<E: Emit>(
 }
 
 /// Lifetimes that another one outlives, behind a `:`; nothing without them.
-pub fn add_outlived<E: Emit>(
+pub(crate) fn add_outlived<E: Emit>(
     out: &mut E,
     before: Result<(), E::Fault>,
     lifetimes: &[Lifetime],
@@ -45,7 +45,7 @@ pub fn add_outlived<E: Emit>(
 }
 
 /// A generic parameter that is a lifetime.
-pub fn add_lifetime_param<E: Emit>(
+pub(crate) fn add_lifetime_param<E: Emit>(
     out: &mut E,
     before: Result<(), E::Fault>,
     param: &LifetimeParam,
@@ -58,7 +58,7 @@ pub fn add_lifetime_param<E: Emit>(
 }
 
 /// A binder, and a blank behind it.
-pub fn add_binder<E: Emit>(
+pub(crate) fn add_binder<E: Emit>(
     out: &mut E,
     before: Result<(), E::Fault>,
     binder: &Option<Binder>,
@@ -93,7 +93,7 @@ fn add_lifetime_params<E: Emit>(
 }
 
 /// A generic argument that is a constant.
-pub fn add_const<E: Emit>(
+pub(crate) fn add_const<E: Emit>(
     out: &mut E,
     before: Result<(), E::Fault>,
     value: &ConstArg,
@@ -153,7 +153,7 @@ pub fn add_reference<E: Emit>(
 }
 
 /// What a parameter of a function type is called, and a `:` behind it.
-pub fn add_param_name<E: Emit>(
+pub(crate) fn add_param_name<E: Emit>(
     out: &mut E,
     before: Result<(), E::Fault>,
     name: &Option<GivenName>,

@@ -13,7 +13,7 @@ use lay_read_tokens::names::is_at_name;
 use lay_token::Delim;
 
 /// Passes any number of `;`.
-pub fn pass_semicolons(at: &mut Ahead<'_>)
+pub(crate) fn pass_semicolons(at: &mut Ahead<'_>)
     ensures { at.new ≡ reader.behind_semicolons at.old }
 {
     while is_at_mark(at, b";") {

@@ -73,7 +73,7 @@ fn tuple_field_list(
 
 /// Fields without names in parentheses.
 #[tactic(auto, unfolding(lay_node::specs::reader::Fields::tuple_fields))]
-pub fn tuple_fields_ahead(
+pub(crate) fn tuple_fields_ahead(
     alloc: Global,
     at: &mut Ahead<'_>,
     depth: u32,
@@ -143,7 +143,7 @@ fn named_field_list(
 
 /// Fields with names in braces.
 #[tactic(auto, unfolding(lay_node::specs::reader::Fields::named_fields))]
-pub fn named_fields_ahead(
+pub(crate) fn named_fields_ahead(
     alloc: Global,
     at: &mut Ahead<'_>,
     depth: u32,
@@ -257,7 +257,7 @@ fn variant_list(
 
 /// Variants in braces.
 #[tactic(auto, unfolding(lay_node::specs::reader::Fields::variants))]
-pub fn variants_ahead(
+pub(crate) fn variants_ahead(
     alloc: Global,
     at: &mut Ahead<'_>,
     depth: u32,

@@ -97,7 +97,7 @@ fn read_use_word(alloc: Global, at: &mut Ahead<'_>) -> Result<Found<UseEnd>, Rea
 
 /// What follows a word: `as` and another name, or nothing of a use tree.
 #[tactic(auto, unfolding(lay_node::specs::reader::Use::renamed))]
-pub fn read_rename(alloc: Global, at: &mut Ahead<'_>) -> Result<Option<GivenName>, ReadNone>
+pub(crate) fn read_rename(alloc: Global, at: &mut Ahead<'_>) -> Result<Option<GivenName>, ReadNone>
     ensures { IsGot (reader.renamed at.old) result at.new }
 {
     if !takes_keyword(at, b"as") {

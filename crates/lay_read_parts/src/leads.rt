@@ -110,28 +110,28 @@ pub fn begins_bound(at: &Ahead<'_>) -> bool
 }
 
 /// Whether a predicate of a where clause begins at the front.
-pub fn begins_predicate(at: &Ahead<'_>) -> bool
+pub(crate) fn begins_predicate(at: &Ahead<'_>) -> bool
     ensures { result ≡ begins.begins_predicate at.now }
 {
     is_at_lifetime(at) || lead_at(at).is_some()
 }
 
 /// Whether a parameter of a function type begins at the front.
-pub fn begins_param(at: &Ahead<'_>) -> bool
+pub(crate) fn begins_param(at: &Ahead<'_>) -> bool
     ensures { result ≡ reader.begins_param at.now }
 {
     !(is_at_closer(at, Delim::Paren) || at.op_is(b"..."))
 }
 
 /// Whether a parameter of a function begins at the front.
-pub fn begins_fn_param(at: &Ahead<'_>) -> bool
+pub(crate) fn begins_fn_param(at: &Ahead<'_>) -> bool
     ensures { result ≡ functions.begins_fn_param at.now }
 {
     !is_at_closer(at, Delim::Paren)
 }
 
 /// Whether a field in the pattern of a struct begins at the front.
-pub fn begins_field(at: &Ahead<'_>) -> bool
+pub(crate) fn begins_field(at: &Ahead<'_>) -> bool
     ensures { result ≡ patterns.begins_field at.now }
 {
     !(is_at_closer(at, Delim::Brace) || at.op_is(b".."))

@@ -10,7 +10,7 @@ use lay_token::word::{Class, word_class};
 
 /// Whether the pattern is a name that is bound, with nothing behind it.
 #[tactic(auto, using(crate::proofs::Steps::short_is))]
-pub fn is_short(pat: &Pat) -> bool
+pub(crate) fn is_short(pat: &Pat) -> bool
     ensures { result ≡ (about_pat pat.now).short }
 {
     match pat {
@@ -21,7 +21,7 @@ pub fn is_short(pat: &Pat) -> bool
 
 /// Whether the pattern is a span.
 #[tactic(auto, using(crate::proofs::Steps::span_is))]
-pub fn is_span(pat: &Pat) -> bool
+pub(crate) fn is_span(pat: &Pat) -> bool
     ensures { result ≡ (about_pat pat.now).span }
 {
     matches!(pat, Pat::Span { .. })
@@ -36,7 +36,7 @@ pub fn is_rest(pat: &Pat) -> bool
 }
 
 /// The word that the path is, without arguments.
-pub fn lone_word(path: &Path) -> Option<&Word>
+pub(crate) fn lone_word(path: &Path) -> Option<&Word>
     ensures { option_copied result ≡ types.lone_word path.now }
 {
     if !matches!(path.start, PathStart::Local) {

@@ -100,7 +100,7 @@ impl<'a> Ahead<'a> {
     }
 
     /// Moves past the token tree at the front, and gives its tokens: one token, or a group with its delimiters.
-    pub fn tree(&mut self) -> &'a [Token]
+    pub(crate) fn tree(&mut self) -> &'a [Token]
         requires { IsTrue (begins_tree self.old) }
         ensures whole { self.old ≡ result.now ++ self.new }
         ensures tree { AreTree result.now }

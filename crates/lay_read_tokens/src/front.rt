@@ -115,7 +115,7 @@ pub fn takes_mark(at: &mut Ahead<'_>, character: &[u8]) -> bool
 }
 
 /// Whether an opener stands at the front.
-pub fn is_at_opener(at: &Ahead<'_>) -> bool
+pub(crate) fn is_at_opener(at: &Ahead<'_>) -> bool
     ensures { result ≡ first begins_group at.now }
 {
     match at.peek(0) {

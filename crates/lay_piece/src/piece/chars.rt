@@ -88,7 +88,7 @@ impl CharSet {
 
     /// Whether the text begins with one of its characters.
     #[inline(always)]
-    pub fn begins(self, s: &str) -> bool
+    pub(crate) fn begins(self, s: &str) -> bool
         ensures { result ≡ begins (in_set self) (chars s.now) }
     {
         match first(s) {
