@@ -1,5 +1,6 @@
 -- The nodes, a family a file. Each says what is well formed, which form it has, and what may not follow.
 pub mod Places
+pub mod PlacesTable
 pub mod CodeFacts
 pub mod Ends
 pub mod Parts

@@ -1,5 +1,5 @@
 //! What holds of every expression, item and file.
-ghost use Rattle.std.specs.Prelude.{◌≡◌, ℕ, List, Ok, IsTrue};
+ghost use Rattle.std.specs.Prelude.{◌≡◌, ◌||◌, ◌∷◌, ℕ, Bool, List, Option, Some, Ok, IsTrue};
 ghost use Rattle.lay_token.specs.Source.{Source, source};
 ghost use Rattle.lay_token.specs.declared.token.Token.{Token};
 ghost use Rattle.lay_node.specs.nodes.Facts.{Front};
@@ -8,12 +8,16 @@ ghost use Rattle.lay_node.specs.declared.heads.Site.{Site};
 ghost use Rattle.lay_code.specs.Reading.{SpellsFile};
 ghost use Rattle.lay_code.specs.Written.{is_good_shebang};
 ghost use Rattle.lay_code.specs.nodes.Code.{about_expr, about_item};
-ghost use Rattle.lay_code.specs.nodes.Exprs.{ExprFront};
+ghost use Rattle.lay_code.specs.nodes.Exprs.{ExprFacts, ExprFront, expr_facts, is_open, is_typed, may, placed};
+ghost use Rattle.lay_code.specs.nodes.PlacesTable.{AssignRow, ByRoot, ChainRow, Iff, RangeRow, UnaryRow};
 ghost use Rattle.lay_code.specs.reader.Code.{expr_at, item_at};
+ghost use Rattle.lay_code.specs.declared.blocks.Stmt.TheOpen.{Expr-F};
 ghost use Rattle.lay_code.specs.declared.exprs.Expr.{Expr};
 ghost use Rattle.lay_code.specs.declared.exprs.Place.{Place};
 ghost use Rattle.lay_code.specs.declared.file.File.{File};
 ghost use Rattle.lay_code.specs.declared.item.Item.{Item};
+ghost use Rattle.lay_code.specs.declared.operators.Op.{Op};
+ghost use Rattle.lay_code.specs.declared.operators.Prefix.{Prefix};
 
 /// The functions that read expressions and items read exactly what stands at the front of the tokens; and the shebang line of
 /// each source is one that a file may have.
@@ -21,6 +25,25 @@ pub fn reading_law()
     ensures exprs { (place : Place) → Exact (expr_at place) (λ (x : Expr). ExprFront place (about_expr x)) }
     ensures items { (site : Site) → Exact (item_at site) (λ (x : Item). Front (about_item site x)) }
     ensures good_shebang { (bytes : List ℕ) (from : Source) → source bytes ≡ Ok from → IsTrue (is_good_shebang from.shebang) }
+{}
+
+/// The table of the places of expressions. A place where an operator follows asks that of each expression that ends where the
+/// node ends: the definitions ask it of what the node ends in, and this table hands it down to the last child.
+pub fn places_law()
+    ensures unary { (place : Place) (ops : List Prefix) (operand : ExprFacts)
+        → Iff (IsTrue (placed (expr_facts (Expr-F.Unary ops operand)) place))
+        (IsTrue (may (expr_facts (Expr-F.Unary ops operand)) place) × UnaryRow place ops operand) }
+    ensures range { (place : Place) (start : Option ExprFacts) (inclusive : Bool) (end : ExprFacts)
+        → Iff (IsTrue (placed (expr_facts (Expr-F.Range start inclusive (Some end))) place))
+        (IsTrue (may (expr_facts (Expr-F.Range start inclusive (Some end))) place) × RangeRow place start end) }
+    ensures assign { (place : Place) (targets : List (ExprFacts × Op)) (value : ExprFacts)
+        → Iff (IsTrue (placed (expr_facts (Expr-F.Assign targets value)) place))
+        (IsTrue (may (expr_facts (Expr-F.Assign targets value)) place) × AssignRow place targets value) }
+    ensures chain { (place : Place) (first : ExprFacts) (next : Op × ExprFacts) (more : List (Op × ExprFacts))
+        → Iff (IsTrue (placed (expr_facts (Expr-F.Chain first (next ∷ more))) place))
+        (IsTrue (may (expr_facts (Expr-F.Chain first (next ∷ more))) place) × ChainRow place first next more) }
+    ensures others { (place : Place) (node : ExprFacts) → is_open node.tail ≡ (node.jumps || node.endless)
+        → is_typed node.tail ≡ node.typed → ByRoot place node }
 {}
 
 /// At most one expression or item and one count of tokens fit at a place, and one file a list of tokens.

@@ -20,7 +20,7 @@ pub use blocks::{Arm, Block, Branch, Stmt};
 pub use exprs::{ClosureParam, Expr, FieldExpr, Place, Start, Step};
 pub use file::File;
 pub use item::{Item, ItemKind};
-pub use laws::{node_law, reading_law};
+pub use laws::{node_law, places_law, reading_law};
 pub use lay_node::{
     Abi, Alias, Arg, Args, Attr, Binder, Bound, Boxed, ConstArg, ConstDefault, Constraint, Enum,
     ExternCrate, Field, FieldPat, Fields, FnHead, FuncParam, GenericParam, Generics, GivenName,

@@ -1,5 +1,5 @@
 -- What stands at the front, as what an item is.
-use Rattle.std.proofs.Common.{◌≡◌, ℕ, zero, suc, ◌-◌, ◌<◌, inl, inr, true, false, [], ◌∷◌, codes, Some, None, Ok, Err, Result, refl, arith}
+use Rattle.std.proofs.Common.{◌≡◌, ℕ, zero, suc, ◌-◌, ◌<◌, inl, inr, true, false, [], ◌∷◌, codes, Some, None, Ok, Err, Result, refl, ap, ◌∙◌, arith}
 use Rattle.std.proofs.lemmas.Bool.{and_parts}
 use Rattle.lay_token.specs.declared.token.Token.{Token}
 use Rattle.lay_token.proofs.Deciding.{bytes_same}
@@ -48,13 +48,13 @@ module _ {A : Type 0} (make : A → ItemKind) (about : A → Told) (one : PatWit
         → IsReadAt depth Of ts (Ok (make x)) left
     kind_found x need left h =
         let f = head_found about one exact depth ts l some fork e x need left h in
-        (f.0, f.1, (x, refl, f.2))
+        ((f.0.0, f.0.1, (x, refl, f.0.2)), λ other rest o. let s = f.1 o.2.0 rest (o.0, o.1, o.2.2) in (o.2.1 ∙ ap make s.0, s.1))
 
 -- ---- a node without nodes within it
 
 module _ {A : Type 0} (make : A → ItemKind) (about : A → Told) (ts left : Tokens) where
   pub free_found : (x : A) → IsRead (λ x. ToldFront (about x)) ts (Ok x) left → IsRead (OfKind make about) ts (Ok (make x)) left
-  free_found x h = (h.0, h.1, (x, refl, h.2))
+  free_found x h = ((h.0.0, h.0.1, (x, refl, h.0.2)), λ other rest o. let s = h.1 o.2.0 rest (o.0, o.1, o.2.2) in (o.2.1 ∙ ap make s.0, s.1))
 
   pub free_none : (none : ReadNone) → IsRead (λ x. ToldFront (about x)) ts (Err none) left → IsRead (OfKind make about) ts (Err none) left
   free_none NoReading h = (h.0, λ k n f. h.1 f.0 n f.2)
@@ -98,7 +98,13 @@ module _ (depth : ℕ) (ts left : Tokens) where
 
   pub struct_front : first (is_keyword (codes "union")) ts ≡ false → (r : Result ItemKind ReadNone) → IsReadAt depth AStruct ts r left
       → IsReadAt depth StructFront ts r left
-  struct_front u (Ok k) h = (h.0, h.1, inl h.2)
+  struct_front u (Ok k) h = (
+    (h.0.0, h.0.1, inl h.0.2),
+    λ other rest o. elim o.2 [
+      | inl s ↦ h.1 other rest (o.0, o.1, s)
+      | inr x ↦ absurd (nothing_there (λ x. headed (about_union x)) (λ w ts. union w.kinds ts) unions_exact ts (λ w. no_union ts w.kinds u) x.0 o.0 depth x.2)
+    ],
+  )
   struct_front u (Err NoReading) h = (
     h.0,
     λ k n f. elim f [
@@ -110,7 +116,13 @@ module _ (depth : ℕ) (ts left : Tokens) where
 
   pub union_front : first (is_keyword (codes "union")) ts ≡ true → (r : Result ItemKind ReadNone) → IsReadAt depth AUnion ts r left
       → IsReadAt depth StructFront ts r left
-  union_front u (Ok k) h = (h.0, h.1, inr h.2)
+  union_front u (Ok k) h = (
+    (h.0.0, h.0.1, inr h.0.2),
+    λ other rest o. elim o.2 [
+      | inl s ↦ absurd (nothing_there (λ x. headed (about_struct x)) (λ w ts. struct w.kinds ts) structs_exact ts (λ w. no_struct ts w.kinds u) s.0 o.0 depth s.2)
+      | inr x ↦ h.1 other rest (o.0, o.1, x)
+    ],
+  )
   union_front u (Err NoReading) h = (
     h.0,
     λ k n f. elim f [

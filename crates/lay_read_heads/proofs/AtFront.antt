@@ -61,7 +61,11 @@ module _ (depth : ℕ) (ts : Tokens) where
 
   pub trait_found : (x : TraitHead × (Bool × Bool)) (left : Tokens) → IsReadAt depth Flagged ts (Ok x) left
       → IsReadAt depth TraitHeadFront ts (Ok x.0) left
-  trait_found x left h = (h.0, h.1, (x.1.0, x.1.1, h.2))
+  trait_found x left h = (
+    (h.0.0, h.0.1, (x.1.0, x.1.1, h.0.2)),
+    λ other rest o.
+        let s = h.1 (other, (o.2.0, o.2.1)) rest (o.0, o.1, o.2.2) in (ap (λ (y : TraitHead × (Bool × Bool)). y.0) s.0, s.1),
+  )
 
   pub trait_none : (none : ReadNone) (left : Tokens) → IsReadAt depth Flagged ts (Err none) left
       → IsReadAt depth TraitHeadFront ts (Err none) left

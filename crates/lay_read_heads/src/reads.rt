@@ -4,13 +4,12 @@ ghost use Rattle.lay_node.specs.nodes.Functions.{about_fn_head};
 ghost use Rattle.lay_node.specs.nodes.Heads.{TraitHeadFront, about_impl_head, about_value_head};
 ghost use Rattle.lay_node.specs.nodes.Use.{about_use};
 ghost use Rattle.lay_node.specs.nodes.Vis.{about_vis};
-ghost use Rattle.lay_node.specs.reader.Vis.{visibility};
 ghost use Rattle.lay_node.specs.declared.functions.FnHead.{FnHead as FnHeadValue};
 ghost use Rattle.lay_node.specs.declared.heads.ImplHead.{ImplHead as ImplHeadValue};
 ghost use Rattle.lay_node.specs.declared.heads.ValueHead.{ValueHead as ValueHeadValue};
 ghost use Rattle.lay_node.specs.declared.use_tree.UseTree.{UseTree as UseTreeValue};
 ghost use Rattle.lay_node.specs.declared.vis.Vis.{Vis as VisValue};
-ghost use Rattle.lay_read_tokens.specs.Answers.{AreLexed, IsGot, IsRead};
+ghost use Rattle.lay_read_tokens.specs.Answers.{AreLexed, IsRead};
 ghost use Rattle.lay_read_parts.specs.Answers.{IsReadAt};
 
 use lay_code::{FnHead, ImplHead, Site, TraitHead, UseTree, ValueHead, Vis};
@@ -25,8 +24,7 @@ use std::alloc::Global;
 /// The visibility at the front, which may be nothing. Where it can't be read the cursor stays.
 pub fn read_vis(alloc: Global, at: &mut Cursor<'_>) -> Result<Vis, ReadNone>
     requires { AreLexed at.old }
-    ensures got { IsGot (visibility at.old) result at.new }
-    ensures read { IsRead (λ (x : VisValue). ToldFront (about_vis x)) at.old result at.new }
+    ensures { IsRead (λ (x : VisValue). ToldFront (about_vis x)) at.old result at.new }
 {
     let mut ahead = Ahead::new(at.fork());
     let vis = vis_ahead(alloc, &mut ahead)?;

@@ -11,6 +11,7 @@ use Rattle.lay_read_tokens.specs.Answers.{AreLexed, Stopped}
 use Rattle.lay_read_tokens.specs.declared.stop.ReadNone.{ReadNone}
 use Rattle.lay_read_tokens.specs.declared.stop.ReadNone.TheVariants.{NoReading, NoMemory}
 use Rattle.lay_read_tokens.proofs.Lexed.{lexed_in_text}
+use Rattle.lay_read_tokens.proofs.Lists.{some_is}
 use Rattle.lay_read_parts.specs.Answers.{IsReadAt}
 
 -- What stands at the front at a depth stands there at each greater one.
@@ -24,8 +25,14 @@ module _ {A : Type 0} (one : ℕ → Tokens → Read A) (Front : A → Tokens �
   pub node_read : (node : A) (need : ℕ) (left : Tokens) → one depth fork ≡ Some ((node, need), left)
       → IsReadAt depth Front ts (Ok node) left
   node_read node need left h =
-      let s = exact.sound depth ts node need left (lexed_in_text ts l) (ap (one depth) (sym e) ∙ h) in
-      (s.0, sym s.1, lift node ts s.0 need depth s.2 s.3)
+      let here : one depth ts ≡ Some ((node, need), left) = ap (one depth) (sym e) ∙ h in
+      let s = exact.sound depth ts node need left (lexed_in_text ts l) here in (
+        (s.0, sym s.1, lift node ts s.0 need depth s.2 s.3),
+        λ other rest o.
+            let c = exact.complete other ts o.0 depth o.2 depth (omega arith) in
+            let same = some_is {A = (A × ℕ) × Tokens} ((other, c.0), drop o.0 ts) ((node, need), left) (sym c.2 ∙ here) in
+            (ap (λ (x : (A × ℕ) × Tokens). x.0.0) same, o.1 ∙ ap (λ (x : (A × ℕ) × Tokens). x.1) same),
+      )
 
   pub none_read : (none : ReadNone) → Stopped (one depth fork) none → IsReadAt depth Front ts (Err none) ts
   none_read NoReading h =
@@ -59,7 +66,10 @@ module _ {A : Type 0} (At : Bool → A → Tokens → ℕ → ℕ → Type 0) (d
 
   pub either_read : (node : A) (flag : Bool) (left : Tokens)
       → IsReadAt depth (λ (x : A × Bool) us n d. At x.1 x.0 us n d) ts (Ok (node, flag)) left → IsReadAt depth Either ts (Ok node) left
-  either_read node flag left h = (h.0, h.1, (flag, h.2))
+  either_read node flag left h = (
+    (h.0.0, h.0.1, (flag, h.0.2)),
+    λ other rest o. let s = h.1 (other, o.2.0) rest (o.0, o.1, o.2.1) in (ap (λ (x : A × Bool). x.0) s.0, s.1),
+  )
 
   pub either_none : (none : ReadNone) (left : Tokens)
       → IsReadAt depth (λ (x : A × Bool) us n d. At x.1 x.0 us n d) ts (Err none) left → IsReadAt depth Either ts (Err none) left

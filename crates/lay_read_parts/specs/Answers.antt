@@ -10,7 +10,7 @@ use Rattle.lay_node.specs.reader.Patterns.{begins_field}
 use Rattle.lay_node.specs.reader.Types.{begins_param}
 use Rattle.lay_node.specs.declared.token.Literal.{Literal}
 use Rattle.lay_read_tokens.proofs.Left.{Leaves}
-use Rattle.lay_read_tokens.specs.Answers.{IsFound}
+use Rattle.lay_read_tokens.specs.Answers.{IsFound, IsSole, StandsBefore}
 use Rattle.lay_read_tokens.specs.declared.found.Found.{Found}
 use Rattle.lay_read_tokens.specs.declared.stop.ReadNone.{ReadNone}
 use Rattle.lay_read_tokens.specs.declared.stop.ReadNone.TheVariants.{NoReading, NoMemory}
@@ -73,9 +73,9 @@ gathered_open got = do xs ← got; Some (((nodes xs.0.0, xs.0.1), deepest xs.0.0
 
 -- ---- what stands at the front
 
--- What a reader of a node answers. Where it reads one, the node stands at the front at this depth and the cursor moves
--- past it; where it doesn't, none stands there, or memory ran out, and the cursor stays.
+-- What a reader of a node answers. Where it reads one, the node stands at the front at this depth, no other does, and the
+-- cursor moves past it; where it doesn't, none stands there, or memory ran out, and the cursor stays.
 abbrev pub IsReadAt : {A : Type 0} → ℕ → (A → Tokens → ℕ → ℕ → Type 0) → Tokens → Result A ReadNone → Tokens → Type 0
-IsReadAt depth Front ahead (Ok node) left = (n : ℕ) × (left ≡ drop n ahead) × Front node ahead n depth
+IsReadAt depth Front ahead (Ok node) left = StandsBefore Front depth ahead node left × IsSole (StandsBefore Front depth ahead) node left
 IsReadAt {A} depth Front ahead (Err NoReading) left = (left ≡ ahead) × ((node : A) (n : ℕ) → Front node ahead n depth → ⊥)
 IsReadAt depth Front ahead (Err NoMemory) left = left ≡ ahead

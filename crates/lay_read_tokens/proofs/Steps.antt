@@ -55,8 +55,14 @@ module _ {A : Type 0} (one : Tokens → Got A) (Front : A → Tokens → ℕ →
   pub node_read : (node : A) (left : Tokens) → one fork ≡ Some (node, left) → IsRead Front ts (Ok node) left
   node_read node left h =
       let here : one ts ≡ Some (node, left) = ap one (sym e) ∙ h in
-      let s = exact.sound 0 ts node 0 left (lexed_in_text ts l) (rw here refl) in
-      (s.0, sym s.1, s.3)
+      let read : needless one 0 ts ≡ Some ((node, 0), left) = rw here refl in
+      let s = exact.sound 0 ts node 0 left (lexed_in_text ts l) read in (
+        (s.0, sym s.1, s.3),
+        λ other rest o.
+            let c = exact.complete other ts o.0 0 o.2 0 (omega arith) in
+            let same = some_is {A = (A × ℕ) × Tokens} ((other, c.0), drop o.0 ts) ((node, 0), left) (sym c.2 ∙ read) in
+            (ap (λ (x : (A × ℕ) × Tokens). x.0.0) same, o.1 ∙ ap (λ (x : (A × ℕ) × Tokens). x.1) same),
+      )
 
   pub none_read : (none : ReadNone) → Stopped (one fork) none → IsRead Front ts (Err none) ts
   none_read NoReading h =

@@ -58,12 +58,36 @@ IsFound read (Err none) left = Stopped read none
 abbrev pub AreFound : {A : Type 0} → List (A × ℕ) → Found (List A) → Type 0
 AreFound read found = (nodes read ≡ found.node) × (deepest read ≡ found.need)
 
--- What a reader of a node answers. Where it reads one, the node stands at the front and the cursor moves past it; where
--- it doesn't, none stands there, or memory ran out, and the cursor stays.
+-- The node stands at the front at this depth, and this is what follows it.
+abbrev pub StandsBefore : {A : Type 0} → (A → Tokens → ℕ → ℕ → Type 0) → ℕ → Tokens → A → Tokens → Type 0
+StandsBefore Front depth ahead node left = (n : ℕ) × (left ≡ drop n ahead) × Front node ahead n depth
+
+-- What stands there is this alone, and only this follows it.
+abbrev pub IsSole : {A : Type 0} → (A → Tokens → Type 0) → A → Tokens → Type 0
+IsSole {A} Stands node left = (other : A) (rest : Tokens) → Stands other rest → (other ≡ node) × (rest ≡ left)
+
+-- What a reader of a node answers. Where it reads one, the node stands at the front, no other does, and the cursor moves
+-- past it; where it doesn't, none stands there, or memory ran out, and the cursor stays.
 abbrev pub IsRead : {A : Type 0} → (A → Tokens → ℕ → ℕ → Type 0) → Tokens → Result A ReadNone → Tokens → Type 0
-IsRead Front ahead (Ok node) left = (n : ℕ) × (left ≡ drop n ahead) × Front node ahead n 0
+IsRead Front ahead (Ok node) left = StandsBefore Front 0 ahead node left × IsSole (StandsBefore Front 0 ahead) node left
 IsRead {A} Front ahead (Err NoReading) left = (left ≡ ahead) × ((node : A) (n : ℕ) → Front node ahead n 0 → ⊥)
 IsRead Front ahead (Err NoMemory) left = left ≡ ahead
+
+-- The nodes stand at the front one behind the other, and this is what follows them.
+abbrev pub StandInRow : {A : Type 0} → (A → Tokens → ℕ → ℕ → Type 0) → Tokens → List A → Tokens → Type 0
+StandInRow Front ahead [] left = left ≡ ahead
+StandInRow Front ahead (node ∷ nodes) left = (rest : Tokens) × StandsBefore Front 0 ahead node rest × StandInRow Front rest nodes left
+
+-- The same, and none begins behind them.
+abbrev pub AreAll : {A : Type 0} → (A → Tokens → ℕ → ℕ → Type 0) → (Tokens → Bool) → Tokens → List A → Tokens → Type 0
+AreAll Front begins ahead nodes left = StandInRow Front ahead nodes left × IsFalse (begins left)
+
+-- What a reader of nodes in a row answers. Where it reads them, they stand at the front and none begins behind them, no others
+-- do, and the cursor moves past them; where it doesn't, no such nodes stand there, or memory ran out, and the cursor stays.
+abbrev pub AreRead : {A : Type 0} → (A → Tokens → ℕ → ℕ → Type 0) → (Tokens → Bool) → Tokens → Result (List A) ReadNone → Tokens → Type 0
+AreRead Front begins ahead (Ok nodes) left = AreAll Front begins ahead nodes left × IsSole (AreAll Front begins ahead) nodes left
+AreRead {A} Front begins ahead (Err NoReading) left = (left ≡ ahead) × ((nodes : List A) (rest : Tokens) → AreAll Front begins ahead nodes rest → ⊥)
+AreRead Front begins ahead (Err NoMemory) left = left ≡ ahead
 
 -- What a reader holds in its own way is what reading gives.
 abbrev pub IsHeld : {A B : Type 0} → (A → B → Type 0) → Got A → Result B ReadNone → Tokens → Type 0

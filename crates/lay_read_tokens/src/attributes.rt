@@ -1,5 +1,5 @@
 //! Attributes and documentation.
-ghost use Rattle.std.specs.Prelude.{◌≡◌, if◌then◌else◌, OnErr, Some, None};
+ghost use Rattle.std.specs.Prelude.{◌≡◌, if◌then◌else◌, Some, None};
 ghost use Rattle.std.specs.Str.{chars};
 ghost use Rattle.lay_cook.specs.Cooking.{IsString};
 ghost use Rattle.lay_piece.specs.Value.{value_of};
@@ -9,7 +9,7 @@ ghost use Rattle.lay_node.specs.nodes.Attr.{about_attr, is_doc_path};
 ghost use Rattle.lay_node.specs.nodes.Facts.{Front};
 ghost use Rattle.lay_node.specs.reader.Attr as reader;
 ghost use Rattle.lay_node.specs.declared.attr.Attr.{Attr};
-ghost use Rattle.lay_read_tokens.specs.Answers.{AreLexed, IsGot, IsMade, IsRead, doc_text, doc_value, front_doc};
+ghost use Rattle.lay_read_tokens.specs.Answers.{AreLexed, AreRead, IsGot, IsMade, IsRead, doc_text, doc_value, front_doc};
 ghost use Rattle.lay_read_tokens.specs.Answers.{closed, meta_closed, meta_rest, value_behind};
 
 use crate::ahead::Ahead;
@@ -26,11 +26,10 @@ use lay_node::{Attr, MetaInput, MetaPath};
 use lay_token::{Delim, Kind, List, NoMemory, Text, Token};
 use std::alloc::Global;
 
-/// The attributes at the front: inner ones, or outer ones. Where one can't be read the cursor stays.
+/// All the attributes at the front: inner ones, or outer ones. Where one that begins there can't be read the cursor stays.
 pub fn read_attrs(alloc: Global, at: &mut Cursor<'_>, inner: bool) -> Result<List<Attr>, ReadNone>
     requires { AreLexed at.old }
-    ensures got { IsGot (reader.attributes inner at.old) result at.new }
-    ensures back { OnErr result (at.new ≡ at.old) }
+    ensures { AreRead (λ (attr : Attr). Front (about_attr inner attr)) (reader.begins_attr inner) at.old result at.new }
 {
     let mut ahead = Ahead::new(at.fork());
     let attrs = attrs_ahead(alloc, &mut ahead, inner)?;
@@ -41,8 +40,7 @@ pub fn read_attrs(alloc: Global, at: &mut Cursor<'_>, inner: bool) -> Result<Lis
 /// The attribute at the front, an inner one or an outer one. Where there is none the cursor stays.
 pub fn read_attr(alloc: Global, at: &mut Cursor<'_>, inner: bool) -> Result<Attr, ReadNone>
     requires { AreLexed at.old }
-    ensures got { IsGot (reader.attribute inner at.old) result at.new }
-    ensures read { IsRead (λ (attr : Attr). Front (about_attr inner attr)) at.old result at.new }
+    ensures { IsRead (λ (attr : Attr). Front (about_attr inner attr)) at.old result at.new }
 {
     let mut ahead = Ahead::new(at.fork());
     let attr = attr_ahead(alloc, &mut ahead, inner)?;

@@ -19,8 +19,7 @@ use std::alloc::Global;
 /// The macro call at the front. Where there is none the cursor stays.
 pub fn read_call(alloc: Global, at: &mut Cursor<'_>) -> Result<MacroCall, ReadNone>
     requires { AreLexed at.old }
-    ensures got { IsGot (reader.call at.old) result at.new }
-    ensures read { IsRead (λ (call : MacroCall). Front (about_call call)) at.old result at.new }
+    ensures { IsRead (λ (call : MacroCall). Front (about_call call)) at.old result at.new }
 {
     let mut ahead = Ahead::new(at.fork());
     let call = call_ahead(alloc, &mut ahead)?;

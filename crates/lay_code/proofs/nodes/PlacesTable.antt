@@ -24,19 +24,13 @@ use Rattle.lay_code.specs.Operators.{op_level, is_angle_op, strength}
 use Rattle.lay_code.specs.nodes.Exprs.{StepFacts, Tail, ExprFacts, shut, shut_by, is_open, is_typed, is_field, may, stands, placed, root_follows, tail_follows, follows, expr_facts, ends_in_amp, is_prefix_lead, begins_free, start_placed, targets_placed, is_chain_level, may_chain, operands_placed, tail_of_operands, tail_of_steps, lacks_args}
 use Rattle.lay_code.specs.nodes.CodeFacts.{ArmFacts, BlockFacts, BranchFacts}
 use Rattle.lay_code.specs.nodes.Places.{plain, before_op, begins, is_part, is_whole}
+use Rattle.lay_code.specs.nodes.PlacesTable.{AssignRow, ByRoot, ChainRow, Iff, OtherOperands, RangeRow, UnaryRow, as_node}
 use Rattle.lay_code.specs.declared.blocks.Stmt.TheOpen.{Expr-F}
 use Rattle.lay_code.specs.declared.exprs.ClosureParam.{ClosureParam}
 use Rattle.lay_code.specs.declared.exprs.Place.{Place}
 use Rattle.lay_code.specs.declared.exprs.Start.TheVariants as start
 use Rattle.lay_code.specs.declared.operators.Op.{Op}
 use Rattle.lay_code.specs.declared.operators.Prefix.{Prefix}
-
-abbrev Iff : Type 0 → Type 0 → Type 0
-Iff A B = (A → B) × (B → A)
-
--- a place of this level, with the rest as the node's
-abbrev pub as_node : Place → ℕ → Place
-as_node p level = record { level = level; no_struct = p.no_struct; start = start.No; op_after = p.op_after; lt_after = p.lt_after }
 
 -- ---- the five rules of a place
 
@@ -112,7 +106,7 @@ module _ (p : Place) (level : ℕ) (x : ExprFacts) where
 
 -- Where a node is as open as its root says, it stands where its root may.
 module _ (p : Place) (x : ExprFacts) (ended : is_open x.tail ≡ (x.jumps || x.endless)) (typed : is_typed x.tail ≡ x.typed) where
-  pub root_row : placed x p ≡ (may x p && x.within p.no_struct (begins p.start))
+  pub root_row : ByRoot p x
   root_row = rw (ended, typed) refl
 
 -- ---- what ends in a child with the rest as the node's
@@ -155,7 +149,7 @@ module _ (p : Place) (F x : ExprFacts) (level : ℕ) (block : F.block_like ≡ f
 module _ (p : Place) where
   -- Unary: the operand at 12, with the rest as the node's
   pub unary_row : (ps : List Prefix) (x : ExprFacts) → Iff (placed (expr_facts (Expr-F.Unary ps x)) p ≡ true)
-      ((may (expr_facts (Expr-F.Unary ps x)) p ≡ true) × (is_there ps ≡ true) × (placed x (as_node p 12) ≡ true) × (not (is_prefix_lead x.lead) ≡ true))
+      ((may (expr_facts (Expr-F.Unary ps x)) p ≡ true) × UnaryRow p ps x)
   unary_row ps x =
       let F = expr_facts (Expr-F.Unary ps x) in
       let down = stands_down p F x 12 refl refl refl refl refl refl in
@@ -174,8 +168,7 @@ module _ (p : Place) where
 
   -- Range: the end at 2, with the rest as the node's
   pub range_row : (a : Option ExprFacts) (inclusive : Bool) (x : ExprFacts) → Iff (placed (expr_facts (Expr-F.Range a inclusive (Some x))) p ≡ true)
-      ((may (expr_facts (Expr-F.Range a inclusive (Some x))) p ≡ true) × (start_placed a p.no_struct (begins p.start) ≡ true)
-      × (placed x (as_node p 2) ≡ true) × (begins_free p.no_struct x ≡ true))
+      ((may (expr_facts (Expr-F.Range a inclusive (Some x))) p ≡ true) × RangeRow p a x)
   range_row a inclusive x =
       let F = expr_facts (Expr-F.Range a inclusive (Some x)) in
       let begun = start_placed a p.no_struct (begins p.start) in
@@ -195,8 +188,7 @@ module _ (p : Place) where
 
   -- Assign: the value at 1, with the rest as the node's
   pub assign_row : (targets : List (ExprFacts × Op)) (x : ExprFacts) → Iff (placed (expr_facts (Expr-F.Assign targets x)) p ≡ true)
-      ((may (expr_facts (Expr-F.Assign targets x)) p ≡ true) × (is_there targets ≡ true)
-      × (targets_placed targets p.no_struct (begins p.start) ≡ true) × (placed x (as_node p 1) ≡ true))
+      ((may (expr_facts (Expr-F.Assign targets x)) p ≡ true) × AssignRow p targets x)
   assign_row targets x =
       let F = expr_facts (Expr-F.Assign targets x) in
       let before = targets_placed targets p.no_struct (begins p.start) in
@@ -214,17 +206,11 @@ module _ (p : Place) where
       )
 
   -- Chain: the operands behind the first, the last of them with the rest as the node's
-  abbrev pub Others : ℕ → List (Op × ExprFacts) → Type 0
-  Others level [] = Unit {0}
-  Others level (x ∷ []) = ((op_level x.0 == level) ≡ true) × (placed x.1 (as_node p (suc level)) ≡ true)
-  Others level (x ∷ y ∷ more) =
-      ((op_level x.0 == level) ≡ true) × (placed x.1 (before_op (suc level) p.no_struct false (is_angle_op y.0)) ≡ true) × Others level (y ∷ more)
-
   -- what the place asks of the last operand
   abbrev Asked : Tail → Type 0
   Asked t = (not (p.op_after && is_open t) ≡ true) × (not (p.lt_after && is_typed t) ≡ true)
 
-  others_down : (level : ℕ) (os : List (Op × ExprFacts)) → operands_placed level p.no_struct os ≡ true → Asked (tail_of_operands os) → Others level os
+  others_down : (level : ℕ) (os : List (Op × ExprFacts)) → operands_placed level p.no_struct os ≡ true → Asked (tail_of_operands os) → OtherOperands p level os
   others_down level [] h a = tt
   others_down level (x ∷ []) h a =
       let w = and_parts ((op_level x.0 == level) && placed x.1 (plain (suc level) p.no_struct)) true h in
@@ -236,7 +222,7 @@ module _ (p : Place) where
       let v = and_parts (op_level x.0 == level) (placed x.1 place) w.0 in
       (v.0, v.1, others_down level (y ∷ more) w.1 a)
 
-  others_up : (level : ℕ) (o : Op × ExprFacts) (os : List (Op × ExprFacts)) → Others level (o ∷ os)
+  others_up : (level : ℕ) (o : Op × ExprFacts) (os : List (Op × ExprFacts)) → OtherOperands p level (o ∷ os)
       → (operands_placed level p.no_struct (o ∷ os) ≡ true) × Asked (tail_of_operands (o ∷ os))
   others_up level x [] t =
       let c = handed_up p (suc level) x.1 t.1 in
@@ -249,8 +235,7 @@ module _ (p : Place) where
       (and_from ((op_level x.0 == level) && placed x.1 place) (operands_placed level p.no_struct (y ∷ more)) v r.0, r.1)
 
   pub chain_row : (x : ExprFacts) (o : Op × ExprFacts) (more : List (Op × ExprFacts)) → Iff (placed (expr_facts (Expr-F.Chain x (o ∷ more))) p ≡ true)
-      ((may (expr_facts (Expr-F.Chain x (o ∷ more))) p ≡ true) × (is_chain_level (op_level o.0) ≡ true) × (may_chain (op_level o.0) (o ∷ more) ≡ true)
-      × (placed x (before_op (suc (op_level o.0)) p.no_struct (begins p.start) (is_angle_op o.0)) ≡ true) × Others (op_level o.0) (o ∷ more))
+      ((may (expr_facts (Expr-F.Chain x (o ∷ more))) p ≡ true) × ChainRow p x o more)
   chain_row x o more =
       let F = expr_facts (Expr-F.Chain x (o ∷ more)) in
       let level = op_level o.0 in

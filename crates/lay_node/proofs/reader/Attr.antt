@@ -314,11 +314,11 @@ attribute_turn inner depth ts a rest t h =
     let s = attribute_sound inner depth ts a rest t h in (s, texts_behind ts rest (is_end (attr_form a) depth ts rest s.0) t)
 
 pub attributes_sound : (inner : Bool) (depth : ℕ) (ts : Tokens) (attrs : List Attr) (rest : Tokens) → InText ts → attributes inner ts ≡ Some (attrs, rest)
-    → Rows (GoodAt (about_attr inner) depth) attrs ts rest × InText rest
+    → Rows (GoodAt (about_attr inner) depth) attrs ts rest × InText rest × (begins_attr inner rest ≡ false)
 unfolding attributes
 attributes_sound inner depth ts attrs rest t h =
-    let r = repeat_sound (begins_attr inner) (attribute inner) (GoodAt (about_attr inner) depth)
-    (λ us a left p m g. attribute_turn inner depth us a left p g) ts attrs rest t h in (r.0, r.1)
+    repeat_sound (begins_attr inner) (attribute inner) (GoodAt (about_attr inner) depth)
+    (λ us a left p m g. attribute_turn inner depth us a left p g) ts attrs rest t h
 
 pub attrs_spelled : (inner : Bool) (depth : ℕ) (attrs : List Attr) (ts rest : Tokens) → Rows (GoodAt (about_attr inner) depth) attrs ts rest
     → Rows (SpelledAt depth) (map attr_form attrs) ts rest × (are_attrs inner attrs ≡ true)

@@ -26,7 +26,7 @@ IsRead depth read x ts rest = (need : ℕ) × (need ≤ depth) × (read ts ≡ S
 abbrev pub Complete : {A : Type 0} → (A → Facts) → ℕ → (Tokens → Read A) → Type 0
 Complete {A} about depth read = (x : A) (ts rest : Tokens) → Stands (about x) depth ts rest → IsRead depth read x ts rest
 
-counted : (x : Facts) (depth : ℕ) (ts rest : Tokens) → Stands x depth ts rest → (n : ℕ) × (drop n ts ≡ rest) × Front x ts n depth
+pub counted : (x : Facts) (depth : ℕ) (ts rest : Tokens) → Stands x depth ts rest → (n : ℕ) × (drop n ts ≡ rest) × Front x ts n depth
 counted x depth ts rest s =
     let e = is_end x.form depth ts rest s.0 in
     let n = length e.before in

@@ -8,15 +8,15 @@ use Rattle.lay_node.proofs.reader.Call.{calls}
 use Rattle.lay_read_tokens.proofs.Steps.{node_read, none_read}
 use Rattle.lay_read_tokens.proofs.calls.read_call.Goals as goal
 
-pub returns-in_err-call-clause-read : goal.returns-in_err-call-clause-read
-returns-in_err-call-clause-read c =
+pub returns-in_err-call : goal.returns-in_err-call
+returns-in_err-call c =
     let p = err_from_is_err_and c.from_residual.result c.from_residual.ensures.1 in
     rw (p.1, p.2) (none_read call (λ (x : MacroCall). Front (about_call x)) calls c.args.at.now c.requires
     c.new-ahead.result (c.new-ahead.ensures ∙ c.fork.ensures)
     c.in_err-call.field-0.0 c.in_err-call.ensures)
 
-pub returns-clause-read : goal.returns-clause-read
-returns-clause-read c =
+pub returns : goal.returns
+returns c =
     rw c.into_cursor.ensures (node_read call (λ (x : MacroCall). Front (about_call x)) calls c.args.at.now c.requires c.new-ahead.result
     (c.new-ahead.ensures ∙ c.fork.ensures)
     c.in_ok-call.call c.call_ahead.new.at c.in_ok-call.ensures)
