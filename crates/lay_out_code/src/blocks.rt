@@ -26,7 +26,7 @@ use lay_out_types::{add_attrs, add_pat};
 use lay_stream::Emit;
 
 /// Feeds the layout of a block, whose braces have a leading blank or not.
-pub fn put_block<E: Emit>(out: &mut E, lead: bool, block: &Block) -> Result<(), E::Fault>
+pub fn put_block<E: Emit>(out: &mut E, block: &Block, lead: bool) -> Result<(), E::Fault>
     ensures { Did E.meanings out.old (stream_of ((about_block block.now).form lead)) result out.new }
 {
     add_block(out, Ok(()), lead, block)

@@ -152,7 +152,7 @@ fn code(alloc: Global, row: &str) -> Result<String, NoMemory> {
             alloc,
             text,
             |at| read_block(alloc, at, depth),
-            |out, node| put_block(out, false, node),
+            |out, node| put_block(out, node, false),
         ),
         "stmt" => told(
             alloc,
