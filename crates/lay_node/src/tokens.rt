@@ -1,10 +1,11 @@
 //! Token lists, and what is made of them.
-ghost use Rattle.std.specs.Prelude.{◌≡◌, IsTrue};
-ghost use Rattle.lay_node.specs.tokens.Listing.{is_balanced};
+ghost use Rattle.std.specs.Prelude.{◌≡◌, IsTrue, IfOk, Some, None, if◌then◌else◌, reverse};
+ghost use Rattle.lay_node.specs.tokens.Listing.{is_balanced, kind_of, turned};
 
 use crate::simple_path::SimplePath;
 use crate::token::Listed;
-use lay_token::{Delim, List};
+use lay_token::{Delim, Kind, List, NoMemory};
+use std::alloc::Global;
 use std::marker::Model;
 
 /// A token list (Rust Reference, "Macros": token trees): tokens whose delimiters are balanced, as a flat list.
@@ -34,12 +35,57 @@ impl Tokens {
         Tokens { list }
     }
 
+    /// The list of these tokens, or none where their delimiters aren't balanced.
+    pub fn from_list(alloc: Global, list: List<Listed>) -> Result<Option<Tokens>, NoMemory>
+        ensures { IfOk result (λ tokens. tokens ≡ (if is_balanced list then Some list else None)) }
+    {
+        if are_balanced(alloc, list.as_slice())? {
+            Ok(Some(Tokens { list }))
+        } else {
+            Ok(None)
+        }
+    }
+
     /// All the tokens.
     pub fn as_slice(&self) -> &[Listed]
         ensures tokens { result.now ≡ self.now }
         ensures balanced { IsTrue (is_balanced self.now) }
     {
         self.list.as_slice()
+    }
+}
+
+/// Whether the delimiters of the tokens are balanced.
+fn are_balanced(alloc: Global, tokens: &[Listed]) -> Result<bool, NoMemory>
+    ensures { IfOk result (λ balanced. balanced ≡ is_balanced tokens.now) }
+{
+    let mut open = Vec::new(alloc);
+    for token in tokens {
+        if !turn(&mut open, token)? {
+            return Ok(false);
+        }
+    }
+    Ok(open.is_empty())
+}
+
+/// Opens what a token opens, or closes what it closes, where these delimiters are open before it, the last one last. Answers
+/// whether it may stand there.
+fn turn(open: &mut Vec<Delim>, token: &Listed) -> Result<bool, NoMemory>
+    ensures { IfOk result (λ passes. turned (kind_of token.now) (reverse open.old.items) ≡ (if passes then Some (reverse open.new.items) else None)) }
+{
+    match token {
+        Listed::Token {
+            kind: Kind::Opener(delim),
+            ..
+        } => {
+            open.push(*delim)?;
+            Ok(true)
+        }
+        Listed::Token {
+            kind: Kind::Closer(delim),
+            ..
+        } => Ok(open.pop() == Some(*delim)),
+        _ => Ok(true),
     }
 }
 
