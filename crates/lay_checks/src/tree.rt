@@ -1,8 +1,10 @@
-//! Boxes of a type that holds boxes of its own.
+//! Boxes of a type that holds boxes of its own, and which tokens are a token list.
 ghost use Rattle.std.specs.Prelude.{◌≡◌, IfOk};
 
-use lay_node::Boxed;
-use lay_token::NoMemory;
+use crate::each::each_holds;
+use lay_given::{BETWEEN, parts, tokens};
+use lay_node::{Boxed, Listed, Tokens};
+use lay_token::{List, NoMemory, Text};
 use std::alloc::Global;
 use std::test::Fail;
 
@@ -56,4 +58,35 @@ fn links(rt: HostRuntime) -> Result<(), Fail> {
     }
     assert!(rt; matches!(chain, Chain::End));
     Ok(())
+}
+
+/// The tokens of a text, as a list holds them.
+fn listed(alloc: Global, text: &[u8]) -> Option<List<Listed>> {
+    let mut list = List::new(alloc);
+    for token in tokens(alloc, text).ok()?.as_slice() {
+        let text = Text::from_bytes(alloc, token.text.as_bytes()).ok()?;
+        let (kind, joint) = (token.kind, token.joint);
+        list.push(Listed::Token { kind, text, joint }).ok()?;
+    }
+    Some(list)
+}
+
+/// As many of the tokens of a row as stand behind its `→` are in the token list that they make, or they make none.
+fn is_token_list(alloc: Global, row: &str) -> bool {
+    let (text, wanted) = parts(row);
+    let Some(list) = listed(alloc, text.as_bytes()) else {
+        return false;
+    };
+    match Tokens::from_list(alloc, list) {
+        Ok(Some(tokens)) => wanted.parse() == Ok(tokens.as_slice().len()),
+        Ok(None) => wanted == "none",
+        Err(NoMemory) => false,
+    }
+}
+
+#[test]
+fn token_lists(rt: HostRuntime) {
+    let rows =
+        "→0§a→1§()→2§a,(b[{}]c)d→11§(→none§)→none§(]→none§[(])→none§{}}→none§)(→none§[{( )} ]→6";
+    each_holds(&rt, rt.alloc(), rows, BETWEEN, is_token_list);
 }
