@@ -4,4 +4,4 @@ pub mod Lexed
 pub mod Turns
 pub mod Steps
 pub mod Holding
-pub mod Attributes
+pub mod InRow

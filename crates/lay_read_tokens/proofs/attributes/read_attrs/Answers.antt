@@ -1,6 +1,6 @@
 use Rattle.std.proofs.Common.{◌∙◌}
 use Rattle.std.proofs.lemmas.Result.{err_from_is_err_and}
-use Rattle.lay_read_tokens.proofs.Attributes.{all_read, none_read}
+use Rattle.lay_read_tokens.proofs.InRow.{all_read, none_read}
 use Rattle.lay_read_tokens.proofs.attributes.read_attrs.Goals as goal
 
 pub returns-in_err-attrs : goal.returns-in_err-attrs
