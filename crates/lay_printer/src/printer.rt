@@ -271,7 +271,7 @@ impl Core {
     pub fn open_groups(&self) -> u64
         ensures { result ≡ self.now.groups }
     {
-        self.engine.queue.groups
+        self.engine.queue.groups()
     }
 
     /// How many bytes of text were fed and aren't in the sink: no more than the space.
@@ -279,7 +279,7 @@ impl Core {
         ensures value { result ≡ sum_waiting self.now.entries }
         ensures lag { self.now.failed ≡ None → FitSpace self.now result }
     {
-        self.engine.queue.waiting as usize
+        self.engine.queue.waiting() as usize
     }
 
     /// How many tokens wait.
@@ -287,7 +287,7 @@ impl Core {
         ensures value { result ≡ length self.now.entries }
         ensures lockstep { KeepsStep self.now }
     {
-        self.engine.queue.ring.len()
+        self.engine.queue.len()
     }
 
     /// The space, at the least -2^62.
