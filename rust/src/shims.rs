@@ -64,6 +64,11 @@ impl<T> Vec<T> {
     }
 
     #[inline]
+    pub fn as_mut_slice(&mut self) -> &mut [T] {
+        &mut self.0
+    }
+
+    #[inline]
     pub fn pop(&mut self) -> Option<T> {
         self.0.pop()
     }
@@ -148,6 +153,15 @@ impl<T: Copy> Vec<T> {
             self.reserve(items.len())?;
         }
         self.0.extend_from_slice(items);
+        Ok(())
+    }
+
+    /// Makes the vector so many items long, of which those that it hadn't are this one.
+    pub fn resize(&mut self, count: usize, item: T) -> Result<(), AllocError> {
+        if count > self.0.capacity() {
+            self.reserve(count - self.0.len())?;
+        }
+        self.0.resize(count, item);
         Ok(())
     }
 }

@@ -47,8 +47,8 @@ fn run_over_a_generated_file(rt: HostRuntime) -> Result<(), Fail> {
     runs_over(&rt, alloc, given(alloc, GENERATED)?, LAID.as_bytes())
 }
 
-// 100 structs and one whose name has 40 letters. Texts are copied into room that was taken first, so no memory is asked for behind the first
-// write.
+// The command writes while it lays out: 100 structs stand before one whose name has 40 letters, and the full room for texts is asked for
+// behind that name, when the structs are written.
 #[test]
 fn run_over_a_long_last_name(rt: HostRuntime) -> Result<(), Fail> {
     let alloc = rt.alloc();
@@ -57,7 +57,7 @@ fn run_over_a_long_last_name(rt: HostRuntime) -> Result<(), Fail> {
     runs_over(&rt, alloc, bytes, text.as_slice())
 }
 
-// The command writes while it lays out: memory for the first group is asked for when the items before it are written.
+// Memory for the first group is asked for when the items before it are written.
 #[test]
 fn run_over_a_last_list(rt: HostRuntime) -> Result<(), Fail> {
     let alloc = rt.alloc();

@@ -211,3 +211,8 @@ lag_at Forced least wait p h = cc
 pub lag_of : (es : List Entry) (wait : ℕ) (p : Line) → wait ≡ waiting es → Decided es wait p None → wait ≤ p.room - p.used
 lag_of [] wait p w d = omega arith
 lag_of (e ∷ es) wait p w d = lag_at e.size (least_width e.tok) wait p d
+
+-- where no call has failed, nothing is said of the sink
+pub alone_live : {K : Type 0} {sink sink' : K} (failed : Option PrintError) → failed ≡ None → (e : PrintError) → failed ≡ Some e → sink' ≡ sink
+alone_live None u e h = cc
+alone_live (Some x) u e h = cc

@@ -91,7 +91,7 @@ impl Engine {
     fn waits(&self) -> bool
         ensures { IsTrue result → 0 < length self.now.queue.ring.entries }
     {
-        self.queue.ring.len() > 0
+        self.queue.len() > 0
     }
 
     /// Whether the oldest entry, which wasn't decided, isn't by this token, which came: a text decides it where more
@@ -101,7 +101,7 @@ impl Engine {
         ensures { IsTrue result → MayStay (tok_of tok.entry) self.now.queue.ring.entries self.now.queue.waiting self.now.limit }
     {
         match tok {
-            LentTok::Text(_) => self.queue.waiting <= self.limit,
+            LentTok::Text(_) => self.queue.waiting() <= self.limit,
             LentTok::Break(_) => self.is_open_at_front(),
             _ => true,
         }
@@ -112,7 +112,7 @@ impl Engine {
     fn is_open_at_front(&self) -> bool
         ensures { IsTrue result → IsOpenAtFront self.now.queue.ring.entries }
     {
-        match self.queue.ring.front() {
+        match self.queue.front() {
             Some(entry) => entry.size < 0,
             None => false,
         }
@@ -123,7 +123,7 @@ impl Engine {
     pub fn is_idle(&self) -> bool
         ensures { IsTrue result → self.now.queue.ring.entries ≡ [] }
     {
-        self.queue.ring.len() == 0
+        self.queue.len() == 0
     }
 
     /// A text is fed where nothing waits: it is printed at once.
@@ -248,7 +248,7 @@ impl Engine {
         ensures frames { self.new.page.frames.frames ≡ self.old.page.frames.frames }
         ensures room { room_of self.old ≤ room_of self.new + 1 }
     {
-        let held = self.queue.ring.len();
+        let held = self.queue.len();
         prove!(held < 0x8000_0000_0000_0000);
         let room = self.page.frames.spare();
         prove!(held < room);
@@ -278,13 +278,13 @@ impl Engine {
     fn decide(&self, behind: u64) -> Option<bool>
         ensures { Decided self.now.queue.ring.entries (self.now.queue.waiting + behind) self.now.page.line result }
     {
-        match self.queue.ring.front() {
+        match self.queue.front() {
             None => None,
             Some(entry) => {
                 if entry.size >= 0 {
                     return Some(exceeds(&self.page.line, 0, entry.size as u64));
                 }
-                let waiting = self.queue.waiting.saturating_add(behind);
+                let waiting = self.queue.waiting().saturating_add(behind);
                 if exceeds(&self.page.line, least_width(entry.tok), waiting) {
                     Some(true)
                 } else {
@@ -300,7 +300,7 @@ impl Engine {
         requires { IsUndecided self.now.queue.ring.entries self.now.page.line }
         ensures { IsLimit self.now.queue.ring.entries self.now.page.line result }
     {
-        match self.queue.ring.front() {
+        match self.queue.front() {
             None => 0,
             Some(entry) => self.page.line.room - self.page.line.used - least_width(entry.tok),
         }
@@ -317,14 +317,14 @@ impl Engine {
         ensures loan { SameLoan (K.loan sink.old) (K.loan sink.new) }
     {
         let queue = &self.queue;
-        let texts = queue.ring.texts();
+        let texts = queue.texts();
         if texts.count > 0 {
             let (count, len) = (texts.count, texts.bytes.len());
             let printed = self.page.print_text(sink, texts.bytes);
             self.queue.drop_texts(count, len);
             return printed;
         }
-        let printed = match queue.ring.front() {
+        let printed = match queue.front() {
             Some(entry) => self.page.print(sink, entry.tok, big),
             None => unreachable!(),
         };
@@ -337,7 +337,7 @@ impl Engine {
     pub fn room(&self) -> usize
         ensures { result ≡ room_of self.now }
     {
-        let rooms = self.page.frames.spare() - self.queue.ring.len();
+        let rooms = self.page.frames.spare() - self.queue.len();
         self.queue.room().min(rooms)
     }
 
@@ -366,7 +366,7 @@ impl Engine {
         ensures frames { self.new.page.frames.frames ≡ self.old.page.frames.frames }
         ensures ok { OnOk result (n ≤ room_of self.new) }
     {
-        let Some(frames) = self.queue.ring.len().checked_add(n) else {
+        let Some(frames) = self.queue.len().checked_add(n) else {
             return Err(NoMemory);
         };
         self.page.frames.reserve(frames)?;

@@ -59,6 +59,7 @@ impl<'p, K: Sink> Press<'p, K> {
         ensures did { Did (press_meanings K.written K.faults K.loan) self.old (tok.Text text ∷ []) result self.new }
         ensures room { TakesRoom (lent_core self.old) result (lent_core self.new) }
         ensures same { Repeats (lent_core self.old) result }
+        ensures alone { (e : PrintError) → (lent_core self.old).failed ≡ Some e → lent_sink self.new ≡ lent_sink self.old }
     {
         self.core.text_owned(self.sink, text)
     }
@@ -114,6 +115,7 @@ impl<'p, K: Sink> Emit for Press<'p, K> {
     fn text(&mut self, text: &[u8]) -> Result<(), PrintError>
         ensures did { Did (press_meanings K.written K.faults K.loan) self.old (tok.Text text.now ∷ []) result self.new }
         ensures same { Repeats (lent_core self.old) result }
+        ensures alone { (e : PrintError) → (lent_core self.old).failed ≡ Some e → lent_sink self.new ≡ lent_sink self.old }
     {
         self.core.text(self.sink, text)
     }
@@ -122,6 +124,7 @@ impl<'p, K: Sink> Emit for Press<'p, K> {
         ensures did { Did (press_meanings K.written K.faults K.loan) self.old (tok.Break token ∷ []) result self.new }
         ensures room { TakesRoom (lent_core self.old) result (lent_core self.new) }
         ensures same { Repeats (lent_core self.old) result }
+        ensures alone { (e : PrintError) → (lent_core self.old).failed ≡ Some e → lent_sink self.new ≡ lent_sink self.old }
     {
         self.core.brk(self.sink, token)
     }
@@ -130,6 +133,7 @@ impl<'p, K: Sink> Emit for Press<'p, K> {
         ensures did { Did (press_meanings K.written K.faults K.loan) self.old (tok.Begin consistent offset ∷ []) result self.new }
         ensures room { TakesRoom (lent_core self.old) result (lent_core self.new) }
         ensures same { Repeats (lent_core self.old) result }
+        ensures alone { (e : PrintError) → (lent_core self.old).failed ≡ Some e → lent_sink self.new ≡ lent_sink self.old }
     {
         self.core.begin(self.sink, consistent, offset)
     }
@@ -139,6 +143,7 @@ impl<'p, K: Sink> Emit for Press<'p, K> {
         ensures did { Did (press_meanings K.written K.faults K.loan) self.old (tok.End ∷ []) result self.new }
         ensures room { TakesRoom (lent_core self.old) result (lent_core self.new) }
         ensures same { Repeats (lent_core self.old) result }
+        ensures alone { (e : PrintError) → (lent_core self.old).failed ≡ Some e → lent_sink self.new ≡ lent_sink self.old }
     {
         self.core.end(self.sink)
     }
@@ -203,6 +208,7 @@ impl<K: Sink> Printer<K> {
         ensures did { Did (owner_meanings K.written K.faults K.loan) self.old (tok.Text text ∷ []) result self.new }
         ensures room { TakesRoom self.old.core result self.new.core }
         ensures same { Repeats self.old.core result }
+        ensures alone { (e : PrintError) → self.old.core.failed ≡ Some e → self.new.sink ≡ self.old.sink }
     {
         self.core.text_owned(&mut self.sink, text)
     }
@@ -257,6 +263,7 @@ impl<K: Sink> Emit for Printer<K> {
     fn text(&mut self, text: &[u8]) -> Result<(), PrintError>
         ensures did { Did (owner_meanings K.written K.faults K.loan) self.old (tok.Text text.now ∷ []) result self.new }
         ensures same { Repeats self.old.core result }
+        ensures alone { (e : PrintError) → self.old.core.failed ≡ Some e → self.new.sink ≡ self.old.sink }
     {
         self.core.text(&mut self.sink, text)
     }
@@ -265,6 +272,7 @@ impl<K: Sink> Emit for Printer<K> {
         ensures did { Did (owner_meanings K.written K.faults K.loan) self.old (tok.Break token ∷ []) result self.new }
         ensures room { TakesRoom self.old.core result self.new.core }
         ensures same { Repeats self.old.core result }
+        ensures alone { (e : PrintError) → self.old.core.failed ≡ Some e → self.new.sink ≡ self.old.sink }
     {
         self.core.brk(&mut self.sink, token)
     }
@@ -273,6 +281,7 @@ impl<K: Sink> Emit for Printer<K> {
         ensures did { Did (owner_meanings K.written K.faults K.loan) self.old (tok.Begin consistent offset ∷ []) result self.new }
         ensures room { TakesRoom self.old.core result self.new.core }
         ensures same { Repeats self.old.core result }
+        ensures alone { (e : PrintError) → self.old.core.failed ≡ Some e → self.new.sink ≡ self.old.sink }
     {
         self.core.begin(&mut self.sink, consistent, offset)
     }
@@ -282,6 +291,7 @@ impl<K: Sink> Emit for Printer<K> {
         ensures did { Did (owner_meanings K.written K.faults K.loan) self.old (tok.End ∷ []) result self.new }
         ensures room { TakesRoom self.old.core result self.new.core }
         ensures same { Repeats self.old.core result }
+        ensures alone { (e : PrintError) → self.old.core.failed ≡ Some e → self.new.sink ≡ self.old.sink }
     {
         self.core.end(&mut self.sink)
     }

@@ -83,6 +83,7 @@ impl Core {
     pub fn text<K: Sink>(&mut self, sink: &mut K, text: &[u8]) -> Result<(), PrintError>
         ensures calls { Calls self.old (K.written sink.old) (K.faults sink.old) result self.new (K.written sink.new) (K.faults sink.new) (tok.Text text.now) }
         ensures same { Repeats self.old result }
+        ensures alone { (e : PrintError) → self.old.failed ≡ Some e → sink.new ≡ sink.old }
         ensures loan { SameLoan (K.loan sink.old) (K.loan sink.new) }
     {
         self.put_text(sink, text)
@@ -93,6 +94,7 @@ impl Core {
         ensures calls { Calls self.old (K.written sink.old) (K.faults sink.old) result self.new (K.written sink.new) (K.faults sink.new) (tok.Text text) }
         ensures room { TakesRoom self.old result self.new }
         ensures same { Repeats self.old result }
+        ensures alone { (e : PrintError) → self.old.failed ≡ Some e → sink.new ≡ sink.old }
         ensures loan { SameLoan (K.loan sink.old) (K.loan sink.new) }
     {
         self.put_text(sink, text.as_bytes())
@@ -103,6 +105,7 @@ impl Core {
         ensures calls { Calls self.old (K.written sink.old) (K.faults sink.old) result self.new (K.written sink.new) (K.faults sink.new) (tok.Break brk) }
         ensures room { TakesRoom self.old result self.new }
         ensures same { Repeats self.old result }
+        ensures alone { (e : PrintError) → self.old.failed ≡ Some e → sink.new ≡ sink.old }
         ensures loan { SameLoan (K.loan sink.old) (K.loan sink.new) }
     {
         if self.failed.is_none() && self.engine.is_clear(brk) {
@@ -121,6 +124,7 @@ impl Core {
         ensures calls { Calls self.old (K.written sink.old) (K.faults sink.old) result self.new (K.written sink.new) (K.faults sink.new) (tok.Begin consistent offset) }
         ensures room { TakesRoom self.old result self.new }
         ensures same { Repeats self.old result }
+        ensures alone { (e : PrintError) → self.old.failed ≡ Some e → sink.new ≡ sink.old }
         ensures loan { SameLoan (K.loan sink.old) (K.loan sink.new) }
     {
         self.feed(sink, LentTok::Begin { consistent, offset })
@@ -132,6 +136,7 @@ impl Core {
         ensures calls { Calls self.old (K.written sink.old) (K.faults sink.old) result self.new (K.written sink.new) (K.faults sink.new) (tok.End) }
         ensures room { TakesRoom self.old result self.new }
         ensures same { Repeats self.old result }
+        ensures alone { (e : PrintError) → self.old.failed ≡ Some e → sink.new ≡ sink.old }
         ensures loan { SameLoan (K.loan sink.old) (K.loan sink.new) }
     {
         self.feed(sink, LentTok::End)
@@ -143,6 +148,7 @@ impl Core {
         ensures calls { Calls self.old (K.written sink.old) (K.faults sink.old) result self.new (K.written sink.new) (K.faults sink.new) (tok.Text text.now) }
         ensures room { TakesRoom self.old result self.new }
         ensures same { Repeats self.old result }
+        ensures alone { (e : PrintError) → self.old.failed ≡ Some e → sink.new ≡ sink.old }
         ensures loan { SameLoan (K.loan sink.old) (K.loan sink.new) }
     {
         if let Some(fault) = self.failed {
@@ -220,6 +226,7 @@ impl Core {
         ensures calls { Calls self.old (K.written sink.old) (K.faults sink.old) result self.new (K.written sink.new) (K.faults sink.new) (tok_of tok.entry) }
         ensures room { TakesRoom self.old result self.new }
         ensures same { Repeats self.old result }
+        ensures alone { (e : PrintError) → self.old.failed ≡ Some e → sink.new ≡ sink.old }
         ensures loan { SameLoan (K.loan sink.old) (K.loan sink.new) }
     {
         if let Some(fault) = self.failed {
@@ -271,7 +278,7 @@ impl Core {
     pub fn open_groups(&self) -> u64
         ensures { result ≡ self.now.groups }
     {
-        self.engine.queue.groups
+        self.engine.queue.groups()
     }
 
     /// How many bytes of text were fed and aren't in the sink: no more than the space.
@@ -279,7 +286,7 @@ impl Core {
         ensures value { result ≡ sum_waiting self.now.entries }
         ensures lag { self.now.failed ≡ None → FitSpace self.now result }
     {
-        self.engine.queue.waiting as usize
+        self.engine.queue.waiting() as usize
     }
 
     /// How many tokens wait.
@@ -287,7 +294,7 @@ impl Core {
         ensures value { result ≡ length self.now.entries }
         ensures lockstep { KeepsStep self.now }
     {
-        self.engine.queue.ring.len()
+        self.engine.queue.len()
     }
 
     /// The space, at the least -2^62.

@@ -1,7 +1,7 @@
 //! The scanning side: tokens that wait, with the sizes that are known of them.
 ghost use Rattle.std.specs.Prelude.{◌≡◌, ◌+◌, ◌-◌, ◌%◌, ◌^◌, ◌<◌, ◌≤◌, [], ◌∷◌, length, drop, OnOk, IfOk, IsOk, map, true, false};
 ghost use Rattle.lay_layout.specs.declared.layout.Tok.TheVariants as tok;
-ghost use Rattle.lay_ring.specs.Rows.{AreTexts, size_of, tok_of};
+ghost use Rattle.lay_ring.specs.Rows.{AreTexts, IsFirst, IsRun, size_of, tok_of};
 ghost use Rattle.lay_queue.specs.Closed.{toks_of, sizes_of};
 ghost use Rattle.lay_queue.specs.Scan.{at_end, text_length, size_of_scan, waiting as sum_waiting, cap};
 ghost use Rattle.lay_queue.specs.Notes.{Fits, scans};
@@ -10,23 +10,23 @@ ghost use Rattle.lay_layout.specs.Machine.{IsNested};
 
 use crate::close::{CAP, Note, close};
 use lay_layout::{Break, width_of};
-use lay_ring::{LentTok, Marks, Row, UNKNOWN};
+use lay_ring::{LentEntry, LentTok, Marks, Row, Texts, UNKNOWN};
 use lay_text::NoMemory;
 use std::alloc::Global;
 
 /// Tokens that wait, oldest first, and what is kept of those whose size isn't known.
 #[derive(Drop)]
 pub struct Queue {
-    pub ring: Row,
-    pub notes: Marks<Note>,
+    ring: Row,
+    notes: Marks<Note>,
     /// The width from the newest note on, or the cap where that is less.
-    pub acc: u64,
+    acc: u64,
     /// How many groups are open after all tokens.
-    pub groups: u64,
+    groups: u64,
     /// How many bytes of text wait.
-    pub waiting: u64,
+    waiting: u64,
     /// No more tokens come.
-    pub ended: bool,
+    ended: bool,
     ghost sizes: { sizes_of ring.entries ≡ map size_of_scan (map (at_end ended) (scans (toks_of ring.entries))) },
     ghost fits: { Fits ring.first acc groups groups (map (at_end ended) (scans (toks_of ring.entries))) notes.items },
     ghost acc_small: { acc ≤ cap },
@@ -86,6 +86,47 @@ impl Queue {
             waiting: 0,
             ended: false,
         })
+    }
+
+    /// The oldest token, and its size.
+    #[inline(always)]
+    pub fn front(&self) -> Option<LentEntry<'_>>
+        ensures { IsFirst self.now.ring.entries result }
+    {
+        self.ring.front()
+    }
+
+    /// The texts at the front, as one, up to the first token that is none.
+    #[inline(always)]
+    pub fn texts(&self) -> Texts<'_>
+        ensures { IsRun result.count self.now.ring.entries result.bytes.now }
+    {
+        self.ring.texts()
+    }
+
+    /// How many tokens wait.
+    #[inline(always)]
+    pub fn len(&self) -> usize
+        ensures value { result ≡ length self.now.ring.entries }
+        ensures small { result < 2 ^ 63 }
+    {
+        self.ring.len()
+    }
+
+    /// How many bytes of text wait.
+    #[inline(always)]
+    pub fn waiting(&self) -> u64
+        ensures { result ≡ self.now.waiting }
+    {
+        self.waiting
+    }
+
+    /// How many groups are open after all tokens.
+    #[inline(always)]
+    pub fn groups(&self) -> u64
+        ensures { result ≡ self.now.groups }
+    {
+        self.groups
     }
 
     /// How many tokens may come before memory is taken.

@@ -1,6 +1,6 @@
 -- SmallEntry entries and the bytes of their texts.
-use Rattle.std.proofs.Common.{◌≡◌, ℕ, zero, suc, ◌+◌, ◌-◌, ◌<◌, ◌≤◌, ℤ, pos, List, [], ◌∷◌, ◌++◌, length, take, drop, set, slice_get, Some, None, refl, sym, ap, ap₂, ◌∙◌, subst, length-drop, length-append, arith}
-use Rattle.std.proofs.lemmas.List.{take-append-le, drop-append-le, length-take-le, drop-drop, take-take, drop-take, take-append-drop}
+use Rattle.std.proofs.Common.{◌≡◌, ℕ, zero, suc, ◌+◌, ◌-◌, ◌<◌, ◌≤◌, ℤ, pos, Bool, true, false, List, [], ◌∷◌, ◌++◌, length, take, drop, set, slice_get, Some, None, refl, sym, ap, ap₂, ◌∙◌, subst, length-drop, length-append, arith}
+use Rattle.std.proofs.lemmas.List.{take-append-le, drop-append-le, length-take, length-take-le, drop-drop, take-take, drop-take, take-append-drop}
 use Rattle.lay_layout.specs.declared.layout.Tok.{Tok}
 use Rattle.lay_layout.specs.declared.layout.Tok.TheVariants as tok
 use Rattle.lay_ring.specs.declared.entry.Size.TheVariants.{Known}
@@ -10,7 +10,7 @@ use Rattle.lay_ring.specs.declared.row.Kind.TheVariants as kind
 use Rattle.lay_ring.specs.declared.row.SmallEntry.{SmallEntry}
 use Rattle.lay_ring.specs.Held.{sized_at, IsUnknownAt}
 use Rattle.lay_ring.specs.declared.row.LentEntry.{LentEntry}
-use Rattle.lay_ring.specs.Rows.{IsFirst, IsRun, IsTextAt, all_taken, bytes_in, entries_at, size_of, taken, text_bytes, text_in, tok_at, tok_of}
+use Rattle.lay_ring.specs.Rows.{IsFirst, IsRun, IsTextAt, all_taken, bytes_in, bytes_kept, entries_at, room_in, size_of, taken, text_bytes, text_in, text_most, texts_beside, tok_at, tok_of}
 
 take_sum : (m n : ℕ) (xs : List ℕ) → take (m + n) xs ≡ take m xs ++ take n (drop m xs)
 take_sum m n xs = sym (take-append-drop m (take (m + n) xs)) ∙ ap₂ (λ (a b : List ℕ). a ++ b) (take-take m (m + n) xs (omega arith)) (drop-take m n xs)
@@ -208,3 +208,29 @@ moved_to_front first end room a b =
 pub put_behind : (first end : ℕ) (room room' more : List ℕ) → first ≤ end → end ≤ length room → take (end + length more) room' ≡ take end room ++ more → drop first (take (end + length more) room') ≡ drop first (take end room) ++ more
 put_behind first end room room' more a b h =
     ap (drop first) h ∙ drop-append-le first (take end room) more (omega (arith, length-take-le end room b))
+
+-- room for texts
+pub texts_count : (full : Bool) (wait count : ℕ) → texts_beside full wait count ≤ count
+texts_count true wait count = omega arith
+texts_count false wait count = omega arith
+
+pub fits_more : (full : Bool) (wait count more : ℕ) → 0 < texts_beside full wait count → wait + more ≤ bytes_kept → more ≤ text_most → wait + more ≤ room_in full
+fits_more true wait count more r n m = n
+fits_more false wait count more r n m = omega arith
+
+pub texts_pushed : (full : Bool) (wait wait' count count' : ℕ) → count' + 1 ≡ count → texts_beside full wait count ≤ texts_beside full wait' count' + 1
+texts_pushed true wait wait' count count' h = omega arith
+texts_pushed false wait wait' count count' h = omega arith
+
+pub texts_popped : (full : Bool) (wait wait' count count' : ℕ) → wait' ≤ wait → count ≤ count' → texts_beside full wait count ≤ texts_beside full wait' count'
+texts_popped true wait wait' count count' w h = h
+texts_popped false wait wait' count count' w h = omega arith
+
+pub room_most : (full : Bool) → room_in full ≤ bytes_kept
+room_most true = omega arith
+room_most false = omega arith
+
+-- bytes that wait, where their room is made longer
+pub room_grown : (first end n : ℕ) (room more : List ℕ) → end ≤ n → end ≤ length room → drop first (take end (take n room ++ more)) ≡ drop first (take end room)
+room_grown first end n room more a b =
+    ap (drop first) (take-append-le end (take n room) more (omega (arith, length-take n room)) ∙ take-take end n room a)

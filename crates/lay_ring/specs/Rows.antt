@@ -1,5 +1,5 @@
 -- What a row keeps, and the tokens that it holds.
-use Rattle.std.specs.Prelude.{◌≡◌, ℕ, zero, suc, ◌+◌, ℤ, pos, negsuc, List, [], ◌∷◌, ◌++◌, length, take, drop, Option, None, Some}
+use Rattle.std.specs.Prelude.{◌≡◌, ℕ, zero, suc, ◌+◌, ◌-◌, min, ℤ, pos, negsuc, Bool, true, false, List, [], ◌∷◌, ◌++◌, length, take, drop, Option, None, Some}
 use Rattle.lay_layout.specs.declared.layout.Tok.{Tok}
 use Rattle.lay_layout.specs.declared.layout.Tok.TheVariants as tok
 use Rattle.lay_ring.specs.declared.entry.Size.{Size}
@@ -43,9 +43,36 @@ abbrev pub bytes_in : List Entry → ℕ
 bytes_in [] = 0
 bytes_in (e ∷ es) = text_bytes e.tok + bytes_in es
 
--- how many bytes of text there is always room for
+-- how many bytes a text has at the most
+abbrev pub text_most : ℕ
+text_most = 89
+
+-- how many bytes of text there is room for at first
+abbrev pub bytes_first : ℕ
+bytes_first = 128
+
+-- how many bytes of text there is room for in the full room
 abbrev pub bytes_kept : ℕ
 bytes_kept = 1024
+
+-- The bytes that wait, and whether their room is the full one.
+pub record Kept : Type 0 where
+  pub items : List ℕ
+  pub full : Bool
+
+-- how many bytes there is room for
+abbrev pub room_in : Bool → ℕ
+room_in false = bytes_first
+room_in true = bytes_kept
+
+-- How many of so many texts there is surely room for: all in the full room, and in the first one at the most, where
+-- the longest fits behind what waits.
+abbrev pub texts_beside : Bool → (wait count : ℕ) → ℕ
+texts_beside true wait count = count
+texts_beside false wait count = min count (min 1 (bytes_first + 1 - (wait + text_most)))
+
+abbrev pub texts_in : Kept → ℕ → ℕ
+texts_in bytes count = texts_beside bytes.full (length bytes.items) count
 
 -- what is lent of the first entry
 abbrev pub IsFirst : List Entry → Option LentEntry → Type 0

@@ -1,44 +1,51 @@
-//! Bytes that wait, in room of a fixed length.
-ghost use Rattle.std.specs.Prelude.{◌≡◌, ◌+◌, ◌-◌, ◌≤◌, [], ◌++◌, length, take, drop, IfOk};
-ghost use Rattle.lay_ring.specs.Rows.{bytes_kept};
+//! Bytes that wait, in room of one of two lengths.
+ghost use Rattle.std.specs.Prelude.{◌≡◌, ◌+◌, ◌-◌, ◌≤◌, [], ◌++◌, length, take, drop, false, true, IfOk, OnOk, OnErr};
+ghost use Rattle.lay_ring.specs.Rows.{bytes_kept, room_in, texts_in};
 
 use lay_text::NoMemory;
 use std::alloc::Global;
-use std::boxed::BoxedSlice;
 use std::marker::Model;
 
-/// How many bytes there is room for.
-const ROOM: usize = 1024;
+/// How many bytes there is room for at first.
+const FIRST: usize = 128;
 
-/// Bytes that are added at the end and taken from the front. Contracts see them as a list.
+/// How many there is room for in the full room.
+const FULL: usize = 1024;
+
+/// How many bytes a text has at the most.
+const LONGEST: usize = 89;
+
+/// Bytes that are added at the end and taken from the front. Contracts see them as a list, and whether the room is the
+/// full one.
 #[derive(Drop)]
 pub struct Bytes {
-    room: BoxedSlice<u8>,
+    room: Vec<u8>,
+    is_full: bool,
     /// They stand from here up to `end`.
     first: usize,
     end: usize,
 }
 
 impl Model for Bytes {
-    ghost use Rattle.std.specs.Prelude.{◌≡◌, ℕ, ◌≤◌, List, take, drop};
-    ghost use Rattle.std.specs.Box.{boxed_slice_items, boxed_slice_len};
-    ghost use Rattle.lay_ring.specs.Rows.{bytes_kept};
+    ghost use Rattle.std.specs.Prelude.{◌≡◌, ◌≤◌, take, drop, vec_len};
+    ghost use Rattle.lay_ring.specs.Rows.{Kept, room_in};
 
-    ghost Value = { List ℕ };
+    ghost Value = { Kept };
 
-    ghost view = { λ b. drop b.first (take b.end (boxed_slice_items b.room)) };
+    ghost view = { λ b. record { items = drop b.first (take b.end b.room.items); full = b.is_full } };
 
-    ghost invariant = { λ b. (b.first ≤ b.end) × (b.end ≤ bytes_kept) × (boxed_slice_len b.room ≡ bytes_kept) };
+    ghost invariant = { λ b. (b.first ≤ b.end) × (b.end ≤ vec_len b.room) × (vec_len b.room ≡ room_in b.is_full) };
 }
 
 impl Bytes {
-    /// No bytes.
+    /// No bytes, and little room.
     pub fn new(alloc: Global) -> Result<Bytes, NoMemory>
-        ensures { IfOk result (λ bytes. bytes ≡ []) }
+        ensures { IfOk result (λ bytes. bytes.items ≡ []) }
     {
-        match vec![in alloc; 0u8; ROOM] {
+        match vec![in alloc; 0u8; FIRST] {
             Ok(room) => Ok(Bytes {
-                room: room.into_boxed_slice(),
+                room,
+                is_full: false,
                 first: 0,
                 end: 0,
             }),
@@ -46,11 +53,42 @@ impl Bytes {
         }
     }
 
+    /// Makes the full room.
+    #[inline(never)]
+    pub fn grow(&mut self) -> Result<(), NoMemory>
+        ensures items { self.new.items ≡ self.old.items }
+        ensures ok { OnOk result (self.new.full ≡ true) }
+        ensures err { OnErr result (self.new ≡ self.old) }
+    {
+        match self.room.resize(FULL, 0) {
+            Ok(()) => {
+                self.is_full = true;
+                Ok(())
+            }
+            Err(_) => Err(NoMemory),
+        }
+    }
+
+    /// How many of so many texts there is surely room for: all in the full room, and one at the most in the first.
+    #[inline(always)]
+    pub fn texts(&self, count: usize) -> usize
+        ensures { result ≡ texts_in self.now count }
+    {
+        if self.is_full {
+            return count;
+        }
+        if self.len() <= FIRST - LONGEST {
+            return count.min(1);
+        }
+        0
+    }
+
     /// Adds bytes at the end. There must be room for them.
     #[inline(always)]
     pub fn add(&mut self, more: &[u8])
-        requires { length self.old + length more.now ≤ bytes_kept }
-        ensures { self.new ≡ self.old ++ more.now }
+        requires { length self.old.items + length more.now ≤ room_in self.old.full }
+        ensures items { self.new.items ≡ self.old.items ++ more.now }
+        ensures full { self.new.full ≡ self.old.full }
     {
         make_room(
             self.room.as_mut_slice(),
@@ -65,7 +103,7 @@ impl Bytes {
     /// How many there are.
     #[inline(always)]
     pub fn len(&self) -> usize
-        ensures value { result ≡ length self.now }
+        ensures value { result ≡ length self.now.items }
         ensures small { result ≤ bytes_kept }
     {
         self.end - self.first
@@ -74,8 +112,8 @@ impl Bytes {
     /// The first ones.
     #[inline(always)]
     pub fn front(&self, count: usize) -> &[u8]
-        requires { count ≤ length self.now }
-        ensures { result.now ≡ take count self.now }
+        requires { count ≤ length self.now.items }
+        ensures { result.now ≡ take count self.now.items }
     {
         &self.room.as_slice()[self.first..self.first + count]
     }
@@ -83,8 +121,9 @@ impl Bytes {
     /// Takes the first ones.
     #[inline(always)]
     pub fn drop_front(&mut self, count: usize)
-        requires { count ≤ length self.old }
-        ensures { self.new ≡ drop count self.old }
+        requires { count ≤ length self.old.items }
+        ensures items { self.new.items ≡ drop count self.old.items }
+        ensures full { self.new.full ≡ self.old.full }
     {
         self.first += count;
         if self.first == self.end {

@@ -1,8 +1,8 @@
 //! A list of entries with numbers, in little memory.
-ghost use Rattle.std.specs.Prelude.{◌≡◌, ◌+◌, ◌^◌, ◌<◌, ◌≤◌, [], ◌∷◌, ◌++◌, length, drop, pos, IfOk, IsOk, OnOk};
+ghost use Rattle.std.specs.Prelude.{◌≡◌, ◌+◌, ◌^◌, ◌<◌, ◌≤◌, [], ◌∷◌, ◌++◌, length, drop, pos, IfOk, IsOk, OnOk, OnErr};
 ghost use Rattle.lay_ring.specs.declared.entry.Size.TheVariants.{Known};
 ghost use Rattle.lay_ring.specs.Held.{number_of, place_of, number_after_pop, sized_at, IsUnknownAt};
-ghost use Rattle.lay_ring.specs.Rows.{AreTexts, IsFirst, IsRun, IsTextAt, bytes_in, bytes_kept, entry_of, taken, text_bytes, text_in, tok_at, tok_of};
+ghost use Rattle.lay_ring.specs.Rows.{AreTexts, IsFirst, IsRun, IsTextAt, bytes_in, bytes_kept, entry_of, taken, text_bytes, text_in, text_most, tok_at, tok_of};
 
 use crate::bytes::Bytes;
 use crate::marks::Marks;
@@ -59,7 +59,8 @@ struct SmallEntry {
 }
 
 /// Entries as in a [`Ring`](crate::Ring), in little memory: each is of 24 bytes, and their texts stand one
-/// behind the other in room for 1,024 bytes, which is taken at first. So texts are copied, and take no memory.
+/// behind the other in room for 128 bytes, and once that is too little in room for 1,024. So texts are copied, and only
+/// `new` and `reserve` take memory. A text has at most 89 bytes.
 #[derive(Drop)]
 pub struct Row {
     entries: Marks<SmallEntry>,
@@ -72,13 +73,13 @@ pub struct Row {
 impl Model for Row {
     ghost use Rattle.std.specs.Prelude.{◌≡◌, length};
     ghost use Rattle.lay_ring.specs.Held.{Held};
-    ghost use Rattle.lay_ring.specs.Rows.{all_taken, entries_at};
+    ghost use Rattle.lay_ring.specs.Rows.{all_taken, entries_at, texts_in};
 
     ghost Value = { Held };
 
-    ghost view = { λ row. record { entries = entries_at row.entries.items row.bytes; first = row.number; spare = row.entries.spare } };
+    ghost view = { λ row. record { entries = entries_at row.entries.items row.bytes.items; first = row.number; spare = texts_in row.bytes row.entries.spare } };
 
-    ghost invariant = { λ row. all_taken row.entries.items ≡ length row.bytes };
+    ghost invariant = { λ row. all_taken row.entries.items ≡ length row.bytes.items };
 }
 
 impl Row {
@@ -100,12 +101,12 @@ impl Row {
     #[inline(always)]
     pub fn push(&mut self, tok: LentTok<'_>, size: i64) -> u64
         requires room { 0 < self.old.spare }
-        requires short { text_bytes (tok_of tok) < 256 }
+        requires short { text_bytes (tok_of tok) ≤ text_most }
         requires bytes { bytes_in self.old.entries + text_bytes (tok_of tok) ≤ bytes_kept }
         ensures entries { self.new.entries ≡ self.old.entries ++ entry_of tok.entry size ∷ [] }
         ensures number { result ≡ number_of self.old.first (length self.old.entries) }
         ensures first { self.new.first ≡ self.old.first }
-        ensures spare { self.new.spare + 1 ≡ self.old.spare }
+        ensures spare { self.old.spare ≤ self.new.spare + 1 }
     {
         let number = self.number.wrapping_add(self.entries.len() as u64);
         let kind = kind_of(tok);
@@ -220,11 +221,16 @@ impl Row {
         ensures first { self.new.first ≡ self.old.first }
         ensures spare { self.old.spare ≤ self.new.spare }
         ensures ok { OnOk result (n ≤ self.new.spare) }
+        ensures err { OnErr result (self.new.spare < n) }
 
         // Where there is room already, it is not refused.
         ensures sure { n ≤ self.old.spare → IsOk result }
     {
-        self.entries.reserve(n)
+        self.entries.reserve(n)?;
+        if n <= self.spare() {
+            return Ok(());
+        }
+        self.bytes.grow()
     }
 
     /// How many more entries there is room for.
@@ -232,7 +238,7 @@ impl Row {
     pub fn spare(&self) -> usize
         ensures { result ≡ self.now.spare }
     {
-        self.entries.spare()
+        self.bytes.texts(self.entries.spare())
     }
 }
 
@@ -250,7 +256,7 @@ fn text_of<'a>(tok: LentTok<'a>) -> &'a [u8]
 /// What kind of token it is.
 #[inline(always)]
 fn kind_of(tok: LentTok<'_>) -> Kind
-    requires { text_bytes (tok_of tok) < 256 }
+    requires { text_bytes (tok_of tok) ≤ text_most }
     ensures taken { taken result ≡ text_bytes (tok_of tok.entry) }
     ensures token { tok_at result (text_in (tok_of tok.entry)) ≡ tok_of tok.entry }
 {
@@ -265,8 +271,8 @@ fn kind_of(tok: LentTok<'_>) -> Kind
 /// The token of this kind, whose text is the first of the bytes.
 #[inline(always)]
 fn lend<'a>(kind: Kind, bytes: &'a Bytes) -> LentTok<'a>
-    requires { taken kind ≤ length bytes.now }
-    ensures { tok_of result ≡ tok_at kind bytes.now }
+    requires { taken kind ≤ length bytes.now.items }
+    ensures { tok_of result ≡ tok_at kind bytes.now.items }
 {
     match kind {
         Kind::Text(len) => LentTok::Text(bytes.front(len as usize)),

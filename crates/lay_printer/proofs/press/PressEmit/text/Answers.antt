@@ -5,3 +5,6 @@ use Rattle.lay_printer.proofs.press.PressEmit.text.Goals as goal
 pub returns-clause-did : goal.returns-clause-did
 returns-clause-did g c =
     did_calls (λ p. p.core.now) (λ p. g.K.Sink.written p.sink.now) (λ p. g.K.Sink.faults p.sink.now) (λ p. p.sink.ghost_name ∷ g.K.Sink.loan p.sink.now ∷ []) c.args.self.now _ _ _ c.text.ensures.calls (ap (λ n. c.args.self.now.sink.ghost_name ∷ n ∷ []) c.text.ensures.loan)
+
+pub returns-clause-alone : goal.returns-clause-alone
+returns-clause-alone g c = c.text.ensures.alone

@@ -6,3 +6,6 @@ pub returns-clause-did : goal.returns-clause-did
 returns-clause-did g c =
     rw (← c.self.view_is) (did_calls (λ p. p.core) (λ p. g.K.Sink.written p.sink) (λ p. g.K.Sink.faults p.sink)
     (λ p. g.K.Sink.loan p.sink ∷ []) _ _ _ _ c.text_owned.ensures.calls (ap (λ n. n ∷ []) c.text_owned.ensures.loan))
+
+pub returns-clause-alone : goal.returns-clause-alone
+returns-clause-alone g c = rw (← c.self.view_is) c.text_owned.ensures.alone

@@ -12,3 +12,6 @@ returns-clause-did g c =
     (tok.Begin c.args.consistent c.args.offset) = search rules in
     rw (← c.self.view_is) (did_calls (λ p. p.core) (λ p. g.K.Sink.written p.sink) (λ p. g.K.Sink.faults p.sink)
     (λ p. g.K.Sink.loan p.sink ∷ []) _ _ _ _ k (ap (λ n. n ∷ []) c.begin.ensures.loan))
+
+pub returns-clause-alone : goal.returns-clause-alone
+returns-clause-alone g c = rw (← c.self.view_is) c.begin.ensures.alone

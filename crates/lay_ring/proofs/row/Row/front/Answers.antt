@@ -10,10 +10,10 @@ pub returns-in_err-small : goal.returns-in_err-small
 returns-in_err-small c =
     let i = c.self.inside in
     subst (λ (h : Held). IsFirst h.entries c.from_residual.result) c.self.view_is
-    (subst (λ (r : Option LentEntry). IsFirst (entries_at i.entries.items i.bytes) r) (sym c.from_residual.ensures) (first_none i.entries.items i.bytes (sym c.in_err-small.was ∙ c.get.ensures)))
+    (subst (λ (r : Option LentEntry). IsFirst (entries_at i.entries.items i.bytes.items) r) (sym c.from_residual.ensures) (first_none i.entries.items i.bytes.items (sym c.in_err-small.was ∙ c.get.ensures)))
 
 pub lend-tok-requires : goal.lend-tok-requires
-lend-tok-requires c = first_within c.self.inside.entries.items c.in_ok-small.small c.self.inside.bytes (sym c.in_ok-small.was ∙ c.get.ensures) c.self.invariant
+lend-tok-requires c = first_within c.self.inside.entries.items c.in_ok-small.small c.self.inside.bytes.items (sym c.in_ok-small.was ∙ c.get.ensures) c.self.invariant
 
 pub returns : goal.returns
 returns c =
@@ -22,4 +22,4 @@ returns c =
     let z : to_z w64 (of_z w64 s.size) ≡ s.size = search rules in
     let w : LentEntry = record { tok = c.lend-tok.result; size = to_z w64 (of_z w64 s.size) } in
     subst (λ (h : Held). IsFirst h.entries (Some w)) c.self.view_is
-    (first_some i.entries.items s i.bytes w (sym c.in_ok-small.was ∙ c.get.ensures) c.lend-tok.ensures (ap size_of z))
+    (first_some i.entries.items s i.bytes.items w (sym c.in_ok-small.was ∙ c.get.ensures) c.lend-tok.ensures (ap size_of z))

@@ -13,17 +13,17 @@ left count len ss bytes h w e t =
     runs_out count len ss bytes k.0 w k.1 (sym k.2)
 
 pub drop_oldest-requires : goal.drop_oldest-requires
-drop_oldest-requires c = (left c.args.count c.args.len c.self.inside.entries.items c.self.inside.bytes c.args.self.now c.self.invariant (ap (λ (h : Held). h.entries) c.self.view_is) c.requires).count_within
+drop_oldest-requires c = (left c.args.count c.args.len c.self.inside.entries.items c.self.inside.bytes.items c.args.self.now c.self.invariant (ap (λ (h : Held). h.entries) c.self.view_is) c.requires).count_within
 
 pub drop_front-requires : goal.drop_front-requires
-drop_front-requires c = (left c.args.count c.args.len c.self.inside.entries.items c.self.inside.bytes c.args.self.now c.self.invariant (ap (λ (h : Held). h.entries) c.self.view_is) c.requires).len_within
+drop_front-requires c = (left c.args.count c.args.len c.self.inside.entries.items c.self.inside.bytes.items c.args.self.now c.self.invariant (ap (λ (h : Held). h.entries) c.self.view_is) c.requires).len_within
 
 pub invariant_of-self : goal.invariant_of-self
 invariant_of-self c =
-    let r = left c.args.count c.args.len c.self.inside.entries.items c.self.inside.bytes c.args.self.now c.self.invariant (ap (λ (h : Held). h.entries) c.self.view_is) c.requires in
-    ap all_taken c.drop_oldest.ensures.items ∙ r.whole ∙ ap length (sym c.drop_front.ensures)
+    let r = left c.args.count c.args.len c.self.inside.entries.items c.self.inside.bytes.items c.args.self.now c.self.invariant (ap (λ (h : Held). h.entries) c.self.view_is) c.requires in
+    ap all_taken c.drop_oldest.ensures.items ∙ r.whole ∙ ap length (sym c.drop_front.ensures.items)
 
 pub returns-clause-entries : goal.returns-clause-entries
 returns-clause-entries c =
-    let r = left c.args.count c.args.len c.self.inside.entries.items c.self.inside.bytes c.args.self.now c.self.invariant (ap (λ (h : Held). h.entries) c.self.view_is) c.requires in
-    ap₂ entries_at c.drop_oldest.ensures.items c.drop_front.ensures ∙ r.entries ∙ ap (λ (h : Held). drop c.args.count h.entries) c.self.view_is
+    let r = left c.args.count c.args.len c.self.inside.entries.items c.self.inside.bytes.items c.args.self.now c.self.invariant (ap (λ (h : Held). h.entries) c.self.view_is) c.requires in
+    ap₂ entries_at c.drop_oldest.ensures.items c.drop_front.ensures.items ∙ r.entries ∙ ap (λ (h : Held). drop c.args.count h.entries) c.self.view_is

@@ -17,11 +17,11 @@ pub returns-in-Some-clause-entries : goal.returns-in-Some-clause-entries
 returns-in-Some-clause-entries c =
     let place = place_of c.self.inside.number c.args.number in
     let z : to_z w64 c.args.size ≡ pos c.args.size = to_z_pos w64 c.args.size c.requires.small in
-    ap (λ (x : _). entries_at x c.self.inside.bytes) c.set.ensures.items
-    ∙ ap (λ (y : ℤ). entries_at (set c.self.inside.entries.items place (record { kind = c.in-Some.small.kind; size = y })) c.self.inside.bytes) z
-    ∙ entries_sized c.self.inside.entries.items c.self.inside.bytes place c.args.size c.in-Some.small c.in-Some.ensures
+    ap (λ (x : _). entries_at x c.self.inside.bytes.items) c.set.ensures.items
+    ∙ ap (λ (y : ℤ). entries_at (set c.self.inside.entries.items place (record { kind = c.in-Some.small.kind; size = y })) c.self.inside.bytes.items) z
+    ∙ entries_sized c.self.inside.entries.items c.self.inside.bytes.items place c.args.size c.in-Some.small c.in-Some.ensures
     ∙ ap (λ (h : Held). sized_at h.entries (place_of h.first c.args.number) (Known (pos c.args.size))) c.self.view_is
 
 pub returns-in_default-clause-entries : goal.returns-in_default-clause-entries
 returns-in_default-clause-entries c =
-    absurd (some_small c.self.inside.entries.items c.self.inside.bytes (place_of c.self.inside.number c.args.number) (subst (λ (h : Held). IsUnknownAt h.entries (place_of h.first c.args.number)) (sym c.self.view_is) c.requires.unknown) c.in_default.ensures)
+    absurd (some_small c.self.inside.entries.items c.self.inside.bytes.items (place_of c.self.inside.number c.args.number) (subst (λ (h : Held). IsUnknownAt h.entries (place_of h.first c.args.number)) (sym c.self.view_is) c.requires.unknown) c.in_default.ensures)

@@ -35,7 +35,7 @@ pub returns : goal.returns
 returns c =
     let i = c.self.inside in
     let k = texts_within c.loop-count.count c.loop-count.len i.entries.items c.loop-count.invariant in
-    let l : c.loop-count.len ≤ length i.bytes = omega (arith, k.1, c.self.invariant) in
+    let l : c.loop-count.len ≤ length i.bytes.items = omega (arith, k.1, c.self.invariant) in
     subst (λ (h : Held). IsRun c.loop-count.count h.entries c.front.result.now) c.self.view_is
-    (subst (λ (xs : List ℕ). IsRun c.loop-count.count (entries_at i.entries.items i.bytes) xs) (sym c.front.ensures)
-    (texts_run c.loop-count.count c.loop-count.len i.entries.items i.bytes c.loop-count.invariant l))
+    (subst (λ (xs : List ℕ). IsRun c.loop-count.count (entries_at i.entries.items i.bytes.items) xs) (sym c.front.ensures)
+    (texts_run c.loop-count.count c.loop-count.len i.entries.items i.bytes.items c.loop-count.invariant l))
