@@ -4,7 +4,6 @@ use Rattle.std.specs.Prelude.{codes, replicate}
 use Rattle.std.specs.Str.{chars}
 use Rattle.lay_piece.specs.Docs.{doc_form}
 use Rattle.lay_layout.specs.Document.{Empty, AddText, text_of}
-use Rattle.lay_token.specs.Operators.{op_at}
 use Rattle.lay_piece.specs.Quoted.{doc_step, block_step}
 use Rattle.lay_piece.specs.Scan.{run}
 use Rattle.lay_piece.specs.declared.kind.Delim.TheVariants.{Paren, Brace}
@@ -13,7 +12,7 @@ use Rattle.lay_piece.specs.declared.kind.Kind.TheVariants.{Ident, Float, Punct, 
 use Rattle.lay_token.specs.declared.token.Token.{Token}
 use Rattle.lay_form.specs.Depth.{least_depth, alone}
 use Rattle.lay_form.specs.Form.{Blank, Operator, Semicolons, Braces, Bare, Unseen, Marked, Nothing, ArmComma, Form, Done, Piece, Leaf, Listed, ListedDoc, Part, Deeper, Body, punct, opener, closer, semicolon}
-use Rattle.lay_form.specs.LastParts.{last_follows, body_follows}
+use Rattle.lay_form.specs.LastParts.{last_follows}
 use Rattle.lay_form.specs.Layout.{document}
 use Rattle.lay_form.specs.Notation.{N, H, I4, piece, comma_list, body, fields, braces, soft, where_body, where_semicolon, wheres_spelled}
 use Rattle.lay_form.specs.Spelled.{Spells}
@@ -154,9 +153,6 @@ b_token = token Ident (codes "b")
 abbrev comma_token : Token
 comma_token = token Punct (codes ",")
 
-abbrev point_token : Token
-point_token = token Punct (codes ".")
-
 abbrev semicolon_token : Token
 semicolon_token = token Punct (codes ";")
 
@@ -221,49 +217,19 @@ before_a_word = refl
 not_with_it : may_follow_it true (b_token ∷ []) ≡ false
 not_with_it = refl
 
--- An arm by itself takes its comma. Without it nothing may stand behind the arm, unless its body is a block or in braces.
+-- An arm by itself, with its comma, without it, and with its body in braces
 abbrev lone_arm : Form
 lone_arm = Body Marked (ArmComma true false) a Done
-
-abbrev begins_point : List Token → Bool
-begins_point [] = false
-begins_point (t ∷ ts) = elim (t.kind) [ Punct ↦ true | _ ↦ false ]
-
-abbrev may_follow_arm : Bool → ℕ → List Token → Bool
-may_follow_arm spelled n ts = body_follows (ArmComma true false) begins_point spelled n ts
 
 an_arm_with_its_comma : Spells lone_arm 1 (a_token ∷ comma_token ∷ b_token ∷ []) (b_token ∷ [])
 an_arm_with_its_comma = (0, tt, omega arith, (_, (_, refl, (_, (_, (refl, refl, refl), refl), refl)), (_, inr (_, (refl, refl, refl), refl), refl)))
 
-behind_its_comma : may_follow_arm true 0 (b_token ∷ []) ≡ true
-behind_its_comma = refl
-
 an_arm_without_it : Spells lone_arm 1 (a_token ∷ []) []
 an_arm_without_it = (0, tt, omega arith, (_, (_, refl, (_, (_, (refl, refl, refl), refl), refl)), (_, inl (refl, refl), refl)))
-
-behind_nothing : may_follow_arm false 0 [] ≡ true
-unfolding op_at
-behind_nothing = refl
-
-not_before_a_word : may_follow_arm false 0 (b_token ∷ []) ≡ false
-unfolding op_at
-not_before_a_word = refl
-
-not_before_its_comma : may_follow_arm false 0 (comma_token ∷ []) ≡ false
-unfolding op_at
-not_before_its_comma = refl
 
 an_arm_in_braces : Spells lone_arm 1 (open_token ∷ semicolon_token ∷ a_token ∷ close_token ∷ b_token ∷ []) (b_token ∷ [])
 an_arm_in_braces =
     (1, tt, omega arith, (_, (_, (_, (_, (refl, refl, refl), (_, (1, (_, (refl, refl, refl), refl)), refl)), refl), (_, (_, (refl, refl, refl), refl), (_, (_, (refl, refl, refl), refl), refl))), (_, inl (refl, refl), refl)))
-
-before_another_arm : may_follow_arm false 1 (b_token ∷ []) ≡ true
-unfolding op_at
-before_another_arm = refl
-
-not_before_a_point : may_follow_arm false 1 (point_token ∷ []) ≡ false
-unfolding op_at
-not_before_a_point = refl
 
 -- ---- depth
 
