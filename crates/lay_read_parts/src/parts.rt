@@ -189,9 +189,9 @@ fn is_captured(word: &Word) -> bool
 }
 
 /// A lifetime or a word that is captured.
-#[tactic(auto, unfolding(lay_node::specs::reader::Types::capture))]
+#[tactic(auto, unfolding(lay_node::specs::reader::Types::one_capture))]
 fn read_capture(alloc: Global, at: &mut Ahead<'_>) -> Result<Capture, ReadNone>
-    ensures { IsGot (reader.capture at.old) result at.new }
+    ensures { IsGot (reader.one_capture at.old) result at.new }
 {
     if is_at_lifetime(at) {
         let lifetime = read_lifetime(alloc, at)?;
@@ -209,12 +209,12 @@ fn read_capture(alloc: Global, at: &mut Ahead<'_>) -> Result<Capture, ReadNone>
 struct Captures;
 
 impl Part<Capture, ()> for Captures {
-    ghost reads = { λ depth place ts. needless reader.capture 0 ts };
+    ghost reads = { λ depth place ts. needless reader.one_capture 0 ts };
 }
 
 /// A lifetime or a word that is captured, which needs no depth.
 fn free_capture(alloc: &Global, at: &mut Ahead<'_>, _place: ()) -> Result<Found<Capture>, ReadNone>
-    ensures read { IsFound (needless reader.capture 0 at.old) result at.new }
+    ensures read { IsFound (needless reader.one_capture 0 at.old) result at.new }
     ensures within { IfOk result (λ found. found.need ≤ 0) }
 {
     let node = read_capture(*alloc, at)?;
@@ -224,7 +224,7 @@ fn free_capture(alloc: &Global, at: &mut Ahead<'_>, _place: ()) -> Result<Found<
 /// What is captured, behind its `<`.
 #[tactic(auto, using(crate::proofs::Left::capture_free))]
 fn read_captured(alloc: Global, at: &mut Ahead<'_>) -> Result<List<Capture>, ReadNone>
-    ensures { IsGot (elements (is_mark (codes ">")) reader.capture at.old) result at.new }
+    ensures { IsGot (elements (is_mark (codes ">")) reader.one_capture at.old) result at.new }
 {
     let found = read_elements::<Captures, Global, Capture, (), _>(
         alloc,
@@ -240,7 +240,7 @@ fn read_captured(alloc: Global, at: &mut Ahead<'_>) -> Result<List<Capture>, Rea
 
 /// What is captured, behind `use`.
 pub fn read_captures(alloc: Global, at: &mut Ahead<'_>) -> Result<List<Capture>, ReadNone>
-    ensures { IsGot (reader.angled reader.capture at.old) result at.new }
+    ensures { IsGot (reader.angled reader.one_capture at.old) result at.new }
 {
     if !takes_mark(at, b"<") {
         return Err(ReadNone::NoReading);

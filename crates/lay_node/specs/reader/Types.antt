@@ -121,8 +121,8 @@ abbrev pub binder_if : Tokens → Got (Option Binder)
 binder_if ts = if_there (first (is_keyword (codes "for")) ts) binder ts
 
 -- a lifetime or a word that is captured
-unfoldable pub capture : Tokens → Got Capture
-capture ts =
+unfoldable pub one_capture : Tokens → Got Capture
+one_capture ts =
     if first is_lifetime ts then (do l ← lifetime ts; Some (capture.Region l.0, l.1))
     else (do w ← word ts; if is_captured w.0 then Some (capture.Word w.0, w.1) else None)
 
@@ -265,7 +265,7 @@ meets within parens ts = do
 
 -- what is captured, behind `use`
 abbrev pub captures : Tokens → Read Bound
-captures ts = do captured ← angled capture ts; Some ((bound.Captures captured.0, 0), captured.1)
+captures ts = do captured ← angled one_capture ts; Some ((bound.Captures captured.0, 0), captured.1)
 
 unfoldable pub one_bound : Within → Tokens → Read Bound
 one_bound within ts =
