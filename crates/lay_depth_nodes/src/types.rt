@@ -173,7 +173,7 @@ fn bound_depth(bound: &Bound) -> u32
     ensures { result ≡ counted (least_depth (about_bound bound.now).form) }
 {
     match bound {
-        Bound::Outlives { .. } => 0,
+        Bound::Outlives { .. } | Bound::Captures { .. } => 0,
         Bound::Meets { path, .. } => path_depth(path),
     }
 }

@@ -241,7 +241,7 @@ fn bound_edge(bound: &Bound) -> TypeEdge<'_>
     ensures smaller { IfType result (λ ty. size-Ty ty < size-Bound bound.now) }
 {
     match bound {
-        Bound::Outlives { .. } => TypeEdge::Token(false),
+        Bound::Outlives { .. } | Bound::Captures { .. } => TypeEdge::Token(false),
         Bound::Meets { parens, path, .. } => {
             if *parens {
                 TypeEdge::Token(false)

@@ -34,6 +34,7 @@ pub mod TypesBegins
 pub mod TypesLists
 pub mod TypesCompleteParts
 pub mod TypesComplete
+pub mod TypesCompleteCaptures
 pub mod TypesCompletePaths
 pub mod TypesCalls
 pub mod TypesCompleteKinds

@@ -63,7 +63,8 @@ is_path_lead _ = false
 
 abbrev pub begins_bound : Tokens → Bool
 begins_bound ts =
-    first is_lifetime ts || (first (opens Paren) ts || (first (is_mark (codes "?")) ts || (first (is_keyword (codes "for")) ts || is_path_lead (lead_at ts))))
+    first is_lifetime ts || (first (is_keyword (codes "use")) ts || (first (opens Paren) ts
+    || (first (is_mark (codes "?")) ts || (first (is_keyword (codes "for")) ts || is_path_lead (lead_at ts)))))
 
 abbrev pub is_literal_token : Token → Bool
 is_literal_token t = is_literal t.kind t.text

@@ -37,8 +37,8 @@ pub use simple_path::SimplePath;
 pub use token::{GivenName, Lifetime, Listed, Literal, Name, Word, are_digits};
 pub use tokens::{Group, MacroCall, Tokens};
 pub use types::{
-    Abi, Arg, Args, Binder, Bound, ConstArg, Constraint, FuncParam, LifetimeParam, Path, PathStart,
-    PathStyle, Ty, TypePlace,
+    Abi, Arg, Args, Binder, Bound, Capture, ConstArg, Constraint, FuncParam, LifetimeParam, Path,
+    PathStart, PathStyle, Ty, TypePlace,
 };
 pub use use_tree::{UseEnd, UseTree};
 pub use vis::Vis;

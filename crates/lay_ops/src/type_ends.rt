@@ -50,7 +50,7 @@ fn bound_end(bound: &Bound) -> TypeEnd<'_>
     ensures smaller { IfIn result (λ ty. size-Ty ty < size-Bound bound.now) }
 {
     match bound {
-        Bound::Outlives { .. } => TypeEnd::Shut,
+        Bound::Outlives { .. } | Bound::Captures { .. } => TypeEnd::Shut,
         Bound::Meets { parens, path, .. } => {
             if *parens {
                 TypeEnd::Shut

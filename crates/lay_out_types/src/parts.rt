@@ -4,13 +4,13 @@ ghost use Rattle.lay_piece.specs.declared.kind.Kind.TheVariants as kind;
 ghost use Rattle.lay_form.specs.Form.{Done, Fixed, Piece};
 ghost use Rattle.lay_form.specs.Notation.{comma_list};
 ghost use Rattle.lay_form.specs.Stream.{stream_of};
-ghost use Rattle.lay_node.specs.nodes.Types.{abi_form, binder_form, const_form, greater, less, lifetime_param_form};
+ghost use Rattle.lay_node.specs.nodes.Types.{abi_form, binder_form, capture_form, const_form, greater, less, lifetime_param_form};
 ghost use Rattle.lay_node.specs.nodes.Types.{outlived_form, param_attrs, param_name, ref_lifetime};
 ghost use Rattle.lay_out_types.specs.Calls.{Adds};
 
 use crate::calls::{add_attr, add_braces, add_either, add_literal, add_text, add_word};
 use crate::lists::{add_close, add_lead};
-use lay_node::{Abi, Attr, Binder, ConstArg, GivenName, Lifetime, LifetimeParam};
+use lay_node::{Abi, Attr, Binder, Capture, ConstArg, GivenName, Lifetime, LifetimeParam};
 use lay_stream::Emit;
 
 /// Attributes of a parameter.
@@ -90,6 +90,37 @@ fn add_lifetime_params<E: Emit>(
         done = add_lifetime_param(out, done, param);
     }
     add_close(out, done, true, params.is_empty(), b"<>", b">")
+}
+
+/// What is captured, in `<` and `>`.
+pub(crate) fn add_captures<E: Emit>(
+    out: &mut E,
+    before: Result<(), E::Fault>,
+    captured: &[Capture],
+) -> Result<(), E::Fault>
+    ensures { Adds E.meanings before out.old
+        (stream_of (comma_list true less greater (map capture_form captured.now))) result out.new }
+{
+    let mut done = before;
+    for (index, capture) in captured.iter().enumerate() {
+        done = add_lead(out, done, index == 0, b"<");
+        done = add_capture(out, done, capture);
+    }
+    add_close(out, done, true, captured.is_empty(), b"<>", b">")
+}
+
+/// A lifetime or a word that is captured.
+fn add_capture<E: Emit>(
+    out: &mut E,
+    before: Result<(), E::Fault>,
+    capture: &Capture,
+) -> Result<(), E::Fault>
+    ensures { Adds E.meanings before out.old (stream_of (capture_form capture.now)) result out.new }
+{
+    match capture {
+        Capture::Region { lifetime } => add_text(out, before, lifetime.text.as_bytes()),
+        Capture::Word { word } => add_word(out, before, word.raw, &word.text),
+    }
 }
 
 /// A generic argument that is a constant.

@@ -13,7 +13,7 @@ ghost use Rattle.lay_out_types.specs.Calls.{Adds};
 use crate::calls::{add_call, add_either, add_if, add_text, add_tokens, add_word};
 use crate::lists::{add_begin, add_close, add_end, add_lead, add_plus};
 use crate::parts::{
-    add_abi, add_binder, add_const, add_param_attrs, add_param_name, add_reference,
+    add_abi, add_binder, add_captures, add_const, add_param_attrs, add_param_name, add_reference,
 };
 use lay_node::{Arg, Args, Bound, Boxed, Constraint, FuncParam, Path, PathStart, PathStyle, Ty};
 use lay_stream::Emit;
@@ -221,6 +221,10 @@ fn add_bound<E: Emit>(
             let binder = add_binder(out, question, binder);
             let path = add_path(out, binder, path, PathStyle::Kind);
             add_if(out, path, *parens, b")")
+        },
+        Bound::Captures { captured } => {
+            let word = add_text(out, before, b"use");
+            add_captures(out, word, captured.as_slice())
         },
     }
 }

@@ -103,6 +103,7 @@ pub fn begins_bound(at: &Ahead<'_>) -> bool
     ensures { result ≡ begins.begins_bound at.now }
 {
     is_at_lifetime(at)
+        || is_at_keyword(at, b"use")
         || is_at_opened(at, Delim::Paren)
         || is_at_mark(at, b"?")
         || is_at_keyword(at, b"for")

@@ -1,6 +1,7 @@
 //! Lifetimes, literals, binders, constants and ABIs.
 ghost use Rattle.std.specs.Prelude.{◌≡◌, ◌≤◌, codes, IfOk};
 ghost use Rattle.lay_node.specs.Ahead.{first, is_keyword, is_lifetime, is_mark};
+ghost use Rattle.lay_node.specs.nodes.Types as nodes;
 ghost use Rattle.lay_node.specs.reader.Loops.{elements};
 ghost use Rattle.lay_node.specs.reader.Exact.{needless};
 ghost use Rattle.lay_node.specs.reader.Types as reader;
@@ -11,11 +12,12 @@ use crate::joins::{both, refused};
 use crate::leads::{is_at_lifetime, is_at_literal, is_at_number};
 use crate::loops::{Closer, Joint, Part, read_chain, read_elements};
 use lay_cook::{Cooked, cook};
-use lay_node::{Abi, Attr, Binder, ConstArg, Lifetime, LifetimeParam, Literal};
+use lay_node::{Abi, Attr, Binder, Capture, ConstArg, Lifetime, LifetimeParam, Literal, Word};
 use lay_read_tokens::attributes::attrs_ahead;
 use lay_read_tokens::front::{
     pass, takes_closer, takes_keyword, takes_mark, takes_op, takes_opener,
 };
+use lay_read_tokens::names::{is_plain, read_word};
 use lay_read_tokens::stop::copy_of;
 use lay_read_tokens::tokens::read_tokens;
 use lay_read_tokens::{Ahead, Found, ReadNone};
@@ -177,6 +179,73 @@ pub fn read_binder_if(alloc: Global, at: &mut Ahead<'_>) -> Result<Option<Binder
     }
     let params = read_params(alloc, at)?;
     Ok(Some(Binder { params }))
+}
+
+/// Whether a word may be captured: a name, or `Self`.
+fn is_captured(word: &Word) -> bool
+    ensures { result ≡ nodes.is_captured word.now }
+{
+    word.raw || is_plain(word.text.as_bytes()) || word.text.as_bytes() == b"Self".as_slice()
+}
+
+/// A lifetime or a word that is captured.
+#[tactic(auto, unfolding(lay_node::specs::reader::Types::one_capture))]
+fn read_capture(alloc: Global, at: &mut Ahead<'_>) -> Result<Capture, ReadNone>
+    ensures { IsGot (reader.one_capture at.old) result at.new }
+{
+    if is_at_lifetime(at) {
+        let lifetime = read_lifetime(alloc, at)?;
+        return Ok(Capture::Region { lifetime });
+    }
+    let word = read_word(alloc, at)?;
+    if is_captured(&word) {
+        Ok(Capture::Word { word })
+    } else {
+        Err(ReadNone::NoReading)
+    }
+}
+
+/// What is captured, as elements of a list.
+struct Captures;
+
+impl Part<Capture, ()> for Captures {
+    ghost reads = { λ depth place ts. needless reader.one_capture 0 ts };
+}
+
+/// A lifetime or a word that is captured, which needs no depth.
+fn free_capture(alloc: &Global, at: &mut Ahead<'_>, _place: ()) -> Result<Found<Capture>, ReadNone>
+    ensures read { IsFound (needless reader.one_capture 0 at.old) result at.new }
+    ensures within { IfOk result (λ found. found.need ≤ 0) }
+{
+    let node = read_capture(*alloc, at)?;
+    Ok(Found { node, need: 0 })
+}
+
+/// What is captured, behind its `<`.
+#[tactic(auto, using(crate::proofs::Left::capture_free))]
+fn read_captured(alloc: Global, at: &mut Ahead<'_>) -> Result<List<Capture>, ReadNone>
+    ensures { IsGot (elements (is_mark (codes ">")) reader.one_capture at.old) result at.new }
+{
+    let found = read_elements::<Captures, Global, Capture, (), _>(
+        alloc,
+        at,
+        0,
+        Closer::Angle,
+        &alloc,
+        free_capture,
+        (),
+    )?;
+    Ok(found.node)
+}
+
+/// What is captured, behind `use`.
+pub fn read_captures(alloc: Global, at: &mut Ahead<'_>) -> Result<List<Capture>, ReadNone>
+    ensures { IsGot (reader.angled reader.one_capture at.old) result at.new }
+{
+    if !takes_mark(at, b"<") {
+        return Err(ReadNone::NoReading);
+    }
+    read_captured(alloc, at)
 }
 
 /// The first token as a literal, if it passes.

@@ -10,8 +10,8 @@ use lay_node::{Bound, Constraint, PathStyle, Ty, TypePlace};
 use lay_read_parts::joins::{both, prepended, refused};
 use lay_read_parts::leads::{begins_const, is_at_lifetime};
 use lay_read_parts::loops::{Joint, Part, read_chain};
-use lay_read_parts::parts::{read_binder_if, read_const, read_lifetime};
-use lay_read_tokens::front::{takes_closer, takes_mark, takes_op, takes_opener};
+use lay_read_parts::parts::{read_binder_if, read_captures, read_const, read_lifetime};
+use lay_read_tokens::front::{takes_closer, takes_keyword, takes_mark, takes_op, takes_opener};
 use lay_read_tokens::{Ahead, Found, ReadNone};
 use lay_token::{Delim, List};
 use std::alloc::Global;
@@ -21,6 +21,19 @@ pub struct Bounds;
 
 impl Part<Bound, ()> for Bounds {
     ghost reads = { λ depth place ts. reader.one_bound (within depth) ts };
+}
+
+/// What is captured, behind `use`.
+#[inline(never)]
+fn captures(alloc: Global, at: &mut Ahead<'_>) -> Result<Found<Bound>, ReadNone>
+    ensures read { IsFound (reader.captures at.old) result at.new }
+    ensures within { IfOk result (λ found. found.need ≤ 0) }
+{
+    let captured = read_captures(alloc, at)?;
+    Ok(Found {
+        node: Bound::Captures { captured },
+        need: 0,
+    })
 }
 
 impl<
@@ -61,6 +74,9 @@ impl<
                 node: Bound::Outlives { lifetime },
                 need: 0,
             });
+        }
+        if takes_keyword(at, b"use") {
+            return captures(self.alloc, at);
         }
         if !takes_opener(at, Delim::Paren) {
             return self.meets(at, false);

@@ -3,8 +3,8 @@ ghost use Rattle.std.specs.Prelude.{◌≡◌, ◌↔◌, IsTrue};
 
 use crate::lists::Same;
 use lay_node::{
-    Abi, Arg, Args, Binder, Bound, Boxed, ConstArg, Constraint, FuncParam, LifetimeParam, Path,
-    PathStart, Ty, Word,
+    Abi, Arg, Args, Binder, Bound, Boxed, Capture, ConstArg, Constraint, FuncParam, LifetimeParam,
+    Path, PathStart, Ty, Word,
 };
 
 impl Same for ConstArg {
@@ -34,6 +34,19 @@ impl Same for LifetimeParam {
 impl Same for Binder {
     fn same(&self, other: &Binder) -> bool {
         self.params.same(&other.params)
+    }
+}
+
+impl Same for Capture {
+    fn same(&self, other: &Capture) -> bool {
+        match self {
+            Capture::Region { lifetime } => {
+                matches!(other, Capture::Region { lifetime: given } if lifetime.same(given))
+            }
+            Capture::Word { word } => {
+                matches!(other, Capture::Word { word: given } if word.same(given))
+            }
+        }
     }
 }
 
@@ -263,6 +276,9 @@ impl Same for Bound {
                 }
                 _ => false,
             },
+            Bound::Captures { captured } => {
+                matches!(other, Bound::Captures { captured: given } if captured.same(given))
+            }
         }
     }
 }

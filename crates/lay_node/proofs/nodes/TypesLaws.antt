@@ -14,6 +14,7 @@ use Rattle.lay_node.specs.declared.types.Args.{Args}
 use Rattle.lay_node.specs.declared.types.Args.TheVariants as args
 use Rattle.lay_node.specs.declared.types.Bound.{Bound}
 use Rattle.lay_node.specs.declared.types.Bound.TheVariants as bound
+use Rattle.lay_node.specs.declared.types.Capture.{Capture}
 use Rattle.lay_node.specs.declared.types.Constraint.{Constraint}
 use Rattle.lay_node.specs.declared.types.Constraint.TheVariants as constraint
 use Rattle.lay_node.specs.declared.types.PathStart.{PathStart}
@@ -72,6 +73,7 @@ pub data ConstraintView : Constraint → Type 0 where
 pub data BoundView : Bound → Type 0 where
   IsOutlives : (lifetime : Lifetime) → BoundView (bound.Outlives lifetime)
   IsMeets : (parens : Bool) (maybe : Bool) (binder : Option Binder) (path : Path) → BoundView (bound.Meets parens maybe binder path)
+  IsCaptures : (captured : List Capture) → BoundView (bound.Captures captured)
 
 type_layer : (layer : Ty-F Arg Args Bound Constraint PathStart Ty FuncParam Path) → TyView (views.roll-Ty layer)
 type_layer (Ty-F.Path path) = subst TyView (sym (views.rolls-Path path)) (IsPath path)
@@ -111,6 +113,7 @@ constraint_layer (Constraint-F.Limit bounds) = subst ConstraintView (sym (views.
 bound_layer : (layer : Bound-F Arg Args Bound Constraint PathStart Ty FuncParam Path) → BoundView (views.roll-Bound layer)
 bound_layer (Bound-F.Outlives lifetime) = subst BoundView (sym (views.rolls-Outlives lifetime)) (IsOutlives lifetime)
 bound_layer (Bound-F.Meets parens maybe binder path) = subst BoundView (sym (views.rolls-Meets parens maybe binder path)) (IsMeets parens maybe binder path)
+bound_layer (Bound-F.Captures captured) = subst BoundView (sym (views.rolls-Captures captured)) (IsCaptures captured)
 
 pub type_view : (x : Ty) → TyView x
 type_view x = subst TyView (views.roll-out-Ty x) (type_layer (views.out-Ty x))
@@ -362,6 +365,14 @@ bound_meets_is parens maybe binder path =
     ∙ fold-roll-Bound Facts ArgsFacts Facts Facts Facts TypeFacts Facts PathFacts
     arg_facts args_facts bound_facts constraint_facts start_facts ty_facts func_param_facts path_facts
     (Bound-F.Meets parens maybe binder path)
+
+pub bound_captures_is : (captured : List Capture) → about_bound (bound.Captures captured) ≡ bound_facts (Bound-F.Captures captured)
+unfolding about_type about_path about_start about_args about_arg about_constraint about_bound about_func_param
+bound_captures_is captured =
+    ap about_bound (sym (views.rolls-Captures captured))
+    ∙ fold-roll-Bound Facts ArgsFacts Facts Facts Facts TypeFacts Facts PathFacts
+    arg_facts args_facts bound_facts constraint_facts start_facts ty_facts func_param_facts path_facts
+    (Bound-F.Captures captured)
 
 pub func_param_is : (p : FuncParam) → about_func_param p ≡ func_param_facts (record { attrs = p.attrs; name = p.name; ty = about_type p.ty })
 unfolding about_type about_path about_start about_args about_arg about_constraint about_bound about_func_param

@@ -14,7 +14,7 @@ use Rattle.lay_node.specs.Ahead.{Tokens, first, tail, is_keyword, is_lifetime, i
 use Rattle.lay_node.specs.Begins.{OfPath, lead_at, begins_bound}
 use Rattle.lay_node.specs.Words.{is_path_word, colons}
 use Rattle.lay_node.specs.nodes.Facts.{Facts, forms, all_good}
-use Rattle.lay_node.specs.nodes.Types.{PathFacts, in_style, less, greater, equals, good_at, joined, is_several, lifetime_param_form, bounds_form, bounds_good, last_refuses, meets_form, binder_form, is_binder, segment_form, segments_form, segment_good, segments_good, segments_refuse, of_form, of_good, const_form, about_type, about_path, about_start, about_args, about_constraint, about_bound}
+use Rattle.lay_node.specs.nodes.Types.{PathFacts, in_style, less, greater, equals, good_at, joined, is_several, lifetime_param_form, capture_form, bounds_form, bounds_good, last_refuses, meets_form, binder_form, is_binder, segment_form, segments_form, segment_good, segments_good, segments_refuse, of_form, of_good, const_form, about_type, about_path, about_start, about_args, about_constraint, about_bound}
 use Rattle.lay_node.specs.reader.Loops.{Read, nodes, deepest}
 use Rattle.lay_node.specs.reader.Types.{Within, operator, if_read, binder_if, segment, trait_path, qualified, path_start, returns_last, path, meets, one_bound, all_bounds, bounds_by, constraint_by}
 use Rattle.lay_node.specs.declared.token.Word.{Word}
@@ -32,13 +32,14 @@ use Rattle.lay_node.specs.declared.types.TypePlace.{TypePlace}
 use Rattle.lay_node.specs.declared.types.TypePlace.TheVariants.{Bounds, NoBounds}
 use Rattle.lay_node.proofs.Fronts.{one_front, other_op, one_shorter, op_shorter, mark_passed, closer_passed}
 use Rattle.lay_node.proofs.Parts.{Rows, bit_alone, behind_blank, before_blank, piece_bit, part_alone, word_kind, leaf_parts}
-use Rattle.lay_node.proofs.nodes.TypesLaws.{PathStartView, IsLocal, IsGlobal, IsQualified, ConstraintView, IsEqual, IsEqualConst, IsLimit, BoundView, IsOutlives, IsMeets, about_segment, type_view, start_view, constraint_view, bound_view, start_local_is, start_global_is, start_qualified_is, constraint_equal_is, constraint_equal_const_is, constraint_limit_is, bound_outlives_is, bound_meets_is, path_is}
+use Rattle.lay_node.proofs.nodes.TypesLaws.{PathStartView, IsLocal, IsGlobal, IsQualified, ConstraintView, IsEqual, IsEqualConst, IsLimit, BoundView, IsOutlives, IsMeets, IsCaptures, about_segment, type_view, start_view, constraint_view, bound_view, start_local_is, start_global_is, start_qualified_is, constraint_equal_is, constraint_equal_const_is, constraint_limit_is, bound_outlives_is, bound_meets_is, bound_captures_is, path_is}
 use Rattle.lay_node.proofs.reader.Exact.{IsRead}
 use Rattle.lay_node.proofs.reader.Loops.{Turn}
 use Rattle.lay_node.proofs.reader.TypesBegins.{lead_of, path_parts, path_goods, SegmentsFront, segments_front, path_begins, type_begins}
+use Rattle.lay_node.proofs.reader.TypesCompleteCaptures.{captured_complete}
 use Rattle.lay_node.proofs.reader.TypesCompleteParts.{keyword_there, one_left, lifetime_complete, lifetime_alone, colon_operator, binder_complete, const_complete}
 use Rattle.lay_node.proofs.reader.TypesComplete.{Reads, quiet_read, args_read, operator_read, deeper_parts, path_as_type, path_type_good, as_path_is, colons_clear}
-use Rattle.lay_node.proofs.reader.TypesFronts.{op_first, lead_no_lifetime, lead_no_question, lead_no_const, path_lead_no_paren, path_lead_no_for, word_no_mark, Clear, free_clear, Quiet, Ends, plus_free, greater_ends, closer_ends, as_quiet}
+use Rattle.lay_node.proofs.reader.TypesFronts.{op_first, lead_no_lifetime, lead_no_keyword, lead_no_question, lead_no_const, path_lead_no_paren, path_lead_no_for, word_no_mark, Clear, free_clear, Quiet, Ends, plus_free, greater_ends, closer_ends, as_quiet}
 use Rattle.lay_node.proofs.reader.TypesLists.{chain_complete}
 use Rattle.lay_node.proofs.reader.Words.{word_complete, word_no_op}
 
@@ -203,19 +204,21 @@ module _ (depth : ℕ) (within : Within) (reads : Reads depth within) where
 
   -- What begins a bound that is a path.
   abbrev pub BoundFront : Tokens → Type 0
-  BoundFront ts = (first is_lifetime ts ≡ false) × (first (opens Paren) ts ≡ false) × (begins_bound ts ≡ true)
+  BoundFront ts =
+      (first is_lifetime ts ≡ false) × (first (is_keyword (codes "use")) ts ≡ false) × (first (opens Paren) ts ≡ false) × (begins_bound ts ≡ true)
 
   path_front : (ts : Tokens) → lead_at ts ≡ Some OfPath → BoundFront ts
   path_front ts h =
       let l = lead_no_lifetime ts OfPath h in
+      let u = lead_no_keyword (codes "use") refl ts OfPath h in
       let p = path_lead_no_paren ts h in
-      (l, p, rw (l, p, lead_no_question ts OfPath h, path_lead_no_for ts h, h) refl)
+      (l, u, p, rw (l, u, p, lead_no_question ts OfPath h, path_lead_no_for ts h, h) refl)
 
   for_front : (ts rest : Tokens) → IsOne Ident (codes "for") ts rest → BoundFront ts × (first (is_mark (codes "?")) ts ≡ false)
-  for_front ts rest o = let f = (one_front Ident (codes "for") ts rest o).1 in ((rw f refl, rw f refl, rw f refl), rw f refl)
+  for_front ts rest o = let f = (one_front Ident (codes "for") ts rest o).1 in ((rw f refl, rw f refl, rw f refl, rw f refl), rw f refl)
 
   question_front : (ts rest : Tokens) → IsOne Punct (codes "?") ts rest → BoundFront ts
-  question_front ts rest o = let f = (one_front Punct (codes "?") ts rest o).1 in (rw f refl, rw f refl, rw f refl)
+  question_front ts rest o = let f = (one_front Punct (codes "?") ts rest o).1 in (rw f refl, rw f refl, rw f refl, rw f refl)
 
   abbrev PathPart : Path → Form
   PathPart p = Part (about_path p InKind).form Done
@@ -289,14 +292,14 @@ module _ (depth : ℕ) (within : Within) (reads : Reads depth within) where
           meets_read true m d p u.0 part.0 part.1 good (free_clear (about_path p InKind).refuses part.0 (closer_ends Paren part.0 rest close).quiet.free) in
           let one = r.0 in
           let front = paren_front ts u.0 o in (
-            (one.0, one.1, rw (front.0, front.1, front.2, one.2, closer_passed Paren part.0 rest close) refl),
-            rw (front.0, front.1) refl,
+            (one.0, one.1, rw (front.0, front.1, front.2, front.3, one.2, closer_passed Paren part.0 rest close) refl),
+            rw (front.0, front.1, front.2) refl,
             omega (arith, r.2, one_shorter (Opener Paren) (opening Paren ∷ []) ts u.0 o, shorter (piece (closer Paren ∷ [])) depth part.0 rest part.2),
           )
         where
           paren_front : (us at : Tokens) → IsOne (Opener Paren) (opening Paren ∷ []) us at
-              → (first is_lifetime us ≡ false) × (first (opens Paren) us ≡ true) × (tail us ≡ at)
-          paren_front us at o = let f = (one_front (Opener Paren) (opening Paren ∷ []) us at o).1 in (rw f refl, rw f refl, rw f refl)
+              → (first is_lifetime us ≡ false) × (first (is_keyword (codes "use")) us ≡ false) × (first (opens Paren) us ≡ true) × (tail us ≡ at)
+          paren_front us at o = let f = (one_front (Opener Paren) (opening Paren ∷ []) us at o).1 in (rw f refl, rw f refl, rw f refl, rw f refl)
       by _ (IsMeets false m d p) t h k =
           let u = subst (λ (F : Facts). Spells F.form depth ts rest) (bound_meets_is false m d p) t in
           let good = subst (λ (F : Facts). F.good ≡ true) (bound_meets_is false m d p) h in
@@ -304,7 +307,22 @@ module _ (depth : ℕ) (within : Within) (reads : Reads depth within) where
           let r = meets_read false m d p ts rest u good c in
           let one = r.0 in
           let front = r.1 in
-          ((one.0, one.1, rw (front.0, front.1, one.2) refl), front.2, r.2)
+          ((one.0, one.1, rw (front.0, front.1, front.2, one.2) refl), front.3, r.2)
+      by _ (IsCaptures cs) t h k =
+          let u = subst (λ (F : Facts). Spells F.form depth ts rest) (bound_captures_is cs) t in
+          let good = subst (λ (F : Facts). F.good ≡ true) (bound_captures_is cs) h in
+          let o : IsOne Ident (codes "use") ts u.0 = bit_alone (keyword (codes "use")) ts u.0 u.1 in
+          let list : Form = comma_list true less greater (map capture_form cs) in
+          let r = captured_complete cs depth u.0 rest (part_alone list depth u.0 rest u.2) good in
+          let front = use_front ts u.0 o in (
+            (0, omega arith, rw (front.0, front.1, front.2, r) refl),
+            rw (front.0, front.1) refl,
+            omega (arith, one_shorter Ident (codes "use") ts u.0 o, shorter (Part list Done) depth u.0 rest u.2),
+          )
+        where
+          use_front : (us at : Tokens) → IsOne Ident (codes "use") us at
+              → (first is_lifetime us ≡ false) × (first (is_keyword (codes "use")) us ≡ true) × (tail us ≡ at)
+          use_front us at o = let f = (one_front Ident (codes "use") us at o).1 in (rw f refl, rw f refl, rw f refl)
 
   abbrev plus : Form → Form
   plus f = B (Piece (Operator (codes "+") ∷ Blank ∷ []) f)

@@ -5,16 +5,16 @@ use Rattle.std.proofs.lemmas.Bool.{and_from}
 use Rattle.lay_piece.specs.declared.kind.Delim.TheVariants.{Paren}
 use Rattle.lay_piece.specs.declared.kind.Kind.TheVariants as kind
 use Rattle.lay_token.specs.Operators.{is_op}
-use Rattle.lay_form.specs.Form.{Blank, Fixed, Operator, Form, Done, Piece, Part, opener, closer}
+use Rattle.lay_form.specs.Form.{Blank, Fixed, Operator, Form, Done, Piece, Part, keyword, opener, closer}
 use Rattle.lay_form.specs.Notation.{B}
 use Rattle.lay_form.specs.Spelled.{IsOperator, AreBits, Spells}
-use Rattle.lay_node.specs.Ahead.{Tokens, first, tail, is_mark, is_lifetime, opens, closes}
+use Rattle.lay_node.specs.Ahead.{Tokens, first, tail, is_keyword, is_mark, is_lifetime, opens, closes}
 use Rattle.lay_node.specs.Follow.{may_follow}
 use Rattle.lay_node.specs.nodes.Facts.{Facts}
 use Rattle.lay_node.specs.nodes.Types.{is_several, bounds_form, bounds_good, last_refuses, meets_form, bound_facts, constraint_facts, binder_form, is_binder, about_type, about_path, about_constraint, about_bound, alone, joined}
 use Rattle.lay_node.specs.reader.Exact.{InText}
 use Rattle.lay_node.specs.reader.Loops.{passed, nodes, deepest}
-use Rattle.lay_node.specs.reader.Types.{Within, operator, flag, lifetime, chain, binder_if, begins_const, const, path, meets, one_bound, all_bounds, bounds_by, equal, constraint_by}
+use Rattle.lay_node.specs.reader.Types.{Within, operator, flag, lifetime, chain, angled, binder_if, one_capture, begins_const, const, path, meets, one_bound, all_bounds, bounds_by, equal, constraint_by}
 use Rattle.lay_node.specs.declared.types.Arg.TheOpen.{Bound-F, Constraint-F}
 use Rattle.lay_node.specs.declared.types.Binder.{Binder}
 use Rattle.lay_node.specs.declared.types.Bound.{Bound}
@@ -25,14 +25,14 @@ use Rattle.lay_node.specs.declared.types.Path.{Path}
 use Rattle.lay_node.specs.declared.types.PathStyle.TheVariants.{Kind}
 use Rattle.lay_node.specs.declared.types.TypePlace.{TypePlace}
 use Rattle.lay_node.specs.declared.types.TypePlace.TheVariants.{Bounds, NoBounds}
-use Rattle.lay_node.proofs.Fronts.{mark_one, opens_one, closer_passed_is}
+use Rattle.lay_node.proofs.Fronts.{keyword_one, mark_one, opens_one, closer_passed_is}
 use Rattle.lay_node.proofs.Parts.{Rows}
 use Rattle.lay_node.proofs.Steps.{same_some, chosen, bind_some}
-use Rattle.lay_node.proofs.nodes.TypesLaws.{constraint_equal_is, constraint_equal_const_is, constraint_limit_is, bound_outlives_is, bound_meets_is}
+use Rattle.lay_node.proofs.nodes.TypesLaws.{constraint_equal_is, constraint_equal_const_is, constraint_limit_is, bound_outlives_is, bound_meets_is, bound_captures_is}
 use Rattle.lay_node.proofs.reader.Exact.{Stands}
 use Rattle.lay_node.proofs.reader.Loops.{SoundStep}
 use Rattle.lay_node.proofs.reader.TypesSoundNeeds.{Held, held, forms_of, goods_of, chained}
-use Rattle.lay_node.proofs.reader.TypesSoundParts.{Out, bit_texts, operator_is, flag_leads, flag_texts, BehindOp, Chain, chain_sound, lifetime_sound, binder_if_sound, const_sound}
+use Rattle.lay_node.proofs.reader.TypesSoundParts.{Out, bit_texts, operator_is, flag_leads, flag_texts, BehindOp, Chain, chain_sound, lifetime_sound, binder_if_sound, captured_sound, const_sound}
 use Rattle.lay_node.proofs.reader.TypesSoundLevel.{asked, SoundWithin, bounds_refused}
 use Rattle.lay_node.proofs.reader.TypesSoundPaths.{path_told, path_sound}
 
@@ -106,34 +106,47 @@ module _ (budget : ℕ) (within : Within) (sound : SoundWithin budget within) wh
               (bound_outlives_is b.0.0) (omega arith) there,
           s.1,
         )
-    | inr g ↦ elim (chosen (first (opens Paren) ts) _ _ _ g.1) [
-      | inl f ↦
-          let y = bind_some (meets within true (tail ts)) _ _ f.1 in
-          let c = bind_some (passed (closes Paren) y.0.1) _ _ y.2 in
-          let o = opens_one Paren ts t f.0 in
-          let m = meets_sound true (tail ts) y.0.0 y.0.1 (bit_texts (opener Paren) ts (tail ts) o t) y.1 in
-          let i = m.0 in
-          let shut = closer_passed_is Paren y.0.1 c.0 m.1 c.1 in
-          let told = bound_facts (Bound-F.Meets true i.maybe i.binder (about_path i.path)) in
-          let there : Stands told y.0.0.1 ts c.0 = (
-            (tail ts, (tail ts, o, refl), (y.0.1, i.form, (c.0, (c.0, shut, refl), refl))),
-            i.good,
-            refl,
-          ) in
-          same_some (Out (Held about_bound budget) ts) (y.0.0, c.0) (x, rest) c.2 (
-            held (about_bound y.0.0.0) told budget y.0.0.1 ts c.0
-                (ap about_bound i.same ∙ bound_meets_is true i.maybe i.binder i.path) i.need there,
-            bit_texts (closer Paren) y.0.1 c.0 shut m.1,
+    | inr g ↦ elim (chosen (first (is_keyword (codes "use")) ts) _ _ _ g.1) [
+      | inl u ↦
+          let b = bind_some (angled one_capture (tail ts)) _ _ u.1 in
+          let o = keyword_one (codes "use") ts u.0 in
+          let s = captured_sound (tail ts) b.0.0 b.0.1 (bit_texts (keyword (codes "use")) ts (tail ts) o t) b.1 in
+          let there : Stands (bound_facts (Bound-F.Captures b.0.0)) 0 ts b.0.1 =
+          ((tail ts, (tail ts, o, refl), (b.0.1, s.0.0, refl)), s.0.1, refl) in
+          same_some (Out (Held about_bound budget) ts) ((bound.Captures b.0.0, 0), b.0.1) (x, rest) b.2 (
+            held (about_bound (bound.Captures b.0.0)) (bound_facts (Bound-F.Captures b.0.0)) budget 0 ts b.0.1
+                (bound_captures_is b.0.0) (omega arith) there,
+            s.1,
           )
-      | inr f ↦
-          let m = meets_sound false ts x rest t f.1 in
-          let i = m.0 in
-          let told = bound_facts (Bound-F.Meets false i.maybe i.binder (about_path i.path)) in (
-            held (about_bound x.0) told budget x.1 ts rest
-                (ap about_bound i.same ∙ bound_meets_is false i.maybe i.binder i.path) i.need
-                (i.form, i.good, i.follows),
-            m.1,
-          )
+      | inr u ↦ elim (chosen (first (opens Paren) ts) _ _ _ u.1) [
+        | inl f ↦
+            let y = bind_some (meets within true (tail ts)) _ _ f.1 in
+            let c = bind_some (passed (closes Paren) y.0.1) _ _ y.2 in
+            let o = opens_one Paren ts t f.0 in
+            let m = meets_sound true (tail ts) y.0.0 y.0.1 (bit_texts (opener Paren) ts (tail ts) o t) y.1 in
+            let i = m.0 in
+            let shut = closer_passed_is Paren y.0.1 c.0 m.1 c.1 in
+            let told = bound_facts (Bound-F.Meets true i.maybe i.binder (about_path i.path)) in
+            let there : Stands told y.0.0.1 ts c.0 = (
+              (tail ts, (tail ts, o, refl), (y.0.1, i.form, (c.0, (c.0, shut, refl), refl))),
+              i.good,
+              refl,
+            ) in
+            same_some (Out (Held about_bound budget) ts) (y.0.0, c.0) (x, rest) c.2 (
+              held (about_bound y.0.0.0) told budget y.0.0.1 ts c.0
+                  (ap about_bound i.same ∙ bound_meets_is true i.maybe i.binder i.path) i.need there,
+              bit_texts (closer Paren) y.0.1 c.0 shut m.1,
+            )
+        | inr f ↦
+            let m = meets_sound false ts x rest t f.1 in
+            let i = m.0 in
+            let told = bound_facts (Bound-F.Meets false i.maybe i.binder (about_path i.path)) in (
+              held (about_bound x.0) told budget x.1 ts rest
+                  (ap about_bound i.same ∙ bound_meets_is false i.maybe i.binder i.path) i.need
+                  (i.form, i.good, i.follows),
+              m.1,
+            )
+      ]
     ]
   ]
 

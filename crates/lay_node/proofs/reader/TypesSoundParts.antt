@@ -17,14 +17,15 @@ use Rattle.lay_form.proofs.FormLaws.{deeper as raise, bits_end, is_end}
 use Rattle.lay_node.specs.Ahead.{Tokens, first, tail, is_keyword, is_mark, is_lifetime, is_lifetime_kind, opens, closes}
 use Rattle.lay_node.specs.Words.{is_literal, is_number, is_string}
 use Rattle.lay_node.specs.nodes.Attr.{attr_form, is_attr, are_attrs, is_inner, is_line, about_attr}
-use Rattle.lay_node.specs.nodes.Types.{joined, less, greater, param_attrs, lifetime_form, lifetimes_form, outlived_form, lifetime_param_form, is_lifetime_param, binder_form, is_binder, const_form, is_const, abi_form, is_abi}
+use Rattle.lay_node.specs.nodes.Types.{joined, less, greater, is_captured, is_capture, capture_form, param_attrs, lifetime_form, lifetimes_form, outlived_form, lifetime_param_form, is_lifetime_param, binder_form, is_binder, const_form, is_const, abi_form, is_abi}
 use Rattle.lay_node.specs.nodes.Types as types
 use Rattle.lay_node.specs.nodes.Where.{outlives_follow}
 use Rattle.lay_node.specs.reader.Attr.{attributes}
 use Rattle.lay_node.specs.reader.Exact.{InText}
 use Rattle.lay_node.specs.reader.Loops.{Got, Read, ◌>>=◌, passed, repeat, element_end, elements_from, elements}
 use Rattle.lay_node.specs.reader.Tokens.{tokens, group}
-use Rattle.lay_node.specs.reader.Types.{operator, flag, if_there, if_read, lifetime, literal, chain, lifetimes, outlived, lifetime_behind, lifetime_param, angled, binder, binder_if, negative, braces, const, is_string_token, abi}
+use Rattle.lay_node.specs.reader.Words.{word}
+use Rattle.lay_node.specs.reader.Types.{operator, flag, if_there, if_read, lifetime, literal, chain, lifetimes, outlived, lifetime_behind, lifetime_param, angled, binder, binder_if, one_capture, negative, braces, const, is_string_token, abi}
 use Rattle.lay_node.specs.Begins.{is_literal_token}
 use Rattle.lay_node.specs.tokens.Lists.{group_form}
 use Rattle.lay_node.specs.declared.attr.Attr.{Attr}
@@ -34,15 +35,18 @@ use Rattle.lay_node.specs.declared.token.Literal.{Literal}
 use Rattle.lay_node.specs.declared.tokens.Group.{Group}
 use Rattle.lay_node.specs.declared.types.Abi.{Abi}
 use Rattle.lay_node.specs.declared.types.Binder.{Binder}
+use Rattle.lay_node.specs.declared.types.Capture.{Capture}
+use Rattle.lay_node.specs.declared.types.Capture.TheVariants as capture
 use Rattle.lay_node.specs.declared.types.ConstArg.{ConstArg}
 use Rattle.lay_node.specs.declared.types.ConstArg.TheVariants as const_arg
 use Rattle.lay_node.specs.declared.types.LifetimeParam.{LifetimeParam}
 use Rattle.lay_node.proofs.Fronts.{texts_behind, keyword_one, mark_one, passed_first, mark_passed_is, opener_passed_is}
-use Rattle.lay_node.proofs.Parts.{Rows, rows_pass, GoodAt, SpelledAt, Further}
+use Rattle.lay_node.proofs.Parts.{Rows, rows_pass, GoodAt, SpelledAt, Further, word_kind, leaf_spelled}
 use Rattle.lay_node.proofs.Steps.{got_same, same_some, chosen, bind_some, one_more, no_more}
 use Rattle.lay_node.proofs.reader.Attr.{attributes_sound}
 use Rattle.lay_node.proofs.reader.Loops.{SoundStep, repeat_sound}
 use Rattle.lay_node.proofs.reader.Tokens.{group_sound}
+use Rattle.lay_node.proofs.reader.Words.{word_sound}
 
 -- ---- what is read, and what is left
 
@@ -477,6 +481,45 @@ binder_if_sound ts b rest t h =
     if_there_sound LeadsGood binder (first (is_keyword (codes "for")) ts) ts (λ g y mid e. binder_sound ts y mid t e)
     (λ g. ((λ f depth end s. s), refl)) t
     b rest h
+
+-- ---- what is captured
+
+abbrev pub IsCapture : Capture → Tokens → Tokens → Type 0
+IsCapture c ts rest = Spells (capture_form c) 0 ts rest × (is_capture c ≡ true)
+
+capture_sound : SoundStep one_capture IsCapture
+unfolding one_capture
+capture_sound ts c rest t h = elim (chosen (first is_lifetime ts) _ _ _ h) [
+  | inl g ↦
+      let l = bind_some (lifetime ts) _ _ g.1 in
+      let s = lifetime_sound ts l.0.0 l.0.1 t l.1 in
+      same_some (Out IsCapture ts) (capture.Region l.0.0, l.0.1) (c, rest) l.2
+      ((lifetime_spelled 0 l.0.0 ts l.0.1 s.0, refl), s.1)
+  | inr g ↦
+      let w = bind_some (word ts) _ _ g.1 in
+      let o = (word_sound ts w.0.0 w.0.1 w.1).0 in
+      elim (chosen (is_captured w.0.0) _ None _ w.2) [
+        | inl k ↦
+            same_some (Out IsCapture ts) (capture.Word w.0.0, w.0.1) (c, rest) k.1
+            (
+              (leaf_spelled w.0.0.raw w.0.0.text Done 0 ts w.0.1 w.0.1 o refl, k.0),
+              bit_texts (Fixed (word_kind w.0.0.raw) w.0.0.text) ts w.0.1 o t,
+            )
+        | inr k ↦ absurd (cc)
+      ]
+]
+
+abbrev pub AreCaptured : List Capture → Tokens → Tokens → Type 0
+AreCaptured cs ts rest = Spells (comma_list true less greater (map capture_form cs)) 0 ts rest × (list_all is_capture cs ≡ true)
+
+pub captured_sound : SoundStep (angled one_capture) AreCaptured
+captured_sound ts cs rest t h =
+    let o = bind_some (passed (is_mark (codes "<")) ts) _ _ h in
+    let opened = mark_passed_is (codes "<") ts o.0 o.1 in
+    let e = elements_by one_capture IsCapture capture_sound (is_mark (codes ">")) greater greater_shuts o.0 cs rest
+    (bit_texts less ts o.0 opened t) o.2 in
+    let a = elements_all IsCapture (λ c. SpelledAt 0 (capture_form c)) is_capture (λ c us mid g. g) greater cs o.0 rest e.0 in
+    ((list_by capture_form 0 less greater cs ts o.0 rest opened a.0, a.1), e.1)
 
 -- ---- literals and constants
 

@@ -1,6 +1,7 @@
 -- Types, paths with generic arguments, and bounds (Rust Reference, "Types", "Paths", "Trait and lifetime bounds").
-use Rattle.std.specs.Prelude.{ℕ, ◌&&◌, not, Bool, true, false, if◌then◌else◌, List, [], ◌∷◌, ◌++◌, map, codes, Option, Some, None, is_some}
+use Rattle.std.specs.Prelude.{ℕ, ◌&&◌, ◌||◌, not, Bool, true, false, if◌then◌else◌, List, [], ◌∷◌, ◌++◌, map, codes, Option, Some, None, is_some}
 use Rattle.std.specs.List.{list_all}
+use Rattle.std.specs.Str.{bytes_eq}
 use Rattle.lay_piece.specs.Characters as char
 use Rattle.lay_piece.specs.declared.kind.Delim.TheVariants.{Paren, Bracket, Brace}
 use Rattle.lay_piece.specs.declared.kind.Kind.TheVariants as kind
@@ -30,6 +31,8 @@ use Rattle.lay_node.specs.declared.types.Arg.TheViews.{out-Args, out-PathStart}
 use Rattle.lay_node.specs.declared.types.Args.{Args}
 use Rattle.lay_node.specs.declared.types.Binder.{Binder}
 use Rattle.lay_node.specs.declared.types.Bound.{Bound}
+use Rattle.lay_node.specs.declared.types.Capture.{Capture}
+use Rattle.lay_node.specs.declared.types.Capture.TheVariants as capture
 use Rattle.lay_node.specs.declared.types.ConstArg.{ConstArg}
 use Rattle.lay_node.specs.declared.types.ConstArg.TheVariants as const_arg
 use Rattle.lay_node.specs.declared.types.Constraint.{Constraint}
@@ -133,6 +136,21 @@ given_form given.Underscore f = Leaf kind.Underscore (codes "_") f
 abbrev pub is_given : GivenName → Bool
 is_given (given.Name name) = is_name name.raw name.text
 is_given given.Underscore = true
+
+-- A name may be captured, and `Self`, but no other word of a path.
+abbrev pub is_captured : Word → Bool
+is_captured w = is_name w.raw w.text || bytes_eq w.text (codes "Self")
+
+abbrev pub is_capture : Capture → Bool
+is_capture (capture.Region l) = true
+is_capture (capture.Word w) = is_captured w
+
+abbrev pub capture_form : Capture → Form
+capture_form (capture.Region l) = lifetime_form l
+capture_form (capture.Word w) = leaf_of w.raw w.text Done
+
+abbrev pub captures_form : List Capture → Form
+captures_form captured = Piece (keyword (codes "use") ∷ []) (Part (comma_list true less greater (map capture_form captured)) Done)
 
 -- ---- what is told of types and of generic arguments
 
@@ -253,6 +271,7 @@ bound_facts (Bound-F.Meets false maybe binder path) = record {
   good = is_binder binder && (path Kind).good;
   refuses = (path Kind).refuses;
 }
+bound_facts (Bound-F.Captures captured) = record { form = captures_form captured; good = list_all is_capture captured; refuses = [] }
 
 -- ---- arguments
 

@@ -8,7 +8,7 @@ use Rattle.lay_node.specs.Begins.{is_literal_token, Lead, OfPath, OfParen, OfNev
 use Rattle.lay_node.specs.Follow.{begins_there, OfBang}
 use Rattle.lay_node.specs.Words.{is_name, is_number, is_string}
 use Rattle.lay_node.specs.nodes.Attr.{is_empty}
-use Rattle.lay_node.specs.nodes.Types.{about_args, starts_plain}
+use Rattle.lay_node.specs.nodes.Types.{is_captured, about_args, starts_plain}
 use Rattle.lay_node.specs.reader.Attr.{attributes}
 use Rattle.lay_node.specs.reader.Call.{call}
 use Rattle.lay_node.specs.reader.Loops.{Got, Read, ◌>>=◌, passed, nodes, deepest, repeat, elements, open_elements}
@@ -31,6 +31,8 @@ use Rattle.lay_node.specs.declared.types.Args.TheVariants as args
 use Rattle.lay_node.specs.declared.types.Binder.{Binder}
 use Rattle.lay_node.specs.declared.types.Bound.{Bound}
 use Rattle.lay_node.specs.declared.types.Bound.TheVariants as bound
+use Rattle.lay_node.specs.declared.types.Capture.{Capture}
+use Rattle.lay_node.specs.declared.types.Capture.TheVariants as capture
 use Rattle.lay_node.specs.declared.types.ConstArg.{ConstArg}
 use Rattle.lay_node.specs.declared.types.ConstArg.TheVariants as const_arg
 use Rattle.lay_node.specs.declared.types.Constraint.{Constraint}
@@ -117,6 +119,12 @@ binder ts = do
 
 abbrev pub binder_if : Tokens → Got (Option Binder)
 binder_if ts = if_there (first (is_keyword (codes "for")) ts) binder ts
+
+-- a lifetime or a word that is captured
+unfoldable pub one_capture : Tokens → Got Capture
+one_capture ts =
+    if first is_lifetime ts then (do l ← lifetime ts; Some (capture.Region l.0, l.1))
+    else (do w ← word ts; if is_captured w.0 then Some (capture.Word w.0, w.1) else None)
 
 -- ---- constants
 
@@ -255,14 +263,19 @@ meets within parens ts = do
   p ← path within InKind b.1
   Some ((bound.Meets parens (flag (is_mark (codes "?")) ts).0 b.0 p.0.0, p.0.1), p.1)
 
+-- what is captured, behind `use`
+abbrev pub captures : Tokens → Read Bound
+captures ts = do captured ← angled one_capture ts; Some ((bound.Captures captured.0, 0), captured.1)
+
 unfoldable pub one_bound : Within → Tokens → Read Bound
 one_bound within ts =
     if first is_lifetime ts then (do l ← lifetime ts; Some ((bound.Outlives l.0, 0), l.1))
+    else (if first (is_keyword (codes "use")) ts then captures (tail ts)
     else (if first (opens Paren) ts then (do
       x ← meets within true (tail ts)
       rest ← passed (closes Paren) x.1
       Some (x.0, rest))
-    else meets within false ts)
+    else meets within false ts))
 
 abbrev pub all_bounds : Within → Tokens → Read (List Bound)
 all_bounds within ts = do xs ← chain (codes "+") (one_bound within) ts; Some ((nodes xs.0, deepest xs.0), xs.1)
