@@ -5,7 +5,7 @@ use Rattle.lay_form.specs.Depth.{least_depth}
 use Rattle.lay_form.specs.Form.{Bit, Blank, Operator, Form, Done, Piece, Part, keyword, opener, closer}
 use Rattle.lay_form.specs.Notation.{B, when}
 use Rattle.lay_node.specs.nodes.Facts.{Facts, forms}
-use Rattle.lay_node.specs.nodes.Types.{TypeFacts, ArgsFacts, abi_form, abi_name, about_arg, about_args, about_bound, about_constraint, about_func_param, about_path, about_start, about_type, binder_form, bounds_form, const_form, dots, given_form, greater, less, lifetime_form, lifetime_param_form, lifetimes_form, meets_form, outlived_form, output_form, param_name, params_form, ref_lifetime, tuple_form, type_forms}
+use Rattle.lay_node.specs.nodes.Types.{TypeFacts, ArgsFacts, abi_form, abi_name, about_arg, about_args, about_bound, about_constraint, about_func_param, about_path, about_start, about_type, binder_form, bounds_form, capture_form, const_form, dots, given_form, greater, less, lifetime_form, lifetime_param_form, lifetimes_form, meets_form, outlived_form, output_form, param_name, params_form, ref_lifetime, tuple_form, type_forms}
 use Rattle.lay_node.specs.declared.token.GivenName.{GivenName}
 use Rattle.lay_node.specs.declared.token.GivenName.TheVariants as given
 use Rattle.lay_node.specs.declared.token.Lifetime.{Lifetime}
@@ -21,6 +21,8 @@ use Rattle.lay_node.specs.declared.types.Args.TheVariants as args
 use Rattle.lay_node.specs.declared.types.Binder.{Binder}
 use Rattle.lay_node.specs.declared.types.Bound.{Bound}
 use Rattle.lay_node.specs.declared.types.Bound.TheVariants as bound
+use Rattle.lay_node.specs.declared.types.Capture.{Capture}
+use Rattle.lay_node.specs.declared.types.Capture.TheVariants as capture
 use Rattle.lay_node.specs.declared.types.ConstArg.{ConstArg}
 use Rattle.lay_node.specs.declared.types.ConstArg.TheVariants as const_arg
 use Rattle.lay_node.specs.declared.types.Constraint.{Constraint}
@@ -68,6 +70,14 @@ binder_is None f = refl
 binder_is (Some b) f =
     let m = list_is true less greater (map lifetime_param_form b.params) in
     let n = lifetime_params_are b.params in omega (arith, m, n)
+
+capture_is : (c : Capture) → least_depth (capture_form c) ≡ 0
+capture_is (capture.Region l) = refl
+capture_is (capture.Word w) = leaf_is w.raw w.text Done
+
+captures_are : (cs : List Capture) → greatest (map capture_form cs) ≡ 0
+captures_are [] = refl
+captures_are (c ∷ cs) = let m = capture_is c in let n = captures_are cs in omega (arith, m, n)
 
 pub abi_is : (abi : Option Abi) (f : Form) → least_depth (abi_form abi f) ≡ least_depth f
 abi_is None f = refl
@@ -328,8 +338,19 @@ limit_constraint x bounds is =
 by_bound : {x y : Bound} {facts : Facts} → x ≡ y → about_bound y ≡ facts → least_depth (about_bound x).form ≡ least_depth facts.form
 by_bound is law = ap (λ (x : Bound). least_depth (about_bound x).form) is ∙ ap (λ (f : Facts). least_depth f.form) law
 
-pub outlives_bound : (x : Bound) (lifetime : Lifetime) → x ≡ bound.Outlives lifetime → least_depth (about_bound x).form ≡ 0
+outlives_bound : (x : Bound) (lifetime : Lifetime) → x ≡ bound.Outlives lifetime → least_depth (about_bound x).form ≡ 0
 outlives_bound x lifetime is = by_bound is (laws.bound_outlives_is lifetime)
+
+captures_bound : (x : Bound) (captured : List Capture) → x ≡ bound.Captures captured → least_depth (about_bound x).form ≡ 0
+captures_bound x captured is =
+    let m = list_is true less greater (map capture_form captured) in
+    let n = captures_are captured in by_bound is (laws.bound_captures_is captured) ∙ omega (arith, m, n)
+
+-- a bound with no part that is counted
+pub leaf_bound : (x : Bound) → ((lifetime : Lifetime) × (x ≡ bound.Outlives lifetime)) ⊎ ((captured : List Capture) × (x ≡ bound.Captures captured))
+    → 0 ≡ counted (least_depth (about_bound x).form)
+leaf_bound x (inl lifetime) = let m = outlives_bound x lifetime.0 lifetime.1 in omega (arith, m)
+leaf_bound x (inr captured) = let m = captures_bound x captured.0 captured.1 in omega (arith, m)
 
 meets_are : (maybe : Bool) (binder : Option Binder) (path : Form) → least_depth (meets_form maybe binder path) ≡ least_depth path
 meets_are maybe binder path =

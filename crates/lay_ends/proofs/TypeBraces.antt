@@ -9,7 +9,7 @@ use Rattle.lay_node.specs.Words.{leaf_of}
 use Rattle.lay_node.specs.nodes.Call.{about_call, bang}
 use Rattle.lay_node.specs.nodes.Facts.{Facts, forms}
 use Rattle.lay_node.specs.nodes.SimplePath.{about_simple_path}
-use Rattle.lay_node.specs.nodes.Types.{PathFacts, TypeFacts, about_arg, about_args, about_bound, about_func_param, about_path, about_start, about_type, abi_form, abi_name, binder_form, dots, in_style, joined, less, greater, lifetime_param_form, meets_form, output_form, params_form, segments_form, type_forms}
+use Rattle.lay_node.specs.nodes.Types.{PathFacts, TypeFacts, about_arg, about_args, about_bound, about_func_param, about_path, about_start, about_type, abi_form, abi_name, binder_form, capture_form, dots, in_style, joined, less, greater, lifetime_param_form, meets_form, output_form, params_form, segments_form, type_forms}
 use Rattle.lay_node.specs.tokens.Listing.{Grouping, NoMore, OneToken, OneGroup, in_groups}
 use Rattle.lay_node.specs.tokens.Lists.{enclosed_form, ends_in_line, form_of_grouping}
 use Rattle.lay_node.specs.tokens.Pairs.{at_start}
@@ -160,6 +160,7 @@ abbrev pub bound_in : Bound-F Arg Args Bound Constraint PathStart Ty FuncParam P
 bound_in (Bound-F.Outlives l) = false
 bound_in (Bound-F.Meets true maybe binder path) = false
 bound_in (Bound-F.Meets false maybe binder path) = ends_in_brace (about_path path Kind).form
+bound_in (Bound-F.Captures captured) = false
 
 -- A path behind a `?` and a binder ends as it does by itself.
 meets_ends : (maybe : Bool) (binder : Option Binder) (path : Form) → ends_in_brace (meets_form maybe binder path) ≡ ends_in_brace path
@@ -175,6 +176,8 @@ bound_by _ (laws.IsMeets true maybe binder path) =
 bound_by _ (laws.IsMeets false maybe binder path) =
     rw (laws.bound_meets_is false maybe binder path, views.outs-Meets false maybe binder path)
     (meets_ends maybe binder (about_path path Kind).form)
+bound_by _ (laws.IsCaptures captured) =
+    rw (laws.bound_captures_is captured, views.outs-Captures captured) (angled (map capture_form captured) false)
 
 pub bound_is : (x : Bound) → ends_in_brace (about_bound x).form ≡ bound_in (views.out-Bound x)
 bound_is x = bound_by x (laws.bound_view x)

@@ -107,6 +107,7 @@ abbrev bound_lacks_in : Bound-F Arg Args Bound Constraint PathStart Ty FuncParam
 bound_lacks_in (Bound-F.Outlives l) = false
 bound_lacks_in (Bound-F.Meets true maybe binder path) = false
 bound_lacks_in (Bound-F.Meets false maybe binder path) = lacks_args (about_path path Kind).refuses
+bound_lacks_in (Bound-F.Captures captured) = false
 
 bound_lacks_by : (x : Bound) → laws.BoundView x → lacks_args (about_bound x).refuses ≡ bound_lacks_in (views.out-Bound x)
 bound_lacks_by _ (laws.IsOutlives l) = rw (laws.bound_outlives_is l, views.outs-Outlives l) refl
@@ -114,6 +115,7 @@ bound_lacks_by _ (laws.IsMeets true maybe binder path) =
     rw (laws.bound_meets_is true maybe binder path, views.outs-Meets true maybe binder path) refl
 bound_lacks_by _ (laws.IsMeets false maybe binder path) =
     rw (laws.bound_meets_is false maybe binder path, views.outs-Meets false maybe binder path) refl
+bound_lacks_by _ (laws.IsCaptures captured) = rw (laws.bound_captures_is captured, views.outs-Captures captured) refl
 
 pub bound_lacks : (x : Bound) → lacks_args (about_bound x).refuses ≡ bound_lacks_in (views.out-Bound x)
 bound_lacks x = bound_lacks_by x (laws.bound_view x)

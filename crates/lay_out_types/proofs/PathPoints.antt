@@ -10,7 +10,7 @@ use Rattle.lay_node.specs.Words.{leaf_of}
 use Rattle.lay_node.specs.nodes.Call.{bang}
 use Rattle.lay_node.specs.nodes.Facts.{Facts, forms}
 use Rattle.lay_node.specs.nodes.Patterns.{end_form}
-use Rattle.lay_node.specs.nodes.Types.{ArgsFacts, PathFacts, TypeFacts, abi_form, about_arg, about_args, about_bound, about_path, about_start, about_type, binder_form, dots, greater, in_style, joined, less, output_form, params_form, segments_form, ty_facts}
+use Rattle.lay_node.specs.nodes.Types.{ArgsFacts, PathFacts, TypeFacts, abi_form, about_arg, about_args, about_bound, about_path, about_start, about_type, binder_form, capture_form, dots, greater, in_style, joined, less, output_form, params_form, segments_form, ty_facts}
 use Rattle.lay_node.specs.tokens.Lists.{enclosed_form, ends_in_line, form_of_grouping, group_form}
 use Rattle.lay_node.specs.tokens.Listing.{Grouping, NoMore, in_groups}
 use Rattle.lay_node.specs.tokens.Pairs.{at_start}
@@ -253,6 +253,9 @@ bound_step (Bound-F.Meets false true binder p) =
 bound_step (Bound-F.Meets false false binder p) =
     told EndsSo about_bound (views.rolls-Meets false false binder p.0) (laws.bound_meets_is false false binder p.0)
     (binder_ends binder (Part (about_path p.0 Kind).form Done) (p.1.go Kind))
+bound_step (Bound-F.Captures captured) =
+    told EndsSo about_bound (views.rolls-Captures captured) (laws.bound_captures_is captured)
+    (angles_close (map capture_form captured) false)
 
 tuple_ends : (xs : List Ty) → TypeEnds (ty_facts (Ty-F.Tuple (map about_type xs)))
 tuple_ends [] = refl

@@ -16,10 +16,10 @@ use Rattle.lay_node.specs.nodes.Call.{call_form}
 use Rattle.lay_node.specs.nodes.Facts.{Facts, forms}
 use Rattle.lay_node.specs.nodes.Types.{PathFacts, TypeFacts, ArgsFacts, about_arg, about_args, about_bound}
 use Rattle.lay_node.specs.nodes.Types.{about_constraint, about_func_param, about_path, about_start, about_type}
-use Rattle.lay_node.specs.nodes.Types.{args_facts, abi_form, angle_form, binder_form, bounds_form, colon, const_form}
+use Rattle.lay_node.specs.nodes.Types.{args_facts, abi_form, angle_form, binder_form, bounds_form, capture_form, colon}
 use Rattle.lay_node.specs.nodes.Types.{dots, equals, greater, joined, less, in_style, meets_form, output_form}
 use Rattle.lay_node.specs.nodes.Types.{param_attrs, param_name, params_form, ref_lifetime, segment_form, segments_form}
-use Rattle.lay_node.specs.nodes.Types.{type_forms}
+use Rattle.lay_node.specs.nodes.Types.{const_form, type_forms}
 use Rattle.lay_node.specs.tokens.Lists.{token_list}
 use Rattle.lay_node.specs.declared.attr.Attr.{Attr}
 use Rattle.lay_node.specs.declared.token.Lifetime.{Lifetime}
@@ -36,6 +36,7 @@ use Rattle.lay_node.specs.declared.types.Args.TheVariants as args
 use Rattle.lay_node.specs.declared.types.Binder.{Binder}
 use Rattle.lay_node.specs.declared.types.Bound.{Bound}
 use Rattle.lay_node.specs.declared.types.Bound.TheVariants as bound
+use Rattle.lay_node.specs.declared.types.Capture.{Capture}
 use Rattle.lay_node.specs.declared.types.ConstArg.{ConstArg}
 use Rattle.lay_node.specs.declared.types.Constraint.{Constraint}
 use Rattle.lay_node.specs.declared.types.Constraint.TheVariants as constraint
@@ -49,7 +50,7 @@ use Rattle.lay_node.specs.declared.types.Ty.{Ty}
 use Rattle.lay_node.specs.declared.types.Ty.TheVariants as ty
 use Rattle.lay_node.proofs.nodes.TypesLaws.{ConstraintView, IsEqual, IsEqualConst, IsLimit, about_segment}
 use Rattle.lay_node.proofs.nodes.TypesLaws.{constraint_view, arg_const_is, arg_named_is, arg_plain_is, arg_region_is}
-use Rattle.lay_node.proofs.nodes.TypesLaws.{args_angle_is, args_none_is, args_round_is, bound_meets_is}
+use Rattle.lay_node.proofs.nodes.TypesLaws.{args_angle_is, args_none_is, args_round_is, bound_captures_is, bound_meets_is}
 use Rattle.lay_node.proofs.nodes.TypesLaws.{bound_outlives_is, constraint_equal_const_is, constraint_equal_is}
 use Rattle.lay_node.proofs.nodes.TypesLaws.{constraint_limit_is, func_param_is, path_is, start_global_is}
 use Rattle.lay_node.proofs.nodes.TypesLaws.{start_local_is, start_qualified_is, type_array_is, type_bounds_is}
@@ -311,6 +312,11 @@ pub outlives_bound : (x : Bound) (l : Lifetime) (text : List ℕ) → x ≡ boun
     → tok.Text text ∷ [] ≡ stream_of (about_bound x).form
 outlives_bound x l text is e =
     rw e (sym (ap (λ (y : _). stream_of (about_bound y).form) is ∙ same (bound_outlives_is l)))
+
+pub captures_bound : (x : Bound) (captured put : List Capture) → x ≡ bound.Captures captured → put ≡ captured
+    → tok.Text (codes "use") ∷ stream_of (comma_list true less greater (map capture_form put)) ≡ stream_of (about_bound x).form
+captures_bound x captured put is e =
+    rw e (sym (ap (λ (y : _). stream_of (about_bound y).form) is ∙ same (bound_captures_is captured)))
 
 -- a piece that is there or not, and what follows it
 pub when_more : (there : Bool) (bits : List Bit) (text : List ℕ) (f : Form)

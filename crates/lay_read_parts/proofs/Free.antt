@@ -6,8 +6,9 @@ use Rattle.lay_token.specs.declared.token.Token.{Token}
 use Rattle.lay_node.specs.Ahead.{Tokens, first, is_mark, is_lifetime}
 use Rattle.lay_node.specs.reader.Exact.{needless}
 use Rattle.lay_node.specs.reader.Loops.{Got, Read, ◌>>=◌, nodes, element_end, repeat_from, repeat, elements_from, elements}
-use Rattle.lay_node.specs.reader.Types.{chain, lifetime, lifetimes, lifetime_param}
+use Rattle.lay_node.specs.reader.Types.{chain, lifetime, lifetimes, lifetime_param, one_capture}
 use Rattle.lay_node.specs.declared.token.Lifetime.{Lifetime}
+use Rattle.lay_node.specs.declared.types.Capture.{Capture}
 use Rattle.lay_node.specs.declared.types.LifetimeParam.{LifetimeParam}
 
 -- the parts alone
@@ -118,3 +119,16 @@ pub some_params : (ts : Tokens) (read : List (LifetimeParam × ℕ)) (rest : Tok
     → elements (is_mark (codes ">")) (needless lifetime_param 0) ts ≡ Some (read, rest) → nodes read ≡ xs
     → params_behind ts ≡ Some (xs, rest)
 some_params ts read rest xs e n = rw (← n) (all_free lifetime_param (is_mark (codes ">")) ts ∙ rw e refl)
+
+-- what stands behind `use` and `<`
+abbrev pub captured_behind : Tokens → Got (List Capture)
+captured_behind ts = elements (is_mark (codes ">")) one_capture ts
+
+pub none_captured : (ts : Tokens) → elements (is_mark (codes ">")) (needless one_capture 0) ts ≡ None
+    → captured_behind ts ≡ None
+none_captured ts e = all_free one_capture (is_mark (codes ">")) ts ∙ rw e refl
+
+pub some_captured : (ts : Tokens) (read : List (Capture × ℕ)) (rest : Tokens) (xs : List Capture)
+    → elements (is_mark (codes ">")) (needless one_capture 0) ts ≡ Some (read, rest) → nodes read ≡ xs
+    → captured_behind ts ≡ Some (xs, rest)
+some_captured ts read rest xs e n = rw (← n) (all_free one_capture (is_mark (codes ">")) ts ∙ rw e refl)

@@ -5,14 +5,16 @@ use Rattle.lay_piece.specs.declared.kind.Delim.TheVariants.{Brace}
 use Rattle.lay_token.specs.declared.token.Token.{Token}
 use Rattle.lay_node.specs.Begins.{is_literal_token}
 use Rattle.lay_node.specs.Ahead.{Tokens, first, tail, is_keyword, is_mark, is_lifetime, opens, closes}
+use Rattle.lay_node.specs.nodes.Types.{is_captured}
 use Rattle.lay_node.specs.reader.Attr.{attributes}
 use Rattle.lay_node.specs.reader.Exact.{needless}
 use Rattle.lay_node.specs.reader.Loops.{Got, Read, passed, repeat, open_elements_from, open_elements}
 use Rattle.lay_node.specs.reader.Tokens.{tokens}
 use Rattle.lay_node.specs.reader.Types as r
 use Rattle.lay_node.specs.reader.Types.{Within, within}
+use Rattle.lay_node.specs.reader.Words.{word}
 use Rattle.lay_node.specs.declared.attr.Attr.{Attr}
-use Rattle.lay_read_tokens.proofs.Left.{Left, Leaves, Passes, unread, dropped, one_read, further, chain, chain_passed, choice, first_read, passed_left, repeat_left, elements_left, tokens_left, attributes_left, shorter}
+use Rattle.lay_read_tokens.proofs.Left.{Left, Leaves, Passes, unread, dropped, one_read, further, chain, chain_passed, choice, first_read, passed_left, repeat_left, elements_left, word_left, tokens_left, attributes_left, shorter}
 
 -- ---- small parts
 
@@ -111,6 +113,16 @@ binder_left ts = chain_passed 1 1 0 ts (passed (is_keyword (codes "for")) ts) _ 
 pub binder_if_left : (ts : Tokens) → Leaves 0 ts (r.binder_if ts)
 binder_if_left ts = there_left (first (is_keyword (codes "for")) ts) r.binder ts (weaker ts _ (binder_left ts))
 
+capture_left : (ts : Tokens) → Leaves 1 ts (r.one_capture ts)
+unfolding r.one_capture
+capture_left ts = choice 1 ts (first is_lifetime ts) _ _
+    (λ h. chain 1 1 0 ts (r.lifetime ts) _ (omega arith) (lifetime_left ts) (λ l. unread l.1))
+    (chain 1 1 0 ts (word ts) _ (omega arith) (word_left ts)
+    (λ w. choice 0 w.1 (is_captured w.0) _ None (λ h. unread w.1) tt))
+
+pub captured_left : (ts : Tokens) → Leaves 1 ts (r.angled r.one_capture ts)
+captured_left ts = angled_left r.one_capture capture_left ts
+
 -- ---- the same of what needs no depth
 
 free_left : {A : Type 0} (one : Tokens → Got A) (ts : Tokens) → Leaves 1 ts (one ts) → Leaves 1 ts (needless one 0 ts)
@@ -121,6 +133,9 @@ lifetime_free ts = free_left r.lifetime ts (lifetime_left ts)
 
 pub param_free : (ts : Tokens) → Leaves 1 ts (needless r.lifetime_param 0 ts)
 param_free ts = free_left r.lifetime_param ts (lifetime_param_left ts)
+
+pub capture_free : (ts : Tokens) → Leaves 1 ts (needless r.one_capture 0 ts)
+capture_free ts = free_left r.one_capture ts (capture_left ts)
 
 -- ---- constants
 

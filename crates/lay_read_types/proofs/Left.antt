@@ -23,7 +23,7 @@ use Rattle.lay_node.specs.declared.types.Ty.{Ty}
 use Rattle.lay_node.specs.declared.types.TypePlace.{TypePlace}
 use Rattle.lay_node.specs.declared.types.TypePlace.TheVariants.{Bounds, NoBounds}
 use Rattle.lay_read_tokens.proofs.Left.{Left, Leaves, unread, dropped, one_read, joined, further, chain, chain_passed, choice, first_read, passed_left, elements_left, given_name_left, word_left, tokens_left, call_left, attributes_left}
-use Rattle.lay_read_parts.proofs.Left.{abi_left, angled_left, binder_if_left, chain_left, const_left, flag_left, lifetime_left, open_left, operator_left, read_left, there_left, weaker}
+use Rattle.lay_read_parts.proofs.Left.{abi_left, angled_left, binder_if_left, captured_left, chain_left, const_left, flag_left, lifetime_left, open_left, operator_left, read_left, there_left, weaker}
 
 -- ---- small parts
 
@@ -147,12 +147,16 @@ module _ (deeper : Within) (l : LeftWithin deeper) where
   unfolding r.one_bound
   one_bound_left ts = choice 1 ts (first is_lifetime ts) _ _
       (λ h. chain 1 1 0 ts (r.lifetime ts) _ (omega arith) (lifetime_left ts) (λ x. unread x.1))
+      (choice 1 ts (first (is_keyword (codes "use")) ts) _ _
+      (λ h. further 1 1 1 ts (tail ts) _ (omega arith) (first_read (is_keyword (codes "use")) ts h)
+      (chain 1 1 0 (tail ts) (r.angled r.one_capture (tail ts)) _ (omega arith) (captured_left (tail ts))
+      (λ x. unread x.1)))
       (choice 1 ts (first (opens Paren) ts) _ _
       (λ h. further 1 1 1 ts (tail ts) _ (omega arith) (first_read (opens Paren) ts h)
       (chain 1 1 1 (tail ts) (r.meets deeper true (tail ts)) _ (omega arith) (meets_left true (tail ts))
       (λ x. chain_passed 1 1 0 x.1 (passed (closes Paren) x.1) _ (omega arith) (passed_left (closes Paren) x.1)
       unread)))
-      (meets_left false ts))
+      (meets_left false ts)))
 
   pub all_bounds_left : (ts : Tokens) → Leaves 1 ts (r.all_bounds deeper ts)
   all_bounds_left ts = chain 1 1 0 ts (r.chain (codes "+") (r.one_bound deeper) ts) _ (omega arith)

@@ -16,6 +16,7 @@ use Rattle.lay_node.specs.declared.token.Name.{Name}
 use Rattle.lay_node.specs.declared.token.Word.{Word}
 use Rattle.lay_node.specs.declared.types.Arg.TheOpen.{Arg-F, Args-F, Bound-F, Constraint-F, PathStart-F}
 use Rattle.lay_node.specs.declared.types.Binder.{Binder}
+use Rattle.lay_node.specs.declared.types.Capture.{Capture}
 use Rattle.lay_node.specs.declared.types.ConstArg.{ConstArg}
 use Rattle.lay_node.specs.declared.types.PathStyle.{PathStyle}
 use Rattle.lay_node.specs.declared.types.PathStyle.TheVariants as style
@@ -25,7 +26,7 @@ use Rattle.lay_reparse.proofs.borders.Move.{under}
 use Rattle.lay_reparse.proofs.forms.Passes.{plain, leads}
 use Rattle.lay_reparse.proofs.forms.Rules.{wider, tables, From, All, Leads, ends, fixed, breaks, within, part, level, left_out, list_fits, list}
 use Rattle.lay_reparse.proofs.file.Nodes.{ends_name, start_path, word, rest_pieces, list_pieces}
-use Rattle.lay_reparse.proofs.file.TypeParts.{ends_type, ends_arg, joined_passes, joined_pieces, leaf_passes, binder_passes, binder_pieces, const_passes}
+use Rattle.lay_reparse.proofs.file.TypeParts.{ends_type, ends_arg, joined_passes, joined_pieces, leaf_passes, binder_passes, binder_pieces, captures_form_passes, const_passes}
 
 -- ---- what is told of a node
 
@@ -201,6 +202,9 @@ meets_pass true maybe binder path k = record {
 meets_pass false maybe binder path k = record {
   go = λ g w. meets_passes maybe binder (path style.Kind) (k.go style.Kind) g w;
 }
+
+pub captures_pass : (captured : List Capture) → Passing plain ends_type (bound_facts (Bound-F.Captures captured))
+captures_pass captured = record { go = λ g w. captures_form_passes captured w }
 
 -- ---- arguments
 

@@ -15,7 +15,7 @@ use Rattle.lay_form.specs.Notation.{H, comma_list}
 use Rattle.lay_form.specs.Pieces.{is_text_of, are_pieces}
 use Rattle.lay_node.specs.Words.{is_literal, is_number, is_string}
 use Rattle.lay_node.specs.nodes.Attr.{is_attr, are_attrs, attr_form, behind_attr, is_inner, is_line}
-use Rattle.lay_node.specs.nodes.Types.{joined, less, greater, param_attrs, param_name, lifetime_form, lifetimes_form, outlived_form, lifetime_param_form, is_lifetime_param, binder_form, is_binder, const_form, is_const, abi_name, abi_form, is_abi_name, is_abi, colon}
+use Rattle.lay_node.specs.nodes.Types.{joined, less, greater, param_attrs, param_name, lifetime_form, lifetimes_form, outlived_form, lifetime_param_form, is_lifetime_param, binder_form, is_binder, capture_form, captures_form, const_form, is_const, abi_name, abi_form, is_abi_name, is_abi, colon}
 use Rattle.lay_node.specs.declared.attr.Attr.{Attr}
 use Rattle.lay_node.specs.declared.attr.Attr.TheVariants as attr
 use Rattle.lay_node.specs.declared.token.GivenName.{GivenName}
@@ -24,6 +24,8 @@ use Rattle.lay_node.specs.declared.token.Lifetime.{Lifetime}
 use Rattle.lay_node.specs.declared.token.Literal.{Literal}
 use Rattle.lay_node.specs.declared.types.Abi.{Abi}
 use Rattle.lay_node.specs.declared.types.Binder.{Binder}
+use Rattle.lay_node.specs.declared.types.Capture.{Capture}
+use Rattle.lay_node.specs.declared.types.Capture.TheVariants as capture
 use Rattle.lay_node.specs.declared.types.ConstArg.{ConstArg}
 use Rattle.lay_node.specs.declared.types.ConstArg.TheVariants as const_arg
 use Rattle.lay_node.specs.declared.types.LifetimeParam.{LifetimeParam}
@@ -199,6 +201,34 @@ pub binder_pieces : (binder : Option Binder) (f : Form) → are_pieces (binder_f
 binder_pieces None f w = w
 binder_pieces (Some b) f w =
     (and_parts (are_pieces (comma_list true less greater (map lifetime_param_form b.params))) (are_pieces f) w).1
+
+-- ---- what is captured
+
+capture_passes : (c : Capture) → are_pieces (capture_form c) ≡ true → From plain (capture_form c) ends_type
+unfolding tables
+capture_passes (capture.Region l) w =
+    leaf_passes kind.Lifetime l.text refl (and_parts (is_text_of kind.Lifetime l.text) true w).0 (ends refl)
+capture_passes (capture.Word c) w = word c.raw c.text refl w (ends refl) (ends refl)
+
+each_capture : (cs : List Capture) → list_all are_pieces (map capture_form cs) ≡ true
+    → All plain (map capture_form cs) ends_type
+each_capture [] w = tt
+each_capture (c ∷ cs) w =
+    let p = and_parts (are_pieces (capture_form c)) _ w in (capture_passes c p.0, each_capture cs p.1)
+
+captures_fit : list_fits true less greater behind_word plain ends_type ends_type ≡ true
+unfolding tables
+captures_fit = refl
+
+pub captures_form_passes : (cs : List Capture) → are_pieces (captures_form cs) ≡ true
+    → From plain (captures_form cs) ends_type
+unfolding tables
+captures_form_passes cs w =
+    let es = map capture_form cs in
+    let p = and_parts (are_pieces (comma_list true less greater es)) true w in
+    fixed refl (part behind_word ends_type refl
+    (list true less greater es plain ends_type captures_fit (each_capture cs (list_pieces true less greater es p.0)))
+    (ends refl))
 
 -- ---- literals and constants
 

@@ -31,7 +31,7 @@ use Rattle.lay_reparse.proofs.forms.Passes.{plain}
 use Rattle.lay_reparse.proofs.forms.Rules.{simple, under-refl, tables, From, ends, fixed, part}
 use Rattle.lay_reparse.proofs.file.Nodes.{start_path}
 use Rattle.lay_reparse.proofs.file.TypeParts.{ends_type, ends_arg}
-use Rattle.lay_reparse.proofs.file.TypeArgs.{Any, ArgsPass, Each, Passing, PathPasses, SegmentPasses, TypePasses, angle_pass, const_pass, equal_const_pass, equal_pass, global_pass, limit_pass, local_pass, meets_pass, named_arg_pass, none_pass, outlives_pass, path_pass, plain_pass, qualified_pass, qualified_passes, region_pass, round_pass, segments_pass, words_lead}
+use Rattle.lay_reparse.proofs.file.TypeArgs.{Any, ArgsPass, Each, Passing, PathPasses, SegmentPasses, TypePasses, angle_pass, const_pass, equal_const_pass, equal_pass, global_pass, limit_pass, local_pass, meets_pass, captures_pass, named_arg_pass, none_pass, outlives_pass, path_pass, plain_pass, qualified_pass, qualified_passes, region_pass, round_pass, segments_pass, words_lead}
 use Rattle.lay_reparse.proofs.file.TypeKinds.{array_pass, bounds_type_pass, call_pass, ends_param, func_param_pass, func_pass, infer_pass, never_pass, paren_pass, path_type_pass, pointer_pass, reference_pass, slice_pass, tuple_pass}
 
 -- ---- each node
@@ -195,6 +195,9 @@ bound_step (Bound-F.Meets parens maybe binder p) =
     told (Passing plain ends_type) about_bound (views.rolls-Meets parens maybe binder p.0)
     (laws.bound_meets_is parens maybe binder p.0)
     (meets_pass parens maybe binder (about_path p.0) p.1)
+bound_step (Bound-F.Captures captured) =
+    told (Passing plain ends_type) about_bound (views.rolls-Captures captured) (laws.bound_captures_is captured)
+    (captures_pass captured)
 
 constraint_step : (y : Kept Constraint-F) → ConstraintIs (views.roll-Constraint (constraint_layer y))
 constraint_step (Constraint-F.Equal x) =

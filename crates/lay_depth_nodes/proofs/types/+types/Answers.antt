@@ -159,8 +159,10 @@ pub bounds_depth-returns : goal.bounds_depth-returns
 bounds_depth-returns g c = all_told about_bound c.args.bounds.now _ _ c.loop-bound-test.false c.loop-bound.invariant
 
 pub bound_depth-returns-in-Outlives : goal.bound_depth-returns-in-Outlives
-bound_depth-returns-in-Outlives g c =
-    let m = of.outlives_bound c.args.bound.now c.in-Outlives.lifetime c.in-Outlives.is in omega (arith, m)
+bound_depth-returns-in-Outlives g c = of.leaf_bound c.args.bound.now c.in-Outlives.is
+
+pub bound_depth-returns-in-Outlives-2 : goal.bound_depth-returns-in-Outlives-2
+bound_depth-returns-in-Outlives-2 g c = of.leaf_bound c.args.bound.now c.in-Outlives.is
 
 pub bound_depth-returns-in-Meets : goal.bound_depth-returns-in-Meets
 bound_depth-returns-in-Meets g c =

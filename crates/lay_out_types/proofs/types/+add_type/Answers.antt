@@ -87,6 +87,11 @@ add_bound-returns-in-Meets g t c =
     (adds_on c.add_path-path.ensures c.add_if.ensures))))
     (of.meets_bound _ c.in-Meets.parens c.in-Meets.maybe c.in-Meets.binder c.in-Meets.path c.in-Meets.is)
 
+pub add_bound-returns-in-Captures : goal.add_bound-returns-in-Captures
+add_bound-returns-in-Captures g t c =
+    adds (adds_on c.add_text-word.ensures c.add_captures.ensures)
+    (of.captures_bound _ c.in-Captures.captured _ c.in-Captures.is c.as_slice.ensures)
+
 pub add_bounds-loop-index-preserved : goal.add_bounds-loop-index-preserved
 add_bounds-loop-index-preserved g t c =
     adds (adds_on c.loop-index.invariant (adds_on c.add_plus-done.ensures c.add_bound-done.ensures))
