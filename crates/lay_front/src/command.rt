@@ -233,7 +233,7 @@ fn check_input<I: Inputs>(alloc: Global, which: Which, inputs: &mut I) -> Result
         Err(stop) => return Err(stop),
     };
     let compared = is_text(alloc, &file, bytes);
-    // As above.
+    // The program ends behind its run, so the tree isn't taken apart.
     forget(file);
     match compared {
         Ok(true) => Ok(()),
