@@ -500,8 +500,7 @@ capture_sound ts c rest t h = elim (chosen (first is_lifetime ts) _ _ _ h) [
       let o = (word_sound ts w.0.0 w.0.1 w.1).0 in
       elim (chosen (is_captured w.0.0) _ None _ w.2) [
         | inl k ↦
-            same_some (Out IsCapture ts) (capture.Word w.0.0, w.0.1) (c, rest) k.1
-            (
+            same_some (Out IsCapture ts) (capture.Word w.0.0, w.0.1) (c, rest) k.1 (
               (leaf_spelled w.0.0.raw w.0.0.text Done 0 ts w.0.1 w.0.1 o refl, k.0),
               bit_texts (Fixed (word_kind w.0.0.raw) w.0.0.text) ts w.0.1 o t,
             )
