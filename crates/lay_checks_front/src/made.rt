@@ -7,14 +7,14 @@ ghost use Rattle.lay_node.specs.tokens.Listing.{turned};
 use lay_files::read_bytes;
 use lay_token::{Kind, List, Text};
 use lay_tree::{
-    Arm, Block, Boxed, Branch, Expr, File, GivenName, Item, ItemKind, Literal, Name, Op, Pat, Stmt,
-    Ty, ValueHead, Vis,
+    Arm, Block, Bound, Boxed, Branch, Capture, Expr, File, GivenName, Item, ItemKind, Literal,
+    Name, Op, Pat, Stmt, Ty, ValueHead, Vis, Word,
 };
 use std::alloc::Global;
 use std::mem;
 
-/// The file of an item that is read, and behind it `mod a;` of a name in which a text stands, or `const _: _ = a;` of a literal or an
-/// expression.
+/// The file of an item that is read, and behind it `mod a;` of a name in which a text stands, `const _: impl use<a> = _;` of what is
+/// captured, or `const _: _ = a;` of a literal or an expression.
 pub fn made(alloc: Global, place: &str, text: &str) -> Option<File> {
     let File {
         shebang,
@@ -50,7 +50,7 @@ fn item(alloc: Global, place: &str, text: &str) -> Option<Item> {
         ItemKind::Value {
             head: ValueHead::Const {
                 name: GivenName::Underscore,
-                ty: Ty::Infer,
+                ty: ty(alloc, place, text)?,
             },
             value: Some(value(alloc, place, text)?),
         }
@@ -59,6 +59,20 @@ fn item(alloc: Global, place: &str, text: &str) -> Option<Item> {
         attrs: List::new(alloc),
         vis: Vis::Inherited,
         kind: Boxed::new(alloc, kind).ok()?,
+    })
+}
+
+/// `impl use<a>` of a word in which a text has the place of what is captured, and else `_`.
+fn ty(alloc: Global, place: &str, text: &str) -> Option<Ty> {
+    if place != "captured" {
+        return Some(Ty::Infer);
+    }
+    let Name { raw, text } = name(alloc, text)?;
+    let word = Word { raw, text };
+    let captured = one(alloc, Capture::Word { word })?;
+    Some(Ty::Bounds {
+        dynamic: false,
+        bounds: one(alloc, Bound::Captures { captured })?,
     })
 }
 
@@ -146,8 +160,12 @@ fn one<T: Drop>(alloc: Global, node: T) -> Option<List<T>> {
     more(List::new(alloc), Some(node))
 }
 
-/// What a text stands for: a literal in a place of a literal, and else the expression that it reads to.
+/// What a text stands for: a literal in a place of a literal, `_` in the place of what is captured, and else the expression that it
+/// reads to.
 fn node(alloc: Global, place: &str, text: &str) -> Option<Boxed<Expr>> {
+    if place == "captured" {
+        return underscore(alloc);
+    }
     if place == "literal" {
         let literal = literal(alloc, text)?;
         return Boxed::new(alloc, Expr::Lit { literal }).ok();

@@ -26,6 +26,8 @@ const ROWS: &str = "name→no keyword→a→fn¶true¶self¶crate¶Self¶dyn§\
     name→raw, no word of paths→#fn→#self¶#super¶#crate¶#Self§\
     name→raw by its flag→#fn→r#fn§\
     name→raw, without its mark→#fn→#r#fn§\
+    captured→a name or Self→Self→self¶super¶crate¶fn¶_¶a b§\
+    captured→raw, no word of paths→#fn→#self¶#Self§\
     literal→a kind of literals→Ident true→Ident a¶Ident fn§\
     literal→one token→Str \"a\"u8→Str \"a\" \"b\"¶Str \"a\"/**/¶Int 1 1¶Int -1¶Float 1.5.5§\
     literal→a string→Str \"a\"→Str a¶Str ¶Str \"a¶Str a\"¶Str 'a'¶Str r\"a\"§\

@@ -159,6 +159,7 @@ fn depths_of_texts(rt: HostRuntime) -> Result<(), Fail> {
         fn f(a:B)->C where D:E{}⇒2 Some(2) None§\
         type A=&B;⇒3 Some(3) None§\
         type A=B<C>;⇒3 Some(3) None§\
+        type A=impl use<'b,C,Self>;⇒2 Some(2) None§\
         type A=B<C=D>;⇒4 Some(4) None§\
         type A=<B as C>::D;⇒3 Some(3) None§\
         type A=<B as C<D>>::E;⇒4 Some(4) None§\

@@ -32,19 +32,22 @@ Fn()->B::C→Fn() -> B::C§Fn()->(B)::C→no§A<'a,B,1,-1,{n},C=D,E:F+'g>→A<'a
 A<B<C>>→A<B<C>>§A<B>>→no§impl A<B>=→no§dyn→no";
 
 /// Where one bound may stand.
-const ONE_BOUND: &str = "impl A→impl A§dyn A<B>→dyn A<B>§impl A+B→no§&dyn A→&dyn A";
+const ONE_BOUND: &str =
+    "impl A→impl A§dyn A<B>→dyn A<B>§impl A+B→no§&dyn A→&dyn A§impl use<A>→impl use<A>§use<A>→no";
 
 const CODE_PATHS: &str =
     "a::<B>::c→a::<B>::c§a<B>→no§::a::r#b→::a::r#b§self→self§a::→no§<A>::b→<A>::b§Fn(A)→no";
 
 const GENERICS: &str =
-    "<'a,T:B=C>→<'a, T: B = C>§<>→§→§<'a:'b+'c,const N:usize=1,#[x]T:,>→<'a: 'b + 'c, const N: usize = 1, #[x] T>§<,>→no";
+    "<'a,T:B=C>→<'a, T: B = C>§<>→§→§<T:use<B>=C>→<T: use<B> = C>§<'a:'b+'c,const N:usize=1,#[x]T:,>→<'a: 'b + 'c, const N: usize = 1, #[x] T>§<,>→no";
 
 const WHERES: &str =
     "where A:B,→ where A: B§where→§→§where 'a:'b,for<'c>A:B<'c>+C→ where 'a: 'b, for<'c> A: B<'c> + C§where A→no§\
-where A:B C:D→no§where A:,B:C→ where A:, B: C";
+where A:B C:D→no§where A:,B:C→ where A:, B: C§where A:use<B>,C:→ where A: use<B>, C:§where A:use→no";
 
-const BOUNDS: &str = "A+'b→A + 'b§(?A)→(?A)§A+→no§→no";
+const BOUNDS: &str =
+    "A+'b→A + 'b§(?A)→(?A)§A+→no§→no§use<'a,B,Self,>+C→use<'a, B, Self> + C§A+use<>→A + use<>§use<'_>+use<r#fn>→use<'_> + use<r#fn>§\
+use→no§use<,>→no§use<self>→no§use<fn>→no§use<A::B>→no§use<A<B>>→no§use::<A>→no§(use<A>)→no§?use<A>→no§for<>use<A>→no";
 
 const CODE_ARGS: &str = "::<B,>→::<B>§→§<B>→no§::<>→::<>";
 
@@ -68,6 +71,8 @@ fn what_types_are_made_of(rt: HostRuntime) {
     table(&rt, alloc, Call::Generics, GENERICS);
     table(&rt, alloc, Call::Wheres, WHERES);
     table(&rt, alloc, Call::Bounds, BOUNDS);
+    row(&rt, alloc, Call::Bounds, 0, "use<A>→no");
+    row(&rt, alloc, Call::Bounds, 1, "use<A>→use<A>");
     table(&rt, alloc, Call::Args(PathStyle::Code), CODE_ARGS);
     table(&rt, alloc, Call::Args(PathStyle::Kind), KIND_ARGS);
     table(&rt, alloc, Call::MacroCall, "m!(a,b)→m!(a, b)§m!→no");

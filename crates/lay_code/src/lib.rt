@@ -22,11 +22,11 @@ pub use file::File;
 pub use item::{Item, ItemKind};
 pub use laws::{node_law, places_law, reading_law};
 pub use lay_node::{
-    Abi, Alias, Arg, Args, Attr, Binder, Bound, Boxed, ConstArg, ConstDefault, Constraint, Enum,
-    ExternCrate, Field, FieldPat, Fields, FnHead, FuncParam, GenericParam, Generics, GivenName,
-    Group, ImplHead, Lifetime, LifetimeParam, Listed, Literal, MacroCall, MetaInput, MetaPath,
-    Name, Param, ParamKind, Pat, PatPlace, PatValue, Path, PathStart, PathStyle, Predicate, Safety,
-    SimplePath, Site, SpanEnd, Struct, Tokens, TraitHead, TraitRef, TupleField, Ty, TypePlace,
-    Union, UseEnd, UseTree, ValueHead, Variant, Vis, Wheres, Word,
+    Abi, Alias, Arg, Args, Attr, Binder, Bound, Boxed, Capture, ConstArg, ConstDefault, Constraint,
+    Enum, ExternCrate, Field, FieldPat, Fields, FnHead, FuncParam, GenericParam, Generics,
+    GivenName, Group, ImplHead, Lifetime, LifetimeParam, Listed, Literal, MacroCall, MetaInput,
+    MetaPath, Name, Param, ParamKind, Pat, PatPlace, PatValue, Path, PathStart, PathStyle,
+    Predicate, Safety, SimplePath, Site, SpanEnd, Struct, Tokens, TraitHead, TraitRef, TupleField,
+    Ty, TypePlace, Union, UseEnd, UseTree, ValueHead, Variant, Vis, Wheres, Word,
 };
 pub use operators::{Op, Prefix};
