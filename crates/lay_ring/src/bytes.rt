@@ -1,5 +1,5 @@
 //! Bytes that wait, in room of one of two lengths.
-ghost use Rattle.std.specs.Prelude.{◌≡◌, ◌+◌, ◌-◌, ◌≤◌, [], ◌++◌, length, take, drop, false, true, IfOk, OnOk, OnErr};
+ghost use Rattle.std.specs.Prelude.{◌≡◌, ◌+◌, ◌-◌, ◌≤◌, [], ◌++◌, length, take, drop, true, IfOk, OnOk, OnErr};
 ghost use Rattle.lay_ring.specs.Rows.{bytes_kept, room_in, texts_in};
 
 use lay_text::NoMemory;
@@ -71,7 +71,7 @@ impl Bytes {
 
     /// How many of so many texts there is surely room for: all in the full room, and one at the most in the first.
     #[inline(always)]
-    pub fn texts(&self, count: usize) -> usize
+    pub fn room_for(&self, count: usize) -> usize
         ensures { result ≡ texts_in self.now count }
     {
         if self.is_full {

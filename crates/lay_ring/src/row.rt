@@ -238,7 +238,7 @@ impl Row {
     pub fn spare(&self) -> usize
         ensures { result ≡ self.now.spare }
     {
-        self.bytes.texts(self.entries.spare())
+        self.bytes.room_for(self.entries.spare())
     }
 }
 
