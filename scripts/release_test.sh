@@ -56,5 +56,5 @@ sed -i "s|path = \".*\"|path = \"$tar/rust\"|" "$made/package/Cargo.toml"
     fail "the example of a build script isn't built"
 }
 grep -q 'warning: .*refused.rs:1:1: no item' "$made/log" || fail "the build script doesn't warn"
-printf 'pub const NAMES: [&str; 2] = ["a", "b"];\npub fn later()->impl Sized{async||1}\n' | cmp - "$made/out"
+printf 'pub const NAMES: [&str; 2] = ["a", "b"];\npub fn ones()->[u8;1]{[#[cfg(all())]1]}\n' | cmp - "$made/out"
 echo "release: passed"

@@ -6,8 +6,8 @@ fn main() -> io::Result<()> {
     println!("cargo:rerun-if-changed=build.rs");
     let folder = env::var_os("OUT_DIR").expect("cargo names the folder");
     write(Path::new(&folder), "accepted.rs", "pub const NAMES:[&str;2]=[\"a\",\"b\"];".to_string())?;
-    // An `async` closure is a form of edition 2024, which isn't accepted.
-    write(Path::new(&folder), "refused.rs", "pub fn later()->impl Sized{async||1}".to_string())
+    // Attributes on elements aren't accepted.
+    write(Path::new(&folder), "refused.rs", "pub fn ones()->[u8;1]{[#[cfg(all())]1]}".to_string())
 }
 
 /// Writes a generated text to a file, laid out where it is accepted.

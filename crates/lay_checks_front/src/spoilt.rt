@@ -42,7 +42,7 @@ const ROWS: &str = "name→no keyword→a→fn¶true¶self¶crate¶Self¶dyn§\
     literal→a number with a point or an exponent→Float 1.→Float 1¶Float .5¶Float 1.a¶Float 1e§\
     a * _→nothing looser→(a+b)→a+b¶a..b¶a=b¶a||b¶a==b¶a<<b§\
     a * _→no chain of the same level→(a*b)→a*b¶a/b¶a%b§\
-    a * _→no return, break or closure before an operator→(return)→return¶return a¶break¶|a|b§\
+    a * _→no return, break or closure before an operator→(return)→return¶return a¶break¶|a|b¶async|a|b§\
     if a {}→no struct literal→(S{})→S{}¶S{a:1}¶a::S{}§\
     if a {}→none within it→a==(S{})→a==S{}¶S{}.a¶-S{}¶a&&S{}¶S{}()¶S{}as u8¶|a|S{}§\
     if a {}→any within delimiters→f(S{})→S{}§\
@@ -50,7 +50,7 @@ const ROWS: &str = "name→no keyword→a→fn¶true¶self¶crate¶Self¶dyn§\
     if a {}→no block behind return or break→return({})→return{}¶break{}¶break 'a{}§\
     let _ = a else {};→no chain of || or &&→(a||b)→a||b¶a&&b¶a&&b&&c§\
     let _ = a else {};→no brace at the end→(S{})→S{}¶{}¶match a{}¶-{a}¶a+S{}¶m!{}¶return{}¶&S{}§\
-    let _ = a else {};→no closure at the end→(|a|b)→|a|b¶a=|b|c¶return|b|c¶-|a|b§\
+    let _ = a else {};→no closure at the end→(|a|b)→|a|b¶async|a|b¶a=|b|c¶return|b|c¶-|a|b§\
     _ => a→no braces around one expression→a→{a}¶{{a}}¶{match a{}}¶{return}¶{S{}}§\
     _ => a→no braces around one expression, but a statement→{a;}→{a}§\
     _ => a→no braces around one expression, but with a label→'b:{a}→{a}§\

@@ -84,7 +84,8 @@ pub fn seen(alloc: Global, given: &str, depth: u32) -> Result<(u32, Text), FileE
 fn texts(rt: HostRuntime) -> Result<(), Fail> {
     let alloc = rt.alloc();
     let rows = format!(in alloc;
-        "⇒§struct A;struct B;⇒struct A;\nstruct B;\n§{GENERATED}⇒{LAID}§{LAID}⇒{LAID}"
+        "⇒§struct A;struct B;⇒struct A;\nstruct B;\n§{GENERATED}⇒{LAID}§{LAID}⇒{LAID}\
+         §const A:B=async move|c|d+async||e;⇒const A: B = async move |c| d + async || e;\n"
     )?;
     let refused =
         "}⇒Refused(Unbalanced { at: 0 })§struct A;fn f(){let x=1}⇒Refused(NoItem { at: 9 })";
@@ -171,7 +172,8 @@ fn depths_of_texts(rt: HostRuntime) -> Result<(), Fail> {
         const A:B=-&*c;⇒3 Some(3) None§\
         const A:B=c.d(e)[f]?;⇒3 Some(3) None§\
         const A:B=C{d:e,..f};⇒3 Some(3) None§\
-        const A:B=|c:D|e=f=g;⇒4 Some(4) None";
+        const A:B=|c:D|e=f=g;⇒4 Some(4) None§\
+        const A:B=async|c:D|e=f=g;⇒4 Some(4) None";
     each_is_told(&rt, rt.alloc(), rows, depths)?;
     Ok(())
 }

@@ -42,6 +42,7 @@ pub mod CodeSound
 pub mod ExprHeads
 pub mod ExprLeads
 pub mod BlockForms
+pub mod AsyncFronts
 pub mod ExprFronts
 pub mod ExprFirst
 pub mod ItemBegins

@@ -1,5 +1,5 @@
 -- What an expression begins with (Rust Reference, "Expressions").
-use Rattle.std.specs.Prelude.{ℕ, ◌||◌, not, Bool, true, false, if◌then◌else◌, List, [], ◌∷◌, codes, Option, Some, None}
+use Rattle.std.specs.Prelude.{ℕ, ◌&&◌, ◌||◌, not, Bool, true, false, if◌then◌else◌, List, [], ◌∷◌, codes, Option, Some, None}
 use Rattle.std.specs.List.{list_any}
 use Rattle.std.specs.Str.{bytes_eq}
 use Rattle.lay_piece.specs.Word.{class_of}
@@ -7,7 +7,7 @@ use Rattle.lay_piece.specs.declared.kind.Delim.TheVariants.{Paren, Bracket, Brac
 use Rattle.lay_piece.specs.declared.kind.Kind.{Kind}
 use Rattle.lay_piece.specs.declared.kind.Kind.TheVariants as kind
 use Rattle.lay_token.specs.Operators.{is_op}
-use Rattle.lay_node.specs.Ahead.{Tokens, first, tail, opens}
+use Rattle.lay_node.specs.Ahead.{Tokens, first, is_keyword, is_mark, opens, tail}
 use Rattle.lay_node.specs.Follow.{begins_dots}
 use Rattle.lay_node.specs.Words.{is_literal, is_path_class}
 
@@ -39,8 +39,16 @@ is_of words text = list_any (λ w. bytes_eq text w) words
 -- `const` begins an expression before a `{` alone.
 abbrev pub is_block_word : List ℕ → Tokens → Bool
 is_block_word text ts =
-    is_of (codes "async" ∷ codes "for" ∷ codes "if" ∷ codes "loop" ∷ codes "match" ∷ codes "unsafe" ∷ codes "while" ∷ []) text
+    is_of (codes "for" ∷ codes "if" ∷ codes "loop" ∷ codes "match" ∷ codes "unsafe" ∷ codes "while" ∷ []) text
     || (if bytes_eq text (codes "const") then first (opens Brace) ts else false)
+
+-- the `|` before the parameters of a closure, behind a `move` if that stands there
+abbrev pub begins_closure : Tokens → Bool
+begins_closure ts = first (is_mark (codes "|")) ts || (first (is_keyword (codes "move")) ts && first (is_mark (codes "|")) (tail ts))
+
+-- what the word `async` begins before these tokens: a closure or a block
+abbrev pub async_lead : Tokens → ExprLead
+async_lead ts = if begins_closure ts then ByClosure else ByBlockWord
 
 abbrev pub expr_lead_of_word : List ℕ → Tokens → Option ExprLead
 expr_lead_of_word text ts =
@@ -50,7 +58,8 @@ expr_lead_of_word text ts =
     else (if bytes_eq text (codes "break") then Some ByBreak
     else (if bytes_eq text (codes "return") then Some ByReturn
     else (if bytes_eq text (codes "move") then Some ByClosure
-    else (if is_block_word text ts then Some ByBlockWord else None))))))
+    else (if bytes_eq text (codes "async") then Some (async_lead ts)
+    else (if is_block_word text ts then Some ByBlockWord else None)))))))
 
 abbrev pub expr_lead_of_punct : List ℕ → Tokens → Option ExprLead
 expr_lead_of_punct text ts =

@@ -156,14 +156,16 @@ pub enum Expr {
         iterated: Boxed<Expr>,
         body: Block,
     },
-    /// `move |a, b: C| d`
+    /// `async move |a, b: C| d`
     Closure {
+        is_async: bool,
         moves: bool,
         params: List<ClosureParam>,
         body: Boxed<Expr>,
     },
-    /// `|a| -> B { c }`
+    /// `async |a| -> B { c }`
     TypedClosure {
+        is_async: bool,
         moves: bool,
         params: List<ClosureParam>,
         output: Ty,
@@ -299,6 +301,7 @@ impl Drop for Expr {
                 drop(body);
             }
             Expr::Closure {
+                is_async: _,
                 moves: _,
                 params,
                 body,
@@ -307,6 +310,7 @@ impl Drop for Expr {
                 discard_boxed(body);
             }
             Expr::TypedClosure {
+                is_async: _,
                 moves: _,
                 params,
                 output,

@@ -273,7 +273,8 @@ fn blocks(rt: HostRuntime) {
         'a:for b in c{}→for b in c{}§while a{}→loop{}";
     let closures =
         "||a→move||a§||a→||b§|a|b→||b§|a|b→|c|b§|a:b|c→|a|c§|a:b|c→|a:d|c§|#[a]b|c→|b|c§||->a{}→||{}§||->a{}→||->b{}§||->a{}→||->a{b}§\
-        move||->a{}→||->a{}§|a|->b{}→||->b{}§|a,b|c→|b,a|c";
+        move||->a{}→||->a{}§|a|->b{}→||->b{}§|a,b|c→|b,a|c§async||a→||a§async||a→move||a§async move||a→async||a§async||->a{}→||->a{}§\
+        async||{}→async{}";
     for rows in [blocks, branches, matches, loops, closures] {
         each_differs(&rt, rt.alloc(), "const A:B=", rows, ";");
     }

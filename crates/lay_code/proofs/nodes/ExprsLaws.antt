@@ -63,8 +63,8 @@ pub data ExprView : Expr → Type 0 where
   IsLoop : (label : Option Lifetime) (body : Block) → ExprView (expr.Loop label body)
   IsWhile : (label : Option Lifetime) (pat : Option Pat) (condition : Expr) (body : Block) → ExprView (expr.While label pat condition body)
   IsFor : (label : Option Lifetime) (pat : Pat) (iterated : Expr) (body : Block) → ExprView (expr.For label pat iterated body)
-  IsClosure : (moves : Bool) (params : List ClosureParam) (body : Expr) → ExprView (expr.Closure moves params body)
-  IsTypedClosure : (moves : Bool) (params : List ClosureParam) (output : Ty) (body : Block) → ExprView (expr.TypedClosure moves params output body)
+  IsClosure : (is_async moves : Bool) (params : List ClosureParam) (body : Expr) → ExprView (expr.Closure is_async moves params body)
+  IsTypedClosure : (is_async moves : Bool) (params : List ClosureParam) (output : Ty) (body : Block) → ExprView (expr.TypedClosure is_async moves params output body)
   IsReturn : (operand : Option Expr) → ExprView (expr.Return operand)
   IsBreak : (label : Option Lifetime) (operand : Option Expr) → ExprView (expr.Break label operand)
 
@@ -108,8 +108,8 @@ expr_layer (Expr-F.Match scrutinee attrs arms) = subst ExprView (sym (views.roll
 expr_layer (Expr-F.Loop label body) = subst ExprView (sym (views.rolls-Loop label body)) (IsLoop label body)
 expr_layer (Expr-F.While label pat condition body) = subst ExprView (sym (views.rolls-While label pat condition body)) (IsWhile label pat condition body)
 expr_layer (Expr-F.For label pat iterated body) = subst ExprView (sym (views.rolls-For label pat iterated body)) (IsFor label pat iterated body)
-expr_layer (Expr-F.Closure moves params body) = subst ExprView (sym (views.rolls-Closure moves params body)) (IsClosure moves params body)
-expr_layer (Expr-F.TypedClosure moves params output body) = subst ExprView (sym (views.rolls-TypedClosure moves params output body)) (IsTypedClosure moves params output body)
+expr_layer (Expr-F.Closure is_async moves params body) = subst ExprView (sym (views.rolls-Closure is_async moves params body)) (IsClosure is_async moves params body)
+expr_layer (Expr-F.TypedClosure is_async moves params output body) = subst ExprView (sym (views.rolls-TypedClosure is_async moves params output body)) (IsTypedClosure is_async moves params output body)
 expr_layer (Expr-F.Return operand) = subst ExprView (sym (views.rolls-Return operand)) (IsReturn operand)
 expr_layer (Expr-F.Break label operand) = subst ExprView (sym (views.rolls-Break label operand)) (IsBreak label operand)
 
@@ -313,17 +313,17 @@ expr_for_is label pat iterated body =
     ap about_expr (sym (views.rolls-For label pat iterated body))
     ∙ fold-roll-Expr StmtFacts ExprFacts Facts StepFacts KindFacts ArmFacts BlockFacts BranchFacts ItemFacts stmt_facts expr_facts field_facts step_facts kind_facts arm_facts block_facts branch_facts item_facts (Expr-F.For label pat iterated body)
 
-pub expr_closure_is : (moves : Bool) (params : List ClosureParam) (body : Expr) → about_expr (expr.Closure moves params body) ≡ expr_facts (Expr-F.Closure moves params (about_expr body))
+pub expr_closure_is : (is_async moves : Bool) (params : List ClosureParam) (body : Expr) → about_expr (expr.Closure is_async moves params body) ≡ expr_facts (Expr-F.Closure is_async moves params (about_expr body))
 unfolding about_expr about_field_expr about_step about_stmt about_block about_branch about_arm told_of_item told_of_kind
-expr_closure_is moves params body =
-    ap about_expr (sym (views.rolls-Closure moves params body))
-    ∙ fold-roll-Expr StmtFacts ExprFacts Facts StepFacts KindFacts ArmFacts BlockFacts BranchFacts ItemFacts stmt_facts expr_facts field_facts step_facts kind_facts arm_facts block_facts branch_facts item_facts (Expr-F.Closure moves params body)
+expr_closure_is is_async moves params body =
+    ap about_expr (sym (views.rolls-Closure is_async moves params body))
+    ∙ fold-roll-Expr StmtFacts ExprFacts Facts StepFacts KindFacts ArmFacts BlockFacts BranchFacts ItemFacts stmt_facts expr_facts field_facts step_facts kind_facts arm_facts block_facts branch_facts item_facts (Expr-F.Closure is_async moves params body)
 
-pub expr_typed_closure_is : (moves : Bool) (params : List ClosureParam) (output : Ty) (body : Block) → about_expr (expr.TypedClosure moves params output body) ≡ expr_facts (Expr-F.TypedClosure moves params output (about_block body))
+pub expr_typed_closure_is : (is_async moves : Bool) (params : List ClosureParam) (output : Ty) (body : Block) → about_expr (expr.TypedClosure is_async moves params output body) ≡ expr_facts (Expr-F.TypedClosure is_async moves params output (about_block body))
 unfolding about_expr about_field_expr about_step about_stmt about_block about_branch about_arm told_of_item told_of_kind
-expr_typed_closure_is moves params output body =
-    ap about_expr (sym (views.rolls-TypedClosure moves params output body))
-    ∙ fold-roll-Expr StmtFacts ExprFacts Facts StepFacts KindFacts ArmFacts BlockFacts BranchFacts ItemFacts stmt_facts expr_facts field_facts step_facts kind_facts arm_facts block_facts branch_facts item_facts (Expr-F.TypedClosure moves params output body)
+expr_typed_closure_is is_async moves params output body =
+    ap about_expr (sym (views.rolls-TypedClosure is_async moves params output body))
+    ∙ fold-roll-Expr StmtFacts ExprFacts Facts StepFacts KindFacts ArmFacts BlockFacts BranchFacts ItemFacts stmt_facts expr_facts field_facts step_facts kind_facts arm_facts block_facts branch_facts item_facts (Expr-F.TypedClosure is_async moves params output body)
 
 pub expr_return_is : (operand : Option Expr) → about_expr (expr.Return operand) ≡ expr_facts (Expr-F.Return (option_map about_expr operand))
 unfolding about_expr about_field_expr about_step about_stmt about_block about_branch about_arm told_of_item told_of_kind

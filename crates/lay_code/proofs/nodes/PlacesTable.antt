@@ -278,13 +278,13 @@ module _ (p : Place) where
   break_row label (Some x) = root_row p (expr_facts (Expr-F.Break label (Some x))) refl refl
 
   -- So does a closure.
-  pub closure_row : (moves : Bool) (params : List ClosureParam) (x : ExprFacts) →
-      let F = expr_facts (Expr-F.Closure moves params x) in placed F p ≡ (may F p && F.within p.no_struct (begins p.start))
-  closure_row moves params x = root_row p (expr_facts (Expr-F.Closure moves params x)) refl refl
+  pub closure_row : (is_async moves : Bool) (params : List ClosureParam) (x : ExprFacts) →
+      let F = expr_facts (Expr-F.Closure is_async moves params x) in placed F p ≡ (may F p && F.within p.no_struct (begins p.start))
+  closure_row is_async moves params x = root_row p (expr_facts (Expr-F.Closure is_async moves params x)) refl refl
 
-  pub typed_closure_row : (moves : Bool) (params : List ClosureParam) (output : Ty) (b : BlockFacts) →
-      let F = expr_facts (Expr-F.TypedClosure moves params output b) in placed F p ≡ (may F p && F.within p.no_struct (begins p.start))
-  typed_closure_row moves params output b = root_row p (expr_facts (Expr-F.TypedClosure moves params output b)) refl refl
+  pub typed_closure_row : (is_async moves : Bool) (params : List ClosureParam) (output : Ty) (b : BlockFacts) →
+      let F = expr_facts (Expr-F.TypedClosure is_async moves params output b) in placed F p ≡ (may F p && F.within p.no_struct (begins p.start))
+  typed_closure_row is_async moves params output b = root_row p (expr_facts (Expr-F.TypedClosure is_async moves params output b)) refl refl
 
   pub cast_row : (x : ExprFacts) (types : List Ty) → let F = expr_facts (Expr-F.Cast x types) in placed F p ≡ (may F p && F.within p.no_struct (begins p.start))
   cast_row x types = root_row p (expr_facts (Expr-F.Cast x types)) refl refl

@@ -118,8 +118,8 @@ is_alone x h = by x (expr_view x) h
     by _ (IsLoop l b) h = other _ (Expr-F.Loop l (about_block b)) (expr_loop_is l b) refl h
     by _ (IsWhile l p y b) h = other _ (Expr-F.While l p (about_expr y) (about_block b)) (expr_while_is l p y b) refl h
     by _ (IsFor l p y b) h = other _ (Expr-F.For l p (about_expr y) (about_block b)) (expr_for_is l p y b) refl h
-    by _ (IsClosure moves ps y) h = other _ (Expr-F.Closure moves ps (about_expr y)) (expr_closure_is moves ps y) refl h
-    by _ (IsTypedClosure moves ps t b) h = other _ (Expr-F.TypedClosure moves ps t (about_block b)) (expr_typed_closure_is moves ps t b) refl h
+    by _ (IsClosure is_async moves ps y) h = other _ (Expr-F.Closure is_async moves ps (about_expr y)) (expr_closure_is is_async moves ps y) refl h
+    by _ (IsTypedClosure is_async moves ps t b) h = other _ (Expr-F.TypedClosure is_async moves ps t (about_block b)) (expr_typed_closure_is is_async moves ps t b) refl h
     by _ (IsReturn y) h = other _ (Expr-F.Return (option_map about_expr y)) (expr_return_is y) refl h
     by _ (IsBreak l y) h = other _ (Expr-F.Break l (option_map about_expr y)) (expr_break_is l y) refl h
 

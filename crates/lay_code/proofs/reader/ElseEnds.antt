@@ -231,25 +231,29 @@ module _ (depth : ℕ) (ih : AllBranched depth) (no_struct begun : Bool) (ts res
       let e = last x (plain 0 no_struct) u.0 rest (part_alone F.form depth u.0 rest u.2) w1.0 l in
       label_ends label (operand_form (Some F)) (λ b. e _) _)
 
-  behind_head : (moves : Bool) (params : List ClosureParam) (f : Form) → Spells (closure_head moves params f) depth ts rest
+  behind_head : (is_async moves : Bool) (params : List ClosureParam) (f : Form) → Spells (closure_head is_async moves params f) depth ts rest
       → (at : Tokens) × Spells f depth at rest
-  behind_head true params f s = let t = s.2 in (t.0, t.2)
-  behind_head false params f s = (s.0, s.2)
+  behind_head true true params f s = let t = s.2.2 in (t.0, t.2)
+  behind_head true false params f s = let t = s.2 in (t.0, t.2)
+  behind_head false true params f s = let t = s.2 in (t.0, t.2)
+  behind_head false false params f s = (s.0, s.2)
 
-  head_ends : (moves : Bool) (params : List ClosureParam) (f : Form) → EndsInBrace f → EndsInBrace (closure_head moves params f)
-  head_ends true params f e before = e _
-  head_ends false params f e before = e _
+  head_ends : (is_async moves : Bool) (params : List ClosureParam) (f : Form) → EndsInBrace f → EndsInBrace (closure_head is_async moves params f)
+  head_ends true true params f e before = e _
+  head_ends true false params f e before = e _
+  head_ends false true params f e before = e _
+  head_ends false false params f e before = e _
 
-  closure_ends : (moves : Bool) (params : List ClosureParam) (x : Expr) → Ends (about_expr (expr.Closure moves params x))
-  closure_ends moves params x =
-      told (expr.Closure moves params x) (Expr-F.Closure moves params (about_expr x)) (expr_closure_is moves params x) (λ s w l.
+  closure_ends : (is_async moves : Bool) (params : List ClosureParam) (x : Expr) → Ends (about_expr (expr.Closure is_async moves params x))
+  closure_ends is_async moves params x =
+      told (expr.Closure is_async moves params x) (Expr-F.Closure is_async moves params (about_expr x)) (expr_closure_is is_async moves params x) (λ s w l.
       let F = about_expr x in
       let f : Form = Piece (Blank ∷ []) (Part F.form Done) in
-      let t = behind_head moves params f s in
+      let t = behind_head is_async moves params f s in
       let u = t.1 in
       let w1 = and_parts (list_all is_closure_param params) (placed F (plain 0 no_struct)) w in
       let e = last x (plain 0 no_struct) u.0 rest (part_alone F.form depth u.0 rest u.2) w1.1 l in
-      head_ends moves params f (λ before. e _))
+      head_ends is_async moves params f (λ before. e _))
 
   if_ends : (bs : List Branch) (o : Option Block) → Ends (about_expr (expr.If bs o))
   if_ends bs (Some b) = none (expr.If bs (Some b)) (Expr-F.If (map about_branch bs) (Some (about_block b))) (expr_if_is bs (Some b)) refl
@@ -284,8 +288,8 @@ module _ (depth : ℕ) (ih : AllBranched depth) (no_struct begun : Bool) (ts res
   ends_view _ (IsLoop label b) = none (expr.Loop label b) (Expr-F.Loop label (about_block b)) (expr_loop_is label b) refl
   ends_view _ (IsWhile label pat x b) = none (expr.While label pat x b) (Expr-F.While label pat (about_expr x) (about_block b)) (expr_while_is label pat x b) refl
   ends_view _ (IsFor label pat x b) = none (expr.For label pat x b) (Expr-F.For label pat (about_expr x) (about_block b)) (expr_for_is label pat x b) refl
-  ends_view _ (IsClosure moves params x) = closure_ends moves params x
-  ends_view _ (IsTypedClosure moves params output b) = none (expr.TypedClosure moves params output b) (Expr-F.TypedClosure moves params output (about_block b)) (expr_typed_closure_is moves params output b) refl
+  ends_view _ (IsClosure is_async moves params x) = closure_ends is_async moves params x
+  ends_view _ (IsTypedClosure is_async moves params output b) = none (expr.TypedClosure is_async moves params output b) (Expr-F.TypedClosure is_async moves params output (about_block b)) (expr_typed_closure_is is_async moves params output b) refl
   ends_view _ (IsReturn x) = return_ends x
   ends_view _ (IsBreak label x) = break_ends label x
 

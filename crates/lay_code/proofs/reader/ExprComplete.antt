@@ -110,13 +110,13 @@ module _ (fronts : Fronts) (most : ℕ) (within : ExprWithin) (reads : (depth : 
     reached _ (IsFor label pat x b) =
         alone (expr.For label pat x b) (Expr-F.For label pat (about_expr x) (about_block b)) (expr_for_is label pat x b) refl
         (for_head fronts depth within here label pat x b)
-    reached _ (IsClosure moves params x) =
-        alone (expr.Closure moves params x) (Expr-F.Closure moves params (about_expr x)) (expr_closure_is moves params x) refl
-        (closure_head_read fronts depth within here moves params x)
-    reached _ (IsTypedClosure moves params output b) =
-        alone (expr.TypedClosure moves params output b) (Expr-F.TypedClosure moves params output (about_block b))
-        (expr_typed_closure_is moves params output b) refl
-        (typed_closure_head_read fronts depth within here moves params output b)
+    reached _ (IsClosure is_async moves params x) =
+        alone (expr.Closure is_async moves params x) (Expr-F.Closure is_async moves params (about_expr x)) (expr_closure_is is_async moves params x) refl
+        (closure_head_read fronts depth within here is_async moves params x)
+    reached _ (IsTypedClosure is_async moves params output b) =
+        alone (expr.TypedClosure is_async moves params output b) (Expr-F.TypedClosure is_async moves params output (about_block b))
+        (expr_typed_closure_is is_async moves params output b) refl
+        (typed_closure_head_read fronts depth within here is_async moves params output b)
 
     -- What is block-like is what begins an expression, of the highest level.
     abbrev BlockLike : Expr → Type 0
@@ -152,11 +152,11 @@ module _ (fronts : Fronts) (most : ℕ) (within : ExprWithin) (reads : (depth : 
         whole (expr.For label pat x b) (Expr-F.For label pat (about_expr x) (about_block b)) (expr_for_is label pat x b) refl
         (for_head fronts depth within here label pat x b)
     block_like _ (IsAsync moves b) = other (expr.Async moves b) (Expr-F.Async moves (about_block b)) (expr_async_is moves b) refl
-    block_like _ (IsClosure moves params x) =
-        other (expr.Closure moves params x) (Expr-F.Closure moves params (about_expr x)) (expr_closure_is moves params x) refl
-    block_like _ (IsTypedClosure moves params output b) =
-        other (expr.TypedClosure moves params output b) (Expr-F.TypedClosure moves params output (about_block b))
-        (expr_typed_closure_is moves params output b) refl
+    block_like _ (IsClosure is_async moves params x) =
+        other (expr.Closure is_async moves params x) (Expr-F.Closure is_async moves params (about_expr x)) (expr_closure_is is_async moves params x) refl
+    block_like _ (IsTypedClosure is_async moves params output b) =
+        other (expr.TypedClosure is_async moves params output b) (Expr-F.TypedClosure is_async moves params output (about_block b))
+        (expr_typed_closure_is is_async moves params output b) refl
     block_like _ (IsCall call) =
         λ b. (call_head depth within here call, subst (λ (G : ExprFacts). nat_le 14 G.level ≡ true) (sym (expr_call_is call)) refl)
     block_like _ (IsLit l) = other (expr.Lit l) (Expr-F.Lit l) (expr_lit_is l) refl

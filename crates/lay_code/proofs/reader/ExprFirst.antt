@@ -2,17 +2,17 @@
 -- `union` or `macro_rules` nothing that would make it an item, but for what stands behind the whole expression.
 use Rattle.std.proofs.Common.{◌≡◌, ℕ, zero, suc, Bool, true, false, not, ◌&&◌, ◌||◌, nat_le, List, [], ◌∷◌, ◌++◌, map, drop, codes, Option, option_map, Some, None, is_some, if◌then◌else◌, ◌⊎◌, inl, inr, refl, sym, ap, subst, ◌∙◌}
 use Rattle.std.specs.Str.{bytes_eq}
-use Rattle.std.proofs.lemmas.Bool.{and_parts, false_from_ne_true}
+use Rattle.std.proofs.lemmas.Bool.{and_parts, cases_Bool, false_from_ne_true, or_cases}
 use Rattle.lay_piece.specs.Forms.{opening}
 use Rattle.lay_piece.specs.declared.kind.Delim.{Delim}
 use Rattle.lay_piece.specs.declared.kind.Delim.TheVariants.{Paren, Bracket, Brace}
-use Rattle.lay_piece.specs.declared.kind.Kind.TheVariants.{Ident, Opener}
+use Rattle.lay_piece.specs.declared.kind.Kind.TheVariants.{Ident, Opener, Punct}
 use Rattle.lay_token.specs.Delimiters.{is_opener}
 use Rattle.lay_token.specs.Operators.{is_op}
 use Rattle.lay_form.specs.Form.{Bit, Blank, Operator, Form, Done, Piece, Part, keyword, opener, closer}
 use Rattle.lay_form.specs.Notation.{N, when, braces}
 use Rattle.lay_form.specs.Spelled.{IsOne, IsOperator, AreBits, Spells}
-use Rattle.lay_node.specs.Ahead.{Tokens, first, tail, is_keyword, opens}
+use Rattle.lay_node.specs.Ahead.{Tokens, first, tail, is_keyword, is_mark, opens}
 use Rattle.lay_node.specs.Words.{colons}
 use Rattle.lay_node.specs.nodes.Call.{about_call}
 use Rattle.lay_node.specs.nodes.Facts.{Facts, all_good}
@@ -26,14 +26,14 @@ use Rattle.lay_node.specs.declared.types.Path.{Path}
 use Rattle.lay_node.specs.declared.types.PathStart.{PathStart}
 use Rattle.lay_node.specs.declared.types.PathStyle.TheVariants.{Code}
 use Rattle.lay_node.specs.declared.types.Ty.{Ty}
-use Rattle.lay_node.proofs.Fronts.{keyword_one, one_front, one_no_op, op_front, op_test, opener_kind, other_op, no_op}
+use Rattle.lay_node.proofs.Fronts.{keyword_one, mark_one, one_front, one_no_op, op_front, op_test, opener_kind, other_op, no_op}
 use Rattle.lay_node.proofs.Parts.{before_blank, behind_blank, bit_alone, leaf_parts, part_alone, piece_bit, word_kind}
 use Rattle.lay_node.proofs.nodes.TypesLaws.{PathStartView, IsLocal, IsGlobal, IsQualified, ArgsView, IsNone, IsAngle, IsRound, about_segment, start_view, args_view, start_local_is, start_global_is, start_qualified_is, args_none_is, args_angle_is, args_round_is}
 use Rattle.lay_node.proofs.reader.Call.{SpelledCall, call_complete}
 use Rattle.lay_node.proofs.reader.SimplePath.{SimplePathFront, OfLead, OfOne, OfWord, simple_path_front}
 use Rattle.lay_node.proofs.reader.TypesBegins.{path_parts, path_goods}
 use Rattle.lay_node.proofs.reader.TypesCompleteParts.{one_left}
-use Rattle.lay_code.specs.Operands.{ExprLead, ByPath, ByBlockWord, expr_lead_of_word, expr_lead_at}
+use Rattle.lay_code.specs.Operands.{ExprLead, ByPath, ByBlockWord, async_lead, begins_closure, expr_lead_of_word, expr_lead_at}
 use Rattle.lay_code.specs.Operators.{op_text, op_level, begins_step}
 use Rattle.lay_code.specs.nodes.Code.{about_arm, about_block, about_branch, about_expr, about_field_expr, about_step}
 use Rattle.lay_code.specs.nodes.Exprs.{ExprFacts, ExprLayer, are_steps, base_form, base_placed, break_if, end_form, end_placed, expr_facts, first_step, group_if, inside, is_block_like, is_brace, is_chain_level, is_dotted, is_method, is_tuple_index, lead_of, level_of_chain, may_chain, methods, next_is_angle, operands_form, operands_placed, placed, steps_form, targets_form, targets_placed, types_form, types_good, within_of}
@@ -45,6 +45,7 @@ use Rattle.lay_code.specs.declared.exprs.Step.{Step}
 use Rattle.lay_code.specs.declared.operators.Op.{Op}
 use Rattle.lay_code.specs.declared.operators.Op.TheVariants as op
 use Rattle.lay_code.proofs.nodes.ExprsLaws.{ExprView, IsLit, IsPath, IsUnderscore, IsCall, IsParen, IsContinue, IsTuple, IsArray, IsRepeat, IsStruct, IsChain, IsCast, IsUnary, IsRange, IsAssign, IsPostfix, IsBlock, IsUnsafe, IsConstBlock, IsAsync, IsIf, IsMatch, IsLoop, IsWhile, IsFor, IsClosure, IsTypedClosure, IsReturn, IsBreak, expr_view, behind_op, before_op as target_of, expr_lit_is, expr_path_is, expr_underscore_is, expr_call_is, expr_paren_is, expr_continue_is, expr_tuple_is, expr_array_is, expr_repeat_is, expr_struct_is, expr_chain_is, expr_cast_is, expr_unary_is, expr_range_is, expr_assign_is, expr_postfix_is, expr_block_is, expr_unsafe_is, expr_const_block_is, expr_async_is, expr_if_is, expr_match_is, expr_loop_is, expr_while_is, expr_for_is, expr_closure_is, expr_typed_closure_is, expr_return_is, expr_break_is}
+use Rattle.lay_code.proofs.reader.AsyncFronts.{async_begins}
 use Rattle.lay_code.proofs.reader.ExprLeads.{one_lead}
 use Rattle.lay_code.proofs.reader.ExprOperators.{step_cases}
 use Rattle.lay_code.proofs.reader.ExprSteps.{step_begun}
@@ -200,6 +201,25 @@ word_not_lead : (word : List ℕ) (m l : ExprLead) → ((us : Tokens) → expr_l
 word_not_lead word m l is differs ts h = false_from_ne_true (first (is_keyword word) ts) (λ e.
     differs (sym (one_lead Ident word ts (tail ts) (keyword_one word ts e) ∙ is (tail ts)) ∙ h))
 
+-- Behind the `async` of a closure no function stands.
+closure_no_fn : (ts : Tokens) → begins_closure ts ≡ true → begins_with fn_words ts ≡ false
+closure_no_fn ts h =
+    elim (or_cases (first (is_mark (codes "|")) ts) (first (is_keyword (codes "move")) ts && first (is_mark (codes "|")) (tail ts)) h) [
+      | inl b ↦ rw (one_front Punct (codes "|") ts (tail ts) (mark_one (codes "|") ts b)).1 refl
+      | inr m ↦
+          let p = and_parts (first (is_keyword (codes "move")) ts) (first (is_mark (codes "|")) (tail ts)) m in
+          rw (one_front Ident (codes "move") ts (tail ts) (keyword_one (codes "move") ts p.0)).1 refl
+    ]
+
+async_no_fn : (ts : Tokens) (l : ExprLead) → expr_lead_at ts ≡ Some l → (Some ByBlockWord ≡ Some l → ⊥)
+    → first (is_keyword (codes "async")) ts ≡ true → begins_with fn_words (tail ts) ≡ false
+async_no_fn ts l h differs e = elim (cases_Bool (begins_closure (tail ts))) [
+  | inl c ↦ closure_no_fn (tail ts) c
+  | inr n ↦
+      let led : async_lead (tail ts) ≡ ByBlockWord = rw n refl in
+      absurd (differs (sym (async_begins ts (tail ts) (keyword_one (codes "async") ts e) ∙ ap Some led) ∙ h))
+]
+
 -- what begins neither with a path nor with a word of a block
 abbrev is_other_lead : ExprLead → Bool
 is_other_lead ByPath = false
@@ -209,11 +229,10 @@ is_other_lead _ = true
 lead_plain : (may : Bool) (ts rest : Tokens) (l : ExprLead) → expr_lead_at ts ≡ Some l → is_other_lead l ≡ true → Plain may ts rest
 lead_plain may ts rest l h o =
     let a = word_not_lead (codes "unsafe") ByBlockWord l (λ us. refl) (other ByBlockWord refl) ts h in
-    let b = word_not_lead (codes "async") ByBlockWord l (λ us. refl) (other ByBlockWord refl) ts h in
     let c = word_not_lead (codes "union") ByPath l (λ us. refl) (other ByPath refl) ts h in
     let d = word_not_lead (codes "macro_rules") ByPath l (λ us. refl) (other ByPath refl) ts h in
     let n : named_item ts ≡ false = rw (c, d) refl in
-    record { braced = λ e. absurd (cc); moved = λ e. absurd (cc); alone = λ e. absurd (cc) }
+    record { braced = λ e. absurd (cc); moved = async_no_fn ts l h (other ByBlockWord refl); alone = λ e. absurd (cc) }
   where
     led : Option ExprLead → Bool
     led None = false
@@ -225,8 +244,7 @@ lead_plain may ts rest l h o =
 path_plain : (may : Bool) (ts rest : Tokens) → expr_lead_at ts ≡ Some ByPath → (named_item ts ≡ true → Alone may ts rest) → Plain may ts rest
 path_plain may ts rest h a =
     let u = word_not_lead (codes "unsafe") ByBlockWord ByPath (λ us. refl) (λ e. cc) ts h in
-    let v = word_not_lead (codes "async") ByBlockWord ByPath (λ us. refl) (λ e. cc) ts h in
-    record { braced = λ e. absurd (cc); moved = λ e. absurd (cc); alone = a }
+    record { braced = λ e. absurd (cc); moved = async_no_fn ts ByPath h (λ e. cc); alone = a }
 
 -- another word
 word_plain : (word : List ℕ) → bytes_eq word (codes "unsafe") ≡ false → bytes_eq word (codes "async") ≡ false
@@ -466,11 +484,11 @@ module _ (depth : ℕ) (ih : AllPlain depth) (no_struct begun : Bool) (ts rest :
       let t = s.1 in word_plain (codes "for") refl refl refl false ts t.1.0 rest t.1.1)
   plain_view _ (IsFor (Some l) pat x b) =
       by_lead (expr.For (Some l) pat x b) (Expr-F.For (Some l) pat (about_expr x) (about_block b)) (expr_for_is (Some l) pat x b) refl
-  plain_view _ (IsClosure moves params x) =
-      by_lead (expr.Closure moves params x) (Expr-F.Closure moves params (about_expr x)) (expr_closure_is moves params x) refl
-  plain_view _ (IsTypedClosure moves params output b) =
-      by_lead (expr.TypedClosure moves params output b) (Expr-F.TypedClosure moves params output (about_block b))
-      (expr_typed_closure_is moves params output b) refl
+  plain_view _ (IsClosure is_async moves params x) =
+      by_lead (expr.Closure is_async moves params x) (Expr-F.Closure is_async moves params (about_expr x)) (expr_closure_is is_async moves params x) refl
+  plain_view _ (IsTypedClosure is_async moves params output b) =
+      by_lead (expr.TypedClosure is_async moves params output b) (Expr-F.TypedClosure is_async moves params output (about_block b))
+      (expr_typed_closure_is is_async moves params output b) refl
   plain_view _ (IsReturn x) = by_lead (expr.Return x) (Expr-F.Return (option_map about_expr x)) (expr_return_is x) refl
   plain_view _ (IsBreak label x) = by_lead (expr.Break label x) (Expr-F.Break label (option_map about_expr x)) (expr_break_is label x) refl
 

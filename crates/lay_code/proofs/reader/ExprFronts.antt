@@ -22,13 +22,13 @@ use Rattle.lay_node.specs.declared.types.Path.{Path}
 use Rattle.lay_node.specs.declared.types.PathStyle.TheVariants.{Code}
 use Rattle.lay_node.specs.declared.types.Ty.{Ty}
 use Rattle.lay_node.proofs.Fronts.{one_front, one_shorter, op_shorter}
-use Rattle.lay_node.proofs.Parts.{bit_alone, part_alone}
+use Rattle.lay_node.proofs.Parts.{before_blank, bit_alone, part_alone}
 use Rattle.lay_node.proofs.reader.TypesBegins.{path_begins, call_begins}
-use Rattle.lay_code.specs.Operands.{ExprLead, ByPath, ByUnderscore, ByParen, ByBracket, ByPrefix, ByRange, ByContinue, ByBreak, ByReturn, ByLabel, ByBrace, ByBlockWord, ByClosure, expr_lead_by, expr_lead_at}
+use Rattle.lay_code.specs.Operands.{ExprLead, ByPath, ByUnderscore, ByParen, ByBracket, ByPrefix, ByRange, ByContinue, ByBreak, ByReturn, ByLabel, ByBrace, ByBlockWord, ByClosure, async_lead, expr_lead_by, expr_lead_at}
 use Rattle.lay_code.specs.Operators.{op_text, op_level}
 use Rattle.lay_code.specs.nodes.Code.{about_expr, about_field_expr, about_step, about_arm, about_block, about_branch}
 use Rattle.lay_code.specs.nodes.CodeFacts.{BranchFacts}
-use Rattle.lay_code.specs.nodes.Exprs.{ExprFacts, StepFacts, stands, placed, expr_forms, tuple_form, base_form, operands_form, types_form, prefix_bits, prefixes_form, end_form, targets_form, label_form, operand_form, level_of_chain, next_is_angle, is_chain_level, may_chain, operands_placed, targets_placed, end_placed, base_placed, first_step, is_tuple_index, is_dotted, are_steps, types_good, methods, steps_form, group_if, inside, lead_of, label_or, within_of, expr_facts, ExprLayer, labelled, condition_form, more_branches, branches_form, else_branch_form, arm_forms, closure_param, closure_head, bar, branches_good, may_be_good}
+use Rattle.lay_code.specs.nodes.Exprs.{ExprFacts, StepFacts, stands, placed, expr_forms, tuple_form, base_form, operands_form, types_form, prefix_bits, prefixes_form, end_form, targets_form, label_form, operand_form, level_of_chain, next_is_angle, is_chain_level, may_chain, operands_placed, targets_placed, end_placed, base_placed, first_step, is_tuple_index, is_dotted, are_steps, types_good, methods, steps_form, group_if, inside, lead_of, label_or, within_of, expr_facts, ExprLayer, labelled, condition_form, more_branches, branches_form, else_branch_form, arm_forms, behind_async, closure_param, closure_head, bar, branches_good, may_be_good}
 use Rattle.lay_code.specs.nodes.Places.{plain, begins, before_op}
 use Rattle.lay_code.specs.declared.blocks.Block.{Block}
 use Rattle.lay_code.specs.declared.exprs.ClosureParam.{ClosureParam}
@@ -42,6 +42,7 @@ use Rattle.lay_code.specs.declared.operators.Prefix.{Prefix}
 use Rattle.lay_code.specs.declared.operators.Prefix.TheVariants as before
 use Rattle.lay_code.proofs.nodes.ExprsLaws.{ExprView, IsLit, IsPath, IsUnderscore, IsCall, IsParen, IsContinue, IsTuple, IsArray, IsRepeat, IsStruct, IsChain, IsCast, IsUnary, IsRange, IsAssign, IsPostfix, IsBlock, IsUnsafe, IsConstBlock, IsAsync, IsIf, IsMatch, IsLoop, IsWhile, IsFor, IsClosure, IsTypedClosure, IsReturn, IsBreak, expr_view, behind_op, before_op as target_of, expr_lit_is, expr_path_is, expr_underscore_is, expr_call_is, expr_paren_is, expr_continue_is, expr_tuple_is, expr_array_is, expr_repeat_is, expr_struct_is, expr_chain_is, expr_cast_is, expr_unary_is, expr_range_is, expr_assign_is, expr_postfix_is, expr_block_is, expr_unsafe_is, expr_const_block_is, expr_async_is, expr_if_is, expr_match_is, expr_loop_is, expr_while_is, expr_for_is, expr_closure_is, expr_typed_closure_is, expr_return_is, expr_break_is}
 use Rattle.lay_code.proofs.reader.BlockForms.{block_opened, soft_opened}
+use Rattle.lay_code.proofs.reader.AsyncFronts.{async_begins, block_no_closure, closure_begins}
 use Rattle.lay_code.proofs.reader.ExprLeads.{one_lead, lone_lead, literal_lead, path_lead, range_lead}
 use Rattle.lay_code.proofs.reader.ExprSoundLevel.{within_held}
 
@@ -166,11 +167,11 @@ no_depth x ts rest s = by x (expr_view x) s
         none (expr.While label pat x b) (Expr-F.While label pat (about_expr x) (about_block b)) (expr_while_is label pat x b)
     by _ (IsFor label pat x b) =
         none (expr.For label pat x b) (Expr-F.For label pat (about_expr x) (about_block b)) (expr_for_is label pat x b)
-    by _ (IsClosure moves params x) =
-        none (expr.Closure moves params x) (Expr-F.Closure moves params (about_expr x)) (expr_closure_is moves params x)
-    by _ (IsTypedClosure moves params output b) =
-        none (expr.TypedClosure moves params output b) (Expr-F.TypedClosure moves params output (about_block b))
-        (expr_typed_closure_is moves params output b)
+    by _ (IsClosure is_async moves params x) =
+        none (expr.Closure is_async moves params x) (Expr-F.Closure is_async moves params (about_expr x)) (expr_closure_is is_async moves params x)
+    by _ (IsTypedClosure is_async moves params output b) =
+        none (expr.TypedClosure is_async moves params output b) (Expr-F.TypedClosure is_async moves params output (about_block b))
+        (expr_typed_closure_is is_async moves params output b)
     by _ (IsReturn x) = none (expr.Return x) (Expr-F.Return (option_map about_expr x)) (expr_return_is x)
     by _ (IsBreak label x) = none (expr.Break label x) (Expr-F.Break label (option_map about_expr x)) (expr_break_is label x)
 
@@ -285,13 +286,31 @@ module _ (depth : ℕ) (ih : AllBegin depth) (no_struct first : Bool) (ts rest :
       let t = s.1 in
       one_begins Ident word ByBlockWord is (Part (Piece bs f) g) depth ts t.1.0 rest t.1.1 (s.0, (t.0, t.1.2, t.2), s.2)
 
-  -- a closure: `move`, or the `|` before its parameters
-  closure_begun : (moves : Bool) (params : List ClosureParam) (f : Form) → Spells (closure_head moves params f) depth ts rest
+  -- `async` before a block
+  async_begun : (moves : Bool) (b : Block)
+      → Spells (Piece (keyword (codes "async") ∷ []) (when moves (Blank ∷ keyword (codes "move") ∷ []) (Part ((about_block b).form true) Done))) depth ts rest
+      → Begun ByBlockWord ts rest
+  async_begun moves b s =
+      let o : IsOne Ident (codes "async") ts s.0 = bit_alone (keyword (codes "async")) ts s.0 s.1 in
+      let behind : Form = when moves (Blank ∷ keyword (codes "move") ∷ []) (Part ((about_block b).form true) Done) in
+      let none = block_no_closure moves b depth s.0 rest s.2 in
+      let led : async_lead s.0 ≡ ByBlockWord = rw none refl in
+      (async_begins ts s.0 o ∙ ap Some led, omega (arith, one_shorter Ident (codes "async") ts s.0 o, shorter behind depth s.0 rest s.2))
+
+  -- a closure: `async`, `move`, or the `|` before its parameters
+  closure_begun : (is_async moves : Bool) (params : List ClosureParam) (f : Form) → Spells (closure_head is_async moves params f) depth ts rest
       → Begun ByClosure ts rest
-  closure_begun true params f s =
+  closure_begun true moves params f s =
+      let o : IsOne Ident (codes "async") ts s.0 = before_blank (keyword (codes "async")) ts s.0 s.1 in
+      let there = closure_begins moves params f depth s.0 rest s.2 in
+      let led : async_lead s.0 ≡ ByClosure = rw there refl in (
+        async_begins ts s.0 o ∙ ap Some led,
+        omega (arith, one_shorter Ident (codes "async") ts s.0 o, shorter (behind_async moves params f) depth s.0 rest s.2),
+      )
+  closure_begun false true params f s =
       one_begins Ident (codes "move") ByClosure (λ us. refl) (Piece (Blank ∷ []) (Part (comma_list true bar bar (map closure_param params)) f))
       depth ts s.1.0 rest s.1.1 (s.0, s.1.2, s.2)
-  closure_begun false params f s =
+  closure_begun false false params f s =
       let b = list_begins Punct (codes "|") ByClosure (λ us. refl) bar (map closure_param params) depth ts s.0 s.1 in
       (b.0, omega (arith, b.1, shorter f depth s.0 rest s.2))
 
@@ -342,7 +361,7 @@ module _ (depth : ℕ) (ih : AllBegin depth) (no_struct first : Bool) (ts rest :
       word_begun (codes "unsafe") (λ us. refl) [] (Part (about_block b).soft Done) s)
   begun _ (IsConstBlock b) = told (expr.ConstBlock b) (Expr-F.ConstBlock (about_block b)) (expr_const_block_is b) (λ s w. const_begins b depth ts rest s)
   begun _ (IsAsync moves b) = told (expr.Async moves b) (Expr-F.Async moves (about_block b)) (expr_async_is moves b) (λ s w.
-      word_begun (codes "async") (λ us. refl) [] (when moves (Blank ∷ keyword (codes "move") ∷ []) (Part ((about_block b).form true) Done)) s)
+      async_begun moves b s)
   begun _ (IsIf bs o) = told (expr.If bs o) (Expr-F.If (map about_branch bs) (option_map about_block o)) (expr_if_is bs o) (λ s w.
       let fs = map about_branch bs in
       let w1 = and_parts (is_there fs && branches_good fs) (may_be_good (option_map about_block o)) w in
@@ -367,13 +386,13 @@ module _ (depth : ℕ) (ih : AllBegin depth) (no_struct first : Bool) (ts rest :
       let g : Form = Part ((about_block b).form true) Done in
       labelled_begun ByBlockWord (I0 (Piece (keyword (codes "for") ∷ Blank ∷ []) f) g)
       (λ t. grouped_word_begun (codes "for") (λ us. refl) (Blank ∷ []) f g t) label s)
-  begun _ (IsClosure moves params x) =
-      told (expr.Closure moves params x) (Expr-F.Closure moves params (about_expr x)) (expr_closure_is moves params x) (λ s w.
-      closure_begun moves params (Piece (Blank ∷ []) (Part (about_expr x).form Done)) s)
-  begun _ (IsTypedClosure moves params output b) =
-      told (expr.TypedClosure moves params output b) (Expr-F.TypedClosure moves params output (about_block b))
-      (expr_typed_closure_is moves params output b) (λ s w.
-      closure_begun moves params
+  begun _ (IsClosure is_async moves params x) =
+      told (expr.Closure is_async moves params x) (Expr-F.Closure is_async moves params (about_expr x)) (expr_closure_is is_async moves params x) (λ s w.
+      closure_begun is_async moves params (Piece (Blank ∷ []) (Part (about_expr x).form Done)) s)
+  begun _ (IsTypedClosure is_async moves params output b) =
+      told (expr.TypedClosure is_async moves params output b) (Expr-F.TypedClosure is_async moves params output (about_block b))
+      (expr_typed_closure_is is_async moves params output b) (λ s w.
+      closure_begun is_async moves params
       (Piece (Blank ∷ Operator (codes "->") ∷ Blank ∷ []) (Part (about_type output).told.form (Part ((about_block b).form true) Done))) s)
   begun _ (IsReturn x) = told (expr.Return x) (Expr-F.Return (option_map about_expr x)) (expr_return_is x) (λ s w.
       bit_begins Ident (codes "return") ByReturn (λ us. refl) (operand_form (option_map about_expr x)) depth ts rest s)

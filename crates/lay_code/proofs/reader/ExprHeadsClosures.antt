@@ -29,6 +29,7 @@ use Rattle.lay_node.proofs.reader.Exact.{IsRead}
 use Rattle.lay_node.proofs.reader.FunctionsPatterns.{pat_start}
 use Rattle.lay_node.proofs.reader.PatternsBegins.{single_begins}
 use Rattle.lay_node.proofs.reader.PatternsFronts.{Follows, colon_follows, ends_follows}
+use Rattle.lay_node.proofs.reader.TypesBegins.{list_front}
 use Rattle.lay_node.proofs.reader.TypesComplete.{quiet_read}
 use Rattle.lay_node.proofs.reader.TypesCompleteParts.{attrs_front, blank_left, colon_operator, keyword_there, one_left, param_attrs_rows}
 use Rattle.lay_node.proofs.reader.TypesFronts as types
@@ -36,11 +37,11 @@ use Rattle.lay_node.proofs.reader.TypesFronts.{comma_ends, no_other_op}
 use Rattle.lay_code.specs.Operators.{strength}
 use Rattle.lay_code.specs.nodes.Code.{about_block, about_expr}
 use Rattle.lay_code.specs.nodes.Exprs as node
-use Rattle.lay_code.specs.nodes.Exprs.{Tail, bar, closure_head, is_closure_param, placed, tail_follows}
+use Rattle.lay_code.specs.nodes.Exprs.{Tail, bar, behind_async, closure_head, is_closure_param, placed, tail_follows}
 use Rattle.lay_code.specs.nodes.Places.{plain}
 use Rattle.lay_code.specs.reader.Blocks.{block_by}
 use Rattle.lay_code.specs.reader.Exprs as reader
-use Rattle.lay_code.specs.reader.Exprs.{closure_body, closure_expr}
+use Rattle.lay_code.specs.reader.Exprs.{closure_behind, closure_body, closure_expr}
 use Rattle.lay_code.specs.reader.Within.{ExprWithin}
 use Rattle.lay_code.specs.declared.blocks.Block.{Block}
 use Rattle.lay_code.specs.declared.blocks.Stmt.TheOpen.{Expr-F}
@@ -244,30 +245,64 @@ module _ (fronts : Fronts) (depth : ℕ) (within : ExprWithin) (reads : ExprRead
 
   -- ---- what stands before the body
 
-  head_made : (moves no_struct : Bool) (ps : List ClosureParam) (ys : List (ClosureParam × ℕ)) (x : Expr) (n : ℕ) (ts at inside behind rest : Tokens)
+  head_made : (is_async moves no_struct : Bool) (ps : List ClosureParam) (ys : List (ClosureParam × ℕ)) (x : Expr) (n : ℕ) (ts at inside behind rest : Tokens)
       → first (is_keyword (codes "move")) ts ≡ moves → (if moves then tail ts else ts) ≡ at → IsOne Punct (codes "|") at inside
       → elements (is_mark (codes "|")) (reader.closure_param within) inside ≡ Some (ys, behind) → nodes ys ≡ ps
-      → closure_body within no_struct moves ps (deepest ys) behind ≡ Some ((x, n), rest) → closure_expr within no_struct ts ≡ Some ((x, n), rest)
-  unfolding closure_expr
-  head_made moves no_struct ps ys x n ts at inside behind rest m t o l e r = rw (m, t, mark_passed (codes "|") at inside o, l, e) r
+      → closure_body within no_struct is_async moves ps (deepest ys) behind ≡ Some ((x, n), rest)
+      → closure_behind within no_struct is_async ts ≡ Some ((x, n), rest)
+  head_made is_async moves no_struct ps ys x n ts at inside behind rest m t o l e r = rw (m, t, mark_passed (codes "|") at inside o, l, e) r
 
-  head_read : (moves no_struct : Bool) (ps : List ClosureParam) (f : Form) (x : Expr) (ts rest : Tokens) → Spells (closure_head moves ps f) depth ts rest
-      → list_all is_closure_param ps ≡ true
-      → ((need : ℕ) (us : Tokens) → need ≤ depth → Spells f depth us rest → IsRead (suc depth) (closure_body within no_struct moves ps need) x us rest)
-      → IsRead (suc depth) (closure_expr within no_struct) x ts rest
-  head_read true no_struct ps f x ts rest s g body =
+  -- what it needs to be read from there, if it is no more than this
+  abbrev BodyRead : Bool → Bool → Bool → List ClosureParam → Form → Expr → Tokens → Type 0
+  BodyRead is_async moves no_struct ps f x rest = (need : ℕ) (us : Tokens) → need ≤ depth → Spells f depth us rest
+      → IsRead (suc depth) (closure_body within no_struct is_async moves ps need) x us rest
+
+  -- behind its `async`
+  behind_read : (is_async moves no_struct : Bool) (ps : List ClosureParam) (f : Form) (x : Expr) (ts rest : Tokens)
+      → Spells (behind_async moves ps f) depth ts rest → list_all is_closure_param ps ≡ true → BodyRead is_async moves no_struct ps f x rest
+      → IsRead (suc depth) (closure_behind within no_struct is_async) x ts rest
+  behind_read is_async true no_struct ps f x ts rest s g body =
       let o : IsOne Ident (codes "move") ts s.0 = before_blank (keyword (codes "move")) ts s.0 s.1 in
       let p = s.2 in
       let l = params_read ps s.0 p.0 p.1 g in
       let ys = l.2 in
       let r = body (deepest ys.0) p.0 ys.2 p.2 in
-      (r.0, r.1, head_made true no_struct ps ys.0 x r.0 ts s.0 l.0 p.0 rest (keyword_there (codes "move") ts s.0 o) (one_left Ident (codes "move") ts s.0 o) l.1 ys.3 ys.1 r.2)
-  head_read false no_struct ps f x ts rest s g body =
+      (r.0, r.1, head_made is_async true no_struct ps ys.0 x r.0 ts s.0 l.0 p.0 rest (keyword_there (codes "move") ts s.0 o) (one_left Ident (codes "move") ts s.0 o) l.1 ys.3 ys.1 r.2)
+  behind_read is_async false no_struct ps f x ts rest s g body =
       let l = params_read ps ts s.0 s.1 g in
       let ys = l.2 in
       let no_move : first (is_keyword (codes "move")) ts ≡ false = rw (one_front Punct (codes "|") ts l.0 l.1).1 refl in
       let r = body (deepest ys.0) s.0 ys.2 s.2 in
-      (r.0, r.1, head_made false no_struct ps ys.0 x r.0 ts ts l.0 s.0 rest no_move refl l.1 ys.3 ys.1 r.2)
+      (r.0, r.1, head_made is_async false no_struct ps ys.0 x r.0 ts ts l.0 s.0 rest no_move refl l.1 ys.3 ys.1 r.2)
+
+  -- A closure without `async` doesn't begin with it.
+  no_async : (moves : Bool) (ps : List ClosureParam) (f : Form) (ts rest : Tokens) → Spells (behind_async moves ps f) depth ts rest
+      → first (is_keyword (codes "async")) ts ≡ false
+  no_async true ps f ts rest s =
+      rw (one_front Ident (codes "move") ts s.0 (before_blank (keyword (codes "move")) ts s.0 s.1)).1 refl
+  no_async false ps f ts rest s =
+      let l = list_front bar bar (map node.closure_param ps) depth ts s.0 s.1 in rw (one_front Punct (codes "|") ts l.0 l.1).1 refl
+
+  async_read : (no_struct : Bool) (x : Expr) (n : ℕ) (ts at rest : Tokens) → IsOne Ident (codes "async") ts at
+      → closure_behind within no_struct true at ≡ Some ((x, n), rest) → closure_expr within no_struct ts ≡ Some ((x, n), rest)
+  unfolding closure_expr
+  async_read no_struct x n ts at rest o r = rw (keyword_there (codes "async") ts at o, one_left Ident (codes "async") ts at o) r
+
+  sync_read : (no_struct : Bool) (x : Expr) (n : ℕ) (ts rest : Tokens) → first (is_keyword (codes "async")) ts ≡ false
+      → closure_behind within no_struct false ts ≡ Some ((x, n), rest) → closure_expr within no_struct ts ≡ Some ((x, n), rest)
+  unfolding closure_expr
+  sync_read no_struct x n ts rest a r = rw a r
+
+  head_read : (is_async moves no_struct : Bool) (ps : List ClosureParam) (f : Form) (x : Expr) (ts rest : Tokens)
+      → Spells (closure_head is_async moves ps f) depth ts rest → list_all is_closure_param ps ≡ true
+      → BodyRead is_async moves no_struct ps f x rest → IsRead (suc depth) (closure_expr within no_struct) x ts rest
+  head_read true moves no_struct ps f x ts rest s g body =
+      let o : IsOne Ident (codes "async") ts s.0 = before_blank (keyword (codes "async")) ts s.0 s.1 in
+      let r = behind_read true moves no_struct ps f x s.0 rest s.2 g body in
+      (r.0, r.1, async_read no_struct x r.0 ts s.0 rest o r.2)
+  head_read false moves no_struct ps f x ts rest s g body =
+      let r = behind_read false moves no_struct ps f x ts rest s g body in
+      (r.0, r.1, sync_read no_struct x r.0 ts rest (no_async moves ps f ts rest s) r.2)
 
   -- ---- closures
 
@@ -292,43 +327,43 @@ module _ (fronts : Fronts) (depth : ℕ) (within : ExprWithin) (reads : ExprRead
       or_true true e = refl
       or_true false e = e
 
-  plain_made : (moves no_struct : Bool) (ps : List ClosureParam) (x : Expr) (need n : ℕ) (ts rest : Tokens) → is_op (codes "->") ts ≡ false
+  plain_made : (is_async moves no_struct : Bool) (ps : List ClosureParam) (x : Expr) (need n : ℕ) (ts rest : Tokens) → is_op (codes "->") ts ≡ false
       → within.exprs (plain 0 no_struct) ts ≡ Some ((x, n), rest)
-      → closure_body within no_struct moves ps need ts ≡ Some ((expr.Closure moves ps x, suc (max need n)), rest)
-  plain_made moves no_struct ps x need n ts rest a r = rw (a, r) refl
+      → closure_body within no_struct is_async moves ps need ts ≡ Some ((expr.Closure is_async moves ps x, suc (max need n)), rest)
+  plain_made is_async moves no_struct ps x need n ts rest a r = rw (a, r) refl
 
   -- a closure without a return type
-  pub closure_head_read : (moves : Bool) (ps : List ClosureParam) (x : Expr) → IsHead depth within (expr.Closure moves ps x)
-  closure_head_read moves ps x =
-      head_of depth within (expr.Closure moves ps x) (Expr-F.Closure moves ps (about_expr x)) (expr_closure_is moves ps x) (λ no_struct first_flag ts rest h.
+  pub closure_head_read : (is_async moves : Bool) (ps : List ClosureParam) (x : Expr) → IsHead depth within (expr.Closure is_async moves ps x)
+  closure_head_read is_async moves ps x =
+      head_of depth within (expr.Closure is_async moves ps x) (Expr-F.Closure is_async moves ps (about_expr x)) (expr_closure_is is_async moves ps x) (λ no_struct first_flag ts rest h.
       let goods = and_parts (list_all is_closure_param ps) (placed (about_expr x) (plain 0 no_struct)) h.inside in
       let behind = none_follows (about_expr x).tail no_struct rest h.tail in
-      head_read moves no_struct ps (Piece (Blank ∷ []) (Part (about_expr x).form Done)) (expr.Closure moves ps x) ts rest h.spelled goods.0 (λ need us le s.
+      head_read is_async moves no_struct ps (Piece (Blank ∷ []) (Part (about_expr x).form Done)) (expr.Closure is_async moves ps x) ts rest h.spelled goods.0 (λ need us le s.
       let here : Spells (about_expr x).form depth us rest =
       subst (λ vs. Spells (about_expr x).form depth vs rest) (sym (blank_left us s.0 s.1)) (part_alone (about_expr x).form depth s.0 rest s.2) in
       let r = reads.exprs (plain 0 no_struct) x us rest here goods.1 (plain_follows (about_expr x) 0 no_struct rest behind.0 behind.1) in
       let no_arrow = fronts.bodies x (plain 0 no_struct) depth us rest here goods.1 in
-      (suc (max need r.0), omega (arith, le, r.1), plain_made moves no_struct ps x need r.0 us rest no_arrow r.2)))
+      (suc (max need r.0), omega (arith, le, r.1), plain_made is_async moves no_struct ps x need r.0 us rest no_arrow r.2)))
 
-  typed_made : (moves no_struct : Bool) (ps : List ClosureParam) (y : Ty) (b : Block) (need m n : ℕ) (ts at mid rest : Tokens) → IsOperator (codes "->") ts at
+  typed_made : (is_async moves no_struct : Bool) (ps : List ClosureParam) (y : Ty) (b : Block) (need m n : ℕ) (ts at mid rest : Tokens) → IsOperator (codes "->") ts at
       → within.kinds.types NoBounds at ≡ Some ((y, m), mid) → block_by within mid ≡ Some ((b, n), rest)
-      → closure_body within no_struct moves ps need ts ≡ Some ((expr.TypedClosure moves ps y b, suc (max need (max m n))), rest)
-  typed_made moves no_struct ps y b need m n ts at mid rest o t r = rw (o.0, o.1, t, r) refl
+      → closure_body within no_struct is_async moves ps need ts ≡ Some ((expr.TypedClosure is_async moves ps y b, suc (max need (max m n))), rest)
+  typed_made is_async moves no_struct ps y b need m n ts at mid rest o t r = rw (o.0, o.1, t, r) refl
 
   -- one with a return type, of which the body is a block
-  pub typed_closure_head_read : (moves : Bool) (ps : List ClosureParam) (y : Ty) (b : Block) → IsHead depth within (expr.TypedClosure moves ps y b)
-  typed_closure_head_read moves ps y b =
-      head_of depth within (expr.TypedClosure moves ps y b) (Expr-F.TypedClosure moves ps y (about_block b)) (expr_typed_closure_is moves ps y b)
+  pub typed_closure_head_read : (is_async moves : Bool) (ps : List ClosureParam) (y : Ty) (b : Block) → IsHead depth within (expr.TypedClosure is_async moves ps y b)
+  typed_closure_head_read is_async moves ps y b =
+      head_of depth within (expr.TypedClosure is_async moves ps y b) (Expr-F.TypedClosure is_async moves ps y (about_block b)) (expr_typed_closure_is is_async moves ps y b)
       (λ no_struct first_flag ts rest h.
       let g2 = and_parts (list_all is_closure_param ps && good_at NoBounds (about_type y)) (about_block b).good h.inside in
       let g1 = and_parts (list_all is_closure_param ps) (good_at NoBounds (about_type y)) g2.0 in
       let body : Form = (about_block b).form true in
       let f : Form = Piece (Blank ∷ Operator (codes "->") ∷ Blank ∷ []) (Part (about_type y).told.form (Part body Done)) in
-      head_read moves no_struct ps f (expr.TypedClosure moves ps y b) ts rest h.spelled g1.0 (λ need us le s.
+      head_read is_async moves no_struct ps f (expr.TypedClosure is_async moves ps y b) ts rest h.spelled g1.0 (λ need us le s.
       let o : IsOperator (codes "->") us s.0 =
       before_blank (Operator (codes "->")) us s.0 (behind_blank (Operator (codes "->") ∷ Blank ∷ []) us s.0 s.1) in
       let t = s.2 in
       let p = block_at b true depth t.0 rest (part_alone body depth t.0 rest t.2) in
       let q = quiet_read depth within.kinds reads.kinds NoBounds y s.0 t.0 t.1 g1.1 (brace_quiet t.0 p.inside p.opened) in
       let r = block_read fronts depth within reads b t.0 rest p g2.1 in
-      (suc (max need (max q.0 r.0)), omega (arith, le, q.1, r.1), typed_made moves no_struct ps y b need q.0 r.0 us s.0 t.0 rest o q.2 r.2)))
+      (suc (max need (max q.0 r.0)), omega (arith, le, q.1, r.1), typed_made is_async moves no_struct ps y b need q.0 r.0 us s.0 t.0 rest o q.2 r.2)))

@@ -361,10 +361,10 @@ module _ (depth : ℕ) (ih : AllRaw depth) (no_struct first_flag : Bool) (ts res
   raw_view _ (IsLoop label b) = told (expr.Loop label b) (Expr-F.Loop label (about_block b)) (expr_loop_is label b) (λ s w n b. absurd (no_label ByBlockWord label refl b))
   raw_view _ (IsWhile label pat x b) = told (expr.While label pat x b) (Expr-F.While label pat (about_expr x) (about_block b)) (expr_while_is label pat x b) (λ s w n b. absurd (no_label ByBlockWord label refl b))
   raw_view _ (IsFor label pat x b) = told (expr.For label pat x b) (Expr-F.For label pat (about_expr x) (about_block b)) (expr_for_is label pat x b) (λ s w n b. absurd (no_label ByBlockWord label refl b))
-  raw_view _ (IsClosure moves params x) =
-      told (expr.Closure moves params x) (Expr-F.Closure moves params (about_expr x)) (expr_closure_is moves params x) (λ s w n b. absurd (cc))
-  raw_view _ (IsTypedClosure moves params output b) =
-      told (expr.TypedClosure moves params output b) (Expr-F.TypedClosure moves params output (about_block b)) (expr_typed_closure_is moves params output b) (λ s w n b. absurd (cc))
+  raw_view _ (IsClosure is_async moves params x) =
+      told (expr.Closure is_async moves params x) (Expr-F.Closure is_async moves params (about_expr x)) (expr_closure_is is_async moves params x) (λ s w n b. absurd (cc))
+  raw_view _ (IsTypedClosure is_async moves params output b) =
+      told (expr.TypedClosure is_async moves params output b) (Expr-F.TypedClosure is_async moves params output (about_block b)) (expr_typed_closure_is is_async moves params output b) (λ s w n b. absurd (cc))
   raw_view _ (IsReturn x) = told (expr.Return x) (Expr-F.Return (option_map about_expr x)) (expr_return_is x) (λ s w n b. absurd (cc))
   raw_view _ (IsBreak label x) =
       told (expr.Break label x) (Expr-F.Break label (option_map about_expr x)) (expr_break_is label x) (λ s w n b. absurd (cc))

@@ -181,8 +181,8 @@ module _ (depth : ℕ) (ih : AllEnd depth) (no_struct first : Bool) (ts rest : T
   ends _ (IsLoop label b) = shut_end (expr.Loop label b) (Expr-F.Loop label (about_block b)) (expr_loop_is label b) refl
   ends _ (IsWhile label pat x b) = shut_end (expr.While label pat x b) (Expr-F.While label pat (about_expr x) (about_block b)) (expr_while_is label pat x b) refl
   ends _ (IsFor label pat x b) = shut_end (expr.For label pat x b) (Expr-F.For label pat (about_expr x) (about_block b)) (expr_for_is label pat x b) refl
-  ends _ (IsClosure moves params x) = taking_end (expr.Closure moves params x) (Expr-F.Closure moves params (about_expr x)) (expr_closure_is moves params x) refl
-  ends _ (IsTypedClosure moves params output b) = shut_end (expr.TypedClosure moves params output b) (Expr-F.TypedClosure moves params output (about_block b)) (expr_typed_closure_is moves params output b) refl
+  ends _ (IsClosure is_async moves params x) = taking_end (expr.Closure is_async moves params x) (Expr-F.Closure is_async moves params (about_expr x)) (expr_closure_is is_async moves params x) refl
+  ends _ (IsTypedClosure is_async moves params output b) = shut_end (expr.TypedClosure is_async moves params output b) (Expr-F.TypedClosure is_async moves params output (about_block b)) (expr_typed_closure_is is_async moves params output b) refl
   ends _ (IsReturn x) = jump_end (expr.Return x) (Expr-F.Return (option_map about_expr x)) (expr_return_is x) (option_map about_expr x) refl
   ends _ (IsBreak label x) =
       jump_end (expr.Break label x) (Expr-F.Break label (option_map about_expr x)) (expr_break_is label x) (option_map about_expr x) refl

@@ -30,11 +30,11 @@ use Rattle.lay_node.proofs.reader.TypesSoundParts.{Leads, Out, attrs_good, bit_t
 use Rattle.lay_code.specs.Operators.{strength}
 use Rattle.lay_code.specs.nodes.Blocks.{let_type}
 use Rattle.lay_code.specs.nodes.Code.{about_block, about_expr}
-use Rattle.lay_code.specs.nodes.Exprs.{bar, closure_head, closure_param, is_closure_param, placed, shut}
+use Rattle.lay_code.specs.nodes.Exprs.{bar, behind_async, closure_head, closure_param, is_closure_param, placed, shut}
 use Rattle.lay_code.specs.nodes.Places.{plain}
 use Rattle.lay_code.specs.reader.Blocks.{block_by}
 use Rattle.lay_code.specs.reader.Exprs as reader
-use Rattle.lay_code.specs.reader.Exprs.{closure_body, closure_expr}
+use Rattle.lay_code.specs.reader.Exprs.{closure_behind, closure_body, closure_expr}
 use Rattle.lay_code.specs.reader.Within.{ExprWithin}
 use Rattle.lay_code.specs.declared.blocks.Stmt.TheOpen.{Expr-F}
 use Rattle.lay_code.specs.declared.exprs.ClosureParam.{ClosureParam}
@@ -46,21 +46,22 @@ use Rattle.lay_code.proofs.reader.BlocksSoundWhole.{block_sound}
 use Rattle.lay_code.proofs.reader.ExprSoundHeads.{jump_follows}
 use Rattle.lay_code.proofs.reader.ExprSoundLevel.{LeftHeld, SoundExprWithin, all_taken, made}
 
--- ---- `move` or not
+-- ---- the words before the parameters, each or not
 
-abbrev move_word : List Bit
-move_word = keyword (codes "move") ∷ Blank ∷ []
+module _ (word : List ℕ) where
+  abbrev word_bits : List Bit
+  word_bits = keyword word ∷ Blank ∷ []
 
-move_bits : (ts : Tokens) → first (is_keyword (codes "move")) ts ≡ true → AreBits move_word ts (tail ts)
-move_bits ts h = (tail ts, keyword_one (codes "move") ts h, (tail ts, refl, refl))
+  word_there : (ts : Tokens) → first (is_keyword word) ts ≡ true → AreBits word_bits ts (tail ts)
+  word_there ts h = (tail ts, keyword_one word ts h, (tail ts, refl, refl))
 
-move_leads : (b : Bool) (ts : Tokens) → first (is_keyword (codes "move")) ts ≡ b → Leads (when b move_word) ts (if b then tail ts else ts)
-move_leads true ts h f depth end s = (tail ts, move_bits ts h, s)
-move_leads false ts h f depth end s = s
+  word_leads : (b : Bool) (ts : Tokens) → first (is_keyword word) ts ≡ b → Leads (when b word_bits) ts (if b then tail ts else ts)
+  word_leads true ts h f depth end s = (tail ts, word_there ts h, s)
+  word_leads false ts h f depth end s = s
 
-move_texts : (b : Bool) (ts : Tokens) → first (is_keyword (codes "move")) ts ≡ b → InText ts → InText (if b then tail ts else ts)
-move_texts true ts h t = texts_behind ts (tail ts) (bits_end move_word ts (tail ts) (move_bits ts h)) t
-move_texts false ts h t = t
+  word_texts : (b : Bool) (ts : Tokens) → first (is_keyword word) ts ≡ b → InText ts → InText (if b then tail ts else ts)
+  word_texts true ts h t = texts_behind ts (tail ts) (bits_end word_bits ts (tail ts) (word_there ts h)) t
+  word_texts false ts h t = t
 
 type_alone : (ty : Option Ty) → let_type ty Done ≡ self_type ty
 type_alone None = refl
@@ -111,11 +112,11 @@ module _ (budget : ℕ) (within : ExprWithin) (sound : SoundExprWithin budget wi
     abbrev Left : Expr × ℕ → Tokens → Tokens → Type 0
     Left = LeftHeld no_struct starts
 
-    module _ (moves : Bool) (params : List ClosureParam) (need : ℕ) (ts at : Tokens)
-        (leads : (f : Form) (depth : ℕ) (end : Tokens) → need ≤ depth → Spells f depth at end → Spells (closure_head moves params f) depth ts end)
+    module _ (is_async moves : Bool) (params : List ClosureParam) (need : ℕ) (ts at : Tokens)
+        (leads : (f : Form) (depth : ℕ) (end : Tokens) → need ≤ depth → Spells f depth at end → Spells (closure_head is_async moves params f) depth ts end)
         (good : list_all is_closure_param params ≡ true) (t : InText at) where
       -- what stands behind the parameters
-      body_sound : (x : Expr × ℕ) (rest : Tokens) → closure_body within no_struct moves params need at ≡ Some (x, rest)
+      body_sound : (x : Expr × ℕ) (rest : Tokens) → closure_body within no_struct is_async moves params need at ≡ Some (x, rest)
           → Out Left ts (x, rest)
       body_sound x rest h = elim (chosen (is_op (codes "->") at) _ _ _ h) [
         | inl g ↦
@@ -142,9 +143,9 @@ module _ (budget : ℕ) (within : ExprWithin) (sound : SoundExprWithin budget wi
             ) in
             let whole = and_from (list_all is_closure_param params && good_at NoBounds (about_type ty)) block.good
             (and_from (list_all is_closure_param params) (good_at NoBounds (about_type ty)) good ys.0.2) k.0.good in
-            same_some (Out Left ts) ((expr.TypedClosure moves params ty b.0.0.0, suc most), end) (x, rest) b.2 (
-              made no_struct starts (about_expr (expr.TypedClosure moves params ty b.0.0.0)) (Expr-F.TypedClosure moves params ty block)
-                  most ts end (expr_typed_closure_is moves params ty b.0.0.0) (leads F most end (omega arith) form) whole refl,
+            same_some (Out Left ts) ((expr.TypedClosure is_async moves params ty b.0.0.0, suc most), end) (x, rest) b.2 (
+              made no_struct starts (about_expr (expr.TypedClosure is_async moves params ty b.0.0.0)) (Expr-F.TypedClosure is_async moves params ty block)
+                  most ts end (expr_typed_closure_is is_async moves params ty b.0.0.0) (leads F most end (omega arith) form) whole refl,
               k.1,
             )
         | inr g ↦
@@ -156,23 +157,23 @@ module _ (budget : ℕ) (within : ExprWithin) (sound : SoundExprWithin budget wi
             let F : Form = Piece (Blank ∷ []) (Part told.form Done) in
             let form : Spells F most at end = (at, (at, refl, refl), (end, raise told.form e.0.0.1 most at end (omega arith) s.0.1, refl)) in
             let whole = and_from (list_all is_closure_param params) (placed told (plain 0 no_struct)) good s.0.2 in
-            same_some (Out Left ts) ((expr.Closure moves params e.0.0.0, suc most), end) (x, rest) e.2 (
-              made no_struct starts (about_expr (expr.Closure moves params e.0.0.0)) (Expr-F.Closure moves params told) most ts end
-                  (expr_closure_is moves params e.0.0.0) (leads F most end (omega arith) form) whole
+            same_some (Out Left ts) ((expr.Closure is_async moves params e.0.0.0, suc most), end) (x, rest) e.2 (
+              made no_struct starts (about_expr (expr.Closure is_async moves params e.0.0.0)) (Expr-F.Closure is_async moves params told) most ts end
+                  (expr_closure_is is_async moves params e.0.0.0) (leads F most end (omega arith) form) whole
                   (jump_follows no_struct starts budget within sound e.0.0 at end s.0),
               s.1,
             )
       ]
 
-    -- a closure
-    pub closure_sound : SoundStep (closure_expr within no_struct) Left
-    unfolding closure_expr
-    closure_sound ts x rest t h =
+    -- a closure behind its `async`, if it has one
+    behind_sound : (is_async : Bool) (all ts : Tokens) → Leads (when is_async (word_bits (codes "async"))) all ts → InText ts
+        → (x : Expr × ℕ) (rest : Tokens) → closure_behind within no_struct is_async ts ≡ Some (x, rest) → Out Left all (x, rest)
+    behind_sound is_async all ts before t x rest h =
         let moves = first (is_keyword (codes "move")) ts in
         let from = if moves then tail ts else ts in
         let k = bind_some (passed (is_mark (codes "|")) from) _ _ h in
         let ps = bind_some (elements (is_mark (codes "|")) (reader.closure_param within) k.0) _ _ k.2 in
-        let left = move_texts moves ts refl t in
+        let left = word_texts (codes "move") moves ts refl t in
         let o = mark_passed_is (codes "|") from k.0 k.1 in
         let shuts : (us : Tokens) → InText us → first (is_mark (codes "|")) us ≡ true → IsOne kind.Punct (codes "|") us (tail us) =
         λ us i m. mark_one (codes "|") us m in
@@ -183,6 +184,15 @@ module _ (budget : ℕ) (within : ExprWithin) (sound : SoundExprWithin budget wi
         let at = ps.0.1 in
         let C = comma_list true bar bar (map closure_param params) in
         let leads : (f : Form) (depth : ℕ) (end : Tokens) → need ≤ depth → Spells f depth at end
-        → Spells (closure_head moves params f) depth ts end =
-        λ f depth end le s. move_leads moves ts refl (Part C f) depth end (at, raise C need depth from at le l.1, s) in
-        body_sound moves params need ts at leads l.2 l.3 x rest ps.2
+        → Spells (closure_head is_async moves params f) depth all end =
+        λ f depth end le s. before (behind_async moves params f) depth end
+        (word_leads (codes "move") moves ts refl (Part C f) depth end (at, raise C need depth from at le l.1, s)) in
+        body_sound is_async moves params need all at leads l.2 l.3 x rest ps.2
+
+    -- a closure
+    pub closure_sound : SoundStep (closure_expr within no_struct) Left
+    unfolding closure_expr
+    closure_sound ts x rest t h =
+        let is_async = first (is_keyword (codes "async")) ts in
+        behind_sound is_async ts (if is_async then tail ts else ts) (word_leads (codes "async") is_async ts refl)
+        (word_texts (codes "async") is_async ts refl t) x rest h

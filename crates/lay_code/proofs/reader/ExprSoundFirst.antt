@@ -15,7 +15,7 @@ use Rattle.lay_node.specs.Follow.{begins_dots}
 use Rattle.lay_node.specs.Words.{is_literal, is_path_class}
 use Rattle.lay_node.specs.reader.Exact.{InText}
 use Rattle.lay_node.proofs.reader.TypesSoundKinds.{only_first}
-use Rattle.lay_code.specs.Operands.{ExprLead, ByUnderscore, ByLabel, ByParen, ByBracket, ByBrace, ByPrefix, ByRange, ByContinue, ByBreak, ByReturn, ByBlockWord, expr_lead_at, expr_lead_by, expr_lead_of_punct, expr_lead_of_word, is_block_word, is_of}
+use Rattle.lay_code.specs.Operands.{ExprLead, ByUnderscore, ByLabel, ByParen, ByBracket, ByBrace, ByPrefix, ByRange, ByContinue, ByBreak, ByReturn, ByBlockWord, ByClosure, begins_closure, expr_lead_at, expr_lead_by, expr_lead_of_punct, expr_lead_of_word, is_block_word, is_of}
 use Rattle.lay_code.specs.Operators.{amp_by, prefix, prefix_by}
 use Rattle.lay_code.specs.nodes.Exprs.{is_label_lead, is_prefix_lead}
 use Rattle.lay_token.proofs.Deciding.{bytes_same}
@@ -54,7 +54,12 @@ word_leads text ts us =
     (by (bytes_eq text (codes "continue")) _ _ (λ e. (refl, bytes_same text (codes "continue") e))
     (by (bytes_eq text (codes "break")) _ _ (λ e. (refl, bytes_same text (codes "break") e))
     (by (bytes_eq text (codes "return")) _ _ (λ e. (refl, bytes_same text (codes "return") e))
-    (by (bytes_eq text (codes "move")) _ _ (λ e. tt) (by (is_block_word text ts) (Some ByBlockWord) None (λ e. refl) tt))))))
+    (by (bytes_eq text (codes "move")) _ _ (λ e. tt) (by (bytes_eq text (codes "async")) _ _ (λ e. async (begins_closure ts))
+    (by (is_block_word text ts) (Some ByBlockWord) None (λ e. refl) tt)))))))
+  where
+    async : (b : Bool) → LeadIs (if b then ByClosure else ByBlockWord) kind.Ident text us
+    async true = tt
+    async false = refl
 
 punct_leads : (text : List ℕ) (ts : Tokens) → Leads kind.Punct text ts (expr_lead_of_punct text ts)
 punct_leads text ts =

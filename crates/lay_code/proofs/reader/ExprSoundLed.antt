@@ -17,7 +17,7 @@ use Rattle.lay_code.specs.nodes.Code.{about_expr}
 use Rattle.lay_code.specs.nodes.Exprs.{ExprFacts, label_or}
 use Rattle.lay_code.specs.nodes.Places.{plain}
 use Rattle.lay_code.specs.reader.Blocks.{arm_by, block_by, branch_by, condition_by}
-use Rattle.lay_code.specs.reader.Exprs.{async_expr, begins_else_if, block_expr, block_word_expr, closure_expr, closure_param, for_expr, if_expr, label_expr, labelled_expr, match_expr, while_expr}
+use Rattle.lay_code.specs.reader.Exprs.{async_expr, begins_else_if, block_expr, block_word_expr, closure_behind, closure_expr, closure_param, for_expr, if_expr, label_expr, labelled_expr, match_expr, while_expr}
 use Rattle.lay_code.specs.reader.Within.{ExprWithin}
 use Rattle.lay_code.specs.declared.blocks.Block.{Block}
 use Rattle.lay_code.specs.declared.exprs.Expr.{Expr}
@@ -134,10 +134,9 @@ module _ (within : ExprWithin) where
     ]
   ]
 
-  pub closure_led : (no_struct : Bool) (ts : Tokens) (r : (Expr × ℕ) × Tokens) → closure_expr within no_struct ts ≡ Some r
+  behind_led : (no_struct is_async : Bool) (ts : Tokens) (r : (Expr × ℕ) × Tokens) → closure_behind within no_struct is_async ts ≡ Some r
       → Led ByClosure r
-  unfolding closure_expr
-  closure_led no_struct ts r h =
+  behind_led no_struct is_async ts r h =
       let moves = first (is_keyword (codes "move")) ts in
       let k = bind_some (passed (is_mark (codes "|")) (if moves then tail ts else ts)) _ _ h in
       let ps = bind_some (elements (is_mark (codes "|")) (closure_param within) k.0) _ _ k.2 in
@@ -147,11 +146,17 @@ module _ (within : ExprWithin) where
         | inl g ↦
             let t = bind_some (within.kinds.types NoBounds (drop 2 ps.0.1)) _ _ g.1 in
             let b = bind_some (block_by within t.0.1) _ _ t.2 in
-            let made = expr.TypedClosure moves all t.0.0.0 b.0.0.0 in
+            let made = expr.TypedClosure is_async moves all t.0.0.0 b.0.0.0 in
             same_some (Led ByClosure) ((made, suc (max need (max t.0.0.1 b.0.0.1))), b.0.1) r b.2
-            (led (expr_typed_closure_is moves all t.0.0.0 b.0.0.0))
+            (led (expr_typed_closure_is is_async moves all t.0.0.0 b.0.0.0))
         | inr g ↦
             let x = bind_some (within.exprs (plain 0 no_struct) ps.0.1) _ _ g.1 in
-            same_some (Led ByClosure) ((expr.Closure moves all x.0.0.0, suc (max need x.0.0.1)), x.0.1) r x.2
-            (led (expr_closure_is moves all x.0.0.0))
+            same_some (Led ByClosure) ((expr.Closure is_async moves all x.0.0.0, suc (max need x.0.0.1)), x.0.1) r x.2
+            (led (expr_closure_is is_async moves all x.0.0.0))
       ]
+
+  pub closure_led : (no_struct : Bool) (ts : Tokens) (r : (Expr × ℕ) × Tokens) → closure_expr within no_struct ts ≡ Some r
+      → Led ByClosure r
+  unfolding closure_expr
+  closure_led no_struct ts r h =
+      let is_async = first (is_keyword (codes "async")) ts in behind_led no_struct is_async (if is_async then tail ts else ts) r h

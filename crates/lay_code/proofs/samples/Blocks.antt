@@ -203,11 +203,11 @@ laid_for =
 
 -- ---- closures
 
-laid_closure : laid_expr (expr.Closure true (param_named a None ∷ param_named b (Some (named_type (codes "u8"))) ∷ []) (name c))
+laid_closure : laid_expr (expr.Closure false true (param_named a None ∷ param_named b (Some (named_type (codes "u8"))) ∷ []) (name c))
     ≡ codes "move |a, b: u8| c"
 laid_closure =
     rw (
-      exprs.expr_closure_is true (param_named a None ∷ param_named b (Some (named_type (codes "u8"))) ∷ []) (name c),
+      exprs.expr_closure_is false true (param_named a None ∷ param_named b (Some (named_type (codes "u8"))) ∷ []) (name c),
       name_is c,
       named_is (codes "u8"),
       pats.pat_bind_is false false (named a) None,
@@ -215,14 +215,20 @@ laid_closure =
     )
     refl
 
-laid_no_params : laid_expr (expr.Closure false [] (name c)) ≡ codes "|| c"
-laid_no_params = rw (exprs.expr_closure_is false [] (name c), name_is c) refl
+laid_no_params : laid_expr (expr.Closure false false [] (name c)) ≡ codes "|| c"
+laid_no_params = rw (exprs.expr_closure_is false false [] (name c), name_is c) refl
 
-laid_typed_closure : laid_expr (expr.TypedClosure false (param_named a None ∷ []) (named_type (codes "u8")) (alone_of (name b)))
+laid_async_closure : laid_expr (expr.Closure true false [] (name c)) ≡ codes "async || c"
+laid_async_closure = rw (exprs.expr_closure_is true false [] (name c), name_is c) refl
+
+laid_async_move : laid_expr (expr.Closure true true [] (name c)) ≡ codes "async move || c"
+laid_async_move = rw (exprs.expr_closure_is true true [] (name c), name_is c) refl
+
+laid_typed_closure : laid_expr (expr.TypedClosure false false (param_named a None ∷ []) (named_type (codes "u8")) (alone_of (name b)))
     ≡ codes "|a| -> u8 {\n    b\n}"
 laid_typed_closure =
     rw (
-      exprs.expr_typed_closure_is false (param_named a None ∷ []) (named_type (codes "u8")) (alone_of (name b)),
+      exprs.expr_typed_closure_is false false (param_named a None ∷ []) (named_type (codes "u8")) (alone_of (name b)),
       alone_is b,
       named_is (codes "u8"),
       pats.pat_bind_is false false (named a) None,

@@ -334,15 +334,30 @@ body_b = rw (name_is b) refl
 closure_begun : head_by (at_level 1) false
     (expr_lead_at (word (codes "move") ∷ mark (codes "|") ∷ word a ∷ mark (codes "|") ∷ word b ∷ []))
     (word (codes "move") ∷ mark (codes "|") ∷ word a ∷ mark (codes "|") ∷ word b ∷ [])
-    ≡ Some ((expr.Closure true (param_named a None ∷ []) (name b), 2), [])
+    ≡ Some ((expr.Closure false true (param_named a None ∷ []) (name b), 2), [])
 unfolding expr_lead_at closure_expr closure_param elements elements_from attributes repeat repeat_from op_at
 closure_begun = rw (param_a (word b ∷ []), body_b) refl
+
+-- `async|a|b` and `async move|a|b`
+async_closure_begun : head_by (at_level 1) false
+    (expr_lead_at (word (codes "async") ∷ mark (codes "|") ∷ word a ∷ mark (codes "|") ∷ word b ∷ []))
+    (word (codes "async") ∷ mark (codes "|") ∷ word a ∷ mark (codes "|") ∷ word b ∷ [])
+    ≡ Some ((expr.Closure true false (param_named a None ∷ []) (name b), 2), [])
+unfolding expr_lead_at closure_expr closure_param elements elements_from attributes repeat repeat_from op_at
+async_closure_begun = rw (param_a (word b ∷ []), body_b) refl
+
+async_move_begun : head_by (at_level 1) false
+    (expr_lead_at (word (codes "async") ∷ word (codes "move") ∷ mark (codes "|") ∷ word a ∷ mark (codes "|") ∷ word b ∷ []))
+    (word (codes "async") ∷ word (codes "move") ∷ mark (codes "|") ∷ word a ∷ mark (codes "|") ∷ word b ∷ [])
+    ≡ Some ((expr.Closure true true (param_named a None ∷ []) (name b), 2), [])
+unfolding expr_lead_at closure_expr closure_param elements elements_from attributes repeat repeat_from op_at
+async_move_begun = rw (param_a (word b ∷ []), body_b) refl
 
 -- `|a|->u8{b}`
 typed_begun : head_by (at_level 1) false
     (expr_lead_at (mark (codes "|") ∷ word a ∷ mark (codes "|") ∷ token kind.Punct (codes "-") true ∷ mark (codes ">") ∷ word (codes "u8") ∷ in_braces (word b) []))
     (mark (codes "|") ∷ word a ∷ mark (codes "|") ∷ token kind.Punct (codes "-") true ∷ mark (codes ">") ∷ word (codes "u8") ∷ in_braces (word b) [])
-    ≡ Some ((expr.TypedClosure false (param_named a None ∷ []) (named_type (codes "u8")) (alone_of (name b)), 2), [])
+    ≡ Some ((expr.TypedClosure false false (param_named a None ∷ []) (named_type (codes "u8")) (alone_of (name b)), 2), [])
 unfolding expr_lead_at closure_expr closure_param elements elements_from within lead_at path_type simple_path path chain segment args_by word_reading attributes repeat repeat_from op_at strength binary
 typed_begun = rw (param_a (token kind.Punct (codes "-") true ∷ mark (codes ">") ∷ word (codes "u8") ∷ in_braces (word b) []), block_b []) refl
 

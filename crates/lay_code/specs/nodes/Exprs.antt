@@ -407,10 +407,14 @@ is_closure_param p = are_attrs false p.attrs && pat_good Single (about_pat p.pat
 abbrev pub bar : Bit
 bar = Fixed kind.Punct (codes "|")
 
--- what stands before the body of a closure
-abbrev pub closure_head : Bool → List ClosureParam → Form → Form
-closure_head moves params f =
+-- what stands before the body of a closure, behind its `async`
+abbrev pub behind_async : Bool → List ClosureParam → Form → Form
+behind_async moves params f =
     when moves (keyword (codes "move") ∷ Blank ∷ []) (Part (comma_list true bar bar (map closure_param params)) f)
+
+-- what stands before the body of a closure
+abbrev pub closure_head : Bool → Bool → List ClosureParam → Form → Form
+closure_head is_async moves params f = when is_async (keyword (codes "async") ∷ Blank ∷ []) (behind_async moves params f)
 
 abbrev pub inside : ExprLayer → Form
 inside (Expr-F.Lit l) = literal_form l Done
@@ -443,8 +447,8 @@ inside (Expr-F.While label pat x b) =
 inside (Expr-F.For label pat x b) = labelled label
     (I0 (Piece (keyword (codes "for") ∷ Blank ∷ []) (Part (pat_form Alternatives (about_pat pat)) (Piece (Blank ∷ keyword (codes "in") ∷ Blank ∷ []) (Part x.form Done))))
     (Part (b.form true) Done))
-inside (Expr-F.Closure moves params x) = closure_head moves params (Piece (Blank ∷ []) (Part x.form Done))
-inside (Expr-F.TypedClosure moves params output b) = closure_head moves params
+inside (Expr-F.Closure is_async moves params x) = closure_head is_async moves params (Piece (Blank ∷ []) (Part x.form Done))
+inside (Expr-F.TypedClosure is_async moves params output b) = closure_head is_async moves params
     (Piece (Blank ∷ Operator (codes "->") ∷ Blank ∷ []) (Part (about_type output).told.form (Part (b.form true) Done)))
 inside (Expr-F.Return x) = Piece (keyword (codes "return") ∷ []) (operand_form x)
 inside (Expr-F.Break label x) = Piece (keyword (codes "break") ∷ []) (label_form label (operand_form x))
@@ -464,8 +468,8 @@ level_of (Expr-F.Assign targets x) = 0
 level_of (Expr-F.Postfix x steps) = 13
 level_of (Expr-F.Return x) = 12
 level_of (Expr-F.Break label x) = 12
-level_of (Expr-F.Closure moves params x) = 12
-level_of (Expr-F.TypedClosure moves params output b) = 12
+level_of (Expr-F.Closure is_async moves params x) = 12
+level_of (Expr-F.TypedClosure is_async moves params output b) = 12
 level_of _ = 14
 
 -- ---- what it begins with
@@ -510,8 +514,8 @@ lead_of (Expr-F.Match x attrs arms) = ByBlockWord
 lead_of (Expr-F.Loop label b) = label_or ByBlockWord label
 lead_of (Expr-F.While label pat x b) = label_or ByBlockWord label
 lead_of (Expr-F.For label pat x b) = label_or ByBlockWord label
-lead_of (Expr-F.Closure moves params x) = ByClosure
-lead_of (Expr-F.TypedClosure moves params output b) = ByClosure
+lead_of (Expr-F.Closure is_async moves params x) = ByClosure
+lead_of (Expr-F.TypedClosure is_async moves params output b) = ByClosure
 
 abbrev pub is_brace_lead : ExprLead → Bool
 is_brace_lead ByBrace = true
@@ -566,8 +570,8 @@ tail_of (Expr-F.Postfix x steps) = tail_of_steps steps
 tail_of (Expr-F.Return x) = tail_of_jump x
 tail_of (Expr-F.Break label x) = tail_of_jump x
 tail_of (Expr-F.If branches otherwise) = record shut { lacks_else = not (is_some otherwise) }
-tail_of (Expr-F.Closure moves params x) = record x.tail { takes_all = true; closure = true }
-tail_of (Expr-F.TypedClosure moves params output b) = record shut { closure = true }
+tail_of (Expr-F.Closure is_async moves params x) = record x.tail { takes_all = true; closure = true }
+tail_of (Expr-F.TypedClosure is_async moves params output b) = record shut { closure = true }
 tail_of _ = shut
 
 -- ---- what it is
@@ -575,8 +579,8 @@ tail_of _ = shut
 abbrev pub is_jump : ExprLayer → Bool
 is_jump (Expr-F.Return x) = true
 is_jump (Expr-F.Break label x) = true
-is_jump (Expr-F.Closure moves params x) = true
-is_jump (Expr-F.TypedClosure moves params output b) = true
+is_jump (Expr-F.Closure is_async moves params x) = true
+is_jump (Expr-F.TypedClosure is_async moves params output b) = true
 is_jump _ = false
 
 abbrev pub is_endless : ExprLayer → Bool
@@ -738,8 +742,8 @@ within_of (Expr-F.Match x attrs arms) no_struct first = placed x (plain 0 true) 
 within_of (Expr-F.Loop label b) no_struct first = b.good
 within_of (Expr-F.While label pat x b) no_struct first = condition_good pat x && b.good
 within_of (Expr-F.For label pat x b) no_struct first = pat_good Alternatives (about_pat pat) && placed x (plain 0 true) && b.good
-within_of (Expr-F.Closure moves params x) no_struct first = list_all is_closure_param params && placed x (plain 0 no_struct)
-within_of (Expr-F.TypedClosure moves params output b) no_struct first = list_all is_closure_param params && good_at NoBounds (about_type output) && b.good
+within_of (Expr-F.Closure is_async moves params x) no_struct first = list_all is_closure_param params && placed x (plain 0 no_struct)
+within_of (Expr-F.TypedClosure is_async moves params output b) no_struct first = list_all is_closure_param params && good_at NoBounds (about_type output) && b.good
 within_of (Expr-F.Return x) no_struct first = operand_placed x no_struct
 within_of (Expr-F.Break label x) no_struct first = operand_placed x no_struct && break_placed label x
 

@@ -250,21 +250,26 @@ closure_param within ts = do
   Some ((record { attrs = attrs.0; pat = p.0.0; ty = t.0.0 }, max p.0.1 t.0.1), t.1)
 
 -- what stands behind the parameters of a closure; behind its body no operator stands
-abbrev pub closure_body : ExprWithin → Bool → Bool → List ClosureParam → ℕ → Tokens → Read Expr
-closure_body within no_struct moves params need ts =
+abbrev pub closure_body : ExprWithin → Bool → Bool → Bool → List ClosureParam → ℕ → Tokens → Read Expr
+closure_body within no_struct is_async moves params need ts =
     if is_op (codes "->") ts
     then (do
       t ← within.kinds.types NoBounds (drop 2 ts)
       b ← block_by within t.1
-      Some ((expr.TypedClosure moves params t.0.0 b.0.0, suc (max need (max t.0.1 b.0.1))), b.1))
-    else (do x ← within.exprs (plain 0 no_struct) ts; Some ((expr.Closure moves params x.0.0, suc (max need x.0.1)), x.1))
+      Some ((expr.TypedClosure is_async moves params t.0.0 b.0.0, suc (max need (max t.0.1 b.0.1))), b.1))
+    else (do x ← within.exprs (plain 0 no_struct) ts; Some ((expr.Closure is_async moves params x.0.0, suc (max need x.0.1)), x.1))
 
-unfoldable pub closure_expr : ExprWithin → Bool → Tokens → Read Expr
-closure_expr within no_struct ts = do
+-- a closure, behind its `async` if it has one
+abbrev pub closure_behind : ExprWithin → Bool → Bool → Tokens → Read Expr
+closure_behind within no_struct is_async ts = do
   let moves = first (is_keyword (codes "move")) ts
   behind ← passed (is_mark (codes "|")) (if moves then tail ts else ts)
   ps ← elements (is_mark (codes "|")) (closure_param within) behind
-  closure_body within no_struct moves (nodes ps.0) (deepest ps.0) ps.1
+  closure_body within no_struct is_async moves (nodes ps.0) (deepest ps.0) ps.1
+
+unfoldable pub closure_expr : ExprWithin → Bool → Tokens → Read Expr
+closure_expr within no_struct ts =
+    let is_async = first (is_keyword (codes "async")) ts in closure_behind within no_struct is_async (if is_async then tail ts else ts)
 
 -- ---- what begins an expression
 

@@ -126,6 +126,7 @@ fn before_closure_param(alloc: Global, row: &str) -> Option<File> {
     file_of_expr(
         alloc,
         Expr::Closure {
+            is_async: false,
             moves: false,
             params,
             body,

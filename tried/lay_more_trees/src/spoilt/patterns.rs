@@ -52,6 +52,7 @@ fn of_closure(alloc: Global, text: &str) -> Option<File> {
     file_of_expr(
         alloc,
         Expr::Closure {
+            is_async: false,
             moves: false,
             params,
             body,

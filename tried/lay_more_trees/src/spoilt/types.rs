@@ -292,6 +292,7 @@ fn returned_by_closure(alloc: Global, text: &str) -> Option<File> {
     file_of_expr(
         alloc,
         Expr::TypedClosure {
+            is_async: false,
             moves: false,
             params: List::new(alloc),
             output,
