@@ -113,10 +113,11 @@ closure_param_is p =
     param_attrs_are p.attrs _
     ∙ (let m = param_type_is p.ty in omega (arith, m))
 
-closure_head_is : (moves : Bool) (params : List ClosureParam) (f : Form)
-    → least_depth (closure_head moves params f) ≡ max (greatest (map closure_param params)) (least_depth f)
-closure_head_is moves params f =
-    when_is moves _ _
+closure_head_is : (is_async moves : Bool) (params : List ClosureParam) (f : Form)
+    → least_depth (closure_head is_async moves params f) ≡ max (greatest (map closure_param params)) (least_depth f)
+closure_head_is is_async moves params f =
+    when_is is_async _ _
+    ∙ when_is moves _ _
     ∙ (let m = list_is true bar bar (map closure_param params) in omega (arith, m))
 
 -- ---- expressions
@@ -289,21 +290,21 @@ for_is x label pat iterated body is =
     ∙ ap (λ (n : ℕ). n + 1) (labelled_is label _)
     ∙ omega arith
 
-pub closure_is : (x : Expr) (moves : Bool) (params : List ClosureParam) (body : Expr) → x ≡ expr.Closure moves params body
+pub closure_is : (x : Expr) (is_async moves : Bool) (params : List ClosureParam) (body : Expr) → x ≡ expr.Closure is_async moves params body
     → least_depth (about_expr x).form ≡ max (greatest (map closure_param params)) (least_depth (about_expr body).form) + 1
-closure_is x moves params body is =
-    one_more x (expr.Closure moves params body) (Expr-F.Closure moves params (about_expr body)) is (laws.expr_closure_is moves params body)
-    ∙ ap (λ (n : ℕ). n + 1) (closure_head_is moves params _)
+closure_is x is_async moves params body is =
+    one_more x (expr.Closure is_async moves params body) (Expr-F.Closure is_async moves params (about_expr body)) is (laws.expr_closure_is is_async moves params body)
+    ∙ ap (λ (n : ℕ). n + 1) (closure_head_is is_async moves params _)
     ∙ omega arith
 
-pub typed_closure_is : (x : Expr) (moves : Bool) (params : List ClosureParam) (output : Ty) (body : Block)
-    → x ≡ expr.TypedClosure moves params output body
+pub typed_closure_is : (x : Expr) (is_async moves : Bool) (params : List ClosureParam) (output : Ty) (body : Block)
+    → x ≡ expr.TypedClosure is_async moves params output body
     → least_depth (about_expr x).form
     ≡ max (max (greatest (map closure_param params)) (least_depth (about_type output).told.form)) (least_depth ((about_block body).form true)) + 1
-typed_closure_is x moves params output body is =
-    one_more x (expr.TypedClosure moves params output body) (Expr-F.TypedClosure moves params output (about_block body)) is
-    (laws.expr_typed_closure_is moves params output body)
-    ∙ ap (λ (n : ℕ). n + 1) (closure_head_is moves params _)
+typed_closure_is x is_async moves params output body is =
+    one_more x (expr.TypedClosure is_async moves params output body) (Expr-F.TypedClosure is_async moves params output (about_block body)) is
+    (laws.expr_typed_closure_is is_async moves params output body)
+    ∙ ap (λ (n : ℕ). n + 1) (closure_head_is is_async moves params _)
     ∙ omega arith
 
 return_is : (x : Expr) (operand : Option Expr) → x ≡ expr.Return operand → least_depth (about_expr x).form ≡ expr_if operand + 1

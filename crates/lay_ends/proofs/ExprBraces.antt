@@ -162,10 +162,14 @@ targets_end [] f = refl
 targets_end (x ∷ more) f = targets_end more f
 
 -- What stands behind the parameters of a closure ends it.
-closure_ends : (moves : Bool) (params : List ClosureParam) (f : Form) → ends_in_brace (closure_head moves params f) ≡ ends_in_brace f
-closure_ends true params f =
+closure_ends : (is_async moves : Bool) (params : List ClosureParam) (f : Form) → ends_in_brace (closure_head is_async moves params f) ≡ ends_in_brace f
+closure_ends true true params f =
     ap (λ b. brace_behind b f) (list_ends true bar bar (map closure_param params) (λ b. refl) (λ b. refl) _)
-closure_ends false params f =
+closure_ends true false params f =
+    ap (λ b. brace_behind b f) (list_ends true bar bar (map closure_param params) (λ b. refl) (λ b. refl) _)
+closure_ends false true params f =
+    ap (λ b. brace_behind b f) (list_ends true bar bar (map closure_param params) (λ b. refl) (λ b. refl) _)
+closure_ends false false params f =
     ap (λ b. brace_behind b f) (list_ends true bar bar (map closure_param params) (λ b. refl) (λ b. refl) _)
 
 -- ---- all kinds
@@ -199,8 +203,8 @@ brace_in (Expr-F.Match x attrs arms) = true
 brace_in (Expr-F.Loop label b) = true
 brace_in (Expr-F.While label pat x b) = true
 brace_in (Expr-F.For label pat x b) = true
-brace_in (Expr-F.Closure moves params x) = ends_in_brace (about_expr x).form
-brace_in (Expr-F.TypedClosure moves params output b) = true
+brace_in (Expr-F.Closure is_async moves params x) = ends_in_brace (about_expr x).form
+brace_in (Expr-F.TypedClosure is_async moves params output b) = true
 brace_in (Expr-F.Return x) = operand_ends x
 brace_in (Expr-F.Break label x) = operand_ends x
 brace_in _ = false
@@ -280,12 +284,12 @@ brace_by _ (laws.IsFor label pat x b) =
     let head : Form = Piece (keyword (codes "for") ∷ Blank ∷ []) (Part (pat_form Alternatives (about_pat pat)) behind) in
     let f = I0 head (Part ((about_block b).form true) Done) in
     rw (laws.expr_for_is label pat x b, views.outs-For label pat x b) (labelled_ends label f (λ c. block_ends b true _) false)
-brace_by _ (laws.IsClosure moves params x) =
-    rw (laws.expr_closure_is moves params x, views.outs-Closure moves params x)
-    (closure_ends moves params (Piece (Blank ∷ []) (Part (about_expr x).form Done)))
-brace_by _ (laws.IsTypedClosure moves params output b) =
-    rw (laws.expr_typed_closure_is moves params output b, views.outs-TypedClosure moves params output b)
-    (closure_ends moves params
+brace_by _ (laws.IsClosure is_async moves params x) =
+    rw (laws.expr_closure_is is_async moves params x, views.outs-Closure is_async moves params x)
+    (closure_ends is_async moves params (Piece (Blank ∷ []) (Part (about_expr x).form Done)))
+brace_by _ (laws.IsTypedClosure is_async moves params output b) =
+    rw (laws.expr_typed_closure_is is_async moves params output b, views.outs-TypedClosure is_async moves params output b)
+    (closure_ends is_async moves params
     (Piece (Blank ∷ Operator (codes "->") ∷ Blank ∷ []) (Part (about_type output).told.form (Part ((about_block b).form true) Done)))
     ∙ block_ends b true _)
 brace_by _ (laws.IsReturn None) = rw (laws.expr_return_is None, views.outs-Return None) refl
@@ -388,11 +392,11 @@ of_assign x value lent targets is same =
     ap (λ (y : Expr). ends_in_brace (about_expr y).form) same
     ∙ told_by x (expr.Assign targets value) (Expr-F.Assign targets value) is (views.outs-Assign targets value)
 
-pub of_closure : (x inner lent : Expr) (moves : Bool) (params : List ClosureParam) → x ≡ expr.Closure moves params inner → lent ≡ inner
+pub of_closure : (x inner lent : Expr) (is_async moves : Bool) (params : List ClosureParam) → x ≡ expr.Closure is_async moves params inner → lent ≡ inner
     → ends_in_brace (about_expr lent).form ≡ ends_in_brace (about_expr x).form
-of_closure x inner lent moves params is same =
+of_closure x inner lent is_async moves params is same =
     ap (λ (y : Expr). ends_in_brace (about_expr y).form) same
-    ∙ told_by x (expr.Closure moves params inner) (Expr-F.Closure moves params inner) is (views.outs-Closure moves params inner)
+    ∙ told_by x (expr.Closure is_async moves params inner) (Expr-F.Closure is_async moves params inner) is (views.outs-Closure is_async moves params inner)
 
 no_step : (x : Expr) (steps : List Step) → (length steps == 0) ≡ true → ends_in_brace (about_expr x).form ≡ steps_in x steps
 no_step x [] h = refl
@@ -434,8 +438,8 @@ closure_in (Expr-F.Chain x rest) = (tail_of_operands (map laws.behind_op rest)).
 closure_in (Expr-F.Unary ps x) = (about_expr x).tail.closure
 closure_in (Expr-F.Range start inclusive end) = operand_closes end
 closure_in (Expr-F.Assign targets x) = (about_expr x).tail.closure
-closure_in (Expr-F.Closure moves params x) = true
-closure_in (Expr-F.TypedClosure moves params output b) = true
+closure_in (Expr-F.Closure is_async moves params x) = true
+closure_in (Expr-F.TypedClosure is_async moves params output b) = true
 closure_in (Expr-F.Return x) = operand_closes x
 closure_in (Expr-F.Break label x) = operand_closes x
 closure_in _ = false
@@ -481,8 +485,8 @@ closure_by _ (laws.IsMatch x attrs arms) = rw (laws.expr_match_is x attrs arms, 
 closure_by _ (laws.IsLoop label b) = rw (laws.expr_loop_is label b, views.outs-Loop label b) refl
 closure_by _ (laws.IsWhile label pat x b) = rw (laws.expr_while_is label pat x b, views.outs-While label pat x b) refl
 closure_by _ (laws.IsFor label pat x b) = rw (laws.expr_for_is label pat x b, views.outs-For label pat x b) refl
-closure_by _ (laws.IsClosure moves params x) = rw (laws.expr_closure_is moves params x, views.outs-Closure moves params x) refl
-closure_by _ (laws.IsTypedClosure moves params output b) = rw (laws.expr_typed_closure_is moves params output b, views.outs-TypedClosure moves params output b) refl
+closure_by _ (laws.IsClosure is_async moves params x) = rw (laws.expr_closure_is is_async moves params x, views.outs-Closure is_async moves params x) refl
+closure_by _ (laws.IsTypedClosure is_async moves params output b) = rw (laws.expr_typed_closure_is is_async moves params output b, views.outs-TypedClosure is_async moves params output b) refl
 closure_by _ (laws.IsReturn None) = rw (laws.expr_return_is None, views.outs-Return None) refl
 closure_by _ (laws.IsReturn (Some x)) = rw (laws.expr_return_is (Some x), views.outs-Return (Some x)) refl
 closure_by _ (laws.IsBreak label None) = rw (laws.expr_break_is label None, views.outs-Break label None) refl

@@ -44,8 +44,8 @@ ends_in (Expr-F.Range start inclusive end) = range_end end
 ends_in (Expr-F.Assign targets x) = ends_of (about_expr x).tail
 ends_in (Expr-F.Return x) = (true, false)
 ends_in (Expr-F.Break label x) = (true, false)
-ends_in (Expr-F.Closure moves params x) = (true, false)
-ends_in (Expr-F.TypedClosure moves params output b) = (true, false)
+ends_in (Expr-F.Closure is_async moves params x) = (true, false)
+ends_in (Expr-F.TypedClosure is_async moves params output b) = (true, false)
 ends_in _ = (false, false)
 
 -- Steps end in nothing that is open.
@@ -90,8 +90,8 @@ ends_by _ (laws.IsMatch x attrs arms) = rw (laws.expr_match_is x attrs arms, vie
 ends_by _ (laws.IsLoop label b) = rw (laws.expr_loop_is label b, views.outs-Loop label b) refl
 ends_by _ (laws.IsWhile label pat x b) = rw (laws.expr_while_is label pat x b, views.outs-While label pat x b) refl
 ends_by _ (laws.IsFor label pat x b) = rw (laws.expr_for_is label pat x b, views.outs-For label pat x b) refl
-ends_by _ (laws.IsClosure moves params x) = rw (laws.expr_closure_is moves params x, views.outs-Closure moves params x) refl
-ends_by _ (laws.IsTypedClosure moves params output b) = rw (laws.expr_typed_closure_is moves params output b, views.outs-TypedClosure moves params output b) refl
+ends_by _ (laws.IsClosure is_async moves params x) = rw (laws.expr_closure_is is_async moves params x, views.outs-Closure is_async moves params x) refl
+ends_by _ (laws.IsTypedClosure is_async moves params output b) = rw (laws.expr_typed_closure_is is_async moves params output b, views.outs-TypedClosure is_async moves params output b) refl
 ends_by _ (laws.IsReturn None) = rw (laws.expr_return_is None, views.outs-Return None) refl
 ends_by _ (laws.IsReturn (Some x)) = rw (laws.expr_return_is (Some x), views.outs-Return (Some x)) refl
 ends_by _ (laws.IsBreak label None) = rw (laws.expr_break_is label None, views.outs-Break label None) refl

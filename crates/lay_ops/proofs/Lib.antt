@@ -1,4 +1,5 @@
 pub mod BareNumbers
+pub mod Behind
 pub mod BodyFacts
 pub mod ExprEnds
 pub mod FirstCharacter

@@ -31,6 +31,6 @@ told lead.Return = operands.ByReturn
 told lead.BlockWord = operands.ByBlockWord
 told lead.Closure = operands.ByClosure
 
--- the words of expressions that hold a block
+-- the words that begin an expression that holds a block, whatever stands behind them
 abbrev pub block_words : List (List ℕ)
-block_words = codes "async" ∷ codes "for" ∷ codes "if" ∷ codes "loop" ∷ codes "match" ∷ codes "unsafe" ∷ codes "while" ∷ []
+block_words = codes "for" ∷ codes "if" ∷ codes "loop" ∷ codes "match" ∷ codes "unsafe" ∷ codes "while" ∷ []

@@ -1,12 +1,13 @@
 //! What the tokens ahead begin, if it is an expression.
-ghost use Rattle.std.specs.Prelude.{◌≡◌, if◌then◌else◌, codes, Some, None, option_map};
+ghost use Rattle.std.specs.Prelude.{◌≡◌, if◌then◌else◌, codes, drop, Some, None, option_map};
 ghost use Rattle.lay_token.specs.Operators.{is_op};
 ghost use Rattle.lay_piece.specs.declared.kind.Delim.TheVariants.{Brace};
-ghost use Rattle.lay_node.specs.Ahead.{first, opens, tail};
+ghost use Rattle.lay_node.specs.Ahead.{first, is_mark, opens, tail};
 ghost use Rattle.lay_node.specs.Follow.{begins_dots};
 ghost use Rattle.lay_code.specs.Operands as operands;
 ghost use Rattle.lay_ops.specs.Leads.{block_words, told};
 
+use crate::operators::is_word;
 use lay_code::Place;
 use lay_nest::Cursor;
 use lay_token::word::{Class, word_class};
@@ -99,11 +100,49 @@ fn lead_of_word(word: &[u8], at: &Cursor<'_>) -> Option<ExprLead>
         Some(ExprLead::Return)
     } else if word == b"move".as_slice() {
         Some(ExprLead::Closure)
+    } else if word == b"async".as_slice() {
+        Some(async_lead(at))
     } else if is_block_word(word, at) {
         Some(ExprLead::BlockWord)
     } else {
         None
     }
+}
+
+/// What the word `async` begins, which is the first token: a closure before its bars, and else a block.
+fn async_lead(at: &Cursor<'_>) -> ExprLead
+    ensures { told result ≡ operands.async_lead (tail at.now) }
+{
+    if is_before_closure(at) {
+        ExprLead::Closure
+    } else {
+        ExprLead::BlockWord
+    }
+}
+
+/// Whether a `|` stands behind the first token, or `move` and a `|`.
+#[tactic(auto, using(crate::proofs::Behind::closure_behind))]
+fn is_before_closure(at: &Cursor<'_>) -> bool
+    ensures { result ≡ operands.begins_closure (tail at.now) }
+{
+    is_bar_behind(at, 1) || is_word(at, 1, b"move") && is_bar_behind(at, 2)
+}
+
+/// Whether a `|` stands behind this many tokens.
+fn is_bar_behind(at: &Cursor<'_>, others: usize) -> bool
+    ensures { result ≡ first (is_mark (codes "|")) (drop others at.now) }
+{
+    match at.peek(others) {
+        Some(token) => is_bar(token),
+        None => false,
+    }
+}
+
+/// Whether the token is a `|`.
+fn is_bar(token: &Token) -> bool
+    ensures { result ≡ is_mark (codes "|") token.now }
+{
+    matches!(token.kind, Kind::Punct) && token.text.as_bytes() == b"|".as_slice()
 }
 
 /// Whether a word begins an expression that holds a block. `const` does so before a `{` alone.
@@ -117,8 +156,7 @@ fn is_block_word(word: &[u8], at: &Cursor<'_>) -> bool
 fn holds_block(word: &[u8]) -> bool
     ensures { result ≡ operands.is_of block_words word.now }
 {
-    word == b"async".as_slice()
-        || word == b"for".as_slice()
+    word == b"for".as_slice()
         || word == b"if".as_slice()
         || word == b"loop".as_slice()
         || word == b"match".as_slice()

@@ -80,7 +80,7 @@ fn first_of(at: &Cursor<'_>, ops: &[Op]) -> Option<Op>
 }
 
 /// Whether the keyword stands behind this many other tokens.
-fn is_word(at: &Cursor<'_>, others: usize, word: &[u8]) -> bool
+pub(crate) fn is_word(at: &Cursor<'_>, others: usize, word: &[u8]) -> bool
     ensures { result ≡ first (ahead.is_keyword word.now) (drop others at.now) }
 {
     match at.peek(others) {

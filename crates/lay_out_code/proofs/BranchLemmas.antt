@@ -20,7 +20,7 @@ use Rattle.lay_node.specs.declared.types.Ty.{Ty}
 use Rattle.lay_code.specs.nodes.Blocks.{braces_of, guard_form, is_free}
 use Rattle.lay_code.specs.nodes.Code.{about_arm, about_block, about_branch, about_expr}
 use Rattle.lay_code.specs.nodes.CodeFacts.{ArmFacts, BlockFacts, BranchFacts}
-use Rattle.lay_code.specs.nodes.Exprs.{ExprFacts, arm_forms, bar, branches_form, closure_head, closure_param, condition_form, else_branch_form, labelled, more_branches}
+use Rattle.lay_code.specs.nodes.Exprs.{ExprFacts, arm_forms, bar, behind_async, branches_form, closure_head, closure_param, condition_form, else_branch_form, labelled, more_branches}
 use Rattle.lay_code.specs.declared.blocks.Arm.{Arm}
 use Rattle.lay_code.specs.declared.blocks.Block.{Block}
 use Rattle.lay_code.specs.declared.blocks.Branch.{Branch}
@@ -371,38 +371,46 @@ may_end_for {m} {a} {p} {q} e f h =
 abbrev params_form : List ClosureParam → Form
 params_form params = comma_list true bar bar (map closure_param params)
 
-head_more : (q moves : Bool) (params : List ClosureParam) (f : Form) → Steady f
-    → stream_of (closure_head moves params Done) ++ stream_of f ≡ fed q (closure_head moves params f) []
-head_more true true params f any =
+behind_more : (q moves : Bool) (params : List ClosureParam) (f : Form) → Steady f
+    → stream_of (behind_async moves params Done) ++ stream_of f ≡ fed q (behind_async moves params f) []
+behind_more true true params f any =
     ap (λ (s : List Tok). tok.Text (codes "move ") ∷ s) (part_more (params_form params) f any)
-head_more false true params f any =
+behind_more false true params f any =
     ap (λ (s : List Tok). tok.Text (codes "move ") ∷ s) (part_more (params_form params) f any)
-head_more false false params f any = part_more (params_form params) f any
-head_more true false [] f any = ap (λ (s : List Tok). tok.Text (codes "||") ∷ s) (sym (any _))
-head_more true false (p ∷ params) f any = part_more (params_form (p ∷ params)) f any
+behind_more false false params f any = part_more (params_form params) f any
+behind_more true false [] f any = ap (λ (s : List Tok). tok.Text (codes "||") ∷ s) (sym (any _))
+behind_more true false (p ∷ params) f any = part_more (params_form (p ∷ params)) f any
 
-pub closure_expr : (q : Bool) (x : Expr) (moves : Bool) (params ps : List ClosureParam) (inner put : Expr)
-    → x ≡ expr.Closure moves params inner → ps ≡ params → put ≡ inner
-    → stream_of (closure_head moves ps Done) ++ (tok.Text (codes " ") ∷ stream_of (about_expr put).form) ≡ told q x
-closure_expr q x moves params ps inner put is same e =
-    rw (same, e) (head_more q moves params (Piece (Blank ∷ []) (Part (about_expr inner).form Done)) any
-    ∙ told_is q x (expr.Closure moves params inner) _ is (expr_closure_is moves params inner))
+head_more : (q is_async moves : Bool) (params : List ClosureParam) (f : Form) → Steady f
+    → stream_of (closure_head is_async moves params Done) ++ stream_of f ≡ fed q (closure_head is_async moves params f) []
+head_more true true moves params f any =
+    ap (λ (s : List Tok). tok.Text (codes "async ") ∷ s) (behind_more false moves params f any)
+head_more false true moves params f any =
+    ap (λ (s : List Tok). tok.Text (codes "async ") ∷ s) (behind_more false moves params f any)
+head_more q false moves params f any = behind_more q moves params f any
+
+pub closure_expr : (q : Bool) (x : Expr) (is_async moves : Bool) (params ps : List ClosureParam) (inner put : Expr)
+    → x ≡ expr.Closure is_async moves params inner → ps ≡ params → put ≡ inner
+    → stream_of (closure_head is_async moves ps Done) ++ (tok.Text (codes " ") ∷ stream_of (about_expr put).form) ≡ told q x
+closure_expr q x is_async moves params ps inner put is same e =
+    rw (same, e) (head_more q is_async moves params (Piece (Blank ∷ []) (Part (about_expr inner).form Done)) any
+    ∙ told_is q x (expr.Closure is_async moves params inner) _ is (expr_closure_is is_async moves params inner))
   where
     any : Steady (Piece (Blank ∷ []) (Part (about_expr inner).form Done))
     any true = refl
     any false = refl
 
-pub typed_closure_expr : (q : Bool) (x : Expr) (moves : Bool) (params ps : List ClosureParam) (output : Ty) (b : Block)
-    → x ≡ expr.TypedClosure moves params output b → ps ≡ params
-    → stream_of (closure_head moves ps Done) ++ (tok.Text (codes " -> ") ∷ (stream_of (about_type output).told.form
+pub typed_closure_expr : (q : Bool) (x : Expr) (is_async moves : Bool) (params ps : List ClosureParam) (output : Ty) (b : Block)
+    → x ≡ expr.TypedClosure is_async moves params output b → ps ≡ params
+    → stream_of (closure_head is_async moves ps Done) ++ (tok.Text (codes " -> ") ∷ (stream_of (about_type output).told.form
     ++ stream_of ((about_block b).form true))) ≡ told q x
-typed_closure_expr q x moves params ps output b is same =
+typed_closure_expr q x is_async moves params ps output b is same =
     let f = Part ((about_block b).form true) Done in
     let tail = Piece (Blank ∷ Operator (codes "->") ∷ Blank ∷ []) (Part (about_type output).told.form f) in
-    rw same (ap (λ (s : List Tok). stream_of (closure_head moves params Done) ++ (tok.Text (codes " -> ") ∷ s))
+    rw same (ap (λ (s : List Tok). stream_of (closure_head is_async moves params Done) ++ (tok.Text (codes " -> ") ∷ s))
     (part_more (about_type output).told.form f (steady_block true b))
-    ∙ head_more q moves params tail any
-    ∙ told_is q x (expr.TypedClosure moves params output b) _ is (expr_typed_closure_is moves params output b))
+    ∙ head_more q is_async moves params tail any
+    ∙ told_is q x (expr.TypedClosure is_async moves params output b) _ is (expr_typed_closure_is is_async moves params output b))
   where
     any : Steady (Piece (Blank ∷ Operator (codes "->") ∷ Blank ∷ []) (Part (about_type output).told.form (Part ((about_block b).form true) Done)))
     any true = refl

@@ -19,7 +19,7 @@ use Rattle.lay_node.specs.declared.types.Ty.{Ty}
 use Rattle.lay_code.specs.nodes.Blocks.{braces_of, is_plain, is_single}
 use Rattle.lay_code.specs.nodes.Code.{about_expr, about_stmt}
 use Rattle.lay_code.specs.nodes.CodeFacts.{StmtFacts}
-use Rattle.lay_code.specs.nodes.Exprs.{ExprFacts, bar, closure_head, closure_param, labelled}
+use Rattle.lay_code.specs.nodes.Exprs.{ExprFacts, bar, behind_async, closure_head, closure_param, labelled}
 use Rattle.lay_code.specs.declared.blocks.Block.{Block}
 use Rattle.lay_code.specs.declared.blocks.Stmt.{Stmt}
 use Rattle.lay_code.specs.declared.blocks.Stmt.TheVariants as stmt
@@ -81,15 +81,22 @@ closure_param_is p put e =
     (part_more (about_pat p.pat).told.form f (typed_any p.ty))
     ∙ attrs_more p.attrs (Part (about_pat p.pat).told.form f))
 
--- the word before them
-pub closure_head_is : (moves : Bool) (params : List ClosureParam)
+-- the words before them
+behind_async_is : (moves : Bool) (params : List ClosureParam)
     → cond moves (tok.Text (codes "move ") ∷ []) [] ++ stream_of (comma_list true bar bar (map closure_param params))
-    ≡ stream_of (closure_head moves params Done)
-closure_head_is true params = ap (λ (s : List Tok). tok.Text (codes "move ") ∷ s) (any (map closure_param params))
+    ≡ stream_of (behind_async moves params Done)
+behind_async_is true params = ap (λ (s : List Tok). tok.Text (codes "move ") ∷ s) (any (map closure_param params))
   where
     any : (es : List Form) → stream_of (comma_list true bar bar es) ≡ stream_of (Part (comma_list true bar bar es) Done)
     any es = refl
-closure_head_is false params = refl
+behind_async_is false params = refl
+
+pub closure_head_is : (is_async moves : Bool) (params : List ClosureParam)
+    → cond is_async (tok.Text (codes "async ") ∷ []) []
+    ++ (cond moves (tok.Text (codes "move ") ∷ []) [] ++ stream_of (comma_list true bar bar (map closure_param params)))
+    ≡ stream_of (closure_head is_async moves params Done)
+closure_head_is true moves params = ap (λ (s : List Tok). tok.Text (codes "async ") ∷ s) (behind_async_is moves params)
+closure_head_is false moves params = behind_async_is moves params
 
 -- ---- statements
 
@@ -191,8 +198,8 @@ other_by _ (IsMatch x attrs arms) no_call no_block = braces_from _ (expr_match_i
 other_by _ (IsLoop label b) no_call no_block = braces_from _ (expr_loop_is label b)
 other_by _ (IsWhile label pat x b) no_call no_block = braces_from _ (expr_while_is label pat x b)
 other_by _ (IsFor label pat x b) no_call no_block = braces_from _ (expr_for_is label pat x b)
-other_by _ (IsClosure moves params inner) no_call no_block = braces_from _ (expr_closure_is moves params inner)
-other_by _ (IsTypedClosure moves params output b) no_call no_block = braces_from _ (expr_typed_closure_is moves params output b)
+other_by _ (IsClosure is_async moves params inner) no_call no_block = braces_from _ (expr_closure_is is_async moves params inner)
+other_by _ (IsTypedClosure is_async moves params output b) no_call no_block = braces_from _ (expr_typed_closure_is is_async moves params output b)
 other_by _ (IsReturn operand) no_call no_block = braces_from _ (expr_return_is operand)
 other_by _ (IsBreak label operand) no_call no_block = braces_from _ (expr_break_is label operand)
 

@@ -407,22 +407,26 @@ else_point q x branches otherwise b is some =
     (expr_if_is branches (Some b))
 
 -- a closure
-closure_by : (q moves : Bool) (params : List ClosureParam) (f : Form)
-    → ends_behind_point false f ≡ ends_behind_point q (closure_head moves params (Piece (Blank ∷ []) (Part f Done)))
-closure_by q true params f = refl
-closure_by q false params f = refl
+closure_by : (q is_async moves : Bool) (params : List ClosureParam) (f : Form)
+    → ends_behind_point false f ≡ ends_behind_point q (closure_head is_async moves params (Piece (Blank ∷ []) (Part f Done)))
+closure_by q true true params f = refl
+closure_by q true false params f = refl
+closure_by q false true params f = refl
+closure_by q false false params f = refl
 
-pub closure_point : (q : Bool) (x : Expr) (moves : Bool) (params : List ClosureParam) (inner put : Expr) (b : Bool)
-    → x ≡ expr.Closure moves params inner → put ≡ inner → b ≡ ends false put → b ≡ ends q x
-closure_point q x moves params inner put b is same h =
-    h ∙ ap (ends false) same ∙ closure_by q moves params (expr_told inner)
-    ∙ ends_is q x (expr.Closure moves params inner) _ is (expr_closure_is moves params inner)
+pub closure_point : (q : Bool) (x : Expr) (is_async moves : Bool) (params : List ClosureParam) (inner put : Expr) (b : Bool)
+    → x ≡ expr.Closure is_async moves params inner → put ≡ inner → b ≡ ends false put → b ≡ ends q x
+closure_point q x is_async moves params inner put b is same h =
+    h ∙ ap (ends false) same ∙ closure_by q is_async moves params (expr_told inner)
+    ∙ ends_is q x (expr.Closure is_async moves params inner) _ is (expr_closure_is is_async moves params inner)
 
-head_shuts : (q moves : Bool) (params : List ClosureParam) (bits : List Bit) (f : Form)
+head_shuts : (q is_async moves : Bool) (params : List ClosureParam) (bits : List Bit) (f : Form)
     → ((r : Bool) → false ≡ ends_behind_point r (Piece bits f))
-    → false ≡ ends_behind_point q (closure_head moves params (Piece bits f))
-head_shuts q true params bits f shut = shut _
-head_shuts q false params bits f shut = shut _
+    → false ≡ ends_behind_point q (closure_head is_async moves params (Piece bits f))
+head_shuts q true true params bits f shut = shut _
+head_shuts q true false params bits f shut = shut _
+head_shuts q false true params bits f shut = shut _
+head_shuts q false false params bits f shut = shut _
 
 -- ---- what ends in no point whatever is in it
 
@@ -437,7 +441,7 @@ pub record Other (x : Expr) : Type 0 where
   pub not_assign : (targets : List (Expr × Op)) (value : Expr) → x ≡ expr.Assign targets value → ⊥
   pub not_postfix : (base : Expr) (steps : List Step) → x ≡ expr.Postfix base steps → ⊥
   pub not_if : (branches : List Branch) (otherwise : Option Block) → x ≡ expr.If branches otherwise → ⊥
-  pub not_closure : (moves : Bool) (params : List ClosureParam) (inner : Expr) → x ≡ expr.Closure moves params inner → ⊥
+  pub not_closure : (is_async moves : Bool) (params : List ClosureParam) (inner : Expr) → x ≡ expr.Closure is_async moves params inner → ⊥
   pub not_return : (operand : Option Expr) → x ≡ expr.Return operand → ⊥
   pub not_break : (label : Option Lifetime) (operand : Option Expr) → x ≡ expr.Break label operand → ⊥
 
@@ -482,7 +486,7 @@ other_by q _ (IsRange start i end) o = absurd (o.not_range start i end refl)
 other_by q _ (IsAssign targets value) o = absurd (o.not_assign targets value refl)
 other_by q _ (IsPostfix base steps) o = absurd (o.not_postfix base steps refl)
 other_by q _ (IsIf branches otherwise) o = absurd (o.not_if branches otherwise refl)
-other_by q _ (IsClosure moves params inner) o = absurd (o.not_closure moves params inner refl)
+other_by q _ (IsClosure is_async moves params inner) o = absurd (o.not_closure is_async moves params inner refl)
 other_by q _ (IsBlock label b) o =
     labelled_shuts q label ((about_block b).form false) (λ r. block_shuts r false b)
     ∙ ends_is q (expr.Block label b) (expr.Block label b) _ refl (expr_block_is label b)
@@ -504,10 +508,10 @@ other_by q _ (IsWhile label pat x b) o =
 other_by q _ (IsFor label pat x b) o =
     labelled_shuts q label _ (λ r. block_shuts _ true b)
     ∙ ends_is q (expr.For label pat x b) (expr.For label pat x b) _ refl (expr_for_is label pat x b)
-other_by q _ (IsTypedClosure moves params output b) o =
-    head_shuts q moves params _ _ (λ r. block_shuts _ true b)
-    ∙ ends_is q (expr.TypedClosure moves params output b) (expr.TypedClosure moves params output b) _ refl
-    (expr_typed_closure_is moves params output b)
+other_by q _ (IsTypedClosure is_async moves params output b) o =
+    head_shuts q is_async moves params _ _ (λ r. block_shuts _ true b)
+    ∙ ends_is q (expr.TypedClosure is_async moves params output b) (expr.TypedClosure is_async moves params output b) _ refl
+    (expr_typed_closure_is is_async moves params output b)
 other_by q _ (IsReturn operand) o = absurd (o.not_return operand refl)
 other_by q _ (IsBreak label operand) o = absurd (o.not_break label operand refl)
 other_by q _ IsUnderscore o = ends_is q expr.Underscore expr.Underscore _ refl expr_underscore_is

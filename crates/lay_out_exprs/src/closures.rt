@@ -14,17 +14,19 @@ use lay_out_types::lists::{add_close, add_lead};
 use lay_out_types::parts::add_param_attrs;
 use lay_stream::Emit;
 
-/// The word `move`, if it is said, and parameters.
+/// The words `async` and `move`, each if it is said, and parameters.
 pub fn add_closure_head<E: Emit>(
     out: &mut E,
     before: Result<(), E::Fault>,
+    is_async: bool,
     moves: bool,
     params: &[ClosureParam],
 ) -> Result<(), E::Fault>
-    ensures { Adds E.meanings before out.old (stream_of (closure_head moves params.now Done)) result out.new }
+    ensures { Adds E.meanings before out.old (stream_of (closure_head is_async moves params.now Done)) result out.new }
 {
-    let word = add_if(out, before, moves, b"move ");
-    add_params(out, word, params)
+    let word = add_if(out, before, is_async, b"async ");
+    let words = add_if(out, word, moves, b"move ");
+    add_params(out, words, params)
 }
 
 /// Parameters between bars, with a `,` between them.

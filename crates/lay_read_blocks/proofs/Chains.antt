@@ -136,12 +136,13 @@ module _ (within : ExprWithin) (ts : Tokens) where
   unfolding block_by
   block_refused attrs behind stmts left o a s c = rw (o, a, s, c) refl
 
-  pub closure_is : (no_struct moves : Bool) (mid : Tokens) (params : List (ClosureParam × ℕ)) (left : Tokens)
-      → first (is_keyword (codes "move")) ts ≡ moves → (if moves then tail ts else ts) ≡ mid → first (is_mark (codes "|")) mid ≡ true
+  pub closure_is : (no_struct is_async moves : Bool) (behind mid : Tokens) (params : List (ClosureParam × ℕ)) (left : Tokens)
+      → first (is_keyword (codes "async")) ts ≡ is_async → (if is_async then tail ts else ts) ≡ behind
+      → first (is_keyword (codes "move")) behind ≡ moves → (if moves then tail behind else behind) ≡ mid → first (is_mark (codes "|")) mid ≡ true
       → elements (is_mark (codes "|")) (closure_param within) (tail mid) ≡ Some (params, left)
-      → closure_expr within no_struct ts ≡ closure_body within no_struct moves (nodes params) (deepest params) left
+      → closure_expr within no_struct ts ≡ closure_body within no_struct is_async moves (nodes params) (deepest params) left
   unfolding closure_expr
-  closure_is no_struct moves mid params left m i b p = rw (m, i, b, p) refl
+  closure_is no_struct is_async moves behind mid params left a t m i b p = rw (a, t, m, i, b, p) refl
 
   -- the expression that a branch is behind `while`
   abbrev loop_of : Option Lifetime → (Branch × ℕ) × Tokens → Read Expr

@@ -128,11 +128,11 @@ arm_behind within attrs p g ts = do
 -- ---- closures
 
 -- what stands behind the parameters of a closure, from its `->` on
-abbrev pub typed_closure : ExprWithin → Bool → List ClosureParam → ℕ → Tokens → Read Expr
-typed_closure within moves params need ts = do
+abbrev pub typed_closure : ExprWithin → Bool → Bool → List ClosureParam → ℕ → Tokens → Read Expr
+typed_closure within is_async moves params need ts = do
   t ← within.kinds.types NoBounds (drop 2 ts)
   b ← block_by within t.1
-  Some ((expr.TypedClosure moves params t.0.0 b.0.0, suc (max need (max t.0.1 b.0.1))), b.1)
+  Some ((expr.TypedClosure is_async moves params t.0.0 b.0.0, suc (max need (max t.0.1 b.0.1))), b.1)
 
 -- ---- what begins an expression
 

@@ -90,12 +90,13 @@ impl<
         ensures read { IsFound (exprs.closure_expr (code_within self.now.depth) no_struct at.old) result at.new }
         ensures within { IfOk result (λ found. found.need ≤ self.now.depth + 1) }
     {
+        let is_async = takes_keyword(at, b"async");
         let moves = takes_keyword(at, b"move");
         if !takes_mark(at, b"|") {
             return Err(ReadNone::NoReading);
         }
         let params = self.params(at)?;
-        self.closure_body(at, no_struct, moves, params)
+        self.closure_body(at, no_struct, is_async, moves, params)
     }
 
     /// What stands behind the parameters of a closure.
@@ -104,21 +105,23 @@ impl<
         &self,
         at: &mut Ahead<'_>,
         no_struct: bool,
+        is_async: bool,
         moves: bool,
         params: Found<List<ClosureParam>>,
     ) -> Result<Found<Boxed<Expr>>, ReadNone>
         requires code { AreCode self.now.depth (P.pre self.now.exprs) (P.post self.now.exprs) (B.pre self.now.blocks) (B.post self.now.blocks) (I.pre self.now.items) (I.post self.now.items) }
         requires within { params.need ≤ self.now.depth }
-        ensures read { IsFound (exprs.closure_body (code_within self.now.depth) no_struct moves params.node params.need at.old) result at.new }
+        ensures read { IsFound (exprs.closure_body (code_within self.now.depth) no_struct is_async moves params.node params.need at.old) result at.new }
         ensures within { IfOk result (λ found. found.need ≤ self.now.depth + 1) }
     {
         if at.op_is(b"->") {
-            return self.typed_closure(at, moves, params);
+            return self.typed_closure(at, is_async, moves, params);
         }
         let (params, body) = both(params, self.expr(at, plain(0, no_struct)))?;
         boxed_found(
             self.alloc,
             Expr::Closure {
+                is_async,
                 moves,
                 params: params.node,
                 body: body.node,
@@ -132,12 +135,13 @@ impl<
     fn typed_closure(
         &self,
         at: &mut Ahead<'_>,
+        is_async: bool,
         moves: bool,
         params: Found<List<ClosureParam>>,
     ) -> Result<Found<Boxed<Expr>>, ReadNone>
         requires code { AreCode self.now.depth (P.pre self.now.exprs) (P.post self.now.exprs) (B.pre self.now.blocks) (B.post self.now.blocks) (I.pre self.now.items) (I.post self.now.items) }
         requires within { params.need ≤ self.now.depth }
-        ensures read { IsFound (typed_closure (code_within self.now.depth) moves params.node params.need at.old) result at.new }
+        ensures read { IsFound (typed_closure (code_within self.now.depth) is_async moves params.node params.need at.old) result at.new }
         ensures within { IfOk result (λ found. found.need ≤ self.now.depth + 1) }
     {
         pass_two(at);
@@ -149,6 +153,7 @@ impl<
         boxed_found(
             self.alloc,
             Expr::TypedClosure {
+                is_async,
                 moves,
                 params: params.node,
                 output: output.node,

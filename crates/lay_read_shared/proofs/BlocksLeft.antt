@@ -237,25 +237,31 @@ module _ (deeper : ExprWithin) (l : LeftCode deeper) where
       (λ p. chain 0 0 0 p.1 (if_read (is_op (codes ":") p.1) (λ us. deeper.kinds.types Bounds (drop 1 us)) p.1) _ (omega arith) (typed_left p.1)
       (λ t. unread t.1)))
 
-  closure_body_left : (no_struct moves : Bool) (params : List ClosureParam) (need : ℕ) (ts : Tokens)
-      → Leaves 0 ts (r.closure_body deeper no_struct moves params need ts)
-  closure_body_left no_struct moves params need ts = choice 0 ts (is_op (codes "->") ts) _ _
+  closure_body_left : (no_struct is_async moves : Bool) (params : List ClosureParam) (need : ℕ) (ts : Tokens)
+      → Leaves 0 ts (r.closure_body deeper no_struct is_async moves params need ts)
+  closure_body_left no_struct is_async moves params need ts = choice 0 ts (is_op (codes "->") ts) _ _
       (λ h. further 0 0 0 ts (drop 2 ts) _ (omega arith) (dropped 2 ts)
       (chain 0 1 0 (drop 2 ts) (deeper.kinds.types NoBounds (drop 2 ts)) _ (omega arith) (l.kinds.types NoBounds (drop 2 ts))
       (λ t. chain 0 1 0 t.1 (b.block_by deeper t.1) _ (omega arith) (block_left t.1) (λ x. unread x.1))))
       (chain 0 1 0 ts (deeper.exprs (plain 0 no_struct) ts) _ (omega arith) (l.exprs (plain 0 no_struct) ts) (λ x. unread x.1))
 
-  behind_move : (moves : Bool) (ts : Tokens) → Left 0 ts (if moves then tail ts else ts)
-  behind_move true ts = tail_left ts
-  behind_move false ts = unread ts
+  behind_word : (there : Bool) (ts : Tokens) → Left 0 ts (if there then tail ts else ts)
+  behind_word true ts = tail_left ts
+  behind_word false ts = unread ts
+
+  closure_behind_left : (no_struct is_async : Bool) (ts : Tokens) → Leaves 1 ts (r.closure_behind deeper no_struct is_async ts)
+  closure_behind_left no_struct is_async ts =
+      let moves = first (is_keyword (codes "move")) ts in
+      let mid = if moves then tail ts else ts in
+      further 1 0 1 ts mid _ (omega arith) (behind_word moves ts)
+      (chain_passed 1 1 0 mid (passed (is_mark (codes "|")) mid) _ (omega arith) (passed_left (is_mark (codes "|")) mid)
+      (λ behind. chain 0 1 0 behind (elements (is_mark (codes "|")) (r.closure_param deeper) behind) _ (omega arith)
+      (elements_left (r.closure_param deeper) closure_param_left (is_mark (codes "|")) behind)
+      (λ ps. closure_body_left no_struct is_async moves (nodes ps.0) (deepest ps.0) ps.1)))
 
   pub closure_left : (no_struct : Bool) (ts : Tokens) → Leaves 1 ts (r.closure_expr deeper no_struct ts)
   unfolding r.closure_expr
   closure_left no_struct ts =
-      let moves = first (is_keyword (codes "move")) ts in
-      let mid = if moves then tail ts else ts in
-      further 1 0 1 ts mid _ (omega arith) (behind_move moves ts)
-      (chain_passed 1 1 0 mid (passed (is_mark (codes "|")) mid) _ (omega arith) (passed_left (is_mark (codes "|")) mid)
-      (λ behind. chain 0 1 0 behind (elements (is_mark (codes "|")) (r.closure_param deeper) behind) _ (omega arith)
-      (elements_left (r.closure_param deeper) closure_param_left (is_mark (codes "|")) behind)
-      (λ ps. closure_body_left no_struct moves (nodes ps.0) (deepest ps.0) ps.1)))
+      let is_async = first (is_keyword (codes "async")) ts in
+      let mid = if is_async then tail ts else ts in
+      further 1 0 1 ts mid _ (omega arith) (behind_word is_async ts) (closure_behind_left no_struct is_async mid)

@@ -120,14 +120,14 @@ exprs::expr_depth-returns-in-For g c =
 
 pub exprs::expr_depth-returns-in-Closure : goal.exprs::expr_depth-returns-in-Closure
 exprs::expr_depth-returns-in-Closure g c =
-    let m = of.closure_is c.args.expr.now c.in-Closure.moves c.in-Closure.params c.in-Closure.body c.in-Closure.is in
+    let m = of.closure_is c.args.expr.now c.in-Closure.is_async c.in-Closure.moves c.in-Closure.params c.in-Closure.body c.in-Closure.is in
     let n = rw c.as_slice-in-Closure.ensures at c.params_depth.ensures in
     let o = rw c.get-in-Closure.ensures at c.expr_depth-in-Closure.ensures in
     omega (arith, m, n, o, c.max-in-Closure.ensures, c.deeper-in-Closure.ensures)
 
 pub exprs::expr_depth-returns-in-TypedClosure : goal.exprs::expr_depth-returns-in-TypedClosure
 exprs::expr_depth-returns-in-TypedClosure g c =
-    let m = of.typed_closure_is c.args.expr.now c.in-TypedClosure.moves c.in-TypedClosure.params c.in-TypedClosure.output
+    let m = of.typed_closure_is c.args.expr.now c.in-TypedClosure.is_async c.in-TypedClosure.moves c.in-TypedClosure.params c.in-TypedClosure.output
     c.in-TypedClosure.body c.in-TypedClosure.is in
     let n = rw c.as_slice-in-TypedClosure.ensures at c.params_depth-in-TypedClosure.ensures in
     omega (

@@ -556,14 +556,14 @@ exprs::add_expr-returns-in-For g t c =
 pub exprs::add_expr-returns-in-Closure : goal.exprs::add_expr-returns-in-Closure
 exprs::add_expr-returns-in-Closure g t c =
     adds (adds_on c.add_closure_head-head.ensures (adds_on c.add_text-blank.ensures c.add_expr-in-Closure.ensures))
-    (branches.closure_expr c.args.point _ c.in-Closure.moves c.in-Closure.params _ c.in-Closure.body _ c.in-Closure.is
+    (branches.closure_expr c.args.point _ c.in-Closure.is_async c.in-Closure.moves c.in-Closure.params _ c.in-Closure.body _ c.in-Closure.is
     c.as_slice-in-Closure.ensures c.get-in-Closure.ensures)
 
 pub exprs::add_expr-returns-in-TypedClosure : goal.exprs::add_expr-returns-in-TypedClosure
 exprs::add_expr-returns-in-TypedClosure g t c =
     adds (adds_on c.add_closure_head-head-in-TypedClosure.ensures (adds_on c.add_text-arrow.ensures
     (adds_on c.add_type-output.ensures c.add_block-in-TypedClosure.ensures)))
-    (branches.typed_closure_expr c.args.point _ c.in-TypedClosure.moves c.in-TypedClosure.params _ c.in-TypedClosure.output
+    (branches.typed_closure_expr c.args.point _ c.in-TypedClosure.is_async c.in-TypedClosure.moves c.in-TypedClosure.params _ c.in-TypedClosure.output
     c.in-TypedClosure.body c.in-TypedClosure.is c.as_slice-in-TypedClosure.ensures)
 
 -- ---- items

@@ -14,7 +14,7 @@ use Rattle.lay_node.specs.declared.patterns.PatPlace.TheVariants.{Single}
 use Rattle.lay_node.specs.declared.types.Ty.{Ty}
 use Rattle.lay_node.specs.declared.types.TypePlace.TheVariants.{NoBounds}
 use Rattle.lay_code.specs.nodes.CodeFacts.{BlockFacts}
-use Rattle.lay_code.specs.nodes.Exprs.{ExprFacts, placed, expr_facts, bar, closure_param, is_closure_param, closure_head}
+use Rattle.lay_code.specs.nodes.Exprs.{ExprFacts, placed, expr_facts, bar, behind_async, closure_param, is_closure_param, closure_head}
 use Rattle.lay_code.specs.nodes.Places as place
 use Rattle.lay_code.specs.declared.blocks.Stmt.TheOpen.{Expr-F}
 use Rattle.lay_code.specs.declared.exprs.ClosureParam.{ClosureParam}
@@ -65,10 +65,15 @@ params_pass (p ∷ ps) g w =
     (param_passes p n.0 q.0, params_pass ps n.1 q.1)
 
 -- what stands before the body, and what follows it
-head_pieces : (moves : Bool) (ps : List ClosureParam) (f : Form) → are_pieces (closure_head moves ps f) ≡ true
+behind_pieces : (moves : Bool) (ps : List ClosureParam) (f : Form) → are_pieces (behind_async moves ps f) ≡ true
     → (are_pieces (comma_list true bar bar (map closure_param ps)) ≡ true) × (are_pieces f ≡ true)
-head_pieces true ps f w = and_parts (are_pieces (comma_list true bar bar (map closure_param ps))) (are_pieces f) w
-head_pieces false ps f w = and_parts (are_pieces (comma_list true bar bar (map closure_param ps))) (are_pieces f) w
+behind_pieces true ps f w = and_parts (are_pieces (comma_list true bar bar (map closure_param ps))) (are_pieces f) w
+behind_pieces false ps f w = and_parts (are_pieces (comma_list true bar bar (map closure_param ps))) (are_pieces f) w
+
+head_pieces : (is_async moves : Bool) (ps : List ClosureParam) (f : Form) → are_pieces (closure_head is_async moves ps f) ≡ true
+    → (are_pieces (comma_list true bar bar (map closure_param ps)) ≡ true) × (are_pieces f ≡ true)
+head_pieces true moves ps f w = behind_pieces moves ps f w
+head_pieces false moves ps f w = behind_pieces moves ps f w
 
 plain_bars : begins_bars plain ≡ true
 unfolding tables
@@ -81,15 +86,28 @@ bars_pass b h ps g w =
     let es = map closure_param ps in
     list true bar bar es plain ends_pat h (params_pass ps g (list_pieces true bar bar es w))
 
-head_passes : (b : Border) → BeginsCode b → (moves : Bool) (ps : List ClosureParam) → list_all is_closure_param ps ≡ true
-    → {f : Form} {c : Border} → are_pieces (closure_head moves ps f) ≡ true → From plain f c
-    → From b (closure_head moves ps f) c
-head_passes b s true ps g {f} w k =
-    let p = head_pieces true ps f w in
-    let q = and_parts (simple b (head_word (codes "move"))) (under (beyond b (head_word (codes "move"))) plain) s.by_move in
+head_passes : (b : Border) → BeginsCode b → (is_async moves : Bool) (ps : List ClosureParam) → list_all is_closure_param ps ≡ true
+    → {f : Form} {c : Border} → are_pieces (closure_head is_async moves ps f) ≡ true → From plain f c
+    → From b (closure_head is_async moves ps f) c
+head_passes b s true true ps g {f} w k =
+    let a = head_word (codes "async") in
+    let m = head_word (codes "move") in
+    let p = head_pieces true true ps f w in
+    let q = and_parts (simple b a) (under (beyond b a) plain) s.by_async_bars in
+    let r = and_parts (simple (beyond b a) m) (under (beyond (beyond b a) m) plain) s.by_async_move_bars in
+    fixed q.0 (fixed r.0 (part plain plain r.1 (bars_pass plain plain_bars ps g p.0) k))
+head_passes b s true false ps g {f} w k =
+    let a = head_word (codes "async") in
+    let p = head_pieces true false ps f w in
+    let q = and_parts (simple b a) (under (beyond b a) plain) s.by_async_bars in
     fixed q.0 (part plain plain q.1 (bars_pass plain plain_bars ps g p.0) k)
-head_passes b s false ps g {f} w k =
-    let p = head_pieces false ps f w in
+head_passes b s false true ps g {f} w k =
+    let m = head_word (codes "move") in
+    let p = head_pieces false true ps f w in
+    let q = and_parts (simple b m) (under (beyond b m) plain) s.by_move in
+    fixed q.0 (part plain plain q.1 (bars_pass plain plain_bars ps g p.0) k)
+head_passes b s false false ps g {f} w k =
+    let p = head_pieces false false ps f w in
     part b plain (under-refl b) (bars_pass b s.bars ps g p.0) k
 
 -- ---- closures
@@ -99,15 +117,15 @@ body_behind : {f : Form} {h : Border} → From plain f h → From plain (Piece g
 unfolding tables
 body_behind {f} {h} k = fixed refl (part plain h (under-refl plain) k (ends (under-refl h)))
 
-pub closure_pass : (moves : Bool) (ps : List ClosureParam) (x : ExprFacts) → ExprPasses x
-    → ExprPasses (expr_facts (Expr-F.Closure moves ps x))
-closure_pass moves ps x k = record {
+pub closure_pass : (is_async moves : Bool) (ps : List ClosureParam) (x : ExprFacts) → ExprPasses x
+    → ExprPasses (expr_facts (Expr-F.Closure is_async moves ps x))
+closure_pass is_async moves ps x k = record {
   go = λ v b h no_struct first g w.
       let e = Piece gap (form.Part x.form Done) in
       let n = and_parts (list_all is_closure_param ps) (placed x (place.plain 0 no_struct)) g in
-      let p = deep_pieces (closure_head moves ps e) w in
-      let q = (and_parts (are_pieces x.form) true (head_pieces moves ps e p).1).0 in
-      deep (ends_wide x.tail.bare _) (always (head_passes b (starting v 12 b h).code moves ps n.0 p
+      let p = deep_pieces (closure_head is_async moves ps e) w in
+      let q = (and_parts (are_pieces x.form) true (head_pieces is_async moves ps e p).1).0 in
+      deep (ends_wide x.tail.bare _) (always (head_passes b (starting v 12 b h).code is_async moves ps n.0 p
       (body_behind (inner_expr x k (place.plain 0 no_struct) n.1 q))));
 }
 
@@ -125,15 +143,15 @@ arrow_passes output x k g h w =
     ((type_passes output).go (and_parts t.good _ g).0 p.0)
     (part ends_type plain refl (k.go true ends_type refl h q) (ends refl)))
 
-pub typed_closure_pass : (moves : Bool) (ps : List ClosureParam) (output : Ty) (x : BlockFacts) → BlockPasses x
-    → ExprPasses (expr_facts (Expr-F.TypedClosure moves ps output x))
-typed_closure_pass moves ps output x k = record {
+pub typed_closure_pass : (is_async moves : Bool) (ps : List ClosureParam) (output : Ty) (x : BlockFacts) → BlockPasses x
+    → ExprPasses (expr_facts (Expr-F.TypedClosure is_async moves ps output x))
+typed_closure_pass is_async moves ps output x k = record {
   go = λ v b h no_struct first g w.
       let t = (about_type output).told in
       let e = Piece (Blank ∷ Operator (codes "->") ∷ Blank ∷ []) (form.Part t.form (form.Part (x.form true) Done)) in
       let n1 = and_parts (list_all is_closure_param ps && good_at NoBounds (about_type output)) x.good g in
       let n2 = and_parts (list_all is_closure_param ps) (good_at NoBounds (about_type output)) n1.0 in
-      let p = deep_pieces (closure_head moves ps e) w in
-      deep (under-refl ends_operand) (always (head_passes b (starting v 12 b h).code moves ps n2.0 p
-      (arrow_passes output x k n2.1 n1.1 (head_pieces moves ps e p).1)));
+      let p = deep_pieces (closure_head is_async moves ps e) w in
+      deep (under-refl ends_operand) (always (head_passes b (starting v 12 b h).code is_async moves ps n2.0 p
+      (arrow_passes output x k n2.1 n1.1 (head_pieces is_async moves ps e p).1)));
 }

@@ -242,7 +242,10 @@ begins_head_words b =
     leads_to b (head_word (codes "if")) plain
     && (leads_to b (head_word (codes "match")) plain
     && (leads_to b (head_word (codes "while")) plain
-    && (leads_to b (head_word (codes "for")) plain && leads_to b (head_word (codes "move")) plain)))
+    && (leads_to b (head_word (codes "for")) plain
+    && (leads_to b (head_word (codes "async")) plain
+    && (leads_to (beyond b (head_word (codes "async"))) (head_word (codes "move")) plain
+    && leads_to b (head_word (codes "move")) plain)))))
 
 -- the parameters of a closure
 abbrev pub begins_bars : Border → Bool
@@ -268,6 +271,8 @@ pub record BeginsCode (b : Border) : Type 0 where
   pub by_match : leads_to b (head_word (codes "match")) plain ≡ true
   pub by_while : leads_to b (head_word (codes "while")) plain ≡ true
   pub by_for : leads_to b (head_word (codes "for")) plain ≡ true
+  pub by_async_bars : leads_to b (head_word (codes "async")) plain ≡ true
+  pub by_async_move_bars : leads_to (beyond b (head_word (codes "async"))) (head_word (codes "move")) plain ≡ true
   pub by_move : leads_to b (head_word (codes "move")) plain ≡ true
 
 pub code_begins : (b : Border) → begins_code b ≡ true → BeginsCode b
@@ -284,6 +289,8 @@ code_begins b h =
     let h2 = and_parts (leads_to b (head_word (codes "match")) plain) _ h1.1 in
     let h3 = and_parts (leads_to b (head_word (codes "while")) plain) _ h2.1 in
     let h4 = and_parts (leads_to b (head_word (codes "for")) plain) _ h3.1 in
+    let h5 = and_parts (leads_to b (head_word (codes "async")) plain) _ h4.1 in
+    let h6 = and_parts (leads_to (beyond b (head_word (codes "async"))) (head_word (codes "move")) plain) _ h5.1 in
     record {
       label = p1.0;
       brace = p2.0;
@@ -297,7 +304,9 @@ code_begins b h =
       by_match = h2.0;
       by_while = h3.0;
       by_for = h4.0;
-      by_move = h4.1;
+      by_async_bars = h5.0;
+      by_async_move_bars = h6.0;
+      by_move = h6.1;
     }
 
 -- An expression may begin there that doesn't begin with `..`.

@@ -98,9 +98,9 @@ expr_layer_passes (Expr-F.Loop label b) = loop_pass label (about_block b.0) b.1
 expr_layer_passes (Expr-F.While label pat x b) =
     while_pass label pat (about_expr x.0) (about_block b.0) x.1 b.1
 expr_layer_passes (Expr-F.For label pat x b) = for_pass label pat (about_expr x.0) (about_block b.0) x.1 b.1
-expr_layer_passes (Expr-F.Closure moves params x) = closure_pass moves params (about_expr x.0) x.1
-expr_layer_passes (Expr-F.TypedClosure moves params output b) =
-    typed_closure_pass moves params output (about_block b.0) b.1
+expr_layer_passes (Expr-F.Closure is_async moves params x) = closure_pass is_async moves params (about_expr x.0) x.1
+expr_layer_passes (Expr-F.TypedClosure is_async moves params output b) =
+    typed_closure_pass is_async moves params output (about_block b.0) b.1
 expr_layer_passes (Expr-F.Return None) = return_pass None tt
 expr_layer_passes (Expr-F.Return (Some x)) = return_pass (Some (about_expr x.0)) x.1
 expr_layer_passes (Expr-F.Break label None) = break_pass label None tt

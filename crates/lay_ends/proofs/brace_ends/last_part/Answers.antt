@@ -53,7 +53,7 @@ returns-in-Assign-clause-told c =
 pub returns-in-Closure-clause-told : goal.returns-in-Closure-clause-told
 returns-in-Closure-clause-told c =
     let x = c.in-Closure in
-    of_closure c.args.expr.now x.body c.get-in-Closure.result.now x.moves x.params x.is c.get-in-Closure.ensures
+    of_closure c.args.expr.now x.body c.get-in-Closure.result.now x.is_async x.moves x.params x.is c.get-in-Closure.ensures
 
 pub returns-then-is_empty-clause-told : goal.returns-then-is_empty-clause-told
 returns-then-is_empty-clause-told c =

@@ -69,7 +69,7 @@ ends_in_point-returns-in-Some t c = of.else_point c.args.point _ c.in-If.branche
 
 pub ends_in_point-returns-in-Closure : goal.ends_in_point-returns-in-Closure
 ends_in_point-returns-in-Closure t c =
-    of.closure_point c.args.point _ _ _ c.in-Closure.body _ _ c.in-Closure.is c.get-in-Closure.ensures
+    of.closure_point c.args.point _ _ _ _ c.in-Closure.body _ _ c.in-Closure.is c.get-in-Closure.ensures
     c.ends_in_point-in-Closure.ensures
 
 pub ends_in_point-returns-in-Return : goal.ends_in_point-returns-in-Return

@@ -11,6 +11,8 @@ pub returns-clause-read : goal.returns-clause-read
 returns-clause-read g c =
     let deeper = code_within c.args.self.now.depth in
     let ts = c.args.at.now in
+    let is_async = c.takes_keyword-is_async.result in
+    let behind = c.takes_keyword-is_async.new.at in
     let moves = c.takes_keyword-moves.result in
     let mid = c.takes_keyword-moves.new.at in
     let left = c.params.new.at in
@@ -20,8 +22,9 @@ returns-clause-read g c =
     let barred = sym c.takes_mark.ensures.found ∙ c.if-not-takes_mark.false in
     let inside = c.takes_mark.ensures.passed ∙ ap (λ b. if b then tail mid else mid) c.if-not-takes_mark.false in
     let elements_read = ap (elements (is_mark (codes "|")) (closure_param deeper)) (sym inside) ∙ read.1 in
-    found_by (closure_expr deeper no_struct ts) (closure_body deeper no_struct moves params.node params.need left) c.closure_body.result
-    c.closure_body.new.at (closure_is deeper ts no_struct moves mid read.0 left (sym c.takes_keyword-moves.ensures.found)
-    (sym c.takes_keyword-moves.ensures.passed) barred elements_read
-    ∙ ap (λ xs. closure_body deeper no_struct moves xs (deepest read.0) left) read.2.0
-    ∙ ap (λ n. closure_body deeper no_struct moves params.node n left) read.2.1) c.closure_body.ensures.read
+    found_by (closure_expr deeper no_struct ts) (closure_body deeper no_struct is_async moves params.node params.need left) c.closure_body.result
+    c.closure_body.new.at (closure_is deeper ts no_struct is_async moves behind mid read.0 left (sym c.takes_keyword-is_async.ensures.found)
+    (sym c.takes_keyword-is_async.ensures.passed) (sym c.takes_keyword-moves.ensures.found) (sym c.takes_keyword-moves.ensures.passed)
+    barred elements_read
+    ∙ ap (λ xs. closure_body deeper no_struct is_async moves xs (deepest read.0) left) read.2.0
+    ∙ ap (λ n. closure_body deeper no_struct is_async moves params.node n left) read.2.1) c.closure_body.ensures.read
