@@ -28,6 +28,7 @@ pub use crate::generated::lay_node::{
     Binder,
     Bound,
     Boxed,
+    Capture,
     ConstArg,
     ConstDefault,
     Constraint,

@@ -49,6 +49,7 @@ pub use types::{
     Args,
     Binder,
     Bound,
+    Capture,
     ConstArg,
     Constraint,
     FuncParam,

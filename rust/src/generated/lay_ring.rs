@@ -5,8 +5,9 @@
 //! A [`Row`] is a list of entries that grows at its end and is taken from at its front. Each entry is a token and its size,
 //! and gets a number when it is pushed, which it keeps for good, so that its size can be written back by [`Row::size_at`]
 //! once it is known, wherever the entry then stands. Numbers count modulo 2^64. An entry is small, and the texts of all stand
-//! in one list of bytes, which is of a fixed length: a text that waits is copied, and takes no memory. [`Marks`] is a list of
-//! small items that is open at both ends, in which a row keeps its entries, and a printer notes what has no size yet.
+//! in one list of bytes, whose room is little at first, and then of a fixed length: a text that waits is copied, and takes no
+//! memory. [`Marks`] is a list of small items that is open at both ends, in which a row keeps its entries, and a printer notes
+//! what has no size yet.
 //!
 //! A [`Ring`] is the same list for tokens that own their texts, of whatever length. It is over a circular buffer.
 //!

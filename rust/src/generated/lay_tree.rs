@@ -22,6 +22,7 @@ pub use crate::generated::lay_code::{
     Bound,
     Boxed,
     Branch,
+    Capture,
     ClosureParam,
     ConstArg,
     ConstDefault,

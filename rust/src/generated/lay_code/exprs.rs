@@ -172,14 +172,16 @@ pub enum Expr {
         iterated: Boxed<Expr>,
         body: Block,
     },
-    /// `move |a, b: C| d`
+    /// `async move |a, b: C| d`
     Closure {
+        is_async: bool,
         moves: bool,
         params: List<ClosureParam>,
         body: Boxed<Expr>,
     },
-    /// `|a| -> B { c }`
+    /// `async |a| -> B { c }`
     TypedClosure {
+        is_async: bool,
         moves: bool,
         params: List<ClosureParam>,
         output: Ty,

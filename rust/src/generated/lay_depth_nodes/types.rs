@@ -125,7 +125,7 @@ pub fn bounds_depth(bounds: &[Bound]) -> u32 {
 /// The depth of a bound.
 fn bound_depth(bound: &Bound) -> u32 {
     match bound {
-        Bound::Outlives { .. } => 0,
+        Bound::Outlives { .. } | Bound::Captures { .. } => 0,
         Bound::Meets { path, .. } => path_depth(path),
     }
 }

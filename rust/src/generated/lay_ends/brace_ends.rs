@@ -167,7 +167,7 @@ fn type_edge(ty: &Ty) -> TypeEdge<'_> {
 /// What a bound ends in.
 fn bound_edge(bound: &Bound) -> TypeEdge<'_> {
     match bound {
-        Bound::Outlives { .. } => TypeEdge::Token(false),
+        Bound::Outlives { .. } | Bound::Captures { .. } => TypeEdge::Token(false),
         Bound::Meets { parens, path, .. } => {
             if *parens { TypeEdge::Token(false) } else { path_edge(path) }
         }

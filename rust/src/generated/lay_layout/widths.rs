@@ -10,7 +10,7 @@ pub const LEAST_SPACE: u64 = 60;
 pub const GREATEST_BLANKS: u64 = 1_000_000;
 /// A mark's length, in bytes.
 #[inline(always)]
-pub fn mark_len(mark: Mark) -> u64 {
+pub(crate) fn mark_len(mark: Mark) -> u64 {
     match mark {
         Mark::Absent => 0,
         Mark::Comma | Mark::OpenBrace | Mark::CloseBrace => 1,

@@ -1,9 +1,11 @@
 //! Made by scripts/rust.sh from crates/lay_node/src/tokens.rt, which is proved: change that.
 //!
 //! Token lists, and what is made of them.
+use crate::shims::Vec;
 use crate::generated::lay_node::simple_path::SimplePath;
 use crate::generated::lay_node::token::Listed;
-use crate::generated::lay_token::{Delim, List};
+use crate::generated::lay_token::{Delim, Kind, List, NoMemory};
+use crate::shims::Global;
 /// A token list (Rust Reference, "Macros": token trees): tokens whose delimiters are balanced, as a flat list.
 #[derive(Debug,)]
 pub struct Tokens {
@@ -14,9 +16,42 @@ impl Tokens {
     pub fn new(list: List<Listed>) -> Tokens {
         Tokens { list }
     }
+    /// The list of these tokens, or none where their delimiters aren't balanced.
+    pub fn from_list(
+        alloc: Global,
+        list: List<Listed>,
+    ) -> Result<Option<Tokens>, NoMemory> {
+        if are_balanced(alloc, list.as_slice())? { Ok(Some(Tokens { list })) } else {
+            Ok(None)
+        }
+    }
     /// All the tokens.
     pub fn as_slice(&self) -> &[Listed] {
         self.list.as_slice()
+    }
+}
+/// Whether the delimiters of the tokens are balanced.
+fn are_balanced(alloc: Global, tokens: &[Listed]) -> Result<bool, NoMemory> {
+    let mut open = Vec::new(alloc);
+    for token in tokens {
+        if !turn(&mut open, token)? {
+            return Ok(false);
+        }
+    }
+    Ok(open.is_empty())
+}
+/// Opens what a token opens, or closes what it closes, where these delimiters are open before it, the last one last. Answers
+/// whether it may stand there.
+fn turn(open: &mut Vec<Delim>, token: &Listed) -> Result<bool, NoMemory> {
+    match token {
+        Listed::Token { kind: Kind::Opener(delim), .. } => {
+            open.push(*delim)?;
+            Ok(true)
+        }
+        Listed::Token { kind: Kind::Closer(delim), .. } => {
+            Ok(open.pop() == Some(*delim))
+        }
+        _ => Ok(true),
     }
 }
 /// One delimited group.

@@ -162,6 +162,21 @@ pub enum Bound {
         binder: Option<Binder>,
         path: Path,
     },
+    /// `use<'a, A>`: what an `impl` type captures
+    Captures {
+        captured: List<Capture>,
+    },
+}
+/// What a bound of captures names: a lifetime, a name, or `Self` (Rust Reference, "Use bounds").
+pub enum Capture {
+    /// `'a`
+    Region {
+        lifetime: Lifetime,
+    },
+    /// `A`, `Self`
+    Word {
+        word: Word,
+    },
 }
 /// A generic argument that is a constant.
 pub enum ConstArg {

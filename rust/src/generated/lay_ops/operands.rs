@@ -1,6 +1,7 @@
 //! Made by scripts/rust.sh from crates/lay_ops/src/operands.rt, which is proved: change that.
 //!
 //! What the tokens ahead begin, if it is an expression.
+use crate::generated::lay_ops::operators::is_word;
 use crate::generated::lay_code::Place;
 use crate::generated::lay_nest::Cursor;
 use crate::generated::lay_token::word::{Class, word_class};
@@ -76,7 +77,28 @@ fn lead_of_word(word: &[u8], at: &Cursor<'_>) -> Option<ExprLead> {
         Some(ExprLead::Return)
     } else if word == b"move".as_slice() {
         Some(ExprLead::Closure)
+    } else if word == b"async".as_slice() {
+        Some(async_lead(at))
     } else if is_block_word(word, at) { Some(ExprLead::BlockWord) } else { None }
+}
+/// What the word `async` begins, which is the first token: a closure before its bars, and else a block.
+fn async_lead(at: &Cursor<'_>) -> ExprLead {
+    if is_before_closure(at) { ExprLead::Closure } else { ExprLead::BlockWord }
+}
+/// Whether a `|` stands behind the first token, or `move` and a `|`.
+fn is_before_closure(at: &Cursor<'_>) -> bool {
+    is_bar_behind(at, 1) || is_word(at, 1, b"move") && is_bar_behind(at, 2)
+}
+/// Whether a `|` stands behind this many tokens.
+fn is_bar_behind(at: &Cursor<'_>, others: usize) -> bool {
+    match at.peek(others) {
+        Some(token) => is_bar(token),
+        None => false,
+    }
+}
+/// Whether the token is a `|`.
+fn is_bar(token: &Token) -> bool {
+    matches!(token.kind, Kind::Punct) && token.text.as_bytes() == b"|".as_slice()
 }
 /// Whether a word begins an expression that holds a block. `const` does so before a `{` alone.
 fn is_block_word(word: &[u8], at: &Cursor<'_>) -> bool {
@@ -84,9 +106,9 @@ fn is_block_word(word: &[u8], at: &Cursor<'_>) -> bool {
 }
 /// Whether the word begins an expression that holds a block, whatever stands behind it.
 fn holds_block(word: &[u8]) -> bool {
-    word == b"async".as_slice() || word == b"for".as_slice() || word == b"if".as_slice()
-        || word == b"loop".as_slice() || word == b"match".as_slice()
-        || word == b"unsafe".as_slice() || word == b"while".as_slice()
+    word == b"for".as_slice() || word == b"if".as_slice() || word == b"loop".as_slice()
+        || word == b"match".as_slice() || word == b"unsafe".as_slice()
+        || word == b"while".as_slice()
 }
 /// Whether a `{` stands behind the first token.
 fn is_before_brace(at: &Cursor<'_>) -> bool {

@@ -6,7 +6,7 @@ use crate::generated::lay_nest::Cursor;
 use crate::generated::lay_read_tokens::front::is_keyword;
 use crate::generated::lay_token::Kind;
 /// The level of an operator between operands, from 0 of an assignment to 10 of a product.
-pub fn op_level(op: Op) -> u8 {
+pub(crate) fn op_level(op: Op) -> u8 {
     match op {
         Op::Upto | Op::UptoEq => 1,
         Op::OrOr => 2,
@@ -64,7 +64,7 @@ fn first_of(at: &Cursor<'_>, ops: &[Op]) -> Option<Op> {
     None
 }
 /// Whether the keyword stands behind this many other tokens.
-fn is_word(at: &Cursor<'_>, others: usize, word: &[u8]) -> bool {
+pub(crate) fn is_word(at: &Cursor<'_>, others: usize, word: &[u8]) -> bool {
     match at.peek(others) {
         Some(token) => is_keyword(token, word),
         None => false,

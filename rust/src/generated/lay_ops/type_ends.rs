@@ -30,7 +30,7 @@ fn type_end(ty: &Ty) -> TypeEnd<'_> {
 /// What a bound ends in.
 fn bound_end(bound: &Bound) -> TypeEnd<'_> {
     match bound {
-        Bound::Outlives { .. } => TypeEnd::Shut,
+        Bound::Outlives { .. } | Bound::Captures { .. } => TypeEnd::Shut,
         Bound::Meets { parens, path, .. } => {
             if *parens { TypeEnd::Shut } else { path_end(path) }
         }

@@ -18,7 +18,7 @@ use crate::generated::lay_stream::Emit;
 /// Feeds the layout of a block, whose braces have a leading blank or not.
 pub fn put_block<
     E: Emit,
->(out: &mut E, lead: bool, block: &Block) -> Result<(), E::Fault> {
+>(out: &mut E, block: &Block, lead: bool) -> Result<(), E::Fault> {
     add_block(out, Ok(()), lead, block)
 }
 /// A block, with each statement on a line of its own. The braces have a leading blank or not.

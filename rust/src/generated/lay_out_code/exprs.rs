@@ -177,13 +177,25 @@ pub fn add_expr<
             let head = add_end(out, iterated);
             add_block(out, head, true, body)
         }
-        Expr::Closure { moves, params, body } => {
-            let head = add_closure_head(out, before, *moves, params.as_slice());
+        Expr::Closure { is_async, moves, params, body } => {
+            let head = add_closure_head(
+                out,
+                before,
+                *is_async,
+                *moves,
+                params.as_slice(),
+            );
             let blank = add_text(out, head, b" ");
             add_expr(out, blank, false, body.get())
         }
-        Expr::TypedClosure { moves, params, output, body } => {
-            let head = add_closure_head(out, before, *moves, params.as_slice());
+        Expr::TypedClosure { is_async, moves, params, output, body } => {
+            let head = add_closure_head(
+                out,
+                before,
+                *is_async,
+                *moves,
+                params.as_slice(),
+            );
             let arrow = add_text(out, head, b" -> ");
             let output = add_type(out, arrow, output);
             add_block(out, output, true, body)

@@ -8,17 +8,19 @@ use crate::generated::lay_out_types::calls::add_if;
 use crate::generated::lay_out_types::lists::{add_close, add_lead};
 use crate::generated::lay_out_types::parts::add_param_attrs;
 use crate::generated::lay_stream::Emit;
-/// The word `move`, if it is said, and parameters.
+/// The words `async` and `move`, each if it is said, and parameters.
 pub fn add_closure_head<
     E: Emit,
 >(
     out: &mut E,
     before: Result<(), E::Fault>,
+    is_async: bool,
     moves: bool,
     params: &[ClosureParam],
 ) -> Result<(), E::Fault> {
-    let word = add_if(out, before, moves, b"move ");
-    add_params(out, word, params)
+    let word = add_if(out, before, is_async, b"async ");
+    let words = add_if(out, word, moves, b"move ");
+    add_params(out, words, params)
 }
 /// Parameters between bars, with a `,` between them.
 fn add_params<

@@ -21,7 +21,7 @@ pub fn add_inside<
     out.begin(true, 4)
 }
 /// A simple path.
-pub fn add_simple_path<
+pub(crate) fn add_simple_path<
     E: Emit,
 >(out: &mut E, before: Result<(), E::Fault>, path: &SimplePath) -> Result<(), E::Fault> {
     before?;

@@ -15,7 +15,7 @@ pub trait Part {
     >(&self, out: &mut E, before: Result<(), E::Fault>) -> Result<(), E::Fault>;
 }
 /// Parts in parentheses, with a `,` between them. Behind the last one a comma may stand or not.
-pub fn add_parens<
+pub(crate) fn add_parens<
     E: Emit,
     P: Part,
 >(

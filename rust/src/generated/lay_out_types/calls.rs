@@ -83,7 +83,7 @@ pub fn add_braces<
     put_enclosed(out, Delim::Brace, tokens)
 }
 /// An attribute within other parts.
-pub fn add_attr<
+pub(crate) fn add_attr<
     E: Emit,
 >(out: &mut E, before: Result<(), E::Fault>, attr: &Attr) -> Result<(), E::Fault> {
     before?;

@@ -68,7 +68,7 @@ pub fn add_begin<
     out.begin(false, 4)
 }
 /// What stands before a bound: a `+`, unless it is the first one.
-pub fn add_plus<
+pub(crate) fn add_plus<
     E: Emit,
 >(out: &mut E, before: Result<(), E::Fault>, first: bool) -> Result<(), E::Fault> {
     before?;
@@ -86,7 +86,7 @@ pub fn add_end<
     out.end()
 }
 /// What stands before a predicate of a where clause: before the first one the word `where`, and else a comma.
-pub fn add_predicates_lead<
+pub(crate) fn add_predicates_lead<
     E: Emit,
 >(out: &mut E, before: Result<(), E::Fault>, first: bool) -> Result<(), E::Fault> {
     before?;
@@ -104,7 +104,7 @@ fn open_predicates<E: Emit>(out: &mut E) -> Result<(), E::Fault> {
     out.brk(SPACE_BREAK)
 }
 /// What closes a where clause, if it has predicates: before a body a break, with a `,` before its newline.
-pub fn add_predicates_close<
+pub(crate) fn add_predicates_close<
     E: Emit,
 >(
     out: &mut E,

@@ -14,6 +14,7 @@ use crate::generated::lay_node::{
     Abi,
     Attr,
     Binder,
+    Capture,
     ConstArg,
     GivenName,
     Lifetime,
@@ -31,7 +32,7 @@ pub fn add_param_attrs<
     done
 }
 /// Lifetimes that another one outlives, behind a `:`; nothing without them.
-pub fn add_outlived<
+pub(crate) fn add_outlived<
     E: Emit,
 >(
     out: &mut E,
@@ -46,7 +47,7 @@ pub fn add_outlived<
     done
 }
 /// A generic parameter that is a lifetime.
-pub fn add_lifetime_param<
+pub(crate) fn add_lifetime_param<
     E: Emit,
 >(
     out: &mut E,
@@ -58,7 +59,7 @@ pub fn add_lifetime_param<
     add_outlived(out, lifetime, param.bounds.as_slice())
 }
 /// A binder, and a blank behind it.
-pub fn add_binder<
+pub(crate) fn add_binder<
     E: Emit,
 >(
     out: &mut E,
@@ -89,8 +90,32 @@ fn add_lifetime_params<
     }
     add_close(out, done, true, params.is_empty(), b"<>", b">")
 }
+/// What is captured, in `<` and `>`.
+pub(crate) fn add_captures<
+    E: Emit,
+>(
+    out: &mut E,
+    before: Result<(), E::Fault>,
+    captured: &[Capture],
+) -> Result<(), E::Fault> {
+    let mut done = before;
+    for (index, capture) in captured.iter().enumerate() {
+        done = add_lead(out, done, index == 0, b"<");
+        done = add_capture(out, done, capture);
+    }
+    add_close(out, done, true, captured.is_empty(), b"<>", b">")
+}
+/// A lifetime or a word that is captured.
+fn add_capture<
+    E: Emit,
+>(out: &mut E, before: Result<(), E::Fault>, capture: &Capture) -> Result<(), E::Fault> {
+    match capture {
+        Capture::Region { lifetime } => add_text(out, before, lifetime.text.as_bytes()),
+        Capture::Word { word } => add_word(out, before, word.raw, &word.text),
+    }
+}
 /// A generic argument that is a constant.
-pub fn add_const<
+pub(crate) fn add_const<
     E: Emit,
 >(out: &mut E, before: Result<(), E::Fault>, value: &ConstArg) -> Result<(), E::Fault> {
     match value {
@@ -138,7 +163,7 @@ pub fn add_reference<
     }
 }
 /// What a parameter of a function type is called, and a `:` behind it.
-pub fn add_param_name<
+pub(crate) fn add_param_name<
     E: Emit,
 >(
     out: &mut E,

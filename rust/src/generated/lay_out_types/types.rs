@@ -19,6 +19,7 @@ use crate::generated::lay_out_types::lists::{
 use crate::generated::lay_out_types::parts::{
     add_abi,
     add_binder,
+    add_captures,
     add_const,
     add_param_attrs,
     add_param_name,
@@ -194,6 +195,10 @@ fn add_bound<
             let binder = add_binder(out, question, binder);
             let path = add_path(out, binder, path, PathStyle::Kind);
             add_if(out, path, *parens, b")")
+        }
+        Bound::Captures { captured } => {
+            let word = add_text(out, before, b"use");
+            add_captures(out, word, captured.as_slice())
         }
     }
 }

@@ -46,14 +46,14 @@ impl Engine {
     /// Whether a token waits.
     #[inline(always)]
     fn waits(&self) -> bool {
-        self.queue.ring.len() > 0
+        self.queue.len() > 0
     }
     /// Whether the oldest entry, which wasn't decided, isn't by this token, which came: a text decides it where more
     /// waits than may, and a break where it ends its measure.
     #[inline(always)]
     fn stays(&self, tok: LentTok<'_>) -> bool {
         match tok {
-            LentTok::Text(_) => self.queue.waiting <= self.limit,
+            LentTok::Text(_) => self.queue.waiting() <= self.limit,
             LentTok::Break(_) => self.is_open_at_front(),
             _ => true,
         }
@@ -61,7 +61,7 @@ impl Engine {
     /// Whether the oldest entry has no size yet.
     #[inline(always)]
     fn is_open_at_front(&self) -> bool {
-        match self.queue.ring.front() {
+        match self.queue.front() {
             Some(entry) => entry.size < 0,
             None => false,
         }
@@ -69,7 +69,7 @@ impl Engine {
     /// Whether nothing waits.
     #[inline(always)]
     pub fn is_idle(&self) -> bool {
-        self.queue.ring.len() == 0
+        self.queue.len() == 0
     }
     /// A text is fed where nothing waits: it is printed at once.
     #[inline(always)]
@@ -131,7 +131,7 @@ impl Engine {
     /// A token comes for which there is room. It waits, with room for a frame.
     #[inline(always)]
     fn put(&mut self, tok: LentTok<'_>) {
-        let held = self.queue.ring.len();
+        let held = self.queue.len();
         debug_assert!(held < 0x8000_0000_0000_0000);
         let room = self.page.frames.spare();
         debug_assert!(held < room);
@@ -152,13 +152,13 @@ impl Engine {
     /// wait.
     #[inline(always)]
     fn decide(&self, behind: u64) -> Option<bool> {
-        match self.queue.ring.front() {
+        match self.queue.front() {
             None => None,
             Some(entry) => {
                 if entry.size >= 0 {
                     return Some(exceeds(&self.page.line, 0, entry.size as u64));
                 }
-                let waiting = self.queue.waiting.saturating_add(behind);
+                let waiting = self.queue.waiting().saturating_add(behind);
                 if exceeds(&self.page.line, least_width(entry.tok), waiting) {
                     Some(true)
                 } else { None }
@@ -168,7 +168,7 @@ impl Engine {
     /// How many bytes of text may wait before the oldest entry, which isn't decided, is forced.
     #[inline(always)]
     fn slack(&self) -> u64 {
-        match self.queue.ring.front() {
+        match self.queue.front() {
             None => 0,
             Some(entry) => {
                 self.page.line.room - self.page.line.used - least_width(entry.tok)
@@ -179,14 +179,14 @@ impl Engine {
     #[inline(always)]
     fn print_front<K: Sink>(&mut self, sink: &mut K, big: bool) -> Result<(), Failed> {
         let queue = &self.queue;
-        let texts = queue.ring.texts();
+        let texts = queue.texts();
         if texts.count > 0 {
             let (count, len) = (texts.count, texts.bytes.len());
             let printed = self.page.print_text(sink, texts.bytes);
             self.queue.drop_texts(count, len);
             return printed;
         }
-        let printed = match queue.ring.front() {
+        let printed = match queue.front() {
             Some(entry) => self.page.print(sink, entry.tok, big),
             None => unreachable!(),
         };
@@ -196,7 +196,7 @@ impl Engine {
     /// How many tokens may come before memory is taken.
     #[inline(always)]
     pub fn room(&self) -> usize {
-        let rooms = self.page.frames.spare() - self.queue.ring.len();
+        let rooms = self.page.frames.spare() - self.queue.len();
         self.queue.room().min(rooms)
     }
     /// How many tokens may come before memory is taken, after one token: where so many might before, one less,
@@ -210,7 +210,7 @@ impl Engine {
     }
     /// Makes room for so many more tokens.
     pub fn reserve(&mut self, n: usize) -> Result<(), NoMemory> {
-        let Some(frames) = self.queue.ring.len().checked_add(n) else {
+        let Some(frames) = self.queue.len().checked_add(n) else {
             return Err(NoMemory);
         };
         self.page.frames.reserve(frames)?;

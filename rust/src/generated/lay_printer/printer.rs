@@ -156,15 +156,15 @@ impl Core {
     }
     /// How many groups are open: `end` asks for one, and `finish` for none.
     pub fn open_groups(&self) -> u64 {
-        self.engine.queue.groups
+        self.engine.queue.groups()
     }
     /// How many bytes of text were fed and aren't in the sink: no more than the space.
     pub fn waiting(&self) -> usize {
-        self.engine.queue.waiting as usize
+        self.engine.queue.waiting() as usize
     }
     /// How many tokens wait.
     pub fn len(&self) -> usize {
-        self.engine.queue.ring.len()
+        self.engine.queue.len()
     }
     /// The space, at the least -2^62.
     pub fn space(&self) -> i64 {

@@ -3,21 +3,21 @@
 //! The scanning side: tokens that wait, with the sizes that are known of them.
 use crate::generated::lay_queue::close::{CAP, Note, close};
 use crate::generated::lay_layout::{Break, width_of};
-use crate::generated::lay_ring::{LentTok, Marks, Row, UNKNOWN};
+use crate::generated::lay_ring::{LentEntry, LentTok, Marks, Row, Texts, UNKNOWN};
 use crate::generated::lay_text::NoMemory;
 use crate::shims::Global;
 /// Tokens that wait, oldest first, and what is kept of those whose size isn't known.
 pub struct Queue {
-    pub ring: Row,
-    pub notes: Marks<Note>,
+    ring: Row,
+    notes: Marks<Note>,
     /// The width from the newest note on, or the cap where that is less.
-    pub acc: u64,
+    acc: u64,
     /// How many groups are open after all tokens.
-    pub groups: u64,
+    groups: u64,
     /// How many bytes of text wait.
-    pub waiting: u64,
+    waiting: u64,
     /// No more tokens come.
-    pub ended: bool,
+    ended: bool,
 }
 /// What a token's measure has at the least beside texts: the width of a break.
 #[inline(always)]
@@ -46,6 +46,31 @@ impl Queue {
         let ring = Row::new(alloc)?;
         let notes = Marks::new(alloc, 0)?;
         Ok(Queue { ring, notes, acc: 0, groups: 0, waiting: 0, ended: false })
+    }
+    /// The oldest token, and its size.
+    #[inline(always)]
+    pub fn front(&self) -> Option<LentEntry<'_>> {
+        self.ring.front()
+    }
+    /// The texts at the front, as one, up to the first token that is none.
+    #[inline(always)]
+    pub fn texts(&self) -> Texts<'_> {
+        self.ring.texts()
+    }
+    /// How many tokens wait.
+    #[inline(always)]
+    pub fn len(&self) -> usize {
+        self.ring.len()
+    }
+    /// How many bytes of text wait.
+    #[inline(always)]
+    pub fn waiting(&self) -> u64 {
+        self.waiting
+    }
+    /// How many groups are open after all tokens.
+    #[inline(always)]
+    pub fn groups(&self) -> u64 {
+        self.groups
     }
     /// How many tokens may come before memory is taken.
     #[inline(always)]

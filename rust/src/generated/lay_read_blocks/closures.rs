@@ -75,12 +75,13 @@ impl<
         at: &mut Ahead<'_>,
         no_struct: bool,
     ) -> Result<Found<Boxed<Expr>>, ReadNone> {
+        let is_async = takes_keyword(at, b"async");
         let moves = takes_keyword(at, b"move");
         if !takes_mark(at, b"|") {
             return Err(ReadNone::NoReading);
         }
         let params = self.params(at)?;
-        self.closure_body(at, no_struct, moves, params)
+        self.closure_body(at, no_struct, is_async, moves, params)
     }
     /// What stands behind the parameters of a closure.
     #[inline(never)]
@@ -88,16 +89,17 @@ impl<
         &self,
         at: &mut Ahead<'_>,
         no_struct: bool,
+        is_async: bool,
         moves: bool,
         params: Found<List<ClosureParam>>,
     ) -> Result<Found<Boxed<Expr>>, ReadNone> {
         if at.op_is(b"->") {
-            return self.typed_closure(at, moves, params);
+            return self.typed_closure(at, is_async, moves, params);
         }
         let (params, body) = both(params, self.expr(at, plain(0, no_struct)))?;
         boxed_found(
             self.alloc,
-            Expr::Closure { moves, params: params.node, body: body.node },
+            Expr::Closure { is_async, moves, params: params.node, body: body.node },
             greater(params.need, body.need) + 1,
         )
     }
@@ -106,6 +108,7 @@ impl<
     fn typed_closure(
         &self,
         at: &mut Ahead<'_>,
+        is_async: bool,
         moves: bool,
         params: Found<List<ClosureParam>>,
     ) -> Result<Found<Boxed<Expr>>, ReadNone> {
@@ -118,6 +121,7 @@ impl<
         boxed_found(
             self.alloc,
             Expr::TypedClosure {
+                is_async,
                 moves,
                 params: params.node,
                 output: output.node,

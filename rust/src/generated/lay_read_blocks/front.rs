@@ -13,7 +13,7 @@ use crate::generated::lay_read_tokens::front::{
 use crate::generated::lay_read_tokens::names::is_at_name;
 use crate::generated::lay_token::Delim;
 /// Passes any number of `;`.
-pub fn pass_semicolons(at: &mut Ahead<'_>) {
+pub(crate) fn pass_semicolons(at: &mut Ahead<'_>) {
     while is_at_mark(at, b";") {
         pass(at);
     }

@@ -44,7 +44,7 @@ fn tuple_field_list(
     >(alloc, at, depth, Closer::Group(Delim::Paren), &level, tuple_field, ())
 }
 /// Fields without names in parentheses.
-pub fn tuple_fields_ahead(
+pub(crate) fn tuple_fields_ahead(
     alloc: Global,
     at: &mut Ahead<'_>,
     depth: u32,
@@ -87,7 +87,7 @@ fn named_field_list(
     >(alloc, at, depth, Closer::Group(Delim::Brace), &level, field, ())
 }
 /// Fields with names in braces.
-pub fn named_fields_ahead(
+pub(crate) fn named_fields_ahead(
     alloc: Global,
     at: &mut Ahead<'_>,
     depth: u32,
@@ -161,7 +161,7 @@ fn variant_list(
     >(alloc, at, depth, Closer::Group(Delim::Brace), &level, variant, ())
 }
 /// Variants in braces.
-pub fn variants_ahead(
+pub(crate) fn variants_ahead(
     alloc: Global,
     at: &mut Ahead<'_>,
     depth: u32,

@@ -76,7 +76,7 @@ fn read_use_word(alloc: Global, at: &mut Ahead<'_>) -> Result<Found<UseEnd>, Rea
     Ok(Found { node: UseEnd::Word { word, rename }, need: 0 })
 }
 /// What follows a word: `as` and another name, or nothing of a use tree.
-pub fn read_rename(
+pub(crate) fn read_rename(
     alloc: Global,
     at: &mut Ahead<'_>,
 ) -> Result<Option<GivenName>, ReadNone> {

@@ -76,23 +76,24 @@ pub fn is_at_lifetime(at: &Ahead<'_>) -> bool {
 }
 /// Whether a bound begins at the front.
 pub fn begins_bound(at: &Ahead<'_>) -> bool {
-    is_at_lifetime(at) || is_at_opened(at, Delim::Paren) || is_at_mark(at, b"?")
-        || is_at_keyword(at, b"for") || matches!(lead_at(at), Some(Lead::Path))
+    is_at_lifetime(at) || is_at_keyword(at, b"use") || is_at_opened(at, Delim::Paren)
+        || is_at_mark(at, b"?") || is_at_keyword(at, b"for")
+        || matches!(lead_at(at), Some(Lead::Path))
 }
 /// Whether a predicate of a where clause begins at the front.
-pub fn begins_predicate(at: &Ahead<'_>) -> bool {
+pub(crate) fn begins_predicate(at: &Ahead<'_>) -> bool {
     is_at_lifetime(at) || lead_at(at).is_some()
 }
 /// Whether a parameter of a function type begins at the front.
-pub fn begins_param(at: &Ahead<'_>) -> bool {
+pub(crate) fn begins_param(at: &Ahead<'_>) -> bool {
     !(is_at_closer(at, Delim::Paren) || at.op_is(b"..."))
 }
 /// Whether a parameter of a function begins at the front.
-pub fn begins_fn_param(at: &Ahead<'_>) -> bool {
+pub(crate) fn begins_fn_param(at: &Ahead<'_>) -> bool {
     !is_at_closer(at, Delim::Paren)
 }
 /// Whether a field in the pattern of a struct begins at the front.
-pub fn begins_field(at: &Ahead<'_>) -> bool {
+pub(crate) fn begins_field(at: &Ahead<'_>) -> bool {
     !(is_at_closer(at, Delim::Brace) || at.op_is(b".."))
 }
 /// Whether generic arguments open at the front.

@@ -19,10 +19,12 @@ use crate::generated::lay_node::{
     Abi,
     Attr,
     Binder,
+    Capture,
     ConstArg,
     Lifetime,
     LifetimeParam,
     Literal,
+    Word,
 };
 use crate::generated::lay_read_tokens::attributes::attrs_ahead;
 use crate::generated::lay_read_tokens::front::{
@@ -33,6 +35,7 @@ use crate::generated::lay_read_tokens::front::{
     takes_op,
     takes_opener,
 };
+use crate::generated::lay_read_tokens::names::{is_plain, read_word};
 use crate::generated::lay_read_tokens::stop::copy_of;
 use crate::generated::lay_read_tokens::tokens::read_tokens;
 use crate::generated::lay_read_tokens::{Ahead, Found, ReadNone};
@@ -152,6 +155,55 @@ pub fn read_binder_if(
     }
     let params = read_params(alloc, at)?;
     Ok(Some(Binder { params }))
+}
+/// Whether a word may be captured: a name, or `Self`.
+fn is_captured(word: &Word) -> bool {
+    word.raw || is_plain(word.text.as_bytes())
+        || word.text.as_bytes() == b"Self".as_slice()
+}
+/// A lifetime or a word that is captured.
+fn read_capture(alloc: Global, at: &mut Ahead<'_>) -> Result<Capture, ReadNone> {
+    if is_at_lifetime(at) {
+        let lifetime = read_lifetime(alloc, at)?;
+        return Ok(Capture::Region { lifetime });
+    }
+    let word = read_word(alloc, at)?;
+    if is_captured(&word) { Ok(Capture::Word { word }) } else {
+        Err(ReadNone::NoReading)
+    }
+}
+/// What is captured, as elements of a list.
+struct Captures;
+impl Part<Capture, ()> for Captures {}
+/// A lifetime or a word that is captured, which needs no depth.
+fn free_capture(
+    alloc: &Global,
+    at: &mut Ahead<'_>,
+    _place: (),
+) -> Result<Found<Capture>, ReadNone> {
+    let node = read_capture(*alloc, at)?;
+    Ok(Found { node, need: 0 })
+}
+/// What is captured, behind its `<`.
+fn read_captured(alloc: Global, at: &mut Ahead<'_>) -> Result<List<Capture>, ReadNone> {
+    let found = read_elements::<
+        Captures,
+        Global,
+        Capture,
+        (),
+        _,
+    >(alloc, at, 0, Closer::Angle, &alloc, free_capture, ())?;
+    Ok(found.node)
+}
+/// What is captured, behind `use`.
+pub fn read_captures(
+    alloc: Global,
+    at: &mut Ahead<'_>,
+) -> Result<List<Capture>, ReadNone> {
+    if !takes_mark(at, b"<") {
+        return Err(ReadNone::NoReading);
+    }
+    read_captured(alloc, at)
 }
 /// The first token as a literal, if it passes.
 pub fn read_literal(

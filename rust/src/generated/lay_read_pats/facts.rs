@@ -4,14 +4,14 @@
 use crate::generated::lay_node::{Args, Pat, Path, PathStart, Word};
 use crate::generated::lay_token::word::{Class, word_class};
 /// Whether the pattern is a name that is bound, with nothing behind it.
-pub fn is_short(pat: &Pat) -> bool {
+pub(crate) fn is_short(pat: &Pat) -> bool {
     match pat {
         Pat::Bind { of, .. } => of.is_none(),
         _ => false,
     }
 }
 /// Whether the pattern is a span.
-pub fn is_span(pat: &Pat) -> bool {
+pub(crate) fn is_span(pat: &Pat) -> bool {
     matches!(pat, Pat::Span { .. })
 }
 /// Whether the pattern is `..` alone.
@@ -19,7 +19,7 @@ pub fn is_rest(pat: &Pat) -> bool {
     matches!(pat, Pat::Rest)
 }
 /// The word that the path is, without arguments.
-pub fn lone_word(path: &Path) -> Option<&Word> {
+pub(crate) fn lone_word(path: &Path) -> Option<&Word> {
     if !matches!(path.start, PathStart::Local) {
         return None;
     }

@@ -46,7 +46,7 @@ impl<'a> Ahead<'a> {
         Ahead { at: self.at.group() }
     }
     /// Moves past the token tree at the front, and gives its tokens: one token, or a group with its delimiters.
-    pub fn tree(&mut self) -> &'a [Token] {
+    pub(crate) fn tree(&mut self) -> &'a [Token] {
         self.at.tree()
     }
     /// The tokens ahead.

@@ -22,7 +22,7 @@ use crate::generated::lay_nest::Cursor;
 use crate::generated::lay_node::{Attr, MetaInput, MetaPath};
 use crate::generated::lay_token::{Delim, Kind, List, NoMemory, Text, Token};
 use crate::shims::Global;
-/// The attributes at the front: inner ones, or outer ones. Where one can't be read the cursor stays.
+/// All the attributes at the front: inner ones, or outer ones. Where one that begins there can't be read the cursor stays.
 pub fn read_attrs(
     alloc: Global,
     at: &mut Cursor<'_>,

@@ -73,7 +73,7 @@ pub fn takes_mark(at: &mut Ahead<'_>, character: &[u8]) -> bool {
     found
 }
 /// Whether an opener stands at the front.
-pub fn is_at_opener(at: &Ahead<'_>) -> bool {
+pub(crate) fn is_at_opener(at: &Ahead<'_>) -> bool {
     match at.peek(0) {
         Some(token) => matches!(token.kind, Kind::Opener(_)),
         None => false,

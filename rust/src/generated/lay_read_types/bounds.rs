@@ -6,9 +6,15 @@ use crate::generated::lay_node::{Bound, Constraint, PathStyle, Ty, TypePlace};
 use crate::generated::lay_read_parts::joins::{both, prepended, refused};
 use crate::generated::lay_read_parts::leads::{begins_const, is_at_lifetime};
 use crate::generated::lay_read_parts::loops::{Joint, Part, read_chain};
-use crate::generated::lay_read_parts::parts::{read_binder_if, read_const, read_lifetime};
+use crate::generated::lay_read_parts::parts::{
+    read_binder_if,
+    read_captures,
+    read_const,
+    read_lifetime,
+};
 use crate::generated::lay_read_tokens::front::{
     takes_closer,
+    takes_keyword,
     takes_mark,
     takes_op,
     takes_opener,
@@ -19,6 +25,12 @@ use crate::shims::Global;
 /// Bounds, as parts of a chain.
 pub struct Bounds;
 impl Part<Bound, ()> for Bounds {}
+/// What is captured, behind `use`.
+#[inline(never)]
+fn captures(alloc: Global, at: &mut Ahead<'_>) -> Result<Found<Bound>, ReadNone> {
+    let captured = read_captures(alloc, at)?;
+    Ok(Found { node: Bound::Captures { captured }, need: 0 })
+}
 impl<
     F: Fn(Global, &mut Ahead<'_>, TypePlace, u32) -> Result<Found<Ty>, ReadNone>,
     G: Fn(Global, &mut Ahead<'_>, u32) -> Result<Found<Constraint>, ReadNone>,
@@ -40,6 +52,9 @@ impl<
         if is_at_lifetime(at) {
             let lifetime = read_lifetime(self.alloc, at)?;
             return Ok(Found { node: Bound::Outlives { lifetime }, need: 0 });
+        }
+        if takes_keyword(at, b"use") {
+            return captures(self.alloc, at);
         }
         if !takes_opener(at, Delim::Paren) {
             return self.meets(at, false);

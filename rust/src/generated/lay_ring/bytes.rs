@@ -1,25 +1,53 @@
 //! Made by scripts/rust.sh from crates/lay_ring/src/bytes.rt, which is proved: change that.
 //!
-//! Bytes that wait, in room of a fixed length.
+//! Bytes that wait, in room of one of two lengths.
+use crate::shims::Vec;
 use crate::generated::lay_text::NoMemory;
 use crate::shims::Global;
-use crate::shims::BoxedSlice;
-/// How many bytes there is room for.
-const ROOM: usize = 1024;
-/// Bytes that are added at the end and taken from the front. Contracts see them as a list.
+/// How many bytes there is room for at first.
+const FIRST: usize = 128;
+/// How many there is room for in the full room.
+const FULL: usize = 1024;
+/// How many bytes a text has at the most.
+const LONGEST: usize = 89;
+/// Bytes that are added at the end and taken from the front. Contracts see them as a list, and whether the room is the
+/// full one.
 pub struct Bytes {
-    room: BoxedSlice<u8>,
+    room: Vec<u8>,
+    is_full: bool,
     /// They stand from here up to `end`.
     first: usize,
     end: usize,
 }
 impl Bytes {
-    /// No bytes.
+    /// No bytes, and little room.
     pub fn new(alloc: Global) -> Result<Bytes, NoMemory> {
-        match crate::shims::filled(alloc, 0u8, ROOM) {
-            Ok(room) => Ok(Bytes { room: room.into_boxed_slice(), first: 0, end: 0 }),
+        match crate::shims::filled(alloc, 0u8, FIRST) {
+            Ok(room) => Ok(Bytes { room, is_full: false, first: 0, end: 0 }),
             Err(_) => Err(NoMemory),
         }
+    }
+    /// Makes the full room.
+    #[inline(never)]
+    pub fn grow(&mut self) -> Result<(), NoMemory> {
+        match self.room.resize(FULL, 0) {
+            Ok(()) => {
+                self.is_full = true;
+                Ok(())
+            }
+            Err(_) => Err(NoMemory),
+        }
+    }
+    /// How many of so many texts there is surely room for: all in the full room, and one at the most in the first.
+    #[inline(always)]
+    pub fn room_for(&self, count: usize) -> usize {
+        if self.is_full {
+            return count;
+        }
+        if self.len() <= FIRST - LONGEST {
+            return count.min(1);
+        }
+        0
     }
     /// Adds bytes at the end. There must be room for them.
     #[inline(always)]

@@ -54,7 +54,8 @@ struct SmallEntry {
     size: i64,
 }
 /// Entries as in a [`Ring`](crate::Ring), in little memory: each is of 24 bytes, and their texts stand one
-/// behind the other in room for 1,024 bytes, which is taken at first. So texts are copied, and take no memory.
+/// behind the other in room for 128 bytes, and once that is too little in room for 1,024. So texts are copied, and only
+/// `new` and `reserve` take memory. A text has at most 89 bytes.
 pub struct Row {
     entries: Marks<SmallEntry>,
     /// The number of the first entry.
@@ -140,12 +141,16 @@ impl Row {
     /// Makes room for so many more entries.
     #[inline(always)]
     pub fn reserve(&mut self, n: usize) -> Result<(), NoMemory> {
-        self.entries.reserve(n)
+        self.entries.reserve(n)?;
+        if n <= self.spare() {
+            return Ok(());
+        }
+        self.bytes.grow()
     }
     /// How many more entries there is room for.
     #[inline(always)]
     pub fn spare(&self) -> usize {
-        self.entries.spare()
+        self.bytes.room_for(self.entries.spare())
     }
 }
 /// The text of a token, which is empty where it has none.

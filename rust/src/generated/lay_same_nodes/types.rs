@@ -9,6 +9,7 @@ use crate::generated::lay_node::{
     Binder,
     Bound,
     Boxed,
+    Capture,
     ConstArg,
     Constraint,
     FuncParam,
@@ -42,6 +43,20 @@ impl Same for LifetimeParam {
 impl Same for Binder {
     fn same(&self, other: &Binder) -> bool {
         self.params.same(&other.params)
+    }
+}
+impl Same for Capture {
+    fn same(&self, other: &Capture) -> bool {
+        match self {
+            Capture::Region { lifetime } => {
+                matches!(
+                    other, Capture::Region { lifetime: given } if lifetime.same(given)
+                )
+            }
+            Capture::Word { word } => {
+                matches!(other, Capture::Word { word: given } if word.same(given))
+            }
+        }
     }
 }
 impl Same for Abi {
@@ -261,6 +276,11 @@ impl Same for Bound {
                     }
                     _ => false,
                 }
+            }
+            Bound::Captures { captured } => {
+                matches!(
+                    other, Bound::Captures { captured: given } if captured.same(given)
+                )
             }
         }
     }

@@ -218,29 +218,31 @@ pub fn same_expr(expr: &Expr, other: &Expr) -> bool {
                 _ => false,
             }
         }
-        Expr::Closure { moves, params, body } => {
+        Expr::Closure { is_async, moves, params, body } => {
             match other {
                 Expr::Closure {
+                    is_async: other_is_async,
                     moves: other_moves,
                     params: other_params,
                     body: other_body,
                 } => {
-                    *moves == *other_moves
+                    *is_async == *other_is_async && *moves == *other_moves
                         && same_params(params.as_slice(), other_params.as_slice())
                         && same_expr(body.get(), other_body.get())
                 }
                 _ => false,
             }
         }
-        Expr::TypedClosure { moves, params, output, body } => {
+        Expr::TypedClosure { is_async, moves, params, output, body } => {
             match other {
                 Expr::TypedClosure {
+                    is_async: other_is_async,
                     moves: other_moves,
                     params: other_params,
                     output: other_output,
                     body: other_body,
                 } => {
-                    *moves == *other_moves
+                    *is_async == *other_is_async && *moves == *other_moves
                         && same_params(params.as_slice(), other_params.as_slice())
                         && output.same(other_output) && same_block(body, other_body)
                 }

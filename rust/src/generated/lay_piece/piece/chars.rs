@@ -72,7 +72,7 @@ impl CharSet {
     }
     /// Whether the text begins with one of its characters.
     #[inline(always)]
-    pub fn begins(self, s: &str) -> bool {
+    pub(crate) fn begins(self, s: &str) -> bool {
         match first(s) {
             Some((c, _)) => self.contains(c),
             None => false,
