@@ -30,7 +30,7 @@
 //!
 //! With the feature `std`, which is on by default, each call runs on a thread of its own with 16 MiB of stack, so a caller's thread may
 //! have as little as it likes. Without it a call takes the caller's stack. Of the kinds of nesting that were measured, each at its deepest, the
-//! greatest takes 0.9 MiB where the crate is optimised, and 3.1 where it isn't: more than the 2 MiB of a thread that Rust makes.
+//! greatest takes 0.6 MiB where the crate is optimised, and 2.7 where it isn't: more than the 2 MiB of a thread that Rust makes.
 //!
 //! # Speed
 //!
