@@ -8,8 +8,8 @@
 ghost use Rattle.std.specs.Prelude.{◌≡◌, length};
 ghost use Rattle.lay_c.specs.Answers.{AnswersAs, done_answer, filled, refused_answer, wanting_answer};
 
-use lay_files::{FileError, read_bytes, text_of};
-use lay_token::{NoMemory, Place2, Refusal};
+use lay_files::{FileError, format_bytes};
+use lay_token::{Place2, Refusal};
 use std::alloc::Global;
 
 /// The text was made, and as much of it as fits stands in the buffer.
@@ -43,14 +43,10 @@ pub struct LayAnswer {
 pub extern "C" fn lay_format_slices(alloc: Global, input: &[u8], buffer: &mut [u8]) -> LayAnswer
     ensures { AnswersAs input.now result buffer.old buffer.new }
 {
-    let file = match read_bytes(alloc, input) {
-        Ok(file) => file,
-        Err(FileError::Refused { refusal, place }) => return refused(refusal, place),
-        Err(FileError::NoMemory) => return wanting(),
-    };
-    match text_of(alloc, &file) {
-        Ok(text) => done(text.as_bytes(), buffer),
-        Err(NoMemory) => wanting(),
+    match format_bytes(alloc, input) {
+        Ok(text) => done(text.as_slice(), buffer),
+        Err(FileError::Refused { refusal, place }) => refused(refusal, place),
+        Err(FileError::NoMemory) => wanting(),
     }
 }
 

@@ -28,3 +28,17 @@ ReadAs depth bytes (Err NoMemory) = Unit {0}
 abbrev pub placed_in : List ℕ → FormatError → FileError
 placed_in text (format.Refused refusal) = Refused refusal (place_of text (number_of refusal))
 placed_in text format.NoMemory = NoMemory
+
+-- ---- from bytes to a text
+
+-- the text of the one file, or why and where the bytes are refused; memory may always be wanting
+abbrev pub FormattedAs : ℕ → List ℕ → Result (List ℕ) FileError → Type 0
+FormattedAs depth bytes (Ok text) = (file : File) × ReadsOnlyAt depth bytes file × (text ≡ out file)
+FormattedAs depth bytes (Err (Refused refusal place)) = IsRefusedAt depth bytes refusal × (place ≡ place_in bytes refusal)
+FormattedAs depth bytes (Err NoMemory) = Unit {0}
+
+-- the text of a file that the tokens of a source spell
+abbrev pub FormatsSource : ℕ → Source → List ℕ → Type 0
+FormatsSource depth from text = (file : File) × (file.shebang ≡ from.shebang)
+    × ((tokens : List Token) × Lexes from.text from.start tokens × SpellsFile depth (record { shebang = None; attrs = file.attrs; items = file.items }) tokens)
+    × (text ≡ out file)

@@ -1,14 +1,14 @@
-//! A sink that keeps what is written as one text.
+//! A sink that keeps what is written.
 ghost use Rattle.std.specs.Prelude.{◌≡◌, []};
 
 use lay_io::{Failed, Sink};
-use lay_token::Text;
+use lay_token::List;
 use std::alloc::Global;
 
 /// A sink that keeps what is written. A write for which no memory is found keeps nothing, and fails.
 #[derive(Drop)]
 pub(crate) struct Keeper {
-    text: Text,
+    bytes: Vec<u8>,
     faults: u64,
 }
 
@@ -20,16 +20,16 @@ impl Keeper {
         ensures { kept_by result ≡ [] }
     {
         Keeper {
-            text: Text::new(alloc),
+            bytes: Vec::new(alloc),
             faults: 0,
         }
     }
 
     /// What was written.
-    pub(crate) fn into_text(self) -> Text
+    pub(crate) fn into_list(self) -> List<u8>
         ensures { result ≡ kept_by self }
     {
-        self.text
+        List::from_vec(self.bytes)
     }
 }
 
@@ -41,8 +41,9 @@ impl Sink for Keeper {
 
     ghost faults = { λ keeper. keeper.faults };
 
+    #[inline]
     fn write(&mut self, piece: &[u8]) -> Result<(), Failed> {
-        if self.text.push_bytes(piece).is_err() {
+        if self.bytes.extend_from_slice(piece).is_err() {
             self.faults = self.faults.saturating_add(1);
             return Err(Failed);
         }

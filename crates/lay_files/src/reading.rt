@@ -5,7 +5,7 @@ ghost use Rattle.lay_files.specs.Places.{number_of};
 ghost use Rattle.lay_files.specs.Readings.{ReadAs, placed_in};
 
 use lay_code::File;
-use lay_lex::{lex, normalise};
+use lay_lex::{Source, lex, normalise};
 use lay_nest::nest;
 use lay_read_tokens::ReadNone;
 use lay_token::{FormatError, Place2, Refusal, place_of};
@@ -55,6 +55,13 @@ pub fn read_within(alloc: Global, bytes: &[u8], depth: u32) -> Result<File, File
         Err(ReadNone::NoMemory) => return Err(FileError::NoMemory),
         Err(ReadNone::NoReading) => {}
     }
+    read_tokens(alloc, source, depth)
+}
+
+/// The same of a text, which is read from all its tokens.
+pub(crate) fn read_tokens(alloc: Global, source: Source, depth: u32) -> Result<File, FileError>
+    ensures { (bytes : Items ℕ) → source bytes ≡ Ok source.now → ReadAs depth bytes result }
+{
     let tokens = match lex(alloc, &source) {
         Ok(tokens) => tokens,
         Err(error) => return Err(placed(error, source.text.as_slice())),
@@ -70,7 +77,7 @@ pub fn read_within(alloc: Global, bytes: &[u8], depth: u32) -> Result<File, File
 }
 
 /// The error with the place of its refusal, which is counted in this text.
-fn placed(error: FormatError, text: &[u8]) -> FileError
+pub(crate) fn placed(error: FormatError, text: &[u8]) -> FileError
     ensures { result ≡ placed_in text.now error }
 {
     match error {

@@ -9,16 +9,24 @@ use lay_code::File;
 use lay_io::Sink;
 use lay_out_code::put_file;
 use lay_printer::{Core, Press, PrintError};
-use lay_token::{NoMemory, Text};
+use lay_token::{List, NoMemory, Text};
 use std::alloc::Global;
 
 /// The text of a file.
 pub fn text_of(alloc: Global, file: &File) -> Result<Text, NoMemory>
     ensures { IfOk result (λ text. text ≡ text_of_file file.now) }
 {
+    let bytes = bytes_of(alloc, file)?;
+    Text::from_bytes(alloc, bytes.as_slice())
+}
+
+/// The text of a file, as a list of its bytes.
+pub fn bytes_of(alloc: Global, file: &File) -> Result<List<u8>, NoMemory>
+    ensures { IfOk result (λ bytes. bytes ≡ text_of_file file.now) }
+{
     let mut keeper = Keeper::new(alloc);
     match write_file(alloc, file, &mut keeper) {
-        Ok(()) => Ok(keeper.into_text()),
+        Ok(()) => Ok(keeper.into_list()),
         Err(PrintError::WriteFailed | PrintError::NoMemory) => Err(NoMemory),
     }
 }

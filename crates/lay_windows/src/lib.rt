@@ -7,8 +7,8 @@
 #![tactic(auto)]
 
 mod bodies;
-mod heads;
+pub mod heads;
 mod parts;
-mod window;
+pub mod window;
 
 pub use bodies::read_source;

@@ -1,0 +1,60 @@
+//! What stands around the body of a module.
+ghost use Rattle.std.specs.Prelude.{◌<◌};
+ghost use Rattle.lay_stream.specs.Fed.{Did};
+ghost use Rattle.lay_through.specs.Through.{closing, empty_module, line_behind, module_begun, opening};
+
+use lay_out_heads::items::open_head;
+use lay_out_heads::loops::{close_body, open_body};
+use lay_out_tokens::HARD_BREAK;
+use lay_out_types::add_attrs;
+use lay_out_types::calls::{add_text, add_word};
+use lay_out_types::lists::add_end;
+use lay_stream::Emit;
+use lay_windows::heads::Head;
+
+/// Opens a module that holds something, with a newline before it within another.
+pub fn open<E: Emit>(out: &mut E, within: bool, head: &Head) -> Result<(), E::Fault>
+    ensures { Did E.meanings out.old (opening within head.now) result out.new }
+{
+    let named = put_head(out, within, head);
+    open_body(out, named, true)
+}
+
+/// Closes a module that holds something, with a newline behind it where it stands in none.
+pub fn close<E: Emit>(out: &mut E, within: bool) -> Result<(), E::Fault>
+    requires { 0 < E.meanings.groups out.old }
+    ensures { Did E.meanings out.old (closing within) result out.new }
+{
+    close_body(out, Ok(()))?;
+    end_line(out, within)
+}
+
+/// A module that holds nothing.
+pub fn put_empty<E: Emit>(out: &mut E, within: bool, head: &Head) -> Result<(), E::Fault>
+    ensures { Did E.meanings out.old (empty_module within head.now) result out.new }
+{
+    let named = put_head(out, within, head);
+    add_text(out, named, b" {}")?;
+    end_line(out, within)
+}
+
+/// The head of a module, with its attributes.
+fn put_head<E: Emit>(out: &mut E, within: bool, head: &Head) -> Result<(), E::Fault>
+    ensures { Did E.meanings out.old (module_begun within head.now) result out.new }
+{
+    if within {
+        out.brk(HARD_BREAK)?;
+    }
+    let attrs = add_attrs(out, Ok(()), head.attrs.as_slice());
+    let opened = open_head(out, attrs, &head.vis);
+    let word = add_text(out, opened, b"mod ");
+    let name = add_word(out, word, head.name.raw, &head.name.text);
+    add_end(out, name)
+}
+
+/// A newline, where this stands in no module.
+fn end_line<E: Emit>(out: &mut E, within: bool) -> Result<(), E::Fault>
+    ensures { Did E.meanings out.old (line_behind within) result out.new }
+{
+    if within { Ok(()) } else { out.brk(HARD_BREAK) }
+}
