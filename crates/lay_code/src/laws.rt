@@ -8,7 +8,7 @@ ghost use Rattle.lay_node.specs.declared.heads.Site.{Site};
 ghost use Rattle.lay_code.specs.Reading.{SpellsFile};
 ghost use Rattle.lay_code.specs.Written.{is_good_shebang};
 ghost use Rattle.lay_code.specs.nodes.Code.{about_expr, about_item};
-ghost use Rattle.lay_code.specs.nodes.Exprs.{ExprFacts, ExprFront, expr_facts, is_open, is_typed, may, placed};
+ghost use Rattle.lay_code.specs.nodes.Exprs.{ExprFacts, ExprFront, expr_facts, is_open, is_typed, placed};
 ghost use Rattle.lay_code.specs.nodes.PlacesTable.{AssignRow, ByRoot, ChainRow, Iff, RangeRow, UnaryRow};
 ghost use Rattle.lay_code.specs.reader.Code.{expr_at, item_at};
 ghost use Rattle.lay_code.specs.declared.blocks.Stmt.TheOpen.{Expr-F};
@@ -31,17 +31,13 @@ pub fn reading_law()
 /// node ends: the definitions ask it of what the node ends in, and this table hands it down to the last child.
 pub fn places_law()
     ensures unary { (place : Place) (ops : List Prefix) (operand : ExprFacts)
-        → Iff (IsTrue (placed (expr_facts (Expr-F.Unary ops operand)) place))
-        (IsTrue (may (expr_facts (Expr-F.Unary ops operand)) place) × UnaryRow place ops operand) }
+        → Iff (IsTrue (placed (expr_facts (Expr-F.Unary ops operand)) place)) (UnaryRow place ops operand) }
     ensures range { (place : Place) (start : Option ExprFacts) (inclusive : Bool) (end : ExprFacts)
-        → Iff (IsTrue (placed (expr_facts (Expr-F.Range start inclusive (Some end))) place))
-        (IsTrue (may (expr_facts (Expr-F.Range start inclusive (Some end))) place) × RangeRow place start end) }
+        → Iff (IsTrue (placed (expr_facts (Expr-F.Range start inclusive (Some end))) place)) (RangeRow place start inclusive end) }
     ensures assign { (place : Place) (targets : List (ExprFacts × Op)) (value : ExprFacts)
-        → Iff (IsTrue (placed (expr_facts (Expr-F.Assign targets value)) place))
-        (IsTrue (may (expr_facts (Expr-F.Assign targets value)) place) × AssignRow place targets value) }
+        → Iff (IsTrue (placed (expr_facts (Expr-F.Assign targets value)) place)) (AssignRow place targets value) }
     ensures chain { (place : Place) (first : ExprFacts) (next : Op × ExprFacts) (more : List (Op × ExprFacts))
-        → Iff (IsTrue (placed (expr_facts (Expr-F.Chain first (next ∷ more))) place))
-        (IsTrue (may (expr_facts (Expr-F.Chain first (next ∷ more))) place) × ChainRow place first next more) }
+        → Iff (IsTrue (placed (expr_facts (Expr-F.Chain first (next ∷ more))) place)) (ChainRow place first next more) }
     ensures others { (place : Place) (node : ExprFacts) → is_open node.tail ≡ (node.jumps || node.endless)
         → is_typed node.tail ≡ node.typed → ByRoot place node }
 {}

@@ -149,7 +149,7 @@ module _ (p : Place) (F x : ExprFacts) (level : ℕ) (block : F.block_like ≡ f
 module _ (p : Place) where
   -- Unary: the operand at 12, with the rest as the node's
   pub unary_row : (ps : List Prefix) (x : ExprFacts) → Iff (placed (expr_facts (Expr-F.Unary ps x)) p ≡ true)
-      ((may (expr_facts (Expr-F.Unary ps x)) p ≡ true) × UnaryRow p ps x)
+      (UnaryRow p ps x)
   unary_row ps x =
       let F = expr_facts (Expr-F.Unary ps x) in
       let down = stands_down p F x 12 refl refl refl refl refl refl in
@@ -168,7 +168,7 @@ module _ (p : Place) where
 
   -- Range: the end at 2, with the rest as the node's
   pub range_row : (a : Option ExprFacts) (inclusive : Bool) (x : ExprFacts) → Iff (placed (expr_facts (Expr-F.Range a inclusive (Some x))) p ≡ true)
-      ((may (expr_facts (Expr-F.Range a inclusive (Some x))) p ≡ true) × RangeRow p a x)
+      (RangeRow p a inclusive x)
   range_row a inclusive x =
       let F = expr_facts (Expr-F.Range a inclusive (Some x)) in
       let begun = start_placed a p.no_struct (begins p.start) in
@@ -188,7 +188,7 @@ module _ (p : Place) where
 
   -- Assign: the value at 1, with the rest as the node's
   pub assign_row : (targets : List (ExprFacts × Op)) (x : ExprFacts) → Iff (placed (expr_facts (Expr-F.Assign targets x)) p ≡ true)
-      ((may (expr_facts (Expr-F.Assign targets x)) p ≡ true) × AssignRow p targets x)
+      (AssignRow p targets x)
   assign_row targets x =
       let F = expr_facts (Expr-F.Assign targets x) in
       let before = targets_placed targets p.no_struct (begins p.start) in
@@ -235,7 +235,7 @@ module _ (p : Place) where
       (and_from ((op_level x.0 == level) && placed x.1 place) (operands_placed level p.no_struct (y ∷ more)) v r.0, r.1)
 
   pub chain_row : (x : ExprFacts) (o : Op × ExprFacts) (more : List (Op × ExprFacts)) → Iff (placed (expr_facts (Expr-F.Chain x (o ∷ more))) p ≡ true)
-      ((may (expr_facts (Expr-F.Chain x (o ∷ more))) p ≡ true) × ChainRow p x o more)
+      (ChainRow p x o more)
   chain_row x o more =
       let F = expr_facts (Expr-F.Chain x (o ∷ more)) in
       let level = op_level o.0 in

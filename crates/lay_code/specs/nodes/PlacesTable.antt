@@ -21,20 +21,21 @@ as_node p level = record { level = level; no_struct = p.no_struct; start = start
 abbrev pub ByRoot : Place → ExprFacts → Type 0
 ByRoot p x = placed x p ≡ (may x p && x.within p.no_struct (begins p.start))
 
+-- Each row asks that the root may stand there, and of what is within it:
 -- Unary: the operand at 12, with the rest as the node's. It doesn't begin with a prefix operator.
 abbrev pub UnaryRow : Place → List Prefix → ExprFacts → Type 0
 UnaryRow p ps x =
-    IsTrue (is_there ps) × IsTrue (placed x (as_node p 12)) × IsTrue (not (is_prefix_lead x.lead))
+    IsTrue (may (expr_facts (Expr-F.Unary ps x)) p) × IsTrue (is_there ps) × IsTrue (placed x (as_node p 12)) × IsTrue (not (is_prefix_lead x.lead))
 
 -- Range: the end at 2, with the rest as the node's. Where no struct literal may stand it doesn't begin with a brace.
-abbrev pub RangeRow : Place → Option ExprFacts → ExprFacts → Type 0
-RangeRow p a x =
-    IsTrue (start_placed a p.no_struct (begins p.start)) × IsTrue (placed x (as_node p 2)) × IsTrue (begins_free p.no_struct x)
+abbrev pub RangeRow : Place → Option ExprFacts → Bool → ExprFacts → Type 0
+RangeRow p a inclusive x =
+    IsTrue (may (expr_facts (Expr-F.Range a inclusive (Some x))) p) × IsTrue (start_placed a p.no_struct (begins p.start)) × IsTrue (placed x (as_node p 2)) × IsTrue (begins_free p.no_struct x)
 
 -- Assign: the value at 1, with the rest as the node's
 abbrev pub AssignRow : Place → List (ExprFacts × Op) → ExprFacts → Type 0
 AssignRow p targets x =
-    IsTrue (is_there targets) × IsTrue (targets_placed targets p.no_struct (begins p.start)) × IsTrue (placed x (as_node p 1))
+    IsTrue (may (expr_facts (Expr-F.Assign targets x)) p) × IsTrue (is_there targets) × IsTrue (targets_placed targets p.no_struct (begins p.start)) × IsTrue (placed x (as_node p 1))
 
 -- Chain: the operands behind the first, each at the level above that of the operators, the last with the rest as the node's
 abbrev pub OtherOperands : Place → ℕ → List (Op × ExprFacts) → Type 0
@@ -46,5 +47,5 @@ OtherOperands p level (x ∷ y ∷ more) =
 -- and the first before the operator that follows it
 abbrev pub ChainRow : Place → ExprFacts → Op × ExprFacts → List (Op × ExprFacts) → Type 0
 ChainRow p x o more =
-    IsTrue (is_chain_level (op_level o.0)) × IsTrue (may_chain (op_level o.0) (o ∷ more))
+    IsTrue (may (expr_facts (Expr-F.Chain x (o ∷ more))) p) × IsTrue (is_chain_level (op_level o.0)) × IsTrue (may_chain (op_level o.0) (o ∷ more))
     × IsTrue (placed x (before_op (suc (op_level o.0)) p.no_struct (begins p.start) (is_angle_op o.0))) × OtherOperands p (op_level o.0) (o ∷ more)
