@@ -1,14 +1,19 @@
 -- Files: the longest run of inner attributes and items is what the tokens spell.
-use Rattle.std.proofs.Common.{◌≡◌, ℕ, ◌+◌, ◌≤◌, true, List, [], ◌∷◌, ◌++◌, length, take, drop, Option, Some, None, Bor, option_copied, slice_get, refl, sym, ap, subst, ◌∙◌, IsTrue, arith, append_assoc, length-append, length-drop}
+use Rattle.std.proofs.Common.{◌≡◌, ℕ, ◌+◌, ◌≤◌, true, List, [], ◌∷◌, ◌++◌, length, take, drop, Option, Some, None, Err, Bor, option_copied, slice_get, refl, sym, ap, subst, ◌∙◌, IsTrue, arith, append_assoc, length-append, length-drop}
 use Rattle.std.proofs.Math.Seq.{drop-append_seam}
 use Rattle.std.proofs.lemmas.List.{take-append-drop}
 use Rattle.lay_token.specs.Lexes.{Lexes}
 use Rattle.lay_token.specs.declared.token.Token.{Token}
 use Rattle.lay_form.specs.Spelled.{Spells}
 use Rattle.lay_form.proofs.FormLaws.{is_end}
+use Rattle.lay_node.specs.nodes.Attr.{about_attr, attr_form}
+use Rattle.lay_node.specs.nodes.Facts.{Front}
 use Rattle.lay_node.specs.reader.Attr.{attribute}
+use Rattle.lay_node.specs.reader.Exact.{needless}
+use Rattle.lay_node.specs.reader.Loops.{Got}
 use Rattle.lay_node.specs.declared.attr.Attr.{Attr}
 use Rattle.lay_node.proofs.Pieces.{pieces_spelled}
+use Rattle.lay_node.proofs.reader.AttrRead.{attribute_complete, attrs_exact}
 use Rattle.lay_code.specs.Reading.{NoItemAt, SpellsFile, SpellsFront}
 use Rattle.lay_code.specs.Written.{Written, is_good_shebang}
 use Rattle.lay_code.specs.nodes.File.{form_of_file}
@@ -16,7 +21,9 @@ use Rattle.lay_code.specs.reader.File.{front}
 use Rattle.lay_code.specs.declared.file.File.{File}
 use Rattle.lay_code.specs.declared.item.Item.{Item}
 use Rattle.lay_code.proofs.reader.File.{front_sound, front_longest}
-use Rattle.lay_read_tokens.specs.Answers.{AreLexed}
+use Rattle.lay_read_tokens.specs.Answers.{AreLexed, IsRead}
+use Rattle.lay_read_tokens.specs.declared.stop.ReadNone.{ReadNone}
+use Rattle.lay_read_tokens.specs.declared.stop.ReadNone.TheVariants.{NoReading, NoMemory}
 use Rattle.lay_read_tokens.proofs.Left.{attribute_left, left_by}
 use Rattle.lay_read_tokens.proofs.Lexed.{lexed_in_text, lexed_texts}
 
@@ -90,6 +97,28 @@ pub lexed_attr : (ts : List Token) (a : Attr) (rest : List Token) → AreLexed t
 lexed_attr ts a rest l e =
     let left = left_by 1 ts (attribute true ts) a rest (attribute_left true ts) e in
     subst AreLexed (sym left.dropped) (lexed_behind left.count ts l)
+
+-- The attribute that stands at the front is the one that is read.
+pub attr_read : (ts : List Token) (a : Attr) (left : List Token) → (n : ℕ) × (left ≡ drop n ts) × Front (about_attr true a) ts n 0
+    → attribute true ts ≡ Some (a, left)
+attr_read ts a left s =
+    attribute_complete true a 0 ts left (subst (λ (us : List Token). Spells (attr_form a) 0 ts us) (sym s.1) s.2.1, s.2.2)
+
+-- Where none stands there, none is read.
+no_attr_read : (ts : List Token) → AreLexed ts → ((a : Attr) (n : ℕ) → Front (about_attr true a) ts n 0 → ⊥) → attribute true ts ≡ None
+no_attr_read ts l none = by (attribute true ts) refl
+  where
+    by : (got : Got Attr) → attribute true ts ≡ got → got ≡ None
+    by None e = refl
+    by (Some x) e =
+        let read : needless (attribute true) 0 ts ≡ Some ((x.0, 0), x.1) = rw e refl in
+        let s = (attrs_exact true).sound 0 ts x.0 0 x.1 (lexed_in_text ts l) read in
+        absurd (none x.0 s.0 s.3)
+
+pub no_attr_next : (ts left : List Token) (none : ReadNone) → AreLexed ts → IsRead (λ (a : Attr). Front (about_attr true a)) ts (Err none) left
+    → none ≡ NoReading → (attribute true ts ≡ None) × (left ≡ ts)
+no_attr_next ts left NoReading l h e = (no_attr_read ts l h.1, h.0)
+no_attr_next ts left NoMemory l h e = absurd (let no : ⊥ = cc in no)
 
 -- ---- the token at which the run ends
 
