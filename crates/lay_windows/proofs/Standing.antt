@@ -42,15 +42,15 @@ use Rattle.lay_windows.proofs.Tokens.{lexed_end, single_lexed}
 
 -- ---- lists joined
 
-attr_forms : (xs ys : List Attr) → map attr_form (xs ++ ys) ≡ map attr_form xs ++ map attr_form ys
+pub attr_forms : (xs ys : List Attr) → map attr_form (xs ++ ys) ≡ map attr_form xs ++ map attr_form ys
 attr_forms [] ys = refl
 attr_forms (x ∷ xs) ys = ap (λ (l : List Form). attr_form x ∷ l) (attr_forms xs ys)
 
-item_forms : (xs ys : List Item) → forms (map (about_item Module) (xs ++ ys)) ≡ forms (map (about_item Module) xs) ++ forms (map (about_item Module) ys)
+pub item_forms : (xs ys : List Item) → forms (map (about_item Module) (xs ++ ys)) ≡ forms (map (about_item Module) xs) ++ forms (map (about_item Module) ys)
 item_forms [] ys = refl
 item_forms (x ∷ xs) ys = ap (λ (l : List Form). (about_item Module x).form ∷ l) (item_forms xs ys)
 
-goods : (xs ys : List Item) → all_good (map (about_item Module) (xs ++ ys)) ≡ (all_good (map (about_item Module) xs) && all_good (map (about_item Module) ys))
+pub goods : (xs ys : List Item) → all_good (map (about_item Module) (xs ++ ys)) ≡ (all_good (map (about_item Module) xs) && all_good (map (about_item Module) ys))
 goods [] ys = refl
 goods (x ∷ xs) ys = by (about_item Module x).good (goods xs ys)
   where
@@ -59,7 +59,7 @@ goods (x ∷ xs) ys = by (about_item Module x).good (goods xs ys)
     by true e = e
     by false e = refl
 
-one_more : (new last : File) (one : Item) → last.attrs ≡ new.attrs → last.items ≡ new.items ++ one ∷ []
+pub one_more : (new last : File) (one : Item) → last.attrs ≡ new.attrs → last.items ≡ new.items ++ one ∷ []
     → parts_of last ≡ parts_of new ++ (about_item Module one).form ∷ []
 one_more new last one a i =
     ap (λ (l : List Attr). map attr_form l ++ forms (map (about_item Module) last.items)) a
