@@ -7,6 +7,10 @@
 #![tactic(auto)]
 
 mod bodies;
+mod lines;
 mod modules;
+mod parts;
+mod stop;
 
-pub use bodies::{NotPut, put_source};
+pub use bodies::put_source;
+pub use stop::{NotPut, told};

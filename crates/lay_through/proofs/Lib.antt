@@ -1,0 +1,4 @@
+pub mod Rows
+pub mod ModuleRows
+pub mod Growing
+pub mod ReadParts
