@@ -25,8 +25,9 @@ use Rattle.lay_lex.specs.Source.{Answers}
 use Rattle.lay_nest.specs.Nested.{RefusedAs}
 use Rattle.lay_token.specs.Place.{place_of}
 use Rattle.lay_files.specs.Places.{number_of, text_or}
-use Rattle.lay_files.specs.Readings.{ReadsOnlyAt, ReadAs, placed_in}
+use Rattle.lay_files.specs.Readings.{FormattedAs, ReadsOnlyAt, ReadAs, placed_in}
 use Rattle.lay_files.specs.declared.reading.FileError.{FileError}
+use Rattle.lay_files.specs.declared.reading.FileError.TheVariants.{Refused, NoMemory}
 
 -- Bytes whose tokens spell a file read to it, and to no other.
 pub read_only : (depth : ℕ) (bytes : List ℕ) (from : Source) (tokens : List Token) (file : File) → source bytes ≡ Ok from → Lexes from.text from.start tokens
@@ -95,6 +96,11 @@ read_no_file depth bytes from tokens nested (error.Refused (Unbalanced at)) e le
 read_no_file depth bytes from tokens nested (error.Refused (NoItem at)) e lexes same balanced h =
     (from, tokens, e, lexes, balanced, subst (λ (ts : List Token). NoItemAt depth ts at) same h)
 read_no_file depth bytes from tokens nested error.NoMemory e lexes same balanced h = tt
+
+-- Bytes that read to no file are formatted to no text.
+pub refused_as : (depth : ℕ) (bytes : List ℕ) (e : FileError) → ReadAs depth bytes (Err e) → FormattedAs depth bytes (Err e)
+refused_as depth bytes (Refused refusal place) h = h
+refused_as depth bytes NoMemory h = tt
 
 -- ---- by windows
 

@@ -1,17 +1,18 @@
 -- A file whose stream was printed on a sink that was lent to a press.
-use Rattle.std.proofs.Common.{◌≡◌, ℕ, ◌≤◌, List, get_or, Option, Result, Ok, Err, OnOk, OnErr, IfErr, IsErrOf}
+use Rattle.std.proofs.Common.{◌≡◌, ℕ, ◌≤◌, List, ◌++◌, get_or, Option, Some, None, refl, Result, Ok, Err, OnOk, OnErr, IfErr, IsErrOf}
 use Rattle.std.proofs.Common.{sym, ap, ◌∙◌, subst}
-use Rattle.lay_layout.specs.Document.{stream}
+use Rattle.lay_layout.specs.Document.{Document, Empty, stream}
 use Rattle.lay_layout.proofs.Render.{text_stream}
 use Rattle.lay_io.specs.Faults.{Rose, SameLoan}
 use Rattle.lay_io.specs.Told.{GrewBy, GrewByPrefix}
-use Rattle.lay_code.specs.Out.{layout_of_file, out}
+use Rattle.lay_code.specs.Out.{behind_shebang, layout_of_file, out}
 use Rattle.lay_code.specs.declared.file.File.{File}
 use Rattle.lay_printer.proofs.Through.{Printed, printed_along}
 use Rattle.lay_printer.specs.Printers.{lent_sink, press_loans}
 use Rattle.lay_printer.specs.declared.engine.PrintError.{PrintError}
 use Rattle.lay_printer.specs.declared.engine.PrintError.TheVariants.{WriteFailed}
 use Rattle.lay_printer.specs.declared.press.Press.{Press}
+use Rattle.lay_files.specs.Readings.{behind_line}
 
 -- what is said of the sink
 pub record Written {K T : Type 0} (written : K → Option (List ℕ)) (faults loan : K → ℕ) (before now : K) (file : File)
@@ -44,3 +45,21 @@ file_written written faults loan x y before now file result first last same h =
       part = subst (λ (t : List ℕ). OnErr result (GrewByPrefix (written before) (written now) t)) text_is k.err;
       cause = cause_of (faults before) (faults now) result k.cause.failed;
     }
+
+-- ---- a file that was fed behind its first line
+
+shebang_more : (first : Option (List ℕ)) (d : Document) → stream (behind_shebang first Empty) ++ stream d ≡ stream (behind_shebang first d)
+shebang_more None d = refl
+shebang_more (Some line) d = refl
+
+pub behind_first : (first : Option (List ℕ)) (file : File) → file.shebang ≡ None
+    → stream (behind_shebang first Empty) ++ stream (layout_of_file file) ≡ stream (layout_of_file (behind_line first file))
+behind_first first file none =
+    ap (λ (line : Option (List ℕ)). stream (behind_shebang first Empty) ++ stream (layout_of_file (behind_line line file))) none
+    ∙ shebang_more first (layout_of_file (behind_line None file))
+
+-- What was told of it all is what is told of its end.
+pub told_all : {U F G : Type 0} (fed : Result (Unit {0}) F) (result : Result U G) (P Q : Type 0) → OnOk result (fed ≡ Ok tt)
+    → OnOk fed P → (P → Q) → OnOk result Q
+told_all fed (Ok u) P Q e p f = f (subst (λ (r : Result (Unit {0}) _). OnOk r P) e p)
+told_all fed (Err g) P Q e p f = tt

@@ -4,4 +4,4 @@ use Rattle.lay_files.specs.declared.keep.Keeper.{Keeper}
 
 -- the bytes that were written to it
 abbrev pub kept_by : Keeper → List ℕ
-kept_by keeper = keeper.text
+kept_by keeper = keeper.bytes.items

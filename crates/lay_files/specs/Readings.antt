@@ -1,10 +1,14 @@
 -- What a reader of bytes answers.
-use Rattle.std.specs.Prelude.{ℕ, ◌≡◌, List, Result, Ok, Err}
+use Rattle.std.specs.Prelude.{ℕ, ◌≡◌, List, Option, Result, Ok, Err}
 use Rattle.lay_text.specs.declared.refusal.FormatError.{FormatError}
 use Rattle.lay_text.specs.declared.refusal.FormatError.TheVariants as format
+use Rattle.lay_io.specs.Told.{GrewBy}
 use Rattle.lay_token.specs.Place.{place_of}
+use Rattle.lay_token.specs.Source.{Source, source}
+use Rattle.lay_code.specs.Out.{out}
 use Rattle.lay_code.specs.Reading.{IsRefusedAt, ReadsAt, top}
 use Rattle.lay_code.specs.declared.file.File.{File}
+use Rattle.lay_windows.specs.Bodies.{FileAs}
 use Rattle.lay_files.specs.Places.{number_of, place_in}
 use Rattle.lay_files.specs.declared.reading.FileError.{FileError}
 use Rattle.lay_files.specs.declared.reading.FileError.TheVariants.{Refused, NoMemory}
@@ -29,6 +33,10 @@ abbrev pub placed_in : List ℕ → FormatError → FileError
 placed_in text (format.Refused refusal) = Refused refusal (place_of text (number_of refusal))
 placed_in text format.NoMemory = NoMemory
 
+-- The bytes that have this source are read so.
+abbrev pub ReadsAs : ℕ → Source → Result File FileError → Type 0
+ReadsAs depth from result = (bytes : List ℕ) → source bytes ≡ Ok from → ReadAs depth bytes result
+
 -- ---- from bytes to a text
 
 -- the text of the one file, or why and where the bytes are refused; memory may always be wanting
@@ -37,8 +45,22 @@ FormattedAs depth bytes (Ok text) = (file : File) × ReadsOnlyAt depth bytes fil
 FormattedAs depth bytes (Err (Refused refusal place)) = IsRefusedAt depth bytes refusal × (place ≡ place_in bytes refusal)
 FormattedAs depth bytes (Err NoMemory) = Unit {0}
 
--- the text of a file that the tokens of a source spell
-abbrev pub FormatsSource : ℕ → Source → List ℕ → Type 0
-FormatsSource depth from text = (file : File) × (file.shebang ≡ from.shebang)
-    × ((tokens : List Token) × Lexes from.text from.start tokens × SpellsFile depth (record { shebang = None; attrs = file.attrs; items = file.items }) tokens)
-    × (text ≡ out file)
+-- The bytes that have this source are formatted so.
+abbrev pub FormatsAs : ℕ → Source → Result (List ℕ) FileError → Type 0
+FormatsAs depth from result = (bytes : List ℕ) → source bytes ≡ Ok from → FormattedAs depth bytes result
+
+-- a file behind this first line
+abbrev pub behind_line : Option (List ℕ) → File → File
+behind_line first file = record { shebang = first; attrs = file.attrs; items = file.items }
+
+-- The text is that of a file, behind the first line, that the tokens of the source spell.
+pub record FormatsSource (depth : ℕ) (from : Source) (text : List ℕ) : Type 0 where
+  pub file : File
+  pub reads : FileAs depth from.text from.start (Ok file)
+  pub same : text ≡ out (behind_line from.shebang file)
+
+-- The same where the text was written.
+pub record WritesSource (depth : ℕ) (from : Source) (before now : Option (List ℕ)) : Type 0 where
+  pub file : File
+  pub reads : FileAs depth from.text from.start (Ok file)
+  pub grew : GrewBy before now (out (behind_line from.shebang file))

@@ -1,8 +1,11 @@
 //! From bytes to the tree of a file.
-ghost use Rattle.std.specs.Prelude.{◌≡◌};
+ghost use Rattle.std.specs.Prelude.{◌≡◌, IsTrue, IsUtf8};
+ghost use Rattle.std.specs.Str.{IsCharBoundary};
+ghost use Rattle.lay_lex.specs.Source.{seen};
 ghost use Rattle.lay_code.specs.Reading.{top};
+ghost use Rattle.lay_code.specs.Written.{is_good_shebang};
 ghost use Rattle.lay_files.specs.Places.{number_of};
-ghost use Rattle.lay_files.specs.Readings.{ReadAs, placed_in};
+ghost use Rattle.lay_files.specs.Readings.{ReadAs, ReadsAs, placed_in};
 
 use lay_code::File;
 use lay_lex::{Source, lex, normalise};
@@ -58,9 +61,12 @@ pub fn read_within(alloc: Global, bytes: &[u8], depth: u32) -> Result<File, File
     read_tokens(alloc, source, depth)
 }
 
-/// The same of a text, which is read from all its tokens.
+/// The same of the text of some bytes, which is read from all its tokens.
 pub(crate) fn read_tokens(alloc: Global, source: Source, depth: u32) -> Result<File, FileError>
-    ensures { (bytes : Items ℕ) → source bytes ≡ Ok source.now → ReadAs depth bytes result }
+    requires text { IsUtf8 source.text }
+    requires border { IsCharBoundary source.text source.start }
+    requires good { IsTrue (is_good_shebang source.shebang) }
+    ensures { ReadsAs depth (seen source) result }
 {
     let tokens = match lex(alloc, &source) {
         Ok(tokens) => tokens,

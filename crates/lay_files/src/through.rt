@@ -1,11 +1,13 @@
 //! From bytes to the text of their file, where no tree of the file stands in memory.
-ghost use Rattle.std.specs.Prelude.{IfOk, IsUtf8};
+ghost use Rattle.std.specs.Prelude.{IfOk, IsTrue, IsUtf8, OnOk, Some};
 ghost use Rattle.std.specs.Str.{IsCharBoundary};
 ghost use Rattle.lay_layout.specs.Document.{Empty, stream};
+ghost use Rattle.lay_lex.specs.Source.{seen};
 ghost use Rattle.lay_stream.specs.Fed.{Did};
 ghost use Rattle.lay_code.specs.Out.{behind_shebang};
 ghost use Rattle.lay_code.specs.Reading.{top};
-ghost use Rattle.lay_files.specs.Readings.{FormattedAs, FormatsSource};
+ghost use Rattle.lay_code.specs.Written.{is_good_shebang};
+ghost use Rattle.lay_files.specs.Readings.{FormatsAs, FormatsSource, FormattedAs, WritesSource};
 
 use crate::keep::Keeper;
 use crate::reading::{DEPTH, FileError, placed, read_tokens};
@@ -16,13 +18,14 @@ use lay_out_tokens::HARD_BREAK;
 use lay_printer::{Core, Press, PrintError};
 use lay_read_tokens::ReadNone;
 use lay_stream::Emit;
-use lay_through::{NotPut, put_source};
+use lay_through::{NotPut, put_source, told};
 use lay_token::{List, NoMemory, Text};
 use std::alloc::Global;
 
 /// The text of the one file that the bytes read to, or their refusal and its place.
 ///
 /// What a window of tokens holds is laid out and given back before the next window is lexed. The text is kept until all was read.
+/// Where it isn't read by windows, it is read from all its tokens, which tells why there is none.
 pub fn format_bytes(alloc: Global, bytes: &[u8]) -> Result<List<u8>, FileError>
     ensures { FormattedAs top bytes.now result }
 {
@@ -31,11 +34,23 @@ pub fn format_bytes(alloc: Global, bytes: &[u8]) -> Result<List<u8>, FileError>
         Err(error) => return Err(placed(error, bytes)),
     };
     match format_source(alloc, &source) {
-        Ok(text) => return Ok(text),
-        Err(ReadNone::NoMemory) => return Err(FileError::NoMemory),
-        Err(ReadNone::NoReading) => {}
+        Ok(text) => Ok(text),
+        Err(ReadNone::NoMemory) => Err(FileError::NoMemory),
+        Err(ReadNone::NoReading) => format_tokens(alloc, source),
     }
-    let file = read_tokens(alloc, source, DEPTH)?;
+}
+
+/// The same of the text of some bytes, which is read from all its tokens.
+fn format_tokens(alloc: Global, source: Source) -> Result<List<u8>, FileError>
+    requires text { IsUtf8 source.text }
+    requires border { IsCharBoundary source.text source.start }
+    requires good { IsTrue (is_good_shebang source.shebang) }
+    ensures { FormatsAs top (seen source) result }
+{
+    let file = match read_tokens(alloc, source, DEPTH) {
+        Ok(file) => file,
+        Err(error) => return Err(error),
+    };
     match bytes_of(alloc, &file) {
         Ok(text) => Ok(text),
         Err(NoMemory) => Err(FileError::NoMemory),
@@ -46,14 +61,10 @@ pub fn format_bytes(alloc: Global, bytes: &[u8]) -> Result<List<u8>, FileError>
 fn format_source(alloc: Global, source: &Source) -> Result<List<u8>, ReadNone>
     requires text { IsUtf8 source.now.text }
     requires border { IsCharBoundary source.now.text source.now.start }
-    ensures { IfOk result (λ text. FormatsSource top source.now text) }
+    ensures { IfOk result (λ text. FormatsSource top (seen source.now) text) }
 {
-    let mut core = match Core::new(alloc) {
-        Ok(core) => core,
-        Err(NoMemory) => return Err(ReadNone::NoMemory),
-    };
     let mut keeper = Keeper::new(alloc);
-    match print_source(alloc, source, &mut Press::new(&mut core, &mut keeper)) {
+    match write_source(alloc, source, &mut keeper) {
         Ok(()) => Ok(keeper.into_list()),
         Err(NotPut::NoReading) => Err(ReadNone::NoReading),
         // A keeper fails for want of memory alone.
@@ -61,23 +72,24 @@ fn format_source(alloc: Global, source: &Source) -> Result<List<u8>, ReadNone>
     }
 }
 
-/// Prints the layout of the file that a source spells, where it is read by windows.
-fn print_source<K: Sink>(
+/// Writes the text of the file that a source spells, where it is read by windows. Else what was written says nothing.
+fn write_source<K: Sink>(
     alloc: Global,
     source: &Source,
-    press: &mut Press<'_, K>,
+    out: &mut K,
 ) -> Result<(), NotPut<PrintError>>
     requires text { IsUtf8 source.now.text }
     requires border { IsCharBoundary source.now.text source.now.start }
+    ensures { OnOk result (WritesSource top (seen source.now) (K.written out.old) (K.written out.new)) }
 {
-    if let Err(fault) = put_shebang(press, &source.shebang) {
-        return Err(NotPut::Fault(fault));
-    }
-    put_source(alloc, source, DEPTH, press)?;
-    match press.finish() {
-        Ok(()) => Ok(()),
-        Err(fault) => Err(NotPut::Fault(fault)),
-    }
+    let mut core = match Core::new(alloc) {
+        Ok(core) => core,
+        Err(NoMemory) => return Err(NotPut::NoMemory),
+    };
+    let mut press = Press::new(&mut core, out);
+    told(put_shebang(&mut press, &source.shebang))?;
+    put_source(alloc, source, DEPTH, &mut press)?;
+    told(press.finish())
 }
 
 /// The first line, if it is a shebang.
@@ -86,9 +98,14 @@ fn put_shebang<E: Emit>(out: &mut E, shebang: &Option<Text>) -> Result<(), E::Fa
 {
     match shebang {
         None => Ok(()),
-        Some(line) => {
-            out.text(line.as_bytes())?;
-            out.brk(HARD_BREAK)
-        }
+        Some(line) => put_line(out, line.as_bytes()),
     }
+}
+
+/// A text, with a newline behind it.
+fn put_line<E: Emit>(out: &mut E, line: &[u8]) -> Result<(), E::Fault>
+    ensures { Did E.meanings out.old (stream (behind_shebang (Some line.now) Empty)) result out.new }
+{
+    out.text(line)?;
+    out.brk(HARD_BREAK)
 }
