@@ -50,6 +50,20 @@ static void texts(void) {
     expect(answer.status == LAY_DONE && answer.length == 0, "both may be null");
 }
 
+/* Modules within modules, one that holds nothing, and attributes in them. */
+static void modules(void) {
+    const char *input = "mod a{#![b]mod c{fn d(){}}#[e]mod f{/**/}}struct G;";
+    const char *text = "mod a {\n    #![b]\n    mod c {\n        fn d() {}\n    }\n    #[e]\n    mod f {}\n}\nstruct G;\n";
+    size_t length = strlen(text);
+    uint8_t buffer[128];
+    memset(buffer, 0xa5, sizeof buffer);
+    lay_answer answer = format(input, buffer, sizeof buffer);
+    expect(answer.status == LAY_DONE && answer.length == length && holds(buffer, text, length, sizeof buffer), "modules");
+    memset(buffer, 0xa5, sizeof buffer);
+    expect(is_refused(format("mod a{struct B;\n mod c{struct}}", buffer, sizeof buffer), LAY_NO_ITEM, 0, 1, 1), "no item in a module");
+    expect(holds(buffer, "", 0, sizeof buffer), "what is refused late writes nothing");
+}
+
 static void refusals(void) {
     uint8_t buffer[64];
     memset(buffer, 0xa5, sizeof buffer);
@@ -116,6 +130,7 @@ static void file(const char *path, const char *wanted) {
 
 int main(int count, char **words) {
     texts();
+    modules();
     refusals();
     long_input();
     if (count == 3)

@@ -2,7 +2,7 @@
 
 use crate::each::{each_is_told, string};
 use lay_depth::file_depth;
-use lay_files::{DEPTH, FileError, read_within};
+use lay_files::{DEPTH, FileError, format_bytes, read_bytes, read_within, text_of};
 use lay_front::{format, format_into, unparse};
 use lay_given::repeated;
 use lay_io::QuietSink;
@@ -124,6 +124,54 @@ fn windows(rt: HostRuntime) -> Result<(), Fail> {
          §mod a{{⇒none§}}⇒none§mod a{{struct B}}⇒none§struct A;;⇒none§mod a{{)}}⇒none§'⇒none"
     )?;
     each_is_told(&rt, alloc, rows.as_str(), by_windows)?;
+    Ok(())
+}
+
+/// The text of a file's bytes, laid out as they are read, or why there is none and where.
+fn through(alloc: Global, given: &str) -> Result<String, NoMemory> {
+    match format_bytes(alloc, given.as_bytes()) {
+        Ok(text) => string(alloc, text.as_slice()),
+        Err(error) => Ok(format!(in alloc; "{error:?}")?),
+    }
+}
+
+/// The same through the tree of the file.
+fn by_tree(alloc: Global, given: &str) -> Result<String, NoMemory> {
+    match read_bytes(alloc, given.as_bytes()) {
+        Ok(file) => {
+            let text = text_of(alloc, &file)?;
+            string(alloc, text.as_bytes())
+        }
+        Err(error) => Ok(format!(in alloc; "{error:?}")?),
+    }
+}
+
+/// Whether the two are the same.
+fn both_ways(alloc: Global, given: &str) -> Result<String, NoMemory> {
+    let (one, other) = (through(alloc, given)?, by_tree(alloc, given)?);
+    Ok(format!(in alloc; "{}", one.as_str() == other.as_str())?)
+}
+
+// What is laid out as it is read has the text that its tree has, and is refused at the same place.
+#[test]
+fn ways(rt: HostRuntime) -> Result<(), Fail> {
+    let alloc = rt.alloc();
+    let many = repeated(alloc, b"struct A{b:[C;{1}]}mod d{}", 400)?;
+    let items = string(alloc, many.as_slice())?;
+    let rows = format!(in alloc;
+        "⇒true§#!/x\n#![a]struct A;⇒true§#![a]#![b]⇒true§//! a\n/// b\nstruct C;⇒true§mod a;⇒true§mod a{{}}⇒true\
+         §mod a{{/* b */}}mod c{{#![d]}}⇒true§mod a{{//! b\nmod c{{struct D;fn e(){{}}}}mod f{{}}}}struct G;⇒true\
+         §#[a]#[b]pub(crate)mod r#c{{#![d]#![e]use f::g;mod h{{#[i]mod j{{}}}}}}⇒true§impl A{{}}mod b{{impl C{{}}}}⇒true\
+         §{items}⇒true§mod a{{#![b]{items}mod c{{{items}}}}}{items}⇒true§fn a(){{{items}}}⇒true§{items}}}⇒true\
+         §mod a{{{items}struct⇒true§{GENERATED}⇒true§mod a{{struct B}}⇒true§struct A;#![b]⇒true§mod a{{}}}}⇒true\
+         §mod a{{⇒true§struct A;\n mod b{{fn}}⇒true§a\n\\⇒true§fn f(){{)⇒true"
+    )?;
+    each_is_told(&rt, alloc, rows.as_str(), both_ways)?;
+    let texts = format!(in alloc;
+        "{GENERATED}⇒{LAID}§mod a{{#![b]mod c{{struct D;}}mod e{{}}}}⇒mod a {{\n    #![b]\n    mod c {{\n        struct D;\n    }}\n    mod e {{}}\n}}\n\
+         §mod a{{struct}}⇒Refused {{ refusal: NoItem {{ at: 0 }}, place: Place2 {{ line: 1, column: 1 }} }}"
+    )?;
+    each_is_told(&rt, alloc, texts.as_str(), through)?;
     Ok(())
 }
 
