@@ -1,12 +1,13 @@
 -- Files: the longest run of inner attributes and items is what the tokens spell.
-use Rattle.std.proofs.Common.{◌≡◌, ℕ, ◌+◌, ◌≤◌, true, List, [], ◌∷◌, ◌++◌, length, take, drop, Option, Some, None, Err, Bor, option_copied, slice_get, refl, sym, ap, subst, ◌∙◌, IsTrue, arith, append_assoc, length-append, length-drop}
+use Rattle.std.proofs.Common.{◌≡◌, ℕ, ◌+◌, ◌≤◌, true, List, [], ◌∷◌, ◌++◌, length, take, drop, Option, Some, None, Bor, option_copied, slice_get, refl, sym, ap, subst, ◌∙◌, IsTrue, arith, append_assoc, length-append, length-drop}
 use Rattle.std.proofs.Math.Seq.{drop-append_seam}
 use Rattle.std.proofs.lemmas.List.{take-append-drop}
 use Rattle.lay_token.specs.Lexes.{Lexes}
 use Rattle.lay_token.specs.declared.token.Token.{Token}
 use Rattle.lay_form.specs.Spelled.{Spells}
 use Rattle.lay_form.proofs.FormLaws.{is_end}
-use Rattle.lay_node.specs.nodes.Attr.{about_attr, attr_form}
+use Rattle.lay_node.specs.Ahead.{Tokens}
+use Rattle.lay_node.specs.nodes.Attr.{about_attr}
 use Rattle.lay_node.specs.nodes.Facts.{Front}
 use Rattle.lay_node.specs.reader.Attr.{attribute}
 use Rattle.lay_node.specs.reader.Exact.{needless}
@@ -21,10 +22,7 @@ use Rattle.lay_code.specs.reader.File.{front}
 use Rattle.lay_code.specs.declared.file.File.{File}
 use Rattle.lay_code.specs.declared.item.Item.{Item}
 use Rattle.lay_code.proofs.reader.File.{front_sound, front_longest}
-use Rattle.lay_read_tokens.specs.Answers.{AreLexed, IsRead}
-use Rattle.lay_read_tokens.specs.declared.stop.ReadNone.{ReadNone}
-use Rattle.lay_read_tokens.specs.declared.stop.ReadNone.TheVariants.{NoReading, NoMemory}
-use Rattle.lay_read_tokens.proofs.Left.{attribute_left, left_by}
+use Rattle.lay_read_tokens.specs.Answers.{AreLexed, StandsBefore}
 use Rattle.lay_read_tokens.proofs.Lexed.{lexed_in_text, lexed_texts}
 
 module _ (depth : ℕ) (tokens : List Token) (l : AreLexed tokens) (attrs : List Attr) (items : List Item) (left : List Token)
@@ -92,33 +90,28 @@ lexed_behind n ts l = record {
   lexes = subst (λ us. Lexes l.bytes l.start us) (sym (parted l.before ts l.after n)) l.lexes;
 }
 
--- so do those behind an attribute
-pub lexed_attr : (ts : List Token) (a : Attr) (rest : List Token) → AreLexed ts → attribute true ts ≡ Some (a, rest) → AreLexed rest
-lexed_attr ts a rest l e =
-    let left = left_by 1 ts (attribute true ts) a rest (attribute_left true ts) e in
-    subst AreLexed (sym left.dropped) (lexed_behind left.count ts l)
+-- ---- inner attributes
 
--- The attribute that stands at the front is the one that is read.
-pub attr_read : (ts : List Token) (a : Attr) (left : List Token) → (n : ℕ) × (left ≡ drop n ts) × Front (about_attr true a) ts n 0
-    → attribute true ts ≡ Some (a, left)
-attr_read ts a left s =
-    attribute_complete true a 0 ts left (subst (λ (us : List Token). Spells (attr_form a) 0 ts us) (sym s.1) s.2.1, s.2.2)
+abbrev AttrFront : Attr → Tokens → ℕ → ℕ → Type 0
+AttrFront attr = Front (about_attr true attr)
 
--- Where none stands there, none is read.
-no_attr_read : (ts : List Token) → AreLexed ts → ((a : Attr) (n : ℕ) → Front (about_attr true a) ts n 0 → ⊥) → attribute true ts ≡ None
-no_attr_read ts l none = by (attribute true ts) refl
+-- The tokens behind an attribute stand in a row too.
+pub lexed_attr : (ts rest : Tokens) (attr : Attr) → AreLexed ts → StandsBefore AttrFront 0 ts attr rest → AreLexed rest
+lexed_attr ts rest attr l s = subst AreLexed (sym s.1) (lexed_behind s.0 ts l)
+
+pub attr_read : (ts rest : Tokens) (attr : Attr) → StandsBefore AttrFront 0 ts attr rest → attribute true ts ≡ Some (attr, rest)
+attr_read ts rest attr s =
+    attribute_complete true attr 0 ts rest (subst (Spells (about_attr true attr).form 0 ts) (sym s.1) s.2.1, s.2.2)
+
+pub no_attr : (ts : Tokens) → AreLexed ts → ((attr : Attr) (n : ℕ) → AttrFront attr ts n 0 → ⊥) → attribute true ts ≡ None
+no_attr ts l none = by (attribute true ts) refl
   where
-    by : (got : Got Attr) → attribute true ts ≡ got → got ≡ None
-    by None e = refl
-    by (Some x) e =
-        let read : needless (attribute true) 0 ts ≡ Some ((x.0, 0), x.1) = rw e refl in
-        let s = (attrs_exact true).sound 0 ts x.0 0 x.1 (lexed_in_text ts l) read in
-        absurd (none x.0 s.0 s.3)
-
-pub no_attr_next : (ts left : List Token) (none : ReadNone) → AreLexed ts → IsRead (λ (a : Attr). Front (about_attr true a)) ts (Err none) left
-    → none ≡ NoReading → (attribute true ts ≡ None) × (left ≡ ts)
-no_attr_next ts left NoReading l h e = (no_attr_read ts l h.1, h.0)
-no_attr_next ts left NoMemory l h e = absurd (let no : ⊥ = cc in no)
+    by : (got : Got Attr) → attribute true ts ≡ got → attribute true ts ≡ None
+    by None e = e
+    by (Some (attr, rest)) e =
+        let read : needless (attribute true) 0 ts ≡ Some ((attr, 0), rest) = rw e refl in
+        let s = (attrs_exact true).sound 0 ts attr 0 rest (lexed_in_text ts l) read in
+        absurd (none attr s.0 s.3)
 
 -- ---- the token at which the run ends
 
