@@ -1,5 +1,5 @@
 -- Files: the longest run of inner attributes and items is what the tokens spell.
-use Rattle.std.proofs.Common.{◌≡◌, ℕ, ◌+◌, ◌≤◌, true, List, [], ◌∷◌, ◌++◌, length, take, drop, Option, Some, None, Bor, option_copied, slice_get, refl, sym, ap, subst, ◌∙◌, IsTrue, arith, append_assoc, length-append, length-drop}
+use Rattle.std.proofs.Common.{◌≡◌, ℕ, ◌+◌, ◌≤◌, true, List, [], ◌∷◌, ◌++◌, length, take, drop, Option, Some, None, Err, Bor, option_copied, slice_get, refl, sym, ap, subst, ◌∙◌, IsTrue, arith, append_assoc, length-append, length-drop}
 use Rattle.std.proofs.Math.Seq.{drop-append_seam}
 use Rattle.std.proofs.lemmas.List.{take-append-drop}
 use Rattle.lay_token.specs.Lexes.{Lexes}
@@ -22,7 +22,9 @@ use Rattle.lay_code.specs.reader.File.{front}
 use Rattle.lay_code.specs.declared.file.File.{File}
 use Rattle.lay_code.specs.declared.item.Item.{Item}
 use Rattle.lay_code.proofs.reader.File.{front_sound, front_longest}
-use Rattle.lay_read_tokens.specs.Answers.{AreLexed, StandsBefore}
+use Rattle.lay_read_tokens.specs.Answers.{AreLexed, IsRead, StandsBefore}
+use Rattle.lay_read_tokens.specs.declared.stop.ReadNone.{ReadNone}
+use Rattle.lay_read_tokens.specs.declared.stop.ReadNone.TheVariants.{NoReading, NoMemory}
 use Rattle.lay_read_tokens.proofs.Lexed.{lexed_in_text, lexed_texts}
 
 module _ (depth : ℕ) (tokens : List Token) (l : AreLexed tokens) (attrs : List Attr) (items : List Item) (left : List Token)
@@ -103,7 +105,7 @@ pub attr_read : (ts rest : Tokens) (attr : Attr) → StandsBefore AttrFront 0 ts
 attr_read ts rest attr s =
     attribute_complete true attr 0 ts rest (subst (Spells (about_attr true attr).form 0 ts) (sym s.1) s.2.1, s.2.2)
 
-pub no_attr : (ts : Tokens) → AreLexed ts → ((attr : Attr) (n : ℕ) → AttrFront attr ts n 0 → ⊥) → attribute true ts ≡ None
+no_attr : (ts : Tokens) → AreLexed ts → ((attr : Attr) (n : ℕ) → AttrFront attr ts n 0 → ⊥) → attribute true ts ≡ None
 no_attr ts l none = by (attribute true ts) refl
   where
     by : (got : Got Attr) → attribute true ts ≡ got → attribute true ts ≡ None
@@ -112,6 +114,11 @@ no_attr ts l none = by (attribute true ts) refl
         let read : needless (attribute true) 0 ts ≡ Some ((attr, 0), rest) = rw e refl in
         let s = (attrs_exact true).sound 0 ts attr 0 rest (lexed_in_text ts l) read in
         absurd (none attr s.0 s.3)
+
+pub no_attr_read : (ts left : Tokens) (none : ReadNone) → none ≡ NoReading → AreLexed ts → IsRead AttrFront ts (Err none) left
+    → (attribute true ts ≡ None) × (left ≡ ts)
+no_attr_read ts left NoReading e l read = (no_attr ts l read.1, read.0)
+no_attr_read ts left NoMemory e l read = absurd (cc)
 
 -- ---- the token at which the run ends
 
