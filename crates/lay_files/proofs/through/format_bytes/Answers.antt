@@ -22,5 +22,5 @@ returns-in-Ok-format_source c =
       f.same,
     )
 
-pub returns-in-Err-NoReading : goal.returns-in-Err-NoReading-format_source
+pub returns-in-Err-NoReading : goal.returns-in-Err-NoReading
 returns-in-Err-NoReading c = c.format_tokens.ensures c.args.bytes.now c.in-Ok.ensures.answer
