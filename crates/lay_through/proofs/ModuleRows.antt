@@ -13,9 +13,9 @@ use Rattle.lay_node.specs.nodes.Fields.{blank_if}
 use Rattle.lay_node.specs.nodes.Vis.{vis_form}
 use Rattle.lay_node.specs.declared.heads.Site.TheVariants.{Module}
 use Rattle.lay_node.specs.declared.vis.Vis.{Vis}
-use Rattle.lay_code.specs.nodes.Code.{about_item, form_of_item, told_of_item}
+use Rattle.lay_code.specs.nodes.Code.{about_item, form_of_item}
 use Rattle.lay_code.specs.nodes.CodeFacts.{KindFacts}
-use Rattle.lay_code.specs.nodes.Item.{item_body, kind_form, module_head}
+use Rattle.lay_code.specs.nodes.Item.{module_head}
 use Rattle.lay_code.specs.declared.file.File.{File}
 use Rattle.lay_code.proofs.nodes.ItemLaws.{module_is}
 use Rattle.lay_out_types.specs.Rows.{further}

@@ -7,7 +7,7 @@ use Rattle.lay_stream.specs.Fed.{Meanings, Puts, Did}
 use Rattle.lay_stream.proofs.Calls.{no_call, then_puts}
 use Rattle.lay_form.specs.Form.{Form, Hard}
 use Rattle.lay_form.specs.Layout.{break_of, document}
-use Rattle.lay_form.specs.Notation.{H, each, lines}
+use Rattle.lay_form.specs.Notation.{lines}
 use Rattle.lay_form.specs.Stream.{stream_of}
 use Rattle.lay_form.proofs.StreamLaws.{stream_is}
 use Rattle.lay_code.specs.Out.{behind_shebang, layout_of_file}

@@ -1,8 +1,8 @@
-use Rattle.std.proofs.Common.{IsUtf8, rules, ◌≡◌, true, false, ◌-◌, suc, Bool, subst, arith}
+use Rattle.std.proofs.Common.{IsUtf8, rules, ◌≡◌, true, false, ◌-◌, Bool, subst, arith}
 use Rattle.std.specs.Str.{IsCharBoundary}
 use Rattle.lay_windows.specs.Windows.{IsWindow}
 use Rattle.lay_through.specs.Through.{PutsBody, is_empty_body}
-use Rattle.lay_through.proofs.Growing.{begins, border_more, border_opened, closes, empty_module_put, ends, full_module_put, goes_on, goes_on_behind, may_end}
+use Rattle.lay_through.proofs.Growing.{begins, closes, empty_module_put, ends, full_module_put, goes_on, goes_on_behind, may_end}
 use Rattle.lay_through.proofs.Rows.{all_put, told_ok}
 use Rattle.lay_through.proofs.bodies.+body.Goals as goal
 use Rattle.lay_through.proofs.bodies.+body.Goals.{put_body-in-More-None+in_ok-window-in-More-None, put_body-in-Opened-Some+in_ok-put_module-in-Opened-Some+in_ok-window-in-Opened-Some}

@@ -1,4 +1,3 @@
-use Rattle.lay_node.specs.nodes.Attr.{attr_form}
 use Rattle.lay_through.proofs.ReadParts.{attr_put, no_attrs_put}
 use Rattle.lay_through.proofs.Rows.{all_put}
 use Rattle.lay_through.proofs.parts.put_attrs.Goals as goal
