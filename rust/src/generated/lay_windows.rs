@@ -7,7 +7,7 @@
 //! What is read so is spelled by the tokens of the whole text. Where a window isn't whole items and the head of a module,
 //! nothing is read, which says nothing of the text.
 mod bodies;
-mod heads;
+pub mod heads;
 mod parts;
-mod window;
+pub mod window;
 pub use bodies::read_source;

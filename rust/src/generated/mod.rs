@@ -42,6 +42,7 @@ pub mod lay_same_nodes;
 pub mod lay_sample;
 pub mod lay_stream;
 pub mod lay_text;
+pub mod lay_through;
 pub mod lay_token;
 pub mod lay_tree;
 pub mod lay_windows;

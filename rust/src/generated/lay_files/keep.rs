@@ -1,27 +1,29 @@
 //! Made by scripts/rust.sh from crates/lay_files/src/keep.rt, which is proved: change that.
 //!
-//! A sink that keeps what is written as one text.
+//! A sink that keeps what is written.
+use crate::shims::Vec;
 use crate::generated::lay_io::{Failed, Sink};
-use crate::generated::lay_token::Text;
+use crate::generated::lay_token::List;
 use crate::shims::Global;
 /// A sink that keeps what is written. A write for which no memory is found keeps nothing, and fails.
 pub(crate) struct Keeper {
-    text: Text,
+    bytes: Vec<u8>,
     faults: u64,
 }
 impl Keeper {
     /// Nothing is written yet. It takes no memory.
     pub(crate) fn new(alloc: Global) -> Keeper {
-        Keeper { text: Text::new(alloc), faults: 0 }
+        Keeper { bytes: Vec::new(alloc), faults: 0 }
     }
     /// What was written.
-    pub(crate) fn into_text(self) -> Text {
-        self.text
+    pub(crate) fn into_list(self) -> List<u8> {
+        List::from_vec(self.bytes)
     }
 }
 impl Sink for Keeper {
+    #[inline]
     fn write(&mut self, piece: &[u8]) -> Result<(), Failed> {
-        if self.text.push_bytes(piece).is_err() {
+        if self.bytes.extend_from_slice(piece).is_err() {
             self.faults = self.faults.saturating_add(1);
             return Err(Failed);
         }

@@ -2,7 +2,7 @@
 //!
 //! From bytes to the tree of a file.
 use crate::generated::lay_code::File;
-use crate::generated::lay_lex::{lex, normalise};
+use crate::generated::lay_lex::{Source, lex, normalise};
 use crate::generated::lay_nest::nest;
 use crate::generated::lay_read_tokens::ReadNone;
 use crate::generated::lay_token::{FormatError, Place2, Refusal, place_of};
@@ -45,6 +45,14 @@ pub fn read_within(alloc: Global, bytes: &[u8], depth: u32) -> Result<File, File
         Err(ReadNone::NoMemory) => return Err(FileError::NoMemory),
         Err(ReadNone::NoReading) => {}
     }
+    read_tokens(alloc, source, depth)
+}
+/// The same of the text of some bytes, which is read from all its tokens.
+pub(crate) fn read_tokens(
+    alloc: Global,
+    source: Source,
+    depth: u32,
+) -> Result<File, FileError> {
     let tokens = match lex(alloc, &source) {
         Ok(tokens) => tokens,
         Err(error) => return Err(placed(error, source.text.as_slice())),
@@ -64,7 +72,7 @@ pub fn read_within(alloc: Global, bytes: &[u8], depth: u32) -> Result<File, File
     }
 }
 /// The error with the place of its refusal, which is counted in this text.
-fn placed(error: FormatError, text: &[u8]) -> FileError {
+pub(crate) fn placed(error: FormatError, text: &[u8]) -> FileError {
     match error {
         FormatError::Refused(refusal) => {
             FileError::Refused { refusal, place: place_of(text, number(refusal)) }

@@ -6,13 +6,18 @@ use crate::generated::lay_code::File;
 use crate::generated::lay_io::Sink;
 use crate::generated::lay_out_code::put_file;
 use crate::generated::lay_printer::{Core, Press, PrintError};
-use crate::generated::lay_token::{NoMemory, Text};
+use crate::generated::lay_token::{List, NoMemory, Text};
 use crate::shims::Global;
 /// The text of a file.
 pub fn text_of(alloc: Global, file: &File) -> Result<Text, NoMemory> {
+    let bytes = bytes_of(alloc, file)?;
+    Text::from_bytes(alloc, bytes.as_slice())
+}
+/// The text of a file, as a list of its bytes.
+pub fn bytes_of(alloc: Global, file: &File) -> Result<List<u8>, NoMemory> {
     let mut keeper = Keeper::new(alloc);
     match write_file(alloc, file, &mut keeper) {
-        Ok(()) => Ok(keeper.into_text()),
+        Ok(()) => Ok(keeper.into_list()),
         Err(PrintError::WriteFailed | PrintError::NoMemory) => Err(NoMemory),
     }
 }

@@ -1,5 +1,5 @@
 -- The press is over the core and the sink that came in, and what comes back is the sink that was written.
-use Rattle.std.proofs.Common.{rules, ◌≡◌, ℕ, List, get_or, ap, ◌∙◌, refl}
+use Rattle.std.proofs.Common.{rules, ◌≡◌, ℕ, List, get_or, ap, ◌∙◌}
 use Rattle.lay_layout.proofs.Whole.{closed_stream}
 use Rattle.lay_stream.proofs.Calls.{then_puts}
 use Rattle.lay_printer.specs.Printers.{lent_core, press_loans, press_meanings}

@@ -1,0 +1,75 @@
+//! Made by scripts/rust.sh from crates/lay_files/src/through.rt, which is proved: change that.
+//!
+//! From bytes to the text of their file, where no tree of the file stands in memory.
+use crate::generated::lay_files::keep::Keeper;
+use crate::generated::lay_files::reading::{DEPTH, FileError, placed, read_tokens};
+use crate::generated::lay_files::writing::bytes_of;
+use crate::generated::lay_io::Sink;
+use crate::generated::lay_lex::{Source, normalise};
+use crate::generated::lay_out_tokens::HARD_BREAK;
+use crate::generated::lay_printer::{Core, Press, PrintError};
+use crate::generated::lay_read_tokens::ReadNone;
+use crate::generated::lay_stream::Emit;
+use crate::generated::lay_through::{NotPut, put_source, told};
+use crate::generated::lay_token::{List, NoMemory, Text};
+use crate::shims::Global;
+/// The text of the one file that the bytes read to, or their refusal and its place.
+///
+/// What a window of tokens holds is laid out and given back before the next window is lexed. The text is kept until all was read.
+/// Where it isn't read by windows, it is read from all its tokens, which tells why there is none.
+pub fn format_bytes(alloc: Global, bytes: &[u8]) -> Result<List<u8>, FileError> {
+    let source = match normalise(alloc, bytes) {
+        Ok(source) => source,
+        Err(error) => return Err(placed(error, bytes)),
+    };
+    match format_source(alloc, &source) {
+        Ok(text) => Ok(text),
+        Err(ReadNone::NoMemory) => Err(FileError::NoMemory),
+        Err(ReadNone::NoReading) => format_tokens(alloc, source),
+    }
+}
+/// The same of the text of some bytes, which is read from all its tokens.
+fn format_tokens(alloc: Global, source: Source) -> Result<List<u8>, FileError> {
+    let file = match read_tokens(alloc, source, DEPTH) {
+        Ok(file) => file,
+        Err(error) => return Err(error),
+    };
+    match bytes_of(alloc, &file) {
+        Ok(text) => Ok(text),
+        Err(NoMemory) => Err(FileError::NoMemory),
+    }
+}
+/// The text of the file that a source spells, where it is read by windows.
+fn format_source(alloc: Global, source: &Source) -> Result<List<u8>, ReadNone> {
+    let mut keeper = Keeper::new(alloc);
+    match write_source(alloc, source, &mut keeper) {
+        Ok(()) => Ok(keeper.into_list()),
+        Err(NotPut::NoReading) => Err(ReadNone::NoReading),
+        Err(NotPut::NoMemory | NotPut::Fault(_)) => Err(ReadNone::NoMemory),
+    }
+}
+/// Writes the text of the file that a source spells, where it is read by windows. Else what was written says nothing.
+fn write_source<
+    K: Sink,
+>(alloc: Global, source: &Source, out: &mut K) -> Result<(), NotPut<PrintError>> {
+    let mut core = match Core::new(alloc) {
+        Ok(core) => core,
+        Err(NoMemory) => return Err(NotPut::NoMemory),
+    };
+    let mut press = Press::new(&mut core, out);
+    told(put_shebang(&mut press, &source.shebang))?;
+    put_source(alloc, source, DEPTH, &mut press)?;
+    told(press.finish())
+}
+/// The first line, if it is a shebang.
+fn put_shebang<E: Emit>(out: &mut E, shebang: &Option<Text>) -> Result<(), E::Fault> {
+    match shebang {
+        None => Ok(()),
+        Some(line) => put_line(out, line.as_bytes()),
+    }
+}
+/// A text, with a newline behind it.
+fn put_line<E: Emit>(out: &mut E, line: &[u8]) -> Result<(), E::Fault> {
+    out.text(line)?;
+    out.brk(HARD_BREAK)
+}
