@@ -70,21 +70,21 @@ fn are_balanced(alloc: Global, tokens: &[Listed]) -> Result<bool, NoMemory>
 
 /// Opens what a token opens, or closes what it closes, where these delimiters are open before it, the last one last. Answers
 /// whether it may stand there.
-fn turn(open: &mut Vec<Delim>, token: &Listed) -> Result<bool, NoMemory>
-    ensures { IfOk result (λ passes. turned (kind_of token.now) (reverse open.old.items) ≡ (if passes then Some (reverse open.new.items) else None)) }
+fn turn(opened: &mut Vec<Delim>, token: &Listed) -> Result<bool, NoMemory>
+    ensures { IfOk result (λ passes. turned (kind_of token.now) (reverse opened.old.items) ≡ (if passes then Some (reverse opened.new.items) else None)) }
 {
     match token {
         Listed::Token {
             kind: Kind::Opener(delim),
             ..
         } => {
-            open.push(*delim)?;
+            opened.push(*delim)?;
             Ok(true)
         }
         Listed::Token {
             kind: Kind::Closer(delim),
             ..
-        } => Ok(open.pop() == Some(*delim)),
+        } => Ok(opened.pop() == Some(*delim)),
         _ => Ok(true),
     }
 }
