@@ -5,6 +5,7 @@ pub mod CodeFacts
 pub mod Ends
 pub mod Parts
 pub mod Exprs
+pub mod Conditions
 pub mod Blocks
 pub mod Item
 pub mod Code

@@ -16,7 +16,7 @@ use Rattle.lay_node.specs.declared.patterns.PatPlace.TheVariants.{Alternatives, 
 use Rattle.lay_node.specs.declared.types.Ty.{Ty}
 use Rattle.lay_code.specs.nodes.CodeFacts.{ArmFacts, BlockFacts, BranchFacts, ItemFacts, KindFacts, StmtFacts}
 use Rattle.lay_code.specs.nodes.Ends.{ends_in_brace}
-use Rattle.lay_code.specs.nodes.Exprs.{ExprFacts, StepFacts, value_form, value_placed, placed, BodyKind, MacroBody, BlockBody, OtherBody, is_macro, condition_form, condition_good}
+use Rattle.lay_code.specs.nodes.Exprs.{ExprFacts, StepFacts, value_form, value_placed, placed, BodyKind, MacroBody, BlockBody, OtherBody, is_macro}
 use Rattle.lay_code.specs.nodes.Places.{FREE, plain, statement}
 use Rattle.lay_code.specs.declared.blocks.Stmt.TheOpen.{Arm-F, Block-F, Branch-F, Stmt-F}
 
@@ -136,9 +136,9 @@ block_facts b = record {
 
 abbrev pub branch_facts : Branch-F StmtFacts ExprFacts Facts StepFacts KindFacts ArmFacts BlockFacts BranchFacts ItemFacts → BranchFacts
 branch_facts b = record {
-  condition = condition_form b.pat b.condition;
+  condition = b.condition.form;
   soft = b.body.soft;
-  good = condition_good b.pat b.condition && b.body.good;
+  good = b.condition.good && b.body.good;
 }
 
 abbrev pub braces_of : BodyKind → Braces

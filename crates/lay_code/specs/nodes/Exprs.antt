@@ -361,12 +361,6 @@ abbrev pub labelled : Option Lifetime → Form → Form
 labelled None f = f
 labelled (Some l) f = Part (lifetime_form l) (Piece colon (Part f Done))
 
--- a condition, or a pattern and what it is matched with
-abbrev pub condition_form : Option Pat → ExprFacts → Form
-condition_form None x = x.form
-condition_form (Some pat) x =
-    Piece (keyword (codes "let") ∷ Blank ∷ []) (Part (pat_form Alternatives (about_pat pat)) (Piece equals (Part x.form Done)))
-
 abbrev pub branch_head : BranchFacts → Form
 branch_head b = Piece (keyword (codes "if") ∷ Blank ∷ []) (Part b.condition Done)
 
@@ -442,8 +436,8 @@ inside (Expr-F.If branches otherwise) = branches_form branches (else_branch_form
 inside (Expr-F.Match x attrs arms) =
     I0 (Piece (keyword (codes "match") ∷ Blank ∷ []) (Part x.form Done)) (body (Blank ∷ []) [] (map attr_form attrs ++ arm_forms arms))
 inside (Expr-F.Loop label b) = labelled label (Piece (keyword (codes "loop") ∷ []) (Part (b.form true) Done))
-inside (Expr-F.While label pat x b) =
-    labelled label (I0 (Piece (keyword (codes "while") ∷ Blank ∷ []) (Part (condition_form pat x) Done)) (Part (b.form true) Done))
+inside (Expr-F.While label c b) =
+    labelled label (I0 (Piece (keyword (codes "while") ∷ Blank ∷ []) (Part c.form Done)) (Part (b.form true) Done))
 inside (Expr-F.For label pat x b) = labelled label
     (I0 (Piece (keyword (codes "for") ∷ Blank ∷ []) (Part (pat_form Alternatives (about_pat pat)) (Piece (Blank ∷ keyword (codes "in") ∷ Blank ∷ []) (Part x.form Done))))
     (Part (b.form true) Done))
@@ -512,7 +506,7 @@ lead_of (Expr-F.Async moves b) = ByBlockWord
 lead_of (Expr-F.If branches otherwise) = ByBlockWord
 lead_of (Expr-F.Match x attrs arms) = ByBlockWord
 lead_of (Expr-F.Loop label b) = label_or ByBlockWord label
-lead_of (Expr-F.While label pat x b) = label_or ByBlockWord label
+lead_of (Expr-F.While label c b) = label_or ByBlockWord label
 lead_of (Expr-F.For label pat x b) = label_or ByBlockWord label
 lead_of (Expr-F.Closure is_async moves params x) = ByClosure
 lead_of (Expr-F.TypedClosure is_async moves params output b) = ByClosure
@@ -607,7 +601,7 @@ is_block_like (Expr-F.ConstBlock b) = true
 is_block_like (Expr-F.If branches otherwise) = true
 is_block_like (Expr-F.Match x attrs arms) = true
 is_block_like (Expr-F.Loop label b) = true
-is_block_like (Expr-F.While label pat x b) = true
+is_block_like (Expr-F.While label c b) = true
 is_block_like (Expr-F.For label pat x b) = true
 is_block_like _ = false
 
@@ -699,11 +693,6 @@ postfix_placed x steps no_struct first =
 abbrev pub types_good : List TypeFacts → Bool
 types_good xs = list_all (good_at NoBounds) xs
 
--- Behind `let` and a pattern, what it is matched with is of level 4 at least.
-abbrev pub condition_good : Option Pat → ExprFacts → Bool
-condition_good None x = placed x (plain 0 true)
-condition_good (Some pat) x = pat_good Alternatives (about_pat pat) && placed x (plain 4 true)
-
 abbrev pub branches_good : List BranchFacts → Bool
 branches_good branches = list_all (λ (b : BranchFacts). b.good) branches
 
@@ -740,7 +729,7 @@ within_of (Expr-F.Async moves b) no_struct first = b.good
 within_of (Expr-F.If branches otherwise) no_struct first = is_there branches && branches_good branches && may_be_good otherwise
 within_of (Expr-F.Match x attrs arms) no_struct first = placed x (plain 0 true) && are_attrs true attrs && arms_good arms
 within_of (Expr-F.Loop label b) no_struct first = b.good
-within_of (Expr-F.While label pat x b) no_struct first = condition_good pat x && b.good
+within_of (Expr-F.While label c b) no_struct first = c.good && b.good
 within_of (Expr-F.For label pat x b) no_struct first = pat_good Alternatives (about_pat pat) && placed x (plain 0 true) && b.good
 within_of (Expr-F.Closure is_async moves params x) no_struct first = list_all is_closure_param params && placed x (plain 0 no_struct)
 within_of (Expr-F.TypedClosure is_async moves params output b) no_struct first = list_all is_closure_param params && good_at NoBounds (about_type output) && b.good
