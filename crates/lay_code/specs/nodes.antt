@@ -3,6 +3,7 @@ pub mod Places
 pub mod PlacesTable
 pub mod CodeFacts
 pub mod Ends
+pub mod Layers
 pub mod Parts
 pub mod Exprs
 pub mod Conditions

@@ -8,10 +8,9 @@ use Rattle.lay_node.specs.nodes.Types.{equals}
 use Rattle.lay_node.specs.declared.patterns.Pat.{Pat}
 use Rattle.lay_node.specs.declared.patterns.PatPlace.TheVariants.{Alternatives}
 use Rattle.lay_code.specs.nodes.CodeFacts.{ConditionFacts, LinkFacts}
-use Rattle.lay_code.specs.nodes.Exprs.{ExprFacts, placed}
-use Rattle.lay_code.specs.nodes.Layers.{ConditionLayer, LinkLayer}
+use Rattle.lay_code.specs.nodes.Exprs.{ConditionLayer, ExprFacts, LinkLayer, placed}
 use Rattle.lay_code.specs.nodes.Places.{link_place, plain}
-use Rattle.lay_code.specs.declared.blocks.Stmt.TheOpen.{Condition-F, Link-F}
+use Rattle.lay_code.specs.declared.blocks.Stmt.TheOpen.{Link-F}
 
 -- ---- links
 

@@ -31,14 +31,12 @@ use Rattle.lay_node.specs.declared.types.PathStyle.TheVariants.{Code}
 use Rattle.lay_node.specs.declared.types.TypePlace.TheVariants.{NoBounds}
 use Rattle.lay_code.specs.Operands.{ExprLead, ByLiteral, ByPath, ByUnderscore, ByLabel, ByParen, ByBracket, ByBrace, ByPrefix, ByRange, ByContinue, ByBreak, ByReturn, begins_operand, ByBlockWord, ByClosure}
 use Rattle.lay_code.specs.Operators.{op_text, op_level, is_angle_op, is_dot_or_try, strength}
-use Rattle.lay_code.specs.nodes.CodeFacts.{ArmFacts, BlockFacts, BranchFacts, ItemFacts, KindFacts, StmtFacts}
+use Rattle.lay_code.specs.nodes.CodeFacts.{ArmFacts, BlockFacts, BranchFacts, ConditionFacts, ItemFacts, KindFacts, LinkFacts, StmtFacts}
 use Rattle.lay_code.specs.nodes.Places.{plain, FREE, begins, is_whole, is_part, before_op}
 use Rattle.lay_code.specs.declared.exprs.ClosureParam.{ClosureParam}
 use Rattle.lay_code.specs.declared.exprs.Expr.{Expr}
-use Rattle.lay_code.specs.declared.blocks.Stmt.TheOpen.{Expr-F, FieldExpr-F, Step-F}
-use Rattle.lay_code.specs.declared.exprs.FieldExpr.{FieldExpr}
+use Rattle.lay_code.specs.declared.blocks.Stmt.TheOpen.{Arm-F, Block-F, Branch-F, Condition-F, Expr-F, FieldExpr-F, Item-F, ItemKind-F, Link-F, Step-F, Stmt-F}
 use Rattle.lay_code.specs.declared.exprs.Place.{Place}
-use Rattle.lay_code.specs.declared.exprs.Step.{Step}
 use Rattle.lay_code.specs.declared.operators.Op.{Op}
 use Rattle.lay_code.specs.declared.operators.Prefix.{Prefix}
 use Rattle.lay_code.specs.declared.operators.Prefix.TheVariants as before
@@ -184,8 +182,46 @@ pub record StepFacts : Type 0 where
   pub form : Form
   pub good : Bool
 
+-- ---- layers
+
+-- what stands in a node, where this is told of the nodes within it
+abbrev pub Layer : (Type 0 → Type 0 → Type 0 → Type 0 → Type 0 → Type 0 → Type 0 → Type 0 → Type 0 → Type 0 → Type 0 → Type 0) → Type 0
+Layer F = F StmtFacts LinkFacts ExprFacts Facts StepFacts KindFacts ArmFacts BlockFacts BranchFacts ConditionFacts ItemFacts
+
+abbrev pub StmtLayer : Type 0
+StmtLayer = Layer Stmt-F
+
 abbrev pub ExprLayer : Type 0
-ExprLayer = Expr-F StmtFacts ExprFacts Facts StepFacts KindFacts ArmFacts BlockFacts BranchFacts ItemFacts
+ExprLayer = Layer Expr-F
+
+abbrev pub FieldLayer : Type 0
+FieldLayer = Layer FieldExpr-F
+
+abbrev pub StepLayer : Type 0
+StepLayer = Layer Step-F
+
+abbrev pub KindLayer : Type 0
+KindLayer = Layer ItemKind-F
+
+abbrev pub ArmLayer : Type 0
+ArmLayer = Layer Arm-F
+
+abbrev pub BlockLayer : Type 0
+BlockLayer = Layer Block-F
+
+abbrev pub BranchLayer : Type 0
+BranchLayer = Layer Branch-F
+
+abbrev pub ConditionLayer : Type 0
+ConditionLayer = Layer Condition-F
+
+abbrev pub LinkLayer : Type 0
+LinkLayer = Layer Link-F
+
+abbrev pub ItemLayer : Type 0
+ItemLayer = Layer Item-F
+
+-- ---- which step it is, and what is told of each
 
 abbrev pub is_field : StepKind → Bool
 is_field OfField = true
@@ -221,7 +257,7 @@ are_generics (Some args) = all_good (map about_arg args)
 abbrev pub args_form : List ExprFacts → Form
 args_form xs = comma_list true (opener Paren) (closer Paren) (expr_forms xs)
 
-abbrev pub step_facts : Step-F StmtFacts ExprFacts Facts StepFacts KindFacts ArmFacts BlockFacts BranchFacts ItemFacts → StepFacts
+abbrev pub step_facts : StepLayer → StepFacts
 step_facts (Step-F.Field name) = record {
   kind = OfField;
   form = Piece (Operator (codes ".") ∷ []) (leaf_of name.raw name.text Done);
@@ -286,7 +322,7 @@ postfix_form base steps = group_if (nat_le 2 (methods steps)) (Part base.form (s
 
 -- ---- fields of struct literals
 
-abbrev pub field_facts : FieldExpr-F StmtFacts ExprFacts Facts StepFacts KindFacts ArmFacts BlockFacts BranchFacts ItemFacts → Facts
+abbrev pub field_facts : FieldLayer → Facts
 field_facts (FieldExpr-F.Named attrs name x) = record {
   form = behind_attrs (map attr_form attrs) (leaf_of name.raw name.text (Piece colon (Part x.form Done)));
   good = are_attrs false attrs && is_name name.raw name.text && placed x FREE;

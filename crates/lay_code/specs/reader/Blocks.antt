@@ -15,7 +15,7 @@ use Rattle.lay_node.specs.declared.patterns.PatPlace.TheVariants.{Alternatives, 
 use Rattle.lay_node.specs.declared.types.TypePlace.TheVariants.{Bounds}
 use Rattle.lay_code.specs.nodes.Blocks.{is_free, is_lone_body, precedes_else}
 use Rattle.lay_code.specs.nodes.Code.{about_expr, about_stmt, told_of_item}
-use Rattle.lay_code.specs.nodes.Exprs.{ExprFacts}
+use Rattle.lay_code.specs.nodes.Layers.{ExprNode, StmtNode}
 use Rattle.lay_code.specs.nodes.Places.{FREE, plain, statement}
 use Rattle.lay_code.specs.reader.Conditions.{condition_by}
 use Rattle.lay_code.specs.reader.ItemLeads.{begins_rules, begins_union}
@@ -28,10 +28,7 @@ use Rattle.lay_code.specs.declared.blocks.Stmt.TheOpen.{Expr-F, Stmt-F}
 use Rattle.lay_code.specs.declared.blocks.Stmt.TheVariants as stmt
 use Rattle.lay_code.specs.declared.blocks.Stmt.TheViews.{out-Expr, out-Stmt}
 use Rattle.lay_code.specs.declared.exprs.Expr.{Expr}
-use Rattle.lay_code.specs.declared.exprs.FieldExpr.{FieldExpr}
-use Rattle.lay_code.specs.declared.exprs.Step.{Step}
 use Rattle.lay_code.specs.declared.item.Item.{Item}
-use Rattle.lay_code.specs.declared.item.ItemKind.{ItemKind}
 
 -- ---- statements
 
@@ -120,7 +117,7 @@ branch_by within ts = do
 
 -- ---- arms
 
-abbrev pub bare_by : (Expr → Expr) → Expr → Stmt-F Stmt Expr FieldExpr Step ItemKind Arm Block Branch Item → Expr
+abbrev pub bare_by : (Expr → Expr) → Expr → StmtNode → Expr
 bare_by undress x (Stmt-F.Expr attrs y ended) = undress y
 bare_by undress x _ = x
 
@@ -128,7 +125,7 @@ abbrev pub held_by : (Expr → Expr) → Expr → List Stmt → Expr
 held_by undress x (s ∷ []) = bare_by undress x (out-Stmt s)
 held_by undress x _ = x
 
-abbrev pub block_held : (Expr → Expr) → Expr → Expr-F Stmt Expr FieldExpr Step ItemKind Arm Block Branch Item → Expr
+abbrev pub block_held : (Expr → Expr) → Expr → ExprNode → Expr
 block_held undress x (Expr-F.Block label b) = held_by undress x b.stmts
 block_held undress x _ = x
 
