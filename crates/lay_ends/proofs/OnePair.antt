@@ -22,7 +22,7 @@ first_layers [] = zero
 first_layers (n ∷ more) = n
 
 abbrev stmt_layers : Stmt-F ℕ ℕ ℕ ℕ ℕ ℕ ℕ ℕ ℕ ℕ ℕ → ℕ
-stmt_layers (Stmt-F.Expr attrs x ended) = x
+stmt_layers (Stmt-F.Stmt::Expr attrs x ended) = x
 stmt_layers _ = zero
 
 abbrev block_layers : Block-F ℕ ℕ ℕ ℕ ℕ ℕ ℕ ℕ ℕ ℕ ℕ → ℕ
@@ -79,8 +79,8 @@ in_stmts b =
 in_stmt : (x : Expr) → layers_of_stmt (stmt.Expr [] x false) ≡ layers x
 unfolding layers layers_of_block layers_of_stmt
 in_stmt x =
-    ap layers_of_stmt (sym (views.rolls-Expr [] x false))
-    ∙ fold-roll-Stmt ℕ ℕ ℕ ℕ ℕ ℕ ℕ ℕ ℕ ℕ ℕ stmt_layers link_layers expr_layers field_layers step_layers kind_layers arm_layers block_layers branch_layers condition_layers item_layers (Stmt-F.Expr [] x false)
+    ap layers_of_stmt (sym (views.rolls-Stmt::Expr [] x false))
+    ∙ fold-roll-Stmt ℕ ℕ ℕ ℕ ℕ ℕ ℕ ℕ ℕ ℕ ℕ stmt_layers link_layers expr_layers field_layers step_layers kind_layers arm_layers block_layers branch_layers condition_layers item_layers (Stmt-F.Stmt::Expr [] x false)
 
 -- A block of one expression is a layer more.
 pub one_layer : (x : Expr) → layers (alone x) ≡ suc (layers x)
@@ -93,13 +93,13 @@ pub one_turn : (n : ℕ) (x : Expr) → is_lone_body (about_expr (alone x)).kind
 unfolding undressed
 one_turn n x h =
     rw h (ap (block_held (undressed n) (alone x)) (views.outs-Block None (alone_block x))
-    ∙ ap (bare_by (undressed n) (alone x)) (views.outs-Expr [] x false))
+    ∙ ap (bare_by (undressed n) (alone x)) (views.outs-Stmt::Expr [] x false))
 
 pub block_alone : (x : Expr) → block_of (alone x) ≡ Some (alone_block x)
 block_alone x = rw (views.outs-Block None (alone_block x)) refl
 
 pub expr_alone : (x : Expr) → expr_of (stmt.Expr [] x false) ≡ Some x
-expr_alone x = rw (views.outs-Expr [] x false) refl
+expr_alone x = rw (views.outs-Stmt::Expr [] x false) refl
 
 pub around : (x : Expr) → is_lone_body (about_expr x).kind ≡ true → (y : Expr) × (x ≡ alone y)
 around x h = by x (is_alone x h)

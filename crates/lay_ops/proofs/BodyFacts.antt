@@ -93,28 +93,28 @@ lone_body_is x = ap is_lone_body (kind_is x) ∙ lone_body_by (views.out-Expr x)
 
 -- another statement may stand behind it
 abbrev pub ends_in : StmtNode → Bool
-ends_in (Stmt-F.Expr attrs x ended) = ended || (about_expr x).block_like
+ends_in (Stmt-F.Stmt::Expr attrs x ended) = ended || (about_expr x).block_like
 ends_in _ = true
 
 pub ends_is : (s : Stmt) → (about_stmt s).ends ≡ ends_in (views.out-Stmt s)
 ends_is s = by s (blocks.stmt_view s)
   where
     by : (s : Stmt) → blocks.StmtView s → (about_stmt s).ends ≡ ends_in (views.out-Stmt s)
-    by _ (blocks.IsLet attrs pat ty value otherwise) = rw (blocks.stmt_let_is attrs pat ty value otherwise, views.outs-Let attrs pat ty value otherwise) refl
+    by _ (blocks.IsLet attrs pat ty value otherwise) = rw (blocks.stmt_let_is attrs pat ty value otherwise, views.outs-Stmt::Let attrs pat ty value otherwise) refl
     by _ (blocks.IsItem item) = rw (blocks.stmt_item_is item, views.outs-Item item) refl
-    by _ (blocks.IsExpr attrs x ended) = rw (blocks.stmt_expr_is attrs x ended, views.outs-Expr attrs x ended) refl
+    by _ (blocks.IsExpr attrs x ended) = rw (blocks.stmt_expr_is attrs x ended, views.outs-Stmt::Expr attrs x ended) refl
 
 abbrev pub lone_stmt_in : StmtNode → Bool
-lone_stmt_in (Stmt-F.Expr attrs x ended) = (is_plain attrs && not ended) && not (is_macro (about_expr x).kind)
+lone_stmt_in (Stmt-F.Stmt::Expr attrs x ended) = (is_plain attrs && not ended) && not (is_macro (about_expr x).kind)
 lone_stmt_in _ = false
 
 pub lone_stmt_is : (s : Stmt) → ((about_stmt s).bare && not (about_stmt s).call) ≡ lone_stmt_in (views.out-Stmt s)
 lone_stmt_is s = by s (blocks.stmt_view s)
   where
     by : (s : Stmt) → blocks.StmtView s → ((about_stmt s).bare && not (about_stmt s).call) ≡ lone_stmt_in (views.out-Stmt s)
-    by _ (blocks.IsLet attrs pat ty value otherwise) = rw (blocks.stmt_let_is attrs pat ty value otherwise, views.outs-Let attrs pat ty value otherwise) refl
+    by _ (blocks.IsLet attrs pat ty value otherwise) = rw (blocks.stmt_let_is attrs pat ty value otherwise, views.outs-Stmt::Let attrs pat ty value otherwise) refl
     by _ (blocks.IsItem item) = rw (blocks.stmt_item_is item, views.outs-Item item) refl
-    by _ (blocks.IsExpr attrs x ended) = rw (blocks.stmt_expr_is attrs x ended, views.outs-Expr attrs x ended) refl
+    by _ (blocks.IsExpr attrs x ended) = rw (blocks.stmt_expr_is attrs x ended, views.outs-Stmt::Expr attrs x ended) refl
 
 -- ---- blocks
 
