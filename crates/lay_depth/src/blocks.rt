@@ -66,8 +66,7 @@ pub(crate) fn branches_depth(branches: &[Branch]) -> u32
 {
     let mut most = 0u32;
     for branch in branches {
-        let head = condition_depth(&branch.condition);
-        most = most.max(head.max(block_depth(&branch.body)));
+        most = most.max(condition_depth(&branch.condition).max(block_depth(&branch.body)));
     }
     most
 }
