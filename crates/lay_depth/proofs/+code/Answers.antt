@@ -115,7 +115,7 @@ pub exprs::expr_depth-returns-in-For : goal.exprs::expr_depth-returns-in-For
 exprs::expr_depth-returns-in-For g c =
     let m = of.for_is c.args.expr.now c.in-For.label c.in-For.pat c.in-For.iterated c.in-For.body c.in-For.is in
     let n = rw c.get-in-For.ensures at c.expr_depth-in-For.ensures in
-    omega (arith, m, n, c.pat_depth.ensures, c.max-head-in-For.ensures, c.block_depth-in-For.ensures, c.max-in-For.ensures, c.deeper-in-For.ensures)
+    omega (arith, m, n, c.pat_depth.ensures, c.max-head.ensures, c.block_depth-in-For.ensures, c.max-in-For.ensures, c.deeper-in-For.ensures)
 
 pub exprs::expr_depth-returns-in-Closure : goal.exprs::expr_depth-returns-in-Closure
 exprs::expr_depth-returns-in-Closure g c =
