@@ -30,36 +30,36 @@ pub data StmtView : Stmt → Type 0 where
   IsExpr : (attrs : List Attr) (x : Expr) (ended : Bool) → StmtView (stmt.Expr attrs x ended)
 
 stmt_layer : (layer : StmtNode) → StmtView (views.roll-Stmt layer)
-stmt_layer (Stmt-F.Let attrs pat ty value otherwise) = subst StmtView (sym (views.rolls-Let attrs pat ty value otherwise)) (IsLet attrs pat ty value otherwise)
+stmt_layer (Stmt-F.Stmt::Let attrs pat ty value otherwise) = subst StmtView (sym (views.rolls-Stmt::Let attrs pat ty value otherwise)) (IsLet attrs pat ty value otherwise)
 stmt_layer (Stmt-F.Item item) = subst StmtView (sym (views.rolls-Item item)) (IsItem item)
-stmt_layer (Stmt-F.Expr attrs x ended) = subst StmtView (sym (views.rolls-Expr attrs x ended)) (IsExpr attrs x ended)
+stmt_layer (Stmt-F.Stmt::Expr attrs x ended) = subst StmtView (sym (views.rolls-Stmt::Expr attrs x ended)) (IsExpr attrs x ended)
 
 pub stmt_view : (x : Stmt) → StmtView x
 stmt_view x = subst StmtView (views.roll-out-Stmt x) (stmt_layer (views.out-Stmt x))
 
-pub stmt_let_is : (attrs : List Attr) (pat : Pat) (ty : Option Ty) (value : Option Expr) (otherwise : Option Block) → about_stmt (stmt.Let attrs pat ty value otherwise) ≡ stmt_facts (Stmt-F.Let attrs pat ty (option_map about_expr value) (option_map about_block otherwise))
+pub stmt_let_is : (attrs : List Attr) (pat : Pat) (ty : Option Ty) (value : Option Expr) (otherwise : Option Block) → about_stmt (stmt.Let attrs pat ty value otherwise) ≡ stmt_facts (Stmt-F.Stmt::Let attrs pat ty (option_map about_expr value) (option_map about_block otherwise))
 stmt_let_is attrs pat ty None None =
-    ap about_stmt (sym (views.rolls-Let attrs pat ty None None))
-    ∙ stmt_is (Stmt-F.Let attrs pat ty None None)
+    ap about_stmt (sym (views.rolls-Stmt::Let attrs pat ty None None))
+    ∙ stmt_is (Stmt-F.Stmt::Let attrs pat ty None None)
 stmt_let_is attrs pat ty None (Some x1) =
-    ap about_stmt (sym (views.rolls-Let attrs pat ty None (Some x1)))
-    ∙ stmt_is (Stmt-F.Let attrs pat ty None (Some x1))
+    ap about_stmt (sym (views.rolls-Stmt::Let attrs pat ty None (Some x1)))
+    ∙ stmt_is (Stmt-F.Stmt::Let attrs pat ty None (Some x1))
 stmt_let_is attrs pat ty (Some x0) None =
-    ap about_stmt (sym (views.rolls-Let attrs pat ty (Some x0) None))
-    ∙ stmt_is (Stmt-F.Let attrs pat ty (Some x0) None)
+    ap about_stmt (sym (views.rolls-Stmt::Let attrs pat ty (Some x0) None))
+    ∙ stmt_is (Stmt-F.Stmt::Let attrs pat ty (Some x0) None)
 stmt_let_is attrs pat ty (Some x0) (Some x1) =
-    ap about_stmt (sym (views.rolls-Let attrs pat ty (Some x0) (Some x1)))
-    ∙ stmt_is (Stmt-F.Let attrs pat ty (Some x0) (Some x1))
+    ap about_stmt (sym (views.rolls-Stmt::Let attrs pat ty (Some x0) (Some x1)))
+    ∙ stmt_is (Stmt-F.Stmt::Let attrs pat ty (Some x0) (Some x1))
 
 pub stmt_item_is : (item : Item) → about_stmt (stmt.Item item) ≡ stmt_facts (Stmt-F.Item (told_of_item item))
 stmt_item_is item =
     ap about_stmt (sym (views.rolls-Item item))
     ∙ stmt_is (Stmt-F.Item item)
 
-pub stmt_expr_is : (attrs : List Attr) (x : Expr) (ended : Bool) → about_stmt (stmt.Expr attrs x ended) ≡ stmt_facts (Stmt-F.Expr attrs (about_expr x) ended)
+pub stmt_expr_is : (attrs : List Attr) (x : Expr) (ended : Bool) → about_stmt (stmt.Expr attrs x ended) ≡ stmt_facts (Stmt-F.Stmt::Expr attrs (about_expr x) ended)
 stmt_expr_is attrs x ended =
-    ap about_stmt (sym (views.rolls-Expr attrs x ended))
-    ∙ stmt_is (Stmt-F.Expr attrs x ended)
+    ap about_stmt (sym (views.rolls-Stmt::Expr attrs x ended))
+    ∙ stmt_is (Stmt-F.Stmt::Expr attrs x ended)
 
 pub block_is : (b : Block) → about_block b ≡ block_facts (record { attrs = b.attrs; stmts = map about_stmt b.stmts })
 unfolding about_expr about_field_expr about_step about_stmt about_block about_branch about_condition about_link about_arm told_of_item told_of_kind

@@ -39,7 +39,7 @@ alone y = expr.Block None (alone_block y)
 
 -- what is told of its statement, and of the block
 abbrev pub one_stmt : Expr → StmtFacts
-one_stmt y = stmt_facts (Stmt-F.Expr [] (about_expr y) false)
+one_stmt y = stmt_facts (Stmt-F.Stmt::Expr [] (about_expr y) false)
 
 abbrev alone_facts : Expr → BlockFacts
 alone_facts y = block_facts (record { attrs = []; stmts = one_stmt y ∷ [] })
