@@ -106,7 +106,7 @@ module _ (fronts : Fronts) (most : ℕ) (within : ExprWithin) (reads : (depth : 
         alone (expr.Loop label b) (Expr-F.Loop label (about_block b)) (expr_loop_is label b) refl (loop_head fronts depth within here label b)
     reached _ (IsWhile label c b) =
         alone (expr.While label c b) (Expr-F.While label (about_condition c) (about_block b)) (expr_while_is label c b) refl
-        (while_head fronts depth within here label pat x b)
+        (while_head fronts depth within here label c b)
     reached _ (IsFor label pat x b) =
         alone (expr.For label pat x b) (Expr-F.For label pat (about_expr x) (about_block b)) (expr_for_is label pat x b) refl
         (for_head fronts depth within here label pat x b)
@@ -147,7 +147,7 @@ module _ (fronts : Fronts) (most : ℕ) (within : ExprWithin) (reads : (depth : 
         whole (expr.Loop label b) (Expr-F.Loop label (about_block b)) (expr_loop_is label b) refl (loop_head fronts depth within here label b)
     block_like _ (IsWhile label c b) =
         whole (expr.While label c b) (Expr-F.While label (about_condition c) (about_block b)) (expr_while_is label c b) refl
-        (while_head fronts depth within here label pat x b)
+        (while_head fronts depth within here label c b)
     block_like _ (IsFor label pat x b) =
         whole (expr.For label pat x b) (Expr-F.For label pat (about_expr x) (about_block b)) (expr_for_is label pat x b) refl
         (for_head fronts depth within here label pat x b)
