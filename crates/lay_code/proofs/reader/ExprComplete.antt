@@ -43,6 +43,12 @@ level_most x = let k = layer_of x in subst (λ (F : ExprFacts). F.level ≤ 14) 
     by (Expr-F.Chain x (y ∷ more)) = omega (arith, op_low y.0)
     by _ = omega arith
 
+-- What stands in its place, within the budget, is accepted.
+pub accept : (budget : ℕ) (place : Place) (x : Expr) (n : ℕ) (rest : Tokens) → stands (about_expr x) place ≡ true
+    → root_follows (about_expr x) place rest ≡ true → n ≤ budget
+    → accepted budget place (x, n) rest ≡ Some ((x, n), rest)
+accept budget place x n rest m r le = rw (m, r, le-leb n budget le) refl
+
 module _ (fronts : Fronts) (most : ℕ) (within : ExprWithin) (reads : (depth : ℕ) → depth ≤ most → ExprReads depth within) (place : Place) where
   -- ---- every expression is reached
 
@@ -219,12 +225,6 @@ module _ (fronts : Fronts) (most : ℕ) (within : ExprWithin) (reads : (depth : 
   unfolding expr_by
   climbed_read budget h x n ts at rest g i k a = rw (g, i, k, a) refl
 
-  -- What stands in its place, within the budget, is accepted.
-  pub accept : (budget : ℕ) (x : Expr) (n : ℕ) (rest : Tokens) → stands (about_expr x) place ≡ true
-      → root_follows (about_expr x) place rest ≡ true → n ≤ budget
-      → accepted budget place (x, n) rest ≡ Some ((x, n), rest)
-  accept budget x n rest m r le = rw (m, r, le-leb n budget le) refl
-
   -- an expression with what is within it read at every lower depth
   pub read_one : (depth : ℕ) → depth ≤ most → (x : Expr) (ts rest : Tokens) → Spells (about_expr x).form (suc depth) ts rest
       → placed (about_expr x) place ≡ true
@@ -252,7 +252,7 @@ module _ (fronts : Fronts) (most : ℕ) (within : ExprWithin) (reads : (depth : 
           } in
           let n = (h.0 place.no_struct (begins place.start) ts rest here).read in
           let ended : is_ended place (about_expr x) rest ≡ true = rw (b, no_dot) refl in
-          (n.0, n.1, ended_read (suc most) x n.0 ts rest n.2 ended (accept (suc most) x n.0 rest m r (omega (arith, n.1, le))))
+          (n.0, n.1, ended_read (suc most) x n.0 ts rest n.2 ended (accept (suc most) place x n.0 rest m r (omega (arith, n.1, le))))
       by false b m v r t =
           let weak : nat_le (strength rest) place.level ≡ true = sym (rw b refl) ∙ r in
           let known : Known within place place.level (suc depth) (about_expr x) (begins place.start) ts rest = record {
@@ -274,5 +274,5 @@ module _ (fronts : Fronts) (most : ℕ) (within : ExprWithin) (reads : (depth : 
             h.need,
             h.least,
             climbed_read (suc most) h.head x h.need ts h.behind rest begun.read begun.goes_on climbs
-                (accept (suc most) x h.need rest m r (omega (arith, h.least, le))),
+                (accept (suc most) place x h.need rest m r (omega (arith, h.least, le))),
           )
