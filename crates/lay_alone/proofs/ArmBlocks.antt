@@ -31,7 +31,7 @@ dress (suc k) y = alone (dress k y)
 
 abbrev alone_facts : Expr → ExprFacts
 alone_facts y =
-    expr_facts (Expr-F.Block None (block_facts (record { attrs = []; stmts = stmt_facts (Stmt-F.Expr [] (about_expr y) false) ∷ [] })))
+    expr_facts (Expr-F.Block None (block_facts (record { attrs = []; stmts = stmt_facts (Stmt-F.Stmt::Expr [] (about_expr y) false) ∷ [] })))
 
 about_alone : (y : Expr) → about_expr (alone y) ≡ alone_facts y
 about_alone y =

@@ -22,7 +22,7 @@ first_layers [] = zero
 first_layers (n ∷ more) = n
 
 abbrev stmt_layers : Stmt-F ℕ ℕ ℕ ℕ ℕ ℕ ℕ ℕ ℕ → ℕ
-stmt_layers (Stmt-F.Expr attrs x ended) = x
+stmt_layers (Stmt-F.Stmt::Expr attrs x ended) = x
 stmt_layers _ = zero
 
 abbrev block_layers : Block-F ℕ ℕ ℕ ℕ ℕ ℕ ℕ ℕ ℕ → ℕ
@@ -73,8 +73,8 @@ in_stmts b =
 in_stmt : (x : Expr) → layers_of_stmt (stmt.Expr [] x false) ≡ layers x
 unfolding layers layers_of_block layers_of_stmt
 in_stmt x =
-    ap layers_of_stmt (sym (views.rolls-Expr [] x false))
-    ∙ fold-roll-Stmt ℕ ℕ ℕ ℕ ℕ ℕ ℕ ℕ ℕ stmt_layers expr_layers field_layers step_layers kind_layers arm_layers block_layers branch_layers item_layers (Stmt-F.Expr [] x false)
+    ap layers_of_stmt (sym (views.rolls-Stmt::Expr [] x false))
+    ∙ fold-roll-Stmt ℕ ℕ ℕ ℕ ℕ ℕ ℕ ℕ ℕ stmt_layers expr_layers field_layers step_layers kind_layers arm_layers block_layers branch_layers item_layers (Stmt-F.Stmt::Expr [] x false)
 
 -- A block of one expression is a layer more.
 pub one_layer : (x : Expr) → layers (alone x) ≡ suc (layers x)

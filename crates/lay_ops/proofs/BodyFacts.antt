@@ -93,7 +93,7 @@ lone_body_is x = ap is_lone_body (kind_is x) ∙ lone_body_by (views.out-Expr x)
 
 -- another statement may stand behind it
 abbrev pub ends_in : StmtNode → Bool
-ends_in (Stmt-F.Expr attrs x ended) = ended || (about_expr x).block_like
+ends_in (Stmt-F.Stmt::Expr attrs x ended) = ended || (about_expr x).block_like
 ends_in _ = true
 
 pub ends_is : (s : Stmt) → (about_stmt s).ends ≡ ends_in (views.out-Stmt s)
@@ -105,7 +105,7 @@ ends_is s = by s (blocks.stmt_view s)
     by _ (blocks.IsExpr attrs x ended) = rw (blocks.stmt_expr_is attrs x ended, views.outs-Expr attrs x ended) refl
 
 abbrev pub lone_stmt_in : StmtNode → Bool
-lone_stmt_in (Stmt-F.Expr attrs x ended) = (is_plain attrs && not ended) && not (is_macro (about_expr x).kind)
+lone_stmt_in (Stmt-F.Stmt::Expr attrs x ended) = (is_plain attrs && not ended) && not (is_macro (about_expr x).kind)
 lone_stmt_in _ = false
 
 pub lone_stmt_is : (s : Stmt) → ((about_stmt s).bare && not (about_stmt s).call) ≡ lone_stmt_in (views.out-Stmt s)

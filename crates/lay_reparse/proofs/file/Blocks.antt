@@ -23,15 +23,15 @@ use Rattle.lay_reparse.proofs.file.CodeKept.{ArmIs, BlockIs, BranchIs, ExprIs, K
 -- ---- statements
 
 stmt_layer_passes : (y : Kept Stmt-F) → StmtPasses (stmt_facts (stmt_told (stmt_layer y)))
-stmt_layer_passes (Stmt-F.Let attrs pat ty None None) = let_pass attrs pat ty None None tt tt
-stmt_layer_passes (Stmt-F.Let attrs pat ty None (Some b)) =
+stmt_layer_passes (Stmt-F.Stmt::Let attrs pat ty None None) = let_pass attrs pat ty None None tt tt
+stmt_layer_passes (Stmt-F.Stmt::Let attrs pat ty None (Some b)) =
     let_pass attrs pat ty None (Some (about_block b.0)) tt b.1
-stmt_layer_passes (Stmt-F.Let attrs pat ty (Some x) None) =
+stmt_layer_passes (Stmt-F.Stmt::Let attrs pat ty (Some x) None) =
     let_pass attrs pat ty (Some (about_expr x.0)) None x.1 tt
-stmt_layer_passes (Stmt-F.Let attrs pat ty (Some x) (Some b)) =
+stmt_layer_passes (Stmt-F.Stmt::Let attrs pat ty (Some x) (Some b)) =
     let_pass attrs pat ty (Some (about_expr x.0)) (Some (about_block b.0)) x.1 b.1
 stmt_layer_passes (Stmt-F.Item item) = item_stmt_pass (told_of_item item.0) item.1
-stmt_layer_passes (Stmt-F.Expr attrs x ended) = expr_stmt_pass attrs (about_expr x.0) ended x.1
+stmt_layer_passes (Stmt-F.Stmt::Expr attrs x ended) = expr_stmt_pass attrs (about_expr x.0) ended x.1
 
 pub stmt_step : (y : Kept Stmt-F) → StmtIs (views.roll-Stmt (stmt_layer y))
 stmt_step y = subst StmtPasses (sym (stmt_is (stmt_layer y))) (stmt_layer_passes y)
