@@ -21,6 +21,8 @@ pub mod BlockReads
 pub mod PatternEnds
 pub mod StmtsComplete
 pub mod BlocksComplete
+pub mod ConditionsFronts
+pub mod ConditionsComplete
 pub mod BranchesComplete
 pub mod ArmsComplete
 pub mod ExprSoundLeads
@@ -74,5 +76,6 @@ pub mod PatternLeads
 pub mod ArrowFronts
 pub mod FrontsHeld
 pub mod ExprComplete
+pub mod ConditionsReached
 pub mod CodeComplete
 pub mod ExprExact
