@@ -92,7 +92,9 @@ module _ (fronts : Fronts) (most : ℕ) (within : ExprWithin) (reads : (depth : 
         (expr_struct_is path fields base) refl (struct_head depth within here path fields base)
     reached _ (IsChain x more) =
         chain_reached within place 14 (AtHead within place) depth here reaches x more
-        (λ c. let most = leb-true (level_of_chain (map behind_op more)) 10 (and_parts _ _ c).1 in omega (arith, most))
+        (λ c.
+        let level = level_of_chain (map behind_op more) in
+        let least = leb-true level 10 (and_parts (nat_le 2 level) (nat_le level 10) c).1 in omega (arith, least))
     reached _ (IsCast x types) = cast_reached within place 14 (AtHead within place) depth here reaches (omega arith) x types
     reached _ (IsUnary ps x) =
         alone (expr.Unary ps x) (Expr-F.Unary ps (about_expr x)) (expr_unary_is ps x) refl (unary_head depth within here ps x)

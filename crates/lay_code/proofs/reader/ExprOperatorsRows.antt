@@ -84,7 +84,7 @@ at_level level ts = strength ts == suc level
 -- An operator of a level and the operand behind it are spelled, well placed, and end well.
 pub record OperandFits (depth level : ℕ) (no_struct : Bool) (y : Op × Expr) (ts mid : Tokens) : Type 0 where
   pub spelled : OperandSpelled depth y ts mid
-  pub level : (op_level y.0 == level) ≡ true
+  pub at : (op_level y.0 == level) ≡ true
   pub there : placed (about_expr y.1) (plain (suc level) no_struct) ≡ true
   pub follow : follows (about_expr y.1) (plain (suc level) no_struct) mid ≡ true
   pub ends : operand_ends level no_struct (about_expr y.1) mid ≡ true
@@ -103,7 +103,7 @@ module _ (depth level : ℕ) (no_struct : Bool) where
         rest,
         record {
           spelled = spelled;
-          level = q.0;
+          at = q.0;
           there = q.1;
           follow = plain_follows (about_expr y.1) (suc level) no_struct rest (le-leb (strength rest) (suc level) (omega (arith, s))) t;
           ends = ends;
@@ -135,7 +135,7 @@ module _ (depth level : ℕ) (no_struct : Bool) where
       (and_from (not (level == 4)) (stands F (before_op (suc level) no_struct false (is_angle mid))) c here) in
       let follow = plain_follows F (suc level) no_struct mid (le-leb (strength mid) (suc level) (omega (arith, a.strength))) tail in (
         mid,
-        record { spelled = r.1; level = q.0; there = before_plain F (suc level) no_struct (is_angle_op z.0) q.1; follow = follow; ends = ends },
+        record { spelled = r.1; at = q.0; there = before_plain F (suc level) no_struct (is_angle_op z.0) q.1; follow = follow; ends = ends },
         operands_fit z more mid rest next p.1 (chain_on more c) s t,
       )
     where
@@ -160,7 +160,7 @@ module _ (depth : ℕ) (within : ExprWithin) (reads : ExprReads depth within) (l
   operand_turn y ts mid f =
       let s = f.spelled in
       let at = s.0 in
-      let a = at_op level y.0 ts at f.level s.1 in
+      let a = at_op level y.0 ts at f.at s.1 in
       let r = reads.exprs (plain (suc level) no_struct) y.1 at mid s.2 f.there f.follow in (
         r.0,
         r.1,
