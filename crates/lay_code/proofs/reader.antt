@@ -14,12 +14,15 @@ pub mod File
 pub mod ExprSoundLevel
 pub mod ExprReads
 pub mod BlocksSound
+pub mod ConditionsSound
 pub mod BlocksSoundWhole
 pub mod ExprSoundLed
 pub mod BlockReads
 pub mod PatternEnds
 pub mod StmtsComplete
 pub mod BlocksComplete
+pub mod ConditionsFronts
+pub mod ConditionsComplete
 pub mod BranchesComplete
 pub mod ArmsComplete
 pub mod ExprSoundLeads
@@ -73,5 +76,6 @@ pub mod PatternLeads
 pub mod ArrowFronts
 pub mod FrontsHeld
 pub mod ExprComplete
+pub mod ConditionsReached
 pub mod CodeComplete
 pub mod ExprExact

@@ -35,14 +35,9 @@ impl Condition {
 #[cycle(code)]
 pub enum Link {
     /// `a`
-    Expr {
-        expr: Boxed<Expr>,
-    },
+    Expr { expr: Boxed<Expr> },
     /// `let a = b`
-    Let {
-        pat: Pat,
-        value: Boxed<Expr>,
-    },
+    Let { pat: Pat, value: Boxed<Expr> },
 }
 
 impl Drop for Link {

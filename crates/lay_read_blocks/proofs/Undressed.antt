@@ -100,7 +100,7 @@ bare_more (suc m) (suc n) x le b =
 
 -- So many turns suffice for the expression that a statement is.
 abbrev stmt_in : ℕ → StmtNode → Type 0
-stmt_in n (Stmt-F.Expr attrs y ended) = Bare (undressed n y)
+stmt_in n (Stmt-F.Stmt::Expr attrs y ended) = Bare (undressed n y)
 stmt_in n _ = Unit {0}
 
 abbrev OfStmt : ℕ → Stmt → Type 0
@@ -119,7 +119,7 @@ abbrev OfExpr : ℕ → Expr → Type 0
 OfExpr n x = expr_in n (views.out-Expr x)
 
 stmt_more : (m n : ℕ) (s : StmtNode) → m ≤ n → stmt_in m s → stmt_in n s
-stmt_more m n (Stmt-F.Expr attrs y ended) le h = bare_more m n y le h
+stmt_more m n (Stmt-F.Stmt::Expr attrs y ended) le h = bare_more m n y le h
 stmt_more m n _ le h = tt
 
 stmts_more : (n : ℕ) (xs : List (Stmt × ℕ)) (x : Stmt × ℕ) → OfStmts n (nodes xs) → OfStmt n x.0 → OfStmts n (nodes (xs ++ x ∷ []))

@@ -372,12 +372,3 @@ stmt_front s depth ts rest t g = by s (stmt_view s) t g
         let e = (placed_begins x statement depth b.0 u.0 u.1 good.1).less in
         let less = shorter (ended_form ended) depth u.0 rest u.2 in
         attrs_begin attrs depth ts b.0 rest (attrs_rows false depth attrs ts b.0 b.1 good.0) start (omega (arith, e, less))
-
--- ---- conditions
-
--- `let` begins a condition that is a pattern and what it is matched with, and no other.
-pub condition_let : (pat : Option Pat) (x : Expr) (depth : ℕ) (ts rest : Tokens) → Spells (condition_form pat (about_expr x)) depth ts rest
-    → condition_good pat (about_expr x) ≡ true → first (is_keyword (codes "let")) ts ≡ is_some pat
-condition_let None x depth ts rest s g = (expr_start x (plain 0 true) depth ts rest s g).1
-condition_let (Some p) x depth ts rest s g =
-    rw (one_front Ident (codes "let") ts s.0 (before_blank (keyword (codes "let")) ts s.0 s.1)).1 refl

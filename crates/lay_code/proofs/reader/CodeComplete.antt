@@ -28,9 +28,10 @@ use Rattle.lay_code.specs.declared.exprs.Expr.{Expr}
 use Rattle.lay_code.specs.declared.exprs.Place.{Place}
 use Rattle.lay_code.proofs.reader.BlockReads.{Fronts}
 use Rattle.lay_code.proofs.reader.BlocksComplete.{block_form_read}
+use Rattle.lay_code.proofs.reader.ConditionsReached.{whole_read}
 use Rattle.lay_code.proofs.reader.ExprComplete.{read_one}
 use Rattle.lay_code.proofs.reader.ExprFronts.{no_depth}
-use Rattle.lay_code.proofs.reader.ExprReads.{ExprReads}
+use Rattle.lay_code.proofs.reader.ExprReads.{ExprReads, ReadsExprs}
 use Rattle.lay_code.proofs.reader.ItemKinds.{item_none}
 use Rattle.lay_code.proofs.reader.ItemRead.{item_by_complete}
 use Rattle.lay_code.proofs.reader.ItemReads.{HeadsComplete}
@@ -58,11 +59,20 @@ module _ (fronts : Fronts) where
       let r = block_form_read fronts depth within reads b true ts rest here g in
       (suc r.0, omega (arith, r.1), rw r.2 refl)
 
+  -- Within a budget expressions that are spelled at no greater a depth are read, where what is within them is.
+  exprs_read : (budget : ℕ) → ((depth : ℕ) → depth ≤ budget → ExprReads depth (code_in budget)) → (depth : ℕ) → depth ≤ suc budget
+      → ReadsExprs depth (code_in (suc budget))
+  unfolding code_in
+  exprs_read budget reads zero le = λ place x ts rest s w f. absurd (no_depth x ts rest s)
+  exprs_read budget reads (suc depth) le =
+      λ place x ts rest s w f. read_one fronts budget (code_in budget) reads place depth (omega (arith, le)) x ts rest s w f
+
   -- Within a budget, all that is spelled at no greater a depth is read.
   pub code_reads : (budget depth : ℕ) → depth ≤ budget → ExprReads depth (code_in budget)
   unfolding code_in
   code_reads zero zero h = record {
     exprs = λ place x ts rest s w f. absurd (no_depth x ts rest s);
+    conditions = λ x ts rest s w f. absurd (no_depth x ts rest s);
     kinds = within_reads zero zero h;
     pats = (insides_reads zero zero h).pats;
     blocks = λ b ts rest s g. absurd s;
@@ -71,6 +81,7 @@ module _ (fronts : Fronts) where
   code_reads zero (suc depth) h = absurd (omega (arith, h))
   code_reads (suc budget) zero h = record {
     exprs = λ place x ts rest s w f. absurd (no_depth x ts rest s);
+    conditions = λ x ts rest s w f. absurd (no_depth x ts rest s);
     kinds = within_reads zero (suc budget) h;
     pats = (insides_reads zero (suc budget) h).pats;
     blocks = λ b ts rest s g. absurd s;
@@ -79,7 +90,10 @@ module _ (fronts : Fronts) where
   code_reads (suc budget) (suc depth) h =
       let le : depth ≤ budget = omega (arith, h) in
       record {
-        exprs = λ place x ts rest s w f. read_one fronts budget (code_in budget) (code_reads budget) place depth le x ts rest s w f;
+        exprs = exprs_read budget (code_reads budget) (suc depth) h;
+        conditions = λ x ts rest s w f.
+            whole_read budget (code_in budget) (code_reads budget) (code_in (suc budget)) (exprs_read budget (code_reads budget)) (λ lhs us. refl)
+            (suc depth) h x ts rest s w f;
         kinds = within_reads (suc depth) (suc budget) h;
         pats = (insides_reads (suc depth) (suc budget) h).pats;
         blocks = λ b ts rest s g. deeper_read depth (code_in budget) (code_reads budget depth le) b ts rest s g;

@@ -1,5 +1,5 @@
 -- Reading gets from what begins an expression to the expression itself, operator by operator, from the strongest on.
-use Rattle.std.proofs.Common.{◌≡◌, ℕ, zero, suc, ◌≤◌, Bool, true, false, not, ◌&&◌, nat_le, Some, None, if◌then◌else◌, refl, sym, ap, subst, ◌∙◌, arith, le-leb, eq-eqb, leb-true}
+use Rattle.std.proofs.Common.{◌≡◌, ℕ, zero, suc, ◌≤◌, ◌<◌, Bool, true, false, not, ◌&&◌, nat_le, Some, None, if◌then◌else◌, refl, sym, ap, subst, ◌∙◌, arith, le-leb, eq-eqb, leb-true}
 use Rattle.std.specs.Prelude.{◌==◌}
 use Rattle.std.proofs.lemmas.Bool.{and_parts, lt-leb, leb-false}
 use Rattle.lay_form.specs.Spelled.{Spells}
@@ -65,7 +65,7 @@ module _ (within : ExprWithin) (place : Place) where
       let same : suc level ≡ least = omega (arith, le, leb-false least level h) in ap (λ i. climb within place i lhs ts) same
 
   -- So are all levels down to the strength of what follows.
-  climb_skips : (level least : ℕ) (lhs : Expr × ℕ) (ts : Tokens) → least ≤ level → strength ts ≤ least
+  pub climb_skips : (level least : ℕ) (lhs : Expr × ℕ) (ts : Tokens) → least ≤ level → strength ts ≤ least
       → climb within place level lhs ts ≡ climb within place least lhs ts
   climb_skips zero least lhs ts le s = let same : zero ≡ least = omega (arith, le) in ap (λ i. climb within place i lhs ts) same
   climb_skips (suc level) least lhs ts le s =
@@ -77,17 +77,7 @@ module _ (within : ExprWithin) (place : Place) where
   climb_ends zero lhs ts le = refl
   climb_ends (suc level) lhs ts le = rw (lt-leb place.level level (omega (arith, le))) (climb_ends level lhs ts (omega (arith, le)))
 
-  -- ---- what reading has got to
-
-  -- Reading gets to the expression, with all operators below the level still to come.
-  pub record Reach (level depth : ℕ) (x : Expr) (ts mid : Tokens) : Type 0 where
-    pub head : Expr × ℕ
-    pub behind : Tokens
-    pub need : ℕ
-    pub least : need ≤ depth
-    pub read : head_at within place.no_struct ts ≡ Some (head, behind)
-    pub goes_on : is_ended place (about_expr head.0) behind ≡ false
-    pub climbs : climb within place 14 head behind ≡ climb within place level (x, need) mid
+  -- ---- what is known of expressions
 
   -- What is known of an expression of which this is told where reading has got to it. The flag says that it begins a part of
   -- what begins a statement, or all of it.
@@ -102,16 +92,55 @@ module _ (within : ExprWithin) (place : Place) where
     pub tail : tail_follows x.tail place.no_struct mid ≡ true
     pub struct_free : not (place.no_struct && x.is_struct) ≡ true
 
-  -- all expressions that are spelled at a depth are reached
-  abbrev pub Reaches : ℕ → Type 0
-  Reaches depth =
-      (x : Expr) (level : ℕ) (first : Bool) (ts mid : Tokens) → Known level depth (about_expr x) first ts mid → Reach level depth x ts mid
+  -- ---- what reading has got to
+
+  -- Reading begins at a level, with what is read of the first tokens, with its need, and with what is left.
+  module _ (top : ℕ) (Begun : Tokens → Expr × ℕ → Tokens → Type 0) where
+    -- Reading gets to the expression, with all operators below the level still to come.
+    pub record Reach (level depth : ℕ) (x : Expr) (ts mid : Tokens) : Type 0 where
+      pub head : Expr × ℕ
+      pub behind : Tokens
+      pub need : ℕ
+      pub least : need ≤ depth
+      pub begun : Begun ts head behind
+      pub climbs : climb within place top head behind ≡ climb within place level (x, need) mid
+
+    -- all expressions that are spelled at a depth are reached
+    abbrev pub Reaches : ℕ → Type 0
+    Reaches depth =
+        (x : Expr) (level : ℕ) (first : Bool) (ts mid : Tokens) → level ≤ top → Known level depth (about_expr x) first ts mid
+        → Reach level depth x ts mid
+
+    -- ---- by an operator behind an operand
+
+    -- Where an operand is reached, so is what an operator of its level makes of it.
+    pub reach_on : (x y : Expr) (operator level depth : ℕ) (ts mid rest : Tokens) → Reach (suc operator) depth x ts mid
+        → place.level ≤ level → level ≤ operator
+        → strength rest ≤ level → strength mid ≡ suc operator → stands (about_expr x) (left_place place operator mid) ≡ true
+        → ((n : ℕ) → n ≤ depth → (m : ℕ) × (m ≤ suc depth) × (stage within operator place.no_struct (x, n) mid ≡ Some ((y, m), rest)))
+        → Reach level (suc depth) y ts rest
+    reach_on x y operator level depth ts mid rest r allowed le weak s stand made =
+        let t = made r.need r.least in
+        let at : place.level ≤ operator = omega (arith, allowed, le) in
+        record {
+          head = r.head;
+          behind = r.behind;
+          need = t.0;
+          least = t.1;
+          begun = r.begun;
+          climbs = r.climbs ∙ climb_taken operator x y r.need t.0 mid rest at s stand t.2 ∙ climb_skips operator level (y, t.0) rest le weak;
+        }
 
   -- ---- by what begins it
 
+  -- what begins an expression is read, and operators may go on with it
+  pub record AtHead (ts : Tokens) (head : Expr × ℕ) (behind : Tokens) : Type 0 where
+    pub read : head_at within place.no_struct ts ≡ Some (head, behind)
+    pub goes_on : is_ended place (about_expr head.0) behind ≡ false
+
   -- What begins an expression by itself is reached, where it is read so.
   pub headed : (x : Expr) (level depth : ℕ) (first : Bool) (ts mid : Tokens) → IsHead depth within x → nat_le (about_expr x).level 14 ≡ true
-      → Known level (suc depth) (about_expr x) first ts mid → Reach level (suc depth) x ts mid
+      → Known level (suc depth) (about_expr x) first ts mid → Reach 14 AtHead level (suc depth) x ts mid
   headed x level depth first ts mid h most k =
       let high = leb-true level (about_expr x).level k.high in
       let top = leb-true (about_expr x).level 14 most in
@@ -128,31 +157,11 @@ module _ (within : ExprWithin) (place : Place) where
         behind = mid;
         need = r.0;
         least = r.1;
-        read = r.2;
-        goes_on = k.goes_on;
+        begun = record { read = r.2; goes_on = k.goes_on };
         climbs = climb_skips 14 level (x, r.0) mid (omega (arith, high, top)) k.weak;
       }
 
-  -- ---- by an operator behind an operand
-
-  -- Where an operand is reached, so is what an operator of its level makes of it.
-  pub reach_on : (x y : Expr) (operator level depth : ℕ) (ts mid rest : Tokens) → Reach (suc operator) depth x ts mid
-      → place.level ≤ level → level ≤ operator
-      → strength rest ≤ level → strength mid ≡ suc operator → stands (about_expr x) (left_place place operator mid) ≡ true
-      → ((n : ℕ) → n ≤ depth → (m : ℕ) × (m ≤ suc depth) × (stage within operator place.no_struct (x, n) mid ≡ Some ((y, m), rest)))
-      → Reach level (suc depth) y ts rest
-  reach_on x y operator level depth ts mid rest r allowed le weak s stand made =
-      let t = made r.need r.least in
-      let at : place.level ≤ operator = omega (arith, allowed, le) in
-      record {
-        head = r.head;
-        behind = r.behind;
-        need = t.0;
-        least = t.1;
-        read = r.read;
-        goes_on = r.goes_on;
-        climbs = r.climbs ∙ climb_taken operator x y r.need t.0 mid rest at s stand t.2 ∙ climb_skips operator level (y, t.0) rest le weak;
-      }
+  -- ---- operands
 
   -- Where a statement goes on, what is block-like there is no more than what `.` or `?` goes on with.
   unended : (s : Start) (block dot : Bool) → (begins s ≡ true → dot ≡ false → block ≡ false) → (is_whole s && block && not dot) ≡ false
@@ -174,8 +183,8 @@ module _ (within : ExprWithin) (place : Place) where
     pub angled : is_angle mid ≡ angle
     pub tail : tail_follows (about_expr x).tail place.no_struct mid ≡ true
 
-  module _ (depth : ℕ) (reaches : Reaches depth) (operator : ℕ) (x : Expr) (first angle : Bool) (ts mid : Tokens)
-      (o : Operand operator depth x first angle ts mid) where
+  module _ (top : ℕ) (Begun : Tokens → Expr × ℕ → Tokens → Type 0) (depth : ℕ) (reaches : Reaches top Begun depth) (operator : ℕ)
+      (below : operator < top) (x : Expr) (first angle : Bool) (ts mid : Tokens) (o : Operand operator depth x first angle ts mid) where
     -- it stands before the operator
     stand : stands (about_expr x) (before_op (suc operator) place.no_struct first angle) ≡ true
     stand = (and_parts _ ((about_expr x).within place.no_struct (begins (part_if first))) o.there).0
@@ -193,8 +202,8 @@ module _ (within : ExprWithin) (place : Place) where
         open_start b d = rw (b, d, and_none (operator == 13)) refl
 
     -- An operand is reached.
-    pub operand_reached : Reach (suc operator) depth x ts mid
-    operand_reached = reaches x (suc operator) first ts mid (record {
+    pub operand_reached : Reach top Begun (suc operator) depth x ts mid
+    operand_reached = reaches x (suc operator) first ts mid (omega (arith, below)) (record {
       allowed = omega (arith, o.allowed);
       high = parts.high;
       starts = o.whole;

@@ -1,5 +1,5 @@
 -- What operators go on with is reached from the operand before them, kind by kind.
-use Rattle.std.proofs.Common.{◌≡◌, ℕ, zero, suc, ◌≤◌, max, Bool, true, false, not, ◌&&◌, nat_le, List, [], ◌∷◌, map, codes, Option, option_map, Some, refl, sym, ap, subst, ◌∙◌, arith, le-leb, eq-eqb, ne_eqb, leb-true}
+use Rattle.std.proofs.Common.{◌≡◌, ℕ, zero, suc, ◌≤◌, ◌<◌, max, Bool, true, false, not, ◌&&◌, nat_le, List, [], ◌∷◌, map, codes, Option, option_map, Some, refl, sym, ap, subst, ◌∙◌, arith, le-leb, eq-eqb, ne_eqb, leb-true}
 use Rattle.std.specs.Prelude.{◌==◌}
 use Rattle.std.proofs.lemmas.Bool.{and_parts, lt-leb}
 use Rattle.lay_form.specs.Form.{Operator, Form, Done, Piece}
@@ -13,7 +13,7 @@ use Rattle.lay_node.specs.declared.types.Ty.{Ty}
 use Rattle.lay_node.proofs.Parts.{bit_alone}
 use Rattle.lay_code.specs.Operators.{op_level, angle_by, is_angle, is_angle_op, is_dot_or_try, strength}
 use Rattle.lay_code.specs.nodes.Code.{about_expr, about_step}
-use Rattle.lay_code.specs.nodes.Exprs.{ExprFacts, StepFacts, Tail, placed, tail_follows, operands_form, end_form, is_chain_level, may_chain, operands_placed, targets_placed, end_placed, is_tuple_index, is_dotted, are_steps, types_good, tail_of_end, tail_of_steps, inside, tail_of, expr_facts, ExprLayer}
+use Rattle.lay_code.specs.nodes.Exprs.{ExprFacts, StepFacts, Tail, placed, tail_follows, operands_form, end_form, is_chain_level, level_of_chain, may_chain, operands_placed, targets_placed, end_placed, is_tuple_index, is_dotted, are_steps, types_good, tail_of_end, tail_of_steps, inside, tail_of, expr_facts, ExprLayer}
 use Rattle.lay_code.specs.nodes.Places.{plain, begins, part_if, before_op}
 use Rattle.lay_code.specs.reader.Exprs.{operands, chain_expr, assign_expr, one_type, cast_expr, stage}
 use Rattle.lay_code.specs.reader.Within.{ExprWithin}
@@ -42,12 +42,13 @@ starts_on false false false dot n e = refl
 starts_on true false false dot n e = absurd (cc)
 starts_on false true false dot n e = absurd (cc)
 
-module _ (within : ExprWithin) (place : Place) (depth : ℕ) (reads : ExprReads depth within) (reaches : Reaches within place depth) where
+module _ (within : ExprWithin) (place : Place) (top : ℕ) (Begun : Tokens → Expr × ℕ → Tokens → Type 0) (depth : ℕ)
+    (reads : ExprReads depth within) (reaches : Reaches within place top Begun depth) where
   -- an expression of which this is told is reached
   abbrev By : Expr → ExprFacts → Type 0
   By x F =
       (level : ℕ) (first : Bool) (ts mid : Tokens) → Known within place level (suc depth) F first ts mid
-      → Reach within place level (suc depth) x ts mid
+      → Reach within place top Begun level (suc depth) x ts mid
 
   -- by the layer of its kind
   told : (x : Expr) (F : ExprLayer) → about_expr x ≡ expr_facts F → By x (expr_facts F) → By x (about_expr x)
@@ -77,14 +78,14 @@ module _ (within : ExprWithin) (place : Place) (depth : ℕ) (reads : ExprReads 
 
   -- What an operator makes of the operand before it is reached.
   made_reached : (operator : ℕ) (x y : Expr) (level : ℕ) (first angle : Bool) (ts at mid : Tokens)
-      → Operand within place operator depth x first angle ts at
+      → Operand within place operator depth x first angle ts at → operator < top
       → place.level ≤ level → level ≤ operator → strength mid ≤ level
       → ((n : ℕ) → n ≤ depth → (m : ℕ) × (m ≤ suc depth) × (stage within operator place.no_struct (x, n) at ≡ Some ((y, m), mid)))
-      → Reach within place level (suc depth) y ts mid
-  made_reached operator x y level first angle ts at mid o allowed le weak made =
-      reach_on within place x y operator level depth ts at mid
-      (operand_reached within place depth reaches operator x first angle ts at o) allowed le weak o.next
-      (operand_stands within place depth reaches operator x first angle ts at o) made
+      → Reach within place top Begun level (suc depth) y ts mid
+  made_reached operator x y level first angle ts at mid o below allowed le weak made =
+      reach_on within place top Begun x y operator level depth ts at mid
+      (operand_reached within place top Begun depth reaches operator below x first angle ts at o) allowed le weak o.next
+      (operand_stands within place top Begun depth reaches operator below x first angle ts at o) made
 
   -- ---- chains
 
@@ -109,9 +110,11 @@ module _ (within : ExprWithin) (place : Place) (depth : ℕ) (reads : ExprReads 
   chain_made level x n ys found ts rest c same r = stage_chain level (x, n) ts c ∙ (rw (r, same) refl)
 
   -- A chain is reached from its first operand.
-  pub chain_reached : (x : Expr) (ys : List (Op × Expr)) → By (expr.Chain x ys) (about_expr (expr.Chain x ys))
-  chain_reached x [] = told (expr.Chain x []) (Expr-F.Chain (about_expr x) []) (expr_chain_is x []) (λ level first ts mid k. absurd (cc))
-  chain_reached x (y ∷ ys) =
+  pub chain_reached : (x : Expr) (ys : List (Op × Expr))
+      → (is_chain_level (level_of_chain (map behind_op ys)) ≡ true → level_of_chain (map behind_op ys) < top)
+      → By (expr.Chain x ys) (about_expr (expr.Chain x ys))
+  chain_reached x [] below = told (expr.Chain x []) (Expr-F.Chain (about_expr x) []) (expr_chain_is x []) (λ level first ts mid k. absurd (cc))
+  chain_reached x (y ∷ ys) below =
       told (expr.Chain x (y ∷ ys)) (Expr-F.Chain (about_expr x) (map behind_op (y ∷ ys))) (expr_chain_is x (y ∷ ys))
       (λ level first ts mid k.
       let F = about_expr x in
@@ -140,7 +143,7 @@ module _ (within : ExprWithin) (place : Place) (depth : ℕ) (reads : ExprReads 
       let starts = k.starts (lt-leb 14 operator (omega (arith, most))) in
       let o = before_operator operator x first angle ts at (omega (arith, k.allowed, le)) off starts w2.1 parts.1 a.strength angled tail in
       let found = operands_read depth within reads operator place.no_struct y ys at mid rows w3.1 w1.1 (omega (arith, k.weak, le)) k.tail in
-      made_reached operator x (expr.Chain x (y ∷ ys)) level first angle ts at mid o k.allowed le k.weak (λ n h.
+      made_reached operator x (expr.Chain x (y ∷ ys)) level first angle ts at mid o (below w1.0) k.allowed le k.weak (λ n h.
       (suc (max n (deepest found.0)), omega (arith, h, found.2), chain_made operator x n (y ∷ ys) found.0 at mid w1.0 found.1 found.3)))
 
   -- ---- casts
@@ -153,9 +156,9 @@ module _ (within : ExprWithin) (place : Place) (depth : ℕ) (reads : ExprReads 
   cast_made x n xs found ts rest same r = rw (r, same) refl
 
   -- A cast is reached from its operand.
-  pub cast_reached : (x : Expr) (xs : List Ty) → By (expr.Cast x xs) (about_expr (expr.Cast x xs))
-  cast_reached x [] = told (expr.Cast x []) (Expr-F.Cast (about_expr x) []) (expr_cast_is x []) (λ level first ts mid k. absurd (cc))
-  cast_reached x (y ∷ ys) =
+  pub cast_reached : 11 < top → (x : Expr) (xs : List Ty) → By (expr.Cast x xs) (about_expr (expr.Cast x xs))
+  cast_reached below x [] = told (expr.Cast x []) (Expr-F.Cast (about_expr x) []) (expr_cast_is x []) (λ level first ts mid k. absurd (cc))
+  cast_reached below x (y ∷ ys) =
       told (expr.Cast x (y ∷ ys)) (Expr-F.Cast (about_expr x) (y ∷ ys)) (expr_cast_is x (y ∷ ys)) (λ level first ts mid k.
       let F = about_expr x in
       let types = map about_type (y ∷ ys) in
@@ -177,7 +180,7 @@ module _ (within : ExprWithin) (place : Place) (depth : ℕ) (reads : ExprReads 
       (as_strength at sign.0 sign.1) angled tail in
       let follow = (tail_fits (tail_of (Expr-F.Cast F (y ∷ ys))) place.no_struct mid k.tail).refuses in
       let found = types_read depth within reads y ys at mid rows w2.1 (omega (arith, k.weak, le)) follow in
-      made_reached 11 x (expr.Cast x (y ∷ ys)) level first false ts at mid o k.allowed le k.weak (λ n h.
+      made_reached 11 x (expr.Cast x (y ∷ ys)) level first false ts at mid o below k.allowed le k.weak (λ n h.
       (suc (max n (deepest found.0)), omega (arith, h, found.2), cast_made x n (y ∷ ys) found.0 at mid found.1 found.3)))
 
   -- ---- ranges with a start
@@ -201,9 +204,9 @@ module _ (within : ExprWithin) (place : Place) (depth : ℕ) (reads : ExprReads 
   dots_no_angle false = refl
 
   -- A range is reached from its start.
-  pub range_reached : (x : Expr) (inclusive : Bool) (end : Option Expr)
+  pub range_reached : 1 < top → (x : Expr) (inclusive : Bool) (end : Option Expr)
       → By (expr.Range (Some x) inclusive end) (about_expr (expr.Range (Some x) inclusive end))
-  range_reached x inclusive end =
+  range_reached below x inclusive end =
       told (expr.Range (Some x) inclusive end) (Expr-F.Range (Some (about_expr x)) inclusive (option_map about_expr end))
       (expr_range_is (Some x) inclusive end) (λ level first ts mid k.
       let F = about_expr x in
@@ -220,7 +223,7 @@ module _ (within : ExprWithin) (place : Place) (depth : ℕ) (reads : ExprReads 
       let le = leb-true level 1 k.high in
       let o = before_operator 1 x first false ts at (omega (arith, k.allowed, le)) refl (k.starts refl) w1.0 t.1 a.strength angled tail in
       let follow = tail_fits (tail_of_end E) place.no_struct mid k.tail in
-      made_reached 1 x (expr.Range (Some x) inclusive end) level first false ts at mid o k.allowed le k.weak (λ n h.
+      made_reached 1 x (expr.Range (Some x) inclusive end) level first false ts at mid o below k.allowed le k.weak (λ n h.
       range_read depth within reads (Some x) n h inclusive end place.no_struct at mid t.2 w1.1 follow
       (le-leb (strength mid) 1 (omega (arith, k.weak, le)))))
 
@@ -236,10 +239,10 @@ module _ (within : ExprWithin) (place : Place) (depth : ℕ) (reads : ExprReads 
       rw (r, same, back.0, back.1) refl
 
   -- An assignment is reached from its first target.
-  pub assign_reached : (targets : List (Expr × Op)) (x : Expr) → By (expr.Assign targets x) (about_expr (expr.Assign targets x))
-  assign_reached [] x =
+  pub assign_reached : 0 < top → (targets : List (Expr × Op)) (x : Expr) → By (expr.Assign targets x) (about_expr (expr.Assign targets x))
+  assign_reached below [] x =
       told (expr.Assign [] x) (Expr-F.Assign [] (about_expr x)) (expr_assign_is [] x) (λ level first ts mid k. absurd (cc))
-  assign_reached (y ∷ more) x =
+  assign_reached below (y ∷ more) x =
       told (expr.Assign (y ∷ more) x) (Expr-F.Assign (map target_of (y ∷ more)) (about_expr x)) (expr_assign_is (y ∷ more) x)
       (λ level first ts mid k.
       let F = about_expr y.0 in
@@ -262,16 +265,16 @@ module _ (within : ExprWithin) (place : Place) (depth : ℕ) (reads : ExprReads 
       let follow = subst (λ (z : Tail). tail_follows z place.no_struct mid ≡ true) (sym (row_tail y more x)) k.tail in
       let found = operands_read depth within reads 0 place.no_struct (y.1, first_of more x) (row_of more x) at mid t.2
       (row_placed place.no_struct first y more x w1.1 w2.1) (row_chains y more x) (omega (arith, k.weak, le)) follow in
-      made_reached 0 y.0 (expr.Assign (y ∷ more) x) level first false ts at mid o k.allowed le k.weak (λ n h.
+      made_reached 0 y.0 (expr.Assign (y ∷ more) x) level first false ts at mid o below k.allowed le k.weak (λ n h.
       (suc (max n (deepest found.0)), omega (arith, h, found.2), assign_made y more x n found.0 at mid found.1 found.3)))
 
   -- ---- steps
 
   -- Steps are reached from their base.
-  pub postfix_reached : (x : Expr) (ss : List Step) → By (expr.Postfix x ss) (about_expr (expr.Postfix x ss))
-  postfix_reached x [] =
+  pub postfix_reached : 13 < top → (x : Expr) (ss : List Step) → By (expr.Postfix x ss) (about_expr (expr.Postfix x ss))
+  postfix_reached below x [] =
       told (expr.Postfix x []) (Expr-F.Postfix (about_expr x) []) (expr_postfix_is x []) (λ level first ts mid k. absurd (cc))
-  postfix_reached x (s ∷ ss) =
+  postfix_reached below x (s ∷ ss) =
       told (expr.Postfix x (s ∷ ss)) (Expr-F.Postfix (about_expr x) (map about_step (s ∷ ss))) (expr_postfix_is x (s ∷ ss))
       (λ level first ts mid k.
       let F = about_expr x in
@@ -306,5 +309,5 @@ module _ (within : ExprWithin) (place : Place) (depth : ℕ) (reads : ExprReads 
       let no_more = no_step mid (omega (arith, k.weak, le)) in
       let follow = (tail_fits (tail_of_steps fs) place.no_struct mid k.tail).refuses in
       let found = postfix_read depth within reads x s ss at mid rows steps w2.1 no_more follow in
-      made_reached 13 x (expr.Postfix x (s ∷ ss)) level part false ts at mid o k.allowed le k.weak (λ n h.
+      made_reached 13 x (expr.Postfix x (s ∷ ss)) level part false ts at mid o below k.allowed le k.weak (λ n h.
       (suc (max n found.0), omega (arith, h, found.1), found.2 n)))

@@ -1,12 +1,12 @@
 -- Every expression is read where it is spelled, in its place, where what is within it is read.
-use Rattle.std.proofs.Common.{◌≡◌, ℕ, zero, suc, ◌≤◌, Bool, true, false, not, ◌&&◌, nat_le, map, option_map, Some, None, refl, sym, ap, subst, ◌∙◌, arith, le-leb, leb-true}
+use Rattle.std.proofs.Common.{◌≡◌, ℕ, zero, suc, ◌≤◌, Bool, true, false, not, ◌&&◌, nat_le, [], ◌∷◌, map, option_map, Some, None, refl, sym, ap, subst, ◌∙◌, arith, le-leb, leb-true}
 use Rattle.std.proofs.lemmas.Bool.{and_parts}
 use Rattle.lay_form.specs.Spelled.{Spells}
 use Rattle.lay_node.specs.Ahead.{Tokens}
 use Rattle.lay_node.proofs.reader.Exact.{IsRead}
 use Rattle.lay_code.specs.Operators.{is_dot_or_try, strength}
 use Rattle.lay_code.specs.nodes.Code.{about_arm, about_block, about_branch, about_condition, about_expr, about_field_expr, about_step}
-use Rattle.lay_code.specs.nodes.Exprs.{ExprFacts, stands, placed, root_follows, follows, tail_follows, level_of, is_block_like, expr_facts, ExprLayer}
+use Rattle.lay_code.specs.nodes.Exprs.{ExprFacts, stands, placed, root_follows, follows, tail_follows, level_of, level_of_chain, is_block_like, expr_facts, ExprLayer}
 use Rattle.lay_code.specs.nodes.Places.{begins, is_whole}
 use Rattle.lay_code.specs.reader.Exprs.{climb, is_ended, accepted, expr_by}
 use Rattle.lay_code.specs.reader.Within.{ExprWithin}
@@ -16,7 +16,7 @@ use Rattle.lay_code.specs.declared.exprs.Expr.TheVariants as expr
 use Rattle.lay_code.specs.declared.exprs.Place.{Place}
 use Rattle.lay_code.proofs.nodes.ExprsLaws.{ExprView, IsLit, IsPath, IsUnderscore, IsCall, IsParen, IsContinue, IsTuple, IsArray, IsRepeat, IsStruct, IsChain, IsCast, IsUnary, IsRange, IsAssign, IsPostfix, IsReturn, IsBreak, IsBlock, IsUnsafe, IsConstBlock, IsAsync, IsIf, IsMatch, IsLoop, IsWhile, IsFor, IsClosure, IsTypedClosure, expr_view, behind_op, before_op as target_of, expr_lit_is, expr_path_is, expr_underscore_is, expr_call_is, expr_paren_is, expr_continue_is, expr_tuple_is, expr_array_is, expr_repeat_is, expr_struct_is, expr_chain_is, expr_cast_is, expr_unary_is, expr_range_is, expr_assign_is, expr_postfix_is, expr_return_is, expr_break_is, expr_block_is, expr_unsafe_is, expr_const_block_is, expr_async_is, expr_if_is, expr_match_is, expr_loop_is, expr_while_is, expr_for_is, expr_closure_is, expr_typed_closure_is}
 use Rattle.lay_code.proofs.reader.BlockReads.{Fronts}
-use Rattle.lay_code.proofs.reader.ExprClimb.{Reach, Known, Reaches, climb_ends, headed}
+use Rattle.lay_code.proofs.reader.ExprClimb.{AtHead, Reach, Known, Reaches, climb_ends, headed}
 use Rattle.lay_code.proofs.reader.ExprClimbKinds.{chain_reached, cast_reached, range_reached, assign_reached, postfix_reached}
 use Rattle.lay_code.proofs.reader.ExprFronts.{no_depth}
 use Rattle.lay_code.proofs.reader.ExprHeads.{Headed, IsHead}
@@ -31,16 +31,33 @@ use Rattle.lay_code.proofs.reader.ExprHeadsWords.{lit_head, underscore_head, cal
 use Rattle.lay_code.proofs.reader.ExprOperators.{strength_most}
 use Rattle.lay_code.proofs.reader.ExprOperatorsTails.{stands_parts}
 use Rattle.lay_code.proofs.reader.ExprReads.{ExprReads, head_at}
+use Rattle.lay_code.proofs.reader.ExprSoundLevel.{layer_of}
+use Rattle.lay_code.proofs.reader.ExprSoundOperators.{op_low}
+
+-- The levels are 14 at most.
+level_most : (x : Expr) → (about_expr x).level ≤ 14
+level_most x = let k = layer_of x in subst (λ (F : ExprFacts). F.level ≤ 14) (sym k.1) (by k.0)
+  where
+    by : (F : ExprLayer) → level_of F ≤ 14
+    by (Expr-F.Chain x []) = omega arith
+    by (Expr-F.Chain x (y ∷ more)) = omega (arith, op_low y.0)
+    by _ = omega arith
+
+-- What stands in its place, within the budget, is accepted.
+pub accept : (budget : ℕ) (place : Place) (x : Expr) (n : ℕ) (rest : Tokens) → stands (about_expr x) place ≡ true
+    → root_follows (about_expr x) place rest ≡ true → n ≤ budget
+    → accepted budget place (x, n) rest ≡ Some ((x, n), rest)
+accept budget place x n rest m r le = rw (m, r, le-leb n budget le) refl
 
 module _ (fronts : Fronts) (most : ℕ) (within : ExprWithin) (reads : (depth : ℕ) → depth ≤ most → ExprReads depth within) (place : Place) where
   -- ---- every expression is reached
 
-  module _ (depth : ℕ) (le : depth ≤ most) (reaches : Reaches within place depth) where
+  module _ (depth : ℕ) (le : depth ≤ most) (reaches : Reaches within place 14 (AtHead within place) depth) where
     -- an expression is reached, one level deeper
     abbrev Reached : Expr → Type 0
     Reached x =
         (level : ℕ) (first : Bool) (ts mid : Tokens) → Known within place level (suc depth) (about_expr x) first ts mid
-        → Reach within place level (suc depth) x ts mid
+        → Reach within place 14 (AtHead within place) level (suc depth) x ts mid
 
     -- what begins an expression, by itself
     alone : (x : Expr) (F : ExprLayer) → about_expr x ≡ expr_facts F → nat_le (level_of F) 14 ≡ true
@@ -73,17 +90,22 @@ module _ (fronts : Fronts) (most : ℕ) (within : ExprWithin) (reads : (depth : 
     reached _ (IsStruct path fields base) =
         alone (expr.Struct path fields base) (Expr-F.Expr::Struct path (map about_field_expr fields) (option_map (option_map about_expr) base))
         (expr_struct_is path fields base) refl (struct_head depth within here path fields base)
-    reached _ (IsChain x more) = chain_reached within place depth here reaches x more
-    reached _ (IsCast x types) = cast_reached within place depth here reaches x types
+    reached _ (IsChain x more) =
+        chain_reached within place 14 (AtHead within place) depth here reaches x more
+        (λ c.
+        let level = level_of_chain (map behind_op more) in
+        let least = leb-true level 10 (and_parts (nat_le 2 level) (nat_le level 10) c).1 in omega (arith, least))
+    reached _ (IsCast x types) = cast_reached within place 14 (AtHead within place) depth here reaches (omega arith) x types
     reached _ (IsUnary ps x) =
         alone (expr.Unary ps x) (Expr-F.Unary ps (about_expr x)) (expr_unary_is ps x) refl (unary_head depth within here ps x)
     reached _ (IsRange None inclusive end) =
         alone (expr.Range None inclusive end) (Expr-F.Range None inclusive (option_map about_expr end))
         (expr_range_is None inclusive end) refl
         (range_head depth within here inclusive end)
-    reached _ (IsRange (Some x) inclusive end) = range_reached within place depth here reaches x inclusive end
-    reached _ (IsAssign targets x) = assign_reached within place depth here reaches targets x
-    reached _ (IsPostfix x steps) = postfix_reached within place depth here reaches x steps
+    reached _ (IsRange (Some x) inclusive end) =
+        range_reached within place 14 (AtHead within place) depth here reaches (omega arith) x inclusive end
+    reached _ (IsAssign targets x) = assign_reached within place 14 (AtHead within place) depth here reaches (omega arith) targets x
+    reached _ (IsPostfix x steps) = postfix_reached within place 14 (AtHead within place) depth here reaches (omega arith) x steps
     reached _ (IsReturn x) =
         alone (expr.Return x) (Expr-F.Return (option_map about_expr x)) (expr_return_is x) refl (return_head depth within here x)
     reached _ (IsBreak label x) =
@@ -106,7 +128,7 @@ module _ (fronts : Fronts) (most : ℕ) (within : ExprWithin) (reads : (depth : 
         alone (expr.Loop label b) (Expr-F.Loop label (about_block b)) (expr_loop_is label b) refl (loop_head fronts depth within here label b)
     reached _ (IsWhile label c b) =
         alone (expr.While label c b) (Expr-F.While label (about_condition c) (about_block b)) (expr_while_is label c b) refl
-        (while_head fronts depth within here label pat x b)
+        (while_head fronts depth within here label c b)
     reached _ (IsFor label pat x b) =
         alone (expr.For label pat x b) (Expr-F.For label pat (about_expr x) (about_block b)) (expr_for_is label pat x b) refl
         (for_head fronts depth within here label pat x b)
@@ -147,7 +169,7 @@ module _ (fronts : Fronts) (most : ℕ) (within : ExprWithin) (reads : (depth : 
         whole (expr.Loop label b) (Expr-F.Loop label (about_block b)) (expr_loop_is label b) refl (loop_head fronts depth within here label b)
     block_like _ (IsWhile label c b) =
         whole (expr.While label c b) (Expr-F.While label (about_condition c) (about_block b)) (expr_while_is label c b) refl
-        (while_head fronts depth within here label pat x b)
+        (while_head fronts depth within here label c b)
     block_like _ (IsFor label pat x b) =
         whole (expr.For label pat x b) (Expr-F.For label pat (about_expr x) (about_block b)) (expr_for_is label pat x b) refl
         (for_head fronts depth within here label pat x b)
@@ -184,9 +206,9 @@ module _ (fronts : Fronts) (most : ℕ) (within : ExprWithin) (reads : (depth : 
     block_like _ (IsBreak label x) = other (expr.Break label x) (Expr-F.Break label (option_map about_expr x)) (expr_break_is label x) refl
 
   -- So all expressions are reached.
-  all_reached : (depth : ℕ) → depth ≤ suc most → Reaches within place depth
-  all_reached zero le x level first ts mid k = absurd (no_depth x ts mid k.spelled)
-  all_reached (suc depth) le x level first ts mid k =
+  all_reached : (depth : ℕ) → depth ≤ suc most → Reaches within place 14 (AtHead within place) depth
+  all_reached zero le x level first ts mid below k = absurd (no_depth x ts mid k.spelled)
+  all_reached (suc depth) le x level first ts mid below k =
       reached depth (omega (arith, le)) (all_reached depth (omega (arith, le))) x (expr_view x) level first ts mid k
 
   -- ---- the whole
@@ -204,12 +226,6 @@ module _ (fronts : Fronts) (most : ℕ) (within : ExprWithin) (reads : (depth : 
       → accepted budget place (x, n) rest ≡ Some ((x, n), rest) → expr_by within budget place ts ≡ Some ((x, n), rest)
   unfolding expr_by
   climbed_read budget h x n ts at rest g i k a = rw (g, i, k, a) refl
-
-  -- What stands in its place, within the budget, is accepted.
-  accept : (budget : ℕ) (x : Expr) (n : ℕ) (rest : Tokens) → stands (about_expr x) place ≡ true
-      → root_follows (about_expr x) place rest ≡ true → n ≤ budget
-      → accepted budget place (x, n) rest ≡ Some ((x, n), rest)
-  accept budget x n rest m r le = rw (m, r, le-leb n budget le) refl
 
   -- an expression with what is within it read at every lower depth
   pub read_one : (depth : ℕ) → depth ≤ most → (x : Expr) (ts rest : Tokens) → Spells (about_expr x).form (suc depth) ts rest
@@ -238,7 +254,7 @@ module _ (fronts : Fronts) (most : ℕ) (within : ExprWithin) (reads : (depth : 
           } in
           let n = (h.0 place.no_struct (begins place.start) ts rest here).read in
           let ended : is_ended place (about_expr x) rest ≡ true = rw (b, no_dot) refl in
-          (n.0, n.1, ended_read (suc most) x n.0 ts rest n.2 ended (accept (suc most) x n.0 rest m r (omega (arith, n.1, le))))
+          (n.0, n.1, ended_read (suc most) x n.0 ts rest n.2 ended (accept (suc most) place x n.0 rest m r (omega (arith, n.1, le))))
       by false b m v r t =
           let weak : nat_le (strength rest) place.level ≡ true = sym (rw b refl) ∙ r in
           let known : Known within place place.level (suc depth) (about_expr x) (begins place.start) ts rest = record {
@@ -252,10 +268,13 @@ module _ (fronts : Fronts) (most : ℕ) (within : ExprWithin) (reads : (depth : 
             tail = t;
             struct_free = (stands_parts (about_expr x) place m).struct_free;
           } in
-          let h = all_reached (suc depth) (omega (arith, le)) x place.level (begins place.start) ts rest known in
+          let high = leb-true place.level (about_expr x).level known.high in
+          let below : place.level ≤ 14 = omega (arith, high, level_most x) in
+          let h = all_reached (suc depth) (omega (arith, le)) x place.level (begins place.start) ts rest below known in
+          let begun = h.begun in
           let climbs = h.climbs ∙ climb_ends within place place.level (x, h.need) rest (omega arith) in (
             h.need,
             h.least,
-            climbed_read (suc most) h.head x h.need ts h.behind rest h.read h.goes_on climbs
-                (accept (suc most) x h.need rest m r (omega (arith, h.least, le))),
+            climbed_read (suc most) h.head x h.need ts h.behind rest begun.read begun.goes_on climbs
+                (accept (suc most) place x h.need rest m r (omega (arith, h.least, le))),
           )

@@ -19,20 +19,23 @@ use Rattle.lay_node.proofs.reader.Exact.{IsRead}
 use Rattle.lay_node.proofs.reader.PatternsFronts.{Fits}
 use Rattle.lay_node.proofs.reader.TypesCompleteParts.{colon_operator, keyword_there, lifetime_alone, lifetime_complete, one_left}
 use Rattle.lay_code.specs.Operands.{ExprLead, ByBrace, ByBlockWord}
-use Rattle.lay_code.specs.nodes.Code.{about_block, about_expr}
-use Rattle.lay_code.specs.nodes.Exprs.{condition_form, condition_good, label_or, labelled, placed}
+use Rattle.lay_code.specs.nodes.Code.{about_block, about_condition, about_expr}
+use Rattle.lay_code.specs.nodes.Exprs.{label_or, labelled, placed}
 use Rattle.lay_code.specs.nodes.Places.{plain}
-use Rattle.lay_code.specs.reader.Blocks.{block_by, condition_by}
+use Rattle.lay_code.specs.reader.Blocks.{block_by}
+use Rattle.lay_code.specs.reader.Conditions.{condition_by}
 use Rattle.lay_code.specs.reader.Exprs.{async_expr, block_word_expr, for_expr, head_by, label_expr, labelled_expr, while_expr}
 use Rattle.lay_code.specs.reader.Within.{ExprWithin}
 use Rattle.lay_code.specs.declared.blocks.Block.{Block}
 use Rattle.lay_code.specs.declared.blocks.Stmt.TheOpen.{Expr-F}
+use Rattle.lay_code.specs.declared.conditions.Condition.{Condition}
 use Rattle.lay_code.specs.declared.exprs.Expr.{Expr}
 use Rattle.lay_code.specs.declared.exprs.Expr.TheVariants as expr
 use Rattle.lay_code.proofs.nodes.ExprsLaws.{expr_async_is, expr_block_is, expr_const_block_is, expr_for_is, expr_loop_is, expr_unsafe_is, expr_while_is}
 use Rattle.lay_code.proofs.reader.BlockReads.{Fronts}
 use Rattle.lay_code.proofs.reader.BlocksComplete.{block_at, block_form_read, block_read, soft_form_read}
-use Rattle.lay_code.proofs.reader.BranchesComplete.{before_block, condition_read}
+use Rattle.lay_code.proofs.reader.BranchesComplete.{before_block}
+use Rattle.lay_code.proofs.reader.ConditionsComplete.{condition_read}
 use Rattle.lay_code.proofs.reader.ExprHeads.{IsHead, head_of}
 use Rattle.lay_code.proofs.reader.ExprReads.{ExprReads}
 use Rattle.lay_code.proofs.reader.PatternEnds.{in_follows}
@@ -171,36 +174,36 @@ module _ (fronts : Fronts) (depth : ℕ) (within : ExprWithin) (reads : ExprRead
           let r = block_form_read fronts depth within reads b true s.0 rest (part_alone ((about_block b).form true) depth s.0 rest s.2) g in
           (suc r.0, omega (arith, r.1), loop_made label b r.0 us s.0 rest o r.2)
 
-  while_made : (label : Option Lifetime) (pat : Option Pat) (x : Expr) (b : Block) (m n : ℕ) (ts at mid rest : Tokens) → IsOne Ident (codes "while") ts at
-      → condition_by within at ≡ Some (((pat, x), m), mid) → block_by within mid ≡ Some ((b, n), rest)
-      → labelled_expr within label ts ≡ Some ((expr.While label pat x b, suc (max m n)), rest)
+  while_made : (label : Option Lifetime) (x : Condition) (b : Block) (m n : ℕ) (ts at mid rest : Tokens) → IsOne Ident (codes "while") ts at
+      → condition_by within at ≡ Some ((x, m), mid) → block_by within mid ≡ Some ((b, n), rest)
+      → labelled_expr within label ts ≡ Some ((expr.While label x b, suc (max m n)), rest)
   unfolding while_expr
-  while_made label pat x b m n ts at mid rest o c r = rw ((one_front Ident (codes "while") ts at o).1, c, r) refl
+  while_made label x b m n ts at mid rest o c r = rw ((one_front Ident (codes "while") ts at o).1, c, r) refl
 
-  pub while_head : (label : Option Lifetime) (pat : Option Pat) (x : Expr) (b : Block) → IsHead depth within (expr.While label pat x b)
-  while_head label pat x b =
-      head_of depth within (expr.While label pat x b) (Expr-F.While label pat (about_expr x) (about_block b)) (expr_while_is label pat x b)
+  pub while_head : (label : Option Lifetime) (x : Condition) (b : Block) → IsHead depth within (expr.While label x b)
+  while_head label x b =
+      head_of depth within (expr.While label x b) (Expr-F.While label (about_condition x) (about_block b)) (expr_while_is label x b)
       (λ no_struct first_flag ts rest h.
-      labelled_read label ByBlockWord (expr.While label pat x b) form no_struct ts rest h.spelled (λ us s. looped us rest s h.inside)
+      labelled_read label ByBlockWord (expr.While label x b) form no_struct ts rest h.spelled (λ us s. looped us rest s h.inside)
       (λ us s. let w = s.1 in while_word us w.0 (before_blank (keyword (codes "while")) us w.0 w.1)))
     where
       head : Form
-      head = Piece (keyword (codes "while") ∷ Blank ∷ []) (Part (condition_form pat (about_expr x)) Done)
+      head = Piece (keyword (codes "while") ∷ Blank ∷ []) (Part (about_condition x).form Done)
 
       form : Form
       form = I0 head (Part ((about_block b).form true) Done)
 
-      looped : (us rest : Tokens) → Spells form depth us rest → (condition_good pat (about_expr x) && (about_block b).good) ≡ true
-          → IsRead (suc depth) (labelled_expr within label) (expr.While label pat x b) us rest
+      looped : (us rest : Tokens) → Spells form depth us rest → ((about_condition x).good && (about_block b).good) ≡ true
+          → IsRead (suc depth) (labelled_expr within label) (expr.While label x b) us rest
       looped us rest s g =
-          let goods = and_parts (condition_good pat (about_expr x)) (about_block b).good g in
+          let goods = and_parts (about_condition x).good (about_block b).good g in
           let w = s.1 in
           let o : IsOne Ident (codes "while") us w.0 = before_blank (keyword (codes "while")) us w.0 w.1 in
-          let condition = part_alone (condition_form pat (about_expr x)) depth w.0 s.0 w.2 in
+          let condition = part_alone (about_condition x).form depth w.0 s.0 w.2 in
           let p = block_at b true depth s.0 rest (part_alone ((about_block b).form true) depth s.0 rest s.2) in
-          let c = condition_read fronts depth within reads pat x w.0 s.0 p.inside condition goods.0 p.opened in
+          let c = condition_read depth within reads x w.0 s.0 p.inside condition goods.0 p.opened in
           let r = block_read fronts depth within reads b s.0 rest p goods.1 in
-          (suc (max c.0 r.0), omega (arith, c.1, r.1), while_made label pat x b c.0 r.0 us w.0 s.0 rest o c.2 r.2)
+          (suc (max c.0 r.0), omega (arith, c.1, r.1), while_made label x b c.0 r.0 us w.0 s.0 rest o c.2 r.2)
 
   for_made : (label : Option Lifetime) (pat : Pat) (x : Expr) (b : Block) (l m n : ℕ) (ts at p behind mid rest : Tokens) → IsOne Ident (codes "for") ts at
       → within.pats Alternatives at ≡ Some ((pat, l), p) → IsOne Ident (codes "in") p behind → within.exprs (plain 0 true) behind ≡ Some ((x, m), mid)

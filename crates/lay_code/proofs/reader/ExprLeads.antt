@@ -116,7 +116,7 @@ path_lead ts h = elim (cases_Bool (is_op (codes "::") ts)) [
     by (u ∷ us) n g = path_by u.kind u.text (u ∷ us) n g
 
 -- `..` or `..=`
-dots_lead : (cs : List ℕ) → bytes_eq (46 ∷ cs) (codes "::") ≡ false → (ts : Tokens) → is_op (46 ∷ cs) ts ≡ true → begins_dots ts ≡ true
+pub dots_lead : (cs : List ℕ) → bytes_eq (46 ∷ cs) (codes "::") ≡ false → (ts : Tokens) → is_op (46 ∷ cs) ts ≡ true → begins_dots ts ≡ true
     → expr_lead_at ts ≡ Some ByRange
 unfolding expr_lead_at
 dots_lead cs other ts h d =

@@ -90,7 +90,7 @@ some_text op.Set = refl
 some_text _ = refl
 
 -- Behind an operator fewer tokens are left.
-text_shorter : (text : List ℕ) → is_there text ≡ true → (ts rest : Tokens) → IsOperator text ts rest → length rest < length ts
+pub text_shorter : (text : List ℕ) → is_there text ≡ true → (ts rest : Tokens) → IsOperator text ts rest → length rest < length ts
 text_shorter [] g ts rest s = absurd (cc)
 text_shorter (c ∷ cs) g ts rest s = op_shorter c cs ts rest s
 

@@ -13,7 +13,7 @@ use Rattle.lay_node.specs.reader.Loops.{nodes, deepest}
 use Rattle.lay_node.specs.declared.types.Ty.{Ty}
 use Rattle.lay_node.specs.declared.types.TypePlace.TheVariants.{NoBounds}
 use Rattle.lay_node.proofs.Fronts.{one_front, one_shorter}
-use Rattle.lay_node.proofs.Parts.{Rows, bit_alone, behind_blank, before_blank}
+use Rattle.lay_node.proofs.Parts.{Rows, rows_to, bit_alone, behind_blank, before_blank}
 use Rattle.lay_node.proofs.reader.TypesComplete.{quiet_fits}
 use Rattle.lay_node.proofs.reader.TypesCompleteParts.{blank_left}
 use Rattle.lay_node.proofs.reader.TypesFronts.{Clear, follows_clear, as_quiet}
@@ -45,7 +45,7 @@ before_tail x level no_struct first angle b ts o h a = op_tail x.tail no_struct 
     by false e f t = e
 
 -- What stands before an operator stands where none follows.
-before_plain : (x : ExprFacts) (level : ℕ) (no_struct angle : Bool) → placed x (before_op level no_struct false angle) ≡ true
+pub before_plain : (x : ExprFacts) (level : ℕ) (no_struct angle : Bool) → placed x (before_op level no_struct false angle) ≡ true
     → placed x (plain level no_struct) ≡ true
 before_plain x level no_struct angle w =
     let p = and_parts (stands x (before_op level no_struct false angle)) (x.within no_struct false) w in
@@ -81,51 +81,36 @@ operands_spelled depth (y ∷ ys) ts rest s =
 abbrev pub at_level : ℕ → Tokens → Bool
 at_level level ts = strength ts == suc level
 
-module _ (depth : ℕ) (within : ExprWithin) (reads : ExprReads depth within) (level : ℕ) (no_struct : Bool) where
-  -- an operator and the operand behind it, read
-  operand_read : (y : Op × Expr) (ts at mid : Tokens) (need : ℕ) → AtOp level y.0 ts at
-      → within.exprs (plain (suc level) no_struct) at ≡ Some ((y.1, need), mid)
-      → operand_ends level no_struct (about_expr y.1) mid ≡ true → operand within level no_struct ts ≡ Some ((y, need), mid)
-  unfolding operand
-  operand_read y ts at mid need a r e = rw (a.binary, a.left, r, e) refl
+-- An operator of a level and the operand behind it are spelled, well placed, and end well.
+pub record OperandFits (depth level : ℕ) (no_struct : Bool) (y : Op × Expr) (ts mid : Tokens) : Type 0 where
+  pub spelled : OperandSpelled depth y ts mid
+  pub at : (op_level y.0 == level) ≡ true
+  pub there : placed (about_expr y.1) (plain (suc level) no_struct) ≡ true
+  pub follow : follows (about_expr y.1) (plain (suc level) no_struct) mid ≡ true
+  pub ends : operand_ends level no_struct (about_expr y.1) mid ≡ true
 
-  -- the same as a turn
-  abbrev OperandTurn : Op × Expr → Tokens → Tokens → Type 0
-  OperandTurn = NodeTurn (at_level level) (operand within level no_struct) depth
-
-  -- a turn, where the operand's end is well
-  operand_turn : (y : Op × Expr) (ts mid : Tokens) → (op_level y.0 == level) ≡ true → OperandSpelled depth y ts mid
-      → placed (about_expr y.1) (plain (suc level) no_struct) ≡ true → follows (about_expr y.1) (plain (suc level) no_struct) mid ≡ true
-      → operand_ends level no_struct (about_expr y.1) mid ≡ true → OperandTurn y ts mid
-  operand_turn y ts mid l s w f e =
-      let at = s.0 in
-      let a = at_op level y.0 ts at l s.1 in
-      let r = reads.exprs (plain (suc level) no_struct) y.1 at mid s.2 w f in (
-        r.0,
-        r.1,
-        (
-          eq-eqb (strength ts) (suc level) a.strength,
-          operand_read y ts at mid r.0 a r.2 e,
-          omega (arith, a.less, shorter (about_expr y.1).form depth at mid s.2),
-        ),
-      )
-
+module _ (depth level : ℕ) (no_struct : Bool) where
   -- Operands stand each before the next operator, and the last before what is left.
-  pub operand_turns : (y : Op × Expr) (ys : List (Op × Expr)) (ts rest : Tokens) → Rows (OperandSpelled depth) (y ∷ ys) ts rest
+  pub operands_fit : (y : Op × Expr) (ys : List (Op × Expr)) (ts rest : Tokens) → Rows (OperandSpelled depth) (y ∷ ys) ts rest
       → operands_placed level no_struct (map behind_op (y ∷ ys)) ≡ true → may_chain level (map behind_op (y ∷ ys)) ≡ true
       → strength rest ≤ level → tail_follows (tail_of_operands (map behind_op (y ∷ ys))) no_struct rest ≡ true
-      → Rows OperandTurn (y ∷ ys) ts rest
-  operand_turns y [] ts rest r w c s t =
+      → Rows (OperandFits depth level no_struct) (y ∷ ys) ts rest
+  operands_fit y [] ts rest r w c s t =
       let p = and_parts ((op_level y.0 == level) && placed (about_expr y.1) (plain (suc level) no_struct)) true w in
       let q = and_parts (op_level y.0 == level) (placed (about_expr y.1) (plain (suc level) no_struct)) p.0 in
       let spelled : OperandSpelled depth y ts rest = subst (λ us. OperandSpelled depth y ts us) r.2 r.1 in
       let ends : operand_ends level no_struct (about_expr y.1) rest ≡ true = rw (not_at_level level rest s) refl in (
         rest,
-        operand_turn y ts rest q.0 spelled q.1
-            (plain_follows (about_expr y.1) (suc level) no_struct rest (le-leb (strength rest) (suc level) (omega (arith, s))) t) ends,
+        record {
+          spelled = spelled;
+          at = q.0;
+          there = q.1;
+          follow = plain_follows (about_expr y.1) (suc level) no_struct rest (le-leb (strength rest) (suc level) (omega (arith, s))) t;
+          ends = ends;
+        },
         refl,
       )
-  operand_turns y (z ∷ more) ts rest r w c s t =
+  operands_fit y (z ∷ more) ts rest r w c s t =
       let F = about_expr y.1 in
       let next = r.2 in
       let mid = r.0 in
@@ -150,13 +135,41 @@ module _ (depth : ℕ) (within : ExprWithin) (reads : ExprReads depth within) (l
       (and_from (not (level == 4)) (stands F (before_op (suc level) no_struct false (is_angle mid))) c here) in
       let follow = plain_follows F (suc level) no_struct mid (le-leb (strength mid) (suc level) (omega (arith, a.strength))) tail in (
         mid,
-        operand_turn y ts mid q.0 r.1 (before_plain F (suc level) no_struct (is_angle_op z.0) q.1) follow ends,
-        operand_turns z more mid rest next p.1 (chain_on more c) s t,
+        record { spelled = r.1; at = q.0; there = before_plain F (suc level) no_struct (is_angle_op z.0) q.1; follow = follow; ends = ends },
+        operands_fit z more mid rest next p.1 (chain_on more c) s t,
       )
     where
       chain_on : (xs : List (Op × Expr)) → not (level == 4) ≡ true → may_chain level (map behind_op (z ∷ xs)) ≡ true
       chain_on [] h = refl
       chain_on (x ∷ xs) h = h
+
+module _ (depth : ℕ) (within : ExprWithin) (reads : ExprReads depth within) (level : ℕ) (no_struct : Bool) where
+  -- an operator and the operand behind it, read
+  operand_read : (y : Op × Expr) (ts at mid : Tokens) (need : ℕ) → AtOp level y.0 ts at
+      → within.exprs (plain (suc level) no_struct) at ≡ Some ((y.1, need), mid)
+      → operand_ends level no_struct (about_expr y.1) mid ≡ true → operand within level no_struct ts ≡ Some ((y, need), mid)
+  unfolding operand
+  operand_read y ts at mid need a r e = rw (a.binary, a.left, r, e) refl
+
+  -- the same as a turn
+  abbrev OperandTurn : Op × Expr → Tokens → Tokens → Type 0
+  OperandTurn = NodeTurn (at_level level) (operand within level no_struct) depth
+
+  -- a turn, where the operand's end is well
+  operand_turn : (y : Op × Expr) (ts mid : Tokens) → OperandFits depth level no_struct y ts mid → OperandTurn y ts mid
+  operand_turn y ts mid f =
+      let s = f.spelled in
+      let at = s.0 in
+      let a = at_op level y.0 ts at f.at s.1 in
+      let r = reads.exprs (plain (suc level) no_struct) y.1 at mid s.2 f.there f.follow in (
+        r.0,
+        r.1,
+        (
+          eq-eqb (strength ts) (suc level) a.strength,
+          operand_read y ts at mid r.0 a r.2 f.ends,
+          omega (arith, a.less, shorter (about_expr y.1).form depth at mid s.2),
+        ),
+      )
 
   -- Operators of the level and operands that are spelled are read, as long as they are.
   pub operands_read : (y : Op × Expr) (ys : List (Op × Expr)) (ts rest : Tokens) → Rows (OperandSpelled depth) (y ∷ ys) ts rest
@@ -166,7 +179,9 @@ module _ (depth : ℕ) (within : ExprWithin) (reads : ExprReads depth within) (l
       × (operands within level no_struct ts ≡ Some (found, rest))
   unfolding operands
   operands_read y ys ts rest r w c s t =
-      nodes_repeat (at_level level) (operand within level no_struct) depth (y ∷ ys) ts rest (operand_turns y ys ts rest r w c s t)
+      let fit = operands_fit depth level no_struct y ys ts rest r w c s t in
+      nodes_repeat (at_level level) (operand within level no_struct) depth (y ∷ ys) ts rest
+      (rows_to (OperandFits depth level no_struct) OperandTurn operand_turn (y ∷ ys) ts rest fit)
       (not_at_level level rest s)
 
 -- ---- targets and a value, as operands with operators between them

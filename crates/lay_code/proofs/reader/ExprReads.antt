@@ -14,16 +14,26 @@ use Rattle.lay_node.proofs.reader.TypesComplete as types
 use Rattle.lay_code.specs.Operands.{expr_lead_at}
 use Rattle.lay_code.specs.nodes.Code.{about_block, about_expr, about_item}
 use Rattle.lay_code.specs.nodes.Exprs.{follows, placed}
+use Rattle.lay_code.specs.nodes.Places.{plain}
+use Rattle.lay_code.specs.reader.Conditions.{alone, condition_by}
 use Rattle.lay_code.specs.reader.Exprs.{head_by}
 use Rattle.lay_code.specs.reader.Within.{ExprWithin}
 use Rattle.lay_code.specs.declared.blocks.Block.{Block}
 use Rattle.lay_code.specs.declared.exprs.Expr.{Expr}
 use Rattle.lay_code.specs.declared.exprs.Place.{Place}
 
+-- Expressions that are spelled at a depth are read in their places.
+abbrev pub ReadsExprs : ℕ → ExprWithin → Type 0
+ReadsExprs depth within =
+    (place : Place) (x : Expr) (ts rest : Tokens) → Spells (about_expr x).form depth ts rest → placed (about_expr x) place ≡ true
+    → follows (about_expr x) place rest ≡ true → IsRead depth (within.exprs place) x ts rest
+
 -- What is one level deeper is read.
 pub record ExprReads (depth : ℕ) (within : ExprWithin) : Type 0 where
-  pub exprs : (place : Place) (x : Expr) (ts rest : Tokens) → Spells (about_expr x).form depth ts rest → placed (about_expr x) place ≡ true
-      → follows (about_expr x) place rest ≡ true → IsRead depth (within.exprs place) x ts rest
+  pub exprs : ReadsExprs depth within
+  -- expressions that are conditions
+  pub conditions : (x : Expr) (ts rest : Tokens) → Spells (about_expr x).form depth ts rest → placed (about_expr x) (plain 0 true) ≡ true
+      → follows (about_expr x) (plain 0 true) rest ≡ true → IsRead depth (condition_by within) (alone x) ts rest
   pub kinds : types.Reads depth within.kinds
   pub pats : (place : PatPlace) (x : Pat) (ts rest : Tokens) → Spells (pat_form place (about_pat x)) depth ts rest
       → pat_good place (about_pat x) ≡ true → Fits place (about_pat x) rest → IsRead depth (within.pats place) x ts rest
