@@ -9,8 +9,8 @@ ghost use Rattle.lay_code.specs.nodes.Code.{form_of_item};
 
 use crate::items::put_item;
 use lay_code::{File, Item};
+use lay_out_pats::add_attrs;
 use lay_out_tokens::HARD_BREAK;
-use lay_out_types::add_attrs;
 use lay_stream::Emit;
 use lay_text::Text;
 
