@@ -24,8 +24,8 @@ pub fn put_file<E: Emit>(out: &mut E, file: &File) -> Result<(), E::Fault>
     put_items(out, file.items.as_slice())
 }
 
-/// The first line, if it is a shebang.
-fn put_shebang<E: Emit>(out: &mut E, shebang: &Option<Text>) -> Result<(), E::Fault>
+/// Feeds the layout of the first line of a file, if it is a shebang: the line, with a newline behind it.
+pub fn put_shebang<E: Emit>(out: &mut E, shebang: &Option<Text>) -> Result<(), E::Fault>
     ensures { Did E.meanings out.old (stream (behind_shebang shebang.now Empty)) result out.new }
 {
     match shebang {
