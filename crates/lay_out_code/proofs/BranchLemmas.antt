@@ -34,7 +34,7 @@ use Rattle.lay_out_tokens.proofs.StreamParts.{fed_more}
 use Rattle.lay_out_types.specs.Calls.{Adds}
 use Rattle.lay_out_types.specs.Rows.{further, row}
 use Rattle.lay_out_types.proofs.Adding.{level_behind, on_ok}
-use Rattle.lay_out_types.proofs.FieldLemmas.{lines_more}
+use Rattle.lay_out_pats.proofs.FieldLemmas.{lines_more}
 use Rattle.lay_out_types.proofs.FormRows.{level_form, one_open, part_more}
 use Rattle.lay_out_heads.specs.FieldRows.{line}
 use Rattle.lay_out_heads.proofs.Steady.{Steady}

@@ -24,11 +24,11 @@ use lay_out_exprs::blocks::{add_condition_lead, add_else_word};
 use lay_out_exprs::flags::both;
 use lay_out_heads::calls::add_break;
 use lay_out_heads::loops::{close_body, open_body};
+use lay_out_pats::{add_attrs, add_group, add_pat};
 use lay_out_tokens::HARD_BREAK;
 use lay_out_tokens::notation::NEVER_BREAK;
 use lay_out_types::calls::add_text;
 use lay_out_types::lists::add_end;
-use lay_out_types::{add_attrs, add_group, add_pat};
 use lay_stream::Emit;
 
 /// What is matched, behind its word, in a group of its own.

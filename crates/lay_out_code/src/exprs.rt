@@ -20,9 +20,10 @@ use lay_out_exprs::flags::both;
 use lay_out_exprs::operators::{add_casts, add_label, add_prefixes};
 use lay_out_exprs::points::{ends_in_point, operand_ends_in_point};
 use lay_out_exprs::steps::{add_steps_end, add_steps_start, are_several_methods};
+use lay_out_pats::{add_closing_brace, add_dots_behind, add_group, add_pat};
 use lay_out_types::calls::{add_call, add_if, add_literal, add_text, add_tokens};
 use lay_out_types::lists::{add_begin, add_close, add_end, add_lead};
-use lay_out_types::{add_closing_brace, add_dots_behind, add_group, add_pat, add_path, add_type};
+use lay_out_types::{add_path, add_type};
 use lay_stream::Emit;
 
 /// Feeds the layout of an expression.

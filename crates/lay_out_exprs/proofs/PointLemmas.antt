@@ -47,7 +47,7 @@ use Rattle.lay_code.specs.declared.operators.Prefix.{Prefix}
 use Rattle.lay_code.specs.declared.operators.Prefix.TheVariants as prefix
 use Rattle.lay_code.proofs.nodes.BlocksLaws.{block_is, branch_is}
 use Rattle.lay_code.proofs.nodes.ExprsLaws.{ExprView, IsArray, IsAssign, IsAsync, IsBlock, IsBreak, IsCall, IsCast, IsChain, IsClosure, IsConstBlock, IsContinue, IsFor, IsIf, IsLit, IsLoop, IsMatch, IsParen, IsPath, IsPostfix, IsRange, IsRepeat, IsReturn, IsStruct, IsTuple, IsTypedClosure, IsUnary, IsUnderscore, IsUnsafe, IsWhile, expr_array_is, expr_assign_is, expr_async_is, expr_block_is, expr_break_is, expr_call_is, expr_cast_is, expr_chain_is, expr_closure_is, expr_const_block_is, expr_continue_is, expr_for_is, expr_if_is, expr_lit_is, expr_loop_is, expr_match_is, expr_paren_is, expr_path_is, expr_postfix_is, expr_range_is, expr_repeat_is, expr_return_is, expr_struct_is, expr_tuple_is, expr_typed_closure_is, expr_unary_is, expr_underscore_is, expr_unsafe_is, expr_view, expr_while_is}
-use Rattle.lay_out_types.proofs.PathPoints.{path_point}
+use Rattle.lay_out_pats.proofs.PathPoints.{path_point}
 use Rattle.lay_out_exprs.specs.Parts.{base_facts, before_op, behind_op, expr_told}
 use Rattle.lay_out_exprs.proofs.Feeds.{no_point}
 use Rattle.lay_out_exprs.proofs.StepLemmas.{step_shuts}

@@ -11,10 +11,10 @@ ghost use Rattle.lay_out_exprs.specs.Blocks.{else_between, lead_row, let_row, li
 use crate::flags::both;
 use lay_code::{Attr, Block, Lifetime, Pat, Stmt};
 use lay_out_heads::calls::add_break;
+use lay_out_pats::{add_group, add_pat};
 use lay_out_tokens::notation::{CLOSING_SPACE_BREAK, SPACE_BREAK};
 use lay_out_types::calls::add_text;
 use lay_out_types::lists::add_end;
-use lay_out_types::{add_group, add_pat};
 use lay_stream::Emit;
 
 /// A label before a loop or a block, if there is one.

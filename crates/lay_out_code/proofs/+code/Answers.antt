@@ -11,10 +11,10 @@ use Rattle.lay_code.specs.declared.exprs.FieldExpr.{FieldExpr}
 use Rattle.lay_code.specs.declared.exprs.Step.{Step}
 use Rattle.lay_code.specs.declared.operators.Op.{Op}
 use Rattle.lay_out_tokens.proofs.StreamParts.{loop_done, loop_step}
-use Rattle.lay_out_types.specs.PatternRows.{braces_opened}
+use Rattle.lay_out_pats.specs.PatternRows.{braces_opened}
 use Rattle.lay_out_types.specs.Rows.{comma_between, list_closed, list_opened, row}
 use Rattle.lay_out_types.proofs.Adding.{adds, adds_nothing, adds_on}
-use Rattle.lay_out_types.proofs.FieldLemmas.{may_close_braces}
+use Rattle.lay_out_pats.proofs.FieldLemmas.{may_close_braces}
 use Rattle.lay_out_types.proofs.FormRows.{may_close, none_is, none_left}
 use Rattle.lay_out_types.proofs.RowLemmas.{all_turns, turn}
 use Rattle.lay_out_exprs.specs.Parts.{before_op, behind_op, expr_told, field_told}

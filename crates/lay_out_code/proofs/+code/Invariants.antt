@@ -5,7 +5,7 @@ use Rattle.lay_code.specs.nodes.Code.{about_link, about_step, form_of_item}
 use Rattle.lay_code.specs.nodes.Conditions.{links_form}
 use Rattle.lay_code.specs.nodes.Exprs.{operands_form, steps_form, targets_form}
 use Rattle.lay_out_types.specs.Calls.{Adds}
-use Rattle.lay_out_types.specs.PatternRows.{braces_opened}
+use Rattle.lay_out_pats.specs.PatternRows.{braces_opened}
 use Rattle.lay_out_types.specs.Rows.{comma_between, list_opened, row}
 use Rattle.lay_out_exprs.specs.Parts.{before_op, behind_op, expr_told, field_told}
 use Rattle.lay_out_exprs.proofs.Turns.{SoFar}
