@@ -1,6 +1,5 @@
 -- The streams of conditions and their links, and of the groups that they stand in.
 use Rattle.std.proofs.Common.{◌≡◌, ℕ, suc, ◌-◌, ◌<◌, ◌≤◌, Bool, true, false, List, [], ◌∷◌, ◌++◌, map, length, get_or, take, drop, codes, pos, refl, sym, ap, ◌∙◌, append_assoc, arith, OnOk, Result}
-use Rattle.lay_layout.specs.Machine.{opened}
 use Rattle.lay_layout.specs.declared.layout.Tok.{Tok}
 use Rattle.lay_layout.specs.declared.layout.Tok.TheVariants as tok
 use Rattle.lay_stream.specs.Fed.{Meanings}

@@ -12,7 +12,6 @@ use Rattle.lay_node.specs.nodes.Functions.{self_type}
 use Rattle.lay_node.specs.nodes.Patterns.{about_pat}
 use Rattle.lay_node.specs.nodes.Types.{param_attrs}
 use Rattle.lay_node.specs.declared.attr.Attr.{Attr}
-use Rattle.lay_node.specs.declared.patterns.Pat.{Pat}
 use Rattle.lay_node.specs.declared.token.Lifetime.{Lifetime}
 use Rattle.lay_node.specs.declared.tokens.MacroCall.{MacroCall}
 use Rattle.lay_node.specs.declared.types.Ty.{Ty}

@@ -15,7 +15,6 @@ use Rattle.lay_node.specs.nodes.Patterns.{dots}
 use Rattle.lay_node.specs.nodes.Types.{ArgsFacts, PathFacts, TypeFacts, about_args, about_path, about_start, about_type, in_style, segments_form}
 use Rattle.lay_node.specs.tokens.Lists.{group_form}
 use Rattle.lay_node.specs.declared.attr.Attr.{Attr}
-use Rattle.lay_node.specs.declared.patterns.Pat.{Pat}
 use Rattle.lay_node.specs.declared.patterns.SpanEnd.TheVariants as span_end
 use Rattle.lay_node.specs.declared.token.Lifetime.{Lifetime}
 use Rattle.lay_node.specs.declared.token.Literal.{Literal}
