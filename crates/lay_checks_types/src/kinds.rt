@@ -8,8 +8,9 @@ use lay_nest::{Nested, nest};
 use lay_node::{
     Args, Attr, Bound, Generics, MacroCall, Pat, Path, PathStyle, Ty, TypePlace, Wheres,
 };
+use lay_out_pats::put_pat;
 use lay_out_tokens::{put_attr, put_call};
-use lay_out_types::{put_args, put_bounds, put_generics, put_pat, put_path, put_type, put_wheres};
+use lay_out_types::{put_args, put_bounds, put_generics, put_path, put_type, put_wheres};
 use lay_read_generics::{read_generics, read_wheres};
 use lay_read_pats::{read_pat, read_pat_no_alt};
 use lay_read_tokens::{read_attr, read_call};

@@ -1,10 +1,7 @@
 //! From bytes to the text of their file, where no tree of the file stands in memory.
-ghost use Rattle.std.specs.Prelude.{IfOk, IsTrue, IsUtf8, OnOk, Some};
+ghost use Rattle.std.specs.Prelude.{IfOk, IsTrue, IsUtf8, OnOk};
 ghost use Rattle.std.specs.Str.{IsCharBoundary};
-ghost use Rattle.lay_layout.specs.Document.{Empty, stream};
 ghost use Rattle.lay_lex.specs.Source.{seen};
-ghost use Rattle.lay_stream.specs.Fed.{Did};
-ghost use Rattle.lay_code.specs.Out.{behind_shebang};
 ghost use Rattle.lay_code.specs.Reading.{top};
 ghost use Rattle.lay_code.specs.Written.{is_good_shebang};
 ghost use Rattle.lay_files.specs.Readings.{FormatsAs, FormatsSource, FormattedAs, WritesSource};
@@ -14,12 +11,11 @@ use crate::reading::{DEPTH, FileError, placed, read_tokens};
 use crate::writing::bytes_of;
 use lay_io::Sink;
 use lay_lex::{Source, normalise};
-use lay_out_tokens::HARD_BREAK;
+use lay_out_code::put_shebang;
 use lay_printer::{Core, Press, PrintError};
 use lay_read_tokens::ReadNone;
-use lay_stream::Emit;
 use lay_through::{NotPut, put_source, told};
-use lay_token::{List, NoMemory, Text};
+use lay_token::{List, NoMemory};
 use std::alloc::Global;
 
 /// The text of the one file that the bytes read to, or their refusal and its place.
@@ -90,22 +86,4 @@ fn write_source<K: Sink>(
     told(put_shebang(&mut press, &source.shebang))?;
     put_source(alloc, source, DEPTH, &mut press)?;
     told(press.finish())
-}
-
-/// The first line, if it is a shebang.
-fn put_shebang<E: Emit>(out: &mut E, shebang: &Option<Text>) -> Result<(), E::Fault>
-    ensures { Did E.meanings out.old (stream (behind_shebang shebang.now Empty)) result out.new }
-{
-    match shebang {
-        None => Ok(()),
-        Some(line) => put_line(out, line.as_bytes()),
-    }
-}
-
-/// A text, with a newline behind it.
-fn put_line<E: Emit>(out: &mut E, line: &[u8]) -> Result<(), E::Fault>
-    ensures { Did E.meanings out.old (stream (behind_shebang (Some line.now) Empty)) result out.new }
-{
-    out.text(line)?;
-    out.brk(HARD_BREAK)
 }

@@ -33,7 +33,7 @@ use Rattle.lay_code.specs.declared.item.Item.{Item}
 use Rattle.lay_code.proofs.nodes.BlocksLaws.{block_is, stmt_expr_is, stmt_item_is, stmt_let_is}
 use Rattle.lay_out_tokens.proofs.StreamParts.{fed_more}
 use Rattle.lay_out_types.specs.Rows.{further, row}
-use Rattle.lay_out_types.proofs.FieldLemmas.{lines_more}
+use Rattle.lay_out_pats.proofs.FieldLemmas.{lines_more}
 use Rattle.lay_out_types.specs.Calls.{Adds}
 use Rattle.lay_out_types.proofs.Adding.{level_behind, on_ok}
 use Rattle.lay_out_types.proofs.FormRows.{each_is, level_further, one_open, part_more}

@@ -37,7 +37,7 @@ use Rattle.lay_out_tokens.proofs.StreamParts.{fed_more}
 use Rattle.lay_out_types.specs.Calls.{Adds}
 use Rattle.lay_out_types.specs.Rows.{further, row}
 use Rattle.lay_out_types.proofs.Adding.{level_behind, on_ok}
-use Rattle.lay_out_types.proofs.FieldLemmas.{lines_more}
+use Rattle.lay_out_pats.proofs.FieldLemmas.{lines_more}
 use Rattle.lay_out_types.proofs.FormRows.{each_is, level_form, one_open, part_more}
 use Rattle.lay_out_types.proofs.TypeLemmas.{forms_are}
 use Rattle.lay_out_heads.specs.FieldRows.{body_closed, body_opened, line}

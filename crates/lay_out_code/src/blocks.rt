@@ -19,10 +19,10 @@ use lay_out_exprs::flags::both;
 use lay_out_heads::add_self_type;
 use lay_out_heads::calls::add_break;
 use lay_out_heads::loops::{close_body, open_body};
+use lay_out_pats::{add_attrs, add_pat};
 use lay_out_tokens::HARD_BREAK;
 use lay_out_tokens::notation::{NEVER_BREAK, SPACE_BREAK};
 use lay_out_types::calls::{add_either, add_if, add_text};
-use lay_out_types::{add_attrs, add_pat};
 use lay_stream::Emit;
 
 /// Feeds the layout of a block, whose braces have a leading blank or not.

@@ -9,8 +9,8 @@ ghost use Rattle.lay_code.specs.nodes.Code.{form_of_item};
 
 use crate::items::put_item;
 use lay_code::{File, Item};
+use lay_out_pats::add_attrs;
 use lay_out_tokens::HARD_BREAK;
-use lay_out_types::add_attrs;
 use lay_stream::Emit;
 use lay_text::Text;
 
@@ -24,8 +24,8 @@ pub fn put_file<E: Emit>(out: &mut E, file: &File) -> Result<(), E::Fault>
     put_items(out, file.items.as_slice())
 }
 
-/// The first line, if it is a shebang.
-fn put_shebang<E: Emit>(out: &mut E, shebang: &Option<Text>) -> Result<(), E::Fault>
+/// Feeds the layout of the first line of a file, if it is a shebang: the line, with a newline behind it.
+pub fn put_shebang<E: Emit>(out: &mut E, shebang: &Option<Text>) -> Result<(), E::Fault>
     ensures { Did E.meanings out.old (stream (behind_shebang shebang.now Empty)) result out.new }
 {
     match shebang {

@@ -7,7 +7,7 @@ ghost use Rattle.lay_code.specs.nodes.Code.{about_field_expr, about_step};
 ghost use Rattle.lay_code.specs.nodes.Exprs.{operands_form, steps_form, targets_form};
 ghost use Rattle.lay_out_exprs.specs.Parts.{base_told, before_op, behind_op, field_told};
 ghost use Rattle.lay_out_types.specs.Calls.{Adds};
-ghost use Rattle.lay_out_types.specs.PatternRows.{braces_opened};
+ghost use Rattle.lay_out_pats.specs.PatternRows.{braces_opened};
 ghost use Rattle.lay_out_types.specs.Rows.{comma_between, row};
 
 use crate::exprs::{add_expr, add_exprs, add_optional};
@@ -16,9 +16,9 @@ use lay_out_exprs::add_generics;
 use lay_out_exprs::flags::either;
 use lay_out_exprs::operators::{add_assignment, add_operator};
 use lay_out_exprs::steps::{add_step_break, is_method};
+use lay_out_pats::{add_attrs, add_brace};
 use lay_out_types::calls::{add_either, add_text, add_word};
 use lay_out_types::lists::{add_close, add_lead};
-use lay_out_types::{add_attrs, add_brace};
 use lay_stream::Emit;
 
 /// The fields of a struct literal, behind what opens their braces.

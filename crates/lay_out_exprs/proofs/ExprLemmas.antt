@@ -33,7 +33,7 @@ use Rattle.lay_code.proofs.nodes.ExprsLaws.{expr_array_is, expr_break_is, expr_c
 use Rattle.lay_out_tokens.proofs.StreamParts.{fed_more}
 use Rattle.lay_out_types.specs.Rows.{comma_between, list_closed, list_opened, row}
 use Rattle.lay_out_types.proofs.FormRows.{list_is, none_is}
-use Rattle.lay_out_types.proofs.PathEnds.{path_any}
+use Rattle.lay_out_pats.proofs.PathEnds.{path_any}
 use Rattle.lay_out_exprs.specs.Parts.{behind_op, expr_told, prefix_texts}
 use Rattle.lay_out_exprs.proofs.Feeds.{Any, both, dots_fed, label_more, part_at, prefixes_fed, within}
 

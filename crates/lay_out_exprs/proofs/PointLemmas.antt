@@ -15,7 +15,6 @@ use Rattle.lay_node.specs.nodes.Patterns.{dots}
 use Rattle.lay_node.specs.nodes.Types.{ArgsFacts, PathFacts, TypeFacts, about_args, about_path, about_start, about_type, in_style, segments_form}
 use Rattle.lay_node.specs.tokens.Lists.{group_form}
 use Rattle.lay_node.specs.declared.attr.Attr.{Attr}
-use Rattle.lay_node.specs.declared.patterns.Pat.{Pat}
 use Rattle.lay_node.specs.declared.patterns.SpanEnd.TheVariants as span_end
 use Rattle.lay_node.specs.declared.token.Lifetime.{Lifetime}
 use Rattle.lay_node.specs.declared.token.Literal.{Literal}
@@ -34,7 +33,7 @@ use Rattle.lay_node.proofs.nodes.TypesLaws.{IsGlobal, IsLocal, IsQualified, Path
 use Rattle.lay_code.specs.nodes.Blocks.{attrs_before, block_form, dropped_if, is_plain, soft_form, stmt_form}
 use Rattle.lay_code.specs.nodes.Code.{about_arm, about_block, about_branch, about_expr, about_field_expr, about_step, about_stmt}
 use Rattle.lay_code.specs.nodes.CodeFacts.{BlockFacts, BranchFacts, StmtFacts}
-use Rattle.lay_code.specs.nodes.Exprs.{ExprFacts, arm_forms, base_form, branches_form, break_if, closure_head, condition_form, else_branch_form, end_form, expr_forms, group_if, is_method, label_form, labelled, methods, more_branches, operand_form, operands_form, prefix_bits, prefixes_form, steps_form, targets_form, tuple_form, types_form}
+use Rattle.lay_code.specs.nodes.Exprs.{ExprFacts, arm_forms, base_form, branches_form, break_if, closure_head, else_branch_form, end_form, expr_forms, group_if, is_method, label_form, labelled, methods, more_branches, operand_form, operands_form, prefix_bits, prefixes_form, steps_form, targets_form, tuple_form, types_form}
 use Rattle.lay_code.specs.declared.blocks.Arm.{Arm}
 use Rattle.lay_code.specs.declared.blocks.Block.{Block}
 use Rattle.lay_code.specs.declared.blocks.Branch.{Branch}
@@ -47,7 +46,7 @@ use Rattle.lay_code.specs.declared.operators.Prefix.{Prefix}
 use Rattle.lay_code.specs.declared.operators.Prefix.TheVariants as prefix
 use Rattle.lay_code.proofs.nodes.BlocksLaws.{block_is, branch_is}
 use Rattle.lay_code.proofs.nodes.ExprsLaws.{ExprView, IsArray, IsAssign, IsAsync, IsBlock, IsBreak, IsCall, IsCast, IsChain, IsClosure, IsConstBlock, IsContinue, IsFor, IsIf, IsLit, IsLoop, IsMatch, IsParen, IsPath, IsPostfix, IsRange, IsRepeat, IsReturn, IsStruct, IsTuple, IsTypedClosure, IsUnary, IsUnderscore, IsUnsafe, IsWhile, expr_array_is, expr_assign_is, expr_async_is, expr_block_is, expr_break_is, expr_call_is, expr_cast_is, expr_chain_is, expr_closure_is, expr_const_block_is, expr_continue_is, expr_for_is, expr_if_is, expr_lit_is, expr_loop_is, expr_match_is, expr_paren_is, expr_path_is, expr_postfix_is, expr_range_is, expr_repeat_is, expr_return_is, expr_struct_is, expr_tuple_is, expr_typed_closure_is, expr_unary_is, expr_underscore_is, expr_unsafe_is, expr_view, expr_while_is}
-use Rattle.lay_out_types.proofs.PathPoints.{path_point}
+use Rattle.lay_out_pats.proofs.PathPoints.{path_point}
 use Rattle.lay_out_exprs.specs.Parts.{base_facts, before_op, behind_op, expr_told}
 use Rattle.lay_out_exprs.proofs.Feeds.{no_point}
 use Rattle.lay_out_exprs.proofs.StepLemmas.{step_shuts}
@@ -502,9 +501,9 @@ other_by q _ (IsMatch x attrs arms) o =
 other_by q _ (IsLoop label b) o =
     labelled_shuts q label _ (λ r. block_shuts false true b)
     ∙ ends_is q (expr.Loop label b) (expr.Loop label b) _ refl (expr_loop_is label b)
-other_by q _ (IsWhile label pat x b) o =
+other_by q _ (IsWhile label c b) o =
     labelled_shuts q label _ (λ r. block_shuts _ true b)
-    ∙ ends_is q (expr.While label pat x b) (expr.While label pat x b) _ refl (expr_while_is label pat x b)
+    ∙ ends_is q (expr.While label c b) (expr.While label c b) _ refl (expr_while_is label c b)
 other_by q _ (IsFor label pat x b) o =
     labelled_shuts q label _ (λ r. block_shuts _ true b)
     ∙ ends_is q (expr.For label pat x b) (expr.For label pat x b) _ refl (expr_for_is label pat x b)

@@ -25,11 +25,11 @@ use Rattle.lay_code.specs.declared.exprs.FieldExpr.TheVariants as field
 use Rattle.lay_code.proofs.nodes.ExprsLaws.{expr_struct_is, field_expr_named_is, field_expr_numbered_is, field_expr_short_is}
 use Rattle.lay_out_tokens.proofs.StreamParts.{leaf_more}
 use Rattle.lay_out_types.specs.Calls.{Adds}
-use Rattle.lay_out_types.specs.PatternRows.{braces_closed, braces_opened}
+use Rattle.lay_out_pats.specs.PatternRows.{braces_closed, braces_opened}
 use Rattle.lay_out_types.specs.Rows.{comma_between, row}
-use Rattle.lay_out_types.proofs.FieldLemmas.{braces_are, lines_more, may_close_braces}
+use Rattle.lay_out_pats.proofs.FieldLemmas.{braces_are, lines_more, may_close_braces}
 use Rattle.lay_out_types.proofs.FormRows.{none_is, one_there, row_end}
-use Rattle.lay_out_types.proofs.PathEnds.{path_any}
+use Rattle.lay_out_pats.proofs.PathEnds.{path_any}
 use Rattle.lay_out_exprs.specs.Parts.{base_facts, base_told, expr_told, field_told, fields_form}
 use Rattle.lay_out_exprs.proofs.Feeds.{Any, both, part_at}
 use Rattle.lay_out_exprs.proofs.ExprLemmas.{told, told_is}

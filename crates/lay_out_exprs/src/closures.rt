@@ -8,7 +8,7 @@ ghost use Rattle.lay_out_types.specs.Calls.{Adds};
 
 use lay_code::ClosureParam;
 use lay_out_heads::add_self_type;
-use lay_out_types::add_pat;
+use lay_out_pats::add_pat;
 use lay_out_types::calls::add_if;
 use lay_out_types::lists::{add_close, add_lead};
 use lay_out_types::parts::add_param_attrs;

@@ -9,7 +9,7 @@ ghost use Rattle.lay_code.specs.nodes.Exprs.{end_form};
 
 use crate::flags::both;
 use lay_code::{Boxed, Expr, Path, PathStart};
-use lay_out_types::is_pointed;
+use lay_out_pats::is_pointed;
 
 /// Whether an expression ends in a point. The flag says that one stands before it: what is empty, as nothing is that was
 /// read, leaves that point at the end.

@@ -22,7 +22,7 @@ use Rattle.lay_node.specs.declared.token.Listed.{Listed}
 use Rattle.lay_node.specs.declared.vis.Vis.{Vis}
 use Rattle.lay_node.specs.declared.vis.Vis.TheVariants as vis
 use Rattle.lay_out_tokens.proofs.StreamParts.{leaf_more}
-use Rattle.lay_out_types.proofs.FieldLemmas.{lines_more}
+use Rattle.lay_out_pats.proofs.FieldLemmas.{lines_more}
 use Rattle.lay_out_types.proofs.FormRows.{part_more}
 use Rattle.lay_out_heads.proofs.Rows.{behind_vis}
 use Rattle.lay_out_heads.proofs.Steady.{Steady, steady_discriminant}

@@ -7,8 +7,9 @@ ghost use Rattle.lay_out_types.specs.Calls.{Adds};
 use crate::loops::{Part, add_braces, add_parens};
 use crate::vis::add_vis;
 use lay_node::{Field, Fields, Tokens, TupleField, Variant};
+use lay_out_pats::add_attrs;
+use lay_out_types::add_type;
 use lay_out_types::calls::{add_text, add_tokens, add_word};
-use lay_out_types::{add_attrs, add_type};
 use lay_stream::Emit;
 
 /// Feeds the layout of fields: in parentheses, or in braces with a leading blank or without it. It is nothing without

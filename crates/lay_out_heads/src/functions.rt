@@ -10,9 +10,10 @@ ghost use Rattle.lay_out_types.specs.Calls.{Adds};
 use crate::calls::add_generics;
 use crate::loops::{Part, add_parens};
 use lay_node::{FnHead, Param, ParamKind, Safety, Ty};
+use lay_out_pats::add_pat;
+use lay_out_types::add_type;
 use lay_out_types::calls::{add_if, add_text, add_word};
 use lay_out_types::parts::{add_abi, add_param_attrs, add_reference};
-use lay_out_types::{add_pat, add_type};
 use lay_stream::Emit;
 
 /// Feeds the layout of the head of a function.

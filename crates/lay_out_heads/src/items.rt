@@ -19,9 +19,10 @@ use crate::loops::{Part, add_braces, add_parens};
 use crate::uses::add_rename;
 use crate::vis::add_vis;
 use lay_node::{Alias, Enum, ExternCrate, Fields, Struct, Union, Vis, Wheres};
+use lay_out_pats::add_group;
 use lay_out_types::calls::{add_text, add_word};
 use lay_out_types::lists::add_end;
-use lay_out_types::{add_asked, add_default, add_group};
+use lay_out_types::{add_asked, add_default};
 use lay_stream::Emit;
 
 /// Feeds the layout of a struct.

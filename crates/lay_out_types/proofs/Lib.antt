@@ -3,8 +3,4 @@ pub mod RowLemmas
 pub mod FormRows
 pub mod PartLemmas
 pub mod TypeLemmas
-pub mod PathEnds
-pub mod PatternLemmas
-pub mod FieldLemmas
-pub mod PathPoints
 pub mod ClauseLemmas

@@ -1,5 +1,4 @@
-//! How types, paths, generic arguments, bounds, generic parameters, where clauses and patterns are
-//! laid out.
+//! How types, paths, generic arguments, bounds, generic parameters and where clauses are laid out.
 //!
 //! A call whose name begins with `put` appends to an [`Emit`](lay_stream::Emit) exactly the stream of the form that
 //! `lay_node` gives to its node, or stops where the `Emit` does.
@@ -13,14 +12,9 @@ pub mod calls;
 mod generics;
 pub mod lists;
 pub mod parts;
-mod patterns;
 mod types;
 mod wheres;
 
 pub use generics::{add_asked, add_default, put_generics};
-pub use patterns::{
-    add_attrs, add_brace, add_closing_brace, add_dots_behind, add_group, add_pat, is_pointed,
-    put_pat,
-};
 pub use types::{add_angles, add_path, add_type, put_args, put_bounds, put_path, put_type};
 pub use wheres::put_wheres;

@@ -41,6 +41,10 @@ pub struct Texts<'a> {
 /// What stands for a size that isn't known yet.
 pub const UNKNOWN: i64 = -1;
 
+/// Once so many entries were taken, the full room is made for texts even where the first one serves: in that, room is asked
+/// for before each token.
+const MANY: u64 = 4096;
+
 /// What kind of token an entry is.
 #[derive(Clone, Copy)]
 enum Kind {
@@ -59,8 +63,8 @@ struct SmallEntry {
 }
 
 /// Entries as in a [`Ring`](crate::Ring), in little memory: each is of 24 bytes, and their texts stand one
-/// behind the other in room for 128 bytes, and once that is too little in room for 1,024. So texts are copied, and only
-/// `new` and `reserve` take memory. A text has at most 89 bytes.
+/// behind the other in room for 128 bytes, and once that is too little or many came in room for 1,024. So texts are
+/// copied, and only `new` and `reserve` take memory. A text has at most 89 bytes.
 #[derive(Drop)]
 pub struct Row {
     entries: Marks<SmallEntry>,
@@ -227,10 +231,14 @@ impl Row {
         ensures sure { n ≤ self.old.spare → IsOk result }
     {
         self.entries.reserve(n)?;
-        if n <= self.spare() {
-            return Ok(());
+        if n > self.spare() {
+            return self.bytes.grow();
         }
-        self.bytes.grow()
+        if self.number >= MANY {
+            // Where more room is refused, what there is serves.
+            let _ = self.bytes.grow();
+        }
+        Ok(())
     }
 
     /// How many more entries there is room for.

@@ -6,7 +6,7 @@ ghost use Rattle.lay_through.specs.Through.{closing, empty_module, module_begun,
 use crate::lines::{put_line_before, put_line_behind};
 use lay_out_heads::items::open_head;
 use lay_out_heads::loops::{close_body, open_body};
-use lay_out_types::add_attrs;
+use lay_out_pats::add_attrs;
 use lay_out_types::calls::{add_text, add_word};
 use lay_out_types::lists::add_end;
 use lay_stream::Emit;

@@ -1,5 +1,5 @@
 use Rattle.lay_out_types.proofs.Adding.{adds, adds_on, other}
-use Rattle.lay_out_types.proofs.FieldLemmas.{chosen}
+use Rattle.lay_out_pats.proofs.FieldLemmas.{chosen}
 use Rattle.lay_out_heads.proofs.loops.add_line.Goals as goal
 
 pub returns-then-first : goal.returns-then-first

@@ -1,5 +1,5 @@
 use Rattle.lay_out_types.proofs.Adding.{adds, adds_on, other}
-use Rattle.lay_out_types.proofs.FieldLemmas.{chosen}
+use Rattle.lay_out_pats.proofs.FieldLemmas.{chosen}
 use Rattle.lay_out_heads.proofs.loops.close_braces.Goals as goal
 
 pub returns-then-bare : goal.returns-then-bare

@@ -1,0 +1,4 @@
+pub mod PathEnds
+pub mod PathPoints
+pub mod PatternLemmas
+pub mod FieldLemmas
