@@ -49,6 +49,9 @@ KINDS = {
     # heads of what ends in a block
     "condition": (BODY, "if ", "{}", "b"),
     "condition of a while": (BODY, "while ", "{}", "b"),
+    "link of a condition": (BODY, "if let A=", "&&b{}", "c"),
+    "last link of a condition": (BODY, "if a&&let B=", "{}", "c"),
+    "link of a condition of a while": (BODY, "while let A=", "&&b{}", "c"),
     "what a match is of": (BODY, "match ", "{}", "b"),
     "what a for goes over": (BODY, "for a in ", "{}", "b"),
     # values

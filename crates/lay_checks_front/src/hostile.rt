@@ -143,7 +143,10 @@ fn inputs(rt: HostRuntime) -> Result<(), Fail> {
         const A:&str=\"·1000000×a·\";→const A: &str = \"·1000000×a·\";\n⇒Done true";
     let deep = "m!{·10000×(·10000×)·}⇒Done true§\
         const A:T=·254×(·1·254×)·;⇒Done true§\
-        fn f(){·127×match x{A=>·b·127×}·}⇒Done true";
+        fn f(){·127×match x{A=>·b·127×}·}⇒Done true§\
+        fn f(){·127×if g(·a·127×)&&let B=c{}·}⇒Done true§\
+        fn f(){·128×if g(·a·128×)&&let B=c{}·}⇒Refused(NoItem { at: 0 }) true§\
+        fn f(){·254×if ·a{}·253×&&let B=c{}·}⇒Done true";
     let lines = "60→61×mod a{·struct B;·61×}⇒240 mod a {§61→61×mod a{·struct B;·61×}⇒240 struct B;";
     let generated = format!(in alloc; "{GENERATED}⇒15 of 482")?;
     each_is_told(&rt, alloc, short, outcome)?;

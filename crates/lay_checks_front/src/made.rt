@@ -7,8 +7,8 @@ ghost use Rattle.lay_node.specs.tokens.Listing.{turned};
 use lay_files::read_bytes;
 use lay_token::{Kind, List, Text};
 use lay_tree::{
-    Arm, Block, Bound, Boxed, Branch, Capture, Expr, File, GivenName, Item, ItemKind, Literal,
-    Name, Op, Pat, Stmt, Ty, ValueHead, Vis, Word,
+    Arm, Block, Bound, Boxed, Branch, Capture, Condition, Expr, File, GivenName, Item, ItemKind,
+    Link, Literal, Name, Op, Pat, Stmt, Ty, ValueHead, Vis, Word,
 };
 use std::alloc::Global;
 use std::mem;
@@ -88,25 +88,22 @@ fn name(alloc: Global, text: &str) -> Option<Name> {
     })
 }
 
-/// The expression in which what a text stands for has this place: itself, or a part of `a * _`, `if a {}`, `{ let _ = a else {}; }`, or
-/// `match _ { _ => a }`.
+/// The expression in which what a text stands for has this place: itself, or a part of `a * _`, `if a {}`, `while a {}`,
+/// `{ let _ = a else {}; }`, or `match _ { _ => a }`.
 fn value(alloc: Global, place: &str, text: &str) -> Option<Boxed<Expr>> {
+    match place {
+        "if a {}" | "while a {}" => Boxed::new(alloc, decided(alloc, place, text)?).ok(),
+        _ => valued(alloc, place, text),
+    }
+}
+
+/// The same of a place that isn't a condition's.
+fn valued(alloc: Global, place: &str, text: &str) -> Option<Boxed<Expr>> {
     let node = node(alloc, place, text)?;
     let whole = match place {
         "a * _" => Expr::Chain {
             first: node,
             rest: one(alloc, (Op::Mul, underscore(alloc)?))?,
-        },
-        "if a {}" => Expr::If {
-            branches: one(
-                alloc,
-                Branch {
-                    pat: None,
-                    condition: node,
-                    body: block(alloc, List::new(alloc)),
-                },
-            )?,
-            otherwise: None,
         },
         "let _ = a else {};" => Expr::Block {
             label: None,
@@ -140,6 +137,50 @@ fn value(alloc: Global, place: &str, text: &str) -> Option<Boxed<Expr>> {
         _ => return Some(node),
     };
     Boxed::new(alloc, whole).ok()
+}
+
+/// `if a {}` or `while a {}` of a condition.
+fn decided(alloc: Global, place: &str, text: &str) -> Option<Expr> {
+    let condition = Condition {
+        links: links(alloc, place, text)?,
+    };
+    let body = block(alloc, List::new(alloc));
+    if place == "while a {}" {
+        return Some(Expr::While {
+            label: None,
+            condition,
+            body,
+        });
+    }
+    Some(Expr::If {
+        branches: one(alloc, Branch { condition, body })?,
+        otherwise: None,
+    })
+}
+
+/// The links of a condition, between which a `∧` stands. No text is no link.
+fn links(alloc: Global, place: &str, text: &str) -> Option<List<Link>> {
+    let mut links = List::new(alloc);
+    if text.is_empty() {
+        return Some(links);
+    }
+    for part in text.split('∧') {
+        links = more(links, link(alloc, place, part))?;
+    }
+    Some(links)
+}
+
+/// A link: behind `let` it is matched with `_`.
+fn link(alloc: Global, place: &str, text: &str) -> Option<Link> {
+    match text.strip_prefix("let ") {
+        Some(value) => Some(Link::Let {
+            pat: Pat::Wild,
+            value: node(alloc, place, value)?,
+        }),
+        None => Some(Link::Expr {
+            expr: node(alloc, place, text)?,
+        }),
+    }
 }
 
 /// `_`

@@ -48,6 +48,13 @@ const ROWS: &str = "name→no keyword→a→fn¶true¶self¶crate¶Self¶dyn§\
     if a {}→any within delimiters→f(S{})→S{}§\
     if a {}→no block behind a range→a..({})→a..{}¶..{}§\
     if a {}→no block behind return or break→return({})→return{}¶break{}¶break 'a{}§\
+    if a {}→a link at least→a→§\
+    if a {}→a let among links→let a∧b→a∧b¶a∧b∧c§\
+    if a {}→nothing looser in a link→let a∧(b&&c)→let a∧b&&c¶let a∧b||c¶let a∧b=c¶let a∧b..c¶let a∧..b¶b&&c∧let a§\
+    if a {}→nothing looser behind a let→let (a&&b)→let a&&b¶let a||b¶let a=b¶let a..b¶c∧let a&&b§\
+    if a {}→no return, break or closure before a link→(return)∧let a→return∧let a¶break∧let a¶|a|b∧let c¶let return a∧b§\
+    if a {}→no struct literal in a link→let a∧(S{})→let a∧S{}¶let S{}∧a¶S{}∧let a¶let a∧b==S{}§\
+    while a {}→a let among links→let a∧b→a∧b¶§\
     let _ = a else {};→no chain of || or &&→(a||b)→a||b¶a&&b¶a&&b&&c§\
     let _ = a else {};→no brace at the end→(S{})→S{}¶{}¶match a{}¶-{a}¶a+S{}¶m!{}¶return{}¶&S{}§\
     let _ = a else {};→no closure at the end→(|a|b)→|a|b¶async|a|b¶a=|b|c¶return|b|c¶-|a|b§\

@@ -85,10 +85,23 @@ fn texts(rt: HostRuntime) -> Result<(), Fail> {
     let alloc = rt.alloc();
     let rows = format!(in alloc;
         "⇒§struct A;struct B;⇒struct A;\nstruct B;\n§{GENERATED}⇒{LAID}§{LAID}⇒{LAID}\
-         §const A:B=async move|c|d+async||e;⇒const A: B = async move |c| d + async || e;\n"
+         §const A:B=async move|c|d+async||e;⇒const A: B = async move |c| d + async || e;\n\
+         §fn f(){{if let A=b&&c{{}}}}⇒fn f() {{\n    if let A = b && c {{}}\n}}\n\
+         §fn f(){{if a{{}}else if b&&c&&let D|E=g{{h}}}}⇒fn f() {{\n    if a {{}} else if b && c && let D | E = g {{\n        h\n    }}\n}}\n\
+         §fn f(){{'a:while let B=c&&let D=e{{}}}}⇒fn f() {{\n    'a: while let B = c && let D = e {{}}\n}}\n\
+         §fn f(){{if if a&&let B=c{{}}else{{}}&&let D=e{{}}}}⇒fn f() {{\n    if if a && let B = c {{}} else {{}} && let D = e {{}}\n}}\n\
+         §fn f(){{if x{{}}-if y&&let z=w{{}}else{{}};}}⇒fn f() {{\n    if x {{}}\n    -if y && let z = w {{}} else {{}};\n}}\n\
+         §fn f(){{if a&&b||c{{}}if a&&b=c{{}}}}⇒fn f() {{\n    if a && b || c {{}}\n    if a && b = c {{}}\n}}\n\
+         §fn f(){{if let Some(x)=aaaaaaaaaaaaaaaaaaaaaaaaaaaaaaaaaaaa&&bbbbbbbbbbbbbbbbbbbbbbbbbbbbbbbbb&&let D=ccccccccccccccc{{g()}}else{{h}}}}⇒\
+         fn f() {{\n    if let Some(x) = aaaaaaaaaaaaaaaaaaaaaaaaaaaaaaaaaaaa\n        && bbbbbbbbbbbbbbbbbbbbbbbbbbbbbbbbb && let D = ccccccccccccccc {{ g() }} else {{\n        h\n    }}\n}}\n"
     )?;
     let refused =
-        "}⇒Refused(Unbalanced { at: 0 })§struct A;fn f(){let x=1}⇒Refused(NoItem { at: 9 })";
+        "}⇒Refused(Unbalanced { at: 0 })§struct A;fn f(){let x=1}⇒Refused(NoItem { at: 9 })§\
+        fn f(){if a||b&&let c=d{}}⇒Refused(NoItem { at: 0 })§\
+        fn f(){if let a=b&&c||d{}}⇒Refused(NoItem { at: 0 })§\
+        fn f(){if return&&let b=c{}}⇒Refused(NoItem { at: 0 })§\
+        fn f(){if(let a=b)&&c{}}⇒Refused(NoItem { at: 0 })§\
+        fn f(){match a{b if c&&let d=e=>f}}⇒Refused(NoItem { at: 0 })";
     each_is_told(&rt, alloc, rows.as_str(), formatted)?;
     each_is_told(&rt, alloc, rows.as_str(), written)?;
     each_is_told(&rt, alloc, rows.as_str(), unparsed)?;
@@ -216,6 +229,9 @@ fn depths_of_texts(rt: HostRuntime) -> Result<(), Fail> {
         fn f(){let a:B=c else{d};}⇒3 Some(3) None§\
         fn f(){match a{b=>c}}⇒4 Some(4) None§\
         fn f(){match a{B(c)=>d,}}⇒4 Some(4) None§\
+        fn f(){if a&&b{}}⇒4 Some(4) None§\
+        fn f(){if a&&let B=c{}}⇒3 Some(3) None§\
+        fn f(){while let A(b)=c&&d{}}⇒4 Some(4) None§\
         const A:B=c+d+e;⇒3 Some(3) None§\
         const A:B=-&*c;⇒3 Some(3) None§\
         const A:B=c.d(e)[f]?;⇒3 Some(3) None§\

@@ -333,9 +333,20 @@ fn codes(rt: HostRuntime) -> Result<(), Fail> {
         expr→9→-(a as u8)..⇒-(a as u8)..§\
         expr→9→[0;3][1]?⇒[0; 3][1]?§\
         expr→9→if a{b}else{c}⇒if a { b } else { c }§\
+        expr→9→if let A=b&&c{}⇒if let A = b && c {}§\
+        expr→9→if a&&let B|C=d{e}⇒if a && let B | C = d { e }§\
+        expr→9→while a&&b||c{}⇒while a && b || c {}§\
+        expr→2→if a&&let B=c{}⇒if a && let B = c {}§\
+        expr→1→if a&&let B=c{}⇒no§\
+        expr→2→if a&&b{}⇒no§\
+        expr→9→a&&let B=c⇒no§\
+        expr→9→(let A=b)⇒no§\
+        expr→9→if a||b&&let C=d{}⇒no§\
         expr→9→match x{A=>{b}C=>c,}⇒match x {\n    A => b,\n    C => c,\n}§\
         expr→9→S{a:1,b,..c}⇒S { a: 1, b, ..c }§\
         condition→9→S{a:1}⇒S→5§\
+        condition→9→a&&let B=c⇒no§\
+        condition→9→let A=b⇒no§\
         block→9→{;;a();;b}⇒{\n    a();\n    b\n}§\
         block→1→{a}⇒no§\
         block→9→{}c⇒{}→1§\

@@ -262,14 +262,16 @@ fn blocks(rt: HostRuntime) {
         "{}→{a}§'a:{}→{}§'a:{}→'b:{}§unsafe{}→{}§unsafe{a}→unsafe{b}§const{}→unsafe{}§const{a}→const{b}§async{}→async move{}§async{a}→async{b}";
     let branches =
         "if a{}→if b{}§if a{}→if a{b}§if a{}→if a{}else{}§if a{}else{b}→if a{}else{c}§if a{}else if b{}→if a{}§if let a=b{}→if b{}§\
-        if let a=b{}→if let c=b{}§if let a=b{}→if let a=c{}§if a{}else if b{}→if a{}else{if b{}}";
+        if let a=b{}→if let c=b{}§if let a=b{}→if let a=c{}§if a{}else if b{}→if a{}else{if b{}}§\
+        if let a=b&&c{}→if let a=b{}§if let a=b&&c{}→if let a=b&&d{}§if let a=b&&c{}→if let a=d&&c{}§if let a=b&&c{}→if let d=b&&c{}§\
+        if a&&let b=c{}→if a&&b{}§if a&&let b=c{}→if let b=c&&a{}§if a&&let b=c{}→if a&&let b=c&&d{}§if let a=b&&c{}→if let a=b&&let c=d{}";
     let matches =
         "match a{}→match b{}§match a{#![b]}→match a{}§match a{b=>c}→match a{}§match a{b=>c}→match a{d=>c}§match a{b=>c}→match a{b=>d}§\
         match a{#[d]b=>c}→match a{b=>c}§match a{b if c=>d}→match a{b=>d}§match a{b if c=>d}→match a{b if e=>d}§match a{b=>{c;}}→match a{b=>c}§\
         match a{b=>c,d=>e}→match a{d=>e,b=>c}";
     let loops =
         "loop{}→'a:loop{}§'a:loop{}→'b:loop{}§loop{}→loop{a}§while a{}→while b{}§while a{}→while a{b}§'a:while b{}→while b{}§\
-        while let a=b{}→while b{}§while let a=b{}→while let c=b{}§for a in b{}→for c in b{}§for a in b{}→for a in c{}§for a in b{}→for a in b{c}§\
+        while let a=b{}→while b{}§while let a=b{}→while let c=b{}§while let a=b&&c{}→while let a=b{}§while a&&let b=c{}→while a&&let b=d{}§for a in b{}→for c in b{}§for a in b{}→for a in c{}§for a in b{}→for a in b{c}§\
         'a:for b in c{}→for b in c{}§while a{}→loop{}";
     let closures =
         "||a→move||a§||a→||b§|a|b→||b§|a|b→|c|b§|a:b|c→|a|c§|a:b|c→|a:d|c§|#[a]b|c→|b|c§||->a{}→||{}§||->a{}→||->b{}§||->a{}→||->a{b}§\

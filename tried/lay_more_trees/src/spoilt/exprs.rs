@@ -6,7 +6,7 @@ use crate::trees::{
     path_of_words, written,
 };
 use lay_token::List;
-use lay_tree::{Branch, Expr, FieldExpr, File, Lifetime, Step};
+use lay_tree::{Branch, Condition, Expr, FieldExpr, File, Lifetime, Link, Step};
 use std::alloc::Global;
 
 // ---- steps
@@ -119,36 +119,63 @@ fn steps_behind_operands(rt: HostRuntime) {
 
 // ---- conditions
 
+/// Links between which a `∧` stands, each matched with a pattern where it stands behind `let`. No text is no link.
+fn linked(alloc: Global, text: &str) -> Option<Condition> {
+    let mut links = List::new(alloc);
+    if text.is_empty() {
+        return Some(Condition { links });
+    }
+    for part in text.split('∧') {
+        let link = match part.strip_prefix("let ") {
+            Some(value) => Link::Let {
+                pat: pat(alloc, "_")?,
+                value: boxed_expr(alloc, value)?,
+            },
+            None => Link::Expr {
+                expr: boxed_expr(alloc, part)?,
+            },
+        };
+        links.push(link).ok()?;
+    }
+    Some(Condition { links })
+}
+
+/// A branch of a condition.
+fn branch(alloc: Global, text: &str) -> Option<Branch> {
+    Some(Branch {
+        condition: linked(alloc, text)?,
+        body: empty_block(alloc),
+    })
+}
+
 /// `if a {}`
 fn condition(alloc: Global, text: &str) -> Option<File> {
-    let branch = Branch {
-        pat: None,
-        condition: boxed_expr(alloc, text)?,
-        body: empty_block(alloc),
-    };
-    file_of_branches(alloc, one(alloc, branch)?)
+    file_of_branches(alloc, one(alloc, branch(alloc, text)?)?)
 }
 
 /// `if let _ = a {}`
 fn behind_let(alloc: Global, text: &str) -> Option<File> {
-    let branch = Branch {
-        pat: Some(pat(alloc, "_")?),
-        condition: boxed_expr(alloc, text)?,
-        body: empty_block(alloc),
-    };
-    file_of_branches(alloc, one(alloc, branch)?)
+    let text = format!(in alloc; "let {text}").ok()?;
+    condition(alloc, text.as_str())
+}
+
+/// `if let _ = a && b {}`
+fn before_link(alloc: Global, text: &str) -> Option<File> {
+    let text = format!(in alloc; "let {text}∧b").ok()?;
+    condition(alloc, text.as_str())
+}
+
+/// `if let _ = a && b {}`
+fn last_link(alloc: Global, text: &str) -> Option<File> {
+    let text = format!(in alloc; "let a∧{text}").ok()?;
+    condition(alloc, text.as_str())
 }
 
 /// `if a {} else if b {}`, of the conditions of a row
 fn branches(alloc: Global, row: &str) -> Option<File> {
     let mut branches = List::new(alloc);
     for text in row.split_whitespace() {
-        let branch = Branch {
-            pat: None,
-            condition: boxed_expr(alloc, text)?,
-            body: empty_block(alloc),
-        };
-        branches.push(branch).ok()?;
+        branches.push(branch(alloc, text)?).ok()?;
     }
     file_of_branches(alloc, branches)
 }
@@ -167,12 +194,11 @@ fn file_of_branches(alloc: Global, branches: List<Branch>) -> Option<File> {
 
 /// `while a {}`
 fn repeated(alloc: Global, text: &str) -> Option<File> {
-    let condition = boxed_expr(alloc, text)?;
+    let condition = linked(alloc, text)?;
     file_of_expr(
         alloc,
         Expr::While {
             label: None,
-            pat: None,
             condition,
             body: empty_block(alloc),
         },
@@ -222,6 +248,15 @@ fn conditions(rt: HostRuntime) {
     let lets =
         "tighter than &&→(a&&b)→a&&b¶a||b¶a..b¶a=b§tighter than &&→a==b→a&&b§no struct literal→(S{})→S{}¶a|S{}";
     each_spoils(&rt, alloc, lets, behind_let);
+    let befores = "tighter than && before &&→(a&&b)→a&&b¶a||b¶a..b¶a=b§no operator behind it→(return)→return¶break¶|a|b¶||a§\
+        no struct literal→(S{})→S{}§comparisons→a==b→a&&b§a block→{}→a=b";
+    each_spoils(&rt, alloc, befores, before_link);
+    let lasts = "tighter than && behind &&→(a&&b)→a&&b¶a||b¶a..b¶a=b¶..a§return→return→a||b§a closure→|a|b→S{}§comparisons→a==b→a&&b";
+    each_spoils(&rt, alloc, lasts, last_link);
+    let links = "a let among links→let a∧b→a∧b¶a∧b∧c§a let among links→a∧let b→a∧a§a let among links→a∧let b∧c→a∧b∧c§\
+        links→let a∧let b→§one let→let a→§no let→a→";
+    each_spoils(&rt, alloc, links, condition);
+    each_spoils(&rt, alloc, links, repeated);
     each_spoils(
         &rt,
         alloc,
