@@ -5,14 +5,14 @@ use Rattle.lay_code.specs.reader.Exprs.{accepted}
 use Rattle.lay_read_tokens.proofs.Steps.{lost}
 use Rattle.lay_read_types.proofs.Steps.{found_by}
 use Rattle.lay_read_shared.specs.Code.{code_within}
-use Rattle.lay_climb.specs.Answers.{climb_once, climbed}
-use Rattle.lay_climb.proofs.Climbing.{climb_done, climbs_none, climbs_on, level_reached}
-use Rattle.lay_climb.proofs.climb.Climber.climb.Goals as goal
+use Rattle.lay_read_exprs.specs.Answers.{climb_once, climbed}
+use Rattle.lay_read_exprs.proofs.Climbing.{climb_done, climbs_none, climbs_on, level_reached}
+use Rattle.lay_read_exprs.proofs.climb.ExprRules.climb.Goals as goal
 
 pub returns-in_err-lhs-clause-read : goal.returns-in_err-lhs-clause-read
 returns-in_err-lhs-clause-read g c =
-    let deeper = code_within c.args.self.now.rules.depth in
-    let budget = c.args.self.now.rules.depth + 1 in
+    let deeper = code_within c.args.self.now.depth in
+    let budget = c.args.self.now.depth + 1 in
     let place = c.args.place in
     let ts = c.loop-reached.at in
     let lhs : Expr × ℕ = (c.loop-reached.lhs.node, c.loop-reached.lhs.need) in
@@ -26,8 +26,8 @@ returns-in_err-lhs-clause-read g c =
 
 pub loop-reached-preserved : goal.loop-reached-preserved
 loop-reached-preserved g c =
-    let deeper = code_within c.args.self.now.rules.depth in
-    let budget = c.args.self.now.rules.depth + 1 in
+    let deeper = code_within c.args.self.now.depth in
+    let budget = c.args.self.now.depth + 1 in
     let place = c.args.place in
     let ts = c.loop-reached.at in
     let lhs : Expr × ℕ = (c.loop-reached.lhs.node, c.loop-reached.lhs.need) in
@@ -49,8 +49,8 @@ loop-reached-preserved g c =
 
 pub returns-clause-read : goal.returns-clause-read
 returns-clause-read g c =
-    let deeper = code_within c.args.self.now.rules.depth in
-    let budget = c.args.self.now.rules.depth + 1 in
+    let deeper = code_within c.args.self.now.depth in
+    let budget = c.args.self.now.depth + 1 in
     let place = c.args.place in
     let ts = c.loop-reached.at in
     let lhs : Expr × ℕ = (c.loop-reached.lhs.node, c.loop-reached.lhs.need) in
