@@ -5,6 +5,7 @@ use Rattle.lay_node.specs.nodes.Facts.{Told, ToldFront, by_itself}
 use Rattle.lay_node.specs.reader.Loops.{Read, ◌>>=◌}
 use Rattle.lay_code.specs.nodes.Code.{about_block, about_expr, about_stmt}
 use Rattle.lay_code.specs.nodes.Exprs.{follows}
+use Rattle.lay_code.specs.nodes.Layers.{StmtNode}
 use Rattle.lay_code.specs.nodes.Places.{statement}
 use Rattle.lay_code.specs.reader.Blocks.{stmt_by}
 use Rattle.lay_code.specs.reader.Code.{code_in}
@@ -13,13 +14,7 @@ use Rattle.lay_code.specs.declared.blocks.Block.{Block}
 use Rattle.lay_code.specs.declared.blocks.Stmt.{Stmt}
 use Rattle.lay_code.specs.declared.blocks.Stmt.TheOpen.{Stmt-F}
 use Rattle.lay_code.specs.declared.blocks.Stmt.TheViews.{out-Stmt}
-use Rattle.lay_code.specs.declared.blocks.Arm.{Arm}
-use Rattle.lay_code.specs.declared.blocks.Branch.{Branch}
 use Rattle.lay_code.specs.declared.exprs.Expr.{Expr}
-use Rattle.lay_code.specs.declared.exprs.FieldExpr.{FieldExpr}
-use Rattle.lay_code.specs.declared.exprs.Step.{Step}
-use Rattle.lay_code.specs.declared.item.Item.{Item}
-use Rattle.lay_code.specs.declared.item.ItemKind.{ItemKind}
 
 -- A block may be followed by any token.
 abbrev pub block_told : Block → Told
@@ -30,7 +25,7 @@ BlockFront x = ToldFront (by_itself (block_told x))
 
 -- An expression without its `;` is followed by none, and by nothing that would go on with it; and by no token at all where it
 -- neither is block-like nor a macro call in braces. Any token may follow every other statement.
-abbrev pub follows_in : Stmt-F Stmt Expr FieldExpr Step ItemKind Arm Block Branch Item → Tokens → Bool
+abbrev pub follows_in : StmtNode → Tokens → Bool
 follows_in (Stmt-F.Expr attrs x false) ts =
     follows (about_expr x) statement ts && not (first (is_mark (codes ";")) ts) && ((about_expr x).block_like || at_end ts)
 follows_in _ ts = true

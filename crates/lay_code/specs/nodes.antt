@@ -3,8 +3,10 @@ pub mod Places
 pub mod PlacesTable
 pub mod CodeFacts
 pub mod Ends
+pub mod Layers
 pub mod Parts
 pub mod Exprs
+pub mod Conditions
 pub mod Blocks
 pub mod Item
 pub mod Code

@@ -3,6 +3,7 @@
 -- tokens, and all of it, is proved of them.
 pub mod Within
 pub mod ItemLeads
+pub mod Conditions
 pub mod Blocks
 pub mod Exprs
 pub mod Item

@@ -2,6 +2,7 @@
 ghost use Rattle.std.specs.Prelude.{◌≡◌};
 ghost use Rattle.lay_code.specs.nodes.Parts.{expr_of};
 
+use crate::conditions::Condition;
 use crate::drops::{
     discard_boxed, discard_boxed_item, discard_operand, discard_otherwise, discard_stmts,
 };
@@ -107,40 +108,29 @@ impl Stmt {
     }
 }
 
-/// A condition, which may be a pattern and what it is matched with, and the block that it leads to (Rust Reference, "`if` and
-/// `if let` expressions").
+/// A condition, and the block that it leads to (Rust Reference, "`if` and `if let` expressions").
 #[cycle(code)]
 pub struct Branch {
-    pub pat: Option<Pat>,
-    pub condition: Boxed<Expr>,
+    pub condition: Condition,
     pub body: Block,
 }
 
 impl Drop for Branch {
     #[cycle(drops)]
     fn drop(self) {
-        let Branch {
-            pat,
-            condition,
-            body,
-        } = self;
-        drop(pat);
-        discard_boxed(condition);
+        let Branch { condition, body } = self;
+        drop(condition);
         drop(body);
     }
 }
 
 impl Branch {
-    /// Its pattern if it has one, its condition, and its block.
-    pub fn into_parts(self) -> (Option<Pat>, Boxed<Expr>, Block)
-        ensures { result ≡ (self.pat, self.condition, self.body) }
+    /// Its condition and its block.
+    pub fn into_parts(self) -> (Condition, Block)
+        ensures { result ≡ (self.condition, self.body) }
     {
-        let Branch {
-            pat,
-            condition,
-            body,
-        } = self;
-        (pat, condition, body)
+        let Branch { condition, body } = self;
+        (condition, body)
     }
 }
 

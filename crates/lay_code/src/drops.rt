@@ -3,6 +3,7 @@
 //! What a pattern leaves would be dropped in line where its arm ends, over flags that tell what has moved. That code is dear to
 //! prove, so the nodes take themselves apart whole, and hand on each part.
 use crate::blocks::{Arm, Block, Branch, Stmt};
+use crate::conditions::Link;
 use crate::exprs::{Expr, FieldExpr, Step};
 use crate::item::{Item, ItemKind};
 use crate::operators::Op;
@@ -87,6 +88,16 @@ pub(crate) fn discard_steps(nodes: List<Step>) {
 /// Each of these.
 #[cycle(drops)]
 pub(crate) fn discard_branches(nodes: List<Branch>) {
+    let mut left = nodes.into_vec();
+    while let Some(node) = left.pop() {
+        drop(node);
+    }
+    left.destroy_empty();
+}
+
+/// Each of these.
+#[cycle(drops)]
+pub(crate) fn discard_links(nodes: List<Link>) {
     let mut left = nodes.into_vec();
     while let Some(node) = left.pop() {
         drop(node);

@@ -3,6 +3,7 @@ ghost use Rattle.std.specs.Prelude.{◌≡◌};
 ghost use Rattle.lay_code.specs.nodes.Parts.{block_of};
 
 use crate::blocks::{Arm, Block, Branch};
+use crate::conditions::Condition;
 use crate::drops::{
     discard_arms, discard_base, discard_boxed, discard_branches, discard_exprs, discard_fields,
     discard_operand, discard_operands, discard_otherwise, discard_steps, discard_targets,
@@ -142,11 +143,10 @@ pub enum Expr {
         label: Option<Lifetime>,
         body: Block,
     },
-    /// `'a: while b { c }`, `while let b = c { d }`
+    /// `'a: while b { c }`, `while let b = c && d { e }`
     While {
         label: Option<Lifetime>,
-        pat: Option<Pat>,
-        condition: Boxed<Expr>,
+        condition: Condition,
         body: Block,
     },
     /// `'a: for b in c { d }`
@@ -280,13 +280,11 @@ impl Drop for Expr {
             }
             Expr::While {
                 label,
-                pat,
                 condition,
                 body,
             } => {
                 drop(label);
-                drop(pat);
-                discard_boxed(condition);
+                drop(condition);
                 drop(body);
             }
             Expr::For {

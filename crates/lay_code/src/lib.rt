@@ -9,6 +9,7 @@
 #![tactic(auto)]
 
 pub mod blocks;
+pub mod conditions;
 mod drops;
 pub mod exprs;
 pub mod file;
@@ -17,6 +18,7 @@ mod laws;
 pub mod operators;
 
 pub use blocks::{Arm, Block, Branch, Stmt};
+pub use conditions::{Condition, Link};
 pub use exprs::{ClosureParam, Expr, FieldExpr, Place, Start, Step};
 pub use file::File;
 pub use item::{Item, ItemKind};

@@ -21,22 +21,18 @@ use Rattle.lay_node.specs.declared.types.PathStyle.TheVariants.{Code}
 use Rattle.lay_node.specs.declared.types.Ty.{Ty}
 use Rattle.lay_code.specs.nodes.Blocks.{attrs_before, block_form, dropped_if, is_plain, stmt_form}
 use Rattle.lay_code.specs.nodes.Code.{about_arm, about_block, about_branch, about_expr, about_field_expr, about_step, about_stmt}
-use Rattle.lay_code.specs.nodes.CodeFacts.{BlockFacts, BranchFacts, StmtFacts}
+use Rattle.lay_code.specs.nodes.CodeFacts.{BlockFacts, BranchFacts}
 use Rattle.lay_code.specs.nodes.Ends.{brace_bits, brace_behind, ends_in_brace, is_brace_kind}
 use Rattle.lay_code.specs.nodes.Exprs.{ExprFacts, StepFacts, Tail, args_form, arm_forms, bar, base_form, break_if, closure_head, closure_param, condition_form, else_branch_form, end_form, expr_forms, generics_form, group_if, inside, is_brace, is_field, is_method, labelled, methods, more_branches, operands_form, prefix_bits, prefixes_form, steps_form, tail_of_end, tail_of_jump, tail_of_operands, tail_of_steps, targets_form, types_form}
-use Rattle.lay_code.specs.declared.blocks.Arm.{Arm}
+use Rattle.lay_code.specs.nodes.Layers.{ExprNode}
 use Rattle.lay_code.specs.declared.blocks.Block.{Block}
 use Rattle.lay_code.specs.declared.blocks.Branch.{Branch}
-use Rattle.lay_code.specs.declared.blocks.Stmt.{Stmt}
 use Rattle.lay_code.specs.declared.blocks.Stmt.TheOpen.{Expr-F}
 use Rattle.lay_code.specs.declared.blocks.Stmt.TheViews as views
 use Rattle.lay_code.specs.declared.exprs.ClosureParam.{ClosureParam}
 use Rattle.lay_code.specs.declared.exprs.Expr.{Expr}
 use Rattle.lay_code.specs.declared.exprs.Expr.TheVariants as expr
-use Rattle.lay_code.specs.declared.exprs.FieldExpr.{FieldExpr}
 use Rattle.lay_code.specs.declared.exprs.Step.{Step}
-use Rattle.lay_code.specs.declared.item.Item.{Item}
-use Rattle.lay_code.specs.declared.item.ItemKind.{ItemKind}
 use Rattle.lay_code.specs.declared.operators.Op.{Op}
 use Rattle.lay_code.specs.declared.operators.Prefix.{Prefix}
 use Rattle.lay_code.specs.declared.operators.Prefix.TheVariants as prefix
@@ -183,7 +179,7 @@ abbrev pub steps_in : Expr → List Step → Bool
 steps_in x [] = ends_in_brace (about_expr x).form
 steps_in x (s ∷ more) = false
 
-abbrev pub brace_in : Expr-F Stmt Expr FieldExpr Step ItemKind Arm Block Branch Item → Bool
+abbrev pub brace_in : ExprNode → Bool
 brace_in (Expr-F.Lit l) = is_brace_kind l.kind
 brace_in (Expr-F.Path path) = ends_in_brace (about_path path Code).form
 brace_in (Expr-F.Expr::Call call) = is_brace call.tokens.delim
@@ -365,7 +361,7 @@ no_cast x operand lent types slice is same h e =
 -- ---- other kinds
 
 -- What is told of a kind is told of an expression of it.
-told_by : (x y : Expr) (F : Expr-F Stmt Expr FieldExpr Step ItemKind Arm Block Branch Item) → x ≡ y → views.out-Expr y ≡ F
+told_by : (x y : Expr) (F : ExprNode) → x ≡ y → views.out-Expr y ≡ F
     → brace_in F ≡ ends_in_brace (about_expr x).form
 told_by x y F is out = sym (brace_is x ∙ ap brace_in (ap views.out-Expr is ∙ out))
 
@@ -433,7 +429,7 @@ abbrev pub operand_closes : Option Expr → Bool
 operand_closes None = false
 operand_closes (Some x) = (about_expr x).tail.closure
 
-abbrev pub closure_in : Expr-F Stmt Expr FieldExpr Step ItemKind Arm Block Branch Item → Bool
+abbrev pub closure_in : ExprNode → Bool
 closure_in (Expr-F.Chain x rest) = (tail_of_operands (map laws.behind_op rest)).closure
 closure_in (Expr-F.Unary ps x) = (about_expr x).tail.closure
 closure_in (Expr-F.Range start inclusive end) = operand_closes end

@@ -4,18 +4,15 @@ use Rattle.lay_node.specs.declared.attr.Attr.{Attr}
 use Rattle.lay_node.specs.declared.token.Lifetime.{Lifetime}
 use Rattle.lay_code.specs.nodes.Blocks.{is_lone, is_lone_body, is_plain}
 use Rattle.lay_code.specs.nodes.Code.{about_block, about_expr, about_stmt, told_of_item, told_of_kind}
-use Rattle.lay_code.specs.nodes.CodeFacts.{ItemFacts, StmtFacts}
+use Rattle.lay_code.specs.nodes.CodeFacts.{ItemFacts}
 use Rattle.lay_code.specs.nodes.Exprs.{BodyKind, MacroBody, BlockBody, OtherBody, is_macro}
-use Rattle.lay_code.specs.declared.blocks.Arm.{Arm}
+use Rattle.lay_code.specs.nodes.Layers.{ExprNode, KindNode, StmtNode}
 use Rattle.lay_code.specs.declared.blocks.Block.{Block}
-use Rattle.lay_code.specs.declared.blocks.Branch.{Branch}
 use Rattle.lay_code.specs.declared.blocks.Stmt.{Stmt}
 use Rattle.lay_code.specs.declared.blocks.Stmt.TheOpen.{Expr-F}
 use Rattle.lay_code.specs.declared.blocks.Stmt.TheViews as views
 use Rattle.lay_code.specs.declared.exprs.Expr.{Expr}
 use Rattle.lay_code.specs.declared.exprs.Expr.TheVariants as expr
-use Rattle.lay_code.specs.declared.exprs.FieldExpr.{FieldExpr}
-use Rattle.lay_code.specs.declared.exprs.Step.{Step}
 use Rattle.lay_code.specs.declared.item.Item.{Item}
 use Rattle.lay_code.specs.declared.item.ItemKind.{ItemKind}
 use Rattle.lay_code.specs.declared.blocks.Stmt.TheOpen.{Stmt-F, ItemKind-F}
@@ -27,7 +24,7 @@ use Rattle.lay_code.proofs.nodes.ExprsLaws as laws
 use Rattle.lay_code.proofs.nodes.ItemLaws as items
 
 -- which body of an arm it is
-abbrev pub kind_in : Expr-F Stmt Expr FieldExpr Step ItemKind Arm Block Branch Item → BodyKind
+abbrev pub kind_in : ExprNode → BodyKind
 kind_in (Expr-F.Expr::Call call) = MacroBody
 kind_in (Expr-F.Block None b) = BlockBody (about_block b).lone
 kind_in _ = OtherBody
@@ -79,11 +76,11 @@ pub is_macro_is : (x : Expr) → is_macro (about_expr x).kind ≡ is_macro (kind
 is_macro_is x = ap is_macro (kind_is x)
 
 -- whether it is a block without a label that holds one expression
-abbrev pub lone_body_in : Expr-F Stmt Expr FieldExpr Step ItemKind Arm Block Branch Item → Bool
+abbrev pub lone_body_in : ExprNode → Bool
 lone_body_in (Expr-F.Block label b) = not (is_some label) && (about_block b).lone
 lone_body_in _ = false
 
-lone_body_by : (x : Expr-F Stmt Expr FieldExpr Step ItemKind Arm Block Branch Item) → is_lone_body (kind_in x) ≡ lone_body_in x
+lone_body_by : (x : ExprNode) → is_lone_body (kind_in x) ≡ lone_body_in x
 lone_body_by (Expr-F.Expr::Call call) = refl
 lone_body_by (Expr-F.Block None b) = refl
 lone_body_by (Expr-F.Block (Some l) b) = refl
@@ -95,7 +92,7 @@ lone_body_is x = ap is_lone_body (kind_is x) ∙ lone_body_by (views.out-Expr x)
 -- ---- statements
 
 -- another statement may stand behind it
-abbrev pub ends_in : Stmt-F Stmt Expr FieldExpr Step ItemKind Arm Block Branch Item → Bool
+abbrev pub ends_in : StmtNode → Bool
 ends_in (Stmt-F.Expr attrs x ended) = ended || (about_expr x).block_like
 ends_in _ = true
 
@@ -107,7 +104,7 @@ ends_is s = by s (blocks.stmt_view s)
     by _ (blocks.IsItem item) = rw (blocks.stmt_item_is item, views.outs-Item item) refl
     by _ (blocks.IsExpr attrs x ended) = rw (blocks.stmt_expr_is attrs x ended, views.outs-Expr attrs x ended) refl
 
-abbrev pub lone_stmt_in : Stmt-F Stmt Expr FieldExpr Step ItemKind Arm Block Branch Item → Bool
+abbrev pub lone_stmt_in : StmtNode → Bool
 lone_stmt_in (Stmt-F.Expr attrs x ended) = (is_plain attrs && not ended) && not (is_macro (about_expr x).kind)
 lone_stmt_in _ = false
 
@@ -134,7 +131,7 @@ lone_is b = rw (blocks.block_is b) (lone_by b.attrs b.stmts)
 
 -- ---- items
 
-abbrev pub call_in : ItemKind-F Stmt Expr FieldExpr Step ItemKind Arm Block Branch Item → Bool
+abbrev pub call_in : KindNode → Bool
 call_in (ItemKind-F.ItemKind::Call call) = true
 call_in _ = false
 

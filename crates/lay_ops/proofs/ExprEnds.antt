@@ -7,18 +7,11 @@ use Rattle.lay_node.specs.declared.types.PathStyle.TheVariants.{Code}
 use Rattle.lay_node.specs.declared.types.Ty.{Ty}
 use Rattle.lay_code.specs.nodes.Code.{about_expr, about_step}
 use Rattle.lay_code.specs.nodes.Exprs.{ExprFacts, StepFacts, Tail, is_field, is_open, is_typed, lacks_args, shut, tail_of_operands, tail_of_steps, type_refuses}
-use Rattle.lay_code.specs.declared.blocks.Arm.{Arm}
-use Rattle.lay_code.specs.declared.blocks.Block.{Block}
-use Rattle.lay_code.specs.declared.blocks.Branch.{Branch}
-use Rattle.lay_code.specs.declared.blocks.Stmt.{Stmt}
+use Rattle.lay_code.specs.nodes.Layers.{ExprNode}
 use Rattle.lay_code.specs.declared.blocks.Stmt.TheOpen.{Expr-F}
 use Rattle.lay_code.specs.declared.blocks.Stmt.TheViews as views
 use Rattle.lay_code.specs.declared.exprs.Expr.{Expr}
 use Rattle.lay_code.specs.declared.exprs.Expr.TheVariants as expr
-use Rattle.lay_code.specs.declared.exprs.FieldExpr.{FieldExpr}
-use Rattle.lay_code.specs.declared.exprs.Step.{Step}
-use Rattle.lay_code.specs.declared.item.Item.{Item}
-use Rattle.lay_code.specs.declared.item.ItemKind.{ItemKind}
 use Rattle.lay_code.specs.declared.operators.Op.{Op}
 use Rattle.lay_code.specs.declared.operators.Prefix.{Prefix}
 use Rattle.lay_code.proofs.nodes.ExprsLaws as laws
@@ -35,7 +28,7 @@ abbrev range_end : Option Expr → Ends
 range_end None = (true, false)
 range_end (Some x) = ends_of (about_expr x).tail
 
-abbrev pub ends_in : Expr-F Stmt Expr FieldExpr Step ItemKind Arm Block Branch Item → Ends
+abbrev pub ends_in : ExprNode → Ends
 ends_in (Expr-F.Path path) = (false, lacks_args (about_path path Code).refuses)
 ends_in (Expr-F.Chain x rest) = ends_of (tail_of_operands (map laws.behind_op rest))
 ends_in (Expr-F.Cast x types) = (false, lacks_args (type_refuses (map about_type types)))

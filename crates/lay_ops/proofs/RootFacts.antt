@@ -8,18 +8,12 @@ use Rattle.lay_node.specs.declared.tokens.MacroCall.{MacroCall}
 use Rattle.lay_node.specs.declared.types.Ty.{Ty}
 use Rattle.lay_code.specs.nodes.Code.{about_expr}
 use Rattle.lay_code.specs.nodes.Exprs.{ExprFacts, is_brace, lacks_args, level_of_chain, type_refuses}
-use Rattle.lay_code.specs.declared.blocks.Arm.{Arm}
+use Rattle.lay_code.specs.nodes.Layers.{ExprNode}
 use Rattle.lay_code.specs.declared.blocks.Block.{Block}
-use Rattle.lay_code.specs.declared.blocks.Branch.{Branch}
-use Rattle.lay_code.specs.declared.blocks.Stmt.{Stmt}
 use Rattle.lay_code.specs.declared.blocks.Stmt.TheOpen.{Expr-F}
 use Rattle.lay_code.specs.declared.blocks.Stmt.TheViews as views
 use Rattle.lay_code.specs.declared.exprs.Expr.{Expr}
 use Rattle.lay_code.specs.declared.exprs.Expr.TheVariants as expr
-use Rattle.lay_code.specs.declared.exprs.FieldExpr.{FieldExpr}
-use Rattle.lay_code.specs.declared.exprs.Step.{Step}
-use Rattle.lay_code.specs.declared.item.Item.{Item}
-use Rattle.lay_code.specs.declared.item.ItemKind.{ItemKind}
 use Rattle.lay_code.specs.declared.operators.Op.{Op}
 use Rattle.lay_code.proofs.nodes.ExprsLaws as laws
 use Rattle.lay_ops.proofs.Last.{last, last_is}
@@ -39,7 +33,7 @@ plain_root level = (level, false, false, false, false, false, false)
 abbrev block_root : Root
 block_root = (14, false, false, false, false, true, false)
 
-abbrev pub root_in : Expr-F Stmt Expr FieldExpr Step ItemKind Arm Block Branch Item → Root
+abbrev pub root_in : ExprNode → Root
 root_in (Expr-F.Lit l) = (14, false, false, false, false, false, is_bare_number l.kind l.text)
 root_in (Expr-F.Expr::Call call) = (14, false, false, false, false, is_brace call.tokens.delim, false)
 root_in (Expr-F.Expr::Struct path fields base) = (14, false, false, false, true, false, false)

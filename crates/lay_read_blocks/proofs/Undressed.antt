@@ -18,25 +18,21 @@ use Rattle.lay_code.specs.Operators.{begins_step, strength}
 use Rattle.lay_code.specs.nodes.Blocks.{is_lone_body}
 use Rattle.lay_code.specs.nodes.Code.{about_expr, about_stmt, told_of_item}
 use Rattle.lay_code.specs.nodes.Exprs.{ExprFacts, root_follows, stands}
+use Rattle.lay_code.specs.nodes.Layers.{ExprNode, StmtNode}
 use Rattle.lay_code.specs.nodes.Places.{FREE, plain, statement}
 use Rattle.lay_code.specs.reader.Blocks.{begins_item, behind_semicolons, block_by, condition_by, else_stands, expr_stmt, item_stmt, let_stmt, stmt_by, stmt_in_block, undressed}
 use Rattle.lay_code.specs.reader.Code.{code_in, expr_at}
 use Rattle.lay_code.specs.reader.Exprs.{assign_expr, begins_tuple_index, cast_expr, chain_expr, climb, climb_by, expr_by, for_expr, head_by, is_ended, labelled_expr, left_place, one_step, one_type, operand_if, operands, postfix_expr, range_by, range_expr, stage, targets_of, value_of, while_expr}
 use Rattle.lay_code.specs.reader.Within.{ExprWithin}
-use Rattle.lay_code.specs.declared.blocks.Arm.{Arm}
 use Rattle.lay_code.specs.declared.blocks.Block.{Block}
-use Rattle.lay_code.specs.declared.blocks.Branch.{Branch}
 use Rattle.lay_code.specs.declared.blocks.Stmt.{Stmt}
 use Rattle.lay_code.specs.declared.blocks.Stmt.TheOpen.{Expr-F, Stmt-F}
 use Rattle.lay_code.specs.declared.blocks.Stmt.TheVariants as stmt
 use Rattle.lay_code.specs.declared.blocks.Stmt.TheViews as views
 use Rattle.lay_code.specs.declared.exprs.Expr.{Expr}
 use Rattle.lay_code.specs.declared.exprs.Expr.TheVariants as expr
-use Rattle.lay_code.specs.declared.exprs.FieldExpr.{FieldExpr}
 use Rattle.lay_code.specs.declared.exprs.Place.{Place}
-use Rattle.lay_code.specs.declared.exprs.Step.{Step}
 use Rattle.lay_code.specs.declared.item.Item.{Item}
-use Rattle.lay_code.specs.declared.item.ItemKind.{ItemKind}
 use Rattle.lay_code.proofs.nodes.ExprsLaws as laws
 use Rattle.lay_code.proofs.reader.ArmsSoundBodies.{IsAlone, Lone, alone, alone_block, is_alone}
 use Rattle.lay_code.proofs.reader.ExprSoundLeads.{code_led}
@@ -103,7 +99,7 @@ bare_more (suc m) (suc n) x le b =
 -- ---- what a block holds
 
 -- So many turns suffice for the expression that a statement is.
-abbrev stmt_in : ℕ → Stmt-F Stmt Expr FieldExpr Step ItemKind Arm Block Branch Item → Type 0
+abbrev stmt_in : ℕ → StmtNode → Type 0
 stmt_in n (Stmt-F.Expr attrs y ended) = Bare (undressed n y)
 stmt_in n _ = Unit {0}
 
@@ -114,7 +110,7 @@ abbrev OfStmts : ℕ → List Stmt → Type 0
 OfStmts n [] = Unit {0}
 OfStmts n (s ∷ more) = OfStmt n s × OfStmts n more
 
-abbrev expr_in : ℕ → Expr-F Stmt Expr FieldExpr Step ItemKind Arm Block Branch Item → Type 0
+abbrev expr_in : ℕ → ExprNode → Type 0
 expr_in n (Expr-F.Block label b) = OfStmts n b.stmts
 expr_in n _ = Unit {0}
 
@@ -122,7 +118,7 @@ expr_in n _ = Unit {0}
 abbrev OfExpr : ℕ → Expr → Type 0
 OfExpr n x = expr_in n (views.out-Expr x)
 
-stmt_more : (m n : ℕ) (s : Stmt-F Stmt Expr FieldExpr Step ItemKind Arm Block Branch Item) → m ≤ n → stmt_in m s → stmt_in n s
+stmt_more : (m n : ℕ) (s : StmtNode) → m ≤ n → stmt_in m s → stmt_in n s
 stmt_more m n (Stmt-F.Expr attrs y ended) le h = bare_more m n y le h
 stmt_more m n _ le h = tt
 

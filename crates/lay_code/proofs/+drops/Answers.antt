@@ -3,6 +3,7 @@ use Rattle.std.specs.Prelude.{max}
 use Rattle.lay_code.specs.declared.blocks.Arm.{size-Arm}
 use Rattle.lay_code.specs.declared.blocks.Branch.{size-Branch}
 use Rattle.lay_code.specs.declared.blocks.Stmt.{size-Stmt}
+use Rattle.lay_code.specs.declared.conditions.Link.{size-Link}
 use Rattle.lay_code.specs.declared.exprs.Expr.{Expr, size-Expr}
 use Rattle.lay_code.specs.declared.exprs.FieldExpr.{size-FieldExpr}
 use Rattle.lay_code.specs.declared.exprs.Step.{size-Step}
@@ -37,6 +38,13 @@ pub drops::discard_branches-drop-requires : goal.drops::discard_branches-drop-re
 drops::discard_branches-drop-requires t c =
     let left = c.loop-node.left.items in
     let under = popped_under size-Branch c.args.nodes left c.pop.new.self.items (length left) c.pop.result
+    c.in-Some.node c.loop-node.invariant c.pop.ensures.items c.in-Some.is in
+    (omega (arith, under, c.decreases), tt)
+
+pub drops::discard_links-drop-requires : goal.drops::discard_links-drop-requires
+drops::discard_links-drop-requires t c =
+    let left = c.loop-node.left.items in
+    let under = popped_under size-Link c.args.nodes left c.pop.new.self.items (length left) c.pop.result
     c.in-Some.node c.loop-node.invariant c.pop.ensures.items c.in-Some.is in
     (omega (arith, under, c.decreases), tt)
 

@@ -17,6 +17,9 @@ invariant-drops::discard_fields-loop-node l = l.left.items ≡ take (length l.le
 abbrev pub invariant-drops::discard_items-loop-node : goal.invariant-drops::discard_items-loop-node
 invariant-drops::discard_items-loop-node l = l.left.items ≡ take (length l.left.items) l.fn.nodes
 
+abbrev pub invariant-drops::discard_links-loop-node : goal.invariant-drops::discard_links-loop-node
+invariant-drops::discard_links-loop-node l = l.left.items ≡ take (length l.left.items) l.fn.nodes
+
 abbrev pub invariant-drops::discard_operands-loop-node : goal.invariant-drops::discard_operands-loop-node
 invariant-drops::discard_operands-loop-node l = l.left.items ≡ take (length l.left.items) l.fn.nodes
 
@@ -44,6 +47,9 @@ decreases-drops::discard_fields-loop-node l = goal.left-drops::discard_fields-lo
 
 abbrev pub decreases-drops::discard_items-loop-node : goal.decreases-drops::discard_items-loop-node
 decreases-drops::discard_items-loop-node l = goal.left-drops::discard_items-loop-node l
+
+abbrev pub decreases-drops::discard_links-loop-node : goal.decreases-drops::discard_links-loop-node
+decreases-drops::discard_links-loop-node l = goal.left-drops::discard_links-loop-node l
 
 abbrev pub decreases-drops::discard_operands-loop-node : goal.decreases-drops::discard_operands-loop-node
 decreases-drops::discard_operands-loop-node l = goal.left-drops::discard_operands-loop-node l

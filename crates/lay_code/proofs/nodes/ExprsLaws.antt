@@ -1,6 +1,5 @@
 -- What is told of expressions, of the fields of struct literals and of steps, kind by kind.
 use Rattle.std.proofs.Common.{◌≡◌, ℕ, Bool, List, map, Option, option_map, Some, None, sym, ap, ◌∙◌, subst}
-use Rattle.lay_node.specs.nodes.Facts.{Facts}
 use Rattle.lay_node.specs.declared.attr.Attr.{Attr}
 use Rattle.lay_node.specs.declared.patterns.Pat.{Pat}
 use Rattle.lay_node.specs.declared.token.Lifetime.{Lifetime}
@@ -11,18 +10,14 @@ use Rattle.lay_node.specs.declared.tokens.MacroCall.{MacroCall}
 use Rattle.lay_node.specs.declared.types.Arg.{Arg}
 use Rattle.lay_node.specs.declared.types.Path.{Path}
 use Rattle.lay_node.specs.declared.types.Ty.{Ty}
-use Rattle.lay_code.specs.nodes.Blocks.{arm_facts, block_facts, branch_facts, stmt_facts}
-use Rattle.lay_code.specs.nodes.Code.{about_expr, about_field_expr, about_step, about_arm, about_block, about_branch, about_stmt, told_of_item, told_of_kind}
-use Rattle.lay_code.specs.nodes.CodeFacts.{ArmFacts, BlockFacts, BranchFacts, ItemFacts, KindFacts, StmtFacts}
-use Rattle.lay_code.specs.nodes.Exprs.{ExprFacts, StepFacts, expr_facts, field_facts, step_facts}
-use Rattle.lay_code.specs.nodes.Item.{item_facts, kind_facts}
+use Rattle.lay_code.specs.nodes.Code.{about_expr, about_field_expr, about_step, about_arm, about_block, about_branch}
+use Rattle.lay_code.specs.nodes.Exprs.{ExprFacts, expr_facts, field_facts, step_facts}
+use Rattle.lay_code.specs.nodes.Layers.{ExprNode, FieldNode, StepNode}
 use Rattle.lay_code.specs.declared.blocks.Arm.{Arm}
 use Rattle.lay_code.specs.declared.blocks.Block.{Block}
 use Rattle.lay_code.specs.declared.blocks.Branch.{Branch}
-use Rattle.lay_code.specs.declared.blocks.Stmt.{Stmt}
 use Rattle.lay_code.specs.declared.exprs.ClosureParam.{ClosureParam}
 use Rattle.lay_code.specs.declared.exprs.Expr.{Expr}
-use Rattle.lay_code.specs.declared.blocks.Stmt.TheFolds.{fold-roll-Expr, fold-roll-FieldExpr, fold-roll-Step}
 use Rattle.lay_code.specs.declared.blocks.Stmt.TheOpen.{Expr-F, FieldExpr-F, Step-F}
 use Rattle.lay_code.specs.declared.exprs.Expr.TheVariants as expr
 use Rattle.lay_code.specs.declared.blocks.Stmt.TheViews as views
@@ -30,10 +25,9 @@ use Rattle.lay_code.specs.declared.exprs.FieldExpr.{FieldExpr}
 use Rattle.lay_code.specs.declared.exprs.FieldExpr.TheVariants as field
 use Rattle.lay_code.specs.declared.exprs.Step.{Step}
 use Rattle.lay_code.specs.declared.exprs.Step.TheVariants as step
-use Rattle.lay_code.specs.declared.item.Item.{Item}
-use Rattle.lay_code.specs.declared.item.ItemKind.{ItemKind}
 use Rattle.lay_code.specs.declared.operators.Op.{Op}
 use Rattle.lay_code.specs.declared.operators.Prefix.{Prefix}
+use Rattle.lay_code.proofs.nodes.Layers.{expr_is, field_is, step_is}
 
 -- ---- which kind it is
 
@@ -82,7 +76,7 @@ pub data StepView : Step → Type 0 where
   IsTryStep : StepView step.Try
   IsAwaitStep : StepView step.Await
 
-expr_layer : (layer : Expr-F Stmt Expr FieldExpr Step ItemKind Arm Block Branch Item) → ExprView (views.roll-Expr layer)
+expr_layer : (layer : ExprNode) → ExprView (views.roll-Expr layer)
 expr_layer (Expr-F.Lit literal) = subst ExprView (sym (views.rolls-Lit literal)) (IsLit literal)
 expr_layer (Expr-F.Path path) = subst ExprView (sym (views.rolls-Path path)) (IsPath path)
 expr_layer Expr-F.Underscore = subst ExprView (sym views.rolls-Underscore) IsUnderscore
@@ -113,12 +107,12 @@ expr_layer (Expr-F.TypedClosure is_async moves params output body) = subst ExprV
 expr_layer (Expr-F.Return operand) = subst ExprView (sym (views.rolls-Return operand)) (IsReturn operand)
 expr_layer (Expr-F.Break label operand) = subst ExprView (sym (views.rolls-Break label operand)) (IsBreak label operand)
 
-field_layer : (layer : FieldExpr-F Stmt Expr FieldExpr Step ItemKind Arm Block Branch Item) → FieldExprView (views.roll-FieldExpr layer)
+field_layer : (layer : FieldNode) → FieldExprView (views.roll-FieldExpr layer)
 field_layer (FieldExpr-F.Named attrs name value) = subst FieldExprView (sym (views.rolls-Named attrs name value)) (IsNamed attrs name value)
 field_layer (FieldExpr-F.Numbered attrs index value) = subst FieldExprView (sym (views.rolls-Numbered attrs index value)) (IsNumbered attrs index value)
 field_layer (FieldExpr-F.Short attrs name) = subst FieldExprView (sym (views.rolls-Short attrs name)) (IsShort attrs name)
 
-step_layer : (layer : Step-F Stmt Expr FieldExpr Step ItemKind Arm Block Branch Item) → StepView (views.roll-Step layer)
+step_layer : (layer : StepNode) → StepView (views.roll-Step layer)
 step_layer (Step-F.Field name) = subst StepView (sym (views.rolls-Field name)) (IsFieldStep name)
 step_layer (Step-F.TupleIndex index) = subst StepView (sym (views.rolls-TupleIndex index)) (IsTupleIndexStep index)
 step_layer (Step-F.Method name generics args) = subst StepView (sym (views.rolls-Method name generics args)) (IsMethodStep name generics args)
@@ -146,259 +140,220 @@ abbrev pub before_op : Expr × Op → ExprFacts × Op
 before_op x = (about_expr x.0, x.1)
 
 pub expr_lit_is : (literal : Literal) → about_expr (expr.Lit literal) ≡ expr_facts (Expr-F.Lit literal)
-unfolding about_expr about_field_expr about_step about_stmt about_block about_branch about_arm told_of_item told_of_kind
 expr_lit_is literal =
     ap about_expr (sym (views.rolls-Lit literal))
-    ∙ fold-roll-Expr StmtFacts ExprFacts Facts StepFacts KindFacts ArmFacts BlockFacts BranchFacts ItemFacts stmt_facts expr_facts field_facts step_facts kind_facts arm_facts block_facts branch_facts item_facts (Expr-F.Lit literal)
+    ∙ expr_is (Expr-F.Lit literal)
 
 pub expr_path_is : (path : Path) → about_expr (expr.Path path) ≡ expr_facts (Expr-F.Path path)
-unfolding about_expr about_field_expr about_step about_stmt about_block about_branch about_arm told_of_item told_of_kind
 expr_path_is path =
     ap about_expr (sym (views.rolls-Path path))
-    ∙ fold-roll-Expr StmtFacts ExprFacts Facts StepFacts KindFacts ArmFacts BlockFacts BranchFacts ItemFacts stmt_facts expr_facts field_facts step_facts kind_facts arm_facts block_facts branch_facts item_facts (Expr-F.Path path)
+    ∙ expr_is (Expr-F.Path path)
 
 pub expr_underscore_is : about_expr expr.Underscore ≡ expr_facts Expr-F.Underscore
-unfolding about_expr about_field_expr about_step about_stmt about_block about_branch about_arm told_of_item told_of_kind
 expr_underscore_is =
     ap about_expr (sym views.rolls-Underscore)
-    ∙ fold-roll-Expr StmtFacts ExprFacts Facts StepFacts KindFacts ArmFacts BlockFacts BranchFacts ItemFacts stmt_facts expr_facts field_facts step_facts kind_facts arm_facts block_facts branch_facts item_facts Expr-F.Underscore
+    ∙ expr_is Expr-F.Underscore
 
 pub expr_call_is : (call : MacroCall) → about_expr (expr.Call call) ≡ expr_facts (Expr-F.Expr::Call call)
-unfolding about_expr about_field_expr about_step about_stmt about_block about_branch about_arm told_of_item told_of_kind
 expr_call_is call =
     ap about_expr (sym (views.rolls-Expr::Call call))
-    ∙ fold-roll-Expr StmtFacts ExprFacts Facts StepFacts KindFacts ArmFacts BlockFacts BranchFacts ItemFacts stmt_facts expr_facts field_facts step_facts kind_facts arm_facts block_facts branch_facts item_facts (Expr-F.Expr::Call call)
+    ∙ expr_is (Expr-F.Expr::Call call)
 
 pub expr_paren_is : (inner : Expr) → about_expr (expr.Paren inner) ≡ expr_facts (Expr-F.Paren (about_expr inner))
-unfolding about_expr about_field_expr about_step about_stmt about_block about_branch about_arm told_of_item told_of_kind
 expr_paren_is inner =
     ap about_expr (sym (views.rolls-Paren inner))
-    ∙ fold-roll-Expr StmtFacts ExprFacts Facts StepFacts KindFacts ArmFacts BlockFacts BranchFacts ItemFacts stmt_facts expr_facts field_facts step_facts kind_facts arm_facts block_facts branch_facts item_facts (Expr-F.Paren inner)
+    ∙ expr_is (Expr-F.Paren inner)
 
 pub expr_continue_is : (label : Option Lifetime) → about_expr (expr.Continue label) ≡ expr_facts (Expr-F.Continue label)
-unfolding about_expr about_field_expr about_step about_stmt about_block about_branch about_arm told_of_item told_of_kind
 expr_continue_is label =
     ap about_expr (sym (views.rolls-Continue label))
-    ∙ fold-roll-Expr StmtFacts ExprFacts Facts StepFacts KindFacts ArmFacts BlockFacts BranchFacts ItemFacts stmt_facts expr_facts field_facts step_facts kind_facts arm_facts block_facts branch_facts item_facts (Expr-F.Continue label)
+    ∙ expr_is (Expr-F.Continue label)
 
 pub expr_tuple_is : (elements : List Expr) → about_expr (expr.Tuple elements) ≡ expr_facts (Expr-F.Tuple (map about_expr elements))
-unfolding about_expr about_field_expr about_step about_stmt about_block about_branch about_arm told_of_item told_of_kind
 expr_tuple_is elements =
     ap about_expr (sym (views.rolls-Tuple elements))
-    ∙ fold-roll-Expr StmtFacts ExprFacts Facts StepFacts KindFacts ArmFacts BlockFacts BranchFacts ItemFacts stmt_facts expr_facts field_facts step_facts kind_facts arm_facts block_facts branch_facts item_facts (Expr-F.Tuple elements)
+    ∙ expr_is (Expr-F.Tuple elements)
 
 pub expr_array_is : (elements : List Expr) → about_expr (expr.Array elements) ≡ expr_facts (Expr-F.Array (map about_expr elements))
-unfolding about_expr about_field_expr about_step about_stmt about_block about_branch about_arm told_of_item told_of_kind
 expr_array_is elements =
     ap about_expr (sym (views.rolls-Array elements))
-    ∙ fold-roll-Expr StmtFacts ExprFacts Facts StepFacts KindFacts ArmFacts BlockFacts BranchFacts ItemFacts stmt_facts expr_facts field_facts step_facts kind_facts arm_facts block_facts branch_facts item_facts (Expr-F.Array elements)
+    ∙ expr_is (Expr-F.Array elements)
 
 pub expr_repeat_is : (element : Expr) (length : List Listed) → about_expr (expr.Repeat element length) ≡ expr_facts (Expr-F.Repeat (about_expr element) length)
-unfolding about_expr about_field_expr about_step about_stmt about_block about_branch about_arm told_of_item told_of_kind
 expr_repeat_is element length =
     ap about_expr (sym (views.rolls-Repeat element length))
-    ∙ fold-roll-Expr StmtFacts ExprFacts Facts StepFacts KindFacts ArmFacts BlockFacts BranchFacts ItemFacts stmt_facts expr_facts field_facts step_facts kind_facts arm_facts block_facts branch_facts item_facts (Expr-F.Repeat element length)
+    ∙ expr_is (Expr-F.Repeat element length)
 
 pub expr_struct_is : (path : Path) (fields : List FieldExpr) (base : Option (Option Expr)) → about_expr (expr.Struct path fields base) ≡ expr_facts (Expr-F.Expr::Struct path (map about_field_expr fields) (option_map (option_map about_expr) base))
-unfolding about_expr about_field_expr about_step about_stmt about_block about_branch about_arm told_of_item told_of_kind
 expr_struct_is path fields None =
     ap about_expr (sym (views.rolls-Expr::Struct path fields None))
-    ∙ fold-roll-Expr StmtFacts ExprFacts Facts StepFacts KindFacts ArmFacts BlockFacts BranchFacts ItemFacts stmt_facts expr_facts field_facts step_facts kind_facts arm_facts block_facts branch_facts item_facts (Expr-F.Expr::Struct path fields None)
+    ∙ expr_is (Expr-F.Expr::Struct path fields None)
 expr_struct_is path fields (Some None) =
     ap about_expr (sym (views.rolls-Expr::Struct path fields (Some None)))
-    ∙ fold-roll-Expr StmtFacts ExprFacts Facts StepFacts KindFacts ArmFacts BlockFacts BranchFacts ItemFacts stmt_facts expr_facts field_facts step_facts kind_facts arm_facts block_facts branch_facts item_facts (Expr-F.Expr::Struct path fields (Some None))
+    ∙ expr_is (Expr-F.Expr::Struct path fields (Some None))
 expr_struct_is path fields (Some (Some x)) =
     ap about_expr (sym (views.rolls-Expr::Struct path fields (Some (Some x))))
-    ∙ fold-roll-Expr StmtFacts ExprFacts Facts StepFacts KindFacts ArmFacts BlockFacts BranchFacts ItemFacts stmt_facts expr_facts field_facts step_facts kind_facts arm_facts block_facts branch_facts item_facts (Expr-F.Expr::Struct path fields (Some (Some x)))
+    ∙ expr_is (Expr-F.Expr::Struct path fields (Some (Some x)))
 
 pub expr_chain_is : (operand : Expr) (more : List (Op × Expr)) → about_expr (expr.Chain operand more) ≡ expr_facts (Expr-F.Chain (about_expr operand) (map behind_op more))
-unfolding about_expr about_field_expr about_step about_stmt about_block about_branch about_arm told_of_item told_of_kind
 expr_chain_is operand more =
     ap about_expr (sym (views.rolls-Chain operand more))
-    ∙ fold-roll-Expr StmtFacts ExprFacts Facts StepFacts KindFacts ArmFacts BlockFacts BranchFacts ItemFacts stmt_facts expr_facts field_facts step_facts kind_facts arm_facts block_facts branch_facts item_facts (Expr-F.Chain operand more)
+    ∙ expr_is (Expr-F.Chain operand more)
 
 pub expr_cast_is : (operand : Expr) (types : List Ty) → about_expr (expr.Cast operand types) ≡ expr_facts (Expr-F.Cast (about_expr operand) types)
-unfolding about_expr about_field_expr about_step about_stmt about_block about_branch about_arm told_of_item told_of_kind
 expr_cast_is operand types =
     ap about_expr (sym (views.rolls-Cast operand types))
-    ∙ fold-roll-Expr StmtFacts ExprFacts Facts StepFacts KindFacts ArmFacts BlockFacts BranchFacts ItemFacts stmt_facts expr_facts field_facts step_facts kind_facts arm_facts block_facts branch_facts item_facts (Expr-F.Cast operand types)
+    ∙ expr_is (Expr-F.Cast operand types)
 
 pub expr_unary_is : (prefixes : List Prefix) (operand : Expr) → about_expr (expr.Unary prefixes operand) ≡ expr_facts (Expr-F.Unary prefixes (about_expr operand))
-unfolding about_expr about_field_expr about_step about_stmt about_block about_branch about_arm told_of_item told_of_kind
 expr_unary_is prefixes operand =
     ap about_expr (sym (views.rolls-Unary prefixes operand))
-    ∙ fold-roll-Expr StmtFacts ExprFacts Facts StepFacts KindFacts ArmFacts BlockFacts BranchFacts ItemFacts stmt_facts expr_facts field_facts step_facts kind_facts arm_facts block_facts branch_facts item_facts (Expr-F.Unary prefixes operand)
+    ∙ expr_is (Expr-F.Unary prefixes operand)
 
 pub expr_range_is : (start : Option Expr) (inclusive : Bool) (end : Option Expr) → about_expr (expr.Range start inclusive end) ≡ expr_facts (Expr-F.Range (option_map about_expr start) inclusive (option_map about_expr end))
-unfolding about_expr about_field_expr about_step about_stmt about_block about_branch about_arm told_of_item told_of_kind
 expr_range_is None inclusive None =
     ap about_expr (sym (views.rolls-Range None inclusive None))
-    ∙ fold-roll-Expr StmtFacts ExprFacts Facts StepFacts KindFacts ArmFacts BlockFacts BranchFacts ItemFacts stmt_facts expr_facts field_facts step_facts kind_facts arm_facts block_facts branch_facts item_facts (Expr-F.Range None inclusive None)
+    ∙ expr_is (Expr-F.Range None inclusive None)
 expr_range_is None inclusive (Some y) =
     ap about_expr (sym (views.rolls-Range None inclusive (Some y)))
-    ∙ fold-roll-Expr StmtFacts ExprFacts Facts StepFacts KindFacts ArmFacts BlockFacts BranchFacts ItemFacts stmt_facts expr_facts field_facts step_facts kind_facts arm_facts block_facts branch_facts item_facts (Expr-F.Range None inclusive (Some y))
+    ∙ expr_is (Expr-F.Range None inclusive (Some y))
 expr_range_is (Some x) inclusive None =
     ap about_expr (sym (views.rolls-Range (Some x) inclusive None))
-    ∙ fold-roll-Expr StmtFacts ExprFacts Facts StepFacts KindFacts ArmFacts BlockFacts BranchFacts ItemFacts stmt_facts expr_facts field_facts step_facts kind_facts arm_facts block_facts branch_facts item_facts (Expr-F.Range (Some x) inclusive None)
+    ∙ expr_is (Expr-F.Range (Some x) inclusive None)
 expr_range_is (Some x) inclusive (Some y) =
     ap about_expr (sym (views.rolls-Range (Some x) inclusive (Some y)))
-    ∙ fold-roll-Expr StmtFacts ExprFacts Facts StepFacts KindFacts ArmFacts BlockFacts BranchFacts ItemFacts stmt_facts expr_facts field_facts step_facts kind_facts arm_facts block_facts branch_facts item_facts (Expr-F.Range (Some x) inclusive (Some y))
+    ∙ expr_is (Expr-F.Range (Some x) inclusive (Some y))
 
 pub expr_assign_is : (targets : List (Expr × Op)) (value : Expr) → about_expr (expr.Assign targets value) ≡ expr_facts (Expr-F.Assign (map before_op targets) (about_expr value))
-unfolding about_expr about_field_expr about_step about_stmt about_block about_branch about_arm told_of_item told_of_kind
 expr_assign_is targets value =
     ap about_expr (sym (views.rolls-Assign targets value))
-    ∙ fold-roll-Expr StmtFacts ExprFacts Facts StepFacts KindFacts ArmFacts BlockFacts BranchFacts ItemFacts stmt_facts expr_facts field_facts step_facts kind_facts arm_facts block_facts branch_facts item_facts (Expr-F.Assign targets value)
+    ∙ expr_is (Expr-F.Assign targets value)
 
 pub expr_postfix_is : (operand : Expr) (steps : List Step) → about_expr (expr.Postfix operand steps) ≡ expr_facts (Expr-F.Postfix (about_expr operand) (map about_step steps))
-unfolding about_expr about_field_expr about_step about_stmt about_block about_branch about_arm told_of_item told_of_kind
 expr_postfix_is operand steps =
     ap about_expr (sym (views.rolls-Postfix operand steps))
-    ∙ fold-roll-Expr StmtFacts ExprFacts Facts StepFacts KindFacts ArmFacts BlockFacts BranchFacts ItemFacts stmt_facts expr_facts field_facts step_facts kind_facts arm_facts block_facts branch_facts item_facts (Expr-F.Postfix operand steps)
+    ∙ expr_is (Expr-F.Postfix operand steps)
 
 pub expr_block_is : (label : Option Lifetime) (body : Block) → about_expr (expr.Block label body) ≡ expr_facts (Expr-F.Block label (about_block body))
-unfolding about_expr about_field_expr about_step about_stmt about_block about_branch about_arm told_of_item told_of_kind
 expr_block_is label body =
     ap about_expr (sym (views.rolls-Block label body))
-    ∙ fold-roll-Expr StmtFacts ExprFacts Facts StepFacts KindFacts ArmFacts BlockFacts BranchFacts ItemFacts stmt_facts expr_facts field_facts step_facts kind_facts arm_facts block_facts branch_facts item_facts (Expr-F.Block label body)
+    ∙ expr_is (Expr-F.Block label body)
 
 pub expr_unsafe_is : (body : Block) → about_expr (expr.Unsafe body) ≡ expr_facts (Expr-F.Unsafe (about_block body))
-unfolding about_expr about_field_expr about_step about_stmt about_block about_branch about_arm told_of_item told_of_kind
 expr_unsafe_is body =
     ap about_expr (sym (views.rolls-Unsafe body))
-    ∙ fold-roll-Expr StmtFacts ExprFacts Facts StepFacts KindFacts ArmFacts BlockFacts BranchFacts ItemFacts stmt_facts expr_facts field_facts step_facts kind_facts arm_facts block_facts branch_facts item_facts (Expr-F.Unsafe body)
+    ∙ expr_is (Expr-F.Unsafe body)
 
 pub expr_const_block_is : (body : Block) → about_expr (expr.ConstBlock body) ≡ expr_facts (Expr-F.ConstBlock (about_block body))
-unfolding about_expr about_field_expr about_step about_stmt about_block about_branch about_arm told_of_item told_of_kind
 expr_const_block_is body =
     ap about_expr (sym (views.rolls-ConstBlock body))
-    ∙ fold-roll-Expr StmtFacts ExprFacts Facts StepFacts KindFacts ArmFacts BlockFacts BranchFacts ItemFacts stmt_facts expr_facts field_facts step_facts kind_facts arm_facts block_facts branch_facts item_facts (Expr-F.ConstBlock body)
+    ∙ expr_is (Expr-F.ConstBlock body)
 
 pub expr_async_is : (moves : Bool) (body : Block) → about_expr (expr.Async moves body) ≡ expr_facts (Expr-F.Async moves (about_block body))
-unfolding about_expr about_field_expr about_step about_stmt about_block about_branch about_arm told_of_item told_of_kind
 expr_async_is moves body =
     ap about_expr (sym (views.rolls-Async moves body))
-    ∙ fold-roll-Expr StmtFacts ExprFacts Facts StepFacts KindFacts ArmFacts BlockFacts BranchFacts ItemFacts stmt_facts expr_facts field_facts step_facts kind_facts arm_facts block_facts branch_facts item_facts (Expr-F.Async moves body)
+    ∙ expr_is (Expr-F.Async moves body)
 
 pub expr_if_is : (branches : List Branch) (otherwise : Option Block) → about_expr (expr.If branches otherwise) ≡ expr_facts (Expr-F.If (map about_branch branches) (option_map about_block otherwise))
-unfolding about_expr about_field_expr about_step about_stmt about_block about_branch about_arm told_of_item told_of_kind
 expr_if_is branches None =
     ap about_expr (sym (views.rolls-If branches None))
-    ∙ fold-roll-Expr StmtFacts ExprFacts Facts StepFacts KindFacts ArmFacts BlockFacts BranchFacts ItemFacts stmt_facts expr_facts field_facts step_facts kind_facts arm_facts block_facts branch_facts item_facts (Expr-F.If branches None)
+    ∙ expr_is (Expr-F.If branches None)
 expr_if_is branches (Some x0) =
     ap about_expr (sym (views.rolls-If branches (Some x0)))
-    ∙ fold-roll-Expr StmtFacts ExprFacts Facts StepFacts KindFacts ArmFacts BlockFacts BranchFacts ItemFacts stmt_facts expr_facts field_facts step_facts kind_facts arm_facts block_facts branch_facts item_facts (Expr-F.If branches (Some x0))
+    ∙ expr_is (Expr-F.If branches (Some x0))
 
 pub expr_match_is : (scrutinee : Expr) (attrs : List Attr) (arms : List Arm) → about_expr (expr.Match scrutinee attrs arms) ≡ expr_facts (Expr-F.Match (about_expr scrutinee) attrs (map about_arm arms))
-unfolding about_expr about_field_expr about_step about_stmt about_block about_branch about_arm told_of_item told_of_kind
 expr_match_is scrutinee attrs arms =
     ap about_expr (sym (views.rolls-Match scrutinee attrs arms))
-    ∙ fold-roll-Expr StmtFacts ExprFacts Facts StepFacts KindFacts ArmFacts BlockFacts BranchFacts ItemFacts stmt_facts expr_facts field_facts step_facts kind_facts arm_facts block_facts branch_facts item_facts (Expr-F.Match scrutinee attrs arms)
+    ∙ expr_is (Expr-F.Match scrutinee attrs arms)
 
 pub expr_loop_is : (label : Option Lifetime) (body : Block) → about_expr (expr.Loop label body) ≡ expr_facts (Expr-F.Loop label (about_block body))
-unfolding about_expr about_field_expr about_step about_stmt about_block about_branch about_arm told_of_item told_of_kind
 expr_loop_is label body =
     ap about_expr (sym (views.rolls-Loop label body))
-    ∙ fold-roll-Expr StmtFacts ExprFacts Facts StepFacts KindFacts ArmFacts BlockFacts BranchFacts ItemFacts stmt_facts expr_facts field_facts step_facts kind_facts arm_facts block_facts branch_facts item_facts (Expr-F.Loop label body)
+    ∙ expr_is (Expr-F.Loop label body)
 
 pub expr_while_is : (label : Option Lifetime) (pat : Option Pat) (condition : Expr) (body : Block) → about_expr (expr.While label pat condition body) ≡ expr_facts (Expr-F.While label pat (about_expr condition) (about_block body))
-unfolding about_expr about_field_expr about_step about_stmt about_block about_branch about_arm told_of_item told_of_kind
 expr_while_is label pat condition body =
     ap about_expr (sym (views.rolls-While label pat condition body))
-    ∙ fold-roll-Expr StmtFacts ExprFacts Facts StepFacts KindFacts ArmFacts BlockFacts BranchFacts ItemFacts stmt_facts expr_facts field_facts step_facts kind_facts arm_facts block_facts branch_facts item_facts (Expr-F.While label pat condition body)
+    ∙ expr_is (Expr-F.While label pat condition body)
 
 pub expr_for_is : (label : Option Lifetime) (pat : Pat) (iterated : Expr) (body : Block) → about_expr (expr.For label pat iterated body) ≡ expr_facts (Expr-F.For label pat (about_expr iterated) (about_block body))
-unfolding about_expr about_field_expr about_step about_stmt about_block about_branch about_arm told_of_item told_of_kind
 expr_for_is label pat iterated body =
     ap about_expr (sym (views.rolls-For label pat iterated body))
-    ∙ fold-roll-Expr StmtFacts ExprFacts Facts StepFacts KindFacts ArmFacts BlockFacts BranchFacts ItemFacts stmt_facts expr_facts field_facts step_facts kind_facts arm_facts block_facts branch_facts item_facts (Expr-F.For label pat iterated body)
+    ∙ expr_is (Expr-F.For label pat iterated body)
 
 pub expr_closure_is : (is_async moves : Bool) (params : List ClosureParam) (body : Expr) → about_expr (expr.Closure is_async moves params body) ≡ expr_facts (Expr-F.Closure is_async moves params (about_expr body))
-unfolding about_expr about_field_expr about_step about_stmt about_block about_branch about_arm told_of_item told_of_kind
 expr_closure_is is_async moves params body =
     ap about_expr (sym (views.rolls-Closure is_async moves params body))
-    ∙ fold-roll-Expr StmtFacts ExprFacts Facts StepFacts KindFacts ArmFacts BlockFacts BranchFacts ItemFacts stmt_facts expr_facts field_facts step_facts kind_facts arm_facts block_facts branch_facts item_facts (Expr-F.Closure is_async moves params body)
+    ∙ expr_is (Expr-F.Closure is_async moves params body)
 
 pub expr_typed_closure_is : (is_async moves : Bool) (params : List ClosureParam) (output : Ty) (body : Block) → about_expr (expr.TypedClosure is_async moves params output body) ≡ expr_facts (Expr-F.TypedClosure is_async moves params output (about_block body))
-unfolding about_expr about_field_expr about_step about_stmt about_block about_branch about_arm told_of_item told_of_kind
 expr_typed_closure_is is_async moves params output body =
     ap about_expr (sym (views.rolls-TypedClosure is_async moves params output body))
-    ∙ fold-roll-Expr StmtFacts ExprFacts Facts StepFacts KindFacts ArmFacts BlockFacts BranchFacts ItemFacts stmt_facts expr_facts field_facts step_facts kind_facts arm_facts block_facts branch_facts item_facts (Expr-F.TypedClosure is_async moves params output body)
+    ∙ expr_is (Expr-F.TypedClosure is_async moves params output body)
 
 pub expr_return_is : (operand : Option Expr) → about_expr (expr.Return operand) ≡ expr_facts (Expr-F.Return (option_map about_expr operand))
-unfolding about_expr about_field_expr about_step about_stmt about_block about_branch about_arm told_of_item told_of_kind
 expr_return_is None =
     ap about_expr (sym (views.rolls-Return None))
-    ∙ fold-roll-Expr StmtFacts ExprFacts Facts StepFacts KindFacts ArmFacts BlockFacts BranchFacts ItemFacts stmt_facts expr_facts field_facts step_facts kind_facts arm_facts block_facts branch_facts item_facts (Expr-F.Return None)
+    ∙ expr_is (Expr-F.Return None)
 expr_return_is (Some x) =
     ap about_expr (sym (views.rolls-Return (Some x)))
-    ∙ fold-roll-Expr StmtFacts ExprFacts Facts StepFacts KindFacts ArmFacts BlockFacts BranchFacts ItemFacts stmt_facts expr_facts field_facts step_facts kind_facts arm_facts block_facts branch_facts item_facts (Expr-F.Return (Some x))
+    ∙ expr_is (Expr-F.Return (Some x))
 
 pub expr_break_is : (label : Option Lifetime) (operand : Option Expr) → about_expr (expr.Break label operand) ≡ expr_facts (Expr-F.Break label (option_map about_expr operand))
-unfolding about_expr about_field_expr about_step about_stmt about_block about_branch about_arm told_of_item told_of_kind
 expr_break_is label None =
     ap about_expr (sym (views.rolls-Break label None))
-    ∙ fold-roll-Expr StmtFacts ExprFacts Facts StepFacts KindFacts ArmFacts BlockFacts BranchFacts ItemFacts stmt_facts expr_facts field_facts step_facts kind_facts arm_facts block_facts branch_facts item_facts (Expr-F.Break label None)
+    ∙ expr_is (Expr-F.Break label None)
 expr_break_is label (Some x) =
     ap about_expr (sym (views.rolls-Break label (Some x)))
-    ∙ fold-roll-Expr StmtFacts ExprFacts Facts StepFacts KindFacts ArmFacts BlockFacts BranchFacts ItemFacts stmt_facts expr_facts field_facts step_facts kind_facts arm_facts block_facts branch_facts item_facts (Expr-F.Break label (Some x))
+    ∙ expr_is (Expr-F.Break label (Some x))
 
 pub field_expr_named_is : (attrs : List Attr) (name : Name) (value : Expr) → about_field_expr (field.Named attrs name value) ≡ field_facts (FieldExpr-F.Named attrs name (about_expr value))
-unfolding about_expr about_field_expr about_step about_stmt about_block about_branch about_arm told_of_item told_of_kind
 field_expr_named_is attrs name value =
     ap about_field_expr (sym (views.rolls-Named attrs name value))
-    ∙ fold-roll-FieldExpr StmtFacts ExprFacts Facts StepFacts KindFacts ArmFacts BlockFacts BranchFacts ItemFacts stmt_facts expr_facts field_facts step_facts kind_facts arm_facts block_facts branch_facts item_facts (FieldExpr-F.Named attrs name value)
+    ∙ field_is (FieldExpr-F.Named attrs name value)
 
 pub field_expr_numbered_is : (attrs : List Attr) (index : List ℕ) (value : Expr) → about_field_expr (field.Numbered attrs index value) ≡ field_facts (FieldExpr-F.Numbered attrs index (about_expr value))
-unfolding about_expr about_field_expr about_step about_stmt about_block about_branch about_arm told_of_item told_of_kind
 field_expr_numbered_is attrs index value =
     ap about_field_expr (sym (views.rolls-Numbered attrs index value))
-    ∙ fold-roll-FieldExpr StmtFacts ExprFacts Facts StepFacts KindFacts ArmFacts BlockFacts BranchFacts ItemFacts stmt_facts expr_facts field_facts step_facts kind_facts arm_facts block_facts branch_facts item_facts (FieldExpr-F.Numbered attrs index value)
+    ∙ field_is (FieldExpr-F.Numbered attrs index value)
 
 pub field_expr_short_is : (attrs : List Attr) (name : Name) → about_field_expr (field.Short attrs name) ≡ field_facts (FieldExpr-F.Short attrs name)
-unfolding about_expr about_field_expr about_step about_stmt about_block about_branch about_arm told_of_item told_of_kind
 field_expr_short_is attrs name =
     ap about_field_expr (sym (views.rolls-Short attrs name))
-    ∙ fold-roll-FieldExpr StmtFacts ExprFacts Facts StepFacts KindFacts ArmFacts BlockFacts BranchFacts ItemFacts stmt_facts expr_facts field_facts step_facts kind_facts arm_facts block_facts branch_facts item_facts (FieldExpr-F.Short attrs name)
+    ∙ field_is (FieldExpr-F.Short attrs name)
 
 pub step_field_is : (name : Name) → about_step (step.Field name) ≡ step_facts (Step-F.Field name)
-unfolding about_expr about_field_expr about_step about_stmt about_block about_branch about_arm told_of_item told_of_kind
 step_field_is name =
     ap about_step (sym (views.rolls-Field name))
-    ∙ fold-roll-Step StmtFacts ExprFacts Facts StepFacts KindFacts ArmFacts BlockFacts BranchFacts ItemFacts stmt_facts expr_facts field_facts step_facts kind_facts arm_facts block_facts branch_facts item_facts (Step-F.Field name)
+    ∙ step_is (Step-F.Field name)
 
 pub step_tuple_index_is : (index : List ℕ) → about_step (step.TupleIndex index) ≡ step_facts (Step-F.TupleIndex index)
-unfolding about_expr about_field_expr about_step about_stmt about_block about_branch about_arm told_of_item told_of_kind
 step_tuple_index_is index =
     ap about_step (sym (views.rolls-TupleIndex index))
-    ∙ fold-roll-Step StmtFacts ExprFacts Facts StepFacts KindFacts ArmFacts BlockFacts BranchFacts ItemFacts stmt_facts expr_facts field_facts step_facts kind_facts arm_facts block_facts branch_facts item_facts (Step-F.TupleIndex index)
+    ∙ step_is (Step-F.TupleIndex index)
 
 pub step_method_is : (name : Name) (generics : Option (List Arg)) (args : List Expr) → about_step (step.Method name generics args) ≡ step_facts (Step-F.Method name generics (map about_expr args))
-unfolding about_expr about_field_expr about_step about_stmt about_block about_branch about_arm told_of_item told_of_kind
 step_method_is name generics args =
     ap about_step (sym (views.rolls-Method name generics args))
-    ∙ fold-roll-Step StmtFacts ExprFacts Facts StepFacts KindFacts ArmFacts BlockFacts BranchFacts ItemFacts stmt_facts expr_facts field_facts step_facts kind_facts arm_facts block_facts branch_facts item_facts (Step-F.Method name generics args)
+    ∙ step_is (Step-F.Method name generics args)
 
 pub step_apply_is : (args : List Expr) → about_step (step.Apply args) ≡ step_facts (Step-F.Apply (map about_expr args))
-unfolding about_expr about_field_expr about_step about_stmt about_block about_branch about_arm told_of_item told_of_kind
 step_apply_is args =
     ap about_step (sym (views.rolls-Apply args))
-    ∙ fold-roll-Step StmtFacts ExprFacts Facts StepFacts KindFacts ArmFacts BlockFacts BranchFacts ItemFacts stmt_facts expr_facts field_facts step_facts kind_facts arm_facts block_facts branch_facts item_facts (Step-F.Apply args)
+    ∙ step_is (Step-F.Apply args)
 
 pub step_index_is : (index : Expr) → about_step (step.Index index) ≡ step_facts (Step-F.Index (about_expr index))
-unfolding about_expr about_field_expr about_step about_stmt about_block about_branch about_arm told_of_item told_of_kind
 step_index_is index =
     ap about_step (sym (views.rolls-Index index))
-    ∙ fold-roll-Step StmtFacts ExprFacts Facts StepFacts KindFacts ArmFacts BlockFacts BranchFacts ItemFacts stmt_facts expr_facts field_facts step_facts kind_facts arm_facts block_facts branch_facts item_facts (Step-F.Index index)
+    ∙ step_is (Step-F.Index index)
 
 pub step_try_is : about_step step.Try ≡ step_facts Step-F.Try
-unfolding about_expr about_field_expr about_step about_stmt about_block about_branch about_arm told_of_item told_of_kind
 step_try_is =
     ap about_step (sym views.rolls-Try)
-    ∙ fold-roll-Step StmtFacts ExprFacts Facts StepFacts KindFacts ArmFacts BlockFacts BranchFacts ItemFacts stmt_facts expr_facts field_facts step_facts kind_facts arm_facts block_facts branch_facts item_facts Step-F.Try
+    ∙ step_is Step-F.Try
 
 pub step_await_is : about_step step.Await ≡ step_facts Step-F.Await
-unfolding about_expr about_field_expr about_step about_stmt about_block about_branch about_arm told_of_item told_of_kind
 step_await_is =
     ap about_step (sym views.rolls-Await)
-    ∙ fold-roll-Step StmtFacts ExprFacts Facts StepFacts KindFacts ArmFacts BlockFacts BranchFacts ItemFacts stmt_facts expr_facts field_facts step_facts kind_facts arm_facts block_facts branch_facts item_facts Step-F.Await
+    ∙ step_is Step-F.Await

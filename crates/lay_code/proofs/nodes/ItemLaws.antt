@@ -19,24 +19,22 @@ use Rattle.lay_node.specs.declared.tokens.MacroCall.{MacroCall}
 use Rattle.lay_node.specs.declared.use_tree.UseTree.{UseTree}
 use Rattle.lay_node.specs.nodes.Facts.{Facts}
 use Rattle.lay_code.specs.nodes.Blocks.{arm_facts, block_facts, branch_facts, stmt_facts}
-use Rattle.lay_code.specs.nodes.Code.{told_of_item, told_of_kind, about_arm, about_block, about_branch, about_expr, about_field_expr, about_step, about_stmt}
-use Rattle.lay_code.specs.nodes.CodeFacts.{KindFacts, ItemFacts, ArmFacts, BlockFacts, BranchFacts, StmtFacts}
+use Rattle.lay_code.specs.nodes.Code.{about_arm, about_block, about_branch, about_condition, about_expr, about_field_expr, about_link, about_step, about_stmt, told_of_item, told_of_kind}
+use Rattle.lay_code.specs.nodes.CodeFacts.{ArmFacts, BlockFacts, BranchFacts, ConditionFacts, ItemFacts, KindFacts, LinkFacts, StmtFacts}
+use Rattle.lay_code.specs.nodes.Conditions.{condition_facts, link_facts}
 use Rattle.lay_code.specs.nodes.Exprs.{ExprFacts, StepFacts, expr_facts, field_facts, step_facts}
 use Rattle.lay_code.specs.nodes.Item.{kind_facts, item_facts}
-use Rattle.lay_code.specs.declared.blocks.Arm.{Arm}
+use Rattle.lay_code.specs.nodes.Layers.{KindNode}
 use Rattle.lay_code.specs.declared.blocks.Block.{Block}
-use Rattle.lay_code.specs.declared.blocks.Branch.{Branch}
-use Rattle.lay_code.specs.declared.blocks.Stmt.{Stmt}
 use Rattle.lay_code.specs.declared.exprs.ClosureParam.{ClosureParam}
 use Rattle.lay_code.specs.declared.exprs.Expr.{Expr}
-use Rattle.lay_code.specs.declared.exprs.FieldExpr.{FieldExpr}
-use Rattle.lay_code.specs.declared.exprs.Step.{Step}
 use Rattle.lay_code.specs.declared.item.Item.{Item}
 use Rattle.lay_code.specs.declared.item.ItemKind.{ItemKind}
 use Rattle.lay_code.specs.declared.item.ItemKind.TheVariants as item
 use Rattle.lay_code.specs.declared.blocks.Stmt.TheOpen.{ItemKind-F}
 use Rattle.lay_code.specs.declared.blocks.Stmt.TheViews.{out-ItemKind, roll-ItemKind, roll-out-ItemKind, rolls-ExternCrate, rolls-Import, rolls-FileModule, rolls-Module, rolls-Function, rolls-Alias, rolls-ItemKind::Struct, rolls-Union, rolls-Enum, rolls-Value, rolls-Trait, rolls-Impl, rolls-Foreign, rolls-MacroRules, rolls-ItemKind::Call}
-use Rattle.lay_code.specs.declared.blocks.Stmt.TheFolds.{fold_out-Item, fold-roll-ItemKind}
+use Rattle.lay_code.specs.declared.blocks.Stmt.TheFolds.{fold_out-Item}
+use Rattle.lay_code.proofs.nodes.Layers.{kind_is}
 
 -- which kind it is
 pub data KindView : ItemKind → Type 0 where
@@ -56,7 +54,7 @@ pub data KindView : ItemKind → Type 0 where
   IsRules : (name : Name) (rules : Group) → KindView (item.MacroRules name rules)
   IsCall : (call : MacroCall) → KindView (item.Call call)
 
-kind_layer : (layer : ItemKind-F Stmt Expr FieldExpr Step ItemKind Arm Block Branch Item) → KindView (roll-ItemKind layer)
+kind_layer : (layer : KindNode) → KindView (roll-ItemKind layer)
 kind_layer (ItemKind-F.ExternCrate x) = subst KindView (sym (rolls-ExternCrate x)) (IsExternCrate x)
 kind_layer (ItemKind-F.Import tree) = subst KindView (sym (rolls-Import tree)) (IsImport tree)
 kind_layer (ItemKind-F.FileModule name) = subst KindView (sym (rolls-FileModule name)) (IsFileModule name)
@@ -77,84 +75,69 @@ pub kind_view : (kind : ItemKind) → KindView kind
 kind_view kind = subst KindView (roll-out-ItemKind kind) (kind_layer (out-ItemKind kind))
 
 pub item_is : (one : Item) → told_of_item one ≡ item_facts (record { attrs = one.attrs; vis = one.vis; kind = told_of_kind one.kind })
-unfolding about_expr about_field_expr about_step about_stmt about_block about_branch about_arm told_of_item told_of_kind
-item_is one = fold_out-Item StmtFacts ExprFacts Facts StepFacts KindFacts ArmFacts BlockFacts BranchFacts ItemFacts stmt_facts expr_facts field_facts step_facts kind_facts arm_facts block_facts branch_facts item_facts one
+unfolding about_expr about_field_expr about_step about_stmt about_block about_branch about_condition about_link about_arm told_of_item told_of_kind
+item_is one = fold_out-Item StmtFacts LinkFacts ExprFacts Facts StepFacts KindFacts ArmFacts BlockFacts BranchFacts ConditionFacts ItemFacts stmt_facts link_facts expr_facts field_facts step_facts kind_facts arm_facts block_facts branch_facts condition_facts item_facts one
 
 pub extern_crate_is : (x : ExternCrate) → told_of_kind (item.ExternCrate x) ≡ kind_facts (ItemKind-F.ExternCrate x)
-unfolding about_expr about_field_expr about_step about_stmt about_block about_branch about_arm told_of_item told_of_kind
 extern_crate_is x =
-    ap told_of_kind (sym (rolls-ExternCrate x)) ∙ fold-roll-ItemKind StmtFacts ExprFacts Facts StepFacts KindFacts ArmFacts BlockFacts BranchFacts ItemFacts stmt_facts expr_facts field_facts step_facts kind_facts arm_facts block_facts branch_facts item_facts (ItemKind-F.ExternCrate x)
+    ap told_of_kind (sym (rolls-ExternCrate x)) ∙ kind_is (ItemKind-F.ExternCrate x)
 
 pub import_is : (tree : UseTree) → told_of_kind (item.Import tree) ≡ kind_facts (ItemKind-F.Import tree)
-unfolding about_expr about_field_expr about_step about_stmt about_block about_branch about_arm told_of_item told_of_kind
 import_is tree =
-    ap told_of_kind (sym (rolls-Import tree)) ∙ fold-roll-ItemKind StmtFacts ExprFacts Facts StepFacts KindFacts ArmFacts BlockFacts BranchFacts ItemFacts stmt_facts expr_facts field_facts step_facts kind_facts arm_facts block_facts branch_facts item_facts (ItemKind-F.Import tree)
+    ap told_of_kind (sym (rolls-Import tree)) ∙ kind_is (ItemKind-F.Import tree)
 
 pub file_module_is : (name : Name) → told_of_kind (item.FileModule name) ≡ kind_facts (ItemKind-F.FileModule name)
-unfolding about_expr about_field_expr about_step about_stmt about_block about_branch about_arm told_of_item told_of_kind
 file_module_is name =
-    ap told_of_kind (sym (rolls-FileModule name)) ∙ fold-roll-ItemKind StmtFacts ExprFacts Facts StepFacts KindFacts ArmFacts BlockFacts BranchFacts ItemFacts stmt_facts expr_facts field_facts step_facts kind_facts arm_facts block_facts branch_facts item_facts (ItemKind-F.FileModule name)
+    ap told_of_kind (sym (rolls-FileModule name)) ∙ kind_is (ItemKind-F.FileModule name)
 
 pub module_is : (name : Name) (attrs : List Attr) (items : List Item) → told_of_kind (item.Module name attrs items) ≡ kind_facts (ItemKind-F.Module name attrs (map told_of_item items))
-unfolding about_expr about_field_expr about_step about_stmt about_block about_branch about_arm told_of_item told_of_kind
 module_is name attrs items =
-    ap told_of_kind (sym (rolls-Module name attrs items)) ∙ fold-roll-ItemKind StmtFacts ExprFacts Facts StepFacts KindFacts ArmFacts BlockFacts BranchFacts ItemFacts stmt_facts expr_facts field_facts step_facts kind_facts arm_facts block_facts branch_facts item_facts (ItemKind-F.Module name attrs items)
+    ap told_of_kind (sym (rolls-Module name attrs items)) ∙ kind_is (ItemKind-F.Module name attrs items)
 
 pub function_is : (head : FnHead) (wheres : Wheres) (body : Option Block) → told_of_kind (item.Function head wheres body) ≡ kind_facts (ItemKind-F.Function head wheres (option_map about_block body))
-unfolding about_expr about_field_expr about_step about_stmt about_block about_branch about_arm told_of_item told_of_kind
 function_is head wheres None =
-    ap told_of_kind (sym (rolls-Function head wheres None)) ∙ fold-roll-ItemKind StmtFacts ExprFacts Facts StepFacts KindFacts ArmFacts BlockFacts BranchFacts ItemFacts stmt_facts expr_facts field_facts step_facts kind_facts arm_facts block_facts branch_facts item_facts (ItemKind-F.Function head wheres None)
+    ap told_of_kind (sym (rolls-Function head wheres None)) ∙ kind_is (ItemKind-F.Function head wheres None)
 function_is head wheres (Some x0) =
-    ap told_of_kind (sym (rolls-Function head wheres (Some x0))) ∙ fold-roll-ItemKind StmtFacts ExprFacts Facts StepFacts KindFacts ArmFacts BlockFacts BranchFacts ItemFacts stmt_facts expr_facts field_facts step_facts kind_facts arm_facts block_facts branch_facts item_facts (ItemKind-F.Function head wheres (Some x0))
+    ap told_of_kind (sym (rolls-Function head wheres (Some x0))) ∙ kind_is (ItemKind-F.Function head wheres (Some x0))
 
 pub alias_is : (x : Alias) → told_of_kind (item.Alias x) ≡ kind_facts (ItemKind-F.Alias x)
-unfolding about_expr about_field_expr about_step about_stmt about_block about_branch about_arm told_of_item told_of_kind
 alias_is x =
-    ap told_of_kind (sym (rolls-Alias x)) ∙ fold-roll-ItemKind StmtFacts ExprFacts Facts StepFacts KindFacts ArmFacts BlockFacts BranchFacts ItemFacts stmt_facts expr_facts field_facts step_facts kind_facts arm_facts block_facts branch_facts item_facts (ItemKind-F.Alias x)
+    ap told_of_kind (sym (rolls-Alias x)) ∙ kind_is (ItemKind-F.Alias x)
 
 pub struct_is : (x : Struct) → told_of_kind (item.Struct x) ≡ kind_facts (ItemKind-F.ItemKind::Struct x)
-unfolding about_expr about_field_expr about_step about_stmt about_block about_branch about_arm told_of_item told_of_kind
 struct_is x =
-    ap told_of_kind (sym (rolls-ItemKind::Struct x)) ∙ fold-roll-ItemKind StmtFacts ExprFacts Facts StepFacts KindFacts ArmFacts BlockFacts BranchFacts ItemFacts stmt_facts expr_facts field_facts step_facts kind_facts arm_facts block_facts branch_facts item_facts (ItemKind-F.ItemKind::Struct x)
+    ap told_of_kind (sym (rolls-ItemKind::Struct x)) ∙ kind_is (ItemKind-F.ItemKind::Struct x)
 
 pub union_is : (x : Union) → told_of_kind (item.Union x) ≡ kind_facts (ItemKind-F.Union x)
-unfolding about_expr about_field_expr about_step about_stmt about_block about_branch about_arm told_of_item told_of_kind
 union_is x =
-    ap told_of_kind (sym (rolls-Union x)) ∙ fold-roll-ItemKind StmtFacts ExprFacts Facts StepFacts KindFacts ArmFacts BlockFacts BranchFacts ItemFacts stmt_facts expr_facts field_facts step_facts kind_facts arm_facts block_facts branch_facts item_facts (ItemKind-F.Union x)
+    ap told_of_kind (sym (rolls-Union x)) ∙ kind_is (ItemKind-F.Union x)
 
 pub enum_is : (x : Enum) → told_of_kind (item.Enum x) ≡ kind_facts (ItemKind-F.Enum x)
-unfolding about_expr about_field_expr about_step about_stmt about_block about_branch about_arm told_of_item told_of_kind
 enum_is x =
-    ap told_of_kind (sym (rolls-Enum x)) ∙ fold-roll-ItemKind StmtFacts ExprFacts Facts StepFacts KindFacts ArmFacts BlockFacts BranchFacts ItemFacts stmt_facts expr_facts field_facts step_facts kind_facts arm_facts block_facts branch_facts item_facts (ItemKind-F.Enum x)
+    ap told_of_kind (sym (rolls-Enum x)) ∙ kind_is (ItemKind-F.Enum x)
 
 pub value_is : (head : ValueHead) (value : Option Expr) → told_of_kind (item.Value head value) ≡ kind_facts (ItemKind-F.Value head (option_map about_expr value))
-unfolding about_expr about_field_expr about_step about_stmt about_block about_branch about_arm told_of_item told_of_kind
 value_is head None =
-    ap told_of_kind (sym (rolls-Value head None)) ∙ fold-roll-ItemKind StmtFacts ExprFacts Facts StepFacts KindFacts ArmFacts BlockFacts BranchFacts ItemFacts stmt_facts expr_facts field_facts step_facts kind_facts arm_facts block_facts branch_facts item_facts (ItemKind-F.Value head None)
+    ap told_of_kind (sym (rolls-Value head None)) ∙ kind_is (ItemKind-F.Value head None)
 value_is head (Some x0) =
-    ap told_of_kind (sym (rolls-Value head (Some x0))) ∙ fold-roll-ItemKind StmtFacts ExprFacts Facts StepFacts KindFacts ArmFacts BlockFacts BranchFacts ItemFacts stmt_facts expr_facts field_facts step_facts kind_facts arm_facts block_facts branch_facts item_facts (ItemKind-F.Value head (Some x0))
+    ap told_of_kind (sym (rolls-Value head (Some x0))) ∙ kind_is (ItemKind-F.Value head (Some x0))
 
 pub trait_is : (head : TraitHead) (wheres : Wheres) (attrs : List Attr) (items : List Item) → told_of_kind (item.Trait head wheres attrs items) ≡ kind_facts (ItemKind-F.Trait head wheres attrs (map told_of_item items))
-unfolding about_expr about_field_expr about_step about_stmt about_block about_branch about_arm told_of_item told_of_kind
 trait_is head wheres attrs items =
-    ap told_of_kind (sym (rolls-Trait head wheres attrs items)) ∙ fold-roll-ItemKind StmtFacts ExprFacts Facts StepFacts KindFacts ArmFacts BlockFacts BranchFacts ItemFacts stmt_facts expr_facts field_facts step_facts kind_facts arm_facts block_facts branch_facts item_facts (ItemKind-F.Trait head wheres attrs items)
+    ap told_of_kind (sym (rolls-Trait head wheres attrs items)) ∙ kind_is (ItemKind-F.Trait head wheres attrs items)
 
 pub impl_is : (head : ImplHead) (wheres : Wheres) (attrs : List Attr) (items : List Item) → told_of_kind (item.Impl head wheres attrs items) ≡ kind_facts (ItemKind-F.Impl head wheres attrs (map told_of_item items))
-unfolding about_expr about_field_expr about_step about_stmt about_block about_branch about_arm told_of_item told_of_kind
 impl_is head wheres attrs items =
-    ap told_of_kind (sym (rolls-Impl head wheres attrs items)) ∙ fold-roll-ItemKind StmtFacts ExprFacts Facts StepFacts KindFacts ArmFacts BlockFacts BranchFacts ItemFacts stmt_facts expr_facts field_facts step_facts kind_facts arm_facts block_facts branch_facts item_facts (ItemKind-F.Impl head wheres attrs items)
+    ap told_of_kind (sym (rolls-Impl head wheres attrs items)) ∙ kind_is (ItemKind-F.Impl head wheres attrs items)
 
 pub foreign_is : (is_unsafe : Bool) (abi : Option Literal) (attrs : List Attr) (items : List Item) → told_of_kind (item.Foreign is_unsafe abi attrs items) ≡ kind_facts (ItemKind-F.Foreign is_unsafe abi attrs (map told_of_item items))
-unfolding about_expr about_field_expr about_step about_stmt about_block about_branch about_arm told_of_item told_of_kind
 foreign_is is_unsafe abi attrs items =
-    ap told_of_kind (sym (rolls-Foreign is_unsafe abi attrs items)) ∙ fold-roll-ItemKind StmtFacts ExprFacts Facts StepFacts KindFacts ArmFacts BlockFacts BranchFacts ItemFacts stmt_facts expr_facts field_facts step_facts kind_facts arm_facts block_facts branch_facts item_facts (ItemKind-F.Foreign is_unsafe abi attrs items)
+    ap told_of_kind (sym (rolls-Foreign is_unsafe abi attrs items)) ∙ kind_is (ItemKind-F.Foreign is_unsafe abi attrs items)
 
 pub rules_is : (name : Name) (rules : Group) → told_of_kind (item.MacroRules name rules) ≡ kind_facts (ItemKind-F.MacroRules name rules)
-unfolding about_expr about_field_expr about_step about_stmt about_block about_branch about_arm told_of_item told_of_kind
 rules_is name rules =
-    ap told_of_kind (sym (rolls-MacroRules name rules)) ∙ fold-roll-ItemKind StmtFacts ExprFacts Facts StepFacts KindFacts ArmFacts BlockFacts BranchFacts ItemFacts stmt_facts expr_facts field_facts step_facts kind_facts arm_facts block_facts branch_facts item_facts (ItemKind-F.MacroRules name rules)
+    ap told_of_kind (sym (rolls-MacroRules name rules)) ∙ kind_is (ItemKind-F.MacroRules name rules)
 
 pub call_is : (call : MacroCall) → told_of_kind (item.Call call) ≡ kind_facts (ItemKind-F.ItemKind::Call call)
-unfolding about_expr about_field_expr about_step about_stmt about_block about_branch about_arm told_of_item told_of_kind
 call_is call =
-    ap told_of_kind (sym (rolls-ItemKind::Call call)) ∙ fold-roll-ItemKind StmtFacts ExprFacts Facts StepFacts KindFacts ArmFacts BlockFacts BranchFacts ItemFacts stmt_facts expr_facts field_facts step_facts kind_facts arm_facts block_facts branch_facts item_facts (ItemKind-F.ItemKind::Call call)
+    ap told_of_kind (sym (rolls-ItemKind::Call call)) ∙ kind_is (ItemKind-F.ItemKind::Call call)

@@ -4,7 +4,6 @@ use Rattle.std.specs.List.{list_all}
 use Rattle.lay_form.specs.Form.{Blank, Operator, Semicolons, Braces, Bare, Unseen, Marked, Behind, ArmComma, Form, Done, Piece, Part, Deeper, Body, keyword, semicolon, Bit}
 use Rattle.lay_form.specs.Notation.{N, I0, piece, body, soft, behind_attrs}
 use Rattle.lay_node.specs.nodes.Attr.{are_attrs, attr_form}
-use Rattle.lay_node.specs.nodes.Facts.{Facts}
 use Rattle.lay_node.specs.nodes.Fields.{blank_if}
 use Rattle.lay_node.specs.nodes.Functions.{may_be_type}
 use Rattle.lay_node.specs.nodes.Patterns.{about_pat, pat_form, pat_good}
@@ -14,11 +13,11 @@ use Rattle.lay_node.specs.declared.heads.Site.TheVariants.{Module}
 use Rattle.lay_node.specs.declared.patterns.Pat.{Pat}
 use Rattle.lay_node.specs.declared.patterns.PatPlace.TheVariants.{Alternatives, Single}
 use Rattle.lay_node.specs.declared.types.Ty.{Ty}
-use Rattle.lay_code.specs.nodes.CodeFacts.{ArmFacts, BlockFacts, BranchFacts, ItemFacts, KindFacts, StmtFacts}
+use Rattle.lay_code.specs.nodes.CodeFacts.{ArmFacts, BlockFacts, BranchFacts, StmtFacts}
 use Rattle.lay_code.specs.nodes.Ends.{ends_in_brace}
-use Rattle.lay_code.specs.nodes.Exprs.{ExprFacts, StepFacts, value_form, value_placed, placed, BodyKind, MacroBody, BlockBody, OtherBody, is_macro, condition_form, condition_good}
+use Rattle.lay_code.specs.nodes.Exprs.{ExprFacts, value_form, value_placed, placed, BodyKind, MacroBody, BlockBody, OtherBody, is_macro, ArmLayer, BlockLayer, BranchLayer, StmtLayer}
 use Rattle.lay_code.specs.nodes.Places.{FREE, plain, statement}
-use Rattle.lay_code.specs.declared.blocks.Stmt.TheOpen.{Arm-F, Block-F, Branch-F, Stmt-F}
+use Rattle.lay_code.specs.declared.blocks.Stmt.TheOpen.{Stmt-F}
 
 -- ---- statements
 
@@ -56,7 +55,7 @@ abbrev pub is_plain : List Attr → Bool
 is_plain [] = true
 is_plain (a ∷ more) = false
 
-abbrev pub stmt_facts : Stmt-F StmtFacts ExprFacts Facts StepFacts KindFacts ArmFacts BlockFacts BranchFacts ItemFacts → StmtFacts
+abbrev pub stmt_facts : StmtLayer → StmtFacts
 stmt_facts (Stmt-F.Let attrs pat ty x otherwise) = record {
   form = let_form attrs pat ty x otherwise;
   good = are_attrs false attrs && pat_good Single (about_pat pat) && may_be_type ty && value_placed x && else_good x otherwise;
@@ -124,7 +123,7 @@ abbrev pub is_lone : List Attr → List StmtFacts → Bool
 is_lone [] (s ∷ []) = s.bare && not s.call
 is_lone _ _ = false
 
-abbrev pub block_facts : Block-F StmtFacts ExprFacts Facts StepFacts KindFacts ArmFacts BlockFacts BranchFacts ItemFacts → BlockFacts
+abbrev pub block_facts : BlockLayer → BlockFacts
 block_facts b = record {
   form = block_form b.attrs b.stmts;
   soft = soft_form b.attrs b.stmts;
@@ -134,11 +133,11 @@ block_facts b = record {
 
 -- ---- branches and arms
 
-abbrev pub branch_facts : Branch-F StmtFacts ExprFacts Facts StepFacts KindFacts ArmFacts BlockFacts BranchFacts ItemFacts → BranchFacts
+abbrev pub branch_facts : BranchLayer → BranchFacts
 branch_facts b = record {
-  condition = condition_form b.pat b.condition;
+  condition = b.condition.form;
   soft = b.body.soft;
-  good = condition_good b.pat b.condition && b.body.good;
+  good = b.condition.good && b.body.good;
 }
 
 abbrev pub braces_of : BodyKind → Braces
@@ -163,7 +162,7 @@ abbrev pub is_lone_body : BodyKind → Bool
 is_lone_body (BlockBody lone) = lone
 is_lone_body _ = false
 
-abbrev pub arm_facts : Arm-F StmtFacts ExprFacts Facts StepFacts KindFacts ArmFacts BlockFacts BranchFacts ItemFacts → ArmFacts
+abbrev pub arm_facts : ArmLayer → ArmFacts
 arm_facts a = record {
   form = arm_form a.attrs a.pat a.guard a.body;
   good = are_attrs false a.attrs && pat_good Alternatives (about_pat a.pat) && value_placed a.guard && placed a.body statement && not (is_lone_body a.body.kind);

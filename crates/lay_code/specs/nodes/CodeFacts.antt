@@ -25,6 +25,19 @@ pub record StmtFacts : Type 0 where
   -- such a one that is a macro call
   pub call : Bool
 
+pub record LinkFacts : Type 0 where
+  pub form : Form
+  -- It begins with `let`.
+  pub is_let : Bool
+  -- It may be one of the links of a condition with a `let`; the flag says that a further link follows.
+  pub good : Bool → Bool
+  -- It may be a condition by itself.
+  pub alone : Bool
+
+pub record ConditionFacts : Type 0 where
+  pub form : Form
+  pub good : Bool
+
 pub record BranchFacts : Type 0 where
   -- the condition
   pub condition : Form

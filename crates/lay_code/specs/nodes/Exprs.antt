@@ -31,14 +31,12 @@ use Rattle.lay_node.specs.declared.types.PathStyle.TheVariants.{Code}
 use Rattle.lay_node.specs.declared.types.TypePlace.TheVariants.{NoBounds}
 use Rattle.lay_code.specs.Operands.{ExprLead, ByLiteral, ByPath, ByUnderscore, ByLabel, ByParen, ByBracket, ByBrace, ByPrefix, ByRange, ByContinue, ByBreak, ByReturn, begins_operand, ByBlockWord, ByClosure}
 use Rattle.lay_code.specs.Operators.{op_text, op_level, is_angle_op, is_dot_or_try, strength}
-use Rattle.lay_code.specs.nodes.CodeFacts.{ArmFacts, BlockFacts, BranchFacts, ItemFacts, KindFacts, StmtFacts}
+use Rattle.lay_code.specs.nodes.CodeFacts.{ArmFacts, BlockFacts, BranchFacts, ConditionFacts, ItemFacts, KindFacts, LinkFacts, StmtFacts}
 use Rattle.lay_code.specs.nodes.Places.{plain, FREE, begins, is_whole, is_part, before_op}
 use Rattle.lay_code.specs.declared.exprs.ClosureParam.{ClosureParam}
 use Rattle.lay_code.specs.declared.exprs.Expr.{Expr}
-use Rattle.lay_code.specs.declared.blocks.Stmt.TheOpen.{Expr-F, FieldExpr-F, Step-F}
-use Rattle.lay_code.specs.declared.exprs.FieldExpr.{FieldExpr}
+use Rattle.lay_code.specs.declared.blocks.Stmt.TheOpen.{Arm-F, Block-F, Branch-F, Condition-F, Expr-F, FieldExpr-F, Item-F, ItemKind-F, Link-F, Step-F, Stmt-F}
 use Rattle.lay_code.specs.declared.exprs.Place.{Place}
-use Rattle.lay_code.specs.declared.exprs.Step.{Step}
 use Rattle.lay_code.specs.declared.operators.Op.{Op}
 use Rattle.lay_code.specs.declared.operators.Prefix.{Prefix}
 use Rattle.lay_code.specs.declared.operators.Prefix.TheVariants as before
@@ -184,8 +182,46 @@ pub record StepFacts : Type 0 where
   pub form : Form
   pub good : Bool
 
+-- ---- layers
+
+-- what stands in a node, where this is told of the nodes within it
+abbrev pub Layer : (Type 0 → Type 0 → Type 0 → Type 0 → Type 0 → Type 0 → Type 0 → Type 0 → Type 0 → Type 0 → Type 0 → Type 0) → Type 0
+Layer F = F StmtFacts LinkFacts ExprFacts Facts StepFacts KindFacts ArmFacts BlockFacts BranchFacts ConditionFacts ItemFacts
+
+abbrev pub StmtLayer : Type 0
+StmtLayer = Layer Stmt-F
+
 abbrev pub ExprLayer : Type 0
-ExprLayer = Expr-F StmtFacts ExprFacts Facts StepFacts KindFacts ArmFacts BlockFacts BranchFacts ItemFacts
+ExprLayer = Layer Expr-F
+
+abbrev pub FieldLayer : Type 0
+FieldLayer = Layer FieldExpr-F
+
+abbrev pub StepLayer : Type 0
+StepLayer = Layer Step-F
+
+abbrev pub KindLayer : Type 0
+KindLayer = Layer ItemKind-F
+
+abbrev pub ArmLayer : Type 0
+ArmLayer = Layer Arm-F
+
+abbrev pub BlockLayer : Type 0
+BlockLayer = Layer Block-F
+
+abbrev pub BranchLayer : Type 0
+BranchLayer = Layer Branch-F
+
+abbrev pub ConditionLayer : Type 0
+ConditionLayer = Layer Condition-F
+
+abbrev pub LinkLayer : Type 0
+LinkLayer = Layer Link-F
+
+abbrev pub ItemLayer : Type 0
+ItemLayer = Layer Item-F
+
+-- ---- which step it is, and what is told of each
 
 abbrev pub is_field : StepKind → Bool
 is_field OfField = true
@@ -221,7 +257,7 @@ are_generics (Some args) = all_good (map about_arg args)
 abbrev pub args_form : List ExprFacts → Form
 args_form xs = comma_list true (opener Paren) (closer Paren) (expr_forms xs)
 
-abbrev pub step_facts : Step-F StmtFacts ExprFacts Facts StepFacts KindFacts ArmFacts BlockFacts BranchFacts ItemFacts → StepFacts
+abbrev pub step_facts : StepLayer → StepFacts
 step_facts (Step-F.Field name) = record {
   kind = OfField;
   form = Piece (Operator (codes ".") ∷ []) (leaf_of name.raw name.text Done);
@@ -286,7 +322,7 @@ postfix_form base steps = group_if (nat_le 2 (methods steps)) (Part base.form (s
 
 -- ---- fields of struct literals
 
-abbrev pub field_facts : FieldExpr-F StmtFacts ExprFacts Facts StepFacts KindFacts ArmFacts BlockFacts BranchFacts ItemFacts → Facts
+abbrev pub field_facts : FieldLayer → Facts
 field_facts (FieldExpr-F.Named attrs name x) = record {
   form = behind_attrs (map attr_form attrs) (leaf_of name.raw name.text (Piece colon (Part x.form Done)));
   good = are_attrs false attrs && is_name name.raw name.text && placed x FREE;
@@ -360,12 +396,6 @@ operand_form (Some x) = Piece (Blank ∷ []) (Part x.form Done)
 abbrev pub labelled : Option Lifetime → Form → Form
 labelled None f = f
 labelled (Some l) f = Part (lifetime_form l) (Piece colon (Part f Done))
-
--- a condition, or a pattern and what it is matched with
-abbrev pub condition_form : Option Pat → ExprFacts → Form
-condition_form None x = x.form
-condition_form (Some pat) x =
-    Piece (keyword (codes "let") ∷ Blank ∷ []) (Part (pat_form Alternatives (about_pat pat)) (Piece equals (Part x.form Done)))
 
 abbrev pub branch_head : BranchFacts → Form
 branch_head b = Piece (keyword (codes "if") ∷ Blank ∷ []) (Part b.condition Done)
@@ -442,8 +472,8 @@ inside (Expr-F.If branches otherwise) = branches_form branches (else_branch_form
 inside (Expr-F.Match x attrs arms) =
     I0 (Piece (keyword (codes "match") ∷ Blank ∷ []) (Part x.form Done)) (body (Blank ∷ []) [] (map attr_form attrs ++ arm_forms arms))
 inside (Expr-F.Loop label b) = labelled label (Piece (keyword (codes "loop") ∷ []) (Part (b.form true) Done))
-inside (Expr-F.While label pat x b) =
-    labelled label (I0 (Piece (keyword (codes "while") ∷ Blank ∷ []) (Part (condition_form pat x) Done)) (Part (b.form true) Done))
+inside (Expr-F.While label c b) =
+    labelled label (I0 (Piece (keyword (codes "while") ∷ Blank ∷ []) (Part c.form Done)) (Part (b.form true) Done))
 inside (Expr-F.For label pat x b) = labelled label
     (I0 (Piece (keyword (codes "for") ∷ Blank ∷ []) (Part (pat_form Alternatives (about_pat pat)) (Piece (Blank ∷ keyword (codes "in") ∷ Blank ∷ []) (Part x.form Done))))
     (Part (b.form true) Done))
@@ -512,7 +542,7 @@ lead_of (Expr-F.Async moves b) = ByBlockWord
 lead_of (Expr-F.If branches otherwise) = ByBlockWord
 lead_of (Expr-F.Match x attrs arms) = ByBlockWord
 lead_of (Expr-F.Loop label b) = label_or ByBlockWord label
-lead_of (Expr-F.While label pat x b) = label_or ByBlockWord label
+lead_of (Expr-F.While label c b) = label_or ByBlockWord label
 lead_of (Expr-F.For label pat x b) = label_or ByBlockWord label
 lead_of (Expr-F.Closure is_async moves params x) = ByClosure
 lead_of (Expr-F.TypedClosure is_async moves params output b) = ByClosure
@@ -607,7 +637,7 @@ is_block_like (Expr-F.ConstBlock b) = true
 is_block_like (Expr-F.If branches otherwise) = true
 is_block_like (Expr-F.Match x attrs arms) = true
 is_block_like (Expr-F.Loop label b) = true
-is_block_like (Expr-F.While label pat x b) = true
+is_block_like (Expr-F.While label c b) = true
 is_block_like (Expr-F.For label pat x b) = true
 is_block_like _ = false
 
@@ -699,11 +729,6 @@ postfix_placed x steps no_struct first =
 abbrev pub types_good : List TypeFacts → Bool
 types_good xs = list_all (good_at NoBounds) xs
 
--- Behind `let` and a pattern, what it is matched with is of level 4 at least.
-abbrev pub condition_good : Option Pat → ExprFacts → Bool
-condition_good None x = placed x (plain 0 true)
-condition_good (Some pat) x = pat_good Alternatives (about_pat pat) && placed x (plain 4 true)
-
 abbrev pub branches_good : List BranchFacts → Bool
 branches_good branches = list_all (λ (b : BranchFacts). b.good) branches
 
@@ -740,7 +765,7 @@ within_of (Expr-F.Async moves b) no_struct first = b.good
 within_of (Expr-F.If branches otherwise) no_struct first = is_there branches && branches_good branches && may_be_good otherwise
 within_of (Expr-F.Match x attrs arms) no_struct first = placed x (plain 0 true) && are_attrs true attrs && arms_good arms
 within_of (Expr-F.Loop label b) no_struct first = b.good
-within_of (Expr-F.While label pat x b) no_struct first = condition_good pat x && b.good
+within_of (Expr-F.While label c b) no_struct first = c.good && b.good
 within_of (Expr-F.For label pat x b) no_struct first = pat_good Alternatives (about_pat pat) && placed x (plain 0 true) && b.good
 within_of (Expr-F.Closure is_async moves params x) no_struct first = list_all is_closure_param params && placed x (plain 0 no_struct)
 within_of (Expr-F.TypedClosure is_async moves params output b) no_struct first = list_all is_closure_param params && good_at NoBounds (about_type output) && b.good

@@ -6,7 +6,6 @@ use Rattle.lay_form.specs.Notation.{I0, piece, body, behind_attrs, N}
 use Rattle.lay_node.specs.Words.{is_name, leaf_of}
 use Rattle.lay_node.specs.nodes.Attr.{are_attrs, attr_form}
 use Rattle.lay_node.specs.nodes.Call.{is_group, before_rules, end_form, about_call}
-use Rattle.lay_node.specs.nodes.Facts.{Facts}
 use Rattle.lay_node.specs.nodes.Fields.{blank_if}
 use Rattle.lay_node.specs.nodes.Functions.{fn_head_form, is_fn_head}
 use Rattle.lay_node.specs.nodes.Heads.{HeadFacts, about_alias, about_enum, about_extern_crate, about_struct, about_union, impl_head_form, is_impl_head, is_trait_head, is_value_head, leads, trait_head_form, unsafe_form, value_head_form}
@@ -31,13 +30,11 @@ use Rattle.lay_node.specs.declared.tokens.MacroCall.{MacroCall}
 use Rattle.lay_node.specs.declared.use_tree.UseTree.{UseTree}
 use Rattle.lay_node.specs.declared.vis.Vis.{Vis}
 use Rattle.lay_node.specs.declared.vis.Vis.TheVariants as vis
-use Rattle.lay_code.specs.nodes.CodeFacts.{BlockFacts, ItemFacts, KindFacts, StmtFacts, ArmFacts, BranchFacts}
-use Rattle.lay_code.specs.nodes.Exprs.{placed, value_form, value_placed, may_be_good, ExprFacts, StepFacts}
+use Rattle.lay_code.specs.nodes.CodeFacts.{BlockFacts, ItemFacts, KindFacts}
+use Rattle.lay_code.specs.nodes.Exprs.{placed, value_form, value_placed, may_be_good, ExprFacts, ItemLayer, KindLayer}
 use Rattle.lay_code.specs.nodes.Places.{FREE}
-use Rattle.lay_code.specs.declared.exprs.Expr.{Expr}
-use Rattle.lay_code.specs.declared.item.Item.{Item}
 use Rattle.lay_code.specs.declared.item.ItemKind.{ItemKind}
-use Rattle.lay_code.specs.declared.blocks.Stmt.TheOpen.{Item-F, ItemKind-F}
+use Rattle.lay_code.specs.declared.blocks.Stmt.TheOpen.{ItemKind-F}
 
 -- ---- where an item may stand
 
@@ -170,7 +167,7 @@ in_modules x = record { head = Some x.head; tail = x.tail; good = λ site. x.goo
 abbrev pub by_site : (Site → HeadFacts) → KindFacts
 by_site x = record { head = Some (x site.Module).head; tail = (x site.Module).tail; good = λ site. (x site).good; call = false }
 
-abbrev pub kind_facts : ItemKind-F StmtFacts ExprFacts Facts StepFacts KindFacts ArmFacts BlockFacts BranchFacts ItemFacts → KindFacts
+abbrev pub kind_facts : KindLayer → KindFacts
 kind_facts (ItemKind-F.ExternCrate x) = in_modules (about_extern_crate x)
 kind_facts (ItemKind-F.Import tree) = in_modules (about_import tree)
 kind_facts (ItemKind-F.FileModule name) = in_modules (about_file_module name)
@@ -203,7 +200,7 @@ abbrev pub is_inherited : Vis → Bool
 is_inherited vis.Inherited = true
 is_inherited _ = false
 
-abbrev pub item_facts : Item-F StmtFacts ExprFacts Facts StepFacts KindFacts ArmFacts BlockFacts BranchFacts ItemFacts → ItemFacts
+abbrev pub item_facts : ItemLayer → ItemFacts
 item_facts item = record {
   form = Deeper (behind_attrs (map attr_form item.attrs) (Part (kind_form item.vis item.kind.head item.kind.tail) Done)) Done;
   good = λ site. are_attrs false item.attrs && is_vis item.vis && (is_some item.kind.head || is_inherited item.vis) && item.kind.good site;

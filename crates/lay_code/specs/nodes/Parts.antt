@@ -1,18 +1,13 @@
 -- What is within a node, where it is of this kind.
 use Rattle.std.specs.Prelude.{Option, Some, None}
-use Rattle.lay_code.specs.declared.blocks.Arm.{Arm}
 use Rattle.lay_code.specs.declared.blocks.Block.{Block}
-use Rattle.lay_code.specs.declared.blocks.Branch.{Branch}
 use Rattle.lay_code.specs.declared.blocks.Stmt.{Stmt}
 use Rattle.lay_code.specs.declared.blocks.Stmt.TheOpen.{Expr-F, Stmt-F}
 use Rattle.lay_code.specs.declared.blocks.Stmt.TheViews.{out-Expr, out-Stmt}
 use Rattle.lay_code.specs.declared.exprs.Expr.{Expr}
-use Rattle.lay_code.specs.declared.exprs.FieldExpr.{FieldExpr}
-use Rattle.lay_code.specs.declared.exprs.Step.{Step}
-use Rattle.lay_code.specs.declared.item.Item.{Item}
-use Rattle.lay_code.specs.declared.item.ItemKind.{ItemKind}
+use Rattle.lay_code.specs.nodes.Layers.{ExprNode, StmtNode}
 
-abbrev pub block_in : Expr-F Stmt Expr FieldExpr Step ItemKind Arm Block Branch Item → Option Block
+abbrev pub block_in : ExprNode → Option Block
 block_in (Expr-F.Block label b) = Some b
 block_in _ = None
 
@@ -20,7 +15,7 @@ block_in _ = None
 abbrev pub block_of : Expr → Option Block
 block_of x = block_in (out-Expr x)
 
-abbrev pub expr_in : Stmt-F Stmt Expr FieldExpr Step ItemKind Arm Block Branch Item → Option Expr
+abbrev pub expr_in : StmtNode → Option Expr
 expr_in (Stmt-F.Expr attrs x ended) = Some x
 expr_in _ = None
 

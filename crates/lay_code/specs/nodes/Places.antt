@@ -35,6 +35,10 @@ abbrev pub part_if : Bool → Start
 part_if true = start.Part
 part_if false = start.No
 
+-- A link of a condition with a `let`; the flag says that a further link follows, with its `&&`.
+abbrev pub link_place : Bool → Place
+link_place more = record { level = 4; no_struct = true; start = start.No; op_after = more; lt_after = false }
+
 -- An operand that an operator follows. The flags say that it begins a part of what begins a statement, and that the
 -- operator is `<` or `<<`.
 abbrev pub before_op : ℕ → Bool → Bool → Bool → Place

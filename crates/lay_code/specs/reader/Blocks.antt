@@ -15,8 +15,9 @@ use Rattle.lay_node.specs.declared.patterns.PatPlace.TheVariants.{Alternatives, 
 use Rattle.lay_node.specs.declared.types.TypePlace.TheVariants.{Bounds}
 use Rattle.lay_code.specs.nodes.Blocks.{is_free, is_lone_body, precedes_else}
 use Rattle.lay_code.specs.nodes.Code.{about_expr, about_stmt, told_of_item}
-use Rattle.lay_code.specs.nodes.Exprs.{ExprFacts}
+use Rattle.lay_code.specs.nodes.Layers.{ExprNode, StmtNode}
 use Rattle.lay_code.specs.nodes.Places.{FREE, plain, statement}
+use Rattle.lay_code.specs.reader.Conditions.{condition_by}
 use Rattle.lay_code.specs.reader.ItemLeads.{begins_rules, begins_union}
 use Rattle.lay_code.specs.reader.Within.{ExprWithin}
 use Rattle.lay_code.specs.declared.blocks.Arm.{Arm}
@@ -27,10 +28,7 @@ use Rattle.lay_code.specs.declared.blocks.Stmt.TheOpen.{Expr-F, Stmt-F}
 use Rattle.lay_code.specs.declared.blocks.Stmt.TheVariants as stmt
 use Rattle.lay_code.specs.declared.blocks.Stmt.TheViews.{out-Expr, out-Stmt}
 use Rattle.lay_code.specs.declared.exprs.Expr.{Expr}
-use Rattle.lay_code.specs.declared.exprs.FieldExpr.{FieldExpr}
-use Rattle.lay_code.specs.declared.exprs.Step.{Step}
 use Rattle.lay_code.specs.declared.item.Item.{Item}
-use Rattle.lay_code.specs.declared.item.ItemKind.{ItemKind}
 
 -- ---- statements
 
@@ -110,26 +108,16 @@ block_by within ts = do
 
 -- ---- branches
 
--- a condition, or a pattern and what it is matched with
-unfoldable pub condition_by : ExprWithin → Tokens → Read (Option Pat × Expr)
-condition_by within ts =
-    if first (is_keyword (codes "let")) ts
-    then (do
-      p ← within.pats Alternatives (tail ts)
-      x ← (if is_op (codes "=") p.1 then within.exprs (plain 4 true) (drop 1 p.1) else None)
-      Some (((Some p.0.0, x.0.0), max p.0.1 x.0.1), x.1))
-    else (do x ← within.exprs (plain 0 true) ts; Some (((None, x.0.0), x.0.1), x.1))
-
 -- what stands behind an `if`
 unfoldable pub branch_by : ExprWithin → Tokens → Read Branch
 branch_by within ts = do
   c ← condition_by within ts
   b ← block_by within c.1
-  Some ((record { pat = c.0.0.0; condition = c.0.0.1; body = b.0.0 }, max c.0.1 b.0.1), b.1)
+  Some ((record { condition = c.0.0; body = b.0.0 }, max c.0.1 b.0.1), b.1)
 
 -- ---- arms
 
-abbrev pub bare_by : (Expr → Expr) → Expr → Stmt-F Stmt Expr FieldExpr Step ItemKind Arm Block Branch Item → Expr
+abbrev pub bare_by : (Expr → Expr) → Expr → StmtNode → Expr
 bare_by undress x (Stmt-F.Expr attrs y ended) = undress y
 bare_by undress x _ = x
 
@@ -137,7 +125,7 @@ abbrev pub held_by : (Expr → Expr) → Expr → List Stmt → Expr
 held_by undress x (s ∷ []) = bare_by undress x (out-Stmt s)
 held_by undress x _ = x
 
-abbrev pub block_held : (Expr → Expr) → Expr → Expr-F Stmt Expr FieldExpr Step ItemKind Arm Block Branch Item → Expr
+abbrev pub block_held : (Expr → Expr) → Expr → ExprNode → Expr
 block_held undress x (Expr-F.Block label b) = held_by undress x b.stmts
 block_held undress x _ = x
 

@@ -208,7 +208,7 @@ unfoldable pub while_expr : ExprWithin → Option Lifetime → Tokens → Read E
 while_expr within label ts = do
   c ← condition_by within ts
   b ← block_by within c.1
-  Some ((expr.While label c.0.0.0 c.0.0.1 b.0.0, suc (max c.0.1 b.0.1)), b.1)
+  Some ((expr.While label c.0.0 b.0.0, suc (max c.0.1 b.0.1)), b.1)
 
 -- what stands behind `for`
 unfoldable pub for_expr : ExprWithin → Option Lifetime → Tokens → Read Expr

@@ -1,4 +1,5 @@
 -- How what is one level deeper is read.
+use Rattle.std.specs.Prelude.{ℕ}
 use Rattle.lay_node.specs.Ahead.{Tokens}
 use Rattle.lay_node.specs.reader.Loops.{Read}
 use Rattle.lay_node.specs.reader.Types.{Within}
@@ -10,11 +11,12 @@ use Rattle.lay_code.specs.declared.exprs.Expr.{Expr}
 use Rattle.lay_code.specs.declared.exprs.Place.{Place}
 use Rattle.lay_code.specs.declared.item.Item.{Item}
 
--- Expressions at a place, the types and the arguments of paths, patterns at a place, the blocks behind an `else`, and the
--- items of a site.
+-- Expressions at a place, the types and the arguments of paths, patterns at a place, the blocks behind an `else`, the
+-- items of a site, and what goes on with the first operands of a condition, which need so much.
 pub record ExprWithin : Type 0 where
   pub exprs : Place → Tokens → Read Expr
   pub kinds : Within
   pub pats : PatPlace → Tokens → Read Pat
   pub blocks : Tokens → Read Block
   pub items : Site → Tokens → Read Item
+  pub goes_on : Expr × ℕ → Tokens → Read Expr

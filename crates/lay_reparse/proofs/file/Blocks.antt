@@ -12,12 +12,13 @@ use Rattle.lay_code.specs.declared.blocks.Stmt.TheOpen.{Arm-F, Block-F, Branch-F
 use Rattle.lay_code.specs.declared.blocks.Stmt.TheViews as views
 use Rattle.lay_code.specs.declared.exprs.Expr.{Expr}
 use Rattle.lay_code.proofs.nodes.BlocksLaws.{arm_is, block_is, branch_is}
+use Rattle.lay_code.proofs.nodes.Layers.{expr_is, stmt_is, stmt_told}
 use Rattle.lay_reparse.proofs.file.TypeArgs.{Any, Each}
 use Rattle.lay_reparse.proofs.file.Types.{kept}
 use Rattle.lay_reparse.proofs.file.ExprPlaces.{ExprPasses}
 use Rattle.lay_reparse.proofs.file.BlockKinds.{BlockPasses, StmtPasses, block_pass, expr_stmt_pass, item_stmt_pass, let_pass}
 use Rattle.lay_reparse.proofs.file.ArmKinds.{ArmPasses, BranchPasses, arm_pass, block_free, branch_pass}
-use Rattle.lay_reparse.proofs.file.CodeKept.{ArmIs, BlockIs, BranchIs, ExprIs, Kept, KeptExpr, StmtIs, arm_layer, block_layer, branch_layer, expr_is, stmt_is, stmt_layer, stmt_told}
+use Rattle.lay_reparse.proofs.file.CodeKept.{ArmIs, BlockIs, BranchIs, ExprIs, Kept, KeptExpr, StmtIs, arm_layer, block_layer, branch_layer, stmt_layer}
 
 -- ---- statements
 

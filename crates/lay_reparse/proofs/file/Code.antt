@@ -8,6 +8,7 @@ use Rattle.lay_form.specs.Pieces.{are_pieces}
 use Rattle.lay_node.specs.nodes.Types.{colon, equals}
 use Rattle.lay_code.specs.nodes.Code.{about_arm, about_block, about_branch, about_expr, about_field_expr, about_step, about_stmt, told_of_item}
 use Rattle.lay_code.specs.nodes.Exprs.{placed}
+use Rattle.lay_code.specs.nodes.Layers.{ArmNode, BlockNode, BranchNode, ExprNode, FieldNode, ItemNode, KindNode, StepNode, StmtNode}
 use Rattle.lay_code.specs.declared.exprs.Place.{Place}
 use Rattle.lay_code.specs.declared.blocks.Arm.{Arm}
 use Rattle.lay_code.specs.declared.blocks.Block.{Block}
@@ -30,38 +31,38 @@ use Rattle.lay_reparse.proofs.file.ExprPlaces.{ExprPasses, stands_at}
 use Rattle.lay_reparse.proofs.file.ExprSteps.{StepPasses}
 use Rattle.lay_reparse.proofs.file.BlockKinds.{BlockPasses, ItemPasses, StmtPasses}
 use Rattle.lay_reparse.proofs.file.ArmKinds.{ArmPasses, BranchPasses}
-use Rattle.lay_reparse.proofs.file.CodeKept.{ArmIs, BlockIs, BranchIs, ExprIs, FieldIs, ItemIs, Kept, KindIs, Layer, StepIs, StmtIs, arm_layer, block_layer, branch_layer, expr_layer, field_layer, item_layer, kind_layer, step_layer, stmt_layer}
+use Rattle.lay_reparse.proofs.file.CodeKept.{ArmIs, BlockIs, BranchIs, ExprIs, FieldIs, ItemIs, Kept, KindIs, StepIs, StmtIs, arm_layer, block_layer, branch_layer, expr_layer, field_layer, item_layer, kind_layer, step_layer, stmt_layer}
 use Rattle.lay_reparse.proofs.file.Exprs.{expr_step, field_step, step_step}
 use Rattle.lay_reparse.proofs.file.Blocks.{arm_step, block_step, branch_step, stmt_step}
 use Rattle.lay_reparse.proofs.file.Kinds.{item_step, kind_step}
 
 -- ---- each layer that is one whose nodes pass
 
-stmt_rolled : (x : Layer Stmt-F) (y : Kept Stmt-F) → stmt_layer y ≡ x → StmtIs (views.roll-Stmt x)
+stmt_rolled : (x : StmtNode) (y : Kept Stmt-F) → stmt_layer y ≡ x → StmtIs (views.roll-Stmt x)
 stmt_rolled x y is = subst (λ z. StmtIs (views.roll-Stmt z)) is (stmt_step y)
 
-expr_rolled : (x : Layer Expr-F) (y : Kept Expr-F) → expr_layer y ≡ x → ExprIs (views.roll-Expr x)
+expr_rolled : (x : ExprNode) (y : Kept Expr-F) → expr_layer y ≡ x → ExprIs (views.roll-Expr x)
 expr_rolled x y is = subst (λ z. ExprIs (views.roll-Expr z)) is (expr_step y)
 
-field_rolled : (x : Layer FieldExpr-F) (y : Kept FieldExpr-F) → field_layer y ≡ x → FieldIs (views.roll-FieldExpr x)
+field_rolled : (x : FieldNode) (y : Kept FieldExpr-F) → field_layer y ≡ x → FieldIs (views.roll-FieldExpr x)
 field_rolled x y is = subst (λ z. FieldIs (views.roll-FieldExpr z)) is (field_step y)
 
-step_rolled : (x : Layer Step-F) (y : Kept Step-F) → step_layer y ≡ x → StepIs (views.roll-Step x)
+step_rolled : (x : StepNode) (y : Kept Step-F) → step_layer y ≡ x → StepIs (views.roll-Step x)
 step_rolled x y is = subst (λ z. StepIs (views.roll-Step z)) is (step_step y)
 
-kind_rolled : (x : Layer ItemKind-F) (y : Kept ItemKind-F) → kind_layer y ≡ x → KindIs (views.roll-ItemKind x)
+kind_rolled : (x : KindNode) (y : Kept ItemKind-F) → kind_layer y ≡ x → KindIs (views.roll-ItemKind x)
 kind_rolled x y is = subst (λ z. KindIs (views.roll-ItemKind z)) is (kind_step y)
 
-arm_rolled : (x : Layer Arm-F) (y : Kept Arm-F) → arm_layer y ≡ x → ArmIs (views.roll-Arm x)
+arm_rolled : (x : ArmNode) (y : Kept Arm-F) → arm_layer y ≡ x → ArmIs (views.roll-Arm x)
 arm_rolled x y is = subst (λ z. ArmIs (views.roll-Arm z)) is (arm_step y)
 
-block_rolled : (x : Layer Block-F) (y : Kept Block-F) → block_layer y ≡ x → BlockIs (views.roll-Block x)
+block_rolled : (x : BlockNode) (y : Kept Block-F) → block_layer y ≡ x → BlockIs (views.roll-Block x)
 block_rolled x y is = subst (λ z. BlockIs (views.roll-Block z)) is (block_step y)
 
-branch_rolled : (x : Layer Branch-F) (y : Kept Branch-F) → branch_layer y ≡ x → BranchIs (views.roll-Branch x)
+branch_rolled : (x : BranchNode) (y : Kept Branch-F) → branch_layer y ≡ x → BranchIs (views.roll-Branch x)
 branch_rolled x y is = subst (λ z. BranchIs (views.roll-Branch z)) is (branch_step y)
 
-item_rolled : (x : Layer Item-F) (y : Kept Item-F) → item_layer y ≡ x → ItemIs (views.roll-Item x)
+item_rolled : (x : ItemNode) (y : Kept Item-F) → item_layer y ≡ x → ItemIs (views.roll-Item x)
 item_rolled x y is = subst (λ z. ItemIs (views.roll-Item z)) is (item_step y)
 
 -- ---- and so each node does

@@ -7,6 +7,7 @@ use Rattle.lay_code.specs.declared.blocks.Stmt.TheOpen.{Expr-F, FieldExpr-F, Ste
 use Rattle.lay_code.specs.declared.blocks.Stmt.TheViews as views
 use Rattle.lay_code.specs.declared.operators.Op.{Op}
 use Rattle.lay_code.proofs.nodes.ExprsLaws as laws
+use Rattle.lay_code.proofs.nodes.Layers.{expr_is, expr_told, field_is, field_told, step_is, step_told}
 use Rattle.lay_reparse.proofs.forms.Passes.{plain}
 use Rattle.lay_reparse.proofs.file.TypeArgs.{Each, Passing}
 use Rattle.lay_reparse.proofs.file.Types.{kept}
@@ -18,7 +19,7 @@ use Rattle.lay_reparse.proofs.file.ExprOperands.{OperandPasses, TargetPasses, ch
 use Rattle.lay_reparse.proofs.file.ExprBlocks.{block_expr_pass, unsafe_pass, const_block_pass, async_pass, loop_pass, while_pass, for_pass, match_pass, if_pass}
 use Rattle.lay_reparse.proofs.file.Closures.{closure_pass, typed_closure_pass}
 use Rattle.lay_reparse.proofs.file.ArmKinds.{ArmPasses, BranchPasses}
-use Rattle.lay_reparse.proofs.file.CodeKept.{ExprIs, FieldIs, Kept, KeptArm, KeptBranch, KeptExpr, KeptField, KeptStep, StepIs, expr_is, expr_layer, expr_told, field_is, field_layer, field_told, step_is, step_layer, step_told}
+use Rattle.lay_reparse.proofs.file.CodeKept.{ExprIs, FieldIs, Kept, KeptArm, KeptBranch, KeptExpr, KeptField, KeptStep, StepIs, expr_layer, field_layer, step_layer}
 
 abbrev exprs_told : List KeptExpr → List ExprFacts
 exprs_told ys = map about_expr (map (λ (y : KeptExpr). y.0) ys)

@@ -16,7 +16,7 @@ use Rattle.lay_node.specs.declared.vis.Vis.{Vis}
 use Rattle.lay_code.specs.nodes.File.{form_of_file}
 use Rattle.lay_code.specs.nodes.Code.{about_item, told_of_item, told_of_kind}
 use Rattle.lay_code.specs.nodes.CodeFacts.{ItemFacts, KindFacts}
-use Rattle.lay_code.specs.nodes.Exprs.{value_form}
+use Rattle.lay_code.specs.nodes.Exprs.{KindLayer, value_form}
 use Rattle.lay_code.specs.nodes.Item.{about_file_module, about_foreign, about_function, about_impl, about_import, about_module, about_trait, about_value, in_modules, kind_facts, kind_form}
 use Rattle.lay_code.specs.declared.file.File.{File}
 use Rattle.lay_code.specs.declared.item.Item.{Item}
@@ -24,7 +24,7 @@ use Rattle.lay_code.specs.declared.item.ItemKind.{ItemKind}
 use Rattle.lay_code.specs.declared.blocks.Stmt.TheOpen.{ItemKind-F}
 use Rattle.lay_code.specs.declared.blocks.Stmt.TheViews.{out-ItemKind, roll-out-ItemKind}
 use Rattle.lay_code.proofs.nodes.ItemLaws.{item_is}
-use Rattle.lay_reparse.proofs.file.CodeKept.{Told, kind_is}
+use Rattle.lay_code.proofs.nodes.Layers.{kind_is}
 use Rattle.lay_reparse.proofs.file.FirstText.{Fair, first_text, low_fair, attr_fair, call_fair}
 use Rattle.lay_reparse.proofs.forms.HeadsFirst.{BeginsFair, seen_fair, extern_crate_fair, alias_fair, struct_fair, union_fair, enum_fair, value_head_fair, unsafe_fair, trait_head_fair, impl_head_fair, fn_head_fair}
 
@@ -35,7 +35,7 @@ record KindFair (x : KindFacts) : Type 0 where
 in_modules_fair : (x : HeadFacts) → BeginsFair x.head → KindFair (in_modules x)
 in_modules_fair x k = record { go = λ v w. seen_fair v x k }
 
-layer_fair : (y : Told ItemKind-F) → KindFair (kind_facts y)
+layer_fair : (y : KindLayer) → KindFair (kind_facts y)
 layer_fair (ItemKind-F.ExternCrate x) = in_modules_fair (about_extern_crate x) (extern_crate_fair x)
 layer_fair (ItemKind-F.Import tree) =
     in_modules_fair (about_import tree) (λ d. low_fair (codes "use ") refl (λ r. refl) (λ r. refl))

@@ -24,6 +24,7 @@ use Rattle.lay_code.specs.declared.item.Item.{Item}
 use Rattle.lay_code.specs.declared.blocks.Stmt.TheOpen.{Item-F, ItemKind-F}
 use Rattle.lay_code.specs.declared.blocks.Stmt.TheViews.{roll-Item, roll-ItemKind}
 use Rattle.lay_code.proofs.nodes.ItemLaws.{item_is}
+use Rattle.lay_code.proofs.nodes.Layers.{kind_is, kind_told}
 use Rattle.lay_reparse.proofs.borders.Border.{Border}
 use Rattle.lay_reparse.proofs.forms.Heads.{HeadPasses, seen_passes, extern_crate_passes, alias_passes, struct_passes, union_passes, enum_passes}
 use Rattle.lay_reparse.proofs.forms.Passes.{plain}
@@ -31,7 +32,7 @@ use Rattle.lay_reparse.proofs.forms.Rules.{tables, From, ends, simple, fixed, pa
 use Rattle.lay_reparse.proofs.tokens.Rows.{opens_at}
 use Rattle.lay_reparse.proofs.tokens.Within.{grouped}
 use Rattle.lay_reparse.proofs.file.BlockKinds.{ItemPasses}
-use Rattle.lay_reparse.proofs.file.CodeKept.{ItemIs, Kept, KeptItem, KindIs, item_layer, kind_is, kind_layer, kind_told}
+use Rattle.lay_reparse.proofs.file.CodeKept.{ItemIs, Kept, KeptItem, KindIs, item_layer, kind_layer}
 use Rattle.lay_reparse.proofs.file.ItemHeads.{ItemsPass, KindPasses, import_passes, file_module_passes, module_passes, function_passes, value_passes, trait_passes, impl_passes, foreign_passes}
 use Rattle.lay_reparse.proofs.file.Nodes.{behind_word, behind_raw, ends_line, word, outer_pieces, attrs_pass, call_passes}
 
