@@ -38,7 +38,7 @@ impl<
         if is_ended(at, place, head.node.get()) {
             accepted(at, place, head, self.rules.depth + 1)
         } else {
-            self.rules.climb(at, place, head)
+            self.rules.climb(at, place, 14, head)
         }
     }
 }

@@ -86,21 +86,22 @@ fn goes_on(at: &Ahead<'_>, place: Place, reached: u8) -> bool
 impl<P: Fn(Global, &mut Ahead<'_>, Place, u32) -> Result<Found<Boxed<Expr>>, ReadNone>> ExprRules<
     P,
 > {
-    /// The operators behind an expression that the place allows, from the strongest on.
+    /// The operators behind an expression that the place allows, from the strongest on, below a level that is reached.
     #[inline(never)]
     pub fn climb(
         &self,
         at: &mut Ahead<'_>,
         place: Place,
+        from: u8,
         head: Found<Boxed<Expr>>,
     ) -> Result<Found<Boxed<Expr>>, ReadNone>
         requires deeper { AreExprs self.now.depth (P.pre self.now.exprs) (P.post self.now.exprs) }
-        requires within { head.need ≤ self.now.depth + 1 }
-        ensures read { IsFound (climbed (code_within self.now.depth) (self.now.depth + 1) place 14 (head.node, head.need) at.old) result at.new }
+        requires level { from ≤ 14 }
+        ensures read { IsFound (climbed (code_within self.now.depth) (self.now.depth + 1) place from (head.node, head.need) at.old) result at.new }
         ensures within { IfOk result (λ found. found.need ≤ self.now.depth + 1) }
     {
         let mut lhs = head;
-        let mut reached = 14;
+        let mut reached = from;
         while goes_on(at, place, reached) {
             reached = strength(at) - 1;
             lhs = self.climb_once(at, place, reached, lhs)?;

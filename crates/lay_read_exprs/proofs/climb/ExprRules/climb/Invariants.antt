@@ -6,9 +6,8 @@ use Rattle.lay_read_exprs.proofs.climb.ExprRules.climb.Given as goal
 -- what the operators that are left make of what is read
 abbrev pub invariant-loop-reached : goal.invariant-loop-reached
 invariant-loop-reached g l = record {
-  same : climbed (code_within l.self.depth) (l.self.depth + 1) l.place 14 (l.fn.head.node, l.fn.head.need) l.fn.at
+  same : climbed (code_within l.self.depth) (l.self.depth + 1) l.place l.fn.from (l.fn.head.node, l.fn.head.need) l.fn.at
       ≡ climbed (code_within l.self.depth) (l.self.depth + 1) l.place l.reached (l.lhs.node, l.lhs.need) l.at;
-  within : l.lhs.need ≤ l.self.depth + 1;
   small : l.reached ≤ 14;
 }
 
