@@ -26,7 +26,7 @@ BlockFront x = ToldFront (by_itself (block_told x))
 -- An expression without its `;` is followed by none, and by nothing that would go on with it; and by no token at all where it
 -- neither is block-like nor a macro call in braces. Any token may follow every other statement.
 abbrev pub follows_in : StmtNode → Tokens → Bool
-follows_in (Stmt-F.Expr attrs x false) ts =
+follows_in (Stmt-F.Stmt::Expr attrs x false) ts =
     follows (about_expr x) statement ts && not (first (is_mark (codes ";")) ts) && ((about_expr x).block_like || at_end ts)
 follows_in _ ts = true
 

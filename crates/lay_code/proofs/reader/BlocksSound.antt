@@ -215,7 +215,7 @@ module _ (budget : ℕ) (within : ExprWithin) (sound : SoundExprWithin budget wi
         let told_block = option_map about_block block in
         let P = pat_form Single (about_pat pat) in
         let behind : Form = Part (value_form told) (Part (else_form told_block) (piece semicolon)) in
-        let F = stmt_facts (Stmt-F.Let attrs pat ty told told_block) in
+        let F = stmt_facts (Stmt-F.Stmt::Let attrs pat ty told told_block) in
         elim (chosen (else_stands value (is_some block)) _ _ _ c.2) [
           | inl g ↦
               let last : Spells behind most y.0.1 c.0 = (
@@ -262,7 +262,7 @@ module _ (budget : ℕ) (within : ExprWithin) (sound : SoundExprWithin budget wi
         let held : (ended : Bool) (end : Tokens) → Spells (ended_form ended) need mid end
         → (not ended ≡ true → first (is_mark (codes ";")) end ≡ false) → StmtHeld budget (stmt.Expr attrs y.0.0.0 ended, need) ts end =
         λ ended end form last.
-        stmt_told budget (about_stmt (stmt.Expr attrs y.0.0.0 ended)) (stmt_facts (Stmt-F.Expr attrs told ended)) need ts end
+        stmt_told budget (about_stmt (stmt.Expr attrs y.0.0.0 ended)) (stmt_facts (Stmt-F.Stmt::Expr attrs told ended)) need ts end
         (stmt_expr_is attrs y.0.0.0 ended) (record {
           need = s.0.0;
           form = led (Part told.form (ended_form ended)) need end (mid, s.0.1, form);

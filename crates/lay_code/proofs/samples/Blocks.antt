@@ -52,13 +52,13 @@ param_named text x = record { attrs = []; pat = name_pat text; ty = x }
 -- ---- what is told of them
 
 pub alone_is : (text : List ℕ) → about_block (alone_of (name text))
-    ≡ block_facts (record { attrs = []; stmts = stmt_facts (Stmt-F.Expr [] (name_facts text) false) ∷ [] })
+    ≡ block_facts (record { attrs = []; stmts = stmt_facts (Stmt-F.Stmt::Expr [] (name_facts text) false) ∷ [] })
 alone_is text = rw (blocks.block_is (alone_of (name text)), blocks.stmt_expr_is [] (name text) false, name_is text) refl
 
 abbrev pair_facts : BlockFacts
 pair_facts = block_facts (record {
   attrs = [];
-  stmts = stmt_facts (Stmt-F.Expr [] (name_facts a) true) ∷ stmt_facts (Stmt-F.Expr [] (name_facts b) false) ∷ [];
+  stmts = stmt_facts (Stmt-F.Stmt::Expr [] (name_facts a) true) ∷ stmt_facts (Stmt-F.Stmt::Expr [] (name_facts b) false) ∷ [];
 })
 
 pub pair_is : about_block (block_of (ended_then (name a) (name b))) ≡ pair_facts

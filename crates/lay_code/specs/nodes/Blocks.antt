@@ -56,7 +56,7 @@ is_plain [] = true
 is_plain (a ∷ more) = false
 
 abbrev pub stmt_facts : StmtLayer → StmtFacts
-stmt_facts (Stmt-F.Let attrs pat ty x otherwise) = record {
+stmt_facts (Stmt-F.Stmt::Let attrs pat ty x otherwise) = record {
   form = let_form attrs pat ty x otherwise;
   good = are_attrs false attrs && pat_good Single (about_pat pat) && may_be_type ty && value_placed x && else_good x otherwise;
   unended = false;
@@ -72,7 +72,7 @@ stmt_facts (Stmt-F.Item item) = record {
   bare = false;
   call = false;
 }
-stmt_facts (Stmt-F.Expr attrs x ended) = record {
+stmt_facts (Stmt-F.Stmt::Expr attrs x ended) = record {
   form = behind_attrs (map attr_form attrs) (Part x.form (ended_form ended));
   good = are_attrs false attrs && placed x statement;
   unended = not ended;

@@ -22,13 +22,13 @@ abbrev pub let_link_good : Pat → ExprFacts → Bool → Bool
 let_link_good pat x more = pat_good Alternatives (about_pat pat) && placed x (link_place more)
 
 abbrev pub link_facts : LinkLayer → LinkFacts
-link_facts (Link-F.Expr x) = record {
+link_facts (Link-F.Link::Expr x) = record {
   form = x.form;
   is_let = false;
   good = λ more. placed x (link_place more);
   alone = placed x (plain 0 true);
 }
-link_facts (Link-F.Let pat x) = record {
+link_facts (Link-F.Link::Let pat x) = record {
   form = let_link_form pat x;
   is_let = true;
   good = let_link_good pat x;

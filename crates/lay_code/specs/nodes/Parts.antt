@@ -16,7 +16,7 @@ abbrev pub block_of : Expr → Option Block
 block_of x = block_in (out-Expr x)
 
 abbrev pub expr_in : StmtNode → Option Expr
-expr_in (Stmt-F.Expr attrs x ended) = Some x
+expr_in (Stmt-F.Stmt::Expr attrs x ended) = Some x
 expr_in _ = None
 
 -- the expression of a statement that is one

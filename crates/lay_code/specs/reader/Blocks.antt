@@ -118,7 +118,7 @@ branch_by within ts = do
 -- ---- arms
 
 abbrev pub bare_by : (Expr → Expr) → Expr → StmtNode → Expr
-bare_by undress x (Stmt-F.Expr attrs y ended) = undress y
+bare_by undress x (Stmt-F.Stmt::Expr attrs y ended) = undress y
 bare_by undress x _ = x
 
 abbrev pub held_by : (Expr → Expr) → Expr → List Stmt → Expr

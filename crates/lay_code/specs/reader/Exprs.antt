@@ -29,7 +29,8 @@ use Rattle.lay_code.specs.Operators.{op_text, binary, prefix, prefix_length, is_
 use Rattle.lay_code.specs.nodes.Code.{about_expr}
 use Rattle.lay_code.specs.nodes.Exprs.{ExprFacts, stands, root_follows}
 use Rattle.lay_code.specs.nodes.Places.{plain, FREE, begins, is_whole, before_op}
-use Rattle.lay_code.specs.reader.Blocks.{block_by, branch_by, condition_by, arm_by}
+use Rattle.lay_code.specs.reader.Blocks.{block_by, branch_by, arm_by}
+use Rattle.lay_code.specs.reader.Conditions.{condition_by}
 use Rattle.lay_code.specs.reader.Within.{ExprWithin}
 use Rattle.lay_code.specs.declared.blocks.Block.{Block}
 use Rattle.lay_code.specs.declared.exprs.ClosureParam.{ClosureParam}

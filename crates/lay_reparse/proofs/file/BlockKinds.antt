@@ -91,7 +91,7 @@ else_passes x (Some b) k g w =
     fixed refl (level behind_word plain refl (k.go true behind_word refl n p) (ends refl))
 
 pub let_pass : (attrs : List Attr) (pat : Pat) (ty : Option Ty) (x : Option ExprFacts) (b : Option BlockFacts)
-    → Any ExprPasses x → Any BlockPasses b → StmtPasses (stmt_facts (Stmt-F.Let attrs pat ty x b))
+    → Any ExprPasses x → Any BlockPasses b → StmtPasses (stmt_facts (Stmt-F.Stmt::Let attrs pat ty x b))
 unfolding tables
 let_pass attrs pat ty x b k l = record {
   go = λ g w.
@@ -129,7 +129,7 @@ expr_alone (a ∷ attrs) true k = part plain ends_expr refl k (fixed refl (ends 
 expr_alone (a ∷ attrs) false k = part plain ends_expr refl k (ends refl)
 
 pub expr_stmt_pass : (attrs : List Attr) (x : ExprFacts) (ended : Bool) → ExprPasses x
-    → StmtPasses (stmt_facts (Stmt-F.Expr attrs x ended))
+    → StmtPasses (stmt_facts (Stmt-F.Stmt::Expr attrs x ended))
 expr_stmt_pass attrs x ended k = record {
   go = λ g w.
       let es = map attr_form attrs in
