@@ -23,7 +23,7 @@ use lay_read_parts::loops::Part;
 use lay_read_pats::pat_ahead;
 use lay_read_shared::boxes::boxed_found;
 use lay_read_shared::loops::{Going, read_parts};
-use lay_read_shared::places::{before_op, plain};
+use lay_read_shared::places::{link_place, plain};
 use lay_read_tokens::found::greater;
 use lay_read_tokens::front::{pass_two, takes_keyword, takes_op};
 use lay_read_tokens::stop::{keep, room_for};
@@ -49,7 +49,7 @@ fn begins_dots(at: &Ahead<'_>) -> bool
 fn link_ends(at: &Ahead<'_>, expr: &Expr) -> bool
     ensures { result ≡ (if reader.begins_link at.now then stands (about_expr expr.now) (link_place true) else true) }
 {
-    strength(at) != 4 || stands(expr, before_op(4, true, false, false))
+    strength(at) != 4 || stands(expr, link_place(true))
 }
 
 /// Whether one of these links is a `let`.
@@ -291,6 +291,7 @@ impl<
     }
 
     /// The condition whose first link this is.
+    #[tactic(auto, using(crate::proofs::Conditions::condition_is))]
     #[inline(never)]
     fn condition_behind(
         &self,

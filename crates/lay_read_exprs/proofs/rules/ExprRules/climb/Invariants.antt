@@ -1,7 +1,7 @@
 use Rattle.std.proofs.Common.{◌≡◌, ◌≤◌, ◌+◌}
 use Rattle.lay_read_shared.specs.Code.{code_within}
 use Rattle.lay_read_exprs.specs.Answers.{climbed}
-use Rattle.lay_read_exprs.proofs.climb.ExprRules.climb.Given as goal
+use Rattle.lay_read_exprs.proofs.rules.ExprRules.climb.Given as goal
 
 -- what the operators that are left make of what is read
 abbrev pub invariant-loop-reached : goal.invariant-loop-reached

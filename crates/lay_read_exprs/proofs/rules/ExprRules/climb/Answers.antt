@@ -7,7 +7,7 @@ use Rattle.lay_read_types.proofs.Steps.{found_by}
 use Rattle.lay_read_shared.specs.Code.{code_within}
 use Rattle.lay_read_exprs.specs.Answers.{climb_once, climbed}
 use Rattle.lay_read_exprs.proofs.Climbing.{climb_done, climbs_none, climbs_on, level_reached}
-use Rattle.lay_read_exprs.proofs.climb.ExprRules.climb.Goals as goal
+use Rattle.lay_read_exprs.proofs.rules.ExprRules.climb.Goals as goal
 
 pub returns-in_err-lhs-clause-read : goal.returns-in_err-lhs-clause-read
 returns-in_err-lhs-clause-read g c =
