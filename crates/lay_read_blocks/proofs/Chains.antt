@@ -15,13 +15,15 @@ use Rattle.lay_node.specs.declared.token.Lifetime.{Lifetime}
 use Rattle.lay_node.specs.declared.types.Ty.{Ty}
 use Rattle.lay_node.specs.declared.types.TypePlace.TheVariants.{Bounds}
 use Rattle.lay_code.specs.nodes.Places.{FREE}
-use Rattle.lay_code.specs.reader.Blocks.{behind_semicolons, block_by, branch_by, condition_by, else_stands, let_stmt, stmt_in_block}
+use Rattle.lay_code.specs.reader.Blocks.{behind_semicolons, block_by, branch_by, else_stands, let_stmt, stmt_in_block}
+use Rattle.lay_code.specs.reader.Conditions.{condition_by}
 use Rattle.lay_code.specs.reader.Exprs.{begins_else_if, closure_body, closure_expr, closure_param, if_expr, label_expr, labelled_expr, while_expr}
 use Rattle.lay_code.specs.reader.Within.{ExprWithin}
 use Rattle.lay_code.specs.declared.blocks.Block.{Block}
 use Rattle.lay_code.specs.declared.blocks.Branch.{Branch}
 use Rattle.lay_code.specs.declared.blocks.Stmt.{Stmt}
 use Rattle.lay_code.specs.declared.blocks.Stmt.TheVariants as stmt
+use Rattle.lay_code.specs.declared.conditions.Condition.{Condition}
 use Rattle.lay_code.specs.declared.exprs.ClosureParam.{ClosureParam}
 use Rattle.lay_code.specs.declared.exprs.Expr.{Expr}
 use Rattle.lay_code.specs.declared.exprs.Expr.TheVariants as expr
@@ -146,20 +148,20 @@ module _ (within : ExprWithin) (ts : Tokens) where
 
   -- the expression that a branch is behind `while`
   abbrev loop_of : Option Lifetime → (Branch × ℕ) × Tokens → Read Expr
-  loop_of label b = Some ((expr.While label b.0.0.pat b.0.0.condition b.0.0.body, suc b.0.1), b.1)
+  loop_of label b = Some ((expr.While label b.0.0.condition b.0.0.body, suc b.0.1), b.1)
 
-  behind_body : (label : Option Lifetime) (pat : Option Pat) (x : Expr) (n : ℕ) (b : Option ((Block × ℕ) × Tokens))
-      → (b >>= (λ b. Some ((expr.While label pat x b.0.0, suc (max n b.0.1)), b.1)))
-      ≡ ((b >>= (λ b. Some (((record { pat = pat; condition = x; body = b.0.0 }), max n b.0.1), b.1))) >>= loop_of label)
-  behind_body label pat x n None = refl
-  behind_body label pat x n (Some b) = refl
+  behind_body : (label : Option Lifetime) (c : Condition) (n : ℕ) (b : Option ((Block × ℕ) × Tokens))
+      → (b >>= (λ b. Some ((expr.While label c b.0.0, suc (max n b.0.1)), b.1)))
+      ≡ ((b >>= (λ b. Some (((record { condition = c; body = b.0.0 }), max n b.0.1), b.1))) >>= loop_of label)
+  behind_body label c n None = refl
+  behind_body label c n (Some b) = refl
 
-  behind_condition : (label : Option Lifetime) (c : Option (((Option Pat × Expr) × ℕ) × Tokens))
-      → (c >>= (λ c. block_by within c.1 >>= (λ b. Some ((expr.While label c.0.0.0 c.0.0.1 b.0.0, suc (max c.0.1 b.0.1)), b.1))))
+  behind_condition : (label : Option Lifetime) (c : Option ((Condition × ℕ) × Tokens))
+      → (c >>= (λ c. block_by within c.1 >>= (λ b. Some ((expr.While label c.0.0 b.0.0, suc (max c.0.1 b.0.1)), b.1))))
       ≡ ((c >>= (λ c. block_by within c.1
-      >>= (λ b. Some (((record { pat = c.0.0.0; condition = c.0.0.1; body = b.0.0 }), max c.0.1 b.0.1), b.1)))) >>= loop_of label)
+      >>= (λ b. Some (((record { condition = c.0.0; body = b.0.0 }), max c.0.1 b.0.1), b.1)))) >>= loop_of label)
   behind_condition label None = refl
-  behind_condition label (Some c) = behind_body label c.0.0.0 c.0.0.1 c.0.1 (block_by within c.1)
+  behind_condition label (Some c) = behind_body label c.0.0 c.0.1 (block_by within c.1)
 
   while_is : (label : Option Lifetime) → while_expr within label ts ≡ (branch_by within ts >>= loop_of label)
   unfolding while_expr branch_by
@@ -169,5 +171,5 @@ module _ (within : ExprWithin) (ts : Tokens) where
   while_none label h = while_is label ∙ ap (λ b. b >>= loop_of label) h
 
   pub while_read : (label : Option Lifetime) (b : Branch) (need : ℕ) (left : Tokens) → branch_by within ts ≡ Some ((b, need), left)
-      → while_expr within label ts ≡ Some ((expr.While label b.pat b.condition b.body, suc need), left)
+      → while_expr within label ts ≡ Some ((expr.While label b.condition b.body, suc need), left)
   while_read label b need left h = while_is label ∙ ap (λ b. b >>= loop_of label) h

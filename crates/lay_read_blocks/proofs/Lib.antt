@@ -1,4 +1,5 @@
 pub mod Chains
+pub mod Conditions
 pub mod Fits
 pub mod Second
 pub mod Undressed

@@ -20,8 +20,9 @@ use Rattle.lay_code.specs.nodes.Code.{about_expr, about_stmt, told_of_item}
 use Rattle.lay_code.specs.nodes.Exprs.{ExprFacts, root_follows, stands}
 use Rattle.lay_code.specs.nodes.Layers.{ExprNode, StmtNode}
 use Rattle.lay_code.specs.nodes.Places.{FREE, plain, statement}
-use Rattle.lay_code.specs.reader.Blocks.{begins_item, behind_semicolons, block_by, condition_by, else_stands, expr_stmt, item_stmt, let_stmt, stmt_by, stmt_in_block, undressed}
+use Rattle.lay_code.specs.reader.Blocks.{begins_item, behind_semicolons, block_by, else_stands, expr_stmt, item_stmt, let_stmt, stmt_by, stmt_in_block, undressed}
 use Rattle.lay_code.specs.reader.Code.{code_in, expr_at}
+use Rattle.lay_code.specs.reader.Conditions.{condition_by}
 use Rattle.lay_code.specs.reader.Exprs.{assign_expr, begins_tuple_index, cast_expr, chain_expr, climb, climb_by, expr_by, for_expr, head_by, is_ended, labelled_expr, left_place, one_step, one_type, operand_if, operands, postfix_expr, range_by, range_expr, stage, targets_of, value_of, while_expr}
 use Rattle.lay_code.specs.reader.Within.{ExprWithin}
 use Rattle.lay_code.specs.declared.blocks.Block.{Block}
@@ -54,7 +55,7 @@ undressed_other (suc n) x h = rw h refl
 
 undressed_alone : (n : ℕ) (y : Expr) → is_lone_body (about_expr (alone y)).kind ≡ true → undressed (suc n) (alone y) ≡ undressed n y
 unfolding undressed
-undressed_alone n y h = rw (h, views.outs-Block None (alone_block y), views.outs-Expr [] y false) refl
+undressed_alone n y h = rw (h, views.outs-Block None (alone_block y), views.outs-Stmt::Expr [] y false) refl
 
 -- Turns that leave none are as good as others that do.
 bare_alone : (m n : ℕ) (x : Expr) → Lone x → is_lone_body (about_expr x).kind ≡ true
@@ -129,7 +130,7 @@ stmts_more n (y ∷ more) x h s = (h.0, stmts_more n more x h.1 s)
 alone_bare : (n : ℕ) (x : Expr) → Lone x → is_lone_body (about_expr x).kind ≡ true → OfExpr n x → Bare (undressed (suc n) x)
 alone_bare n _ (IsAlone y macro) h held =
     let stmts : OfStmts n (alone_block y).stmts = subst (expr_in n) (views.outs-Block None (alone_block y)) held in
-    let one : Bare (undressed n y) = subst (stmt_in n) (views.outs-Expr [] y false) stmts.0 in
+    let one : Bare (undressed n y) = subst (stmt_in n) (views.outs-Stmt::Expr [] y false) stmts.0 in
     subst Bare (sym (undressed_alone n y h)) one
 
 -- ---- reading
@@ -157,7 +158,7 @@ module _ (within : ExprWithin) (shallow : Shallow within) (left : LeftCode withi
       let y = x.0.0.0 in
       let b = shallow statement ts x.0 x.1 in
       let held : (ended : Bool) → OfStmt n (stmt.Expr attrs y ended) =
-      λ ended. subst (stmt_in n) (sym (views.outs-Expr attrs y ended)) b in
+      λ ended. subst (stmt_in n) (sym (views.outs-Stmt::Expr attrs y ended)) b in
       elim (chosen (first (is_mark (codes ";")) x.0.1) _ _ _ x.2) [
         | inl g ↦ same_some (StmtRead n) ((stmt.Expr attrs y true, x.0.0.1), tail x.0.1) r g.1 (held true)
         | inr g ↦ same_some (StmtRead n) ((stmt.Expr attrs y false, x.0.0.1), x.0.1) r g.1 (held false)
@@ -174,7 +175,7 @@ module _ (within : ExprWithin) (shallow : Shallow within) (left : LeftCode withi
       elim (chosen (else_stands x.0.0.0 (is_some o.0.0.0)) _ _ _ c.2) [
         | inl g ↦
             let held : OfStmt n (stmt.Let attrs p.0.0.0 t.0.0.0 x.0.0.0 o.0.0.0) =
-            subst (stmt_in n) (sym (views.outs-Let attrs p.0.0.0 t.0.0.0 x.0.0.0 o.0.0.0)) tt in
+            subst (stmt_in n) (sym (views.outs-Stmt::Let attrs p.0.0.0 t.0.0.0 x.0.0.0 o.0.0.0)) tt in
             same_some (StmtRead n)
             ((stmt.Let attrs p.0.0.0 t.0.0.0 x.0.0.0 o.0.0.0, max p.0.0.1 (max t.0.0.1 (max x.0.0.1 o.0.0.1))), c.0) r g.1 held
         | inr g ↦ absurd (cc g.1)
@@ -365,9 +366,9 @@ module _ (within : ExprWithin) (shallow : Shallow within) (left : LeftCode withi
         | inl e ↦
             let c = bind_some (condition_by within (tail ts)) _ _ e.1 in
             let b = bind_some (block_by within c.0.1) _ _ c.2 in
-            let made = expr.While None c.0.0.0.0 c.0.0.0.1 b.0.0.0 in
+            let made = expr.While None c.0.0.0 b.0.0.0 in
             same_some (HeldRead ts) ((made, _), b.0.1) r b.2
-            (bare_held ts made (not_lone (laws.expr_while_is None c.0.0.0.0 c.0.0.0.1 b.0.0.0) refl))
+            (bare_held ts made (not_lone (laws.expr_while_is None c.0.0.0 b.0.0.0) refl))
         | inr e ↦
             let k = bind_some (passed (is_keyword (codes "for")) ts) _ _ e.1 in
             let p = bind_some (within.pats Alternatives k.0) _ _ k.2 in

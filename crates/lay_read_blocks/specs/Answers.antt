@@ -1,5 +1,6 @@
 -- What readers of blocks ask for and what they answer.
-use Rattle.std.specs.Prelude.{ℕ, suc, max, nat_le, ◌≡◌, true, false, ◌+◌, ◌^◌, ◌<◌, ◌≤◌, Bool, if◌then◌else◌, List, [], ◌∷◌, drop, codes, Option, Some, None, is_some, Result, Ok, Err, IfOk}
+use Rattle.std.specs.Prelude.{ℕ, suc, max, nat_le, ◌≡◌, true, false, ◌+◌, ◌-◌, ◌^◌, ◌<◌, ◌≤◌, Bool, if◌then◌else◌, List, [], ◌∷◌, drop, map, codes, Option, Some, None, is_some, Result, Ok, Err, IfOk}
+use Rattle.std.specs.List.{list_any}
 use Rattle.std.specs.declared.alloc.Global.{Global}
 use denote.Ref.{MutBor}
 use Rattle.lay_token.specs.Operators.{is_op}
@@ -10,12 +11,13 @@ use Rattle.lay_node.specs.reader.Types.{if_read}
 use Rattle.lay_node.specs.declared.attr.Attr.{Attr}
 use Rattle.lay_node.specs.declared.heads.Site.{Site}
 use Rattle.lay_node.specs.declared.patterns.Pat.{Pat}
-use Rattle.lay_node.specs.declared.patterns.PatPlace.TheVariants.{Alternatives, Single}
+use Rattle.lay_node.specs.declared.patterns.PatPlace.TheVariants.{Single}
 use Rattle.lay_node.specs.declared.types.Ty.{Ty}
 use Rattle.lay_node.specs.declared.types.TypePlace.TheVariants.{Bounds, NoBounds}
-use Rattle.lay_code.specs.nodes.Places.{FREE, plain}
+use Rattle.lay_code.specs.nodes.Places.{FREE}
 use Rattle.lay_code.specs.reader.Blocks.{block_by, branch_by, else_stands}
 use Rattle.lay_code.specs.reader.Code.{code_in, expr_at, item_at}
+use Rattle.lay_code.specs.reader.Conditions.{ReadLink, alone, condition_of, further_links, is_let, linked}
 use Rattle.lay_code.specs.reader.Exprs.{async_expr, begins_else_if, block_expr, closure_expr, if_expr, label_expr, labelled_expr, match_expr, block_word_expr}
 use Rattle.lay_code.specs.reader.Item.{fn_body}
 use Rattle.lay_code.specs.reader.Within.{ExprWithin}
@@ -24,11 +26,14 @@ use Rattle.lay_code.specs.declared.blocks.Block.{Block}
 use Rattle.lay_code.specs.declared.blocks.Branch.{Branch}
 use Rattle.lay_code.specs.declared.blocks.Stmt.{Stmt}
 use Rattle.lay_code.specs.declared.blocks.Stmt.TheVariants as stmt
+use Rattle.lay_code.specs.declared.conditions.Condition.{Condition}
 use Rattle.lay_code.specs.declared.exprs.ClosureParam.{ClosureParam}
 use Rattle.lay_code.specs.declared.exprs.Expr.{Expr}
 use Rattle.lay_code.specs.declared.exprs.Expr.TheVariants as expr
 use Rattle.lay_code.specs.declared.exprs.Place.{Place}
 use Rattle.lay_code.specs.declared.item.Item.{Item}
+use Rattle.lay_code.specs.declared.operators.Op.{Op}
+use Rattle.lay_code.specs.declared.operators.Op.TheVariants as op
 use Rattle.lay_alone.specs.ArmFronts.{arm_alone, body_begun}
 use Rattle.lay_alone.specs.Fronts.{stmt_alone}
 use Rattle.lay_ops.specs.declared.operands.ExprLead.{ExprLead}
@@ -52,6 +57,12 @@ pub record AreCode (depth : ℕ)
       → reads_expr alloc old place depth r new → IsFound (expr_at place depth old.now) r new.now
   pub expr_within : (alloc : Global) (old new : MutBor Tokens) (place : Place) (r : Result (Found Expr) ReadNone)
       → reads_expr alloc old place depth r new → IfOk r (λ found. found.need ≤ depth)
+  -- expressions that stand one level deeper than these, where there is such a level
+  pub below_readable : (alloc : Global) (old : MutBor Tokens) (place : Place) → may_read_expr alloc old place (depth - 1)
+  pub below_read : (alloc : Global) (old new : MutBor Tokens) (place : Place) (r : Result (Found Expr) ReadNone)
+      → reads_expr alloc old place (depth - 1) r new → IsFound (expr_at place (depth - 1) old.now) r new.now
+  pub below_within : (alloc : Global) (old new : MutBor Tokens) (place : Place) (r : Result (Found Expr) ReadNone)
+      → reads_expr alloc old place (depth - 1) r new → IfOk r (λ found. found.need ≤ depth - 1)
   pub block_readable : (alloc : Global) (old : MutBor Tokens) → may_read_block alloc old depth
   pub block_read : (alloc : Global) (old new : MutBor Tokens) (r : Result (Found Block) ReadNone)
       → reads_block alloc old depth r new → IsFound ((code_in depth).blocks old.now) r new.now
@@ -94,14 +105,35 @@ let_of attrs head (Err none) = Err none
 abbrev pub body_if : ExprWithin → Tokens → Read (Option Block)
 body_if within ts = fn_body within ts
 
--- ---- branches
+-- ---- conditions
 
--- a pattern and what it is matched with
-abbrev pub matched : ExprWithin → Tokens → Read (Option Pat × Expr)
-matched within ts = do
-  p ← within.pats Alternatives ts
-  x ← (if is_op (codes "=") p.1 then within.exprs (plain 4 true) (drop 1 p.1) else None)
-  Some (((Some p.0.0, x.0.0), max p.0.1 x.0.1), x.1)
+-- an operand that the link of an expression is, behind its `&&`
+abbrev pub and_operand : ReadLink → Op × Expr
+and_operand l = (op.AndAnd, l.1)
+
+-- Links without a `let` as one expression, by what they are and what they need.
+abbrev pub chain_found : ReadLink → ℕ → List ReadLink → ℕ → Expr × ℕ
+chain_found l need [] most = (l.1, need)
+chain_found l need (m ∷ more) most = (expr.Chain l.1 (map and_operand (m ∷ more)), suc (max need most))
+
+-- The condition that begins with these links, or is them, in the same way.
+abbrev pub condition_found : ExprWithin → ReadLink → ℕ → List ReadLink → ℕ → Tokens → Read Condition
+condition_found within l need more most ts =
+    if list_any is_let (l ∷ more) then Some ((record { links = map linked (l ∷ more) }, max need most), ts)
+    else (do x ← within.goes_on (chain_found l need more most) ts; Some ((alone x.0.0, x.0.1), x.1))
+
+-- the condition whose first link this is
+abbrev pub condition_behind : ExprWithin → ReadLink × ℕ → Tokens → Read Condition
+condition_behind within l ts = do more ← further_links within ts; condition_of within l more.0 more.1
+
+-- The condition is this expression alone, or none is read for the same reason; memory may always be wanting.
+abbrev pub IsAlone : Result (Found Expr) ReadNone → Result (Found Condition) ReadNone → Type 0
+IsAlone (Ok x) (Ok c) = (c.node ≡ alone x.node) × (c.need ≡ x.need)
+IsAlone (Ok x) (Err none) = none ≡ NoMemory
+IsAlone (Err none) (Ok c) = ⊥
+IsAlone (Err none) (Err other) = other ≡ none
+
+-- ---- branches
 
 -- what stands behind an `if`, and the branches behind `else if`
 abbrev pub branches : ExprWithin → Tokens → Read (List Branch)
