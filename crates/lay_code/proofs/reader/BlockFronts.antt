@@ -1,6 +1,6 @@
 -- What statements, arms and parameters of closures begin with, what stands behind their attributes, and the `;` of a block
 -- that are dropped.
-use Rattle.std.proofs.Common.{◌≡◌, ℕ, zero, suc, ◌≤◌, ◌<◌, Bool, true, false, not, ◌&&◌, ◌||◌, List, [], ◌∷◌, ◌++◌, map, length, drop, codes, Option, option_map, Some, None, is_some, if◌then◌else◌, inl, inr, refl, sym, ap, subst, ◌∙◌, arith}
+use Rattle.std.proofs.Common.{◌≡◌, ℕ, zero, suc, ◌≤◌, ◌<◌, Bool, true, false, not, ◌&&◌, ◌||◌, List, [], ◌∷◌, ◌++◌, map, length, drop, codes, Option, option_map, Some, None, if◌then◌else◌, inl, inr, refl, sym, ap, subst, ◌∙◌, arith}
 use Rattle.std.proofs.lemmas.Bool.{and_parts, cases_Bool, false_from_ne_true, not-true, or_cases, or_left, or_right}
 use Rattle.lay_piece.specs.Forms.{closing, opening}
 use Rattle.lay_piece.specs.declared.kind.Delim.{Delim}
@@ -35,8 +35,8 @@ use Rattle.lay_code.specs.Operands.{ExprLead, expr_lead_at, expr_lead_of_word}
 use Rattle.lay_code.specs.nodes.Blocks.{else_form, else_good, ended_form, let_type}
 use Rattle.lay_code.specs.nodes.Code.{about_block, about_expr, about_item, about_stmt, told_of_item}
 use Rattle.lay_code.specs.nodes.CodeFacts.{StmtFacts}
-use Rattle.lay_code.specs.nodes.Exprs.{condition_form, condition_good, placed, value_form, value_placed}
-use Rattle.lay_code.specs.nodes.Places.{plain, statement}
+use Rattle.lay_code.specs.nodes.Exprs.{placed, value_form, value_placed}
+use Rattle.lay_code.specs.nodes.Places.{statement}
 use Rattle.lay_code.specs.reader.Blocks.{begins_item, begins_with, behind_semicolons, item_words}
 use Rattle.lay_code.specs.reader.ItemLeads.{begins_rules, begins_union}
 use Rattle.lay_code.specs.declared.blocks.Block.{Block}
