@@ -1,12 +1,10 @@
 -- Samples of conditions of several links: how they are laid out, and which are good.
-use Rattle.std.proofs.Common.{◌≡◌, ℕ, Bool, true, false, List, [], ◌∷◌, ◌++◌, None, codes, refl}
+use Rattle.std.proofs.Common.{◌≡◌, ℕ, true, false, List, [], ◌∷◌, ◌++◌, None, codes, refl}
 use Rattle.std.specs.Prelude.{replicate}
 use Rattle.lay_node.proofs.nodes.PatternsLaws as pats
 use Rattle.lay_node.proofs.samples.Trees.{named, a, b, c}
 use Rattle.lay_code.specs.nodes.Code.{about_condition}
-use Rattle.lay_code.specs.declared.conditions.Link.{Link}
 use Rattle.lay_code.specs.declared.conditions.Link.TheVariants as link
-use Rattle.lay_code.specs.declared.exprs.Expr.{Expr}
 use Rattle.lay_code.specs.declared.exprs.Expr.TheVariants as expr
 use Rattle.lay_code.specs.declared.operators.Op.TheVariants as op
 use Rattle.lay_code.proofs.nodes.BlocksLaws as blocks
@@ -59,10 +57,7 @@ laid_long_links =
 
 -- ---- good ones
 
-abbrev good : List Link → Bool
-good links = (about_condition (of_links links)).good
-
-good_let_and : good (name_let a b ∷ name_link c ∷ []) ≡ true
+good_let_and : (about_condition (of_links (name_let a b ∷ name_link c ∷ []))).good ≡ true
 good_let_and =
     rw (
       blocks.condition_is (of_links (name_let a b ∷ name_link c ∷ [])),
@@ -72,7 +67,7 @@ good_let_and =
     )
     refl
 
-good_and_let : good (name_link a ∷ name_let b c ∷ []) ≡ true
+good_and_let : (about_condition (of_links (name_link a ∷ name_let b c ∷ []))).good ≡ true
 good_and_let =
     rw (
       blocks.condition_is (of_links (name_link a ∷ name_let b c ∷ [])),
@@ -83,13 +78,13 @@ good_and_let =
     refl
 
 -- One link at least, and with two a `let` among them: `a && b` is one link, a chain.
-bad_none : good [] ≡ false
+bad_none : (about_condition (of_links [])).good ≡ false
 bad_none = rw (blocks.condition_is (of_links [])) refl
 
-bad_without_let : good (name_link a ∷ name_link b ∷ []) ≡ false
+bad_without_let : (about_condition (of_links (name_link a ∷ name_link b ∷ []))).good ≡ false
 bad_without_let = rw (blocks.condition_is (of_links (name_link a ∷ name_link b ∷ [])), name_link_is a, name_link_is b) refl
 
-good_chain : good (link.Expr (expr.Chain (name a) ((op.AndAnd, name b) ∷ [])) ∷ []) ≡ true
+good_chain : (about_condition (of_links (link.Expr (expr.Chain (name a) ((op.AndAnd, name b) ∷ [])) ∷ []))).good ≡ true
 good_chain =
     rw (
       blocks.condition_is (of_links (link.Expr (expr.Chain (name a) ((op.AndAnd, name b) ∷ [])) ∷ [])),
@@ -101,7 +96,7 @@ good_chain =
     refl
 
 -- `let a = b || c`, where `||` binds weaker than the `&&` of links
-bad_or : good (link.Let (name_pat a) (expr.Chain (name b) ((op.OrOr, name c) ∷ [])) ∷ []) ≡ false
+bad_or : (about_condition (of_links (link.Let (name_pat a) (expr.Chain (name b) ((op.OrOr, name c) ∷ [])) ∷ []))).good ≡ false
 bad_or =
     rw (
       blocks.condition_is (of_links (link.Let (name_pat a) (expr.Chain (name b) ((op.OrOr, name c) ∷ [])) ∷ [])),
