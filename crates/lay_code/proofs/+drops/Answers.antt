@@ -1,4 +1,4 @@
-use Rattle.std.proofs.Common.{ℕ, ◌≤◌, ◌≡◌, length, ap, arith}
+use Rattle.std.proofs.Common.{ℕ, ◌≡◌, length, ap, arith}
 use Rattle.std.specs.Prelude.{max}
 use Rattle.lay_code.specs.declared.blocks.Arm.{size-Arm}
 use Rattle.lay_code.specs.declared.blocks.Branch.{size-Branch}

@@ -11,7 +11,6 @@ use Rattle.lay_node.specs.declared.heads.Struct.{Struct}
 use Rattle.lay_node.specs.declared.heads.TraitHead.{TraitHead}
 use Rattle.lay_node.specs.declared.heads.Union.{Union}
 use Rattle.lay_node.specs.declared.heads.ValueHead.{ValueHead}
-use Rattle.lay_node.specs.declared.patterns.Pat.{Pat}
 use Rattle.lay_node.specs.declared.token.Literal.{Literal}
 use Rattle.lay_node.specs.declared.token.Name.{Name}
 use Rattle.lay_node.specs.declared.tokens.Group.{Group}
@@ -26,7 +25,6 @@ use Rattle.lay_code.specs.nodes.Exprs.{ExprFacts, StepFacts, expr_facts, field_f
 use Rattle.lay_code.specs.nodes.Item.{kind_facts, item_facts}
 use Rattle.lay_code.specs.nodes.Layers.{KindNode}
 use Rattle.lay_code.specs.declared.blocks.Block.{Block}
-use Rattle.lay_code.specs.declared.exprs.ClosureParam.{ClosureParam}
 use Rattle.lay_code.specs.declared.exprs.Expr.{Expr}
 use Rattle.lay_code.specs.declared.item.Item.{Item}
 use Rattle.lay_code.specs.declared.item.ItemKind.{ItemKind}

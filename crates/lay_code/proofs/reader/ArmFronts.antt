@@ -1,6 +1,6 @@
 -- What patterns begin with where arms and closures put them: no attribute. So where an arm or a parameter of a closure begins,
 -- its attributes are read up to its pattern; and it isn't what closes the list that it stands in.
-use Rattle.std.proofs.Common.{◌≡◌, ℕ, zero, suc, ◌≤◌, ◌<◌, Bool, true, false, not, ◌&&◌, List, [], ◌∷◌, ◌++◌, map, length, codes, Option, option_map, Some, None, inl, inr, refl, sym, ap, subst, ◌∙◌, arith}
+use Rattle.std.proofs.Common.{◌≡◌, ℕ, ◌≤◌, ◌<◌, Bool, true, false, not, ◌&&◌, List, [], ◌∷◌, map, length, codes, option_map, Some, inl, inr, refl, sym, ap, subst, ◌∙◌, arith}
 use Rattle.std.proofs.lemmas.Bool.{and_parts, not-true}
 use Rattle.lay_piece.specs.declared.kind.Delim.TheVariants.{Brace}
 use Rattle.lay_token.specs.Operators.{is_op}
@@ -20,7 +20,7 @@ use Rattle.lay_node.specs.declared.patterns.Pat.{Pat}
 use Rattle.lay_node.specs.declared.patterns.Pat.TheVariants as pat
 use Rattle.lay_node.specs.declared.patterns.PatPlace.{PatPlace}
 use Rattle.lay_node.specs.declared.patterns.PatPlace.TheVariants.{Alternatives, Single}
-use Rattle.lay_node.proofs.Parts.{GoodAt, Rows, SpelledAt, before_blank, behind_attrs_rows, behind_blank, bit_alone, part_alone}
+use Rattle.lay_node.proofs.Parts.{GoodAt, Rows, before_blank, behind_attrs_rows, behind_blank, bit_alone, part_alone}
 use Rattle.lay_node.proofs.nodes.PatternsLaws.{PatView, IsOr, IsValue, IsWild, IsRest, IsCall, IsPath, IsBind, IsSpan, IsRef, IsStruct, IsTupleStruct, IsTuple, IsParen, IsSlice, pat_view, pat_or_is, pat_value_is, pat_wild_is, pat_rest_is, pat_call_is, pat_path_is, pat_bind_is, pat_span_is, pat_ref_is, pat_struct_is, pat_tuple_struct_is, pat_tuple_is, pat_paren_is, pat_slice_is}
 use Rattle.lay_node.proofs.reader.Attr.{attrs_rows}
 use Rattle.lay_node.proofs.reader.AttrRead.{attributes_complete, outer_begins_item}

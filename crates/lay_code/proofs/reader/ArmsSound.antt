@@ -5,7 +5,7 @@ use Rattle.lay_piece.specs.declared.kind.Delim.TheVariants.{Brace}
 use Rattle.lay_piece.specs.declared.kind.Kind.TheVariants as kind
 use Rattle.lay_token.specs.Operators.{is_op}
 use Rattle.lay_form.specs.Form.{ArmComma, Blank, Body, Done, Fixed, Form, Operator, Part, Piece, closer, keyword, opener}
-use Rattle.lay_form.specs.Notation.{I0, N, body}
+use Rattle.lay_form.specs.Notation.{I0, N}
 use Rattle.lay_form.specs.Spelled.{AreBits, Closes, IsBehind, IsOperator, MayBrace, Opens, Spells, cost}
 use Rattle.lay_form.proofs.FormLaws.{deeper as raise}
 use Rattle.lay_node.specs.Ahead.{Tokens, first, tail, closes, is_keyword, is_mark, more_items, opens}

@@ -12,7 +12,7 @@ use Rattle.lay_node.proofs.Parts.{bit_alone, piece_bit}
 use Rattle.lay_code.specs.nodes.Blocks.{block_facts, braces_of, is_lone_body, is_plain, stmt_facts}
 use Rattle.lay_code.specs.nodes.Code.{about_arm, about_block, about_branch, about_condition, about_expr, about_field_expr, about_step, about_stmt}
 use Rattle.lay_code.specs.nodes.CodeFacts.{BlockFacts, StmtFacts}
-use Rattle.lay_code.specs.nodes.Exprs.{BodyKind, BlockBody, ExprFacts, ExprLayer, MacroBody, OtherBody, body_kind, expr_facts, is_macro, placed, stands}
+use Rattle.lay_code.specs.nodes.Exprs.{BodyKind, BlockBody, ExprFacts, ExprLayer, MacroBody, OtherBody, body_kind, expr_facts, is_macro, placed}
 use Rattle.lay_code.specs.nodes.Places.{statement}
 use Rattle.lay_code.specs.reader.Blocks.{undressed}
 use Rattle.lay_code.specs.declared.blocks.Block.{Block}

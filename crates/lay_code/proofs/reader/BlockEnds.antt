@@ -4,7 +4,6 @@ use Rattle.std.proofs.lemmas.Bool.{and_from}
 use Rattle.lay_piece.specs.declared.kind.Delim.TheVariants.{Brace, Bracket, Paren}
 use Rattle.lay_piece.specs.declared.kind.Kind.TheVariants.{Ident, Punct}
 use Rattle.lay_token.specs.Operators.{is_op, op_at}
-use Rattle.lay_token.specs.declared.token.Token.{Token}
 use Rattle.lay_form.specs.Spelled.{IsOne}
 use Rattle.lay_node.specs.Ahead.{Tokens, first, is_keyword, is_lifetime, is_lifetime_kind, is_opener, opens}
 use Rattle.lay_node.specs.Begins.{begins_bound, begins_span_end, lead_at}

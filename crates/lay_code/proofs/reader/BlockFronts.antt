@@ -1,16 +1,15 @@
 -- What statements, arms and parameters of closures begin with, what stands behind their attributes, and the `;` of a block
 -- that are dropped.
-use Rattle.std.proofs.Common.{◌≡◌, ℕ, zero, suc, ◌≤◌, ◌<◌, Bool, true, false, not, ◌&&◌, ◌||◌, List, [], ◌∷◌, ◌++◌, map, length, drop, codes, Option, option_map, Some, None, is_some, if◌then◌else◌, inl, inr, refl, sym, ap, subst, ◌∙◌, arith}
+use Rattle.std.proofs.Common.{◌≡◌, ℕ, zero, suc, ◌<◌, Bool, true, false, not, ◌&&◌, ◌||◌, List, [], ◌∷◌, map, length, codes, Option, option_map, Some, None, inl, inr, refl, sym, ap, subst, ◌∙◌, arith}
 use Rattle.std.proofs.lemmas.Bool.{and_parts, cases_Bool, false_from_ne_true, not-true, or_cases, or_left, or_right}
-use Rattle.lay_piece.specs.Forms.{closing, opening}
+use Rattle.lay_piece.specs.Forms.{closing}
 use Rattle.lay_piece.specs.declared.kind.Delim.{Delim}
 use Rattle.lay_piece.specs.declared.kind.Delim.TheVariants.{Brace}
 use Rattle.lay_piece.specs.declared.kind.Kind.{Kind}
-use Rattle.lay_piece.specs.declared.kind.Kind.TheVariants.{Closer, Doc, Ident, Opener, Punct}
+use Rattle.lay_piece.specs.declared.kind.Kind.TheVariants.{Closer, Doc, Ident, Punct}
 use Rattle.lay_token.specs.Lexes.{is_punct}
-use Rattle.lay_token.specs.Operators.{is_op}
 use Rattle.lay_form.specs.Form.{Blank, Fixed, Form, Part, Piece, keyword, semicolon}
-use Rattle.lay_form.specs.Notation.{behind_attrs, piece}
+use Rattle.lay_form.specs.Notation.{piece}
 use Rattle.lay_form.specs.Spelled.{AnySemicolons, AreSemicolons, IsOne, Spells}
 use Rattle.lay_form.proofs.FormLaws.{shorter}
 use Rattle.lay_node.specs.Ahead.{Tokens, ends_items, first, is_keyword, is_mark, opens, tail}
@@ -25,7 +24,7 @@ use Rattle.lay_node.specs.declared.patterns.Pat.{Pat}
 use Rattle.lay_node.specs.declared.patterns.PatPlace.TheVariants.{Single}
 use Rattle.lay_node.specs.declared.types.Ty.{Ty}
 use Rattle.lay_node.proofs.Fronts.{keyword_one, mark_one, one_front, one_no_op, one_shorter}
-use Rattle.lay_node.proofs.Parts.{GoodAt, Rows, SpelledAt, behind_attrs_rows, before_blank, bit_alone, piece_bit}
+use Rattle.lay_node.proofs.Parts.{GoodAt, Rows, behind_attrs_rows, before_blank, piece_bit}
 use Rattle.lay_node.proofs.reader.Attr.{attrs_rows}
 use Rattle.lay_node.proofs.reader.AttrRead.{attr_begins, outer_begins_item}
 use Rattle.lay_node.proofs.reader.TypesComplete.{and_none}
@@ -35,8 +34,8 @@ use Rattle.lay_code.specs.Operands.{ExprLead, expr_lead_at, expr_lead_of_word}
 use Rattle.lay_code.specs.nodes.Blocks.{else_form, else_good, ended_form, let_type}
 use Rattle.lay_code.specs.nodes.Code.{about_block, about_expr, about_item, about_stmt, told_of_item}
 use Rattle.lay_code.specs.nodes.CodeFacts.{StmtFacts}
-use Rattle.lay_code.specs.nodes.Exprs.{condition_form, condition_good, placed, value_form, value_placed}
-use Rattle.lay_code.specs.nodes.Places.{plain, statement}
+use Rattle.lay_code.specs.nodes.Exprs.{placed, value_form, value_placed}
+use Rattle.lay_code.specs.nodes.Places.{statement}
 use Rattle.lay_code.specs.reader.Blocks.{begins_item, begins_with, behind_semicolons, item_words}
 use Rattle.lay_code.specs.reader.ItemLeads.{begins_rules, begins_union}
 use Rattle.lay_code.specs.declared.blocks.Block.{Block}
@@ -46,10 +45,10 @@ use Rattle.lay_code.specs.declared.exprs.Expr.{Expr}
 use Rattle.lay_code.specs.declared.exprs.Place.{Place}
 use Rattle.lay_code.specs.declared.item.Item.{Item}
 use Rattle.lay_code.proofs.nodes.BlocksLaws.{StmtView, IsLet, IsItem, IsExpr, stmt_view, stmt_let_is, stmt_item_is, stmt_expr_is}
-use Rattle.lay_code.proofs.reader.ExprFirst.{NoItem, Plain, fn_words, named_item, placed_plain}
-use Rattle.lay_code.proofs.reader.ExprFronts.{ExprBegun, placed_begins}
-use Rattle.lay_code.proofs.reader.ExprLeads.{expr_more, expr_no_attr, expr_no_closer, expr_no_keyword, expr_no_semicolon, one_lead}
-use Rattle.lay_code.proofs.reader.ItemBegins.{ItemBegun, before_brace, is_async_fn, is_before_brace, item_begun}
+use Rattle.lay_code.proofs.reader.ExprFirst.{NoItem, Plain, named_item, placed_plain}
+use Rattle.lay_code.proofs.reader.ExprFronts.{placed_begins}
+use Rattle.lay_code.proofs.reader.ExprLeads.{expr_more, expr_no_attr, expr_no_keyword, expr_no_semicolon, one_lead}
+use Rattle.lay_code.proofs.reader.ItemBegins.{before_brace, is_async_fn, is_before_brace, item_begun}
 use Rattle.lay_code.proofs.reader.ItemKinds.{item_begins, item_none}
 
 -- ---- `;` that are dropped

@@ -1,20 +1,20 @@
 -- A block taken apart: its inner attributes, the `;` that are dropped behind them, and its statements, each with the `;` that
 -- are dropped behind it. Behind a statement that doesn't end by itself the `}` stands.
-use Rattle.std.proofs.Common.{◌≡◌, ℕ, Bool, true, false, not, ◌&&◌, ◌||◌, List, [], ◌∷◌, ◌++◌, map, if◌then◌else◌, ◌⊎◌, inl, inr, refl, sym, ap, subst, ◌∙◌}
+use Rattle.std.proofs.Common.{◌≡◌, ℕ, Bool, true, false, not, ◌&&◌, ◌||◌, List, [], ◌∷◌, map, if◌then◌else◌, ◌⊎◌, inl, inr, refl, sym, ap, subst, ◌∙◌}
 use Rattle.std.proofs.lemmas.Bool.{and_parts, cases_Bool}
 use Rattle.lay_piece.specs.Forms.{closing, opening}
 use Rattle.lay_piece.specs.declared.kind.Delim.TheVariants.{Brace}
 use Rattle.lay_piece.specs.declared.kind.Kind.TheVariants.{Closer, Opener}
-use Rattle.lay_form.specs.Form.{Done, Form, Part, Semicolons}
+use Rattle.lay_form.specs.Form.{Done, Part, Semicolons}
 use Rattle.lay_form.specs.Notation.{piece}
 use Rattle.lay_form.specs.Spelled.{AnySemicolons, AreBits, IsOne, Spells}
 use Rattle.lay_node.specs.Ahead.{Tokens, closes, first}
 use Rattle.lay_node.specs.nodes.Attr.{attr_form}
 use Rattle.lay_node.specs.declared.attr.Attr.{Attr}
 use Rattle.lay_node.proofs.Fronts.{closer_first}
-use Rattle.lay_node.proofs.Parts.{Rows, SpelledAt, bit_alone, part_alone, piece_bit, rows_of_map, rows_parts}
+use Rattle.lay_node.proofs.Parts.{Rows, SpelledAt, bit_alone, piece_bit, rows_of_map, rows_parts}
 use Rattle.lay_code.specs.nodes.Blocks.{attrs_before, dropped, dropped_if, is_plain, stmt_form, stmts_good}
-use Rattle.lay_code.specs.nodes.Code.{about_block, about_expr, about_stmt}
+use Rattle.lay_code.specs.nodes.Code.{about_expr, about_stmt}
 use Rattle.lay_code.specs.nodes.CodeFacts.{StmtFacts}
 use Rattle.lay_code.specs.declared.blocks.Block.{Block}
 use Rattle.lay_code.specs.declared.blocks.Stmt.{Stmt}

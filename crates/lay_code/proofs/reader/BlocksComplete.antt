@@ -5,7 +5,7 @@ use Rattle.lay_piece.specs.Forms.{opening, closing}
 use Rattle.lay_piece.specs.declared.kind.Delim.TheVariants.{Brace}
 use Rattle.lay_piece.specs.declared.kind.Kind.TheVariants.{Punct, Opener, Closer}
 use Rattle.lay_form.specs.Form.{Semicolons, Done, Part}
-use Rattle.lay_form.specs.Notation.{soft, piece}
+use Rattle.lay_form.specs.Notation.{piece}
 use Rattle.lay_form.specs.Spelled.{IsOne, AnySemicolons, AreSemicolons, Spells}
 use Rattle.lay_node.specs.Ahead.{Tokens, first, is_mark, closes, more_items}
 use Rattle.lay_node.specs.nodes.Attr.{are_attrs, attr_form}

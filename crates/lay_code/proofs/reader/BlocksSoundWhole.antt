@@ -3,7 +3,7 @@ use Rattle.std.proofs.Common.{◌≡◌, ℕ, ◌≤◌, max, Bool, true, false,
 use Rattle.std.proofs.lemmas.Bool.{and_from}
 use Rattle.lay_piece.specs.declared.kind.Delim.TheVariants.{Brace}
 use Rattle.lay_form.specs.Form.{Done, Form, Part, closer, opener}
-use Rattle.lay_form.specs.Notation.{body, piece, soft}
+use Rattle.lay_form.specs.Notation.{piece, soft}
 use Rattle.lay_form.specs.Spelled.{AreBits, Spells}
 use Rattle.lay_form.proofs.FormLaws.{deeper as raise}
 use Rattle.lay_node.specs.Ahead.{Tokens, first, closes, is_mark, more_items, opens}

@@ -1,5 +1,5 @@
 -- Conditions are read where they are spelled, where what is one level deeper is read.
-use Rattle.std.proofs.Common.{◌≡◌, ℕ, ◌≤◌, max, Bool, true, false, ◌&&◌, ◌||◌, List, [], ◌∷◌, map, length, drop, codes, Option, Some, None, if◌then◌else◌, refl, sym, ap, subst, ◌∙◌, arith, le-leb, eq-eqb}
+use Rattle.std.proofs.Common.{◌≡◌, ℕ, max, Bool, true, false, List, [], ◌∷◌, map, drop, codes, Option, Some, None, if◌then◌else◌, refl, sym, ap, subst, ◌∙◌, arith, le-leb, eq-eqb}
 use Rattle.std.specs.Prelude.{◌==◌}
 use Rattle.std.specs.List.{list_any}
 use Rattle.std.proofs.lemmas.Bool.{and_parts}
@@ -25,14 +25,13 @@ use Rattle.lay_code.specs.Operators.{angle_by, binary, is_angle, strength}
 use Rattle.lay_code.specs.nodes.Code.{about_condition, about_expr, about_link}
 use Rattle.lay_code.specs.nodes.CodeFacts.{ConditionFacts, LinkFacts}
 use Rattle.lay_code.specs.nodes.Conditions.{condition_form, condition_good, has_let, link_facts, links_form, links_good}
-use Rattle.lay_code.specs.nodes.Exprs.{ExprFacts, LinkLayer, placed, stands}
+use Rattle.lay_code.specs.nodes.Exprs.{LinkLayer, placed, stands}
 use Rattle.lay_code.specs.nodes.Places.{before_op, link_place, plain}
 use Rattle.lay_code.specs.reader.Conditions.{ReadLink, any_let, begins_link, condition_by, condition_of, further_links, is_let, let_link, linked, one_link}
 use Rattle.lay_code.specs.reader.Within.{ExprWithin}
 use Rattle.lay_code.specs.declared.blocks.Stmt.TheOpen.{Link-F}
 use Rattle.lay_code.specs.declared.conditions.Condition.{Condition}
 use Rattle.lay_code.specs.declared.conditions.Link.{Link}
-use Rattle.lay_code.specs.declared.conditions.Link.TheVariants as link
 use Rattle.lay_code.specs.declared.exprs.Expr.{Expr}
 use Rattle.lay_code.specs.declared.operators.Op.TheVariants as op
 use Rattle.lay_code.proofs.nodes.BlocksLaws.{LinkView, IsExprLink, IsLetLink, condition_is, link_expr_is, link_let_is, link_view}

@@ -1,5 +1,5 @@
 -- What links begin with: no link begins with a range, since that stands below their level.
-use Rattle.std.proofs.Common.{◌≡◌, ℕ, zero, suc, ◌≤◌, Bool, true, false, not, ◌&&◌, nat_le, List, map, codes, Option, option_map, Some, None, inl, inr, refl, sym, ap, subst, ◌∙◌, arith, le-leb, leb-true}
+use Rattle.std.proofs.Common.{◌≡◌, ℕ, zero, suc, ◌≤◌, Bool, true, false, not, ◌&&◌, nat_le, List, map, codes, Option, option_map, Some, None, inl, inr, refl, sym, subst, ◌∙◌, arith, le-leb, leb-true}
 use Rattle.std.proofs.lemmas.Bool.{and_parts, false_from_ne_true, or_cases}
 use Rattle.lay_token.specs.Operators.{is_op}
 use Rattle.lay_form.specs.Form.{Form, Part}

@@ -1,5 +1,5 @@
 -- A condition of one expression is read: its first operands as links, and then what operators go on with.
-use Rattle.std.proofs.Common.{◌≡◌, ℕ, zero, suc, ◌≤◌, ◌<◌, max, Bool, true, false, not, ◌&&◌, nat_le, List, [], ◌∷◌, map, length, drop, codes, Option, option_map, Some, None, is_some, if◌then◌else◌, inl, inr, refl, sym, ap, subst, ◌∙◌, arith, le-leb, leb-true, eq-eqb, eqb-true}
+use Rattle.std.proofs.Common.{◌≡◌, ℕ, zero, suc, ◌≤◌, ◌<◌, max, Bool, true, false, not, ◌&&◌, nat_le, List, [], ◌∷◌, map, length, drop, codes, Option, option_map, Some, None, if◌then◌else◌, inl, inr, refl, sym, ap, subst, ◌∙◌, arith, le-leb, leb-true, eq-eqb, eqb-true}
 use Rattle.std.specs.Prelude.{◌==◌}
 use Rattle.std.specs.List.{list_any}
 use Rattle.std.proofs.lemmas.Bool.{and_parts, cases_Bool, leb-false}
@@ -17,8 +17,8 @@ use Rattle.lay_node.proofs.reader.Exact.{IsRead}
 use Rattle.lay_node.proofs.reader.Loops.{Turn, repeat_complete}
 use Rattle.lay_code.specs.Operators.{angle_by, is_angle, op_level, op_text, strength}
 use Rattle.lay_code.specs.nodes.Code.{about_expr}
-use Rattle.lay_code.specs.nodes.Exprs.{ExprFacts, ExprLayer, expr_facts, inside, is_chain_level, level_of_chain, may_chain, operand_place, operands_form, operands_placed, placed, root_follows, stands, tail_follows, tail_of_operands}
-use Rattle.lay_code.specs.nodes.Places.{before_op, begins, link_place, plain}
+use Rattle.lay_code.specs.nodes.Exprs.{ExprFacts, ExprLayer, expr_facts, inside, is_chain_level, level_of_chain, may_chain, operands_form, operands_placed, placed, root_follows, stands, tail_follows}
+use Rattle.lay_code.specs.nodes.Places.{before_op, link_place, plain}
 use Rattle.lay_code.specs.reader.Code.{climbed_on}
 use Rattle.lay_code.specs.reader.Conditions.{ReadLink, alone, any_let, begins_link, chain_of, condition_by, condition_of, further_links, is_let, link_ends, one_link}
 use Rattle.lay_code.specs.reader.Exprs.{accepted, climb, operand_ends}
@@ -37,8 +37,8 @@ use Rattle.lay_code.proofs.reader.ExprComplete.{accept}
 use Rattle.lay_code.proofs.reader.ExprFronts.{no_depth, placed_begins}
 use Rattle.lay_code.proofs.reader.ExprHeadsJumps.{plain_follows}
 use Rattle.lay_code.proofs.reader.ExprLeads.{expr_no_keyword}
-use Rattle.lay_code.proofs.reader.ExprOperators.{AtOp, at_op, not_at_level}
-use Rattle.lay_code.proofs.reader.ExprOperatorsRows.{OperandFits, OperandSpelled, before_plain, before_tail, operands_fit, operands_spelled}
+use Rattle.lay_code.proofs.reader.ExprOperators.{at_op, not_at_level}
+use Rattle.lay_code.proofs.reader.ExprOperatorsRows.{OperandFits, before_plain, before_tail, operands_fit, operands_spelled}
 use Rattle.lay_code.proofs.reader.ExprOperatorsTails.{before_parts, stands_parts}
 use Rattle.lay_code.proofs.reader.ExprReads.{ExprReads, ReadsExprs}
 use Rattle.lay_code.proofs.reader.ExprSoundStages.{base_within}

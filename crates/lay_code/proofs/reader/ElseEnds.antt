@@ -1,11 +1,11 @@
 -- An expression that ends in branches without an `else` ends in a `}`. So an `else` may follow what doesn't end so.
-use Rattle.std.proofs.Common.{◌≡◌, ℕ, zero, suc, Bool, true, false, not, ◌&&◌, List, [], ◌∷◌, ◌++◌, map, codes, Option, option_map, Some, None, is_some, if◌then◌else◌, refl, sym, ap, subst, ◌∙◌}
+use Rattle.std.proofs.Common.{◌≡◌, ℕ, zero, suc, Bool, true, false, not, ◌&&◌, List, [], ◌∷◌, ◌++◌, map, codes, Option, option_map, Some, None, if◌then◌else◌, refl, sym, subst, ◌∙◌}
 use Rattle.std.specs.Prelude.{◌==◌}
 use Rattle.std.specs.List.{list_all}
 use Rattle.std.proofs.lemmas.Bool.{and_parts, false_from_ne_true, not-true}
 use Rattle.lay_piece.specs.declared.kind.Kind.TheVariants.{Ident}
-use Rattle.lay_form.specs.Form.{Bit, Blank, Operator, Form, Done, Piece, Part, keyword}
-use Rattle.lay_form.specs.Notation.{I0, B, N, body, soft}
+use Rattle.lay_form.specs.Form.{Blank, Form, Done, Piece, Part}
+use Rattle.lay_form.specs.Notation.{body, soft}
 use Rattle.lay_form.specs.Spelled.{IsOne, Spells}
 use Rattle.lay_node.specs.Ahead.{Tokens}
 use Rattle.lay_node.specs.Follow.{OfColons}
@@ -16,12 +16,12 @@ use Rattle.lay_node.specs.nodes.Types.{is_there}
 use Rattle.lay_node.specs.declared.attr.Attr.{Attr}
 use Rattle.lay_node.specs.declared.token.Lifetime.{Lifetime}
 use Rattle.lay_node.proofs.Parts.{part_alone}
-use Rattle.lay_code.specs.Operators.{op_level, op_text}
-use Rattle.lay_code.specs.nodes.Blocks.{attrs_before, block_form, dropped_if, is_plain, may_precede_else, precedes_else, soft_form, stmt_form}
+use Rattle.lay_code.specs.Operators.{op_level}
+use Rattle.lay_code.specs.nodes.Blocks.{attrs_before, block_form, dropped_if, is_plain, precedes_else, soft_form, stmt_form}
 use Rattle.lay_code.specs.nodes.Code.{about_arm, about_block, about_branch, about_condition, about_expr, about_field_expr, about_step, about_stmt}
 use Rattle.lay_code.specs.nodes.CodeFacts.{BlockFacts, BranchFacts, StmtFacts}
 use Rattle.lay_code.specs.nodes.Ends.{brace_bits, brace_behind, ends_in_brace}
-use Rattle.lay_code.specs.nodes.Exprs.{ExprFacts, ExprLayer, StepFacts, branch_head, branches_form, branches_good, closure_head, else_branch_form, end_form, end_placed, expr_facts, inside, is_chain_level, is_field, label_form, level_of_chain, may_be_good, may_chain, more_branches, next_is_angle, operand_form, operand_place, operand_placed, operands_form, operands_placed, placed, prefix_bits, prefixes_form, shut, shut_by, follows, start_placed, tail_of, tail_of_jump, tail_of_operands, tail_of_steps, targets_form, targets_placed, within_of, is_closure_param, break_placed, is_prefix_lead}
+use Rattle.lay_code.specs.nodes.Exprs.{ExprFacts, ExprLayer, StepFacts, branches_form, closure_head, end_form, end_placed, expr_facts, inside, is_chain_level, is_field, label_form, level_of_chain, may_chain, more_branches, next_is_angle, operand_form, operand_place, operand_placed, operands_form, operands_placed, placed, prefix_bits, prefixes_form, shut, shut_by, follows, start_placed, tail_of, tail_of_operands, tail_of_steps, targets_form, targets_placed, within_of, is_closure_param, break_placed, is_prefix_lead}
 use Rattle.lay_code.specs.nodes.Places.{FREE, begins, before_op, plain}
 use Rattle.lay_code.specs.declared.blocks.Block.{Block}
 use Rattle.lay_code.specs.declared.blocks.Branch.{Branch}
@@ -30,7 +30,6 @@ use Rattle.lay_code.specs.declared.exprs.ClosureParam.{ClosureParam}
 use Rattle.lay_code.specs.declared.exprs.Expr.{Expr}
 use Rattle.lay_code.specs.declared.exprs.Expr.TheVariants as expr
 use Rattle.lay_code.specs.declared.exprs.Place.{Place}
-use Rattle.lay_code.specs.declared.exprs.Step.{Step}
 use Rattle.lay_code.specs.declared.operators.Op.{Op}
 use Rattle.lay_code.specs.declared.operators.Prefix.{Prefix}
 use Rattle.lay_code.proofs.nodes.BlocksLaws.{block_is, branch_is}

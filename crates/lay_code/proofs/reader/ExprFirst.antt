@@ -1,6 +1,6 @@
 -- What begins an expression begins no item: behind `unsafe` a `{` stands, behind `async` no function, and behind a first word
 -- `union` or `macro_rules` nothing that would make it an item, but for what stands behind the whole expression.
-use Rattle.std.proofs.Common.{◌≡◌, ℕ, zero, suc, Bool, true, false, not, ◌&&◌, ◌||◌, nat_le, List, [], ◌∷◌, ◌++◌, map, drop, codes, Option, option_map, Some, None, is_some, if◌then◌else◌, ◌⊎◌, inl, inr, refl, sym, ap, subst, ◌∙◌}
+use Rattle.std.proofs.Common.{◌≡◌, ℕ, zero, suc, Bool, true, false, not, ◌&&◌, ◌||◌, nat_le, List, [], ◌∷◌, ◌++◌, map, drop, codes, Option, option_map, Some, None, is_some, ◌⊎◌, inl, inr, refl, sym, ap, subst, ◌∙◌}
 use Rattle.std.specs.Str.{bytes_eq}
 use Rattle.std.proofs.lemmas.Bool.{and_parts, cases_Bool, false_from_ne_true, or_cases}
 use Rattle.lay_piece.specs.Forms.{opening}
@@ -9,12 +9,11 @@ use Rattle.lay_piece.specs.declared.kind.Delim.TheVariants.{Paren, Bracket, Brac
 use Rattle.lay_piece.specs.declared.kind.Kind.TheVariants.{Ident, Opener, Punct}
 use Rattle.lay_token.specs.Delimiters.{is_opener}
 use Rattle.lay_token.specs.Operators.{is_op}
-use Rattle.lay_form.specs.Form.{Bit, Blank, Operator, Form, Done, Piece, Part, keyword, opener, closer}
+use Rattle.lay_form.specs.Form.{Blank, Operator, Form, Done, Piece, Part, keyword, opener, closer}
 use Rattle.lay_form.specs.Notation.{N, when, braces}
 use Rattle.lay_form.specs.Spelled.{IsOne, IsOperator, AreBits, Spells}
 use Rattle.lay_node.specs.Ahead.{Tokens, first, tail, is_keyword, is_mark, opens}
 use Rattle.lay_node.specs.Words.{colons}
-use Rattle.lay_node.specs.nodes.Call.{about_call}
 use Rattle.lay_node.specs.nodes.Facts.{Facts, all_good}
 use Rattle.lay_node.specs.nodes.Patterns.{dots}
 use Rattle.lay_node.specs.nodes.Types.{ArgsFacts, segment_good, segments_form, segments_good, about_path, about_start, about_args, about_type, is_there, less}
@@ -26,7 +25,7 @@ use Rattle.lay_node.specs.declared.types.Path.{Path}
 use Rattle.lay_node.specs.declared.types.PathStart.{PathStart}
 use Rattle.lay_node.specs.declared.types.PathStyle.TheVariants.{Code}
 use Rattle.lay_node.specs.declared.types.Ty.{Ty}
-use Rattle.lay_node.proofs.Fronts.{keyword_one, mark_one, one_front, one_no_op, op_front, op_test, opener_kind, other_op, no_op}
+use Rattle.lay_node.proofs.Fronts.{keyword_one, mark_one, one_front, one_no_op, op_front, opener_kind, other_op, no_op}
 use Rattle.lay_node.proofs.Parts.{before_blank, behind_blank, bit_alone, leaf_parts, part_alone, piece_bit, word_kind}
 use Rattle.lay_node.proofs.nodes.TypesLaws.{PathStartView, IsLocal, IsGlobal, IsQualified, ArgsView, IsNone, IsAngle, IsRound, about_segment, start_view, args_view, start_local_is, start_global_is, start_qualified_is, args_none_is, args_angle_is, args_round_is}
 use Rattle.lay_node.proofs.reader.Call.{SpelledCall, call_complete}

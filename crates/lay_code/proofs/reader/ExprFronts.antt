@@ -28,7 +28,7 @@ use Rattle.lay_code.specs.Operands.{ExprLead, ByPath, ByUnderscore, ByParen, ByB
 use Rattle.lay_code.specs.Operators.{op_text, op_level}
 use Rattle.lay_code.specs.nodes.Code.{about_arm, about_block, about_branch, about_condition, about_expr, about_field_expr, about_step}
 use Rattle.lay_code.specs.nodes.CodeFacts.{BranchFacts}
-use Rattle.lay_code.specs.nodes.Exprs.{ExprFacts, StepFacts, stands, placed, expr_forms, tuple_form, base_form, operands_form, types_form, prefix_bits, prefixes_form, end_form, targets_form, label_form, operand_form, level_of_chain, next_is_angle, is_chain_level, may_chain, operands_placed, targets_placed, end_placed, base_placed, first_step, is_tuple_index, is_dotted, are_steps, types_good, methods, steps_form, group_if, inside, lead_of, label_or, within_of, expr_facts, ExprLayer, labelled, more_branches, branches_form, else_branch_form, arm_forms, behind_async, closure_param, closure_head, bar, branches_good, may_be_good}
+use Rattle.lay_code.specs.nodes.Exprs.{ExprFacts, placed, expr_forms, tuple_form, base_form, operands_form, types_form, prefix_bits, prefixes_form, end_form, targets_form, label_form, operand_form, level_of_chain, next_is_angle, is_chain_level, may_chain, operands_placed, targets_placed, end_placed, base_placed, first_step, is_tuple_index, is_dotted, are_steps, types_good, methods, steps_form, group_if, inside, lead_of, label_or, within_of, expr_facts, ExprLayer, labelled, more_branches, branches_form, else_branch_form, arm_forms, behind_async, closure_param, closure_head, bar, branches_good, may_be_good}
 use Rattle.lay_code.specs.nodes.Places.{plain, begins, before_op}
 use Rattle.lay_code.specs.declared.blocks.Block.{Block}
 use Rattle.lay_code.specs.declared.exprs.ClosureParam.{ClosureParam}

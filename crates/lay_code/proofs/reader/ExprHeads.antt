@@ -2,17 +2,15 @@
 use Rattle.std.proofs.Common.{◌≡◌, ℕ, suc, Bool, true, not, ◌&&◌, nat_le, Some, ap, subst, ◌∙◌}
 use Rattle.lay_form.specs.Spelled.{Spells}
 use Rattle.lay_node.specs.Ahead.{Tokens}
-use Rattle.lay_node.specs.nodes.Facts.{Facts}
 use Rattle.lay_node.specs.nodes.Types.{deeper}
 use Rattle.lay_node.proofs.reader.Exact.{IsRead}
 use Rattle.lay_code.specs.Operands.{expr_lead_at}
 use Rattle.lay_code.specs.Operators.{strength}
 use Rattle.lay_code.specs.nodes.Code.{about_expr}
-use Rattle.lay_code.specs.nodes.Exprs.{ExprFacts, StepFacts, inside, level_of, lead_of, tail_of, is_struct_literal, within_of, expr_facts, tail_follows, ExprLayer}
+use Rattle.lay_code.specs.nodes.Exprs.{ExprFacts, inside, level_of, lead_of, tail_of, is_struct_literal, within_of, expr_facts, tail_follows, ExprLayer}
 use Rattle.lay_code.specs.reader.Exprs.{head_by}
 use Rattle.lay_code.specs.reader.Within.{ExprWithin}
 use Rattle.lay_code.specs.declared.exprs.Expr.{Expr}
-use Rattle.lay_code.specs.declared.blocks.Stmt.TheOpen.{Expr-F}
 use Rattle.lay_code.proofs.reader.ExprFronts.{expr_begins}
 use Rattle.lay_code.proofs.reader.ExprQuiet.{TailFits, tail_fits}
 use Rattle.lay_code.proofs.reader.ExprReads.{HeadRead}

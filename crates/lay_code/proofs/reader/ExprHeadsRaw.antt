@@ -39,7 +39,7 @@ use Rattle.lay_node.proofs.reader.TypesCompleteParts.{one_left}
 use Rattle.lay_code.specs.Operands.{ExprLead, ByPath, ByBrace, ByBlockWord, expr_lead_at}
 use Rattle.lay_code.specs.Operators.{begins_step}
 use Rattle.lay_code.specs.nodes.Code.{about_arm, about_block, about_branch, about_condition, about_expr, about_field_expr, about_step}
-use Rattle.lay_code.specs.nodes.Exprs.{ExprFacts, StepFacts, stands, placed, begins_pointer, is_raw_word, is_raw_path, break_if, group_if, methods, is_method, is_dotted, is_tuple_index, first_step, are_steps, steps_form, base_form, base_placed, level_of_chain, next_is_angle, is_chain_level, may_chain, operands_placed, inside, level_of, lead_of, label_or, within_of, expr_facts, ExprLayer}
+use Rattle.lay_code.specs.nodes.Exprs.{ExprFacts, stands, placed, begins_pointer, is_raw_word, is_raw_path, break_if, group_if, methods, is_method, is_dotted, is_tuple_index, first_step, are_steps, steps_form, base_form, base_placed, level_of_chain, next_is_angle, is_chain_level, may_chain, operands_placed, inside, level_of, lead_of, label_or, within_of, expr_facts, ExprLayer}
 use Rattle.lay_code.specs.nodes.Places.{begins, before_op}
 use Rattle.lay_code.specs.declared.exprs.Expr.{Expr}
 use Rattle.lay_code.specs.declared.blocks.Stmt.TheOpen.{Expr-F}

@@ -4,7 +4,6 @@ use Rattle.std.proofs.lemmas.Bool.{and_parts, or_parts, not-true, leb-true}
 use Rattle.lay_form.specs.Form.{Done, Part}
 use Rattle.lay_form.specs.Spelled.{Spells}
 use Rattle.lay_node.specs.Ahead.{Tokens}
-use Rattle.lay_node.specs.nodes.Facts.{Facts}
 use Rattle.lay_node.specs.nodes.Types.{ArgsFacts, PathFacts, segment_good, segments_good, segments_refuse, about_path, about_args, is_there}
 use Rattle.lay_node.specs.declared.token.Word.{Word}
 use Rattle.lay_node.specs.declared.types.Args.{Args}

@@ -1,8 +1,7 @@
 -- Closures: what is read stands there, where what is one level deeper is read so.
 use Rattle.std.proofs.Common.{◌≡◌, ℕ, suc, ◌≤◌, max, Bool, true, false, ◌&&◌, List, [], ◌∷◌, inl, inr, map, codes, drop, Option, Some, None, if◌then◌else◌, refl, subst, arith}
 use Rattle.std.specs.List.{list_all}
-use Rattle.std.specs.Prelude.{◌==◌}
-use Rattle.std.proofs.lemmas.Bool.{and_from, eqb-true}
+use Rattle.std.proofs.lemmas.Bool.{and_from}
 use Rattle.lay_piece.specs.declared.kind.Kind.TheVariants as kind
 use Rattle.lay_token.specs.Operators.{is_op}
 use Rattle.lay_form.specs.Form.{Bit, Blank, Done, Form, Operator, Part, Piece, keyword}
@@ -27,10 +26,9 @@ use Rattle.lay_node.proofs.reader.Attr.{attributes_sound}
 use Rattle.lay_node.proofs.reader.Loops.{SoundStep}
 use Rattle.lay_node.proofs.reader.TypesSoundNeeds.{listed}
 use Rattle.lay_node.proofs.reader.TypesSoundParts.{Leads, Out, attrs_good, bit_texts, param_attrs_leads}
-use Rattle.lay_code.specs.Operators.{strength}
 use Rattle.lay_code.specs.nodes.Blocks.{let_type}
 use Rattle.lay_code.specs.nodes.Code.{about_block, about_expr}
-use Rattle.lay_code.specs.nodes.Exprs.{bar, behind_async, closure_head, closure_param, is_closure_param, placed, shut}
+use Rattle.lay_code.specs.nodes.Exprs.{bar, behind_async, closure_head, closure_param, is_closure_param, placed}
 use Rattle.lay_code.specs.nodes.Places.{plain}
 use Rattle.lay_code.specs.reader.Blocks.{block_by}
 use Rattle.lay_code.specs.reader.Exprs as reader
@@ -44,7 +42,7 @@ use Rattle.lay_code.proofs.nodes.ExprsLaws.{expr_closure_is, expr_typed_closure_
 use Rattle.lay_code.proofs.reader.BlocksSound.{most_within, type_sound}
 use Rattle.lay_code.proofs.reader.BlocksSoundWhole.{block_sound}
 use Rattle.lay_code.proofs.reader.ExprSoundHeads.{jump_follows}
-use Rattle.lay_code.proofs.reader.ExprSoundLevel.{LeftHeld, SoundExprWithin, all_taken, made}
+use Rattle.lay_code.proofs.reader.ExprSoundLevel.{LeftHeld, SoundExprWithin, made}
 
 -- ---- the words before the parameters, each or not
 

@@ -1,6 +1,5 @@
 -- What is read as an expression with blocks, or as a closure, begins with the lead that the tokens begin with.
 use Rattle.std.proofs.Common.{◌≡◌, ℕ, suc, max, Bool, true, false, ◌∷◌, drop, inl, inr, codes, Option, Some, None, if◌then◌else◌, sym, ap, subst}
-use Rattle.std.specs.Prelude.{◌==◌}
 use Rattle.lay_token.specs.Operators.{is_op}
 use Rattle.lay_piece.specs.declared.kind.Delim.TheVariants.{Brace}
 use Rattle.lay_node.specs.Ahead.{Tokens, first, tail, closes, is_keyword, is_mark, more_items, opens}
@@ -12,7 +11,6 @@ use Rattle.lay_node.specs.declared.token.Lifetime.{Lifetime}
 use Rattle.lay_node.specs.declared.types.TypePlace.TheVariants.{NoBounds}
 use Rattle.lay_node.proofs.Steps.{same_some, chosen, bind_some}
 use Rattle.lay_code.specs.Operands.{ExprLead, ByLabel, ByBrace, ByBlockWord, ByClosure}
-use Rattle.lay_code.specs.Operators.{strength}
 use Rattle.lay_code.specs.nodes.Code.{about_expr}
 use Rattle.lay_code.specs.nodes.Exprs.{ExprFacts, label_or}
 use Rattle.lay_code.specs.nodes.Places.{plain}

@@ -13,7 +13,6 @@ use Rattle.lay_form.specs.Spelled.{AreBits, IsOne, IsOperator, Spells}
 use Rattle.lay_form.proofs.FormLaws.{bits_end, deeper as raise}
 use Rattle.lay_node.specs.Ahead.{Tokens, first, tail, is_keyword}
 use Rattle.lay_node.specs.Follow.{begins_dots}
-use Rattle.lay_node.specs.nodes.Facts.{Facts}
 use Rattle.lay_node.specs.nodes.Patterns.{dots}
 use Rattle.lay_node.specs.nodes.Types.{about_path, is_there, lone_word}
 use Rattle.lay_node.specs.reader.Exact.{InText}

@@ -10,7 +10,6 @@ use Rattle.lay_form.specs.Spelled.{IsOne, Spells}
 use Rattle.lay_form.proofs.FormLaws.{deeper as raise}
 use Rattle.lay_node.specs.Ahead.{Tokens, first, is_keyword}
 use Rattle.lay_node.specs.Follow.{begins_dots, may_follow}
-use Rattle.lay_node.specs.nodes.Facts.{Facts}
 use Rattle.lay_node.specs.nodes.Types.{about_type, good_at, is_there}
 use Rattle.lay_node.specs.reader.Exact.{InText}
 use Rattle.lay_node.specs.reader.Loops.{deepest, nodes, passed, repeat}
@@ -23,7 +22,7 @@ use Rattle.lay_node.proofs.reader.TypesSoundLevel.{TypeHeld}
 use Rattle.lay_node.proofs.reader.TypesSoundParts.{Out, bit_texts, keyword_passed_is}
 use Rattle.lay_code.specs.Operators.{begins_step, is_angle, is_dot_or_try, op_level, op_text, strength}
 use Rattle.lay_code.specs.nodes.Code.{about_expr}
-use Rattle.lay_code.specs.nodes.Exprs.{ExprFacts, StepFacts, are_steps, first_step, is_dotted, is_tuple_index, level_of, placed, stands, type_refuses, types_form, types_good, within_of, ExprLayer}
+use Rattle.lay_code.specs.nodes.Exprs.{ExprFacts, are_steps, first_step, is_dotted, is_tuple_index, level_of, placed, stands, type_refuses, types_form, types_good, within_of, ExprLayer}
 use Rattle.lay_code.specs.nodes.Places.{before_op}
 use Rattle.lay_code.specs.reader.Exprs.{begins_tuple_index, cast_expr, one_step, one_type, postfix_expr, range_expr}
 use Rattle.lay_code.specs.reader.Within.{ExprWithin}

@@ -1,5 +1,5 @@
 -- An item that is no macro call is told by its first tokens from an expression, where statements stand.
-use Rattle.std.proofs.Common.{◌≡◌, ℕ, zero, suc, Bool, true, false, not, ◌&&◌, ◌||◌, List, [], ◌∷◌, map, drop, codes, Option, option_map, Some, None, is_some, inl, inr, refl, sym, ap, subst, ◌∙◌}
+use Rattle.std.proofs.Common.{◌≡◌, ℕ, suc, Bool, true, false, not, ◌&&◌, ◌||◌, List, [], ◌∷◌, map, drop, codes, Option, Some, None, is_some, inl, inr, refl, sym, ap, subst, ◌∙◌}
 use Rattle.std.specs.List.{list_any}
 use Rattle.std.specs.Str.{bytes_eq}
 use Rattle.std.proofs.lemmas.Bool.{and_parts, false_from_ne_true}
@@ -13,10 +13,10 @@ use Rattle.lay_node.specs.Ahead.{Tokens, first, tail, is_keyword, opens}
 use Rattle.lay_node.specs.Words.{is_name, leaf_of}
 use Rattle.lay_node.specs.nodes.Attr.{about_attr}
 use Rattle.lay_node.specs.nodes.Call.{before_rules, end_form, is_group}
-use Rattle.lay_node.specs.nodes.Functions.{fn_head_form, is_fn_head, may_say, mut_word, safety_form, signature_form}
+use Rattle.lay_node.specs.nodes.Functions.{fn_head_form, is_fn_head, may_say, safety_form, signature_form}
 use Rattle.lay_node.specs.nodes.Generics.{bounded_form, default_form, generics_form}
-use Rattle.lay_node.specs.nodes.Heads.{about_enum, about_union, called, head_fields, of_type, struct_tail, trait_head_form, impl_head_form, trait_ref_form, unsafe_form, value_head_form}
-use Rattle.lay_node.specs.nodes.Types.{abi_form, abi_name, about_type, given_form}
+use Rattle.lay_node.specs.nodes.Heads.{about_enum, about_union, head_fields, of_type, struct_tail, trait_ref_form, unsafe_form, value_head_form}
+use Rattle.lay_node.specs.nodes.Types.{abi_form, about_type, given_form}
 use Rattle.lay_node.specs.nodes.Use.{about_use, rename_form}
 use Rattle.lay_node.specs.nodes.Where.{wheres_before_semicolon}
 use Rattle.lay_node.specs.reader.Attr.{begins_attr}
@@ -32,14 +32,12 @@ use Rattle.lay_node.specs.declared.token.GivenName.{GivenName}
 use Rattle.lay_node.specs.declared.token.GivenName.TheVariants as given
 use Rattle.lay_node.specs.declared.token.Name.{Name}
 use Rattle.lay_node.specs.declared.types.Abi.{Abi}
-use Rattle.lay_node.specs.declared.vis.Vis.{Vis}
 use Rattle.lay_node.proofs.Fronts.{keyword_one, one_front}
-use Rattle.lay_node.proofs.Parts.{GoodAt, Rows, before_blank, bit_alone, leaf_parts, word_kind}
+use Rattle.lay_node.proofs.Parts.{GoodAt, Rows, before_blank, leaf_parts, word_kind}
 use Rattle.lay_node.proofs.reader.Vis.{vis_front}
 use Rattle.lay_node.proofs.reader.Words.{name_complete}
 use Rattle.lay_code.specs.nodes.Code.{about_item, told_of_item, told_of_kind}
 use Rattle.lay_code.specs.nodes.CodeFacts.{ItemFacts, KindFacts}
-use Rattle.lay_code.specs.nodes.Exprs.{value_form}
 use Rattle.lay_code.specs.nodes.Item.{foreign_abi, kind_facts}
 use Rattle.lay_code.specs.nodes.Item as node
 use Rattle.lay_code.specs.reader.Blocks.{begins_item, begins_with, item_words}
@@ -50,9 +48,9 @@ use Rattle.lay_code.specs.declared.item.ItemKind.TheVariants as item
 use Rattle.lay_code.proofs.nodes.ItemLaws as laws
 use Rattle.lay_code.proofs.nodes.ItemLaws.{KindView, IsExternCrate, IsImport, IsFileModule, IsModule, IsFunction, IsAlias, IsStruct, IsUnion, IsEnum, IsValue, IsTrait, IsImpl, IsForeign, IsRules, IsCall, kind_view, item_is}
 use Rattle.lay_code.proofs.reader.ExprFirst.{fn_words}
-use Rattle.lay_code.proofs.reader.ItemKinds.{item_none, item_parts}
-use Rattle.lay_code.proofs.reader.ItemLeads.{KindFront, kind_front, spelled_as}
-use Rattle.lay_code.proofs.reader.ItemSound.{KindAt, alone}
+use Rattle.lay_code.proofs.reader.ItemKinds.{item_parts}
+use Rattle.lay_code.proofs.reader.ItemLeads.{kind_front, spelled_as}
+use Rattle.lay_code.proofs.reader.ItemSound.{KindAt}
 
 -- ---- one of five
 

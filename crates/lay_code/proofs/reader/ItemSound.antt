@@ -50,7 +50,6 @@ use Rattle.lay_code.specs.nodes.Item as node
 use Rattle.lay_code.specs.nodes.Item.{about_file_module, about_foreign, about_impl, about_import, about_module, about_trait, about_value, by_site, foreign_abi, in_module, in_modules, items_good, module_head, may_be_valued}
 use Rattle.lay_code.specs.nodes.Places.{FREE}
 use Rattle.lay_code.specs.reader.Item.{ItemWithin, foreign_by, impl_by, import_by, item_body, module_by, trait_by, value_by}
-use Rattle.lay_code.specs.declared.exprs.Expr.{Expr}
 use Rattle.lay_code.specs.declared.item.Item.{Item}
 use Rattle.lay_code.specs.declared.item.ItemKind.{ItemKind}
 use Rattle.lay_code.specs.declared.item.ItemKind.TheVariants as item

@@ -1,5 +1,5 @@
 -- Samples of blocks, statements, control flow and closures: what is read.
-use Rattle.std.proofs.Common.{◌≡◌, ℕ, suc, true, false, List, [], ◌∷◌, Option, Some, None, codes, refl, ◌∙◌}
+use Rattle.std.proofs.Common.{◌≡◌, ℕ, suc, true, false, [], ◌∷◌, Some, None, codes, refl}
 use Rattle.lay_piece.specs.declared.kind.Delim.TheVariants.{Brace, Paren}
 use Rattle.lay_piece.specs.declared.kind.Kind.TheVariants as kind
 use Rattle.lay_token.specs.Operators.{op_at}
@@ -10,7 +10,7 @@ use Rattle.lay_node.specs.reader.Attr.{attributes}
 use Rattle.lay_node.specs.reader.Functions.{fn_head, fn_params}
 use Rattle.lay_node.specs.reader.Generics.{generics}
 use Rattle.lay_node.specs.reader.Loops.{elements, elements_from, open_elements, open_elements_from, repeat, repeat_from}
-use Rattle.lay_node.specs.reader.Patterns.{bind, pat_at, pat_by, path_by, path_pat, pat_in, single_at}
+use Rattle.lay_node.specs.reader.Patterns.{bind, pat_at, pat_by, path_by, path_pat, single_at}
 use Rattle.lay_node.specs.reader.SimplePath.{simple_path}
 use Rattle.lay_node.specs.reader.Types.{args_by, chain, lifetime, path, path_type, segment, within}
 use Rattle.lay_node.specs.reader.Vis.{visibility}
@@ -19,12 +19,11 @@ use Rattle.lay_node.specs.reader.Words.{name as name_reading, word as word_readi
 use Rattle.lay_node.specs.declared.heads.Site.TheVariants.{Module}
 use Rattle.lay_node.specs.declared.patterns.PatPlace.TheVariants.{Alternatives, Single}
 use Rattle.lay_node.proofs.samples.Patterns.{lone}
-use Rattle.lay_node.proofs.samples.Trees.{a, b, c, closes, mark, opens, token, word}
+use Rattle.lay_node.proofs.samples.Trees.{a, b, closes, mark, opens, token, word}
 use Rattle.lay_code.specs.Operands.{expr_lead_at}
 use Rattle.lay_code.specs.Operators.{binary, strength}
-use Rattle.lay_code.specs.nodes.Code.{about_expr, about_stmt}
 use Rattle.lay_code.specs.nodes.Places.{FREE, plain, statement}
-use Rattle.lay_code.specs.reader.Blocks.{arm_body, arm_by, behind_semicolons, block_by, branch_by, expr_stmt, let_stmt, stmt_by, stmt_in_block, undressed}
+use Rattle.lay_code.specs.reader.Blocks.{arm_by, block_by, branch_by, expr_stmt, let_stmt, stmt_by, stmt_in_block, undressed}
 use Rattle.lay_code.specs.reader.Code.{code_in, expr_at, item_at}
 use Rattle.lay_code.specs.reader.Conditions.{condition_by, condition_of, further_links, one_link}
 use Rattle.lay_code.specs.reader.Exprs.{block_word_expr, climb, climb_by, closure_expr, closure_param, expr_by, for_expr, head_by, if_expr, label_expr, match_expr, path_expr, while_expr}

@@ -1,5 +1,5 @@
 -- Samples of conditions of several links: how they are laid out, and which are good.
-use Rattle.std.proofs.Common.{◌≡◌, ℕ, true, false, List, [], ◌∷◌, ◌++◌, None, codes, refl}
+use Rattle.std.proofs.Common.{◌≡◌, true, false, [], ◌∷◌, ◌++◌, None, codes, refl}
 use Rattle.std.specs.Prelude.{replicate}
 use Rattle.lay_node.proofs.nodes.PatternsLaws as pats
 use Rattle.lay_node.proofs.samples.Trees.{named, a, b, c}
@@ -102,8 +102,6 @@ bad_or =
       blocks.condition_is (of_links (link.Let (name_pat a) (expr.Chain (name b) ((op.OrOr, name c) ∷ [])) ∷ [])),
       blocks.link_let_is (name_pat a) (expr.Chain (name b) ((op.OrOr, name c) ∷ [])),
       exprs.expr_chain_is (name b) ((op.OrOr, name c) ∷ []),
-      name_is b,
-      name_is c,
       pats.pat_bind_is false false (named a) None,
     )
     refl

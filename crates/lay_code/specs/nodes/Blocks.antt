@@ -1,13 +1,12 @@
 -- Blocks, statements, branches and the arms of a match (Rust Reference, "Statements and expressions").
-use Rattle.std.specs.Prelude.{◌==◌, ◌&&◌, ◌||◌, not, Bool, true, false, if◌then◌else◌, List, [], ◌∷◌, ◌++◌, map, codes, Option, Some, None, is_some}
-use Rattle.std.specs.List.{list_all}
-use Rattle.lay_form.specs.Form.{Blank, Operator, Semicolons, Braces, Bare, Unseen, Marked, Behind, ArmComma, Form, Done, Piece, Part, Deeper, Body, keyword, semicolon, Bit}
+use Rattle.std.specs.Prelude.{◌==◌, ◌&&◌, ◌||◌, not, Bool, true, false, if◌then◌else◌, List, [], ◌∷◌, ◌++◌, map, codes, Option, Some, None}
+use Rattle.lay_form.specs.Form.{Blank, Operator, Semicolons, Braces, Bare, Unseen, Marked, ArmComma, Form, Done, Piece, Part, Deeper, Body, keyword, semicolon, Bit}
 use Rattle.lay_form.specs.Notation.{N, I0, piece, body, soft, behind_attrs}
 use Rattle.lay_node.specs.nodes.Attr.{are_attrs, attr_form}
 use Rattle.lay_node.specs.nodes.Fields.{blank_if}
 use Rattle.lay_node.specs.nodes.Functions.{may_be_type}
 use Rattle.lay_node.specs.nodes.Patterns.{about_pat, pat_form, pat_good}
-use Rattle.lay_node.specs.nodes.Types.{about_type, colon, equals}
+use Rattle.lay_node.specs.nodes.Types.{about_type, colon}
 use Rattle.lay_node.specs.declared.attr.Attr.{Attr}
 use Rattle.lay_node.specs.declared.heads.Site.TheVariants.{Module}
 use Rattle.lay_node.specs.declared.patterns.Pat.{Pat}
@@ -16,7 +15,7 @@ use Rattle.lay_node.specs.declared.types.Ty.{Ty}
 use Rattle.lay_code.specs.nodes.CodeFacts.{ArmFacts, BlockFacts, BranchFacts, StmtFacts}
 use Rattle.lay_code.specs.nodes.Ends.{ends_in_brace}
 use Rattle.lay_code.specs.nodes.Exprs.{ExprFacts, value_form, value_placed, placed, BodyKind, MacroBody, BlockBody, OtherBody, is_macro, ArmLayer, BlockLayer, BranchLayer, StmtLayer}
-use Rattle.lay_code.specs.nodes.Places.{FREE, plain, statement}
+use Rattle.lay_code.specs.nodes.Places.{statement}
 use Rattle.lay_code.specs.declared.blocks.Stmt.TheOpen.{Stmt-F}
 
 -- ---- statements

@@ -21,7 +21,6 @@ use Rattle.lay_node.specs.nodes.Patterns.{dots, about_pat, pat_form, pat_good}
 use Rattle.lay_node.specs.nodes.Types.{TypeFacts, about_arg, about_path, about_type, angle_form, colon, deeper, good_at, is_there, lifetime_form, literal_form, lone_word, equals, param_attrs}
 use Rattle.lay_node.specs.tokens.Lexed.{is_token_list}
 use Rattle.lay_node.specs.tokens.Lists.{token_list}
-use Rattle.lay_node.specs.declared.patterns.Pat.{Pat}
 use Rattle.lay_node.specs.declared.patterns.PatPlace.TheVariants.{Alternatives, Single}
 use Rattle.lay_node.specs.declared.token.Lifetime.{Lifetime}
 use Rattle.lay_node.specs.declared.token.Word.{Word}
@@ -34,7 +33,6 @@ use Rattle.lay_code.specs.Operators.{op_text, op_level, is_angle_op, is_dot_or_t
 use Rattle.lay_code.specs.nodes.CodeFacts.{ArmFacts, BlockFacts, BranchFacts, ConditionFacts, ItemFacts, KindFacts, LinkFacts, StmtFacts}
 use Rattle.lay_code.specs.nodes.Places.{plain, FREE, begins, is_whole, is_part, before_op}
 use Rattle.lay_code.specs.declared.exprs.ClosureParam.{ClosureParam}
-use Rattle.lay_code.specs.declared.exprs.Expr.{Expr}
 use Rattle.lay_code.specs.declared.blocks.Stmt.TheOpen.{Arm-F, Block-F, Branch-F, Condition-F, Expr-F, FieldExpr-F, Item-F, ItemKind-F, Link-F, Step-F, Stmt-F}
 use Rattle.lay_code.specs.declared.exprs.Place.{Place}
 use Rattle.lay_code.specs.declared.operators.Op.{Op}

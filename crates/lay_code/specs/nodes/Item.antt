@@ -2,14 +2,14 @@
 use Rattle.std.specs.Prelude.{Bool, true, false, ◌&&◌, ◌||◌, List, [], ◌∷◌, ◌++◌, map, codes, Option, Some, None, is_some, not}
 use Rattle.std.specs.List.{list_all}
 use Rattle.lay_form.specs.Form.{Blank, Operator, Form, Done, Piece, Part, Deeper, keyword, semicolon}
-use Rattle.lay_form.specs.Notation.{I0, piece, body, behind_attrs, N}
+use Rattle.lay_form.specs.Notation.{I0, piece, body, behind_attrs}
 use Rattle.lay_node.specs.Words.{is_name, leaf_of}
 use Rattle.lay_node.specs.nodes.Attr.{are_attrs, attr_form}
 use Rattle.lay_node.specs.nodes.Call.{is_group, before_rules, end_form, about_call}
 use Rattle.lay_node.specs.nodes.Fields.{blank_if}
 use Rattle.lay_node.specs.nodes.Functions.{fn_head_form, is_fn_head}
 use Rattle.lay_node.specs.nodes.Heads.{HeadFacts, about_alias, about_enum, about_extern_crate, about_struct, about_union, impl_head_form, is_impl_head, is_trait_head, is_value_head, leads, trait_head_form, unsafe_form, value_head_form}
-use Rattle.lay_node.specs.nodes.Types.{is_abi_name, literal_form, equals}
+use Rattle.lay_node.specs.nodes.Types.{is_abi_name, literal_form}
 use Rattle.lay_node.specs.nodes.Use.{about_use}
 use Rattle.lay_node.specs.nodes.Vis.{is_vis, vis_form}
 use Rattle.lay_node.specs.nodes.Where.{are_predicates, wheres_before_body, wheres_before_semicolon}
@@ -31,9 +31,7 @@ use Rattle.lay_node.specs.declared.use_tree.UseTree.{UseTree}
 use Rattle.lay_node.specs.declared.vis.Vis.{Vis}
 use Rattle.lay_node.specs.declared.vis.Vis.TheVariants as vis
 use Rattle.lay_code.specs.nodes.CodeFacts.{BlockFacts, ItemFacts, KindFacts}
-use Rattle.lay_code.specs.nodes.Exprs.{placed, value_form, value_placed, may_be_good, ExprFacts, ItemLayer, KindLayer}
-use Rattle.lay_code.specs.nodes.Places.{FREE}
-use Rattle.lay_code.specs.declared.item.ItemKind.{ItemKind}
+use Rattle.lay_code.specs.nodes.Exprs.{value_form, value_placed, may_be_good, ExprFacts, ItemLayer, KindLayer}
 use Rattle.lay_code.specs.declared.blocks.Stmt.TheOpen.{ItemKind-F}
 
 -- ---- where an item may stand

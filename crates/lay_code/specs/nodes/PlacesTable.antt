@@ -1,5 +1,5 @@
 -- The table of the places of expressions, row by row: which expressions stand at a place, by the places of what is within them.
-use Rattle.std.specs.Prelude.{ℕ, suc, ◌≡◌, ◌==◌, ◌&&◌, not, Bool, true, false, List, [], ◌∷◌, Option, Some, IsTrue}
+use Rattle.std.specs.Prelude.{ℕ, suc, ◌≡◌, ◌==◌, ◌&&◌, not, Bool, false, List, [], ◌∷◌, Option, Some, IsTrue}
 use Rattle.lay_node.specs.nodes.Types.{is_there}
 use Rattle.lay_code.specs.Operators.{op_level, is_angle_op}
 use Rattle.lay_code.specs.nodes.Exprs.{ExprFacts, begins_free, expr_facts, is_chain_level, is_prefix_lead, may, may_chain, placed, start_placed, targets_placed}

@@ -10,13 +10,12 @@ use Rattle.lay_node.specs.reader.Loops.{Read, ◌>>=◌, passed, nodes, deepest,
 use Rattle.lay_node.specs.reader.Types.{if_read}
 use Rattle.lay_node.specs.declared.attr.Attr.{Attr}
 use Rattle.lay_node.specs.declared.heads.Site.TheVariants.{Module}
-use Rattle.lay_node.specs.declared.patterns.Pat.{Pat}
 use Rattle.lay_node.specs.declared.patterns.PatPlace.TheVariants.{Alternatives, Single}
 use Rattle.lay_node.specs.declared.types.TypePlace.TheVariants.{Bounds}
 use Rattle.lay_code.specs.nodes.Blocks.{is_free, is_lone_body, precedes_else}
 use Rattle.lay_code.specs.nodes.Code.{about_expr, about_stmt, told_of_item}
 use Rattle.lay_code.specs.nodes.Layers.{ExprNode, StmtNode}
-use Rattle.lay_code.specs.nodes.Places.{FREE, plain, statement}
+use Rattle.lay_code.specs.nodes.Places.{FREE, statement}
 use Rattle.lay_code.specs.reader.Conditions.{condition_by}
 use Rattle.lay_code.specs.reader.ItemLeads.{begins_rules, begins_union}
 use Rattle.lay_code.specs.reader.Within.{ExprWithin}
@@ -28,7 +27,6 @@ use Rattle.lay_code.specs.declared.blocks.Stmt.TheOpen.{Expr-F, Stmt-F}
 use Rattle.lay_code.specs.declared.blocks.Stmt.TheVariants as stmt
 use Rattle.lay_code.specs.declared.blocks.Stmt.TheViews.{out-Expr, out-Stmt}
 use Rattle.lay_code.specs.declared.exprs.Expr.{Expr}
-use Rattle.lay_code.specs.declared.item.Item.{Item}
 
 -- ---- statements
 

@@ -3,7 +3,7 @@
 -- A condition doesn't show at its start whether it has links. So links are read one by one, at the depth at which they stand. If
 -- none of them is a `let`, they are the first operands of an expression, whose further operators are read behind them. So
 -- nothing is read twice.
-use Rattle.std.specs.Prelude.{ℕ, suc, max, ◌==◌, not, ◌||◌, Bool, true, false, if◌then◌else◌, List, [], ◌∷◌, length, drop, map, codes, Option, Some, None, is_some}
+use Rattle.std.specs.Prelude.{ℕ, suc, max, ◌==◌, Bool, true, if◌then◌else◌, List, [], ◌∷◌, drop, map, codes, Option, Some, None, is_some}
 use Rattle.std.specs.List.{list_any}
 use Rattle.lay_token.specs.Operators.{is_op}
 use Rattle.lay_node.specs.Ahead.{Tokens, first, tail, is_keyword}
@@ -13,7 +13,7 @@ use Rattle.lay_node.specs.declared.patterns.Pat.{Pat}
 use Rattle.lay_node.specs.declared.patterns.PatPlace.TheVariants.{Alternatives}
 use Rattle.lay_code.specs.Operators.{strength}
 use Rattle.lay_code.specs.nodes.Code.{about_expr}
-use Rattle.lay_code.specs.nodes.Exprs.{ExprFacts, stands}
+use Rattle.lay_code.specs.nodes.Exprs.{stands}
 use Rattle.lay_code.specs.nodes.Places.{link_place, plain}
 use Rattle.lay_code.specs.reader.Within.{ExprWithin}
 use Rattle.lay_code.specs.declared.conditions.Condition.{Condition}

@@ -13,7 +13,7 @@ use Rattle.lay_node.specs.reader.Call.{call}
 use Rattle.lay_node.specs.reader.Loops.{Got, Read, ◌>>=◌, passed, nodes, deepest, repeat, elements, open_elements}
 use Rattle.lay_node.specs.reader.Patterns.{begins_field, index, is_int}
 use Rattle.lay_node.specs.reader.Tokens.{tokens}
-use Rattle.lay_node.specs.reader.Types.{Within, angled, begins_call, if_read, if_there, lifetime, literal, one_arg, path, within}
+use Rattle.lay_node.specs.reader.Types.{angled, begins_call, if_read, if_there, lifetime, literal, one_arg, path, within}
 use Rattle.lay_node.specs.reader.Words.{name}
 use Rattle.lay_node.specs.declared.attr.Attr.{Attr}
 use Rattle.lay_node.specs.declared.patterns.PatPlace.TheVariants.{Alternatives, Single}

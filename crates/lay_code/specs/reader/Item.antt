@@ -1,17 +1,16 @@
 -- Reading items.
-use Rattle.std.specs.Prelude.{ℕ, zero, suc, max, ◌&&◌, ◌||◌, Bool, true, false, if◌then◌else◌, List, drop, codes, Some, None, is_some, Option}
+use Rattle.std.specs.Prelude.{ℕ, suc, max, ◌||◌, Bool, true, false, if◌then◌else◌, List, drop, codes, Some, None, is_some, Option}
 use Rattle.lay_token.specs.Operators.{is_op}
 use Rattle.lay_piece.specs.declared.kind.Delim.TheVariants.{Brace}
 use Rattle.lay_node.specs.Ahead.{Tokens, first, tail, is_keyword, is_mark, opens, closes, more_items}
 use Rattle.lay_node.specs.reader.Attr.{attributes}
 use Rattle.lay_node.specs.reader.Call.{call, behind_end}
-use Rattle.lay_node.specs.reader.Functions.{behind_qualifiers, fn_head, insides}
+use Rattle.lay_node.specs.reader.Functions.{fn_head}
 use Rattle.lay_node.specs.reader.Heads.{alias, enum, extern_crate, impl_head, semicolon, struct, trait_head, union, unsafe_flag, value_head}
 use Rattle.lay_node.specs.reader.Loops.{Got, Read, ◌>>=◌, passed, nodes, deepest, repeat}
 use Rattle.lay_node.specs.reader.Patterns.{PatWithin}
 use Rattle.lay_node.specs.reader.Tokens.{group}
 use Rattle.lay_node.specs.reader.Types.{if_there, is_string_token, literal, if_read}
-use Rattle.lay_node.specs.reader.Use.{use_at}
 use Rattle.lay_node.specs.reader.Vis.{visibility}
 use Rattle.lay_node.specs.reader.Where.{wheres}
 use Rattle.lay_node.specs.reader.Words.{name}
@@ -26,7 +25,6 @@ use Rattle.lay_code.specs.reader.Blocks.{block_by}
 use Rattle.lay_code.specs.reader.ItemLeads.{ItemLead, OfExternCrate, OfImport, OfModule, OfFunction, OfAlias, OfStruct, OfUnion, OfEnum, OfValue, OfTrait, OfImpl, OfForeign, OfRules, OfCall, item_lead}
 use Rattle.lay_code.specs.reader.Within.{ExprWithin}
 use Rattle.lay_code.specs.declared.blocks.Block.{Block}
-use Rattle.lay_code.specs.declared.exprs.Expr.{Expr}
 use Rattle.lay_code.specs.declared.item.Item.{Item}
 use Rattle.lay_code.specs.declared.item.ItemKind.{ItemKind}
 use Rattle.lay_code.specs.declared.item.ItemKind.TheVariants as item
