@@ -13,7 +13,7 @@ use Rattle.lay_code.specs.nodes.Blocks.{attrs_before, block_form, dropped, dropp
 use Rattle.lay_code.specs.nodes.Code.{about_arm, about_block, about_branch, about_condition, about_expr, about_link, about_stmt, form_of_item}
 use Rattle.lay_code.specs.nodes.CodeFacts.{ArmFacts, BlockFacts, BranchFacts, ConditionFacts, LinkFacts, StmtFacts}
 use Rattle.lay_code.specs.nodes.Conditions.{condition_form, links_form}
-use Rattle.lay_code.specs.nodes.Exprs.{ExprFacts, arm_forms, branches_form, else_branch_form, more_branches, value_form}
+use Rattle.lay_code.specs.nodes.Exprs.{arm_forms, branches_form, else_branch_form, more_branches, value_form}
 use Rattle.lay_code.specs.declared.blocks.Arm.{Arm}
 use Rattle.lay_code.specs.declared.blocks.Block.{Block}
 use Rattle.lay_code.specs.declared.blocks.Branch.{Branch}

@@ -1,17 +1,16 @@
 -- Which expressions end in a `}` or in a closure, kind by kind.
-use Rattle.std.proofs.Common.{◌≡◌, ℕ, ◌-◌, ◌&&◌, ◌||◌, not, Bool, true, false, List, [], ◌∷◌, ◌++◌, length, map, codes, Option, option_map, Some, None, is_some, refl, sym, ap, subst, ◌∙◌, arith}
+use Rattle.std.proofs.Common.{◌≡◌, ℕ, ◌-◌, ◌&&◌, ◌||◌, Bool, true, false, List, [], ◌∷◌, ◌++◌, length, map, codes, Option, option_map, Some, None, refl, sym, ap, subst, ◌∙◌, arith}
 use Rattle.std.specs.Prelude.{slice_get, nat_le, ◌==◌}
 use Rattle.std.proofs.lemmas.Bool.{eqb-true}
 use Rattle.lay_piece.specs.declared.kind.Delim.TheVariants.{Paren}
-use Rattle.lay_form.specs.Form.{Bit, Blank, Operator, Form, Done, Piece, Part, keyword, opener, closer}
+use Rattle.lay_form.specs.Form.{Blank, Operator, Form, Done, Piece, Part, keyword, opener, closer}
 use Rattle.lay_form.specs.Notation.{I0, body, braces}
 use Rattle.lay_node.specs.Words.{leaf_of}
 use Rattle.lay_node.specs.nodes.Attr.{attr_form}
 use Rattle.lay_node.specs.nodes.Facts.{Facts}
 use Rattle.lay_node.specs.nodes.Fields.{blank_if}
 use Rattle.lay_node.specs.nodes.Patterns.{about_pat, dots, pat_form}
-use Rattle.lay_node.specs.nodes.Types.{TypeFacts, about_path, about_type}
-use Rattle.lay_node.specs.declared.attr.Attr.{Attr}
+use Rattle.lay_node.specs.nodes.Types.{about_path, about_type}
 use Rattle.lay_node.specs.declared.patterns.PatPlace.TheVariants.{Alternatives}
 use Rattle.lay_node.specs.declared.token.Lifetime.{Lifetime}
 use Rattle.lay_node.specs.declared.token.Literal.{Literal}
@@ -19,11 +18,11 @@ use Rattle.lay_node.specs.declared.tokens.MacroCall.{MacroCall}
 use Rattle.lay_node.specs.declared.types.Path.{Path}
 use Rattle.lay_node.specs.declared.types.PathStyle.TheVariants.{Code}
 use Rattle.lay_node.specs.declared.types.Ty.{Ty}
-use Rattle.lay_code.specs.nodes.Blocks.{attrs_before, block_form, dropped_if, is_plain, stmt_form}
+use Rattle.lay_code.specs.nodes.Blocks.{attrs_before, dropped_if, is_plain, stmt_form}
 use Rattle.lay_code.specs.nodes.Code.{about_arm, about_block, about_branch, about_condition, about_expr, about_field_expr, about_step, about_stmt}
 use Rattle.lay_code.specs.nodes.CodeFacts.{BlockFacts, BranchFacts}
 use Rattle.lay_code.specs.nodes.Ends.{brace_bits, brace_behind, ends_in_brace, is_brace_kind}
-use Rattle.lay_code.specs.nodes.Exprs.{ExprFacts, StepFacts, Tail, args_form, arm_forms, bar, base_form, break_if, closure_head, closure_param, else_branch_form, end_form, expr_forms, generics_form, group_if, inside, is_brace, is_field, is_method, labelled, methods, more_branches, operands_form, prefix_bits, prefixes_form, steps_form, tail_of_end, tail_of_jump, tail_of_operands, tail_of_steps, targets_form, types_form}
+use Rattle.lay_code.specs.nodes.Exprs.{ExprFacts, StepFacts, args_form, arm_forms, bar, base_form, break_if, closure_head, closure_param, else_branch_form, end_form, expr_forms, generics_form, group_if, is_brace, is_field, is_method, labelled, methods, more_branches, operands_form, prefix_bits, prefixes_form, steps_form, tail_of_operands, tail_of_steps, targets_form, types_form}
 use Rattle.lay_code.specs.nodes.Layers.{ExprNode}
 use Rattle.lay_code.specs.declared.blocks.Block.{Block}
 use Rattle.lay_code.specs.declared.blocks.Branch.{Branch}
@@ -41,7 +40,7 @@ use Rattle.lay_code.proofs.nodes.ExprsLaws as laws
 use Rattle.lay_code.proofs.reader.ElseEnds.{soft_ends}
 use Rattle.lay_ops.proofs.Last.{last, last_is, no_last}
 use Rattle.lay_ends.specs.BraceEnds.{has_block}
-use Rattle.lay_ends.proofs.TypeBraces.{Ends, call_ends, list_ends, path_ends}
+use Rattle.lay_ends.proofs.TypeBraces.{Ends, call_ends, list_ends}
 
 -- ---- blocks
 

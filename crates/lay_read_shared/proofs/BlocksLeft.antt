@@ -1,5 +1,5 @@
 -- What reading of blocks, statements, arms and closures leaves: the tokens behind those that are read.
-use Rattle.std.proofs.Common.{ℕ, zero, suc, ◌||◌, Bool, true, false, List, [], ◌∷◌, drop, codes, Option, Some, None, is_some, if◌then◌else◌, arith}
+use Rattle.std.proofs.Common.{ℕ, suc, ◌||◌, Bool, true, false, List, [], ◌∷◌, drop, codes, Option, Some, None, is_some, if◌then◌else◌, arith}
 use Rattle.lay_piece.specs.declared.kind.Delim.TheVariants.{Brace}
 use Rattle.lay_token.specs.Operators.{is_op}
 use Rattle.lay_token.specs.declared.token.Token.{Token}

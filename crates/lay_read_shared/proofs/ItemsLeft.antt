@@ -1,5 +1,5 @@
 -- What reading of items leaves: the tokens behind those that are read.
-use Rattle.std.proofs.Common.{ℕ, zero, suc, ◌||◌, true, false, None, drop, codes, is_some, arith}
+use Rattle.std.proofs.Common.{ℕ, ◌||◌, true, false, None, drop, codes, is_some, arith}
 use Rattle.lay_piece.specs.declared.kind.Delim.TheVariants.{Brace}
 use Rattle.lay_node.specs.Ahead.{Tokens, first, tail, is_keyword, is_mark, opens, closes, more_items}
 use Rattle.lay_node.specs.reader.Attr.{attributes}
@@ -19,7 +19,7 @@ use Rattle.lay_code.specs.nodes.Code.{told_of_kind}
 use Rattle.lay_code.specs.nodes.Item.{is_inherited, may_be_bodied, may_be_valued}
 use Rattle.lay_code.specs.nodes.Places.{FREE}
 use Rattle.lay_code.specs.reader.Blocks.{block_by}
-use Rattle.lay_code.specs.reader.Code.{code_in, expr_at, item_at}
+use Rattle.lay_code.specs.reader.Code.{code_in, item_at}
 use Rattle.lay_code.specs.reader.Item as item
 use Rattle.lay_code.specs.reader.Item.{ItemWithin}
 use Rattle.lay_code.specs.reader.ItemLeads.{ItemLead, item_lead, OfAlias, OfCall, OfEnum, OfExternCrate, OfForeign, OfFunction, OfImpl, OfImport, OfModule, OfRules, OfStruct, OfTrait, OfUnion, OfValue}
