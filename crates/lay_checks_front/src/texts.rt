@@ -87,7 +87,7 @@ fn texts(rt: HostRuntime) -> Result<(), Fail> {
         "⇒§struct A;struct B;⇒struct A;\nstruct B;\n§{GENERATED}⇒{LAID}§{LAID}⇒{LAID}\
          §const A:B=async move|c|d+async||e;⇒const A: B = async move |c| d + async || e;\n\
          §fn f(){{if let A=b&&c{{}}}}⇒fn f() {{\n    if let A = b && c {{}}\n}}\n\
-         §fn f(){{if a{{}}else if b&&c&&let D|E=g{{h}}}}⇒fn f() {{\n    if a {{}} else if b && c && let D | E = g {{\n        h\n    }}\n}}\n\
+         §fn f(){{if a{{}}else if b&&c&&let D|E=g{{h}}}}⇒fn f() {{\n    if a {{}} else if b && c && let D | E = g {{ h }}\n}}\n\
          §fn f(){{'a:while let B=c&&let D=e{{}}}}⇒fn f() {{\n    'a: while let B = c && let D = e {{}}\n}}\n\
          §fn f(){{if if a&&let B=c{{}}else{{}}&&let D=e{{}}}}⇒fn f() {{\n    if if a && let B = c {{}} else {{}} && let D = e {{}}\n}}\n\
          §fn f(){{if x{{}}-if y&&let z=w{{}}else{{}};}}⇒fn f() {{\n    if x {{}}\n    -if y && let z = w {{}} else {{}};\n}}\n\
