@@ -4,13 +4,16 @@
 //! function that tells (`each`). `command` holds runs of the command (`runs`): its modes, its lines on `err`, reads and writes that fail,
 //! and how deep and how long a text may be. `hostile` holds runs over inputs that are cut off or malicious, and over reads and writes that
 //! fail in turn, and `memory` what is left where memory is wanting. `texts` holds texts of files, from their bytes and from their trees,
-//! and how deep files are, `samples` samples and their runs, `counts` the sink that counts. `spoilt` is a table of trees that can't be
-//! written, each for one reason, and beside each one that can, which differs from it in that alone (`made`); more of them than can be
-//! proved each stand under `tried/`. What texts are laid out to, and which are refused, stands under `cases/`.
+//! and how deep files are, `conditions` the links of conditions, `samples` samples and their runs, `counts` the sink that counts. `spoilt`
+//! is a table of trees that can't be written, each for one reason, and beside each one that can, which differs from it in that alone
+//! (`made`); more of them than can be proved each stand under `tried/`. What texts are laid out to, and which are refused, stands under
+//! `cases/`.
 #![tactic(auto)]
 
 #[cfg(test)]
 mod command;
+#[cfg(test)]
+mod conditions;
 #[cfg(test)]
 mod counts;
 #[cfg(test)]

@@ -203,7 +203,7 @@ fn one<T: Drop>(alloc: Global, node: T) -> Option<List<T>> {
 
 /// What a text stands for: a literal in a place of a literal, `_` in the place of what is captured, and else the expression that it
 /// reads to.
-fn node(alloc: Global, place: &str, text: &str) -> Option<Boxed<Expr>> {
+pub fn node(alloc: Global, place: &str, text: &str) -> Option<Boxed<Expr>> {
     if place == "captured" {
         return underscore(alloc);
     }
