@@ -1,5 +1,5 @@
 pub mod Chains
-pub mod Conditions
+pub mod ConditionSteps
 pub mod Fits
 pub mod Second
 pub mod Undressed

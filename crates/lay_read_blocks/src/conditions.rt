@@ -120,15 +120,17 @@ fn chain_of(
     ensures made { IfOk result (λ found. (found.node, found.need) ≡ chain_found first.node first.need more.node more.need) }
     ensures err { IfErr result (λ none. none ≡ ReadNone.NoMemory) }
 {
-    let (_, expr) = first.node;
-    if more.node.as_slice().is_empty() {
-        return Ok(Found {
-            node: expr,
-            need: first.need,
-        });
+    let Found { node: read, need } = first;
+    let Found {
+        node: links,
+        need: most,
+    } = more;
+    let (_, expr) = read;
+    if links.as_slice().is_empty() {
+        return Ok(Found { node: expr, need });
     }
-    let need = greater(first.need, more.need) + 1;
-    let rest = operands_of(alloc, more.node)?;
+    let need = greater(need, most) + 1;
+    let rest = operands_of(alloc, links)?;
     boxed_found(alloc, Expr::Chain { first: expr, rest }, need)
 }
 
@@ -150,7 +152,7 @@ fn alone(
 }
 
 impl<
-    P: Fn(Global, &mut Ahead<'_>, Place, u32) -> Result<Found<Boxed<Expr>>, ReadNone>,
+    P: Fn(Global, &mut Ahead<'_>, Place, u32) -> Result<Found<Boxed<Expr>>, ReadNone> + Copy,
     B: Fn(Global, &mut Ahead<'_>, u32) -> Result<Found<Block>, ReadNone>,
     I: Fn(Global, &mut Ahead<'_>, Site, u32) -> Result<Found<Item>, ReadNone>,
 > BlockRules<P, B, I> {
@@ -260,7 +262,7 @@ impl<
         let rules = ExprRules {
             alloc: self.alloc,
             depth: self.depth - 1,
-            exprs: &self.exprs,
+            exprs: self.exprs,
         };
         rules.climb(at, plain(0, true), 3, lhs)
     }
@@ -291,7 +293,7 @@ impl<
     }
 
     /// The condition whose first link this is.
-    #[tactic(auto, using(crate::proofs::Conditions::condition_is))]
+    #[tactic(auto, using(crate::proofs::ConditionSteps::condition_is))]
     #[inline(never)]
     fn condition_behind(
         &self,

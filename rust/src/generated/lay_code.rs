@@ -9,6 +9,7 @@
 //! `specs/reader/` holds the functions that code which reads is proved equal to. [`node_law`] and [`reading_law`] say what
 //! holds of every expression, item and file.
 pub mod blocks;
+pub mod conditions;
 mod drops;
 pub mod exprs;
 pub mod file;
@@ -16,6 +17,7 @@ pub mod item;
 mod laws;
 pub mod operators;
 pub use blocks::{Arm, Block, Branch, Stmt};
+pub use conditions::{Condition, Link};
 pub use exprs::{ClosureParam, Expr, FieldExpr, Place, Start, Step};
 pub use file::File;
 pub use item::{Item, ItemKind};

@@ -6,6 +6,7 @@
 //! [`file_depth`] counts it by one walk over the tree, in time that is linear in it, which takes as much of the stack as
 //! the tree is deep and no memory.
 mod blocks;
+mod conditions;
 mod exprs;
 mod files;
 mod items;

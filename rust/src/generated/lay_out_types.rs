@@ -1,7 +1,6 @@
 //! Made by scripts/rust.sh from crates/lay_out_types/src/lib.rt, which is proved: change that.
 //!
-//! How types, paths, generic arguments, bounds, generic parameters, where clauses and patterns are
-//! laid out.
+//! How types, paths, generic arguments, bounds, generic parameters and where clauses are laid out.
 //!
 //! A call whose name begins with `put` appends to an [`Emit`](lay_stream::Emit) exactly the stream of the form that
 //! `lay_node` gives to its node, or stops where the `Emit` does.
@@ -13,20 +12,9 @@ pub mod calls;
 mod generics;
 pub mod lists;
 pub mod parts;
-mod patterns;
 mod types;
 mod wheres;
 pub use generics::{add_asked, add_default, put_generics};
-pub use patterns::{
-    add_attrs,
-    add_brace,
-    add_closing_brace,
-    add_dots_behind,
-    add_group,
-    add_pat,
-    is_pointed,
-    put_pat,
-};
 pub use types::{
     add_angles,
     add_path,

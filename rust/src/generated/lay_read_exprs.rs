@@ -1,6 +1,7 @@
 //! Made by scripts/rust.sh from crates/lay_read_exprs/src/lib.rt, which is proved: change that.
 //!
-//! From nested tokens to expressions: each rule by itself, over a function that reads expressions one level deeper.
+//! From nested tokens to expressions: each rule by itself, over a function that reads expressions one level deeper, and the
+//! operators behind an expression, by precedence climbing.
 //!
 //! Each rule is proved equal to a function of the tokens ahead that `lay_code` defines, and that function reads what is
 //! spelled and nothing else.
@@ -9,6 +10,7 @@
 //! each rule is kept small (docs/DECISIONS.md, "Trees").
 mod assigns;
 mod casts;
+pub mod climb;
 mod groups;
 mod heads;
 mod jumps;

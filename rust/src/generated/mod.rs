@@ -21,6 +21,7 @@ pub mod lay_ops;
 pub mod lay_out_code;
 pub mod lay_out_exprs;
 pub mod lay_out_heads;
+pub mod lay_out_pats;
 pub mod lay_out_tokens;
 pub mod lay_out_types;
 pub mod lay_piece;

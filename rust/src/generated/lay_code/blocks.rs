@@ -1,6 +1,7 @@
 //! Made by scripts/rust.sh from crates/lay_code/src/blocks.rt, which is proved: change that.
 //!
 //! Blocks, statements, and the arms of a match.
+use crate::generated::lay_code::conditions::Condition;
 use crate::generated::lay_code::drops::{
     discard_boxed,
     discard_boxed_item,
@@ -54,18 +55,16 @@ impl Stmt {
         }
     }
 }
-/// A condition, which may be a pattern and what it is matched with, and the block that it leads to (Rust Reference, "`if` and
-/// `if let` expressions").
+/// A condition, and the block that it leads to (Rust Reference, "`if` and `if let` expressions").
 pub struct Branch {
-    pub pat: Option<Pat>,
-    pub condition: Boxed<Expr>,
+    pub condition: Condition,
     pub body: Block,
 }
 impl Branch {
-    /// Its pattern if it has one, its condition, and its block.
-    pub fn into_parts(self) -> (Option<Pat>, Boxed<Expr>, Block) {
-        let Branch { pat, condition, body } = self;
-        (pat, condition, body)
+    /// Its condition and its block.
+    pub fn into_parts(self) -> (Condition, Block) {
+        let Branch { condition, body } = self;
+        (condition, body)
     }
 }
 /// An arm of a match (Rust Reference, "Match expressions").

@@ -5,6 +5,7 @@
 //! What a pattern leaves would be dropped in line where its arm ends, over flags that tell what has moved. That code is dear to
 //! prove, so the nodes take themselves apart whole, and hand on each part.
 use crate::generated::lay_code::blocks::{Arm, Block, Branch, Stmt};
+use crate::generated::lay_code::conditions::Link;
 use crate::generated::lay_code::exprs::{Expr, FieldExpr, Step};
 use crate::generated::lay_code::item::{Item, ItemKind};
 use crate::generated::lay_code::operators::Op;
@@ -71,6 +72,14 @@ pub(crate) fn discard_steps(nodes: List<Step>) {
 }
 /// Each of these.
 pub(crate) fn discard_branches(nodes: List<Branch>) {
+    let mut left = nodes.into_vec();
+    while let Some(node) = left.pop() {
+        drop(node);
+    }
+    left.destroy_empty();
+}
+/// Each of these.
+pub(crate) fn discard_links(nodes: List<Link>) {
     let mut left = nodes.into_vec();
     while let Some(node) = left.pop() {
         drop(node);

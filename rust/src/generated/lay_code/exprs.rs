@@ -2,6 +2,7 @@
 //!
 //! Expressions, and the places where they stand.
 use crate::generated::lay_code::blocks::{Arm, Block, Branch};
+use crate::generated::lay_code::conditions::Condition;
 use crate::generated::lay_code::drops::{
     discard_arms,
     discard_base,
@@ -158,11 +159,10 @@ pub enum Expr {
         label: Option<Lifetime>,
         body: Block,
     },
-    /// `'a: while b { c }`, `while let b = c { d }`
+    /// `'a: while b { c }`, `while let b = c && d { e }`
     While {
         label: Option<Lifetime>,
-        pat: Option<Pat>,
-        condition: Boxed<Expr>,
+        condition: Condition,
         body: Block,
     },
     /// `'a: for b in c { d }`

@@ -1,11 +1,11 @@
 //! Made by scripts/rust.sh from crates/lay_depth/src/blocks.rt, which is proved: change that.
 //!
 //! Blocks, statements, branches and arms.
+use crate::generated::lay_depth::conditions::condition_depth;
 use crate::generated::lay_depth::exprs::{expr_depth, operand_depth};
 use crate::generated::lay_depth::items::item_depth;
 use crate::generated::lay_code::{Arm, Block, Branch, Stmt};
 use crate::generated::lay_depth_nodes::{deeper, pat_depth, type_or_none_depth};
-use crate::generated::lay_node::Pat;
 /// The depth of a block: that of its deepest statement.
 pub(crate) fn block_depth(block: &Block) -> u32 {
     let mut most = 0u32;
@@ -40,10 +40,9 @@ fn stmt_depth(stmt: &Stmt) -> u32 {
 pub(crate) fn branches_depth(branches: &[Branch]) -> u32 {
     let mut most = 0u32;
     for branch in branches {
-        let head = pat_or_none_depth(
-            &branch.pat,
-        ).max(expr_depth(branch.condition.get()));
-        most = most.max(head.max(block_depth(&branch.body)));
+        most = most.max(
+            condition_depth(&branch.condition).max(block_depth(&branch.body)),
+        );
     }
     most
 }
@@ -55,11 +54,4 @@ pub(crate) fn arms_depth(arms: &[Arm]) -> u32 {
         most = most.max(head.max(deeper(expr_depth(arm.body.get()))));
     }
     most
-}
-/// The depth of a pattern that may be left out: 0 where it is.
-pub(crate) fn pat_or_none_depth(pat: &Option<Pat>) -> u32 {
-    match pat {
-        Some(pat) => pat_depth(pat),
-        None => 0,
-    }
 }

@@ -6,8 +6,8 @@ use crate::generated::lay_depth::blocks::{
     block_depth,
     block_or_none_depth,
     branches_depth,
-    pat_or_none_depth,
 };
+use crate::generated::lay_depth::conditions::condition_depth;
 use crate::generated::lay_code::{ClosureParam, Expr, FieldExpr, Op, Step};
 use crate::generated::lay_depth_nodes::{
     arguments_depth,
@@ -61,9 +61,8 @@ pub(crate) fn expr_depth(expr: &Expr) -> u32 {
         Expr::Match { scrutinee, arms, .. } => {
             deeper(expr_depth(scrutinee.get()).max(arms_depth(arms.as_slice())))
         }
-        Expr::While { pat, condition, body, .. } => {
-            let head = pat_or_none_depth(pat).max(expr_depth(condition.get()));
-            deeper(head.max(block_depth(body)))
+        Expr::While { condition, body, .. } => {
+            deeper(condition_depth(condition).max(block_depth(body)))
         }
         Expr::For { pat, iterated, body, .. } => {
             let head = pat_depth(pat).max(expr_depth(iterated.get()));

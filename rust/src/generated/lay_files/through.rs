@@ -6,12 +6,11 @@ use crate::generated::lay_files::reading::{DEPTH, FileError, placed, read_tokens
 use crate::generated::lay_files::writing::bytes_of;
 use crate::generated::lay_io::Sink;
 use crate::generated::lay_lex::{Source, normalise};
-use crate::generated::lay_out_tokens::HARD_BREAK;
+use crate::generated::lay_out_code::put_shebang;
 use crate::generated::lay_printer::{Core, Press, PrintError};
 use crate::generated::lay_read_tokens::ReadNone;
-use crate::generated::lay_stream::Emit;
 use crate::generated::lay_through::{NotPut, put_source, told};
-use crate::generated::lay_token::{List, NoMemory, Text};
+use crate::generated::lay_token::{List, NoMemory};
 use crate::shims::Global;
 /// The text of the one file that the bytes read to, or their refusal and its place.
 ///
@@ -60,16 +59,4 @@ fn write_source<
     told(put_shebang(&mut press, &source.shebang))?;
     put_source(alloc, source, DEPTH, &mut press)?;
     told(press.finish())
-}
-/// The first line, if it is a shebang.
-fn put_shebang<E: Emit>(out: &mut E, shebang: &Option<Text>) -> Result<(), E::Fault> {
-    match shebang {
-        None => Ok(()),
-        Some(line) => put_line(out, line.as_bytes()),
-    }
-}
-/// A text, with a newline behind it.
-fn put_line<E: Emit>(out: &mut E, line: &[u8]) -> Result<(), E::Fault> {
-    out.text(line)?;
-    out.brk(HARD_BREAK)
 }

@@ -42,14 +42,14 @@ fn are_balanced(alloc: Global, tokens: &[Listed]) -> Result<bool, NoMemory> {
 }
 /// Opens what a token opens, or closes what it closes, where these delimiters are open before it, the last one last. Answers
 /// whether it may stand there.
-fn turn(open: &mut Vec<Delim>, token: &Listed) -> Result<bool, NoMemory> {
+fn turn(opened: &mut Vec<Delim>, token: &Listed) -> Result<bool, NoMemory> {
     match token {
         Listed::Token { kind: Kind::Opener(delim), .. } => {
-            open.push(*delim)?;
+            opened.push(*delim)?;
             Ok(true)
         }
         Listed::Token { kind: Kind::Closer(delim), .. } => {
-            Ok(open.pop() == Some(*delim))
+            Ok(opened.pop() == Some(*delim))
         }
         _ => Ok(true),
     }

@@ -10,10 +10,10 @@ use crate::generated::lay_out_exprs::flags::both;
 use crate::generated::lay_out_heads::add_self_type;
 use crate::generated::lay_out_heads::calls::add_break;
 use crate::generated::lay_out_heads::loops::{close_body, open_body};
+use crate::generated::lay_out_pats::{add_attrs, add_pat};
 use crate::generated::lay_out_tokens::HARD_BREAK;
 use crate::generated::lay_out_tokens::notation::{NEVER_BREAK, SPACE_BREAK};
 use crate::generated::lay_out_types::calls::{add_either, add_if, add_text};
-use crate::generated::lay_out_types::{add_attrs, add_pat};
 use crate::generated::lay_stream::Emit;
 /// Feeds the layout of a block, whose braces have a leading blank or not.
 pub fn put_block<

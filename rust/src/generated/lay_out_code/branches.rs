@@ -1,34 +1,29 @@
 //! Made by scripts/rust.sh from crates/lay_out_code/src/branches.rt, which is proved: change that.
 //!
-//! Conditions, branches and arms.
+//! Branches and arms.
 use crate::generated::lay_out_code::blocks::add_soft;
+use crate::generated::lay_out_code::conditions::add_condition;
 use crate::generated::lay_out_code::exprs::add_expr;
 use crate::generated::lay_out_code::items::add_inner_attrs;
-use crate::generated::lay_code::{Arm, Attr, Block, Boxed, Branch, Expr, Pat};
+use crate::generated::lay_code::{Arm, Attr, Block, Boxed, Branch, Expr};
 use crate::generated::lay_out_exprs::arms::{arm_body, close_arm, open_arm};
 use crate::generated::lay_out_exprs::blocks::{add_condition_lead, add_else_word};
 use crate::generated::lay_out_exprs::flags::both;
 use crate::generated::lay_out_heads::calls::add_break;
 use crate::generated::lay_out_heads::loops::{close_body, open_body};
+use crate::generated::lay_out_pats::{add_attrs, add_group, add_pat};
 use crate::generated::lay_out_tokens::HARD_BREAK;
 use crate::generated::lay_out_tokens::notation::NEVER_BREAK;
 use crate::generated::lay_out_types::calls::add_text;
 use crate::generated::lay_out_types::lists::add_end;
-use crate::generated::lay_out_types::{add_attrs, add_group, add_pat};
 use crate::generated::lay_stream::Emit;
-/// A condition behind its word, in a group of its own. It may be what a pattern is matched with.
-pub fn add_condition<
+/// What is matched, behind its word, in a group of its own.
+pub fn add_scrutinee<
     E: Emit,
->(
-    out: &mut E,
-    before: Result<(), E::Fault>,
-    word: &[u8],
-    pat: &Option<Pat>,
-    condition: &Expr,
-) -> Result<(), E::Fault> {
-    let lead = add_condition_lead(out, before, word, pat);
-    let condition = add_expr(out, lead, false, condition);
-    add_end(out, condition)
+>(out: &mut E, before: Result<(), E::Fault>, scrutinee: &Expr) -> Result<(), E::Fault> {
+    let lead = add_condition_lead(out, before, b"match ");
+    let scrutinee = add_expr(out, lead, false, scrutinee);
+    add_end(out, scrutinee)
 }
 /// Branches, with `else` between them.
 pub fn add_branches<
@@ -41,7 +36,7 @@ pub fn add_branches<
     let mut done = before;
     for (index, branch) in branches.iter().enumerate() {
         done = add_else_word(out, done, index == 0);
-        done = add_condition(out, done, b"if ", &branch.pat, branch.condition.get());
+        done = add_condition(out, done, b"if ", &branch.condition);
         done = add_soft(out, done, &branch.body);
     }
     done

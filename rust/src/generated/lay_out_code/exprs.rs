@@ -5,9 +5,10 @@ use crate::generated::lay_out_code::blocks::{add_block, add_soft};
 use crate::generated::lay_out_code::branches::{
     add_arms,
     add_branches,
-    add_condition,
     add_else,
+    add_scrutinee,
 };
+use crate::generated::lay_out_code::conditions::add_condition;
 use crate::generated::lay_out_code::operands::{
     add_base,
     add_fields,
@@ -26,6 +27,12 @@ use crate::generated::lay_out_exprs::steps::{
     add_steps_start,
     are_several_methods,
 };
+use crate::generated::lay_out_pats::{
+    add_closing_brace,
+    add_dots_behind,
+    add_group,
+    add_pat,
+};
 use crate::generated::lay_out_types::calls::{
     add_call,
     add_if,
@@ -34,14 +41,7 @@ use crate::generated::lay_out_types::calls::{
     add_tokens,
 };
 use crate::generated::lay_out_types::lists::{add_begin, add_close, add_end, add_lead};
-use crate::generated::lay_out_types::{
-    add_closing_brace,
-    add_dots_behind,
-    add_group,
-    add_pat,
-    add_path,
-    add_type,
-};
+use crate::generated::lay_out_types::{add_path, add_type};
 use crate::generated::lay_stream::Emit;
 /// Feeds the layout of an expression.
 pub fn put_expr<E: Emit>(out: &mut E, node: &Expr) -> Result<(), E::Fault> {
@@ -154,7 +154,7 @@ pub fn add_expr<
             add_else(out, branches, otherwise)
         }
         Expr::Match { scrutinee, attrs, arms } => {
-            let head = add_condition(out, before, b"match ", &None, scrutinee.get());
+            let head = add_scrutinee(out, before, scrutinee.get());
             add_arms(out, head, attrs.as_slice(), arms.as_slice())
         }
         Expr::Loop { label, body } => {
@@ -162,9 +162,9 @@ pub fn add_expr<
             let word = add_text(out, label, b"loop");
             add_block(out, word, true, body)
         }
-        Expr::While { label, pat, condition, body } => {
+        Expr::While { label, condition, body } => {
             let label = add_labelled(out, before, label);
-            let head = add_condition(out, label, b"while ", pat, condition.get());
+            let head = add_condition(out, label, b"while ", condition);
             add_block(out, head, true, body)
         }
         Expr::For { label, pat, iterated, body } => {

@@ -3,8 +3,8 @@
 //! Files.
 use crate::generated::lay_out_code::items::put_item;
 use crate::generated::lay_code::{File, Item};
+use crate::generated::lay_out_pats::add_attrs;
 use crate::generated::lay_out_tokens::HARD_BREAK;
-use crate::generated::lay_out_types::add_attrs;
 use crate::generated::lay_stream::Emit;
 use crate::generated::lay_text::Text;
 /// Feeds the layout of a file: its first line, if it is a shebang, its attributes and its items, each with a newline
@@ -14,8 +14,10 @@ pub fn put_file<E: Emit>(out: &mut E, file: &File) -> Result<(), E::Fault> {
     add_attrs(out, Ok(()), file.attrs.as_slice())?;
     put_items(out, file.items.as_slice())
 }
-/// The first line, if it is a shebang.
-fn put_shebang<E: Emit>(out: &mut E, shebang: &Option<Text>) -> Result<(), E::Fault> {
+/// Feeds the layout of the first line of a file, if it is a shebang: the line, with a newline behind it.
+pub fn put_shebang<
+    E: Emit,
+>(out: &mut E, shebang: &Option<Text>) -> Result<(), E::Fault> {
     match shebang {
         None => Ok(()),
         Some(line) => put_line(out, line.as_bytes()),

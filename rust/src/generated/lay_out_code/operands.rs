@@ -7,9 +7,9 @@ use crate::generated::lay_out_exprs::add_generics;
 use crate::generated::lay_out_exprs::flags::either;
 use crate::generated::lay_out_exprs::operators::{add_assignment, add_operator};
 use crate::generated::lay_out_exprs::steps::{add_step_break, is_method};
+use crate::generated::lay_out_pats::{add_attrs, add_brace};
 use crate::generated::lay_out_types::calls::{add_either, add_text, add_word};
 use crate::generated::lay_out_types::lists::{add_close, add_lead};
-use crate::generated::lay_out_types::{add_attrs, add_brace};
 use crate::generated::lay_stream::Emit;
 /// The fields of a struct literal, behind what opens their braces.
 pub fn add_fields<

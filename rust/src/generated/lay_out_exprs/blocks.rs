@@ -4,10 +4,10 @@
 use crate::generated::lay_out_exprs::flags::both;
 use crate::generated::lay_code::{Attr, Block, Lifetime, Pat, Stmt};
 use crate::generated::lay_out_heads::calls::add_break;
-use crate::generated::lay_out_tokens::notation::CLOSING_SPACE_BREAK;
+use crate::generated::lay_out_pats::{add_group, add_pat};
+use crate::generated::lay_out_tokens::notation::{CLOSING_SPACE_BREAK, SPACE_BREAK};
 use crate::generated::lay_out_types::calls::add_text;
 use crate::generated::lay_out_types::lists::add_end;
-use crate::generated::lay_out_types::{add_group, add_pat};
 use crate::generated::lay_stream::Emit;
 /// A label before a loop or a block, if there is one.
 pub fn add_labelled<
@@ -25,25 +25,27 @@ pub fn add_labelled<
         }
     }
 }
-/// What stands before a condition: what opens its group, the word, and a pattern that it is matched with, if there is one.
+/// What stands before a condition: what opens its group, and the word.
 pub fn add_condition_lead<
     E: Emit,
->(
-    out: &mut E,
-    before: Result<(), E::Fault>,
-    word: &[u8],
-    pat: &Option<Pat>,
-) -> Result<(), E::Fault> {
+>(out: &mut E, before: Result<(), E::Fault>, word: &[u8]) -> Result<(), E::Fault> {
     let group = add_group(out, before);
-    let word = add_text(out, group, word);
-    match pat {
-        None => word,
-        Some(pat) => {
-            let word = add_text(out, word, b"let ");
-            let pat = add_pat(out, word, pat);
-            add_text(out, pat, b" = ")
-        }
-    }
+    add_text(out, group, word)
+}
+/// What stands before a value that is matched with a pattern: the word `let`, the pattern and an `=`.
+pub fn add_let_lead<
+    E: Emit,
+>(out: &mut E, before: Result<(), E::Fault>, pat: &Pat) -> Result<(), E::Fault> {
+    let word = add_text(out, before, b"let ");
+    let pat = add_pat(out, word, pat);
+    add_text(out, pat, b" = ")
+}
+/// What stands between two links of a condition: a break, and the operator with its blank.
+pub fn add_link_lead<
+    E: Emit,
+>(out: &mut E, before: Result<(), E::Fault>) -> Result<(), E::Fault> {
+    let line = add_break(out, before, SPACE_BREAK);
+    add_text(out, line, b"&& ")
 }
 /// What stands before a branch: the word `else`, unless it is the first one.
 pub fn add_else_word<

@@ -3,7 +3,7 @@
 //! What stands before the body of a closure.
 use crate::generated::lay_code::ClosureParam;
 use crate::generated::lay_out_heads::add_self_type;
-use crate::generated::lay_out_types::add_pat;
+use crate::generated::lay_out_pats::add_pat;
 use crate::generated::lay_out_types::calls::add_if;
 use crate::generated::lay_out_types::lists::{add_close, add_lead};
 use crate::generated::lay_out_types::parts::add_param_attrs;

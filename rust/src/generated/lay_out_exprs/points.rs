@@ -3,7 +3,7 @@
 //! Which expressions end in a point: the last one of a number, or a `..`.
 use crate::generated::lay_out_exprs::flags::both;
 use crate::generated::lay_code::{Boxed, Expr, Path, PathStart};
-use crate::generated::lay_out_types::is_pointed;
+use crate::generated::lay_out_pats::is_pointed;
 /// Whether an expression ends in a point. The flag says that one stands before it: what is empty, as nothing is that was
 /// read, leaves that point at the end.
 pub fn ends_in_point(point: bool, node: &Expr) -> bool {

@@ -4,8 +4,9 @@
 use crate::generated::lay_out_heads::loops::{Part, add_braces, add_parens};
 use crate::generated::lay_out_heads::vis::add_vis;
 use crate::generated::lay_node::{Field, Fields, Tokens, TupleField, Variant};
+use crate::generated::lay_out_pats::add_attrs;
+use crate::generated::lay_out_types::add_type;
 use crate::generated::lay_out_types::calls::{add_text, add_tokens, add_word};
-use crate::generated::lay_out_types::{add_attrs, add_type};
 use crate::generated::lay_stream::Emit;
 /// Feeds the layout of fields: in parentheses, or in braces with a leading blank or without it. It is nothing without
 /// fields.

@@ -4,9 +4,10 @@
 use crate::generated::lay_out_heads::calls::add_generics;
 use crate::generated::lay_out_heads::loops::{Part, add_parens};
 use crate::generated::lay_node::{FnHead, Param, ParamKind, Safety, Ty};
+use crate::generated::lay_out_pats::add_pat;
+use crate::generated::lay_out_types::add_type;
 use crate::generated::lay_out_types::calls::{add_if, add_text, add_word};
 use crate::generated::lay_out_types::parts::{add_abi, add_param_attrs, add_reference};
-use crate::generated::lay_out_types::{add_pat, add_type};
 use crate::generated::lay_stream::Emit;
 /// Feeds the layout of the head of a function.
 pub fn put_fn_head<E: Emit>(out: &mut E, head: &FnHead) -> Result<(), E::Fault> {

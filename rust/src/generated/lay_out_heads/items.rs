@@ -16,9 +16,10 @@ use crate::generated::lay_node::{
     Vis,
     Wheres,
 };
+use crate::generated::lay_out_pats::add_group;
 use crate::generated::lay_out_types::calls::{add_text, add_word};
 use crate::generated::lay_out_types::lists::add_end;
-use crate::generated::lay_out_types::{add_asked, add_default, add_group};
+use crate::generated::lay_out_types::{add_asked, add_default};
 use crate::generated::lay_stream::Emit;
 /// Feeds the layout of a struct.
 pub fn put_struct<

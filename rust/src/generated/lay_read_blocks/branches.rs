@@ -1,6 +1,6 @@
 //! Made by scripts/rust.sh from crates/lay_read_blocks/src/branches.rt, which is proved: change that.
 //!
-//! Conditions, branches, and the expressions with conditions.
+//! Branches, and the expressions with conditions.
 use crate::generated::lay_read_blocks::rules::BlockRules;
 use crate::generated::lay_code::{
     Block,
@@ -9,7 +9,6 @@ use crate::generated::lay_code::{
     Expr,
     Item,
     Lifetime,
-    Pat,
     PatPlace,
     Place,
     Site,
@@ -41,51 +40,20 @@ fn branches_of(
     Ok(Found { node, need })
 }
 impl<
-    P: Fn(Global, &mut Ahead<'_>, Place, u32) -> Result<Found<Boxed<Expr>>, ReadNone>,
+    P: Fn(Global, &mut Ahead<'_>, Place, u32) -> Result<Found<Boxed<Expr>>, ReadNone>
+        + Copy,
     B: Fn(Global, &mut Ahead<'_>, u32) -> Result<Found<Block>, ReadNone>,
     I: Fn(Global, &mut Ahead<'_>, Site, u32) -> Result<Found<Item>, ReadNone>,
 > BlockRules<P, B, I> {
-    /// A condition, or a pattern and what it is matched with.
-    #[inline(never)]
-    pub fn condition_by(
-        &self,
-        at: &mut Ahead<'_>,
-    ) -> Result<Found<(Option<Pat>, Boxed<Expr>)>, ReadNone> {
-        if takes_keyword(at, b"let") {
-            return self.matched(at);
-        }
-        let found = self.expr(at, plain(0, true))?;
-        Ok(Found { need: found.need, node: (None, found.node) })
-    }
-    /// A pattern and what it is matched with.
-    #[inline(never)]
-    fn matched(
-        &self,
-        at: &mut Ahead<'_>,
-    ) -> Result<Found<(Option<Pat>, Boxed<Expr>)>, ReadNone> {
-        let pat = pat_ahead(self.alloc, at, PatPlace::Alternatives, self.depth)?;
-        if !takes_op(at, b"=") {
-            return refused(pat);
-        }
-        let (pat, found) = both(pat, self.expr(at, plain(4, true)))?;
-        Ok(
-            Found {
-                need: greater(pat.need, found.need),
-                node: (Some(pat.node), found.node),
-            },
-        )
-    }
     /// What stands behind an `if`.
     #[inline(never)]
     pub fn branch_by(&self, at: &mut Ahead<'_>) -> Result<Found<Branch>, ReadNone> {
         let condition = self.condition_by(at)?;
         let (condition, body) = both(condition, self.block_by(at))?;
-        let Found { node, need } = condition;
-        let (pat, condition) = node;
         Ok(
             Found {
-                need: greater(need, body.need),
-                node: Branch { pat, condition, body: body.node },
+                need: greater(condition.need, body.need),
+                node: Branch { condition: condition.node, body: body.node },
             },
         )
     }
@@ -153,8 +121,8 @@ impl<
     ) -> Result<Found<Boxed<Expr>>, ReadNone> {
         let (label, found) = both(label, self.branch_by(at))?;
         let Found { node, need } = found;
-        let (pat, condition, body) = node.into_parts();
-        boxed_found(self.alloc, Expr::While { label, pat, condition, body }, need + 1)
+        let (condition, body) = node.into_parts();
+        boxed_found(self.alloc, Expr::While { label, condition, body }, need + 1)
     }
     /// What stands behind `for`.
     #[inline(never)]

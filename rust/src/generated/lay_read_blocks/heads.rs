@@ -17,7 +17,8 @@ use crate::generated::lay_read_tokens::{Ahead, Found, ReadNone};
 use crate::generated::lay_token::Delim;
 use crate::shims::Global;
 impl<
-    P: Fn(Global, &mut Ahead<'_>, Place, u32) -> Result<Found<Boxed<Expr>>, ReadNone>,
+    P: Fn(Global, &mut Ahead<'_>, Place, u32) -> Result<Found<Boxed<Expr>>, ReadNone>
+        + Copy,
     B: Fn(Global, &mut Ahead<'_>, u32) -> Result<Found<Block>, ReadNone>,
     I: Fn(Global, &mut Ahead<'_>, Site, u32) -> Result<Found<Item>, ReadNone>,
 > BlockRules<P, B, I> {

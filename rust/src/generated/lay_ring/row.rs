@@ -35,6 +35,9 @@ pub struct Texts<'a> {
 }
 /// What stands for a size that isn't known yet.
 pub const UNKNOWN: i64 = -1;
+/// Once so many entries were taken, the full room is made for texts even where the first one serves: in that, room is asked
+/// for before each token.
+const MANY: u64 = 4096;
 /// What kind of token an entry is.
 #[derive(Clone, Copy,)]
 enum Kind {
@@ -54,8 +57,8 @@ struct SmallEntry {
     size: i64,
 }
 /// Entries as in a [`Ring`](crate::Ring), in little memory: each is of 24 bytes, and their texts stand one
-/// behind the other in room for 128 bytes, and once that is too little in room for 1,024. So texts are copied, and only
-/// `new` and `reserve` take memory. A text has at most 89 bytes.
+/// behind the other in room for 128 bytes, and once that is too little or many came in room for 1,024. So texts are
+/// copied, and only `new` and `reserve` take memory. A text has at most 89 bytes.
 pub struct Row {
     entries: Marks<SmallEntry>,
     /// The number of the first entry.
@@ -142,10 +145,13 @@ impl Row {
     #[inline(always)]
     pub fn reserve(&mut self, n: usize) -> Result<(), NoMemory> {
         self.entries.reserve(n)?;
-        if n <= self.spare() {
-            return Ok(());
+        if n > self.spare() {
+            return self.bytes.grow();
         }
-        self.bytes.grow()
+        if self.number >= MANY {
+            let _ = self.bytes.grow();
+        }
+        Ok(())
     }
     /// How many more entries there is room for.
     #[inline(always)]

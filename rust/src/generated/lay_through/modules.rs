@@ -4,7 +4,7 @@
 use crate::generated::lay_through::lines::{put_line_before, put_line_behind};
 use crate::generated::lay_out_heads::items::open_head;
 use crate::generated::lay_out_heads::loops::{close_body, open_body};
-use crate::generated::lay_out_types::add_attrs;
+use crate::generated::lay_out_pats::add_attrs;
 use crate::generated::lay_out_types::calls::{add_text, add_word};
 use crate::generated::lay_out_types::lists::add_end;
 use crate::generated::lay_stream::Emit;

@@ -6,10 +6,12 @@ use crate::generated::lay_code::{
     Arm,
     Block,
     Branch,
+    Condition,
     Expr,
     FieldExpr,
     Item,
     ItemKind,
+    Link,
     Op,
     Step,
     Stmt,
@@ -188,16 +190,14 @@ pub fn same_expr(expr: &Expr, other: &Expr) -> bool {
                 _ => false,
             }
         }
-        Expr::While { label, pat, condition, body } => {
+        Expr::While { label, condition, body } => {
             match other {
                 Expr::While {
                     label: other_label,
-                    pat: other_pat,
                     condition: other_condition,
                     body: other_body,
                 } => {
-                    label.same(other_label) && pat.same(other_pat)
-                        && same_expr(condition.get(), other_condition.get())
+                    label.same(other_label) && same_condition(condition, other_condition)
                         && same_block(body, other_body)
                 }
                 _ => false,
@@ -389,9 +389,30 @@ pub fn same_stmt(stmt: &Stmt, other: &Stmt) -> bool {
 }
 /// Whether two branches are equal.
 fn same_branch(branch: &Branch, other: &Branch) -> bool {
-    branch.pat.same(&other.pat)
-        && same_expr(branch.condition.get(), other.condition.get())
+    same_condition(&branch.condition, &other.condition)
         && same_block(&branch.body, &other.body)
+}
+/// Whether two conditions are equal.
+fn same_condition(condition: &Condition, other: &Condition) -> bool {
+    same_links(condition.links.as_slice(), other.links.as_slice())
+}
+/// Whether two links of conditions are equal.
+fn same_link(link: &Link, other: &Link) -> bool {
+    match link {
+        Link::Expr { expr } => {
+            matches!(
+                other, Link::Expr { expr: given } if same_expr(expr.get(), given.get())
+            )
+        }
+        Link::Let { pat, value } => {
+            match other {
+                Link::Let { pat: other_pat, value: other_value } => {
+                    pat.same(other_pat) && same_expr(value.get(), other_value.get())
+                }
+                _ => false,
+            }
+        }
+    }
 }
 /// Whether two arms are equal.
 pub fn same_arm(arm: &Arm, other: &Arm) -> bool {
@@ -563,6 +584,18 @@ fn same_branches(branches: &[Branch], others: &[Branch]) -> bool {
     }
     for (branch, other) in branches.iter().zip(others) {
         if !same_branch(branch, other) {
+            return false;
+        }
+    }
+    true
+}
+/// Whether the links of two conditions are equal.
+fn same_links(links: &[Link], others: &[Link]) -> bool {
+    if links.len() != others.len() {
+        return false;
+    }
+    for (link, other) in links.iter().zip(others) {
+        if !same_link(link, other) {
             return false;
         }
     }

@@ -1,6 +1,19 @@
-//! Made by scripts/rust.sh from crates/lay_out_types/src/patterns.rt, which is proved: change that.
+//! Made by scripts/rust.sh from crates/lay_out_pats/src/patterns.rt, which is proved: change that.
 //!
 //! Patterns.
+use crate::generated::lay_layout::Break;
+use crate::generated::lay_node::{
+    Attr,
+    FieldPat,
+    Literal,
+    Pat,
+    PatValue,
+    PathStyle,
+    SpanEnd,
+};
+use crate::generated::lay_out_tokens::notation::{CLOSING_SPACE_BREAK, SPACE_BREAK};
+use crate::generated::lay_out_tokens::{HARD_BREAK, put_bare_attr};
+use crate::generated::lay_out_types::add_path;
 use crate::generated::lay_out_types::calls::{
     add_call,
     add_either,
@@ -15,19 +28,6 @@ use crate::generated::lay_out_types::lists::{
     add_end,
     add_lead,
 };
-use crate::generated::lay_out_types::types::add_path;
-use crate::generated::lay_layout::Break;
-use crate::generated::lay_node::{
-    Attr,
-    FieldPat,
-    Literal,
-    Pat,
-    PatValue,
-    PathStyle,
-    SpanEnd,
-};
-use crate::generated::lay_out_tokens::notation::{CLOSING_SPACE_BREAK, SPACE_BREAK};
-use crate::generated::lay_out_tokens::{HARD_BREAK, put_bare_attr};
 use crate::generated::lay_piece::Kind;
 use crate::generated::lay_stream::Emit;
 /// Feeds the layout of a pattern.

@@ -1,5 +1,5 @@
 -- Conditions, from the links that are found.
-use Rattle.std.proofs.Common.{◌≡◌, ◌≤◌, ◌-◌, ◌<◌, ℕ, suc, true, List, [], ◌∷◌, map, Option, Some, None, Result, Ok, Err, IfOk, refl, sym, ap, ◌∙◌, ◌+◌, if◌then◌else◌, arith}
+use Rattle.std.proofs.Common.{◌≡◌, ◌≤◌, ◌-◌, ◌<◌, ℕ, suc, true, List, [], ◌∷◌, map, Some, None, Result, Ok, Err, IfOk, refl, sym, ap, ◌∙◌, ◌+◌, if◌then◌else◌, arith}
 use Rattle.std.specs.Prelude.{max}
 use Rattle.lay_node.specs.Ahead.{Tokens}
 use Rattle.lay_node.specs.reader.Loops.{Read, ◌>>=◌, nodes, deepest}

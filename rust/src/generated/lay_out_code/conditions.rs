@@ -1,0 +1,63 @@
+//! Made by scripts/rust.sh from crates/lay_out_code/src/conditions.rt, which is proved: change that.
+//!
+//! Conditions and their links.
+use crate::generated::lay_out_code::exprs::add_expr;
+use crate::generated::lay_code::{Condition, Link};
+use crate::generated::lay_out_exprs::blocks::{
+    add_condition_lead,
+    add_let_lead,
+    add_link_lead,
+};
+use crate::generated::lay_out_types::lists::{add_begin, add_end};
+use crate::generated::lay_stream::Emit;
+/// A condition behind its word, in a group of its own.
+pub fn add_condition<
+    E: Emit,
+>(
+    out: &mut E,
+    before: Result<(), E::Fault>,
+    word: &[u8],
+    condition: &Condition,
+) -> Result<(), E::Fault> {
+    let lead = add_condition_lead(out, before, word);
+    let links = add_links(out, lead, condition.links.as_slice());
+    add_end(out, links)
+}
+/// The links of a condition. Two or more are in a group of their own.
+fn add_links<
+    E: Emit,
+>(out: &mut E, before: Result<(), E::Fault>, links: &[Link]) -> Result<(), E::Fault> {
+    match links {
+        [] => before,
+        [link] => add_link(out, before, link),
+        [first, rest @ ..] => {
+            let group = add_begin(out, before);
+            let first = add_link(out, group, first);
+            let rest = add_further_links(out, first, rest);
+            add_end(out, rest)
+        }
+    }
+}
+/// The links behind the first one, each behind its `&&`.
+fn add_further_links<
+    E: Emit,
+>(out: &mut E, before: Result<(), E::Fault>, links: &[Link]) -> Result<(), E::Fault> {
+    let mut done = before;
+    for link in links {
+        done = add_link_lead(out, done);
+        done = add_link(out, done, link);
+    }
+    done
+}
+/// A link.
+fn add_link<
+    E: Emit,
+>(out: &mut E, before: Result<(), E::Fault>, link: &Link) -> Result<(), E::Fault> {
+    match link {
+        Link::Expr { expr } => add_expr(out, before, false, expr.get()),
+        Link::Let { pat, value } => {
+            let lead = add_let_lead(out, before, pat);
+            add_expr(out, lead, false, value.get())
+        }
+    }
+}

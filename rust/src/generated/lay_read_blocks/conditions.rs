@@ -1,0 +1,258 @@
+//! Made by scripts/rust.sh from crates/lay_read_blocks/src/conditions.rt, which is proved: change that.
+//!
+//! Conditions: links with `&&` between them.
+//!
+//! Links are read one by one. Where none of them is a `let`, they are the first operands of an expression, and the operators
+//! behind them are read from their level on.
+use crate::generated::lay_read_blocks::rules::BlockRules;
+use crate::generated::lay_code::{
+    Block,
+    Boxed,
+    Condition,
+    Expr,
+    Item,
+    Link,
+    Op,
+    Pat,
+    PatPlace,
+    Place,
+    Site,
+};
+use crate::generated::lay_ops::ahead::strength;
+use crate::generated::lay_ops::stands;
+use crate::generated::lay_read_exprs::ExprRules;
+use crate::generated::lay_read_parts::joins::{both, refused};
+use crate::generated::lay_read_parts::loops::Part;
+use crate::generated::lay_read_pats::pat_ahead;
+use crate::generated::lay_read_shared::boxes::boxed_found;
+use crate::generated::lay_read_shared::loops::{Going, read_parts};
+use crate::generated::lay_read_shared::places::{link_place, plain};
+use crate::generated::lay_read_tokens::found::greater;
+use crate::generated::lay_read_tokens::front::{pass_two, takes_keyword, takes_op};
+use crate::generated::lay_read_tokens::stop::{keep, room_for};
+use crate::generated::lay_read_tokens::{Ahead, Found, ReadNone};
+use crate::generated::lay_token::List;
+use crate::shims::Global;
+/// Links behind an `&&`, as parts that stand one behind another.
+pub struct Links;
+impl Part<(Option<Pat>, Boxed<Expr>), ()> for Links {}
+/// Whether a range without a start begins at the front.
+fn begins_dots(at: &Ahead<'_>) -> bool {
+    at.op_is(b"..") || at.op_is(b"..=")
+}
+/// Whether a link may end where the tokens ahead stand.
+fn link_ends(at: &Ahead<'_>, expr: &Expr) -> bool {
+    strength(at) != 4 || stands(expr, link_place(true))
+}
+/// Whether one of these links is a `let`.
+fn has_let(links: &[(Option<Pat>, Boxed<Expr>)]) -> bool {
+    for (pat, _) in links {
+        if pat.is_some() {
+            return true;
+        }
+    }
+    false
+}
+/// A link of the pattern behind its `let`, if it has one, and of its expression.
+fn linked(read: (Option<Pat>, Boxed<Expr>)) -> Link {
+    let (pat, expr) = read;
+    match pat {
+        Some(pat) => Link::Let { pat, value: expr },
+        None => Link::Expr { expr },
+    }
+}
+/// The condition of these links.
+#[inline(never)]
+fn condition_of(
+    alloc: Global,
+    first: (Option<Pat>, Boxed<Expr>),
+    more: List<(Option<Pat>, Boxed<Expr>)>,
+) -> Result<Condition, ReadNone> {
+    let mut links = List::new(alloc);
+    keep(&mut links, linked(first))?;
+    for link in more.into_vec() {
+        keep(&mut links, linked(link))?;
+    }
+    Ok(Condition { links })
+}
+/// The expressions of links without a `let`, each with the `&&` before it.
+fn operands_of(
+    alloc: Global,
+    links: List<(Option<Pat>, Boxed<Expr>)>,
+) -> Result<List<(Op, Boxed<Expr>)>, ReadNone> {
+    let links = links.into_vec();
+    let mut operands = room_for(alloc, links.len())?;
+    for (_, expr) in links {
+        keep(&mut operands, (Op::AndAnd, expr))?;
+    }
+    Ok(operands)
+}
+/// Links without a `let` as one expression.
+#[inline(never)]
+fn chain_of(
+    alloc: Global,
+    first: Found<(Option<Pat>, Boxed<Expr>)>,
+    more: Found<List<(Option<Pat>, Boxed<Expr>)>>,
+) -> Result<Found<Boxed<Expr>>, ReadNone> {
+    let Found { node: read, need } = first;
+    let Found { node: links, need: most } = more;
+    let (_, expr) = read;
+    if links.as_slice().is_empty() {
+        return Ok(Found { node: expr, need });
+    }
+    let need = greater(need, most) + 1;
+    let rest = operands_of(alloc, links)?;
+    boxed_found(alloc, Expr::Chain { first: expr, rest }, need)
+}
+/// An expression that was read, as a condition by itself.
+#[inline(never)]
+fn alone(
+    alloc: Global,
+    read: Result<Found<Boxed<Expr>>, ReadNone>,
+) -> Result<Found<Condition>, ReadNone> {
+    let found = read?;
+    let mut links = List::new(alloc);
+    keep(&mut links, Link::Expr { expr: found.node })?;
+    Ok(Found { need: found.need, node: Condition { links } })
+}
+impl<
+    P: Fn(Global, &mut Ahead<'_>, Place, u32) -> Result<Found<Boxed<Expr>>, ReadNone>
+        + Copy,
+    B: Fn(Global, &mut Ahead<'_>, u32) -> Result<Found<Block>, ReadNone>,
+    I: Fn(Global, &mut Ahead<'_>, Site, u32) -> Result<Found<Item>, ReadNone>,
+> BlockRules<P, B, I> {
+    /// What stands behind the `let` of a link.
+    #[inline(never)]
+    fn let_link(
+        &self,
+        at: &mut Ahead<'_>,
+    ) -> Result<Found<(Option<Pat>, Boxed<Expr>)>, ReadNone> {
+        let pat = pat_ahead(self.alloc, at, PatPlace::Alternatives, self.depth)?;
+        if !takes_op(at, b"=") {
+            return refused(pat);
+        }
+        let (pat, value) = both(pat, self.expr(at, plain(4, true)))?;
+        Ok(
+            Found {
+                need: greater(pat.need, value.need),
+                node: (Some(pat.node), value.node),
+            },
+        )
+    }
+    /// A link, whatever follows it.
+    #[inline(never)]
+    fn link_by(
+        &self,
+        at: &mut Ahead<'_>,
+    ) -> Result<Found<(Option<Pat>, Boxed<Expr>)>, ReadNone> {
+        if takes_keyword(at, b"let") {
+            return self.let_link(at);
+        }
+        let found = self.expr(at, plain(4, true))?;
+        Ok(Found { need: found.need, node: (None, found.node) })
+    }
+    /// A link.
+    #[inline(never)]
+    fn one_link(
+        &self,
+        at: &mut Ahead<'_>,
+    ) -> Result<Found<(Option<Pat>, Boxed<Expr>)>, ReadNone> {
+        let link = self.link_by(at)?;
+        if !link_ends(at, link.node.1.get()) {
+            return refused(link);
+        }
+        Ok(link)
+    }
+    /// A link and the `&&` before it.
+    #[inline(never)]
+    fn further_link(
+        &self,
+        at: &mut Ahead<'_>,
+        _place: (),
+    ) -> Result<Found<(Option<Pat>, Boxed<Expr>)>, ReadNone> {
+        pass_two(at);
+        self.one_link(at)
+    }
+    /// The links that follow the first one, each behind an `&&`.
+    #[inline(never)]
+    fn further_links(
+        &self,
+        at: &mut Ahead<'_>,
+    ) -> Result<Found<List<(Option<Pat>, Boxed<Expr>)>>, ReadNone> {
+        read_parts::<
+            Links,
+            BlockRules<P, B, I>,
+            (Option<Pat>, Boxed<Expr>),
+            (),
+            _,
+        >(
+            self.alloc,
+            at,
+            self.depth,
+            Going::Operands(3),
+            self,
+            BlockRules::further_link,
+            (),
+        )
+    }
+    /// What goes on with the first operands of an expression, whose level is that of an `&&`. Further operands are read one level
+    /// deeper than these, as those of every expression are.
+    #[inline(never)]
+    fn goes_on(
+        &self,
+        at: &mut Ahead<'_>,
+        lhs: Found<Boxed<Expr>>,
+    ) -> Result<Found<Boxed<Expr>>, ReadNone> {
+        if self.depth == 0 {
+            return refused(lhs);
+        }
+        let rules = ExprRules {
+            alloc: self.alloc,
+            depth: self.depth - 1,
+            exprs: self.exprs,
+        };
+        rules.climb(at, plain(0, true), 3, lhs)
+    }
+    /// The condition that these links are, or that begins with them.
+    #[inline(never)]
+    fn condition_found(
+        &self,
+        at: &mut Ahead<'_>,
+        first: Found<(Option<Pat>, Boxed<Expr>)>,
+        more: Found<List<(Option<Pat>, Boxed<Expr>)>>,
+    ) -> Result<Found<Condition>, ReadNone> {
+        if first.node.0.is_some() || has_let(more.node.as_slice()) {
+            let need = greater(first.need, more.need);
+            let node = condition_of(self.alloc, first.node, more.node)?;
+            return Ok(Found { node, need });
+        }
+        match chain_of(self.alloc, first, more) {
+            Ok(chain) => alone(self.alloc, self.goes_on(at, chain)),
+            Err(none) => Err(none),
+        }
+    }
+    /// The condition whose first link this is.
+    #[inline(never)]
+    fn condition_behind(
+        &self,
+        at: &mut Ahead<'_>,
+        first: Found<(Option<Pat>, Boxed<Expr>)>,
+    ) -> Result<Found<Condition>, ReadNone> {
+        let (first, more) = both(first, self.further_links(at))?;
+        self.condition_found(at, first, more)
+    }
+    /// A condition.
+    #[inline(never)]
+    pub fn condition_by(
+        &self,
+        at: &mut Ahead<'_>,
+    ) -> Result<Found<Condition>, ReadNone> {
+        if begins_dots(at) {
+            return alone(self.alloc, self.expr(at, plain(0, true)));
+        }
+        match self.one_link(at) {
+            Ok(first) => self.condition_behind(at, first),
+            Err(none) => Err(none),
+        }
+    }
+}
