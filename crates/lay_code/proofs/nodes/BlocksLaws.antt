@@ -1,4 +1,4 @@
--- What is told of blocks, statements, branches and arms.
+-- What is told of blocks, statements, conditions, branches and arms.
 use Rattle.std.proofs.Common.{◌≡◌, ℕ, Bool, List, map, Option, option_map, Some, None, sym, ap, ◌∙◌, subst}
 use Rattle.lay_node.specs.nodes.Facts.{Facts}
 use Rattle.lay_node.specs.declared.attr.Attr.{Attr}
@@ -10,18 +10,21 @@ use Rattle.lay_code.specs.nodes.CodeFacts.{ArmFacts, BlockFacts, BranchFacts, Co
 use Rattle.lay_code.specs.nodes.Conditions.{condition_facts, link_facts}
 use Rattle.lay_code.specs.nodes.Exprs.{ExprFacts, StepFacts, expr_facts, field_facts, step_facts}
 use Rattle.lay_code.specs.nodes.Item.{item_facts, kind_facts}
-use Rattle.lay_code.specs.nodes.Layers.{StmtNode}
+use Rattle.lay_code.specs.nodes.Layers.{LinkNode, StmtNode}
 use Rattle.lay_code.specs.declared.blocks.Arm.{Arm}
 use Rattle.lay_code.specs.declared.blocks.Block.{Block}
 use Rattle.lay_code.specs.declared.blocks.Branch.{Branch}
 use Rattle.lay_code.specs.declared.blocks.Stmt.{Stmt}
-use Rattle.lay_code.specs.declared.blocks.Stmt.TheFolds.{fold_out-Arm, fold_out-Block, fold_out-Branch}
-use Rattle.lay_code.specs.declared.blocks.Stmt.TheOpen.{Stmt-F}
+use Rattle.lay_code.specs.declared.blocks.Stmt.TheFolds.{fold_out-Arm, fold_out-Block, fold_out-Branch, fold_out-Condition}
+use Rattle.lay_code.specs.declared.blocks.Stmt.TheOpen.{Link-F, Stmt-F}
 use Rattle.lay_code.specs.declared.blocks.Stmt.TheVariants as stmt
 use Rattle.lay_code.specs.declared.blocks.Stmt.TheViews as views
+use Rattle.lay_code.specs.declared.conditions.Condition.{Condition}
+use Rattle.lay_code.specs.declared.conditions.Link.{Link}
+use Rattle.lay_code.specs.declared.conditions.Link.TheVariants as link
 use Rattle.lay_code.specs.declared.exprs.Expr.{Expr}
 use Rattle.lay_code.specs.declared.item.Item.{Item}
-use Rattle.lay_code.proofs.nodes.Layers.{stmt_is}
+use Rattle.lay_code.proofs.nodes.Layers.{link_is, stmt_is}
 
 -- which kind of statement it is
 pub data StmtView : Stmt → Type 0 where
@@ -65,7 +68,33 @@ pub block_is : (b : Block) → about_block b ≡ block_facts (record { attrs = b
 unfolding about_expr about_field_expr about_step about_stmt about_block about_branch about_condition about_link about_arm told_of_item told_of_kind
 block_is b = fold_out-Block StmtFacts LinkFacts ExprFacts Facts StepFacts KindFacts ArmFacts BlockFacts BranchFacts ConditionFacts ItemFacts stmt_facts link_facts expr_facts field_facts step_facts kind_facts arm_facts block_facts branch_facts condition_facts item_facts b
 
-pub branch_is : (b : Branch) → about_branch b ≡ branch_facts (record { pat = b.pat; condition = about_expr b.condition; body = about_block b.body })
+-- which kind of link it is
+pub data LinkView : Link → Type 0 where
+  IsExprLink : (x : Expr) → LinkView (link.Expr x)
+  IsLetLink : (pat : Pat) (x : Expr) → LinkView (link.Let pat x)
+
+link_layer : (layer : LinkNode) → LinkView (views.roll-Link layer)
+link_layer (Link-F.Link::Expr x) = subst LinkView (sym (views.rolls-Link::Expr x)) (IsExprLink x)
+link_layer (Link-F.Link::Let pat x) = subst LinkView (sym (views.rolls-Link::Let pat x)) (IsLetLink pat x)
+
+pub link_view : (x : Link) → LinkView x
+link_view x = subst LinkView (views.roll-out-Link x) (link_layer (views.out-Link x))
+
+pub link_expr_is : (x : Expr) → about_link (link.Expr x) ≡ link_facts (Link-F.Link::Expr (about_expr x))
+link_expr_is x =
+    ap about_link (sym (views.rolls-Link::Expr x))
+    ∙ link_is (Link-F.Link::Expr x)
+
+pub link_let_is : (pat : Pat) (x : Expr) → about_link (link.Let pat x) ≡ link_facts (Link-F.Link::Let pat (about_expr x))
+link_let_is pat x =
+    ap about_link (sym (views.rolls-Link::Let pat x))
+    ∙ link_is (Link-F.Link::Let pat x)
+
+pub condition_is : (c : Condition) → about_condition c ≡ condition_facts (record { links = map about_link c.links })
+unfolding about_expr about_field_expr about_step about_stmt about_block about_branch about_condition about_link about_arm told_of_item told_of_kind
+condition_is c = fold_out-Condition StmtFacts LinkFacts ExprFacts Facts StepFacts KindFacts ArmFacts BlockFacts BranchFacts ConditionFacts ItemFacts stmt_facts link_facts expr_facts field_facts step_facts kind_facts arm_facts block_facts branch_facts condition_facts item_facts c
+
+pub branch_is : (b : Branch) → about_branch b ≡ branch_facts (record { condition = about_condition b.condition; body = about_block b.body })
 unfolding about_expr about_field_expr about_step about_stmt about_block about_branch about_condition about_link about_arm told_of_item told_of_kind
 branch_is b = fold_out-Branch StmtFacts LinkFacts ExprFacts Facts StepFacts KindFacts ArmFacts BlockFacts BranchFacts ConditionFacts ItemFacts stmt_facts link_facts expr_facts field_facts step_facts kind_facts arm_facts block_facts branch_facts condition_facts item_facts b
 

@@ -10,12 +10,13 @@ use Rattle.lay_node.specs.declared.tokens.MacroCall.{MacroCall}
 use Rattle.lay_node.specs.declared.types.Arg.{Arg}
 use Rattle.lay_node.specs.declared.types.Path.{Path}
 use Rattle.lay_node.specs.declared.types.Ty.{Ty}
-use Rattle.lay_code.specs.nodes.Code.{about_expr, about_field_expr, about_step, about_arm, about_block, about_branch}
+use Rattle.lay_code.specs.nodes.Code.{about_arm, about_block, about_branch, about_condition, about_expr, about_field_expr, about_step}
 use Rattle.lay_code.specs.nodes.Exprs.{ExprFacts, expr_facts, field_facts, step_facts}
 use Rattle.lay_code.specs.nodes.Layers.{ExprNode, FieldNode, StepNode}
 use Rattle.lay_code.specs.declared.blocks.Arm.{Arm}
 use Rattle.lay_code.specs.declared.blocks.Block.{Block}
 use Rattle.lay_code.specs.declared.blocks.Branch.{Branch}
+use Rattle.lay_code.specs.declared.conditions.Condition.{Condition}
 use Rattle.lay_code.specs.declared.exprs.ClosureParam.{ClosureParam}
 use Rattle.lay_code.specs.declared.exprs.Expr.{Expr}
 use Rattle.lay_code.specs.declared.blocks.Stmt.TheOpen.{Expr-F, FieldExpr-F, Step-F}
@@ -55,7 +56,7 @@ pub data ExprView : Expr → Type 0 where
   IsIf : (branches : List Branch) (otherwise : Option Block) → ExprView (expr.If branches otherwise)
   IsMatch : (scrutinee : Expr) (attrs : List Attr) (arms : List Arm) → ExprView (expr.Match scrutinee attrs arms)
   IsLoop : (label : Option Lifetime) (body : Block) → ExprView (expr.Loop label body)
-  IsWhile : (label : Option Lifetime) (pat : Option Pat) (condition : Expr) (body : Block) → ExprView (expr.While label pat condition body)
+  IsWhile : (label : Option Lifetime) (condition : Condition) (body : Block) → ExprView (expr.While label condition body)
   IsFor : (label : Option Lifetime) (pat : Pat) (iterated : Expr) (body : Block) → ExprView (expr.For label pat iterated body)
   IsClosure : (is_async moves : Bool) (params : List ClosureParam) (body : Expr) → ExprView (expr.Closure is_async moves params body)
   IsTypedClosure : (is_async moves : Bool) (params : List ClosureParam) (output : Ty) (body : Block) → ExprView (expr.TypedClosure is_async moves params output body)
@@ -100,7 +101,7 @@ expr_layer (Expr-F.Async moves body) = subst ExprView (sym (views.rolls-Async mo
 expr_layer (Expr-F.If branches otherwise) = subst ExprView (sym (views.rolls-If branches otherwise)) (IsIf branches otherwise)
 expr_layer (Expr-F.Match scrutinee attrs arms) = subst ExprView (sym (views.rolls-Match scrutinee attrs arms)) (IsMatch scrutinee attrs arms)
 expr_layer (Expr-F.Loop label body) = subst ExprView (sym (views.rolls-Loop label body)) (IsLoop label body)
-expr_layer (Expr-F.While label pat condition body) = subst ExprView (sym (views.rolls-While label pat condition body)) (IsWhile label pat condition body)
+expr_layer (Expr-F.While label condition body) = subst ExprView (sym (views.rolls-While label condition body)) (IsWhile label condition body)
 expr_layer (Expr-F.For label pat iterated body) = subst ExprView (sym (views.rolls-For label pat iterated body)) (IsFor label pat iterated body)
 expr_layer (Expr-F.Closure is_async moves params body) = subst ExprView (sym (views.rolls-Closure is_async moves params body)) (IsClosure is_async moves params body)
 expr_layer (Expr-F.TypedClosure is_async moves params output body) = subst ExprView (sym (views.rolls-TypedClosure is_async moves params output body)) (IsTypedClosure is_async moves params output body)
@@ -272,10 +273,10 @@ expr_loop_is label body =
     ap about_expr (sym (views.rolls-Loop label body))
     ∙ expr_is (Expr-F.Loop label body)
 
-pub expr_while_is : (label : Option Lifetime) (pat : Option Pat) (condition : Expr) (body : Block) → about_expr (expr.While label pat condition body) ≡ expr_facts (Expr-F.While label pat (about_expr condition) (about_block body))
-expr_while_is label pat condition body =
-    ap about_expr (sym (views.rolls-While label pat condition body))
-    ∙ expr_is (Expr-F.While label pat condition body)
+pub expr_while_is : (label : Option Lifetime) (condition : Condition) (body : Block) → about_expr (expr.While label condition body) ≡ expr_facts (Expr-F.While label (about_condition condition) (about_block body))
+expr_while_is label condition body =
+    ap about_expr (sym (views.rolls-While label condition body))
+    ∙ expr_is (Expr-F.While label condition body)
 
 pub expr_for_is : (label : Option Lifetime) (pat : Pat) (iterated : Expr) (body : Block) → about_expr (expr.For label pat iterated body) ≡ expr_facts (Expr-F.For label pat (about_expr iterated) (about_block body))
 expr_for_is label pat iterated body =

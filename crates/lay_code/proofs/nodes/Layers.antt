@@ -5,9 +5,9 @@ use Rattle.lay_code.specs.nodes.Blocks.{arm_facts, block_facts, branch_facts, st
 use Rattle.lay_code.specs.nodes.Code.{about_arm, about_block, about_branch, about_condition, about_expr, about_field_expr, about_link, about_step, about_stmt, told_of_item, told_of_kind}
 use Rattle.lay_code.specs.nodes.CodeFacts.{ArmFacts, BlockFacts, BranchFacts, ConditionFacts, ItemFacts, KindFacts, LinkFacts, StmtFacts}
 use Rattle.lay_code.specs.nodes.Conditions.{condition_facts, link_facts}
-use Rattle.lay_code.specs.nodes.Exprs.{ExprFacts, ExprLayer, FieldLayer, KindLayer, StepFacts, StepLayer, StmtLayer, expr_facts, field_facts, step_facts}
+use Rattle.lay_code.specs.nodes.Exprs.{ExprFacts, ExprLayer, FieldLayer, KindLayer, LinkLayer, StepFacts, StepLayer, StmtLayer, expr_facts, field_facts, step_facts}
 use Rattle.lay_code.specs.nodes.Item.{item_facts, kind_facts}
-use Rattle.lay_code.specs.nodes.Layers.{ExprNode, FieldNode, KindNode, StepNode, StmtNode}
+use Rattle.lay_code.specs.nodes.Layers.{ExprNode, FieldNode, KindNode, LinkNode, StepNode, StmtNode}
 use Rattle.lay_code.specs.declared.blocks.Arm.{Arm}
 use Rattle.lay_code.specs.declared.blocks.Block.{Block}
 use Rattle.lay_code.specs.declared.blocks.Branch.{Branch}
@@ -30,6 +30,16 @@ stmt_told y = fold.map-Stmt Stmt Link Expr FieldExpr Step ItemKind Arm Block Bra
 pub stmt_is : (y : StmtNode) → about_stmt (views.roll-Stmt y) ≡ stmt_facts (stmt_told y)
 unfolding about_expr about_field_expr about_step about_stmt about_block about_branch about_condition about_link about_arm told_of_item told_of_kind
 stmt_is y = fold.fold-roll-Stmt StmtFacts LinkFacts ExprFacts Facts StepFacts KindFacts ArmFacts BlockFacts BranchFacts ConditionFacts ItemFacts
+    stmt_facts link_facts expr_facts field_facts step_facts kind_facts arm_facts block_facts branch_facts condition_facts item_facts y
+
+abbrev pub link_told : LinkNode → LinkLayer
+link_told y = fold.map-Link Stmt Link Expr FieldExpr Step ItemKind Arm Block Branch Condition Item
+    StmtFacts LinkFacts ExprFacts Facts StepFacts KindFacts ArmFacts BlockFacts BranchFacts ConditionFacts ItemFacts
+    about_stmt about_link about_expr about_field_expr about_step told_of_kind about_arm about_block about_branch about_condition told_of_item y
+
+pub link_is : (y : LinkNode) → about_link (views.roll-Link y) ≡ link_facts (link_told y)
+unfolding about_expr about_field_expr about_step about_stmt about_block about_branch about_condition about_link about_arm told_of_item told_of_kind
+link_is y = fold.fold-roll-Link StmtFacts LinkFacts ExprFacts Facts StepFacts KindFacts ArmFacts BlockFacts BranchFacts ConditionFacts ItemFacts
     stmt_facts link_facts expr_facts field_facts step_facts kind_facts arm_facts block_facts branch_facts condition_facts item_facts y
 
 abbrev pub expr_told : ExprNode → ExprLayer

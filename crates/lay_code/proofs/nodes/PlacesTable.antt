@@ -22,7 +22,7 @@ use Rattle.lay_node.specs.declared.types.Ty.{Ty}
 use Rattle.lay_node.proofs.nodes.TypesLaws.{ArgsView, IsNone, IsAngle, IsRound, args_view, args_none_is, args_angle_is, args_round_is, path_is, about_segment}
 use Rattle.lay_code.specs.Operators.{op_level, is_angle_op, strength}
 use Rattle.lay_code.specs.nodes.Exprs.{StepFacts, Tail, ExprFacts, shut, shut_by, is_open, is_typed, is_field, may, stands, placed, root_follows, tail_follows, follows, expr_facts, ends_in_amp, is_prefix_lead, begins_free, start_placed, targets_placed, is_chain_level, may_chain, operands_placed, tail_of_operands, tail_of_steps, lacks_args}
-use Rattle.lay_code.specs.nodes.CodeFacts.{ArmFacts, BlockFacts, BranchFacts}
+use Rattle.lay_code.specs.nodes.CodeFacts.{ArmFacts, BlockFacts, BranchFacts, ConditionFacts}
 use Rattle.lay_code.specs.nodes.Places.{plain, before_op, begins, is_part, is_whole}
 use Rattle.lay_code.specs.nodes.PlacesTable.{AssignRow, ByRoot, ChainRow, Iff, OtherOperands, RangeRow, UnaryRow, as_node}
 use Rattle.lay_code.specs.declared.blocks.Stmt.TheOpen.{Expr-F}
@@ -348,9 +348,9 @@ module _ (p : Place) where
       let F = expr_facts (Expr-F.Loop label b) in placed F p ≡ (may F p && F.within p.no_struct (begins p.start))
   loop_row label b = root_row p (expr_facts (Expr-F.Loop label b)) refl refl
 
-  pub while_row : (label : Option Lifetime) (pat : Option Pat) (x : ExprFacts) (b : BlockFacts) →
-      let F = expr_facts (Expr-F.While label pat x b) in placed F p ≡ (may F p && F.within p.no_struct (begins p.start))
-  while_row label pat x b = root_row p (expr_facts (Expr-F.While label pat x b)) refl refl
+  pub while_row : (label : Option Lifetime) (c : ConditionFacts) (b : BlockFacts) →
+      let F = expr_facts (Expr-F.While label c b) in placed F p ≡ (may F p && F.within p.no_struct (begins p.start))
+  while_row label c b = root_row p (expr_facts (Expr-F.While label c b)) refl refl
 
   pub for_row : (label : Option Lifetime) (pat : Pat) (x : ExprFacts) (b : BlockFacts) →
       let F = expr_facts (Expr-F.For label pat x b) in placed F p ≡ (may F p && F.within p.no_struct (begins p.start))

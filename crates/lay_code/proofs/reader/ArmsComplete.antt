@@ -119,7 +119,7 @@ alone_block y = subst (λ (F : ExprFacts). (F.block_like ≡ true) × (is_free F
 
 undress_alone : (n : ℕ) (y : Expr) → is_macro (about_expr y).kind ≡ false → undressed (suc n) (alone y) ≡ undressed n y
 unfolding undressed
-undress_alone n y h = rw (alone_is_lone y h, views.outs-Block None (one_block y), views.outs-Expr [] y false) refl
+undress_alone n y h = rw (alone_is_lone y h, views.outs-Block None (one_block y), views.outs-Stmt::Expr [] y false) refl
 
 undress_other : (n : ℕ) (x : Expr) → is_lone_body (about_expr x).kind ≡ false → undressed n x ≡ x
 unfolding undressed

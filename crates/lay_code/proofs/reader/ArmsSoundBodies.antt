@@ -10,7 +10,7 @@ use Rattle.lay_node.specs.Ahead.{Tokens}
 use Rattle.lay_node.proofs.Fronts.{end_shorter, one_shorter}
 use Rattle.lay_node.proofs.Parts.{bit_alone, piece_bit}
 use Rattle.lay_code.specs.nodes.Blocks.{block_facts, braces_of, is_lone_body, is_plain, stmt_facts}
-use Rattle.lay_code.specs.nodes.Code.{about_arm, about_block, about_branch, about_expr, about_field_expr, about_step, about_stmt}
+use Rattle.lay_code.specs.nodes.Code.{about_arm, about_block, about_branch, about_condition, about_expr, about_field_expr, about_step, about_stmt}
 use Rattle.lay_code.specs.nodes.CodeFacts.{BlockFacts, StmtFacts}
 use Rattle.lay_code.specs.nodes.Exprs.{BodyKind, BlockBody, ExprFacts, ExprLayer, MacroBody, OtherBody, body_kind, expr_facts, is_macro, placed, stands}
 use Rattle.lay_code.specs.nodes.Places.{statement}
@@ -116,7 +116,7 @@ is_alone x h = by x (expr_view x) h
     by _ (IsIf bs o) h = other _ (Expr-F.If (map about_branch bs) (option_map about_block o)) (expr_if_is bs o) refl h
     by _ (IsMatch y attrs arms) h = other _ (Expr-F.Match (about_expr y) attrs (map about_arm arms)) (expr_match_is y attrs arms) refl h
     by _ (IsLoop l b) h = other _ (Expr-F.Loop l (about_block b)) (expr_loop_is l b) refl h
-    by _ (IsWhile l p y b) h = other _ (Expr-F.While l p (about_expr y) (about_block b)) (expr_while_is l p y b) refl h
+    by _ (IsWhile l c b) h = other _ (Expr-F.While l (about_condition c) (about_block b)) (expr_while_is l c b) refl h
     by _ (IsFor l p y b) h = other _ (Expr-F.For l p (about_expr y) (about_block b)) (expr_for_is l p y b) refl h
     by _ (IsClosure is_async moves ps y) h = other _ (Expr-F.Closure is_async moves ps (about_expr y)) (expr_closure_is is_async moves ps y) refl h
     by _ (IsTypedClosure is_async moves ps t b) h = other _ (Expr-F.TypedClosure is_async moves ps t (about_block b)) (expr_typed_closure_is is_async moves ps t b) refl h
@@ -128,7 +128,7 @@ lone_kind y n = subst (λ (z : ExprFacts). is_lone_body z.kind ≡ true) (sym (a
 
 undressed_alone : (n : ℕ) (y : Expr) → is_macro (about_expr y).kind ≡ false → undressed (suc n) (alone y) ≡ undressed n y
 unfolding undressed
-undressed_alone n y m = rw (lone_kind y m, views.outs-Block None (alone_block y), views.outs-Expr [] y false) refl
+undressed_alone n y m = rw (lone_kind y m, views.outs-Block None (alone_block y), views.outs-Stmt::Expr [] y false) refl
 
 undressed_other : (n : ℕ) (x : Expr) → is_lone_body (about_expr x).kind ≡ false → undressed n x ≡ x
 unfolding undressed

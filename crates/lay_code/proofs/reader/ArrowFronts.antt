@@ -16,7 +16,7 @@ use Rattle.lay_node.proofs.Fronts.{mark_one, one_front, other_op}
 use Rattle.lay_node.proofs.reader.TypesFronts.{no_begins, no_other_op, op_behind, op_first}
 use Rattle.lay_code.specs.Operands.{ExprLead, ByPrefix, expr_lead_at, is_of}
 use Rattle.lay_code.specs.Operators.{op_level, op_text}
-use Rattle.lay_code.specs.nodes.Code.{about_arm, about_block, about_branch, about_expr, about_field_expr, about_step}
+use Rattle.lay_code.specs.nodes.Code.{about_arm, about_block, about_branch, about_condition, about_expr, about_field_expr, about_step}
 use Rattle.lay_code.specs.nodes.Exprs.{ExprFacts, ExprLayer, are_steps, end_form, end_placed, expr_facts, first_step, group_if, inside, is_chain_level, is_dotted, is_prefix_lead, is_tuple_index, lead_of, level_of_chain, may_chain, methods, next_is_angle, operands_form, operands_placed, placed, prefix_bits, prefixes_form, steps_form, targets_form, targets_placed, types_form, types_good, within_of}
 use Rattle.lay_code.specs.nodes.Places.{before_op, begins, plain}
 use Rattle.lay_code.specs.declared.blocks.Stmt.TheOpen.{Expr-F}
@@ -217,8 +217,8 @@ module _ (depth : ℕ) (ih : AllClear depth) (no_struct first_flag : Bool) (ts r
   clear _ (IsBlock (Some l) b) = other (expr.Block (Some l) b) (led_as (expr.Block (Some l) b) (Expr-F.Block (Some l) (about_block b)) (expr_block_is (Some l) b) refl)
   clear _ (IsLoop None b) = other (expr.Loop None b) (led_as (expr.Loop None b) (Expr-F.Loop None (about_block b)) (expr_loop_is None b) refl)
   clear _ (IsLoop (Some l) b) = other (expr.Loop (Some l) b) (led_as (expr.Loop (Some l) b) (Expr-F.Loop (Some l) (about_block b)) (expr_loop_is (Some l) b) refl)
-  clear _ (IsWhile None p x b) = other (expr.While None p x b) (led_as (expr.While None p x b) (Expr-F.While None p (about_expr x) (about_block b)) (expr_while_is None p x b) refl)
-  clear _ (IsWhile (Some l) p x b) = other (expr.While (Some l) p x b) (led_as (expr.While (Some l) p x b) (Expr-F.While (Some l) p (about_expr x) (about_block b)) (expr_while_is (Some l) p x b) refl)
+  clear _ (IsWhile None c b) = other (expr.While None c b) (led_as (expr.While None c b) (Expr-F.While None (about_condition c) (about_block b)) (expr_while_is None c b) refl)
+  clear _ (IsWhile (Some l) c b) = other (expr.While (Some l) c b) (led_as (expr.While (Some l) c b) (Expr-F.While (Some l) (about_condition c) (about_block b)) (expr_while_is (Some l) c b) refl)
   clear _ (IsFor None p x b) = other (expr.For None p x b) (led_as (expr.For None p x b) (Expr-F.For None p (about_expr x) (about_block b)) (expr_for_is None p x b) refl)
   clear _ (IsFor (Some l) p x b) = other (expr.For (Some l) p x b) (led_as (expr.For (Some l) p x b) (Expr-F.For (Some l) p (about_expr x) (about_block b)) (expr_for_is (Some l) p x b) refl)
 

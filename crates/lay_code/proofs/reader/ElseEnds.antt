@@ -18,7 +18,7 @@ use Rattle.lay_node.specs.declared.token.Lifetime.{Lifetime}
 use Rattle.lay_node.proofs.Parts.{part_alone}
 use Rattle.lay_code.specs.Operators.{op_level, op_text}
 use Rattle.lay_code.specs.nodes.Blocks.{attrs_before, block_form, dropped_if, is_plain, may_precede_else, precedes_else, soft_form, stmt_form}
-use Rattle.lay_code.specs.nodes.Code.{about_arm, about_block, about_branch, about_expr, about_field_expr, about_step, about_stmt}
+use Rattle.lay_code.specs.nodes.Code.{about_arm, about_block, about_branch, about_condition, about_expr, about_field_expr, about_step, about_stmt}
 use Rattle.lay_code.specs.nodes.CodeFacts.{BlockFacts, BranchFacts, StmtFacts}
 use Rattle.lay_code.specs.nodes.Ends.{brace_bits, brace_behind, ends_in_brace}
 use Rattle.lay_code.specs.nodes.Exprs.{ExprFacts, ExprLayer, StepFacts, branch_head, branches_form, branches_good, closure_head, else_branch_form, end_form, end_placed, expr_facts, inside, is_chain_level, is_field, label_form, level_of_chain, may_be_good, may_chain, more_branches, next_is_angle, operand_form, operand_place, operand_placed, operands_form, operands_placed, placed, prefix_bits, prefixes_form, shut, shut_by, follows, start_placed, tail_of, tail_of_jump, tail_of_operands, tail_of_steps, targets_form, targets_placed, within_of, is_closure_param, break_placed, is_prefix_lead}
@@ -286,7 +286,7 @@ module _ (depth : ℕ) (ih : AllBranched depth) (no_struct begun : Bool) (ts res
   ends_view _ (IsIf bs o) = if_ends bs o
   ends_view _ (IsMatch x attrs arms) = none (expr.Match x attrs arms) (Expr-F.Match (about_expr x) attrs (map about_arm arms)) (expr_match_is x attrs arms) refl
   ends_view _ (IsLoop label b) = none (expr.Loop label b) (Expr-F.Loop label (about_block b)) (expr_loop_is label b) refl
-  ends_view _ (IsWhile label pat x b) = none (expr.While label pat x b) (Expr-F.While label pat (about_expr x) (about_block b)) (expr_while_is label pat x b) refl
+  ends_view _ (IsWhile label c b) = none (expr.While label c b) (Expr-F.While label (about_condition c) (about_block b)) (expr_while_is label c b) refl
   ends_view _ (IsFor label pat x b) = none (expr.For label pat x b) (Expr-F.For label pat (about_expr x) (about_block b)) (expr_for_is label pat x b) refl
   ends_view _ (IsClosure is_async moves params x) = closure_ends is_async moves params x
   ends_view _ (IsTypedClosure is_async moves params output b) = none (expr.TypedClosure is_async moves params output b) (Expr-F.TypedClosure is_async moves params output (about_block b)) (expr_typed_closure_is is_async moves params output b) refl

@@ -5,7 +5,7 @@ use Rattle.lay_form.specs.Spelled.{Spells}
 use Rattle.lay_node.specs.Ahead.{Tokens}
 use Rattle.lay_node.proofs.reader.Exact.{IsRead}
 use Rattle.lay_code.specs.Operators.{is_dot_or_try, strength}
-use Rattle.lay_code.specs.nodes.Code.{about_arm, about_block, about_branch, about_expr, about_field_expr, about_step}
+use Rattle.lay_code.specs.nodes.Code.{about_arm, about_block, about_branch, about_condition, about_expr, about_field_expr, about_step}
 use Rattle.lay_code.specs.nodes.Exprs.{ExprFacts, stands, placed, root_follows, follows, tail_follows, level_of, is_block_like, expr_facts, ExprLayer}
 use Rattle.lay_code.specs.nodes.Places.{begins, is_whole}
 use Rattle.lay_code.specs.reader.Exprs.{climb, is_ended, accepted, expr_by}
@@ -104,8 +104,8 @@ module _ (fronts : Fronts) (most : ℕ) (within : ExprWithin) (reads : (depth : 
         (match_head fronts depth within lower x attrs arms)
     reached _ (IsLoop label b) =
         alone (expr.Loop label b) (Expr-F.Loop label (about_block b)) (expr_loop_is label b) refl (loop_head fronts depth within here label b)
-    reached _ (IsWhile label pat x b) =
-        alone (expr.While label pat x b) (Expr-F.While label pat (about_expr x) (about_block b)) (expr_while_is label pat x b) refl
+    reached _ (IsWhile label c b) =
+        alone (expr.While label c b) (Expr-F.While label (about_condition c) (about_block b)) (expr_while_is label c b) refl
         (while_head fronts depth within here label pat x b)
     reached _ (IsFor label pat x b) =
         alone (expr.For label pat x b) (Expr-F.For label pat (about_expr x) (about_block b)) (expr_for_is label pat x b) refl
@@ -145,8 +145,8 @@ module _ (fronts : Fronts) (most : ℕ) (within : ExprWithin) (reads : (depth : 
         (match_head fronts depth within lower x attrs arms)
     block_like _ (IsLoop label b) =
         whole (expr.Loop label b) (Expr-F.Loop label (about_block b)) (expr_loop_is label b) refl (loop_head fronts depth within here label b)
-    block_like _ (IsWhile label pat x b) =
-        whole (expr.While label pat x b) (Expr-F.While label pat (about_expr x) (about_block b)) (expr_while_is label pat x b) refl
+    block_like _ (IsWhile label c b) =
+        whole (expr.While label c b) (Expr-F.While label (about_condition c) (about_block b)) (expr_while_is label c b) refl
         (while_head fronts depth within here label pat x b)
     block_like _ (IsFor label pat x b) =
         whole (expr.For label pat x b) (Expr-F.For label pat (about_expr x) (about_block b)) (expr_for_is label pat x b) refl

@@ -35,7 +35,7 @@ use Rattle.lay_node.proofs.reader.TypesBegins.{path_parts, path_goods}
 use Rattle.lay_node.proofs.reader.TypesCompleteParts.{one_left}
 use Rattle.lay_code.specs.Operands.{ExprLead, ByPath, ByBlockWord, async_lead, begins_closure, expr_lead_of_word, expr_lead_at}
 use Rattle.lay_code.specs.Operators.{op_text, op_level, begins_step}
-use Rattle.lay_code.specs.nodes.Code.{about_arm, about_block, about_branch, about_expr, about_field_expr, about_step}
+use Rattle.lay_code.specs.nodes.Code.{about_arm, about_block, about_branch, about_condition, about_expr, about_field_expr, about_step}
 use Rattle.lay_code.specs.nodes.Exprs.{ExprFacts, ExprLayer, are_steps, base_form, base_placed, break_if, end_form, end_placed, expr_facts, first_step, group_if, inside, is_block_like, is_brace, is_chain_level, is_dotted, is_method, is_tuple_index, lead_of, level_of_chain, may_chain, methods, next_is_angle, operands_form, operands_placed, placed, steps_form, targets_form, targets_placed, types_form, types_good, within_of}
 use Rattle.lay_code.specs.nodes.Places.{plain, begins, before_op}
 use Rattle.lay_code.specs.reader.Blocks.{begins_with}
@@ -474,11 +474,11 @@ module _ (depth : ℕ) (ih : AllPlain depth) (no_struct begun : Bool) (ts rest :
   plain_view _ (IsLoop None b) = told (expr.Loop None b) (Expr-F.Loop None (about_block b)) (expr_loop_is None b) (λ s w.
       word_plain (codes "loop") refl refl refl false ts s.0 rest (bit_alone (keyword (codes "loop")) ts s.0 s.1))
   plain_view _ (IsLoop (Some l) b) = by_lead (expr.Loop (Some l) b) (Expr-F.Loop (Some l) (about_block b)) (expr_loop_is (Some l) b) refl
-  plain_view _ (IsWhile None pat x b) =
-      told (expr.While None pat x b) (Expr-F.While None pat (about_expr x) (about_block b)) (expr_while_is None pat x b) (λ s w.
+  plain_view _ (IsWhile None c b) =
+      told (expr.While None c b) (Expr-F.While None (about_condition c) (about_block b)) (expr_while_is None c b) (λ s w.
       let t = s.1 in word_plain (codes "while") refl refl refl false ts t.1.0 rest t.1.1)
-  plain_view _ (IsWhile (Some l) pat x b) =
-      by_lead (expr.While (Some l) pat x b) (Expr-F.While (Some l) pat (about_expr x) (about_block b)) (expr_while_is (Some l) pat x b) refl
+  plain_view _ (IsWhile (Some l) c b) =
+      by_lead (expr.While (Some l) c b) (Expr-F.While (Some l) (about_condition c) (about_block b)) (expr_while_is (Some l) c b) refl
   plain_view _ (IsFor None pat x b) =
       told (expr.For None pat x b) (Expr-F.For None pat (about_expr x) (about_block b)) (expr_for_is None pat x b) (λ s w.
       let t = s.1 in word_plain (codes "for") refl refl refl false ts t.1.0 rest t.1.1)

@@ -26,9 +26,9 @@ use Rattle.lay_node.proofs.Parts.{before_blank, bit_alone, part_alone}
 use Rattle.lay_node.proofs.reader.TypesBegins.{path_begins, call_begins}
 use Rattle.lay_code.specs.Operands.{ExprLead, ByPath, ByUnderscore, ByParen, ByBracket, ByPrefix, ByRange, ByContinue, ByBreak, ByReturn, ByLabel, ByBrace, ByBlockWord, ByClosure, async_lead, expr_lead_by, expr_lead_at}
 use Rattle.lay_code.specs.Operators.{op_text, op_level}
-use Rattle.lay_code.specs.nodes.Code.{about_expr, about_field_expr, about_step, about_arm, about_block, about_branch}
+use Rattle.lay_code.specs.nodes.Code.{about_arm, about_block, about_branch, about_condition, about_expr, about_field_expr, about_step}
 use Rattle.lay_code.specs.nodes.CodeFacts.{BranchFacts}
-use Rattle.lay_code.specs.nodes.Exprs.{ExprFacts, StepFacts, stands, placed, expr_forms, tuple_form, base_form, operands_form, types_form, prefix_bits, prefixes_form, end_form, targets_form, label_form, operand_form, level_of_chain, next_is_angle, is_chain_level, may_chain, operands_placed, targets_placed, end_placed, base_placed, first_step, is_tuple_index, is_dotted, are_steps, types_good, methods, steps_form, group_if, inside, lead_of, label_or, within_of, expr_facts, ExprLayer, labelled, condition_form, more_branches, branches_form, else_branch_form, arm_forms, behind_async, closure_param, closure_head, bar, branches_good, may_be_good}
+use Rattle.lay_code.specs.nodes.Exprs.{ExprFacts, StepFacts, stands, placed, expr_forms, tuple_form, base_form, operands_form, types_form, prefix_bits, prefixes_form, end_form, targets_form, label_form, operand_form, level_of_chain, next_is_angle, is_chain_level, may_chain, operands_placed, targets_placed, end_placed, base_placed, first_step, is_tuple_index, is_dotted, are_steps, types_good, methods, steps_form, group_if, inside, lead_of, label_or, within_of, expr_facts, ExprLayer, labelled, more_branches, branches_form, else_branch_form, arm_forms, behind_async, closure_param, closure_head, bar, branches_good, may_be_good}
 use Rattle.lay_code.specs.nodes.Places.{plain, begins, before_op}
 use Rattle.lay_code.specs.declared.blocks.Block.{Block}
 use Rattle.lay_code.specs.declared.exprs.ClosureParam.{ClosureParam}
@@ -163,8 +163,8 @@ no_depth x ts rest s = by x (expr_view x) s
     by _ (IsMatch x attrs arms) =
         none (expr.Match x attrs arms) (Expr-F.Match (about_expr x) attrs (map about_arm arms)) (expr_match_is x attrs arms)
     by _ (IsLoop label b) = none (expr.Loop label b) (Expr-F.Loop label (about_block b)) (expr_loop_is label b)
-    by _ (IsWhile label pat x b) =
-        none (expr.While label pat x b) (Expr-F.While label pat (about_expr x) (about_block b)) (expr_while_is label pat x b)
+    by _ (IsWhile label c b) =
+        none (expr.While label c b) (Expr-F.While label (about_condition c) (about_block b)) (expr_while_is label c b)
     by _ (IsFor label pat x b) =
         none (expr.For label pat x b) (Expr-F.For label pat (about_expr x) (about_block b)) (expr_for_is label pat x b)
     by _ (IsClosure is_async moves params x) =
@@ -373,9 +373,9 @@ module _ (depth : ℕ) (ih : AllBegin depth) (no_struct first : Bool) (ts rest :
   begun _ (IsLoop label b) = told (expr.Loop label b) (Expr-F.Loop label (about_block b)) (expr_loop_is label b) (λ s w.
       let f : Form = Part ((about_block b).form true) Done in
       labelled_begun ByBlockWord (Piece (keyword (codes "loop") ∷ []) f) (λ t. word_begun (codes "loop") (λ us. refl) [] f t) label s)
-  begun _ (IsWhile label pat x b) =
-      told (expr.While label pat x b) (Expr-F.While label pat (about_expr x) (about_block b)) (expr_while_is label pat x b) (λ s w.
-      let f : Form = Part (condition_form pat (about_expr x)) Done in
+  begun _ (IsWhile label c b) =
+      told (expr.While label c b) (Expr-F.While label (about_condition c) (about_block b)) (expr_while_is label c b) (λ s w.
+      let f : Form = Part (about_condition c).form Done in
       let g : Form = Part ((about_block b).form true) Done in
       labelled_begun ByBlockWord (I0 (Piece (keyword (codes "while") ∷ Blank ∷ []) f) g)
       (λ t. grouped_word_begun (codes "while") (λ us. refl) (Blank ∷ []) f g t) label s)

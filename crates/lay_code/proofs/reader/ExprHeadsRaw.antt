@@ -38,7 +38,7 @@ use Rattle.lay_node.proofs.reader.TypesBegins.{path_parts, path_goods}
 use Rattle.lay_node.proofs.reader.TypesCompleteParts.{one_left}
 use Rattle.lay_code.specs.Operands.{ExprLead, ByPath, ByBrace, ByBlockWord, expr_lead_at}
 use Rattle.lay_code.specs.Operators.{begins_step}
-use Rattle.lay_code.specs.nodes.Code.{about_expr, about_field_expr, about_step, about_arm, about_block, about_branch}
+use Rattle.lay_code.specs.nodes.Code.{about_arm, about_block, about_branch, about_condition, about_expr, about_field_expr, about_step}
 use Rattle.lay_code.specs.nodes.Exprs.{ExprFacts, StepFacts, stands, placed, begins_pointer, is_raw_word, is_raw_path, break_if, group_if, methods, is_method, is_dotted, is_tuple_index, first_step, are_steps, steps_form, base_form, base_placed, level_of_chain, next_is_angle, is_chain_level, may_chain, operands_placed, inside, level_of, lead_of, label_or, within_of, expr_facts, ExprLayer}
 use Rattle.lay_code.specs.nodes.Places.{begins, before_op}
 use Rattle.lay_code.specs.declared.exprs.Expr.{Expr}
@@ -359,7 +359,7 @@ module _ (depth : ℕ) (ih : AllRaw depth) (no_struct first_flag : Bool) (ts res
   raw_view _ (IsMatch x attrs arms) =
       told (expr.Match x attrs arms) (Expr-F.Match (about_expr x) attrs (map about_arm arms)) (expr_match_is x attrs arms) (λ s w n b. absurd (cc))
   raw_view _ (IsLoop label b) = told (expr.Loop label b) (Expr-F.Loop label (about_block b)) (expr_loop_is label b) (λ s w n b. absurd (no_label ByBlockWord label refl b))
-  raw_view _ (IsWhile label pat x b) = told (expr.While label pat x b) (Expr-F.While label pat (about_expr x) (about_block b)) (expr_while_is label pat x b) (λ s w n b. absurd (no_label ByBlockWord label refl b))
+  raw_view _ (IsWhile label c b) = told (expr.While label c b) (Expr-F.While label (about_condition c) (about_block b)) (expr_while_is label c b) (λ s w n b. absurd (no_label ByBlockWord label refl b))
   raw_view _ (IsFor label pat x b) = told (expr.For label pat x b) (Expr-F.For label pat (about_expr x) (about_block b)) (expr_for_is label pat x b) (λ s w n b. absurd (no_label ByBlockWord label refl b))
   raw_view _ (IsClosure is_async moves params x) =
       told (expr.Closure is_async moves params x) (Expr-F.Closure is_async moves params (about_expr x)) (expr_closure_is is_async moves params x) (λ s w n b. absurd (cc))

@@ -16,7 +16,7 @@ use Rattle.lay_node.proofs.reader.TypesSoundLevel.{SoundWithin}
 use Rattle.lay_node.proofs.reader.TypesSoundNeeds.{Held}
 use Rattle.lay_code.specs.Operands.{begins_operand}
 use Rattle.lay_code.specs.Operators.{strength}
-use Rattle.lay_code.specs.nodes.Code.{about_arm, about_block, about_branch, about_expr, about_field_expr, about_item, about_step}
+use Rattle.lay_code.specs.nodes.Code.{about_arm, about_block, about_branch, about_condition, about_expr, about_field_expr, about_item, about_step}
 use Rattle.lay_code.specs.nodes.Exprs.{ExprFacts, Tail, all_free, begins_pointer, expr_facts, expr_forms, follows, inside, lacks_operand, placed, root_follows, stands, tail_follows, tail_of, within_of, ExprLayer}
 use Rattle.lay_code.specs.nodes.Places.{FREE, begins}
 use Rattle.lay_code.specs.reader.Within.{ExprWithin}
@@ -164,7 +164,7 @@ layer_of x = by x (expr_view x)
     by _ (IsIf bs o) = (Expr-F.If (map about_branch bs) (option_map about_block o), expr_if_is bs o)
     by _ (IsMatch x attrs arms) = (Expr-F.Match (about_expr x) attrs (map about_arm arms), expr_match_is x attrs arms)
     by _ (IsLoop l b) = (Expr-F.Loop l (about_block b), expr_loop_is l b)
-    by _ (IsWhile l p x b) = (Expr-F.While l p (about_expr x) (about_block b), expr_while_is l p x b)
+    by _ (IsWhile l c b) = (Expr-F.While l (about_condition c) (about_block b), expr_while_is l c b)
     by _ (IsFor l p x b) = (Expr-F.For l p (about_expr x) (about_block b), expr_for_is l p x b)
     by _ (IsClosure is_async moves ps x) = (Expr-F.Closure is_async moves ps (about_expr x), expr_closure_is is_async moves ps x)
     by _ (IsTypedClosure is_async moves ps t b) = (Expr-F.TypedClosure is_async moves ps t (about_block b), expr_typed_closure_is is_async moves ps t b)

@@ -73,7 +73,7 @@ within_any (Expr-F.Async moves b) no_struct a c h w = w
 within_any (Expr-F.If branches o) no_struct a c h w = w
 within_any (Expr-F.Match x attrs arms) no_struct a c h w = w
 within_any (Expr-F.Loop l b) no_struct a c h w = w
-within_any (Expr-F.While l p x b) no_struct a c h w = w
+within_any (Expr-F.While l c b) no_struct a c h w = w
 within_any (Expr-F.For l p x b) no_struct a c h w = w
 
 base_within : (x : Expr) (no_struct a c : Bool) → nat_le 14 (about_expr x).level ≡ true → (about_expr x).within no_struct a ≡ true

@@ -90,7 +90,7 @@ block_tail x no_struct ts h e =
     by (Expr-F.If branches o) g = rw (none (not (is_some o))) refl
     by (Expr-F.Match x attrs arms) g = refl
     by (Expr-F.Loop label b) g = refl
-    by (Expr-F.While label pat x b) g = refl
+    by (Expr-F.While label c b) g = refl
     by (Expr-F.For label pat x b) g = refl
     by _ g = absurd (cc)
 

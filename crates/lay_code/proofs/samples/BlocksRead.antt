@@ -224,7 +224,7 @@ undressed_a turns =
       exprs.expr_block_is None (alone_of (name a)),
       alone_is a,
       views.outs-Block None (alone_of (name a)),
-      views.outs-Expr [] (name a) false,
+      views.outs-Stmt::Expr [] (name a) false,
       name_is a,
     )
     refl
