@@ -93,7 +93,7 @@ lone_no_dot _ (IsAlone y macro) ts h =
 
 undress_alone : (n : ℕ) (y : Expr) → is_macro (about_expr y).kind ≡ false → undressed (suc n) (alone y) ≡ undressed n y
 unfolding undressed
-undress_alone n y h = rw (alone_is_lone y h, views.outs-Block None (alone_block y), views.outs-Expr [] y false) refl
+undress_alone n y h = rw (alone_is_lone y h, views.outs-Block None (alone_block y), views.outs-Stmt::Expr [] y false) refl
 
 undress_other : (n : ℕ) (x : Expr) → is_lone_body (about_expr x).kind ≡ false → undressed n x ≡ x
 unfolding undressed

@@ -52,17 +52,17 @@ unended_ends attrs x = ap (λ (F : StmtFacts). F.ends) (stmt_expr_is attrs x fal
 -- What may follow a statement of each kind.
 let_follows : (attrs : List Attr) (pat : Pat) (ty : Option Ty) (value : Option Expr) (block : Option Block) (ts : Tokens)
     → stmt_follows (stmt.Let attrs pat ty value block) ts ≡ true
-let_follows attrs pat ty value block ts = ap (λ s. follows_in s ts) (views.outs-Let attrs pat ty value block)
+let_follows attrs pat ty value block ts = ap (λ s. follows_in s ts) (views.outs-Stmt::Let attrs pat ty value block)
 
 item_follows : (item : Item) (ts : Tokens) → stmt_follows (stmt.Item item) ts ≡ true
 item_follows item ts = ap (λ s. follows_in s ts) (views.outs-Item item)
 
 ended_follows : (attrs : List Attr) (x : Expr) (ts : Tokens) → stmt_follows (stmt.Expr attrs x true) ts ≡ true
-ended_follows attrs x ts = ap (λ s. follows_in s ts) (views.outs-Expr attrs x true)
+ended_follows attrs x ts = ap (λ s. follows_in s ts) (views.outs-Stmt::Expr attrs x true)
 
 unended_follows : (attrs : List Attr) (x : Expr) (ts : Tokens) → stmt_follows (stmt.Expr attrs x false) ts
     ≡ (follows (about_expr x) statement ts && not (first (is_mark (codes ";")) ts) && ((about_expr x).block_like || at_end ts))
-unended_follows attrs x ts = ap (λ s. follows_in s ts) (views.outs-Expr attrs x false)
+unended_follows attrs x ts = ap (λ s. follows_in s ts) (views.outs-Stmt::Expr attrs x false)
 
 -- ---- what is read stands there
 

@@ -1,4 +1,4 @@
--- What statements, blocks, branches and arms need.
+-- What statements, blocks, conditions, branches and arms need.
 use Rattle.std.proofs.Common.{◌≡◌, ◌∙◌, ℕ, ◌+◌, max, Bool, true, false, if◌then◌else◌, List, [], ◌∷◌, ◌++◌, map, option_map, Option, Some, None, refl, ap, arith}
 use Rattle.lay_form.specs.Depth.{least_depth}
 use Rattle.lay_form.specs.Form.{Form, Done, Part, semicolon}
@@ -10,20 +10,24 @@ use Rattle.lay_node.specs.declared.attr.Attr.{Attr}
 use Rattle.lay_node.specs.declared.patterns.Pat.{Pat}
 use Rattle.lay_node.specs.declared.types.Ty.{Ty}
 use Rattle.lay_code.specs.nodes.Blocks.{attrs_before, block_form, dropped, dropped_if, else_form, ended_form, guard_form, is_plain, let_type, soft_form, stmt_form}
-use Rattle.lay_code.specs.nodes.Code.{about_arm, about_block, about_branch, about_expr, about_stmt, form_of_item}
-use Rattle.lay_code.specs.nodes.CodeFacts.{ArmFacts, BlockFacts, BranchFacts, StmtFacts}
-use Rattle.lay_code.specs.nodes.Exprs.{ExprFacts, arm_forms, branches_form, condition_form, else_branch_form, more_branches, value_form}
+use Rattle.lay_code.specs.nodes.Code.{about_arm, about_block, about_branch, about_condition, about_expr, about_link, about_stmt, form_of_item}
+use Rattle.lay_code.specs.nodes.CodeFacts.{ArmFacts, BlockFacts, BranchFacts, ConditionFacts, LinkFacts, StmtFacts}
+use Rattle.lay_code.specs.nodes.Conditions.{condition_form, links_form}
+use Rattle.lay_code.specs.nodes.Exprs.{ExprFacts, arm_forms, branches_form, else_branch_form, more_branches, value_form}
 use Rattle.lay_code.specs.declared.blocks.Arm.{Arm}
 use Rattle.lay_code.specs.declared.blocks.Block.{Block}
 use Rattle.lay_code.specs.declared.blocks.Branch.{Branch}
 use Rattle.lay_code.specs.declared.blocks.Stmt.{Stmt}
 use Rattle.lay_code.specs.declared.blocks.Stmt.TheVariants as stmt
+use Rattle.lay_code.specs.declared.conditions.Condition.{Condition}
+use Rattle.lay_code.specs.declared.conditions.Link.{Link}
+use Rattle.lay_code.specs.declared.conditions.Link.TheVariants as link
 use Rattle.lay_code.specs.declared.exprs.Expr.{Expr}
 use Rattle.lay_code.specs.declared.item.Item.{Item}
 use Rattle.lay_code.proofs.nodes.BlocksLaws as laws
 use Rattle.lay_depth_nodes.specs.Depths.{greatest, type_if}
 use Rattle.lay_depth_nodes.proofs.Forms.{attrs_are, behind_attrs_is, body_is, both_are}
-use Rattle.lay_depth.specs.Parts.{arm_form, block_if, branch_form, expr_if, pat_if}
+use Rattle.lay_depth.specs.Parts.{arm_form, block_if, branch_form, expr_if, link_form}
 
 -- ---- blocks
 
@@ -140,19 +144,38 @@ expr_is s attrs x ended is =
     ∙ behind_attrs_is attrs (Part (about_expr x).form (ended_form ended))
     ∙ (let m = ended_is ended in omega (arith, m))
 
--- ---- branches
+-- ---- conditions and branches
 
-pub condition_is : (pat : Option Pat) (x : ExprFacts) → least_depth (condition_form pat x) ≡ max (pat_if pat) (least_depth x.form)
-condition_is None x = omega arith
-condition_is (Some pat) x = omega arith
+pub expr_link_is : (l : Link) (x : Expr) → l ≡ link.Expr x → least_depth (about_link l).form ≡ least_depth (about_expr x).form
+expr_link_is l x is =
+    ap (λ (k : Link). least_depth (about_link k).form) is ∙ ap (λ (k : LinkFacts). least_depth k.form) (laws.link_expr_is x)
+
+pub let_link_is : (l : Link) (pat : Pat) (value : Expr) → l ≡ link.Let pat value
+    → least_depth (about_link l).form ≡ max (least_depth (about_pat pat).told.form) (least_depth (about_expr value).form)
+let_link_is l pat value is =
+    ap (λ (k : Link). least_depth (about_link k).form) is
+    ∙ ap (λ (k : LinkFacts). least_depth k.form) (laws.link_let_is pat value)
+    ∙ omega arith
+
+further_links_are : (ls : List Link) → least_depth (links_form (map about_link ls)) ≡ greatest (map link_form ls)
+further_links_are [] = refl
+further_links_are (l ∷ more) = let m = further_links_are more in omega (arith, m)
+
+links_are : (ls : List Link) → least_depth (condition_form (map about_link ls)) ≡ greatest (map link_form ls)
+links_are [] = refl
+links_are (l ∷ []) = omega arith
+links_are (l ∷ k ∷ more) = let m = further_links_are (k ∷ more) in omega (arith, m)
+
+-- A condition needs what its deepest link does.
+pub condition_is : (c : Condition) → least_depth (about_condition c).form ≡ greatest (map link_form c.links)
+condition_is c = ap (λ (x : ConditionFacts). least_depth x.form) (laws.condition_is c) ∙ links_are c.links
 
 pub branch_is : (b : Branch)
     → least_depth (branch_form b)
-    ≡ max (max (pat_if b.pat) (least_depth (about_expr b.condition).form)) (least_depth ((about_block b.body).form true))
+    ≡ max (least_depth (about_condition b.condition).form) (least_depth ((about_block b.body).form true))
 branch_is b =
     ap (λ (x : BranchFacts). least_depth (Part x.condition x.soft)) (laws.branch_is b)
-    ∙ (let m = condition_is b.pat (about_expr b.condition) in
-    let n = soft_is b.body in omega (arith, m, n))
+    ∙ (let m = soft_is b.body in omega (arith, m))
 
 more_are : (bs : List Branch) (f : Form)
     → least_depth (more_branches (map about_branch bs) f) ≡ max (greatest (map branch_form bs)) (least_depth f)

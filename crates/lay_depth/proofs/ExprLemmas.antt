@@ -19,12 +19,13 @@ use Rattle.lay_node.specs.declared.types.Arg.{Arg}
 use Rattle.lay_node.specs.declared.types.Path.{Path}
 use Rattle.lay_node.specs.declared.types.PathStyle.TheVariants.{Code, Kind}
 use Rattle.lay_node.specs.declared.types.Ty.{Ty}
-use Rattle.lay_code.specs.nodes.Code.{about_arm, about_block, about_branch, about_expr, about_field_expr, about_step}
+use Rattle.lay_code.specs.nodes.Code.{about_arm, about_block, about_branch, about_condition, about_expr, about_field_expr, about_step}
 use Rattle.lay_code.specs.nodes.Exprs.{ExprFacts, ExprLayer, StepFacts, args_form, arm_forms, bar, base_form, break_if, closure_head, closure_param, else_branch_form, end_form, expr_facts, expr_forms, generics_form, group_if, inside, is_method, label_form, labelled, methods, operand_form, operands_form, postfix_form, prefixes_form, steps_form, targets_form, tuple_form, types_form}
 use Rattle.lay_code.specs.declared.blocks.Arm.{Arm}
 use Rattle.lay_code.specs.declared.blocks.Block.{Block}
 use Rattle.lay_code.specs.declared.blocks.Branch.{Branch}
 use Rattle.lay_code.specs.declared.blocks.Stmt.TheOpen.{Expr-F}
+use Rattle.lay_code.specs.declared.conditions.Condition.{Condition}
 use Rattle.lay_code.specs.declared.exprs.ClosureParam.{ClosureParam}
 use Rattle.lay_code.specs.declared.exprs.Expr.{Expr}
 use Rattle.lay_code.specs.declared.exprs.Expr.TheVariants as expr
@@ -40,8 +41,8 @@ use Rattle.lay_depth_nodes.specs.Depths.{counted, greatest, type_if}
 use Rattle.lay_depth_nodes.proofs.Forms.{attrs_are, behind_attrs_is, body_is, both_are, braces_are, call_is, leaf_is, list_is, param_attrs_are, tokens_are, when_is}
 use Rattle.lay_depth_nodes.proofs.PathLemmas.{style_is}
 use Rattle.lay_depth.specs.Parts as parts
-use Rattle.lay_depth.specs.Parts.{arm_form, block_if, branch_form, expr_if, pat_if, step_form, target_form}
-use Rattle.lay_depth.proofs.BlockLemmas.{arms_are, block_form_is, branches_are, condition_is, else_branch_is, soft_is}
+use Rattle.lay_depth.specs.Parts.{arm_form, block_if, branch_form, expr_if, step_form, target_form}
+use Rattle.lay_depth.proofs.BlockLemmas.{arms_are, block_form_is, branches_are, else_branch_is, soft_is}
 
 -- ---- parts
 
@@ -272,14 +273,13 @@ match_is x scrutinee attrs arms is =
     let o = attrs_are attrs in
     let p = arms_are arms in omega (arith, m, n, o, p))
 
-pub while_is : (x : Expr) (label : Option Lifetime) (pat : Option Pat) (condition : Expr) (body : Block) → x ≡ expr.While label pat condition body
-    → least_depth (about_expr x).form
-    ≡ max (max (pat_if pat) (least_depth (about_expr condition).form)) (least_depth ((about_block body).form true)) + 1
-while_is x label pat condition body is =
-    one_more x (expr.While label pat condition body) (Expr-F.While label pat (about_expr condition) (about_block body)) is
-    (laws.expr_while_is label pat condition body)
+pub while_is : (x : Expr) (label : Option Lifetime) (condition : Condition) (body : Block) → x ≡ expr.While label condition body
+    → least_depth (about_expr x).form ≡ max (least_depth (about_condition condition).form) (least_depth ((about_block body).form true)) + 1
+while_is x label condition body is =
+    one_more x (expr.While label condition body) (Expr-F.While label (about_condition condition) (about_block body)) is
+    (laws.expr_while_is label condition body)
     ∙ ap (λ (n : ℕ). n + 1) (labelled_is label _)
-    ∙ (let m = condition_is pat (about_expr condition) in omega (arith, m))
+    ∙ omega arith
 
 pub for_is : (x : Expr) (label : Option Lifetime) (pat : Pat) (iterated : Expr) (body : Block) → x ≡ expr.For label pat iterated body
     → least_depth (about_expr x).form

@@ -2,12 +2,11 @@
 use Rattle.std.specs.Prelude.{ℕ, max, true, Option, Some, None}
 use Rattle.lay_form.specs.Depth.{least_depth}
 use Rattle.lay_form.specs.Form.{Form, Part}
-use Rattle.lay_node.specs.nodes.Patterns.{about_pat}
-use Rattle.lay_node.specs.declared.patterns.Pat.{Pat}
-use Rattle.lay_code.specs.nodes.Code.{about_arm, about_block, about_branch, about_expr, about_step, told_of_kind}
+use Rattle.lay_code.specs.nodes.Code.{about_arm, about_block, about_branch, about_expr, about_link, about_step, told_of_kind}
 use Rattle.lay_code.specs.declared.blocks.Arm.{Arm}
 use Rattle.lay_code.specs.declared.blocks.Block.{Block}
 use Rattle.lay_code.specs.declared.blocks.Branch.{Branch}
+use Rattle.lay_code.specs.declared.conditions.Link.{Link}
 use Rattle.lay_code.specs.declared.exprs.Expr.{Expr}
 use Rattle.lay_code.specs.declared.exprs.Step.{Step}
 use Rattle.lay_code.specs.declared.item.ItemKind.{ItemKind}
@@ -27,7 +26,7 @@ step_form s = (about_step s).form
 abbrev pub arm_form : Arm → Form
 arm_form a = (about_arm a).form true
 
--- what is needed by an expression, a block or a pattern that may be left out
+-- what is needed by an expression or a block that may be left out
 abbrev pub expr_if : Option Expr → ℕ
 expr_if None = 0
 expr_if (Some x) = least_depth (about_expr x).form
@@ -36,9 +35,8 @@ abbrev pub block_if : Option Block → ℕ
 block_if None = 0
 block_if (Some b) = least_depth ((about_block b).form true)
 
-abbrev pub pat_if : Option Pat → ℕ
-pat_if None = 0
-pat_if (Some p) = least_depth (about_pat p).told.form
+abbrev pub link_form : Link → Form
+link_form l = (about_link l).form
 
 -- the condition of a branch and its block, as one form
 abbrev pub branch_form : Branch → Form

@@ -3,13 +3,13 @@ ghost use Rattle.std.specs.Prelude.{◌≡◌, map, true};
 ghost use Rattle.lay_form.specs.Depth.{least_depth};
 ghost use Rattle.lay_code.specs.nodes.Code.{about_block, about_stmt};
 ghost use Rattle.lay_depth_nodes.specs.Depths.{counted, greatest};
-ghost use Rattle.lay_depth.specs.Parts.{arm_form, block_if, branch_form, pat_if};
+ghost use Rattle.lay_depth.specs.Parts.{arm_form, block_if, branch_form};
 
+use crate::conditions::condition_depth;
 use crate::exprs::{expr_depth, operand_depth};
 use crate::items::item_depth;
 use lay_code::{Arm, Block, Branch, Stmt};
 use lay_depth_nodes::{deeper, pat_depth, type_or_none_depth};
-use lay_node::Pat;
 
 /// The depth of a block: that of its deepest statement.
 #[cycle(code)]
@@ -66,8 +66,7 @@ pub(crate) fn branches_depth(branches: &[Branch]) -> u32
 {
     let mut most = 0u32;
     for branch in branches {
-        let head = pat_or_none_depth(&branch.pat).max(expr_depth(branch.condition.get()));
-        most = most.max(head.max(block_depth(&branch.body)));
+        most = most.max(condition_depth(&branch.condition).max(block_depth(&branch.body)));
     }
     most
 }
@@ -83,14 +82,4 @@ pub(crate) fn arms_depth(arms: &[Arm]) -> u32
         most = most.max(head.max(deeper(expr_depth(arm.body.get()))));
     }
     most
-}
-
-/// The depth of a pattern that may be left out: 0 where it is.
-pub(crate) fn pat_or_none_depth(pat: &Option<Pat>) -> u32
-    ensures { result ≡ counted (pat_if pat.now) }
-{
-    match pat {
-        Some(pat) => pat_depth(pat),
-        None => 0,
-    }
 }

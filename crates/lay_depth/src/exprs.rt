@@ -7,9 +7,8 @@ ghost use Rattle.lay_code.specs.nodes.Exprs.{base_form, closure_param, expr_form
 ghost use Rattle.lay_depth_nodes.specs.Depths.{counted, greatest};
 ghost use Rattle.lay_depth.specs.Parts.{expr_if, operand_form, step_form, target_form};
 
-use crate::blocks::{
-    arms_depth, block_depth, block_or_none_depth, branches_depth, pat_or_none_depth,
-};
+use crate::blocks::{arms_depth, block_depth, block_or_none_depth, branches_depth};
+use crate::conditions::condition_depth;
 use lay_code::{ClosureParam, Expr, FieldExpr, Op, Step};
 use lay_depth_nodes::{
     arguments_depth, deeper, pat_depth, path_depth, type_depth, type_or_none_depth, types_depth,
@@ -62,14 +61,10 @@ pub(crate) fn expr_depth(expr: &Expr) -> u32
             ..
         } => deeper(expr_depth(scrutinee.get()).max(arms_depth(arms.as_slice()))),
         Expr::While {
-            pat,
             condition,
             body,
             ..
-        } => {
-            let head = pat_or_none_depth(pat).max(expr_depth(condition.get()));
-            deeper(head.max(block_depth(body)))
-        },
+        } => deeper(condition_depth(condition).max(block_depth(body))),
         Expr::For {
             pat,
             iterated,

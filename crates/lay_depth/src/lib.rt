@@ -6,6 +6,7 @@
 #![tactic(auto)]
 
 mod blocks;
+mod conditions;
 mod exprs;
 mod files;
 mod items;

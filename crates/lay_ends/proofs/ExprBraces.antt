@@ -20,10 +20,10 @@ use Rattle.lay_node.specs.declared.types.Path.{Path}
 use Rattle.lay_node.specs.declared.types.PathStyle.TheVariants.{Code}
 use Rattle.lay_node.specs.declared.types.Ty.{Ty}
 use Rattle.lay_code.specs.nodes.Blocks.{attrs_before, block_form, dropped_if, is_plain, stmt_form}
-use Rattle.lay_code.specs.nodes.Code.{about_arm, about_block, about_branch, about_expr, about_field_expr, about_step, about_stmt}
+use Rattle.lay_code.specs.nodes.Code.{about_arm, about_block, about_branch, about_condition, about_expr, about_field_expr, about_step, about_stmt}
 use Rattle.lay_code.specs.nodes.CodeFacts.{BlockFacts, BranchFacts}
 use Rattle.lay_code.specs.nodes.Ends.{brace_bits, brace_behind, ends_in_brace, is_brace_kind}
-use Rattle.lay_code.specs.nodes.Exprs.{ExprFacts, StepFacts, Tail, args_form, arm_forms, bar, base_form, break_if, closure_head, closure_param, condition_form, else_branch_form, end_form, expr_forms, generics_form, group_if, inside, is_brace, is_field, is_method, labelled, methods, more_branches, operands_form, prefix_bits, prefixes_form, steps_form, tail_of_end, tail_of_jump, tail_of_operands, tail_of_steps, targets_form, types_form}
+use Rattle.lay_code.specs.nodes.Exprs.{ExprFacts, StepFacts, Tail, args_form, arm_forms, bar, base_form, break_if, closure_head, closure_param, else_branch_form, end_form, expr_forms, generics_form, group_if, inside, is_brace, is_field, is_method, labelled, methods, more_branches, operands_form, prefix_bits, prefixes_form, steps_form, tail_of_end, tail_of_jump, tail_of_operands, tail_of_steps, targets_form, types_form}
 use Rattle.lay_code.specs.nodes.Layers.{ExprNode}
 use Rattle.lay_code.specs.declared.blocks.Block.{Block}
 use Rattle.lay_code.specs.declared.blocks.Branch.{Branch}
@@ -197,7 +197,7 @@ brace_in (Expr-F.Async moves b) = true
 brace_in (Expr-F.If branches otherwise) = has_block branches otherwise
 brace_in (Expr-F.Match x attrs arms) = true
 brace_in (Expr-F.Loop label b) = true
-brace_in (Expr-F.While label pat x b) = true
+brace_in (Expr-F.While label c b) = true
 brace_in (Expr-F.For label pat x b) = true
 brace_in (Expr-F.Closure is_async moves params x) = ends_in_brace (about_expr x).form
 brace_in (Expr-F.TypedClosure is_async moves params output b) = true
@@ -271,10 +271,10 @@ brace_by _ (laws.IsMatch x attrs arms) =
 brace_by _ (laws.IsLoop label b) =
     let f : Form = Piece (keyword (codes "loop") ∷ []) (Part ((about_block b).form true) Done) in
     rw (laws.expr_loop_is label b, views.outs-Loop label b) (labelled_ends label f (λ c. block_ends b true _) false)
-brace_by _ (laws.IsWhile label pat x b) =
-    let head : Form = Piece (keyword (codes "while") ∷ Blank ∷ []) (Part (condition_form pat (about_expr x)) Done) in
+brace_by _ (laws.IsWhile label c b) =
+    let head : Form = Piece (keyword (codes "while") ∷ Blank ∷ []) (Part (about_condition c).form Done) in
     let f = I0 head (Part ((about_block b).form true) Done) in
-    rw (laws.expr_while_is label pat x b, views.outs-While label pat x b) (labelled_ends label f (λ c. block_ends b true _) false)
+    rw (laws.expr_while_is label c b, views.outs-While label c b) (labelled_ends label f (λ before. block_ends b true _) false)
 brace_by _ (laws.IsFor label pat x b) =
     let behind : Form = Piece (Blank ∷ keyword (codes "in") ∷ Blank ∷ []) (Part (about_expr x).form Done) in
     let head : Form = Piece (keyword (codes "for") ∷ Blank ∷ []) (Part (pat_form Alternatives (about_pat pat)) behind) in
@@ -479,7 +479,7 @@ closure_by _ (laws.IsIf branches None) = rw (laws.expr_if_is branches None, view
 closure_by _ (laws.IsIf branches (Some b)) = rw (laws.expr_if_is branches (Some b), views.outs-If branches (Some b)) refl
 closure_by _ (laws.IsMatch x attrs arms) = rw (laws.expr_match_is x attrs arms, views.outs-Match x attrs arms) refl
 closure_by _ (laws.IsLoop label b) = rw (laws.expr_loop_is label b, views.outs-Loop label b) refl
-closure_by _ (laws.IsWhile label pat x b) = rw (laws.expr_while_is label pat x b, views.outs-While label pat x b) refl
+closure_by _ (laws.IsWhile label c b) = rw (laws.expr_while_is label c b, views.outs-While label c b) refl
 closure_by _ (laws.IsFor label pat x b) = rw (laws.expr_for_is label pat x b, views.outs-For label pat x b) refl
 closure_by _ (laws.IsClosure is_async moves params x) = rw (laws.expr_closure_is is_async moves params x, views.outs-Closure is_async moves params x) refl
 closure_by _ (laws.IsTypedClosure is_async moves params output b) = rw (laws.expr_typed_closure_is is_async moves params output b, views.outs-TypedClosure is_async moves params output b) refl

@@ -8,7 +8,7 @@ use Rattle.lay_code.specs.declared.blocks.Block.{Block}
 use Rattle.lay_code.specs.declared.blocks.Stmt.{Stmt}
 use Rattle.lay_code.specs.declared.blocks.Stmt.TheFolds.{fold_out-Block, fold-roll-Expr, fold-roll-Stmt}
 use Rattle.lay_code.specs.declared.blocks.Stmt.TheFolds as fold
-use Rattle.lay_code.specs.declared.blocks.Stmt.TheOpen.{Arm-F, Block-F, Branch-F, Expr-F, FieldExpr-F, Item-F, ItemKind-F, Step-F, Stmt-F}
+use Rattle.lay_code.specs.declared.blocks.Stmt.TheOpen.{Arm-F, Block-F, Branch-F, Condition-F, Expr-F, FieldExpr-F, Item-F, ItemKind-F, Link-F, Step-F, Stmt-F}
 use Rattle.lay_code.specs.declared.blocks.Stmt.TheVariants as stmt
 use Rattle.lay_code.specs.declared.blocks.Stmt.TheViews as views
 use Rattle.lay_code.specs.declared.exprs.Expr.{Expr}
@@ -21,60 +21,66 @@ abbrev first_layers : List ℕ → ℕ
 first_layers [] = zero
 first_layers (n ∷ more) = n
 
-abbrev stmt_layers : Stmt-F ℕ ℕ ℕ ℕ ℕ ℕ ℕ ℕ ℕ → ℕ
+abbrev stmt_layers : Stmt-F ℕ ℕ ℕ ℕ ℕ ℕ ℕ ℕ ℕ ℕ ℕ → ℕ
 stmt_layers (Stmt-F.Stmt::Expr attrs x ended) = x
 stmt_layers _ = zero
 
-abbrev block_layers : Block-F ℕ ℕ ℕ ℕ ℕ ℕ ℕ ℕ ℕ → ℕ
+abbrev block_layers : Block-F ℕ ℕ ℕ ℕ ℕ ℕ ℕ ℕ ℕ ℕ ℕ → ℕ
 block_layers b = first_layers b.stmts
 
-abbrev expr_layers : Expr-F ℕ ℕ ℕ ℕ ℕ ℕ ℕ ℕ ℕ → ℕ
+abbrev expr_layers : Expr-F ℕ ℕ ℕ ℕ ℕ ℕ ℕ ℕ ℕ ℕ ℕ → ℕ
 expr_layers (Expr-F.Block label b) = suc b
 expr_layers _ = zero
 
-abbrev field_layers : FieldExpr-F ℕ ℕ ℕ ℕ ℕ ℕ ℕ ℕ ℕ → ℕ
+abbrev field_layers : FieldExpr-F ℕ ℕ ℕ ℕ ℕ ℕ ℕ ℕ ℕ ℕ ℕ → ℕ
 field_layers x = zero
 
-abbrev step_layers : Step-F ℕ ℕ ℕ ℕ ℕ ℕ ℕ ℕ ℕ → ℕ
+abbrev step_layers : Step-F ℕ ℕ ℕ ℕ ℕ ℕ ℕ ℕ ℕ ℕ ℕ → ℕ
 step_layers x = zero
 
-abbrev kind_layers : ItemKind-F ℕ ℕ ℕ ℕ ℕ ℕ ℕ ℕ ℕ → ℕ
+abbrev kind_layers : ItemKind-F ℕ ℕ ℕ ℕ ℕ ℕ ℕ ℕ ℕ ℕ ℕ → ℕ
 kind_layers x = zero
 
-abbrev arm_layers : Arm-F ℕ ℕ ℕ ℕ ℕ ℕ ℕ ℕ ℕ → ℕ
+abbrev arm_layers : Arm-F ℕ ℕ ℕ ℕ ℕ ℕ ℕ ℕ ℕ ℕ ℕ → ℕ
 arm_layers x = zero
 
-abbrev branch_layers : Branch-F ℕ ℕ ℕ ℕ ℕ ℕ ℕ ℕ ℕ → ℕ
+abbrev branch_layers : Branch-F ℕ ℕ ℕ ℕ ℕ ℕ ℕ ℕ ℕ ℕ ℕ → ℕ
 branch_layers x = zero
 
-abbrev item_layers : Item-F ℕ ℕ ℕ ℕ ℕ ℕ ℕ ℕ ℕ → ℕ
+abbrev condition_layers : Condition-F ℕ ℕ ℕ ℕ ℕ ℕ ℕ ℕ ℕ ℕ ℕ → ℕ
+condition_layers x = zero
+
+abbrev link_layers : Link-F ℕ ℕ ℕ ℕ ℕ ℕ ℕ ℕ ℕ ℕ ℕ → ℕ
+link_layers x = zero
+
+abbrev item_layers : Item-F ℕ ℕ ℕ ℕ ℕ ℕ ℕ ℕ ℕ ℕ ℕ → ℕ
 item_layers x = zero
 
 unfoldable pub layers : Expr → ℕ
-layers = fold.fold-Expr ℕ ℕ ℕ ℕ ℕ ℕ ℕ ℕ ℕ stmt_layers expr_layers field_layers step_layers kind_layers arm_layers block_layers branch_layers item_layers
+layers = fold.fold-Expr ℕ ℕ ℕ ℕ ℕ ℕ ℕ ℕ ℕ ℕ ℕ stmt_layers link_layers expr_layers field_layers step_layers kind_layers arm_layers block_layers branch_layers condition_layers item_layers
 
 unfoldable layers_of_block : Block → ℕ
-layers_of_block = fold.fold-Block ℕ ℕ ℕ ℕ ℕ ℕ ℕ ℕ ℕ stmt_layers expr_layers field_layers step_layers kind_layers arm_layers block_layers branch_layers item_layers
+layers_of_block = fold.fold-Block ℕ ℕ ℕ ℕ ℕ ℕ ℕ ℕ ℕ ℕ ℕ stmt_layers link_layers expr_layers field_layers step_layers kind_layers arm_layers block_layers branch_layers condition_layers item_layers
 
 unfoldable layers_of_stmt : Stmt → ℕ
-layers_of_stmt = fold.fold-Stmt ℕ ℕ ℕ ℕ ℕ ℕ ℕ ℕ ℕ stmt_layers expr_layers field_layers step_layers kind_layers arm_layers block_layers branch_layers item_layers
+layers_of_stmt = fold.fold-Stmt ℕ ℕ ℕ ℕ ℕ ℕ ℕ ℕ ℕ ℕ ℕ stmt_layers link_layers expr_layers field_layers step_layers kind_layers arm_layers block_layers branch_layers condition_layers item_layers
 
 in_block : (b : Block) → layers (expr.Block None b) ≡ suc (layers_of_block b)
 unfolding layers layers_of_block layers_of_stmt
 in_block b =
     ap layers (sym (views.rolls-Block None b))
-    ∙ fold-roll-Expr ℕ ℕ ℕ ℕ ℕ ℕ ℕ ℕ ℕ stmt_layers expr_layers field_layers step_layers kind_layers arm_layers block_layers branch_layers item_layers (Expr-F.Block None b)
+    ∙ fold-roll-Expr ℕ ℕ ℕ ℕ ℕ ℕ ℕ ℕ ℕ ℕ ℕ stmt_layers link_layers expr_layers field_layers step_layers kind_layers arm_layers block_layers branch_layers condition_layers item_layers (Expr-F.Block None b)
 
 in_stmts : (b : Block) → layers_of_block b ≡ first_layers (map layers_of_stmt b.stmts)
 unfolding layers layers_of_block layers_of_stmt
 in_stmts b =
-    fold_out-Block ℕ ℕ ℕ ℕ ℕ ℕ ℕ ℕ ℕ stmt_layers expr_layers field_layers step_layers kind_layers arm_layers block_layers branch_layers item_layers b
+    fold_out-Block ℕ ℕ ℕ ℕ ℕ ℕ ℕ ℕ ℕ ℕ ℕ stmt_layers link_layers expr_layers field_layers step_layers kind_layers arm_layers block_layers branch_layers condition_layers item_layers b
 
 in_stmt : (x : Expr) → layers_of_stmt (stmt.Expr [] x false) ≡ layers x
 unfolding layers layers_of_block layers_of_stmt
 in_stmt x =
     ap layers_of_stmt (sym (views.rolls-Stmt::Expr [] x false))
-    ∙ fold-roll-Stmt ℕ ℕ ℕ ℕ ℕ ℕ ℕ ℕ ℕ stmt_layers expr_layers field_layers step_layers kind_layers arm_layers block_layers branch_layers item_layers (Stmt-F.Stmt::Expr [] x false)
+    ∙ fold-roll-Stmt ℕ ℕ ℕ ℕ ℕ ℕ ℕ ℕ ℕ ℕ ℕ stmt_layers link_layers expr_layers field_layers step_layers kind_layers arm_layers block_layers branch_layers condition_layers item_layers (Stmt-F.Stmt::Expr [] x false)
 
 -- A block of one expression is a layer more.
 pub one_layer : (x : Expr) → layers (alone x) ≡ suc (layers x)
@@ -87,13 +93,13 @@ pub one_turn : (n : ℕ) (x : Expr) → is_lone_body (about_expr (alone x)).kind
 unfolding undressed
 one_turn n x h =
     rw h (ap (block_held (undressed n) (alone x)) (views.outs-Block None (alone_block x))
-    ∙ ap (bare_by (undressed n) (alone x)) (views.outs-Expr [] x false))
+    ∙ ap (bare_by (undressed n) (alone x)) (views.outs-Stmt::Expr [] x false))
 
 pub block_alone : (x : Expr) → block_of (alone x) ≡ Some (alone_block x)
 block_alone x = rw (views.outs-Block None (alone_block x)) refl
 
 pub expr_alone : (x : Expr) → expr_of (stmt.Expr [] x false) ≡ Some x
-expr_alone x = rw (views.outs-Expr [] x false) refl
+expr_alone x = rw (views.outs-Stmt::Expr [] x false) refl
 
 pub around : (x : Expr) → is_lone_body (about_expr x).kind ≡ true → (y : Expr) × (x ≡ alone y)
 around x h = by x (is_alone x h)

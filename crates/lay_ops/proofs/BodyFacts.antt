@@ -60,7 +60,7 @@ kind_by _ (laws.IsIf branches None) = rw (laws.expr_if_is branches None, views.o
 kind_by _ (laws.IsIf branches (Some b)) = rw (laws.expr_if_is branches (Some b), views.outs-If branches (Some b)) refl
 kind_by _ (laws.IsMatch x attrs arms) = rw (laws.expr_match_is x attrs arms, views.outs-Match x attrs arms) refl
 kind_by _ (laws.IsLoop label b) = rw (laws.expr_loop_is label b, views.outs-Loop label b) refl
-kind_by _ (laws.IsWhile label pat x b) = rw (laws.expr_while_is label pat x b, views.outs-While label pat x b) refl
+kind_by _ (laws.IsWhile label c b) = rw (laws.expr_while_is label c b, views.outs-While label c b) refl
 kind_by _ (laws.IsFor label pat x b) = rw (laws.expr_for_is label pat x b, views.outs-For label pat x b) refl
 kind_by _ (laws.IsClosure is_async moves params x) = rw (laws.expr_closure_is is_async moves params x, views.outs-Closure is_async moves params x) refl
 kind_by _ (laws.IsTypedClosure is_async moves params output b) = rw (laws.expr_typed_closure_is is_async moves params output b, views.outs-TypedClosure is_async moves params output b) refl
@@ -100,9 +100,9 @@ pub ends_is : (s : Stmt) → (about_stmt s).ends ≡ ends_in (views.out-Stmt s)
 ends_is s = by s (blocks.stmt_view s)
   where
     by : (s : Stmt) → blocks.StmtView s → (about_stmt s).ends ≡ ends_in (views.out-Stmt s)
-    by _ (blocks.IsLet attrs pat ty value otherwise) = rw (blocks.stmt_let_is attrs pat ty value otherwise, views.outs-Let attrs pat ty value otherwise) refl
+    by _ (blocks.IsLet attrs pat ty value otherwise) = rw (blocks.stmt_let_is attrs pat ty value otherwise, views.outs-Stmt::Let attrs pat ty value otherwise) refl
     by _ (blocks.IsItem item) = rw (blocks.stmt_item_is item, views.outs-Item item) refl
-    by _ (blocks.IsExpr attrs x ended) = rw (blocks.stmt_expr_is attrs x ended, views.outs-Expr attrs x ended) refl
+    by _ (blocks.IsExpr attrs x ended) = rw (blocks.stmt_expr_is attrs x ended, views.outs-Stmt::Expr attrs x ended) refl
 
 abbrev pub lone_stmt_in : StmtNode → Bool
 lone_stmt_in (Stmt-F.Stmt::Expr attrs x ended) = (is_plain attrs && not ended) && not (is_macro (about_expr x).kind)
@@ -112,9 +112,9 @@ pub lone_stmt_is : (s : Stmt) → ((about_stmt s).bare && not (about_stmt s).cal
 lone_stmt_is s = by s (blocks.stmt_view s)
   where
     by : (s : Stmt) → blocks.StmtView s → ((about_stmt s).bare && not (about_stmt s).call) ≡ lone_stmt_in (views.out-Stmt s)
-    by _ (blocks.IsLet attrs pat ty value otherwise) = rw (blocks.stmt_let_is attrs pat ty value otherwise, views.outs-Let attrs pat ty value otherwise) refl
+    by _ (blocks.IsLet attrs pat ty value otherwise) = rw (blocks.stmt_let_is attrs pat ty value otherwise, views.outs-Stmt::Let attrs pat ty value otherwise) refl
     by _ (blocks.IsItem item) = rw (blocks.stmt_item_is item, views.outs-Item item) refl
-    by _ (blocks.IsExpr attrs x ended) = rw (blocks.stmt_expr_is attrs x ended, views.outs-Expr attrs x ended) refl
+    by _ (blocks.IsExpr attrs x ended) = rw (blocks.stmt_expr_is attrs x ended, views.outs-Stmt::Expr attrs x ended) refl
 
 -- ---- blocks
 

@@ -53,7 +53,7 @@ root_in (Expr-F.ConstBlock b) = block_root
 root_in (Expr-F.If branches otherwise) = block_root
 root_in (Expr-F.Match x attrs arms) = block_root
 root_in (Expr-F.Loop label b) = block_root
-root_in (Expr-F.While label pat x b) = block_root
+root_in (Expr-F.While label c b) = block_root
 root_in (Expr-F.For label pat x b) = block_root
 root_in _ = plain_root 14
 
@@ -91,7 +91,7 @@ root_by _ (laws.IsIf branches None) = rw (laws.expr_if_is branches None, views.o
 root_by _ (laws.IsIf branches (Some b)) = rw (laws.expr_if_is branches (Some b), views.outs-If branches (Some b)) refl
 root_by _ (laws.IsMatch x attrs arms) = rw (laws.expr_match_is x attrs arms, views.outs-Match x attrs arms) refl
 root_by _ (laws.IsLoop label b) = rw (laws.expr_loop_is label b, views.outs-Loop label b) refl
-root_by _ (laws.IsWhile label pat x b) = rw (laws.expr_while_is label pat x b, views.outs-While label pat x b) refl
+root_by _ (laws.IsWhile label c b) = rw (laws.expr_while_is label c b, views.outs-While label c b) refl
 root_by _ (laws.IsFor label pat x b) = rw (laws.expr_for_is label pat x b, views.outs-For label pat x b) refl
 root_by _ (laws.IsClosure is_async moves params x) = rw (laws.expr_closure_is is_async moves params x, views.outs-Closure is_async moves params x) refl
 root_by _ (laws.IsTypedClosure is_async moves params output b) = rw (laws.expr_typed_closure_is is_async moves params output b, views.outs-TypedClosure is_async moves params output b) refl

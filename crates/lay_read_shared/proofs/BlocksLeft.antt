@@ -4,6 +4,7 @@ use Rattle.lay_piece.specs.declared.kind.Delim.TheVariants.{Brace}
 use Rattle.lay_token.specs.Operators.{is_op}
 use Rattle.lay_token.specs.declared.token.Token.{Token}
 use Rattle.lay_node.specs.Ahead.{Tokens, first, tail, is_keyword, is_mark, opens, closes, more_items}
+use Rattle.lay_node.specs.Follow.{begins_dots}
 use Rattle.lay_node.specs.reader.Attr.{attributes}
 use Rattle.lay_node.specs.reader.Heads.{semicolon}
 use Rattle.lay_node.specs.reader.Loops.{Got, ◌>>=◌, passed, nodes, deepest, repeat, elements}
@@ -19,6 +20,7 @@ use Rattle.lay_code.specs.nodes.Blocks.{is_free}
 use Rattle.lay_code.specs.nodes.Code.{about_expr, about_stmt, told_of_item}
 use Rattle.lay_code.specs.nodes.Places.{FREE, plain, statement}
 use Rattle.lay_code.specs.reader.Blocks as b
+use Rattle.lay_code.specs.reader.Conditions as c
 use Rattle.lay_code.specs.reader.Exprs as r
 use Rattle.lay_code.specs.reader.Within.{ExprWithin}
 use Rattle.lay_code.specs.declared.blocks.Block.{Block}
@@ -31,13 +33,14 @@ use Rattle.lay_read_parts.proofs.Left.{weaker, read_left, lifetime_left}
 use Rattle.lay_read_types.proofs.Left.{LeftWithin}
 use Rattle.lay_read_shared.proofs.HeadPartsLeft.{tail_left}
 
--- Each reader of what is one level deeper passes a token at least.
+-- Each reader of what is one level deeper passes a token at least, and what goes on with a condition may pass none.
 pub record LeftCode (deeper : ExprWithin) : Type 0 where
   pub exprs : (place : Place) (ts : Tokens) → Leaves 1 ts (deeper.exprs place ts)
   pub kinds : LeftWithin deeper.kinds
   pub pats : (place : PatPlace) (ts : Tokens) → Leaves 1 ts (deeper.pats place ts)
   pub blocks : (ts : Tokens) → Leaves 1 ts (deeper.blocks ts)
   pub items : (at : Site) (ts : Tokens) → Leaves 1 ts (deeper.items at ts)
+  pub goes_on : (x : Expr × ℕ) (ts : Tokens) → Leaves 0 ts (deeper.goes_on x ts)
 
 semicolons_by : (t : Token) (ts : Tokens) (marked : Bool) → Left 0 ts (b.behind_semicolons ts)
     → Left 0 (t ∷ ts) (if marked then b.behind_semicolons ts else t ∷ ts)
@@ -123,21 +126,48 @@ module _ (deeper : ExprWithin) (l : LeftCode deeper) where
 
   -- ---- branches
 
-  condition_left : (ts : Tokens) → Leaves 1 ts (b.condition_by deeper ts)
-  unfolding b.condition_by
-  condition_left ts = choice 1 ts (first (is_keyword (codes "let")) ts) _ _
-      (λ h. further 1 0 1 ts (tail ts) _ (omega arith) (tail_left ts)
-      (chain 1 1 0 (tail ts) (deeper.pats Alternatives (tail ts)) _ (omega arith) (l.pats Alternatives (tail ts))
+  let_link_left : (ts : Tokens) → Leaves 1 ts (c.let_link deeper ts)
+  unfolding c.let_link
+  let_link_left ts = chain 1 1 0 ts (deeper.pats Alternatives ts) _ (omega arith) (l.pats Alternatives ts)
       (λ p. chain 0 0 0 p.1 _ _ (omega arith)
       (choice 0 p.1 (is_op (codes "=") p.1) (deeper.exprs (plain 4 true) (drop 1 p.1)) None
       (λ e. further 0 0 1 p.1 (drop 1 p.1) _ (omega arith) (dropped 1 p.1) (l.exprs (plain 4 true) (drop 1 p.1))) tt)
-      (λ x. unread x.1))))
-      (chain 1 1 0 ts (deeper.exprs (plain 0 true) ts) _ (omega arith) (l.exprs (plain 0 true) ts) (λ x. unread x.1))
+      (λ x. unread x.1))
+
+  link_left : (ts : Tokens) → Leaves 1 ts (c.link_by deeper ts)
+  link_left ts = choice 1 ts (first (is_keyword (codes "let")) ts) _ _
+      (λ h. further 1 0 1 ts (tail ts) _ (omega arith) (tail_left ts) (let_link_left (tail ts)))
+      (chain 1 1 0 ts (deeper.exprs (plain 4 true) ts) _ (omega arith) (l.exprs (plain 4 true) ts) (λ x. unread x.1))
+
+  one_link_left : (ts : Tokens) → Leaves 1 ts (c.one_link deeper ts)
+  unfolding c.one_link
+  one_link_left ts = chain 1 1 0 ts (c.link_by deeper ts) _ (omega arith) (link_left ts)
+      (λ x. choice 0 x.1 (c.link_ends x.0.0 x.1) _ None (λ h. unread x.1) tt)
+
+  pub further_link_left : (ts : Tokens) → Leaves 1 ts (c.one_link deeper (drop 2 ts))
+  further_link_left ts = further 1 0 1 ts (drop 2 ts) _ (omega arith) (dropped 2 ts) (one_link_left (drop 2 ts))
+
+  further_links_left : (ts : Tokens) → Leaves 0 ts (c.further_links deeper ts)
+  unfolding c.further_links
+  further_links_left ts = repeat_left (λ us. c.one_link deeper (drop 2 us)) further_link_left c.begins_link ts
+
+  condition_of_left : (x : c.ReadLink × ℕ) (more : List (c.ReadLink × ℕ)) (ts : Tokens) → Leaves 0 ts (c.condition_of deeper x more ts)
+  unfolding c.condition_of
+  condition_of_left x more ts = choice 0 ts (c.any_let x more) _ _ (λ h. unread ts)
+      (chain 0 0 0 ts (deeper.goes_on (c.chain_of x more) ts) _ (omega arith) (l.goes_on (c.chain_of x more) ts) (λ y. unread y.1))
+
+  condition_left : (ts : Tokens) → Leaves 1 ts (c.condition_by deeper ts)
+  unfolding c.condition_by
+  condition_left ts = choice 1 ts (begins_dots ts) _ _
+      (λ h. chain 1 1 0 ts (deeper.exprs (plain 0 true) ts) _ (omega arith) (l.exprs (plain 0 true) ts) (λ x. unread x.1))
+      (chain 1 1 0 ts (c.one_link deeper ts) _ (omega arith) (one_link_left ts)
+      (λ x. chain 0 0 0 x.1 (c.further_links deeper x.1) _ (omega arith) (further_links_left x.1)
+      (λ more. condition_of_left x.0 more.0 more.1)))
 
   pub branch_left : (ts : Tokens) → Leaves 1 ts (b.branch_by deeper ts)
   unfolding b.branch_by
-  branch_left ts = chain 1 1 0 ts (b.condition_by deeper ts) _ (omega arith) (condition_left ts)
-      (λ c. chain 0 1 0 c.1 (b.block_by deeper c.1) _ (omega arith) (block_left c.1) (λ x. unread x.1))
+  branch_left ts = chain 1 1 0 ts (c.condition_by deeper ts) _ (omega arith) (condition_left ts)
+      (λ x. chain 0 1 0 x.1 (b.block_by deeper x.1) _ (omega arith) (block_left x.1) (λ y. unread y.1))
 
   pub else_if_left : (ts : Tokens) → Leaves 1 ts (b.branch_by deeper (drop 2 ts))
   else_if_left ts = further 1 0 1 ts (drop 2 ts) _ (omega arith) (dropped 2 ts) (branch_left (drop 2 ts))
@@ -197,8 +227,8 @@ module _ (deeper : ExprWithin) (l : LeftCode deeper) where
 
   while_left : (label : Option Lifetime) (ts : Tokens) → Leaves 1 ts (r.while_expr deeper label ts)
   unfolding r.while_expr
-  while_left label ts = chain 1 1 0 ts (b.condition_by deeper ts) _ (omega arith) (condition_left ts)
-      (λ c. chain 0 1 0 c.1 (b.block_by deeper c.1) _ (omega arith) (block_left c.1) (λ x. unread x.1))
+  while_left label ts = chain 1 1 0 ts (c.condition_by deeper ts) _ (omega arith) (condition_left ts)
+      (λ x. chain 0 1 0 x.1 (b.block_by deeper x.1) _ (omega arith) (block_left x.1) (λ y. unread y.1))
 
   for_left : (label : Option Lifetime) (ts : Tokens) → Leaves 1 ts (r.for_expr deeper label ts)
   unfolding r.for_expr

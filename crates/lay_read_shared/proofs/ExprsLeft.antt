@@ -25,6 +25,7 @@ use Rattle.lay_code.specs.Operators.{op_text, binary, prefix, prefix_length, beg
 use Rattle.lay_code.specs.nodes.Code.{about_expr}
 use Rattle.lay_code.specs.nodes.Exprs.{stands, root_follows}
 use Rattle.lay_code.specs.nodes.Places.{plain, FREE}
+use Rattle.lay_code.specs.reader.Code.{climbed_on}
 use Rattle.lay_code.specs.reader.Exprs as r
 use Rattle.lay_code.specs.reader.Within.{ExprWithin}
 use Rattle.lay_code.specs.declared.exprs.Expr.{Expr}
@@ -332,11 +333,18 @@ module _ (deeper : ExprWithin) (l : LeftCode deeper) where
 
   -- ---- within a depth
 
+  accepted_left : (budget : ℕ) (place : Place) (x : Expr × ℕ) (ts : Tokens) → Leaves 0 ts (r.accepted budget place x ts)
+  accepted_left budget place x ts = choice 0 ts
+      (stands (about_expr x.0) place && root_follows (about_expr x.0) place ts && nat_le x.1 budget) _ None (λ e. unread ts) tt
+
   pub expr_by_left : (budget : ℕ) (place : Place) (ts : Tokens) → Leaves 1 ts (r.expr_by deeper budget place ts)
   unfolding r.expr_by
   expr_by_left budget place ts = chain 1 1 0 ts (r.head_by deeper place.no_struct (expr_lead_at ts) ts) _ (omega arith)
       (head_left place.no_struct ts)
       (λ h. chain 0 0 0 h.1 (r.climb_by deeper place h.0 h.1) _ (omega arith)
       (choice 0 h.1 (r.is_ended place (about_expr h.0.0) h.1) _ _ (λ e. unread h.1) (climb_left place 14 h.0 h.1))
-      (λ x. choice 0 x.1 (stands (about_expr x.0.0) place && root_follows (about_expr x.0.0) place x.1 && nat_le x.0.1 budget)
-      _ None (λ e. unread x.1) tt))
+      (λ x. accepted_left budget place x.0 x.1))
+
+  pub climbed_on_left : (budget : ℕ) (x : Expr × ℕ) (ts : Tokens) → Leaves 0 ts (climbed_on deeper budget x ts)
+  climbed_on_left budget x ts = chain 0 0 0 ts (r.climb deeper (plain 0 true) 3 x ts) _ (omega arith)
+      (climb_left (plain 0 true) 3 x ts) (λ y. accepted_left budget (plain 0 true) y.0 y.1)

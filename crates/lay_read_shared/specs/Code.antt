@@ -13,4 +13,5 @@ code_within depth = record {
   pats = λ place ts. pat_at place depth ts;
   blocks = λ ts. (code_in depth).blocks ts;
   items = λ at ts. item_at at depth ts;
+  goes_on = λ x ts. (code_in depth).goes_on x ts;
 }

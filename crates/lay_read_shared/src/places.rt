@@ -49,3 +49,16 @@ pub fn before_op(level: u8, no_struct: bool, first: bool, angle: bool) -> Place
         lt_after: angle,
     }
 }
+
+/// A link of a condition with a `let`, behind which a further link follows if it is said.
+pub fn link_place(more: bool) -> Place
+    ensures { result ≡ places.link_place more }
+{
+    Place {
+        level: 4,
+        no_struct: true,
+        start: Start::No,
+        op_after: more,
+        lt_after: false,
+    }
+}

@@ -4,6 +4,7 @@ pub mod Blocks
 pub mod Closures
 pub mod Code
 pub mod CodeKept
+pub mod Conditions
 pub mod ExprBlocks
 pub mod ExprKinds
 pub mod ExprOperands

@@ -2,7 +2,9 @@
 ghost use Rattle.std.specs.Prelude.{◌≡◌, ◌↔◌, IsTrue};
 
 use crate::operators::{same_op, same_params, same_prefixes};
-use lay_code::{Arm, Block, Branch, Expr, FieldExpr, Item, ItemKind, Op, Step, Stmt};
+use lay_code::{
+    Arm, Block, Branch, Condition, Expr, FieldExpr, Item, ItemKind, Link, Op, Step, Stmt,
+};
 use lay_node::Boxed;
 use lay_same_nodes::Same;
 
@@ -172,19 +174,16 @@ pub fn same_expr(expr: &Expr, other: &Expr) -> bool
         },
         Expr::While {
             label,
-            pat,
             condition,
             body,
         } => match other {
             Expr::While {
                 label: other_label,
-                pat: other_pat,
                 condition: other_condition,
                 body: other_body,
             } => {
                 label.same(other_label)
-                    && pat.same(other_pat)
-                    && same_expr(condition.get(), other_condition.get())
+                    && same_condition(condition, other_condition)
                     && same_block(body, other_body)
             }
             _ => false,
@@ -403,9 +402,34 @@ pub fn same_stmt(stmt: &Stmt, other: &Stmt) -> bool
 fn same_branch(branch: &Branch, other: &Branch) -> bool
     ensures { IsTrue result ↔ branch.now ≡ other.now }
 {
-    branch.pat.same(&other.pat)
-        && same_expr(branch.condition.get(), other.condition.get())
-        && same_block(&branch.body, &other.body)
+    same_condition(&branch.condition, &other.condition) && same_block(&branch.body, &other.body)
+}
+
+/// Whether two conditions are equal.
+#[cycle(code)]
+fn same_condition(condition: &Condition, other: &Condition) -> bool
+    ensures { IsTrue result ↔ condition.now ≡ other.now }
+{
+    same_links(condition.links.as_slice(), other.links.as_slice())
+}
+
+/// Whether two links of conditions are equal.
+#[cycle(code)]
+fn same_link(link: &Link, other: &Link) -> bool
+    ensures { IsTrue result ↔ link.now ≡ other.now }
+{
+    match link {
+        Link::Expr { expr } => {
+            matches!(other, Link::Expr { expr: given } if same_expr(expr.get(), given.get()))
+        }
+        Link::Let { pat, value } => match other {
+            Link::Let {
+                pat: other_pat,
+                value: other_value,
+            } => pat.same(other_pat) && same_expr(value.get(), other_value.get()),
+            _ => false,
+        },
+    }
 }
 
 /// Whether two arms are equal.
@@ -613,6 +637,22 @@ fn same_branches(branches: &[Branch], others: &[Branch]) -> bool
     }
     for (branch, other) in branches.iter().zip(others) {
         if !same_branch(branch, other) {
+            return false;
+        }
+    }
+    true
+}
+
+/// Whether the links of two conditions are equal.
+#[cycle(code)]
+fn same_links(links: &[Link], others: &[Link]) -> bool
+    ensures { IsTrue result ↔ links.now ≡ others.now }
+{
+    if links.len() != others.len() {
+        return false;
+    }
+    for (link, other) in links.iter().zip(others) {
+        if !same_link(link, other) {
             return false;
         }
     }

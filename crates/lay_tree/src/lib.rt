@@ -13,12 +13,12 @@ pub use exprs::{same_arm, same_block, same_expr, same_item, same_stmt};
 pub use files::same;
 pub use lay_code::{
     Abi, Alias, Arg, Args, Arm, Attr, Binder, Block, Bound, Boxed, Branch, Capture, ClosureParam,
-    ConstArg, ConstDefault, Constraint, Enum, Expr, ExternCrate, Field, FieldExpr, FieldPat,
-    Fields, File, FnHead, FuncParam, GenericParam, Generics, GivenName, Group, ImplHead, Item,
-    ItemKind, Lifetime, LifetimeParam, Listed, Literal, MacroCall, MetaInput, MetaPath, Name, Op,
-    Param, ParamKind, Pat, PatPlace, PatValue, Path, PathStart, PathStyle, Place, Predicate,
-    Prefix, Safety, SimplePath, Site, SpanEnd, Start, Step, Stmt, Struct, Tokens, TraitHead,
-    TraitRef, TupleField, Ty, TypePlace, Union, UseEnd, UseTree, ValueHead, Variant, Vis, Wheres,
-    Word,
+    Condition, ConstArg, ConstDefault, Constraint, Enum, Expr, ExternCrate, Field, FieldExpr,
+    FieldPat, Fields, File, FnHead, FuncParam, GenericParam, Generics, GivenName, Group, ImplHead,
+    Item, ItemKind, Lifetime, LifetimeParam, Link, Listed, Literal, MacroCall, MetaInput, MetaPath,
+    Name, Op, Param, ParamKind, Pat, PatPlace, PatValue, Path, PathStart, PathStyle, Place,
+    Predicate, Prefix, Safety, SimplePath, Site, SpanEnd, Start, Step, Stmt, Struct, Tokens,
+    TraitHead, TraitRef, TupleField, Ty, TypePlace, Union, UseEnd, UseTree, ValueHead, Variant,
+    Vis, Wheres, Word,
 };
 pub use lay_same_nodes::Same;

@@ -3,7 +3,7 @@ use Rattle.lay_code.specs.nodes.Code.{about_field_expr, form_of_item}
 use Rattle.lay_form.specs.Depth.{least_depth}
 use Rattle.lay_depth_nodes.specs.Depths.{counted, greatest}
 use Rattle.lay_depth_nodes.proofs.Loops.{all_told, all_turns, form_of, turn}
-use Rattle.lay_depth.specs.Parts.{arm_form, block_if, branch_form, expr_if, operand_form, step_form, target_form}
+use Rattle.lay_depth.specs.Parts.{arm_form, block_if, branch_form, expr_if, link_form, operand_form, step_form, target_form}
 use Rattle.lay_depth.proofs.BlockLemmas as blocks
 use Rattle.lay_depth.proofs.BlockLemmas.{stmt_told}
 use Rattle.lay_depth.proofs.ExprLemmas as of
@@ -108,9 +108,8 @@ exprs::expr_depth-returns-in-Match g c =
 
 pub exprs::expr_depth-returns-in-While : goal.exprs::expr_depth-returns-in-While
 exprs::expr_depth-returns-in-While g c =
-    let m = of.while_is c.args.expr.now c.in-While.label c.in-While.pat c.in-While.condition c.in-While.body c.in-While.is in
-    let n = rw c.get-in-While.ensures at c.expr_depth-in-While.ensures in
-    omega (arith, m, n, c.pat_or_none_depth.ensures, c.max-head.ensures, c.block_depth.ensures, c.max-in-While.ensures, c.deeper-in-While.ensures)
+    let m = of.while_is c.args.expr.now c.in-While.label c.in-While.condition c.in-While.body c.in-While.is in
+    omega (arith, m, c.condition_depth.ensures, c.block_depth.ensures, c.max-in-While.ensures, c.deeper-in-While.ensures)
 
 pub exprs::expr_depth-returns-in-For : goal.exprs::expr_depth-returns-in-For
 exprs::expr_depth-returns-in-For g c =
@@ -290,9 +289,8 @@ pub blocks::branches_depth-loop-branch-preserved : goal.blocks::branches_depth-l
 blocks::branches_depth-loop-branch-preserved g c =
     let branch = c.branch-item.result in
     let m = blocks.branch_is branch in
-    let n = rw c.get.ensures at c.expr_depth.ensures in
     let one : c.max.result ≡ counted (least_depth (branch_form branch)) =
-    omega (arith, m, n, c.pat_or_none_depth.ensures, c.max-head.ensures, c.block_depth.ensures, c.max.ensures) in
+    omega (arith, m, c.condition_depth.ensures, c.block_depth.ensures, c.max.ensures) in
     turn branch_form c.args.branches.now _ _ _ _ _ c.loop-branch-test.true c.branch-item.is c.loop-branch.invariant
     one c.max-most.ensures
 
@@ -311,6 +309,32 @@ blocks::arms_depth-loop-arm-preserved g c =
 
 pub blocks::arms_depth-returns : goal.blocks::arms_depth-returns
 blocks::arms_depth-returns g c = all_turns arm_form c.args.arms.now _ _ c.loop-arm-test.false c.loop-arm.invariant
+
+-- ---- conditions
+
+pub conditions::condition_depth-returns : goal.conditions::condition_depth-returns
+conditions::condition_depth-returns g c =
+    let m = blocks.condition_is c.args.condition.now in
+    let n = rw c.as_slice.ensures at c.links_depth.ensures in omega (arith, m, n)
+
+pub conditions::links_depth-loop-link-preserved : goal.conditions::links_depth-loop-link-preserved
+conditions::links_depth-loop-link-preserved g c =
+    turn link_form c.args.links.now _ _ _ _ _ c.loop-link-test.true c.link-item.is c.loop-link.invariant
+    c.link_depth.ensures c.max-most.ensures
+
+pub conditions::links_depth-returns : goal.conditions::links_depth-returns
+conditions::links_depth-returns g c = all_turns link_form c.args.links.now _ _ c.loop-link-test.false c.loop-link.invariant
+
+pub conditions::link_depth-returns-in-Expr : goal.conditions::link_depth-returns-in-Expr
+conditions::link_depth-returns-in-Expr g c =
+    let m = blocks.expr_link_is c.args.link.now c.in-Expr.expr c.in-Expr.is in
+    let n = rw c.get.ensures at c.expr_depth.ensures in omega (arith, m, n)
+
+pub conditions::link_depth-returns-in-Let : goal.conditions::link_depth-returns-in-Let
+conditions::link_depth-returns-in-Let g c =
+    let m = blocks.let_link_is c.args.link.now c.in-Let.pat c.in-Let.value c.in-Let.is in
+    let n = rw c.get-in-Let.ensures at c.expr_depth-in-Let.ensures in
+    omega (arith, m, n, c.pat_depth.ensures, c.max.ensures)
 
 -- ---- items
 

@@ -2,7 +2,7 @@ use Rattle.std.proofs.Common.{◌≡◌, map, take}
 use Rattle.lay_code.specs.nodes.Code.{about_field_expr, form_of_item}
 use Rattle.lay_depth_nodes.specs.Depths.{counted, greatest}
 use Rattle.lay_depth_nodes.proofs.Loops.{form_of}
-use Rattle.lay_depth.specs.Parts.{arm_form, branch_form, operand_form, step_form, target_form}
+use Rattle.lay_depth.specs.Parts.{arm_form, branch_form, link_form, operand_form, step_form, target_form}
 use Rattle.lay_depth.proofs.BlockLemmas.{stmt_told}
 use Rattle.lay_depth.proofs.ExprLemmas.{expr_told}
 use Rattle.lay_depth.proofs.+code.Given as goal
@@ -31,6 +31,9 @@ invariant-blocks::branches_depth-loop-branch l = l.most ≡ counted (greatest (m
 
 abbrev pub invariant-blocks::arms_depth-loop-arm : goal.invariant-blocks::arms_depth-loop-arm
 invariant-blocks::arms_depth-loop-arm l = l.most ≡ counted (greatest (map arm_form (take l.arm-index l.arms)))
+
+abbrev pub invariant-conditions::links_depth-loop-link : goal.invariant-conditions::links_depth-loop-link
+invariant-conditions::links_depth-loop-link l = l.most ≡ counted (greatest (map link_form (take l.link-index l.links)))
 
 abbrev pub invariant-items::items_depth-loop-item : goal.invariant-items::items_depth-loop-item
 invariant-items::items_depth-loop-item l = l.most ≡ counted (greatest (map form_of_item (take l.item-index l.items)))

@@ -13,9 +13,8 @@ use Rattle.lay_node.specs.declared.attr.Attr.{Attr}
 use Rattle.lay_node.specs.declared.patterns.Pat.{Pat}
 use Rattle.lay_node.specs.declared.patterns.PatPlace.TheVariants.{Alternatives}
 use Rattle.lay_code.specs.nodes.Blocks.{arm_facts, branch_facts, braces_of, guard_form, is_free, is_lone_body}
-use Rattle.lay_code.specs.nodes.CodeFacts.{ArmFacts, BlockFacts, BranchFacts}
-use Rattle.lay_code.specs.nodes.Exprs.{BodyKind, MacroBody, BlockBody, OtherBody, ExprFacts, placed, value_placed, condition_form, condition_good, arm_forms, arms_good}
-use Rattle.lay_code.specs.nodes.Places as place
+use Rattle.lay_code.specs.nodes.CodeFacts.{ArmFacts, BlockFacts, BranchFacts, ConditionFacts}
+use Rattle.lay_code.specs.nodes.Exprs.{BodyKind, MacroBody, BlockBody, OtherBody, ExprFacts, placed, value_placed, arm_forms, arms_good}
 use Rattle.lay_code.specs.nodes.Places.{statement}
 use Rattle.lay_reparse.proofs.borders.Border.{Border}
 use Rattle.lay_reparse.proofs.forms.Passes.{plain}
@@ -27,30 +26,19 @@ use Rattle.lay_reparse.proofs.file.Patterns.{pat_passes_at}
 use Rattle.lay_reparse.proofs.file.ExprParts.{ends_expr, ends_stmt, ends_any, opens_soft}
 use Rattle.lay_reparse.proofs.file.ExprPlaces.{ExprPasses, inner_expr, free_expr}
 use Rattle.lay_reparse.proofs.file.BlockKinds.{BlockPasses}
+use Rattle.lay_reparse.proofs.file.Conditions.{ConditionPasses}
 
 -- ---- branches
-
-pub condition_passes : (pat : Option Pat) (x : ExprFacts) → ExprPasses x → condition_good pat x ≡ true
-    → are_pieces (condition_form pat x) ≡ true → From plain (condition_form pat x) ends_expr
-unfolding tables
-condition_passes None x k g w = wider (ends_any x.tail.bare _) (inner_expr x k (place.plain 0 true) g w)
-condition_passes (Some pat) x k g w =
-    let n = and_parts (pat_good Alternatives (about_pat pat)) (placed x (place.plain 4 true)) g in
-    let p = and_parts (are_pieces (pat_form Alternatives (about_pat pat))) (are_pieces (form.Part x.form Done)) w in
-    let q = (and_parts (are_pieces x.form) true p.1).0 in
-    let value = wider (ends_any x.tail.bare _) (inner_expr x k (place.plain 4 true) n.1 q) in
-    fixed refl (part plain ends_pat refl (pat_passes_at plain refl Alternatives pat n.0 p.0)
-    (fixed refl (part plain ends_expr refl value (ends refl))))
 
 pub record BranchPasses (x : BranchFacts) : Type 0 where
   pub condition : x.good ≡ true → are_pieces x.condition ≡ true → From plain x.condition ends_expr
   pub soft : (b : Border) → opens_soft b ≡ true → x.good ≡ true → are_pieces x.soft ≡ true → From b x.soft plain
 
-pub branch_pass : (pat : Option Pat) (x : ExprFacts) (b : BlockFacts) → ExprPasses x → BlockPasses b
-    → BranchPasses (branch_facts (record { pat = pat; condition = x; body = b }))
-branch_pass pat x b k l = record {
-  condition = λ g w. condition_passes pat x k (and_parts (condition_good pat x) b.good g).0 w;
-  soft = λ c fit g w. l.soft c fit (and_parts (condition_good pat x) b.good g).1 w;
+pub branch_pass : (x : ConditionFacts) (b : BlockFacts) → ConditionPasses x → BlockPasses b
+    → BranchPasses (branch_facts (record { condition = x; body = b }))
+branch_pass x b k l = record {
+  condition = λ g w. k.go (and_parts x.good b.good g).0 w;
+  soft = λ c fit g w. l.soft c fit (and_parts x.good b.good g).1 w;
 }
 
 -- ---- arms

@@ -1,12 +1,14 @@
 -- Nodes of code that pass, and layers of such nodes: expressions, blocks and items are one family.
-use Rattle.lay_code.specs.nodes.Code.{about_arm, about_block, about_branch, about_expr, about_field_expr, about_step, about_stmt, told_of_item, told_of_kind}
-use Rattle.lay_code.specs.nodes.Layers.{ArmNode, BlockNode, BranchNode, ExprNode, FieldNode, ItemNode, KindNode, StepNode, StmtNode}
+use Rattle.lay_code.specs.nodes.Code.{about_arm, about_block, about_branch, about_condition, about_expr, about_field_expr, about_link, about_step, about_stmt, told_of_item, told_of_kind}
+use Rattle.lay_code.specs.nodes.Layers.{ArmNode, BlockNode, BranchNode, ConditionNode, ExprNode, FieldNode, ItemNode, KindNode, LinkNode, StepNode, StmtNode}
 use Rattle.lay_code.specs.declared.blocks.Arm.{Arm}
 use Rattle.lay_code.specs.declared.blocks.Block.{Block}
 use Rattle.lay_code.specs.declared.blocks.Branch.{Branch}
 use Rattle.lay_code.specs.declared.blocks.Stmt.{Stmt}
 use Rattle.lay_code.specs.declared.blocks.Stmt.TheFolds as fold
-use Rattle.lay_code.specs.declared.blocks.Stmt.TheOpen.{Arm-F, Block-F, Branch-F, Expr-F, FieldExpr-F, Item-F, ItemKind-F, Step-F, Stmt-F}
+use Rattle.lay_code.specs.declared.blocks.Stmt.TheOpen.{Arm-F, Block-F, Branch-F, Condition-F, Expr-F, FieldExpr-F, Item-F, ItemKind-F, Link-F, Step-F, Stmt-F}
+use Rattle.lay_code.specs.declared.conditions.Condition.{Condition}
+use Rattle.lay_code.specs.declared.conditions.Link.{Link}
 use Rattle.lay_code.specs.declared.exprs.Expr.{Expr}
 use Rattle.lay_code.specs.declared.exprs.FieldExpr.{FieldExpr}
 use Rattle.lay_code.specs.declared.exprs.Step.{Step}
@@ -19,6 +21,7 @@ use Rattle.lay_reparse.proofs.file.ExprPlaces.{ExprPasses}
 use Rattle.lay_reparse.proofs.file.ExprSteps.{StepPasses}
 use Rattle.lay_reparse.proofs.file.BlockKinds.{BlockPasses, ItemPasses, StmtPasses}
 use Rattle.lay_reparse.proofs.file.ArmKinds.{ArmPasses, BranchPasses}
+use Rattle.lay_reparse.proofs.file.Conditions.{ConditionPasses, LinkPasses}
 use Rattle.lay_reparse.proofs.file.ItemHeads.{KindPasses}
 
 -- ---- each node
@@ -46,6 +49,12 @@ BlockIs x = BlockPasses (about_block x)
 
 abbrev pub BranchIs : Branch → Type 0
 BranchIs x = BranchPasses (about_branch x)
+
+abbrev pub LinkIs : Link → Type 0
+LinkIs x = LinkPasses (about_link x)
+
+abbrev pub ConditionIs : Condition → Type 0
+ConditionIs x = ConditionPasses (about_condition x)
 
 abbrev pub ItemIs : Item → Type 0
 ItemIs x = ItemPasses (told_of_item x)
@@ -75,54 +84,70 @@ KeptBlock = (x : Block) × BlockIs x
 abbrev pub KeptBranch : Type 0
 KeptBranch = (x : Branch) × BranchIs x
 
+abbrev pub KeptLink : Type 0
+KeptLink = (x : Link) × LinkIs x
+
+abbrev pub KeptCondition : Type 0
+KeptCondition = (x : Condition) × ConditionIs x
+
 abbrev pub KeptItem : Type 0
 KeptItem = (x : Item) × ItemIs x
 
 -- what stands in a node, where the nodes within it pass
-abbrev pub Kept : (Type 0 → Type 0 → Type 0 → Type 0 → Type 0 → Type 0 → Type 0 → Type 0 → Type 0 → Type 0) → Type 0
-Kept F = F KeptStmt KeptExpr KeptField KeptStep KeptKind KeptArm KeptBlock KeptBranch KeptItem
+abbrev pub Kept : (Type 0 → Type 0 → Type 0 → Type 0 → Type 0 → Type 0 → Type 0 → Type 0 → Type 0 → Type 0 → Type 0 → Type 0) → Type 0
+Kept F = F KeptStmt KeptLink KeptExpr KeptField KeptStep KeptKind KeptArm KeptBlock KeptBranch KeptCondition KeptItem
 
 abbrev pub stmt_layer : Kept Stmt-F → StmtNode
-stmt_layer y = fold.map-Stmt KeptStmt KeptExpr KeptField KeptStep KeptKind KeptArm KeptBlock KeptBranch KeptItem
-    Stmt Expr FieldExpr Step ItemKind Arm Block Branch Item
-    (λ y. y.0) (λ y. y.0) (λ y. y.0) (λ y. y.0) (λ y. y.0) (λ y. y.0) (λ y. y.0) (λ y. y.0) (λ y. y.0) y
+stmt_layer y = fold.map-Stmt KeptStmt KeptLink KeptExpr KeptField KeptStep KeptKind KeptArm KeptBlock KeptBranch KeptCondition KeptItem
+    Stmt Link Expr FieldExpr Step ItemKind Arm Block Branch Condition Item
+    (λ y. y.0) (λ y. y.0) (λ y. y.0) (λ y. y.0) (λ y. y.0) (λ y. y.0) (λ y. y.0) (λ y. y.0) (λ y. y.0) (λ y. y.0) (λ y. y.0) y
 
 abbrev pub expr_layer : Kept Expr-F → ExprNode
-expr_layer y = fold.map-Expr KeptStmt KeptExpr KeptField KeptStep KeptKind KeptArm KeptBlock KeptBranch KeptItem
-    Stmt Expr FieldExpr Step ItemKind Arm Block Branch Item
-    (λ y. y.0) (λ y. y.0) (λ y. y.0) (λ y. y.0) (λ y. y.0) (λ y. y.0) (λ y. y.0) (λ y. y.0) (λ y. y.0) y
+expr_layer y = fold.map-Expr KeptStmt KeptLink KeptExpr KeptField KeptStep KeptKind KeptArm KeptBlock KeptBranch KeptCondition KeptItem
+    Stmt Link Expr FieldExpr Step ItemKind Arm Block Branch Condition Item
+    (λ y. y.0) (λ y. y.0) (λ y. y.0) (λ y. y.0) (λ y. y.0) (λ y. y.0) (λ y. y.0) (λ y. y.0) (λ y. y.0) (λ y. y.0) (λ y. y.0) y
 
 abbrev pub field_layer : Kept FieldExpr-F → FieldNode
-field_layer y = fold.map-FieldExpr KeptStmt KeptExpr KeptField KeptStep KeptKind KeptArm KeptBlock KeptBranch KeptItem
-    Stmt Expr FieldExpr Step ItemKind Arm Block Branch Item
-    (λ y. y.0) (λ y. y.0) (λ y. y.0) (λ y. y.0) (λ y. y.0) (λ y. y.0) (λ y. y.0) (λ y. y.0) (λ y. y.0) y
+field_layer y = fold.map-FieldExpr KeptStmt KeptLink KeptExpr KeptField KeptStep KeptKind KeptArm KeptBlock KeptBranch KeptCondition KeptItem
+    Stmt Link Expr FieldExpr Step ItemKind Arm Block Branch Condition Item
+    (λ y. y.0) (λ y. y.0) (λ y. y.0) (λ y. y.0) (λ y. y.0) (λ y. y.0) (λ y. y.0) (λ y. y.0) (λ y. y.0) (λ y. y.0) (λ y. y.0) y
 
 abbrev pub step_layer : Kept Step-F → StepNode
-step_layer y = fold.map-Step KeptStmt KeptExpr KeptField KeptStep KeptKind KeptArm KeptBlock KeptBranch KeptItem
-    Stmt Expr FieldExpr Step ItemKind Arm Block Branch Item
-    (λ y. y.0) (λ y. y.0) (λ y. y.0) (λ y. y.0) (λ y. y.0) (λ y. y.0) (λ y. y.0) (λ y. y.0) (λ y. y.0) y
+step_layer y = fold.map-Step KeptStmt KeptLink KeptExpr KeptField KeptStep KeptKind KeptArm KeptBlock KeptBranch KeptCondition KeptItem
+    Stmt Link Expr FieldExpr Step ItemKind Arm Block Branch Condition Item
+    (λ y. y.0) (λ y. y.0) (λ y. y.0) (λ y. y.0) (λ y. y.0) (λ y. y.0) (λ y. y.0) (λ y. y.0) (λ y. y.0) (λ y. y.0) (λ y. y.0) y
 
 abbrev pub kind_layer : Kept ItemKind-F → KindNode
-kind_layer y = fold.map-ItemKind KeptStmt KeptExpr KeptField KeptStep KeptKind KeptArm KeptBlock KeptBranch KeptItem
-    Stmt Expr FieldExpr Step ItemKind Arm Block Branch Item
-    (λ y. y.0) (λ y. y.0) (λ y. y.0) (λ y. y.0) (λ y. y.0) (λ y. y.0) (λ y. y.0) (λ y. y.0) (λ y. y.0) y
+kind_layer y = fold.map-ItemKind KeptStmt KeptLink KeptExpr KeptField KeptStep KeptKind KeptArm KeptBlock KeptBranch KeptCondition KeptItem
+    Stmt Link Expr FieldExpr Step ItemKind Arm Block Branch Condition Item
+    (λ y. y.0) (λ y. y.0) (λ y. y.0) (λ y. y.0) (λ y. y.0) (λ y. y.0) (λ y. y.0) (λ y. y.0) (λ y. y.0) (λ y. y.0) (λ y. y.0) y
 
 abbrev pub arm_layer : Kept Arm-F → ArmNode
-arm_layer y = fold.map-Arm KeptStmt KeptExpr KeptField KeptStep KeptKind KeptArm KeptBlock KeptBranch KeptItem
-    Stmt Expr FieldExpr Step ItemKind Arm Block Branch Item
-    (λ y. y.0) (λ y. y.0) (λ y. y.0) (λ y. y.0) (λ y. y.0) (λ y. y.0) (λ y. y.0) (λ y. y.0) (λ y. y.0) y
+arm_layer y = fold.map-Arm KeptStmt KeptLink KeptExpr KeptField KeptStep KeptKind KeptArm KeptBlock KeptBranch KeptCondition KeptItem
+    Stmt Link Expr FieldExpr Step ItemKind Arm Block Branch Condition Item
+    (λ y. y.0) (λ y. y.0) (λ y. y.0) (λ y. y.0) (λ y. y.0) (λ y. y.0) (λ y. y.0) (λ y. y.0) (λ y. y.0) (λ y. y.0) (λ y. y.0) y
 
 abbrev pub block_layer : Kept Block-F → BlockNode
-block_layer y = fold.map-Block KeptStmt KeptExpr KeptField KeptStep KeptKind KeptArm KeptBlock KeptBranch KeptItem
-    Stmt Expr FieldExpr Step ItemKind Arm Block Branch Item
-    (λ y. y.0) (λ y. y.0) (λ y. y.0) (λ y. y.0) (λ y. y.0) (λ y. y.0) (λ y. y.0) (λ y. y.0) (λ y. y.0) y
+block_layer y = fold.map-Block KeptStmt KeptLink KeptExpr KeptField KeptStep KeptKind KeptArm KeptBlock KeptBranch KeptCondition KeptItem
+    Stmt Link Expr FieldExpr Step ItemKind Arm Block Branch Condition Item
+    (λ y. y.0) (λ y. y.0) (λ y. y.0) (λ y. y.0) (λ y. y.0) (λ y. y.0) (λ y. y.0) (λ y. y.0) (λ y. y.0) (λ y. y.0) (λ y. y.0) y
 
 abbrev pub branch_layer : Kept Branch-F → BranchNode
-branch_layer y = fold.map-Branch KeptStmt KeptExpr KeptField KeptStep KeptKind KeptArm KeptBlock KeptBranch KeptItem
-    Stmt Expr FieldExpr Step ItemKind Arm Block Branch Item
-    (λ y. y.0) (λ y. y.0) (λ y. y.0) (λ y. y.0) (λ y. y.0) (λ y. y.0) (λ y. y.0) (λ y. y.0) (λ y. y.0) y
+branch_layer y = fold.map-Branch KeptStmt KeptLink KeptExpr KeptField KeptStep KeptKind KeptArm KeptBlock KeptBranch KeptCondition KeptItem
+    Stmt Link Expr FieldExpr Step ItemKind Arm Block Branch Condition Item
+    (λ y. y.0) (λ y. y.0) (λ y. y.0) (λ y. y.0) (λ y. y.0) (λ y. y.0) (λ y. y.0) (λ y. y.0) (λ y. y.0) (λ y. y.0) (λ y. y.0) y
+
+abbrev pub link_layer : Kept Link-F → LinkNode
+link_layer y = fold.map-Link KeptStmt KeptLink KeptExpr KeptField KeptStep KeptKind KeptArm KeptBlock KeptBranch KeptCondition KeptItem
+    Stmt Link Expr FieldExpr Step ItemKind Arm Block Branch Condition Item
+    (λ y. y.0) (λ y. y.0) (λ y. y.0) (λ y. y.0) (λ y. y.0) (λ y. y.0) (λ y. y.0) (λ y. y.0) (λ y. y.0) (λ y. y.0) (λ y. y.0) y
+
+abbrev pub condition_layer : Kept Condition-F → ConditionNode
+condition_layer y = fold.map-Condition KeptStmt KeptLink KeptExpr KeptField KeptStep KeptKind KeptArm KeptBlock KeptBranch KeptCondition KeptItem
+    Stmt Link Expr FieldExpr Step ItemKind Arm Block Branch Condition Item
+    (λ y. y.0) (λ y. y.0) (λ y. y.0) (λ y. y.0) (λ y. y.0) (λ y. y.0) (λ y. y.0) (λ y. y.0) (λ y. y.0) (λ y. y.0) (λ y. y.0) y
 
 abbrev pub item_layer : Kept Item-F → ItemNode
-item_layer y = fold.map-Item KeptStmt KeptExpr KeptField KeptStep KeptKind KeptArm KeptBlock KeptBranch KeptItem
-    Stmt Expr FieldExpr Step ItemKind Arm Block Branch Item
-    (λ y. y.0) (λ y. y.0) (λ y. y.0) (λ y. y.0) (λ y. y.0) (λ y. y.0) (λ y. y.0) (λ y. y.0) (λ y. y.0) y
+item_layer y = fold.map-Item KeptStmt KeptLink KeptExpr KeptField KeptStep KeptKind KeptArm KeptBlock KeptBranch KeptCondition KeptItem
+    Stmt Link Expr FieldExpr Step ItemKind Arm Block Branch Condition Item
+    (λ y. y.0) (λ y. y.0) (λ y. y.0) (λ y. y.0) (λ y. y.0) (λ y. y.0) (λ y. y.0) (λ y. y.0) (λ y. y.0) (λ y. y.0) (λ y. y.0) y

@@ -13,8 +13,8 @@ use Rattle.lay_node.specs.declared.attr.Attr.{Attr}
 use Rattle.lay_node.specs.declared.patterns.Pat.{Pat}
 use Rattle.lay_node.specs.declared.patterns.PatPlace.TheVariants.{Alternatives}
 use Rattle.lay_node.specs.declared.token.Lifetime.{Lifetime}
-use Rattle.lay_code.specs.nodes.CodeFacts.{ArmFacts, BlockFacts, BranchFacts}
-use Rattle.lay_code.specs.nodes.Exprs.{ExprFacts, placed, expr_facts, labelled, condition_form, condition_good, branch_head, branches_good, more_branches, branches_form, else_branch_form, may_be_good, arm_forms, arms_good}
+use Rattle.lay_code.specs.nodes.CodeFacts.{ArmFacts, BlockFacts, BranchFacts, ConditionFacts}
+use Rattle.lay_code.specs.nodes.Exprs.{ExprFacts, placed, expr_facts, labelled, branch_head, branches_good, more_branches, branches_form, else_branch_form, may_be_good, arm_forms, arms_good}
 use Rattle.lay_code.specs.nodes.Places as place
 use Rattle.lay_code.specs.declared.blocks.Stmt.TheOpen.{Expr-F}
 use Rattle.lay_reparse.proofs.borders.Border.{Border, beyond}
@@ -30,7 +30,8 @@ use Rattle.lay_reparse.proofs.file.ExprParts.{ends_base, ends_expr, ends_stmt, e
 use Rattle.lay_reparse.proofs.file.ExprPlaces.{ExprPasses, inner_expr}
 use Rattle.lay_reparse.proofs.file.ExprKinds.{starting}
 use Rattle.lay_reparse.proofs.file.BlockKinds.{BlockPasses}
-use Rattle.lay_reparse.proofs.file.ArmKinds.{condition_passes, BranchPasses, ArmPasses, arms_pass}
+use Rattle.lay_reparse.proofs.file.Conditions.{ConditionPasses}
+use Rattle.lay_reparse.proofs.file.ArmKinds.{BranchPasses, ArmPasses, arms_pass}
 
 -- ---- labels and words
 
@@ -142,19 +143,19 @@ loop_pass label x k = record {
 
 -- ---- loops with a head, and `match`
 
-pub while_pass : (label : Option Lifetime) (pat : Option Pat) (x : ExprFacts) (y : BlockFacts) → ExprPasses x
-    → BlockPasses y → ExprPasses (expr_facts (Expr-F.While label pat x y))
+pub while_pass : (label : Option Lifetime) (x : ConditionFacts) (y : BlockFacts) → ConditionPasses x
+    → BlockPasses y → ExprPasses (expr_facts (Expr-F.While label x y))
 unfolding tables
-while_pass label pat x y k l = record {
+while_pass label x y k l = record {
   go = λ v b h no_struct first g w.
-      let head = Piece (head_word (codes "while")) (form.Part (condition_form pat x) Done) in
+      let head = Piece (head_word (codes "while")) (form.Part x.form Done) in
       let e = I0 head (form.Part (y.form true) Done) in
-      let n = and_parts (condition_good pat x) y.good g in
+      let n = and_parts x.good y.good g in
       shut_deep (labelled_passes label b (code_at v 14 b h) (deep_pieces (labelled label e) w) (λ c s p.
       let q = and_parts (are_pieces head) (are_pieces (form.Part (y.form true) Done)) p in
-      let r = (and_parts (are_pieces (condition_form pat x)) true q.0).0 in
+      let r = (and_parts (are_pieces x.form) true q.0).0 in
       within c ends_expr (under-refl c)
-      (by_head_word (codes "while") s.by_while (condition_passes pat x k n.0 r) (ends refl))
+      (by_head_word (codes "while") s.by_while (k.go n.0 r) (ends refl))
       (last_block ends_expr refl y l n.1 q.1)));
 }
 

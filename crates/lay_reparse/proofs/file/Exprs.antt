@@ -1,7 +1,7 @@
 -- Layers of expressions, of fields of struct literals and of steps pass, where the nodes within them do.
 use Rattle.std.proofs.Common.{List, [], ◌∷◌, sym, subst, map, Some, None}
 use Rattle.lay_node.specs.nodes.Facts.{Facts}
-use Rattle.lay_code.specs.nodes.Code.{about_arm, about_block, about_branch, about_expr, about_field_expr, about_step}
+use Rattle.lay_code.specs.nodes.Code.{about_arm, about_block, about_branch, about_condition, about_expr, about_field_expr, about_step}
 use Rattle.lay_code.specs.nodes.Exprs.{ExprFacts, expr_facts, field_facts, step_facts}
 use Rattle.lay_code.specs.declared.blocks.Stmt.TheOpen.{Expr-F, FieldExpr-F, Step-F}
 use Rattle.lay_code.specs.declared.blocks.Stmt.TheViews as views
@@ -96,8 +96,8 @@ expr_layer_passes (Expr-F.Match x attrs arms) =
     match_pass (about_expr x.0) attrs (map about_arm (map (λ (y : KeptArm). y.0) arms)) x.1
     (kept ArmPasses about_arm arms)
 expr_layer_passes (Expr-F.Loop label b) = loop_pass label (about_block b.0) b.1
-expr_layer_passes (Expr-F.While label pat x b) =
-    while_pass label pat (about_expr x.0) (about_block b.0) x.1 b.1
+expr_layer_passes (Expr-F.While label c b) =
+    while_pass label (about_condition c.0) (about_block b.0) c.1 b.1
 expr_layer_passes (Expr-F.For label pat x b) = for_pass label pat (about_expr x.0) (about_block b.0) x.1 b.1
 expr_layer_passes (Expr-F.Closure is_async moves params x) = closure_pass is_async moves params (about_expr x.0) x.1
 expr_layer_passes (Expr-F.TypedClosure is_async moves params output b) =

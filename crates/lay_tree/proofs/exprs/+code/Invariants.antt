@@ -13,6 +13,9 @@ invariant-same_steps-loop-step l = take (length l.yielded) l.steps ≡ take (len
 abbrev pub invariant-same_branches-loop-branch : goal.invariant-same_branches-loop-branch
 invariant-same_branches-loop-branch l = take (length l.yielded) l.branches ≡ take (length l.yielded) l.others
 
+abbrev pub invariant-same_links-loop-link : goal.invariant-same_links-loop-link
+invariant-same_links-loop-link l = take (length l.yielded) l.links ≡ take (length l.yielded) l.others
+
 abbrev pub invariant-same_arms-loop-arm : goal.invariant-same_arms-loop-arm
 invariant-same_arms-loop-arm l = take (length l.yielded) l.arms ≡ take (length l.yielded) l.others
 
