@@ -11,19 +11,20 @@ use Rattle.lay_form.specs.Notation.{I0, N, behind_attrs, body, comma_list}
 use Rattle.lay_form.specs.Stream.{fed, stream_of}
 use Rattle.lay_node.specs.nodes.Attr.{attr_form}
 use Rattle.lay_node.specs.nodes.Patterns.{about_pat, pat_form}
-use Rattle.lay_node.specs.nodes.Types.{about_type, equals}
+use Rattle.lay_node.specs.nodes.Types.{about_type}
 use Rattle.lay_node.specs.declared.attr.Attr.{Attr}
 use Rattle.lay_node.specs.declared.patterns.Pat.{Pat}
 use Rattle.lay_node.specs.declared.patterns.PatPlace.TheVariants.{Alternatives}
 use Rattle.lay_node.specs.declared.token.Lifetime.{Lifetime}
 use Rattle.lay_node.specs.declared.types.Ty.{Ty}
 use Rattle.lay_code.specs.nodes.Blocks.{braces_of, guard_form, is_free}
-use Rattle.lay_code.specs.nodes.Code.{about_arm, about_block, about_branch, about_expr}
+use Rattle.lay_code.specs.nodes.Code.{about_arm, about_block, about_branch, about_condition, about_expr}
 use Rattle.lay_code.specs.nodes.CodeFacts.{ArmFacts, BlockFacts, BranchFacts}
-use Rattle.lay_code.specs.nodes.Exprs.{ExprFacts, arm_forms, bar, behind_async, branches_form, closure_head, closure_param, condition_form, else_branch_form, labelled, more_branches}
+use Rattle.lay_code.specs.nodes.Exprs.{ExprFacts, arm_forms, bar, behind_async, branches_form, closure_head, closure_param, else_branch_form, labelled, more_branches}
 use Rattle.lay_code.specs.declared.blocks.Arm.{Arm}
 use Rattle.lay_code.specs.declared.blocks.Block.{Block}
 use Rattle.lay_code.specs.declared.blocks.Branch.{Branch}
+use Rattle.lay_code.specs.declared.conditions.Condition.{Condition}
 use Rattle.lay_code.specs.declared.exprs.ClosureParam.{ClosureParam}
 use Rattle.lay_code.specs.declared.exprs.Expr.{Expr}
 use Rattle.lay_code.specs.declared.exprs.Expr.TheVariants as expr
@@ -38,61 +39,28 @@ use Rattle.lay_out_types.proofs.FormRows.{level_form, one_open, part_more}
 use Rattle.lay_out_heads.specs.FieldRows.{line}
 use Rattle.lay_out_heads.proofs.Steady.{Steady}
 use Rattle.lay_out_exprs.specs.Arms.{arm_closed, arm_opened}
-use Rattle.lay_out_exprs.specs.Blocks.{else_between, lead_row, matched_row}
+use Rattle.lay_out_exprs.specs.Blocks.{else_between, lead_row}
 use Rattle.lay_out_exprs.proofs.ExprLemmas.{told, told_is}
 use Rattle.lay_out_code.specs.Parts.{arm_told, branch_told, head_end, no_forms}
 use Rattle.lay_out_code.proofs.BlockLemmas.{same_lines, steady_block, steady_soft}
-
--- ---- conditions
-
--- a condition behind the pattern that it is matched with, if there is one
-condition_fed : (pat : Option Pat) (x : ExprFacts) (more : List Tok)
-    → matched_row pat ++ (stream_of x.form ++ more) ≡ fed false (condition_form pat x) more
-condition_fed None x more = sym (fed_more false x.form more)
-condition_fed (Some p) x more =
-    ap (λ (s : List Tok). tok.Text (codes "let ") ∷ s)
-    (append_assoc (stream_of (about_pat p).told.form) (tok.Text (codes " = ") ∷ []) (stream_of x.form ++ more)
-    ∙ ap (λ (s : List Tok). stream_of (about_pat p).told.form ++ s)
-    (ap (λ (s : List Tok). tok.Text (codes " = ") ∷ s) (sym (fed_more false x.form more))
-    ∙ equals_fed (ends_behind_point false (about_pat p).told.form) x.form more)
-    ∙ sym (fed_more false (about_pat p).told.form _))
-  where
-    equals_fed : (q : Bool) (f : Form) (rest : List Tok)
-        → tok.Text (codes " = ") ∷ fed false f rest ≡ fed q (Piece equals (Part f Done)) rest
-    equals_fed true f rest = refl
-    equals_fed false f rest = refl
-
--- what opens the group of a condition leaves it open
-lead_open : (word : List ℕ) (pat : Option Pat) (f : Form) (n : ℕ) → opened (lead_row word pat ++ stream_of f) n ≡ suc n
-lead_open word None f n = level_form f (suc n)
-lead_open word (Some p) f n =
-    opened_append (stream_of (about_pat p).told.form ++ (tok.Text (codes " = ") ∷ [])) (stream_of f) (suc n)
-    ∙ ap (opened (stream_of f)) (opened_append (stream_of (about_pat p).told.form) (tok.Text (codes " = ") ∷ []) (suc n)
-    ∙ level_form (about_pat p).told.form (suc n))
-    ∙ level_form f (suc n)
-
-pub may_end_condition : {S F T : Type 0} {m : Meanings S F} {a b : S} {p q : Result T F} (word : List ℕ) (pat : Option Pat)
-    (f : Form) → Adds m p a (lead_row word pat ++ stream_of f) q b → OnOk q (0 < m.groups b)
-may_end_condition {m} {a} {p} {q} word pat f h =
-    on_ok q (λ x e. (one_open (m.groups a) (level_behind p q x h e ∙ lead_open word pat f (m.groups a))).0)
+use Rattle.lay_out_code.proofs.ConditionLemmas.{group_fed}
 
 -- ---- branches
 
 -- a branch
 pub branch_parts : (b : Branch)
-    → (lead_row (codes "if ") b.pat ++ (stream_of (about_expr b.condition).form ++ head_end)) ++ stream_of (about_block b.body).soft
+    → (lead_row (codes "if ") ++ (stream_of (about_condition b.condition).form ++ head_end)) ++ stream_of (about_block b.body).soft
     ≡ stream_of (branch_told b)
 branch_parts b =
-    let facts = about_branch b in
-    let x = about_expr b.condition in
-    ap (λ (s : List Tok). tok.Begin false (pos 0) ∷ tok.Text (codes "if ") ∷ s)
-    (ap (λ (s : List Tok). s ++ stream_of (about_block b.body).soft) (condition_fed b.pat x head_end ∙ fed_more false (condition_form b.pat x) head_end)
-    ∙ append_assoc (stream_of (condition_form b.pat x)) head_end (stream_of (about_block b.body).soft)
-    ∙ ap (λ (s : List Tok). stream_of (condition_form b.pat x) ++ (tok.End ∷ s))
-    (sym (steady_soft b.body (ends_behind_point false (condition_form b.pat x))))
-    ∙ sym (fed_more false (condition_form b.pat x) _))
+    group_fed false (keyword (codes "if") ∷ Blank ∷ []) (codes "if ") (about_condition b.condition).form
+    (Part (about_block b.body).soft Done) (steady_soft b.body) puts
     ∙ sym (ap (λ (z : BranchFacts). stream_of (I0 (Piece (keyword (codes "if") ∷ Blank ∷ []) (Part z.condition Done)) (Part z.soft Done)))
     (branch_is b))
+  where
+    puts : (r : Bool) (g : Form) (rest : List Tok)
+        → fed r (Piece (keyword (codes "if") ∷ Blank ∷ []) g) rest ≡ tok.Text (codes "if ") ∷ fed false g rest
+    puts true g rest = refl
+    puts false g rest = refl
 
 more_fed : (bs : List Branch) (q : Bool) (f : Form) → Steady f
     → further else_between (map branch_told bs) ++ stream_of f ≡ fed q (more_branches (map about_branch bs) f) []
@@ -254,31 +222,18 @@ if_expr q x branches put otherwise is same =
     ∙ sym (steady_branches branches f (steady_otherwise (option_map about_block otherwise)) q)
     ∙ told_is q x (expr.If branches otherwise) _ is (expr_if_is branches otherwise))
 
--- a condition in its group, and what stands behind it
-group_fed : (q : Bool) (bits : List _) (word : List ℕ) (pat : Option Pat) (x : ExprFacts) (f : Form) → Steady f
-    → ((r : Bool) (g : Form) (more : List Tok) → fed r (Piece bits g) more ≡ tok.Text word ∷ fed false g more)
-    → (lead_row word pat ++ (stream_of x.form ++ head_end)) ++ stream_of f
-    ≡ fed q (I0 (Piece bits (Part (condition_form pat x) Done)) f) []
-group_fed q bits word pat x f any puts =
-    ap (λ (s : List Tok). tok.Begin false (pos 0) ∷ s)
-    (ap (λ (s : List Tok). tok.Text word ∷ s)
-    (ap (λ (s : List Tok). s ++ stream_of f) (condition_fed pat x head_end ∙ fed_more false (condition_form pat x) head_end)
-    ∙ append_assoc (stream_of (condition_form pat x)) head_end (stream_of f)
-    ∙ ap (λ (s : List Tok). stream_of (condition_form pat x) ++ (tok.End ∷ s)) (sym (any _))
-    ∙ sym (fed_more false (condition_form pat x) _))
-    ∙ sym (puts q (Part (condition_form pat x) Done) _))
-
 -- a match
-pub match_expr : (q : Bool) (x inner put : Expr) (pat : Option Pat) (attrs marks : List Attr) (arms more : List Arm)
-    → x ≡ expr.Match inner attrs arms → put ≡ inner → pat ≡ None → marks ≡ attrs → more ≡ arms
-    → (lead_row (codes "match ") pat ++ (stream_of (about_expr put).form ++ head_end))
+pub match_expr : (q : Bool) (x inner put : Expr) (attrs marks : List Attr) (arms more : List Arm)
+    → x ≡ expr.Match inner attrs arms → put ≡ inner → marks ≡ attrs → more ≡ arms
+    → (lead_row (codes "match ") ++ (stream_of (about_expr put).form ++ head_end))
     ++ stream_of (body (Blank ∷ []) [] (map attr_form marks ++ map arm_told more)) ≡ told q x
-match_expr q x inner put pat attrs marks arms more is e none same sames =
+match_expr q x inner put attrs marks arms more is e same sames =
     let es = map attr_form attrs ++ arm_forms (map about_arm arms) in
-    rw (e, none, same, sames)
-    (ap (λ (s : List Tok). (lead_row (codes "match ") None ++ (stream_of (about_expr inner).form ++ head_end)) ++ s)
+    rw (e, same, sames)
+    (ap (λ (s : List Tok). (lead_row (codes "match ") ++ (stream_of (about_expr inner).form ++ head_end)) ++ s)
     (same_lines true false false _ es (arms_some attrs arms) (arms_lines attrs arms))
-    ∙ group_fed q (keyword (codes "match") ∷ Blank ∷ []) (codes "match ") None (about_expr inner) (body (Blank ∷ []) [] es) (steady_arms es) puts
+    ∙ group_fed q (keyword (codes "match") ∷ Blank ∷ []) (codes "match ") (about_expr inner).form (body (Blank ∷ []) [] es)
+    (steady_arms es) puts
     ∙ told_is q x (expr.Match inner attrs arms) _ is (expr_match_is inner attrs arms))
   where
     puts : (r : Bool) (g : Form) (rest : List Tok)
@@ -297,24 +252,22 @@ loop_expr q x label b is =
     any true = refl
     any false = refl
 
-pub while_expr : (q : Bool) (x : Expr) (label : Option Lifetime) (pat : Option Pat) (inner put : Expr) (b : Block)
-    → x ≡ expr.While label pat inner b → put ≡ inner
-    → stream_of (labelled label Done) ++ ((lead_row (codes "while ") pat ++ (stream_of (about_expr put).form ++ head_end))
+pub while_expr : (q : Bool) (x : Expr) (label : Option Lifetime) (c : Condition) (b : Block) → x ≡ expr.While label c b
+    → stream_of (labelled label Done) ++ ((lead_row (codes "while ") ++ (stream_of (about_condition c).form ++ head_end))
     ++ stream_of ((about_block b).form true)) ≡ told q x
-while_expr q x label pat inner put b is e =
+while_expr q x label c b is =
     let f = Part ((about_block b).form true) Done in
-    let whole = I0 (Piece (keyword (codes "while") ∷ Blank ∷ []) (Part (condition_form pat (about_expr inner)) Done)) f in
-    rw e (ap (λ (s : List Tok). stream_of (labelled label Done) ++ s)
-    (group_fed false (keyword (codes "while") ∷ Blank ∷ []) (codes "while ") pat (about_expr inner) f (steady_block true b) puts)
-    ∙ labelled_more q label whole any
-    ∙ told_is q x (expr.While label pat inner b) _ is (expr_while_is label pat inner b))
+    ap (λ (s : List Tok). stream_of (labelled label Done) ++ s)
+    (group_fed false (keyword (codes "while") ∷ Blank ∷ []) (codes "while ") (about_condition c).form f (steady_block true b) puts)
+    ∙ labelled_more q label (I0 (Piece (keyword (codes "while") ∷ Blank ∷ []) (Part (about_condition c).form Done)) f) any
+    ∙ told_is q x (expr.While label c b) _ is (expr_while_is label c b)
   where
     puts : (r : Bool) (g : Form) (rest : List Tok)
         → fed r (Piece (keyword (codes "while") ∷ Blank ∷ []) g) rest ≡ tok.Text (codes "while ") ∷ fed false g rest
     puts true g rest = refl
     puts false g rest = refl
 
-    any : Steady (I0 (Piece (keyword (codes "while") ∷ Blank ∷ []) (Part (condition_form pat (about_expr inner)) Done))
+    any : Steady (I0 (Piece (keyword (codes "while") ∷ Blank ∷ []) (Part (about_condition c).form Done))
         (Part ((about_block b).form true) Done))
     any true = refl
     any false = refl

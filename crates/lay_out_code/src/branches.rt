@@ -1,5 +1,5 @@
-//! Conditions, branches and arms.
-ghost use Rattle.std.specs.Prelude.{Bool, [], ◌∷◌, ◌++◌, map, option_map};
+//! Branches and arms.
+ghost use Rattle.std.specs.Prelude.{Bool, [], ◌∷◌, ◌++◌, map, option_map, codes};
 ghost use Rattle.lay_layout.specs.declared.layout.Tok.TheVariants as tok;
 ghost use Rattle.lay_stream.specs.Fed.{Did};
 ghost use Rattle.lay_form.specs.Form.{Blank};
@@ -15,9 +15,10 @@ ghost use Rattle.lay_out_types.specs.Rows.{row};
 ghost use Rattle.lay_out_code.specs.Parts.{arm_told, branch_told, head_end};
 
 use crate::blocks::add_soft;
+use crate::conditions::add_condition;
 use crate::exprs::add_expr;
 use crate::items::add_inner_attrs;
-use lay_code::{Arm, Attr, Block, Boxed, Branch, Expr, Pat};
+use lay_code::{Arm, Attr, Block, Boxed, Branch, Expr};
 use lay_out_exprs::arms::{arm_body, close_arm, open_arm};
 use lay_out_exprs::blocks::{add_condition_lead, add_else_word};
 use lay_out_exprs::flags::both;
@@ -30,21 +31,19 @@ use lay_out_types::lists::add_end;
 use lay_out_types::{add_attrs, add_group, add_pat};
 use lay_stream::Emit;
 
-/// A condition behind its word, in a group of its own. It may be what a pattern is matched with.
+/// What is matched, behind its word, in a group of its own.
 #[cycle(code)]
-pub fn add_condition<E: Emit>(
+pub fn add_scrutinee<E: Emit>(
     out: &mut E,
     before: Result<(), E::Fault>,
-    word: &[u8],
-    pat: &Option<Pat>,
-    condition: &Expr,
+    scrutinee: &Expr,
 ) -> Result<(), E::Fault>
-    ensures { let told = stream_of (about_expr condition.now).form in
-        Adds E.meanings before out.old (lead_row word.now pat.now ++ (told ++ head_end)) result out.new }
+    ensures { let told = stream_of (about_expr scrutinee.now).form in
+        Adds E.meanings before out.old (lead_row (codes "match ") ++ (told ++ head_end)) result out.new }
 {
-    let lead = add_condition_lead(out, before, word, pat);
-    let condition = add_expr(out, lead, false, condition);
-    add_end(out, condition)
+    let lead = add_condition_lead(out, before, b"match ");
+    let scrutinee = add_expr(out, lead, false, scrutinee);
+    add_end(out, scrutinee)
 }
 
 /// Branches, with `else` between them.
@@ -59,7 +58,7 @@ pub fn add_branches<E: Emit>(
     let mut done = before;
     for (index, branch) in branches.iter().enumerate() {
         done = add_else_word(out, done, index == 0);
-        done = add_condition(out, done, b"if ", &branch.pat, branch.condition.get());
+        done = add_condition(out, done, b"if ", &branch.condition);
         done = add_soft(out, done, &branch.body);
     }
     done

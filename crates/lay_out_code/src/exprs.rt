@@ -10,7 +10,8 @@ ghost use Rattle.lay_out_types.specs.Calls.{Adds};
 ghost use Rattle.lay_out_types.specs.Rows.{comma_between, list_closed, list_opened, row};
 
 use crate::blocks::{add_block, add_soft};
-use crate::branches::{add_arms, add_branches, add_condition, add_else};
+use crate::branches::{add_arms, add_branches, add_else, add_scrutinee};
+use crate::conditions::add_condition;
 use crate::operands::{add_base, add_fields, add_operands, add_steps, add_targets};
 use lay_code::{Boxed, Expr, PathStyle};
 use lay_out_exprs::add_closure_head;
@@ -145,7 +146,7 @@ pub fn add_expr<E: Emit>(
             attrs,
             arms,
         } => {
-            let head = add_condition(out, before, b"match ", &None, scrutinee.get());
+            let head = add_scrutinee(out, before, scrutinee.get());
             add_arms(out, head, attrs.as_slice(), arms.as_slice())
         },
         Expr::Loop { label, body } => {
@@ -155,12 +156,11 @@ pub fn add_expr<E: Emit>(
         },
         Expr::While {
             label,
-            pat,
             condition,
             body,
         } => {
             let label = add_labelled(out, before, label);
-            let head = add_condition(out, label, b"while ", pat, condition.get());
+            let head = add_condition(out, label, b"while ", condition);
             add_block(out, head, true, body)
         },
         Expr::For {

@@ -11,6 +11,7 @@
 mod blocks;
 mod branches;
 mod calls;
+mod conditions;
 mod exprs;
 mod files;
 mod heads;

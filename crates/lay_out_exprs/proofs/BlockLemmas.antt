@@ -32,26 +32,15 @@ use Rattle.lay_out_types.specs.Rows.{comma_between, list_closed, list_opened, ro
 use Rattle.lay_out_types.proofs.FormRows.{are_none, list_is, part_more}
 use Rattle.lay_out_types.proofs.PartLemmas.{attrs_more}
 use Rattle.lay_out_exprs.specs.Arms.{arm_closed, arm_opened, seen_as}
-use Rattle.lay_out_exprs.specs.Blocks.{lead_row}
 use Rattle.lay_out_exprs.specs.declared.arms.ArmBody.{ArmBody}
 use Rattle.lay_out_exprs.specs.declared.arms.ArmBody.TheVariants as arm
 
--- ---- labels and conditions
+-- ---- labels
 
 -- a label that is there
 pub some_label : (label : Option Lifetime) (l : Lifetime) (put : List ℕ) → label ≡ Some l → put ≡ l.text
     → tok.Text put ∷ tok.Text (codes ": ") ∷ [] ≡ stream_of (labelled label Done)
 some_label label l put is e = rw (is, e) refl
-
--- what stands before a condition without a pattern, and with one
-pub plain_lead : (word : List ℕ) (pat : Option Pat) → pat ≡ None
-    → tok.Begin false (pos 0) ∷ tok.Text word ∷ [] ≡ lead_row word pat
-plain_lead word pat is = rw is refl
-
-pub matched_lead : (word : List ℕ) (pat : Option Pat) (p : Pat) → pat ≡ Some p
-    → tok.Begin false (pos 0) ∷ tok.Text word ∷ tok.Text (codes "let ") ∷ (stream_of (about_pat p).told.form
-    ++ (tok.Text (codes " = ") ∷ [])) ≡ lead_row word pat
-matched_lead word pat p is = rw is refl
 
 -- ---- closures
 
@@ -196,7 +185,7 @@ other_by _ (IsAsync moves b) no_call no_block = braces_from _ (expr_async_is mov
 other_by _ (IsIf branches otherwise) no_call no_block = braces_from _ (expr_if_is branches otherwise)
 other_by _ (IsMatch x attrs arms) no_call no_block = braces_from _ (expr_match_is x attrs arms)
 other_by _ (IsLoop label b) no_call no_block = braces_from _ (expr_loop_is label b)
-other_by _ (IsWhile label pat x b) no_call no_block = braces_from _ (expr_while_is label pat x b)
+other_by _ (IsWhile label c b) no_call no_block = braces_from _ (expr_while_is label c b)
 other_by _ (IsFor label pat x b) no_call no_block = braces_from _ (expr_for_is label pat x b)
 other_by _ (IsClosure is_async moves params inner) no_call no_block = braces_from _ (expr_closure_is is_async moves params inner)
 other_by _ (IsTypedClosure is_async moves params output b) no_call no_block = braces_from _ (expr_typed_closure_is is_async moves params output b)

@@ -34,7 +34,7 @@ use Rattle.lay_node.proofs.nodes.TypesLaws.{IsGlobal, IsLocal, IsQualified, Path
 use Rattle.lay_code.specs.nodes.Blocks.{attrs_before, block_form, dropped_if, is_plain, soft_form, stmt_form}
 use Rattle.lay_code.specs.nodes.Code.{about_arm, about_block, about_branch, about_expr, about_field_expr, about_step, about_stmt}
 use Rattle.lay_code.specs.nodes.CodeFacts.{BlockFacts, BranchFacts, StmtFacts}
-use Rattle.lay_code.specs.nodes.Exprs.{ExprFacts, arm_forms, base_form, branches_form, break_if, closure_head, condition_form, else_branch_form, end_form, expr_forms, group_if, is_method, label_form, labelled, methods, more_branches, operand_form, operands_form, prefix_bits, prefixes_form, steps_form, targets_form, tuple_form, types_form}
+use Rattle.lay_code.specs.nodes.Exprs.{ExprFacts, arm_forms, base_form, branches_form, break_if, closure_head, else_branch_form, end_form, expr_forms, group_if, is_method, label_form, labelled, methods, more_branches, operand_form, operands_form, prefix_bits, prefixes_form, steps_form, targets_form, tuple_form, types_form}
 use Rattle.lay_code.specs.declared.blocks.Arm.{Arm}
 use Rattle.lay_code.specs.declared.blocks.Block.{Block}
 use Rattle.lay_code.specs.declared.blocks.Branch.{Branch}
@@ -502,9 +502,9 @@ other_by q _ (IsMatch x attrs arms) o =
 other_by q _ (IsLoop label b) o =
     labelled_shuts q label _ (λ r. block_shuts false true b)
     ∙ ends_is q (expr.Loop label b) (expr.Loop label b) _ refl (expr_loop_is label b)
-other_by q _ (IsWhile label pat x b) o =
+other_by q _ (IsWhile label c b) o =
     labelled_shuts q label _ (λ r. block_shuts _ true b)
-    ∙ ends_is q (expr.While label pat x b) (expr.While label pat x b) _ refl (expr_while_is label pat x b)
+    ∙ ends_is q (expr.While label c b) (expr.While label c b) _ refl (expr_while_is label c b)
 other_by q _ (IsFor label pat x b) o =
     labelled_shuts q label _ (λ r. block_shuts _ true b)
     ∙ ends_is q (expr.For label pat x b) (expr.For label pat x b) _ refl (expr_for_is label pat x b)

@@ -1,5 +1,5 @@
 -- The streams of what stands round blocks, and before them.
-use Rattle.std.specs.Prelude.{ℕ, true, false, List, [], ◌∷◌, ◌++◌, codes, pos, Option, Some, None}
+use Rattle.std.specs.Prelude.{ℕ, true, false, List, [], ◌∷◌, ◌++◌, codes, pos}
 use Rattle.lay_layout.specs.declared.layout.Tok.{Tok}
 use Rattle.lay_layout.specs.declared.layout.Tok.TheVariants as tok
 use Rattle.lay_form.specs.Form.{Soft}
@@ -8,14 +8,17 @@ use Rattle.lay_form.specs.Stream.{stream_of}
 use Rattle.lay_node.specs.nodes.Patterns.{about_pat}
 use Rattle.lay_node.specs.declared.patterns.Pat.{Pat}
 
--- a pattern before what it is matched with, if there is one
-abbrev pub matched_row : Option Pat → List Tok
-matched_row None = []
-matched_row (Some pat) = tok.Text (codes "let ") ∷ (stream_of (about_pat pat).told.form ++ (tok.Text (codes " = ") ∷ []))
-
 -- what stands before a condition
-abbrev pub lead_row : List ℕ → Option Pat → List Tok
-lead_row word pat = tok.Begin false (pos 0) ∷ tok.Text word ∷ matched_row pat
+abbrev pub lead_row : List ℕ → List Tok
+lead_row word = tok.Begin false (pos 0) ∷ tok.Text word ∷ []
+
+-- what stands before a value that is matched with a pattern
+abbrev pub let_row : Pat → List Tok
+let_row pat = tok.Text (codes "let ") ∷ (stream_of (about_pat pat).told.form ++ (tok.Text (codes " = ") ∷ []))
+
+-- what stands between two links of a condition
+abbrev pub link_between : List Tok
+link_between = tok.Break (break_of (Soft false 1)) ∷ tok.Text (codes "&& ") ∷ []
 
 -- what stands between two branches
 abbrev pub else_between : List Tok

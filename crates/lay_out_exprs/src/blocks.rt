@@ -6,12 +6,12 @@ ghost use Rattle.lay_code.specs.nodes.Blocks.{is_single};
 ghost use Rattle.lay_code.specs.nodes.Code.{about_stmt};
 ghost use Rattle.lay_code.specs.nodes.Exprs.{labelled};
 ghost use Rattle.lay_out_types.specs.Calls.{Adds};
-ghost use Rattle.lay_out_exprs.specs.Blocks.{else_between, lead_row, soft_closed};
+ghost use Rattle.lay_out_exprs.specs.Blocks.{else_between, lead_row, let_row, link_between, soft_closed};
 
 use crate::flags::both;
 use lay_code::{Attr, Block, Lifetime, Pat, Stmt};
 use lay_out_heads::calls::add_break;
-use lay_out_tokens::notation::CLOSING_SPACE_BREAK;
+use lay_out_tokens::notation::{CLOSING_SPACE_BREAK, SPACE_BREAK};
 use lay_out_types::calls::add_text;
 use lay_out_types::lists::add_end;
 use lay_out_types::{add_group, add_pat};
@@ -34,25 +34,37 @@ pub fn add_labelled<E: Emit>(
     }
 }
 
-/// What stands before a condition: what opens its group, the word, and a pattern that it is matched with, if there is one.
+/// What stands before a condition: what opens its group, and the word.
 pub fn add_condition_lead<E: Emit>(
     out: &mut E,
     before: Result<(), E::Fault>,
     word: &[u8],
-    pat: &Option<Pat>,
 ) -> Result<(), E::Fault>
-    ensures { Adds E.meanings before out.old (lead_row word.now pat.now) result out.new }
+    ensures { Adds E.meanings before out.old (lead_row word.now) result out.new }
 {
     let group = add_group(out, before);
-    let word = add_text(out, group, word);
-    match pat {
-        None => word,
-        Some(pat) => {
-            let word = add_text(out, word, b"let ");
-            let pat = add_pat(out, word, pat);
-            add_text(out, pat, b" = ")
-        },
-    }
+    add_text(out, group, word)
+}
+
+/// What stands before a value that is matched with a pattern: the word `let`, the pattern and an `=`.
+pub fn add_let_lead<E: Emit>(
+    out: &mut E,
+    before: Result<(), E::Fault>,
+    pat: &Pat,
+) -> Result<(), E::Fault>
+    ensures { Adds E.meanings before out.old (let_row pat.now) result out.new }
+{
+    let word = add_text(out, before, b"let ");
+    let pat = add_pat(out, word, pat);
+    add_text(out, pat, b" = ")
+}
+
+/// What stands between two links of a condition: a break, and the operator with its blank.
+pub fn add_link_lead<E: Emit>(out: &mut E, before: Result<(), E::Fault>) -> Result<(), E::Fault>
+    ensures { Adds E.meanings before out.old link_between result out.new }
+{
+    let line = add_break(out, before, SPACE_BREAK);
+    add_text(out, line, b"&& ")
 }
 
 /// What stands before a branch: the word `else`, unless it is the first one.

@@ -1,9 +1,11 @@
-use Rattle.std.proofs.Common.{List, [], ◌++◌, ◌&&◌, true, false, map, refl, ap, ◌∙◌, ◌∷◌, option_map}
+use Rattle.std.proofs.Common.{List, [], ◌++◌, ◌&&◌, true, false, map, refl, ap, ◌∙◌, ◌∷◌, option_map, codes}
 use Rattle.lay_form.specs.Form.{Done, semicolon, Part}
 use Rattle.lay_form.specs.Stream.{fed, stream_of}
 use Rattle.lay_code.specs.nodes.Blocks.{guard_form}
-use Rattle.lay_code.specs.nodes.Code.{about_step, about_block, about_expr, form_of_item}
+use Rattle.lay_code.specs.nodes.Code.{about_step, about_block, about_expr, about_link, form_of_item}
+use Rattle.lay_code.specs.nodes.Conditions.{condition_form, links_form}
 use Rattle.lay_code.specs.nodes.Exprs.{operands_form, steps_form, targets_form, value_form}
+use Rattle.lay_code.specs.declared.conditions.Link.{Link}
 use Rattle.lay_code.specs.declared.exprs.Expr.{Expr}
 use Rattle.lay_code.specs.declared.exprs.FieldExpr.{FieldExpr}
 use Rattle.lay_code.specs.declared.exprs.Step.{Step}
@@ -37,7 +39,9 @@ use Rattle.lay_out_heads.proofs.Rows.{may_end_head}
 use Rattle.lay_out_exprs.specs.Arms.{seen_as}
 use Rattle.lay_out_exprs.specs.Blocks.{else_between}
 use Rattle.lay_out_code.proofs.BlockLemmas.{block_body, each_further, expr_stmt, item_stmt, let_stmt, may_close_soft, no_body, other_block, row_further, same_before, single_block, some_body, some_otherwise, steady_function}
-use Rattle.lay_out_code.proofs.BranchLemmas.{arm_parts, attrs_told, branch_parts, may_close_arm, may_end_arm_head, may_end_condition, some_else, some_guard}
+use Rattle.lay_out_code.proofs.BranchLemmas.{arm_parts, attrs_told, branch_parts, may_close_arm, may_end_arm_head, some_else, some_guard}
+use Rattle.lay_out_code.proofs.ConditionLemmas.{may_end_condition}
+use Rattle.lay_out_code.proofs.ConditionLemmas as conditions
 use Rattle.lay_out_exprs.proofs.StructLemmas as fields
 use Rattle.lay_out_exprs.proofs.ExprLemmas as of
 use Rattle.lay_out_exprs.proofs.StepLemmas as steps
@@ -413,22 +417,74 @@ pub blocks::add_otherwise-returns-in-Some : goal.blocks::add_otherwise-returns-i
 blocks::add_otherwise-returns-in-Some g t c =
     adds (adds_on c.add_text-word.ensures c.add_block.ensures) (some_otherwise c.args.otherwise.now _ c.in-Some.is)
 
+-- ---- conditions
+
+pub conditions::add_condition-add_end-requires : goal.conditions::add_condition-add_end-requires
+conditions::add_condition-add_end-requires g t c =
+    may_end_condition c.args.word.now (condition_form (map about_link c.as_slice.result.now))
+    (adds_on c.add_condition_lead-lead.ensures c.add_links-links.ensures)
+
+pub conditions::add_condition-returns : goal.conditions::add_condition-returns
+conditions::add_condition-returns g t c =
+    let links = adds c.add_links-links.ensures (conditions.links_told c.args.condition.now _ c.as_slice.ensures) in
+    adds_on c.add_condition_lead-lead.ensures (adds_on links c.add_end.ensures)
+
+pub conditions::add_links-returns-in-empty : goal.conditions::add_links-returns-in-empty
+conditions::add_links-returns-in-empty g t c = adds adds_nothing (conditions.no_links c.args.links.now c.in-empty.len_below)
+
+pub conditions::add_links-returns-in-len1 : goal.conditions::add_links-returns-in-len1
+conditions::add_links-returns-in-len1 g t c =
+    adds c.add_link.ensures (conditions.one_link c.args.links.now _ c.in-len1.len_at_least c.in-len1.len_below c.link-item.is)
+
+pub conditions::add_links-add_end-requires : goal.conditions::add_links-add_end-requires
+conditions::add_links-add_end-requires g t c =
+    steps.may_end_chain false (about_link c.first-item.result.now).form (links_form (map about_link _))
+    (adds_on c.add_begin-group.ensures (adds_on c.add_link-first.ensures c.add_further_links-rest.ensures))
+
+pub conditions::add_links-returns-in-len1-up : goal.conditions::add_links-returns-in-len1-up
+conditions::add_links-returns-in-len1-up g t c =
+    adds (adds_on c.add_begin-group.ensures (adds_on c.add_link-first.ensures
+    (adds_on c.add_further_links-rest.ensures c.add_end.ensures)))
+    (conditions.several_links c.args.links.now _ c.in-len1-up.len_at_least c.in-len1-up.not-len1 c.first-item.is)
+
+pub conditions::add_further_links-loop-link-init : goal.conditions::add_further_links-loop-link-init
+conditions::add_further_links-loop-link-init g t c = nothing_yet refl
+
+pub conditions::add_further_links-loop-link-preserved : goal.conditions::add_further_links-loop-link-preserved
+conditions::add_further_links-loop-link-preserved g t c =
+    one_turn c.loop-link.invariant (adds_on c.add_link_lead-done.ensures c.add_link-done.ensures)
+    (loop_step (λ (xs : List Link). stream_of (links_form (map about_link xs))) c.args.links.now _ _ _
+    c.loop-link-test.true c.link-item.is (conditions.link_turn _ _))
+
+pub conditions::add_further_links-returns : goal.conditions::add_further_links-returns
+conditions::add_further_links-returns g t c =
+    all_put c.loop-link.invariant
+    (loop_done (λ (xs : List Link). stream_of (links_form (map about_link xs))) c.args.links.now _ c.loop-link-test.false)
+
+pub conditions::add_link-returns-in-Expr : goal.conditions::add_link-returns-in-Expr
+conditions::add_link-returns-in-Expr g t c =
+    adds c.add_expr.ensures (conditions.expr_link c.args.link.now c.in-Expr.expr _ c.in-Expr.is c.get.ensures)
+
+pub conditions::add_link-returns-in-Let : goal.conditions::add_link-returns-in-Let
+conditions::add_link-returns-in-Let g t c =
+    adds (adds_on c.add_let_lead-lead.ensures c.add_expr-in-Let.ensures)
+    (conditions.let_link c.args.link.now c.in-Let.pat c.in-Let.value _ c.in-Let.is c.get-in-Let.ensures)
+
 -- ---- branches and arms
 
-pub branches::add_condition-add_end-requires : goal.branches::add_condition-add_end-requires
-branches::add_condition-add_end-requires g t c =
-    may_end_condition c.args.word.now c.args.pat.now (expr_told c.args.condition.now)
-    (adds_on c.add_condition_lead-lead.ensures c.add_expr-condition.ensures)
+pub branches::add_scrutinee-add_end-requires : goal.branches::add_scrutinee-add_end-requires
+branches::add_scrutinee-add_end-requires g t c =
+    may_end_condition (codes "match ") (expr_told c.args.scrutinee.now)
+    (adds_on c.add_condition_lead-lead.ensures c.add_expr-scrutinee.ensures)
 
-pub branches::add_condition-returns : goal.branches::add_condition-returns
-branches::add_condition-returns g t c =
-    adds_on c.add_condition_lead-lead.ensures (adds_on c.add_expr-condition.ensures c.add_end.ensures)
+pub branches::add_scrutinee-returns : goal.branches::add_scrutinee-returns
+branches::add_scrutinee-returns g t c =
+    adds_on c.add_condition_lead-lead.ensures (adds_on c.add_expr-scrutinee.ensures c.add_end.ensures)
 
 pub branches::add_branches-loop-index-preserved : goal.branches::add_branches-loop-index-preserved
 branches::add_branches-loop-index-preserved g t c =
-    let head = rw c.get.ensures at c.add_condition-done.ensures in
     adds (adds_on c.loop-index.invariant (adds_on c.add_else_word-done.ensures
-    (adds (adds_on head c.add_soft-done.ensures) (branch_parts _))))
+    (adds (adds_on c.add_condition-done.ensures c.add_soft-done.ensures) (branch_parts _))))
     (turn branch_told [] else_between c.args.branches.now _ _ c.loop-index-test.true c.index-branches-index.is _ refl)
 
 pub branches::add_branches-returns : goal.branches::add_branches-returns
@@ -524,9 +580,9 @@ exprs::add_expr-returns-in-If g t c =
 
 pub exprs::add_expr-returns-in-Match : goal.exprs::add_expr-returns-in-Match
 exprs::add_expr-returns-in-Match g t c =
-    adds (adds_on c.add_condition-head.ensures c.add_arms.ensures)
-    (branches.match_expr c.args.point _ c.in-Match.scrutinee _ _ c.in-Match.attrs _ c.in-Match.arms _ c.in-Match.is
-    c.get-in-Match.ensures refl c.as_slice-in-Match.ensures c.as_slice-in-Match-2.ensures)
+    adds (adds_on c.add_scrutinee-head.ensures c.add_arms.ensures)
+    (branches.match_expr c.args.point _ c.in-Match.scrutinee _ c.in-Match.attrs _ c.in-Match.arms _ c.in-Match.is
+    c.get-in-Match.ensures c.as_slice-in-Match.ensures c.as_slice-in-Match-2.ensures)
 
 pub exprs::add_expr-returns-in-Loop : goal.exprs::add_expr-returns-in-Loop
 exprs::add_expr-returns-in-Loop g t c =
@@ -535,9 +591,8 @@ exprs::add_expr-returns-in-Loop g t c =
 
 pub exprs::add_expr-returns-in-While : goal.exprs::add_expr-returns-in-While
 exprs::add_expr-returns-in-While g t c =
-    adds (adds_on c.add_labelled-label-in-While.ensures (adds_on c.add_condition-head-in-While.ensures c.add_block-in-While.ensures))
-    (branches.while_expr c.args.point _ c.in-While.label c.in-While.pat c.in-While.condition _ c.in-While.body c.in-While.is
-    c.get-in-While.ensures)
+    adds (adds_on c.add_labelled-label-in-While.ensures (adds_on c.add_condition-head.ensures c.add_block-in-While.ensures))
+    (branches.while_expr c.args.point _ c.in-While.label c.in-While.condition c.in-While.body c.in-While.is)
 
 pub exprs::add_expr-add_end-head-requires : goal.exprs::add_expr-add_end-head-requires
 exprs::add_expr-add_end-head-requires g t c =

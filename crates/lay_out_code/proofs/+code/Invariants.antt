@@ -1,7 +1,8 @@
 use Rattle.std.proofs.Common.{[], false, drop, map, take, ◌∷◌}
 use Rattle.lay_form.specs.Form.{Done}
 use Rattle.lay_form.specs.Stream.{fed, stream_of}
-use Rattle.lay_code.specs.nodes.Code.{about_step, form_of_item}
+use Rattle.lay_code.specs.nodes.Code.{about_link, about_step, form_of_item}
+use Rattle.lay_code.specs.nodes.Conditions.{links_form}
 use Rattle.lay_code.specs.nodes.Exprs.{operands_form, steps_form, targets_form}
 use Rattle.lay_out_types.specs.Calls.{Adds}
 use Rattle.lay_out_types.specs.PatternRows.{braces_opened}
@@ -30,6 +31,11 @@ abbrev pub invariant-operands::add_operands-loop-op : goal.invariant-operands::a
 invariant-operands::add_operands-loop-op g l =
     SoFar g.E.Emit.meanings l.fn.before l.fn.out (stream_of (operands_form (map behind_op (drop l.op-index l.operands))))
     (stream_of (operands_form (map behind_op l.operands))) l.done l.out
+
+abbrev pub invariant-conditions::add_further_links-loop-link : goal.invariant-conditions::add_further_links-loop-link
+invariant-conditions::add_further_links-loop-link g l =
+    SoFar g.E.Emit.meanings l.fn.before l.fn.out (stream_of (links_form (map about_link (drop l.link-index l.links))))
+    (stream_of (links_form (map about_link l.links))) l.done l.out
 
 abbrev pub invariant-operands::add_targets-loop-target : goal.invariant-operands::add_targets-loop-target
 invariant-operands::add_targets-loop-target g l =

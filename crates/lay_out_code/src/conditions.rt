@@ -1,0 +1,82 @@
+//! Conditions and their links.
+ghost use Rattle.std.specs.Prelude.{◌++◌, map};
+ghost use Rattle.lay_form.specs.Stream.{stream_of};
+ghost use Rattle.lay_code.specs.nodes.Code.{about_condition, about_link};
+ghost use Rattle.lay_code.specs.nodes.Conditions.{condition_form, links_form};
+ghost use Rattle.lay_out_exprs.specs.Blocks.{lead_row};
+ghost use Rattle.lay_out_types.specs.Calls.{Adds};
+ghost use Rattle.lay_out_code.specs.Parts.{head_end};
+
+use crate::exprs::add_expr;
+use lay_code::{Condition, Link};
+use lay_out_exprs::blocks::{add_condition_lead, add_let_lead, add_link_lead};
+use lay_out_types::lists::{add_begin, add_end};
+use lay_stream::Emit;
+
+/// A condition behind its word, in a group of its own.
+#[cycle(code)]
+pub fn add_condition<E: Emit>(
+    out: &mut E,
+    before: Result<(), E::Fault>,
+    word: &[u8],
+    condition: &Condition,
+) -> Result<(), E::Fault>
+    ensures { let told = stream_of (about_condition condition.now).form in
+        Adds E.meanings before out.old (lead_row word.now ++ (told ++ head_end)) result out.new }
+{
+    let lead = add_condition_lead(out, before, word);
+    let links = add_links(out, lead, condition.links.as_slice());
+    add_end(out, links)
+}
+
+/// The links of a condition. Two or more are in a group of their own.
+#[cycle(code)]
+fn add_links<E: Emit>(
+    out: &mut E,
+    before: Result<(), E::Fault>,
+    links: &[Link],
+) -> Result<(), E::Fault>
+    ensures { Adds E.meanings before out.old (stream_of (condition_form (map about_link links.now))) result out.new }
+{
+    match links {
+        [] => before,
+        [link] => add_link(out, before, link),
+        [first, rest @ ..] => {
+            let group = add_begin(out, before);
+            let first = add_link(out, group, first);
+            let rest = add_further_links(out, first, rest);
+            add_end(out, rest)
+        },
+    }
+}
+
+/// The links behind the first one, each behind its `&&`.
+#[cycle(code)]
+fn add_further_links<E: Emit>(
+    out: &mut E,
+    before: Result<(), E::Fault>,
+    links: &[Link],
+) -> Result<(), E::Fault>
+    ensures { Adds E.meanings before out.old (stream_of (links_form (map about_link links.now))) result out.new }
+{
+    let mut done = before;
+    for link in links {
+        done = add_link_lead(out, done);
+        done = add_link(out, done, link);
+    }
+    done
+}
+
+/// A link.
+#[cycle(code)]
+fn add_link<E: Emit>(out: &mut E, before: Result<(), E::Fault>, link: &Link) -> Result<(), E::Fault>
+    ensures { Adds E.meanings before out.old (stream_of (about_link link.now).form) result out.new }
+{
+    match link {
+        Link::Expr { expr } => add_expr(out, before, false, expr.get()),
+        Link::Let { pat, value } => {
+            let lead = add_let_lead(out, before, pat);
+            add_expr(out, lead, false, value.get())
+        },
+    }
+}

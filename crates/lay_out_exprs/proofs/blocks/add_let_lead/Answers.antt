@@ -1,0 +1,5 @@
+use Rattle.lay_out_types.proofs.Adding.{adds_on}
+use Rattle.lay_out_exprs.proofs.blocks.add_let_lead.Goals as goal
+
+pub returns : goal.returns
+returns g c = adds_on c.add_text-word.ensures (adds_on c.add_pat-pat.ensures c.add_text.ensures)
