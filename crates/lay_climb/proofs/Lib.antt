@@ -1,2 +1,2 @@
 pub mod Budgets
-mod Climbing
+mod HeadSteps

@@ -1,6 +1,6 @@
-//! From nested tokens to expressions with the operators behind them, by precedence climbing.
+//! From nested tokens to expressions: what begins one, with the operators behind it.
 //!
-//! What begins an expression is read, and then the operators behind it that its place allows, from the strongest on. Each
+//! What begins an expression is read, and then the operators behind it that its place allows, by precedence climbing. Each
 //! call is proved equal to a function of the tokens ahead that `lay_code` defines.
 //!
 //! Calls that lead to deeper nodes carry `#[inline(never)]`: what is nested 254 deep has to be read within the stack of a

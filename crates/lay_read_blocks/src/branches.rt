@@ -1,4 +1,4 @@
-//! Conditions, branches, and the expressions with conditions.
+//! Branches, and the expressions with conditions.
 ghost use Rattle.std.specs.Prelude.{◌≡◌, ◌+◌, ◌≤◌, codes, drop, max, IfOk};
 ghost use Rattle.lay_node.specs.Ahead.{first, is_keyword, tail};
 ghost use Rattle.lay_node.specs.reader.Loops.{repeat};
@@ -7,10 +7,10 @@ ghost use Rattle.lay_code.specs.reader.Blocks as reader;
 ghost use Rattle.lay_code.specs.reader.Exprs as exprs;
 ghost use Rattle.lay_read_tokens.specs.Answers.{AreFound, IsFound, IsHeld};
 ghost use Rattle.lay_read_shared.specs.Code.{code_within};
-ghost use Rattle.lay_read_blocks.specs.Answers.{AreBranches, AreCode, branches, matched};
+ghost use Rattle.lay_read_blocks.specs.Answers.{AreBranches, AreCode, branches};
 
 use crate::rules::BlockRules;
-use lay_code::{Block, Boxed, Branch, Expr, Item, Lifetime, Pat, PatPlace, Place, Site};
+use lay_code::{Block, Boxed, Branch, Expr, Item, Lifetime, PatPlace, Place, Site};
 use lay_read_parts::joins::{both, prepended, refused};
 use lay_read_parts::loops::Part;
 use lay_read_pats::pat_ahead;
@@ -50,45 +50,6 @@ impl<
     B: Fn(Global, &mut Ahead<'_>, u32) -> Result<Found<Block>, ReadNone>,
     I: Fn(Global, &mut Ahead<'_>, Site, u32) -> Result<Found<Item>, ReadNone>,
 > BlockRules<P, B, I> {
-    /// A condition, or a pattern and what it is matched with.
-    #[tactic(auto, unfolding(lay_code::specs::reader::Blocks::condition_by))]
-    #[inline(never)]
-    pub fn condition_by(
-        &self,
-        at: &mut Ahead<'_>,
-    ) -> Result<Found<(Option<Pat>, Boxed<Expr>)>, ReadNone>
-        requires { AreCode self.now.depth (P.pre self.now.exprs) (P.post self.now.exprs) (B.pre self.now.blocks) (B.post self.now.blocks) (I.pre self.now.items) (I.post self.now.items) }
-        ensures read { IsFound (reader.condition_by (code_within self.now.depth) at.old) result at.new }
-        ensures within { IfOk result (λ found. found.need ≤ self.now.depth) }
-    {
-        if takes_keyword(at, b"let") {
-            return self.matched(at);
-        }
-        let found = self.expr(at, plain(0, true))?;
-        Ok(Found {
-            need: found.need,
-            node: (None, found.node),
-        })
-    }
-
-    /// A pattern and what it is matched with.
-    #[inline(never)]
-    fn matched(&self, at: &mut Ahead<'_>) -> Result<Found<(Option<Pat>, Boxed<Expr>)>, ReadNone>
-        requires { AreCode self.now.depth (P.pre self.now.exprs) (P.post self.now.exprs) (B.pre self.now.blocks) (B.post self.now.blocks) (I.pre self.now.items) (I.post self.now.items) }
-        ensures read { IsFound (matched (code_within self.now.depth) at.old) result at.new }
-        ensures within { IfOk result (λ found. found.need ≤ self.now.depth) }
-    {
-        let pat = pat_ahead(self.alloc, at, PatPlace::Alternatives, self.depth)?;
-        if !takes_op(at, b"=") {
-            return refused(pat);
-        }
-        let (pat, found) = both(pat, self.expr(at, plain(4, true)))?;
-        Ok(Found {
-            need: greater(pat.need, found.need),
-            node: (Some(pat.node), found.node),
-        })
-    }
-
     /// What stands behind an `if`.
     #[tactic(auto, unfolding(lay_code::specs::reader::Blocks::branch_by))]
     #[inline(never)]
@@ -99,13 +60,10 @@ impl<
     {
         let condition = self.condition_by(at)?;
         let (condition, body) = both(condition, self.block_by(at))?;
-        let Found { node, need } = condition;
-        let (pat, condition) = node;
         Ok(Found {
-            need: greater(need, body.need),
+            need: greater(condition.need, body.need),
             node: Branch {
-                pat,
-                condition,
+                condition: condition.node,
                 body: body.node,
             },
         })
@@ -211,12 +169,11 @@ impl<
     {
         let (label, found) = both(label, self.branch_by(at))?;
         let Found { node, need } = found;
-        let (pat, condition, body) = node.into_parts();
+        let (condition, body) = node.into_parts();
         boxed_found(
             self.alloc,
             Expr::While {
                 label,
-                pat,
                 condition,
                 body,
             },

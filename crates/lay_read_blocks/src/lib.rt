@@ -13,6 +13,7 @@ mod arms;
 mod blocks;
 mod branches;
 mod closures;
+mod conditions;
 pub mod front;
 mod heads;
 mod rules;

@@ -1,5 +1,5 @@
 -- What readers of expressions ask for and what they answer.
-use Rattle.std.specs.Prelude.{ℕ, suc, max, ◌+◌, ◌^◌, ◌<◌, ◌≤◌, Bool, if◌then◌else◌, List, [], ◌∷◌, drop, codes, Some, None, Result, IfOk}
+use Rattle.std.specs.Prelude.{ℕ, suc, max, ◌+◌, ◌^◌, ◌<◌, ◌≤◌, nat_le, ◌&&◌, Bool, if◌then◌else◌, List, [], ◌∷◌, drop, codes, Some, None, Result, IfOk}
 use Rattle.std.specs.declared.alloc.Global.{Global}
 use denote.Ref.{MutBor}
 use Rattle.lay_piece.specs.declared.kind.Delim.TheVariants.{Bracket, Brace}
@@ -11,7 +11,9 @@ use Rattle.lay_node.specs.declared.token.Name.{Name}
 use Rattle.lay_node.specs.declared.types.Arg.{Arg}
 use Rattle.lay_node.specs.declared.types.Path.{Path}
 use Rattle.lay_code.specs.reader.Code.{expr_at}
-use Rattle.lay_code.specs.reader.Exprs.{base, bracket_expr, break_expr, call_expr, continue_expr, field_by, free_elements, generics_by, index_step, paren_expr, path_expr, return_expr}
+use Rattle.lay_code.specs.nodes.Code.{about_expr}
+use Rattle.lay_code.specs.nodes.Exprs.{stands}
+use Rattle.lay_code.specs.reader.Exprs.{accepted, base, bracket_expr, break_expr, call_expr, climb, continue_expr, field_by, free_elements, generics_by, index_step, left_place, paren_expr, path_expr, return_expr, stage}
 use Rattle.lay_code.specs.reader.Within.{ExprWithin}
 use Rattle.lay_code.specs.declared.exprs.Expr.{Expr}
 use Rattle.lay_code.specs.declared.exprs.Expr.TheVariants as expr
@@ -88,3 +90,16 @@ late_args within ts = gathered (angled (one_arg within) (drop 2 ts))
 -- a method behind its name, where generic arguments stand behind that
 abbrev pub generic_method : ExprWithin → Name → Tokens → Read Step
 generic_method within n ts = generics_by within n (drop 2 ts)
+
+-- ---- operators behind an operand
+
+-- What an operator of the level makes of the expression before it, where that may stand there and isn't so deep that what
+-- is made exceeds the budget.
+abbrev pub climb_once : ExprWithin → ℕ → Place → ℕ → Expr × ℕ → Tokens → Read Expr
+climb_once within budget place level lhs ts =
+    if nat_le (suc lhs.1) budget && stands (about_expr lhs.0) (left_place place level ts) then stage within level place.no_struct lhs ts
+    else None
+
+-- the operators below a level, where what they make is accepted in the end
+abbrev pub climbed : ExprWithin → ℕ → Place → ℕ → Expr × ℕ → Tokens → Read Expr
+climbed within budget place level lhs ts = do x ← climb within place level lhs ts; accepted budget place x.0 x.1

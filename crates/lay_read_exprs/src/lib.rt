@@ -1,4 +1,5 @@
-//! From nested tokens to expressions: each rule by itself, over a function that reads expressions one level deeper.
+//! From nested tokens to expressions: each rule by itself, over a function that reads expressions one level deeper, and the
+//! operators behind an expression, by precedence climbing.
 //!
 //! Each rule is proved equal to a function of the tokens ahead that `lay_code` defines, and that function reads what is
 //! spelled and nothing else.
@@ -9,6 +10,7 @@
 
 mod assigns;
 mod casts;
+pub mod climb;
 mod groups;
 mod heads;
 mod jumps;

@@ -7,8 +7,8 @@ use Rattle.lay_read_tokens.proofs.Steps.{lost}
 use Rattle.lay_read_types.proofs.Steps.{found_by}
 use Rattle.lay_read_shared.specs.Code.{code_within}
 use Rattle.lay_read_blocks.specs.Answers.{fits}
-use Rattle.lay_climb.specs.Answers.{climbed}
-use Rattle.lay_climb.proofs.Climbing.{ended_head, going_head, lost_head}
+use Rattle.lay_read_exprs.specs.Answers.{climbed}
+use Rattle.lay_climb.proofs.HeadSteps.{ended_head, going_head, lost_head}
 use Rattle.lay_climb.proofs.climb.Climber.expr_by.Goals as goal
 
 pub returns-in_err-head-clause-read : goal.returns-in_err-head-clause-read

@@ -5,29 +5,29 @@ use Rattle.lay_code.specs.reader.Exprs.{accepted}
 use Rattle.lay_read_tokens.proofs.Steps.{lost}
 use Rattle.lay_read_types.proofs.Steps.{found_by}
 use Rattle.lay_read_shared.specs.Code.{code_within}
-use Rattle.lay_climb.specs.Answers.{climb_once, climbed}
-use Rattle.lay_climb.proofs.Climbing.{climb_done, climbs_none, climbs_on, level_reached}
-use Rattle.lay_climb.proofs.climb.Climber.climb.Goals as goal
+use Rattle.lay_read_exprs.specs.Answers.{climb_once, climbed}
+use Rattle.lay_read_exprs.proofs.Climbing.{climb_done, climbs_none, climbs_on, level_reached}
+use Rattle.lay_read_exprs.proofs.climb.ExprRules.climb.Goals as goal
 
 pub returns-in_err-lhs-clause-read : goal.returns-in_err-lhs-clause-read
 returns-in_err-lhs-clause-read g c =
-    let deeper = code_within c.args.self.now.rules.depth in
-    let budget = c.args.self.now.rules.depth + 1 in
+    let deeper = code_within c.args.self.now.depth in
+    let budget = c.args.self.now.depth + 1 in
     let place = c.args.place in
     let ts = c.loop-reached.at in
     let lhs : Expr × ℕ = (c.loop-reached.lhs.node, c.loop-reached.lhs.need) in
     let level = c.strength-reached.result - 1 in
     let p = err_from_is_err_and c.from_residual.result c.from_residual.ensures.1 in
     rw (p.1, p.2) (lost (climb_once deeper budget place level lhs ts)
-    (climbed deeper budget place 14 (c.args.head.node, c.args.head.need) c.args.at.now) c.in_err-lhs.field-0.0
+    (climbed deeper budget place c.args.from (c.args.head.node, c.args.head.need) c.args.at.now) c.in_err-lhs.field-0.0
     c.in_err-lhs.ensures.read
     (λ none. c.loop-reached.invariant.same ∙ climbs_none deeper budget place c.loop-reached.reached c.strength-reached.result
     lhs ts (sym c.goes_on.ensures ∙ c.loop-reached-test.true) c.strength-reached.ensures none))
 
 pub loop-reached-preserved : goal.loop-reached-preserved
 loop-reached-preserved g c =
-    let deeper = code_within c.args.self.now.rules.depth in
-    let budget = c.args.self.now.rules.depth + 1 in
+    let deeper = code_within c.args.self.now.depth in
+    let budget = c.args.self.now.depth + 1 in
     let place = c.args.place in
     let ts = c.loop-reached.at in
     let lhs : Expr × ℕ = (c.loop-reached.lhs.node, c.loop-reached.lhs.need) in
@@ -39,7 +39,6 @@ loop-reached-preserved g c =
       same = c.loop-reached.invariant.same
           ∙ climbs_on deeper budget place reached strength.result lhs ts test strength.ensures (made.node, made.need)
           c.climb_once.new.at c.in_ok-lhs.ensures.read;
-      within = c.in_ok-lhs.ensures.within;
       small = omega (
         arith,
         level_reached deeper budget place reached strength.result lhs ts test strength.ensures,
@@ -49,12 +48,12 @@ loop-reached-preserved g c =
 
 pub returns-clause-read : goal.returns-clause-read
 returns-clause-read g c =
-    let deeper = code_within c.args.self.now.rules.depth in
-    let budget = c.args.self.now.rules.depth + 1 in
+    let deeper = code_within c.args.self.now.depth in
+    let budget = c.args.self.now.depth + 1 in
     let place = c.args.place in
     let ts = c.loop-reached.at in
     let lhs : Expr × ℕ = (c.loop-reached.lhs.node, c.loop-reached.lhs.need) in
     let done = climb_done deeper budget place c.loop-reached.reached lhs ts
     (sym c.goes_on.ensures ∙ c.loop-reached-test.false) in
-    found_by (climbed deeper budget place 14 (c.args.head.node, c.args.head.need) c.args.at.now)
+    found_by (climbed deeper budget place c.args.from (c.args.head.node, c.args.head.need) c.args.at.now)
     (accepted budget place lhs ts) c.accepted.result ts (c.loop-reached.invariant.same ∙ done) c.accepted.ensures.read

@@ -1,0 +1,325 @@
+//! Conditions: links with `&&` between them.
+//!
+//! Links are read one by one. Where none of them is a `let`, they are the first operands of an expression, and the operators
+//! behind them are read from their level on.
+ghost use Rattle.std.specs.Prelude.{◌≡◌, ◌==◌, ◌+◌, ◌^◌, ◌<◌, ◌≤◌, ◌∷◌, if◌then◌else◌, drop, map, max, true, IfErr, IfOk};
+ghost use Rattle.std.specs.List.{list_any};
+ghost use Rattle.lay_node.specs.Follow as follow;
+ghost use Rattle.lay_code.specs.nodes.Code.{about_expr};
+ghost use Rattle.lay_code.specs.nodes.Exprs.{stands};
+ghost use Rattle.lay_code.specs.nodes.Places.{link_place};
+ghost use Rattle.lay_code.specs.reader.Conditions as reader;
+ghost use Rattle.lay_read_tokens.specs.Answers.{AreFound, IsFound, IsHeld};
+ghost use Rattle.lay_read_shared.specs.Code.{code_within};
+ghost use Rattle.lay_read_blocks.specs.Answers.{AreCode, IsAlone, and_operand, chain_found, condition_behind, condition_found};
+
+use crate::rules::BlockRules;
+use lay_code::{Block, Boxed, Condition, Expr, Item, Link, Op, Pat, PatPlace, Place, Site};
+use lay_ops::ahead::strength;
+use lay_ops::stands;
+use lay_read_exprs::ExprRules;
+use lay_read_parts::joins::{both, refused};
+use lay_read_parts::loops::Part;
+use lay_read_pats::pat_ahead;
+use lay_read_shared::boxes::boxed_found;
+use lay_read_shared::loops::{Going, read_parts};
+use lay_read_shared::places::{before_op, plain};
+use lay_read_tokens::found::greater;
+use lay_read_tokens::front::{pass_two, takes_keyword, takes_op};
+use lay_read_tokens::stop::{keep, room_for};
+use lay_read_tokens::{Ahead, Found, ReadNone};
+use lay_token::List;
+use std::alloc::Global;
+
+/// Links behind an `&&`, as parts that stand one behind another.
+pub struct Links;
+
+impl Part<(Option<Pat>, Boxed<Expr>), ()> for Links {
+    ghost reads = { λ depth place ts. reader.one_link (code_within depth) (drop 2 ts) };
+}
+
+/// Whether a range without a start begins at the front.
+fn begins_dots(at: &Ahead<'_>) -> bool
+    ensures { result ≡ follow.begins_dots at.now }
+{
+    at.op_is(b"..") || at.op_is(b"..=")
+}
+
+/// Whether a link may end where the tokens ahead stand.
+fn link_ends(at: &Ahead<'_>, expr: &Expr) -> bool
+    ensures { result ≡ (if reader.begins_link at.now then stands (about_expr expr.now) (link_place true) else true) }
+{
+    strength(at) != 4 || stands(expr, before_op(4, true, false, false))
+}
+
+/// Whether one of these links is a `let`.
+fn has_let(links: &[(Option<Pat>, Boxed<Expr>)]) -> bool
+    ensures { result ≡ list_any reader.is_let links.now }
+{
+    for (pat, _) in links {
+        if pat.is_some() {
+            return true;
+        }
+    }
+    false
+}
+
+/// A link of the pattern behind its `let`, if it has one, and of its expression.
+fn linked(read: (Option<Pat>, Boxed<Expr>)) -> Link
+    ensures { result ≡ reader.linked read }
+{
+    let (pat, expr) = read;
+    match pat {
+        Some(pat) => Link::Let { pat, value: expr },
+        None => Link::Expr { expr },
+    }
+}
+
+/// The condition of these links.
+#[inline(never)]
+fn condition_of(
+    alloc: Global,
+    first: (Option<Pat>, Boxed<Expr>),
+    more: List<(Option<Pat>, Boxed<Expr>)>,
+) -> Result<Condition, ReadNone>
+    ensures ok { IfOk result (λ condition. condition.links ≡ map reader.linked (first ∷ more)) }
+    ensures err { IfErr result (λ none. none ≡ ReadNone.NoMemory) }
+{
+    let mut links = List::new(alloc);
+    keep(&mut links, linked(first))?;
+    for link in more.into_vec() {
+        keep(&mut links, linked(link))?;
+    }
+    Ok(Condition { links })
+}
+
+/// The expressions of links without a `let`, each with the `&&` before it.
+fn operands_of(
+    alloc: Global,
+    links: List<(Option<Pat>, Boxed<Expr>)>,
+) -> Result<List<(Op, Boxed<Expr>)>, ReadNone>
+    ensures ok { IfOk result (λ operands. operands ≡ map and_operand links) }
+    ensures err { IfErr result (λ none. none ≡ ReadNone.NoMemory) }
+{
+    let links = links.into_vec();
+    let mut operands = room_for(alloc, links.len())?;
+    for (_, expr) in links {
+        keep(&mut operands, (Op::AndAnd, expr))?;
+    }
+    Ok(operands)
+}
+
+/// Links without a `let` as one expression.
+#[inline(never)]
+fn chain_of(
+    alloc: Global,
+    first: Found<(Option<Pat>, Boxed<Expr>)>,
+    more: Found<List<(Option<Pat>, Boxed<Expr>)>>,
+) -> Result<Found<Boxed<Expr>>, ReadNone>
+    requires { max first.need more.need + 1 < 2 ^ 32 }
+    ensures made { IfOk result (λ found. (found.node, found.need) ≡ chain_found first.node first.need more.node more.need) }
+    ensures err { IfErr result (λ none. none ≡ ReadNone.NoMemory) }
+{
+    let (_, expr) = first.node;
+    if more.node.as_slice().is_empty() {
+        return Ok(Found {
+            node: expr,
+            need: first.need,
+        });
+    }
+    let need = greater(first.need, more.need) + 1;
+    let rest = operands_of(alloc, more.node)?;
+    boxed_found(alloc, Expr::Chain { first: expr, rest }, need)
+}
+
+/// An expression that was read, as a condition by itself.
+#[inline(never)]
+fn alone(
+    alloc: Global,
+    read: Result<Found<Boxed<Expr>>, ReadNone>,
+) -> Result<Found<Condition>, ReadNone>
+    ensures { IsAlone read result }
+{
+    let found = read?;
+    let mut links = List::new(alloc);
+    keep(&mut links, Link::Expr { expr: found.node })?;
+    Ok(Found {
+        need: found.need,
+        node: Condition { links },
+    })
+}
+
+impl<
+    P: Fn(Global, &mut Ahead<'_>, Place, u32) -> Result<Found<Boxed<Expr>>, ReadNone>,
+    B: Fn(Global, &mut Ahead<'_>, u32) -> Result<Found<Block>, ReadNone>,
+    I: Fn(Global, &mut Ahead<'_>, Site, u32) -> Result<Found<Item>, ReadNone>,
+> BlockRules<P, B, I> {
+    /// What stands behind the `let` of a link.
+    #[tactic(auto, unfolding(lay_code::specs::reader::Conditions::let_link))]
+    #[inline(never)]
+    fn let_link(&self, at: &mut Ahead<'_>) -> Result<Found<(Option<Pat>, Boxed<Expr>)>, ReadNone>
+        requires { AreCode self.now.depth (P.pre self.now.exprs) (P.post self.now.exprs) (B.pre self.now.blocks) (B.post self.now.blocks) (I.pre self.now.items) (I.post self.now.items) }
+        ensures read { IsFound (reader.let_link (code_within self.now.depth) at.old) result at.new }
+        ensures within { IfOk result (λ found. found.need ≤ self.now.depth) }
+    {
+        let pat = pat_ahead(self.alloc, at, PatPlace::Alternatives, self.depth)?;
+        if !takes_op(at, b"=") {
+            return refused(pat);
+        }
+        let (pat, value) = both(pat, self.expr(at, plain(4, true)))?;
+        Ok(Found {
+            need: greater(pat.need, value.need),
+            node: (Some(pat.node), value.node),
+        })
+    }
+
+    /// A link, whatever follows it.
+    #[inline(never)]
+    fn link_by(&self, at: &mut Ahead<'_>) -> Result<Found<(Option<Pat>, Boxed<Expr>)>, ReadNone>
+        requires { AreCode self.now.depth (P.pre self.now.exprs) (P.post self.now.exprs) (B.pre self.now.blocks) (B.post self.now.blocks) (I.pre self.now.items) (I.post self.now.items) }
+        ensures read { IsFound (reader.link_by (code_within self.now.depth) at.old) result at.new }
+        ensures within { IfOk result (λ found. found.need ≤ self.now.depth) }
+    {
+        if takes_keyword(at, b"let") {
+            return self.let_link(at);
+        }
+        let found = self.expr(at, plain(4, true))?;
+        Ok(Found {
+            need: found.need,
+            node: (None, found.node),
+        })
+    }
+
+    /// A link.
+    #[tactic(auto, unfolding(lay_code::specs::reader::Conditions::one_link))]
+    #[inline(never)]
+    fn one_link(&self, at: &mut Ahead<'_>) -> Result<Found<(Option<Pat>, Boxed<Expr>)>, ReadNone>
+        requires { AreCode self.now.depth (P.pre self.now.exprs) (P.post self.now.exprs) (B.pre self.now.blocks) (B.post self.now.blocks) (I.pre self.now.items) (I.post self.now.items) }
+        ensures read { IsFound (reader.one_link (code_within self.now.depth) at.old) result at.new }
+        ensures within { IfOk result (λ found. found.need ≤ self.now.depth) }
+    {
+        let link = self.link_by(at)?;
+        if !link_ends(at, link.node.1.get()) {
+            return refused(link);
+        }
+        Ok(link)
+    }
+
+    /// A link and the `&&` before it.
+    #[inline(never)]
+    fn further_link(
+        &self,
+        at: &mut Ahead<'_>,
+        _place: (),
+    ) -> Result<Found<(Option<Pat>, Boxed<Expr>)>, ReadNone>
+        requires { AreCode self.now.depth (P.pre self.now.exprs) (P.post self.now.exprs) (B.pre self.now.blocks) (B.post self.now.blocks) (I.pre self.now.items) (I.post self.now.items) }
+        ensures read { IsFound (reader.one_link (code_within self.now.depth) (drop 2 at.old)) result at.new }
+        ensures within { IfOk result (λ found. found.need ≤ self.now.depth) }
+    {
+        pass_two(at);
+        self.one_link(at)
+    }
+
+    /// The links that follow the first one, each behind an `&&`.
+    #[tactic(auto, unfolding(lay_code::specs::reader::Conditions::further_links), using(lay_read_shared::proofs::Left::link_leaves))]
+    #[inline(never)]
+    fn further_links(
+        &self,
+        at: &mut Ahead<'_>,
+    ) -> Result<Found<List<(Option<Pat>, Boxed<Expr>)>>, ReadNone>
+        requires { AreCode self.now.depth (P.pre self.now.exprs) (P.post self.now.exprs) (B.pre self.now.blocks) (B.post self.now.blocks) (I.pre self.now.items) (I.post self.now.items) }
+        ensures read { IsHeld AreFound (reader.further_links (code_within self.now.depth) at.old) result at.new }
+        ensures within { IfOk result (λ found. found.need ≤ self.now.depth) }
+    {
+        read_parts::<Links, BlockRules<P, B, I>, (Option<Pat>, Boxed<Expr>), (), _>(
+            self.alloc,
+            at,
+            self.depth,
+            Going::Operands(3),
+            self,
+            BlockRules::further_link,
+            (),
+        )
+    }
+
+    /// What goes on with the first operands of an expression, whose level is that of an `&&`. Further operands are read one level
+    /// deeper than these, as those of every expression are.
+    #[inline(never)]
+    fn goes_on(
+        &self,
+        at: &mut Ahead<'_>,
+        lhs: Found<Boxed<Expr>>,
+    ) -> Result<Found<Boxed<Expr>>, ReadNone>
+        requires { AreCode self.now.depth (P.pre self.now.exprs) (P.post self.now.exprs) (B.pre self.now.blocks) (B.post self.now.blocks) (I.pre self.now.items) (I.post self.now.items) }
+        ensures read { IsFound ((code_within self.now.depth).goes_on (lhs.node, lhs.need) at.old) result at.new }
+        ensures within { IfOk result (λ found. found.need ≤ self.now.depth) }
+    {
+        if self.depth == 0 {
+            return refused(lhs);
+        }
+        let rules = ExprRules {
+            alloc: self.alloc,
+            depth: self.depth - 1,
+            exprs: &self.exprs,
+        };
+        rules.climb(at, plain(0, true), 3, lhs)
+    }
+
+    /// The condition that these links are, or that begins with them.
+    #[inline(never)]
+    fn condition_found(
+        &self,
+        at: &mut Ahead<'_>,
+        first: Found<(Option<Pat>, Boxed<Expr>)>,
+        more: Found<List<(Option<Pat>, Boxed<Expr>)>>,
+    ) -> Result<Found<Condition>, ReadNone>
+        requires deeper { AreCode self.now.depth (P.pre self.now.exprs) (P.post self.now.exprs) (B.pre self.now.blocks) (B.post self.now.blocks) (I.pre self.now.items) (I.post self.now.items) }
+        requires first { first.need ≤ self.now.depth }
+        requires more { more.need ≤ self.now.depth }
+        ensures read { IsFound (condition_found (code_within self.now.depth) first.node first.need more.node more.need at.old) result at.new }
+        ensures within { IfOk result (λ found. found.need ≤ self.now.depth) }
+    {
+        if first.node.0.is_some() || has_let(more.node.as_slice()) {
+            let need = greater(first.need, more.need);
+            let node = condition_of(self.alloc, first.node, more.node)?;
+            return Ok(Found { node, need });
+        }
+        match chain_of(self.alloc, first, more) {
+            Ok(chain) => alone(self.alloc, self.goes_on(at, chain)),
+            Err(none) => Err(none),
+        }
+    }
+
+    /// The condition whose first link this is.
+    #[inline(never)]
+    fn condition_behind(
+        &self,
+        at: &mut Ahead<'_>,
+        first: Found<(Option<Pat>, Boxed<Expr>)>,
+    ) -> Result<Found<Condition>, ReadNone>
+        requires deeper { AreCode self.now.depth (P.pre self.now.exprs) (P.post self.now.exprs) (B.pre self.now.blocks) (B.post self.now.blocks) (I.pre self.now.items) (I.post self.now.items) }
+        requires within { first.need ≤ self.now.depth }
+        ensures read { IsFound (condition_behind (code_within self.now.depth) (first.node, first.need) at.old) result at.new }
+        ensures within { IfOk result (λ found. found.need ≤ self.now.depth) }
+    {
+        let (first, more) = both(first, self.further_links(at))?;
+        self.condition_found(at, first, more)
+    }
+
+    /// A condition.
+    #[tactic(auto, unfolding(lay_code::specs::reader::Conditions::condition_by))]
+    #[inline(never)]
+    pub fn condition_by(&self, at: &mut Ahead<'_>) -> Result<Found<Condition>, ReadNone>
+        requires { AreCode self.now.depth (P.pre self.now.exprs) (P.post self.now.exprs) (B.pre self.now.blocks) (B.post self.now.blocks) (I.pre self.now.items) (I.post self.now.items) }
+        ensures read { IsFound (reader.condition_by (code_within self.now.depth) at.old) result at.new }
+        ensures within { IfOk result (λ found. found.need ≤ self.now.depth) }
+    {
+        if begins_dots(at) {
+            return alone(self.alloc, self.expr(at, plain(0, true)));
+        }
+        match self.one_link(at) {
+            Ok(first) => self.condition_behind(at, first),
+            Err(none) => Err(none),
+        }
+    }
+}
