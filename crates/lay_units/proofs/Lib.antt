@@ -1,0 +1,4 @@
+pub mod ChoiceLemmas
+pub mod OperatorLemmas
+pub mod RowLemmas
+pub mod UnitLemmas
