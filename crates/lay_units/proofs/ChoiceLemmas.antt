@@ -1,17 +1,15 @@
 -- The first match gives the units of a spelling, where the form is clear.
-use Rattle.std.proofs.Common.{◌≡◌, inl, inr, ℕ, zero, suc, ◌-◌, ◌≤◌, Bool, true, false, cond, not, ◌&&◌, ◌||◌, List, [], ◌∷◌, ◌++◌, map, take, drop, length, codes, refl, sym, ap, ap₂, ◌∙◌, subst, arith, append_assoc, append-nil, le-leb, length-append}
-use Rattle.std.specs.Str.{bytes_eq}
+use Rattle.std.proofs.Common.{◌≡◌, inl, inr, ℕ, zero, suc, ◌-◌, ◌≤◌, Bool, true, false, cond, not, ◌&&◌, ◌||◌, List, [], ◌∷◌, ◌++◌, map, take, drop, length, codes, refl, sym, ap, ap₂, ◌∙◌, subst, arith, append_assoc, append-nil, le-leb, eq-eqb, length-append}
 use Rattle.std.proofs.lemmas.Bool.{and_parts, and_from, and_right, or_parts, lt-leb}
 use Rattle.lay_piece.specs.declared.kind.Delim.TheVariants.{Bracket, Brace}
 use Rattle.lay_piece.specs.declared.kind.Kind.{Kind}
 use Rattle.lay_piece.specs.declared.kind.Kind.TheVariants.{Ident, Punct, Opener, Closer}
 use Rattle.lay_token.specs.declared.token.Token.{Token}
-use Rattle.lay_token.proofs.Deciding.{bytes_self}
 use Rattle.lay_form.specs.Form.{Bit, Blank, Fixed, Operator, Semicolons, Behind, Nothing, ArmComma, Form, Done, Piece, Leaf, Listed, ListedDoc, Brk, LastComma, Group, Part, Deeper, Optional, Docs, Body, comma}
 use Rattle.lay_form.specs.Spelled.{IsOne, AreBits, AreSemicolons, MayBe, IsListed, IsComment, IsString, IsDoc, Opens, Closes, IsBehind, cost, Spells}
 use Rattle.lay_form.proofs.FormLaws.{one_end, bits_end, may_be_end, listed_end, comment_end, doc_end, opens_end, closes_end, behind_end, is_end}
 use Rattle.lay_units.specs.Units.{Word, Told, Comment, Documented, Unit, kept, first_unit, take_one, spent, op_units, bits_units, units, punct_word, bits_words, words, AreSingle}
-use Rattle.lay_units.specs.Choice.{opens, closes, is_doc, says, passes, word_opens, word_closes, leading, is_loose, openers, fits, top, under, behind_token, behind_word, behind_words, shuts, none, is_level, takes, more, unit_of, chosen, calm_bits, calm, firm, passes_each, skips, is_settled, clear_bits, passes_behind, clear}
+use Rattle.lay_units.specs.Choice.{opens, closes, alike, begins_doc, more_doc, says, passes, word_opens, word_closes, leading, is_loose, openers, fits, top, under, behind_token, behind_word, behind_words, shuts, none, is_level, takes, more, unit_of, chosen, calm_bits, calm, firm, passes_each, skips, is_settled, clear_bits, passes_behind, clear}
 use Rattle.lay_units.proofs.OperatorLemmas.{Reads, op_reads}
 use Rattle.lay_units.proofs.RowLemmas.{not_true, Runs, Firm, bit_behind, semicolons_open, opened_row, one_row, listed_row, bits_row, form_row, form_firm}
 use Rattle.lay_units.proofs.UnitLemmas.{behind}
@@ -102,8 +100,12 @@ by_kind true c x y z p q r = p refl
 by_kind false true x y z p q r = q refl
 by_kind false false x y z p q r = r
 
-same_text : (text given : List ℕ) → given ≡ text → bytes_eq given text ≡ true
-same_text text given e = subst (λ (x : List ℕ). bytes_eq x text ≡ true) (sym e) (bytes_self text)
+alike_self : (text : List ℕ) → alike text text ≡ true
+alike_self [] = refl
+alike_self (c ∷ cs) = eq-eqb c c refl
+
+same_text : (text given : List ℕ) → given ≡ text → alike given text ≡ true
+same_text text given e = subst (λ (x : List ℕ). alike x text ≡ true) (sym e) (alike_self text)
 
 fit : (ws : List Word) (ts : List Token) → Runs ws ts → fits ws ts ≡ true
 fit ws ts h = le-leb (openers (is_loose ws) ts) (leading ws) h
@@ -117,7 +119,7 @@ told_taken : (kind : Kind) (text : List ℕ) (stack : List Bool) (ws : List Word
     → chosen 0 stack (Told kind text ∷ ws) (t ∷ ts) ≡ kept t ∷ chosen 0 (behind_word (Told kind text) stack) ws ts
 told_taken kind text stack ws t ts k e row shut =
     taken stack (Told kind text) ws t ts
-    (by_kind (opens t.kind) (closes t.kind) (opens kind && fits (Told kind text ∷ ws) (t ∷ ts)) (closes kind && top stack) (bytes_eq t.text text)
+    (by_kind (opens t.kind) (closes t.kind) (opens kind && fits (Told kind text ∷ ws) (t ∷ ts)) (closes kind && top stack) (alike t.text text)
     (λ o. let p : opens kind ≡ true = sym (ap opens k) ∙ o in
     and_from (opens kind) (fits (Told kind text ∷ ws) (t ∷ ts)) p (fit (Told kind text ∷ ws) (t ∷ ts) (row p)))
     (λ c. shut_top (closes kind) (top stack) shut (sym (ap closes k) ∙ c))
@@ -177,8 +179,9 @@ comment_taken : (inner : Bool) (text : List ℕ) (stack : List Bool) (ws : List 
     → chosen 0 stack (Comment inner text ∷ ws) ts ≡ record { word = Comment inner text; tokens = take_one ts } ∷ chosen 0 stack ws rest
 comment_taken inner text stack ws [] rest s = absurd s
 comment_taken inner text stack ws (t ∷ ts) rest s =
-    plain_taken stack (Comment inner text) ws t ts (ap opens s.1) (ap closes s.1) (same_text text t.text s.2)
-    ∙ ap (λ (x : List Token). unit_of (Comment inner text) t ts ∷ chosen 0 stack ws x) s.3
+    plain_taken stack (Comment inner text) ws t ts (ap opens s.1) (ap closes s.1) (ap (λ (x : Kind). begins_doc x t.text) s.1)
+    ∙ ap₂ (λ (n : ℕ) (x : List Token). record { word = Comment inner text; tokens = t ∷ take n ts } ∷ chosen n stack ws x)
+    (ap (more_doc inner) s.1) s.3
 
 -- What is left of the tokens of the unit before is passed over.
 dropped : (n : ℕ) (stack : List Bool) (ws : List Word) (ts : List Token) → chosen n stack ws ts ≡ chosen 0 stack ws (drop n ts)
@@ -245,8 +248,8 @@ doc_attr : (inner : Bool) (text : List ℕ) (n : ℕ) (stack : List Bool) (ws : 
 doc_attr inner text n stack ws [] mid rest m s k = absurd s
 doc_attr inner text n stack ws (t ∷ ts) mid rest m s k =
     doc_unit inner text n stack ws t ts rest (ap opens s.0) (ap closes s.0)
-    (ap₂ (λ (x : Kind) (y : List ℕ). is_doc x || bytes_eq y (codes "#")) s.0 s.1)
-    (ap (λ (x : Kind). cond (is_doc x) 0 (cond inner 6 5)) s.0 ∙ m)
+    (ap₂ begins_doc s.0 s.1)
+    (ap (more_doc inner) s.0 ∙ m)
     (k.0, k.1, s.2 ∙ k.2)
 
 doc_taken : (inner : Bool) (text : List ℕ) (stack : List Bool) (ws : List Word) (ts rest : List Token) → AreSingle ts → IsDoc inner text ts rest
@@ -254,8 +257,8 @@ doc_taken : (inner : Bool) (text : List ℕ) (stack : List Bool) (ws : List Word
 doc_taken inner text stack ws [] rest single (inl s) = absurd s
 doc_taken inner text stack ws (t ∷ ts) rest single (inl s) =
     doc_unit inner text 0 stack ws t ts rest (ap opens s.1) (ap closes s.1)
-    (ap (λ (x : Kind). is_doc x || bytes_eq t.text (codes "#")) s.1)
-    (ap (λ (x : Kind). cond (is_doc x) 0 (cond inner 6 5)) s.1)
+    (ap (λ (x : Kind). begins_doc x t.text) s.1)
+    (ap (more_doc inner) s.1)
     (no_count ts rest s.3)
 doc_taken false text stack ws ts rest single (inr s) =
     let hash = s.1 in

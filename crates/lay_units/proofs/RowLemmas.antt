@@ -1,7 +1,8 @@
 -- Rows of opening braces: how many stand at the front of what spells a form, and how many its words say.
-use Rattle.std.proofs.Common.{◌≡◌, inl, inr, ℕ, zero, suc, ◌≤◌, Bool, true, false, cond, not, ◌&&◌, ◌||◌, List, [], ◌∷◌, ◌++◌, map, codes, refl, sym, ap, ap₂, ◌∙◌, subst, arith, append_assoc}
+use Rattle.std.proofs.Common.{◌≡◌, inl, inr, ℕ, zero, suc, ◌≤◌, Bool, true, false, cond, not, ◌&&◌, ◌||◌, ◌==◌, List, [], ◌∷◌, ◌++◌, map, codes, refl, sym, ap, ap₂, ◌∙◌, subst, arith, append_assoc}
 use Rattle.std.specs.Str.{bytes_eq}
 use Rattle.std.proofs.lemmas.Bool.{and_parts, or_parts}
+use Rattle.lay_piece.specs.Characters as char
 use Rattle.lay_piece.specs.declared.kind.Kind.{Kind}
 use Rattle.lay_piece.specs.declared.kind.Kind.TheVariants.{Punct}
 use Rattle.lay_token.specs.Lexes.{is_punct}
@@ -10,7 +11,7 @@ use Rattle.lay_form.specs.Form.{Bit, Blank, Fixed, Operator, Semicolons, Form, D
 use Rattle.lay_form.specs.Spelled.{IsOne, IsBit, AreBits, AreSemicolons, MayBe, IsListed, IsComment, IsDoc, attr_opening, Spells}
 use Rattle.lay_form.proofs.FormLaws.{one_end, bits_end, may_be_end, listed_end, is_end}
 use Rattle.lay_units.specs.Units.{Word, Told, punct_word, bits_words, words, AreSingle}
-use Rattle.lay_units.specs.Choice.{opens, is_semicolon, passes, leading, is_loose, openers, calm_bits, stops, calm, firm_bits, firm}
+use Rattle.lay_units.specs.Choice.{alike, opens, is_semicolon, passes, leading, is_loose, openers, calm_bits, stops, calm, firm_bits, firm}
 use Rattle.lay_units.proofs.OperatorLemmas.{Reads, op_reads}
 use Rattle.lay_units.proofs.UnitLemmas.{behind}
 
@@ -213,16 +214,18 @@ form_row (Body braces back i f) depth ws b ts rest single c h s = absurd (cc c)
 abbrev pub Firm : List Word → List Token → Type 0
 Firm ws ts = (leading ws ≤ openers true ts) × (is_loose ws ≡ true) × (passes ws Punct (codes ";") ≡ true)
 
+-- A text that doesn't begin like `;` isn't that.
+other_text : (b : Bool) (text : List ℕ) → not (alike (codes ";") text) ≡ true → not (b && bytes_eq (codes ";") text) ≡ true
+other_text true [] h = refl
+other_text true (d ∷ ds) h = ap (λ (x : Bool). not (x && bytes_eq [] ds)) (not_true (char.semicolon == d) h)
+other_text false text h = refl
+
 word_firm : (kind : Kind) (text : List ℕ) (x : Bool) (ws : List Word) (t : Token) (ts : List Token) → t.kind ≡ kind → t.text ≡ text
-    → (not (bytes_eq (codes ";") text) && cond (opens kind) x true) ≡ true → (x ≡ true → Firm ws ts) → Firm (Told kind text ∷ ws) (t ∷ ts)
+    → (not (alike (codes ";") text) && cond (opens kind) x true) ≡ true → (x ≡ true → Firm ws ts) → Firm (Told kind text ∷ ws) (t ∷ ts)
 word_firm kind text x ws t ts k e c h = by (opens kind) refl
   where
-    p : (not (bytes_eq (codes ";") text) ≡ true) × (cond (opens kind) x true ≡ true)
-    p = and_parts (not (bytes_eq (codes ";") text)) (cond (opens kind) x true) c
-
-    loose : (b d : Bool) → not d ≡ true → not (b && d) ≡ true
-    loose true d g = g
-    loose false d g = refl
+    p : (not (alike (codes ";") text) ≡ true) × (cond (opens kind) x true ≡ true)
+    p = and_parts (not (alike (codes ";") text)) (cond (opens kind) x true) c
 
     by : (b : Bool) → opens kind ≡ b
         → (cond b (suc (leading ws)) 0 ≤ openers true (t ∷ ts)) × (cond b (is_loose ws) (not (is_semicolon kind text)) ≡ true)
@@ -232,23 +235,23 @@ word_firm kind text x ws t ts k e c h = by (opens kind) refl
         let q = opened_row true t ts (ap opens k ∙ o) in
         let less = g.0 in
         (omega (arith, less, q), g.1, p.0)
-    by false o = (omega arith, loose (is_punct kind) (bytes_eq (codes ";") text) p.0, p.0)
+    by false o = (omega arith, other_text (is_punct kind) text p.0, p.0)
 
 one_firm : (kind : Kind) (text : List ℕ) (x : Bool) (ws : List Word) (ts rest : List Token)
-    → (not (bytes_eq (codes ";") text) && cond (opens kind) x true) ≡ true → (x ≡ true → Firm ws rest) → IsOne kind text ts rest
+    → (not (alike (codes ";") text) && cond (opens kind) x true) ≡ true → (x ≡ true → Firm ws rest) → IsOne kind text ts rest
     → Firm (Told kind text ∷ ws) ts
 one_firm kind text x ws [] rest c h s = absurd s
 one_firm kind text x ws (t ∷ ts) rest c h s = word_firm kind text x ws t ts s.0 s.1 c (λ g. subst (Firm ws) (sym s.2) (h g))
 
 listed_firm : (kind : Kind) (text : List ℕ) (joint : Bool) (x : Bool) (ws : List Word) (ts rest : List Token)
-    → (not (bytes_eq (codes ";") text) && cond (opens kind) x true) ≡ true → (x ≡ true → Firm ws rest) → IsListed kind text joint ts rest
+    → (not (alike (codes ";") text) && cond (opens kind) x true) ≡ true → (x ≡ true → Firm ws rest) → IsListed kind text joint ts rest
     → Firm (Told kind text ∷ ws) ts
 listed_firm kind text joint x ws [] rest c h s = absurd s
 listed_firm kind text joint x ws (t ∷ ts) rest c h s = word_firm kind text x ws t ts s.0 s.1 c (λ g. subst (Firm ws) (sym s.3) (h g))
 
-op_firm : (c : ℕ) (cs : List ℕ) (ws : List Word) (ts : List Token) → not (bytes_eq (codes ";") (c ∷ [])) ≡ true → Reads (c ∷ cs) ts
+op_firm : (c : ℕ) (cs : List ℕ) (ws : List Word) (ts : List Token) → not (alike (codes ";") (c ∷ [])) ≡ true → Reads (c ∷ cs) ts
     → Firm (punct_word c ∷ ws) ts
-op_firm c cs ws ts h r = (omega arith, h, h)
+op_firm c cs ws ts h r = (omega arith, other_text true (c ∷ []) h, h)
 
 -- The row goes on over `;`.
 pub semicolons_open : (n : ℕ) (ts rest : List Token) → AreSemicolons n ts rest → openers true ts ≡ openers true rest

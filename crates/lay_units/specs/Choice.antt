@@ -1,8 +1,9 @@
 -- Units by the first match: which tokens they are, told by the words alone. Each word takes the first token from here on that
--- says it, and the tokens before it are in no unit. Braces alone need more than that: of a row of opening ones as many as
+-- begins as it does, and the tokens before it are in no unit. Braces alone need more than that: of a row of opening ones as many as
 -- words say are kept, the last of them, and a closing one is kept where the one that it closes is.
-use Rattle.std.specs.Prelude.{ℕ, zero, suc, Bool, true, false, cond, not, ◌&&◌, ◌||◌, nat_le, List, [], ◌∷◌, ◌++◌, take, codes}
+use Rattle.std.specs.Prelude.{ℕ, zero, suc, Bool, true, false, cond, not, ◌&&◌, ◌||◌, nat_le, ◌==◌, List, [], ◌∷◌, ◌++◌, take, codes}
 use Rattle.std.specs.Str.{bytes_eq}
+use Rattle.lay_piece.specs.Chars.{is_nil}
 use Rattle.lay_piece.specs.declared.kind.Delim.TheVariants.{Brace}
 use Rattle.lay_piece.specs.declared.kind.Kind.{Kind}
 use Rattle.lay_piece.specs.declared.kind.Kind.TheVariants.{Punct, Opener, Closer, Doc}
@@ -28,11 +29,21 @@ is_doc _ = false
 abbrev pub is_semicolon : Kind → List ℕ → Bool
 is_semicolon kind text = is_punct kind && bytes_eq (codes ";") text
 
--- A token of this kind and text says the word. Documentation is a token of its own, or begins with `#`.
+-- The texts begin alike.
+abbrev pub alike : List ℕ → List ℕ → Bool
+alike [] cs = is_nil cs
+alike (c ∷ cs) [] = false
+alike (c ∷ cs) (d ∷ ds) = c == d
+
+-- documentation is a token of its own, or begins with `#`
+abbrev pub begins_doc : Kind → List ℕ → Bool
+begins_doc kind text = is_doc kind || alike text (codes "#")
+
+-- A token of this kind and text says the word, as far as its first character tells.
 abbrev pub says : Word → Kind → List ℕ → Bool
-says (Told kind text) other given = bytes_eq given text
-says (Comment inner text) other given = bytes_eq given text
-says (Documented inner text) other given = is_doc other || bytes_eq given (codes "#")
+says (Told kind text) other given = alike given text
+says (Comment inner text) other given = begins_doc other given
+says (Documented inner text) other given = begins_doc other given
 
 -- The next word, if there is one, isn't said by a token of this kind and text.
 abbrev pub passes : List Word → Kind → List ℕ → Bool
@@ -119,17 +130,19 @@ takes stack w ws t ts =
     cond (opens t.kind) (word_opens w && fits (w ∷ ws) (t ∷ ts))
     (cond (closes t.kind) (word_closes w && top stack) (says w t.kind t.text))
 
--- how many tokens more the word has: `#[doc = "text"]` is six tokens, and `#![doc = "text"]` seven
+-- how many tokens more documentation has: `#[doc = "text"]` is six tokens, and `#![doc = "text"]` seven
+abbrev pub more_doc : Bool → Kind → ℕ
+more_doc inner kind = cond (is_doc kind) 0 (cond inner 6 5)
+
 abbrev pub more : Word → Kind → ℕ
 more (Told kind text) other = 0
-more (Comment inner text) other = 0
-more (Documented inner text) other = cond (is_doc other) 0 (cond inner 6 5)
+more (Comment inner text) other = more_doc inner other
+more (Documented inner text) other = more_doc inner other
 
 abbrev pub unit_of : Word → Token → List Token → Unit
 unit_of (Told kind text) t ts = kept t
-unit_of (Comment inner text) t ts = record { word = Comment inner text; tokens = t ∷ [] }
-unit_of (Documented inner text) t ts =
-    record { word = Documented inner text; tokens = t ∷ take (more (Documented inner text) t.kind) ts }
+unit_of (Comment inner text) t ts = record { word = Comment inner text; tokens = t ∷ take (more_doc inner t.kind) ts }
+unit_of (Documented inner text) t ts = record { word = Documented inner text; tokens = t ∷ take (more_doc inner t.kind) ts }
 
 -- the units of the words, where the first tokens, as many as told, are of the unit before, and these braces are open
 abbrev pub chosen : ℕ → List Bool → List Word → List Token → List Unit
@@ -179,16 +192,16 @@ calm (Body braces behind i f) calm_behind = false
 abbrev pub firm_bits : List Bit → Bool → Bool
 firm_bits [] firm_behind = firm_behind
 firm_bits (Blank ∷ bs) firm_behind = firm_bits bs firm_behind
-firm_bits (Fixed kind text ∷ bs) firm_behind = not (bytes_eq (codes ";") text) && cond (opens kind) (firm_bits bs firm_behind) true
+firm_bits (Fixed kind text ∷ bs) firm_behind = not (alike (codes ";") text) && cond (opens kind) (firm_bits bs firm_behind) true
 firm_bits (Operator [] ∷ bs) firm_behind = firm_bits bs firm_behind
-firm_bits (Operator (c ∷ cs) ∷ bs) firm_behind = not (bytes_eq (codes ";") (c ∷ []))
+firm_bits (Operator (c ∷ cs) ∷ bs) firm_behind = not (alike (codes ";") (c ∷ []))
 firm_bits (Semicolons ∷ bs) firm_behind = firm_bits bs firm_behind
 
 abbrev pub firm : Form → Bool → Bool
 firm Done firm_behind = firm_behind
 firm (Piece bits f) firm_behind = firm_bits bits (firm f firm_behind)
-firm (Leaf kind text f) firm_behind = not (bytes_eq (codes ";") text) && cond (opens kind) (firm f firm_behind) true
-firm (Listed kind text joint f) firm_behind = not (bytes_eq (codes ";") text) && cond (opens kind) (firm f firm_behind) true
+firm (Leaf kind text f) firm_behind = not (alike (codes ";") text) && cond (opens kind) (firm f firm_behind) true
+firm (Listed kind text joint f) firm_behind = not (alike (codes ";") text) && cond (opens kind) (firm f firm_behind) true
 firm (ListedDoc inner text f) firm_behind = false
 firm (Brk space f) firm_behind = firm f firm_behind
 firm (LastComma blanks f) firm_behind = false
