@@ -1,0 +1,5 @@
+pub mod ChoiceLemmas
+pub mod OperatorLemmas
+pub mod RowLemmas
+pub mod Samples
+pub mod UnitLemmas
