@@ -1,5 +1,6 @@
 -- The streams of conditions and their links, and of the groups that they stand in.
-use Rattle.std.proofs.Common.{◌≡◌, ℕ, suc, ◌-◌, ◌<◌, ◌≤◌, Bool, true, false, List, [], ◌∷◌, ◌++◌, map, length, get_or, take, drop, codes, pos, refl, sym, ap, ◌∙◌, append_assoc, arith, OnOk, Result}
+use Rattle.std.proofs.Common.{◌≡◌, ℕ, zero, suc, ◌-◌, ◌<◌, ◌≤◌, Bool, true, false, List, [], ◌∷◌, ◌++◌, map, length, get_or, take, drop, codes, pos, refl, sym, ap, ◌∙◌, append_assoc, arith, OnOk, Result}
+use denote.Param.Weighed.{most}
 use Rattle.lay_layout.specs.declared.layout.Tok.{Tok}
 use Rattle.lay_layout.specs.declared.layout.Tok.TheVariants as tok
 use Rattle.lay_stream.specs.Fed.{Meanings}
@@ -89,18 +90,29 @@ links_fed x y rest =
     ∙ ap (λ (s : List Tok). s ++ (tok.End ∷ [])) (part_at false (about_link x).form f (links_any (map about_link (y ∷ rest))))
     ∙ sym (fed_more false (Part (about_link x).form f) (tok.End ∷ [])))
 
-pub several_links : (links : List Link) (first : Link) → 1 ≤ length links → (length links ≡ 1 → ⊥) → first ≡ get_or links 0 first
+pub several_links : (links : List Link) (first : Link) → 2 ≤ length links → first ≡ get_or links 0 first
     → tok.Begin false (pos 4) ∷ (stream_of (about_link first).form
     ++ (stream_of (links_form (map about_link (take (length links - 1) (drop 1 links)))) ++ (tok.End ∷ [])))
     ≡ stream_of (condition_form (map about_link links))
-several_links links first some several is =
-    by (take (length links - 1) (drop 1 links)) (first_and_rest links first some is)
+several_links links first several is =
+    by (take (length links - 1) (drop 1 links)) (first_and_rest links first (omega (arith, several)) is)
   where
     by : (rest : List Link) → first ∷ rest ≡ links
         → tok.Begin false (pos 4) ∷ (stream_of (about_link first).form ++ (stream_of (links_form (map about_link rest)) ++ (tok.End ∷ [])))
         ≡ stream_of (condition_form (map about_link links))
-    by [] e = absurd (several (sym (ap length e)))
+    by [] e = let one : 1 ≡ length links = ap length e in absurd (omega (arith, several, one))
     by (y ∷ rest) e = links_fed first y rest ∙ ap (λ (xs : List Link). stream_of (condition_form (map about_link xs))) e
+
+-- The links behind the first are no deeper than all of them.
+module _ {X : Type 0} (weight : X → ℕ) where
+  take_most : (n : ℕ) (xs : List X) → most weight (take n xs) ≤ most weight xs
+  take_most zero xs = omega arith
+  take_most (suc n) [] = omega arith
+  take_most (suc n) (x ∷ xs) = let h : most weight (take n xs) ≤ most weight xs = take_most n xs in omega (arith, h)
+
+  pub rest_most : (n : ℕ) (xs : List X) → most weight (take n (drop 1 xs)) ≤ most weight xs
+  rest_most n [] = take_most n []
+  rest_most n (x ∷ xs) = let h : most weight (take n xs) ≤ most weight xs = take_most n xs in omega (arith, h)
 
 -- all links
 pub links_told : (c : Condition) (put : List Link) → put ≡ c.links
