@@ -20,7 +20,7 @@ module _ (deeper : ExprWithin) (budget : ℕ) (place : Place) where
   from_head o = o >>= (λ h. r.climb_by deeper place h.0 h.1 >>= (λ x. accepted budget place x.0 x.1))
 
   climb_by_needs : (lhs : Expr × ℕ) (ts : Tokens) → NeedsAt lhs.1 (r.climb_by deeper place lhs ts)
-  climb_by_needs lhs ts = needs_if lhs.1 (r.is_ended place (about_expr lhs.0) ts) (Some (lhs, ts)) _ (omega arith) (climb_needs place 14 lhs ts)
+  climb_by_needs lhs ts = needs_if lhs.1 (r.is_ended place (about_expr lhs.0) ts) (Some (lhs, ts)) _ (omega arith) (climb_needs deeper place 14 lhs ts)
 
   pub head_unfit : (o : Read Expr) → fits budget o ≡ None → from_head o ≡ None
   head_unfit None e = refl
@@ -28,7 +28,7 @@ module _ (deeper : ExprWithin) (budget : ℕ) (place : Place) where
     where
       by : (b : Bool) → nat_le x.0.1 budget ≡ b → (let got : Read Expr = if b then Some x else None in got) ≡ None → from_head (Some x) ≡ None
       by true g h = absurd (cc)
-      by false g h = accepted_none budget place x.0.1 (r.climb_by deeper place x.0 x.1) (grind (arith, nat_tests)) (climb_by_needs x.0 x.1)
+      by false g h = accepted_none deeper budget place x.0.1 (r.climb_by deeper place x.0 x.1) (grind (arith, nat_tests)) (climb_by_needs x.0 x.1)
 
   pub head_fits : (o : Read Expr) (y : (Expr × ℕ) × Tokens) → fits budget o ≡ Some y → o ≡ Some y
   head_fits None y e = absurd (cc)
