@@ -1,6 +1,5 @@
 -- The streams of conditions and their links, and of the groups that they stand in.
-use Rattle.std.proofs.Common.{◌≡◌, ℕ, zero, suc, ◌-◌, ◌<◌, ◌≤◌, Bool, true, false, List, [], ◌∷◌, ◌++◌, map, length, get_or, take, drop, codes, pos, refl, sym, ap, ◌∙◌, append_assoc, arith, OnOk, Result}
-use denote.Param.Weighed.{most}
+use Rattle.std.proofs.Common.{◌≡◌, ℕ, suc, ◌<◌, ◌≤◌, Bool, true, false, List, [], ◌∷◌, ◌++◌, map, length, get_or, codes, pos, refl, sym, ap, ◌∙◌, append_assoc, arith, OnOk, Result}
 use Rattle.lay_layout.specs.declared.layout.Tok.{Tok}
 use Rattle.lay_layout.specs.declared.layout.Tok.TheVariants as tok
 use Rattle.lay_stream.specs.Fed.{Meanings}
@@ -20,14 +19,15 @@ use Rattle.lay_code.specs.declared.conditions.Link.{Link}
 use Rattle.lay_code.specs.declared.conditions.Link.TheVariants as link
 use Rattle.lay_code.specs.declared.exprs.Expr.{Expr}
 use Rattle.lay_code.proofs.nodes.BlocksLaws.{condition_is, link_expr_is, link_let_is}
-use Rattle.lay_out_tokens.proofs.StreamParts.{fed_more, first_and_rest}
+use Rattle.lay_out_tokens.proofs.StreamParts.{fed_more}
 use Rattle.lay_out_types.specs.Calls.{Adds}
+use Rattle.lay_out_types.specs.Rows.{further, row}
 use Rattle.lay_out_types.proofs.Adding.{level_behind, on_ok}
-use Rattle.lay_out_types.proofs.FormRows.{level_form, one_open}
+use Rattle.lay_out_types.proofs.FormRows.{level_form, level_row, one_open}
 use Rattle.lay_out_heads.proofs.Steady.{Steady}
 use Rattle.lay_out_exprs.specs.Blocks.{lead_row, let_row, link_between}
 use Rattle.lay_out_exprs.proofs.Feeds.{Any, both, part_at}
-use Rattle.lay_out_code.specs.Parts.{head_end}
+use Rattle.lay_out_code.specs.Parts.{head_end, link_told}
 
 -- ---- links
 
@@ -59,13 +59,13 @@ links_any : (ls : List LinkFacts) → Any (links_form ls)
 links_any [] = both refl
 links_any (l ∷ ls) = both refl
 
--- what a turn puts
-pub link_turn : (x : Link) (rest : List Link)
-    → (link_between ++ stream_of (about_link x).form) ++ stream_of (links_form (map about_link rest))
-    ≡ stream_of (links_form (map about_link (x ∷ rest)))
-link_turn x rest =
-    ap (λ (s : List Tok). link_between ++ s)
-    (part_at false (about_link x).form (links_form (map about_link rest)) (links_any (map about_link rest)))
+-- further links
+further_links : (rest : List Link) → further link_between (map link_told rest) ≡ stream_of (links_form (map about_link rest))
+further_links [] = refl
+further_links (x ∷ rest) =
+    ap (λ (s : List Tok). link_between ++ (stream_of (link_told x) ++ s)) (further_links rest)
+    ∙ ap (λ (s : List Tok). link_between ++ s)
+    (part_at false (link_told x) (links_form (map about_link rest)) (links_any (map about_link rest)))
 
 -- ---- the links of a condition
 
@@ -80,28 +80,24 @@ one_link [] only some one is = absurd (omega arith)
 one_link (x ∷ []) only some one is = rw is refl
 one_link (x ∷ y ∷ links) only some one is = absurd (omega arith)
 
-links_fed : (x y : Link) (rest : List Link)
-    → tok.Begin false (pos 4) ∷ (stream_of (about_link x).form ++ (stream_of (links_form (map about_link (y ∷ rest))) ++ (tok.End ∷ [])))
-    ≡ stream_of (condition_form (map about_link (x ∷ y ∷ rest)))
-links_fed x y rest =
+pub several_links : (links : List Link) → 2 ≤ length links
+    → tok.Begin false (pos 4) ∷ (row [] link_between (map link_told links) ++ (tok.End ∷ []))
+    ≡ stream_of (condition_form (map about_link links))
+several_links [] several = absurd (omega arith)
+several_links (x ∷ []) several = absurd (omega arith)
+several_links (x ∷ y ∷ rest) several =
     let f = links_form (map about_link (y ∷ rest)) in
     ap (λ (s : List Tok). tok.Begin false (pos 4) ∷ s)
-    (sym (append_assoc (stream_of (about_link x).form) (stream_of f) (tok.End ∷ []))
-    ∙ ap (λ (s : List Tok). s ++ (tok.End ∷ [])) (part_at false (about_link x).form f (links_any (map about_link (y ∷ rest))))
-    ∙ sym (fed_more false (Part (about_link x).form f) (tok.End ∷ [])))
+    (ap (λ (s : List Tok). (stream_of (link_told x) ++ s) ++ (tok.End ∷ [])) (further_links (y ∷ rest))
+    ∙ ap (λ (s : List Tok). s ++ (tok.End ∷ [])) (part_at false (link_told x) f (links_any (map about_link (y ∷ rest))))
+    ∙ sym (fed_more false (Part (link_told x) f) (tok.End ∷ [])))
 
-pub several_links : (links : List Link) (first : Link) → 2 ≤ length links → first ≡ get_or links 0 first
-    → tok.Begin false (pos 4) ∷ (stream_of (about_link first).form
-    ++ (stream_of (links_form (map about_link (take (length links - 1) (drop 1 links)))) ++ (tok.End ∷ [])))
-    ≡ stream_of (condition_form (map about_link links))
-several_links links first several is =
-    by (take (length links - 1) (drop 1 links)) (first_and_rest links first (omega (arith, several)) is)
-  where
-    by : (rest : List Link) → first ∷ rest ≡ links
-        → tok.Begin false (pos 4) ∷ (stream_of (about_link first).form ++ (stream_of (links_form (map about_link rest)) ++ (tok.End ∷ [])))
-        ≡ stream_of (condition_form (map about_link links))
-    by [] e = let one : 1 ≡ length links = ap length e in absurd (omega (arith, several, one))
-    by (y ∷ rest) e = links_fed first y rest ∙ ap (λ (xs : List Link). stream_of (condition_form (map about_link xs))) e
+-- Their group may be closed.
+pub may_end_links : {S F T : Type 0} {m : Meanings S F} {a b : S} {p q : Result T F} (links : List Link)
+    → Adds m p a (tok.Begin false (pos 4) ∷ row [] link_between (map link_told links)) q b → OnOk q (0 < m.groups b)
+may_end_links {m} {a} {p} {q} links h =
+    on_ok q (λ x e. (one_open (m.groups a)
+    (level_behind p q x h e ∙ level_row link_between (λ n. refl) (map link_told links) (suc (m.groups a)))).0)
 
 -- The links behind the first are no deeper than all of them.
 module _ {X : Type 0} (weight : X → ℕ) where

@@ -10,13 +10,14 @@ use Rattle.lay_node.specs.nodes.Vis.{vis_form}
 use Rattle.lay_node.specs.declared.token.Literal.{Literal}
 use Rattle.lay_node.specs.declared.use_tree.UseTree.{UseTree}
 use Rattle.lay_node.specs.declared.vis.Vis.{Vis}
-use Rattle.lay_code.specs.nodes.Code.{about_arm, about_branch, about_stmt}
+use Rattle.lay_code.specs.nodes.Code.{about_arm, about_branch, about_link, about_stmt}
 use Rattle.lay_code.specs.nodes.CodeFacts.{KindFacts}
 use Rattle.lay_code.specs.nodes.Exprs.{branch_head}
 use Rattle.lay_code.specs.nodes.Item.{about_import, foreign_abi, kind_form}
 use Rattle.lay_code.specs.declared.blocks.Arm.{Arm}
 use Rattle.lay_code.specs.declared.blocks.Branch.{Branch}
 use Rattle.lay_code.specs.declared.blocks.Stmt.{Stmt}
+use Rattle.lay_code.specs.declared.conditions.Link.{Link}
 
 -- There are none.
 abbrev pub no_forms : List Form → Bool
@@ -42,9 +43,12 @@ foreign_head is_unsafe abi = unsafe_form is_unsafe (Piece (keyword (codes "exter
 abbrev pub head_end : List Tok
 head_end = tok.End ∷ []
 
--- the form of a statement, of an arm as the last one, and of a branch
+-- the form of a statement, of a link, of an arm as the last one, and of a branch
 abbrev pub stmt_told : Stmt → Form
 stmt_told x = (about_stmt x).form
+
+abbrev pub link_told : Link → Form
+link_told x = (about_link x).form
 
 abbrev pub arm_told : Arm → Form
 arm_told x = (about_arm x).form true

@@ -1,11 +1,12 @@
 //! Conditions and their links.
-ghost use Rattle.std.specs.Prelude.{◌++◌, map};
+ghost use Rattle.std.specs.Prelude.{[], ◌++◌, map};
 ghost use Rattle.lay_form.specs.Stream.{stream_of};
 ghost use Rattle.lay_code.specs.nodes.Code.{about_condition, about_link};
-ghost use Rattle.lay_code.specs.nodes.Conditions.{condition_form, links_form};
-ghost use Rattle.lay_out_exprs.specs.Blocks.{lead_row};
+ghost use Rattle.lay_code.specs.nodes.Conditions.{condition_form};
+ghost use Rattle.lay_out_exprs.specs.Blocks.{lead_row, link_between};
 ghost use Rattle.lay_out_types.specs.Calls.{Adds};
-ghost use Rattle.lay_out_code.specs.Parts.{head_end};
+ghost use Rattle.lay_out_types.specs.Rows.{row};
+ghost use Rattle.lay_out_code.specs.Parts.{head_end, link_told};
 
 use crate::exprs::add_expr;
 use lay_code::{Condition, Link};
@@ -41,27 +42,26 @@ fn add_links<E: Emit>(
     match links {
         [] => before,
         [link] => add_link(out, before, link),
-        [first, rest @ ..] => {
+        [_, _, ..] => {
             let group = add_begin(out, before);
-            let first = add_link(out, group, first);
-            let rest = add_further_links(out, first, rest);
-            add_end(out, rest)
+            let row = add_link_row(out, group, links);
+            add_end(out, row)
         },
     }
 }
 
-/// The links behind the first one, each behind its `&&`.
+/// Links, with `&&` between them.
 #[cycle(code)]
-fn add_further_links<E: Emit>(
+fn add_link_row<E: Emit>(
     out: &mut E,
     before: Result<(), E::Fault>,
     links: &[Link],
 ) -> Result<(), E::Fault>
-    ensures { Adds E.meanings before out.old (stream_of (links_form (map about_link links.now))) result out.new }
+    ensures { Adds E.meanings before out.old (row [] link_between (map link_told links.now)) result out.new }
 {
     let mut done = before;
-    for link in links {
-        done = add_link_lead(out, done);
+    for (index, link) in links.iter().enumerate() {
+        done = add_link_lead(out, done, index == 0);
         done = add_link(out, done, link);
     }
     done
@@ -70,7 +70,7 @@ fn add_further_links<E: Emit>(
 /// A link.
 #[cycle(code)]
 fn add_link<E: Emit>(out: &mut E, before: Result<(), E::Fault>, link: &Link) -> Result<(), E::Fault>
-    ensures { Adds E.meanings before out.old (stream_of (about_link link.now).form) result out.new }
+    ensures { Adds E.meanings before out.old (stream_of (link_told link.now)) result out.new }
 {
     match link {
         Link::Expr { expr } => add_expr(out, before, false, expr.get()),

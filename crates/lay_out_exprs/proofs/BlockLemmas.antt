@@ -1,5 +1,5 @@
 -- The streams of what stands before blocks and in the heads of closures, and of what stands round the bodies of arms.
-use Rattle.std.proofs.Common.{◌≡◌, not, ℕ, suc, ◌==◌, ◌&&◌, ◌≢◌, ◌≤◌, ◌<◌, Bool, true, false, cond, List, [], ◌∷◌, ◌++◌, map, length, get_or, codes, pos, Option, Some, None, refl, sym, ap, ◌∙◌, arith}
+use Rattle.std.proofs.Common.{◌≡◌, not, ℕ, ◌==◌, ◌&&◌, ◌≢◌, ◌≤◌, ◌<◌, Bool, true, false, cond, List, [], ◌∷◌, ◌++◌, map, length, get_or, codes, pos, Option, Some, None, refl, sym, ap, ◌∙◌, arith}
 use Rattle.std.proofs.Math.Dec.{eqb-suc-zero}
 use Rattle.lay_layout.specs.declared.layout.Tok.{Tok}
 use Rattle.lay_layout.specs.declared.layout.Tok.TheVariants as tok
@@ -7,7 +7,6 @@ use Rattle.lay_form.specs.Form.{ArmComma, Bare, Done, Form, Marked, Part, Unseen
 use Rattle.lay_form.specs.Layout.{closing_break, opening_break}
 use Rattle.lay_form.specs.Notation.{comma_list, piece}
 use Rattle.lay_form.specs.Stream.{fed, stream_of}
-use Rattle.lay_node.specs.nodes.Attr.{attr_form}
 use Rattle.lay_node.specs.nodes.Functions.{self_type}
 use Rattle.lay_node.specs.nodes.Patterns.{about_pat}
 use Rattle.lay_node.specs.nodes.Types.{param_attrs}

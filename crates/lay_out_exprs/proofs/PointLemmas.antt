@@ -34,7 +34,6 @@ use Rattle.lay_code.specs.nodes.Blocks.{attrs_before, block_form, dropped_if, is
 use Rattle.lay_code.specs.nodes.Code.{about_arm, about_block, about_branch, about_expr, about_field_expr, about_step, about_stmt}
 use Rattle.lay_code.specs.nodes.CodeFacts.{BlockFacts, BranchFacts, StmtFacts}
 use Rattle.lay_code.specs.nodes.Exprs.{ExprFacts, arm_forms, base_form, branches_form, break_if, closure_head, else_branch_form, end_form, expr_forms, group_if, is_method, label_form, labelled, methods, more_branches, operand_form, operands_form, prefix_bits, prefixes_form, steps_form, targets_form, tuple_form, types_form}
-use Rattle.lay_code.specs.declared.blocks.Arm.{Arm}
 use Rattle.lay_code.specs.declared.blocks.Block.{Block}
 use Rattle.lay_code.specs.declared.blocks.Branch.{Branch}
 use Rattle.lay_code.specs.declared.exprs.ClosureParam.{ClosureParam}

@@ -59,10 +59,17 @@ pub fn add_let_lead<E: Emit>(
     add_text(out, pat, b" = ")
 }
 
-/// What stands between two links of a condition: a break, and the operator with its blank.
-pub fn add_link_lead<E: Emit>(out: &mut E, before: Result<(), E::Fault>) -> Result<(), E::Fault>
-    ensures { Adds E.meanings before out.old link_between result out.new }
+/// What stands before a link of a condition: a break, and the operator with its blank, unless it is the first one.
+pub fn add_link_lead<E: Emit>(
+    out: &mut E,
+    before: Result<(), E::Fault>,
+    first: bool,
+) -> Result<(), E::Fault>
+    ensures { Adds E.meanings before out.old (cond first [] link_between) result out.new }
 {
+    if first {
+        return before;
+    }
     let line = add_break(out, before, SPACE_BREAK);
     add_text(out, line, b"&& ")
 }

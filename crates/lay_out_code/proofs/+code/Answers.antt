@@ -4,7 +4,7 @@ use Rattle.lay_form.specs.Form.{Done, semicolon, Part}
 use Rattle.lay_form.specs.Stream.{fed, stream_of}
 use Rattle.lay_code.specs.nodes.Blocks.{guard_form}
 use Rattle.lay_code.specs.nodes.Code.{about_step, about_block, about_expr, about_link, form_of_item}
-use Rattle.lay_code.specs.nodes.Conditions.{condition_form, links_form}
+use Rattle.lay_code.specs.nodes.Conditions.{condition_form}
 use Rattle.lay_code.specs.nodes.Exprs.{operands_form, steps_form, targets_form, value_form}
 use Rattle.lay_code.specs.declared.conditions.Link.{Link, size-Link}
 use Rattle.lay_code.specs.declared.exprs.Expr.{Expr}
@@ -29,7 +29,7 @@ use Rattle.lay_code.specs.declared.item.Item.{Item}
 use Rattle.lay_code.proofs.nodes.ItemLaws.{alias_is, call_is, enum_is, extern_crate_is, file_module_is, foreign_is, function_is, impl_is, import_is, module_is, rules_is, struct_is, trait_is, union_is, value_is}
 use Rattle.lay_out_heads.specs.FieldRows.{line}
 use Rattle.lay_out_heads.proofs.Steady.{steady_semicolon}
-use Rattle.lay_out_code.specs.Parts.{foreign_head, head_row, import_head, arm_told, branch_told, stmt_told}
+use Rattle.lay_out_code.specs.Parts.{foreign_head, head_row, import_head, arm_told, branch_told, link_told, stmt_told}
 use Rattle.lay_out_code.proofs.OutLemmas.{bare_body, clause_body, full_body, head_body, headed, item_parts, kind_of, line_before, lines_put, may_close_body, bare_is, some_value, valued_head}
 use Rattle.lay_node.specs.nodes.Functions.{fn_head_form}
 use Rattle.lay_node.specs.nodes.Patterns.{about_pat}
@@ -38,7 +38,7 @@ use Rattle.lay_code.specs.declared.blocks.Branch.{Branch}
 use Rattle.lay_code.specs.declared.blocks.Stmt.{Stmt}
 use Rattle.lay_out_heads.proofs.Rows.{may_end_head}
 use Rattle.lay_out_exprs.specs.Arms.{seen_as}
-use Rattle.lay_out_exprs.specs.Blocks.{else_between}
+use Rattle.lay_out_exprs.specs.Blocks.{else_between, link_between}
 use Rattle.lay_out_code.proofs.BlockLemmas.{block_body, each_further, expr_stmt, item_stmt, let_stmt, may_close_soft, no_body, other_block, row_further, same_before, single_block, some_body, some_otherwise, steady_function}
 use Rattle.lay_out_code.proofs.BranchLemmas.{arm_parts, attrs_told, branch_parts, may_close_arm, may_end_arm_head, some_else, some_guard}
 use Rattle.lay_out_code.proofs.ConditionLemmas.{may_end_condition}
@@ -446,28 +446,22 @@ conditions::add_links-add_further_links-rest-requires g t c =
 
 pub conditions::add_links-add_end-requires : goal.conditions::add_links-add_end-requires
 conditions::add_links-add_end-requires g t c =
-    steps.may_end_chain false (about_link c.first-item.result).form (links_form (map about_link _))
-    (adds_on c.add_begin-group.ensures (adds_on c.add_link-first.ensures c.add_further_links-rest.ensures))
+    conditions.may_end_links c.args.links.now (adds_on c.add_begin-group.ensures c.add_link_row-row.ensures)
 
-pub conditions::add_links-returns-in-len1-up : goal.conditions::add_links-returns-in-len1-up
-conditions::add_links-returns-in-len1-up g t c =
-    adds (adds_on c.add_begin-group.ensures (adds_on c.add_link-first.ensures
-    (adds_on c.add_further_links-rest.ensures c.add_end.ensures)))
-    (conditions.several_links c.args.links.now _ (omega (arith, c.in-len1-up.len_at_least)) c.first-item.is)
+pub conditions::add_links-returns-in-len2-up : goal.conditions::add_links-returns-in-len2-up
+conditions::add_links-returns-in-len2-up g t c =
+    adds (adds_on c.add_begin-group.ensures (adds_on c.add_link_row-row.ensures c.add_end.ensures))
+    (conditions.several_links c.args.links.now c.in-len2-up.len_at_least)
 
-pub conditions::add_further_links-loop-link-init : goal.conditions::add_further_links-loop-link-init
-conditions::add_further_links-loop-link-init g t c = nothing_yet refl
+pub conditions::add_link_row-loop-index-preserved : goal.conditions::add_link_row-loop-index-preserved
+conditions::add_link_row-loop-index-preserved g t c =
+    adds (adds_on c.loop-index.invariant (adds_on c.add_link_lead-done.ensures c.add_link-done.ensures))
+    (turn link_told [] link_between c.args.links.now _ _ c.loop-index-test.true c.index-links-index.is _ refl)
 
-pub conditions::add_further_links-loop-link-preserved : goal.conditions::add_further_links-loop-link-preserved
-conditions::add_further_links-loop-link-preserved g t c =
-    one_turn c.loop-link.invariant (adds_on c.add_link_lead-done.ensures c.add_link-done.ensures)
-    (loop_step (λ (xs : List Link). stream_of (links_form (map about_link xs))) c.args.links.now _ _ _
-    c.loop-link-test.true c.link-item.is (conditions.link_turn _ _))
-
-pub conditions::add_further_links-returns : goal.conditions::add_further_links-returns
-conditions::add_further_links-returns g t c =
-    all_put c.loop-link.invariant
-    (loop_done (λ (xs : List Link). stream_of (links_form (map about_link xs))) c.args.links.now _ c.loop-link-test.false)
+pub conditions::add_link_row-returns : goal.conditions::add_link_row-returns
+conditions::add_link_row-returns g t c =
+    adds c.loop-index.invariant
+    (all_turns (λ (xs : List Link). row [] link_between (map link_told xs)) c.args.links.now _ c.loop-index-test.false)
 
 pub conditions::add_link-returns-in-Expr : goal.conditions::add_link-returns-in-Expr
 conditions::add_link-returns-in-Expr g t c =

@@ -1,8 +1,7 @@
 use Rattle.std.proofs.Common.{[], false, drop, map, take, ◌∷◌}
 use Rattle.lay_form.specs.Form.{Done}
 use Rattle.lay_form.specs.Stream.{fed, stream_of}
-use Rattle.lay_code.specs.nodes.Code.{about_link, about_step, form_of_item}
-use Rattle.lay_code.specs.nodes.Conditions.{links_form}
+use Rattle.lay_code.specs.nodes.Code.{about_step, form_of_item}
 use Rattle.lay_code.specs.nodes.Exprs.{operands_form, steps_form, targets_form}
 use Rattle.lay_out_types.specs.Calls.{Adds}
 use Rattle.lay_out_pats.specs.PatternRows.{braces_opened}
@@ -10,8 +9,8 @@ use Rattle.lay_out_types.specs.Rows.{comma_between, list_opened, row}
 use Rattle.lay_out_exprs.specs.Parts.{before_op, behind_op, expr_told, field_told}
 use Rattle.lay_out_exprs.proofs.Turns.{SoFar}
 use Rattle.lay_out_heads.specs.FieldRows.{line}
-use Rattle.lay_out_exprs.specs.Blocks.{else_between}
-use Rattle.lay_out_code.specs.Parts.{arm_told, branch_told, stmt_told}
+use Rattle.lay_out_exprs.specs.Blocks.{else_between, link_between}
+use Rattle.lay_out_code.specs.Parts.{arm_told, branch_told, link_told, stmt_told}
 use Rattle.lay_layout.specs.declared.layout.Tok.TheVariants as tok
 use Rattle.lay_out_code.proofs.+code.Given as goal
 
@@ -32,11 +31,6 @@ invariant-operands::add_operands-loop-op g l =
     SoFar g.E.Emit.meanings l.fn.before l.fn.out (stream_of (operands_form (map behind_op (drop l.op-index l.operands))))
     (stream_of (operands_form (map behind_op l.operands))) l.done l.out
 
-abbrev pub invariant-conditions::add_further_links-loop-link : goal.invariant-conditions::add_further_links-loop-link
-invariant-conditions::add_further_links-loop-link g l =
-    SoFar g.E.Emit.meanings l.fn.before l.fn.out (stream_of (links_form (map about_link (drop l.link-index l.links))))
-    (stream_of (links_form (map about_link l.links))) l.done l.out
-
 abbrev pub invariant-operands::add_targets-loop-target : goal.invariant-operands::add_targets-loop-target
 invariant-operands::add_targets-loop-target g l =
     SoFar g.E.Emit.meanings l.fn.before l.fn.out
@@ -54,11 +48,15 @@ abbrev pub invariant-items::add_lines-loop-item : goal.invariant-items::add_line
 invariant-items::add_lines-loop-item g l =
     Adds g.E.Emit.meanings l.fn.before l.fn.out (row line line (map form_of_item (take l.item-index l.items))) l.done l.out
 
--- the statements, the branches and the arms so far are put
+-- the statements, the links, the branches and the arms so far are put
 abbrev pub invariant-blocks::add_stmts-loop-stmt : goal.invariant-blocks::add_stmts-loop-stmt
 invariant-blocks::add_stmts-loop-stmt g l =
     Adds g.E.Emit.meanings l.fn.before l.fn.out
     (row (tok.Break l.lead ∷ []) (tok.Break l.lead ∷ []) (map stmt_told (take l.stmt-index l.stmts))) l.done l.out
+
+abbrev pub invariant-conditions::add_link_row-loop-index : goal.invariant-conditions::add_link_row-loop-index
+invariant-conditions::add_link_row-loop-index g l =
+    Adds g.E.Emit.meanings l.fn.before l.fn.out (row [] link_between (map link_told (take l.index l.links))) l.done l.out
 
 abbrev pub invariant-branches::add_branches-loop-index : goal.invariant-branches::add_branches-loop-index
 invariant-branches::add_branches-loop-index g l =
