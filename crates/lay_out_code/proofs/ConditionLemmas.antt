@@ -99,17 +99,6 @@ may_end_links {m} {a} {p} {q} links h =
     on_ok q (λ x e. (one_open (m.groups a)
     (level_behind p q x h e ∙ level_row link_between (λ n. refl) (map link_told links) (suc (m.groups a)))).0)
 
--- The links behind the first are no deeper than all of them.
-module _ {X : Type 0} (weight : X → ℕ) where
-  take_most : (n : ℕ) (xs : List X) → most weight (take n xs) ≤ most weight xs
-  take_most zero xs = omega arith
-  take_most (suc n) [] = omega arith
-  take_most (suc n) (x ∷ xs) = let h : most weight (take n xs) ≤ most weight xs = take_most n xs in omega (arith, h)
-
-  pub rest_most : (n : ℕ) (xs : List X) → most weight (take n (drop 1 xs)) ≤ most weight xs
-  rest_most n [] = take_most n []
-  rest_most n (x ∷ xs) = let h : most weight (take n xs) ≤ most weight xs = take_most n xs in omega (arith, h)
-
 -- all links
 pub links_told : (c : Condition) (put : List Link) → put ≡ c.links
     → stream_of (condition_form (map about_link put)) ≡ stream_of (about_condition c).form

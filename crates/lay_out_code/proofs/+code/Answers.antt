@@ -1,12 +1,11 @@
-use Rattle.std.proofs.Common.{◌+◌, ◌-◌, ◌*◌, ◌<◌, length, take, drop, arith, List, [], ◌++◌, ◌&&◌, true, false, map, refl, ap, ◌∙◌, ◌∷◌, option_map, codes}
-use denote.Param.Weighed.{most}
+use Rattle.std.proofs.Common.{List, [], ◌++◌, ◌&&◌, true, false, map, refl, ap, ◌∙◌, ◌∷◌, option_map, codes}
 use Rattle.lay_form.specs.Form.{Done, semicolon, Part}
 use Rattle.lay_form.specs.Stream.{fed, stream_of}
 use Rattle.lay_code.specs.nodes.Blocks.{guard_form}
 use Rattle.lay_code.specs.nodes.Code.{about_step, about_block, about_expr, about_link, form_of_item}
 use Rattle.lay_code.specs.nodes.Conditions.{condition_form}
 use Rattle.lay_code.specs.nodes.Exprs.{operands_form, steps_form, targets_form, value_form}
-use Rattle.lay_code.specs.declared.conditions.Link.{Link, size-Link}
+use Rattle.lay_code.specs.declared.conditions.Link.{Link}
 use Rattle.lay_code.specs.declared.exprs.Expr.{Expr}
 use Rattle.lay_code.specs.declared.exprs.FieldExpr.{FieldExpr}
 use Rattle.lay_code.specs.declared.exprs.Step.{Step}
@@ -436,13 +435,6 @@ conditions::add_links-returns-in-empty g t c = adds adds_nothing (conditions.no_
 pub conditions::add_links-returns-in-len1 : goal.conditions::add_links-returns-in-len1
 conditions::add_links-returns-in-len1 g t c =
     adds c.add_link.ensures (conditions.one_link c.args.links.now _ c.in-len1.len_at_least c.in-len1.len_below c.link-item.is)
-
-pub conditions::add_links-add_further_links-rest-requires : goal.conditions::add_links-add_further_links-rest-requires
-conditions::add_links-add_further_links-rest-requires g t c =
-    let links = c.args.links.now in
-    let under = conditions.rest_most size-Link (length links - 1) links in
-    let falls : 3 * most size-Link (take (length links - 1) (drop 1 links)) + 1 < t = omega (arith, under, c.decreases) in
-    λ κs e. (falls, e)
 
 pub conditions::add_links-add_end-requires : goal.conditions::add_links-add_end-requires
 conditions::add_links-add_end-requires g t c =
