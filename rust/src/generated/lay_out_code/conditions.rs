@@ -30,21 +30,20 @@ fn add_links<
     match links {
         [] => before,
         [link] => add_link(out, before, link),
-        [first, rest @ ..] => {
+        [_, _, ..] => {
             let group = add_begin(out, before);
-            let first = add_link(out, group, first);
-            let rest = add_further_links(out, first, rest);
-            add_end(out, rest)
+            let row = add_link_row(out, group, links);
+            add_end(out, row)
         }
     }
 }
-/// The links behind the first one, each behind its `&&`.
-fn add_further_links<
+/// Links, with `&&` between them.
+fn add_link_row<
     E: Emit,
 >(out: &mut E, before: Result<(), E::Fault>, links: &[Link]) -> Result<(), E::Fault> {
     let mut done = before;
-    for link in links {
-        done = add_link_lead(out, done);
+    for (index, link) in links.iter().enumerate() {
+        done = add_link_lead(out, done, index == 0);
         done = add_link(out, done, link);
     }
     done

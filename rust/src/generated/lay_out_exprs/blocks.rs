@@ -40,10 +40,13 @@ pub fn add_let_lead<
     let pat = add_pat(out, word, pat);
     add_text(out, pat, b" = ")
 }
-/// What stands between two links of a condition: a break, and the operator with its blank.
+/// What stands before a link of a condition: a break, and the operator with its blank, unless it is the first one.
 pub fn add_link_lead<
     E: Emit,
->(out: &mut E, before: Result<(), E::Fault>) -> Result<(), E::Fault> {
+>(out: &mut E, before: Result<(), E::Fault>, first: bool) -> Result<(), E::Fault> {
+    if first {
+        return before;
+    }
     let line = add_break(out, before, SPACE_BREAK);
     add_text(out, line, b"&& ")
 }
