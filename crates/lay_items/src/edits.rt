@@ -42,6 +42,7 @@ impl Items {
     }
 
     /// A file with the texts of its parts.
+    #[tactic(auto, using(crate::proofs::KeptLemmas::kept))]
     fn from_file(alloc: Global, file: File) -> Result<Items, NoMemory>
         ensures { IfOk result (λ items. items.file ≡ file) }
     {
@@ -95,7 +96,7 @@ impl Items {
     }
 
     /// Puts the one item of a text in at a place.
-    #[tactic(auto, using(crate::proofs::ListLemmas::map_insert))]
+    #[tactic(auto, using(crate::proofs::KeptLemmas::kept, crate::proofs::ListLemmas::map_insert))]
     pub fn insert(&mut self, index: usize, text: &[u8]) -> Result<(), EditError>
         requires { index ≤ length self.old.file.items }
         ensures { Inserts self.old.file index text.now result self.new.file }
@@ -111,7 +112,7 @@ impl Items {
     }
 
     /// Puts the one item of a text in the place of another.
-    #[tactic(auto, using(crate::proofs::ListLemmas::map_put))]
+    #[tactic(auto, using(crate::proofs::KeptLemmas::kept, crate::proofs::ListLemmas::map_put))]
     pub fn replace(&mut self, index: usize, text: &[u8]) -> Result<(), EditError>
         requires { index < length self.old.file.items }
         ensures { Replaces self.old.file index text.now result self.new.file }
@@ -125,7 +126,7 @@ impl Items {
     }
 
     /// Takes an item out. It takes no memory.
-    #[tactic(auto, using(crate::proofs::ListLemmas::map_remove))]
+    #[tactic(auto, using(crate::proofs::KeptLemmas::kept, crate::proofs::ListLemmas::map_remove))]
     pub fn remove(&mut self, index: usize)
         requires { index < length self.old.file.items }
         ensures { self.new.file ≡ without_item self.old.file index }
