@@ -96,7 +96,6 @@ impl Items {
     }
 
     /// Puts the one item of a text in at a place.
-    #[tactic(auto, using(crate::proofs::KeptLemmas::kept, crate::proofs::ListLemmas::map_insert))]
     pub fn insert(&mut self, index: usize, text: &[u8]) -> Result<(), EditError>
         requires { index ≤ length self.old.file.items }
         ensures { Inserts self.old.file index text.now result self.new.file }
@@ -112,7 +111,6 @@ impl Items {
     }
 
     /// Puts the one item of a text in the place of another.
-    #[tactic(auto, using(crate::proofs::KeptLemmas::kept, crate::proofs::ListLemmas::map_put))]
     pub fn replace(&mut self, index: usize, text: &[u8]) -> Result<(), EditError>
         requires { index < length self.old.file.items }
         ensures { Replaces self.old.file index text.now result self.new.file }
@@ -126,7 +124,6 @@ impl Items {
     }
 
     /// Takes an item out. It takes no memory.
-    #[tactic(auto, using(crate::proofs::KeptLemmas::kept, crate::proofs::ListLemmas::map_remove))]
     pub fn remove(&mut self, index: usize)
         requires { index < length self.old.file.items }
         ensures { self.new.file ≡ without_item self.old.file index }

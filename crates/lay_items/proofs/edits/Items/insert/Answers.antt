@@ -1,17 +1,18 @@
 -- The item that is put in is the one that the text reads to.
-use Rattle.std.proofs.Common.{rules, ◌≡◌, ℕ, List, ap}
-use Rattle.std.specs.Prelude.{Option, insert}
-use Rattle.lay_code.specs.declared.file.File.{File}
-use Rattle.lay_code.specs.declared.item.Item.{Item}
-use Rattle.lay_files.specs.Readings.{ReadsOnlyTo}
-use Rattle.lay_lines.specs.Outputs.{alone}
+use Rattle.std.proofs.Common.{ap}
+use Rattle.lay_items.proofs.KeptLemmas.{kept_with, of_items}
 use Rattle.lay_items.proofs.edits.Items.insert.Goals as goal
 
-abbrev pub with_items : File → List Item → File
-with_items file items = record { shebang = file.shebang; attrs = file.attrs; items = items }
+pub invariant_of-self : goal.invariant_of-self
+invariant_of-self c =
+    let self = c.args.self.now in
+    let laid = c.in_ok-item.field-0 in
+    record {
+      keeps =
+          kept_with c.insert_both.result self.file self.head self.outputs _ _ c.args.index laid.item laid.output self.keeps
+          c.insert_both.ensures.ok c.insert_both.ensures.err c.in_ok-item.ensures.1;
+    }
 
-pub returns-in-Ok-insert_both : goal.returns-in-Ok-insert_both
-returns-in-Ok-insert_both c =
-    let reads : ReadsOnlyTo c.args.text.now (alone c.item) = search rules in
-    let put : c.insert_both.new.ones ≡ insert c.args.self.now.file.items c.args.index c.item = search rules in
-    (c.item, reads, ap (λ (items : List Item). with_items c.args.self.now.file items) put)
+pub returns-in-Ok : goal.returns-in-Ok
+returns-in-Ok c =
+    (c.in_ok-item.field-0.item, c.in_ok-item.ensures.0, ap (of_items c.args.self.now.file) c.in-Ok.ensures.ok.0)

@@ -1,17 +1,17 @@
 -- The item that is put in is the one that the text reads to.
-use Rattle.std.proofs.Common.{rules, ◌≡◌, ℕ, List, ap}
-use Rattle.std.specs.Prelude.{Option, slice_set}
-use Rattle.lay_code.specs.declared.file.File.{File}
-use Rattle.lay_code.specs.declared.item.Item.{Item}
-use Rattle.lay_files.specs.Readings.{ReadsOnlyTo}
-use Rattle.lay_lines.specs.Outputs.{alone}
+use Rattle.std.proofs.Common.{ap}
+use Rattle.lay_items.proofs.KeptLemmas.{kept_other, of_items}
 use Rattle.lay_items.proofs.edits.Items.replace.Goals as goal
 
-abbrev pub with_items : File → List Item → File
-with_items file items = record { shebang = file.shebang; attrs = file.attrs; items = items }
+pub invariant_of-self : goal.invariant_of-self
+invariant_of-self c =
+    let self = c.args.self.now in
+    let laid = c.in_ok-item.field-0 in
+    record {
+      keeps =
+          kept_other self.file self.head self.outputs _ _ c.args.index laid.item laid.output self.keeps
+          c.replace_both.ensures.one c.replace_both.ensures.other c.in_ok-item.ensures.1;
+    }
 
 pub returns : goal.returns
-returns c =
-    let reads : ReadsOnlyTo c.args.text.now (alone c.item) = search rules in
-    let put : c.replace_both.new.ones ≡ slice_set c.args.self.now.file.items c.args.index c.item = search rules in
-    (c.item, reads, ap (λ (items : List Item). with_items c.args.self.now.file items) put)
+returns c = (c.in_ok-item.field-0.item, c.in_ok-item.ensures.0, ap (of_items c.args.self.now.file) c.replace_both.ensures.one)
