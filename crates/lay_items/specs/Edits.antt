@@ -2,7 +2,6 @@
 use Rattle.std.specs.Prelude.{ℕ, ◌≡◌, false, List, length, insert, remove, slice_set, is_some, Result, Ok, Err}
 use Rattle.lay_text.specs.declared.refusal.FormatError.{FormatError}
 use Rattle.lay_text.specs.declared.refusal.FormatError.TheVariants as format
-use Rattle.lay_text.specs.declared.refusal.Refusal.{Refusal}
 use Rattle.lay_code.specs.Reading.{IsRefused}
 use Rattle.lay_code.specs.declared.file.File.{File}
 use Rattle.lay_code.specs.declared.item.Item.{Item}
