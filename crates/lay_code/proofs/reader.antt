@@ -14,6 +14,7 @@ pub mod File
 pub mod ExprSoundLevel
 pub mod ExprReads
 pub mod BlocksSound
+pub mod ConditionsSound
 pub mod BlocksSoundWhole
 pub mod ExprSoundLed
 pub mod BlockReads

@@ -5,5 +5,7 @@ pub mod Exprs
 pub mod ExprHeads
 pub mod Blocks
 pub mod BlocksRead
+pub mod Conditions
+pub mod ConditionsRead
 pub mod Heads
 pub mod HeadsRead

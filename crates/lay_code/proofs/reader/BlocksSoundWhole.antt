@@ -1,41 +1,36 @@
 -- Whole blocks, and the branches that lead to them: what is read stands there, where what is one level deeper is read so.
-use Rattle.std.proofs.Common.{◌≡◌, ℕ, ◌≤◌, max, Bool, true, false, ◌&&◌, ◌||◌, List, [], ◌∷◌, ◌++◌, map, inl, inr, codes, drop, Option, Some, None, refl, sym, subst, ◌∙◌, arith, if◌then◌else◌}
+use Rattle.std.proofs.Common.{◌≡◌, ℕ, ◌≤◌, max, Bool, true, false, ◌&&◌, ◌||◌, List, [], ◌∷◌, ◌++◌, map, inl, inr, codes, Some, refl, sym, subst, ◌∙◌, arith, if◌then◌else◌}
 use Rattle.std.proofs.lemmas.Bool.{and_from}
 use Rattle.lay_piece.specs.declared.kind.Delim.TheVariants.{Brace}
-use Rattle.lay_token.specs.Operators.{is_op}
-use Rattle.lay_form.specs.Form.{Done, Form, Operator, Part, closer, keyword, opener}
+use Rattle.lay_form.specs.Form.{Done, Form, Part, closer, opener}
 use Rattle.lay_form.specs.Notation.{body, piece, soft}
-use Rattle.lay_form.specs.Spelled.{AreBits, IsOperator, Spells}
+use Rattle.lay_form.specs.Spelled.{AreBits, Spells}
 use Rattle.lay_form.proofs.FormLaws.{deeper as raise}
-use Rattle.lay_node.specs.Ahead.{Tokens, first, tail, closes, is_keyword, is_mark, more_items, opens}
+use Rattle.lay_node.specs.Ahead.{Tokens, first, closes, is_mark, more_items, opens}
 use Rattle.lay_node.specs.nodes.Attr.{are_attrs, attr_form}
 use Rattle.lay_node.specs.nodes.Fields.{blank_if}
-use Rattle.lay_node.specs.nodes.Patterns.{about_pat, pat_form, pat_good}
 use Rattle.lay_node.specs.reader.Attr.{attributes}
 use Rattle.lay_node.specs.reader.Exact.{InText}
 use Rattle.lay_node.specs.reader.Loops.{deepest, nodes, passed, repeat}
 use Rattle.lay_node.specs.declared.attr.Attr.{Attr}
-use Rattle.lay_node.specs.declared.patterns.Pat.{Pat}
-use Rattle.lay_node.specs.declared.patterns.PatPlace.TheVariants.{Alternatives}
-use Rattle.lay_node.proofs.Fronts.{closer_passed_is, keyword_one, opener_passed_is}
+use Rattle.lay_node.proofs.Fronts.{closer_passed_is, opener_passed_is}
 use Rattle.lay_node.proofs.Parts.{Rows, SpelledAt, body_spelled, led_blank, rows_joined}
 use Rattle.lay_node.proofs.Steps.{bind_some, chosen, same_some}
 use Rattle.lay_node.proofs.reader.Attr.{attributes_sound, attrs_spelled}
 use Rattle.lay_node.proofs.reader.Loops.{SoundStep, repeat_sound}
 use Rattle.lay_node.proofs.reader.TypesSoundParts.{Out, bit_texts}
 use Rattle.lay_code.specs.nodes.Blocks.{attrs_before, block_facts, block_form, branch_facts, dropped, dropped_if, is_plain, soft_form, stmt_form, stmts_good}
-use Rattle.lay_code.specs.nodes.Code.{about_block, about_branch, about_expr, about_stmt}
+use Rattle.lay_code.specs.nodes.Code.{about_block, about_branch, about_condition, about_stmt}
 use Rattle.lay_code.specs.nodes.CodeFacts.{BlockFacts, BranchFacts, StmtFacts}
-use Rattle.lay_code.specs.nodes.Exprs.{condition_form, condition_good, placed}
-use Rattle.lay_code.specs.nodes.Places.{plain}
-use Rattle.lay_code.specs.reader.Blocks.{behind_semicolons, block_by, branch_by, condition_by, stmt_by, stmt_in_block}
+use Rattle.lay_code.specs.reader.Blocks.{behind_semicolons, block_by, branch_by, stmt_by, stmt_in_block}
+use Rattle.lay_code.specs.reader.Conditions.{condition_by}
 use Rattle.lay_code.specs.reader.Within.{ExprWithin}
 use Rattle.lay_code.specs.declared.blocks.Block.{Block}
 use Rattle.lay_code.specs.declared.blocks.Branch.{Branch}
 use Rattle.lay_code.specs.declared.blocks.Stmt.{Stmt}
-use Rattle.lay_code.specs.declared.exprs.Expr.{Expr}
 use Rattle.lay_code.proofs.nodes.BlocksLaws.{block_is, branch_is}
 use Rattle.lay_code.proofs.reader.BlocksSound.{bare_unended, closer_last, closer_mark, most_within, no_semicolons, semicolons_behind, semicolons_texts, stmt_sound}
+use Rattle.lay_code.proofs.reader.ConditionsSound.{condition_sound}
 use Rattle.lay_code.proofs.reader.ExprSoundLevel.{SoundExprWithin}
 
 -- ---- inner attributes, before `;` that are dropped
@@ -205,58 +200,6 @@ module _ (budget : ℕ) (within : ExprWithin) (sound : SoundExprWithin budget wi
 
   -- ---- branches
 
-  -- A condition stands there, or a pattern and what it is matched with.
-  abbrev pub ConditionHeld : (Option Pat × Expr) × ℕ → Tokens → Tokens → Type 0
-  ConditionHeld x ts rest =
-      (x.1 ≤ budget) × Spells (condition_form x.0.0 (about_expr x.0.1)) x.1 ts rest × (condition_good x.0.0 (about_expr x.0.1) ≡ true)
-
-  pub condition_sound : SoundStep (condition_by within) ConditionHeld
-  unfolding condition_by
-  condition_sound ts x rest t h = elim (chosen (first (is_keyword (codes "let")) ts) _ _ _ h) [
-    | inl g ↦
-        let from = tail ts in
-        let p = bind_some (within.pats Alternatives from) _ _ g.1 in
-        let e = bind_some (if is_op (codes "=") p.0.1 then within.exprs (plain 4 true) (drop 1 p.0.1) else None) _ _ p.2 in
-        let word = keyword_one (codes "let") ts g.0 in
-        let ps = sound.pats Alternatives from p.0.0 p.0.1 (bit_texts (keyword (codes "let")) ts from word t) p.1 in
-        let at = drop 1 p.0.1 in
-        elim (chosen (is_op (codes "=") p.0.1) _ _ _ e.1) [
-          | inl f ↦
-              let o : IsOperator (codes "=") p.0.1 at = (f.0, refl) in
-              let s = sound.exprs (plain 4 true) at e.0.0 e.0.1 (bit_texts (Operator (codes "=")) p.0.1 at o ps.1) f.1 in
-              let pat = p.0.0.0 in
-              let told = about_expr e.0.0.0 in
-              let most = max p.0.0.1 e.0.0.1 in
-              let P = pat_form Alternatives (about_pat pat) in
-              let form : Spells (condition_form (Some pat) told) most ts e.0.1 = (
-                from,
-                (from, word, (from, refl, refl)),
-                (
-                  p.0.1,
-                  raise P p.0.0.1 most from p.0.1 (omega arith) ps.0.1,
-                  (
-                    at,
-                    (p.0.1, refl, (at, o, (at, refl, refl))),
-                    (e.0.1, raise told.form e.0.0.1 most at e.0.1 (omega arith) s.0.1, refl),
-                  ),
-                ),
-              ) in
-              same_some (Out ConditionHeld ts) (((Some pat, e.0.0.0), most), e.0.1) (x, rest) e.2 (
-                (
-                  most_within p.0.0.1 e.0.0.1 budget ps.0.0 s.0.0,
-                  form,
-                  and_from (pat_good Alternatives (about_pat pat)) (placed told (plain 4 true)) ps.0.2 s.0.2,
-                ),
-                s.1,
-              )
-          | inr f ↦ absurd (cc f.1)
-        ]
-    | inr g ↦
-        let e = bind_some (within.exprs (plain 0 true) ts) _ _ g.1 in
-        let s = sound.exprs (plain 0 true) ts e.0.0 e.0.1 t e.1 in
-        same_some (Out ConditionHeld ts) (((None, e.0.0.0), e.0.0.1), e.0.1) (x, rest) e.2 ((s.0.0, s.0.1, s.0.2), s.1)
-  ]
-
   -- A condition stands there and the block that it leads to, which may stand on one line.
   abbrev pub BranchHeld : Branch × ℕ → Tokens → Tokens → Type 0
   BranchHeld x ts rest =
@@ -274,19 +217,18 @@ module _ (budget : ℕ) (within : ExprWithin) (sound : SoundExprWithin budget wi
   branch_sound ts x rest t h =
       let c = bind_some (condition_by within ts) _ _ h in
       let b = bind_some (block_by within c.0.1) _ _ c.2 in
-      let s = condition_sound ts c.0.0 c.0.1 t c.1 in
+      let s = condition_sound budget within sound ts c.0.0 c.0.1 t c.1 in
       let k = block_sound c.0.1 b.0.0 b.0.1 s.1 b.1 in
-      let pat = c.0.0.0.0 in
-      let condition = c.0.0.0.1 in
+      let condition = about_condition c.0.0.0 in
       let block = about_block b.0.0.0 in
       let most = max c.0.0.1 b.0.0.1 in
-      let made : Branch = record { pat = pat; condition = condition; body = b.0.0.0 } in
-      let F = branch_facts (record { pat = pat; condition = about_expr condition; body = block }) in
+      let made : Branch = record { condition = c.0.0.0; body = b.0.0.0 } in
+      let F = branch_facts (record { condition = condition; body = block }) in
       let form : Spells (Part F.condition (Part F.soft Done)) most ts b.0.1 = (
         c.0.1,
         raise F.condition c.0.0.1 most ts c.0.1 (omega arith) s.0.1,
         (b.0.1, raise F.soft b.0.0.1 most c.0.1 b.0.1 (omega arith) k.0.soft, refl),
       ) in
-      let good = and_from (condition_good pat (about_expr condition)) block.good s.0.2 k.0.good in
+      let good = and_from condition.good block.good s.0.2 k.0.good in
       same_some (Out BranchHeld ts) ((made, most), b.0.1) (x, rest) b.2
       (branch_told (made, most) F ts b.0.1 (branch_is made) (most_within c.0.0.1 b.0.0.1 budget s.0.0 k.0.need) form good, k.1)

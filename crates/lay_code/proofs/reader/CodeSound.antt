@@ -34,7 +34,7 @@ use Rattle.lay_code.specs.reader.Within.{ExprWithin}
 use Rattle.lay_code.specs.declared.exprs.Expr.{Expr}
 use Rattle.lay_code.specs.declared.exprs.Place.{Place}
 use Rattle.lay_code.proofs.reader.BlocksSoundWhole.{block_sound}
-use Rattle.lay_code.proofs.reader.ExprSound.{expr_by_sound}
+use Rattle.lay_code.proofs.reader.ExprSound.{climbed_on_sound, expr_by_sound}
 use Rattle.lay_code.proofs.reader.ExprSoundLeads.{code_led}
 use Rattle.lay_code.proofs.reader.ExprSoundLevel.{DeepBlock, ExprHeld, SoundExprWithin}
 use Rattle.lay_code.proofs.reader.Item.{item_by_sound}
@@ -79,6 +79,7 @@ code_sound zero = record {
   pats = λ place. pat_at_sound place zero;
   blocks = λ ts x rest t h. absurd (cc h);
   items = λ at ts x rest t h. absurd (cc h);
+  goes_on = λ lhs begun ts k t x rest h. absurd (cc h);
 }
 code_sound (suc budget) =
     let sound = code_sound budget in
@@ -92,6 +93,8 @@ code_sound (suc budget) =
           step_of (about_item at) (suc budget) ((code_in (suc budget)).items at)
           (item_by_sound heads_sound at budget (item_within budget) (insides_sound budget)
           (λ s us one need left i e. (sound.items s us (one, need) left i e).0) (use_sound budget) sound);
+      goes_on = λ lhs begun ts k t x rest h.
+          climbed_on_sound budget (code_in budget) sound (code_led budget) (suc budget) lhs begun ts k t x rest h;
     }
 
 -- What is read within a budget stands there.

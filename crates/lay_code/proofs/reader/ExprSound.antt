@@ -11,7 +11,8 @@ use Rattle.lay_code.specs.Operands.{expr_lead_at}
 use Rattle.lay_code.specs.Operators.{is_angle, is_dot_or_try, strength}
 use Rattle.lay_code.specs.nodes.Code.{about_expr}
 use Rattle.lay_code.specs.nodes.Exprs.{is_chain_level, root_follows, stands, tail_follows}
-use Rattle.lay_code.specs.nodes.Places.{before_op, begins}
+use Rattle.lay_code.specs.nodes.Places.{before_op, begins, plain}
+use Rattle.lay_code.specs.reader.Code.{climbed_on}
 use Rattle.lay_code.specs.reader.Exprs.{accepted, climb, climb_by, expr_by, head_by, is_ended, left_place, stage}
 use Rattle.lay_code.specs.reader.Within.{ExprWithin}
 use Rattle.lay_code.specs.declared.exprs.Expr.{Expr}
@@ -131,3 +132,13 @@ module _ (budget : ℕ) (within : ExprWithin) (sound : SoundExprWithin budget wi
       let begun = head_sound budget within sound led place.no_struct (begins place.start) ts y.0.0 y.0.1 t y.1 in
       let made = climbed_sound y.0.0 ts y.0.1 begun.0 begun.1 z.0.0 z.0.1 z.1 in
       accepted_sound most z.0.0 ts z.0.1 made.0 made.1 x rest z.2
+
+-- What begins with the first operands of a condition stands there, where they do.
+pub climbed_on_sound : (budget : ℕ) (within : ExprWithin) → SoundExprWithin budget within → LedWithin within → (most : ℕ) (lhs : Expr × ℕ)
+    (begun ts : Tokens) → LeftHeld true false lhs begun ts → InText ts → (x : Expr × ℕ) (rest : Tokens)
+    → climbed_on within most lhs ts ≡ Some (x, rest) → Out (ExprHeld (plain 0 true) most) begun (x, rest)
+climbed_on_sound budget within sound led most lhs begun ts k t x rest h =
+    let place = plain 0 true in
+    let y = bind_some (climb within place 3 lhs ts) _ _ h in
+    let made = climb_sound budget within sound led place 3 lhs begun ts k t y.0.0 y.0.1 y.1 in
+    accepted_sound budget within sound led place most y.0.0 begun y.0.1 made.0 made.1 x rest y.2

@@ -20,11 +20,12 @@ use Rattle.lay_node.proofs.Parts.{Rows}
 use Rattle.lay_node.proofs.Steps.{bind_some, chosen, same_some}
 use Rattle.lay_node.proofs.reader.Loops.{SoundStep, repeat_sound}
 use Rattle.lay_node.proofs.reader.TypesSoundParts.{Leads, Out, bit_texts, if_read_sound, keyword_passed_is, lifetime_sound}
-use Rattle.lay_code.specs.nodes.Code.{about_block, about_branch, about_expr}
+use Rattle.lay_code.specs.nodes.Code.{about_block, about_branch, about_condition, about_expr}
 use Rattle.lay_code.specs.nodes.CodeFacts.{BlockFacts}
-use Rattle.lay_code.specs.nodes.Exprs.{ExprLayer, Tail, branch_head, branches_good, condition_form, condition_good, else_branch_form, expr_facts, inside, labelled, may_be_good, more_branches, placed, shut, tail_follows, tail_of, within_of}
+use Rattle.lay_code.specs.nodes.Exprs.{ExprLayer, Tail, branch_head, branches_good, else_branch_form, expr_facts, inside, labelled, may_be_good, more_branches, placed, shut, tail_follows, tail_of, within_of}
 use Rattle.lay_code.specs.nodes.Places.{plain}
-use Rattle.lay_code.specs.reader.Blocks.{block_by, branch_by, condition_by}
+use Rattle.lay_code.specs.reader.Blocks.{block_by, branch_by}
+use Rattle.lay_code.specs.reader.Conditions.{condition_by}
 use Rattle.lay_code.specs.reader.Exprs.{async_expr, begins_else_if, block_expr, for_expr, if_expr, label_expr, labelled_expr, while_expr}
 use Rattle.lay_code.specs.reader.Within.{ExprWithin}
 use Rattle.lay_code.specs.declared.blocks.Block.{Block}
@@ -33,7 +34,8 @@ use Rattle.lay_code.specs.declared.blocks.Stmt.TheOpen.{Expr-F}
 use Rattle.lay_code.specs.declared.exprs.Expr.{Expr}
 use Rattle.lay_code.specs.declared.exprs.Expr.TheVariants as expr
 use Rattle.lay_code.proofs.nodes.ExprsLaws.{expr_async_is, expr_block_is, expr_const_block_is, expr_for_is, expr_if_is, expr_loop_is, expr_unsafe_is, expr_while_is}
-use Rattle.lay_code.proofs.reader.BlocksSoundWhole.{BlockStands, BranchHeld, block_sound, branch_sound, condition_sound}
+use Rattle.lay_code.proofs.reader.BlocksSoundWhole.{BlockStands, BranchHeld, block_sound, branch_sound}
+use Rattle.lay_code.proofs.reader.ConditionsSound.{condition_sound}
 use Rattle.lay_code.proofs.reader.ExprSoundLevel.{LeftHeld, SoundExprWithin, made}
 
 two_tails : (ts : Tokens) → tail (tail ts) ≡ drop 2 ts
@@ -132,25 +134,22 @@ module _ (budget : ℕ) (within : ExprWithin) (sound : SoundExprWithin budget wi
         let b = bind_some (block_by within c.0.1) _ _ c.2 in
         let s = condition_sound budget within sound from c.0.0 c.0.1 (bit_texts (keyword (codes "while")) at from o t) c.1 in
         let k = block_sound budget within sound c.0.1 b.0.0 b.0.1 s.1 b.1 in
-        let pat = c.0.0.0.0 in
-        let condition = c.0.0.0.1 in
-        let told = about_expr condition in
+        let condition = c.0.0.0 in
+        let told = about_condition condition in
         let block = about_block b.0.0.0 in
         let most = max c.0.0.1 b.0.0.1 in
-        let C = condition_form pat told in
-        let Head : Form = Piece (keyword (codes "while") ∷ Blank ∷ []) (Part C Done) in
+        let Head : Form = Piece (keyword (codes "while") ∷ Blank ∷ []) (Part told.form Done) in
         let F : Form = I0 Head (Part (block.form true) Done) in
-        let head = spaced_leads (codes "while") (Part C Done) most at from c.0.1 o
-        (part_done C most from c.0.1 (raise C c.0.0.1 most from c.0.1 (omega arith) s.0.1)) in
+        let head = spaced_leads (codes "while") (Part told.form Done) most at from c.0.1 o
+        (part_done told.form most from c.0.1 (raise told.form c.0.0.1 most from c.0.1 (omega arith) s.0.1)) in
         let form : Spells F most at b.0.1 = (
           c.0.1,
           head,
           part_done (block.form true) most c.0.1 b.0.1 (raise (block.form true) b.0.0.1 most c.0.1 b.0.1 (omega arith) (k.0.form true)),
         ) in
-        same_some (Out Left ts) ((expr.While label pat condition b.0.0.0, suc most), b.0.1) (x, rest) b.2 (
-          made no_struct starts (about_expr (expr.While label pat condition b.0.0.0)) (Expr-F.While label pat told block) most ts b.0.1
-              (expr_while_is label pat condition b.0.0.0) (leads F most b.0.1 form)
-              (and_from (condition_good pat told) block.good s.0.2 k.0.good) refl,
+        same_some (Out Left ts) ((expr.While label condition b.0.0.0, suc most), b.0.1) (x, rest) b.2 (
+          made no_struct starts (about_expr (expr.While label condition b.0.0.0)) (Expr-F.While label told block) most ts b.0.1
+              (expr_while_is label condition b.0.0.0) (leads F most b.0.1 form) (and_from told.good block.good s.0.2 k.0.good) refl,
           k.1,
         )
 

@@ -16,7 +16,8 @@ use Rattle.lay_code.specs.Operators.{strength}
 use Rattle.lay_code.specs.nodes.Code.{about_expr}
 use Rattle.lay_code.specs.nodes.Exprs.{ExprFacts, label_or}
 use Rattle.lay_code.specs.nodes.Places.{plain}
-use Rattle.lay_code.specs.reader.Blocks.{arm_by, block_by, branch_by, condition_by}
+use Rattle.lay_code.specs.reader.Blocks.{arm_by, block_by, branch_by}
+use Rattle.lay_code.specs.reader.Conditions.{condition_by}
 use Rattle.lay_code.specs.reader.Exprs.{async_expr, begins_else_if, block_expr, block_word_expr, closure_behind, closure_expr, closure_param, for_expr, if_expr, label_expr, labelled_expr, match_expr, while_expr}
 use Rattle.lay_code.specs.reader.Within.{ExprWithin}
 use Rattle.lay_code.specs.declared.blocks.Block.{Block}
@@ -57,9 +58,9 @@ module _ (within : ExprWithin) where
             | inl e ↦
                 let c = bind_some (condition_by within (tail ts)) _ _ e.1 in
                 let b = bind_some (block_by within c.0.1) _ _ c.2 in
-                let made = expr.While label c.0.0.0.0 c.0.0.0.1 b.0.0.0 in
+                let made = expr.While label c.0.0.0 b.0.0.0 in
                 word g.0 (same_some (Led (label_or ByBlockWord label)) ((made, suc (max c.0.0.1 b.0.0.1)), b.0.1) r b.2
-                (led (expr_while_is label c.0.0.0.0 c.0.0.0.1 b.0.0.0)))
+                (led (expr_while_is label c.0.0.0 b.0.0.0)))
             | inr e ↦
                 let k = bind_some (passed (is_keyword (codes "for")) ts) _ _ e.1 in
                 let p = bind_some (within.pats Alternatives k.0) _ _ k.2 in

@@ -1,6 +1,6 @@
 -- Expressions at their places: what is held of those that are read, one level deeper, and of those that operators may still
 -- go on with.
-use Rattle.std.proofs.Common.{◌≡◌, ℕ, suc, ◌≤◌, Bool, true, false, not, ◌&&◌, ◌||◌, List, [], ◌∷◌, map, option_map, refl, sym, ap, subst}
+use Rattle.std.proofs.Common.{◌≡◌, ℕ, suc, ◌≤◌, Bool, true, false, not, ◌&&◌, ◌||◌, List, [], ◌∷◌, map, option_map, Some, refl, sym, ap, subst}
 use Rattle.std.specs.List.{list_all}
 use Rattle.std.specs.Prelude.{◌==◌}
 use Rattle.std.proofs.lemmas.Bool.{and_parts, eq-eqb}
@@ -8,17 +8,19 @@ use Rattle.std.proofs.lemmas.List.Folds.{list_all-map}
 use Rattle.lay_form.specs.Form.{Deeper, Done}
 use Rattle.lay_form.specs.Spelled.{Spells}
 use Rattle.lay_node.specs.Ahead.{Tokens}
+use Rattle.lay_node.specs.reader.Exact.{InText}
 use Rattle.lay_node.specs.declared.heads.Site.{Site}
 use Rattle.lay_node.specs.declared.patterns.PatPlace.{PatPlace}
 use Rattle.lay_node.proofs.reader.Loops.{SoundStep}
 use Rattle.lay_node.proofs.reader.PatternsSoundLevel.{PatHeld}
 use Rattle.lay_node.proofs.reader.TypesSoundLevel.{SoundWithin}
 use Rattle.lay_node.proofs.reader.TypesSoundNeeds.{Held}
+use Rattle.lay_node.proofs.reader.TypesSoundParts.{Out}
 use Rattle.lay_code.specs.Operands.{begins_operand}
 use Rattle.lay_code.specs.Operators.{strength}
 use Rattle.lay_code.specs.nodes.Code.{about_arm, about_block, about_branch, about_condition, about_expr, about_field_expr, about_item, about_step}
 use Rattle.lay_code.specs.nodes.Exprs.{ExprFacts, Tail, all_free, begins_pointer, expr_facts, expr_forms, follows, inside, lacks_operand, placed, root_follows, stands, tail_follows, tail_of, within_of, ExprLayer}
-use Rattle.lay_code.specs.nodes.Places.{FREE, begins}
+use Rattle.lay_code.specs.nodes.Places.{FREE, begins, plain}
 use Rattle.lay_code.specs.reader.Within.{ExprWithin}
 use Rattle.lay_code.specs.declared.blocks.Block.{Block}
 use Rattle.lay_code.specs.declared.exprs.Expr.{Expr}
@@ -38,14 +40,6 @@ abbrev pub DeepBlock : ℕ → Block × ℕ → Tokens → Tokens → Type 0
 DeepBlock budget x ts rest =
     (x.1 ≤ budget) × Spells (Deeper ((about_block x.0).form true) Done) x.1 ts rest × ((about_block x.0).good ≡ true)
 
--- What is read one level deeper stands there within the budget.
-pub record SoundExprWithin (budget : ℕ) (within : ExprWithin) : Type 0 where
-  pub exprs : (place : Place) → SoundStep (within.exprs place) (ExprHeld place budget)
-  pub kinds : SoundWithin budget within.kinds
-  pub pats : (place : PatPlace) → SoundStep (within.pats place) (PatHeld place budget)
-  pub blocks : SoundStep within.blocks (DeepBlock budget)
-  pub items : (at : Site) → SoundStep (within.items at) (Held (about_item at) budget)
-
 -- An expression of which this is told stands there, and operators may still go on with it. The flags say that no struct
 -- literal may stand there, and that it begins a statement.
 abbrev pub IsLeft : Bool → Bool → ExprFacts → ℕ → Tokens → Tokens → Type 0
@@ -54,6 +48,17 @@ IsLeft no_struct first x n ts rest =
 
 abbrev pub LeftHeld : Bool → Bool → Expr × ℕ → Tokens → Tokens → Type 0
 LeftHeld no_struct first x ts rest = IsLeft no_struct first (about_expr x.0) x.1 ts rest
+
+-- What is read one level deeper stands there within the budget.
+pub record SoundExprWithin (budget : ℕ) (within : ExprWithin) : Type 0 where
+  pub exprs : (place : Place) → SoundStep (within.exprs place) (ExprHeld place budget)
+  pub kinds : SoundWithin budget within.kinds
+  pub pats : (place : PatPlace) → SoundStep (within.pats place) (PatHeld place budget)
+  pub blocks : SoundStep within.blocks (DeepBlock budget)
+  pub items : (at : Site) → SoundStep (within.items at) (Held (about_item at) budget)
+  -- So does what begins with the first operands of a condition, which stand there.
+  pub goes_on : (lhs : Expr × ℕ) (begun ts : Tokens) → LeftHeld true false lhs begun ts → InText ts → (x : Expr × ℕ) (rest : Tokens)
+      → within.goes_on lhs ts ≡ Some (x, rest) → Out (ExprHeld (plain 0 true) budget) begun (x, rest)
 
 -- ---- parts of what is held
 

@@ -42,11 +42,11 @@ module _ (budget : ℕ) (within : ExprWithin) (sound : SoundExprWithin budget wi
   -- ---- operands
 
   -- An operator of the level stands there, and its operand behind it, which ends where an operator of the level may follow.
-  record OperandRow (x : (Op × Expr) × ℕ) (ts rest : Tokens) : Type 0 where
-    strong : strength ts ≡ suc level
-    named : binary ts ≡ Some x.0.0
-    held : ExprHeld (plain (suc level) no_struct) budget (x.0.1, x.1) (drop (length (op_text x.0.0)) ts) rest
-    ended : operand_ends level no_struct (about_expr x.0.1) rest ≡ true
+  pub record OperandRow (x : (Op × Expr) × ℕ) (ts rest : Tokens) : Type 0 where
+    pub strong : strength ts ≡ suc level
+    pub named : binary ts ≡ Some x.0.0
+    pub held : ExprHeld (plain (suc level) no_struct) budget (x.0.1, x.1) (drop (length (op_text x.0.0)) ts) rest
+    pub ended : operand_ends level no_struct (about_expr x.0.1) rest ≡ true
 
   row_sound : (ts : Tokens) (x : (Op × Expr) × ℕ) (rest : Tokens) → InText ts → (strength ts == suc level) ≡ true
       → operand within level no_struct ts ≡ Some (x, rest) → Out OperandRow ts (x, rest)
@@ -156,6 +156,37 @@ module _ (budget : ℕ) (within : ExprWithin) (sound : SoundExprWithin budget wi
 
   -- ---- chains
 
+  -- Operators of one level and their operands that stand behind a first are a chain with it.
+  pub chain_stands : (level : ℕ) → is_chain_level level ≡ true → (lhs : Expr × ℕ) (begun ts : Tokens) → Left lhs begun ts
+      → stands (about_expr lhs.0) (before_op (suc level) no_struct starts (is_angle ts)) ≡ true → (xs : List ((Op × Expr) × ℕ))
+      (end : Tokens) → Rows (OperandRow budget within sound level no_struct) xs ts end → is_there xs ≡ true
+      → Left (expr.Chain lhs.0 (nodes xs), suc (max lhs.1 (deepest xs))) begun end
+  chain_stands level chains lhs begun ts k m xs end r there =
+      let told = about_expr lhs.0 in
+      let most = max lhs.1 (deepest xs) in
+      let all = map behind_op (nodes xs) in
+      let l = first_level budget within sound level no_struct xs ts end r there in
+      let place : Bool → Place = λ a. before_op (suc level) no_struct starts a in
+      let W : ℕ → Bool → Bool =
+      λ n a. is_chain_level n && may_chain n all && placed told (before_op (suc n) no_struct starts a) && operands_placed n no_struct all in
+      let good : W level (is_angle ts) ≡ true =
+      and_from (is_chain_level level && may_chain level all && placed told (place (is_angle ts))) (operands_placed level no_struct all)
+      (and_from (is_chain_level level && may_chain level all) (placed told (place (is_angle ts)))
+      (and_from (is_chain_level level) (may_chain level all) chains
+      (operands_chain budget within sound level no_struct xs ts end r there))
+      (left_placed told (suc level) no_struct starts (is_angle ts) m k.1))
+      (operands_good budget within sound level no_struct xs ts end r) in
+      let told_good : W (level_of_chain all) (next_is_angle all) ≡ true =
+      subst (λ n. W n (next_is_angle all) ≡ true) (sym l.0) (subst (λ a. W level a ≡ true) (sym l.1) good) in
+      let spelled : Spells (Part told.form (operands_form all)) most begun end = (
+        ts,
+        raise told.form lhs.1 most begun ts (omega arith) k.0,
+        operands_spelled budget within sound level no_struct most xs ts end (omega arith) r,
+      ) in
+      made no_struct starts (about_expr (expr.Chain lhs.0 (nodes xs))) (Expr-F.Chain told all) most begun end
+      (expr_chain_is lhs.0 (nodes xs)) (end, spelled, refl) told_good
+      (operands_end budget within sound level no_struct xs ts end r there)
+
   -- operators of one level and their operands behind a first
   pub chain_stage : (level : ℕ) → is_chain_level level ≡ true → (lhs : Expr × ℕ) (begun ts : Tokens) → Left lhs begun ts
       → stands (about_expr lhs.0) (before_op (suc level) no_struct starts (is_angle ts)) ≡ true → strength ts ≡ suc level → InText ts
@@ -166,33 +197,8 @@ module _ (budget : ℕ) (within : ExprWithin) (sound : SoundExprWithin budget wi
       let xs = more.0.0 in
       let end = more.0.1 in
       let r = operands_sound budget within sound level no_struct ts xs end t s more.1 in
-      let told = about_expr lhs.0 in
-      let most = max lhs.1 (deepest xs) in
-      let all = map behind_op (nodes xs) in
-      let l = first_level budget within sound level no_struct xs ts end r.0 r.2 in
-      let place : Bool → Place = λ a. before_op (suc level) no_struct starts a in
-      let W : ℕ → Bool → Bool =
-      λ n a. is_chain_level n && may_chain n all && placed told (before_op (suc n) no_struct starts a) && operands_placed n no_struct all in
-      let good : W level (is_angle ts) ≡ true =
-      and_from (is_chain_level level && may_chain level all && placed told (place (is_angle ts))) (operands_placed level no_struct all)
-      (and_from (is_chain_level level && may_chain level all) (placed told (place (is_angle ts)))
-      (and_from (is_chain_level level) (may_chain level all) chains
-      (operands_chain budget within sound level no_struct xs ts end r.0 r.2))
-      (left_placed told (suc level) no_struct starts (is_angle ts) m k.1))
-      (operands_good budget within sound level no_struct xs ts end r.0) in
-      let told_good : W (level_of_chain all) (next_is_angle all) ≡ true =
-      subst (λ n. W n (next_is_angle all) ≡ true) (sym l.0) (subst (λ a. W level a ≡ true) (sym l.1) good) in
-      let spelled : Spells (Part told.form (operands_form all)) most begun end = (
-        ts,
-        raise told.form lhs.1 most begun ts (omega arith) k.0,
-        operands_spelled budget within sound level no_struct most xs ts end (omega arith) r.0,
-      ) in
-      same_some (Out Left begun) ((expr.Chain lhs.0 (nodes xs), suc most), end) (x, rest) more.2 (
-        made no_struct starts (about_expr (expr.Chain lhs.0 (nodes xs))) (Expr-F.Chain told all) most begun end
-            (expr_chain_is lhs.0 (nodes xs)) (end, spelled, refl) told_good
-            (operands_end budget within sound level no_struct xs ts end r.0 r.2),
-        r.1,
-      )
+      same_some (Out Left begun) ((expr.Chain lhs.0 (nodes xs), suc (max lhs.1 (deepest xs))), end) (x, rest) more.2
+      (chain_stands level chains lhs begun ts k m xs end r.0 r.2, r.1)
 
   -- ---- assignments
 

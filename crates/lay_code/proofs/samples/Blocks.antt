@@ -1,21 +1,24 @@
 -- Samples of blocks, statements, control flow and closures: how they are laid out.
 use Rattle.std.proofs.Common.{◌≡◌, ℕ, true, false, List, [], ◌∷◌, ◌++◌, Option, Some, None, codes, ap, ◌∙◌, refl}
 use Rattle.std.specs.Prelude.{replicate}
-use Rattle.lay_node.specs.declared.patterns.Pat.{Pat}
 use Rattle.lay_node.specs.declared.types.Ty.{Ty}
 use Rattle.lay_node.proofs.nodes.PatternsLaws as pats
 use Rattle.lay_node.proofs.samples.Trees.{named, a, b, c, laid}
 use Rattle.lay_node.proofs.samples.Types.{named_is}
 use Rattle.lay_code.specs.nodes.Blocks.{arm_facts, block_facts, stmt_facts}
-use Rattle.lay_code.specs.nodes.Code.{about_arm, about_block, about_expr, about_stmt}
+use Rattle.lay_code.specs.nodes.Code.{about_arm, about_block, about_expr, about_link, about_stmt}
 use Rattle.lay_code.specs.nodes.CodeFacts.{ArmFacts, BlockFacts}
+use Rattle.lay_code.specs.nodes.Conditions.{link_facts}
 use Rattle.lay_code.specs.nodes.Exprs.{ExprFacts, expr_facts}
 use Rattle.lay_code.specs.declared.blocks.Arm.{Arm}
 use Rattle.lay_code.specs.declared.blocks.Block.{Block}
 use Rattle.lay_code.specs.declared.blocks.Branch.{Branch}
 use Rattle.lay_code.specs.declared.blocks.Stmt.{Stmt}
-use Rattle.lay_code.specs.declared.blocks.Stmt.TheOpen.{Expr-F, Stmt-F}
+use Rattle.lay_code.specs.declared.blocks.Stmt.TheOpen.{Expr-F, Link-F, Stmt-F}
 use Rattle.lay_code.specs.declared.blocks.Stmt.TheVariants as stmt
+use Rattle.lay_code.specs.declared.conditions.Condition.{Condition}
+use Rattle.lay_code.specs.declared.conditions.Link.{Link}
+use Rattle.lay_code.specs.declared.conditions.Link.TheVariants as link
 use Rattle.lay_code.specs.declared.exprs.ClosureParam.{ClosureParam}
 use Rattle.lay_code.specs.declared.exprs.Expr.{Expr}
 use Rattle.lay_code.specs.declared.exprs.Expr.TheVariants as expr
@@ -40,8 +43,18 @@ alone_of x = block_of (stmt.Expr [] x false ∷ [])
 abbrev pub ended_then : Expr → Expr → List Stmt
 ended_then x y = stmt.Expr [] x true ∷ stmt.Expr [] y false ∷ []
 
-abbrev pub branch_of : Option Pat → List ℕ → List ℕ → Branch
-branch_of pat condition body = record { pat = pat; condition = name condition; body = alone_of (name body) }
+-- `a`, and `let a = b`
+abbrev pub name_link : List ℕ → Link
+name_link text = link.Expr (name text)
+
+abbrev pub name_let : List ℕ → List ℕ → Link
+name_let text value = link.Let (name_pat text) (name value)
+
+abbrev pub of_links : List Link → Condition
+of_links links = record { links = links }
+
+abbrev pub branch_of : List Link → List ℕ → Branch
+branch_of links body = record { condition = of_links links; body = alone_of (name body) }
 
 abbrev pub arm_of : List ℕ → Expr → Arm
 arm_of text body = record { attrs = []; pat = name_pat text; guard = None; body = body }
@@ -72,7 +85,14 @@ pair_is =
     )
     refl
 
-abbrev laid_expr : Expr → List ℕ
+pub name_link_is : (text : List ℕ) → about_link (name_link text) ≡ link_facts (Link-F.Link::Expr (name_facts text))
+name_link_is text = blocks.link_expr_is (name text) ∙ ap (λ (F : ExprFacts). link_facts (Link-F.Link::Expr F)) (name_is text)
+
+pub name_let_is : (text value : List ℕ) → about_link (name_let text value) ≡ link_facts (Link-F.Link::Let (name_pat text) (name_facts value))
+name_let_is text value =
+    blocks.link_let_is (name_pat text) (name value) ∙ ap (λ (F : ExprFacts). link_facts (Link-F.Link::Let (name_pat text) F)) (name_is value)
+
+abbrev pub laid_expr : Expr → List ℕ
 laid_expr x = laid (record { form = (about_expr x).form; good = true; refuses = [] })
 
 abbrev laid_stmt : Stmt → List ℕ
@@ -113,25 +133,29 @@ laid_async = rw (exprs.expr_async_is true (alone_of (name a)), alone_is a) refl
 
 -- ---- control flow
 
-laid_if : laid_expr (expr.If (branch_of None a b ∷ []) (Some (alone_of (name c)))) ≡ codes "if a { b } else { c }"
+laid_if : laid_expr (expr.If (branch_of (name_link a ∷ []) b ∷ []) (Some (alone_of (name c)))) ≡ codes "if a { b } else { c }"
 laid_if =
     rw (
-      exprs.expr_if_is (branch_of None a b ∷ []) (Some (alone_of (name c))),
-      blocks.branch_is (branch_of None a b),
-      name_is a,
+      exprs.expr_if_is (branch_of (name_link a ∷ []) b ∷ []) (Some (alone_of (name c))),
+      blocks.branch_is (branch_of (name_link a ∷ []) b),
+      blocks.condition_is (of_links (name_link a ∷ [])),
+      name_link_is a,
       alone_is b,
       alone_is c,
     )
     refl
 
-laid_else_if : laid_expr (expr.If (branch_of None a b ∷ branch_of (Some (name_pat c)) a b ∷ []) None)
+laid_else_if : laid_expr (expr.If (branch_of (name_link a ∷ []) b ∷ branch_of (name_let c a ∷ []) b ∷ []) None)
     ≡ codes "if a { b } else if let c = a { b }"
 laid_else_if =
     rw (
-      exprs.expr_if_is (branch_of None a b ∷ branch_of (Some (name_pat c)) a b ∷ []) None,
-      blocks.branch_is (branch_of None a b),
-      blocks.branch_is (branch_of (Some (name_pat c)) a b),
-      name_is a,
+      exprs.expr_if_is (branch_of (name_link a ∷ []) b ∷ branch_of (name_let c a ∷ []) b ∷ []) None,
+      blocks.branch_is (branch_of (name_link a ∷ []) b),
+      blocks.branch_is (branch_of (name_let c a ∷ []) b),
+      blocks.condition_is (of_links (name_link a ∷ [])),
+      blocks.condition_is (of_links (name_let c a ∷ [])),
+      name_link_is a,
+      name_let_is c a,
       alone_is b,
       pats.pat_bind_is false false (named c) None,
     )
@@ -181,11 +205,12 @@ laid_match_block =
 laid_loop : laid_expr (expr.Loop (Some tick_a) (alone_of (name b))) ≡ codes "'a: loop {\n    b\n}"
 laid_loop = rw (exprs.expr_loop_is (Some tick_a) (alone_of (name b)), alone_is b) refl
 
-laid_while_let : laid_expr (expr.While None (Some (name_pat a)) (name b) (alone_of (name c))) ≡ codes "while let a = b {\n    c\n}"
+laid_while_let : laid_expr (expr.While None (of_links (name_let a b ∷ [])) (alone_of (name c))) ≡ codes "while let a = b {\n    c\n}"
 laid_while_let =
     rw (
-      exprs.expr_while_is None (Some (name_pat a)) (name b) (alone_of (name c)),
-      name_is b,
+      exprs.expr_while_is None (of_links (name_let a b ∷ [])) (alone_of (name c)),
+      blocks.condition_is (of_links (name_let a b ∷ [])),
+      name_let_is a b,
       alone_is c,
       pats.pat_bind_is false false (named a) None,
     )

@@ -24,8 +24,9 @@ use Rattle.lay_code.specs.Operands.{expr_lead_at}
 use Rattle.lay_code.specs.Operators.{binary, strength}
 use Rattle.lay_code.specs.nodes.Code.{about_expr, about_stmt}
 use Rattle.lay_code.specs.nodes.Places.{FREE, plain, statement}
-use Rattle.lay_code.specs.reader.Blocks.{arm_body, arm_by, behind_semicolons, block_by, branch_by, condition_by, expr_stmt, let_stmt, stmt_by, stmt_in_block, undressed}
+use Rattle.lay_code.specs.reader.Blocks.{arm_body, arm_by, behind_semicolons, block_by, branch_by, expr_stmt, let_stmt, stmt_by, stmt_in_block, undressed}
 use Rattle.lay_code.specs.reader.Code.{code_in, expr_at, item_at}
+use Rattle.lay_code.specs.reader.Conditions.{condition_by, condition_of, further_links, one_link}
 use Rattle.lay_code.specs.reader.Exprs.{block_word_expr, climb, climb_by, closure_expr, closure_param, expr_by, for_expr, head_by, if_expr, label_expr, match_expr, path_expr, while_expr}
 use Rattle.lay_code.specs.reader.Item.{function_by, item_by, kind_at}
 use Rattle.lay_code.specs.reader.ItemLeads.{item_lead}
@@ -36,7 +37,7 @@ use Rattle.lay_code.specs.declared.item.ItemKind.TheVariants as item
 use Rattle.lay_code.proofs.nodes.BlocksLaws as blocks
 use Rattle.lay_code.proofs.nodes.ExprsLaws as exprs
 use Rattle.lay_code.proofs.nodes.ItemLaws as items
-use Rattle.lay_code.proofs.samples.Blocks.{alone_is, alone_of, arm_of, block_of, branch_of, ended_then, pair_is, param_named}
+use Rattle.lay_code.proofs.samples.Blocks.{alone_is, alone_of, arm_of, block_of, branch_of, ended_then, name_link, of_links, pair_is, param_named}
 use Rattle.lay_code.proofs.samples.ExprHeads.{at_level, reads}
 use Rattle.lay_code.proofs.samples.Exprs.{name, name_is, named_type, tick_a}
 use Rattle.lay_code.proofs.samples.Heads.{fn_of, name_pat, unseen}
@@ -68,6 +69,20 @@ ended_a ts = rw (name_is a, name_is a) refl
 condition_a : (ts : Tokens) → expr_at (plain 0 true) 1 (word a ∷ opens Brace ∷ ts) ≡ Some ((name a, 1), opens Brace ∷ ts)
 unfolding code_in expr_by expr_lead_at binary strength climb op_at path_expr simple_path path chain segment args_by repeat repeat_from word_reading
 condition_a ts = rw (name_is a) refl
+
+-- a link before a block
+link_a : (ts : Tokens) → expr_at (plain 4 true) 1 (word a ∷ opens Brace ∷ ts) ≡ Some ((name a, 1), opens Brace ∷ ts)
+unfolding code_in expr_by expr_lead_at binary strength climb op_at path_expr simple_path path chain segment args_by repeat repeat_from word_reading
+link_a ts = rw (name_is a) refl
+
+-- with which nothing goes on
+ended_link_a : (ts : Tokens) → (at_level 1).goes_on (name a, 1) (opens Brace ∷ ts) ≡ Some ((name a, 1), opens Brace ∷ ts)
+unfolding code_in binary strength climb op_at
+ended_link_a ts = rw (name_is a) refl
+
+one_name : (ts : Tokens) → condition_by (at_level 1) (word a ∷ opens Brace ∷ ts) ≡ Some ((of_links (name_link a ∷ []), 1), opens Brace ∷ ts)
+unfolding condition_by one_link further_links condition_of binary strength op_at repeat repeat_from
+one_name ts = rw (link_a ts, ended_link_a ts) refl
 
 -- ---- statements and blocks
 
@@ -144,15 +159,15 @@ read_pair =
 -- ---- control flow
 
 -- `a{b}`, behind an `if`
-branch_a : (ts : Tokens) → branch_by (at_level 1) (word a ∷ in_braces (word b) ts) ≡ Some ((branch_of None a b, 1), ts)
-unfolding branch_by condition_by
-branch_a ts = rw (condition_a (word b ∷ closes Brace ∷ ts), block_b ts) refl
+branch_a : (ts : Tokens) → branch_by (at_level 1) (word a ∷ in_braces (word b) ts) ≡ Some ((branch_of (name_link a ∷ []) b, 1), ts)
+unfolding branch_by
+branch_a ts = rw (one_name (word b ∷ closes Brace ∷ ts), block_b ts) refl
 
 -- `if a{b}else{a}`
 if_begun : head_by (at_level 1) false
     (expr_lead_at (word (codes "if") ∷ word a ∷ in_braces (word b) (word (codes "else") ∷ in_braces (word a) [])))
     (word (codes "if") ∷ word a ∷ in_braces (word b) (word (codes "else") ∷ in_braces (word a) []))
-    ≡ Some ((expr.If (branch_of None a b ∷ []) (Some (alone_of (name a))), 2), [])
+    ≡ Some ((expr.If (branch_of (name_link a ∷ []) b ∷ []) (Some (alone_of (name a))), 2), [])
 unfolding expr_lead_at block_word_expr if_expr repeat repeat_from
 if_begun = rw (branch_a (word (codes "else") ∷ in_braces (word a) []), block_a []) refl
 
@@ -160,7 +175,7 @@ if_begun = rw (branch_a (word (codes "else") ∷ in_braces (word a) []), block_a
 else_if_begun : head_by (at_level 1) false
     (expr_lead_at (word (codes "if") ∷ word a ∷ in_braces (word b) (word (codes "else") ∷ word (codes "if") ∷ word a ∷ in_braces (word b) [])))
     (word (codes "if") ∷ word a ∷ in_braces (word b) (word (codes "else") ∷ word (codes "if") ∷ word a ∷ in_braces (word b) []))
-    ≡ Some ((expr.If (branch_of None a b ∷ branch_of None a b ∷ []) None, 2), [])
+    ≡ Some ((expr.If (branch_of (name_link a ∷ []) b ∷ branch_of (name_link a ∷ []) b ∷ []) None, 2), [])
 unfolding expr_lead_at block_word_expr if_expr repeat repeat_from
 else_if_begun = rw (branch_a (word (codes "else") ∷ word (codes "if") ∷ word a ∷ in_braces (word b) []), branch_a []) refl
 
@@ -174,9 +189,9 @@ loop_begun = rw (block_b []) refl
 
 -- `while a{b}`
 while_begun : head_by (at_level 1) false (expr_lead_at (word (codes "while") ∷ word a ∷ in_braces (word b) [])) (word (codes "while") ∷ word a ∷ in_braces (word b) [])
-    ≡ Some ((expr.While None None (name a) (alone_of (name b)), 2), [])
-unfolding expr_lead_at block_word_expr while_expr condition_by
-while_begun = rw (condition_a (word b ∷ closes Brace ∷ []), block_b []) refl
+    ≡ Some ((expr.While None (of_links (name_link a ∷ [])) (alone_of (name b)), 2), [])
+unfolding expr_lead_at block_word_expr while_expr
+while_begun = rw (one_name (word b ∷ closes Brace ∷ []), block_b []) refl
 
 -- `for b in a{b}`
 pattern_in : (ts : Tokens) → pat_at Alternatives 1 (word b ∷ word (codes "in") ∷ ts) ≡ Some ((name_pat b, 1), word (codes "in") ∷ ts)

@@ -69,9 +69,10 @@ at_level n = record {
   pats = λ place ts. pat_at place n ts;
   blocks = λ ts. (code_in n).blocks ts;
   items = λ at ts. (code_in n).items at ts;
+  goes_on = λ lhs ts. (code_in n).goes_on lhs ts;
 }
 
-level_is : (n : ℕ) → code_in n ≡ at_level n
+pub level_is : (n : ℕ) → code_in n ≡ at_level n
 unfolding code_in
 level_is zero = refl
 level_is (suc n) = refl
