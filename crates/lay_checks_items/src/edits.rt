@@ -121,7 +121,7 @@ fn items_that_are_put_in_and_taken_out(rt: HostRuntime) -> Result<(), Fail> {
         "struct A;struct B;·replace 1 use a::{b,c,};·whole·remove 0·whole→done·struct A;\nuse a::{b, c};\n·done·use a::{b, c};\n·\
         §struct A;struct B;·insert 0 const C:D=1;·output 0·output 1·whole→done·const C: D = 1;\n·struct A;\n·const C: D = 1;\nstruct A;\nstruct B;\n·\
         §struct A;struct B;·insert 1 fn f(){}·len·whole·tree→done·3·struct A;\nfn f() {}\nstruct B;\n·struct A;\nfn f() {}\nstruct B;\n·\
-        §struct A;struct B;·insert 2 /*c*/a!{};/*c*/·output 2·whole→done·a! {};\n·struct A;\nstruct B;\na! {};\n·\
+        §struct A;struct B;·insert 2 /*c*/a!{}/*c*/·output 2·whole→done·a! {}\n·struct A;\nstruct B;\na! {}\n·\
         §#![a]·insert 0 struct B;·insert 1 struct C;·remove 0·remove 0·len·head·whole·tree→done·done·done·done·0·#![a]\n·#![a]\n·#![a]\n·\
         §#!/bin/x\nstruct A;·replace 0 //!b\nstruct B;·replace 0 ///b\r\nstruct B;·whole·tree→NotOneItem(Shape { shebang: false, attrs: 1, items: 1 })·done·#!/bin/x\n///b\nstruct B;\n·#!/bin/x\n///b\nstruct B;\n·";
     each_is_told(&rt, rt.alloc(), rows)?;
