@@ -7,7 +7,7 @@ use std::alloc::Global;
 
 /// A sink that keeps what is written. A write for which no memory is found keeps nothing, and fails.
 #[derive(Drop)]
-pub(crate) struct Keeper {
+pub struct Keeper {
     bytes: Vec<u8>,
     faults: u64,
 }
@@ -16,7 +16,7 @@ impl Keeper {
     ghost use Rattle.lay_files.specs.Keeping.{kept_by};
 
     /// Nothing is written yet. It takes no memory.
-    pub(crate) fn new(alloc: Global) -> Keeper
+    pub fn new(alloc: Global) -> Keeper
         ensures { kept_by result ≡ [] }
     {
         Keeper {
@@ -26,7 +26,7 @@ impl Keeper {
     }
 
     /// What was written.
-    pub(crate) fn into_list(self) -> List<u8>
+    pub fn into_list(self) -> List<u8>
         ensures { result ≡ kept_by self }
     {
         List::from_vec(self.bytes)

@@ -1,17 +1,17 @@
 //! From bytes to the tree of a file.
-ghost use Rattle.std.specs.Prelude.{◌≡◌, IsTrue, IsUtf8};
+ghost use Rattle.std.specs.Prelude.{◌≡◌, IfOk, IsTrue, IsUtf8};
 ghost use Rattle.std.specs.Str.{IsCharBoundary};
 ghost use Rattle.lay_lex.specs.Source.{seen};
 ghost use Rattle.lay_code.specs.Reading.{top};
 ghost use Rattle.lay_code.specs.Written.{is_good_shebang};
-ghost use Rattle.lay_files.specs.Places.{number_of};
+ghost use Rattle.lay_files.specs.Places.{number_of, place_in};
 ghost use Rattle.lay_files.specs.Readings.{ReadAs, ReadsAs, placed_in};
 
 use lay_code::File;
 use lay_lex::{Source, lex, normalise};
 use lay_nest::nest;
 use lay_read_tokens::ReadNone;
-use lay_token::{FormatError, Place2, Refusal, place_of};
+use lay_token::{FormatError, NoMemory, Place2, Refusal, place_of};
 use lay_windows::read_source;
 use std::alloc::Global;
 
@@ -92,6 +92,17 @@ pub(crate) fn placed(error: FormatError, text: &[u8]) -> FileError
             place: place_of(text, number(refusal)),
         },
         FormatError::NoMemory => FileError::NoMemory,
+    }
+}
+
+/// The place at which these bytes have this refusal, as [`read_bytes`] tells it.
+pub fn refused_at(alloc: Global, bytes: &[u8], refusal: Refusal) -> Result<Place2, NoMemory>
+    ensures { IfOk result (λ place. place ≡ place_in bytes.now refusal) }
+{
+    match normalise(alloc, bytes) {
+        Ok(source) => Ok(place_of(source.text.as_slice(), number(refusal))),
+        Err(FormatError::Refused(_)) => Ok(place_of(bytes, number(refusal))),
+        Err(FormatError::NoMemory) => Err(NoMemory),
     }
 }
 
