@@ -5,15 +5,17 @@ use crate::made::node;
 use lay_token::{List, NoMemory};
 use lay_tree::{Branch, Expr, Link};
 use std::alloc::Global;
+use std::mem;
 use std::test::Fail;
 
 /// The branches of an expression that has some.
 fn branches(alloc: Global, text: &str) -> Option<List<Branch>> {
-    match node(alloc, "", text)?.into_inner() {
+    let mut expr = node(alloc, "", text)?.into_inner();
+    match &mut expr {
         Expr::If {
             branches,
             otherwise: _,
-        } => Some(branches),
+        } => Some(mem::replace(branches, List::new(alloc))),
         _ => None,
     }
 }
@@ -28,7 +30,8 @@ fn kinds(alloc: Global, text: &str) -> Result<String, NoMemory> {
         return Ok(kinds);
     };
     let (condition, _) = branch.into_parts();
-    for link in condition.into_links().into_vec() {
+    let links = condition.into_links();
+    for link in links.as_slice() {
         let kind = match link {
             Link::Expr { expr: _ } => "expression",
             Link::Let { pat: _, value: _ } => "let",
