@@ -5,12 +5,13 @@
 //! [`read_bytes`] gives the one file that bytes read to, or their refusal and its place, and [`read_within`] the same for
 //! files of a depth. [`write_file`] writes the text of
 //! a file's layout to a sink, and [`text_of`] gives it as one text. [`format_bytes`] goes from bytes to a text without a tree of the
-//! whole file. Which bytes read to which file, and what a file's text
+//! whole file. [`refused_at`] tells the place of a refusal to those who keep the bytes alone. Which bytes read to which file, and what a file's text
 //! is, is defined in `lay_code`.
-mod keep;
+pub mod keep;
 pub mod reading;
 mod through;
 mod writing;
-pub use reading::{DEPTH, FileError, read_bytes, read_within};
+pub use keep::Keeper;
+pub use reading::{DEPTH, FileError, read_bytes, read_within, refused_at};
 pub use through::format_bytes;
 pub use writing::{text_of, write_file};

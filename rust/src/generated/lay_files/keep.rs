@@ -6,17 +6,17 @@ use crate::generated::lay_io::{Failed, Sink};
 use crate::generated::lay_token::List;
 use crate::shims::Global;
 /// A sink that keeps what is written. A write for which no memory is found keeps nothing, and fails.
-pub(crate) struct Keeper {
+pub struct Keeper {
     bytes: Vec<u8>,
     faults: u64,
 }
 impl Keeper {
     /// Nothing is written yet. It takes no memory.
-    pub(crate) fn new(alloc: Global) -> Keeper {
+    pub fn new(alloc: Global) -> Keeper {
         Keeper { bytes: Vec::new(alloc), faults: 0 }
     }
     /// What was written.
-    pub(crate) fn into_list(self) -> List<u8> {
+    pub fn into_list(self) -> List<u8> {
         List::from_vec(self.bytes)
     }
 }

@@ -5,7 +5,7 @@ use crate::generated::lay_code::File;
 use crate::generated::lay_lex::{Source, lex, normalise};
 use crate::generated::lay_nest::nest;
 use crate::generated::lay_read_tokens::ReadNone;
-use crate::generated::lay_token::{FormatError, Place2, Refusal, place_of};
+use crate::generated::lay_token::{FormatError, NoMemory, Place2, Refusal, place_of};
 use crate::generated::lay_windows::read_source;
 use crate::shims::Global;
 /// Why bytes read to no file.
@@ -78,6 +78,18 @@ pub(crate) fn placed(error: FormatError, text: &[u8]) -> FileError {
             FileError::Refused { refusal, place: place_of(text, number(refusal)) }
         }
         FormatError::NoMemory => FileError::NoMemory,
+    }
+}
+/// The place at which these bytes have this refusal, as [`read_bytes`] tells it.
+pub fn refused_at(
+    alloc: Global,
+    bytes: &[u8],
+    refusal: Refusal,
+) -> Result<Place2, NoMemory> {
+    match normalise(alloc, bytes) {
+        Ok(source) => Ok(place_of(source.text.as_slice(), number(refusal))),
+        Err(FormatError::Refused(_)) => Ok(place_of(bytes, number(refusal))),
+        Err(FormatError::NoMemory) => Err(NoMemory),
     }
 }
 /// The number of the byte at which an input is refused.
