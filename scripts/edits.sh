@@ -32,7 +32,7 @@ use std::time::Instant;
 const EDITS: usize = 1_000;
 
 /// The item that is put in.
-const ITEM: &[u8] = b"#[repr(C)]pub struct point_t{pub x:::std::os::raw::c_int,pub name:[u8;64usize]}";
+const ITEM: &[u8] = b"#[repr(C)]pub struct point_t{pub x: ::std::os::raw::c_int,pub name:[u8;64usize]}";
 
 /// A place below a count that another turn seldom has, or 0 where that is 0.
 fn place(turn: usize, count: usize) -> usize {
