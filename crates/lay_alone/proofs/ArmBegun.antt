@@ -27,10 +27,11 @@ use Rattle.lay_node.proofs.reader.PatternsFronts.{Fits}
 use Rattle.lay_node.proofs.reader.TypesCompleteParts.{keyword_there, one_left}
 use Rattle.lay_node.proofs.reader.TypesSoundParts.{Out, bit_texts, if_read_sound}
 use Rattle.lay_code.specs.Operators.{is_dot_or_try}
-use Rattle.lay_code.specs.nodes.Blocks.{braces_of, guard_form, is_free, is_lone_body}
+use Rattle.lay_code.specs.nodes.Bodies.{braces_of, is_lone_body, is_macro}
+use Rattle.lay_code.specs.nodes.Blocks.{guard_form, is_free}
 use Rattle.lay_code.specs.nodes.Code.{about_arm, about_expr}
 use Rattle.lay_code.specs.nodes.CodeFacts.{ArmFacts}
-use Rattle.lay_code.specs.nodes.Exprs.{ExprFacts, follows, is_macro, placed, value_placed}
+use Rattle.lay_code.specs.nodes.Exprs.{ExprFacts, follows, placed, value_placed}
 use Rattle.lay_code.specs.nodes.Places.{FREE, statement}
 use Rattle.lay_code.specs.reader.Blocks.{arm_body, arm_by, arm_end, body_need, undressed}
 use Rattle.lay_code.specs.reader.Within.{ExprWithin}

@@ -10,10 +10,11 @@ use Rattle.lay_node.specs.Ahead.{Tokens}
 use Rattle.lay_node.proofs.Fronts.{one_shorter}
 use Rattle.lay_node.proofs.Parts.{Rows, SpelledAt, Closed, bit_alone, body_spelled}
 use Rattle.lay_code.specs.Operators.{is_dot_or_try}
-use Rattle.lay_code.specs.nodes.Blocks.{block_facts, braces_of, dropped, is_free, is_lone_body, stmt_facts}
+use Rattle.lay_code.specs.nodes.Bodies.{BlockBody, BodyKind, MacroBody, OtherBody, braces_of, is_lone_body, is_macro}
+use Rattle.lay_code.specs.nodes.Blocks.{block_facts, dropped, is_free, stmt_facts}
 use Rattle.lay_code.specs.nodes.Code.{about_expr}
 use Rattle.lay_code.specs.nodes.CodeFacts.{BlockFacts, StmtFacts}
-use Rattle.lay_code.specs.nodes.Exprs.{BodyKind, MacroBody, BlockBody, OtherBody, ExprFacts, expr_facts, follows, is_macro, placed}
+use Rattle.lay_code.specs.nodes.Exprs.{ExprFacts, expr_facts, follows, placed}
 use Rattle.lay_code.specs.nodes.Places.{statement}
 use Rattle.lay_code.specs.reader.Blocks.{undressed}
 use Rattle.lay_code.specs.declared.blocks.Stmt.TheOpen.{Expr-F, Stmt-F}

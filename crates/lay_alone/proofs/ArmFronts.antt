@@ -12,7 +12,7 @@ use Rattle.lay_node.proofs.Steps.{bind_some, chosen, same_some}
 use Rattle.lay_node.proofs.reader.Exact.{IsRead, one_by_reading}
 use Rattle.lay_node.proofs.reader.TypesCompleteKinds.{inner_of}
 use Rattle.lay_node.proofs.reader.TypesSoundParts.{Out, bit_texts}
-use Rattle.lay_code.specs.nodes.Blocks.{braces_of}
+use Rattle.lay_code.specs.nodes.Bodies.{braces_of}
 use Rattle.lay_code.specs.nodes.Code.{about_arm, about_expr}
 use Rattle.lay_code.specs.reader.Code.{code_in}
 use Rattle.lay_code.specs.reader.Within.{ExprWithin}

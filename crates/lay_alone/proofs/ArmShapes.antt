@@ -14,7 +14,8 @@ use Rattle.lay_node.proofs.Parts.{Closed, before_blank, behind_attrs_rows, behin
 use Rattle.lay_node.proofs.reader.Attr.{attrs_rows}
 use Rattle.lay_node.proofs.reader.AttrRead.{attributes_complete}
 use Rattle.lay_node.proofs.reader.TypesCompleteKinds.{inner_of}
-use Rattle.lay_code.specs.nodes.Blocks.{guard_form, is_lone_body}
+use Rattle.lay_code.specs.nodes.Bodies.{is_lone_body}
+use Rattle.lay_code.specs.nodes.Blocks.{guard_form}
 use Rattle.lay_code.specs.nodes.Code.{about_arm, about_expr}
 use Rattle.lay_code.specs.nodes.CodeFacts.{ArmFacts}
 use Rattle.lay_code.specs.nodes.Exprs.{placed, value_placed}

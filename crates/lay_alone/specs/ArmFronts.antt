@@ -13,7 +13,8 @@ use Rattle.lay_node.specs.reader.Loops.{Read, ◌>>=◌}
 use Rattle.lay_node.specs.reader.Types.{if_read}
 use Rattle.lay_node.specs.declared.patterns.PatPlace.TheVariants.{Alternatives}
 use Rattle.lay_code.specs.Operators.{is_dot_or_try}
-use Rattle.lay_code.specs.nodes.Blocks.{braces_of, guard_form, is_free, is_lone_body}
+use Rattle.lay_code.specs.nodes.Bodies.{braces_of, is_lone_body}
+use Rattle.lay_code.specs.nodes.Blocks.{guard_form, is_free}
 use Rattle.lay_code.specs.nodes.Code.{about_arm, about_expr}
 use Rattle.lay_code.specs.nodes.Exprs.{ExprFacts, follows}
 use Rattle.lay_code.specs.nodes.Places.{FREE, statement}

@@ -2,6 +2,7 @@
 pub mod Places
 pub mod PlacesTable
 pub mod CodeFacts
+pub mod Bodies
 pub mod Ends
 pub mod Layers
 pub mod Parts

@@ -1,6 +1,6 @@
 -- A pair of braces around the body of an arm that isn't in the tree.
 use Rattle.std.proofs.Common.{◌≡◌, ℕ, zero, suc, true, false, List, [], ◌∷◌, ◌++◌, length, map, Some, None, refl, sym, ap, ◌∙◌}
-use Rattle.lay_code.specs.nodes.Blocks.{is_lone_body}
+use Rattle.lay_code.specs.nodes.Bodies.{is_lone_body}
 use Rattle.lay_code.specs.nodes.Code.{about_expr}
 use Rattle.lay_code.specs.nodes.Parts.{block_of, expr_of}
 use Rattle.lay_code.specs.reader.Blocks.{block_held, bare_by, undressed}

@@ -1,6 +1,6 @@
 -- The braces around the body of an arm that aren't in the tree, in code.
 use Rattle.std.specs.Prelude.{ℕ, ◌≡◌, false, [], ◌∷◌, Option, Some, None}
-use Rattle.lay_code.specs.nodes.Blocks.{is_lone_body}
+use Rattle.lay_code.specs.nodes.Bodies.{is_lone_body}
 use Rattle.lay_code.specs.nodes.Code.{about_expr}
 use Rattle.lay_code.specs.reader.Blocks.{undressed}
 use Rattle.lay_code.specs.declared.blocks.Stmt.TheVariants as stmt

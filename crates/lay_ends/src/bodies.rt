@@ -1,6 +1,6 @@
 //! The braces around the body of an arm that aren't in the tree.
 ghost use Rattle.std.specs.Prelude.{ℕ, ◌≡◌, true};
-ghost use Rattle.lay_code.specs.nodes.Blocks.{is_lone_body};
+ghost use Rattle.lay_code.specs.nodes.Bodies.{is_lone_body};
 ghost use Rattle.lay_code.specs.nodes.Code.{about_expr};
 ghost use Rattle.lay_ends.specs.Bodies.{IsAround, IsBare};
 

@@ -1,4 +1,5 @@
 pub mod AnywaySamples
+pub mod BracedEnds
 pub mod FormLaws
 pub mod Samples
 pub mod StreamLaws

@@ -1,6 +1,7 @@
 pub mod Form
 pub mod Notation
 pub mod Spelled
+pub mod BracedEnds
 pub mod LastParts
 pub mod Depth
 pub mod Layout

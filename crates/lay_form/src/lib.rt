@@ -3,12 +3,14 @@
 //! A `Form` lists the parts of a node in order: words, tokens of the tree, breaks, groups, lists in delimiters. From it
 //! follow the tokens that spell the node at a depth (`Spelled`), its document (`Layout`) and the stream that a printer is
 //! fed (`Stream`), the depth that it needs (`Depth`), and whether its tokens are pieces of their kinds (`Pieces`).
+//! `BracedEnds` tells what ends within braces that aren't in the tree.
 //! `Notation` builds lists, bodies, fields and braces of forms, and `LastParts` says what may follow a last part that may
 //! be left out. A form knows nothing of trees: each node has its form in `lay_node` or `lay_code`. [`form_law`] says
 //! what holds of all of them.
 #![tactic(auto)]
 
 ghost use Rattle.std.specs.Prelude.{◌≡◌, ◌≤◌, ℕ, List};
+ghost use Rattle.lay_form.specs.BracedEnds.{EndsBraced};
 ghost use Rattle.lay_form.specs.Depth.{least_depth};
 ghost use Rattle.lay_form.specs.Form.{Form};
 ghost use Rattle.lay_form.specs.Layout.{document};
@@ -18,11 +20,15 @@ ghost use Rattle.lay_layout.specs.Document.{stream};
 ghost use Rattle.lay_token.specs.declared.token.Token.{Token};
 
 /// The laws of forms. A form is spelled at no depth below its least, and what is spelled at a depth is spelled at each
-/// greater one. The stream of a form is that of its document.
+/// greater one. What ends within braces that aren't in the tree is spelled so, and at each greater depth too. The stream
+/// of a form is that of its document.
 pub fn form_law()
     ensures least { (f : Form) (depth : ℕ) (ts rest : List Token)
         → Spells f depth ts rest → least_depth f ≤ depth }
     ensures deeper { (f : Form) (depth more : ℕ) (ts rest : List Token)
         → depth ≤ more → Spells f depth ts rest → Spells f more ts rest }
+    ensures braced { (f : Form) (depth : ℕ) (ts rest : List Token) → EndsBraced f depth ts rest → Spells f depth ts rest }
+    ensures braced_deeper { (f : Form) (depth more : ℕ) (ts rest : List Token)
+        → depth ≤ more → EndsBraced f depth ts rest → EndsBraced f more ts rest }
     ensures stream { (f : Form) → stream (document f) ≡ stream_of f }
 {}

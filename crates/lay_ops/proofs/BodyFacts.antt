@@ -2,10 +2,10 @@
 use Rattle.std.proofs.Common.{◌≡◌, ◌&&◌, ◌||◌, Bool, true, false, not, List, [], ◌∷◌, map, Option, Some, None, is_some, refl, sym, ap, ◌∙◌}
 use Rattle.lay_node.specs.declared.attr.Attr.{Attr}
 use Rattle.lay_node.specs.declared.token.Lifetime.{Lifetime}
-use Rattle.lay_code.specs.nodes.Blocks.{is_lone, is_lone_body, is_plain}
+use Rattle.lay_code.specs.nodes.Bodies.{BlockBody, BodyKind, MacroBody, OtherBody, is_lone_body, is_macro}
+use Rattle.lay_code.specs.nodes.Blocks.{is_lone, is_plain}
 use Rattle.lay_code.specs.nodes.Code.{about_block, about_expr, about_stmt, told_of_item, told_of_kind}
 use Rattle.lay_code.specs.nodes.CodeFacts.{ItemFacts}
-use Rattle.lay_code.specs.nodes.Exprs.{BodyKind, MacroBody, BlockBody, OtherBody, is_macro}
 use Rattle.lay_code.specs.nodes.Layers.{ExprNode, KindNode, StmtNode}
 use Rattle.lay_code.specs.declared.blocks.Block.{Block}
 use Rattle.lay_code.specs.declared.blocks.Stmt.{Stmt}

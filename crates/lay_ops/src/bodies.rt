@@ -1,8 +1,8 @@
 //! What is told of blocks, statements and items by their roots.
 ghost use Rattle.std.specs.Prelude.{◌≡◌, ◌&&◌, not, is_some};
 ghost use Rattle.lay_ops.specs.RootFacts.{lone_in};
-ghost use Rattle.lay_code.specs.nodes.Blocks.{is_lone_body, is_plain};
-ghost use Rattle.lay_code.specs.nodes.Exprs.{is_macro};
+ghost use Rattle.lay_code.specs.nodes.Bodies.{is_lone_body, is_macro};
+ghost use Rattle.lay_code.specs.nodes.Blocks.{is_plain};
 ghost use Rattle.lay_code.specs.nodes.Code.{about_block, about_expr, about_stmt, told_of_item};
 
 use crate::roots::{is_block_like, is_macro};

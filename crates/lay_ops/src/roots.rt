@@ -3,7 +3,8 @@ ghost use Rattle.std.specs.Prelude.{◌≡◌, map};
 ghost use Rattle.lay_node.specs.nodes.Types.{about_type};
 ghost use Rattle.lay_code.specs.nodes.Code.{about_expr};
 ghost use Rattle.lay_code.specs.nodes.Blocks.{is_free};
-ghost use Rattle.lay_code.specs.nodes.Exprs.{is_brace, is_macro, lacks_args, type_refuses};
+ghost use Rattle.lay_code.specs.nodes.Bodies.{is_macro};
+ghost use Rattle.lay_code.specs.nodes.Exprs.{is_brace, lacks_args, type_refuses};
 ghost use Rattle.lay_ops.specs.RootFacts.{first_level};
 
 use crate::operators::op_level;

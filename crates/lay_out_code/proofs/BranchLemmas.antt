@@ -17,7 +17,8 @@ use Rattle.lay_node.specs.declared.patterns.Pat.{Pat}
 use Rattle.lay_node.specs.declared.patterns.PatPlace.TheVariants.{Alternatives}
 use Rattle.lay_node.specs.declared.token.Lifetime.{Lifetime}
 use Rattle.lay_node.specs.declared.types.Ty.{Ty}
-use Rattle.lay_code.specs.nodes.Blocks.{braces_of, guard_form, is_free}
+use Rattle.lay_code.specs.nodes.Bodies.{braces_of}
+use Rattle.lay_code.specs.nodes.Blocks.{guard_form, is_free}
 use Rattle.lay_code.specs.nodes.Code.{about_arm, about_block, about_branch, about_condition, about_expr}
 use Rattle.lay_code.specs.nodes.CodeFacts.{ArmFacts, BlockFacts, BranchFacts}
 use Rattle.lay_code.specs.nodes.Exprs.{ExprFacts, arm_forms, bar, behind_async, branches_form, closure_head, closure_param, else_branch_form, labelled, more_branches}

@@ -14,7 +14,8 @@ use Rattle.lay_node.specs.declared.attr.Attr.{Attr}
 use Rattle.lay_node.specs.declared.token.Lifetime.{Lifetime}
 use Rattle.lay_node.specs.declared.tokens.MacroCall.{MacroCall}
 use Rattle.lay_node.specs.declared.types.Ty.{Ty}
-use Rattle.lay_code.specs.nodes.Blocks.{braces_of, is_plain, is_single}
+use Rattle.lay_code.specs.nodes.Bodies.{braces_of}
+use Rattle.lay_code.specs.nodes.Blocks.{is_plain, is_single}
 use Rattle.lay_code.specs.nodes.Code.{about_expr, about_stmt}
 use Rattle.lay_code.specs.nodes.CodeFacts.{StmtFacts}
 use Rattle.lay_code.specs.nodes.Exprs.{ExprFacts, bar, behind_async, closure_head, closure_param, labelled}

@@ -1,7 +1,7 @@
 //! What stands round the bodies of arms.
 ghost use Rattle.std.specs.Prelude.{◌≡◌, OnOk};
 ghost use Rattle.lay_layout.specs.Machine.{IsNested};
-ghost use Rattle.lay_code.specs.nodes.Blocks.{braces_of};
+ghost use Rattle.lay_code.specs.nodes.Bodies.{braces_of};
 ghost use Rattle.lay_code.specs.nodes.Code.{about_expr};
 ghost use Rattle.lay_out_types.specs.Calls.{Adds};
 ghost use Rattle.lay_out_exprs.specs.Arms.{arm_closed, arm_opened, seen_as};

@@ -15,7 +15,7 @@ use Rattle.lay_node.specs.declared.types.TypePlace.TheVariants.{Bounds}
 use Rattle.lay_node.proofs.Steps.{same_some, chosen, bind_some}
 use Rattle.lay_code.specs.Operands.{ByBrace, expr_lead_at}
 use Rattle.lay_code.specs.Operators.{begins_step, strength}
-use Rattle.lay_code.specs.nodes.Blocks.{is_lone_body}
+use Rattle.lay_code.specs.nodes.Bodies.{is_lone_body}
 use Rattle.lay_code.specs.nodes.Code.{about_expr, about_stmt, told_of_item}
 use Rattle.lay_code.specs.nodes.Exprs.{ExprFacts, root_follows, stands}
 use Rattle.lay_code.specs.nodes.Layers.{ExprNode, StmtNode}

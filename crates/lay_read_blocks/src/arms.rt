@@ -2,7 +2,7 @@
 ghost use Rattle.std.specs.Prelude.{ℕ, ◌≡◌, ◌+◌, ◌^◌, ◌<◌, ◌≤◌, codes, if◌then◌else◌, Some, None, IfOk};
 ghost use Rattle.lay_node.specs.Ahead.{first, is_keyword, tail};
 ghost use Rattle.lay_node.specs.reader.Types.{if_read};
-ghost use Rattle.lay_code.specs.nodes.Blocks.{is_lone_body};
+ghost use Rattle.lay_code.specs.nodes.Bodies.{is_lone_body};
 ghost use Rattle.lay_code.specs.nodes.Code.{about_expr};
 ghost use Rattle.lay_code.specs.nodes.Places.{FREE as free};
 ghost use Rattle.lay_code.specs.reader.Blocks as reader;

@@ -29,7 +29,8 @@ use Rattle.lay_node.proofs.reader.PatternsBegins.{bar, starts}
 use Rattle.lay_node.proofs.reader.TypesBegins.{opened}
 use Rattle.lay_node.proofs.reader.TypesCompleteParts.{attrs_front, param_attrs_rows}
 use Rattle.lay_node.proofs.reader.TypesFronts.{op_first}
-use Rattle.lay_code.specs.nodes.Blocks.{braces_of, guard_form, is_free, is_lone_body}
+use Rattle.lay_code.specs.nodes.Bodies.{braces_of, is_lone_body}
+use Rattle.lay_code.specs.nodes.Blocks.{guard_form, is_free}
 use Rattle.lay_code.specs.nodes.Code.{about_arm, about_expr}
 use Rattle.lay_code.specs.nodes.CodeFacts.{ArmFacts}
 use Rattle.lay_code.specs.nodes.Exprs.{closure_param, is_closure_param, placed, value_placed}

@@ -23,10 +23,11 @@ use Rattle.lay_node.proofs.reader.Exact.{IsRead}
 use Rattle.lay_node.proofs.reader.Loops.{Turn}
 use Rattle.lay_node.proofs.reader.PatternsFronts.{Fits}
 use Rattle.lay_node.proofs.reader.TypesCompleteParts.{keyword_there, one_left}
-use Rattle.lay_code.specs.nodes.Blocks.{block_facts, braces_of, dropped, guard_form, is_free, is_lone_body, stmt_facts}
+use Rattle.lay_code.specs.nodes.Bodies.{BlockBody, BodyKind, MacroBody, OtherBody, braces_of, is_lone_body, is_macro}
+use Rattle.lay_code.specs.nodes.Blocks.{block_facts, dropped, guard_form, is_free, stmt_facts}
 use Rattle.lay_code.specs.nodes.Code.{about_arm, about_expr}
 use Rattle.lay_code.specs.nodes.CodeFacts.{ArmFacts, BlockFacts, StmtFacts}
-use Rattle.lay_code.specs.nodes.Exprs.{BodyKind, MacroBody, BlockBody, OtherBody, ExprFacts, arm_forms, arms_good, expr_facts, follows, is_macro, placed, value_placed}
+use Rattle.lay_code.specs.nodes.Exprs.{ExprFacts, arm_forms, arms_good, expr_facts, follows, placed, value_placed}
 use Rattle.lay_code.specs.nodes.Places.{FREE, statement}
 use Rattle.lay_code.specs.reader.Blocks.{arm_body, arm_by, arm_end, body_need, undressed}
 use Rattle.lay_code.specs.reader.Within.{ExprWithin}

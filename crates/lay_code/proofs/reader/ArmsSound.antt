@@ -23,7 +23,8 @@ use Rattle.lay_node.proofs.Steps.{bind_some, chosen, same_some}
 use Rattle.lay_node.proofs.reader.Attr.{attributes_sound, attrs_spelled}
 use Rattle.lay_node.proofs.reader.Loops.{repeat_sound}
 use Rattle.lay_node.proofs.reader.TypesSoundParts.{Out, bit_texts, if_read_sound}
-use Rattle.lay_code.specs.nodes.Blocks.{arm_facts, arm_form, braces_of, guard_form, is_free, is_lone_body}
+use Rattle.lay_code.specs.nodes.Bodies.{braces_of, is_lone_body}
+use Rattle.lay_code.specs.nodes.Blocks.{arm_facts, arm_form, guard_form, is_free}
 use Rattle.lay_code.specs.nodes.Code.{about_arm, about_expr}
 use Rattle.lay_code.specs.nodes.CodeFacts.{ArmFacts}
 use Rattle.lay_code.specs.nodes.Exprs.{ExprFacts, arm_forms, arms_good, inside as inside_of, placed, value_placed}

@@ -9,10 +9,11 @@ use Rattle.lay_form.proofs.FormLaws.{semicolons_end}
 use Rattle.lay_node.specs.Ahead.{Tokens}
 use Rattle.lay_node.proofs.Fronts.{end_shorter, one_shorter}
 use Rattle.lay_node.proofs.Parts.{bit_alone, piece_bit}
-use Rattle.lay_code.specs.nodes.Blocks.{block_facts, braces_of, is_lone_body, is_plain, stmt_facts}
+use Rattle.lay_code.specs.nodes.Bodies.{BlockBody, BodyKind, MacroBody, OtherBody, braces_of, is_lone_body, is_macro}
+use Rattle.lay_code.specs.nodes.Blocks.{block_facts, is_plain, stmt_facts}
 use Rattle.lay_code.specs.nodes.Code.{about_arm, about_block, about_branch, about_condition, about_expr, about_field_expr, about_step, about_stmt}
 use Rattle.lay_code.specs.nodes.CodeFacts.{BlockFacts, StmtFacts}
-use Rattle.lay_code.specs.nodes.Exprs.{BodyKind, BlockBody, ExprFacts, ExprLayer, MacroBody, OtherBody, body_kind, expr_facts, is_macro, placed}
+use Rattle.lay_code.specs.nodes.Exprs.{ExprFacts, ExprLayer, body_kind, expr_facts, placed}
 use Rattle.lay_code.specs.nodes.Places.{statement}
 use Rattle.lay_code.specs.reader.Blocks.{undressed}
 use Rattle.lay_code.specs.declared.blocks.Block.{Block}

@@ -29,7 +29,8 @@ use Rattle.lay_node.proofs.reader.TypesCompleteParts.{attrs_front, param_attrs_r
 use Rattle.lay_node.proofs.reader.TypesFronts.{no_other_op, op_first}
 use Rattle.lay_code.specs.Operands.{ExprLead, ByClosure, expr_lead_at}
 use Rattle.lay_code.specs.Operators.{is_dot_or_try}
-use Rattle.lay_code.specs.nodes.Blocks.{braces_of, ended_form, guard_form, is_free}
+use Rattle.lay_code.specs.nodes.Bodies.{braces_of}
+use Rattle.lay_code.specs.nodes.Blocks.{ended_form, guard_form, is_free}
 use Rattle.lay_code.specs.nodes.Code.{about_arm, about_expr, about_item, about_stmt, told_of_item}
 use Rattle.lay_code.specs.nodes.CodeFacts.{ArmFacts, StmtFacts}
 use Rattle.lay_code.specs.nodes.Exprs.{closure_param, is_closure_param, placed}

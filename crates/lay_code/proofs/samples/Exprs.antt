@@ -20,7 +20,8 @@ use Rattle.lay_node.proofs.samples.Trees.{named, plain, a, b, c, laid}
 use Rattle.lay_node.proofs.samples.Types.{C, local, local_facts, local_is, named_is}
 use Rattle.lay_code.specs.Operands.{ByPath}
 use Rattle.lay_code.specs.nodes.Code.{about_expr, about_step}
-use Rattle.lay_code.specs.nodes.Exprs.{ExprFacts, expr_facts, step_facts, is_raw_word, shut_by, OtherBody}
+use Rattle.lay_code.specs.nodes.Bodies.{OtherBody}
+use Rattle.lay_code.specs.nodes.Exprs.{ExprFacts, expr_facts, step_facts, is_raw_word, shut_by}
 use Rattle.lay_code.specs.declared.exprs.Expr.{Expr}
 use Rattle.lay_code.specs.declared.blocks.Stmt.TheOpen.{Expr-F, Step-F}
 use Rattle.lay_code.specs.declared.exprs.Expr.TheVariants as expr

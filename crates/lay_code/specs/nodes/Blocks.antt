@@ -1,6 +1,7 @@
 -- Blocks, statements, branches and the arms of a match (Rust Reference, "Statements and expressions").
 use Rattle.std.specs.Prelude.{◌==◌, ◌&&◌, ◌||◌, not, Bool, true, false, if◌then◌else◌, List, [], ◌∷◌, ◌++◌, map, codes, Option, Some, None}
-use Rattle.lay_form.specs.Form.{Blank, Operator, Semicolons, Braces, Bare, Unseen, Marked, ArmComma, Form, Done, Piece, Part, Deeper, Body, keyword, semicolon, Bit}
+use Rattle.std.specs.List.{list_all}
+use Rattle.lay_form.specs.Form.{Blank, Operator, Semicolons, ArmComma, Form, Done, Piece, Part, Deeper, Body, keyword, semicolon, Bit}
 use Rattle.lay_form.specs.Notation.{N, I0, piece, body, soft, behind_attrs}
 use Rattle.lay_node.specs.nodes.Attr.{are_attrs, attr_form}
 use Rattle.lay_node.specs.nodes.Fields.{blank_if}
@@ -14,7 +15,8 @@ use Rattle.lay_node.specs.declared.patterns.PatPlace.TheVariants.{Alternatives, 
 use Rattle.lay_node.specs.declared.types.Ty.{Ty}
 use Rattle.lay_code.specs.nodes.CodeFacts.{ArmFacts, BlockFacts, BranchFacts, StmtFacts}
 use Rattle.lay_code.specs.nodes.Ends.{ends_in_brace}
-use Rattle.lay_code.specs.nodes.Exprs.{ExprFacts, value_form, value_placed, placed, BodyKind, MacroBody, BlockBody, OtherBody, is_macro, ArmLayer, BlockLayer, BranchLayer, StmtLayer}
+use Rattle.lay_code.specs.nodes.Bodies.{braces_of, is_lone_body, is_macro}
+use Rattle.lay_code.specs.nodes.Exprs.{ExprFacts, value_form, value_placed, placed, ArmLayer, BlockLayer, BranchLayer, StmtLayer}
 use Rattle.lay_code.specs.nodes.Places.{statement}
 use Rattle.lay_code.specs.declared.blocks.Stmt.TheOpen.{Stmt-F}
 
@@ -62,6 +64,7 @@ stmt_facts (Stmt-F.Stmt::Let attrs pat ty x otherwise) = record {
   ends = true;
   bare = false;
   call = false;
+  structless = true;
 }
 stmt_facts (Stmt-F.Item item) = record {
   form = item.form;
@@ -70,6 +73,7 @@ stmt_facts (Stmt-F.Item item) = record {
   ends = true;
   bare = false;
   call = false;
+  structless = true;
 }
 stmt_facts (Stmt-F.Stmt::Expr attrs x ended) = record {
   form = behind_attrs (map attr_form attrs) (Part x.form (ended_form ended));
@@ -78,6 +82,7 @@ stmt_facts (Stmt-F.Stmt::Expr attrs x ended) = record {
   ends = ended || x.block_like;
   bare = is_plain attrs && not ended;
   call = is_macro x.kind;
+  structless = x.structless;
 }
 
 -- ---- blocks
@@ -122,12 +127,16 @@ abbrev pub is_lone : List Attr → List StmtFacts → Bool
 is_lone [] (s ∷ []) = s.bare && not s.call
 is_lone _ _ = false
 
+abbrev pub stmts_structless : List StmtFacts → Bool
+stmts_structless stmts = list_all (λ (s : StmtFacts). s.structless) stmts
+
 abbrev pub block_facts : BlockLayer → BlockFacts
 block_facts b = record {
   form = block_form b.attrs b.stmts;
   soft = soft_form b.attrs b.stmts;
   good = are_attrs true b.attrs && stmts_good b.stmts;
   lone = is_lone b.attrs b.stmts;
+  structless = stmts_structless b.stmts;
 }
 
 -- ---- branches and arms
@@ -138,11 +147,6 @@ branch_facts b = record {
   soft = b.body.soft;
   good = b.condition.good && b.body.good;
 }
-
-abbrev pub braces_of : BodyKind → Braces
-braces_of MacroBody = Bare
-braces_of (BlockBody lone) = Unseen
-braces_of OtherBody = Marked
 
 -- Behind such a body the comma of an arm may be left out.
 abbrev pub is_free : ExprFacts → Bool
@@ -156,10 +160,6 @@ abbrev pub arm_form : List Attr → Pat → Option ExprFacts → ExprFacts → B
 arm_form attrs pat guard x last = behind_attrs (map attr_form attrs)
     (I0 (Part (pat_form Alternatives (about_pat pat)) (guard_form guard))
     (Piece (Blank ∷ Operator (codes "=>") ∷ Blank ∷ []) (N (Body (braces_of x.kind) (ArmComma last (is_free x)) x.form Done))))
-
-abbrev pub is_lone_body : BodyKind → Bool
-is_lone_body (BlockBody lone) = lone
-is_lone_body _ = false
 
 abbrev pub arm_facts : ArmLayer → ArmFacts
 arm_facts a = record {

@@ -12,6 +12,8 @@ pub record BlockFacts : Type 0 where
   -- It holds an expression that is no macro call, without attributes and without a `;`, and nothing else. So it isn't the
   -- body of an arm: there its braces are dropped.
   pub lone : Bool
+  -- That expression holds no struct literal outside delimiters.
+  pub structless : Bool
 
 pub record StmtFacts : Type 0 where
   pub form : Form
@@ -24,6 +26,8 @@ pub record StmtFacts : Type 0 where
   pub bare : Bool
   -- such a one that is a macro call
   pub call : Bool
+  -- no expression that holds a struct literal outside delimiters
+  pub structless : Bool
 
 pub record LinkFacts : Type 0 where
   pub form : Form

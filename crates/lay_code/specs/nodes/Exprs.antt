@@ -1,5 +1,5 @@
 -- Expressions (Rust Reference, "Expressions").
-use Rattle.std.specs.Prelude.{ℕ, suc, ◌+◌, ◌==◌, nat_le, ◌&&◌, ◌||◌, not, Bool, true, false, if◌then◌else◌, List, [], ◌∷◌, ◌++◌, map, codes, Option, Some, None, is_some}
+use Rattle.std.specs.Prelude.{ℕ, suc, ◌+◌, ◌==◌, nat_le, ◌&&◌, ◌||◌, not, Bool, true, false, if◌then◌else◌, List, [], ◌∷◌, ◌++◌, map, codes, length, drop, Option, Some, None, is_some, ◌≤◌, ◌⊎◌, IsTrue}
 use Rattle.std.specs.List.{list_all}
 use Rattle.std.specs.Str.{bytes_eq, chars}
 use Rattle.lay_piece.specs.Characters as char
@@ -7,9 +7,10 @@ use Rattle.lay_piece.specs.Number.{is_index}
 use Rattle.lay_piece.specs.declared.kind.Delim.{Delim}
 use Rattle.lay_piece.specs.declared.kind.Delim.TheVariants.{Paren, Bracket, Brace}
 use Rattle.lay_piece.specs.declared.kind.Kind.TheVariants as kind
-use Rattle.lay_form.specs.Form.{Bit, Blank, Fixed, Operator, Form, Done, Piece, Leaf, Part, punct, keyword, opener, closer, semicolon}
+use Rattle.lay_form.specs.BracedEnds.{EndsBraced}
+use Rattle.lay_form.specs.Form.{Bit, Blank, Fixed, Operator, Braces, Bare, Marked, Nothing, Form, Done, Piece, Leaf, Part, Body, punct, keyword, opener, closer, semicolon}
 use Rattle.lay_form.specs.Notation.{Z, B, N, Z-, C4, I4, piece, comma_list, braces, behind_attrs, I0, body, when}
-use Rattle.lay_form.specs.Spelled as spelled
+use Rattle.lay_form.specs.Spelled.{Spells}
 use Rattle.lay_node.specs.Ahead.{Tokens, first, is_keyword, is_lifetime, opens}
 use Rattle.lay_node.specs.Follow.{Begin, OfArgs, OfBang, OfColons, may_follow}
 use Rattle.lay_node.specs.Words.{is_name, is_literal, is_bare_number, leaf_of, colons}
@@ -30,6 +31,7 @@ use Rattle.lay_node.specs.declared.types.PathStyle.TheVariants.{Code}
 use Rattle.lay_node.specs.declared.types.TypePlace.TheVariants.{NoBounds}
 use Rattle.lay_code.specs.Operands.{ExprLead, ByLiteral, ByPath, ByUnderscore, ByLabel, ByParen, ByBracket, ByBrace, ByPrefix, ByRange, ByContinue, ByBreak, ByReturn, begins_operand, ByBlockWord, ByClosure}
 use Rattle.lay_code.specs.Operators.{op_text, op_level, is_angle_op, is_dot_or_try, strength}
+use Rattle.lay_code.specs.nodes.Bodies.{BodyKind, MacroBody, BlockBody, OtherBody, braces_of, is_lone_body, sheds}
 use Rattle.lay_code.specs.nodes.CodeFacts.{ArmFacts, BlockFacts, BranchFacts, ConditionFacts, ItemFacts, KindFacts, LinkFacts, StmtFacts}
 use Rattle.lay_code.specs.nodes.Places.{plain, FREE, begins, is_whole, is_part, before_op}
 use Rattle.lay_code.specs.declared.exprs.ClosureParam.{ClosureParam}
@@ -97,18 +99,6 @@ tail_follows t no_struct ts =
 
 -- ---- what is told of expressions
 
--- which body of an arm an expression is
-pub data BodyKind : Type 0 where
-  -- a macro call
-  MacroBody : BodyKind
-  -- a block without a label; the flag says that its braces are dropped
-  BlockBody : Bool → BodyKind
-  OtherBody : BodyKind
-
-abbrev pub is_macro : BodyKind → Bool
-is_macro MacroBody = true
-is_macro _ = false
-
 pub record ExprFacts : Type 0 where
   pub form : Form
   pub level : ℕ
@@ -129,6 +119,12 @@ pub record ExprFacts : Type 0 where
   pub is_raw : Bool
   -- a number without suffix
   pub is_number : Bool
+  -- Each expression that begins where it begins may stand there where it begins a statement.
+  pub starts : Bool
+  -- No closure ends where it ends whose body keeps braces only since no struct literal may stand there.
+  pub tight : Bool
+  -- It holds no struct literal outside delimiters.
+  pub structless : Bool
   -- What is within it is well formed and stands in its places; the flags say that no struct literal may stand there, and
   -- that it begins a statement.
   pub within : Bool → Bool → Bool
@@ -444,6 +440,15 @@ behind_async moves params f =
 abbrev pub closure_head : Bool → Bool → List ClosureParam → Form → Form
 closure_head is_async moves params f = when is_async (keyword (codes "async") ∷ Blank ∷ []) (behind_async moves params f)
 
+-- Braces that aren't in the tree stand only round a body that may be a statement.
+abbrev pub body_braces : ExprFacts → Braces
+body_braces x = if x.starts && x.tight then braces_of x.kind else Bare
+
+-- The body of a closure. One that gets braces where it is broken stands deeper.
+abbrev pub closure_body : Braces → Form → Form
+closure_body Marked x = N (Body Marked Nothing x Done)
+closure_body braces x = Body braces Nothing x Done
+
 abbrev pub inside : ExprLayer → Form
 inside (Expr-F.Lit l) = literal_form l Done
 inside (Expr-F.Path path) = (about_path path Code).form
@@ -475,7 +480,7 @@ inside (Expr-F.While label c b) =
 inside (Expr-F.For label pat x b) = labelled label
     (I0 (Piece (keyword (codes "for") ∷ Blank ∷ []) (Part (pat_form Alternatives (about_pat pat)) (Piece (Blank ∷ keyword (codes "in") ∷ Blank ∷ []) (Part x.form Done))))
     (Part (b.form true) Done))
-inside (Expr-F.Closure is_async moves params x) = closure_head is_async moves params (Piece (Blank ∷ []) (Part x.form Done))
+inside (Expr-F.Closure is_async moves params x) = closure_head is_async moves params (Piece (Blank ∷ []) (closure_body (body_braces x) x.form))
 inside (Expr-F.TypedClosure is_async moves params output b) = closure_head is_async moves params
     (Piece (Blank ∷ Operator (codes "->") ∷ Blank ∷ []) (Part (about_type output).told.form (Part (b.form true) Done)))
 inside (Expr-F.Return x) = Piece (keyword (codes "return") ∷ []) (operand_form x)
@@ -641,7 +646,7 @@ is_block_like _ = false
 
 abbrev pub body_kind : ExprLayer → BodyKind
 body_kind (Expr-F.Expr::Call call) = MacroBody
-body_kind (Expr-F.Block None b) = BlockBody b.lone
+body_kind (Expr-F.Block None b) = BlockBody b.lone b.structless
 body_kind _ = OtherBody
 
 abbrev pub is_raw_word : Option Word → Bool
@@ -655,6 +660,63 @@ is_raw_path _ = false
 abbrev pub is_bare_literal : ExprLayer → Bool
 is_bare_literal (Expr-F.Lit l) = is_bare_number l.kind l.text
 is_bare_literal _ = false
+
+-- ---- what it begins with and ends in, where it is a statement
+
+-- What stands first in it may begin a statement's part.
+abbrev pub begins_part : ExprFacts → Bool
+begins_part x = not x.block_like && x.starts
+
+abbrev pub starts_of : ExprLayer → Bool
+starts_of (Expr-F.Chain x rest) = begins_part x
+starts_of (Expr-F.Cast x types) = begins_part x
+starts_of (Expr-F.Range (Some x) inclusive end) = begins_part x
+starts_of (Expr-F.Assign (y ∷ more) x) = begins_part y.0
+starts_of (Expr-F.Postfix x steps) = first_step is_dotted steps || begins_part x
+starts_of _ = true
+
+abbrev pub tight_operands : List (Op × ExprFacts) → Bool
+tight_operands [] = true
+tight_operands (x ∷ []) = x.1.tight
+tight_operands (x ∷ y ∷ more) = tight_operands (y ∷ more)
+
+abbrev pub tight_operand : Option ExprFacts → Bool
+tight_operand None = true
+tight_operand (Some x) = x.tight
+
+abbrev pub tight_of : ExprLayer → Bool
+tight_of (Expr-F.Chain x rest) = tight_operands rest
+tight_of (Expr-F.Unary ps x) = x.tight
+tight_of (Expr-F.Range start inclusive end) = tight_operand end
+tight_of (Expr-F.Assign targets x) = x.tight
+tight_of (Expr-F.Closure is_async moves params x) = not (is_lone_body x.kind) && x.tight
+tight_of (Expr-F.Return x) = tight_operand x
+tight_of (Expr-F.Break label x) = tight_operand x
+tight_of _ = true
+
+-- ---- struct literals outside delimiters
+
+abbrev pub structless_operand : Option ExprFacts → Bool
+structless_operand None = true
+structless_operand (Some x) = x.structless
+
+-- an operand that may be left out: one that begins with a `{` stands only where a struct literal may
+abbrev pub structless_end : Option ExprFacts → Bool
+structless_end None = true
+structless_end (Some x) = x.structless && not (is_brace_lead x.lead)
+
+abbrev pub structless_of : ExprLayer → Bool
+structless_of (Expr-F.Expr::Struct path fields base) = false
+structless_of (Expr-F.Chain x rest) = x.structless && list_all (λ (y : Op × ExprFacts). y.1.structless) rest
+structless_of (Expr-F.Cast x types) = x.structless
+structless_of (Expr-F.Unary ps x) = x.structless
+structless_of (Expr-F.Range start inclusive end) = structless_operand start && structless_end end
+structless_of (Expr-F.Assign targets x) = list_all (λ (y : ExprFacts × Op). y.0.structless) targets && x.structless
+structless_of (Expr-F.Postfix x steps) = x.structless
+structless_of (Expr-F.Closure is_async moves params x) = x.structless
+structless_of (Expr-F.Return x) = structless_end x
+structless_of (Expr-F.Break label x) = structless_end x
+structless_of _ = true
 
 -- ---- what is within stands in its places
 
@@ -765,7 +827,8 @@ within_of (Expr-F.Match x attrs arms) no_struct first = placed x (plain 0 true) 
 within_of (Expr-F.Loop label b) no_struct first = b.good
 within_of (Expr-F.While label c b) no_struct first = c.good && b.good
 within_of (Expr-F.For label pat x b) no_struct first = pat_good Alternatives (about_pat pat) && placed x (plain 0 true) && b.good
-within_of (Expr-F.Closure is_async moves params x) no_struct first = list_all is_closure_param params && placed x (plain 0 no_struct)
+within_of (Expr-F.Closure is_async moves params x) no_struct first =
+    list_all is_closure_param params && placed x (plain 0 no_struct) && not (sheds x.kind no_struct)
 within_of (Expr-F.TypedClosure is_async moves params output b) no_struct first = list_all is_closure_param params && good_at NoBounds (about_type output) && b.good
 within_of (Expr-F.Return x) no_struct first = operand_placed x no_struct
 within_of (Expr-F.Break label x) no_struct first = operand_placed x no_struct && break_placed label x
@@ -786,11 +849,19 @@ expr_facts x = record {
   kind = body_kind x;
   is_raw = is_raw_path x;
   is_number = is_bare_literal x;
+  starts = starts_of x;
+  tight = tight_of x;
+  structless = structless_of x;
   within = within_of x;
 }
 
 -- ---- fronts
 
+-- What is spelled by these tokens may stand before the rest. Where it ends within braces that aren't in the tree, it ends as a
+-- block does: no operator follows it, and nothing else is asked.
+abbrev pub Followed : ExprFacts → Place → ℕ → Tokens → Tokens → Type 0
+Followed x place depth ts rest = IsTrue (follows x place rest) ⊎ (EndsBraced x.form depth ts rest × IsTrue (strength rest == 0))
+
 -- An expression of which this is told stands at the front of the tokens, at the place.
 abbrev pub ExprFront : Place → ExprFacts → Tokens → ℕ → ℕ → Type 0
-ExprFront place x ts n depth = spelled.Front x.form (placed x place) (follows x place) ts n depth
+ExprFront place x ts n depth = (n ≤ length ts) × Spells x.form depth ts (drop n ts) × IsTrue (placed x place) × Followed x place depth ts (drop n ts)

@@ -12,7 +12,8 @@ use Rattle.lay_node.specs.declared.attr.Attr.{Attr}
 use Rattle.lay_node.specs.declared.heads.Site.TheVariants.{Module}
 use Rattle.lay_node.specs.declared.patterns.PatPlace.TheVariants.{Alternatives, Single}
 use Rattle.lay_node.specs.declared.types.TypePlace.TheVariants.{Bounds}
-use Rattle.lay_code.specs.nodes.Blocks.{is_free, is_lone_body, precedes_else}
+use Rattle.lay_code.specs.nodes.Blocks.{is_free, precedes_else}
+use Rattle.lay_code.specs.nodes.Bodies.{is_lone_body}
 use Rattle.lay_code.specs.nodes.Code.{about_expr, about_stmt, told_of_item}
 use Rattle.lay_code.specs.nodes.Layers.{ExprNode, StmtNode}
 use Rattle.lay_code.specs.nodes.Places.{FREE, statement}

@@ -27,12 +27,14 @@ use Rattle.lay_node.specs.declared.types.TypePlace.TheVariants.{NoBounds, Bounds
 use Rattle.lay_code.specs.Operands.{ExprLead, ByLiteral, ByPath, ByUnderscore, ByParen, ByBracket, ByPrefix, ByRange, ByContinue, ByBreak, ByReturn, expr_lead_at, begins_operand, ByLabel, ByBrace, ByBlockWord, ByClosure}
 use Rattle.lay_code.specs.Operators.{op_text, binary, prefix, prefix_length, is_angle, is_dot_or_try, begins_step, strength}
 use Rattle.lay_code.specs.nodes.Code.{about_expr}
+use Rattle.lay_code.specs.nodes.Bodies.{sheds}
 use Rattle.lay_code.specs.nodes.Exprs.{ExprFacts, stands, root_follows}
 use Rattle.lay_code.specs.nodes.Places.{plain, FREE, begins, is_whole, before_op}
-use Rattle.lay_code.specs.reader.Blocks.{block_by, branch_by, arm_by}
+use Rattle.lay_code.specs.reader.Blocks.{block_by, branch_by, arm_by, block_held, body_need}
 use Rattle.lay_code.specs.reader.Conditions.{condition_by}
 use Rattle.lay_code.specs.reader.Within.{ExprWithin}
 use Rattle.lay_code.specs.declared.blocks.Block.{Block}
+use Rattle.lay_code.specs.declared.blocks.Stmt.TheViews.{out-Expr}
 use Rattle.lay_code.specs.declared.exprs.ClosureParam.{ClosureParam}
 use Rattle.lay_code.specs.declared.exprs.Expr.{Expr}
 use Rattle.lay_code.specs.declared.exprs.Expr.TheVariants as expr
@@ -250,6 +252,12 @@ closure_param within ts = do
   t ← if_read (is_op (codes ":") p.1) (λ us. within.kinds.types Bounds (drop 1 us)) p.1
   Some ((record { attrs = attrs.0; pat = p.0.0; ty = t.0.0 }, max p.0.1 t.0.1), t.1)
 
+-- The body of a closure, without the braces that aren't in the tree. So many turns take off so many pairs, and a pair whose
+-- expression can't stand in the body's place stays.
+unfoldable pub shed : Bool → ℕ → Expr → Expr
+shed no_struct zero x = x
+shed no_struct (suc turns) x = if sheds (about_expr x).kind no_struct then block_held (shed no_struct turns) x (out-Expr x) else x
+
 -- what stands behind the parameters of a closure; behind its body no operator stands
 abbrev pub closure_body : ExprWithin → Bool → Bool → Bool → List ClosureParam → ℕ → Tokens → Read Expr
 closure_body within no_struct is_async moves params need ts =
@@ -258,7 +266,10 @@ closure_body within no_struct is_async moves params need ts =
       t ← within.kinds.types NoBounds (drop 2 ts)
       b ← block_by within t.1
       Some ((expr.TypedClosure is_async moves params t.0.0 b.0.0, suc (max need (max t.0.1 b.0.1))), b.1))
-    else (do x ← within.exprs (plain 0 no_struct) ts; Some ((expr.Closure is_async moves params x.0.0, suc (max need x.0.1)), x.1))
+    else (do
+      x ← within.exprs (plain 0 no_struct) ts
+      let deep = body_need (sheds (about_expr x.0.0).kind no_struct) x.0.1
+      Some ((expr.Closure is_async moves params (shed no_struct (length ts) x.0.0), suc (max need deep)), x.1))
 
 -- a closure, behind its `async` if it has one
 abbrev pub closure_behind : ExprWithin → Bool → Bool → Tokens → Read Expr

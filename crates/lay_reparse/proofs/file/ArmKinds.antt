@@ -12,9 +12,10 @@ use Rattle.lay_node.specs.nodes.Patterns.{about_pat, pat_form, pat_good}
 use Rattle.lay_node.specs.declared.attr.Attr.{Attr}
 use Rattle.lay_node.specs.declared.patterns.Pat.{Pat}
 use Rattle.lay_node.specs.declared.patterns.PatPlace.TheVariants.{Alternatives}
-use Rattle.lay_code.specs.nodes.Blocks.{arm_facts, branch_facts, braces_of, guard_form, is_free, is_lone_body}
+use Rattle.lay_code.specs.nodes.Bodies.{BlockBody, BodyKind, MacroBody, OtherBody, braces_of, is_lone_body}
+use Rattle.lay_code.specs.nodes.Blocks.{arm_facts, branch_facts, guard_form, is_free}
 use Rattle.lay_code.specs.nodes.CodeFacts.{ArmFacts, BlockFacts, BranchFacts, ConditionFacts}
-use Rattle.lay_code.specs.nodes.Exprs.{BodyKind, MacroBody, BlockBody, OtherBody, ExprFacts, placed, value_placed, arm_forms, arms_good}
+use Rattle.lay_code.specs.nodes.Exprs.{ExprFacts, placed, value_placed, arm_forms, arms_good}
 use Rattle.lay_code.specs.nodes.Places.{statement}
 use Rattle.lay_reparse.proofs.borders.Border.{Border}
 use Rattle.lay_reparse.proofs.forms.Passes.{plain}

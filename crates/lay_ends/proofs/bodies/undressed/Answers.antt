@@ -1,6 +1,6 @@
 use Rattle.std.proofs.Common.{suc, ◌≡◌, ◌+◌, ◌∙◌, true, sym, ap, subst, arith}
 use Rattle.std.specs.Option.{unwrap_or}
-use Rattle.lay_code.specs.nodes.Blocks.{is_lone_body}
+use Rattle.lay_code.specs.nodes.Bodies.{is_lone_body}
 use Rattle.lay_code.specs.nodes.Code.{about_expr}
 use Rattle.lay_code.specs.reader.Blocks.{undressed}
 use Rattle.lay_code.specs.declared.exprs.Expr.{Expr}
