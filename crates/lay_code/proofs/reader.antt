@@ -31,8 +31,10 @@ pub mod ExprSoundFirst
 pub mod ExprSoundLists
 pub mod ExprSoundHeads
 pub mod ExprSoundBlocks
+pub mod Dressed
 pub mod ArmsSoundBodies
 pub mod ArmsSound
+pub mod ClosureBodies
 pub mod ExprSoundClosures
 pub mod ExprSoundStructs
 pub mod ExprSoundPrefixes
