@@ -1,10 +1,9 @@
--- The body of a closure, and two of its places: a statement's, and that behind the parameters, where the flag says that no struct
--- literal may stand there. Of what stands behind the parameters `starts` and `tight` tell whether it may be a statement; of what
--- may be a statement `structless` tells whether it may stand behind the parameters.
+-- The body of a closure stands behind the parameters, at a place where struct literals may stand or not, and within braces that
+-- aren't in the tree as a statement. Of what stands behind the parameters `starts` and `tight` say whether it may be a statement;
+-- of what may be a statement `structless` says whether it may stand behind the parameters where no struct literal may.
 --
--- Only the operands of a node that stand outside delimiters see these places, so each kind is a case of few: nodes without such
--- operands, and those that begin with one, end in one, or hold more. The laws hold of all facts of a layer whose operands keep
--- them, and so of each tree.
+-- What stands within delimiters doesn't see these places. So each layer keeps the law whose operands outside delimiters do, and
+-- each tree has it.
 use Rattle.std.proofs.Common.{◌≡◌, ℕ, suc, ◌==◌, Bool, true, false, not, ◌&&◌, ◌||◌, true≢false, List, [], ◌∷◌, map, Option, Some, None, refl, sym, ap, ap₂, subst, ◌∙◌, arith}
 use Rattle.std.specs.Prelude.{nat_le}
 use Rattle.std.specs.List.{list_all}
@@ -69,16 +68,16 @@ and_out true true c d = and_comm c d
 
 -- ---- the law of facts
 
--- What begins a statement asks what stands first; where no struct literal may stand all is asked that is asked elsewhere, but for
--- braces of closures' bodies that such a place keeps.
+-- How what is within an expression hangs on its place: on whether it begins a statement there, and on whether a struct literal
+-- may stand there.
 pub record Lawful (x : ExprFacts) : Type 0 where
-  -- What ends in no closure ends in none that is kept apart.
+  -- What ends in no closure is tight.
   pub held : x.tail.closure ≡ false → x.tight ≡ true
-  -- It begins a statement where what stands first may.
+  -- Where it begins a statement, what stands first in it has to be allowed to, and no more than that is asked.
   pub front : (no_struct : Bool) → x.within no_struct true ≡ (x.within no_struct false && x.starts)
-  -- Where all is well within it, and a struct literal may stand there, it stands where none may if it holds none.
+  -- What may stand where a struct literal may, may stand where none may if it holds none outside delimiters.
   pub literal : x.within false false ≡ true → x.structless ≡ (not x.is_struct && x.within true false)
-  -- Where all is well within it at one place it is so where nothing is asked, if no closure ends it that is kept apart.
+  -- What may stand at one of the two, may stand where a struct literal may if it is tight.
   pub closed : (no_struct : Bool) → x.within no_struct false ≡ true → x.tight ≡ x.within false false
 
 abbrev MayBeLawful : Option ExprFacts → Type 0
@@ -87,7 +86,7 @@ MayBeLawful (Some x) = Lawful x
 
 -- ---- an operand at its place
 
--- The rules of a place that a place with struct literals asks too are `r`, and that it is none is `s`.
+-- `r` are the rules of a place that hang on neither flag.
 front_by : (r b s w t : Bool) → (r && not b && s && (w && t)) ≡ (r && true && s && w && (not b && t))
 front_by false b s w t = refl
 front_by true true s w t = sym (and_right (s && w) false refl)
@@ -149,7 +148,8 @@ module _ (x : ExprFacts) (is : Lawful x) where
   -- at the end of a node
   plain_literal : (level : ℕ) → placed x (plain level false) ≡ true → x.structless ≡ placed x (plain level true)
   plain_literal level h =
-      literal_by (nat_le level x.level && true && true && true) x.is_struct (x.within false false) (x.within true false) x.structless is.literal h
+      literal_by (nat_le level x.level && true && true && true) x.is_struct (x.within false false) (x.within true false)
+      x.structless is.literal h
 
   plain_closed : (level : ℕ) (no_struct : Bool) → placed x (plain level no_struct) ≡ true → x.tight ≡ placed x (plain level false)
   plain_closed level no_struct h =
@@ -229,7 +229,7 @@ chain_lawful x ys is are =
     let k = is_chain_level l && may_chain l ys in
     let p = λ (no_struct first : Bool). placed x (before_op (suc l) no_struct first angle) in
     let q = λ (no_struct : Bool). operands_placed l no_struct ys in
-    let parts = λ (no_struct : Bool) (h : (k && p no_struct false && q no_struct) ≡ true). parts_of k (p no_struct false) (q no_struct) h in
+    let parts = λ (no_struct : Bool). parts_of k (p no_struct false) (q no_struct) in
     record {
       held = λ h. operands_held ys are h;
       front = λ no_struct.
@@ -512,7 +512,7 @@ ExprIs x = Lawful (about_expr x)
 abbrev KeptExpr : Type 0
 KeptExpr = (x : Expr) × ExprIs x
 
--- Of the other nodes nothing is told: what is within delimiters doesn't see the places of the expression.
+-- Of the other nodes nothing is asked.
 abbrev Any : (A : Type 0) → A → Type 0
 Any A x = Unit {0}
 
@@ -523,7 +523,8 @@ abbrev Kept : (Type 0 → Type 0 → Type 0 → Type 0 → Type 0 → Type 0 →
 Kept F = F (Of Stmt) (Of Link) KeptExpr (Of FieldExpr) (Of Step) (Of ItemKind) (Of Arm) (Of Block) (Of Branch) (Of Condition) (Of Item)
 
 abbrev expr_layer : Kept Expr-F → ExprNode
-expr_layer y = fold.map-Expr (Of Stmt) (Of Link) KeptExpr (Of FieldExpr) (Of Step) (Of ItemKind) (Of Arm) (Of Block) (Of Branch) (Of Condition) (Of Item)
+expr_layer y = fold.map-Expr
+    (Of Stmt) (Of Link) KeptExpr (Of FieldExpr) (Of Step) (Of ItemKind) (Of Arm) (Of Block) (Of Branch) (Of Condition) (Of Item)
     Stmt Link Expr FieldExpr Step ItemKind Arm Block Branch Condition Item
     (λ y. y.0) (λ y. y.0) (λ y. y.0) (λ y. y.0) (λ y. y.0) (λ y. y.0) (λ y. y.0) (λ y. y.0) (λ y. y.0) (λ y. y.0) (λ y. y.0) y
 
@@ -598,7 +599,8 @@ expr_rolled : (x : ExprNode) (y : Kept Expr-F) → expr_layer y ≡ x → ExprIs
 expr_rolled x y is = subst (λ z. ExprIs (views.roll-Expr z)) is (subst Lawful (sym (expr_is (expr_layer y))) (expr_layer_lawful y))
 
 pub expr_lawful : (x : Expr) → Lawful (about_expr x)
-expr_lawful = fold.ind-Expr (Any Stmt) (Any Link) ExprIs (Any FieldExpr) (Any Step) (Any ItemKind) (Any Arm) (Any Block) (Any Branch) (Any Condition) (Any Item)
+expr_lawful = fold.ind-Expr
+    (Any Stmt) (Any Link) ExprIs (Any FieldExpr) (Any Step) (Any ItemKind) (Any Arm) (Any Block) (Any Branch) (Any Condition) (Any Item)
     (λ x y is. tt) (λ x y is. tt) expr_rolled (λ x y is. tt) (λ x y is. tt) (λ x y is. tt) (λ x y is. tt) (λ x y is. tt) (λ x y is. tt)
     (λ x y is. tt) (λ x y is. tt)
 
@@ -611,14 +613,16 @@ at_lowest n = le-leb 0 n (omega arith)
 asks_none : (n : ℕ) → (nat_le 0 n && true && true && true) ≡ true
 asks_none n = ap (λ c. c && true && true && true) (at_lowest n)
 
-facts_body : (x : ExprFacts) (no_struct : Bool) → Lawful x → placed x (plain 0 no_struct) ≡ true → (x.starts && x.tight) ≡ placed x statement
+facts_body : (x : ExprFacts) (no_struct : Bool) → Lawful x → placed x (plain 0 no_struct) ≡ true
+    → (x.starts && x.tight) ≡ placed x statement
 facts_body x no_struct is h =
     let w = (and_parts (stands x (plain 0 no_struct)) (x.within no_struct false) h).1 in
     with_first (nat_le 0 x.level && true && true && true && true) (x.starts && x.tight) (x.within false true)
     (ap (λ c. c && true) (asks_none x.level))
     (and_comm x.starts x.tight ∙ ap (λ c. c && x.starts) (is.closed no_struct w) ∙ sym (is.front false))
 
-facts_place : (x : ExprFacts) (no_struct : Bool) → Lawful x → placed x statement ≡ true → (not no_struct || x.structless) ≡ placed x (plain 0 no_struct)
+facts_place : (x : ExprFacts) (no_struct : Bool) → Lawful x → placed x statement ≡ true
+    → (not no_struct || x.structless) ≡ placed x (plain 0 no_struct)
 facts_place x no_struct is h = by no_struct
   where
     free : x.within false false ≡ true
@@ -631,13 +635,14 @@ facts_place x no_struct is h = by no_struct
     by false = sym low
     by true = plain_literal x is 0 low
 
--- What may be the body of a closure may be a statement if no block stands first in it as an operand, and no closure ends it that
--- keeps its body's braces only since no struct literal may stand there.
+-- What may stand behind a closure's parameters may be a statement if what stands first in it may begin one, and if no closure ends
+-- it whose body keeps braces only since no struct literal may stand there.
 pub body_law : (x : Expr) (no_struct : Bool) → placed (about_expr x) (plain 0 no_struct) ≡ true
     → ((about_expr x).starts && (about_expr x).tight) ≡ placed (about_expr x) statement
 body_law x no_struct = facts_body (about_expr x) no_struct (expr_lawful x)
 
--- What may be a statement may be the body of a closure, if it holds no struct literal where none may stand.
+-- What may be a statement may stand behind a closure's parameters, and where no struct literal may stand it may if it holds none
+-- outside delimiters.
 pub place_law : (x : Expr) (no_struct : Bool) → placed (about_expr x) statement ≡ true
     → (not no_struct || (about_expr x).structless) ≡ placed (about_expr x) (plain 0 no_struct)
 place_law x no_struct = facts_place (about_expr x) no_struct (expr_lawful x)
