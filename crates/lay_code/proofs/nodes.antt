@@ -3,4 +3,5 @@ pub mod Layers
 pub mod ItemLaws
 pub mod ExprsLaws
 pub mod PlacesTable
+pub mod BodyLaws
 pub mod BlocksLaws

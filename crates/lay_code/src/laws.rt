@@ -1,5 +1,5 @@
 //! What holds of every expression, item and file.
-ghost use Rattle.std.specs.Prelude.{◌≡◌, ◌||◌, ◌∷◌, ℕ, Bool, List, Option, Some, Ok, IsTrue};
+ghost use Rattle.std.specs.Prelude.{◌≡◌, ◌&&◌, ◌||◌, not, ◌∷◌, ℕ, Bool, List, Option, Some, Ok, IsTrue};
 ghost use Rattle.lay_token.specs.Source.{Source, source};
 ghost use Rattle.lay_token.specs.declared.token.Token.{Token};
 ghost use Rattle.lay_node.specs.nodes.Facts.{Front};
@@ -9,6 +9,7 @@ ghost use Rattle.lay_code.specs.Reading.{SpellsFile};
 ghost use Rattle.lay_code.specs.Written.{is_good_shebang};
 ghost use Rattle.lay_code.specs.nodes.Code.{about_expr, about_item};
 ghost use Rattle.lay_code.specs.nodes.Exprs.{ExprFacts, ExprFront, expr_facts, is_open, is_typed, placed};
+ghost use Rattle.lay_code.specs.nodes.Places.{plain, statement};
 ghost use Rattle.lay_code.specs.nodes.PlacesTable.{AssignRow, ByRoot, ChainRow, Iff, RangeRow, UnaryRow};
 ghost use Rattle.lay_code.specs.reader.Code.{expr_at, item_at};
 ghost use Rattle.lay_code.specs.declared.blocks.Stmt.TheOpen.{Expr-F};
@@ -40,6 +41,17 @@ pub fn places_law()
         → Iff (IsTrue (placed (expr_facts (Expr-F.Chain first (next ∷ more))) place)) (ChainRow place first next more) }
     ensures others { (place : Place) (node : ExprFacts) → is_open node.tail ≡ (node.jumps || node.endless)
         → is_typed node.tail ≡ node.typed → ByRoot place node }
+{}
+
+/// The bodies of closures. Braces that aren't in the tree stand around such a body where it may be a statement, and are taken off
+/// where what is within them may stand in the body's place. The form and the reader ask this of three facts, and these answer for
+/// the places: of what stands where a body stands, `starts` and `tight` say whether it may be a statement; of what may be a
+/// statement, `structless` says whether it may stand where no struct literal may.
+pub fn body_law()
+    ensures as_statement { (node : Expr) (no_struct : Bool) → IsTrue (placed (about_expr node) (plain 0 no_struct))
+        → ((about_expr node).starts && (about_expr node).tight) ≡ placed (about_expr node) statement }
+    ensures as_body { (node : Expr) (no_struct : Bool) → IsTrue (placed (about_expr node) statement)
+        → (not no_struct || (about_expr node).structless) ≡ placed (about_expr node) (plain 0 no_struct) }
 {}
 
 /// At most one expression or item and one count of tokens fit at a place, and one file a list of tokens.

@@ -22,7 +22,7 @@ pub use conditions::{Condition, Link};
 pub use exprs::{ClosureParam, Expr, FieldExpr, Place, Start, Step};
 pub use file::File;
 pub use item::{Item, ItemKind};
-pub use laws::{node_law, places_law, reading_law};
+pub use laws::{body_law, node_law, places_law, reading_law};
 pub use lay_node::{
     Abi, Alias, Arg, Args, Attr, Binder, Bound, Boxed, Capture, ConstArg, ConstDefault, Constraint,
     Enum, ExternCrate, Field, FieldPat, Fields, FnHead, FuncParam, GenericParam, Generics,

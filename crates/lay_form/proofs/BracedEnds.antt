@@ -1,8 +1,8 @@
 -- What ends within braces that aren't in the tree is spelled.
-use Rattle.std.proofs.Common.{◌≡◌, ℕ, zero, suc, ◌-◌, ◌≤◌, List, ◌⊎◌, inl, inr, refl, sym, subst, arith}
+use Rattle.std.proofs.Common.{ℕ, zero, suc, ◌-◌, ◌≤◌, List, inl, inr, refl, sym, subst, arith}
 use Rattle.lay_token.specs.declared.token.Token.{Token}
 use Rattle.lay_form.specs.Form.{Bit, Form, Done, Piece, Leaf, Listed, ListedDoc, Brk, LastComma, Group, Part, Deeper, Optional, Docs, Body}
-use Rattle.lay_form.specs.Spelled.{AreBits, Braced, IsBehind, MayBrace, Spells, Then, cost}
+use Rattle.lay_form.specs.Spelled.{AreBits, Braced, IsBehind, Spells, Then, cost}
 use Rattle.lay_form.proofs.FormLaws.{deeper as raise}
 use Rattle.lay_form.specs.BracedEnds.{EndsBraced}
 

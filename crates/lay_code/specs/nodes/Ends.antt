@@ -17,7 +17,8 @@ brace_bits before (Fixed kind text ∷ bits) = brace_bits (is_brace_kind kind) b
 brace_bits before (Operator text ∷ bits) = brace_bits false bits
 brace_bits before (Semicolons ∷ bits) = brace_bits before bits
 
--- The same of a form. A body's braces and commas that aren't in the tree end no expression.
+-- The same of a form. A body's braces and commas that aren't in the tree don't count: they end no expression but a closure, which
+-- stands before no `else`.
 abbrev pub brace_behind : Bool → Form → Bool
 brace_behind before Done = before
 brace_behind before (Piece bits f) = brace_behind (brace_bits before bits) f
