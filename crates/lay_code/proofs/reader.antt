@@ -1,4 +1,5 @@
 -- The readers, a family a file: what is read stands at the front of the tokens, and what stands there is read.
+pub mod Followed
 pub mod ItemBodies
 pub mod ItemSound
 pub mod ItemFunction
@@ -30,8 +31,10 @@ pub mod ExprSoundFirst
 pub mod ExprSoundLists
 pub mod ExprSoundHeads
 pub mod ExprSoundBlocks
+pub mod Dressed
 pub mod ArmsSoundBodies
 pub mod ArmsSound
+pub mod ClosureBodies
 pub mod ExprSoundClosures
 pub mod ExprSoundStructs
 pub mod ExprSoundPrefixes
