@@ -13,7 +13,7 @@ use Rattle.lay_code.specs.declared.blocks.Stmt.TheVariants as stmt
 use Rattle.lay_code.specs.declared.blocks.Stmt.TheViews as views
 use Rattle.lay_code.specs.declared.exprs.Expr.{Expr}
 use Rattle.lay_code.specs.declared.exprs.Expr.TheVariants as expr
-use Rattle.lay_code.proofs.reader.ArmsSoundBodies.{IsAlone, Lone, alone, alone_block, is_alone}
+use Rattle.lay_code.proofs.reader.Dressed.{IsAlone, Lone, alone, alone_block, is_alone}
 
 -- ---- how many blocks stand in one another, the first statement of each being the next
 

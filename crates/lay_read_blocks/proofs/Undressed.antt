@@ -35,7 +35,7 @@ use Rattle.lay_code.specs.declared.exprs.Expr.TheVariants as expr
 use Rattle.lay_code.specs.declared.exprs.Place.{Place}
 use Rattle.lay_code.specs.declared.item.Item.{Item}
 use Rattle.lay_code.proofs.nodes.ExprsLaws as laws
-use Rattle.lay_code.proofs.reader.ArmsSoundBodies.{IsAlone, Lone, alone, alone_block, is_alone}
+use Rattle.lay_code.proofs.reader.Dressed.{IsAlone, Lone, alone, alone_block, is_alone}
 use Rattle.lay_code.proofs.reader.ExprSoundLeads.{code_led}
 use Rattle.lay_read_tokens.proofs.Left.{Leaves, Left, attributes_left, passed_left, Passes}
 use Rattle.lay_ends.specs.Bodies.{IsBare}

@@ -1,13 +1,13 @@
 -- Arms that are spelled are read: a body within braces that aren't in the tree is read with them, as blocks, and loses them.
 use Rattle.std.proofs.Common.{◌≡◌, ℕ, zero, suc, ◌+◌, ◌-◌, ◌≤◌, max, Bool, true, false, not, ◌&&◌, ◌||◌, List, [], ◌∷◌, map, length, codes, Option, option_map, Some, None, inl, inr, refl, sym, ap, subst, ◌∙◌, arith}
 use Rattle.std.proofs.lemmas.Bool.{and_parts, not-true, or_right}
-use Rattle.lay_piece.specs.Forms.{opening, closing}
+use Rattle.lay_piece.specs.Forms.{closing}
 use Rattle.lay_piece.specs.declared.kind.Delim.TheVariants.{Brace}
-use Rattle.lay_piece.specs.declared.kind.Kind.TheVariants.{Ident, Punct, Opener, Closer}
+use Rattle.lay_piece.specs.declared.kind.Kind.TheVariants.{Ident, Punct, Closer}
 use Rattle.lay_token.specs.Operators.{is_op}
-use Rattle.lay_form.specs.Form.{Blank, Fixed, Operator, Semicolons, ArmComma, Form, Done, Piece, Part, Body, keyword, closer}
+use Rattle.lay_form.specs.Form.{Blank, Fixed, Operator, ArmComma, Form, Done, Piece, Part, Body, keyword}
 use Rattle.lay_form.specs.Notation.{N, I0}
-use Rattle.lay_form.specs.Spelled.{IsOne, IsOperator, AreBits, AnySemicolons, Opens, Closes, MayBrace, IsBehind, cost, may_lack, Spells}
+use Rattle.lay_form.specs.Spelled.{IsOne, IsOperator, AreBits, IsBehind, cost, may_lack, Spells}
 use Rattle.lay_form.proofs.FormLaws.{shorter}
 use Rattle.lay_node.specs.Ahead.{Tokens, first, tail, is_keyword, is_mark, closes, more_items}
 use Rattle.lay_node.specs.nodes.Attr.{are_attrs, attr_form}
@@ -16,142 +16,40 @@ use Rattle.lay_node.specs.reader.Attr.{attributes}
 use Rattle.lay_node.specs.reader.Types.{if_read}
 use Rattle.lay_node.specs.declared.patterns.PatPlace.TheVariants.{Alternatives}
 use Rattle.lay_node.proofs.Fronts.{one_front, one_no_op, one_shorter, closer_first, op_front, other_op}
-use Rattle.lay_node.proofs.Parts.{Rows, SpelledAt, Closed, behind_attrs_rows, before_blank, behind_blank, bit_alone, body_spelled, part_alone}
+use Rattle.lay_node.proofs.Parts.{Rows, SpelledAt, Closed, behind_attrs_rows, before_blank, behind_blank, bit_alone, part_alone}
 use Rattle.lay_node.proofs.reader.Attr.{attrs_rows}
 use Rattle.lay_node.proofs.reader.AttrRead.{attributes_complete}
 use Rattle.lay_node.proofs.reader.Exact.{IsRead}
 use Rattle.lay_node.proofs.reader.Loops.{Turn}
 use Rattle.lay_node.proofs.reader.PatternsFronts.{Fits}
 use Rattle.lay_node.proofs.reader.TypesCompleteParts.{keyword_there, one_left}
-use Rattle.lay_code.specs.nodes.Bodies.{BlockBody, BodyKind, MacroBody, OtherBody, braces_of, is_lone_body, is_macro}
-use Rattle.lay_code.specs.nodes.Blocks.{block_facts, dropped, guard_form, is_free, stmt_facts}
+use Rattle.lay_code.specs.nodes.Bodies.{braces_of, is_lone_body, is_macro}
+use Rattle.lay_code.specs.nodes.Blocks.{guard_form, is_free}
 use Rattle.lay_code.specs.nodes.Code.{about_arm, about_expr}
-use Rattle.lay_code.specs.nodes.CodeFacts.{ArmFacts, BlockFacts, StmtFacts}
-use Rattle.lay_code.specs.nodes.Exprs.{ExprFacts, arm_forms, arms_good, expr_facts, follows, placed, value_placed}
+use Rattle.lay_code.specs.nodes.CodeFacts.{ArmFacts}
+use Rattle.lay_code.specs.nodes.Exprs.{arm_forms, arms_good, follows, placed, value_placed}
 use Rattle.lay_code.specs.nodes.Places.{FREE, statement}
 use Rattle.lay_code.specs.reader.Blocks.{arm_body, arm_by, arm_end, body_need, undressed}
 use Rattle.lay_code.specs.reader.Within.{ExprWithin}
 use Rattle.lay_code.specs.declared.blocks.Arm.{Arm}
-use Rattle.lay_code.specs.declared.blocks.Block.{Block}
-use Rattle.lay_code.specs.declared.blocks.Stmt.TheOpen.{Expr-F, Stmt-F}
-use Rattle.lay_code.specs.declared.blocks.Stmt.TheVariants as stmt
-use Rattle.lay_code.specs.declared.blocks.Stmt.TheViews as views
 use Rattle.lay_code.specs.declared.exprs.Expr.{Expr}
-use Rattle.lay_code.specs.declared.exprs.Expr.TheVariants as expr
-use Rattle.lay_code.proofs.nodes.BlocksLaws.{arm_is, block_is, stmt_expr_is}
-use Rattle.lay_code.proofs.nodes.ExprsLaws.{expr_block_is}
+use Rattle.lay_code.proofs.nodes.BlocksLaws.{arm_is}
+use Rattle.lay_code.proofs.reader.ArmsSoundBodies.{undressed_strips}
 use Rattle.lay_code.proofs.reader.BlockReads.{Begun, Fronts, brace_begun}
-use Rattle.lay_code.proofs.reader.BlocksComplete.{semicolons_less}
+use Rattle.lay_code.proofs.reader.Dressed.{alone, alone_is_free, alone_is_lone, braced_no_macro, dress, dressed, dressed_no_macro, dressed_placed, opens_take, strip_dressed}
 use Rattle.lay_code.proofs.reader.ExprQuiet.{ends_follow, comma_ends_expr, closer_ends_expr}
 use Rattle.lay_code.proofs.reader.ExprReads.{ExprReads}
 use Rattle.lay_code.proofs.reader.PatternEnds.{arrow_follows, if_follows}
 use Rattle.lay_code.proofs.reader.StmtsComplete.{block_tail}
 
--- ---- an expression within so many blocks
+-- ---- the braces of a body
 
-abbrev one_block : Expr → Block
-one_block y = record { attrs = []; stmts = stmt.Expr [] y false ∷ [] }
-
--- a block of one expression without a `;`
-abbrev alone : Expr → Expr
-alone y = expr.Block None (one_block y)
-
-abbrev dress : ℕ → Expr → Expr
-dress zero y = y
-dress (suc k) y = alone (dress k y)
-
-abbrev alone_facts : Expr → ExprFacts
-alone_facts y =
-    expr_facts (Expr-F.Block None (block_facts (record { attrs = []; stmts = stmt_facts (Stmt-F.Stmt::Expr [] (about_expr y) false) ∷ [] })))
-
-about_alone : (y : Expr) → about_expr (alone y) ≡ alone_facts y
-about_alone y =
-    expr_block_is None (one_block y) ∙ ap (λ (B : BlockFacts). expr_facts (Expr-F.Block None B)) (block_is (one_block y))
-    ∙ ap (λ (S : StmtFacts). expr_facts (Expr-F.Block None (block_facts (record { attrs = []; stmts = S ∷ [] })))) (stmt_expr_is [] y false)
-
-alone_spelled : (y : Expr) (depth : ℕ) (ts inner at end rest : Tokens) → IsOne (Opener Brace) (opening Brace ∷ []) ts inner → AnySemicolons inner at
-    → Spells (about_expr y).form depth at end → Closed Brace end rest → Spells (about_expr (alone y)).form (suc depth) ts rest
-alone_spelled y depth ts inner at end rest o s is c =
-    let form : Form = Part (Part (about_expr y).form Done) Done in
-    let row : Rows (SpelledAt depth) (form ∷ []) at end = (end, (end, (end, is, refl), refl), refl) in
-    let spelled = body_spelled [] dropped (form ∷ []) depth ts ts inner at end rest refl o (at, s, refl) row c in
-    subst (λ (F : ExprFacts). Spells F.form (suc depth) ts rest) (sym (about_alone y)) (rest, spelled, refl)
-
-closes_split : (k : ℕ) (ts rest : Tokens) → Closes (suc k) ts rest → (mid : Tokens) × Closes k ts mid × Closed Brace mid rest
-closes_split zero ts rest s =
-    let c : Closed Brace ts s.0 = bit_alone (closer Brace) ts s.0 s.1 in (ts, refl, subst (λ us. Closed Brace ts us) s.2 c)
-closes_split (suc k) ts rest s = let r = closes_split k s.0 rest s.2 in (r.0, (s.0, s.1, r.1), r.2)
-
-at_depth : (x : Expr) (depth more : ℕ) (ts rest : Tokens) → depth ≡ more → Spells (about_expr x).form depth ts rest → Spells (about_expr x).form more ts rest
-at_depth x depth more ts rest e s = subst (λ n. Spells (about_expr x).form n ts rest) e s
-
--- Within so many pairs of braces it is spelled as blocks, each of them one level deeper.
-dressed : (k depth : ℕ) (y : Expr) (ts a b rest : Tokens) → Opens k ts a → Spells (about_expr y).form depth a b → Closes k b rest
-    → Spells (about_expr (dress k y)).form (depth + k) ts rest
-dressed zero depth y ts a b rest o s c =
-    let same : depth ≡ depth + 0 = omega arith in
-    let here : Spells (about_expr y).form depth ts rest =
-    subst (λ us. Spells (about_expr y).form depth ts us) c (subst (λ us. Spells (about_expr y).form depth us b) (sym o) s) in
-    at_depth y depth (depth + 0) ts rest same here
-dressed (suc k) depth y ts a b rest o s c =
-    let last = closes_split k b rest c in
-    let bits = o.1 in
-    let inside_is = dressed k depth y o.0 a b last.0 o.2 s last.1 in
-    let same : suc (depth + k) ≡ depth + suc k = omega arith in
-    at_depth (alone (dress k y)) (suc (depth + k)) (depth + suc k) ts rest same
-    (alone_spelled (dress k y) (depth + k) ts bits.0 o.0 last.0 rest bits.1 (bit_alone Semicolons bits.0 o.0 bits.2) inside_is last.2)
-
-dressed_placed : (k : ℕ) (y : Expr) → placed (about_expr y) statement ≡ true → placed (about_expr (dress k y)) statement ≡ true
-dressed_placed zero y w = w
-dressed_placed (suc k) y w =
-    let inner : placed (alone_facts (dress k y)) statement ≡ true = dressed_placed k y w in
-    subst (λ (F : ExprFacts). placed F statement ≡ true) (sym (about_alone (dress k y))) inner
-
-dressed_no_macro : (k : ℕ) (y : Expr) → is_macro (about_expr y).kind ≡ false → is_macro (about_expr (dress k y)).kind ≡ false
-dressed_no_macro zero y h = h
-dressed_no_macro (suc k) y h = subst (λ (F : ExprFacts). is_macro F.kind ≡ false) (sym (about_alone (dress k y))) refl
-
--- Around anything but a macro call such a block is dropped, and it is block-like.
-alone_is_lone : (y : Expr) → is_macro (about_expr y).kind ≡ false → is_lone_body (about_expr (alone y)).kind ≡ true
-alone_is_lone y h = subst (λ (F : ExprFacts). is_lone_body F.kind ≡ true) (sym (about_alone y)) (rw h refl)
-
-alone_block : (y : Expr) → ((about_expr (alone y)).block_like ≡ true) × (is_free (about_expr (alone y)) ≡ true)
-alone_block y = subst (λ (F : ExprFacts). (F.block_like ≡ true) × (is_free F ≡ true)) (sym (about_alone y)) (refl, refl)
-
-undress_alone : (n : ℕ) (y : Expr) → is_macro (about_expr y).kind ≡ false → undressed (suc n) (alone y) ≡ undressed n y
-unfolding undressed
-undress_alone n y h = rw (alone_is_lone y h, views.outs-Block None (one_block y), views.outs-Stmt::Expr [] y false) refl
-
-undress_other : (n : ℕ) (x : Expr) → is_lone_body (about_expr x).kind ≡ false → undressed n x ≡ x
-unfolding undressed
-undress_other zero x h = refl
-undress_other (suc n) x h = rw h refl
-
-undress_dressed : (k n : ℕ) (y : Expr) → k ≤ n → is_lone_body (about_expr y).kind ≡ false → (1 ≤ k → is_macro (about_expr y).kind ≡ false)
+-- Read within so many pairs of braces as blocks, a body loses them.
+pub undress_dressed : (k n : ℕ) (y : Expr) → k ≤ n → is_lone_body (about_expr y).kind ≡ false → (1 ≤ k → is_macro (about_expr y).kind ≡ false)
     → undressed n (dress k y) ≡ y
-undress_dressed zero n y le h m = undress_other n y h
-undress_dressed (suc k) zero y le h m = absurd (omega (arith, le))
-undress_dressed (suc k) (suc n) y le h m =
-    let bare = m (omega arith) in
-    undress_alone n (dress k y) (dressed_no_macro k y bare) ∙ undress_dressed k n y (omega (arith, le)) h (λ z. bare)
-
-opens_take : (k : ℕ) (ts rest : Tokens) → Opens k ts rest → k + length rest ≤ length ts
-opens_take zero ts rest s = omega (arith, ap length s)
-opens_take (suc k) ts rest s =
-    let bits = s.1 in
-    let skipped = bit_alone Semicolons bits.0 s.0 bits.2 in
-    omega (
-      arith,
-      opens_take k s.0 rest s.2,
-      one_shorter (Opener Brace) (opening Brace ∷ []) ts bits.0 bits.1,
-      semicolons_less skipped.0 bits.0 s.0 skipped.1,
-    )
-
--- A macro call stands in no braces that aren't in the tree.
-braced_no_macro : (k : ℕ) (kind : BodyKind) → MayBrace (braces_of kind) k → 1 ≤ k → is_macro kind ≡ false
-braced_no_macro k MacroBody b le = absurd (omega (arith, b, le))
-braced_no_macro k (BlockBody lone) b le = refl
-braced_no_macro k OtherBody b le = refl
+undress_dressed k n y le bare macro =
+    strip_dressed is_lone_body undressed undressed_strips k n y le bare
+    (λ j l. alone_is_lone (dress j y) (dressed_no_macro j y (macro (omega (arith, l)))))
 
 -- ---- what stands behind an arm
 
@@ -164,8 +62,10 @@ pub record ArmBehind (last : Bool) (ts : Tokens) : Type 0 where
 abbrev Free : Expr → Tokens → Type 0
 Free x ts = (follows (about_expr x) statement ts ≡ true) × ((is_free (about_expr x) || first (closes Brace) ts) ≡ true)
 
-free_block : (x : Expr) (ts : Tokens) → (about_expr x).block_like ≡ true → is_free (about_expr x) ≡ true → Begun ts → Free x ts
-free_block x ts b f e = (rw (b, e.dot) (block_tail x false ts b e.no_else), rw f refl)
+free_block : (x : Expr) (ts : Tokens) → is_free (about_expr x) ≡ true → Begun ts → Free x ts
+free_block x ts f e =
+    let b = (and_parts (about_expr x).block_like (not (is_macro (about_expr x).kind)) f).0 in
+    (rw (b, e.dot) (block_tail x false ts b e.no_else), rw f refl)
 
 free_body : (last : Bool) (k : ℕ) (y : Expr) (ts : Tokens) → may_lack last (is_free (about_expr y)) k ≡ true → ArmBehind last ts → Free (dress k y) ts
 free_body true k y ts f b =
@@ -173,14 +73,12 @@ free_body true k y ts f b =
       ends_follow (about_expr (dress k y)) statement ts (closer_ends_expr false Brace ts c.0 c.1),
       or_right (is_free (about_expr (dress k y))) (first (closes Brace) ts) (closer_first Brace ts c.0 c.1).0,
     )
-free_body false zero y ts f b =
-    let free = one_of (is_free (about_expr y)) f in
-    free_block y ts (and_parts (about_expr y).block_like (not (is_macro (about_expr y).kind)) free).0 free b.begun
+free_body false zero y ts f b = free_block y ts (one_of (is_free (about_expr y)) f) b.begun
   where
     one_of : (a : Bool) → (a || false) ≡ true → a ≡ true
     one_of true h = refl
     one_of false h = h
-free_body false (suc k) y ts f b = let a = alone_block (dress k y) in free_block (alone (dress k y)) ts a.0 a.1 b.begun
+free_body false (suc k) y ts f b = free_block (alone (dress k y)) ts (alone_is_free (dress k y)) b.begun
 
 guard_word : (ts rest : Tokens) → AreBits (Blank ∷ keyword (codes "if") ∷ Blank ∷ []) ts rest → IsOne Ident (codes "if") ts rest
 guard_word ts rest s = before_blank (keyword (codes "if")) ts rest (behind_blank (keyword (codes "if") ∷ Blank ∷ []) ts rest s)
@@ -238,7 +136,7 @@ module _ (fronts : Fronts) (depth : ℕ) (within : ExprWithin) (reads : (least :
       let turns : k ≤ length ts = omega (arith, opens_take k ts braced.0 braced.1) in
       let bare = undress_dressed k (length ts) y turns lone no_macro in
       let got = body_end y last k at rest end behind in
-      let r = (reads ((depth - cost k) + k) bound).exprs statement x ts at is (dressed_placed k y w) got.0 in (
+      let r = (reads ((depth - cost k) + k) bound).exprs statement x ts at is (dressed_placed k y ∙ w) (inl got.0) in (
         (
           body_need (is_lone_body (about_expr x).kind) r.0,
           need_is k y r.0 lone no_macro r.1 le,
@@ -260,7 +158,7 @@ module _ (fronts : Fronts) (depth : ℕ) (within : ExprWithin) (reads : (least :
   guard_read (Some x) ts rest s g a =
       let o = guard_word ts s.0 s.1 in
       let x_spelled = part_alone (about_expr x).form depth s.0 rest s.2 in
-      let r = here.exprs FREE x s.0 rest x_spelled g (ends_follow (about_expr x) FREE rest (fronts.arrows rest a)) in
+      let r = here.exprs FREE x s.0 rest x_spelled g (inl (ends_follow (about_expr x) FREE rest (fronts.arrows rest a))) in
       (r.0, r.1, rw (keyword_there (codes "if") ts s.0 o, one_left Ident (codes "if") ts s.0 o, r.2) refl)
 
   pat_fits : (a : Arm) (ts rest : Tokens) → Spells (guard_form (option_map about_expr a.guard)) depth ts rest → is_op (codes "=>") rest ≡ true

@@ -14,12 +14,13 @@ use Rattle.lay_code.specs.nodes.Bodies.{BlockBody, BodyKind, MacroBody, OtherBod
 use Rattle.lay_code.specs.nodes.Code.{about_expr}
 use Rattle.lay_code.specs.nodes.Exprs.{ExprFacts, Followed, body_braces, closure_body, follows, placed}
 use Rattle.lay_code.specs.nodes.Places.{plain, statement}
-use Rattle.lay_code.specs.reader.Blocks.{body_need}
+use Rattle.lay_code.specs.reader.Blocks.{body_need, undressed}
 use Rattle.lay_code.specs.reader.Exprs.{shed}
 use Rattle.lay_code.specs.declared.blocks.Stmt.TheViews as views
 use Rattle.lay_code.specs.declared.exprs.Expr.{Expr}
 use Rattle.lay_code.proofs.nodes.BodyLaws.{body_law, place_law}
-use Rattle.lay_code.proofs.reader.Dressed.{Strips, about_alone, alone, alone_block, alone_facts, any_pair, braced_no_macro, dress, dressed, dressed_no_macro, dressed_placed, no_pair, opens_take, strip_dressed, stripped}
+use Rattle.lay_code.proofs.reader.ArmsSoundBodies.{undressed_strips}
+use Rattle.lay_code.proofs.reader.Dressed.{Strips, about_alone, alone, alone_block, alone_facts, any_pair, braced_no_macro, dress, dressed, dressed_no_macro, dressed_placed, fewer_bare, no_pair, opens_take, strip_dressed, stripped}
 use Rattle.lay_code.proofs.reader.Followed.{Ended, SpelledBefore, ended_of, followed, level_of, weak_root}
 
 -- ---- turns
@@ -44,6 +45,12 @@ pub shed_strips : (no_struct : Bool) → Strips (λ kind. sheds kind no_struct) 
 unfolding shed
 shed_strips no_struct =
     record { lone = lone_sheds no_struct; none = λ x. refl; other = shed_other no_struct; one = shed_alone no_struct }
+
+-- So many turns as leave no pair round the body of an arm leave none that goes round that of a closure.
+pub shed_bare : (no_struct : Bool) (n : ℕ) (x : Expr) → is_lone_body (about_expr (undressed n x)).kind ≡ false
+    → sheds (about_expr (shed no_struct n x)).kind no_struct ≡ false
+shed_bare no_struct =
+    fewer_bare is_lone_body undressed undressed_strips (λ kind. sheds kind no_struct) (shed no_struct) (shed_strips no_struct) (lone_sheds no_struct)
 
 -- ---- a block of one expression as the body of a closure
 

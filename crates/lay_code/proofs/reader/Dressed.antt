@@ -278,18 +278,22 @@ dress_parts (suc k) y m ts mid s =
 
 -- ---- pairs that are taken off
 
--- Turns, each of which takes off a pair, as long as the test says so of what is left.
+-- By the test no braces of it go.
+abbrev pub Stays : (BodyKind → Bool) → Expr → Type 0
+Stays drops x = drops (about_expr x).kind ≡ false
+
+-- Turns that take off a pair each, as long as the test says that the braces of what is left go.
 pub record Strips (drops : BodyKind → Bool) (strip : ℕ → Expr → Expr) : Type 0 where
   pub lone : (kind : BodyKind) → drops kind ≡ true → is_lone_body kind ≡ true
   pub none : (x : Expr) → strip 0 x ≡ x
-  pub other : (n : ℕ) (x : Expr) → drops (about_expr x).kind ≡ false → strip n x ≡ x
+  pub other : (n : ℕ) (x : Expr) → Stays drops x → strip n x ≡ x
   pub one : (n : ℕ) (y : Expr) → drops (about_expr (alone y)).kind ≡ true → strip (suc n) (alone y) ≡ strip n y
 
 -- how many of them so many turns have taken off
 record Turned (drops : BodyKind → Bool) (n : ℕ) (x y : Expr) : Type 0 where
   pairs : ℕ
   around : x ≡ dress pairs y
-  last : (drops (about_expr y).kind ≡ false) ⊎ (pairs ≡ n)
+  last : Stays drops y ⊎ (pairs ≡ n)
   outer : 1 ≤ pairs → drops (about_expr x).kind ≡ true
   inner : 1 ≤ pairs → drops (about_expr (alone y)).kind ≡ true
 
@@ -303,18 +307,18 @@ pub record Stripped (drops : BodyKind → Bool) (x y : Expr) (m : ℕ) (ts mid :
   pub form : Spells (about_expr y).form (m - pairs) at end
   pub closes : Closes pairs end mid
   pub around : x ≡ dress pairs y
-  pub bare : drops (about_expr y).kind ≡ false
+  pub bare : Stays drops y
   pub inner : 1 ≤ pairs → drops (about_expr (alone y)).kind ≡ true
   pub some : drops (about_expr x).kind ≡ true → 1 ≤ pairs
-  pub none : drops (about_expr x).kind ≡ false → (pairs ≡ 0) × (y ≡ x)
+  pub none : Stays drops x → (pairs ≡ 0) × (y ≡ x)
 
--- Something is spelled by a token at least, where its braces are dropped.
+-- A body whose braces may go takes a token at least.
 lone_takes : (m : ℕ) (x : Expr) → Lone x → (ts mid : Tokens) → Spells (about_expr x).form m ts mid → 1 ≤ length ts
 lone_takes m _ (IsAlone y macro) ts mid s =
     let p = alone_parts y m ts mid s in omega (arith, one_shorter (Opener Brace) (opening Brace ∷ []) ts p.inner p.opened)
 
 module _ (drops : BodyKind → Bool) (strip : ℕ → Expr → Expr) (strips : Strips drops strip) where
-  turned_other : (n : ℕ) (x : Expr) → (drops (about_expr x).kind ≡ false) ⊎ (0 ≡ n) → strip n x ≡ x → Turned drops n x (strip n x)
+  turned_other : (n : ℕ) (x : Expr) → Stays drops x ⊎ (0 ≡ n) → strip n x ≡ x → Turned drops n x (strip n x)
   turned_other n x last same =
       let found : Turned drops n x x = record {
         pairs = 0;
@@ -376,7 +380,7 @@ module _ (drops : BodyKind → Bool) (strip : ℕ → Expr → Expr) (strips : S
       }
     where
       bare_by : (b : Bool) → drops (about_expr (strip n x)).kind ≡ b → (t : Turned drops n x (strip n x))
-          → DressParts t.pairs (strip n x) m ts mid → drops (about_expr (strip n x)).kind ≡ false
+          → DressParts t.pairs (strip n x) m ts mid → Stays drops (strip n x)
       bare_by false e t p = e
       bare_by true e t p = elim t.last [
         | inl h ↦ h
@@ -385,19 +389,64 @@ module _ (drops : BodyKind → Bool) (strip : ℕ → Expr → Expr) (strips : S
             absurd (omega (arith, le, h, takes, opens_take t.pairs ts p.at p.opens))
       ]
 
-      some_by : (pairs : ℕ) (y : Expr) → x ≡ dress pairs y → drops (about_expr y).kind ≡ false → drops (about_expr x).kind ≡ true → 1 ≤ pairs
+      some_by : (pairs : ℕ) (y : Expr) → x ≡ dress pairs y → Stays drops y → drops (about_expr x).kind ≡ true → 1 ≤ pairs
       some_by zero y e bare h = absurd (cc (sym h ∙ ap (λ z. drops (about_expr z).kind) e ∙ bare))
       some_by (suc k) y e bare h = omega arith
 
-      none_by : (pairs : ℕ) (y : Expr) → x ≡ dress pairs y → (1 ≤ pairs → drops (about_expr x).kind ≡ true) → drops (about_expr x).kind ≡ false
+      none_by : (pairs : ℕ) (y : Expr) → x ≡ dress pairs y → (1 ≤ pairs → drops (about_expr x).kind ≡ true) → Stays drops x
           → (pairs ≡ 0) × (y ≡ x)
       none_by zero y e outer h = (refl, sym e)
       none_by (suc k) y e outer h = absurd (cc (sym h ∙ outer (omega arith)))
 
   -- As many turns as there are pairs suffice, where each of them goes.
-  pub strip_dressed : (k n : ℕ) (y : Expr) → k ≤ n → drops (about_expr y).kind ≡ false
+  pub strip_dressed : (k n : ℕ) (y : Expr) → k ≤ n → Stays drops y
       → ((j : ℕ) → j < k → drops (about_expr (alone (dress j y))).kind ≡ true) → strip n (dress k y) ≡ y
   strip_dressed zero n y le bare each = strips.other n y bare
   strip_dressed (suc k) zero y le bare each = absurd (omega (arith, le))
   strip_dressed (suc k) (suc n) y le bare each =
       strips.one n (dress k y) (each k (omega arith)) ∙ strip_dressed k n y (omega (arith, le)) bare (λ j l. each j (omega (arith, l)))
+
+  -- Turns that leave none are as good as others that do.
+  same_alone : (m n : ℕ) → ((y : Expr) → Stays drops (strip m y) → Stays drops (strip n y) → strip m y ≡ strip n y)
+      → (x : Expr) → Lone x → drops (about_expr x).kind ≡ true → Stays drops (strip (suc m) x) → Stays drops (strip (suc n) x)
+      → strip (suc m) x ≡ strip (suc n) x
+  same_alone m n same _ (IsAlone z macro) h b c =
+      let e = strips.one m z h in
+      let f = strips.one n z h in
+      e ∙ same z (subst (Stays drops) e b) (subst (Stays drops) f c) ∙ sym f
+
+  same_by : (m n : ℕ) → ((y : Expr) → Stays drops (strip m y) → Stays drops (strip n y) → strip m y ≡ strip n y)
+      → (x : Expr) (lone : Bool) → drops (about_expr x).kind ≡ lone → Stays drops (strip (suc m) x) → Stays drops (strip (suc n) x)
+      → strip (suc m) x ≡ strip (suc n) x
+  same_by m n same x false h b c = strips.other (suc m) x h ∙ sym (strips.other (suc n) x h)
+  same_by m n same x true h b c = same_alone m n same x (is_alone x (strips.lone (about_expr x).kind h)) h b c
+
+  pub same_bare : (m n : ℕ) (x : Expr) → Stays drops (strip m x) → Stays drops (strip n x) → strip m x ≡ strip n x
+  same_bare zero n x b c = strips.none x ∙ sym (strips.other n x (subst (Stays drops) (strips.none x) b))
+  same_bare (suc m) zero x b c = strips.other (suc m) x (subst (Stays drops) (strips.none x) c) ∙ sym (strips.none x)
+  same_bare (suc m) (suc n) x b c = same_by m n (λ y d e. same_bare m n y d e) x (drops (about_expr x).kind) refl b c
+
+-- Where turns leave none, as many turns of others leave none that take off no other pairs.
+module _ (drops : BodyKind → Bool) (strip : ℕ → Expr → Expr) (strips : Strips drops strip)
+    (others : BodyKind → Bool) (other_strip : ℕ → Expr → Expr) (other_strips : Strips others other_strip)
+    (fewer : (kind : BodyKind) → others kind ≡ true → drops kind ≡ true) where
+  fewer_alone : (n : ℕ) → ((y : Expr) → Stays drops (strip n y) → Stays others (other_strip n y)) → (x : Expr) → Lone x
+      → others (about_expr x).kind ≡ true → Stays drops (strip (suc n) x) → Stays others (other_strip (suc n) x)
+  fewer_alone n left _ (IsAlone z macro) h b =
+      let e = strips.one n z (fewer (about_expr (alone z)).kind h) in
+      subst (Stays others) (sym (other_strips.one n z h)) (left z (subst (Stays drops) e b))
+
+  fewer_by : (n : ℕ) → ((y : Expr) → Stays drops (strip n y) → Stays others (other_strip n y)) → (x : Expr) (lone : Bool)
+      → others (about_expr x).kind ≡ lone → Stays drops (strip (suc n) x) → Stays others (other_strip (suc n) x)
+  fewer_by n left x false h b = subst (Stays others) (sym (other_strips.other (suc n) x h)) h
+  fewer_by n left x true h b = fewer_alone n left x (is_alone x (other_strips.lone (about_expr x).kind h)) h b
+
+  stays_by : (x : Expr) (lone : Bool) → others (about_expr x).kind ≡ lone → Stays drops x → Stays others x
+  stays_by x false h b = h
+  stays_by x true h b = absurd (cc (sym b ∙ fewer (about_expr x).kind h))
+
+  pub fewer_bare : (n : ℕ) (x : Expr) → Stays drops (strip n x) → Stays others (other_strip n x)
+  fewer_bare zero x b =
+      subst (Stays others) (sym (other_strips.none x))
+      (stays_by x (others (about_expr x).kind) refl (subst (Stays drops) (strips.none x) b))
+  fewer_bare (suc n) x b = fewer_by n (λ y d. fewer_bare n y d) x (others (about_expr x).kind) refl b

@@ -1,8 +1,8 @@
 -- Closures are read where they are spelled.
-use Rattle.std.proofs.Common.{◌≡◌, ℕ, zero, suc, ◌≤◌, ◌<◌, max, Bool, true, false, not, ◌&&◌, ◌||◌, nat_le, le-leb, eqb-true, List, [], ◌∷◌, ◌++◌, map, length, drop, codes, Option, Some, None, ◌⊎◌, inl, inr, refl, sym, ap, subst, append-nil, append_assoc, arith}
-use Rattle.std.specs.Prelude.{◌==◌, if◌then◌else◌}
+use Rattle.std.proofs.Common.{◌≡◌, ℕ, zero, suc, ◌≤◌, ◌<◌, max, Bool, true, false, not, ◌&&◌, List, [], ◌∷◌, ◌++◌, map, length, drop, codes, Option, Some, None, ◌⊎◌, inl, inr, refl, sym, ap, subst, append-nil, append_assoc, arith}
+use Rattle.std.specs.Prelude.{if◌then◌else◌}
 use Rattle.std.specs.List.{list_all}
-use Rattle.std.proofs.lemmas.Bool.{and_parts}
+use Rattle.std.proofs.lemmas.Bool.{and_parts, not-true}
 use Rattle.lay_piece.specs.declared.kind.Kind.TheVariants.{Ident, Punct}
 use Rattle.lay_token.specs.Operators.{is_op}
 use Rattle.lay_form.specs.Form.{Blank, Fixed, Operator, Form, Done, Piece, Part, keyword}
@@ -34,14 +34,14 @@ use Rattle.lay_node.proofs.reader.TypesComplete.{quiet_read}
 use Rattle.lay_node.proofs.reader.TypesCompleteParts.{attrs_front, blank_left, colon_operator, keyword_there, one_left, param_attrs_rows}
 use Rattle.lay_node.proofs.reader.TypesFronts as types
 use Rattle.lay_node.proofs.reader.TypesFronts.{comma_ends, no_other_op}
-use Rattle.lay_code.specs.Operators.{strength}
+use Rattle.lay_code.specs.nodes.Bodies.{sheds}
 use Rattle.lay_code.specs.nodes.Code.{about_block, about_expr}
 use Rattle.lay_code.specs.nodes.Exprs as node
-use Rattle.lay_code.specs.nodes.Exprs.{Tail, bar, behind_async, closure_head, is_closure_param, placed, tail_follows}
+use Rattle.lay_code.specs.nodes.Exprs.{Tail, bar, behind_async, closure_head, is_closure_param, placed, shut}
 use Rattle.lay_code.specs.nodes.Places.{plain}
-use Rattle.lay_code.specs.reader.Blocks.{block_by}
+use Rattle.lay_code.specs.reader.Blocks.{block_by, body_need}
 use Rattle.lay_code.specs.reader.Exprs as reader
-use Rattle.lay_code.specs.reader.Exprs.{closure_behind, closure_body, closure_expr}
+use Rattle.lay_code.specs.reader.Exprs.{closure_behind, closure_body, closure_expr, shed}
 use Rattle.lay_code.specs.reader.Within.{ExprWithin}
 use Rattle.lay_code.specs.declared.blocks.Block.{Block}
 use Rattle.lay_code.specs.declared.blocks.Stmt.TheOpen.{Expr-F}
@@ -51,10 +51,11 @@ use Rattle.lay_code.specs.declared.exprs.Expr.TheVariants as expr
 use Rattle.lay_code.proofs.nodes.ExprsLaws.{expr_closure_is, expr_typed_closure_is}
 use Rattle.lay_code.proofs.reader.BlockReads.{Fronts}
 use Rattle.lay_code.proofs.reader.BlocksComplete.{block_at, block_read}
+use Rattle.lay_code.proofs.reader.ClosureBodies.{body_dressed, body_form, body_takes}
 use Rattle.lay_code.proofs.reader.ExprHeads.{IsHead, head_of}
-use Rattle.lay_code.proofs.reader.ExprHeadsJumps.{plain_follows}
-use Rattle.lay_code.proofs.reader.ExprQuiet.{TailFits, fits_tail}
+use Rattle.lay_code.proofs.reader.ExprHeadsJumps.{taken_follows}
 use Rattle.lay_code.proofs.reader.ExprReads.{ExprReads}
+use Rattle.lay_code.proofs.reader.Followed.{SpelledBefore, ended_weak, part_parts, piece_parts, unspelled}
 use Rattle.lay_code.proofs.reader.PatternEnds.{bar_mark_follows, bar_quiet, brace_quiet, comma_quiet}
 
 -- What stands behind a parameter: a comma, or the bar that closes them.
@@ -253,27 +254,34 @@ module _ (fronts : Fronts) (depth : ℕ) (within : ExprWithin) (reads : ExprRead
   head_made is_async moves no_struct ps ys x n ts at inside behind rest m t o l e r = rw (m, t, mark_passed (codes "|") at inside o, l, e) r
 
   -- what it needs to be read from there, if it is no more than this
-  abbrev BodyRead : Bool → Bool → Bool → List ClosureParam → Form → Expr → Tokens → Type 0
-  BodyRead is_async moves no_struct ps f x rest = (need : ℕ) (us : Tokens) → need ≤ depth → Spells f depth us rest
+  abbrev BodyRead : Tail → Bool → Bool → Bool → List ClosureParam → Form → Expr → Tokens → Type 0
+  BodyRead t is_async moves no_struct ps f x rest = (need : ℕ) (us : Tokens) → need ≤ depth → SpelledBefore t f no_struct depth us rest
       → IsRead (suc depth) (closure_body within no_struct is_async moves ps need) x us rest
 
+  -- What stands behind the parameters takes a token at least.
+  abbrev Takes : Form → Type 0
+  Takes f = (us : Tokens) → Spells f depth us us → ⊥
+
   -- behind its `async`
-  behind_read : (is_async moves no_struct : Bool) (ps : List ClosureParam) (f : Form) (x : Expr) (ts rest : Tokens)
-      → Spells (behind_async moves ps f) depth ts rest → list_all is_closure_param ps ≡ true → BodyRead is_async moves no_struct ps f x rest
-      → IsRead (suc depth) (closure_behind within no_struct is_async) x ts rest
-  behind_read is_async true no_struct ps f x ts rest s g body =
-      let o : IsOne Ident (codes "move") ts s.0 = before_blank (keyword (codes "move")) ts s.0 s.1 in
-      let p = s.2 in
-      let l = params_read ps s.0 p.0 p.1 g in
+  behind_read : (t : Tail) (is_async moves no_struct : Bool) (ps : List ClosureParam) (f : Form) (x : Expr) (ts rest : Tokens) → Takes f
+      → SpelledBefore t (behind_async moves ps f) no_struct depth ts rest → list_all is_closure_param ps ≡ true
+      → BodyRead t is_async moves no_struct ps f x rest → IsRead (suc depth) (closure_behind within no_struct is_async) x ts rest
+  behind_read t is_async true no_struct ps f x ts rest takes s g body =
+      let C = comma_list true bar bar (map node.closure_param ps) in
+      let w = piece_parts t no_struct depth (keyword (codes "move") ∷ Blank ∷ []) (Part C f) ts rest s in
+      let o : IsOne Ident (codes "move") ts w.0 = before_blank (keyword (codes "move")) ts w.0 w.1 in
+      let p = part_parts t no_struct depth C f takes w.0 rest w.2 in
+      let l = params_read ps w.0 p.0 p.1 g in
       let ys = l.2 in
       let r = body (deepest ys.0) p.0 ys.2 p.2 in
-      (r.0, r.1, head_made is_async true no_struct ps ys.0 x r.0 ts s.0 l.0 p.0 rest (keyword_there (codes "move") ts s.0 o) (one_left Ident (codes "move") ts s.0 o) l.1 ys.3 ys.1 r.2)
-  behind_read is_async false no_struct ps f x ts rest s g body =
-      let l = params_read ps ts s.0 s.1 g in
+      (r.0, r.1, head_made is_async true no_struct ps ys.0 x r.0 ts w.0 l.0 p.0 rest (keyword_there (codes "move") ts w.0 o) (one_left Ident (codes "move") ts w.0 o) l.1 ys.3 ys.1 r.2)
+  behind_read t is_async false no_struct ps f x ts rest takes s g body =
+      let p = part_parts t no_struct depth (comma_list true bar bar (map node.closure_param ps)) f takes ts rest s in
+      let l = params_read ps ts p.0 p.1 g in
       let ys = l.2 in
       let no_move : first (is_keyword (codes "move")) ts ≡ false = rw (one_front Punct (codes "|") ts l.0 l.1).1 refl in
-      let r = body (deepest ys.0) s.0 ys.2 s.2 in
-      (r.0, r.1, head_made is_async false no_struct ps ys.0 x r.0 ts ts l.0 s.0 rest no_move refl l.1 ys.3 ys.1 r.2)
+      let r = body (deepest ys.0) p.0 ys.2 p.2 in
+      (r.0, r.1, head_made is_async false no_struct ps ys.0 x r.0 ts ts l.0 p.0 rest no_move refl l.1 ys.3 ys.1 r.2)
 
   -- A closure without `async` doesn't begin with it.
   no_async : (moves : Bool) (ps : List ClosureParam) (f : Form) (ts rest : Tokens) → Spells (behind_async moves ps f) depth ts rest
@@ -293,64 +301,26 @@ module _ (fronts : Fronts) (depth : ℕ) (within : ExprWithin) (reads : ExprRead
   unfolding closure_expr
   sync_read no_struct x n ts rest a r = rw a r
 
-  head_read : (is_async moves no_struct : Bool) (ps : List ClosureParam) (f : Form) (x : Expr) (ts rest : Tokens)
-      → Spells (closure_head is_async moves ps f) depth ts rest → list_all is_closure_param ps ≡ true
-      → BodyRead is_async moves no_struct ps f x rest → IsRead (suc depth) (closure_expr within no_struct) x ts rest
-  head_read true moves no_struct ps f x ts rest s g body =
-      let o : IsOne Ident (codes "async") ts s.0 = before_blank (keyword (codes "async")) ts s.0 s.1 in
-      let r = behind_read true moves no_struct ps f x s.0 rest s.2 g body in
-      (r.0, r.1, async_read no_struct x r.0 ts s.0 rest o r.2)
-  head_read false moves no_struct ps f x ts rest s g body =
-      let r = behind_read false moves no_struct ps f x ts rest s g body in
-      (r.0, r.1, sync_read no_struct x r.0 ts rest (no_async moves ps f ts rest s) r.2)
+  head_read : (t : Tail) (is_async moves no_struct : Bool) (ps : List ClosureParam) (f : Form) (x : Expr) (ts rest : Tokens) → Takes f
+      → SpelledBefore t (closure_head is_async moves ps f) no_struct depth ts rest → list_all is_closure_param ps ≡ true
+      → BodyRead t is_async moves no_struct ps f x rest → IsRead (suc depth) (closure_expr within no_struct) x ts rest
+  head_read t true moves no_struct ps f x ts rest takes s g body =
+      let w = piece_parts t no_struct depth (keyword (codes "async") ∷ Blank ∷ []) (behind_async moves ps f) ts rest s in
+      let o : IsOne Ident (codes "async") ts w.0 = before_blank (keyword (codes "async")) ts w.0 w.1 in
+      let r = behind_read t true moves no_struct ps f x w.0 rest takes w.2 g body in
+      (r.0, r.1, async_read no_struct x r.0 ts w.0 rest o r.2)
+  head_read t false moves no_struct ps f x ts rest takes s g body =
+      let r = behind_read t false moves no_struct ps f x ts rest takes s g body in
+      (r.0, r.1, sync_read no_struct x r.0 ts rest (no_async moves ps f ts rest s.0) r.2)
 
-  -- ---- closures
-
-  -- What ends in a closure is followed by no operator.
-  none_follows : (t : Tail) (no_struct : Bool) (ts : Tokens) → TailFits (record t { takes_all = true; closure = true }) no_struct ts
-      → (nat_le (strength ts) 0 ≡ true) × (tail_follows t no_struct ts ≡ true)
-  none_follows t no_struct ts f =
-      let none : strength ts ≡ 0 = eqb-true (strength ts) 0 f.all in (
-        le-leb (strength ts) 0 (omega (arith, none)),
-        fits_tail t no_struct ts (record {
-          all = or_true (not t.takes_all) f.all;
-          bare = f.bare;
-          path = f.path;
-          label = f.label;
-          raw = f.raw;
-          otherwise = f.otherwise;
-          refuses = f.refuses;
-        }),
-      )
-    where
-      or_true : (a : Bool) → (strength ts == 0) ≡ true → (a || strength ts == 0) ≡ true
-      or_true true e = refl
-      or_true false e = e
-
-  plain_made : (is_async moves no_struct : Bool) (ps : List ClosureParam) (x : Expr) (need n : ℕ) (ts rest : Tokens) → is_op (codes "->") ts ≡ false
-      → within.exprs (plain 0 no_struct) ts ≡ Some ((x, n), rest)
-      → closure_body within no_struct is_async moves ps need ts ≡ Some ((expr.Closure is_async moves ps x, suc (max need n)), rest)
-  plain_made is_async moves no_struct ps x need n ts rest a r = rw (a, r) refl
-
-  -- a closure without a return type
-  pub closure_head_read : (is_async moves : Bool) (ps : List ClosureParam) (x : Expr) → IsHead depth within (expr.Closure is_async moves ps x)
-  closure_head_read is_async moves ps x =
-      head_of depth within (expr.Closure is_async moves ps x) (Expr-F.Closure is_async moves ps (about_expr x)) (expr_closure_is is_async moves ps x) (λ no_struct first_flag ts rest h.
-      let goods = and_parts (list_all is_closure_param ps) (placed (about_expr x) (plain 0 no_struct)) h.inside in
-      let behind = none_follows (about_expr x).tail no_struct rest h.tail in
-      head_read is_async moves no_struct ps (Piece (Blank ∷ []) (Part (about_expr x).form Done)) (expr.Closure is_async moves ps x) ts rest h.spelled goods.0 (λ need us le s.
-      let here : Spells (about_expr x).form depth us rest =
-      subst (λ vs. Spells (about_expr x).form depth vs rest) (sym (blank_left us s.0 s.1)) (part_alone (about_expr x).form depth s.0 rest s.2) in
-      let r = reads.exprs (plain 0 no_struct) x us rest here goods.1 (plain_follows (about_expr x) 0 no_struct rest behind.0 behind.1) in
-      let no_arrow = fronts.bodies x (plain 0 no_struct) depth us rest here goods.1 in
-      (suc (max need r.0), omega (arith, le, r.1), plain_made is_async moves no_struct ps x need r.0 us rest no_arrow r.2)))
+  -- ---- a closure with a return type
 
   typed_made : (is_async moves no_struct : Bool) (ps : List ClosureParam) (y : Ty) (b : Block) (need m n : ℕ) (ts at mid rest : Tokens) → IsOperator (codes "->") ts at
       → within.kinds.types NoBounds at ≡ Some ((y, m), mid) → block_by within mid ≡ Some ((b, n), rest)
       → closure_body within no_struct is_async moves ps need ts ≡ Some ((expr.TypedClosure is_async moves ps y b, suc (max need (max m n))), rest)
   typed_made is_async moves no_struct ps y b need m n ts at mid rest o t r = rw (o.0, o.1, t, r) refl
 
-  -- one with a return type, of which the body is a block
+  -- Its body is a block.
   pub typed_closure_head_read : (is_async moves : Bool) (ps : List ClosureParam) (y : Ty) (b : Block) → IsHead depth within (expr.TypedClosure is_async moves ps y b)
   typed_closure_head_read is_async moves ps y b =
       head_of depth within (expr.TypedClosure is_async moves ps y b) (Expr-F.TypedClosure is_async moves ps y (about_block b)) (expr_typed_closure_is is_async moves ps y b)
@@ -359,7 +329,10 @@ module _ (fronts : Fronts) (depth : ℕ) (within : ExprWithin) (reads : ExprRead
       let g1 = and_parts (list_all is_closure_param ps) (good_at NoBounds (about_type y)) g2.0 in
       let body : Form = (about_block b).form true in
       let f : Form = Piece (Blank ∷ Operator (codes "->") ∷ Blank ∷ []) (Part (about_type y).told.form (Part body Done)) in
-      head_read is_async moves no_struct ps f (expr.TypedClosure is_async moves ps y b) ts rest h.spelled g1.0 (λ need us le s.
+      let takes : Takes f = λ us s. unspelled f refl depth us s in
+      head_read (record shut { closure = true }) is_async moves no_struct ps f (expr.TypedClosure is_async moves ps y b) ts rest takes (h.spelled, h.tail) g1.0
+      (λ need us le before.
+      let s = before.0 in
       let o : IsOperator (codes "->") us s.0 =
       before_blank (Operator (codes "->")) us s.0 (behind_blank (Operator (codes "->") ∷ Blank ∷ []) us s.0 s.1) in
       let t = s.2 in
@@ -367,3 +340,44 @@ module _ (fronts : Fronts) (depth : ℕ) (within : ExprWithin) (reads : ExprRead
       let q = quiet_read depth within.kinds reads.kinds NoBounds y s.0 t.0 t.1 g1.1 (brace_quiet t.0 p.inside p.opened) in
       let r = block_read fronts depth within reads b t.0 rest p g2.1 in
       (suc (max need (max q.0 r.0)), omega (arith, le, q.1, r.1), typed_made is_async moves no_struct ps y b need q.0 r.0 us s.0 t.0 rest o q.2 r.2)))
+
+module _ (fronts : Fronts) (depth : ℕ) (within : ExprWithin) (reads : (least : ℕ) → least ≤ depth → ExprReads least within) where
+  -- ---- a closure without a return type
+
+  plain_made : (is_async moves no_struct : Bool) (ps : List ClosureParam) (w x : Expr) (need n : ℕ) (ts rest : Tokens) → is_op (codes "->") ts ≡ false
+      → within.exprs (plain 0 no_struct) ts ≡ Some ((w, n), rest) → shed no_struct (length ts) w ≡ x
+      → closure_body within no_struct is_async moves ps need ts
+      ≡ Some ((expr.Closure is_async moves ps x, suc (max need (body_need (sheds (about_expr w).kind no_struct) n))), rest)
+  plain_made is_async moves no_struct ps w x need n ts rest a r e = rw (a, r, e) refl
+
+  body_spelled : (x : Expr) (no_struct : Bool) → placed (about_expr x) (plain 0 no_struct) ≡ true → (us : Tokens)
+      → Spells (Piece (Blank ∷ []) (body_form x)) depth us us → ⊥
+  body_spelled x no_struct g us s =
+      let b = s.2 in
+      let less = body_takes x (λ n ts rest t. (fronts.leads x (plain 0 no_struct) n ts rest t g).1) depth s.0 us b in
+      omega (arith, less, ap length (blank_left us s.0 s.1))
+
+  -- Within braces that aren't in the tree its body is read with them, as blocks, and loses them.
+  pub closure_head_read : (is_async moves : Bool) (ps : List ClosureParam) (x : Expr) → IsHead depth within (expr.Closure is_async moves ps x)
+  closure_head_read is_async moves ps x =
+      head_of depth within (expr.Closure is_async moves ps x) (Expr-F.Closure is_async moves ps (about_expr x)) (expr_closure_is is_async moves ps x)
+      (λ no_struct first_flag ts rest h.
+      let F = about_expr x in
+      let B = body_form x in
+      let place = plain 0 no_struct in
+      let t : Tail = record F.tail { takes_all = true; closure = true } in
+      let g2 = and_parts (list_all is_closure_param ps && placed F place) (not (sheds F.kind no_struct)) h.inside in
+      let g1 = and_parts (list_all is_closure_param ps) (placed F place) g2.0 in
+      let bare = not-true (sheds F.kind no_struct) g2.1 in
+      head_read fronts depth within (reads depth (omega arith)) t is_async moves no_struct ps (Piece (Blank ∷ []) B) (expr.Closure is_async moves ps x) ts rest
+      (body_spelled x no_struct g1.1) (h.spelled, h.tail) g1.0 (λ need us le s.
+      let p = piece_parts t no_struct depth (Blank ∷ []) B us rest s in
+      let here = subst (λ vs. SpelledBefore t B no_struct depth vs rest) (sym (blank_left us p.0 p.1)) p.2 in
+      let e = ended_weak t F.tail B no_struct depth us rest (taken_follows F.tail no_struct rest) here in
+      let d = body_dressed no_struct x g1.1 bare depth us rest e.0 e.1 in
+      let r = (reads d.least d.le).exprs place d.whole us rest d.form d.stands d.follows in
+      let no_arrow = fronts.bodies d.whole place d.least us rest d.form d.stands in (
+        suc (max need (body_need (sheds (about_expr d.whole).kind no_struct) r.0)),
+        omega (arith, le, d.need r.0 r.1),
+        plain_made is_async moves no_struct ps d.whole x need r.0 us rest no_arrow r.2 d.bare,
+      )))

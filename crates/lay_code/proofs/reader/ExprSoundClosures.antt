@@ -1,5 +1,5 @@
 -- Closures: what is read stands there, where what is one level deeper is read so.
-use Rattle.std.proofs.Common.{◌≡◌, ℕ, suc, ◌≤◌, max, Bool, true, false, ◌&&◌, List, [], ◌∷◌, inl, inr, map, codes, drop, Option, Some, None, if◌then◌else◌, refl, subst, arith}
+use Rattle.std.proofs.Common.{◌≡◌, ℕ, suc, ◌≤◌, max, Bool, true, false, not, ◌&&◌, List, [], ◌∷◌, inl, inr, length, map, codes, drop, Option, Some, None, if◌then◌else◌, refl, ap, subst, arith}
 use Rattle.std.specs.List.{list_all}
 use Rattle.std.proofs.lemmas.Bool.{and_from}
 use Rattle.lay_piece.specs.declared.kind.Kind.TheVariants as kind
@@ -25,14 +25,15 @@ use Rattle.lay_node.proofs.Steps.{bind_some, chosen, same_some}
 use Rattle.lay_node.proofs.reader.Attr.{attributes_sound}
 use Rattle.lay_node.proofs.reader.Loops.{SoundStep}
 use Rattle.lay_node.proofs.reader.TypesSoundNeeds.{listed}
-use Rattle.lay_node.proofs.reader.TypesSoundParts.{Leads, Out, attrs_good, bit_texts, param_attrs_leads}
+use Rattle.lay_node.proofs.reader.TypesSoundParts.{Out, attrs_good, bit_texts, param_attrs_leads}
 use Rattle.lay_code.specs.nodes.Blocks.{let_type}
+use Rattle.lay_code.specs.nodes.Bodies.{sheds}
 use Rattle.lay_code.specs.nodes.Code.{about_block, about_expr}
-use Rattle.lay_code.specs.nodes.Exprs.{bar, behind_async, closure_head, closure_param, is_closure_param, placed}
+use Rattle.lay_code.specs.nodes.Exprs.{Tail, bar, behind_async, closure_head, closure_param, is_closure_param, placed, shut}
 use Rattle.lay_code.specs.nodes.Places.{plain}
-use Rattle.lay_code.specs.reader.Blocks.{block_by}
+use Rattle.lay_code.specs.reader.Blocks.{block_by, body_need}
 use Rattle.lay_code.specs.reader.Exprs as reader
-use Rattle.lay_code.specs.reader.Exprs.{closure_behind, closure_body, closure_expr}
+use Rattle.lay_code.specs.reader.Exprs.{closure_behind, closure_body, closure_expr, shed}
 use Rattle.lay_code.specs.reader.Within.{ExprWithin}
 use Rattle.lay_code.specs.declared.blocks.Stmt.TheOpen.{Expr-F}
 use Rattle.lay_code.specs.declared.exprs.ClosureParam.{ClosureParam}
@@ -41,8 +42,14 @@ use Rattle.lay_code.specs.declared.exprs.Expr.TheVariants as expr
 use Rattle.lay_code.proofs.nodes.ExprsLaws.{expr_closure_is, expr_typed_closure_is}
 use Rattle.lay_code.proofs.reader.BlocksSound.{most_within, type_sound}
 use Rattle.lay_code.proofs.reader.BlocksSoundWhole.{block_sound}
-use Rattle.lay_code.proofs.reader.ExprSoundHeads.{jump_follows}
-use Rattle.lay_code.proofs.reader.ExprSoundLevel.{LeftHeld, SoundExprWithin, made}
+use Rattle.lay_code.proofs.reader.ClosureBodies.{body_form, body_stands}
+use Rattle.lay_code.proofs.reader.ExprSoundLevel.{LeftHeld, SoundExprWithin, all_taken, made_before}
+use Rattle.lay_code.proofs.reader.Followed.{SpelledBefore, before_deeper, ended_as, part_made, piece_made}
+
+-- What stands there is spelled before whatever stands behind it, and ends as that does.
+abbrev LeadsBefore : Bool → (Form → Form) → Tokens → Tokens → Type 0
+LeadsBefore no_struct lead ts rest = (t : Tail) (f : Form) (depth : ℕ) (end : Tokens) → SpelledBefore t f no_struct depth rest end
+    → SpelledBefore t (lead f) no_struct depth ts end
 
 -- ---- the words before the parameters, each or not
 
@@ -53,9 +60,9 @@ module _ (word : List ℕ) where
   word_there : (ts : Tokens) → first (is_keyword word) ts ≡ true → AreBits word_bits ts (tail ts)
   word_there ts h = (tail ts, keyword_one word ts h, (tail ts, refl, refl))
 
-  word_leads : (b : Bool) (ts : Tokens) → first (is_keyword word) ts ≡ b → Leads (when b word_bits) ts (if b then tail ts else ts)
-  word_leads true ts h f depth end s = (tail ts, word_there ts h, s)
-  word_leads false ts h f depth end s = s
+  word_leads : (no_struct b : Bool) (ts : Tokens) → first (is_keyword word) ts ≡ b → LeadsBefore no_struct (when b word_bits) ts (if b then tail ts else ts)
+  word_leads no_struct true ts h t f depth end s = piece_made t no_struct depth word_bits f ts (tail ts) end (word_there ts h) s
+  word_leads no_struct false ts h t f depth end s = s
 
   word_texts : (b : Bool) (ts : Tokens) → first (is_keyword word) ts ≡ b → InText ts → InText (if b then tail ts else ts)
   word_texts true ts h t = texts_behind ts (tail ts) (bits_end word_bits ts (tail ts) (word_there ts h)) t
@@ -111,7 +118,8 @@ module _ (budget : ℕ) (within : ExprWithin) (sound : SoundExprWithin budget wi
     Left = LeftHeld no_struct starts
 
     module _ (is_async moves : Bool) (params : List ClosureParam) (need : ℕ) (ts at : Tokens)
-        (leads : (f : Form) (depth : ℕ) (end : Tokens) → need ≤ depth → Spells f depth at end → Spells (closure_head is_async moves params f) depth ts end)
+        (leads : (u : Tail) (f : Form) (depth : ℕ) (end : Tokens) → need ≤ depth → SpelledBefore u f no_struct depth at end
+        → SpelledBefore u (closure_head is_async moves params f) no_struct depth ts end)
         (good : list_all is_closure_param params ≡ true) (t : InText at) where
       -- what stands behind the parameters
       body_sound : (x : Expr × ℕ) (rest : Tokens) → closure_body within no_struct is_async moves params need at ≡ Some (x, rest)
@@ -141,30 +149,38 @@ module _ (budget : ℕ) (within : ExprWithin) (sound : SoundExprWithin budget wi
             ) in
             let whole = and_from (list_all is_closure_param params && good_at NoBounds (about_type ty)) block.good
             (and_from (list_all is_closure_param params) (good_at NoBounds (about_type ty)) good ys.0.2) k.0.good in
+            let ends : Tail = record shut { closure = true } in
             same_some (Out Left ts) ((expr.TypedClosure is_async moves params ty b.0.0.0, suc most), end) (x, rest) b.2 (
-              made no_struct starts (about_expr (expr.TypedClosure is_async moves params ty b.0.0.0)) (Expr-F.TypedClosure is_async moves params ty block)
-                  most ts end (expr_typed_closure_is is_async moves params ty b.0.0.0) (leads F most end (omega arith) form) whole refl,
+              made_before no_struct starts (about_expr (expr.TypedClosure is_async moves params ty b.0.0.0))
+                  (Expr-F.TypedClosure is_async moves params ty block) most ts end (expr_typed_closure_is is_async moves params ty b.0.0.0)
+                  (leads ends F most end (omega arith) (form, inl refl)) whole,
               k.1,
             )
         | inr g ↦
             let e = bind_some (within.exprs (plain 0 no_struct) at) _ _ g.1 in
             let s = sound.exprs (plain 0 no_struct) at e.0.0 e.0.1 t e.1 in
-            let told = about_expr e.0.0.0 in
             let end = e.0.1 in
-            let most = max need e.0.0.1 in
-            let F : Form = Piece (Blank ∷ []) (Part told.form Done) in
-            let form : Spells F most at end = (at, (at, refl, refl), (end, raise told.form e.0.0.1 most at end (omega arith) s.0.1, refl)) in
-            let whole = and_from (list_all is_closure_param params) (placed told (plain 0 no_struct)) good s.0.2 in
-            same_some (Out Left ts) ((expr.Closure is_async moves params e.0.0.0, suc most), end) (x, rest) e.2 (
-              made no_struct starts (about_expr (expr.Closure is_async moves params e.0.0.0)) (Expr-F.Closure is_async moves params told) most ts end
-                  (expr_closure_is is_async moves params e.0.0.0) (leads F most end (omega arith) form) whole
-                  (jump_follows no_struct starts budget within sound e.0.0 at end s.0),
+            let deep = body_need (sheds (about_expr e.0.0.0).kind no_struct) e.0.0.1 in
+            let y = shed no_struct (length at) e.0.0.0 in
+            let told = about_expr y in
+            let b = body_stands no_struct (length at) e.0.0.1 e.0.0.0 at end (omega arith) s.0.1 s.0.2 s.0.3 in
+            let most = max need deep in
+            let ends : Tail = record told.tail { takes_all = true; closure = true } in
+            let B = body_form y in
+            let body = before_deeper ends B no_struct deep most at end (omega arith)
+            (ended_as told.tail ends B no_struct deep at end (all_taken told.tail no_struct end b.weak) b.before) in
+            let form = piece_made ends no_struct most (Blank ∷ []) B at at end (at, refl, refl) body in
+            let whole = and_from (list_all is_closure_param params && placed told (plain 0 no_struct)) (not (sheds told.kind no_struct))
+            (and_from (list_all is_closure_param params) (placed told (plain 0 no_struct)) good b.stands) (ap not b.bare) in
+            same_some (Out Left ts) ((expr.Closure is_async moves params y, suc most), end) (x, rest) e.2 (
+              made_before no_struct starts (about_expr (expr.Closure is_async moves params y)) (Expr-F.Closure is_async moves params told) most ts end
+                  (expr_closure_is is_async moves params y) (leads ends (Piece (Blank ∷ []) B) most end (omega arith) form) whole,
               s.1,
             )
       ]
 
     -- a closure behind its `async`, if it has one
-    behind_sound : (is_async : Bool) (all ts : Tokens) → Leads (when is_async (word_bits (codes "async"))) all ts → InText ts
+    behind_sound : (is_async : Bool) (all ts : Tokens) → LeadsBefore no_struct (when is_async (word_bits (codes "async"))) all ts → InText ts
         → (x : Expr × ℕ) (rest : Tokens) → closure_behind within no_struct is_async ts ≡ Some (x, rest) → Out Left all (x, rest)
     behind_sound is_async all ts before t x rest h =
         let moves = first (is_keyword (codes "move")) ts in
@@ -181,10 +197,11 @@ module _ (budget : ℕ) (within : ExprWithin) (sound : SoundExprWithin budget wi
         let need = deepest ps.0.0 in
         let at = ps.0.1 in
         let C = comma_list true bar bar (map closure_param params) in
-        let leads : (f : Form) (depth : ℕ) (end : Tokens) → need ≤ depth → Spells f depth at end
-        → Spells (closure_head is_async moves params f) depth all end =
-        λ f depth end le s. before (behind_async moves params f) depth end
-        (word_leads (codes "move") moves ts refl (Part C f) depth end (at, raise C need depth from at le l.1, s)) in
+        let leads : (u : Tail) (f : Form) (depth : ℕ) (end : Tokens) → need ≤ depth → SpelledBefore u f no_struct depth at end
+        → SpelledBefore u (closure_head is_async moves params f) no_struct depth all end =
+        λ u f depth end le s. before u (behind_async moves params f) depth end
+        (word_leads (codes "move") no_struct moves ts refl u (Part C f) depth end
+        (part_made u no_struct depth C f from at end (raise C need depth from at le l.1) s)) in
         body_sound is_async moves params need all at leads l.2 l.3 x rest ps.2
 
     -- a closure
@@ -192,5 +209,5 @@ module _ (budget : ℕ) (within : ExprWithin) (sound : SoundExprWithin budget wi
     unfolding closure_expr
     closure_sound ts x rest t h =
         let is_async = first (is_keyword (codes "async")) ts in
-        behind_sound is_async ts (if is_async then tail ts else ts) (word_leads (codes "async") is_async ts refl)
+        behind_sound is_async ts (if is_async then tail ts else ts) (word_leads (codes "async") no_struct is_async ts refl)
         (word_texts (codes "async") is_async ts refl t) x rest h
